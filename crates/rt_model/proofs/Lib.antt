@@ -1,0 +1,4 @@
+pub mod TopLaws
+pub mod AnswerLaws
+pub mod PastLaws
+pub mod Steps

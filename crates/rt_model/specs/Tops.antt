@@ -1,0 +1,29 @@
+-- The top of a cluster: its highest-priority eligible jobs, as many as it has processors.
+use Rattle.std.specs.Prelude.{ℕ, Bool, ◌&&◌, List, is_none, nat_lt, true, map, filter, take}
+use Rattle.rt_task.specs.declared.PluginKind.{PluginKind}
+use Rattle.rt_task.specs.declared.PluginKind.TheVariants as plugins
+use Rattle.rt_rules.specs.Keys.{Ranked, sorted}
+use Rattle.rt_rules.specs.Numbers.{is}
+use Rattle.rt_model.specs.EffectiveKeys.{effective_key}
+use Rattle.rt_model.specs.Group.{Group, task, cpus, tasks_of, served_by}
+use Rattle.rt_model.specs.Holders.{awaits}
+use Rattle.rt_model.specs.Past.{Past}
+use Rattle.rt_model.specs.Releases.{ready}
+use Rattle.rt_model.specs.Reservations.{front, left}
+
+module _ (g : Group) where
+  -- under P-RES a reservation serves the first of its ready clients, as long as it has budget
+  unfoldable pub is_served : PluginKind → ℕ → Past → Bool
+  is_served plugins.PRes t past = nat_lt 0 (left g (served_by g t) past) && is t (front g (served_by g t) past)
+  is_served _ t past = true
+
+  -- a task may be linked: its job is there, neither sleeps nor waits, and its reservation serves it
+  unfoldable pub eligible : ℕ → Past → Bool
+  eligible t past = ready g t past && (is_none (awaits g t past) && is_served g.setup.plugin t past)
+
+  -- the eligible tasks of a cluster by effective key and then by number
+  unfoldable pub ranking : ℕ → Past → List Ranked
+  ranking c past = sorted (map (λ t. record { key = effective_key g t past; task = t }) (filter (λ t. eligible t past) (tasks_of g c)))
+
+  unfoldable pub top : ℕ → Past → List ℕ
+  top c past = take (cpus g c) (map (λ (r : Ranked). r.task) (ranking c past))

@@ -1,0 +1,25 @@
+//! Keys of tasks, and their order.
+#![tactic(auto)]
+
+ghost use Rattle.std.specs.Prelude.{◌≡◌};
+ghost use Rattle.rt_order.specs.KeyOrder.{higher};
+
+/// A priority. Of two keys the one with the smaller (band, major, minor) is the higher, compared in that order.
+#[derive(Clone, Copy, Debug, PartialEq, Eq)]
+pub struct Key {
+    pub band: u32,
+    pub major: u64,
+    pub minor: u32,
+}
+
+impl Key {
+    /// Whether this key is higher than the other.
+    pub fn is_higher(self, other: Key) -> bool
+        ensures { result ≡ higher self other }
+    {
+        self.band < other.band
+            || self.band == other.band
+                && (self.major < other.major
+                    || self.major == other.major && self.minor < other.minor)
+    }
+}

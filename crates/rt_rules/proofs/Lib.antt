@@ -1,0 +1,4 @@
+pub mod PlacingLaws
+pub mod LinkLaws
+pub mod NumberLaws
+pub mod RankedLaws

@@ -1,0 +1,10 @@
+pub mod Numbers
+pub mod Distinct
+pub mod Keys
+pub mod SemState
+pub mod Fmlp
+pub mod Omlp
+pub mod Mpcp
+pub mod Pcp
+pub mod Walks
+pub mod Placing
