@@ -15,12 +15,12 @@ use Rattle.rt_model.specs.Holders.{sem_state, holder}
 use Rattle.rt_model.specs.Made.{IsMade}
 use Rattle.rt_model.specs.Past.{Past, sem_act}
 use Rattle.rt_model.specs.Semaphores.{at_sem, mpcp, fmlp, omlp, cluster_of}
-use Rattle.rt_laws.specs.Valid.{IsValid, allows}
+use Rattle.rt_laws.specs.Rules.{MeetsRules, allows}
 use Rattle.rt_laws.proofs.Small.{clash, has-appended}
 use Rattle.rt_laws.proofs.Waiting.{has_room}
 use Rattle.rt_laws.proofs.KeyLaws.{IsOrder, higher-trans, higher-total, foremost-none}
 use Rattle.rt_laws.proofs.FmlpLaw.{fmlp-sem_state}
-use Rattle.rt_laws.proofs.OmlpState.{IsQueued, queued, omlp-after_ask}
+use Rattle.rt_laws.proofs.OmlpState.{IsQueued, queued, omlp-sem_state}
 use Rattle.rt_laws.proofs.Unmixed.{mpcp-is, mpcp-holder}
 
 abbrev IsBusy : SemState → Type 0
@@ -78,21 +78,21 @@ rest-there : (t : ℕ) (xs : List ℕ) → has t (rest xs) ≡ true → is_none 
 rest-there t [] h = cc
 rest-there t (x ∷ xs) h = refl
 
-pub held-somewhere : (g : Group) → IsValid g.setup → {past : Past} → IsMade g past → (t s : ℕ) → has s (sems g) ≡ true → is_pcp (protocol g s) ≡ false → has t (sem_state g s past).waiting ≡ true → is_none (holder g s past) ≡ false
-held-somewhere g valid {past} made t s there n w = by_protocol (protocol g s) refl
+pub held-somewhere : (g : Group) → MeetsRules g → {past : Past} → IsMade g past → (t s : ℕ) → has s (sems g) ≡ true → is_pcp (protocol g s) ≡ false → has t (sem_state g s past).waiting ≡ true → is_none (holder g s past) ≡ false
+held-somewhere g rules {past} made t s there n w = by_protocol (protocol g s) refl
   where
     of_omlp : protocol g s ≡ Omlp → is_none (holder g s past) ≡ false
-    of_omlp p = rw (omlp-after_ask g s past p).1 (split (has-appended t (rest (omlp g s past).fifo) (omlp g s past).queue (rw (omlp-after_ask g s past p).0 at w)))
+    of_omlp p = rw (omlp-sem_state g s past p).1 (split (has-appended t (rest (omlp g s past).fifo) (omlp g s past).queue (rw (omlp-sem_state g s past p).0 at w)))
       where
         q : IsQueued (cpus g (cluster_of g s)) (omlp g s past)
-        q = queued g valid s p (rw p at (valid.is_allowed g.number s there)) made
+        q = queued g rules s p (rw p at (rules.is_allowed s there)) made
 
         split : (has t (rest (omlp g s past).fifo) ≡ true) ⊎ (has t (omlp g s past).queue ≡ true) → is_none (first (omlp g s past).fifo) ≡ false
         split (inl k) = rest-there t (omlp g s past).fifo k
-        split (inr k) = first-there (omlp g s past).fifo (omega (arith, q.full t k, has_room g valid s))
+        split (inr k) = first-there (omlp g s past).fifo (omega (arith, q.full t k, has_room g rules s))
 
     by_protocol : (p : Protocol) → protocol g s ≡ p → is_none (holder g s past) ≡ false
     by_protocol Fmlp e = rw (fmlp-sem_state g s past e).1 (rest-there t (fmlp g s past) (rw (fmlp-sem_state g s past e).0 at w))
     by_protocol Omlp e = of_omlp e
-    by_protocol Mpcp e = rw (mpcp-holder g s past e) (mpcp-busy g s (rw e at (valid.is_allowed g.number s there)) past t (rw (mpcp-is g s past e) at w))
+    by_protocol Mpcp e = rw (mpcp-holder g s past e) (mpcp-busy g s (rw e at (rules.is_allowed s there)) past t (rw (mpcp-is g s past e) at w))
     by_protocol Pcp e = let m : true ≡ false = rw e at n in cc

@@ -19,7 +19,7 @@ use Rattle.rt_model.specs.Ceilings.{pcp, at_cluster, above_ceiling}
 use Rattle.rt_model.specs.Group.{Group, task, tasks, sems, protocol, cpus}
 use Rattle.rt_model.specs.Holders.{sem_state, sem_state_by, holder, holds}
 use Rattle.rt_model.specs.Jobs.{used, this_job}
-use Rattle.rt_model.specs.Made.{IsMade, opened, acted, clocked}
+use Rattle.rt_model.specs.Made.{IsMade, acted}
 use Rattle.rt_model.specs.NonPreemptive.{non_preemptive, np_after}
 use Rattle.rt_model.specs.Outcomes.{is_spent, ended_by, ended, attempt, past_act}
 use Rattle.rt_model.specs.Past.{PastAct, Event, Clock, Acted, Past, accepted, operation, did, is_work, ends_job, sem_act, sem_act_of}
@@ -29,14 +29,15 @@ use Rattle.rt_task.specs.declared.Protocol.{Protocol}
 use Rattle.rt_task.specs.declared.Protocol.TheVariants.{Fmlp, Omlp, Pcp, Mpcp}
 use Rattle.rt_rules.proofs.PlacingLaws.{has-filter, equal_self}
 use Rattle.rt_model.proofs.Steps.{used-step}
-use Rattle.rt_laws.specs.Valid.{IsValid}
+use Rattle.rt_laws.specs.Rules.{MeetsRules}
 use Rattle.rt_laws.proofs.Small.{clash, both, is-some, none-empty}
 use Rattle.rt_laws.proofs.Requests.{IsAsk, asks}
 use Rattle.rt_laws.proofs.Waiting.{waiting-step}
 use Rattle.rt_laws.proofs.Running.{IsRunning, running, ended-runs}
-use Rattle.rt_laws.proofs.Next.{IsNext, next-clock, next-act, holds-none}
+use Rattle.rt_laws.proofs.Moves.{IsMove, clock_moves, cpu_acts, by_moves, moved}
+use Rattle.rt_laws.proofs.Asked.{Freed, freed, holds-none}
 use Rattle.rt_laws.proofs.Pcp.{IsPcpKept, pcp_kept}
-use Rattle.rt_laws.proofs.Sits.{sits, sits-step, sits-cases, holder-stays}
+use Rattle.rt_laws.proofs.Engaged.{engaged, engaged-step, engaged-cases, holder-stays}
 
 -- ---- what a request says of the operation
 
@@ -81,17 +82,17 @@ unfolding holds
 one-holds g t s past h = both _ _ (rw has-filter at h)
 
 -- who frees nothing and holds nothing after a move held nothing before it
-held-nothing : (g : Group) → IsValid g.setup → (t : ℕ) (e : Event) (past : Past) → IsNext g e past → ((c : ℕ) → IsPcpKept g c (pcp g c (e ∷ past))) → ((s : ℕ) → sem_act e ≡ Frees t s → ⊥) → is_empty (holds g t (e ∷ past)) ≡ true → is_empty (holds g t past) ≡ true
-held-nothing g valid t e past next kept quiet h = none-empty (holds g t past) (λ s k. held s (one-holds g t s past k))
+held-nothing : (g : Group) → (t : ℕ) (e : Event) (past : Past) → Freed g e past → ((c : ℕ) → IsPcpKept g c (pcp g c (e ∷ past))) → ((s : ℕ) → sem_act e ≡ Frees t s → ⊥) → is_empty (holds g t (e ∷ past)) ≡ true → is_empty (holds g t past) ≡ true
+held-nothing g t e past frees kept quiet h = none-empty (holds g t past) (λ s k. held s (one-holds g t s past k))
   where
     held : (s : ℕ) → (has s (sems g) ≡ true) × (is t (holder g s past) ≡ true) → ⊥
-    held s k = split (holder-stays g t s e past next (kept (cluster_of g s)) k.1)
+    held s k = split (holder-stays g t s e past frees (kept (cluster_of g s)) k.1)
       where
         split : (is t (holder g s (e ∷ past)) ≡ true) ⊎ (sem_act e ≡ Frees t s) → ⊥
         split (inl m) = clash _ m (holds-none g t s (e ∷ past) h k.0)
         split (inr m) = quiet s m
 
--- seats depend on the request of an event alone
+-- the state of a semaphore depends on the request of an event alone
 sem_state-sem_act : (g : Group) (s : ℕ) (e f : Event) (past : Past) → sem_act e ≡ sem_act f → sem_state g s (e ∷ past) ≡ sem_state g s (f ∷ past)
 unfolding sem_state sem_state_by fmlp omlp mpcp pcp
 sem_state-sem_act g s e f past h = by_protocol (protocol g s)
@@ -193,20 +194,22 @@ unspent-parts enforce le empty np h a b c = by_case le (rw (a, b, c) at h)
     by_case true k = k
     by_case false k = refl
 
-unspent-step : (g : Group) → IsValid g.setup → (e : Event) (past : Past) → IsNext g e past → ((c : ℕ) → IsPcpKept g c (pcp g c (e ∷ past))) → ((t : ℕ) (op : Op) → did t e ≡ Some op → ends_job t e ≡ false → is_spent g t (e ∷ past) ≡ false) → IsUnspent g past → IsUnspent g (e ∷ past)
+unspent-step : (g : Group) → MeetsRules g → (e : Event) (past : Past) → Freed g e past → ((c : ℕ) → IsPcpKept g c (pcp g c (e ∷ past))) → ((t : ℕ) (op : Op) → did t e ≡ Some op → ends_job t e ≡ false → is_spent g t (e ∷ past) ≡ false) → IsUnspent g past → IsUnspent g (e ∷ past)
 unfolding non_preemptive is_spent
-unspent-step g valid e past next kept own before t there en empty np = by_case (ends_job t e) refl (did t e) refl (used-step t e past) np
+unspent-step g rules e past frees kept own before t there en empty np = by_case (ends_job t e) refl (did t e) refl (used-step t e past) np
   where
     by_case : (b : Bool) → ends_job t e ≡ b → (o : Option Op) → did t e ≡ o → used t (e ∷ past) ≡ (if b then 0 else (if is_work o then used t past + 1 else used t past)) → (if b then false else np_after o (non_preemptive t past)) ≡ false → used t (e ∷ past) < (task g t).cost
-    by_case true k o d u n = let cost : 1 ≤ (task g t).cost = valid.has_cost g.number t there in omega (arith, u, cost)
-    by_case false k None d u n = let less : used t past < (task g t).cost = before t there en (held-nothing g valid t e past next kept (λ s f. frees-did t s e f d) empty) n in omega (arith, u, less)
+    by_case true k o d u n = let cost : 1 ≤ (task g t).cost = rules.has_cost t there in omega (arith, u, cost)
+    by_case false k None d u n = let less : used t past < (task g t).cost = before t there en (held-nothing g t e past frees kept (λ s f. frees-did t s e f d) empty) n in omega (arith, u, less)
     by_case false k (Some op) d u n = leb-false (task g t).cost (used t (e ∷ past)) (unspent-parts (task g t).enforce (nat_le (task g t).cost (used t (e ∷ past))) (is_empty (holds g t (e ∷ past))) (non_preemptive t (e ∷ past)) (own t op d k) en empty np)
 
-pub unspent : (g : Group) → IsValid g.setup → {past : Past} → IsMade g past → IsUnspent g past
+unspent-move : (g : Group) {past : Past} {e : Event} → IsMove g past e → (t : ℕ) (op : Op) → did t e ≡ Some op → ends_job t e ≡ false → is_spent g t (e ∷ past) ≡ false
+unspent-move g (clock_moves tick) t op d k = cc
+unspent-move g {past} (cpu_acts q a) t op d k = own-unspent g q t a op past d k
+
+pub unspent : (g : Group) → MeetsRules g → {past : Past} → IsMade g past → IsUnspent g past
 unfolding used this_job
-unspent g valid opened = λ t there en empty np. let cost : 1 ≤ (task g t).cost = valid.has_cost g.number t there in cost
-unspent g valid (clocked {past = past} tick made) = unspent-step g valid (Clock tick) past (next-clock g tick past) (λ c. pcp_kept g valid c (clocked tick made)) (λ t op d k. cc) (unspent g valid made)
-unspent g valid (acted {past = past} q act made) = unspent-step g valid (Acted (past_act g q act past)) past (next-act g valid made q act) (λ c. pcp_kept g valid c (acted q act made)) (λ t op d k. own-unspent g q t act op past d k) (unspent g valid made)
+unspent g rules made = by_moves g (IsUnspent g) (λ t there en empty np. let cost : 1 ≤ (task g t).cost = rules.has_cost t there in cost) (λ past e made move before. unspent-step g rules e past (freed g move) (λ c. pcp_kept g rules c (moved g made move)) (unspent-move g move) before) made
 
 -- ---- a job that ends holds nothing and waits for nothing
 
@@ -221,7 +224,7 @@ end-holds_nothing g q t past r a = by_cases (non_preemptive t past) (is_empty (h
 
 pub record IsSpent (g : Group) (t : ℕ) (past : Past) : Type 0 where
   pub enforced : (task g t).enforce ≡ true
-  pub above_ceiling : (task g t).cost ≤ used t past
+  pub used_up : (task g t).cost ≤ used t past
   pub empty : is_empty (holds g t past) ≡ true
   pub preemptive : non_preemptive t past ≡ false
 
@@ -229,7 +232,7 @@ spent-facts : (g : Group) (t : ℕ) (past : Past) → is_spent g t past ≡ true
 unfolding is_spent
 spent-facts g t past h =
     let q = spent-parts (task g t).enforce (nat_le (task g t).cost (used t past)) (is_empty (holds g t past)) (non_preemptive t past) h in
-    record { enforced = q.0; above_ceiling = leb-true (task g t).cost (used t past) q.1; empty = q.2; preemptive = q.3 }
+    record { enforced = q.0; used_up = leb-true (task g t).cost (used t past) q.1; empty = q.2; preemptive = q.3 }
 
 lock_works_not : (t : ℕ) (d : PastAct) (n : SemNo) → d.act ≡ acts.Do (ops.Lock n) → is_work (did t (Acted d)) ≡ false
 lock_works_not t d n h = rw h (by_case (is t d.task && accepted d.reply))
@@ -246,8 +249,8 @@ same_request : (g : Group) (q : ℕ) (act : Act) (past : Past) → sem_act (Acte
 unfolding past_act attempt
 same_request g q act past = refl
 
-pub ended-free : (g : Group) → IsValid g.setup → {past : Past} → IsMade g past → (q t s : ℕ) (act : Act) → has s (sems g) ≡ true → is t (past_act g q act past).ended ≡ true → sits g t s (Acted (past_act g q act past) ∷ past) ≡ true → ⊥
-ended-free g valid {past} made q t s act there h sat = by_how how.1
+pub ended-free : (g : Group) → MeetsRules g → {past : Past} → IsMade g past → (q t s : ℕ) (act : Act) → has s (sems g) ≡ true → is t (past_act g q act past).ended ≡ true → engaged g t s (Acted (past_act g q act past) ∷ past) ≡ true → ⊥
+ended-free g rules {past} made q t s act there h engaged_after = by_how how.1
   where
     e : Event
     e = Acted (past_act g q act past)
@@ -256,14 +259,14 @@ ended-free g valid {past} made q t s act there h sat = by_how how.1
     r = ended-runs g q t act past h
 
     run : IsRunning g q t past
-    run = running g valid made q t r
+    run = running g rules made q t r
 
     how : (accepted (answer g q act past) ≡ true) × ((act ≡ acts.Do ops.End) ⊎ (is_spent g t (Acted (attempt g q act past) ∷ past) ≡ true))
     how = ended-how g q t act past h
 
-    at_end : act ≡ acts.Do ops.End → (sits g t s past ≡ true) ⊎ (sem_act e ≡ Asks t s) → ⊥
+    at_end : act ≡ acts.Do ops.End → (engaged g t s past ≡ true) ⊎ (sem_act e ≡ Asks t s) → ⊥
     at_end k (inr m) = let a : IsAsk g q act past t s = asks g q act past t s m in let b : act ≡ acts.Do (ops.Lock a.number) = a.is_lock in cc
-    at_end k (inl m) = split (sits-cases g t s past (pcp_kept g valid (cluster_of g s) made) m)
+    at_end k (inl m) = split (engaged-cases g t s past (pcp_kept g rules (cluster_of g s) made) m)
       where
         empty : is_empty (holds g t past) ≡ true
         empty = end-holds_nothing g q t past r (rw k at how.0)
@@ -274,7 +277,7 @@ ended-free g valid {past} made q t s act there h sat = by_how how.1
 
     by_force : IsSpent g t (Acted (attempt g q act past) ∷ past) → (is t (holder g s (e ∷ past)) ≡ true) ⊎ (has t (sem_state g s (e ∷ past)).waiting ≡ true) → ⊥
     by_force spent (inl n) = clash _ (rw (holder-sem_act g s e (Acted (attempt g q act past)) past (same_request g q act past)) at n) (holds-none g t s (Acted (attempt g q act past) ∷ past) spent.empty there)
-    by_force spent (inr n) = split (waiting-step g valid t s e past n)
+    by_force spent (inr n) = split (waiting-step g rules t s e past n)
       where
         empty_after : is_empty (holds g t (e ∷ past)) ≡ true
         empty_after = none-empty (holds g t (e ∷ past)) (λ o k. let w = one-holds g t o (e ∷ past) k in clash _ (rw (holder-sem_act g o e (Acted (attempt g q act past)) past (same_request g q act past)) at w.1) (holds-none g t o (Acted (attempt g q act past) ∷ past) spent.empty w.0))
@@ -284,11 +287,11 @@ ended-free g valid {past} made q t s act there h sat = by_how how.1
         split (inr m) =
             let a : IsAsk g q act past t s = asks g q act past t s m.0 in
             let asks_it : sem_act e ≡ Asks t s = m.0 in
-            let empty : is_empty (holds g t past) ≡ true = held-nothing g valid t e past (next-act g valid made q act) (λ c. pcp_kept g valid c (acted q act made)) (λ o k. cc) empty_after in
-            let less : used t past < (task g t).cost = unspent g valid made t run.member spent.enforced empty a.preemptive in
+            let empty : is_empty (holds g t past) ≡ true = held-nothing g t e past (freed g {past = past} (cpu_acts q act)) (λ c. pcp_kept g rules c (acted q act made)) (λ o k. cc) empty_after in
+            let less : used t past < (task g t).cost = unspent g rules made t run.member spent.enforced empty a.preemptive in
             let same : used t (Acted (attempt g q act past) ∷ past) ≡ used t past = used-lock g q t act past a.number a.is_lock in
-            absurd (omega (arith, less, same, spent.above_ceiling))
+            absurd (omega (arith, less, same, spent.used_up))
 
     by_how : (act ≡ acts.Do ops.End) ⊎ (is_spent g t (Acted (attempt g q act past) ∷ past) ≡ true) → ⊥
-    by_how (inl k) = at_end k (sits-step g t s e past sat)
-    by_how (inr k) = by_force (spent-facts g t _ k) (sits-cases g t s (e ∷ past) (pcp_kept g valid (cluster_of g s) (acted q act made)) sat)
+    by_how (inl k) = at_end k (engaged-step g t s e past engaged_after)
+    by_how (inr k) = by_force (spent-facts g t _ k) (engaged-cases g t s (e ∷ past) (pcp_kept g rules (cluster_of g s) (acted q act made)) engaged_after)

@@ -10,16 +10,17 @@ use Rattle.rt_model.specs.Answers.{is_granted}
 use Rattle.rt_model.specs.Blocking.{asks, frees, newest_request, is_open, ends_all}
 use Rattle.rt_model.specs.Group.{Group, tasks, users, sems, protocol}
 use Rattle.rt_model.specs.Holders.{sem_state, sem_state_by, holder, awaits}
-use Rattle.rt_model.specs.Made.{IsMade, opened, acted, clocked}
-use Rattle.rt_model.specs.Outcomes.{past_act}
+use Rattle.rt_model.specs.Made.{IsMade}
 use Rattle.rt_model.specs.Past.{Event, Clock, Acted, Past, sem_act, entries_in, is_act}
 use Rattle.rt_model.specs.Semaphores.{at_sem, fmlp}
 use Rattle.rt_rules.proofs.PlacingLaws.{equal_self, distinct-filter, length-beside}
 use Rattle.rt_rules.proofs.NumberLaws.{distinct-numbers_from}
-use Rattle.rt_laws.specs.Valid.{IsValid}
+use Rattle.rt_laws.specs.Rules.{MeetsRules}
 use Rattle.rt_laws.proofs.Small.{unless, clash, both, neither, is-some, has-appended, has-one, has-rest, has-split, has-without, without-first}
 use Rattle.rt_laws.proofs.Waiting.{waiting-step, awaits-waits}
-use Rattle.rt_laws.proofs.Next.{IsAsked, IsNext, next-clock, next-act, holds-none, asks_empty}
+use Rattle.rt_laws.proofs.Moves.{by_moves}
+use Rattle.rt_laws.proofs.Asked.{IsAsked, Asked, asked, holds-none, asks_empty}
+use Rattle.rt_laws.proofs.Next.{IsNext, next}
 use Rattle.rt_laws.proofs.OneWait.{WaitsOnce, waits_once, awaits-is}
 
 -- ---- lists in which each number stands once
@@ -131,15 +132,13 @@ fmlp-fresh g s t past p a = unless _ (λ h. split (has-split t (fmlp g s past) h
     split (inl k) = clash _ k (rw facts.1 at empty_handed)
     split (inr k) = clash _ k (rw facts.0 at (a.waits_none s a.known))
 
-fmlp-line-step : (g : Group) (s : ℕ) (e : Event) (past : Past) → protocol g s ≡ Fmlp → IsNext g e past → IsLine g s (fmlp g s past) → IsLine g s (fmlp g s (e ∷ past))
+fmlp-line-step : (g : Group) (s : ℕ) (e : Event) (past : Past) → protocol g s ≡ Fmlp → Asked g e past → IsLine g s (fmlp g s past) → IsLine g s (fmlp g s (e ∷ past))
 unfolding fmlp
-fmlp-line-step g s e past p next l = line-step g s (sem_act e) (fmlp g s past) l (λ t h. (fmlp-fresh g s t past p (next.asked t s h), (next.asked t s h).user))
+fmlp-line-step g s e past p asks l = line-step g s (sem_act e) (fmlp g s past) l (λ t h. (fmlp-fresh g s t past p (asks t s h), (asks t s h).user))
 
-pub fmlp-line : (g : Group) → IsValid g.setup → (s : ℕ) → protocol g s ≡ Fmlp → {past : Past} → IsMade g past → IsLine g s (fmlp g s past)
+pub fmlp-line : (g : Group) → MeetsRules g → (s : ℕ) → protocol g s ≡ Fmlp → {past : Past} → IsMade g past → IsLine g s (fmlp g s past)
 unfolding fmlp
-fmlp-line g valid s p opened = record { once = tt; inside = λ t h. cc }
-fmlp-line g valid s p (clocked {past = past} tick made) = fmlp-line-step g s (Clock tick) past p (next-clock g tick past) (fmlp-line g valid s p made)
-fmlp-line g valid s p (acted {past = past} q act made) = fmlp-line-step g s (Acted (past_act g q act past)) past p (next-act g valid made q act) (fmlp-line g valid s p made)
+fmlp-line g rules s p made = by_moves g (λ past. IsLine g s (fmlp g s past)) (record { once = tt; inside = λ t h. cc }) (λ past e made move before. fmlp-line-step g s e past p (asked g rules made move) before) made
 
 -- ---- a request goes by its entry's number
 
@@ -207,9 +206,9 @@ frees-is s (Frees u r) h = let e : s ≡ r = eqb-true s r h in (u, ap {B = SemAc
 frees-is s Neither h = cc
 
 -- what is open after a move was open before it, or is asked in it
-pub open-before : (g : Group) → IsValid g.setup → (r t s : ℕ) (e : Event) (past : Past) → WaitsOnce g past → IsNext g e past → is_open g r t s (e ∷ past) ≡ true → (is_open g r t s past ≡ true) ⊎ (sem_act e ≡ Asks t s) × (r ≡ entries_in past)
+pub open-before : (g : Group) → MeetsRules g → (r t s : ℕ) (e : Event) (past : Past) → WaitsOnce g past → IsNext g e past → is_open g r t s (e ∷ past) ≡ true → (is_open g r t s past ≡ true) ⊎ (sem_act e ≡ Asks t s) × (r ≡ entries_in past)
 unfolding is_open newest_request
-open-before g valid r t s e past once next h = split (waiting-step g valid t s e past waits.1) (asks t (sem_act e)) refl parts.1
+open-before g rules r t s e past once next h = split (waiting-step g rules t s e past waits.1) (asks t (sem_act e)) refl parts.1
   where
     parts : (is s (awaits g t (e ∷ past)) ≡ true) × (is r (newest_request t (e ∷ past)) ≡ true)
     parts = both (is s (awaits g t (e ∷ past))) (is r (newest_request t (e ∷ past))) h
@@ -239,8 +238,8 @@ ahead-stays t s (Asks u r) line h f = by_case (s == r)
 ahead-stays t s (Frees u r) line h f = rw f
 ahead-stays t s Neither line h f = refl
 
-counted-step : (g : Group) → IsValid g.setup → (r t s : ℕ) → protocol g s ≡ Fmlp → (e : Event) (past : Past) → WaitsOnce g past → IsNext g e past → IsLine g s (fmlp g s past) → IsCounted g r t s past → IsCounted g r t s (e ∷ past)
-counted-step g valid r t s p e past once next line before = record { so_far = so_far cases; still = λ h. still cases (open-before g valid r t s e past once next h) }
+counted-step : (g : Group) → MeetsRules g → (r t s : ℕ) → protocol g s ≡ Fmlp → (e : Event) (past : Past) → WaitsOnce g past → IsNext g e past → IsLine g s (fmlp g s past) → IsCounted g r t s past → IsCounted g r t s (e ∷ past)
+counted-step g rules r t s p e past once next line before = record { so_far = so_far cases; still = λ h. still cases (open-before g rules r t s e past once next h) }
   where
     cases : ((frees s (sem_act e) ≡ true) × (is_open g r t s past ≡ true) × (ends_all g r t s (e ∷ past) ≡ ends_all g r t s past + 1)) ⊎ ((frees s (sem_act e) ≡ false) ⊎ (is_open g r t s past ≡ false)) × (ends_all g r t s (e ∷ past) ≡ ends_all g r t s past)
     cases = ends_all-cases g r t s e past
@@ -257,7 +256,7 @@ counted-step g valid r t s p e past once next line before = record { so_far = so
 
     one_less : is_open g r t s past ≡ true → (u : ℕ) → sem_act e ≡ Frees u s → fmlp g s (e ∷ past) ≡ rest (fmlp g s past)
     one_less o u f =
-        let holds_it : is u (first (fmlp g s past)) ≡ true = rw (fmlp-sem_state g s past p).1 at (next.passed_on u s f) in
+        let holds_it : is u (first (fmlp g s past)) ≡ true = rw (fmlp-sem_state g s past p).1 at (next.freed u s f) in
         fmlp-step g s e past ∙ rw (f, equal_self s) (without-first u (fmlp g s past) holds_it)
 
     new : sem_act e ≡ Asks t s → r ≡ entries_in past → ends_all g r t s (e ∷ past) ≡ ends_all g r t s past → ends_all g r t s (e ∷ past) + ahead t (fmlp g s (e ∷ past)) ≤ length (users g s) - 1
@@ -266,7 +265,7 @@ counted-step g valid r t s p e past once next line before = record { so_far = so
         let fresh : has t (fmlp g s past) ≡ false = fmlp-fresh g s t past p asked in
         let longer : fmlp g s (e ∷ past) ≡ fmlp g s past ++ t ∷ [] = fmlp-step g s e past ∙ rw (a, equal_self s) in
         let last : ahead t (fmlp g s (e ∷ past)) ≡ length (fmlp g s past) = rw longer (ahead-last t (fmlp g s past) fresh) in
-        let joined : IsLine g s (fmlp g s (e ∷ past)) = fmlp-line-step g s e past p next line in
+        let joined : IsLine g s (fmlp g s (e ∷ past)) = fmlp-line-step g s e past p next.asked line in
         let fits : length (fmlp g s (e ∷ past)) ≤ length (users g s) = length-distinct _ _ joined.once (distinct-users g s) joined.inside in
         let size : length (fmlp g s (e ∷ past)) ≡ length (fmlp g s past) + 1 = rw longer (length-append (fmlp g s past) (t ∷ [])) in
         let zero_so_far : ends_all g r t s past ≡ 0 = none-ended g r t s past (omega (arith, same)) in
@@ -286,7 +285,5 @@ nothing-counted : (g : Group) (r t s : ℕ) → IsCounted g r t s []
 unfolding ends_all fmlp
 nothing-counted g r t s = record { so_far = omega arith; still = λ h. omega arith }
 
-pub counted : (g : Group) → IsValid g.setup → (r t s : ℕ) → protocol g s ≡ Fmlp → {past : Past} → IsMade g past → IsCounted g r t s past
-counted g valid r t s p opened = nothing-counted g r t s
-counted g valid r t s p (clocked {past = past} tick made) = counted-step g valid r t s p (Clock tick) past (waits_once g valid made) (next-clock g tick past) (fmlp-line g valid s p made) (counted g valid r t s p made)
-counted g valid r t s p (acted {past = past} q act made) = counted-step g valid r t s p (Acted (past_act g q act past)) past (waits_once g valid made) (next-act g valid made q act) (fmlp-line g valid s p made) (counted g valid r t s p made)
+pub counted : (g : Group) → MeetsRules g → (r t s : ℕ) → protocol g s ≡ Fmlp → {past : Past} → IsMade g past → IsCounted g r t s past
+counted g rules r t s p made = by_moves g (IsCounted g r t s) (nothing-counted g r t s) (λ past e made move before. counted-step g rules r t s p e past (waits_once g rules made) (next g rules made move) (fmlp-line g rules s p made) before) made

@@ -15,7 +15,6 @@ use Rattle.rt_model.specs.BaseKeys.{base_key, above}
 use Rattle.rt_model.specs.Blocking.{is_blocked}
 use Rattle.rt_model.specs.Boosts.{boosts_fmlp, boost, boost_of, boost_by}
 use Rattle.rt_model.specs.Ceilings.{is_pcp}
-use Rattle.rt_model.specs.Claims.{is_global, HolderIsLinked}
 use Rattle.rt_model.specs.EffectiveKeys.{next_by, next_at, waits_for, effective_key}
 use Rattle.rt_model.specs.Group.{Group, cpus, home, tasks, tasks_of, sems, protocol}
 use Rattle.rt_model.specs.Holders.{sem_state, holder, holds, awaits}
@@ -28,17 +27,19 @@ use Rattle.rt_rules.proofs.PlacingLaws.{either, or_true, equal_self, has-filter}
 use Rattle.rt_rules.proofs.RankedLaws.{tasks_ranked, has-sorted}
 use Rattle.rt_model.proofs.TopLaws.{tasks-ranked, distinct-top}
 use Rattle.rt_model.proofs.PastLaws.{links-top, processor-home}
-use Rattle.rt_laws.specs.Valid.{IsValid, allows, in_one_cluster}
+use Rattle.rt_laws.specs.HolderIsLinked.{is_global, HasLinkedHolder, HolderIsLinked}
+use Rattle.rt_laws.specs.Rules.{MeetsRules, allows, in_one_cluster}
 use Rattle.rt_laws.proofs.Small.{unless, clash, both, turned, some-is, is_one, has-first}
 use Rattle.rt_laws.proofs.Waiting.{user-task, awaits-waits, none-waits}
 use Rattle.rt_laws.proofs.Linked.{top-eligible, home-tasks_of, tasks_of-home}
 use Rattle.rt_laws.proofs.KeyLaws.{higher-mixed, higher-total, highest-of}
 use Rattle.rt_laws.proofs.Ends.{one-holds}
-use Rattle.rt_laws.proofs.Sits.{holder-sits, waiting-sits}
-use Rattle.rt_laws.proofs.Seated.{IsSeated, all_seated}
+use Rattle.rt_laws.proofs.Engaged.{holder-engaged, waiting-engaged}
+use Rattle.rt_laws.proofs.Active.{IsActive, all_active}
 use Rattle.rt_laws.proofs.OmlpState.{minor-is, user-home}
 use Rattle.rt_laws.proofs.OmlpLaw.{not_blocked}
 use Rattle.rt_laws.proofs.Unmixed.{unmixed}
+use Rattle.rt_laws.proofs.Busy.{held-somewhere}
 use Rattle.rt_laws.proofs.Ranking.{ranked-sorted, keys-sorted, keys-map, cut-off, full-take}
 
 -- ---- under a global plugin
@@ -130,9 +131,9 @@ highest-owner f x (v ∷ vs) = by_case (higher (f v) (f x)) (highest-owner f v v
     by_case true p q = (p.0, inr (at_head p.0 p.1), p.2)
     by_case false p q = (q.0, later q.0 q.1, q.2)
 
-module _ (g : Group) (valid : IsValid g.setup) (past : Past) (made : IsMade g past) (global : is_global g.setup.plugin ≡ true) where
+module _ (g : Group) (rules : MeetsRules g) (past : Past) (made : IsMade g past) (global : is_global g.setup.plugin ≡ true) where
   sem-facts : (s : ℕ) → has s (sems g) ≡ true → (is_pcp (protocol g s) ≡ false) × (in_one_cluster g.setup.plugin (protocol g s) ≡ true)
-  sem-facts s h = global-protocol g.setup.plugin (protocol g s) global (valid.is_allowed g.number s h)
+  sem-facts s h = global-protocol g.setup.plugin (protocol g s) global (rules.is_allowed s h)
 
   -- whom a task waits for: the holder of its semaphore, which waits for nobody
   record IsFollower (t u : ℕ) : Type 0 where
@@ -166,7 +167,7 @@ module _ (g : Group) (valid : IsValid g.setup) (past : Past) (made : IsMade g pa
 
   -- one that is followed does not wait
   followed-free : (t u : ℕ) → IsFollower t u → awaits g u past ≡ None
-  followed-free t u f = none-waits g u past (λ r hr. unless _ (λ w. clash _ (unmixed g valid made u f.sem r f.known hr f.held w).0 (sem-facts f.sem f.known).0))
+  followed-free t u f = none-waits g u past (λ r hr. unless _ (λ w. clash _ (unmixed g rules made u f.sem r f.known hr f.held w).0 (sem-facts f.sem f.known).0))
 
   -- a walk from a waiting task is one step long
   walk-one : (n t u : ℕ) → has u (walk (λ v. waits_for g v past) n (waits_for g t past)) ≡ true → is u (waits_for g t past) ≡ true
@@ -209,7 +210,7 @@ module _ (g : Group) (valid : IsValid g.setup) (past : Past) (made : IsMade g pa
     where
       unboosted : (o : Option ℕ) → first (holds g t past) ≡ o → boost g t past ≡ None
       unboosted None e = rw e
-      unboosted (Some s) e = let known = (one-holds g t s past (has-first s (holds g t past) (some-is s (first (holds g t past)) e))).0 in rw e (global-unboosted g (protocol g s) s t past global (valid.is_allowed g.number s known))
+      unboosted (Some s) e = let known = (one-holds g t s past (has-first s (holds g t past) (some-is s (first (holds g t past)) e))).0 in rw e (global-unboosted g (protocol g s) s t past global (rules.is_allowed s known))
 
   -- ---- the tasks of the top and those whose base keys they have
 
@@ -236,9 +237,9 @@ module _ (g : Group) (valid : IsValid g.setup) (past : Past) (made : IsMade g pa
   -- a follower is of the cluster of the one that it follows
   follower-home : (y x : ℕ) → IsFollower y x → home g y ≡ home g x
   follower-home y x f =
-      let a : IsSeated g y f.sem past = all_seated g valid made y f.sem f.known (waiting-sits g y f.sem past f.waits) in
-      let b : IsSeated g x f.sem past = all_seated g valid made x f.sem f.known (holder-sits g x f.sem past f.held) in
-      user-home g valid f.sem y (sem-facts f.sem f.known).1 a.user ∙ sym (user-home g valid f.sem x (sem-facts f.sem f.known).1 b.user)
+      let a : IsActive g y f.sem past = all_active g rules made y f.sem f.known (waiting-engaged g y f.sem past f.waits) in
+      let b : IsActive g x f.sem past = all_active g rules made x f.sem f.known (holder-engaged g x f.sem past f.held) in
+      user-home g rules f.sem y (sem-facts f.sem f.known).1 a.user ∙ sym (user-home g rules f.sem x (sem-facts f.sem f.known).1 b.user)
 
   owner : (c x : ℕ) → has x (top g c past) ≡ true → (y : ℕ) × IsOwner c x y
   owner c x h = (q.0, made_owner q.1)
@@ -254,7 +255,7 @@ module _ (g : Group) (valid : IsValid g.setup) (past : Past) (made : IsMade g pa
       made_owner (inr k) =
           let w = follower-is q.0 x k in
           let f : IsFollower q.0 x = follows q.0 x w.1 in
-          let a : IsSeated g q.0 f.sem past = all_seated g valid made q.0 f.sem f.known (waiting-sits g q.0 f.sem past f.waits) in
+          let a : IsActive g q.0 f.sem past = all_active g rules made q.0 f.sem f.known (waiting-engaged g q.0 f.sem past f.waits) in
           let c_is : home g q.0 ≡ c = follower-home q.0 x f ∙ (tasks_of-home g c x facts.0).1 in
           record { key = key-is x ∙ q.2; there = subst (λ n. has q.0 (tasks_of g n) ≡ true) c_is (home-tasks_of g q.0 w.0); exists_now = a.exists_now; how = inr w.1 }
 
@@ -277,18 +278,18 @@ module _ (g : Group) (valid : IsValid g.setup) (past : Past) (made : IsMade g pa
       follower : IsFollower t u
       follower = record { sem = s; known = waits.0; waits = waits.1; held = held }
 
-      t_seat : IsSeated g t s past
-      t_seat = all_seated g valid made t s waits.0 (waiting-sits g t s past waits.1)
+      t_active : IsActive g t s past
+      t_active = all_active g rules made t s waits.0 (waiting-engaged g t s past waits.1)
 
-      u_seat : IsSeated g u s past
-      u_seat = all_seated g valid made u s waits.0 (holder-sits g u s past held)
+      u_active : IsActive g u s past
+      u_active = all_active g rules made u s waits.0 (holder-engaged g u s past held)
 
       u_free : awaits g u past ≡ None
       u_free = followed-free t u follower
 
       -- the key of the holder is no lower than the waiter's
       lifted : higher (base_key g t past) (effective_key g u past) ≡ false
-      lifted = rw (key-is u) (highest-of (λ v. base_key g v past) t (followers (λ v. waits_for g v past) (tasks g) u) (base_key g u past) (is-follower t u (user-task g s t t_seat.user).0 next_t))
+      lifted = rw (key-is u) (highest-of (λ v. base_key g v past) t (followers (λ v. waits_for g v past) (tasks g) u) (base_key g u past) (is-follower t u (user-task g s t t_active.user).0 next_t))
 
       candidates : List ℕ
       candidates = filter (λ v. eligible g v past) (tasks_of g c)
@@ -297,7 +298,7 @@ module _ (g : Group) (valid : IsValid g.setup) (past : Past) (made : IsMade g pa
       ranked = sorted (map (λ v. record { key = effective_key g v past; task = v }) candidates)
 
       among : has u (tasks_ranked ranked) ≡ true
-      among = has-sorted u (map (λ v. record { key = effective_key g v past; task = v }) candidates) ∙ rw (tasks-ranked g past candidates, has-filter (λ v. eligible g v past) u (tasks_of g c), home-tasks_of g u (user-task g s u u_seat.user).0, is-eligible u u_seat.exists_now u_seat.awake u_free)
+      among = has-sorted u (map (λ v. record { key = effective_key g v past; task = v }) candidates) ∙ rw (tasks-ranked g past candidates, has-filter (λ v. eligible g v past) u (tasks_of g c), home-tasks_of g u (user-task g s u u_active.user).0, is-eligible u u_active.exists_now u_active.awake u_free)
 
       top_is : top g c past ≡ take (cpus g c) (tasks_ranked ranked)
       top_is = refl
@@ -334,8 +335,8 @@ module _ (g : Group) (valid : IsValid g.setup) (past : Past) (made : IsMade g pa
               split e (inl n) = let same : t ≡ x = sym e ∙ n in let m : waits_for g t past ≡ None = rw same (free x k) in let z : is u None ≡ true = rw m at next_t in cc
               split e (inr n) = let z : is x (waits_for g t past) ≡ true = rw e at n in let same : x ≡ u = is_one x u (waits_for g t past) z next_t in let there : has u (top g c past) ≡ true = subst (λ n. has n (top g c past) ≡ true) same k in clash _ there absent
 
-          above_ceiling : (x y : ℕ) → has x (top g c past) ≡ true → IsOwner c x y → above g past y t ≡ true
-          above_ceiling x y k o =
+          over_waiter : (x y : ℕ) → has x (top g c past) ≡ true → IsOwner c x y → above g past y t ≡ true
+          over_waiter x y k o =
               let not_over : higher (base_key g t past) (effective_key g x past) ≡ false = unless _ (λ m. clash _ (higher-mixed (base_key g t past) (effective_key g u past) (effective_key g x past) lifted m) (no_higher x k)) in
               let other : (base_key g t past).minor == (base_key g y past).minor ≡ false = rw (minor-is g t past (global-allows g.setup.plugin global), minor-is g y past (global-allows g.setup.plugin global)) (turned t y ∙ not_t x y k o) in
               higher-total (base_key g t past) (base_key g y past) other (rw o.key at not_over)
@@ -345,7 +346,7 @@ module _ (g : Group) (valid : IsValid g.setup) (past : Past) (made : IsMade g pa
               let x = map-back y_of (top g c past) y k in
               let o = owner c x.0 x.1 in
               let same : o.0 ≡ y = sym (x.2 ∙ y_is x.0 o.0 o.1) in
-              (subst (λ n. has n (tasks_of g (home g t)) ≡ true) same (rw t_home o.1.there), subst (λ n. exists g n past ≡ true) same o.1.exists_now, subst (λ n. above g past n t ≡ true) same (above_ceiling x.0 o.0 x.1 o.1))
+              (subst (λ n. has n (tasks_of g (home g t)) ≡ true) same (rw t_home o.1.there), subst (λ n. exists g n past ≡ true) same o.1.exists_now, subst (λ n. above g past n t ≡ true) same (over_waiter x.0 o.0 x.1 o.1))
 
           injective : (x z : ℕ) → has x (top g c past) ≡ true → has z (top g c past) ≡ true → y_of x ≡ y_of z → x ≡ z
           injective x z hx hz e = split (owner c x hx) (owner c z hz)
@@ -366,5 +367,12 @@ module _ (g : Group) (valid : IsValid g.setup) (past : Past) (made : IsMade g pa
       by_case true e = e
       by_case false e = absurd (clash _ blocked (absent-blocks e))
 
-pub holder_is_linked : HolderIsLinked IsValid
-holder_is_linked g past t s u valid made global blocked w h = links-top g (home g u) (processor-home g (home g u)) made u ∙ holder-linked g valid past made global t s u blocked w h
+pub holder_is_linked : HolderIsLinked
+holder_is_linked g past rules made t s global w blocked = by_holder (holder g s past) refl
+  where
+    waits : (has s (sems g) ≡ true) × (has t (sem_state g s past).waiting ≡ true)
+    waits = awaits-waits g t s past w
+
+    by_holder : (o : Option ℕ) → holder g s past ≡ o → HasLinkedHolder g s past
+    by_holder None e = let held : is_none {T = ℕ} None ≡ false = rw e at (held-somewhere g rules made t s waits.0 (sem-facts g rules past made global s waits.0).0 waits.1) in cc
+    by_holder (Some u) e = record { task = u; holds_it = e; linked = links-top g (home g u) (processor-home g (home g u)) made u ∙ holder-linked g rules past made global t s u blocked w e }

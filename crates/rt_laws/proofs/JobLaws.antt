@@ -13,7 +13,7 @@ use Rattle.rt_model.specs.Releases.{arrivals, arrives, release_by, release, has_
 use Rattle.rt_model.specs.Sleep.{wakes, sleeps, sleep_end}
 use Rattle.rt_model.proofs.Steps.{done-step}
 use Rattle.rt_rules.proofs.PlacingLaws.{either, or_true}
-use Rattle.rt_laws.specs.Valid.{IsValid}
+use Rattle.rt_laws.specs.Rules.{MeetsRules}
 use Rattle.rt_laws.proofs.Small.{both}
 
 pub now-grows : (e : Event) (past : Past) → now past ≤ now (e ∷ past)
@@ -57,37 +57,37 @@ unfolding is_released
 released g t past h = has_come-is (now past) (release g t past) h
 
 -- an early task is periodic: its releases do not wait for arrivals
-early-periodic : (g : Group) → IsValid g.setup → (t : ℕ) (past : Past) → opens_early g t past ≡ true → (task g t).kind ≡ Periodic
+early-periodic : (g : Group) → MeetsRules g → (t : ℕ) (past : Past) → opens_early g t past ≡ true → (task g t).kind ≡ Periodic
 unfolding opens_early
-early-periodic g valid t past h = valid.is_periodic g.number t (both (task g t).early (nat_lt 0 (done t past)) h).0
+early-periodic g rules t past h = rules.is_periodic t (both (task g t).early (nat_lt 0 (done t past)) h).0
 
-pub release-keeps : (g : Group) → IsValid g.setup → (t : ℕ) (e : Event) (past : Past) → exists g t past ≡ true → ends_job t e ≡ false → release g t (e ∷ past) ≡ release g t past
+pub release-keeps : (g : Group) → MeetsRules g → (t : ℕ) (e : Event) (past : Past) → exists g t past ≡ true → ends_job t e ≡ false → release g t (e ∷ past) ≡ release g t past
 unfolding release release_by
-release-keeps g valid t e past h k = rw (done-keeps t e past k) (split (there_by g t past h))
+release-keeps g rules t e past h k = rw (done-keeps t e past k) (split (there_by g t past h))
   where
     split : (is_released g t past ≡ true) ⊎ (opens_early g t past ≡ true) → release_by g (task g t).kind t (done t past) (e ∷ past) ≡ release g t past
     split (inl m) =
         let r = released g t past m in
         release_by-keeps g (task g t).kind t (done t past) r.0 e past r.1 ∙ sym r.1
-    split (inr m) = rw (early-periodic g valid t past m)
+    split (inr m) = rw (early-periodic g rules t past m)
 
-pub exists-keeps : (g : Group) → IsValid g.setup → (t : ℕ) (e : Event) (past : Past) → exists g t past ≡ true → ends_job t e ≡ false → exists g t (e ∷ past) ≡ true
+pub exists-keeps : (g : Group) → MeetsRules g → (t : ℕ) (e : Event) (past : Past) → exists g t past ≡ true → ends_job t e ≡ false → exists g t (e ∷ past) ≡ true
 unfolding exists is_released opens_early
-exists-keeps g valid t e past h k = split (there_by g t past h)
+exists-keeps g rules t e past h k = split (there_by g t past h)
   where
     split : (is_released g t past ≡ true) ⊎ (opens_early g t past ≡ true) → has_come (now (e ∷ past)) (release g t (e ∷ past)) || ((task g t).early && nat_lt 0 (done t (e ∷ past))) ≡ true
     split (inl m) =
         let r = released g t past m in
-        let same : release g t (e ∷ past) ≡ Some r.0 = release-keeps g valid t e past h k ∙ r.1 in
+        let same : release g t (e ∷ past) ≡ Some r.0 = release-keeps g rules t e past h k ∙ r.1 in
         rw (same, le-leb r.0 (now (e ∷ past)) (omega (arith, now-grows e past, r.2)))
     split (inr m) = rw (done-keeps t e past k, m) (or_true (has_come (now (e ∷ past)) (release g t (e ∷ past))))
 
-pub base_key-keeps : (g : Group) → IsValid g.setup → (t : ℕ) (e : Event) (past : Past) → exists g t past ≡ true → ends_job t e ≡ false → base_key g t (e ∷ past) ≡ base_key g t past
+pub base_key-keeps : (g : Group) → MeetsRules g → (t : ℕ) (e : Event) (past : Past) → exists g t past ≡ true → ends_job t e ≡ false → base_key g t (e ∷ past) ≡ base_key g t past
 unfolding base_key deadline key_by
-base_key-keeps g valid t e past h k = by_plugin g.setup.plugin
+base_key-keeps g rules t e past h k = by_plugin g.setup.plugin
   where
     same : deadline g t (e ∷ past) ≡ deadline g t past
-    same = rw (release-keeps g valid t e past h k)
+    same = rw (release-keeps g rules t e past h k)
 
     by_plugin : (p : PluginKind) → key_by g p t (e ∷ past) ≡ key_by g p t past
     by_plugin plugins.GsnEdf = rw same

@@ -1,77 +1,102 @@
--- What the next event of a past says of who asks and who frees.
-use Rattle.std.proofs.Common.{◌∷◌, [], ◌≡◌, ℕ, true, false}
+-- What the next event of a past does: who asks and who frees, and that a task which holds or waits goes on.
+use Rattle.std.proofs.Common.{◌≡◌, ℕ, Bool, true, false, ◌&&◌, ◌⊎◌, inl, inr, ◌∷◌, refl}
+use Rattle.std.specs.Prelude.{None, Some, if◌then◌else◌}
 use Rattle.rt_task.specs.declared.Act.{Act}
-use Rattle.rt_task.specs.declared.Protocol.{Protocol}
-use Rattle.rt_task.specs.declared.Protocol.TheVariants.{Fmlp, Omlp, Pcp, Mpcp}
+use Rattle.rt_task.specs.declared.Act.TheVariants as acts
+use Rattle.rt_task.specs.declared.Op.{Op}
+use Rattle.rt_task.specs.declared.Op.TheVariants as ops
+use Rattle.rt_history.specs.declared.Reply.TheVariants as replies
 use Rattle.rt_rules.specs.Numbers.{has, is, is_empty}
-use Rattle.rt_rules.specs.SemState.{Asks, Frees}
-use Rattle.rt_model.specs.Answers.{nests}
-use Rattle.rt_model.specs.Ceilings.{is_pcp}
-use Rattle.rt_model.specs.Group.{Group, tasks, users, sems, protocol}
+use Rattle.rt_rules.specs.SemState.{Asks}
+use Rattle.rt_model.specs.Answers.{answer, do_answer, op_answer, unless_holding}
+use Rattle.rt_model.specs.Group.{Group, sems}
 use Rattle.rt_model.specs.Holders.{sem_state, holder, holds}
-use Rattle.rt_model.specs.Made.{IsMade, opened, acted, clocked}
+use Rattle.rt_model.specs.Made.{IsMade}
+use Rattle.rt_model.specs.NonPreemptive.{non_preemptive}
 use Rattle.rt_model.specs.Outcomes.{past_act}
-use Rattle.rt_model.specs.Past.{Event, Clock, Acted, Past, sem_act}
-use Rattle.rt_model.specs.Releases.{exists}
-use Rattle.rt_model.specs.Sleep.{sleeps}
-use Rattle.rt_rules.proofs.PlacingLaws.{has-filter}
-use Rattle.rt_laws.specs.Valid.{IsValid}
-use Rattle.rt_laws.proofs.Small.{unless, clash, not_false, empty-none}
-use Rattle.rt_laws.proofs.Requests.{IsAsk, asks, frees}
-use Rattle.rt_laws.proofs.Waiting.{task-user}
-use Rattle.rt_laws.proofs.Running.{IsRunning, running}
+use Rattle.rt_model.specs.Past.{Event, Acted, Past, now, accepted, operation, did, ends_job, sem_act}
+use Rattle.rt_model.specs.Runs.{runs}
+use Rattle.rt_model.specs.Semaphores.{cluster_of}
+use Rattle.rt_model.specs.Sleep.{sleep_end}
+use Rattle.rt_laws.specs.Rules.{MeetsRules}
+use Rattle.rt_laws.proofs.Small.{unless, clash, is-some}
+use Rattle.rt_laws.proofs.Requests.{asks}
+use Rattle.rt_laws.proofs.Running.{running}
+use Rattle.rt_laws.proofs.Moves.{IsMove, clock_moves, cpu_acts}
+use Rattle.rt_laws.proofs.Asked.{Asked, Freed, asked, freed, holds-none}
+use Rattle.rt_laws.proofs.Pcp.{pcp_kept}
+use Rattle.rt_laws.proofs.Engaged.{engaged, engaged-step, engaged-cases}
+use Rattle.rt_laws.proofs.Ends.{ended-free}
 
--- a task asks for a semaphore: its job is there, neither sleeps nor waits, and the request does not nest
-pub record IsAsked (g : Group) (t s : ℕ) (past : Past) : Type 0 where
-  pub member : has t (tasks g) ≡ true
-  pub user : has t (users g s) ≡ true
-  pub known : has s (sems g) ≡ true
-  pub unnested : nests g (protocol g s) s t past ≡ false
-  pub exists_now : exists g t past ≡ true
-  pub awake : sleeps t past ≡ false
-  pub waits_none : (r : ℕ) → has r (sems g) ≡ true → has t (sem_state g r past).waiting ≡ false
+-- an accepted Sleep comes from a task that holds nothing
+sleep-holds_nothing : (g : Group) (q t n : ℕ) (past : Past) → runs q past ≡ Some t → accepted (answer g q (acts.Do (ops.Sleep n)) past) ≡ true → is_empty (holds g t past) ≡ true
+unfolding answer do_answer op_answer unless_holding
+sleep-holds_nothing g q t n past r a = by_cases (non_preemptive t past) (is_empty (holds g t past)) (rw r at a)
+  where
+    by_cases : (np b : Bool) → accepted (if np then replies.InNp else (if b then replies.Done else replies.Holding)) ≡ true → b ≡ true
+    by_cases true b k = cc
+    by_cases false true k = refl
+    by_cases false false k = cc
+
+-- an act that takes a task's sleep further is an accepted Sleep of that task
+sleep-is : (g : Group) (q t clock : ℕ) (act : Act) (past : Past) → (sleep_end clock (did t (Acted (past_act g q act past))) ≡ 0) ⊎ ((n : ℕ) × (act ≡ acts.Do (ops.Sleep n)) × (accepted (answer g q act past) ≡ true) × (runs q past ≡ Some t))
+unfolding past_act
+sleep-is g q t clock act past = by_case (is t (runs q past)) refl (accepted (answer g q act past))
+  where
+    by_op : (op : Op) → runs q past ≡ Some t → (sleep_end clock (Some op) ≡ 0) ⊎ ((n : ℕ) × (acts.Do op ≡ acts.Do (ops.Sleep n)) × (true ≡ true) × (runs q past ≡ Some t))
+    by_op ops.Work r = inl refl
+    by_op (ops.Lock n) r = inl refl
+    by_op (ops.Unlock n) r = inl refl
+    by_op (ops.Sleep n) r = inr (n, refl, refl, r)
+    by_op ops.NpOn r = inl refl
+    by_op ops.NpOff r = inl refl
+    by_op ops.End r = inl refl
+
+    by_act : (a : Act) → runs q past ≡ Some t → (sleep_end clock (operation a) ≡ 0) ⊎ ((n : ℕ) × (a ≡ acts.Do (ops.Sleep n)) × (true ≡ true) × (runs q past ≡ Some t))
+    by_act acts.Tick r = inl refl
+    by_act acts.Irq r = inl refl
+    by_act (acts.Arrive u) r = inl refl
+    by_act (acts.Do op) r = by_op op r
+
+    by_case : (b : Bool) → is t (runs q past) ≡ b → (c : Bool) → (sleep_end clock (if b && c then operation act else None) ≡ 0) ⊎ ((n : ℕ) × (act ≡ acts.Do (ops.Sleep n)) × (c ≡ true) × (runs q past ≡ Some t))
+    by_case true e true = by_act act (is-some t (runs q past) e)
+    by_case true e false = inl refl
+    by_case false e c = inl refl
+
+-- a task that holds or waits after an event does not fall asleep in it
+awake-act : (g : Group) → MeetsRules g → {past : Past} → IsMade g past → (q t s : ℕ) (act : Act) → has s (sems g) ≡ true → engaged g t s (Acted (past_act g q act past) ∷ past) ≡ true → sleep_end (now past) (did t (Acted (past_act g q act past))) ≡ 0
+awake-act g rules {past} made q t s act there h = split (sleep-is g q t (now past) act past)
+  where
+    asleep : (n : ℕ) → act ≡ acts.Do (ops.Sleep n) → accepted (answer g q act past) ≡ true → runs q past ≡ Some t → (engaged g t s past ≡ true) ⊎ (sem_act (Acted (past_act g q act past)) ≡ Asks t s) → ⊥
+    asleep n k a r (inr m) = let b : act ≡ acts.Do (ops.Lock (asks g q act past t s m).number) = (asks g q act past t s m).is_lock in cc
+    asleep n k a r (inl m) = further (engaged-cases g t s past (pcp_kept g rules (cluster_of g s) made) m)
+      where
+        further : (is t (holder g s past) ≡ true) ⊎ (has t (sem_state g s past).waiting ≡ true) → ⊥
+        further (inl o) = clash _ o (holds-none g t s past (sleep-holds_nothing g q t n past r (rw k at a)) there)
+        further (inr o) = clash _ o ((running g rules made q t r).waits_none s there)
+
+    split : (sleep_end (now past) (did t (Acted (past_act g q act past))) ≡ 0) ⊎ ((n : ℕ) × (act ≡ acts.Do (ops.Sleep n)) × (accepted (answer g q act past) ≡ true) × (runs q past ≡ Some t)) → sleep_end (now past) (did t (Acted (past_act g q act past))) ≡ 0
+    split (inl k) = k
+    split (inr k) = absurd (asleep k.0 k.1 k.2 k.3 (engaged-step g t s (Acted (past_act g q act past)) past h))
 
 pub record IsNext (g : Group) (e : Event) (past : Past) : Type 0 where
-  pub asked : (t s : ℕ) → sem_act e ≡ Asks t s → IsAsked g t s past
-  pub passed_on : (t s : ℕ) → sem_act e ≡ Frees t s → is t (holder g s past) ≡ true
+  pub asked : Asked g e past
+  pub freed : Freed g e past
+  pub goes_on : (t s : ℕ) → has s (sems g) ≡ true → engaged g t s (e ∷ past) ≡ true → ends_job t e ≡ false
+  pub awake : (t s : ℕ) → has s (sems g) ≡ true → engaged g t s (e ∷ past) ≡ true → sleep_end (now past) (did t e) ≡ 0
 
-pub next-clock : (g : Group) (tick : ℕ) (past : Past) → IsNext g (Clock tick) past
-next-clock g tick past = record { asked = λ t s h. cc; passed_on = λ t s h. cc }
-
-pub next-act : (g : Group) → IsValid g.setup → {past : Past} → IsMade g past → (q : ℕ) (act : Act) → IsNext g (Acted (past_act g q act past)) past
-next-act g valid {past} made q act = record { asked = asked; passed_on = λ t s h. (frees g q act past t s h).held }
+pub next : (g : Group) → MeetsRules g → {past : Past} {e : Event} → IsMade g past → IsMove g past e → IsNext g e past
+next g rules {past} {e} made move = record {
+  asked = asked g rules made move;
+  freed = freed g move;
+  goes_on = goes_on e move;
+  awake = awake e move;
+}
   where
-    asked : (t s : ℕ) → sem_act (Acted (past_act g q act past)) ≡ Asks t s → IsAsked g t s past
-    asked t s h =
-        let a : IsAsk g q act past t s = asks g q act past t s h in
-        let r : IsRunning g q t past = running g valid made q t a.runs_it in
-        record {
-          member = r.member;
-          user = task-user g s t r.member a.declared;
-          known = valid.is_known g.number t s r.member a.declared;
-          unnested = a.unnested;
-          exists_now = r.exists_now;
-          awake = r.awake;
-          waits_none = r.waits_none;
-        }
+    goes_on : (e : Event) → IsMove g past e → (t s : ℕ) → has s (sems g) ≡ true → engaged g t s (e ∷ past) ≡ true → ends_job t e ≡ false
+    goes_on e (clock_moves tick) t s there h = refl
+    goes_on e (cpu_acts q a) t s there h = unless _ (λ k. ended-free g rules made q t s a there k h)
 
-pub holds-none : (g : Group) (t s : ℕ) (past : Past) → is_empty (holds g t past) ≡ true → has s (sems g) ≡ true → is t (holder g s past) ≡ false
-unfolding holds
-holds-none g t s past h there = unless _ (λ k. clash (has s (holds g t past)) (found k) (empty-none s (holds g t past) h))
-  where
-    found : is t (holder g s past) ≡ true → has s (holds g t past) ≡ true
-    found k = rw (has-filter (λ r. is t (holder g r past)) s (sems g), there, k)
-
--- a request that is none for PCP comes from a task that holds nothing
-pub asks_empty : (g : Group) (p : Protocol) (t s : ℕ) (past : Past) → is_pcp p ≡ false → nests g p s t past ≡ false → is_empty (holds g t past) ≡ true
-unfolding nests
-asks_empty g Fmlp t s past e h = not_false _ h
-asks_empty g Omlp t s past e h = not_false _ h
-asks_empty g Mpcp t s past e h = not_false _ h
-asks_empty g Pcp t s past e h = cc
-
--- a law of every past: it holds at the opening, and each next event keeps it
-pub by_moves : (g : Group) → IsValid g.setup → (P : Past → Type 0) → P [] → ((e : Event) (past : Past) → IsMade g past → IsMade g (e ∷ past) → IsNext g e past → P past → P (e ∷ past)) → {past : Past} → IsMade g past → P past
-by_moves g valid P base step opened = base
-by_moves g valid P base step (clocked {past = past} tick made) = step (Clock tick) past made (clocked tick made) (next-clock g tick past) (by_moves g valid P base step made)
-by_moves g valid P base step (acted {past = past} q act made) = step (Acted (past_act g q act past)) past made (acted q act made) (next-act g valid made q act) (by_moves g valid P base step made)
+    awake : (e : Event) → IsMove g past e → (t s : ℕ) → has s (sems g) ≡ true → engaged g t s (e ∷ past) ≡ true → sleep_end (now past) (did t e) ≡ 0
+    awake e (clock_moves tick) t s there h = refl
+    awake e (cpu_acts q a) t s there h = awake-act g rules made q t s a there h

@@ -13,24 +13,24 @@ use Rattle.rt_model.specs.BaseKeys.{base_key, above}
 use Rattle.rt_model.specs.Blocking.{frees, is_blocked, is_open, newest_request, ends}
 use Rattle.rt_model.specs.Group.{Group, cpus, home, sems, tasks_of, protocol}
 use Rattle.rt_model.specs.Holders.{awaits}
-use Rattle.rt_model.specs.Made.{IsMade, opened, acted, clocked}
-use Rattle.rt_model.specs.Outcomes.{past_act}
-use Rattle.rt_model.specs.Past.{Event, Clock, Acted, Past, sem_act, entries_in}
+use Rattle.rt_model.specs.Made.{IsMade}
+use Rattle.rt_model.specs.Past.{Event, Past, sem_act, entries_in}
 use Rattle.rt_model.specs.Releases.{exists}
 use Rattle.rt_model.specs.Semaphores.{at_sem, cluster_of, omlp}
 use Rattle.rt_rules.proofs.PlacingLaws.{or_true, equal_self, has-filter, distinct-filter}
 use Rattle.rt_model.proofs.TopLaws.{distinct-tasks_of}
-use Rattle.rt_laws.specs.Valid.{IsValid, allows, in_one_cluster}
+use Rattle.rt_laws.specs.Rules.{MeetsRules, allows, in_one_cluster}
 use Rattle.rt_laws.proofs.Small.{unless, clash, both, has-append, has-appended, has-one, has-rest, has-without}
 use Rattle.rt_laws.proofs.Waiting.{has_room, user-task}
 use Rattle.rt_laws.proofs.Linked.{home-tasks_of}
 use Rattle.rt_laws.proofs.KeyLaws.{foremost-none, foremost-some}
-use Rattle.rt_laws.proofs.Next.{IsNext, next-clock, next-act}
+use Rattle.rt_laws.proofs.Moves.{by_moves, moved}
+use Rattle.rt_laws.proofs.Next.{IsNext, next}
 use Rattle.rt_laws.proofs.OneWait.{WaitsOnce, waits_once}
 use Rattle.rt_laws.proofs.FmlpLaw.{ahead, ahead-append, ahead-last, ahead-rest, open-waits, open-before, newest-below, entries-grow, length-distinct}
-use Rattle.rt_laws.proofs.Sits.{sits, sits_by}
-use Rattle.rt_laws.proofs.Seated.{AllSeated, all_seated, KeepsSeats, keeps-clock, keeps-act, seated-key}
-use Rattle.rt_laws.proofs.OmlpState.{IsQueued, queued, without-gone, above-order, omlp-after_ask, omlp-fresh, user-home, length-one_more}
+use Rattle.rt_laws.proofs.Engaged.{engaged, engaged_by}
+use Rattle.rt_laws.proofs.Active.{AllActive, all_active, engaged-key}
+use Rattle.rt_laws.proofs.OmlpState.{IsQueued, queued, without-gone, above-order, omlp-sem_state, omlp-fresh, user-home, length-one_more}
 
 pub ends-none : (g : Group) (r t s : ℕ) (past : Past) → entries_in past ≤ r → ends g r t s past ≡ 0
 unfolding ends is_open
@@ -84,7 +84,7 @@ pub record HasTail (g : Group) (t : ℕ) (past : Past) (fifo : List ℕ) (n : �
   pub front : List ℕ
   pub back : List ℕ
   pub parts : fifo ≡ front ++ back
-  pub above_ceiling : (u : ℕ) → has u back ≡ true → above g past u t ≡ true
+  pub all_above : (u : ℕ) → has u back ≡ true → above g past u t ≡ true
   pub long : n ≤ length back
 
 -- what an event does at a semaphore
@@ -105,15 +105,11 @@ omlp-next : (g : Group) (s : ℕ) (e : Event) (past : Past) → omlp g s (e ∷ 
 unfolding omlp
 omlp-next g s e past = refl
 
-sits-omlp : (g : Group) (t s : ℕ) (past : Past) → protocol g s ≡ Omlp → sits g t s past ≡ has t ((omlp g s past).fifo ++ (omlp g s past).queue)
-unfolding sits sits_by
-sits-omlp g t s past h = rw h
+engaged-omlp : (g : Group) (t s : ℕ) (past : Past) → protocol g s ≡ Omlp → engaged g t s past ≡ has t ((omlp g s past).fifo ++ (omlp g s past).queue)
+unfolding engaged engaged_by
+engaged-omlp g t s past h = rw h
 
--- the next list of members and of those in the priority queue, when a task asks and when one frees
-abbrev asked_state : (m u : ℕ) (l : OmlpState) → OmlpState
-asked_state m u l = if nat_lt (length l.fifo) m then record l { fifo = l.fifo ++ u ∷ [] } else record l { queue = l.queue ++ u ∷ [] }
-
-module _ (g : Group) (valid : IsValid g.setup) (r t s : ℕ) (p : protocol g s ≡ Omlp) (a : allows g.setup.plugin Omlp ≡ true) (one : in_one_cluster g.setup.plugin (protocol g s) ≡ true) (known : has s (sems g) ≡ true) where
+module _ (g : Group) (rules : MeetsRules g) (r t s : ℕ) (p : protocol g s ≡ Omlp) (a : allows g.setup.plugin Omlp ≡ true) (one : in_one_cluster g.setup.plugin (protocol g s) ≡ true) (known : has s (sems g) ≡ true) where
   abbrev pub m : ℕ
   m = cpus g (cluster_of g s)
 
@@ -122,22 +118,22 @@ module _ (g : Group) (valid : IsValid g.setup) (r t s : ℕ) (p : protocol g s �
     pub in_fifo : is_open g r t s past ≡ true → has t (rest (omlp g s past).fifo) ≡ true → ends g r t s past + ahead t (omlp g s past).fifo ≤ 2 * cpus g (cluster_of g s) - 1
     pub in_queue : is_open g r t s past ≡ true → has t (omlp g s past).queue ≡ true → HasTail g t past (omlp g s past).fifo (ends g r t s past)
 
-  sits-queue : (u : ℕ) (past : Past) → has u (omlp g s past).queue ≡ true → sits g u s past ≡ true
-  sits-queue u past h = sits-omlp g u s past p ∙ rw (has-append, h) (or_true (has u (omlp g s past).fifo))
+  engaged-queue : (u : ℕ) (past : Past) → has u (omlp g s past).queue ≡ true → engaged g u s past ≡ true
+  engaged-queue u past h = engaged-omlp g u s past p ∙ rw (has-append, h) (or_true (has u (omlp g s past).fifo))
 
-  sits-fifo : (u : ℕ) (past : Past) → has u (omlp g s past).fifo ≡ true → sits g u s past ≡ true
-  sits-fifo u past h = sits-omlp g u s past p ∙ rw (has-append, h)
+  engaged-fifo : (u : ℕ) (past : Past) → has u (omlp g s past).fifo ≡ true → engaged g u s past ≡ true
+  engaged-fifo u past h = engaged-omlp g u s past p ∙ rw (has-append, h)
 
   -- one that is open waits in one of the two lists
   waits-where : (past : Past) → is_open g r t s past ≡ true → (has t (rest (omlp g s past).fifo) ≡ true) ⊎ (has t (omlp g s past).queue ≡ true)
-  waits-where past o = has-appended t (rest (omlp g s past).fifo) (omlp g s past).queue (rw (omlp-after_ask g s past p).0 at (open-waits g r t s past o).1)
+  waits-where past o = has-appended t (rest (omlp g s past).fifo) (omlp g s past).queue (rw (omlp-sem_state g s past p).0 at (open-waits g r t s past o).1)
 
   -- while the task is blocked in the priority queue, not all members are above it
-  front_there : (past : Past) → AllSeated g past → IsQueued (cpus g (cluster_of g s)) (omlp g s past) → has t (omlp g s past).queue ≡ true → (n : ℕ) (tail : HasTail g t past (omlp g s past).fifo n) → is_blocked g t past ≡ true → 1 ≤ length tail.front
-  front_there past after_ask q h n tail blocked = by_case tail.front refl
+  front_there : (past : Past) → AllActive g past → IsQueued (cpus g (cluster_of g s)) (omlp g s past) → has t (omlp g s past).queue ≡ true → (n : ℕ) (tail : HasTail g t past (omlp g s past).fifo n) → is_blocked g t past ≡ true → 1 ≤ length tail.front
+  front_there past active q h n tail blocked = by_case tail.front refl
     where
       home_is : home g t ≡ cluster_of g s
-      home_is = user-home g valid s t one (after_ask t s known (sits-queue t past h)).user
+      home_is = user-home g rules s t one (active t s known (engaged-queue t past h)).user
 
       all_over : tail.front ≡ [] → is_blocked g t past ≡ false
       all_over e =
@@ -146,9 +142,9 @@ module _ (g : Group) (valid : IsValid g.setup) (r t s : ℕ) (p : protocol g s �
         where
           each : (u : ℕ) → has u (omlp g s past).fifo ≡ true → (omlp g s past).fifo ≡ tail.back → (has u (tasks_of g (home g t)) ≡ true) × (exists g u past ≡ true) × (above g past u t ≡ true)
           each u k same =
-              let there = after_ask u s known (sits-fifo u past k) in
-              let u_home : home g u ≡ home g t = user-home g valid s u one there.user ∙ sym home_is in
-              (subst (λ c. has u (tasks_of g c) ≡ true) u_home (home-tasks_of g u (user-task g s u there.user).0), there.exists_now, tail.above_ceiling u (rw same at k))
+              let there = active u s known (engaged-fifo u past k) in
+              let u_home : home g u ≡ home g t = user-home g rules s u one there.user ∙ sym home_is in
+              (subst (λ c. has u (tasks_of g c) ≡ true) u_home (home-tasks_of g u (user-task g s u there.user).0), there.exists_now, tail.all_above u (rw same at k))
 
       by_case : (f : List ℕ) → tail.front ≡ f → 1 ≤ length f
       by_case [] e = absurd (clash _ blocked (all_over e))
@@ -169,15 +165,15 @@ module _ (g : Group) (valid : IsValid g.setup) (r t s : ℕ) (p : protocol g s �
       split (inr c) = c
 
   -- in the priority queue the members that are not above the task leave room for one more end
-  room_left : (e : Event) (past : Past) → AllSeated g past → IsQueued (cpus g (cluster_of g s)) (omlp g s past) → has t (omlp g s past).queue ≡ true → (tail : HasTail g t past (omlp g s past).fifo (ends g r t s past)) → (ends g r t s (e ∷ past) ≡ ends g r t s past) ⊎ (1 ≤ length tail.front) × (ends g r t s (e ∷ past) ≡ ends g r t s past + 1)
-  room_left e past after_ask q h tail = split (ends-cases g r t s e past)
+  room_left : (e : Event) (past : Past) → AllActive g past → IsQueued (cpus g (cluster_of g s)) (omlp g s past) → has t (omlp g s past).queue ≡ true → (tail : HasTail g t past (omlp g s past).fifo (ends g r t s past)) → (ends g r t s (e ∷ past) ≡ ends g r t s past) ⊎ (1 ≤ length tail.front) × (ends g r t s (e ∷ past) ≡ ends g r t s past + 1)
+  room_left e past active q h tail = split (ends-cases g r t s e past)
     where
       split : IsEnd g r t s e past ⊎ (ends g r t s (e ∷ past) ≡ ends g r t s past) → (ends g r t s (e ∷ past) ≡ ends g r t s past) ⊎ (1 ≤ length tail.front) × (ends g r t s (e ∷ past) ≡ ends g r t s past + 1)
-      split (inl c) = inr (front_there past after_ask q h _ tail c.2, c.3)
+      split (inl c) = inr (front_there past active q h _ tail c.2, c.3)
       split (inr c) = inl c
 
-  queue_bound : (e : Event) (past : Past) → AllSeated g past → IsQueued (cpus g (cluster_of g s)) (omlp g s past) → has t (omlp g s past).queue ≡ true → HasTail g t past (omlp g s past).fifo (ends g r t s past) → ends g r t s (e ∷ past) ≤ cpus g (cluster_of g s)
-  queue_bound e past after_ask q h tail = split (room_left e past after_ask q h tail)
+  queue_bound : (e : Event) (past : Past) → AllActive g past → IsQueued (cpus g (cluster_of g s)) (omlp g s past) → has t (omlp g s past).queue ≡ true → HasTail g t past (omlp g s past).fifo (ends g r t s past) → ends g r t s (e ∷ past) ≤ cpus g (cluster_of g s)
+  queue_bound e past active q h tail = split (room_left e past active q h tail)
     where
       size : length (omlp g s past).fifo ≡ length tail.front + length tail.back
       size = ap length tail.parts ∙ length-append tail.front tail.back
@@ -187,19 +183,19 @@ module _ (g : Group) (valid : IsValid g.setup) (r t s : ℕ) (p : protocol g s �
       split (inr c) = omega (arith, c.0, c.1, tail.long, size, q.full t h)
 
   -- base keys stay while both sit
-  above-keeps : (u : ℕ) (e : Event) (past : Past) → IsNext g e past → KeepsSeats g e past → AllSeated g past → sits g u s (e ∷ past) ≡ true → sits g t s (e ∷ past) ≡ true → above g past u t ≡ true → above g (e ∷ past) u t ≡ true
+  above-keeps : (u : ℕ) (e : Event) (past : Past) → IsNext g e past → AllActive g past → engaged g u s (e ∷ past) ≡ true → engaged g t s (e ∷ past) ≡ true → above g past u t ≡ true → above g (e ∷ past) u t ≡ true
   unfolding above
-  above-keeps u e past next keeps after_ask hu ht h = rw (seated-key g valid u s e past next keeps after_ask known hu, seated-key g valid t s e past next keeps after_ask known ht) h
+  above-keeps u e past next active hu ht h = rw (engaged-key g rules u s e past next active known hu, engaged-key g rules t s e past next active known ht) h
 
-  so_far-step : (e : Event) (past : Past) → AllSeated g past → IsQueued (cpus g (cluster_of g s)) (omlp g s past) → IsCounted past → ends g r t s (e ∷ past) ≤ 2 * cpus g (cluster_of g s) - 1
-  so_far-step e past after_ask q before = split (ends-cases g r t s e past)
+  so_far-step : (e : Event) (past : Past) → AllActive g past → IsQueued (cpus g (cluster_of g s)) (omlp g s past) → IsCounted past → ends g r t s (e ∷ past) ≤ 2 * cpus g (cluster_of g s) - 1
+  so_far-step e past active q before = split (ends-cases g r t s e past)
     where
       room : 1 ≤ cpus g (cluster_of g s)
-      room = has_room g valid s
+      room = has_room g rules s
 
       counted : is_open g r t s past ≡ true → ends g r t s (e ∷ past) ≡ ends g r t s past + 1 → (has t (rest (omlp g s past).fifo) ≡ true) ⊎ (has t (omlp g s past).queue ≡ true) → ends g r t s (e ∷ past) ≤ 2 * cpus g (cluster_of g s) - 1
       counted o c (inl w) = omega (arith, c, before.in_fifo o w, ahead-rest t (omlp g s past).fifo q.fifo_once w)
-      counted o c (inr w) = omega (arith, room, queue_bound e past after_ask q w (before.in_queue o w))
+      counted o c (inr w) = omega (arith, room, queue_bound e past active q w (before.in_queue o w))
 
       split : IsEnd g r t s e past ⊎ (ends g r t s (e ∷ past) ≡ ends g r t s past) → ends g r t s (e ∷ past) ≤ 2 * cpus g (cluster_of g s) - 1
       split (inl c) = counted c.1 c.3 (waits-where past c.1)
@@ -231,7 +227,7 @@ module _ (g : Group) (valid : IsValid g.setup) (r t s : ℕ) (p : protocol g s �
       by_room false low = record {
         so_far = far;
         in_fifo = λ o w. let k : has t (rest (omlp g s past).fifo) ≡ true = rw next_is at w in absurd (clash _ (has-rest t (omlp g s past).fifo k) fresh.0);
-        in_queue = λ o w. record { front = (omlp g s (e ∷ past)).fifo; back = []; parts = sym (append-nil _); above_ceiling = λ u k. cc; long = omega (arith, none_yet) };
+        in_queue = λ o w. record { front = (omlp g s (e ∷ past)).fifo; back = []; parts = sym (append-nil _); all_above = λ u k. cc; long = omega (arith, none_yet) };
       }
         where
           next_is : omlp g s (e ∷ past) ≡ record (omlp g s past) { queue = (omlp g s past).queue ++ t ∷ [] }
@@ -240,20 +236,20 @@ module _ (g : Group) (valid : IsValid g.setup) (r t s : ℕ) (p : protocol g s �
   -- ---- a request that was open before
 
   -- the same tail, one move later
-  tail-keeps : (e : Event) (past : Past) → IsNext g e past → KeepsSeats g e past → AllSeated g past → ((u : ℕ) → has u (omlp g s past).fifo ≡ true → sits g u s (e ∷ past) ≡ true) → sits g t s (e ∷ past) ≡ true → (n k : ℕ) → n ≤ k → HasTail g t past (omlp g s past).fifo k → HasTail g t (e ∷ past) (omlp g s past).fifo n
-  tail-keeps e past next keeps after_ask stay ht n k le tail = record {
+  tail-keeps : (e : Event) (past : Past) → IsNext g e past → AllActive g past → ((u : ℕ) → has u (omlp g s past).fifo ≡ true → engaged g u s (e ∷ past) ≡ true) → engaged g t s (e ∷ past) ≡ true → (n k : ℕ) → n ≤ k → HasTail g t past (omlp g s past).fifo k → HasTail g t (e ∷ past) (omlp g s past).fifo n
+  tail-keeps e past next active stay ht n k le tail = record {
     front = tail.front;
     back = tail.back;
     parts = tail.parts;
-    above_ceiling = λ u h. above-keeps u e past next keeps after_ask (stay u (rw (tail.parts, has-append, h) (or_true (has u tail.front)))) ht (tail.above_ceiling u h);
+    all_above = λ u h. above-keeps u e past next active (stay u (rw (tail.parts, has-append, h) (or_true (has u tail.front)))) ht (tail.all_above u h);
     long = omega (arith, le, tail.long);
   }
 
-  same-step : (e : Event) (past : Past) → IsNext g e past → KeepsSeats g e past → AllSeated g past → at_sem s (sem_act e) ≡ Neither → is_open g r t s past ≡ true → IsCounted past → ends g r t s (e ∷ past) ≤ 2 * cpus g (cluster_of g s) - 1 → IsCounted (e ∷ past)
-  same-step e past next keeps after_ask x o before far = record {
+  same-step : (e : Event) (past : Past) → IsNext g e past → AllActive g past → at_sem s (sem_act e) ≡ Neither → is_open g r t s past ≡ true → IsCounted past → ends g r t s (e ∷ past) ≤ 2 * cpus g (cluster_of g s) - 1 → IsCounted (e ∷ past)
+  same-step e past next active x o before far = record {
     so_far = far;
     in_fifo = λ o' w. let k : has t (rest (omlp g s past).fifo) ≡ true = rw next_is at w in let f : ahead t (omlp g s (e ∷ past)).fifo ≡ ahead t (omlp g s past).fifo = rw next_is in omega (arith, f, quiet, before.in_fifo o k);
-    in_queue = λ o' w. let k : has t (omlp g s past).queue ≡ true = rw next_is at w in subst (λ l. HasTail g t (e ∷ past) l (ends g r t s (e ∷ past))) (sym fifo_is) (tail-keeps e past next keeps after_ask stay (sits-queue t (e ∷ past) w) _ _ (omega (arith, quiet)) (before.in_queue o k));
+    in_queue = λ o' w. let k : has t (omlp g s past).queue ≡ true = rw next_is at w in subst (λ l. HasTail g t (e ∷ past) l (ends g r t s (e ∷ past))) (sym fifo_is) (tail-keeps e past next active stay (engaged-queue t (e ∷ past) w) _ _ (omega (arith, quiet)) (before.in_queue o k));
   }
     where
       next_is : omlp g s (e ∷ past) ≡ omlp g s past
@@ -262,8 +258,8 @@ module _ (g : Group) (valid : IsValid g.setup) (r t s : ℕ) (p : protocol g s �
       fifo_is : (omlp g s (e ∷ past)).fifo ≡ (omlp g s past).fifo
       fifo_is = ap (λ (l : OmlpState). l.fifo) next_is
 
-      stay : (u : ℕ) → has u (omlp g s past).fifo ≡ true → sits g u s (e ∷ past) ≡ true
-      stay u h = sits-fifo u (e ∷ past) (rw fifo_is h)
+      stay : (u : ℕ) → has u (omlp g s past).fifo ≡ true → engaged g u s (e ∷ past) ≡ true
+      stay u h = engaged-fifo u (e ∷ past) (rw fifo_is h)
 
       not_freed : (y : SemAct) → at_sem s y ≡ Neither → frees s y ≡ false
       not_freed (Asks u v) h = refl
@@ -277,8 +273,8 @@ module _ (g : Group) (valid : IsValid g.setup) (r t s : ℕ) (p : protocol g s �
       quiet : ends g r t s (e ∷ past) ≡ ends g r t s past
       quiet = no_end e past (not_freed (sem_act e) x)
 
-  asked-step : (e : Event) (past : Past) → IsNext g e past → KeepsSeats g e past → AllSeated g past → IsQueued (cpus g (cluster_of g s)) (omlp g s past) → IsQueued (cpus g (cluster_of g s)) (omlp g s (e ∷ past)) → (u : ℕ) → sem_act e ≡ Asks u s → is_open g r t s past ≡ true → IsCounted past → ends g r t s (e ∷ past) ≤ 2 * cpus g (cluster_of g s) - 1 → IsCounted (e ∷ past)
-  asked-step e past next keeps after_ask q q_after u x o before far = by_room (nat_lt (length (omlp g s past).fifo) (cpus g (cluster_of g s))) refl
+  asked-step : (e : Event) (past : Past) → IsNext g e past → AllActive g past → IsQueued (cpus g (cluster_of g s)) (omlp g s past) → IsQueued (cpus g (cluster_of g s)) (omlp g s (e ∷ past)) → (u : ℕ) → sem_act e ≡ Asks u s → is_open g r t s past ≡ true → IsCounted past → ends g r t s (e ∷ past) ≤ 2 * cpus g (cluster_of g s) - 1 → IsCounted (e ∷ past)
+  asked-step e past next active q q_after u x o before far = by_room (nat_lt (length (omlp g s past).fifo) (cpus g (cluster_of g s))) refl
     where
       quiet : ends g r t s (e ∷ past) ≡ ends g r t s past
       quiet = no_end e past (rw x)
@@ -311,10 +307,10 @@ module _ (g : Group) (valid : IsValid g.setup) (r t s : ℕ) (p : protocol g s �
 
           waits : has t (omlp g s (e ∷ past)).queue ≡ true → (has t (rest (omlp g s past).fifo) ≡ true) ⊎ (has t (omlp g s past).queue ≡ true) → HasTail g t (e ∷ past) (omlp g s (e ∷ past)).fifo (ends g r t s (e ∷ past))
           waits w (inl k) = let there : has t (omlp g s (e ∷ past)).fifo ≡ true = rw fifo_is (has-rest t (omlp g s past).fifo k) in absurd (clash _ w (q_after.apart t there))
-          waits w (inr k) = subst (λ l. HasTail g t (e ∷ past) l (ends g r t s (e ∷ past))) (sym fifo_is) (tail-keeps e past next keeps after_ask (λ v h. sits-fifo v (e ∷ past) (rw fifo_is h)) (sits-queue t (e ∷ past) w) _ _ (omega (arith, quiet)) (before.in_queue o k))
+          waits w (inr k) = subst (λ l. HasTail g t (e ∷ past) l (ends g r t s (e ∷ past))) (sym fifo_is) (tail-keeps e past next active (λ v h. engaged-fifo v (e ∷ past) (rw fifo_is h)) (engaged-queue t (e ∷ past) w) _ _ (omega (arith, quiet)) (before.in_queue o k))
 
-  passed_on-step : (e : Event) (past : Past) → IsNext g e past → KeepsSeats g e past → AllSeated g past → IsQueued (cpus g (cluster_of g s)) (omlp g s past) → IsQueued (cpus g (cluster_of g s)) (omlp g s (e ∷ past)) → (u : ℕ) → sem_act e ≡ Frees u s → is_open g r t s past ≡ true → IsCounted past → ends g r t s (e ∷ past) ≤ 2 * cpus g (cluster_of g s) - 1 → IsCounted (e ∷ past)
-  passed_on-step e past next keeps after_ask q q_after u x o before far = by_next (foremost (above g past) (omlp g s past).queue) refl
+  freed-step : (e : Event) (past : Past) → IsNext g e past → AllActive g past → IsQueued (cpus g (cluster_of g s)) (omlp g s past) → IsQueued (cpus g (cluster_of g s)) (omlp g s (e ∷ past)) → (u : ℕ) → sem_act e ≡ Frees u s → is_open g r t s past ≡ true → IsCounted past → ends g r t s (e ∷ past) ≤ 2 * cpus g (cluster_of g s) - 1 → IsCounted (e ∷ past)
+  freed-step e past next active q q_after u x o before far = by_next (foremost (above g past) (omlp g s past).queue) refl
     where
       next_is : omlp g s (e ∷ past) ≡ handed_over (foremost (above g past) (omlp g s past).queue) (record (omlp g s past) { fifo = rest (omlp g s past).fifo })
       next_is = omlp-next g s e past ∙ rw (x, equal_self s)
@@ -365,14 +361,14 @@ module _ (g : Group) (valid : IsValid g.setup) (r t s : ℕ) (p : protocol g s �
               let absent : has t (rest (omlp g s past).fifo) ≡ false = unless _ (λ h. clash _ k (q.apart t (has-rest t (omlp g s past).fifo h))) in
               let is_v : t ≡ v = last (has-appended t (rest (omlp g s past).fifo) (v ∷ []) (rw fifo_is at w)) absent in
               let f : ahead t (omlp g s (e ∷ past)).fifo ≡ length (rest (omlp g s past).fifo) = ap (ahead t) fifo_is ∙ rw (← is_v) (ahead-last t (rest (omlp g s past).fifo) absent) in
-              omega (arith, f, queue_bound e past after_ask q k (before.in_queue o k), shorter (omlp g s past).fifo, q.fits, has_room g valid s)
+              omega (arith, f, queue_bound e past active q k (before.in_queue o k), shorter (omlp g s past).fifo, q.fits, has_room g rules s)
             where
               last : (has t (rest (omlp g s past).fifo) ≡ true) ⊎ (has t (v ∷ []) ≡ true) → has t (rest (omlp g s past).fifo) ≡ false → t ≡ v
               last (inl h) n = absurd (clash _ h n)
               last (inr h) n = has-one t v h
 
           waits : has t (omlp g s (e ∷ past)).queue ≡ true → has t (without v (omlp g s past).queue) ≡ true → HasTail g t (e ∷ past) (omlp g s (e ∷ past)).fifo (ends g r t s (e ∷ past))
-          waits w k = subst (λ l. HasTail g t (e ∷ past) l (ends g r t s (e ∷ past))) (sym fifo_is) (moved tail.front tail.back tail.parts tail.above_ceiling tail.long (room_left e past after_ask q was tail))
+          waits w k = subst (λ l. HasTail g t (e ∷ past) l (ends g r t s (e ∷ past))) (sym fifo_is) (moved tail.front tail.back tail.parts tail.all_above tail.long (room_left e past active q was tail))
             where
               was : has t (omlp g s past).queue ≡ true
               was = has-without t v (omlp g s past).queue k
@@ -390,48 +386,48 @@ module _ (g : Group) (valid : IsValid g.setup) (r t s : ℕ) (p : protocol g s �
                   left true c h n = cc
                   left false c h n = h
 
-              ht : sits g t s (e ∷ past) ≡ true
-              ht = sits-queue t (e ∷ past) w
+              ht : engaged g t s (e ∷ past) ≡ true
+              ht = engaged-queue t (e ∷ past) w
 
               keeps_over : (y : ℕ) → has y (omlp g s (e ∷ past)).fifo ≡ true → above g past y t ≡ true → above g (e ∷ past) y t ≡ true
-              keeps_over y h k = above-keeps y e past next keeps after_ask (sits-fifo y (e ∷ past) h) ht k
+              keeps_over y h k = above-keeps y e past next active (engaged-fifo y (e ∷ past) h) ht k
 
               joined : (back : List ℕ) → ((y : ℕ) → has y back ≡ true → above g past y t ≡ true) → (y : ℕ) → has y (back ++ v ∷ []) ≡ true → above g past y t ≡ true
-              joined back above_ceiling y h = split (has-appended y back (v ∷ []) h)
+              joined back all_above y h = split (has-appended y back (v ∷ []) h)
                 where
                   split : (has y back ≡ true) ⊎ (has y (v ∷ []) ≡ true) → above g past y t ≡ true
-                  split (inl n) = above_ceiling y n
+                  split (inl n) = all_above y n
                   split (inr n) = rw (has-one y v n) v_over
 
               inside : (f back : List ℕ) → rest (omlp g s past).fifo ≡ f ++ back → (y : ℕ) → has y (back ++ v ∷ []) ≡ true → has y (omlp g s (e ∷ past)).fifo ≡ true
               inside f back same y h = rw (fifo_is, same, append_assoc, has-append, h) (or_true (has y f))
 
               moved : (f back : List ℕ) → (omlp g s past).fifo ≡ f ++ back → ((y : ℕ) → has y back ≡ true → above g past y t ≡ true) → ends g r t s past ≤ length back → (ends g r t s (e ∷ past) ≡ ends g r t s past) ⊎ (1 ≤ length f) × (ends g r t s (e ∷ past) ≡ ends g r t s past + 1) → HasTail g t (e ∷ past) (rest (omlp g s past).fifo ++ v ∷ []) (ends g r t s (e ∷ past))
-              moved (y ∷ f) back parts above_ceiling long room = record {
+              moved (y ∷ f) back parts all_above long room = record {
                 front = f;
                 back = back ++ v ∷ [];
                 parts = rw (cut, append_assoc);
-                above_ceiling = λ z h. keeps_over z (inside f back cut z h) (joined back above_ceiling z h);
+                all_above = λ z h. keeps_over z (inside f back cut z h) (joined back all_above z h);
                 long = omega (arith, long, at_most e past, length-one_more back v);
               }
                 where
                   cut : rest (omlp g s past).fifo ≡ f ++ back
                   cut = rw parts
-              moved [] [] parts above_ceiling long room = record {
+              moved [] [] parts all_above long room = record {
                 front = [];
                 back = v ∷ [];
                 parts = rw cut;
-                above_ceiling = λ z h. keeps_over z (inside [] [] cut z h) (joined [] above_ceiling z h);
+                all_above = λ z h. keeps_over z (inside [] [] cut z h) (joined [] all_above z h);
                 long = omega (arith, long, at_most e past);
               }
                 where
                   cut : rest (omlp g s past).fifo ≡ []
                   cut = rw parts
-              moved [] (y ∷ back) parts above_ceiling long room = record {
+              moved [] (y ∷ back) parts all_above long room = record {
                 front = [];
                 back = back ++ v ∷ [];
                 parts = rw cut;
-                above_ceiling = λ z h. keeps_over z (inside [] back cut z h) (joined back (λ w n. above_ceiling w (rw n (or_true (w == y)))) z h);
+                all_above = λ z h. keeps_over z (inside [] back cut z h) (joined back (λ w n. all_above w (rw n (or_true (w == y)))) z h);
                 long = none_blocked room;
               }
                 where
@@ -442,23 +438,23 @@ module _ (g : Group) (valid : IsValid g.setup) (r t s : ℕ) (p : protocol g s �
                   none_blocked (inl c) = omega (arith, c, long, length-one_more back v)
                   none_blocked (inr c) = absurd (omega (arith, c.0))
 
-  counted-step : (e : Event) (past : Past) → WaitsOnce g past → IsNext g e past → KeepsSeats g e past → AllSeated g past → IsQueued (cpus g (cluster_of g s)) (omlp g s past) → IsQueued (cpus g (cluster_of g s)) (omlp g s (e ∷ past)) → IsCounted past → IsCounted (e ∷ past)
-  counted-step e past once next keeps after_ask q q_after before = by_open (is_open g r t s (e ∷ past)) refl
+  counted-step : (e : Event) (past : Past) → WaitsOnce g past → IsNext g e past → AllActive g past → IsQueued (cpus g (cluster_of g s)) (omlp g s past) → IsQueued (cpus g (cluster_of g s)) (omlp g s (e ∷ past)) → IsCounted past → IsCounted (e ∷ past)
+  counted-step e past once next active q q_after before = by_open (is_open g r t s (e ∷ past)) refl
     where
       far : ends g r t s (e ∷ past) ≤ 2 * cpus g (cluster_of g s) - 1
-      far = so_far-step e past after_ask q before
+      far = so_far-step e past active q before
 
       old : is_open g r t s past ≡ true → (at_sem s (sem_act e) ≡ Neither) ⊎ (((u : ℕ) × (sem_act e ≡ Asks u s)) ⊎ ((u : ℕ) × (sem_act e ≡ Frees u s))) → IsCounted (e ∷ past)
-      old o (inl x) = same-step e past next keeps after_ask x o before far
-      old o (inr (inl x)) = asked-step e past next keeps after_ask q q_after x.0 x.1 o before far
-      old o (inr (inr x)) = passed_on-step e past next keeps after_ask q q_after x.0 x.1 o before far
+      old o (inl x) = same-step e past next active x o before far
+      old o (inr (inl x)) = asked-step e past next active q q_after x.0 x.1 o before far
+      old o (inr (inr x)) = freed-step e past next active q q_after x.0 x.1 o before far
 
       split : (is_open g r t s past ≡ true) ⊎ (sem_act e ≡ Asks t s) × (r ≡ entries_in past) → IsCounted (e ∷ past)
       split (inl o) = old o (at-cases s (sem_act e))
       split (inr n) = fresh-step e past next q n.0 n.1 before far
 
       by_open : (b : Bool) → is_open g r t s (e ∷ past) ≡ b → IsCounted (e ∷ past)
-      by_open true o = split (open-before g valid r t s e past once next o)
+      by_open true o = split (open-before g rules r t s e past once next o)
       by_open false o = record { so_far = far; in_fifo = λ o' w. absurd (clash _ o' o); in_queue = λ o' w. absurd (clash _ o' o) }
 
   nothing-counted : IsCounted []
@@ -466,6 +462,4 @@ module _ (g : Group) (valid : IsValid g.setup) (r t s : ℕ) (p : protocol g s �
   nothing-counted = record { so_far = omega arith; in_fifo = λ o w. cc; in_queue = λ o w. cc }
 
   pub counted : {past : Past} → IsMade g past → IsCounted past
-  counted opened = nothing-counted
-  counted (clocked {past = past} tick made) = counted-step (Clock tick) past (waits_once g valid made) (next-clock g tick past) (keeps-clock g tick past) (all_seated g valid made) (queued g valid s p a made) (queued g valid s p a (clocked tick made)) (counted made)
-  counted (acted {past = past} q act made) = counted-step (Acted (past_act g q act past)) past (waits_once g valid made) (next-act g valid made q act) (keeps-act g valid made q act) (all_seated g valid made) (queued g valid s p a made) (queued g valid s p a (acted q act made)) (counted made)
+  counted made = by_moves g IsCounted nothing-counted (λ past e made move before. counted-step e past (waits_once g rules made) (next g rules made move) (all_active g rules made) (queued g rules s p a made) (queued g rules s p a (moved g made move)) before) made

@@ -12,15 +12,15 @@ use Rattle.rt_rules.specs.SemState.{SemAct, Asks, Frees, Neither}
 use Rattle.rt_model.specs.BaseKeys.{base_key, key_by, above}
 use Rattle.rt_model.specs.Group.{Group, cpus, home, users, protocol}
 use Rattle.rt_model.specs.Holders.{sem_state, sem_state_by, holder}
-use Rattle.rt_model.specs.Made.{IsMade, opened, acted, clocked}
-use Rattle.rt_model.specs.Outcomes.{past_act}
-use Rattle.rt_model.specs.Past.{Event, Clock, Acted, Past, sem_act}
+use Rattle.rt_model.specs.Made.{IsMade}
+use Rattle.rt_model.specs.Past.{Event, Past, sem_act}
 use Rattle.rt_model.specs.Semaphores.{at_sem, cluster_of, omlp}
-use Rattle.rt_laws.specs.Valid.{IsValid, allows, in_one_cluster}
+use Rattle.rt_laws.specs.Rules.{MeetsRules, allows, in_one_cluster}
 use Rattle.rt_laws.proofs.Small.{unless, clash, neither, some-is, has-append, has-appended, has-one, has-first, has-rest, has-split, has-without}
 use Rattle.rt_laws.proofs.Waiting.{has_room}
 use Rattle.rt_laws.proofs.KeyLaws.{IsOrder, higher-trans, higher-total, foremost-none, foremost-some}
-use Rattle.rt_laws.proofs.Next.{IsAsked, IsNext, next-clock, next-act, holds-none, asks_empty}
+use Rattle.rt_laws.proofs.Moves.{by_moves}
+use Rattle.rt_laws.proofs.Asked.{IsAsked, Asked, asked, holds-none, asks_empty}
 use Rattle.rt_laws.proofs.FmlpLaw.{distinct-append, distinct-without}
 
 pub record IsQueued (m : ℕ) (l : OmlpState) : Type 0 where
@@ -142,18 +142,18 @@ omlp-is : (g : Group) (s : ℕ) (past : Past) → protocol g s ≡ Omlp → sem_
 unfolding sem_state sem_state_by
 omlp-is g s past h = rw h
 
-pub omlp-after_ask : (g : Group) (s : ℕ) (past : Past) → protocol g s ≡ Omlp → ((sem_state g s past).waiting ≡ rest (omlp g s past).fifo ++ (omlp g s past).queue) × (holder g s past ≡ first (omlp g s past).fifo)
+pub omlp-sem_state : (g : Group) (s : ℕ) (past : Past) → protocol g s ≡ Omlp → ((sem_state g s past).waiting ≡ rest (omlp g s past).fifo ++ (omlp g s past).queue) × (holder g s past ≡ first (omlp g s past).fifo)
 unfolding holder
-omlp-after_ask g s past h = (ap (λ x. x.waiting) (omlp-is g s past h), ap (λ x. x.holder) (omlp-is g s past h))
+omlp-sem_state g s past h = (ap (λ x. x.waiting) (omlp-is g s past h), ap (λ x. x.holder) (omlp-is g s past h))
 
 pub omlp-fresh : (g : Group) (s t : ℕ) (past : Past) → protocol g s ≡ Omlp → IsAsked g t s past → (has t (omlp g s past).fifo ≡ false) × (has t (omlp g s past).queue ≡ false)
 omlp-fresh g s t past p a = (unless _ (λ h. split (has-split t (omlp g s past).fifo h)), parts.1)
   where
     empty_handed : is t (first (omlp g s past).fifo) ≡ false
-    empty_handed = rw (omlp-after_ask g s past p).1 at (holds-none g t s past (asks_empty g (protocol g s) t s past (rw p) a.unnested) a.known)
+    empty_handed = rw (omlp-sem_state g s past p).1 at (holds-none g t s past (asks_empty g (protocol g s) t s past (rw p) a.unnested) a.known)
 
     waits_not : has t (rest (omlp g s past).fifo ++ (omlp g s past).queue) ≡ false
-    waits_not = rw (omlp-after_ask g s past p).0 at (a.waits_none s a.known)
+    waits_not = rw (omlp-sem_state g s past p).0 at (a.waits_none s a.known)
 
     parts : (has t (rest (omlp g s past).fifo) ≡ false) × (has t (omlp g s past).queue ≡ false)
     parts = neither _ _ (rw has-append at waits_not)
@@ -162,20 +162,18 @@ omlp-fresh g s t past p a = (unless _ (λ h. split (has-split t (omlp g s past).
     split (inl k) = clash _ k empty_handed
     split (inr k) = clash _ k parts.0
 
-pub queued-event : (g : Group) → IsValid g.setup → (s : ℕ) → protocol g s ≡ Omlp → allows g.setup.plugin Omlp ≡ true → (e : Event) (past : Past) → IsNext g e past → IsQueued (cpus g (cluster_of g s)) (omlp g s past) → IsQueued (cpus g (cluster_of g s)) (omlp g s (e ∷ past))
+pub queued-event : (g : Group) → MeetsRules g → (s : ℕ) → protocol g s ≡ Omlp → allows g.setup.plugin Omlp ≡ true → (e : Event) (past : Past) → Asked g e past → IsQueued (cpus g (cluster_of g s)) (omlp g s past) → IsQueued (cpus g (cluster_of g s)) (omlp g s (e ∷ past))
 unfolding omlp
-queued-event g valid s p a e past next k = queued-step (cpus g (cluster_of g s)) s (above g past) (sem_act e) (omlp g s past) (has_room g valid s) (above-order g past a) (λ t h. omlp-fresh g s t past p (next.asked t s h)) k
+queued-event g rules s p a e past asks k = queued-step (cpus g (cluster_of g s)) s (above g past) (sem_act e) (omlp g s past) (has_room g rules s) (above-order g past a) (λ t h. omlp-fresh g s t past p (asks t s h)) k
 
-pub queued : (g : Group) → IsValid g.setup → (s : ℕ) → protocol g s ≡ Omlp → allows g.setup.plugin Omlp ≡ true → {past : Past} → IsMade g past → IsQueued (cpus g (cluster_of g s)) (omlp g s past)
+pub queued : (g : Group) → MeetsRules g → (s : ℕ) → protocol g s ≡ Omlp → allows g.setup.plugin Omlp ≡ true → {past : Past} → IsMade g past → IsQueued (cpus g (cluster_of g s)) (omlp g s past)
 unfolding omlp
-queued g valid s p a opened = record { fifo_once = tt; queue_once = tt; apart = λ t h. cc; fits = omega arith; full = λ t h. cc }
-queued g valid s p a (clocked {past = past} tick made) = queued-event g valid s p a (Clock tick) past (next-clock g tick past) (queued g valid s p a made)
-queued g valid s p a (acted {past = past} q act made) = queued-event g valid s p a (Acted (past_act g q act past)) past (next-act g valid made q act) (queued g valid s p a made)
+queued g rules s p a made = by_moves g (λ past. IsQueued (cpus g (cluster_of g s)) (omlp g s past)) (record { fifo_once = tt; queue_once = tt; apart = λ t h. cc; fits = omega arith; full = λ t h. cc }) (λ past e made move before. queued-event g rules s p a e past (asked g rules made move) before) made
 
 -- the users of such a semaphore are of its cluster
-pub user-home : (g : Group) → IsValid g.setup → (s t : ℕ) → in_one_cluster g.setup.plugin (protocol g s) ≡ true → has t (users g s) ≡ true → home g t ≡ cluster_of g s
+pub user-home : (g : Group) → MeetsRules g → (s t : ℕ) → in_one_cluster g.setup.plugin (protocol g s) ≡ true → has t (users g s) ≡ true → home g t ≡ cluster_of g s
 unfolding cluster_of
-user-home g valid s t one h = by_case (first (users g s)) refl
+user-home g rules s t one h = by_case (first (users g s)) refl
   where
     not_empty : (xs : List ℕ) → first xs ≡ None → has t xs ≡ true → ⊥
     not_empty [] e k = cc
@@ -183,4 +181,4 @@ user-home g valid s t one h = by_case (first (users g s)) refl
 
     by_case : (o : Option ℕ) → first (users g s) ≡ o → home g t ≡ unwrap_or (option_map (home g) o) 0
     by_case None e = absurd (not_empty (users g s) e h)
-    by_case (Some u) e = valid.shares g.number s t u one h (has-first u (users g s) (some-is u (first (users g s)) e))
+    by_case (Some u) e = rules.shares s t u one h (has-first u (users g s) (some-is u (first (users g s)) e))

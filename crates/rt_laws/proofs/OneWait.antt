@@ -8,25 +8,26 @@ use Rattle.rt_model.specs.Group.{Group, sems, protocol}
 use Rattle.rt_model.specs.Holders.{sem_state, awaits}
 use Rattle.rt_model.specs.Made.{IsMade}
 use Rattle.rt_model.specs.Past.{Event, Past, sem_act}
-use Rattle.rt_laws.specs.Valid.{IsValid}
+use Rattle.rt_laws.specs.Rules.{MeetsRules}
 use Rattle.rt_laws.proofs.Small.{clash}
 use Rattle.rt_laws.proofs.Waiting.{waiting-step, nobody-waits, waits-none, awaits-waits}
-use Rattle.rt_laws.proofs.Next.{IsNext, by_moves}
+use Rattle.rt_laws.proofs.Moves.{by_moves}
+use Rattle.rt_laws.proofs.Asked.{Asked, asked}
 
 abbrev pub WaitsOnce : Group → Past → Type 0
 WaitsOnce g past = (t s r : ℕ) → has s (sems g) ≡ true → has r (sems g) ≡ true → has t (sem_state g s past).waiting ≡ true → has t (sem_state g r past).waiting ≡ true → s ≡ r
 
-waits_once-step : (g : Group) → IsValid g.setup → (e : Event) (past : Past) → IsNext g e past → WaitsOnce g past → WaitsOnce g (e ∷ past)
-waits_once-step g valid e past next before t s r hs hr h k = split (waiting-step g valid t s e past h) (waiting-step g valid t r e past k)
+waits_once-step : (g : Group) → MeetsRules g → (e : Event) (past : Past) → Asked g e past → WaitsOnce g past → WaitsOnce g (e ∷ past)
+waits_once-step g rules e past asks before t s r hs hr h k = split (waiting-step g rules t s e past h) (waiting-step g rules t r e past k)
   where
     split : (has t (sem_state g s past).waiting ≡ true) ⊎ (sem_act e ≡ Asks t s) × (is_granted g (protocol g s) s t past ≡ false) → (has t (sem_state g r past).waiting ≡ true) ⊎ (sem_act e ≡ Asks t r) × (is_granted g (protocol g r) r t past ≡ false) → s ≡ r
     split (inl m) (inl n) = before t s r hs hr m n
-    split (inl m) (inr n) = absurd (clash _ m ((next.asked t r n.0).waits_none s hs))
-    split (inr m) (inl n) = absurd (clash _ n ((next.asked t s m.0).waits_none r hr))
+    split (inl m) (inr n) = absurd (clash _ m ((asks t r n.0).waits_none s hs))
+    split (inr m) (inl n) = absurd (clash _ n ((asks t s m.0).waits_none r hr))
     split (inr m) (inr n) = let a : sem_act e ≡ Asks t s = m.0 in let b : sem_act e ≡ Asks t r = n.0 in cc
 
-pub waits_once : (g : Group) → IsValid g.setup → {past : Past} → IsMade g past → WaitsOnce g past
-waits_once g valid made = by_moves g valid (WaitsOnce g) (λ t s r hs hr h k. absurd (clash _ h (nobody-waits g t s))) (λ e past made made_after next before. waits_once-step g valid e past next before) made
+pub waits_once : (g : Group) → MeetsRules g → {past : Past} → IsMade g past → WaitsOnce g past
+waits_once g rules made = by_moves g (WaitsOnce g) (λ t s r hs hr h k. absurd (clash _ h (nobody-waits g t s))) (λ past e made move before. waits_once-step g rules e past (asked g rules made move) before) made
 
 -- the semaphore for which a task waits
 pub awaits-is : (g : Group) (t s : ℕ) (past : Past) → WaitsOnce g past → has s (sems g) ≡ true → has t (sem_state g s past).waiting ≡ true → awaits g t past ≡ Some s

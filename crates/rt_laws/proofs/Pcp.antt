@@ -7,15 +7,15 @@ use Rattle.rt_rules.specs.SemState.{SemAct, Asks, Frees, Neither}
 use Rattle.rt_model.specs.BaseKeys.{base_key, above}
 use Rattle.rt_model.specs.Ceilings.{above_ceiling, ceiling, lowest_key, at_cluster, is_pcp, pcp}
 use Rattle.rt_model.specs.Group.{Group, home, users, protocol}
-use Rattle.rt_model.specs.Made.{IsMade, opened, acted, clocked}
-use Rattle.rt_model.specs.Outcomes.{past_act}
-use Rattle.rt_model.specs.Past.{Event, Clock, Acted, Past, sem_act}
+use Rattle.rt_model.specs.Made.{IsMade}
+use Rattle.rt_model.specs.Past.{Event, Past, sem_act}
 use Rattle.rt_rules.proofs.PlacingLaws.{either, or_true, equal_self}
-use Rattle.rt_laws.specs.Valid.{IsValid}
+use Rattle.rt_laws.specs.Rules.{MeetsRules}
 use Rattle.rt_laws.proofs.Small.{clash, both, has-first, some-is}
 use Rattle.rt_laws.proofs.Waits.{has_pair, has_pair-without_pair, has-of_sem, pcp-waits}
 use Rattle.rt_laws.proofs.Waiting.{at_cluster-asks}
-use Rattle.rt_laws.proofs.Next.{IsNext, next-clock, next-act}
+use Rattle.rt_laws.proofs.Moves.{by_moves}
+use Rattle.rt_laws.proofs.Asked.{Asked, asked}
 use Rattle.rt_laws.proofs.KeyLaws.{highest-of}
 use Rattle.rt_laws.proofs.PcpState.{IsStacked, IsStack, stack-step, passes-above_ceiling, has_pair-in_order}
 
@@ -25,9 +25,9 @@ unfolding above_ceiling ceiling
 user-not_over g t s h = highest-of (λ u. base_key g u []) t (users g s) (lowest_key) h
 
 -- two tasks that hold one semaphore are one
-pub one_holder : (above_ceiling : ℕ → ℕ → Bool) (ps : List TaskSem) → IsStacked above_ceiling ps → (t u s : ℕ) → above_ceiling t s ≡ false → above_ceiling u s ≡ false → has_pair t s ps ≡ true → has_pair u s ps ≡ true → t ≡ u
-one_holder above_ceiling [] k t u s nt nu ht hu = cc
-one_holder above_ceiling (p ∷ ps) k t u s nt nu ht hu = split (either (t == p.task && s == p.sem) _ ht) (either (u == p.task && s == p.sem) _ hu) (one_holder above_ceiling ps k.1 t u s nt nu)
+pub one_holder_of : (above_ceiling : ℕ → ℕ → Bool) (ps : List TaskSem) → IsStacked above_ceiling ps → (t u s : ℕ) → above_ceiling t s ≡ false → above_ceiling u s ≡ false → has_pair t s ps ≡ true → has_pair u s ps ≡ true → t ≡ u
+one_holder_of above_ceiling [] k t u s nt nu ht hu = cc
+one_holder_of above_ceiling (p ∷ ps) k t u s nt nu ht hu = split (either (t == p.task && s == p.sem) _ ht) (either (u == p.task && s == p.sem) _ hu) (one_holder_of above_ceiling ps k.1 t u s nt nu)
   where
     newer : (a b : ℕ) → a ≡ p.task → above_ceiling a s ≡ false → has_pair b s ps ≡ true → a ≡ b
     newer a b e na hb = by_case (b == a) refl
@@ -106,18 +106,16 @@ pcp_kept-step g c x l asked k = record {
     waiting t s (inl m) = k.waiting t s m
     waiting t s (inr m) = asked t s m.0
 
-pcp_kept-event : (g : Group) (c : ℕ) (e : Event) (past : Past) → IsNext g e past → IsPcpKept g c (pcp g c past) → IsPcpKept g c (pcp g c (e ∷ past))
+pcp_kept-event : (g : Group) (c : ℕ) (e : Event) (past : Past) → Asked g e past → IsPcpKept g c (pcp g c past) → IsPcpKept g c (pcp g c (e ∷ past))
 unfolding pcp
-pcp_kept-event g c e past next k = pcp_kept-step g c (at_cluster g c (sem_act e)) (pcp g c past) asked k
+pcp_kept-event g c e past asks k = pcp_kept-step g c (at_cluster g c (sem_act e)) (pcp g c past) user k
   where
-    asked : (t s : ℕ) → at_cluster g c (sem_act e) ≡ Asks t s → IsUser g c t s
-    asked t s h = let q = at_cluster-asks g c t s (sem_act e) h in record { user = (next.asked t s q.0).user; at_home = q.1; of_pcp = q.2 }
+    user : (t s : ℕ) → at_cluster g c (sem_act e) ≡ Asks t s → IsUser g c t s
+    user t s h = let q = at_cluster-asks g c t s (sem_act e) h in record { user = (asks t s q.0).user; at_home = q.1; of_pcp = q.2 }
 
-pub pcp_kept : (g : Group) → IsValid g.setup → (c : ℕ) → {past : Past} → IsMade g past → IsPcpKept g c (pcp g c past)
+pub pcp_kept : (g : Group) → MeetsRules g → (c : ℕ) → {past : Past} → IsMade g past → IsPcpKept g c (pcp g c past)
 unfolding pcp
-pcp_kept g valid c opened = record { stack = record { stacked = tt; blocked = λ t s h. cc }; held = λ t s h. cc; waiting = λ t s h. cc }
-pcp_kept g valid c (clocked {past = past} tick made) = pcp_kept-event g c (Clock tick) past (next-clock g tick past) (pcp_kept g valid c made)
-pcp_kept g valid c (acted {past = past} q act made) = pcp_kept-event g c (Acted (past_act g q act past)) past (next-act g valid made q act) (pcp_kept g valid c made)
+pcp_kept g rules c made = by_moves g (λ past. IsPcpKept g c (pcp g c past)) (record { stack = record { stacked = tt; blocked = λ t s h. cc }; held = λ t s h. cc; waiting = λ t s h. cc }) (λ past e made move before. pcp_kept-event g c e past (asked g rules made move) before) made
 
 -- who holds is the first that the list of grants names
 pub pcp-first : (g : Group) (c t s : ℕ) (l : PcpState) → IsPcpKept g c l → has_pair t s l.held ≡ true → is t (first (of_sem s l.held)) ≡ true
@@ -134,7 +132,7 @@ pcp-first g c t s l k h = by_case (first (of_sem s l.held)) refl
     by_case None e = absurd (none_there (of_sem s l.held) e there)
     by_case (Some u) e =
         let hu : has_pair u s l.held ≡ true = sym (has-of_sem u s l.held) ∙ has-first u (of_sem s l.held) (some-is u (first (of_sem s l.held)) e) in
-        let same : t ≡ u = one_holder (above_ceiling g) l.held k.stack.stacked t u s (user-not_over g t s (k.held t s h).user) (user-not_over g u s (k.held u s hu).user) h hu in
+        let same : t ≡ u = one_holder_of (above_ceiling g) l.held k.stack.stacked t u s (user-not_over g t s (k.held t s h).user) (user-not_over g u s (k.held u s hu).user) h hu in
         rw (e, same, equal_self u)
 
 pub first-pcp : (t s : ℕ) (l : PcpState) → is t (first (of_sem s l.held)) ≡ true → has_pair t s l.held ≡ true

@@ -11,18 +11,18 @@ use Rattle.rt_model.specs.BaseKeys.{base_key, above}
 use Rattle.rt_model.specs.Ceilings.{above_ceiling, ceiling, at_cluster, is_pcp, pcp}
 use Rattle.rt_model.specs.Group.{Group, home, users, sems, protocol}
 use Rattle.rt_model.specs.Holders.{sem_state, sem_state_by, holder}
-use Rattle.rt_model.specs.Made.{IsMade, opened, acted, clocked}
-use Rattle.rt_model.specs.Outcomes.{past_act}
-use Rattle.rt_model.specs.Past.{Event, Clock, Acted, Past, sem_act}
+use Rattle.rt_model.specs.Made.{IsMade}
+use Rattle.rt_model.specs.Past.{Event, Past, sem_act}
 use Rattle.rt_model.specs.Semaphores.{cluster_of}
 use Rattle.rt_rules.proofs.PlacingLaws.{either, or_true, equal_self}
-use Rattle.rt_laws.specs.Valid.{IsValid}
-use Rattle.rt_laws.specs.Laws.{GrantsOne}
+use Rattle.rt_laws.specs.Rules.{MeetsRules}
+use Rattle.rt_laws.specs.PriorityCeiling.{UnlockGrantsOne}
 use Rattle.rt_laws.proofs.Small.{unless, clash, both, neither}
 use Rattle.rt_laws.proofs.Waits.{has_pair, has-of_sem}
 use Rattle.rt_laws.proofs.Waiting.{at_cluster-asks, user-task}
 use Rattle.rt_laws.proofs.KeyLaws.{higher-trans, higher-below, higher-self}
-use Rattle.rt_laws.proofs.Next.{IsAsked, IsNext, next-clock, next-act}
+use Rattle.rt_laws.proofs.Moves.{by_moves, last_move}
+use Rattle.rt_laws.proofs.Asked.{IsAsked, Asked, Freed, asked, freed}
 use Rattle.rt_laws.proofs.FmlpLaw.{distinct-append}
 use Rattle.rt_laws.proofs.PcpState.{passes-cons, has_pair-in_order}
 use Rattle.rt_laws.proofs.Pcp.{IsUser, IsPcpKept, pcp_kept, user-not_over, first-pcp}
@@ -93,29 +93,27 @@ pcp-sem_state-waiting g t s past h w = by_protocol (protocol g s) h
     by_protocol Omlp e = cc
     by_protocol Mpcp e = cc
 
-sem-home : (g : Group) → IsValid g.setup → (c t s : ℕ) → IsUser g c t s → cluster_of g s ≡ c
-sem-home g valid c t s u = sym (user-home g valid s t (pcp-shares g.setup.plugin (protocol g s) u.of_pcp) u.user) ∙ u.at_home
+sem-home : (g : Group) → MeetsRules g → (c t s : ℕ) → IsUser g c t s → cluster_of g s ≡ c
+sem-home g rules c t s u = sym (user-home g rules s t (pcp-shares g.setup.plugin (protocol g s) u.of_pcp) u.user) ∙ u.at_home
 
-waits_not : (g : Group) → IsValid g.setup → {past : Past} → IsMade g past → (c t s : ℕ) → IsAsked g t s past → has t (tasks_in (pcp g c past).waiting) ≡ false
-waits_not g valid {past} made c t s a = unless _ (λ h. met (pair-of t (pcp g c past).waiting h))
+waits_not : (g : Group) → MeetsRules g → {past : Past} → IsMade g past → (c t s : ℕ) → IsAsked g t s past → has t (tasks_in (pcp g c past).waiting) ≡ false
+waits_not g rules {past} made c t s a = unless _ (λ h. met (pair-of t (pcp g c past).waiting h))
   where
     met : (r : ℕ) × (has_pair t r (pcp g c past).waiting ≡ true) → ⊥
     met q =
-        let u : IsUser g c t q.0 = (pcp_kept g valid c made).waiting t q.0 q.1 in
-        let home_is : cluster_of g q.0 ≡ c = sem-home g valid c t q.0 u in
+        let u : IsUser g c t q.0 = (pcp_kept g rules c made).waiting t q.0 q.1 in
+        let home_is : cluster_of g q.0 ≡ c = sem-home g rules c t q.0 u in
         let d = user-task g q.0 t u.user in
-        let known : has q.0 (sems g) ≡ true = valid.is_known g.number t q.0 d.0 d.1 in
+        let known : has q.0 (sems g) ≡ true = rules.is_known t q.0 d.0 d.1 in
         clash _ (pcp-sem_state-waiting g t q.0 past u.of_pcp (subst (λ n. has_pair t q.0 (pcp g n past).waiting ≡ true) (sym home_is) q.1)) (a.waits_none q.0 known)
 
-once-event : (g : Group) → IsValid g.setup → (c : ℕ) (e : Event) (past : Past) → IsMade g past → IsNext g e past → IsDistinct (tasks_in (pcp g c past).waiting) → IsDistinct (tasks_in (pcp g c (e ∷ past)).waiting)
+once-event : (g : Group) → MeetsRules g → (c : ℕ) (e : Event) (past : Past) → IsMade g past → Asked g e past → IsDistinct (tasks_in (pcp g c past).waiting) → IsDistinct (tasks_in (pcp g c (e ∷ past)).waiting)
 unfolding pcp
-once-event g valid c e past made next d = once-step (above g []) (above_ceiling g) (at_cluster g c (sem_act e)) (pcp g c past) (λ t s h. waits_not g valid made c t s (next.asked t s (at_cluster-asks g c t s (sem_act e) h).0)) d
+once-event g rules c e past made asks d = once-step (above g []) (above_ceiling g) (at_cluster g c (sem_act e)) (pcp g c past) (λ t s h. waits_not g rules made c t s (asks t s (at_cluster-asks g c t s (sem_act e) h).0)) d
 
-waiting_once : (g : Group) → IsValid g.setup → (c : ℕ) → {past : Past} → IsMade g past → IsDistinct (tasks_in (pcp g c past).waiting)
+waiting_once : (g : Group) → MeetsRules g → (c : ℕ) → {past : Past} → IsMade g past → IsDistinct (tasks_in (pcp g c past).waiting)
 unfolding pcp
-waiting_once g valid c opened = tt
-waiting_once g valid c (clocked {past = past} tick made) = once-event g valid c (Clock tick) past made (next-clock g tick past) (waiting_once g valid c made)
-waiting_once g valid c (acted {past = past} q act made) = once-event g valid c (Acted (past_act g q act past)) past made (next-act g valid made q act) (waiting_once g valid c made)
+waiting_once g rules c made = by_moves g (λ past. IsDistinct (tasks_in (pcp g c past).waiting)) tt (λ past e made move before. once-event g rules c e past made (asked g rules made move) before) made
 
 -- ---- the tries, in falling order
 
@@ -254,12 +252,12 @@ holder-pair g t s past h k = by_protocol (protocol g s) h k
     by_protocol Omlp e m = cc
     by_protocol Mpcp e m = cc
 
-grants-one : (g : Group) → IsValid g.setup → (c t s : ℕ) (e : Event) (past : Past) → IsMade g past → IsNext g e past → sem_act e ≡ Frees t s → length (pcp g c (e ∷ past)).held ≤ length (pcp g c past).held
+grants-one : (g : Group) → MeetsRules g → (c t s : ℕ) (e : Event) (past : Past) → IsMade g past → Freed g e past → sem_act e ≡ Frees t s → length (pcp g c (e ∷ past)).held ≤ length (pcp g c past).held
 unfolding pcp at_cluster
-grants-one g valid c t s e past made next h = rw h (by_case (home g t == c && is_pcp (protocol g s)) refl)
+grants-one g rules c t s e past made frees h = rw h (by_case (home g t == c && is_pcp (protocol g s)) refl)
   where
     kept : IsPcpKept g c (pcp g c past)
-    kept = pcp_kept g valid c made
+    kept = pcp_kept g rules c made
 
     freed_state : PcpState
     freed_state = record (pcp g c past) { held = without_pair (record { task = t; sem = s }) (pcp g c past).held }
@@ -269,17 +267,18 @@ grants-one g valid c t s e past made next h = rw h (by_case (home g t == c && is
 
     by_case : (b : Bool) → home g t == c && is_pcp (protocol g s) ≡ b → length (pcp_after (above g []) (above_ceiling g) (if b then Frees t s else Neither) (pcp g c past)).held ≤ length (pcp g c past).held
     by_case false k = omega arith
-    by_case true k = omega (arith, tested-one (above g []) (above_ceiling g) (in_order (above g []) (pcp g c past).waiting) freed_state (distinct-in_order (above g []) (pcp g c past).waiting (waiting_once g valid c made)) (falling-in_order (above g []) (above-strict g []) (pcp g c past).waiting) low, length-without_pair t s (pcp g c past).held there)
+    by_case true k = omega (arith, tested-one (above g []) (above_ceiling g) (in_order (above g []) (pcp g c past).waiting) freed_state (distinct-in_order (above g []) (pcp g c past).waiting (waiting_once g rules c made)) (falling-in_order (above g []) (above-strict g []) (pcp g c past).waiting) low, length-without_pair t s (pcp g c past).held there)
       where
         there : has_pair t s (pcp g c past).held ≡ true
-        there = let home_is : cluster_of g s ≡ c = sym ((pcp_kept g valid (cluster_of g s) made).held t s pair).at_home ∙ eqb-true (home g t) c parts.0 in subst (λ n. has_pair t s (pcp g n past).held ≡ true) home_is pair
+        there = let home_is : cluster_of g s ≡ c = sym ((pcp_kept g rules (cluster_of g s) made).held t s pair).at_home ∙ eqb-true (home g t) c parts.0 in subst (λ n. has_pair t s (pcp g n past).held ≡ true) home_is pair
           where
             parts : (home g t == c ≡ true) × (is_pcp (protocol g s) ≡ true)
             parts = both (home g t == c) (is_pcp (protocol g s)) k
 
             pair : has_pair t s (pcp g (cluster_of g s) past).held ≡ true
-            pair = holder-pair g t s past parts.1 (next.passed_on t s h)
+            pair = holder-pair g t s past parts.1 (frees t s h)
 
-pub grants_one : GrantsOne
-grants_one g past e c t s valid (clocked tick made) h = cc
-grants_one g past e c t s valid (acted q act made) h = grants-one g valid c t s (Acted (past_act g q act past)) past made (next-act g valid made q act) h
+pub unlock_grants_one : UnlockGrantsOne
+unlock_grants_one g e past rules made c t s h =
+    let last = last_move g made in
+    grants-one g rules c t s e past last.0 (freed g last.1) h

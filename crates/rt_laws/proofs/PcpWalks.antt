@@ -1,11 +1,10 @@
 -- Every waiting PCP task of a cluster has the same blocker, the owner of the newest grant, and that one does not wait: each walk is one step long.
-use Rattle.std.proofs.Common.{◌≡◌, ℕ, zero, suc, Bool, true, false, not, ◌&&◌, ◌||◌, cond, ◌⊎◌, inl, inr, eqb-true, List, [], ◌∷◌, length, map, refl, sym, ap, ◌∙◌, subst, arith}
+use Rattle.std.proofs.Common.{◌≡◌, ℕ, zero, suc, Bool, true, false, not, ◌&&◌, ◌||◌, cond, ◌⊎◌, inl, inr, eqb-true, List, [], ◌∷◌, map, refl, sym, ap, ◌∙◌, subst, arith}
 use Rattle.std.specs.Prelude.{Option, None, Some, ◌==◌, nat_lt, is_none, filter}
 use Rattle.std.proofs.lemmas.Bool.Decides.{nat_tests}
 use Rattle.rt_task.specs.declared.PluginKind.{PluginKind}
 use Rattle.rt_task.specs.declared.Protocol.{Protocol}
 use Rattle.rt_task.specs.declared.Protocol.TheVariants.{Fmlp, Omlp, Pcp, Mpcp}
-use Rattle.rt_rules.specs.Distinct.{IsDistinct}
 use Rattle.rt_order.specs.KeyOrder.{higher}
 use Rattle.rt_rules.specs.Numbers.{has, is, first, foremost}
 use Rattle.rt_rules.specs.Pcp.{TaskSem, of_sem, of_others, passes, holder_among}
@@ -13,15 +12,14 @@ use Rattle.rt_rules.specs.Walks.{walk}
 use Rattle.rt_model.specs.BaseKeys.{base_key}
 use Rattle.rt_model.specs.Blockers.{has_higher_ceiling, blocker_among, blocker}
 use Rattle.rt_model.specs.Ceilings.{above_ceiling, ceiling, pcp, is_pcp}
-use Rattle.rt_model.specs.Claims.{WalksEnd}
 use Rattle.rt_model.specs.EffectiveKeys.{next_by, next_at, waits_for}
-use Rattle.rt_model.specs.Group.{Group, home, tasks, users, sems, protocol}
+use Rattle.rt_model.specs.Group.{Group, home, users, sems, protocol}
 use Rattle.rt_model.specs.Holders.{sem_state, sem_state_by, holder, awaits}
 use Rattle.rt_model.specs.Made.{IsMade}
 use Rattle.rt_model.specs.Past.{Past}
 use Rattle.rt_model.specs.Semaphores.{cluster_of}
 use Rattle.rt_rules.proofs.PlacingLaws.{either, or_true, equal_self}
-use Rattle.rt_laws.specs.Valid.{IsValid, in_one_cluster}
+use Rattle.rt_laws.specs.Rules.{MeetsRules, in_one_cluster}
 use Rattle.rt_laws.proofs.Small.{unless, clash, both, turned, some-is, has-first}
 use Rattle.rt_laws.proofs.Waits.{has_pair, has-of_sem}
 use Rattle.rt_laws.proofs.Waiting.{user-task, awaits-waits, none-waits}
@@ -162,13 +160,13 @@ pcp-shares p Fmlp h = cc
 pcp-shares p Omlp h = cc
 pcp-shares p Mpcp h = cc
 
-module _ (g : Group) (valid : IsValid g.setup) (past : Past) (made : IsMade g past) where
+module _ (g : Group) (rules : MeetsRules g) (past : Past) (made : IsMade g past) where
   -- the owner of the newest grant of a cluster does not wait
   newest-free : (c : ℕ) (p : TaskSem) (ps : List TaskSem) → (pcp g c past).held ≡ p ∷ ps → awaits g p.task past ≡ None
   newest-free c p ps e = none-waits g p.task past (λ r hr. unless _ (λ w. by_kind r hr w (is_pcp (protocol g r)) refl))
     where
       kept : IsPcpKept g c (pcp g c past)
-      kept = pcp_kept g valid c made
+      kept = pcp_kept g rules c made
 
       there : has_pair p.task p.sem (pcp g c past).held ≡ true
       there = rw (e, equal_self p.task, equal_self p.sem)
@@ -177,10 +175,10 @@ module _ (g : Group) (valid : IsValid g.setup) (past : Past) (made : IsMade g pa
       owner = kept.held p.task p.sem there
 
       known : has p.sem (sems g) ≡ true
-      known = let u = user-task g p.sem p.task owner.user in valid.is_known g.number p.task p.sem u.0 u.1
+      known = let u = user-task g p.sem p.task owner.user in rules.is_known p.task p.sem u.0 u.1
 
       sem_home : cluster_of g p.sem ≡ c
-      sem_home = sym (user-home g valid p.sem p.task (pcp-shares g.setup.plugin (protocol g p.sem) owner.of_pcp) owner.user) ∙ owner.at_home
+      sem_home = sym (user-home g rules p.sem p.task (pcp-shares g.setup.plugin (protocol g p.sem) owner.of_pcp) owner.user) ∙ owner.at_home
 
       holds_it : is p.task (holder g p.sem past) ≡ true
       holds_it = holder-pcp g p.task p.sem past owner.of_pcp (subst (λ n. is p.task (first (of_sem p.sem (pcp g n past).held)) ≡ true) (sym sem_home) (pcp-first g c p.task p.sem (pcp g c past) kept there))
@@ -191,29 +189,30 @@ module _ (g : Group) (valid : IsValid g.setup) (past : Past) (made : IsMade g pa
       by_kind : (r : ℕ) → has r (sems g) ≡ true → has p.task (sem_state g r past).waiting ≡ true → (b : Bool) → is_pcp (protocol g r) ≡ b → ⊥
       by_kind r hr w true k =
           let pair : has_pair p.task r (pcp g (cluster_of g r) past).waiting ≡ true = sem_state-pcp g p.task r past k w in
-          let other : IsUser g (cluster_of g r) p.task r = (pcp_kept g valid (cluster_of g r) made).waiting p.task r pair in
+          let other : IsUser g (cluster_of g r) p.task r = (pcp_kept g rules (cluster_of g r) made).waiting p.task r pair in
           let same : cluster_of g r ≡ c = sym other.at_home ∙ owner.at_home in
           let stops : passes (above_ceiling g) (pcp g c past).held p.task ≡ false = kept.stack.blocked p.task r (subst (λ n. has_pair p.task r (pcp g n past).waiting ≡ true) same pair) in
           let stops_here : passes (above_ceiling g) (p ∷ ps) p.task ≡ false = subst (λ l. passes (above_ceiling g) l p.task ≡ false) e stops in
           clash _ (equal_self p.task) (newest-other (above_ceiling g) p ps p.task stacked stops_here)
-      by_kind r hr w false k = clash _ (unmixed g valid made p.task p.sem r known hr holds_it w).1 k
+      by_kind r hr w false k = clash _ (unmixed g rules made p.task p.sem r known hr holds_it w).1 k
+
+  -- who waits for a PCP semaphore is of its cluster, and does not pass
+  pcp-home : (t s : ℕ) → is_pcp (protocol g s) ≡ true → has t (sem_state g s past).waiting ≡ true → home g t ≡ cluster_of g s
+  pcp-home t s k w = ((pcp_kept g rules (cluster_of g s) made).waiting t s (sem_state-pcp g t s past k w)).at_home
+
+  pub waiting-stops : (t s : ℕ) → is_pcp (protocol g s) ≡ true → has t (sem_state g s past).waiting ≡ true → passes (above_ceiling g) (pcp g (home g t) past).held t ≡ false
+  waiting-stops t s k w = (pcp_kept g rules (home g t) made).stack.blocked t s (subst (λ n. has_pair t s (pcp g n past).waiting ≡ true) (sym (pcp-home t s k w)) (sem_state-pcp g t s past k w))
 
   -- a task that waits for a PCP semaphore is blocked by the owner of the newest grant
   pcp-step : (t s : ℕ) → has s (sems g) ≡ true → is_pcp (protocol g s) ≡ true → has t (sem_state g s past).waiting ≡ true → (u : ℕ) × (blocker g t past ≡ Some u) × (awaits g u past ≡ None)
   unfolding blocker
   pcp-step t s hs k w = by_held (pcp g (home g t) past).held refl
     where
-      pair : has_pair t s (pcp g (cluster_of g s) past).waiting ≡ true
-      pair = sem_state-pcp g t s past k w
-
-      at_home : home g t ≡ cluster_of g s
-      at_home = ((pcp_kept g valid (cluster_of g s) made).waiting t s pair).at_home
-
       kept : IsPcpKept g (home g t) (pcp g (home g t) past)
-      kept = pcp_kept g valid (home g t) made
+      kept = pcp_kept g rules (home g t) made
 
       stops : passes (above_ceiling g) (pcp g (home g t) past).held t ≡ false
-      stops = kept.stack.blocked t s (subst (λ n. has_pair t s (pcp g n past).waiting ≡ true) (sym at_home) pair)
+      stops = waiting-stops t s k w
 
       by_held : (l : List TaskSem) → (pcp g (home g t) past).held ≡ l → (u : ℕ) × (blocker_among g (of_others t (pcp g (home g t) past).held) ≡ Some u) × (awaits g u past ≡ None)
       by_held [] e = let m : passes (above_ceiling g) [] t ≡ false = subst (λ l. passes (above_ceiling g) l t ≡ false) e stops in cc
@@ -246,10 +245,10 @@ module _ (g : Group) (valid : IsValid g.setup) (past : Past) (made : IsMade g pa
       next_is = rw a
 
       free : (u : ℕ) → holder g s past ≡ Some u → is_pcp (protocol g s) ≡ false → awaits g u past ≡ None
-      free u h n = none-waits g u past (λ r hr. unless _ (λ v. clash _ (unmixed g valid made u s r w.0 hr (some-is u (holder g s past) h) v).0 n))
+      free u h n = none-waits g u past (λ r hr. unless _ (λ v. clash _ (unmixed g rules made u s r w.0 hr (some-is u (holder g s past) h) v).0 n))
 
       found : (o : Option ℕ) → holder g s past ≡ o → is_pcp (protocol g s) ≡ false → (u : ℕ) × (waits_for g t past ≡ Some u) × (awaits g u past ≡ None)
-      found None h n = let m : is_none {T = ℕ} None ≡ false = rw h at (held-somewhere g valid made t s w.0 n w.1) in cc
+      found None h n = let m : is_none {T = ℕ} None ≡ false = rw h at (held-somewhere g rules made t s w.0 n w.1) in cc
       found (Some u) h n = (u, next_is ∙ of_others_kind (protocol g s) n ∙ h, free u h n)
 
       by_kind : (b : Bool) → is_pcp (protocol g s) ≡ b → (u : ℕ) × (waits_for g t past ≡ Some u) × (awaits g u past ≡ None)
@@ -260,21 +259,7 @@ module _ (g : Group) (valid : IsValid g.setup) (past : Past) (made : IsMade g pa
   unfolding waits_for next_at
   walk-stops u e = rw e
 
-pub walks_end : WalksEnd IsValid
-walks_end g past t valid made = by_wait (awaits g t past) refl
-  where
-    -- a walk that goes on from None is over
-    over_now : (n : ℕ) → walk (λ v. waits_for g v past) n None ≡ []
-    over_now zero = refl
-    over_now (suc n) = refl
-
-    one : (n u : ℕ) → waits_for g u past ≡ None → t == u ≡ false → IsDistinct (t ∷ walk (λ v. waits_for g v past) n (Some u))
-    one zero u e ne = (refl, tt)
-    one (suc n) u e ne = rw (e, over_now n, ne) (refl, (refl, tt))
-
-    by_wait : (o : Option ℕ) → awaits g t past ≡ o → IsDistinct (t ∷ walk (λ v. waits_for g v past) (length (tasks g)) (waits_for g t past))
-    by_wait None e = rw (walk-stops g valid past made t e, over_now (length (tasks g))) (refl, tt)
-    by_wait (Some s) e =
-        let q = walk-step g valid past made t s e in
-        let other : t == q.0 ≡ false = unless _ (λ m. let same : t ≡ q.0 = eqb-true t q.0 m in let a : Some s ≡ None = sym e ∙ rw same q.2 in cc) in
-        rw q.1 (one (length (tasks g)) q.0 (walk-stops g valid past made q.0 q.2) other)
+-- a walk that goes on from None is over
+pub walk-none : (next : ℕ → Option ℕ) (n : ℕ) → walk next n None ≡ []
+walk-none next zero = refl
+walk-none next (suc n) = refl

@@ -13,7 +13,7 @@ use Rattle.rt_model.specs.Answers.{answer, is_granted}
 use Rattle.rt_model.specs.Group.{Group, home, protocol, sems, tasks, processors, cluster_with}
 use Rattle.rt_model.specs.Holders.{sem_state, awaits}
 use Rattle.rt_model.specs.Links.{runs_of}
-use Rattle.rt_model.specs.Made.{IsMade, opened, acted, clocked}
+use Rattle.rt_model.specs.Made.{IsMade}
 use Rattle.rt_model.specs.Outcomes.{attempt, ended, ended_by, past_act}
 use Rattle.rt_model.specs.Past.{PastAct, Event, Clock, Acted, Past, now, accepted, operation, did, ends_job, sem_act}
 use Rattle.rt_model.specs.Releases.{exists, ready}
@@ -24,11 +24,12 @@ use Rattle.rt_model.proofs.AnswerLaws.{to_run, answer-runs_link}
 use Rattle.rt_model.proofs.PastLaws.{single, one_processor, processor-home}
 use Rattle.rt_model.proofs.Steps.{runs-acted, past_act-cpu}
 use Rattle.rt_rules.proofs.PlacingLaws.{equal_self}
-use Rattle.rt_laws.specs.Valid.{IsValid}
+use Rattle.rt_laws.specs.Rules.{MeetsRules}
 use Rattle.rt_laws.proofs.Small.{unless, clash, both, is-some, some-is, not_true, neither}
 use Rattle.rt_laws.proofs.Requests.{IsAsk, asks}
 use Rattle.rt_laws.proofs.JobLaws.{exists-keeps, awake-keeps}
 use Rattle.rt_laws.proofs.Waiting.{waiting-step, waits-none}
+use Rattle.rt_laws.proofs.Moves.{IsMove, clock_moves, cpu_acts, by_moves}
 use Rattle.rt_laws.proofs.Linked.{IsLinked, linked-eligible}
 
 pub record IsRunning (g : Group) (q t : ℕ) (past : Past) : Type 0 where
@@ -74,14 +75,14 @@ ended-runs g q t act past h = by_case (accepted (answer g q act past)) h
     by_case false k = cc
 
 -- what goes on running: its job does not end, and it neither sleeps nor waits from now on
-running-keeps : (g : Group) → IsValid g.setup → (q t : ℕ) (e : Event) (past : Past) → IsRunning g q t past → ends_job t e ≡ false → sleep_end (now past) (did t e) ≡ 0 → ((s : ℕ) → sem_act e ≡ Asks t s → is_granted g (protocol g s) s t past ≡ true) → IsRunning g q t (e ∷ past)
-running-keeps g valid q t e past r stays awake passes = record {
+running-keeps : (g : Group) → MeetsRules g → (q t : ℕ) (e : Event) (past : Past) → IsRunning g q t past → ends_job t e ≡ false → sleep_end (now past) (did t e) ≡ 0 → ((s : ℕ) → sem_act e ≡ Asks t s → is_granted g (protocol g s) s t past ≡ true) → IsRunning g q t (e ∷ past)
+running-keeps g rules q t e past r stays awake passes = record {
   at_home = r.at_home;
   placed = r.placed;
   member = r.member;
-  exists_now = exists-keeps g valid t e past r.exists_now stays;
+  exists_now = exists-keeps g rules t e past r.exists_now stays;
   awake = awake-keeps t e past r.awake awake;
-  waits_none = λ s there. unless _ (λ h. split s there (waiting-step g valid t s e past h));
+  waits_none = λ s there. unless _ (λ h. split s there (waiting-step g rules t s e past h));
 }
   where
     split : (s : ℕ) → has s (sems g) ≡ true → (has t (sem_state g s past).waiting ≡ true) ⊎ (sem_act e ≡ Asks t s) × (is_granted g (protocol g s) s t past ≡ false) → ⊥
@@ -166,10 +167,10 @@ not_ended : (t : ℕ) (o : Option ℕ) → is_some o ≡ false → is t o ≡ fa
 not_ended t None h = refl
 not_ended t (Some u) h = cc
 
-running-here : (g : Group) → IsValid g.setup → {past : Past} → IsMade g past → ((q t : ℕ) → runs q past ≡ Some t → IsRunning g q t past) → (p t : ℕ) (act : Act) → runs_after (past_act g p act past) (runs p past) ≡ Some t → IsRunning g p t (Acted (past_act g p act past) ∷ past)
+running-here : (g : Group) → MeetsRules g → {past : Past} → IsMade g past → ((q t : ℕ) → runs q past ≡ Some t → IsRunning g q t past) → (p t : ℕ) (act : Act) → runs_after (past_act g p act past) (runs p past) ≡ Some t → IsRunning g p t (Acted (past_act g p act past) ∷ past)
 unfolding past_act
-running-here g valid {past} made before p t act h =
-    running-keeps g valid p t (Acted (past_act g p act past)) past (base facts.2) (not_ended t (past_act g p act past).ended facts.0) (no_sleep t (now past) (past_act g p act past) facts.1) (λ s k. not_queued g p t s act past facts.1 (asks g p act past t s k))
+running-here g rules {past} made before p t act h =
+    running-keeps g rules p t (Acted (past_act g p act past)) past (base facts.2) (not_ended t (past_act g p act past).ended facts.0) (no_sleep t (now past) (past_act g p act past) facts.1) (λ s k. not_queued g p t s act past facts.1 (asks g p act past t s k))
   where
     facts : (is_some (past_act g p act past).ended ≡ false) × (leaves (past_act g p act past).act (past_act g p act past).reply ≡ false) × ((runs p past ≡ Some t) ⊎ (is t (to_run (past_act g p act past).reply) ≡ true))
     facts = runs_after-cases t (past_act g p act past) (runs p past) h
@@ -178,9 +179,9 @@ running-here g valid {past} made before p t act h =
     base (inl m) = before p t m
     base (inr m) = eligible-running g p t past (linked-eligible g made p t (answer-runs_link g p t act past m))
 
-running-other : (g : Group) → IsValid g.setup → {past : Past} → IsMade g past → ((q t : ℕ) → runs q past ≡ Some t → IsRunning g q t past) → (q t p : ℕ) (act : Act) → p == q ≡ false → runs q past ≡ Some t → IsRunning g q t (Acted (past_act g p act past) ∷ past)
-running-other g valid {past} made before q t p act e h =
-    running-keeps g valid q t (Acted (past_act g p act past)) past (before q t h) (unless _ (λ k. not_there (ended-runs g p t act past k))) (rw (did-other g p t act past elsewhere)) (λ s k. absurd (not_there (asks g p act past t s k).runs_it))
+running-other : (g : Group) → MeetsRules g → {past : Past} → IsMade g past → ((q t : ℕ) → runs q past ≡ Some t → IsRunning g q t past) → (q t p : ℕ) (act : Act) → p == q ≡ false → runs q past ≡ Some t → IsRunning g q t (Acted (past_act g p act past) ∷ past)
+running-other g rules {past} made before q t p act e h =
+    running-keeps g rules q t (Acted (past_act g p act past)) past (before q t h) (unless _ (λ k. not_there (ended-runs g p t act past k))) (rw (did-other g p t act past elsewhere)) (λ s k. absurd (not_there (asks g p act past t s k).runs_it))
   where
     not_there : runs p past ≡ Some t → ⊥
     not_there k = let same : p ≡ q = runs_once g made p q t (before p t k) (before q t h) k h in let m : q == q ≡ false = rw same at e in let n = equal_self q in cc
@@ -188,19 +189,25 @@ running-other g valid {past} made before q t p act e h =
     elsewhere : is t (runs p past) ≡ false
     elsewhere = unless _ (λ k. not_there (is-some t (runs p past) k))
 
-running-acted : (g : Group) → IsValid g.setup → {past : Past} → IsMade g past → ((q t : ℕ) → runs q past ≡ Some t → IsRunning g q t past) → (q t p : ℕ) (act : Act) → runs q (Acted (past_act g p act past) ∷ past) ≡ Some t → IsRunning g q t (Acted (past_act g p act past) ∷ past)
-running-acted g valid {past} made before q t p act h = by_case (p == q) refl (rw (runs-acted, past_act-cpu) at h)
+running-acted : (g : Group) → MeetsRules g → {past : Past} → IsMade g past → ((q t : ℕ) → runs q past ≡ Some t → IsRunning g q t past) → (q t p : ℕ) (act : Act) → runs q (Acted (past_act g p act past) ∷ past) ≡ Some t → IsRunning g q t (Acted (past_act g p act past) ∷ past)
+running-acted g rules {past} made before q t p act h = by_case (p == q) refl (rw (runs-acted, past_act-cpu) at h)
   where
     by_case : (b : Bool) → p == q ≡ b → (if b then runs_after (past_act g p act past) (runs q past) else runs q past) ≡ Some t → IsRunning g q t (Acted (past_act g p act past) ∷ past)
     by_case true e k =
         let same : p ≡ q = eqb-true p q e in
         let m : runs_after (past_act g p act past) (runs p past) ≡ Some t = subst (λ n. runs_after (past_act g p act past) (runs n past) ≡ Some t) (sym same) k in
-        let r : IsRunning g p t (Acted (past_act g p act past) ∷ past) = running-here g valid made before p t act m in
+        let r : IsRunning g p t (Acted (past_act g p act past) ∷ past) = running-here g rules made before p t act m in
         subst (λ n. IsRunning g n t (Acted (past_act g p act past) ∷ past)) same r
-    by_case false e k = running-other g valid made before q t p act e k
+    by_case false e k = running-other g rules made before q t p act e k
 
-pub running : (g : Group) → IsValid g.setup → {past : Past} → IsMade g past → (q t : ℕ) → runs q past ≡ Some t → IsRunning g q t past
+abbrev pub AllRun : Group → Past → Type 0
+AllRun g past = (q t : ℕ) → runs q past ≡ Some t → IsRunning g q t past
+
+running-step : (g : Group) → MeetsRules g → (past : Past) (e : Event) → IsMade g past → IsMove g past e → AllRun g past → AllRun g (e ∷ past)
 unfolding runs
-running g valid opened q t h = cc
-running g valid (clocked {past = past} tick made) q t h = running-keeps g valid q t (Clock tick) past (running g valid made q t h) refl refl (λ s k. cc)
-running g valid (acted {past = past} p act made) q t h = running-acted g valid made (running g valid made) q t p act h
+running-step g rules past e made (clock_moves tick) before q t h = running-keeps g rules q t (Clock tick) past (before q t h) refl refl (λ s k. cc)
+running-step g rules past e made (cpu_acts p a) before q t h = running-acted g rules made before q t p a h
+
+pub running : (g : Group) → MeetsRules g → {past : Past} → IsMade g past → AllRun g past
+unfolding runs
+running g rules made = by_moves g (AllRun g) (λ q t h. cc) (running-step g rules) made

@@ -13,21 +13,21 @@ use Rattle.rt_model.specs.BaseKeys.{above}
 use Rattle.rt_model.specs.Ceilings.{is_pcp}
 use Rattle.rt_model.specs.Group.{Group, cpus, sems, protocol}
 use Rattle.rt_model.specs.Holders.{sem_state, sem_state_by, holder, holds}
-use Rattle.rt_model.specs.Made.{IsMade, opened, acted, clocked}
-use Rattle.rt_model.specs.Outcomes.{past_act}
-use Rattle.rt_model.specs.Past.{Event, Clock, Acted, Past, sem_act}
+use Rattle.rt_model.specs.Made.{IsMade}
+use Rattle.rt_model.specs.Past.{Event, Past, sem_act}
 use Rattle.rt_model.specs.Semaphores.{at_sem, mpcp, fmlp, omlp, cluster_of}
 use Rattle.rt_rules.proofs.PlacingLaws.{either}
-use Rattle.rt_laws.specs.Valid.{IsValid}
+use Rattle.rt_laws.specs.Rules.{MeetsRules}
 use Rattle.rt_laws.proofs.Small.{unless, clash, neither, not_false, has-appended, has-one, has-first}
 use Rattle.rt_laws.proofs.Waiting.{waiting-step, nobody-waits}
-use Rattle.rt_laws.proofs.Next.{IsAsked, IsNext, next-clock, next-act, holds-none, asks_empty}
+use Rattle.rt_laws.proofs.Moves.{by_moves, moved}
+use Rattle.rt_laws.proofs.Asked.{IsAsked, Asked, asked, holds-none, asks_empty}
 use Rattle.rt_laws.proofs.OneWait.{waits_once}
 use Rattle.rt_laws.proofs.FmlpLaw.{fmlp-line, fmlp-sem_state, distinct-append, distinct-without}
 use Rattle.rt_laws.proofs.Pcp.{pcp_kept}
-use Rattle.rt_laws.proofs.Sits.{sits, sits-step, sits-cases, holder-sits}
+use Rattle.rt_laws.proofs.Engaged.{engaged, engaged-step, engaged-cases, holder-engaged}
 use Rattle.rt_laws.proofs.Ends.{holds-one}
-use Rattle.rt_laws.proofs.OmlpState.{IsQueued, queued, omlp-after_ask, without-gone, first-absent}
+use Rattle.rt_laws.proofs.OmlpState.{IsQueued, queued, omlp-sem_state, without-gone, first-absent}
 
 -- ---- MPCP: nobody stands twice
 
@@ -71,39 +71,37 @@ mpcp-holder g s past h = ap (λ (l : SemState). l.holder) (mpcp-is g s past h)
 mpcp-fresh : (g : Group) (s t : ℕ) (past : Past) → protocol g s ≡ Mpcp → IsAsked g t s past → (is t (mpcp g s past).holder ≡ false) × (has t (mpcp g s past).waiting ≡ false)
 mpcp-fresh g s t past p a = (rw (mpcp-holder g s past p) at (holds-none g t s past (asks_empty g (protocol g s) t s past (rw p) a.unnested) a.known), rw (mpcp-is g s past p) at (a.waits_none s a.known))
 
-waiting-event : (g : Group) (s : ℕ) → protocol g s ≡ Mpcp → (e : Event) (past : Past) → IsNext g e past → IsWaiting (mpcp g s past) → IsWaiting (mpcp g s (e ∷ past))
+waiting-event : (g : Group) (s : ℕ) → protocol g s ≡ Mpcp → (e : Event) (past : Past) → Asked g e past → IsWaiting (mpcp g s past) → IsWaiting (mpcp g s (e ∷ past))
 unfolding mpcp
-waiting-event g s p e past next k = waiting-after s (above g past) (sem_act e) (mpcp g s past) (λ t h. mpcp-fresh g s t past p (next.asked t s h)) k
+waiting-event g s p e past asks k = waiting-after s (above g past) (sem_act e) (mpcp g s past) (λ t h. mpcp-fresh g s t past p (asks t s h)) k
 
-mpcp-waiting : (g : Group) → IsValid g.setup → (s : ℕ) → protocol g s ≡ Mpcp → {past : Past} → IsMade g past → IsWaiting (mpcp g s past)
+mpcp-waiting : (g : Group) → MeetsRules g → (s : ℕ) → protocol g s ≡ Mpcp → {past : Past} → IsMade g past → IsWaiting (mpcp g s past)
 unfolding mpcp
-mpcp-waiting g valid s p opened = record { once = tt; apart = λ t h. cc }
-mpcp-waiting g valid s p (clocked {past = past} tick made) = waiting-event g s p (Clock tick) past (next-clock g tick past) (mpcp-waiting g valid s p made)
-mpcp-waiting g valid s p (acted {past = past} q act made) = waiting-event g s p (Acted (past_act g q act past)) past (next-act g valid made q act) (mpcp-waiting g valid s p made)
+mpcp-waiting g rules s p made = by_moves g (λ past. IsWaiting (mpcp g s past)) (record { once = tt; apart = λ t h. cc }) (λ past e made move before. waiting-event g s p e past (asked g rules made move) before) made
 
 -- ---- who holds a semaphore does not wait for it, but perhaps under PCP
 
-pub apart-sem_state : (g : Group) → IsValid g.setup → {past : Past} → IsMade g past → (t s : ℕ) → has s (sems g) ≡ true → is t (holder g s past) ≡ true → has t (sem_state g s past).waiting ≡ true → is_pcp (protocol g s) ≡ true
-apart-sem_state g valid {past} made t s there h w = by_protocol (protocol g s) refl
+pub apart-sem_state : (g : Group) → MeetsRules g → {past : Past} → IsMade g past → (t s : ℕ) → has s (sems g) ≡ true → is t (holder g s past) ≡ true → has t (sem_state g s past).waiting ≡ true → is_pcp (protocol g s) ≡ true
+apart-sem_state g rules {past} made t s there h w = by_protocol (protocol g s) refl
   where
     of_fmlp : protocol g s ≡ Fmlp → ⊥
-    of_fmlp p = clash _ (rw (fmlp-sem_state g s past p).0 at w) (first-absent t (fmlp g s past) (fmlp-line g valid s p made).once (rw (fmlp-sem_state g s past p).1 at h))
+    of_fmlp p = clash _ (rw (fmlp-sem_state g s past p).0 at w) (first-absent t (fmlp g s past) (fmlp-line g rules s p made).once (rw (fmlp-sem_state g s past p).1 at h))
 
     of_omlp : protocol g s ≡ Omlp → ⊥
-    of_omlp p = split (has-appended t (rest (omlp g s past).fifo) (omlp g s past).queue (rw (omlp-after_ask g s past p).0 at w))
+    of_omlp p = split (has-appended t (rest (omlp g s past).fifo) (omlp g s past).queue (rw (omlp-sem_state g s past p).0 at w))
       where
         q : IsQueued (cpus g (cluster_of g s)) (omlp g s past)
-        q = queued g valid s p (rw p at (valid.is_allowed g.number s there)) made
+        q = queued g rules s p (rw p at (rules.is_allowed s there)) made
 
         holds_it : is t (first (omlp g s past).fifo) ≡ true
-        holds_it = rw (omlp-after_ask g s past p).1 at h
+        holds_it = rw (omlp-sem_state g s past p).1 at h
 
         split : (has t (rest (omlp g s past).fifo) ≡ true) ⊎ (has t (omlp g s past).queue ≡ true) → ⊥
         split (inl k) = clash _ k (first-absent t (omlp g s past).fifo q.fifo_once holds_it)
         split (inr k) = clash _ k (q.apart t (has-first t (omlp g s past).fifo holds_it))
 
     of_mpcp : protocol g s ≡ Mpcp → ⊥
-    of_mpcp p = clash _ (rw (mpcp-is g s past p) at w) ((mpcp-waiting g valid s p made).apart t (rw (mpcp-holder g s past p) at h))
+    of_mpcp p = clash _ (rw (mpcp-is g s past p) at w) ((mpcp-waiting g rules s p made).apart t (rw (mpcp-holder g s past p) at h))
 
     by_protocol : (p : Protocol) → protocol g s ≡ p → is_pcp p ≡ true
     by_protocol Fmlp e = absurd (of_fmlp e)
@@ -132,12 +130,12 @@ asks_pcp g t s r past Fmlp n there h = absurd (clash _ h (holds-none g t s past 
 asks_pcp g t s r past Omlp n there h = absurd (clash _ h (holds-none g t s past (not_false _ n) there))
 asks_pcp g t s r past Mpcp n there h = absurd (clash _ h (holds-none g t s past (not_false _ n) there))
 
-unmixed-step : (g : Group) → IsValid g.setup → (e : Event) (past : Past) → IsMade g past → IsMade g (e ∷ past) → IsNext g e past → IsUnmixed g past → IsUnmixed g (e ∷ past)
-unmixed-step g valid e past made made_after next before t s r hs hr h w = split (was (sits-step g t s e past (holder-sits g t s (e ∷ past) h))) (waiting-step g valid t r e past w)
+unmixed-step : (g : Group) → MeetsRules g → (e : Event) (past : Past) → IsMade g past → IsMade g (e ∷ past) → Asked g e past → IsUnmixed g past → IsUnmixed g (e ∷ past)
+unmixed-step g rules e past made made_after asks before t s r hs hr h w = split (was (engaged-step g t s e past (holder-engaged g t s (e ∷ past) h))) (waiting-step g rules t r e past w)
   where
-    was : (sits g t s past ≡ true) ⊎ (sem_act e ≡ Asks t s) → (is t (holder g s past) ≡ true) ⊎ ((has t (sem_state g s past).waiting ≡ true) ⊎ (sem_act e ≡ Asks t s))
+    was : (engaged g t s past ≡ true) ⊎ (sem_act e ≡ Asks t s) → (is t (holder g s past) ≡ true) ⊎ ((has t (sem_state g s past).waiting ≡ true) ⊎ (sem_act e ≡ Asks t s))
     was (inr k) = inr (inr k)
-    was (inl k) = deeper (sits-cases g t s past (pcp_kept g valid (cluster_of g s) made) k)
+    was (inl k) = deeper (engaged-cases g t s past (pcp_kept g rules (cluster_of g s) made) k)
       where
         deeper : (is t (holder g s past) ≡ true) ⊎ (has t (sem_state g s past).waiting ≡ true) → (is t (holder g s past) ≡ true) ⊎ ((has t (sem_state g s past).waiting ≡ true) ⊎ (sem_act e ≡ Asks t s))
         deeper (inl n) = inl n
@@ -146,18 +144,16 @@ unmixed-step g valid e past made made_after next before t s r hs hr h w = split 
     one_sem : s ≡ r → (is_pcp (protocol g s) ≡ true) × (is_pcp (protocol g r) ≡ true)
     one_sem same =
         let w' : has t (sem_state g s (e ∷ past)).waiting ≡ true = rw same w in
-        let p : is_pcp (protocol g s) ≡ true = apart-sem_state g valid made_after t s hs h w' in
+        let p : is_pcp (protocol g s) ≡ true = apart-sem_state g rules made_after t s hs h w' in
         (p, rw (← same) p)
 
     split : (is t (holder g s past) ≡ true) ⊎ ((has t (sem_state g s past).waiting ≡ true) ⊎ (sem_act e ≡ Asks t s)) → (has t (sem_state g r past).waiting ≡ true) ⊎ (sem_act e ≡ Asks t r) × (is_granted g (protocol g r) r t past ≡ false) → (is_pcp (protocol g s) ≡ true) × (is_pcp (protocol g r) ≡ true)
     split (inl a) (inl b) = before t s r hs hr a b
-    split (inl a) (inr b) = asks_pcp g t s r past (protocol g r) (next.asked t r b.0).unnested hs a
-    split (inr (inl a)) (inl b) = one_sem (waits_once g valid made t s r hs hr a b)
-    split (inr (inl a)) (inr b) = absurd (clash _ a ((next.asked t r b.0).waits_none s hs))
-    split (inr (inr a)) (inl b) = absurd (clash _ b ((next.asked t s a).waits_none r hr))
+    split (inl a) (inr b) = asks_pcp g t s r past (protocol g r) (asks t r b.0).unnested hs a
+    split (inr (inl a)) (inl b) = one_sem (waits_once g rules made t s r hs hr a b)
+    split (inr (inl a)) (inr b) = absurd (clash _ a ((asks t r b.0).waits_none s hs))
+    split (inr (inr a)) (inl b) = absurd (clash _ b ((asks t s a).waits_none r hr))
     split (inr (inr a)) (inr b) = let x : sem_act e ≡ Asks t s = a in let y : sem_act e ≡ Asks t r = b.0 in one_sem cc
 
-pub unmixed : (g : Group) → IsValid g.setup → {past : Past} → IsMade g past → IsUnmixed g past
-unmixed g valid opened = λ t s r hs hr h w. absurd (clash _ w (nobody-waits g t r))
-unmixed g valid (clocked {past = past} tick made) = unmixed-step g valid (Clock tick) past made (clocked tick made) (next-clock g tick past) (unmixed g valid made)
-unmixed g valid (acted {past = past} q act made) = unmixed-step g valid (Acted (past_act g q act past)) past made (acted q act made) (next-act g valid made q act) (unmixed g valid made)
+pub unmixed : (g : Group) → MeetsRules g → {past : Past} → IsMade g past → IsUnmixed g past
+unmixed g rules made = by_moves g (IsUnmixed g) (λ t s r hs hr h w. absurd (clash _ w (nobody-waits g t r))) (λ past e made move before. unmixed-step g rules e past made (moved g made move) (asked g rules made move) before) made

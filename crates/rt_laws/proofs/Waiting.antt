@@ -14,7 +14,7 @@ use Rattle.rt_model.specs.Holders.{sem_state, sem_state_by, holder, awaits}
 use Rattle.rt_model.specs.Past.{Event, Past, sem_act}
 use Rattle.rt_model.specs.Semaphores.{cluster_of, fmlp, omlp, mpcp}
 use Rattle.rt_rules.proofs.PlacingLaws.{has-filter}
-use Rattle.rt_laws.specs.Valid.{IsValid}
+use Rattle.rt_laws.specs.Rules.{MeetsRules}
 use Rattle.rt_laws.proofs.Small.{both, find-none, none-find, find-some, has-first, some-is}
 use Rattle.rt_laws.proofs.Waits.{fmlp-waits, omlp-waits, mpcp-waits, pcp-waits, has-of_sem, has_pair}
 
@@ -41,17 +41,17 @@ unfolding users
 task-user g s t h k = rw (has-filter (λ u. declares g u s) t (tasks g), h, k)
 
 -- the cluster of a semaphore's users has a processor
-pub has_room : (g : Group) → IsValid g.setup → (s : ℕ) → 1 ≤ cpus g (cluster_of g s)
+pub has_room : (g : Group) → MeetsRules g → (s : ℕ) → 1 ≤ cpus g (cluster_of g s)
 unfolding cluster_of
-has_room g valid s = by_case (first (users g s)) refl
+has_room g rules s = by_case (first (users g s)) refl
   where
     by_case : (o : Option ℕ) → first (users g s) ≡ o → 1 ≤ cpus g (unwrap_or (option_map (home g) o) 0)
-    by_case None e = valid.has_cpu g.number 0 valid.has_cluster
-    by_case (Some u) e = valid.has_cpu g.number (home g u) (valid.has_home g.number u (user-task g s u (has-first u (users g s) (some-is u (first (users g s)) e))).0)
+    by_case None e = rules.has_cpu 0 rules.has_cluster
+    by_case (Some u) e = rules.has_cpu (home g u) (rules.has_home u (user-task g s u (has-first u (users g s) (some-is u (first (users g s)) e))).0)
 
-pub waiting-step : (g : Group) → IsValid g.setup → (t s : ℕ) (e : Event) (past : Past) → has t (sem_state g s (e ∷ past)).waiting ≡ true → (has t (sem_state g s past).waiting ≡ true) ⊎ (sem_act e ≡ Asks t s) × (is_granted g (protocol g s) s t past ≡ false)
+pub waiting-step : (g : Group) → MeetsRules g → (t s : ℕ) (e : Event) (past : Past) → has t (sem_state g s (e ∷ past)).waiting ≡ true → (has t (sem_state g s past).waiting ≡ true) ⊎ (sem_act e ≡ Asks t s) × (is_granted g (protocol g s) s t past ≡ false)
 unfolding sem_state sem_state_by fmlp omlp mpcp pcp is_granted holder
-waiting-step g valid t s e past h = by_protocol (protocol g s) refl h
+waiting-step g rules t s e past h = by_protocol (protocol g s) refl h
   where
     none_of : (p : Protocol) → protocol g s ≡ p → (sem_state g s past).holder ≡ (sem_state_by g p s past).holder
     none_of p k = rw k
@@ -62,7 +62,7 @@ waiting-step g valid t s e past h = by_protocol (protocol g s) refl h
         join : (has t (rest (fmlp g s past)) ≡ true) ⊎ (sem_act e ≡ Asks t s) × (is_none (first (fmlp g s past)) ≡ false) → (has t (rest (fmlp g s past)) ≡ true) ⊎ (sem_act e ≡ Asks t s) × (is_none (holder g s past) ≡ false)
         join (inl m) = inl m
         join (inr m) = inr (m.0, rw (none_of Fmlp r) m.1)
-    by_protocol Omlp r k = join (omlp-waits (cpus g (cluster_of g s)) (above g past) t s (sem_act e) (omlp g s past) (has_room g valid s) k)
+    by_protocol Omlp r k = join (omlp-waits (cpus g (cluster_of g s)) (above g past) t s (sem_act e) (omlp g s past) (has_room g rules s) k)
       where
         join : (has t (rest (omlp g s past).fifo ++ (omlp g s past).queue) ≡ true) ⊎ (sem_act e ≡ Asks t s) × (is_none (first (omlp g s past).fifo) ≡ false) → (has t (rest (omlp g s past).fifo ++ (omlp g s past).queue) ≡ true) ⊎ (sem_act e ≡ Asks t s) × (is_none (holder g s past) ≡ false)
         join (inl m) = inl m

@@ -1,6 +1,5 @@
--- What the laws need of a setup: the rules of a valid set that they rest on.
+-- The rules of a valid set that the laws rest on.
 use Rattle.std.specs.Prelude.{◌≡◌, ℕ, ◌≤◌, ◌<◌, Bool, true, false, length}
-use Rattle.rt_task.specs.declared.Parts.{Parts}
 use Rattle.rt_task.specs.declared.Kind.TheVariants.{Periodic}
 use Rattle.rt_task.specs.declared.PluginKind.{PluginKind}
 use Rattle.rt_task.specs.declared.PluginKind.TheVariants as plugins
@@ -29,19 +28,16 @@ in_one_cluster plugins.GsnEdf Fmlp = true
 in_one_cluster plugins.CEdf Fmlp = true
 in_one_cluster _ _ = false
 
-abbrev pub any_group : Parts → ℕ → Group
-any_group p n = record { setup = p; number = n }
-
-pub record IsValid (p : Parts) : Type 0 where
+-- the setup of a group keeps the rules
+pub record MeetsRules (g : Group) : Type 0 where
   -- there is a cluster, each cluster has a processor, and a task's cluster is there
-  pub has_cluster : 1 ≤ length p.clusters
-  pub has_cpu : (n c : ℕ) → c < length p.clusters → 1 ≤ cpus (any_group p n) c
-  pub has_home : (n t : ℕ) → has t (tasks (any_group p n)) ≡ true → home (any_group p n) t < length p.clusters
-  -- each task has a cost, and the semaphores that it declares are there
-  pub has_cost : (n t : ℕ) → has t (tasks (any_group p n)) ≡ true → 1 ≤ (task (any_group p n) t).cost
-  pub is_known : (n t s : ℕ) → has t (tasks (any_group p n)) ≡ true → declares (any_group p n) t s ≡ true → has s (sems (any_group p n)) ≡ true
+  pub has_cluster : 1 ≤ length g.setup.clusters
+  pub has_cpu : (c : ℕ) → c < length g.setup.clusters → 1 ≤ cpus g c
+  pub has_home : (t : ℕ) → has t (tasks g) ≡ true → home g t < length g.setup.clusters
+  -- each task has a cost, an early one is periodic, and the semaphores that it declares are there
+  pub has_cost : (t : ℕ) → has t (tasks g) ≡ true → 1 ≤ (task g t).cost
+  pub is_periodic : (t : ℕ) → (task g t).early ≡ true → (task g t).kind ≡ Periodic
+  pub is_known : (t s : ℕ) → has t (tasks g) ≡ true → declares g t s ≡ true → has s (sems g) ≡ true
   -- each protocol stands under its plugins, and where its users share a cluster they do
-  pub is_allowed : (n s : ℕ) → has s (sems (any_group p n)) ≡ true → allows p.plugin (protocol (any_group p n) s) ≡ true
-  pub shares : (n s t u : ℕ) → in_one_cluster p.plugin (protocol (any_group p n) s) ≡ true → has t (users (any_group p n) s) ≡ true → has u (users (any_group p n) s) ≡ true → home (any_group p n) t ≡ home (any_group p n) u
-  -- a task that is released early is periodic
-  pub is_periodic : (n t : ℕ) → (task (any_group p n) t).early ≡ true → (task (any_group p n) t).kind ≡ Periodic
+  pub is_allowed : (s : ℕ) → has s (sems g) ≡ true → allows g.setup.plugin (protocol g s) ≡ true
+  pub shares : (s t u : ℕ) → in_one_cluster g.setup.plugin (protocol g s) ≡ true → has t (users g s) ≡ true → has u (users g s) ≡ true → home g t ≡ home g u

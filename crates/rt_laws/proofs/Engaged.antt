@@ -19,25 +19,25 @@ use Rattle.rt_rules.proofs.PlacingLaws.{either, or_true, equal_self}
 use Rattle.rt_laws.proofs.Small.{clash, both, is_one, has-append, has-appended, has-one, has-first, has-rest, has-split, has-without, find-some}
 use Rattle.rt_laws.proofs.Waits.{has_pair, has-of_sem, pcp-waits}
 use Rattle.rt_laws.proofs.Waiting.{at_cluster-asks}
-use Rattle.rt_laws.proofs.Next.{IsNext}
+use Rattle.rt_laws.proofs.Asked.{Freed}
 use Rattle.rt_laws.proofs.Pcp.{IsPcpKept, pcp-held, pcp-first, first-pcp}
 
 -- ---- lists: who is in one after a move
 
-abbrev pub sits_omlp : ℕ → OmlpState → Bool
-sits_omlp t l = has t (l.fifo ++ l.queue)
+abbrev pub engaged_omlp : ℕ → OmlpState → Bool
+engaged_omlp t l = has t (l.fifo ++ l.queue)
 
-abbrev pub sits_mpcp : ℕ → SemState → Bool
-sits_mpcp t l = is t l.holder || has t l.waiting
+abbrev pub engaged_mpcp : ℕ → SemState → Bool
+engaged_mpcp t l = is t l.holder || has t l.waiting
 
-abbrev pub sits_pcp : ℕ → ℕ → PcpState → Bool
-sits_pcp t s l = has_pair t s l.held || has_pair t s l.waiting
+abbrev pub engaged_pcp : ℕ → ℕ → PcpState → Bool
+engaged_pcp t s l = has_pair t s l.held || has_pair t s l.waiting
 
 asked_it : (t u s r : ℕ) → s == r ≡ true → t ≡ u → Asks u r ≡ Asks t s
 asked_it t u s r h k = let e : s ≡ r = eqb-true s r h in rw (e, k)
 
-fmlp-sits : (t s : ℕ) (x : SemAct) (line : List ℕ) → has t (fmlp_after (at_sem s x) line) ≡ true → (has t line ≡ true) ⊎ (x ≡ Asks t s)
-fmlp-sits t s (Asks u r) line h = by_case (s == r) refl h
+fmlp-engaged : (t s : ℕ) (x : SemAct) (line : List ℕ) → has t (fmlp_after (at_sem s x) line) ≡ true → (has t line ≡ true) ⊎ (x ≡ Asks t s)
+fmlp-engaged t s (Asks u r) line h = by_case (s == r) refl h
   where
     split : s == r ≡ true → (has t line ≡ true) ⊎ (has t (u ∷ []) ≡ true) → (has t line ≡ true) ⊎ (Asks u r ≡ Asks t s)
     split e (inl m) = inl m
@@ -46,14 +46,14 @@ fmlp-sits t s (Asks u r) line h = by_case (s == r) refl h
     by_case : (b : Bool) → s == r ≡ b → has t (fmlp_after (cond b (Asks u r) Neither) line) ≡ true → (has t line ≡ true) ⊎ (Asks u r ≡ Asks t s)
     by_case true e k = split e (has-appended t line (u ∷ []) k)
     by_case false e k = inl k
-fmlp-sits t s (Frees u r) line h = by_case (s == r) h
+fmlp-engaged t s (Frees u r) line h = by_case (s == r) h
   where
     by_case : (b : Bool) → has t (fmlp_after (cond b (Frees u r) Neither) line) ≡ true → (has t line ≡ true) ⊎ (Frees u r ≡ Asks t s)
     by_case true k = inl (has-without t u line k)
     by_case false k = inl k
-fmlp-sits t s Neither line h = inl h
+fmlp-engaged t s Neither line h = inl h
 
-pub omlp-handed : (t : ℕ) (o : Option ℕ) (f q : List ℕ) → ((v : ℕ) → o ≡ Some v → has v q ≡ true) → sits_omlp t (handed_over o (record { fifo = f; queue = q })) ≡ true → has t (f ++ q) ≡ true
+pub omlp-handed : (t : ℕ) (o : Option ℕ) (f q : List ℕ) → ((v : ℕ) → o ≡ Some v → has v q ≡ true) → engaged_omlp t (handed_over o (record { fifo = f; queue = q })) ≡ true → has t (f ++ q) ≡ true
 omlp-handed t None f q there h = h
 omlp-handed t (Some v) f q there h = split (has-appended t (f ++ v ∷ []) (without v q) h)
   where
@@ -65,8 +65,8 @@ omlp-handed t (Some v) f q there h = split (has-appended t (f ++ v ∷ []) (with
     split (inl m) = of_fifo (has-appended t f (v ∷ []) m)
     split (inr m) = rw (has-append, has-without t v q m) (or_true (has t f))
 
-omlp-sits : (m : ℕ) (above : ℕ → ℕ → Bool) (t s : ℕ) (x : SemAct) (l : OmlpState) → sits_omlp t (omlp_after m above (at_sem s x) l) ≡ true → (sits_omlp t l ≡ true) ⊎ (x ≡ Asks t s)
-omlp-sits m above t s (Asks u r) l h = by_case (s == r) refl h
+omlp-engaged : (m : ℕ) (above : ℕ → ℕ → Bool) (t s : ℕ) (x : SemAct) (l : OmlpState) → engaged_omlp t (omlp_after m above (at_sem s x) l) ≡ true → (engaged_omlp t l ≡ true) ⊎ (x ≡ Asks t s)
+omlp-engaged m above t s (Asks u r) l h = by_case (s == r) refl h
   where
     split : s == r ≡ true → (has t l.fifo ≡ true) ⊎ ((has t l.queue ≡ true) ⊎ (has t (u ∷ []) ≡ true)) → (has t (l.fifo ++ l.queue) ≡ true) ⊎ (Asks u r ≡ Asks t s)
     split e (inl k) = inl (rw (has-append, k))
@@ -85,14 +85,14 @@ omlp-sits m above t s (Asks u r) l h = by_case (s == r) refl h
     last (inl k) = inl k
     last (inr k) = inr (has-appended t l.queue (u ∷ []) k)
 
-    placed_in : (b : Bool) → s == r ≡ true → sits_omlp t (cond b (record l { fifo = l.fifo ++ u ∷ [] }) (record l { queue = l.queue ++ u ∷ [] })) ≡ true → (has t (l.fifo ++ l.queue) ≡ true) ⊎ (Asks u r ≡ Asks t s)
+    placed_in : (b : Bool) → s == r ≡ true → engaged_omlp t (cond b (record l { fifo = l.fifo ++ u ∷ [] }) (record l { queue = l.queue ++ u ∷ [] })) ≡ true → (has t (l.fifo ++ l.queue) ≡ true) ⊎ (Asks u r ≡ Asks t s)
     placed_in true e k = split e (swap (has-appended t (l.fifo ++ u ∷ []) l.queue k))
     placed_in false e k = split e (last (has-appended t l.fifo (l.queue ++ u ∷ []) k))
 
-    by_case : (b : Bool) → s == r ≡ b → sits_omlp t (omlp_after m above (cond b (Asks u r) Neither) l) ≡ true → (has t (l.fifo ++ l.queue) ≡ true) ⊎ (Asks u r ≡ Asks t s)
+    by_case : (b : Bool) → s == r ≡ b → engaged_omlp t (omlp_after m above (cond b (Asks u r) Neither) l) ≡ true → (has t (l.fifo ++ l.queue) ≡ true) ⊎ (Asks u r ≡ Asks t s)
     by_case true e k = placed_in (nat_lt (length l.fifo) m) e k
     by_case false e k = inl k
-omlp-sits m above t s (Frees u r) l h = by_case (s == r) h
+omlp-engaged m above t s (Frees u r) l h = by_case (s == r) h
   where
     whole : has t (rest l.fifo ++ l.queue) ≡ true → has t (l.fifo ++ l.queue) ≡ true
     whole k = split (has-appended t (rest l.fifo) l.queue k)
@@ -101,15 +101,15 @@ omlp-sits m above t s (Frees u r) l h = by_case (s == r) h
         split (inl n) = rw (has-append, has-rest t l.fifo n)
         split (inr n) = rw (has-append, n) (or_true (has t l.fifo))
 
-    by_case : (b : Bool) → sits_omlp t (omlp_after m above (cond b (Frees u r) Neither) l) ≡ true → (has t (l.fifo ++ l.queue) ≡ true) ⊎ (Frees u r ≡ Asks t s)
+    by_case : (b : Bool) → engaged_omlp t (omlp_after m above (cond b (Frees u r) Neither) l) ≡ true → (has t (l.fifo ++ l.queue) ≡ true) ⊎ (Frees u r ≡ Asks t s)
     by_case true k = inl (whole (omlp-handed t (foremost above l.queue) (rest l.fifo) l.queue (λ v e. (find-some _ l.queue v e).0) k))
     by_case false k = inl k
-omlp-sits m above t s Neither l h = inl h
+omlp-engaged m above t s Neither l h = inl h
 
-mpcp-sits : (above : ℕ → ℕ → Bool) (t s : ℕ) (x : SemAct) (l : SemState) → sits_mpcp t (mpcp_after above (at_sem s x) l) ≡ true → (sits_mpcp t l ≡ true) ⊎ (x ≡ Asks t s)
-mpcp-sits above t s (Asks u r) l h = by_case (s == r) refl h
+mpcp-engaged : (above : ℕ → ℕ → Bool) (t s : ℕ) (x : SemAct) (l : SemState) → engaged_mpcp t (mpcp_after above (at_sem s x) l) ≡ true → (engaged_mpcp t l ≡ true) ⊎ (x ≡ Asks t s)
+mpcp-engaged above t s (Asks u r) l h = by_case (s == r) refl h
   where
-    at : (o : Option ℕ) → l.holder ≡ o → s == r ≡ true → sits_mpcp t (after_ask u o l) ≡ true → (is t l.holder || has t l.waiting ≡ true) ⊎ (Asks u r ≡ Asks t s)
+    at : (o : Option ℕ) → l.holder ≡ o → s == r ≡ true → engaged_mpcp t (after_ask u o l) ≡ true → (is t l.holder || has t l.waiting ≡ true) ⊎ (Asks u r ≡ Asks t s)
     at None o e k = split (either (t == u) (has t l.waiting) k)
       where
         split : (t == u ≡ true) ⊎ (has t l.waiting ≡ true) → (is t l.holder || has t l.waiting ≡ true) ⊎ (Asks u r ≡ Asks t s)
@@ -125,12 +125,12 @@ mpcp-sits above t s (Asks u r) l h = by_case (s == r) refl h
         split (inl n) = inl (rw n)
         split (inr n) = deeper (has-appended t l.waiting (u ∷ []) n)
 
-    by_case : (b : Bool) → s == r ≡ b → sits_mpcp t (mpcp_after above (cond b (Asks u r) Neither) l) ≡ true → (is t l.holder || has t l.waiting ≡ true) ⊎ (Asks u r ≡ Asks t s)
+    by_case : (b : Bool) → s == r ≡ b → engaged_mpcp t (mpcp_after above (cond b (Asks u r) Neither) l) ≡ true → (is t l.holder || has t l.waiting ≡ true) ⊎ (Asks u r ≡ Asks t s)
     by_case true e k = at l.holder refl e k
     by_case false e k = inl k
-mpcp-sits above t s (Frees u r) l h = by_case (s == r) h
+mpcp-engaged above t s (Frees u r) l h = by_case (s == r) h
   where
-    at : (o : Option ℕ) → foremost above l.waiting ≡ o → sits_mpcp t (passed_on o l.waiting) ≡ true → is t l.holder || has t l.waiting ≡ true
+    at : (o : Option ℕ) → foremost above l.waiting ≡ o → engaged_mpcp t (passed_on o l.waiting) ≡ true → is t l.holder || has t l.waiting ≡ true
     at None e k = rw k (or_true (is t l.holder))
     at (Some v) e k = split (either (t == v) (has t (without v l.waiting)) k)
       where
@@ -138,13 +138,13 @@ mpcp-sits above t s (Frees u r) l h = by_case (s == r) h
         split (inl n) = rw (eqb-true t v n, (find-some _ l.waiting v e).0) (or_true (is v l.holder))
         split (inr n) = rw (has-without t v l.waiting n) (or_true (is t l.holder))
 
-    by_case : (b : Bool) → sits_mpcp t (mpcp_after above (cond b (Frees u r) Neither) l) ≡ true → (is t l.holder || has t l.waiting ≡ true) ⊎ (Frees u r ≡ Asks t s)
+    by_case : (b : Bool) → engaged_mpcp t (mpcp_after above (cond b (Frees u r) Neither) l) ≡ true → (is t l.holder || has t l.waiting ≡ true) ⊎ (Frees u r ≡ Asks t s)
     by_case true k = inl (at (foremost above l.waiting) refl k)
     by_case false k = inl k
-mpcp-sits above t s Neither l h = inl h
+mpcp-engaged above t s Neither l h = inl h
 
-pcp-sits : (above above_ceiling : ℕ → ℕ → Bool) (t s : ℕ) (x : SemAct) (l : PcpState) → sits_pcp t s (pcp_after above above_ceiling x l) ≡ true → (sits_pcp t s l ≡ true) ⊎ (x ≡ Asks t s)
-pcp-sits above above_ceiling t s x l h = split (either (has_pair t s (pcp_after above above_ceiling x l).held) _ h)
+pcp-engaged : (above above_ceiling : ℕ → ℕ → Bool) (t s : ℕ) (x : SemAct) (l : PcpState) → engaged_pcp t s (pcp_after above above_ceiling x l) ≡ true → (engaged_pcp t s l ≡ true) ⊎ (x ≡ Asks t s)
+pcp-engaged above above_ceiling t s x l h = split (either (has_pair t s (pcp_after above above_ceiling x l).held) _ h)
   where
     held : ((has_pair t s l.held ≡ true) ⊎ (has_pair t s l.waiting ≡ true)) ⊎ (x ≡ Asks t s) → (has_pair t s l.held || has_pair t s l.waiting ≡ true) ⊎ (x ≡ Asks t s)
     held (inl (inl m)) = inl (rw m)
@@ -252,15 +252,15 @@ pcp-stays above above_ceiling t s Neither l h = inl h
 
 -- ---- the semaphores of a setup
 
-unfoldable pub sits_by : (g : Group) → Protocol → ℕ → ℕ → Past → Bool
-sits_by g Fmlp t s past = has t (fmlp g s past)
-sits_by g Omlp t s past = sits_omlp t (omlp g s past)
-sits_by g Mpcp t s past = sits_mpcp t (mpcp g s past)
-sits_by g Pcp t s past = sits_pcp t s (pcp g (cluster_of g s) past)
+unfoldable pub engaged_by : (g : Group) → Protocol → ℕ → ℕ → Past → Bool
+engaged_by g Fmlp t s past = has t (fmlp g s past)
+engaged_by g Omlp t s past = engaged_omlp t (omlp g s past)
+engaged_by g Mpcp t s past = engaged_mpcp t (mpcp g s past)
+engaged_by g Pcp t s past = engaged_pcp t s (pcp g (cluster_of g s) past)
 
 -- a task holds the semaphore or waits for it
-unfoldable pub sits : (g : Group) → ℕ → ℕ → Past → Bool
-sits g t s past = sits_by g (protocol g s) t s past
+unfoldable pub engaged : (g : Group) → ℕ → ℕ → Past → Bool
+engaged g t s past = engaged_by g (protocol g s) t s past
 
 at_cluster-frees : (g : Group) (c t s : ℕ) (x : SemAct) → at_cluster g c x ≡ Frees t s → x ≡ Frees t s
 unfolding at_cluster
@@ -276,34 +276,34 @@ at_cluster-frees g c t s (Frees u r) h = by_case (home g u == c && is_pcp (proto
     by_case false k = cc
 at_cluster-frees g c t s Neither h = cc
 
-pub sits-step : (g : Group) (t s : ℕ) (e : Event) (past : Past) → sits g t s (e ∷ past) ≡ true → (sits g t s past ≡ true) ⊎ (sem_act e ≡ Asks t s)
-unfolding sits sits_by fmlp omlp mpcp pcp
-sits-step g t s e past h = by_protocol (protocol g s) h
+pub engaged-step : (g : Group) (t s : ℕ) (e : Event) (past : Past) → engaged g t s (e ∷ past) ≡ true → (engaged g t s past ≡ true) ⊎ (sem_act e ≡ Asks t s)
+unfolding engaged engaged_by fmlp omlp mpcp pcp
+engaged-step g t s e past h = by_protocol (protocol g s) h
   where
-    by_protocol : (p : Protocol) → sits_by g p t s (e ∷ past) ≡ true → (sits_by g p t s past ≡ true) ⊎ (sem_act e ≡ Asks t s)
-    by_protocol Fmlp k = fmlp-sits t s (sem_act e) (fmlp g s past) k
-    by_protocol Omlp k = omlp-sits (cpus g (cluster_of g s)) (above g past) t s (sem_act e) (omlp g s past) k
-    by_protocol Mpcp k = mpcp-sits (above g past) t s (sem_act e) (mpcp g s past) k
-    by_protocol Pcp k = split (pcp-sits (above g []) (above_ceiling g) t s (at_cluster g (cluster_of g s) (sem_act e)) (pcp g (cluster_of g s) past) k)
+    by_protocol : (p : Protocol) → engaged_by g p t s (e ∷ past) ≡ true → (engaged_by g p t s past ≡ true) ⊎ (sem_act e ≡ Asks t s)
+    by_protocol Fmlp k = fmlp-engaged t s (sem_act e) (fmlp g s past) k
+    by_protocol Omlp k = omlp-engaged (cpus g (cluster_of g s)) (above g past) t s (sem_act e) (omlp g s past) k
+    by_protocol Mpcp k = mpcp-engaged (above g past) t s (sem_act e) (mpcp g s past) k
+    by_protocol Pcp k = split (pcp-engaged (above g []) (above_ceiling g) t s (at_cluster g (cluster_of g s) (sem_act e)) (pcp g (cluster_of g s) past) k)
       where
-        split : (sits_pcp t s (pcp g (cluster_of g s) past) ≡ true) ⊎ (at_cluster g (cluster_of g s) (sem_act e) ≡ Asks t s) → (sits_pcp t s (pcp g (cluster_of g s) past) ≡ true) ⊎ (sem_act e ≡ Asks t s)
+        split : (engaged_pcp t s (pcp g (cluster_of g s) past) ≡ true) ⊎ (at_cluster g (cluster_of g s) (sem_act e) ≡ Asks t s) → (engaged_pcp t s (pcp g (cluster_of g s) past) ≡ true) ⊎ (sem_act e ≡ Asks t s)
         split (inl m) = inl m
         split (inr m) = inr (at_cluster-asks g (cluster_of g s) t s (sem_act e) m).0
 
-pub nobody-sits : (g : Group) (t s : ℕ) → sits g t s [] ≡ false
-unfolding sits sits_by fmlp omlp mpcp pcp
-nobody-sits g t s = by_protocol (protocol g s)
+pub nobody-engaged : (g : Group) (t s : ℕ) → engaged g t s [] ≡ false
+unfolding engaged engaged_by fmlp omlp mpcp pcp
+nobody-engaged g t s = by_protocol (protocol g s)
   where
-    by_protocol : (p : Protocol) → sits_by g p t s [] ≡ false
+    by_protocol : (p : Protocol) → engaged_by g p t s [] ≡ false
     by_protocol Fmlp = refl
     by_protocol Omlp = refl
     by_protocol Mpcp = refl
     by_protocol Pcp = refl
 
--- who sits holds or waits, and the other way round
-pub sits-cases : (g : Group) (t s : ℕ) (past : Past) → IsPcpKept g (cluster_of g s) (pcp g (cluster_of g s) past) → sits g t s past ≡ true → (is t (holder g s past) ≡ true) ⊎ (has t (sem_state g s past).waiting ≡ true)
-unfolding sits sits_by holder sem_state sem_state_by
-sits-cases g t s past kept h = by_protocol (protocol g s) h
+-- who engaged holds or waits, and the other way round
+pub engaged-cases : (g : Group) (t s : ℕ) (past : Past) → IsPcpKept g (cluster_of g s) (pcp g (cluster_of g s) past) → engaged g t s past ≡ true → (is t (holder g s past) ≡ true) ⊎ (has t (sem_state g s past).waiting ≡ true)
+unfolding engaged engaged_by holder sem_state sem_state_by
+engaged-cases g t s past kept h = by_protocol (protocol g s) h
   where
     omlp_split : (f q : List ℕ) → (has t f ≡ true) ⊎ (has t q ≡ true) → (is t (first f) ≡ true) ⊎ (has t (rest f ++ q) ≡ true)
     omlp_split f q (inr m) = inr (rw (has-append, m) (or_true (has t (rest f))))
@@ -313,7 +313,7 @@ sits-cases g t s past kept h = by_protocol (protocol g s) h
         deeper (inl n) = inl n
         deeper (inr n) = inr (rw (has-append, n))
 
-    by_protocol : (p : Protocol) → sits_by g p t s past ≡ true → (is t (sem_state_by g p s past).holder ≡ true) ⊎ (has t (sem_state_by g p s past).waiting ≡ true)
+    by_protocol : (p : Protocol) → engaged_by g p t s past ≡ true → (is t (sem_state_by g p s past).holder ≡ true) ⊎ (has t (sem_state_by g p s past).waiting ≡ true)
     by_protocol Fmlp k = has-split t (fmlp g s past) k
     by_protocol Omlp k = omlp_split (omlp g s past).fifo (omlp g s past).queue (has-appended t (omlp g s past).fifo (omlp g s past).queue k)
     by_protocol Mpcp k = either _ _ k
@@ -323,36 +323,36 @@ sits-cases g t s past kept h = by_protocol (protocol g s) h
         split (inl m) = inl (pcp-first g (cluster_of g s) t s (pcp g (cluster_of g s) past) kept m)
         split (inr m) = inr (rw has-of_sem m)
 
-pub holder-sits : (g : Group) (t s : ℕ) (past : Past) → is t (holder g s past) ≡ true → sits g t s past ≡ true
-unfolding sits sits_by holder sem_state sem_state_by
-holder-sits g t s past h = by_protocol (protocol g s) h
+pub holder-engaged : (g : Group) (t s : ℕ) (past : Past) → is t (holder g s past) ≡ true → engaged g t s past ≡ true
+unfolding engaged engaged_by holder sem_state sem_state_by
+holder-engaged g t s past h = by_protocol (protocol g s) h
   where
-    by_protocol : (p : Protocol) → is t (sem_state_by g p s past).holder ≡ true → sits_by g p t s past ≡ true
+    by_protocol : (p : Protocol) → is t (sem_state_by g p s past).holder ≡ true → engaged_by g p t s past ≡ true
     by_protocol Fmlp k = has-first t (fmlp g s past) k
     by_protocol Omlp k = rw (has-append, has-first t (omlp g s past).fifo k)
     by_protocol Mpcp k = rw k
     by_protocol Pcp k = rw (first-pcp t s (pcp g (cluster_of g s) past) k)
 
-pub waiting-sits : (g : Group) (t s : ℕ) (past : Past) → has t (sem_state g s past).waiting ≡ true → sits g t s past ≡ true
-unfolding sits sits_by holder sem_state sem_state_by
-waiting-sits g t s past h = by_protocol (protocol g s) h
+pub waiting-engaged : (g : Group) (t s : ℕ) (past : Past) → has t (sem_state g s past).waiting ≡ true → engaged g t s past ≡ true
+unfolding engaged engaged_by holder sem_state sem_state_by
+waiting-engaged g t s past h = by_protocol (protocol g s) h
   where
     omlp_split : (f q : List ℕ) → (has t (rest f) ≡ true) ⊎ (has t q ≡ true) → has t (f ++ q) ≡ true
     omlp_split f q (inl m) = rw (has-append, has-rest t f m)
     omlp_split f q (inr m) = rw (has-append, m) (or_true (has t f))
 
-    by_protocol : (p : Protocol) → has t (sem_state_by g p s past).waiting ≡ true → sits_by g p t s past ≡ true
+    by_protocol : (p : Protocol) → has t (sem_state_by g p s past).waiting ≡ true → engaged_by g p t s past ≡ true
     by_protocol Fmlp k = has-rest t (fmlp g s past) k
     by_protocol Omlp k = omlp_split (omlp g s past).fifo (omlp g s past).queue (has-appended t (rest (omlp g s past).fifo) (omlp g s past).queue k)
     by_protocol Mpcp k = rw k (or_true (is t (mpcp g s past).holder))
     by_protocol Pcp k = let m : has_pair t s (pcp g (cluster_of g s) past).waiting ≡ true = sym (has-of_sem t s (pcp g (cluster_of g s) past).waiting) ∙ k in rw m (or_true (has_pair t s (pcp g (cluster_of g s) past).held))
 
-pub holder-stays : (g : Group) (t s : ℕ) (e : Event) (past : Past) → IsNext g e past → IsPcpKept g (cluster_of g s) (pcp g (cluster_of g s) (e ∷ past)) → is t (holder g s past) ≡ true → (is t (holder g s (e ∷ past)) ≡ true) ⊎ (sem_act e ≡ Frees t s)
+pub holder-stays : (g : Group) (t s : ℕ) (e : Event) (past : Past) → Freed g e past → IsPcpKept g (cluster_of g s) (pcp g (cluster_of g s) (e ∷ past)) → is t (holder g s past) ≡ true → (is t (holder g s (e ∷ past)) ≡ true) ⊎ (sem_act e ≡ Frees t s)
 unfolding holder sem_state sem_state_by fmlp omlp mpcp pcp
-holder-stays g t s e past next kept h = by_protocol (protocol g s) refl h
+holder-stays g t s e past frees kept h = by_protocol (protocol g s) refl h
   where
     freed_by : (p : Protocol) → protocol g s ≡ p → (u : ℕ) → sem_act e ≡ Frees u s → is u (sem_state_by g p s past).holder ≡ true
-    freed_by p r u f = rw (← r) (next.passed_on u s f)
+    freed_by p r u f = rw (← r) (frees u s f)
 
     by_protocol : (p : Protocol) → protocol g s ≡ p → is t (sem_state_by g p s past).holder ≡ true → (is t (sem_state_by g p s (e ∷ past)).holder ≡ true) ⊎ (sem_act e ≡ Frees t s)
     by_protocol Fmlp r k = fmlp-stays t s (sem_act e) (fmlp g s past) (freed_by Fmlp r) k
