@@ -8,7 +8,7 @@ use Rattle.rt_model.specs.Made.{IsMade}
 use Rattle.rt_model.specs.Past.{Event, Past, sem_act}
 use Rattle.rt_model.specs.Releases.{exists}
 use Rattle.rt_model.specs.Sleep.{sleeps}
-use Rattle.rt_laws.specs.Rules.{MeetsRules}
+use Rattle.rt_laws.proofs.Rules.{MeetsRules}
 use Rattle.rt_laws.proofs.Small.{clash}
 use Rattle.rt_laws.proofs.JobLaws.{exists-keeps, awake-keeps, base_key-keeps}
 use Rattle.rt_laws.proofs.Moves.{by_moves}

@@ -13,7 +13,7 @@ use Rattle.rt_model.specs.Past.{Event, Past, sem_act}
 use Rattle.rt_model.specs.Releases.{exists}
 use Rattle.rt_model.specs.Sleep.{sleeps}
 use Rattle.rt_rules.proofs.PlacingLaws.{has-filter}
-use Rattle.rt_laws.specs.Rules.{MeetsRules}
+use Rattle.rt_laws.proofs.Rules.{MeetsRules}
 use Rattle.rt_laws.proofs.Small.{unless, clash, not_false, empty-none}
 use Rattle.rt_laws.proofs.Requests.{IsAsk, asks, frees}
 use Rattle.rt_laws.proofs.Waiting.{task-user}

@@ -12,7 +12,9 @@ use Rattle.rt_model.specs.Made.{IsMade}
 use Rattle.rt_model.specs.Past.{Past, sem_act}
 use Rattle.rt_model.specs.Semaphores.{cluster_of}
 use Rattle.rt_laws.specs.Bounds.{OmlpBound, FmlpBound}
-use Rattle.rt_laws.specs.Rules.{MeetsRules, allows, in_one_cluster}
+use Rattle.rt_laws.proofs.Rules.{MeetsRules}
+use Rattle.rt_laws.proofs.ValidSets.{rules_of}
+use Rattle.rt_task.specs.RuleWords.{stands_under, is_of_one_cluster}
 use Rattle.rt_laws.proofs.Small.{unless, clash}
 use Rattle.rt_laws.proofs.Moves.{by_moves}
 use Rattle.rt_laws.proofs.FmlpLaw as fmlp
@@ -22,7 +24,7 @@ use Rattle.rt_laws.proofs.Engaged.{waiting-engaged}
 use Rattle.rt_laws.proofs.Active.{all_active, IsActive}
 
 pub fmlp_bound : FmlpBound
-fmlp_bound g past rules made r t s p = (fmlp.counted g rules r t s p made).so_far
+fmlp_bound g past valid made r t s p = (fmlp.counted g (rules_of g valid) r t s p made).so_far
 
 -- a request of what is no user is never open
 never-open : (g : Group) → MeetsRules g → (r t s : ℕ) → has t (users g s) && has s (sems g) ≡ false → {past : Past} → IsMade g past → is_open g r t s past ≡ false
@@ -39,7 +41,7 @@ none-ended g rules r t s none made = by_moves g (λ past. ends g r t s past ≡ 
     by_case true h = h
     by_case false h = h
 
-omlp_shares : (plugin : PluginKind) → in_one_cluster plugin Omlp ≡ true
+omlp_shares : (plugin : PluginKind) → is_of_one_cluster Omlp plugin ≡ true
 omlp_shares plugins.GsnEdf = refl
 omlp_shares plugins.CEdf = refl
 omlp_shares plugins.PsnEdf = refl
@@ -47,15 +49,15 @@ omlp_shares plugins.PFp = refl
 omlp_shares plugins.PRes = refl
 
 pub omlp_bound : OmlpBound
-omlp_bound g past rules made r t s p = by_case (has t (users g s)) (has s (sems g)) refl refl
+omlp_bound g past valid made r t s p = by_case (has t (users g s)) (has s (sems g)) refl refl
   where
-    shares : in_one_cluster g.setup.plugin (protocol g s) ≡ true
+    shares : is_of_one_cluster (protocol g s) g.setup.plugin ≡ true
     shares = rw p (omlp_shares g.setup.plugin)
 
     by_case : (b c : Bool) → has t (users g s) ≡ b → has s (sems g) ≡ c → ends g r t s past ≤ 2 * cpus g (home g t) - 1
     by_case true true h k =
-        let permitted : allows g.setup.plugin Omlp ≡ true = rw p at (rules.is_allowed s k) in
-        let same : home g t ≡ cluster_of g s = user-home g rules s t shares h in
-        rw same (omlp.counted g rules r t s p permitted shares k made).so_far
-    by_case false c h k = let none : ends g r t s past ≡ 0 = none-ended g rules r t s (rw h) made in omega (arith, none)
-    by_case true false h k = let none : ends g r t s past ≡ 0 = none-ended g rules r t s (rw (h, k)) made in omega (arith, none)
+        let permitted : stands_under Omlp g.setup.plugin ≡ true = rw p at ((rules_of g valid).is_allowed s k) in
+        let same : home g t ≡ cluster_of g s = user-home g (rules_of g valid) s t shares h in
+        rw same (omlp.counted g (rules_of g valid) r t s p permitted shares k made).so_far
+    by_case false c h k = let none : ends g r t s past ≡ 0 = none-ended g (rules_of g valid) r t s (rw h) made in omega (arith, none)
+    by_case true false h k = let none : ends g r t s past ≡ 0 = none-ended g (rules_of g valid) r t s (rw (h, k)) made in omega (arith, none)

@@ -13,7 +13,8 @@ use Rattle.rt_model.specs.Past.{Event, Past, sem_act}
 use Rattle.rt_model.specs.Semaphores.{cluster_of}
 use Rattle.rt_model.proofs.PastLaws.{made-from}
 use Rattle.rt_rules.proofs.PlacingLaws.{equal_self}
-use Rattle.rt_laws.specs.Rules.{MeetsRules}
+use Rattle.rt_laws.proofs.Rules.{MeetsRules}
+use Rattle.rt_laws.proofs.ValidSets.{rules_of}
 use Rattle.rt_laws.specs.EveryPast.{HistoriesAreMade}
 use Rattle.rt_laws.specs.Bridge.{RunningIsReady, WaitsForOne, is_engaged, EngagedHasJob, EngagedKeepsJob, RequestsDoNotNest, HolderHoldsOne, HolderWaitsNot, OneHolder}
 use Rattle.rt_laws.proofs.Small.{unless, clash, some-is}
@@ -31,12 +32,12 @@ use Rattle.rt_laws.proofs.Active.{IsActive, all_active, engaged-key}
 use Rattle.rt_laws.proofs.Unmixed.{unmixed, asks_pcp}
 
 pub running_is_ready : RunningIsReady
-running_is_ready g past rules made q t h =
-    let r : IsRunning g q t past = running g rules made q t h in
+running_is_ready g past valid made q t h =
+    let r : IsRunning g q t past = running g (rules_of g valid) made q t h in
     record { exists_now = r.exists_now; awake = r.awake; free = none-waits g t past r.waits_none }
 
 pub waits_for_one : WaitsForOne
-waits_for_one g past rules made t s there h = awaits-is g t s past (waits_once g rules made) there h
+waits_for_one g past valid made t s there h = awaits-is g t s past (waits_once g (rules_of g valid) made) there h
 
 -- who holds or waits is engaged at some semaphore
 engaged_somewhere : (g : Group) (t : ℕ) (past : Past) → is_engaged g t past ≡ true → (s : ℕ) × (has s (sems g) ≡ true) × (engaged g t s past ≡ true)
@@ -51,29 +52,29 @@ engaged_somewhere g t past h = by_holds (holds g t past) refl h
     by_holds (s ∷ xs) e k = let held : has s (holds g t past) ≡ true = rw (e, equal_self s) in let w = one-holds g t s past held in (s, w.0, holder-engaged g t s past w.1)
 
 pub engaged_has_job : EngagedHasJob
-engaged_has_job g past rules made t h =
+engaged_has_job g past valid made t h =
     let s = engaged_somewhere g t past h in
-    let k : IsActive g t s.0 past = all_active g rules made t s.0 s.1 s.2 in
+    let k : IsActive g t s.0 past = all_active g (rules_of g valid) made t s.0 s.1 s.2 in
     record { exists_now = k.exists_now; awake = k.awake }
 
 pub engaged_keeps_job : EngagedKeepsJob
-engaged_keeps_job g e past rules made t h =
+engaged_keeps_job g e past valid made t h =
     let last = last_move g made in
-    let n : IsNext g e past = next g rules last.0 last.1 in
+    let n : IsNext g e past = next g (rules_of g valid) last.0 last.1 in
     let s = engaged_somewhere g t (e ∷ past) h in
-    record { goes_on = n.goes_on t s.0 s.1 s.2; same_key = engaged-key g rules t s.0 e past n (all_active g rules last.0) s.1 s.2 }
+    record { goes_on = n.goes_on t s.0 s.1 s.2; same_key = engaged-key g (rules_of g valid) t s.0 e past n (all_active g (rules_of g valid) last.0) s.1 s.2 }
 
 pub requests_do_not_nest : RequestsDoNotNest
-requests_do_not_nest g e past rules made t s h = record {
+requests_do_not_nest g e past valid made t s h = record {
   holds_none = λ n. asks_empty g (protocol g s) t s past n unnested;
   holds_pcp = λ r k. let there = one-holds g t r past k in (asks_pcp g t r s past (protocol g s) unnested there.0 there.1).0;
 }
   where
     unnested : nests g (protocol g s) s t past ≡ false
-    unnested = let last = last_move g made in (asked g rules last.0 last.1 t s h).unnested
+    unnested = let last = last_move g made in (asked g (rules_of g valid) last.0 last.1 t s h).unnested
 
 pub holder_waits_not : HolderWaitsNot
-holder_waits_not g past rules made t s there n h = none-waits g t past (λ r hr. unless _ (λ w. clash _ (unmixed g rules made t s r there hr (some-is t (holder g s past) h) w).0 n))
+holder_waits_not g past valid made t s there n h = none-waits g t past (λ r hr. unless _ (λ w. clash _ (unmixed g (rules_of g valid) made t s r there hr (some-is t (holder g s past) h) w).0 n))
 
 -- ---- one semaphore of the protocols whose requests do not nest
 
@@ -106,15 +107,15 @@ alone : (g : Group) → MeetsRules g → {past : Past} → IsMade g past → IsA
 alone g rules made = by_moves g (IsAlone g) (λ t s r hs hr h k. absurd (clash _ (holder-engaged g t s [] h) (nobody-engaged g t s))) (λ past e made move before. alone-step g rules e past made (asked g rules made move) before) made
 
 pub holder_holds_one : HolderHoldsOne
-holder_holds_one g past rules made t s r hs hr n h k = split (alone g rules made t s r hs hr (some-is t (holder g s past) h) (some-is t (holder g r past) k))
+holder_holds_one g past valid made t s r hs hr n h k = split (alone g (rules_of g valid) made t s r hs hr (some-is t (holder g s past) h) (some-is t (holder g r past) k))
   where
     split : (s ≡ r) ⊎ (is_pcp (protocol g s) ≡ true) × (is_pcp (protocol g r) ≡ true) → s ≡ r
     split (inl e) = e
     split (inr p) = absurd (clash _ p.0 n)
 
 pub one_holder : OneHolder
-one_holder g past rules made c s t u h k =
-    let kept : IsPcpKept g c (pcp g c past) = pcp_kept g rules c made in
+one_holder g past valid made c s t u h k =
+    let kept : IsPcpKept g c (pcp g c past) = pcp_kept g (rules_of g valid) c made in
     let a : has_pair t s (pcp g c past).held ≡ true = sym (has-of_sem t s (pcp g c past).held) ∙ h in
     let b : has_pair u s (pcp g c past).held ≡ true = sym (has-of_sem u s (pcp g c past).held) ∙ k in
     one_holder_of (above_ceiling g) (pcp g c past).held kept.stack.stacked t u s (user-not_over g t s (kept.held t s a).user) (user-not_over g u s (kept.held u s b).user) a b

@@ -15,7 +15,8 @@ use Rattle.rt_model.specs.Holders.{sem_state, holder}
 use Rattle.rt_model.specs.Made.{IsMade}
 use Rattle.rt_model.specs.Past.{Past, sem_act}
 use Rattle.rt_model.specs.Semaphores.{at_sem, mpcp, fmlp, omlp, cluster_of}
-use Rattle.rt_laws.specs.Rules.{MeetsRules, allows}
+use Rattle.rt_laws.proofs.Rules.{MeetsRules}
+use Rattle.rt_task.specs.RuleWords.{stands_under}
 use Rattle.rt_laws.proofs.Small.{clash, has-appended}
 use Rattle.rt_laws.proofs.Waiting.{has_room}
 use Rattle.rt_laws.proofs.KeyLaws.{IsOrder, higher-trans, higher-total, foremost-none}
@@ -47,25 +48,25 @@ busy-after s before (Frees u r) l order k = by_case (s == r)
     by_case false = k
 busy-after s before Neither l order k = k
 
-mpcp-minor : (g : Group) (t : ℕ) (past : Past) → allows g.setup.plugin Mpcp ≡ true → (base_key g t past).minor ≡ t
+mpcp-minor : (g : Group) (t : ℕ) (past : Past) → stands_under Mpcp g.setup.plugin ≡ true → (base_key g t past).minor ≡ t
 unfolding base_key key_by
 mpcp-minor g t past h = by_plugin g.setup.plugin h
   where
-    by_plugin : (p : PluginKind) → allows p Mpcp ≡ true → (key_by g p t past).minor ≡ t
+    by_plugin : (p : PluginKind) → stands_under Mpcp p ≡ true → (key_by g p t past).minor ≡ t
     by_plugin plugins.GsnEdf k = cc
     by_plugin plugins.CEdf k = cc
     by_plugin plugins.PsnEdf k = cc
     by_plugin plugins.PFp k = refl
     by_plugin plugins.PRes k = cc
 
-mpcp-order : (g : Group) (past : Past) → allows g.setup.plugin Mpcp ≡ true → IsOrder (above g past)
+mpcp-order : (g : Group) (past : Past) → stands_under Mpcp g.setup.plugin ≡ true → IsOrder (above g past)
 unfolding above
 mpcp-order g past h = record {
   trans = λ x y z k m. higher-trans (base_key g x past) (base_key g y past) (base_key g z past) k m;
   total = λ x y ne k. higher-total (base_key g x past) (base_key g y past) (rw (mpcp-minor g x past h, mpcp-minor g y past h) ne) k;
 }
 
-mpcp-busy : (g : Group) → (s : ℕ) → allows g.setup.plugin Mpcp ≡ true → (past : Past) → IsBusy (mpcp g s past)
+mpcp-busy : (g : Group) → (s : ℕ) → stands_under Mpcp g.setup.plugin ≡ true → (past : Past) → IsBusy (mpcp g s past)
 unfolding mpcp
 mpcp-busy g s a [] = λ t h. cc
 mpcp-busy g s a (e ∷ past) = busy-after s (above g past) (sem_act e) (mpcp g s past) (mpcp-order g past a) (mpcp-busy g s a past)

@@ -29,7 +29,7 @@ use Rattle.rt_task.specs.declared.Protocol.{Protocol}
 use Rattle.rt_task.specs.declared.Protocol.TheVariants.{Fmlp, Omlp, Pcp, Mpcp}
 use Rattle.rt_rules.proofs.PlacingLaws.{has-filter, equal_self}
 use Rattle.rt_model.proofs.Steps.{used-step}
-use Rattle.rt_laws.specs.Rules.{MeetsRules}
+use Rattle.rt_laws.proofs.Rules.{MeetsRules}
 use Rattle.rt_laws.proofs.Small.{clash, both, is-some, none-empty}
 use Rattle.rt_laws.proofs.Requests.{IsAsk, asks}
 use Rattle.rt_laws.proofs.Waiting.{waiting-step}

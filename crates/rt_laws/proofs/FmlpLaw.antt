@@ -15,7 +15,7 @@ use Rattle.rt_model.specs.Past.{Event, Clock, Acted, Past, sem_act, entries_in, 
 use Rattle.rt_model.specs.Semaphores.{at_sem, fmlp}
 use Rattle.rt_rules.proofs.PlacingLaws.{equal_self, distinct-filter, length-beside}
 use Rattle.rt_rules.proofs.NumberLaws.{distinct-numbers_from}
-use Rattle.rt_laws.specs.Rules.{MeetsRules}
+use Rattle.rt_laws.proofs.Rules.{MeetsRules}
 use Rattle.rt_laws.proofs.Small.{unless, clash, both, neither, is-some, has-appended, has-one, has-rest, has-split, has-without, without-first}
 use Rattle.rt_laws.proofs.Waiting.{waiting-step, awaits-waits}
 use Rattle.rt_laws.proofs.Moves.{by_moves}

@@ -28,7 +28,9 @@ use Rattle.rt_rules.proofs.RankedLaws.{tasks_ranked, has-sorted}
 use Rattle.rt_model.proofs.TopLaws.{tasks-ranked, distinct-top}
 use Rattle.rt_model.proofs.PastLaws.{links-top, processor-home}
 use Rattle.rt_laws.specs.HolderIsLinked.{is_global, HasLinkedHolder, HolderIsLinked}
-use Rattle.rt_laws.specs.Rules.{MeetsRules, allows, in_one_cluster}
+use Rattle.rt_laws.proofs.Rules.{MeetsRules}
+use Rattle.rt_laws.proofs.ValidSets.{rules_of}
+use Rattle.rt_task.specs.RuleWords.{stands_under, is_of_one_cluster}
 use Rattle.rt_laws.proofs.Small.{unless, clash, both, turned, some-is, is_one, has-first}
 use Rattle.rt_laws.proofs.Waiting.{user-task, awaits-waits, none-waits}
 use Rattle.rt_laws.proofs.Linked.{top-eligible, home-tasks_of, tasks_of-home}
@@ -44,14 +46,14 @@ use Rattle.rt_laws.proofs.Ranking.{ranked-sorted, keys-sorted, keys-map, cut-off
 
 -- ---- under a global plugin
 
-global-allows : (p : PluginKind) → is_global p ≡ true → allows p Omlp ≡ true
-global-allows plugins.GsnEdf h = refl
-global-allows plugins.CEdf h = refl
-global-allows plugins.PsnEdf h = cc
-global-allows plugins.PFp h = cc
-global-allows plugins.PRes h = cc
+global-omlp : (p : PluginKind) → is_global p ≡ true → stands_under Omlp p ≡ true
+global-omlp plugins.GsnEdf h = refl
+global-omlp plugins.CEdf h = refl
+global-omlp plugins.PsnEdf h = cc
+global-omlp plugins.PFp h = cc
+global-omlp plugins.PRes h = cc
 
-global-protocol : (p : PluginKind) (x : Protocol) → is_global p ≡ true → allows p x ≡ true → (is_pcp x ≡ false) × (in_one_cluster p x ≡ true)
+global-protocol : (p : PluginKind) (x : Protocol) → is_global p ≡ true → stands_under x p ≡ true → (is_pcp x ≡ false) × (is_of_one_cluster x p ≡ true)
 global-protocol plugins.GsnEdf Fmlp h k = (refl, refl)
 global-protocol plugins.GsnEdf Omlp h k = (refl, refl)
 global-protocol plugins.GsnEdf Pcp h k = cc
@@ -79,14 +81,14 @@ global-boosts g plugins.PsnEdf h = cc
 global-boosts g plugins.PFp h = cc
 global-boosts g plugins.PRes h = cc
 
-no_mpcp : (p : PluginKind) → is_global p ≡ true → allows p Mpcp ≡ false
+no_mpcp : (p : PluginKind) → is_global p ≡ true → stands_under Mpcp p ≡ false
 no_mpcp plugins.GsnEdf h = refl
 no_mpcp plugins.CEdf h = refl
 no_mpcp plugins.PsnEdf h = cc
 no_mpcp plugins.PFp h = cc
 no_mpcp plugins.PRes h = cc
 
-global-unboosted : (g : Group) (x : Protocol) (s t : ℕ) (past : Past) → is_global g.setup.plugin ≡ true → allows g.setup.plugin x ≡ true → boost_by g x s t past ≡ None
+global-unboosted : (g : Group) (x : Protocol) (s t : ℕ) (past : Past) → is_global g.setup.plugin ≡ true → stands_under x g.setup.plugin ≡ true → boost_by g x s t past ≡ None
 unfolding boost_by
 global-unboosted g Fmlp s t past h k = rw (global-boosts g g.setup.plugin h)
 global-unboosted g Omlp s t past h k = refl
@@ -132,7 +134,7 @@ highest-owner f x (v ∷ vs) = by_case (higher (f v) (f x)) (highest-owner f v v
     by_case false p q = (q.0, later q.0 q.1, q.2)
 
 module _ (g : Group) (rules : MeetsRules g) (past : Past) (made : IsMade g past) (global : is_global g.setup.plugin ≡ true) where
-  sem-facts : (s : ℕ) → has s (sems g) ≡ true → (is_pcp (protocol g s) ≡ false) × (in_one_cluster g.setup.plugin (protocol g s) ≡ true)
+  sem-facts : (s : ℕ) → has s (sems g) ≡ true → (is_pcp (protocol g s) ≡ false) × (is_of_one_cluster (protocol g s) g.setup.plugin ≡ true)
   sem-facts s h = global-protocol g.setup.plugin (protocol g s) global (rules.is_allowed s h)
 
   -- whom a task waits for: the holder of its semaphore, which waits for nobody
@@ -319,7 +321,7 @@ module _ (g : Group) (rules : MeetsRules g) (past : Past) (made : IsMade g past)
           ys = map y_of (top g c past)
 
           y_is : (x y : ℕ) → IsOwner c x y → y_of x ≡ y
-          y_is x y o = ap (λ (k : Key). k.minor) o.key ∙ minor-is g y past (global-allows g.setup.plugin global)
+          y_is x y o = ap (λ (k : Key). k.minor) o.key ∙ minor-is g y past (global-omlp g.setup.plugin global)
 
           no_higher : (x : ℕ) → has x (top g c past) ≡ true → higher (effective_key g u past) (effective_key g x past) ≡ false
           no_higher x k = cut-off (λ v. effective_key g v past) (cpus g c) ranked u x (keys-sorted (λ v. effective_key g v past) (map (λ v. record { key = effective_key g v past; task = v }) candidates) (keys-map (λ v. effective_key g v past) candidates)) (ranked-sorted (map (λ v. record { key = effective_key g v past; task = v }) candidates)) among (rw top_is at absent) (rw top_is at k)
@@ -338,7 +340,7 @@ module _ (g : Group) (rules : MeetsRules g) (past : Past) (made : IsMade g past)
           over_waiter : (x y : ℕ) → has x (top g c past) ≡ true → IsOwner c x y → above g past y t ≡ true
           over_waiter x y k o =
               let not_over : higher (base_key g t past) (effective_key g x past) ≡ false = unless _ (λ m. clash _ (higher-mixed (base_key g t past) (effective_key g u past) (effective_key g x past) lifted m) (no_higher x k)) in
-              let other : (base_key g t past).minor == (base_key g y past).minor ≡ false = rw (minor-is g t past (global-allows g.setup.plugin global), minor-is g y past (global-allows g.setup.plugin global)) (turned t y ∙ not_t x y k o) in
+              let other : (base_key g t past).minor == (base_key g y past).minor ≡ false = rw (minor-is g t past (global-omlp g.setup.plugin global), minor-is g y past (global-omlp g.setup.plugin global)) (turned t y ∙ not_t x y k o) in
               higher-total (base_key g t past) (base_key g y past) other (rw o.key at not_over)
 
           each : (y : ℕ) → has y ys ≡ true → (has y (tasks_of g (home g t)) ≡ true) × (exists g y past ≡ true) × (above g past y t ≡ true)
@@ -368,11 +370,11 @@ module _ (g : Group) (rules : MeetsRules g) (past : Past) (made : IsMade g past)
       by_case false e = absurd (clash _ blocked (absent-blocks e))
 
 pub holder_is_linked : HolderIsLinked
-holder_is_linked g past rules made t s global w blocked = by_holder (holder g s past) refl
+holder_is_linked g past valid made t s global w blocked = by_holder (holder g s past) refl
   where
     waits : (has s (sems g) ≡ true) × (has t (sem_state g s past).waiting ≡ true)
     waits = awaits-waits g t s past w
 
     by_holder : (o : Option ℕ) → holder g s past ≡ o → HasLinkedHolder g s past
-    by_holder None e = let held : is_none {T = ℕ} None ≡ false = rw e at (held-somewhere g rules made t s waits.0 (sem-facts g rules past made global s waits.0).0 waits.1) in cc
-    by_holder (Some u) e = record { task = u; holds_it = e; linked = links-top g (home g u) (processor-home g (home g u)) made u ∙ holder-linked g rules past made global t s u blocked w e }
+    by_holder None e = let held : is_none {T = ℕ} None ≡ false = rw e at (held-somewhere g (rules_of g valid) made t s waits.0 (sem-facts g (rules_of g valid) past made global s waits.0).0 waits.1) in cc
+    by_holder (Some u) e = record { task = u; holds_it = e; linked = links-top g (home g u) (processor-home g (home g u)) made u ∙ holder-linked g (rules_of g valid) past made global t s u blocked w e }

@@ -13,7 +13,7 @@ use Rattle.rt_model.specs.Releases.{arrivals, arrives, release_by, release, has_
 use Rattle.rt_model.specs.Sleep.{wakes, sleeps, sleep_end}
 use Rattle.rt_model.proofs.Steps.{done-step}
 use Rattle.rt_rules.proofs.PlacingLaws.{either, or_true}
-use Rattle.rt_laws.specs.Rules.{MeetsRules}
+use Rattle.rt_laws.proofs.Rules.{MeetsRules}
 use Rattle.rt_laws.proofs.Small.{both}
 
 pub now-grows : (e : Event) (past : Past) → now past ≤ now (e ∷ past)

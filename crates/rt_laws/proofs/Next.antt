@@ -18,7 +18,7 @@ use Rattle.rt_model.specs.Past.{Event, Acted, Past, now, accepted, operation, di
 use Rattle.rt_model.specs.Runs.{runs}
 use Rattle.rt_model.specs.Semaphores.{cluster_of}
 use Rattle.rt_model.specs.Sleep.{sleep_end}
-use Rattle.rt_laws.specs.Rules.{MeetsRules}
+use Rattle.rt_laws.proofs.Rules.{MeetsRules}
 use Rattle.rt_laws.proofs.Small.{unless, clash, is-some}
 use Rattle.rt_laws.proofs.Requests.{asks}
 use Rattle.rt_laws.proofs.Running.{running}

@@ -19,7 +19,8 @@ use Rattle.rt_model.specs.Releases.{exists}
 use Rattle.rt_model.specs.Semaphores.{at_sem, cluster_of, omlp}
 use Rattle.rt_rules.proofs.PlacingLaws.{or_true, equal_self, has-filter, distinct-filter}
 use Rattle.rt_model.proofs.TopLaws.{distinct-tasks_of}
-use Rattle.rt_laws.specs.Rules.{MeetsRules, allows, in_one_cluster}
+use Rattle.rt_laws.proofs.Rules.{MeetsRules}
+use Rattle.rt_task.specs.RuleWords.{stands_under, is_of_one_cluster}
 use Rattle.rt_laws.proofs.Small.{unless, clash, both, has-append, has-appended, has-one, has-rest, has-without}
 use Rattle.rt_laws.proofs.Waiting.{has_room, user-task}
 use Rattle.rt_laws.proofs.Linked.{home-tasks_of}
@@ -109,7 +110,7 @@ engaged-omlp : (g : Group) (t s : ℕ) (past : Past) → protocol g s ≡ Omlp �
 unfolding engaged engaged_by
 engaged-omlp g t s past h = rw h
 
-module _ (g : Group) (rules : MeetsRules g) (r t s : ℕ) (p : protocol g s ≡ Omlp) (a : allows g.setup.plugin Omlp ≡ true) (one : in_one_cluster g.setup.plugin (protocol g s) ≡ true) (known : has s (sems g) ≡ true) where
+module _ (g : Group) (rules : MeetsRules g) (r t s : ℕ) (p : protocol g s ≡ Omlp) (a : stands_under Omlp g.setup.plugin ≡ true) (one : is_of_one_cluster (protocol g s) g.setup.plugin ≡ true) (known : has s (sems g) ≡ true) where
   abbrev pub m : ℕ
   m = cpus g (cluster_of g s)
 

@@ -15,7 +15,8 @@ use Rattle.rt_model.specs.Holders.{sem_state, sem_state_by, holder}
 use Rattle.rt_model.specs.Made.{IsMade}
 use Rattle.rt_model.specs.Past.{Event, Past, sem_act}
 use Rattle.rt_model.specs.Semaphores.{at_sem, cluster_of, omlp}
-use Rattle.rt_laws.specs.Rules.{MeetsRules, allows, in_one_cluster}
+use Rattle.rt_laws.proofs.Rules.{MeetsRules}
+use Rattle.rt_task.specs.RuleWords.{stands_under, is_of_one_cluster}
 use Rattle.rt_laws.proofs.Small.{unless, clash, neither, some-is, has-append, has-appended, has-one, has-first, has-rest, has-split, has-without}
 use Rattle.rt_laws.proofs.Waiting.{has_room}
 use Rattle.rt_laws.proofs.KeyLaws.{IsOrder, higher-trans, higher-total, foremost-none, foremost-some}
@@ -120,18 +121,18 @@ queued-step m s before Neither l room order fresh k = k
 -- ---- the semaphores of a setup
 
 -- under the EDF plugins a base key's last part is the task's number
-pub minor-is : (g : Group) (t : ℕ) (past : Past) → allows g.setup.plugin Omlp ≡ true → (base_key g t past).minor ≡ t
+pub minor-is : (g : Group) (t : ℕ) (past : Past) → stands_under Omlp g.setup.plugin ≡ true → (base_key g t past).minor ≡ t
 unfolding base_key key_by
 minor-is g t past h = by_plugin g.setup.plugin h
   where
-    by_plugin : (p : PluginKind) → allows p Omlp ≡ true → (key_by g p t past).minor ≡ t
+    by_plugin : (p : PluginKind) → stands_under Omlp p ≡ true → (key_by g p t past).minor ≡ t
     by_plugin plugins.GsnEdf k = refl
     by_plugin plugins.CEdf k = refl
     by_plugin plugins.PsnEdf k = cc
     by_plugin plugins.PFp k = cc
     by_plugin plugins.PRes k = cc
 
-pub above-order : (g : Group) (past : Past) → allows g.setup.plugin Omlp ≡ true → IsOrder (above g past)
+pub above-order : (g : Group) (past : Past) → stands_under Omlp g.setup.plugin ≡ true → IsOrder (above g past)
 unfolding above
 above-order g past h = record {
   trans = λ x y z k m. higher-trans (base_key g x past) (base_key g y past) (base_key g z past) k m;
@@ -162,16 +163,16 @@ omlp-fresh g s t past p a = (unless _ (λ h. split (has-split t (omlp g s past).
     split (inl k) = clash _ k empty_handed
     split (inr k) = clash _ k parts.0
 
-pub queued-event : (g : Group) → MeetsRules g → (s : ℕ) → protocol g s ≡ Omlp → allows g.setup.plugin Omlp ≡ true → (e : Event) (past : Past) → Asked g e past → IsQueued (cpus g (cluster_of g s)) (omlp g s past) → IsQueued (cpus g (cluster_of g s)) (omlp g s (e ∷ past))
+pub queued-event : (g : Group) → MeetsRules g → (s : ℕ) → protocol g s ≡ Omlp → stands_under Omlp g.setup.plugin ≡ true → (e : Event) (past : Past) → Asked g e past → IsQueued (cpus g (cluster_of g s)) (omlp g s past) → IsQueued (cpus g (cluster_of g s)) (omlp g s (e ∷ past))
 unfolding omlp
 queued-event g rules s p a e past asks k = queued-step (cpus g (cluster_of g s)) s (above g past) (sem_act e) (omlp g s past) (has_room g rules s) (above-order g past a) (λ t h. omlp-fresh g s t past p (asks t s h)) k
 
-pub queued : (g : Group) → MeetsRules g → (s : ℕ) → protocol g s ≡ Omlp → allows g.setup.plugin Omlp ≡ true → {past : Past} → IsMade g past → IsQueued (cpus g (cluster_of g s)) (omlp g s past)
+pub queued : (g : Group) → MeetsRules g → (s : ℕ) → protocol g s ≡ Omlp → stands_under Omlp g.setup.plugin ≡ true → {past : Past} → IsMade g past → IsQueued (cpus g (cluster_of g s)) (omlp g s past)
 unfolding omlp
 queued g rules s p a made = by_moves g (λ past. IsQueued (cpus g (cluster_of g s)) (omlp g s past)) (record { fifo_once = tt; queue_once = tt; apart = λ t h. cc; fits = omega arith; full = λ t h. cc }) (λ past e made move before. queued-event g rules s p a e past (asked g rules made move) before) made
 
 -- the users of such a semaphore are of its cluster
-pub user-home : (g : Group) → MeetsRules g → (s t : ℕ) → in_one_cluster g.setup.plugin (protocol g s) ≡ true → has t (users g s) ≡ true → home g t ≡ cluster_of g s
+pub user-home : (g : Group) → MeetsRules g → (s t : ℕ) → is_of_one_cluster (protocol g s) g.setup.plugin ≡ true → has t (users g s) ≡ true → home g t ≡ cluster_of g s
 unfolding cluster_of
 user-home g rules s t one h = by_case (first (users g s)) refl
   where

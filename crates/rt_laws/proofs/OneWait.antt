@@ -8,7 +8,7 @@ use Rattle.rt_model.specs.Group.{Group, sems, protocol}
 use Rattle.rt_model.specs.Holders.{sem_state, awaits}
 use Rattle.rt_model.specs.Made.{IsMade}
 use Rattle.rt_model.specs.Past.{Event, Past, sem_act}
-use Rattle.rt_laws.specs.Rules.{MeetsRules}
+use Rattle.rt_laws.proofs.Rules.{MeetsRules}
 use Rattle.rt_laws.proofs.Small.{clash}
 use Rattle.rt_laws.proofs.Waiting.{waiting-step, nobody-waits, waits-none, awaits-waits}
 use Rattle.rt_laws.proofs.Moves.{by_moves}

@@ -10,7 +10,7 @@ use Rattle.rt_model.specs.Group.{Group, home, users, protocol}
 use Rattle.rt_model.specs.Made.{IsMade}
 use Rattle.rt_model.specs.Past.{Event, Past, sem_act}
 use Rattle.rt_rules.proofs.PlacingLaws.{either, or_true, equal_self}
-use Rattle.rt_laws.specs.Rules.{MeetsRules}
+use Rattle.rt_laws.proofs.Rules.{MeetsRules}
 use Rattle.rt_laws.proofs.Small.{clash, both, has-first, some-is}
 use Rattle.rt_laws.proofs.Waits.{has_pair, has_pair-without_pair, has-of_sem, pcp-waits}
 use Rattle.rt_laws.proofs.Waiting.{at_cluster-asks}

@@ -15,7 +15,8 @@ use Rattle.rt_model.specs.Made.{IsMade}
 use Rattle.rt_model.specs.Past.{Event, Past, sem_act}
 use Rattle.rt_model.specs.Semaphores.{cluster_of}
 use Rattle.rt_rules.proofs.PlacingLaws.{either, or_true, equal_self}
-use Rattle.rt_laws.specs.Rules.{MeetsRules}
+use Rattle.rt_laws.proofs.Rules.{MeetsRules}
+use Rattle.rt_laws.proofs.ValidSets.{rules_of}
 use Rattle.rt_laws.specs.PriorityCeiling.{UnlockGrantsOne}
 use Rattle.rt_laws.proofs.Small.{unless, clash, both, neither}
 use Rattle.rt_laws.proofs.Waits.{has_pair, has-of_sem}
@@ -279,6 +280,6 @@ grants-one g rules c t s e past made frees h = rw h (by_case (home g t == c && i
             pair = holder-pair g t s past parts.1 (frees t s h)
 
 pub unlock_grants_one : UnlockGrantsOne
-unlock_grants_one g e past rules made c t s h =
+unlock_grants_one g e past valid made c t s h =
     let last = last_move g made in
-    grants-one g rules c t s e past last.0 (freed g last.1) h
+    grants-one g (rules_of g valid) c t s e past last.0 (freed g last.1) h

@@ -19,7 +19,8 @@ use Rattle.rt_model.specs.Made.{IsMade}
 use Rattle.rt_model.specs.Past.{Past}
 use Rattle.rt_model.specs.Semaphores.{cluster_of}
 use Rattle.rt_rules.proofs.PlacingLaws.{either, or_true, equal_self}
-use Rattle.rt_laws.specs.Rules.{MeetsRules, in_one_cluster}
+use Rattle.rt_laws.proofs.Rules.{MeetsRules}
+use Rattle.rt_task.specs.RuleWords.{is_of_one_cluster}
 use Rattle.rt_laws.proofs.Small.{unless, clash, both, turned, some-is, has-first}
 use Rattle.rt_laws.proofs.Waits.{has_pair, has-of_sem}
 use Rattle.rt_laws.proofs.Waiting.{user-task, awaits-waits, none-waits}
@@ -154,7 +155,7 @@ holder-pcp g t s past h w = by_protocol (protocol g s) h
     by_protocol Omlp e = cc
     by_protocol Mpcp e = cc
 
-pub pcp-shares : (p : PluginKind) (x : Protocol) → is_pcp x ≡ true → in_one_cluster p x ≡ true
+pub pcp-shares : (p : PluginKind) (x : Protocol) → is_pcp x ≡ true → is_of_one_cluster x p ≡ true
 pcp-shares p Pcp h = refl
 pcp-shares p Fmlp h = cc
 pcp-shares p Omlp h = cc

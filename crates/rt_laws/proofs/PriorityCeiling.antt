@@ -13,7 +13,8 @@ use Rattle.rt_model.specs.Made.{IsMade}
 use Rattle.rt_model.specs.Past.{Past}
 use Rattle.rt_rules.proofs.PlacingLaws.{equal_self, or_true}
 use Rattle.rt_laws.specs.PriorityCeiling.{WaitingDoesNotPass, LaterIsAboveCeiling, reached_from, end_of, WalkEnds, WalksEnd, WalksHaveOneStep, UnlockGrantsOne}
-use Rattle.rt_laws.specs.Rules.{MeetsRules}
+use Rattle.rt_laws.proofs.Rules.{MeetsRules}
+use Rattle.rt_laws.proofs.ValidSets.{rules_of}
 use Rattle.rt_laws.proofs.Small.{unless}
 use Rattle.rt_laws.proofs.Waits.{has_pair}
 use Rattle.rt_laws.proofs.Waiting.{user-task, awaits-waits}
@@ -25,7 +26,7 @@ use Rattle.rt_laws.proofs.PcpWalks.{waiting-stops, walk-step, walk-stops, walk-n
 use Rattle.rt_laws.proofs.PcpGrants as grants
 
 pub waiting_does_not_pass : WaitingDoesNotPass
-waiting_does_not_pass g past rules made t s k w = let a = awaits-waits g t s past w in waiting-stops g rules past made t s k a.1
+waiting_does_not_pass g past valid made t s k w = let a = awaits-waits g t s past w in waiting-stops g (rules_of g valid) past made t s k a.1
 
 -- ---- the order of grants
 
@@ -38,8 +39,8 @@ above_earlier over [] between oldest later earlier k ne = passes-above_ceiling o
 above_earlier over (p ∷ newest) between oldest later earlier k ne = above_earlier over newest between oldest later earlier k.1 ne
 
 pub later_is_above_ceiling : LaterIsAboveCeiling
-later_is_above_ceiling g past rules made c newest between oldest later earlier e ne =
-    let stacked : IsStacked (above_ceiling g) (newest ++ later ∷ (between ++ earlier ∷ oldest)) = subst (λ l. IsStacked (above_ceiling g) l) e (pcp_kept g rules c made).stack.stacked in
+later_is_above_ceiling g past valid made c newest between oldest later earlier e ne =
+    let stacked : IsStacked (above_ceiling g) (newest ++ later ∷ (between ++ earlier ∷ oldest)) = subst (λ l. IsStacked (above_ceiling g) l) e (pcp_kept g (rules_of g valid) c made).stack.stacked in
     above_earlier (above_ceiling g) newest between oldest later earlier stacked (unless _ (λ m. ne (sym (eqb-true earlier.task later.task m))))
 
 -- ---- walks
@@ -67,7 +68,7 @@ reaches_one g rules {past} made t s a = record { last = q.0; reached = rw q.1 (o
     one (x ∷ xs) m = rw (walk-stops g rules past made q.0 q.2, walk-none (λ v. waits_for g v past) (length xs)) refl
 
 pub walks_end : WalksEnd
-walks_end g past rules made t = by_wait (awaits g t past) refl
+walks_end g past valid made t = by_wait (awaits g t past) refl
   where
     alone : awaits g t past ≡ None → (us : List ℕ) → us ≡ [] → IsDistinct (t ∷ us) × (awaits g (end_of t us) past ≡ None)
     alone e [] k = ((refl, tt), e)
@@ -78,15 +79,15 @@ walks_end g past rules made t = by_wait (awaits g t past) refl
 
     by_wait : (o : Option ℕ) → awaits g t past ≡ o → WalkEnds g t past
     by_wait None e =
-        let none : reached_from g t past ≡ [] = rw (walk-stops g rules past made t e) (walk-none (λ v. waits_for g v past) (length (tasks g))) in
+        let none : reached_from g t past ≡ [] = rw (walk-stops g (rules_of g valid) past made t e) (walk-none (λ v. waits_for g v past) (length (tasks g))) in
         let k = alone e (reached_from g t past) none in
         record { once = k.0; free = k.1 }
     by_wait (Some s) e =
-        let r : ReachesOne g t past = reaches_one g rules made t s e in
+        let r : ReachesOne g t past = reaches_one g (rules_of g valid) made t s e in
         record { once = rw (r.reached, other s r.last e r.free) (refl, (refl, tt)); free = rw r.reached r.free }
 
 pub walks_have_one_step : WalksHaveOneStep
-walks_have_one_step g past rules made t s a = rw (reaches_one g rules made t s a).reached
+walks_have_one_step g past valid made t s a = rw (reaches_one g (rules_of g valid) made t s a).reached
 
 pub unlock_grants_one : UnlockGrantsOne
 unlock_grants_one = grants.unlock_grants_one

@@ -24,7 +24,7 @@ use Rattle.rt_model.proofs.AnswerLaws.{to_run, answer-runs_link}
 use Rattle.rt_model.proofs.PastLaws.{single, one_processor, processor-home}
 use Rattle.rt_model.proofs.Steps.{runs-acted, past_act-cpu}
 use Rattle.rt_rules.proofs.PlacingLaws.{equal_self}
-use Rattle.rt_laws.specs.Rules.{MeetsRules}
+use Rattle.rt_laws.proofs.Rules.{MeetsRules}
 use Rattle.rt_laws.proofs.Small.{unless, clash, both, is-some, some-is, not_true, neither}
 use Rattle.rt_laws.proofs.Requests.{IsAsk, asks}
 use Rattle.rt_laws.proofs.JobLaws.{exists-keeps, awake-keeps}

@@ -17,7 +17,7 @@ use Rattle.rt_model.specs.Made.{IsMade}
 use Rattle.rt_model.specs.Past.{Event, Past, sem_act}
 use Rattle.rt_model.specs.Semaphores.{at_sem, mpcp, fmlp, omlp, cluster_of}
 use Rattle.rt_rules.proofs.PlacingLaws.{either}
-use Rattle.rt_laws.specs.Rules.{MeetsRules}
+use Rattle.rt_laws.proofs.Rules.{MeetsRules}
 use Rattle.rt_laws.proofs.Small.{unless, clash, neither, not_false, has-appended, has-one, has-first}
 use Rattle.rt_laws.proofs.Waiting.{waiting-step, nobody-waits}
 use Rattle.rt_laws.proofs.Moves.{by_moves, moved}

@@ -14,7 +14,7 @@ use Rattle.rt_model.specs.Holders.{sem_state, sem_state_by, holder, awaits}
 use Rattle.rt_model.specs.Past.{Event, Past, sem_act}
 use Rattle.rt_model.specs.Semaphores.{cluster_of, fmlp, omlp, mpcp}
 use Rattle.rt_rules.proofs.PlacingLaws.{has-filter}
-use Rattle.rt_laws.specs.Rules.{MeetsRules}
+use Rattle.rt_laws.proofs.Rules.{MeetsRules}
 use Rattle.rt_laws.proofs.Small.{both, find-none, none-find, find-some, has-first, some-is}
 use Rattle.rt_laws.proofs.Waits.{fmlp-waits, omlp-waits, mpcp-waits, pcp-waits, has-of_sem, has_pair}
 

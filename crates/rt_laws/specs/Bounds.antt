@@ -1,12 +1,12 @@
 -- The bounds on blocking: how many critical sections of its semaphore end while a request waits.
 use Rattle.std.specs.Prelude.{◌≡◌, ℕ, ◌-◌, ◌*◌, ◌≤◌, length}
+use Rattle.rt_task.specs.Validity.{IsValid}
 use Rattle.rt_task.specs.declared.Protocol.TheVariants.{Fmlp, Omlp}
 use Rattle.rt_model.specs.Blocking.{ends, ends_all}
 use Rattle.rt_model.specs.Group.{Group, cpus, home, users, protocol}
 use Rattle.rt_model.specs.Made.{IsMade}
 use Rattle.rt_model.specs.Past.{Past}
 use Rattle.rt_laws.specs.EveryPast.{EveryPast}
-use Rattle.rt_laws.specs.Rules.{MeetsRules}
 
 -- FMLP (Block, Leontyev, Brandenburg and Anderson, RTCSA 2007): while a request waits, at most n - 1 critical sections of its semaphore end, n the number of tasks that declare it, in whatever clusters.
 abbrev pub FmlpBound : Type 0
@@ -20,7 +20,7 @@ OmlpBound = EveryPast (λ g past. (r t s : ℕ) → protocol g s ≡ Omlp → en
 pub record ReachesOmlpBound : Type 0 where
   pub group : Group
   pub past : Past
-  pub meets_rules : MeetsRules group
+  pub is_valid : IsValid group.setup
   pub is_made : IsMade group past
   pub no : ℕ
   pub task : ℕ
