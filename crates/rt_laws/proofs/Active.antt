@@ -1,20 +1,20 @@
 -- Who holds or waits has a job that exists and is awake, and its base key stays while it does.
-use Rattle.std.proofs.Common.{◌≡◌, ℕ, true, false, ◌⊎◌, inl, inr, ◌∷◌}
+use Rattle.std.proofs.Common.{false, inl, inr, true, ℕ, ◌∷◌, ◌≡◌, ◌⊎◌}
 use Rattle.rt_rules.specs.Numbers.{has}
 use Rattle.rt_rules.specs.SemState.{Asks}
 use Rattle.rt_model.specs.BaseKeys.{base_key}
-use Rattle.rt_model.specs.Group.{Group, users, sems}
+use Rattle.rt_model.specs.Group.{Group, sems, users}
 use Rattle.rt_model.specs.Made.{IsMade}
 use Rattle.rt_model.specs.Past.{Event, Past, sem_act}
 use Rattle.rt_model.specs.Releases.{exists}
 use Rattle.rt_model.specs.Sleep.{sleeps}
-use Rattle.rt_laws.proofs.Rules.{MeetsRules}
-use Rattle.rt_laws.proofs.Small.{clash}
-use Rattle.rt_laws.proofs.JobLaws.{exists-keeps, awake-keeps, base_key-keeps}
-use Rattle.rt_laws.proofs.Moves.{by_moves}
+use Rattle.rt_rules.proofs.BoolLaws.{clash}
 use Rattle.rt_laws.proofs.Asked.{IsAsked}
 use Rattle.rt_laws.proofs.Engaged.{engaged, engaged-step, nobody-engaged}
+use Rattle.rt_laws.proofs.JobLaws.{awake-keeps, base_key-keeps, exists-keeps}
+use Rattle.rt_laws.proofs.Moves.{by_moves}
 use Rattle.rt_laws.proofs.Next.{IsNext, next}
+use Rattle.rt_laws.proofs.Rules.{MeetsRules}
 
 -- who holds or waits: its job exists and is awake, and it is a user
 pub record IsActive (g : Group) (t s : ℕ) (past : Past) : Type 0 where

@@ -1,24 +1,24 @@
 -- Who asks and who frees in the next event: what the past before it says of them.
-use Rattle.std.proofs.Common.{◌≡◌, ℕ, true, false}
+use Rattle.std.proofs.Common.{false, true, ℕ, ◌≡◌}
+use Rattle.rt_task.specs.declared.Protocol.TheVariants.{Fmlp, Mpcp, Omlp, Pcp}
 use Rattle.rt_task.specs.declared.Protocol.{Protocol}
-use Rattle.rt_task.specs.declared.Protocol.TheVariants.{Fmlp, Omlp, Pcp, Mpcp}
 use Rattle.rt_rules.specs.Numbers.{has, is, is_empty}
 use Rattle.rt_rules.specs.SemState.{Asks, Frees}
 use Rattle.rt_model.specs.Answers.{nests}
 use Rattle.rt_model.specs.Ceilings.{is_pcp}
-use Rattle.rt_model.specs.Group.{Group, tasks, users, sems, protocol}
-use Rattle.rt_model.specs.Holders.{sem_state, holder, holds}
+use Rattle.rt_model.specs.Group.{Group, protocol, sems, tasks, users}
+use Rattle.rt_model.specs.Holders.{holder, holds, sem_state}
 use Rattle.rt_model.specs.Made.{IsMade}
 use Rattle.rt_model.specs.Past.{Event, Past, sem_act}
 use Rattle.rt_model.specs.Releases.{exists}
 use Rattle.rt_model.specs.Sleep.{sleeps}
-use Rattle.rt_rules.proofs.PlacingLaws.{has-filter}
-use Rattle.rt_laws.proofs.Rules.{MeetsRules}
-use Rattle.rt_laws.proofs.Small.{unless, clash, not_false, empty-none}
-use Rattle.rt_laws.proofs.Requests.{IsAsk, asks, frees}
-use Rattle.rt_laws.proofs.Waiting.{task-user}
+use Rattle.rt_rules.proofs.BoolLaws.{clash, not_false, unless}
+use Rattle.rt_rules.proofs.MemberLaws.{empty-none, has-filter}
 use Rattle.rt_laws.proofs.Moves.{IsMove, clock_moves, cpu_acts}
+use Rattle.rt_laws.proofs.Requests.{IsAsk, asks, frees}
+use Rattle.rt_laws.proofs.Rules.{MeetsRules}
 use Rattle.rt_laws.proofs.Running.{IsRunning, running}
+use Rattle.rt_laws.proofs.Waiting.{task-user}
 
 -- a task asks for a semaphore: its job is there, neither sleeps nor waits, and the request does not nest
 pub record IsAsked (g : Group) (t s : ℕ) (past : Past) : Type 0 where

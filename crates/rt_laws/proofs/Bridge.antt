@@ -1,35 +1,36 @@
 -- What each task that runs, holds or waits may rely on.
-use Rattle.std.proofs.Common.{◌≡◌, ℕ, true, false, not, ◌||◌, ◌⊎◌, inl, inr, List, [], ◌∷◌, refl, sym, ◌∙◌}
-use Rattle.std.specs.Prelude.{Option, None, Some, is_some}
+use Rattle.std.proofs.Common.{List, [], false, inl, inr, not, refl, sym, true, ℕ, ◌||◌, ◌∙◌, ◌∷◌, ◌≡◌, ◌⊎◌}
+use Rattle.std.specs.Prelude.{None, Option, Some, is_some}
 use Rattle.rt_rules.specs.Numbers.{has, is, is_empty}
 use Rattle.rt_rules.specs.SemState.{Asks}
-use Rattle.rt_model.specs.Ceilings.{is_pcp, pcp, above_ceiling}
-use Rattle.rt_model.specs.Group.{Group, sems, protocol}
 use Rattle.rt_model.specs.Answers.{nests}
+use Rattle.rt_model.specs.Ceilings.{above_ceiling, is_pcp, pcp}
+use Rattle.rt_model.specs.Group.{Group, protocol, sems}
 use Rattle.rt_model.specs.Histories.{past_of}
-use Rattle.rt_model.specs.Holders.{sem_state, holder, holds, awaits}
+use Rattle.rt_model.specs.Holders.{awaits, holder, holds, sem_state}
 use Rattle.rt_model.specs.Made.{IsMade, opened}
 use Rattle.rt_model.specs.Past.{Event, Past, sem_act}
 use Rattle.rt_model.specs.Semaphores.{cluster_of}
+use Rattle.rt_rules.proofs.BoolLaws.{clash, unless}
+use Rattle.rt_rules.proofs.MemberLaws.{equal_self, some-is}
+use Rattle.rt_rules.proofs.PairLaws.{has-of_sem, has_pair}
+use Rattle.rt_rules.proofs.PcpLaws.{one_holder_of}
 use Rattle.rt_model.proofs.PastLaws.{made-from}
-use Rattle.rt_rules.proofs.PlacingLaws.{equal_self}
-use Rattle.rt_laws.proofs.Rules.{MeetsRules}
-use Rattle.rt_laws.proofs.ValidSets.{rules_of}
+use Rattle.rt_laws.specs.Bridge.{EngagedHasJob, EngagedKeepsJob, HolderHoldsOne, HolderWaitsNot, OneHolder, RequestsDoNotNest, RunningIsReady, WaitsForOne, is_engaged}
 use Rattle.rt_laws.specs.EveryPast.{HistoriesAreMade}
-use Rattle.rt_laws.specs.Bridge.{RunningIsReady, WaitsForOne, is_engaged, EngagedHasJob, EngagedKeepsJob, RequestsDoNotNest, HolderHoldsOne, HolderWaitsNot, OneHolder}
-use Rattle.rt_laws.proofs.Small.{unless, clash, some-is}
-use Rattle.rt_laws.proofs.Waits.{has_pair, has-of_sem}
-use Rattle.rt_laws.proofs.Waiting.{none-waits, awaits-waits}
-use Rattle.rt_laws.proofs.Running.{IsRunning, running}
-use Rattle.rt_laws.proofs.Moves.{by_moves, last_move}
-use Rattle.rt_laws.proofs.Asked.{Asked, asked, asks_empty}
-use Rattle.rt_laws.proofs.Next.{IsNext, next}
-use Rattle.rt_laws.proofs.OneWait.{waits_once, awaits-is}
-use Rattle.rt_laws.proofs.Pcp.{IsPcpKept, pcp_kept, one_holder_of, user-not_over}
-use Rattle.rt_laws.proofs.Engaged.{engaged, engaged-step, engaged-cases, holder-engaged, waiting-engaged, nobody-engaged}
-use Rattle.rt_laws.proofs.Ends.{one-holds}
 use Rattle.rt_laws.proofs.Active.{IsActive, all_active, engaged-key}
-use Rattle.rt_laws.proofs.Unmixed.{unmixed, asks_pcp}
+use Rattle.rt_laws.proofs.Asked.{Asked, asked, asks_empty}
+use Rattle.rt_laws.proofs.Ends.{one-holds}
+use Rattle.rt_laws.proofs.Engaged.{engaged, engaged-cases, engaged-step, holder-engaged, nobody-engaged, waiting-engaged}
+use Rattle.rt_laws.proofs.Moves.{by_moves, last_move}
+use Rattle.rt_laws.proofs.Next.{IsNext, next}
+use Rattle.rt_laws.proofs.OneWait.{awaits-is, waits_once}
+use Rattle.rt_laws.proofs.Pcp.{IsPcpKept, pcp_kept, user-not_over}
+use Rattle.rt_laws.proofs.Rules.{MeetsRules}
+use Rattle.rt_laws.proofs.Running.{IsRunning, running}
+use Rattle.rt_laws.proofs.Unmixed.{asks_pcp, unmixed}
+use Rattle.rt_laws.proofs.ValidSets.{rules_of}
+use Rattle.rt_laws.proofs.Waiting.{awaits-waits, none-waits}
 
 pub running_is_ready : RunningIsReady
 running_is_ready g past valid made q t h =

@@ -1,11 +1,13 @@
 -- A job that holds or waits does not end: it ends by an End, or by force, and then it holds nothing and waits for nothing.
-use Rattle.std.proofs.Common.{◌≡◌, ℕ, ◌+◌, ◌≤◌, ◌<◌, Bool, true, false, not, ◌&&◌, ◌⊎◌, inl, inr, eqb-true, [], ◌∷◌, refl, ap, ◌∙◌, arith, leb-true, leb-false}
-use Rattle.std.specs.Prelude.{Option, None, Some, ◌==◌, nat_le, if◌then◌else◌}
+use Rattle.std.proofs.Common.{Bool, [], ap, arith, eqb-true, false, inl, inr, leb-false, leb-true, not, refl, true, ℕ, ◌&&◌, ◌+◌, ◌<◌, ◌∙◌, ◌∷◌, ◌≡◌, ◌≤◌, ◌⊎◌}
+use Rattle.std.specs.Prelude.{None, Option, Some, if◌then◌else◌, nat_le, ◌==◌}
 use Rattle.rt_base.specs.declared.SemNo.{SemNo}
-use Rattle.rt_task.specs.declared.Act.{Act}
 use Rattle.rt_task.specs.declared.Act.TheVariants as acts
-use Rattle.rt_task.specs.declared.Op.{Op}
+use Rattle.rt_task.specs.declared.Act.{Act}
 use Rattle.rt_task.specs.declared.Op.TheVariants as ops
+use Rattle.rt_task.specs.declared.Op.{Op}
+use Rattle.rt_task.specs.declared.Protocol.TheVariants.{Fmlp, Mpcp, Omlp, Pcp}
+use Rattle.rt_task.specs.declared.Protocol.{Protocol}
 use Rattle.rt_history.specs.declared.Reply.TheVariants as replies
 use Rattle.rt_rules.specs.Fmlp.{fmlp_after}
 use Rattle.rt_rules.specs.Mpcp.{mpcp_after}
@@ -13,31 +15,29 @@ use Rattle.rt_rules.specs.Numbers.{has, is, is_empty}
 use Rattle.rt_rules.specs.Omlp.{omlp_after, omlp_sem_state}
 use Rattle.rt_rules.specs.Pcp.{pcp_after, pcp_sem_state}
 use Rattle.rt_rules.specs.SemState.{Asks, Frees, Neither, SemState, in_line}
-use Rattle.rt_model.specs.Answers.{answer, do_answer, op_answer, unless_holding, is_granted}
+use Rattle.rt_model.specs.Answers.{answer, do_answer, is_granted, op_answer, unless_holding}
 use Rattle.rt_model.specs.BaseKeys.{above}
-use Rattle.rt_model.specs.Ceilings.{pcp, at_cluster, above_ceiling}
-use Rattle.rt_model.specs.Group.{Group, task, tasks, sems, protocol, cpus}
-use Rattle.rt_model.specs.Holders.{sem_state, sem_state_by, holder, holds}
-use Rattle.rt_model.specs.Jobs.{used, this_job}
+use Rattle.rt_model.specs.Ceilings.{above_ceiling, at_cluster, pcp}
+use Rattle.rt_model.specs.Group.{Group, cpus, protocol, sems, task, tasks}
+use Rattle.rt_model.specs.Holders.{holder, holds, sem_state, sem_state_by}
+use Rattle.rt_model.specs.Jobs.{this_job, used}
 use Rattle.rt_model.specs.Made.{IsMade, acted}
 use Rattle.rt_model.specs.NonPreemptive.{non_preemptive, np_after}
-use Rattle.rt_model.specs.Outcomes.{is_spent, ended_by, ended, attempt, past_act}
-use Rattle.rt_model.specs.Past.{PastAct, Event, Clock, Acted, Past, accepted, operation, did, is_work, ends_job, sem_act, sem_act_of}
+use Rattle.rt_model.specs.Outcomes.{attempt, ended, ended_by, is_spent, past_act}
+use Rattle.rt_model.specs.Past.{Acted, Clock, Event, Past, PastAct, accepted, did, ends_job, is_work, operation, sem_act, sem_act_of}
 use Rattle.rt_model.specs.Runs.{runs}
-use Rattle.rt_model.specs.Semaphores.{cluster_of, fmlp, omlp, mpcp, at_sem}
-use Rattle.rt_task.specs.declared.Protocol.{Protocol}
-use Rattle.rt_task.specs.declared.Protocol.TheVariants.{Fmlp, Omlp, Pcp, Mpcp}
-use Rattle.rt_rules.proofs.PlacingLaws.{has-filter, equal_self}
+use Rattle.rt_model.specs.Semaphores.{at_sem, cluster_of, fmlp, mpcp, omlp}
+use Rattle.rt_rules.proofs.BoolLaws.{both, clash}
+use Rattle.rt_rules.proofs.MemberLaws.{equal_self, has-filter, is-some, none-empty}
 use Rattle.rt_model.proofs.Steps.{used-step}
-use Rattle.rt_laws.proofs.Rules.{MeetsRules}
-use Rattle.rt_laws.proofs.Small.{clash, both, is-some, none-empty}
-use Rattle.rt_laws.proofs.Requests.{IsAsk, asks}
-use Rattle.rt_laws.proofs.Waiting.{waiting-step}
-use Rattle.rt_laws.proofs.Running.{IsRunning, running, ended-runs}
-use Rattle.rt_laws.proofs.Moves.{IsMove, clock_moves, cpu_acts, by_moves, moved}
 use Rattle.rt_laws.proofs.Asked.{Freed, freed, holds-none}
+use Rattle.rt_laws.proofs.Engaged.{engaged, engaged-cases, engaged-step, holder-stays}
+use Rattle.rt_laws.proofs.Moves.{IsMove, by_moves, clock_moves, cpu_acts, moved}
 use Rattle.rt_laws.proofs.Pcp.{IsPcpKept, pcp_kept}
-use Rattle.rt_laws.proofs.Engaged.{engaged, engaged-step, engaged-cases, holder-stays}
+use Rattle.rt_laws.proofs.Requests.{IsAsk, asks}
+use Rattle.rt_laws.proofs.Rules.{MeetsRules}
+use Rattle.rt_laws.proofs.Running.{IsRunning, ended-runs, running}
+use Rattle.rt_laws.proofs.Waiting.{waiting-step}
 
 -- ---- what a request says of the operation
 

@@ -1,50 +1,31 @@
 -- FMLP: each other user of the semaphore stands before a request at most once.
-use Rattle.std.proofs.Common.{◌≡◌, ℕ, ◌+◌, ◌-◌, ◌≤◌, ◌<◌, Bool, true, false, ◌&&◌, ◌||◌, cond, ◌⊎◌, inl, inr, eqb-true, List, [], ◌∷◌, ◌++◌, length, refl, sym, ap, ◌∙◌, arith, length-append}
-use Rattle.std.specs.Prelude.{Some, ◌==◌, if◌then◌else◌}
+use Rattle.std.proofs.Common.{Bool, List, [], ap, arith, cond, eqb-true, false, inl, inr, length, length-append, refl, sym, true, ℕ, ◌&&◌, ◌++◌, ◌+◌, ◌-◌, ◌<◌, ◌∙◌, ◌∷◌, ◌≡◌, ◌≤◌, ◌⊎◌}
+use Rattle.std.specs.Prelude.{Some, if◌then◌else◌, ◌==◌}
 use Rattle.rt_task.specs.declared.Protocol.TheVariants.{Fmlp}
 use Rattle.rt_rules.specs.Distinct.{IsDistinct}
 use Rattle.rt_rules.specs.Fmlp.{fmlp_after}
-use Rattle.rt_rules.specs.Numbers.{has, is, without, first, rest}
-use Rattle.rt_rules.specs.SemState.{SemAct, Asks, Frees, Neither, SemState, in_line}
+use Rattle.rt_rules.specs.Numbers.{first, has, is, rest}
+use Rattle.rt_rules.specs.SemState.{Asks, Frees, Neither, SemAct, SemState, in_line}
 use Rattle.rt_model.specs.Answers.{is_granted}
-use Rattle.rt_model.specs.Blocking.{asks, frees, newest_request, is_open, ends_all}
-use Rattle.rt_model.specs.Group.{Group, tasks, users, sems, protocol}
-use Rattle.rt_model.specs.Holders.{sem_state, sem_state_by, holder, awaits}
+use Rattle.rt_model.specs.Blocking.{asks, ends_all, frees, is_open, newest_request}
+use Rattle.rt_model.specs.Group.{Group, protocol, sems, tasks, users}
+use Rattle.rt_model.specs.Holders.{awaits, holder, sem_state, sem_state_by}
 use Rattle.rt_model.specs.Made.{IsMade}
-use Rattle.rt_model.specs.Past.{Event, Clock, Acted, Past, sem_act, entries_in, is_act}
+use Rattle.rt_model.specs.Past.{Acted, Clock, Event, Past, entries_in, is_act, sem_act}
 use Rattle.rt_model.specs.Semaphores.{at_sem, fmlp}
-use Rattle.rt_rules.proofs.PlacingLaws.{equal_self, distinct-filter, length-beside}
+use Rattle.rt_rules.proofs.BoolLaws.{both, clash, unless}
+use Rattle.rt_rules.proofs.DistinctLaws.{length-distinct}
+use Rattle.rt_rules.proofs.FmlpLaws.{IsLine, line-after, ahead, ahead-append, ahead-last, ahead-rest}
+use Rattle.rt_rules.proofs.MemberLaws.{equal_self, has-rest, has-split, is-some, without-first}
 use Rattle.rt_rules.proofs.NumberLaws.{distinct-numbers_from}
-use Rattle.rt_laws.proofs.Rules.{MeetsRules}
-use Rattle.rt_laws.proofs.Small.{unless, clash, both, neither, is-some, has-appended, has-one, has-rest, has-split, has-without, without-first}
-use Rattle.rt_laws.proofs.Waiting.{waiting-step, awaits-waits}
+use Rattle.rt_rules.proofs.PlacingLaws.{distinct-filter}
+use Rattle.rt_laws.proofs.AtSem.{at_sem-asks}
+use Rattle.rt_laws.proofs.Asked.{Asked, IsAsked, asked, asks_empty, holds-none}
 use Rattle.rt_laws.proofs.Moves.{by_moves}
-use Rattle.rt_laws.proofs.Asked.{IsAsked, Asked, asked, holds-none, asks_empty}
 use Rattle.rt_laws.proofs.Next.{IsNext, next}
-use Rattle.rt_laws.proofs.OneWait.{WaitsOnce, waits_once, awaits-is}
-
--- ---- lists in which each number stands once
-
-pub distinct-append : (u : ℕ) (xs : List ℕ) → IsDistinct xs → has u xs ≡ false → IsDistinct (xs ++ u ∷ [])
-distinct-append u [] d h = (refl, tt)
-distinct-append u (x ∷ xs) d h =
-    let n = neither (u == x) (has u xs) h in
-    (unless _ (λ k. split (has-appended x xs (u ∷ []) k) n.0), distinct-append u xs d.1 n.1)
-  where
-    split : (has x xs ≡ true) ⊎ (has x (u ∷ []) ≡ true) → u == x ≡ false → ⊥
-    split (inl k) e = clash _ k d.0
-    split (inr k) e = let same : x ≡ u = has-one x u k in let m : u == u ≡ false = rw same at e in clash _ (equal_self u) m
-
-pub distinct-without : (u : ℕ) (xs : List ℕ) → IsDistinct xs → IsDistinct (without u xs)
-distinct-without u [] d = tt
-distinct-without u (x ∷ xs) d = by_case (u == x) (distinct-without u xs d.1)
-  where
-    by_case : (b : Bool) → IsDistinct (without u xs) → IsDistinct (cond b xs (x ∷ without u xs))
-    by_case true r = d.1
-    by_case false r = (unless _ (λ k. clash _ (has-without x u xs k) d.0), r)
-
-pub length-distinct : (us ts : List ℕ) → IsDistinct us → IsDistinct ts → ((t : ℕ) → has t us ≡ true → has t ts ≡ true) → length us ≤ length ts
-length-distinct us ts du dt inside = omega (arith, length-beside us ts du dt inside)
+use Rattle.rt_laws.proofs.OneWait.{WaitsOnce, awaits-is, waits_once}
+use Rattle.rt_laws.proofs.Rules.{MeetsRules}
+use Rattle.rt_laws.proofs.Waiting.{awaits-waits, waiting-step}
 
 pub distinct-tasks : (g : Group) → IsDistinct (tasks g)
 unfolding tasks
@@ -54,62 +35,7 @@ pub distinct-users : (g : Group) (s : ℕ) → IsDistinct (users g s)
 unfolding users
 distinct-users g s = distinct-filter _ (tasks g) (distinct-tasks g)
 
--- ---- how many stand before a task
-
-abbrev pub ahead : ℕ → List ℕ → ℕ
-ahead t [] = 0
-ahead t (x ∷ xs) = if t == x then 0 else ahead t xs + 1
-
-pub ahead-append : (t : ℕ) (xs ys : List ℕ) → has t xs ≡ true → ahead t (xs ++ ys) ≡ ahead t xs
-ahead-append t [] ys h = cc
-ahead-append t (x ∷ xs) ys h = by_case (t == x) h (ahead-append t xs ys)
-  where
-    by_case : (b : Bool) → b || has t xs ≡ true → (has t xs ≡ true → ahead t (xs ++ ys) ≡ ahead t xs) → (if b then 0 else ahead t (xs ++ ys) + 1) ≡ (if b then 0 else ahead t xs + 1)
-    by_case true k r = refl
-    by_case false k r = rw (r k)
-
-pub ahead-last : (t : ℕ) (xs : List ℕ) → has t xs ≡ false → ahead t (xs ++ t ∷ []) ≡ length xs
-ahead-last t [] h = rw (equal_self t)
-ahead-last t (x ∷ xs) h = let n = neither (t == x) (has t xs) h in rw (n.0, ahead-last t xs n.1) (omega arith)
-
-pub ahead-rest : (t : ℕ) (xs : List ℕ) → IsDistinct xs → has t (rest xs) ≡ true → ahead t xs ≡ ahead t (rest xs) + 1
-ahead-rest t [] d h = cc
-ahead-rest t (x ∷ xs) d h = by_case (t == x) refl
-  where
-    by_case : (b : Bool) → t == x ≡ b → (if b then 0 else ahead t xs + 1) ≡ ahead t xs + 1
-    by_case true e = let same : t ≡ x = eqb-true t x e in let k : has x xs ≡ true = rw same at h in absurd (clash _ k d.0)
-    by_case false e = refl
-
 -- ---- the line of a semaphore
-
-pub record IsLine (g : Group) (s : ℕ) (line : List ℕ) : Type 0 where
-  pub once : IsDistinct line
-  pub inside : (t : ℕ) → has t line ≡ true → has t (users g s) ≡ true
-
-line-step : (g : Group) (s : ℕ) (x : SemAct) (line : List ℕ) → IsLine g s line → ((t : ℕ) → x ≡ Asks t s → (has t line ≡ false) × (has t (users g s) ≡ true)) → IsLine g s (fmlp_after (at_sem s x) line)
-line-step g s (Asks u r) line l fresh = by_case (s == r) refl
-  where
-    joined : s ≡ r → IsLine g s (line ++ u ∷ [])
-    joined e =
-        let f = fresh u (ap {B = SemAct} (λ n. Asks u n) (sym e)) in
-        record {
-          once = distinct-append u line l.once f.0;
-          inside = λ t h. split t f.1 (has-appended t line (u ∷ []) h);
-        }
-      where
-        split : (t : ℕ) → has u (users g s) ≡ true → (has t line ≡ true) ⊎ (has t (u ∷ []) ≡ true) → has t (users g s) ≡ true
-        split t there (inl k) = l.inside t k
-        split t there (inr k) = rw (has-one t u k) there
-
-    by_case : (b : Bool) → s == r ≡ b → IsLine g s (fmlp_after (cond b (Asks u r) Neither) line)
-    by_case true e = joined (eqb-true s r e)
-    by_case false e = l
-line-step g s (Frees u r) line l fresh = by_case (s == r)
-  where
-    by_case : (b : Bool) → IsLine g s (fmlp_after (cond b (Frees u r) Neither) line)
-    by_case true = record { once = distinct-without u line l.once; inside = λ t h. l.inside t (has-without t u line h) }
-    by_case false = l
-line-step g s Neither line l fresh = l
 
 pub fmlp-sem_state : (g : Group) (s : ℕ) (past : Past) → protocol g s ≡ Fmlp → ((sem_state g s past).waiting ≡ rest (fmlp g s past)) × (holder g s past ≡ first (fmlp g s past))
 unfolding sem_state sem_state_by holder
@@ -132,13 +58,13 @@ fmlp-fresh g s t past p a = unless _ (λ h. split (has-split t (fmlp g s past) h
     split (inl k) = clash _ k (rw facts.1 at empty_handed)
     split (inr k) = clash _ k (rw facts.0 at (a.waits_none s a.known))
 
-fmlp-line-step : (g : Group) (s : ℕ) (e : Event) (past : Past) → protocol g s ≡ Fmlp → Asked g e past → IsLine g s (fmlp g s past) → IsLine g s (fmlp g s (e ∷ past))
+fmlp-line-step : (g : Group) (s : ℕ) (e : Event) (past : Past) → protocol g s ≡ Fmlp → Asked g e past → IsLine (users g s) (fmlp g s past) → IsLine (users g s) (fmlp g s (e ∷ past))
 unfolding fmlp
-fmlp-line-step g s e past p asks l = line-step g s (sem_act e) (fmlp g s past) l (λ t h. (fmlp-fresh g s t past p (asks t s h), (asks t s h).user))
+fmlp-line-step g s e past p asks l = line-after (users g s) (at_sem s (sem_act e)) (fmlp g s past) (λ t r h. let a : IsAsked g t s past = asks t s (at_sem-asks s t r (sem_act e) h) in (fmlp-fresh g s t past p a, a.user)) l
 
-pub fmlp-line : (g : Group) → MeetsRules g → (s : ℕ) → protocol g s ≡ Fmlp → {past : Past} → IsMade g past → IsLine g s (fmlp g s past)
+pub fmlp-line : (g : Group) → MeetsRules g → (s : ℕ) → protocol g s ≡ Fmlp → {past : Past} → IsMade g past → IsLine (users g s) (fmlp g s past)
 unfolding fmlp
-fmlp-line g rules s p made = by_moves g (λ past. IsLine g s (fmlp g s past)) (record { once = tt; inside = λ t h. cc }) (λ past e made move before. fmlp-line-step g s e past p (asked g rules made move) before) made
+fmlp-line g rules s p made = by_moves g (λ past. IsLine (users g s) (fmlp g s past)) (record { once = tt; inside = λ t h. cc }) (λ past e made move before. fmlp-line-step g s e past p (asked g rules made move) before) made
 
 -- ---- a request goes by its entry's number
 
@@ -238,7 +164,7 @@ ahead-stays t s (Asks u r) line h f = by_case (s == r)
 ahead-stays t s (Frees u r) line h f = rw f
 ahead-stays t s Neither line h f = refl
 
-counted-step : (g : Group) → MeetsRules g → (r t s : ℕ) → protocol g s ≡ Fmlp → (e : Event) (past : Past) → WaitsOnce g past → IsNext g e past → IsLine g s (fmlp g s past) → IsCounted g r t s past → IsCounted g r t s (e ∷ past)
+counted-step : (g : Group) → MeetsRules g → (r t s : ℕ) → protocol g s ≡ Fmlp → (e : Event) (past : Past) → WaitsOnce g past → IsNext g e past → IsLine (users g s) (fmlp g s past) → IsCounted g r t s past → IsCounted g r t s (e ∷ past)
 counted-step g rules r t s p e past once next line before = record { so_far = so_far cases; still = λ h. still cases (open-before g rules r t s e past once next h) }
   where
     cases : ((frees s (sem_act e) ≡ true) × (is_open g r t s past ≡ true) × (ends_all g r t s (e ∷ past) ≡ ends_all g r t s past + 1)) ⊎ ((frees s (sem_act e) ≡ false) ⊎ (is_open g r t s past ≡ false)) × (ends_all g r t s (e ∷ past) ≡ ends_all g r t s past)
@@ -265,7 +191,7 @@ counted-step g rules r t s p e past once next line before = record { so_far = so
         let fresh : has t (fmlp g s past) ≡ false = fmlp-fresh g s t past p asked in
         let longer : fmlp g s (e ∷ past) ≡ fmlp g s past ++ t ∷ [] = fmlp-step g s e past ∙ rw (a, equal_self s) in
         let last : ahead t (fmlp g s (e ∷ past)) ≡ length (fmlp g s past) = rw longer (ahead-last t (fmlp g s past) fresh) in
-        let joined : IsLine g s (fmlp g s (e ∷ past)) = fmlp-line-step g s e past p next.asked line in
+        let joined : IsLine (users g s) (fmlp g s (e ∷ past)) = fmlp-line-step g s e past p next.asked line in
         let fits : length (fmlp g s (e ∷ past)) ≤ length (users g s) = length-distinct _ _ joined.once (distinct-users g s) joined.inside in
         let size : length (fmlp g s (e ∷ past)) ≡ length (fmlp g s past) + 1 = rw longer (length-append (fmlp g s past) (t ∷ [])) in
         let zero_so_far : ends_all g r t s past ≡ 0 = none-ended g r t s past (omega (arith, same)) in

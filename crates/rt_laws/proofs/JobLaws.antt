@@ -1,20 +1,19 @@
 -- While a task's job does not end, its release and its base key stay, and what exists goes on existing.
-use Rattle.std.proofs.Common.{◌≡◌, ℕ, zero, suc, ◌≤◌, max, Bool, true, false, ◌&&◌, ◌||◌, cond, ◌⊎◌, inl, inr, List, [], ◌∷◌, ◌++◌, refl, sym, ◌∙◌, arith, leb-true, le-leb, ltb-false, le-ltb}
-use Rattle.std.specs.Prelude.{Option, None, Some, slice_get, nat_lt, if◌then◌else◌}
-use Rattle.rt_task.specs.declared.Kind.{Kind}
+use Rattle.std.proofs.Common.{Bool, List, [], arith, cond, false, inl, inr, le-leb, le-ltb, leb-true, ltb-false, max, refl, suc, sym, true, zero, ℕ, ◌&&◌, ◌++◌, ◌||◌, ◌∙◌, ◌∷◌, ◌≡◌, ◌≤◌, ◌⊎◌}
+use Rattle.std.specs.Prelude.{None, Option, Some, if◌then◌else◌, nat_lt, slice_get}
 use Rattle.rt_task.specs.declared.Kind.TheVariants.{Periodic, Sporadic}
-use Rattle.rt_task.specs.declared.PluginKind.{PluginKind}
+use Rattle.rt_task.specs.declared.Kind.{Kind}
 use Rattle.rt_task.specs.declared.PluginKind.TheVariants as plugins
-use Rattle.rt_model.specs.BaseKeys.{key_by, base_key}
+use Rattle.rt_task.specs.declared.PluginKind.{PluginKind}
+use Rattle.rt_model.specs.BaseKeys.{base_key, key_by}
 use Rattle.rt_model.specs.Group.{Group, task}
 use Rattle.rt_model.specs.Jobs.{done}
-use Rattle.rt_model.specs.Past.{Event, Clock, Acted, Past, now, did, ends_job, accepted}
-use Rattle.rt_model.specs.Releases.{arrivals, arrives, release_by, release, has_come, is_released, opens_early, exists, deadline}
-use Rattle.rt_model.specs.Sleep.{wakes, sleeps, sleep_end}
+use Rattle.rt_model.specs.Past.{Acted, Clock, Event, Past, accepted, did, ends_job, now}
+use Rattle.rt_model.specs.Releases.{arrivals, arrives, deadline, exists, has_come, is_released, opens_early, release, release_by}
+use Rattle.rt_model.specs.Sleep.{sleep_end, sleeps, wakes}
+use Rattle.rt_rules.proofs.BoolLaws.{both, either, or_true}
 use Rattle.rt_model.proofs.Steps.{done-step}
-use Rattle.rt_rules.proofs.PlacingLaws.{either, or_true}
 use Rattle.rt_laws.proofs.Rules.{MeetsRules}
-use Rattle.rt_laws.proofs.Small.{both}
 
 pub now-grows : (e : Event) (past : Past) → now past ≤ now (e ∷ past)
 now-grows (Clock tick) past = omega arith

@@ -1,23 +1,23 @@
 -- A task that is linked was eligible, and is one of its processor's cluster.
-use Rattle.std.proofs.Common.{◌≡◌, ℕ, zero, suc, ◌+◌, ◌-◌, ◌≤◌, ◌<◌, Bool, true, false, ◌||◌, cond, eqb-true, List, [], ◌∷◌, length, map, refl, sym, ◌∙◌, arith, ltb-false}
-use Rattle.std.specs.Prelude.{Option, ◌==◌, nat_lt, filter}
-use Rattle.std.proofs.lemmas.Bool.Decides.{nat_tests}
+use Rattle.std.proofs.Common.{Bool, List, [], arith, cond, eqb-true, false, length, ltb-false, map, refl, suc, sym, true, ℕ, ◌-◌, ◌<◌, ◌∙◌, ◌∷◌, ◌≡◌, ◌≤◌}
+use Rattle.std.specs.Prelude.{filter, nat_lt, ◌==◌}
 use Rattle.rt_task.specs.declared.Cluster.{Cluster}
 use Rattle.rt_rules.specs.Keys.{Ranked, sorted}
-use Rattle.rt_rules.specs.Numbers.{has, is, numbers_from}
-use Rattle.rt_rules.specs.Placing.{tasks_in, at_place}
+use Rattle.rt_rules.specs.Numbers.{has, is}
+use Rattle.rt_rules.specs.Placing.{tasks_in}
 use Rattle.rt_model.specs.EffectiveKeys.{effective_key}
-use Rattle.rt_model.specs.Group.{Group, cpus, home, tasks, tasks_of, processors, cluster_with, first_cpu, first_in, cluster_in}
-use Rattle.rt_model.specs.Links.{links, linked}
+use Rattle.rt_model.specs.Group.{Group, cluster_in, cluster_with, cpus, first_cpu, first_in, home, processors, tasks, tasks_of}
+use Rattle.rt_model.specs.Links.{linked, links}
 use Rattle.rt_model.specs.Made.{IsMade}
 use Rattle.rt_model.specs.Past.{Past}
 use Rattle.rt_model.specs.Tops.{eligible, ranking, top}
-use Rattle.rt_rules.proofs.PlacingLaws.{has-filter, equal_self}
-use Rattle.rt_rules.proofs.LinkLaws.{has-at_place}
-use Rattle.rt_rules.proofs.RankedLaws.{has-take, has-sorted, tasks_ranked}
+use Rattle.rt_rules.proofs.BoolLaws.{both}
+use Rattle.rt_rules.proofs.LinkLaws.{at_place-inside, has-at_place}
+use Rattle.rt_rules.proofs.MemberLaws.{equal_self, has-filter}
+use Rattle.rt_rules.proofs.NumberLaws.{numbers_from-has}
+use Rattle.rt_rules.proofs.RankedLaws.{has-sorted, has-take, tasks_ranked}
+use Rattle.rt_model.proofs.PastLaws.{length-links, links-top, processor-home, single}
 use Rattle.rt_model.proofs.TopLaws.{tasks-ranked}
-use Rattle.rt_model.proofs.PastLaws.{single, links-top, length-links, processor-home}
-use Rattle.rt_laws.proofs.Small.{both}
 
 pub top-eligible : (g : Group) (c t : ℕ) (past : Past) → has t (top g c past) ≡ true → (has t (tasks_of g c) ≡ true) × (eligible g t past ≡ true)
 unfolding top ranking
@@ -36,11 +36,6 @@ pub home-tasks_of : (g : Group) (t : ℕ) → has t (tasks g) ≡ true → has t
 unfolding tasks_of
 home-tasks_of g t h = rw (has-filter (λ u. home g u == home g t) t (tasks g), h, equal_self (home g t))
 
-at_place-inside : (t : ℕ) (ls : List (Option ℕ)) (k : ℕ) → is t (at_place ls k) ≡ true → k < length ls
-at_place-inside t [] k h = cc
-at_place-inside t (l ∷ ls) zero h = omega arith
-at_place-inside t (l ∷ ls) (suc k) h = omega (arith, at_place-inside t ls k h)
-
 first_in-le : (ks : List Cluster) (q : ℕ) → first_in ks (cluster_in ks q) ≤ q
 first_in-le [] q = omega arith
 first_in-le (k ∷ ks) q = by_case (nat_lt q k.cpus) refl (first_in-le ks (q - k.cpus))
@@ -48,14 +43,6 @@ first_in-le (k ∷ ks) q = by_case (nat_lt q k.cpus) refl (first_in-le ks (q - k
     by_case : (b : Bool) → nat_lt q k.cpus ≡ b → first_in ks (cluster_in ks (q - k.cpus)) ≤ q - k.cpus → first_in (k ∷ ks) (cond b 0 (suc (cluster_in ks (q - k.cpus)))) ≤ q
     by_case true e h = omega arith
     by_case false e h = omega (arith, ltb-false q k.cpus e, h)
-
-pub numbers_from-has : (a n q : ℕ) → a ≤ q → q < a + n → has q (numbers_from a n) ≡ true
-numbers_from-has a zero q h k = absurd (omega arith)
-numbers_from-has a (suc n) q h k = by_case (q == a) refl (numbers_from-has (suc a) n q)
-  where
-    by_case : (b : Bool) → q == a ≡ b → (suc a ≤ q → q < suc a + n → has q (numbers_from (suc a) n) ≡ true) → b || has q (numbers_from (suc a) n) ≡ true
-    by_case true e r = refl
-    by_case false e r = r (grind (arith, nat_tests, e)) (omega arith)
 
 pub record IsLinked (g : Group) (q t : ℕ) (past : Past) : Type 0 where
   pub at_home : cluster_with g q ≡ home g t

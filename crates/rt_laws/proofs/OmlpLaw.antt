@@ -1,37 +1,41 @@
 -- OMLP: at most m blocked ends in the priority queue, and at most m - 1 more in the FIFO list.
-use Rattle.std.proofs.Common.{◌≡◌, ℕ, ◌+◌, ◌-◌, ◌*◌, ◌≤◌, ◌<◌, Bool, true, false, ◌&&◌, ◌||◌, ◌⊎◌, inl, inr, eqb-true, List, [], ◌∷◌, ◌++◌, length, refl, sym, ap, ◌∙◌, subst, arith, length-append, append_assoc, append-nil, le-ltb}
-use Rattle.std.specs.Prelude.{Option, None, Some, ◌==◌, nat_lt, is_some, if◌then◌else◌, filter, count_by}
-use Rattle.std.proofs.lemmas.List.Sums.{length-filter}
+use Rattle.std.proofs.Common.{Bool, List, [], ap, append-nil, append_assoc, arith, eqb-true, false, inl, inr, le-ltb, length, length-append, refl, subst, sym, true, ℕ, ◌&&◌, ◌*◌, ◌++◌, ◌+◌, ◌-◌, ◌<◌, ◌||◌, ◌∙◌, ◌∷◌, ◌≡◌, ◌≤◌, ◌⊎◌}
 use Rattle.std.proofs.lemmas.Bool.Decides.{nat_tests}
+use Rattle.std.proofs.lemmas.List.Sums.{length-filter}
+use Rattle.std.specs.Prelude.{None, Option, Some, count_by, filter, if◌then◌else◌, is_some, nat_lt, ◌==◌}
+use Rattle.rt_task.specs.RuleWords.{is_of_one_cluster, stands_under}
 use Rattle.rt_task.specs.declared.Protocol.TheVariants.{Omlp}
-use Rattle.rt_rules.specs.Distinct.{IsDistinct}
 use Rattle.rt_order.specs.KeyOrder.{higher}
-use Rattle.rt_rules.specs.Numbers.{has, is, without, rest, foremost}
-use Rattle.rt_rules.specs.Omlp.{OmlpState, omlp_after, handed_over}
-use Rattle.rt_rules.specs.SemState.{SemAct, Asks, Frees, Neither}
-use Rattle.rt_model.specs.BaseKeys.{base_key, above}
-use Rattle.rt_model.specs.Blocking.{frees, is_blocked, is_open, newest_request, ends}
-use Rattle.rt_model.specs.Group.{Group, cpus, home, sems, tasks_of, protocol}
+use Rattle.rt_rules.specs.Distinct.{IsDistinct}
+use Rattle.rt_rules.specs.Numbers.{foremost, has, is, rest, without}
+use Rattle.rt_rules.specs.Omlp.{OmlpState, handed_over, omlp_after}
+use Rattle.rt_rules.specs.SemState.{Asks, Frees, Neither, SemAct}
+use Rattle.rt_model.specs.BaseKeys.{above, base_key}
+use Rattle.rt_model.specs.Blocking.{ends, frees, is_blocked, is_open, newest_request}
+use Rattle.rt_model.specs.Group.{Group, cpus, home, protocol, sems, tasks_of}
 use Rattle.rt_model.specs.Holders.{awaits}
 use Rattle.rt_model.specs.Made.{IsMade}
-use Rattle.rt_model.specs.Past.{Event, Past, sem_act, entries_in}
+use Rattle.rt_model.specs.Past.{Event, Past, entries_in, sem_act}
 use Rattle.rt_model.specs.Releases.{exists}
 use Rattle.rt_model.specs.Semaphores.{at_sem, cluster_of, omlp}
-use Rattle.rt_rules.proofs.PlacingLaws.{or_true, equal_self, has-filter, distinct-filter}
+use Rattle.rt_rules.proofs.BoolLaws.{both, clash, or_true, unless}
+use Rattle.rt_rules.proofs.DistinctLaws.{length-distinct, without-gone}
+use Rattle.rt_rules.proofs.FmlpLaws.{ahead, ahead-append, ahead-last, ahead-rest}
+use Rattle.rt_rules.proofs.KeyLaws.{foremost-none, foremost-some}
+use Rattle.rt_rules.proofs.MemberLaws.{equal_self, has-append, has-appended, has-filter, has-one, has-rest, has-without, length-one_more}
+use Rattle.rt_rules.proofs.OmlpLaws.{IsQueued}
+use Rattle.rt_rules.proofs.PlacingLaws.{distinct-filter}
 use Rattle.rt_model.proofs.TopLaws.{distinct-tasks_of}
-use Rattle.rt_laws.proofs.Rules.{MeetsRules}
-use Rattle.rt_task.specs.RuleWords.{stands_under, is_of_one_cluster}
-use Rattle.rt_laws.proofs.Small.{unless, clash, both, has-append, has-appended, has-one, has-rest, has-without}
-use Rattle.rt_laws.proofs.Waiting.{has_room, user-task}
+use Rattle.rt_laws.proofs.Active.{AllActive, all_active, engaged-key}
+use Rattle.rt_laws.proofs.Engaged.{engaged, engaged_by}
+use Rattle.rt_laws.proofs.FmlpLaw.{entries-grow, newest-below, open-before, open-waits}
 use Rattle.rt_laws.proofs.Linked.{home-tasks_of}
-use Rattle.rt_laws.proofs.KeyLaws.{foremost-none, foremost-some}
 use Rattle.rt_laws.proofs.Moves.{by_moves, moved}
 use Rattle.rt_laws.proofs.Next.{IsNext, next}
+use Rattle.rt_laws.proofs.OmlpState.{above-order, omlp-fresh, omlp-sem_state, queued, user-home}
 use Rattle.rt_laws.proofs.OneWait.{WaitsOnce, waits_once}
-use Rattle.rt_laws.proofs.FmlpLaw.{ahead, ahead-append, ahead-last, ahead-rest, open-waits, open-before, newest-below, entries-grow, length-distinct}
-use Rattle.rt_laws.proofs.Engaged.{engaged, engaged_by}
-use Rattle.rt_laws.proofs.Active.{AllActive, all_active, engaged-key}
-use Rattle.rt_laws.proofs.OmlpState.{IsQueued, queued, without-gone, above-order, omlp-sem_state, omlp-fresh, user-home, length-one_more}
+use Rattle.rt_laws.proofs.Rules.{MeetsRules}
+use Rattle.rt_laws.proofs.Waiting.{has_room, user-task}
 
 pub ends-none : (g : Group) (r t s : ℕ) (past : Past) → entries_in past ≤ r → ends g r t s past ≡ 0
 unfolding ends is_open
@@ -320,7 +324,7 @@ module _ (g : Group) (rules : MeetsRules g) (r t s : ℕ) (p : protocol g s ≡ 
       by_next None none = record { so_far = far; in_fifo = λ o' w. stands (rw fifo_is at w); in_queue = λ o' w. let k : has t (omlp g s past).queue ≡ true = rw queue_is at w in absurd (clash _ k (rw empty)) }
         where
           empty : (omlp g s past).queue ≡ []
-          empty = foremost-none (above g past) (above-order g past a) (omlp g s past).queue none
+          empty = foremost-none (above g past) (above-order g past Omlp a) (omlp g s past).queue none
 
           state_is : omlp g s (e ∷ past) ≡ record (omlp g s past) { fifo = rest (omlp g s past).fifo }
           state_is = next_is ∙ rw none

@@ -1,18 +1,18 @@
 -- A task waits for at most one semaphore.
-use Rattle.std.proofs.Common.{◌≡◌, ℕ, true, false, ◌⊎◌, inl, inr, ◌∷◌, refl, ap}
-use Rattle.std.specs.Prelude.{Option, None, Some}
+use Rattle.std.proofs.Common.{ap, false, inl, inr, refl, true, ℕ, ◌∷◌, ◌≡◌, ◌⊎◌}
+use Rattle.std.specs.Prelude.{None, Option, Some}
 use Rattle.rt_rules.specs.Numbers.{has}
 use Rattle.rt_rules.specs.SemState.{Asks}
 use Rattle.rt_model.specs.Answers.{is_granted}
-use Rattle.rt_model.specs.Group.{Group, sems, protocol}
-use Rattle.rt_model.specs.Holders.{sem_state, awaits}
+use Rattle.rt_model.specs.Group.{Group, protocol, sems}
+use Rattle.rt_model.specs.Holders.{awaits, sem_state}
 use Rattle.rt_model.specs.Made.{IsMade}
 use Rattle.rt_model.specs.Past.{Event, Past, sem_act}
-use Rattle.rt_laws.proofs.Rules.{MeetsRules}
-use Rattle.rt_laws.proofs.Small.{clash}
-use Rattle.rt_laws.proofs.Waiting.{waiting-step, nobody-waits, waits-none, awaits-waits}
-use Rattle.rt_laws.proofs.Moves.{by_moves}
+use Rattle.rt_rules.proofs.BoolLaws.{clash}
 use Rattle.rt_laws.proofs.Asked.{Asked, asked}
+use Rattle.rt_laws.proofs.Moves.{by_moves}
+use Rattle.rt_laws.proofs.Rules.{MeetsRules}
+use Rattle.rt_laws.proofs.Waiting.{awaits-waits, nobody-waits, waiting-step, waits-none}
 
 abbrev pub WaitsOnce : Group → Past → Type 0
 WaitsOnce g past = (t s r : ℕ) → has s (sems g) ≡ true → has r (sems g) ≡ true → has t (sem_state g s past).waiting ≡ true → has t (sem_state g r past).waiting ≡ true → s ≡ r

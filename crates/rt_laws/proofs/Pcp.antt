@@ -1,83 +1,27 @@
 -- PCP: the two kept facts over every past, and that no semaphore has two holders.
-use Rattle.std.proofs.Common.{◌≡◌, ℕ, Bool, true, false, ◌&&◌, ◌||◌, cond, ◌⊎◌, inl, inr, eqb-true, List, [], ◌∷◌, ◌++◌, refl, sym, ◌∙◌}
-use Rattle.std.specs.Prelude.{Option, None, Some, ◌==◌, if◌then◌else◌}
-use Rattle.rt_rules.specs.Numbers.{has, is, first}
-use Rattle.rt_rules.specs.Pcp.{PcpState, TaskSem, pcp_after, of_sem, without_pair, granted, tested, passes, in_order}
-use Rattle.rt_rules.specs.SemState.{SemAct, Asks, Frees, Neither}
-use Rattle.rt_model.specs.BaseKeys.{base_key, above}
-use Rattle.rt_model.specs.Ceilings.{above_ceiling, ceiling, lowest_key, at_cluster, is_pcp, pcp}
-use Rattle.rt_model.specs.Group.{Group, home, users, protocol}
+use Rattle.std.proofs.Common.{List, [], false, inl, inr, refl, sym, true, ℕ, ◌∙◌, ◌∷◌, ◌≡◌, ◌⊎◌}
+use Rattle.std.specs.Prelude.{None, Option, Some}
+use Rattle.rt_rules.specs.Numbers.{first, has, is}
+use Rattle.rt_rules.specs.Pcp.{PcpState, of_sem, passes, pcp_after}
+use Rattle.rt_rules.specs.SemState.{Asks, SemAct}
+use Rattle.rt_model.specs.BaseKeys.{above, base_key}
+use Rattle.rt_model.specs.Ceilings.{above_ceiling, at_cluster, ceiling, is_pcp, lowest_key, pcp}
+use Rattle.rt_model.specs.Group.{Group, home, protocol, users}
 use Rattle.rt_model.specs.Made.{IsMade}
 use Rattle.rt_model.specs.Past.{Event, Past, sem_act}
-use Rattle.rt_rules.proofs.PlacingLaws.{either, or_true, equal_self}
-use Rattle.rt_laws.proofs.Rules.{MeetsRules}
-use Rattle.rt_laws.proofs.Small.{clash, both, has-first, some-is}
-use Rattle.rt_laws.proofs.Waits.{has_pair, has_pair-without_pair, has-of_sem, pcp-waits}
-use Rattle.rt_laws.proofs.Waiting.{at_cluster-asks}
-use Rattle.rt_laws.proofs.Moves.{by_moves}
+use Rattle.rt_rules.proofs.KeyLaws.{highest-of}
+use Rattle.rt_rules.proofs.MemberLaws.{equal_self, has-first, some-is}
+use Rattle.rt_rules.proofs.PairLaws.{has-of_sem, has_pair}
+use Rattle.rt_rules.proofs.PcpLaws.{IsStack, one_holder_of, pcp-held, pcp-waits, stack-step}
 use Rattle.rt_laws.proofs.Asked.{Asked, asked}
-use Rattle.rt_laws.proofs.KeyLaws.{highest-of}
-use Rattle.rt_laws.proofs.PcpState.{IsStacked, IsStack, stack-step, passes-above_ceiling, has_pair-in_order}
+use Rattle.rt_laws.proofs.Moves.{by_moves}
+use Rattle.rt_laws.proofs.Rules.{MeetsRules}
+use Rattle.rt_laws.proofs.AtSem.{at_cluster-asks}
 
 -- a user of a semaphore is not over its ceiling
 pub user-not_over : (g : Group) (t s : ℕ) → has t (users g s) ≡ true → above_ceiling g t s ≡ false
 unfolding above_ceiling ceiling
 user-not_over g t s h = highest-of (λ u. base_key g u []) t (users g s) (lowest_key) h
-
--- two tasks that hold one semaphore are one
-pub one_holder_of : (above_ceiling : ℕ → ℕ → Bool) (ps : List TaskSem) → IsStacked above_ceiling ps → (t u s : ℕ) → above_ceiling t s ≡ false → above_ceiling u s ≡ false → has_pair t s ps ≡ true → has_pair u s ps ≡ true → t ≡ u
-one_holder_of above_ceiling [] k t u s nt nu ht hu = cc
-one_holder_of above_ceiling (p ∷ ps) k t u s nt nu ht hu = split (either (t == p.task && s == p.sem) _ ht) (either (u == p.task && s == p.sem) _ hu) (one_holder_of above_ceiling ps k.1 t u s nt nu)
-  where
-    newer : (a b : ℕ) → a ≡ p.task → above_ceiling a s ≡ false → has_pair b s ps ≡ true → a ≡ b
-    newer a b e na hb = by_case (b == a) refl
-      where
-        by_case : (c : Bool) → b == a ≡ c → a ≡ b
-        by_case true m = sym (eqb-true b a m)
-        by_case false m = absurd (clash _ (passes-above_ceiling above_ceiling ps a b s (rw e k.0) hb m) na)
-
-    head_of : (a : ℕ) → a == p.task && s == p.sem ≡ true → a ≡ p.task
-    head_of a m = eqb-true a p.task (both (a == p.task) (s == p.sem) m).0
-
-    split : (t == p.task && s == p.sem ≡ true) ⊎ (has_pair t s ps ≡ true) → (u == p.task && s == p.sem ≡ true) ⊎ (has_pair u s ps ≡ true) → (has_pair t s ps ≡ true → has_pair u s ps ≡ true → t ≡ u) → t ≡ u
-    split (inl m) (inl n) r = head_of t m ∙ sym (head_of u n)
-    split (inl m) (inr n) r = newer t u (head_of t m) nt n
-    split (inr m) (inl n) r = sym (newer u t (head_of u n) nu m)
-    split (inr m) (inr n) r = r m n
-
-tested-held : (above_ceiling : ℕ → ℕ → Bool) (t s : ℕ) (ps : List TaskSem) (l : PcpState) → has_pair t s (tested above_ceiling ps l).held ≡ true → (has_pair t s l.held ≡ true) ⊎ (has_pair t s ps ≡ true)
-tested-held above_ceiling t s [] l h = inl h
-tested-held above_ceiling t s (p ∷ ps) l h = join (tested-held above_ceiling t s ps (if passes above_ceiling l.held p.task then granted p l else l) h)
-  where
-    by_case : (b : Bool) → has_pair t s (cond b (granted p l) l).held ≡ true → (has_pair t s l.held ≡ true) ⊎ ((t == p.task && s == p.sem) || has_pair t s ps ≡ true)
-    by_case true k = split (either (t == p.task && s == p.sem) _ k)
-      where
-        split : (t == p.task && s == p.sem ≡ true) ⊎ (has_pair t s l.held ≡ true) → (has_pair t s l.held ≡ true) ⊎ ((t == p.task && s == p.sem) || has_pair t s ps ≡ true)
-        split (inl m) = inr (rw m)
-        split (inr m) = inl m
-    by_case false k = inl k
-
-    join : (has_pair t s (if passes above_ceiling l.held p.task then granted p l else l).held ≡ true) ⊎ (has_pair t s ps ≡ true) → (has_pair t s l.held ≡ true) ⊎ ((t == p.task && s == p.sem) || has_pair t s ps ≡ true)
-    join (inl k) = by_case (passes above_ceiling l.held p.task) k
-    join (inr k) = inr (rw k (or_true (t == p.task && s == p.sem)))
-
--- what is held after a move was held or waited for before it, or is asked for in it
-pub pcp-held : (above above_ceiling : ℕ → ℕ → Bool) (t s : ℕ) (x : SemAct) (l : PcpState) → has_pair t s (pcp_after above above_ceiling x l).held ≡ true → ((has_pair t s l.held ≡ true) ⊎ (has_pair t s l.waiting ≡ true)) ⊎ (x ≡ Asks t s)
-pcp-held above above_ceiling t s (Asks u r) l h = by_case (passes above_ceiling l.held u) h
-  where
-    by_case : (b : Bool) → has_pair t s (cond b (record l { held = record { task = u; sem = r } ∷ l.held }) (record l { waiting = l.waiting ++ record { task = u; sem = r } ∷ [] })).held ≡ true → ((has_pair t s l.held ≡ true) ⊎ (has_pair t s l.waiting ≡ true)) ⊎ (Asks u r ≡ Asks t s)
-    by_case true k = split (either (t == u && s == r) _ k)
-      where
-        split : (t == u && s == r ≡ true) ⊎ (has_pair t s l.held ≡ true) → ((has_pair t s l.held ≡ true) ⊎ (has_pair t s l.waiting ≡ true)) ⊎ (Asks u r ≡ Asks t s)
-        split (inl m) = let q = both (t == u) (s == r) m in let a : t ≡ u = eqb-true t u q.0 in let b : s ≡ r = eqb-true s r q.1 in inr (rw (a, b))
-        split (inr m) = inl (inl m)
-    by_case false k = inl (inl k)
-pcp-held above above_ceiling t s (Frees u r) l h = split (tested-held above_ceiling t s (in_order above l.waiting) (record l { held = without_pair (record { task = u; sem = r }) l.held }) h)
-  where
-    split : (has_pair t s (without_pair (record { task = u; sem = r }) l.held) ≡ true) ⊎ (has_pair t s (in_order above l.waiting) ≡ true) → ((has_pair t s l.held ≡ true) ⊎ (has_pair t s l.waiting ≡ true)) ⊎ (Frees u r ≡ Asks t s)
-    split (inl m) = inl (inl (has_pair-without_pair t s (record { task = u; sem = r }) l.held m))
-    split (inr m) = inl (inr (rw has_pair-in_order at m))
-pcp-held above above_ceiling t s Neither l h = inl (inl h)
 
 -- a task that holds or waits is a user of the semaphore, and of the cluster
 pub record IsUser (g : Group) (c t s : ℕ) : Type 0 where

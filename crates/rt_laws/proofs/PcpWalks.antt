@@ -1,39 +1,35 @@
 -- Every waiting PCP task of a cluster has the same blocker, the owner of the newest grant, and that one does not wait: each walk is one step long.
-use Rattle.std.proofs.Common.{◌≡◌, ℕ, zero, suc, Bool, true, false, not, ◌&&◌, ◌||◌, cond, ◌⊎◌, inl, inr, eqb-true, List, [], ◌∷◌, map, refl, sym, ap, ◌∙◌, subst, arith}
-use Rattle.std.specs.Prelude.{Option, None, Some, ◌==◌, nat_lt, is_none, filter}
+use Rattle.std.proofs.Common.{Bool, List, [], ap, arith, cond, eqb-true, false, inl, inr, map, not, refl, subst, suc, sym, true, zero, ℕ, ◌&&◌, ◌||◌, ◌∙◌, ◌∷◌, ◌≡◌, ◌⊎◌}
 use Rattle.std.proofs.lemmas.Bool.Decides.{nat_tests}
+use Rattle.std.specs.Prelude.{None, Option, Some, filter, is_none, nat_lt, ◌==◌}
+use Rattle.rt_task.specs.RuleWords.{is_of_one_cluster}
 use Rattle.rt_task.specs.declared.PluginKind.{PluginKind}
+use Rattle.rt_task.specs.declared.Protocol.TheVariants.{Fmlp, Mpcp, Omlp, Pcp}
 use Rattle.rt_task.specs.declared.Protocol.{Protocol}
-use Rattle.rt_task.specs.declared.Protocol.TheVariants.{Fmlp, Omlp, Pcp, Mpcp}
 use Rattle.rt_order.specs.KeyOrder.{higher}
-use Rattle.rt_rules.specs.Numbers.{has, is, first, foremost}
-use Rattle.rt_rules.specs.Pcp.{TaskSem, of_sem, of_others, passes, holder_among}
+use Rattle.rt_rules.specs.Numbers.{first, foremost, has, is}
+use Rattle.rt_rules.specs.Pcp.{TaskSem, holder_among, of_others, of_sem, passes}
 use Rattle.rt_rules.specs.Walks.{walk}
 use Rattle.rt_model.specs.BaseKeys.{base_key}
-use Rattle.rt_model.specs.Blockers.{has_higher_ceiling, blocker_among, blocker}
-use Rattle.rt_model.specs.Ceilings.{above_ceiling, ceiling, pcp, is_pcp}
-use Rattle.rt_model.specs.EffectiveKeys.{next_by, next_at, waits_for}
-use Rattle.rt_model.specs.Group.{Group, home, users, sems, protocol}
-use Rattle.rt_model.specs.Holders.{sem_state, sem_state_by, holder, awaits}
+use Rattle.rt_model.specs.Blockers.{blocker, blocker_among, has_higher_ceiling}
+use Rattle.rt_model.specs.Ceilings.{above_ceiling, ceiling, is_pcp, pcp}
+use Rattle.rt_model.specs.EffectiveKeys.{next_at, next_by, waits_for}
+use Rattle.rt_model.specs.Group.{Group, home, protocol, sems, users}
+use Rattle.rt_model.specs.Holders.{awaits, holder, sem_state, sem_state_by}
 use Rattle.rt_model.specs.Made.{IsMade}
 use Rattle.rt_model.specs.Past.{Past}
 use Rattle.rt_model.specs.Semaphores.{cluster_of}
-use Rattle.rt_rules.proofs.PlacingLaws.{either, or_true, equal_self}
-use Rattle.rt_laws.proofs.Rules.{MeetsRules}
-use Rattle.rt_task.specs.RuleWords.{is_of_one_cluster}
-use Rattle.rt_laws.proofs.Small.{unless, clash, both, turned, some-is, has-first}
-use Rattle.rt_laws.proofs.Waits.{has_pair, has-of_sem}
-use Rattle.rt_laws.proofs.Waiting.{user-task, awaits-waits, none-waits}
-use Rattle.rt_laws.proofs.KeyLaws.{IsOrder, higher-self, higher-trans, higher-mixed, higher-below, higher-falls, foremost-none, foremost-some}
-use Rattle.rt_laws.proofs.PcpState.{IsStacked, passes-cons, passes-above_ceiling}
-use Rattle.rt_laws.proofs.Pcp.{IsUser, IsPcpKept, pcp_kept, user-not_over, pcp-first}
-use Rattle.rt_laws.proofs.OmlpState.{user-home}
-use Rattle.rt_laws.proofs.Unmixed.{unmixed}
+use Rattle.rt_rules.proofs.BoolLaws.{both, clash, either, or_true, unless}
+use Rattle.rt_rules.proofs.KeyLaws.{IsOrder, foremost-none, foremost-some, higher-below, higher-falls, higher-mixed, higher-self, higher-trans}
+use Rattle.rt_rules.proofs.MemberLaws.{equal_self, has-first, some-is, turned}
+use Rattle.rt_rules.proofs.PairLaws.{has-of_sem, has_pair, has_pair-others, sem-there}
+use Rattle.rt_rules.proofs.PcpLaws.{IsStacked, newest-other, passes-above_ceiling}
 use Rattle.rt_laws.proofs.Busy.{held-somewhere}
-
--- who does not pass is not the owner of the newest grant
-pub newest-other : (above_ceiling : ℕ → ℕ → Bool) (p : TaskSem) (ps : List TaskSem) (t : ℕ) → IsStacked above_ceiling (p ∷ ps) → passes above_ceiling (p ∷ ps) t ≡ false → p.task == t ≡ false
-newest-other above_ceiling p ps t k h = unless _ (λ e. let same : p.task ≡ t = eqb-true p.task t e in let pass : passes above_ceiling ps t ≡ true = subst (λ n. passes above_ceiling ps n ≡ true) same k.0 in let m : passes above_ceiling (p ∷ ps) t ≡ true = rw (passes-cons above_ceiling p ps t, e, pass) in clash _ m h)
+use Rattle.rt_laws.proofs.OmlpState.{user-home}
+use Rattle.rt_laws.proofs.Pcp.{IsPcpKept, IsUser, pcp-first, pcp_kept, user-not_over}
+use Rattle.rt_laws.proofs.Rules.{MeetsRules}
+use Rattle.rt_laws.proofs.Unmixed.{unmixed}
+use Rattle.rt_laws.proofs.Waiting.{awaits-waits, none-waits, user-task}
 
 higher-order : (g : Group) → IsOrder (has_higher_ceiling g)
 unfolding has_higher_ceiling
@@ -59,30 +55,6 @@ higher-order g = record {
     trans i j k x y z (inl a) (inr b) = rw (higher-below i j k a (flat _ (both _ _ b).0))
     trans i j k x y z (inr a) (inl b) = rw (higher-mixed j i k (flat _ (both _ _ a).0) b)
     trans i j k x y z (inr a) (inr b) = rw (higher-falls i j k (flat _ (both (not (higher j i)) (nat_lt x y) a).0) (flat _ (both (not (higher k j)) (nat_lt y z) b).0), less x y z (both (not (higher j i)) (nat_lt x y) a).1 (both (not (higher k j)) (nat_lt y z) b).1) (or_true (higher i k))
-
-has_pair-others : (t u s : ℕ) (ps : List TaskSem) → has_pair u s (of_others t ps) ≡ true → has_pair u s ps ≡ true
-has_pair-others t u s [] h = h
-has_pair-others t u s (p ∷ ps) h = by_case (p.task == t) h (has_pair-others t u s ps)
-  where
-    by_case : (b : Bool) → has_pair u s (cond (not b) (p ∷ of_others t ps) (of_others t ps)) ≡ true → (has_pair u s (of_others t ps) ≡ true → has_pair u s ps ≡ true) → (u == p.task && s == p.sem) || has_pair u s ps ≡ true
-    by_case true k r = rw (r k) (or_true (u == p.task && s == p.sem))
-    by_case false k r = split (either (u == p.task && s == p.sem) _ k)
-      where
-        split : (u == p.task && s == p.sem ≡ true) ⊎ (has_pair u s (of_others t ps) ≡ true) → (u == p.task && s == p.sem) || has_pair u s ps ≡ true
-        split (inl m) = rw m
-        split (inr m) = rw (r m) (or_true (u == p.task && s == p.sem))
-
-sem-there : (r : ℕ) (ps : List TaskSem) → has r (map (λ (p : TaskSem). p.sem) ps) ≡ true → is_none (first (of_sem r ps)) ≡ false
-sem-there r [] h = cc
-sem-there r (p ∷ ps) h = by_case (p.sem == r) (turned r p.sem) h (sem-there r ps)
-  where
-    by_case : (b : Bool) → r == p.sem ≡ b → r == p.sem || has r (map (λ (q : TaskSem). q.sem) ps) ≡ true → (has r (map (λ (q : TaskSem). q.sem) ps) ≡ true → is_none (first (of_sem r ps)) ≡ false) → is_none (first (map (λ (q : TaskSem). q.task) (cond b (p ∷ filter (λ q. q.sem == r) ps) (filter (λ q. q.sem == r) ps)))) ≡ false
-    by_case true e k rec = refl
-    by_case false e k rec = rec (right (r == p.sem) _ k e)
-      where
-        right : (a b : Bool) → a || b ≡ true → a ≡ false → b ≡ true
-        right true b m n = cc
-        right false b m n = m
 
 -- the blocker is the owner of the newest grant
 newest-blocks : (g : Group) (t : ℕ) (p : TaskSem) (ps : List TaskSem) → IsStacked (above_ceiling g) (p ∷ ps) → has p.task (users g p.sem) ≡ true → passes (above_ceiling g) (p ∷ ps) t ≡ false → blocker_among g (of_others t (p ∷ ps)) ≡ Some p.task

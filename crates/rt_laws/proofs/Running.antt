@@ -1,36 +1,36 @@
 -- What runs has a job that neither sleeps nor waits.
-use Rattle.std.proofs.Common.{◌≡◌, ℕ, Bool, true, false, not, ◌&&◌, ◌||◌, ◌⊎◌, inl, inr, eqb-true, ◌∷◌, refl, sym, subst}
-use Rattle.std.specs.Prelude.{Option, None, Some, ◌==◌, is_some, is_none, if◌then◌else◌}
-use Rattle.rt_task.specs.declared.Act.{Act}
+use Rattle.std.proofs.Common.{Bool, eqb-true, false, inl, inr, not, refl, subst, sym, true, ℕ, ◌&&◌, ◌||◌, ◌∷◌, ◌≡◌, ◌⊎◌}
+use Rattle.std.specs.Prelude.{None, Option, Some, if◌then◌else◌, is_none, is_some, ◌==◌}
 use Rattle.rt_task.specs.declared.Act.TheVariants as acts
-use Rattle.rt_task.specs.declared.Op.{Op}
+use Rattle.rt_task.specs.declared.Act.{Act}
 use Rattle.rt_task.specs.declared.Op.TheVariants as ops
-use Rattle.rt_history.specs.declared.Reply.{Reply}
+use Rattle.rt_task.specs.declared.Op.{Op}
 use Rattle.rt_history.specs.declared.Reply.TheVariants as replies
+use Rattle.rt_history.specs.declared.Reply.{Reply}
 use Rattle.rt_rules.specs.Numbers.{has, is}
 use Rattle.rt_rules.specs.SemState.{Asks}
 use Rattle.rt_model.specs.Answers.{answer, is_granted}
-use Rattle.rt_model.specs.Group.{Group, home, protocol, sems, tasks, processors, cluster_with}
-use Rattle.rt_model.specs.Holders.{sem_state, awaits}
+use Rattle.rt_model.specs.Group.{Group, cluster_with, home, processors, protocol, sems, tasks}
+use Rattle.rt_model.specs.Holders.{awaits, sem_state}
 use Rattle.rt_model.specs.Links.{runs_of}
 use Rattle.rt_model.specs.Made.{IsMade}
 use Rattle.rt_model.specs.Outcomes.{attempt, ended, ended_by, past_act}
-use Rattle.rt_model.specs.Past.{PastAct, Event, Clock, Acted, Past, now, accepted, operation, did, ends_job, sem_act}
+use Rattle.rt_model.specs.Past.{Acted, Clock, Event, Past, PastAct, accepted, did, ends_job, now, operation, sem_act}
 use Rattle.rt_model.specs.Releases.{exists, ready}
-use Rattle.rt_model.specs.Runs.{runs, runs_after, runs_by, leaves}
-use Rattle.rt_model.specs.Sleep.{sleeps, sleep_end}
+use Rattle.rt_model.specs.Runs.{leaves, runs, runs_after, runs_by}
+use Rattle.rt_model.specs.Sleep.{sleep_end, sleeps}
 use Rattle.rt_model.specs.Tops.{eligible, is_served}
-use Rattle.rt_model.proofs.AnswerLaws.{to_run, answer-runs_link}
-use Rattle.rt_model.proofs.PastLaws.{single, one_processor, processor-home}
-use Rattle.rt_model.proofs.Steps.{runs-acted, past_act-cpu}
-use Rattle.rt_rules.proofs.PlacingLaws.{equal_self}
-use Rattle.rt_laws.proofs.Rules.{MeetsRules}
-use Rattle.rt_laws.proofs.Small.{unless, clash, both, is-some, some-is, not_true, neither}
-use Rattle.rt_laws.proofs.Requests.{IsAsk, asks}
-use Rattle.rt_laws.proofs.JobLaws.{exists-keeps, awake-keeps}
-use Rattle.rt_laws.proofs.Waiting.{waiting-step, waits-none}
-use Rattle.rt_laws.proofs.Moves.{IsMove, clock_moves, cpu_acts, by_moves}
+use Rattle.rt_rules.proofs.BoolLaws.{both, clash, neither, not_true, unless}
+use Rattle.rt_rules.proofs.MemberLaws.{equal_self, is-some, some-is}
+use Rattle.rt_model.proofs.AnswerLaws.{answer-runs_link, to_run}
+use Rattle.rt_model.proofs.PastLaws.{one_processor, processor-home, single}
+use Rattle.rt_model.proofs.Steps.{past_act-cpu, runs-acted}
+use Rattle.rt_laws.proofs.JobLaws.{awake-keeps, exists-keeps}
 use Rattle.rt_laws.proofs.Linked.{IsLinked, linked-eligible}
+use Rattle.rt_laws.proofs.Moves.{IsMove, by_moves, clock_moves, cpu_acts}
+use Rattle.rt_laws.proofs.Requests.{IsAsk, asks}
+use Rattle.rt_laws.proofs.Rules.{MeetsRules}
+use Rattle.rt_laws.proofs.Waiting.{waiting-step, waits-none}
 
 pub record IsRunning (g : Group) (q t : ℕ) (past : Past) : Type 0 where
   pub at_home : cluster_with g q ≡ home g t

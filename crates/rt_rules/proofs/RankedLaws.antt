@@ -1,11 +1,11 @@
 -- A list in the order of its keys has the same tasks, each once.
-use Rattle.std.proofs.Common.{◌≡◌, ℕ, zero, suc, ◌≤◌, Bool, true, false, ◌||◌, cond, ◌⊎◌, inl, inr, eqb-true, List, [], ◌∷◌, length, map, take, refl, ap, ◌∙◌, arith}
-use Rattle.std.specs.Prelude.{◌==◌, filter}
+use Rattle.std.proofs.Common.{Bool, List, [], ap, arith, cond, false, inl, inr, map, refl, suc, take, true, zero, ℕ, ◌||◌, ◌∙◌, ◌∷◌, ◌≡◌, ◌⊎◌}
 use Rattle.std.proofs.lemmas.Bool.Decides.{nat_tests}
+use Rattle.std.specs.Prelude.{◌==◌}
 use Rattle.rt_rules.specs.Distinct.{IsDistinct}
-use Rattle.rt_rules.specs.Numbers.{has}
 use Rattle.rt_rules.specs.Keys.{Ranked, ahead, inserted, sorted}
-use Rattle.rt_rules.proofs.PlacingLaws.{either, or_true, or_middle, unless}
+use Rattle.rt_rules.specs.Numbers.{has}
+use Rattle.rt_rules.proofs.BoolLaws.{either, or_middle, or_true, unless}
 
 abbrev pub tasks_ranked : List Ranked → List ℕ
 tasks_ranked rs = map (λ (r : Ranked). r.task) rs

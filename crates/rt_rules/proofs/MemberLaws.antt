@@ -1,36 +1,26 @@
--- Small facts on tests and lists of numbers.
-use Rattle.std.proofs.Common.{◌≡◌, ℕ, Bool, true, false, not, ◌&&◌, ◌||◌, cond, ◌⊎◌, inl, inr, eqb-true, List, [], ◌∷◌, ◌++◌, refl, sym, ap, ◌∙◌, arith}
-use Rattle.std.specs.Prelude.{Option, None, Some, ◌==◌, find}
-use Rattle.std.specs.List.{list_all}
+-- Members of lists of numbers, and numbers that may be missing.
+use Rattle.std.proofs.Common.{Bool, List, [], ap, arith, cond, eqb-true, false, inl, inr, length, length-append, map, refl, suc, sym, true, ℕ, ◌&&◌, ◌++◌, ◌+◌, ◌||◌, ◌∙◌, ◌∷◌, ◌≡◌, ◌⊎◌}
 use Rattle.std.proofs.lemmas.Bool.Decides.{nat_tests}
-use Rattle.rt_rules.specs.Numbers.{has, is, is_empty, without, first, rest}
-use Rattle.rt_rules.proofs.PlacingLaws.{either, or_true, equal_self}
+use Rattle.std.specs.List.{list_all, list_any}
+use Rattle.std.specs.Prelude.{None, Option, Some, filter, find, ◌==◌}
+use Rattle.rt_rules.specs.Numbers.{first, has, is, is_empty, rest, without}
+use Rattle.rt_rules.proofs.BoolLaws.{both, either, neither, or_true}
 
-pub unless : (b : Bool) → (b ≡ true → ⊥) → b ≡ false
-unless true h = absurd (h refl)
-unless false h = refl
+pub equal_self : (u : ℕ) → u == u ≡ true
+equal_self u = grind (arith, nat_tests)
 
-pub both : (a b : Bool) → a && b ≡ true → (a ≡ true) × (b ≡ true)
-both true b h = (refl, h)
-both false b h = cc
-
-pub clash : (b : Bool) → b ≡ true → b ≡ false → ⊥
-clash b h k = cc
-
-pub not_true : (b : Bool) → not b ≡ true → b ≡ false
-not_true true h = cc
-not_true false h = refl
-
-pub not_false : (b : Bool) → not b ≡ false → b ≡ true
-not_false true h = refl
-not_false false h = cc
-
-pub neither : (a b : Bool) → a || b ≡ false → (a ≡ false) × (b ≡ false)
-neither true b h = cc
-neither false b h = (refl, h)
+pub has-filter : (p : ℕ → Bool) (x : ℕ) (xs : List ℕ) → has x (filter p xs) ≡ has x xs && p x
+has-filter p x [] = refl
+has-filter p x (y ∷ ys) = by_case (p y) refl (has-filter p x ys)
+  where
+    by_case : (b : Bool) → p y ≡ b → has x (filter p ys) ≡ has x ys && p x → has x (cond b (y ∷ filter p ys) (filter p ys)) ≡ (x == y || has x ys) && p x
+    by_case true e h = grind (arith, nat_tests, h)
+    by_case false e h = grind (arith, nat_tests, h)
 
 pub turned : (m n : ℕ) → m == n ≡ n == m
 turned m n = grind (arith, nat_tests)
+
+-- ---- a number that may be missing
 
 pub is-some : (t : ℕ) (o : Option ℕ) → is t o ≡ true → o ≡ Some t
 is-some t None h = cc
@@ -42,6 +32,8 @@ some-is t o h = rw (h, equal_self t)
 pub is_one : (t u : ℕ) (o : Option ℕ) → is t o ≡ true → is u o ≡ true → t ≡ u
 is_one t u None h k = cc
 is_one t u (Some v) h k = eqb-true t v h ∙ sym (eqb-true u v k)
+
+-- ---- members
 
 pub has-append : (t : ℕ) (xs ys : List ℕ) → has t (xs ++ ys) ≡ has t xs || has t ys
 has-append t [] ys = refl
@@ -108,6 +100,8 @@ pub none-empty : (xs : List ℕ) → ((t : ℕ) → has t xs ≡ true → ⊥) �
 none-empty [] h = refl
 none-empty (x ∷ xs) h = absurd (h x (rw (equal_self x)))
 
+-- ---- tests on members
+
 pub find-none : (p : ℕ → Bool) (xs : List ℕ) (x : ℕ) → find p xs ≡ None → has x xs ≡ true → p x ≡ false
 find-none p [] x e h = cc
 find-none p (y ∷ ys) x e h = by_case (p y) refl e (either _ _ h) (find-none p ys x)
@@ -136,3 +130,34 @@ list_all-has p (y ∷ ys) x a h = let q = both (p y) (list_all p ys) a in join (
     join : (x == y ≡ true) ⊎ (has x ys ≡ true) → p y ≡ true → (has x ys ≡ true → p x ≡ true) → p x ≡ true
     join (inl m) k r = rw (eqb-true x y m) k
     join (inr m) k r = r m
+
+pub has-all : (p : ℕ → Bool) (xs : List ℕ) → ((x : ℕ) → has x xs ≡ true → p x ≡ true) → list_all p xs ≡ true
+has-all p [] h = refl
+has-all p (x ∷ xs) h = rw (h x (rw (equal_self x))) (has-all p xs (λ y k. h y (rw k (or_true (y == x)))))
+
+pub any-none : (p : ℕ → Bool) (xs : List ℕ) (x : ℕ) → list_any p xs ≡ false → has x xs ≡ true → p x ≡ false
+any-none p [] x a h = cc
+any-none p (y ∷ ys) x a h = let q = neither (p y) (list_any p ys) a in split (either (x == y) _ h) q.0 (any-none p ys x q.1)
+  where
+    split : (x == y ≡ true) ⊎ (has x ys ≡ true) → p y ≡ false → (has x ys ≡ true → p x ≡ false) → p x ≡ false
+    split (inl m) k r = rw (eqb-true x y m) k
+    split (inr m) k r = r m
+
+pub first-append : (t : ℕ) (xs ys : List ℕ) → is t (first xs) ≡ true → is t (first (xs ++ ys)) ≡ true
+first-append t [] ys h = cc
+first-append t (x ∷ xs) ys h = h
+
+pub length-one_more : (xs : List ℕ) (v : ℕ) → length (xs ++ v ∷ []) ≡ length xs + 1
+length-one_more xs v = length-append xs (v ∷ [])
+
+pub map-back : (f : ℕ → ℕ) (xs : List ℕ) (z : ℕ) → has z (map f xs) ≡ true → (x : ℕ) × (has x xs ≡ true) × (z ≡ f x)
+map-back f [] z h = cc
+map-back f (x ∷ xs) z h = split (either (z == f x) _ h) (map-back f xs z)
+  where
+    split : (z == f x ≡ true) ⊎ (has z (map f xs) ≡ true) → (has z (map f xs) ≡ true → (y : ℕ) × (has y xs ≡ true) × (z ≡ f y)) → (y : ℕ) × (has y (x ∷ xs) ≡ true) × (z ≡ f y)
+    split (inl k) r = (x, rw (equal_self x), eqb-true z (f x) k)
+    split (inr k) r = let q = r k in (q.0, rw q.1 (or_true (q.0 == x)), q.2)
+
+pub length-mapped : (f : ℕ → ℕ) (xs : List ℕ) → length (map f xs) ≡ length xs
+length-mapped f [] = refl
+length-mapped f (x ∷ xs) = ap suc (length-mapped f xs)

@@ -1,29 +1,29 @@
 -- The order of keys, the highest of them, and the foremost of a list.
-use Rattle.std.proofs.Common.{◌≡◌, ℕ, Bool, true, false, ◌&&◌, ◌||◌, ◌⊎◌, inl, inr, eqb-true, List, [], ◌∷◌, map, refl, ◌∙◌, arith}
-use Rattle.std.specs.Prelude.{None, Some, ◌==◌, nat_lt, if◌then◌else◌}
-use Rattle.std.specs.List.{list_all}
+use Rattle.std.proofs.Common.{Bool, List, [], arith, eqb-true, false, inl, inr, map, refl, true, ℕ, ◌&&◌, ◌||◌, ◌∙◌, ◌∷◌, ◌≡◌, ◌⊎◌}
 use Rattle.std.proofs.lemmas.Bool.Decides.{nat_tests}
-use Rattle.rt_order.specs.declared.Key.{Key}
+use Rattle.std.specs.List.{list_all}
+use Rattle.std.specs.Prelude.{None, Some, if◌then◌else◌, nat_lt, ◌==◌}
 use Rattle.rt_order.specs.KeyOrder.{higher}
+use Rattle.rt_order.specs.declared.Key.{Key}
 use Rattle.rt_rules.specs.Keys.{highest}
-use Rattle.rt_rules.specs.Numbers.{has, foremost}
-use Rattle.rt_rules.proofs.PlacingLaws.{either, or_true, equal_self}
-use Rattle.rt_laws.proofs.Small.{unless, clash, turned, find-some, find-none, list_all-has}
+use Rattle.rt_rules.specs.Numbers.{foremost, has}
+use Rattle.rt_rules.proofs.BoolLaws.{clash, either, or_true, unless}
+use Rattle.rt_rules.proofs.MemberLaws.{equal_self, find-none, find-some, has-all, list_all-has, turned}
 
-abbrev lex : ℕ → ℕ → ℕ → ℕ → ℕ → ℕ → Bool
+abbrev pub lex : ℕ → ℕ → ℕ → ℕ → ℕ → ℕ → Bool
 lex a b c x y z = nat_lt a x || a == x && (nat_lt b y || b == y && nat_lt c z)
 
-lex-self : (a b c : ℕ) → lex a b c a b c ≡ false
+pub lex-self : (a b c : ℕ) → lex a b c a b c ≡ false
 lex-self a b c = grind (arith, nat_tests)
 
-lex-trans : (a b c x y z u v w : ℕ) → lex a b c x y z ≡ true → lex x y z u v w ≡ true → lex a b c u v w ≡ true
+pub lex-trans : (a b c x y z u v w : ℕ) → lex a b c x y z ≡ true → lex x y z u v w ≡ true → lex a b c u v w ≡ true
 lex-trans a b c x y z u v w h k = grind (arith, nat_tests)
 
 -- a is not above x, but above u: x is above u
-lex-mixed : (a b c x y z u v w : ℕ) → lex a b c x y z ≡ false → lex a b c u v w ≡ true → lex x y z u v w ≡ true
+pub lex-mixed : (a b c x y z u v w : ℕ) → lex a b c x y z ≡ false → lex a b c u v w ≡ true → lex x y z u v w ≡ true
 lex-mixed a b c x y z u v w h k = grind (arith, nat_tests)
 
-lex-total : (a b c x y z : ℕ) → c == z ≡ false → lex a b c x y z ≡ false → lex x y z a b c ≡ true
+pub lex-total : (a b c x y z : ℕ) → c == z ≡ false → lex a b c x y z ≡ false → lex x y z a b c ≡ true
 lex-total a b c x y z h k = grind (arith, nat_tests)
 
 pub higher-self : (k : Key) → higher k k ≡ false
@@ -39,7 +39,7 @@ pub higher-total : (i j : Key) → i.minor == j.minor ≡ false → higher i j �
 higher-total i j h k = lex-total i.band i.major i.minor j.band j.major j.minor h k
 
 -- x is above y, and z is not: x is above z
-lex-below : (a b c x y z u v w : ℕ) → lex a b c x y z ≡ true → lex u v w x y z ≡ false → lex a b c u v w ≡ true
+pub lex-below : (a b c x y z u v w : ℕ) → lex a b c x y z ≡ true → lex u v w x y z ≡ false → lex a b c u v w ≡ true
 lex-below a b c x y z u v w h k = grind (arith, nat_tests)
 
 pub higher-below : (i j k : Key) → higher i j ≡ true → higher k j ≡ false → higher i k ≡ true
@@ -50,7 +50,7 @@ pub higher-falls : (i j k : Key) → higher j i ≡ false → higher k j ≡ fal
 higher-falls i j k h m = unless _ (λ n. clash _ (higher-below k i j n h) m)
 
 -- a key that is not above one is not above the highest of it and others
-highest-above : (k j : Key) (js : List Key) → higher k j ≡ false → higher k (highest j js) ≡ false
+pub highest-above : (k j : Key) (js : List Key) → higher k j ≡ false → higher k (highest j js) ≡ false
 highest-above k j [] h = h
 highest-above k j (i ∷ is) h = highest-above k (if higher i j then i else j) is (by_case (higher i j) refl)
   where
@@ -78,7 +78,7 @@ pub record IsOrder (before : ℕ → ℕ → Bool) : Type 0 where
   pub trans : (x y z : ℕ) → before x y ≡ true → before y z ≡ true → before x z ≡ true
   pub total : (x y : ℕ) → x == y ≡ false → before x y ≡ false → before y x ≡ true
 
-leads-all : (before : ℕ → ℕ → Bool) → IsOrder before → (x : ℕ) (ys : List ℕ) → (b : ℕ) × (has b (x ∷ ys) ≡ true) × ((y : ℕ) → has y (x ∷ ys) ≡ true → b == y || before b y ≡ true)
+pub leads-all : (before : ℕ → ℕ → Bool) → IsOrder before → (x : ℕ) (ys : List ℕ) → (b : ℕ) × (has b (x ∷ ys) ≡ true) × ((y : ℕ) → has y (x ∷ ys) ≡ true → b == y || before b y ≡ true)
 leads-all before order x [] = (x, rw (equal_self x), λ y h. same y h)
   where
     same : (y : ℕ) → has y (x ∷ []) ≡ true → x == y || before x y ≡ true
@@ -151,10 +151,6 @@ leads-all before order x (y ∷ ys) = by_case (before y x) refl (leads-all befor
         all w (inr (inl k)) = rw k (chain r.0 x y top (loses e))
         all w (inr (inr k)) = r.2 w (rw k (or_true (w == x)))
 
-has-all : (p : ℕ → Bool) (xs : List ℕ) → ((x : ℕ) → has x xs ≡ true → p x ≡ true) → list_all p xs ≡ true
-has-all p [] h = refl
-has-all p (x ∷ xs) h = rw (h x (rw (equal_self x))) (has-all p xs (λ y k. h y (rw k (or_true (y == x)))))
-
 -- a list that is not empty has a foremost
 pub foremost-none : (before : ℕ → ℕ → Bool) → IsOrder before → (xs : List ℕ) → foremost before xs ≡ None → xs ≡ []
 foremost-none before order [] h = refl
@@ -165,3 +161,20 @@ foremost-none before order (x ∷ xs) h =
 
 pub foremost-some : (before : ℕ → ℕ → Bool) (xs : List ℕ) (x : ℕ) → foremost before xs ≡ Some x → (has x xs ≡ true) × ((y : ℕ) → has y xs ≡ true → x == y || before x y ≡ true)
 foremost-some before xs x h = let f = find-some (λ w. list_all (λ y. w == y || before w y) xs) xs x h in (f.0, λ y k. list_all-has (λ z. x == z || before x z) xs y f.1 k)
+
+-- the highest key is that of the first or of one of the others
+pub highest-owner : (f : ℕ → Key) (x : ℕ) (us : List ℕ) → (y : ℕ) × ((y ≡ x) ⊎ (has y us ≡ true)) × (highest (f x) (map f us) ≡ f y)
+highest-owner f x [] = (x, inl refl, refl)
+highest-owner f x (v ∷ vs) = by_case (higher (f v) (f x)) (highest-owner f v vs) (highest-owner f x vs)
+  where
+    at_head : (y : ℕ) → (y ≡ v) ⊎ (has y vs ≡ true) → has y (v ∷ vs) ≡ true
+    at_head y (inl e) = rw (e, equal_self v)
+    at_head y (inr h) = rw h (or_true (y == v))
+
+    later : (y : ℕ) → (y ≡ x) ⊎ (has y vs ≡ true) → (y ≡ x) ⊎ (has y (v ∷ vs) ≡ true)
+    later y (inl e) = inl e
+    later y (inr h) = inr (rw h (or_true (y == v)))
+
+    by_case : (b : Bool) → (y : ℕ) × ((y ≡ v) ⊎ (has y vs ≡ true)) × (highest (f v) (map f vs) ≡ f y) → (y : ℕ) × ((y ≡ x) ⊎ (has y vs ≡ true)) × (highest (f x) (map f vs) ≡ f y) → (y : ℕ) × ((y ≡ x) ⊎ (has y (v ∷ vs) ≡ true)) × (highest (if b then f v else f x) (map f vs) ≡ f y)
+    by_case true p q = (p.0, inr (at_head p.0 p.1), p.2)
+    by_case false p q = (q.0, later q.0 q.1, q.2)
