@@ -34,41 +34,23 @@ use Rattle.rt_laws.proofs.Asked.{Freed, freed, holds-none}
 use Rattle.rt_laws.proofs.Engaged.{engaged, engaged-cases, engaged-step, holder-stays}
 use Rattle.rt_laws.proofs.Moves.{IsMove, by_moves, clock_moves, cpu_acts, moved}
 use Rattle.rt_laws.proofs.Pcp.{IsPcpKept, pcp_kept}
-use Rattle.rt_laws.proofs.Requests.{IsAsk, asks}
+use Rattle.rt_laws.proofs.Requests.{IsAsk, asks, IsUnlock, unlock-of}
 use Rattle.rt_laws.proofs.Rules.{MeetsRules}
 use Rattle.rt_laws.proofs.Running.{IsRunning, ended-runs, running}
 use Rattle.rt_laws.proofs.Waiting.{waiting-step}
 
 -- ---- what a request says of the operation
 
-pub frees-did : (t s : ℕ) (e : Event) → sem_act e ≡ Frees t s → did t e ≡ None → ⊥
+-- who frees a semaphore does an operation
+frees-did : (t s : ℕ) (e : Event) → sem_act e ≡ Frees t s → did t e ≡ None → ⊥
 frees-did t s (Clock tick) h k = cc
 frees-did t s (Acted d) h k = by_case (accepted d.reply) h k
   where
-    by_op : (op : Op) (o : Option ℕ) → sem_act_of (acts.Do op) o ≡ Frees t s → (if is t o && true then Some op else None) ≡ None → ⊥
-    by_op (ops.Unlock n) (Some u) m z = let same : u ≡ t = cc in let e : t == u ≡ true = rw (same, equal_self t) in let y : Some (ops.Unlock n) ≡ None = rw e at z in cc
-    by_op (ops.Unlock n) None m z = cc
-    by_op ops.Work None m z = cc
-    by_op (ops.Lock n) None m z = cc
-    by_op (ops.Sleep n) None m z = cc
-    by_op ops.NpOn None m z = cc
-    by_op ops.NpOff None m z = cc
-    by_op ops.End None m z = cc
-    by_op ops.Work (Some u) m z = cc
-    by_op (ops.Lock n) (Some u) m z = cc
-    by_op (ops.Sleep n) (Some u) m z = cc
-    by_op ops.NpOn (Some u) m z = cc
-    by_op ops.NpOff (Some u) m z = cc
-    by_op ops.End (Some u) m z = cc
-
-    by_act : (a : Act) → sem_act_of a d.task ≡ Frees t s → (if is t d.task && true then operation a else None) ≡ None → ⊥
-    by_act acts.Tick m z = cc
-    by_act acts.Irq m z = cc
-    by_act (acts.Arrive u) m z = cc
-    by_act (acts.Do op) m z = by_op op d.task m z
-
     by_case : (b : Bool) → (if b then sem_act_of d.act d.task else Neither) ≡ Frees t s → (if is t d.task && b then operation d.act else None) ≡ None → ⊥
-    by_case true m z = by_act d.act m z
+    by_case true m z =
+        let u : IsUnlock d.act d.task t s = unlock-of d.act d.task t s m in
+        let y : Some (ops.Unlock u.number) ≡ None = rw (u.is_task, u.is_unlock, equal_self t) at z in
+        cc
     by_case false m z = cc
 
 -- ---- what a task holds
@@ -119,18 +101,8 @@ ended-how g q t act past h = by_case (accepted (answer g q act past)) h
 
     by_op : (op : Op) (o : Option ℕ) → is t (ended_by g (acts.Do op) o (attempt g q act past) past) ≡ true → (acts.Do op ≡ acts.Do ops.End) ⊎ (is_spent g t (Acted (attempt g q act past) ∷ past) ≡ true)
     by_op ops.End o k = inl refl
-    by_op ops.Work None k = cc
-    by_op (ops.Lock n) None k = cc
-    by_op (ops.Unlock n) None k = cc
-    by_op (ops.Sleep n) None k = cc
-    by_op ops.NpOn None k = cc
-    by_op ops.NpOff None k = cc
-    by_op ops.Work (Some u) k = inr (by_force u _ refl k)
-    by_op (ops.Lock n) (Some u) k = inr (by_force u _ refl k)
-    by_op (ops.Unlock n) (Some u) k = inr (by_force u _ refl k)
-    by_op (ops.Sleep n) (Some u) k = inr (by_force u _ refl k)
-    by_op ops.NpOn (Some u) k = inr (by_force u _ refl k)
-    by_op ops.NpOff (Some u) k = inr (by_force u _ refl k)
+    by_op op None k = cc
+    by_op op (Some u) k = inr (by_force u _ refl k)
 
     by_act : (a : Act) → is t (ended_by g a (runs q past) (attempt g q act past) past) ≡ true → (a ≡ acts.Do ops.End) ⊎ (is_spent g t (Acted (attempt g q act past) ∷ past) ≡ true)
     by_act acts.Tick k = cc
@@ -156,12 +128,7 @@ own-unspent g q t act op past h k = by_case (accepted (answer g q act past)) ref
 
     by_op : (x : Op) → is t (ended_by g (acts.Do x) (Some t) (made_with None) past) ≡ false → is_spent g t (Acted (made_with (ended_by g (acts.Do x) (Some t) (made_with None) past)) ∷ past) ≡ false
     by_op ops.End m = absurd (clash _ (equal_self t) m)
-    by_op ops.Work m = by_force _ refl m
-    by_op (ops.Lock n) m = by_force _ refl m
-    by_op (ops.Unlock n) m = by_force _ refl m
-    by_op (ops.Sleep n) m = by_force _ refl m
-    by_op ops.NpOn m = by_force _ refl m
-    by_op ops.NpOff m = by_force _ refl m
+    by_op op m = by_force _ refl m
 
     by_act : (a : Act) (o : Option ℕ) → o ≡ Some t → operation a ≡ Some op → is t (ended_by g a o (made_with None) past) ≡ false → is_spent g t (Acted (made_with (ended_by g a o (made_with None) past)) ∷ past) ≡ false
     by_act acts.Tick o e x m = cc

@@ -51,18 +51,8 @@ ended-runs g q t act past h = by_case (accepted (answer g q act past)) h
 
     by_op : (op : Op) (o : Option ℕ) → is t (ended_by g (acts.Do op) o (attempt g q act past) past) ≡ true → o ≡ Some t
     by_op ops.End o k = is-some t o k
-    by_op ops.Work None k = cc
-    by_op (ops.Lock n) None k = cc
-    by_op (ops.Unlock n) None k = cc
-    by_op (ops.Sleep n) None k = cc
-    by_op ops.NpOn None k = cc
-    by_op ops.NpOff None k = cc
-    by_op ops.Work (Some u) k = by_force _ u k
-    by_op (ops.Lock n) (Some u) k = by_force _ u k
-    by_op (ops.Unlock n) (Some u) k = by_force _ u k
-    by_op (ops.Sleep n) (Some u) k = by_force _ u k
-    by_op ops.NpOn (Some u) k = by_force _ u k
-    by_op ops.NpOff (Some u) k = by_force _ u k
+    by_op op None k = cc
+    by_op op (Some u) k = by_force _ u k
 
     by_act : (a : Act) (o : Option ℕ) → is t (ended_by g a o (attempt g q act past) past) ≡ true → o ≡ Some t
     by_act acts.Tick o k = cc
