@@ -49,44 +49,30 @@ use Rattle.rt_laws.proofs.Waiting.{awaits-waits, none-waits, user-task}
 global-omlp : (p : PluginKind) → is_global p ≡ true → stands_under Omlp p ≡ true
 global-omlp plugins.GsnEdf h = refl
 global-omlp plugins.CEdf h = refl
-global-omlp plugins.PsnEdf h = cc
-global-omlp plugins.PFp h = cc
-global-omlp plugins.PRes h = cc
+global-omlp p h = cc
 
 global-protocol : (p : PluginKind) (x : Protocol) → is_global p ≡ true → stands_under x p ≡ true → (is_pcp x ≡ false) × (is_of_one_cluster x p ≡ true)
 global-protocol plugins.GsnEdf Fmlp h k = (refl, refl)
 global-protocol plugins.GsnEdf Omlp h k = (refl, refl)
-global-protocol plugins.GsnEdf Pcp h k = cc
-global-protocol plugins.GsnEdf Mpcp h k = cc
 global-protocol plugins.CEdf Fmlp h k = (refl, refl)
 global-protocol plugins.CEdf Omlp h k = (refl, refl)
-global-protocol plugins.CEdf Pcp h k = cc
-global-protocol plugins.CEdf Mpcp h k = cc
-global-protocol plugins.PsnEdf x h k = cc
-global-protocol plugins.PFp x h k = cc
-global-protocol plugins.PRes x h k = cc
+global-protocol p x h k = cc
 
 global-served : (g : Group) (t : ℕ) (past : Past) (p : PluginKind) → is_global p ≡ true → is_served g p t past ≡ true
 unfolding is_served
 global-served g t past plugins.GsnEdf h = refl
 global-served g t past plugins.CEdf h = refl
-global-served g t past plugins.PsnEdf h = cc
-global-served g t past plugins.PFp h = cc
-global-served g t past plugins.PRes h = cc
+global-served g t past p h = cc
 
 global-boosts : (g : Group) (p : PluginKind) → is_global p ≡ true → boosts_fmlp p ≡ false
 global-boosts g plugins.GsnEdf h = refl
 global-boosts g plugins.CEdf h = refl
-global-boosts g plugins.PsnEdf h = cc
-global-boosts g plugins.PFp h = cc
-global-boosts g plugins.PRes h = cc
+global-boosts g p h = cc
 
 no_mpcp : (p : PluginKind) → is_global p ≡ true → stands_under Mpcp p ≡ false
 no_mpcp plugins.GsnEdf h = refl
 no_mpcp plugins.CEdf h = refl
-no_mpcp plugins.PsnEdf h = cc
-no_mpcp plugins.PFp h = cc
-no_mpcp plugins.PRes h = cc
+no_mpcp p h = cc
 
 global-unboosted : (g : Group) (x : Protocol) (s t : ℕ) (past : Past) → is_global g.setup.plugin ≡ true → stands_under x g.setup.plugin ≡ true → boost_by g x s t past ≡ None
 unfolding boost_by
