@@ -12,13 +12,12 @@ use Rattle.rt_model.specs.Made.{IsMade}
 use Rattle.rt_model.specs.Past.{Event, Past, sem_act}
 use Rattle.rt_model.specs.Releases.{exists}
 use Rattle.rt_model.specs.Sleep.{sleeps}
-use Rattle.rt_rules.proofs.BoolLaws.{clash, not_false, unless}
-use Rattle.rt_rules.proofs.MemberLaws.{empty-none, has-filter}
+use Rattle.rt_rules.proofs.BoolLaws.{not_false}
+use Rattle.rt_laws.proofs.GroupLaws.{task-user}
 use Rattle.rt_laws.proofs.Moves.{IsMove, clock_moves, cpu_acts}
 use Rattle.rt_laws.proofs.Requests.{IsAsk, asks, frees}
 use Rattle.rt_laws.proofs.Rules.{MeetsRules}
 use Rattle.rt_laws.proofs.Running.{IsRunning, running}
-use Rattle.rt_laws.proofs.Waiting.{task-user}
 
 -- a task asks for a semaphore: its job is there, neither sleeps nor waits, and the request does not nest
 pub record IsAsked (g : Group) (t s : ℕ) (past : Past) : Type 0 where
@@ -55,13 +54,6 @@ asked g rules {past} made (cpu_acts q a) t s h =
 pub freed : (g : Group) {past : Past} {e : Event} → IsMove g past e → Freed g e past
 freed g (clock_moves tick) t s h = cc
 freed g {past} (cpu_acts q a) t s h = (frees g q a past t s h).held
-
-pub holds-none : (g : Group) (t s : ℕ) (past : Past) → is_empty (holds g t past) ≡ true → has s (sems g) ≡ true → is t (holder g s past) ≡ false
-unfolding holds
-holds-none g t s past h there = unless _ (λ k. clash (has s (holds g t past)) (found k) (empty-none s (holds g t past) h))
-  where
-    found : is t (holder g s past) ≡ true → has s (holds g t past) ≡ true
-    found k = rw (has-filter (λ r. is t (holder g r past)) s (sems g), there, k)
 
 -- a request that is none for PCP comes from a task that holds nothing
 pub asks_empty : (g : Group) (p : Protocol) (t s : ℕ) (past : Past) → is_pcp p ≡ false → nests g p s t past ≡ false → is_empty (holds g t past) ≡ true

@@ -1,7 +1,7 @@
 -- An act at one semaphore, or of one cluster, is an act.
-use Rattle.std.proofs.Common.{◌≡◌, ℕ, Bool, true, false, ◌&&◌, cond, eqb-true, refl}
+use Rattle.std.proofs.Common.{Bool, cond, eqb-true, false, refl, true, ℕ, ◌&&◌, ◌≡◌}
 use Rattle.std.specs.Prelude.{◌==◌}
-use Rattle.rt_rules.specs.SemState.{SemAct, Asks, Frees, Neither}
+use Rattle.rt_rules.specs.SemState.{Asks, Frees, Neither, SemAct}
 use Rattle.rt_model.specs.Ceilings.{at_cluster, is_pcp}
 use Rattle.rt_model.specs.Group.{Group, home, protocol}
 use Rattle.rt_model.specs.Semaphores.{at_sem}

@@ -10,19 +10,18 @@ use Rattle.rt_model.specs.Ceilings.{above_ceiling, at_cluster, pcp}
 use Rattle.rt_model.specs.Group.{Group, cpus, protocol}
 use Rattle.rt_model.specs.Holders.{holder, sem_state, sem_state_by}
 use Rattle.rt_model.specs.Past.{Event, Past, sem_act}
-use Rattle.rt_model.specs.Semaphores.{cluster_of, fmlp, mpcp, omlp}
+use Rattle.rt_model.specs.Semaphores.{at_sem, cluster_of, fmlp, mpcp, omlp}
 use Rattle.rt_rules.proofs.BoolLaws.{either, or_true}
+use Rattle.rt_rules.proofs.FmlpLaws.{fmlp-holds, fmlp-stands}
 use Rattle.rt_rules.proofs.MemberLaws.{has-append, has-appended, has-first, has-rest, has-split}
+use Rattle.rt_rules.proofs.MpcpLaws.{mpcp-holds, mpcp-stands, stands_at}
+use Rattle.rt_rules.proofs.OmlpLaws.{members, omlp-holds, omlp-stands}
 use Rattle.rt_rules.proofs.PairLaws.{has-of_sem, has_pair}
 use Rattle.rt_rules.proofs.PcpLaws.{pcp-holds, pcp-stands, stands_for}
-use Rattle.rt_laws.proofs.Asked.{Freed}
-use Rattle.rt_laws.proofs.Pcp.{IsPcpKept, first-pcp, pcp-first}
-use Rattle.rt_laws.proofs.AtSem.{at_sem-asks, at_sem-frees, at_cluster-asks, at_cluster-frees}
-use Rattle.rt_model.specs.Semaphores.{at_sem}
 use Rattle.rt_rules.proofs.SemActLaws.{AsksSome, FreesSome}
-use Rattle.rt_rules.proofs.FmlpLaws.{fmlp-stands, fmlp-holds}
-use Rattle.rt_rules.proofs.OmlpLaws.{members, omlp-stands, omlp-holds}
-use Rattle.rt_rules.proofs.MpcpLaws.{stands_at, mpcp-stands, mpcp-holds}
+use Rattle.rt_laws.proofs.Asked.{Freed}
+use Rattle.rt_laws.proofs.AtSem.{at_cluster-asks, at_cluster-frees, at_sem-asks, at_sem-frees}
+use Rattle.rt_laws.proofs.PcpState.{IsPcpKept, first-pcp, pcp-first}
 
 unfoldable pub engaged_by : (g : Group) → Protocol → ℕ → ℕ → Past → Bool
 engaged_by g Fmlp t s past = has t (fmlp g s past)

@@ -32,17 +32,18 @@ use Rattle.rt_rules.proofs.RankingLaws.{cut-off, full-take, keys-map, keys-sorte
 use Rattle.rt_model.proofs.PastLaws.{links-top, processor-home}
 use Rattle.rt_model.proofs.TopLaws.{distinct-top, tasks-ranked}
 use Rattle.rt_laws.specs.HolderIsLinked.{HasLinkedHolder, HolderIsLinked, is_global}
-use Rattle.rt_laws.proofs.Active.{IsActive, all_active}
-use Rattle.rt_laws.proofs.Busy.{held-somewhere}
-use Rattle.rt_laws.proofs.Ends.{one-holds}
+use Rattle.rt_laws.proofs.BaseKeyLaws.{minor-is}
 use Rattle.rt_laws.proofs.Engaged.{holder-engaged, waiting-engaged}
-use Rattle.rt_laws.proofs.Linked.{home-tasks_of, tasks_of-home, top-eligible}
-use Rattle.rt_laws.proofs.OmlpLaw.{not_blocked}
-use Rattle.rt_laws.proofs.OmlpState.{minor-is, user-home}
+use Rattle.rt_laws.proofs.EngagedJobs.{IsActive, all_active}
+use Rattle.rt_laws.proofs.GroupLaws.{home-tasks_of, tasks_of-home, user-home, user-task}
+use Rattle.rt_laws.proofs.HasHolder.{has_holder}
+use Rattle.rt_laws.proofs.Holding.{one-holds}
+use Rattle.rt_laws.proofs.LinkedTasks.{top-eligible}
+use Rattle.rt_laws.proofs.OmlpCount.{not_blocked}
 use Rattle.rt_laws.proofs.Rules.{MeetsRules}
-use Rattle.rt_laws.proofs.Unmixed.{unmixed}
 use Rattle.rt_laws.proofs.ValidSets.{rules_of}
-use Rattle.rt_laws.proofs.Waiting.{awaits-waits, none-waits, user-task}
+use Rattle.rt_laws.proofs.Waiting.{awaits-waits, none-waits}
+use Rattle.rt_laws.proofs.WaitsHolding.{waits_under_pcp}
 
 -- ---- under a global plugin
 
@@ -117,7 +118,7 @@ module _ (g : Group) (rules : MeetsRules g) (past : Past) (made : IsMade g past)
 
   -- one that is followed does not wait
   followed-free : (t u : ℕ) → IsFollower t u → awaits g u past ≡ None
-  followed-free t u f = none-waits g u past (λ r hr. unless _ (λ w. clash _ (unmixed g rules made u f.sem r f.known hr f.held w).0 (sem-facts f.sem f.known).0))
+  followed-free t u f = none-waits g u past (λ r hr. unless _ (λ w. clash _ (waits_under_pcp g rules made u f.sem r f.known hr f.held w).0 (sem-facts f.sem f.known).0))
 
   -- a walk from a waiting task is one step long
   walk-one : (n t u : ℕ) → has u (walk (λ v. waits_for g v past) n (waits_for g t past)) ≡ true → is u (waits_for g t past) ≡ true
@@ -324,5 +325,5 @@ holder_is_linked g past valid made t s global w blocked = by_holder (holder g s 
     waits = awaits-waits g t s past w
 
     by_holder : (o : Option ℕ) → holder g s past ≡ o → HasLinkedHolder g s past
-    by_holder None e = let held : is_none {T = ℕ} None ≡ false = rw e at (held-somewhere g (rules_of g valid) made t s waits.0 (sem-facts g (rules_of g valid) past made global s waits.0).0 waits.1) in cc
+    by_holder None e = let held : is_none {T = ℕ} None ≡ false = rw e at (has_holder g (rules_of g valid) made t s waits.0 (sem-facts g (rules_of g valid) past made global s waits.0).0 waits.1) in cc
     by_holder (Some u) e = record { task = u; holds_it = e; linked = links-top g (home g u) (processor-home g (home g u)) made u ∙ holder-linked g (rules_of g valid) past made global t s u blocked w e }

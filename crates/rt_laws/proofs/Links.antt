@@ -16,7 +16,7 @@ use Rattle.rt_rules.proofs.NumberLaws.{has-numbers_from}
 use Rattle.rt_model.proofs.PastLaws.{IsSingle, links-top, processor-home, single}
 use Rattle.rt_model.proofs.TopLaws.{distinct-top, length-top}
 use Rattle.rt_laws.specs.Links.{LinkedAtHome, LinkedToOne, LinksFit, RunsAtHome, RunsOnOne}
-use Rattle.rt_laws.proofs.Linked.{IsLinked, linked-eligible}
+use Rattle.rt_laws.proofs.LinkedTasks.{IsLinked, linked-eligible}
 use Rattle.rt_laws.proofs.Running.{running, runs_once}
 use Rattle.rt_laws.proofs.ValidSets.{rules_of}
 

@@ -1,10 +1,10 @@
 -- One induction for every law: it holds at the opening, and each move keeps it.
-use Rattle.std.specs.Prelude.{ℕ, [], ◌∷◌}
+use Rattle.std.specs.Prelude.{[], ℕ, ◌∷◌}
 use Rattle.rt_task.specs.declared.Act.{Act}
 use Rattle.rt_model.specs.Group.{Group}
-use Rattle.rt_model.specs.Made.{IsMade, opened, acted, clocked}
+use Rattle.rt_model.specs.Made.{IsMade, acted, clocked, opened}
 use Rattle.rt_model.specs.Outcomes.{past_act}
-use Rattle.rt_model.specs.Past.{Event, Clock, Acted, Past}
+use Rattle.rt_model.specs.Past.{Acted, Clock, Event, Past}
 
 -- the next event of a past: the clock moves, or a processor acts
 pub data IsMove (g : Group) (past : Past) : Event → Type 0 where

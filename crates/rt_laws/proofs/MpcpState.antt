@@ -10,11 +10,12 @@ use Rattle.rt_model.specs.Holders.{holder, sem_state, sem_state_by}
 use Rattle.rt_model.specs.Made.{IsMade}
 use Rattle.rt_model.specs.Past.{Event, Past, sem_act}
 use Rattle.rt_model.specs.Semaphores.{at_sem, mpcp}
-use Rattle.rt_rules.proofs.MpcpLaws.{StandsOnce, mpcp-once, IsBusy, mpcp-busy}
-use Rattle.rt_laws.proofs.Asked.{Asked, IsAsked, asked, asks_empty, holds-none}
+use Rattle.rt_rules.proofs.MpcpLaws.{IsBusy, StandsOnce, mpcp-busy, mpcp-once}
+use Rattle.rt_laws.proofs.Asked.{Asked, IsAsked, asked, asks_empty}
 use Rattle.rt_laws.proofs.AtSem.{at_sem-asks}
+use Rattle.rt_laws.proofs.BaseKeyLaws.{above-order}
+use Rattle.rt_laws.proofs.Holding.{holds-none}
 use Rattle.rt_laws.proofs.Moves.{by_moves}
-use Rattle.rt_laws.proofs.OmlpState.{above-order}
 use Rattle.rt_laws.proofs.Rules.{MeetsRules}
 
 pub mpcp-is : (g : Group) (s : ℕ) (past : Past) → protocol g s ≡ Mpcp → sem_state g s past ≡ mpcp g s past

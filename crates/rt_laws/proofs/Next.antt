@@ -20,11 +20,12 @@ use Rattle.rt_model.specs.Semaphores.{cluster_of}
 use Rattle.rt_model.specs.Sleep.{sleep_end}
 use Rattle.rt_rules.proofs.BoolLaws.{clash, unless}
 use Rattle.rt_rules.proofs.MemberLaws.{is-some}
-use Rattle.rt_laws.proofs.Asked.{Asked, Freed, asked, freed, holds-none}
-use Rattle.rt_laws.proofs.Ends.{ended-free}
+use Rattle.rt_laws.proofs.Asked.{Asked, Freed, asked, freed}
 use Rattle.rt_laws.proofs.Engaged.{engaged, engaged-cases, engaged-step}
+use Rattle.rt_laws.proofs.Holding.{holds-none}
+use Rattle.rt_laws.proofs.JobEnds.{ended-free}
 use Rattle.rt_laws.proofs.Moves.{IsMove, clock_moves, cpu_acts}
-use Rattle.rt_laws.proofs.Pcp.{pcp_kept}
+use Rattle.rt_laws.proofs.PcpState.{pcp_kept}
 use Rattle.rt_laws.proofs.Requests.{asks}
 use Rattle.rt_laws.proofs.Rules.{MeetsRules}
 use Rattle.rt_laws.proofs.Running.{running}

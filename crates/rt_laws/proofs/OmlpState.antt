@@ -1,50 +1,25 @@
 -- OMLP: the FIFO list has at most m members, is full while the priority queue has any, and nobody stands twice.
-use Rattle.std.proofs.Common.{List, [], ap, arith, false, inl, inr, refl, true, ℕ, ◌++◌, ◌∷◌, ◌≡◌, ◌⊎◌}
-use Rattle.std.specs.Prelude.{None, Option, Some, option_map, unwrap_or}
-use Rattle.rt_task.specs.RuleWords.{is_of_one_cluster, stands_under}
-use Rattle.rt_task.specs.declared.PluginKind.TheVariants as plugins
-use Rattle.rt_task.specs.declared.PluginKind.{PluginKind}
-use Rattle.rt_task.specs.declared.Protocol.{Protocol}
-use Rattle.rt_task.specs.declared.Protocol.TheVariants.{Fmlp, Omlp, Pcp, Mpcp}
+use Rattle.std.proofs.Common.{ap, arith, false, inl, inr, true, ℕ, ◌++◌, ◌∷◌, ◌≡◌, ◌⊎◌}
+use Rattle.rt_task.specs.RuleWords.{stands_under}
+use Rattle.rt_task.specs.declared.Protocol.TheVariants.{Omlp}
 use Rattle.rt_rules.specs.Numbers.{first, has, is, rest}
 use Rattle.rt_rules.specs.Omlp.{omlp_sem_state}
-use Rattle.rt_model.specs.BaseKeys.{above, base_key, key_by}
-use Rattle.rt_model.specs.Group.{Group, cpus, home, protocol, users}
+use Rattle.rt_model.specs.BaseKeys.{above}
+use Rattle.rt_model.specs.Group.{Group, cpus, protocol}
 use Rattle.rt_model.specs.Holders.{holder, sem_state, sem_state_by}
 use Rattle.rt_model.specs.Made.{IsMade}
 use Rattle.rt_model.specs.Past.{Event, Past, sem_act}
 use Rattle.rt_model.specs.Semaphores.{at_sem, cluster_of, omlp}
 use Rattle.rt_rules.proofs.BoolLaws.{clash, neither, unless}
-use Rattle.rt_rules.proofs.KeyLaws.{IsOrder, higher-total, higher-trans}
-use Rattle.rt_rules.proofs.MemberLaws.{has-append, has-first, has-split, some-is}
+use Rattle.rt_rules.proofs.MemberLaws.{has-append, has-split}
 use Rattle.rt_rules.proofs.OmlpLaws.{IsQueued, queued-after}
+use Rattle.rt_laws.proofs.Asked.{Asked, IsAsked, asked, asks_empty}
 use Rattle.rt_laws.proofs.AtSem.{at_sem-asks}
-use Rattle.rt_laws.proofs.Asked.{Asked, IsAsked, asked, asks_empty, holds-none}
+use Rattle.rt_laws.proofs.BaseKeyLaws.{above-order}
+use Rattle.rt_laws.proofs.GroupLaws.{has_room}
+use Rattle.rt_laws.proofs.Holding.{holds-none}
 use Rattle.rt_laws.proofs.Moves.{by_moves}
 use Rattle.rt_laws.proofs.Rules.{MeetsRules}
-use Rattle.rt_laws.proofs.Waiting.{has_room}
-
--- under a plugin with semaphores a base key's last part is the task's number
-pub minor-is : (g : Group) (t : ℕ) (past : Past) (x : Protocol) → stands_under x g.setup.plugin ≡ true → (base_key g t past).minor ≡ t
-unfolding base_key key_by
-minor-is g t past x h = by_plugin g.setup.plugin x h
-  where
-    by_plugin : (p : PluginKind) (y : Protocol) → stands_under y p ≡ true → (key_by g p t past).minor ≡ t
-    by_plugin plugins.GsnEdf y k = refl
-    by_plugin plugins.CEdf y k = refl
-    by_plugin plugins.PsnEdf y k = refl
-    by_plugin plugins.PFp y k = refl
-    by_plugin plugins.PRes Fmlp k = cc
-    by_plugin plugins.PRes Omlp k = cc
-    by_plugin plugins.PRes Pcp k = cc
-    by_plugin plugins.PRes Mpcp k = cc
-
-pub above-order : (g : Group) (past : Past) (x : Protocol) → stands_under x g.setup.plugin ≡ true → IsOrder (above g past)
-unfolding above
-above-order g past x h = record {
-  trans = λ t u v k m. higher-trans (base_key g t past) (base_key g u past) (base_key g v past) k m;
-  total = λ t u ne k. higher-total (base_key g t past) (base_key g u past) (rw (minor-is g t past x h, minor-is g u past x h) ne) k;
-}
 
 omlp-is : (g : Group) (s : ℕ) (past : Past) → protocol g s ≡ Omlp → sem_state g s past ≡ omlp_sem_state (omlp g s past)
 unfolding sem_state sem_state_by
@@ -77,16 +52,3 @@ queued-event g rules s p a e past asks k = queued-after (cpus g (cluster_of g s)
 pub queued : (g : Group) → MeetsRules g → (s : ℕ) → protocol g s ≡ Omlp → stands_under Omlp g.setup.plugin ≡ true → {past : Past} → IsMade g past → IsQueued (cpus g (cluster_of g s)) (omlp g s past)
 unfolding omlp
 queued g rules s p a made = by_moves g (λ past. IsQueued (cpus g (cluster_of g s)) (omlp g s past)) (record { fifo_once = tt; queue_once = tt; apart = λ t h. cc; fits = omega arith; full = λ t h. cc }) (λ past e made move before. queued-event g rules s p a e past (asked g rules made move) before) made
-
--- the users of such a semaphore are of its cluster
-pub user-home : (g : Group) → MeetsRules g → (s t : ℕ) → is_of_one_cluster (protocol g s) g.setup.plugin ≡ true → has t (users g s) ≡ true → home g t ≡ cluster_of g s
-unfolding cluster_of
-user-home g rules s t one h = by_case (first (users g s)) refl
-  where
-    not_empty : (xs : List ℕ) → first xs ≡ None → has t xs ≡ true → ⊥
-    not_empty [] e k = cc
-    not_empty (x ∷ xs) e k = cc
-
-    by_case : (o : Option ℕ) → first (users g s) ≡ o → home g t ≡ unwrap_or (option_map (home g) o) 0
-    by_case None e = absurd (not_empty (users g s) e h)
-    by_case (Some u) e = rules.shares s t u one h (has-first u (users g s) (some-is u (first (users g s)) e))

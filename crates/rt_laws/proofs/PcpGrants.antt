@@ -1,49 +1,32 @@
 -- An Unlock grants at most one waiting PCP task: the others are not over the ceiling of what was granted.
 use Rattle.std.proofs.Common.{Bool, [], arith, eqb-true, false, length, refl, subst, sym, true, ℕ, ◌&&◌, ◌∙◌, ◌∷◌, ◌≡◌, ◌≤◌}
 use Rattle.std.specs.Prelude.{if◌then◌else◌, ◌==◌}
-use Rattle.rt_task.specs.declared.Protocol.TheVariants.{Fmlp, Mpcp, Omlp, Pcp}
-use Rattle.rt_task.specs.declared.Protocol.{Protocol}
 use Rattle.rt_rules.specs.Distinct.{IsDistinct}
-use Rattle.rt_rules.specs.Numbers.{has, is}
+use Rattle.rt_rules.specs.Numbers.{has}
 use Rattle.rt_rules.specs.Pcp.{PcpState, TaskSem, in_order, pcp_after, without_pair}
 use Rattle.rt_rules.specs.SemState.{Frees, Neither}
 use Rattle.rt_model.specs.BaseKeys.{above, base_key}
 use Rattle.rt_model.specs.Ceilings.{above_ceiling, at_cluster, ceiling, is_pcp, pcp}
 use Rattle.rt_model.specs.Group.{Group, home, protocol, sems, users}
-use Rattle.rt_model.specs.Holders.{holder, sem_state, sem_state_by}
 use Rattle.rt_model.specs.Made.{IsMade}
 use Rattle.rt_model.specs.Past.{Event, Past, sem_act}
 use Rattle.rt_model.specs.Semaphores.{cluster_of}
 use Rattle.rt_rules.proofs.BoolLaws.{both, clash, unless}
-use Rattle.rt_rules.proofs.KeyLaws.{higher-below, higher-self, higher-trans}
-use Rattle.rt_rules.proofs.PairLaws.{distinct-in_order, has-of_sem, has_pair, has_pair-in_order, length-without_pair, pair-of, tasks_of_pairs}
-use Rattle.rt_rules.proofs.PcpGrantLaws.{IsStrict, falling-in_order, tested-one}
+use Rattle.rt_rules.proofs.KeyLaws.{higher-below}
+use Rattle.rt_rules.proofs.PairLaws.{distinct-in_order, has_pair, has_pair-in_order, length-without_pair, pair-of, tasks_of_pairs}
+use Rattle.rt_rules.proofs.PcpGrantLaws.{falling-in_order, tested-one}
 use Rattle.rt_rules.proofs.PcpLaws.{pcp-once}
 use Rattle.rt_laws.specs.PriorityCeiling.{UnlockGrantsOne}
 use Rattle.rt_laws.proofs.Asked.{Asked, Freed, IsAsked, asked, freed}
+use Rattle.rt_laws.proofs.AtSem.{at_cluster-asks}
+use Rattle.rt_laws.proofs.BaseKeyLaws.{above-strict}
+use Rattle.rt_laws.proofs.GroupLaws.{user-task}
 use Rattle.rt_laws.proofs.Moves.{by_moves, last_move}
-use Rattle.rt_laws.proofs.OmlpState.{user-home}
-use Rattle.rt_laws.proofs.Pcp.{IsPcpKept, IsUser, first-pcp, pcp_kept, user-not_over}
-use Rattle.rt_laws.proofs.PcpWalks.{pcp-shares}
+use Rattle.rt_laws.proofs.PcpState.{pcp-waiting, pcp-holder, sem-home, IsPcpKept, IsUser, first-pcp, pcp_kept, user-not_over}
 use Rattle.rt_laws.proofs.Rules.{MeetsRules}
 use Rattle.rt_laws.proofs.ValidSets.{rules_of}
-use Rattle.rt_laws.proofs.AtSem.{at_cluster-asks}
-use Rattle.rt_laws.proofs.Waiting.{user-task}
 
 -- ---- each waiting task stands once
-
-pcp-sem_state-waiting : (g : Group) (t s : ℕ) (past : Past) → is_pcp (protocol g s) ≡ true → has_pair t s (pcp g (cluster_of g s) past).waiting ≡ true → has t (sem_state g s past).waiting ≡ true
-unfolding sem_state sem_state_by
-pcp-sem_state-waiting g t s past h w = by_protocol (protocol g s) h
-  where
-    by_protocol : (p : Protocol) → is_pcp p ≡ true → has t (sem_state_by g p s past).waiting ≡ true
-    by_protocol Pcp e = rw has-of_sem w
-    by_protocol Fmlp e = cc
-    by_protocol Omlp e = cc
-    by_protocol Mpcp e = cc
-
-sem-home : (g : Group) → MeetsRules g → (c t s : ℕ) → IsUser g c t s → cluster_of g s ≡ c
-sem-home g rules c t s u = sym (user-home g rules s t (pcp-shares g.setup.plugin (protocol g s) u.of_pcp) u.user) ∙ u.at_home
 
 waits_not : (g : Group) → MeetsRules g → {past : Past} → IsMade g past → (c t s : ℕ) → IsAsked g t s past → has t (tasks_of_pairs (pcp g c past).waiting) ≡ false
 waits_not g rules {past} made c t s a = unless _ (λ h. met (pair-of t (pcp g c past).waiting h))
@@ -54,7 +37,7 @@ waits_not g rules {past} made c t s a = unless _ (λ h. met (pair-of t (pcp g c 
         let home_is : cluster_of g q.0 ≡ c = sem-home g rules c t q.0 u in
         let d = user-task g q.0 t u.user in
         let known : has q.0 (sems g) ≡ true = rules.is_known t q.0 d.0 d.1 in
-        clash _ (pcp-sem_state-waiting g t q.0 past u.of_pcp (subst (λ n. has_pair t q.0 (pcp g n past).waiting ≡ true) (sym home_is) q.1)) (a.waits_none q.0 known)
+        clash _ (pcp-waiting g t q.0 past u.of_pcp ∙ subst (λ n. has_pair t q.0 (pcp g n past).waiting ≡ true) (sym home_is) q.1) (a.waits_none q.0 known)
 
 once-event : (g : Group) → MeetsRules g → (c : ℕ) (e : Event) (past : Past) → IsMade g past → Asked g e past → IsDistinct (tasks_of_pairs (pcp g c past).waiting) → IsDistinct (tasks_of_pairs (pcp g c (e ∷ past)).waiting)
 unfolding pcp
@@ -66,27 +49,10 @@ waiting_once g rules c made = by_moves g (λ past. IsDistinct (tasks_of_pairs (p
 
 -- ---- the tries, in falling order
 
-above-strict : (g : Group) (past : Past) → IsStrict (above g past)
-unfolding above
-above-strict g past = record {
-  trans = λ x y z h k. higher-trans (base_key g x past) (base_key g y past) (base_key g z past) h k;
-  self = λ x. higher-self (base_key g x past);
-}
-
 -- a user of the semaphore is not over its ceiling, nor is one that is not above a user
 under-ceiling : (g : Group) (t u s : ℕ) → has u (users g s) ≡ true → above g [] t u ≡ false → above_ceiling g t s ≡ false
 unfolding above above_ceiling
 under-ceiling g t u s h k = unless _ (λ m. clash _ (higher-below (base_key g t []) (ceiling g s) (base_key g u []) m (user-not_over g u s h)) k)
-
-holder-pair : (g : Group) (t s : ℕ) (past : Past) → is_pcp (protocol g s) ≡ true → is t (holder g s past) ≡ true → has_pair t s (pcp g (cluster_of g s) past).held ≡ true
-unfolding holder sem_state sem_state_by
-holder-pair g t s past h k = by_protocol (protocol g s) h k
-  where
-    by_protocol : (p : Protocol) → is_pcp p ≡ true → is t (sem_state_by g p s past).holder ≡ true → has_pair t s (pcp g (cluster_of g s) past).held ≡ true
-    by_protocol Pcp e m = first-pcp t s (pcp g (cluster_of g s) past) m
-    by_protocol Fmlp e m = cc
-    by_protocol Omlp e m = cc
-    by_protocol Mpcp e m = cc
 
 grants-one : (g : Group) → MeetsRules g → (c t s : ℕ) (e : Event) (past : Past) → IsMade g past → Freed g e past → sem_act e ≡ Frees t s → length (pcp g c (e ∷ past)).held ≤ length (pcp g c past).held
 unfolding pcp at_cluster
@@ -112,7 +78,7 @@ grants-one g rules c t s e past made frees h = rw h (by_case (home g t == c && i
             parts = both (home g t == c) (is_pcp (protocol g s)) k
 
             pair : has_pair t s (pcp g (cluster_of g s) past).held ≡ true
-            pair = holder-pair g t s past parts.1 (frees t s h)
+            pair = first-pcp t s (pcp g (cluster_of g s) past) (rw (pcp-holder g s past parts.1) at (frees t s h))
 
 pub unlock_grants_one : UnlockGrantsOne
 unlock_grants_one g e past valid made c t s h =

@@ -2,8 +2,6 @@
 use Rattle.std.proofs.Common.{Bool, List, [], ap, arith, cond, eqb-true, false, inl, inr, map, not, refl, subst, suc, sym, true, zero, ℕ, ◌&&◌, ◌||◌, ◌∙◌, ◌∷◌, ◌≡◌, ◌⊎◌}
 use Rattle.std.proofs.lemmas.Bool.Decides.{nat_tests}
 use Rattle.std.specs.Prelude.{None, Option, Some, filter, is_none, nat_lt, ◌==◌}
-use Rattle.rt_task.specs.RuleWords.{is_of_one_cluster}
-use Rattle.rt_task.specs.declared.PluginKind.{PluginKind}
 use Rattle.rt_task.specs.declared.Protocol.TheVariants.{Fmlp, Mpcp, Omlp, Pcp}
 use Rattle.rt_task.specs.declared.Protocol.{Protocol}
 use Rattle.rt_order.specs.KeyOrder.{higher}
@@ -15,7 +13,7 @@ use Rattle.rt_model.specs.Blockers.{blocker, blocker_among, has_higher_ceiling}
 use Rattle.rt_model.specs.Ceilings.{above_ceiling, ceiling, is_pcp, pcp}
 use Rattle.rt_model.specs.EffectiveKeys.{next_at, next_by, waits_for}
 use Rattle.rt_model.specs.Group.{Group, home, protocol, sems, users}
-use Rattle.rt_model.specs.Holders.{awaits, holder, sem_state, sem_state_by}
+use Rattle.rt_model.specs.Holders.{awaits, holder, sem_state}
 use Rattle.rt_model.specs.Made.{IsMade}
 use Rattle.rt_model.specs.Past.{Past}
 use Rattle.rt_model.specs.Semaphores.{cluster_of}
@@ -24,12 +22,12 @@ use Rattle.rt_rules.proofs.KeyLaws.{IsOrder, foremost-none, foremost-some, highe
 use Rattle.rt_rules.proofs.MemberLaws.{equal_self, has-first, some-is, turned}
 use Rattle.rt_rules.proofs.PairLaws.{has-of_sem, has_pair, has_pair-others, sem-there}
 use Rattle.rt_rules.proofs.PcpLaws.{IsStacked, newest-other, passes-above_ceiling}
-use Rattle.rt_laws.proofs.Busy.{held-somewhere}
-use Rattle.rt_laws.proofs.OmlpState.{user-home}
-use Rattle.rt_laws.proofs.Pcp.{IsPcpKept, IsUser, pcp-first, pcp_kept, user-not_over}
+use Rattle.rt_laws.proofs.GroupLaws.{user-task}
+use Rattle.rt_laws.proofs.HasHolder.{has_holder}
+use Rattle.rt_laws.proofs.PcpState.{pcp-waiting, pcp-holder, sem-home, IsPcpKept, IsUser, pcp-first, pcp_kept, user-not_over}
 use Rattle.rt_laws.proofs.Rules.{MeetsRules}
-use Rattle.rt_laws.proofs.Unmixed.{unmixed}
-use Rattle.rt_laws.proofs.Waiting.{awaits-waits, none-waits, user-task}
+use Rattle.rt_laws.proofs.Waiting.{awaits-waits, none-waits}
+use Rattle.rt_laws.proofs.WaitsHolding.{waits_under_pcp}
 
 higher-order : (g : Group) → IsOrder (has_higher_ceiling g)
 unfolding has_higher_ceiling
@@ -107,32 +105,6 @@ newest-blocks g t p ps k user h = rw others_are (by_case (foremost (has_higher_c
 
 -- ---- walks
 
-sem_state-pcp : (g : Group) (t s : ℕ) (past : Past) → is_pcp (protocol g s) ≡ true → has t (sem_state g s past).waiting ≡ true → has_pair t s (pcp g (cluster_of g s) past).waiting ≡ true
-unfolding sem_state sem_state_by
-sem_state-pcp g t s past h w = by_protocol (protocol g s) h w
-  where
-    by_protocol : (p : Protocol) → is_pcp p ≡ true → has t (sem_state_by g p s past).waiting ≡ true → has_pair t s (pcp g (cluster_of g s) past).waiting ≡ true
-    by_protocol Pcp e k = sym (has-of_sem t s (pcp g (cluster_of g s) past).waiting) ∙ k
-    by_protocol Fmlp e k = cc
-    by_protocol Omlp e k = cc
-    by_protocol Mpcp e k = cc
-
-holder-pcp : (g : Group) (t s : ℕ) (past : Past) → is_pcp (protocol g s) ≡ true → is t (first (of_sem s (pcp g (cluster_of g s) past).held)) ≡ true → is t (holder g s past) ≡ true
-unfolding holder sem_state sem_state_by
-holder-pcp g t s past h w = by_protocol (protocol g s) h
-  where
-    by_protocol : (p : Protocol) → is_pcp p ≡ true → is t (sem_state_by g p s past).holder ≡ true
-    by_protocol Pcp e = w
-    by_protocol Fmlp e = cc
-    by_protocol Omlp e = cc
-    by_protocol Mpcp e = cc
-
-pub pcp-shares : (p : PluginKind) (x : Protocol) → is_pcp x ≡ true → is_of_one_cluster x p ≡ true
-pcp-shares p Pcp h = refl
-pcp-shares p Fmlp h = cc
-pcp-shares p Omlp h = cc
-pcp-shares p Mpcp h = cc
-
 module _ (g : Group) (rules : MeetsRules g) (past : Past) (made : IsMade g past) where
   -- the owner of the newest grant of a cluster does not wait
   newest-free : (c : ℕ) (p : TaskSem) (ps : List TaskSem) → (pcp g c past).held ≡ p ∷ ps → awaits g p.task past ≡ None
@@ -151,30 +123,30 @@ module _ (g : Group) (rules : MeetsRules g) (past : Past) (made : IsMade g past)
       known = let u = user-task g p.sem p.task owner.user in rules.is_known p.task p.sem u.0 u.1
 
       sem_home : cluster_of g p.sem ≡ c
-      sem_home = sym (user-home g rules p.sem p.task (pcp-shares g.setup.plugin (protocol g p.sem) owner.of_pcp) owner.user) ∙ owner.at_home
+      sem_home = sem-home g rules c p.task p.sem owner
 
       holds_it : is p.task (holder g p.sem past) ≡ true
-      holds_it = holder-pcp g p.task p.sem past owner.of_pcp (subst (λ n. is p.task (first (of_sem p.sem (pcp g n past).held)) ≡ true) (sym sem_home) (pcp-first g c p.task p.sem (pcp g c past) kept there))
+      holds_it = rw (pcp-holder g p.sem past owner.of_pcp) (subst (λ n. is p.task (first (of_sem p.sem (pcp g n past).held)) ≡ true) (sym sem_home) (pcp-first g c p.task p.sem (pcp g c past) kept there))
 
       stacked : IsStacked (above_ceiling g) (p ∷ ps)
       stacked = subst (λ l. IsStacked (above_ceiling g) l) e kept.stack.stacked
 
       by_kind : (r : ℕ) → has r (sems g) ≡ true → has p.task (sem_state g r past).waiting ≡ true → (b : Bool) → is_pcp (protocol g r) ≡ b → ⊥
       by_kind r hr w true k =
-          let pair : has_pair p.task r (pcp g (cluster_of g r) past).waiting ≡ true = sem_state-pcp g p.task r past k w in
+          let pair : has_pair p.task r (pcp g (cluster_of g r) past).waiting ≡ true = sym (pcp-waiting g p.task r past k) ∙ w in
           let other : IsUser g (cluster_of g r) p.task r = (pcp_kept g rules (cluster_of g r) made).waiting p.task r pair in
           let same : cluster_of g r ≡ c = sym other.at_home ∙ owner.at_home in
           let stops : passes (above_ceiling g) (pcp g c past).held p.task ≡ false = kept.stack.blocked p.task r (subst (λ n. has_pair p.task r (pcp g n past).waiting ≡ true) same pair) in
           let stops_here : passes (above_ceiling g) (p ∷ ps) p.task ≡ false = subst (λ l. passes (above_ceiling g) l p.task ≡ false) e stops in
           clash _ (equal_self p.task) (newest-other (above_ceiling g) p ps p.task stacked stops_here)
-      by_kind r hr w false k = clash _ (unmixed g rules made p.task p.sem r known hr holds_it w).1 k
+      by_kind r hr w false k = clash _ (waits_under_pcp g rules made p.task p.sem r known hr holds_it w).1 k
 
   -- who waits for a PCP semaphore is of its cluster, and does not pass
   pcp-home : (t s : ℕ) → is_pcp (protocol g s) ≡ true → has t (sem_state g s past).waiting ≡ true → home g t ≡ cluster_of g s
-  pcp-home t s k w = ((pcp_kept g rules (cluster_of g s) made).waiting t s (sem_state-pcp g t s past k w)).at_home
+  pcp-home t s k w = ((pcp_kept g rules (cluster_of g s) made).waiting t s (sym (pcp-waiting g t s past k) ∙ w)).at_home
 
   pub waiting-stops : (t s : ℕ) → is_pcp (protocol g s) ≡ true → has t (sem_state g s past).waiting ≡ true → passes (above_ceiling g) (pcp g (home g t) past).held t ≡ false
-  waiting-stops t s k w = (pcp_kept g rules (home g t) made).stack.blocked t s (subst (λ n. has_pair t s (pcp g n past).waiting ≡ true) (sym (pcp-home t s k w)) (sem_state-pcp g t s past k w))
+  waiting-stops t s k w = (pcp_kept g rules (home g t) made).stack.blocked t s (subst (λ n. has_pair t s (pcp g n past).waiting ≡ true) (sym (pcp-home t s k w)) (sym (pcp-waiting g t s past k) ∙ w))
 
   -- a task that waits for a PCP semaphore is blocked by the owner of the newest grant
   pcp-step : (t s : ℕ) → has s (sems g) ≡ true → is_pcp (protocol g s) ≡ true → has t (sem_state g s past).waiting ≡ true → (u : ℕ) × (blocker g t past ≡ Some u) × (awaits g u past ≡ None)
@@ -218,10 +190,10 @@ module _ (g : Group) (rules : MeetsRules g) (past : Past) (made : IsMade g past)
       next_is = rw a
 
       free : (u : ℕ) → holder g s past ≡ Some u → is_pcp (protocol g s) ≡ false → awaits g u past ≡ None
-      free u h n = none-waits g u past (λ r hr. unless _ (λ v. clash _ (unmixed g rules made u s r w.0 hr (some-is u (holder g s past) h) v).0 n))
+      free u h n = none-waits g u past (λ r hr. unless _ (λ v. clash _ (waits_under_pcp g rules made u s r w.0 hr (some-is u (holder g s past) h) v).0 n))
 
       found : (o : Option ℕ) → holder g s past ≡ o → is_pcp (protocol g s) ≡ false → (u : ℕ) × (waits_for g t past ≡ Some u) × (awaits g u past ≡ None)
-      found None h n = let m : is_none {T = ℕ} None ≡ false = rw h at (held-somewhere g rules made t s w.0 n w.1) in cc
+      found None h n = let m : is_none {T = ℕ} None ≡ false = rw h at (has_holder g rules made t s w.0 n w.1) in cc
       found (Some u) h n = (u, next_is ∙ of_others_kind (protocol g s) n ∙ h, free u h n)
 
       by_kind : (b : Bool) → is_pcp (protocol g s) ≡ b → (u : ℕ) × (waits_for g t past ≡ Some u) × (awaits g u past ≡ None)

@@ -16,14 +16,15 @@ use Rattle.rt_rules.proofs.MemberLaws.{equal_self}
 use Rattle.rt_rules.proofs.PairLaws.{has_pair}
 use Rattle.rt_rules.proofs.PcpLaws.{IsStacked, passes-above_ceiling}
 use Rattle.rt_laws.specs.PriorityCeiling.{LaterIsAboveCeiling, UnlockGrantsOne, WaitingDoesNotPass, WalkEnds, WalksEnd, WalksHaveOneStep, end_of, reached_from}
-use Rattle.rt_laws.proofs.Active.{all_active}
 use Rattle.rt_laws.proofs.Engaged.{waiting-engaged}
-use Rattle.rt_laws.proofs.Pcp.{pcp_kept}
+use Rattle.rt_laws.proofs.EngagedJobs.{all_active}
+use Rattle.rt_laws.proofs.GroupLaws.{user-task}
 use Rattle.rt_laws.proofs.PcpGrants as grants
+use Rattle.rt_laws.proofs.PcpState.{pcp_kept}
 use Rattle.rt_laws.proofs.PcpWalks.{waiting-stops, walk-none, walk-step, walk-stops}
 use Rattle.rt_laws.proofs.Rules.{MeetsRules}
 use Rattle.rt_laws.proofs.ValidSets.{rules_of}
-use Rattle.rt_laws.proofs.Waiting.{awaits-waits, user-task}
+use Rattle.rt_laws.proofs.Waiting.{awaits-waits}
 
 pub waiting_does_not_pass : WaitingDoesNotPass
 waiting_does_not_pass g past valid made t s k w = let a = awaits-waits g t s past w in waiting-stops g (rules_of g valid) past made t s k a.1

@@ -1,15 +1,14 @@
 -- What an act that asks for a semaphore or frees it says of the past before it.
-use Rattle.std.proofs.Common.{◌≡◌, ℕ, Bool, true, false, not, ◌&&◌, refl}
-use Rattle.std.specs.Prelude.{Option, None, Some, if◌then◌else◌}
+use Rattle.std.proofs.Common.{Bool, false, not, refl, true, ℕ, ◌&&◌, ◌≡◌}
+use Rattle.std.specs.Prelude.{Option, Some, if◌then◌else◌}
 use Rattle.rt_base.specs.declared.SemNo.{SemNo}
-use Rattle.rt_task.specs.declared.Act.{Act}
 use Rattle.rt_task.specs.declared.Act.TheVariants as acts
-use Rattle.rt_task.specs.declared.Op.{Op}
+use Rattle.rt_task.specs.declared.Act.{Act}
 use Rattle.rt_task.specs.declared.Op.TheVariants as ops
 use Rattle.rt_history.specs.declared.Reply.TheVariants as replies
 use Rattle.rt_rules.specs.Numbers.{is}
 use Rattle.rt_rules.specs.SemState.{Asks, Frees, Neither}
-use Rattle.rt_model.specs.Answers.{answer, do_answer, op_answer, lock_answer, unlock_answer, nests, is_granted}
+use Rattle.rt_model.specs.Answers.{answer, do_answer, is_granted, lock_answer, nests, op_answer, unlock_answer}
 use Rattle.rt_model.specs.Ceilings.{is_pcp}
 use Rattle.rt_model.specs.Group.{Group, declares, protocol}
 use Rattle.rt_model.specs.Holders.{holder, last_granted}

@@ -26,7 +26,7 @@ use Rattle.rt_model.proofs.AnswerLaws.{answer-runs_link, to_run}
 use Rattle.rt_model.proofs.PastLaws.{one_processor, processor-home, single}
 use Rattle.rt_model.proofs.Steps.{past_act-cpu, runs-acted}
 use Rattle.rt_laws.proofs.JobLaws.{awake-keeps, exists-keeps}
-use Rattle.rt_laws.proofs.Linked.{IsLinked, linked-eligible}
+use Rattle.rt_laws.proofs.LinkedTasks.{IsLinked, linked-eligible}
 use Rattle.rt_laws.proofs.Moves.{IsMove, by_moves, clock_moves, cpu_acts}
 use Rattle.rt_laws.proofs.Requests.{IsAsk, asks}
 use Rattle.rt_laws.proofs.Rules.{MeetsRules}

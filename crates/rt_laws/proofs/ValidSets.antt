@@ -34,8 +34,8 @@ use Rattle.rt_rules.proofs.BoolLaws.{both, either, or_true}
 use Rattle.rt_rules.proofs.MemberLaws.{equal_self, has-filter, list_all-has, turned}
 use Rattle.rt_rules.proofs.NumberLaws.{has-numbers_from, numbers_from-has}
 use Rattle.rt_model.proofs.PastLaws.{numbers_from-below}
+use Rattle.rt_laws.proofs.GroupLaws.{user-task}
 use Rattle.rt_laws.proofs.Rules.{MeetsRules}
-use Rattle.rt_laws.proofs.Waiting.{user-task}
 
 -- ---- tests on a list in order
 

@@ -1,46 +1,28 @@
 -- A task that waits after a move waited before it, or asks in it and is not granted: for the semaphores of a setup.
-use Rattle.std.proofs.Common.{[], false, inl, inr, refl, true, ℕ, ◌∷◌, ◌≡◌, ◌≤◌, ◌⊎◌}
-use Rattle.std.specs.Prelude.{None, Option, Some, is_none, option_map, unwrap_or}
+use Rattle.std.proofs.Common.{[], false, inl, inr, refl, true, ℕ, ◌∷◌, ◌≡◌, ◌⊎◌}
+use Rattle.std.specs.Prelude.{None, Option, Some, is_none}
 use Rattle.rt_task.specs.declared.Protocol.TheVariants.{Fmlp, Mpcp, Omlp, Pcp}
 use Rattle.rt_task.specs.declared.Protocol.{Protocol}
-use Rattle.rt_rules.specs.Numbers.{first, has}
+use Rattle.rt_rules.specs.Numbers.{has}
 use Rattle.rt_rules.specs.Pcp.{of_sem, passes}
 use Rattle.rt_rules.specs.SemState.{Asks, SemAct}
 use Rattle.rt_model.specs.Answers.{is_granted}
 use Rattle.rt_model.specs.BaseKeys.{above}
 use Rattle.rt_model.specs.Ceilings.{above_ceiling, at_cluster, pcp}
-use Rattle.rt_model.specs.Group.{Group, cpus, declares, home, protocol, sems, tasks, users}
+use Rattle.rt_model.specs.Group.{Group, cpus, home, protocol, sems}
 use Rattle.rt_model.specs.Holders.{awaits, holder, sem_state, sem_state_by}
 use Rattle.rt_model.specs.Past.{Event, Past, sem_act}
-use Rattle.rt_model.specs.Semaphores.{cluster_of, fmlp, mpcp, omlp}
-use Rattle.rt_rules.proofs.BoolLaws.{both}
+use Rattle.rt_model.specs.Semaphores.{at_sem, cluster_of, fmlp, mpcp, omlp}
 use Rattle.rt_rules.proofs.FmlpLaws.{fmlp-waits}
-use Rattle.rt_rules.proofs.MemberLaws.{find-none, find-some, has-filter, has-first, none-find, some-is}
+use Rattle.rt_rules.proofs.MemberLaws.{find-none, find-some, none-find}
 use Rattle.rt_rules.proofs.MpcpLaws.{mpcp-waits}
 use Rattle.rt_rules.proofs.OmlpLaws.{omlp-waits}
 use Rattle.rt_rules.proofs.PairLaws.{has-of_sem, has_pair}
 use Rattle.rt_rules.proofs.PcpLaws.{pcp-waits}
-use Rattle.rt_laws.proofs.AtSem.{at_sem-asks, at_cluster-asks}
 use Rattle.rt_rules.proofs.SemActLaws.{AsksSome}
-use Rattle.rt_model.specs.Semaphores.{at_sem}
+use Rattle.rt_laws.proofs.AtSem.{at_cluster-asks, at_sem-asks}
+use Rattle.rt_laws.proofs.GroupLaws.{has_room}
 use Rattle.rt_laws.proofs.Rules.{MeetsRules}
-
-pub user-task : (g : Group) (s t : ℕ) → has t (users g s) ≡ true → (has t (tasks g) ≡ true) × (declares g t s ≡ true)
-unfolding users
-user-task g s t h = both _ _ (rw has-filter at h)
-
-pub task-user : (g : Group) (s t : ℕ) → has t (tasks g) ≡ true → declares g t s ≡ true → has t (users g s) ≡ true
-unfolding users
-task-user g s t h k = rw (has-filter (λ u. declares g u s) t (tasks g), h, k)
-
--- the cluster of a semaphore's users has a processor
-pub has_room : (g : Group) → MeetsRules g → (s : ℕ) → 1 ≤ cpus g (cluster_of g s)
-unfolding cluster_of
-has_room g rules s = by_case (first (users g s)) refl
-  where
-    by_case : (o : Option ℕ) → first (users g s) ≡ o → 1 ≤ cpus g (unwrap_or (option_map (home g) o) 0)
-    by_case None e = rules.has_cpu 0 rules.has_cluster
-    by_case (Some u) e = rules.has_cpu (home g u) (rules.has_home u (user-task g s u (has-first u (users g s) (some-is u (first (users g s)) e))).0)
 
 pub waiting-step : (g : Group) → MeetsRules g → (t s : ℕ) (e : Event) (past : Past) → has t (sem_state g s (e ∷ past)).waiting ≡ true → (has t (sem_state g s past).waiting ≡ true) ⊎ (sem_act e ≡ Asks t s) × (is_granted g (protocol g s) s t past ≡ false)
 unfolding sem_state sem_state_by fmlp omlp mpcp pcp is_granted holder

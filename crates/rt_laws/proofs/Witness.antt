@@ -1,14 +1,14 @@
 -- The premise of the laws is met: by a set in which an OMLP request reaches its bound.
-use Rattle.std.proofs.Common.{◌≡◌, List, [], ◌∷◌, refl, ◌∙◌}
-use Rattle.std.specs.Prelude.{◌-◌, ◌*◌}
+use Rattle.std.proofs.Common.{List, [], refl, ◌∙◌, ◌∷◌, ◌≡◌}
+use Rattle.std.specs.Prelude.{◌*◌, ◌-◌}
 use Rattle.rt_task.specs.declared.Protocol.TheVariants.{Omlp}
 use Rattle.rt_task.specs.declared.Step.{Step}
-use Rattle.rt_model.specs.Group.{Group, task, cluster, sem, cpus, home, protocol}
-use Rattle.rt_model.specs.Histories.{past_by, after}
-use Rattle.rt_model.specs.Made.{IsMade, opened, acted, clocked}
+use Rattle.rt_model.specs.Group.{Group, cluster, cpus, home, protocol, sem, task}
+use Rattle.rt_model.specs.Histories.{after, past_by}
+use Rattle.rt_model.specs.Made.{IsMade, acted, clocked, opened}
 use Rattle.rt_model.specs.Past.{Past}
 use Rattle.rt_laws.specs.Bounds.{ReachesOmlpBound}
-use Rattle.rt_laws.specs.Corners.{bound_reached, bound_reached_steps, bound_reached-valid, bound_reached-ends}
+use Rattle.rt_laws.specs.Corners.{bound_reached, bound_reached-ends, bound_reached-valid, bound_reached_steps}
 
 -- steps make a past
 made_by : (g : Group) (steps : List Step) {past : Past} → IsMade g past → IsMade g (past_by g past steps)

@@ -1,6 +1,6 @@
 -- A job that holds or waits does not end: it ends by an End, or by force, and then it holds nothing and waits for nothing.
 use Rattle.std.proofs.Common.{Bool, [], ap, arith, eqb-true, false, inl, inr, leb-false, leb-true, not, refl, true, ℕ, ◌&&◌, ◌+◌, ◌<◌, ◌∙◌, ◌∷◌, ◌≡◌, ◌≤◌, ◌⊎◌}
-use Rattle.std.specs.Prelude.{None, Option, Some, if◌then◌else◌, nat_le, ◌==◌}
+use Rattle.std.specs.Prelude.{None, Option, Some, if◌then◌else◌, nat_le}
 use Rattle.rt_base.specs.declared.SemNo.{SemNo}
 use Rattle.rt_task.specs.declared.Act.TheVariants as acts
 use Rattle.rt_task.specs.declared.Act.{Act}
@@ -27,14 +27,15 @@ use Rattle.rt_model.specs.Outcomes.{attempt, ended, ended_by, is_spent, past_act
 use Rattle.rt_model.specs.Past.{Acted, Clock, Event, Past, PastAct, accepted, did, ends_job, is_work, operation, sem_act, sem_act_of}
 use Rattle.rt_model.specs.Runs.{runs}
 use Rattle.rt_model.specs.Semaphores.{at_sem, cluster_of, fmlp, mpcp, omlp}
-use Rattle.rt_rules.proofs.BoolLaws.{both, clash}
-use Rattle.rt_rules.proofs.MemberLaws.{equal_self, has-filter, is-some, none-empty}
+use Rattle.rt_rules.proofs.BoolLaws.{clash}
+use Rattle.rt_rules.proofs.MemberLaws.{equal_self, is-some, none-empty}
 use Rattle.rt_model.proofs.Steps.{used-step}
-use Rattle.rt_laws.proofs.Asked.{Freed, freed, holds-none}
+use Rattle.rt_laws.proofs.Asked.{Freed, freed}
 use Rattle.rt_laws.proofs.Engaged.{engaged, engaged-cases, engaged-step, holder-stays}
+use Rattle.rt_laws.proofs.Holding.{holds-none, one-holds}
 use Rattle.rt_laws.proofs.Moves.{IsMove, by_moves, clock_moves, cpu_acts, moved}
-use Rattle.rt_laws.proofs.Pcp.{IsPcpKept, pcp_kept}
-use Rattle.rt_laws.proofs.Requests.{IsAsk, asks, IsUnlock, unlock-of}
+use Rattle.rt_laws.proofs.PcpState.{IsPcpKept, pcp_kept}
+use Rattle.rt_laws.proofs.Requests.{IsAsk, IsUnlock, asks, unlock-of}
 use Rattle.rt_laws.proofs.Rules.{MeetsRules}
 use Rattle.rt_laws.proofs.Running.{IsRunning, ended-runs, running}
 use Rattle.rt_laws.proofs.Waiting.{waiting-step}
@@ -54,14 +55,6 @@ frees-did t s (Acted d) h k = by_case (accepted d.reply) h k
     by_case false m z = cc
 
 -- ---- what a task holds
-
-pub holds-one : (g : Group) (t s : ℕ) (past : Past) → has s (sems g) ≡ true → is t (holder g s past) ≡ true → has s (holds g t past) ≡ true
-unfolding holds
-holds-one g t s past there h = rw (has-filter (λ r. is t (holder g r past)) s (sems g), there, h)
-
-pub one-holds : (g : Group) (t s : ℕ) (past : Past) → has s (holds g t past) ≡ true → (has s (sems g) ≡ true) × (is t (holder g s past) ≡ true)
-unfolding holds
-one-holds g t s past h = both _ _ (rw has-filter at h)
 
 -- who frees nothing and holds nothing after a move held nothing before it
 held-nothing : (g : Group) → (t : ℕ) (e : Event) (past : Past) → Freed g e past → ((c : ℕ) → IsPcpKept g c (pcp g c (e ∷ past))) → ((s : ℕ) → sem_act e ≡ Frees t s → ⊥) → is_empty (holds g t (e ∷ past)) ≡ true → is_empty (holds g t past) ≡ true

@@ -12,11 +12,11 @@ use Rattle.rt_model.specs.Past.{Past}
 use Rattle.rt_model.specs.Semaphores.{cluster_of, fmlp, omlp}
 use Rattle.rt_rules.proofs.MemberLaws.{has-appended}
 use Rattle.rt_rules.proofs.OmlpLaws.{IsQueued}
-use Rattle.rt_laws.proofs.FmlpLaw.{fmlp-sem_state}
+use Rattle.rt_laws.proofs.FmlpState.{fmlp-sem_state}
+use Rattle.rt_laws.proofs.GroupLaws.{has_room}
+use Rattle.rt_laws.proofs.MpcpState.{mpcp-holder, mpcp-is, mpcp_busy}
 use Rattle.rt_laws.proofs.OmlpState.{omlp-sem_state, queued}
 use Rattle.rt_laws.proofs.Rules.{MeetsRules}
-use Rattle.rt_laws.proofs.MpcpState.{mpcp-holder, mpcp-is, mpcp_busy}
-use Rattle.rt_laws.proofs.Waiting.{has_room}
 
 first-there : (xs : List ℕ) → 1 ≤ length xs → is_none (first xs) ≡ false
 first-there [] h = absurd (omega arith)
@@ -26,8 +26,8 @@ rest-there : (t : ℕ) (xs : List ℕ) → has t (rest xs) ≡ true → is_none 
 rest-there t [] h = cc
 rest-there t (x ∷ xs) h = refl
 
-pub held-somewhere : (g : Group) → MeetsRules g → {past : Past} → IsMade g past → (t s : ℕ) → has s (sems g) ≡ true → is_pcp (protocol g s) ≡ false → has t (sem_state g s past).waiting ≡ true → is_none (holder g s past) ≡ false
-held-somewhere g rules {past} made t s there n w = by_protocol (protocol g s) refl
+pub has_holder : (g : Group) → MeetsRules g → {past : Past} → IsMade g past → (t s : ℕ) → has s (sems g) ≡ true → is_pcp (protocol g s) ≡ false → has t (sem_state g s past).waiting ≡ true → is_none (holder g s past) ≡ false
+has_holder g rules {past} made t s there n w = by_protocol (protocol g s) refl
   where
     of_omlp : protocol g s ≡ Omlp → is_none (holder g s past) ≡ false
     of_omlp p = rw (omlp-sem_state g s past p).1 (split (has-appended t (rest (omlp g s past).fifo) (omlp g s past).queue (rw (omlp-sem_state g s past p).0 at w)))

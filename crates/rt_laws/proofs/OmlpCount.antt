@@ -26,16 +26,16 @@ use Rattle.rt_rules.proofs.MemberLaws.{equal_self, has-append, has-appended, has
 use Rattle.rt_rules.proofs.OmlpLaws.{IsQueued}
 use Rattle.rt_rules.proofs.PlacingLaws.{distinct-filter}
 use Rattle.rt_model.proofs.TopLaws.{distinct-tasks_of}
-use Rattle.rt_laws.proofs.Active.{AllActive, all_active, engaged-key}
+use Rattle.rt_laws.proofs.BaseKeyLaws.{above-order}
 use Rattle.rt_laws.proofs.Engaged.{engaged, engaged_by}
-use Rattle.rt_laws.proofs.FmlpLaw.{entries-grow, newest-below, open-before, open-waits}
-use Rattle.rt_laws.proofs.Linked.{home-tasks_of}
+use Rattle.rt_laws.proofs.EngagedJobs.{AllActive, all_active, engaged-key}
+use Rattle.rt_laws.proofs.GroupLaws.{has_room, home-tasks_of, user-home, user-task}
 use Rattle.rt_laws.proofs.Moves.{by_moves, moved}
 use Rattle.rt_laws.proofs.Next.{IsNext, next}
-use Rattle.rt_laws.proofs.OmlpState.{above-order, omlp-fresh, omlp-sem_state, queued, user-home}
+use Rattle.rt_laws.proofs.OmlpState.{omlp-fresh, omlp-sem_state, queued}
 use Rattle.rt_laws.proofs.OneWait.{WaitsOnce, waits_once}
+use Rattle.rt_laws.proofs.OpenRequests.{entries-grow, newest-below, open-before, open-waits}
 use Rattle.rt_laws.proofs.Rules.{MeetsRules}
-use Rattle.rt_laws.proofs.Waiting.{has_room, user-task}
 
 pub ends-none : (g : Group) (r t s : ℕ) (past : Past) → entries_in past ≤ r → ends g r t s past ≡ 0
 unfolding ends is_open

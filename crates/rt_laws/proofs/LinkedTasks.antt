@@ -1,6 +1,6 @@
 -- A task that is linked was eligible, and is one of its processor's cluster.
-use Rattle.std.proofs.Common.{Bool, List, [], arith, cond, eqb-true, false, length, ltb-false, map, refl, suc, sym, true, ℕ, ◌-◌, ◌<◌, ◌∙◌, ◌∷◌, ◌≡◌, ◌≤◌}
-use Rattle.std.specs.Prelude.{filter, nat_lt, ◌==◌}
+use Rattle.std.proofs.Common.{Bool, List, [], arith, cond, false, length, ltb-false, map, refl, suc, sym, true, ℕ, ◌-◌, ◌<◌, ◌∙◌, ◌∷◌, ◌≡◌, ◌≤◌}
+use Rattle.std.specs.Prelude.{filter, nat_lt}
 use Rattle.rt_task.specs.declared.Cluster.{Cluster}
 use Rattle.rt_rules.specs.Keys.{Ranked, sorted}
 use Rattle.rt_rules.specs.Numbers.{has, is}
@@ -13,11 +13,12 @@ use Rattle.rt_model.specs.Past.{Past}
 use Rattle.rt_model.specs.Tops.{eligible, ranking, top}
 use Rattle.rt_rules.proofs.BoolLaws.{both}
 use Rattle.rt_rules.proofs.LinkLaws.{at_place-inside, has-at_place}
-use Rattle.rt_rules.proofs.MemberLaws.{equal_self, has-filter}
+use Rattle.rt_rules.proofs.MemberLaws.{has-filter}
 use Rattle.rt_rules.proofs.NumberLaws.{numbers_from-has}
 use Rattle.rt_rules.proofs.RankedLaws.{has-sorted, has-take, tasks_ranked}
 use Rattle.rt_model.proofs.PastLaws.{length-links, links-top, processor-home, single}
 use Rattle.rt_model.proofs.TopLaws.{tasks-ranked}
+use Rattle.rt_laws.proofs.GroupLaws.{tasks_of-home}
 
 pub top-eligible : (g : Group) (c t : ℕ) (past : Past) → has t (top g c past) ≡ true → (has t (tasks_of g c) ≡ true) × (eligible g t past ≡ true)
 unfolding top ranking
@@ -27,14 +28,6 @@ top-eligible g c t past h =
     let k : has t (tasks_ranked (sorted rs)) ≡ true = has-take t (cpus g c) (tasks_ranked (sorted rs)) h in
     let m : has t ts ≡ true = rw (has-sorted t rs, tasks-ranked g past ts) at k in
     both _ _ (rw has-filter at m)
-
-pub tasks_of-home : (g : Group) (c t : ℕ) → has t (tasks_of g c) ≡ true → (has t (tasks g) ≡ true) × (home g t ≡ c)
-unfolding tasks_of
-tasks_of-home g c t h = let q = both _ _ (rw has-filter at h) in (q.0, eqb-true (home g t) c q.1)
-
-pub home-tasks_of : (g : Group) (t : ℕ) → has t (tasks g) ≡ true → has t (tasks_of g (home g t)) ≡ true
-unfolding tasks_of
-home-tasks_of g t h = rw (has-filter (λ u. home g u == home g t) t (tasks g), h, equal_self (home g t))
 
 first_in-le : (ks : List Cluster) (q : ℕ) → first_in ks (cluster_in ks q) ≤ q
 first_in-le [] q = omega arith

@@ -1,92 +1,28 @@
--- FMLP: each other user of the semaphore stands before a request at most once.
-use Rattle.std.proofs.Common.{Bool, List, [], ap, arith, cond, eqb-true, false, inl, inr, length, length-append, refl, sym, true, ℕ, ◌&&◌, ◌++◌, ◌+◌, ◌-◌, ◌<◌, ◌∙◌, ◌∷◌, ◌≡◌, ◌≤◌, ◌⊎◌}
-use Rattle.std.specs.Prelude.{Some, if◌then◌else◌, ◌==◌}
+-- FMLP: while a request waits, each other user of its semaphore stands before it at most once.
+use Rattle.std.proofs.Common.{Bool, List, [], ap, arith, cond, false, inl, inr, length, length-append, refl, true, ℕ, ◌&&◌, ◌++◌, ◌+◌, ◌-◌, ◌<◌, ◌∙◌, ◌∷◌, ◌≡◌, ◌≤◌, ◌⊎◌}
+use Rattle.std.specs.Prelude.{if◌then◌else◌, ◌==◌}
 use Rattle.rt_task.specs.declared.Protocol.TheVariants.{Fmlp}
-use Rattle.rt_rules.specs.Distinct.{IsDistinct}
 use Rattle.rt_rules.specs.Fmlp.{fmlp_after}
 use Rattle.rt_rules.specs.Numbers.{first, has, is, rest}
-use Rattle.rt_rules.specs.SemState.{Asks, Frees, Neither, SemAct, SemState, in_line}
-use Rattle.rt_model.specs.Answers.{is_granted}
-use Rattle.rt_model.specs.Blocking.{asks, ends_all, frees, is_open, newest_request}
-use Rattle.rt_model.specs.Group.{Group, protocol, sems, tasks, users}
-use Rattle.rt_model.specs.Holders.{awaits, holder, sem_state, sem_state_by}
+use Rattle.rt_rules.specs.SemState.{Asks, Frees, Neither, SemAct}
+use Rattle.rt_model.specs.Blocking.{ends_all, frees, is_open, newest_request}
+use Rattle.rt_model.specs.Group.{Group, protocol, users}
+use Rattle.rt_model.specs.Holders.{awaits}
 use Rattle.rt_model.specs.Made.{IsMade}
-use Rattle.rt_model.specs.Past.{Acted, Clock, Event, Past, entries_in, is_act, sem_act}
+use Rattle.rt_model.specs.Past.{Event, Past, entries_in, sem_act}
 use Rattle.rt_model.specs.Semaphores.{at_sem, fmlp}
 use Rattle.rt_rules.proofs.BoolLaws.{both, clash, unless}
 use Rattle.rt_rules.proofs.DistinctLaws.{length-distinct}
-use Rattle.rt_rules.proofs.FmlpLaws.{IsLine, line-after, ahead, ahead-append, ahead-last, ahead-rest}
-use Rattle.rt_rules.proofs.MemberLaws.{equal_self, has-rest, has-split, is-some, without-first}
-use Rattle.rt_rules.proofs.NumberLaws.{distinct-numbers_from}
-use Rattle.rt_rules.proofs.PlacingLaws.{distinct-filter}
-use Rattle.rt_laws.proofs.AtSem.{at_sem-asks}
-use Rattle.rt_laws.proofs.Asked.{Asked, IsAsked, asked, asks_empty, holds-none}
+use Rattle.rt_rules.proofs.FmlpLaws.{IsLine, ahead, ahead-append, ahead-last, ahead-rest}
+use Rattle.rt_rules.proofs.MemberLaws.{equal_self, has-rest, without-first}
+use Rattle.rt_laws.proofs.Asked.{IsAsked}
+use Rattle.rt_laws.proofs.FmlpState.{fmlp-fresh, fmlp-line, fmlp-line-step, fmlp-sem_state, fmlp-step}
+use Rattle.rt_laws.proofs.GroupLaws.{distinct-users}
 use Rattle.rt_laws.proofs.Moves.{by_moves}
 use Rattle.rt_laws.proofs.Next.{IsNext, next}
-use Rattle.rt_laws.proofs.OneWait.{WaitsOnce, awaits-is, waits_once}
+use Rattle.rt_laws.proofs.OneWait.{WaitsOnce, waits_once}
+use Rattle.rt_laws.proofs.OpenRequests.{entries-grow, frees-is, newest-below, open-before, open-waits}
 use Rattle.rt_laws.proofs.Rules.{MeetsRules}
-use Rattle.rt_laws.proofs.Waiting.{awaits-waits, waiting-step}
-
-pub distinct-tasks : (g : Group) → IsDistinct (tasks g)
-unfolding tasks
-distinct-tasks g = distinct-filter _ _ (distinct-numbers_from 1 (length g.setup.tasks))
-
-pub distinct-users : (g : Group) (s : ℕ) → IsDistinct (users g s)
-unfolding users
-distinct-users g s = distinct-filter _ (tasks g) (distinct-tasks g)
-
--- ---- the line of a semaphore
-
-pub fmlp-sem_state : (g : Group) (s : ℕ) (past : Past) → protocol g s ≡ Fmlp → ((sem_state g s past).waiting ≡ rest (fmlp g s past)) × (holder g s past ≡ first (fmlp g s past))
-unfolding sem_state sem_state_by holder
-fmlp-sem_state g s past h = (ap (λ (x : SemState). x.waiting) same, ap (λ (x : SemState). x.holder) same)
-  where
-    same : sem_state g s past ≡ in_line (fmlp g s past)
-    same = rw h
-
--- one that asks does not stand in the line
-fmlp-fresh : (g : Group) (s t : ℕ) (past : Past) → protocol g s ≡ Fmlp → IsAsked g t s past → has t (fmlp g s past) ≡ false
-fmlp-fresh g s t past p a = unless _ (λ h. split (has-split t (fmlp g s past) h))
-  where
-    facts : ((sem_state g s past).waiting ≡ rest (fmlp g s past)) × (holder g s past ≡ first (fmlp g s past))
-    facts = fmlp-sem_state g s past p
-
-    empty_handed : is t (holder g s past) ≡ false
-    empty_handed = holds-none g t s past (asks_empty g (protocol g s) t s past (rw p) a.unnested) a.known
-
-    split : (is t (first (fmlp g s past)) ≡ true) ⊎ (has t (rest (fmlp g s past)) ≡ true) → ⊥
-    split (inl k) = clash _ k (rw facts.1 at empty_handed)
-    split (inr k) = clash _ k (rw facts.0 at (a.waits_none s a.known))
-
-fmlp-line-step : (g : Group) (s : ℕ) (e : Event) (past : Past) → protocol g s ≡ Fmlp → Asked g e past → IsLine (users g s) (fmlp g s past) → IsLine (users g s) (fmlp g s (e ∷ past))
-unfolding fmlp
-fmlp-line-step g s e past p asks l = line-after (users g s) (at_sem s (sem_act e)) (fmlp g s past) (λ t r h. let a : IsAsked g t s past = asks t s (at_sem-asks s t r (sem_act e) h) in (fmlp-fresh g s t past p a, a.user)) l
-
-pub fmlp-line : (g : Group) → MeetsRules g → (s : ℕ) → protocol g s ≡ Fmlp → {past : Past} → IsMade g past → IsLine (users g s) (fmlp g s past)
-unfolding fmlp
-fmlp-line g rules s p made = by_moves g (λ past. IsLine (users g s) (fmlp g s past)) (record { once = tt; inside = λ t h. cc }) (λ past e made move before. fmlp-line-step g s e past p (asked g rules made move) before) made
-
--- ---- a request goes by its entry's number
-
-pub entries-grow : (e : Event) (past : Past) → entries_in past ≤ entries_in (e ∷ past)
-entries-grow e past = by_case (is_act e)
-  where
-    by_case : (b : Bool) → entries_in past ≤ (if b then entries_in past + 1 else entries_in past)
-    by_case true = omega arith
-    by_case false = omega arith
-
-asks-acts : (t : ℕ) (e : Event) → asks t (sem_act e) ≡ true → is_act e ≡ true
-asks-acts t (Clock tick) h = cc
-asks-acts t (Acted d) h = refl
-
-pub newest-below : (t r : ℕ) (past : Past) → is r (newest_request t past) ≡ true → r < entries_in past
-unfolding newest_request
-newest-below t r [] h = cc
-newest-below t r (e ∷ past) h = by_case (asks t (sem_act e)) refl h (newest-below t r past)
-  where
-    by_case : (b : Bool) → asks t (sem_act e) ≡ b → is r (if b then Some (entries_in past) else newest_request t past) ≡ true → (is r (newest_request t past) ≡ true → r < entries_in past) → r < entries_in (e ∷ past)
-    by_case true k m rest = let same : r ≡ entries_in past = eqb-true r (entries_in past) m in let one_more : entries_in (e ∷ past) ≡ entries_in past + 1 = rw (asks-acts t e k) in omega arith
-    by_case false k m rest = omega (arith, rest m, entries-grow e past)
 
 pub none-ended : (g : Group) (r t s : ℕ) (past : Past) → entries_in past ≤ r → ends_all g r t s past ≡ 0
 unfolding ends_all is_open
@@ -100,16 +36,10 @@ none-ended g r t s (e ∷ past) h = rw (shut) (by_case (frees s (sem_act e)) (no
     by_case true k = k
     by_case false k = k
 
--- ---- a request and those that stand before it
-
 -- while a request waits, what ended and who stands before it are together at most the other users
 pub record IsCounted (g : Group) (r t s : ℕ) (past : Past) : Type 0 where
   pub so_far : ends_all g r t s past ≤ length (users g s) - 1
   pub still : is_open g r t s past ≡ true → ends_all g r t s past + ahead t (fmlp g s past) ≤ length (users g s) - 1
-
-pub open-waits : (g : Group) (r t s : ℕ) (past : Past) → is_open g r t s past ≡ true → (has s (sems g) ≡ true) × (has t (sem_state g s past).waiting ≡ true)
-unfolding is_open
-open-waits g r t s past h = awaits-waits g t s past (is-some s (awaits g t past) (both (is s (awaits g t past)) (is r (newest_request t past)) h).0)
 
 -- one more event, by whether it frees the semaphore and whether the request is open
 ends_all-cases : (g : Group) (r t s : ℕ) (e : Event) (past : Past) → ((frees s (sem_act e) ≡ true) × (is_open g r t s past ≡ true) × (ends_all g r t s (e ∷ past) ≡ ends_all g r t s past + 1)) ⊎ ((frees s (sem_act e) ≡ false) ⊎ (is_open g r t s past ≡ false)) × (ends_all g r t s (e ∷ past) ≡ ends_all g r t s past)
@@ -120,40 +50,6 @@ ends_all-cases g r t s e past = by_cases (frees s (sem_act e)) (is_open g r t s 
     by_cases true true = inl (refl, refl, refl)
     by_cases true false = inr (inr refl, refl)
     by_cases false b = inr (inl refl, refl)
-
-pub asks-is : (t : ℕ) (x : SemAct) → asks t x ≡ true → (s : ℕ) × (x ≡ Asks t s)
-asks-is t (Asks u s) h = let e : t ≡ u = eqb-true t u h in (s, ap {B = SemAct} (λ n. Asks n s) (sym e))
-asks-is t (Frees u s) h = cc
-asks-is t Neither h = cc
-
-pub frees-is : (s : ℕ) (x : SemAct) → frees s x ≡ true → (u : ℕ) × (x ≡ Frees u s)
-frees-is s (Asks u r) h = cc
-frees-is s (Frees u r) h = let e : s ≡ r = eqb-true s r h in (u, ap {B = SemAct} (λ n. Frees u n) (sym e))
-frees-is s Neither h = cc
-
--- what is open after a move was open before it, or is asked in it
-pub open-before : (g : Group) → MeetsRules g → (r t s : ℕ) (e : Event) (past : Past) → WaitsOnce g past → IsNext g e past → is_open g r t s (e ∷ past) ≡ true → (is_open g r t s past ≡ true) ⊎ (sem_act e ≡ Asks t s) × (r ≡ entries_in past)
-unfolding is_open newest_request
-open-before g rules r t s e past once next h = split (waiting-step g rules t s e past waits.1) (asks t (sem_act e)) refl parts.1
-  where
-    parts : (is s (awaits g t (e ∷ past)) ≡ true) × (is r (newest_request t (e ∷ past)) ≡ true)
-    parts = both (is s (awaits g t (e ∷ past))) (is r (newest_request t (e ∷ past))) h
-
-    waits : (has s (sems g) ≡ true) × (has t (sem_state g s (e ∷ past)).waiting ≡ true)
-    waits = awaits-waits g t s (e ∷ past) (is-some s (awaits g t (e ∷ past)) parts.0)
-
-    no_ask : has t (sem_state g s past).waiting ≡ true → asks t (sem_act e) ≡ true → ⊥
-    no_ask w a = let q = asks-is t (sem_act e) a in clash _ w ((next.asked t q.0 q.1).waits_none s waits.0)
-
-    split : (has t (sem_state g s past).waiting ≡ true) ⊎ (sem_act e ≡ Asks t s) × (is_granted g (protocol g s) s t past ≡ false) → (b : Bool) → asks t (sem_act e) ≡ b → is r (if b then Some (entries_in past) else newest_request t past) ≡ true → (is s (awaits g t past) && is r (newest_request t past) ≡ true) ⊎ (sem_act e ≡ Asks t s) × (r ≡ entries_in past)
-    split (inl w) true a k = absurd (no_ask w a)
-    split (inl w) false a k = inl (rw (awaits-is g t s past once waits.0 w, equal_self s) k)
-    split (inr w) true a k = inr (w.0, eqb-true r (entries_in past) k)
-    split (inr w) false a k = let m : asks t (Asks t s) ≡ false = rw w.0 at a in absurd (clash _ (equal_self t) m)
-
-pub fmlp-step : (g : Group) (s : ℕ) (e : Event) (past : Past) → fmlp g s (e ∷ past) ≡ fmlp_after (at_sem s (sem_act e)) (fmlp g s past)
-unfolding fmlp
-fmlp-step g s e past = refl
 
 ahead-stays : (t s : ℕ) (x : SemAct) (line : List ℕ) → has t line ≡ true → frees s x ≡ false → ahead t (fmlp_after (at_sem s x) line) ≡ ahead t line
 ahead-stays t s (Asks u r) line h f = by_case (s == r)

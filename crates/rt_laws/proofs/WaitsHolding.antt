@@ -15,22 +15,22 @@ use Rattle.rt_rules.proofs.BoolLaws.{clash, neither, not_false}
 use Rattle.rt_rules.proofs.DistinctLaws.{first-absent}
 use Rattle.rt_rules.proofs.MemberLaws.{any-none, has-appended, has-first}
 use Rattle.rt_rules.proofs.OmlpLaws.{IsQueued}
-use Rattle.rt_laws.proofs.Asked.{Asked, asked, holds-none}
-use Rattle.rt_laws.proofs.Ends.{holds-one}
+use Rattle.rt_laws.proofs.Asked.{Asked, asked}
 use Rattle.rt_laws.proofs.Engaged.{engaged, engaged-cases, engaged-step, holder-engaged}
-use Rattle.rt_laws.proofs.FmlpLaw.{fmlp-line, fmlp-sem_state}
-use Rattle.rt_laws.proofs.MpcpState.{mpcp-is, mpcp-holder, mpcp_once}
+use Rattle.rt_laws.proofs.FmlpState.{fmlp-line, fmlp-sem_state}
+use Rattle.rt_laws.proofs.Holding.{holds-none, holds-one}
 use Rattle.rt_laws.proofs.Moves.{by_moves, moved}
+use Rattle.rt_laws.proofs.MpcpState.{mpcp-holder, mpcp-is, mpcp_once}
 use Rattle.rt_laws.proofs.OmlpState.{omlp-sem_state, queued}
 use Rattle.rt_laws.proofs.OneWait.{waits_once}
-use Rattle.rt_laws.proofs.Pcp.{pcp_kept}
+use Rattle.rt_laws.proofs.PcpState.{pcp_kept}
 use Rattle.rt_laws.proofs.Rules.{MeetsRules}
 use Rattle.rt_laws.proofs.Waiting.{nobody-waits, waiting-step}
 
 -- ---- who holds a semaphore does not wait for it, but perhaps under PCP
 
-pub apart-sem_state : (g : Group) → MeetsRules g → {past : Past} → IsMade g past → (t s : ℕ) → has s (sems g) ≡ true → is t (holder g s past) ≡ true → has t (sem_state g s past).waiting ≡ true → is_pcp (protocol g s) ≡ true
-apart-sem_state g rules {past} made t s there h w = by_protocol (protocol g s) refl
+pub waits_not_at_own : (g : Group) → MeetsRules g → {past : Past} → IsMade g past → (t s : ℕ) → has s (sems g) ≡ true → is t (holder g s past) ≡ true → has t (sem_state g s past).waiting ≡ true → is_pcp (protocol g s) ≡ true
+waits_not_at_own g rules {past} made t s there h w = by_protocol (protocol g s) refl
   where
     of_fmlp : protocol g s ≡ Fmlp → ⊥
     of_fmlp p = clash _ (rw (fmlp-sem_state g s past p).0 at w) (first-absent t (fmlp g s past) (fmlp-line g rules s p made).once (rw (fmlp-sem_state g s past p).1 at h))
@@ -59,8 +59,8 @@ apart-sem_state g rules {past} made t s there h w = by_protocol (protocol g s) r
 
 -- ---- two semaphores
 
-abbrev pub IsUnmixed : Group → Past → Type 0
-IsUnmixed g past = (t s r : ℕ) → has s (sems g) ≡ true → has r (sems g) ≡ true → is t (holder g s past) ≡ true → has t (sem_state g r past).waiting ≡ true → (is_pcp (protocol g s) ≡ true) × (is_pcp (protocol g r) ≡ true)
+abbrev pub WaitsUnderPcp : Group → Past → Type 0
+WaitsUnderPcp g past = (t s r : ℕ) → has s (sems g) ≡ true → has r (sems g) ≡ true → is t (holder g s past) ≡ true → has t (sem_state g r past).waiting ≡ true → (is_pcp (protocol g s) ≡ true) × (is_pcp (protocol g r) ≡ true)
 
 -- who asks holds PCP semaphores alone, and only where it asks for one
 pub asks_pcp : (g : Group) (t s r : ℕ) (past : Past) (p : Protocol) → nests g p r t past ≡ false → has s (sems g) ≡ true → is t (holder g s past) ≡ true → (is_pcp (protocol g s) ≡ true) × (is_pcp p ≡ true)
@@ -70,8 +70,8 @@ asks_pcp g t s r past Fmlp n there h = absurd (clash _ h (holds-none g t s past 
 asks_pcp g t s r past Omlp n there h = absurd (clash _ h (holds-none g t s past (not_false _ n) there))
 asks_pcp g t s r past Mpcp n there h = absurd (clash _ h (holds-none g t s past (not_false _ n) there))
 
-unmixed-step : (g : Group) → MeetsRules g → (e : Event) (past : Past) → IsMade g past → IsMade g (e ∷ past) → Asked g e past → IsUnmixed g past → IsUnmixed g (e ∷ past)
-unmixed-step g rules e past made made_after asks before t s r hs hr h w = split (was (engaged-step g t s e past (holder-engaged g t s (e ∷ past) h))) (waiting-step g rules t r e past w)
+waits_under_pcp-step : (g : Group) → MeetsRules g → (e : Event) (past : Past) → IsMade g past → IsMade g (e ∷ past) → Asked g e past → WaitsUnderPcp g past → WaitsUnderPcp g (e ∷ past)
+waits_under_pcp-step g rules e past made made_after asks before t s r hs hr h w = split (was (engaged-step g t s e past (holder-engaged g t s (e ∷ past) h))) (waiting-step g rules t r e past w)
   where
     was : (engaged g t s past ≡ true) ⊎ (sem_act e ≡ Asks t s) → (is t (holder g s past) ≡ true) ⊎ ((has t (sem_state g s past).waiting ≡ true) ⊎ (sem_act e ≡ Asks t s))
     was (inr k) = inr (inr k)
@@ -84,7 +84,7 @@ unmixed-step g rules e past made made_after asks before t s r hs hr h w = split 
     one_sem : s ≡ r → (is_pcp (protocol g s) ≡ true) × (is_pcp (protocol g r) ≡ true)
     one_sem same =
         let w' : has t (sem_state g s (e ∷ past)).waiting ≡ true = rw same w in
-        let p : is_pcp (protocol g s) ≡ true = apart-sem_state g rules made_after t s hs h w' in
+        let p : is_pcp (protocol g s) ≡ true = waits_not_at_own g rules made_after t s hs h w' in
         (p, rw (← same) p)
 
     split : (is t (holder g s past) ≡ true) ⊎ ((has t (sem_state g s past).waiting ≡ true) ⊎ (sem_act e ≡ Asks t s)) → (has t (sem_state g r past).waiting ≡ true) ⊎ (sem_act e ≡ Asks t r) × (is_granted g (protocol g r) r t past ≡ false) → (is_pcp (protocol g s) ≡ true) × (is_pcp (protocol g r) ≡ true)
@@ -95,5 +95,5 @@ unmixed-step g rules e past made made_after asks before t s r hs hr h w = split 
     split (inr (inr a)) (inl b) = absurd (clash _ b ((asks t s a).waits_none r hr))
     split (inr (inr a)) (inr b) = let x : sem_act e ≡ Asks t s = a in let y : sem_act e ≡ Asks t r = b.0 in one_sem cc
 
-pub unmixed : (g : Group) → MeetsRules g → {past : Past} → IsMade g past → IsUnmixed g past
-unmixed g rules made = by_moves g (IsUnmixed g) (λ t s r hs hr h w. absurd (clash _ w (nobody-waits g t r))) (λ past e made move before. unmixed-step g rules e past made (moved g made move) (asked g rules made move) before) made
+pub waits_under_pcp : (g : Group) → MeetsRules g → {past : Past} → IsMade g past → WaitsUnderPcp g past
+waits_under_pcp g rules made = by_moves g (WaitsUnderPcp g) (λ t s r hs hr h w. absurd (clash _ w (nobody-waits g t r))) (λ past e made move before. waits_under_pcp-step g rules e past made (moved g made move) (asked g rules made move) before) made

@@ -1,5 +1,5 @@
 -- PCP: the two kept facts over every past, and that no semaphore has two holders.
-use Rattle.std.proofs.Common.{List, [], false, inl, inr, refl, sym, true, ℕ, ◌∙◌, ◌∷◌, ◌≡◌, ◌⊎◌}
+use Rattle.std.proofs.Common.{ap, List, [], false, inl, inr, refl, sym, true, ℕ, ◌∙◌, ◌∷◌, ◌≡◌, ◌⊎◌}
 use Rattle.std.specs.Prelude.{None, Option, Some}
 use Rattle.rt_rules.specs.Numbers.{first, has, is}
 use Rattle.rt_rules.specs.Pcp.{PcpState, of_sem, passes, pcp_after}
@@ -14,9 +14,16 @@ use Rattle.rt_rules.proofs.MemberLaws.{equal_self, has-first, some-is}
 use Rattle.rt_rules.proofs.PairLaws.{has-of_sem, has_pair}
 use Rattle.rt_rules.proofs.PcpLaws.{IsStack, one_holder_of, pcp-held, pcp-waits, stack-step}
 use Rattle.rt_laws.proofs.Asked.{Asked, asked}
-use Rattle.rt_laws.proofs.Moves.{by_moves}
-use Rattle.rt_laws.proofs.Rules.{MeetsRules}
 use Rattle.rt_laws.proofs.AtSem.{at_cluster-asks}
+use Rattle.rt_laws.proofs.Moves.{by_moves}
+use Rattle.rt_task.specs.declared.Protocol.{Protocol}
+use Rattle.rt_task.specs.declared.Protocol.TheVariants.{Pcp}
+use Rattle.rt_rules.specs.Pcp.{pcp_sem_state}
+use Rattle.rt_rules.specs.SemState.{SemState}
+use Rattle.rt_model.specs.Holders.{sem_state, sem_state_by, holder}
+use Rattle.rt_model.specs.Semaphores.{cluster_of}
+use Rattle.rt_laws.proofs.GroupLaws.{user-home, pcp-shares}
+use Rattle.rt_laws.proofs.Rules.{MeetsRules}
 
 -- a user of a semaphore is not over its ceiling
 pub user-not_over : (g : Group) (t s : ℕ) → has t (users g s) ≡ true → above_ceiling g t s ≡ false
@@ -81,3 +88,25 @@ pcp-first g c t s l k h = by_case (first (of_sem s l.held)) refl
 
 pub first-pcp : (t s : ℕ) (l : PcpState) → is t (first (of_sem s l.held)) ≡ true → has_pair t s l.held ≡ true
 first-pcp t s l h = sym (has-of_sem t s l.held) ∙ has-first t (of_sem s l.held) h
+
+-- ---- the semaphores of a setup
+
+pcp-sem_state : (g : Group) (s : ℕ) (past : Past) → is_pcp (protocol g s) ≡ true → sem_state g s past ≡ pcp_sem_state s (pcp g (cluster_of g s) past)
+unfolding sem_state sem_state_by
+pcp-sem_state g s past h = by_protocol (protocol g s) h
+  where
+    by_protocol : (p : Protocol) → is_pcp p ≡ true → sem_state_by g p s past ≡ pcp_sem_state s (pcp g (cluster_of g s) past)
+    by_protocol Pcp e = refl
+    by_protocol p e = cc
+
+-- who waits for it, and who holds it
+pub pcp-waiting : (g : Group) (t s : ℕ) (past : Past) → is_pcp (protocol g s) ≡ true → has t (sem_state g s past).waiting ≡ has_pair t s (pcp g (cluster_of g s) past).waiting
+pcp-waiting g t s past h = ap (λ (x : SemState). has t x.waiting) (pcp-sem_state g s past h) ∙ has-of_sem t s (pcp g (cluster_of g s) past).waiting
+
+pub pcp-holder : (g : Group) (s : ℕ) (past : Past) → is_pcp (protocol g s) ≡ true → holder g s past ≡ first (of_sem s (pcp g (cluster_of g s) past).held)
+unfolding holder
+pcp-holder g s past h = ap (λ (x : SemState). x.holder) (pcp-sem_state g s past h)
+
+-- its users are of its cluster
+pub sem-home : (g : Group) → MeetsRules g → (c t s : ℕ) → IsUser g c t s → cluster_of g s ≡ c
+sem-home g rules c t s u = sym (user-home g rules s t (pcp-shares g.setup.plugin (protocol g s) u.of_pcp) u.user) ∙ u.at_home
