@@ -24,7 +24,7 @@ use Rattle.rt_laws.proofs.OneWait.{WaitsOnce, waits_once}
 use Rattle.rt_laws.proofs.OpenRequests.{entries-grow, frees-is, newest-below, open-before, open-waits}
 use Rattle.rt_laws.proofs.Rules.{MeetsRules}
 
-pub none-ended : (g : Group) (r t s : ℕ) (past : Past) → entries_in past ≤ r → ends_all g r t s past ≡ 0
+none-ended : (g : Group) (r t s : ℕ) (past : Past) → entries_in past ≤ r → ends_all g r t s past ≡ 0
 unfolding ends_all is_open
 none-ended g r t s [] h = refl
 none-ended g r t s (e ∷ past) h = rw (shut) (by_case (frees s (sem_act e)) (none-ended g r t s past (omega (arith, h, entries-grow e past))))

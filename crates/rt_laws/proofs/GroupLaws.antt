@@ -33,7 +33,7 @@ has_room g rules s = by_case (first (users g s)) refl
     by_case None e = rules.has_cpu 0 rules.has_cluster
     by_case (Some u) e = rules.has_cpu (home g u) (rules.has_home u (user-task g s u (has-first u (users g s) (some-is u (first (users g s)) e))).0)
 
-pub distinct-tasks : (g : Group) → IsDistinct (tasks g)
+distinct-tasks : (g : Group) → IsDistinct (tasks g)
 unfolding tasks
 distinct-tasks g = distinct-filter _ _ (distinct-numbers_from 1 (length g.setup.tasks))
 

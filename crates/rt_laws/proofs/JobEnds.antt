@@ -137,7 +137,7 @@ own-unspent g q t act op past h k = by_case (accepted (answer g q act past)) ref
 
 -- ---- an enforced job that holds nothing and is preemptive has budget left
 
-abbrev pub IsUnspent : Group → Past → Type 0
+abbrev IsUnspent : Group → Past → Type 0
 IsUnspent g past = (t : ℕ) → has t (tasks g) ≡ true → (task g t).enforce ≡ true → is_empty (holds g t past) ≡ true → non_preemptive t past ≡ false → used t past < (task g t).cost
 
 spent-parts : (enforce le empty np : Bool) → enforce && (le && (empty && not np)) ≡ true → (enforce ≡ true) × (le ≡ true) × (empty ≡ true) × (np ≡ false)
@@ -167,7 +167,7 @@ unspent-move : (g : Group) {past : Past} {e : Event} → IsMove g past e → (t 
 unspent-move g (clock_moves tick) t op d k = cc
 unspent-move g {past} (cpu_acts q a) t op d k = own-unspent g q t a op past d k
 
-pub unspent : (g : Group) → MeetsRules g → {past : Past} → IsMade g past → IsUnspent g past
+unspent : (g : Group) → MeetsRules g → {past : Past} → IsMade g past → IsUnspent g past
 unfolding used this_job
 unspent g rules made = by_moves g (IsUnspent g) (λ t there en empty np. let cost : 1 ≤ (task g t).cost = rules.has_cost t there in cost) (λ past e made move before. unspent-step g rules e past (freed g move) (λ c. pcp_kept g rules c (moved g made move)) (unspent-move g move) before) made
 

@@ -15,11 +15,11 @@ use Rattle.rt_rules.proofs.BoolLaws.{both, either, or_true}
 use Rattle.rt_model.proofs.Steps.{done-step}
 use Rattle.rt_laws.proofs.Rules.{MeetsRules}
 
-pub now-grows : (e : Event) (past : Past) → now past ≤ now (e ∷ past)
+now-grows : (e : Event) (past : Past) → now past ≤ now (e ∷ past)
 now-grows (Clock tick) past = omega arith
 now-grows (Acted d) past = omega arith
 
-pub done-keeps : (t : ℕ) (e : Event) (past : Past) → ends_job t e ≡ false → done t (e ∷ past) ≡ done t past
+done-keeps : (t : ℕ) (e : Event) (past : Past) → ends_job t e ≡ false → done t (e ∷ past) ≡ done t past
 done-keeps t e past h = done-step t e past ∙ rw h
 
 slice_get-append : (xs ys : List ℕ) (k r : ℕ) → slice_get xs k ≡ Some r → slice_get (xs ++ ys) k ≡ Some r
@@ -60,7 +60,7 @@ early-periodic : (g : Group) → MeetsRules g → (t : ℕ) (past : Past) → op
 unfolding opens_early
 early-periodic g rules t past h = rules.is_periodic t (both (task g t).early (nat_lt 0 (done t past)) h).0
 
-pub release-keeps : (g : Group) → MeetsRules g → (t : ℕ) (e : Event) (past : Past) → exists g t past ≡ true → ends_job t e ≡ false → release g t (e ∷ past) ≡ release g t past
+release-keeps : (g : Group) → MeetsRules g → (t : ℕ) (e : Event) (past : Past) → exists g t past ≡ true → ends_job t e ≡ false → release g t (e ∷ past) ≡ release g t past
 unfolding release release_by
 release-keeps g rules t e past h k = rw (done-keeps t e past k) (split (there_by g t past h))
   where

@@ -37,7 +37,7 @@ use Rattle.rt_laws.proofs.OneWait.{WaitsOnce, waits_once}
 use Rattle.rt_laws.proofs.OpenRequests.{entries-grow, newest-below, open-before, open-waits}
 use Rattle.rt_laws.proofs.Rules.{MeetsRules}
 
-pub ends-none : (g : Group) (r t s : ℕ) (past : Past) → entries_in past ≤ r → ends g r t s past ≡ 0
+ends-none : (g : Group) (r t s : ℕ) (past : Past) → entries_in past ≤ r → ends g r t s past ≡ 0
 unfolding ends is_open
 ends-none g r t s [] h = refl
 ends-none g r t s (e ∷ past) h = rw (shut) (by_case (frees s (sem_act e)) (ends-none g r t s past (omega (arith, h, entries-grow e past))))
@@ -50,7 +50,7 @@ ends-none g r t s (e ∷ past) h = rw (shut) (by_case (frees s (sem_act e)) (end
     by_case false k = k
 
 -- one more event: a blocked end, or none
-abbrev pub IsEnd : Group → ℕ → ℕ → ℕ → Event → Past → Type 0
+abbrev IsEnd : Group → ℕ → ℕ → ℕ → Event → Past → Type 0
 IsEnd g r t s e past = (frees s (sem_act e) ≡ true) × (is_open g r t s past ≡ true) × (is_blocked g t past ≡ true) × (ends g r t s (e ∷ past) ≡ ends g r t s past + 1)
 
 ends-cases : (g : Group) (r t s : ℕ) (e : Event) (past : Past) → IsEnd g r t s e past ⊎ (ends g r t s (e ∷ past) ≡ ends g r t s past)

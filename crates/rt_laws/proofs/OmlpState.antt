@@ -45,7 +45,7 @@ omlp-fresh g s t past p a = (unless _ (λ h. split (has-split t (omlp g s past).
     split (inl k) = clash _ k empty_handed
     split (inr k) = clash _ k parts.0
 
-pub queued-event : (g : Group) → MeetsRules g → (s : ℕ) → protocol g s ≡ Omlp → stands_under Omlp g.setup.plugin ≡ true → (e : Event) (past : Past) → Asked g e past → IsQueued (cpus g (cluster_of g s)) (omlp g s past) → IsQueued (cpus g (cluster_of g s)) (omlp g s (e ∷ past))
+queued-event : (g : Group) → MeetsRules g → (s : ℕ) → protocol g s ≡ Omlp → stands_under Omlp g.setup.plugin ≡ true → (e : Event) (past : Past) → Asked g e past → IsQueued (cpus g (cluster_of g s)) (omlp g s past) → IsQueued (cpus g (cluster_of g s)) (omlp g s (e ∷ past))
 unfolding omlp
 queued-event g rules s p a e past asks k = queued-after (cpus g (cluster_of g s)) (above g past) (at_sem s (sem_act e)) (omlp g s past) (has_room g rules s) (above-order g past Omlp a) (λ t r h. omlp-fresh g s t past p (asks t s (at_sem-asks s t r (sem_act e) h))) k
 

@@ -39,7 +39,7 @@ pub open-waits : (g : Group) (r t s : ℕ) (past : Past) → is_open g r t s pas
 unfolding is_open
 open-waits g r t s past h = awaits-waits g t s past (is-some s (awaits g t past) (both (is s (awaits g t past)) (is r (newest_request t past)) h).0)
 
-pub asks-is : (t : ℕ) (x : SemAct) → asks t x ≡ true → (s : ℕ) × (x ≡ Asks t s)
+asks-is : (t : ℕ) (x : SemAct) → asks t x ≡ true → (s : ℕ) × (x ≡ Asks t s)
 asks-is t (Asks u s) h = let e : t ≡ u = eqb-true t u h in (s, ap {B = SemAct} (λ n. Asks n s) (sym e))
 asks-is t (Frees u s) h = cc
 asks-is t Neither h = cc

@@ -190,7 +190,7 @@ running-acted g rules {past} made before q t p act h = by_case (p == q) refl (rw
         subst (λ n. IsRunning g n t (Acted (past_act g p act past) ∷ past)) same r
     by_case false e k = running-other g rules made before q t p act e k
 
-abbrev pub AllRun : Group → Past → Type 0
+abbrev AllRun : Group → Past → Type 0
 AllRun g past = (q t : ℕ) → runs q past ≡ Some t → IsRunning g q t past
 
 running-step : (g : Group) → MeetsRules g → (past : Past) (e : Event) → IsMade g past → IsMove g past e → AllRun g past → AllRun g (e ∷ past)

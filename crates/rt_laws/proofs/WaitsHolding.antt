@@ -29,7 +29,7 @@ use Rattle.rt_laws.proofs.Waiting.{nobody-waits, waiting-step}
 
 -- ---- who holds a semaphore does not wait for it, but perhaps under PCP
 
-pub waits_not_at_own : (g : Group) → MeetsRules g → {past : Past} → IsMade g past → (t s : ℕ) → has s (sems g) ≡ true → is t (holder g s past) ≡ true → has t (sem_state g s past).waiting ≡ true → is_pcp (protocol g s) ≡ true
+waits_not_at_own : (g : Group) → MeetsRules g → {past : Past} → IsMade g past → (t s : ℕ) → has s (sems g) ≡ true → is t (holder g s past) ≡ true → has t (sem_state g s past).waiting ≡ true → is_pcp (protocol g s) ≡ true
 waits_not_at_own g rules {past} made t s there h w = by_protocol (protocol g s) refl
   where
     of_fmlp : protocol g s ≡ Fmlp → ⊥
@@ -59,7 +59,7 @@ waits_not_at_own g rules {past} made t s there h w = by_protocol (protocol g s) 
 
 -- ---- two semaphores
 
-abbrev pub WaitsUnderPcp : Group → Past → Type 0
+abbrev WaitsUnderPcp : Group → Past → Type 0
 WaitsUnderPcp g past = (t s r : ℕ) → has s (sems g) ≡ true → has r (sems g) ≡ true → is t (holder g s past) ≡ true → has t (sem_state g r past).waiting ≡ true → (is_pcp (protocol g s) ≡ true) × (is_pcp (protocol g r) ≡ true)
 
 -- who asks holds PCP semaphores alone, and only where it asks for one

@@ -30,7 +30,7 @@ either true b h = inl refl
 either false b h = inr h
 
 -- of two of which one holds it is the other
-pub or_else : (a b : Bool) → a || b ≡ true → a ≡ false → b ≡ true
+or_else : (a b : Bool) → a || b ≡ true → a ≡ false → b ≡ true
 or_else true b h k = cc
 or_else false b h k = h
 
@@ -38,11 +38,11 @@ pub or_true : (a : Bool) → a || true ≡ true
 or_true true = refl
 or_true false = refl
 
-pub or_false : (a : Bool) → a || false ≡ true → a ≡ true
+or_false : (a : Bool) → a || false ≡ true → a ≡ true
 or_false true h = refl
 or_false false h = cc
 
-pub and_false : (a : Bool) → a && false ≡ false
+and_false : (a : Bool) → a && false ≡ false
 and_false true = refl
 and_false false = refl
 

@@ -10,20 +10,20 @@ use Rattle.rt_rules.specs.Numbers.{foremost, has}
 use Rattle.rt_rules.proofs.BoolLaws.{clash, either, or_true, unless}
 use Rattle.rt_rules.proofs.MemberLaws.{equal_self, find-none, find-some, has-all, list_all-has, turned}
 
-abbrev pub lex : ℕ → ℕ → ℕ → ℕ → ℕ → ℕ → Bool
+abbrev lex : ℕ → ℕ → ℕ → ℕ → ℕ → ℕ → Bool
 lex a b c x y z = nat_lt a x || a == x && (nat_lt b y || b == y && nat_lt c z)
 
-pub lex-self : (a b c : ℕ) → lex a b c a b c ≡ false
+lex-self : (a b c : ℕ) → lex a b c a b c ≡ false
 lex-self a b c = grind (arith, nat_tests)
 
-pub lex-trans : (a b c x y z u v w : ℕ) → lex a b c x y z ≡ true → lex x y z u v w ≡ true → lex a b c u v w ≡ true
+lex-trans : (a b c x y z u v w : ℕ) → lex a b c x y z ≡ true → lex x y z u v w ≡ true → lex a b c u v w ≡ true
 lex-trans a b c x y z u v w h k = grind (arith, nat_tests)
 
 -- a is not above x, but above u: x is above u
-pub lex-mixed : (a b c x y z u v w : ℕ) → lex a b c x y z ≡ false → lex a b c u v w ≡ true → lex x y z u v w ≡ true
+lex-mixed : (a b c x y z u v w : ℕ) → lex a b c x y z ≡ false → lex a b c u v w ≡ true → lex x y z u v w ≡ true
 lex-mixed a b c x y z u v w h k = grind (arith, nat_tests)
 
-pub lex-total : (a b c x y z : ℕ) → c == z ≡ false → lex a b c x y z ≡ false → lex x y z a b c ≡ true
+lex-total : (a b c x y z : ℕ) → c == z ≡ false → lex a b c x y z ≡ false → lex x y z a b c ≡ true
 lex-total a b c x y z h k = grind (arith, nat_tests)
 
 pub higher-self : (k : Key) → higher k k ≡ false
@@ -39,7 +39,7 @@ pub higher-total : (i j : Key) → i.minor == j.minor ≡ false → higher i j �
 higher-total i j h k = lex-total i.band i.major i.minor j.band j.major j.minor h k
 
 -- x is above y, and z is not: x is above z
-pub lex-below : (a b c x y z u v w : ℕ) → lex a b c x y z ≡ true → lex u v w x y z ≡ false → lex a b c u v w ≡ true
+lex-below : (a b c x y z u v w : ℕ) → lex a b c x y z ≡ true → lex u v w x y z ≡ false → lex a b c u v w ≡ true
 lex-below a b c x y z u v w h k = grind (arith, nat_tests)
 
 pub higher-below : (i j k : Key) → higher i j ≡ true → higher k j ≡ false → higher i k ≡ true
@@ -50,7 +50,7 @@ pub higher-falls : (i j k : Key) → higher j i ≡ false → higher k j ≡ fal
 higher-falls i j k h m = unless _ (λ n. clash _ (higher-below k i j n h) m)
 
 -- a key that is not above one is not above the highest of it and others
-pub highest-above : (k j : Key) (js : List Key) → higher k j ≡ false → higher k (highest j js) ≡ false
+highest-above : (k j : Key) (js : List Key) → higher k j ≡ false → higher k (highest j js) ≡ false
 highest-above k j [] h = h
 highest-above k j (i ∷ is) h = highest-above k (if higher i j then i else j) is (by_case (higher i j) refl)
   where
@@ -78,7 +78,7 @@ pub record IsOrder (before : ℕ → ℕ → Bool) : Type 0 where
   pub trans : (x y z : ℕ) → before x y ≡ true → before y z ≡ true → before x z ≡ true
   pub total : (x y : ℕ) → x == y ≡ false → before x y ≡ false → before y x ≡ true
 
-pub leads-all : (before : ℕ → ℕ → Bool) → IsOrder before → (x : ℕ) (ys : List ℕ) → (b : ℕ) × (has b (x ∷ ys) ≡ true) × ((y : ℕ) → has y (x ∷ ys) ≡ true → b == y || before b y ≡ true)
+leads-all : (before : ℕ → ℕ → Bool) → IsOrder before → (x : ℕ) (ys : List ℕ) → (b : ℕ) × (has b (x ∷ ys) ≡ true) × ((y : ℕ) → has y (x ∷ ys) ≡ true → b == y || before b y ≡ true)
 leads-all before order x [] = (x, rw (equal_self x), λ y h. same y h)
   where
     same : (y : ℕ) → has y (x ∷ []) ≡ true → x == y || before x y ≡ true

@@ -77,7 +77,7 @@ has-without t u (x ∷ xs) h = by_case (u == x) h (has-without t u xs)
         join (inl m) = rw m
         join (inr m) = rw (r m) (or_true (t == x))
 
-pub without-other : (t u : ℕ) (xs : List ℕ) → has t xs ≡ true → t == u ≡ false → has t (without u xs) ≡ true
+without-other : (t u : ℕ) (xs : List ℕ) → has t xs ≡ true → t == u ≡ false → has t (without u xs) ≡ true
 without-other t u [] h ne = cc
 without-other t u (x ∷ xs) h ne = by_case (u == x) refl (either _ _ h) (without-other t u xs)
   where

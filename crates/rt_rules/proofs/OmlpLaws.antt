@@ -14,7 +14,7 @@ use Rattle.rt_rules.proofs.SemActLaws.{AsksSome, FreesSome, asks-some, frees-som
 
 -- ---- who waits
 
-abbrev pub waiting_in : OmlpState → List ℕ
+abbrev waiting_in : OmlpState → List ℕ
 waiting_in l = rest l.fifo ++ l.queue
 
 waiting-handed : (t : ℕ) (o : Option ℕ) (f q : List ℕ) → ((v : ℕ) → o ≡ Some v → has v q ≡ true) → has t (waiting_in (handed_over o (record { fifo = rest f; queue = q }))) ≡ true → has t (rest f ++ q) ≡ true

@@ -10,7 +10,7 @@ use Rattle.rt_rules.proofs.PairLaws.{has-by_key, has_pair, tasks_of_pairs}
 use Rattle.rt_rules.proofs.PcpLaws.{passes-cons}
 
 -- no later one is above an earlier one
-abbrev pub IsFalling : (ℕ → ℕ → Bool) → List TaskSem → Type 0
+abbrev IsFalling : (ℕ → ℕ → Bool) → List TaskSem → Type 0
 IsFalling before [] = ⊤
 IsFalling before (p ∷ ps) = ((t : ℕ) → has t (tasks_of_pairs ps) ≡ true → before t p.task ≡ false) × IsFalling before ps
 
@@ -18,7 +18,7 @@ pub record IsStrict (before : ℕ → ℕ → Bool) : Type 0 where
   pub trans : (x y z : ℕ) → before x y ≡ true → before y z ≡ true → before x z ≡ true
   pub self : (x : ℕ) → before x x ≡ false
 
-pub falling-by_key : (before : ℕ → ℕ → Bool) → IsStrict before → (p : TaskSem) (qs : List TaskSem) → IsFalling before qs → IsFalling before (by_key before p qs)
+falling-by_key : (before : ℕ → ℕ → Bool) → IsStrict before → (p : TaskSem) (qs : List TaskSem) → IsFalling before qs → IsFalling before (by_key before p qs)
 falling-by_key before order p [] f = (λ t h. cc, tt)
 falling-by_key before order p (q ∷ qs) f = by_case (before p.task q.task) refl (falling-by_key before order p qs f.1)
   where
@@ -39,7 +39,7 @@ falling-in_order before order [] = tt
 falling-in_order before order (p ∷ ps) = falling-by_key before order p (in_order before ps) (falling-in_order before order ps)
 
 -- who does not pass is not granted
-pub tested-none : (above_ceiling : ℕ → ℕ → Bool) (ps : List TaskSem) (l : PcpState) → ((t : ℕ) → has t (tasks_of_pairs ps) ≡ true → passes above_ceiling l.held t ≡ false) → tested above_ceiling ps l ≡ l
+tested-none : (above_ceiling : ℕ → ℕ → Bool) (ps : List TaskSem) (l : PcpState) → ((t : ℕ) → has t (tasks_of_pairs ps) ≡ true → passes above_ceiling l.held t ≡ false) → tested above_ceiling ps l ≡ l
 tested-none above_ceiling [] l h = refl
 tested-none above_ceiling (p ∷ ps) l h = let no : passes above_ceiling l.held p.task ≡ false = h p.task (rw (equal_self p.task)) in rw no (tested-none above_ceiling ps l (λ t k. h t (rw k (or_true (t == p.task)))))
 

@@ -27,14 +27,14 @@ passes-cons above_ceiling p ps t = by_case (p.task == t)
     by_case true = refl
     by_case false = refl
 
-pub passes-more : (above_ceiling : ℕ → ℕ → Bool) (p : TaskSem) (ps : List TaskSem) (t : ℕ) → passes above_ceiling ps t ≡ false → passes above_ceiling (p ∷ ps) t ≡ false
+passes-more : (above_ceiling : ℕ → ℕ → Bool) (p : TaskSem) (ps : List TaskSem) (t : ℕ) → passes above_ceiling ps t ≡ false → passes above_ceiling (p ∷ ps) t ≡ false
 passes-more above_ceiling p ps t h = rw (passes-cons, h) (last (p.task == t || above_ceiling t p.sem))
   where
     last : (b : Bool) → b && false ≡ false
     last true = refl
     last false = refl
 
-pub passes-without_pair : (above_ceiling : ℕ → ℕ → Bool) (q : TaskSem) (ps : List TaskSem) (t : ℕ) → passes above_ceiling ps t ≡ true → passes above_ceiling (without_pair q ps) t ≡ true
+passes-without_pair : (above_ceiling : ℕ → ℕ → Bool) (q : TaskSem) (ps : List TaskSem) (t : ℕ) → passes above_ceiling ps t ≡ true → passes above_ceiling (without_pair q ps) t ≡ true
 passes-without_pair above_ceiling q [] t h = refl
 passes-without_pair above_ceiling q (p ∷ ps) t h = by_case (is_same_pair q p) (both (p.task == t || above_ceiling t p.sem) (passes above_ceiling ps t) (rw passes-cons at h)) (passes-without_pair above_ceiling q ps t)
   where
@@ -57,7 +57,7 @@ passes-above_ceiling above_ceiling (p ∷ ps) t u s h k ne = split (both _ _ (rw
 
 -- ---- the tests after an Unlock
 
-pub tested-blocked : (above_ceiling : ℕ → ℕ → Bool) (t : ℕ) (ps : List TaskSem) (l : PcpState) → passes above_ceiling l.held t ≡ false → passes above_ceiling (tested above_ceiling ps l).held t ≡ false
+tested-blocked : (above_ceiling : ℕ → ℕ → Bool) (t : ℕ) (ps : List TaskSem) (l : PcpState) → passes above_ceiling l.held t ≡ false → passes above_ceiling (tested above_ceiling ps l).held t ≡ false
 tested-blocked above_ceiling t [] l h = h
 tested-blocked above_ceiling t (p ∷ ps) l h = tested-blocked above_ceiling t ps (if passes above_ceiling l.held p.task then granted p l else l) (by_case (passes above_ceiling l.held p.task))
   where
@@ -65,7 +65,7 @@ tested-blocked above_ceiling t (p ∷ ps) l h = tested-blocked above_ceiling t p
     by_case true = passes-more above_ceiling p l.held t h
     by_case false = h
 
-pub waiting-tested : (above_ceiling : ℕ → ℕ → Bool) (t s : ℕ) (ps : List TaskSem) (l : PcpState) → has_pair t s (tested above_ceiling ps l).waiting ≡ true → has_pair t s l.waiting ≡ true
+waiting-tested : (above_ceiling : ℕ → ℕ → Bool) (t s : ℕ) (ps : List TaskSem) (l : PcpState) → has_pair t s (tested above_ceiling ps l).waiting ≡ true → has_pair t s l.waiting ≡ true
 waiting-tested above_ceiling t s [] l h = h
 waiting-tested above_ceiling t s (p ∷ ps) l h = by_case (passes above_ceiling l.held p.task) (waiting-tested above_ceiling t s ps (if passes above_ceiling l.held p.task then granted p l else l) h)
   where
@@ -73,7 +73,7 @@ waiting-tested above_ceiling t s (p ∷ ps) l h = by_case (passes above_ceiling 
     by_case true k = has_pair-without_pair t s p l.waiting k
     by_case false k = k
 
-pub tested-gone : (above_ceiling : ℕ → ℕ → Bool) (t s : ℕ) (ps : List TaskSem) (l : PcpState) → has_pair t s l.waiting ≡ false → has_pair t s (tested above_ceiling ps l).waiting ≡ false
+tested-gone : (above_ceiling : ℕ → ℕ → Bool) (t s : ℕ) (ps : List TaskSem) (l : PcpState) → has_pair t s l.waiting ≡ false → has_pair t s (tested above_ceiling ps l).waiting ≡ false
 tested-gone above_ceiling t s [] l h = h
 tested-gone above_ceiling t s (p ∷ ps) l h = tested-gone above_ceiling t s ps (if passes above_ceiling l.held p.task then granted p l else l) (by_case (passes above_ceiling l.held p.task))
   where
@@ -82,7 +82,7 @@ tested-gone above_ceiling t s (p ∷ ps) l h = tested-gone above_ceiling t s ps 
     by_case false = h
 
 -- who was tried and still waits does not pass
-pub tested-waits : (above_ceiling : ℕ → ℕ → Bool) (t s : ℕ) (ps : List TaskSem) (l : PcpState) → has_pair t s ps ≡ true → has_pair t s (tested above_ceiling ps l).waiting ≡ true → passes above_ceiling (tested above_ceiling ps l).held t ≡ false
+tested-waits : (above_ceiling : ℕ → ℕ → Bool) (t s : ℕ) (ps : List TaskSem) (l : PcpState) → has_pair t s ps ≡ true → has_pair t s (tested above_ceiling ps l).waiting ≡ true → passes above_ceiling (tested above_ceiling ps l).held t ≡ false
 tested-waits above_ceiling t s [] l h k = cc
 tested-waits above_ceiling t s (p ∷ ps) l h k = split (either (t == p.task && s == p.sem) _ h) (λ m. tested-waits above_ceiling t s ps (if passes above_ceiling l.held p.task then granted p l else l) m k)
   where
@@ -94,7 +94,7 @@ tested-waits above_ceiling t s (p ∷ ps) l h k = split (either (t == p.task && 
     split (inl m) r = let e = both (t == p.task) (s == p.sem) m in at_head (eqb-true t p.task e.0) (eqb-true s p.sem e.1) (passes above_ceiling l.held p.task) refl k
     split (inr m) r = r m
 
-pub tested-stacked : (above_ceiling : ℕ → ℕ → Bool) (ps : List TaskSem) (l : PcpState) → IsStacked above_ceiling l.held → IsStacked above_ceiling (tested above_ceiling ps l).held
+tested-stacked : (above_ceiling : ℕ → ℕ → Bool) (ps : List TaskSem) (l : PcpState) → IsStacked above_ceiling l.held → IsStacked above_ceiling (tested above_ceiling ps l).held
 tested-stacked above_ceiling [] l h = h
 tested-stacked above_ceiling (p ∷ ps) l h = tested-stacked above_ceiling ps (if passes above_ceiling l.held p.task then granted p l else l) (by_case (passes above_ceiling l.held p.task) refl)
   where
@@ -102,7 +102,7 @@ tested-stacked above_ceiling (p ∷ ps) l h = tested-stacked above_ceiling ps (i
     by_case true e = (e, h)
     by_case false e = h
 
-pub stacked-without_pair : (above_ceiling : ℕ → ℕ → Bool) (q : TaskSem) (ps : List TaskSem) → IsStacked above_ceiling ps → IsStacked above_ceiling (without_pair q ps)
+stacked-without_pair : (above_ceiling : ℕ → ℕ → Bool) (q : TaskSem) (ps : List TaskSem) → IsStacked above_ceiling ps → IsStacked above_ceiling (without_pair q ps)
 stacked-without_pair above_ceiling q [] h = tt
 stacked-without_pair above_ceiling q (p ∷ ps) h = by_case (is_same_pair q p) (stacked-without_pair above_ceiling q ps h.1)
   where
@@ -110,7 +110,7 @@ stacked-without_pair above_ceiling q (p ∷ ps) h = by_case (is_same_pair q p) (
     by_case true r = r
     by_case false r = (passes-without_pair above_ceiling q ps p.task h.0, r)
 
-pub tested-from : (above_ceiling : ℕ → ℕ → Bool) (t s : ℕ) (ps : List TaskSem) (l : PcpState) → has_pair t s (tested above_ceiling ps l).waiting ≡ true → has_pair t s l.waiting ≡ true
+tested-from : (above_ceiling : ℕ → ℕ → Bool) (t s : ℕ) (ps : List TaskSem) (l : PcpState) → has_pair t s (tested above_ceiling ps l).waiting ≡ true → has_pair t s l.waiting ≡ true
 tested-from above_ceiling t s ps l h = by_case (has_pair t s l.waiting) refl
   where
     by_case : (b : Bool) → has_pair t s l.waiting ≡ b → b ≡ true
@@ -162,7 +162,7 @@ pcp-waits above above_ceiling t s (Asks u r) l h = by_case (passes above_ceiling
 pcp-waits above above_ceiling t s (Frees u r) l h = inl (waiting-tested above_ceiling t s (in_order above l.waiting) _ h)
 pcp-waits above above_ceiling t s Neither l h = inl h
 
-pub tested-held : (above_ceiling : ℕ → ℕ → Bool) (t s : ℕ) (ps : List TaskSem) (l : PcpState) → has_pair t s (tested above_ceiling ps l).held ≡ true → (has_pair t s l.held ≡ true) ⊎ (has_pair t s ps ≡ true)
+tested-held : (above_ceiling : ℕ → ℕ → Bool) (t s : ℕ) (ps : List TaskSem) (l : PcpState) → has_pair t s (tested above_ceiling ps l).held ≡ true → (has_pair t s l.held ≡ true) ⊎ (has_pair t s ps ≡ true)
 tested-held above_ceiling t s [] l h = inl h
 tested-held above_ceiling t s (p ∷ ps) l h = join (tested-held above_ceiling t s ps (if passes above_ceiling l.held p.task then granted p l else l) h)
   where
@@ -215,7 +215,7 @@ pcp-stands above above_ceiling t s x l h = split (either (has_pair t s (pcp_afte
     split (inl k) = held (pcp-held above above_ceiling t s x l k)
     split (inr k) = waiting (pcp-waits above above_ceiling t s x l k)
 
-pub tested-keeps : (above_ceiling : ℕ → ℕ → Bool) (t s : ℕ) (ps : List TaskSem) (l : PcpState) → has_pair t s l.held ≡ true → has_pair t s (tested above_ceiling ps l).held ≡ true
+tested-keeps : (above_ceiling : ℕ → ℕ → Bool) (t s : ℕ) (ps : List TaskSem) (l : PcpState) → has_pair t s l.held ≡ true → has_pair t s (tested above_ceiling ps l).held ≡ true
 tested-keeps above_ceiling t s [] l h = h
 tested-keeps above_ceiling t s (p ∷ ps) l h = tested-keeps above_ceiling t s ps (if passes above_ceiling l.held p.task then granted p l else l) (by_case (passes above_ceiling l.held p.task))
   where
@@ -265,7 +265,7 @@ newest-other above_ceiling p ps t k h = unless _ (λ e. let same : p.task ≡ t 
 
 -- ---- each waiting task stands once
 
-pub distinct-tested : (above_ceiling : ℕ → ℕ → Bool) (ps : List TaskSem) (l : PcpState) → IsDistinct (tasks_of_pairs l.waiting) → IsDistinct (tasks_of_pairs (tested above_ceiling ps l).waiting)
+distinct-tested : (above_ceiling : ℕ → ℕ → Bool) (ps : List TaskSem) (l : PcpState) → IsDistinct (tasks_of_pairs l.waiting) → IsDistinct (tasks_of_pairs (tested above_ceiling ps l).waiting)
 distinct-tested above_ceiling [] l d = d
 distinct-tested above_ceiling (p ∷ ps) l d = distinct-tested above_ceiling ps (if passes above_ceiling l.held p.task then granted p l else l) (by_case (passes above_ceiling l.held p.task))
   where
