@@ -29,6 +29,7 @@ pub record IsAsked (g : Group) (t s : ℕ) (past : Past) : Type 0 where
   pub awake : sleeps t past ≡ false
   pub waits_none : (r : ℕ) → has r (sems g) ≡ true → has t (sem_state g r past).waiting ≡ false
 
+-- whoever asks in an event is as `IsAsked` says
 abbrev pub Asked : Group → Event → Past → Type 0
 Asked g e past = (t s : ℕ) → sem_act e ≡ Asks t s → IsAsked g t s past
 
@@ -36,6 +37,7 @@ Asked g e past = (t s : ℕ) → sem_act e ≡ Asks t s → IsAsked g t s past
 abbrev pub Freed : Group → Event → Past → Type 0
 Freed g e past = (t s : ℕ) → sem_act e ≡ Frees t s → is t (holder g s past) ≡ true
 
+-- what an event that asks says of the past before it
 pub asked : (g : Group) → MeetsRules g → {past : Past} {e : Event} → IsMade g past → IsMove g past e → Asked g e past
 asked g rules made (clock_moves tick) t s h = cc
 asked g rules {past} made (cpu_acts q a) t s h =
@@ -51,6 +53,7 @@ asked g rules {past} made (cpu_acts q a) t s h =
       waits_none = r.waits_none;
     }
 
+-- what an event that frees says of the past before it
 pub freed : (g : Group) {past : Past} {e : Event} → IsMove g past e → Freed g e past
 freed g (clock_moves tick) t s h = cc
 freed g {past} (cpu_acts q a) t s h = (frees g q a past t s h).held

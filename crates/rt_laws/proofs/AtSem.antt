@@ -7,6 +7,7 @@ use Rattle.rt_model.specs.Group.{Group, home, protocol}
 use Rattle.rt_model.specs.Semaphores.{at_sem}
 use Rattle.rt_rules.proofs.BoolLaws.{both}
 
+-- an act at a semaphore that asks is one that asks for that semaphore
 pub at_sem-asks : (s t r : ℕ) (x : SemAct) → at_sem s x ≡ Asks t r → x ≡ Asks t s
 at_sem-asks s t r (Asks u v) h = by_case (s == v) refl h
   where
@@ -20,6 +21,7 @@ at_sem-asks s t r (Frees u v) h = by_case (s == v) h
     by_case false k = cc
 at_sem-asks s t r Neither h = cc
 
+-- an act at a semaphore that frees is one that frees that semaphore
 pub at_sem-frees : (s t r : ℕ) (x : SemAct) → at_sem s x ≡ Frees t r → x ≡ Frees t s
 at_sem-frees s t r (Asks u v) h = by_case (s == v) h
   where
@@ -33,6 +35,7 @@ at_sem-frees s t r (Frees u v) h = by_case (s == v) refl h
     by_case false e k = cc
 at_sem-frees s t r Neither h = cc
 
+-- an act of a cluster that asks is one of a task of the cluster at a PCP semaphore
 pub at_cluster-asks : (g : Group) (c t s : ℕ) (x : SemAct) → at_cluster g c x ≡ Asks t s → (x ≡ Asks t s) × (home g t ≡ c) × (is_pcp (protocol g s) ≡ true)
 unfolding at_cluster
 at_cluster-asks g c t s (Asks u r) h = by_case (home g u == c && is_pcp (protocol g r)) refl h
@@ -47,6 +50,7 @@ at_cluster-asks g c t s (Frees u r) h = by_case (home g u == c && is_pcp (protoc
     by_case false k = cc
 at_cluster-asks g c t s Neither h = cc
 
+-- an act of a cluster that frees is one that frees
 pub at_cluster-frees : (g : Group) (c t s : ℕ) (x : SemAct) → at_cluster g c x ≡ Frees t s → x ≡ Frees t s
 unfolding at_cluster
 at_cluster-frees g c t s (Asks u r) h = by_case (home g u == c && is_pcp (protocol g r)) h

@@ -26,6 +26,7 @@ minor-is g t past x h = by_plugin g.setup.plugin x h
     by_plugin plugins.PRes Pcp k = cc
     by_plugin plugins.PRes Mpcp k = cc
 
+-- under a plugin with semaphores base keys are in a total order by task
 pub above-order : (g : Group) (past : Past) (x : Protocol) → stands_under x g.setup.plugin ≡ true → IsOrder (above g past)
 unfolding above
 above-order g past x h = record {
@@ -33,6 +34,7 @@ above-order g past x h = record {
   total = λ t u ne k. higher-total (base_key g t past) (base_key g u past) (rw (minor-is g t past x h, minor-is g u past x h) ne) k;
 }
 
+-- no task is above itself, and above is transitive
 pub above-strict : (g : Group) (past : Past) → IsStrict (above g past)
 unfolding above
 above-strict g past = record {

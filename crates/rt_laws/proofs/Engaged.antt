@@ -23,6 +23,7 @@ use Rattle.rt_laws.proofs.Asked.{Freed}
 use Rattle.rt_laws.proofs.AtSem.{at_cluster-asks, at_cluster-frees, at_sem-asks, at_sem-frees}
 use Rattle.rt_laws.proofs.PcpState.{IsPcpKept, first-pcp, pcp-first}
 
+-- the same by protocol, over the state of the semaphore
 unfoldable pub engaged_by : (g : Group) → Protocol → ℕ → ℕ → Past → Bool
 engaged_by g Fmlp t s past = has t (fmlp g s past)
 engaged_by g Omlp t s past = has t (members (omlp g s past))
@@ -33,6 +34,7 @@ engaged_by g Pcp t s past = stands_for t s (pcp g (cluster_of g s) past)
 unfoldable pub engaged : (g : Group) → ℕ → ℕ → Past → Bool
 engaged g t s past = engaged_by g (protocol g s) t s past
 
+-- who is engaged after an event was before it, or asks in it
 pub engaged-step : (g : Group) (t s : ℕ) (e : Event) (past : Past) → engaged g t s (e ∷ past) ≡ true → (engaged g t s past ≡ true) ⊎ (sem_act e ≡ Asks t s)
 unfolding engaged engaged_by fmlp omlp mpcp pcp
 engaged-step g t s e past h = by_protocol (protocol g s) h
@@ -54,6 +56,7 @@ engaged-step g t s e past h = by_protocol (protocol g s) h
         split (inl m) = inl m
         split (inr m) = inr (at_cluster-asks g (cluster_of g s) t s (sem_act e) m).0
 
+-- at the opening nobody is engaged
 pub nobody-engaged : (g : Group) (t s : ℕ) → engaged g t s [] ≡ false
 unfolding engaged engaged_by fmlp omlp mpcp pcp
 nobody-engaged g t s = by_protocol (protocol g s)
@@ -87,6 +90,7 @@ engaged-cases g t s past kept h = by_protocol (protocol g s) h
         split (inl m) = inl (pcp-first g (cluster_of g s) t s (pcp g (cluster_of g s) past) kept m)
         split (inr m) = inr (rw has-of_sem m)
 
+-- who holds is engaged
 pub holder-engaged : (g : Group) (t s : ℕ) (past : Past) → is t (holder g s past) ≡ true → engaged g t s past ≡ true
 unfolding engaged engaged_by holder sem_state sem_state_by
 holder-engaged g t s past h = by_protocol (protocol g s) h
@@ -97,6 +101,7 @@ holder-engaged g t s past h = by_protocol (protocol g s) h
     by_protocol Mpcp k = rw k
     by_protocol Pcp k = rw (first-pcp t s (pcp g (cluster_of g s) past) k)
 
+-- who waits is engaged
 pub waiting-engaged : (g : Group) (t s : ℕ) (past : Past) → has t (sem_state g s past).waiting ≡ true → engaged g t s past ≡ true
 unfolding engaged engaged_by holder sem_state sem_state_by
 waiting-engaged g t s past h = by_protocol (protocol g s) h
@@ -111,6 +116,7 @@ waiting-engaged g t s past h = by_protocol (protocol g s) h
     by_protocol Mpcp k = rw k (or_true (is t (mpcp g s past).holder))
     by_protocol Pcp k = let m : has_pair t s (pcp g (cluster_of g s) past).waiting ≡ true = sym (has-of_sem t s (pcp g (cluster_of g s) past).waiting) ∙ k in rw m (or_true (has_pair t s (pcp g (cluster_of g s) past).held))
 
+-- who holds goes on until it frees
 pub holder-stays : (g : Group) (t s : ℕ) (e : Event) (past : Past) → Freed g e past → IsPcpKept g (cluster_of g s) (pcp g (cluster_of g s) (e ∷ past)) → is t (holder g s past) ≡ true → (is t (holder g s (e ∷ past)) ≡ true) ⊎ (sem_act e ≡ Frees t s)
 unfolding holder sem_state sem_state_by fmlp omlp mpcp pcp
 holder-stays g t s e past frees kept h = by_protocol (protocol g s) refl h

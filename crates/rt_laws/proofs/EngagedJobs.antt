@@ -22,6 +22,7 @@ pub record IsActive (g : Group) (t s : ℕ) (past : Past) : Type 0 where
   pub awake : sleeps t past ≡ false
   pub user : has t (users g s) ≡ true
 
+-- whoever is engaged has a job that is there and awake
 abbrev pub AllActive : Group → Past → Type 0
 AllActive g past = (t s : ℕ) → has s (sems g) ≡ true → engaged g t s past ≡ true → IsActive g t s past
 
@@ -39,6 +40,7 @@ active-step g rules e past next before t s there h = kept (was (engaged-step g t
       user = k.user;
     }
 
+-- so it is after every move
 pub all_active : (g : Group) → MeetsRules g → {past : Past} → IsMade g past → AllActive g past
 all_active g rules made = by_moves g (AllActive g) (λ t s there h. absurd (clash _ h (nobody-engaged g t s))) (λ past e made move before. active-step g rules e past (next g rules made move) before) made
 

@@ -24,6 +24,7 @@ use Rattle.rt_laws.proofs.OneWait.{WaitsOnce, waits_once}
 use Rattle.rt_laws.proofs.OpenRequests.{entries-grow, frees-is, newest-below, open-before, open-waits}
 use Rattle.rt_laws.proofs.Rules.{MeetsRules}
 
+-- nothing ended before the request was asked
 none-ended : (g : Group) (r t s : ℕ) (past : Past) → entries_in past ≤ r → ends_all g r t s past ≡ 0
 unfolding ends_all is_open
 none-ended g r t s [] h = refl
@@ -107,5 +108,6 @@ nothing-counted : (g : Group) (r t s : ℕ) → IsCounted g r t s []
 unfolding ends_all fmlp
 nothing-counted g r t s = record { so_far = omega arith; still = λ h. omega arith }
 
+-- so it is after every move
 pub counted : (g : Group) → MeetsRules g → (r t s : ℕ) → protocol g s ≡ Fmlp → {past : Past} → IsMade g past → IsCounted g r t s past
 counted g rules r t s p made = by_moves g (IsCounted g r t s) (nothing-counted g r t s) (λ past e made move before. counted-step g rules r t s p e past (waits_once g rules made) (next g rules made move) (fmlp-line g rules s p made) before) made

@@ -16,10 +16,12 @@ use Rattle.rt_rules.proofs.NumberLaws.{distinct-numbers_from}
 use Rattle.rt_rules.proofs.PlacingLaws.{distinct-filter}
 use Rattle.rt_laws.proofs.Rules.{MeetsRules}
 
+-- a user is a task of the group that declares the semaphore
 pub user-task : (g : Group) (s t : ℕ) → has t (users g s) ≡ true → (has t (tasks g) ≡ true) × (declares g t s ≡ true)
 unfolding users
 user-task g s t h = both _ _ (rw has-filter at h)
 
+-- a task of the group that declares a semaphore is a user
 pub task-user : (g : Group) (s t : ℕ) → has t (tasks g) ≡ true → declares g t s ≡ true → has t (users g s) ≡ true
 unfolding users
 task-user g s t h k = rw (has-filter (λ u. declares g u s) t (tasks g), h, k)
@@ -33,18 +35,22 @@ has_room g rules s = by_case (first (users g s)) refl
     by_case None e = rules.has_cpu 0 rules.has_cluster
     by_case (Some u) e = rules.has_cpu (home g u) (rules.has_home u (user-task g s u (has-first u (users g s) (some-is u (first (users g s)) e))).0)
 
+-- each task stands once among the tasks
 distinct-tasks : (g : Group) → IsDistinct (tasks g)
 unfolding tasks
 distinct-tasks g = distinct-filter _ _ (distinct-numbers_from 1 (length g.setup.tasks))
 
+-- each user stands once among the users
 pub distinct-users : (g : Group) (s : ℕ) → IsDistinct (users g s)
 unfolding users
 distinct-users g s = distinct-filter _ (tasks g) (distinct-tasks g)
 
+-- a task of a cluster is one of the group, at home there
 pub tasks_of-home : (g : Group) (c t : ℕ) → has t (tasks_of g c) ≡ true → (has t (tasks g) ≡ true) × (home g t ≡ c)
 unfolding tasks_of
 tasks_of-home g c t h = let q = both _ _ (rw has-filter at h) in (q.0, eqb-true (home g t) c q.1)
 
+-- a task of the group is one of its home
 pub home-tasks_of : (g : Group) (t : ℕ) → has t (tasks g) ≡ true → has t (tasks_of g (home g t)) ≡ true
 unfolding tasks_of
 home-tasks_of g t h = rw (has-filter (λ u. home g u == home g t) t (tasks g), h, equal_self (home g t))
@@ -62,6 +68,7 @@ user-home g rules s t one h = by_case (first (users g s)) refl
     by_case None e = absurd (not_empty (users g s) e h)
     by_case (Some u) e = rules.shares s t u one h (has-first u (users g s) (some-is u (first (users g s)) e))
 
+-- the users of a PCP semaphore are to be of one cluster
 pub pcp-shares : (p : PluginKind) (x : Protocol) → is_pcp x ≡ true → is_of_one_cluster x p ≡ true
 pcp-shares p Pcp h = refl
 pcp-shares p Fmlp h = cc

@@ -26,6 +26,7 @@ rest-there : (t : ℕ) (xs : List ℕ) → has t (rest xs) ≡ true → is_none 
 rest-there t [] h = cc
 rest-there t (x ∷ xs) h = refl
 
+-- a semaphore that a task waits for has a holder
 pub has_holder : (g : Group) → MeetsRules g → {past : Past} → IsMade g past → (t s : ℕ) → has s (sems g) ≡ true → is_pcp (protocol g s) ≡ false → has t (sem_state g s past).waiting ≡ true → is_none (holder g s past) ≡ false
 has_holder g rules {past} made t s there n w = by_protocol (protocol g s) refl
   where

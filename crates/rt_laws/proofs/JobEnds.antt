@@ -137,6 +137,7 @@ own-unspent g q t act op past h k = by_case (accepted (answer g q act past)) ref
 
 -- ---- an enforced job that holds nothing and is preemptive has budget left
 
+-- an enforced task that holds nothing and is preemptive has used less than its cost
 abbrev IsUnspent : Group → Past → Type 0
 IsUnspent g past = (t : ℕ) → has t (tasks g) ≡ true → (task g t).enforce ≡ true → is_empty (holds g t past) ≡ true → non_preemptive t past ≡ false → used t past < (task g t).cost
 
@@ -167,6 +168,7 @@ unspent-move : (g : Group) {past : Past} {e : Event} → IsMove g past e → (t 
 unspent-move g (clock_moves tick) t op d k = cc
 unspent-move g {past} (cpu_acts q a) t op d k = own-unspent g q t a op past d k
 
+-- so it is after every move
 unspent : (g : Group) → MeetsRules g → {past : Past} → IsMade g past → IsUnspent g past
 unfolding used this_job
 unspent g rules made = by_moves g (IsUnspent g) (λ t there en empty np. let cost : 1 ≤ (task g t).cost = rules.has_cost t there in cost) (λ past e made move before. unspent-step g rules e past (freed g move) (λ c. pcp_kept g rules c (moved g made move)) (unspent-move g move) before) made
@@ -182,6 +184,7 @@ end-holds_nothing g q t past r a = by_cases (non_preemptive t past) (is_empty (h
     by_cases false true k = refl
     by_cases false false k = cc
 
+-- a job that is ended by force
 pub record IsSpent (g : Group) (t : ℕ) (past : Past) : Type 0 where
   pub enforced : (task g t).enforce ≡ true
   pub used_up : (task g t).cost ≤ used t past
@@ -209,6 +212,7 @@ same_request : (g : Group) (q : ℕ) (act : Act) (past : Past) → sem_act (Acte
 unfolding past_act attempt
 same_request g q act past = refl
 
+-- whose job ends in an event is engaged nowhere after it
 pub ended-free : (g : Group) → MeetsRules g → {past : Past} → IsMade g past → (q t s : ℕ) (act : Act) → has s (sems g) ≡ true → is t (past_act g q act past).ended ≡ true → engaged g t s (Acted (past_act g q act past) ∷ past) ≡ true → ⊥
 ended-free g rules {past} made q t s act there h engaged_after = by_how how.1
   where

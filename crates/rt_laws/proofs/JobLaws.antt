@@ -15,10 +15,12 @@ use Rattle.rt_rules.proofs.BoolLaws.{both, either, or_true}
 use Rattle.rt_model.proofs.Steps.{done-step}
 use Rattle.rt_laws.proofs.Rules.{MeetsRules}
 
+-- the clock does not go back
 now-grows : (e : Event) (past : Past) → now past ≤ now (e ∷ past)
 now-grows (Clock tick) past = omega arith
 now-grows (Acted d) past = omega arith
 
+-- an event that ends no job of a task leaves how many have ended
 done-keeps : (t : ℕ) (e : Event) (past : Past) → ends_job t e ≡ false → done t (e ∷ past) ≡ done t past
 done-keeps t e past h = done-step t e past ∙ rw h
 
@@ -60,6 +62,7 @@ early-periodic : (g : Group) → MeetsRules g → (t : ℕ) (past : Past) → op
 unfolding opens_early
 early-periodic g rules t past h = rules.is_periodic t (both (task g t).early (nat_lt 0 (done t past)) h).0
 
+-- while a job that is there goes on, its release stays
 release-keeps : (g : Group) → MeetsRules g → (t : ℕ) (e : Event) (past : Past) → exists g t past ≡ true → ends_job t e ≡ false → release g t (e ∷ past) ≡ release g t past
 unfolding release release_by
 release-keeps g rules t e past h k = rw (done-keeps t e past k) (split (there_by g t past h))
@@ -70,6 +73,7 @@ release-keeps g rules t e past h k = rw (done-keeps t e past k) (split (there_by
         release_by-keeps g (task g t).kind t (done t past) r.0 e past r.1 ∙ sym r.1
     split (inr m) = rw (early-periodic g rules t past m)
 
+-- while a job that is there goes on, it stays there
 pub exists-keeps : (g : Group) → MeetsRules g → (t : ℕ) (e : Event) (past : Past) → exists g t past ≡ true → ends_job t e ≡ false → exists g t (e ∷ past) ≡ true
 unfolding exists is_released opens_early
 exists-keeps g rules t e past h k = split (there_by g t past h)
@@ -81,6 +85,7 @@ exists-keeps g rules t e past h k = split (there_by g t past h)
         rw (same, le-leb r.0 (now (e ∷ past)) (omega (arith, now-grows e past, r.2)))
     split (inr m) = rw (done-keeps t e past k, m) (or_true (has_come (now (e ∷ past)) (release g t (e ∷ past))))
 
+-- while a job that is there goes on, its base key stays
 pub base_key-keeps : (g : Group) → MeetsRules g → (t : ℕ) (e : Event) (past : Past) → exists g t past ≡ true → ends_job t e ≡ false → base_key g t (e ∷ past) ≡ base_key g t past
 unfolding base_key deadline key_by
 base_key-keeps g rules t e past h k = by_plugin g.setup.plugin

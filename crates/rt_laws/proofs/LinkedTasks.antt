@@ -20,6 +20,7 @@ use Rattle.rt_model.proofs.PastLaws.{length-links, links-top, processor-home, si
 use Rattle.rt_model.proofs.TopLaws.{tasks-ranked}
 use Rattle.rt_laws.proofs.GroupLaws.{tasks_of-home}
 
+-- a task of the top is an eligible task of the cluster
 pub top-eligible : (g : Group) (c t : ℕ) (past : Past) → has t (top g c past) ≡ true → (has t (tasks_of g c) ≡ true) × (eligible g t past ≡ true)
 unfolding top ranking
 top-eligible g c t past h =
@@ -37,12 +38,14 @@ first_in-le (k ∷ ks) q = by_case (nat_lt q k.cpus) refl (first_in-le ks (q - k
     by_case true e h = omega arith
     by_case false e h = omega (arith, ltb-false q k.cpus e, h)
 
+-- what is known of a task that is linked to a processor
 pub record IsLinked (g : Group) (q t : ℕ) (past : Past) : Type 0 where
   pub at_home : cluster_with g q ≡ home g t
   pub placed : has q (processors g (home g t)) ≡ true
   pub member : has t (tasks g) ≡ true
   pub was_eligible : eligible g t past ≡ true
 
+-- a task that is linked to a processor is of its cluster and was eligible
 pub linked-eligible : (g : Group) {past : Past} → IsMade g past → (q t : ℕ) → is t (linked g q past) ≡ true → IsLinked g q t past
 unfolding linked processors first_cpu cluster_with
 linked-eligible g {past} made q t h =

@@ -18,10 +18,12 @@ use Rattle.rt_laws.proofs.Holding.{holds-none}
 use Rattle.rt_laws.proofs.Moves.{by_moves}
 use Rattle.rt_laws.proofs.Rules.{MeetsRules}
 
+-- the state of an MPCP semaphore
 pub mpcp-is : (g : Group) (s : ℕ) (past : Past) → protocol g s ≡ Mpcp → sem_state g s past ≡ mpcp g s past
 unfolding sem_state sem_state_by
 mpcp-is g s past h = rw h
 
+-- its holder
 pub mpcp-holder : (g : Group) (s : ℕ) (past : Past) → protocol g s ≡ Mpcp → holder g s past ≡ (mpcp g s past).holder
 unfolding holder
 mpcp-holder g s past h = ap (λ (l : SemState). l.holder) (mpcp-is g s past h)
@@ -33,6 +35,7 @@ mpcp-once-step : (g : Group) (s : ℕ) → protocol g s ≡ Mpcp → (e : Event)
 unfolding mpcp
 mpcp-once-step g s p e past asks k = mpcp-once (above g past) (at_sem s (sem_act e)) (mpcp g s past) (λ t r h. mpcp-fresh g s t past p (asks t s (at_sem-asks s t r (sem_act e) h))) k
 
+-- after every move nobody stands twice
 pub mpcp_once : (g : Group) → MeetsRules g → (s : ℕ) → protocol g s ≡ Mpcp → {past : Past} → IsMade g past → StandsOnce (mpcp g s past)
 unfolding mpcp
 mpcp_once g rules s p made = by_moves g (λ past. StandsOnce (mpcp g s past)) (record { once = tt; apart = λ t h. cc }) (λ past e made move before. mpcp-once-step g s p e past (asked g rules made move) before) made

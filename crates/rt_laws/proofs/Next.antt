@@ -81,12 +81,14 @@ awake-act g rules {past} made q t s act there h = split (sleep-is g q t (now pas
     split (inl k) = k
     split (inr k) = absurd (asleep k.0 k.1 k.2 k.3 (engaged-step g t s (Acted (past_act g q act past)) past h))
 
+-- what the next event does: who asks, who frees, and that whoever is engaged after it goes on and stays awake
 pub record IsNext (g : Group) (e : Event) (past : Past) : Type 0 where
   pub asked : Asked g e past
   pub freed : Freed g e past
   pub goes_on : (t s : ℕ) → has s (sems g) ≡ true → engaged g t s (e ∷ past) ≡ true → ends_job t e ≡ false
   pub awake : (t s : ℕ) → has s (sems g) ≡ true → engaged g t s (e ∷ past) ≡ true → sleep_end (now past) (did t e) ≡ 0
 
+-- so does each move
 pub next : (g : Group) → MeetsRules g → {past : Past} {e : Event} → IsMade g past → IsMove g past e → IsNext g e past
 next g rules {past} {e} made move = record {
   asked = asked g rules made move;

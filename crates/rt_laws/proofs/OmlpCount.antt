@@ -37,6 +37,7 @@ use Rattle.rt_laws.proofs.OneWait.{WaitsOnce, waits_once}
 use Rattle.rt_laws.proofs.OpenRequests.{entries-grow, newest-below, open-before, open-waits}
 use Rattle.rt_laws.proofs.Rules.{MeetsRules}
 
+-- nothing ended before the request was asked
 ends-none : (g : Group) (r t s : ℕ) (past : Past) → entries_in past ≤ r → ends g r t s past ≡ 0
 unfolding ends is_open
 ends-none g r t s [] h = refl

@@ -25,10 +25,12 @@ omlp-is : (g : Group) (s : ℕ) (past : Past) → protocol g s ≡ Omlp → sem_
 unfolding sem_state sem_state_by
 omlp-is g s past h = rw h
 
+-- the first of the FIFO list holds, all others wait
 pub omlp-sem_state : (g : Group) (s : ℕ) (past : Past) → protocol g s ≡ Omlp → ((sem_state g s past).waiting ≡ rest (omlp g s past).fifo ++ (omlp g s past).queue) × (holder g s past ≡ first (omlp g s past).fifo)
 unfolding holder
 omlp-sem_state g s past h = (ap (λ x. x.waiting) (omlp-is g s past h), ap (λ x. x.holder) (omlp-is g s past h))
 
+-- one that asks stands in neither list
 pub omlp-fresh : (g : Group) (s t : ℕ) (past : Past) → protocol g s ≡ Omlp → IsAsked g t s past → (has t (omlp g s past).fifo ≡ false) × (has t (omlp g s past).queue ≡ false)
 omlp-fresh g s t past p a = (unless _ (λ h. split (has-split t (omlp g s past).fifo h)), parts.1)
   where
@@ -45,10 +47,12 @@ omlp-fresh g s t past p a = (unless _ (λ h. split (has-split t (omlp g s past).
     split (inl k) = clash _ k empty_handed
     split (inr k) = clash _ k parts.0
 
+-- an event keeps the two lists
 queued-event : (g : Group) → MeetsRules g → (s : ℕ) → protocol g s ≡ Omlp → stands_under Omlp g.setup.plugin ≡ true → (e : Event) (past : Past) → Asked g e past → IsQueued (cpus g (cluster_of g s)) (omlp g s past) → IsQueued (cpus g (cluster_of g s)) (omlp g s (e ∷ past))
 unfolding omlp
 queued-event g rules s p a e past asks k = queued-after (cpus g (cluster_of g s)) (above g past) (at_sem s (sem_act e)) (omlp g s past) (has_room g rules s) (above-order g past Omlp a) (λ t r h. omlp-fresh g s t past p (asks t s (at_sem-asks s t r (sem_act e) h))) k
 
+-- so they are after every move
 pub queued : (g : Group) → MeetsRules g → (s : ℕ) → protocol g s ≡ Omlp → stands_under Omlp g.setup.plugin ≡ true → {past : Past} → IsMade g past → IsQueued (cpus g (cluster_of g s)) (omlp g s past)
 unfolding omlp
 queued g rules s p a made = by_moves g (λ past. IsQueued (cpus g (cluster_of g s)) (omlp g s past)) (record { fifo_once = tt; queue_once = tt; apart = λ t h. cc; fits = omega arith; full = λ t h. cc }) (λ past e made move before. queued-event g rules s p a e past (asked g rules made move) before) made

@@ -15,6 +15,7 @@ use Rattle.rt_laws.proofs.OneWait.{WaitsOnce, awaits-is}
 use Rattle.rt_laws.proofs.Rules.{MeetsRules}
 use Rattle.rt_laws.proofs.Waiting.{awaits-waits, waiting-step}
 
+-- the number of entries does not fall
 pub entries-grow : (e : Event) (past : Past) → entries_in past ≤ entries_in (e ∷ past)
 entries-grow e past = by_case (is_act e)
   where
@@ -26,6 +27,7 @@ asks-acts : (t : ℕ) (e : Event) → asks t (sem_act e) ≡ true → is_act e �
 asks-acts t (Clock tick) h = cc
 asks-acts t (Acted d) h = refl
 
+-- a request's number is below the number of entries
 pub newest-below : (t r : ℕ) (past : Past) → is r (newest_request t past) ≡ true → r < entries_in past
 unfolding newest_request
 newest-below t r [] h = cc
@@ -35,15 +37,18 @@ newest-below t r (e ∷ past) h = by_case (asks t (sem_act e)) refl h (newest-be
     by_case true k m rest = let same : r ≡ entries_in past = eqb-true r (entries_in past) m in let one_more : entries_in (e ∷ past) ≡ entries_in past + 1 = rw (asks-acts t e k) in omega arith
     by_case false k m rest = omega (arith, rest m, entries-grow e past)
 
+-- who has an open request waits
 pub open-waits : (g : Group) (r t s : ℕ) (past : Past) → is_open g r t s past ≡ true → (has s (sems g) ≡ true) × (has t (sem_state g s past).waiting ≡ true)
 unfolding is_open
 open-waits g r t s past h = awaits-waits g t s past (is-some s (awaits g t past) (both (is s (awaits g t past)) (is r (newest_request t past)) h).0)
 
+-- an act that asks
 asks-is : (t : ℕ) (x : SemAct) → asks t x ≡ true → (s : ℕ) × (x ≡ Asks t s)
 asks-is t (Asks u s) h = let e : t ≡ u = eqb-true t u h in (s, ap {B = SemAct} (λ n. Asks n s) (sym e))
 asks-is t (Frees u s) h = cc
 asks-is t Neither h = cc
 
+-- an act that frees a semaphore
 pub frees-is : (s : ℕ) (x : SemAct) → frees s x ≡ true → (u : ℕ) × (x ≡ Frees u s)
 frees-is s (Asks u r) h = cc
 frees-is s (Frees u r) h = let e : s ≡ r = eqb-true s r h in (u, ap {B = SemAct} (λ n. Frees u n) (sym e))

@@ -36,6 +36,7 @@ pub record IsUser (g : Group) (c t s : ℕ) : Type 0 where
   pub at_home : home g t ≡ c
   pub of_pcp : is_pcp (protocol g s) ≡ true
 
+-- what PCP keeps of a cluster
 pub record IsPcpKept (g : Group) (c : ℕ) (l : PcpState) : Type 0 where
   pub stack : IsStack (above_ceiling g) l
   pub held : (t s : ℕ) → has_pair t s l.held ≡ true → IsUser g c t s
@@ -64,6 +65,7 @@ pcp_kept-event g c e past asks k = pcp_kept-step g c (at_cluster g c (sem_act e)
     user : (t s : ℕ) → at_cluster g c (sem_act e) ≡ Asks t s → IsUser g c t s
     user t s h = let q = at_cluster-asks g c t s (sem_act e) h in record { user = (asks t s q.0).user; at_home = q.1; of_pcp = q.2 }
 
+-- so it is after every move
 pub pcp_kept : (g : Group) → MeetsRules g → (c : ℕ) → {past : Past} → IsMade g past → IsPcpKept g c (pcp g c past)
 unfolding pcp
 pcp_kept g rules c made = by_moves g (λ past. IsPcpKept g c (pcp g c past)) (record { stack = record { stacked = tt; blocked = λ t s h. cc }; held = λ t s h. cc; waiting = λ t s h. cc }) (λ past e made move before. pcp_kept-event g c e past (asked g rules made move) before) made
@@ -86,6 +88,7 @@ pcp-first g c t s l k h = by_case (first (of_sem s l.held)) refl
         let same : t ≡ u = one_holder_of (above_ceiling g) l.held k.stack.stacked t u s (user-not_over g t s (k.held t s h).user) (user-not_over g u s (k.held u s hu).user) h hu in
         rw (e, same, equal_self u)
 
+-- the holder stands among the grants
 pub first-pcp : (t s : ℕ) (l : PcpState) → is t (first (of_sem s l.held)) ≡ true → has_pair t s l.held ≡ true
 first-pcp t s l h = sym (has-of_sem t s l.held) ∙ has-first t (of_sem s l.held) h
 
@@ -103,6 +106,7 @@ pcp-sem_state g s past h = by_protocol (protocol g s) h
 pub pcp-waiting : (g : Group) (t s : ℕ) (past : Past) → is_pcp (protocol g s) ≡ true → has t (sem_state g s past).waiting ≡ has_pair t s (pcp g (cluster_of g s) past).waiting
 pcp-waiting g t s past h = ap (λ (x : SemState). has t x.waiting) (pcp-sem_state g s past h) ∙ has-of_sem t s (pcp g (cluster_of g s) past).waiting
 
+-- who holds a PCP semaphore is the first of its pairs
 pub pcp-holder : (g : Group) (s : ℕ) (past : Past) → is_pcp (protocol g s) ≡ true → holder g s past ≡ first (of_sem s (pcp g (cluster_of g s) past).held)
 unfolding holder
 pcp-holder g s past h = ap (λ (x : SemState). x.holder) (pcp-sem_state g s past h)

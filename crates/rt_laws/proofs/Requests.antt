@@ -28,6 +28,7 @@ pub record IsAsk (g : Group) (q : ℕ) (act : Act) (past : Past) (t s : ℕ) : T
   pub preemptive : non_preemptive t past ≡ false
   pub reply : answer g q act past ≡ (if is_granted g (protocol g s) s t past then replies.Granted else replies.Queued)
 
+-- an accepted Unlock
 pub record IsFree (g : Group) (q : ℕ) (act : Act) (past : Past) (t s : ℕ) : Type 0 where
   pub runs_it : runs q past ≡ Some t
   pub number : SemNo
@@ -118,10 +119,12 @@ free-of g q past t s act true a h =
     unlock-frees g q past t s act k.number k.is_unlock k.is_sem k.is_task a
 free-of g q past t s act false a h = cc
 
+-- an event that asks is an accepted Lock
 pub asks : (g : Group) (q : ℕ) (act : Act) (past : Past) (t s : ℕ) → sem_act (Acted (past_act g q act past)) ≡ Asks t s → IsAsk g q act past t s
 unfolding past_act
 asks g q act past t s h = ask-of g q past t s act (accepted (answer g q act past)) refl h
 
+-- an event that frees is an accepted Unlock
 pub frees : (g : Group) (q : ℕ) (act : Act) (past : Past) (t s : ℕ) → sem_act (Acted (past_act g q act past)) ≡ Frees t s → IsFree g q act past t s
 unfolding past_act
 frees g q act past t s h = free-of g q past t s act (accepted (answer g q act past)) refl h

@@ -32,6 +32,7 @@ use Rattle.rt_laws.proofs.Requests.{IsAsk, asks}
 use Rattle.rt_laws.proofs.Rules.{MeetsRules}
 use Rattle.rt_laws.proofs.Waiting.{waiting-step, waits-none}
 
+-- what is known of a task that a processor runs
 pub record IsRunning (g : Group) (q t : ℕ) (past : Past) : Type 0 where
   pub at_home : cluster_with g q ≡ home g t
   pub placed : has q (processors g (home g t)) ≡ true
@@ -190,6 +191,7 @@ running-acted g rules {past} made before q t p act h = by_case (p == q) refl (rw
         subst (λ n. IsRunning g n t (Acted (past_act g p act past) ∷ past)) same r
     by_case false e k = running-other g rules made before q t p act e k
 
+-- whatever runs is as `IsRunning` says
 abbrev AllRun : Group → Past → Type 0
 AllRun g past = (q t : ℕ) → runs q past ≡ Some t → IsRunning g q t past
 
@@ -198,6 +200,7 @@ unfolding runs
 running-step g rules past e made (clock_moves tick) before q t h = running-keeps g rules q t (Clock tick) past (before q t h) refl refl (λ s k. cc)
 running-step g rules past e made (cpu_acts p a) before q t h = running-acted g rules made before q t p a h
 
+-- so it is after every move
 pub running : (g : Group) → MeetsRules g → {past : Past} → IsMade g past → AllRun g past
 unfolding runs
 running g rules made = by_moves g (AllRun g) (λ q t h. cc) (running-step g rules) made

@@ -24,6 +24,7 @@ use Rattle.rt_laws.proofs.AtSem.{at_cluster-asks, at_sem-asks}
 use Rattle.rt_laws.proofs.GroupLaws.{has_room}
 use Rattle.rt_laws.proofs.Rules.{MeetsRules}
 
+-- who waits after an event waited before it, or asks in it and is not granted
 pub waiting-step : (g : Group) → MeetsRules g → (t s : ℕ) (e : Event) (past : Past) → has t (sem_state g s (e ∷ past)).waiting ≡ true → (has t (sem_state g s past).waiting ≡ true) ⊎ (sem_act e ≡ Asks t s) × (is_granted g (protocol g s) s t past ≡ false)
 unfolding sem_state sem_state_by fmlp omlp mpcp pcp is_granted holder
 waiting-step g rules t s e past h = by_protocol (protocol g s) refl h
@@ -54,14 +55,17 @@ pub waits-none : (g : Group) (t : ℕ) (past : Past) → awaits g t past ≡ Non
 unfolding awaits
 waits-none g t past h s there = find-none (λ r. has t (sem_state g r past).waiting) (sems g) s h there
 
+-- who is among the waiting of no semaphore awaits none
 pub none-waits : (g : Group) (t : ℕ) (past : Past) → ((s : ℕ) → has s (sems g) ≡ true → has t (sem_state g s past).waiting ≡ false) → awaits g t past ≡ None
 unfolding awaits
 none-waits g t past h = none-find (λ r. has t (sem_state g r past).waiting) (sems g) h
 
+-- who awaits a semaphore is among its waiting
 pub awaits-waits : (g : Group) (t s : ℕ) (past : Past) → awaits g t past ≡ Some s → (has s (sems g) ≡ true) × (has t (sem_state g s past).waiting ≡ true)
 unfolding awaits
 awaits-waits g t s past h = find-some (λ r. has t (sem_state g r past).waiting) (sems g) s h
 
+-- at the opening nobody waits
 pub nobody-waits : (g : Group) (t s : ℕ) → has t (sem_state g s []).waiting ≡ false
 unfolding sem_state sem_state_by fmlp omlp mpcp pcp
 nobody-waits g t s = by_protocol (protocol g s)

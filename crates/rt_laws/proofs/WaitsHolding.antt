@@ -29,6 +29,7 @@ use Rattle.rt_laws.proofs.Waiting.{nobody-waits, waiting-step}
 
 -- ---- who holds a semaphore does not wait for it, but perhaps under PCP
 
+-- who holds a semaphore and waits for it does so under PCP
 waits_not_at_own : (g : Group) → MeetsRules g → {past : Past} → IsMade g past → (t s : ℕ) → has s (sems g) ≡ true → is t (holder g s past) ≡ true → has t (sem_state g s past).waiting ≡ true → is_pcp (protocol g s) ≡ true
 waits_not_at_own g rules {past} made t s there h w = by_protocol (protocol g s) refl
   where
@@ -59,6 +60,7 @@ waits_not_at_own g rules {past} made t s there h w = by_protocol (protocol g s) 
 
 -- ---- two semaphores
 
+-- who holds a semaphore and waits for one does both under PCP
 abbrev WaitsUnderPcp : Group → Past → Type 0
 WaitsUnderPcp g past = (t s r : ℕ) → has s (sems g) ≡ true → has r (sems g) ≡ true → is t (holder g s past) ≡ true → has t (sem_state g r past).waiting ≡ true → (is_pcp (protocol g s) ≡ true) × (is_pcp (protocol g r) ≡ true)
 
@@ -95,5 +97,6 @@ waits_under_pcp-step g rules e past made made_after asks before t s r hs hr h w 
     split (inr (inr a)) (inl b) = absurd (clash _ b ((asks t s a).waits_none r hr))
     split (inr (inr a)) (inr b) = let x : sem_act e ≡ Asks t s = a in let y : sem_act e ≡ Asks t r = b.0 in one_sem cc
 
+-- so it is after every move
 pub waits_under_pcp : (g : Group) → MeetsRules g → {past : Past} → IsMade g past → WaitsUnderPcp g past
 waits_under_pcp g rules made = by_moves g (WaitsUnderPcp g) (λ t s r hs hr h w. absurd (clash _ w (nobody-waits g t r))) (λ past e made move before. waits_under_pcp-step g rules e past made (moved g made move) (asked g rules made move) before) made

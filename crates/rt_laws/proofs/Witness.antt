@@ -24,6 +24,7 @@ bound_is : 3 ≡ 2 * cpus bound_reached (home bound_reached 3) - 1
 unfolding cpus home cluster task
 bound_is = refl
 
+-- the worked set is valid, and its third request reaches the bound
 pub omlp_bound_is_reached : ReachesOmlpBound
 omlp_bound_is_reached = record {
   group = bound_reached;

@@ -47,10 +47,12 @@ fmlp-holds t Neither line frees h = inl h
 
 -- ---- the line of some users
 
+-- each stands once, and is a user
 pub record IsLine (users line : List ℕ) : Type 0 where
   pub once : IsDistinct line
   pub inside : (t : ℕ) → has t line ≡ true → has t users ≡ true
 
+-- an act keeps that, where whoever asks is a user that is not in the line
 pub line-after : (users : List ℕ) (x : SemAct) (line : List ℕ) → ((t s : ℕ) → x ≡ Asks t s → (has t line ≡ false) × (has t users ≡ true)) → IsLine users line → IsLine users (fmlp_after x line)
 line-after users (Asks u s) line asks l =
     let f = asks u s refl in
@@ -67,10 +69,12 @@ line-after users Neither line asks l = l
 
 -- ---- how many stand before a task
 
+-- how many stand before a task
 abbrev pub ahead : ℕ → List ℕ → ℕ
 ahead t [] = 0
 ahead t (x ∷ xs) = if t == x then 0 else ahead t xs + 1
 
+-- who stands in the line stays where it is when others join
 pub ahead-append : (t : ℕ) (xs ys : List ℕ) → has t xs ≡ true → ahead t (xs ++ ys) ≡ ahead t xs
 ahead-append t [] ys h = cc
 ahead-append t (x ∷ xs) ys h = by_case (t == x) h (ahead-append t xs ys)
@@ -79,10 +83,12 @@ ahead-append t (x ∷ xs) ys h = by_case (t == x) h (ahead-append t xs ys)
     by_case true k r = refl
     by_case false k r = rw (r k)
 
+-- who joins stands behind all
 pub ahead-last : (t : ℕ) (xs : List ℕ) → has t xs ≡ false → ahead t (xs ++ t ∷ []) ≡ length xs
 ahead-last t [] h = rw (equal_self t)
 ahead-last t (x ∷ xs) h = let n = neither (t == x) (has t xs) h in rw (n.0, ahead-last t xs n.1) (omega arith)
 
+-- when the first leaves one less stands before
 pub ahead-rest : (t : ℕ) (xs : List ℕ) → IsDistinct xs → has t (rest xs) ≡ true → ahead t xs ≡ ahead t (rest xs) + 1
 ahead-rest t [] d h = cc
 ahead-rest t (x ∷ xs) d h = by_case (t == x) refl

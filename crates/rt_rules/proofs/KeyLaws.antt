@@ -26,15 +26,19 @@ lex-mixed a b c x y z u v w h k = grind (arith, nat_tests)
 lex-total : (a b c x y z : ℕ) → c == z ≡ false → lex a b c x y z ≡ false → lex x y z a b c ≡ true
 lex-total a b c x y z h k = grind (arith, nat_tests)
 
+-- no key is above itself
 pub higher-self : (k : Key) → higher k k ≡ false
 higher-self k = lex-self k.band k.major k.minor
 
+-- above is transitive
 pub higher-trans : (i j k : Key) → higher i j ≡ true → higher j k ≡ true → higher i k ≡ true
 higher-trans i j k h m = lex-trans i.band i.major i.minor j.band j.major j.minor k.band k.major k.minor h m
 
+-- i is not above j, but above k: j is above k
 pub higher-mixed : (i j k : Key) → higher i j ≡ false → higher i k ≡ true → higher j k ≡ true
 higher-mixed i j k h m = lex-mixed i.band i.major i.minor j.band j.major j.minor k.band k.major k.minor h m
 
+-- of two keys with different last parts one is above the other
 pub higher-total : (i j : Key) → i.minor == j.minor ≡ false → higher i j ≡ false → higher j i ≡ true
 higher-total i j h k = lex-total i.band i.major i.minor j.band j.major j.minor h k
 
@@ -42,6 +46,7 @@ higher-total i j h k = lex-total i.band i.major i.minor j.band j.major j.minor h
 lex-below : (a b c x y z u v w : ℕ) → lex a b c x y z ≡ true → lex u v w x y z ≡ false → lex a b c u v w ≡ true
 lex-below a b c x y z u v w h k = grind (arith, nat_tests)
 
+-- i is above j, and k is not: i is above k
 pub higher-below : (i j k : Key) → higher i j ≡ true → higher k j ≡ false → higher i k ≡ true
 higher-below i j k h m = lex-below i.band i.major i.minor j.band j.major j.minor k.band k.major k.minor h m
 
@@ -159,6 +164,7 @@ foremost-none before order (x ∷ xs) h =
     let no : list_all (λ y. b.0 == y || before b.0 y) (x ∷ xs) ≡ false = find-none (λ w. list_all (λ y. w == y || before w y) (x ∷ xs)) (x ∷ xs) b.0 h b.1 in
     absurd (clash _ (has-all (λ y. b.0 == y || before b.0 y) (x ∷ xs) b.2) no)
 
+-- the foremost is a member that comes before each other one
 pub foremost-some : (before : ℕ → ℕ → Bool) (xs : List ℕ) (x : ℕ) → foremost before xs ≡ Some x → (has x xs ≡ true) × ((y : ℕ) → has y xs ≡ true → x == y || before x y ≡ true)
 foremost-some before xs x h = let f = find-some (λ w. list_all (λ y. w == y || before w y) xs) xs x h in (f.0, λ y k. list_all-has (λ z. x == z || before x z) xs y f.1 k)
 

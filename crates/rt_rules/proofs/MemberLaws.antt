@@ -9,6 +9,7 @@ use Rattle.rt_rules.proofs.BoolLaws.{both, either, neither, or_true}
 pub equal_self : (u : ℕ) → u == u ≡ true
 equal_self u = grind (arith, nat_tests)
 
+-- the members of a filtered list
 pub has-filter : (p : ℕ → Bool) (x : ℕ) (xs : List ℕ) → has x (filter p xs) ≡ has x xs && p x
 has-filter p x [] = refl
 has-filter p x (y ∷ ys) = by_case (p y) refl (has-filter p x ys)
@@ -17,6 +18,7 @@ has-filter p x (y ∷ ys) = by_case (p y) refl (has-filter p x ys)
     by_case true e h = grind (arith, nat_tests, h)
     by_case false e h = grind (arith, nat_tests, h)
 
+-- equality of numbers is symmetric
 pub turned : (m n : ℕ) → m == n ≡ n == m
 turned m n = grind (arith, nat_tests)
 
@@ -29,12 +31,14 @@ is-some t (Some u) h = ap {B = Option ℕ} (λ n. Some n) (sym (eqb-true t u h))
 pub some-is : (t : ℕ) (o : Option ℕ) → o ≡ Some t → is t o ≡ true
 some-is t o h = rw (h, equal_self t)
 
+-- a number that may be missing is one
 pub is_one : (t u : ℕ) (o : Option ℕ) → is t o ≡ true → is u o ≡ true → t ≡ u
 is_one t u None h k = cc
 is_one t u (Some v) h k = eqb-true t v h ∙ sym (eqb-true u v k)
 
 -- ---- members
 
+-- the members of two lists joined
 pub has-append : (t : ℕ) (xs ys : List ℕ) → has t (xs ++ ys) ≡ has t xs || has t ys
 has-append t [] ys = refl
 has-append t (x ∷ xs) ys = rw (has-append t xs ys) (assoc (t == x) (has t xs) (has t ys))
@@ -147,6 +151,7 @@ pub first-append : (t : ℕ) (xs ys : List ℕ) → is t (first xs) ≡ true →
 first-append t [] ys h = cc
 first-append t (x ∷ xs) ys h = h
 
+-- one more element
 pub length-one_more : (xs : List ℕ) (v : ℕ) → length (xs ++ v ∷ []) ≡ length xs + 1
 length-one_more xs v = length-append xs (v ∷ [])
 

@@ -75,10 +75,12 @@ mpcp-holds above t Neither l frees h = inl h
 
 -- ---- nobody stands twice
 
+-- nobody waits twice, and who holds does not wait
 pub record StandsOnce (l : SemState) : Type 0 where
   pub once : IsDistinct l.waiting
   pub apart : (t : ℕ) → is t l.holder ≡ true → has t l.waiting ≡ false
 
+-- an act keeps that, where whoever asks neither holds nor waits
 pub mpcp-once : (above : ℕ → ℕ → Bool) (x : SemAct) (l : SemState) → ((t s : ℕ) → x ≡ Asks t s → (is t l.holder ≡ false) × (has t l.waiting ≡ false)) → StandsOnce l → StandsOnce (mpcp_after above x l)
 mpcp-once above (Asks u s) l fresh k = by_holder (fresh u s refl) l.holder
   where
@@ -98,9 +100,11 @@ mpcp-once above Neither l fresh k = k
 
 -- ---- while one waits somebody holds
 
+-- while one waits somebody holds
 abbrev pub IsBusy : SemState → Type 0
 IsBusy l = (t : ℕ) → has t l.waiting ≡ true → is_none l.holder ≡ false
 
+-- an act keeps that
 pub mpcp-busy : (above : ℕ → ℕ → Bool) (x : SemAct) (l : SemState) → IsOrder above → IsBusy l → IsBusy (mpcp_after above x l)
 mpcp-busy above (Asks u s) l order k = by_holder l.holder refl
   where

@@ -14,6 +14,7 @@ use Rattle.rt_rules.proofs.SemActLaws.{AsksSome, FreesSome, asks-some, frees-som
 
 -- ---- who waits
 
+-- who waits: all but the first of the FIFO list
 abbrev waiting_in : OmlpState → List ℕ
 waiting_in l = rest l.fifo ++ l.queue
 
@@ -77,6 +78,7 @@ omlp-waits m above t Neither l room h = inl h
 
 -- ---- who stands in one of the two lists
 
+-- who stands in one of the two lists
 abbrev pub members : OmlpState → List ℕ
 members l = l.fifo ++ l.queue
 
@@ -131,6 +133,7 @@ omlp-holds m above t Neither l frees h = inl h
 
 -- ---- the two lists
 
+-- nobody stands twice, the FIFO list has at most m members, and m while the priority queue has any
 pub record IsQueued (m : ℕ) (l : OmlpState) : Type 0 where
   pub fifo_once : IsDistinct l.fifo
   pub queue_once : IsDistinct l.queue
@@ -193,6 +196,7 @@ queued-asks m t l nf nq k false low = record {
     split u h (inl n) = clash _ n (k.apart u h)
     split u h (inr n) = let m : has u l.fifo ≡ false = rw (has-one u t n) nf in clash _ h m
 
+-- an act keeps that, where whoever asks stands in neither list
 pub queued-after : (m : ℕ) (before : ℕ → ℕ → Bool) (x : SemAct) (l : OmlpState) → 1 ≤ m → IsOrder before → ((t s : ℕ) → x ≡ Asks t s → (has t l.fifo ≡ false) × (has t l.queue ≡ false)) → IsQueued m l → IsQueued m (omlp_after m before x l)
 queued-after m before (Asks u s) l room order fresh k = let f = fresh u s refl in queued-asks m u l f.0 f.1 k (nat_lt (length l.fifo) m) refl
 queued-after m before (Frees u s) l room order fresh k = queued-handed m (foremost before l.queue) l room (λ e. foremost-none before order l.queue e) (λ v e. (foremost-some before l.queue v e).0) k

@@ -13,6 +13,7 @@ abbrev pub has_pair : ℕ → ℕ → List TaskSem → Bool
 has_pair t s [] = false
 has_pair t s (p ∷ ps) = (t == p.task && s == p.sem) || has_pair t s ps
 
+-- the tasks of the pairs of a semaphore
 pub has-of_sem : (t s : ℕ) (ps : List TaskSem) → has t (of_sem s ps) ≡ has_pair t s ps
 has-of_sem t s [] = refl
 has-of_sem t s (p ∷ ps) = by_case (p.sem == s) (s == p.sem) (flip p.sem s) (has-of_sem t s ps)
@@ -34,6 +35,7 @@ has-of_sem t s (p ∷ ps) = by_case (p.sem == s) (s == p.sem) (flip p.sem s) (ha
     by_case true false e h = cc
     by_case false true e h = cc
 
+-- what stands in the list without a pair stood in it
 pub has_pair-without_pair : (t s : ℕ) (p : TaskSem) (ps : List TaskSem) → has_pair t s (without_pair p ps) ≡ true → has_pair t s ps ≡ true
 has_pair-without_pair t s p [] h = cc
 has_pair-without_pair t s p (q ∷ qs) h = by_case (is_same_pair p q) h (has_pair-without_pair t s p qs)
@@ -46,6 +48,7 @@ has_pair-without_pair t s p (q ∷ qs) h = by_case (is_same_pair p q) h (has_pai
         join (inl m) = rw m
         join (inr m) = rw (r m) (or_true _)
 
+-- a pair of two lists joined
 pub has_pair-append : (t s : ℕ) (ps qs : List TaskSem) → has_pair t s (ps ++ qs) ≡ has_pair t s ps || has_pair t s qs
 has_pair-append t s [] qs = refl
 has_pair-append t s (p ∷ ps) qs = rw (has_pair-append t s ps qs) (assoc (t == p.task && s == p.sem) (has_pair t s ps) (has_pair t s qs))
@@ -54,6 +57,7 @@ has_pair-append t s (p ∷ ps) qs = rw (has_pair-append t s ps qs) (assoc (t == 
     assoc true b c = refl
     assoc false b c = refl
 
+-- another pair stays
 pub without_pair-keeps : (t s : ℕ) (p : TaskSem) (ps : List TaskSem) → (t == p.task && s == p.sem) ≡ false → has_pair t s ps ≡ true → has_pair t s (without_pair p ps) ≡ true
 without_pair-keeps t s p [] ne h = cc
 without_pair-keeps t s p (q ∷ qs) ne h = by_case (is_same_pair p q) refl (either (t == q.task && s == q.sem) _ h) (without_pair-keeps t s p qs ne)
@@ -86,10 +90,12 @@ has_pair-by_key above t s p (q ∷ qs) = by_case (above p.task q.task) (has_pair
     by_case true h = refl
     by_case false h = rw h (middle (t == q.task && s == q.sem) (t == p.task && s == p.sem) (has_pair t s qs))
 
+-- an order has the same pairs
 pub has_pair-in_order : (above : ℕ → ℕ → Bool) (t s : ℕ) (ps : List TaskSem) → has_pair t s (in_order above ps) ≡ has_pair t s ps
 has_pair-in_order above t s [] = refl
 has_pair-in_order above t s (p ∷ ps) = has_pair-by_key above t s p (in_order above ps) ∙ ap (λ b. (t == p.task && s == p.sem) || b) (has_pair-in_order above t s ps)
 
+-- a pair that is taken out is gone
 pub without_pair-gone : (p : TaskSem) (ps : List TaskSem) → has_pair p.task p.sem (without_pair p ps) ≡ false
 without_pair-gone p [] = refl
 without_pair-gone p (q ∷ qs) = by_case (p.task == q.task) (p.sem == q.sem) refl refl (without_pair-gone p qs)
@@ -99,6 +105,7 @@ without_pair-gone p (q ∷ qs) = by_case (p.task == q.task) (p.sem == q.sem) ref
     by_case true false e k h = rw (e, k) h
     by_case false b e k h = rw e h
 
+-- a pair of the others is one of the list
 pub has_pair-others : (t u s : ℕ) (ps : List TaskSem) → has_pair u s (of_others t ps) ≡ true → has_pair u s ps ≡ true
 has_pair-others t u s [] h = h
 has_pair-others t u s (p ∷ ps) h = by_case (p.task == t) h (has_pair-others t u s ps)
@@ -111,6 +118,7 @@ has_pair-others t u s (p ∷ ps) h = by_case (p.task == t) h (has_pair-others t 
         split (inl m) = rw m
         split (inr m) = rw (r m) (or_true (u == p.task && s == p.sem))
 
+-- a semaphore of the list has a task
 pub sem-there : (r : ℕ) (ps : List TaskSem) → has r (map (λ (p : TaskSem). p.sem) ps) ≡ true → is_none (first (of_sem r ps)) ≡ false
 sem-there r [] h = cc
 sem-there r (p ∷ ps) h = by_case (p.sem == r) (turned r p.sem) h (sem-there r ps)
@@ -125,9 +133,11 @@ sem-there r (p ∷ ps) h = by_case (p.sem == r) (turned r p.sem) h (sem-there r 
 
 -- ---- the tasks of pairs
 
+-- the tasks of a list of pairs
 abbrev pub tasks_of_pairs : List TaskSem → List ℕ
 tasks_of_pairs ps = map (λ (p : TaskSem). p.task) ps
 
+-- a task of the list has a pair
 pub pair-of : (t : ℕ) (ps : List TaskSem) → has t (tasks_of_pairs ps) ≡ true → (s : ℕ) × (has_pair t s ps ≡ true)
 pair-of t [] h = cc
 pair-of t (p ∷ ps) h = split (either (t == p.task) _ h) (pair-of t ps)
@@ -136,6 +146,7 @@ pair-of t (p ∷ ps) h = split (either (t == p.task) _ h) (pair-of t ps)
     split (inl k) r = (p.sem, rw (k, equal_self p.sem))
     split (inr k) r = let q = r k in (q.0, rw q.1 (or_true (t == p.task && q.0 == p.sem)))
 
+-- the tasks with one more pair
 pub tasks-append : (ps : List TaskSem) (t s : ℕ) → tasks_of_pairs (ps ++ record { task = t; sem = s } ∷ []) ≡ tasks_of_pairs ps ++ t ∷ []
 tasks-append [] t s = refl
 tasks-append (p ∷ ps) t s = ap (λ xs. p.task ∷ xs) (tasks-append ps t s)
@@ -152,6 +163,7 @@ has-without_pair t p (q ∷ qs) h = by_case (is_same_pair p q) h (has-without_pa
         split (inl m) = rw m
         split (inr m) = rw (r m) (or_true (t == q.task))
 
+-- each task once, also without a pair
 pub distinct-without_pair : (p : TaskSem) (ps : List TaskSem) → IsDistinct (tasks_of_pairs ps) → IsDistinct (tasks_of_pairs (without_pair p ps))
 distinct-without_pair p [] d = tt
 distinct-without_pair p (q ∷ qs) d = by_case (is_same_pair p q) (distinct-without_pair p qs d.1)
@@ -160,6 +172,7 @@ distinct-without_pair p (q ∷ qs) d = by_case (is_same_pair p q) (distinct-with
     by_case true r = r
     by_case false r = (unless _ (λ h. clash _ (has-without_pair q.task p qs h) d.0), r)
 
+-- a pair that is taken out shortens the list
 pub length-without_pair : (t s : ℕ) (ps : List TaskSem) → has_pair t s ps ≡ true → length (without_pair (record { task = t; sem = s }) ps) + 1 ≤ length ps
 length-without_pair t s [] h = cc
 length-without_pair t s (p ∷ ps) h = by_case (t == p.task && s == p.sem) h (length-without_pair t s ps) (fewer ps)
@@ -176,6 +189,7 @@ length-without_pair t s (p ∷ ps) h = by_case (t == p.task && s == p.sem) h (le
     by_case true k r m = omega arith
     by_case false k r m = omega (arith, r k)
 
+-- what an insertion adds
 pub has-by_key : (before : ℕ → ℕ → Bool) (t : ℕ) (p : TaskSem) (qs : List TaskSem) → has t (tasks_of_pairs (by_key before p qs)) ≡ true → (t ≡ p.task) ⊎ (has t (tasks_of_pairs qs) ≡ true)
 has-by_key before t p [] h = split (either (t == p.task) false h)
   where
@@ -220,6 +234,7 @@ has-in_order before t (p ∷ ps) h = split (has-by_key before t p (in_order befo
     split (inl e) r = rw (e, equal_self p.task)
     split (inr k) r = rw (r k) (or_true (t == p.task))
 
+-- each task once, also in order
 pub distinct-in_order : (before : ℕ → ℕ → Bool) (ps : List TaskSem) → IsDistinct (tasks_of_pairs ps) → IsDistinct (tasks_of_pairs (in_order before ps))
 distinct-in_order before [] d = tt
 distinct-in_order before (p ∷ ps) d = distinct-by_key before p (in_order before ps) (unless _ (λ h. clash _ (has-in_order before p.task ps h) d.0)) (distinct-in_order before ps d.1)

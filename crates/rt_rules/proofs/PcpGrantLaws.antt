@@ -14,6 +14,7 @@ abbrev IsFalling : (ℕ → ℕ → Bool) → List TaskSem → Type 0
 IsFalling before [] = ⊤
 IsFalling before (p ∷ ps) = ((t : ℕ) → has t (tasks_of_pairs ps) ≡ true → before t p.task ≡ false) × IsFalling before ps
 
+-- an order in which none is before itself
 pub record IsStrict (before : ℕ → ℕ → Bool) : Type 0 where
   pub trans : (x y z : ℕ) → before x y ≡ true → before y z ≡ true → before x z ≡ true
   pub self : (x : ℕ) → before x x ≡ false
@@ -34,6 +35,7 @@ falling-by_key before order p (q ∷ qs) f = by_case (before p.task q.task) refl
     by_case true e r = (λ t h. under e t (either (t == q.task) _ h), f)
     by_case false e r = (λ t h. behind e t (has-by_key before t p qs h), r)
 
+-- an order is falling
 pub falling-in_order : (before : ℕ → ℕ → Bool) → IsStrict before → (ps : List TaskSem) → IsFalling before (in_order before ps)
 falling-in_order before order [] = tt
 falling-in_order before order (p ∷ ps) = falling-by_key before order p (in_order before ps) (falling-in_order before order ps)

@@ -10,16 +10,19 @@ use Rattle.rt_rules.proofs.BoolLaws.{both, clash, either, or_true, unless}
 use Rattle.rt_rules.proofs.DistinctLaws.{distinct-append}
 use Rattle.rt_rules.proofs.PairLaws.{distinct-without_pair, has_pair, has_pair-append, has_pair-in_order, has_pair-without_pair, tasks-append, tasks_of_pairs, without_pair-gone, without_pair-keeps}
 
+-- each grant passed what others held before it
 abbrev pub IsStacked : (ℕ → ℕ → Bool) → List TaskSem → Type 0
 IsStacked above_ceiling [] = ⊤
 IsStacked above_ceiling (p ∷ ps) = (passes above_ceiling ps p.task ≡ true) × IsStacked above_ceiling ps
 
+-- the grants are stacked, and who waits does not pass
 pub record IsStack (above_ceiling : ℕ → ℕ → Bool) (l : PcpState) : Type 0 where
   pub stacked : IsStacked above_ceiling l.held
   pub blocked : (t s : ℕ) → has_pair t s l.waiting ≡ true → passes above_ceiling l.held t ≡ false
 
 -- ---- passing
 
+-- passing one more grant
 pub passes-cons : (above_ceiling : ℕ → ℕ → Bool) (p : TaskSem) (ps : List TaskSem) (t : ℕ) → passes above_ceiling (p ∷ ps) t ≡ (p.task == t || above_ceiling t p.sem) && passes above_ceiling ps t
 passes-cons above_ceiling p ps t = by_case (p.task == t)
   where
@@ -117,6 +120,7 @@ tested-from above_ceiling t s ps l h = by_case (has_pair t s l.waiting) refl
     by_case true e = refl
     by_case false e = absurd (clash _ h (tested-gone above_ceiling t s ps l e))
 
+-- an act keeps that
 pub stack-step : (above above_ceiling : ℕ → ℕ → Bool) (x : SemAct) (l : PcpState) → IsStack above_ceiling l → IsStack above_ceiling (pcp_after above above_ceiling x l)
 stack-step above above_ceiling (Asks u r) l k = by_case (passes above_ceiling l.held u) refl
   where
@@ -145,6 +149,7 @@ stack-step above above_ceiling Neither l k = k
 
 -- ---- who waits and who holds
 
+-- who waits did before, or asks and does not pass
 pub pcp-waits : (above above_ceiling : ℕ → ℕ → Bool) (t s : ℕ) (x : SemAct) (l : PcpState) → has_pair t s (pcp_after above above_ceiling x l).waiting ≡ true → (has_pair t s l.waiting ≡ true) ⊎ (x ≡ Asks t s) × (passes above_ceiling l.held t ≡ false)
 pcp-waits above above_ceiling t s (Asks u r) l h = by_case (passes above_ceiling l.held u) refl h
   where
@@ -196,9 +201,11 @@ pcp-held above above_ceiling t s (Frees u r) l h = split (tested-held above_ceil
     split (inr m) = inl (inr (rw has_pair-in_order at m))
 pcp-held above above_ceiling t s Neither l h = inl (inl h)
 
+-- a task holds a semaphore or waits for it
 abbrev pub stands_for : ℕ → ℕ → PcpState → Bool
 stands_for t s l = has_pair t s l.held || has_pair t s l.waiting
 
+-- who stands for a semaphore did before, or asks for it
 pub pcp-stands : (above above_ceiling : ℕ → ℕ → Bool) (t s : ℕ) (x : SemAct) (l : PcpState) → stands_for t s (pcp_after above above_ceiling x l) ≡ true → (stands_for t s l ≡ true) ⊎ (x ≡ Asks t s)
 pcp-stands above above_ceiling t s x l h = split (either (has_pair t s (pcp_after above above_ceiling x l).held) _ h)
   where
@@ -223,6 +230,7 @@ tested-keeps above_ceiling t s (p ∷ ps) l h = tested-keeps above_ceiling t s p
     by_case true = rw h (or_true (t == p.task && s == p.sem))
     by_case false = h
 
+-- who holds goes on until it frees
 pub pcp-holds : (above above_ceiling : ℕ → ℕ → Bool) (t s : ℕ) (x : SemAct) (l : PcpState) → has_pair t s l.held ≡ true → (has_pair t s (pcp_after above above_ceiling x l).held ≡ true) ⊎ (x ≡ Frees t s)
 pcp-holds above above_ceiling t s (Asks u r) l h = inl (by_case (passes above_ceiling l.held u))
   where
@@ -273,6 +281,7 @@ distinct-tested above_ceiling (p ∷ ps) l d = distinct-tested above_ceiling ps 
     by_case true = distinct-without_pair p l.waiting d
     by_case false = d
 
+-- an act lets no task wait twice, where whoever asks does not wait
 pub pcp-once : (before above_ceiling : ℕ → ℕ → Bool) (x : SemAct) (l : PcpState) → ((t s : ℕ) → x ≡ Asks t s → has t (tasks_of_pairs l.waiting) ≡ false) → IsDistinct (tasks_of_pairs l.waiting) → IsDistinct (tasks_of_pairs (pcp_after before above_ceiling x l).waiting)
 pcp-once before above_ceiling (Asks u r) l fresh d = by_case (passes above_ceiling l.held u)
   where

@@ -2,9 +2,11 @@
 use Rattle.std.specs.Prelude.{◌≡◌, ℕ}
 use Rattle.rt_rules.specs.SemState.{SemAct, Asks, Frees}
 
+-- a task asks for a semaphore
 abbrev pub AsksSome : ℕ → SemAct → Type 0
 AsksSome t x = (s : ℕ) × (x ≡ Asks t s)
 
+-- a task frees a semaphore
 abbrev pub FreesSome : ℕ → SemAct → Type 0
 FreesSome t x = (s : ℕ) × (x ≡ Frees t s)
 
