@@ -26,7 +26,7 @@ use Rattle.rt_model.specs.Tops.{eligible, is_served, ranking, top}
 use Rattle.rt_rules.proofs.BoolLaws.{both, clash, either, unless}
 use Rattle.rt_rules.proofs.DistinctLaws.{distinct-map}
 use Rattle.rt_rules.proofs.KeyLaws.{higher-mixed, higher-total, highest-of, highest-owner}
-use Rattle.rt_rules.proofs.MemberLaws.{has-filter, has-first, is_one, length-mapped, map-back, some-is, turned}
+use Rattle.rt_rules.proofs.MemberLaws.{has-filter, has-first, is_one, length-mapped, map-back, some-is, turned, none-is}
 use Rattle.rt_rules.proofs.RankedLaws.{has-sorted, tasks_ranked}
 use Rattle.rt_rules.proofs.RankingLaws.{cut-off, full-take, keys-map, keys-sorted, ranked-sorted}
 use Rattle.rt_model.proofs.PastLaws.{links-top, processor-home}
@@ -174,12 +174,8 @@ module _ (g : Group) (rules : MeetsRules g) (past : Past) (made : IsMade g past)
   eligible-facts : (x : ℕ) → eligible g x past ≡ true → (exists g x past ≡ true) × (awaits g x past ≡ None)
   unfolding eligible ready
   eligible-facts x h =
-      let a = both (exists g x past && not (sleeps x past)) (is_none (awaits g x past) && is_served g g.setup.plugin x past) h in
-      ((both (exists g x past) (not (sleeps x past)) a.0).0, none (awaits g x past) (both (is_none (awaits g x past)) (is_served g g.setup.plugin x past) a.1).0)
-    where
-      none : (o : Option ℕ) → is_none o ≡ true → o ≡ None
-      none None k = refl
-      none (Some v) k = cc
+      let a = both (exists g x past && not (sleeps x past)) (is_none-is (awaits g x past) && is_served g g.setup.plugin x past) h in
+      ((both (exists g x past) (not (sleeps x past)) a.0).0, none-is (awaits g x past) (both (is_none-is (awaits g x past)) (is_served g g.setup.plugin x past) a.1).0)
 
   is-eligible : (x : ℕ) → exists g x past ≡ true → sleeps x past ≡ false → awaits g x past ≡ None → eligible g x past ≡ true
   unfolding eligible ready

@@ -18,7 +18,7 @@ use Rattle.rt_model.specs.Made.{IsMade}
 use Rattle.rt_model.specs.Past.{Event, Past, entries_in, sem_act}
 use Rattle.rt_model.specs.Releases.{exists}
 use Rattle.rt_model.specs.Semaphores.{at_sem, cluster_of, omlp}
-use Rattle.rt_rules.proofs.BoolLaws.{both, clash, or_true, unless}
+use Rattle.rt_rules.proofs.BoolLaws.{both, clash, or_true, unless, or_else}
 use Rattle.rt_rules.proofs.DistinctLaws.{length-distinct, without-gone}
 use Rattle.rt_rules.proofs.FmlpLaws.{ahead, ahead-append, ahead-last, ahead-rest}
 use Rattle.rt_rules.proofs.KeyLaws.{foremost-none, foremost-some}
@@ -386,11 +386,7 @@ module _ (g : Group) (rules : MeetsRules g) (r t s : ℕ) (p : protocol g s ≡ 
               other = unless _ (λ h. let same : v ≡ t = eqb-true v t h in let gone : has t (without v (omlp g s past).queue) ≡ false = rw (← same) (without-gone v (omlp g s past).queue q.queue_once) in clash _ k gone)
 
               v_over : above g past v t ≡ true
-              v_over = left (v == t) (above g past v t) (facts.1 t was) other
-                where
-                  left : (b c : Bool) → b || c ≡ true → b ≡ false → c ≡ true
-                  left true c h n = cc
-                  left false c h n = h
+              v_over = or_else (v == t) (above g past v t) (facts.1 t was) other
 
               ht : engaged g t s (e ∷ past) ≡ true
               ht = engaged-queue t (e ∷ past) w

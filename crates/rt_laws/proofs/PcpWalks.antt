@@ -1,4 +1,6 @@
 -- Every waiting PCP task of a cluster has the same blocker, the owner of the newest grant, and that one does not wait: each walk is one step long.
+use Rattle.rt_order.specs.declared.Key.{Key}
+use Rattle.rt_rules.proofs.RankingLaws.{lt-trans}
 use Rattle.std.proofs.Common.{Bool, List, [], ap, arith, cond, eqb-true, false, inl, inr, map, not, refl, subst, suc, sym, true, zero, ℕ, ◌&&◌, ◌||◌, ◌∙◌, ◌∷◌, ◌≡◌, ◌⊎◌}
 use Rattle.std.proofs.lemmas.Bool.Decides.{nat_tests}
 use Rattle.std.specs.Prelude.{None, Option, Some, filter, is_none, nat_lt, ◌==◌}
@@ -17,7 +19,7 @@ use Rattle.rt_model.specs.Holders.{awaits, holder, sem_state}
 use Rattle.rt_model.specs.Made.{IsMade}
 use Rattle.rt_model.specs.Past.{Past}
 use Rattle.rt_model.specs.Semaphores.{cluster_of}
-use Rattle.rt_rules.proofs.BoolLaws.{both, clash, either, or_true, unless}
+use Rattle.rt_rules.proofs.BoolLaws.{both, clash, either, or_true, unless, not_true}
 use Rattle.rt_rules.proofs.KeyLaws.{IsOrder, foremost-none, foremost-some, higher-below, higher-falls, higher-mixed, higher-self, higher-trans}
 use Rattle.rt_rules.proofs.MemberLaws.{equal_self, has-first, some-is, turned}
 use Rattle.rt_rules.proofs.PairLaws.{has-of_sem, has_pair, has_pair-others, sem-there}
@@ -41,18 +43,11 @@ higher-order g = record {
     total false true x y ne h = refl
     total false false x y ne h = grind (arith, nat_tests)
 
-    less : (x y z : ℕ) → nat_lt x y ≡ true → nat_lt y z ≡ true → nat_lt x z ≡ true
-    less x y z h k = grind (arith, nat_tests)
-
-    flat : (a : Bool) → not a ≡ true → a ≡ false
-    flat true h = cc
-    flat false h = refl
-
-    trans : (i j k : Rattle.rt_order.specs.declared.Key.Key) (x y z : ℕ) → (higher i j ≡ true) ⊎ (not (higher j i) && nat_lt x y ≡ true) → (higher j k ≡ true) ⊎ (not (higher k j) && nat_lt y z ≡ true) → higher i k || not (higher k i) && nat_lt x z ≡ true
+    trans : (i j k : Key) (x y z : ℕ) → (higher i j ≡ true) ⊎ (not (higher j i) && nat_lt x y ≡ true) → (higher j k ≡ true) ⊎ (not (higher k j) && nat_lt y z ≡ true) → higher i k || not (higher k i) && nat_lt x z ≡ true
     trans i j k x y z (inl a) (inl b) = rw (higher-trans i j k a b)
-    trans i j k x y z (inl a) (inr b) = rw (higher-below i j k a (flat _ (both _ _ b).0))
-    trans i j k x y z (inr a) (inl b) = rw (higher-mixed j i k (flat _ (both _ _ a).0) b)
-    trans i j k x y z (inr a) (inr b) = rw (higher-falls i j k (flat _ (both (not (higher j i)) (nat_lt x y) a).0) (flat _ (both (not (higher k j)) (nat_lt y z) b).0), less x y z (both (not (higher j i)) (nat_lt x y) a).1 (both (not (higher k j)) (nat_lt y z) b).1) (or_true (higher i k))
+    trans i j k x y z (inl a) (inr b) = rw (higher-below i j k a (not_true _ (both _ _ b).0))
+    trans i j k x y z (inr a) (inl b) = rw (higher-mixed j i k (not_true _ (both _ _ a).0) b)
+    trans i j k x y z (inr a) (inr b) = rw (higher-falls i j k (not_true _ (both (not (higher j i)) (nat_lt x y) a).0) (not_true _ (both (not (higher k j)) (nat_lt y z) b).0), lt-trans x y z (both (not (higher j i)) (nat_lt x y) a).1 (both (not (higher k j)) (nat_lt y z) b).1) (or_true (higher i k))
 
 -- the blocker is the owner of the newest grant
 newest-blocks : (g : Group) (t : ℕ) (p : TaskSem) (ps : List TaskSem) → IsStacked (above_ceiling g) (p ∷ ps) → has p.task (users g p.sem) ≡ true → passes (above_ceiling g) (p ∷ ps) t ≡ false → blocker_among g (of_others t (p ∷ ps)) ≡ Some p.task

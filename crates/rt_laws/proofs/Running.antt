@@ -21,7 +21,7 @@ use Rattle.rt_model.specs.Runs.{leaves, runs, runs_after, runs_by}
 use Rattle.rt_model.specs.Sleep.{sleep_end, sleeps}
 use Rattle.rt_model.specs.Tops.{eligible, is_served}
 use Rattle.rt_rules.proofs.BoolLaws.{both, clash, neither, not_true, unless}
-use Rattle.rt_rules.proofs.MemberLaws.{equal_self, is-some, some-is}
+use Rattle.rt_rules.proofs.MemberLaws.{equal_self, is-some, some-is, none-is}
 use Rattle.rt_model.proofs.AnswerLaws.{answer-runs_link, to_run}
 use Rattle.rt_model.proofs.PastLaws.{one_processor, processor-home, single}
 use Rattle.rt_model.proofs.Steps.{past_act-cpu, runs-acted}
@@ -92,12 +92,8 @@ eligible-running g q t past l =
       member = l.member;
       exists_now = there.0;
       awake = not_true (sleeps t past) there.1;
-      waits_none = waits-none g t past (none (awaits g t past) free.0);
+      waits_none = waits-none g t past (none-is (awaits g t past) free.0);
     }
-  where
-    none : (o : Option ℕ) → is_none o ≡ true → o ≡ None
-    none None h = refl
-    none (Some u) h = cc
 
 -- a task runs on one processor
 pub runs_once : (g : Group) {past : Past} → IsMade g past → (p q t : ℕ) → IsRunning g p t past → IsRunning g q t past → runs p past ≡ Some t → runs q past ≡ Some t → p ≡ q

@@ -30,7 +30,7 @@ either true b h = inl refl
 either false b h = inr h
 
 -- of two of which one holds it is the other
-or_else : (a b : Bool) → a || b ≡ true → a ≡ false → b ≡ true
+pub or_else : (a b : Bool) → a || b ≡ true → a ≡ false → b ≡ true
 or_else true b h k = cc
 or_else false b h k = h
 
@@ -38,11 +38,15 @@ pub or_true : (a : Bool) → a || true ≡ true
 or_true true = refl
 or_true false = refl
 
-or_false : (a : Bool) → a || false ≡ true → a ≡ true
+pub or_false : (a : Bool) → a || false ≡ true → a ≡ true
 or_false true h = refl
 or_false false h = cc
 
-and_false : (a : Bool) → a && false ≡ false
+pub and_true : (a : Bool) → a && true ≡ a
+and_true true = refl
+and_true false = refl
+
+pub and_false : (a : Bool) → a && false ≡ false
 and_false true = refl
 and_false false = refl
 

@@ -4,7 +4,7 @@ use Rattle.std.specs.Prelude.{None, Option, Some, ◌==◌}
 use Rattle.rt_rules.specs.Distinct.{IsDistinct}
 use Rattle.rt_rules.specs.Numbers.{has, is}
 use Rattle.rt_rules.specs.Placing.{at_place, filled, is_of, kept, placed, tasks_in}
-use Rattle.rt_rules.proofs.BoolLaws.{either, or_true, unless}
+use Rattle.rt_rules.proofs.BoolLaws.{either, or_true, unless, neither}
 use Rattle.rt_rules.proofs.MemberLaws.{equal_self, has-filter}
 use Rattle.rt_rules.proofs.PlacingLaws.{beside, distinct-filter, distinct-head, distinct-kept, distinct-tail, has-placed, has-tasks_in, is-is_of, length-kept}
 
@@ -37,11 +37,7 @@ distinct-filled [] ts dl dt apart = tt
 distinct-filled (Some u ∷ ls) ts dl dt apart = (unless (has u (tasks_in (filled ls ts))) (λ h. clash (has-filled_le u ls ts h)), distinct-filled ls ts dl.1 dt (λ t h. later t (apart t h)))
   where
     later : (t : ℕ) → t == u || has t (tasks_in ls) ≡ false → has t (tasks_in ls) ≡ false
-    later t h = by_case (t == u) (has t (tasks_in ls)) h
-      where
-        by_case : (a b : Bool) → a || b ≡ false → b ≡ false
-        by_case true b h = cc
-        by_case false b h = h
+    later t h = (neither (t == u) (has t (tasks_in ls)) h).1
 
     clash : (has u (tasks_in ls) ≡ true) ⊎ (has u ts ≡ true) → ⊥
     clash (inl k) = let n = dl.0 in cc

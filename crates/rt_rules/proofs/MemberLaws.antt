@@ -2,9 +2,9 @@
 use Rattle.std.proofs.Common.{Bool, List, [], ap, arith, cond, eqb-true, false, inl, inr, length, length-append, map, refl, suc, sym, true, ℕ, ◌&&◌, ◌++◌, ◌+◌, ◌||◌, ◌∙◌, ◌∷◌, ◌≡◌, ◌⊎◌}
 use Rattle.std.proofs.lemmas.Bool.Decides.{nat_tests}
 use Rattle.std.specs.List.{list_all, list_any}
-use Rattle.std.specs.Prelude.{None, Option, Some, filter, find, ◌==◌}
+use Rattle.std.specs.Prelude.{None, Option, Some, filter, find, ◌==◌, is_none}
 use Rattle.rt_rules.specs.Numbers.{first, has, is, is_empty, rest, without}
-use Rattle.rt_rules.proofs.BoolLaws.{both, either, neither, or_true}
+use Rattle.rt_rules.proofs.BoolLaws.{both, either, neither, or_true, or_assoc}
 
 pub equal_self : (u : ℕ) → u == u ≡ true
 equal_self u = grind (arith, nat_tests)
@@ -41,11 +41,7 @@ is_one t u (Some v) h k = eqb-true t v h ∙ sym (eqb-true u v k)
 -- the members of two lists joined
 pub has-append : (t : ℕ) (xs ys : List ℕ) → has t (xs ++ ys) ≡ has t xs || has t ys
 has-append t [] ys = refl
-has-append t (x ∷ xs) ys = rw (has-append t xs ys) (assoc (t == x) (has t xs) (has t ys))
-  where
-    assoc : (a b c : Bool) → a || (b || c) ≡ (a || b) || c
-    assoc true b c = refl
-    assoc false b c = refl
+has-append t (x ∷ xs) ys = rw (has-append t xs ys) (or_assoc (t == x) (has t xs) (has t ys))
 
 pub has-appended : (t : ℕ) (xs ys : List ℕ) → has t (xs ++ ys) ≡ true → (has t xs ≡ true) ⊎ (has t ys ≡ true)
 has-appended t xs ys h = either _ _ (rw has-append at h)
@@ -166,3 +162,7 @@ map-back f (x ∷ xs) z h = split (either (z == f x) _ h) (map-back f xs z)
 pub length-mapped : (f : ℕ → ℕ) (xs : List ℕ) → length (map f xs) ≡ length xs
 length-mapped f [] = refl
 length-mapped f (x ∷ xs) = ap suc (length-mapped f xs)
+
+pub none-is : (o : Option ℕ) → is_none o ≡ true → o ≡ None
+none-is None h = refl
+none-is (Some u) h = cc

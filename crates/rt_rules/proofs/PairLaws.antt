@@ -1,11 +1,10 @@
 -- Lists of pairs of a task and a semaphore.
 use Rattle.std.proofs.Common.{Bool, List, [], ap, arith, cond, eqb-true, false, inl, inr, length, map, not, refl, sym, true, ℕ, ◌&&◌, ◌++◌, ◌+◌, ◌||◌, ◌∙◌, ◌∷◌, ◌≡◌, ◌≤◌, ◌⊎◌}
-use Rattle.std.proofs.lemmas.Bool.Decides.{nat_tests}
 use Rattle.std.specs.Prelude.{filter, is_none, ◌==◌}
 use Rattle.rt_rules.specs.Distinct.{IsDistinct}
 use Rattle.rt_rules.specs.Numbers.{first, has}
 use Rattle.rt_rules.specs.Pcp.{TaskSem, by_key, in_order, is_same_pair, of_others, of_sem, without_pair}
-use Rattle.rt_rules.proofs.BoolLaws.{both, clash, either, neither, or_true, unless}
+use Rattle.rt_rules.proofs.BoolLaws.{both, clash, either, neither, or_true, unless, or_assoc, or_else, and_true, and_false}
 use Rattle.rt_rules.proofs.MemberLaws.{equal_self, turned}
 
 -- whether the pair of t and s is in the list
@@ -16,19 +15,8 @@ has_pair t s (p ∷ ps) = (t == p.task && s == p.sem) || has_pair t s ps
 -- the tasks of the pairs of a semaphore
 pub has-of_sem : (t s : ℕ) (ps : List TaskSem) → has t (of_sem s ps) ≡ has_pair t s ps
 has-of_sem t s [] = refl
-has-of_sem t s (p ∷ ps) = by_case (p.sem == s) (s == p.sem) (flip p.sem s) (has-of_sem t s ps)
+has-of_sem t s (p ∷ ps) = by_case (p.sem == s) (s == p.sem) (turned p.sem s) (has-of_sem t s ps)
   where
-    flip : (m n : ℕ) → m == n ≡ n == m
-    flip m n = grind (arith, nat_tests)
-
-    and_true : (a : Bool) → a && true ≡ a
-    and_true true = refl
-    and_true false = refl
-
-    and_false : (a : Bool) → a && false ≡ false
-    and_false true = refl
-    and_false false = refl
-
     by_case : (a b : Bool) → a ≡ b → has t (of_sem s ps) ≡ has_pair t s ps → has t (map (λ (x : TaskSem). x.task) (cond a (p ∷ filter (λ x. x.sem == s) ps) (filter (λ x. x.sem == s) ps))) ≡ (t == p.task && b) || has_pair t s ps
     by_case true true e h = rw (and_true, h)
     by_case false false e h = rw (and_false) h
@@ -51,11 +39,7 @@ has_pair-without_pair t s p (q ∷ qs) h = by_case (is_same_pair p q) h (has_pai
 -- a pair of two lists joined
 pub has_pair-append : (t s : ℕ) (ps qs : List TaskSem) → has_pair t s (ps ++ qs) ≡ has_pair t s ps || has_pair t s qs
 has_pair-append t s [] qs = refl
-has_pair-append t s (p ∷ ps) qs = rw (has_pair-append t s ps qs) (assoc (t == p.task && s == p.sem) (has_pair t s ps) (has_pair t s qs))
-  where
-    assoc : (a b c : Bool) → a || (b || c) ≡ (a || b) || c
-    assoc true b c = refl
-    assoc false b c = refl
+has_pair-append t s (p ∷ ps) qs = rw (has_pair-append t s ps qs) (or_assoc (t == p.task && s == p.sem) (has_pair t s ps) (has_pair t s qs))
 
 -- another pair stays
 pub without_pair-keeps : (t s : ℕ) (p : TaskSem) (ps : List TaskSem) → (t == p.task && s == p.sem) ≡ false → has_pair t s ps ≡ true → has_pair t s (without_pair p ps) ≡ true
@@ -125,11 +109,7 @@ sem-there r (p ∷ ps) h = by_case (p.sem == r) (turned r p.sem) h (sem-there r 
   where
     by_case : (b : Bool) → r == p.sem ≡ b → r == p.sem || has r (map (λ (q : TaskSem). q.sem) ps) ≡ true → (has r (map (λ (q : TaskSem). q.sem) ps) ≡ true → is_none (first (of_sem r ps)) ≡ false) → is_none (first (map (λ (q : TaskSem). q.task) (cond b (p ∷ filter (λ q. q.sem == r) ps) (filter (λ q. q.sem == r) ps)))) ≡ false
     by_case true e k rec = refl
-    by_case false e k rec = rec (right (r == p.sem) _ k e)
-      where
-        right : (a b : Bool) → a || b ≡ true → a ≡ false → b ≡ true
-        right true b m n = cc
-        right false b m n = m
+    by_case false e k rec = rec (or_else (r == p.sem) _ k e)
 
 -- ---- the tasks of pairs
 

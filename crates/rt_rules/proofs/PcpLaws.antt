@@ -6,7 +6,7 @@ use Rattle.rt_rules.specs.Distinct.{IsDistinct}
 use Rattle.rt_rules.specs.Numbers.{has}
 use Rattle.rt_rules.specs.Pcp.{PcpState, TaskSem, granted, in_order, is_same_pair, of_others, passes, pcp_after, tested, without_pair}
 use Rattle.rt_rules.specs.SemState.{Asks, Frees, Neither, SemAct}
-use Rattle.rt_rules.proofs.BoolLaws.{both, clash, either, or_true, unless}
+use Rattle.rt_rules.proofs.BoolLaws.{both, clash, either, or_true, unless, and_false, or_else, or_false}
 use Rattle.rt_rules.proofs.DistinctLaws.{distinct-append}
 use Rattle.rt_rules.proofs.PairLaws.{distinct-without_pair, has_pair, has_pair-append, has_pair-in_order, has_pair-without_pair, tasks-append, tasks_of_pairs, without_pair-gone, without_pair-keeps}
 
@@ -31,11 +31,7 @@ passes-cons above_ceiling p ps t = by_case (p.task == t)
     by_case false = refl
 
 passes-more : (above_ceiling : ℕ → ℕ → Bool) (p : TaskSem) (ps : List TaskSem) (t : ℕ) → passes above_ceiling ps t ≡ false → passes above_ceiling (p ∷ ps) t ≡ false
-passes-more above_ceiling p ps t h = rw (passes-cons, h) (last (p.task == t || above_ceiling t p.sem))
-  where
-    last : (b : Bool) → b && false ≡ false
-    last true = refl
-    last false = refl
+passes-more above_ceiling p ps t h = rw (passes-cons, h) (and_false (p.task == t || above_ceiling t p.sem))
 
 passes-without_pair : (above_ceiling : ℕ → ℕ → Bool) (q : TaskSem) (ps : List TaskSem) (t : ℕ) → passes above_ceiling ps t ≡ true → passes above_ceiling (without_pair q ps) t ≡ true
 passes-without_pair above_ceiling q [] t h = refl
@@ -50,12 +46,8 @@ pub passes-above_ceiling : (above_ceiling : ℕ → ℕ → Bool) (ps : List Tas
 passes-above_ceiling above_ceiling [] t u s h k ne = cc
 passes-above_ceiling above_ceiling (p ∷ ps) t u s h k ne = split (both _ _ (rw passes-cons at h)) (either (u == p.task && s == p.sem) _ k) (λ a b. passes-above_ceiling above_ceiling ps t u s a b ne)
   where
-    here : (a b : Bool) → a || b ≡ true → a ≡ false → b ≡ true
-    here true b m n = cc
-    here false b m n = m
-
     split : (p.task == t || above_ceiling t p.sem ≡ true) × (passes above_ceiling ps t ≡ true) → (u == p.task && s == p.sem ≡ true) ⊎ (has_pair u s ps ≡ true) → (passes above_ceiling ps t ≡ true → has_pair u s ps ≡ true → above_ceiling t s ≡ true) → above_ceiling t s ≡ true
-    split q (inl m) r = let e = both (u == p.task) (s == p.sem) m in let a : u ≡ p.task = eqb-true u p.task e.0 in let b : s ≡ p.sem = eqb-true s p.sem e.1 in rw b (here (p.task == t) (above_ceiling t p.sem) q.0 (rw a at ne))
+    split q (inl m) r = let e = both (u == p.task) (s == p.sem) m in let a : u ≡ p.task = eqb-true u p.task e.0 in let b : s ≡ p.sem = eqb-true s p.sem e.1 in rw b (or_else (p.task == t) (above_ceiling t p.sem) q.0 (rw a at ne))
     split q (inr m) r = r q.1 m
 
 -- ---- the tests after an Unlock
@@ -134,10 +126,6 @@ stack-step above above_ceiling (Asks u r) l k = by_case (passes above_ceiling l.
       blocked = λ t s h. split t s (either (has_pair t s l.waiting) _ (rw has_pair-append at h));
     }
       where
-        or_false : (a : Bool) → a || false ≡ true → a ≡ true
-        or_false true n = refl
-        or_false false n = cc
-
         split : (t s : ℕ) → (has_pair t s l.waiting ≡ true) ⊎ ((t == u && s == r) || false ≡ true) → passes above_ceiling l.held t ≡ false
         split t s (inl m) = k.blocked t s m
         split t s (inr m) = rw (eqb-true t u (both (t == u) (s == r) (or_false _ m)).0) e
@@ -160,10 +148,6 @@ pcp-waits above above_ceiling t s (Asks u r) l h = by_case (passes above_ceiling
         join : (has_pair t s l.waiting ≡ true) ⊎ ((t == u && s == r) || false ≡ true) → (has_pair t s l.waiting ≡ true) ⊎ (Asks u r ≡ Asks t s) × (passes above_ceiling l.held t ≡ false)
         join (inl m) = inl m
         join (inr m) = let q = both _ _ (or_false _ m) in let same : t ≡ u = eqb-true t u q.0 in let same_sem : s ≡ r = eqb-true s r q.1 in inr (rw (same, same_sem), rw same e)
-          where
-            or_false : (a : Bool) → a || false ≡ true → a ≡ true
-            or_false true n = refl
-            or_false false n = cc
 pcp-waits above above_ceiling t s (Frees u r) l h = inl (waiting-tested above_ceiling t s (in_order above l.waiting) _ h)
 pcp-waits above above_ceiling t s Neither l h = inl h
 

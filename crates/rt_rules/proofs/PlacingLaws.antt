@@ -1,12 +1,12 @@
 -- The links are exactly the top of the cluster, each task once.
 use Rattle.std.proofs.Common.{Bool, List, [], ap, arith, cond, eqb-true, false, inl, inr, length, not, refl, suc, sym, true, ℕ, ◌&&◌, ◌+◌, ◌||◌, ◌∙◌, ◌∷◌, ◌≡◌, ◌≤◌, ◌⊎◌}
-use Rattle.std.proofs.lemmas.Bool.Decides.{nat_tests}
 use Rattle.std.specs.Prelude.{None, Option, Some, filter, ◌==◌}
 use Rattle.rt_rules.specs.Distinct.{IsDistinct}
 use Rattle.rt_rules.specs.Numbers.{has, is}
 use Rattle.rt_rules.specs.Placing.{filled, is_of, kept, kept_link, placed, tasks_in}
 pub use Rattle.rt_rules.proofs.BoolLaws.{unless, either, or_true, or_middle, or_assoc}
 pub use Rattle.rt_rules.proofs.MemberLaws.{equal_self, has-filter}
+use Rattle.rt_rules.proofs.MemberLaws.{turned}
 
 -- how many processors are left
 abbrev pub gaps : List (Option ℕ) → ℕ
@@ -142,9 +142,6 @@ beside-cons : (u : ℕ) (us ts : List ℕ) → beside (u ∷ us) ts ≡ filter (
 beside-cons u us [] = refl
 beside-cons u us (t ∷ ts) = by_case (t == u) (u == t) (has t us) (turned t u) refl (beside-cons u us ts)
   where
-    turned : (a b : ℕ) → a == b ≡ b == a
-    turned a b = grind (arith, nat_tests)
-
     by_case : (a b c : Bool) → a ≡ b → u == t ≡ b → beside (u ∷ us) ts ≡ filter (λ t. not (u == t)) (beside us ts) → cond (not (a || c)) (t ∷ beside (u ∷ us) ts) (beside (u ∷ us) ts) ≡ filter (λ t. not (u == t)) (cond (not c) (t ∷ beside us ts) (beside us ts))
     by_case true true true e k rest = rest
     by_case true true false e k rest = rw k rest
