@@ -174,8 +174,8 @@ module _ (g : Group) (rules : MeetsRules g) (past : Past) (made : IsMade g past)
   eligible-facts : (x : ℕ) → eligible g x past ≡ true → (exists g x past ≡ true) × (awaits g x past ≡ None)
   unfolding eligible ready
   eligible-facts x h =
-      let a = both (exists g x past && not (sleeps x past)) (is_none-is (awaits g x past) && is_served g g.setup.plugin x past) h in
-      ((both (exists g x past) (not (sleeps x past)) a.0).0, none-is (awaits g x past) (both (is_none-is (awaits g x past)) (is_served g g.setup.plugin x past) a.1).0)
+      let a = both (exists g x past && not (sleeps x past)) (is_none (awaits g x past) && is_served g g.setup.plugin x past) h in
+      ((both (exists g x past) (not (sleeps x past)) a.0).0, none-is (awaits g x past) (both (is_none (awaits g x past)) (is_served g g.setup.plugin x past) a.1).0)
 
   is-eligible : (x : ℕ) → exists g x past ≡ true → sleeps x past ≡ false → awaits g x past ≡ None → eligible g x past ≡ true
   unfolding eligible ready
