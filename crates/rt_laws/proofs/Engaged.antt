@@ -23,14 +23,14 @@ use Rattle.rt_laws.proofs.Asked.{Freed}
 use Rattle.rt_laws.proofs.AtSem.{at_cluster-asks, at_cluster-frees, at_sem-asks, at_sem-frees}
 use Rattle.rt_laws.proofs.PcpState.{IsPcpKept, first-pcp, pcp-first}
 
--- the same by protocol, over the state of the semaphore
+-- a task holds a semaphore of a protocol or waits for it
 unfoldable pub engaged_by : (g : Group) → Protocol → ℕ → ℕ → Past → Bool
 engaged_by g Fmlp t s past = has t (fmlp g s past)
 engaged_by g Omlp t s past = has t (members (omlp g s past))
 engaged_by g Mpcp t s past = stands_at t (mpcp g s past)
 engaged_by g Pcp t s past = stands_for t s (pcp g (cluster_of g s) past)
 
--- a task holds the semaphore or waits for it
+-- a task holds a semaphore or waits for it
 unfoldable pub engaged : (g : Group) → ℕ → ℕ → Past → Bool
 engaged g t s past = engaged_by g (protocol g s) t s past
 
