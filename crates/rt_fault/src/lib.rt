@@ -1,0 +1,17 @@
+//! Where the bytes of a run come from and where they go: sources and sinks that count their faults, over memory and
+//! over std's readers and writers; reading a whole source, writing a whole text, and the status that a run ends with.
+#![tactic(auto)]
+
+mod input;
+mod output;
+mod reading;
+mod status;
+mod std_edge;
+mod writing;
+
+pub use input::{Failed, Source};
+pub use output::Sink;
+pub use reading::{ReadStop, read_all};
+pub use status::Status;
+pub use std_edge::{StdSink, StdSource};
+pub use writing::put_all;

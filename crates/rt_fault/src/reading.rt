@@ -1,0 +1,77 @@
+//! Reading a whole source.
+ghost use Rattle.std.specs.Prelude.{◌≡◌, ◌≤◌, ◌<◌, [], length, vec_len, Some, IfOk, OnOk, OnErr, IfSome};
+ghost use Rattle.std.specs.Io.KnownBytes.{Consumes, IsAtEnd};
+ghost use Rattle.rt_fault.specs.Faults.{HasRisen};
+ghost use Rattle.rt_fault.specs.Reading.{TakesSome, TakesMoreThan};
+
+use crate::{Failed, Source};
+use std::alloc::{AllocError, Global};
+use thiserror::Error;
+
+/// Why a source was not read to its end.
+#[derive(Clone, Copy, Debug, PartialEq, Eq, Error)]
+pub enum ReadStop {
+    /// A read failed.
+    #[error("reading failed")]
+    Fault,
+    /// More bytes came than the limit.
+    #[error("the input is too long")]
+    TooLong,
+    /// Memory ran out.
+    #[error("memory ran out")]
+    NoMemory,
+}
+
+impl From<Failed> for ReadStop {
+    ghost use Rattle.std.specs.Prelude.{◌≡◌};
+    ghost use Rattle.rt_fault.specs.declared.reading.ReadStop.TheVariants.{Fault};
+
+    ghost from_gives = { λ _ e. e ≡ Fault };
+
+    fn from(_e: Failed) -> ReadStop {
+        ReadStop::Fault
+    }
+}
+
+impl From<AllocError> for ReadStop {
+    ghost use Rattle.std.specs.Prelude.{◌≡◌};
+    ghost use Rattle.rt_fault.specs.declared.reading.ReadStop.TheVariants.{NoMemory};
+
+    ghost from_gives = { λ _ e. e ≡ NoMemory };
+
+    fn from(_e: AllocError) -> ReadStop {
+        ReadStop::NoMemory
+    }
+}
+
+/// The bytes that one read asks for at most.
+const PIECE: usize = 65_536;
+
+/// Reads a source to its end, and refuses more than `limit` bytes.
+///
+/// On Ok the bytes are all that the source had left, where it tells them. It is TooLong as soon as more than `limit`
+/// bytes came: nothing is asked of the source after that. Each refusal leaves the source without the bytes that came.
+pub fn read_all<S: Source>(alloc: Global, src: &mut S, limit: u64) -> Result<Vec<u8>, ReadStop>
+    ensures ok { IfOk result (λ v. IfSome (S.left src.old) (λ xs. v.items ≡ xs)) }
+    ensures end { OnOk result (IsAtEnd (S.left src.new)) }
+    ensures taken { IfOk result (λ v. Consumes (S.left src.old) (S.left src.new) v.items) }
+    ensures within { IfOk result (λ v. vec_len v ≤ limit) }
+    ensures too_long { result ≡ Err ReadStop.TooLong → TakesMoreThan limit (S.left src.old) (S.left src.new) }
+    ensures fault { result ≡ Err ReadStop.Fault → HasRisen (S.faults src.old) (S.faults src.new) }
+    ensures stopped { OnErr result (TakesSome (S.left src.old) (S.left src.new)) }
+    ensures counted { S.faults src.old ≤ S.faults src.new }
+{
+    let mut piece = Vec::new(alloc);
+    piece.resize(PIECE, 0u8)?;
+    let mut bytes = Vec::new(alloc);
+    loop {
+        let count = src.read(piece.as_mut_slice())?;
+        if count == 0 {
+            return Ok(bytes);
+        }
+        if count as u64 > limit - bytes.len() as u64 {
+            return Err(ReadStop::TooLong);
+        }
+        bytes.extend_from_slice(&piece.as_slice()[..count])?;
+    }
+}
