@@ -1,22 +1,57 @@
-use Rattle.std.proofs.Common.{rules, ◌≡◌, ◌≤◌, ◌<◌, [], length, vec_len, Some, IfOk, OnOk, OnErr, IfSome, ℕ, ◌+◌, ◌-◌, ◌*◌, ◌/◌, ◌%◌, Bool, true, false, nat_eq, nat_lt, List, ◌∷◌, ◌++◌, slice_index_or, slice_set, bit_and, bit_or, Fits, w8, w32, w64, Bor, MutBor}
-use Rattle.std.specs.Io.KnownBytes.{Consumes, IsAtEnd}
-use Rattle.rt_fault.specs.Faults.{HasRisen}
-use Rattle.rt_fault.specs.Reading.{TakesSome, TakesMoreThan}
+use Rattle.std.proofs.Common.{rules, ◌≡◌, ℕ, List, ◌+◌, ◌≤◌, ◌++◌, ◌∙◌, ap, ◌-◌, ◌<◌, take, drop, length, length-append, length-take, arith}
+use Rattle.std.proofs.Math.Seq.{take-append_seam}
+use Rattle.rt_fault.proofs.LeftLaws.{Consumes-append}
 use Rattle.rt_fault.proofs.reading.read_all.Goals as goal
 
--- src/reading.rt:73:13
+-- n bytes more
+length_more : (xs buf : List ℕ) (n : ℕ) → n ≤ length buf → length (xs ++ take n buf) ≡ length xs + n
+length_more xs buf n h = rw (length-append, length-take) (omega arith)
+
+-- n bytes more than the room that is left
+over_limit :
+    (xs buf : List ℕ) (n limit len : ℕ) → limit - len < n → len ≡ length xs → n ≤ length buf
+    → limit < length (xs ++ take n buf)
+over_limit xs buf n limit len more len_is bound = rw (length_more xs buf n bound) (omega arith)
+
+-- the buffer holds what was written into all of it
+written_back : (len : ℕ) (buf items : List ℕ) → length buf ≡ len → take len (buf ++ drop (length buf) items) ≡ buf
+written_back len buf items h = rw (← h) (take-append_seam buf (drop (length buf) items))
+
 pub returns-then-count-limit-clause-too_long : goal.returns-then-count-limit-clause-too_long
-returns-then-count-limit-clause-too_long g c = ?
+returns-then-count-limit-clause-too_long g c =
+    let before = c.loop-bytes.bytes.items in
+    let buf = c.read.new.buf in
+    let n = c.in_ok-count.count in
+    λ _. (before ++ take n buf,
+        over_limit before buf n c.args.limit c.len.result c.if-count-limit.true (c.len.ensures ∙ c.loop-bytes.bytes.ok.0) c.in_ok-count.ensures.bound,
+        Consumes-append _ _ _ before (take n buf) c.loop-bytes.invariant.taken c.in_ok-count.ensures.taken)
 
--- src/reading.rt:73:13
 pub returns-then-count-limit-clause-stopped : goal.returns-then-count-limit-clause-stopped
-returns-then-count-limit-clause-stopped g c = ?
+returns-then-count-limit-clause-stopped g c =
+    let before = c.loop-bytes.bytes.items in
+    let more = take c.in_ok-count.count c.read.new.buf in
+    (before ++ more, Consumes-append _ _ _ before more c.loop-bytes.invariant.taken c.in_ok-count.ensures.taken)
 
--- src/reading.rt:67:5
 pub loop-bytes-preserved : goal.loop-bytes-preserved
-loop-bytes-preserved g c = ?
+loop-bytes-preserved g c =
+    let read = c.loop-bytes.invariant in
+    let before = c.loop-bytes.bytes.items in
+    let buf = c.read.new.buf in
+    let n = c.in_ok-count.count in
+    let back = written_back c.loop-bytes.piece.len buf c.loop-bytes.piece.items (c.read.auto.buf ∙ c.as_mut_slice.ensures.len) in
+    let items : c.extend_from_slice.new.self.items ≡ before ++ take n buf =
+        c.in_ok-extend_from_slice.ensures.items ∙ ap (λ (s : List ℕ). before ++ take n s) (c.as_slice.ensures.value ∙ back) in
+    record {
+      buffer = read.buffer;
+      within = rw items (omega (arith, length_more before buf n c.in_ok-count.ensures.bound, c.loop-bytes.bytes.ok.0));
+      taken = rw items (Consumes-append _ _ _ before (take n buf) read.taken c.in_ok-count.ensures.taken);
+      counted = omega (arith, read.counted, c.in_ok-count.ensures.counted)
+    }
 
--- src/reading.rt:75:9
 pub returns-in_err-extend_from_slice-clause-stopped :
     goal.returns-in_err-extend_from_slice-clause-stopped
-returns-in_err-extend_from_slice-clause-stopped g c = ?
+returns-in_err-extend_from_slice-clause-stopped g c =
+    let before = c.loop-bytes.bytes.items in
+    let more = take c.in_ok-count.count c.read.new.buf in
+    let taken = Consumes-append _ _ _ before more c.loop-bytes.invariant.taken c.in_ok-count.ensures.taken in
+    search (rules, taken)
