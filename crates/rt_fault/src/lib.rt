@@ -3,8 +3,11 @@
 #![tactic(auto)]
 
 mod input;
+mod kept;
 mod output;
+mod plan;
 mod reading;
+mod rest;
 mod status;
 mod std_edge;
 mod writing;
