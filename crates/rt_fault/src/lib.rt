@@ -4,17 +4,21 @@
 
 mod input;
 mod kept;
+mod memory;
 mod output;
 mod plan;
 mod reading;
 mod rest;
 mod status;
 mod std_edge;
+mod sure;
 mod writing;
 
 pub use input::{Failed, Source};
+pub use memory::{MemSink, MemSource};
 pub use output::Sink;
 pub use reading::{ReadStop, read_all};
 pub use status::Status;
 pub use std_edge::{StdSink, StdSource};
+pub use sure::{SureSink, SureSource};
 pub use writing::put_all;
