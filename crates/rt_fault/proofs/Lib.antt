@@ -1,3 +1,4 @@
 pub mod FaultLaws
 pub mod HeldLaws
 pub mod LeftLaws
+pub mod PlanLaws

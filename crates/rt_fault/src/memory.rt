@@ -56,6 +56,7 @@ impl Source for MemSource {
     ghost faults = { λ s. failed_calls s.plan };
 
     fn read(&mut self, buf: &mut [u8]) -> Result<usize, Failed>
+        requires { 0 < length buf.old }
         // What each source does.
         ensures bound { IfOk result (λ n. n ≤ length buf.new) }
         ensures taken { IfOk result (λ n. Consumes (Some self.old.left) (Some self.new.left) (take n buf.new)) }
@@ -130,6 +131,7 @@ impl Sink for MemSink {
 
     /// Takes all of `bytes`, and no memory.
     fn write(&mut self, bytes: &[u8]) -> Result<usize, Failed>
+        requires { 0 < length bytes.now }
         // What each sink does.
         ensures some { IfOk result (λ n. 0 < n) }
         ensures bound { IfOk result (λ n. n ≤ length bytes.now) }

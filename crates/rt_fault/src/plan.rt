@@ -1,6 +1,5 @@
 //! Which calls are to fail.
-ghost use Rattle.std.specs.Prelude.{◌≡◌, ◌↔◌, IsTrue};
-ghost use Rattle.rt_fault.specs.Memory.{IsFailing, after_call};
+ghost use Rattle.std.specs.Prelude.{◌↔◌, ◌<◌, ◌^◌, IsTrue, Contains};
 
 use std::marker::Model;
 
@@ -22,8 +21,8 @@ impl Model for Plan {
 }
 
 impl Plan {
-    ghost use Rattle.std.specs.Prelude.{◌≡◌, ◌↔◌, IsTrue};
-    ghost use Rattle.rt_fault.specs.Memory.{IsFailing, after_call};
+    ghost use Rattle.std.specs.Prelude.{◌≡◌, ◌↔◌, ◌<◌, ◌≤◌, IsTrue};
+    ghost use Rattle.rt_fault.specs.Memory.{IsFailing, after_call, failed_calls};
 
     pub fn new(fails: Vec<u32>) -> Plan
         ensures { result ≡ record { fails = fails.items; calls = 0 } }
@@ -35,12 +34,20 @@ impl Plan {
     pub fn fails_next(&mut self) -> bool
         ensures answer { IsTrue result ↔ IsFailing self.old }
         ensures counted { self.new ≡ after_call self.old }
+        ensures fault { IsTrue result → failed_calls self.old < failed_calls self.new }
+        ensures never_falls { failed_calls self.old ≤ failed_calls self.new }
     {
-        let fails = match u32::try_from(self.calls) {
-            Ok(number) => self.fails.contains(&number),
-            Err(_) => false,
-        };
-        self.calls = self.calls.saturating_add(1);
-        fails
+        let number = self.calls;
+        self.calls = number.saturating_add(1);
+        has_number(self.fails.as_slice(), number)
+    }
+}
+
+fn has_number(fails: &[u32], number: u64) -> bool
+    ensures { IsTrue result ↔ ((number < 2 ^ 32) × Contains fails.now number) }
+{
+    match u32::try_from(number) {
+        Ok(number) => fails.contains(&number),
+        Err(_) => false,
     }
 }

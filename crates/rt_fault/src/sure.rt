@@ -43,7 +43,10 @@ impl Source for SureSource {
 
     /// Fills `buf` as far as bytes are left.
     fn read(&mut self, buf: &mut [u8]) -> Result<usize, Failed>
+        requires { 0 < length buf.old }
         ensures sure { result ≡ Ok (min (length buf.old) (length self.old)) }
+        ensures bound { IfOk result (λ n. n ≤ length buf.new) }
+        ensures end { result ≡ Ok 0 → self.new ≡ [] }
         ensures taken { IfOk result (λ n. Consumes (Some self.old) (Some self.new) (take n buf.new)) }
     {
         let room = buf.len();
