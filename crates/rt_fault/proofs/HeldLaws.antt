@@ -73,7 +73,7 @@ pub ExtendsByPrefix-append :
     (a b c : Held) (xs ys : List ℕ) → Extends a b xs → ExtendsByPrefix b c ys → ExtendsByPrefix a c (xs ++ ys)
 ExtendsByPrefix-append a b c xs ys p (n, within, q) =
     ExtendsByPrefix-front a c (xs ++ ys) (xs ++ take n ys) (drop n ys)
-        (rw (append_assoc, take-append-drop)) (Extends-append a b c xs (take n ys) p q)
+    (rw (append_assoc, take-append-drop)) (Extends-append a b c xs (take n ys) p q)
 
 -- a first part of a text is one of any text that begins with it
 pub ExtendsByPrefix-more : (a b : Held) (xs ys : List ℕ) → ExtendsByPrefix a b xs → ExtendsByPrefix a b (xs ++ ys)

@@ -23,7 +23,7 @@ count_below_rises : (fails : List ℕ) (c d : ℕ) → c ≤ d → sum_by (weigh
 count_below_rises [] c d h = omega arith
 count_below_rises (k ∷ fails) c d h =
     rw (sum_by-cons (weight c) k fails, sum_by-cons (weight d) k fails)
-        (omega (arith, weight_rises k c d h, count_below_rises fails c d h))
+    (omega (arith, weight_rises k c d h, count_below_rises fails c d h))
 
 -- they are more, where the number itself is among them
 count_below_rises_at :
@@ -32,10 +32,10 @@ count_below_rises_at :
 count_below_rises_at [] i c d h at is = omega arith
 count_below_rises_at (k ∷ fails) zero c d h at is =
     rw (sum_by-cons (weight c) k fails, sum_by-cons (weight d) k fails)
-        (omega (arith, weight_rises_at k c d h is, count_below_rises fails c d (omega arith)))
+    (omega (arith, weight_rises_at k c d h is, count_below_rises fails c d (omega arith)))
 count_below_rises_at (k ∷ fails) (suc i) c d h at is =
     rw (sum_by-cons (weight c) k fails, sum_by-cons (weight d) k fails)
-        (omega (arith, weight_rises k c d (omega arith), count_below_rises_at fails i c d h (omega arith) is))
+    (omega (arith, weight_rises k c d (omega arith), count_below_rises_at fails i c d h (omega arith) is))
 
 -- a call that is made takes back no fault
 pub failed_calls-after_call : (p : Plan) → p.calls < 2 ^ 64 → failed_calls p ≤ failed_calls (after_call p)

@@ -1,7 +1,6 @@
 //! A source and a sink over memory, with calls that fail.
 ghost use Rattle.std.specs.Prelude.{◌≡◌, ℕ, ◌↔◌, ◌<◌, ◌≤◌, [], length, take, min, IsErr, IfOk, OnOk, OnErr, Some};
 ghost use Rattle.std.specs.Io.KnownBytes.{Consumes, Keeps, IsAtEnd};
-ghost use Rattle.rt_fault.specs.Faults.{HasRisen};
 ghost use Rattle.rt_fault.specs.Held.{Extends, Stays};
 ghost use Rattle.rt_fault.specs.Memory.{IsFailing, after_call, failed_calls, held_in, kept_with};
 
@@ -62,7 +61,7 @@ impl Source for MemSource {
         ensures taken { IfOk result (λ n. Consumes (Some self.old.left) (Some self.new.left) (take n buf.new)) }
         ensures end { result ≡ Ok 0 → IsAtEnd (Some self.new.left) }
         ensures kept { OnErr result (Keeps (Some self.old.left) (Some self.new.left)) }
-        ensures fault { OnErr result (HasRisen (failed_calls self.old.plan) (failed_calls self.new.plan)) }
+        ensures fault { OnErr result (failed_calls self.old.plan < failed_calls self.new.plan) }
         ensures counted { failed_calls self.old.plan ≤ failed_calls self.new.plan }
 
         // What this one does.
@@ -99,8 +98,8 @@ impl MemSink {
     /// An empty sink with room for `room` bytes. Exactly the writes whose numbers, from 0, stand in `fails` fail.
     pub fn new(alloc: Global, room: u64, fails: Vec<u32>) -> Result<MemSink, NoMemory>
         ensures { IfOk result (λ s. s ≡ record {
-            kept = record { bytes = []; room = room; beyond = 0 };
-            plan = record { fails = fails.items; calls = 0 }
+          kept = record { bytes = []; room = room; beyond = 0 };
+          plan = record { fails = fails.items; calls = 0 };
         }) }
     {
         Ok(MemSink {
@@ -137,7 +136,7 @@ impl Sink for MemSink {
         ensures bound { IfOk result (λ n. n ≤ length bytes.now) }
         ensures taken { IfOk result (λ n. Extends (held_in self.old.kept) (held_in self.new.kept) (take n bytes.now)) }
         ensures kept { OnErr result (Stays (held_in self.old.kept) (held_in self.new.kept)) }
-        ensures fault { OnErr result (HasRisen (failed_calls self.old.plan) (failed_calls self.new.plan)) }
+        ensures fault { OnErr result (failed_calls self.old.plan < failed_calls self.new.plan) }
         ensures counted { failed_calls self.old.plan ≤ failed_calls self.new.plan }
 
         // What this one does.

@@ -1,8 +1,7 @@
 //! Reading a whole source.
-ghost use Rattle.std.specs.Prelude.{◌≡◌, ◌≤◌, ◌<◌, [], length, vec_len, Some, IfOk, OnOk, OnErr, IfSome};
-ghost use Rattle.std.specs.Io.KnownBytes.{Consumes, IsAtEnd};
+ghost use Rattle.std.specs.Prelude.{◌≡◌, ◌≢◌, ◌≤◌, vec_len, IfOk};
 ghost use Rattle.rt_fault.specs.Faults.{HasRisen};
-ghost use Rattle.rt_fault.specs.Reading.{TakesSome, TakesMoreThan};
+ghost use Rattle.rt_fault.specs.Reading.{TakesAll, TakesAtMost, TakesMoreThan};
 
 use crate::{Failed, Source};
 use std::alloc::{AllocError, Global};
@@ -50,16 +49,18 @@ const PIECE: usize = 65_536;
 /// Reads a source to its end, and refuses more than `limit` bytes.
 ///
 /// On Ok the bytes are all that the source had left, where it tells them. It is TooLong as soon as more than `limit`
-/// bytes came: nothing is asked of the source after that. Each refusal leaves the source without the bytes that came.
+/// bytes came: nothing is asked of the source after that. The bytes that came before a refusal are gone from the source.
 pub fn read_all<S: Source>(alloc: Global, src: &mut S, limit: u64) -> Result<Vec<u8>, ReadStop>
-    ensures ok { IfOk result (λ v. IfSome (S.left src.old) (λ xs. v.items ≡ xs)) }
-    ensures end { OnOk result (IsAtEnd (S.left src.new)) }
-    ensures taken { IfOk result (λ v. Consumes (S.left src.old) (S.left src.new) v.items) }
+    ensures ok { IfOk result (λ v. TakesAll (S.left src.old) (S.left src.new) v.items) }
     ensures within { IfOk result (λ v. vec_len v ≤ limit) }
-    ensures too_long { result ≡ Err ReadStop.TooLong → TakesMoreThan limit (S.left src.old) (S.left src.new) }
     ensures fault { result ≡ Err ReadStop.Fault → HasRisen (S.faults src.old) (S.faults src.new) }
-    ensures stopped { OnErr result (TakesSome (S.left src.old) (S.left src.new)) }
     ensures counted { S.faults src.old ≤ S.faults src.new }
+
+    // TooLong is the answer exactly where more than `limit` bytes came.
+    ensures too_long { result ≡ Err ReadStop.TooLong →
+        TakesMoreThan limit (S.left src.old) (S.left src.new) }
+    ensures not_too_long { result ≢ Err ReadStop.TooLong →
+        TakesAtMost limit (S.left src.old) (S.left src.new) }
 {
     let mut piece = Vec::new(alloc);
     piece.resize(PIECE, 0u8)?;

@@ -1,6 +1,8 @@
 //! std's readers and writers as sources and sinks: the trusted edge.
-ghost use Rattle.std.specs.Prelude.{◌≡◌};
-ghost use Rattle.rt_fault.specs.Held.{held_of_contents};
+ghost use Rattle.std.specs.Prelude.{◌≡◌, ℕ, ◌<◌, ◌≤◌, length, take, is_err, IfOk, OnErr};
+ghost use Rattle.std.specs.Io.KnownBytes.{Consumes, Keeps, IsAtEnd};
+ghost use Rattle.rt_fault.specs.Faults.{HasRisen, faults_after};
+ghost use Rattle.rt_fault.specs.Held.{Extends, Stays, held_of_contents};
 
 use crate::{Failed, Sink, Source};
 use std::io::{Read, Write};
@@ -29,7 +31,20 @@ impl<T: Read> Source for StdSource<T> {
 
     ghost faults = { λ s. s.faults };
 
-    fn read(&mut self, buf: &mut [u8]) -> Result<usize, Failed> {
+    fn read(&mut self, buf: &mut [u8]) -> Result<usize, Failed>
+        requires { 0 < length buf.old }
+        // What each source does.
+        ensures bound { IfOk result (λ n. n ≤ length buf.new) }
+        ensures taken { IfOk result (λ n.
+            Consumes (T.remaining self.old.reader) (T.remaining self.new.reader) (take n buf.new)) }
+        ensures end { result ≡ Ok 0 → IsAtEnd (T.remaining self.new.reader) }
+        ensures kept { OnErr result (Keeps (T.remaining self.old.reader) (T.remaining self.new.reader)) }
+        ensures fault { OnErr result (HasRisen self.old.faults self.new.faults) }
+        ensures counted { self.old.faults ≤ self.new.faults }
+
+        // It counts its failures, and nothing else.
+        ensures faults { self.new.faults ≡ faults_after self.old.faults (is_err result) }
+    {
         match self.reader.read(buf) {
             Ok(count) => Ok(count),
             Err(_) => {
@@ -64,7 +79,21 @@ impl<T: Write> Sink for StdSink<T> {
 
     ghost faults = { λ s. s.faults };
 
-    fn write(&mut self, bytes: &[u8]) -> Result<usize, Failed> {
+    fn write(&mut self, bytes: &[u8]) -> Result<usize, Failed>
+        requires { 0 < length bytes.now }
+        // What each sink does.
+        ensures some { IfOk result (λ n. 0 < n) }
+        ensures bound { IfOk result (λ n. n ≤ length bytes.now) }
+        ensures taken { IfOk result (λ n. Extends (held_of_contents (T.contents self.old.writer))
+            (held_of_contents (T.contents self.new.writer)) (take n bytes.now)) }
+        ensures kept { OnErr result (Stays (held_of_contents (T.contents self.old.writer))
+            (held_of_contents (T.contents self.new.writer))) }
+        ensures fault { OnErr result (HasRisen self.old.faults self.new.faults) }
+        ensures counted { self.old.faults ≤ self.new.faults }
+
+        // It counts its failures, and nothing else.
+        ensures faults { self.new.faults ≡ faults_after self.old.faults (is_err result) }
+    {
         match self.writer.write(bytes) {
             Ok(count) if count > 0 => Ok(count),
             _ => {

@@ -13,6 +13,12 @@ over_limit :
     → limit < length (xs ++ take n buf)
 over_limit xs buf n limit len more len_is bound = rw (length_more xs buf n bound) (omega arith)
 
+-- n bytes that fit in the room that is left
+within_limit :
+    (xs buf : List ℕ) (n limit len : ℕ) → length xs ≤ limit → n ≤ limit - len → len ≡ length xs → n ≤ length buf
+    → length (xs ++ take n buf) ≤ limit
+within_limit xs buf n limit len within fits len_is bound = rw (length_more xs buf n bound) (omega arith)
+
 -- the buffer holds what was written into all of it
 written_back : (len : ℕ) (buf items : List ℕ) → length buf ≡ len → take len (buf ++ drop (length buf) items) ≡ buf
 written_back len buf items h = rw (← h) (take-append_seam buf (drop (length buf) items))
@@ -22,15 +28,11 @@ returns-then-count-limit-clause-too_long g c =
     let before = c.loop-bytes.bytes.items in
     let buf = c.read.new.buf in
     let n = c.in_ok-count.count in
-    λ _. (before ++ take n buf,
-        over_limit before buf n c.args.limit c.len.result c.if-count-limit.true (c.len.ensures ∙ c.loop-bytes.bytes.ok.0) c.in_ok-count.ensures.bound,
-        Consumes-append _ _ _ before (take n buf) c.loop-bytes.invariant.taken c.in_ok-count.ensures.taken)
-
-pub returns-then-count-limit-clause-stopped : goal.returns-then-count-limit-clause-stopped
-returns-then-count-limit-clause-stopped g c =
-    let before = c.loop-bytes.bytes.items in
-    let more = take c.in_ok-count.count c.read.new.buf in
-    (before ++ more, Consumes-append _ _ _ before more c.loop-bytes.invariant.taken c.in_ok-count.ensures.taken)
+    λ _. (
+      before ++ take n buf,
+      over_limit before buf n c.args.limit c.len.result c.if-count-limit.true (c.len.ensures ∙ c.loop-bytes.bytes.ok.0) c.in_ok-count.ensures.bound,
+      Consumes-append _ _ _ before (take n buf) c.loop-bytes.invariant.taken c.in_ok-count.ensures.taken,
+    )
 
 pub loop-bytes-preserved : goal.loop-bytes-preserved
 loop-bytes-preserved g c =
@@ -40,18 +42,23 @@ loop-bytes-preserved g c =
     let n = c.in_ok-count.count in
     let back = written_back c.loop-bytes.piece.len buf c.loop-bytes.piece.items (c.read.auto.buf ∙ c.as_mut_slice.ensures.len) in
     let items : c.extend_from_slice.new.self.items ≡ before ++ take n buf =
-        c.in_ok-extend_from_slice.ensures.items ∙ ap (λ (s : List ℕ). before ++ take n s) (c.as_slice.ensures.value ∙ back) in
+    c.in_ok-extend_from_slice.ensures.items ∙ ap (λ (s : List ℕ). before ++ take n s) (c.as_slice.ensures.value ∙ back) in
     record {
       buffer = read.buffer;
-      within = rw items (omega (arith, length_more before buf n c.in_ok-count.ensures.bound, c.loop-bytes.bytes.ok.0));
+      within = rw items
+          (within_limit before buf n c.args.limit c.len.result read.within c.if-count-limit.false (c.len.ensures ∙ c.loop-bytes.bytes.ok.0) c.in_ok-count.ensures.bound);
       taken = rw items (Consumes-append _ _ _ before (take n buf) read.taken c.in_ok-count.ensures.taken);
-      counted = omega (arith, read.counted, c.in_ok-count.ensures.counted)
+      counted = omega (arith, read.counted, c.in_ok-count.ensures.counted);
     }
 
-pub returns-in_err-extend_from_slice-clause-stopped :
-    goal.returns-in_err-extend_from_slice-clause-stopped
-returns-in_err-extend_from_slice-clause-stopped g c =
+pub returns-in_err-extend_from_slice-clause-not_too_long :
+    goal.returns-in_err-extend_from_slice-clause-not_too_long
+returns-in_err-extend_from_slice-clause-not_too_long g c =
     let before = c.loop-bytes.bytes.items in
-    let more = take c.in_ok-count.count c.read.new.buf in
-    let taken = Consumes-append _ _ _ before more c.loop-bytes.invariant.taken c.in_ok-count.ensures.taken in
-    search (rules, taken)
+    let buf = c.read.new.buf in
+    let n = c.in_ok-count.count in
+    λ _. (
+      before ++ take n buf,
+      within_limit before buf n c.args.limit c.len.result c.loop-bytes.invariant.within c.if-count-limit.false (c.len.ensures ∙ c.loop-bytes.bytes.ok.0) c.in_ok-count.ensures.bound,
+      Consumes-append _ _ _ before (take n buf) c.loop-bytes.invariant.taken c.in_ok-count.ensures.taken,
+    )

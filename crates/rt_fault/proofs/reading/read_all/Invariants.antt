@@ -12,7 +12,7 @@ pub record HasRead (limit piece : ℕ) (bytes : List ℕ) (before now : Option (
 abbrev pub invariant-loop-bytes : goal.invariant-loop-bytes
 invariant-loop-bytes g l =
     HasRead l.limit (vec_len l.piece) l.bytes.items
-        (g.S.Source.left l.initial.src) (g.S.Source.left l.src) (g.S.Source.faults l.initial.src) (g.S.Source.faults l.src)
+    (g.S.Source.left l.initial.src) (g.S.Source.left l.src) (g.S.Source.faults l.initial.src) (g.S.Source.faults l.src)
 
 abbrev pub decreases-loop-bytes : goal.decreases-loop-bytes
 decreases-loop-bytes g l = l.limit - vec_len l.bytes

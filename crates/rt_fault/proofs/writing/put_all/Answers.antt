@@ -23,5 +23,5 @@ loop-rest-preserved g c =
       front = written.front ++ more;
       split = split_more c.args.bytes.now written.front c.loop-rest.rest.now c.in_ok-taken.taken written.split;
       held = Extends-append _ _ _ written.front more written.held c.in_ok-taken.ensures.taken;
-      counted = omega (arith, written.counted, c.in_ok-taken.ensures.counted)
+      counted = omega (arith, written.counted, c.in_ok-taken.ensures.counted);
     }

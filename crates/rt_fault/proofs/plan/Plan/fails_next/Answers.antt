@@ -7,8 +7,8 @@ pub returns-clause-fault : goal.returns-clause-fault
 returns-clause-fault c =
     let p : Plan = record { fails = c.self.inside.fails.items; calls = c.self.inside.calls } in
     λ yes.
-        let failing : IsFailing p = rw c.as_slice.ensures.value at (c.has_number.ensures.0 yes) in
-        rw (← c.self.view_is, c.saturating_add-self-inside.ensures) (failed_calls-fails p failing)
+    let failing : IsFailing p = rw c.as_slice.ensures.value at (c.has_number.ensures.0 yes) in
+    rw (← c.self.view_is, c.saturating_add-self-inside.ensures) (failed_calls-fails p failing)
 
 pub returns-clause-never_falls : goal.returns-clause-never_falls
 returns-clause-never_falls c =

@@ -15,6 +15,6 @@ given_front n at to bytes part buf left part_is to_is length_is left_is =
 pub returns-clause-given : goal.returns-clause-given
 returns-clause-given c =
     given_front c.min-count.result c.self.inside.at (c.self.inside.at + c.min-count.result) c.self.inside.bytes.items
-        c.copy_from_slice.new.self c.args.buf.now c.args.self.now 
-        (c.copy_from_slice.ensures.after ∙ ap (λ s. take (c.self.inside.at + c.min-count.result - c.self.inside.at) (drop c.self.inside.at s)) c.as_slice.ensures.value)
-        refl (c.copy_from_slice.ensures.len ∙ simp length-take (omega (arith, c.min-count.ensures, c.min.ensures))) c.self.view_is
+    c.copy_from_slice.new.self c.args.buf.now c.args.self.now
+    (c.copy_from_slice.ensures.after ∙ ap (λ s. take (c.self.inside.at + c.min-count.result - c.self.inside.at) (drop c.self.inside.at s)) c.as_slice.ensures.value)
+    refl (c.copy_from_slice.ensures.len ∙ simp length-take (omega (arith, c.min-count.ensures, c.min.ensures))) c.self.view_is
