@@ -12,6 +12,8 @@ mod rest;
 mod status;
 mod std_edge;
 mod sure;
+#[cfg(test)]
+mod tests;
 mod writing;
 
 pub use input::{Failed, Source};
