@@ -1,4 +1,3 @@
-pub mod FaultLaws
 pub mod HeldLaws
 pub mod LeftLaws
 pub mod PlanLaws

@@ -1,5 +1,5 @@
 -- Counting the calls that failed.
-use Rattle.std.proofs.Common.{◌≡◌, ℕ, zero, suc, ◌+◌, ◌-◌, ◌^◌, ◌<◌, ◌≤◌, Bool, true, false, nat_lt, min, cond, List, [], ◌∷◌, length, slice_index_or, count_by, sum_by, Contains, arith, suc-le-suc}
+use Rattle.std.proofs.Common.{◌≡◌, ℕ, zero, suc, ◌+◌, ◌-◌, ◌^◌, ◌<◌, ◌≤◌, nat_lt, min, cond, List, [], ◌∷◌, length, slice_index_or, sum_by, arith}
 use Rattle.std.proofs.lemmas.Bool.Decides.{nat_tests}
 use Rattle.std.proofs.lemmas.List.Sums.{sum_by-cons}
 use Rattle.rt_fault.specs.Memory.{Plan, IsFailing, after_call, failed_calls}

@@ -1,5 +1,5 @@
 -- What a sink tells of the bytes that it holds, and how that grows.
-use Rattle.std.specs.Prelude.{◌≡◌, ℕ, ◌-◌, ◌≤◌, Bool, true, nat_le, List, ◌++◌, length, take, ⊤, Option, None, Some, option_map, if◌then◌else◌}
+use Rattle.std.specs.Prelude.{◌≡◌, ℕ, ◌-◌, ◌≤◌, Bool, true, nat_le, List, ◌++◌, length, take, ⊤, Option, None, Some, if◌then◌else◌}
 
 pub data Held : Type 0 where
   -- The sink does not tell.

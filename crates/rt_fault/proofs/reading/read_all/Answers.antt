@@ -1,4 +1,4 @@
-use Rattle.std.proofs.Common.{rules, ◌≡◌, ℕ, List, ◌+◌, ◌≤◌, ◌++◌, ◌∙◌, ap, ◌-◌, ◌<◌, take, drop, length, length-append, length-take, arith}
+use Rattle.std.proofs.Common.{◌≡◌, ℕ, List, ◌+◌, ◌≤◌, ◌++◌, ◌∙◌, ◌-◌, ◌<◌, take, drop, length, length-append, length-take, arith}
 use Rattle.std.proofs.Math.Seq.{take-append_seam}
 use Rattle.rt_fault.proofs.LeftLaws.{Consumes-append}
 use Rattle.rt_fault.proofs.reading.read_all.Goals as goal
@@ -20,8 +20,9 @@ within_limit :
 within_limit xs buf n limit len within fits len_is bound = rw (length_more xs buf n bound) (omega arith)
 
 -- the buffer holds what was written into all of it
-written_back : (len : ℕ) (buf items : List ℕ) → length buf ≡ len → take len (buf ++ drop (length buf) items) ≡ buf
-written_back len buf items h = rw (← h) (take-append_seam buf (drop (length buf) items))
+written_back :
+    (len : ℕ) (buf items slice : List ℕ) → slice ≡ take len (buf ++ drop (length buf) items) → length buf ≡ len → slice ≡ buf
+written_back len buf items slice e h = rw (e, ← h) (take-append_seam buf (drop (length buf) items))
 
 pub returns-then-count-limit-clause-too_long : goal.returns-then-count-limit-clause-too_long
 returns-then-count-limit-clause-too_long g c =
@@ -40,9 +41,10 @@ loop-bytes-preserved g c =
     let before = c.loop-bytes.bytes.items in
     let buf = c.read.new.buf in
     let n = c.in_ok-count.count in
-    let back = written_back c.loop-bytes.piece.len buf c.loop-bytes.piece.items (c.read.auto.buf ∙ c.as_mut_slice.ensures.len) in
+    let piece = written_back c.loop-bytes.piece.len buf c.loop-bytes.piece.items c.as_slice.result.now
+    c.as_slice.ensures.value (c.read.auto.buf ∙ c.as_mut_slice.ensures.len) in
     let items : c.extend_from_slice.new.self.items ≡ before ++ take n buf =
-    c.in_ok-extend_from_slice.ensures.items ∙ ap (λ (s : List ℕ). before ++ take n s) (c.as_slice.ensures.value ∙ back) in
+    rw piece at c.in_ok-extend_from_slice.ensures.items in
     record {
       buffer = read.buffer;
       within = rw items

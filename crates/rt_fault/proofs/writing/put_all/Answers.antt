@@ -1,4 +1,4 @@
-use Rattle.std.proofs.Common.{rules, ◌≡◌, ℕ, List, ◌+◌, ◌-◌, ◌≤◌, ◌++◌, take, drop, length, append_assoc, length-drop, arith}
+use Rattle.std.proofs.Common.{rules, ◌≡◌, ℕ, List, ◌-◌, ◌++◌, take, drop, length, append_assoc, length-drop, arith}
 use Rattle.std.proofs.lemmas.List.{take-append-drop, take_all}
 use Rattle.rt_fault.proofs.HeldLaws.{Extends-append, Extends-stays, ExtendsByPrefix-front}
 use Rattle.rt_fault.proofs.writing.put_all.Goals as goal
