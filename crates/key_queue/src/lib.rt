@@ -1,0 +1,6 @@
+//! Tasks that wait, in the order of asking, of which the one of the highest key leaves first.
+#![tactic(auto)]
+
+mod line;
+
+pub use line::TaskLine;
