@@ -2,5 +2,7 @@
 #![tactic(auto)]
 
 mod line;
+mod queue;
 
 pub use line::TaskLine;
+pub use queue::KeyQueue;
