@@ -9,18 +9,6 @@ use Rattle.sem_laws.proofs.Members.{has-push, distinct-push, has-rest, distinct-
 use Rattle.sem_laws.proofs.Few.{length-few}
 use Rattle.fmlp_sem.specs.FmlpLine.{IsRoomy}
 
-pub numbers-push : (ts : List TaskNo) (t : TaskNo) → numbers (ts ++ t ∷ []) ≡ numbers ts ++ t.0 ∷ []
-numbers-push [] t = refl
-numbers-push (u ∷ ts) t = ap (λ (ns : List ℕ). u.0 ∷ ns) (numbers-push ts t)
-
-pub length-numbers : (ts : List TaskNo) → length (numbers ts) ≡ length ts
-length-numbers [] = refl
-length-numbers (t ∷ ts) = omega (arith, length-numbers ts)
-
-pub numbers-rest : (ts : List TaskNo) → numbers (drop 1 ts) ≡ rest (numbers ts)
-numbers-rest [] = refl
-numbers-rest (t ∷ ts) = refl
-
 -- a task that is not in the line has a place in it
 pub room_for : (room capacity : ℕ) (line : List ℕ) (t : ℕ) → IsRoomy room capacity line → t < room → has t line ≡ false → length line < capacity
 room_for room capacity line t ok below outside =

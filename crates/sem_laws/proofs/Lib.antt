@@ -1,3 +1,4 @@
 pub mod Few
 pub mod Members
 pub mod Foremost
+pub mod TaskNumbers

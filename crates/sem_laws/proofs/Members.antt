@@ -90,3 +90,7 @@ has-rest x (y ∷ ys) h = ap (λ b. x == y || b) h ∙ or_true (x == y)
 pub distinct-rest : (xs : List ℕ) → IsDistinct xs → IsDistinct (rest xs)
 distinct-rest [] d = d
 distinct-rest (x ∷ xs) d = d.1
+
+pub distinct-append : (xs ys : List ℕ) → IsDistinct xs → IsDistinct ys → ((x : ℕ) → has x xs ≡ true → has x ys ≡ false) → IsDistinct (xs ++ ys)
+distinct-append [] ys d e apart = e
+distinct-append (x ∷ xs) ys d e apart = (has-append x xs ys ∙ rw (d.0, apart x (rw (equal_self x))), distinct-append xs ys d.1 e (λ z h. apart z (ap (λ b. z == x || b) h ∙ or_true (z == x))))

@@ -1,7 +1,8 @@
 use Rattle.std.proofs.Common.{◌≡◌, ◌<◌, false, arith}
 use Rattle.rt_base.specs.TaskNos.{numbers}
 use Rattle.rt_rules.specs.Numbers.{has}
-use Rattle.fmlp_sem.proofs.LineLaws.{numbers-push, length-numbers, room_for, roomy-push}
+use Rattle.sem_laws.proofs.TaskNumbers.{numbers-push, length-numbers}
+use Rattle.fmlp_sem.proofs.LineLaws.{room_for, roomy-push}
 use Rattle.fmlp_sem.proofs.FmlpSem.ask.Goals as goal
 
 pub push_back_reserved-requires : goal.push_back_reserved-requires

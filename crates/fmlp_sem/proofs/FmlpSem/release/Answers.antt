@@ -1,4 +1,5 @@
-use Rattle.fmlp_sem.proofs.LineLaws.{numbers-rest, roomy-rest}
+use Rattle.sem_laws.proofs.TaskNumbers.{numbers-rest}
+use Rattle.fmlp_sem.proofs.LineLaws.{roomy-rest}
 use Rattle.fmlp_sem.proofs.FmlpSem.release.Goals as goal
 
 pub invariant_of-self : goal.invariant_of-self

@@ -1,7 +1,7 @@
 use Rattle.std.proofs.Common.{◌≤◌, length, arith}
 use Rattle.rt_base.specs.TaskNos.{numbers}
 use Rattle.sem_laws.proofs.Few.{length-few}
-use Rattle.fmlp_sem.proofs.LineLaws.{length-numbers}
+use Rattle.sem_laws.proofs.TaskNumbers.{length-numbers}
 use Rattle.fmlp_sem.proofs.FmlpSem.waiters.Goals as goal
 
 pub overflow_cast-result : goal.overflow_cast-result
