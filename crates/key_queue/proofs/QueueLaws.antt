@@ -18,7 +18,7 @@ use Rattle.sem_laws.proofs.Members.{equal_self, equal_turned, neither, has-push,
 use Rattle.sem_laws.proofs.Few.{length-few}
 use Rattle.sem_laws.proofs.Foremost.{foremost-is}
 use Rattle.key_queue.specs.declared.queue.Waiter.{Waiter}
-use Rattle.key_queue.specs.Waiting.{key_at, above}
+use Rattle.sem_laws.specs.KeptKeys.{key_at, above}
 use Rattle.key_queue.specs.Queue.{IsQueue, later, tasks_of, key_of, copies}
 use Rattle.key_queue.proofs.Links.{other}
 use Rattle.key_queue.proofs.RingLaws.{differs}

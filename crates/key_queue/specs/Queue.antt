@@ -9,7 +9,7 @@ use Rattle.rt_order.specs.KeyOrder.{equal_keys}
 use Rattle.rt_rules.specs.Distinct.{IsDistinct}
 use Rattle.rt_rules.specs.Numbers.{has}
 use Rattle.key_queue.specs.declared.queue.Waiter.{Waiter}
-use Rattle.key_queue.specs.Waiting.{key_at}
+use Rattle.sem_laws.specs.KeptKeys.{key_at}
 
 -- the order of the heap: the highest key is the greatest
 abbrev pub later : Reverse Waiter → Reverse Waiter → Ordering

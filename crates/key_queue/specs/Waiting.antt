@@ -9,14 +9,6 @@ pub record Waiting : Type 0 where
   pub keys : List Key
   pub waiting : List ℕ
 
--- the key that a task gave last
-abbrev pub key_at : List Key → ℕ → Key
-key_at keys t = slice_index_or keys t (record { band = 0; major = 0; minor = 0 })
-
--- whether the key of t is higher than that of u
-abbrev pub above : List Key → ℕ → ℕ → Bool
-above keys t u = higher (key_at keys t) (key_at keys u)
-
 -- the list without the task, if one was chosen
 abbrev pub left : Option ℕ → List ℕ → List ℕ
 left None ts = ts

@@ -6,7 +6,8 @@ ghost use Rattle.rt_base.specs.TaskNos.{number_of_task};
 ghost use Rattle.rt_order.specs.KeyOrder.{equal_keys};
 ghost use Rattle.rt_rules.specs.Numbers.{has, foremost};
 ghost use Rattle.key_queue.specs.Queue.{later};
-ghost use Rattle.key_queue.specs.Waiting.{Waiting, key_at, above, left};
+ghost use Rattle.key_queue.specs.Waiting.{Waiting, left};
+ghost use Rattle.sem_laws.specs.KeptKeys.{key_at, above};
 
 use crate::TaskLine;
 use rt_base::{NoMemory, TaskNo};

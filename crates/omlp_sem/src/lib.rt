@@ -7,7 +7,7 @@ ghost use Rattle.rt_order.specs.KeyOrder.{equal_keys};
 ghost use Rattle.rt_rules.specs.Numbers.{has};
 ghost use Rattle.rt_rules.specs.SemState.{Asks, Frees};
 ghost use Rattle.rt_rules.specs.Omlp.{omlp_after, omlp_sem_state};
-ghost use Rattle.key_queue.specs.Waiting.{key_at, above};
+ghost use Rattle.sem_laws.specs.KeptKeys.{key_at, above};
 ghost use Rattle.omlp_sem.specs.OmlpKept.{OmlpKept};
 
 use key_queue::KeyQueue;

@@ -3,7 +3,7 @@ use Rattle.std.specs.Prelude.{Some}
 use Rattle.rt_base.specs.TaskNos.{numbers}
 use Rattle.rt_order.specs.KeyOrder.{equal_keys}
 use Rattle.rt_rules.specs.Numbers.{has, first, rest}
-use Rattle.key_queue.specs.Waiting.{key_at}
+use Rattle.sem_laws.specs.KeptKeys.{key_at}
 use Rattle.sem_laws.proofs.TaskNumbers.{numbers-push, length-numbers}
 use Rattle.omlp_sem.proofs.ListLaws.{outside_both, queue_waits, place_in, omlp-fifo, omlp-queue}
 use Rattle.omlp_sem.proofs.OmlpSem.ask.Goals as goal

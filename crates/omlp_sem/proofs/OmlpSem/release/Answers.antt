@@ -2,7 +2,7 @@ use Rattle.std.proofs.Common.{◌≡◌, true, false, [], ◌∷◌, ◌++◌, l
 use Rattle.std.specs.Prelude.{Some}
 use Rattle.rt_base.specs.TaskNos.{numbers, number_of_task}
 use Rattle.rt_rules.specs.Numbers.{first, rest}
-use Rattle.key_queue.specs.Waiting.{above}
+use Rattle.sem_laws.specs.KeptKeys.{above}
 use Rattle.sem_laws.proofs.TaskNumbers.{numbers-push, numbers-rest}
 use Rattle.omlp_sem.proofs.ListLaws.{omlp-rest, omlp-handed, nobody-handed, nobody-left}
 use Rattle.omlp_sem.proofs.OmlpSem.release.Goals as goal

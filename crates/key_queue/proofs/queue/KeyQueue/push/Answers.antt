@@ -1,7 +1,7 @@
 use Rattle.std.proofs.Common.{◌≡◌, ◌<◌, ℕ, true, false, length, arith, ap, ◌∙◌}
 use Rattle.rt_order.specs.KeyOrder.{equal_keys}
 use Rattle.rt_rules.specs.Numbers.{has}
-use Rattle.key_queue.specs.Waiting.{key_at}
+use Rattle.sem_laws.specs.KeptKeys.{key_at}
 use Rattle.key_queue.proofs.QueueLaws.{place_for, queue-push}
 use Rattle.key_queue.proofs.queue.KeyQueue.push.Goals as goal
 
