@@ -1,2 +1,4 @@
 pub mod PairLaws
 pub mod StackLaws
+pub mod OrderLaws
+pub mod Grants

@@ -1,2 +1,4 @@
 pub mod Pairs
 pub mod Stack
+pub mod PcpKept
+pub mod Listed
