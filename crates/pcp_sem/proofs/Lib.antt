@@ -2,3 +2,4 @@ pub mod PairLaws
 pub mod StackLaws
 pub mod OrderLaws
 pub mod Grants
+pub mod Sound

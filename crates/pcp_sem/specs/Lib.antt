@@ -2,3 +2,4 @@ pub mod Pairs
 pub mod Stack
 pub mod PcpKept
 pub mod Listed
+pub mod IsPcp
