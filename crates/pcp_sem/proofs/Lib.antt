@@ -3,3 +3,4 @@ pub mod StackLaws
 pub mod OrderLaws
 pub mod Grants
 pub mod Sound
+pub mod Blockers

@@ -205,3 +205,35 @@ module _ (ceilings keys : List Key) where
       under : (u : ℕ) → (u == t ≡ true) ⊎ (has u (tasks_of l.waiting) ≡ true) → u < length keys
       under u (inl m) = let e : u ≡ t = eqb-true u t m in omega arith
       under u (inr m) = let q = pair-of u l.waiting m in (ok.awaited_by u q.0 q.1).task
+
+-- ---- a task that gives its key anew
+
+module _ (ceilings keys keys' : List Key) where
+  passes-same : (t : ℕ) (held : List TaskSem) → key_at keys' t ≡ key_at keys t → passes (above_ceiling keys' ceilings) held t ≡ passes (above_ceiling keys ceilings) held t
+  passes-same t held e = ap (λ k. list_all (λ (p : TaskSem). higher k (key_at ceilings p.sem)) (of_others t held)) e
+
+  user-same : (t s : ℕ) → length keys' ≡ length keys → key_at keys' t ≡ key_at keys t → IsUser ceilings keys t s → IsUser ceilings keys' t s
+  user-same t s len e u = record {
+    task = omega (arith, u.task);
+    sem = u.sem;
+    low = ap (λ k. higher k (key_at ceilings s)) e ∙ u.low;
+  }
+
+  stacked-same : (held : List TaskSem) → ((t s : ℕ) → has_pair t s held ≡ true → key_at keys' t ≡ key_at keys t) → IsStacked (above_ceiling keys ceilings) held → IsStacked (above_ceiling keys' ceilings) held
+  stacked-same [] same h = tt
+  stacked-same (p ∷ ps) same h = (passes-same p.task ps (same p.task p.sem (rw (equal_self p.task, equal_self p.sem))) ∙ h.0, stacked-same ps (λ t s k. same t s (ap (λ b. (t == p.task && s == p.sem) || b) k ∙ or_true (t == p.task && s == p.sem))) h.1)
+
+  pub stack-rekeyed : (l : PcpState) → ((t s : ℕ) → has_pair t s l.held ≡ true → key_at keys' t ≡ key_at keys t) → ((t s : ℕ) → has_pair t s l.waiting ≡ true → key_at keys' t ≡ key_at keys t) → IsStack (above_ceiling keys ceilings) l → IsStack (above_ceiling keys' ceilings) l
+  stack-rekeyed l held waiting k = record {
+    stacked = stacked-same l.held held k.stacked;
+    blocked = λ t s h. passes-same t l.held (waiting t s h) ∙ k.blocked t s h;
+  }
+
+  pub sound-rekeyed : (l : PcpState) → length keys' ≡ length keys → ((t s : ℕ) → has_pair t s l.held ≡ true → key_at keys' t ≡ key_at keys t) → ((t s : ℕ) → has_pair t s l.waiting ≡ true → key_at keys' t ≡ key_at keys t) → IsSound ceilings keys l → IsSound ceilings keys' l
+  sound-rekeyed l len held waiting ok = record {
+    held_by = λ t s h. user-same t s len (held t s h) (ok.held_by t s h);
+    awaited_by = λ t s h. user-same t s len (waiting t s h) (ok.awaited_by t s h);
+    one_holder = ok.one_holder;
+    waits_once = ok.waits_once;
+    unheld = ok.unheld;
+  }
