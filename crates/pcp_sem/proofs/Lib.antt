@@ -4,3 +4,4 @@ pub mod OrderLaws
 pub mod Grants
 pub mod Sound
 pub mod Blockers
+pub mod Acts
