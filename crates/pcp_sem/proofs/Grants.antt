@@ -68,7 +68,6 @@ pub distinct-in_order : (before : ℕ → ℕ → Bool) (ps : List TaskSem) → 
 distinct-in_order before [] d = tt
 distinct-in_order before (p ∷ ps) d = distinct-by_key before p (in_order before ps) (unless _ (λ h. clash _ (has-in_order before p.task ps h) d.0)) (distinct-in_order before ps d.1)
 
-
 -- two tasks that hold one semaphore are one
 pub one_holder : (over : ℕ → ℕ → Bool) (ps : List TaskSem) → IsStacked over ps → (t u s : ℕ) → over t s ≡ false → over u s ≡ false → has_pair t s ps ≡ true → has_pair u s ps ≡ true → t ≡ u
 one_holder over [] k t u s nt nu ht hu = cc
@@ -105,4 +104,3 @@ tested-held over t s (p ∷ ps) l h = join (tested-held over t s ps (if passes o
     join : (has_pair t s (if passes over l.held p.task then granted p l else l).held ≡ true) ⊎ (has_pair t s ps ≡ true) → (has_pair t s l.held ≡ true) ⊎ ((t == p.task && s == p.sem) || has_pair t s ps ≡ true)
     join (inl k) = by_case (passes over l.held p.task) k
     join (inr k) = inr (rw k (or_true (t == p.task && s == p.sem)))
-

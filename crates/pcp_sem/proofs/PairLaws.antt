@@ -47,4 +47,3 @@ has_pair-append t s (p ∷ ps) qs = rw (has_pair-append t s ps qs) (assoc (t == 
     assoc : (a b c : Bool) → a || (b || c) ≡ (a || b) || c
     assoc true b c = refl
     assoc false b c = refl
-

@@ -109,7 +109,11 @@ impl PcpSet {
         ensures settled { IsSettled self.new }
     {
         pairs::take_out(&mut self.held, Pair { task, sem });
-        pairs::sort_by_key(&mut self.order, self.waiting.as_slice(), self.keys.as_slice());
+        pairs::sort_by_key(
+            &mut self.order,
+            self.waiting.as_slice(),
+            self.keys.as_slice(),
+        );
         self.grants.clear();
         pairs::test_in_order(
             self.order.as_slice(),
@@ -151,5 +155,42 @@ impl PcpSet {
         ensures { result ≡ last_granted self.now.state.held task.0 }
     {
         pairs::last_in(self.held.as_slice(), task)
+    }
+}
+
+#[cfg(test)]
+mod tests {
+    use super::*;
+    use std::test::Fail;
+
+    /// Task 1 asks for a free semaphore and waits because of the ceiling of the other, which task 2 holds; task 2 then takes the free one, and frees both.
+    #[test]
+    fn another_ceiling_refuses(rt: HostRuntime) -> Result<(), Fail> {
+        let high = Key {
+            band: 2,
+            major: 1,
+            minor: 1,
+        };
+        let low = Key {
+            band: 2,
+            major: 5,
+            minor: 2,
+        };
+        let ceilings = [high, high];
+        let mut set = PcpSet::new(rt.alloc(), &ceilings, 3)?;
+        assert_eq!(rt; set.ask(TaskNo(2), low, 0), Ask::Granted);
+        assert_eq!(rt; set.ask(TaskNo(1), high, 1), Ask::Queued);
+        assert_eq!(rt; set.blocker(TaskNo(1)), Some(TaskNo(2)));
+        assert_eq!(rt; set.blocker(TaskNo(2)), None);
+        assert_eq!(rt; set.ask(TaskNo(2), low, 1), Ask::Granted);
+        assert_eq!(rt; set.last_of(TaskNo(2)), Some(1));
+        assert_eq!(rt; set.granted(0), None);
+        assert_eq!(rt; set.release(TaskNo(2), 1), 0);
+        assert_eq!(rt; set.release(TaskNo(2), 0), 1);
+        assert_eq!(rt; set.granted(0), Some(TaskNo(1)));
+        assert_eq!(rt; set.holder(1), Some(TaskNo(1)));
+        assert_eq!(rt; set.holder(0), None);
+        assert_eq!(rt; set.release(TaskNo(1), 1), 0);
+        Ok(())
     }
 }
