@@ -1,0 +1,9 @@
+pub mod Ahead
+pub mod Ranking
+pub mod Fresh
+pub mod Rules
+pub mod DueLaws
+pub mod Plain
+pub mod PlainGroup
+pub mod PlainModel
+pub mod Kept

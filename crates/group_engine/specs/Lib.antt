@@ -1,0 +1,5 @@
+pub mod Queue
+pub mod Due
+pub mod Built
+pub mod Groups
+pub mod State

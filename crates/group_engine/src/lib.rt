@@ -1,0 +1,4 @@
+//! The state of one group, kept step by step.
+#![tactic(auto)]
+
+mod queue;
