@@ -91,7 +91,7 @@ has-at_place t [] k h = cc
 has-at_place t (l ∷ ls) zero h = rw (has-tasks_in t l ls, h)
 has-at_place t (l ∷ ls) (suc k) h = rw (has-tasks_in t l ls, has-at_place t ls k h) (or_true (is t l))
 
-one_place : (t : ℕ) (ls : List (Option ℕ)) (i j : ℕ) → IsDistinct (tasks_in ls) → is t (at_place ls i) ≡ true → is t (at_place ls j) ≡ true → i ≡ j
+pub one_place : (t : ℕ) (ls : List (Option ℕ)) (i j : ℕ) → IsDistinct (tasks_in ls) → is t (at_place ls i) ≡ true → is t (at_place ls j) ≡ true → i ≡ j
 one_place t [] i j d h k = cc
 one_place t (l ∷ ls) zero zero d h k = refl
 one_place t (l ∷ ls) zero (suc j) d h k = let n = distinct-head t l ls d h in let m = has-at_place t ls j k in cc

@@ -42,6 +42,7 @@ has-sorted t (a ∷ rs) = has-inserted t a (sorted rs) ∙ ap (λ b. t == a.task
 pub distinct-sorted : (rs : List Ranked) → IsDistinct (tasks_ranked rs) → IsDistinct (tasks_ranked (sorted rs))
 distinct-sorted [] d = tt
 distinct-sorted (a ∷ rs) d = distinct-inserted a (sorted rs) (has-sorted a.task rs ∙ d.0) (distinct-sorted rs d.1)
+
 pub has-take : (t n : ℕ) (ts : List ℕ) → has t (take n ts) ≡ true → has t ts ≡ true
 has-take t zero ts h = cc
 has-take t (suc n) [] h = cc
