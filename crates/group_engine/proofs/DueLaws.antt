@@ -1,6 +1,6 @@
 -- After the clock moved, those wait whose release is later, and all others are ready.
-use Rattle.std.proofs.Common.{◌≡◌, ℕ, ◌+◌, ◌<◌, ◌≤◌, Bool, true, false, not, ◌&&◌, ◌||◌, cond, ◌⊎◌, inl, inr, eqb-true, List, [], ◌∷◌, length, map, refl, sym, ap, ◌∙◌, subst, arith}
-use Rattle.std.specs.Prelude.{◌==◌, nat_lt, nat_le, filter}
+use Rattle.std.proofs.Common.{◌≡◌, ℕ, ◌+◌, ◌<◌, ◌≤◌, Bool, true, false, not, ◌&&◌, ◌||◌, cond, ◌⊎◌, inl, inr, eqb-true, List, [], ◌∷◌, length, map, get_or, max, add-one, refl, sym, ap, ◌∙◌, subst, arith}
+use Rattle.std.specs.Prelude.{◌==◌, nat_lt, nat_le, filter, Option, None, Some, slice_get, drop}
 use Rattle.std.proofs.lemmas.Bool.Decides.{nat_tests}
 use Rattle.rt_order.specs.declared.Key.{Key}
 use Rattle.rt_order.specs.KeyOrder.{higher, equal_keys}
@@ -136,3 +136,35 @@ module _ (now : ℕ) (rel_deadline release : ℕ → ℕ) (ts : List ℕ) (d : I
       by_case false e rest =
           (waiting_is ∙ ranked_by-same wait_key wait_key test _ ts (λ t there. stays (rw (← major_is) e) t there) (λ t there k. refl),
             ready_is ∙ ranked_by-same job_key job_key (λ t. not (test t)) _ ts (λ t there. let s : test t ≡ not (nat_le (release t) now) = stays (rw (← major_is) e) t there in rw s (twice (nat_le (release t) now))) (λ t there k. refl))
+
+-- ---- one task at a time
+
+pub due-first : (now : ℕ) (rel_deadline : ℕ → ℕ) (w : Ranked) (ws ready : List Ranked) → Some w ≡ slice_get ws 0 → w.key.major ≤ now → (due_ready now rel_deadline (drop 1 ws) (inserted (ready_task rel_deadline w) ready) ≡ due_ready now rel_deadline ws ready) × (not_due now (drop 1 ws) ≡ not_due now ws)
+due-first now rel_deadline w [] ready h low = cc
+due-first now rel_deadline w (x ∷ ws) ready h low =
+    let same : w ≡ x = cc in
+    let e : nat_le x.key.major now ≡ true = subst (λ (y : Ranked). nat_le y.key.major now ≡ true) same (let f : nat_le w.key.major now ≡ true = grind (arith, nat_tests, low) in f) in
+    rw (same, e) (refl, refl)
+
+pub due-stop : (now : ℕ) (rel_deadline : ℕ → ℕ) (w : Ranked) (ws ready : List Ranked) → Some w ≡ slice_get ws 0 → now < w.key.major → (ready ≡ due_ready now rel_deadline ws ready) × (ws ≡ not_due now ws)
+due-stop now rel_deadline w [] ready h low = cc
+due-stop now rel_deadline w (x ∷ ws) ready h low =
+    let same : w ≡ x = cc in
+    let e : nat_le x.key.major now ≡ false = subst (λ (y : Ranked). nat_le y.key.major now ≡ false) same (let f : nat_le w.key.major now ≡ false = grind (arith, nat_tests, low) in f) in
+    rw e (refl, refl)
+
+pub due-none : (now : ℕ) (rel_deadline : ℕ → ℕ) (ws ready : List Ranked) → None ≡ slice_get ws 0 → (ready ≡ due_ready now rel_deadline ws ready) × (ws ≡ not_due now ws)
+due-none now rel_deadline [] ready h = (refl, refl)
+due-none now rel_deadline (x ∷ ws) ready h = cc
+
+pub some-there : {A : Type 0} (w : A) (ws : List A) → Some w ≡ slice_get ws 0 → 1 ≤ length ws
+some-there w [] h = cc
+some-there w (x ∷ ws) h = omega arith
+
+pub dropped : {A : Type 0} (ws : List A) (k : ℕ) (d : A) → get_or (drop 1 ws) k d ≡ get_or ws (k + 1) d
+dropped [] k d = refl
+dropped (x ∷ ws) k d = rw add-one refl
+
+pub length-dropped : {A : Type 0} (ws : List A) → length (drop 1 ws) + 1 ≡ max 1 (length ws)
+length-dropped [] = refl
+length-dropped (x ∷ ws) = omega arith

@@ -30,6 +30,7 @@ use Rattle.group_engine.specs.Due.{due_ready, not_due}
 use Rattle.group_engine.specs.State.{State, IsKept, top_tasks, release_at, key_at, wait_key}
 use Rattle.rt_rules.proofs.NumberLaws.{has-numbers_from}
 use Rattle.group_engine.proofs.PlainGroup.{IsPlainGroup, task_range}
+use Rattle.group_engine.specs.Moves.{clock_moved, job_ended}
 use Rattle.group_engine.proofs.PlainModel.{ranking-at}
 use Rattle.group_engine.proofs.Fresh.{placed-again}
 use Rattle.group_engine.proofs.Ranking.{ranked_by-same, ranked_by-less, ranked_by-with}
@@ -73,18 +74,11 @@ module _ (g : Group) (s : IsPlainGroup g) where
   unfolding runs_of runs
   runs_of-clock tick p = refl
 
-  -- the state once the clock has moved
-  abbrev pub clock_moved : ℕ → State → State
-  clock_moved tick state =
-      let clock = max state.clock tick in
-      let ready = due_ready clock (λ t. (task g t).rel_deadline) state.waiting state.ready in
-      record { clock = clock; done = state.done; worked = state.worked; ready = ready; waiting = not_due clock state.waiting; runs = state.runs; links = placed (top_tasks (cpus g 0) ready) state.runs state.links }
-
   twice : (b : Bool) → not (not b) ≡ b
   twice true = refl
   twice false = refl
 
-  pub kept-clock : (tick : ℕ) (p : Past) (state : State) → IsKept g p state → IsKept g (Clock tick ∷ p) (clock_moved tick state)
+  pub kept-clock : (tick : ℕ) (p : Past) (state : State) → IsKept g p state → IsKept g (Clock tick ∷ p) (clock_moved (cpus g 0) (λ t. (task g t).rel_deadline) tick state)
   kept-clock tick p state k =
       let release : ℕ → ℕ = λ t. release_at g t (done t p) in
       let ready_before : state.ready ≡ ranked_by (λ t. key_at g t (done t p)) (λ t. not (not (nat_le (release t) (now p)))) (tasks_of g 0) = k.ready_is ∙ ranked_by-same _ _ _ _ (tasks_of g 0) (λ t h. sym (twice (nat_le (release t) (now p)))) (λ t h e. refl) in
@@ -172,20 +166,11 @@ module _ (g : Group) (s : IsPlainGroup g) where
 
   -- ---- a job ends
 
-  -- the state once a task of the processor in this place has ended its job, and its next job is released, or waits
-  abbrev pub job_ended : ℕ → ℕ → Bool → State → State
-  job_ended place t released state =
+  -- the state once the task has ended its job, by the keys of its next job
+  abbrev ended_state : ℕ → ℕ → Bool → State → State
+  ended_state place t released state =
       let next = get_or state.done (t - 1) 0 + 1 in
-      let gone = without_task t state.ready in
-      let ready = cond released (inserted (record { key = key_at g t next; task = t }) gone) gone in
-      let running = set state.runs place None in
-      record state {
-        done = set state.done (t - 1) next;
-        ready = ready;
-        waiting = cond released state.waiting (inserted (record { key = wait_key g t next; task = t }) state.waiting);
-        runs = running;
-        links = placed (top_tasks (cpus g 0) ready) running state.links;
-      }
+      job_ended (cpus g 0) place t released (key_at g t next) (wait_key g t next) state
 
   module _ (q t place : ℕ) (act : Act) (p : Past) (state : State) (k : IsKept g p state) (ended : (past_act g q act p).ended ≡ Some t) (there : has t (tasks_of g 0) ≡ true) (released_now : nat_le (release_at g t (done t p)) (now p) ≡ true) (still : IsStill (past_act g q act p)) where
     abbrev d : PastAct
@@ -241,10 +226,10 @@ module _ (g : Group) (s : IsPlainGroup g) where
         k.waiting_is
         ∙ ranked_by-same (λ u. wait_key g u (done u p)) (λ u. wait_key g u (done u p')) (λ u. not (le_old u)) (λ u. not (u == t) && not (le_new u)) (tasks_of g 0) (λ u h. waiting_tests u) (λ u h e. rw (done-other u (not_it u (not (le_new u)) (sym (waiting_tests u) ∙ e))))
 
-    pub kept-end : (released : Bool) → nat_le (release_at g t (get_or state.done (t - 1) 0 + 1)) (now p) ≡ released → ((r : ℕ) → r < cpus g 0 → last_work r p' ≡ last_work r p) → set state.runs place None ≡ runs_of g 0 p' → IsKept g p' (job_ended place t released state)
+    pub kept-end : (released : Bool) → nat_le (release_at g t (get_or state.done (t - 1) 0 + 1)) (now p) ≡ released → ((r : ℕ) → r < cpus g 0 → last_work r p' ≡ last_work r p) → set state.runs place None ≡ runs_of g 0 p' → IsKept g p' (ended_state place t released state)
     kept-end released is_released works runs_are =
         let now_new : le_new t ≡ released = rw done-it is_released in
-        let ready_after : (job_ended place t released state).ready ≡ ranked_by (λ u. key_at g u (done u p')) le_new (tasks_of g 0) = rw (gone_is, ← done-it) (sym (ranked_by-with (λ u. key_at g u (done u p')) le_new t (tasks_of g 0) released (distinct-tasks_of g 0) there now_new)) in
+        let ready_after : (ended_state place t released state).ready ≡ ranked_by (λ u. key_at g u (done u p')) le_new (tasks_of g 0) = rw (gone_is, ← done-it) (sym (ranked_by-with (λ u. key_at g u (done u p')) le_new t (tasks_of g 0) released (distinct-tasks_of g 0) there now_new)) in
         record {
           made = acted q act k.made;
           clock_is = k.clock_is;

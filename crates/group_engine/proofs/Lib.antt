@@ -7,3 +7,4 @@ pub mod Plain
 pub mod PlainGroup
 pub mod PlainModel
 pub mod Kept
+pub mod TopTasks

@@ -3,3 +3,4 @@ pub mod Due
 pub mod Built
 pub mod Groups
 pub mod State
+pub mod Moves

@@ -1,12 +1,13 @@
 -- What the engine keeps of the past that its entries made, part by part.
-use Rattle.std.specs.Prelude.{◌≡◌, ℕ, ◌+◌, ◌-◌, ◌*◌, ◌<◌, ◌≤◌, Bool, true, false, not, nat_le, List, [], ◌∷◌, length, map, take, Option, None, slice_index, slice_index_or}
+use Rattle.std.specs.Prelude.{◌≡◌, ℕ, ◌+◌, ◌-◌, ◌*◌, ◌<◌, ◌≤◌, Bool, true, false, not, nat_le, List, [], ◌∷◌, length, map, take, Option, None, slice_index, slice_index_or, ◌^◌}
 use Rattle.rt_task.specs.declared.Parts.{Parts}
+use Rattle.rt_task.specs.declared.Task.{Task}
 use Rattle.rt_task.specs.Validity.{IsValid}
 use Rattle.rt_order.specs.declared.Key.{Key}
 use Rattle.rt_history.specs.declared.Entry.{Entry}
 use Rattle.rt_rules.specs.Numbers.{has}
 use Rattle.rt_rules.specs.Keys.{Ranked}
-use Rattle.rt_model.specs.Group.{Group, task, cpus, tasks_of}
+use Rattle.rt_model.specs.Group.{Group, no_task, task, cpus, tasks_of}
 use Rattle.rt_model.specs.Past.{Past, now}
 use Rattle.rt_model.specs.Jobs.{done}
 use Rattle.rt_model.specs.Sleep.{wakes}
@@ -15,6 +16,7 @@ use Rattle.rt_model.specs.Links.{runs_of, links}
 use Rattle.rt_model.specs.Answers.{last_work}
 use Rattle.rt_model.specs.Made.{IsMade}
 use Rattle.rt_model.specs.Histories.{past_of, IsLegal}
+use Rattle.link_table.specs.Linked.{Linked}
 use Rattle.group_engine.specs.Queue.{ranked_by}
 use Rattle.group_engine.specs.Built.{is_built}
 use Rattle.group_engine.specs.Groups.{IsGroupOf}
@@ -58,3 +60,25 @@ pub record IsKept (g : Group) (p : Past) (s : State) : Type 0 where
   pub links_are : s.links ≡ links g 0 p
   pub awake : (t : ℕ) → wakes t p ≡ 0
   pub preemptive : (t : ℕ) → non_preemptive t p ≡ false
+
+-- the relative deadline of a task
+abbrev pub rel_deadline_of : List Task → ℕ → ℕ
+rel_deadline_of tasks t = (slice_index_or tasks (t - 1) no_task).rel_deadline
+
+-- a task that waits, with a release that leaves room for its deadline
+pub record IsBounded (n : ℕ) (r : Ranked) : Type 0 where
+  pub low : 1 ≤ r.task
+  pub high : r.task ≤ n
+  pub release_low : r.key.major < 2 ^ 62
+
+-- room for all the tasks in each list, for one cluster of m processors from 0 on
+pub record HasRooms (n m first worked ready waiting top : ℕ) : Type 0 where
+  pub first_is : first ≡ 0
+  pub worked_is : worked ≡ m
+  pub ready_room : n ≤ ready
+  pub waiting_room : n ≤ waiting
+  pub top_room : m ≤ top
+
+-- the links and runs of the state's cluster
+abbrev pub linked_of : State → Linked
+linked_of s = record { first = 0; runs = s.runs; links = s.links }

@@ -2,3 +2,5 @@
 #![tactic(auto)]
 
 mod queue;
+mod room;
+mod state;

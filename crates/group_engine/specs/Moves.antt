@@ -1,0 +1,37 @@
+-- What each move makes of the state, in a cluster of m processors whose tasks have these relative deadlines.
+use Rattle.std.specs.Prelude.{ℕ, ◌+◌, ◌-◌, max, Bool, List, [], ◌∷◌, Option, None, Some, if◌then◌else◌, slice_index, slice_set}
+use Rattle.rt_order.specs.declared.Key.{Key}
+use Rattle.rt_rules.specs.Keys.{Ranked, inserted}
+use Rattle.rt_rules.specs.Placing.{placed}
+use Rattle.group_engine.specs.Queue.{without_task}
+use Rattle.group_engine.specs.Due.{due_ready, not_due}
+use Rattle.group_engine.specs.State.{State, top_tasks}
+
+-- the links placed over what is ready and what runs now
+abbrev pub replaced : ℕ → State → State
+replaced m state = record state { links = placed (top_tasks m state.ready) state.runs state.links }
+
+-- the clock has moved, and those that are due are ready
+abbrev pub clock_moved : ℕ → (ℕ → ℕ) → ℕ → State → State
+clock_moved m rel_deadline tick state =
+    let clock = max state.clock tick in
+    replaced m (record state { clock = clock; ready = due_ready clock rel_deadline state.waiting state.ready; waiting = not_due clock state.waiting })
+
+-- the processor in this place has worked at this clock
+abbrev pub has_worked : ℕ → State → State
+has_worked place state = record state { worked = slice_set state.worked place (Some state.clock) }
+
+-- the processor in this place runs this task, or nothing
+abbrev pub has_run : ℕ → Option ℕ → State → State
+has_run place task state = record state { runs = slice_set state.runs place task }
+
+-- the task of the processor in this place has ended its job, and its next job is released, or waits
+abbrev pub job_ended : ℕ → ℕ → ℕ → Bool → Key → Key → State → State
+job_ended m place t is_released job_key wait_key state =
+    let gone = without_task t state.ready in
+    replaced m (record state {
+      done = slice_set state.done (t - 1) (slice_index state.done (t - 1) + 1);
+      ready = if is_released then inserted (record { key = job_key; task = t }) gone else gone;
+      waiting = if is_released then state.waiting else inserted (record { key = wait_key; task = t }) state.waiting;
+      runs = slice_set state.runs place None;
+    })
