@@ -167,7 +167,7 @@ module _ (g : Group) (s : IsPlainGroup g) where
   -- ---- a job ends
 
   -- the state once the task has ended its job, by the keys of its next job
-  abbrev ended_state : ℕ → ℕ → Bool → State → State
+  abbrev pub ended_state : ℕ → ℕ → Bool → State → State
   ended_state place t released state =
       let next = get_or state.done (t - 1) 0 + 1 in
       job_ended (cpus g 0) place t released (key_at g t next) (wait_key g t next) state

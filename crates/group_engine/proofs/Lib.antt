@@ -8,3 +8,5 @@ pub mod PlainGroup
 pub mod PlainModel
 pub mod Kept
 pub mod TopTasks
+pub mod Replies
+pub mod Acts

@@ -55,7 +55,7 @@ module _ (g : Group) (s : IsPlainGroup g) where
   unfolding effective_key
   effective-base t past = rw (boost-none t past, followers-none (λ u. waits_for g u past) (tasks g) (length (tasks g)) t (λ u. waits_for-none u past))
 
-  plain-task : (t : ℕ) → has t (tasks_of g 0) ≡ true → IsPlainTask (task g t)
+  pub plain-task : (t : ℕ) → has t (tasks_of g 0) ≡ true → IsPlainTask (task g t)
   unfolding task
   plain-task t h = s.set.tasks_are (t - 1) (task_range t _ (rw s.homes_are at h))
 
@@ -66,6 +66,14 @@ module _ (g : Group) (s : IsPlainGroup g) where
   pub effective-at : (t : ℕ) (past : Past) → has t (tasks_of g 0) ≡ true → effective_key g t past ≡ key_at g t (done t past)
   unfolding base_key key_by deadline release task release_by done
   effective-at t past h = effective-base t past ∙ rw (s.set.plugin, release-at t past h)
+
+  pub exists-at : (t : ℕ) (past : Past) → has t (tasks_of g 0) ≡ true → exists g t past ≡ nat_le (release_at g t (done t past)) (now past)
+  unfolding exists is_released opens_early release task release_by done
+  exists-at t past h = let p : IsPlainTask (task g t) = plain-task t h in rw (release-at t past h, p.not_early) (by_case (nat_le (release_at g t (done t past)) (now past)))
+    where
+      by_case : (b : Bool) → b || false ≡ b
+      by_case true = refl
+      by_case false = refl
 
   pub eligible-at : (t : ℕ) (past : Past) → has t (tasks_of g 0) ≡ true → wakes t past ≡ 0 → eligible g t past ≡ nat_le (release_at g t (done t past)) (now past)
   unfolding eligible ready exists is_released opens_early sleeps is_served release task release_by done
