@@ -82,8 +82,10 @@ module _ (now : ℕ) (rel_deadline release : ℕ → ℕ) (ts : List ℕ) (d : I
     where
       none : (t : ℕ) → has t ts ≡ true → test t ≡ false
       none t there = let k : false ≡ has t ts && test t = subst (λ (rs : List Ranked). has t (tasks_ranked rs) ≡ has t ts && test t) (sym waiting_is) (has-ranked_by wait_key test t ts) in let m : false ≡ true && test t = rw there at k in sym m
+
       wait_none : [] ≡ ranked_by wait_key (λ t. not (nat_le (release t) now)) ts
       wait_none = waiting_is ∙ ranked_by-same wait_key wait_key test _ ts (λ t there. let n : test t ≡ false = none t there in n ∙ sym (rw (out t there n))) (λ t there k. refl)
+
       ready_all : ready ≡ ranked_by job_key (λ t. nat_le (release t) now) ts
       ready_all = ready_is ∙ ranked_by-same job_key job_key (λ t. not (test t)) _ ts (λ t there. let n : test t ≡ false = none t there in rw n (sym (out t there n))) (λ t there k. refl)
   due (w ∷ ws) ready test waiting_is ready_is out = by_case (nat_le w.key.major now) refl (due ws)
@@ -130,12 +132,13 @@ module _ (now : ℕ) (rel_deadline release : ℕ → ℕ) (ts : List ℕ) (d : I
 
       by_case : (b : Bool) → nat_le w.key.major now ≡ b
           → ((ready' : List Ranked) (test' : ℕ → Bool) → ws ≡ ranked_by wait_key test' ts → ready' ≡ ranked_by job_key (λ t. not (test' t)) ts → ((t : ℕ) → has t ts ≡ true → test' t ≡ false → nat_le (release t) now ≡ true)
-              → (not_due now ws ≡ ranked_by wait_key (λ t. not (nat_le (release t) now)) ts) × (due_ready now rel_deadline ws ready' ≡ ranked_by job_key (λ t. nat_le (release t) now) ts))
+          → (not_due now ws ≡ ranked_by wait_key (λ t. not (nat_le (release t) now)) ts) × (due_ready now rel_deadline ws ready' ≡ ranked_by job_key (λ t. nat_le (release t) now) ts))
           → (cond b (not_due now ws) (w ∷ ws) ≡ ranked_by wait_key (λ t. not (nat_le (release t) now)) ts) × (cond b (due_ready now rel_deadline ws (inserted (ready_task rel_deadline w) ready)) ready ≡ ranked_by job_key (λ t. nat_le (release t) now) ts)
       by_case true e rest = rest (inserted (ready_task rel_deadline w) ready) later goes joins (came (rw (← major_is) e))
-      by_case false e rest =
-          (waiting_is ∙ ranked_by-same wait_key wait_key test _ ts (λ t there. stays (rw (← major_is) e) t there) (λ t there k. refl),
-            ready_is ∙ ranked_by-same job_key job_key (λ t. not (test t)) _ ts (λ t there. let s : test t ≡ not (nat_le (release t) now) = stays (rw (← major_is) e) t there in rw s (twice (nat_le (release t) now))) (λ t there k. refl))
+      by_case false e rest = (
+        waiting_is ∙ ranked_by-same wait_key wait_key test _ ts (λ t there. stays (rw (← major_is) e) t there) (λ t there k. refl),
+        ready_is ∙ ranked_by-same job_key job_key (λ t. not (test t)) _ ts (λ t there. let s : test t ≡ not (nat_le (release t) now) = stays (rw (← major_is) e) t there in rw s (twice (nat_le (release t) now))) (λ t there k. refl),
+      )
 
 -- ---- one task at a time
 

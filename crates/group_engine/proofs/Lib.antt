@@ -10,3 +10,6 @@ pub mod Kept
 pub mod TopTasks
 pub mod Replies
 pub mod Acts
+pub mod Limits
+pub mod Doing
+pub mod Stepping

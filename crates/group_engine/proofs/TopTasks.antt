@@ -14,4 +14,3 @@ top_tasks-more qs i d lt =
     let there : i < length all = omega arith in
     let one : get_or all i (ranked d).task ≡ (get_or qs i d).task.0 = get_or-map (λ (r : Ranked). r.task) (ranked_all qs) i (ranked d) ∙ ap (λ (r : Ranked). r.task) (get_or-map ranked qs i d) in
     take_more all i (ranked d).task there ∙ ap (λ n. take i all ++ n ∷ []) one
-

@@ -1,19 +1,23 @@
 -- What the engine keeps of the past that its entries made, part by part.
-use Rattle.std.specs.Prelude.{◌≡◌, ℕ, ◌+◌, ◌-◌, ◌*◌, ◌<◌, ◌≤◌, Bool, true, false, not, nat_le, List, [], ◌∷◌, length, map, take, Option, None, slice_index, slice_index_or, ◌^◌}
+use Rattle.std.specs.Prelude.{◌≡◌, ℕ, ◌+◌, ◌-◌, ◌*◌, ◌<◌, ◌≤◌, Bool, true, false, not, nat_le, List, [], ◌∷◌, length, map, take, Option, None, Some, slice_index, slice_index_or, ◌^◌}
 use Rattle.rt_task.specs.declared.Parts.{Parts}
 use Rattle.rt_task.specs.declared.Task.{Task}
 use Rattle.rt_task.specs.Validity.{IsValid}
 use Rattle.rt_order.specs.declared.Key.{Key}
+use Rattle.rt_task.specs.declared.Act.{Act}
+use Rattle.rt_history.specs.declared.Reply.{Reply}
 use Rattle.rt_history.specs.declared.Entry.{Entry}
 use Rattle.rt_rules.specs.Numbers.{has}
 use Rattle.rt_rules.specs.Keys.{Ranked}
 use Rattle.rt_model.specs.Group.{Group, no_task, task, cpus, tasks_of}
-use Rattle.rt_model.specs.Past.{Past, now}
+use Rattle.rt_model.specs.Past.{Acted, Past, now}
 use Rattle.rt_model.specs.Jobs.{done}
 use Rattle.rt_model.specs.Sleep.{wakes}
 use Rattle.rt_model.specs.NonPreemptive.{non_preemptive}
+use Rattle.rt_model.specs.Runs.{runs}
 use Rattle.rt_model.specs.Links.{runs_of, links}
-use Rattle.rt_model.specs.Answers.{last_work}
+use Rattle.rt_model.specs.Answers.{answer, last_work}
+use Rattle.rt_model.specs.Outcomes.{past_act}
 use Rattle.rt_model.specs.Made.{IsMade}
 use Rattle.rt_model.specs.Histories.{past_of, IsLegal}
 use Rattle.link_table.specs.Linked.{Linked}
@@ -82,3 +86,48 @@ pub record HasRooms (n m first worked ready waiting top : ℕ) : Type 0 where
 -- the links and runs of the state's cluster
 abbrev pub linked_of : State → Linked
 linked_of s = record { first = 0; runs = s.runs; links = s.links }
+
+-- what is played so far: a group of a valid set of that form
+pub record IsPlayed (g : Group) : Type 0 where
+  pub valid : IsValid g.setup
+  pub built : is_built g.setup ≡ true
+  pub is_there : IsGroupOf g.setup g.number
+
+-- a group at a moment of its past
+pub record Moment : Type 0 where
+  pub group : Group
+  pub past : Past
+
+-- what an act of a processor rests on: what is kept is of a moment of a group with these tasks
+pub record CanAct (at : Moment) (state : State) (tasks : List Task) (cpu : ℕ) : Type 0 where
+  pub played : IsPlayed at.group
+  pub short : length at.past ≤ 400001
+  pub kept : IsKept at.group at.past state
+  pub inside : cpu < cpus at.group 0
+  pub tasks_are : tasks ≡ at.group.setup.tasks
+
+-- and the processor runs a task
+pub record CanOperate (at : Moment) (state : State) (tasks : List Task) (cpu t : ℕ) : Type 0 where
+  pub act : CanAct at state tasks cpu
+  pub runs_it : runs cpu at.past ≡ Some t
+
+-- there is such a moment
+abbrev pub CanActNow : State → List Task → ℕ → Type 0
+CanActNow state tasks cpu = (at : Moment) × CanAct at state tasks cpu
+
+abbrev pub CanOperateNow : State → List Task → ℕ → ℕ → Type 0
+CanOperateNow state tasks cpu t = (at : Moment) × CanOperate at state tasks cpu t
+
+-- the act was answered, and what is kept is of the past with it
+pub record HasActed (at : Moment) (cpu : ℕ) (act : Act) (reply : Reply) (state : State) : Type 0 where
+  pub reply_is : reply ≡ answer at.group cpu act at.past
+  pub kept : IsKept at.group (Acted (past_act at.group cpu act at.past) ∷ at.past) state
+
+-- the invariant of the engine: there is room for the entries to come, they are legal so far, and what is kept is of their past
+pub record IsSound (g : Group) (entries : List Entry) (room capacity : ℕ) (state : State) : Type 0 where
+  pub played : IsPlayed g
+  pub limit : room ≤ 200000
+  pub within : length entries ≤ room
+  pub reserved : room ≤ capacity
+  pub kept : IsKept g (past_of g entries) state
+  pub legal : IsLegal g entries

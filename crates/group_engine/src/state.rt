@@ -1,16 +1,23 @@
 //! What the engine keeps of its group, and what each move makes of it.
-ghost use Rattle.std.specs.Prelude.{◌≡◌, ◌+◌, ◌-◌, ◌*◌, ◌^◌, ◌<◌, ◌≤◌, ℕ, List, All, IfOk, length, take, max, Some, None, false, option_map, slice_index, slice_index_or, vec_capacity};
+ghost use Rattle.std.specs.Prelude.{◌≡◌, ◌+◌, ◌-◌, ◌*◌, ◌^◌, ◌<◌, ◌≤◌, ◌∷◌, nat_le, true, ℕ, List, All, IfOk, length, take, max, Some, None, false, option_map, slice_index, slice_index_or, vec_capacity};
 ghost use Rattle.rt_base.specs.TaskNos.{number_of_task, numbers};
 ghost use Rattle.rt_order.specs.declared.Key.{Key};
 ghost use Rattle.rt_rules.specs.Keys.{Ranked};
 ghost use Rattle.rt_rules.specs.Distinct.{IsDistinct};
 ghost use Rattle.rt_rules.specs.Placing.{placed, at_place};
 ghost use Rattle.rt_task.specs.declared.Task.{Task};
+ghost use Rattle.rt_base.specs.declared.TheConstants.{TICK_END};
+ghost use Rattle.rt_model.specs.Group.{cpus};
+ghost use Rattle.rt_model.specs.Past.{Acted};
+ghost use Rattle.rt_model.specs.Runs.{runs};
+ghost use Rattle.rt_model.specs.Answers.{answer};
+ghost use Rattle.rt_model.specs.Outcomes.{past_act};
+ghost use Rattle.group_engine.specs.Built.{is_built_act};
 ghost use Rattle.group_engine.specs.Queue.{ranked, ranked_all, tasks_of, without_task};
 ghost use Rattle.link_table.specs.Linked.{irq_reply, after_irq};
 ghost use Rattle.group_engine.specs.Due.{due_ready, not_due, ready_task};
 ghost use Rattle.group_engine.specs.Moves.{replaced, clock_moved, has_worked, has_run, job_ended};
-ghost use Rattle.group_engine.specs.State.{State, top_tasks, rel_deadline_of, IsBounded, linked_of};
+ghost use Rattle.group_engine.specs.State.{State, top_tasks, rel_deadline_of, CanAct, CanActNow, CanOperate, CanOperateNow, HasActed, IsBounded, Moment, linked_of};
 
 use crate::queue::{Queue, Queued};
 use crate::room::put;
@@ -18,7 +25,7 @@ use link_table::Links;
 use rt_base::{CpuNo, NoMemory, TaskNo};
 use rt_history::Reply;
 use rt_order::Key;
-use rt_task::Task;
+use rt_task::{Act, Op, Task};
 use std::alloc::Global;
 use std::marker::Model;
 
@@ -206,6 +213,77 @@ impl GroupState {
         }
         self.links.leave(cpu);
         self.place();
+    }
+
+    /// The task's job after the one that it does now.
+    fn next_job(&self, number: TaskNo, task: &Task) -> NextJob
+        requires low { 1 ≤ number.0 }
+        requires high { number.0 ≤ length self.now.done }
+        requires few { slice_index self.now.done (number.0 - 1) < 2 ^ 20 }
+        requires phase { task.now.phase < TICK_END }
+        requires period { task.now.period < TICK_END }
+        requires deadline { task.now.rel_deadline < TICK_END }
+        ensures released { let release = task.now.phase + (slice_index self.now.done (number.0 - 1) + 1) * task.now.period in result.is_released ≡ nat_le release self.now.clock }
+        ensures job_key { let release = task.now.phase + (slice_index self.now.done (number.0 - 1) + 1) * task.now.period in result.job_key ≡ record { band = 2; major = release + task.now.rel_deadline; minor = number.0 } }
+        ensures wait_key { let release = task.now.phase + (slice_index self.now.done (number.0 - 1) + 1) * task.now.period in result.wait_key ≡ record { band = 0; major = release; minor = number.0 } }
+    {
+        let release = task.phase + (self.done(number) + 1) * task.period;
+        NextJob {
+            is_released: release <= self.clock,
+            job_key: Key {
+                band: 2,
+                major: release + task.rel_deadline,
+                minor: number.0,
+            },
+            wait_key: Key {
+                band: 0,
+                major: release,
+                minor: number.0,
+            },
+        }
+    }
+
+    /// The task that the processor runs works for a unit, unless the processor has worked at this clock.
+    fn do_work(&mut self, tasks: &[Task], cpu: CpuNo, task: TaskNo) -> Reply
+        requires { CanOperateNow self.old tasks.now cpu.0 task.0 }
+        ensures { (at : Moment) → CanOperate at self.old tasks.now cpu.0 task.0 → HasActed at cpu.0 (Act.Do Op.Work) result self.new }
+    {
+        if self.last_work(cpu) == Some(self.clock) {
+            return Reply::Spent;
+        }
+        self.work(cpu);
+        Reply::Done
+    }
+
+    /// The task that the processor runs ends its job.
+    fn do_end(&mut self, tasks: &[Task], cpu: CpuNo, task: TaskNo) -> Reply
+        requires { CanOperateNow self.old tasks.now cpu.0 task.0 }
+        ensures { (at : Moment) → CanOperate at self.old tasks.now cpu.0 task.0 → HasActed at cpu.0 (Act.Do Op.End) result self.new }
+    {
+        let next = self.next_job(task, &tasks[task.0 as usize - 1]);
+        self.end_job(cpu, task, &next);
+        Reply::Done
+    }
+
+    /// An act of the processor, once the clock has moved.
+    pub(crate) fn act(&mut self, tasks: &[Task], cpu: CpuNo, act: Act) -> Reply
+        requires acts { CanActNow self.old tasks.now cpu.0 }
+        requires built { is_built_act act ≡ true }
+        ensures { (at : Moment) → CanAct at self.old tasks.now cpu.0 → HasActed at cpu.0 act result self.new }
+    {
+        match act {
+            Act::Tick => Reply::Done,
+            Act::Irq => self.take_irq(cpu),
+            Act::Do(op) => match self.runs(cpu) {
+                None => Reply::Idle,
+                Some(task) => match op {
+                    Op::Work => self.do_work(tasks, cpu, task),
+                    Op::End => self.do_end(tasks, cpu, task),
+                    _ => unreachable!(),
+                },
+            },
+            Act::Arrive(_) => unreachable!(),
+        }
     }
 }
 
