@@ -9,10 +9,13 @@ use Rattle.rt_history.specs.declared.Reply.{Reply}
 use Rattle.rt_history.specs.declared.Entry.{Entry}
 use Rattle.rt_rules.specs.Numbers.{has, numbers_from}
 use Rattle.rt_rules.specs.Distinct.{IsDistinct}
-use Rattle.rt_rules.specs.Placing.{placed}
+use Rattle.rt_rules.specs.Placing.{placed, at_place}
 use Rattle.rt_model.specs.Group.{Group, no_task, task, cpus, group_processors}
 use Rattle.rt_model.specs.Past.{Clock, Acted, Past}
 use Rattle.rt_model.specs.Outcomes.{past_act}
+use Rattle.rt_model.specs.Runs.{runs}
+use Rattle.rt_model.specs.Links.{linked}
+use Rattle.group_engine.proofs.Replies.{linked-at, runs-at}
 use Rattle.rt_model.specs.Histories.{past_of, reply_to, IsLegal}
 use Rattle.rt_model.proofs.Steps.{past_of-append, after-acted, reply_to-lem, IsLegal-append}
 use Rattle.rt_model.proofs.PastLaws.{numbers_from-below}
@@ -65,13 +68,13 @@ module _ (g : Group) (es : List Entry) (room capacity : ℕ) (state : State) (so
   abbrev pub at_tick : ℕ → Moment
   at_tick tick = record { group = g; past = Clock tick ∷ past_of g es }
 
-  pub can_act : (tick q : ℕ) (after : State) → IsProcessorOf g q → after ≡ clock_moved (length state.runs) (rel_deadline_of g.setup.tasks) tick state → CanAct (at_tick tick) after g.setup.tasks q
-  can_act tick q after h e = record {
+  pub can_act : (tick q : ℕ) (tasks : List Task) (after : State) → IsProcessorOf g q → tasks ≡ g.setup.tasks → after ≡ clock_moved (length state.runs) (rel_deadline_of tasks) tick state → CanAct (at_tick tick) after tasks q
+  can_act tick q tasks after h same e = record {
     played = sound.played;
     short = let k = short in omega arith;
-    kept = rw e (kept-moved tick);
+    kept = rw (e, same) (kept-moved tick);
     inside = inside g q sound.played h;
-    tasks_are = refl;
+    tasks_are = same;
   }
 
   pub reply-is : (step : Step) (reply : Reply) (after : State) → HasActed (at_tick step.tick.0) step.cpu.0 step.act reply after → reply ≡ reply_to g step (past_of g es)
@@ -86,3 +89,14 @@ module _ (g : Group) (es : List Entry) (room capacity : ℕ) (state : State) (so
     kept = rw (past_of-append, after-acted) acted.kept;
     legal = IsLegal-append g es _ sound.legal (reply-is step reply after acted);
   }
+
+  -- ---- what is linked and what runs
+
+  pub runs_inside : (q : ℕ) → IsProcessorOf g q → q < length state.runs
+  runs_inside q h = let l = runs_length in let i = inside g q sound.played h in omega arith
+
+  pub linked-there : (q : ℕ) → IsProcessorOf g q → linked g q (past_of g es) ≡ at_place state.links q
+  linked-there q h = let same : q - 0 ≡ q = omega arith in linked-at g s (past_of g es) state sound.kept q (inside g q sound.played h) ∙ ap (λ n. at_place state.links n) same
+
+  pub runs-there : (q : ℕ) → IsProcessorOf g q → runs q (past_of g es) ≡ at_place state.runs q
+  runs-there q h = let same : q - 0 ≡ q = omega arith in runs-at g s (past_of g es) state sound.kept q (inside g q sound.played h) ∙ ap (λ n. at_place state.runs n) same
