@@ -1,11 +1,14 @@
 -- What each move makes of the state, in a cluster of m processors whose tasks have these relative deadlines.
-use Rattle.std.specs.Prelude.{ℕ, ◌+◌, ◌-◌, max, Bool, List, [], ◌∷◌, Option, None, Some, if◌then◌else◌, slice_index, slice_set}
+use Rattle.std.specs.Prelude.{ℕ, ◌+◌, ◌-◌, max, Bool, true, List, [], ◌∷◌, Option, None, Some, if◌then◌else◌, length, replicate, slice_index, slice_index_or, slice_set}
+use Rattle.rt_task.specs.declared.Task.{Task}
 use Rattle.rt_order.specs.declared.Key.{Key}
+use Rattle.rt_rules.specs.Numbers.{numbers_from}
+use Rattle.rt_model.specs.Group.{no_task}
 use Rattle.rt_rules.specs.Keys.{Ranked, inserted}
 use Rattle.rt_rules.specs.Placing.{placed}
-use Rattle.group_engine.specs.Queue.{without_task}
+use Rattle.group_engine.specs.Queue.{without_task, ranked_by}
 use Rattle.group_engine.specs.Due.{due_ready, not_due}
-use Rattle.group_engine.specs.State.{State, top_tasks}
+use Rattle.group_engine.specs.State.{State, top_tasks, rel_deadline_of}
 
 -- the links placed over what is ready and what runs now
 abbrev pub replaced : ℕ → State → State
@@ -35,3 +38,9 @@ job_ended m place t is_released job_key wait_key state =
       waiting = if is_released then state.waiting else inserted (record { key = wait_key; task = t }) state.waiting;
       runs = slice_set state.runs place None;
     })
+
+-- the state of a cluster of m processors at opening: those that are due are ready, and nothing runs
+abbrev pub opened : ℕ → List Task → State
+opened m tasks =
+    let all = ranked_by (λ t. record { band = 0; major = (slice_index_or tasks (t - 1) no_task).phase; minor = t }) (λ t. true) (numbers_from 1 (length tasks)) in
+    replaced m (record { clock = 0; done = replicate (length tasks) 0; worked = replicate m None; ready = due_ready 0 (rel_deadline_of tasks) all []; waiting = not_due 0 all; runs = replicate m None; links = replicate m None })

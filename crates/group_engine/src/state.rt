@@ -7,16 +7,17 @@ ghost use Rattle.rt_rules.specs.Distinct.{IsDistinct};
 ghost use Rattle.rt_rules.specs.Placing.{placed, at_place};
 ghost use Rattle.rt_task.specs.declared.Task.{Task};
 ghost use Rattle.rt_base.specs.declared.TheConstants.{TICK_END};
-ghost use Rattle.rt_model.specs.Group.{cpus};
+ghost use Rattle.rt_rules.specs.Numbers.{numbers_from};
+ghost use Rattle.rt_model.specs.Group.{no_task};
 ghost use Rattle.rt_model.specs.Past.{Acted};
 ghost use Rattle.rt_model.specs.Runs.{runs};
 ghost use Rattle.rt_model.specs.Answers.{answer};
 ghost use Rattle.rt_model.specs.Outcomes.{past_act};
 ghost use Rattle.group_engine.specs.Built.{is_built_act};
-ghost use Rattle.group_engine.specs.Queue.{ranked, ranked_all, tasks_of, without_task};
+ghost use Rattle.group_engine.specs.Queue.{ranked, ranked_all, ranked_by, tasks_of, without_task};
 ghost use Rattle.link_table.specs.Linked.{irq_reply, after_irq};
 ghost use Rattle.group_engine.specs.Due.{due_ready, not_due, ready_task};
-ghost use Rattle.group_engine.specs.Moves.{replaced, clock_moved, has_worked, has_run, job_ended};
+ghost use Rattle.group_engine.specs.Moves.{opened, replaced, clock_moved, has_worked, has_run, job_ended};
 ghost use Rattle.group_engine.specs.State.{State, top_tasks, rel_deadline_of, CanAct, CanActNow, CanOperate, CanOperateNow, HasActed, IsBounded, Moment, linked_of};
 
 use crate::queue::{Queue, Queued};
@@ -104,7 +105,64 @@ fn release_due(clock: u64, tasks: &[Task], waiting: &mut Queue, ready: &mut Queu
     moved
 }
 
+/// All the tasks, in the order of their first releases.
+fn waiting_tasks(alloc: Global, tasks: &[Task]) -> Result<Queue, NoMemory>
+    requires few { length tasks.now ≤ 1024 }
+    requires phases { All (λ (t : Task). t.phase < 2 ^ 62) tasks.now }
+    ensures tasks { IfOk result (λ q. q.tasks ≡ ranked_by (λ t. record { band = 0; major = (slice_index_or tasks.now (t - 1) no_task).phase; minor = t }) (λ t. true) (numbers_from 1 (length tasks.now))) }
+    ensures room { IfOk result (λ q. length tasks.now ≤ q.room) }
+{
+    let mut waiting = Queue::with_room(alloc, tasks.len())?;
+    let mut left = tasks.len();
+    while left > 0 {
+        let key = Key {
+            band: 0,
+            major: tasks[left - 1].phase,
+            minor: left as u32,
+        };
+        waiting.insert(key, TaskNo(left as u32));
+        left -= 1;
+    }
+    Ok(waiting)
+}
+
 impl GroupState {
+    /// The state at opening, of a cluster of so many processors.
+    pub(crate) fn open(alloc: Global, tasks: &[Task], cpus: u32) -> Result<GroupState, NoMemory>
+        requires few { length tasks.now ≤ 1024 }
+        requires phases { All (λ (t : Task). t.phase < 2 ^ 62) tasks.now }
+        requires deadlines { All (λ (t : Task). t.rel_deadline < 2 ^ 62) tasks.now }
+        requires bounded { All (IsBounded (length tasks.now)) (ranked_by (λ t. record { band = 0; major = (slice_index_or tasks.now (t - 1) no_task).phase; minor = t }) (λ t. true) (numbers_from 1 (length tasks.now))) }
+        requires distinct { IsDistinct (tasks_of (opened cpus tasks.now).ready) }
+        requires room { length (ranked_by (λ t. record { band = 0; major = (slice_index_or tasks.now (t - 1) no_task).phase; minor = t }) (λ t. true) (numbers_from 1 (length tasks.now))) ≤ length tasks.now }
+        ensures { IfOk result (λ s. s ≡ opened cpus tasks.now) }
+    {
+        let mut waiting = waiting_tasks(alloc, tasks)?;
+        let mut ready = Queue::with_room(alloc, tasks.len())?;
+        let _ = release_due(0, tasks, &mut waiting, &mut ready);
+        let Ok(done) = vec![in alloc; 0u64; tasks.len()] else {
+            return Err(NoMemory);
+        };
+        let Ok(worked) = vec![in alloc; None; cpus as usize] else {
+            return Err(NoMemory);
+        };
+        let links = Links::new(alloc, CpuNo(0), cpus)?;
+        let Ok(top) = Vec::with_capacity(alloc, cpus as usize) else {
+            return Err(NoMemory);
+        };
+        let mut state = GroupState {
+            clock: 0,
+            done,
+            worked,
+            ready,
+            waiting,
+            links,
+            top,
+        };
+        state.place();
+        Ok(state)
+    }
+
     /// The clock of the group.
     pub(crate) fn clock(&self) -> u64
         ensures { result ≡ self.now.clock }

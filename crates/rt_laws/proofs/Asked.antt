@@ -1,23 +1,22 @@
 -- Who asks and who frees in the next event: what the past before it says of them.
-use Rattle.std.proofs.Common.{◌≡◌, ℕ, true, false}
+use Rattle.std.proofs.Common.{false, true, ℕ, ◌≡◌}
+use Rattle.rt_task.specs.declared.Protocol.TheVariants.{Fmlp, Mpcp, Omlp, Pcp}
 use Rattle.rt_task.specs.declared.Protocol.{Protocol}
-use Rattle.rt_task.specs.declared.Protocol.TheVariants.{Fmlp, Omlp, Pcp, Mpcp}
 use Rattle.rt_rules.specs.Numbers.{has, is, is_empty}
 use Rattle.rt_rules.specs.SemState.{Asks, Frees}
 use Rattle.rt_model.specs.Answers.{nests}
 use Rattle.rt_model.specs.Ceilings.{is_pcp}
-use Rattle.rt_model.specs.Group.{Group, tasks, users, sems, protocol}
-use Rattle.rt_model.specs.Holders.{sem_state, holder, holds}
+use Rattle.rt_model.specs.Group.{Group, protocol, sems, tasks, users}
+use Rattle.rt_model.specs.Holders.{holder, holds, sem_state}
 use Rattle.rt_model.specs.Made.{IsMade}
 use Rattle.rt_model.specs.Past.{Event, Past, sem_act}
 use Rattle.rt_model.specs.Releases.{exists}
 use Rattle.rt_model.specs.Sleep.{sleeps}
-use Rattle.rt_rules.proofs.PlacingLaws.{has-filter}
-use Rattle.rt_laws.proofs.Rules.{MeetsRules}
-use Rattle.rt_laws.proofs.Small.{unless, clash, not_false, empty-none}
-use Rattle.rt_laws.proofs.Requests.{IsAsk, asks, frees}
-use Rattle.rt_laws.proofs.Waiting.{task-user}
+use Rattle.rt_rules.proofs.BoolLaws.{not_false}
+use Rattle.rt_laws.proofs.GroupLaws.{task-user}
 use Rattle.rt_laws.proofs.Moves.{IsMove, clock_moves, cpu_acts}
+use Rattle.rt_laws.proofs.Requests.{IsAsk, asks, frees}
+use Rattle.rt_laws.proofs.Rules.{MeetsRules}
 use Rattle.rt_laws.proofs.Running.{IsRunning, running}
 
 -- a task asks for a semaphore: its job is there, neither sleeps nor waits, and the request does not nest
@@ -30,6 +29,7 @@ pub record IsAsked (g : Group) (t s : ℕ) (past : Past) : Type 0 where
   pub awake : sleeps t past ≡ false
   pub waits_none : (r : ℕ) → has r (sems g) ≡ true → has t (sem_state g r past).waiting ≡ false
 
+-- whoever asks in an event is as `IsAsked` says
 abbrev pub Asked : Group → Event → Past → Type 0
 Asked g e past = (t s : ℕ) → sem_act e ≡ Asks t s → IsAsked g t s past
 
@@ -37,6 +37,7 @@ Asked g e past = (t s : ℕ) → sem_act e ≡ Asks t s → IsAsked g t s past
 abbrev pub Freed : Group → Event → Past → Type 0
 Freed g e past = (t s : ℕ) → sem_act e ≡ Frees t s → is t (holder g s past) ≡ true
 
+-- what an event that asks says of the past before it
 pub asked : (g : Group) → MeetsRules g → {past : Past} {e : Event} → IsMade g past → IsMove g past e → Asked g e past
 asked g rules made (clock_moves tick) t s h = cc
 asked g rules {past} made (cpu_acts q a) t s h =
@@ -52,16 +53,10 @@ asked g rules {past} made (cpu_acts q a) t s h =
       waits_none = r.waits_none;
     }
 
+-- what an event that frees says of the past before it
 pub freed : (g : Group) {past : Past} {e : Event} → IsMove g past e → Freed g e past
 freed g (clock_moves tick) t s h = cc
 freed g {past} (cpu_acts q a) t s h = (frees g q a past t s h).held
-
-pub holds-none : (g : Group) (t s : ℕ) (past : Past) → is_empty (holds g t past) ≡ true → has s (sems g) ≡ true → is t (holder g s past) ≡ false
-unfolding holds
-holds-none g t s past h there = unless _ (λ k. clash (has s (holds g t past)) (found k) (empty-none s (holds g t past) h))
-  where
-    found : is t (holder g s past) ≡ true → has s (holds g t past) ≡ true
-    found k = rw (has-filter (λ r. is t (holder g r past)) s (sems g), there, k)
 
 -- a request that is none for PCP comes from a task that holds nothing
 pub asks_empty : (g : Group) (p : Protocol) (t s : ℕ) (past : Past) → is_pcp p ≡ false → nests g p s t past ≡ false → is_empty (holds g t past) ≡ true

@@ -1,34 +1,35 @@
 -- The bounds of the blocking counts.
-use Rattle.std.proofs.Common.{◌≡◌, ℕ, ◌+◌, ◌-◌, ◌*◌, ◌≤◌, Bool, true, false, ◌&&◌, refl, arith}
+use Rattle.std.proofs.Common.{Bool, arith, false, refl, true, ℕ, ◌&&◌, ◌*◌, ◌+◌, ◌-◌, ◌≡◌, ◌≤◌}
 use Rattle.std.specs.Prelude.{if◌then◌else◌}
-use Rattle.rt_task.specs.declared.PluginKind.{PluginKind}
+use Rattle.rt_task.specs.RuleWords.{is_of_one_cluster, stands_under}
 use Rattle.rt_task.specs.declared.PluginKind.TheVariants as plugins
+use Rattle.rt_task.specs.declared.PluginKind.{PluginKind}
 use Rattle.rt_task.specs.declared.Protocol.TheVariants.{Omlp}
 use Rattle.rt_rules.specs.Numbers.{has}
-use Rattle.rt_model.specs.Blocking.{is_open, ends, frees}
-use Rattle.rt_model.specs.Group.{Group, cpus, home, users, sems, protocol}
+use Rattle.rt_model.specs.Blocking.{ends, frees, is_open}
+use Rattle.rt_model.specs.Group.{Group, cpus, home, protocol, sems, users}
 use Rattle.rt_model.specs.Holders.{sem_state}
 use Rattle.rt_model.specs.Made.{IsMade}
 use Rattle.rt_model.specs.Past.{Past, sem_act}
 use Rattle.rt_model.specs.Semaphores.{cluster_of}
-use Rattle.rt_laws.specs.Bounds.{OmlpBound, FmlpBound}
+use Rattle.rt_rules.proofs.BoolLaws.{clash, unless}
+use Rattle.rt_laws.specs.Bounds.{FmlpBound, OmlpBound}
+use Rattle.rt_laws.proofs.Engaged.{waiting-engaged}
+use Rattle.rt_laws.proofs.EngagedJobs.{IsActive, all_active}
+use Rattle.rt_laws.proofs.FmlpCount as fmlp
+use Rattle.rt_laws.proofs.OpenRequests.{open-waits}
+use Rattle.rt_laws.proofs.GroupLaws.{user-home}
+use Rattle.rt_laws.proofs.Moves.{by_moves}
+use Rattle.rt_laws.proofs.OmlpCount as omlp
 use Rattle.rt_laws.proofs.Rules.{MeetsRules}
 use Rattle.rt_laws.proofs.ValidSets.{rules_of}
-use Rattle.rt_task.specs.RuleWords.{stands_under, is_of_one_cluster}
-use Rattle.rt_laws.proofs.Small.{unless, clash}
-use Rattle.rt_laws.proofs.Moves.{by_moves}
-use Rattle.rt_laws.proofs.FmlpLaw as fmlp
-use Rattle.rt_laws.proofs.OmlpLaw as omlp
-use Rattle.rt_laws.proofs.OmlpState.{user-home}
-use Rattle.rt_laws.proofs.Engaged.{waiting-engaged}
-use Rattle.rt_laws.proofs.Active.{all_active, IsActive}
 
 pub fmlp_bound : FmlpBound
 fmlp_bound g past valid made r t s p = (fmlp.counted g (rules_of g valid) r t s p made).so_far
 
 -- a request of what is no user is never open
 never-open : (g : Group) → MeetsRules g → (r t s : ℕ) → has t (users g s) && has s (sems g) ≡ false → {past : Past} → IsMade g past → is_open g r t s past ≡ false
-never-open g rules r t s none {past} made = unless _ (λ o. found (fmlp.open-waits g r t s past o))
+never-open g rules r t s none {past} made = unless _ (λ o. found (open-waits g r t s past o))
   where
     found : (has s (sems g) ≡ true) × (has t (sem_state g s past).waiting ≡ true) → ⊥
     found w = let k : IsActive g t s past = all_active g rules made t s w.0 (waiting-engaged g t s past w.1) in let m : has t (users g s) && has s (sems g) ≡ true = rw (k.user, w.0) in clash _ m none

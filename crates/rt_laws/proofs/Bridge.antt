@@ -1,35 +1,36 @@
 -- What each task that runs, holds or waits may rely on.
-use Rattle.std.proofs.Common.{◌≡◌, ℕ, true, false, not, ◌||◌, ◌⊎◌, inl, inr, List, [], ◌∷◌, refl, sym, ◌∙◌}
-use Rattle.std.specs.Prelude.{Option, None, Some, is_some}
+use Rattle.std.proofs.Common.{List, [], false, inl, inr, not, refl, sym, true, ℕ, ◌||◌, ◌∙◌, ◌∷◌, ◌≡◌, ◌⊎◌}
+use Rattle.std.specs.Prelude.{None, Option, Some, is_some}
 use Rattle.rt_rules.specs.Numbers.{has, is, is_empty}
 use Rattle.rt_rules.specs.SemState.{Asks}
-use Rattle.rt_model.specs.Ceilings.{is_pcp, pcp, above_ceiling}
-use Rattle.rt_model.specs.Group.{Group, sems, protocol}
 use Rattle.rt_model.specs.Answers.{nests}
+use Rattle.rt_model.specs.Ceilings.{above_ceiling, is_pcp, pcp}
+use Rattle.rt_model.specs.Group.{Group, protocol, sems}
 use Rattle.rt_model.specs.Histories.{past_of}
-use Rattle.rt_model.specs.Holders.{sem_state, holder, holds, awaits}
+use Rattle.rt_model.specs.Holders.{awaits, holder, holds, sem_state}
 use Rattle.rt_model.specs.Made.{IsMade, opened}
 use Rattle.rt_model.specs.Past.{Event, Past, sem_act}
 use Rattle.rt_model.specs.Semaphores.{cluster_of}
+use Rattle.rt_rules.proofs.BoolLaws.{clash, unless}
+use Rattle.rt_rules.proofs.MemberLaws.{equal_self, some-is}
+use Rattle.rt_rules.proofs.PairLaws.{has-of_sem, has_pair}
+use Rattle.rt_rules.proofs.PcpLaws.{one_holder_of}
 use Rattle.rt_model.proofs.PastLaws.{made-from}
-use Rattle.rt_rules.proofs.PlacingLaws.{equal_self}
-use Rattle.rt_laws.proofs.Rules.{MeetsRules}
-use Rattle.rt_laws.proofs.ValidSets.{rules_of}
+use Rattle.rt_laws.specs.Bridge.{EngagedHasJob, EngagedKeepsJob, HolderHoldsOne, HolderWaitsNot, OneHolder, RequestsDoNotNest, RunningIsReady, WaitsForOne, is_engaged}
 use Rattle.rt_laws.specs.EveryPast.{HistoriesAreMade}
-use Rattle.rt_laws.specs.Bridge.{RunningIsReady, WaitsForOne, is_engaged, EngagedHasJob, EngagedKeepsJob, RequestsDoNotNest, HolderHoldsOne, HolderWaitsNot, OneHolder}
-use Rattle.rt_laws.proofs.Small.{unless, clash, some-is}
-use Rattle.rt_laws.proofs.Waits.{has_pair, has-of_sem}
-use Rattle.rt_laws.proofs.Waiting.{none-waits, awaits-waits}
-use Rattle.rt_laws.proofs.Running.{IsRunning, running}
-use Rattle.rt_laws.proofs.Moves.{by_moves, last_move}
 use Rattle.rt_laws.proofs.Asked.{Asked, asked, asks_empty}
+use Rattle.rt_laws.proofs.Engaged.{engaged, engaged-cases, engaged-step, holder-engaged, nobody-engaged, waiting-engaged}
+use Rattle.rt_laws.proofs.EngagedJobs.{IsActive, all_active, engaged-key}
+use Rattle.rt_laws.proofs.Holding.{one-holds}
+use Rattle.rt_laws.proofs.Moves.{by_moves, last_move}
 use Rattle.rt_laws.proofs.Next.{IsNext, next}
-use Rattle.rt_laws.proofs.OneWait.{waits_once, awaits-is}
-use Rattle.rt_laws.proofs.Pcp.{IsPcpKept, pcp_kept, one_holder_of, user-not_over}
-use Rattle.rt_laws.proofs.Engaged.{engaged, engaged-step, engaged-cases, holder-engaged, waiting-engaged, nobody-engaged}
-use Rattle.rt_laws.proofs.Ends.{one-holds}
-use Rattle.rt_laws.proofs.Active.{IsActive, all_active, engaged-key}
-use Rattle.rt_laws.proofs.Unmixed.{unmixed, asks_pcp}
+use Rattle.rt_laws.proofs.OneWait.{awaits-is, waits_once}
+use Rattle.rt_laws.proofs.PcpState.{IsPcpKept, pcp_kept, user-not_over}
+use Rattle.rt_laws.proofs.Rules.{MeetsRules}
+use Rattle.rt_laws.proofs.Running.{IsRunning, running}
+use Rattle.rt_laws.proofs.ValidSets.{rules_of}
+use Rattle.rt_laws.proofs.Waiting.{awaits-waits, none-waits}
+use Rattle.rt_laws.proofs.WaitsHolding.{asks_pcp, waits_under_pcp}
 
 pub running_is_ready : RunningIsReady
 running_is_ready g past valid made q t h =
@@ -74,7 +75,7 @@ requests_do_not_nest g e past valid made t s h = record {
     unnested = let last = last_move g made in (asked g (rules_of g valid) last.0 last.1 t s h).unnested
 
 pub holder_waits_not : HolderWaitsNot
-holder_waits_not g past valid made t s there n h = none-waits g t past (λ r hr. unless _ (λ w. clash _ (unmixed g (rules_of g valid) made t s r there hr (some-is t (holder g s past) h) w).0 n))
+holder_waits_not g past valid made t s there n h = none-waits g t past (λ r hr. unless _ (λ w. clash _ (waits_under_pcp g (rules_of g valid) made t s r there hr (some-is t (holder g s past) h) w).0 n))
 
 -- ---- one semaphore of the protocols whose requests do not nest
 
@@ -94,9 +95,9 @@ alone-step g rules e past made asks before t s r hs hr h k = split (was s (engag
 
     split : (is t (holder g s past) ≡ true) ⊎ ((has t (sem_state g s past).waiting ≡ true) ⊎ (sem_act e ≡ Asks t s)) → (is t (holder g r past) ≡ true) ⊎ ((has t (sem_state g r past).waiting ≡ true) ⊎ (sem_act e ≡ Asks t r)) → (s ≡ r) ⊎ (is_pcp (protocol g s) ≡ true) × (is_pcp (protocol g r) ≡ true)
     split (inl a) (inl b) = before t s r hs hr a b
-    split (inl a) (inr (inl b)) = inr (unmixed g rules made t s r hs hr a b)
+    split (inl a) (inr (inl b)) = inr (waits_under_pcp g rules made t s r hs hr a b)
     split (inl a) (inr (inr b)) = inr (asks_pcp g t s r past (protocol g r) (asks t r b).unnested hs a)
-    split (inr (inl a)) (inl b) = let p = unmixed g rules made t r s hr hs b a in inr (p.1, p.0)
+    split (inr (inl a)) (inl b) = let p = waits_under_pcp g rules made t r s hr hs b a in inr (p.1, p.0)
     split (inr (inl a)) (inr (inl b)) = inl (waits_once g rules made t s r hs hr a b)
     split (inr (inl a)) (inr (inr b)) = absurd (clash _ a ((asks t r b).waits_none s hs))
     split (inr (inr a)) (inl b) = let p = asks_pcp g t r s past (protocol g s) (asks t s a).unnested hr b in inr (p.1, p.0)

@@ -1,92 +1,79 @@
 -- Under GSN-EDF and C-EDF the holder of a semaphore that a blocked task waits for is linked.
-use Rattle.std.proofs.Common.{◌≡◌, ℕ, zero, suc, Bool, true, false, not, ◌&&◌, ◌||◌, ◌⊎◌, inl, inr, eqb-true, List, [], ◌∷◌, length, map, take, refl, sym, ap, ◌∙◌, subst, arith}
-use Rattle.std.specs.Prelude.{Option, None, Some, ◌==◌, filter, is_none, if◌then◌else◌}
-use Rattle.rt_task.specs.declared.PluginKind.{PluginKind}
+use Rattle.std.proofs.Common.{Bool, List, [], ap, arith, eqb-true, false, inl, inr, length, map, not, refl, subst, suc, sym, take, true, zero, ℕ, ◌&&◌, ◌||◌, ◌∙◌, ◌∷◌, ◌≡◌, ◌⊎◌}
+use Rattle.std.specs.Prelude.{None, Option, Some, filter, is_none, ◌==◌}
+use Rattle.rt_task.specs.RuleWords.{is_of_one_cluster, stands_under}
 use Rattle.rt_task.specs.declared.PluginKind.TheVariants as plugins
+use Rattle.rt_task.specs.declared.PluginKind.{PluginKind}
+use Rattle.rt_task.specs.declared.Protocol.TheVariants.{Fmlp, Mpcp, Omlp, Pcp}
 use Rattle.rt_task.specs.declared.Protocol.{Protocol}
-use Rattle.rt_task.specs.declared.Protocol.TheVariants.{Fmlp, Omlp, Pcp, Mpcp}
-use Rattle.rt_order.specs.declared.Key.{Key}
-use Rattle.rt_rules.specs.Distinct.{IsDistinct}
 use Rattle.rt_order.specs.KeyOrder.{higher}
+use Rattle.rt_order.specs.declared.Key.{Key}
 use Rattle.rt_rules.specs.Keys.{Ranked, highest, sorted}
-use Rattle.rt_rules.specs.Numbers.{has, is, first}
-use Rattle.rt_rules.specs.Walks.{walk, followers}
-use Rattle.rt_model.specs.BaseKeys.{base_key, above}
+use Rattle.rt_rules.specs.Numbers.{first, has, is}
+use Rattle.rt_rules.specs.Walks.{followers, walk}
+use Rattle.rt_model.specs.BaseKeys.{above, base_key}
 use Rattle.rt_model.specs.Blocking.{is_blocked}
-use Rattle.rt_model.specs.Boosts.{boosts_fmlp, boost, boost_of, boost_by}
+use Rattle.rt_model.specs.Boosts.{boost, boost_by, boost_of, boosts_fmlp}
 use Rattle.rt_model.specs.Ceilings.{is_pcp}
-use Rattle.rt_model.specs.EffectiveKeys.{next_by, next_at, waits_for, effective_key}
-use Rattle.rt_model.specs.Group.{Group, cpus, home, tasks, tasks_of, sems, protocol}
-use Rattle.rt_model.specs.Holders.{sem_state, holder, holds, awaits}
+use Rattle.rt_model.specs.EffectiveKeys.{effective_key, next_at, next_by, waits_for}
+use Rattle.rt_model.specs.Group.{Group, cpus, home, protocol, sems, tasks, tasks_of}
+use Rattle.rt_model.specs.Holders.{awaits, holder, holds, sem_state}
 use Rattle.rt_model.specs.Made.{IsMade}
 use Rattle.rt_model.specs.Past.{Past}
 use Rattle.rt_model.specs.Releases.{exists, ready}
 use Rattle.rt_model.specs.Sleep.{sleeps}
 use Rattle.rt_model.specs.Tops.{eligible, is_served, ranking, top}
-use Rattle.rt_rules.proofs.PlacingLaws.{either, or_true, equal_self, has-filter}
-use Rattle.rt_rules.proofs.RankedLaws.{tasks_ranked, has-sorted}
-use Rattle.rt_model.proofs.TopLaws.{tasks-ranked, distinct-top}
+use Rattle.rt_rules.proofs.BoolLaws.{both, clash, either, unless}
+use Rattle.rt_rules.proofs.DistinctLaws.{distinct-map}
+use Rattle.rt_rules.proofs.KeyLaws.{higher-mixed, higher-total, highest-of, highest-owner}
+use Rattle.rt_rules.proofs.MemberLaws.{has-filter, has-first, is_one, length-mapped, map-back, some-is, turned, none-is}
+use Rattle.rt_rules.proofs.RankedLaws.{has-sorted, tasks_ranked}
+use Rattle.rt_rules.proofs.RankingLaws.{cut-off, full-take, keys-map, keys-sorted, ranked-sorted}
 use Rattle.rt_model.proofs.PastLaws.{links-top, processor-home}
-use Rattle.rt_laws.specs.HolderIsLinked.{is_global, HasLinkedHolder, HolderIsLinked}
+use Rattle.rt_model.proofs.TopLaws.{distinct-top, tasks-ranked}
+use Rattle.rt_laws.specs.HolderIsLinked.{HasLinkedHolder, HolderIsLinked, is_global}
+use Rattle.rt_laws.proofs.BaseKeyLaws.{minor-is}
+use Rattle.rt_laws.proofs.Engaged.{holder-engaged, waiting-engaged}
+use Rattle.rt_laws.proofs.EngagedJobs.{IsActive, all_active}
+use Rattle.rt_laws.proofs.GroupLaws.{home-tasks_of, tasks_of-home, user-home, user-task}
+use Rattle.rt_laws.proofs.HasHolder.{has_holder}
+use Rattle.rt_laws.proofs.Holding.{one-holds}
+use Rattle.rt_laws.proofs.LinkedTasks.{top-eligible}
+use Rattle.rt_laws.proofs.OmlpCount.{not_blocked}
 use Rattle.rt_laws.proofs.Rules.{MeetsRules}
 use Rattle.rt_laws.proofs.ValidSets.{rules_of}
-use Rattle.rt_task.specs.RuleWords.{stands_under, is_of_one_cluster}
-use Rattle.rt_laws.proofs.Small.{unless, clash, both, turned, some-is, is_one, has-first}
-use Rattle.rt_laws.proofs.Waiting.{user-task, awaits-waits, none-waits}
-use Rattle.rt_laws.proofs.Linked.{top-eligible, home-tasks_of, tasks_of-home}
-use Rattle.rt_laws.proofs.KeyLaws.{higher-mixed, higher-total, highest-of}
-use Rattle.rt_laws.proofs.Ends.{one-holds}
-use Rattle.rt_laws.proofs.Engaged.{holder-engaged, waiting-engaged}
-use Rattle.rt_laws.proofs.Active.{IsActive, all_active}
-use Rattle.rt_laws.proofs.OmlpState.{minor-is, user-home}
-use Rattle.rt_laws.proofs.OmlpLaw.{not_blocked}
-use Rattle.rt_laws.proofs.Unmixed.{unmixed}
-use Rattle.rt_laws.proofs.Busy.{held-somewhere}
-use Rattle.rt_laws.proofs.Ranking.{ranked-sorted, keys-sorted, keys-map, cut-off, full-take}
+use Rattle.rt_laws.proofs.Waiting.{awaits-waits, none-waits}
+use Rattle.rt_laws.proofs.WaitsHolding.{waits_under_pcp}
 
 -- ---- under a global plugin
 
 global-omlp : (p : PluginKind) → is_global p ≡ true → stands_under Omlp p ≡ true
 global-omlp plugins.GsnEdf h = refl
 global-omlp plugins.CEdf h = refl
-global-omlp plugins.PsnEdf h = cc
-global-omlp plugins.PFp h = cc
-global-omlp plugins.PRes h = cc
+global-omlp p h = cc
 
 global-protocol : (p : PluginKind) (x : Protocol) → is_global p ≡ true → stands_under x p ≡ true → (is_pcp x ≡ false) × (is_of_one_cluster x p ≡ true)
 global-protocol plugins.GsnEdf Fmlp h k = (refl, refl)
 global-protocol plugins.GsnEdf Omlp h k = (refl, refl)
-global-protocol plugins.GsnEdf Pcp h k = cc
-global-protocol plugins.GsnEdf Mpcp h k = cc
 global-protocol plugins.CEdf Fmlp h k = (refl, refl)
 global-protocol plugins.CEdf Omlp h k = (refl, refl)
-global-protocol plugins.CEdf Pcp h k = cc
-global-protocol plugins.CEdf Mpcp h k = cc
-global-protocol plugins.PsnEdf x h k = cc
-global-protocol plugins.PFp x h k = cc
-global-protocol plugins.PRes x h k = cc
+global-protocol p x h k = cc
 
 global-served : (g : Group) (t : ℕ) (past : Past) (p : PluginKind) → is_global p ≡ true → is_served g p t past ≡ true
 unfolding is_served
 global-served g t past plugins.GsnEdf h = refl
 global-served g t past plugins.CEdf h = refl
-global-served g t past plugins.PsnEdf h = cc
-global-served g t past plugins.PFp h = cc
-global-served g t past plugins.PRes h = cc
+global-served g t past p h = cc
 
 global-boosts : (g : Group) (p : PluginKind) → is_global p ≡ true → boosts_fmlp p ≡ false
 global-boosts g plugins.GsnEdf h = refl
 global-boosts g plugins.CEdf h = refl
-global-boosts g plugins.PsnEdf h = cc
-global-boosts g plugins.PFp h = cc
-global-boosts g plugins.PRes h = cc
+global-boosts g p h = cc
 
 no_mpcp : (p : PluginKind) → is_global p ≡ true → stands_under Mpcp p ≡ false
 no_mpcp plugins.GsnEdf h = refl
 no_mpcp plugins.CEdf h = refl
-no_mpcp plugins.PsnEdf h = cc
-no_mpcp plugins.PFp h = cc
-no_mpcp plugins.PRes h = cc
+no_mpcp p h = cc
 
 global-unboosted : (g : Group) (x : Protocol) (s t : ℕ) (past : Past) → is_global g.setup.plugin ≡ true → stands_under x g.setup.plugin ≡ true → boost_by g x s t past ≡ None
 unfolding boost_by
@@ -94,44 +81,6 @@ global-unboosted g Fmlp s t past h k = rw (global-boosts g g.setup.plugin h)
 global-unboosted g Omlp s t past h k = refl
 global-unboosted g Pcp s t past h k = refl
 global-unboosted g Mpcp s t past h k = absurd (clash _ k (no_mpcp g.setup.plugin h))
-
--- ---- lists
-
-map-back : (f : ℕ → ℕ) (xs : List ℕ) (z : ℕ) → has z (map f xs) ≡ true → (x : ℕ) × (has x xs ≡ true) × (z ≡ f x)
-map-back f [] z h = cc
-map-back f (x ∷ xs) z h = split (either (z == f x) _ h) (map-back f xs z)
-  where
-    split : (z == f x ≡ true) ⊎ (has z (map f xs) ≡ true) → (has z (map f xs) ≡ true → (y : ℕ) × (has y xs ≡ true) × (z ≡ f y)) → (y : ℕ) × (has y (x ∷ xs) ≡ true) × (z ≡ f y)
-    split (inl k) r = (x, rw (equal_self x), eqb-true z (f x) k)
-    split (inr k) r = let q = r k in (q.0, rw q.1 (or_true (q.0 == x)), q.2)
-
-length-mapped : (f : ℕ → ℕ) (xs : List ℕ) → length (map f xs) ≡ length xs
-length-mapped f [] = refl
-length-mapped f (x ∷ xs) = ap suc (length-mapped f xs)
-
-distinct-map : (f : ℕ → ℕ) (xs : List ℕ) → IsDistinct xs → ((x y : ℕ) → has x xs ≡ true → has y xs ≡ true → f x ≡ f y → x ≡ y) → IsDistinct (map f xs)
-distinct-map f [] d inj = tt
-distinct-map f (x ∷ xs) d inj = (unless _ (λ h. met (map-back f xs (f x) h)), distinct-map f xs d.1 (λ y z h k. inj y z (rw h (or_true (y == x))) (rw k (or_true (z == x)))))
-  where
-    met : (y : ℕ) × (has y xs ≡ true) × (f x ≡ f y) → ⊥
-    met q = let same : x ≡ q.0 = inj x q.0 (rw (equal_self x)) (rw q.1 (or_true (q.0 == x))) q.2 in let m : has x xs ≡ true = rw same q.1 in clash _ m d.0
-
--- the highest key is that of the first or of one of the others
-highest-owner : (f : ℕ → Key) (x : ℕ) (us : List ℕ) → (y : ℕ) × ((y ≡ x) ⊎ (has y us ≡ true)) × (highest (f x) (map f us) ≡ f y)
-highest-owner f x [] = (x, inl refl, refl)
-highest-owner f x (v ∷ vs) = by_case (higher (f v) (f x)) (highest-owner f v vs) (highest-owner f x vs)
-  where
-    at_head : (y : ℕ) → (y ≡ v) ⊎ (has y vs ≡ true) → has y (v ∷ vs) ≡ true
-    at_head y (inl e) = rw (e, equal_self v)
-    at_head y (inr h) = rw h (or_true (y == v))
-
-    later : (y : ℕ) → (y ≡ x) ⊎ (has y vs ≡ true) → (y ≡ x) ⊎ (has y (v ∷ vs) ≡ true)
-    later y (inl e) = inl e
-    later y (inr h) = inr (rw h (or_true (y == v)))
-
-    by_case : (b : Bool) → (y : ℕ) × ((y ≡ v) ⊎ (has y vs ≡ true)) × (highest (f v) (map f vs) ≡ f y) → (y : ℕ) × ((y ≡ x) ⊎ (has y vs ≡ true)) × (highest (f x) (map f vs) ≡ f y) → (y : ℕ) × ((y ≡ x) ⊎ (has y (v ∷ vs) ≡ true)) × (highest (if b then f v else f x) (map f vs) ≡ f y)
-    by_case true p q = (p.0, inr (at_head p.0 p.1), p.2)
-    by_case false p q = (q.0, later q.0 q.1, q.2)
 
 module _ (g : Group) (rules : MeetsRules g) (past : Past) (made : IsMade g past) (global : is_global g.setup.plugin ≡ true) where
   sem-facts : (s : ℕ) → has s (sems g) ≡ true → (is_pcp (protocol g s) ≡ false) × (is_of_one_cluster (protocol g s) g.setup.plugin ≡ true)
@@ -169,7 +118,7 @@ module _ (g : Group) (rules : MeetsRules g) (past : Past) (made : IsMade g past)
 
   -- one that is followed does not wait
   followed-free : (t u : ℕ) → IsFollower t u → awaits g u past ≡ None
-  followed-free t u f = none-waits g u past (λ r hr. unless _ (λ w. clash _ (unmixed g rules made u f.sem r f.known hr f.held w).0 (sem-facts f.sem f.known).0))
+  followed-free t u f = none-waits g u past (λ r hr. unless _ (λ w. clash _ (waits_under_pcp g rules made u f.sem r f.known hr f.held w).0 (sem-facts f.sem f.known).0))
 
   -- a walk from a waiting task is one step long
   walk-one : (n t u : ℕ) → has u (walk (λ v. waits_for g v past) n (waits_for g t past)) ≡ true → is u (waits_for g t past) ≡ true
@@ -226,11 +175,7 @@ module _ (g : Group) (rules : MeetsRules g) (past : Past) (made : IsMade g past)
   unfolding eligible ready
   eligible-facts x h =
       let a = both (exists g x past && not (sleeps x past)) (is_none (awaits g x past) && is_served g g.setup.plugin x past) h in
-      ((both (exists g x past) (not (sleeps x past)) a.0).0, none (awaits g x past) (both (is_none (awaits g x past)) (is_served g g.setup.plugin x past) a.1).0)
-    where
-      none : (o : Option ℕ) → is_none o ≡ true → o ≡ None
-      none None k = refl
-      none (Some v) k = cc
+      ((both (exists g x past) (not (sleeps x past)) a.0).0, none-is (awaits g x past) (both (is_none (awaits g x past)) (is_served g g.setup.plugin x past) a.1).0)
 
   is-eligible : (x : ℕ) → exists g x past ≡ true → sleeps x past ≡ false → awaits g x past ≡ None → eligible g x past ≡ true
   unfolding eligible ready
@@ -321,7 +266,7 @@ module _ (g : Group) (rules : MeetsRules g) (past : Past) (made : IsMade g past)
           ys = map y_of (top g c past)
 
           y_is : (x y : ℕ) → IsOwner c x y → y_of x ≡ y
-          y_is x y o = ap (λ (k : Key). k.minor) o.key ∙ minor-is g y past (global-omlp g.setup.plugin global)
+          y_is x y o = ap (λ (k : Key). k.minor) o.key ∙ minor-is g y past Omlp (global-omlp g.setup.plugin global)
 
           no_higher : (x : ℕ) → has x (top g c past) ≡ true → higher (effective_key g u past) (effective_key g x past) ≡ false
           no_higher x k = cut-off (λ v. effective_key g v past) (cpus g c) ranked u x (keys-sorted (λ v. effective_key g v past) (map (λ v. record { key = effective_key g v past; task = v }) candidates) (keys-map (λ v. effective_key g v past) candidates)) (ranked-sorted (map (λ v. record { key = effective_key g v past; task = v }) candidates)) among (rw top_is at absent) (rw top_is at k)
@@ -340,7 +285,7 @@ module _ (g : Group) (rules : MeetsRules g) (past : Past) (made : IsMade g past)
           over_waiter : (x y : ℕ) → has x (top g c past) ≡ true → IsOwner c x y → above g past y t ≡ true
           over_waiter x y k o =
               let not_over : higher (base_key g t past) (effective_key g x past) ≡ false = unless _ (λ m. clash _ (higher-mixed (base_key g t past) (effective_key g u past) (effective_key g x past) lifted m) (no_higher x k)) in
-              let other : (base_key g t past).minor == (base_key g y past).minor ≡ false = rw (minor-is g t past (global-omlp g.setup.plugin global), minor-is g y past (global-omlp g.setup.plugin global)) (turned t y ∙ not_t x y k o) in
+              let other : (base_key g t past).minor == (base_key g y past).minor ≡ false = rw (minor-is g t past Omlp (global-omlp g.setup.plugin global), minor-is g y past Omlp (global-omlp g.setup.plugin global)) (turned t y ∙ not_t x y k o) in
               higher-total (base_key g t past) (base_key g y past) other (rw o.key at not_over)
 
           each : (y : ℕ) → has y ys ≡ true → (has y (tasks_of g (home g t)) ≡ true) × (exists g y past ≡ true) × (above g past y t ≡ true)
@@ -376,5 +321,5 @@ holder_is_linked g past valid made t s global w blocked = by_holder (holder g s 
     waits = awaits-waits g t s past w
 
     by_holder : (o : Option ℕ) → holder g s past ≡ o → HasLinkedHolder g s past
-    by_holder None e = let held : is_none {T = ℕ} None ≡ false = rw e at (held-somewhere g (rules_of g valid) made t s waits.0 (sem-facts g (rules_of g valid) past made global s waits.0).0 waits.1) in cc
+    by_holder None e = let held : is_none {T = ℕ} None ≡ false = rw e at (has_holder g (rules_of g valid) made t s waits.0 (sem-facts g (rules_of g valid) past made global s waits.0).0 waits.1) in cc
     by_holder (Some u) e = record { task = u; holds_it = e; linked = links-top g (home g u) (processor-home g (home g u)) made u ∙ holder-linked g (rules_of g valid) past made global t s u blocked w e }

@@ -1,26 +1,27 @@
 -- While a task's job does not end, its release and its base key stay, and what exists goes on existing.
-use Rattle.std.proofs.Common.{◌≡◌, ℕ, zero, suc, ◌≤◌, max, Bool, true, false, ◌&&◌, ◌||◌, cond, ◌⊎◌, inl, inr, List, [], ◌∷◌, ◌++◌, refl, sym, ◌∙◌, arith, leb-true, le-leb, ltb-false, le-ltb}
-use Rattle.std.specs.Prelude.{Option, None, Some, slice_get, nat_lt, if◌then◌else◌}
-use Rattle.rt_task.specs.declared.Kind.{Kind}
+use Rattle.std.proofs.Common.{Bool, List, [], arith, cond, false, inl, inr, le-leb, le-ltb, leb-true, ltb-false, max, refl, suc, sym, true, zero, ℕ, ◌&&◌, ◌++◌, ◌||◌, ◌∙◌, ◌∷◌, ◌≡◌, ◌≤◌, ◌⊎◌}
+use Rattle.std.specs.Prelude.{None, Option, Some, if◌then◌else◌, nat_lt, slice_get}
 use Rattle.rt_task.specs.declared.Kind.TheVariants.{Periodic, Sporadic}
-use Rattle.rt_task.specs.declared.PluginKind.{PluginKind}
+use Rattle.rt_task.specs.declared.Kind.{Kind}
 use Rattle.rt_task.specs.declared.PluginKind.TheVariants as plugins
-use Rattle.rt_model.specs.BaseKeys.{key_by, base_key}
+use Rattle.rt_task.specs.declared.PluginKind.{PluginKind}
+use Rattle.rt_model.specs.BaseKeys.{base_key, key_by}
 use Rattle.rt_model.specs.Group.{Group, task}
 use Rattle.rt_model.specs.Jobs.{done}
-use Rattle.rt_model.specs.Past.{Event, Clock, Acted, Past, now, did, ends_job, accepted}
-use Rattle.rt_model.specs.Releases.{arrivals, arrives, release_by, release, has_come, is_released, opens_early, exists, deadline}
-use Rattle.rt_model.specs.Sleep.{wakes, sleeps, sleep_end}
+use Rattle.rt_model.specs.Past.{Acted, Clock, Event, Past, accepted, did, ends_job, now}
+use Rattle.rt_model.specs.Releases.{arrivals, arrives, deadline, exists, has_come, is_released, opens_early, release, release_by}
+use Rattle.rt_model.specs.Sleep.{sleep_end, sleeps, wakes}
+use Rattle.rt_rules.proofs.BoolLaws.{both, either, or_true}
 use Rattle.rt_model.proofs.Steps.{done-step}
-use Rattle.rt_rules.proofs.PlacingLaws.{either, or_true}
 use Rattle.rt_laws.proofs.Rules.{MeetsRules}
-use Rattle.rt_laws.proofs.Small.{both}
 
-pub now-grows : (e : Event) (past : Past) → now past ≤ now (e ∷ past)
+-- the clock does not go back
+now-grows : (e : Event) (past : Past) → now past ≤ now (e ∷ past)
 now-grows (Clock tick) past = omega arith
 now-grows (Acted d) past = omega arith
 
-pub done-keeps : (t : ℕ) (e : Event) (past : Past) → ends_job t e ≡ false → done t (e ∷ past) ≡ done t past
+-- an event that ends no job of a task leaves how many have ended
+done-keeps : (t : ℕ) (e : Event) (past : Past) → ends_job t e ≡ false → done t (e ∷ past) ≡ done t past
 done-keeps t e past h = done-step t e past ∙ rw h
 
 slice_get-append : (xs ys : List ℕ) (k r : ℕ) → slice_get xs k ≡ Some r → slice_get (xs ++ ys) k ≡ Some r
@@ -61,7 +62,8 @@ early-periodic : (g : Group) → MeetsRules g → (t : ℕ) (past : Past) → op
 unfolding opens_early
 early-periodic g rules t past h = rules.is_periodic t (both (task g t).early (nat_lt 0 (done t past)) h).0
 
-pub release-keeps : (g : Group) → MeetsRules g → (t : ℕ) (e : Event) (past : Past) → exists g t past ≡ true → ends_job t e ≡ false → release g t (e ∷ past) ≡ release g t past
+-- while a job that is there goes on, its release stays
+release-keeps : (g : Group) → MeetsRules g → (t : ℕ) (e : Event) (past : Past) → exists g t past ≡ true → ends_job t e ≡ false → release g t (e ∷ past) ≡ release g t past
 unfolding release release_by
 release-keeps g rules t e past h k = rw (done-keeps t e past k) (split (there_by g t past h))
   where
@@ -71,6 +73,7 @@ release-keeps g rules t e past h k = rw (done-keeps t e past k) (split (there_by
         release_by-keeps g (task g t).kind t (done t past) r.0 e past r.1 ∙ sym r.1
     split (inr m) = rw (early-periodic g rules t past m)
 
+-- while a job that is there goes on, it stays there
 pub exists-keeps : (g : Group) → MeetsRules g → (t : ℕ) (e : Event) (past : Past) → exists g t past ≡ true → ends_job t e ≡ false → exists g t (e ∷ past) ≡ true
 unfolding exists is_released opens_early
 exists-keeps g rules t e past h k = split (there_by g t past h)
@@ -82,6 +85,7 @@ exists-keeps g rules t e past h k = split (there_by g t past h)
         rw (same, le-leb r.0 (now (e ∷ past)) (omega (arith, now-grows e past, r.2)))
     split (inr m) = rw (done-keeps t e past k, m) (or_true (has_come (now (e ∷ past)) (release g t (e ∷ past))))
 
+-- while a job that is there goes on, its base key stays
 pub base_key-keeps : (g : Group) → MeetsRules g → (t : ℕ) (e : Event) (past : Past) → exists g t past ≡ true → ends_job t e ≡ false → base_key g t (e ∷ past) ≡ base_key g t past
 unfolding base_key deadline key_by
 base_key-keeps g rules t e past h k = by_plugin g.setup.plugin

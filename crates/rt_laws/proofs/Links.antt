@@ -1,24 +1,24 @@
 -- Each task has one processor at most, and that is of its cluster.
-use Rattle.std.proofs.Common.{◌≡◌, ℕ, ◌≤◌, ◌-◌, true, length, sym, ◌∙◌, subst, arith}
+use Rattle.std.proofs.Common.{arith, length, subst, sym, true, ℕ, ◌-◌, ◌∙◌, ◌≡◌, ◌≤◌}
 use Rattle.std.specs.Prelude.{Some}
 use Rattle.rt_rules.specs.Distinct.{IsDistinct}
 use Rattle.rt_rules.specs.Numbers.{is}
-use Rattle.rt_rules.specs.Placing.{tasks_in, at_place}
-use Rattle.rt_rules.proofs.LinkLaws.{distinct-placed, one_place}
-use Rattle.rt_rules.proofs.NumberLaws.{has-numbers_from}
-use Rattle.rt_model.specs.Group.{Group, cpus, home, processors, first_cpu}
-use Rattle.rt_model.specs.Links.{links, linked, runs_of}
+use Rattle.rt_rules.specs.Placing.{at_place, tasks_in}
+use Rattle.rt_model.specs.Group.{Group, cpus, first_cpu, home, processors}
+use Rattle.rt_model.specs.Links.{linked, links, runs_of}
 use Rattle.rt_model.specs.Made.{IsMade}
 use Rattle.rt_model.specs.Past.{Past}
 use Rattle.rt_model.specs.Tops.{top}
-use Rattle.rt_model.proofs.PastLaws.{IsSingle, single, links-top, processor-home}
+use Rattle.rt_rules.proofs.DistinctLaws.{length-distinct}
+use Rattle.rt_rules.proofs.LinkLaws.{distinct-placed, one_place}
+use Rattle.rt_rules.proofs.MemberLaws.{some-is}
+use Rattle.rt_rules.proofs.NumberLaws.{has-numbers_from}
+use Rattle.rt_model.proofs.PastLaws.{IsSingle, links-top, processor-home, single}
 use Rattle.rt_model.proofs.TopLaws.{distinct-top, length-top}
-use Rattle.rt_laws.specs.Links.{RunsOnOne, LinkedToOne, RunsAtHome, LinkedAtHome, LinksFit}
-use Rattle.rt_laws.proofs.ValidSets.{rules_of}
-use Rattle.rt_laws.proofs.Small.{some-is}
-use Rattle.rt_laws.proofs.Linked.{IsLinked, linked-eligible}
+use Rattle.rt_laws.specs.Links.{LinkedAtHome, LinkedToOne, LinksFit, RunsAtHome, RunsOnOne}
+use Rattle.rt_laws.proofs.LinkedTasks.{IsLinked, linked-eligible}
 use Rattle.rt_laws.proofs.Running.{running, runs_once}
-use Rattle.rt_laws.proofs.FmlpLaw.{length-distinct}
+use Rattle.rt_laws.proofs.ValidSets.{rules_of}
 
 -- the links of a cluster have no task twice
 links-distinct : (g : Group) (c : ℕ) {past : Past} → IsMade g past → IsDistinct (tasks_in (links g c past))

@@ -1,32 +1,34 @@
 -- What the next event of a past does: who asks and who frees, and that a task which holds or waits goes on.
-use Rattle.std.proofs.Common.{◌≡◌, ℕ, Bool, true, false, ◌&&◌, ◌⊎◌, inl, inr, ◌∷◌, refl}
+use Rattle.std.proofs.Common.{Bool, false, inl, inr, refl, true, ℕ, ◌&&◌, ◌∷◌, ◌≡◌, ◌⊎◌}
 use Rattle.std.specs.Prelude.{None, Some, if◌then◌else◌}
-use Rattle.rt_task.specs.declared.Act.{Act}
 use Rattle.rt_task.specs.declared.Act.TheVariants as acts
-use Rattle.rt_task.specs.declared.Op.{Op}
+use Rattle.rt_task.specs.declared.Act.{Act}
 use Rattle.rt_task.specs.declared.Op.TheVariants as ops
+use Rattle.rt_task.specs.declared.Op.{Op}
 use Rattle.rt_history.specs.declared.Reply.TheVariants as replies
 use Rattle.rt_rules.specs.Numbers.{has, is, is_empty}
 use Rattle.rt_rules.specs.SemState.{Asks}
 use Rattle.rt_model.specs.Answers.{answer, do_answer, op_answer, unless_holding}
 use Rattle.rt_model.specs.Group.{Group, sems}
-use Rattle.rt_model.specs.Holders.{sem_state, holder, holds}
+use Rattle.rt_model.specs.Holders.{holder, holds, sem_state}
 use Rattle.rt_model.specs.Made.{IsMade}
 use Rattle.rt_model.specs.NonPreemptive.{non_preemptive}
 use Rattle.rt_model.specs.Outcomes.{past_act}
-use Rattle.rt_model.specs.Past.{Event, Acted, Past, now, accepted, operation, did, ends_job, sem_act}
+use Rattle.rt_model.specs.Past.{Acted, Event, Past, accepted, did, ends_job, now, operation, sem_act}
 use Rattle.rt_model.specs.Runs.{runs}
 use Rattle.rt_model.specs.Semaphores.{cluster_of}
 use Rattle.rt_model.specs.Sleep.{sleep_end}
-use Rattle.rt_laws.proofs.Rules.{MeetsRules}
-use Rattle.rt_laws.proofs.Small.{unless, clash, is-some}
-use Rattle.rt_laws.proofs.Requests.{asks}
-use Rattle.rt_laws.proofs.Running.{running}
+use Rattle.rt_rules.proofs.BoolLaws.{clash, unless}
+use Rattle.rt_rules.proofs.MemberLaws.{is-some}
+use Rattle.rt_laws.proofs.Asked.{Asked, Freed, asked, freed}
+use Rattle.rt_laws.proofs.Engaged.{engaged, engaged-cases, engaged-step}
+use Rattle.rt_laws.proofs.Holding.{holds-none}
+use Rattle.rt_laws.proofs.JobEnds.{ended-free}
 use Rattle.rt_laws.proofs.Moves.{IsMove, clock_moves, cpu_acts}
-use Rattle.rt_laws.proofs.Asked.{Asked, Freed, asked, freed, holds-none}
-use Rattle.rt_laws.proofs.Pcp.{pcp_kept}
-use Rattle.rt_laws.proofs.Engaged.{engaged, engaged-step, engaged-cases}
-use Rattle.rt_laws.proofs.Ends.{ended-free}
+use Rattle.rt_laws.proofs.PcpState.{pcp_kept}
+use Rattle.rt_laws.proofs.Requests.{asks}
+use Rattle.rt_laws.proofs.Rules.{MeetsRules}
+use Rattle.rt_laws.proofs.Running.{running}
 
 -- an accepted Sleep comes from a task that holds nothing
 sleep-holds_nothing : (g : Group) (q t n : ℕ) (past : Past) → runs q past ≡ Some t → accepted (answer g q (acts.Do (ops.Sleep n)) past) ≡ true → is_empty (holds g t past) ≡ true
@@ -79,12 +81,14 @@ awake-act g rules {past} made q t s act there h = split (sleep-is g q t (now pas
     split (inl k) = k
     split (inr k) = absurd (asleep k.0 k.1 k.2 k.3 (engaged-step g t s (Acted (past_act g q act past)) past h))
 
+-- what the next event does: who asks, who frees, and that whoever is engaged after it goes on and stays awake
 pub record IsNext (g : Group) (e : Event) (past : Past) : Type 0 where
   pub asked : Asked g e past
   pub freed : Freed g e past
   pub goes_on : (t s : ℕ) → has s (sems g) ≡ true → engaged g t s (e ∷ past) ≡ true → ends_job t e ≡ false
   pub awake : (t s : ℕ) → has s (sems g) ≡ true → engaged g t s (e ∷ past) ≡ true → sleep_end (now past) (did t e) ≡ 0
 
+-- so does each move
 pub next : (g : Group) → MeetsRules g → {past : Past} {e : Event} → IsMade g past → IsMove g past e → IsNext g e past
 next g rules {past} {e} made move = record {
   asked = asked g rules made move;

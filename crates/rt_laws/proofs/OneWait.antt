@@ -1,19 +1,20 @@
 -- A task waits for at most one semaphore.
-use Rattle.std.proofs.Common.{◌≡◌, ℕ, true, false, ◌⊎◌, inl, inr, ◌∷◌, refl, ap}
-use Rattle.std.specs.Prelude.{Option, None, Some}
+use Rattle.std.proofs.Common.{ap, false, inl, inr, refl, true, ℕ, ◌∷◌, ◌≡◌, ◌⊎◌}
+use Rattle.std.specs.Prelude.{None, Option, Some}
 use Rattle.rt_rules.specs.Numbers.{has}
 use Rattle.rt_rules.specs.SemState.{Asks}
 use Rattle.rt_model.specs.Answers.{is_granted}
-use Rattle.rt_model.specs.Group.{Group, sems, protocol}
-use Rattle.rt_model.specs.Holders.{sem_state, awaits}
+use Rattle.rt_model.specs.Group.{Group, protocol, sems}
+use Rattle.rt_model.specs.Holders.{awaits, sem_state}
 use Rattle.rt_model.specs.Made.{IsMade}
 use Rattle.rt_model.specs.Past.{Event, Past, sem_act}
-use Rattle.rt_laws.proofs.Rules.{MeetsRules}
-use Rattle.rt_laws.proofs.Small.{clash}
-use Rattle.rt_laws.proofs.Waiting.{waiting-step, nobody-waits, waits-none, awaits-waits}
-use Rattle.rt_laws.proofs.Moves.{by_moves}
+use Rattle.rt_rules.proofs.BoolLaws.{clash}
 use Rattle.rt_laws.proofs.Asked.{Asked, asked}
+use Rattle.rt_laws.proofs.Moves.{by_moves}
+use Rattle.rt_laws.proofs.Rules.{MeetsRules}
+use Rattle.rt_laws.proofs.Waiting.{awaits-waits, nobody-waits, waiting-step, waits-none}
 
+-- a task waits for at most one semaphore
 abbrev pub WaitsOnce : Group → Past → Type 0
 WaitsOnce g past = (t s r : ℕ) → has s (sems g) ≡ true → has r (sems g) ≡ true → has t (sem_state g s past).waiting ≡ true → has t (sem_state g r past).waiting ≡ true → s ≡ r
 
@@ -26,6 +27,7 @@ waits_once-step g rules e past asks before t s r hs hr h k = split (waiting-step
     split (inr m) (inl n) = absurd (clash _ n ((asks t s m.0).waits_none r hr))
     split (inr m) (inr n) = let a : sem_act e ≡ Asks t s = m.0 in let b : sem_act e ≡ Asks t r = n.0 in cc
 
+-- so it is after every move
 pub waits_once : (g : Group) → MeetsRules g → {past : Past} → IsMade g past → WaitsOnce g past
 waits_once g rules made = by_moves g (WaitsOnce g) (λ t s r hs hr h k. absurd (clash _ h (nobody-waits g t s))) (λ past e made move before. waits_once-step g rules e past (asked g rules made move) before) made
 

@@ -1,160 +1,116 @@
--- PCP: what is kept of the grants. A newer grant passed what others held before it, and who waits does not pass.
-use Rattle.std.proofs.Common.{◌≡◌, ℕ, Bool, true, false, not, ◌&&◌, ◌||◌, cond, ◌⊎◌, inl, inr, eqb-true, List, [], ◌∷◌, ◌++◌, refl, ap, ◌∙◌}
-use Rattle.std.specs.Prelude.{◌==◌, if◌then◌else◌, ⊤}
-use Rattle.std.specs.List.{list_all}
-use Rattle.rt_rules.specs.Pcp.{PcpState, TaskSem, pcp_after, of_others, without_pair, is_same_pair, granted, tested, passes, by_key, in_order}
-use Rattle.rt_rules.specs.SemState.{SemAct, Asks, Frees, Neither}
-use Rattle.rt_rules.proofs.PlacingLaws.{either}
-use Rattle.rt_laws.proofs.Small.{unless, clash, both}
-use Rattle.rt_laws.proofs.Waits.{has_pair, has_pair-without_pair, has_pair-append}
+-- PCP: the two kept facts over every past, and that no semaphore has two holders.
+use Rattle.std.proofs.Common.{ap, List, [], false, inl, inr, refl, sym, true, ℕ, ◌∙◌, ◌∷◌, ◌≡◌, ◌⊎◌}
+use Rattle.std.specs.Prelude.{None, Option, Some}
+use Rattle.rt_rules.specs.Numbers.{first, has, is}
+use Rattle.rt_rules.specs.Pcp.{PcpState, of_sem, passes, pcp_after}
+use Rattle.rt_rules.specs.SemState.{Asks, SemAct}
+use Rattle.rt_model.specs.BaseKeys.{above, base_key}
+use Rattle.rt_model.specs.Ceilings.{above_ceiling, at_cluster, ceiling, is_pcp, lowest_key, pcp}
+use Rattle.rt_model.specs.Group.{Group, home, protocol, users}
+use Rattle.rt_model.specs.Made.{IsMade}
+use Rattle.rt_model.specs.Past.{Event, Past, sem_act}
+use Rattle.rt_rules.proofs.KeyLaws.{highest-of}
+use Rattle.rt_rules.proofs.MemberLaws.{equal_self, has-first, some-is}
+use Rattle.rt_rules.proofs.PairLaws.{has-of_sem, has_pair}
+use Rattle.rt_rules.proofs.PcpLaws.{IsStack, one_holder_of, pcp-held, pcp-waits, stack-step}
+use Rattle.rt_laws.proofs.Asked.{Asked, asked}
+use Rattle.rt_laws.proofs.AtSem.{at_cluster-asks}
+use Rattle.rt_laws.proofs.Moves.{by_moves}
+use Rattle.rt_task.specs.declared.Protocol.{Protocol}
+use Rattle.rt_task.specs.declared.Protocol.TheVariants.{Pcp}
+use Rattle.rt_rules.specs.Pcp.{pcp_sem_state}
+use Rattle.rt_rules.specs.SemState.{SemState}
+use Rattle.rt_model.specs.Holders.{sem_state, sem_state_by, holder}
+use Rattle.rt_model.specs.Semaphores.{cluster_of}
+use Rattle.rt_laws.proofs.GroupLaws.{user-home, pcp-shares}
+use Rattle.rt_laws.proofs.Rules.{MeetsRules}
 
-abbrev pub IsStacked : (ℕ → ℕ → Bool) → List TaskSem → Type 0
-IsStacked above_ceiling [] = ⊤
-IsStacked above_ceiling (p ∷ ps) = (passes above_ceiling ps p.task ≡ true) × IsStacked above_ceiling ps
+-- a user of a semaphore is not over its ceiling
+pub user-not_over : (g : Group) (t s : ℕ) → has t (users g s) ≡ true → above_ceiling g t s ≡ false
+unfolding above_ceiling ceiling
+user-not_over g t s h = highest-of (λ u. base_key g u []) t (users g s) (lowest_key) h
 
-pub record IsStack (above_ceiling : ℕ → ℕ → Bool) (l : PcpState) : Type 0 where
-  pub stacked : IsStacked above_ceiling l.held
-  pub blocked : (t s : ℕ) → has_pair t s l.waiting ≡ true → passes above_ceiling l.held t ≡ false
+-- a task that holds or waits is a user of the semaphore, and of the cluster
+pub record IsUser (g : Group) (c t s : ℕ) : Type 0 where
+  pub user : has t (users g s) ≡ true
+  pub at_home : home g t ≡ c
+  pub of_pcp : is_pcp (protocol g s) ≡ true
 
--- ---- passing
+-- what PCP keeps of a cluster
+pub record IsPcpKept (g : Group) (c : ℕ) (l : PcpState) : Type 0 where
+  pub stack : IsStack (above_ceiling g) l
+  pub held : (t s : ℕ) → has_pair t s l.held ≡ true → IsUser g c t s
+  pub waiting : (t s : ℕ) → has_pair t s l.waiting ≡ true → IsUser g c t s
 
-pub passes-cons : (above_ceiling : ℕ → ℕ → Bool) (p : TaskSem) (ps : List TaskSem) (t : ℕ) → passes above_ceiling (p ∷ ps) t ≡ (p.task == t || above_ceiling t p.sem) && passes above_ceiling ps t
-passes-cons above_ceiling p ps t = by_case (p.task == t)
-  where
-    by_case : (b : Bool) → list_all (λ x. above_ceiling t x.sem) (cond (not b) (p ∷ of_others t ps) (of_others t ps)) ≡ (b || above_ceiling t p.sem) && passes above_ceiling ps t
-    by_case true = refl
-    by_case false = refl
-
-pub passes-more : (above_ceiling : ℕ → ℕ → Bool) (p : TaskSem) (ps : List TaskSem) (t : ℕ) → passes above_ceiling ps t ≡ false → passes above_ceiling (p ∷ ps) t ≡ false
-passes-more above_ceiling p ps t h = rw (passes-cons, h) (last (p.task == t || above_ceiling t p.sem))
-  where
-    last : (b : Bool) → b && false ≡ false
-    last true = refl
-    last false = refl
-
-passes-without_pair : (above_ceiling : ℕ → ℕ → Bool) (q : TaskSem) (ps : List TaskSem) (t : ℕ) → passes above_ceiling ps t ≡ true → passes above_ceiling (without_pair q ps) t ≡ true
-passes-without_pair above_ceiling q [] t h = refl
-passes-without_pair above_ceiling q (p ∷ ps) t h = by_case (is_same_pair q p) (both (p.task == t || above_ceiling t p.sem) (passes above_ceiling ps t) (rw passes-cons at h)) (passes-without_pair above_ceiling q ps t)
-  where
-    by_case : (b : Bool) → (p.task == t || above_ceiling t p.sem ≡ true) × (passes above_ceiling ps t ≡ true) → (passes above_ceiling ps t ≡ true → passes above_ceiling (without_pair q ps) t ≡ true) → passes above_ceiling (cond (not b) (p ∷ without_pair q ps) (without_pair q ps)) t ≡ true
-    by_case true k r = r k.1
-    by_case false k r = rw (passes-cons above_ceiling p (without_pair q ps) t, k.0, r k.1)
-
--- what one passes it is over, where another holds it
-pub passes-above_ceiling : (above_ceiling : ℕ → ℕ → Bool) (ps : List TaskSem) (t u s : ℕ) → passes above_ceiling ps t ≡ true → has_pair u s ps ≡ true → u == t ≡ false → above_ceiling t s ≡ true
-passes-above_ceiling above_ceiling [] t u s h k ne = cc
-passes-above_ceiling above_ceiling (p ∷ ps) t u s h k ne = split (both _ _ (rw passes-cons at h)) (either (u == p.task && s == p.sem) _ k) (λ a b. passes-above_ceiling above_ceiling ps t u s a b ne)
-  where
-    here : (a b : Bool) → a || b ≡ true → a ≡ false → b ≡ true
-    here true b m n = cc
-    here false b m n = m
-
-    split : (p.task == t || above_ceiling t p.sem ≡ true) × (passes above_ceiling ps t ≡ true) → (u == p.task && s == p.sem ≡ true) ⊎ (has_pair u s ps ≡ true) → (passes above_ceiling ps t ≡ true → has_pair u s ps ≡ true → above_ceiling t s ≡ true) → above_ceiling t s ≡ true
-    split q (inl m) r = let e = both (u == p.task) (s == p.sem) m in let a : u ≡ p.task = eqb-true u p.task e.0 in let b : s ≡ p.sem = eqb-true s p.sem e.1 in rw b (here (p.task == t) (above_ceiling t p.sem) q.0 (rw a at ne))
-    split q (inr m) r = r q.1 m
-
--- ---- the tries
-
-pub has_pair-by_key : (above : ℕ → ℕ → Bool) (t s : ℕ) (p : TaskSem) (qs : List TaskSem) → has_pair t s (by_key above p qs) ≡ (t == p.task && s == p.sem) || has_pair t s qs
-has_pair-by_key above t s p [] = refl
-has_pair-by_key above t s p (q ∷ qs) = by_case (above p.task q.task) (has_pair-by_key above t s p qs)
-  where
-    middle : (a x u : Bool) → a || (x || u) ≡ x || (a || u)
-    middle true true u = refl
-    middle true false u = refl
-    middle false x u = refl
-
-    by_case : (b : Bool) → has_pair t s (by_key above p qs) ≡ (t == p.task && s == p.sem) || has_pair t s qs → has_pair t s (cond b (p ∷ q ∷ qs) (q ∷ by_key above p qs)) ≡ (t == p.task && s == p.sem) || ((t == q.task && s == q.sem) || has_pair t s qs)
-    by_case true h = refl
-    by_case false h = rw h (middle (t == q.task && s == q.sem) (t == p.task && s == p.sem) (has_pair t s qs))
-
-pub has_pair-in_order : (above : ℕ → ℕ → Bool) (t s : ℕ) (ps : List TaskSem) → has_pair t s (in_order above ps) ≡ has_pair t s ps
-has_pair-in_order above t s [] = refl
-has_pair-in_order above t s (p ∷ ps) = has_pair-by_key above t s p (in_order above ps) ∙ ap (λ b. (t == p.task && s == p.sem) || b) (has_pair-in_order above t s ps)
-
-pub without_pair-gone : (p : TaskSem) (ps : List TaskSem) → has_pair p.task p.sem (without_pair p ps) ≡ false
-without_pair-gone p [] = refl
-without_pair-gone p (q ∷ qs) = by_case (p.task == q.task) (p.sem == q.sem) refl refl (without_pair-gone p qs)
-  where
-    by_case : (a b : Bool) → p.task == q.task ≡ a → p.sem == q.sem ≡ b → has_pair p.task p.sem (without_pair p qs) ≡ false → has_pair p.task p.sem (cond (not (a && b)) (q ∷ without_pair p qs) (without_pair p qs)) ≡ false
-    by_case true true e k h = h
-    by_case true false e k h = rw (e, k) h
-    by_case false b e k h = rw e h
-
-tested-blocked : (above_ceiling : ℕ → ℕ → Bool) (t : ℕ) (ps : List TaskSem) (l : PcpState) → passes above_ceiling l.held t ≡ false → passes above_ceiling (tested above_ceiling ps l).held t ≡ false
-tested-blocked above_ceiling t [] l h = h
-tested-blocked above_ceiling t (p ∷ ps) l h = tested-blocked above_ceiling t ps (if passes above_ceiling l.held p.task then granted p l else l) (by_case (passes above_ceiling l.held p.task))
-  where
-    by_case : (b : Bool) → passes above_ceiling (cond b (granted p l) l).held t ≡ false
-    by_case true = passes-more above_ceiling p l.held t h
-    by_case false = h
-
-tested-gone : (above_ceiling : ℕ → ℕ → Bool) (t s : ℕ) (ps : List TaskSem) (l : PcpState) → has_pair t s l.waiting ≡ false → has_pair t s (tested above_ceiling ps l).waiting ≡ false
-tested-gone above_ceiling t s [] l h = h
-tested-gone above_ceiling t s (p ∷ ps) l h = tested-gone above_ceiling t s ps (if passes above_ceiling l.held p.task then granted p l else l) (by_case (passes above_ceiling l.held p.task))
-  where
-    by_case : (b : Bool) → has_pair t s (cond b (granted p l) l).waiting ≡ false
-    by_case true = unless _ (λ k. clash _ (has_pair-without_pair t s p l.waiting k) h)
-    by_case false = h
-
--- who was tried and still waits does not pass
-tested-waits : (above_ceiling : ℕ → ℕ → Bool) (t s : ℕ) (ps : List TaskSem) (l : PcpState) → has_pair t s ps ≡ true → has_pair t s (tested above_ceiling ps l).waiting ≡ true → passes above_ceiling (tested above_ceiling ps l).held t ≡ false
-tested-waits above_ceiling t s [] l h k = cc
-tested-waits above_ceiling t s (p ∷ ps) l h k = split (either (t == p.task && s == p.sem) _ h) (λ m. tested-waits above_ceiling t s ps (if passes above_ceiling l.held p.task then granted p l else l) m k)
-  where
-    at_head : t ≡ p.task → s ≡ p.sem → (b : Bool) → passes above_ceiling l.held p.task ≡ b → has_pair t s (tested above_ceiling ps (if b then granted p l else l)).waiting ≡ true → passes above_ceiling (tested above_ceiling ps (if b then granted p l else l)).held t ≡ false
-    at_head a b true e m = let gone : has_pair t s (without_pair p l.waiting) ≡ false = rw (a, b) (without_pair-gone p l.waiting) in absurd (clash _ m (tested-gone above_ceiling t s ps (granted p l) gone))
-    at_head a b false e m = tested-blocked above_ceiling t ps l (rw a e)
-
-    split : (t == p.task && s == p.sem ≡ true) ⊎ (has_pair t s ps ≡ true) → (has_pair t s ps ≡ true → passes above_ceiling (tested above_ceiling ps (if passes above_ceiling l.held p.task then granted p l else l)).held t ≡ false) → passes above_ceiling (tested above_ceiling ps (if passes above_ceiling l.held p.task then granted p l else l)).held t ≡ false
-    split (inl m) r = let e = both (t == p.task) (s == p.sem) m in at_head (eqb-true t p.task e.0) (eqb-true s p.sem e.1) (passes above_ceiling l.held p.task) refl k
-    split (inr m) r = r m
-
-tested-stacked : (above_ceiling : ℕ → ℕ → Bool) (ps : List TaskSem) (l : PcpState) → IsStacked above_ceiling l.held → IsStacked above_ceiling (tested above_ceiling ps l).held
-tested-stacked above_ceiling [] l h = h
-tested-stacked above_ceiling (p ∷ ps) l h = tested-stacked above_ceiling ps (if passes above_ceiling l.held p.task then granted p l else l) (by_case (passes above_ceiling l.held p.task) refl)
-  where
-    by_case : (b : Bool) → passes above_ceiling l.held p.task ≡ b → IsStacked above_ceiling (cond b (granted p l) l).held
-    by_case true e = (e, h)
-    by_case false e = h
-
-stacked-without_pair : (above_ceiling : ℕ → ℕ → Bool) (q : TaskSem) (ps : List TaskSem) → IsStacked above_ceiling ps → IsStacked above_ceiling (without_pair q ps)
-stacked-without_pair above_ceiling q [] h = tt
-stacked-without_pair above_ceiling q (p ∷ ps) h = by_case (is_same_pair q p) (stacked-without_pair above_ceiling q ps h.1)
-  where
-    by_case : (b : Bool) → IsStacked above_ceiling (without_pair q ps) → IsStacked above_ceiling (cond (not b) (p ∷ without_pair q ps) (without_pair q ps))
-    by_case true r = r
-    by_case false r = (passes-without_pair above_ceiling q ps p.task h.0, r)
-
-tested-from : (above_ceiling : ℕ → ℕ → Bool) (t s : ℕ) (ps : List TaskSem) (l : PcpState) → has_pair t s (tested above_ceiling ps l).waiting ≡ true → has_pair t s l.waiting ≡ true
-tested-from above_ceiling t s ps l h = by_case (has_pair t s l.waiting) refl
-  where
-    by_case : (b : Bool) → has_pair t s l.waiting ≡ b → b ≡ true
-    by_case true e = refl
-    by_case false e = absurd (clash _ h (tested-gone above_ceiling t s ps l e))
-
-pub stack-step : (above above_ceiling : ℕ → ℕ → Bool) (x : SemAct) (l : PcpState) → IsStack above_ceiling l → IsStack above_ceiling (pcp_after above above_ceiling x l)
-stack-step above above_ceiling (Asks u r) l k = by_case (passes above_ceiling l.held u) refl
-  where
-    by_case : (b : Bool) → passes above_ceiling l.held u ≡ b → IsStack above_ceiling (cond b (record l { held = record { task = u; sem = r } ∷ l.held }) (record l { waiting = l.waiting ++ record { task = u; sem = r } ∷ [] }))
-    by_case true e = record {
-      stacked = (e, k.stacked);
-      blocked = λ t s h. passes-more above_ceiling (record { task = u; sem = r }) l.held t (k.blocked t s h);
-    }
-    by_case false e = record {
-      stacked = k.stacked;
-      blocked = λ t s h. split t s (either (has_pair t s l.waiting) _ (rw has_pair-append at h));
-    }
-      where
-        or_false : (a : Bool) → a || false ≡ true → a ≡ true
-        or_false true n = refl
-        or_false false n = cc
-
-        split : (t s : ℕ) → (has_pair t s l.waiting ≡ true) ⊎ ((t == u && s == r) || false ≡ true) → passes above_ceiling l.held t ≡ false
-        split t s (inl m) = k.blocked t s m
-        split t s (inr m) = rw (eqb-true t u (both (t == u) (s == r) (or_false _ m)).0) e
-stack-step above above_ceiling (Frees u r) l k = record {
-  stacked = tested-stacked above_ceiling (in_order above l.waiting) _ (stacked-without_pair above_ceiling (record { task = u; sem = r }) l.held k.stacked);
-  blocked = λ t s h. tested-waits above_ceiling t s (in_order above l.waiting) (record l { held = without_pair (record { task = u; sem = r }) l.held }) (rw has_pair-in_order (tested-from above_ceiling t s (in_order above l.waiting) (record l { held = without_pair (record { task = u; sem = r }) l.held }) h)) h;
+pcp_kept-step : (g : Group) (c : ℕ) (x : SemAct) (l : PcpState) → ((t s : ℕ) → x ≡ Asks t s → IsUser g c t s) → IsPcpKept g c l → IsPcpKept g c (pcp_after (above g []) (above_ceiling g) x l)
+pcp_kept-step g c x l asked k = record {
+  stack = stack-step (above g []) (above_ceiling g) x l k.stack;
+  held = λ t s h. held t s (pcp-held (above g []) (above_ceiling g) t s x l h);
+  waiting = λ t s h. waiting t s (pcp-waits (above g []) (above_ceiling g) t s x l h);
 }
-stack-step above above_ceiling Neither l k = k
+  where
+    held : (t s : ℕ) → ((has_pair t s l.held ≡ true) ⊎ (has_pair t s l.waiting ≡ true)) ⊎ (x ≡ Asks t s) → IsUser g c t s
+    held t s (inl (inl m)) = k.held t s m
+    held t s (inl (inr m)) = k.waiting t s m
+    held t s (inr m) = asked t s m
+
+    waiting : (t s : ℕ) → (has_pair t s l.waiting ≡ true) ⊎ (x ≡ Asks t s) × (passes (above_ceiling g) l.held t ≡ false) → IsUser g c t s
+    waiting t s (inl m) = k.waiting t s m
+    waiting t s (inr m) = asked t s m.0
+
+pcp_kept-event : (g : Group) (c : ℕ) (e : Event) (past : Past) → Asked g e past → IsPcpKept g c (pcp g c past) → IsPcpKept g c (pcp g c (e ∷ past))
+unfolding pcp
+pcp_kept-event g c e past asks k = pcp_kept-step g c (at_cluster g c (sem_act e)) (pcp g c past) user k
+  where
+    user : (t s : ℕ) → at_cluster g c (sem_act e) ≡ Asks t s → IsUser g c t s
+    user t s h = let q = at_cluster-asks g c t s (sem_act e) h in record { user = (asks t s q.0).user; at_home = q.1; of_pcp = q.2 }
+
+-- so it is after every move
+pub pcp_kept : (g : Group) → MeetsRules g → (c : ℕ) → {past : Past} → IsMade g past → IsPcpKept g c (pcp g c past)
+unfolding pcp
+pcp_kept g rules c made = by_moves g (λ past. IsPcpKept g c (pcp g c past)) (record { stack = record { stacked = tt; blocked = λ t s h. cc }; held = λ t s h. cc; waiting = λ t s h. cc }) (λ past e made move before. pcp_kept-event g c e past (asked g rules made move) before) made
+
+-- who holds is the first that the list of grants names
+pub pcp-first : (g : Group) (c t s : ℕ) (l : PcpState) → IsPcpKept g c l → has_pair t s l.held ≡ true → is t (first (of_sem s l.held)) ≡ true
+pcp-first g c t s l k h = by_case (first (of_sem s l.held)) refl
+  where
+    there : has t (of_sem s l.held) ≡ true
+    there = rw has-of_sem h
+
+    none_there : (xs : List ℕ) → first xs ≡ None → has t xs ≡ true → ⊥
+    none_there [] e m = cc
+    none_there (x ∷ xs) e m = cc
+
+    by_case : (o : Option ℕ) → first (of_sem s l.held) ≡ o → is t (first (of_sem s l.held)) ≡ true
+    by_case None e = absurd (none_there (of_sem s l.held) e there)
+    by_case (Some u) e =
+        let hu : has_pair u s l.held ≡ true = sym (has-of_sem u s l.held) ∙ has-first u (of_sem s l.held) (some-is u (first (of_sem s l.held)) e) in
+        let same : t ≡ u = one_holder_of (above_ceiling g) l.held k.stack.stacked t u s (user-not_over g t s (k.held t s h).user) (user-not_over g u s (k.held u s hu).user) h hu in
+        rw (e, same, equal_self u)
+
+-- the holder stands among the grants
+pub first-pcp : (t s : ℕ) (l : PcpState) → is t (first (of_sem s l.held)) ≡ true → has_pair t s l.held ≡ true
+first-pcp t s l h = sym (has-of_sem t s l.held) ∙ has-first t (of_sem s l.held) h
+
+-- ---- the semaphores of a setup
+
+pcp-sem_state : (g : Group) (s : ℕ) (past : Past) → is_pcp (protocol g s) ≡ true → sem_state g s past ≡ pcp_sem_state s (pcp g (cluster_of g s) past)
+unfolding sem_state sem_state_by
+pcp-sem_state g s past h = by_protocol (protocol g s) h
+  where
+    by_protocol : (p : Protocol) → is_pcp p ≡ true → sem_state_by g p s past ≡ pcp_sem_state s (pcp g (cluster_of g s) past)
+    by_protocol Pcp e = refl
+    by_protocol p e = cc
+
+-- who waits for it, and who holds it
+pub pcp-waiting : (g : Group) (t s : ℕ) (past : Past) → is_pcp (protocol g s) ≡ true → has t (sem_state g s past).waiting ≡ has_pair t s (pcp g (cluster_of g s) past).waiting
+pcp-waiting g t s past h = ap (λ (x : SemState). has t x.waiting) (pcp-sem_state g s past h) ∙ has-of_sem t s (pcp g (cluster_of g s) past).waiting
+
+-- who holds a PCP semaphore is the first of its pairs
+pub pcp-holder : (g : Group) (s : ℕ) (past : Past) → is_pcp (protocol g s) ≡ true → holder g s past ≡ first (of_sem s (pcp g (cluster_of g s) past).held)
+unfolding holder
+pcp-holder g s past h = ap (λ (x : SemState). x.holder) (pcp-sem_state g s past h)
+
+-- its users are of its cluster
+pub sem-home : (g : Group) → MeetsRules g → (c t s : ℕ) → IsUser g c t s → cluster_of g s ≡ c
+sem-home g rules c t s u = sym (user-home g rules s t (pcp-shares g.setup.plugin (protocol g s) u.of_pcp) u.user) ∙ u.at_home

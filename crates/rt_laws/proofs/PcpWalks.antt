@@ -1,39 +1,35 @@
 -- Every waiting PCP task of a cluster has the same blocker, the owner of the newest grant, and that one does not wait: each walk is one step long.
-use Rattle.std.proofs.Common.{◌≡◌, ℕ, zero, suc, Bool, true, false, not, ◌&&◌, ◌||◌, cond, ◌⊎◌, inl, inr, eqb-true, List, [], ◌∷◌, map, refl, sym, ap, ◌∙◌, subst, arith}
-use Rattle.std.specs.Prelude.{Option, None, Some, ◌==◌, nat_lt, is_none, filter}
+use Rattle.rt_order.specs.declared.Key.{Key}
+use Rattle.rt_rules.proofs.RankingLaws.{lt-trans}
+use Rattle.std.proofs.Common.{Bool, List, [], ap, arith, cond, eqb-true, false, inl, inr, map, not, refl, subst, suc, sym, true, zero, ℕ, ◌&&◌, ◌||◌, ◌∙◌, ◌∷◌, ◌≡◌, ◌⊎◌}
 use Rattle.std.proofs.lemmas.Bool.Decides.{nat_tests}
-use Rattle.rt_task.specs.declared.PluginKind.{PluginKind}
+use Rattle.std.specs.Prelude.{None, Option, Some, filter, is_none, nat_lt, ◌==◌}
+use Rattle.rt_task.specs.declared.Protocol.TheVariants.{Fmlp, Mpcp, Omlp, Pcp}
 use Rattle.rt_task.specs.declared.Protocol.{Protocol}
-use Rattle.rt_task.specs.declared.Protocol.TheVariants.{Fmlp, Omlp, Pcp, Mpcp}
 use Rattle.rt_order.specs.KeyOrder.{higher}
-use Rattle.rt_rules.specs.Numbers.{has, is, first, foremost}
-use Rattle.rt_rules.specs.Pcp.{TaskSem, of_sem, of_others, passes, holder_among}
+use Rattle.rt_rules.specs.Numbers.{first, foremost, has, is}
+use Rattle.rt_rules.specs.Pcp.{TaskSem, holder_among, of_others, of_sem, passes}
 use Rattle.rt_rules.specs.Walks.{walk}
 use Rattle.rt_model.specs.BaseKeys.{base_key}
-use Rattle.rt_model.specs.Blockers.{has_higher_ceiling, blocker_among, blocker}
-use Rattle.rt_model.specs.Ceilings.{above_ceiling, ceiling, pcp, is_pcp}
-use Rattle.rt_model.specs.EffectiveKeys.{next_by, next_at, waits_for}
-use Rattle.rt_model.specs.Group.{Group, home, users, sems, protocol}
-use Rattle.rt_model.specs.Holders.{sem_state, sem_state_by, holder, awaits}
+use Rattle.rt_model.specs.Blockers.{blocker, blocker_among, has_higher_ceiling}
+use Rattle.rt_model.specs.Ceilings.{above_ceiling, ceiling, is_pcp, pcp}
+use Rattle.rt_model.specs.EffectiveKeys.{next_at, next_by, waits_for}
+use Rattle.rt_model.specs.Group.{Group, home, protocol, sems, users}
+use Rattle.rt_model.specs.Holders.{awaits, holder, sem_state}
 use Rattle.rt_model.specs.Made.{IsMade}
 use Rattle.rt_model.specs.Past.{Past}
 use Rattle.rt_model.specs.Semaphores.{cluster_of}
-use Rattle.rt_rules.proofs.PlacingLaws.{either, or_true, equal_self}
+use Rattle.rt_rules.proofs.BoolLaws.{both, clash, either, or_true, unless, not_true}
+use Rattle.rt_rules.proofs.KeyLaws.{IsOrder, foremost-none, foremost-some, higher-below, higher-falls, higher-mixed, higher-self, higher-trans}
+use Rattle.rt_rules.proofs.MemberLaws.{equal_self, has-first, some-is, turned}
+use Rattle.rt_rules.proofs.PairLaws.{has-of_sem, has_pair, has_pair-others, sem-there}
+use Rattle.rt_rules.proofs.PcpLaws.{IsStacked, newest-other, passes-above_ceiling}
+use Rattle.rt_laws.proofs.GroupLaws.{user-task}
+use Rattle.rt_laws.proofs.HasHolder.{has_holder}
+use Rattle.rt_laws.proofs.PcpState.{pcp-waiting, pcp-holder, sem-home, IsPcpKept, IsUser, pcp-first, pcp_kept, user-not_over}
 use Rattle.rt_laws.proofs.Rules.{MeetsRules}
-use Rattle.rt_task.specs.RuleWords.{is_of_one_cluster}
-use Rattle.rt_laws.proofs.Small.{unless, clash, both, turned, some-is, has-first}
-use Rattle.rt_laws.proofs.Waits.{has_pair, has-of_sem}
-use Rattle.rt_laws.proofs.Waiting.{user-task, awaits-waits, none-waits}
-use Rattle.rt_laws.proofs.KeyLaws.{IsOrder, higher-self, higher-trans, higher-mixed, higher-below, higher-falls, foremost-none, foremost-some}
-use Rattle.rt_laws.proofs.PcpState.{IsStacked, passes-cons, passes-above_ceiling}
-use Rattle.rt_laws.proofs.Pcp.{IsUser, IsPcpKept, pcp_kept, user-not_over, pcp-first}
-use Rattle.rt_laws.proofs.OmlpState.{user-home}
-use Rattle.rt_laws.proofs.Unmixed.{unmixed}
-use Rattle.rt_laws.proofs.Busy.{held-somewhere}
-
--- who does not pass is not the owner of the newest grant
-pub newest-other : (above_ceiling : ℕ → ℕ → Bool) (p : TaskSem) (ps : List TaskSem) (t : ℕ) → IsStacked above_ceiling (p ∷ ps) → passes above_ceiling (p ∷ ps) t ≡ false → p.task == t ≡ false
-newest-other above_ceiling p ps t k h = unless _ (λ e. let same : p.task ≡ t = eqb-true p.task t e in let pass : passes above_ceiling ps t ≡ true = subst (λ n. passes above_ceiling ps n ≡ true) same k.0 in let m : passes above_ceiling (p ∷ ps) t ≡ true = rw (passes-cons above_ceiling p ps t, e, pass) in clash _ m h)
+use Rattle.rt_laws.proofs.Waiting.{awaits-waits, none-waits}
+use Rattle.rt_laws.proofs.WaitsHolding.{waits_under_pcp}
 
 higher-order : (g : Group) → IsOrder (has_higher_ceiling g)
 unfolding has_higher_ceiling
@@ -47,42 +43,11 @@ higher-order g = record {
     total false true x y ne h = refl
     total false false x y ne h = grind (arith, nat_tests)
 
-    less : (x y z : ℕ) → nat_lt x y ≡ true → nat_lt y z ≡ true → nat_lt x z ≡ true
-    less x y z h k = grind (arith, nat_tests)
-
-    flat : (a : Bool) → not a ≡ true → a ≡ false
-    flat true h = cc
-    flat false h = refl
-
-    trans : (i j k : Rattle.rt_order.specs.declared.Key.Key) (x y z : ℕ) → (higher i j ≡ true) ⊎ (not (higher j i) && nat_lt x y ≡ true) → (higher j k ≡ true) ⊎ (not (higher k j) && nat_lt y z ≡ true) → higher i k || not (higher k i) && nat_lt x z ≡ true
+    trans : (i j k : Key) (x y z : ℕ) → (higher i j ≡ true) ⊎ (not (higher j i) && nat_lt x y ≡ true) → (higher j k ≡ true) ⊎ (not (higher k j) && nat_lt y z ≡ true) → higher i k || not (higher k i) && nat_lt x z ≡ true
     trans i j k x y z (inl a) (inl b) = rw (higher-trans i j k a b)
-    trans i j k x y z (inl a) (inr b) = rw (higher-below i j k a (flat _ (both _ _ b).0))
-    trans i j k x y z (inr a) (inl b) = rw (higher-mixed j i k (flat _ (both _ _ a).0) b)
-    trans i j k x y z (inr a) (inr b) = rw (higher-falls i j k (flat _ (both (not (higher j i)) (nat_lt x y) a).0) (flat _ (both (not (higher k j)) (nat_lt y z) b).0), less x y z (both (not (higher j i)) (nat_lt x y) a).1 (both (not (higher k j)) (nat_lt y z) b).1) (or_true (higher i k))
-
-has_pair-others : (t u s : ℕ) (ps : List TaskSem) → has_pair u s (of_others t ps) ≡ true → has_pair u s ps ≡ true
-has_pair-others t u s [] h = h
-has_pair-others t u s (p ∷ ps) h = by_case (p.task == t) h (has_pair-others t u s ps)
-  where
-    by_case : (b : Bool) → has_pair u s (cond (not b) (p ∷ of_others t ps) (of_others t ps)) ≡ true → (has_pair u s (of_others t ps) ≡ true → has_pair u s ps ≡ true) → (u == p.task && s == p.sem) || has_pair u s ps ≡ true
-    by_case true k r = rw (r k) (or_true (u == p.task && s == p.sem))
-    by_case false k r = split (either (u == p.task && s == p.sem) _ k)
-      where
-        split : (u == p.task && s == p.sem ≡ true) ⊎ (has_pair u s (of_others t ps) ≡ true) → (u == p.task && s == p.sem) || has_pair u s ps ≡ true
-        split (inl m) = rw m
-        split (inr m) = rw (r m) (or_true (u == p.task && s == p.sem))
-
-sem-there : (r : ℕ) (ps : List TaskSem) → has r (map (λ (p : TaskSem). p.sem) ps) ≡ true → is_none (first (of_sem r ps)) ≡ false
-sem-there r [] h = cc
-sem-there r (p ∷ ps) h = by_case (p.sem == r) (turned r p.sem) h (sem-there r ps)
-  where
-    by_case : (b : Bool) → r == p.sem ≡ b → r == p.sem || has r (map (λ (q : TaskSem). q.sem) ps) ≡ true → (has r (map (λ (q : TaskSem). q.sem) ps) ≡ true → is_none (first (of_sem r ps)) ≡ false) → is_none (first (map (λ (q : TaskSem). q.task) (cond b (p ∷ filter (λ q. q.sem == r) ps) (filter (λ q. q.sem == r) ps)))) ≡ false
-    by_case true e k rec = refl
-    by_case false e k rec = rec (right (r == p.sem) _ k e)
-      where
-        right : (a b : Bool) → a || b ≡ true → a ≡ false → b ≡ true
-        right true b m n = cc
-        right false b m n = m
+    trans i j k x y z (inl a) (inr b) = rw (higher-below i j k a (not_true _ (both _ _ b).0))
+    trans i j k x y z (inr a) (inl b) = rw (higher-mixed j i k (not_true _ (both _ _ a).0) b)
+    trans i j k x y z (inr a) (inr b) = rw (higher-falls i j k (not_true _ (both (not (higher j i)) (nat_lt x y) a).0) (not_true _ (both (not (higher k j)) (nat_lt y z) b).0), lt-trans x y z (both (not (higher j i)) (nat_lt x y) a).1 (both (not (higher k j)) (nat_lt y z) b).1) (or_true (higher i k))
 
 -- the blocker is the owner of the newest grant
 newest-blocks : (g : Group) (t : ℕ) (p : TaskSem) (ps : List TaskSem) → IsStacked (above_ceiling g) (p ∷ ps) → has p.task (users g p.sem) ≡ true → passes (above_ceiling g) (p ∷ ps) t ≡ false → blocker_among g (of_others t (p ∷ ps)) ≡ Some p.task
@@ -135,32 +100,6 @@ newest-blocks g t p ps k user h = rw others_are (by_case (foremost (has_higher_c
 
 -- ---- walks
 
-sem_state-pcp : (g : Group) (t s : ℕ) (past : Past) → is_pcp (protocol g s) ≡ true → has t (sem_state g s past).waiting ≡ true → has_pair t s (pcp g (cluster_of g s) past).waiting ≡ true
-unfolding sem_state sem_state_by
-sem_state-pcp g t s past h w = by_protocol (protocol g s) h w
-  where
-    by_protocol : (p : Protocol) → is_pcp p ≡ true → has t (sem_state_by g p s past).waiting ≡ true → has_pair t s (pcp g (cluster_of g s) past).waiting ≡ true
-    by_protocol Pcp e k = sym (has-of_sem t s (pcp g (cluster_of g s) past).waiting) ∙ k
-    by_protocol Fmlp e k = cc
-    by_protocol Omlp e k = cc
-    by_protocol Mpcp e k = cc
-
-holder-pcp : (g : Group) (t s : ℕ) (past : Past) → is_pcp (protocol g s) ≡ true → is t (first (of_sem s (pcp g (cluster_of g s) past).held)) ≡ true → is t (holder g s past) ≡ true
-unfolding holder sem_state sem_state_by
-holder-pcp g t s past h w = by_protocol (protocol g s) h
-  where
-    by_protocol : (p : Protocol) → is_pcp p ≡ true → is t (sem_state_by g p s past).holder ≡ true
-    by_protocol Pcp e = w
-    by_protocol Fmlp e = cc
-    by_protocol Omlp e = cc
-    by_protocol Mpcp e = cc
-
-pub pcp-shares : (p : PluginKind) (x : Protocol) → is_pcp x ≡ true → is_of_one_cluster x p ≡ true
-pcp-shares p Pcp h = refl
-pcp-shares p Fmlp h = cc
-pcp-shares p Omlp h = cc
-pcp-shares p Mpcp h = cc
-
 module _ (g : Group) (rules : MeetsRules g) (past : Past) (made : IsMade g past) where
   -- the owner of the newest grant of a cluster does not wait
   newest-free : (c : ℕ) (p : TaskSem) (ps : List TaskSem) → (pcp g c past).held ≡ p ∷ ps → awaits g p.task past ≡ None
@@ -179,30 +118,30 @@ module _ (g : Group) (rules : MeetsRules g) (past : Past) (made : IsMade g past)
       known = let u = user-task g p.sem p.task owner.user in rules.is_known p.task p.sem u.0 u.1
 
       sem_home : cluster_of g p.sem ≡ c
-      sem_home = sym (user-home g rules p.sem p.task (pcp-shares g.setup.plugin (protocol g p.sem) owner.of_pcp) owner.user) ∙ owner.at_home
+      sem_home = sem-home g rules c p.task p.sem owner
 
       holds_it : is p.task (holder g p.sem past) ≡ true
-      holds_it = holder-pcp g p.task p.sem past owner.of_pcp (subst (λ n. is p.task (first (of_sem p.sem (pcp g n past).held)) ≡ true) (sym sem_home) (pcp-first g c p.task p.sem (pcp g c past) kept there))
+      holds_it = rw (pcp-holder g p.sem past owner.of_pcp) (subst (λ n. is p.task (first (of_sem p.sem (pcp g n past).held)) ≡ true) (sym sem_home) (pcp-first g c p.task p.sem (pcp g c past) kept there))
 
       stacked : IsStacked (above_ceiling g) (p ∷ ps)
       stacked = subst (λ l. IsStacked (above_ceiling g) l) e kept.stack.stacked
 
       by_kind : (r : ℕ) → has r (sems g) ≡ true → has p.task (sem_state g r past).waiting ≡ true → (b : Bool) → is_pcp (protocol g r) ≡ b → ⊥
       by_kind r hr w true k =
-          let pair : has_pair p.task r (pcp g (cluster_of g r) past).waiting ≡ true = sem_state-pcp g p.task r past k w in
+          let pair : has_pair p.task r (pcp g (cluster_of g r) past).waiting ≡ true = sym (pcp-waiting g p.task r past k) ∙ w in
           let other : IsUser g (cluster_of g r) p.task r = (pcp_kept g rules (cluster_of g r) made).waiting p.task r pair in
           let same : cluster_of g r ≡ c = sym other.at_home ∙ owner.at_home in
           let stops : passes (above_ceiling g) (pcp g c past).held p.task ≡ false = kept.stack.blocked p.task r (subst (λ n. has_pair p.task r (pcp g n past).waiting ≡ true) same pair) in
           let stops_here : passes (above_ceiling g) (p ∷ ps) p.task ≡ false = subst (λ l. passes (above_ceiling g) l p.task ≡ false) e stops in
           clash _ (equal_self p.task) (newest-other (above_ceiling g) p ps p.task stacked stops_here)
-      by_kind r hr w false k = clash _ (unmixed g rules made p.task p.sem r known hr holds_it w).1 k
+      by_kind r hr w false k = clash _ (waits_under_pcp g rules made p.task p.sem r known hr holds_it w).1 k
 
   -- who waits for a PCP semaphore is of its cluster, and does not pass
   pcp-home : (t s : ℕ) → is_pcp (protocol g s) ≡ true → has t (sem_state g s past).waiting ≡ true → home g t ≡ cluster_of g s
-  pcp-home t s k w = ((pcp_kept g rules (cluster_of g s) made).waiting t s (sem_state-pcp g t s past k w)).at_home
+  pcp-home t s k w = ((pcp_kept g rules (cluster_of g s) made).waiting t s (sym (pcp-waiting g t s past k) ∙ w)).at_home
 
   pub waiting-stops : (t s : ℕ) → is_pcp (protocol g s) ≡ true → has t (sem_state g s past).waiting ≡ true → passes (above_ceiling g) (pcp g (home g t) past).held t ≡ false
-  waiting-stops t s k w = (pcp_kept g rules (home g t) made).stack.blocked t s (subst (λ n. has_pair t s (pcp g n past).waiting ≡ true) (sym (pcp-home t s k w)) (sem_state-pcp g t s past k w))
+  waiting-stops t s k w = (pcp_kept g rules (home g t) made).stack.blocked t s (subst (λ n. has_pair t s (pcp g n past).waiting ≡ true) (sym (pcp-home t s k w)) (sym (pcp-waiting g t s past k) ∙ w))
 
   -- a task that waits for a PCP semaphore is blocked by the owner of the newest grant
   pcp-step : (t s : ℕ) → has s (sems g) ≡ true → is_pcp (protocol g s) ≡ true → has t (sem_state g s past).waiting ≡ true → (u : ℕ) × (blocker g t past ≡ Some u) × (awaits g u past ≡ None)
@@ -246,10 +185,10 @@ module _ (g : Group) (rules : MeetsRules g) (past : Past) (made : IsMade g past)
       next_is = rw a
 
       free : (u : ℕ) → holder g s past ≡ Some u → is_pcp (protocol g s) ≡ false → awaits g u past ≡ None
-      free u h n = none-waits g u past (λ r hr. unless _ (λ v. clash _ (unmixed g rules made u s r w.0 hr (some-is u (holder g s past) h) v).0 n))
+      free u h n = none-waits g u past (λ r hr. unless _ (λ v. clash _ (waits_under_pcp g rules made u s r w.0 hr (some-is u (holder g s past) h) v).0 n))
 
       found : (o : Option ℕ) → holder g s past ≡ o → is_pcp (protocol g s) ≡ false → (u : ℕ) × (waits_for g t past ≡ Some u) × (awaits g u past ≡ None)
-      found None h n = let m : is_none {T = ℕ} None ≡ false = rw h at (held-somewhere g rules made t s w.0 n w.1) in cc
+      found None h n = let m : is_none {T = ℕ} None ≡ false = rw h at (has_holder g rules made t s w.0 n w.1) in cc
       found (Some u) h n = (u, next_is ∙ of_others_kind (protocol g s) n ∙ h, free u h n)
 
       by_kind : (b : Bool) → is_pcp (protocol g s) ≡ b → (u : ℕ) × (waits_for g t past ≡ Some u) × (awaits g u past ≡ None)

@@ -1,29 +1,30 @@
 -- What the priority ceiling protocol keeps, as laws.
-use Rattle.std.proofs.Common.{◌≡◌, ℕ, true, false, Bool, List, [], ◌∷◌, ◌++◌, length, refl, sym, ◌∙◌, subst, eqb-true}
-use Rattle.std.specs.Prelude.{Option, None, Some, ◌==◌, ◌&&◌}
+use Rattle.std.proofs.Common.{Bool, List, [], eqb-true, false, length, refl, subst, sym, true, ℕ, ◌++◌, ◌∙◌, ◌∷◌, ◌≡◌}
+use Rattle.std.specs.Prelude.{None, Option, Some, ◌&&◌, ◌==◌}
 use Rattle.rt_rules.specs.Distinct.{IsDistinct}
 use Rattle.rt_rules.specs.Numbers.{has}
 use Rattle.rt_rules.specs.Pcp.{TaskSem}
 use Rattle.rt_rules.specs.Walks.{walk}
 use Rattle.rt_model.specs.Ceilings.{above_ceiling}
 use Rattle.rt_model.specs.EffectiveKeys.{waits_for}
-use Rattle.rt_model.specs.Group.{Group, tasks, sems}
-use Rattle.rt_model.specs.Holders.{sem_state, awaits}
+use Rattle.rt_model.specs.Group.{Group, sems, tasks}
+use Rattle.rt_model.specs.Holders.{awaits, sem_state}
 use Rattle.rt_model.specs.Made.{IsMade}
 use Rattle.rt_model.specs.Past.{Past}
-use Rattle.rt_rules.proofs.PlacingLaws.{equal_self, or_true}
-use Rattle.rt_laws.specs.PriorityCeiling.{WaitingDoesNotPass, LaterIsAboveCeiling, reached_from, end_of, WalkEnds, WalksEnd, WalksHaveOneStep, UnlockGrantsOne}
+use Rattle.rt_rules.proofs.BoolLaws.{or_true, unless}
+use Rattle.rt_rules.proofs.MemberLaws.{equal_self}
+use Rattle.rt_rules.proofs.PairLaws.{has_pair}
+use Rattle.rt_rules.proofs.PcpLaws.{IsStacked, passes-above_ceiling}
+use Rattle.rt_laws.specs.PriorityCeiling.{LaterIsAboveCeiling, UnlockGrantsOne, WaitingDoesNotPass, WalkEnds, WalksEnd, WalksHaveOneStep, end_of, reached_from}
+use Rattle.rt_laws.proofs.Engaged.{waiting-engaged}
+use Rattle.rt_laws.proofs.EngagedJobs.{all_active}
+use Rattle.rt_laws.proofs.GroupLaws.{user-task}
+use Rattle.rt_laws.proofs.PcpGrants as grants
+use Rattle.rt_laws.proofs.PcpState.{pcp_kept}
+use Rattle.rt_laws.proofs.PcpWalks.{waiting-stops, walk-none, walk-step, walk-stops}
 use Rattle.rt_laws.proofs.Rules.{MeetsRules}
 use Rattle.rt_laws.proofs.ValidSets.{rules_of}
-use Rattle.rt_laws.proofs.Small.{unless}
-use Rattle.rt_laws.proofs.Waits.{has_pair}
-use Rattle.rt_laws.proofs.Waiting.{user-task, awaits-waits}
-use Rattle.rt_laws.proofs.PcpState.{IsStacked, passes-above_ceiling}
-use Rattle.rt_laws.proofs.Pcp.{pcp_kept}
-use Rattle.rt_laws.proofs.Engaged.{waiting-engaged}
-use Rattle.rt_laws.proofs.Active.{all_active}
-use Rattle.rt_laws.proofs.PcpWalks.{waiting-stops, walk-step, walk-stops, walk-none}
-use Rattle.rt_laws.proofs.PcpGrants as grants
+use Rattle.rt_laws.proofs.Waiting.{awaits-waits}
 
 pub waiting_does_not_pass : WaitingDoesNotPass
 waiting_does_not_pass g past valid made t s k w = let a = awaits-waits g t s past w in waiting-stops g (rules_of g valid) past made t s k a.1

@@ -1,15 +1,14 @@
 -- What an act that asks for a semaphore or frees it says of the past before it.
-use Rattle.std.proofs.Common.{◌≡◌, ℕ, Bool, true, false, not, ◌&&◌, refl}
-use Rattle.std.specs.Prelude.{Option, None, Some, if◌then◌else◌}
+use Rattle.std.proofs.Common.{Bool, false, not, refl, true, ℕ, ◌&&◌, ◌≡◌}
+use Rattle.std.specs.Prelude.{Option, Some, if◌then◌else◌}
 use Rattle.rt_base.specs.declared.SemNo.{SemNo}
-use Rattle.rt_task.specs.declared.Act.{Act}
 use Rattle.rt_task.specs.declared.Act.TheVariants as acts
-use Rattle.rt_task.specs.declared.Op.{Op}
+use Rattle.rt_task.specs.declared.Act.{Act}
 use Rattle.rt_task.specs.declared.Op.TheVariants as ops
 use Rattle.rt_history.specs.declared.Reply.TheVariants as replies
 use Rattle.rt_rules.specs.Numbers.{is}
 use Rattle.rt_rules.specs.SemState.{Asks, Frees, Neither}
-use Rattle.rt_model.specs.Answers.{answer, do_answer, op_answer, lock_answer, unlock_answer, nests, is_granted}
+use Rattle.rt_model.specs.Answers.{answer, do_answer, is_granted, lock_answer, nests, op_answer, unlock_answer}
 use Rattle.rt_model.specs.Ceilings.{is_pcp}
 use Rattle.rt_model.specs.Group.{Group, declares, protocol}
 use Rattle.rt_model.specs.Holders.{holder, last_granted}
@@ -29,6 +28,7 @@ pub record IsAsk (g : Group) (q : ℕ) (act : Act) (past : Past) (t s : ℕ) : T
   pub preemptive : non_preemptive t past ≡ false
   pub reply : answer g q act past ≡ (if is_granted g (protocol g s) s t past then replies.Granted else replies.Queued)
 
+-- an accepted Unlock
 pub record IsFree (g : Group) (q : ℕ) (act : Act) (past : Past) (t s : ℕ) : Type 0 where
   pub runs_it : runs q past ≡ Some t
   pub number : SemNo
@@ -77,62 +77,54 @@ frees-unlock g q n past t r a =
       newest = facts.1;
     }
 
-ask-of : (g : Group) (q : ℕ) (past : Past) (t s : ℕ) (act : Act) (o : Option ℕ) (b : Bool) → runs q past ≡ o → accepted (answer g q act past) ≡ b → (if b then sem_act_of act o else Neither) ≡ Asks t s → IsAsk g q act past t s
-ask-of g q past t s act o false r a h = cc
-ask-of g q past t s acts.Tick o true r a h = cc
-ask-of g q past t s acts.Irq o true r a h = cc
-ask-of g q past t s (acts.Arrive u) o true r a h = cc
-ask-of g q past t s (acts.Do op) None true r a h = none op h
-  where
-    none : (p : Op) → sem_act_of (acts.Do p) None ≡ Asks t s → IsAsk g q (acts.Do op) past t s
-    none ops.Work k = cc
-    none (ops.Lock n) k = cc
-    none (ops.Unlock n) k = cc
-    none (ops.Sleep n) k = cc
-    none ops.NpOn k = cc
-    none ops.NpOff k = cc
-    none ops.End k = cc
-ask-of g q past t s (acts.Do ops.Work) (Some u) true r a h = cc
-ask-of g q past t s (acts.Do (ops.Lock n)) (Some u) true r a h =
-    let same_task : u ≡ t = cc in
-    let same_sem : n.0 ≡ s = cc in
-    rw (← same_task, ← same_sem) (asks-lock g q n past u r a)
-ask-of g q past t s (acts.Do (ops.Unlock n)) (Some u) true r a h = cc
-ask-of g q past t s (acts.Do (ops.Sleep n)) (Some u) true r a h = cc
-ask-of g q past t s (acts.Do ops.NpOn) (Some u) true r a h = cc
-ask-of g q past t s (acts.Do ops.NpOff) (Some u) true r a h = cc
-ask-of g q past t s (acts.Do ops.End) (Some u) true r a h = cc
+-- an act that asks is a Lock of the task that runs
+record IsLock (a : Act) (o : Option ℕ) (t s : ℕ) : Type 0 where
+  number : SemNo
+  is_lock : a ≡ acts.Do (ops.Lock number)
+  is_sem : number.0 ≡ s
+  is_task : o ≡ Some t
 
-free-of : (g : Group) (q : ℕ) (past : Past) (t s : ℕ) (act : Act) (o : Option ℕ) (b : Bool) → runs q past ≡ o → accepted (answer g q act past) ≡ b → (if b then sem_act_of act o else Neither) ≡ Frees t s → IsFree g q act past t s
-free-of g q past t s act o false r a h = cc
-free-of g q past t s acts.Tick o true r a h = cc
-free-of g q past t s acts.Irq o true r a h = cc
-free-of g q past t s (acts.Arrive u) o true r a h = cc
-free-of g q past t s (acts.Do op) None true r a h = none op h
-  where
-    none : (p : Op) → sem_act_of (acts.Do p) None ≡ Frees t s → IsFree g q (acts.Do op) past t s
-    none ops.Work k = cc
-    none (ops.Lock n) k = cc
-    none (ops.Unlock n) k = cc
-    none (ops.Sleep n) k = cc
-    none ops.NpOn k = cc
-    none ops.NpOff k = cc
-    none ops.End k = cc
-free-of g q past t s (acts.Do ops.Work) (Some u) true r a h = cc
-free-of g q past t s (acts.Do (ops.Lock n)) (Some u) true r a h = cc
-free-of g q past t s (acts.Do (ops.Unlock n)) (Some u) true r a h =
-    let same_task : u ≡ t = cc in
-    let same_sem : n.0 ≡ s = cc in
-    rw (← same_task, ← same_sem) (frees-unlock g q n past u r a)
-free-of g q past t s (acts.Do (ops.Sleep n)) (Some u) true r a h = cc
-free-of g q past t s (acts.Do ops.NpOn) (Some u) true r a h = cc
-free-of g q past t s (acts.Do ops.NpOff) (Some u) true r a h = cc
-free-of g q past t s (acts.Do ops.End) (Some u) true r a h = cc
+lock-of : (a : Act) (o : Option ℕ) (t s : ℕ) → sem_act_of a o ≡ Asks t s → IsLock a o t s
+lock-of (acts.Do (ops.Lock n)) (Some u) t s h = let same : u ≡ t = cc in let same_sem : n.0 ≡ s = cc in record { number = n; is_lock = refl; is_sem = same_sem; is_task = rw same }
+lock-of (acts.Do (ops.Unlock n)) (Some u) t s h = cc
+lock-of a o t s h = cc
 
+-- an act that frees is an Unlock of the task that runs
+pub record IsUnlock (a : Act) (o : Option ℕ) (t s : ℕ) : Type 0 where
+  pub number : SemNo
+  pub is_unlock : a ≡ acts.Do (ops.Unlock number)
+  pub is_sem : number.0 ≡ s
+  pub is_task : o ≡ Some t
+
+pub unlock-of : (a : Act) (o : Option ℕ) (t s : ℕ) → sem_act_of a o ≡ Frees t s → IsUnlock a o t s
+unlock-of (acts.Do (ops.Unlock n)) (Some u) t s h = let same : u ≡ t = cc in let same_sem : n.0 ≡ s = cc in record { number = n; is_unlock = refl; is_sem = same_sem; is_task = rw same }
+unlock-of (acts.Do (ops.Lock n)) (Some u) t s h = cc
+unlock-of a o t s h = cc
+
+lock-asks : (g : Group) (q : ℕ) (past : Past) (t s : ℕ) (act : Act) (n : SemNo) → act ≡ acts.Do (ops.Lock n) → n.0 ≡ s → runs q past ≡ Some t → accepted (answer g q act past) ≡ true → IsAsk g q act past t s
+lock-asks g q past t s act n e same r a = rw (e, ← same) (asks-lock g q n past t r (rw e at a))
+
+unlock-frees : (g : Group) (q : ℕ) (past : Past) (t s : ℕ) (act : Act) (n : SemNo) → act ≡ acts.Do (ops.Unlock n) → n.0 ≡ s → runs q past ≡ Some t → accepted (answer g q act past) ≡ true → IsFree g q act past t s
+unlock-frees g q past t s act n e same r a = rw (e, ← same) (frees-unlock g q n past t r (rw e at a))
+
+ask-of : (g : Group) (q : ℕ) (past : Past) (t s : ℕ) (act : Act) (b : Bool) → accepted (answer g q act past) ≡ b → (if b then sem_act_of act (runs q past) else Neither) ≡ Asks t s → IsAsk g q act past t s
+ask-of g q past t s act true a h =
+    let k : IsLock act (runs q past) t s = lock-of act (runs q past) t s h in
+    lock-asks g q past t s act k.number k.is_lock k.is_sem k.is_task a
+ask-of g q past t s act false a h = cc
+
+free-of : (g : Group) (q : ℕ) (past : Past) (t s : ℕ) (act : Act) (b : Bool) → accepted (answer g q act past) ≡ b → (if b then sem_act_of act (runs q past) else Neither) ≡ Frees t s → IsFree g q act past t s
+free-of g q past t s act true a h =
+    let k : IsUnlock act (runs q past) t s = unlock-of act (runs q past) t s h in
+    unlock-frees g q past t s act k.number k.is_unlock k.is_sem k.is_task a
+free-of g q past t s act false a h = cc
+
+-- an event that asks is an accepted Lock
 pub asks : (g : Group) (q : ℕ) (act : Act) (past : Past) (t s : ℕ) → sem_act (Acted (past_act g q act past)) ≡ Asks t s → IsAsk g q act past t s
 unfolding past_act
-asks g q act past t s h = ask-of g q past t s act (runs q past) (accepted (answer g q act past)) refl refl h
+asks g q act past t s h = ask-of g q past t s act (accepted (answer g q act past)) refl h
 
+-- an event that frees is an accepted Unlock
 pub frees : (g : Group) (q : ℕ) (act : Act) (past : Past) (t s : ℕ) → sem_act (Acted (past_act g q act past)) ≡ Frees t s → IsFree g q act past t s
 unfolding past_act
-frees g q act past t s h = free-of g q past t s act (runs q past) (accepted (answer g q act past)) refl refl h
+frees g q act past t s h = free-of g q past t s act (accepted (answer g q act past)) refl h

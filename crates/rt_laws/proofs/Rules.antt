@@ -1,9 +1,9 @@
 -- What the laws use of a valid setup.
-use Rattle.std.specs.Prelude.{◌≡◌, ℕ, ◌≤◌, ◌<◌, true, length}
-use Rattle.rt_task.specs.RuleWords.{stands_under, is_of_one_cluster}
+use Rattle.std.specs.Prelude.{length, true, ℕ, ◌<◌, ◌≡◌, ◌≤◌}
+use Rattle.rt_task.specs.RuleWords.{is_of_one_cluster, stands_under}
 use Rattle.rt_task.specs.declared.Kind.TheVariants.{Periodic}
 use Rattle.rt_rules.specs.Numbers.{has}
-use Rattle.rt_model.specs.Group.{Group, task, tasks, sems, users, declares, home, cpus, protocol}
+use Rattle.rt_model.specs.Group.{Group, cpus, declares, home, protocol, sems, task, tasks, users}
 
 -- the setup of a group keeps the rules
 pub record MeetsRules (g : Group) : Type 0 where

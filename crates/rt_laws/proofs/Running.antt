@@ -1,37 +1,38 @@
 -- What runs has a job that neither sleeps nor waits.
-use Rattle.std.proofs.Common.{◌≡◌, ℕ, Bool, true, false, not, ◌&&◌, ◌||◌, ◌⊎◌, inl, inr, eqb-true, ◌∷◌, refl, sym, subst}
-use Rattle.std.specs.Prelude.{Option, None, Some, ◌==◌, is_some, is_none, if◌then◌else◌}
-use Rattle.rt_task.specs.declared.Act.{Act}
+use Rattle.std.proofs.Common.{Bool, eqb-true, false, inl, inr, not, refl, subst, sym, true, ℕ, ◌&&◌, ◌||◌, ◌∷◌, ◌≡◌, ◌⊎◌}
+use Rattle.std.specs.Prelude.{None, Option, Some, if◌then◌else◌, is_none, is_some, ◌==◌}
 use Rattle.rt_task.specs.declared.Act.TheVariants as acts
-use Rattle.rt_task.specs.declared.Op.{Op}
+use Rattle.rt_task.specs.declared.Act.{Act}
 use Rattle.rt_task.specs.declared.Op.TheVariants as ops
-use Rattle.rt_history.specs.declared.Reply.{Reply}
+use Rattle.rt_task.specs.declared.Op.{Op}
 use Rattle.rt_history.specs.declared.Reply.TheVariants as replies
+use Rattle.rt_history.specs.declared.Reply.{Reply}
 use Rattle.rt_rules.specs.Numbers.{has, is}
 use Rattle.rt_rules.specs.SemState.{Asks}
 use Rattle.rt_model.specs.Answers.{answer, is_granted}
-use Rattle.rt_model.specs.Group.{Group, home, protocol, sems, tasks, processors, cluster_with}
-use Rattle.rt_model.specs.Holders.{sem_state, awaits}
+use Rattle.rt_model.specs.Group.{Group, cluster_with, home, processors, protocol, sems, tasks}
+use Rattle.rt_model.specs.Holders.{awaits, sem_state}
 use Rattle.rt_model.specs.Links.{runs_of}
 use Rattle.rt_model.specs.Made.{IsMade}
 use Rattle.rt_model.specs.Outcomes.{attempt, ended, ended_by, past_act}
-use Rattle.rt_model.specs.Past.{PastAct, Event, Clock, Acted, Past, now, accepted, operation, did, ends_job, sem_act}
+use Rattle.rt_model.specs.Past.{Acted, Clock, Event, Past, PastAct, accepted, did, ends_job, now, operation, sem_act}
 use Rattle.rt_model.specs.Releases.{exists, ready}
-use Rattle.rt_model.specs.Runs.{runs, runs_after, runs_by, leaves}
-use Rattle.rt_model.specs.Sleep.{sleeps, sleep_end}
+use Rattle.rt_model.specs.Runs.{leaves, runs, runs_after, runs_by}
+use Rattle.rt_model.specs.Sleep.{sleep_end, sleeps}
 use Rattle.rt_model.specs.Tops.{eligible, is_served}
-use Rattle.rt_model.proofs.AnswerLaws.{to_run, answer-runs_link}
-use Rattle.rt_model.proofs.PastLaws.{single, one_processor, processor-home}
-use Rattle.rt_model.proofs.Steps.{runs-acted, past_act-cpu}
-use Rattle.rt_rules.proofs.PlacingLaws.{equal_self}
-use Rattle.rt_laws.proofs.Rules.{MeetsRules}
-use Rattle.rt_laws.proofs.Small.{unless, clash, both, is-some, some-is, not_true, neither}
+use Rattle.rt_rules.proofs.BoolLaws.{both, clash, neither, not_true, unless}
+use Rattle.rt_rules.proofs.MemberLaws.{equal_self, is-some, some-is, none-is}
+use Rattle.rt_model.proofs.AnswerLaws.{answer-runs_link, to_run}
+use Rattle.rt_model.proofs.PastLaws.{one_processor, processor-home, single}
+use Rattle.rt_model.proofs.Steps.{past_act-cpu, runs-acted}
+use Rattle.rt_laws.proofs.JobLaws.{awake-keeps, exists-keeps}
+use Rattle.rt_laws.proofs.LinkedTasks.{IsLinked, linked-eligible}
+use Rattle.rt_laws.proofs.Moves.{IsMove, by_moves, clock_moves, cpu_acts}
 use Rattle.rt_laws.proofs.Requests.{IsAsk, asks}
-use Rattle.rt_laws.proofs.JobLaws.{exists-keeps, awake-keeps}
+use Rattle.rt_laws.proofs.Rules.{MeetsRules}
 use Rattle.rt_laws.proofs.Waiting.{waiting-step, waits-none}
-use Rattle.rt_laws.proofs.Moves.{IsMove, clock_moves, cpu_acts, by_moves}
-use Rattle.rt_laws.proofs.Linked.{IsLinked, linked-eligible}
 
+-- what is known of a task that a processor runs
 pub record IsRunning (g : Group) (q t : ℕ) (past : Past) : Type 0 where
   pub at_home : cluster_with g q ≡ home g t
   pub placed : has q (processors g (home g t)) ≡ true
@@ -51,18 +52,8 @@ ended-runs g q t act past h = by_case (accepted (answer g q act past)) h
 
     by_op : (op : Op) (o : Option ℕ) → is t (ended_by g (acts.Do op) o (attempt g q act past) past) ≡ true → o ≡ Some t
     by_op ops.End o k = is-some t o k
-    by_op ops.Work None k = cc
-    by_op (ops.Lock n) None k = cc
-    by_op (ops.Unlock n) None k = cc
-    by_op (ops.Sleep n) None k = cc
-    by_op ops.NpOn None k = cc
-    by_op ops.NpOff None k = cc
-    by_op ops.Work (Some u) k = by_force _ u k
-    by_op (ops.Lock n) (Some u) k = by_force _ u k
-    by_op (ops.Unlock n) (Some u) k = by_force _ u k
-    by_op (ops.Sleep n) (Some u) k = by_force _ u k
-    by_op ops.NpOn (Some u) k = by_force _ u k
-    by_op ops.NpOff (Some u) k = by_force _ u k
+    by_op op None k = cc
+    by_op op (Some u) k = by_force _ u k
 
     by_act : (a : Act) (o : Option ℕ) → is t (ended_by g a o (attempt g q act past) past) ≡ true → o ≡ Some t
     by_act acts.Tick o k = cc
@@ -101,12 +92,8 @@ eligible-running g q t past l =
       member = l.member;
       exists_now = there.0;
       awake = not_true (sleeps t past) there.1;
-      waits_none = waits-none g t past (none (awaits g t past) free.0);
+      waits_none = waits-none g t past (none-is (awaits g t past) free.0);
     }
-  where
-    none : (o : Option ℕ) → is_none o ≡ true → o ≡ None
-    none None h = refl
-    none (Some u) h = cc
 
 -- a task runs on one processor
 pub runs_once : (g : Group) {past : Past} → IsMade g past → (p q t : ℕ) → IsRunning g p t past → IsRunning g q t past → runs p past ≡ Some t → runs q past ≡ Some t → p ≡ q
@@ -200,7 +187,8 @@ running-acted g rules {past} made before q t p act h = by_case (p == q) refl (rw
         subst (λ n. IsRunning g n t (Acted (past_act g p act past) ∷ past)) same r
     by_case false e k = running-other g rules made before q t p act e k
 
-abbrev pub AllRun : Group → Past → Type 0
+-- whatever runs is as `IsRunning` says
+abbrev AllRun : Group → Past → Type 0
 AllRun g past = (q t : ℕ) → runs q past ≡ Some t → IsRunning g q t past
 
 running-step : (g : Group) → MeetsRules g → (past : Past) (e : Event) → IsMade g past → IsMove g past e → AllRun g past → AllRun g (e ∷ past)
@@ -208,6 +196,7 @@ unfolding runs
 running-step g rules past e made (clock_moves tick) before q t h = running-keeps g rules q t (Clock tick) past (before q t h) refl refl (λ s k. cc)
 running-step g rules past e made (cpu_acts p a) before q t h = running-acted g rules made before q t p a h
 
+-- so it is after every move
 pub running : (g : Group) → MeetsRules g → {past : Past} → IsMade g past → AllRun g past
 unfolding runs
 running g rules made = by_moves g (AllRun g) (λ q t h. cc) (running-step g rules) made

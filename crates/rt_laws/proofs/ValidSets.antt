@@ -1,42 +1,41 @@
 -- A valid set meets the rules that the laws use.
-use Rattle.std.proofs.Common.{◌≡◌, ℕ, zero, suc, ◌+◌, ◌-◌, ◌≤◌, ◌<◌, Bool, true, false, not, ◌&&◌, ◌||◌, cond, ◌⊎◌, inl, inr, eqb-true, List, [], ◌∷◌, ◌++◌, length, map, refl, sym, ap, ◌∙◌, subst, arith, leb-true, ltb-true, ltb-false, length-append}
-use Rattle.std.specs.Prelude.{Option, None, Some, ◌==◌, nat_lt, nat_le, filter, option_map, bytes_eq, slice_index_or, if◌then◌else◌, ⊤}
-use Rattle.std.specs.List.{list_any, list_all}
+use Rattle.std.proofs.Common.{Bool, List, [], ap, arith, cond, eqb-true, false, inl, inr, leb-true, length, length-append, ltb-false, ltb-true, map, not, refl, subst, suc, sym, true, zero, ℕ, ◌&&◌, ◌++◌, ◌+◌, ◌-◌, ◌<◌, ◌||◌, ◌∙◌, ◌∷◌, ◌≡◌, ◌≤◌, ◌⊎◌}
 use Rattle.std.proofs.lemmas.List.{get_or-map, length-map}
+use Rattle.std.specs.List.{list_all, list_any}
+use Rattle.std.specs.Prelude.{None, Option, Some, bytes_eq, filter, if◌then◌else◌, nat_le, nat_lt, option_map, slice_index_or, ⊤, ◌==◌}
 use Rattle.rt_base.specs.declared.TheConstants.{TICK_END}
-use Rattle.rt_task.specs.Draft.{draft_of, draft_cluster, draft_task, runs}
-use Rattle.rt_task.specs.RangeRules.{whole_range, cluster_range, task_range}
-use Rattle.rt_task.specs.NameRules.{task_name, resv_is_known, piece_is_known}
+use Rattle.rt_task.specs.Draft.{draft_cluster, draft_of, draft_task, runs}
 use Rattle.rt_task.specs.Lookups.{group_of}
-use Rattle.rt_task.specs.Refusals.{bad, first, whole, each, first_failing}
-use Rattle.rt_task.specs.RuleWords.{within, is_known, is_span, is_prio, is_name, no_repeat, piece_in_range, all_same, allows_clusters, is_periodic, is_of_one_cluster, stands_under, sem_numbers}
+use Rattle.rt_task.specs.NameRules.{piece_is_known, resv_is_known, task_name}
+use Rattle.rt_task.specs.RangeRules.{cluster_range, task_range, whole_range}
+use Rattle.rt_task.specs.Refusals.{bad, each, first, first_failing, whole}
 use Rattle.rt_task.specs.RuleWords as words
-use Rattle.rt_task.specs.SharingRules.{sem_sharing, task_sharing, clusters_sharing}
-use Rattle.rt_task.specs.Validity.{IsValid, refusal_of, refusal, task_shape, range_rows, name_rows, sharing_rows, size_rows}
-use Rattle.rt_task.specs.declared.Kind.{Kind}
+use Rattle.rt_task.specs.RuleWords.{all_same, allows_clusters, is_known, is_name, is_of_one_cluster, is_periodic, is_prio, is_span, no_repeat, piece_in_range, sem_numbers, stands_under, within}
+use Rattle.rt_task.specs.SharingRules.{clusters_sharing, sem_sharing, task_sharing}
+use Rattle.rt_task.specs.Validity.{IsValid, name_rows, range_rows, refusal, refusal_of, sharing_rows, size_rows, task_shape}
 use Rattle.rt_task.specs.declared.Kind.TheVariants.{Periodic, Sporadic}
+use Rattle.rt_task.specs.declared.Kind.{Kind}
 use Rattle.rt_task.specs.declared.Parts.{Parts}
-use Rattle.rt_task.specs.declared.PluginKind.{PluginKind}
 use Rattle.rt_task.specs.declared.PluginKind.TheVariants as plugins
+use Rattle.rt_task.specs.declared.PluginKind.{PluginKind}
 use Rattle.rt_task.specs.declared.Sem.{Sem}
 use Rattle.rt_task.specs.declared.Task.{Task}
 use Rattle.rt_task.specs.declared.bad_set.BadSet.{BadSet}
-use Rattle.rt_task.specs.declared.bad_set.Part.{Part}
 use Rattle.rt_task.specs.declared.bad_set.Part.TheVariants as parts
-use Rattle.rt_task.specs.declared.bad_set.SetKind.{SetKind}
+use Rattle.rt_task.specs.declared.bad_set.Part.{Part}
 use Rattle.rt_task.specs.declared.bad_set.SetKind.TheVariants as kinds
+use Rattle.rt_task.specs.declared.bad_set.SetKind.{SetKind}
 use Rattle.rt_task.specs.declared.draft.Draft.{Draft}
 use Rattle.rt_task.specs.declared.draft.DraftCluster.{DraftCluster}
 use Rattle.rt_task.specs.declared.draft.DraftTask.{DraftTask}
 use Rattle.rt_rules.specs.Numbers.{has, numbers_from}
-use Rattle.rt_model.specs.Group.{Group, no_task, no_cluster, no_sem, task, cluster, sem, tasks, sems, users, declares, home, cpus, protocol}
-use Rattle.rt_rules.proofs.PlacingLaws.{either, has-filter, equal_self, or_true}
-use Rattle.rt_rules.proofs.NumberLaws.{has-numbers_from}
+use Rattle.rt_model.specs.Group.{Group, cluster, cpus, declares, home, no_cluster, no_sem, no_task, protocol, sem, sems, task, tasks, users}
+use Rattle.rt_rules.proofs.BoolLaws.{both, either, or_true}
+use Rattle.rt_rules.proofs.MemberLaws.{equal_self, has-filter, list_all-has, turned}
+use Rattle.rt_rules.proofs.NumberLaws.{has-numbers_from, numbers_from-has}
 use Rattle.rt_model.proofs.PastLaws.{numbers_from-below}
+use Rattle.rt_laws.proofs.GroupLaws.{user-task}
 use Rattle.rt_laws.proofs.Rules.{MeetsRules}
-use Rattle.rt_laws.proofs.Small.{both, turned, list_all-has}
-use Rattle.rt_laws.proofs.Waiting.{user-task}
-use Rattle.rt_laws.proofs.Linked.{numbers_from-has}
 
 -- ---- tests on a list in order
 

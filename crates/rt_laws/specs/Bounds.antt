@@ -16,7 +16,20 @@ FmlpBound = EveryPast (λ g past. (r t s : ℕ) → protocol g s ≡ Fmlp → en
 abbrev pub OmlpBound : Type 0
 OmlpBound = EveryPast (λ g past. (r t s : ℕ) → protocol g s ≡ Omlp → ends g r t s past ≤ 2 * cpus g (home g t) - 1)
 
--- a request that sees as many critical sections end as the bound says
+-- an FMLP request that sees n - 1 critical sections end, n at least 2
+pub record ReachesFmlpBound : Type 0 where
+  pub group : Group
+  pub past : Past
+  pub is_valid : IsValid group.setup
+  pub is_made : IsMade group past
+  pub no : ℕ
+  pub task : ℕ
+  pub sem : ℕ
+  pub is_fmlp : protocol group sem ≡ Fmlp
+  pub shared : 2 ≤ length (users group sem)
+  pub reached : ends_all group no task sem past ≡ length (users group sem) - 1
+
+-- an OMLP request that sees 2m - 1 critical sections end, m at least 2
 pub record ReachesOmlpBound : Type 0 where
   pub group : Group
   pub past : Past
@@ -26,4 +39,5 @@ pub record ReachesOmlpBound : Type 0 where
   pub task : ℕ
   pub sem : ℕ
   pub is_omlp : protocol group sem ≡ Omlp
+  pub parallel : 2 ≤ cpus group (home group task)
   pub reached : ends group no task sem past ≡ 2 * cpus group (home group task) - 1

@@ -58,7 +58,7 @@ pub record IsUnnested (g : Group) (t s : ℕ) (past : Past) : Type 0 where
 abbrev pub RequestsDoNotNest : Type 0
 RequestsDoNotNest = EveryMove (λ g e past. (t s : ℕ) → sem_act e ≡ Asks t s → IsUnnested g t s past)
 
--- So the holder of an FMLP, OMLP or MPCP semaphore holds no other.
+-- The holder of an FMLP, OMLP or MPCP semaphore holds no other.
 abbrev pub HolderHoldsOne : Type 0
 HolderHoldsOne = EveryPast (λ g past. (t s r : ℕ) → has s (sems g) ≡ true → has r (sems g) ≡ true → is_pcp (protocol g s) ≡ false → holder g s past ≡ Some t → holder g r past ≡ Some t → s ≡ r)
 
@@ -66,6 +66,6 @@ HolderHoldsOne = EveryPast (λ g past. (t s r : ℕ) → has s (sems g) ≡ true
 abbrev pub HolderWaitsNot : Type 0
 HolderWaitsNot = EveryPast (λ g past. (t s : ℕ) → has s (sems g) ≡ true → is_pcp (protocol g s) ≡ false → holder g s past ≡ Some t → awaits g t past ≡ None)
 
--- Each semaphore has at most one holder: under PCP no two tasks hold one semaphore of a cluster's grants, and under the others the holder is one by its form.
+-- Each semaphore has at most one holder: no two tasks stand for one semaphore among the PCP grants of a cluster; under the other protocols the holder is one by its form.
 abbrev pub OneHolder : Type 0
 OneHolder = EveryPast (λ g past. (c s t u : ℕ) → has t (of_sem s (pcp g c past).held) ≡ true → has u (of_sem s (pcp g c past).held) ≡ true → t ≡ u)

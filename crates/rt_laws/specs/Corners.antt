@@ -1,4 +1,4 @@
--- Worked sets at the edges of the laws: one that reaches the OMLP bound, and sets that break one rule each, with a history in which a law fails.
+-- Worked sets at the edges of the laws: two that reach the bounds, and sets that break one rule each, with a history in which a law fails.
 use Rattle.std.specs.Prelude.{◌≡◌, ℕ, true, false, List, [], ◌∷◌, ◌++◌, None, Some, refl}
 use Rattle.rt_task.specs.declared.Drive.TheVariants.{Steps}
 use Rattle.rt_task.specs.declared.Kind.TheVariants.{Periodic, Sporadic}
@@ -19,7 +19,7 @@ use Rattle.rt_task.specs.SizeRules.{whole_size, task_size}
 use Rattle.rt_task.specs.Validity.{IsValid, task_shape, refusal, refusal_of}
 use Rattle.rt_task.specs.declared.bad_set.Part.TheVariants as parts
 use Rattle.rt_task.specs.declared.bad_set.SetKind.TheVariants as kinds
-use Rattle.rt_model.specs.Blocking.{ends, bound}
+use Rattle.rt_model.specs.Blocking.{ends, ends_all, bound}
 use Rattle.rt_model.specs.Computed.{computed}
 use Rattle.rt_model.specs.Group.{Group}
 use Rattle.rt_model.specs.Histories.{past_by}
@@ -38,23 +38,42 @@ abbrev pub named : ℕ → Task → Task
 named letter t = record t { name = letter ∷ [] }
 
 -- two processors and four users of an OMLP semaphore: the third request sees 2 * 2 - 1 = 3 critical sections end while blocked
-abbrev pub bound_reached : Group
-bound_reached = record { setup = record { plugin = plugins.GsnEdf; clusters = record { cpus = 2; group = record { 0 = 0 } } ∷ []; sems = record { name = 115 ∷ []; protocol = Omlp } ∷ []; resvs = []; tasks = named 97 (task_with 1 0 1 1000 100 0 Periodic 511 false (1 ∷ []) None) ∷ named 98 (task_with 2 0 1 1000 100 0 Periodic 511 false (1 ∷ []) None) ∷ named 99 (task_with 3 0 1 1000 50 0 Sporadic 511 false (1 ∷ []) None) ∷ named 100 (task_with 4 0 1 1000 20 0 Sporadic 511 false (1 ∷ []) None) ∷ []; drive = Steps [] }; number = 0 }
+abbrev pub omlp_reached : Group
+omlp_reached = record { setup = record { plugin = plugins.GsnEdf; clusters = record { cpus = 2; group = record { 0 = 0 } } ∷ []; sems = record { name = 115 ∷ []; protocol = Omlp } ∷ []; resvs = []; tasks = named 97 (task_with 1 0 1 1000 100 0 Periodic 511 false (1 ∷ []) None) ∷ named 98 (task_with 2 0 1 1000 100 0 Periodic 511 false (1 ∷ []) None) ∷ named 99 (task_with 3 0 1 1000 50 0 Sporadic 511 false (1 ∷ []) None) ∷ named 100 (task_with 4 0 1 1000 20 0 Sporadic 511 false (1 ∷ []) None) ∷ []; drive = Steps [] }; number = 0 }
 
-abbrev pub bound_reached_steps : List Step
-bound_reached_steps = step_of 0 0 acts.Irq ∷ step_of 1 0 acts.Irq ∷ step_of 0 0 (acts.Do (ops.Lock (record { 0 = 1 }))) ∷ step_of 1 0 (acts.Do (ops.Lock (record { 0 = 1 }))) ∷ step_of 1 1 (acts.Arrive (record { 0 = 3 })) ∷ step_of 1 1 acts.Irq ∷ step_of 1 1 (acts.Do (ops.Lock (record { 0 = 1 }))) ∷ step_of 1 2 (acts.Arrive (record { 0 = 4 })) ∷ step_of 1 2 acts.Irq ∷ step_of 1 2 (acts.Do (ops.Lock (record { 0 = 1 }))) ∷ step_of 0 2 (acts.Do (ops.Unlock (record { 0 = 1 }))) ∷ step_of 1 2 acts.Irq ∷ step_of 1 2 (acts.Do (ops.Unlock (record { 0 = 1 }))) ∷ step_of 1 2 acts.Irq ∷ step_of 1 2 (acts.Do (ops.Unlock (record { 0 = 1 }))) ∷ step_of 0 2 acts.Irq ∷ step_of 0 2 (acts.Do (ops.Unlock (record { 0 = 1 }))) ∷ []
+abbrev pub omlp_reached_steps : List Step
+omlp_reached_steps = step_of 0 0 acts.Irq ∷ step_of 1 0 acts.Irq ∷ step_of 0 0 (acts.Do (ops.Lock (record { 0 = 1 }))) ∷ step_of 1 0 (acts.Do (ops.Lock (record { 0 = 1 }))) ∷ step_of 1 1 (acts.Arrive (record { 0 = 3 })) ∷ step_of 1 1 acts.Irq ∷ step_of 1 1 (acts.Do (ops.Lock (record { 0 = 1 }))) ∷ step_of 1 2 (acts.Arrive (record { 0 = 4 })) ∷ step_of 1 2 acts.Irq ∷ step_of 1 2 (acts.Do (ops.Lock (record { 0 = 1 }))) ∷ step_of 0 2 (acts.Do (ops.Unlock (record { 0 = 1 }))) ∷ step_of 1 2 acts.Irq ∷ step_of 1 2 (acts.Do (ops.Unlock (record { 0 = 1 }))) ∷ step_of 1 2 acts.Irq ∷ step_of 1 2 (acts.Do (ops.Unlock (record { 0 = 1 }))) ∷ step_of 0 2 acts.Irq ∷ step_of 0 2 (acts.Do (ops.Unlock (record { 0 = 1 }))) ∷ []
 
-pub bound_reached-valid : IsValid bound_reached.setup
+pub omlp_reached-valid : IsValid omlp_reached.setup
 unfolding rules_computed
-bound_reached-valid = refl
+omlp_reached-valid = refl
 
-pub bound_reached-ends : ends bound_reached 6 3 1 (past_by bound_reached [] bound_reached_steps) ≡ 3
+pub omlp_reached-ends : ends omlp_reached 6 3 1 (past_by omlp_reached [] omlp_reached_steps) ≡ 3
 unfolding computed
-bound_reached-ends = refl
+omlp_reached-ends = refl
 
-pub bound_reached-bound : bound bound_reached 3 1 ≡ Some 3
+pub omlp_reached-bound : bound omlp_reached 3 1 ≡ Some 3
 unfolding computed
-bound_reached-bound = refl
+omlp_reached-bound = refl
+
+-- two users of an FMLP semaphore: the second request sees 2 - 1 = 1 critical section end
+abbrev pub fmlp_reached : Group
+fmlp_reached = record { setup = record { plugin = plugins.GsnEdf; clusters = record { cpus = 2; group = record { 0 = 0 } } ∷ []; sems = record { name = 115 ∷ []; protocol = Fmlp } ∷ []; resvs = []; tasks = named 97 (task_with 1 0 1 1000 100 0 Periodic 511 false (1 ∷ []) None) ∷ named 98 (task_with 2 0 1 1000 100 0 Periodic 511 false (1 ∷ []) None) ∷ []; drive = Steps [] }; number = 0 }
+
+abbrev pub fmlp_reached_steps : List Step
+fmlp_reached_steps = step_of 0 0 acts.Irq ∷ step_of 1 0 acts.Irq ∷ step_of 0 0 (acts.Do (ops.Lock (record { 0 = 1 }))) ∷ step_of 1 0 (acts.Do (ops.Lock (record { 0 = 1 }))) ∷ step_of 0 1 (acts.Do (ops.Unlock (record { 0 = 1 }))) ∷ []
+
+pub fmlp_reached-valid : IsValid fmlp_reached.setup
+unfolding rules_computed
+fmlp_reached-valid = refl
+
+pub fmlp_reached-ends : ends_all fmlp_reached 3 2 1 (past_by fmlp_reached [] fmlp_reached_steps) ≡ 1
+unfolding computed
+fmlp_reached-ends = refl
+
+pub fmlp_reached-bound : bound fmlp_reached 2 1 ≡ Some 1
+unfolding computed
+fmlp_reached-bound = refl
 
 -- a cost of 0: task 2 is queued, and that same act ends its job by force, so it waits with a job that has ended
 abbrev pub no_cost : Group

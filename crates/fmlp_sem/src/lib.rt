@@ -1,0 +1,116 @@
+//! A semaphore under the FMLP for long requests (Block, Leontyev, Brandenburg and Anderson, RTCSA 2007): requests wait first in, first out.
+#![tactic(auto)]
+
+ghost use Rattle.std.specs.Prelude.{◌≡◌, ◌<◌, ◌≢◌, ◌↔◌, [], false, length, IfOk, Some, None};
+ghost use Rattle.rt_base.specs.TaskNos.{number_of_task};
+ghost use Rattle.rt_rules.specs.Numbers.{has, first};
+ghost use Rattle.rt_rules.specs.SemState.{in_line, Asks, Frees};
+ghost use Rattle.rt_rules.specs.Fmlp.{fmlp_after};
+ghost use Rattle.fmlp_sem.specs.FmlpLine.{FmlpLine};
+
+use rt_base::{Ask, NoMemory, TaskNo};
+use rt_order::Key;
+use std::alloc::Global;
+use std::collections::VecDeque;
+use std::marker::Model;
+
+/// A semaphore whose requests wait in the order of asking; the first of them holds.
+#[derive(Drop)]
+pub struct FmlpSem {
+    line: VecDeque<TaskNo>,
+    room: u32,
+}
+
+impl Model for FmlpSem {
+    ghost use Rattle.std.specs.VecDeque.{deque_capacity};
+    ghost use Rattle.rt_base.specs.TaskNos.{numbers};
+    ghost use Rattle.fmlp_sem.specs.FmlpLine.{FmlpLine, IsRoomy};
+
+    ghost Value = { FmlpLine };
+
+    ghost view = { λ a. record { room = a.room; line = numbers a.line.items } };
+
+    ghost invariant = { λ a. IsRoomy a.room (deque_capacity a.line) (numbers a.line.items) };
+}
+
+impl FmlpSem {
+    /// A semaphore that nobody holds, for tasks whose numbers are below `room`. No later call takes memory.
+    pub fn new(alloc: Global, room: u32) -> Result<FmlpSem, NoMemory>
+        ensures { IfOk result (λ s. s ≡ record { room = room; line = [] }) }
+    {
+        let line = VecDeque::with_capacity(alloc, room as usize).map_err(|_| NoMemory)?;
+        Ok(FmlpSem { line, room })
+    }
+
+    /// The task asks for the semaphore. It holds it from now on where nobody did, else it waits behind all others. Its base key does not matter.
+    pub fn ask(&mut self, task: TaskNo, _key: Key) -> Ask
+        requires below { task.0 < self.old.room }
+        requires outside { has task.0 self.old.line ≡ false }
+        ensures after { self.new ≡ record self.old { line = fmlp_after (Asks task.0 0) self.old.line } }
+        ensures granted { (result ≡ Ask.Granted) ↔ ((in_line self.old.line).holder ≡ None) }
+        ensures queued { (result ≡ Ask.Queued) ↔ ((in_line self.old.line).holder ≢ None) }
+    {
+        let answer = if self.line.is_empty() {
+            Ask::Granted
+        } else {
+            Ask::Queued
+        };
+        self.line.push_back_reserved(task);
+        answer
+    }
+
+    /// The task, which holds the semaphore, frees it. The next in line holds it from now on: the answer. `None` where nobody waited.
+    pub fn release(&mut self, task: TaskNo) -> Option<TaskNo>
+        requires { (in_line self.old.line).holder ≡ Some task.0 }
+        ensures after { self.new ≡ record self.old { line = fmlp_after (Frees task.0 0) self.old.line } }
+        ensures next { number_of_task result ≡ (in_line self.new.line).holder }
+        ensures nobody { (result ≡ None) ↔ ((in_line self.old.line).waiting ≡ []) }
+    {
+        self.line.pop_front();
+        self.holder()
+    }
+
+    /// The task that holds the semaphore.
+    pub fn holder(&self) -> Option<TaskNo>
+        ensures { number_of_task result ≡ (in_line self.now.line).holder }
+    {
+        self.line.front().copied()
+    }
+
+    /// How many tasks wait.
+    pub fn waiters(&self) -> u32
+        ensures { result ≡ length (in_line self.now.line).waiting }
+    {
+        self.line.len().saturating_sub(1) as u32
+    }
+}
+
+#[cfg(test)]
+mod tests {
+    use super::*;
+    use std::test::Fail;
+
+    /// Four tasks on four processors: the first holds, the others wait in the order of asking, and each release passes the semaphore on to the next.
+    #[test]
+    fn tasks_hold_in_the_order_of_asking(rt: HostRuntime) -> Result<(), Fail> {
+        let key = Key {
+            band: 1,
+            major: 10,
+            minor: 1,
+        };
+        let mut sem = FmlpSem::new(rt.alloc(), 5)?;
+        assert_eq!(rt; sem.ask(TaskNo(1), key), Ask::Granted);
+        assert_eq!(rt; sem.ask(TaskNo(2), key), Ask::Queued);
+        assert_eq!(rt; sem.ask(TaskNo(3), key), Ask::Queued);
+        assert_eq!(rt; sem.ask(TaskNo(4), key), Ask::Queued);
+        assert_eq!(rt; sem.holder(), Some(TaskNo(1)));
+        assert_eq!(rt; sem.waiters(), 3);
+        assert_eq!(rt; sem.release(TaskNo(1)), Some(TaskNo(2)));
+        assert_eq!(rt; sem.release(TaskNo(2)), Some(TaskNo(3)));
+        assert_eq!(rt; sem.release(TaskNo(3)), Some(TaskNo(4)));
+        assert_eq!(rt; sem.release(TaskNo(4)), None);
+        assert_eq!(rt; sem.holder(), None);
+        assert_eq!(rt; sem.waiters(), 0);
+        Ok(())
+    }
+}

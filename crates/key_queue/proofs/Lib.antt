@@ -1,0 +1,4 @@
+pub mod Links
+pub mod RingLaws
+pub mod Copies
+pub mod QueueLaws

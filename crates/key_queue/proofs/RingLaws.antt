@@ -1,0 +1,109 @@
+-- What joining and leaving do to a ring.
+use Rattle.std.proofs.Common.{◌≡◌, ℕ, ◌+◌, ◌<◌, ◌≤◌, Bool, true, false, ◌||◌, ◌⊎◌, inl, inr, eqb-true, List, [], ◌∷◌, ◌++◌, length, get_or, set, refl, sym, ap, ◌∙◌, arith, length-set, get_or-set_same, get_or-set_other, replicate}
+use Rattle.std.proofs.lemmas.List.{get_or-replicate, length-replicate}
+use Rattle.std.specs.Prelude.{◌==◌, slice_index}
+use Rattle.std.proofs.lemmas.Bool.Decides.{nat_tests}
+use Rattle.rt_rules.specs.Distinct.{IsDistinct}
+use Rattle.rt_rules.specs.Numbers.{has, without}
+use Rattle.rt_rules.proofs.PlacingLaws.{either, unless}
+use Rattle.sem_laws.proofs.Members.{has-push, distinct-push, has-without, distinct-without}
+use Rattle.sem_laws.proofs.Few.{length-few}
+use Rattle.key_queue.specs.Ring.{IsLinked, IsRing, ring_from, ring_tasks}
+use Rattle.key_queue.proofs.Links.{last_of, has-last_of, previous-room, ring_from-linked, linked-push, linked-without, has-previous, has-next}
+
+-- a number that is another is no equal one
+pub differs : (a b : ℕ) → a == b ≡ false → a ≡ b → ⊥
+differs a b e s = grind (arith, nat_tests)
+
+pub not_equal : (a b : ℕ) → (a ≡ b → ⊥) → a == b ≡ false
+not_equal a b n = unless (a == b) (λ e. n (eqb-true a b e))
+
+same_place : (xs : List ℕ) (i v : ℕ) → i < length xs → slice_index (set xs i v) i ≡ v
+same_place xs i v h = get_or-set_same xs i v 0 h
+
+other_place : (xs : List ℕ) (i k v : ℕ) → k == i ≡ false → slice_index (set xs i v) k ≡ slice_index xs k
+other_place xs i k v e = get_or-set_other xs i k v 0 (differs k i e)
+
+pub ring-empty : (room : ℕ) → IsRing (replicate (room + 1) room) (replicate (room + 1) room) room []
+ring-empty room = record {
+  linked = (get_or-replicate (room + 1) room room 0 (omega arith), get_or-replicate (room + 1) room room 0 (omega arith));
+  once = tt;
+  below = λ t h. cc;
+  next_length = length-replicate (room + 1) room;
+  previous_length = length-replicate (room + 1) room;
+}
+
+module _ (next previous : List ℕ) (room : ℕ) (ts : List ℕ) (ring : IsRing next previous room ts) where
+  pub no_room : has room ts ≡ false
+  no_room = unless (has room ts) (λ h. let b : room < room = ring.below room h in omega arith)
+
+  pub ring_tasks-ring : ring_tasks next room ≡ ts
+  unfolding ring_tasks
+  ring_tasks-ring = ring_from-linked next (slice_index previous) room room room ts ring.linked no_room (length-few room ts ring.once ring.below)
+
+  within : (x : ℕ) → has x (room ∷ ts) ≡ true → x < room + 1
+  within x h = join (either (x == room) (has x ts) h)
+    where
+      join : (x == room ≡ true) ⊎ (has x ts ≡ true) → x < room + 1
+      join (inl m) = let e : x ≡ room = eqb-true x room m in omega arith
+      join (inr m) = omega (arith, ring.below x m)
+
+  pub last_within : slice_index previous room < room + 1
+  last_within = within _ (ap (λ n. has n (room ∷ ts)) (previous-room (slice_index next) (slice_index previous) room room ts ring.linked) ∙ has-last_of room ts)
+
+  pub previous_within : (t : ℕ) → has t ts ≡ true → slice_index previous t < room + 1
+  previous_within t h = within _ (has-previous (slice_index next) (slice_index previous) (slice_index next) (slice_index previous) room t room ts ring.linked h)
+
+  pub next_within : (t : ℕ) → has t ts ≡ true → slice_index next t < room + 1
+  next_within t h = join (has-next (slice_index next) (slice_index previous) (slice_index next) (slice_index previous) room t room ts ring.linked h)
+    where
+      join : (slice_index next t ≡ room) ⊎ (has (slice_index next t) ts ≡ true) → slice_index next t < room + 1
+      join (inl e) = omega arith
+      join (inr m) = omega (arith, ring.below _ m)
+
+  pub ring-push : (t l : ℕ) → l ≡ slice_index previous room → t < room → has t ts ≡ false → IsRing (set (set next l t) t room) (set (set previous t l) room t) room (ts ++ t ∷ [])
+  ring-push t l is below out =
+      let not_room : t == room ≡ false = not_equal t room (λ e. omega arith) in
+      let room_not : room == t ≡ false = not_equal room t (λ e. omega arith) in
+      let within_l : l < room + 1 = omega (arith, last_within) in
+      let t_not_l : t == l ≡ false = not_equal t l (λ e. apart_last e) in
+      let l_not_t : l == t ≡ false = not_equal l t (λ e. apart_last (sym e)) in
+      record {
+        linked = linked-push (slice_index next) (slice_index previous) (slice_index (set (set next l t) t room)) (slice_index (set (set previous t l) room t)) room t l room ts
+          (is ∙ previous-room (slice_index next) (slice_index previous) room room ts ring.linked) ring.linked no_room ring.once no_room room_not out
+          (other_place (set next l t) t l room l_not_t ∙ same_place next l t (omega (arith, ring.next_length)))
+          (same_place (set next l t) t room (omega (arith, length-set next l t, ring.next_length)))
+          (other_place (set previous t l) room t t not_room ∙ same_place previous t l (omega (arith, ring.previous_length)))
+          (same_place (set previous t l) room t (omega (arith, length-set previous t l, ring.previous_length)))
+          (λ k a b. other_place (set next l t) t k room b ∙ other_place next l k t a)
+          (λ k a b. other_place (set previous t l) room k t b ∙ other_place previous t k l a);
+        once = distinct-push t ts ring.once out;
+        below = λ u h. under u (either (u == t) (has u ts) (sym (has-push u t ts) ∙ h));
+        next_length = length-set _ _ _ ∙ length-set _ _ _ ∙ ring.next_length;
+        previous_length = length-set _ _ _ ∙ length-set _ _ _ ∙ ring.previous_length;
+      }
+    where
+      under : (u : ℕ) → (u == t ≡ true) ⊎ (has u ts ≡ true) → u < room
+      under u (inl m) = let e : u ≡ t = eqb-true u t m in omega arith
+      under u (inr m) = ring.below u m
+
+      apart_last : t ≡ l → ⊥
+      apart_last e = join (either (l == room) (has l ts) (ap (λ n. has n (room ∷ ts)) (is ∙ previous-room (slice_index next) (slice_index previous) room room ts ring.linked) ∙ has-last_of room ts))
+        where
+          join : (l == room ≡ true) ⊎ (has l ts ≡ true) → ⊥
+          join (inl m) = let s : l ≡ room = eqb-true l room m in omega arith
+          join (inr m) = let n : has t ts ≡ true = ap (λ i. has i ts) e ∙ m in cc
+
+  pub ring-without : (t : ℕ) → has t ts ≡ true → IsRing (set next (slice_index previous t) (slice_index next t)) (set previous (slice_index next t) (slice_index previous t)) room (without t ts)
+  ring-without t there = record {
+    linked = linked-without (slice_index next) (slice_index previous) (slice_index (set next (slice_index previous t) (slice_index next t))) (slice_index (set previous (slice_index next t) (slice_index previous t))) room t room ts
+      ring.linked no_room ring.once no_room there
+      (same_place next (slice_index previous t) (slice_index next t) (omega (arith, ring.next_length, previous_within t there)))
+      (same_place previous (slice_index next t) (slice_index previous t) (omega (arith, ring.previous_length, next_within t there)))
+      (λ k a. other_place next (slice_index previous t) k (slice_index next t) a)
+      (λ k a. other_place previous (slice_index next t) k (slice_index previous t) a);
+    once = distinct-without t ts ring.once;
+    below = λ u h. ring.below u (has-without u t ts h);
+    next_length = length-set _ _ _ ∙ ring.next_length;
+    previous_length = length-set _ _ _ ∙ ring.previous_length;
+  }

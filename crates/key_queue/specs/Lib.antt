@@ -1,0 +1,3 @@
+pub mod Ring
+pub mod Waiting
+pub mod Queue

@@ -1,0 +1,73 @@
+//! A list of tasks from which any can leave in constant time.
+ghost use Rattle.std.specs.Prelude.{◌≡◌, ◌<◌, [], ◌∷◌, ◌++◌, ◌+◌, true, false, IfOk, replicate};
+ghost use Rattle.rt_rules.specs.Numbers.{has, without};
+ghost use Rattle.key_queue.specs.Ring.{Line};
+
+use rt_base::{NoMemory, TaskNo};
+use std::alloc::Global;
+use std::marker::Model;
+
+/// Tasks in the order of coming, each once, with numbers below a room. They are kept as a ring: each place names the next and the previous one, and the room itself is the place before the first and after the last.
+#[derive(Drop)]
+pub struct TaskLine {
+    next: Vec<u32>,
+    previous: Vec<u32>,
+    room: u32,
+}
+
+impl Model for TaskLine {
+    ghost use Rattle.key_queue.specs.Ring.{Line, IsRing, ring_tasks};
+
+    ghost Value = { Line };
+
+    ghost view = { λ a. record { room = a.room; tasks = ring_tasks a.next.items a.room } };
+
+    ghost invariant = { λ a. IsRing a.next.items a.previous.items a.room (ring_tasks a.next.items a.room) };
+}
+
+// The links of a ring in which the room stands alone.
+fn empty_ring(alloc: Global, room: u32) -> Result<Vec<u32>, NoMemory>
+    ensures { IfOk result (λ v. v.items ≡ replicate (room + 1) room) }
+{
+    vec![in alloc; room; room as usize + 1].map_err(|_| NoMemory)
+}
+
+impl TaskLine {
+    /// An empty line for tasks whose numbers are below `room`. No later call takes memory.
+    pub fn new(alloc: Global, room: u32) -> Result<TaskLine, NoMemory>
+        ensures { IfOk result (λ l. l ≡ record { room = room; tasks = [] }) }
+    {
+        Ok(TaskLine {
+            next: empty_ring(alloc, room)?,
+            previous: empty_ring(alloc, room)?,
+            room,
+        })
+    }
+
+    /// The task comes last.
+    pub fn push(&mut self, task: TaskNo)
+        requires below { task.0 < self.old.room }
+        requires outside { has task.0 self.old.tasks ≡ false }
+        ensures { self.new ≡ record self.old { tasks = self.old.tasks ++ task.0 ∷ [] } }
+    {
+        let room = self.room as usize;
+        let place = task.0 as usize;
+        let last = self.previous[room];
+        self.next[last as usize] = task.0;
+        self.next[place] = self.room;
+        self.previous[place] = last;
+        self.previous[room] = task.0;
+    }
+
+    /// The task leaves, wherever it stands.
+    pub fn remove(&mut self, task: TaskNo)
+        requires { has task.0 self.old.tasks ≡ true }
+        ensures { self.new ≡ record self.old { tasks = without task.0 self.old.tasks } }
+    {
+        let place = task.0 as usize;
+        let next = self.next[place];
+        let previous = self.previous[place];
+        self.next[previous as usize] = next;
+        self.previous[next as usize] = previous;
+    }
+}

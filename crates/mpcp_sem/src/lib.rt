@@ -1,0 +1,125 @@
+//! A semaphore under the MPCP (Rajkumar; suspension-based): at a release the waiting task of the highest base key is next.
+#![tactic(auto)]
+
+ghost use Rattle.std.specs.Prelude.{◌≡◌, ◌<◌, ◌≢◌, ◌↔◌, [], ℕ, true, false, length, IfOk, Some, None, slice_set};
+ghost use Rattle.rt_base.specs.TaskNos.{number_of_task};
+ghost use Rattle.rt_order.specs.KeyOrder.{equal_keys};
+ghost use Rattle.rt_rules.specs.Numbers.{has};
+ghost use Rattle.rt_rules.specs.SemState.{Asks, Frees};
+ghost use Rattle.rt_rules.specs.Mpcp.{mpcp_after};
+ghost use Rattle.sem_laws.specs.KeptKeys.{key_at, above};
+ghost use Rattle.mpcp_sem.specs.MpcpState.{MpcpState};
+
+use key_queue::KeyQueue;
+use rt_base::{Ask, NoMemory, TaskNo};
+use rt_order::Key;
+use std::alloc::Global;
+use std::marker::Model;
+
+/// A semaphore that passes on to the waiting task of the highest base key. It keeps the key with which a task asked.
+#[derive(Drop)]
+pub struct MpcpSem {
+    holder: Option<TaskNo>,
+    queue: KeyQueue,
+}
+
+impl Model for MpcpSem {
+    ghost use Rattle.rt_base.specs.TaskNos.{number_of_task};
+    ghost use Rattle.mpcp_sem.specs.MpcpState.{MpcpState};
+
+    ghost Value = { MpcpState };
+
+    ghost view = { λ a. record { state = record { holder = number_of_task a.holder; waiting = a.queue.waiting }; keys = a.queue.keys } };
+}
+
+impl MpcpSem {
+    /// A semaphore that nobody holds, for tasks whose numbers are below `room`. No later call takes memory.
+    pub fn new(alloc: Global, room: u32) -> Result<MpcpSem, NoMemory>
+        ensures free { IfOk result (λ s. s.state ≡ record { holder = None; waiting = [] }) }
+        ensures room { IfOk result (λ s. length s.keys ≡ room) }
+    {
+        let queue = KeyQueue::new(alloc, room)?;
+        Ok(MpcpSem {
+            holder: None,
+            queue,
+        })
+    }
+
+    /// The task asks for the semaphore with its base key. It holds it from now on where nobody did, else it waits. No other waiting task asked with that key.
+    pub fn ask(&mut self, task: TaskNo, key: Key) -> Ask
+        requires below { task.0 < length self.old.keys }
+        requires free_hands { self.old.state.holder ≢ Some task.0 }
+        requires outside { has task.0 self.old.state.waiting ≡ false }
+        requires apart { (t : ℕ) → has t self.old.state.waiting ≡ true → equal_keys (key_at self.old.keys t) key ≡ false }
+        ensures after { self.new ≡ record { state = mpcp_after (above self.old.keys) (Asks task.0 0) self.old.state; keys = slice_set self.old.keys task.0 key } }
+        ensures granted { (result ≡ Ask.Granted) ↔ (self.old.state.holder ≡ None) }
+        ensures queued { (result ≡ Ask.Queued) ↔ (self.old.state.holder ≢ None) }
+    {
+        if self.holder.is_none() {
+            self.queue.note(task, key);
+            self.holder = Some(task);
+            Ask::Granted
+        } else {
+            self.queue.push(task, key);
+            Ask::Queued
+        }
+    }
+
+    /// The task, which holds the semaphore, frees it. The waiting task of the highest key holds it from now on: the answer. `None` where nobody waited.
+    pub fn release(&mut self, task: TaskNo) -> Option<TaskNo>
+        requires { self.old.state.holder ≡ Some task.0 }
+        ensures after { self.new ≡ record self.old { state = mpcp_after (above self.old.keys) (Frees task.0 0) self.old.state } }
+        ensures next { number_of_task result ≡ self.new.state.holder }
+        ensures nobody { (result ≡ None) ↔ (self.old.state.waiting ≡ []) }
+    {
+        self.holder = self.queue.pop();
+        self.holder
+    }
+
+    /// The task that holds the semaphore.
+    pub fn holder(&self) -> Option<TaskNo>
+        ensures { number_of_task result ≡ self.now.state.holder }
+    {
+        self.holder
+    }
+
+    /// How many tasks wait.
+    pub fn waiters(&self) -> u32
+        ensures { result ≡ length self.now.state.waiting }
+    {
+        self.queue.len()
+    }
+}
+
+#[cfg(test)]
+mod tests {
+    use super::*;
+    use std::test::Fail;
+
+    fn base_key(prio: u64, task: u32) -> Key
+        ensures { result ≡ record { band = 2; major = prio; minor = task } }
+    {
+        Key {
+            band: 2,
+            major: prio,
+            minor: task,
+        }
+    }
+
+    /// Task 2 holds while task 3 and then the higher task 4 ask: task 4 is next, though it asked later.
+    #[test]
+    fn the_highest_waiting_task_is_next(rt: HostRuntime) -> Result<(), Fail> {
+        let mut sem = MpcpSem::new(rt.alloc(), 5)?;
+        assert_eq!(rt; sem.ask(TaskNo(2), base_key(5, 2)), Ask::Granted);
+        assert_eq!(rt; sem.ask(TaskNo(3), base_key(3, 3)), Ask::Queued);
+        assert_eq!(rt; sem.ask(TaskNo(4), base_key(2, 4)), Ask::Queued);
+        assert_eq!(rt; sem.holder(), Some(TaskNo(2)));
+        assert_eq!(rt; sem.waiters(), 2);
+        assert_eq!(rt; sem.release(TaskNo(2)), Some(TaskNo(4)));
+        assert_eq!(rt; sem.release(TaskNo(4)), Some(TaskNo(3)));
+        assert_eq!(rt; sem.waiters(), 0);
+        assert_eq!(rt; sem.release(TaskNo(3)), None);
+        assert_eq!(rt; sem.holder(), None);
+        Ok(())
+    }
+}

@@ -1,0 +1,139 @@
+//! A semaphore under the OMLP (Brandenburg and Anderson, RTSS 2010): a FIFO list of at most so many requests, fed by a priority queue.
+#![tactic(auto)]
+
+ghost use Rattle.std.specs.Prelude.{◌≡◌, ◌<◌, ◌≤◌, ◌≢◌, ◌↔◌, [], ℕ, true, false, length, IfOk, Some, None, slice_set};
+ghost use Rattle.rt_base.specs.TaskNos.{number_of_task};
+ghost use Rattle.rt_order.specs.KeyOrder.{equal_keys};
+ghost use Rattle.rt_rules.specs.Numbers.{has};
+ghost use Rattle.rt_rules.specs.SemState.{Asks, Frees};
+ghost use Rattle.rt_rules.specs.Omlp.{omlp_after, omlp_sem_state};
+ghost use Rattle.sem_laws.specs.KeptKeys.{key_at, above};
+ghost use Rattle.omlp_sem.specs.OmlpKept.{OmlpKept};
+
+use key_queue::KeyQueue;
+use rt_base::{Ask, NoMemory, TaskNo};
+use rt_order::Key;
+use std::alloc::Global;
+use std::collections::VecDeque;
+use std::marker::Model;
+
+/// A semaphore whose FIFO list takes at most `cap` requests, of which the first holds; all others wait in a priority queue. It keeps the key with which a task asked.
+#[derive(Drop)]
+pub struct OmlpSem {
+    cap: u32,
+    fifo: VecDeque<TaskNo>,
+    queue: KeyQueue,
+}
+
+impl Model for OmlpSem {
+    ghost use Rattle.std.specs.Prelude.{length};
+    ghost use Rattle.std.specs.VecDeque.{deque_capacity};
+    ghost use Rattle.rt_base.specs.TaskNos.{numbers};
+    ghost use Rattle.omlp_sem.specs.OmlpKept.{OmlpKept, IsOmlp};
+
+    ghost Value = { OmlpKept };
+
+    ghost view = { λ a. record { cap = a.cap; state = record { fifo = numbers a.fifo.items; queue = a.queue.waiting }; keys = a.queue.keys } };
+
+    ghost invariant = { λ a. IsOmlp a.cap (length a.queue.keys) (deque_capacity a.fifo) (numbers a.fifo.items) a.queue.waiting };
+}
+
+impl OmlpSem {
+    /// A semaphore that nobody holds, whose FIFO list takes at most `cap` requests, for tasks whose numbers are below `room`. No later call takes memory.
+    pub fn new(alloc: Global, cap: u32, room: u32) -> Result<OmlpSem, NoMemory>
+        requires { 1 ≤ cap }
+        ensures free { IfOk result (λ s. s.state ≡ record { fifo = []; queue = [] }) }
+        ensures cap { IfOk result (λ s. s.cap ≡ cap) }
+        ensures room { IfOk result (λ s. length s.keys ≡ room) }
+    {
+        let fifo = VecDeque::with_capacity(alloc, cap.min(room) as usize).map_err(|_| NoMemory)?;
+        let queue = KeyQueue::new(alloc, room)?;
+        Ok(OmlpSem { cap, fifo, queue })
+    }
+
+    /// The task asks for the semaphore with its base key. It joins the FIFO list where that has room, else the priority queue; it holds where nobody did. No waiting task asked with that key.
+    pub fn ask(&mut self, task: TaskNo, key: Key) -> Ask
+        requires below { task.0 < length self.old.keys }
+        requires free_hands { (omlp_sem_state self.old.state).holder ≢ Some task.0 }
+        requires outside { has task.0 (omlp_sem_state self.old.state).waiting ≡ false }
+        requires apart { (t : ℕ) → has t (omlp_sem_state self.old.state).waiting ≡ true → equal_keys (key_at self.old.keys t) key ≡ false }
+        ensures after { self.new ≡ record { cap = self.old.cap; state = omlp_after self.old.cap (above self.old.keys) (Asks task.0 0) self.old.state; keys = slice_set self.old.keys task.0 key } }
+        ensures granted { (result ≡ Ask.Granted) ↔ ((omlp_sem_state self.old.state).holder ≡ None) }
+        ensures queued { (result ≡ Ask.Queued) ↔ ((omlp_sem_state self.old.state).holder ≢ None) }
+    {
+        let answer = if self.fifo.is_empty() {
+            Ask::Granted
+        } else {
+            Ask::Queued
+        };
+        if self.fifo.len() < self.cap as usize {
+            self.queue.note(task, key);
+            self.fifo.push_back_reserved(task);
+        } else {
+            self.queue.push(task, key);
+        }
+        answer
+    }
+
+    /// The task, which holds the semaphore, frees it: it leaves the FIFO list, and the task of the highest key of the priority queue, if any, joins that list. The answer is the task that holds from now on, `None` where nobody waited.
+    pub fn release(&mut self, task: TaskNo) -> Option<TaskNo>
+        requires { (omlp_sem_state self.old.state).holder ≡ Some task.0 }
+        ensures after { self.new ≡ record self.old { state = omlp_after self.old.cap (above self.old.keys) (Frees task.0 0) self.old.state } }
+        ensures next { number_of_task result ≡ (omlp_sem_state self.new.state).holder }
+        ensures nobody { (result ≡ None) ↔ ((omlp_sem_state self.old.state).waiting ≡ []) }
+    {
+        self.fifo.pop_front();
+        if let Some(next) = self.queue.pop() {
+            self.fifo.push_back_reserved(next);
+        }
+        self.holder()
+    }
+
+    /// The task that holds the semaphore.
+    pub fn holder(&self) -> Option<TaskNo>
+        ensures { number_of_task result ≡ (omlp_sem_state self.now.state).holder }
+    {
+        self.fifo.front().copied()
+    }
+
+    /// How many tasks wait.
+    pub fn waiters(&self) -> u32
+        ensures { result ≡ length (omlp_sem_state self.now.state).waiting }
+    {
+        self.fifo.len().saturating_sub(1) as u32 + self.queue.len()
+    }
+}
+
+#[cfg(test)]
+mod tests {
+    use super::*;
+    use std::test::Fail;
+
+    fn base_key(deadline: u64, task: u32) -> Key
+        ensures { result ≡ record { band = 2; major = deadline; minor = task } }
+    {
+        Key {
+            band: 2,
+            major: deadline,
+            minor: task,
+        }
+    }
+
+    /// Two processors: tasks 1 and 2 are in the FIFO list, tasks 3 and 4 in the priority queue; task 4, of the earliest deadline, joins the FIFO list before task 3.
+    #[test]
+    fn the_earliest_deadline_joins_the_list(rt: HostRuntime) -> Result<(), Fail> {
+        let mut sem = OmlpSem::new(rt.alloc(), 2, 5)?;
+        assert_eq!(rt; sem.ask(TaskNo(1), base_key(100, 1)), Ask::Granted);
+        assert_eq!(rt; sem.ask(TaskNo(2), base_key(100, 2)), Ask::Queued);
+        assert_eq!(rt; sem.ask(TaskNo(3), base_key(51, 3)), Ask::Queued);
+        assert_eq!(rt; sem.ask(TaskNo(4), base_key(22, 4)), Ask::Queued);
+        assert_eq!(rt; sem.waiters(), 3);
+        assert_eq!(rt; sem.release(TaskNo(1)), Some(TaskNo(2)));
+        assert_eq!(rt; sem.release(TaskNo(2)), Some(TaskNo(4)));
+        assert_eq!(rt; sem.release(TaskNo(4)), Some(TaskNo(3)));
+        assert_eq!(rt; sem.holder(), Some(TaskNo(3)));
+        assert_eq!(rt; sem.release(TaskNo(3)), None);
+        assert_eq!(rt; sem.waiters(), 0);
+        Ok(())
+    }
+}

@@ -1,0 +1,196 @@
+//! The semaphores of one cluster under the PCP (Sha, Rajkumar and Lehoczky, 1990): a task is granted a semaphore where its base key is above the ceilings of all that other tasks hold.
+#![tactic(auto)]
+
+ghost use Rattle.std.specs.Prelude.{◌≡◌, ◌≢◌, ◌<◌, ◌≤◌, ◌↔◌, ◌++◌, ◌==◌, [], ℕ, true, false, length, reverse, filter, IfOk, IsNone, Some, None, slice_set, slice_get};
+ghost use Rattle.rt_base.specs.TaskNos.{number_of_task};
+ghost use Rattle.rt_order.specs.KeyOrder.{higher, equal_keys};
+ghost use Rattle.rt_rules.specs.Numbers.{has};
+ghost use Rattle.rt_rules.specs.SemState.{Asks, Frees};
+ghost use Rattle.rt_rules.specs.Pcp.{pcp_after, pcp_sem_state, passes, without_pair};
+ghost use Rattle.sem_laws.specs.KeptKeys.{key_at, above};
+ghost use Rattle.pcp_sem.specs.Pairs.{has_pair, tasks_of};
+ghost use Rattle.pcp_sem.specs.PcpKept.{PcpKept, above_ceiling, blocker_of, last_granted};
+ghost use Rattle.pcp_sem.specs.Settled.{IsSettled};
+
+use pairs::Pair;
+use rt_base::{Ask, NoMemory, TaskNo};
+use rt_order::Key;
+use std::alloc::Global;
+use std::marker::Model;
+
+mod pairs;
+
+/// Semaphores, numbered from 0, with their ceilings: the highest base key of the users of each. It keeps the key with which a task asked.
+#[derive(Drop)]
+pub struct PcpSet {
+    ceilings: Vec<Key>,
+    keys: Vec<Key>,
+    held: Vec<Pair>,
+    waiting: Vec<Pair>,
+    order: Vec<Pair>,
+    grants: Vec<TaskNo>,
+}
+
+impl Model for PcpSet {
+    ghost use Rattle.std.specs.Prelude.{vec_capacity};
+    ghost use Rattle.rt_base.specs.TaskNos.{numbers};
+    ghost use Rattle.pcp_sem.specs.Listed.{pairs};
+    ghost use Rattle.pcp_sem.specs.PcpKept.{PcpKept};
+    ghost use Rattle.pcp_sem.specs.IsPcp.{IsPcp};
+
+    ghost Value = { PcpKept };
+
+    ghost view = { λ a. record { ceilings = a.ceilings.items; state = record { held = pairs a.held.items; waiting = pairs a.waiting.items }; keys = a.keys.items; grants = numbers a.grants.items } };
+
+    ghost invariant = { λ a. IsPcp a.ceilings.items a.keys.items (record { held = pairs a.held.items; waiting = pairs a.waiting.items }) (vec_capacity a.held) (vec_capacity a.waiting) (vec_capacity a.order) (vec_capacity a.grants) };
+}
+
+impl PcpSet {
+    /// A set whose semaphores nobody holds, for tasks whose numbers are below `room`. No later call takes memory.
+    pub fn new(alloc: Global, ceilings: &[Key], room: u32) -> Result<PcpSet, NoMemory>
+        ensures free { IfOk result (λ s. s.state ≡ record { held = []; waiting = [] }) }
+        ensures ceilings { IfOk result (λ s. s.ceilings ≡ ceilings.now) }
+        ensures room { IfOk result (λ s. length s.keys ≡ room) }
+        ensures grants { IfOk result (λ s. s.grants ≡ []) }
+    {
+        let room = room as usize;
+        let most = ceilings.len().checked_add(room).ok_or(NoMemory)?;
+        Ok(PcpSet {
+            ceilings: Vec::from_slice(alloc, ceilings).map_err(|_| NoMemory)?,
+            keys: pairs::lowest_keys(alloc, room)?,
+            held: pairs::reserved(alloc, most)?,
+            waiting: pairs::reserved(alloc, room)?,
+            order: pairs::reserved(alloc, room)?,
+            grants: pairs::reserved_tasks(alloc, room)?,
+        })
+    }
+
+    /// The task asks for the semaphore with its base key. It holds it from now on where its key is above the ceilings of all semaphores that other tasks hold, else it waits.
+    ///
+    /// The task waits for no semaphore, does not hold this one and holds fewer than eight. Its key is not higher than the ceiling of the semaphore, is the one with which it asked for what it holds, and differs from the keys of all other tasks that hold or wait.
+    pub fn ask(&mut self, task: TaskNo, key: Key, sem: u32) -> Ask
+        requires below { task.0 < length self.old.keys }
+        requires known { sem < length self.old.ceilings }
+        requires idle { has task.0 (tasks_of self.old.state.waiting) ≡ false }
+        requires fresh { has_pair task.0 sem self.old.state.held ≡ false }
+        requires few { length (filter (λ p. p.task == task.0) self.old.state.held) < 8 }
+        requires low { higher key (key_at self.old.ceilings sem) ≡ false }
+        requires same { has task.0 (tasks_of self.old.state.held) ≡ true → key_at self.old.keys task.0 ≡ key }
+        requires apart { (t : ℕ) → t ≢ task.0 → has t (tasks_of self.old.state.held ++ tasks_of self.old.state.waiting) ≡ true → equal_keys (key_at self.old.keys t) key ≡ false }
+        ensures after { let keys = slice_set self.old.keys task.0 key in
+            self.new ≡ record self.old { state = pcp_after (above keys) (above_ceiling keys self.old.ceilings) (Asks task.0 sem) self.old.state; keys = keys } }
+        ensures granted { (result ≡ Ask.Granted) ↔ (passes (above_ceiling self.new.keys self.new.ceilings) self.old.state.held task.0 ≡ true) }
+        ensures queued { (result ≡ Ask.Queued) ↔ (passes (above_ceiling self.new.keys self.new.ceilings) self.old.state.held task.0 ≡ false) }
+        ensures settled { IsSettled self.new }
+    {
+        self.keys[task.0 as usize] = key;
+        let pair = Pair { task, sem };
+        if pairs::does_pass(
+            self.held.as_slice(),
+            self.keys.as_slice(),
+            self.ceilings.as_slice(),
+            task,
+        ) {
+            pairs::put_first(&mut self.held, pair);
+            Ask::Granted
+        } else {
+            pairs::put_behind(&mut self.waiting, pair);
+            Ask::Queued
+        }
+    }
+
+    /// The task frees the semaphore, the last that it was granted among those it holds. Then each waiting task is tested once, in falling order of keys, and is granted its semaphore where it passes at its turn. The answer is how many were granted.
+    pub fn release(&mut self, task: TaskNo, sem: u32) -> u32
+        requires known { sem < length self.old.ceilings }
+        requires last { last_granted self.old.state.held task.0 ≡ Some sem }
+        ensures after { self.new ≡ record self.old { state = pcp_after (above self.old.keys) (above_ceiling self.old.keys self.old.ceilings) (Frees task.0 sem) self.old.state; grants = self.new.grants } }
+        ensures grants { tasks_of self.new.state.held ≡ reverse self.new.grants ++ tasks_of (without_pair (record { task = task.0; sem = sem }) self.old.state.held) }
+        ensures count { result ≡ length self.new.grants }
+        ensures settled { IsSettled self.new }
+    {
+        pairs::take_out(&mut self.held, Pair { task, sem });
+        pairs::sort_by_key(
+            &mut self.order,
+            self.waiting.as_slice(),
+            self.keys.as_slice(),
+        );
+        self.grants.clear();
+        pairs::test_in_order(
+            self.order.as_slice(),
+            self.keys.as_slice(),
+            self.ceilings.as_slice(),
+            &mut self.held,
+            &mut self.waiting,
+            &mut self.grants,
+        );
+        self.grants.len() as u32
+    }
+
+    /// The task that the last release granted at that place, counted from 0, in order of granting; `None` past the last of them, and before the first release.
+    pub fn granted(&self, i: u32) -> Option<TaskNo>
+        ensures task { number_of_task result ≡ slice_get self.now.grants i }
+        ensures past { IsNone result ↔ (length self.now.grants ≤ i) }
+    {
+        self.grants.get(i as usize).copied()
+    }
+
+    /// The task that holds the highest ceiling among the semaphores that other tasks hold, ties to the lower number of the semaphore; `None` where no other task holds one. A waiting task has one, which does not wait.
+    pub fn blocker(&self, task: TaskNo) -> Option<TaskNo>
+        ensures holder { number_of_task result ≡ blocker_of self.now.ceilings self.now.state.held task.0 }
+        ensures settled { IsSettled self.now }
+    {
+        pairs::newest_of_others(self.held.as_slice(), task)
+    }
+
+    /// The task that holds the semaphore.
+    pub fn holder(&self, sem: u32) -> Option<TaskNo>
+        requires { sem < length self.now.ceilings }
+        ensures { number_of_task result ≡ (pcp_sem_state sem self.now.state).holder }
+    {
+        pairs::holder_in(self.held.as_slice(), sem)
+    }
+
+    /// The semaphore that the task was granted last among those that it holds.
+    pub fn last_of(&self, task: TaskNo) -> Option<u32>
+        ensures { result ≡ last_granted self.now.state.held task.0 }
+    {
+        pairs::last_in(self.held.as_slice(), task)
+    }
+}
+
+#[cfg(test)]
+mod tests {
+    use super::*;
+    use std::test::Fail;
+
+    /// Task 1 asks for a free semaphore and waits because of the ceiling of the other, which task 2 holds; task 2 then takes the free one, and frees both.
+    #[test]
+    fn another_ceiling_refuses(rt: HostRuntime) -> Result<(), Fail> {
+        let high = Key {
+            band: 2,
+            major: 1,
+            minor: 1,
+        };
+        let low = Key {
+            band: 2,
+            major: 5,
+            minor: 2,
+        };
+        let ceilings = [high, high];
+        let mut set = PcpSet::new(rt.alloc(), &ceilings, 3)?;
+        assert_eq!(rt; set.ask(TaskNo(2), low, 0), Ask::Granted);
+        assert_eq!(rt; set.ask(TaskNo(1), high, 1), Ask::Queued);
+        assert_eq!(rt; set.blocker(TaskNo(1)), Some(TaskNo(2)));
+        assert_eq!(rt; set.blocker(TaskNo(2)), None);
+        assert_eq!(rt; set.ask(TaskNo(2), low, 1), Ask::Granted);
+        assert_eq!(rt; set.last_of(TaskNo(2)), Some(1));
+        assert_eq!(rt; set.granted(0), None);
+        assert_eq!(rt; set.release(TaskNo(2), 1), 0);
+        assert_eq!(rt; set.release(TaskNo(2), 0), 1);
+        assert_eq!(rt; set.granted(0), Some(TaskNo(1)));
+        assert_eq!(rt; set.holder(1), Some(TaskNo(1)));
+        assert_eq!(rt; set.holder(0), None);
+        assert_eq!(rt; set.release(TaskNo(1), 1), 0);
+        Ok(())
+    }
+}
