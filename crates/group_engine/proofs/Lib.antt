@@ -13,3 +13,4 @@ pub mod Acts
 pub mod Limits
 pub mod Doing
 pub mod Stepping
+pub mod Opening

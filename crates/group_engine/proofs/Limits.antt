@@ -60,7 +60,7 @@ each-all P [] e k d lt = absurd (omega arith)
 each-all P (r ∷ rs) e zero d lt = e.0
 each-all P (r ∷ rs) e (suc k) d lt = each-all P rs e.1 k d (omega arith)
 
-ranked_by-each : (P : Ranked → Type 0) (key : ℕ → Key) (test : ℕ → Bool) (ts : List ℕ) → ((t : ℕ) → has t ts ≡ true → P (record { key = key t; task = t })) → All P (ranked_by key test ts)
+pub ranked_by-each : (P : Ranked → Type 0) (key : ℕ → Key) (test : ℕ → Bool) (ts : List ℕ) → ((t : ℕ) → has t ts ≡ true → P (record { key = key t; task = t })) → All P (ranked_by key test ts)
 ranked_by-each P key test ts h = each-all P _ (each-sorted P _ (listed ts (λ t k. h t k)))
   where
     listed : (us : List ℕ) → ((t : ℕ) → has t us ≡ true → P (record { key = key t; task = t })) → Each P (map (λ t. record { key = key t; task = t }) (filter test us))
@@ -71,7 +71,7 @@ ranked_by-each P key test ts h = each-all P _ (each-sorted P _ (listed ts (λ t 
         by_case true rest = (k u (rw (equal_self u)), rest)
         by_case false rest = rest
 
-length-sorted : (rs : List Ranked) → length (sorted rs) ≡ length rs
+pub length-sorted : (rs : List Ranked) → length (sorted rs) ≡ length rs
 length-sorted [] = refl
 length-sorted (r ∷ rs) = length-inserted r (sorted rs) ∙ (let e = length-sorted rs in omega (arith, e))
 
@@ -93,14 +93,14 @@ distinct-ranked_by key test ts d =
     let e : IsDistinct (tasks_ranked listed) = rw (tasks_ranked-keys key (filter test ts)) (distinct-filter test ts d) in
     distinct-sorted listed e
 
-length-numbers : (a n : ℕ) → length (numbers_from a n) ≡ n
+pub length-numbers : (a n : ℕ) → length (numbers_from a n) ≡ n
 length-numbers a zero = refl
 length-numbers a (suc n) = ap suc (length-numbers (suc a) n)
 
 -- ---- the parts of the state that is kept
 
 module _ (g : Group) (s : IsPlainGroup g) (p : Past) (state : State) (k : IsKept g p state) where
-  length-tasks : length (tasks_of g 0) ≡ length g.setup.tasks
+  pub length-tasks : length (tasks_of g 0) ≡ length g.setup.tasks
   length-tasks = rw s.homes_are (length-numbers 1 (length g.setup.tasks))
 
   -- there is room for all

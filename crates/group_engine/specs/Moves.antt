@@ -1,14 +1,15 @@
 -- What each move makes of the state, in a cluster of m processors whose tasks have these relative deadlines.
-use Rattle.std.specs.Prelude.{ℕ, ◌+◌, ◌-◌, max, Bool, true, List, [], ◌∷◌, Option, None, Some, if◌then◌else◌, length, replicate, slice_index, slice_index_or, slice_set}
+use Rattle.std.specs.Prelude.{ℕ, ◌+◌, ◌-◌, ◌^◌, ◌<◌, ◌≤◌, All, max, Bool, true, List, [], ◌∷◌, Option, None, Some, if◌then◌else◌, length, replicate, slice_index, slice_index_or, slice_set}
 use Rattle.rt_task.specs.declared.Task.{Task}
 use Rattle.rt_order.specs.declared.Key.{Key}
 use Rattle.rt_rules.specs.Numbers.{numbers_from}
 use Rattle.rt_model.specs.Group.{no_task}
 use Rattle.rt_rules.specs.Keys.{Ranked, inserted}
+use Rattle.rt_rules.specs.Distinct.{IsDistinct}
 use Rattle.rt_rules.specs.Placing.{placed}
-use Rattle.group_engine.specs.Queue.{without_task, ranked_by}
+use Rattle.group_engine.specs.Queue.{without_task, ranked_by, tasks_of}
 use Rattle.group_engine.specs.Due.{due_ready, not_due}
-use Rattle.group_engine.specs.State.{State, top_tasks, rel_deadline_of}
+use Rattle.group_engine.specs.State.{State, top_tasks, rel_deadline_of, IsBounded}
 
 -- the links placed over what is ready and what runs now
 abbrev pub replaced : ℕ → State → State
@@ -39,8 +40,20 @@ job_ended m place t is_released job_key wait_key state =
       runs = slice_set state.runs place None;
     })
 
+-- all the tasks, in the order of their first releases
+abbrev pub first_waiting : List Task → List Ranked
+first_waiting tasks = ranked_by (λ t. record { band = 0; major = (slice_index_or tasks (t - 1) no_task).phase; minor = t }) (λ t. true) (numbers_from 1 (length tasks))
+
 -- the state of a cluster of m processors at opening: those that are due are ready, and nothing runs
 abbrev pub opened : ℕ → List Task → State
 opened m tasks =
-    let all = ranked_by (λ t. record { band = 0; major = (slice_index_or tasks (t - 1) no_task).phase; minor = t }) (λ t. true) (numbers_from 1 (length tasks)) in
-    replaced m (record { clock = 0; done = replicate (length tasks) 0; worked = replicate m None; ready = due_ready 0 (rel_deadline_of tasks) all []; waiting = not_due 0 all; runs = replicate m None; links = replicate m None })
+    replaced m (record { clock = 0; done = replicate (length tasks) 0; worked = replicate m None; ready = due_ready 0 (rel_deadline_of tasks) (first_waiting tasks) []; waiting = not_due 0 (first_waiting tasks); runs = replicate m None; links = replicate m None })
+
+-- what the opening rests on
+pub record CanOpen (m : ℕ) (tasks : List Task) : Type 0 where
+  pub few : length tasks ≤ 1024
+  pub phases : All (λ (t : Task). t.phase < 2 ^ 62) tasks
+  pub deadlines : All (λ (t : Task). t.rel_deadline < 2 ^ 62) tasks
+  pub bounded : All (IsBounded (length tasks)) (first_waiting tasks)
+  pub distinct : IsDistinct (tasks_of (opened m tasks).ready)
+  pub room : length (first_waiting tasks) ≤ length tasks

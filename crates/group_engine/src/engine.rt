@@ -41,6 +41,29 @@ impl Model for Engine {
 }
 
 impl Engine {
+    /// A group of a setup, with room for so many steps. It takes all the memory that the engine ever has.
+    pub fn open(alloc: Global, setup: &Setup, group: GroupNo, room: u32) -> Result<Engine, NoMemory>
+        requires group { IsGroupOf setup.now group.0 }
+        requires room { room ≤ 200000 }
+        requires built { is_built setup.now ≡ true }
+        ensures { IfOk result (λ e. e ≡ record { setup = setup.now; group = group.0; entries = []; spare = room }) }
+    {
+        let setup = setup.share()?;
+        let parts = setup.parts();
+        let cpus = parts.clusters.as_slice()[0].cpus;
+        let state = GroupState::open(alloc, parts.tasks.as_slice(), cpus)?;
+        let Ok(entries) = Vec::with_capacity(alloc, room as usize) else {
+            return Err(NoMemory);
+        };
+        Ok(Engine {
+            setup,
+            group,
+            room: room as usize,
+            entries,
+            state,
+        })
+    }
+
     /// How many more steps there is room for.
     pub fn spare(&self) -> u32
         ensures { result ≡ self.now.spare }

@@ -17,7 +17,7 @@ ghost use Rattle.group_engine.specs.Built.{is_built_act};
 ghost use Rattle.group_engine.specs.Queue.{ranked, ranked_all, ranked_by, tasks_of, without_task};
 ghost use Rattle.link_table.specs.Linked.{irq_reply, after_irq};
 ghost use Rattle.group_engine.specs.Due.{due_ready, not_due, ready_task};
-ghost use Rattle.group_engine.specs.Moves.{opened, replaced, clock_moved, has_worked, has_run, job_ended};
+ghost use Rattle.group_engine.specs.Moves.{CanOpen, first_waiting, opened, replaced, clock_moved, has_worked, has_run, job_ended};
 ghost use Rattle.group_engine.specs.State.{State, top_tasks, rel_deadline_of, CanAct, CanActNow, CanOperate, CanOperateNow, HasActed, IsBounded, Moment, linked_of};
 
 use crate::queue::{Queue, Queued};
@@ -109,7 +109,7 @@ fn release_due(clock: u64, tasks: &[Task], waiting: &mut Queue, ready: &mut Queu
 fn waiting_tasks(alloc: Global, tasks: &[Task]) -> Result<Queue, NoMemory>
     requires few { length tasks.now ≤ 1024 }
     requires phases { All (λ (t : Task). t.phase < 2 ^ 62) tasks.now }
-    ensures tasks { IfOk result (λ q. q.tasks ≡ ranked_by (λ t. record { band = 0; major = (slice_index_or tasks.now (t - 1) no_task).phase; minor = t }) (λ t. true) (numbers_from 1 (length tasks.now))) }
+    ensures tasks { IfOk result (λ q. q.tasks ≡ first_waiting tasks.now) }
     ensures room { IfOk result (λ q. length tasks.now ≤ q.room) }
 {
     let mut waiting = Queue::with_room(alloc, tasks.len())?;
@@ -129,12 +129,7 @@ fn waiting_tasks(alloc: Global, tasks: &[Task]) -> Result<Queue, NoMemory>
 impl GroupState {
     /// The state at opening, of a cluster of so many processors.
     pub(crate) fn open(alloc: Global, tasks: &[Task], cpus: u32) -> Result<GroupState, NoMemory>
-        requires few { length tasks.now ≤ 1024 }
-        requires phases { All (λ (t : Task). t.phase < 2 ^ 62) tasks.now }
-        requires deadlines { All (λ (t : Task). t.rel_deadline < 2 ^ 62) tasks.now }
-        requires bounded { All (IsBounded (length tasks.now)) (ranked_by (λ t. record { band = 0; major = (slice_index_or tasks.now (t - 1) no_task).phase; minor = t }) (λ t. true) (numbers_from 1 (length tasks.now))) }
-        requires distinct { IsDistinct (tasks_of (opened cpus tasks.now).ready) }
-        requires room { length (ranked_by (λ t. record { band = 0; major = (slice_index_or tasks.now (t - 1) no_task).phase; minor = t }) (λ t. true) (numbers_from 1 (length tasks.now))) ≤ length tasks.now }
+        requires { CanOpen cpus tasks.now }
         ensures { IfOk result (λ s. s ≡ opened cpus tasks.now) }
     {
         let mut waiting = waiting_tasks(alloc, tasks)?;
