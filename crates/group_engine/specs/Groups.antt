@@ -1,5 +1,5 @@
 -- A group of a setup and its history, as contracts see them.
-use Rattle.std.specs.Prelude.{◌≡◌, ℕ, ◌-◌, Bool, true, ◌==◌, List, [], ◌∷◌, ◌++◌}
+use Rattle.std.specs.Prelude.{◌≡◌, ℕ, ◌-◌, Bool, true, ◌==◌, List, [], ◌∷◌, ◌++◌, All}
 use Rattle.std.specs.List.{list_any}
 use Rattle.rt_task.specs.declared.Parts.{Parts}
 use Rattle.rt_task.specs.declared.Cluster.{Cluster}
@@ -39,3 +39,11 @@ IsGroupOf p n = list_any (λ (c : Cluster). c.group.0 == n) p.clusters ≡ true
 -- the processor is of the group
 abbrev pub IsProcessorOf : Group → ℕ → Type 0
 IsProcessorOf g q = has q (group_processors g) ≡ true
+
+-- a step that the engine of this group plays: its processor is of the group, and its act is one that is played so far
+pub record CanStep (g : Group) (s : Step) : Type 0 where
+  pub processor : IsProcessorOf g s.cpu.0
+  pub act : is_built_act s.act ≡ true
+
+abbrev pub AllCanStep : GroupHistory → Type 0
+AllCanStep h = All (λ (e : Entry). CanStep (group_of h) e.step) h.entries

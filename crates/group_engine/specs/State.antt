@@ -1,5 +1,5 @@
 -- What the engine keeps of the past that its entries made, part by part.
-use Rattle.std.specs.Prelude.{◌≡◌, ℕ, ◌+◌, ◌-◌, ◌*◌, ◌<◌, ◌≤◌, Bool, true, false, not, nat_le, List, [], ◌∷◌, length, map, take, Option, None, Some, slice_index, slice_index_or, ◌^◌}
+use Rattle.std.specs.Prelude.{◌≡◌, ℕ, ◌+◌, ◌-◌, ◌*◌, ◌<◌, ◌≤◌, Bool, true, false, not, nat_le, List, [], ◌∷◌, All, length, map, take, Option, None, Some, slice_index, slice_index_or, ◌^◌}
 use Rattle.rt_task.specs.declared.Parts.{Parts}
 use Rattle.rt_task.specs.declared.Task.{Task}
 use Rattle.rt_task.specs.Validity.{IsValid}
@@ -23,7 +23,7 @@ use Rattle.rt_model.specs.Histories.{past_of, IsLegal}
 use Rattle.link_table.specs.Linked.{Linked}
 use Rattle.group_engine.specs.Queue.{ranked_by}
 use Rattle.group_engine.specs.Built.{is_built}
-use Rattle.group_engine.specs.Groups.{IsGroupOf}
+use Rattle.group_engine.specs.Groups.{IsGroupOf, CanStep}
 
 -- the release of the task's job number k + 1, and that job's key
 abbrev pub release_at : Group → ℕ → ℕ → ℕ
@@ -131,3 +131,4 @@ pub record IsSound (g : Group) (entries : List Entry) (room capacity : ℕ) (sta
   pub reserved : room ≤ capacity
   pub kept : IsKept g (past_of g entries) state
   pub legal : IsLegal g entries
+  pub steps : All (λ (e : Entry). CanStep g e.step) entries

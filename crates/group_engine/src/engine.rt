@@ -6,7 +6,7 @@ ghost use Rattle.rt_model.specs.Runs.{runs};
 ghost use Rattle.rt_model.specs.Links.{linked};
 ghost use Rattle.rt_model.specs.Histories.{reply_to};
 ghost use Rattle.group_engine.specs.Built.{is_built, is_built_act};
-ghost use Rattle.group_engine.specs.Groups.{GroupHistory, group_of, past, with_entry, IsLegalNow, IsGroupOf, IsProcessorOf};
+ghost use Rattle.group_engine.specs.Groups.{GroupHistory, group_of, past, with_entry, IsLegalNow, AllCanStep, IsGroupOf, IsProcessorOf};
 
 use crate::room::put;
 use crate::state::GroupState;
@@ -75,6 +75,7 @@ impl Engine {
     pub fn entries(&self) -> &[Entry]
         ensures entries { result.now ≡ self.now.entries }
         ensures legal { IsLegalNow self.now }
+        ensures steps { AllCanStep self.now }
     {
         self.entries.as_slice()
     }
