@@ -1,0 +1,16 @@
+use Rattle.std.proofs.Common.{◌≡◌, ℕ, Bool, true, false, sym, ap, ◌∙◌, get_or}
+use Rattle.std.specs.Prelude.{Option, None, Some, nat_eq}
+use Rattle.std.specs.Option.{option_eq}
+use Rattle.group_engine.specs.State.{State}
+use Rattle.group_engine.proofs.Doing.{spent-answer, worked-answer, kept-spent, kept-worked}
+use Rattle.group_engine.proofs.state.GroupState.do_work.Goals as goal
+
+pub returns-then-eq : goal.returns-then-eq
+returns-then-eq c = λ at can.
+    let e : true ≡ option_eq nat_eq (get_or c.args.self.now.worked c.args.cpu.0 None) (Some c.args.self.now.clock) = sym c.if-eq.true ∙ c.eq.ensures ∙ ap (λ o. option_eq nat_eq o (Some c.self.inside.clock)) c.last_work.ensures ∙ ap (λ (s : State). option_eq nat_eq (get_or c.args.self.now.worked c.args.cpu.0 None) (Some s.clock)) c.self.view_is in
+    record { reply_is = sym (spent-answer at _ _ _ _ can e); kept = kept-spent at _ _ _ _ can e }
+
+pub returns : goal.returns
+returns c = λ at can.
+    let e : false ≡ option_eq nat_eq (get_or c.args.self.now.worked c.args.cpu.0 None) (Some c.args.self.now.clock) = sym c.if-eq.false ∙ c.eq.ensures ∙ ap (λ o. option_eq nat_eq o (Some c.self.inside.clock)) c.last_work.ensures ∙ ap (λ (s : State). option_eq nat_eq (get_or c.args.self.now.worked c.args.cpu.0 None) (Some s.clock)) c.self.view_is in
+    record { reply_is = sym (worked-answer at _ _ _ _ can e); kept = rw c.work.ensures (kept-worked at _ _ _ _ can e) }

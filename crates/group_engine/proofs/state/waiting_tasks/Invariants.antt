@@ -1,0 +1,17 @@
+use Rattle.std.proofs.Common.{◌≡◌, ℕ, ◌+◌, ◌-◌, ◌≤◌, true, length, get_or}
+use Rattle.rt_rules.specs.Numbers.{numbers_from}
+use Rattle.rt_model.specs.Group.{no_task}
+use Rattle.group_engine.specs.Queue.{ranked_by}
+use Rattle.group_engine.proofs.state.waiting_tasks.Given as goal
+
+-- the tasks after the ones that are left are in the list
+abbrev pub invariant-loop-left : goal.invariant-loop-left
+invariant-loop-left l = record {
+  so_far : l.waiting.tasks ≡ ranked_by (λ t. record { band = 0; major = (get_or l.tasks (t - 1) no_task).phase; minor = t }) (λ t. true) (numbers_from (l.left + 1) (length l.tasks - l.left));
+  few : l.left ≤ length l.tasks;
+  count : length l.waiting.tasks + l.left ≡ length l.tasks;
+  room : length l.tasks ≤ l.waiting.room;
+}
+
+abbrev pub decreases-loop-left : goal.decreases-loop-left
+decreases-loop-left l = l.left

@@ -1,0 +1,115 @@
+//! The engine of one group: its history, kept step by step.
+ghost use Rattle.std.specs.Prelude.{◌≡◌, ◌<◌, ◌≤◌, [], IfOk, true};
+ghost use Rattle.rt_base.specs.TaskNos.{number_of_task};
+ghost use Rattle.rt_task.specs.Validity.{IsValid};
+ghost use Rattle.rt_model.specs.Runs.{runs};
+ghost use Rattle.rt_model.specs.Links.{linked};
+ghost use Rattle.rt_model.specs.Histories.{reply_to};
+ghost use Rattle.group_engine.specs.Built.{is_built, is_built_act};
+ghost use Rattle.group_engine.specs.Groups.{GroupHistory, group_of, past, with_entry, IsLegalNow, AllCanStep, IsGroupOf, IsProcessorOf};
+
+use crate::room::put;
+use crate::state::GroupState;
+use rt_base::{CpuNo, GroupNo, NoMemory, TaskNo};
+use rt_history::{Entry, Reply};
+use rt_task::{Setup, Step};
+use std::alloc::Global;
+use std::marker::Model;
+
+/// One group of a setup and its history. Contracts see the setup, the group's number, the entries, and room for how many more.
+///
+/// After `open` no call takes memory.
+#[derive(Drop)]
+pub struct Engine {
+    setup: Setup,
+    group: GroupNo,
+    room: usize,
+    entries: Vec<Entry>,
+    state: GroupState,
+}
+
+impl Model for Engine {
+    ghost use Rattle.std.specs.Prelude.{◌-◌, vec_len, vec_capacity};
+    ghost use Rattle.group_engine.specs.Groups.{GroupHistory};
+    ghost use Rattle.group_engine.specs.State.{IsSound};
+
+    ghost Value = { GroupHistory };
+
+    ghost view = { λ a. record { setup = a.setup; group = a.group.0; entries = a.entries.items; spare = a.room - vec_len a.entries } };
+
+    ghost invariant = { λ a. IsSound (record { setup = a.setup; number = a.group.0 }) a.entries.items a.room (vec_capacity a.entries) a.state };
+}
+
+impl Engine {
+    /// A group of a setup, with room for so many steps. It takes all the memory that the engine ever has.
+    pub fn open(alloc: Global, setup: &Setup, group: GroupNo, room: u32) -> Result<Engine, NoMemory>
+        requires group { IsGroupOf setup.now group.0 }
+        requires room { room ≤ 200000 }
+        requires built { is_built setup.now ≡ true }
+        ensures { IfOk result (λ e. e ≡ record { setup = setup.now; group = group.0; entries = []; spare = room }) }
+    {
+        let setup = setup.share()?;
+        let parts = setup.parts();
+        let cpus = parts.clusters.as_slice()[0].cpus;
+        let state = GroupState::open(alloc, parts.tasks.as_slice(), cpus)?;
+        let Ok(entries) = Vec::with_capacity(alloc, room as usize) else {
+            return Err(NoMemory);
+        };
+        Ok(Engine {
+            setup,
+            group,
+            room: room as usize,
+            entries,
+            state,
+        })
+    }
+
+    /// How many more steps there is room for.
+    pub fn spare(&self) -> u32
+        ensures { result ≡ self.now.spare }
+    {
+        (self.room - self.entries.len()) as u32
+    }
+
+    /// The entries so far, in order.
+    pub fn entries(&self) -> &[Entry]
+        ensures entries { result.now ≡ self.now.entries }
+        ensures legal { IsLegalNow self.now }
+        ensures steps { AllCanStep self.now }
+    {
+        self.entries.as_slice()
+    }
+
+    /// What the processor is linked to.
+    pub fn linked(&self, cpu: CpuNo) -> Option<TaskNo>
+        requires { IsProcessorOf (group_of self.now) cpu.0 }
+        ensures { number_of_task result ≡ linked (group_of self.now) cpu.0 (past self.now) }
+    {
+        self.state.linked(cpu)
+    }
+
+    /// What the processor runs.
+    pub fn runs(&self, cpu: CpuNo) -> Option<TaskNo>
+        requires { IsProcessorOf (group_of self.now) cpu.0 }
+        ensures { number_of_task result ≡ runs cpu.0 (past self.now) }
+    {
+        self.state.runs(cpu)
+    }
+
+    /// Takes a step of a processor of the group: the clock moves to its tick, if that is later, and then the act is answered.
+    /// It adds one entry, the step with its reply.
+    pub fn step(&mut self, step: Step) -> Reply
+        requires room { 0 < self.old.spare }
+        requires cpu { IsProcessorOf (group_of self.old) step.cpu.0 }
+        requires act { is_built_act step.act ≡ true }
+        ensures reply { result ≡ reply_to (group_of self.old) step (past self.old) }
+        ensures entry { self.new ≡ with_entry (record { step = step; reply = result }) self.old }
+        ensures legal { IsLegalNow self.new }
+    {
+        let tasks = self.setup.parts().tasks.as_slice();
+        self.state.move_clock(tasks, step.tick.0);
+        let reply = self.state.act(tasks, step.cpu, step.act);
+        put(&mut self.entries, Entry { step, reply });
+        reply
+    }
+}
