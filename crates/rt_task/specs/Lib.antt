@@ -8,3 +8,4 @@ pub mod NameRules
 pub mod SharingRules
 pub mod SizeRules
 pub mod Validity
+pub mod Answers
