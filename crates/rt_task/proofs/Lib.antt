@@ -1,2 +1,5 @@
 pub mod RefusalLaws
 pub mod RangeLaws
+pub mod NameLaws
+pub mod BodyLaws
+pub mod SpreadLaws

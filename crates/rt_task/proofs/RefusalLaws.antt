@@ -1,8 +1,13 @@
 -- Laws of the first element that breaks a rule.
-use Rattle.std.proofs.Common.{◌≡◌, ℕ, zero, suc, ◌+◌, ◌==◌, ◌<◌, List, [], ◌∷◌, ◌++◌, Bool, true, cond, length, take, drop, get_or, Some, refl, ap, sym, ◌∙◌, arith, add-one, drop-cons}
+use Rattle.std.proofs.Common.{◌≡◌, ℕ, zero, suc, ◌+◌, ◌==◌, ◌<◌, List, [], ◌∷◌, ◌++◌, Bool, true, false, ◌||◌, cond, length, take, drop, get_or, Some, refl, ap, sym, subst, length-take, ◌∙◌, arith, add-one, drop-cons}
 use Rattle.std.proofs.lemmas.List.{take_more}
 use Rattle.std.proofs.lemmas.Bool.Decides.{nat_tests}
-use Rattle.rt_task.specs.Refusals.{first_failing}
+use Rattle.std.specs.Prelude.{option_map}
+use Rattle.rt_task.specs.declared.bad_set.SetKind.{SetKind}
+use Rattle.rt_task.specs.declared.bad_set.SetStop.{SetStop}
+use Rattle.rt_task.specs.declared.bad_set.Part.{Part}
+use Rattle.rt_task.specs.Answers.{StopsAt}
+use Rattle.rt_task.specs.Refusals.{bad, each, first_failing}
 use Rattle.rt_task.specs.RuleWords.{is_empty}
 
 pub first_failing-next : {A : Type 0} (rule : List A → A → Bool) (xs : List A) (i : ℕ) (d : A) → i < length xs → rule (take i xs) (get_or xs i d) ≡ true
@@ -19,3 +24,29 @@ pub is_empty-take : {A : Type 0} (xs : List A) (i : ℕ) → i < length xs → (
 is_empty-take [] i lt = absurd (omega arith)
 is_empty-take (x ∷ xs) zero lt = refl
 is_empty-take (x ∷ xs) (suc i) lt = grind (arith, nat_tests)
+
+pub if-true : (a b : Bool) → cond a true b ≡ (a || b)
+if-true true b = refl
+if-true false b = refl
+
+-- x stands at i and passes
+pub first_failing-passes : {A : Type 0} (rule : List A → A → Bool) (xs : List A) (i : ℕ) (x : A) → i < length xs → x ≡ get_or xs i x → rule (take i xs) x ≡ true
+    → first_failing rule (take (i + 1) xs) (drop (i + 1) xs) ≡ first_failing rule (take i xs) (drop i xs)
+first_failing-passes rule xs i x lt at ok = first_failing-next rule xs i x lt (ap (rule (take i xs)) (sym at) ∙ ok)
+
+-- x stands at i and fails
+pub first_failing-fails : {A : Type 0} (rule : List A → A → Bool) (xs : List A) (i : ℕ) (x : A) → i < length xs → x ≡ get_or xs i x → rule (take i xs) x ≡ false
+    → first_failing rule (take i xs) (drop i xs) ≡ Some i
+first_failing-fails rule xs i x lt at bad =
+    let split : drop i xs ≡ get_or xs i x ∷ drop (i + 1) xs = rw add-one (drop-cons xs i x lt) in
+    let count : length (take i xs) ≡ i = (let e = length-take i xs in omega arith) in
+    ap (first_failing rule (take i xs)) split
+    ∙ ap (λ b. cond b (first_failing rule (take i xs ++ get_or xs i x ∷ []) (drop (i + 1) xs)) (Some (length (take i xs)))) (ap (rule (take i xs)) (sym at) ∙ bad)
+    ∙ ap Some count
+
+-- the refusal at the first element that fails is the row's
+pub each-stops : {A : Type 0} (stop : SetStop) (kind : SetKind) (part : Part) (rule : List A → A → Bool) (xs ys : List A) (i : ℕ) (x : A) → StopsAt stop (Some (bad kind part i)) → xs ≡ ys → i < length xs → x ≡ get_or xs i x → rule (take i xs) x ≡ false
+    → first_failing rule (take i xs) (drop i xs) ≡ first_failing rule [] xs → StopsAt stop (each kind part rule ys)
+each-stops stop kind part rule xs ys i x stopped same lt at bad_one rest =
+    let is : each kind part rule xs ≡ Some (bad kind part i) = ap (option_map (bad kind part)) (sym rest ∙ first_failing-fails rule xs i x lt at bad_one) in
+    subst (λ zs. StopsAt stop (each kind part rule zs)) same (subst (StopsAt stop) (sym is) stopped)

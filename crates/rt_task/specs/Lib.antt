@@ -9,3 +9,5 @@ pub mod SharingRules
 pub mod SizeRules
 pub mod Validity
 pub mod Answers
+pub mod NamesSeen
+pub mod Spreads

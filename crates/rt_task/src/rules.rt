@@ -3,7 +3,11 @@ ghost use Rattle.std.specs.Prelude.{◌≡◌, Some};
 ghost use Rattle.rt_task.specs.Refusals.{bad};
 ghost use Rattle.rt_task.specs.Answers.{StopsAt};
 
+mod bodies;
+mod name;
 mod range;
+mod seen;
+mod spread;
 
 use crate::{BadSet, Part, Place, SetKind, SetStop};
 

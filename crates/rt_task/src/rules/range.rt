@@ -223,7 +223,7 @@ fn steps_in_range(d: &Draft) -> Result<(), SetStop>
 }
 
 /// The rules of the kind Range.
-pub(crate) fn in_range(d: &Draft) -> Result<(), SetStop>
+pub(super) fn is_in_range(d: &Draft) -> Result<(), SetStop>
     ensures { Keeps result (first (range_rows d.now)) }
 {
     whole_in_range(d)?;
