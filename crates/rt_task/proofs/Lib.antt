@@ -3,3 +3,4 @@ pub mod RangeLaws
 pub mod NameLaws
 pub mod BodyLaws
 pub mod SpreadLaws
+pub mod EndLaws

@@ -1,5 +1,5 @@
 -- Laws of the first element that breaks a rule.
-use Rattle.std.proofs.Common.{◌≡◌, ℕ, zero, suc, ◌+◌, ◌==◌, ◌<◌, List, [], ◌∷◌, ◌++◌, Bool, true, false, ◌||◌, cond, length, take, drop, get_or, Some, refl, ap, sym, subst, length-take, ◌∙◌, arith, add-one, drop-cons}
+use Rattle.std.proofs.Common.{◌≡◌, ℕ, zero, suc, ◌+◌, ◌==◌, ◌<◌, List, [], ◌∷◌, ◌++◌, Bool, true, false, ◌||◌, cond, length, take, drop, get_or, Some, None, refl, ap, sym, subst, length-take, ◌∙◌, arith, add-one, drop-cons}
 use Rattle.std.proofs.lemmas.List.{take_more}
 use Rattle.std.proofs.lemmas.Bool.Decides.{nat_tests}
 use Rattle.std.specs.Prelude.{option_map}
@@ -50,3 +50,19 @@ pub each-stops : {A : Type 0} (stop : SetStop) (kind : SetKind) (part : Part) (r
 each-stops stop kind part rule xs ys i x stopped same lt at bad_one rest =
     let is : each kind part rule xs ≡ Some (bad kind part i) = ap (option_map (bad kind part)) (sym rest ∙ first_failing-fails rule xs i x lt at bad_one) in
     subst (λ zs. StopsAt stop (each kind part rule zs)) same (subst (StopsAt stop) (sym is) stopped)
+
+-- a rule that is the same for all elements
+pub first_failing-holds : {A : Type 0} (rule : List A → A → Bool) (earlier xs : List A) → ((e : List A) (x : A) → rule e x ≡ true) → first_failing rule earlier xs ≡ None
+first_failing-holds rule earlier [] h = refl
+first_failing-holds rule earlier (x ∷ xs) h = ap (λ b. cond b (first_failing rule (earlier ++ x ∷ []) xs) (Some (length earlier))) (h earlier x) ∙ first_failing-holds rule (earlier ++ x ∷ []) xs h
+
+pub each-holds : {A : Type 0} (kind : SetKind) (part : Part) (rule : List A → A → Bool) (xs : List A) → ((e : List A) (x : A) → true ≡ rule e x) → each kind part rule xs ≡ None
+each-holds kind part rule xs h = ap (option_map (bad kind part)) (first_failing-holds rule [] xs (λ e x. sym (h e x)))
+
+pub each-none : {A : Type 0} (kind : SetKind) (part : Part) (rule : List A → A → Bool) (xs : List A) → length xs ≡ 0 → each kind part rule xs ≡ None
+each-none kind part rule [] h = refl
+each-none kind part rule (x ∷ xs) h = absurd (omega arith)
+
+pub each-fails : {A : Type 0} (kind : SetKind) (part : Part) (rule : List A → A → Bool) (xs : List A) → 0 < length xs → ((e : List A) (x : A) → false ≡ rule e x) → each kind part rule xs ≡ Some (bad kind part 0)
+each-fails kind part rule [] lt h = absurd (omega arith)
+each-fails kind part rule (x ∷ xs) lt h = ap (λ b. option_map (bad kind part) (cond b (first_failing rule (x ∷ []) xs) (Some 0))) (sym (h [] x))

@@ -1,5 +1,6 @@
 -- Laws of what the tasks that declare a semaphore have in common.
-use Rattle.std.proofs.Common.{◌≡◌, ℕ, ◌+◌, ◌==◌, ◌<◌, List, [], ◌∷◌, ◌++◌, Bool, true, false, ◌&&◌, ◌||◌, cond, length, take, get_or, map, Option, Some, None, refl, ap, ap₂, sym, ◌∙◌, arith}
+use Rattle.std.proofs.Common.{◌≡◌, ℕ, ◌+◌, ◌==◌, ◌<◌, List, [], ◌∷◌, ◌++◌, Bool, true, false, ◌&&◌, ◌||◌, cond, length, take, get_or, map, Option, Some, None, refl, ap, ap₂, sym, subst, ◌∙◌, arith, append-nil}
+use Rattle.std.proofs.Math.Seq.{take-append_seam}
 use Rattle.std.specs.List.{filter}
 use Rattle.std.proofs.lemmas.List.{take_more, map-append}
 use Rattle.std.proofs.lemmas.List.Folds.{list_all-append, list_any-append}
@@ -80,8 +81,12 @@ spread-task d s i ts x old new lt at before step =
   where
     by_test : (b : Bool) → has s (sem_numbers x) ≡ b → cond b (added d old x.cluster) old ≡ spread_of d (clusters_among (take i ts) s ++ clusters_among (x ∷ []) s)
     by_test true e = rw e (ap (λ o. added d o x.cluster) before ∙ added-spread_of d (clusters_among (take i ts) s) x.cluster)
-    by_test false e = rw e (before ∙ ap (spread_of d) (sym (append_nil (clusters_among (take i ts) s))))
+    by_test false e = rw e (before ∙ ap (spread_of d) (sym (append-nil (clusters_among (take i ts) s))))
 
 pub clusters_sharing-all : (d : Draft) (s : ℕ) → clusters_among d.tasks s ≡ clusters_sharing d s
 unfolding clusters_sharing
 clusters_sharing-all d s = refl
+
+-- what was written through a slice of all
+pub get_or-written : {A : Type 0} (n : ℕ) (xs ys : List A) (i : ℕ) (e : A) → length xs ≡ n → get_or (take n (xs ++ ys)) i e ≡ get_or xs i e
+get_or-written n xs ys i e count = ap (λ zs. get_or zs i e) (subst (λ m. take m (xs ++ ys) ≡ xs) count (take-append_seam xs ys))

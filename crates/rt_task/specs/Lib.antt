@@ -11,3 +11,4 @@ pub mod Validity
 pub mod Answers
 pub mod NamesSeen
 pub mod Spreads
+pub mod Ends

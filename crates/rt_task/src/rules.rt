@@ -4,9 +4,11 @@ ghost use Rattle.rt_task.specs.Refusals.{bad};
 ghost use Rattle.rt_task.specs.Answers.{StopsAt};
 
 mod bodies;
+mod ends;
 mod name;
 mod range;
 mod seen;
+mod sharing;
 mod spread;
 
 use crate::{BadSet, Part, Place, SetKind, SetStop};
