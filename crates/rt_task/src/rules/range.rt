@@ -179,7 +179,7 @@ fn resvs_in_range(d: &Draft) -> Result<(), SetStop>
 }
 
 #[tactic(auto, unfolding(crate::specs::Lookups::cpus))]
-fn cpus_of(d: &Draft) -> Option<u64>
+pub(super) fn cpus_of(d: &Draft) -> Option<u64>
     ensures { IfSome result (λ n. n ≡ lookups.cpus d.now) }
 {
     let mut sum: u64 = 0;
