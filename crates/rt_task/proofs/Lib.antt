@@ -4,3 +4,5 @@ pub mod NameLaws
 pub mod BodyLaws
 pub mod SpreadLaws
 pub mod EndLaws
+pub mod CutLaws
+pub mod AcceptLaws
