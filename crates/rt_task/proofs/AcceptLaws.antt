@@ -163,9 +163,9 @@ module _ (d : Draft) where
   name_again e p g h =
       let known = last7 (p.number.0 == length e + 1) (is_name p.name) (not (list_any (λ (x : DraftTask). bytes_eq x.name p.name) e)) (list_all (is_known d.sems) (sem_numbers p)) (no_repeat (sem_numbers p)) (resv_is_known d p.resv) (list_all (piece_is_known d) p.pieces) h in
       ap (λ (n : ℕ). (p.number.0 == n + 1) && (is_name p.name && (not (list_any (λ (x : DraftTask). bytes_eq x.name p.name) (map recut_task e)) && (list_all (is_known d.sems) (sem_numbers p) && (no_repeat (sem_numbers p) && (resv_is_known d p.resv && list_all (piece_is_known d) (recut p.pieces)))))))
-        (length-map e recut_task)
+      (length-map e recut_task)
       ∙ ap₂ (λ (a b : Bool). (p.number.0 == length e + 1) && (is_name p.name && (not a && (list_all (is_known d.sems) (sem_numbers p) && (no_repeat (sem_numbers p) && (resv_is_known d p.resv && b))))))
-        (names_alike p.name e) (known_again p.pieces known ∙ sym known)
+      (names_alike p.name e) (known_again p.pieces known ∙ sym known)
       ∙ h
 
   step_name_again : (e : List DraftStep) (s : DraftStep) → step_name (recut_draft d) e s ≡ step_name d e s
@@ -215,7 +215,7 @@ module _ (d : Draft) where
   task_again e p r h =
       ap (λ b. b && ((is_empty (recut p.pieces) || goes_on (sem_numbers p) (is_pcp_sem d) (recut p.pieces) (Some (record { held = []; np = false }))) && (not p.early || is_periodic p.kind))) (fits_again (is_p_res d.plugin) p.cluster p.resv)
       ∙ ap₂ (λ (a b : Bool). resv_fits d (is_p_res d.plugin) p.cluster p.resv && ((a || b) && (not p.early || is_periodic p.kind)))
-        (is_empty-recut p.pieces (in_range e p r)) (goes_on-recut (sem_numbers p) (is_pcp_sem d) p.pieces (Some (record { held = []; np = false })) (in_range e p r))
+      (is_empty-recut p.pieces (in_range e p r)) (goes_on-recut (sem_numbers p) (is_pcp_sem d) p.pieces (Some (record { held = []; np = false })) (in_range e p r))
       ∙ h
 
   cluster_again : (t : ℕ) → cluster_of_task (recut_draft d) t ≡ cluster_of_task d t
@@ -246,37 +246,60 @@ module _ (d : Draft) where
 
   -- ---- the table
 
-
   -- ---- the table
 
   range_rows_again : AllNone (range_rows d) → first (range_rows (recut_draft d)) ≡ None
   unfolding whole_range cluster_range resv_range step_range cpus recut_draft
   range_rows_again h =
-      first-none (range_rows (recut_draft d)) (h.0, (h.1.0, (h.1.1.0, (
-        row_mapped recut_task (task_range d) (task_range d) (task_range (recut_draft d)) kinds.Range kinds.Range kinds.Range parts.Task d.tasks range_again h.1.1.1.0 h.1.1.1.0,
-        (h.1.1.1.1.0, tt)))))
+      first-none (range_rows (recut_draft d)) (
+        h.0,
+        (
+          h.1.0,
+          (
+            h.1.1.0,
+            (
+              row_mapped recut_task (task_range d) (task_range d) (task_range (recut_draft d)) kinds.Range kinds.Range kinds.Range parts.Task d.tasks range_again h.1.1.1.0 h.1.1.1.0,
+              (h.1.1.1.1.0, tt),
+            ),
+          ),
+        ),
+      )
 
   name_rows_again : AllNone (name_rows d) → first (name_rows (recut_draft d)) ≡ None
   unfolding sem_name resv_name recut_draft
   name_rows_again h =
-      first-none (name_rows (recut_draft d)) (h.0, (h.1.0, (
-        row_mapped recut_task (task_name d) (task_name d) (task_name (recut_draft d)) kinds.Name kinds.Name kinds.Name parts.Task d.tasks name_again h.1.1.0 h.1.1.0,
-        (row_alike (step_name (recut_draft d)) (step_name d) kinds.Name parts.Step (steps_of d.drive) step_name_again h.1.1.1.0, tt))))
+      first-none (name_rows (recut_draft d)) (
+        h.0,
+        (
+          h.1.0,
+          (
+            row_mapped recut_task (task_name d) (task_name d) (task_name (recut_draft d)) kinds.Name kinds.Name kinds.Name parts.Task d.tasks name_again h.1.1.0 h.1.1.0,
+            (row_alike (step_name (recut_draft d)) (step_name d) kinds.Name parts.Step (steps_of d.drive) step_name_again h.1.1.1.0, tt),
+          ),
+        ),
+      )
 
   sharing_rows_again : each kinds.Range parts.Task (task_range d) d.tasks ≡ None → AllNone (sharing_rows d) → first (sharing_rows (recut_draft d)) ≡ None
   unfolding resv_sharing recut_draft
   sharing_rows_again range h =
       first-none (sharing_rows (recut_draft d)) (
-        row_alike (sem_sharing (recut_draft d)) (sem_sharing d) kinds.Sharing parts.Sem d.sems sem_again h.0, (h.1.0, (
-        row_mapped recut_task (task_range d) (task_sharing d) (task_sharing (recut_draft d)) kinds.Range kinds.Sharing kinds.Sharing parts.Task d.tasks task_again range h.1.1.0,
-        (row_alike (step_sharing (recut_draft d)) (step_sharing d) kinds.Sharing parts.Step (steps_of d.drive) step_again h.1.1.1.0, tt))))
+        row_alike (sem_sharing (recut_draft d)) (sem_sharing d) kinds.Sharing parts.Sem d.sems sem_again h.0,
+        (
+          h.1.0,
+          (
+            row_mapped recut_task (task_range d) (task_sharing d) (task_sharing (recut_draft d)) kinds.Range kinds.Sharing kinds.Sharing parts.Task d.tasks task_again range h.1.1.0,
+            (row_alike (step_sharing (recut_draft d)) (step_sharing d) kinds.Sharing parts.Step (steps_of d.drive) step_again h.1.1.1.0, tt),
+          ),
+        ),
+      )
 
   size_rows_again : AllNone (size_rows d) → first (size_rows (recut_draft d)) ≡ None
   unfolding recut_draft
   size_rows_again h =
       first-none (size_rows (recut_draft d)) (
         ap (whole kinds.Size) size_again ∙ h.0,
-        (row_mapped recut_task (task_size d) (task_size d) (task_size (recut_draft d)) kinds.Size kinds.Size kinds.Size parts.Task d.tasks task_size_again h.1.0 h.1.0, tt))
+        (row_mapped recut_task (task_size d) (task_size d) (task_size (recut_draft d)) kinds.Size kinds.Size kinds.Size parts.Task d.tasks task_size_again h.1.0 h.1.0, tt),
+      )
 
   whole_refusal-recut : whole_refusal d ≡ None → whole_refusal (recut_draft d) ≡ None
   unfolding whole_refusal refusal recut_draft
@@ -285,15 +308,24 @@ module _ (d : Draft) where
       let kinds_kept = all_none (first (range_rows d) ∷ first (name_rows d) ∷ first (sharing_rows d) ∷ first (size_rows d) ∷ []) both.1.0 in
       let range = all_none (range_rows d) kinds_kept.0 in
       let later = first-none (first (range_rows (recut_draft d)) ∷ first (name_rows (recut_draft d)) ∷ first (sharing_rows (recut_draft d)) ∷ first (size_rows (recut_draft d)) ∷ []) (
-        range_rows_again range, (
-        name_rows_again (all_none (name_rows d) kinds_kept.1.0), (
-        sharing_rows_again range.1.1.1.0 (all_none (sharing_rows d) kinds_kept.1.1.0), (
-        size_rows_again (all_none (size_rows d) kinds_kept.1.1.1.0), tt)))) in
+        range_rows_again range,
+        (
+          name_rows_again (all_none (name_rows d) kinds_kept.1.0),
+          (
+            sharing_rows_again range.1.1.1.0 (all_none (sharing_rows d) kinds_kept.1.1.0),
+            (
+              size_rows_again (all_none (size_rows d) kinds_kept.1.1.1.0),
+              tt,
+            ),
+          ),
+        ),
+      ) in
       first-none (each kinds.Shape parts.Task (task_shape (recut_draft d)) (map recut_task d.tasks) ∷ refusal (recut_draft d) ∷ []) (
         row_mapped recut_task (task_range d) (task_shape d) (task_shape (recut_draft d)) kinds.Range kinds.Shape kinds.Shape parts.Task d.tasks shape_again range.1.1.1.0 both.0,
-        (later, tt))
+        (later, tt),
+      )
 
   -- what a draft that no rule refuses stands for is a valid set
-  pub IsValid-parts_of : whole_refusal d ≡ None → IsValid (parts_of d)
+  pub valid_parts_of : whole_refusal d ≡ None → IsValid (parts_of d)
   unfolding refusal_of
-  IsValid-parts_of h = ap whole_refusal (draft_of-parts_of d) ∙ whole_refusal-recut h
+  valid_parts_of h = ap whole_refusal (draft_of-parts_of d) ∙ whole_refusal-recut h

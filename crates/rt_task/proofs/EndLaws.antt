@@ -35,6 +35,6 @@ cluster_among-point n (k ∷ ks) q (suc i) le bound h =
     let past : n + k.cpus ≤ q = leb-true (n + k.cpus) q (h.0 0 0 (omega arith) (omega arith)) in
     let later : nat_lt (q - n) k.cpus ≡ false = le-ltb (q - n) k.cpus (omega arith) in
     let rest : i ≡ cluster_among ks (q - (n + k.cpus)) = cluster_among-point (n + k.cpus) ks q i past (omega arith)
-      ((λ m d lo hi. h.0 (suc m) d (omega arith) (omega arith)), (λ m d lo hi. h.1 (suc m) d (omega arith) (omega arith))) in
+    ((λ m d lo hi. h.0 (suc m) d (omega arith) (omega arith)), (λ m d lo hi. h.1 (suc m) d (omega arith) (omega arith))) in
     ap suc (rest ∙ ap (cluster_among ks) (let e : q - (n + k.cpus) ≡ (q - n) - k.cpus = omega arith in e))
     ∙ sym (ap (λ b. cond b 0 (suc (cluster_among ks ((q - n) - k.cpus)))) later)

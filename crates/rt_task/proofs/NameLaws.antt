@@ -69,7 +69,7 @@ no_repeat-next ss i d lt so_far new =
 pub no_repeat-stops : (ss : List SemNo) (i : ℕ) (d : SemNo) → i < length ss → has (get_or ss i d).0 (plain (take i ss)) ≡ true → no_repeat (plain ss) ≡ false
 no_repeat-stops ss i d lt old =
     let front : no_repeat (plain (take (i + 1) ss)) ≡ false =
-      ap no_repeat (plain-next ss i d lt) ∙ no_repeat-push (plain (take i ss)) (get_or ss i d).0 ∙ and_right (no_repeat (plain (take i ss))) (not (has (get_or ss i d).0 (plain (take i ss)))) (not_from_true (has (get_or ss i d).0 (plain (take i ss))) old) in
+    ap no_repeat (plain-next ss i d lt) ∙ no_repeat-push (plain (take i ss)) (get_or ss i d).0 ∙ and_right (no_repeat (plain (take i ss))) (not (has (get_or ss i d).0 (plain (take i ss)))) (not_from_true (has (get_or ss i d).0 (plain (take i ss))) old) in
     ap (λ xs. no_repeat (plain xs)) (sym (take-append-drop (i + 1) ss)) ∙ ap no_repeat (map-append (λ (s : SemNo). s.0) (take (i + 1) ss) (drop (i + 1) ss)) ∙ no_repeat-front (plain (take (i + 1) ss)) (plain (drop (i + 1) ss)) front
 
 -- the numbers so far, one more

@@ -111,12 +111,7 @@ fn is_free(h: &Held) -> bool
 
 /// Goes on by one operation, each lock granted, and says whether it is not refused.
 #[tactic(auto, unfolding(crate::specs::Bodies::after_op))]
-fn goes_on_by(
-    d: &Draft,
-    declared: &HashSet<u32>,
-    h: &mut Held,
-    op: Op,
-) -> Result<bool, AllocError>
+fn goes_on_by(d: &Draft, declared: &HashSet<u32>, h: &mut Held, op: Op) -> Result<bool, AllocError>
     ensures { IfOk result (λ b. (ns : List ℕ) → ((n : ℕ) → has_number declared.now n ≡ words.has n ns) → after_op ns (is_pcp_sem d.now) op h.old ≡ (if b then Some h.new else None)) }
 {
     match op {

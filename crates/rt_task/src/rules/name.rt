@@ -19,8 +19,7 @@ ghost use Rattle.rt_task.specs.Validity.{name_rows};
 use super::seen::{add_name, add_number};
 use super::stop;
 use crate::{
-    Act, Draft, DraftDrive, DraftResv, DraftStep, DraftTask, Op, Part, Piece, Sem, SetKind,
-    SetStop,
+    Act, Draft, DraftDrive, DraftResv, DraftStep, DraftTask, Op, Part, Piece, Sem, SetKind, SetStop,
 };
 use rt_base::{ResvNo, SemNo};
 use std::alloc::{AllocError, Global};
@@ -193,13 +192,15 @@ fn task_name(
 {
     let uses = p.uses.as_slice();
     let no_repeat = are_without_repeat(alloc, uses)?;
-    Ok(p.number.0 as usize == index + 1
-        && is_name(p.name.as_slice())
-        && is_new
-        && uses_are_known(d, uses)
-        && no_repeat
-        && resv_is_known(d, p.resv)
-        && pieces_are_known(d, p.pieces.as_slice()))
+    Ok(
+        p.number.0 as usize == index + 1
+            && is_name(p.name.as_slice())
+            && is_new
+            && uses_are_known(d, uses)
+            && no_repeat
+            && resv_is_known(d, p.resv)
+            && pieces_are_known(d, p.pieces.as_slice()),
+    )
 }
 
 fn tasks_named(alloc: Global, d: &Draft) -> Result<(), SetStop>

@@ -22,8 +22,8 @@ use super::ends::{cluster_with, ends_of};
 use super::spread::{Spread, group_of, spreads_of};
 use super::stop;
 use crate::{
-    Act, Draft, DraftDrive, DraftResv, DraftStep, DraftTask, Kind, Part, PluginKind, Protocol,
-    Sem, SetKind, SetStop,
+    Act, Draft, DraftDrive, DraftResv, DraftStep, DraftTask, Kind, Part, PluginKind, Protocol, Sem,
+    SetKind, SetStop,
 };
 use rt_base::{ResvNo, TaskNo};
 use std::alloc::{AllocError, Global};
