@@ -25,10 +25,14 @@ one_more_work [] = Works 1 ∷ []
 one_more_work (Works n ∷ rest) = if nat_lt n 1000 then Works (n + 1) ∷ rest else Works 1 ∷ Works n ∷ rest
 one_more_work (Once op ∷ rest) = Works 1 ∷ Once op ∷ rest
 
+-- one more operation in front
+abbrev pub op_front : Op → List Piece → List Piece
+op_front ops.Work rest = one_more_work rest
+op_front op rest = Once op ∷ rest
+
 unfoldable pub runs : List Op → List Piece
 runs [] = []
-runs (ops.Work ∷ rest) = one_more_work (runs rest)
-runs (op ∷ rest) = Once op ∷ runs rest
+runs (op ∷ rest) = op_front op (runs rest)
 
 abbrev pub operations : Piece → List Op
 operations (Works n) = replicate n ops.Work

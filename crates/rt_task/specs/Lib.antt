@@ -8,3 +8,7 @@ pub mod NameRules
 pub mod SharingRules
 pub mod SizeRules
 pub mod Validity
+pub mod Answers
+pub mod NamesSeen
+pub mod Spreads
+pub mod Ends

@@ -59,9 +59,13 @@ module _ (d : Draft) where
   unfoldable pub refusal : Option BadSet
   refusal = first (first range_rows ∷ first name_rows ∷ first sharing_rows ∷ first size_rows ∷ [])
 
--- the first rule that parts break; of the rules on forms the one on sets with a horizon is left
+  -- with the one rule on forms that is not met by being a draft
+  unfoldable pub whole_refusal : Option BadSet
+  whole_refusal = first (each kinds.Shape parts.Task task_shape d.tasks ∷ refusal ∷ [])
+
+-- the first rule that parts break
 unfoldable pub refusal_of : Parts → Option BadSet
-refusal_of p = first (each kinds.Shape parts.Task (task_shape (draft_of p)) (draft_of p).tasks ∷ refusal (draft_of p) ∷ [])
+refusal_of p = whole_refusal (draft_of p)
 
 -- a set that breaks no rule
 abbrev pub IsValid : Parts → Type 0

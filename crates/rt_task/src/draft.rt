@@ -136,6 +136,12 @@ impl DraftResvs {
     {
         self.items.as_slice()
     }
+
+    pub fn into_vec(self) -> Vec<DraftResv>
+        ensures { result.items ≡ self }
+    {
+        self.items
+    }
 }
 
 #[derive(Drop)]
@@ -163,6 +169,12 @@ impl DraftTasks {
         ensures { result.now ≡ self.now }
     {
         self.items.as_slice()
+    }
+
+    pub fn into_vec(self) -> Vec<DraftTask>
+        ensures { result.items ≡ self }
+    {
+        self.items
     }
 }
 

@@ -1,8 +1,8 @@
 //! Valid sets.
-ghost use Rattle.std.specs.Prelude.{◌≡◌, IfOk};
+ghost use Rattle.std.specs.Prelude.{◌≡◌, IfOk, IfErr};
 ghost use Rattle.rt_task.specs.Validity.{IsValid};
 
-use crate::Parts;
+use crate::{Parts, SetStop};
 use rt_base::NoMemory;
 use std::alloc::Global;
 use std::marker::Model;
@@ -44,14 +44,12 @@ impl Setup {
         }
     }
 
-    /// A setup of parts that break no rule.
-    pub fn of_valid(alloc: Global, parts: Parts) -> Result<Setup, NoMemory>
+    pub(crate) fn of_valid(alloc: Global, parts: Parts) -> Result<Setup, SetStop>
         requires { IsValid parts }
-        ensures { IfOk result (λ s. s ≡ parts) }
+        ensures setup { IfOk result (λ s. s ≡ parts) }
+        ensures memory { IfErr result (λ e. e ≡ SetStop.NoMemory) }
     {
-        match Arc::new(alloc, parts) {
-            Ok(parts) => Ok(Setup { parts }),
-            Err(_) => Err(NoMemory),
-        }
+        let parts = Arc::new(alloc, parts)?;
+        Ok(Setup { parts })
     }
 }

@@ -1,0 +1,53 @@
+//! The rules of a set, tried row by row.
+ghost use Rattle.std.specs.Prelude.{◌≡◌, Some};
+ghost use Rattle.rt_task.specs.Refusals.{bad};
+ghost use Rattle.rt_task.specs.Answers.{Keeps, StopsAt};
+ghost use Rattle.rt_task.specs.Validity.{refusal, whole_refusal};
+
+mod bodies;
+mod ends;
+mod name;
+mod range;
+mod seen;
+mod shape;
+mod sharing;
+mod size;
+mod spread;
+
+use crate::{BadSet, Draft, Part, Place, SetKind, SetStop};
+use std::alloc::Global;
+
+/// The refusal at an element, or of memory where its index has no 32 bits.
+fn stop(kind: SetKind, part: Part, index: usize) -> SetStop
+    ensures { StopsAt result (Some (bad kind part index)) }
+{
+    if index > 4_294_967_295 {
+        return SetStop::NoMemory;
+    }
+    SetStop::Bad(BadSet {
+        kind,
+        place: Place {
+            part,
+            index: index as u32,
+        },
+    })
+}
+
+#[tactic(auto, unfolding(crate::specs::Validity::refusal))]
+fn try_later_rules(alloc: Global, d: &Draft) -> Result<(), SetStop>
+    ensures { Keeps result (refusal d.now) }
+{
+    range::is_in_range(d)?;
+    name::are_named(alloc, d)?;
+    sharing::is_sharing(alloc, d)?;
+    size::is_of_size(d)
+}
+
+/// Tries each rule, in the order of their kinds.
+#[tactic(auto, unfolding(crate::specs::Validity::whole_refusal))]
+pub(crate) fn try_rules(alloc: Global, d: &Draft) -> Result<(), SetStop>
+    ensures { Keeps result (whole_refusal d.now) }
+{
+    shape::is_shaped(d)?;
+    try_later_rules(alloc, d)
+}
