@@ -54,9 +54,10 @@ fn put_piece(out: &mut Vec<u8>, sems: &[Sem], piece: Piece) -> Result<(), AllocE
 }
 
 #[tactic(auto, using(std::proofs::Common::append_assoc))]
-fn put_pieces(out: &mut Vec<u8>, sems: &[Sem], pieces: &[Piece]) -> Result<(), AllocError>
-    ensures { OnOk result (out.new.items ≡ out.old.items ++ compact_text (array_data (piece_data (sem_names sems.now)) pieces.now)) }
+fn put_pieces(out: &mut Vec<u8>, before: &[u8], sems: &[Sem], pieces: &[Piece]) -> Result<(), AllocError>
+    ensures { OnOk result (out.new.items ≡ out.old.items ++ (before.now ++ compact_text (array_data (piece_data (sem_names sems.now)) pieces.now))) }
 {
+    put(out, before)?;
     put(out, b"[")?;
     for (i, piece) in pieces.iter().enumerate() {
         put_comma(out, i > 0)?;
@@ -66,9 +67,9 @@ fn put_pieces(out: &mut Vec<u8>, sems: &[Sem], pieces: &[Piece]) -> Result<(), A
     Ok(())
 }
 
-pub fn put_body(alloc: Global, out: &mut Vec<u8>, sems: &[Sem], body: &[Op]) -> Result<(), AllocError>
-    ensures { OnOk result (out.new.items ≡ out.old.items ++ compact_text (array_data (piece_data (sem_names sems.now)) (runs body.now))) }
+pub fn put_body(alloc: Global, out: &mut Vec<u8>, before: &[u8], sems: &[Sem], body: &[Op]) -> Result<(), AllocError>
+    ensures { OnOk result (out.new.items ≡ out.old.items ++ (before.now ++ compact_text (array_data (piece_data (sem_names sems.now)) (runs body.now)))) }
 {
     let pieces = pieces_of(alloc, body)?;
-    put_pieces(out, sems, &pieces)
+    put_pieces(out, before, sems, &pieces)
 }

@@ -19,9 +19,10 @@ fn put_cluster(out: &mut Vec<u8>, c: &Cluster) -> Result<(), AllocError>
 }
 
 #[tactic(auto, using(std::proofs::Common::append_assoc))]
-pub fn put_clusters(out: &mut Vec<u8>, clusters: &[Cluster]) -> Result<(), AllocError>
-    ensures { OnOk result (out.new.items ≡ out.old.items ++ compact_text (array_data cluster_data clusters.now)) }
+pub fn put_clusters(out: &mut Vec<u8>, before: &[u8], clusters: &[Cluster]) -> Result<(), AllocError>
+    ensures { OnOk result (out.new.items ≡ out.old.items ++ (before.now ++ compact_text (array_data cluster_data clusters.now))) }
 {
+    put(out, before)?;
     put(out, b"[")?;
     for (i, c) in clusters.iter().enumerate() {
         put_comma(out, i > 0)?;
@@ -42,9 +43,10 @@ fn put_sem(out: &mut Vec<u8>, s: &Sem) -> Result<(), AllocError>
 }
 
 #[tactic(auto, using(std::proofs::Common::append_assoc))]
-pub fn put_sems(out: &mut Vec<u8>, sems: &[Sem]) -> Result<(), AllocError>
-    ensures { OnOk result (out.new.items ≡ out.old.items ++ compact_text (array_data sem_data sems.now)) }
+pub fn put_sems(out: &mut Vec<u8>, before: &[u8], sems: &[Sem]) -> Result<(), AllocError>
+    ensures { OnOk result (out.new.items ≡ out.old.items ++ (before.now ++ compact_text (array_data sem_data sems.now))) }
 {
+    put(out, before)?;
     put(out, b"[")?;
     for (i, s) in sems.iter().enumerate() {
         put_comma(out, i > 0)?;
@@ -69,9 +71,10 @@ fn put_resv(out: &mut Vec<u8>, r: &Resv) -> Result<(), AllocError>
 }
 
 #[tactic(auto, using(std::proofs::Common::append_assoc))]
-pub fn put_resvs(out: &mut Vec<u8>, resvs: &[Resv]) -> Result<(), AllocError>
-    ensures { OnOk result (out.new.items ≡ out.old.items ++ compact_text (array_data resv_data resvs.now)) }
+pub fn put_resvs(out: &mut Vec<u8>, before: &[u8], resvs: &[Resv]) -> Result<(), AllocError>
+    ensures { OnOk result (out.new.items ≡ out.old.items ++ (before.now ++ compact_text (array_data resv_data resvs.now))) }
 {
+    put(out, before)?;
     put(out, b"[")?;
     for (i, r) in resvs.iter().enumerate() {
         put_comma(out, i > 0)?;

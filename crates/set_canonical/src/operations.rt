@@ -1,5 +1,5 @@
 //! Operations, acts and steps.
-ghost use Rattle.std.specs.Prelude.{◌≡◌, ◌++◌, List, [], ◌∷◌, OnOk};
+ghost use Rattle.std.specs.Prelude.{◌≡◌, ◌++◌, List, [], ◌∷◌, true, OnOk};
 ghost use Rattle.serde_json.specs.Data.{string};
 ghost use Rattle.serde_json.specs.View.{items_of};
 ghost use Rattle.serde_json.specs.Written.{compact_text, items_text};
@@ -83,9 +83,10 @@ fn put_step(out: &mut Vec<u8>, sems: &[Sem], tasks: &[Task], s: &Step) -> Result
 }
 
 #[tactic(auto, using(std::proofs::Common::append_assoc))]
-pub fn put_steps(out: &mut Vec<u8>, sems: &[Sem], tasks: &[Task], steps: &[Step]) -> Result<(), AllocError>
-    ensures { OnOk result (out.new.items ≡ out.old.items ++ compact_text (array_data (step_data (sem_names sems.now) (task_names tasks.now)) steps.now)) }
+pub fn put_steps(out: &mut Vec<u8>, before: &[u8], sems: &[Sem], tasks: &[Task], steps: &[Step]) -> Result<(), AllocError>
+    ensures { OnOk result (out.new.items ≡ out.old.items ++ (before.now ++ compact_text (array_data (step_data (sem_names sems.now) (task_names tasks.now)) steps.now))) }
 {
+    put(out, before)?;
     put(out, b"[")?;
     for (i, s) in steps.iter().enumerate() {
         put_comma(out, i > 0)?;

@@ -6,4 +6,4 @@ use Rattle.set_canonical.proofs.bodies.put_pieces.Given as goal
 
 -- what was written, and then the rest of the items, is the whole array
 abbrev pub invariant-loop-i : goal.invariant-loop-i
-invariant-loop-i l = l.out.items ++ items_text (nat_lt 0 l.i) (items_of (map (piece_data (sem_names l.sems)) (drop l.i l.pieces))) ≡ l.fn.out.items ++ compact_text (array_data (piece_data (sem_names l.sems)) l.pieces)
+invariant-loop-i l = l.out.items ++ items_text (nat_lt 0 l.i) (items_of (map (piece_data (sem_names l.sems)) (drop l.i l.pieces))) ≡ l.fn.out.items ++ (l.before ++ compact_text (array_data (piece_data (sem_names l.sems)) l.pieces))

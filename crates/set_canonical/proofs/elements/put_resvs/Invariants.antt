@@ -6,4 +6,4 @@ use Rattle.set_canonical.proofs.elements.put_resvs.Given as goal
 
 -- what was written, and then the rest of the items, is the whole array
 abbrev pub invariant-loop-i : goal.invariant-loop-i
-invariant-loop-i l = l.out.items ++ items_text (nat_lt 0 l.i) (items_of (map resv_data (drop l.i l.resvs))) ≡ l.fn.out.items ++ compact_text (array_data resv_data l.resvs)
+invariant-loop-i l = l.out.items ++ items_text (nat_lt 0 l.i) (items_of (map resv_data (drop l.i l.resvs))) ≡ l.fn.out.items ++ (l.before ++ compact_text (array_data resv_data l.resvs))

@@ -6,4 +6,4 @@ use Rattle.set_canonical.proofs.elements.put_sems.Given as goal
 
 -- what was written, and then the rest of the items, is the whole array
 abbrev pub invariant-loop-i : goal.invariant-loop-i
-invariant-loop-i l = l.out.items ++ items_text (nat_lt 0 l.i) (items_of (map sem_data (drop l.i l.sems))) ≡ l.fn.out.items ++ compact_text (array_data sem_data l.sems)
+invariant-loop-i l = l.out.items ++ items_text (nat_lt 0 l.i) (items_of (map sem_data (drop l.i l.sems))) ≡ l.fn.out.items ++ (l.before ++ compact_text (array_data sem_data l.sems))
