@@ -1,5 +1,5 @@
 -- The compact texts of a set's parts, as they are written.
-use Rattle.std.proofs.Common.{◌≡◌, ℕ, List, [], ◌++◌, Bool, true, false, codes, decimal, refl, append_assoc}
+use Rattle.std.proofs.Common.{◌≡◌, ℕ, List, [], ◌++◌, Bool, true, false, codes, decimal, refl, ◌∙◌, append_assoc, append-nil}
 use Rattle.rt_task.specs.declared.Cluster.{Cluster}
 use Rattle.rt_task.specs.declared.Drive.{Drive}
 use Rattle.rt_task.specs.declared.Drive.TheVariants.{Steps, Horizon}
@@ -34,6 +34,10 @@ pub step_text : (sems tasks : List (List ℕ)) (s : Step) → compact_text (step
 unfolding step_data
 step_text sems tasks s = refl
 
+-- an empty text adds nothing
+pub append_nothing : (xs : List ℕ) → xs ++ [] ≡ xs
+append_nothing xs = append-nil xs
+
 -- ---- tasks
 
 abbrev pub task_parts : List (List ℕ) → List (List ℕ) → Task → List ℕ
@@ -56,13 +60,38 @@ task_text sems resvs t = by_early t.early
 
 -- ---- the whole
 
+abbrev set_parts : Parts → List ℕ
+set_parts p =
+    codes "{\"clusters\":" ++ (compact_text (array_data cluster_data p.clusters)
+    ++ (horizon_text p.drive
+    ++ (codes ",\"plugin\":" ++ (quoted (plugin_word p.plugin)
+    ++ (codes ",\"resvs\":" ++ (compact_text (array_data resv_data p.resvs)
+    ++ (codes ",\"sems\":" ++ (compact_text (array_data sem_data p.sems)
+    ++ (steps_text (sem_names p.sems) (task_names p.tasks) p.drive
+    ++ (codes ",\"tasks\":" ++ (compact_text (array_data (task_data (sem_names p.sems) (resv_names p.resvs)) p.tasks) ++ codes "}")))))))))))
+
 regroup : (a b c d e f g h i j k l z : List ℕ) → a ++ (b ++ (c ++ (d ++ (e ++ (f ++ (g ++ (h ++ (i ++ (j ++ (k ++ (l ++ z))))))))))) ≡ (a ++ (b ++ (c ++ (d ++ e)))) ++ ((f ++ (g ++ (h ++ (i ++ (j ++ (k ++ l)))))) ++ z)
 regroup a b c d e f g h i j k l z = simp append_assoc
 
 pub set_text : (p : Parts) → compact_text (set_data p) ≡ setting_text p ++ (elements_text p.sems p.resvs p.tasks p.drive ++ codes "}")
 unfolding set_data setting_text elements_text escape_byte
-set_text p = by_drive p.drive
+set_text p =
+    by_drive p.drive
+    ∙ regroup
+    (codes "{\"clusters\":")
+    (compact_text (array_data cluster_data p.clusters))
+    (horizon_text p.drive)
+    (codes ",\"plugin\":")
+    (quoted (plugin_word p.plugin))
+    (codes ",\"resvs\":")
+    (compact_text (array_data resv_data p.resvs))
+    (codes ",\"sems\":")
+    (compact_text (array_data sem_data p.sems))
+    (steps_text (sem_names p.sems) (task_names p.tasks) p.drive)
+    (codes ",\"tasks\":")
+    (compact_text (array_data (task_data (sem_names p.sems) (resv_names p.resvs)) p.tasks))
+    (codes "}")
   where
-    by_drive : (d : Drive) → let q = record p { drive = d } in compact_text (set_data q) ≡ setting_text q ++ (elements_text q.sems q.resvs q.tasks q.drive ++ codes "}")
-    by_drive (Steps ss) = regroup (codes "{\"clusters\":") (compact_text (array_data cluster_data p.clusters)) (horizon_text (Steps ss)) (codes ",\"plugin\":") (quoted (plugin_word p.plugin)) (codes ",\"resvs\":") (compact_text (array_data resv_data p.resvs)) (codes ",\"sems\":") (compact_text (array_data sem_data p.sems)) (steps_text (sem_names p.sems) (task_names p.tasks) (Steps ss)) (codes ",\"tasks\":") (compact_text (array_data (task_data (sem_names p.sems) (resv_names p.resvs)) p.tasks)) (codes "}")
-    by_drive (Horizon h) = regroup (codes "{\"clusters\":") (compact_text (array_data cluster_data p.clusters)) (horizon_text (Horizon h)) (codes ",\"plugin\":") (quoted (plugin_word p.plugin)) (codes ",\"resvs\":") (compact_text (array_data resv_data p.resvs)) (codes ",\"sems\":") (compact_text (array_data sem_data p.sems)) (steps_text (sem_names p.sems) (task_names p.tasks) (Horizon h)) (codes ",\"tasks\":") (compact_text (array_data (task_data (sem_names p.sems) (resv_names p.resvs)) p.tasks)) (codes "}")
+    by_drive : (d : Drive) → compact_text (set_data (record p { drive = d })) ≡ set_parts (record p { drive = d })
+    by_drive (Steps ss) = refl
+    by_drive (Horizon h) = refl

@@ -54,7 +54,12 @@ fn put_piece(out: &mut Vec<u8>, sems: &[Sem], piece: Piece) -> Result<(), AllocE
 }
 
 #[tactic(auto, using(std::proofs::Common::append_assoc))]
-fn put_pieces(out: &mut Vec<u8>, before: &[u8], sems: &[Sem], pieces: &[Piece]) -> Result<(), AllocError>
+fn put_pieces(
+    out: &mut Vec<u8>,
+    before: &[u8],
+    sems: &[Sem],
+    pieces: &[Piece],
+) -> Result<(), AllocError>
     ensures { OnOk result (out.new.items ≡ out.old.items ++ (before.now ++ compact_text (array_data (piece_data (sem_names sems.now)) pieces.now))) }
 {
     put(out, before)?;
@@ -67,7 +72,13 @@ fn put_pieces(out: &mut Vec<u8>, before: &[u8], sems: &[Sem], pieces: &[Piece]) 
     Ok(())
 }
 
-pub fn put_body(alloc: Global, out: &mut Vec<u8>, before: &[u8], sems: &[Sem], body: &[Op]) -> Result<(), AllocError>
+pub fn put_body(
+    alloc: Global,
+    out: &mut Vec<u8>,
+    before: &[u8],
+    sems: &[Sem],
+    body: &[Op],
+) -> Result<(), AllocError>
     ensures { OnOk result (out.new.items ≡ out.old.items ++ (before.now ++ compact_text (array_data (piece_data (sem_names sems.now)) (runs body.now)))) }
 {
     let pieces = pieces_of(alloc, body)?;

@@ -19,7 +19,11 @@ fn put_cluster(out: &mut Vec<u8>, c: &Cluster) -> Result<(), AllocError>
 }
 
 #[tactic(auto, using(std::proofs::Common::append_assoc))]
-pub fn put_clusters(out: &mut Vec<u8>, before: &[u8], clusters: &[Cluster]) -> Result<(), AllocError>
+pub fn put_clusters(
+    out: &mut Vec<u8>,
+    before: &[u8],
+    clusters: &[Cluster],
+) -> Result<(), AllocError>
     ensures { OnOk result (out.new.items ≡ out.old.items ++ (before.now ++ compact_text (array_data cluster_data clusters.now))) }
 {
     put(out, before)?;

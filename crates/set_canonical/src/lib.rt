@@ -17,15 +17,16 @@ use rt_base::NoMemory;
 use rt_task::{Parts, Setup};
 use std::alloc::Global;
 
-/// The canonical text of a setup. All documents of one setup have the same canonical text, and it is one of them.
+/// The canonical text of a setup, without a newline: the compact text of the JSON value that has all members, with defaults
+/// filled in, members in rising order of their names' bytes, and each run of Work as one piece. A task has `early` only
+/// where it is true, and of `steps` and `horizon` the set has the one that was given.
 pub fn canonical(alloc: Global, setup: &Setup) -> Result<Vec<u8>, NoMemory>
     ensures { IfOk result (λ v. v.items ≡ spec.canonical setup.now) }
 {
     canonical_of_parts(alloc, setup.parts())
 }
 
-/// The canonical text of a set's parts, whether they are valid or not: the text of an element with an unknown number has
-/// the empty name in its place.
+/// The canonical text of a set's parts, valid or not. The name of a number that stands for nothing is the empty one.
 #[tactic(auto, unfolding(crate::specs::Canonical::canonical))]
 pub fn canonical_of_parts(alloc: Global, parts: &Parts) -> Result<Vec<u8>, NoMemory>
     ensures { IfOk result (λ v. v.items ≡ spec.canonical parts.now) }

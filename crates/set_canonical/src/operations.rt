@@ -23,7 +23,12 @@ fn put_word(out: &mut Vec<u8>, later: bool, word: &[u8]) -> Result<(), AllocErro
 
 /// The rest of an array that has a word and a name.
 #[tactic(auto, using(std::proofs::Common::append_assoc))]
-fn put_word_and_name(out: &mut Vec<u8>, later: bool, word: &[u8], name: &[u8]) -> Result<(), AllocError>
+fn put_word_and_name(
+    out: &mut Vec<u8>,
+    later: bool,
+    word: &[u8],
+    name: &[u8],
+) -> Result<(), AllocError>
     ensures { OnOk result (out.new.items ≡ out.old.items ++ items_text later (items_of (string word.now ∷ string name.now ∷ []))) }
 {
     put_comma(out, later)?;
@@ -35,7 +40,12 @@ fn put_word_and_name(out: &mut Vec<u8>, later: bool, word: &[u8], name: &[u8]) -
 
 /// The rest of an array that has a word and a number.
 #[tactic(auto, using(std::proofs::Common::append_assoc))]
-pub fn put_word_and_number(out: &mut Vec<u8>, later: bool, word: &[u8], n: u64) -> Result<(), AllocError>
+pub fn put_word_and_number(
+    out: &mut Vec<u8>,
+    later: bool,
+    word: &[u8],
+    n: u64,
+) -> Result<(), AllocError>
     ensures { OnOk result (out.new.items ≡ out.old.items ++ items_text later (items_of (string word.now ∷ natural_data n ∷ []))) }
 {
     put_comma(out, later)?;
@@ -83,7 +93,13 @@ fn put_step(out: &mut Vec<u8>, sems: &[Sem], tasks: &[Task], s: &Step) -> Result
 }
 
 #[tactic(auto, using(std::proofs::Common::append_assoc))]
-pub fn put_steps(out: &mut Vec<u8>, before: &[u8], sems: &[Sem], tasks: &[Task], steps: &[Step]) -> Result<(), AllocError>
+pub fn put_steps(
+    out: &mut Vec<u8>,
+    before: &[u8],
+    sems: &[Sem],
+    tasks: &[Task],
+    steps: &[Step],
+) -> Result<(), AllocError>
     ensures { OnOk result (out.new.items ≡ out.old.items ++ (before.now ++ compact_text (array_data (step_data (sem_names sems.now) (task_names tasks.now)) steps.now))) }
 {
     put(out, before)?;

@@ -16,10 +16,14 @@ pub fn put(out: &mut Vec<u8>, text: &[u8]) -> Result<(), AllocError>
 }
 
 /// A comma, where something stands before.
+#[tactic(auto, using(crate::proofs::Texts::append_nothing))]
 pub fn put_comma(out: &mut Vec<u8>, later: bool) -> Result<(), AllocError>
     ensures { OnOk result (out.new.items ≡ out.old.items ++ comma_if later) }
 {
-    if later { put(out, b",") } else { put(out, b"") }
+    if later {
+        put(out, b",")?;
+    }
+    Ok(())
 }
 
 /// The number in decimal, after the text before it.
@@ -82,7 +86,14 @@ fn put_byte(out: &mut Vec<u8>, byte: u8) -> Result<(), AllocError>
     if byte < 32 {
         return put(
             out,
-            &[b'\\', b'u', b'0', b'0', hex_digit(byte / 16), hex_digit(byte % 16)],
+            &[
+                b'\\',
+                b'u',
+                b'0',
+                b'0',
+                hex_digit(byte / 16),
+                hex_digit(byte % 16),
+            ],
         );
     }
     put(out, &[byte])

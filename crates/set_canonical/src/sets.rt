@@ -14,22 +14,29 @@ use rt_task::{Drive, Parts, Resv, Sem, Task};
 use std::alloc::{AllocError, Global};
 
 /// The horizon, where it is given.
+#[tactic(auto, using(crate::proofs::Texts::append_nothing))]
 fn put_horizon(out: &mut Vec<u8>, drive: &Drive) -> Result<(), AllocError>
     ensures { OnOk result (out.new.items ≡ out.old.items ++ horizon_text drive.now) }
 {
     match drive {
-        Drive::Steps(_) => put(out, b""),
+        Drive::Steps(_) => Ok(()),
         Drive::Horizon(h) => put_number(out, b",\"horizon\":", *h),
     }
 }
 
 /// The steps, where they are given.
-fn put_given_steps(out: &mut Vec<u8>, sems: &[Sem], tasks: &[Task], drive: &Drive) -> Result<(), AllocError>
+#[tactic(auto, using(crate::proofs::Texts::append_nothing))]
+fn put_given_steps(
+    out: &mut Vec<u8>,
+    sems: &[Sem],
+    tasks: &[Task],
+    drive: &Drive,
+) -> Result<(), AllocError>
     ensures { OnOk result (out.new.items ≡ out.old.items ++ steps_text (sem_names sems.now) (task_names tasks.now) drive.now) }
 {
     match drive {
         Drive::Steps(steps) => put_steps(out, b",\"steps\":", sems, tasks, steps.as_slice()),
-        Drive::Horizon(_) => put(out, b""),
+        Drive::Horizon(_) => Ok(()),
     }
 }
 
@@ -46,7 +53,14 @@ fn put_setting(out: &mut Vec<u8>, parts: &Parts) -> Result<(), AllocError>
 
 /// The reservations, the semaphores, the steps and the tasks.
 #[tactic(auto, using(std::proofs::Common::append_assoc), unfolding(crate::specs::Members::elements_text))]
-fn put_elements(alloc: Global, out: &mut Vec<u8>, sems: &[Sem], resvs: &[Resv], tasks: &[Task], drive: &Drive) -> Result<(), AllocError>
+fn put_elements(
+    alloc: Global,
+    out: &mut Vec<u8>,
+    sems: &[Sem],
+    resvs: &[Resv],
+    tasks: &[Task],
+    drive: &Drive,
+) -> Result<(), AllocError>
     ensures { OnOk result (out.new.items ≡ out.old.items ++ elements_text sems.now resvs.now tasks.now drive.now) }
 {
     put_resvs(out, b",\"resvs\":", resvs)?;

@@ -25,15 +25,15 @@ fn put_demand(out: &mut Vec<u8>, t: &Task) -> Result<(), AllocError>
     Ok(())
 }
 
-/// Whether the task releases early, where it does.
+/// That the task releases early, where it does.
+#[tactic(auto, using(crate::proofs::Texts::append_nothing))]
 fn put_early(out: &mut Vec<u8>, early: bool) -> Result<(), AllocError>
     ensures { OnOk result (out.new.items ≡ out.old.items ++ early_text early) }
 {
     if early {
-        put(out, b",\"early\":true")
-    } else {
-        put(out, b"")
+        put(out, b",\"early\":true")?;
     }
+    Ok(())
 }
 
 /// Whether the budget is enforced, the kind and the name.
@@ -82,7 +82,13 @@ fn put_uses(out: &mut Vec<u8>, sems: &[Sem], uses: &[SemNo]) -> Result<(), Alloc
 }
 
 #[tactic(auto, using(crate::proofs::Texts::task_text, std::proofs::Common::append_assoc))]
-fn put_task(alloc: Global, out: &mut Vec<u8>, sems: &[Sem], resvs: &[Resv], t: &Task) -> Result<(), AllocError>
+fn put_task(
+    alloc: Global,
+    out: &mut Vec<u8>,
+    sems: &[Sem],
+    resvs: &[Resv],
+    t: &Task,
+) -> Result<(), AllocError>
     ensures { OnOk result (out.new.items ≡ out.old.items ++ compact_text (task_data (sem_names sems.now) (resv_names resvs.now) t.now)) }
 {
     put_body(alloc, out, b"{\"body\":", sems, t.body.as_slice())?;
@@ -97,7 +103,14 @@ fn put_task(alloc: Global, out: &mut Vec<u8>, sems: &[Sem], resvs: &[Resv], t: &
 }
 
 #[tactic(auto, using(std::proofs::Common::append_assoc))]
-pub fn put_tasks(alloc: Global, out: &mut Vec<u8>, before: &[u8], sems: &[Sem], resvs: &[Resv], tasks: &[Task]) -> Result<(), AllocError>
+pub fn put_tasks(
+    alloc: Global,
+    out: &mut Vec<u8>,
+    before: &[u8],
+    sems: &[Sem],
+    resvs: &[Resv],
+    tasks: &[Task],
+) -> Result<(), AllocError>
     ensures { OnOk result (out.new.items ≡ out.old.items ++ (before.now ++ compact_text (array_data (task_data (sem_names sems.now) (resv_names resvs.now)) tasks.now))) }
 {
     put(out, before)?;
