@@ -11,6 +11,8 @@ mod operations;
 mod put;
 mod sets;
 mod tasks;
+#[cfg(test)]
+mod tests;
 mod words;
 
 use rt_base::NoMemory;
