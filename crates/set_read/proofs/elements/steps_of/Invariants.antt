@@ -1,0 +1,11 @@
+use Rattle.std.proofs.Common.{◌≡◌, map, drop}
+use Rattle.rt_task.specs.declared.bad_set.Part.TheVariants as parts
+use Rattle.serde_json.specs.View.{view}
+use Rattle.set_read.specs.Document as document
+use Rattle.set_read.specs.Elements.{elements_from, with_front}
+use Rattle.set_read.specs.Names.{names_seen}
+use Rattle.set_read.proofs.elements.steps_of.Given as goal
+
+-- what was found, and then what the rest is, is what all are
+abbrev pub invariant-loop-i : goal.invariant-loop-i
+invariant-loop-i l = with_front l.found.items (elements_from parts.Step l.i (map (λ x. document.step_form (names_seen l.names) x) (map view (drop l.i l.items)))) ≡ elements_from parts.Step 0 (map (λ x. document.step_form (names_seen l.names) x) (map view l.items))

@@ -1,0 +1,9 @@
+use Rattle.std.proofs.Common.{◌≡◌, ◌++◌, map, drop, option_map}
+use Rattle.serde_json.specs.View.{view}
+use Rattle.set_read.specs.Document as document
+use Rattle.set_read.specs.Forms as forms
+use Rattle.set_read.specs.Names.{names_seen}
+use Rattle.set_read.proofs.tasks.uses_in.Given as goal
+
+abbrev pub invariant-loop-item : goal.invariant-loop-item
+invariant-loop-item l = option_map (λ xs. l.found.items ++ xs) (forms.every (document.sem_form (names_seen l.names)) (map view (drop l.item-index l.items))) ≡ forms.every (document.sem_form (names_seen l.names)) (map view l.items)

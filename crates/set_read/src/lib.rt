@@ -1,0 +1,12 @@
+//! Reading set documents.
+#![tactic(auto)]
+
+mod acts;
+mod document;
+mod elements;
+mod forms;
+mod names;
+mod read;
+mod tasks;
+
+pub use read::read_set;
