@@ -1,0 +1,97 @@
+-- The compact texts of a set's parts, as they are written.
+use Rattle.std.proofs.Common.{◌≡◌, ℕ, List, [], ◌++◌, Bool, true, false, codes, decimal, refl, ◌∙◌, append_assoc, append-nil}
+use Rattle.rt_task.specs.declared.Cluster.{Cluster}
+use Rattle.rt_task.specs.declared.Drive.{Drive}
+use Rattle.rt_task.specs.declared.Drive.TheVariants.{Steps, Horizon}
+use Rattle.rt_task.specs.declared.Parts.{Parts}
+use Rattle.rt_task.specs.declared.Resv.{Resv}
+use Rattle.rt_task.specs.declared.Sem.{Sem}
+use Rattle.rt_task.specs.declared.Step.{Step}
+use Rattle.rt_task.specs.declared.Task.{Task}
+use Rattle.rt_task.specs.Draft.{runs}
+use Rattle.json.specs.Print.{escape_byte, quoted}
+use Rattle.serde_json.specs.Data.{boolean}
+use Rattle.serde_json.specs.View.{items_of}
+use Rattle.serde_json.specs.Written.{compact_text, items_text}
+use Rattle.set_canonical.specs.Canonical.{set_data}
+use Rattle.set_canonical.specs.Members.{early_text, horizon_text, steps_text, setting_text, elements_text}
+use Rattle.set_canonical.specs.Values.{array_data, sem_names, resv_names, task_names, cluster_data, sem_data, resv_data, step_data, act_items, piece_data, resv_or_null, uses_data, task_data}
+use Rattle.set_canonical.specs.Words.{plugin_word, protocol_word, resv_kind_word, kind_word}
+
+pub cluster_text : (c : Cluster) → compact_text (cluster_data c) ≡ codes "{\"cpus\":" ++ (decimal c.cpus ++ (codes ",\"group\":" ++ (decimal c.group.0 ++ codes "}")))
+unfolding cluster_data escape_byte
+cluster_text c = refl
+
+pub sem_text : (s : Sem) → compact_text (sem_data s) ≡ codes "{\"name\":" ++ (quoted s.name ++ (codes ",\"protocol\":" ++ (quoted (protocol_word s.protocol) ++ codes "}")))
+unfolding sem_data escape_byte
+sem_text s = refl
+
+pub resv_text : (r : Resv) → compact_text (resv_data r) ≡ codes "{\"budget\":" ++ (decimal r.budget ++ (codes ",\"cluster\":" ++ (decimal r.cluster.0 ++ (codes ",\"kind\":" ++ (quoted (resv_kind_word r.kind) ++ (codes ",\"name\":" ++ (quoted r.name ++ (codes ",\"period\":" ++ (decimal r.period ++ (codes ",\"prio\":" ++ (decimal r.prio ++ codes "}")))))))))))
+unfolding resv_data escape_byte
+resv_text r = refl
+
+pub step_text : (sems tasks : List (List ℕ)) (s : Step) → compact_text (step_data sems tasks s) ≡ codes "[" ++ (decimal s.cpu.0 ++ (codes "," ++ (decimal s.tick.0 ++ items_text true (items_of (act_items sems tasks s.act)))))
+unfolding step_data
+step_text sems tasks s = refl
+
+-- an empty text adds nothing
+pub append_nothing : (xs : List ℕ) → xs ++ [] ≡ xs
+append_nothing xs = append-nil xs
+
+-- ---- tasks
+
+abbrev pub task_parts : List (List ℕ) → List (List ℕ) → Task → List ℕ
+task_parts sems resvs t =
+    codes "{\"body\":" ++ (compact_text (array_data (piece_data sems) (runs t.body))
+    ++ ((codes ",\"cluster\":" ++ (decimal t.cluster.0 ++ (codes ",\"cost\":" ++ (decimal t.cost ++ (codes ",\"deadline\":" ++ decimal t.rel_deadline)))))
+    ++ (early_text t.early
+    ++ ((codes ",\"enforce\":" ++ (compact_text (boolean t.enforce) ++ (codes ",\"kind\":" ++ (quoted (kind_word t.kind) ++ (codes ",\"name\":" ++ quoted t.name)))))
+    ++ ((codes ",\"period\":" ++ (decimal t.period ++ (codes ",\"phase\":" ++ (decimal t.phase ++ (codes ",\"prio\":" ++ decimal t.prio)))))
+    ++ ((codes ",\"resv\":" ++ compact_text (resv_or_null resvs t.resv))
+    ++ ((codes ",\"uses\":" ++ compact_text (uses_data sems t.uses)) ++ codes "}")))))))
+
+pub task_text : (sems resvs : List (List ℕ)) (t : Task) → compact_text (task_data sems resvs t) ≡ task_parts sems resvs t
+unfolding task_data escape_byte
+task_text sems resvs t = by_early t.early
+  where
+    by_early : (e : Bool) → compact_text (task_data sems resvs (record t { early = e })) ≡ task_parts sems resvs (record t { early = e })
+    by_early true = simp append_assoc
+    by_early false = simp append_assoc
+
+-- ---- the whole
+
+abbrev set_parts : Parts → List ℕ
+set_parts p =
+    codes "{\"clusters\":" ++ (compact_text (array_data cluster_data p.clusters)
+    ++ (horizon_text p.drive
+    ++ (codes ",\"plugin\":" ++ (quoted (plugin_word p.plugin)
+    ++ (codes ",\"resvs\":" ++ (compact_text (array_data resv_data p.resvs)
+    ++ (codes ",\"sems\":" ++ (compact_text (array_data sem_data p.sems)
+    ++ (steps_text (sem_names p.sems) (task_names p.tasks) p.drive
+    ++ (codes ",\"tasks\":" ++ (compact_text (array_data (task_data (sem_names p.sems) (resv_names p.resvs)) p.tasks) ++ codes "}")))))))))))
+
+regroup : (a b c d e f g h i j k l z : List ℕ) → a ++ (b ++ (c ++ (d ++ (e ++ (f ++ (g ++ (h ++ (i ++ (j ++ (k ++ (l ++ z))))))))))) ≡ (a ++ (b ++ (c ++ (d ++ e)))) ++ ((f ++ (g ++ (h ++ (i ++ (j ++ (k ++ l)))))) ++ z)
+regroup a b c d e f g h i j k l z = simp append_assoc
+
+pub set_text : (p : Parts) → compact_text (set_data p) ≡ setting_text p ++ (elements_text p.sems p.resvs p.tasks p.drive ++ codes "}")
+unfolding set_data setting_text elements_text escape_byte
+set_text p =
+    by_drive p.drive
+    ∙ regroup
+    (codes "{\"clusters\":")
+    (compact_text (array_data cluster_data p.clusters))
+    (horizon_text p.drive)
+    (codes ",\"plugin\":")
+    (quoted (plugin_word p.plugin))
+    (codes ",\"resvs\":")
+    (compact_text (array_data resv_data p.resvs))
+    (codes ",\"sems\":")
+    (compact_text (array_data sem_data p.sems))
+    (steps_text (sem_names p.sems) (task_names p.tasks) p.drive)
+    (codes ",\"tasks\":")
+    (compact_text (array_data (task_data (sem_names p.sems) (resv_names p.resvs)) p.tasks))
+    (codes "}")
+  where
+    by_drive : (d : Drive) → compact_text (set_data (record p { drive = d })) ≡ set_parts (record p { drive = d })
+    by_drive (Steps ss) = refl
+    by_drive (Horizon h) = refl
