@@ -1,0 +1,2 @@
+//! Keys that tasks inherit from those that wait for them.
+#![tactic(auto)]
