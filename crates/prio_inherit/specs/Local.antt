@@ -3,6 +3,7 @@ use Rattle.std.specs.Prelude.{◌≡◌, ℕ, ◌<◌, false, ◌⊎◌, Option,
 use Rattle.rt_order.specs.declared.Key.{Key}
 use Rattle.rt_order.specs.KeyOrder.{higher}
 use Rattle.sem_laws.specs.KeptKeys.{key_at}
+use Rattle.rt_rules.specs.Numbers.{is}
 use Rattle.prio_inherit.specs.Waits.{next_of, base_of, NoWalkComesRound}
 
 -- the key k is the highest of a base key and of the keys of the tasks below the room that wait for t
@@ -21,3 +22,11 @@ pub record IsInherit (bases : List (Option Key)) (nexts : List (Option ℕ)) (bo
   pub within : (t v : ℕ) → next_of nexts t ≡ Some v → v < length nexts
   pub acyclic : NoWalkComesRound nexts
   pub local : (t : ℕ) → t < length nexts → IsLocal bases nexts keys t
+
+-- the same while the keys are brought up to date along a walk: all but the task that the walk has come to have theirs
+pub record IsSettling (bases : List (Option Key)) (nexts : List (Option ℕ)) (keys : List Key) (at : Option ℕ) : Type 0 where
+  pub keys_length : length keys ≡ length nexts
+  pub within : (t v : ℕ) → next_of nexts t ≡ Some v → v < length nexts
+  pub acyclic : NoWalkComesRound nexts
+  pub at_within : (v : ℕ) → at ≡ Some v → v < length nexts
+  pub local : (t : ℕ) → t < length nexts → is t at ≡ false → IsLocal bases nexts keys t
