@@ -7,11 +7,11 @@ use Rattle.rt_rules.specs.Numbers.{has, numbers_from}
 use Rattle.rt_rules.proofs.PlacingLaws.{beside, length-beside}
 use Rattle.rt_rules.proofs.NumberLaws.{distinct-numbers_from}
 
-length-numbers_from : (a n : ℕ) → length (numbers_from a n) ≡ n
+pub length-numbers_from : (a n : ℕ) → length (numbers_from a n) ≡ n
 length-numbers_from a zero = refl
 length-numbers_from a (suc n) = omega (arith, length-numbers_from (suc a) n)
 
-has-between : (t a n : ℕ) → a ≤ t → t < a + n → has t (numbers_from a n) ≡ true
+pub has-between : (t a n : ℕ) → a ≤ t → t < a + n → has t (numbers_from a n) ≡ true
 has-between t a zero low high = absurd (omega arith)
 has-between t a (suc n) low high = by_case (t == a) refl (λ above. has-between t (suc a) n above (omega arith))
   where

@@ -1,0 +1,94 @@
+//! The keys that are kept, and their update along a walk.
+ghost use Rattle.std.specs.Prelude.{◌≡◌, ◌<◌, ◌&&◌, ℕ, None, IfOk, length, replicate};
+ghost use Rattle.rt_base.specs.TaskNos.{number_of_task, numbers_of_tasks};
+ghost use Rattle.rt_order.specs.KeyOrder.{higher};
+ghost use Rattle.rt_rules.specs.Numbers.{is};
+ghost use Rattle.sem_laws.specs.KeptKeys.{key_at};
+ghost use Rattle.prio_inherit.specs.Waits.{base_of, lowest_key, next_of};
+ghost use Rattle.prio_inherit.specs.Local.{IsTop, IsLocal, IsSettling};
+
+use rt_base::{NoMemory, TaskNo};
+use rt_order::Key;
+use std::alloc::Global;
+
+const LOWEST: Key = Key {
+    band: u32::MAX,
+    major: u64::MAX,
+    minor: u32::MAX,
+};
+
+/// As many places with no key.
+pub fn no_keys(alloc: Global, room: usize) -> Result<Vec<Option<Key>>, NoMemory>
+    ensures { IfOk result (λ v. v.items ≡ replicate room None) }
+{
+    vec![in alloc; None; room].map_err(|_| NoMemory)
+}
+
+/// As many places with no task.
+pub fn no_tasks(alloc: Global, room: usize) -> Result<Vec<Option<TaskNo>>, NoMemory>
+    ensures { IfOk result (λ v. v.items ≡ replicate room None) }
+{
+    vec![in alloc; None; room].map_err(|_| NoMemory)
+}
+
+/// As many of the lowest key.
+pub fn lowest_keys(alloc: Global, room: usize) -> Result<Vec<Key>, NoMemory>
+    ensures { IfOk result (λ v. v.items ≡ replicate room lowest_key) }
+{
+    vec![in alloc; LOWEST; room].map_err(|_| NoMemory)
+}
+
+// The base key of a task, or the lowest key where none was told.
+fn base_in(bases: &[Option<Key>], task: TaskNo) -> Key
+    ensures { result ≡ base_of bases.now task.0 }
+{
+    match bases.get(task.0 as usize) {
+        Some(Some(key)) => *key,
+        _ => LOWEST,
+    }
+}
+
+// Whether a task that waits for `next` waits for the given task with a key that is higher than the best so far.
+fn raises(next: Option<TaskNo>, task: TaskNo, key: Key, best: Key) -> bool
+    ensures { result ≡ (is task.0 (number_of_task next) && higher key best) }
+{
+    match next {
+        Some(holder) => task.0 == holder.0 && key.is_higher(best),
+        None => false,
+    }
+}
+
+// The highest of the base key of a task and the keys of those that wait for it.
+fn top_key(bases: &[Option<Key>], nexts: &[Option<TaskNo>], keys: &[Key], task: TaskNo) -> Key
+    requires { length keys.now ≡ length nexts.now }
+    ensures { IsTop (length nexts.now) (next_of (numbers_of_tasks nexts.now)) (key_at keys.now) (base_of bases.now task.0) task.0 result }
+{
+    let mut best = base_in(bases, task);
+    for u in 0..nexts.len() {
+        if raises(nexts[u], task, keys[u], best) {
+            best = keys[u];
+        }
+    }
+    best
+}
+
+/// Brings the keys up to date along the walk that begins at the given task.
+pub fn follow(
+    bases: &[Option<Key>],
+    nexts: &[Option<TaskNo>],
+    keys: &mut Vec<Key>,
+    start: Option<TaskNo>,
+)
+    requires { IsSettling bases.now (numbers_of_tasks nexts.now) keys.old.items (number_of_task start) }
+    ensures length { length keys.new.items ≡ length (numbers_of_tasks nexts.now) }
+    ensures local { (t : ℕ) → t < length (numbers_of_tasks nexts.now) → IsLocal bases.now (numbers_of_tasks nexts.now) keys.new.items t }
+{
+    let mut at = start;
+    for _step in 0..nexts.len() {
+        let Some(task) = at else {
+            return;
+        };
+        keys[task.0 as usize] = top_key(bases, nexts, keys.as_slice(), task);
+        at = nexts[task.0 as usize];
+    }
+}
