@@ -24,7 +24,7 @@ use Rattle.rt_task.specs.Refusals.{first, each, whole}
 use Rattle.rt_task.specs.RuleWords.{within, is_empty, is_periodic, allows_clusters}
 use Rattle.rt_task.specs.RangeRules.{whole_range, cluster_range, task_range}
 use Rattle.rt_task.specs.SizeRules.{whole_size}
-use Rattle.rt_task.specs.Validity.{refusal, refusal_of, range_rows, name_rows, sharing_rows, size_rows, task_shape, IsValid}
+use Rattle.rt_task.specs.Validity.{refusal, refusal_of, whole_refusal, range_rows, name_rows, sharing_rows, size_rows, task_shape, IsValid}
 use Rattle.rt_rules.specs.Numbers.{has, numbers_from}
 use Rattle.rt_model.specs.Group.{Group, no_task, no_cluster, task, cluster, cpus, home, in_group, clusters, tasks, tasks_of, sems}
 use Rattle.group_engine.specs.Built.{is_built, is_gsn_edf, is_built_task}
@@ -56,7 +56,7 @@ both true b h = (refl, h)
 both false b h = cc
 
 valid-refusal : (p : Parts) → IsValid p → refusal (draft_of p) ≡ None
-unfolding refusal_of
+unfolding refusal_of whole_refusal
 valid-refusal p valid =
     let rows : List (Option BadSet) = each kinds.Shape parts.Task (task_shape (draft_of p)) (draft_of p).tasks ∷ refusal (draft_of p) ∷ [] in
     first-none rows valid 1

@@ -12,7 +12,7 @@ use Rattle.rt_task.specs.Refusals.{bad, each, first, first_failing, whole}
 use Rattle.rt_task.specs.RuleWords as words
 use Rattle.rt_task.specs.RuleWords.{all_same, allows_clusters, is_known, is_name, is_of_one_cluster, is_periodic, is_prio, is_span, no_repeat, piece_in_range, sem_numbers, stands_under, within}
 use Rattle.rt_task.specs.SharingRules.{clusters_sharing, sem_sharing, task_sharing}
-use Rattle.rt_task.specs.Validity.{IsValid, name_rows, range_rows, refusal, refusal_of, sharing_rows, size_rows, task_shape}
+use Rattle.rt_task.specs.Validity.{IsValid, name_rows, range_rows, refusal, refusal_of, whole_refusal, sharing_rows, size_rows, task_shape}
 use Rattle.rt_task.specs.declared.Kind.TheVariants.{Periodic, Sporadic}
 use Rattle.rt_task.specs.declared.Kind.{Kind}
 use Rattle.rt_task.specs.declared.Parts.{Parts}
@@ -92,7 +92,7 @@ record KeepsRows (p : Parts) : Type 0 where
   task : (i : ℕ) (d : DraftTask) → i < length (draft_of p).tasks → KeepsRule (task_sharing (draft_of p)) i (slice_index_or (draft_of p).tasks i d)
 
 keeps_rows : (p : Parts) → IsValid p → KeepsRows p
-unfolding refusal_of refusal
+unfolding refusal_of whole_refusal refusal
 keeps_rows p valid =
     let d : Draft = draft_of p in
     let all = all-none (each kinds.Shape parts.Task (task_shape d) d.tasks ∷ refusal d ∷ []) valid in

@@ -16,7 +16,7 @@ use Rattle.rt_task.specs.RangeRules.{whole_range, cluster_range, resv_range, tas
 use Rattle.rt_task.specs.Refusals.{bad}
 use Rattle.rt_task.specs.SharingRules.{clusters_sharing, sem_sharing, resv_sharing, task_sharing, step_sharing}
 use Rattle.rt_task.specs.SizeRules.{whole_size, task_size}
-use Rattle.rt_task.specs.Validity.{IsValid, task_shape, refusal, refusal_of}
+use Rattle.rt_task.specs.Validity.{IsValid, task_shape, refusal, refusal_of, whole_refusal}
 use Rattle.rt_task.specs.declared.bad_set.Part.TheVariants as parts
 use Rattle.rt_task.specs.declared.bad_set.SetKind.TheVariants as kinds
 use Rattle.rt_model.specs.Blocking.{ends, ends_all, bound}
@@ -30,7 +30,7 @@ use Rattle.rt_model.specs.Samples.{task_with, step_of}
 
 -- a proof that computes with the rules of a set says `unfolding rules_computed`
 unfoldable pub rules_computed : Unit {0}
-unfolding refusal_of refusal task_shape whole_range cluster_range resv_range task_range step_range sem_name resv_name task_name step_name sem_sharing resv_sharing task_sharing step_sharing clusters_sharing whole_size task_size total_cpus group_of cluster_with is_pcp_sem cluster_of_task cluster_of_resv runs nests after_op goes_on
+unfolding refusal_of whole_refusal refusal task_shape whole_range cluster_range resv_range task_range step_range sem_name resv_name task_name step_name sem_sharing resv_sharing task_sharing step_sharing clusters_sharing whole_size task_size total_cpus group_of cluster_with is_pcp_sem cluster_of_task cluster_of_resv runs nests after_op goes_on
 rules_computed = tt
 
 -- a task with a name of one letter
