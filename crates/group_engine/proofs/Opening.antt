@@ -183,4 +183,4 @@ module _ (g : Group) (played : IsPlayed g) where
 
   pub sound-open : (room capacity : ℕ) → room ≤ 200000 → room ≤ capacity → IsSound g [] room capacity first_state
   unfolding past_of past_from
-  sound-open room capacity limit reserved = record { played = played; limit = limit; within = omega arith; reserved = reserved; kept = kept-open; legal = tt; steps = λ k d lt. absurd (omega arith) }
+  sound-open room capacity limit reserved = record { played = played; limit = limit; within = omega arith; reserved = reserved; kept = kept-open; legal = tt; played_entries = λ k d lt. absurd (omega arith) }

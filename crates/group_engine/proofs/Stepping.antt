@@ -19,7 +19,8 @@ use Rattle.group_engine.proofs.Replies.{linked-at, runs-at}
 use Rattle.rt_model.specs.Histories.{past_of, reply_to, IsLegal}
 use Rattle.rt_model.proofs.Steps.{past_of-append, after-acted, reply_to-lem, IsLegal-append}
 use Rattle.rt_model.proofs.PastLaws.{numbers_from-below}
-use Rattle.group_engine.specs.Groups.{IsProcessorOf, CanStep}
+use Rattle.group_engine.specs.Groups.{IsProcessorOf, IsPlayedEntry}
+use Rattle.group_engine.specs.Built.{is_built_act}
 use Rattle.group_engine.specs.Queue as queue
 use Rattle.group_engine.specs.Due.{due_ready}
 use Rattle.group_engine.specs.Moves.{clock_moved}
@@ -80,15 +81,15 @@ module _ (g : Group) (es : List Entry) (room capacity : ℕ) (state : State) (so
   pub reply-is : (step : Step) (reply : Reply) (after : State) → HasActed (at_tick step.tick.0) step.cpu.0 step.act reply after → reply ≡ reply_to g step (past_of g es)
   reply-is step reply after acted = acted.reply_is ∙ sym (reply_to-lem g step (past_of g es))
 
-  pub sound-step : (step : Step) (reply : Reply) (after : State) (capacity' : ℕ) → CanStep g step → length es < room → capacity ≤ capacity' → HasActed (at_tick step.tick.0) step.cpu.0 step.act reply after → IsSound g (es ++ record { step = step; reply = reply } ∷ []) room capacity' after
-  sound-step step reply after capacity' can spare grows acted = record {
+  pub sound-step : (step : Step) (reply : Reply) (after : State) (capacity' : ℕ) → is_built_act step.act ≡ true → IsProcessorOf g step.cpu.0 → length es < room → capacity ≤ capacity' → HasActed (at_tick step.tick.0) step.cpu.0 step.act reply after → IsSound g (es ++ record { step = step; reply = reply } ∷ []) room capacity' after
+  sound-step step reply after capacity' act there spare grows acted = record {
     played = sound.played;
     limit = sound.limit;
     within = omega (arith, length-append {A = Entry});
     reserved = omega (arith, sound.reserved);
     kept = rw (past_of-append, after-acted) acted.kept;
     legal = IsLegal-append g es _ sound.legal (reply-is step reply after acted);
-    steps = All-push (λ (e : Entry). CanStep g e.step) es _ sound.steps can;
+    played_entries = All-push (IsPlayedEntry g) es _ sound.played_entries (act, there);
   }
 
   -- ---- what is linked and what runs

@@ -3,7 +3,6 @@ use Rattle.std.specs.Prelude.{◌≡◌, ℕ, ◌-◌, Bool, true, ◌==◌, Lis
 use Rattle.std.specs.List.{list_any}
 use Rattle.rt_task.specs.declared.Parts.{Parts}
 use Rattle.rt_task.specs.declared.Cluster.{Cluster}
-use Rattle.rt_task.specs.declared.Step.{Step}
 use Rattle.rt_history.specs.declared.Entry.{Entry}
 use Rattle.rt_rules.specs.Numbers.{has}
 use Rattle.rt_model.specs.Group.{Group, group_processors}
@@ -40,10 +39,9 @@ IsGroupOf p n = list_any (λ (c : Cluster). c.group.0 == n) p.clusters ≡ true
 abbrev pub IsProcessorOf : Group → ℕ → Type 0
 IsProcessorOf g q = has q (group_processors g) ≡ true
 
--- a step that the engine of this group plays: its processor is of the group, and its act is one that is played so far
-pub record CanStep (g : Group) (s : Step) : Type 0 where
-  pub processor : IsProcessorOf g s.cpu.0
-  pub act : is_built_act s.act ≡ true
+-- the entry's act is one that is played so far, and its processor is of the group
+abbrev pub IsPlayedEntry : Group → Entry → Type 0
+IsPlayedEntry g e = (is_built_act e.step.act ≡ true) × IsProcessorOf g e.step.cpu.0
 
-abbrev pub AllCanStep : GroupHistory → Type 0
-AllCanStep h = All (λ (e : Entry). CanStep (group_of h) e.step) h.entries
+abbrev pub AllPlayed : GroupHistory → Type 0
+AllPlayed h = All (IsPlayedEntry (group_of h)) h.entries

@@ -23,7 +23,7 @@ use Rattle.rt_model.specs.Histories.{past_of, IsLegal}
 use Rattle.link_table.specs.Linked.{Linked}
 use Rattle.group_engine.specs.Queue.{ranked_by}
 use Rattle.group_engine.specs.Built.{is_built}
-use Rattle.group_engine.specs.Groups.{IsGroupOf, CanStep}
+use Rattle.group_engine.specs.Groups.{IsGroupOf, IsPlayedEntry}
 
 -- the release of the task's job number k + 1, and that job's key
 abbrev pub release_at : Group → ℕ → ℕ → ℕ
@@ -131,4 +131,4 @@ pub record IsSound (g : Group) (entries : List Entry) (room capacity : ℕ) (sta
   pub reserved : room ≤ capacity
   pub kept : IsKept g (past_of g entries) state
   pub legal : IsLegal g entries
-  pub steps : All (λ (e : Entry). CanStep g e.step) entries
+  pub played_entries : All (IsPlayedEntry g) entries

@@ -1,12 +1,12 @@
 //! The engine of one group: its history, kept step by step.
-ghost use Rattle.std.specs.Prelude.{◌≡◌, ◌<◌, ◌≤◌, [], IfOk, true};
+ghost use Rattle.std.specs.Prelude.{◌≡◌, ◌<◌, ◌≤◌, ◌+◌, [], IfOk, true, length};
 ghost use Rattle.rt_base.specs.TaskNos.{number_of_task};
 ghost use Rattle.rt_task.specs.Validity.{IsValid};
 ghost use Rattle.rt_model.specs.Runs.{runs};
 ghost use Rattle.rt_model.specs.Links.{linked};
 ghost use Rattle.rt_model.specs.Histories.{reply_to};
 ghost use Rattle.group_engine.specs.Built.{is_built, is_built_act};
-ghost use Rattle.group_engine.specs.Groups.{GroupHistory, group_of, past, with_entry, IsLegalNow, AllCanStep, IsGroupOf, IsProcessorOf};
+ghost use Rattle.group_engine.specs.Groups.{GroupHistory, group_of, past, with_entry, IsLegalNow, AllPlayed, IsGroupOf, IsProcessorOf};
 
 use crate::room::put;
 use crate::state::GroupState;
@@ -75,7 +75,8 @@ impl Engine {
     pub fn entries(&self) -> &[Entry]
         ensures entries { result.now ≡ self.now.entries }
         ensures legal { IsLegalNow self.now }
-        ensures steps { AllCanStep self.now }
+        ensures played { AllPlayed self.now }
+        ensures room { length self.now.entries + self.now.spare ≤ 200000 }
     {
         self.entries.as_slice()
     }

@@ -39,7 +39,7 @@ invariant_of-self c =
     let acted = c.act-reply.ensures _ (stepping.can_act _ _ _ _ _ c.self.invariant c.args.step.tick.0 c.args.step.cpu.0 _ _ (at_home _ _ _ c.self.view_is c.requires.cpu) same c.move_clock.ensures) in
     let shown : c.self.inside.room - vec_len c.self.inside.entries ≡ c.args.self.now.spare = ap (λ (h : GroupHistory). h.spare) c.self.view_is in
     let spare : length c.self.inside.entries.items < c.self.inside.room = omega (arith, c.requires.room, c.self.inside.entries.ok.0) in
-    rw c.put.ensures.items (stepping.sound-step _ _ _ _ _ c.self.invariant c.args.step c.act-reply.result c.act-reply.new.self _ (record { processor = at_home _ _ _ c.self.view_is c.requires.cpu; act = c.requires.act }) spare c.put.ensures.capacity acted)
+    rw c.put.ensures.items (stepping.sound-step _ _ _ _ _ c.self.invariant c.args.step c.act-reply.result c.act-reply.new.self _ c.requires.act (at_home _ _ _ c.self.view_is c.requires.cpu) spare c.put.ensures.capacity acted)
 
 pub returns-clause-reply : goal.returns-clause-reply
 returns-clause-reply c =
