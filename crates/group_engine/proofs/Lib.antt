@@ -5,6 +5,7 @@ pub mod Rules
 pub mod DueLaws
 pub mod Plain
 pub mod PlainGroup
+pub mod PlainSteps
 pub mod PlainModel
 pub mod Kept
 pub mod TopTasks

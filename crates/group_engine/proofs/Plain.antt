@@ -19,10 +19,10 @@ use Rattle.rt_base.specs.declared.TheConstants.{TICK_END, MOST_TASKS}
 use Rattle.rt_task.specs.declared.draft.Draft.{Draft}
 use Rattle.rt_task.specs.declared.draft.DraftTask.{DraftTask}
 use Rattle.rt_task.specs.declared.draft.DraftCluster.{DraftCluster}
-use Rattle.rt_task.specs.Draft.{draft_of, draft_task, draft_cluster, runs}
+use Rattle.rt_task.specs.Draft.{draft_of, draft_task, draft_cluster, runs, steps_of}
 use Rattle.rt_task.specs.Refusals.{first, each, whole}
 use Rattle.rt_task.specs.RuleWords.{within, is_empty, is_periodic, allows_clusters}
-use Rattle.rt_task.specs.RangeRules.{whole_range, cluster_range, task_range}
+use Rattle.rt_task.specs.RangeRules.{whole_range, cluster_range, task_range, step_range}
 use Rattle.rt_task.specs.SizeRules.{whole_size}
 use Rattle.rt_task.specs.Validity.{refusal, refusal_of, whole_refusal, range_rows, name_rows, sharing_rows, size_rows, task_shape, IsValid}
 use Rattle.rt_rules.specs.Numbers.{has, numbers_from}
@@ -51,11 +51,11 @@ pub record IsPlainSet (p : Parts) : Type 0 where
   pub few_tasks : length p.tasks ≤ 1024
   pub tasks_are : (i : ℕ) → i < length p.tasks → IsPlainTask (get_or p.tasks i no_task)
 
-both : (a b : Bool) → a && b ≡ true → (a ≡ true) × (b ≡ true)
+pub both : (a b : Bool) → a && b ≡ true → (a ≡ true) × (b ≡ true)
 both true b h = (refl, h)
 both false b h = cc
 
-valid-refusal : (p : Parts) → IsValid p → refusal (draft_of p) ≡ None
+pub valid-refusal : (p : Parts) → IsValid p → refusal (draft_of p) ≡ None
 unfolding refusal_of whole_refusal
 valid-refusal p valid =
     let rows : List (Option BadSet) = each kinds.Shape parts.Task (task_shape (draft_of p)) (draft_of p).tasks ∷ refusal (draft_of p) ∷ [] in
@@ -66,9 +66,10 @@ pub record InRange (d : Draft) : Type 0 where
   pub whole_row : whole_range d ≡ true
   pub cluster_row : each kinds.Range parts.Cluster (cluster_range d) d.clusters ≡ None
   pub task_row : each kinds.Range parts.Task (task_range d) d.tasks ≡ None
+  pub step_row : each kinds.Range parts.Step (step_range d) (steps_of d.drive) ≡ None
   pub size_row : whole_size d ≡ true
 
-in_range : (d : Draft) → refusal d ≡ None → InRange d
+pub in_range : (d : Draft) → refusal d ≡ None → InRange d
 unfolding refusal
 in_range d h =
     let tables : List (Option BadSet) = first (range_rows d) ∷ first (name_rows d) ∷ first (sharing_rows d) ∷ first (size_rows d) ∷ [] in
@@ -76,6 +77,7 @@ in_range d h =
       whole_row = whole-none kinds.Range _ (first-none (range_rows d) (first-none tables h 0) 0);
       cluster_row = first-none (range_rows d) (first-none tables h 0) 1;
       task_row = first-none (range_rows d) (first-none tables h 0) 3;
+      step_row = first-none (range_rows d) (first-none tables h 0) 4;
       size_row = whole-none kinds.Size _ (first-none (size_rows d) (first-none tables h 3) 0);
     }
 

@@ -27,13 +27,13 @@ pub record IsPlainGroup (g : Group) : Type 0 where
   pub homes_are : tasks_of g 0 ≡ numbers_from 1 (length g.setup.tasks)
   pub no_sems : sems g ≡ []
 
-one : {A : Type 0} (xs : List A) (d : A) → length xs ≡ 1 → xs ≡ get_or xs 0 d ∷ []
+pub one : {A : Type 0} (xs : List A) (d : A) → length xs ≡ 1 → xs ≡ get_or xs 0 d ∷ []
 one [] d h = absurd (omega arith)
 one (x ∷ []) d h = refl
 one (x ∷ y ∷ xs) d h = absurd (omega arith)
 
 -- the cluster's group is the one that is asked for
-the_group : (p : Parts) (n : ℕ) → IsPlainSet p → IsGroupOf p n → n ≡ 0
+pub the_group : (p : Parts) (n : ℕ) → IsPlainSet p → IsGroupOf p n → n ≡ 0
 the_group p n s h =
     let k : Cluster = get_or p.clusters 0 no_cluster in
     let all : p.clusters ≡ k ∷ [] = one p.clusters no_cluster s.one_cluster in
