@@ -3,3 +3,4 @@ pub mod Faults
 pub mod Reading
 pub mod Memory
 pub mod StatusCode
+pub mod Stops

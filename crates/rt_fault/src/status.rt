@@ -1,5 +1,6 @@
 //! How a run ends.
-use rt_task::BadSet;
+use crate::ReadStop;
+use rt_task::{BadSet, SetStop};
 
 /// How a run ends.
 #[derive(Clone, Copy, Debug, PartialEq, Eq)]
@@ -40,6 +41,35 @@ impl Status {
             Status::WriteFault => 5,
             Status::TooLong => 6,
             Status::NoMemory => 7,
+        }
+    }
+}
+
+impl From<ReadStop> for Status {
+    ghost use Rattle.std.specs.Prelude.{◌≡◌};
+    ghost use Rattle.rt_fault.specs.Stops.{unread};
+
+    ghost from_gives = { λ stop e. e ≡ unread stop };
+
+    fn from(stop: ReadStop) -> Status {
+        match stop {
+            ReadStop::Fault => Status::ReadFault,
+            ReadStop::TooLong => Status::TooLong,
+            ReadStop::NoMemory => Status::NoMemory,
+        }
+    }
+}
+
+impl From<SetStop> for Status {
+    ghost use Rattle.std.specs.Prelude.{◌≡◌};
+    ghost use Rattle.rt_fault.specs.Stops.{unmade};
+
+    ghost from_gives = { λ stop e. e ≡ unmade stop };
+
+    fn from(stop: SetStop) -> Status {
+        match stop {
+            SetStop::Bad(bad) => Status::BadInput(bad),
+            SetStop::NoMemory => Status::NoMemory,
         }
     }
 }
