@@ -1,10 +1,9 @@
 -- Links of a ring that change where a number joins or leaves.
-use Rattle.std.proofs.Common.{◌≡◌, ℕ, zero, suc, ◌+◌, ◌<◌, ◌≤◌, Bool, true, false, ◌||◌, ◌⊎◌, inl, inr, eqb-true, List, [], ◌∷◌, ◌++◌, length, slice_index, refl, sym, ap, ◌∙◌, arith}
+use Rattle.std.proofs.Common.{◌≡◌, ℕ, zero, suc, ◌≤◌, Bool, true, false, ◌||◌, ◌⊎◌, inl, inr, eqb-true, List, [], ◌∷◌, ◌++◌, length, slice_index, refl, sym, ap, ◌∙◌, arith}
 use Rattle.std.specs.Prelude.{◌==◌, if◌then◌else◌}
-use Rattle.std.proofs.lemmas.Bool.Decides.{nat_tests}
 use Rattle.rt_rules.specs.Distinct.{IsDistinct}
 use Rattle.rt_rules.specs.Numbers.{has, without}
-use Rattle.rt_rules.proofs.PlacingLaws.{either, or_true}
+use Rattle.rt_rules.proofs.PlacingLaws.{or_true}
 use Rattle.sem_laws.proofs.Members.{equal_self, equal_turned, neither}
 use Rattle.key_queue.specs.Ring.{IsLinked, ring_from}
 
@@ -101,12 +100,14 @@ module _ (next previous next' previous' : ℕ → ℕ) (room t : ℕ) where
           let b : previous t ≡ p = ap previous s ∙ h.1 in
           let n : next t ≡ y = ap next s ∙ l.0 in
           let q = neither (p == x) (has p (y ∷ ys)) a in
-          let z = neither (room == y) (has room ys) r in
-          (ap next' (sym b) ∙ nb ∙ n, ap previous' (sym n) ∙ pa ∙ b,
-           framed next previous next' previous' room y ys
-             (λ k m. same k (ap (λ i. k == i) b ∙ equal_turned k p ∙ other p k (y ∷ ys) q.1 m))
-             (λ k m. same' k (ap (λ i. k == i) n ∙ equal_turned k y ∙ other y k ys d.0 m))
-             (same' room (ap (λ i. room == i) n ∙ z.0)) l.2)
+          let z = neither (room == y) (has room ys) r in (
+            ap next' (sym b) ∙ nb ∙ n,
+            ap previous' (sym n) ∙ pa ∙ b,
+            framed next previous next' previous' room y ys
+                (λ k m. same k (ap (λ i. k == i) b ∙ equal_turned k p ∙ other p k (y ∷ ys) q.1 m))
+                (λ k m. same' k (ap (λ i. k == i) n ∙ equal_turned k y ∙ other y k ys d.0 m))
+                (same' room (ap (λ i. room == i) n ∙ z.0)) l.2,
+          )
 
       kept : t == x ≡ false → has t xs ≡ true → IsLinked next' previous' room x (without t xs) → IsLinked next' previous' room p (x ∷ without t xs)
       kept e m rest =

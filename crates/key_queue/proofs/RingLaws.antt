@@ -1,15 +1,14 @@
 -- What joining and leaving do to a ring.
-use Rattle.std.proofs.Common.{◌≡◌, ℕ, ◌+◌, ◌<◌, ◌≤◌, Bool, true, false, ◌||◌, ◌⊎◌, inl, inr, eqb-true, List, [], ◌∷◌, ◌++◌, length, get_or, set, refl, sym, ap, ◌∙◌, arith, length-set, get_or-set_same, get_or-set_other, replicate}
+use Rattle.std.proofs.Common.{◌≡◌, ℕ, ◌+◌, ◌<◌, true, false, ◌⊎◌, inl, inr, eqb-true, List, [], ◌∷◌, ◌++◌, length, set, sym, ap, ◌∙◌, arith, length-set, get_or-set_same, get_or-set_other, replicate}
 use Rattle.std.proofs.lemmas.List.{get_or-replicate, length-replicate}
 use Rattle.std.specs.Prelude.{◌==◌, slice_index}
 use Rattle.std.proofs.lemmas.Bool.Decides.{nat_tests}
-use Rattle.rt_rules.specs.Distinct.{IsDistinct}
 use Rattle.rt_rules.specs.Numbers.{has, without}
 use Rattle.rt_rules.proofs.PlacingLaws.{either, unless}
 use Rattle.sem_laws.proofs.Members.{has-push, distinct-push, has-without, distinct-without}
 use Rattle.sem_laws.proofs.Few.{length-few}
-use Rattle.key_queue.specs.Ring.{IsLinked, IsRing, ring_from, ring_tasks}
-use Rattle.key_queue.proofs.Links.{last_of, has-last_of, previous-room, ring_from-linked, linked-push, linked-without, has-previous, has-next}
+use Rattle.key_queue.specs.Ring.{IsRing, ring_tasks}
+use Rattle.key_queue.proofs.Links.{has-last_of, previous-room, ring_from-linked, linked-push, linked-without, has-previous, has-next}
 
 -- a number that is another is no equal one
 pub differs : (a b : ℕ) → a == b ≡ false → a ≡ b → ⊥
@@ -70,13 +69,13 @@ module _ (next previous : List ℕ) (room : ℕ) (ts : List ℕ) (ring : IsRing 
       let l_not_t : l == t ≡ false = not_equal l t (λ e. apart_last (sym e)) in
       record {
         linked = linked-push (slice_index next) (slice_index previous) (slice_index (set (set next l t) t room)) (slice_index (set (set previous t l) room t)) room t l room ts
-          (is ∙ previous-room (slice_index next) (slice_index previous) room room ts ring.linked) ring.linked no_room ring.once no_room room_not out
-          (other_place (set next l t) t l room l_not_t ∙ same_place next l t (omega (arith, ring.next_length)))
-          (same_place (set next l t) t room (omega (arith, length-set next l t, ring.next_length)))
-          (other_place (set previous t l) room t t not_room ∙ same_place previous t l (omega (arith, ring.previous_length)))
-          (same_place (set previous t l) room t (omega (arith, length-set previous t l, ring.previous_length)))
-          (λ k a b. other_place (set next l t) t k room b ∙ other_place next l k t a)
-          (λ k a b. other_place (set previous t l) room k t b ∙ other_place previous t k l a);
+            (is ∙ previous-room (slice_index next) (slice_index previous) room room ts ring.linked) ring.linked no_room ring.once no_room room_not out
+            (other_place (set next l t) t l room l_not_t ∙ same_place next l t (omega (arith, ring.next_length)))
+            (same_place (set next l t) t room (omega (arith, length-set next l t, ring.next_length)))
+            (other_place (set previous t l) room t t not_room ∙ same_place previous t l (omega (arith, ring.previous_length)))
+            (same_place (set previous t l) room t (omega (arith, length-set previous t l, ring.previous_length)))
+            (λ k a b. other_place (set next l t) t k room b ∙ other_place next l k t a)
+            (λ k a b. other_place (set previous t l) room k t b ∙ other_place previous t k l a);
         once = distinct-push t ts ring.once out;
         below = λ u h. under u (either (u == t) (has u ts) (sym (has-push u t ts) ∙ h));
         next_length = length-set _ _ _ ∙ length-set _ _ _ ∙ ring.next_length;
@@ -97,11 +96,11 @@ module _ (next previous : List ℕ) (room : ℕ) (ts : List ℕ) (ring : IsRing 
   pub ring-without : (t : ℕ) → has t ts ≡ true → IsRing (set next (slice_index previous t) (slice_index next t)) (set previous (slice_index next t) (slice_index previous t)) room (without t ts)
   ring-without t there = record {
     linked = linked-without (slice_index next) (slice_index previous) (slice_index (set next (slice_index previous t) (slice_index next t))) (slice_index (set previous (slice_index next t) (slice_index previous t))) room t room ts
-      ring.linked no_room ring.once no_room there
-      (same_place next (slice_index previous t) (slice_index next t) (omega (arith, ring.next_length, previous_within t there)))
-      (same_place previous (slice_index next t) (slice_index previous t) (omega (arith, ring.previous_length, next_within t there)))
-      (λ k a. other_place next (slice_index previous t) k (slice_index next t) a)
-      (λ k a. other_place previous (slice_index next t) k (slice_index previous t) a);
+        ring.linked no_room ring.once no_room there
+        (same_place next (slice_index previous t) (slice_index next t) (omega (arith, ring.next_length, previous_within t there)))
+        (same_place previous (slice_index next t) (slice_index previous t) (omega (arith, ring.previous_length, next_within t there)))
+        (λ k a. other_place next (slice_index previous t) k (slice_index next t) a)
+        (λ k a. other_place previous (slice_index next t) k (slice_index previous t) a);
     once = distinct-without t ts ring.once;
     below = λ u h. ring.below u (has-without u t ts h);
     next_length = length-set _ _ _ ∙ ring.next_length;
