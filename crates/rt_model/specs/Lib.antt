@@ -21,7 +21,6 @@ pub mod Made
 pub mod Situations
 pub mod Histories
 pub mod Blocking
-pub mod Claims
 pub mod Computed
 pub mod Samples
 pub mod Worked

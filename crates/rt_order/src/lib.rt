@@ -4,6 +4,12 @@
 ghost use Rattle.std.specs.Prelude.{◌≡◌};
 ghost use Rattle.rt_order.specs.KeyOrder.{higher};
 
+mod order;
+mod steps;
+
+pub use order::{ByKey, Order};
+pub use steps::Steps;
+
 /// A priority. Of two keys the one with the smaller (band, major, minor) is the higher, compared in that order.
 #[derive(Clone, Copy, Debug, PartialEq, Eq)]
 pub struct Key {

@@ -1,4 +1,16 @@
+pub mod BoolLaws
+pub mod MemberLaws
 pub mod PlacingLaws
 pub mod LinkLaws
 pub mod NumberLaws
+pub mod DistinctLaws
 pub mod RankedLaws
+pub mod KeyLaws
+pub mod RankingLaws
+pub mod SemActLaws
+pub mod FmlpLaws
+pub mod OmlpLaws
+pub mod MpcpLaws
+pub mod PairLaws
+pub mod PcpLaws
+pub mod PcpGrantLaws

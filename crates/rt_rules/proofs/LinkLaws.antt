@@ -1,10 +1,12 @@
 -- Laws of every past that moves make: no task runs twice or is linked twice, and the links are exactly the top.
-use Rattle.std.proofs.Common.{◌≡◌, ℕ, zero, suc, ◌≤◌, Bool, true, false, not, ◌&&◌, ◌||◌, ◌⊎◌, inl, inr, List, [], ◌∷◌, length, refl, sym, ap, ◌∙◌, arith}
-use Rattle.std.specs.Prelude.{Option, None, Some, ◌==◌}
+use Rattle.std.proofs.Common.{Bool, List, [], ap, arith, false, inl, inr, length, not, refl, suc, sym, true, zero, ℕ, ◌&&◌, ◌<◌, ◌||◌, ◌∙◌, ◌∷◌, ◌≡◌, ◌≤◌, ◌⊎◌}
+use Rattle.std.specs.Prelude.{None, Option, Some, ◌==◌}
 use Rattle.rt_rules.specs.Distinct.{IsDistinct}
 use Rattle.rt_rules.specs.Numbers.{has, is}
-use Rattle.rt_rules.specs.Placing.{is_of, tasks_in, kept, filled, placed, at_place}
-use Rattle.rt_rules.proofs.PlacingLaws.{has-filter, has-tasks_in, either, or_true, equal_self, distinct-head, distinct-tail, distinct-kept, distinct-filter, beside, has-placed, length-kept, is-is_of}
+use Rattle.rt_rules.specs.Placing.{at_place, filled, is_of, kept, placed, tasks_in}
+use Rattle.rt_rules.proofs.BoolLaws.{either, or_true, unless, neither}
+use Rattle.rt_rules.proofs.MemberLaws.{equal_self, has-filter}
+use Rattle.rt_rules.proofs.PlacingLaws.{beside, distinct-filter, distinct-head, distinct-kept, distinct-tail, has-placed, has-tasks_in, is-is_of, length-kept}
 
 -- ---- placing keeps each task once
 
@@ -30,21 +32,12 @@ has-filled_le t (None ∷ ls) (u ∷ ts) h = join (either (t == u) _ h) (has-fil
         further (inl m) = inl m
         further (inr m) = inr (rw m (or_true (t == u)))
 
--- what is not so is false
-unless : (b : Bool) → (b ≡ true → ⊥) → b ≡ false
-unless true h = absurd (h refl)
-unless false h = refl
-
 distinct-filled : (ls : List (Option ℕ)) (ts : List ℕ) → IsDistinct (tasks_in ls) → IsDistinct ts → ((t : ℕ) → has t ts ≡ true → has t (tasks_in ls) ≡ false) → IsDistinct (tasks_in (filled ls ts))
 distinct-filled [] ts dl dt apart = tt
 distinct-filled (Some u ∷ ls) ts dl dt apart = (unless (has u (tasks_in (filled ls ts))) (λ h. clash (has-filled_le u ls ts h)), distinct-filled ls ts dl.1 dt (λ t h. later t (apart t h)))
   where
     later : (t : ℕ) → t == u || has t (tasks_in ls) ≡ false → has t (tasks_in ls) ≡ false
-    later t h = by_case (t == u) (has t (tasks_in ls)) h
-      where
-        by_case : (a b : Bool) → a || b ≡ false → b ≡ false
-        by_case true b h = cc
-        by_case false b h = h
+    later t h = (neither (t == u) (has t (tasks_in ls)) h).1
 
     clash : (has u (tasks_in ls) ≡ true) ⊎ (has u ts ≡ true) → ⊥
     clash (inl k) = let n = dl.0 in cc
@@ -91,7 +84,7 @@ has-at_place t [] k h = cc
 has-at_place t (l ∷ ls) zero h = rw (has-tasks_in t l ls, h)
 has-at_place t (l ∷ ls) (suc k) h = rw (has-tasks_in t l ls, has-at_place t ls k h) (or_true (is t l))
 
-one_place : (t : ℕ) (ls : List (Option ℕ)) (i j : ℕ) → IsDistinct (tasks_in ls) → is t (at_place ls i) ≡ true → is t (at_place ls j) ≡ true → i ≡ j
+pub one_place : (t : ℕ) (ls : List (Option ℕ)) (i j : ℕ) → IsDistinct (tasks_in ls) → is t (at_place ls i) ≡ true → is t (at_place ls j) ≡ true → i ≡ j
 one_place t [] i j d h k = cc
 one_place t (l ∷ ls) zero zero d h k = refl
 one_place t (l ∷ ls) zero (suc j) d h k = let n = distinct-head t l ls d h in let m = has-at_place t ls j k in cc
@@ -114,3 +107,8 @@ length-filled (None ∷ ls) (t ∷ ts) = ap suc (length-filled ls ts)
 
 pub length-placed : (top : List ℕ) (runs links : List (Option ℕ)) → length runs ≡ length links → length (placed top runs links) ≡ length runs
 length-placed top runs links e = length-filled _ _ ∙ length-kept top (tasks_in runs) runs links e
+
+pub at_place-inside : (t : ℕ) (ls : List (Option ℕ)) (k : ℕ) → is t (at_place ls k) ≡ true → k < length ls
+at_place-inside t [] k h = cc
+at_place-inside t (l ∷ ls) zero h = omega arith
+at_place-inside t (l ∷ ls) (suc k) h = omega (arith, at_place-inside t ls k h)

@@ -1,10 +1,10 @@
 -- Numbers in a row.
-use Rattle.std.proofs.Common.{◌≡◌, ℕ, zero, suc, ◌≤◌, Bool, true, false, ◌||◌, cond, ◌⊎◌, inl, inr, eqb-true, List, [], ◌∷◌, length, map, take, refl, ap, ◌∙◌, arith}
-use Rattle.std.specs.Prelude.{◌==◌, filter}
+use Rattle.std.proofs.Common.{Bool, arith, eqb-true, false, inl, inr, refl, suc, true, zero, ℕ, ◌+◌, ◌<◌, ◌||◌, ◌≡◌, ◌≤◌, ◌⊎◌}
 use Rattle.std.proofs.lemmas.Bool.Decides.{nat_tests}
+use Rattle.std.specs.Prelude.{◌==◌}
 use Rattle.rt_rules.specs.Distinct.{IsDistinct}
 use Rattle.rt_rules.specs.Numbers.{has, numbers_from}
-use Rattle.rt_rules.proofs.PlacingLaws.{either, unless}
+use Rattle.rt_rules.proofs.BoolLaws.{either, unless}
 
 pub has-numbers_from : (t a n : ℕ) → has t (numbers_from a n) ≡ true → a ≤ t
 has-numbers_from t a zero h = cc
@@ -17,3 +17,11 @@ has-numbers_from t a (suc n) h = join (either (t == a) _ h) (has-numbers_from t 
 pub distinct-numbers_from : (a n : ℕ) → IsDistinct (numbers_from a n)
 distinct-numbers_from a zero = tt
 distinct-numbers_from a (suc n) = (unless (has a (numbers_from (suc a) n)) (λ h. let k : suc a ≤ a = has-numbers_from a (suc a) n h in omega arith), distinct-numbers_from (suc a) n)
+
+pub numbers_from-has : (a n q : ℕ) → a ≤ q → q < a + n → has q (numbers_from a n) ≡ true
+numbers_from-has a zero q h k = absurd (omega arith)
+numbers_from-has a (suc n) q h k = by_case (q == a) refl (numbers_from-has (suc a) n q)
+  where
+    by_case : (b : Bool) → q == a ≡ b → (suc a ≤ q → q < suc a + n → has q (numbers_from (suc a) n) ≡ true) → b || has q (numbers_from (suc a) n) ≡ true
+    by_case true e r = refl
+    by_case false e r = r (grind (arith, nat_tests, e)) (omega arith)

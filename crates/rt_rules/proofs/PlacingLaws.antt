@@ -1,32 +1,12 @@
 -- The links are exactly the top of the cluster, each task once.
-use Rattle.std.proofs.Common.{◌≡◌, ℕ, suc, ◌+◌, ◌≤◌, Bool, true, false, not, ◌&&◌, ◌||◌, cond, ◌⊎◌, inl, inr, eqb-true, List, [], ◌∷◌, length, refl, sym, ap, ◌∙◌, arith}
-use Rattle.std.specs.Prelude.{Option, None, Some, ◌==◌, filter}
-use Rattle.std.proofs.lemmas.Bool.Decides.{nat_tests}
+use Rattle.std.proofs.Common.{Bool, List, [], ap, arith, cond, eqb-true, false, inl, inr, length, not, refl, suc, sym, true, ℕ, ◌&&◌, ◌+◌, ◌||◌, ◌∙◌, ◌∷◌, ◌≡◌, ◌≤◌, ◌⊎◌}
+use Rattle.std.specs.Prelude.{None, Option, Some, filter, ◌==◌}
 use Rattle.rt_rules.specs.Distinct.{IsDistinct}
 use Rattle.rt_rules.specs.Numbers.{has, is}
-use Rattle.rt_rules.specs.Placing.{is_of, tasks_in, kept_link, kept, filled, placed}
-
--- what is not so is false
-pub unless : (b : Bool) → (b ≡ true → ⊥) → b ≡ false
-unless true h = absurd (h refl)
-unless false h = refl
-
-pub or_middle : (a x u : Bool) → a || (x || u) ≡ x || (a || u)
-or_middle true true u = refl
-or_middle true false u = refl
-or_middle false x u = refl
-
-pub or_assoc : (a x u : Bool) → a || (x || u) ≡ (a || x) || u
-or_assoc true x u = refl
-or_assoc false x u = refl
-
-pub has-filter : (p : ℕ → Bool) (x : ℕ) (xs : List ℕ) → has x (filter p xs) ≡ has x xs && p x
-has-filter p x [] = refl
-has-filter p x (y ∷ ys) = by_case (p y) refl (has-filter p x ys)
-  where
-    by_case : (b : Bool) → p y ≡ b → has x (filter p ys) ≡ has x ys && p x → has x (cond b (y ∷ filter p ys) (filter p ys)) ≡ (x == y || has x ys) && p x
-    by_case true e h = grind (arith, nat_tests, h)
-    by_case false e h = grind (arith, nat_tests, h)
+use Rattle.rt_rules.specs.Placing.{filled, is_of, kept, kept_link, placed, tasks_in}
+pub use Rattle.rt_rules.proofs.BoolLaws.{unless, either, or_true, or_middle, or_assoc}
+pub use Rattle.rt_rules.proofs.MemberLaws.{equal_self, has-filter}
+use Rattle.rt_rules.proofs.MemberLaws.{turned}
 
 -- how many processors are left
 abbrev pub gaps : List (Option ℕ) → ℕ
@@ -56,13 +36,6 @@ pub has-tasks_in : (t : ℕ) (o : Option ℕ) (ls : List (Option ℕ)) → has t
 has-tasks_in t None ls = refl
 has-tasks_in t (Some u) ls = refl
 
-pub either : (a b : Bool) → a || b ≡ true → (a ≡ true) ⊎ (b ≡ true)
-either true b h = inl refl
-either false b h = inr h
-
-neither : (a b : Bool) → a ≡ false → b ≡ false → a || b ≡ false
-neither a b h k = rw (h, k)
-
 pub is-is_of : (t : ℕ) (ts : List ℕ) (o : Option ℕ) → is t o ≡ true → is_of ts o ≡ has t ts
 is-is_of t ts None h = cc
 is-is_of t ts (Some u) h = let e : t ≡ u = eqb-true t u h in ap (λ n. has n ts) (sym e)
@@ -76,10 +49,6 @@ is-kept_link t top running r l = by_cases (is_of top r) (is_of top l) (is_of run
     by_cases false true false e f k h = (sym (is-is_of t top l h) ∙ f, inr (h, sym (is-is_of t running l h) ∙ k))
     by_cases false true true e f k h = cc
     by_cases false false c e f k h = cc
-
-pub or_true : (a : Bool) → a || true ≡ true
-or_true true = refl
-or_true false = refl
 
 at_head : (a a' b b' : Bool) {N : Type 0} → (a ≡ true) ⊎ (b ≡ true) × N → (a || a' ≡ true) ⊎ (b || b' ≡ true) × N
 at_head a a' b b' (inl h) = inl (rw h)
@@ -99,9 +68,6 @@ has-kept t top running (r ∷ rs) (l ∷ ls) h = rw (has-tasks_in t r rs, has-ta
         → (has t top ≡ true) × ((is t r || has t (tasks_in rs) ≡ true) ⊎ (is t l || has t (tasks_in ls) ≡ true) × (has t running ≡ false))
     join (inl k) rest = let p = is-kept_link t top running r l k in (p.0, at_head _ _ _ _ p.1)
     join (inr k) rest = let p = rest k in (p.0, at_tail _ _ _ _ p.1)
-
-pub equal_self : (u : ℕ) → u == u ≡ true
-equal_self u = grind (arith, nat_tests)
 
 -- ---- each task once
 
@@ -176,9 +142,6 @@ beside-cons : (u : ℕ) (us ts : List ℕ) → beside (u ∷ us) ts ≡ filter (
 beside-cons u us [] = refl
 beside-cons u us (t ∷ ts) = by_case (t == u) (u == t) (has t us) (turned t u) refl (beside-cons u us ts)
   where
-    turned : (a b : ℕ) → a == b ≡ b == a
-    turned a b = grind (arith, nat_tests)
-
     by_case : (a b c : Bool) → a ≡ b → u == t ≡ b → beside (u ∷ us) ts ≡ filter (λ t. not (u == t)) (beside us ts) → cond (not (a || c)) (t ∷ beside (u ∷ us) ts) (beside (u ∷ us) ts) ≡ filter (λ t. not (u == t)) (cond (not c) (t ∷ beside us ts) (beside us ts))
     by_case true true true e k rest = rest
     by_case true true false e k rest = rw k rest

@@ -1,11 +1,11 @@
 -- A list in the order of its keys has the same tasks, each once.
-use Rattle.std.proofs.Common.{◌≡◌, ℕ, zero, suc, ◌≤◌, Bool, true, false, ◌||◌, cond, ◌⊎◌, inl, inr, eqb-true, List, [], ◌∷◌, length, map, take, refl, ap, ◌∙◌, arith}
-use Rattle.std.specs.Prelude.{◌==◌, filter}
-use Rattle.std.proofs.lemmas.Bool.Decides.{nat_tests}
+use Rattle.rt_rules.proofs.MemberLaws.{turned}
+use Rattle.std.proofs.Common.{Bool, List, [], ap, cond, false, inl, inr, map, refl, suc, take, true, zero, ℕ, ◌||◌, ◌∙◌, ◌∷◌, ◌≡◌, ◌⊎◌}
+use Rattle.std.specs.Prelude.{◌==◌}
 use Rattle.rt_rules.specs.Distinct.{IsDistinct}
-use Rattle.rt_rules.specs.Numbers.{has}
 use Rattle.rt_rules.specs.Keys.{Ranked, ahead, inserted, sorted}
-use Rattle.rt_rules.proofs.PlacingLaws.{either, or_true, or_middle, unless}
+use Rattle.rt_rules.specs.Numbers.{has}
+use Rattle.rt_rules.proofs.BoolLaws.{either, or_middle, or_true, unless, neither}
 
 abbrev pub tasks_ranked : List Ranked → List ℕ
 tasks_ranked rs = map (λ (r : Ranked). r.task) rs
@@ -22,17 +22,10 @@ distinct-inserted : (a : Ranked) (bs : List Ranked) → has a.task (tasks_ranked
 distinct-inserted a [] h d = (refl, tt)
 distinct-inserted a (b ∷ bs) h d = by_case (ahead a b) (distinct-inserted a bs)
   where
-    apart : (x y : Bool) → x || y ≡ false → (x ≡ false) × (y ≡ false)
-    apart true y k = cc
-    apart false y k = (refl, k)
-
-    turned : (m n : ℕ) → m == n ≡ n == m
-    turned m n = grind (arith, nat_tests)
-
     by_case : (c : Bool) → (has a.task (tasks_ranked bs) ≡ false → IsDistinct (tasks_ranked bs) → IsDistinct (tasks_ranked (inserted a bs))) → IsDistinct (tasks_ranked (cond c (a ∷ b ∷ bs) (b ∷ inserted a bs)))
     by_case true rest = (h, d)
     by_case false rest =
-        let p = apart (a.task == b.task) (has a.task (tasks_ranked bs)) h in
+        let p = neither (a.task == b.task) (has a.task (tasks_ranked bs)) h in
         (rw (has-inserted b.task a bs, turned b.task a.task, p.0) d.0, rest p.1 d.1)
 
 pub has-sorted : (t : ℕ) (rs : List Ranked) → has t (tasks_ranked (sorted rs)) ≡ has t (tasks_ranked rs)
@@ -42,6 +35,7 @@ has-sorted t (a ∷ rs) = has-inserted t a (sorted rs) ∙ ap (λ b. t == a.task
 pub distinct-sorted : (rs : List Ranked) → IsDistinct (tasks_ranked rs) → IsDistinct (tasks_ranked (sorted rs))
 distinct-sorted [] d = tt
 distinct-sorted (a ∷ rs) d = distinct-inserted a (sorted rs) (has-sorted a.task rs ∙ d.0) (distinct-sorted rs d.1)
+
 pub has-take : (t n : ℕ) (ts : List ℕ) → has t (take n ts) ≡ true → has t ts ≡ true
 has-take t zero ts h = cc
 has-take t (suc n) [] h = cc

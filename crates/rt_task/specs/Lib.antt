@@ -1,0 +1,10 @@
+pub mod Refusals
+pub mod Draft
+pub mod RuleWords
+pub mod Bodies
+pub mod Lookups
+pub mod RangeRules
+pub mod NameRules
+pub mod SharingRules
+pub mod SizeRules
+pub mod Validity

@@ -1,0 +1,13 @@
+use Rattle.std.proofs.Common.{rules}
+use Rattle.link_table.proofs.PlaceLaws.{numbers_of_tasks-replicate}
+use Rattle.link_table.proofs.SoundLaws.{sound-unlinked}
+use Rattle.link_table.proofs.Links.new.Goals as goal
+
+pub returns-clause-unlinked : goal.returns-clause-unlinked
+returns-clause-unlinked c = rw (c.in-Ok.ensures.items_if_clones_equal (search rules), c.in-Ok-vec.ensures.items_if_clones_equal (search rules), numbers_of_tasks-replicate)
+
+pub returns-clause-sound : goal.returns-clause-sound
+returns-clause-sound c = rw (returns-clause-unlinked c) (sound-unlinked _ _)
+
+pub invariant_of-result : goal.invariant_of-result
+invariant_of-result c = returns-clause-sound c

@@ -1,0 +1,22 @@
+use Rattle.std.proofs.Common.{◌≡◌, ◌∙◌, ◌-◌, ◌<◌, length, sym, ap, arith}
+use Rattle.rt_base.specs.TaskNos.{numbers_of_tasks}
+use Rattle.link_table.specs.Linked.{Linked}
+use Rattle.link_table.proofs.PlaceLaws.{numbers_of_tasks-set}
+use Rattle.link_table.proofs.SoundLaws.{sound-set}
+use Rattle.link_table.proofs.Links.run.Goals as goal
+
+-- the processor's place, by the fields
+place : (c : goal.After-self-1) → c.place_of-place.result ≡ c.args.q.0 - c.self.inside.first
+place c = c.place_of-place.ensures.place ∙ ap (λ (l : Linked). c.args.q.0 - l.first) (sym c.self.view_is)
+
+pub returns-clause-runs : goal.returns-clause-runs
+returns-clause-runs c = rw (← c.self.view_is, ← place c) (ap (λ rs. record { first = c.self.inside.first; runs = rs; links = numbers_of_tasks c.self.inside.links.items }) (numbers_of_tasks-set _ _ _))
+
+pub returns-clause-sound : goal.returns-clause-sound
+returns-clause-sound c =
+    let same : length (numbers_of_tasks c.self.inside.runs.items) ≡ length c.args.self.now.runs = ap (λ (l : Linked). length l.runs) c.self.view_is in
+    let inside : c.place_of-place.result < length (numbers_of_tasks c.self.inside.runs.items) = omega (arith, c.place_of-place.ensures.runs) in
+    rw numbers_of_tasks-set (sound-set _ _ _ c.self.invariant inside (rw (place c) (rw (← c.self.view_is) at c.requires.of_link)))
+
+pub invariant_of-self : goal.invariant_of-self
+invariant_of-self c = returns-clause-sound c

@@ -1,0 +1,64 @@
+-- Links and runs of one cluster, and what an interrupt does.
+use Rattle.std.specs.Prelude.{◌≡◌, ℕ, ◌+◌, ◌-◌, ◌<◌, ◌≤◌, Bool, true, not, ◌&&◌, List, [], ◌∷◌, Option, None, Some, is_some, if◌then◌else◌, length, slice_set, replicate}
+use Rattle.rt_history.specs.declared.Reply.{Reply}
+use Rattle.rt_history.specs.declared.Reply.TheVariants.{Quiet, Deferred, Runs, Idles}
+use Rattle.rt_rules.specs.Numbers.{is, same}
+use Rattle.rt_rules.specs.Distinct.{IsDistinct}
+use Rattle.rt_rules.specs.Placing.{tasks_in, at_place}
+
+-- the first processor of a cluster, what each one runs, and the task that each one is linked to
+pub record Linked : Type 0 where
+  pub first : ℕ
+  pub runs : List (Option ℕ)
+  pub links : List (Option ℕ)
+
+-- a cluster of processors that run nothing and are linked to none
+abbrev pub unlinked : ℕ → ℕ → Linked
+unlinked first cpus = record { first = first; runs = replicate cpus None; links = replicate cpus None }
+
+-- the processor is of the cluster
+abbrev pub IsOfCluster : Linked → ℕ → Type 0
+IsOfCluster l q = (l.first ≤ q) × (q < l.first + length l.runs)
+
+abbrev pub link_of : Linked → ℕ → Option ℕ
+link_of l q = at_place l.links (q - l.first)
+
+abbrev pub runs_on : Linked → ℕ → Option ℕ
+runs_on l q = at_place l.runs (q - l.first)
+
+-- an interrupt is pending where what a processor runs is not its link
+abbrev pub is_pending : Linked → ℕ → Bool
+is_pending l q = not (same (link_of l q) (runs_on l q))
+
+-- what runs on the processor is non-preemptive, where np says so of what runs
+abbrev pub is_deferred : Linked → ℕ → Bool → Bool
+is_deferred l q np = is_some (runs_on l q) && np
+
+abbrev pub link_reply : Option ℕ → Reply
+link_reply None = Idles
+link_reply (Some t) = Runs (record { 0 = t })
+
+-- what an interrupt of the processor is answered
+abbrev pub irq_reply : Linked → ℕ → Bool → Reply
+irq_reply l q np = if is_pending l q then (if is_deferred l q np then Deferred else link_reply (link_of l q)) else Quiet
+
+-- the processor runs this from now on
+abbrev pub with_run : Linked → ℕ → Option ℕ → Linked
+with_run l q o = record l { runs = slice_set l.runs (q - l.first) o }
+
+-- an interrupt that is pending and not deferred makes the processor run its link
+abbrev pub after_irq : Linked → ℕ → Bool → Linked
+after_irq l q np = if is_pending l q && not (is_deferred l q np) then with_run l q (link_of l q) else l
+
+-- no task runs on two processors or is linked to two, and one that is linked runs on no other
+pub record IsSound (l : Linked) : Type 0 where
+  pub same_length : length l.runs ≡ length l.links
+  pub runs_once : IsDistinct (tasks_in l.runs)
+  pub linked_once : IsDistinct (tasks_in l.links)
+  pub one_place : (t i j : ℕ) → is t (at_place l.links i) ≡ true → is t (at_place l.runs j) ≡ true → i ≡ j
+
+-- the first processor that is left takes the task
+abbrev pub first_taken : ℕ → List (Option ℕ) → List (Option ℕ)
+first_taken t [] = []
+first_taken t (None ∷ ls) = Some t ∷ ls
+first_taken t (Some u ∷ ls) = Some u ∷ first_taken t ls

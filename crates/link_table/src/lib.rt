@@ -1,0 +1,155 @@
+//! Links of one cluster and what its processors run: link-based scheduling, where a processor may run another task
+//! than its link until it takes an interrupt (Block, Leontyev, Brandenburg and Anderson, RTCSA 2007).
+#![tactic(auto)]
+
+ghost use Rattle.std.specs.Prelude.{◌≡◌, ℕ, ◌-◌, ◌<◌, ◌≤◌, IfOk, length, true};
+ghost use Rattle.rt_base.specs.TaskNos.{number_of_task, numbers};
+ghost use Rattle.rt_rules.specs.Distinct.{IsDistinct};
+ghost use Rattle.rt_rules.specs.Numbers.{is};
+ghost use Rattle.rt_rules.specs.Placing.{placed};
+ghost use Rattle.link_table.specs.Linked.{after_irq, irq_reply, is_pending, link_of, runs_on, unlinked, with_run, IsOfCluster, IsSound};
+
+mod places;
+
+use rt_base::{CpuNo, NoMemory, TaskNo};
+use rt_history::Reply;
+use std::alloc::Global;
+use std::marker::Model;
+
+/// The links of one cluster's processors, and what each of them runs.
+///
+/// A task runs on at most one processor and is linked to at most one, and one that is linked runs on no other.
+#[derive(Drop)]
+pub struct Links {
+    first: u32,
+    runs: Vec<Option<TaskNo>>,
+    links: Vec<Option<TaskNo>>,
+}
+
+impl Model for Links {
+    ghost use Rattle.rt_base.specs.TaskNos.{numbers_of_tasks};
+    ghost use Rattle.link_table.specs.Linked.{Linked, IsSound};
+
+    ghost Value = { Linked };
+
+    ghost view = { λ a. record { first = a.first; runs = numbers_of_tasks a.runs.items; links = numbers_of_tasks a.links.items } };
+
+    ghost invariant = { λ a. IsSound (record { first = a.first; runs = numbers_of_tasks a.runs.items; links = numbers_of_tasks a.links.items }) };
+}
+
+impl Links {
+    /// The links of `cpus` processors, numbered from `first` on, that run nothing and are linked to none.
+    pub fn new(alloc: Global, first: CpuNo, cpus: u32) -> Result<Links, NoMemory>
+        ensures unlinked { IfOk result (λ links. links ≡ unlinked first.0 cpus) }
+        ensures sound { IfOk result IsSound }
+    {
+        let Ok(runs) = vec![in alloc; None; cpus as usize] else {
+            return Err(NoMemory);
+        };
+        let Ok(links) = vec![in alloc; None; cpus as usize] else {
+            return Err(NoMemory);
+        };
+        Ok(Links {
+            first: first.0,
+            runs,
+            links,
+        })
+    }
+
+    /// The task that the processor is linked to.
+    pub fn linked(&self, q: CpuNo) -> Option<TaskNo>
+        requires { IsOfCluster self.now q.0 }
+        ensures link { number_of_task result ≡ link_of self.now q.0 }
+        ensures sound { IsSound self.now }
+    {
+        self.links[self.place_of(q)]
+    }
+
+    /// The task that the processor runs.
+    pub fn runs(&self, q: CpuNo) -> Option<TaskNo>
+        requires { IsOfCluster self.now q.0 }
+        ensures runs { number_of_task result ≡ runs_on self.now q.0 }
+        ensures sound { IsSound self.now }
+    {
+        self.runs[self.place_of(q)]
+    }
+
+    /// Whether an interrupt is pending: the processor runs another task than its link, or one of them is none.
+    pub fn pending(&self, q: CpuNo) -> bool
+        requires { IsOfCluster self.now q.0 }
+        ensures { result ≡ is_pending self.now q.0 }
+    {
+        self.linked(q) != self.runs(q)
+    }
+
+    /// Links the cluster's top tasks, which are given highest first. It takes no memory.
+    ///
+    /// A task that runs on a processor is linked to it. One that runs nowhere keeps its link, unless that processor went
+    /// to a task that runs there. The others take the free processors, lowest number first.
+    pub fn place(&mut self, top: &[TaskNo])
+        requires distinct { IsDistinct (numbers top.now) }
+        requires fits { length top.now ≤ length self.old.runs }
+        ensures placed { self.new ≡ record self.old { links = placed (numbers top.now) self.old.runs self.old.links } }
+        ensures sound { IsSound self.new }
+    {
+        places::place(top, self.runs.as_slice(), self.links.as_mut_slice());
+    }
+
+    /// Takes an interrupt at the processor, where `np` says whether what it runs is non-preemptive.
+    ///
+    /// It is `Quiet` where none is pending, `Deferred` where what runs is non-preemptive, and else `Runs` or `Idles`:
+    /// the processor runs its link from now on.
+    pub fn take_irq(&mut self, q: CpuNo, np: bool) -> Reply
+        requires { IsOfCluster self.old q.0 }
+        ensures reply { result ≡ irq_reply self.old q.0 np }
+        ensures runs { self.new ≡ after_irq self.old q.0 np }
+        ensures sound { IsSound self.new }
+    {
+        let link = self.linked(q);
+        let runs = self.runs(q);
+        if link == runs {
+            return Reply::Quiet;
+        }
+        if runs.is_some() && np {
+            return Reply::Deferred;
+        }
+        self.run(q, link);
+        match link {
+            Some(task) => Reply::Runs(task),
+            None => Reply::Idles,
+        }
+    }
+
+    /// The processor runs nothing from now on.
+    pub fn leave(&mut self, q: CpuNo)
+        requires { IsOfCluster self.old q.0 }
+        ensures runs { self.new ≡ with_run self.old q.0 None }
+        ensures sound { IsSound self.new }
+    {
+        self.run(q, None);
+    }
+
+    // Runs the processor's link, or nothing.
+    fn run(&mut self, q: CpuNo, task: Option<TaskNo>)
+        requires of_cluster { IsOfCluster self.old q.0 }
+        requires of_link { (t : ℕ) → is t (number_of_task task) ≡ true → is t (link_of self.old q.0) ≡ true }
+        ensures runs { self.new ≡ with_run self.old q.0 (number_of_task task) }
+        ensures sound { IsSound self.new }
+    {
+        let place = self.place_of(q);
+        self.runs[place] = task;
+    }
+
+    // The processor's position in the cluster, from 0.
+    fn place_of(&self, q: CpuNo) -> usize
+        requires { IsOfCluster self.now q.0 }
+        ensures place { result ≡ q.0 - self.now.first }
+        ensures runs { result < length self.now.runs }
+        ensures links { result < length self.now.links }
+    {
+        (q.0 - self.first) as usize
+    }
+}
+
+#[cfg(test)]
+mod tests;

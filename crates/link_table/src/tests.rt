@@ -1,0 +1,28 @@
+use super::*;
+use std::test::Fail;
+
+// The links are given back to a task that runs on after its place at the top was taken.
+#[test]
+fn regains_its_link(rt: HostRuntime) -> Result<(), Fail> {
+    let Ok(mut links) = Links::new(rt.alloc(), CpuNo(2), 2) else {
+        return Err(Fail::new("no memory"));
+    };
+    links.place(&[TaskNo(2), TaskNo(1)]);
+    assert_eq!(rt; links.linked(CpuNo(2)), Some(TaskNo(2)));
+    assert_eq!(rt; links.take_irq(CpuNo(2), false), Reply::Runs(TaskNo(2)));
+    assert_eq!(rt; links.take_irq(CpuNo(3), false), Reply::Runs(TaskNo(1)));
+    links.place(&[TaskNo(3), TaskNo(2)]);
+    assert_eq!(rt; links.linked(CpuNo(3)), Some(TaskNo(3)));
+    assert!(rt; links.pending(CpuNo(3)));
+    assert_eq!(rt; links.take_irq(CpuNo(3), true), Reply::Deferred);
+    assert_eq!(rt; links.runs(CpuNo(3)), Some(TaskNo(1)));
+    links.place(&[TaskNo(3), TaskNo(1)]);
+    assert_eq!(rt; links.linked(CpuNo(3)), Some(TaskNo(1)));
+    assert_eq!(rt; links.take_irq(CpuNo(3), false), Reply::Quiet);
+    assert_eq!(rt; links.take_irq(CpuNo(2), false), Reply::Runs(TaskNo(3)));
+    links.leave(CpuNo(3));
+    assert_eq!(rt; links.runs(CpuNo(3)), None);
+    links.place(&[]);
+    assert_eq!(rt; links.take_irq(CpuNo(2), false), Reply::Idles);
+    Ok(())
+}

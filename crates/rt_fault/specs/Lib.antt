@@ -1,0 +1,5 @@
+pub mod Held
+pub mod Faults
+pub mod Reading
+pub mod Memory
+pub mod StatusCode

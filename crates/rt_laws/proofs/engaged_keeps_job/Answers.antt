@@ -1,0 +1,5 @@
+use Rattle.rt_laws.proofs.Bridge as laws
+use Rattle.rt_laws.proofs.engaged_keeps_job.Goals as goal
+
+pub returns : goal.returns
+returns c = laws.engaged_keeps_job

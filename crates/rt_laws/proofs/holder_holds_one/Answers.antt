@@ -1,0 +1,5 @@
+use Rattle.rt_laws.proofs.Bridge as laws
+use Rattle.rt_laws.proofs.holder_holds_one.Goals as goal
+
+pub returns : goal.returns
+returns c = laws.holder_holds_one

@@ -1,0 +1,5 @@
+use Rattle.rt_laws.proofs.Bridge as laws
+use Rattle.rt_laws.proofs.requests_do_not_nest.Goals as goal
+
+pub returns : goal.returns
+returns c = laws.requests_do_not_nest

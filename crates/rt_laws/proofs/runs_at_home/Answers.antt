@@ -1,0 +1,5 @@
+use Rattle.rt_laws.proofs.Links as laws
+use Rattle.rt_laws.proofs.runs_at_home.Goals as goal
+
+pub returns : goal.returns
+returns c = laws.runs_at_home

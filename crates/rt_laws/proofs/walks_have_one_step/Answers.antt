@@ -1,0 +1,5 @@
+use Rattle.rt_laws.proofs.PriorityCeiling as laws
+use Rattle.rt_laws.proofs.walks_have_one_step.Goals as goal
+
+pub returns : goal.returns
+returns c = laws.walks_have_one_step
