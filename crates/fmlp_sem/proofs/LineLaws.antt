@@ -1,8 +1,6 @@
 -- What asking and freeing do to the line.
-use Rattle.std.proofs.Common.{◌≡◌, ℕ, ◌<◌, ◌≤◌, true, false, ◌⊎◌, inl, inr, eqb-true, List, [], ◌∷◌, ◌++◌, length, drop, refl, sym, ap, ◌∙◌, arith}
+use Rattle.std.proofs.Common.{◌≡◌, ℕ, ◌<◌, ◌≤◌, true, false, ◌⊎◌, inl, inr, eqb-true, List, [], ◌∷◌, ◌++◌, length, sym, ◌∙◌, arith}
 use Rattle.std.specs.Prelude.{◌==◌}
-use Rattle.rt_base.specs.declared.TaskNo.{TaskNo}
-use Rattle.rt_base.specs.TaskNos.{numbers}
 use Rattle.rt_rules.specs.Numbers.{has, rest}
 use Rattle.rt_rules.proofs.PlacingLaws.{either}
 use Rattle.sem_laws.proofs.Members.{has-push, distinct-push, has-rest, distinct-rest}

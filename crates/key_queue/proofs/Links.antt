@@ -1,10 +1,9 @@
 -- Links of a ring that change where a number joins or leaves.
-use Rattle.std.proofs.Common.{◌≡◌, ℕ, zero, suc, ◌+◌, ◌<◌, ◌≤◌, Bool, true, false, ◌||◌, ◌⊎◌, inl, inr, eqb-true, List, [], ◌∷◌, ◌++◌, length, slice_index, refl, sym, ap, ◌∙◌, arith}
+use Rattle.std.proofs.Common.{◌≡◌, ℕ, zero, suc, ◌≤◌, Bool, true, false, ◌||◌, ◌⊎◌, inl, inr, eqb-true, List, [], ◌∷◌, ◌++◌, length, slice_index, refl, sym, ap, ◌∙◌, arith}
 use Rattle.std.specs.Prelude.{◌==◌, if◌then◌else◌}
-use Rattle.std.proofs.lemmas.Bool.Decides.{nat_tests}
 use Rattle.rt_rules.specs.Distinct.{IsDistinct}
 use Rattle.rt_rules.specs.Numbers.{has, without}
-use Rattle.rt_rules.proofs.PlacingLaws.{either, or_true}
+use Rattle.rt_rules.proofs.PlacingLaws.{or_true}
 use Rattle.sem_laws.proofs.Members.{equal_self, equal_turned, neither}
 use Rattle.key_queue.specs.Ring.{IsLinked, ring_from}
 

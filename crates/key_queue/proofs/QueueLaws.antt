@@ -1,9 +1,8 @@
 -- What joining and leaving do to the queue.
-use Rattle.std.proofs.Common.{◌≡◌, ℕ, zero, suc, ◌+◌, ◌<◌, ◌≤◌, ◌^◌, Bool, true, false, ◌||◌, ◌&&◌, ◌⊎◌, inl, inr, eqb-true, List, [], ◌∷◌, ◌++◌, length, get_or, set, refl, sym, ap, ◌∙◌, arith, length-append, length-set, get_or-set_same, get_or-set_other}
-use Rattle.std.specs.Prelude.{◌==◌, nat_lt, All, Some, slice_index_or, map}
+use Rattle.std.proofs.Common.{◌≡◌, ℕ, zero, suc, ◌+◌, ◌<◌, ◌≤◌, ◌^◌, Bool, true, false, ◌||◌, ◌⊎◌, inl, inr, eqb-true, List, [], ◌∷◌, ◌++◌, length, get_or, set, refl, sym, ap, ◌∙◌, arith, length-append, length-set, get_or-set_same, get_or-set_other}
+use Rattle.std.specs.Prelude.{◌==◌, All, Some}
 use Rattle.std.specs.List.{AllByRecursion}
 use Rattle.std.specs.List.Sorted.{IsPermutation}
-use Rattle.std.specs.Ordering.{nat_cmp, ordering_then, is_lt}
 use Rattle.std.specs.declared.cmp.Reverse.{Reverse}
 use Rattle.std.specs.BinaryHeap.{IsHeap, lt_by_cmp}
 use Rattle.std.proofs.lemmas.Bool.Decides.{nat_tests}
@@ -11,10 +10,9 @@ use Rattle.std.proofs.lemmas.List.Elements.{All-cons, All-tail}
 use Rattle.std.proofs.lemmas.List.Sorted.{All-permutation, IsPermutation-map}
 use Rattle.rt_order.specs.declared.Key.{Key}
 use Rattle.rt_order.specs.KeyOrder.{higher, equal_keys}
-use Rattle.rt_rules.specs.Distinct.{IsDistinct}
 use Rattle.rt_rules.specs.Numbers.{has, without, foremost}
 use Rattle.rt_rules.proofs.PlacingLaws.{either, or_true}
-use Rattle.sem_laws.proofs.Members.{equal_self, equal_turned, neither, has-push, distinct-push, has-without, distinct-without, length-without}
+use Rattle.sem_laws.proofs.Members.{equal_self, equal_turned, has-push, distinct-push, has-without, distinct-without, length-without}
 use Rattle.sem_laws.proofs.Few.{length-few}
 use Rattle.sem_laws.proofs.Foremost.{foremost-is}
 use Rattle.key_queue.specs.declared.queue.Waiter.{Waiter}

@@ -1,15 +1,14 @@
 -- What joining and leaving do to a ring.
-use Rattle.std.proofs.Common.{◌≡◌, ℕ, ◌+◌, ◌<◌, ◌≤◌, Bool, true, false, ◌||◌, ◌⊎◌, inl, inr, eqb-true, List, [], ◌∷◌, ◌++◌, length, get_or, set, refl, sym, ap, ◌∙◌, arith, length-set, get_or-set_same, get_or-set_other, replicate}
+use Rattle.std.proofs.Common.{◌≡◌, ℕ, ◌+◌, ◌<◌, true, false, ◌⊎◌, inl, inr, eqb-true, List, [], ◌∷◌, ◌++◌, length, set, sym, ap, ◌∙◌, arith, length-set, get_or-set_same, get_or-set_other, replicate}
 use Rattle.std.proofs.lemmas.List.{get_or-replicate, length-replicate}
 use Rattle.std.specs.Prelude.{◌==◌, slice_index}
 use Rattle.std.proofs.lemmas.Bool.Decides.{nat_tests}
-use Rattle.rt_rules.specs.Distinct.{IsDistinct}
 use Rattle.rt_rules.specs.Numbers.{has, without}
 use Rattle.rt_rules.proofs.PlacingLaws.{either, unless}
 use Rattle.sem_laws.proofs.Members.{has-push, distinct-push, has-without, distinct-without}
 use Rattle.sem_laws.proofs.Few.{length-few}
-use Rattle.key_queue.specs.Ring.{IsLinked, IsRing, ring_from, ring_tasks}
-use Rattle.key_queue.proofs.Links.{last_of, has-last_of, previous-room, ring_from-linked, linked-push, linked-without, has-previous, has-next}
+use Rattle.key_queue.specs.Ring.{IsRing, ring_tasks}
+use Rattle.key_queue.proofs.Links.{has-last_of, previous-room, ring_from-linked, linked-push, linked-without, has-previous, has-next}
 
 -- a number that is another is no equal one
 pub differs : (a b : ℕ) → a == b ≡ false → a ≡ b → ⊥

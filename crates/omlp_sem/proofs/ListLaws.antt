@@ -3,7 +3,6 @@ use Rattle.std.proofs.Common.{◌≡◌, ◌≢◌, ℕ, ◌+◌, ◌<◌, ◌�
 use Rattle.std.specs.Prelude.{◌==◌, Option, None, Some}
 use Rattle.rt_base.specs.declared.TaskNo.{TaskNo}
 use Rattle.rt_base.specs.TaskNos.{number_of_task}
-use Rattle.rt_rules.specs.Distinct.{IsDistinct}
 use Rattle.rt_rules.specs.Numbers.{has, without, first, rest, foremost}
 use Rattle.rt_rules.proofs.PlacingLaws.{either, or_true, unless}
 use Rattle.sem_laws.proofs.Members.{neither, has-append, has-push, distinct-push, has-rest, distinct-rest, has-without, distinct-without, has-gone, distinct-append}

@@ -5,3 +5,4 @@ pub mod Grants
 pub mod Sound
 pub mod Blockers
 pub mod Acts
+pub mod TestKeys

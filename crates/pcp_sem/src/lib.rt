@@ -6,7 +6,7 @@ ghost use Rattle.rt_base.specs.TaskNos.{number_of_task};
 ghost use Rattle.rt_order.specs.KeyOrder.{higher, equal_keys};
 ghost use Rattle.rt_rules.specs.Numbers.{has};
 ghost use Rattle.rt_rules.specs.SemState.{Asks, Frees};
-ghost use Rattle.rt_rules.specs.Pcp.{pcp_after, pcp_sem_state, passes, without_pair};
+ghost use Rattle.rt_rules.specs.Pcp.{of_others, pcp_after, pcp_sem_state, passes, without_pair};
 ghost use Rattle.sem_laws.specs.KeptKeys.{key_at, above};
 ghost use Rattle.pcp_sem.specs.Pairs.{has_pair, tasks_of};
 ghost use Rattle.pcp_sem.specs.PcpKept.{PcpKept, above_ceiling, blocker_of, last_granted};
@@ -137,6 +137,7 @@ impl PcpSet {
     /// The task that holds the highest ceiling among the semaphores that other tasks hold, ties to the lower number of the semaphore; `None` where no other task holds one. A waiting task has one, which does not wait.
     pub fn blocker(&self, task: TaskNo) -> Option<TaskNo>
         ensures holder { number_of_task result ≡ blocker_of self.now.ceilings self.now.state.held task.0 }
+        ensures nobody { IsNone result ↔ (of_others task.0 self.now.state.held ≡ []) }
         ensures settled { IsSettled self.now }
     {
         pairs::newest_of_others(self.held.as_slice(), task)

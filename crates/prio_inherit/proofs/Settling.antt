@@ -1,5 +1,5 @@
 -- The keys that are kept, while one call changes them along a walk.
-use Rattle.std.proofs.Common.{◌≡◌, ℕ, zero, suc, ◌+◌, ◌<◌, ◌≤◌, Bool, true, false, ◌||◌, ◌&&◌, ◌⊎◌, inl, inr, eqb-true, List, [], ◌∷◌, length, get_or, set, map, replicate, refl, sym, ap, ◌∙◌, subst, arith, length-set, get_or-set_same, get_or-set_other, add-one}
+use Rattle.std.proofs.Common.{◌≡◌, ℕ, zero, suc, ◌+◌, ◌<◌, Bool, true, false, ◌||◌, ◌&&◌, ◌⊎◌, inl, inr, eqb-true, List, [], ◌∷◌, length, get_or, set, map, replicate, refl, sym, ap, ◌∙◌, subst, arith, length-set, get_or-set_same, get_or-set_other, add-one}
 use Rattle.std.specs.Prelude.{◌==◌, Option, None, Some, is_some, unwrap_or}
 use Rattle.std.proofs.lemmas.List.{get_or-replicate, length-replicate}
 use Rattle.std.proofs.lemmas.Bool.Decides.{nat_tests}
@@ -12,9 +12,9 @@ use Rattle.rt_rules.specs.Keys.{highest}
 use Rattle.rt_rules.specs.Walks.{walk, followers}
 use Rattle.rt_rules.proofs.PlacingLaws.{either, or_true, unless}
 use Rattle.sem_laws.specs.KeptKeys.{key_at}
-use Rattle.sem_laws.proofs.Members.{equal_self, equal_turned}
+use Rattle.sem_laws.proofs.Members.{equal_self}
 use Rattle.sem_laws.proofs.Tests.{clash, both, is-some, some-is}
-use Rattle.sem_laws.proofs.KeyLaws.{higher-self, higher-trans, higher-falls}
+use Rattle.sem_laws.proofs.KeyLaws.{higher-self, higher-trans}
 use Rattle.prio_inherit.specs.Waits.{next_of, base_of, lowest_key, NoWalkComesRound}
 use Rattle.prio_inherit.specs.Local.{IsTop, IsLocal, IsInherit, IsSettling}
 use Rattle.prio_inherit.proofs.Walking.{after, after-step, after-all, kept-is}

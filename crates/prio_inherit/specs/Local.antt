@@ -1,5 +1,5 @@
 -- What is kept of the keys: each task has the highest of its base key and the keys of those that wait for it.
-use Rattle.std.specs.Prelude.{◌≡◌, ℕ, ◌<◌, false, ◌⊎◌, Option, Some, List, length, ◌^◌}
+use Rattle.std.specs.Prelude.{◌≡◌, ℕ, ◌<◌, false, ◌⊎◌, Option, Some, List, length}
 use Rattle.rt_order.specs.declared.Key.{Key}
 use Rattle.rt_order.specs.KeyOrder.{higher}
 use Rattle.sem_laws.specs.KeptKeys.{key_at}

@@ -1,5 +1,5 @@
 -- Small facts on tests and on what is found.
-use Rattle.std.proofs.Common.{◌≡◌, ℕ, Bool, true, false, ◌&&◌, ◌||◌, cond, ◌⊎◌, inl, inr, eqb-true, List, [], ◌∷◌, refl, sym, ap, ◌∙◌}
+use Rattle.std.proofs.Common.{◌≡◌, ℕ, Bool, true, false, ◌&&◌, ◌||◌, cond, ◌⊎◌, inl, inr, eqb-true, List, [], ◌∷◌, refl, sym, ap}
 use Rattle.std.specs.Prelude.{Option, None, Some, ◌==◌, find}
 use Rattle.std.specs.List.{list_all}
 use Rattle.rt_rules.specs.Numbers.{has, is, first}

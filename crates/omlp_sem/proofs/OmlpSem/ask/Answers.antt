@@ -1,4 +1,4 @@
-use Rattle.std.proofs.Common.{◌≡◌, ◌≢◌, ℕ, ◌<◌, ◌++◌, true, false, length, arith, ap, ◌∙◌, length-set}
+use Rattle.std.proofs.Common.{◌≡◌, ◌≢◌, ℕ, ◌<◌, ◌++◌, true, false, length, arith, length-set}
 use Rattle.std.specs.Prelude.{Some}
 use Rattle.rt_base.specs.TaskNos.{numbers}
 use Rattle.rt_order.specs.KeyOrder.{equal_keys}

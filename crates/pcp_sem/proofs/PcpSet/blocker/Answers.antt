@@ -5,7 +5,7 @@ use Rattle.pcp_sem.proofs.PcpSet.blocker.Goals as goal
 
 pub returns-clause-holder : goal.returns-clause-holder
 returns-clause-holder c =
-    rw (← c.self.view_is, blocker-newest _ _ c.args.task.0 _ c.self.invariant.stack.stacked c.self.invariant.sound, ← c.as_slice.ensures.value) c.newest_of_others.ensures
+    rw (← c.self.view_is, blocker-newest _ _ c.args.task.0 _ c.self.invariant.stack.stacked c.self.invariant.sound, ← c.as_slice.ensures.value) c.newest_of_others.ensures.task
 
 pub returns-clause-settled : goal.returns-clause-settled
 returns-clause-settled c = rw (← c.self.view_is) (settled _ _ _ _ _ _ _ c.self.invariant _)

@@ -1,10 +1,8 @@
-use Rattle.std.proofs.Common.{◌≡◌, ◌<◌, ◌∙◌, List, length, set, sym, ap, arith, length-set, get_or-set_same}
-use Rattle.std.specs.Prelude.{Option, ℕ, None, Some, is_some, true, slice_index_or}
-use Rattle.rt_base.specs.TaskNos.{number_of_task, numbers_of_tasks}
-use Rattle.rt_order.specs.declared.Key.{Key}
-use Rattle.prio_inherit.specs.Waits.{Waits, NoWalkComesRound, next_of}
-use Rattle.prio_inherit.specs.Local.{IsSettling, IsInherit}
-use Rattle.prio_inherit.proofs.Settling.{told-below, numbers-set, length-numbers, set-set, joined, inherit-of}
+use Rattle.std.proofs.Common.{◌≡◌, ◌∙◌, set, sym, ap, length-set}
+use Rattle.std.specs.Prelude.{None}
+use Rattle.rt_base.specs.TaskNos.{numbers_of_tasks}
+use Rattle.prio_inherit.specs.Waits.{Waits}
+use Rattle.prio_inherit.proofs.Settling.{numbers-set, set-set, joined, inherit-of}
 use Rattle.prio_inherit.proofs.Inherit.waits.Goals as goal
 
 pub follow-requires : goal.follow-requires
@@ -18,10 +16,10 @@ invariant_of-self c =
     let nexts : numbers_of_tasks c.self.inside.nexts.items ≡ set c.args.self.now.nexts c.args.task.0 None = ap (λ (w : Waits). w.nexts) (c.self.view_is ∙ c.stops.ensures) in
     let bases : c.self.inside.bases.items ≡ c.args.self.now.bases = ap (λ (w : Waits). w.bases) (c.self.view_is ∙ c.stops.ensures) in
     rw numbers-set (inherit-of _ _ _ _ _ _ (joined _ _ _ _ _ _ c.args.task.0 c.args.holder.0 c.self.invariant bases nexts c.requires.task c.requires.holder c.requires.ends)
-      (c.self.invariant.bases_length ∙ sym (length-set _ _ _))
-      (c.self.invariant.boosts_length ∙ sym (length-set _ _ _))
-      (rw (c.as_slice-2.ensures.value, numbers-set) at c.follow.ensures.length)
-      (rw (c.as_slice.ensures.value, c.as_slice-2.ensures.value, numbers-set) at c.follow.ensures.local))
+    (c.self.invariant.bases_length ∙ sym (length-set _ _ _))
+    (c.self.invariant.boosts_length ∙ sym (length-set _ _ _))
+    (rw (c.as_slice-2.ensures.value, numbers-set) at c.follow.ensures.length)
+    (rw (c.as_slice.ensures.value, c.as_slice-2.ensures.value, numbers-set) at c.follow.ensures.local))
 
 pub returns : goal.returns
 returns c =

@@ -1,4 +1,4 @@
-use Rattle.std.proofs.Common.{◌≡◌, ◌∙◌, sym}
+use Rattle.std.proofs.Common.{◌∙◌, sym}
 use Rattle.sem_laws.specs.KeptKeys.{key_at}
 use Rattle.prio_inherit.specs.Waits.{base_of}
 use Rattle.prio_inherit.proofs.Settling.{top-raised, top-stayed}

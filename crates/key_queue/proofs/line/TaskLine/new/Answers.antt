@@ -1,6 +1,3 @@
-use Rattle.std.proofs.Common.{◌≡◌, ◌+◌, replicate}
-use Rattle.std.specs.Prelude.{[]}
-use Rattle.key_queue.specs.Ring.{IsRing, ring_tasks}
 use Rattle.key_queue.proofs.RingLaws.{ring_tasks-ring, ring-empty}
 use Rattle.key_queue.proofs.line.TaskLine.new.Goals as goal
 

@@ -1,8 +1,8 @@
-use Rattle.std.proofs.Common.{◌≡◌, ◌<◌, false, arith, ap, ◌∙◌}
+use Rattle.std.proofs.Common.{◌≡◌, ◌<◌, false, arith}
 use Rattle.std.specs.Prelude.{slice_index}
 use Rattle.std.proofs.lemmas.List.{get_or_read}
 use Rattle.rt_rules.specs.Numbers.{has}
-use Rattle.key_queue.specs.Ring.{Line, IsRing, ring_tasks}
+use Rattle.key_queue.specs.Ring.{ring_tasks}
 use Rattle.key_queue.proofs.RingLaws.{ring_tasks-ring, ring-push, last_within}
 use Rattle.key_queue.proofs.line.TaskLine.push.Goals as goal
 

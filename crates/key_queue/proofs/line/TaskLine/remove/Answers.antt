@@ -1,8 +1,8 @@
-use Rattle.std.proofs.Common.{◌≡◌, ◌<◌, true, arith, ap, ◌∙◌}
+use Rattle.std.proofs.Common.{◌≡◌, ◌<◌, true, arith}
 use Rattle.std.specs.Prelude.{slice_index}
 use Rattle.std.proofs.lemmas.List.{get_or_read}
 use Rattle.rt_rules.specs.Numbers.{has}
-use Rattle.key_queue.specs.Ring.{Line, IsRing, ring_tasks}
+use Rattle.key_queue.specs.Ring.{ring_tasks}
 use Rattle.key_queue.proofs.RingLaws.{ring_tasks-ring, ring-without, previous_within, next_within}
 use Rattle.key_queue.proofs.line.TaskLine.remove.Goals as goal
 

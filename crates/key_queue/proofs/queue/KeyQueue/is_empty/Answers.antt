@@ -1,4 +1,4 @@
-use Rattle.std.proofs.Common.{◌≡◌, ◌==◌, length, ap, ◌∙◌}
+use Rattle.std.proofs.Common.{◌==◌, length, ap, ◌∙◌}
 use Rattle.key_queue.specs.Waiting.{Waiting}
 use Rattle.key_queue.proofs.queue.KeyQueue.is_empty.Goals as goal
 

@@ -1,4 +1,4 @@
-use Rattle.std.proofs.Common.{◌≡◌, length, ap, ◌∙◌, arith}
+use Rattle.std.proofs.Common.{length, ap, ◌∙◌, arith}
 use Rattle.key_queue.specs.Waiting.{Waiting}
 use Rattle.key_queue.proofs.QueueLaws.{few_wait}
 use Rattle.key_queue.proofs.queue.KeyQueue.len.Goals as goal

@@ -1,8 +1,5 @@
-use Rattle.std.proofs.Common.{◌≡◌, ℕ, List, ◌∷◌, [], true, length, arith, ap, ◌∙◌, sym, refl}
-use Rattle.std.specs.Prelude.{None, Some}
-use Rattle.rt_rules.specs.Numbers.{has, foremost}
-use Rattle.key_queue.specs.Waiting.{Waiting}
-use Rattle.sem_laws.specs.KeptKeys.{above}
+use Rattle.std.proofs.Common.{◌≡◌, ℕ, List, ◌∷◌, [], true, length, arith, sym, refl}
+use Rattle.rt_rules.specs.Numbers.{has}
 use Rattle.key_queue.proofs.QueueLaws.{top_waits, queue-pop, foremost-top}
 use Rattle.key_queue.proofs.queue.KeyQueue.pop.Goals as goal
 

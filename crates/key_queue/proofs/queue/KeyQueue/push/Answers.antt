@@ -1,4 +1,4 @@
-use Rattle.std.proofs.Common.{◌≡◌, ◌<◌, ℕ, true, false, length, arith, ap, ◌∙◌}
+use Rattle.std.proofs.Common.{◌≡◌, ◌<◌, ℕ, true, false, length, arith}
 use Rattle.rt_order.specs.KeyOrder.{equal_keys}
 use Rattle.rt_rules.specs.Numbers.{has}
 use Rattle.sem_laws.specs.KeptKeys.{key_at}
