@@ -1,0 +1,42 @@
+-- What a run of `sim` reads and writes.
+use Rattle.std.specs.Prelude.{◌≡◌, ℕ, ◌≤◌, Bool, true, false, List, [], ◌∷◌, length, codes, bytes_eq, string_bytes, String, Option, Result, Ok, Err, if◌then◌else◌}
+use Rattle.std.specs.declared.alloc.Global.{Global}
+use Rattle.rt_base.specs.declared.TheConstants.{MOST_SET_BYTES}
+use Rattle.rt_task.specs.declared.Parts.{Parts}
+use Rattle.rt_task.specs.declared.bad_set.BadSet.{BadSet}
+use Rattle.rt_task.specs.declared.bad_set.SetKind.TheVariants.{Unbuilt}
+use Rattle.rt_task.specs.declared.bad_set.Part.TheVariants.{Whole}
+use Rattle.rt_task.specs.Refusals.{bad}
+use Rattle.rt_task.specs.Validity.{IsValid}
+use Rattle.rt_fault.specs.Held.{Held, Extends, ExtendsByPrefix}
+use Rattle.rt_fault.specs.Reading.{TakesAll}
+use Rattle.set_read.specs.Sets.{set, ◌>>=◌}
+use Rattle.group_engine.specs.Built.{is_built}
+
+-- the one command so far
+abbrev pub is_command : List (String Global) → Bool
+is_command (word ∷ []) = bytes_eq (string_bytes word) (codes "sim")
+is_command _ = false
+
+-- the set is played so far, or else refused as a whole
+abbrev pub if_built : Parts → Result Parts BadSet
+if_built p = if is_built p then Ok p else Err (bad Unbuilt Whole 0)
+
+-- the setup that the bytes stand for, where it is played so far
+unfoldable pub playable : List ℕ → Result Parts BadSet
+playable bytes = set bytes >>= if_built
+
+-- what was read to its end is within the limit and stands for a set that is played
+pub record WasRead (left left' : Option (List ℕ)) (p : Parts) : Type 0 where
+  pub bytes : List ℕ
+  pub all : TakesAll left left' bytes
+  pub within : length bytes ≤ MOST_SET_BYTES
+  pub reads : playable bytes ≡ Ok p
+  pub valid : IsValid p
+
+-- or for none, with the refusal
+pub record WasRefused (left left' : Option (List ℕ)) (b : BadSet) : Type 0 where
+  pub bytes : List ℕ
+  pub all : TakesAll left left' bytes
+  pub within : length bytes ≤ MOST_SET_BYTES
+  pub refused : playable bytes ≡ Err b

@@ -1,0 +1,8 @@
+//! rtsim: plays the steps of modelled processors in a given order.
+#![tactic(auto)]
+
+mod input;
+mod play;
+mod words;
+
+fn main() {}
