@@ -1,1 +1,2 @@
 pub mod ArenaLaws
+pub mod RowLaws

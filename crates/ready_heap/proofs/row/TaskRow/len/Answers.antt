@@ -1,0 +1,5 @@
+use Rattle.ready_heap.proofs.RowLaws.{row-placed}
+use Rattle.ready_heap.proofs.row.TaskRow.len.Goals as goal
+
+pub returns-clause-sound : goal.returns-clause-sound
+returns-clause-sound c = rw (← c.self.view_is) (row-placed _ _ _ c.self.invariant)
