@@ -1,2 +1,5 @@
 pub mod ArenaLaws
 pub mod RowLaws
+pub mod HeapLaws
+pub mod AheadLaws
+pub mod SiftLaws

@@ -1,5 +1,5 @@
 //! Tasks in a row, each found by its place and by its number.
-ghost use Rattle.std.specs.Prelude.{◌≡◌, ◌<◌, IfOk, IfSome, IsSome, None, Some, [], is_some, length, replicate, slice_set};
+ghost use Rattle.std.specs.Prelude.{◌≡◌, ◌^◌, ◌<◌, IfOk, IfSome, IsSome, None, Some, [], is_some, length, replicate, slice_set};
 ghost use Rattle.ready_heap.specs.Row.{key_at, task_at, IsPopped, IsPushed, IsRow, IsSwapped};
 
 use crate::arena::{Arena, Node};
@@ -40,6 +40,7 @@ impl TaskRow {
 
     pub(crate) fn len(&self) -> usize
         ensures length { result ≡ length self.now.tasks }
+        ensures small { result < 2 ^ 63 }
         ensures sound { IsRow self.now }
     {
         self.tasks.len()
