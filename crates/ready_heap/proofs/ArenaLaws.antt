@@ -1,5 +1,5 @@
 -- What the list of nodes shows after a change of the slab and the kept keys.
-use Rattle.std.proofs.Common.{◌≡◌, ◌≢◌, ℕ, zero, suc, ◌+◌, ◌<◌, ◌≤◌, Bool, true, false, cond, ◌⊎◌, inl, inr, List, [], ◌∷◌, length, get_or, set, length-set, get_or-set_same, get_or-set_other, refl, sym, ap, ◌∙◌, arith, IsSome}
+use Rattle.std.proofs.Common.{◌≡◌, ◌≢◌, ℕ, zero, suc, ◌+◌, ◌<◌, ◌≤◌, true, cond, ◌⊎◌, inl, inr, List, [], ◌∷◌, length, get_or, set, length-set, get_or-set_same, get_or-set_other, refl, sym, ap, ◌∙◌, arith, IsSome}
 use Rattle.std.specs.Prelude.{Option, None, Some, is_some, map, count_by, replicate}
 use Rattle.std.proofs.lemmas.List.{length-map}
 use Rattle.std.proofs.lemmas.Bool.{cases_eq}
@@ -46,7 +46,7 @@ module _ (nodes nodes' : Slab Node) (kept : List (Option ℕ)) (t at : ℕ) (n :
 
   pub view-insert : map (node_in nodes') (set kept t (Some at)) ≡ set (map (node_in nodes) kept) t (Some n)
   view-insert = view-set nodes nodes' kept (set kept t (Some at)) t (Some n) (length-set _ _ _) (ap (node_in nodes') (get_or-set_same kept t (Some at) None inside) ∙ up.changed)
-    (λ u ne. ap (node_in nodes') (get_or-set_other kept t u (Some at) None ne) ∙ node_in-updates nodes nodes' at (Some n) up (get_or kept u None) (apart u))
+      (λ u ne. ap (node_in nodes') (get_or-set_other kept t u (Some at) None ne) ∙ node_in-updates nodes nodes' at (Some n) up (get_or kept u None) (apart u))
 
   pub kept-insert : get_or kept t None ≡ None → slab_len nodes' ≡ slab_len nodes + 1 → nodes'.capacity ≡ nodes.capacity → IsKept nodes' (set kept t (Some at))
   kept-insert absent longer capacity = record {
@@ -87,7 +87,7 @@ module _ (nodes nodes' : Slab Node) (kept : List (Option ℕ)) (t at : ℕ) (sou
 
   pub view-remove : map (node_in nodes') (set kept t None) ≡ set (map (node_in nodes) kept) t None
   view-remove = view-set nodes nodes' kept (set kept t None) t None (length-set _ _ _) (ap (node_in nodes') (get_or-set_same kept t None None inside))
-    (λ u ne. ap (node_in nodes') (get_or-set_other kept t u None None ne) ∙ node_in-updates nodes nodes' at None up (get_or kept u None) (λ a h. others_at u a ne h))
+      (λ u ne. ap (node_in nodes') (get_or-set_other kept t u None None ne) ∙ node_in-updates nodes nodes' at None up (get_or kept u None) (λ a h. others_at u a ne h))
 
   pub kept-remove : slab_len nodes' + 1 ≡ slab_len nodes → nodes'.capacity ≡ nodes.capacity → IsKept nodes' (set kept t None)
   kept-remove shorter capacity = record {

@@ -3,3 +3,4 @@ pub mod RowLaws
 pub mod HeapLaws
 pub mod AheadLaws
 pub mod SiftLaws
+pub mod ReadyLaws

@@ -1,7 +1,4 @@
-use Rattle.std.proofs.Common.{◌≡◌, ◌<◌, None, get_or, length, arith}
-use Rattle.slab.specs.Slab.{Slab, get}
 use Rattle.ready_heap.proofs.ArenaLaws.{get_or-view, absent-kept, room_left, inside_view, view-insert, kept-insert}
-use Rattle.ready_heap.specs.Arena.{node_in}
 use Rattle.ready_heap.proofs.arena.Arena.insert.Goals as goal
 
 pub insert_reserved-at-requires : goal.insert_reserved-at-requires

@@ -1,4 +1,4 @@
-use Rattle.std.proofs.Common.{◌≡◌, ◌<◌, None, Some, get_or, length}
+use Rattle.std.proofs.Common.{◌≡◌, None, Some, get_or}
 use Rattle.ready_heap.specs.Arena.{with_place}
 use Rattle.ready_heap.proofs.ArenaLaws.{get_or-view, inside_view, kept_read, view-with_value}
 use Rattle.ready_heap.proofs.arena.Arena.move_to.Goals as goal

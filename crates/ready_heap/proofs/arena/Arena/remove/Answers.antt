@@ -1,6 +1,5 @@
-use Rattle.std.proofs.Common.{◌≡◌, ◌<◌, None, Some, get_or, set, length, sym, ap, ◌∙◌}
+use Rattle.std.proofs.Common.{◌≡◌, None, get_or, set, sym, ap, ◌∙◌}
 use Rattle.std.proofs.lemmas.List.{set-get_or}
-use Rattle.ready_heap.specs.Arena.{node_in}
 use Rattle.ready_heap.proofs.ArenaLaws.{get_or-view, inside_view, kept_read, view-remove, kept-remove}
 use Rattle.ready_heap.proofs.arena.Arena.remove.Goals as goal
 

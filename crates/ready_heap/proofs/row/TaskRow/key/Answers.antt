@@ -1,4 +1,4 @@
-use Rattle.std.proofs.Common.{◌≡◌, ◌<◌, None, Some, length, ap, sym, ◌∙◌}
+use Rattle.std.proofs.Common.{◌≡◌, ◌<◌, None, Some, length, ap, ◌∙◌}
 use Rattle.std.specs.Prelude.{option_map}
 use Rattle.rt_base.specs.TaskNos.{numbers}
 use Rattle.ready_heap.specs.declared.arena.Node.{Node}

@@ -1,4 +1,4 @@
-use Rattle.std.proofs.Common.{◌≡◌, Some, sym, ap}
+use Rattle.std.proofs.Common.{sym, ap}
 use Rattle.std.specs.Prelude.{option_map}
 use Rattle.ready_heap.specs.declared.arena.Node.{Node}
 use Rattle.ready_heap.proofs.RowLaws.{row-placed}

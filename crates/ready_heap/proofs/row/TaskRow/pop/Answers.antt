@@ -1,4 +1,4 @@
-use Rattle.std.proofs.Common.{◌≡◌, ◌∙◌, ap, List, [], ◌∷◌, ◌++◌}
+use Rattle.std.proofs.Common.{◌≡◌, ◌∙◌, ap, [], ◌∷◌, ◌++◌}
 use Rattle.rt_base.specs.TaskNos.{numbers}
 use Rattle.ready_heap.proofs.RowLaws.{row-placed, placed-pop, popped-lists, numbers-append}
 use Rattle.ready_heap.proofs.row.TaskRow.pop.Goals as goal

@@ -1,4 +1,4 @@
-use Rattle.std.proofs.Common.{◌≡◌, ◌∙◌, ◌<◌, None, get_or, length, sym, ap, arith, vec_len}
+use Rattle.std.proofs.Common.{◌≡◌, ◌∙◌, ◌<◌, None, get_or, length, sym, arith}
 use Rattle.rt_base.specs.TaskNos.{numbers}
 use Rattle.ready_heap.specs.Row.{keys_in}
 use Rattle.ready_heap.proofs.RowLaws.{row-placed, placed-push, pushed-lists, row_room, no_node, length-keys_in, length-numbers, numbers-append}

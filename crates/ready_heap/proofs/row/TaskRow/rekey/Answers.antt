@@ -1,7 +1,3 @@
-use Rattle.std.proofs.Common.{◌≡◌, ◌<◌, None, get_or, length, IsSome}
-use Rattle.std.specs.Prelude.{is_some}
-use Rattle.ready_heap.specs.Row.{keys_in}
-use Rattle.rt_base.specs.TaskNos.{numbers}
 use Rattle.ready_heap.proofs.RowLaws.{row-placed, placed-rekey, keys_in-rekeyed, inside_keys}
 use Rattle.ready_heap.proofs.row.TaskRow.rekey.Goals as goal
 

@@ -1,4 +1,4 @@
-use Rattle.std.proofs.Common.{◌≡◌, ◌<◌, None, get_or, length, length-set, ap, ◌∙◌}
+use Rattle.std.proofs.Common.{◌≡◌, ◌<◌, get_or, length, length-set, ap, ◌∙◌}
 use Rattle.rt_base.specs.TaskNos.{numbers}
 use Rattle.ready_heap.specs.Row.{place_in}
 use Rattle.ready_heap.proofs.RowLaws.{row-placed, placed-swap, swapped-lists, numbers-set, read_number, in_list, length-numbers}
