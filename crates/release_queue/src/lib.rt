@@ -118,3 +118,6 @@ impl ReleaseQueue {
         Some(task)
     }
 }
+
+#[cfg(test)]
+mod tests;
