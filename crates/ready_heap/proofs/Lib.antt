@@ -1,0 +1,6 @@
+pub mod ArenaLaws
+pub mod RowLaws
+pub mod HeapLaws
+pub mod AheadLaws
+pub mod SiftLaws
+pub mod ReadyLaws

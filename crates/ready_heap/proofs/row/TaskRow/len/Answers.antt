@@ -1,0 +1,9 @@
+use Rattle.std.proofs.Common.{arith}
+use Rattle.ready_heap.proofs.RowLaws.{row-placed}
+use Rattle.ready_heap.proofs.row.TaskRow.len.Goals as goal
+
+pub returns-clause-sound : goal.returns-clause-sound
+returns-clause-sound c = rw (← c.self.view_is) (row-placed _ _ _ c.self.invariant)
+
+pub returns-clause-small : goal.returns-clause-small
+returns-clause-small c = omega (arith, c.self.inside.tasks.small, c.self.inside.tasks.ok.1, c.len.ensures)

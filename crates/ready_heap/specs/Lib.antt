@@ -1,0 +1,4 @@
+pub mod Arena
+pub mod Row
+pub mod Heap
+pub mod Ready

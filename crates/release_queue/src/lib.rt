@@ -1,0 +1,123 @@
+//! Release timers: the tasks that wait for a tick, each armed at most once, and which of them is due.
+#![tactic(auto)]
+
+ghost use Rattle.std.specs.Prelude.{◌≡◌, ◌<◌, IfNone, IfOk, IfSome, None, Some, is_some, length, replicate, slice_set};
+ghost use Rattle.ready_heap.specs.Row.{key_at};
+ghost use Rattle.release_queue.specs.Timers.{tick_at, IsNextDue, NothingDue};
+
+use ready_heap::ReadyHeap;
+use rt_base::{NoMemory, TaskNo, Tick};
+use rt_order::{ByKey, Key, Steps};
+use std::alloc::Global;
+use std::marker::{Brand, Model};
+use std::sync::ledger::{Blank, Ledger};
+
+/// The armed tasks, in a heap by tick: contracts see at each task's number below the room the tick that the task waits
+/// for, or none where it is not armed.
+#[derive(Drop)]
+pub struct ReleaseQueue {
+    heap: ReadyHeap<ByKey>,
+    // The tick that each task was last armed for.
+    ticks: Vec<u64>,
+}
+
+impl Model for ReleaseQueue {
+    ghost use Rattle.std.specs.Prelude.{List, Option, ℕ};
+    ghost use Rattle.release_queue.specs.Timers.{ticks_in, IsTimed};
+
+    ghost Value = { List (Option ℕ) };
+
+    ghost view = { λ q. ticks_in q.heap.keys };
+
+    ghost invariant = { λ q. IsTimed q.heap.keys q.ticks.items };
+}
+
+// A tick as a key: the earlier is the higher.
+fn key_of(tick: u64) -> Key
+    ensures { result ≡ record { band = 0; major = tick; minor = 0 } }
+{
+    Key {
+        band: 0,
+        major: tick,
+        minor: 0,
+    }
+}
+
+// Puts a task in without a count of the comparisons.
+fn put<L: Ledger>(heap: &mut ReadyHeap<ByKey>, task: TaskNo, key: Key, blank: Blank)
+    requires name { blank.name ≡ L.name }
+    requires parts { blank.parts ≡ L.parts }
+    requires one_part { blank.parts ≡ 1 }
+    requires room { task.0 < length heap.old.keys }
+    requires absent { key_at heap.old.keys task.0 ≡ None }
+    ensures { heap.new ≡ record heap.old { keys = slice_set heap.old.keys task.0 (Some key) } }
+{
+    let mut steps = Steps::<L>::new(blank);
+    heap.insert(task, key, &mut steps);
+}
+
+// Takes a task out without a count of the comparisons.
+fn take_out<L: Ledger>(heap: &mut ReadyHeap<ByKey>, task: TaskNo, blank: Blank) -> bool
+    requires name { blank.name ≡ L.name }
+    requires parts { blank.parts ≡ L.parts }
+    requires one_part { blank.parts ≡ 1 }
+    requires room { task.0 < length heap.old.keys }
+    ensures was_in { result ≡ is_some (key_at heap.old.keys task.0) }
+    ensures removed { heap.new ≡ record heap.old { keys = slice_set heap.old.keys task.0 None } }
+{
+    let mut steps = Steps::<L>::new(blank);
+    heap.remove(task, &mut steps)
+}
+
+impl ReleaseQueue {
+    /// A queue with nothing armed, for tasks whose numbers are below the room. No later call takes memory.
+    pub fn new(alloc: Global, room: u32) -> Result<ReleaseQueue, NoMemory>
+        ensures { IfOk result (λ queue. queue ≡ replicate room None) }
+    {
+        let heap = ReadyHeap::new(alloc, ByKey, room)?;
+        let Ok(ticks) = vec![in alloc; 0; room as usize] else {
+            return Err(NoMemory);
+        };
+        Ok(ReleaseQueue { heap, ticks })
+    }
+
+    /// Arms a task that is not armed: it waits for the tick.
+    pub fn arm(&mut self, task: TaskNo, tick: u64)
+        requires room { task.0 < length self.old }
+        requires absent { tick_at self.old task.0 ≡ None }
+        ensures { self.new ≡ slice_set self.old task.0 (Some tick) }
+    {
+        self.ticks[task.0 as usize] = tick;
+        put::<Brand>(&mut self.heap, task, key_of(tick), Blank::new(1));
+    }
+
+    /// Disarms the task. Whether it was armed.
+    pub fn cancel(&mut self, task: TaskNo) -> bool
+        requires { task.0 < length self.old }
+        ensures was_armed { result ≡ is_some (tick_at self.old task.0) }
+        ensures cancelled { self.new ≡ slice_set self.old task.0 None }
+    {
+        take_out::<Brand>(&mut self.heap, task, Blank::new(1))
+    }
+
+    /// Disarms and gives the task of the earliest tick, and of several the one with the lowest number, where that tick
+    /// is at most `now`; none where nothing is due.
+    pub fn next_due(&mut self, now: Tick) -> Option<TaskNo>
+        ensures due { IfSome result (λ task. IsNextDue self.old now.0 task.0) }
+        ensures taken { IfSome result (λ task. self.new ≡ slice_set self.old task.0 None) }
+        ensures none { IfNone result (NothingDue self.old now.0) }
+        ensures stays { IfNone result (self.new ≡ self.old) }
+    {
+        let Some(task) = self.heap.first() else {
+            return None;
+        };
+        if self.ticks[task.0 as usize] > now.0 {
+            return None;
+        }
+        let _ = take_out::<Brand>(&mut self.heap, task, Blank::new(1));
+        Some(task)
+    }
+}
+
+#[cfg(test)]
+mod tests;
