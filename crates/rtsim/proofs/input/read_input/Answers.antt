@@ -1,19 +1,46 @@
-use Rattle.std.proofs.Common.{rules, ◌≡◌, ◌≢◌, ℕ, Err, IfOk, ◌+◌, ◌-◌, ◌*◌, ◌<◌, ◌≤◌, length, ◌/◌, ◌%◌, Bool, true, false, nat_eq, nat_lt, List, [], ◌∷◌, ◌++◌, slice_index_or, slice_set, bit_and, bit_or, Fits, w8, w32, w64, Bor, MutBor}
+use Rattle.std.proofs.Common.{◌≡◌, ◌≤◌, length, true, false, sym, ap, ◌∙◌, subst, arith, Ok}
 use Rattle.rt_base.specs.declared.TheConstants.{MOST_SET_BYTES}
-use Rattle.rt_task.specs.declared.bad_set.BadSet.{BadSet}
-use Rattle.rt_fault.specs.Faults.{HasRisen}
-use Rattle.rt_fault.specs.Reading.{TakesAtMost, TakesMoreThan}
-use Rattle.rtsim.specs.Sim.{WasRead, WasRefused}
+use Rattle.rt_task.specs.declared.Parts.{Parts}
+use Rattle.rt_task.specs.Validity.{IsValid}
+use Rattle.set_read.specs.Sets.{set}
+use Rattle.group_engine.specs.Built.{is_built}
+use Rattle.rt_fault.specs.declared.status.Status.TheVariants.{BadInput}
+use Rattle.rt_fault.specs.Stops.{unmade}
+use Rattle.rtsim.proofs.PlayableLaws.{playable-built, playable-unbuilt, playable-refused, stop-refused}
 use Rattle.rtsim.proofs.input.read_input.Goals as goal
 
--- src/input.rt:29:17
 pub returns-in_err-setup-clause-bad_input : goal.returns-in_err-setup-clause-bad_input
-returns-in_err-setup-clause-bad_input g c = ?
+returns-in_err-setup-clause-bad_input g c = λ b same.
+    let within : length c.in_ok-bytes.bytes.items ≤ MOST_SET_BYTES = omega (arith, c.in_ok-bytes.ensures.within, c.in_ok-bytes.bytes.ok.0) in
+    let said : BadInput b ≡ unmade c.in_err-setup.field-0.0 = rw same at c.from_residual-in_err-setup.ensures.1 in
+    record {
+      bytes = c.in_ok-bytes.bytes.items;
+      all = c.in_ok-bytes.ensures.ok;
+      within = within;
+      refused = playable-refused _ b (rw (sym c.as_slice.ensures.value) (stop-refused _ b _ c.in_err-setup.ensures (sym said)));
+    }
 
--- src/input.rt:31:9
 pub returns-then-not-is_built-clause-bad_input : goal.returns-then-not-is_built-clause-bad_input
-returns-then-not-is_built-clause-bad_input g c = ?
+returns-then-not-is_built-clause-bad_input g c = λ b same.
+    let within : length c.in_ok-bytes.bytes.items ≤ MOST_SET_BYTES = omega (arith, c.in_ok-bytes.ensures.within, c.in_ok-bytes.bytes.ok.0) in
+    let reads : set c.in_ok-bytes.bytes.items ≡ Ok c.in_ok-setup.setup = ap set (sym c.as_slice.ensures.value) ∙ c.in_ok-setup.ensures in
+    let unbuilt : is_built c.in_ok-setup.setup ≡ false = sym c.is_built.ensures ∙ c.if-not-is_built.true in
+    record {
+      bytes = c.in_ok-bytes.bytes.items;
+      all = c.in_ok-bytes.ensures.ok;
+      within = within;
+      refused = playable-unbuilt _ _ reads unbuilt ∙ cc;
+    }
 
--- src/input.rt:17:1
 pub returns-clause-ok : goal.returns-clause-ok
-returns-clause-ok g c = ?
+returns-clause-ok g c =
+    let within : length c.in_ok-bytes.bytes.items ≤ MOST_SET_BYTES = omega (arith, c.in_ok-bytes.ensures.within, c.in_ok-bytes.bytes.ok.0) in
+    let reads : set c.in_ok-bytes.bytes.items ≡ Ok c.in_ok-setup.setup = ap set (sym c.as_slice.ensures.value) ∙ c.in_ok-setup.ensures in
+    let built : is_built c.in_ok-setup.setup ≡ true = sym c.is_built.ensures ∙ c.if-not-is_built.false in
+    record {
+      bytes = c.in_ok-bytes.bytes.items;
+      all = c.in_ok-bytes.ensures.ok;
+      within = within;
+      reads = playable-built _ _ reads built;
+      valid = subst IsValid c.setup.view_is c.setup.invariant;
+    }
