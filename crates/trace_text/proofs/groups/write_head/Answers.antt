@@ -1,0 +1,25 @@
+use Rattle.std.proofs.Common.{◌≡◌, ◌++◌, ◌∷◌, ℕ, List, [], codes, refl}
+use Rattle.rt_task.specs.declared.Parts.{Parts}
+use Rattle.set_canonical.specs.Canonical.{canonical}
+use Rattle.trace_text.specs.TraceText.{first_line, format_1, set_line}
+use Rattle.trace_text.proofs.CameLaws.{Coming, coming-start, coming-next, coming-stop, coming-end, came-err}
+use Rattle.trace_text.proofs.groups.write_head.Goals as goal
+
+abbrev text : Parts → List ℕ
+text p = first_line format_1 ++ set_line p
+
+abbrev front : List ℕ
+front = codes "rtsched trace 1\nset "
+
+pub returns-in_err-write_bytes : goal.returns-in_err-write_bytes
+returns-in_err-write_bytes g c =
+    let p : Parts = c.args.setup.now in
+    came-err c.from_residual-in_err-write_bytes.result c.in_err-write_bytes.field-0.0 _ _ _ _ (text p) c.from_residual-in_err-write_bytes.ensures.1
+      (coming-stop _ _ (g.K.Sink.held c.args.out.now) (g.K.Sink.held c.write_bytes.new.out) _ (g.K.Sink.faults c.args.out.now) (g.K.Sink.faults c.write_bytes.new.out) (text p) front (canonical p ++ 10 ∷ [])
+        (coming-start (g.K.Sink.held c.args.out.now) (g.K.Sink.faults c.args.out.now) (text p)) c.in_err-write_bytes.ensures)
+
+pub returns-in_err-write_bytes-2 : goal.returns-in_err-write_bytes-2
+returns-in_err-write_bytes-2 g c = ?
+
+pub returns : goal.returns
+returns g c = ?
