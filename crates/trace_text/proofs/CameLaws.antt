@@ -62,3 +62,11 @@ came-none h f text = coming-cut h h f f text text (coming-start h f text)
 pub came-err : (r : Result (Unit {0}) WriteStop) (e : WriteStop) (a b : Held) (f g : ℕ) (text : List ℕ) → IsErrAnd r (λ x. x ≡ e) → Came (Err e) a b f g text → Came r a b f g text
 came-err (Ok u) e a b f g text h p = absurd h
 came-err (Err x) e a b f g text h p = rw h p
+
+-- the last part came, or stopped
+pub coming-last : (r : Result (Unit {0}) WriteStop) (a b c : Held) (f g h : ℕ) (text part : List ℕ) → Coming a b f g text part → Came r b c g h part → Came r a c f h text
+coming-last (Ok u) a b c f g h text part s p = (rw s.split (Extends-append a b c s.front part s.came p.0), omega (arith, s.counted, p.1))
+coming-last (Err e) a b c f g h text part s p = coming-stop e a b c f g h text part [] more p
+  where
+    more : Coming a b f g text (part ++ [])
+    more = record { front = s.front; came = s.came; counted = s.counted; split = s.split ∙ ap (λ xs. s.front ++ xs) (sym (append-nil part)) }

@@ -3,12 +3,14 @@ use Rattle.std.proofs.Common.{◌≡◌, ℕ, zero, suc, ◌+◌, ◌-◌, ◌<�
 use Rattle.std.specs.Prelude.{◌==◌, if◌then◌else◌, flat_map, filter, slice_index_or, sum_by}
 use Rattle.std.proofs.Math.Seq.{get_or-append_seam}
 use Rattle.std.proofs.lemmas.List.Sums.{sum_by-cons, sum_by_push}
+use Rattle.rt_base.specs.declared.CpuNo.{CpuNo}
 use Rattle.rt_task.specs.declared.Cluster.{Cluster}
 use Rattle.rt_task.specs.declared.Parts.{Parts}
 use Rattle.rt_task.specs.Validity.{IsValid}
 use Rattle.rt_rules.specs.Numbers.{numbers_from}
 use Rattle.rt_model.specs.Group.{Group, cluster, cpus, in_group, clusters, first_in, first_cpu, processors, group_processors, no_cluster}
 use Rattle.group_engine.specs.Built.{is_built}
+use Rattle.trace_text.specs.Groups.{cpu_numbers}
 use Rattle.group_engine.proofs.Plain.{plain-set}
 
 -- numbers from a up to e
@@ -17,6 +19,10 @@ numbers_more xs a e h =
     let one_more : e - a ≡ suc (e - suc a) = omega arith in
     let next : a + 1 ≡ suc a = omega arith in
     rw (one_more, next, append_assoc) refl
+
+pub cpu_numbers_push : (qs : List CpuNo) (q : ℕ) → cpu_numbers (qs ++ record { 0 = q } ∷ []) ≡ cpu_numbers qs ++ q ∷ []
+cpu_numbers_push [] q = refl
+cpu_numbers_push (x ∷ qs) q = ap (λ ns. x.0 ∷ ns) (cpu_numbers_push qs q)
 
 pub numbers_start : (a n : ℕ) → numbers_from a (a + n - a) ≡ numbers_from a n
 numbers_start a n = ap (numbers_from a) (omega arith)

@@ -1,6 +1,6 @@
 -- An engine that takes the steps of another again, and the links of its processors.
-use Rattle.std.proofs.Common.{◌≡◌, ℕ, zero, suc, ◌<◌, ◌==◌, Bool, true, false, not, ◌||◌, List, [], ◌∷◌, ◌++◌, length, map, get_or, refl, sym, ap, ◌∙◌, subst, arith}
-use Rattle.std.specs.Prelude.{All, filter, if◌then◌else◌}
+use Rattle.std.proofs.Common.{◌≡◌, ℕ, zero, suc, ◌+◌, ◌<◌, ◌≤◌, ◌==◌, Bool, true, false, not, ◌||◌, List, [], ◌∷◌, ◌++◌, length, map, get_or, refl, sym, ap, ◌∙◌, subst, arith}
+use Rattle.std.specs.Prelude.{All, filter, if◌then◌else◌, Result, Ok, Err, OnOk}
 use Rattle.rt_base.specs.declared.CpuNo.{CpuNo}
 use Rattle.rt_task.specs.declared.Step.{Step}
 use Rattle.rt_history.specs.declared.Entry.{Entry}
@@ -17,7 +17,7 @@ use Rattle.group_engine.specs.Groups.{GroupHistory, group_of, past, with_entry, 
 use Rattle.trace_lines.specs.declared.links.CpuLink.{CpuLink}
 use Rattle.trace_lines.specs.Lines.{Link, links_of}
 use Rattle.trace_text.specs.TraceText.{links_at}
-use Rattle.trace_text.specs.Groups.{cpu_numbers, changed_links}
+use Rattle.trace_text.specs.Groups.{cpu_numbers, changed_links, Follows}
 
 -- each element's number is among the elements' numbers
 all-has : {A : Type 0} (f : A → ℕ) (xs : List A) → All (λ x. has (f x) (map f xs) ≡ true) xs
@@ -58,3 +58,13 @@ changed_at g was now (q ∷ qs) = by_case (same (linked g q was) (linked g q now
 pub changed_by : (g : Group) (was now : Past) (links : List CpuLink) → links_of links ≡ links_at g was (group_processors g) → changed_links (λ q. linked g q now) (links_of links) ≡ links_at g now (changed g was now)
 unfolding changed
 changed_by g was now links e = ap (changed_links (λ q. linked g q now)) e ∙ changed_at g was now (group_processors g)
+
+pub on_ok : {E : Type 0} {P : Type 0} (r : Result (Unit {0}) E) → P → OnOk r P
+on_ok (Ok u) p = p
+on_ok (Err e) p = tt
+
+-- i of n steps were taken again
+pub record Playing (old now : GroupHistory) (qs : List CpuNo) (links : List CpuLink) (n i : ℕ) : Type 0 where
+  pub same_group : group_of now ≡ group_of old
+  pub room : n ≤ now.spare + i
+  pub follows : Follows now qs links
