@@ -1,7 +1,7 @@
 -- Texts that come to a sink one after the other.
 use Rattle.std.proofs.Common.{◌≡◌, ℕ, ◌-◌, ◌^◌, ◌<◌, ◌≤◌, List, [], ◌++◌, length, take, refl, sym, ap, ◌∙◌, arith, append_assoc, append-nil, Bool, true, false, eqb-true, eq-eqb}
 use Rattle.std.specs.Prelude.{◌==◌, ◌≢◌}
-use Rattle.std.specs.Prelude.{Result, Ok, Err, IsErrAnd}
+use Rattle.std.specs.Prelude.{Result, Ok, Err, IsErrAnd, OnOk, OnErr}
 use Rattle.rt_fault.specs.Faults.{HasRisen}
 use Rattle.rt_fault.specs.Held.{Held, Extends, ExtendsByPrefix}
 use Rattle.rt_fault.proofs.HeldLaws.{Extends-none, Extends-append, ExtendsByPrefix-append, ExtendsByPrefix-more, ExtendsByPrefix-front}
@@ -70,3 +70,23 @@ coming-last (Err e) a b c f g h text part s p = coming-stop e a b c f g h text p
   where
     more : Coming a b f g text (part ++ [])
     more = record { front = s.front; came = s.came; counted = s.counted; split = s.split ∙ ap (λ xs. s.front ++ xs) (sym (append-nil part)) }
+
+-- the parts of an end
+pub came-ok : (r : Result (Unit {0}) WriteStop) (a b : Held) (f g : ℕ) (text : List ℕ) → Came r a b f g text → OnOk r (Extends a b text)
+came-ok (Ok u) a b f g text p = p.0
+came-ok (Err e) a b f g text p = tt
+
+pub came-stopped : (r : Result (Unit {0}) WriteStop) (a b : Held) (f g : ℕ) (text : List ℕ) → Came r a b f g text → OnErr r (ExtendsByPrefix a b text)
+came-stopped (Ok u) a b f g text p = tt
+came-stopped (Err stops.Fault) a b f g text p = p.0
+came-stopped (Err stops.NoMemory) a b f g text p = p.0
+
+pub came-fault : (r : Result (Unit {0}) WriteStop) (a b : Held) (f g : ℕ) (text : List ℕ) → Came r a b f g text → r ≡ Err stops.Fault → HasRisen f g
+came-fault (Ok u) a b f g text p e = cc
+came-fault (Err stops.Fault) a b f g text p e = p.2
+came-fault (Err stops.NoMemory) a b f g text p e = cc
+
+pub came-counted : (r : Result (Unit {0}) WriteStop) (a b : Held) (f g : ℕ) (text : List ℕ) → Came r a b f g text → f ≤ g
+came-counted (Ok u) a b f g text p = p.1
+came-counted (Err stops.Fault) a b f g text p = p.1
+came-counted (Err stops.NoMemory) a b f g text p = p.1

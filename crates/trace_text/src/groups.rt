@@ -14,8 +14,8 @@ use group_engine::Engine;
 use rt_base::GroupNo;
 use rt_fault::Sink;
 use rt_history::Entry;
-use rt_task::Setup;
-use set_canonical::canonical;
+use rt_task::{Parts, Setup};
+use set_canonical::canonical_of_parts;
 use std::alloc::Global;
 
 /// The lines of entries, whose steps are taken again.
@@ -57,6 +57,7 @@ fn write_group<K: Sink>(
 /// The lines of the groups, and the line `end`.
 fn write_groups<K: Sink>(alloc: Global, setup: &Setup, groups: &[Engine], out: &mut K) -> Result<(), WriteStop>
     requires groups { AreGroupsOf setup.now groups.now }
+    requires few { length groups.now ≤ 64 }
     requires built { is_built setup.now ≡ true }
     ensures { Came result (K.held out.old) (K.held out.new) (K.faults out.old) (K.faults out.new) (flat_map line_text (lines_from setup.now 0 (histories groups.now))) }
 {
@@ -68,10 +69,10 @@ fn write_groups<K: Sink>(alloc: Global, setup: &Setup, groups: &[Engine], out: &
 }
 
 /// The line of the format and the line of the set.
-fn write_head<K: Sink>(alloc: Global, setup: &Setup, out: &mut K) -> Result<(), WriteStop>
-    ensures { Came result (K.held out.old) (K.held out.new) (K.faults out.old) (K.faults out.new) (first_line format_1 ++ set_line setup.now) }
+fn write_head<K: Sink>(alloc: Global, parts: &Parts, out: &mut K) -> Result<(), WriteStop>
+    ensures { Came result (K.held out.old) (K.held out.new) (K.faults out.old) (K.faults out.new) (first_line format_1 ++ set_line parts.now) }
 {
-    let set = canonical(alloc, setup)?;
+    let set = canonical_of_parts(alloc, parts)?;
     write_bytes(out, b"rtsched trace 1\nset ")?;
     write_bytes(out, set.as_slice())?;
     write_bytes(out, b"\n")
@@ -83,6 +84,6 @@ pub fn write_all<K: Sink>(alloc: Global, setup: &Setup, groups: &[Engine], out: 
     requires built { is_built setup.now ≡ true }
     ensures { Came result (K.held out.old) (K.held out.new) (K.faults out.old) (K.faults out.new) (trace_text format_1 setup.now (histories groups.now)) }
 {
-    write_head(alloc, setup, out)?;
+    write_head(alloc, setup.parts(), out)?;
     write_groups(alloc, setup, groups, out)
 }
