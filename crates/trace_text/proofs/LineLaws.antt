@@ -1,5 +1,5 @@
 -- The lines of a group, part by part as they are written.
-use Rattle.std.proofs.Common.{◌≡◌, ℕ, zero, suc, ◌+◌, ◌<◌, ◌≤◌, Bool, true, false, List, [], ◌∷◌, ◌++◌, length, map, drop, get_or, refl, sym, ap, ◌∙◌, subst, arith, append-nil}
+use Rattle.std.proofs.Common.{◌≡◌, ℕ, zero, suc, ◌+◌, ◌<◌, ◌≤◌, Bool, true, false, List, [], ◌∷◌, ◌++◌, length, map, drop, get_or, refl, sym, ap, ◌∙◌, subst, arith, append-nil, append_assoc}
 use Rattle.std.specs.Prelude.{All, flat_map, Option, None, Some, if◌then◌else◌, nat_lt}
 use Rattle.std.proofs.lemmas.Bool.Decides.{nat_tests}
 use Rattle.std.proofs.lemmas.Grind.{flat_map-append}
@@ -19,14 +19,14 @@ use Rattle.rt_model.specs.Histories.{after, changed, clock_moved, past_from, pas
 use Rattle.rt_model.specs.Outcomes.{past_act}
 use Rattle.rt_model.specs.Past.{Past, sem_act, PastAct, sem_act_of, accepted, entries_in, Clock, Acted}
 use Rattle.rt_model.proofs.Steps.{after-acted}
-use Rattle.group_engine.specs.Built.{is_built_act}
+use Rattle.group_engine.specs.Built.{is_built, is_built_act}
 use Rattle.group_engine.specs.Groups.{GroupHistory, group_of, past, IsPlayedEntry}
 use Rattle.group_engine.proofs.Plain.{plain-set}
 use Rattle.group_engine.proofs.PlainGroup.{group-plain}
 use Rattle.trace_lines.specs.Lines.{Link, Line, links_of, group_line, entry_line, end_line}
 use Rattle.trace_lines.specs.declared.links.CpuLink.{CpuLink}
 use Rattle.trace_lines.specs.Grammar.{line_text}
-use Rattle.trace_text.specs.TraceText.{links_at, entry_lines, block_lines, group_lines, lines_from}
+use Rattle.trace_text.specs.TraceText.{links_at, entry_lines, block_lines, group_lines, lines_from, trace_text, first_line, format_1, set_line}
 use Rattle.trace_text.specs.Groups.{AreGroupsOf, Follows, histories}
 
 pub drop_end : {A : Type 0} (xs : List A) (n : ℕ) → length xs ≤ n → drop n xs ≡ []
@@ -144,6 +144,19 @@ pub groups_next : (p : Parts) (hs : List GroupHistory) (i : ℕ) (d : GroupHisto
 groups_next p hs i d are low =
     let next : i + 1 ≡ suc i = omega arith in
     rw (history_group p hs i d are low, drop-cons hs i d low, next) (flat_map-append line_text (group_lines (record { setup = p; number = i }) (get_or hs i d).entries) (lines_from p (suc i) (histories (drop (suc i) hs))))
+
+-- the same for an item of the list
+pub groups_next_item : (p : Parts) (hs : List GroupHistory) (i : ℕ) (h : GroupHistory) → AreGroupsOf p hs → i < length hs → h ≡ get_or hs i h
+    → texts (lines_from p i (histories (drop i hs))) ≡ texts (group_lines (group_of h) h.entries) ++ texts (lines_from p (i + 1) (histories (drop (i + 1) hs)))
+groups_next_item p hs i h are low e = groups_next p hs i h are low ∙ ap (λ (x : GroupHistory). texts (group_lines (group_of x) x.entries) ++ texts (lines_from p (i + 1) (histories (drop (i + 1) hs)))) (sym e)
+
+pub item_number : (p : Parts) (hs : List GroupHistory) (i : ℕ) (h : GroupHistory) → AreGroupsOf p hs → i < length hs → h ≡ get_or hs i h → h.group ≡ i
+item_number p hs i h are low e = ap (λ (x : GroupHistory). x.group) e ∙ ap (λ (g : Group). g.number) (history_group p hs i h are low)
+
+-- the first two lines, and the others
+pub trace_parts : (p : Parts) (hs : List GroupHistory) → trace_text format_1 p (histories hs) ≡ (first_line format_1 ++ set_line p) ++ texts (lines_from p 0 (histories hs))
+unfolding trace_text
+trace_parts p hs = sym (append_assoc (first_line format_1) (set_line p) (texts (lines_from p 0 (histories hs))))
 
 pub groups_end : (p : Parts) (hs : List GroupHistory) (i : ℕ) → length hs ≤ i → texts (lines_from p i (histories (drop i hs))) ≡ line_text end_line
 groups_end p hs i h = rw (drop_end hs i h) (append-nil (line_text end_line))
