@@ -1,0 +1,28 @@
+-- The texts of lines, part by part as they are written.
+use Rattle.std.proofs.Common.{◌≡◌, ℕ, List, [], ◌∷◌, ◌++◌, map, codes, decimal, refl, ap, ◌∙◌, append_assoc, append-nil}
+use Rattle.rt_history.specs.declared.Entry.{Entry}
+use Rattle.trace_lines.specs.Words.{Word, join, further}
+use Rattle.trace_lines.specs.Lines.{Link, group_line, entry_line, end_line}
+use Rattle.trace_lines.specs.Grammar.{act_words, reply_words, link_word, line_words, line_text}
+
+-- words after the first have a separator before each
+pub join-further : (c : ℕ) (w : Word) (ws : List Word) → join c (w ∷ ws) ≡ w ++ further c ws
+join-further c w [] = simp append-nil
+join-further c w (v ∷ ws) = ap (λ xs. w ++ c ∷ xs) (join-further c v ws)
+
+pub further-append : (c : ℕ) (vs ws : List Word) → further c (vs ++ ws) ≡ further c vs ++ further c ws
+further-append c [] ws = refl
+further-append c (v ∷ vs) ws = rw (further-append c vs ws) (simp append_assoc)
+
+pub group_text : (g : ℕ) (links : List Link) → line_text (group_line g links) ≡ codes "group" ++ ((32 ∷ decimal g) ++ (further 32 (map link_word links) ++ 10 ∷ []))
+unfolding line_words line_text
+group_text g links = ap (λ xs. xs ++ 10 ∷ []) (join-further 32 (codes "group") (decimal g ∷ map link_word links)) ∙ simp append_assoc
+
+pub entry_text : (i : ℕ) (e : Entry) (links : List Link) → line_text (entry_line i e links)
+    ≡ decimal i ++ ((32 ∷ decimal e.step.tick.0) ++ ((32 ∷ decimal e.step.cpu.0) ++ (further 32 (act_words e.step.act) ++ (further 32 (reply_words e.reply) ++ (further 32 (map link_word links) ++ 10 ∷ [])))))
+unfolding line_words line_text
+entry_text i e links = simp (join-further, further-append, append_assoc)
+
+pub end_text : line_text end_line ≡ codes "end\n"
+unfolding line_words line_text
+end_text = refl

@@ -1,0 +1,35 @@
+//! The words of acts.
+ghost use Rattle.std.specs.Prelude.{◌≡◌, ◌++◌, ◌∷◌, [], OnOk, decimal};
+ghost use Rattle.trace_lines.specs.Words.{further};
+ghost use Rattle.trace_lines.specs.Grammar.{act_words};
+
+use crate::put::{put_next_number, put_next_word};
+use rt_task::{Act, Op};
+use std::alloc::AllocError;
+
+/// A word and a number, each after a space.
+#[tactic(auto, using(std::proofs::Common::append_assoc))]
+pub fn put_word_and_number(out: &mut Vec<u8>, word: &[u8], n: u64) -> Result<(), AllocError>
+    ensures { OnOk result (out.new.items ≡ out.old.items ++ further 32 (word.now ∷ decimal n ∷ [])) }
+{
+    put_next_word(out, word)?;
+    put_next_number(out, n)
+}
+
+/// The words of an act, each after a space.
+pub fn put_act(out: &mut Vec<u8>, act: Act) -> Result<(), AllocError>
+    ensures { OnOk result (out.new.items ≡ out.old.items ++ further 32 (act_words act)) }
+{
+    match act {
+        Act::Tick => put_next_word(out, b"tick"),
+        Act::Irq => put_next_word(out, b"irq"),
+        Act::Arrive(t) => put_word_and_number(out, b"arrive", u64::from(t.0)),
+        Act::Do(Op::Work) => put_next_word(out, b"work"),
+        Act::Do(Op::Lock(s)) => put_word_and_number(out, b"lock", u64::from(s.0)),
+        Act::Do(Op::Unlock(s)) => put_word_and_number(out, b"unlock", u64::from(s.0)),
+        Act::Do(Op::Sleep(n)) => put_word_and_number(out, b"sleep", n),
+        Act::Do(Op::NpOn) => put_next_word(out, b"npon"),
+        Act::Do(Op::NpOff) => put_next_word(out, b"npoff"),
+        Act::Do(Op::End) => put_next_word(out, b"end"),
+    }
+}

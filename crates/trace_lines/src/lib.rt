@@ -1,0 +1,13 @@
+//! The lines of a trace, format 1: words with one space between them, and a line feed at the end.
+#![tactic(auto)]
+
+mod acts;
+mod lines;
+mod links;
+mod put;
+mod replies;
+#[cfg(test)]
+mod tests;
+
+pub use lines::{put_end_line, put_entry_line, put_group_line};
+pub use links::CpuLink;

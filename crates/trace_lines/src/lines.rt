@@ -1,0 +1,80 @@
+//! The lines of a trace.
+ghost use Rattle.std.specs.Prelude.{◌≡◌, ◌++◌, OnOk};
+ghost use Rattle.trace_lines.specs.Lines.{links_of, group_line, entry_line, end_line};
+ghost use Rattle.trace_lines.specs.Grammar.{line_text};
+
+use crate::CpuLink;
+use crate::acts::put_act;
+use crate::links::put_links;
+use crate::put::{put, put_next_number, put_number};
+use crate::replies::put_reply;
+use rt_base::{GroupNo, NoMemory};
+use rt_history::Entry;
+use std::alloc::AllocError;
+
+#[tactic(auto, using(crate::proofs::LineTexts::group_text, std::proofs::Common::append_assoc))]
+fn append_group_line(out: &mut Vec<u8>, group: GroupNo, links: &[CpuLink]) -> Result<(), AllocError>
+    ensures { OnOk result (out.new.items ≡ out.old.items ++ line_text (group_line group.0 (links_of links.now))) }
+{
+    put(out, b"group")?;
+    put_next_number(out, u64::from(group.0))?;
+    put_links(out, links)?;
+    put(out, b"\n")?;
+    Ok(())
+}
+
+#[tactic(auto, using(crate::proofs::LineTexts::entry_text, std::proofs::Common::append_assoc))]
+fn append_entry_line(
+    out: &mut Vec<u8>,
+    number: u32,
+    entry: &Entry,
+    links: &[CpuLink],
+) -> Result<(), AllocError>
+    ensures { OnOk result (out.new.items ≡ out.old.items ++ line_text (entry_line number entry.now (links_of links.now))) }
+{
+    put_number(out, u64::from(number))?;
+    put_next_number(out, entry.step.tick.0)?;
+    put_next_number(out, u64::from(entry.step.cpu.0))?;
+    put_act(out, entry.step.act)?;
+    put_reply(out, entry.reply)?;
+    put_links(out, links)?;
+    put(out, b"\n")?;
+    Ok(())
+}
+
+/// The line of a group: `group <group> <cpu>:<link> ..`, with the links of its processors at opening.
+pub fn put_group_line(out: &mut Vec<u8>, group: GroupNo, links: &[CpuLink]) -> Result<(), NoMemory>
+    ensures { OnOk result (out.new.items ≡ out.old.items ++ line_text (group_line group.0 (links_of links.now))) }
+{
+    match append_group_line(out, group, links) {
+        Ok(()) => Ok(()),
+        Err(_) => Err(NoMemory),
+    }
+}
+
+/// The line of an entry: `<number> <tick> <cpu> <act> <reply> <cpu>:<link> ..`, with the entry's number in its group from
+/// 0 and the links that it changed.
+pub fn put_entry_line(
+    out: &mut Vec<u8>,
+    number: u32,
+    entry: &Entry,
+    links: &[CpuLink],
+) -> Result<(), NoMemory>
+    ensures { OnOk result (out.new.items ≡ out.old.items ++ line_text (entry_line number entry.now (links_of links.now))) }
+{
+    match append_entry_line(out, number, entry, links) {
+        Ok(()) => Ok(()),
+        Err(_) => Err(NoMemory),
+    }
+}
+
+/// The line `end`, after the last group.
+#[tactic(auto, using(crate::proofs::LineTexts::end_text))]
+pub fn put_end_line(out: &mut Vec<u8>) -> Result<(), NoMemory>
+    ensures { OnOk result (out.new.items ≡ out.old.items ++ line_text end_line) }
+{
+    match put(out, b"end\n") {
+        Ok(()) => Ok(()),
+        Err(_) => Err(NoMemory),
+    }
+}

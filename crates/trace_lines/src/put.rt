@@ -1,0 +1,36 @@
+//! Bytes, words and numbers at the end of a text.
+ghost use Rattle.std.specs.Prelude.{◌≡◌, ◌++◌, ◌∷◌, OnOk, decimal};
+
+use itoa::Buffer;
+use std::alloc::AllocError;
+
+pub fn put(out: &mut Vec<u8>, bytes: &[u8]) -> Result<(), AllocError>
+    ensures { OnOk result (out.new.items ≡ out.old.items ++ bytes.now) }
+{
+    out.extend_from_slice(bytes)
+}
+
+pub fn put_number(out: &mut Vec<u8>, n: u64) -> Result<(), AllocError>
+    ensures { OnOk result (out.new.items ≡ out.old.items ++ decimal n) }
+{
+    let mut buffer = Buffer::new();
+    put(out, buffer.format(n).as_bytes())
+}
+
+/// A space, and then a word.
+#[tactic(auto, using(std::proofs::Common::append_assoc))]
+pub fn put_next_word(out: &mut Vec<u8>, word: &[u8]) -> Result<(), AllocError>
+    ensures { OnOk result (out.new.items ≡ out.old.items ++ 32 ∷ word.now) }
+{
+    put(out, b" ")?;
+    put(out, word)
+}
+
+/// A space, and then a number.
+#[tactic(auto, using(std::proofs::Common::append_assoc))]
+pub fn put_next_number(out: &mut Vec<u8>, n: u64) -> Result<(), AllocError>
+    ensures { OnOk result (out.new.items ≡ out.old.items ++ 32 ∷ decimal n) }
+{
+    put(out, b" ")?;
+    put_number(out, n)
+}

@@ -1,0 +1,4 @@
+pub mod CameLaws
+pub mod CpuLaws
+pub mod ReplayLaws
+pub mod LineLaws

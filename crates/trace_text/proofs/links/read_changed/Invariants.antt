@@ -1,0 +1,10 @@
+use Rattle.std.proofs.Common.{◌≡◌, ◌++◌, drop}
+use Rattle.rt_model.specs.Links.{linked}
+use Rattle.group_engine.specs.Groups.{group_of, past}
+use Rattle.trace_lines.specs.Lines.{links_of}
+use Rattle.trace_text.specs.Groups.{changed_links}
+use Rattle.trace_text.proofs.links.read_changed.Given as goal
+
+-- what was put, and then those of the rest that changed, are all that changed
+abbrev pub invariant-loop-link : goal.invariant-loop-link
+invariant-loop-link l = links_of l.changed.items ++ changed_links (λ q. linked (group_of l.engine) q (past l.engine)) (links_of (drop l.link-index l.links)) ≡ changed_links (λ q. linked (group_of l.engine) q (past l.engine)) (links_of l.links)

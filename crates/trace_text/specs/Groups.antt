@@ -1,0 +1,34 @@
+-- The groups of a setup, each with its history.
+use Rattle.std.specs.Prelude.{◌≡◌, ℕ, ◌<◌, Bool, not, List, [], ◌∷◌, length, map, All, Option, if◌then◌else◌}
+use Rattle.rt_base.specs.declared.CpuNo.{CpuNo}
+use Rattle.rt_task.specs.declared.Parts.{Parts}
+use Rattle.rt_history.specs.declared.Entry.{Entry}
+use Rattle.rt_rules.specs.Numbers.{numbers_from, same}
+use Rattle.rt_model.specs.Group.{group_processors}
+use Rattle.group_engine.specs.Groups.{GroupHistory, IsGroupOf, group_of, past}
+use Rattle.trace_lines.specs.declared.links.CpuLink.{CpuLink}
+use Rattle.trace_lines.specs.Lines.{Link, links_of}
+use Rattle.trace_text.specs.TraceText.{links_at}
+
+abbrev pub histories : List GroupHistory → List (List Entry)
+histories hs = map (λ (h : GroupHistory). h.entries) hs
+
+-- one history for each group of the setup, by rising number
+pub record AreGroupsOf (p : Parts) (hs : List GroupHistory) : Type 0 where
+  pub of_setup : All (λ (h : GroupHistory). h.setup ≡ p) hs
+  pub in_order : map (λ (h : GroupHistory). h.group) hs ≡ numbers_from 0 (length hs)
+  pub are_groups : (n : ℕ) → n < length hs → IsGroupOf p n
+  pub are_all : (n : ℕ) → IsGroupOf p n → n < length hs
+
+abbrev pub cpu_numbers : List CpuNo → List ℕ
+cpu_numbers qs = map (λ (q : CpuNo). q.0) qs
+
+-- of these links, those that are others now, as they are now
+abbrev pub changed_links : (ℕ → Option ℕ) → List Link → List Link
+changed_links now [] = []
+changed_links now (x ∷ xs) = if same x.1 (now x.0) then changed_links now xs else ((x.0, now x.0) ∷ changed_links now xs)
+
+-- these are the processors of a group and their links after its history
+pub record Follows (h : GroupHistory) (qs : List CpuNo) (links : List CpuLink) : Type 0 where
+  pub cpus_are : cpu_numbers qs ≡ group_processors (group_of h)
+  pub links_are : links_of links ≡ links_at (group_of h) (past h) (group_processors (group_of h))

@@ -1,0 +1,3 @@
+pub mod TraceText
+pub mod Writing
+pub mod Groups

@@ -1,0 +1,89 @@
+//! The groups of a trace.
+ghost use Rattle.std.specs.Prelude.{◌≡◌, ◌≤◌, ◌++◌, All, true, flat_map, length};
+ghost use Rattle.group_engine.specs.Built.{is_built};
+ghost use Rattle.group_engine.specs.Groups.{group_of, past, IsGroupOf, IsPlayedEntry};
+ghost use Rattle.trace_lines.specs.Grammar.{line_text};
+ghost use Rattle.trace_text.specs.Groups.{AreGroupsOf, Follows, histories};
+ghost use Rattle.trace_text.specs.TraceText.{entry_lines, first_line, format_1, group_lines, lines_from, set_line, trace_text};
+ghost use Rattle.trace_text.specs.Writing.{Came};
+
+use crate::WriteStop;
+use crate::lines::{write_bytes, write_end_line, write_entry_line, write_group_line};
+use crate::replay::Replay;
+use group_engine::Engine;
+use rt_base::GroupNo;
+use rt_fault::Sink;
+use rt_history::Entry;
+use rt_task::{Parts, Setup};
+use set_canonical::canonical_of_parts;
+use std::alloc::Global;
+
+/// The lines of entries, whose steps are taken again.
+fn write_entries<K: Sink>(replay: &mut Replay, entries: &[Entry], line: &mut Vec<u8>, out: &mut K) -> Result<(), WriteStop>
+    requires follows { Follows replay.old.engine replay.old.cpus.items replay.old.links.items }
+    requires room { length entries.now ≤ replay.old.engine.spare }
+    requires few { length entries.now ≤ 200000 }
+    requires played { All (IsPlayedEntry (group_of replay.old.engine)) entries.now }
+    ensures { Came result (K.held out.old) (K.held out.new) (K.faults out.old) (K.faults out.new) (flat_map line_text (entry_lines (group_of replay.old.engine) 0 (past replay.old.engine) entries.now)) }
+{
+    for (i, entry) in entries.iter().enumerate() {
+        replay.step(entry.step)?;
+        write_entry_line(out, line, i as u32, entry, replay.changed())?;
+    }
+    Ok(())
+}
+
+/// The lines of a group.
+fn write_group<K: Sink>(
+    alloc: Global,
+    setup: &Setup,
+    number: GroupNo,
+    group: &Engine,
+    line: &mut Vec<u8>,
+    out: &mut K,
+) -> Result<(), WriteStop>
+    requires there { IsGroupOf setup.now number.0 }
+    requires built { is_built setup.now ≡ true }
+    requires setup { group.now.setup ≡ setup.now }
+    requires number { group.now.group ≡ number.0 }
+    ensures { Came result (K.held out.old) (K.held out.new) (K.faults out.old) (K.faults out.new) (flat_map line_text (group_lines (group_of group.now) group.now.entries)) }
+{
+    let entries = group.entries();
+    let mut replay = Replay::open(alloc, setup, number, entries.len() as u32)?;
+    write_group_line(out, line, number, replay.links())?;
+    write_entries(&mut replay, entries, line, out)
+}
+
+/// The lines of the groups, and the line `end`.
+fn write_groups<K: Sink>(alloc: Global, setup: &Setup, groups: &[Engine], out: &mut K) -> Result<(), WriteStop>
+    requires groups { AreGroupsOf setup.now groups.now }
+    requires few { length groups.now ≤ 64 }
+    requires built { is_built setup.now ≡ true }
+    ensures { Came result (K.held out.old) (K.held out.new) (K.faults out.old) (K.faults out.new) (flat_map line_text (lines_from setup.now 0 (histories groups.now))) }
+{
+    let mut line = Vec::new(alloc);
+    for (i, group) in groups.iter().enumerate() {
+        write_group(alloc, setup, GroupNo(i as u32), group, &mut line, out)?;
+    }
+    write_end_line(out, &mut line)
+}
+
+/// The line of the format and the line of the set.
+fn write_head<K: Sink>(alloc: Global, parts: &Parts, out: &mut K) -> Result<(), WriteStop>
+    ensures { Came result (K.held out.old) (K.held out.new) (K.faults out.old) (K.faults out.new) (first_line format_1 ++ set_line parts.now) }
+{
+    let set = canonical_of_parts(alloc, parts)?;
+    write_bytes(out, b"rtsched trace 1\nset ")?;
+    write_bytes(out, set.as_slice())?;
+    write_bytes(out, b"\n")
+}
+
+/// The whole trace.
+pub fn write_all<K: Sink>(alloc: Global, setup: &Setup, groups: &[Engine], out: &mut K) -> Result<(), WriteStop>
+    requires groups { AreGroupsOf setup.now groups.now }
+    requires built { is_built setup.now ≡ true }
+    ensures { Came result (K.held out.old) (K.held out.new) (K.faults out.old) (K.faults out.new) (trace_text format_1 setup.now (histories groups.now)) }
+{
+    write_head(alloc, setup.parts(), out)?;
+    write_groups(alloc, setup, groups, out)
+}

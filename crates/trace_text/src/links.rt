@@ -1,0 +1,65 @@
+//! The links of a group's processors, read from an engine.
+ghost use Rattle.std.specs.Prelude.{◌≡◌, All, OnOk};
+ghost use Rattle.rt_base.specs.TaskNos.{number_of_task};
+ghost use Rattle.rt_rules.specs.Numbers.{same};
+ghost use Rattle.rt_model.specs.Links.{linked};
+ghost use Rattle.group_engine.specs.Groups.{group_of, past, IsProcessorOf};
+ghost use Rattle.trace_lines.specs.Lines.{links_of};
+ghost use Rattle.trace_text.specs.TraceText.{links_at};
+ghost use Rattle.trace_text.specs.Groups as groups;
+
+use group_engine::Engine;
+use rt_base::{CpuNo, NoMemory, TaskNo};
+use trace_lines::CpuLink;
+
+#[tactic(auto, using(std::proofs::Common::append_assoc))]
+/// Puts the links of these processors in the place of what stood in `links`.
+pub fn read_links(engine: &Engine, cpus: &[CpuNo], links: &mut Vec<CpuLink>) -> Result<(), NoMemory>
+    requires { All (λ q. IsProcessorOf (group_of engine.now) q.0) cpus.now }
+    ensures { OnOk result (links_of links.new.items ≡ links_at (group_of engine.now) (past engine.now) (groups.cpu_numbers cpus.now)) }
+{
+    links.clear();
+    for cpu in cpus {
+        let link = CpuLink {
+            cpu: *cpu,
+            task: engine.linked(*cpu),
+        };
+        if links.push(link).is_err() {
+            return Err(NoMemory);
+        }
+    }
+    Ok(())
+}
+
+fn is_same(a: Option<TaskNo>, b: Option<TaskNo>) -> bool
+    ensures { result ≡ same (number_of_task a) (number_of_task b) }
+{
+    match (a, b) {
+        (Some(t), Some(u)) => t.0 == u.0,
+        (None, None) => true,
+        _ => false,
+    }
+}
+
+#[tactic(auto, using(std::proofs::Common::append_assoc))]
+/// Puts those of the links that are others now, as they are now, in the place of what stood in `changed`.
+pub fn read_changed(engine: &Engine, links: &[CpuLink], changed: &mut Vec<CpuLink>) -> Result<(), NoMemory>
+    requires { All (λ x. IsProcessorOf (group_of engine.now) x.cpu.0) links.now }
+    ensures { OnOk result (links_of changed.new.items ≡ groups.changed_links (λ q. linked (group_of engine.now) q (past engine.now)) (links_of links.now)) }
+{
+    changed.clear();
+    for link in links {
+        let task = engine.linked(link.cpu);
+        if is_same(link.task, task) {
+            continue;
+        }
+        let link = CpuLink {
+            cpu: link.cpu,
+            task,
+        };
+        if changed.push(link).is_err() {
+            return Err(NoMemory);
+        }
+    }
+    Ok(())
+}

@@ -1,0 +1,79 @@
+//! A group's steps taken again, for the links that each of them changes.
+ghost use Rattle.std.specs.Prelude.{◌≡◌, ◌-◌, ◌<◌, ◌≤◌, [], true, IfOk, OnOk};
+ghost use Rattle.rt_model.specs.Histories.{after, changed};
+ghost use Rattle.group_engine.specs.Built.{is_built, is_built_act};
+ghost use Rattle.group_engine.specs.Groups.{group_of, past, IsGroupOf, IsProcessorOf};
+ghost use Rattle.trace_lines.specs.Lines.{links_of};
+ghost use Rattle.trace_text.specs.TraceText.{links_at};
+ghost use Rattle.trace_text.specs.Groups.{Follows};
+
+use crate::cpus::cpus_of;
+use crate::links::{read_changed, read_links};
+use group_engine::Engine;
+use rt_base::{CpuNo, GroupNo, NoMemory};
+use rt_task::{Setup, Step};
+use std::alloc::Global;
+use trace_lines::CpuLink;
+
+/// An engine that takes the steps of another one again, with its processors, their links, and the links that the last
+/// step changed.
+#[derive(Drop)]
+pub struct Replay {
+    engine: Engine,
+    cpus: Vec<CpuNo>,
+    links: Vec<CpuLink>,
+    changed: Vec<CpuLink>,
+}
+
+impl Replay {
+    /// A group at opening, with room for so many steps.
+    pub fn open(alloc: Global, setup: &Setup, group: GroupNo, room: u32) -> Result<Replay, NoMemory>
+        requires group { IsGroupOf setup.now group.0 }
+        requires room { room ≤ 200000 }
+        requires built { is_built setup.now ≡ true }
+        ensures opened { IfOk result (λ r. r.engine ≡ record { setup = setup.now; group = group.0; entries = []; spare = room }) }
+        ensures follows { IfOk result (λ r. Follows r.engine r.cpus.items r.links.items) }
+    {
+        let engine = Engine::open(alloc, setup, group, room)?;
+        let cpus = cpus_of(alloc, setup, group)?;
+        let mut links = Vec::new(alloc);
+        read_links(&engine, cpus.as_slice(), &mut links)?;
+        Ok(Replay {
+            engine,
+            cpus,
+            links,
+            changed: Vec::new(alloc),
+        })
+    }
+
+    /// The links now.
+    pub fn links(&self) -> &[CpuLink]
+        ensures { result.now ≡ self.now.links.items }
+    {
+        self.links.as_slice()
+    }
+
+    /// The links that the last step changed.
+    pub fn changed(&self) -> &[CpuLink]
+        ensures { result.now ≡ self.now.changed.items }
+    {
+        self.changed.as_slice()
+    }
+
+    /// Takes a step.
+    pub fn step(&mut self, step: Step) -> Result<(), NoMemory>
+        requires room { 0 < self.old.engine.spare }
+        requires cpu { IsProcessorOf (group_of self.old.engine) step.cpu.0 }
+        requires act { is_built_act step.act ≡ true }
+        requires follows { Follows self.old.engine self.old.cpus.items self.old.links.items }
+        ensures group { OnOk result (group_of self.new.engine ≡ group_of self.old.engine) }
+        ensures spare { OnOk result (self.new.engine.spare ≡ self.old.engine.spare - 1) }
+        ensures past { OnOk result (past self.new.engine ≡ after (group_of self.old.engine) step (past self.old.engine)) }
+        ensures changed { OnOk result (links_of self.new.changed.items ≡ links_at (group_of self.old.engine) (past self.new.engine) (changed (group_of self.old.engine) (past self.old.engine) (past self.new.engine))) }
+        ensures follows { OnOk result (Follows self.new.engine self.new.cpus.items self.new.links.items) }
+    {
+        self.engine.step(step);
+        read_changed(&self.engine, self.links.as_slice(), &mut self.changed)?;
+        read_links(&self.engine, self.cpus.as_slice(), &mut self.links)
+    }
+}
