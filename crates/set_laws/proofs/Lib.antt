@@ -1,0 +1,4 @@
+pub mod CompactLaws
+pub mod BackLaws
+pub mod WholeLaws
+pub mod CanonicalLaws
