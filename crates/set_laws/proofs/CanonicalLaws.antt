@@ -16,7 +16,7 @@ use Rattle.rt_task.specs.declared.Parts.{Parts}
 use Rattle.rt_task.specs.declared.draft.Piece.{Piece}
 use Rattle.rt_task.specs.declared.draft.Piece.TheVariants.{Works, Once}
 use Rattle.rt_task.specs.Draft.{runs, draft_of}
-use Rattle.rt_task.specs.Validity.{refusal}
+use Rattle.rt_task.specs.Validity.{refusal, refusal_of, IsValid}
 use Rattle.serde_json.specs.Data.{Data, string, depth, items_depth}
 use Rattle.serde_json.specs.Read.{max_depth}
 use Rattle.serde_json.specs.View.{items_of}
@@ -24,6 +24,9 @@ use Rattle.set_canonical.specs.Canonical.{canonical, set_data}
 use Rattle.set_canonical.specs.Values.{cluster_data, sem_data, resv_data, task_data, step_data, piece_data, op_items, act_items, name_at, sem_names, resv_names, task_names}
 use Rattle.set_read.specs.Sets.{set, value_of, draft_in_bytes}
 use Rattle.set_laws.proofs.CompactLaws.{IsStored, IsUtf8-compact_text, read-compact_text}
+use Rattle.set_laws.proofs.KnownLaws.{has_fresh, is_readable}
+use Rattle.set_laws.proofs.Passing.{rows}
+use Rattle.set_laws.proofs.StoredLaws.{is_stored}
 use Rattle.set_laws.proofs.WholeLaws.{IsReadable, draft-again, parts-again}
 
 -- ---- the value nests at most five deep
@@ -97,8 +100,15 @@ set_data-depth p = by_drive p.drive
 
 -- ---- the law
 
-pub set-canonical : (p : Parts) → IsReadable p → IsStored (set_data p) → refusal (draft_of p) ≡ None → set (canonical p) ≡ Ok p
+set-canonical : (p : Parts) → IsReadable p → IsStored (set_data p) → refusal (draft_of p) ≡ None → set (canonical p) ≡ Ok p
 unfolding set canonical value_of draft_in_bytes
 set-canonical p readable stored valid =
     let shallow : depth (set_data p) ≤ max_depth = let h = set_data-depth p in omega arith in
     rw (is_utf8-from_IsUtf8 _ (IsUtf8-compact_text (set_data p) stored), read-compact_text (set_data p) stored shallow, draft-again p readable, valid) (ap Ok (parts-again p))
+
+pub set-of-canonical : (p : Parts) → IsValid p → set (canonical p) ≡ Ok p
+unfolding refusal_of
+set-of-canonical p valid =
+    let h = rows (draft_of p) valid in
+    let fresh = has_fresh p h in
+    set-canonical p (is_readable p fresh h) (is_stored p h) h.unrefused

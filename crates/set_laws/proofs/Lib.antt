@@ -5,3 +5,4 @@ pub mod CanonicalLaws
 pub mod Passing
 pub mod PositionLaws
 pub mod KnownLaws
+pub mod StoredLaws
