@@ -27,7 +27,7 @@ use Rattle.rt_task.specs.Refusals.{first_failing}
 use Rattle.set_read.specs.Forms as forms
 use Rattle.set_read.specs.Document.{Names, plugins, protocols, reservation_kinds, release_kinds, position_from, sem_form, cluster_form, semaphore_form, reservation_form, step_form, piece_form}
 use Rattle.set_read.specs.Sets.{elements, has_form, same}
-use Rattle.rt_task.specs.Draft.{operations, runs, op_front, one_more_work, draft_cluster, draft_resv, draft_step}
+use Rattle.rt_task.specs.Draft.{operations, runs, one_more_work, draft_cluster, draft_resv, draft_step}
 use Rattle.set_canonical.specs.Words.{plugin_word, protocol_word, resv_kind_word, kind_word}
 use Rattle.set_canonical.specs.Values.{cluster_data, sem_data, resv_data, step_data, piece_data, name_at, array_data}
 

@@ -1,6 +1,5 @@
 -- The canonical text of a setup reads as that setup.
-use Rattle.std.proofs.Common.{◌≡◌, ℕ, ◌≤◌, List, [], ◌∷◌, Bool, true, false, map, Option, Some, None, Ok, ap, arith}
-use Rattle.std.specs.Str.{IsUtf8}
+use Rattle.std.proofs.Common.{◌≡◌, ℕ, ◌≤◌, List, [], ◌∷◌, Bool, true, false, map, Option, Some, None, Result, Ok, Err, ◌↔◌, refl, ap, sym, subst, ◌∙◌, arith}
 use Rattle.std.proofs.lemmas.Str.{is_utf8-from_IsUtf8}
 use Rattle.rt_base.specs.declared.SemNo.{SemNo}
 use Rattle.rt_base.specs.declared.ResvNo.{ResvNo}
@@ -15,14 +14,19 @@ use Rattle.rt_task.specs.declared.Drive.TheVariants.{Steps, Horizon}
 use Rattle.rt_task.specs.declared.Parts.{Parts}
 use Rattle.rt_task.specs.declared.draft.Piece.{Piece}
 use Rattle.rt_task.specs.declared.draft.Piece.TheVariants.{Works, Once}
-use Rattle.rt_task.specs.Draft.{runs, draft_of}
-use Rattle.rt_task.specs.Validity.{refusal, refusal_of, IsValid}
+use Rattle.rt_task.specs.declared.bad_set.BadSet.{BadSet}
+use Rattle.rt_task.specs.declared.draft.Draft.{Draft}
+use Rattle.rt_task.specs.Answers.{accepted}
+use Rattle.rt_task.specs.Draft.{runs, draft_of, parts_of}
+use Rattle.rt_task.specs.Validity.{refusal, whole_refusal, refusal_of, IsValid}
+use Rattle.rt_task.proofs.AcceptLaws.{valid_parts_of}
 use Rattle.serde_json.specs.Data.{Data, string, depth, items_depth}
 use Rattle.serde_json.specs.Read.{max_depth}
 use Rattle.serde_json.specs.View.{items_of}
 use Rattle.set_canonical.specs.Canonical.{canonical, set_data}
 use Rattle.set_canonical.specs.Values.{cluster_data, sem_data, resv_data, task_data, step_data, piece_data, op_items, act_items, name_at, sem_names, resv_names, task_names}
-use Rattle.set_read.specs.Sets.{set, value_of, draft_in_bytes}
+use Rattle.set_read.specs.Sets.{◌>>=◌, set, value_of, draft_in_bytes}
+use Rattle.set_read.proofs.ShapeLaws.{set-read}
 use Rattle.set_laws.proofs.CompactLaws.{IsStored, IsUtf8-compact_text, read-compact_text}
 use Rattle.set_laws.proofs.KnownLaws.{has_fresh, is_readable}
 use Rattle.set_laws.proofs.Passing.{rows}
@@ -112,3 +116,36 @@ set-of-canonical p valid =
     let h = rows (draft_of p) valid in
     let fresh = has_fresh p h in
     set-canonical p (is_readable p fresh h) (is_stored p h) h.unrefused
+
+-- ---- documents
+
+-- what a document says is a valid set
+set-valid : (bytes : List ℕ) (p : Parts) → set bytes ≡ Ok p → IsValid p
+unfolding set
+set-valid bytes p h = by_draft (draft_in_bytes bytes) refl
+  where
+    by_refusal : (d : Draft) (o : Option BadSet) → whole_refusal d ≡ o → accepted d o ≡ Ok p → IsValid p
+    by_refusal d None k e = let same_parts : parts_of d ≡ p = cc in subst IsValid same_parts (valid_parts_of d k)
+    by_refusal d (Some b) k e = absurd cc
+
+    by_draft : (r : Result Draft BadSet) → draft_in_bytes bytes ≡ r → IsValid p
+    by_draft (Ok d) e = by_refusal d (whole_refusal d) refl (sym (set-read bytes d e) ∙ h)
+    by_draft (Err b) e =
+        let stopped : set bytes ≡ Err b = ap (λ (r : Result Draft BadSet). r >>= λ draft. accepted draft (refusal draft)) e in
+        absurd (let f = sym stopped ∙ h in cc)
+
+pub document-canonical : (bytes : List ℕ) (p : Parts) → set bytes ≡ Ok p → set (canonical p) ≡ Ok p
+document-canonical bytes p h = set-of-canonical p (set-valid bytes p h)
+
+-- one text says one set
+one_set : (bytes : List ℕ) (p q : Parts) → set bytes ≡ Ok p → set bytes ≡ Ok q → p ≡ q
+one_set bytes p q h k = cc
+
+pub canonical-kept : (p q : Parts) → IsValid p → set (canonical p) ≡ Ok q → canonical q ≡ canonical p
+canonical-kept p q valid h = ap canonical (one_set (canonical p) q p h (set-of-canonical p valid))
+
+pub canonical-apart : (a b : List ℕ) (p q : Parts) → set a ≡ Ok p → set b ≡ Ok q → (canonical p ≡ canonical q) ↔ (p ≡ q)
+canonical-apart a b p q h k = (
+  λ same. one_set (canonical p) p q (document-canonical a p h) (ap set same ∙ document-canonical b q k),
+  λ same. ap canonical same,
+)

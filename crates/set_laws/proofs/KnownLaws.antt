@@ -1,5 +1,5 @@
 -- In a valid set each number stands for an element, and each task has its own number.
-use Rattle.std.proofs.Common.{◌≡◌, ℕ, ◌+◌, ◌==◌, List, [], ◌∷◌, ◌++◌, Bool, true, false, not, ◌&&◌, ◌||◌, cond, length, map, nat_lt, Option, Some, None, refl, ap, ap₂, sym, subst, ◌∙◌, arith}
+use Rattle.std.proofs.Common.{◌≡◌, ℕ, ◌+◌, List, [], ◌∷◌, ◌++◌, Bool, true, false, ◌&&◌, cond, length, map, nat_lt, Option, Some, None, refl, ap, subst, ◌∙◌, arith}
 use Rattle.std.specs.Prelude.{bytes_eq}
 use Rattle.std.specs.List.{list_all, list_any}
 use Rattle.std.proofs.lemmas.Bool.{and_parts, eqb-true}
@@ -22,7 +22,7 @@ use Rattle.rt_task.specs.declared.draft.DraftTask.{DraftTask}
 use Rattle.rt_task.specs.declared.draft.DraftStep.{DraftStep}
 use Rattle.rt_task.specs.declared.draft.Piece.{Piece}
 use Rattle.rt_task.specs.declared.draft.Piece.TheVariants.{Works, Once}
-use Rattle.rt_task.specs.Draft.{runs, one_more_work, op_front, draft_of, draft_resv, draft_step, draft_drive, steps_of}
+use Rattle.rt_task.specs.Draft.{runs, one_more_work, draft_of, draft_resv, draft_step, draft_drive, steps_of}
 use Rattle.rt_task.specs.NameRules.{sem_name, resv_name, task_name, step_name, op_is_known, piece_is_known, resv_is_known, act_is_known}
 use Rattle.rt_task.specs.Refusals.{first_failing}
 use Rattle.rt_task.specs.RuleWords.{is_known, is_name, sem_numbers, no_repeat}
@@ -32,7 +32,7 @@ use Rattle.set_canonical.specs.Values.{sem_names, resv_names, task_names}
 use Rattle.set_laws.proofs.BackLaws.{KnowsOp, KnowsOps, KnowsAct}
 use Rattle.set_laws.proofs.Passing.{Rows, passed, not_true}
 use Rattle.set_laws.proofs.PositionLaws.{Fresh, fresh-by, known_position, known-mapped, map-map}
-use Rattle.set_laws.proofs.WholeLaws.{KnowsUses, KnowsResv, KnowsTask, KnowsActs, KnowsDrive, AreRead, IsReadable, names_in, canonical_plan}
+use Rattle.set_laws.proofs.WholeLaws.{KnowsUses, KnowsResv, KnowsActs, KnowsDrive, AreRead, IsReadable, names_in, canonical_plan}
 
 -- the names of each kind of element are new
 pub record HasFresh (p : Parts) : Type 0 where

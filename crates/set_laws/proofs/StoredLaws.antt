@@ -2,9 +2,8 @@
 use Rattle.std.proofs.Common.{◌≡◌, ℕ, zero, suc, ◌+◌, ◌-◌, ◌*◌, ◌^◌, max, ◌<◌, ◌≤◌, ◌==◌, List, [], ◌∷◌, ◌++◌, Bool, true, false, ◌&&◌, ◌||◌, codes, fold, length, get_or, map, nat_le, nat_lt, Option, Some, None, refl, ap, sym, subst, ◌∙◌, arith}
 use Rattle.std.specs.Str.{IsUtf8}
 use Rattle.std.specs.List.{list_all}
-use Rattle.std.specs.Prelude.{slice_get, unwrap_or}
 use Rattle.std.proofs.Math.Nat.{mul-suc}
-use Rattle.std.proofs.lemmas.Bool.{and_parts, or_cases, eqb-true, leb-true, ltb-true, lt-ltb}
+use Rattle.std.proofs.lemmas.Bool.{and_parts, eqb-true, leb-true, ltb-true, lt-ltb}
 use Rattle.std.proofs.lemmas.List.{length-append, length-map}
 use Rattle.std.proofs.lemmas.Option.{unwrap_or-slice_get}
 use Rattle.rt_base.specs.declared.ResvNo.{ResvNo}
@@ -465,14 +464,13 @@ module _ (p : Parts) where
       clusters = clusters_stored p [] p.clusters (omega arith) (let few = few_clusters h in omega arith) h.clusters_in_range
 
       by_drive : (d : Drive) → first_failing (step_range (draft_of p)) [] (steps_of (draft_drive d)) ≡ None → horizon_fits (draft_of p) (draft_drive d) ≡ true → IsStored (set_data (record p { drive = d }))
-      by_drive (Steps ss) k l =
-          (
-            refl,
-            (
-              key (codes "clusters") refl,
-              clusters,
-              lists_stored h (member (codes "steps") (array_data (step_data (sem_names p.sems) (task_names p.tasks)) ss) tasks_member) (key (codes "steps") refl, steps_stored h ss k, tasks_member_stored h),
-            ),
-          )
+      by_drive (Steps ss) k l = (
+        refl,
+        (
+          key (codes "clusters") refl,
+          clusters,
+          lists_stored h (member (codes "steps") (array_data (step_data (sem_names p.sems) (task_names p.tasks)) ss) tasks_member) (key (codes "steps") refl, steps_stored h ss k, tasks_member_stored h),
+        ),
+      )
       by_drive (Horizon n) k l =
           (refl, (key (codes "clusters") refl, clusters, (key (codes "horizon") refl, horizon_stored h n l, lists_stored h tasks_member (tasks_member_stored h))))

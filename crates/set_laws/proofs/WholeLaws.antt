@@ -10,7 +10,7 @@ use Rattle.rt_task.specs.declared.Drive.TheVariants.{Steps, Horizon}
 use Rattle.rt_task.specs.declared.Parts.{Parts}
 use Rattle.rt_task.specs.declared.bad_set.Part.{Part}
 use Rattle.rt_task.specs.declared.bad_set.Part.TheVariants as parts
-use Rattle.serde_json.specs.Data.{Data, string, null}
+use Rattle.serde_json.specs.Data.{Data, string}
 use Rattle.serde_json.specs.View.{items_of}
 use Rattle.rt_task.specs.declared.draft.DraftTask.{DraftTask}
 use Rattle.set_read.specs.Forms as forms
