@@ -1,8 +1,8 @@
 -- The parts of a draft that no rule refuses are a valid set.
-use Rattle.std.proofs.Common.{◌≡◌, ℕ, ◌+◌, ◌-◌, ◌==◌, List, [], ◌∷◌, ◌++◌, Bool, true, false, not, ◌&&◌, ◌||◌, cond, length, map, nat_lt, nat_le, Option, Some, None, refl, ap, ap₂, sym, ◌∙◌, arith}
+use Rattle.std.proofs.Common.{◌≡◌, ℕ, ◌+◌, ◌-◌, ◌==◌, List, [], ◌∷◌, ◌++◌, Bool, true, false, not, ◌&&◌, ◌||◌, cond, length, map, nat_lt, nat_le, Option, Some, None, refl, ap, ap₂, sym, ◌∙◌}
 use Rattle.std.specs.Prelude.{option_map, unwrap_or, bytes_eq, filter, slice_get}
 use Rattle.std.specs.List.{list_all, list_any}
-use Rattle.std.proofs.lemmas.Bool.{and_parts, and_from}
+use Rattle.std.proofs.lemmas.Bool.{and_parts}
 use Rattle.std.proofs.lemmas.List.{length-map, map-append}
 use Rattle.std.proofs.lemmas.Option.{slice_get-map}
 use Rattle.rt_base.specs.declared.TheConstants.{TICK_END, MOST_TASKS}
@@ -18,10 +18,8 @@ use Rattle.rt_task.specs.declared.bad_set.SetKind.TheVariants as kinds
 use Rattle.rt_task.specs.declared.bad_set.Part.{Part}
 use Rattle.rt_task.specs.declared.bad_set.Part.TheVariants as parts
 use Rattle.rt_task.specs.declared.draft.Draft.{Draft}
-use Rattle.rt_task.specs.declared.draft.DraftCluster.{DraftCluster}
 use Rattle.rt_task.specs.declared.draft.DraftDrive.{DraftDrive}
 use Rattle.rt_task.specs.declared.draft.DraftDrive.TheVariants.{Steps, Horizon}
-use Rattle.rt_task.specs.declared.draft.DraftResv.{DraftResv}
 use Rattle.rt_task.specs.declared.draft.DraftStep.{DraftStep}
 use Rattle.rt_task.specs.declared.draft.DraftTask.{DraftTask}
 use Rattle.rt_task.specs.declared.draft.Piece.{Piece}
@@ -32,7 +30,7 @@ use Rattle.rt_task.specs.Lookups.{cpus, group_of, cluster_with, is_pcp_sem, clus
 use Rattle.rt_task.specs.NameRules.{sem_name, resv_name, task_name, step_name, act_is_known, op_is_known, piece_is_known, resv_is_known}
 use Rattle.rt_task.specs.RangeRules.{whole_range, cluster_range, resv_range, task_range, step_range}
 use Rattle.rt_task.specs.Refusals.{bad, first, whole, each, first_failing}
-use Rattle.rt_task.specs.RuleWords.{is_empty, is_known, is_name, is_span, is_prio, is_periodic, is_p_res, has, has_horizon, no_repeat, all_same, stands_under, is_of_one_cluster, piece_in_range, body_len, sem_numbers}
+use Rattle.rt_task.specs.RuleWords.{is_empty, is_known, is_name, is_span, is_prio, is_periodic, is_p_res, has, has_horizon, no_repeat, all_same, stands_under, is_of_one_cluster, piece_in_range, sem_numbers}
 use Rattle.rt_task.specs.SharingRules.{clusters_sharing, sem_sharing, resv_sharing, resv_fits, task_sharing, act_is_in_group, step_sharing}
 use Rattle.rt_task.specs.SizeRules.{horizon_fits, whole_size, task_size}
 use Rattle.rt_task.specs.Validity.{task_shape, range_rows, name_rows, sharing_rows, size_rows, refusal, whole_refusal, refusal_of, IsValid}

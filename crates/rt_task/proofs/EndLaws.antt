@@ -1,8 +1,7 @@
 -- Laws of where each cluster's processors end.
-use Rattle.std.proofs.Common.{◌≡◌, ℕ, zero, suc, ◌+◌, ◌-◌, ◌<◌, ◌≤◌, List, [], ◌∷◌, Bool, true, false, cond, length, get_or, nat_lt, nat_le, refl, ap, sym, subst, ◌∙◌, arith}
+use Rattle.std.proofs.Common.{◌≡◌, ℕ, zero, suc, ◌+◌, ◌-◌, ◌<◌, ◌≤◌, List, [], ◌∷◌, true, false, cond, length, get_or, nat_lt, nat_le, ap, sym, ◌∙◌, arith}
 use Rattle.std.specs.List.Sorted.{IsPartitionPoint, IsPartitionedBy}
 use Rattle.std.proofs.lemmas.Bool.{leb-true, leb-false, le-leb, lt-ltb, le-ltb}
-use Rattle.std.proofs.lemmas.Bool.Decides.{nat_tests}
 use Rattle.rt_task.specs.declared.draft.DraftCluster.{DraftCluster}
 use Rattle.rt_task.specs.Ends.{ends_from}
 use Rattle.rt_task.specs.Lookups.{cluster_among}

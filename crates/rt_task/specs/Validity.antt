@@ -1,12 +1,7 @@
 -- The rules of a set as a table, each row a kind, a part of the set and a test; and valid sets.
 use Rattle.std.specs.Prelude.{Bool, not, ◌&&◌, ◌||◌, List, [], ◌∷◌, Option, None, ◌≡◌}
 use Rattle.rt_task.specs.declared.bad_set.BadSet.{BadSet}
-use Rattle.rt_task.specs.declared.Cluster.{Cluster}
 use Rattle.rt_task.specs.declared.Parts.{Parts}
-use Rattle.rt_task.specs.declared.Resv.{Resv}
-use Rattle.rt_task.specs.declared.Sem.{Sem}
-use Rattle.rt_task.specs.declared.Step.{Step}
-use Rattle.rt_task.specs.declared.Task.{Task}
 use Rattle.rt_task.specs.declared.draft.Draft.{Draft}
 use Rattle.rt_task.specs.declared.draft.DraftTask.{DraftTask}
 use Rattle.rt_task.specs.Draft.{draft_of, steps_of}

@@ -1,17 +1,21 @@
-//! A set before its rules are tried.
+//! A set before its rules are tried: numbers have 64 bits, bodies stand in pieces, a name that is
+//! unknown stands as number 0.
 ghost use Rattle.std.specs.Prelude.{◌≡◌};
 
 use crate::{Act, Kind, Name, Op, PluginKind, ResvKind, SemList, SemNos};
 use rt_base::{ResvNo, TaskNo};
 use std::marker::Model;
 
-/// A part of a body: so many units of work, or one operation.
+/// A part of a body.
 #[derive(Clone, Copy, Debug, PartialEq, Eq)]
 pub enum Piece {
+    /// So many units of work.
     Works(u64),
+    /// One operation.
     Once(Op),
 }
 
+/// The pieces of a body, in order.
 #[derive(Drop)]
 pub struct Pieces {
     items: Vec<Piece>,
@@ -27,12 +31,14 @@ impl Model for Pieces {
 }
 
 impl Pieces {
+    /// The list of these elements.
     pub fn from_vec(items: Vec<Piece>) -> Pieces
         ensures { result ≡ items.items }
     {
         Pieces { items }
     }
 
+    /// The elements, in order.
     pub fn as_slice(&self) -> &[Piece]
         ensures { result.now ≡ self.now }
     {
@@ -40,12 +46,14 @@ impl Pieces {
     }
 }
 
+/// A cluster; its group is a number from 0.
 #[derive(Clone, Copy, Debug, PartialEq, Eq)]
 pub struct DraftCluster {
     pub cpus: u64,
     pub group: u64,
 }
 
+/// A reservation; its cluster is a number from 0, its budget and period are in ticks.
 #[derive(Drop)]
 pub struct DraftResv {
     pub name: Name,
@@ -56,7 +64,7 @@ pub struct DraftResv {
     pub prio: u64,
 }
 
-/// A task with its body in pieces.
+/// A task with its body in pieces; its cluster is a number from 0, durations are in ticks.
 #[derive(Drop)]
 pub struct DraftTask {
     pub number: TaskNo,
@@ -75,6 +83,7 @@ pub struct DraftTask {
     pub early: bool,
 }
 
+/// A step of a processor, which is a number from 0, at a tick.
 #[derive(Clone, Copy, Debug, PartialEq, Eq)]
 pub struct DraftStep {
     pub cpu: u64,
@@ -82,6 +91,7 @@ pub struct DraftStep {
     pub act: Act,
 }
 
+/// Clusters, numbered from 0.
 #[derive(Drop)]
 pub struct DraftClusters {
     items: Vec<DraftCluster>,
@@ -97,12 +107,14 @@ impl Model for DraftClusters {
 }
 
 impl DraftClusters {
+    /// The list of these elements.
     pub fn from_vec(items: Vec<DraftCluster>) -> DraftClusters
         ensures { result ≡ items.items }
     {
         DraftClusters { items }
     }
 
+    /// The elements, in order.
     pub fn as_slice(&self) -> &[DraftCluster]
         ensures { result.now ≡ self.now }
     {
@@ -110,6 +122,7 @@ impl DraftClusters {
     }
 }
 
+/// Reservations, numbered from 1.
 #[derive(Drop)]
 pub struct DraftResvs {
     items: Vec<DraftResv>,
@@ -125,18 +138,21 @@ impl Model for DraftResvs {
 }
 
 impl DraftResvs {
+    /// The list of these elements.
     pub fn from_vec(items: Vec<DraftResv>) -> DraftResvs
         ensures { result ≡ items.items }
     {
         DraftResvs { items }
     }
 
+    /// The elements, in order.
     pub fn as_slice(&self) -> &[DraftResv]
         ensures { result.now ≡ self.now }
     {
         self.items.as_slice()
     }
 
+    /// The elements themselves, in order.
     pub fn into_vec(self) -> Vec<DraftResv>
         ensures { result.items ≡ self }
     {
@@ -144,6 +160,7 @@ impl DraftResvs {
     }
 }
 
+/// Tasks, numbered from 1.
 #[derive(Drop)]
 pub struct DraftTasks {
     items: Vec<DraftTask>,
@@ -159,18 +176,21 @@ impl Model for DraftTasks {
 }
 
 impl DraftTasks {
+    /// The list of these elements.
     pub fn from_vec(items: Vec<DraftTask>) -> DraftTasks
         ensures { result ≡ items.items }
     {
         DraftTasks { items }
     }
 
+    /// The elements, in order.
     pub fn as_slice(&self) -> &[DraftTask]
         ensures { result.now ≡ self.now }
     {
         self.items.as_slice()
     }
 
+    /// The elements themselves, in order.
     pub fn into_vec(self) -> Vec<DraftTask>
         ensures { result.items ≡ self }
     {
@@ -178,6 +198,7 @@ impl DraftTasks {
     }
 }
 
+/// Steps, in order.
 #[derive(Drop)]
 pub struct DraftSteps {
     items: Vec<DraftStep>,
@@ -193,12 +214,14 @@ impl Model for DraftSteps {
 }
 
 impl DraftSteps {
+    /// The list of these elements.
     pub fn from_vec(items: Vec<DraftStep>) -> DraftSteps
         ensures { result ≡ items.items }
     {
         DraftSteps { items }
     }
 
+    /// The elements, in order.
     pub fn as_slice(&self) -> &[DraftStep]
         ensures { result.now ≡ self.now }
     {
@@ -206,12 +229,16 @@ impl DraftSteps {
     }
 }
 
+/// What a draft runs by.
 #[derive(Drop)]
 pub enum DraftDrive {
+    /// These steps.
     Steps(DraftSteps),
+    /// The bodies of the tasks, through so many ticks.
     Horizon(u64),
 }
 
+/// A set before its rules are tried.
 #[derive(Drop)]
 pub struct Draft {
     pub plugin: PluginKind,

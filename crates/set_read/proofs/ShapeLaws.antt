@@ -1,7 +1,6 @@
 -- In a draft that was read, each task of a set with a horizon is periodic and has a body.
 use Rattle.std.proofs.Common.{◌≡◌, ℕ, ◌+◌, List, [], ◌∷◌, ◌++◌, Bool, true, false, not, ◌&&◌, ◌||◌, cond, length, map, Option, Some, None, Result, Ok, Err, refl, ap, sym, subst, ◌∙◌}
 use Rattle.std.specs.Prelude.{filter_map, option_map}
-use Rattle.rt_task.specs.declared.Parts.{Parts}
 use Rattle.rt_task.specs.declared.Sem.{Sem}
 use Rattle.rt_task.specs.declared.bad_set.BadSet.{BadSet}
 use Rattle.rt_task.specs.declared.bad_set.Part.TheVariants as parts

@@ -10,3 +10,6 @@ mod read;
 mod tasks;
 
 pub use read::read_set;
+
+#[cfg(test)]
+mod tests;

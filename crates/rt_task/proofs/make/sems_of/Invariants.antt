@@ -1,5 +1,4 @@
-use Rattle.std.proofs.Common.{◌≡◌, map, take}
-use Rattle.rt_task.specs.Draft as spec
+use Rattle.std.proofs.Common.{◌≡◌, take}
 use Rattle.rt_task.proofs.make.sems_of.Given as goal
 
 abbrev pub invariant-loop-s : goal.invariant-loop-s

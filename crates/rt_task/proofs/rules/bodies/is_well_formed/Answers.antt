@@ -1,9 +1,8 @@
-use Rattle.std.proofs.Common.{◌≡◌, ℕ, ◌+◌, ◌<◌, ◌≤◌, List, Bool, true, false, not, ◌&&◌, ◌-◌, cond, Option, Some, None, length, drop, get_or, map, ap, sym, ◌∙◌, arith}
+use Rattle.std.proofs.Common.{◌+◌, List, Bool, not, ◌&&◌, ◌-◌, cond, Some, None, length, drop, map, ap, sym, ◌∙◌}
 use Rattle.rt_base.specs.declared.SemNo.{SemNo}
-use Rattle.rt_task.specs.declared.Op.{Op}
 use Rattle.rt_task.specs.declared.draft.Piece.{Piece}
 use Rattle.rt_task.specs.declared.draft.Piece.TheVariants.{Works, Once}
-use Rattle.rt_task.specs.Bodies.{Holding, after_op, goes_on}
+use Rattle.rt_task.specs.Bodies.{Holding, goes_on}
 use Rattle.std.proofs.lemmas.Bool.{eq-eqb, ne_eqb}
 use Rattle.rt_task.specs.RuleWords.{is_empty}
 use Rattle.rt_task.specs.Lookups.{is_pcp_sem}

@@ -1,4 +1,3 @@
-use Rattle.std.proofs.Common.{List}
 use Rattle.rt_base.specs.declared.SemNo.{SemNo}
 use Rattle.rt_task.specs.NamesSeen.{has_number}
 use Rattle.rt_task.proofs.NameLaws.{numbers-next}

@@ -1,4 +1,4 @@
-use Rattle.std.proofs.Common.{◌≡◌, ◌+◌, ◌<◌, List, not, true, false, length, take, ap, sym, ◌∙◌}
+use Rattle.std.proofs.Common.{◌≡◌, List, not, true, false, take, ap, sym, ◌∙◌}
 use Rattle.rt_task.specs.declared.Sem.{Sem}
 use Rattle.rt_task.specs.declared.bad_set.Part.TheVariants as parts
 use Rattle.rt_task.specs.declared.bad_set.SetKind.TheVariants as kinds

@@ -1,10 +1,9 @@
-use Rattle.std.proofs.Common.{◌≡◌, ℕ, ◌+◌, ◌<◌, List, [], length, get_or, take, cond, map, ap, sym, subst, ◌∙◌}
+use Rattle.std.proofs.Common.{◌≡◌, ◌+◌, ◌<◌, List, length, get_or, cond, map, ap, sym, subst, ◌∙◌}
 use Rattle.rt_base.specs.declared.SemNo.{SemNo}
 use Rattle.rt_task.specs.declared.draft.DraftTask.{DraftTask}
 use Rattle.rt_task.specs.declared.rules.spread.Spread.{Spread}
 use Rattle.std.proofs.lemmas.List.{take_all}
 use Rattle.rt_task.specs.RuleWords.{has}
-use Rattle.rt_task.specs.SharingRules.{clusters_sharing}
 use Rattle.rt_task.specs.Spreads.{spread_of, added, clusters_among}
 use Rattle.rt_task.proofs.SpreadLaws.{spread-task, clusters_sharing-all, get_or-written}
 use Rattle.rt_task.proofs.rules.spread.spreads_of.Goals as goal
