@@ -1,5 +1,5 @@
 -- What a run of `sim` reads and writes.
-use Rattle.std.specs.Prelude.{◌≡◌, ℕ, ◌≤◌, Bool, true, false, List, [], ◌∷◌, length, codes, bytes_eq, string_bytes, String, Option, Result, Ok, Err, if◌then◌else◌}
+use Rattle.std.specs.Prelude.{◌≡◌, ℕ, ◌≤◌, Bool, true, false, List, [], ◌∷◌, length, codes, bytes_eq, string_bytes, String, Option, Result, Ok, Err, if◌then◌else◌, ◌⊎◌, ⊤, ⊥}
 use Rattle.std.specs.declared.alloc.Global.{Global}
 use Rattle.rt_base.specs.declared.TheConstants.{MOST_SET_BYTES}
 use Rattle.rt_task.specs.declared.Parts.{Parts}
@@ -8,10 +8,14 @@ use Rattle.rt_task.specs.declared.bad_set.SetKind.TheVariants.{Unbuilt}
 use Rattle.rt_task.specs.declared.bad_set.Part.TheVariants.{Whole}
 use Rattle.rt_task.specs.Refusals.{bad}
 use Rattle.rt_task.specs.Validity.{IsValid}
-use Rattle.rt_fault.specs.Held.{Held, Extends, ExtendsByPrefix}
+use Rattle.rt_fault.specs.Held.{Held, Extends, ExtendsByPrefix, Stays}
+use Rattle.rt_fault.specs.declared.status.Status.{Status}
+use Rattle.rt_fault.specs.declared.status.Status.TheVariants.{Usage, BadInput, ReadFault, TooLong}
 use Rattle.rt_fault.specs.Reading.{TakesAll}
 use Rattle.set_read.specs.Sets.{set, ◌>>=◌}
 use Rattle.group_engine.specs.Built.{is_built}
+use Rattle.trace_text.specs.TraceText.{trace_text, format_1}
+use Rattle.rtsim.specs.Order.{histories}
 
 -- the one command so far
 abbrev pub is_command : List (String Global) → Bool
@@ -40,3 +44,31 @@ pub record WasRefused (left left' : Option (List ℕ)) (b : BadSet) : Type 0 whe
   pub all : TakesAll left left' bytes
   pub within : length bytes ≤ MOST_SET_BYTES
   pub refused : playable bytes ≡ Err b
+
+-- the trace of a set: the text of its canonical set and of the one legal history of each group
+abbrev pub set_trace : Parts → List ℕ
+set_trace p = trace_text format_1 p (histories p)
+
+-- a set was read, and its whole trace came
+pub record WasPlayed (left left' : Option (List ℕ)) (held held' : Held) : Type 0 where
+  pub setup : Parts
+  pub read : WasRead left left' setup
+  pub written : Extends held held' (set_trace setup)
+
+-- a set was read, and a first part of its trace came
+pub record WasCut (left left' : Option (List ℕ)) (held held' : Held) : Type 0 where
+  pub setup : Parts
+  pub read : WasRead left left' setup
+  pub written : ExtendsByPrefix held held' (set_trace setup)
+
+-- memory ran out: before anything was written, or in the writing
+abbrev pub CameShort : Option (List ℕ) → Option (List ℕ) → Held → Held → Type 0
+CameShort left left' held held' = Stays held held' ⊎ WasCut left left' held held'
+
+-- nothing is written where the input was not read, or is refused
+abbrev pub IsUnwritten : Status → Type 0
+IsUnwritten Usage = ⊤
+IsUnwritten (BadInput bad) = ⊤
+IsUnwritten ReadFault = ⊤
+IsUnwritten TooLong = ⊤
+IsUnwritten _ = ⊥

@@ -3,6 +3,7 @@
 
 mod input;
 mod play;
+mod sim;
 mod words;
 
 fn main() {}

@@ -5,7 +5,7 @@ ghost use Rattle.rt_task.specs.declared.bad_set.BadSet.{BadSet};
 ghost use Rattle.rt_fault.specs.Faults.{HasRisen};
 ghost use Rattle.rt_fault.specs.Reading.{TakesAtMost, TakesMoreThan};
 ghost use Rattle.rt_model.specs.Histories.{LinksAreTheTop};
-ghost use Rattle.rtsim.specs.Sim.{is_command, IsUnwritten, WasPlayed, WasCut, WasRefused, CanPlay, IsWell};
+ghost use Rattle.rtsim.specs.Sim.{is_command, IsUnwritten, WasPlayed, WasCut, CameShort, WasRefused};
 
 use crate::input::read_input;
 use crate::play::play;
