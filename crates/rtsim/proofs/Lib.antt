@@ -1,3 +1,4 @@
 pub mod OrderLaws
 pub mod GivenSteps
 pub mod PlayableLaws
+pub mod SimLaws

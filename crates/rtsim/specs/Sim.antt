@@ -1,5 +1,5 @@
 -- What a run of `sim` reads and writes.
-use Rattle.std.specs.Prelude.{◌≡◌, ℕ, ◌≤◌, Bool, true, false, List, [], ◌∷◌, length, codes, bytes_eq, string_bytes, String, Option, Result, Ok, Err, if◌then◌else◌, ◌⊎◌, ⊤, ⊥}
+use Rattle.std.specs.Prelude.{◌≡◌, ℕ, ◌≤◌, Bool, true, false, List, [], ◌∷◌, length, codes, bytes_eq, string_bytes, String, Option, None, Some, Result, Ok, Err, IsOk, if◌then◌else◌, ◌⊎◌, ⊤}
 use Rattle.std.specs.declared.alloc.Global.{Global}
 use Rattle.rt_base.specs.declared.TheConstants.{MOST_SET_BYTES}
 use Rattle.rt_task.specs.declared.Parts.{Parts}
@@ -11,6 +11,7 @@ use Rattle.rt_task.specs.Validity.{IsValid}
 use Rattle.rt_fault.specs.Held.{Held, Extends, ExtendsByPrefix, Stays}
 use Rattle.rt_fault.specs.declared.status.Status.{Status}
 use Rattle.rt_fault.specs.declared.status.Status.TheVariants.{Usage, BadInput, ReadFault, TooLong}
+use Rattle.rt_fault.specs.declared.status.Status.TheVariants as ends
 use Rattle.rt_fault.specs.Reading.{TakesAll}
 use Rattle.set_read.specs.Sets.{set, ◌>>=◌}
 use Rattle.group_engine.specs.Built.{is_built}
@@ -72,3 +73,14 @@ IsUnwritten (BadInput bad) = ⊤
 IsUnwritten ReadFault = ⊤
 IsUnwritten TooLong = ⊤
 IsUnwritten _ = ⊥
+
+-- what is still to come is told, and is within the limit and a set that is played
+abbrev pub CanPlay : Option (List ℕ) → Type 0
+CanPlay None = ⊥
+CanPlay (Some bytes) = (length bytes ≤ MOST_SET_BYTES) × IsOk (playable bytes)
+
+-- the set was played, unless memory ran out
+abbrev pub IsWell : Status → Type 0
+IsWell ends.Ok = ⊤
+IsWell ends.NoMemory = ⊤
+IsWell _ = ⊥

@@ -5,7 +5,7 @@ ghost use Rattle.rt_task.specs.declared.bad_set.BadSet.{BadSet};
 ghost use Rattle.rt_fault.specs.Faults.{HasRisen};
 ghost use Rattle.rt_fault.specs.Reading.{TakesAtMost, TakesMoreThan};
 ghost use Rattle.rt_model.specs.Histories.{LinksAreTheTop};
-ghost use Rattle.rtsim.specs.Sim.{is_command, IsUnwritten, WasPlayed, WasCut, CameShort, WasRefused};
+ghost use Rattle.rtsim.specs.Sim.{is_command, IsUnwritten, WasPlayed, WasCut, CameShort, WasRefused, CanPlay, IsWell};
 
 use crate::input::read_input;
 use crate::play::play;
@@ -46,6 +46,9 @@ pub fn sim<S: Source, K: Sink>(
     ensures write_fault { result ≡ Status.WriteFault → HasRisen (K.faults out.old) (K.faults out.new) }
     ensures cut_by_fault { result ≡ Status.WriteFault → WasCut (S.left src.old) (S.left src.new) (K.held out.old) (K.held out.new) }
     ensures no_memory { result ≡ Status.NoMemory → CameShort (S.left src.old) (S.left src.new) (K.held out.old) (K.held out.new) }
+
+    // A command on a whole set that is played, from a source and to a sink without fault, is done, unless memory runs out.
+    ensures complete { is_command words.now ≡ true → CanPlay (S.left src.old) → ¬ (HasRisen (S.faults src.old) (S.faults src.new)) → ¬ (HasRisen (K.faults out.old) (K.faults out.new)) → IsWell result }
     ensures not_invalid { (line : ℕ) → result ≢ Status.Invalid line }
 {
     if !is_sim(words) {
