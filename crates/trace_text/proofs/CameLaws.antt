@@ -1,5 +1,5 @@
 -- Texts that come to a sink one after the other.
-use Rattle.std.proofs.Common.{◌≡◌, ℕ, ◌-◌, ◌^◌, ◌<◌, ◌≤◌, List, [], ◌++◌, length, take, refl, sym, ap, ◌∙◌, arith, append_assoc, append-nil, Bool, true, false, eqb-true, eq-eqb}
+use Rattle.std.proofs.Common.{◌≡◌, ℕ, ◌-◌, ◌^◌, ◌<◌, ◌≤◌, List, [], ◌++◌, refl, sym, ap, ◌∙◌, arith, append_assoc, append-nil, Bool, true, false, eqb-true, eq-eqb}
 use Rattle.std.specs.Prelude.{◌==◌, ◌≢◌}
 use Rattle.std.specs.Prelude.{Result, Ok, Err, IsErrAnd, OnOk, OnErr}
 use Rattle.rt_fault.specs.Faults.{HasRisen}
@@ -23,11 +23,11 @@ coming-start h f text = record { front = []; came = Extends-none h; counted = om
 -- the next part came
 pub coming-next : (a b c : Held) (f g h : ℕ) (text part left : List ℕ) → Coming a b f g text (part ++ left) → Came (Ok tt) b c g h part → Coming a c f h text left
 coming-next a b c f g h text part left s p = record {
-    front = s.front ++ part;
-    came = Extends-append a b c s.front part s.came p.0;
-    counted = omega (arith, s.counted, p.1);
-    split = s.split ∙ sym (append_assoc s.front part left);
-  }
+  front = s.front ++ part;
+  came = Extends-append a b c s.front part s.came p.0;
+  counted = omega (arith, s.counted, p.1);
+  split = s.split ∙ sym (append_assoc s.front part left);
+}
 
 -- a count that rose has risen from each count before it
 risen : (f g h : ℕ) → f ≤ g → g ≤ h → HasRisen g h → HasRisen f h

@@ -2,3 +2,4 @@ pub mod CameLaws
 pub mod CpuLaws
 pub mod ReplayLaws
 pub mod LineLaws
+pub mod GroupLaws

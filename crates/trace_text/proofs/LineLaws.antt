@@ -1,6 +1,6 @@
 -- The lines of a group, part by part as they are written.
-use Rattle.std.proofs.Common.{◌≡◌, ℕ, zero, suc, ◌+◌, ◌<◌, ◌≤◌, Bool, true, false, List, [], ◌∷◌, ◌++◌, length, map, drop, get_or, refl, sym, ap, ◌∙◌, subst, arith, append-nil, append_assoc}
-use Rattle.std.specs.Prelude.{All, flat_map, Option, None, Some, if◌then◌else◌, nat_lt}
+use Rattle.std.proofs.Common.{◌≡◌, ℕ, zero, suc, ◌+◌, ◌<◌, ◌≤◌, Bool, true, false, List, [], ◌∷◌, ◌++◌, length, map, drop, get_or, refl, sym, ap, ◌∙◌, arith, append-nil, append_assoc}
+use Rattle.std.specs.Prelude.{All, flat_map, Option, if◌then◌else◌, nat_lt}
 use Rattle.std.proofs.lemmas.Bool.Decides.{nat_tests}
 use Rattle.std.proofs.lemmas.Grind.{flat_map-append}
 use Rattle.std.proofs.Math.Seq.{drop-cons}
@@ -12,7 +12,7 @@ use Rattle.rt_history.specs.declared.Entry.{Entry}
 use Rattle.rt_base.specs.declared.CpuNo.{CpuNo}
 use Rattle.rt_rules.specs.Numbers.{numbers_from, rest}
 use Rattle.rt_task.specs.Validity.{IsValid}
-use Rattle.rt_rules.specs.SemState.{SemAct, Asks, Frees, Neither}
+use Rattle.rt_rules.specs.SemState.{Neither}
 use Rattle.rt_model.specs.Blocking.{requests, asked_by}
 use Rattle.rt_model.specs.Group.{Group, group_processors}
 use Rattle.rt_model.specs.Histories.{after, changed, clock_moved, past_from, past_of}
@@ -41,7 +41,7 @@ texts ls = flat_map line_text ls
 -- the line of the next entry, and the lines after it
 pub entries_next : (g : Group) (i : ℕ) (p : Past) (es : List Entry) (d : Entry) → i < length es
     → texts (entry_lines g i p (drop i es))
-      ≡ line_text (entry_line i (get_or es i d) (links_at g (after g (get_or es i d).step p) (changed g p (after g (get_or es i d).step p)))) ++ texts (entry_lines g (i + 1) (after g (get_or es i d).step p) (drop (i + 1) es))
+    ≡ line_text (entry_line i (get_or es i d) (links_at g (after g (get_or es i d).step p) (changed g p (after g (get_or es i d).step p)))) ++ texts (entry_lines g (i + 1) (after g (get_or es i d).step p) (drop (i + 1) es))
 unfolding entry_lines
 entries_next g i p es d low =
     let next : i + 1 ≡ suc i = omega arith in
@@ -85,8 +85,8 @@ no_request g p e built none =
     let act_is : d.act ≡ e.step.act = past_act-act g e.step.cpu.0 e.step.act (clock_moved e.step p) in
     let nothing : sem_act (Acted d) ≡ Neither = quiet_event d (rw act_is built) in
     ap requests (after-acted g e.step p) ∙ requests-acted d (clock_moved e.step p)
-      ∙ ap (λ a. asked_by a (entries_in (clock_moved e.step p)) (requests (clock_moved e.step p))) nothing
-      ∙ requests-clock e.step.tick.0 p ∙ none
+    ∙ ap (λ a. asked_by a (entries_in (clock_moved e.step p)) (requests (clock_moved e.step p))) nothing
+    ∙ requests-clock e.step.tick.0 p ∙ none
 
 pub requests_none : (g : Group) (p : Past) (es : List Entry) → All (IsPlayedEntry g) es → requests p ≡ [] → requests (past_from g p es) ≡ []
 unfolding past_from

@@ -1,9 +1,8 @@
 -- An engine that takes the steps of another again, and the links of its processors.
-use Rattle.std.proofs.Common.{◌≡◌, ℕ, zero, suc, ◌+◌, ◌<◌, ◌≤◌, ◌==◌, Bool, true, false, not, ◌||◌, List, [], ◌∷◌, ◌++◌, length, map, get_or, refl, sym, ap, ◌∙◌, subst, arith}
+use Rattle.std.proofs.Common.{◌≡◌, ℕ, zero, suc, ◌+◌, ◌≤◌, ◌==◌, Bool, true, false, not, List, [], ◌∷◌, map, get_or, refl, sym, ap, ◌∙◌, subst, arith}
 use Rattle.std.specs.Prelude.{All, filter, if◌then◌else◌, Result, Ok, Err, OnOk}
 use Rattle.rt_base.specs.declared.CpuNo.{CpuNo}
 use Rattle.rt_task.specs.declared.Step.{Step}
-use Rattle.rt_history.specs.declared.Entry.{Entry}
 use Rattle.rt_history.specs.declared.Reply.{Reply}
 use Rattle.rt_rules.specs.Numbers.{has, same}
 use Rattle.rt_rules.proofs.BoolLaws.{or_true}

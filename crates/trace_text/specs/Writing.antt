@@ -1,5 +1,5 @@
 -- How a writer of a text ends.
-use Rattle.std.specs.Prelude.{◌≡◌, ℕ, ◌≤◌, List, Result, Ok, Err}
+use Rattle.std.specs.Prelude.{ℕ, ◌≤◌, List, Result, Ok, Err}
 use Rattle.rt_fault.specs.Faults.{HasRisen}
 use Rattle.rt_fault.specs.Held.{Held, Extends, ExtendsByPrefix}
 use Rattle.trace_text.specs.declared.stop.WriteStop.{WriteStop}

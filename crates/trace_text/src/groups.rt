@@ -19,7 +19,12 @@ use set_canonical::canonical_of_parts;
 use std::alloc::Global;
 
 /// The lines of entries, whose steps are taken again.
-fn write_entries<K: Sink>(replay: &mut Replay, entries: &[Entry], line: &mut Vec<u8>, out: &mut K) -> Result<(), WriteStop>
+fn write_entries<K: Sink>(
+    replay: &mut Replay,
+    entries: &[Entry],
+    line: &mut Vec<u8>,
+    out: &mut K,
+) -> Result<(), WriteStop>
     requires follows { Follows replay.old.engine replay.old.cpus.items replay.old.links.items }
     requires room { length entries.now ≤ replay.old.engine.spare }
     requires few { length entries.now ≤ 200000 }
@@ -55,7 +60,12 @@ fn write_group<K: Sink>(
 }
 
 /// The lines of the groups, and the line `end`.
-fn write_groups<K: Sink>(alloc: Global, setup: &Setup, groups: &[Engine], out: &mut K) -> Result<(), WriteStop>
+fn write_groups<K: Sink>(
+    alloc: Global,
+    setup: &Setup,
+    groups: &[Engine],
+    out: &mut K,
+) -> Result<(), WriteStop>
     requires groups { AreGroupsOf setup.now groups.now }
     requires few { length groups.now ≤ 64 }
     requires built { is_built setup.now ≡ true }
@@ -79,7 +89,12 @@ fn write_head<K: Sink>(alloc: Global, parts: &Parts, out: &mut K) -> Result<(), 
 }
 
 /// The whole trace.
-pub fn write_all<K: Sink>(alloc: Global, setup: &Setup, groups: &[Engine], out: &mut K) -> Result<(), WriteStop>
+pub fn write_all<K: Sink>(
+    alloc: Global,
+    setup: &Setup,
+    groups: &[Engine],
+    out: &mut K,
+) -> Result<(), WriteStop>
     requires groups { AreGroupsOf setup.now groups.now }
     requires built { is_built setup.now ≡ true }
     ensures { Came result (K.held out.old) (K.held out.new) (K.faults out.old) (K.faults out.new) (trace_text format_1 setup.now (histories groups.now)) }

@@ -43,7 +43,11 @@ fn is_same(a: Option<TaskNo>, b: Option<TaskNo>) -> bool
 
 #[tactic(auto, using(std::proofs::Common::append_assoc))]
 /// Puts those of the links that are others now, as they are now, in the place of what stood in `changed`.
-pub fn read_changed(engine: &Engine, links: &[CpuLink], changed: &mut Vec<CpuLink>) -> Result<(), NoMemory>
+pub fn read_changed(
+    engine: &Engine,
+    links: &[CpuLink],
+    changed: &mut Vec<CpuLink>,
+) -> Result<(), NoMemory>
     requires { All (λ x. IsProcessorOf (group_of engine.now) x.cpu.0) links.now }
     ensures { OnOk result (links_of changed.new.items ≡ groups.changed_links (λ q. linked (group_of engine.now) q (past engine.now)) (links_of links.now)) }
 {

@@ -1,6 +1,5 @@
-use Rattle.std.proofs.Common.{◌≡◌, ℕ, List, [], ◌++◌, drop, length, ap, sym, ◌∙◌, append-nil, arith}
+use Rattle.std.proofs.Common.{◌≡◌, [], drop, ap, sym, ◌∙◌, append-nil, arith}
 use Rattle.rt_task.specs.declared.Parts.{Parts}
-use Rattle.rt_task.specs.declared.Cluster.{Cluster}
 use Rattle.trace_text.specs.Groups.{cpu_numbers}
 use Rattle.trace_text.proofs.CpuLaws.{cpus_among, group_processors_among}
 use Rattle.trace_text.proofs.LineLaws.{drop_end}
