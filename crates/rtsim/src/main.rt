@@ -1,9 +1,70 @@
-//! rtsim: plays the steps of modelled processors in a given order.
+//! `rtsim`: plays the steps of modelled processors in a given order, and prints the trace.
 #![tactic(auto)]
 
+mod fault_line;
 mod input;
 mod play;
 mod sim;
+#[cfg(test)]
+mod tests;
 mod words;
 
-fn main() {}
+pub use sim::sim;
+
+use fault_line::FaultLine;
+use rt_fault::{Status, StdSink, StdSource};
+use std::env;
+use std::io::{self, BufWriter, ErrorKind, Write};
+use std::process::ExitCode;
+
+/// Runs the command between standard input and standard output. What a failed flush keeps back is a failed write.
+fn run(rt: &HostRuntime, words: &[String]) -> Status {
+    let alloc = rt.alloc();
+    let Ok(mut buffer) = BufWriter::new(alloc, io::writer(rt)) else {
+        return Status::NoMemory;
+    };
+    let mut src = StdSource::new(rt.reader());
+    let mut out = StdSink::new(&mut buffer);
+    let status = sim(alloc, words, &mut src, &mut out);
+    match buffer.flush() {
+        Err(_) if status == Status::Ok => Status::WriteFault,
+        _ => status,
+    }
+}
+
+/// A line on standard output.
+fn say(rt: &HostRuntime, line: &str) -> Status {
+    match println!(rt; "{line}") {
+        Ok(()) => Status::Ok,
+        Err(_) => Status::WriteFault,
+    }
+}
+
+/// Answers `--help` and `--version`, and runs all other words.
+fn answer(rt: &HostRuntime, words: &[String]) -> Status {
+    match words {
+        [word] if word.as_str() == "--help" => say(rt, "usage: rtsim sim"),
+        [word] if word.as_str() == "--version" => say(rt, "rtsim 0.1.0"),
+        _ => run(rt, words),
+    }
+}
+
+/// Answers the words after the program's name. Where one is not UTF-8 the words are no command.
+fn status_of_words(rt: &HostRuntime) -> Status {
+    match env::args(rt) {
+        Ok(args) => match args.skip(1).collect::<Vec<String>>(rt.alloc()) {
+            Ok(words) => answer(rt, words.as_slice()),
+            Err(_) => Status::NoMemory,
+        },
+        Err(error) if error.kind() == ErrorKind::OutOfMemory => Status::NoMemory,
+        Err(_) => Status::Usage,
+    }
+}
+
+fn main(rt: HostRuntime) -> ExitCode {
+    let status = status_of_words(&rt);
+    if status != Status::Ok {
+        let _ = eprintln!(rt; "rtsim: {}", FaultLine(status));
+    }
+    ExitCode::from(status.code())
+}
