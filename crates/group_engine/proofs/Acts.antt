@@ -1,9 +1,7 @@
 -- What each act makes of the state that is kept.
-use Rattle.std.proofs.Common.{◌≡◌, ℕ, zero, suc, ◌+◌, ◌-◌, ◌<◌, ◌≤◌, Bool, true, false, not, ◌&&◌, ◌||◌, cond, ◌⊎◌, inl, inr, eqb-true, List, [], ◌∷◌, length, map, get_or, set, refl, sym, ap, ◌∙◌, subst, arith, length-set, get_or-set_same, get_or-set_other}
-use Rattle.std.specs.Prelude.{Option, None, Some, ◌==◌, nat_lt, nat_le, is_some, if◌then◌else◌}
+use Rattle.std.proofs.Common.{◌≡◌, ℕ, zero, suc, ◌+◌, ◌-◌, ◌<◌, ◌≤◌, Bool, true, false, ◌&&◌, cond, eqb-true, ◌∷◌, length, map, get_or, set, refl, sym, ap, ◌∙◌, subst, arith, length-set, get_or-set_same, get_or-set_other}
+use Rattle.std.specs.Prelude.{Option, None, Some, ◌==◌, nat_le, is_some}
 use Rattle.std.proofs.lemmas.Bool.Decides.{nat_tests}
-use Rattle.rt_base.specs.declared.TaskNo.{TaskNo}
-use Rattle.rt_task.specs.declared.Task.{Task}
 use Rattle.rt_task.specs.declared.Act.{Act}
 use Rattle.rt_task.specs.declared.Act.TheVariants as acts
 use Rattle.rt_task.specs.declared.Op.{Op}
@@ -11,27 +9,26 @@ use Rattle.rt_task.specs.declared.Op.TheVariants as ops
 use Rattle.rt_history.specs.declared.Reply.{Reply}
 use Rattle.rt_history.specs.declared.Reply.TheVariants as replies
 use Rattle.rt_rules.specs.Numbers.{has, is, same, numbers_from}
-use Rattle.rt_rules.specs.Placing.{at_place, placed}
 use Rattle.rt_rules.proofs.PlacingLaws.{equal_self}
-use Rattle.rt_model.specs.Group.{Group, task, cpus, tasks, tasks_of, home, first_cpu, cluster_with, processors}
-use Rattle.rt_model.specs.Past.{PastAct, Clock, Acted, Past, now, accepted, did, operation}
+use Rattle.rt_model.specs.Group.{Group, task, cpus, tasks_of, first_cpu, processors}
+use Rattle.rt_model.specs.Past.{PastAct, Acted, Past, now, accepted, operation}
 use Rattle.rt_model.specs.Jobs.{done}
 use Rattle.rt_model.specs.Sleep.{sleep_end}
 use Rattle.rt_model.specs.NonPreemptive.{np_after}
 use Rattle.rt_model.specs.Runs.{runs, runs_after, runs_by, leaves}
-use Rattle.rt_model.specs.Links.{runs_of, links, linked, pending}
+use Rattle.rt_model.specs.Links.{runs_of}
 use Rattle.rt_model.specs.Answers.{answer, last_work, works_at}
-use Rattle.rt_model.specs.Outcomes.{past_act, ended, ended_by, is_spent, attempt}
-use Rattle.rt_model.proofs.Steps.{runs-acted, past_act-cpu, past_act-reply, past_act-task, past_act-end, past_act-tick}
-use Rattle.link_table.specs.Linked.{Linked, irq_reply, is_pending, is_deferred, link_reply, link_of, runs_on, with_run, after_irq}
+use Rattle.rt_model.specs.Outcomes.{past_act, ended, ended_by, is_spent}
+use Rattle.rt_model.proofs.Steps.{runs-acted, past_act-cpu, past_act-reply, past_act-end, past_act-tick}
+use Rattle.link_table.specs.Linked.{Linked, irq_reply, is_pending, link_reply, link_of, runs_on, with_run, after_irq}
 use Rattle.group_engine.specs.Built.{is_built_act}
-use Rattle.group_engine.specs.Moves.{replaced, has_worked, job_ended}
-use Rattle.group_engine.specs.State.{State, IsKept, linked_of, top_tasks, release_at}
+use Rattle.group_engine.specs.Moves.{replaced, has_worked}
+use Rattle.group_engine.specs.State.{State, IsKept, linked_of, release_at}
 use Rattle.group_engine.proofs.PlainGroup.{IsPlainGroup}
 use Rattle.group_engine.proofs.Plain.{IsPlainTask}
 use Rattle.group_engine.proofs.PlainModel.{plain-task}
 use Rattle.group_engine.proofs.Kept.{IsStill, kept-still, kept-end, ended_state, settled}
-use Rattle.group_engine.proofs.Replies.{linked-at, runs-at, irq-reply, idle-reply, work-reply, end-reply}
+use Rattle.group_engine.proofs.Replies.{irq-reply, end-reply}
 
 -- ---- what runs, processor by processor
 

@@ -1,17 +1,16 @@
 -- Operations of the task that a processor runs: what is answered, and what is kept.
 use Rattle.std.proofs.Common.{◌≡◌, ℕ, ◌+◌, ◌-◌, ◌*◌, ◌^◌, ◌<◌, ◌≤◌, Bool, true, false, cond, List, ◌∷◌, length, get_or, refl, sym, ap, ◌∙◌, subst, arith}
-use Rattle.std.specs.Prelude.{Option, None, Some, ◌==◌, nat_eq, nat_le}
+use Rattle.std.specs.Prelude.{Option, None, Some, nat_eq, nat_le}
 use Rattle.std.specs.Option.{option_eq}
 use Rattle.rt_task.specs.declared.Task.{Task}
 use Rattle.rt_task.specs.declared.Act.TheVariants as acts
 use Rattle.rt_task.specs.declared.Op.{Op}
 use Rattle.rt_task.specs.declared.Op.TheVariants as ops
-use Rattle.rt_base.specs.declared.TheConstants.{TICK_END}
 use Rattle.rt_order.specs.declared.Key.{Key}
 use Rattle.rt_history.specs.declared.Reply.TheVariants as replies
 use Rattle.rt_rules.specs.Numbers.{same}
 use Rattle.rt_rules.specs.Distinct.{IsDistinct}
-use Rattle.rt_model.specs.Group.{Group, no_task, task, cpus, tasks_of}
+use Rattle.rt_model.specs.Group.{Group, no_task, task, cpus}
 use Rattle.rt_model.specs.Past.{Acted, Past, now}
 use Rattle.rt_model.specs.Jobs.{done}
 use Rattle.rt_rules.specs.Placing.{placed, at_place}
@@ -23,7 +22,7 @@ use Rattle.rt_model.specs.Outcomes.{past_act}
 use Rattle.group_engine.specs.Moves.{has_worked, job_ended, replaced}
 use Rattle.group_engine.specs.Queue as queue
 use Rattle.group_engine.specs.Queue.{without_task}
-use Rattle.group_engine.specs.State.{State, IsKept, Moment, CanAct, CanOperate, release_at, key_at, wait_key, top_tasks, linked_of}
+use Rattle.group_engine.specs.State.{State, IsKept, Moment, CanAct, CanOperate, release_at, key_at, top_tasks, linked_of}
 use Rattle.group_engine.proofs.Plain.{IsPlainTask}
 use Rattle.group_engine.proofs.PlainGroup.{IsPlainGroup}
 use Rattle.group_engine.proofs.PlainModel.{plain-task}

@@ -1,13 +1,12 @@
 -- After the clock moved, those wait whose release is later, and all others are ready.
-use Rattle.std.proofs.Common.{◌≡◌, ℕ, ◌+◌, ◌<◌, ◌≤◌, Bool, true, false, not, ◌&&◌, ◌||◌, cond, ◌⊎◌, inl, inr, eqb-true, List, [], ◌∷◌, length, map, get_or, max, add-one, refl, sym, ap, ◌∙◌, subst, arith}
-use Rattle.std.specs.Prelude.{◌==◌, nat_lt, nat_le, filter, Option, None, Some, slice_get, drop}
+use Rattle.std.proofs.Common.{◌≡◌, ℕ, ◌+◌, ◌<◌, ◌≤◌, Bool, true, false, not, ◌&&◌, ◌||◌, cond, ◌⊎◌, inl, inr, eqb-true, List, [], ◌∷◌, length, get_or, max, add-one, refl, sym, ap, ◌∙◌, subst, arith}
+use Rattle.std.specs.Prelude.{◌==◌, nat_le, None, Some, slice_get, drop}
 use Rattle.std.proofs.lemmas.Bool.Decides.{nat_tests}
 use Rattle.rt_order.specs.declared.Key.{Key}
-use Rattle.rt_order.specs.KeyOrder.{higher, equal_keys}
 use Rattle.rt_rules.specs.Numbers.{has}
 use Rattle.rt_rules.specs.Distinct.{IsDistinct}
-use Rattle.rt_rules.specs.Keys.{Ranked, ahead, inserted, sorted}
-use Rattle.rt_rules.proofs.PlacingLaws.{unless, equal_self, or_true}
+use Rattle.rt_rules.specs.Keys.{Ranked, ahead, inserted}
+use Rattle.rt_rules.proofs.PlacingLaws.{equal_self}
 use Rattle.rt_rules.proofs.RankedLaws.{tasks_ranked}
 use Rattle.group_engine.specs.Queue.{without_task, ranked_by}
 use Rattle.group_engine.specs.Due.{ready_task, due_ready, not_due}

@@ -1,32 +1,27 @@
 -- What is kept after a move is of the past with that move.
-use Rattle.std.proofs.Common.{◌≡◌, ◌≢◌, ℕ, zero, suc, ◌+◌, ◌-◌, ◌*◌, ◌<◌, ◌≤◌, max, Bool, true, false, not, ◌&&◌, ◌||◌, cond, ◌⊎◌, inl, inr, eqb-true, List, [], ◌∷◌, ◌++◌, length, map, take, get_or, set, refl, sym, ap, ◌∙◌, subst, arith, length-set, get_or-set_same, get_or-set_other}
-use Rattle.std.specs.Prelude.{Option, None, Some, ◌==◌, nat_lt, nat_le, if◌then◌else◌, is_some}
+use Rattle.std.proofs.Common.{◌≡◌, ℕ, ◌+◌, ◌-◌, ◌<◌, ◌≤◌, max, Bool, true, false, not, ◌&&◌, cond, eqb-true, List, ◌∷◌, length, get_or, set, refl, sym, ap, ◌∙◌, arith, length-set, get_or-set_same, get_or-set_other}
+use Rattle.std.specs.Prelude.{Option, None, Some, ◌==◌, nat_le}
 use Rattle.std.proofs.lemmas.Bool.Decides.{nat_tests}
 use Rattle.rt_task.specs.declared.Act.{Act}
-use Rattle.rt_task.specs.declared.Act.TheVariants as acts
-use Rattle.rt_task.specs.declared.Op.TheVariants as ops
-use Rattle.rt_history.specs.declared.Reply.TheVariants as replies
 use Rattle.rt_rules.specs.Numbers.{has, is, numbers_from}
-use Rattle.rt_rules.specs.Distinct.{IsDistinct}
 use Rattle.rt_rules.specs.Keys.{Ranked, inserted}
-use Rattle.rt_rules.specs.Placing.{placed, tasks_in}
-use Rattle.rt_model.specs.Group.{Group, task, cpus, tasks_of, processors}
-use Rattle.rt_model.specs.Past.{PastAct, Event, Clock, Acted, Past, now, did, ends_job, is_work}
+use Rattle.rt_rules.specs.Placing.{placed}
+use Rattle.rt_model.specs.Group.{Group, task, cpus, tasks_of}
+use Rattle.rt_model.specs.Past.{PastAct, Event, Clock, Acted, Past, now, did}
 use Rattle.rt_model.specs.Jobs.{done}
 use Rattle.rt_model.specs.Sleep.{wakes, sleep_end}
 use Rattle.rt_model.specs.NonPreemptive.{non_preemptive, np_after}
-use Rattle.rt_model.specs.Runs.{runs, runs_after}
-use Rattle.rt_model.specs.Tops.{top, ranking}
+use Rattle.rt_model.specs.Runs.{runs}
+use Rattle.rt_model.specs.Tops.{top}
 use Rattle.rt_model.specs.Links.{runs_of, links}
-use Rattle.rt_model.specs.Answers.{last_work, works_at}
+use Rattle.rt_model.specs.Answers.{last_work}
 use Rattle.rt_model.specs.Outcomes.{past_act}
-use Rattle.rt_model.specs.Made.{IsMade, opened, clocked, acted}
+use Rattle.rt_model.specs.Made.{clocked, acted}
 use Rattle.rt_rules.proofs.PlacingLaws.{equal_self}
-use Rattle.rt_model.proofs.Steps.{done-step, runs-clock, runs-acted, links-step}
+use Rattle.rt_model.proofs.Steps.{done-step, links-step}
 use Rattle.rt_model.proofs.PastLaws.{IsSingle, single, processor-home, length-runs_of}
 use Rattle.rt_model.proofs.TopLaws.{distinct-top, length-top, distinct-tasks_of}
 use Rattle.group_engine.specs.Queue.{ranked_by, without_task}
-use Rattle.group_engine.specs.Due.{due_ready, not_due}
 use Rattle.group_engine.specs.State.{State, IsKept, top_tasks, release_at, key_at, wait_key}
 use Rattle.rt_rules.proofs.NumberLaws.{has-numbers_from}
 use Rattle.group_engine.proofs.PlainGroup.{IsPlainGroup, task_range}

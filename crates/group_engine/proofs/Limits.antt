@@ -1,10 +1,9 @@
 -- How large the parts of the state can grow.
-use Rattle.std.proofs.Common.{◌≡◌, ℕ, zero, suc, ◌+◌, ◌-◌, ◌*◌, ◌^◌, ◌<◌, ◌≤◌, Bool, true, false, not, ◌&&◌, ◌||◌, cond, List, [], ◌∷◌, ◌++◌, length, map, get_or, refl, sym, ap, ◌∙◌, subst, arith}
-use Rattle.std.specs.Prelude.{◌==◌, nat_lt, nat_le, filter, All, ⊤, Some}
+use Rattle.std.proofs.Common.{◌≡◌, ℕ, zero, suc, ◌+◌, ◌*◌, ◌^◌, ◌<◌, ◌≤◌, Bool, true, false, not, cond, List, [], ◌∷◌, length, map, refl, sym, ap, ◌∙◌, subst, arith}
+use Rattle.std.specs.Prelude.{◌==◌, nat_le, filter, All, ⊤, Some}
 use Rattle.std.proofs.lemmas.Bool.Decides.{nat_tests}
 use Rattle.std.proofs.Math.Nat.{mul-le-mul_left, mul-le-mul_right}
 use Rattle.std.proofs.lemmas.List.{length-map}
-use Rattle.rt_task.specs.declared.Task.{Task}
 use Rattle.rt_base.specs.declared.TheConstants.{TICK_END}
 use Rattle.rt_order.specs.declared.Key.{Key}
 use Rattle.rt_history.specs.declared.Entry.{Entry}
@@ -14,10 +13,9 @@ use Rattle.rt_rules.specs.Keys.{Ranked, ahead, inserted, sorted}
 use Rattle.rt_rules.proofs.RankedLaws.{tasks_ranked, distinct-sorted}
 use Rattle.rt_rules.proofs.PlacingLaws.{equal_self, or_true, distinct-filter}
 use Rattle.rt_rules.proofs.NumberLaws.{has-numbers_from}
-use Rattle.rt_model.specs.Group.{Group, no_task, task, cpus, tasks_of}
-use Rattle.rt_model.specs.Past.{Past, now, ends_job, number_of}
+use Rattle.rt_model.specs.Group.{Group, task, cpus, tasks_of}
+use Rattle.rt_model.specs.Past.{Past, now, ends_job}
 use Rattle.rt_model.specs.Jobs.{done}
-use Rattle.rt_model.specs.Links.{runs_of}
 use Rattle.rt_model.specs.Runs.{runs}
 use Rattle.rt_model.specs.Made.{IsMade}
 use Rattle.rt_model.specs.Histories.{past_of}

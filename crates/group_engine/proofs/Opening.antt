@@ -1,19 +1,15 @@
 -- The state at opening: all tasks wait for their first releases, and those that are due are ready.
-use Rattle.std.proofs.Common.{◌≡◌, ◌+◌, ◌-◌, ◌*◌, ◌^◌, ◌<◌, ◌≤◌, max, ℕ, zero, suc, Bool, true, false, not, List, [], ◌∷◌, length, map, get_or, refl, sym, ap, ◌∙◌, subst, arith}
-use Rattle.std.specs.Prelude.{Option, None, Some, All, filter, replicate, nat_le}
+use Rattle.std.proofs.Common.{◌≡◌, ◌+◌, ◌-◌, ◌^◌, ◌<◌, ◌≤◌, ℕ, zero, suc, true, false, not, List, [], ◌∷◌, length, map, get_or, refl, sym, ap, ◌∙◌, arith}
+use Rattle.std.specs.Prelude.{None, All, filter, replicate, nat_le}
 use Rattle.std.proofs.lemmas.List.{get_or_default, length-replicate, length-map}
 use Rattle.std.proofs.lemmas.List.Elements.{All-from_get_or}
-use Rattle.std.proofs.lemmas.Bool.Decides.{nat_tests}
-use Rattle.rt_base.specs.declared.TheConstants.{TICK_END}
 use Rattle.rt_task.specs.declared.Task.{Task}
-use Rattle.rt_history.specs.declared.Entry.{Entry}
 use Rattle.rt_order.specs.declared.Key.{Key}
 use Rattle.rt_rules.specs.Numbers.{has, numbers_from}
 use Rattle.rt_rules.specs.Distinct.{IsDistinct}
 use Rattle.rt_rules.specs.Keys.{Ranked, inserted}
 use Rattle.rt_rules.specs.Placing.{placed}
 use Rattle.rt_model.specs.Group.{Group, no_task, no_cluster, task, cluster, cpus, tasks_of, processors, first_cpu}
-use Rattle.rt_model.specs.Past.{Past, now}
 use Rattle.rt_model.specs.Jobs.{done}
 use Rattle.rt_model.specs.Sleep.{wakes}
 use Rattle.rt_model.specs.NonPreemptive.{non_preemptive}
@@ -23,20 +19,18 @@ use Rattle.rt_model.specs.Tops.{top}
 use Rattle.rt_model.specs.Answers.{last_work}
 use Rattle.rt_model.specs.Made.{IsMade}
 use Rattle.rt_model.specs.Made as made
-use Rattle.rt_model.specs.Histories.{past_of, past_from, IsLegal}
+use Rattle.rt_model.specs.Histories.{past_of, past_from}
 use Rattle.rt_model.proofs.TopLaws.{distinct-tasks_of}
 use Rattle.group_engine.specs.Queue.{ranked_by}
 use Rattle.group_engine.specs.Queue as queue
-use Rattle.group_engine.specs.Due.{due_ready, not_due}
 use Rattle.group_engine.specs.Moves.{opened, CanOpen}
-use Rattle.group_engine.specs.State.{State, IsKept, IsPlayed, IsSound, IsBounded, release_at, key_at, wait_key, rel_deadline_of, top_tasks}
+use Rattle.group_engine.specs.State.{State, IsKept, IsPlayed, IsSound, IsBounded, release_at, key_at, wait_key, rel_deadline_of}
 use Rattle.group_engine.proofs.Ranking.{ranked_by-same}
 use Rattle.group_engine.proofs.DueLaws.{due}
 use Rattle.group_engine.proofs.Plain.{IsPlainTask}
 use Rattle.group_engine.proofs.PlainGroup.{IsPlainGroup}
-use Rattle.group_engine.proofs.PlainModel.{plain-task}
 use Rattle.group_engine.proofs.Kept.{top-ready}
-use Rattle.group_engine.proofs.Limits.{plain, ranked_by-each, length-sorted, task-low, task-high, length-tasks, length-numbers, distinct-ready}
+use Rattle.group_engine.proofs.Limits.{plain, ranked_by-each, length-sorted, task-low, task-high, length-numbers, distinct-ready}
 
 -- the tasks by their first releases
 abbrev pub first_key : List Task → ℕ → Key

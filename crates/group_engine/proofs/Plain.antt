@@ -1,13 +1,12 @@
 -- What a valid set that is played so far looks like: one cluster, with all the tasks, and no semaphore.
-use Rattle.std.proofs.Common.{◌≡◌, ℕ, zero, suc, ◌+◌, ◌-◌, ◌<◌, ◌≤◌, Bool, true, false, not, ◌&&◌, ◌||◌, cond, List, [], ◌∷◌, length, map, take, get_or, eqb-true, refl, sym, ap, ◌∙◌, arith}
-use Rattle.std.specs.Prelude.{Option, None, Some, ◌==◌, nat_lt, nat_le, filter, slice_index_or, flat_map}
-use Rattle.std.specs.List.{list_all, list_any}
+use Rattle.std.proofs.Common.{◌≡◌, ℕ, zero, suc, ◌-◌, ◌<◌, ◌≤◌, Bool, true, false, not, ◌&&◌, List, [], ◌∷◌, length, get_or, eqb-true, refl, sym, ◌∙◌, arith}
+use Rattle.std.specs.Prelude.{Option, None, ◌==◌, nat_lt, nat_le}
+use Rattle.std.specs.List.{list_all}
 use Rattle.std.proofs.Math.ListN.{get_or-map}
 use Rattle.std.proofs.lemmas.Bool.Decides.{nat_tests}
 use Rattle.std.proofs.lemmas.List.{length-map}
 use Rattle.rt_task.specs.declared.Parts.{Parts}
 use Rattle.rt_task.specs.declared.Task.{Task}
-use Rattle.rt_task.specs.declared.Cluster.{Cluster}
 use Rattle.rt_task.specs.declared.Kind.{Kind}
 use Rattle.rt_task.specs.declared.Kind.TheVariants.{Periodic, Sporadic}
 use Rattle.rt_task.specs.declared.PluginKind.{PluginKind}
@@ -20,15 +19,13 @@ use Rattle.rt_task.specs.declared.draft.Draft.{Draft}
 use Rattle.rt_task.specs.declared.draft.DraftTask.{DraftTask}
 use Rattle.rt_task.specs.declared.draft.DraftCluster.{DraftCluster}
 use Rattle.rt_task.specs.Draft.{draft_of, draft_task, draft_cluster, runs, steps_of}
-use Rattle.rt_task.specs.Refusals.{first, each, whole}
+use Rattle.rt_task.specs.Refusals.{first, each}
 use Rattle.rt_task.specs.RuleWords.{within, is_empty, is_periodic, allows_clusters}
 use Rattle.rt_task.specs.RangeRules.{whole_range, cluster_range, task_range, step_range}
 use Rattle.rt_task.specs.SizeRules.{whole_size}
 use Rattle.rt_task.specs.Validity.{refusal, refusal_of, whole_refusal, range_rows, name_rows, sharing_rows, size_rows, task_shape, IsValid}
-use Rattle.rt_rules.specs.Numbers.{has, numbers_from}
-use Rattle.rt_model.specs.Group.{Group, no_task, no_cluster, task, cluster, cpus, home, in_group, clusters, tasks, tasks_of, sems}
+use Rattle.rt_model.specs.Group.{no_task, no_cluster}
 use Rattle.group_engine.specs.Built.{is_built, is_gsn_edf, is_built_task}
-use Rattle.group_engine.specs.Groups.{IsGroupOf}
 use Rattle.group_engine.proofs.Rules.{first-none, whole-none, each-none}
 
 -- a task of such a set

@@ -1,18 +1,17 @@
 -- The one group of such a set: cluster 0 with all processors and all tasks.
-use Rattle.std.proofs.Common.{◌≡◌, ℕ, zero, suc, ◌+◌, ◌-◌, ◌<◌, ◌≤◌, Bool, true, false, not, ◌&&◌, ◌||◌, cond, List, [], ◌∷◌, ◌++◌, length, map, take, get_or, eqb-true, refl, sym, ap, ◌∙◌, subst, arith, append-nil}
-use Rattle.std.specs.Prelude.{Option, None, Some, ◌==◌, nat_lt, nat_le, filter, slice_index_or, flat_map}
+use Rattle.std.proofs.Common.{◌≡◌, ℕ, ◌+◌, ◌-◌, ◌<◌, ◌≤◌, Bool, true, false, ◌||◌, List, [], ◌∷◌, length, get_or, eqb-true, refl, sym, ap, ◌∙◌, subst, arith, append-nil}
+use Rattle.std.specs.Prelude.{◌==◌, nat_lt, filter}
 use Rattle.std.specs.List.{list_any}
 use Rattle.std.proofs.lemmas.Bool.Decides.{nat_tests}
 use Rattle.rt_task.specs.declared.Parts.{Parts}
-use Rattle.rt_task.specs.declared.Task.{Task}
 use Rattle.rt_task.specs.declared.Cluster.{Cluster}
 use Rattle.rt_rules.specs.Numbers.{has, numbers_from}
 use Rattle.rt_rules.proofs.PlacingLaws.{equal_self, or_true}
 use Rattle.rt_rules.proofs.NumberLaws.{has-numbers_from}
 use Rattle.rt_model.proofs.PastLaws.{numbers_from-below}
-use Rattle.rt_model.specs.Group.{Group, no_task, no_cluster, task, cluster, cpus, home, in_group, clusters, tasks, tasks_of, sems, first_cpu, first_in, cluster_with, cluster_in, processors, group_processors}
+use Rattle.rt_model.specs.Group.{Group, no_cluster, task, cluster, cpus, home, in_group, clusters, tasks, tasks_of, sems, first_cpu, first_in, cluster_with, cluster_in, processors, group_processors}
 use Rattle.group_engine.specs.Groups.{IsGroupOf}
-use Rattle.group_engine.proofs.Plain.{IsPlainSet, IsPlainTask}
+use Rattle.group_engine.proofs.Plain.{IsPlainSet}
 
 pub record IsPlainGroup (g : Group) : Type 0 where
   pub set : IsPlainSet g.setup

@@ -1,26 +1,20 @@
 -- The definitions in such a group: a task is eligible from the release of its current job on, with the key of that job's deadline.
-use Rattle.std.proofs.Common.{◌≡◌, ℕ, zero, suc, ◌+◌, ◌-◌, ◌*◌, ◌<◌, ◌≤◌, Bool, true, false, not, ◌&&◌, ◌||◌, cond, List, [], ◌∷◌, length, map, take, get_or, refl, sym, ap, ◌∙◌, subst, arith}
-use Rattle.std.specs.Prelude.{Option, None, Some, ◌==◌, nat_lt, nat_le, filter, if◌then◌else◌}
+use Rattle.std.proofs.Common.{◌≡◌, ℕ, zero, suc, ◌-◌, Bool, true, false, not, ◌&&◌, ◌||◌, List, [], ◌∷◌, length, refl, ◌∙◌, arith}
+use Rattle.std.specs.Prelude.{Option, None, Some, nat_lt, nat_le, filter}
 use Rattle.std.proofs.lemmas.Bool.Decides.{nat_tests}
-use Rattle.rt_task.specs.declared.Task.{Task}
-use Rattle.rt_task.specs.declared.PluginKind.TheVariants.{GsnEdf}
-use Rattle.rt_order.specs.declared.Key.{Key}
-use Rattle.rt_rules.specs.Numbers.{has, numbers_from}
-use Rattle.rt_rules.specs.Keys.{Ranked, sorted, highest}
-use Rattle.rt_rules.specs.Walks.{walk, followers, inherited}
-use Rattle.rt_rules.proofs.PlacingLaws.{equal_self, or_true}
-use Rattle.rt_model.specs.Group.{Group, task, no_task, cpus, tasks, tasks_of, sems}
+use Rattle.rt_rules.specs.Numbers.{has}
+use Rattle.rt_rules.specs.Walks.{walk}
+use Rattle.rt_model.specs.Group.{Group, task, tasks, tasks_of}
 use Rattle.rt_model.specs.Past.{Past, now}
 use Rattle.rt_model.specs.Jobs.{done}
 use Rattle.rt_model.specs.Sleep.{wakes, sleeps}
-use Rattle.rt_model.specs.NonPreemptive.{non_preemptive}
 use Rattle.rt_model.specs.Releases.{release, release_by, deadline, is_released, opens_early, exists, ready}
 use Rattle.rt_model.specs.BaseKeys.{key_by, base_key}
 use Rattle.rt_model.specs.Holders.{holds, awaits}
 use Rattle.rt_model.specs.Boosts.{boost, boost_of}
 use Rattle.rt_model.specs.EffectiveKeys.{next_at, waits_for, effective_key}
-use Rattle.rt_model.specs.Tops.{is_served, eligible, ranking, top}
-use Rattle.group_engine.proofs.Plain.{IsPlainSet, IsPlainTask}
+use Rattle.rt_model.specs.Tops.{is_served, eligible, ranking}
+use Rattle.group_engine.proofs.Plain.{IsPlainTask}
 use Rattle.group_engine.proofs.PlainGroup.{IsPlainGroup, task_range}
 use Rattle.group_engine.specs.Queue.{ranked_by}
 use Rattle.group_engine.specs.State.{release_at, key_at}

@@ -1,21 +1,19 @@
 -- The steps of such a set: few, of the group's processors, with acts that are played.
-use Rattle.std.proofs.Common.{◌≡◌, ℕ, ◌+◌, ◌<◌, ◌≤◌, Bool, true, ◌&&◌, List, [], ◌∷◌, length, map, take, get_or, refl, sym, ap, ◌∙◌, subst, arith}
+use Rattle.std.proofs.Common.{◌≡◌, ℕ, ◌+◌, ◌<◌, ◌≤◌, true, List, [], ◌∷◌, length, map, get_or, refl, ap, subst, arith}
 use Rattle.std.specs.Prelude.{nat_lt, nat_le, All, None}
 use Rattle.std.specs.List.{list_all}
 use Rattle.std.proofs.Math.ListN.{get_or-map}
 use Rattle.std.proofs.lemmas.Bool.Decides.{nat_tests}
 use Rattle.std.proofs.lemmas.List.{length-map}
-use Rattle.rt_base.specs.declared.TheConstants.{TICK_END, MOST_STEPS}
+use Rattle.rt_base.specs.declared.TheConstants.{MOST_STEPS}
 use Rattle.rt_task.specs.declared.Parts.{Parts}
-use Rattle.rt_task.specs.declared.Cluster.{Cluster}
 use Rattle.rt_task.specs.declared.Step.{Step}
 use Rattle.rt_task.specs.declared.Drive.{Drive}
-use Rattle.rt_task.specs.declared.Drive.TheVariants.{Steps, Horizon}
+use Rattle.rt_task.specs.declared.Drive.TheVariants.{Steps}
 use Rattle.rt_task.specs.declared.SetKind.TheVariants as kinds
 use Rattle.rt_task.specs.declared.Part.TheVariants as parts
 use Rattle.rt_task.specs.declared.draft.Draft.{Draft}
 use Rattle.rt_task.specs.declared.draft.DraftCluster.{DraftCluster}
-use Rattle.rt_task.specs.declared.draft.DraftStep.{DraftStep}
 use Rattle.rt_task.specs.Draft.{draft_of, draft_cluster, draft_step, draft_drive, steps_of}
 use Rattle.rt_task.specs.Lookups as lookups
 use Rattle.rt_task.specs.Refusals.{each}
@@ -23,12 +21,11 @@ use Rattle.rt_task.specs.RangeRules.{step_range}
 use Rattle.rt_task.specs.RuleWords.{is_empty}
 use Rattle.rt_task.specs.SizeRules.{whole_size, horizon_fits}
 use Rattle.rt_task.specs.Validity.{IsValid}
-use Rattle.rt_rules.specs.Numbers.{has, numbers_from}
 use Rattle.rt_rules.proofs.NumberLaws.{numbers_from-has}
 use Rattle.rt_model.specs.Group.{Group, no_cluster, cluster, cpus}
-use Rattle.group_engine.specs.Built.{is_built, is_built_act, is_built_task, is_built_drive, is_gsn_edf}
+use Rattle.group_engine.specs.Built.{is_built, is_built_act, is_built_task, is_gsn_edf}
 use Rattle.group_engine.specs.Groups.{IsProcessorOf}
-use Rattle.group_engine.proofs.Plain.{IsPlainSet, InRange, plain-set, in_range, valid-refusal, both, all-at}
+use Rattle.group_engine.proofs.Plain.{InRange, plain-set, in_range, valid-refusal, both, all-at}
 use Rattle.group_engine.proofs.PlainGroup.{IsPlainGroup, plain-group, one}
 use Rattle.group_engine.proofs.Rules.{each-none}
 

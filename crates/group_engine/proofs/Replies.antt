@@ -1,26 +1,21 @@
 -- What each act is answered, read off the state that is kept.
-use Rattle.std.proofs.Common.{◌≡◌, ℕ, zero, suc, ◌+◌, ◌-◌, ◌<◌, ◌≤◌, Bool, true, false, not, ◌&&◌, ◌||◌, cond, List, [], ◌∷◌, length, map, get_or, set, refl, sym, ap, ◌∙◌, subst, arith}
-use Rattle.std.specs.Prelude.{Option, None, Some, ◌==◌, nat_lt, nat_le, is_some, if◌then◌else◌}
+use Rattle.std.proofs.Common.{◌≡◌, ℕ, zero, suc, ◌+◌, ◌-◌, ◌<◌, ◌≤◌, Bool, true, false, ◌&&◌, ◌||◌, cond, refl, sym, subst, arith}
+use Rattle.std.specs.Prelude.{Option, None, Some, ◌==◌, is_some}
 use Rattle.std.proofs.lemmas.Bool.Decides.{nat_tests}
-use Rattle.rt_base.specs.declared.TaskNo.{TaskNo}
-use Rattle.rt_task.specs.declared.Task.{Task}
-use Rattle.rt_task.specs.declared.Act.{Act}
 use Rattle.rt_task.specs.declared.Act.TheVariants as acts
 use Rattle.rt_task.specs.declared.Op.{Op}
 use Rattle.rt_task.specs.declared.Op.TheVariants as ops
-use Rattle.rt_history.specs.declared.Reply.{Reply}
 use Rattle.rt_history.specs.declared.Reply.TheVariants as replies
-use Rattle.rt_rules.specs.Numbers.{has, is, same, numbers_from}
+use Rattle.rt_rules.specs.Numbers.{has, same, numbers_from}
 use Rattle.rt_rules.specs.Placing.{at_place}
-use Rattle.rt_model.specs.Group.{Group, task, cpus, tasks, tasks_of, home, first_cpu, cluster_with, processors}
-use Rattle.rt_model.specs.Past.{PastAct, Clock, Acted, Past, now, accepted}
-use Rattle.rt_model.specs.NonPreemptive.{non_preemptive}
+use Rattle.rt_model.specs.Group.{Group, cpus, first_cpu, processors}
+use Rattle.rt_model.specs.Past.{Past, now}
 use Rattle.rt_model.specs.Runs.{runs}
-use Rattle.rt_model.specs.Links.{runs_of, links, linked, pending}
+use Rattle.rt_model.specs.Links.{runs_of, linked, pending}
 use Rattle.rt_model.specs.Answers.{answer, irq_answer, np_on, do_answer, op_answer, work_answer, no_budget, unless_holding, last_work}
 use Rattle.rt_model.specs.Answers as answers
 use Rattle.rt_model.proofs.PastLaws.{at_place-numbers}
-use Rattle.link_table.specs.Linked.{Linked, irq_reply, is_pending, is_deferred, link_reply, link_of, runs_on}
+use Rattle.link_table.specs.Linked.{irq_reply, is_pending, link_reply, link_of, runs_on}
 use Rattle.group_engine.specs.State.{State, IsKept, linked_of}
 use Rattle.group_engine.proofs.PlainGroup.{IsPlainGroup}
 use Rattle.group_engine.proofs.PlainModel.{holds-none}

@@ -1,5 +1,5 @@
 -- What a set that breaks no rule keeps: each row of the table at each element.
-use Rattle.std.proofs.Common.{◌≡◌, ℕ, zero, suc, ◌+◌, ◌<◌, Bool, true, false, cond, List, [], ◌∷◌, ◌++◌, length, take, get_or, refl, sym, ap, ◌∙◌, arith, append_assoc, append-nil}
+use Rattle.std.proofs.Common.{◌≡◌, ℕ, zero, suc, ◌<◌, Bool, true, false, cond, List, [], ◌∷◌, ◌++◌, length, take, get_or, refl, arith, append_assoc, append-nil}
 use Rattle.std.specs.Prelude.{Option, None, Some, option_map}
 use Rattle.rt_task.specs.declared.SetKind.{SetKind}
 use Rattle.rt_task.specs.declared.Part.{Part}

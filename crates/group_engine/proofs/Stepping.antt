@@ -1,8 +1,7 @@
 -- One step of the engine: what its parts rest on, and that what is kept stays sound.
-use Rattle.std.proofs.Common.{◌≡◌, ℕ, ◌+◌, ◌-◌, ◌^◌, ◌<◌, ◌≤◌, max, Bool, true, List, [], ◌∷◌, ◌++◌, length, get_or, refl, sym, ap, ◌∙◌, subst, arith, length-append}
-use Rattle.std.specs.Prelude.{All, Option}
+use Rattle.std.proofs.Common.{◌≡◌, ℕ, ◌+◌, ◌-◌, ◌^◌, ◌<◌, ◌≤◌, max, true, List, [], ◌∷◌, ◌++◌, length, get_or, sym, ap, ◌∙◌, subst, arith, length-append}
+use Rattle.std.specs.Prelude.{All}
 use Rattle.std.proofs.lemmas.List.Elements.{All-from_get_or, All-push}
-use Rattle.rt_base.specs.declared.TheConstants.{TICK_END}
 use Rattle.rt_task.specs.declared.Task.{Task}
 use Rattle.rt_task.specs.declared.Step.{Step}
 use Rattle.rt_history.specs.declared.Reply.{Reply}
@@ -10,13 +9,12 @@ use Rattle.rt_history.specs.declared.Entry.{Entry}
 use Rattle.rt_rules.specs.Numbers.{has, numbers_from}
 use Rattle.rt_rules.specs.Distinct.{IsDistinct}
 use Rattle.rt_rules.specs.Placing.{placed, at_place}
-use Rattle.rt_model.specs.Group.{Group, no_task, task, cpus, group_processors}
-use Rattle.rt_model.specs.Past.{Clock, Acted, Past}
-use Rattle.rt_model.specs.Outcomes.{past_act}
+use Rattle.rt_model.specs.Group.{Group, no_task, task, cpus}
+use Rattle.rt_model.specs.Past.{Clock}
 use Rattle.rt_model.specs.Runs.{runs}
 use Rattle.rt_model.specs.Links.{linked}
 use Rattle.group_engine.proofs.Replies.{linked-at, runs-at}
-use Rattle.rt_model.specs.Histories.{past_of, reply_to, IsLegal}
+use Rattle.rt_model.specs.Histories.{past_of, reply_to}
 use Rattle.rt_model.proofs.Steps.{past_of-append, after-acted, reply_to-lem, IsLegal-append}
 use Rattle.rt_model.proofs.PastLaws.{numbers_from-below}
 use Rattle.group_engine.specs.Groups.{IsProcessorOf, IsPlayedEntry}
@@ -25,7 +23,7 @@ use Rattle.group_engine.specs.Queue as queue
 use Rattle.group_engine.specs.Due.{due_ready}
 use Rattle.group_engine.specs.Moves.{clock_moved}
 use Rattle.group_engine.specs.State.{State, IsKept, IsPlayed, IsSound, IsBounded, Moment, CanAct, HasActed, rel_deadline_of, top_tasks}
-use Rattle.group_engine.proofs.Plain.{IsPlainSet, IsPlainTask}
+use Rattle.group_engine.proofs.Plain.{IsPlainTask}
 use Rattle.group_engine.proofs.PlainGroup.{IsPlainGroup}
 use Rattle.group_engine.proofs.Kept.{kept-clock, settled}
 use Rattle.group_engine.proofs.Limits.{plain, bounded-waiting, few-queued, distinct-ready, length-runs, past-short}

@@ -1,5 +1,5 @@
 -- What is played so far: periodic tasks under GSN-EDF with no semaphore, by steps that tick, take interrupts, work and end jobs.
-use Rattle.std.specs.Prelude.{Bool, true, false, not, ◌&&◌, List, [], ◌∷◌}
+use Rattle.std.specs.Prelude.{Bool, true, false, not, ◌&&◌}
 use Rattle.std.specs.List.{list_all}
 use Rattle.rt_task.specs.declared.Act.{Act}
 use Rattle.rt_task.specs.declared.Act.TheVariants as acts

@@ -1,5 +1,5 @@
 -- What each move makes of the state, in a cluster of m processors whose tasks have these relative deadlines.
-use Rattle.std.specs.Prelude.{ℕ, ◌+◌, ◌-◌, ◌^◌, ◌<◌, ◌≤◌, All, max, Bool, true, List, [], ◌∷◌, Option, None, Some, if◌then◌else◌, length, replicate, slice_index, slice_index_or, slice_set}
+use Rattle.std.specs.Prelude.{ℕ, ◌+◌, ◌-◌, ◌^◌, ◌<◌, ◌≤◌, All, max, Bool, true, List, [], Option, None, Some, if◌then◌else◌, length, replicate, slice_index, slice_index_or, slice_set}
 use Rattle.rt_task.specs.declared.Task.{Task}
 use Rattle.rt_order.specs.declared.Key.{Key}
 use Rattle.rt_rules.specs.Numbers.{numbers_from}

@@ -1,6 +1,5 @@
 -- What the engine keeps of the past that its entries made, part by part.
-use Rattle.std.specs.Prelude.{◌≡◌, ℕ, ◌+◌, ◌-◌, ◌*◌, ◌<◌, ◌≤◌, Bool, true, false, not, nat_le, List, [], ◌∷◌, All, length, map, take, Option, None, Some, slice_index, slice_index_or, ◌^◌}
-use Rattle.rt_task.specs.declared.Parts.{Parts}
+use Rattle.std.specs.Prelude.{◌≡◌, ℕ, ◌+◌, ◌-◌, ◌*◌, ◌<◌, ◌≤◌, true, false, not, nat_le, List, ◌∷◌, All, length, map, take, Option, None, Some, slice_index, slice_index_or, ◌^◌}
 use Rattle.rt_task.specs.declared.Task.{Task}
 use Rattle.rt_task.specs.Validity.{IsValid}
 use Rattle.rt_order.specs.declared.Key.{Key}

@@ -1,16 +1,14 @@
 -- The steps of a set that is played, and the one history of them.
-use Rattle.std.proofs.Common.{◌≡◌, ℕ, ◌&&◌, true, List, [], ◌∷◌, get_or, refl, sym, ap, subst}
+use Rattle.std.proofs.Common.{◌≡◌, ℕ, true, List, [], ◌∷◌, get_or, refl, sym, ap, subst}
 use Rattle.std.specs.Prelude.{◌==◌}
 use Rattle.std.specs.List.{list_all, list_any}
 use Rattle.rt_task.specs.declared.Parts.{Parts}
 use Rattle.rt_task.specs.declared.Cluster.{Cluster}
-use Rattle.rt_task.specs.declared.Step.{Step}
 use Rattle.rt_task.specs.declared.Drive.{Drive}
 use Rattle.rt_task.specs.declared.Drive.TheVariants.{Steps, Horizon}
 use Rattle.rt_task.specs.RuleWords.{is_empty}
 use Rattle.rt_task.specs.Validity.{IsValid}
-use Rattle.rt_history.specs.declared.Entry.{Entry}
-use Rattle.rt_model.specs.Group.{Group, no_cluster}
+use Rattle.rt_model.specs.Group.{no_cluster}
 use Rattle.group_engine.specs.Built.{is_built, is_built_drive, is_built_task, is_gsn_edf}
 use Rattle.group_engine.specs.Groups.{IsGroupOf}
 use Rattle.group_engine.proofs.Plain.{IsPlainSet, plain-set, both}

@@ -1,5 +1,5 @@
 -- When bytes stand for a set that is played.
-use Rattle.std.proofs.Common.{◌≡◌, ℕ, Bool, true, false, List}
+use Rattle.std.proofs.Common.{◌≡◌, ℕ, true, false, List}
 use Rattle.std.specs.Prelude.{Result, Ok, Err}
 use Rattle.rt_task.specs.declared.Parts.{Parts}
 use Rattle.rt_task.specs.declared.bad_set.BadSet.{BadSet}

@@ -1,6 +1,6 @@
 -- What a run of `sim` says of its ends.
-use Rattle.std.proofs.Common.{◌≡◌, ◌≢◌, ℕ, zero, suc, ◌+◌, ◌<◌, ◌≤◌, Bool, true, false, List, [], ◌∷◌, ◌++◌, length, map, get_or, refl, sym, ap, ◌∙◌, subst, arith, length-append}
-use Rattle.std.specs.Prelude.{Option, None, Some, Result, Ok, Err, IsOk, All, ⊤, if◌then◌else◌}
+use Rattle.std.proofs.Common.{◌≡◌, ◌≢◌, ℕ, zero, suc, ◌+◌, ◌<◌, Bool, true, false, List, [], ◌∷◌, ◌++◌, length, map, get_or, refl, sym, ap, ◌∙◌, subst, arith, length-append}
+use Rattle.std.specs.Prelude.{Option, None, Some, Result, Ok, Err, IsOk, if◌then◌else◌}
 use Rattle.rt_base.specs.declared.TheConstants.{MOST_SET_BYTES}
 use Rattle.rt_task.specs.declared.Parts.{Parts}
 use Rattle.rt_task.specs.declared.Cluster.{Cluster}
@@ -14,8 +14,6 @@ use Rattle.rt_fault.specs.Faults.{HasRisen}
 use Rattle.rt_fault.specs.Reading.{TakesMoreThan}
 use Rattle.rt_fault.specs.declared.status.Status.{Status}
 use Rattle.rt_fault.specs.declared.status.Status.TheVariants as ends
-use Rattle.rt_history.specs.declared.Entry.{Entry}
-use Rattle.rt_rules.specs.Numbers.{numbers_from}
 use Rattle.rt_model.specs.Group.{no_cluster}
 use Rattle.set_read.specs.Sets.{set, ◌>>=◌}
 use Rattle.group_engine.specs.Built.{is_built}
@@ -36,6 +34,7 @@ playable-is_built bytes p h = by_set (set bytes) h
     by_test : (q : Parts) (b : Bool) → is_built q ≡ b → (if b then Ok q else Err (bad kinds.Unbuilt parts.Whole 0)) ≡ Ok p → is_built p ≡ true
     by_test q true same k = let e : q ≡ p = cc in subst (λ (x : Parts). is_built x ≡ true) e same
     by_test q false same k = cc
+
     by_set : (r : Result Parts BadSet) → (r >>= if_built) ≡ Ok p → is_built p ≡ true
     by_set (Ok q) k = by_test q (is_built q) refl k
     by_set (Err e) k = cc

@@ -30,7 +30,10 @@ pub(crate) fn read_input<S: Source>(alloc: Global, src: &mut S) -> Result<Setup,
     if !is_built(&setup) {
         return Err(Status::BadInput(BadSet {
             kind: SetKind::Unbuilt,
-            place: Place { part: Part::Whole, index: 0 },
+            place: Place {
+                part: Part::Whole,
+                index: 0,
+            },
         }));
     }
     Ok(setup)

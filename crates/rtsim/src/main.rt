@@ -9,10 +9,9 @@ mod sim;
 mod tests;
 mod words;
 
-pub use sim::sim;
-
 use fault_line::FaultLine;
 use rt_fault::{Status, StdSink, StdSource};
+pub use sim::sim;
 use std::env;
 use std::io::{self, BufWriter, ErrorKind, Write};
 use std::process::ExitCode;

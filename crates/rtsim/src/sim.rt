@@ -20,12 +20,7 @@ use trace_text::{WriteStop, write_trace};
 /// line `end`.
 ///
 /// Nothing is written before all input was read, nor where it is refused.
-pub fn sim<S: Source, K: Sink>(
-    alloc: Global,
-    words: &[String],
-    src: &mut S,
-    out: &mut K,
-) -> Status
+pub fn sim<S: Source, K: Sink>(alloc: Global, words: &[String], src: &mut S, out: &mut K) -> Status
     // Usage is the answer exactly where the words are no command, and then nothing is read or written.
     ensures usage { is_command words.now ≡ false → result ≡ Status.Usage }
     ensures no_command { result ≡ Status.Usage → is_command words.now ≡ false }

@@ -1,4 +1,4 @@
-use Rattle.std.proofs.Common.{◌≡◌, ◌≤◌, take, vec_capacity, vec_len}
+use Rattle.std.proofs.Common.{◌≡◌, ◌≤◌, vec_capacity, vec_len}
 use Rattle.rt_base.specs.TaskNos.{numbers}
 use Rattle.group_engine.specs.Queue.{ranked_all}
 use Rattle.group_engine.specs.State.{top_tasks}

@@ -1,8 +1,6 @@
-use Rattle.std.proofs.Common.{◌≡◌, ℕ, ◌+◌, ◌≤◌, List, length, max, sym, ap, ◌∙◌, subst, arith}
-use Rattle.std.proofs.lemmas.Grind.{common_steps}
-use Rattle.rt_rules.specs.Keys.{Ranked, inserted}
+use Rattle.std.proofs.Common.{◌≡◌, ◌+◌, ◌≤◌, List, length, max, ◌∙◌, arith}
+use Rattle.rt_rules.specs.Keys.{Ranked}
 use Rattle.group_engine.specs.Queue.{ranked}
-use Rattle.group_engine.specs.Due.{due_ready, not_due, ready_task}
 use Rattle.group_engine.specs.State.{rel_deadline_of}
 use Rattle.group_engine.proofs.Ranking.{length-inserted}
 use Rattle.group_engine.proofs.DueLaws.{due-first, due-stop, due-none, some-there, dropped, length-dropped}

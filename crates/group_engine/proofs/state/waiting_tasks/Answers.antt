@@ -1,4 +1,4 @@
-use Rattle.std.proofs.Common.{◌≡◌, ◌+◌, ◌-◌, ◌<◌, ◌≤◌, ℕ, length, arith}
+use Rattle.std.proofs.Common.{◌≡◌, ◌+◌, length, arith}
 use Rattle.group_engine.proofs.Ranking.{length-inserted}
 use Rattle.group_engine.proofs.Opening.{waiting-more}
 use Rattle.group_engine.proofs.state.waiting_tasks.Goals as goal

@@ -1,6 +1,5 @@
 use Rattle.std.proofs.Common.{◌≡◌, ◌≤◌, length, true, false, sym, ap, ◌∙◌, subst, arith, Ok}
 use Rattle.rt_base.specs.declared.TheConstants.{MOST_SET_BYTES}
-use Rattle.rt_task.specs.declared.Parts.{Parts}
 use Rattle.rt_task.specs.Validity.{IsValid}
 use Rattle.set_read.specs.Sets.{set}
 use Rattle.group_engine.specs.Built.{is_built}

@@ -1,7 +1,7 @@
-use Rattle.std.proofs.Common.{◌≡◌, ◌<◌, ◌≤◌, ℕ, List, [], length, ap, ◌∙◌, sym, subst, arith}
+use Rattle.std.proofs.Common.{◌≤◌, List, [], length, ap, ◌∙◌, sym, subst, arith}
 use Rattle.rt_task.specs.declared.Parts.{Parts}
 use Rattle.rt_task.specs.declared.Step.{Step}
-use Rattle.group_engine.specs.Groups.{GroupHistory, group_of, IsProcessorOf}
+use Rattle.group_engine.specs.Groups.{GroupHistory}
 use Rattle.group_engine.proofs.PlainSteps.{ArePlainSteps}
 use Rattle.rtsim.specs.Order.{history, steps_given}
 use Rattle.rtsim.proofs.OrderLaws.{taken-none, taken-next, taken-all}

@@ -1,13 +1,10 @@
-use Rattle.std.proofs.Common.{◌≡◌, true, false, List, inr, subst}
-use Rattle.rt_task.specs.declared.Parts.{Parts}
+use Rattle.std.proofs.Common.{◌≡◌, List, inr, subst}
 use Rattle.rt_history.specs.declared.Entry.{Entry}
 use Rattle.rt_fault.specs.Held.{Extends, ExtendsByPrefix}
 use Rattle.rt_model.proofs.PastLaws.{links_are_the_top}
-use Rattle.group_engine.specs.Built.{is_built}
 use Rattle.trace_text.specs.Groups as groups
 use Rattle.trace_text.specs.TraceText.{trace_text, format_1}
 use Rattle.rtsim.specs.Order.{histories}
-use Rattle.rtsim.specs.Sim.{set_trace}
 use Rattle.rtsim.proofs.SimLaws.{playable-is_built, one-group, one-history, answer-complete}
 use Rattle.rtsim.proofs.sim.sim.Goals as goal
 

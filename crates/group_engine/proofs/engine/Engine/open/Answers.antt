@@ -1,4 +1,4 @@
-use Rattle.std.proofs.Common.{◌≡◌, ◌<◌, ◌≤◌, ℕ, List, [], true, length, get_or, sym, ap, ◌∙◌, subst, arith, vec_capacity}
+use Rattle.std.proofs.Common.{◌≡◌, ◌≤◌, ℕ, List, true, get_or, sym, ap, ◌∙◌, subst, arith, vec_capacity}
 use Rattle.std.proofs.lemmas.List.{get_or_default}
 use Rattle.rt_task.specs.declared.Task.{Task}
 use Rattle.rt_task.specs.declared.Parts.{Parts}
@@ -7,8 +7,8 @@ use Rattle.rt_task.specs.Validity.{IsValid}
 use Rattle.rt_model.specs.Group.{Group, no_cluster, cpus}
 use Rattle.group_engine.specs.Built.{is_built}
 use Rattle.group_engine.specs.Groups.{IsGroupOf}
-use Rattle.group_engine.specs.Moves.{CanOpen, opened}
-use Rattle.group_engine.specs.State.{State, IsPlayed}
+use Rattle.group_engine.specs.Moves.{opened}
+use Rattle.group_engine.specs.State.{IsPlayed}
 use Rattle.group_engine.proofs.Opening.{can_open, first-cpus, some-cluster, sound-open}
 use Rattle.group_engine.proofs.engine.Engine.open.Goals as goal
 

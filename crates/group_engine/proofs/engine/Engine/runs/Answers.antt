@@ -1,6 +1,4 @@
-use Rattle.std.proofs.Common.{◌≡◌, ◌-◌, ◌<◌, sym, ap, ◌∙◌, subst, arith}
-use Rattle.rt_rules.specs.Placing.{at_place}
-use Rattle.rt_model.specs.Group.{Group}
+use Rattle.std.proofs.Common.{sym, ap, ◌∙◌, subst}
 use Rattle.rt_model.specs.Runs.{runs}
 use Rattle.group_engine.specs.Groups.{GroupHistory, group_of, past, IsProcessorOf}
 use Rattle.group_engine.proofs.Stepping.{runs-there, runs_inside}

@@ -1,15 +1,13 @@
-use Rattle.std.proofs.Common.{◌≡◌, ◌-◌, ◌<◌, ◌≤◌, ◌∷◌, ◌++◌, ℕ, List, [], length, max, sym, ap, ◌∙◌, subst, arith, vec_len}
+use Rattle.std.proofs.Common.{◌≡◌, ◌-◌, ◌<◌, ℕ, List, length, max, sym, ap, ◌∙◌, subst, arith, vec_len}
 use Rattle.std.specs.Prelude.{All}
 use Rattle.rt_task.specs.declared.Task.{Task}
 use Rattle.rt_task.specs.declared.Parts.{Parts}
-use Rattle.rt_history.specs.declared.Entry.{Entry}
 use Rattle.rt_rules.specs.Distinct.{IsDistinct}
 use Rattle.rt_model.specs.Histories.{reply_to}
 use Rattle.group_engine.specs.Groups.{GroupHistory, group_of, past, IsProcessorOf}
 use Rattle.group_engine.specs.Queue.{tasks_of}
 use Rattle.group_engine.specs.Due.{due_ready}
-use Rattle.group_engine.specs.Moves.{clock_moved}
-use Rattle.group_engine.specs.State.{State, Moment, CanAct, HasActed, IsBounded, IsSound, rel_deadline_of}
+use Rattle.group_engine.specs.State.{IsBounded, rel_deadline_of}
 use Rattle.group_engine.proofs.Stepping as stepping
 use Rattle.group_engine.proofs.engine.Engine.step.Goals as goal
 

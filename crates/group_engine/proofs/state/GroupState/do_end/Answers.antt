@@ -1,4 +1,4 @@
-use Rattle.std.proofs.Common.{◌≡◌, ℕ, ◌-◌, ◌<◌, Bool, true, false, sym, ap, ◌∙◌, get_or, length, subst, arith, List}
+use Rattle.std.proofs.Common.{◌≡◌, ℕ, ◌-◌, ◌<◌, sym, ap, ◌∙◌, get_or, length, subst, arith, List}
 use Rattle.std.proofs.lemmas.List.{get_or_read}
 use Rattle.rt_task.specs.declared.Task.{Task}
 use Rattle.rt_rules.specs.Distinct.{IsDistinct}

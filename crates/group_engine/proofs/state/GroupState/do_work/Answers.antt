@@ -1,5 +1,5 @@
-use Rattle.std.proofs.Common.{◌≡◌, ℕ, Bool, true, false, sym, ap, ◌∙◌, get_or}
-use Rattle.std.specs.Prelude.{Option, None, Some, nat_eq}
+use Rattle.std.proofs.Common.{◌≡◌, true, false, sym, ap, ◌∙◌, get_or}
+use Rattle.std.specs.Prelude.{None, Some, nat_eq}
 use Rattle.std.specs.Option.{option_eq}
 use Rattle.group_engine.specs.State.{State}
 use Rattle.group_engine.proofs.Doing.{spent-answer, worked-answer, kept-spent, kept-worked}

@@ -1,6 +1,5 @@
-use Rattle.std.proofs.Common.{◌≡◌, ℕ, Bool, true, false, not, ◌&&◌, cond, length, refl, ap, ◌∙◌, arith, length-set}
+use Rattle.std.proofs.Common.{◌≡◌, ℕ, Bool, true, false, not, ◌&&◌, cond, length, refl, ap, ◌∙◌, length-set}
 use Rattle.link_table.specs.Linked.{Linked, after_irq, is_pending, is_deferred, with_run, link_of}
-use Rattle.group_engine.specs.State.{HasRooms}
 use Rattle.group_engine.proofs.state.GroupState.take_irq.Goals as goal
 
 -- an interrupt leaves the cluster as large as it was
