@@ -1,5 +1,5 @@
 //! The groups of a trace.
-ghost use Rattle.std.specs.Prelude.{◌≡◌, ◌≤◌, ◌++◌, All, true, flat_map, length};
+ghost use Rattle.std.specs.Prelude.{◌≡◌, ◌≤◌, ◌++◌, All, IfOk, IfErr, true, flat_map, length};
 ghost use Rattle.group_engine.specs.Built.{is_built};
 ghost use Rattle.group_engine.specs.Groups.{group_of, past, IsGroupOf, IsPlayedEntry};
 ghost use Rattle.trace_lines.specs.Grammar.{line_text};
@@ -78,14 +78,25 @@ fn write_groups<K: Sink>(
     write_end_line(out, &mut line)
 }
 
+/// The line of the set.
+fn set_line_of(alloc: Global, parts: &Parts) -> Result<Vec<u8>, WriteStop>
+    ensures line { IfOk result (λ v. v.items ≡ set_line parts.now) }
+    ensures memory { IfErr result (λ e. e ≡ WriteStop.NoMemory) }
+{
+    let set = canonical_of_parts(alloc, parts)?;
+    let mut line = b"set ".to_vec(alloc)?;
+    line.extend_from_slice(set.as_slice())?;
+    line.extend_from_slice(b"\n")?;
+    Ok(line)
+}
+
 /// The line of the format and the line of the set.
 fn write_head<K: Sink>(alloc: Global, parts: &Parts, out: &mut K) -> Result<(), WriteStop>
     ensures { Came result (K.held out.old) (K.held out.new) (K.faults out.old) (K.faults out.new) (first_line format_1 ++ set_line parts.now) }
 {
-    let set = canonical_of_parts(alloc, parts)?;
-    write_bytes(out, b"rtsched trace 1\nset ")?;
-    write_bytes(out, set.as_slice())?;
-    write_bytes(out, b"\n")
+    let line = set_line_of(alloc, parts)?;
+    write_bytes(out, b"rtsched trace 1\n")?;
+    write_bytes(out, line.as_slice())
 }
 
 /// The whole trace.

@@ -2,6 +2,7 @@
 
 use rt_base::NoMemory;
 use rt_fault::Failed;
+use std::alloc::AllocError;
 use thiserror::Error;
 
 /// Why a trace was not written to its end.
@@ -33,6 +34,17 @@ impl From<NoMemory> for WriteStop {
     ghost from_gives = { λ _ e. e ≡ stops.NoMemory };
 
     fn from(_e: NoMemory) -> WriteStop {
+        WriteStop::NoMemory
+    }
+}
+
+impl From<AllocError> for WriteStop {
+    ghost use Rattle.std.specs.Prelude.{◌≡◌};
+    ghost use Rattle.trace_text.specs.declared.stop.WriteStop.TheVariants as stops;
+
+    ghost from_gives = { λ _ e. e ≡ stops.NoMemory };
+
+    fn from(_e: AllocError) -> WriteStop {
         WriteStop::NoMemory
     }
 }
