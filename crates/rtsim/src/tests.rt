@@ -1,0 +1,200 @@
+//! The smallest worked examples, whose texts are the published ones, and each answer of `sim` with its cause.
+
+use crate::fault_line::FaultLine;
+use crate::sim;
+use rt_base::MOST_SET_BYTES;
+use rt_fault::{MemSink, MemSource, Source, Status, SureSink, SureSource};
+use rt_task::{BadSet, Part, Place, SetKind};
+use std::alloc::Global;
+use std::test::Fail;
+
+const NO_TASKS: &str = r#"{"plugin":"GSN-EDF","clusters":[{"cpus":1}],"steps":[]}"#;
+const NO_TASKS_TRACE: &str = "rtsched trace 1
+set {\"clusters\":[{\"cpus\":1,\"group\":0}],\"plugin\":\"GSN-EDF\",\"resvs\":[],\"sems\":[],\"steps\":[],\"tasks\":[]}
+group 0 0:-
+end
+";
+
+const FIRST_PATH: &str = r#"{"plugin":"GSN-EDF","clusters":[{"cpus":2}],"tasks":[{"name":"A","cost":1,"period":10,"deadline":5},{"name":"B","cost":1,"period":10,"deadline":7},{"name":"C","cost":1,"period":10,"deadline":9}],"steps":[[0,0,"tick"],[0,0,"irq"],[0,0,"irq"]]}"#;
+const FIRST_PATH_HEAD: &str = "rtsched trace 1
+set {\"clusters\":[{\"cpus\":2,\"group\":0}],\"plugin\":\"GSN-EDF\",\"resvs\":[],\"sems\":[],\"steps\":[[0,0,\"tick\"],[0,0,\"irq\"],[0,0,\"irq\"]],\"tasks\":[{\"body\":[],\"cluster\":0,\"cost\":1,\"deadline\":5,\"enforce\":false,\"kind\":\"periodic\",\"name\":\"A\",\"period\":10,\"phase\":0,\"prio\":511,\"resv\":null,\"uses\":[]},{\"body\":[],\"cluster\":0,\"cost\":1,\"deadline\":7,\"enforce\":false,\"kind\":\"periodic\",\"name\":\"B\",\"period\":10,\"phase\":0,\"prio\":511,\"resv\":null,\"uses\":[]},{\"body\":[],\"cluster\":0,\"cost\":1,\"deadline\":9,\"enforce\":false,\"kind\":\"periodic\",\"name\":\"C\",\"period\":10,\"phase\":0,\"prio\":511,\"resv\":null,\"uses\":[]}]}
+";
+const FIRST_PATH_REST: &str = "group 0 0:1 1:2
+0 0 0 tick done
+1 0 0 irq runs 1
+2 0 0 irq quiet
+end
+";
+
+const ONE_STEP: &str = r#"{"plugin":"GSN-EDF","clusters":[{"cpus":2}],"tasks":[{"name":"A","cost":1,"period":10,"deadline":5},{"name":"B","cost":1,"period":10,"deadline":7},{"name":"C","cost":1,"period":10,"deadline":9}],"steps":[[0,0,"tick"]]}"#;
+const ONE_STEP_HEAD: &str = "rtsched trace 1
+set {\"clusters\":[{\"cpus\":2,\"group\":0}],\"plugin\":\"GSN-EDF\",\"resvs\":[],\"sems\":[],\"steps\":[[0,0,\"tick\"]],\"tasks\":[{\"body\":[],\"cluster\":0,\"cost\":1,\"deadline\":5,\"enforce\":false,\"kind\":\"periodic\",\"name\":\"A\",\"period\":10,\"phase\":0,\"prio\":511,\"resv\":null,\"uses\":[]},{\"body\":[],\"cluster\":0,\"cost\":1,\"deadline\":7,\"enforce\":false,\"kind\":\"periodic\",\"name\":\"B\",\"period\":10,\"phase\":0,\"prio\":511,\"resv\":null,\"uses\":[]},{\"body\":[],\"cluster\":0,\"cost\":1,\"deadline\":9,\"enforce\":false,\"kind\":\"periodic\",\"name\":\"C\",\"period\":10,\"phase\":0,\"prio\":511,\"resv\":null,\"uses\":[]}]}
+";
+const ONE_STEP_REST: &str = "group 0 0:1 1:2
+0 0 0 tick done
+end
+";
+
+fn words(alloc: Global, texts: &[&str]) -> Result<Vec<String>, Fail> {
+    let mut words = Vec::new(alloc);
+    for text in texts {
+        words.push(String::from_str(alloc, text)?)?;
+    }
+    Ok(words)
+}
+
+fn sink(alloc: Global, fails: &[u32]) -> Result<MemSink, Fail> {
+    Ok(MemSink::new(alloc, 4096, fails.to_vec(alloc)?)?)
+}
+
+fn source(alloc: Global, text: &str, fails: &[u32]) -> Result<MemSource, Fail> {
+    Ok(MemSource::new(text.as_bytes().to_vec(alloc)?, 100, fails.to_vec(alloc)?))
+}
+
+/// What `sim` answers to a text from a source without fault.
+fn answer(alloc: Global, text: &str) -> Result<Status, Fail> {
+    let mut src = source(alloc, text, &[])?;
+    let mut out = sink(alloc, &[])?;
+    let status = sim(alloc, words(alloc, &["sim"])?.as_slice(), &mut src, &mut out);
+    Ok(status)
+}
+
+fn refused(kind: SetKind, part: Part, index: u32) -> Status {
+    Status::BadInput(BadSet {
+        kind,
+        place: Place { part, index },
+    })
+}
+
+/// Whether `sim`, between ends that never fail, ends with Ok and writes these parts of a text.
+fn plays(alloc: Global, text: &str, parts: &[&str]) -> Result<bool, Fail> {
+    let mut src = SureSource::new(text.as_bytes().to_vec(alloc)?);
+    let mut out = SureSink::new(alloc, 4096)?;
+    let status = sim(alloc, words(alloc, &["sim"])?.as_slice(), &mut src, &mut out);
+    let mut wanted = String::new(alloc);
+    for part in parts {
+        wanted.push_str(part)?;
+    }
+    Ok(status == Status::Ok && out.as_slice() == wanted.as_bytes())
+}
+
+#[test]
+fn plays_no_tasks(rt: HostRuntime) -> Result<(), Fail> {
+    assert!(rt; plays(rt.alloc(), NO_TASKS, &[NO_TASKS_TRACE])?);
+    Ok(())
+}
+
+#[test]
+fn plays_one_step(rt: HostRuntime) -> Result<(), Fail> {
+    assert!(rt; plays(rt.alloc(), ONE_STEP, &[ONE_STEP_HEAD, ONE_STEP_REST])?);
+    Ok(())
+}
+
+#[test]
+fn plays_the_first_path(rt: HostRuntime) -> Result<(), Fail> {
+    assert!(rt; plays(rt.alloc(), FIRST_PATH, &[FIRST_PATH_HEAD, FIRST_PATH_REST])?);
+    Ok(())
+}
+
+#[test]
+fn refuses_what_is_no_json(rt: HostRuntime) -> Result<(), Fail> {
+    let wanted = refused(SetKind::NotJson, Part::Whole, 0);
+    assert_eq!(rt; answer(rt.alloc(), "{\"plugin\"")?, wanted);
+    assert_eq!(rt; answer(rt.alloc(), "")?, wanted);
+    Ok(())
+}
+
+#[test]
+fn refuses_by_the_first_rule_that_is_broken(rt: HostRuntime) -> Result<(), Fail> {
+    let alloc = rt.alloc();
+    let shape = r#"{"plugin":"EDF","clusters":[{"cpus":1}],"steps":[]}"#;
+    assert_eq!(rt; answer(alloc, shape)?, refused(SetKind::Shape, Part::Whole, 0));
+    let range = r#"{"plugin":"GSN-EDF","clusters":[{"cpus":65}],"steps":[]}"#;
+    assert_eq!(rt; answer(alloc, range)?, refused(SetKind::Range, Part::Cluster, 0));
+    let name = r#"{"plugin":"GSN-EDF","clusters":[{"cpus":1}],"tasks":[{"name":"A","cost":1,"period":9},{"name":"A","cost":1,"period":9}],"steps":[]}"#;
+    assert_eq!(rt; answer(alloc, name)?, refused(SetKind::Name, Part::Task, 1));
+    Ok(())
+}
+
+#[test]
+fn refuses_what_is_not_played_yet(rt: HostRuntime) -> Result<(), Fail> {
+    let unbuilt = refused(SetKind::Unbuilt, Part::Whole, 0);
+    let other_plugin = r#"{"plugin":"PSN-EDF","clusters":[{"cpus":1}],"steps":[]}"#;
+    assert_eq!(rt; answer(rt.alloc(), other_plugin)?, unbuilt);
+    Ok(())
+}
+
+#[test]
+fn refuses_more_bytes_than_the_limit(rt: HostRuntime) -> Result<(), Fail> {
+    let alloc = rt.alloc();
+    let spaces = vec![in alloc; b' '; MOST_SET_BYTES as usize + 1]?;
+    let mut src = SureSource::new(spaces);
+    let mut out = sink(alloc, &[])?;
+    let status = sim(alloc, words(alloc, &["sim"])?.as_slice(), &mut src, &mut out);
+    assert_eq!(rt; status, Status::TooLong);
+    assert_eq!(rt; out.as_slice(), b"".as_slice());
+    Ok(())
+}
+
+#[test]
+fn a_failing_read_is_a_read_fault(rt: HostRuntime) -> Result<(), Fail> {
+    let alloc = rt.alloc();
+    let bytes = vec![in alloc; b'x'; 200]?;
+    let mut src = MemSource::new(bytes, 100, [1u32].to_vec(alloc)?);
+    let mut out = sink(alloc, &[])?;
+    let status = sim(alloc, words(alloc, &["sim"])?.as_slice(), &mut src, &mut out);
+    assert_eq!(rt; status, Status::ReadFault);
+    assert_eq!(rt; out.as_slice(), b"".as_slice());
+    Ok(())
+}
+
+#[test]
+fn a_failing_write_leaves_the_lines_before_it(rt: HostRuntime) -> Result<(), Fail> {
+    let alloc = rt.alloc();
+    let mut src = source(alloc, FIRST_PATH, &[])?;
+    let mut out = sink(alloc, &[2])?;
+    let status = sim(alloc, words(alloc, &["sim"])?.as_slice(), &mut src, &mut out);
+    assert_eq!(rt; status, Status::WriteFault);
+    assert_eq!(rt; out.as_slice(), FIRST_PATH_HEAD.as_bytes());
+    Ok(())
+}
+
+#[test]
+fn other_words_are_no_command(rt: HostRuntime) -> Result<(), Fail> {
+    let alloc = rt.alloc();
+    let mut src = source(alloc, "x", &[])?;
+    let mut out = sink(alloc, &[])?;
+    let all: [&[&str]; 4] = [&[], &["sim", "x"], &["Sim"], &["check"]];
+    for texts in all {
+        let status = sim(alloc, words(alloc, texts)?.as_slice(), &mut src, &mut out);
+        assert_eq!(rt; status, Status::Usage);
+    }
+    let mut buf = [0u8; 2];
+    assert_eq!(rt; src.read(&mut buf), Ok(1));
+    assert_eq!(rt; out.as_slice(), b"".as_slice());
+    Ok(())
+}
+
+#[test]
+fn says_each_fault(rt: HostRuntime) -> Result<(), Fail> {
+    let alloc = rt.alloc();
+    for (status, line) in [
+        (Status::Invalid(7), "invalid at line 7"),
+        (Status::Usage, "usage: rtsim sim"),
+        (refused(SetKind::NotJson, Part::Whole, 0), "bad input: not json at whole"),
+        (refused(SetKind::Shape, Part::Cluster, 0), "bad input: shape at cluster 0"),
+        (refused(SetKind::Range, Part::Sem, 1), "bad input: range at sem 1"),
+        (refused(SetKind::Name, Part::Resv, 2), "bad input: name at resv 2"),
+        (refused(SetKind::Sharing, Part::Task, 3), "bad input: sharing at task 3"),
+        (refused(SetKind::Size, Part::Step, 4), "bad input: size at step 4"),
+        (refused(SetKind::NotTrace, Part::Line, 1), "bad input: not a trace at line 1"),
+        (refused(SetKind::Unbuilt, Part::Whole, 0), "bad input: unbuilt at whole"),
+        (Status::ReadFault, "reading failed"),
+        (Status::WriteFault, "writing failed"),
+        (Status::TooLong, "input too long"),
+        (Status::NoMemory, "no memory"),
+    ] {
+        assert_eq!(rt; format!(in alloc; "{}", FaultLine(status))?.as_str(), line);
+    }
+    Ok(())
+}
