@@ -9,16 +9,20 @@ use std::alloc::Global;
 use std::test::Fail;
 
 const NO_TASKS: &str = r#"{"plugin":"GSN-EDF","clusters":[{"cpus":1}],"steps":[]}"#;
+
 const NO_TASKS_TRACE: &str = "rtsched trace 1
 set {\"clusters\":[{\"cpus\":1,\"group\":0}],\"plugin\":\"GSN-EDF\",\"resvs\":[],\"sems\":[],\"steps\":[],\"tasks\":[]}
 group 0 0:-
 end
 ";
 
-const FIRST_PATH: &str = r#"{"plugin":"GSN-EDF","clusters":[{"cpus":2}],"tasks":[{"name":"A","cost":1,"period":10,"deadline":5},{"name":"B","cost":1,"period":10,"deadline":7},{"name":"C","cost":1,"period":10,"deadline":9}],"steps":[[0,0,"tick"],[0,0,"irq"],[0,0,"irq"]]}"#;
+const FIRST_PATH: &str =
+    r#"{"plugin":"GSN-EDF","clusters":[{"cpus":2}],"tasks":[{"name":"A","cost":1,"period":10,"deadline":5},{"name":"B","cost":1,"period":10,"deadline":7},{"name":"C","cost":1,"period":10,"deadline":9}],"steps":[[0,0,"tick"],[0,0,"irq"],[0,0,"irq"]]}"#;
+
 const FIRST_PATH_HEAD: &str = "rtsched trace 1
 set {\"clusters\":[{\"cpus\":2,\"group\":0}],\"plugin\":\"GSN-EDF\",\"resvs\":[],\"sems\":[],\"steps\":[[0,0,\"tick\"],[0,0,\"irq\"],[0,0,\"irq\"]],\"tasks\":[{\"body\":[],\"cluster\":0,\"cost\":1,\"deadline\":5,\"enforce\":false,\"kind\":\"periodic\",\"name\":\"A\",\"period\":10,\"phase\":0,\"prio\":511,\"resv\":null,\"uses\":[]},{\"body\":[],\"cluster\":0,\"cost\":1,\"deadline\":7,\"enforce\":false,\"kind\":\"periodic\",\"name\":\"B\",\"period\":10,\"phase\":0,\"prio\":511,\"resv\":null,\"uses\":[]},{\"body\":[],\"cluster\":0,\"cost\":1,\"deadline\":9,\"enforce\":false,\"kind\":\"periodic\",\"name\":\"C\",\"period\":10,\"phase\":0,\"prio\":511,\"resv\":null,\"uses\":[]}]}
 ";
+
 const FIRST_PATH_REST: &str = "group 0 0:1 1:2
 0 0 0 tick done
 1 0 0 irq runs 1
@@ -26,10 +30,13 @@ const FIRST_PATH_REST: &str = "group 0 0:1 1:2
 end
 ";
 
-const ONE_STEP: &str = r#"{"plugin":"GSN-EDF","clusters":[{"cpus":2}],"tasks":[{"name":"A","cost":1,"period":10,"deadline":5},{"name":"B","cost":1,"period":10,"deadline":7},{"name":"C","cost":1,"period":10,"deadline":9}],"steps":[[0,0,"tick"]]}"#;
+const ONE_STEP: &str =
+    r#"{"plugin":"GSN-EDF","clusters":[{"cpus":2}],"tasks":[{"name":"A","cost":1,"period":10,"deadline":5},{"name":"B","cost":1,"period":10,"deadline":7},{"name":"C","cost":1,"period":10,"deadline":9}],"steps":[[0,0,"tick"]]}"#;
+
 const ONE_STEP_HEAD: &str = "rtsched trace 1
 set {\"clusters\":[{\"cpus\":2,\"group\":0}],\"plugin\":\"GSN-EDF\",\"resvs\":[],\"sems\":[],\"steps\":[[0,0,\"tick\"]],\"tasks\":[{\"body\":[],\"cluster\":0,\"cost\":1,\"deadline\":5,\"enforce\":false,\"kind\":\"periodic\",\"name\":\"A\",\"period\":10,\"phase\":0,\"prio\":511,\"resv\":null,\"uses\":[]},{\"body\":[],\"cluster\":0,\"cost\":1,\"deadline\":7,\"enforce\":false,\"kind\":\"periodic\",\"name\":\"B\",\"period\":10,\"phase\":0,\"prio\":511,\"resv\":null,\"uses\":[]},{\"body\":[],\"cluster\":0,\"cost\":1,\"deadline\":9,\"enforce\":false,\"kind\":\"periodic\",\"name\":\"C\",\"period\":10,\"phase\":0,\"prio\":511,\"resv\":null,\"uses\":[]}]}
 ";
+
 const ONE_STEP_REST: &str = "group 0 0:1 1:2
 0 0 0 tick done
 end
@@ -55,7 +62,12 @@ fn source(alloc: Global, text: &str, fails: &[u32]) -> Result<MemSource, Fail> {
 fn answer(alloc: Global, text: &str) -> Result<Status, Fail> {
     let mut src = source(alloc, text, &[])?;
     let mut out = sink(alloc, &[])?;
-    let status = sim(alloc, words(alloc, &["sim"])?.as_slice(), &mut src, &mut out);
+    let status = sim(
+        alloc,
+        words(alloc, &["sim"])?.as_slice(),
+        &mut src,
+        &mut out,
+    );
     Ok(status)
 }
 
@@ -70,7 +82,12 @@ fn refused(kind: SetKind, part: Part, index: u32) -> Status {
 fn plays(alloc: Global, text: &str, parts: &[&str]) -> Result<bool, Fail> {
     let mut src = SureSource::new(text.as_bytes().to_vec(alloc)?);
     let mut out = SureSink::new(alloc, 4096)?;
-    let status = sim(alloc, words(alloc, &["sim"])?.as_slice(), &mut src, &mut out);
+    let status = sim(
+        alloc,
+        words(alloc, &["sim"])?.as_slice(),
+        &mut src,
+        &mut out,
+    );
     let mut wanted = String::new(alloc);
     for part in parts {
         wanted.push_str(part)?;
@@ -108,10 +125,17 @@ fn refuses_what_is_no_json(rt: HostRuntime) -> Result<(), Fail> {
 fn refuses_by_the_first_rule_that_is_broken(rt: HostRuntime) -> Result<(), Fail> {
     let alloc = rt.alloc();
     let shape = r#"{"plugin":"EDF","clusters":[{"cpus":1}],"steps":[]}"#;
-    assert_eq!(rt; answer(alloc, shape)?, refused(SetKind::Shape, Part::Whole, 0));
+    assert_eq!(rt;
+        answer(alloc, shape)?,
+        refused(SetKind::Shape, Part::Whole, 0)
+    );
     let range = r#"{"plugin":"GSN-EDF","clusters":[{"cpus":65}],"steps":[]}"#;
-    assert_eq!(rt; answer(alloc, range)?, refused(SetKind::Range, Part::Cluster, 0));
-    let name = r#"{"plugin":"GSN-EDF","clusters":[{"cpus":1}],"tasks":[{"name":"A","cost":1,"period":9},{"name":"A","cost":1,"period":9}],"steps":[]}"#;
+    assert_eq!(rt;
+        answer(alloc, range)?,
+        refused(SetKind::Range, Part::Cluster, 0)
+    );
+    let name =
+        r#"{"plugin":"GSN-EDF","clusters":[{"cpus":1}],"tasks":[{"name":"A","cost":1,"period":9},{"name":"A","cost":1,"period":9}],"steps":[]}"#;
     assert_eq!(rt; answer(alloc, name)?, refused(SetKind::Name, Part::Task, 1));
     Ok(())
 }
@@ -130,7 +154,12 @@ fn refuses_more_bytes_than_the_limit(rt: HostRuntime) -> Result<(), Fail> {
     let spaces = vec![in alloc; b' '; MOST_SET_BYTES as usize + 1]?;
     let mut src = SureSource::new(spaces);
     let mut out = sink(alloc, &[])?;
-    let status = sim(alloc, words(alloc, &["sim"])?.as_slice(), &mut src, &mut out);
+    let status = sim(
+        alloc,
+        words(alloc, &["sim"])?.as_slice(),
+        &mut src,
+        &mut out,
+    );
     assert_eq!(rt; status, Status::TooLong);
     assert_eq!(rt; out.as_slice(), b"".as_slice());
     Ok(())
@@ -142,7 +171,12 @@ fn a_failing_read_is_a_read_fault(rt: HostRuntime) -> Result<(), Fail> {
     let bytes = vec![in alloc; b'x'; 200]?;
     let mut src = MemSource::new(bytes, 100, [1u32].to_vec(alloc)?);
     let mut out = sink(alloc, &[])?;
-    let status = sim(alloc, words(alloc, &["sim"])?.as_slice(), &mut src, &mut out);
+    let status = sim(
+        alloc,
+        words(alloc, &["sim"])?.as_slice(),
+        &mut src,
+        &mut out,
+    );
     assert_eq!(rt; status, Status::ReadFault);
     assert_eq!(rt; out.as_slice(), b"".as_slice());
     Ok(())
@@ -153,7 +187,12 @@ fn a_failing_write_leaves_the_lines_before_it(rt: HostRuntime) -> Result<(), Fai
     let alloc = rt.alloc();
     let mut src = source(alloc, FIRST_PATH, &[])?;
     let mut out = sink(alloc, &[2])?;
-    let status = sim(alloc, words(alloc, &["sim"])?.as_slice(), &mut src, &mut out);
+    let status = sim(
+        alloc,
+        words(alloc, &["sim"])?.as_slice(),
+        &mut src,
+        &mut out,
+    );
     assert_eq!(rt; status, Status::WriteFault);
     assert_eq!(rt; out.as_slice(), FIRST_PATH_HEAD.as_bytes());
     Ok(())
@@ -181,14 +220,38 @@ fn says_each_fault(rt: HostRuntime) -> Result<(), Fail> {
     for (status, line) in [
         (Status::Invalid(7), "invalid at line 7"),
         (Status::Usage, "usage: rtsim sim"),
-        (refused(SetKind::NotJson, Part::Whole, 0), "bad input: not json at whole"),
-        (refused(SetKind::Shape, Part::Cluster, 0), "bad input: shape at cluster 0"),
-        (refused(SetKind::Range, Part::Sem, 1), "bad input: range at sem 1"),
-        (refused(SetKind::Name, Part::Resv, 2), "bad input: name at resv 2"),
-        (refused(SetKind::Sharing, Part::Task, 3), "bad input: sharing at task 3"),
-        (refused(SetKind::Size, Part::Step, 4), "bad input: size at step 4"),
-        (refused(SetKind::NotTrace, Part::Line, 1), "bad input: not a trace at line 1"),
-        (refused(SetKind::Unbuilt, Part::Whole, 0), "bad input: unbuilt at whole"),
+        (
+            refused(SetKind::NotJson, Part::Whole, 0),
+            "bad input: not json at whole",
+        ),
+        (
+            refused(SetKind::Shape, Part::Cluster, 0),
+            "bad input: shape at cluster 0",
+        ),
+        (
+            refused(SetKind::Range, Part::Sem, 1),
+            "bad input: range at sem 1",
+        ),
+        (
+            refused(SetKind::Name, Part::Resv, 2),
+            "bad input: name at resv 2",
+        ),
+        (
+            refused(SetKind::Sharing, Part::Task, 3),
+            "bad input: sharing at task 3",
+        ),
+        (
+            refused(SetKind::Size, Part::Step, 4),
+            "bad input: size at step 4",
+        ),
+        (
+            refused(SetKind::NotTrace, Part::Line, 1),
+            "bad input: not a trace at line 1",
+        ),
+        (
+            refused(SetKind::Unbuilt, Part::Whole, 0),
+            "bad input: unbuilt at whole",
+        ),
         (Status::ReadFault, "reading failed"),
         (Status::WriteFault, "writing failed"),
         (Status::TooLong, "input too long"),
