@@ -3,6 +3,7 @@ use Rattle.std.specs.Prelude.{◌≡◌, true, false, List, [], ◌∷◌, None,
 use Rattle.rt_task.specs.declared.Drive.TheVariants.{Steps}
 use Rattle.rt_task.specs.declared.Kind.TheVariants.{Periodic, Sporadic}
 use Rattle.rt_task.specs.declared.ResvKind.TheVariants as resv_kinds
+use Rattle.rt_task.specs.declared.Protocol.{Protocol}
 use Rattle.rt_task.specs.declared.Protocol.TheVariants.{Fmlp, Omlp, Pcp, Mpcp}
 use Rattle.rt_task.specs.declared.PluginKind.TheVariants as plugins
 use Rattle.rt_task.specs.declared.Step.{Step}
@@ -349,3 +350,18 @@ two_periods_opening = refl
 pub two_periods_played : played two_periods [] two_periods_steps ≡ (replies.Runs (record { 0 = 1 }), []) ∷ (replies.Done, []) ∷ (replies.Done, []) ∷ (replies.Spent, []) ∷ (replies.Done, to 0 None ∷ []) ∷ []
 unfolding computed
 two_periods_played = refl
+
+-- a holder inherits: task 1 holds, task 3 waits for it, and task 2, whose deadline is between theirs, is not linked in its stead
+abbrev pub holder_inherits : Protocol → Group
+holder_inherits p = record { setup = record { plugin = plugins.GsnEdf; clusters = record { cpus = 1; group = record { 0 = 0 } } ∷ []; sems = record { name = []; protocol = p } ∷ []; resvs = []; tasks = task_with 1 0 1 1000 100 0 Periodic 511 false (1 ∷ []) (None) ∷ task_with 2 0 1 1000 50 0 Sporadic 511 false ([]) (None) ∷ task_with 3 0 1 1000 20 0 Sporadic 511 false (1 ∷ []) (None) ∷ []; drive = Steps [] }; number = 0 }
+
+abbrev pub holder_inherits_steps : List Step
+holder_inherits_steps = step_of 0 0 acts.Irq ∷ step_of 0 0 (acts.Do (ops.Lock (record { 0 = 1 }))) ∷ step_of 0 1 (acts.Arrive (record { 0 = 3 })) ∷ step_of 0 1 acts.Irq ∷ step_of 0 1 (acts.Do (ops.Lock (record { 0 = 1 }))) ∷ step_of 0 2 (acts.Arrive (record { 0 = 2 })) ∷ step_of 0 2 acts.Irq ∷ step_of 0 2 (acts.Do (ops.Unlock (record { 0 = 1 }))) ∷ []
+
+pub fmlp_holder_inherits_played : played (holder_inherits Fmlp) [] holder_inherits_steps ≡ (replies.Runs (record { 0 = 1 }), []) ∷ (replies.Granted, []) ∷ (replies.Done, to 0 (Some 3) ∷ []) ∷ (replies.Runs (record { 0 = 3 }), []) ∷ (replies.Queued, to 0 (Some 1) ∷ []) ∷ (replies.Done, []) ∷ (replies.Runs (record { 0 = 1 }), []) ∷ (replies.Done, to 0 (Some 3) ∷ []) ∷ []
+unfolding computed
+fmlp_holder_inherits_played = refl
+
+pub omlp_holder_inherits_played : played (holder_inherits Omlp) [] holder_inherits_steps ≡ (replies.Runs (record { 0 = 1 }), []) ∷ (replies.Granted, []) ∷ (replies.Done, to 0 (Some 3) ∷ []) ∷ (replies.Runs (record { 0 = 3 }), []) ∷ (replies.Queued, to 0 (Some 1) ∷ []) ∷ (replies.Done, []) ∷ (replies.Runs (record { 0 = 1 }), []) ∷ (replies.Done, to 0 (Some 3) ∷ []) ∷ []
+unfolding computed
+omlp_holder_inherits_played = refl

@@ -1,5 +1,5 @@
 //! The draft of parts that code made.
-ghost use Rattle.std.specs.Prelude.{◌≡◌, ◌+◌, map, reverse, IfOk, OnOk};
+ghost use Rattle.std.specs.Prelude.{◌≡◌, map, IfOk};
 ghost use Rattle.rt_task.specs.Answers.{Gives, kept};
 ghost use Rattle.rt_task.specs.declared.Task.{Task};
 ghost use Rattle.rt_task.specs.Draft as spec;
@@ -7,10 +7,11 @@ ghost use Rattle.rt_task.specs.Validity.{refusal_of};
 
 use crate::draft::{DraftClusters, DraftResvs, DraftSteps, DraftTasks, Pieces};
 use crate::list::{Name, SemList, SemNos};
+use crate::pieces::pieces_of;
 use crate::rules::try_rules;
 use crate::{
-    Cluster, Draft, DraftCluster, DraftDrive, DraftResv, DraftStep, DraftTask, Drive, Op, Parts,
-    Piece, Resv, Sem, SetStop, Setup, Step, Task,
+    Cluster, Draft, DraftCluster, DraftDrive, DraftResv, DraftStep, DraftTask, Drive, Parts, Resv,
+    Sem, SetStop, Setup, Step, Task,
 };
 use std::alloc::{AllocError, Global};
 
@@ -21,44 +22,12 @@ fn name_of(alloc: Global, name: &Name) -> Result<Name, AllocError>
     Ok(Name::from_vec(bytes))
 }
 
-/// One more operation in front of the pieces, which stand from the last to the first.
-fn push_front(pieces: &mut Vec<Piece>, op: Op) -> Result<(), AllocError>
-    ensures { OnOk result (reverse pieces.new.items ≡ spec.op_front op (reverse pieces.old.items)) }
-{
-    if op != Op::Work {
-        pieces.push(Piece::Once(op))?;
-        return Ok(());
-    }
-    if let Some(Piece::Works(n)) = pieces.last().copied()
-        && n < 1000
-    {
-        let _last = pieces.pop();
-        pieces.push(Piece::Works(n + 1))?;
-        return Ok(());
-    }
-    pieces.push(Piece::Works(1))?;
-    Ok(())
-}
-
-/// The operations, each run of Work as one piece.
-#[tactic(auto, unfolding(crate::specs::Draft::runs))]
-fn pieces_of(alloc: Global, ops: &[Op]) -> Result<Pieces, AllocError>
-    ensures { IfOk result (λ v. v ≡ spec.runs ops.now) }
-{
-    let mut pieces = Vec::new(alloc);
-    for i in (0..ops.len()).rev() {
-        push_front(&mut pieces, ops[i])?;
-    }
-    pieces.reverse();
-    Ok(Pieces::from_vec(pieces))
-}
-
 fn task_of(alloc: Global, t: &Task) -> Result<DraftTask, AllocError>
     ensures { IfOk result (λ p. p ≡ spec.draft_task t.now (spec.runs t.now.body)) }
 {
     let name = name_of(alloc, &t.name)?;
     let uses = Vec::from_slice(alloc, t.uses.as_slice())?;
-    let pieces = pieces_of(alloc, t.body.as_slice())?;
+    let pieces = Pieces::from_vec(pieces_of(alloc, t.body.as_slice())?);
     Ok(DraftTask {
         number: t.number,
         name,
