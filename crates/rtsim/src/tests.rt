@@ -138,7 +138,7 @@ fn refuses_by_the_first_rule_that_is_broken(rt: HostRuntime) -> Result<(), Fail>
         r#"{"plugin":"GSN-EDF","clusters":[{"cpus":1}],"tasks":[{"name":"A","cost":1,"period":9},{"name":"A","cost":1,"period":9}],"steps":[]}"#;
     assert_eq!(rt; answer(alloc, name)?, refused(SetKind::Name, Part::Task, 1));
     let sharing =
-        r#"{"plugin":"P-FP","clusters":[{"cpus":1,"group":0},{"cpus":1,"group":1}],"sems":[{"name":"S","protocol":"mpcp"}],"tasks":[{"name":"A","cost":1,"period":9,"prio":1,"uses":["S"]},{"name":"B","cluster":1,"cost":1,"period":9,"prio":2,"uses":["S"]}],"steps":[]}"#;
+        r#"{"plugin":"P-FP","clusters":[{"cpus":1,"group":0},{"cpus":1,"group":1}],"sems":[{"name":"S","protocol":"MPCP"}],"tasks":[{"name":"A","cost":1,"period":9,"prio":1,"uses":["S"]},{"name":"B","cluster":1,"cost":1,"period":9,"prio":2,"uses":["S"]}],"steps":[]}"#;
     assert_eq!(rt;
         answer(alloc, sharing)?,
         refused(SetKind::Sharing, Part::Sem, 0)
