@@ -6,7 +6,7 @@ use Rattle.rt_task.specs.declared.Act.TheVariants as acts
 use Rattle.rt_history.specs.declared.Reply.{Reply}
 use Rattle.rt_history.specs.declared.Reply.TheVariants as replies
 use Rattle.trace_lines.specs.Words.{Word, join}
-use Rattle.trace_lines.specs.Lines.{Link, Line, group_line, entry_line, block_line, end_line}
+use Rattle.trace_lines.specs.Lines.{Link, Line, group_line, entry_line, block_line, end_line, count_line}
 
 -- an act, and the task, semaphore or duration that it names
 abbrev pub act_words : Act → List Word
@@ -57,6 +57,7 @@ line_words (group_line g links) = codes "group" ∷ decimal g ∷ map link_word 
 line_words (entry_line i e links) = decimal i ∷ decimal e.step.tick.0 ∷ decimal e.step.cpu.0 ∷ (act_words e.step.act ++ (reply_words e.reply ++ map link_word links))
 line_words (block_line i t s ends all bound) = codes "block" ∷ decimal i ∷ decimal t ∷ decimal s ∷ decimal ends ∷ decimal all ∷ number_word bound ∷ []
 line_words end_line = codes "end" ∷ []
+line_words (count_line name totals) = codes "count" ∷ (name ∷ []) ∷ map decimal totals
 
 -- the text of a line: its words, one space between them, and a line feed
 unfoldable pub line_text : Line → List ℕ

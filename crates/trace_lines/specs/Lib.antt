@@ -1,3 +1,5 @@
 pub mod Words
 pub mod Lines
 pub mod Grammar
+pub mod Known
+pub mod FirstLine

@@ -23,3 +23,5 @@ pub data Line : Type 0 where
   block_line : ℕ → ℕ → ℕ → ℕ → ℕ → Option ℕ → Line
   -- the end of the groups
   end_line : Line
+  -- what a tool counted: its letter and its totals
+  count_line : ℕ → List ℕ → Line

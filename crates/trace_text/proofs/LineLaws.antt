@@ -26,7 +26,8 @@ use Rattle.group_engine.proofs.PlainGroup.{group-plain}
 use Rattle.trace_lines.specs.Lines.{Link, Line, links_of, group_line, entry_line, end_line}
 use Rattle.trace_lines.specs.declared.links.CpuLink.{CpuLink}
 use Rattle.trace_lines.specs.Grammar.{line_text}
-use Rattle.trace_text.specs.TraceText.{links_at, entry_lines, block_lines, group_lines, lines_from, trace_text, first_line, format_1, set_line}
+use Rattle.trace_lines.specs.FirstLine.{first_line, format_1}
+use Rattle.trace_text.specs.TraceText.{links_at, entry_lines, block_lines, group_lines, lines_from, trace_text, set_line}
 use Rattle.trace_text.specs.Groups.{AreGroupsOf, Follows, histories}
 
 pub drop_end : {A : Type 0} (xs : List A) (n : ℕ) → length xs ≤ n → drop n xs ≡ []

@@ -9,14 +9,8 @@ use Rattle.rt_model.specs.Histories.{after, changed, past_of}
 use Rattle.rt_model.specs.Blocking.{Asked, requests, ends, ends_all, bound}
 use Rattle.set_canonical.specs.Canonical.{canonical}
 use Rattle.trace_lines.specs.Lines.{Link, Line, group_line, entry_line, block_line, end_line}
+use Rattle.trace_lines.specs.FirstLine.{Version, first_line}
 use Rattle.trace_lines.specs.Grammar.{line_text}
-
--- the format that a trace names in its first line
-pub data Version : Type 0 where
-  format_1 : Version
-
-abbrev pub first_line : Version → List ℕ
-first_line format_1 = codes "rtsched trace 1\n"
 
 abbrev pub set_line : Parts → List ℕ
 set_line p = codes "set " ++ (canonical p ++ 10 ∷ [])

@@ -4,7 +4,8 @@ ghost use Rattle.group_engine.specs.Built.{is_built};
 ghost use Rattle.group_engine.specs.Groups.{group_of, past, IsGroupOf, IsPlayedEntry};
 ghost use Rattle.trace_lines.specs.Grammar.{line_text};
 ghost use Rattle.trace_text.specs.Groups.{AreGroupsOf, Follows, histories};
-ghost use Rattle.trace_text.specs.TraceText.{entry_lines, first_line, format_1, group_lines, lines_from, set_line, trace_text};
+ghost use Rattle.trace_lines.specs.FirstLine.{first_line, format_1};
+ghost use Rattle.trace_text.specs.TraceText.{entry_lines, group_lines, lines_from, set_line, trace_text};
 ghost use Rattle.trace_text.specs.Writing.{Came};
 
 use crate::WriteStop;

@@ -3,7 +3,8 @@ use Rattle.rt_history.specs.declared.Entry.{Entry}
 use Rattle.rt_fault.specs.Held.{Extends, ExtendsByPrefix}
 use Rattle.rt_model.proofs.PastLaws.{links_are_the_top}
 use Rattle.trace_text.specs.Groups as groups
-use Rattle.trace_text.specs.TraceText.{trace_text, format_1}
+use Rattle.trace_lines.specs.FirstLine.{format_1}
+use Rattle.trace_text.specs.TraceText.{trace_text}
 use Rattle.rtsim.specs.Order.{histories}
 use Rattle.rtsim.proofs.SimLaws.{playable-is_built, one-group, one-history, answer-complete}
 use Rattle.rtsim.proofs.sim.sim.Goals as goal

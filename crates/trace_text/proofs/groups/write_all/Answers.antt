@@ -1,7 +1,8 @@
 use Rattle.std.proofs.Common.{◌++◌, Ok, Err, subst}
 use Rattle.rt_task.specs.declared.Parts.{Parts}
 use Rattle.trace_text.specs.Groups.{histories}
-use Rattle.trace_text.specs.TraceText.{lines_from, trace_text, format_1, first_line, set_line}
+use Rattle.trace_lines.specs.FirstLine.{format_1, first_line}
+use Rattle.trace_text.specs.TraceText.{lines_from, trace_text, set_line}
 use Rattle.trace_text.specs.Writing.{Came}
 use Rattle.trace_text.proofs.CameLaws.{Coming, coming-start, coming-next, coming-stop, coming-last, came-err}
 use Rattle.trace_text.proofs.LineLaws.{texts, few_groups, trace_parts}

@@ -1,6 +1,7 @@
 use Rattle.std.proofs.Common.{◌≡◌, ◌++◌, List, ℕ, ◌∙◌}
 use Rattle.rt_task.specs.declared.Parts.{Parts}
-use Rattle.trace_text.specs.TraceText.{first_line, format_1, set_line}
+use Rattle.trace_lines.specs.FirstLine.{first_line, format_1}
+use Rattle.trace_text.specs.TraceText.{set_line}
 use Rattle.trace_text.proofs.CameLaws.{coming-start, coming-next, coming-stop, coming-last, came-err}
 use Rattle.trace_text.proofs.groups.write_head.Goals as goal
 

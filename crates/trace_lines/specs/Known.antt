@@ -1,0 +1,84 @@
+-- Which lines a trace of a set may have: their numbers fit the types of their fields, and their tasks and semaphores are the set's.
+use Rattle.std.specs.Prelude.{ℕ, ◌^◌, ◌<◌, ◌≤◌, ◌⊎◌, List, length, All, Option, None, Some}
+use Rattle.rt_task.specs.declared.Op.{Op}
+use Rattle.rt_task.specs.declared.Op.TheVariants as ops
+use Rattle.rt_task.specs.declared.Act.{Act}
+use Rattle.rt_task.specs.declared.Act.TheVariants as acts
+use Rattle.rt_task.specs.declared.Parts.{Parts}
+use Rattle.rt_history.specs.declared.Reply.{Reply}
+use Rattle.rt_history.specs.declared.Reply.TheVariants as replies
+use Rattle.trace_lines.specs.Lines.{Link, Line, group_line, entry_line, block_line, end_line, count_line}
+
+-- how many tasks and semaphores a set has
+pub record Known : Type 0 where
+  pub tasks : ℕ
+  pub sems : ℕ
+
+abbrev pub known_of : Parts → Known
+known_of p = record { tasks = length p.tasks; sems = length p.sems }
+
+abbrev pub Is32 : ℕ → Type 0
+Is32 n = n < 2 ^ 32
+
+abbrev pub Is64 : ℕ → Type 0
+Is64 n = n < 2 ^ 64
+
+-- the number of one of so many, which are numbered from 1
+pub record IsNumberOf (most n : ℕ) : Type 0 where
+  pub low : 1 ≤ n
+  pub high : n ≤ most
+  pub fits : Is32 n
+
+abbrev pub OpIsKnown : Known → Op → Type 0
+OpIsKnown k (ops.Lock s) = IsNumberOf k.sems s.0
+OpIsKnown k (ops.Unlock s) = IsNumberOf k.sems s.0
+OpIsKnown k (ops.Sleep n) = Is64 n
+OpIsKnown k _ = Unit {0}
+
+abbrev pub ActIsKnown : Known → Act → Type 0
+ActIsKnown k (acts.Arrive t) = IsNumberOf k.tasks t.0
+ActIsKnown k (acts.Do op) = OpIsKnown k op
+ActIsKnown k _ = Unit {0}
+
+abbrev pub ReplyIsKnown : Known → Reply → Type 0
+ReplyIsKnown k (replies.Runs t) = IsNumberOf k.tasks t.0
+ReplyIsKnown k _ = Unit {0}
+
+abbrev pub TargetIsKnown : Known → Option ℕ → Type 0
+TargetIsKnown k None = Unit {0}
+TargetIsKnown k (Some t) = IsNumberOf k.tasks t
+
+abbrev pub LinkIsKnown : Known → Link → Type 0
+LinkIsKnown k x = Is32 x.0 × TargetIsKnown k x.1
+
+abbrev pub BoundIsKnown : Option ℕ → Type 0
+BoundIsKnown None = Unit {0}
+BoundIsKnown (Some n) = Is32 n
+
+-- an ASCII letter
+abbrev pub IsLetter : ℕ → Type 0
+IsLetter c = ((65 ≤ c) × (c ≤ 90)) ⊎ ((97 ≤ c) × (c ≤ 122))
+
+pub record IsEntryLine (k : Known) (i tick cpu : ℕ) (act : Act) (reply : Reply) (links : List Link) : Type 0 where
+  pub number : Is32 i
+  pub tick_fits : Is64 tick
+  pub cpu_fits : Is32 cpu
+  pub act_known : ActIsKnown k act
+  pub reply_known : ReplyIsKnown k reply
+  pub links_known : All (LinkIsKnown k) links
+
+pub record IsBlockLine (k : Known) (i t s ends all : ℕ) (bound : Option ℕ) : Type 0 where
+  pub number : Is32 i
+  pub task_known : IsNumberOf k.tasks t
+  pub sem_known : IsNumberOf k.sems s
+  pub ends_fit : Is32 ends
+  pub all_fit : Is32 all
+  pub bound_fits : BoundIsKnown bound
+
+-- a line of the grammar: a group line has a link, and a count line a letter and at most 64 totals
+abbrev pub IsLine : Known → Line → Type 0
+IsLine k (group_line g links) = Is32 g × (1 ≤ length links) × All (LinkIsKnown k) links
+IsLine k (entry_line i e links) = IsEntryLine k i e.step.tick.0 e.step.cpu.0 e.step.act e.reply links
+IsLine k (block_line i t s ends all bound) = IsBlockLine k i t s ends all bound
+IsLine k end_line = Unit {0}
+IsLine k (count_line name totals) = IsLetter name × (length totals ≤ 64) × All Is64 totals
