@@ -1,0 +1,19 @@
+//! Reads the text of a trace, format 1: its set, and its lines up to the first that is none of the grammar.
+#![tactic(auto)]
+
+mod fault;
+mod lines;
+
+pub use fault::TraceFault;
+pub use lines::{Line, LineList, LinkList, Totals};
+use rt_task::Setup;
+
+/// What was read of a trace.
+#[derive(Drop)]
+pub struct Trace {
+    pub setup: Setup,
+    /// The lines after the second up to the first that is none of the grammar.
+    pub lines: LineList,
+    /// The number of that first one, from 1; `None` where there is none.
+    pub stop: Option<u32>,
+}
