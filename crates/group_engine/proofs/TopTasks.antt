@@ -5,7 +5,7 @@ use Rattle.std.proofs.Math.ListN.{get_or-map}
 use Rattle.rt_rules.specs.Keys.{Ranked}
 use Rattle.group_engine.specs.declared.queue.Queued.{Queued}
 use Rattle.group_engine.specs.Queue.{ranked, ranked_all}
-use Rattle.group_engine.specs.State.{top_tasks}
+use Rattle.group_state.specs.State.{top_tasks}
 
 pub top_tasks-more : (qs : List Queued) (i : ℕ) (d : Queued) → i < length qs → top_tasks (i + 1) (ranked_all qs) ≡ top_tasks i (ranked_all qs) ++ (get_or qs i d).task.0 ∷ []
 top_tasks-more qs i d lt =

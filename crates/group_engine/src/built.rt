@@ -1,7 +1,7 @@
 //! What is played so far.
 ghost use Rattle.std.specs.Prelude.{◌≡◌};
 ghost use Rattle.std.specs.List.{list_all};
-ghost use Rattle.group_engine.specs.Built as built;
+ghost use Rattle.group_state.specs.Built as built;
 
 use rt_task::{Act, Drive, Kind, Op, PluginKind, Setup, Step, Task};
 

@@ -5,8 +5,8 @@ ghost use Rattle.rt_task.specs.Validity.{IsValid};
 ghost use Rattle.rt_model.specs.Runs.{runs};
 ghost use Rattle.rt_model.specs.Links.{linked};
 ghost use Rattle.rt_model.specs.Histories.{reply_to};
-ghost use Rattle.group_engine.specs.Built.{is_built, is_built_act};
-ghost use Rattle.group_engine.specs.Groups.{GroupHistory, group_of, past, with_entry, IsLegalNow, AllPlayed, IsGroupOf, IsProcessorOf};
+ghost use Rattle.group_state.specs.Built.{is_built, is_built_act};
+ghost use Rattle.group_state.specs.Groups.{GroupHistory, group_of, past, with_entry, IsLegalNow, AllPlayed, IsGroupOf, IsProcessorOf};
 
 use crate::room::put;
 use crate::state::GroupState;
@@ -30,8 +30,8 @@ pub struct Engine {
 
 impl Model for Engine {
     ghost use Rattle.std.specs.Prelude.{◌-◌, vec_len, vec_capacity};
-    ghost use Rattle.group_engine.specs.Groups.{GroupHistory};
-    ghost use Rattle.group_engine.specs.State.{IsSound};
+    ghost use Rattle.group_state.specs.Groups.{GroupHistory};
+    ghost use Rattle.group_state.specs.State.{IsSound};
 
     ghost Value = { GroupHistory };
 

@@ -13,12 +13,13 @@ ghost use Rattle.rt_model.specs.Past.{Acted};
 ghost use Rattle.rt_model.specs.Runs.{runs};
 ghost use Rattle.rt_model.specs.Answers.{answer};
 ghost use Rattle.rt_model.specs.Outcomes.{past_act};
-ghost use Rattle.group_engine.specs.Built.{is_built_act};
-ghost use Rattle.group_engine.specs.Queue.{ranked, ranked_all, ranked_by, tasks_of, without_task};
+ghost use Rattle.group_state.specs.Built.{is_built_act};
+ghost use Rattle.group_engine.specs.Queue.{ranked, ranked_all};
+ghost use Rattle.group_state.specs.Ranked.{ranked_by, tasks_of, without_task};
 ghost use Rattle.link_table.specs.Linked.{irq_reply, after_irq};
-ghost use Rattle.group_engine.specs.Due.{due_ready, not_due, ready_task};
-ghost use Rattle.group_engine.specs.Moves.{CanOpen, first_waiting, opened, replaced, clock_moved, has_worked, has_run, job_ended};
-ghost use Rattle.group_engine.specs.State.{State, top_tasks, rel_deadline_of, CanAct, CanActNow, CanOperate, CanOperateNow, HasActed, IsBounded, Moment, linked_of};
+ghost use Rattle.group_state.specs.Due.{due_ready, not_due, ready_task};
+ghost use Rattle.group_state.specs.Moves.{CanOpen, first_waiting, opened, replaced, clock_moved, has_worked, has_run, job_ended};
+ghost use Rattle.group_state.specs.State.{State, top_tasks, rel_deadline_of, CanAct, CanActNow, CanOperate, CanOperateNow, HasActed, IsBounded, Moment, linked_of};
 
 use crate::queue::{Queue, Queued};
 use crate::room::put;
@@ -44,7 +45,7 @@ pub(crate) struct GroupState {
 
 impl Model for GroupState {
     ghost use Rattle.std.specs.Prelude.{◌≡◌, ◌≤◌, length, vec_capacity};
-    ghost use Rattle.group_engine.specs.State.{State, HasRooms};
+    ghost use Rattle.group_state.specs.State.{State, HasRooms};
 
     ghost Value = { State };
 

@@ -9,11 +9,11 @@ use Rattle.rt_task.specs.declared.Drive.TheVariants.{Steps, Horizon}
 use Rattle.rt_task.specs.RuleWords.{is_empty}
 use Rattle.rt_task.specs.Validity.{IsValid}
 use Rattle.rt_model.specs.Group.{no_cluster}
-use Rattle.group_engine.specs.Built.{is_built, is_built_drive, is_built_task, is_gsn_edf}
-use Rattle.group_engine.specs.Groups.{IsGroupOf}
-use Rattle.group_engine.proofs.Plain.{IsPlainSet, plain-set, both}
-use Rattle.group_engine.proofs.PlainGroup.{one, the_group}
-use Rattle.group_engine.proofs.PlainSteps.{ArePlainSteps, plain-steps}
+use Rattle.group_state.specs.Built.{is_built, is_built_drive, is_built_task, is_gsn_edf}
+use Rattle.group_state.specs.Groups.{IsGroupOf}
+use Rattle.group_state.proofs.Plain.{IsPlainSet, plain-set, both}
+use Rattle.group_state.proofs.PlainGroup.{one, the_group}
+use Rattle.group_state.proofs.PlainSteps.{ArePlainSteps, plain-steps}
 use Rattle.rtsim.specs.Order.{history, history_of, steps_given}
 use Rattle.rtsim.proofs.OrderLaws.{all-in_group}
 

@@ -16,10 +16,10 @@ use Rattle.rt_fault.specs.declared.status.Status.{Status}
 use Rattle.rt_fault.specs.declared.status.Status.TheVariants as ends
 use Rattle.rt_model.specs.Group.{no_cluster}
 use Rattle.set_read.specs.Sets.{set, ◌>>=◌}
-use Rattle.group_engine.specs.Built.{is_built}
-use Rattle.group_engine.specs.Groups.{GroupHistory, IsGroupOf}
-use Rattle.group_engine.proofs.Plain.{IsPlainSet, plain-set}
-use Rattle.group_engine.proofs.PlainGroup.{one}
+use Rattle.group_state.specs.Built.{is_built}
+use Rattle.group_state.specs.Groups.{GroupHistory, IsGroupOf}
+use Rattle.group_state.proofs.Plain.{IsPlainSet, plain-set}
+use Rattle.group_state.proofs.PlainGroup.{one}
 use Rattle.trace_text.specs.Groups.{AreGroupsOf}
 use Rattle.trace_text.specs.Groups as groups
 use Rattle.rtsim.specs.Order.{history_of, histories, group_count}

@@ -1,6 +1,6 @@
 //! Playing the steps of a set in their order.
 ghost use Rattle.std.specs.Prelude.{◌≡◌, IfOk, true, length};
-ghost use Rattle.group_engine.specs.Built.{is_built};
+ghost use Rattle.group_state.specs.Built.{is_built};
 ghost use Rattle.rtsim.specs.Order.{history_of, steps_given};
 
 use group_engine::Engine;

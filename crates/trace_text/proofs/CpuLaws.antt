@@ -9,9 +9,9 @@ use Rattle.rt_task.specs.declared.Parts.{Parts}
 use Rattle.rt_task.specs.Validity.{IsValid}
 use Rattle.rt_rules.specs.Numbers.{numbers_from}
 use Rattle.rt_model.specs.Group.{Group, cluster, cpus, in_group, clusters, first_in, first_cpu, processors, group_processors, no_cluster}
-use Rattle.group_engine.specs.Built.{is_built}
+use Rattle.group_state.specs.Built.{is_built}
 use Rattle.trace_text.specs.Groups.{cpu_numbers}
-use Rattle.group_engine.proofs.Plain.{plain-set}
+use Rattle.group_state.proofs.Plain.{plain-set}
 
 -- numbers from a up to e
 pub numbers_more : (xs : List ℕ) (a e : ℕ) → a < e → (xs ++ a ∷ []) ++ numbers_from (a + 1) (e - (a + 1)) ≡ xs ++ numbers_from a (e - a)

@@ -7,10 +7,10 @@ use Rattle.rt_task.specs.declared.Parts.{Parts}
 use Rattle.rt_task.specs.Validity.{IsValid}
 use Rattle.rt_rules.proofs.NumberLaws.{numbers_from-has}
 use Rattle.rt_model.specs.Group.{no_cluster, cpus}
-use Rattle.group_engine.specs.Built.{is_built}
-use Rattle.group_engine.specs.Groups.{GroupHistory, IsGroupOf, IsProcessorOf}
-use Rattle.group_engine.proofs.Plain.{plain-set}
-use Rattle.group_engine.proofs.PlainGroup.{IsPlainGroup, group-plain}
+use Rattle.group_state.specs.Built.{is_built}
+use Rattle.group_state.specs.Groups.{GroupHistory, IsGroupOf, IsProcessorOf}
+use Rattle.group_state.proofs.Plain.{plain-set}
+use Rattle.group_state.proofs.PlainGroup.{IsPlainGroup, group-plain}
 use Rattle.trace_text.specs.Groups.{AreGroupsOf}
 
 -- group 0 is there

@@ -19,10 +19,10 @@ use Rattle.rt_model.specs.Histories.{after, changed, clock_moved, past_from, pas
 use Rattle.rt_model.specs.Outcomes.{past_act}
 use Rattle.rt_model.specs.Past.{Past, sem_act, PastAct, sem_act_of, accepted, entries_in, Clock, Acted}
 use Rattle.rt_model.proofs.Steps.{after-acted}
-use Rattle.group_engine.specs.Built.{is_built, is_built_act}
-use Rattle.group_engine.specs.Groups.{GroupHistory, group_of, past, IsPlayedEntry}
-use Rattle.group_engine.proofs.Plain.{plain-set}
-use Rattle.group_engine.proofs.PlainGroup.{group-plain}
+use Rattle.group_state.specs.Built.{is_built, is_built_act}
+use Rattle.group_state.specs.Groups.{GroupHistory, group_of, past, IsPlayedEntry}
+use Rattle.group_state.proofs.Plain.{plain-set}
+use Rattle.group_state.proofs.PlainGroup.{group-plain}
 use Rattle.trace_lines.specs.Lines.{Link, Line, links_of, group_line, entry_line, end_line}
 use Rattle.trace_lines.specs.declared.links.CpuLink.{CpuLink}
 use Rattle.trace_lines.specs.Grammar.{line_text}

@@ -2,7 +2,7 @@
 ghost use Rattle.std.specs.Prelude.{◌≡◌, ◌+◌, ◌^◌, ◌<◌, ◌++◌, true, IfOk, OnOk};
 ghost use Rattle.rt_rules.specs.Numbers.{numbers_from};
 ghost use Rattle.rt_model.specs.Group.{group_processors};
-ghost use Rattle.group_engine.specs.Built.{is_built};
+ghost use Rattle.group_state.specs.Built.{is_built};
 ghost use Rattle.trace_text.specs.Groups.{cpu_numbers};
 
 use rt_base::{CpuNo, GroupNo, NoMemory};

@@ -1,7 +1,7 @@
 //! The groups of a trace.
 ghost use Rattle.std.specs.Prelude.{◌≡◌, ◌≤◌, ◌++◌, All, IfOk, IfErr, true, flat_map, length};
-ghost use Rattle.group_engine.specs.Built.{is_built};
-ghost use Rattle.group_engine.specs.Groups.{group_of, past, IsGroupOf, IsPlayedEntry};
+ghost use Rattle.group_state.specs.Built.{is_built};
+ghost use Rattle.group_state.specs.Groups.{group_of, past, IsGroupOf, IsPlayedEntry};
 ghost use Rattle.trace_lines.specs.Grammar.{line_text};
 ghost use Rattle.trace_text.specs.Groups.{AreGroupsOf, Follows, histories};
 ghost use Rattle.trace_lines.specs.FirstLine.{first_line, format_1};

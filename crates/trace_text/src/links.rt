@@ -3,7 +3,7 @@ ghost use Rattle.std.specs.Prelude.{◌≡◌, All, OnOk};
 ghost use Rattle.rt_base.specs.TaskNos.{number_of_task};
 ghost use Rattle.rt_rules.specs.Numbers.{same};
 ghost use Rattle.rt_model.specs.Links.{linked};
-ghost use Rattle.group_engine.specs.Groups.{group_of, past, IsProcessorOf};
+ghost use Rattle.group_state.specs.Groups.{group_of, past, IsProcessorOf};
 ghost use Rattle.trace_lines.specs.Lines.{links_of};
 ghost use Rattle.trace_text.specs.TraceText.{links_at};
 ghost use Rattle.trace_text.specs.Groups as groups;

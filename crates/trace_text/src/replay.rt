@@ -1,8 +1,8 @@
 //! A group's steps taken again, for the links that each of them changes.
 ghost use Rattle.std.specs.Prelude.{◌≡◌, ◌-◌, ◌<◌, ◌≤◌, [], true, IfOk, OnOk};
 ghost use Rattle.rt_model.specs.Histories.{after, changed};
-ghost use Rattle.group_engine.specs.Built.{is_built, is_built_act};
-ghost use Rattle.group_engine.specs.Groups.{group_of, past, IsGroupOf, IsProcessorOf};
+ghost use Rattle.group_state.specs.Built.{is_built, is_built_act};
+ghost use Rattle.group_state.specs.Groups.{group_of, past, IsGroupOf, IsProcessorOf};
 ghost use Rattle.trace_lines.specs.Lines.{links_of};
 ghost use Rattle.trace_text.specs.TraceText.{links_at};
 ghost use Rattle.trace_text.specs.Groups.{Follows};

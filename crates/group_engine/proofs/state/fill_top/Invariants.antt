@@ -1,7 +1,7 @@
 use Rattle.std.proofs.Common.{◌≡◌, ◌≤◌, vec_capacity, vec_len}
 use Rattle.rt_base.specs.TaskNos.{numbers}
 use Rattle.group_engine.specs.Queue.{ranked_all}
-use Rattle.group_engine.specs.State.{top_tasks}
+use Rattle.group_state.specs.State.{top_tasks}
 use Rattle.group_engine.proofs.state.fill_top.Given as goal
 
 -- so far the top has the tasks that were passed

@@ -1,7 +1,7 @@
 use Rattle.std.proofs.Common.{◌≡◌, ◌+◌, ◌≤◌, false, length}
 use Rattle.std.specs.Prelude.{All}
-use Rattle.group_engine.specs.Due.{due_ready, not_due}
-use Rattle.group_engine.specs.State.{rel_deadline_of, IsBounded}
+use Rattle.group_state.specs.Due.{due_ready, not_due}
+use Rattle.group_state.specs.State.{rel_deadline_of, IsBounded}
 use Rattle.group_engine.proofs.state.release_due.Given as goal
 
 -- what is due of those that still wait joins those that are ready by now

@@ -1,6 +1,6 @@
 use Rattle.std.proofs.Common.{◌≡◌, ◌+◌, length, arith}
-use Rattle.group_engine.proofs.Ranking.{length-inserted}
-use Rattle.group_engine.proofs.Opening.{waiting-more}
+use Rattle.group_state.proofs.Ranking.{length-inserted}
+use Rattle.group_state.proofs.Opening.{waiting-more}
 use Rattle.group_engine.proofs.state.waiting_tasks.Goals as goal
 
 pub loop-left-preserved : goal.loop-left-preserved

@@ -1,8 +1,8 @@
 use Rattle.std.proofs.Common.{◌≤◌, List, [], length, ap, ◌∙◌, sym, subst, arith}
 use Rattle.rt_task.specs.declared.Parts.{Parts}
 use Rattle.rt_task.specs.declared.Step.{Step}
-use Rattle.group_engine.specs.Groups.{GroupHistory}
-use Rattle.group_engine.proofs.PlainSteps.{ArePlainSteps}
+use Rattle.group_state.specs.Groups.{GroupHistory}
+use Rattle.group_state.proofs.PlainSteps.{ArePlainSteps}
 use Rattle.rtsim.specs.Order.{history, steps_given}
 use Rattle.rtsim.proofs.OrderLaws.{taken-none, taken-next, taken-all}
 use Rattle.rtsim.proofs.GivenSteps.{given-steps, first-group, history-given}

@@ -2,7 +2,7 @@ use Rattle.std.proofs.Common.{◌≡◌, List, [], ap, ◌∙◌, subst, refl, O
 use Rattle.rt_model.specs.Group.{Group, group_processors}
 use Rattle.rt_model.specs.Past.{Past}
 use Rattle.rt_history.specs.declared.Entry.{Entry}
-use Rattle.group_engine.specs.Groups.{GroupHistory, group_of, past}
+use Rattle.group_state.specs.Groups.{GroupHistory, group_of, past}
 use Rattle.trace_lines.specs.Grammar.{line_text}
 use Rattle.trace_lines.specs.Lines.{links_of, group_line}
 use Rattle.trace_text.specs.TraceText.{entry_lines, group_lines, links_at}

@@ -1,6 +1,6 @@
 use Rattle.std.proofs.Common.{◌≡◌, ◌++◌, drop}
 use Rattle.rt_model.specs.Links.{linked}
-use Rattle.group_engine.specs.Groups.{group_of, past}
+use Rattle.group_state.specs.Groups.{group_of, past}
 use Rattle.trace_lines.specs.Lines.{links_of}
 use Rattle.trace_text.specs.Groups.{changed_links}
 use Rattle.trace_text.proofs.links.read_changed.Given as goal

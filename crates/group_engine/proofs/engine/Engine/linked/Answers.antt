@@ -1,7 +1,7 @@
 use Rattle.std.proofs.Common.{sym, ap, ◌∙◌, subst}
 use Rattle.rt_model.specs.Links.{linked}
-use Rattle.group_engine.specs.Groups.{GroupHistory, group_of, past, IsProcessorOf}
-use Rattle.group_engine.proofs.Stepping.{linked-there, runs_inside}
+use Rattle.group_state.specs.Groups.{GroupHistory, group_of, past, IsProcessorOf}
+use Rattle.group_state.proofs.Stepping.{linked-there, runs_inside}
 use Rattle.group_engine.proofs.engine.Engine.linked.Goals as goal
 
 pub linked-requires : goal.linked-requires

@@ -5,11 +5,11 @@ use Rattle.rt_task.specs.declared.Parts.{Parts}
 use Rattle.rt_task.specs.declared.Cluster.{Cluster}
 use Rattle.rt_task.specs.Validity.{IsValid}
 use Rattle.rt_model.specs.Group.{Group, no_cluster, cpus}
-use Rattle.group_engine.specs.Built.{is_built}
-use Rattle.group_engine.specs.Groups.{IsGroupOf}
-use Rattle.group_engine.specs.Moves.{opened}
-use Rattle.group_engine.specs.State.{IsPlayed}
-use Rattle.group_engine.proofs.Opening.{can_open, first-cpus, some-cluster, sound-open}
+use Rattle.group_state.specs.Built.{is_built}
+use Rattle.group_state.specs.Groups.{IsGroupOf}
+use Rattle.group_state.specs.Moves.{opened}
+use Rattle.group_state.specs.State.{IsPlayed}
+use Rattle.group_state.proofs.Opening.{can_open, first-cpus, some-cluster, sound-open}
 use Rattle.group_engine.proofs.engine.Engine.open.Goals as goal
 
 played : (p q : Parts) (n : ℕ) → p ≡ q → IsValid p → is_built q ≡ true → IsGroupOf q n → IsPlayed (record { setup = p; number = n })

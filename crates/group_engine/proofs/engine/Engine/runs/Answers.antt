@@ -1,7 +1,7 @@
 use Rattle.std.proofs.Common.{sym, ap, ◌∙◌, subst}
 use Rattle.rt_model.specs.Runs.{runs}
-use Rattle.group_engine.specs.Groups.{GroupHistory, group_of, past, IsProcessorOf}
-use Rattle.group_engine.proofs.Stepping.{runs-there, runs_inside}
+use Rattle.group_state.specs.Groups.{GroupHistory, group_of, past, IsProcessorOf}
+use Rattle.group_state.proofs.Stepping.{runs-there, runs_inside}
 use Rattle.group_engine.proofs.engine.Engine.runs.Goals as goal
 
 pub runs-requires : goal.runs-requires

@@ -4,11 +4,11 @@ use Rattle.rt_task.specs.declared.Task.{Task}
 use Rattle.rt_task.specs.declared.Parts.{Parts}
 use Rattle.rt_rules.specs.Distinct.{IsDistinct}
 use Rattle.rt_model.specs.Histories.{reply_to}
-use Rattle.group_engine.specs.Groups.{GroupHistory, group_of, past, IsProcessorOf}
-use Rattle.group_engine.specs.Queue.{tasks_of}
-use Rattle.group_engine.specs.Due.{due_ready}
-use Rattle.group_engine.specs.State.{IsBounded, rel_deadline_of}
-use Rattle.group_engine.proofs.Stepping as stepping
+use Rattle.group_state.specs.Groups.{GroupHistory, group_of, past, IsProcessorOf}
+use Rattle.group_state.specs.Ranked.{tasks_of}
+use Rattle.group_state.specs.Due.{due_ready}
+use Rattle.group_state.specs.State.{IsBounded, rel_deadline_of}
+use Rattle.group_state.proofs.Stepping as stepping
 use Rattle.group_engine.proofs.engine.Engine.step.Goals as goal
 
 -- a processor of the group that contracts see is one of the group inside

@@ -1,8 +1,8 @@
 use Rattle.std.proofs.Common.{◌≡◌, true, sym, ◌∙◌, subst}
 use Rattle.std.specs.Prelude.{None, Some}
 use Rattle.rt_task.specs.declared.Act.TheVariants as acts
-use Rattle.group_engine.specs.Built.{is_built_act}
-use Rattle.group_engine.proofs.Doing.{runs-inside, distinct-now, settled-now, runs-now, tick-answer, kept-ticked, irq-answered, kept-interrupted, idle-answer, kept-idle}
+use Rattle.group_state.specs.Built.{is_built_act}
+use Rattle.group_state.proofs.Doing.{runs-inside, distinct-now, settled-now, runs-now, tick-answer, kept-ticked, irq-answered, kept-interrupted, idle-answer, kept-idle}
 use Rattle.group_engine.proofs.state.GroupState.act.Goals as goal
 
 pub take_irq-requires : goal.take_irq-requires

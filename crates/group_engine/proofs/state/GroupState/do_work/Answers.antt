@@ -1,8 +1,8 @@
 use Rattle.std.proofs.Common.{◌≡◌, true, false, sym, ap, ◌∙◌, get_or}
 use Rattle.std.specs.Prelude.{None, Some, nat_eq}
 use Rattle.std.specs.Option.{option_eq}
-use Rattle.group_engine.specs.State.{State}
-use Rattle.group_engine.proofs.Doing.{spent-answer, worked-answer, kept-spent, kept-worked}
+use Rattle.group_state.specs.State.{State}
+use Rattle.group_state.proofs.Doing.{spent-answer, worked-answer, kept-spent, kept-worked}
 use Rattle.group_engine.proofs.state.GroupState.do_work.Goals as goal
 
 pub returns-then-eq : goal.returns-then-eq

@@ -4,7 +4,7 @@ use Rattle.rt_model.specs.Links.{linked}
 use Rattle.trace_lines.specs.declared.links.CpuLink.{CpuLink}
 use Rattle.trace_lines.specs.Lines.{links_of}
 use Rattle.trace_text.specs.Groups.{changed_links}
-use Rattle.group_engine.specs.Groups.{group_of, past}
+use Rattle.group_state.specs.Groups.{group_of, past}
 use Rattle.trace_text.proofs.ReplayLaws.{cpus_there, links_there, past_step, changed_by, on_ok}
 use Rattle.trace_text.proofs.replay.Replay.step.Goals as goal
 

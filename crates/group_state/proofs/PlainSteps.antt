@@ -23,11 +23,11 @@ use Rattle.rt_task.specs.SizeRules.{whole_size, horizon_fits}
 use Rattle.rt_task.specs.Validity.{IsValid}
 use Rattle.rt_rules.proofs.NumberLaws.{numbers_from-has}
 use Rattle.rt_model.specs.Group.{Group, no_cluster, cluster, cpus}
-use Rattle.group_engine.specs.Built.{is_built, is_built_act, is_built_task, is_gsn_edf}
-use Rattle.group_engine.specs.Groups.{IsProcessorOf}
-use Rattle.group_engine.proofs.Plain.{InRange, plain-set, in_range, valid-refusal, both, all-at}
-use Rattle.group_engine.proofs.PlainGroup.{IsPlainGroup, plain-group, one}
-use Rattle.group_engine.proofs.Rules.{each-none}
+use Rattle.group_state.specs.Built.{is_built, is_built_act, is_built_task, is_gsn_edf}
+use Rattle.group_state.specs.Groups.{IsProcessorOf}
+use Rattle.group_state.proofs.Plain.{InRange, plain-set, in_range, valid-refusal, both, all-at}
+use Rattle.group_state.proofs.PlainGroup.{IsPlainGroup, plain-group, one}
+use Rattle.group_state.proofs.Rules.{each-none}
 
 pub record ArePlainSteps (p : Parts) (steps : List Step) : Type 0 where
   pub few : length steps ≤ 200000

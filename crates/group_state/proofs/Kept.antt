@@ -21,15 +21,15 @@ use Rattle.rt_rules.proofs.PlacingLaws.{equal_self}
 use Rattle.rt_model.proofs.Steps.{done-step, links-step}
 use Rattle.rt_model.proofs.PastLaws.{IsSingle, single, processor-home, length-runs_of}
 use Rattle.rt_model.proofs.TopLaws.{distinct-top, length-top, distinct-tasks_of}
-use Rattle.group_engine.specs.Queue.{ranked_by, without_task}
-use Rattle.group_engine.specs.State.{State, IsKept, top_tasks, release_at, key_at, wait_key}
+use Rattle.group_state.specs.Ranked.{ranked_by, without_task}
+use Rattle.group_state.specs.State.{State, IsKept, top_tasks, release_at, key_at, wait_key}
 use Rattle.rt_rules.proofs.NumberLaws.{has-numbers_from}
-use Rattle.group_engine.proofs.PlainGroup.{IsPlainGroup, task_range}
-use Rattle.group_engine.specs.Moves.{clock_moved, job_ended}
-use Rattle.group_engine.proofs.PlainModel.{ranking-at}
-use Rattle.group_engine.proofs.Fresh.{placed-again}
-use Rattle.group_engine.proofs.Ranking.{ranked_by-same, ranked_by-less, ranked_by-with}
-use Rattle.group_engine.proofs.DueLaws.{due}
+use Rattle.group_state.proofs.PlainGroup.{IsPlainGroup, task_range}
+use Rattle.group_state.specs.Moves.{clock_moved, job_ended}
+use Rattle.group_state.proofs.PlainModel.{ranking-at}
+use Rattle.group_state.proofs.Fresh.{placed-again}
+use Rattle.group_state.proofs.Ranking.{ranked_by-same, ranked_by-less, ranked_by-with}
+use Rattle.group_state.proofs.DueLaws.{due}
 
 module _ (g : Group) (s : IsPlainGroup g) where
   -- the top is the first of the ready tasks

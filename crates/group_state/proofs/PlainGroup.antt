@@ -10,8 +10,8 @@ use Rattle.rt_rules.proofs.PlacingLaws.{equal_self, or_true}
 use Rattle.rt_rules.proofs.NumberLaws.{has-numbers_from}
 use Rattle.rt_model.proofs.PastLaws.{numbers_from-below}
 use Rattle.rt_model.specs.Group.{Group, no_cluster, task, cluster, cpus, home, in_group, clusters, tasks, tasks_of, sems, first_cpu, first_in, cluster_with, cluster_in, processors, group_processors}
-use Rattle.group_engine.specs.Groups.{IsGroupOf}
-use Rattle.group_engine.proofs.Plain.{IsPlainSet}
+use Rattle.group_state.specs.Groups.{IsGroupOf}
+use Rattle.group_state.proofs.Plain.{IsPlainSet}
 
 pub record IsPlainGroup (g : Group) : Type 0 where
   pub set : IsPlainSet g.setup

@@ -8,7 +8,7 @@ use Rattle.rt_rules.specs.Numbers.{has}
 use Rattle.rt_model.specs.Group.{Group, group_processors}
 use Rattle.rt_model.specs.Past.{Past}
 use Rattle.rt_model.specs.Histories.{past_of, IsLegal}
-use Rattle.group_engine.specs.Built.{is_built_act}
+use Rattle.group_state.specs.Built.{is_built_act}
 
 -- a group of a setup: its entries so far, and room for how many more
 pub record GroupHistory : Type 0 where

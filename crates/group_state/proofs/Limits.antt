@@ -24,13 +24,13 @@ use Rattle.rt_model.proofs.TopLaws.{distinct-tasks_of}
 use Rattle.rt_model.proofs.PastLaws.{length-runs_of}
 use Rattle.rt_laws.proofs.Running.{IsRunning, running}
 use Rattle.rt_laws.proofs.ValidSets.{rules_of}
-use Rattle.group_engine.specs.Queue.{ranked_by, without_task}
-use Rattle.group_engine.specs.Queue as queue
-use Rattle.group_engine.specs.State.{State, IsKept, IsPlayed, IsBounded, release_at, wait_key, key_at}
-use Rattle.group_engine.proofs.Ranking.{length-inserted, has-ranked_by, tasks_ranked-keys}
-use Rattle.group_engine.proofs.Plain.{IsPlainTask, plain-set}
-use Rattle.group_engine.proofs.PlainGroup.{IsPlainGroup, group-plain, task_range}
-use Rattle.group_engine.proofs.PlainModel.{plain-task, exists-at}
+use Rattle.group_state.specs.Ranked.{ranked_by, without_task}
+use Rattle.group_state.specs.Ranked as queue
+use Rattle.group_state.specs.State.{State, IsKept, IsPlayed, IsBounded, release_at, wait_key, key_at}
+use Rattle.group_state.proofs.Ranking.{length-inserted, has-ranked_by, tasks_ranked-keys}
+use Rattle.group_state.proofs.Plain.{IsPlainTask, plain-set}
+use Rattle.group_state.proofs.PlainGroup.{IsPlainGroup, group-plain, task_range}
+use Rattle.group_state.proofs.PlainModel.{plain-task, exists-at}
 
 pub plain : (g : Group) → IsPlayed g → IsPlainGroup g
 plain g p = group-plain g.setup g.number (plain-set g.setup p.valid p.built) p.is_there

@@ -15,21 +15,21 @@ use Rattle.rt_model.specs.Past.{Acted, Past, now}
 use Rattle.rt_model.specs.Jobs.{done}
 use Rattle.rt_rules.specs.Placing.{placed, at_place}
 use Rattle.link_table.specs.Linked.{irq_reply, after_irq}
-use Rattle.group_engine.specs.Built.{is_built_act}
+use Rattle.group_state.specs.Built.{is_built_act}
 use Rattle.rt_model.specs.Runs.{runs, leaves}
 use Rattle.rt_model.specs.Answers.{answer, last_work}
 use Rattle.rt_model.specs.Outcomes.{past_act}
-use Rattle.group_engine.specs.Moves.{has_worked, job_ended, replaced}
-use Rattle.group_engine.specs.Queue as queue
-use Rattle.group_engine.specs.Queue.{without_task}
-use Rattle.group_engine.specs.State.{State, IsKept, Moment, CanAct, CanOperate, release_at, key_at, top_tasks, linked_of}
-use Rattle.group_engine.proofs.Plain.{IsPlainTask}
-use Rattle.group_engine.proofs.PlainGroup.{IsPlainGroup}
-use Rattle.group_engine.proofs.PlainModel.{plain-task}
-use Rattle.group_engine.proofs.Kept.{ended_state, settled}
-use Rattle.group_engine.proofs.Replies.{work-reply, end-reply, idle-reply, irq-reply, runs-at}
-use Rattle.group_engine.proofs.Acts.{kept-tick, kept-irq, kept-refused, kept-work, kept-end-act}
-use Rattle.group_engine.proofs.Limits.{plain, RunsHere, runs-here, ready-without, few-queued, distinct-ready, length-runs, task-low, task-high, done-few}
+use Rattle.group_state.specs.Moves.{has_worked, job_ended, replaced}
+use Rattle.group_state.specs.Ranked as queue
+use Rattle.group_state.specs.Ranked.{without_task}
+use Rattle.group_state.specs.State.{State, IsKept, Moment, CanAct, CanOperate, release_at, key_at, top_tasks, linked_of}
+use Rattle.group_state.proofs.Plain.{IsPlainTask}
+use Rattle.group_state.proofs.PlainGroup.{IsPlainGroup}
+use Rattle.group_state.proofs.PlainModel.{plain-task}
+use Rattle.group_state.proofs.Kept.{ended_state, settled}
+use Rattle.group_state.proofs.Replies.{work-reply, end-reply, idle-reply, irq-reply, runs-at}
+use Rattle.group_state.proofs.Acts.{kept-tick, kept-irq, kept-refused, kept-work, kept-end-act}
+use Rattle.group_state.proofs.Limits.{plain, RunsHere, runs-here, ready-without, few-queued, distinct-ready, length-runs, task-low, task-high, done-few}
 
 option_eq-same : (o : Option ℕ) (n : ℕ) → option_eq nat_eq o (Some n) ≡ same o (Some n)
 option_eq-same None n = refl
@@ -111,7 +111,7 @@ module _ (at : Moment) (tasks : List Task) (q t : ℕ) (state : State) (can : Ca
         low = low;
         high = omega (arith, k.done_length);
         listed = high;
-        few = let is : get_or state.done (t - 1) 0 ≡ done t p = k.done_are t here.there in omega (arith, can.act.short);
+        few = let is : get_or state.done (t - 1) 0 ≡ done t p = k.done_are t here.there in let f : done t p < 2 ^ 20 = can.act.few t here.there in omega arith;
         ready_room = omega (arith, fits, out);
         waiting_room = omega (arith, fits, out);
         runs_length = let l = length-runs g s p state k in omega (arith, inside);

@@ -21,16 +21,16 @@ use Rattle.rt_model.specs.Made.{IsMade}
 use Rattle.rt_model.specs.Made as made
 use Rattle.rt_model.specs.Histories.{past_of, past_from}
 use Rattle.rt_model.proofs.TopLaws.{distinct-tasks_of}
-use Rattle.group_engine.specs.Queue.{ranked_by}
-use Rattle.group_engine.specs.Queue as queue
-use Rattle.group_engine.specs.Moves.{opened, CanOpen}
-use Rattle.group_engine.specs.State.{State, IsKept, IsPlayed, IsSound, IsBounded, release_at, key_at, wait_key, rel_deadline_of}
-use Rattle.group_engine.proofs.Ranking.{ranked_by-same}
-use Rattle.group_engine.proofs.DueLaws.{due}
-use Rattle.group_engine.proofs.Plain.{IsPlainTask}
-use Rattle.group_engine.proofs.PlainGroup.{IsPlainGroup}
-use Rattle.group_engine.proofs.Kept.{top-ready}
-use Rattle.group_engine.proofs.Limits.{plain, ranked_by-each, length-sorted, task-low, task-high, length-numbers, distinct-ready}
+use Rattle.group_state.specs.Ranked.{ranked_by}
+use Rattle.group_state.specs.Ranked as queue
+use Rattle.group_state.specs.Moves.{opened, CanOpen}
+use Rattle.group_state.specs.State.{State, IsKept, IsPlayed, IsSound, IsBounded, release_at, key_at, wait_key, rel_deadline_of}
+use Rattle.group_state.proofs.Ranking.{ranked_by-same}
+use Rattle.group_state.proofs.DueLaws.{due}
+use Rattle.group_state.proofs.Plain.{IsPlainTask}
+use Rattle.group_state.proofs.PlainGroup.{IsPlainGroup}
+use Rattle.group_state.proofs.Kept.{top-ready}
+use Rattle.group_state.proofs.Limits.{plain, ranked_by-each, length-sorted, task-low, task-high, length-numbers, distinct-ready}
 
 -- the tasks by their first releases
 abbrev pub first_key : List Task → ℕ → Key

@@ -21,14 +21,14 @@ use Rattle.rt_model.specs.Answers.{answer, last_work, works_at}
 use Rattle.rt_model.specs.Outcomes.{past_act, ended, ended_by, is_spent}
 use Rattle.rt_model.proofs.Steps.{runs-acted, past_act-cpu, past_act-reply, past_act-end, past_act-tick}
 use Rattle.link_table.specs.Linked.{Linked, irq_reply, is_pending, link_reply, link_of, runs_on, with_run, after_irq}
-use Rattle.group_engine.specs.Built.{is_built_act}
-use Rattle.group_engine.specs.Moves.{replaced, has_worked}
-use Rattle.group_engine.specs.State.{State, IsKept, linked_of, release_at}
-use Rattle.group_engine.proofs.PlainGroup.{IsPlainGroup}
-use Rattle.group_engine.proofs.Plain.{IsPlainTask}
-use Rattle.group_engine.proofs.PlainModel.{plain-task}
-use Rattle.group_engine.proofs.Kept.{IsStill, kept-still, kept-end, ended_state, settled}
-use Rattle.group_engine.proofs.Replies.{irq-reply, end-reply}
+use Rattle.group_state.specs.Built.{is_built_act}
+use Rattle.group_state.specs.Moves.{replaced, has_worked}
+use Rattle.group_state.specs.State.{State, IsKept, linked_of, release_at}
+use Rattle.group_state.proofs.PlainGroup.{IsPlainGroup}
+use Rattle.group_state.proofs.Plain.{IsPlainTask}
+use Rattle.group_state.proofs.PlainModel.{plain-task}
+use Rattle.group_state.proofs.Kept.{IsStill, kept-still, kept-end, ended_state, settled}
+use Rattle.group_state.proofs.Replies.{irq-reply, end-reply}
 
 -- ---- what runs, processor by processor
 

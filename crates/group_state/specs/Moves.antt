@@ -7,9 +7,9 @@ use Rattle.rt_model.specs.Group.{no_task}
 use Rattle.rt_rules.specs.Keys.{Ranked, inserted}
 use Rattle.rt_rules.specs.Distinct.{IsDistinct}
 use Rattle.rt_rules.specs.Placing.{placed}
-use Rattle.group_engine.specs.Queue.{without_task, ranked_by, tasks_of}
-use Rattle.group_engine.specs.Due.{due_ready, not_due}
-use Rattle.group_engine.specs.State.{State, top_tasks, rel_deadline_of, IsBounded}
+use Rattle.group_state.specs.Ranked.{without_task, ranked_by, tasks_of}
+use Rattle.group_state.specs.Due.{due_ready, not_due}
+use Rattle.group_state.specs.State.{State, top_tasks, rel_deadline_of, IsBounded}
 
 -- the links placed over what is ready and what runs now
 abbrev pub replaced : ℕ → State → State

@@ -20,9 +20,9 @@ use Rattle.rt_model.specs.Outcomes.{past_act}
 use Rattle.rt_model.specs.Made.{IsMade}
 use Rattle.rt_model.specs.Histories.{past_of, IsLegal}
 use Rattle.link_table.specs.Linked.{Linked}
-use Rattle.group_engine.specs.Queue.{ranked_by}
-use Rattle.group_engine.specs.Built.{is_built}
-use Rattle.group_engine.specs.Groups.{IsGroupOf, IsPlayedEntry}
+use Rattle.group_state.specs.Ranked.{ranked_by}
+use Rattle.group_state.specs.Built.{is_built}
+use Rattle.group_state.specs.Groups.{IsGroupOf, IsPlayedEntry}
 
 -- the release of the task's job number k + 1, and that job's key
 abbrev pub release_at : Group → ℕ → ℕ → ℕ
@@ -100,7 +100,7 @@ pub record Moment : Type 0 where
 -- what an act of a processor rests on: what is kept is of a moment of a group with these tasks
 pub record CanAct (at : Moment) (state : State) (tasks : List Task) (cpu : ℕ) : Type 0 where
   pub played : IsPlayed at.group
-  pub short : length at.past ≤ 400001
+  pub few : (t : ℕ) → has t (tasks_of at.group 0) ≡ true → done t at.past < 2 ^ 20
   pub kept : IsKept at.group at.past state
   pub inside : cpu < cpus at.group 0
   pub tasks_are : tasks ≡ at.group.setup.tasks

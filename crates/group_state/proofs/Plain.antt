@@ -25,8 +25,8 @@ use Rattle.rt_task.specs.RangeRules.{whole_range, cluster_range, task_range, ste
 use Rattle.rt_task.specs.SizeRules.{whole_size}
 use Rattle.rt_task.specs.Validity.{refusal, refusal_of, whole_refusal, range_rows, name_rows, sharing_rows, size_rows, task_shape, IsValid}
 use Rattle.rt_model.specs.Group.{no_task, no_cluster}
-use Rattle.group_engine.specs.Built.{is_built, is_gsn_edf, is_built_task}
-use Rattle.group_engine.proofs.Rules.{first-none, whole-none, each-none}
+use Rattle.group_state.specs.Built.{is_built, is_gsn_edf, is_built_task}
+use Rattle.group_state.proofs.Rules.{first-none, whole-none, each-none}
 
 -- a task of such a set
 pub record IsPlainTask (t : Task) : Type 0 where

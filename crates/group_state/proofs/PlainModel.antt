@@ -14,11 +14,11 @@ use Rattle.rt_model.specs.Holders.{holds, awaits}
 use Rattle.rt_model.specs.Boosts.{boost, boost_of}
 use Rattle.rt_model.specs.EffectiveKeys.{next_at, waits_for, effective_key}
 use Rattle.rt_model.specs.Tops.{is_served, eligible, ranking}
-use Rattle.group_engine.proofs.Plain.{IsPlainTask}
-use Rattle.group_engine.proofs.PlainGroup.{IsPlainGroup, task_range}
-use Rattle.group_engine.specs.Queue.{ranked_by}
-use Rattle.group_engine.specs.State.{release_at, key_at}
-use Rattle.group_engine.proofs.Ranking.{ranked_by-same}
+use Rattle.group_state.proofs.Plain.{IsPlainTask}
+use Rattle.group_state.proofs.PlainGroup.{IsPlainGroup, task_range}
+use Rattle.group_state.specs.Ranked.{ranked_by}
+use Rattle.group_state.specs.State.{release_at, key_at}
+use Rattle.group_state.proofs.Ranking.{ranked_by-same}
 
 walk-none : (next : ℕ → Option ℕ) (n : ℕ) → walk next n None ≡ []
 walk-none next zero = refl

@@ -11,22 +11,23 @@ use Rattle.rt_rules.specs.Distinct.{IsDistinct}
 use Rattle.rt_rules.specs.Placing.{placed, at_place}
 use Rattle.rt_model.specs.Group.{Group, no_task, task, cpus}
 use Rattle.rt_model.specs.Past.{Clock}
+use Rattle.rt_model.specs.Jobs.{done}
 use Rattle.rt_model.specs.Runs.{runs}
 use Rattle.rt_model.specs.Links.{linked}
-use Rattle.group_engine.proofs.Replies.{linked-at, runs-at}
+use Rattle.group_state.proofs.Replies.{linked-at, runs-at}
 use Rattle.rt_model.specs.Histories.{past_of, reply_to}
 use Rattle.rt_model.proofs.Steps.{past_of-append, after-acted, reply_to-lem, IsLegal-append}
 use Rattle.rt_model.proofs.PastLaws.{numbers_from-below}
-use Rattle.group_engine.specs.Groups.{IsProcessorOf, IsPlayedEntry}
-use Rattle.group_engine.specs.Built.{is_built_act}
-use Rattle.group_engine.specs.Queue as queue
-use Rattle.group_engine.specs.Due.{due_ready}
-use Rattle.group_engine.specs.Moves.{clock_moved}
-use Rattle.group_engine.specs.State.{State, IsKept, IsPlayed, IsSound, IsBounded, Moment, CanAct, HasActed, rel_deadline_of, top_tasks}
-use Rattle.group_engine.proofs.Plain.{IsPlainTask}
-use Rattle.group_engine.proofs.PlainGroup.{IsPlainGroup}
-use Rattle.group_engine.proofs.Kept.{kept-clock, settled}
-use Rattle.group_engine.proofs.Limits.{plain, bounded-waiting, few-queued, distinct-ready, length-runs, past-short}
+use Rattle.group_state.specs.Groups.{IsProcessorOf, IsPlayedEntry}
+use Rattle.group_state.specs.Built.{is_built_act}
+use Rattle.group_state.specs.Ranked as queue
+use Rattle.group_state.specs.Due.{due_ready}
+use Rattle.group_state.specs.Moves.{clock_moved}
+use Rattle.group_state.specs.State.{State, IsKept, IsPlayed, IsSound, IsBounded, Moment, CanAct, HasActed, rel_deadline_of, top_tasks}
+use Rattle.group_state.proofs.Plain.{IsPlainTask}
+use Rattle.group_state.proofs.PlainGroup.{IsPlainGroup}
+use Rattle.group_state.proofs.Kept.{kept-clock, settled}
+use Rattle.group_state.proofs.Limits.{plain, bounded-waiting, few-queued, distinct-ready, length-runs, past-short, done-few}
 
 pub inside : (g : Group) (q : ℕ) → IsPlayed g → IsProcessorOf g q → q < cpus g 0
 inside g q played h = let s : IsPlainGroup g = plain g played in let k : has q (numbers_from 0 (cpus g 0)) ≡ true = rw s.processors_are at h in let b : q < 0 + cpus g 0 = numbers_from-below q 0 (cpus g 0) k in omega arith
@@ -70,7 +71,7 @@ module _ (g : Group) (es : List Entry) (room capacity : ℕ) (state : State) (so
   pub can_act : (tick q : ℕ) (tasks : List Task) (after : State) → IsProcessorOf g q → tasks ≡ g.setup.tasks → after ≡ clock_moved (length state.runs) (rel_deadline_of tasks) tick state → CanAct (at_tick tick) after tasks q
   can_act tick q tasks after h same e = record {
     played = sound.played;
-    short = let k = short in omega arith;
+    few = λ t there. let l = short in let d : done t (Clock tick ∷ past_of g es) ≤ length (Clock tick ∷ past_of g es) = done-few g s (Clock tick ∷ past_of g es) _ (kept-moved tick) t in omega arith;
     kept = rw (e, same) (kept-moved tick);
     inside = inside g q sound.played h;
     tasks_are = same;

@@ -16,9 +16,9 @@ use Rattle.rt_model.specs.Answers.{answer, irq_answer, np_on, do_answer, op_answ
 use Rattle.rt_model.specs.Answers as answers
 use Rattle.rt_model.proofs.PastLaws.{at_place-numbers}
 use Rattle.link_table.specs.Linked.{irq_reply, is_pending, link_reply, link_of, runs_on}
-use Rattle.group_engine.specs.State.{State, IsKept, linked_of}
-use Rattle.group_engine.proofs.PlainGroup.{IsPlainGroup}
-use Rattle.group_engine.proofs.PlainModel.{holds-none}
+use Rattle.group_state.specs.State.{State, IsKept, linked_of}
+use Rattle.group_state.proofs.PlainGroup.{IsPlainGroup}
+use Rattle.group_state.proofs.PlainModel.{holds-none}
 
 has-numbers : (q a n : ℕ) → a ≤ q → q < a + n → has q (numbers_from a n) ≡ true
 has-numbers q a zero low high = absurd (omega arith)

@@ -1,0 +1,16 @@
+pub mod Ahead
+pub mod Ranking
+pub mod Fresh
+pub mod Rules
+pub mod DueLaws
+pub mod Plain
+pub mod PlainGroup
+pub mod PlainSteps
+pub mod PlainModel
+pub mod Kept
+pub mod Replies
+pub mod Acts
+pub mod Limits
+pub mod Doing
+pub mod Stepping
+pub mod Opening

@@ -1,0 +1,6 @@
+pub mod Ranked
+pub mod Due
+pub mod Built
+pub mod Groups
+pub mod State
+pub mod Moves
