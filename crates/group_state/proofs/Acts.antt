@@ -157,7 +157,7 @@ module _ (g : Group) (s : IsPlainGroup g) (q : ℕ) (inside : q < cpus g 0) (p :
 
   -- ---- an interrupt
 
-  irq-ended : (past_act g q acts.Irq p).ended ≡ None
+  pub irq-ended : (past_act g q acts.Irq p).ended ≡ None
   unfolding past_act ended ended_by
   irq-ended = by_case (accepted (answer g q acts.Irq p))
     where
@@ -209,7 +209,7 @@ module _ (g : Group) (s : IsPlainGroup g) (q : ℕ) (inside : q < cpus g 0) (p :
 
   -- ---- an operation that is refused
 
-  refused-ended : (op : Op) → accepted (answer g q (acts.Do op) p) ≡ false → (past_act g q (acts.Do op) p).ended ≡ None
+  pub refused-ended : (op : Op) → accepted (answer g q (acts.Do op) p) ≡ false → (past_act g q (acts.Do op) p).ended ≡ None
   unfolding past_act ended
   refused-ended op h = rw h
 
@@ -225,7 +225,7 @@ module _ (g : Group) (s : IsPlainGroup g) (q : ℕ) (inside : q < cpus g 0) (p :
 
   -- ---- Work
 
-  work-ended : (t : ℕ) → runs q p ≡ Some t → has t (tasks_of g 0) ≡ true → (past_act g q (acts.Do ops.Work) p).ended ≡ None
+  pub work-ended : (t : ℕ) → runs q p ≡ Some t → has t (tasks_of g 0) ≡ true → (past_act g q (acts.Do ops.Work) p).ended ≡ None
   unfolding past_act ended ended_by is_spent
   work-ended t h there = let f : IsPlainTask (task g t) = plain-task g s t there in rw (h, f.not_enforced) (by_case (accepted (answer g q (acts.Do ops.Work) p)))
     where

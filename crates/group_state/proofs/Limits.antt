@@ -85,7 +85,7 @@ length-both key key' test ts = rw (length-sorted, length-sorted, length-map, len
         by_case true h = omega (arith, h)
         by_case false h = omega (arith, h)
 
-distinct-ranked_by : (key : ℕ → Key) (test : ℕ → Bool) (ts : List ℕ) → IsDistinct ts → IsDistinct (queue.tasks_of (ranked_by key test ts))
+pub distinct-ranked_by : (key : ℕ → Key) (test : ℕ → Bool) (ts : List ℕ) → IsDistinct ts → IsDistinct (queue.tasks_of (ranked_by key test ts))
 distinct-ranked_by key test ts d =
     let listed : List Ranked = map (λ t. record { key = key t; task = t }) (filter test ts) in
     let e : IsDistinct (tasks_ranked listed) = rw (tasks_ranked-keys key (filter test ts)) (distinct-filter test ts d) in

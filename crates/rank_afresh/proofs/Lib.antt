@@ -1,0 +1,4 @@
+pub mod Filling
+pub mod RankLaws
+pub mod Rankings
+pub mod TopTasks

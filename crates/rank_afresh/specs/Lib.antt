@@ -1,0 +1,5 @@
+pub mod Taken
+pub mod Candidates
+pub mod Facts
+pub mod Moved
+pub mod Standing

@@ -1,0 +1,7 @@
+//! One group played from plain facts: the tasks are ranked afresh at each move that changes any of them.
+#![tactic(auto)]
+
+mod facts;
+mod placing;
+mod ranks;
+mod room;
