@@ -2,3 +2,8 @@ pub mod Filling
 pub mod RankLaws
 pub mod Rankings
 pub mod TopTasks
+pub mod Refreshed
+pub mod Moving
+pub mod Acting
+pub mod Ending
+pub mod Standings

@@ -1,7 +1,10 @@
 //! One group played from plain facts: the tasks are ranked afresh at each move that changes any of them.
 #![tactic(auto)]
 
+mod afresh;
 mod facts;
 mod placing;
 mod ranks;
 mod room;
+
+pub use afresh::Afresh;

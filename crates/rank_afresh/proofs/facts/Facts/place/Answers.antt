@@ -29,5 +29,5 @@ returns-clause-facts c =
     let items_are = with_items_is c.self.inside.links c.place.new.links (same ∙ sym c.self.inside.links.ok.0) in
     let count : c.len-cpus.result ≡ length (numbers_of_tasks c.self.inside.runs.items) = omega (arith, c.len-cpus.ensures, c.self.inside.runs.ok.0, length-map c.self.inside.runs.items number_of_task) in
     let placed_links : numbers_of_tasks c.place.new.links ≡ placed (top_of (length (numbers_of_tasks c.self.inside.runs.items)) c.args.tasks.now c.self.inside.clock c.self.inside.done.items) (numbers_of_tasks c.self.inside.runs.items) (numbers_of_tasks c.self.inside.links.items) =
-        c.place.ensures ∙ rw (tops, count, c.as_slice-4.ensures.value, c.as_mut_slice.ensures.value) in
+    c.place.ensures ∙ rw (tops, count, c.as_slice-4.ensures.value, c.as_mut_slice.ensures.value) in
     rw (← c.self.view_is, items_are, placed_links)
