@@ -97,6 +97,9 @@ impl Links {
     ///
     /// A task that runs on a processor is linked to it. One that runs nowhere keeps its link, unless that processor went
     /// to a task that runs there. The others take the free processors, lowest number first.
+    ///
+    /// It costs about ten looks or writes for each processor of the cluster and three for each task of the top. Only a
+    /// task whose number is above `MOST_TASKS` is searched in the lists.
     pub fn place(&mut self, top: &[TaskNo])
         requires distinct { IsDistinct (numbers top.now) }
         requires fits { length top.now ≤ length self.old.runs }

@@ -1,5 +1,5 @@
 //! Marks of tasks: whether a task is in a list, without a search.
-ghost use Rattle.std.specs.Prelude.{◌≡◌, IfOk, true, [], ◌∷◌, slice_set};
+ghost use Rattle.std.specs.Prelude.{◌≡◌, ◌<◌, ◌≤◌, IfNone, IfOk, IfSome, false, length, slice_index_or, true, [], ◌∷◌, slice_set};
 ghost use Rattle.rt_base.specs.TaskNos.{numbers, numbers_of_tasks};
 ghost use Rattle.rt_rules.specs.Numbers.{has};
 ghost use Rattle.rt_rules.specs.Placing.{tasks_in};
@@ -39,14 +39,16 @@ impl TaskMarks {
         }
     }
 
-    /// Marks the task, if it has a mark.
-    pub(crate) fn mark(&mut self, t: TaskNo)
-        ensures { self.new ≡ slice_set self.old t.0 true }
+    // Whether the task is marked, if it has a mark.
+    fn get(&self, t: TaskNo) -> Option<bool>
+        ensures some { IfSome result (λ marked. (t.0 < length self.now) × (slice_index_or self.now t.0 false ≡ marked)) }
+        ensures none { IfNone result (length self.now ≤ t.0) }
     {
-        self.set(t, true);
+        self.marks.get(t.0 as usize).copied()
     }
 
-    fn set(&mut self, t: TaskNo, marked: bool)
+    /// Marks the task or clears its mark, if it has one.
+    pub(crate) fn set(&mut self, t: TaskNo, marked: bool)
         ensures { self.new ≡ slice_set self.old t.0 marked }
     {
         if let Some(mark) = self.marks.get_mut(t.0 as usize) {
@@ -79,8 +81,8 @@ impl TaskMarks {
         requires { AreMarks self.now (numbers ts.now) }
         ensures { result ≡ has t.0 (numbers ts.now) }
     {
-        match self.marks.get(t.0 as usize) {
-            Some(mark) => *mark,
+        match self.get(t) {
+            Some(marked) => marked,
             None => is_among(ts, t),
         }
     }
@@ -114,8 +116,8 @@ impl TaskMarks {
         requires { AreMarks self.now (tasks_in (numbers_of_tasks links.now)) }
         ensures { result ≡ has t.0 (tasks_in (numbers_of_tasks links.now)) }
     {
-        match self.marks.get(t.0 as usize) {
-            Some(mark) => *mark,
+        match self.get(t) {
+            Some(marked) => marked,
             None => is_linked(links, t),
         }
     }

@@ -97,7 +97,7 @@ fn put(links: &mut [Option<TaskNo>], link_marks: &mut TaskMarks, t: TaskNo, from
     for q in from..links.len() {
         if links[q].is_none() {
             links[q] = Some(t);
-            link_marks.mark(t);
+            link_marks.set(t, true);
             return q + 1;
         }
     }

@@ -20,4 +20,4 @@ pub returns-then-is_none-clause-marked : goal.returns-then-is_none-clause-marked
 returns-then-is_none-clause-marked c =
     let free : is_some (get_or c.loop-q.links c.loop-q.q None) ≡ false = rw c.if-is_none.true at c.is_none.ensures in
     let marked : AreMarks c.loop-q.link_marks (tasks_in (numbers_of_tasks c.loop-q.links)) = rw (c.loop-q.invariant.links, c.loop-q.invariant.marks) c.requires.marked in
-    rw c.mark.ensures (marks_with _ c.args.t.0 _ _ marked (λ t. has-taken t c.args.t c.loop-q.links c.loop-q.q (omega arith) free))
+    rw c.set.ensures (marks_with _ c.args.t.0 _ _ marked (λ t. has-taken t c.args.t c.loop-q.links c.loop-q.q (omega arith) free))
