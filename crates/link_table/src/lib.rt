@@ -32,8 +32,8 @@ pub struct Links {
 }
 
 impl Model for Links {
-    ghost use Rattle.rt_base.specs.TaskNos.{numbers_of_tasks};
     ghost use Rattle.std.specs.Prelude.{[]};
+    ghost use Rattle.rt_base.specs.TaskNos.{numbers_of_tasks};
     ghost use Rattle.link_table.specs.Linked.{Linked, IsSound};
     ghost use Rattle.link_table.specs.Marks.{AreMarks};
 
