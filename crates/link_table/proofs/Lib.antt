@@ -1,3 +1,4 @@
 pub mod Filling
+pub mod MarkLaws
 pub mod PlaceLaws
 pub mod SoundLaws

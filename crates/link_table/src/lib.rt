@@ -9,8 +9,10 @@ ghost use Rattle.rt_rules.specs.Numbers.{is};
 ghost use Rattle.rt_rules.specs.Placing.{placed};
 ghost use Rattle.link_table.specs.Linked.{after_irq, irq_reply, is_pending, link_of, runs_on, unlinked, with_run, IsOfCluster, IsSound};
 
+mod marks;
 mod places;
 
+use marks::TaskMarks;
 use rt_base::{CpuNo, NoMemory, TaskNo};
 use rt_history::Reply;
 use std::alloc::Global;
@@ -24,17 +26,22 @@ pub struct Links {
     first: u32,
     runs: Vec<Option<TaskNo>>,
     links: Vec<Option<TaskNo>>,
+    // All clear between calls.
+    top_marks: TaskMarks,
+    link_marks: TaskMarks,
 }
 
 impl Model for Links {
+    ghost use Rattle.std.specs.Prelude.{[]};
     ghost use Rattle.rt_base.specs.TaskNos.{numbers_of_tasks};
     ghost use Rattle.link_table.specs.Linked.{Linked, IsSound};
+    ghost use Rattle.link_table.specs.Marks.{AreMarks};
 
     ghost Value = { Linked };
 
     ghost view = { λ a. record { first = a.first; runs = numbers_of_tasks a.runs.items; links = numbers_of_tasks a.links.items } };
 
-    ghost invariant = { λ a. IsSound (record { first = a.first; runs = numbers_of_tasks a.runs.items; links = numbers_of_tasks a.links.items }) };
+    ghost invariant = { λ a. IsSound (record { first = a.first; runs = numbers_of_tasks a.runs.items; links = numbers_of_tasks a.links.items }) × AreMarks a.top_marks [] × AreMarks a.link_marks [] };
 }
 
 impl Links {
@@ -49,10 +56,14 @@ impl Links {
         let Ok(links) = vec![in alloc; None; cpus as usize] else {
             return Err(NoMemory);
         };
+        let top_marks = TaskMarks::new(alloc)?;
+        let link_marks = TaskMarks::new(alloc)?;
         Ok(Links {
             first: first.0,
             runs,
             links,
+            top_marks,
+            link_marks,
         })
     }
 
@@ -86,13 +97,22 @@ impl Links {
     ///
     /// A task that runs on a processor is linked to it. One that runs nowhere keeps its link, unless that processor went
     /// to a task that runs there. The others take the free processors, lowest number first.
+    ///
+    /// It costs about ten looks or writes for each processor of the cluster and three for each task of the top. Only a
+    /// task whose number is above `MOST_TASKS` is searched in the lists.
     pub fn place(&mut self, top: &[TaskNo])
         requires distinct { IsDistinct (numbers top.now) }
         requires fits { length top.now ≤ length self.old.runs }
         ensures placed { self.new ≡ record self.old { links = placed (numbers top.now) self.old.runs self.old.links } }
         ensures sound { IsSound self.new }
     {
-        places::place(top, self.runs.as_slice(), self.links.as_mut_slice());
+        places::place(
+            top,
+            self.runs.as_slice(),
+            self.links.as_mut_slice(),
+            &mut self.top_marks,
+            &mut self.link_marks,
+        );
     }
 
     /// Takes an interrupt at the processor, where `np` says whether what it runs is non-preemptive.

@@ -10,4 +10,4 @@ pub returns-clause-sound : goal.returns-clause-sound
 returns-clause-sound c = rw (returns-clause-unlinked c) (sound-unlinked _ _)
 
 pub invariant_of-result : goal.invariant_of-result
-invariant_of-result c = returns-clause-sound c
+invariant_of-result c = (returns-clause-sound c, c.in_ok-top_marks.ensures, c.in_ok-link_marks.ensures)

@@ -11,7 +11,7 @@ returns-clause-sound c =
     let items_are = with_items_is c.self.inside.links c.place.new.links (same ∙ sym c.self.inside.links.ok.0) in
     let fits : length c.args.top.now ≤ length (numbers_of_tasks c.self.inside.runs.items) = omega (arith, c.requires.fits, ap (λ (l : Linked). length l.runs) c.self.view_is) in
     let fit : length (numbers c.args.top.now) ≤ length (numbers_of_tasks c.self.inside.runs.items) = rw length-map fits in
-    rw (items_are, c.place.ensures, c.as_slice.ensures.value, c.as_mut_slice.ensures.value) (sound-placed _ _ c.self.invariant c.requires.distinct fit)
+    rw (items_are, c.place.ensures.placed, c.as_slice.ensures.value, c.as_mut_slice.ensures.value) (sound-placed _ _ c.self.invariant.0 c.requires.distinct fit)
 
 pub invariant_of-self : goal.invariant_of-self
-invariant_of-self c = returns-clause-sound c
+invariant_of-self c = (returns-clause-sound c, c.place.ensures.top_clear, c.place.ensures.links_clear)

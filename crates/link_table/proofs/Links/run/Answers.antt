@@ -16,7 +16,7 @@ pub returns-clause-sound : goal.returns-clause-sound
 returns-clause-sound c =
     let same : length (numbers_of_tasks c.self.inside.runs.items) ≡ length c.args.self.now.runs = ap (λ (l : Linked). length l.runs) c.self.view_is in
     let inside : c.place_of-place.result < length (numbers_of_tasks c.self.inside.runs.items) = omega (arith, c.place_of-place.ensures.runs) in
-    rw numbers_of_tasks-set (sound-set _ _ _ c.self.invariant inside (rw (place c) (rw (← c.self.view_is) at c.requires.of_link)))
+    rw numbers_of_tasks-set (sound-set _ _ _ c.self.invariant.0 inside (rw (place c) (rw (← c.self.view_is) at c.requires.of_link)))
 
 pub invariant_of-self : goal.invariant_of-self
-invariant_of-self c = returns-clause-sound c
+invariant_of-self c = (returns-clause-sound c, c.self.invariant.1, c.self.invariant.2)

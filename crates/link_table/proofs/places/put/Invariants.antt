@@ -6,5 +6,6 @@ use Rattle.link_table.proofs.places.put.Given as goal
 abbrev pub invariant-loop-q : goal.invariant-loop-q
 invariant-loop-q l = record {
   taken : (k : ℕ) → k < l.q → is_some (get_or l.links k None) ≡ true;
-  same : l.links ≡ l.fn.links;
+  links : l.links ≡ l.fn.links;
+  marks : l.link_marks ≡ l.fn.link_marks;
 }

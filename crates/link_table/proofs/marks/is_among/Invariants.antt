@@ -1,7 +1,7 @@
 use Rattle.std.proofs.Common.{◌≡◌, drop}
 use Rattle.rt_rules.specs.Numbers.{has}
 use Rattle.rt_base.specs.TaskNos.{numbers}
-use Rattle.link_table.proofs.places.is_among.Given as goal
+use Rattle.link_table.proofs.marks.is_among.Given as goal
 
 -- the rest answers as the whole
 abbrev pub invariant-loop-u : goal.invariant-loop-u

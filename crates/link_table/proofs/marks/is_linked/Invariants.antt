@@ -2,7 +2,7 @@ use Rattle.std.proofs.Common.{◌≡◌, drop}
 use Rattle.rt_rules.specs.Numbers.{has}
 use Rattle.rt_rules.specs.Placing.{tasks_in}
 use Rattle.rt_base.specs.TaskNos.{numbers_of_tasks}
-use Rattle.link_table.proofs.places.is_linked.Given as goal
+use Rattle.link_table.proofs.marks.is_linked.Given as goal
 
 -- the rest answers as the whole
 abbrev pub invariant-loop-o : goal.invariant-loop-o
