@@ -36,13 +36,13 @@ impl Model for PcpSet {
     ghost use Rattle.rt_base.specs.TaskNos.{numbers};
     ghost use Rattle.pcp_sem.specs.Listed.{pairs};
     ghost use Rattle.pcp_sem.specs.PcpKept.{PcpKept};
-    ghost use Rattle.pcp_sem.specs.IsPcp.{IsPcp};
+    ghost use Rattle.pcp_sem.specs.IsPcp.{IsKept};
 
     ghost Value = { PcpKept };
 
     ghost view = { λ a. record { ceilings = a.ceilings.items; state = record { held = pairs a.held.items; waiting = pairs a.waiting.items }; keys = a.keys.items; grants = numbers a.grants.items } };
 
-    ghost invariant = { λ a. IsPcp a.ceilings.items a.keys.items (record { held = pairs a.held.items; waiting = pairs a.waiting.items }) (vec_capacity a.held) (vec_capacity a.waiting) (vec_capacity a.order) (vec_capacity a.grants) };
+    ghost invariant = { λ a. IsKept a.ceilings.items a.keys.items (record { held = pairs a.held.items; waiting = pairs a.waiting.items }) (pairs a.order.items) (vec_capacity a.held) (vec_capacity a.waiting) (vec_capacity a.order) (vec_capacity a.grants) };
 }
 
 impl PcpSet {
@@ -95,6 +95,7 @@ impl PcpSet {
             Ask::Granted
         } else {
             pairs::put_behind(&mut self.waiting, pair);
+            pairs::insert_by_key(&mut self.order, self.keys.as_slice(), pair);
             Ask::Queued
         }
     }
@@ -109,20 +110,20 @@ impl PcpSet {
         ensures settled { IsSettled self.new }
     {
         pairs::take_out(&mut self.held, Pair { task, sem });
-        pairs::sort_by_key(
-            &mut self.order,
-            self.waiting.as_slice(),
-            self.keys.as_slice(),
-        );
         self.grants.clear();
-        pairs::test_in_order(
+        let Some(next) = pairs::first_to_pass(
             self.order.as_slice(),
+            self.held.as_slice(),
             self.keys.as_slice(),
             self.ceilings.as_slice(),
-            &mut self.held,
-            &mut self.waiting,
-            &mut self.grants,
-        );
+        ) else {
+            return 0;
+        };
+        // No later one passes once this one holds, so that at most one is granted.
+        pairs::put_first(&mut self.held, next);
+        pairs::take_out(&mut self.waiting, next);
+        pairs::take_out(&mut self.order, next);
+        pairs::put_last(&mut self.grants, next.task);
         self.grants.len() as u32
     }
 
