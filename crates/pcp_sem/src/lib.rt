@@ -1,7 +1,7 @@
 //! The semaphores of one cluster under the PCP (Sha, Rajkumar and Lehoczky, 1990): a task is granted a semaphore where its base key is above the ceilings of all that other tasks hold.
 #![tactic(auto)]
 
-ghost use Rattle.std.specs.Prelude.{◌≡◌, ◌≢◌, ◌<◌, ◌≤◌, ◌↔◌, ◌++◌, ◌==◌, [], ℕ, true, false, length, reverse, filter, IfOk, IsNone, Some, None, slice_set, slice_get};
+ghost use Rattle.std.specs.Prelude.{◌≡◌, ◌≢◌, ◌<◌, ◌≤◌, ◌↔◌, ◌++◌, ◌==◌, [], ℕ, true, false, length, reverse, replicate, filter, IfOk, IsNone, Some, None, slice_set, slice_get};
 ghost use Rattle.rt_base.specs.TaskNos.{number_of_task};
 ghost use Rattle.rt_order.specs.KeyOrder.{higher, equal_keys};
 ghost use Rattle.rt_rules.specs.Numbers.{has};
@@ -9,7 +9,7 @@ ghost use Rattle.rt_rules.specs.SemState.{Asks, Frees};
 ghost use Rattle.rt_rules.specs.Pcp.{of_others, pcp_after, pcp_sem_state, passes, without_pair};
 ghost use Rattle.sem_laws.specs.KeptKeys.{key_at, above};
 ghost use Rattle.pcp_sem.specs.Pairs.{has_pair, tasks_of};
-ghost use Rattle.pcp_sem.specs.PcpKept.{PcpKept, above_ceiling, blocker_of, last_granted};
+ghost use Rattle.pcp_sem.specs.PcpKept.{PcpKept, above_ceiling, blocker_of, last_granted, lowest};
 ghost use Rattle.pcp_sem.specs.Settled.{IsSettled};
 
 use pairs::Pair;
@@ -46,11 +46,12 @@ impl Model for PcpSet {
 }
 
 impl PcpSet {
-    /// A set whose semaphores nobody holds, for tasks whose numbers are below `room`. No later call takes memory.
+    /// A set whose semaphores nobody holds, for tasks whose numbers are below `room`, each with the lowest of all keys until it asks. No later call takes memory.
     pub fn new(alloc: Global, ceilings: &[Key], room: u32) -> Result<PcpSet, NoMemory>
         ensures free { IfOk result (λ s. s.state ≡ record { held = []; waiting = [] }) }
         ensures ceilings { IfOk result (λ s. s.ceilings ≡ ceilings.now) }
         ensures room { IfOk result (λ s. length s.keys ≡ room) }
+        ensures keys { IfOk result (λ s. s.keys ≡ replicate room lowest) }
         ensures grants { IfOk result (λ s. s.grants ≡ []) }
     {
         let room = room as usize;
@@ -161,38 +162,4 @@ impl PcpSet {
 }
 
 #[cfg(test)]
-mod tests {
-    use super::*;
-    use std::test::Fail;
-
-    /// Task 1 asks for a free semaphore and waits because of the ceiling of the other, which task 2 holds; task 2 then takes the free one, and frees both.
-    #[test]
-    fn another_ceiling_refuses(rt: HostRuntime) -> Result<(), Fail> {
-        let high = Key {
-            band: 2,
-            major: 1,
-            minor: 1,
-        };
-        let low = Key {
-            band: 2,
-            major: 5,
-            minor: 2,
-        };
-        let ceilings = [high, high];
-        let mut set = PcpSet::new(rt.alloc(), &ceilings, 3)?;
-        assert_eq!(rt; set.ask(TaskNo(2), low, 0), Ask::Granted);
-        assert_eq!(rt; set.ask(TaskNo(1), high, 1), Ask::Queued);
-        assert_eq!(rt; set.blocker(TaskNo(1)), Some(TaskNo(2)));
-        assert_eq!(rt; set.blocker(TaskNo(2)), None);
-        assert_eq!(rt; set.ask(TaskNo(2), low, 1), Ask::Granted);
-        assert_eq!(rt; set.last_of(TaskNo(2)), Some(1));
-        assert_eq!(rt; set.granted(0), None);
-        assert_eq!(rt; set.release(TaskNo(2), 1), 0);
-        assert_eq!(rt; set.release(TaskNo(2), 0), 1);
-        assert_eq!(rt; set.granted(0), Some(TaskNo(1)));
-        assert_eq!(rt; set.holder(1), Some(TaskNo(1)));
-        assert_eq!(rt; set.holder(0), None);
-        assert_eq!(rt; set.release(TaskNo(1), 1), 0);
-        Ok(())
-    }
-}
+mod tests;
