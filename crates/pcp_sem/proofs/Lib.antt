@@ -6,4 +6,4 @@ pub mod Sound
 pub mod KeptOrder
 pub mod Blockers
 pub mod Acts
-pub mod TestKeys
+pub mod PlainLists

@@ -21,6 +21,8 @@ use std::marker::Model;
 mod pairs;
 
 /// Semaphores, numbered from 0, with their ceilings: the highest base key of the users of each. It keeps the key with which a task asked.
+///
+/// The waiting requests stand in falling order of keys from call to call, so that a call takes no more steps than a constant times what is held and waited for.
 #[derive(Drop)]
 pub struct PcpSet {
     ceilings: Vec<Key>,
