@@ -1,21 +1,24 @@
 -- What the type keeps, over each of its calls.
-use Rattle.std.proofs.Common.{◌≡◌, ℕ, ◌+◌, ◌^◌, ◌<◌, ◌≤◌, Bool, true, false, List, [], ◌∷◌, ◌++◌, length, set, refl, sym, ap, ◌∙◌, subst, arith, length-set, get_or-set_same, get_or-set_other, eqb-true}
-use Rattle.std.specs.Prelude.{◌==◌, if◌then◌else◌, Some}
+use Rattle.std.proofs.Common.{◌≡◌, ℕ, ◌+◌, ◌^◌, ◌<◌, ◌≤◌, Bool, true, false, not, ◌≢◌, List, [], ◌∷◌, ◌++◌, length, set, refl, sym, ap, ◌∙◌, subst, arith, length-set, get_or-set_same, get_or-set_other, eqb-true}
+use Rattle.std.specs.Prelude.{◌==◌, if◌then◌else◌, None, Some, find}
 use Rattle.rt_order.specs.declared.Key.{Key}
-use Rattle.rt_order.specs.KeyOrder.{higher}
+use Rattle.rt_order.specs.KeyOrder.{higher, equal_keys}
 use Rattle.rt_rules.specs.Numbers.{has}
-use Rattle.rt_rules.specs.SemState.{SemAct, Asks, Frees, Neither}
-use Rattle.rt_rules.specs.Pcp.{TaskSem, PcpState, passes, pcp_after}
-use Rattle.rt_rules.proofs.PlacingLaws.{unless}
+use Rattle.rt_rules.specs.SemState.{Asks, Frees}
+use Rattle.rt_rules.specs.Pcp.{TaskSem, PcpState, by_key, in_order, without_pair, passes, pcp_after}
+use Rattle.rt_rules.proofs.PlacingLaws.{unless, or_true}
 use Rattle.sem_laws.specs.KeptKeys.{key_at, above}
-use Rattle.sem_laws.proofs.Members.{equal_self}
+use Rattle.sem_laws.proofs.Members.{equal_self, has-append}
 use Rattle.sem_laws.proofs.Tests.{clash}
+use Rattle.sem_laws.proofs.KeyLaws.{higher-falls}
 use Rattle.pcp_sem.specs.Pairs.{has_pair, tasks_of}
 use Rattle.pcp_sem.specs.Stack.{IsStack}
-use Rattle.pcp_sem.specs.PcpKept.{PcpKept, above_ceiling}
+use Rattle.pcp_sem.specs.PcpKept.{above_ceiling}
 use Rattle.pcp_sem.specs.IsPcp.{IsUser, IsSound, IsPcp}
 use Rattle.pcp_sem.specs.Settled.{IsSettled}
-use Rattle.pcp_sem.proofs.StackLaws.{stack-step}
+use Rattle.pcp_sem.proofs.StackLaws.{stack-step, has_pair-in_order}
+use Rattle.pcp_sem.proofs.Grants.{pair-of, distinct-in_order}
+use Rattle.pcp_sem.proofs.KeptOrder.{higher-differs, ranking-keys, length-in_order, in_order-rekeyed, in_order-push, tested-nobody, tested-first}
 use Rattle.pcp_sem.proofs.Sound.{pair-task, sound-asks, sound-frees, stack-rekeyed, sound-rekeyed, few-held, few-waiting, one-more-waiting}
 use Rattle.pcp_sem.proofs.Blockers.{waiting-blocked}
 
@@ -51,6 +54,32 @@ module _ (ceilings keys : List Key) (l : PcpState) (hc wc oc gc : ℕ) (ok : IsP
   pub waiting-fits : length l.waiting ≤ length keys
   waiting-fits = few-waiting ceilings keys l ok.sound
 
+  -- ---- the order
+
+  -- who waits is not over the ceiling of what a task ahead of it asks for
+  low-order : (p : TaskSem) (t : ℕ) → has_pair p.task p.sem (in_order (above keys) l.waiting) ≡ true → above keys t p.task ≡ false → above_ceiling keys ceilings t p.sem ≡ false
+  low-order p t h under =
+      let waits : has_pair p.task p.sem l.waiting ≡ true = rw has_pair-in_order at h in
+      higher-falls (key_at ceilings p.sem) (key_at keys p.task) (key_at keys t) (ok.sound.awaited_by p.task p.sem waits).low under
+
+  module _ (p : TaskSem) where
+    abbrev kept : List TaskSem
+    kept = without_pair p l.held
+
+    pub freed-nobody : find (λ (q : TaskSem). passes (above_ceiling keys ceilings) (without_pair p l.held) q.task) (in_order (above keys) l.waiting) ≡ None → record { held = without_pair p l.held; waiting = l.waiting } ≡ pcp_after (above keys) (above_ceiling keys ceilings) (Frees p.task p.sem) l
+    freed-nobody h = sym (tested-nobody (above keys) (ranking-keys keys) (above_ceiling keys ceilings) (in_order (above keys) l.waiting) (record { held = without_pair p l.held; waiting = l.waiting }) h)
+
+    pub freed-first : (next : TaskSem) → find (λ (q : TaskSem). passes (above_ceiling keys ceilings) (without_pair p l.held) q.task) (in_order (above keys) l.waiting) ≡ Some next → record { held = next ∷ without_pair p l.held; waiting = without_pair next l.waiting } ≡ pcp_after (above keys) (above_ceiling keys ceilings) (Frees p.task p.sem) l
+    freed-first next h = sym (tested-first (above keys) (ranking-keys keys) (above_ceiling keys ceilings) l.waiting (record { held = without_pair p l.held; waiting = l.waiting }) next (distinct-in_order (above keys) l.waiting ok.sound.waits_once) low-order h)
+
+  -- where one passes there is one that waits
+  pub one-waits : (f : TaskSem → Bool) (next : TaskSem) → find f (in_order (above keys) l.waiting) ≡ Some next → 0 < length keys
+  one-waits f next h = omega (arith, waiting-fits, length-in_order (above keys) l.waiting, some (in_order (above keys) l.waiting) h)
+    where
+      some : (ps : List TaskSem) → find f ps ≡ Some next → 0 < length ps
+      some [] e = cc
+      some (q ∷ ps) e = omega arith
+
   module _ (t s : ℕ) (key : Key) (below : t < length keys) (known : s < length ceilings) (idle : has t (tasks_of l.waiting) ≡ false) (fresh : has_pair t s l.held ≡ false) (low : higher key (key_at ceilings s) ≡ false) (same : has t (tasks_of l.held) ≡ true → key_at keys t ≡ key) where
     abbrev new : List Key
     new = set keys t key
@@ -71,6 +100,25 @@ module _ (ceilings keys : List Key) (l : PcpState) (hc wc oc gc : ℕ) (ok : IsP
     waiting-same : (u r : ℕ) → has_pair u r l.waiting ≡ true → key_at (set keys t key) u ≡ key_at keys u
     waiting-same u r h = others u (unless _ (λ e. let a : u ≡ t = eqb-true u t e in let m : has t (tasks_of l.waiting) ≡ true = subst (λ n. has n (tasks_of l.waiting) ≡ true) a (pair-task u r l.waiting h) in clash _ m idle))
 
+    waiting-key : (u : ℕ) → has u (tasks_of l.waiting) ≡ true → key_at (set keys t key) u ≡ key_at keys u
+    waiting-key u h = let q = pair-of u l.waiting h in waiting-same u q.0 q.1
+
+    -- the key that the task gives changes no order of those that wait
+    pub order-same : in_order (above keys) l.waiting ≡ in_order (above (set keys t key)) l.waiting
+    order-same = in_order-rekeyed (above keys) (above (set keys t key)) l.waiting (λ u v h k. rw (waiting-key u h, waiting-key v k))
+
+    -- and its request is put in by its key
+    pub order-pushed : ((u : ℕ) → u ≢ t → has u (tasks_of l.held ++ tasks_of l.waiting) ≡ true → equal_keys (key_at keys u) key ≡ false) → by_key (above (set keys t key)) (record { task = t; sem = s }) (in_order (above keys) l.waiting) ≡ in_order (above (set keys t key)) (l.waiting ++ record { task = t; sem = s } ∷ [])
+    order-pushed apart = ap (by_key (above (set keys t key)) (record { task = t; sem = s })) order-same ∙ sym (in_order-push (above (set keys t key)) (ranking-keys (set keys t key)) (record { task = t; sem = s }) l.waiting differ)
+      where
+        member : (u : ℕ) → has u (tasks_of l.waiting) ≡ true → has u (tasks_of l.held ++ tasks_of l.waiting) ≡ true
+        member u h = has-append u (tasks_of l.held) (tasks_of l.waiting) ∙ rw h (or_true (has u (tasks_of l.held)))
+
+        differ : (u : ℕ) → has u (tasks_of l.waiting) ≡ true → above (set keys t key) u t ≡ not (above (set keys t key) t u)
+        differ u h =
+            let others_key : equal_keys (key_at keys u) key ≡ false = apart u (λ e. let m : has t (tasks_of l.waiting) ≡ true = subst (λ n. has n (tasks_of l.waiting) ≡ true) e h in clash _ m idle) (member u h) in
+            rw (waiting-key u h, own) (higher-differs (key_at keys u) key others_key)
+
     user : IsUser ceilings (set keys t key) t s
     user = record {
       task = omega (arith, length-set keys t key);
@@ -84,8 +132,8 @@ module _ (ceilings keys : List Key) (l : PcpState) (hc wc oc gc : ℕ) (ok : IsP
     sound-new : IsSound ceilings (set keys t key) l
     sound-new = sound-rekeyed ceilings keys (set keys t key) l (length-set keys t key) held-same waiting-same ok.sound
 
-    asked : (m : PcpState) (hc' wc' : ℕ) → pcp_after (above (set keys t key)) (above_ceiling (set keys t key) ceilings) (Asks t s) l ≡ m → hc ≤ hc' → wc ≤ wc' → IsPcp ceilings (set keys t key) m hc' wc' oc gc
-    asked m hc' wc' e h w = record {
+    asked : (m : PcpState) (hc' wc' oc' : ℕ) → pcp_after (above (set keys t key)) (above_ceiling (set keys t key) ceilings) (Asks t s) l ≡ m → hc ≤ hc' → wc ≤ wc' → oc ≤ oc' → IsPcp ceilings (set keys t key) m hc' wc' oc' gc
+    asked m hc' wc' oc' e h w o = record {
       stack = subst (λ n. IsStack (above_ceiling (set keys t key) ceilings) n) e (stack-step (above (set keys t key)) (above_ceiling (set keys t key) ceilings) (Asks t s) l stack-new);
       sound = subst (λ n. IsSound ceilings (set keys t key) n) e (sound-asks ceilings (set keys t key) t s l sound-new user idle fresh);
       limit = omega (arith, length-set keys t key, ok.limit);
@@ -96,16 +144,19 @@ module _ (ceilings keys : List Key) (l : PcpState) (hc wc oc gc : ℕ) (ok : IsP
     }
 
     pub pcp-granted : (hc' : ℕ) → passes (above_ceiling (set keys t key) ceilings) l.held t ≡ true → hc ≤ hc' → IsPcp ceilings (set keys t key) (record { held = record { task = t; sem = s } ∷ l.held; waiting = l.waiting }) hc' wc oc gc
-    pcp-granted hc' pass h = asked _ hc' wc (ap (λ b. if b then record l { held = record { task = t; sem = s } ∷ l.held } else record l { waiting = l.waiting ++ record { task = t; sem = s } ∷ [] }) pass) h (omega arith)
+    pcp-granted hc' pass h = asked _ hc' wc oc (ap (λ b. if b then record l { held = record { task = t; sem = s } ∷ l.held } else record l { waiting = l.waiting ++ record { task = t; sem = s } ∷ [] }) pass) h (omega arith) (omega arith)
 
-    pub pcp-queued : (wc' : ℕ) → passes (above_ceiling (set keys t key) ceilings) l.held t ≡ false → wc ≤ wc' → IsPcp ceilings (set keys t key) (record { held = l.held; waiting = l.waiting ++ record { task = t; sem = s } ∷ [] }) hc wc' oc gc
-    pcp-queued wc' pass w = asked _ hc wc' (ap (λ b. if b then record l { held = record { task = t; sem = s } ∷ l.held } else record l { waiting = l.waiting ++ record { task = t; sem = s } ∷ [] }) pass) (omega arith) w
+    pub pcp-queued : (wc' oc' : ℕ) → passes (above_ceiling (set keys t key) ceilings) l.held t ≡ false → wc ≤ wc' → oc ≤ oc' → IsPcp ceilings (set keys t key) (record { held = l.held; waiting = l.waiting ++ record { task = t; sem = s } ∷ [] }) hc wc' oc' gc
+    pcp-queued wc' oc' pass w o = asked _ hc wc' oc' (ap (λ b. if b then record l { held = record { task = t; sem = s } ∷ l.held } else record l { waiting = l.waiting ++ record { task = t; sem = s } ∷ [] }) pass) (omega arith) w o
 
     pub held-place : length l.held < hc
     held-place = omega (arith, held-fits, ok.held_room)
 
     pub waiting-place : length l.waiting < wc
     waiting-place = omega (arith, one-more-waiting ceilings keys t l ok.sound below idle, ok.waiting_room)
+
+    pub order-place : length (in_order (above keys) l.waiting) < oc
+    order-place = omega (arith, one-more-waiting ceilings keys t l ok.sound below idle, length-in_order (above keys) l.waiting, ok.order_room)
 
 -- a set whose semaphores nobody holds
 pub pcp-empty : (ceilings keys : List Key) (hc wc oc gc : ℕ) → length keys < 2 ^ 32 → length ceilings + length keys ≤ hc → length keys ≤ wc → length keys ≤ oc → length keys ≤ gc → IsPcp ceilings keys (record { held = []; waiting = [] }) hc wc oc gc

@@ -4,7 +4,7 @@ use Rattle.std.specs.Prelude.{Option, None, Some, ◌==◌, nat_lt, is_none, fil
 use Rattle.std.proofs.lemmas.Bool.Decides.{nat_tests}
 use Rattle.rt_order.specs.declared.Key.{Key}
 use Rattle.rt_order.specs.KeyOrder.{higher}
-use Rattle.rt_rules.specs.Numbers.{has, is, first, foremost}
+use Rattle.rt_rules.specs.Numbers.{has, first, foremost}
 use Rattle.rt_rules.specs.Pcp.{TaskSem, PcpState, of_sem, of_others, passes, holder_among}
 use Rattle.rt_rules.proofs.PlacingLaws.{either, or_true, unless}
 use Rattle.sem_laws.specs.KeptKeys.{key_at}
@@ -14,10 +14,9 @@ use Rattle.sem_laws.proofs.KeyLaws.{IsOrder, higher-self, higher-trans, higher-m
 use Rattle.pcp_sem.specs.Pairs.{has_pair, tasks_of, sems_of}
 use Rattle.pcp_sem.specs.Stack.{IsStacked, IsStack}
 use Rattle.pcp_sem.specs.PcpKept.{above_ceiling, has_higher_ceiling, blocker_of}
-use Rattle.pcp_sem.specs.IsPcp.{IsUser, IsSound}
+use Rattle.pcp_sem.specs.IsPcp.{IsSound}
 use Rattle.pcp_sem.proofs.PairLaws.{has-of_sem}
 use Rattle.pcp_sem.proofs.StackLaws.{passes-cons, passes-over}
-use Rattle.pcp_sem.proofs.Sound.{pair-task}
 use Rattle.pcp_sem.proofs.Grants.{pair-of}
 
 -- who does not pass is not the owner of the newest grant

@@ -1,15 +1,14 @@
 -- Pairs that are granted: each semaphore has one holder, and each task waits once.
-use Rattle.std.proofs.Common.{◌≡◌, ℕ, ◌+◌, ◌<◌, ◌≤◌, Bool, true, false, not, ◌&&◌, ◌||◌, cond, ◌⊎◌, inl, inr, eqb-true, List, [], ◌∷◌, ◌++◌, length, map, refl, sym, ap, ◌∙◌, subst, arith}
-use Rattle.std.specs.Prelude.{Option, None, Some, ◌==◌, filter, if◌then◌else◌}
+use Rattle.std.proofs.Common.{◌≡◌, ℕ, Bool, true, false, ◌&&◌, ◌||◌, cond, ◌⊎◌, inl, inr, eqb-true, List, [], ◌∷◌, refl, sym, ◌∙◌}
+use Rattle.std.specs.Prelude.{◌==◌, if◌then◌else◌}
 use Rattle.rt_rules.specs.Distinct.{IsDistinct}
-use Rattle.rt_rules.specs.Numbers.{has, is, first}
-use Rattle.rt_rules.specs.Pcp.{TaskSem, PcpState, of_others, without_pair, is_same_pair, granted, tested, passes, by_key, in_order}
+use Rattle.rt_rules.specs.Numbers.{has}
+use Rattle.rt_rules.specs.Pcp.{TaskSem, PcpState, granted, tested, passes, by_key, in_order}
 use Rattle.rt_rules.proofs.PlacingLaws.{either, or_true, unless}
-use Rattle.sem_laws.proofs.Members.{equal_self, equal_turned as turned, neither, distinct-push}
+use Rattle.sem_laws.proofs.Members.{equal_self, neither}
 use Rattle.sem_laws.proofs.Tests.{clash, both}
-use Rattle.pcp_sem.specs.Pairs.{has_pair, tasks_of, sems_of}
-use Rattle.pcp_sem.specs.Stack.{IsStacked, IsStack}
-use Rattle.pcp_sem.proofs.PairLaws.{has_pair-without_pair}
+use Rattle.pcp_sem.specs.Pairs.{has_pair, tasks_of}
+use Rattle.pcp_sem.specs.Stack.{IsStacked}
 use Rattle.pcp_sem.proofs.StackLaws.{passes-over}
 
 pub pair-of : (t : ℕ) (ps : List TaskSem) → has t (tasks_of ps) ≡ true → (s : ℕ) × (has_pair t s ps ≡ true)

@@ -3,6 +3,7 @@ pub mod StackLaws
 pub mod OrderLaws
 pub mod Grants
 pub mod Sound
+pub mod KeptOrder
 pub mod Blockers
 pub mod Acts
-pub mod TestKeys
+pub mod PlainLists

@@ -1,10 +1,10 @@
 -- Members of a list of tasks and semaphores.
-use Rattle.std.proofs.Common.{◌≡◌, ℕ, Bool, true, false, not, ◌&&◌, ◌||◌, cond, ◌⊎◌, inl, inr, eqb-true, List, [], ◌∷◌, ◌++◌, map, refl, sym, ap, ◌∙◌, arith}
-use Rattle.std.specs.Prelude.{Option, None, Some, ◌==◌, filter}
+use Rattle.std.proofs.Common.{◌≡◌, ℕ, Bool, true, false, not, ◌&&◌, ◌||◌, cond, ◌⊎◌, inl, inr, List, [], ◌∷◌, ◌++◌, map, refl, arith}
+use Rattle.std.specs.Prelude.{◌==◌, filter}
 use Rattle.std.proofs.lemmas.Bool.Decides.{nat_tests}
-use Rattle.rt_rules.specs.Numbers.{has, first}
-use Rattle.rt_rules.specs.Pcp.{TaskSem, of_sem, of_others, without_pair, is_same_pair}
-use Rattle.rt_rules.proofs.PlacingLaws.{either, or_true, unless}
+use Rattle.rt_rules.specs.Numbers.{has}
+use Rattle.rt_rules.specs.Pcp.{TaskSem, of_sem, without_pair, is_same_pair}
+use Rattle.rt_rules.proofs.PlacingLaws.{either, or_true}
 use Rattle.pcp_sem.specs.Pairs.{has_pair}
 
 pub has-of_sem : (t s : ℕ) (ps : List TaskSem) → has t (of_sem s ps) ≡ has_pair t s ps

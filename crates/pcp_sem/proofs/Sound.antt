@@ -1,16 +1,16 @@
 -- The facts that the type keeps, over each act.
-use Rattle.std.proofs.Common.{◌≡◌, ℕ, ◌+◌, ◌<◌, ◌≤◌, Bool, true, false, not, ◌&&◌, ◌||◌, cond, ◌⊎◌, inl, inr, eqb-true, List, [], ◌∷◌, ◌++◌, length, map, refl, sym, ap, ◌∙◌, subst, arith, length-append}
-use Rattle.std.specs.Prelude.{Option, None, Some, ◌==◌, filter, if◌then◌else◌}
+use Rattle.std.proofs.Common.{◌≡◌, ℕ, ◌<◌, ◌≤◌, Bool, true, false, not, ◌&&◌, ◌||◌, cond, ◌⊎◌, inl, inr, eqb-true, List, [], ◌∷◌, ◌++◌, length, refl, ap, ◌∙◌, subst, arith}
+use Rattle.std.specs.Prelude.{◌==◌, if◌then◌else◌}
 use Rattle.std.specs.List.{list_all}
 use Rattle.rt_order.specs.declared.Key.{Key}
 use Rattle.rt_order.specs.KeyOrder.{higher}
 use Rattle.rt_rules.specs.Distinct.{IsDistinct}
 use Rattle.rt_rules.specs.Numbers.{has}
-use Rattle.rt_rules.specs.SemState.{SemAct, Asks, Frees, Neither}
-use Rattle.rt_rules.specs.Pcp.{TaskSem, PcpState, of_others, without_pair, is_same_pair, granted, tested, passes, by_key, in_order, pcp_after}
+use Rattle.rt_rules.specs.SemState.{Asks, Frees}
+use Rattle.rt_rules.specs.Pcp.{TaskSem, PcpState, of_others, without_pair, is_same_pair, granted, tested, passes, in_order, pcp_after}
 use Rattle.rt_rules.proofs.PlacingLaws.{either, or_true, unless}
 use Rattle.sem_laws.specs.KeptKeys.{key_at, above}
-use Rattle.sem_laws.proofs.Members.{equal_self, equal_turned, neither, distinct-push}
+use Rattle.sem_laws.proofs.Members.{equal_self, distinct-push}
 use Rattle.sem_laws.proofs.Tests.{clash, both}
 use Rattle.sem_laws.proofs.Few.{length-few}
 use Rattle.pcp_sem.specs.Pairs.{has_pair, tasks_of, sems_of}
@@ -18,8 +18,8 @@ use Rattle.pcp_sem.specs.Stack.{IsStacked, IsStack}
 use Rattle.pcp_sem.specs.PcpKept.{above_ceiling}
 use Rattle.pcp_sem.specs.IsPcp.{IsUser, IsSound}
 use Rattle.pcp_sem.proofs.PairLaws.{has_pair-without_pair, has_pair-append}
-use Rattle.pcp_sem.proofs.StackLaws.{passes-over, has_pair-in_order, without_pair-gone, stack-step}
-use Rattle.pcp_sem.proofs.Grants.{pair-of, distinct-in_order, has-in_order}
+use Rattle.pcp_sem.proofs.StackLaws.{passes-over, has_pair-in_order, without_pair-gone}
+use Rattle.pcp_sem.proofs.Grants.{pair-of, distinct-in_order}
 
 -- ---- members
 
@@ -44,7 +44,7 @@ tasks-push : (ps : List TaskSem) (p : TaskSem) → tasks_of (ps ++ p ∷ []) ≡
 tasks-push [] p = refl
 tasks-push (q ∷ ps) p = ap (λ (ts : List ℕ). q.task ∷ ts) (tasks-push ps p)
 
-has-tasks-without : (t : ℕ) (p : TaskSem) (ps : List TaskSem) → has t (tasks_of (without_pair p ps)) ≡ true → has t (tasks_of ps) ≡ true
+pub has-tasks-without : (t : ℕ) (p : TaskSem) (ps : List TaskSem) → has t (tasks_of (without_pair p ps)) ≡ true → has t (tasks_of ps) ≡ true
 has-tasks-without t p ps h = let q = pair-of t (without_pair p ps) h in pair-task t q.0 ps (has_pair-without_pair t q.0 p ps q.1)
 
 has-sems-without : (s : ℕ) (p : TaskSem) (ps : List TaskSem) → has s (sems_of (without_pair p ps)) ≡ true → has s (sems_of ps) ≡ true

@@ -1,6 +1,6 @@
 -- PCP: what is kept of the grants. A newer grant passed what others held before it, and who waits does not pass.
 use Rattle.std.proofs.Common.{◌≡◌, ℕ, Bool, true, false, not, ◌&&◌, ◌||◌, cond, ◌⊎◌, inl, inr, eqb-true, List, [], ◌∷◌, ◌++◌, refl, ap, ◌∙◌}
-use Rattle.std.specs.Prelude.{◌==◌, if◌then◌else◌, ⊤}
+use Rattle.std.specs.Prelude.{◌==◌, if◌then◌else◌}
 use Rattle.std.specs.List.{list_all}
 use Rattle.rt_rules.specs.SemState.{SemAct, Asks, Frees, Neither}
 use Rattle.rt_rules.specs.Pcp.{PcpState, TaskSem, pcp_after, of_others, without_pair, is_same_pair, granted, tested, passes, by_key, in_order}

@@ -2,7 +2,8 @@
 use Rattle.std.specs.Prelude.{◌≡◌, ℕ, ◌+◌, ◌^◌, ◌<◌, ◌≤◌, true, false, List, length}
 use Rattle.rt_order.specs.declared.Key.{Key}
 use Rattle.rt_rules.specs.Distinct.{IsDistinct}
-use Rattle.rt_rules.specs.Pcp.{PcpState}
+use Rattle.rt_rules.specs.Pcp.{TaskSem, PcpState, in_order}
+use Rattle.sem_laws.specs.KeptKeys.{above}
 use Rattle.pcp_sem.specs.Pairs.{has_pair, tasks_of, sems_of}
 use Rattle.pcp_sem.specs.Stack.{IsStack}
 use Rattle.pcp_sem.specs.PcpKept.{above_ceiling}
@@ -30,3 +31,8 @@ pub record IsPcp (ceilings keys : List Key) (l : PcpState) (held waiting order g
   pub waiting_room : length keys ≤ waiting
   pub order_room : length keys ≤ order
   pub grants_room : length keys ≤ grants
+
+-- and the waiting requests stand in falling order of keys
+pub record IsKept (ceilings keys : List Key) (l : PcpState) (order : List TaskSem) (held waiting ordered grants : ℕ) : Type 0 where
+  pub facts : IsPcp ceilings keys l held waiting ordered grants
+  pub in_falling_order : order ≡ in_order (above keys) l.waiting

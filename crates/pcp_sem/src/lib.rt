@@ -1,7 +1,7 @@
 //! The semaphores of one cluster under the PCP (Sha, Rajkumar and Lehoczky, 1990): a task is granted a semaphore where its base key is above the ceilings of all that other tasks hold.
 #![tactic(auto)]
 
-ghost use Rattle.std.specs.Prelude.{◌≡◌, ◌≢◌, ◌<◌, ◌≤◌, ◌↔◌, ◌++◌, ◌==◌, [], ℕ, true, false, length, reverse, filter, IfOk, IsNone, Some, None, slice_set, slice_get};
+ghost use Rattle.std.specs.Prelude.{◌≡◌, ◌≢◌, ◌<◌, ◌≤◌, ◌↔◌, ◌++◌, ◌==◌, [], ℕ, true, false, length, reverse, replicate, filter, IfOk, IsNone, Some, None, slice_set, slice_get};
 ghost use Rattle.rt_base.specs.TaskNos.{number_of_task};
 ghost use Rattle.rt_order.specs.KeyOrder.{higher, equal_keys};
 ghost use Rattle.rt_rules.specs.Numbers.{has};
@@ -9,7 +9,7 @@ ghost use Rattle.rt_rules.specs.SemState.{Asks, Frees};
 ghost use Rattle.rt_rules.specs.Pcp.{of_others, pcp_after, pcp_sem_state, passes, without_pair};
 ghost use Rattle.sem_laws.specs.KeptKeys.{key_at, above};
 ghost use Rattle.pcp_sem.specs.Pairs.{has_pair, tasks_of};
-ghost use Rattle.pcp_sem.specs.PcpKept.{PcpKept, above_ceiling, blocker_of, last_granted};
+ghost use Rattle.pcp_sem.specs.PcpKept.{PcpKept, above_ceiling, blocker_of, last_granted, lowest};
 ghost use Rattle.pcp_sem.specs.Settled.{IsSettled};
 
 use pairs::Pair;
@@ -21,6 +21,8 @@ use std::marker::Model;
 mod pairs;
 
 /// Semaphores, numbered from 0, with their ceilings: the highest base key of the users of each. It keeps the key with which a task asked.
+///
+/// The waiting requests stand in falling order of keys from call to call, so that a call takes no more steps than a constant times what is held and waited for.
 #[derive(Drop)]
 pub struct PcpSet {
     ceilings: Vec<Key>,
@@ -36,21 +38,22 @@ impl Model for PcpSet {
     ghost use Rattle.rt_base.specs.TaskNos.{numbers};
     ghost use Rattle.pcp_sem.specs.Listed.{pairs};
     ghost use Rattle.pcp_sem.specs.PcpKept.{PcpKept};
-    ghost use Rattle.pcp_sem.specs.IsPcp.{IsPcp};
+    ghost use Rattle.pcp_sem.specs.IsPcp.{IsKept};
 
     ghost Value = { PcpKept };
 
     ghost view = { λ a. record { ceilings = a.ceilings.items; state = record { held = pairs a.held.items; waiting = pairs a.waiting.items }; keys = a.keys.items; grants = numbers a.grants.items } };
 
-    ghost invariant = { λ a. IsPcp a.ceilings.items a.keys.items (record { held = pairs a.held.items; waiting = pairs a.waiting.items }) (vec_capacity a.held) (vec_capacity a.waiting) (vec_capacity a.order) (vec_capacity a.grants) };
+    ghost invariant = { λ a. IsKept a.ceilings.items a.keys.items (record { held = pairs a.held.items; waiting = pairs a.waiting.items }) (pairs a.order.items) (vec_capacity a.held) (vec_capacity a.waiting) (vec_capacity a.order) (vec_capacity a.grants) };
 }
 
 impl PcpSet {
-    /// A set whose semaphores nobody holds, for tasks whose numbers are below `room`. No later call takes memory.
+    /// A set whose semaphores nobody holds, for tasks whose numbers are below `room`, each with the lowest of all keys until it asks. No later call takes memory.
     pub fn new(alloc: Global, ceilings: &[Key], room: u32) -> Result<PcpSet, NoMemory>
         ensures free { IfOk result (λ s. s.state ≡ record { held = []; waiting = [] }) }
         ensures ceilings { IfOk result (λ s. s.ceilings ≡ ceilings.now) }
         ensures room { IfOk result (λ s. length s.keys ≡ room) }
+        ensures keys { IfOk result (λ s. s.keys ≡ replicate room lowest) }
         ensures grants { IfOk result (λ s. s.grants ≡ []) }
     {
         let room = room as usize;
@@ -95,6 +98,7 @@ impl PcpSet {
             Ask::Granted
         } else {
             pairs::put_behind(&mut self.waiting, pair);
+            pairs::insert_by_key(&mut self.order, self.keys.as_slice(), pair);
             Ask::Queued
         }
     }
@@ -109,20 +113,20 @@ impl PcpSet {
         ensures settled { IsSettled self.new }
     {
         pairs::take_out(&mut self.held, Pair { task, sem });
-        pairs::sort_by_key(
-            &mut self.order,
-            self.waiting.as_slice(),
-            self.keys.as_slice(),
-        );
         self.grants.clear();
-        pairs::test_in_order(
+        let Some(next) = pairs::first_to_pass(
             self.order.as_slice(),
+            self.held.as_slice(),
             self.keys.as_slice(),
             self.ceilings.as_slice(),
-            &mut self.held,
-            &mut self.waiting,
-            &mut self.grants,
-        );
+        ) else {
+            return 0;
+        };
+        // No later one passes once this one holds, so that at most one is granted.
+        pairs::put_first(&mut self.held, next);
+        pairs::take_out(&mut self.waiting, next);
+        pairs::take_out(&mut self.order, next);
+        pairs::put_last(&mut self.grants, next.task);
         self.grants.len() as u32
     }
 
@@ -160,38 +164,4 @@ impl PcpSet {
 }
 
 #[cfg(test)]
-mod tests {
-    use super::*;
-    use std::test::Fail;
-
-    /// Task 1 asks for a free semaphore and waits because of the ceiling of the other, which task 2 holds; task 2 then takes the free one, and frees both.
-    #[test]
-    fn another_ceiling_refuses(rt: HostRuntime) -> Result<(), Fail> {
-        let high = Key {
-            band: 2,
-            major: 1,
-            minor: 1,
-        };
-        let low = Key {
-            band: 2,
-            major: 5,
-            minor: 2,
-        };
-        let ceilings = [high, high];
-        let mut set = PcpSet::new(rt.alloc(), &ceilings, 3)?;
-        assert_eq!(rt; set.ask(TaskNo(2), low, 0), Ask::Granted);
-        assert_eq!(rt; set.ask(TaskNo(1), high, 1), Ask::Queued);
-        assert_eq!(rt; set.blocker(TaskNo(1)), Some(TaskNo(2)));
-        assert_eq!(rt; set.blocker(TaskNo(2)), None);
-        assert_eq!(rt; set.ask(TaskNo(2), low, 1), Ask::Granted);
-        assert_eq!(rt; set.last_of(TaskNo(2)), Some(1));
-        assert_eq!(rt; set.granted(0), None);
-        assert_eq!(rt; set.release(TaskNo(2), 1), 0);
-        assert_eq!(rt; set.release(TaskNo(2), 0), 1);
-        assert_eq!(rt; set.granted(0), Some(TaskNo(1)));
-        assert_eq!(rt; set.holder(1), Some(TaskNo(1)));
-        assert_eq!(rt; set.holder(0), None);
-        assert_eq!(rt; set.release(TaskNo(1), 1), 0);
-        Ok(())
-    }
-}
+mod tests;

@@ -1,31 +1,65 @@
-use Rattle.std.proofs.Common.{◌≡◌, ◌≤◌, length, sym, arith}
+use Rattle.std.proofs.Common.{◌≡◌, ◌∙◌, sym, ap, arith}
+use Rattle.std.specs.Prelude.{None, Some, find}
+use Rattle.rt_base.specs.TaskNos.{numbers}
 use Rattle.rt_rules.specs.SemState.{Frees}
-use Rattle.rt_rules.specs.Pcp.{PcpState, pcp_after}
+use Rattle.rt_rules.specs.Pcp.{TaskSem, PcpState, in_order, passes, pcp_after, without_pair}
 use Rattle.sem_laws.specs.KeptKeys.{above}
 use Rattle.pcp_sem.specs.PcpKept.{above_ceiling}
-use Rattle.pcp_sem.specs.Listed.{pairs}
+use Rattle.pcp_sem.specs.Listed.{pair, pairs}
 use Rattle.pcp_sem.proofs.OrderLaws.{length-pairs}
-use Rattle.pcp_sem.proofs.Acts.{settled-freed, pcp-freed, held-fits, waiting-fits}
+use Rattle.pcp_sem.proofs.KeptOrder.{ranking-keys, in_order-without_pair}
+use Rattle.pcp_sem.proofs.Acts.{settled-freed, pcp-freed, freed-first, freed-nobody, one-waits, held-fits}
 use Rattle.pcp_sem.proofs.PcpSet.release.Goals as goal
 
-pub sort_by_key-requires : goal.sort_by_key-requires
-sort_by_key-requires c = omega (arith, waiting-fits _ _ _ _ _ _ _ c.self.invariant, length-pairs c.self.inside.waiting.items, c.self.invariant.order_room, c.as_slice.ensures.len)
+pub put_first-requires : goal.put_first-requires
+put_first-requires c =
+    let found : find (λ (q : TaskSem). passes (above_ceiling c.self.inside.keys.items c.self.inside.ceilings.items) (without_pair (record { task = c.args.task.0; sem = c.args.sem }) (pairs c.self.inside.held.items)) q.task) (in_order (above c.self.inside.keys.items) (pairs c.self.inside.waiting.items)) ≡ Some (pair c.in-Some.next) = sym (rw (c.as_slice.ensures.value, c.as_slice-2.ensures.value, c.as_slice-3.ensures.value, c.as_slice-4.ensures.value, c.take_out.ensures.items, c.in-Some.is, c.self.invariant.in_falling_order) at c.first_to_pass.ensures) in
+    omega (arith, one-waits _ _ _ _ _ _ _ c.self.invariant.facts _ _ found, held-fits _ _ _ _ _ _ _ c.self.invariant.facts, length-pairs c.self.inside.held.items, c.self.invariant.facts.held_room, c.take_out.ensures.len, c.take_out.ensures.capacity)
 
-pub test_in_order-requires-clause-held : goal.test_in_order-requires-clause-held
-test_in_order-requires-clause-held c = omega (arith, waiting-fits _ _ _ _ _ _ _ c.self.invariant, held-fits _ _ _ _ _ _ _ c.self.invariant, length-pairs c.self.inside.waiting.items, length-pairs c.self.inside.held.items, c.self.invariant.held_room, c.as_slice.ensures.len, c.as_slice-3.ensures.len, c.sort_by_key.ensures.len)
-
-pub test_in_order-requires-clause-grants : goal.test_in_order-requires-clause-grants
-test_in_order-requires-clause-grants c = omega (arith, waiting-fits _ _ _ _ _ _ _ c.self.invariant, length-pairs c.self.inside.waiting.items, c.self.invariant.grants_room, c.as_slice.ensures.len, c.as_slice-3.ensures.len, c.sort_by_key.ensures.len)
-
-pub overflow_cast-result : goal.overflow_cast-result
-overflow_cast-result c = omega (arith, waiting-fits _ _ _ _ _ _ _ c.self.invariant, length-pairs c.self.inside.waiting.items, c.self.invariant.limit, c.as_slice.ensures.len, c.as_slice-3.ensures.len, c.sort_by_key.ensures.len)
+pub put_last-requires : goal.put_last-requires
+put_last-requires c =
+    let found : find (λ (q : TaskSem). passes (above_ceiling c.self.inside.keys.items c.self.inside.ceilings.items) (without_pair (record { task = c.args.task.0; sem = c.args.sem }) (pairs c.self.inside.held.items)) q.task) (in_order (above c.self.inside.keys.items) (pairs c.self.inside.waiting.items)) ≡ Some (pair c.in-Some.next) = sym (rw (c.as_slice.ensures.value, c.as_slice-2.ensures.value, c.as_slice-3.ensures.value, c.as_slice-4.ensures.value, c.take_out.ensures.items, c.in-Some.is, c.self.invariant.in_falling_order) at c.first_to_pass.ensures) in
+    omega (arith, one-waits _ _ _ _ _ _ _ c.self.invariant.facts _ _ found, c.self.invariant.facts.grants_room, c.clear.ensures.len, c.clear.ensures.capacity)
 
 pub invariant_of-self : goal.invariant_of-self
 invariant_of-self c =
-    let state : record { held = pairs c.test_in_order.new.held.items; waiting = pairs c.test_in_order.new.waiting.items } ≡ pcp_after (above c.self.inside.keys.items) (above_ceiling c.self.inside.keys.items c.self.inside.ceilings.items) (Frees c.args.task.0 c.args.sem) (record { held = pairs c.self.inside.held.items; waiting = pairs c.self.inside.waiting.items }) = rw (c.as_slice-3.ensures.value, c.as_slice-4.ensures.value, c.as_slice-5.ensures.value, c.sort_by_key.ensures.items, c.as_slice.ensures.value, c.as_slice-2.ensures.value, c.take_out.ensures.items) at c.test_in_order.ensures.tested in
-    rw (state, c.test_in_order.ensures.waiting_capacity) (pcp-freed _ _ _ _ _ _ _ c.self.invariant c.args.task.0 c.args.sem _ _ _ (omega arith) (omega arith) (omega arith))
+    let found : find (λ (q : TaskSem). passes (above_ceiling c.self.inside.keys.items c.self.inside.ceilings.items) (without_pair (record { task = c.args.task.0; sem = c.args.sem }) (pairs c.self.inside.held.items)) q.task) (in_order (above c.self.inside.keys.items) (pairs c.self.inside.waiting.items)) ≡ None = sym (rw (c.as_slice.ensures.value, c.as_slice-2.ensures.value, c.as_slice-3.ensures.value, c.as_slice-4.ensures.value, c.take_out.ensures.items, c.in_default.is, c.self.invariant.in_falling_order) at c.first_to_pass.ensures) in
+    let state : record { held = pairs c.take_out.new.from.items; waiting = pairs c.self.inside.waiting.items } ≡ pcp_after (above c.self.inside.keys.items) (above_ceiling c.self.inside.keys.items c.self.inside.ceilings.items) (Frees c.args.task.0 c.args.sem) (record { held = pairs c.self.inside.held.items; waiting = pairs c.self.inside.waiting.items }) = rw c.take_out.ensures.items (freed-nobody _ _ _ _ _ _ _ c.self.invariant.facts (record { task = c.args.task.0; sem = c.args.sem }) found) in
+    rw state record {
+      facts = pcp-freed _ _ _ _ _ _ _ c.self.invariant.facts c.args.task.0 c.args.sem _ _ _ (omega (arith, c.take_out.ensures.capacity)) (omega arith) (omega (arith, c.clear.ensures.capacity));
+      in_falling_order = c.self.invariant.in_falling_order ∙ ap (λ (l : PcpState). in_order (above c.self.inside.keys.items) l.waiting) state;
+    }
+
+pub invariant_of-self-2 : goal.invariant_of-self-2
+invariant_of-self-2 c =
+    let found : find (λ (q : TaskSem). passes (above_ceiling c.self.inside.keys.items c.self.inside.ceilings.items) (without_pair (record { task = c.args.task.0; sem = c.args.sem }) (pairs c.self.inside.held.items)) q.task) (in_order (above c.self.inside.keys.items) (pairs c.self.inside.waiting.items)) ≡ Some (pair c.in-Some.next) = sym (rw (c.as_slice.ensures.value, c.as_slice-2.ensures.value, c.as_slice-3.ensures.value, c.as_slice-4.ensures.value, c.take_out.ensures.items, c.in-Some.is, c.self.invariant.in_falling_order) at c.first_to_pass.ensures) in
+    let state : record { held = pairs c.put_first.new.held.items; waiting = pairs c.take_out-2.new.from.items } ≡ pcp_after (above c.self.inside.keys.items) (above_ceiling c.self.inside.keys.items c.self.inside.ceilings.items) (Frees c.args.task.0 c.args.sem) (record { held = pairs c.self.inside.held.items; waiting = pairs c.self.inside.waiting.items }) = rw (c.put_first.ensures.items, c.take_out.ensures.items, c.take_out-2.ensures.items) (freed-first _ _ _ _ _ _ _ c.self.invariant.facts (record { task = c.args.task.0; sem = c.args.sem }) _ found) in
+    let order : pairs c.take_out-3.new.from.items ≡ in_order (above c.self.inside.keys.items) (pairs c.take_out-2.new.from.items) = rw (c.take_out-3.ensures.items, c.take_out-2.ensures.items, c.self.invariant.in_falling_order) (sym (in_order-without_pair (above c.self.inside.keys.items) (ranking-keys c.self.inside.keys.items) (pair c.in-Some.next) (pairs c.self.inside.waiting.items))) in
+    rw (state, c.take_out-2.ensures.capacity) record {
+      facts = pcp-freed _ _ _ _ _ _ _ c.self.invariant.facts c.args.task.0 c.args.sem _ _ _ (omega (arith, c.take_out.ensures.capacity, c.put_first.ensures.capacity)) (omega (arith, c.take_out-3.ensures.capacity)) (omega (arith, c.clear.ensures.capacity, c.put_last.ensures.capacity));
+      in_falling_order = order ∙ ap (λ (l : PcpState). in_order (above c.self.inside.keys.items) l.waiting) state;
+    }
+
+pub returns-clause-after : goal.returns-clause-after
+returns-clause-after c =
+    let found : find (λ (q : TaskSem). passes (above_ceiling c.self.inside.keys.items c.self.inside.ceilings.items) (without_pair (record { task = c.args.task.0; sem = c.args.sem }) (pairs c.self.inside.held.items)) q.task) (in_order (above c.self.inside.keys.items) (pairs c.self.inside.waiting.items)) ≡ Some (pair c.in-Some.next) = sym (rw (c.as_slice.ensures.value, c.as_slice-2.ensures.value, c.as_slice-3.ensures.value, c.as_slice-4.ensures.value, c.take_out.ensures.items, c.in-Some.is, c.self.invariant.in_falling_order) at c.first_to_pass.ensures) in
+    let state : record { held = pairs c.put_first.new.held.items; waiting = pairs c.take_out-2.new.from.items } ≡ pcp_after (above c.self.inside.keys.items) (above_ceiling c.self.inside.keys.items c.self.inside.ceilings.items) (Frees c.args.task.0 c.args.sem) (record { held = pairs c.self.inside.held.items; waiting = pairs c.self.inside.waiting.items }) = rw (c.put_first.ensures.items, c.take_out.ensures.items, c.take_out-2.ensures.items) (freed-first _ _ _ _ _ _ _ c.self.invariant.facts (record { task = c.args.task.0; sem = c.args.sem }) _ found) in
+    rw (← c.self.view_is) (ap (λ (l : PcpState). record { ceilings = c.self.inside.ceilings.items; state = l; keys = c.self.inside.keys.items; grants = numbers c.put_last.new.grants.items }) state)
 
 pub returns-clause-settled : goal.returns-clause-settled
 returns-clause-settled c =
-    let state : record { held = pairs c.test_in_order.new.held.items; waiting = pairs c.test_in_order.new.waiting.items } ≡ pcp_after (above c.self.inside.keys.items) (above_ceiling c.self.inside.keys.items c.self.inside.ceilings.items) (Frees c.args.task.0 c.args.sem) (record { held = pairs c.self.inside.held.items; waiting = pairs c.self.inside.waiting.items }) = rw (c.as_slice-3.ensures.value, c.as_slice-4.ensures.value, c.as_slice-5.ensures.value, c.sort_by_key.ensures.items, c.as_slice.ensures.value, c.as_slice-2.ensures.value, c.take_out.ensures.items) at c.test_in_order.ensures.tested in
-    rw state (settled-freed _ _ _ _ _ _ _ c.self.invariant c.args.task.0 c.args.sem _)
+    let found : find (λ (q : TaskSem). passes (above_ceiling c.self.inside.keys.items c.self.inside.ceilings.items) (without_pair (record { task = c.args.task.0; sem = c.args.sem }) (pairs c.self.inside.held.items)) q.task) (in_order (above c.self.inside.keys.items) (pairs c.self.inside.waiting.items)) ≡ Some (pair c.in-Some.next) = sym (rw (c.as_slice.ensures.value, c.as_slice-2.ensures.value, c.as_slice-3.ensures.value, c.as_slice-4.ensures.value, c.take_out.ensures.items, c.in-Some.is, c.self.invariant.in_falling_order) at c.first_to_pass.ensures) in
+    let state : record { held = pairs c.put_first.new.held.items; waiting = pairs c.take_out-2.new.from.items } ≡ pcp_after (above c.self.inside.keys.items) (above_ceiling c.self.inside.keys.items c.self.inside.ceilings.items) (Frees c.args.task.0 c.args.sem) (record { held = pairs c.self.inside.held.items; waiting = pairs c.self.inside.waiting.items }) = rw (c.put_first.ensures.items, c.take_out.ensures.items, c.take_out-2.ensures.items) (freed-first _ _ _ _ _ _ _ c.self.invariant.facts (record { task = c.args.task.0; sem = c.args.sem }) _ found) in
+    rw state (settled-freed _ _ _ _ _ _ _ c.self.invariant.facts c.args.task.0 c.args.sem _)
+
+pub returns-in_default-clause-after : goal.returns-in_default-clause-after
+returns-in_default-clause-after c =
+    let found : find (λ (q : TaskSem). passes (above_ceiling c.self.inside.keys.items c.self.inside.ceilings.items) (without_pair (record { task = c.args.task.0; sem = c.args.sem }) (pairs c.self.inside.held.items)) q.task) (in_order (above c.self.inside.keys.items) (pairs c.self.inside.waiting.items)) ≡ None = sym (rw (c.as_slice.ensures.value, c.as_slice-2.ensures.value, c.as_slice-3.ensures.value, c.as_slice-4.ensures.value, c.take_out.ensures.items, c.in_default.is, c.self.invariant.in_falling_order) at c.first_to_pass.ensures) in
+    let state : record { held = pairs c.take_out.new.from.items; waiting = pairs c.self.inside.waiting.items } ≡ pcp_after (above c.self.inside.keys.items) (above_ceiling c.self.inside.keys.items c.self.inside.ceilings.items) (Frees c.args.task.0 c.args.sem) (record { held = pairs c.self.inside.held.items; waiting = pairs c.self.inside.waiting.items }) = rw c.take_out.ensures.items (freed-nobody _ _ _ _ _ _ _ c.self.invariant.facts (record { task = c.args.task.0; sem = c.args.sem }) found) in
+    rw (← c.self.view_is) (ap (λ (l : PcpState). record { ceilings = c.self.inside.ceilings.items; state = l; keys = c.self.inside.keys.items; grants = numbers c.clear.new.self.items }) state)
+
+pub returns-in_default-clause-settled : goal.returns-in_default-clause-settled
+returns-in_default-clause-settled c =
+    let found : find (λ (q : TaskSem). passes (above_ceiling c.self.inside.keys.items c.self.inside.ceilings.items) (without_pair (record { task = c.args.task.0; sem = c.args.sem }) (pairs c.self.inside.held.items)) q.task) (in_order (above c.self.inside.keys.items) (pairs c.self.inside.waiting.items)) ≡ None = sym (rw (c.as_slice.ensures.value, c.as_slice-2.ensures.value, c.as_slice-3.ensures.value, c.as_slice-4.ensures.value, c.take_out.ensures.items, c.in_default.is, c.self.invariant.in_falling_order) at c.first_to_pass.ensures) in
+    let state : record { held = pairs c.take_out.new.from.items; waiting = pairs c.self.inside.waiting.items } ≡ pcp_after (above c.self.inside.keys.items) (above_ceiling c.self.inside.keys.items c.self.inside.ceilings.items) (Frees c.args.task.0 c.args.sem) (record { held = pairs c.self.inside.held.items; waiting = pairs c.self.inside.waiting.items }) = rw c.take_out.ensures.items (freed-nobody _ _ _ _ _ _ _ c.self.invariant.facts (record { task = c.args.task.0; sem = c.args.sem }) found) in
+    rw state (settled-freed _ _ _ _ _ _ _ c.self.invariant.facts c.args.task.0 c.args.sem _)
