@@ -44,6 +44,9 @@ module _ (keys : List Key) (t : ℕ) (key : Key) where
   pub clear-outside : (us : List ℕ) → list_all is_clear us ≡ true → has t us ≡ false
   clear-outside us all = unless _ (λ h. clash _ (equal_self t) (clear us all t h).0)
 
+  pub clear-each : (us : List ℕ) → list_all is_clear us ≡ true → (u : ℕ) → has u us ≡ true → equal_keys (key_at keys u) key ≡ false
+  clear-each us all u h = (clear us all u h).1
+
   pub clear-apart : (us vs : List ℕ) → list_all is_clear us ≡ true → list_all is_clear vs ≡ true → (u : ℕ) → has u (rest us ++ vs) ≡ true → equal_keys (key_at keys u) key ≡ false
   clear-apart us vs one two u h = split (either (has u (rest us)) (has u vs) (sym (has-append u (rest us) vs) ∙ h))
     where
