@@ -69,12 +69,8 @@ impl Inherit {
     {
         self.stops(task);
         self.nexts[task.0 as usize] = Some(holder);
-        keys::follow(
-            self.bases.as_slice(),
-            self.nexts.as_slice(),
-            &mut self.keys,
-            Some(holder),
-        );
+        let key = self.keys[task.0 as usize];
+        keys::raise(self.nexts.as_slice(), &mut self.keys, Some(holder), key);
     }
 
     /// The task waits no longer. `base` was called for it.
