@@ -43,7 +43,7 @@ impl FmlpSem {
     }
 
     /// The task asks for the semaphore. It holds it from now on where nobody did, else it waits behind all others. Its base key does not matter.
-    pub fn ask(&mut self, task: TaskNo, _key: Key) -> Ask
+    pub fn ask(&mut self, task: TaskNo, key: Key) -> Ask
         requires below { task.0 < self.old.room }
         requires outside { has task.0 self.old.line ≡ false }
         ensures after { self.new ≡ record self.old { line = fmlp_after (Asks task.0 0) self.old.line } }
