@@ -43,7 +43,7 @@ impl FmlpSem {
     }
 
     /// The task asks for the semaphore. It holds it from now on where nobody did, else it waits behind all others. Its base key does not matter.
-    pub fn ask(&mut self, task: TaskNo, _key: Key) -> Ask
+    pub fn ask(&mut self, task: TaskNo, key: Key) -> Ask
         requires below { task.0 < self.old.room }
         requires outside { has task.0 self.old.line ≡ false }
         ensures after { self.new ≡ record self.old { line = fmlp_after (Asks task.0 0) self.old.line } }
@@ -86,31 +86,4 @@ impl FmlpSem {
 }
 
 #[cfg(test)]
-mod tests {
-    use super::*;
-    use std::test::Fail;
-
-    /// Four tasks on four processors: the first holds, the others wait in the order of asking, and each release passes the semaphore on to the next.
-    #[test]
-    fn tasks_hold_in_the_order_of_asking(rt: HostRuntime) -> Result<(), Fail> {
-        let key = Key {
-            band: 1,
-            major: 10,
-            minor: 1,
-        };
-        let mut sem = FmlpSem::new(rt.alloc(), 5)?;
-        assert_eq!(rt; sem.ask(TaskNo(1), key), Ask::Granted);
-        assert_eq!(rt; sem.ask(TaskNo(2), key), Ask::Queued);
-        assert_eq!(rt; sem.ask(TaskNo(3), key), Ask::Queued);
-        assert_eq!(rt; sem.ask(TaskNo(4), key), Ask::Queued);
-        assert_eq!(rt; sem.holder(), Some(TaskNo(1)));
-        assert_eq!(rt; sem.waiters(), 3);
-        assert_eq!(rt; sem.release(TaskNo(1)), Some(TaskNo(2)));
-        assert_eq!(rt; sem.release(TaskNo(2)), Some(TaskNo(3)));
-        assert_eq!(rt; sem.release(TaskNo(3)), Some(TaskNo(4)));
-        assert_eq!(rt; sem.release(TaskNo(4)), None);
-        assert_eq!(rt; sem.holder(), None);
-        assert_eq!(rt; sem.waiters(), 0);
-        Ok(())
-    }
-}
+mod tests;

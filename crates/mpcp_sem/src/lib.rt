@@ -92,34 +92,4 @@ impl MpcpSem {
 }
 
 #[cfg(test)]
-mod tests {
-    use super::*;
-    use std::test::Fail;
-
-    fn base_key(prio: u64, task: u32) -> Key
-        ensures { result ≡ record { band = 2; major = prio; minor = task } }
-    {
-        Key {
-            band: 2,
-            major: prio,
-            minor: task,
-        }
-    }
-
-    /// Task 2 holds while task 3 and then the higher task 4 ask: task 4 is next, though it asked later.
-    #[test]
-    fn the_highest_waiting_task_is_next(rt: HostRuntime) -> Result<(), Fail> {
-        let mut sem = MpcpSem::new(rt.alloc(), 5)?;
-        assert_eq!(rt; sem.ask(TaskNo(2), base_key(5, 2)), Ask::Granted);
-        assert_eq!(rt; sem.ask(TaskNo(3), base_key(3, 3)), Ask::Queued);
-        assert_eq!(rt; sem.ask(TaskNo(4), base_key(2, 4)), Ask::Queued);
-        assert_eq!(rt; sem.holder(), Some(TaskNo(2)));
-        assert_eq!(rt; sem.waiters(), 2);
-        assert_eq!(rt; sem.release(TaskNo(2)), Some(TaskNo(4)));
-        assert_eq!(rt; sem.release(TaskNo(4)), Some(TaskNo(3)));
-        assert_eq!(rt; sem.waiters(), 0);
-        assert_eq!(rt; sem.release(TaskNo(3)), None);
-        assert_eq!(rt; sem.holder(), None);
-        Ok(())
-    }
-}
+mod tests;

@@ -105,35 +105,4 @@ impl OmlpSem {
 }
 
 #[cfg(test)]
-mod tests {
-    use super::*;
-    use std::test::Fail;
-
-    fn base_key(deadline: u64, task: u32) -> Key
-        ensures { result ≡ record { band = 2; major = deadline; minor = task } }
-    {
-        Key {
-            band: 2,
-            major: deadline,
-            minor: task,
-        }
-    }
-
-    /// Two processors: tasks 1 and 2 are in the FIFO list, tasks 3 and 4 in the priority queue; task 4, of the earliest deadline, joins the FIFO list before task 3.
-    #[test]
-    fn the_earliest_deadline_joins_the_list(rt: HostRuntime) -> Result<(), Fail> {
-        let mut sem = OmlpSem::new(rt.alloc(), 2, 5)?;
-        assert_eq!(rt; sem.ask(TaskNo(1), base_key(100, 1)), Ask::Granted);
-        assert_eq!(rt; sem.ask(TaskNo(2), base_key(100, 2)), Ask::Queued);
-        assert_eq!(rt; sem.ask(TaskNo(3), base_key(51, 3)), Ask::Queued);
-        assert_eq!(rt; sem.ask(TaskNo(4), base_key(22, 4)), Ask::Queued);
-        assert_eq!(rt; sem.waiters(), 3);
-        assert_eq!(rt; sem.release(TaskNo(1)), Some(TaskNo(2)));
-        assert_eq!(rt; sem.release(TaskNo(2)), Some(TaskNo(4)));
-        assert_eq!(rt; sem.release(TaskNo(4)), Some(TaskNo(3)));
-        assert_eq!(rt; sem.holder(), Some(TaskNo(3)));
-        assert_eq!(rt; sem.release(TaskNo(3)), None);
-        assert_eq!(rt; sem.waiters(), 0);
-        Ok(())
-    }
-}
+mod tests;

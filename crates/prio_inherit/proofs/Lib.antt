@@ -1,2 +1,4 @@
 pub mod Walking
 pub mod Settling
+mod Rising
+mod Raising

@@ -104,7 +104,7 @@ top-same room next next' key key' base base' t k top same back forth = record {
 
 -- ---- one step of a walk
 
-waits_not : (nexts : List (Option ℕ)) → NoWalkComesRound nexts → (t : ℕ) → t < length nexts → next_of nexts t ≡ Some t → ⊥
+pub waits_not : (nexts : List (Option ℕ)) → NoWalkComesRound nexts → (t : ℕ) → t < length nexts → next_of nexts t ≡ Some t → ⊥
 waits_not nexts acyclic t below e = by_room (length nexts) refl
   where
     by_room : (n : ℕ) → length nexts ≡ n → ⊥
@@ -352,14 +352,3 @@ module _ (bases : List (Option Key)) (os : List (Option TaskNo)) (keys : List Ke
   pub follow-end : (keys' : List Key) (start at : Option ℕ) (i : ℕ) → IsSettling bases (numbers_of_tasks os) keys' start → IsSettling bases (numbers_of_tasks os) keys at → after (next_of (numbers_of_tasks os)) i start ≡ at → i ≡ length os → (t : ℕ) → t < length (numbers_of_tasks os) → IsLocal bases (numbers_of_tasks os) keys t
   follow-end keys' start at i first ok came end =
       settled bases (numbers_of_tasks os) keys at ok (sym came ∙ ap (λ n. after (next_of (numbers_of_tasks os)) n start) (end ∙ sym (length-numbers os)) ∙ walked bases (numbers_of_tasks os) keys' start first)
-
--- a task that waits for another from now on, after it was taken from the one before
-pub joined : (bases : List (Option Key)) (nexts : List (Option ℕ)) (boosts : List (Option Key)) (keys : List Key) (bases' : List (Option Key)) (nexts' : List (Option ℕ)) (t h : ℕ) → IsInherit bases nexts boosts keys → bases ≡ bases' → nexts ≡ set nexts' t None → is_some (get_or bases' t None) ≡ true → is_some (get_or bases' h None) ≡ true → NoWalkComesRound (set nexts' t (Some h)) → IsSettling bases (set nexts t (Some h)) keys (Some h)
-joined bases nexts boosts keys bases' nexts' t h ok b n told told' ends =
-    settle-join bases nexts boosts keys ok t h below low (ap (λ ns. next_of ns t) n ∙ get_or-set_same nexts' t None None (omega (arith, below, ap length n, length-set {A = Option ℕ} nexts' t None))) (subst NoWalkComesRound (sym (ap (λ ns. set ns t (Some h)) n ∙ set-set nexts' t None (Some h))) ends)
-  where
-    below : t < length nexts
-    below = omega (arith, told-below bases' t told, ap length b, ok.bases_length)
-
-    low : h < length nexts
-    low = omega (arith, told-below bases' h told', ap length b, ok.bases_length)

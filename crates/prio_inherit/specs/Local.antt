@@ -1,5 +1,5 @@
 -- What is kept of the keys: each task has the highest of its base key and the keys of those that wait for it.
-use Rattle.std.specs.Prelude.{◌≡◌, ℕ, ◌<◌, false, ◌⊎◌, Option, Some, List, length}
+use Rattle.std.specs.Prelude.{◌≡◌, ℕ, ◌<◌, false, ◌⊎◌, Option, Some, List, length, if◌then◌else◌}
 use Rattle.rt_order.specs.declared.Key.{Key}
 use Rattle.rt_order.specs.KeyOrder.{higher}
 use Rattle.sem_laws.specs.KeptKeys.{key_at}
@@ -30,3 +30,8 @@ pub record IsSettling (bases : List (Option Key)) (nexts : List (Option ℕ)) (k
   pub acyclic : NoWalkComesRound nexts
   pub at_within : (v : ℕ) → at ≡ Some v → v < length nexts
   pub local : (t : ℕ) → t < length nexts → is t at ≡ false → IsLocal bases nexts keys t
+
+-- the same while the keys that are lower than one are raised to it: the task that the walk has come to has its key once this one is joined
+pub record IsRaising (bases : List (Option Key)) (nexts : List (Option ℕ)) (keys : List Key) (at : Option ℕ) (key : Key) : Type 0 where
+  pub settling : IsSettling bases nexts keys at
+  pub joined : (t : ℕ) → at ≡ Some t → IsTop (length nexts) (next_of nexts) (key_at keys) (base_of bases t) t (if higher key (key_at keys t) then key else key_at keys t)

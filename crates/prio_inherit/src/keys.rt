@@ -1,11 +1,12 @@
 //! The keys that are kept, and their update along a walk.
-ghost use Rattle.std.specs.Prelude.{◌≡◌, ◌<◌, ◌&&◌, ℕ, None, IfOk, length, replicate};
+ghost use Rattle.std.specs.Prelude.{◌≡◌, ◌<◌, ◌&&◌, ℕ, List, Option, None, Some, IfOk, length, replicate};
 ghost use Rattle.rt_base.specs.TaskNos.{number_of_task, numbers_of_tasks};
+ghost use Rattle.rt_order.specs.declared.Key.{Key};
 ghost use Rattle.rt_order.specs.KeyOrder.{higher};
 ghost use Rattle.rt_rules.specs.Numbers.{is};
 ghost use Rattle.sem_laws.specs.KeptKeys.{key_at};
 ghost use Rattle.prio_inherit.specs.Waits.{base_of, lowest_key, next_of};
-ghost use Rattle.prio_inherit.specs.Local.{IsTop, IsLocal, IsSettling};
+ghost use Rattle.prio_inherit.specs.Local.{IsTop, IsLocal, IsSettling, IsRaising};
 
 use rt_base::{NoMemory, TaskNo};
 use rt_order::Key;
@@ -90,5 +91,27 @@ pub fn follow(
         };
         keys[task.0 as usize] = top_key(bases, nexts, keys.as_slice(), task);
         at = nexts[task.0 as usize];
+    }
+}
+
+/// Raises the keys that are lower than the given one to it, along the walk that begins at the given task, up to the first that is not.
+pub fn raise(nexts: &[Option<TaskNo>], keys: &mut Vec<Key>, start: Option<TaskNo>, key: Key)
+    requires length { length keys.old.items ≡ length (numbers_of_tasks nexts.now) }
+    requires start { (t : ℕ) → number_of_task start ≡ Some t → t < length (numbers_of_tasks nexts.now) }
+    requires within { (t v : ℕ) → next_of (numbers_of_tasks nexts.now) t ≡ Some v → v < length (numbers_of_tasks nexts.now) }
+    ensures length { length keys.new.items ≡ length (numbers_of_tasks nexts.now) }
+    ensures local { (bases : List (Option Key)) → IsRaising bases (numbers_of_tasks nexts.now) keys.old.items (number_of_task start) key → (t : ℕ) → t < length (numbers_of_tasks nexts.now) → IsLocal bases (numbers_of_tasks nexts.now) keys.new.items t }
+{
+    let mut at = start;
+    for _step in 0..nexts.len() {
+        let Some(task) = at else {
+            return;
+        };
+        let place = task.0 as usize;
+        if !key.is_higher(keys[place]) {
+            return;
+        }
+        keys[place] = key;
+        at = nexts[place];
     }
 }

@@ -69,12 +69,8 @@ impl Inherit {
     {
         self.stops(task);
         self.nexts[task.0 as usize] = Some(holder);
-        keys::follow(
-            self.bases.as_slice(),
-            self.nexts.as_slice(),
-            &mut self.keys,
-            Some(holder),
-        );
+        let key = self.keys[task.0 as usize];
+        keys::raise(self.nexts.as_slice(), &mut self.keys, Some(holder), key);
     }
 
     /// The task waits no longer. `base` was called for it.
@@ -121,35 +117,4 @@ impl Inherit {
 }
 
 #[cfg(test)]
-mod tests {
-    use super::*;
-    use std::test::Fail;
-
-    fn base_key(prio: u64, task: u32) -> Key {
-        Key {
-            band: 2,
-            major: prio,
-            minor: task,
-        }
-    }
-
-    /// Task 2 holds what task 1 waits for: it has the key of task 1 until task 1 waits no longer.
-    #[test]
-    fn a_holder_inherits_while_it_is_waited_for(rt: HostRuntime) -> Result<(), Fail> {
-        let mut keys = Inherit::new(rt.alloc(), 3)?;
-        keys.base(TaskNo(1), base_key(1, 1));
-        keys.base(TaskNo(2), base_key(5, 2));
-        assert_eq!(rt; keys.key(TaskNo(2)), base_key(5, 2));
-        keys.boost(TaskNo(2), base_key(0, 2));
-        assert_eq!(rt; keys.key(TaskNo(2)), base_key(0, 2));
-        keys.drop_boost(TaskNo(2));
-        assert_eq!(rt; keys.key(TaskNo(2)), base_key(5, 2));
-        keys.stops(TaskNo(1));
-        keys.waits(TaskNo(1), TaskNo(2));
-        assert_eq!(rt; keys.key(TaskNo(2)), base_key(1, 1));
-        keys.stops(TaskNo(1));
-        assert_eq!(rt; keys.key(TaskNo(2)), base_key(5, 2));
-        assert_eq!(rt; keys.key(TaskNo(1)), base_key(1, 1));
-        Ok(())
-    }
-}
+mod tests;

@@ -4,3 +4,4 @@ pub mod Foremost
 pub mod TaskNumbers
 pub mod Tests
 pub mod KeyLaws
+pub mod PlainLists
