@@ -1,4 +1,4 @@
 pub mod Reading
 pub mod WordLaws
 pub mod PartLaws
--- pub mod LineLaws
+pub mod LineLaws
