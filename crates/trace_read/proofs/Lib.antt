@@ -1,4 +1,3 @@
-pub mod Reading
 pub mod WordLaws
 pub mod PartLaws
 pub mod LineLaws

@@ -10,7 +10,7 @@ use Rattle.trace_lines.specs.Lines.{Link, Line, group_line, entry_line, block_li
 use Rattle.trace_lines.specs.Grammar.{act_words, reply_words, number_word, link_word, line_words, line_text}
 use Rattle.trace_lines.specs.Known.{Known, Is32, Is64, IsNumberOf, IsLetter, IsEntryLine, IsBlockLine, LinkIsKnown, IsLine}
 use Rattle.trace_read.specs.Reads.{AreLines}
-use Rattle.trace_read.proofs.Reading.{cut, small_or_dash, entry_at, entry_line_in, group_line_in, block_line_in, count_line_in, line_in}
+use Rattle.trace_read.specs.Reading.{cut, small_or_dash, entry_at, entry_line_in, group_line_in, block_line_in, count_line_in, line_in}
 use Rattle.trace_read.proofs.WordLaws.{is_free, is_free-append, is_plain, plain-free, AllPlain, AllPlain-append, no_word, cut-free, cut-first, cut-join, IsNoDigit, decimal-free, decimal-plain, number_at-join, small_at-join}
 use Rattle.trace_read.proofs.PartLaws.{act_at-join, act-plain, reply_at-join, reply-plain, small_or_dash-word, number_word-plain, links_in-join, links-plain, totals_in-join, totals-plain}
 

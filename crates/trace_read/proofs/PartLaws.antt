@@ -14,7 +14,7 @@ use Rattle.trace_lines.specs.Words.{Word, join}
 use Rattle.trace_lines.specs.Lines.{Link}
 use Rattle.trace_lines.specs.Grammar.{act_words, reply_words, number_word, link_word}
 use Rattle.trace_lines.specs.Known.{Known, Is32, Is64, IsNumberOf, ActIsKnown, ReplyIsKnown, TargetIsKnown, BoundIsKnown, LinkIsKnown}
-use Rattle.trace_read.proofs.Reading.{cut, pieces, each_in, number_in, small_in, small_or_dash, bare_acts, act_with, act_at, bare_replies, reply_with, reply_at, link_in, links_in}
+use Rattle.trace_read.specs.Reading.{cut, pieces, each_in, number_in, small_in, small_or_dash, bare_acts, act_with, act_at, bare_replies, reply_with, reply_at, link_in, links_in}
 use Rattle.trace_read.proofs.WordLaws.{is_free, is_plain, AllPlain, AllFilled, is_plain-append, no_word, cut-first, cut-join, pieces-join, IsNoDigit, decimal-free, decimal-plain, number_in-decimal, small_in-decimal, when_32-same, number_at-join, small_at-join}
 
 -- ---- acts

@@ -1,5 +1,5 @@
 -- Words come back out of a line, and numbers out of words.
-use Rattle.std.proofs.Common.{◌≡◌, ◌≢◌, ℕ, ◌+◌, ◌-◌, ◌*◌, ◌/◌, ◌%◌, ◌<◌, ◌≤◌, ◌^◌, ◌==◌, Bool, true, false, not, List, [], ◌∷◌, ◌++◌, All, Option, Some, None, decimal, refl, ap, ◌∙◌, arith, eq-eqb, length}
+use Rattle.std.proofs.Common.{◌≡◌, ◌≢◌, ℕ, ◌+◌, ◌-◌, ◌*◌, ◌/◌, ◌%◌, ◌<◌, ◌≤◌, ◌^◌, ◌==◌, suc, zero, Bool, true, false, not, ◌&&◌, List, [], ◌∷◌, ◌++◌, All, get_or, Option, Some, None, decimal, refl, ap, ◌∙◌, arith, eq-eqb, length}
 use Rattle.std.specs.Prelude.{bytes_eq, nat_lt, if◌then◌else◌}
 use Rattle.std.specs.Char.{is_ascii_digit}
 use Rattle.std.specs.List.{list_all}
@@ -10,7 +10,7 @@ use Rattle.std.proofs.lemmas.List.Elements.{All-nil, All-cons}
 use Rattle.std.proofs.lemmas.Fmt.{decimal_by_steps, decimal_nonempty}
 use Rattle.set_read.specs.Forms.{◌>>=◌}
 use Rattle.trace_lines.specs.Words.{Word, join}
-use Rattle.trace_read.proofs.Reading.{cut, longer_first, pieces, when_64, next_digit, number_after, number_in, when_32, small_in, number_at, small_at}
+use Rattle.trace_read.specs.Reading.{cut, longer_first, pieces, when_64, next_digit, number_after, number_in, when_32, small_in, number_at, small_at}
 
 not-true : (b : Bool) → not b ≡ true → b ≡ false
 not-true true h = cc
@@ -30,9 +30,12 @@ no_word c (x ∷ xs) cs h = let parts = and_parts (not (x == c)) (is_free c xs) 
 
 -- ---- words with no space and no line feed
 
--- each byte is above a space
+-- each byte is one of ASCII above a space
+abbrev pub is_plain_byte : ℕ → Bool
+is_plain_byte x = nat_lt 32 x && nat_lt x 128
+
 abbrev pub is_plain : Word → Bool
-is_plain w = list_all (λ x. nat_lt 32 x) w
+is_plain w = list_all is_plain_byte w
 
 abbrev pub AllPlain : List Word → Type 0
 AllPlain [] = Unit {0}
@@ -43,15 +46,15 @@ AllPlain-append [] ws h k = k
 AllPlain-append (v ∷ vs) ws h k = (h.0, AllPlain-append vs ws h.1 k)
 
 pub is_plain-append : (v w : Word) → is_plain v ≡ true → is_plain w ≡ true → is_plain (v ++ w) ≡ true
-is_plain-append v w h k = list_all-append (λ x. nat_lt 32 x) v w ∙ rw (h, k) refl
+is_plain-append v w h k = list_all-append is_plain_byte v w ∙ rw (h, k) refl
 
-above : (c x : ℕ) → c ≤ 32 → nat_lt 32 x ≡ true → not (x == c) ≡ true
+above : (c x : ℕ) → c ≤ 32 → is_plain_byte x ≡ true → not (x == c) ≡ true
 above c x low h = grind (arith, nat_tests)
 
 pub plain-free : (c : ℕ) (w : Word) → c ≤ 32 → is_plain w ≡ true → is_free c w ≡ true
 plain-free c [] low h = refl
 plain-free c (x ∷ xs) low h =
-    let parts = and_parts (nat_lt 32 x) (is_plain xs) h in
+    let parts = and_parts (is_plain_byte x) (is_plain xs) h in
     rw (above c x low parts.0, plain-free c xs low parts.1) refl
 
 -- ---- cutting
@@ -67,6 +70,19 @@ cut-first c [] rest h = rw (eq-eqb c c refl) refl
 cut-first c (x ∷ xs) rest h =
     let parts = and_parts (not (x == c)) (is_free c xs) h in
     rw (not-true (x == c) parts.0, cut-first c xs rest parts.1) refl
+
+free_from-reads : (c : ℕ) (w : Word) → ((i : ℕ) → i < length w → get_or w i 0 ≢ c) → is_free c w ≡ true
+free_from-reads c [] h = refl
+free_from-reads c (x ∷ xs) h =
+    let first : (x == c) ≡ false = (let here : x ≢ c = h 0 (omega arith) in grind (arith, nat_tests)) in
+    rw (first, free_from-reads c xs (λ i l. h (suc i) (omega arith))) refl
+
+-- what a text is cut into, from what its parts are
+pub cut-parts : (c : ℕ) (text w rest : List ℕ) → text ≡ w ++ c ∷ rest → ((i : ℕ) → i < length w → get_or w i 0 ≢ c) → cut c text ≡ (w, rest)
+cut-parts c text w rest e h = ap (cut c) e ∙ cut-first c w rest (free_from-reads c w h)
+
+pub cut-whole : (c : ℕ) (text : List ℕ) → ((i : ℕ) → i < length text → get_or text i 0 ≢ c) → cut c text ≡ (text, [])
+cut-whole c text h = cut-free c text (free_from-reads c text h)
 
 pub cut-join : (w : Word) (ws : List Word) → is_plain w ≡ true → cut 32 (join 32 (w ∷ ws)) ≡ (w, join 32 ws)
 cut-join w [] h = cut-free 32 w (plain-free 32 w (omega arith) h)

@@ -1,8 +1,10 @@
 //! Reads the text of a trace, format 1: its set, and its lines up to the first that is none of the grammar.
 #![tactic(auto)]
 
+mod acts;
 mod fault;
 mod lines;
+mod words;
 
 pub use fault::TraceFault;
 pub use lines::{Line, LineList, LinkList, Totals};
