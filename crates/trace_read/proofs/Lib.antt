@@ -1,3 +1,4 @@
 pub mod WordLaws
+pub mod EachLaws
 pub mod PartLaws
 pub mod LineLaws

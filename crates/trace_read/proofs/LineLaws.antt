@@ -26,13 +26,30 @@ letter-plain c (inr h) = let low = h.0 in grind (arith, nat_tests)
 line_words-plain : (k : Known) (l : Line) → IsLine k l → AllPlain (line_words l)
 unfolding line_words
 line_words-plain k (group_line g links) h = (refl, (decimal-plain g (fits_64 g h.0), links-plain k links h.2))
-line_words-plain k (entry_line i e links) h =
-    (decimal-plain i (fits_64 i h.number), (decimal-plain e.step.tick.0 h.tick_fits, (decimal-plain e.step.cpu.0 (fits_64 e.step.cpu.0 h.cpu_fits),
-    AllPlain-append (act_words e.step.act) (reply_words e.reply ++ map link_word links) (act-plain k e.step.act h.act_known)
-    (AllPlain-append (reply_words e.reply) (map link_word links) (reply-plain k e.reply h.reply_known) (links-plain k links h.links_known)))))
-line_words-plain k (block_line i t s ends all bound) h =
-    (refl, (decimal-plain i (fits_64 i h.number), (decimal-plain t (fits_64 t h.task_known.fits), (decimal-plain s (fits_64 s h.sem_known.fits),
-    (decimal-plain ends (fits_64 ends h.ends_fit), (decimal-plain all (fits_64 all h.all_fit), (number_word-plain bound h.bound_fits, tt)))))))
+line_words-plain k (entry_line i e links) h = (
+  decimal-plain i (fits_64 i h.number),
+  (
+    decimal-plain e.step.tick.0 h.tick_fits,
+    (
+      decimal-plain e.step.cpu.0 (fits_64 e.step.cpu.0 h.cpu_fits),
+      AllPlain-append (act_words e.step.act) (reply_words e.reply ++ map link_word links) (act-plain k e.step.act h.act_known)
+          (AllPlain-append (reply_words e.reply) (map link_word links) (reply-plain k e.reply h.reply_known) (links-plain k links h.links_known)),
+    ),
+  ),
+)
+line_words-plain k (block_line i t s ends all bound) h = (
+  refl,
+  (
+    decimal-plain i (fits_64 i h.number),
+    (
+      decimal-plain t (fits_64 t h.task_known.fits),
+      (
+        decimal-plain s (fits_64 s h.sem_known.fits),
+        (decimal-plain ends (fits_64 ends h.ends_fit), (decimal-plain all (fits_64 all h.all_fit), (number_word-plain bound h.bound_fits, tt))),
+      ),
+    ),
+  ),
+)
 line_words-plain k end_line h = (refl, tt)
 line_words-plain k (count_line name totals) h = (refl, (letter-plain name h.0, totals-plain totals h.2))
 
@@ -132,8 +149,13 @@ line_in-body k (group_line g links) h = group_line-join k g links h.0 h.2
 line_in-body k (entry_line i e links) h =
     let small = fits_64 i h.number in
     let first = cut-join (decimal i) (decimal e.step.tick.0 ∷ decimal e.step.cpu.0 ∷ (act_words e.step.act ++ (reply_words e.reply ++ map link_word links))) (decimal-plain i small) in
-    rw (first, no_word 103 (decimal i) (codes "roup") (decimal-free 103 i letter_g small), no_word 98 (decimal i) (codes "lock") (decimal-free 98 i letter_b small),
-    no_word 101 (decimal i) (codes "nd") (decimal-free 101 i letter_e small), no_word 99 (decimal i) (codes "ount") (decimal-free 99 i letter_c small)) (entry_line-join k i e links h)
+    rw (
+      first,
+      no_word 103 (decimal i) (codes "roup") (decimal-free 103 i letter_g small),
+      no_word 98 (decimal i) (codes "lock") (decimal-free 98 i letter_b small),
+      no_word 101 (decimal i) (codes "nd") (decimal-free 101 i letter_e small),
+      no_word 99 (decimal i) (codes "ount") (decimal-free 99 i letter_c small),
+    ) (entry_line-join k i e links h)
 line_in-body k (block_line i t s ends all bound) h = block_line-join k i t s ends all bound h
 line_in-body k end_line h = refl
 line_in-body k (count_line name totals) h = count_line-join name totals h.0 h.2

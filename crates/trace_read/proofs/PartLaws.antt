@@ -14,7 +14,7 @@ use Rattle.trace_lines.specs.Words.{Word, join}
 use Rattle.trace_lines.specs.Lines.{Link}
 use Rattle.trace_lines.specs.Grammar.{act_words, reply_words, number_word, link_word}
 use Rattle.trace_lines.specs.Known.{Known, Is32, Is64, IsNumberOf, ActIsKnown, ReplyIsKnown, TargetIsKnown, BoundIsKnown, LinkIsKnown}
-use Rattle.trace_read.specs.Reading.{cut, pieces, each_in, number_in, small_in, small_or_dash, bare_acts, act_with, act_at, bare_replies, reply_with, reply_at, link_in, links_in}
+use Rattle.trace_read.specs.Reading.{cut, pieces, each_in, number_in, small_in, small_or_dash, bare_acts, act_with, act_at, bare_replies, reply_with, reply_at, link_in, links_in, totals_in}
 use Rattle.trace_read.proofs.WordLaws.{is_free, is_plain, AllPlain, AllFilled, is_plain-append, no_word, cut-first, cut-join, pieces-join, IsNoDigit, decimal-free, decimal-plain, number_in-decimal, small_in-decimal, when_32-same, number_at-join, small_at-join}
 
 -- ---- acts
@@ -166,5 +166,5 @@ each_total : (xs : List ℕ) → All Is64 xs → each_in number_in (map decimal 
 each_total [] h = refl
 each_total (x ∷ xs) h = rw (number_in-decimal x (All-head Is64 x xs h), each_total xs (All-tail Is64 x xs h)) refl
 
-pub totals_in-join : (xs : List ℕ) → All Is64 xs → each_in number_in (pieces 32 (join 32 (map decimal xs))) ≡ Some xs
+pub totals_in-join : (xs : List ℕ) → All Is64 xs → totals_in (join 32 (map decimal xs)) ≡ Some xs
 totals_in-join xs h = rw (pieces-join (map decimal xs) (totals-plain xs h) (totals_filled xs h)) (each_total xs h)

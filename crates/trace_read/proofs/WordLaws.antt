@@ -3,6 +3,9 @@ use Rattle.std.proofs.Common.{◌≡◌, ◌≢◌, ℕ, ◌+◌, ◌-◌, ◌*�
 use Rattle.std.specs.Prelude.{bytes_eq, nat_lt, if◌then◌else◌}
 use Rattle.std.specs.Char.{is_ascii_digit}
 use Rattle.std.specs.List.{list_all}
+use Rattle.std.specs.Option.{MatchOption}
+use denote.Ref.{Bor}
+use Rattle.std.proofs.lemmas.Str.Pattern.{IsSplitOnceResult, split_parts}
 use Rattle.std.proofs.lemmas.Bool.{and_parts}
 use Rattle.std.proofs.lemmas.Bool.Decides.{nat_tests}
 use Rattle.std.proofs.lemmas.List.Folds.{list_all-append}
@@ -83,6 +86,12 @@ cut-parts c text w rest e h = ap (cut c) e ∙ cut-first c w rest (free_from-rea
 
 pub cut-whole : (c : ℕ) (text : List ℕ) → ((i : ℕ) → i < length text → get_or text i 0 ≢ c) → cut c text ≡ (text, [])
 cut-whole c text h = cut-free c text (free_from-reads c text h)
+
+-- what `split_once` gives is the cut
+pub cut-split_once : (c : ℕ) (text : List ℕ) (r : Option (Bor (List ℕ) × Bor (List ℕ))) → IsSplitOnceResult c text r → c < 128
+    → MatchOption r (cut c text ≡ (text, [])) (λ x. cut c text ≡ (x.0.now, x.1.now))
+cut-split_once c text None h low = cut-whole c text (split_parts c text None h low)
+cut-split_once c text (Some x) h low = let parts = split_parts c text (Some x) h low in cut-parts c text x.0.now x.1.now parts.0 parts.1
 
 pub cut-join : (w : Word) (ws : List Word) → is_plain w ≡ true → cut 32 (join 32 (w ∷ ws)) ≡ (w, join 32 ws)
 cut-join w [] h = cut-free 32 w (plain-free 32 w (omega arith) h)

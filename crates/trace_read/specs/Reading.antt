@@ -112,6 +112,9 @@ link_in w = small_in (cut 58 w).0 >>= λ cpu. option_map (λ task. (cpu, task)) 
 abbrev pub links_in : List ℕ → Option (List Link)
 links_in text = each_in link_in (pieces 32 text)
 
+abbrev pub totals_in : List ℕ → Option (List ℕ)
+totals_in text = each_in number_in (pieces 32 text)
+
 -- ---- lines
 
 unfoldable pub entry_at : List ℕ → Read Entry
@@ -152,7 +155,7 @@ name_in w = None
 unfoldable pub count_line_in : List ℕ → Option Line
 count_line_in text = do
   name ← name_in (cut 32 text).0
-  totals ← each_in number_in (pieces 32 (cut 32 text).1)
+  totals ← totals_in (cut 32 text).1
   Some (count_line name totals)
 
 -- a line by its first word, which for an entry is its number

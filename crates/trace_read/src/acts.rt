@@ -1,11 +1,10 @@
-//! Acts and replies by their words.
+//! Acts by their words.
 ghost use Rattle.std.specs.Prelude.{◌≡◌, option_map};
 ghost use Rattle.set_read.specs.Forms.{word_in};
 ghost use Rattle.trace_read.specs.Reading as reading;
 
-use crate::words::{cut, number_at, small_at};
+use crate::words::{cut, number_at};
 use rt_base::{SemNo, TaskNo};
-use rt_history::Reply;
 use rt_task::{Act, Op};
 
 /// An act that is one word.

@@ -4,6 +4,9 @@
 mod acts;
 mod fault;
 mod lines;
+mod links;
+mod parse;
+mod replies;
 mod words;
 
 pub use fault::TraceFault;
