@@ -3,6 +3,7 @@
 
 mod acts;
 mod fault;
+mod fits;
 mod lines;
 mod links;
 mod parse;
