@@ -2,3 +2,4 @@ pub mod WordLaws
 pub mod EachLaws
 pub mod PartLaws
 pub mod LineLaws
+pub mod FitLaws

@@ -1,5 +1,5 @@
 -- What the reader's parts promise of one another.
-use Rattle.std.specs.Prelude.{◌≡◌, ◌≢◌, ℕ, ◌++◌, ◌∷◌, List, All, Option, Some, None, option_map}
+use Rattle.std.specs.Prelude.{◌≡◌, ◌≢◌, ℕ, ◌++◌, ◌∷◌, List, flat_map, All, Option, Some, None, option_map}
 use Rattle.trace_lines.specs.Words.{join}
 use Rattle.trace_lines.specs.Grammar.{line_words, line_text}
 use Rattle.trace_lines.specs.Known as known
@@ -7,6 +7,10 @@ use Rattle.trace_lines.specs.Lines as grammar
 use Rattle.trace_read.specs.Lines.{line_of}
 use Rattle.trace_read.specs.declared.lines.Line.{Line}
 use Rattle.trace_read.specs.declared.fits.Known.{Known}
+use Rattle.rt_task.specs.declared.bad_set.SetStop.{SetStop}
+use Rattle.rt_task.specs.declared.bad_set.SetStop.TheVariants as stops
+use Rattle.trace_read.specs.declared.fault.TraceFault.{TraceFault}
+use Rattle.trace_read.specs.declared.fault.TraceFault.TheVariants as faults
 
 abbrev pub known_seen : Known → known.Known
 known_seen k = record { tasks = k.tasks; sems = k.sems }
@@ -28,3 +32,13 @@ ReadsBack text o = (k : known.Known) (l : grammar.Line) → known.IsLine k l →
 pub record IsSplitAtFeed (text front rest : List ℕ) : Type 0 where
   pub text_is : text ≡ front ++ 10 ∷ rest
   pub on_one_line : All (λ (c : ℕ). c ≢ 10) front
+
+-- the text begins with these lines, and then comes what is left
+pub record BeginsLines (k : known.Known) (text : List ℕ) (lines : List grammar.Line) (left : List ℕ) : Type 0 where
+  pub lines_known : All (known.IsLine k) lines
+  pub text_is : text ≡ flat_map line_text lines ++ left
+
+-- why a set was not read, as a fault of its trace
+abbrev pub fault_of : SetStop → TraceFault
+fault_of stops.NoMemory = faults.NoMemory
+fault_of (stops.Bad b) = faults.BadSet b

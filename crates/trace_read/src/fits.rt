@@ -1,12 +1,12 @@
 //! Which lines a trace of a set may have.
 ghost use Rattle.std.specs.Prelude.{◌≡◌, ◌↔◌, ◌≤◌, All, IsTrue, length};
 ghost use Rattle.trace_lines.specs.Known as known;
-ghost use Rattle.trace_lines.specs.Lines.{link_of, links_of};
+ghost use Rattle.trace_lines.specs.Lines.{link_of, links_of, group_line};
 ghost use Rattle.trace_read.specs.Lines.{line_of};
 ghost use Rattle.trace_read.specs.Seen.{known_seen};
 
 use crate::Line;
-use rt_base::{SemNo, TaskNo};
+use rt_base::{GroupNo, SemNo, TaskNo};
 use rt_history::{Entry, Reply};
 use rt_task::{Act, Op, Parts};
 use trace_lines::CpuLink;
@@ -96,6 +96,12 @@ fn totals_fit(totals: &[u64]) -> bool
     totals.len() <= 64
 }
 
+fn group_fits(k: &Known, group: GroupNo, links: &[CpuLink]) -> bool
+    ensures { IsTrue result ↔ known.IsLine (known_seen k.now) (group_line group.0 (links_of links.now)) }
+{
+    links.len() >= 1 && links_fit(k, links)
+}
+
 fn entry_fits(k: &Known, no: u32, entry: Entry, links: &[CpuLink]) -> bool
     ensures { IsTrue result ↔ known.IsEntryLine (known_seen k.now) no entry.step.tick.0 entry.step.cpu.0 entry.step.act entry.reply (links_of links.now) }
 {
@@ -113,9 +119,7 @@ pub(crate) fn line_fits(k: &Known, line: &Line) -> bool
     ensures { IsTrue result ↔ known.IsLine (known_seen k.now) (line_of line.now) }
 {
     match line {
-        Line::GroupLine { group: _, links } => {
-            links.as_slice().len() >= 1 && links_fit(k, links.as_slice())
-        }
+        Line::GroupLine { group, links } => group_fits(k, *group, links.as_slice()),
         Line::EntryLine { no, entry, links } => entry_fits(k, *no, *entry, links.as_slice()),
         Line::BlockLine { no, task, sem, ends, ends_all, bound } => {
             block_fits(k, *no, *task, *sem, *ends, *ends_all, *bound)

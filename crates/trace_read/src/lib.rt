@@ -7,11 +7,13 @@ mod fits;
 mod lines;
 mod links;
 mod parse;
+mod read;
 mod replies;
 mod words;
 
 pub use fault::TraceFault;
 pub use lines::{Line, LineList, LinkList, Totals};
+pub use read::read_trace;
 use rt_task::Setup;
 
 /// What was read of a trace.
