@@ -3,3 +3,4 @@ pub mod EachLaws
 pub mod PartLaws
 pub mod LineLaws
 pub mod FitLaws
+pub mod ReadLaws

@@ -23,7 +23,7 @@ letter-plain : (c : ℕ) → IsLetter c → is_plain (c ∷ []) ≡ true
 letter-plain c (inl h) = let low = h.0 in grind (arith, nat_tests)
 letter-plain c (inr h) = let low = h.0 in grind (arith, nat_tests)
 
-line_words-plain : (k : Known) (l : Line) → IsLine k l → AllPlain (line_words l)
+pub line_words-plain : (k : Known) (l : Line) → IsLine k l → AllPlain (line_words l)
 unfolding line_words
 line_words-plain k (group_line g links) h = (refl, (decimal-plain g (fits_64 g h.0), links-plain k links h.2))
 line_words-plain k (entry_line i e links) h = (

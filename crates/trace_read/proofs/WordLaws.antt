@@ -74,7 +74,7 @@ cut-first c (x ∷ xs) rest h =
     let parts = and_parts (not (x == c)) (is_free c xs) h in
     rw (not-true (x == c) parts.0, cut-first c xs rest parts.1) refl
 
-free_from-reads : (c : ℕ) (w : Word) → ((i : ℕ) → i < length w → get_or w i 0 ≢ c) → is_free c w ≡ true
+pub free_from-reads : (c : ℕ) (w : Word) → ((i : ℕ) → i < length w → get_or w i 0 ≢ c) → is_free c w ≡ true
 free_from-reads c [] h = refl
 free_from-reads c (x ∷ xs) h =
     let first : (x == c) ≡ false = (let here : x ≢ c = h 0 (omega arith) in grind (arith, nat_tests)) in

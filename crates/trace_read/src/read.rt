@@ -108,10 +108,10 @@ fn read_lines<'a>(
     let mut text = Vec::new(alloc);
     let mut left = bytes;
     while let Some((line, rest)) = read_line(alloc, k, left, &mut text)? {
-        if lines.push(line).is_err() {
-            return Err(TraceFault::NoMemory);
+        match lines.push(line) {
+            Ok(()) => left = rest,
+            Err(_) => return Err(TraceFault::NoMemory),
         }
-        left = rest;
     }
     Ok((LineList::from_vec(lines), left))
 }
