@@ -1,9 +1,9 @@
 -- The texts of lines, part by part as they are written.
-use Rattle.std.proofs.Common.{◌≡◌, ℕ, List, [], ◌∷◌, ◌++◌, map, codes, decimal, refl, ap, ◌∙◌, append_assoc, append-nil}
+use Rattle.std.proofs.Common.{◌≡◌, ℕ, List, [], ◌∷◌, ◌++◌, map, codes, decimal, Option, refl, ap, ◌∙◌, append_assoc, append-nil}
 use Rattle.rt_history.specs.declared.Entry.{Entry}
 use Rattle.trace_lines.specs.Words.{Word, join, further}
-use Rattle.trace_lines.specs.Lines.{Link, group_line, entry_line, end_line}
-use Rattle.trace_lines.specs.Grammar.{act_words, reply_words, link_word, line_words, line_text}
+use Rattle.trace_lines.specs.Lines.{Link, group_line, entry_line, block_line, end_line, count_line}
+use Rattle.trace_lines.specs.Grammar.{act_words, reply_words, link_word, number_word, line_words, line_text}
 
 -- words after the first have a separator before each
 pub join-further : (c : ℕ) (w : Word) (ws : List Word) → join c (w ∷ ws) ≡ w ++ further c ws
@@ -22,6 +22,15 @@ pub entry_text : (i : ℕ) (e : Entry) (links : List Link) → line_text (entry_
     ≡ decimal i ++ ((32 ∷ decimal e.step.tick.0) ++ ((32 ∷ decimal e.step.cpu.0) ++ (further 32 (act_words e.step.act) ++ (further 32 (reply_words e.reply) ++ (further 32 (map link_word links) ++ 10 ∷ [])))))
 unfolding line_words line_text
 entry_text i e links = simp (join-further, further-append, append_assoc)
+
+pub block_text : (i t s ends all : ℕ) (bound : Option ℕ) → line_text (block_line i t s ends all bound)
+    ≡ codes "block" ++ ((32 ∷ decimal i) ++ ((32 ∷ decimal t) ++ ((32 ∷ decimal s) ++ ((32 ∷ decimal ends) ++ ((32 ∷ decimal all) ++ ((32 ∷ number_word bound) ++ 10 ∷ []))))))
+unfolding line_words line_text
+block_text i t s ends all bound = simp append_assoc
+
+pub count_text : (name : ℕ) (totals : List ℕ) → line_text (count_line name totals) ≡ codes "count" ++ ((32 ∷ name ∷ []) ++ (further 32 (map decimal totals) ++ 10 ∷ []))
+unfolding line_words line_text
+count_text name totals = ap (λ xs. xs ++ 10 ∷ []) (join-further 32 (codes "count") ((name ∷ []) ∷ map decimal totals)) ∙ simp append_assoc
 
 pub end_text : line_text end_line ≡ codes "end\n"
 unfolding line_words line_text

@@ -1,14 +1,16 @@
 //! The lines of a trace.
 ghost use Rattle.std.specs.Prelude.{◌≡◌, ◌++◌, OnOk};
-ghost use Rattle.trace_lines.specs.Lines.{links_of, group_line, entry_line, end_line};
+ghost use Rattle.trace_lines.specs.Lines.{links_of, group_line, entry_line, block_line, end_line, count_line};
 ghost use Rattle.trace_lines.specs.Grammar.{line_text};
 
 use crate::CpuLink;
 use crate::acts::put_act;
 use crate::links::put_links;
-use crate::put::{put, put_next_number, put_number};
+use crate::put::{
+    put, put_next_number, put_next_number_or_dash, put_next_numbers, put_next_word, put_number,
+};
 use crate::replies::put_reply;
-use rt_base::{GroupNo, NoMemory};
+use rt_base::{GroupNo, NoMemory, SemNo, TaskNo};
 use rt_history::Entry;
 use std::alloc::AllocError;
 
@@ -42,6 +44,40 @@ fn append_entry_line(
     Ok(())
 }
 
+#[tactic(auto, using(crate::proofs::LineTexts::block_text, std::proofs::Common::append_assoc))]
+fn append_block_line(
+    out: &mut Vec<u8>,
+    number: u32,
+    task: TaskNo,
+    sem: SemNo,
+    ends: u32,
+    ends_all: u32,
+    bound: Option<u32>,
+) -> Result<(), AllocError>
+    ensures { OnOk result (out.new.items ≡ out.old.items ++ line_text (block_line number task.0 sem.0 ends ends_all bound)) }
+{
+    put(out, b"block")?;
+    put_next_number(out, u64::from(number))?;
+    put_next_number(out, u64::from(task.0))?;
+    put_next_number(out, u64::from(sem.0))?;
+    put_next_number(out, u64::from(ends))?;
+    put_next_number(out, u64::from(ends_all))?;
+    put_next_number_or_dash(out, bound)?;
+    put(out, b"\n")?;
+    Ok(())
+}
+
+#[tactic(auto, using(crate::proofs::LineTexts::count_text, std::proofs::Common::append_assoc))]
+fn append_count_line(out: &mut Vec<u8>, name: u8, totals: &[u64]) -> Result<(), AllocError>
+    ensures { OnOk result (out.new.items ≡ out.old.items ++ line_text (count_line name totals.now)) }
+{
+    put(out, b"count")?;
+    put_next_word(out, &[name])?;
+    put_next_numbers(out, totals)?;
+    put(out, b"\n")?;
+    Ok(())
+}
+
 /// The line of a group: `group <group> <cpu>:<link> ..`, with the links of its processors at opening.
 pub fn put_group_line(out: &mut Vec<u8>, group: GroupNo, links: &[CpuLink]) -> Result<(), NoMemory>
     ensures { OnOk result (out.new.items ≡ out.old.items ++ line_text (group_line group.0 (links_of links.now))) }
@@ -63,6 +99,35 @@ pub fn put_entry_line(
     ensures { OnOk result (out.new.items ≡ out.old.items ++ line_text (entry_line number entry.now (links_of links.now))) }
 {
     match append_entry_line(out, number, entry, links) {
+        Ok(()) => Ok(()),
+        Err(_) => Err(NoMemory),
+    }
+}
+
+/// The line of a request: `block <number> <task> <sem> <ends> <all> <bound>`, with the number of its entry, the critical
+/// sections that ended while its task was blocked, all that ended while it waited, and the bound on them, or a dash.
+pub fn put_block_line(
+    out: &mut Vec<u8>,
+    number: u32,
+    task: TaskNo,
+    sem: SemNo,
+    ends: u32,
+    ends_all: u32,
+    bound: Option<u32>,
+) -> Result<(), NoMemory>
+    ensures { OnOk result (out.new.items ≡ out.old.items ++ line_text (block_line number task.0 sem.0 ends ends_all bound)) }
+{
+    match append_block_line(out, number, task, sem, ends, ends_all, bound) {
+        Ok(()) => Ok(()),
+        Err(_) => Err(NoMemory),
+    }
+}
+
+/// The line of what a tool counted: `count <letter> <total> ..`.
+pub fn put_count_line(out: &mut Vec<u8>, name: u8, totals: &[u64]) -> Result<(), NoMemory>
+    ensures { OnOk result (out.new.items ≡ out.old.items ++ line_text (count_line name totals.now)) }
+{
+    match append_count_line(out, name, totals) {
         Ok(()) => Ok(()),
         Err(_) => Err(NoMemory),
     }

@@ -1,5 +1,7 @@
 //! Bytes, words and numbers at the end of a text.
-ghost use Rattle.std.specs.Prelude.{◌≡◌, ◌++◌, ◌∷◌, OnOk, decimal};
+ghost use Rattle.std.specs.Prelude.{◌≡◌, ◌++◌, ◌∷◌, map, OnOk, decimal};
+ghost use Rattle.trace_lines.specs.Words.{further};
+ghost use Rattle.trace_lines.specs.Grammar.{number_word};
 
 use itoa::Buffer;
 use std::alloc::AllocError;
@@ -33,4 +35,25 @@ pub fn put_next_number(out: &mut Vec<u8>, n: u64) -> Result<(), AllocError>
 {
     put(out, b" ")?;
     put_number(out, n)
+}
+
+/// A space, and then a number, or a dash for none.
+pub fn put_next_number_or_dash(out: &mut Vec<u8>, n: Option<u32>) -> Result<(), AllocError>
+    ensures { OnOk result (out.new.items ≡ out.old.items ++ 32 ∷ number_word n) }
+{
+    match n {
+        Some(n) => put_next_number(out, u64::from(n)),
+        None => put_next_word(out, b"-"),
+    }
+}
+
+/// The numbers, each after a space.
+#[tactic(auto, using(std::proofs::Common::append_assoc))]
+pub fn put_next_numbers(out: &mut Vec<u8>, numbers: &[u64]) -> Result<(), AllocError>
+    ensures { OnOk result (out.new.items ≡ out.old.items ++ further 32 (map decimal numbers.now)) }
+{
+    for n in numbers {
+        put_next_number(out, *n)?;
+    }
+    Ok(())
 }

@@ -1,0 +1,6 @@
+pub mod WordLaws
+pub mod EachLaws
+pub mod PartLaws
+pub mod LineLaws
+pub mod FitLaws
+pub mod ReadLaws

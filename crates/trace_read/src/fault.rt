@@ -1,6 +1,8 @@
 //! Why bytes are no trace.
 
-use rt_task::BadSet;
+use rt_base::NoMemory;
+use rt_task::{BadSet, SetStop};
+use std::alloc::AllocError;
 use thiserror::Error;
 
 /// Why no trace was read.
@@ -15,4 +17,40 @@ pub enum TraceFault {
     /// Memory ran out.
     #[error("no memory")]
     NoMemory,
+}
+
+impl From<SetStop> for TraceFault {
+    ghost use Rattle.std.specs.Prelude.{◌≡◌};
+    ghost use Rattle.trace_read.specs.Seen.{fault_of};
+
+    ghost from_gives = { λ s e. e ≡ fault_of s };
+
+    fn from(stop: SetStop) -> TraceFault {
+        match stop {
+            SetStop::Bad(bad) => TraceFault::BadSet(bad),
+            SetStop::NoMemory => TraceFault::NoMemory,
+        }
+    }
+}
+
+impl From<NoMemory> for TraceFault {
+    ghost use Rattle.std.specs.Prelude.{◌≡◌};
+    ghost use Rattle.trace_read.specs.declared.fault.TraceFault.TheVariants as faults;
+
+    ghost from_gives = { λ _ e. e ≡ faults.NoMemory };
+
+    fn from(_e: NoMemory) -> TraceFault {
+        TraceFault::NoMemory
+    }
+}
+
+impl From<AllocError> for TraceFault {
+    ghost use Rattle.std.specs.Prelude.{◌≡◌};
+    ghost use Rattle.trace_read.specs.declared.fault.TraceFault.TheVariants as faults;
+
+    ghost from_gives = { λ _ e. e ≡ faults.NoMemory };
+
+    fn from(_e: AllocError) -> TraceFault {
+        TraceFault::NoMemory
+    }
 }

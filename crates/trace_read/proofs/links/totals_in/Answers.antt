@@ -1,0 +1,24 @@
+use Rattle.std.proofs.Common.{◌≡◌, ◌<◌, ◌++◌, ◌∷◌, [], length, Some, None, sym, ap, ◌∙◌, arith, rules}
+use Rattle.std.proofs.lemmas.Grind.{common_steps}
+use Rattle.trace_read.specs.Reading as reading
+use Rattle.trace_read.proofs.EachLaws.{length_left, each_in-none, each_in-more}
+use Rattle.trace_read.proofs.links.totals_in.Goals as goal
+
+pub returns-in_default : goal.returns-in_default
+returns-in_default c =
+    let filled : 0 < length c.loop-rest.rest.now = search rules in
+    let none = each_in-none reading.number_in c.loop-rest.rest.now c.cut.result.0.now c.cut.result.1.now filled c.cut.ensures c.in_default.ensures in
+    rw none at c.loop-rest.invariant.0
+
+pub loop-rest-smaller : goal.loop-rest-smaller
+loop-rest-smaller c =
+    let filled : 0 < length c.loop-rest.rest.now = search rules in
+    length_left 32 c.loop-rest.rest.now c.cut.result.0.now c.cut.result.1.now filled c.cut.ensures
+
+pub loop-rest-preserved : goal.loop-rest-preserved
+loop-rest-preserved c =
+    let filled : 0 < length c.loop-rest.rest.now = search rules in (
+      each_in-more reading.number_in c.loop-rest.rest.now c.cut.result.0.now c.cut.result.1.now c.loop-rest.totals.items c.push.new.self.items c.in-Some.total filled c.cut.ensures c.in-Some.ensures c.in_ok-push.ensures.items
+          ∙ c.loop-rest.invariant.0,
+      search rules,
+    )

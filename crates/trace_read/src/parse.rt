@@ -1,0 +1,123 @@
+//! Lines by their words.
+ghost use Rattle.std.specs.Prelude.{◌≡◌, option_map, IfOk, Some};
+ghost use Rattle.trace_lines.specs.Lines.{end_line};
+ghost use Rattle.trace_read.specs.Lines.{line_of};
+ghost use Rattle.trace_read.specs.Reading as reading;
+
+use crate::Line;
+use crate::acts::act_at;
+use crate::links::{links_in, totals_in};
+use crate::replies::reply_at;
+use crate::words::{cut, number_at, small_at, small_or_dash};
+use rt_base::{CpuNo, GroupNo, SemNo, TaskNo, Tick};
+use rt_history::Entry;
+use rt_task::Step;
+use std::alloc::{AllocError, Global};
+
+/// An entry, and what stands after it.
+#[tactic(auto, unfolding(crate::specs::Reading::entry_at))]
+fn entry_at(text: &str) -> Option<(Entry, &str)>
+    ensures { option_map (λ p. (p.0, p.1.now)) result ≡ reading.entry_at text.now }
+{
+    let (tick, rest) = number_at(text)?;
+    let (cpu, rest) = small_at(rest)?;
+    let (act, rest) = act_at(rest)?;
+    let (reply, rest) = reply_at(rest)?;
+    let step = Step {
+        cpu: CpuNo(cpu),
+        tick: Tick(tick),
+        act,
+    };
+    Some((Entry { step, reply }, rest))
+}
+
+#[tactic(auto, unfolding(crate::specs::Reading::entry_line_in))]
+fn entry_line_in(alloc: Global, text: &str) -> Result<Option<Line>, AllocError>
+    ensures { IfOk result (λ o. option_map line_of o ≡ reading.entry_line_in text.now) }
+{
+    let Some((no, rest)) = small_at(text) else {
+        return Ok(None);
+    };
+    let Some((entry, rest)) = entry_at(rest) else {
+        return Ok(None);
+    };
+    let Some(links) = links_in(alloc, rest)? else {
+        return Ok(None);
+    };
+    Ok(Some(Line::EntryLine { no, entry, links }))
+}
+
+#[tactic(auto, unfolding(crate::specs::Reading::group_line_in))]
+fn group_line_in(alloc: Global, text: &str) -> Result<Option<Line>, AllocError>
+    ensures { IfOk result (λ o. option_map line_of o ≡ reading.group_line_in text.now) }
+{
+    let Some((group, rest)) = small_at(text) else {
+        return Ok(None);
+    };
+    let Some(links) = links_in(alloc, rest)? else {
+        return Ok(None);
+    };
+    Ok(Some(Line::GroupLine {
+        group: GroupNo(group),
+        links,
+    }))
+}
+
+#[tactic(auto, unfolding(crate::specs::Reading::block_line_in))]
+fn block_line_in(text: &str) -> Option<Line>
+    ensures { option_map line_of result ≡ reading.block_line_in text.now }
+{
+    let (no, rest) = small_at(text)?;
+    let (task, rest) = small_at(rest)?;
+    let (sem, rest) = small_at(rest)?;
+    let (ends, rest) = small_at(rest)?;
+    let (ends_all, rest) = small_at(rest)?;
+    let bound = small_or_dash(rest)?;
+    Some(Line::BlockLine {
+        no,
+        task: TaskNo(task),
+        sem: SemNo(sem),
+        ends,
+        ends_all,
+        bound,
+    })
+}
+
+fn name_in(word: &str) -> Option<u8>
+    ensures { result ≡ reading.name_in word.now }
+{
+    match word.as_bytes() {
+        [name] => Some(*name),
+        _ => None,
+    }
+}
+
+#[tactic(auto, unfolding(crate::specs::Reading::count_line_in))]
+fn count_line_in(alloc: Global, text: &str) -> Result<Option<Line>, AllocError>
+    ensures { IfOk result (λ o. option_map line_of o ≡ reading.count_line_in text.now) }
+{
+    let (word, rest) = cut(text, ' ');
+    let Some(name) = name_in(word) else {
+        return Ok(None);
+    };
+    let Some(totals) = totals_in(alloc, rest)? else {
+        return Ok(None);
+    };
+    Ok(Some(Line::CountLine { name, totals }))
+}
+
+/// The line that a text without its line feed says, before it is checked: each line of the grammar is read, and a text
+/// that is none of its may be too.
+#[tactic(auto, unfolding(crate::specs::Reading::line_in))]
+pub(crate) fn line_in(alloc: Global, text: &str) -> Result<Option<Line>, AllocError>
+    ensures { IfOk result (λ o. option_map line_of o ≡ reading.line_in text.now) }
+{
+    let (word, rest) = cut(text, ' ');
+    match word {
+        "group" => group_line_in(alloc, rest),
+        "block" => Ok(block_line_in(rest)),
+        "end" => Ok(Some(Line::EndLine)),
+        "count" => count_line_in(alloc, rest),
+        _ => entry_line_in(alloc, text),
+    }
+}

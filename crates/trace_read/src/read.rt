@@ -1,0 +1,161 @@
+//! Reading a trace.
+ghost use Rattle.std.specs.Prelude.{◌≡◌, ◌≢◌, ℕ, ◌++◌, List, All, IfErr, IfOk, MatchOption, MatchResult, OnOk};
+ghost use Rattle.trace_lines.specs.Grammar.{line_text};
+ghost use Rattle.trace_lines.specs.Known as known;
+ghost use Rattle.trace_read.specs.Lines.{line_of, lines_of};
+ghost use Rattle.trace_read.specs.declared.fault.TraceFault.TheVariants as faults;
+ghost use Rattle.trace_read.specs.Reads.{AreLines, HasHead, HasRead, IsRefused, stop_at};
+ghost use Rattle.trace_read.specs.Seen.{known_seen, BeginsNoLine, BeginsLine, IsSplitAtFeed, ReadsBack};
+
+use crate::fits::{Known, line_fits};
+use crate::parse::line_in;
+use crate::{Line, LineList, Trace, TraceFault};
+use rt_base::NoMemory;
+use set_read::read_set;
+use std::alloc::{AllocError, Global};
+use std::str;
+use trace_lines::{
+    put_block_line, put_count_line, put_end_line, put_entry_line, put_group_line,
+};
+
+/// The line's text.
+fn put_line(out: &mut Vec<u8>, line: &Line) -> Result<(), NoMemory>
+    ensures { OnOk result (out.new.items ≡ out.old.items ++ line_text (line_of line.now)) }
+{
+    match line {
+        Line::GroupLine { group, links } => put_group_line(out, *group, links.as_slice()),
+        Line::EntryLine { no, entry, links } => put_entry_line(out, *no, entry, links.as_slice()),
+        Line::BlockLine {
+            no,
+            task,
+            sem,
+            ends,
+            ends_all,
+            bound,
+        } => put_block_line(out, *no, *task, *sem, *ends, *ends_all, *bound),
+        Line::EndLine => put_end_line(out),
+        Line::CountLine { name, totals } => put_count_line(out, *name, totals.as_slice()),
+    }
+}
+
+/// What stands before the first line feed, and what stands after it.
+fn split_line(bytes: &[u8]) -> Option<(&[u8], &[u8])>
+    ensures { MatchOption result (All (λ (c : ℕ). c ≢ 10) bytes.now) (λ x. IsSplitAtFeed bytes.now x.0.now x.1.now) }
+{
+    for (i, c) in bytes.iter().enumerate() {
+        if *c == b'\n' {
+            return Some((&bytes[..i], &bytes[i + 1..]));
+        }
+    }
+    None
+}
+
+/// What stands after these first bytes.
+fn after<'a>(first: &[u8], bytes: &'a [u8]) -> Option<&'a [u8]>
+    ensures { MatchOption result ((rest : List ℕ) → bytes.now ≢ first.now ++ rest) (λ x. bytes.now ≡ first.now ++ x.now) }
+{
+    bytes.strip_prefix(first)
+}
+
+/// The line that bytes without a line feed say, before it is checked.
+fn parse_line(alloc: Global, bytes: &[u8]) -> Result<Option<Line>, AllocError>
+    ensures { IfOk result (λ o. ReadsBack bytes.now o) }
+{
+    match str::from_utf8(bytes) {
+        Ok(text) => line_in(alloc, text),
+        Err(_) => Ok(None),
+    }
+}
+
+/// The line that bytes begin with, and what stands after it. What was parsed is checked against its own text, which is
+/// written into `text`.
+fn read_line<'a>(
+    alloc: Global,
+    k: &Known,
+    bytes: &'a [u8],
+    text: &mut Vec<u8>,
+) -> Result<Option<(Line, &'a [u8])>, TraceFault>
+    ensures line { IfOk result (λ o. MatchOption o (BeginsNoLine (known_seen k.now) bytes.now) (λ x. BeginsLine (known_seen k.now) bytes.now (line_of x.0) x.1.now)) }
+    ensures memory { IfErr result (λ e. e ≡ faults.NoMemory) }
+{
+    let Some((front, _)) = split_line(bytes) else {
+        return Ok(None);
+    };
+    let Some(line) = parse_line(alloc, front)? else {
+        return Ok(None);
+    };
+    if !line_fits(k, &line) {
+        return Ok(None);
+    }
+    text.clear();
+    put_line(text, &line)?;
+    match after(text.as_slice(), bytes) {
+        None => Ok(None),
+        Some(rest) => Ok(Some((line, rest))),
+    }
+}
+
+/// The lines that bytes begin with, up to the first that is none of the grammar, and what is left from there on.
+fn read_lines<'a>(
+    alloc: Global,
+    k: &Known,
+    bytes: &'a [u8],
+) -> Result<(LineList, &'a [u8]), TraceFault>
+    ensures lines { IfOk result (λ x. AreLines (known_seen k.now) bytes.now (lines_of x.0) x.1.now) }
+    ensures memory { IfErr result (λ e. e ≡ faults.NoMemory) }
+{
+    let mut lines = Vec::new(alloc);
+    let mut text = Vec::new(alloc);
+    let mut left = bytes;
+    while let Some((line, rest)) = read_line(alloc, k, left, &mut text)? {
+        match lines.push(line) {
+            Ok(()) => left = rest,
+            Err(_) => return Err(TraceFault::NoMemory),
+        }
+    }
+    Ok((LineList::from_vec(lines), left))
+}
+
+/// The bytes of the set, and what stands after its line.
+fn read_head(bytes: &[u8]) -> Result<(&[u8], &[u8]), TraceFault>
+    ensures { MatchResult result (λ x. HasHead bytes.now x.0.now x.1.now) (λ e. IsRefused bytes.now e) }
+{
+    let Some(second) = after(b"rtsched trace 1\n", bytes) else {
+        return Err(TraceFault::NotTrace(1));
+    };
+    let Some(line) = after(b"set ", second) else {
+        return Err(TraceFault::NotTrace(2));
+    };
+    match split_line(line) {
+        None => Err(TraceFault::NotTrace(2)),
+        Some((set, rest)) => Ok((set, rest)),
+    }
+}
+
+/// The number of the line after so many, and the two of the head, where anything is left.
+fn stop_after(lines: &[Line], left: &[u8]) -> Result<Option<u32>, TraceFault>
+    ensures stop { IfOk result (λ o. o ≡ stop_at (lines_of lines.now) left.now) }
+    ensures memory { IfErr result (λ e. e ≡ faults.NoMemory) }
+{
+    if left.is_empty() {
+        return Ok(None);
+    }
+    match u32::try_from(lines.len()) {
+        Ok(n) if n < u32::MAX - 3 => Ok(Some(n + 3)),
+        _ => Err(TraceFault::NoMemory),
+    }
+}
+
+/// Reads the bytes of a trace, format 1: its set, and its lines up to the first that is none of the grammar. It is
+/// refused where the first line is another, where the second does not begin as the set's or has no line feed, and
+/// where the set is refused.
+pub fn read_trace(alloc: Global, bytes: &[u8]) -> Result<Trace, TraceFault>
+    ensures { HasRead bytes.now result }
+{
+    let (set, rest) = read_head(bytes)?;
+    let setup = read_set(alloc, set)?;
+    let k = Known::of(setup.parts());
+    let (lines, left) = read_lines(alloc, &k, rest)?;
+    let stop = stop_after(lines.as_slice(), left)?;
+    Ok(Trace { setup, lines, stop })
+}
