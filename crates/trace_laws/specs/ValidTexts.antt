@@ -1,0 +1,39 @@
+-- The valid texts of a set, and how far a text begins as one of them.
+use Rattle.std.specs.Prelude.{◌≡◌, ◌≢◌, ℕ, ◌+◌, List, [], ◌∷◌, ◌++◌, map, flat_map, sum, length, All}
+use Rattle.rt_task.specs.declared.Parts.{Parts}
+use Rattle.rt_history.specs.declared.Entry.{Entry}
+use Rattle.trace_lines.specs.FirstLine.{format_1}
+use Rattle.trace_text.specs.TraceText.{trace_text}
+use Rattle.trace_laws.specs.Scripts.{ArePlays}
+
+-- how many entries the histories have together
+abbrev pub entry_count : List (List Entry) → ℕ
+entry_count hs = sum (map (λ (es : List Entry). length es) hs)
+
+-- the text of histories, one for each group, each legal and made of its processors' scripts
+pub record IsValidText (p : Parts) (text : List ℕ) (entries : ℕ) : Type 0 where
+  pub histories : List (List Entry)
+  pub plays : ArePlays p histories
+  pub text_is : text ≡ trace_text format_1 p histories
+  pub count : entries ≡ entry_count histories
+
+-- lines, each with its line feed
+abbrev pub with_feeds : List (List ℕ) → List ℕ
+with_feeds ws = flat_map (λ (w : List ℕ). w ++ 10 ∷ []) ws
+
+-- two texts have the same first k lines, each with its line feed
+pub record BeginAlike (k : ℕ) (text text' : List ℕ) : Type 0 where
+  pub lines : List (List ℕ)
+  pub rest : List ℕ
+  pub rest' : List ℕ
+  pub count : length lines ≡ k
+  pub are_lines : All (λ (w : List ℕ). All (λ (c : ℕ). c ≢ 10) w) lines
+  pub text_is : text ≡ with_feeds lines ++ rest
+  pub text'_is : text' ≡ with_feeds lines ++ rest'
+
+-- the first k lines are the first k lines of a valid text
+pub record IsBegun (p : Parts) (k : ℕ) (text : List ℕ) : Type 0 where
+  pub whole : List ℕ
+  pub entries : ℕ
+  pub valid : IsValidText p whole entries
+  pub alike : BeginAlike k text whole
