@@ -1,4 +1,5 @@
 pub mod Filling
+pub mod Rising
 pub mod RankLaws
 pub mod Rankings
 pub mod TopTasks

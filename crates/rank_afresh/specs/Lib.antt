@@ -1,5 +1,6 @@
 pub mod Taken
 pub mod Candidates
+pub mod Rising
 pub mod Facts
 pub mod Moved
 pub mod Standing
