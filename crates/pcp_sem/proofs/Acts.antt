@@ -63,9 +63,6 @@ module _ (ceilings keys : List Key) (l : PcpState) (hc wc oc gc : ℕ) (ok : IsP
       higher-falls (key_at ceilings p.sem) (key_at keys p.task) (key_at keys t) (ok.sound.awaited_by p.task p.sem waits).low under
 
   module _ (p : TaskSem) where
-    abbrev kept : List TaskSem
-    kept = without_pair p l.held
-
     pub freed-nobody : find (λ (q : TaskSem). passes (above_ceiling keys ceilings) (without_pair p l.held) q.task) (in_order (above keys) l.waiting) ≡ None → record { held = without_pair p l.held; waiting = l.waiting } ≡ pcp_after (above keys) (above_ceiling keys ceilings) (Frees p.task p.sem) l
     freed-nobody h = sym (tested-nobody (above keys) (ranking-keys keys) (above_ceiling keys ceilings) (in_order (above keys) l.waiting) (record { held = without_pair p l.held; waiting = l.waiting }) h)
 
