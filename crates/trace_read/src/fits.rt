@@ -108,7 +108,15 @@ fn entry_fits(k: &Known, no: u32, entry: Entry, links: &[CpuLink]) -> bool
     act_fits(k, entry.step.act) && reply_fits(k, entry.reply) && links_fit(k, links)
 }
 
-fn block_fits(k: &Known, no: u32, task: TaskNo, sem: SemNo, ends: u32, ends_all: u32, bound: Option<u32>) -> bool
+fn block_fits(
+    k: &Known,
+    no: u32,
+    task: TaskNo,
+    sem: SemNo,
+    ends: u32,
+    ends_all: u32,
+    bound: Option<u32>,
+) -> bool
     ensures { IsTrue result ↔ known.IsBlockLine (known_seen k.now) no task.0 sem.0 ends ends_all bound }
 {
     is_number_of(k.tasks, task.0) && is_number_of(k.sems, sem.0)
@@ -121,9 +129,14 @@ pub(crate) fn line_fits(k: &Known, line: &Line) -> bool
     match line {
         Line::GroupLine { group, links } => group_fits(k, *group, links.as_slice()),
         Line::EntryLine { no, entry, links } => entry_fits(k, *no, *entry, links.as_slice()),
-        Line::BlockLine { no, task, sem, ends, ends_all, bound } => {
-            block_fits(k, *no, *task, *sem, *ends, *ends_all, *bound)
-        }
+        Line::BlockLine {
+            no,
+            task,
+            sem,
+            ends,
+            ends_all,
+            bound,
+        } => { block_fits(k, *no, *task, *sem, *ends, *ends_all, *bound) }
         Line::EndLine => true,
         Line::CountLine { name, totals } => is_letter(*name) && totals_fit(totals.as_slice()),
     }

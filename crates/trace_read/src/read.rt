@@ -14,9 +14,7 @@ use rt_base::NoMemory;
 use set_read::read_set;
 use std::alloc::{AllocError, Global};
 use std::str;
-use trace_lines::{
-    put_block_line, put_count_line, put_end_line, put_entry_line, put_group_line,
-};
+use trace_lines::{put_block_line, put_count_line, put_end_line, put_entry_line, put_group_line};
 
 /// The line's text.
 fn put_line(out: &mut Vec<u8>, line: &Line) -> Result<(), NoMemory>
