@@ -1,6 +1,8 @@
 //! Lines as text, with each act and each reply.
 
-use crate::{CpuLink, put_end_line, put_entry_line, put_group_line};
+use crate::{
+    CpuLink, put_block_line, put_count_line, put_end_line, put_entry_line, put_group_line,
+};
 use rt_base::{CpuNo, GroupNo, SemNo, TaskNo, Tick};
 use rt_history::{Entry, Reply};
 use rt_task::{Act, Op, Step};
@@ -112,5 +114,19 @@ fn writes_links(rt: HostRuntime) -> Result<(), Fail> {
         line.as_slice(),
         b"199999 999999999999 63 tick done 0:3 10:-\n".as_slice()
     );
+    Ok(())
+}
+
+#[test]
+fn writes_block_lines_and_count_lines(rt: HostRuntime) -> Result<(), Fail> {
+    let mut out = Vec::new(rt.alloc());
+    put_block_line(&mut out, 6, TaskNo(3), SemNo(1), 2, 4, Some(3))?;
+    assert_eq!(rt; out.as_slice(), b"block 6 3 1 2 4 3\n".as_slice());
+    out.clear();
+    put_block_line(&mut out, 6, TaskNo(3), SemNo(1), 0, 0, None)?;
+    assert_eq!(rt; out.as_slice(), b"block 6 3 1 0 0 -\n".as_slice());
+    out.clear();
+    put_count_line(&mut out, b't', &[12, 0])?;
+    assert_eq!(rt; out.as_slice(), b"count t 12 0\n".as_slice());
     Ok(())
 }

@@ -1,6 +1,5 @@
 -- A line comes back out of its text, and lines out of theirs: one text is the text of one list of lines.
-use Rattle.std.proofs.Common.{◌≡◌, ◌≢◌, ℕ, ◌<◌, ◌≤◌, ◌^◌, ◌==◌, Bool, true, false, not, List, [], ◌∷◌, ◌++◌, map, flat_map, All, codes, Option, Some, None, decimal, refl, ap, sym, ◌∙◌, subst, arith, append_assoc, inl, inr}
-use Rattle.std.specs.Prelude.{nat_lt}
+use Rattle.std.proofs.Common.{◌≡◌, ◌≢◌, ℕ, ◌<◌, ◌≤◌, ◌^◌, ◌==◌, true, false, not, List, [], ◌∷◌, ◌++◌, map, flat_map, All, codes, Option, Some, decimal, refl, ap, sym, ◌∙◌, subst, arith, append_assoc, inl, inr}
 use Rattle.std.proofs.lemmas.Bool.{and_parts}
 use Rattle.std.proofs.lemmas.Bool.Decides.{nat_tests}
 use Rattle.std.proofs.lemmas.List.Elements.{All-nil, All-cons, All-head, All-tail}
@@ -8,10 +7,10 @@ use Rattle.rt_history.specs.declared.Entry.{Entry}
 use Rattle.trace_lines.specs.Words.{Word, join}
 use Rattle.trace_lines.specs.Lines.{Link, Line, group_line, entry_line, block_line, end_line, count_line}
 use Rattle.trace_lines.specs.Grammar.{act_words, reply_words, number_word, link_word, line_words, line_text}
-use Rattle.trace_lines.specs.Known.{Known, Is32, Is64, IsNumberOf, IsLetter, IsEntryLine, IsBlockLine, LinkIsKnown, IsLine}
+use Rattle.trace_lines.specs.Known.{Known, Is32, Is64, IsLetter, IsEntryLine, IsBlockLine, LinkIsKnown, IsLine}
 use Rattle.trace_read.specs.Reads.{AreLines}
-use Rattle.trace_read.specs.Reading.{cut, small_or_dash, entry_at, entry_line_in, group_line_in, block_line_in, count_line_in, line_in}
-use Rattle.trace_read.proofs.WordLaws.{is_free, is_free-append, is_plain, plain-free, AllPlain, AllPlain-append, no_word, cut-free, cut-first, cut-join, IsNoDigit, decimal-free, decimal-plain, number_at-join, small_at-join}
+use Rattle.trace_read.specs.Reading.{cut, entry_at, entry_line_in, group_line_in, block_line_in, count_line_in, line_in}
+use Rattle.trace_read.proofs.WordLaws.{is_free, is_free-append, is_plain, plain-free, AllPlain, AllPlain-append, no_word, cut-first, cut-join, IsNoDigit, decimal-free, decimal-plain, number_at-join, small_at-join}
 use Rattle.trace_read.proofs.PartLaws.{act_at-join, act-plain, reply_at-join, reply-plain, small_or_dash-word, number_word-plain, links_in-join, links-plain, totals_in-join, totals-plain}
 
 -- ---- no word of a line has a space or a line feed

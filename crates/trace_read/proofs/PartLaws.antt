@@ -1,9 +1,8 @@
 -- The parts of a line come back out of its text.
-use Rattle.std.proofs.Common.{◌≡◌, ℕ, ◌<◌, ◌≤◌, ◌^◌, ◌==◌, true, false, List, [], ◌∷◌, ◌++◌, map, All, codes, Option, Some, None, decimal, refl, ap, ◌∙◌, arith, length, length-append}
+use Rattle.std.proofs.Common.{◌≡◌, ℕ, ◌<◌, ◌^◌, true, List, [], ◌∷◌, ◌++◌, map, All, codes, Option, Some, None, decimal, refl, arith, length, length-append}
 use Rattle.std.proofs.lemmas.Bool.Decides.{nat_tests}
 use Rattle.std.proofs.lemmas.List.Elements.{All-head, All-tail}
 use Rattle.std.proofs.lemmas.Fmt.{decimal_nonempty}
-use Rattle.rt_task.specs.declared.Op.{Op}
 use Rattle.rt_task.specs.declared.Op.TheVariants as ops
 use Rattle.rt_task.specs.declared.Act.{Act}
 use Rattle.rt_task.specs.declared.Act.TheVariants as acts
@@ -13,9 +12,9 @@ use Rattle.set_read.specs.Forms.{word_in}
 use Rattle.trace_lines.specs.Words.{Word, join}
 use Rattle.trace_lines.specs.Lines.{Link}
 use Rattle.trace_lines.specs.Grammar.{act_words, reply_words, number_word, link_word}
-use Rattle.trace_lines.specs.Known.{Known, Is32, Is64, IsNumberOf, ActIsKnown, ReplyIsKnown, TargetIsKnown, BoundIsKnown, LinkIsKnown}
-use Rattle.trace_read.specs.Reading.{cut, pieces, each_in, number_in, small_in, small_or_dash, bare_acts, act_with, act_at, bare_replies, reply_with, reply_at, link_in, links_in, totals_in}
-use Rattle.trace_read.proofs.WordLaws.{is_free, is_plain, AllPlain, AllFilled, is_plain-append, no_word, cut-first, cut-join, pieces-join, IsNoDigit, decimal-free, decimal-plain, number_in-decimal, small_in-decimal, when_32-same, number_at-join, small_at-join}
+use Rattle.trace_lines.specs.Known.{Known, Is64, ActIsKnown, ReplyIsKnown, TargetIsKnown, BoundIsKnown, LinkIsKnown}
+use Rattle.trace_read.specs.Reading.{each_in, number_in, small_or_dash, bare_acts, act_with, act_at, bare_replies, reply_with, reply_at, link_in, links_in, totals_in}
+use Rattle.trace_read.proofs.WordLaws.{is_plain, AllPlain, AllFilled, is_plain-append, no_word, cut-first, cut-join, pieces-join, IsNoDigit, decimal-free, decimal-plain, number_in-decimal, small_in-decimal, when_32-same, number_at-join, small_at-join}
 
 -- ---- acts
 

@@ -1,5 +1,5 @@
 -- What the reader's parts promise of one another.
-use Rattle.std.specs.Prelude.{◌≡◌, ◌≢◌, ℕ, ◌++◌, ◌∷◌, List, flat_map, All, Option, Some, None, option_map}
+use Rattle.std.specs.Prelude.{◌≡◌, ◌≢◌, ℕ, ◌++◌, ◌∷◌, List, flat_map, All, Option, Some, option_map}
 use Rattle.trace_lines.specs.Words.{join}
 use Rattle.trace_lines.specs.Grammar.{line_words, line_text}
 use Rattle.trace_lines.specs.Known as known

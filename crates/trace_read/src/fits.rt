@@ -87,7 +87,7 @@ fn links_fit(k: &Known, links: &[CpuLink]) -> bool
 fn is_letter(c: u8) -> bool
     ensures { IsTrue result ↔ known.IsLetter c }
 {
-    (65..=90).contains(&c) || (97..=122).contains(&c)
+    c.is_ascii_alphabetic()
 }
 
 fn totals_fit(totals: &[u64]) -> bool

@@ -9,6 +9,8 @@ mod links;
 mod parse;
 mod read;
 mod replies;
+#[cfg(test)]
+mod tests;
 mod words;
 
 pub use fault::TraceFault;

@@ -144,9 +144,9 @@ fn stop_after(lines: &[Line], left: &[u8]) -> Result<Option<u32>, TraceFault>
     }
 }
 
-/// Reads the bytes of a trace, format 1: its set, and its lines up to the first that is none of the grammar. It is
-/// refused where the first line is another, where the second does not begin as the set's or has no line feed, and
-/// where the set is refused.
+/// Reads the bytes of a trace, format 1: its set, and its lines up to the first that is none of the grammar. Refused are
+/// bytes that do not begin with the line of the format, those whose second line does not begin as the set's or has no
+/// line feed, and a set that is refused. More lines than a `u32` numbers are answered as memory that ran out.
 pub fn read_trace(alloc: Global, bytes: &[u8]) -> Result<Trace, TraceFault>
     ensures { HasRead bytes.now result }
 {

@@ -1,4 +1,4 @@
-use Rattle.std.proofs.Common.{◌↔◌, ◌≤◌, List, All, IsTrue, Bool, true, false, length, subst, refl, arith}
+use Rattle.std.proofs.Common.{◌↔◌, ◌≤◌, List, All, IsTrue, true, false, length, subst, refl, arith}
 use Rattle.std.proofs.lemmas.Grind.{common_steps}
 use Rattle.std.proofs.lemmas.List.{take_all}
 use Rattle.trace_lines.specs.declared.links.CpuLink.{CpuLink}

@@ -1,5 +1,4 @@
-use Rattle.std.proofs.Common.{◌≡◌, ◌<◌, ◌++◌, ◌∷◌, [], length, Some, None, sym, ap, ◌∙◌, arith, rules}
-use Rattle.std.proofs.lemmas.Grind.{common_steps}
+use Rattle.std.proofs.Common.{◌<◌, length, ◌∙◌, rules}
 use Rattle.trace_read.specs.Reading as reading
 use Rattle.trace_read.proofs.EachLaws.{length_left, each_in-none, each_in-more}
 use Rattle.trace_read.proofs.links.totals_in.Goals as goal

@@ -1,4 +1,4 @@
-use Rattle.std.proofs.Common.{◌≡◌, ◌≢◌, ℕ, List, ◌++◌, IsTrue, None, Some, ap, ◌∙◌, subst}
+use Rattle.std.proofs.Common.{◌≡◌, ◌≢◌, ◌++◌, IsTrue, ap, ◌∙◌, subst}
 use Rattle.trace_lines.specs.Grammar.{line_text}
 use Rattle.trace_read.specs.Lines.{line_of}
 use Rattle.trace_read.specs.Seen.{known_seen, ReadsBack}

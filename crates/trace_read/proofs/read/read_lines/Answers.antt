@@ -1,8 +1,7 @@
-use Rattle.std.proofs.Common.{◌≡◌, ◌∷◌, [], ◌++◌, List, ap, ◌∙◌, sym, subst}
+use Rattle.std.proofs.Common.{◌≡◌, ◌∷◌, [], ◌++◌, ap, ◌∙◌, sym, subst}
 use Rattle.std.proofs.lemmas.List.{map-append}
-use Rattle.trace_lines.specs.Lines as grammar
 use Rattle.trace_read.specs.Lines.{line_of, lines_of}
-use Rattle.trace_read.specs.Seen.{known_seen, BeginsLine, BeginsLines}
+use Rattle.trace_read.specs.Seen.{known_seen, BeginsLines}
 use Rattle.trace_read.proofs.ReadLaws.{BeginsLine-shorter, BeginsLines-more}
 use Rattle.trace_read.proofs.read.read_lines.Goals as goal
 

@@ -1,4 +1,4 @@
-use Rattle.std.proofs.Common.{◌≡◌, ℕ, ◌≢◌, All, take}
+use Rattle.std.proofs.Common.{ℕ, ◌≢◌, All, take}
 use Rattle.trace_read.proofs.read.split_line.Given as goal
 
 -- no line feed so far

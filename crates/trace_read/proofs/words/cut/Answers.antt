@@ -1,5 +1,4 @@
-use Rattle.std.proofs.Common.{◌≡◌, List, [], None, Some, sym}
-use Rattle.trace_read.specs.Reading as reading
+use Rattle.std.proofs.Common.{None, Some, sym}
 use Rattle.trace_read.proofs.WordLaws.{cut-split_once}
 use Rattle.trace_read.proofs.words.cut.Goals as goal
 
