@@ -1,0 +1,4 @@
+pub mod ScriptLaws
+pub mod StepsGiven
+pub mod Plays
+pub mod KnownLines
