@@ -1,5 +1,8 @@
+pub mod ScriptLaws
+pub mod StepsGiven
+pub mod Plays
+pub mod KnownLines
 pub mod OneLine
 pub mod Heads
-pub mod KnownLines
 pub mod ReadBack
 pub mod Alike
