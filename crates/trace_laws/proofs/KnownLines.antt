@@ -1,5 +1,5 @@
 -- The lines of a legal history of a set that is built are lines of the grammar.
-use Rattle.std.proofs.Common.{◌≡◌, ℕ, suc, ◌+◌, ◌^◌, ◌<◌, ◌≤◌, true, List, [], ◌∷◌, ◌++◌, length, map, refl, sym, subst, arith, append-nil}
+use Rattle.std.proofs.Common.{◌≡◌, ℕ, ◌+◌, ◌^◌, ◌<◌, ◌≤◌, true, List, [], ◌∷◌, ◌++◌, length, sym, subst, arith, append-nil}
 use Rattle.std.specs.Prelude.{◌==◌, All, Option, None, Some}
 use Rattle.std.proofs.lemmas.List.{length-map}
 use Rattle.std.proofs.lemmas.List.Elements.{All-append, All-cons, All-nil, All-tail}
@@ -30,8 +30,8 @@ use Rattle.group_state.specs.Built.{is_built, is_built_act}
 use Rattle.group_state.specs.Groups.{IsProcessorOf}
 use Rattle.group_state.proofs.Limits.{length-numbers}
 use Rattle.group_state.proofs.PlainGroup.{IsPlainGroup}
-use Rattle.trace_lines.specs.Known.{ActIsKnown, Is32, IsEntryLine, IsLine, IsNumberOf, Known, LinkIsKnown, ReplyIsKnown, TargetIsKnown, known_of}
-use Rattle.trace_lines.specs.Lines.{Line, Link, end_line, entry_line, group_line}
+use Rattle.trace_lines.specs.Known.{ActIsKnown, IsLine, IsNumberOf, Known, LinkIsKnown, ReplyIsKnown, TargetIsKnown, known_of}
+use Rattle.trace_lines.specs.Lines.{Link, end_line, entry_line, group_line}
 use Rattle.trace_text.specs.TraceText.{block_lines, entry_lines, group_lines, lines_from, links_at}
 use Rattle.trace_text.proofs.LineLaws.{blocks_none}
 use Rattle.trace_laws.specs.Scripts.{IsPlayOf}

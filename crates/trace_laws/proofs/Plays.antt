@@ -1,5 +1,5 @@
 -- The one history of a set that is built: its steps are the set's.
-use Rattle.std.proofs.Common.{◌≡◌, ℕ, zero, suc, ◌+◌, ◌<◌, ◌≤◌, Bool, true, false, List, [], ◌∷◌, length, map, get_or, refl, sym, subst, arith}
+use Rattle.std.proofs.Common.{◌≡◌, ◌<◌, ◌≤◌, Bool, true, false, List, [], ◌∷◌, length, map, get_or, refl, sym, subst, arith}
 use Rattle.std.specs.Prelude.{◌==◌, nat_lt, All}
 use Rattle.std.proofs.Math.ListN.{get_or-map}
 use Rattle.std.proofs.lemmas.Bool.Decides.{nat_tests}
@@ -13,7 +13,7 @@ use Rattle.rt_rules.specs.Numbers.{has}
 use Rattle.rt_model.specs.Group.{Group, cpus}
 use Rattle.rt_model.proofs.PastLaws.{numbers_from-below}
 use Rattle.group_state.specs.Built.{is_built}
-use Rattle.group_state.specs.Groups.{IsGroupOf, IsPlayedEntry, IsProcessorOf}
+use Rattle.group_state.specs.Groups.{IsPlayedEntry, IsProcessorOf}
 use Rattle.group_state.proofs.Plain.{plain-set}
 use Rattle.group_state.proofs.PlainGroup.{IsPlainGroup, group-plain, one, the_group}
 use Rattle.trace_text.proofs.GroupLaws.{first_group, processor_there}
