@@ -26,7 +26,8 @@ use Rattle.trace_laws.specs.Scripts.{ArePlays}
 use Rattle.trace_laws.specs.TraceLaws.{TraceIsRead, TraceIsNotRefused, TracesTellApart}
 use Rattle.trace_laws.proofs.OneLine.{canonical-one_line}
 use Rattle.trace_laws.proofs.Heads.{head-unique, trace-begins, trace-head}
-use Rattle.trace_laws.proofs.KnownLines.{known-lines, plays-of-one}
+use Rattle.trace_laws.proofs.KnownLines.{known-lines}
+use Rattle.trace_laws.proofs.Plays.{plays-of-one}
 
 -- ---- the lines
 
