@@ -1,5 +1,5 @@
 -- The lines of a valid set's histories are lines of the grammar.
-use Rattle.std.proofs.Common.{◌≡◌, ℕ, true, List, [], ◌∷◌, All}
+use Rattle.std.proofs.Common.{◌≡◌, true, List, [], ◌∷◌, All}
 use Rattle.rt_task.specs.declared.Parts.{Parts}
 use Rattle.rt_task.specs.Validity.{IsValid}
 use Rattle.rt_history.specs.declared.Entry.{Entry}
