@@ -1,5 +1,5 @@
 -- The text of a valid set's histories is read back, and no other histories have it.
-use Rattle.std.proofs.Common.{◌≡◌, ◌≢◌, ℕ, ◌+◌, true, List, [], ◌∷◌, ◌++◌, map, All, Option, Some, None, Ok, Err, length, refl, sym, ap, subst, ◌∙◌, arith, append_assoc, append-nil, length-append, inl, inr}
+use Rattle.std.proofs.Common.{◌≡◌, ◌≢◌, ℕ, ◌+◌, true, List, [], ◌∷◌, ◌++◌, map, All, Option, None, Ok, Err, length, refl, sym, ap, subst, ◌∙◌, arith, append-nil, length-append, inl, inr}
 use Rattle.std.specs.Prelude.{flat_map}
 use Rattle.rt_task.specs.declared.bad_set.BadSet.{BadSet}
 use Rattle.rt_task.specs.declared.Parts.{Parts}
@@ -8,18 +8,17 @@ use Rattle.rt_history.specs.declared.Entry.{Entry}
 use Rattle.rt_model.specs.Group.{Group}
 use Rattle.rt_model.specs.Past.{Past}
 use Rattle.rt_model.specs.Histories.{after, past_of}
-use Rattle.rt_model.specs.Blocking.{Asked, requests, ends, ends_all, bound}
+use Rattle.rt_model.specs.Blocking.{Asked, requests}
 use Rattle.group_state.specs.Built.{is_built}
 use Rattle.set_canonical.specs.Canonical.{canonical}
 use Rattle.set_read.specs.Sets.{set}
 use Rattle.set_laws.proofs.CanonicalLaws.{set-of-canonical}
-use Rattle.trace_lines.specs.FirstLine.{first_line, format_1}
+use Rattle.trace_lines.specs.FirstLine.{format_1}
 use Rattle.trace_lines.specs.Grammar.{line_text}
 use Rattle.trace_lines.specs.Known.{Known, known_of, IsLine}
 use Rattle.trace_lines.specs.Lines.{Line, group_line, entry_line, block_line, end_line, count_line}
 use Rattle.trace_text.specs.TraceText.{lines_from, trace_text, entry_lines, block_lines, group_lines}
-use Rattle.trace_read.specs.Reads.{HasHead, AreLines, stop_at, IsTraceOf, LacksFirstLine, LacksSetLine, HasBadSet, IsRefused}
-use Rattle.trace_read.specs.declared.fault.TraceFault.{TraceFault}
+use Rattle.trace_read.specs.Reads.{HasHead, AreLines, stop_at}
 use Rattle.trace_read.specs.declared.fault.TraceFault.TheVariants as faults
 use Rattle.trace_read.proofs.LineLaws.{line_body, line_text-ends, lines-unique}
 use Rattle.trace_laws.specs.Scripts.{ArePlays}
