@@ -1,0 +1,87 @@
+-- What a run of `check` reads and writes.
+use Rattle.std.specs.Prelude.{◌≡◌, ℕ, ◌≤◌, true, false, List, [], ◌∷◌, ◌++◌, length, codes, decimal, Option, None, Some, Ok, Err, ◌⊎◌}
+use Rattle.rt_base.specs.declared.TheConstants.{MOST_TRACE_BYTES}
+use Rattle.rt_task.specs.declared.Parts.{Parts}
+use Rattle.rt_task.specs.declared.bad_set.BadSet.{BadSet}
+use Rattle.rt_task.specs.declared.bad_set.SetKind.TheVariants.{NotTrace, Unbuilt}
+use Rattle.rt_task.specs.declared.bad_set.Part.TheVariants.{Line, Whole}
+use Rattle.rt_task.specs.Refusals.{bad}
+use Rattle.rt_fault.specs.Held.{Held, Extends, ExtendsByPrefix, Stays}
+use Rattle.rt_fault.specs.Reading.{TakesAll}
+use Rattle.set_read.specs.Sets.{set}
+use Rattle.group_state.specs.Built.{is_built}
+use Rattle.trace_read.specs.Reads.{HasHead, HasBadSet, LacksFirstLine, LacksSetLine}
+use Rattle.trace_laws.specs.ValidTexts.{IsValidText}
+use Rattle.trace_check.specs.declared.verdict.Verdict.{Verdict}
+use Rattle.trace_check.specs.declared.verdict.Verdict.TheVariants.{Valid, Invalid}
+use Rattle.trace_check.specs.Verdicts.{IsVerdict}
+
+-- the second line of the text says this set, which is played so far
+pub record SaysSet (bytes : List ℕ) (p : Parts) : Type 0 where
+  pub set_text : List ℕ
+  pub rest : List ℕ
+  pub head : HasHead bytes set_text rest
+  pub set_is : set set_text ≡ Ok p
+  pub built : is_built p ≡ true
+
+-- what was read to its end is within the limit, and says a set
+pub record WasTrace (left left' : Option (List ℕ)) (bytes : List ℕ) (p : Parts) : Type 0 where
+  pub all : TakesAll left left' bytes
+  pub within : length bytes ≤ MOST_TRACE_BYTES
+  pub says : SaysSet bytes p
+
+-- why a text is refused: its first line, its second, the set that this says, or that this set is not played
+pub record SaysUnbuilt (bytes : List ℕ) : Type 0 where
+  pub set_text : List ℕ
+  pub rest : List ℕ
+  pub setup : Parts
+  pub head : HasHead bytes set_text rest
+  pub set_is : set set_text ≡ Ok setup
+  pub unbuilt : is_built setup ≡ false
+
+abbrev pub TraceIsRefused : List ℕ → BadSet → Type 0
+TraceIsRefused bytes b = ((b ≡ bad NotTrace Line 1) × LacksFirstLine bytes) ⊎ (((b ≡ bad NotTrace Line 2) × LacksSetLine bytes) ⊎ (HasBadSet bytes b ⊎ ((b ≡ bad Unbuilt Whole 0) × SaysUnbuilt bytes)))
+
+-- what was read to its end is within the limit, and is refused
+pub record WasNoTrace (left left' : Option (List ℕ)) (b : BadSet) : Type 0 where
+  pub bytes : List ℕ
+  pub all : TakesAll left left' bytes
+  pub within : length bytes ≤ MOST_TRACE_BYTES
+  pub refused : TraceIsRefused bytes b
+
+-- the one line that is written
+abbrev pub verdict_text : Verdict → List ℕ
+verdict_text (Valid entries) = codes "valid " ++ (decimal entries ++ 10 ∷ [])
+verdict_text (Invalid line) = codes "invalid " ++ (decimal line ++ 10 ∷ [])
+
+-- a trace was read, and its verdict came
+pub record WasChecked (left left' : Option (List ℕ)) (held held' : Held) (v : Verdict) : Type 0 where
+  pub bytes : List ℕ
+  pub setup : Parts
+  pub read : WasTrace left left' bytes setup
+  pub verdict : IsVerdict setup bytes v
+  pub written : Extends held held' (verdict_text v)
+
+-- a trace was read, and a first part of its verdict came
+pub record VerdictWasCut (left left' : Option (List ℕ)) (held held' : Held) : Type 0 where
+  pub bytes : List ℕ
+  pub setup : Parts
+  pub verdict : Verdict
+  pub read : WasTrace left left' bytes setup
+  pub is_verdict : IsVerdict setup bytes verdict
+  pub written : ExtendsByPrefix held held' (verdict_text verdict)
+
+-- memory ran out: before anything was written, or in the writing
+abbrev pub VerdictCameShort : Option (List ℕ) → Option (List ℕ) → Held → Held → Type 0
+VerdictCameShort left left' held held' = Stays held held' ⊎ VerdictWasCut left left' held held'
+
+-- what is still to come is told, is within the limit, and is a valid trace of the set that it says
+pub record IsValidTrace (bytes : List ℕ) : Type 0 where
+  pub setup : Parts
+  pub entries : ℕ
+  pub says : SaysSet bytes setup
+  pub valid : IsValidText setup bytes entries
+
+abbrev pub CanCheck : Option (List ℕ) → Type 0
+CanCheck None = ⊥
+CanCheck (Some bytes) = (length bytes ≤ MOST_TRACE_BYTES) × IsValidTrace bytes

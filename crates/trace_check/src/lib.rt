@@ -1,0 +1,28 @@
+//! Checks a trace: whether its lines are the ones that its set gives, in some order of its processors' steps.
+#![tactic(auto)]
+
+ghost use Rattle.std.specs.Prelude.{◌≡◌, IfOk, true};
+ghost use Rattle.group_state.specs.Built.{is_built};
+ghost use Rattle.trace_read.specs.Lines.{lines_of};
+ghost use Rattle.trace_read.specs.Reads.{IsTraceOf};
+ghost use Rattle.trace_check.specs.Verdicts.{IsVerdict};
+
+mod verdict;
+
+use rt_base::NoMemory;
+use std::alloc::Global;
+use trace_read::Trace;
+pub use verdict::Verdict;
+
+/// Whether the text that a trace was read of is valid for its set: the canonical set, and for each group the lines of a
+/// legal history in which each processor's steps are its script, and the line `end` last. Else the first line that is
+/// wrong: one more than the greatest number of lines with which a valid text begins as this one does.
+///
+/// The steps are replayed by `Afresh`.
+pub fn check_trace(alloc: Global, bytes: &[u8], trace: &Trace) -> Result<Verdict, NoMemory>
+    requires read { IsTraceOf bytes.now trace.now.setup (lines_of trace.now.lines) trace.now.stop }
+    requires built { is_built trace.now.setup ≡ true }
+    ensures { IfOk result (IsVerdict trace.now.setup bytes.now) }
+{
+    Err(NoMemory)
+}
