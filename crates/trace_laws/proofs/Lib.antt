@@ -6,3 +6,5 @@ pub mod OneLine
 pub mod Heads
 pub mod ReadBack
 pub mod Alike
+pub mod PartLaws
+pub mod Completion
