@@ -7,6 +7,10 @@ ghost use Rattle.trace_read.specs.Lines.{lines_of};
 ghost use Rattle.trace_read.specs.Reads.{IsTraceOf};
 ghost use Rattle.trace_check.specs.Verdicts.{IsVerdict};
 
+mod follow;
+mod links;
+mod room;
+mod scripts;
 mod verdict;
 
 use rt_base::NoMemory;

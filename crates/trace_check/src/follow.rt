@@ -1,0 +1,103 @@
+//! The entry lines of a group, followed step by step.
+ghost use Rattle.std.specs.Prelude.{◌≡◌, ◌+◌, ◌<◌, ◌≤◌, ◌∷◌, ◌++◌, [], ℕ, true, false, IfOk, length, MatchOption};
+ghost use Rattle.rt_history.specs.declared.Entry.{Entry};
+ghost use Rattle.rt_model.specs.Histories.{after, past_of, reply_to};
+ghost use Rattle.group_state.specs.Built.{is_built};
+ghost use Rattle.group_state.specs.Groups.{IsGroupOf};
+ghost use Rattle.rank_afresh.specs.Standing.{IsAt, group_of};
+ghost use Rattle.trace_lines.specs.Lines.{links_of};
+ghost use Rattle.trace_laws.specs.Scripts.{steps_given};
+ghost use Rattle.trace_check.specs.Judged.{first_group};
+ghost use Rattle.trace_check.specs.Following.{CanStep, IsFollowing, IsFollowingWith, IsNextEntry, IsNextPlace, IsNextStep, IsOver, Place};
+
+use crate::links::{are_same, read_changed, read_links};
+use crate::room::places;
+use crate::scripts::next_of;
+use rank_afresh::Afresh;
+use rt_base::{CpuNo, GroupNo, MOST_STEPS, NoMemory};
+use rt_history::{Entry, Reply};
+use rt_task::{Setup, Step};
+use std::alloc::Global;
+use trace_lines::CpuLink;
+
+/// A group whose entries are followed: the ranker that replays them, the number of its processors, their links, those
+/// that the last entry changed, how many of the set's steps are behind each processor, and the number of entries.
+#[derive(Drop)]
+pub(crate) struct Follow {
+    afresh: Afresh,
+    cpus: u32,
+    links: Vec<CpuLink>,
+    changed: Vec<CpuLink>,
+    passed: Vec<usize>,
+    count: u32,
+}
+
+impl Follow {
+    /// The one group of a setup at opening.
+    pub(crate) fn open(alloc: Global, setup: &Setup) -> Result<Follow, NoMemory>
+        requires group { IsGroupOf setup.now 0 }
+        requires built { is_built setup.now ≡ true }
+        ensures { IfOk result (λ f. IsFollowing (first_group setup.now) [] f) }
+    {
+        let cpus = setup.parts().clusters.as_slice()[0].cpus;
+        let afresh = Afresh::open(alloc, setup, GroupNo(0), MOST_STEPS)?;
+        let mut links = Vec::new(alloc);
+        read_links(&afresh, cpus, &mut links)?;
+        let passed = places(alloc, cpus as usize)?;
+        Ok(Follow {
+            afresh,
+            cpus,
+            links,
+            changed: Vec::new(alloc),
+            passed,
+            count: 0,
+        })
+    }
+
+    /// The place of a step among the set's steps, where it is the next one of its processor.
+    fn place_of(&self, steps: &[Step], step: Step) -> Option<usize>
+        requires { (at : Place) × IsFollowingWith at steps.now self.now }
+        ensures { (at : Place) → IsFollowingWith at steps.now self.now → MatchOption result (IsNextStep at.group at.entries step → ⊥) (λ j. IsNextPlace at.group at.entries step j) }
+    {
+        if step.cpu.0 >= self.cpus {
+            return None;
+        }
+        match next_of(steps, self.passed[step.cpu.0 as usize], step.cpu) {
+            Some(j) => {
+                if steps[j] == step {
+                    Some(j)
+                } else {
+                    None
+                }
+            }
+            None => None,
+        }
+    }
+
+    /// Whether no processor has a step left.
+    pub(crate) fn is_over(&self, steps: &[Step]) -> bool
+        requires { (at : Place) × IsFollowingWith at steps.now self.now }
+        ensures over { (at : Place) → IsFollowingWith at steps.now self.now → result ≡ true → IsOver at.group at.entries }
+        ensures not_over { (at : Place) → IsFollowingWith at steps.now self.now → result ≡ false → IsOver at.group at.entries → ⊥ }
+    {
+        for q in 0..self.cpus {
+            if next_of(steps, self.passed[q as usize], CpuNo(q)).is_some() {
+                return false;
+            }
+        }
+        true
+    }
+
+    /// Takes a step of the group's: the clock moves, and the act is answered.
+    fn step(&mut self, step: Step) -> Reply
+        requires { (at : Place) × CanStep at self.old step }
+        ensures reply { (at : Place) → CanStep at self.old step → result ≡ reply_to at.group step (past_of at.group at.entries) }
+        ensures at { (at : Place) → CanStep at self.old step → IsAt self.new.afresh (after at.group step (past_of at.group at.entries)) }
+        ensures group { group_of self.new.afresh ≡ group_of self.old.afresh }
+        ensures spare { self.new.afresh.spare + 1 ≡ self.old.afresh.spare }
+        ensures others { self.new ≡ record self.old { afresh = self.new.afresh } }
+    {
+        self.afresh.clock(step.tick);
+        self.afresh.act(step)
+    }
+}
