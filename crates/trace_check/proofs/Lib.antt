@@ -1,1 +1,4 @@
 pub mod LinkLists
+pub mod NextLine
+pub mod Judged
+pub mod Nexts
