@@ -12,6 +12,7 @@ ghost use Rattle.trace_check.specs.Following.{CanStep, IsFollowing, IsFollowingW
 
 use crate::links::{are_same, read_changed, read_links};
 use crate::room::places;
+use crate::same::{is_same_reply, is_same_step};
 use crate::scripts::next_of;
 use rank_afresh::Afresh;
 use rt_base::{CpuNo, GroupNo, MOST_STEPS, NoMemory};
@@ -64,7 +65,7 @@ impl Follow {
         }
         match next_of(steps, self.passed[step.cpu.0 as usize], step.cpu) {
             Some(j) => {
-                if steps[j] == step {
+                if is_same_step(steps[j], step) {
                     Some(j)
                 } else {
                     None
@@ -81,7 +82,7 @@ impl Follow {
         ensures not_over { (at : Place) → IsFollowingWith at steps.now self.now → result ≡ false → IsOver at.group at.entries → ⊥ }
     {
         for q in 0..self.cpus {
-            if next_of(steps, self.passed[q as usize], CpuNo(q)).is_some() {
+            if let Some(_) = next_of(steps, self.passed[q as usize], CpuNo(q)) {
                 return false;
             }
         }

@@ -10,6 +10,7 @@ ghost use Rattle.trace_check.specs.Verdicts.{IsVerdict};
 mod follow;
 mod links;
 mod room;
+mod same;
 mod scripts;
 mod verdict;
 

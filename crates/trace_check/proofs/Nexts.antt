@@ -1,0 +1,113 @@
+-- The next step of a processor, and what opens a group's following.
+use Rattle.std.proofs.Common.{◌≡◌, ℕ, zero, suc, ◌+◌, ◌-◌, ◌<◌, ◌≤◌, ◌==◌, Bool, true, false, List, [], ◌∷◌, ◌++◌, length, take, drop, get_or, refl, sym, ap, ◌∙◌, subst, arith, append_assoc, length-append}
+use Rattle.std.specs.Prelude.{All}
+use Rattle.std.proofs.lemmas.List.{get_or_default}
+use Rattle.rt_task.specs.declared.Act.TheVariants as acts
+use Rattle.rt_task.specs.declared.Step.{Step}
+use Rattle.rt_history.specs.declared.Entry.{Entry}
+use Rattle.rt_model.specs.Group.{Group, cpus}
+use Rattle.group_state.specs.Groups.{IsProcessorOf}
+use Rattle.group_state.specs.State.{IsPlayed}
+use Rattle.group_state.proofs.PlainGroup.{IsPlainGroup}
+use Rattle.group_state.proofs.Limits.{plain}
+use Rattle.group_state.proofs.Stepping.{inside}
+use Rattle.trace_text.proofs.GroupLaws.{processor_there}
+use Rattle.trace_laws.specs.Scripts.{script, steps_given, steps_of}
+use Rattle.trace_laws.proofs.PartLaws.{script-take-next, script-take-drop}
+use Rattle.trace_check.specs.declared.follow.Follow.{Follow}
+use Rattle.trace_check.specs.Next.{IsNextAt}
+use Rattle.trace_check.specs.Following.{IsFollowing, IsFollowingWith, IsPassed, IsNextPlace, IsNextStep, IsOver, Place}
+
+-- the processors of such a group
+pub home : (g : Group) (q : ℕ) → IsPlayed g → q < cpus g 0 → IsProcessorOf g q
+home g q played low =
+    let s : IsPlainGroup g = plain g played in
+    let zero_group : g ≡ record { setup = g.setup; number = 0 } = ap (λ n. let x : Group = record { setup = g.setup; number = n } in x) s.number_is in
+    subst (λ (x : Group). IsProcessorOf x q) (sym zero_group) (processor_there g.setup q played.valid played.built (subst (λ (x : Group). q < cpus x 0) zero_group low))
+
+longer : {A : Type 0} (xs ys : List A) (y : A) → xs ≡ xs ++ y ∷ ys → ⊥
+longer xs ys y e = let l : length xs ≡ length (xs ++ y ∷ ys) = ap length e in let m : length (xs ++ y ∷ ys) ≡ length xs + length (y ∷ ys) = length-append xs (y ∷ ys) in omega arith
+
+-- two lists that begin alike go on alike
+first-same : {A : Type 0} (xs ys zs : List A) (y z : A) → xs ++ y ∷ ys ≡ xs ++ z ∷ zs → y ≡ z
+first-same [] ys zs y z e = cc
+first-same {A = A} (x ∷ xs) ys zs y z e = first-same xs ys zs y z (tail (xs ++ y ∷ ys) (xs ++ z ∷ zs) e)
+  where
+    tail : (us vs : List A) → x ∷ us ≡ x ∷ vs → us ≡ vs
+    tail us vs k = cc
+
+module _ (at : Place) (steps : List Step) (f : Follow) (fw : IsFollowingWith at steps f) where
+  abbrev g : Group
+  g = at.group
+
+  abbrev es : List Entry
+  es = at.entries
+
+  pub below : (q : ℕ) → IsProcessorOf g q → q < f.cpus
+  below q h = let i : q < cpus g 0 = inside g q fw.following.played h in omega (arith, fw.following.cpus_are)
+
+  pub at_home : (q : ℕ) → q < f.cpus → IsProcessorOf g q
+  at_home q low = home g q fw.following.played (omega (arith, fw.following.cpus_are))
+
+  pub passed-within : (q : ℕ) → q < f.cpus → get_or f.passed.items q 0 ≤ length steps
+  passed-within q low = let h : IsPassed (steps_given g.setup.drive) es q (get_or f.passed.items q 0) = fw.following.passed_are q (omega (arith, fw.following.cpus_are)) in let w = h.within in omega (arith, w, ap length fw.steps_are)
+
+  pub passed-inside : (q : ℕ) → q < f.cpus → q < length f.passed.items
+  passed-inside q low = omega (arith, fw.following.passed_length, fw.following.cpus_are)
+
+  taken : (q : ℕ) → q < f.cpus → script (take (get_or f.passed.items q 0) steps) q ≡ script (steps_of es) q
+  taken q low = ap (λ (ss : List Step). script (take (get_or f.passed.items q 0) ss) q) fw.steps_are ∙ (fw.following.passed_are q (omega (arith, fw.following.cpus_are))).taken
+
+  -- no step is left
+  pub none-left : (q from : ℕ) → q < f.cpus → from ≡ get_or f.passed.items q 0 → script steps q ≡ script (take from steps) q → script (steps_given g.setup.drive) q ≡ script (steps_of es) q
+  none-left q from low at_place same = ap (λ (ss : List Step). script ss q) (sym fw.steps_are) ∙ same ∙ ap (λ n. script (take n steps) q) at_place ∙ taken q low
+
+  pub none-next : (step : Step) → script (steps_given g.setup.drive) step.cpu.0 ≡ script (steps_of es) step.cpu.0 → IsNextStep g es step → ⊥
+  none-next step none n = longer (script (steps_of es) step.cpu.0) n.more step (sym none ∙ n.next)
+
+  -- the script, from the next step on
+  goes-on : (q from j : ℕ) (x : Step) → q < f.cpus → from ≡ get_or f.passed.items q 0 → IsNextAt steps from q j → x ≡ get_or steps j x → script (take (j + 1) steps) q ≡ script (steps_of es) q ++ x ∷ []
+  goes-on q from j x low at_place n is =
+      script-take-next steps q j x n.there (n.of_cpu x)
+      ∙ ap (λ (ss : List Step). ss ++ get_or steps j x ∷ []) (n.none_before ∙ ap (λ k. script (take k steps) q) at_place ∙ taken q low)
+      ∙ ap (λ (y : Step). script (steps_of es) q ++ y ∷ []) (sym is)
+
+  whole : (q from j : ℕ) (x : Step) → q < f.cpus → from ≡ get_or f.passed.items q 0 → IsNextAt steps from q j → x ≡ get_or steps j x → script (steps_given g.setup.drive) q ≡ script (steps_of es) q ++ x ∷ script (drop (j + 1) steps) q
+  whole q from j x low at_place n is =
+      ap (λ (ss : List Step). script ss q) (sym fw.steps_are) ∙ script-take-drop steps q (j + 1) ∙ ap (λ (ss : List Step). ss ++ script (drop (j + 1) steps) q) (goes-on q from j x low at_place n is) ∙ append_assoc (script (steps_of es) q) (x ∷ []) (script (drop (j + 1) steps) q)
+
+  at_place : (q from : ℕ) → q < f.cpus → from ≡ get_or f.passed.items q from → from ≡ get_or f.passed.items q 0
+  at_place q from low is = is ∙ get_or_default f.passed.items q from 0 (passed-inside q low)
+
+  -- the step that was found is the next one
+  pub found : (step : Step) (from j : ℕ) → step.cpu.0 < f.cpus → from ≡ get_or f.passed.items step.cpu.0 from → IsNextAt steps from step.cpu.0 j → get_or steps j step ≡ step → IsNextPlace g es step j
+  found step from j low read n same =
+      let at_it : from ≡ get_or f.passed.items step.cpu.0 0 = at_place step.cpu.0 from low read in
+      record {
+        next = record { home = at_home step.cpu.0 low; more = script (drop (j + 1) steps) step.cpu.0; next = whole step.cpu.0 from j step low at_it n (sym same) };
+        there = subst (λ (ss : List Step). j < length ss) fw.steps_are n.there;
+        taken = ap (λ (ss : List Step). script (take (j + 1) ss) step.cpu.0) (sym fw.steps_are) ∙ goes-on step.cpu.0 from j step low at_it n (sym same);
+      }
+
+  -- and no other one is
+  pub not-found : (step : Step) (from j : ℕ) → step.cpu.0 < f.cpus → from ≡ get_or f.passed.items step.cpu.0 from → IsNextAt steps from step.cpu.0 j → (get_or steps j step ≡ step → ⊥) → IsNextStep g es step → ⊥
+  not-found step from j low read n other k =
+      let x : Step = get_or steps j step in
+      let is : x ≡ get_or steps j x = get_or_default steps j step x n.there in
+      other (first-same (script (steps_of es) step.cpu.0) (script (drop (j + 1) steps) step.cpu.0) k.more x step (sym (whole step.cpu.0 from j x low (at_place step.cpu.0 from low read) n is) ∙ k.next))
+
+  -- where none was found, none is next
+  pub none-found : (step : Step) (from : ℕ) → step.cpu.0 < f.cpus → from ≡ get_or f.passed.items step.cpu.0 from → script steps step.cpu.0 ≡ script (take from steps) step.cpu.0 → IsNextStep g es step → ⊥
+  none-found step from low read same = none-next step (none-left step.cpu.0 from low (at_place step.cpu.0 from low read) same)
+
+  -- a processor with no step left
+  pub none-of : (q from : ℕ) → q < f.cpus → from ≡ get_or f.passed.items q from → script steps q ≡ script (take from steps) q → script (steps_given g.setup.drive) q ≡ script (steps_of es) q
+  none-of q from low read same = none-left q from low (at_place q from low read) same
+
+  -- a step is left where one is found
+  pub some-left : (q from j : ℕ) → q < f.cpus → from ≡ get_or f.passed.items q from → IsNextAt steps from q j → script (steps_given g.setup.drive) q ≡ script (steps_of es) q → ⊥
+  some-left q from j low read n none =
+      let d : Step = record { cpu = record { 0 = 0 }; tick = record { 0 = 0 }; act = acts.Tick } in
+      let x : Step = get_or steps j d in
+      let is : x ≡ get_or steps j x = get_or_default steps j d x n.there in
+      longer (script (steps_of es) q) (script (drop (j + 1) steps) q) x (sym none ∙ whole q from j x low (at_place q from low read) n is)

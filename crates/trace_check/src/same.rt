@@ -1,0 +1,21 @@
+//! Steps and replies that are the same.
+ghost use Rattle.std.specs.Prelude.{◌≡◌, true, false};
+
+use rt_history::Reply;
+use rt_task::Step;
+
+/// Whether two steps are the same.
+pub(crate) fn is_same_step(a: Step, b: Step) -> bool
+    ensures same { result ≡ true → a ≡ b }
+    ensures other { result ≡ false → a ≡ b → ⊥ }
+{
+    a == b
+}
+
+/// Whether two replies are the same.
+pub(crate) fn is_same_reply(a: Reply, b: Reply) -> bool
+    ensures same { result ≡ true → a ≡ b }
+    ensures other { result ≡ false → a ≡ b → ⊥ }
+{
+    a == b
+}
