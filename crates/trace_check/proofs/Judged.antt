@@ -18,14 +18,14 @@ use Rattle.group_state.proofs.PlainGroup.{the_group}
 use Rattle.set_canonical.specs.Canonical.{canonical}
 use Rattle.trace_lines.specs.FirstLine.{first_line, format_1}
 use Rattle.trace_lines.specs.Grammar.{line_text}
-use Rattle.trace_lines.specs.Known.{known_of, IsLine}
+use Rattle.trace_lines.specs.Known.{known_of}
 use Rattle.trace_lines.specs.Lines.{Line, entry_line, group_line, end_line}
 use Rattle.trace_text.specs.TraceText.{entry_lines, lines_from, links_at, trace_text}
 use Rattle.trace_text.proofs.GroupLaws.{first_group}
 use Rattle.trace_read.specs.Reads.{HasHead, AreLines, IsTraceOf, stop_at}
 use Rattle.trace_read.proofs.LineLaws.{lines-unique}
 use Rattle.trace_laws.specs.Scripts.{ArePlays, IsPlayOf}
-use Rattle.trace_laws.specs.ValidTexts.{BeginAlike, IsBegun, IsValidText, entry_count}
+use Rattle.trace_laws.specs.ValidTexts.{IsBegun, IsValidText}
 use Rattle.trace_laws.proofs.Alike.{AgreeThrough, alike-head, alike-made, alike-one_head, alike-take}
 use Rattle.trace_laws.proofs.Completion.{completed}
 use Rattle.trace_laws.proofs.Heads.{head-unique, trace-begins, trace-head}
