@@ -10,7 +10,7 @@ use Rattle.rt_task.specs.Validity.{IsValid}
 use Rattle.rt_history.specs.declared.Entry.{Entry}
 use Rattle.rt_model.specs.Group.{Group, group_processors}
 use Rattle.rt_model.specs.Past.{Past}
-use Rattle.rt_model.specs.Histories.{after, changed, past_of}
+use Rattle.rt_model.specs.Histories.{after, changed, past_of, reply_to}
 use Rattle.group_state.specs.Built.{is_built}
 use Rattle.group_state.specs.Groups.{IsGroupOf}
 use Rattle.group_state.proofs.Plain.{plain-set}
@@ -18,14 +18,14 @@ use Rattle.group_state.proofs.PlainGroup.{the_group}
 use Rattle.set_canonical.specs.Canonical.{canonical}
 use Rattle.trace_lines.specs.FirstLine.{first_line, format_1}
 use Rattle.trace_lines.specs.Grammar.{line_text}
-use Rattle.trace_lines.specs.Known.{known_of, IsLine}
+use Rattle.trace_lines.specs.Known.{known_of}
 use Rattle.trace_lines.specs.Lines.{Line, entry_line, group_line, end_line}
 use Rattle.trace_text.specs.TraceText.{entry_lines, lines_from, links_at, trace_text}
 use Rattle.trace_text.proofs.GroupLaws.{first_group}
 use Rattle.trace_read.specs.Reads.{HasHead, AreLines, IsTraceOf, stop_at}
 use Rattle.trace_read.proofs.LineLaws.{lines-unique}
 use Rattle.trace_laws.specs.Scripts.{ArePlays, IsPlayOf}
-use Rattle.trace_laws.specs.ValidTexts.{BeginAlike, IsBegun, IsValidText, entry_count}
+use Rattle.trace_laws.specs.ValidTexts.{IsBegun, IsValidText}
 use Rattle.trace_laws.proofs.Alike.{AgreeThrough, alike-head, alike-made, alike-one_head, alike-take}
 use Rattle.trace_laws.proofs.Completion.{completed}
 use Rattle.trace_laws.proofs.Heads.{head-unique, trace-begins, trace-head}
@@ -35,11 +35,7 @@ use Rattle.trace_laws.proofs.PartLaws.{IsPartOf, part-first}
 use Rattle.trace_laws.proofs.Plays.{plays-of-one}
 use Rattle.trace_laws.proofs.ReadBack.{are-lines}
 use Rattle.trace_check.specs.Verdicts.{IsInvalid}
-use Rattle.trace_check.proofs.NextLine.{lines_so_far, next_line, lines_so_far-more, length-so_far, whole-lines, length-whole, HasNext, HasEnd, next-line}
-
--- the one group of a set that is built
-abbrev pub group_0 : Parts → Group
-group_0 p = record { setup = p; number = 0 }
+use Rattle.trace_check.proofs.NextLine.{group_0, lines_so_far, next_line, lines_so_far-more, length-so_far, whole-lines, length-whole, HasNext, HasEnd, next-line}
 
 -- ---- lists that agree
 
@@ -195,6 +191,40 @@ module _ (p : Parts) (valid : IsValid p) (built : is_built p ≡ true) where
             let low : length lines ≤ m = grind (arith, nat_tests, e) in
             let so_far : take m (lines_so_far (group_0 p) es) ≡ lines_so_far (group_0 p) es' ++ end_line ∷ [] = sym right ∙ take_all m lines low ∙ is ∙ whole-lines p es' valid built play in
             some-end (lines_so_far (group_0 p) es') (subst (All IsNoEnd) so_far (All-take IsNoEnd m (lines_so_far (group_0 p) es) (so_far-no_end (group_0 p) es)))
+
+    -- the line after the head is not the group's
+    pub wrong-first : (d : Line) → r.set_text ≡ canonical p → (1 ≤ length lines → get_or lines 0 d ≡ group_line 0 (links_at (group_0 p) [] (group_processors (group_0 p))) → ⊥) → IsInvalid p bytes 3
+    wrong-first d same wrong = stopped 0 [] same (part-first (group_0 p)) (omega arith) (omega arith) refl not_right
+      where
+        not_right : (es' : List Entry) → IsPlayOf (group_0 p) es' → 1 ≤ length lines → 1 ≤ length (lines_from p 0 (es' ∷ [])) → take 1 lines ≡ take 1 (lines_from p 0 (es' ∷ [])) → ⊥
+        not_right es' play some some' first =
+            let those : List Line = lines_from p 0 (es' ∷ []) in
+            let here : get_or lines 0 d ≡ get_or those 0 d =
+            sym (get_or-take 1 lines 0 d (omega arith)) ∙ ap (λ (ls : List Line). get_or ls 0 d) first ∙ get_or-take 1 those 0 d (omega arith) in
+            wrong some (here ∙ ap (λ (ls : List Line). get_or ls 0 d) (whole-lines p es' valid built play))
+
+    -- the line after those of some entries is not that of an entry that may come next, nor the end of a whole history
+    pub wrong-next : (es : List Entry) (d : Line) → r.set_text ≡ canonical p → IsPartOf (group_0 p) es → length es + 1 ≤ length lines → take (length es + 1) lines ≡ lines_so_far (group_0 p) es
+        → ((e : Entry) (more : List Entry) → length es + 2 ≤ length lines → IsPlayOf (group_0 p) (es ++ e ∷ more) → e.reply ≡ reply_to (group_0 p) e.step (past_of (group_0 p) es) → get_or lines (length es + 1) d ≡ next_line (group_0 p) es e → ⊥)
+        → (length es + 2 ≤ length lines → IsPlayOf (group_0 p) es → get_or lines (length es + 1) d ≡ end_line → ⊥) → IsInvalid p bytes (length es + 4)
+    wrong-next es d same part within right no_entry no_end =
+        let all : take (length es + 1) (lines_so_far (group_0 p) es) ≡ lines_so_far (group_0 p) es = take_all (length es + 1) (lines_so_far (group_0 p) es) (omega (arith, length-so_far (group_0 p) es)) in
+        let count : length es + 1 + 3 ≡ length es + 4 = omega arith in
+        subst (IsInvalid p bytes) count (stopped (length es + 1) es same part (omega arith) within (right ∙ sym all) not_right)
+      where
+        by_case : (es' : List Entry) (line : Line) → IsPlayOf (group_0 p) es' → length es + 2 ≤ length lines → get_or lines (length es + 1) d ≡ line → HasNext (group_0 p) es es' line ⊎ HasEnd es es' line → ⊥
+        by_case es' line play more here (inl h) = no_entry h.entry h.more more (subst (IsPlayOf (group_0 p)) h.is_longer play) h.reply_is (here ∙ h.line_is)
+        by_case es' line play more here (inr h) = no_end more (subst (IsPlayOf (group_0 p)) h.is_whole play) (here ∙ h.line_is)
+
+        not_right : (es' : List Entry) → IsPlayOf (group_0 p) es' → length es + 1 + 1 ≤ length lines → length es + 1 + 1 ≤ length (lines_from p 0 (es' ∷ []))
+            → take (length es + 1 + 1) lines ≡ take (length es + 1 + 1) (lines_from p 0 (es' ∷ [])) → ⊥
+        not_right es' play more more' agree =
+            let those : List Line = lines_from p 0 (es' ∷ []) in
+            let first : take (length es + 1) those ≡ lines_so_far (group_0 p) es =
+            sym (take-take (length es + 1) (length es + 1 + 1) those (omega arith)) ∙ ap (take (length es + 1)) (sym agree) ∙ take-take (length es + 1) (length es + 1 + 1) lines (omega arith) ∙ right in
+            let here : get_or lines (length es + 1) d ≡ get_or those (length es + 1) d =
+            sym (get_or-take (length es + 1 + 1) lines (length es + 1) d (omega arith)) ∙ ap (λ (ls : List Line). get_or ls (length es + 1) d) agree ∙ get_or-take (length es + 1 + 1) those (length es + 1) d (omega arith) in
+            by_case es' (get_or those (length es + 1) d) play (omega arith) here (next-line p es es' d valid built play (omega arith) first)
 
     -- ---- the text ends
 

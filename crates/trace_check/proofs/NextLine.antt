@@ -1,19 +1,27 @@
 -- The lines of a history of a set that is built, entry by entry, and which line may come after some of them.
-use Rattle.std.proofs.Common.{◌≡◌, ℕ, suc, ◌+◌, ◌≤◌, ◌⊎◌, true, List, [], ◌∷◌, ◌++◌, length, take, get_or, refl, sym, ap, ◌∙◌, subst, arith, append-nil, append_assoc, length-append, inl, inr}
-use Rattle.std.proofs.lemmas.List.{take-append-le}
+use Rattle.std.proofs.Common.{◌≡◌, ℕ, suc, ◌+◌, ◌<◌, ◌≤◌, ◌⊎◌, true, List, [], ◌∷◌, ◌++◌, length, take, get_or, refl, sym, ap, ◌∙◌, subst, arith, append-nil, append_assoc, length-append, inl, inr}
+use Rattle.std.proofs.lemmas.List.{map-append, take-append-le, take_more}
 use Rattle.std.proofs.Math.Seq.{get_or-append_seam}
 use Rattle.rt_task.specs.declared.Parts.{Parts}
 use Rattle.rt_task.specs.Validity.{IsValid}
+use Rattle.rt_task.specs.declared.Step.{Step}
 use Rattle.rt_history.specs.declared.Entry.{Entry}
+use Rattle.rt_rules.proofs.MemberLaws.{equal_self}
 use Rattle.rt_model.specs.Group.{Group, group_processors}
 use Rattle.rt_model.specs.Past.{Past}
 use Rattle.rt_model.specs.Histories.{after, changed, past_from, past_of, reply_to, IsLegalFrom}
 use Rattle.group_state.specs.Built.{is_built}
+use Rattle.group_state.specs.Groups.{IsProcessorOf}
 use Rattle.trace_lines.specs.Lines.{Line, group_line, entry_line, end_line}
 use Rattle.trace_text.specs.TraceText.{block_lines, entry_lines, group_lines, lines_from, links_at}
 use Rattle.trace_text.proofs.LineLaws.{blocks_none}
-use Rattle.trace_laws.specs.Scripts.{IsPlayOf}
+use Rattle.trace_laws.specs.Scripts.{IsPlayOf, script, steps_given, steps_of}
 use Rattle.trace_laws.proofs.Plays.{play-is-played}
+use Rattle.trace_laws.proofs.PartLaws.{script-append}
+
+-- the one group of a set that is built
+abbrev pub group_0 : Parts → Group
+group_0 p = record { setup = p; number = 0 }
 
 -- the group line and one line for each entry
 abbrev pub lines_so_far : Group → List Entry → List Line
@@ -62,18 +70,18 @@ lines_so_far-append g es e =
     ∙ ap (λ (ls : List Line). lines_so_far g es ++ ls) (entry_lines-next g es e [] ∙ ap (λ (ls : List Line). next_line g es e ∷ ls) (entry_lines-none g (length es + 1) (after g e.step (past_of g es))))
 
 -- all the lines of a whole history: no semaphore is asked for
-pub whole-lines : (p : Parts) (es : List Entry) → IsValid p → is_built p ≡ true → IsPlayOf (record { setup = p; number = 0 }) es
-    → lines_from p 0 (es ∷ []) ≡ lines_so_far (record { setup = p; number = 0 }) es ++ end_line ∷ []
+pub whole-lines : (p : Parts) (es : List Entry) → IsValid p → is_built p ≡ true → IsPlayOf (group_0 p) es
+    → lines_from p 0 (es ∷ []) ≡ lines_so_far (group_0 p) es ++ end_line ∷ []
 unfolding group_lines
 whole-lines p es valid built play =
-    let g : Group = record { setup = p; number = 0 } in
+    let g : Group = group_0 p in
     let none : block_lines g (past_of g es) ≡ [] = blocks_none g es (play-is-played p es valid built play) in
     ap (λ (bs : List Line). (group_line 0 (links_at g [] (group_processors g)) ∷ (entry_lines g 0 [] es ++ bs)) ++ end_line ∷ []) none
     ∙ ap (λ (ls : List Line). (group_line 0 (links_at g [] (group_processors g)) ∷ ls) ++ end_line ∷ []) (append-nil (entry_lines g 0 [] es))
 
-pub length-whole : (p : Parts) (es : List Entry) → IsValid p → is_built p ≡ true → IsPlayOf (record { setup = p; number = 0 }) es → length (lines_from p 0 (es ∷ [])) ≡ length es + 2
+pub length-whole : (p : Parts) (es : List Entry) → IsValid p → is_built p ≡ true → IsPlayOf (group_0 p) es → length (lines_from p 0 (es ∷ [])) ≡ length es + 2
 length-whole p es valid built play =
-    let g : Group = record { setup = p; number = 0 } in
+    let g : Group = group_0 p in
     omega (arith, ap length (whole-lines p es valid built play), length-append (lines_so_far g es) (end_line ∷ []), length-so_far g es)
 
 -- ---- the line after some
@@ -98,10 +106,10 @@ second_lines : (l m : Line) (ls ms : List Line) → l ∷ ls ≡ m ∷ ms → ls
 second_lines l m ls ms h = cc
 
 -- a whole history whose first lines are those of some entries begins with them
-pub begins-so : (p : Parts) (es es' : List Entry) → IsValid p → is_built p ≡ true → IsPlayOf (record { setup = p; number = 0 }) es' → length es ≤ length es'
-    → take (length es + 1) (lines_from p 0 (es' ∷ [])) ≡ lines_so_far (record { setup = p; number = 0 }) es → (rest : List Entry) × (es' ≡ es ++ rest)
+pub begins-so : (p : Parts) (es es' : List Entry) → IsValid p → is_built p ≡ true → IsPlayOf (group_0 p) es' → length es ≤ length es'
+    → take (length es + 1) (lines_from p 0 (es' ∷ [])) ≡ lines_so_far (group_0 p) es → (rest : List Entry) × (es' ≡ es ++ rest)
 begins-so p es es' valid built play few same =
-    let g : Group = record { setup = p; number = 0 } in
+    let g : Group = group_0 p in
     let n : length es + 1 ≡ suc (length es) = omega arith in
     let within : length es + 1 ≤ length (lines_so_far g es') = omega (arith, few, length-so_far g es') in
     let so_far : take (length es + 1) (lines_so_far g es') ≡ lines_so_far g es = sym (take-append-le (length es + 1) (lines_so_far g es') (end_line ∷ []) within) ∙ ap (take (length es + 1)) (sym (whole-lines p es' valid built play)) ∙ same in
@@ -126,9 +134,9 @@ pub record HasEnd (es es' : List Entry) (line : Line) : Type 0 where
   pub is_whole : es' ≡ es
   pub line_is : line ≡ end_line
 
-pub next-line : (p : Parts) (es es' : List Entry) (d : Line) → IsValid p → is_built p ≡ true → IsPlayOf (record { setup = p; number = 0 }) es' → length es + 2 ≤ length (lines_from p 0 (es' ∷ []))
-    → take (length es + 1) (lines_from p 0 (es' ∷ [])) ≡ lines_so_far (record { setup = p; number = 0 }) es
-    → HasNext (record { setup = p; number = 0 }) es es' (get_or (lines_from p 0 (es' ∷ [])) (length es + 1) d) ⊎ HasEnd es es' (get_or (lines_from p 0 (es' ∷ [])) (length es + 1) d)
+pub next-line : (p : Parts) (es es' : List Entry) (d : Line) → IsValid p → is_built p ≡ true → IsPlayOf (group_0 p) es' → length es + 2 ≤ length (lines_from p 0 (es' ∷ []))
+    → take (length es + 1) (lines_from p 0 (es' ∷ [])) ≡ lines_so_far (group_0 p) es
+    → HasNext (group_0 p) es es' (get_or (lines_from p 0 (es' ∷ [])) (length es + 1) d) ⊎ HasEnd es es' (get_or (lines_from p 0 (es' ∷ [])) (length es + 1) d)
 unfolding past_of
 next-line p es es' d valid built play within same =
     let few : length es ≤ length es' = omega (arith, within, length-whole p es' valid built play) in
@@ -136,7 +144,7 @@ next-line p es es' d valid built play within same =
     by_rest begun.0 begun.1
   where
     g : Group
-    g = record { setup = p; number = 0 }
+    g = group_0 p
 
     lines : List Line
     lines = lines_from p 0 (es' ∷ [])
@@ -161,3 +169,36 @@ next-line p es es' d valid built play within same =
           line_is = after_those (next_line g es x) (others ++ end_line ∷ []) parts;
           reply_is = legal-next g [] es x more (subst (IsLegalFrom g []) e play.legal);
         })
+
+-- its step is the next of its processor's script
+pub next-of_script : (g : Group) (es : List Entry) (e : Entry) (more : List Entry) → IsPlayOf g (es ++ e ∷ more)
+    → script (steps_given g.setup.drive) e.step.cpu.0 ≡ script (steps_of es) e.step.cpu.0 ++ e.step ∷ script (steps_of more) e.step.cpu.0
+next-of_script g es e more play =
+    let inside : length es < length (es ++ e ∷ more) = omega (arith, length-append es (e ∷ more)) in
+    let there : IsProcessorOf g e.step.cpu.0 = subst (λ (x : Entry). IsProcessorOf g x.step.cpu.0) (get_or-append_seam es e more e) (play.at_home (length es) e inside) in
+    let parts : script (steps_of (es ++ e ∷ more)) e.step.cpu.0 ≡ script (steps_of es) e.step.cpu.0 ++ script (steps_of (e ∷ more)) e.step.cpu.0 =
+    ap (λ (ss : List Step). script ss e.step.cpu.0) (map-append (λ (x : Entry). x.step) es (e ∷ more)) ∙ script-append (steps_of es) (steps_of (e ∷ more)) e.step.cpu.0 in
+    let own : script (steps_of (e ∷ more)) e.step.cpu.0 ≡ e.step ∷ script (steps_of more) e.step.cpu.0 = rw (equal_self e.step.cpu.0) refl in
+    sym (play.scripts e.step.cpu.0 there) ∙ parts ∙ ap (λ (ss : List Step). script (steps_of es) e.step.cpu.0 ++ ss) own
+
+-- ---- one line more is right
+
+pub so_far-first : (g : Group) (lines : List Line) (d : Line) → 1 ≤ length lines → get_or lines 0 d ≡ group_line g.number (links_at g [] (group_processors g)) → take 1 lines ≡ lines_so_far g []
+so_far-first g lines d some same =
+    take_more lines 0 d (omega arith) ∙ ap (λ (l : Line). l ∷ []) same ∙ ap (λ (ls : List Line). group_line g.number (links_at g [] (group_processors g)) ∷ ls) (sym (entry_lines-none g 0 []))
+
+-- the lines of some entries, and one more
+so_far-line : (g : Group) (es : List Entry) (lines : List Line) (d l : Line) → length es + 2 ≤ length lines → take (length es + 1) lines ≡ lines_so_far g es → get_or lines (length es + 1) d ≡ l → take (length es + 2) lines ≡ lines_so_far g es ++ l ∷ []
+so_far-line g es lines d l more right same =
+    let count : length es + 2 ≡ length es + 1 + 1 = omega arith in
+    ap (λ (n : ℕ). take n lines) count ∙ take_more lines (length es + 1) d (omega arith) ∙ ap (λ (ls : List Line). ls ++ get_or lines (length es + 1) d ∷ []) right ∙ ap (λ (x : Line). lines_so_far g es ++ x ∷ []) same
+
+pub so_far-next : (g : Group) (es : List Entry) (e : Entry) (lines : List Line) (d : Line) → length es + 2 ≤ length lines → take (length es + 1) lines ≡ lines_so_far g es → get_or lines (length es + 1) d ≡ next_line g es e
+    → take (length (es ++ e ∷ []) + 1) lines ≡ lines_so_far g (es ++ e ∷ [])
+so_far-next g es e lines d more right same =
+    let count : length (es ++ e ∷ []) + 1 ≡ length es + 2 = omega (arith, length-append es (e ∷ [])) in
+    ap (λ (n : ℕ). take n lines) count ∙ so_far-line g es lines d (next_line g es e) more right same ∙ sym (lines_so_far-append g es e)
+
+pub so_far-end : (g : Group) (es : List Entry) (lines : List Line) (d : Line) → length es + 2 ≤ length lines → take (length es + 1) lines ≡ lines_so_far g es → get_or lines (length es + 1) d ≡ end_line
+    → take (length es + 2) lines ≡ lines_so_far g es ++ end_line ∷ []
+so_far-end g es lines d more right same = so_far-line g es lines d end_line more right same
