@@ -10,7 +10,9 @@ use std::test::Fail;
 const HEAD: &[u8] =
     b"rtsched trace 1\nset {\"clusters\":[{\"cpus\":2,\"group\":0}],\"plugin\":\"GSN-EDF\",\"resvs\":[],\"sems\":[{\"name\":\"S\",\"protocol\":\"OMLP\"}],\"steps\":[[0,0,\"tick\"],[0,0,\"irq\"],[0,0,\"irq\"]],\"tasks\":[{\"body\":[],\"cluster\":0,\"cost\":1,\"deadline\":5,\"enforce\":false,\"kind\":\"periodic\",\"name\":\"A\",\"period\":10,\"phase\":0,\"prio\":511,\"resv\":null,\"uses\":[]},{\"body\":[],\"cluster\":0,\"cost\":1,\"deadline\":7,\"enforce\":false,\"kind\":\"periodic\",\"name\":\"B\",\"period\":10,\"phase\":0,\"prio\":511,\"resv\":null,\"uses\":[]}]}\n";
 
-const LINES: &str = "group 0 0:1 1:2\n0 0 0 tick done\n1 0 0 irq runs 1\n2 0 0 irq quiet\nend\n";
+/// The example of the document of formats.
+const EXAMPLE: &[u8] =
+    b"rtsched trace 1\nset {\"clusters\":[{\"cpus\":2,\"group\":0}],\"plugin\":\"GSN-EDF\",\"resvs\":[],\"sems\":[],\"steps\":[[0,0,\"tick\"],[0,0,\"irq\"],[0,0,\"irq\"]],\"tasks\":[{\"body\":[],\"cluster\":0,\"cost\":1,\"deadline\":5,\"enforce\":false,\"kind\":\"periodic\",\"name\":\"A\",\"period\":10,\"phase\":0,\"prio\":511,\"resv\":null,\"uses\":[]},{\"body\":[],\"cluster\":0,\"cost\":1,\"deadline\":7,\"enforce\":false,\"kind\":\"periodic\",\"name\":\"B\",\"period\":10,\"phase\":0,\"prio\":511,\"resv\":null,\"uses\":[]},{\"body\":[],\"cluster\":0,\"cost\":1,\"deadline\":9,\"enforce\":false,\"kind\":\"periodic\",\"name\":\"C\",\"period\":10,\"phase\":0,\"prio\":511,\"resv\":null,\"uses\":[]}]}\ngroup 0 0:1 1:2\n0 0 0 tick done\n1 0 0 irq runs 1\n2 0 0 irq quiet\nend\n";
 
 fn read_lines(alloc: Global, lines: &str) -> Result<Trace, Fail> {
     let mut bytes = HEAD.to_vec(alloc)?;
@@ -20,8 +22,8 @@ fn read_lines(alloc: Global, lines: &str) -> Result<Trace, Fail> {
 
 #[test]
 fn reads_a_whole_trace(rt: HostRuntime) -> Result<(), Fail> {
-    let trace = read_lines(rt.alloc(), LINES)?;
-    assert_eq!(rt; trace.setup.parts().tasks.as_slice().len(), 2);
+    let trace = read_trace(rt.alloc(), EXAMPLE)?;
+    assert_eq!(rt; trace.setup.parts().tasks.as_slice().len(), 3);
     assert_eq!(rt; trace.stop, None);
     match trace.lines.as_slice() {
         [
