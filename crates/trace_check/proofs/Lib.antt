@@ -2,3 +2,5 @@ pub mod LinkLists
 pub mod NextLine
 pub mod Judged
 pub mod Nexts
+pub mod Accepting
+pub mod Judging

@@ -1,22 +1,31 @@
 -- The next step of a processor, and what opens a group's following.
 use Rattle.std.proofs.Common.{◌≡◌, ℕ, zero, suc, ◌+◌, ◌-◌, ◌<◌, ◌≤◌, ◌==◌, Bool, true, false, List, [], ◌∷◌, ◌++◌, length, take, drop, get_or, refl, sym, ap, ◌∙◌, subst, arith, append_assoc, length-append}
-use Rattle.std.specs.Prelude.{All}
-use Rattle.std.proofs.lemmas.List.{get_or_default}
+use Rattle.std.specs.Prelude.{All, replicate}
+use Rattle.std.proofs.lemmas.List.{get_or_default, length-replicate}
 use Rattle.rt_task.specs.declared.Act.TheVariants as acts
+use Rattle.rt_task.specs.declared.Parts.{Parts}
 use Rattle.rt_task.specs.declared.Step.{Step}
+use Rattle.rt_task.specs.Validity.{IsValid}
+use Rattle.rt_rules.specs.Numbers.{numbers_from}
 use Rattle.rt_history.specs.declared.Entry.{Entry}
-use Rattle.rt_model.specs.Group.{Group, cpus}
-use Rattle.group_state.specs.Groups.{IsProcessorOf}
+use Rattle.rt_model.specs.Group.{Group, cpus, group_processors}
+use Rattle.rt_model.specs.Past.{Past}
+use Rattle.rt_model.specs.Histories.{past_of, past_from}
+use Rattle.group_state.specs.Built.{is_built}
+use Rattle.group_state.specs.Groups.{IsGroupOf, IsProcessorOf}
+use Rattle.rank_afresh.specs.Standing.{Standing, IsAt, group_of}
+use Rattle.trace_lines.specs.Lines.{links_of}
+use Rattle.trace_text.specs.TraceText.{links_at}
 use Rattle.group_state.specs.State.{IsPlayed}
 use Rattle.group_state.proofs.PlainGroup.{IsPlainGroup}
 use Rattle.group_state.proofs.Limits.{plain}
 use Rattle.group_state.proofs.Stepping.{inside}
 use Rattle.trace_text.proofs.GroupLaws.{processor_there}
 use Rattle.trace_laws.specs.Scripts.{script, steps_given, steps_of}
-use Rattle.trace_laws.proofs.PartLaws.{script-take-next, script-take-drop}
+use Rattle.trace_laws.proofs.PartLaws.{script-take-next, script-take-drop, part-first}
 use Rattle.trace_check.specs.declared.follow.Follow.{Follow}
 use Rattle.trace_check.specs.Next.{IsNextAt}
-use Rattle.trace_check.specs.Following.{IsFollowing, IsFollowingWith, IsPassed, IsNextPlace, IsNextStep, IsOver, Place}
+use Rattle.trace_check.specs.Following.{first_group, IsFollowing, IsFollowingWith, IsPassed, IsNextPlace, IsNextStep, IsOver, Place}
 
 -- the processors of such a group
 pub home : (g : Group) (q : ℕ) → IsPlayed g → q < cpus g 0 → IsProcessorOf g q
@@ -86,6 +95,7 @@ module _ (at : Place) (steps : List Step) (f : Follow) (fw : IsFollowingWith at 
       record {
         next = record { home = at_home step.cpu.0 low; more = script (drop (j + 1) steps) step.cpu.0; next = whole step.cpu.0 from j step low at_it n (sym same) };
         there = subst (λ (ss : List Step). j < length ss) fw.steps_are n.there;
+        step_is = λ d. ap (λ (ss : List Step). get_or ss j d) (sym fw.steps_are) ∙ get_or_default steps j d step n.there ∙ same;
         taken = ap (λ (ss : List Step). script (take (j + 1) ss) step.cpu.0) (sym fw.steps_are) ∙ goes-on step.cpu.0 from j step low at_it n (sym same);
       }
 
@@ -111,3 +121,56 @@ module _ (at : Place) (steps : List Step) (f : Follow) (fw : IsFollowingWith at 
       let x : Step = get_or steps j d in
       let is : x ≡ get_or steps j x = get_or_default steps j d x n.there in
       longer (script (steps_of es) q) (script (drop (j + 1) steps) q) x (sym none ∙ whole q from j x low (at_place q from low read) n is)
+
+-- ---- opening
+
+zero-at : (m q : ℕ) → ◌≡◌ {A = ℕ} (get_or (replicate m 0) q 0) 0
+zero-at zero q = refl
+zero-at (suc m) zero = refl
+zero-at (suc m) (suc q) = zero-at m q
+
+past-none : (g : Group) → past_of g [] ≡ []
+unfolding past_of past_from
+past-none g = refl
+
+-- what was made at opening
+pub record IsMadeOf (p : Parts) (f : Follow) : Type 0 where
+  pub valid : IsValid p
+  pub built : is_built p ≡ true
+  pub there : IsGroupOf p 0
+  pub setup_is : f.afresh.setup ≡ p
+  pub group_is : f.afresh.group ≡ 0
+  pub spare_is : f.afresh.spare ≡ 200000
+  pub at : IsAt f.afresh []
+  pub cpus_are : f.cpus ≡ cpus (first_group p) 0
+  pub links_are : (past : Past) → IsAt f.afresh past → links_of f.links.items ≡ links_at (group_of f.afresh) past (numbers_from 0 f.cpus)
+  pub passed_are : f.passed.items ≡ replicate f.cpus 0
+  pub count_is : f.count ≡ 0
+
+pub group-made : (p : Parts) (v : Standing) → v.setup ≡ p → v.group ≡ 0 → group_of v ≡ first_group p
+group-made p v e n = ap (λ (q : Parts). let x : Group = record { setup = q; number = v.group } in x) e ∙ ap (λ k. let x : Group = record { setup = p; number = k } in x) n
+
+pub following-first : (p : Parts) (f : Follow) → IsMadeOf p f → IsFollowing (first_group p) [] f
+following-first p f m =
+    let played : IsPlayed (first_group p) = record { valid = m.valid; built = m.built; is_there = m.there } in
+    let s : IsPlainGroup (first_group p) = plain (first_group p) played in
+    let same : group_of f.afresh ≡ first_group p = group-made p f.afresh m.setup_is m.group_is in
+    record {
+      played = played;
+      part = part-first (first_group p);
+      at = subst (λ past. IsAt f.afresh past) (sym (past-none (first_group p))) m.at;
+      group_is = same;
+      count_is = m.count_is;
+      spare_is = omega (arith, m.spare_is);
+      cpus_are = m.cpus_are;
+      links_are =
+          m.links_are [] m.at ∙ ap (λ (g : Group). links_at g [] (numbers_from 0 f.cpus)) same ∙ ap (λ n. links_at (first_group p) [] (numbers_from 0 n)) m.cpus_are
+          ∙ ap (λ qs. links_at (first_group p) [] qs) (sym s.processors_are) ∙ ap (λ past. links_at (first_group p) past (group_processors (first_group p))) (sym (past-none (first_group p)));
+      passed_length = ap length m.passed_are ∙ length-replicate f.cpus 0 ∙ m.cpus_are;
+      passed_are = λ q low. passed q;
+    }
+  where
+    passed : (q : ℕ) → IsPassed (steps_given p.drive) [] q (get_or f.passed.items q 0)
+    passed q =
+        let none : get_or f.passed.items q 0 ≡ 0 = ap (λ (ns : List ℕ). get_or ns q 0) m.passed_are ∙ zero-at f.cpus q in
+        subst (λ n. IsPassed (steps_given p.drive) [] q n) (sym none) (record { within = omega arith; taken = refl })

@@ -1,5 +1,6 @@
 -- A group's lines, followed step by step, as contracts see it.
-use Rattle.std.specs.Prelude.{◌≡◌, true, ℕ, ◌+◌, ◌<◌, ◌≤◌, List, [], ◌∷◌, ◌++◌, length, take, slice_index}
+use Rattle.std.specs.Prelude.{◌≡◌, true, ℕ, ◌+◌, ◌<◌, ◌≤◌, List, [], ◌∷◌, ◌++◌, length, take, slice_index, slice_index_or}
+use Rattle.rt_task.specs.declared.Parts.{Parts}
 use Rattle.rt_task.specs.declared.Step.{Step}
 use Rattle.rt_history.specs.declared.Entry.{Entry}
 use Rattle.rt_model.specs.Group.{Group, cpus, group_processors}
@@ -18,6 +19,10 @@ use Rattle.trace_check.specs.declared.follow.Follow.{Follow}
 pub record IsPassed (steps : List Step) (es : List Entry) (q passed : ℕ) : Type 0 where
   pub within : passed ≤ length steps
   pub taken : script (take passed steps) q ≡ script (steps_of es) q
+
+-- the one group of a set that is played
+abbrev pub first_group : Parts → Group
+first_group p = record { setup = p; number = 0 }
 
 -- these entries of the group were followed
 pub record IsFollowing (g : Group) (es : List Entry) (f : Follow) : Type 0 where
@@ -70,4 +75,10 @@ IsOver g es = (q : ℕ) → IsProcessorOf g q → script (steps_given g.setup.dr
 pub record IsNextPlace (g : Group) (es : List Entry) (step : Step) (j : ℕ) : Type 0 where
   pub next : IsNextStep g es step
   pub there : j < length (steps_given g.setup.drive)
+  pub step_is : (d : Step) → slice_index_or (steps_given g.setup.drive) j d ≡ step
   pub taken : script (take (j + 1) (steps_given g.setup.drive)) step.cpu.0 ≡ script (steps_of es) step.cpu.0 ++ step ∷ []
+
+-- the entry was the next one, and is followed now
+pub record IsAccepted (at : Place) (no : ℕ) (e : Entry) (links : List Link) (f : Follow) : Type 0 where
+  pub next : IsNextEntry at.group at.entries no e links
+  pub following : IsFollowing at.group (at.entries ++ e ∷ []) f

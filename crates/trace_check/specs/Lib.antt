@@ -1,5 +1,5 @@
 pub mod Verdicts
 pub mod Next
 pub mod SameLinks
-pub mod Judged
 pub mod Following
+pub mod Judging

@@ -7,8 +7,7 @@ ghost use Rattle.group_state.specs.Groups.{IsGroupOf};
 ghost use Rattle.rank_afresh.specs.Standing.{IsAt, group_of};
 ghost use Rattle.trace_lines.specs.Lines.{links_of};
 ghost use Rattle.trace_laws.specs.Scripts.{steps_given};
-ghost use Rattle.trace_check.specs.Judged.{first_group};
-ghost use Rattle.trace_check.specs.Following.{CanStep, IsFollowing, IsFollowingWith, IsNextEntry, IsNextPlace, IsNextStep, IsOver, Place};
+ghost use Rattle.trace_check.specs.Following.{CanStep, first_group, IsAccepted, IsFollowing, IsFollowingWith, IsNextEntry, IsNextPlace, IsNextStep, IsOver, Place};
 
 use crate::links::{are_same, read_changed, read_links};
 use crate::room::places;
@@ -100,5 +99,51 @@ impl Follow {
     {
         self.afresh.clock(step.tick);
         self.afresh.act(step)
+    }
+
+    /// Whether an entry line, by its number, its entry and its links, is the next one that is right. Where it is, its step
+    /// was taken.
+    pub(crate) fn accepts(
+        &mut self,
+        steps: &[Step],
+        no: u32,
+        entry: &Entry,
+        links: &[CpuLink],
+    ) -> Result<bool, NoMemory>
+        requires { (at : Place) × IsFollowingWith at steps.now self.old }
+        ensures accepted { IfOk result (λ b. (at : Place) → IsFollowingWith at steps.now self.old → b ≡ true → IsAccepted at no entry.now (links_of links.now) self.new) }
+        ensures refused { IfOk result (λ b. (at : Place) → IsFollowingWith at steps.now self.old → b ≡ false → IsNextEntry at.group at.entries no entry.now (links_of links.now) → ⊥) }
+    {
+        if no != self.count {
+            return Ok(false);
+        }
+        let Some(j) = self.place_of(steps, entry.step) else {
+            return Ok(false);
+        };
+        if !is_same_reply(self.step(entry.step), entry.reply) {
+            return Ok(false);
+        }
+        read_changed(&self.afresh, self.links.as_slice(), &mut self.changed)?;
+        if !are_same(self.changed.as_slice(), links) {
+            return Ok(false);
+        }
+        read_links(&self.afresh, self.cpus, &mut self.links)?;
+        self.passed[entry.step.cpu.0 as usize] = j + 1;
+        self.count += 1;
+        Ok(true)
+    }
+
+    /// The links now.
+    pub(crate) fn links(&self) -> &[CpuLink]
+        ensures { result.now ≡ self.now.links.items }
+    {
+        self.links.as_slice()
+    }
+
+    /// How many entries were followed.
+    pub(crate) fn count(&self) -> u32
+        ensures { result ≡ self.now.count }
+    {
+        self.count
     }
 }

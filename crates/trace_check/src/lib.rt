@@ -8,6 +8,7 @@ ghost use Rattle.trace_read.specs.Reads.{IsTraceOf};
 ghost use Rattle.trace_check.specs.Verdicts.{IsVerdict};
 
 mod follow;
+mod judge;
 mod links;
 mod room;
 mod same;
