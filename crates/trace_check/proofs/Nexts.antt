@@ -129,7 +129,7 @@ zero-at zero q = refl
 zero-at (suc m) zero = refl
 zero-at (suc m) (suc q) = zero-at m q
 
-past-none : (g : Group) → past_of g [] ≡ []
+pub past-none : (g : Group) → past_of g [] ≡ []
 unfolding past_of past_from
 past-none g = refl
 
