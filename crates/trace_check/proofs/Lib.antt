@@ -4,3 +4,4 @@ pub mod Judged
 pub mod Nexts
 pub mod Accepting
 pub mod Judging
+pub mod HeadText

@@ -3,3 +3,4 @@ pub mod Next
 pub mod SameLinks
 pub mod Following
 pub mod Judging
+pub mod Head

@@ -5,7 +5,6 @@ ghost use Rattle.trace_read.specs.Lines.{lines_of};
 ghost use Rattle.trace_lines.specs.Lines.{links_of};
 ghost use Rattle.trace_check.specs.Following.{IsFollowingWith, Place};
 ghost use Rattle.trace_check.specs.Judging.{IsEndVerdict, IsJudged, begins_with};
-ghost use Rattle.group_state.specs.Groups.{IsGroupOf};
 
 use crate::Verdict;
 use crate::follow::Follow;
@@ -51,7 +50,6 @@ pub(crate) fn judge_lines(
     lines: &[Line],
     stop: Option<u32>,
 ) -> Result<Verdict, NoMemory>
-    requires group { IsGroupOf setup.now 0 }
     requires built { is_built setup.now ≡ true }
     ensures { IfOk result (λ v. IsJudged setup.now (lines_of lines.now) stop v) }
 {

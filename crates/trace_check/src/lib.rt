@@ -8,6 +8,7 @@ ghost use Rattle.trace_read.specs.Reads.{IsTraceOf};
 ghost use Rattle.trace_check.specs.Verdicts.{IsVerdict};
 
 mod follow;
+mod head;
 mod judge;
 mod links;
 mod room;
@@ -15,6 +16,8 @@ mod same;
 mod scripts;
 mod verdict;
 
+use head::has_head;
+use judge::judge_lines;
 use rt_base::NoMemory;
 use std::alloc::Global;
 use trace_read::Trace;
@@ -30,5 +33,8 @@ pub fn check_trace(alloc: Global, bytes: &[u8], trace: &Trace) -> Result<Verdict
     requires built { is_built trace.now.setup ≡ true }
     ensures { IfOk result (IsVerdict trace.now.setup bytes.now) }
 {
-    Err(NoMemory)
+    if !has_head(alloc, bytes, trace.setup.parts())? {
+        return Ok(Verdict::Invalid(2));
+    }
+    judge_lines(alloc, &trace.setup, trace.lines.as_slice(), trace.stop)
 }

@@ -11,9 +11,10 @@ use Rattle.trace_check.specs.declared.verdict.Verdict.{Verdict}
 use Rattle.trace_check.specs.declared.verdict.Verdict.TheVariants.{Invalid}
 use Rattle.rt_history.specs.declared.Entry.{Entry}
 use Rattle.trace_lines.specs.declared.links.CpuLink.{CpuLink}
-use Rattle.trace_check.specs.Following.{first_group, IsAccepted, IsFollowingWith, IsNextEntry, Place}
+use Rattle.trace_check.specs.Following.{IsAccepted, IsFollowingWith, IsNextEntry, Place}
 use Rattle.trace_check.specs.Judging.{IsEndVerdict, IsJudged}
 use Rattle.trace_check.proofs.Judging.{place_at, IsOtherLine, line-there, other-line, judged-first, first-right, accepted-right, refused-there, other-there, runs-out, ended-there}
+use Rattle.trace_text.proofs.GroupLaws.{first_group}
 use Rattle.trace_check.proofs.judge.judge_lines.Goals as goal
 
 pub returns-then-not-begins : goal.returns-then-not-begins
@@ -79,3 +80,6 @@ returns c =
             (subst (λ n. IsJudged c.args.setup.now (lines_of c.args.lines.now) c.args.stop (Invalid (n + 3))) count
                 (runs-out c.args.setup.now (lines_of c.args.lines.now) c.args.stop c.loop-i.i c.loop-i.follow c.loop-i.invariant (omega (arith, count, c.loop-i-test.false)))))
         c.wrong_at-2.ensures
+
+pub open-requires-clause-group : goal.open-requires-clause-group
+open-requires-clause-group c = first_group c.args.setup.now c.parts.ensures.valid c.requires.built
