@@ -5,11 +5,12 @@ use Rattle.trace_text.specs.Groups as groups
 use Rattle.trace_lines.specs.FirstLine.{format_1}
 use Rattle.trace_text.specs.TraceText.{trace_text}
 use Rattle.rtsim.specs.Order.{histories}
-use Rattle.rtsim.proofs.SimLaws.{playable-is_built, one-group, one-history, answer-complete}
+use Rattle.rtsim.proofs.EndLaws.{answer-complete}
+use Rattle.rtsim.proofs.SimLaws.{playable-is_built, one-group, one-history, can_play-told, can_play-unrefused}
 use Rattle.rtsim.proofs.play_set.play_set.Goals as goal
 
 pub returns-in-Err-clause-complete : goal.returns-in-Err-clause-complete
-returns-in-Err-clause-complete g c = λ can sure_source sure_sink. answer-complete c.read_input.result c.in-Err.status _ _ _ _ c.in-Err.is can sure_source c.read_input.ensures.never c.read_input.ensures.not_invalid c.read_input.ensures.not_usage c.read_input.ensures.no_write c.read_input.ensures.bad_input c.read_input.ensures.read_fault c.read_input.ensures.too_long
+returns-in-Err-clause-complete g c = λ can sure_source sure_sink. answer-complete c.read_input.result c.in-Err.status _ _ _ _ _ c.in-Err.is (can_play-told _ can) sure_source c.read_input.ensures.never c.read_input.ensures.not_invalid c.read_input.ensures.not_usage c.read_input.ensures.no_write (λ b k. can_play-unrefused _ _ b can (c.read_input.ensures.bad_input b k)) c.read_input.ensures.read_fault c.read_input.ensures.too_long
 
 pub play-requires : goal.play-requires
 play-requires g c = playable-is_built _ _ c.in-Ok.ensures.ok.reads
