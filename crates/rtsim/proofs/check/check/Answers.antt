@@ -1,5 +1,4 @@
 use Rattle.std.proofs.Common.{ℕ, List, subst}
-use Rattle.trace_check.specs.declared.verdict.Verdict.{Verdict}
 use Rattle.trace_check.specs.Verdicts.{IsVerdict}
 use Rattle.rtsim.proofs.EndLaws.{answer-complete}
 use Rattle.rtsim.proofs.CheckLaws.{can_check-told, can_check-unrefused, can_check-valid}

@@ -1,4 +1,4 @@
-use Rattle.std.proofs.Common.{◌≡◌, ◌≤◌, length, sym, subst, arith}
+use Rattle.std.proofs.Common.{◌≡◌, ◌≤◌, length, subst, arith}
 use Rattle.rt_base.specs.declared.TheConstants.{MOST_TRACE_BYTES}
 use Rattle.rt_task.specs.declared.bad_set.SetKind.TheVariants.{NotTrace}
 use Rattle.rt_task.specs.declared.bad_set.Part.TheVariants.{Line}
