@@ -1,4 +1,6 @@
 pub mod OrderLaws
 pub mod GivenSteps
 pub mod PlayableLaws
+pub mod EndLaws
 pub mod SimLaws
+pub mod CheckLaws

@@ -1,5 +1,5 @@
--- What a run of `sim` says of its ends.
-use Rattle.std.proofs.Common.{◌≡◌, ◌≢◌, ℕ, zero, suc, ◌+◌, ◌<◌, Bool, true, false, List, [], ◌∷◌, ◌++◌, length, map, get_or, refl, sym, ap, ◌∙◌, subst, arith, length-append}
+-- The one history of a set that is played, and what a run of `sim` cannot answer where the set can be played.
+use Rattle.std.proofs.Common.{◌≡◌, ℕ, zero, suc, ◌+◌, ◌<◌, Bool, true, false, List, [], ◌∷◌, map, get_or, refl, sym, ap, ◌∙◌, subst, arith}
 use Rattle.std.specs.Prelude.{Option, None, Some, Result, Ok, Err, IsOk, if◌then◌else◌}
 use Rattle.rt_base.specs.declared.TheConstants.{MOST_SET_BYTES}
 use Rattle.rt_task.specs.declared.Parts.{Parts}
@@ -10,10 +10,6 @@ use Rattle.rt_task.specs.declared.bad_set.Part.TheVariants as parts
 use Rattle.rt_task.specs.RuleWords.{greatest}
 use Rattle.rt_task.specs.Refusals.{bad}
 use Rattle.rt_task.specs.Validity.{IsValid}
-use Rattle.rt_fault.specs.Faults.{HasRisen}
-use Rattle.rt_fault.specs.Reading.{TakesMoreThan}
-use Rattle.rt_fault.specs.declared.status.Status.{Status}
-use Rattle.rt_fault.specs.declared.status.Status.TheVariants as ends
 use Rattle.rt_model.specs.Group.{no_cluster}
 use Rattle.set_read.specs.Sets.{set, ◌>>=◌}
 use Rattle.group_state.specs.Built.{is_built}
@@ -23,8 +19,9 @@ use Rattle.group_state.proofs.PlainGroup.{one}
 use Rattle.trace_text.specs.Groups.{AreGroupsOf}
 use Rattle.trace_text.specs.Groups as groups
 use Rattle.rtsim.specs.Order.{history_of, histories, group_count}
-use Rattle.rtsim.specs.Sim.{playable, if_built, WasRefused, CanPlay, IsWell}
+use Rattle.rtsim.specs.Sim.{playable, if_built, WasRefused, CanPlay}
 use Rattle.rtsim.proofs.GivenSteps.{first-group, only-group}
+use Rattle.rtsim.proofs.EndLaws.{IsToldWithin}
 
 -- a set that is played is built
 pub playable-is_built : (bytes : List ℕ) (p : Parts) → playable bytes ≡ Ok p → is_built p ≡ true
@@ -62,42 +59,14 @@ one-group p h hs valid built only setup group = subst (AreGroupsOf p) (sym only)
     first zero d lt = setup
     first (suc k) d lt = absurd (omega arith)
 
--- ---- no fault, no refusal: the set was played, unless memory ran out
+-- ---- a set that can be played
 
-pub read-complete : (status : Status) (left left' : Option (List ℕ)) (before after : ℕ) → CanPlay left → ¬ (HasRisen before after)
-    → status ≢ ends.Ok → ((line : ℕ) → status ≢ ends.Invalid line) → status ≢ ends.Usage → status ≢ ends.WriteFault
-    → ((b : BadSet) → status ≡ ends.BadInput b → WasRefused left left' b)
-    → (status ≡ ends.ReadFault → HasRisen before after)
-    → (status ≡ ends.TooLong → TakesMoreThan MOST_SET_BYTES left left')
-    → IsWell status
-read-complete ends.Ok left left' before after can sure never not_invalid not_usage no_write bad_input read_fault too_long = tt
-read-complete ends.NoMemory left left' before after can sure never not_invalid not_usage no_write bad_input read_fault too_long = tt
-read-complete (ends.Invalid line) left left' before after can sure never not_invalid not_usage no_write bad_input read_fault too_long = not_invalid line refl
-read-complete ends.Usage left left' before after can sure never not_invalid not_usage no_write bad_input read_fault too_long = not_usage refl
-read-complete ends.WriteFault left left' before after can sure never not_invalid not_usage no_write bad_input read_fault too_long = no_write refl
-read-complete ends.ReadFault left left' before after can sure never not_invalid not_usage no_write bad_input read_fault too_long = sure (read_fault refl)
-read-complete (ends.BadInput b) None left' before after can sure never not_invalid not_usage no_write bad_input read_fault too_long = absurd can
-read-complete (ends.BadInput b) (Some xs) left' before after can sure never not_invalid not_usage no_write bad_input read_fault too_long =
-    let refused : WasRefused (Some xs) left' b = bad_input b refl in
+pub can_play-told : (left : Option (List ℕ)) → CanPlay left → IsToldWithin MOST_SET_BYTES left
+can_play-told None can = absurd can
+can_play-told (Some xs) can = record { bytes = xs; left_is = refl; within = can.0 }
+
+pub can_play-unrefused : (left left' : Option (List ℕ)) (b : BadSet) → CanPlay left → WasRefused left left' b → ⊥
+can_play-unrefused None left' b can refused = can
+can_play-unrefused (Some xs) left' b can refused =
     let wrong : IsOk {T = Parts} {E = BadSet} (Err b) = subst IsOk (ap playable (sym refused.all.0) ∙ refused.refused) can.1 in
     cc
-read-complete ends.TooLong None left' before after can sure never not_invalid not_usage no_write bad_input read_fault too_long = absurd can
-read-complete ends.TooLong (Some xs) None before after can sure never not_invalid not_usage no_write bad_input read_fault too_long = absurd (too_long refl).2
-read-complete ends.TooLong (Some xs) (Some ys) before after can sure never not_invalid not_usage no_write bad_input read_fault too_long =
-    let t = too_long refl in
-    let same : xs ≡ t.0 ++ ys = t.2 in
-    let longer : length xs ≡ length (t.0 ++ ys) = ap length same in
-    let sum : length (t.0 ++ ys) ≡ length t.0 + length ys = length-append t.0 ys in
-    absurd (omega (arith, t.1, can.0, longer, sum))
-
--- the same of what the reading of the input answered
-pub answer-complete : {T : Type 0} (r : Result T Status) (status : Status) (left left' : Option (List ℕ)) (before after : ℕ) → r ≡ Err status
-    → CanPlay left → ¬ (HasRisen before after)
-    → r ≢ Err ends.Ok → ((line : ℕ) → r ≢ Err (ends.Invalid line)) → r ≢ Err ends.Usage → r ≢ Err ends.WriteFault
-    → ((b : BadSet) → r ≡ Err (ends.BadInput b) → WasRefused left left' b)
-    → (r ≡ Err ends.ReadFault → HasRisen before after)
-    → (r ≡ Err ends.TooLong → TakesMoreThan MOST_SET_BYTES left left')
-    → IsWell status
-answer-complete {T} r status left left' before after same can sure never not_invalid not_usage no_write bad_input read_fault too_long =
-    let given : (s : Status) → status ≡ s → r ≡ Err s = λ s k. same ∙ ap (λ (x : Status). Err x) k in
-    read-complete status left left' before after can sure (λ k. never (given _ k)) (λ line k. not_invalid line (given _ k)) (λ k. not_usage (given _ k)) (λ k. no_write (given _ k)) (λ b k. bad_input b (given _ k)) (λ k. read_fault (given _ k)) (λ k. too_long (given _ k))

@@ -1,5 +1,5 @@
 -- What a run of `check` reads and writes.
-use Rattle.std.specs.Prelude.{◌≡◌, ℕ, ◌≤◌, true, false, List, [], ◌∷◌, ◌++◌, length, codes, decimal, Option, None, Some, Ok, Err, ◌⊎◌}
+use Rattle.std.specs.Prelude.{◌≡◌, ℕ, ◌≤◌, true, false, List, [], ◌∷◌, ◌++◌, length, codes, decimal, Option, None, Some, Ok, ◌⊎◌}
 use Rattle.rt_base.specs.declared.TheConstants.{MOST_TRACE_BYTES}
 use Rattle.rt_task.specs.declared.Parts.{Parts}
 use Rattle.rt_task.specs.declared.bad_set.BadSet.{BadSet}

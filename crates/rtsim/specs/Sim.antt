@@ -1,5 +1,5 @@
 -- What a run of `sim` reads and writes.
-use Rattle.std.specs.Prelude.{◌≡◌, ℕ, ◌≤◌, Bool, false, List, [], ◌∷◌, length, codes, bytes_eq, string_bytes, String, Option, None, Some, Result, Ok, Err, IsOk, if◌then◌else◌, ◌⊎◌, ⊤}
+use Rattle.std.specs.Prelude.{◌≡◌, ℕ, ◌≤◌, Bool, false, ◌||◌, List, [], ◌∷◌, length, codes, bytes_eq, string_bytes, String, Option, None, Some, Result, Ok, Err, IsOk, if◌then◌else◌, ◌⊎◌, ⊤}
 use Rattle.std.specs.declared.alloc.Global.{Global}
 use Rattle.rt_base.specs.declared.TheConstants.{MOST_SET_BYTES}
 use Rattle.rt_task.specs.declared.Parts.{Parts}
@@ -19,10 +19,19 @@ use Rattle.trace_lines.specs.FirstLine.{format_1}
 use Rattle.trace_text.specs.TraceText.{trace_text}
 use Rattle.rtsim.specs.Order.{histories}
 
--- the one command so far
+-- the command `sim`
+abbrev pub is_sim : List (String Global) → Bool
+is_sim (word ∷ []) = bytes_eq (string_bytes word) (codes "sim")
+is_sim _ = false
+
+-- the command `check`
+abbrev pub is_check : List (String Global) → Bool
+is_check (word ∷ []) = bytes_eq (string_bytes word) (codes "check")
+is_check _ = false
+
+-- one of the commands
 abbrev pub is_command : List (String Global) → Bool
-is_command (word ∷ []) = bytes_eq (string_bytes word) (codes "sim")
-is_command _ = false
+is_command words = is_sim words || is_check words
 
 -- the set is played so far, or else refused as a whole
 abbrev pub if_built : Parts → Result Parts BadSet

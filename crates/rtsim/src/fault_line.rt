@@ -12,7 +12,7 @@ impl fmt::Display for FaultLine {
         match self.0 {
             Status::Ok => Ok(()),
             Status::Invalid(line) => write!(f, "invalid at line {line}"),
-            Status::Usage => write!(f, "usage: rtsim sim"),
+            Status::Usage => write!(f, "usage: rtsim sim, rtsim check"),
             Status::BadInput(bad) => write!(f, "bad input: {bad}"),
             Status::ReadFault => write!(f, "reading failed"),
             Status::WriteFault => write!(f, "writing failed"),

@@ -6,10 +6,11 @@ ghost use Rattle.rt_fault.specs.Faults.{HasRisen};
 ghost use Rattle.rt_fault.specs.Reading.{TakesAtMost, TakesMoreThan};
 ghost use Rattle.rtsim.specs.Sim.{WasRead, WasRefused};
 
+use crate::refusal::unbuilt;
 use group_engine::is_built;
 use rt_base::MOST_SET_BYTES;
 use rt_fault::{Source, Status, read_all};
-use rt_task::{BadSet, Part, Place, SetKind, Setup};
+use rt_task::Setup;
 use set_read::read_set;
 use std::alloc::Global;
 
@@ -28,13 +29,7 @@ pub(crate) fn read_input<S: Source>(alloc: Global, src: &mut S) -> Result<Setup,
     let bytes = read_all(alloc, src, MOST_SET_BYTES)?;
     let setup = read_set(alloc, bytes.as_slice())?;
     if !is_built(&setup) {
-        return Err(Status::BadInput(BadSet {
-            kind: SetKind::Unbuilt,
-            place: Place {
-                part: Part::Whole,
-                index: 0,
-            },
-        }));
+        return Err(unbuilt());
     }
     Ok(setup)
 }

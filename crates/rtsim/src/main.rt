@@ -1,12 +1,17 @@
-//! `rtsim`: plays the steps of modelled processors in a given order, and prints the trace.
+//! `rtsim`: plays the steps of modelled processors in a given order and prints the trace, and checks a trace.
 #![tactic(auto)]
 
+mod check;
 mod fault_line;
 mod input;
 mod play;
+mod play_set;
+mod refusal;
 mod sim;
 #[cfg(test)]
 mod tests;
+mod trace_input;
+mod verdict_line;
 mod words;
 
 use fault_line::FaultLine;
@@ -26,7 +31,7 @@ fn run(rt: &HostRuntime, words: &[String]) -> Status {
     let mut out = StdSink::new(&mut buffer);
     let status = sim(alloc, words, &mut src, &mut out);
     match buffer.flush() {
-        Err(_) if status == Status::Ok => Status::WriteFault,
+        Err(_) if matches!(status, Status::Ok | Status::Invalid(_)) => Status::WriteFault,
         _ => status,
     }
 }
@@ -42,7 +47,7 @@ fn say(rt: &HostRuntime, line: &str) -> Status {
 /// Answers `--help` and `--version`, and runs all other words.
 fn answer(rt: &HostRuntime, words: &[String]) -> Status {
     match words {
-        [word] if word.as_str() == "--help" => say(rt, "usage: rtsim sim"),
+        [word] if word.as_str() == "--help" => say(rt, "usage: rtsim sim, rtsim check"),
         [word] if word.as_str() == "--version" => say(rt, "rtsim 0.1.0"),
         _ => run(rt, words),
     }

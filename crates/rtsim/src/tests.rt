@@ -1,4 +1,4 @@
-//! The smallest worked examples, whose texts are the published ones, and each answer of `sim` with its cause.
+//! The smallest worked examples, whose texts are the published ones, and each answer of the commands with its cause.
 
 use crate::fault_line::FaultLine;
 use crate::sim;
@@ -30,6 +30,23 @@ const FIRST_PATH_REST: &str = "group 0 0:1 1:2
 end
 ";
 
+const IDLES_FOR_QUIET_REST: &str = "group 0 0:1 1:2
+0 0 0 tick done
+1 0 0 irq runs 1
+2 0 0 irq idles
+end
+";
+
+const NO_END_REST: &str = "group 0 0:1 1:2
+0 0 0 tick done
+1 0 0 irq runs 1
+2 0 0 irq quiet
+";
+
+const BLANK_IN_SET_HEAD: &str = "rtsched trace 1
+set { \"clusters\":[{\"cpus\":2,\"group\":0}],\"plugin\":\"GSN-EDF\",\"resvs\":[],\"sems\":[],\"steps\":[[0,0,\"tick\"],[0,0,\"irq\"],[0,0,\"irq\"]],\"tasks\":[{\"body\":[],\"cluster\":0,\"cost\":1,\"deadline\":5,\"enforce\":false,\"kind\":\"periodic\",\"name\":\"A\",\"period\":10,\"phase\":0,\"prio\":511,\"resv\":null,\"uses\":[]},{\"body\":[],\"cluster\":0,\"cost\":1,\"deadline\":7,\"enforce\":false,\"kind\":\"periodic\",\"name\":\"B\",\"period\":10,\"phase\":0,\"prio\":511,\"resv\":null,\"uses\":[]},{\"body\":[],\"cluster\":0,\"cost\":1,\"deadline\":9,\"enforce\":false,\"kind\":\"periodic\",\"name\":\"C\",\"period\":10,\"phase\":0,\"prio\":511,\"resv\":null,\"uses\":[]}]}
+";
+
 const ONE_STEP: &str =
     r#"{"plugin":"GSN-EDF","clusters":[{"cpus":2}],"tasks":[{"name":"A","cost":1,"period":10,"deadline":5},{"name":"B","cost":1,"period":10,"deadline":7},{"name":"C","cost":1,"period":10,"deadline":9}],"steps":[[0,0,"tick"]]}"#;
 
@@ -41,6 +58,8 @@ const ONE_STEP_REST: &str = "group 0 0:1 1:2
 0 0 0 tick done
 end
 ";
+
+const UNBUILT: &str = r#"{"plugin":"PSN-EDF","clusters":[{"cpus":1}],"steps":[]}"#;
 
 fn words(alloc: Global, texts: &[&str]) -> Result<Vec<String>, Fail> {
     let mut words = Vec::new(alloc);
@@ -149,8 +168,7 @@ fn refuses_by_the_first_rule_that_is_broken(rt: HostRuntime) -> Result<(), Fail>
 #[test]
 fn refuses_what_is_not_played_yet(rt: HostRuntime) -> Result<(), Fail> {
     let unbuilt = refused(SetKind::Unbuilt, Part::Whole, 0);
-    let other_plugin = r#"{"plugin":"PSN-EDF","clusters":[{"cpus":1}],"steps":[]}"#;
-    assert_eq!(rt; answer(rt.alloc(), other_plugin)?, unbuilt);
+    assert_eq!(rt; answer(rt.alloc(), UNBUILT)?, unbuilt);
     Ok(())
 }
 
@@ -204,12 +222,102 @@ fn a_failing_write_leaves_the_lines_before_it(rt: HostRuntime) -> Result<(), Fai
     Ok(())
 }
 
+/// Whether `check`, between ends that never fail, ends so and writes this line, for the text of these parts.
+fn checks(alloc: Global, parts: &[&str], ends: Status, line: &str) -> Result<bool, Fail> {
+    let mut text = Vec::new(alloc);
+    for part in parts {
+        text.extend_from_slice(part.as_bytes())?;
+    }
+    let mut src = SureSource::new(text);
+    let mut out = SureSink::new(alloc, 4096)?;
+    let status = sim(
+        alloc,
+        words(alloc, &["check"])?.as_slice(),
+        &mut src,
+        &mut out,
+    );
+    Ok(status == ends && out.as_slice() == line.as_bytes())
+}
+
+#[test]
+fn checks_the_trace_of_the_first_path(rt: HostRuntime) -> Result<(), Fail> {
+    let alloc = rt.alloc();
+    let all: [(&[&str], Status, &str); 4] = [
+        (&[FIRST_PATH_HEAD, FIRST_PATH_REST], Status::Ok, "valid 3\n"),
+        (
+            &[FIRST_PATH_HEAD, IDLES_FOR_QUIET_REST],
+            Status::Invalid(6),
+            "invalid 6\n",
+        ),
+        (
+            &[FIRST_PATH_HEAD, NO_END_REST],
+            Status::Invalid(7),
+            "invalid 7\n",
+        ),
+        (
+            &[BLANK_IN_SET_HEAD, FIRST_PATH_REST],
+            Status::Invalid(2),
+            "invalid 2\n",
+        ),
+    ];
+    for (parts, ends, line) in all {
+        assert!(rt; checks(alloc, parts, ends, line)?);
+    }
+    Ok(())
+}
+
+#[test]
+fn refuses_what_is_no_trace(rt: HostRuntime) -> Result<(), Fail> {
+    let alloc = rt.alloc();
+    let all: [(&[&str], Status); 5] = [
+        (
+            &["rtsched trace 9\n"],
+            refused(SetKind::NotTrace, Part::Line, 1),
+        ),
+        (&[], refused(SetKind::NotTrace, Part::Line, 1)),
+        (
+            &["rtsched trace 1\n", "end\n"],
+            refused(SetKind::NotTrace, Part::Line, 2),
+        ),
+        (
+            &["rtsched trace 1\n", "set {\n"],
+            refused(SetKind::NotJson, Part::Whole, 0),
+        ),
+        (
+            &["rtsched trace 1\nset ", UNBUILT, "\n"],
+            refused(SetKind::Unbuilt, Part::Whole, 0),
+        ),
+    ];
+    for (parts, ends) in all {
+        assert!(rt; checks(alloc, parts, ends, "")?);
+    }
+    Ok(())
+}
+
+#[test]
+fn a_write_fault_goes_before_an_invalid_trace(rt: HostRuntime) -> Result<(), Fail> {
+    let alloc = rt.alloc();
+    let mut text = FIRST_PATH_HEAD.as_bytes().to_vec(alloc)?;
+    text.extend_from_slice(NO_END_REST.as_bytes())?;
+    let mut src = SureSource::new(text);
+    let mut out = sink(alloc, &[0])?;
+    let status = sim(
+        alloc,
+        words(alloc, &["check"])?.as_slice(),
+        &mut src,
+        &mut out,
+    );
+    assert_eq!(rt; status, Status::WriteFault);
+    assert_eq!(rt; out.as_slice(), b"".as_slice());
+    Ok(())
+}
+
 #[test]
 fn other_words_are_no_command(rt: HostRuntime) -> Result<(), Fail> {
     let alloc = rt.alloc();
     let mut src = source(alloc, "x", &[])?;
     let mut out = sink(alloc, &[])?;
-    let all: [&[&str]; 4] = [&[], &["sim", "x"], &["Sim"], &["check"]];
+    let all: [&[&str]; 5] = [&[], &["sim", "x"], &["Sim"], &["check", "x"], &["Check"]];
     for texts in all {
         let status = sim(alloc, words(alloc, texts)?.as_slice(), &mut src, &mut out);
         assert_eq!(rt; status, Status::Usage);
@@ -225,7 +333,7 @@ fn says_each_fault(rt: HostRuntime) -> Result<(), Fail> {
     let alloc = rt.alloc();
     for (status, line) in [
         (Status::Invalid(7), "invalid at line 7"),
-        (Status::Usage, "usage: rtsim sim"),
+        (Status::Usage, "usage: rtsim sim, rtsim check"),
         (
             refused(SetKind::NotJson, Part::Whole, 0),
             "bad input: not json at whole",

@@ -1,0 +1,68 @@
+-- Why a text is refused as a trace, and what a run of `check` cannot answer where a valid trace is to come.
+use Rattle.std.proofs.Common.{◌≡◌, ℕ, true, false, List, refl, sym, ap, ◌∙◌, subst, inl, inr}
+use Rattle.std.specs.Prelude.{Option, None, Some, Ok, Err}
+use Rattle.rt_base.specs.declared.TheConstants.{MOST_TRACE_BYTES}
+use Rattle.rt_task.specs.declared.Parts.{Parts}
+use Rattle.rt_task.specs.declared.bad_set.BadSet.{BadSet}
+use Rattle.rt_task.specs.declared.bad_set.SetKind.TheVariants.{NotTrace}
+use Rattle.rt_task.specs.declared.bad_set.Part.TheVariants.{Line}
+use Rattle.rt_task.specs.Refusals.{bad}
+use Rattle.set_read.specs.Sets.{set}
+use Rattle.group_state.specs.Built.{is_built}
+use Rattle.trace_read.specs.Reads.{IsRefused}
+use Rattle.trace_read.specs.declared.fault.TraceFault.TheVariants as faults
+use Rattle.trace_laws.specs.ValidTexts.{IsValidText}
+use Rattle.trace_laws.proofs.Heads.{head-unique}
+use Rattle.trace_check.specs.Verdicts.{IsInvalid}
+use Rattle.rtsim.specs.Check.{SaysSet, SaysUnbuilt, TraceIsRefused, WasTrace, WasNoTrace, IsValidTrace, CanCheck}
+use Rattle.rtsim.proofs.EndLaws.{IsToldWithin}
+
+-- what has no head is refused at the line that it lacks
+pub headless-refused : (bytes : List ℕ) (line : ℕ) (b : BadSet) → IsRefused bytes (faults.NotTrace line) → b ≡ bad NotTrace Line line → TraceIsRefused bytes b
+headless-refused bytes line b (inl lack) same = inl (same ∙ ap (bad NotTrace Line) lack.0, lack.1)
+headless-refused bytes line b (inr lack) same = inr (inl (same ∙ ap (bad NotTrace Line) lack.0, lack.1))
+
+-- a text says one set
+pub says-unique : (bytes : List ℕ) (p q : Parts) → SaysSet bytes p → SaysSet bytes q → p ≡ q
+says-unique bytes p q says also =
+    let same : says.set_text ≡ also.set_text = (head-unique bytes _ _ _ _ says.head also.head).0 in
+    let mine : set also.set_text ≡ Ok p = ap set (sym same) ∙ says.set_is in
+    let other : set also.set_text ≡ Ok q = also.set_is in
+    cc
+
+-- what says a set that is played is not refused
+pub says-unrefused : (bytes : List ℕ) (p : Parts) (b : BadSet) → SaysSet bytes p → TraceIsRefused bytes b → ⊥
+says-unrefused bytes p b says (inl lack) = lack.1 _ says.head.bytes_are
+says-unrefused bytes p b says (inr (inl lack)) = lack.1.no_set _ _ says.head
+says-unrefused bytes p b says (inr (inr (inl other))) =
+    let same : says.set_text ≡ other.set_text = (head-unique bytes _ _ _ _ says.head other.head).0 in
+    let read : set other.set_text ≡ Ok p = ap set (sym same) ∙ says.set_is in
+    let refused : set other.set_text ≡ Err b = other.refused in
+    cc
+says-unrefused bytes p b says (inr (inr (inr other))) = unbuilt other.1
+  where
+    unbuilt : SaysUnbuilt bytes → ⊥
+    unbuilt un =
+        let same : says.set_text ≡ un.set_text = (head-unique bytes _ _ _ _ says.head un.head).0 in
+        let mine : set un.set_text ≡ Ok p = ap set (sym same) ∙ says.set_is in
+        let other : set un.set_text ≡ Ok un.setup = un.set_is in
+        let one : p ≡ un.setup = cc in
+        let wrong : true ≡ false = sym says.built ∙ ap is_built one ∙ un.unbuilt in
+        cc
+
+-- ---- a trace that can be checked
+
+pub can_check-told : (left : Option (List ℕ)) → CanCheck left → IsToldWithin MOST_TRACE_BYTES left
+can_check-told None can = absurd can
+can_check-told (Some xs) can = record { bytes = xs; left_is = refl; within = can.0 }
+
+pub can_check-unrefused : (left left' : Option (List ℕ)) (b : BadSet) → CanCheck left → WasNoTrace left left' b → ⊥
+can_check-unrefused None left' b can lack = can
+can_check-unrefused (Some xs) left' b can lack = says-unrefused xs can.1.setup b can.1.says (subst (λ (bytes : List ℕ). TraceIsRefused bytes b) lack.all.0 lack.refused)
+
+pub can_check-valid : (left left' : Option (List ℕ)) (bytes : List ℕ) (p : Parts) (line : ℕ) → CanCheck left → WasTrace left left' bytes p → IsInvalid p bytes line → ⊥
+can_check-valid None left' bytes p line can was wrong = can
+can_check-valid (Some xs) left' bytes p line can was wrong =
+    let valid : IsValidTrace bytes = subst IsValidTrace (sym was.all.0) can.1 in
+    let same : valid.setup ≡ p = says-unique bytes valid.setup p valid.says was.says in
+    wrong.not_valid valid.entries (subst (λ (q : Parts). IsValidText q bytes valid.entries) same valid.valid)
