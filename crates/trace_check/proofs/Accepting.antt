@@ -1,21 +1,13 @@
 -- An entry that is the next one is followed.
-use Rattle.std.proofs.Common.{◌≡◌, ◌≢◌, ℕ, ◌+◌, ◌-◌, ◌<◌, ◌≤◌, ◌==◌, Bool, true, false, List, [], ◌∷◌, ◌++◌, length, take, get_or, set, refl, sym, ap, ◌∙◌, subst, arith, eqb-true, length-append, length-set, get_or-set_same, get_or-set_other}
-use Rattle.std.specs.Prelude.{All}
-use Rattle.std.proofs.lemmas.Bool.Decides.{nat_tests}
-use Rattle.std.proofs.lemmas.List.Elements.{All-get_or}
-use Rattle.rt_task.specs.declared.Parts.{Parts}
+use Rattle.std.proofs.Common.{◌≡◌, ◌≢◌, ℕ, ◌+◌, ◌<◌, ◌≤◌, ◌==◌, Bool, true, false, List, [], ◌∷◌, ◌++◌, length, get_or, set, refl, sym, ap, ◌∙◌, subst, arith, eqb-true, length-append, length-set, get_or-set_same, get_or-set_other}
 use Rattle.rt_task.specs.declared.Step.{Step}
 use Rattle.rt_history.specs.declared.Entry.{Entry}
-use Rattle.rt_history.specs.declared.Reply.{Reply}
 use Rattle.rt_rules.specs.Numbers.{numbers_from}
 use Rattle.rt_rules.proofs.MemberLaws.{equal_self}
 use Rattle.rt_model.specs.Group.{Group, cpus, group_processors}
-use Rattle.rt_model.specs.Past.{Past}
 use Rattle.rt_model.specs.Links.{linked}
 use Rattle.rt_model.specs.Histories.{after, changed, past_of, reply_to}
 use Rattle.rt_model.proofs.Steps.{past_of-append}
-use Rattle.group_state.specs.Built.{is_built_act}
-use Rattle.group_state.specs.Groups.{IsProcessorOf}
 use Rattle.group_state.specs.State.{IsPlayed}
 use Rattle.group_state.proofs.PlainGroup.{IsPlainGroup}
 use Rattle.group_state.proofs.Limits.{plain}
@@ -26,13 +18,13 @@ use Rattle.trace_lines.specs.Lines.{Link, links_of}
 use Rattle.trace_text.specs.TraceText.{links_at}
 use Rattle.trace_text.specs.Groups.{changed_links}
 use Rattle.trace_text.proofs.ReplayLaws.{changed_by}
-use Rattle.trace_laws.specs.Scripts.{script, steps_given, steps_of, IsPlayOf}
+use Rattle.trace_laws.specs.Scripts.{steps_given}
 use Rattle.trace_laws.proofs.PartLaws.{IsPartOf, part-next, script-steps_of-next, script-steps_of-skip}
 use Rattle.trace_laws.proofs.Completion.{completed}
 use Rattle.trace_laws.proofs.Plays.{few-entries}
 use Rattle.trace_laws.proofs.StepsGiven.{IsGivenStep, steps-given}
 use Rattle.trace_check.specs.declared.follow.Follow.{Follow}
-use Rattle.trace_check.specs.Following.{first_group, CanStep, IsFollowing, IsFollowingWith, IsPassed, IsNextEntry, IsNextPlace, IsNextStep, Place}
+use Rattle.trace_check.specs.Following.{first_group, CanStep, IsFollowing, IsFollowingWith, IsPassed, IsNextPlace, Place}
 
 -- such a group is the first of its set
 pub is-first : (g : Group) → IsPlayed g → g ≡ first_group g.setup

@@ -1,35 +1,32 @@
 -- Lines that were judged right so far, and what the next one comes to.
-use Rattle.std.proofs.Common.{◌≡◌, ◌≢◌, ℕ, ◌+◌, ◌<◌, ◌≤◌, ◌⊎◌, inl, inr, Bool, true, false, ◌&&◌, ◌==◌, List, [], ◌∷◌, ◌++◌, length, take, get_or, map, Option, None, refl, sym, ap, ◌∙◌, subst, arith, eqb-true, append_assoc, length-append}
-use Rattle.std.proofs.lemmas.List.{take_all, length-map}
+use Rattle.std.proofs.Common.{◌≡◌, ◌≢◌, ℕ, ◌+◌, ◌<◌, ◌≤◌, inl, inr, Bool, true, false, ◌&&◌, ◌==◌, List, [], ◌∷◌, ◌++◌, length, take, get_or, Option, refl, sym, ap, ◌∙◌, subst, arith, eqb-true, append_assoc, length-append}
+use Rattle.std.proofs.lemmas.List.{take_all}
 use Rattle.std.proofs.Math.Seq.{get_or-append_seam}
 use Rattle.std.proofs.Math.ListN.{get_or-map}
 use Rattle.std.specs.Prelude.{All}
 use Rattle.rt_task.specs.declared.Parts.{Parts}
 use Rattle.rt_history.specs.declared.Entry.{Entry}
 use Rattle.rt_model.specs.Group.{Group, group_processors}
-use Rattle.rt_model.specs.Past.{Past}
-use Rattle.rt_model.specs.Histories.{after, changed, past_of, reply_to}
+use Rattle.rt_model.specs.Histories.{past_of, reply_to}
 use Rattle.group_state.specs.Groups.{IsProcessorOf}
 use Rattle.trace_lines.specs.Lines.{Link, Line, group_line, entry_line, block_line, end_line, count_line, links_of}
 use Rattle.trace_text.specs.TraceText.{links_at}
-use Rattle.trace_read.specs.Reads.{IsTraceOf}
 use Rattle.trace_read.specs.Lines.{line_of, lines_of}
 use Rattle.trace_read.specs.declared.lines.Line.TheVariants as read
 use Rattle.trace_read.specs.declared.lines.Line as kinds
 use Rattle.trace_lines.specs.declared.links.CpuLink.{CpuLink}
-use Rattle.set_canonical.specs.Canonical.{canonical}
-use Rattle.trace_laws.specs.Scripts.{IsPlayOf, script, steps_given, steps_of}
+use Rattle.trace_laws.specs.Scripts.{IsPlayOf, script, steps_of}
 use Rattle.trace_laws.proofs.PartLaws.{play-of-part, part-of-play}
 use Rattle.trace_check.specs.declared.follow.Follow.{Follow}
 use Rattle.trace_check.specs.declared.verdict.Verdict.{Verdict}
 use Rattle.trace_check.specs.declared.verdict.Verdict.TheVariants.{Valid, Invalid}
-use Rattle.trace_check.specs.Verdicts.{IsInvalid, IsVerdict}
+use Rattle.trace_check.specs.Verdicts.{IsInvalid}
 use Rattle.trace_check.specs.SameLinks.{same_links}
 use Rattle.trace_check.specs.Following.{first_group, IsAccepted, IsFollowing, IsNextEntry, IsOver, Place}
 use Rattle.trace_check.specs.Judging.{IsEndVerdict, IsJudged, begins_with}
 use Rattle.trace_check.proofs.LinkLists.{same_links-self, same_links-true}
 use Rattle.trace_check.proofs.Nexts.{past-none}
-use Rattle.trace_check.proofs.NextLine.{lines_so_far, next_line, next-of_script, so_far-first, so_far-next, so_far-end, length-so_far}
+use Rattle.trace_check.proofs.NextLine.{lines_so_far, next_line, next-of_script, so_far-first, so_far-next, so_far-end}
 use Rattle.trace_check.proofs.Judged.{wrong-first, wrong-next, ended-valid, ended-more}
 
 -- the first i lines are right, and their entries were followed
@@ -155,8 +152,8 @@ module _ (p : Parts) (lines : List Line) (stop : Option ℕ) where
       let line : length es + 4 ≡ i + 3 = omega (arith, right.count) in
       let at : get_or lines i d ≡ get_or lines (length es + 1) d = ap (λ n. get_or lines n d) right.count in
       subst (IsInvalid p bytes) line (wrong-next p right.following.played.valid right.following.played.built bytes lines stop r es d same right.following.part (omega (arith, right.count, right.within)) so_far
-          (λ e more long play told is. no_entry (omega (arith, long, right.count)) (subst (IsNextLine g es) (sym (at ∙ is)) (next-entry es e more play told)))
-          (λ long play is. no_end (omega (arith, long, right.count)) (λ q there. sym (play.scripts q there)) (at ∙ is)))
+      (λ e more long play told is. no_entry (omega (arith, long, right.count)) (subst (IsNextLine g es) (sym (at ∙ is)) (next-entry es e more play told)))
+      (λ long play is. no_end (omega (arith, long, right.count)) (λ q there. sym (play.scripts q there)) (at ∙ is)))
 
   pub refused-there : (i : ℕ) (f : Follow) (right : IsRight p lines i f) (n : ℕ) (e : Entry) (links : List Link) (d : Line) → get_or lines i d ≡ entry_line n e links
       → (IsNextEntry g right.entries n e links → ⊥) → IsJudged p lines stop (Invalid (i + 3))
@@ -202,7 +199,7 @@ module _ (p : Parts) (lines : List Line) (stop : Option ℕ) where
       by_case (inr (inl h)) = subst (IsJudged p lines stop) (sym h.0) (λ bytes r same.
           let line : length es + 5 ≡ i + 1 + 3 = omega (arith, right.count) in
           subst (IsInvalid p bytes) line (ended-more p right.following.played.valid right.following.played.built bytes lines stop r es same (play-of-part g es right.following.part h.1) long ended
-              (λ count none. h.2 (omega (arith, count, right.count)) none)))
+          (λ count none. h.2 (omega (arith, count, right.count)) none)))
       by_case (inr (inr h)) = subst (IsJudged p lines stop) (sym (h.0 ∙ ap Valid right.following.count_is)) (λ bytes r same.
           let all : lines ≡ lines_so_far g es ++ end_line ∷ [] = sym (take_all (length es + 2) lines (omega (arith, h.2, right.count))) ∙ ended in
           ended-valid p right.following.played.valid right.following.played.built bytes lines stop r es same (play-of-part g es right.following.part h.1) all h.3)

@@ -1,6 +1,6 @@
 -- The next step of a processor, and what opens a group's following.
-use Rattle.std.proofs.Common.{◌≡◌, ℕ, zero, suc, ◌+◌, ◌-◌, ◌<◌, ◌≤◌, ◌==◌, Bool, true, false, List, [], ◌∷◌, ◌++◌, length, take, drop, get_or, refl, sym, ap, ◌∙◌, subst, arith, append_assoc, length-append}
-use Rattle.std.specs.Prelude.{All, replicate}
+use Rattle.std.proofs.Common.{◌≡◌, ℕ, zero, suc, ◌+◌, ◌<◌, ◌≤◌, true, List, [], ◌∷◌, ◌++◌, length, take, drop, get_or, refl, sym, ap, ◌∙◌, subst, arith, append_assoc, length-append}
+use Rattle.std.specs.Prelude.{replicate}
 use Rattle.std.proofs.lemmas.List.{get_or_default, length-replicate}
 use Rattle.rt_task.specs.declared.Act.TheVariants as acts
 use Rattle.rt_task.specs.declared.Parts.{Parts}
@@ -25,7 +25,7 @@ use Rattle.trace_laws.specs.Scripts.{script, steps_given, steps_of}
 use Rattle.trace_laws.proofs.PartLaws.{script-take-next, script-take-drop, part-first}
 use Rattle.trace_check.specs.declared.follow.Follow.{Follow}
 use Rattle.trace_check.specs.Next.{IsNextAt}
-use Rattle.trace_check.specs.Following.{first_group, IsFollowing, IsFollowingWith, IsPassed, IsNextPlace, IsNextStep, IsOver, Place}
+use Rattle.trace_check.specs.Following.{first_group, IsFollowing, IsFollowingWith, IsPassed, IsNextPlace, IsNextStep, Place}
 
 -- the processors of such a group
 pub home : (g : Group) (q : ℕ) → IsPlayed g → q < cpus g 0 → IsProcessorOf g q

@@ -1,5 +1,5 @@
 -- The lines of a trace after its head, judged one by one.
-use Rattle.std.specs.Prelude.{◌≡◌, ℕ, ◌+◌, Bool, false, ◌&&◌, ◌==◌, List, [], ◌∷◌, Option, None, ◌⊎◌}
+use Rattle.std.specs.Prelude.{◌≡◌, ℕ, ◌+◌, Bool, false, ◌&&◌, ◌==◌, List, ◌∷◌, Option, None, ◌⊎◌}
 use Rattle.rt_task.specs.declared.Parts.{Parts}
 use Rattle.set_canonical.specs.Canonical.{canonical}
 use Rattle.trace_lines.specs.Lines.{Link, Line, group_line}

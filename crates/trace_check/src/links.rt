@@ -25,7 +25,11 @@ fn put_link(links: &mut Vec<CpuLink>, link: CpuLink) -> Result<(), NoMemory>
 }
 
 /// Puts the links of so many processors, from the first on, in the place of what stood in `links`.
-pub(crate) fn read_links(afresh: &Afresh, cpus: u32, links: &mut Vec<CpuLink>) -> Result<(), NoMemory>
+pub(crate) fn read_links(
+    afresh: &Afresh,
+    cpus: u32,
+    links: &mut Vec<CpuLink>,
+) -> Result<(), NoMemory>
     requires { (q : ℕ) → q < cpus → IsProcessorOf (group_of afresh.now) q }
     ensures { OnOk result ((past : Past) → IsAt afresh.now past → links_of links.new.items ≡ links_at (group_of afresh.now) past (numbers_from 0 cpus)) }
 {

@@ -1,7 +1,4 @@
-use Rattle.std.proofs.Common.{◌≡◌, ◌≢◌, Bool, true, false, List, ℕ, ◌++◌, ap, ◌∙◌, sym, subst}
-use Rattle.std.specs.List.{starts_with}
-use Rattle.std.proofs.lemmas.Slice.Eq.{starts_is}
-use Rattle.trace_check.specs.Head.{head_text}
+use Rattle.std.proofs.Common.{◌∙◌}
 use Rattle.trace_check.proofs.HeadText.{has-head}
 use Rattle.trace_check.proofs.head.has_head.Goals as goal
 

@@ -1,4 +1,4 @@
-use Rattle.std.proofs.Common.{◌≡◌, ◌≢◌, length, ◌∙◌, sym}
+use Rattle.std.proofs.Common.{◌∙◌, sym}
 use Rattle.trace_lines.specs.Lines.{links_of}
 use Rattle.trace_check.proofs.LinkLists.{same_links-length, length-links_of}
 use Rattle.trace_check.proofs.links.are_same.Goals as goal

@@ -5,7 +5,6 @@ use Rattle.rt_rules.specs.Numbers.{numbers_from}
 use Rattle.rt_model.specs.Links.{linked}
 use Rattle.rank_afresh.specs.Standing.{group_of}
 use Rattle.trace_text.specs.TraceText.{links_at}
-use Rattle.trace_lines.specs.declared.links.CpuLink.{CpuLink}
 use Rattle.trace_lines.specs.Lines.{Link, links_of}
 use Rattle.trace_check.proofs.LinkLists.{links_at-next, links_of-push}
 use Rattle.trace_check.proofs.links.read_links.Goals as goal

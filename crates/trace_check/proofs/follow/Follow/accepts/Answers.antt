@@ -1,17 +1,14 @@
-use Rattle.std.proofs.Common.{◌≡◌, ℕ, ◌+◌, ◌<◌, Bool, true, false, not, List, length, refl, sym, ap, ◌∙◌, set, subst, arith, vec_len}
+use Rattle.std.proofs.Common.{◌≡◌, ◌+◌, ◌<◌, true, false, List, length, refl, sym, ap, ◌∙◌, set, subst, arith, vec_len}
 use Rattle.std.specs.Prelude.{All}
-use Rattle.rt_history.specs.declared.Reply.{Reply}
 use Rattle.rt_model.specs.Group.{Group}
-use Rattle.rt_model.specs.Histories.{after, changed, past_of, reply_to}
+use Rattle.rt_model.specs.Histories.{past_of, reply_to}
 use Rattle.group_state.specs.Groups.{IsProcessorOf}
-use Rattle.rank_afresh.specs.Standing.{Standing, group_of}
+use Rattle.rank_afresh.specs.Standing.{group_of}
 use Rattle.trace_lines.specs.declared.links.CpuLink.{CpuLink}
 use Rattle.trace_lines.specs.Lines.{Link, links_of}
-use Rattle.trace_text.specs.TraceText.{links_at}
 use Rattle.trace_text.proofs.ReplayLaws.{links_there}
 use Rattle.trace_check.specs.declared.follow.Follow.{Follow}
 use Rattle.trace_check.specs.SameLinks.{same_links}
-use Rattle.trace_check.specs.Following.{IsNextPlace}
 use Rattle.trace_check.proofs.LinkLists.{same_links-true, same_links-self}
 use Rattle.trace_check.proofs.Nexts.{home}
 use Rattle.trace_check.proofs.Accepting.{can_step, cpu-inside, changed-are, following-next}

@@ -1,5 +1,5 @@
-use Rattle.std.proofs.Common.{◌≡◌, ◌<◌, sym, ap, ◌∙◌, subst, arith, rules}
-use Rattle.trace_check.proofs.Nexts.{below, at_home, none-of, some-left}
+use Rattle.std.proofs.Common.{arith}
+use Rattle.trace_check.proofs.Nexts.{below, at_home, some-left}
 use Rattle.trace_check.proofs.follow.Follow.is_over.Goals as goal
 
 pub returns-clause-over : goal.returns-clause-over
