@@ -6,7 +6,7 @@ ghost use Rattle.rt_rules.specs.Keys.{Ranked};
 ghost use Rattle.rt_rules.specs.Distinct.{IsDistinct};
 ghost use Rattle.rt_rules.specs.Placing.{placed, at_place};
 ghost use Rattle.rt_task.specs.declared.Task.{Task};
-ghost use Rattle.rt_base.specs.declared.TheConstants.{TICK_END};
+ghost use Rattle.rt_base.specs.declared.TheConstants.{MOST_TASKS, TICK_END};
 ghost use Rattle.rt_rules.specs.Numbers.{numbers_from};
 ghost use Rattle.rt_model.specs.Group.{no_task};
 ghost use Rattle.rt_model.specs.Past.{Acted};
@@ -108,7 +108,7 @@ fn release_due(clock: u64, tasks: &[Task], waiting: &mut Queue, ready: &mut Queu
 
 /// All the tasks, in the order of their first releases.
 fn waiting_tasks(alloc: Global, tasks: &[Task]) -> Result<Queue, NoMemory>
-    requires few { length tasks.now ≤ 1024 }
+    requires few { length tasks.now ≤ MOST_TASKS }
     requires phases { All (λ (t : Task). t.phase < 2 ^ 62) tasks.now }
     ensures tasks { IfOk result (λ q. q.tasks ≡ first_waiting tasks.now) }
     ensures room { IfOk result (λ q. length tasks.now ≤ q.room) }

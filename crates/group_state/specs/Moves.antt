@@ -1,5 +1,6 @@
 -- What each move makes of the state, in a cluster of m processors whose tasks have these relative deadlines.
 use Rattle.std.specs.Prelude.{ℕ, ◌+◌, ◌-◌, ◌^◌, ◌<◌, ◌≤◌, All, max, Bool, true, List, [], Option, None, Some, if◌then◌else◌, length, replicate, slice_index, slice_index_or, slice_set}
+use Rattle.rt_base.specs.declared.TheConstants.{MOST_TASKS}
 use Rattle.rt_task.specs.declared.Task.{Task}
 use Rattle.rt_order.specs.declared.Key.{Key}
 use Rattle.rt_rules.specs.Numbers.{numbers_from}
@@ -51,7 +52,7 @@ opened m tasks =
 
 -- what the opening rests on
 pub record CanOpen (m : ℕ) (tasks : List Task) : Type 0 where
-  pub few : length tasks ≤ 1024
+  pub few : length tasks ≤ MOST_TASKS
   pub phases : All (λ (t : Task). t.phase < 2 ^ 62) tasks
   pub deadlines : All (λ (t : Task). t.rel_deadline < 2 ^ 62) tasks
   pub bounded : All (IsBounded (length tasks)) (first_waiting tasks)

@@ -1,5 +1,6 @@
 -- What the engine keeps of the past that its entries made, part by part.
 use Rattle.std.specs.Prelude.{◌≡◌, ℕ, ◌+◌, ◌-◌, ◌*◌, ◌<◌, ◌≤◌, true, false, not, nat_le, List, ◌∷◌, All, length, map, take, Option, None, Some, slice_index, slice_index_or, ◌^◌}
+use Rattle.rt_base.specs.declared.TheConstants.{MOST_STEPS}
 use Rattle.rt_task.specs.declared.Task.{Task}
 use Rattle.rt_task.specs.Validity.{IsValid}
 use Rattle.rt_order.specs.declared.Key.{Key}
@@ -125,7 +126,7 @@ pub record HasActed (at : Moment) (cpu : ℕ) (act : Act) (reply : Reply) (state
 -- the invariant of the engine: there is room for the entries to come, they are legal so far, and what is kept is of their past
 pub record IsSound (g : Group) (entries : List Entry) (room capacity : ℕ) (state : State) : Type 0 where
   pub played : IsPlayed g
-  pub limit : room ≤ 200000
+  pub limit : room ≤ MOST_STEPS
   pub within : length entries ≤ room
   pub reserved : room ≤ capacity
   pub kept : IsKept g (past_of g entries) state

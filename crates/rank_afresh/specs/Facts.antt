@@ -1,6 +1,6 @@
 -- Plain facts of a group, and the ranking and the links that follow from them afresh.
 use Rattle.std.specs.Prelude.{◌≡◌, ◌≢◌, ℕ, ◌+◌, ◌-◌, ◌*◌, ◌<◌, ◌≤◌, ◌^◌, Bool, true, false, not, nat_le, List, All, length, replicate, Option, None, Some, slice_index, slice_index_or, slice_set}
-use Rattle.rt_base.specs.declared.TheConstants.{TICK_END}
+use Rattle.rt_base.specs.declared.TheConstants.{MOST_STEPS, MOST_TASKS, TICK_END}
 use Rattle.rt_task.specs.declared.Task.{Task}
 use Rattle.rt_order.specs.declared.Key.{Key}
 use Rattle.rt_rules.specs.Numbers.{has, numbers_from}
@@ -79,10 +79,10 @@ pub record IsSmall (t : Task) : Type 0 where
 
 -- what ranking rests on
 pub record CanRank (tasks : List Task) (done : List ℕ) : Type 0 where
-  pub few : length tasks ≤ 1024
+  pub few : length tasks ≤ MOST_TASKS
   pub small : All IsSmall tasks
   pub same_length : length done ≡ length tasks
-  pub few_done : All (λ (n : ℕ). n ≤ 200000) done
+  pub few_done : All (λ (n : ℕ). n ≤ MOST_STEPS) done
 
 -- room for the top of the cluster
 pub record IsRoomy (f : Facts) (best top : ℕ) : Type 0 where

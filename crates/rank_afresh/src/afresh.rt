@@ -1,6 +1,7 @@
 //! One group whose moves are played from plain facts.
 ghost use Rattle.std.specs.Prelude.{◌≡◌, ◌+◌, ◌<◌, ◌≤◌, ◌∷◌, [], IfOk, None, true};
 ghost use Rattle.rt_base.specs.TaskNos.{number_of_task};
+ghost use Rattle.rt_base.specs.declared.TheConstants.{MOST_STEPS};
 ghost use Rattle.rt_model.specs.Past.{Past, Clock};
 ghost use Rattle.rt_model.specs.Runs.{runs};
 ghost use Rattle.rt_model.specs.Links.{linked};
@@ -44,7 +45,7 @@ impl Afresh {
     /// A group of a setup at opening, with room for so many acts. It takes all the memory that the value ever has.
     pub fn open(alloc: Global, setup: &Setup, group: GroupNo, room: u32) -> Result<Afresh, NoMemory>
         requires group { IsGroupOf setup.now group.0 }
-        requires room { room ≤ 200000 }
+        requires room { room ≤ MOST_STEPS }
         requires built { is_built setup.now ≡ true }
         ensures setup { IfOk result (λ a. a.setup ≡ setup.now) }
         ensures group { IfOk result (λ a. a.group ≡ group.0) }

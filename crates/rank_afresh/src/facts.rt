@@ -1,6 +1,7 @@
 //! The plain facts of one group with one cluster, whose processors are numbered from 0.
 ghost use Rattle.std.specs.Prelude.{◌≡◌, ◌+◌, ◌-◌, ◌^◌, ◌<◌, ◌≤◌, ℕ, All, IfOk, length, replicate, max, nat_lt, true, false, None, slice_index, slice_index_or, slice_set};
 ghost use Rattle.rt_base.specs.TaskNos.{number_of_task};
+ghost use Rattle.rt_base.specs.declared.TheConstants.{MOST_STEPS};
 ghost use Rattle.rt_rules.specs.Numbers.{numbers_from};
 ghost use Rattle.rt_rules.specs.Placing.{at_place};
 ghost use Rattle.link_table.specs.Linked.{irq_reply, after_irq};
@@ -201,7 +202,7 @@ impl Facts {
     fn do_end(&mut self, tasks: &[Task], cpu: CpuNo, task: TaskNo) -> Reply
         requires operates { CanOperateNow (state_of tasks.now self.old.facts) tasks.now cpu.0 task.0 }
         requires tasks { CanRank tasks.now self.old.facts.done }
-        requires few { All (λ (n : ℕ). n < 200000) self.old.facts.done }
+        requires few { All (λ (n : ℕ). n < MOST_STEPS) self.old.facts.done }
         ensures acted { (at : Moment) → CanOperate at (state_of tasks.now self.old.facts) tasks.now cpu.0 task.0 → HasActed at cpu.0 (Act.Do Op.End) result (state_of tasks.now self.new.facts) }
         ensures next { IsNext tasks.now self.new.facts.clock self.new.facts.done (numbers_from 1 (length tasks.now)) self.new.next }
         ensures grows { Grows self.old.facts.done self.new.facts.done }
@@ -218,7 +219,7 @@ impl Facts {
         requires acts { CanActNow (state_of tasks.now self.old.facts) tasks.now cpu.0 }
         requires built { is_built_act act ≡ true }
         requires tasks { CanRank tasks.now self.old.facts.done }
-        requires few { All (λ (n : ℕ). n < 200000) self.old.facts.done }
+        requires few { All (λ (n : ℕ). n < MOST_STEPS) self.old.facts.done }
         requires next { IsNext tasks.now self.old.facts.clock self.old.facts.done (numbers_from 1 (length tasks.now)) self.old.next }
         ensures acted { (at : Moment) → CanAct at (state_of tasks.now self.old.facts) tasks.now cpu.0 → HasActed at cpu.0 act result (state_of tasks.now self.new.facts) }
         ensures next { IsNext tasks.now self.new.facts.clock self.new.facts.done (numbers_from 1 (length tasks.now)) self.new.next }

@@ -1,6 +1,7 @@
 -- Well-formed bodies: end is the last operation, and no operation is refused to a job that is granted each lock.
 use Rattle.std.specs.List.{list_any}
 use Rattle.std.specs.Prelude.{ℕ, Bool, true, false, not, ◌&&◌, ◌||◌, ◌==◌, nat_le, List, [], ◌∷◌, length, Option, None, Some, if◌then◌else◌}
+use Rattle.rt_base.specs.declared.TheConstants.{MOST_HELD}
 use Rattle.rt_task.specs.declared.Op.{Op}
 use Rattle.rt_task.specs.declared.draft.Piece.{Piece}
 use Rattle.rt_task.specs.declared.draft.Piece.TheVariants.{Works, Once}
@@ -24,7 +25,7 @@ is_newest s (x ∷ xs) = x == s
 module _ (declared : List ℕ) (pcp : ℕ → Bool) where
   unfoldable pub nests : ℕ → List ℕ → Bool
   nests s [] = false
-  nests s held = not (pcp s) || (list_any (λ r. not (pcp r)) held || (has s held || nat_le 8 (length held)))
+  nests s held = not (pcp s) || (list_any (λ r. not (pcp r)) held || (has s held || nat_le MOST_HELD (length held)))
 
   -- an operation that is not refused, each lock granted
   unfoldable pub after_op : Op → Holding → Option Holding

@@ -1,5 +1,6 @@
 -- A set before its rules are tried, whether a document says it or code made its parts.
 use Rattle.std.specs.Prelude.{◌+◌, nat_lt, if◌then◌else◌, List, [], ◌∷◌, map, flat_map, replicate}
+use Rattle.rt_base.specs.declared.TheConstants.{MOST_OPERATIONS}
 use Rattle.rt_task.specs.declared.Op.{Op}
 use Rattle.rt_task.specs.declared.Op.TheVariants as ops
 use Rattle.rt_task.specs.declared.Task.{Task}
@@ -19,10 +20,10 @@ use Rattle.rt_task.specs.declared.draft.DraftDrive.{DraftDrive}
 use Rattle.rt_task.specs.declared.draft.DraftDrive.TheVariants.{Steps, Horizon}
 use Rattle.rt_task.specs.declared.draft.Draft.{Draft}
 
--- each longest run of Work as one piece, of at most 1,000 units: more are in no valid body
+-- each longest run of Work as one piece, of at most as many units as a body has operations: more are in no valid body
 abbrev pub one_more_work : List Piece → List Piece
 one_more_work [] = Works 1 ∷ []
-one_more_work (Works n ∷ rest) = if nat_lt n 1000 then Works (n + 1) ∷ rest else Works 1 ∷ Works n ∷ rest
+one_more_work (Works n ∷ rest) = if nat_lt n MOST_OPERATIONS then Works (n + 1) ∷ rest else Works 1 ∷ Works n ∷ rest
 one_more_work (Once op ∷ rest) = Works 1 ∷ Once op ∷ rest
 
 -- one more operation in front

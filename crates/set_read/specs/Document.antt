@@ -3,6 +3,7 @@ use Rattle.std.specs.Prelude.{ℕ, ◌+◌, Bool, true, false, not, ◌&&◌, �
 use Rattle.rt_base.specs.declared.TaskNo.{TaskNo}
 use Rattle.rt_base.specs.declared.SemNo.{SemNo}
 use Rattle.rt_base.specs.declared.ResvNo.{ResvNo}
+use Rattle.rt_base.specs.declared.TheConstants.{MOST_PRIO}
 use Rattle.rt_task.specs.declared.Op.{Op}
 use Rattle.rt_task.specs.declared.Op.TheVariants as ops
 use Rattle.rt_task.specs.declared.Act.{Act}
@@ -134,7 +135,7 @@ reservation_form d = do
   kind ← required (one_of reservation_kinds) (codes "kind") d
   budget ← required natural (codes "budget") d
   period ← required natural (codes "period") d
-  prio ← optional natural 511 (codes "prio") d
+  prio ← optional natural MOST_PRIO (codes "prio") d
   Some (record { name = name; cluster = cluster; kind = kind; budget = budget; period = period; prio = prio })
 
 abbrev pub task_members : List (List ℕ)
@@ -151,7 +152,7 @@ task_form names n d = do
   deadline ← optional natural period (codes "deadline") d
   phase ← optional natural 0 (codes "phase") d
   kind ← optional (one_of release_kinds) task_kinds.Periodic (codes "kind") d
-  prio ← optional natural 511 (codes "prio") d
+  prio ← optional natural MOST_PRIO (codes "prio") d
   enforce ← optional truth false (codes "enforce") d
   uses ← optional (list_of (sem_form names)) [] (codes "uses") d
   resv ← optional (or_null (resv_form names)) None (codes "resv") d

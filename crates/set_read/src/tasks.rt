@@ -7,7 +7,7 @@ ghost use Rattle.set_read.specs.Names.{names_seen};
 
 use crate::acts::{NameLists, op_with};
 use crate::forms::{has_only, natural_at, natural_or, protocol_in, text_at, truth_or};
-use rt_base::{ResvNo, SemNo, TaskNo};
+use rt_base::{MOST_PRIO, ResvNo, SemNo, TaskNo};
 use rt_task::{DraftResv, DraftTask, Kind, Name, Op, Piece, Pieces, ResvKind, Sem, SemNos};
 use serde_json::Value;
 use std::alloc::{AllocError, Global};
@@ -74,7 +74,7 @@ pub(crate) fn reservation_of(alloc: Global, v: &Value) -> Result<Option<DraftRes
     let Some(period) = natural_at(v, "period") else {
         return Ok(None);
     };
-    let Some(prio) = natural_or(v, 511, "prio") else {
+    let Some(prio) = natural_or(v, u64::from(MOST_PRIO), "prio") else {
         return Ok(None);
     };
     let name = named(alloc, name)?;
@@ -283,7 +283,7 @@ pub(crate) fn task_of(
     let Some(kind) = kind_of(v) else {
         return Ok(None);
     };
-    let Some(prio) = natural_or(v, 511, "prio") else {
+    let Some(prio) = natural_or(v, u64::from(MOST_PRIO), "prio") else {
         return Ok(None);
     };
     let Some(enforce) = truth_or(v, false, "enforce") else {

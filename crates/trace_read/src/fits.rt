@@ -1,12 +1,13 @@
 //! Which lines a trace of a set may have.
 ghost use Rattle.std.specs.Prelude.{◌≡◌, ◌↔◌, ◌≤◌, All, IsTrue, length};
+ghost use Rattle.rt_base.specs.declared.TheConstants.{MOST_TOTALS};
 ghost use Rattle.trace_lines.specs.Known as known;
 ghost use Rattle.trace_lines.specs.Lines.{link_of, links_of, group_line};
 ghost use Rattle.trace_read.specs.Lines.{line_of};
 ghost use Rattle.trace_read.specs.Seen.{known_seen};
 
 use crate::Line;
-use rt_base::{GroupNo, SemNo, TaskNo};
+use rt_base::{GroupNo, MOST_TOTALS, SemNo, TaskNo};
 use rt_history::{Entry, Reply};
 use rt_task::{Act, Op, Parts};
 use trace_lines::CpuLink;
@@ -91,9 +92,9 @@ fn is_letter(c: u8) -> bool
 }
 
 fn totals_fit(totals: &[u64]) -> bool
-    ensures { IsTrue result ↔ ((length totals.now ≤ 64) × All known.Is64 totals.now) }
+    ensures { IsTrue result ↔ ((length totals.now ≤ MOST_TOTALS) × All known.Is64 totals.now) }
 {
-    totals.len() <= 64
+    totals.len() <= MOST_TOTALS as usize
 }
 
 fn group_fits(k: &Known, group: GroupNo, links: &[CpuLink]) -> bool

@@ -9,13 +9,13 @@ ghost use Rattle.rt_task.specs.RuleWords as words;
 
 use super::seen::add_number;
 use crate::{Draft, Op, Piece, Protocol, SemNos};
-use rt_base::SemNo;
+use rt_base::{MOST_HELD, SemNo};
 use std::alloc::{AllocError, Global};
 use std::collections::HashSet;
 use std::marker::Model;
 
 /// What a job holds while its body is gone through: numbers of semaphores, the newest first, which
-/// are never more than eight, and whether it is non-preemptive.
+/// are never more than `MOST_HELD`, and whether it is non-preemptive.
 #[derive(Drop)]
 struct Held {
     sems: Vec<u32>,
@@ -53,7 +53,10 @@ fn is_nested(d: &Draft, s: u32, held: &[u32]) -> bool
     if held.is_empty() {
         return false;
     }
-    !is_pcp(d, s) || has_other_than_pcp(d, held) || held.contains(&s) || held.len() >= 8
+    !is_pcp(d, s)
+        || has_other_than_pcp(d, held)
+        || held.contains(&s)
+        || held.len() >= MOST_HELD as usize
 }
 
 #[tactic(auto, unfolding(crate::specs::Bodies::after_op))]

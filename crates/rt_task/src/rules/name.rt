@@ -21,7 +21,7 @@ use super::stop;
 use crate::{
     Act, Draft, DraftDrive, DraftResv, DraftStep, DraftTask, Op, Part, Piece, Sem, SetKind, SetStop,
 };
-use rt_base::{ResvNo, SemNo};
+use rt_base::{MOST_NAME_BYTES, ResvNo, SemNo};
 use std::alloc::{AllocError, Global};
 use std::collections::HashSet;
 
@@ -40,7 +40,7 @@ fn are_name_bytes(name: &[u8]) -> bool
 fn is_name(name: &[u8]) -> bool
     ensures { result ≡ words.is_name name.now }
 {
-    name.len() >= 1 && name.len() <= 32 && are_name_bytes(name)
+    name.len() >= 1 && name.len() <= MOST_NAME_BYTES as usize && are_name_bytes(name)
 }
 
 fn is_known(count: usize, n: u32) -> bool

@@ -22,7 +22,7 @@ use crate::{
     Act, Draft, DraftCluster, DraftDrive, DraftResv, DraftStep, DraftTask, Op, Part, Piece,
     PluginKind, SetKind, SetStop,
 };
-use rt_base::TICK_END;
+use rt_base::{MOST_CPUS, MOST_OPERATIONS, MOST_PRIO, TICK_END};
 
 fn is_span(n: u64) -> bool
     ensures { result ≡ words.is_span n }
@@ -33,7 +33,7 @@ fn is_span(n: u64) -> bool
 fn is_prio(n: u64) -> bool
     ensures { result ≡ words.is_prio n }
 {
-    n >= 1 && n <= 511
+    n >= 1 && n <= u64::from(MOST_PRIO)
 }
 
 fn op_in_range(op: Op) -> bool
@@ -49,7 +49,7 @@ fn piece_in_range(piece: Piece) -> bool
     ensures { result ≡ words.piece_in_range piece }
 {
     match piece {
-        Piece::Works(n) => n >= 1 && n <= 1000,
+        Piece::Works(n) => n >= 1 && n <= u64::from(MOST_OPERATIONS),
         Piece::Once(op) => op_in_range(op),
     }
 }
@@ -137,7 +137,7 @@ fn cluster_range(plugin: PluginKind, is_first: bool, top: u64, c: &DraftCluster)
     ensures { (d : Draft) (earlier : List DraftCluster) → d.plugin ≡ plugin → is_first ≡ words.is_empty earlier → top ≡ groups_top earlier → result ≡ rules.cluster_range d earlier c.now }
 {
     c.cpus >= 1
-        && c.cpus <= 64
+        && c.cpus <= u64::from(MOST_CPUS)
         && (!is_partitioned(plugin) || c.cpus == 1)
         && group_follows(is_first, top, c.group)
 }
