@@ -47,7 +47,8 @@ impl Engine {
         requires group { IsGroupOf setup.now group.0 }
         requires room { room ≤ MOST_STEPS }
         requires built { is_built setup.now ≡ true }
-        ensures { IfOk result (λ e. e ≡ record { setup = setup.now; group = group.0; entries = []; spare = room }) }
+        ensures { IfOk result (λ e. e
+            ≡ record { setup = setup.now; group = group.0; entries = []; spare = room }) }
     {
         let setup = setup.share()?;
         let parts = setup.parts();

@@ -20,7 +20,11 @@ replaced m state = record state { links = placed (top_tasks m state.ready) state
 abbrev pub clock_moved : ℕ → (ℕ → ℕ) → ℕ → State → State
 clock_moved m rel_deadline tick state =
     let clock = max state.clock tick in
-    replaced m (record state { clock = clock; ready = due_ready clock rel_deadline state.waiting state.ready; waiting = not_due clock state.waiting })
+    replaced m (record state {
+      clock = clock;
+      ready = due_ready clock rel_deadline state.waiting state.ready;
+      waiting = not_due clock state.waiting;
+    })
 
 -- the processor in this place has worked at this clock
 abbrev pub has_worked : ℕ → State → State
@@ -43,12 +47,22 @@ job_ended m place t is_released job_key wait_key state =
 
 -- all the tasks, in the order of their first releases
 abbrev pub first_waiting : List Task → List Ranked
-first_waiting tasks = ranked_by (λ t. record { band = 0; major = (slice_index_or tasks (t - 1) no_task).phase; minor = t }) (λ t. true) (numbers_from 1 (length tasks))
+first_waiting tasks =
+    let first_release : ℕ → Key = λ t. record { band = 0; major = (slice_index_or tasks (t - 1) no_task).phase; minor = t } in
+    ranked_by first_release (λ t. true) (numbers_from 1 (length tasks))
 
 -- the state of a cluster of m processors at opening: those that are due are ready, and nothing runs
 abbrev pub opened : ℕ → List Task → State
 opened m tasks =
-    replaced m (record { clock = 0; done = replicate (length tasks) 0; worked = replicate m None; ready = due_ready 0 (rel_deadline_of tasks) (first_waiting tasks) []; waiting = not_due 0 (first_waiting tasks); runs = replicate m None; links = replicate m None })
+    replaced m (record {
+      clock = 0;
+      done = replicate (length tasks) 0;
+      worked = replicate m None;
+      ready = due_ready 0 (rel_deadline_of tasks) (first_waiting tasks) [];
+      waiting = not_due 0 (first_waiting tasks);
+      runs = replicate m None;
+      links = replicate m None;
+    })
 
 -- what the opening rests on
 pub record CanOpen (m : ℕ) (tasks : List Task) : Type 0 where

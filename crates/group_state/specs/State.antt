@@ -36,7 +36,8 @@ key_at g t k = record { band = 2; major = release_at g t k + (task g t).rel_dead
 abbrev pub wait_key : Group → ℕ → ℕ → Key
 wait_key g t k = record { band = 0; major = release_at g t k; minor = t }
 
--- the state: the clock, the jobs that ended by task, the clock of each processor's last Work, the tasks that are ready and those that wait for a release, what runs and what is linked
+-- the state: the clock, the jobs that ended by task, the clock of each processor's last Work, the tasks that are ready and
+-- those that wait for a release, what runs and what is linked
 pub record State : Type 0 where
   pub clock : ℕ
   pub done : List ℕ
@@ -59,7 +60,8 @@ pub record IsKept (g : Group) (p : Past) (s : State) : Type 0 where
   pub worked_length : length s.worked ≡ cpus g 0
   pub worked_are : (q : ℕ) → q < cpus g 0 → slice_index_or s.worked q None ≡ last_work q p
   pub ready_is : s.ready ≡ ranked_by (λ t. key_at g t (done t p)) (λ t. nat_le (release_at g t (done t p)) (now p)) (tasks_of g 0)
-  pub waiting_is : s.waiting ≡ ranked_by (λ t. wait_key g t (done t p)) (λ t. not (nat_le (release_at g t (done t p)) (now p))) (tasks_of g 0)
+  pub waiting_is : s.waiting
+      ≡ ranked_by (λ t. wait_key g t (done t p)) (λ t. not (nat_le (release_at g t (done t p)) (now p))) (tasks_of g 0)
   pub runs_are : s.runs ≡ runs_of g 0 p
   pub links_are : s.links ≡ links g 0 p
   pub awake : (t : ℕ) → wakes t p ≡ 0

@@ -21,7 +21,8 @@ pub record Facts : Type 0 where
 
 -- the task's current job: its release, and its key
 abbrev pub release_of : List Task → List ℕ → ℕ → ℕ
-release_of tasks done t = (slice_index_or tasks (t - 1) no_task).phase + slice_index done (t - 1) * (slice_index_or tasks (t - 1) no_task).period
+release_of tasks done t =
+    (slice_index_or tasks (t - 1) no_task).phase + slice_index done (t - 1) * (slice_index_or tasks (t - 1) no_task).period
 
 abbrev pub key_of : List Task → List ℕ → ℕ → Key
 key_of tasks done t = record { band = 2; major = release_of tasks done t + (slice_index_or tasks (t - 1) no_task).rel_deadline; minor = t }
@@ -37,7 +38,9 @@ abbrev pub ready_of : List Task → ℕ → List ℕ → List Ranked
 ready_of tasks clock done = ranking_of tasks clock done (numbers_from 1 (length tasks))
 
 abbrev pub waiting_of : List Task → ℕ → List ℕ → List Ranked
-waiting_of tasks clock done = ranked_by (λ t. record { band = 0; major = release_of tasks done t; minor = t }) (λ t. not (is_due tasks clock done t)) (numbers_from 1 (length tasks))
+waiting_of tasks clock done =
+    let next_release : ℕ → Key = λ t. record { band = 0; major = release_of tasks done t; minor = t } in
+    ranked_by next_release (λ t. not (is_due tasks clock done t)) (numbers_from 1 (length tasks))
 
 -- the top of a cluster of m processors
 abbrev pub top_of : ℕ → List Task → ℕ → List ℕ → List ℕ
@@ -53,7 +56,15 @@ relinked m tasks f = record f { links = links_of m tasks f }
 
 -- the facts, with the ranking that follows from them, as what is kept of a past
 abbrev pub state_of : List Task → Facts → State
-state_of tasks f = record { clock = f.clock; done = f.done; worked = f.worked; ready = ready_of tasks f.clock f.done; waiting = waiting_of tasks f.clock f.done; runs = f.runs; links = f.links }
+state_of tasks f = record {
+  clock = f.clock;
+  done = f.done;
+  worked = f.worked;
+  ready = ready_of tasks f.clock f.done;
+  waiting = waiting_of tasks f.clock f.done;
+  runs = f.runs;
+  links = f.links;
+}
 
 -- the links and runs among the facts
 abbrev pub linked_in : Facts → Linked
@@ -61,7 +72,13 @@ linked_in f = record { first = 0; runs = f.runs; links = f.links }
 
 -- a cluster of m processors before anything is linked
 abbrev pub unlinked : ℕ → List Task → Facts
-unlinked m tasks = record { clock = 0; done = replicate (length tasks) 0; worked = replicate m None; runs = replicate m None; links = replicate m None }
+unlinked m tasks = record {
+  clock = 0;
+  done = replicate (length tasks) 0;
+  worked = replicate m None;
+  runs = replicate m None;
+  links = replicate m None;
+}
 
 -- the processor in this place has worked at this clock
 abbrev pub has_worked : ℕ → Facts → Facts

@@ -82,8 +82,10 @@ impl Afresh {
         requires cpu { IsProcessorOf (group_of self.old) step.cpu.0 }
         requires act { is_built_act step.act ≡ true }
         requires clocked { (past : Past) × IsAt self.old (Clock step.tick.0 ∷ past) }
-        ensures reply { (past : Past) → IsAt self.old (Clock step.tick.0 ∷ past) → result ≡ reply_to (group_of self.old) step past }
-        ensures acted { (past : Past) → IsAt self.old (Clock step.tick.0 ∷ past) → IsAt self.new (after (group_of self.old) step past) }
+        ensures reply { (past : Past) → IsAt self.old (Clock step.tick.0 ∷ past)
+            → result ≡ reply_to (group_of self.old) step past }
+        ensures acted { (past : Past) → IsAt self.old (Clock step.tick.0 ∷ past)
+            → IsAt self.new (after (group_of self.old) step past) }
         ensures same { IsOfSame self.old self.new }
         ensures room { self.new.spare + 1 ≡ self.old.spare }
     {
@@ -96,7 +98,8 @@ impl Afresh {
     /// What the processor is linked to.
     pub fn linked(&self, cpu: CpuNo) -> Option<TaskNo>
         requires { IsProcessorOf (group_of self.now) cpu.0 }
-        ensures { (past : Past) → IsAt self.now past → number_of_task result ≡ linked (group_of self.now) cpu.0 past }
+        ensures { (past : Past) → IsAt self.now past
+            → number_of_task result ≡ linked (group_of self.now) cpu.0 past }
     {
         self.facts.linked(cpu)
     }
@@ -112,7 +115,8 @@ impl Afresh {
     /// The task whose job the last move ended, and whether the clock was past that job's deadline; `None` where it ended
     /// no job.
     pub fn ended(&self) -> Option<(TaskNo, bool)>
-        ensures { (past : Past) → IsAt self.now past → result ≡ ended_last (group_of self.now) past }
+        ensures { (past : Past) → IsAt self.now past → result
+            ≡ ended_last (group_of self.now) past }
     {
         self.ended
     }

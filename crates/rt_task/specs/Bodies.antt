@@ -13,6 +13,10 @@ pub record Holding : Type 0 where
   pub held : List ℕ
   pub np : Bool
 
+-- at its release it holds nothing and is preemptive
+abbrev pub at_release : Holding
+at_release = record { held = []; np = false }
+
 abbrev pub without : ℕ → List ℕ → List ℕ
 without s [] = []
 without s (x ∷ xs) = if x == s then xs else x ∷ without s xs
@@ -30,8 +34,11 @@ module _ (declared : List ℕ) (pcp : ℕ → Bool) where
   -- an operation that is not refused, each lock granted
   unfoldable pub after_op : Op → Holding → Option Holding
   after_op ops.Work h = Some h
-  after_op (ops.Lock s) h = if not h.np && (has s.0 declared && not (nests s.0 h.held)) then Some (record h { held = s.0 ∷ h.held }) else None
-  after_op (ops.Unlock s) h = if has s.0 h.held && (not (pcp s.0) || is_newest s.0 h.held) then Some (record h { held = without s.0 h.held }) else None
+  after_op (ops.Lock s) h =
+      if not h.np && (has s.0 declared && not (nests s.0 h.held)) then Some (record h { held = s.0 ∷ h.held }) else None
+  after_op (ops.Unlock s) h =
+      if has s.0 h.held
+      && (not (pcp s.0) || is_newest s.0 h.held) then Some (record h { held = without s.0 h.held }) else None
   after_op (ops.Sleep n) h = if not h.np && is_empty h.held then Some h else None
   after_op ops.NpOn h = if h.np then None else Some (record h { np = true })
   after_op ops.NpOff h = if h.np then Some (record h { np = false }) else None

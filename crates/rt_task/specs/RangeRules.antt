@@ -36,7 +36,9 @@ module _ (d : Draft) where
   resv_range earlier r = is_span r.period && (within 1 r.period r.budget && (is_prio r.prio && nat_lt r.cluster (length d.clusters)))
 
   unfoldable pub task_range : List DraftTask → DraftTask → Bool
-  task_range earlier p = is_span p.cost && (is_span p.period && (is_span p.rel_deadline && (nat_lt p.phase TICK_END && (is_prio p.prio && (nat_lt p.cluster (length d.clusters) && list_all piece_in_range p.pieces)))))
+  task_range earlier p =
+      is_span p.cost && (is_span p.period && (is_span p.rel_deadline && (nat_lt p.phase TICK_END && (is_prio p.prio
+      && (nat_lt p.cluster (length d.clusters) && list_all piece_in_range p.pieces)))))
 
   unfoldable pub step_range : List DraftStep → DraftStep → Bool
   step_range earlier s = nat_lt s.cpu (cpus d) && (nat_lt s.tick TICK_END && act_in_range s.act)

@@ -69,7 +69,9 @@ abbrev pub bare_ops : List (List ℕ × Op)
 bare_ops = (codes "npon", ops.NpOn) ∷ (codes "npoff", ops.NpOff) ∷ (codes "end", ops.End) ∷ []
 
 abbrev pub bare_acts : List (List ℕ × Act)
-bare_acts = (codes "tick", acts.Tick) ∷ (codes "irq", acts.Irq) ∷ (codes "work", acts.Do ops.Work) ∷ (codes "npon", acts.Do ops.NpOn) ∷ (codes "npoff", acts.Do ops.NpOff) ∷ (codes "end", acts.Do ops.End) ∷ []
+bare_acts =
+    (codes "tick", acts.Tick) ∷ (codes "irq", acts.Irq) ∷ (codes "work", acts.Do ops.Work)
+    ∷ (codes "npon", acts.Do ops.NpOn) ∷ (codes "npoff", acts.Do ops.NpOff) ∷ (codes "end", acts.Do ops.End) ∷ []
 
 -- an operation with its one argument
 abbrev pub op_with : Names → List ℕ → Data → Option Op
@@ -139,7 +141,9 @@ reservation_form d = do
   Some (record { name = name; cluster = cluster; kind = kind; budget = budget; period = period; prio = prio })
 
 abbrev pub task_members : List (List ℕ)
-task_members = codes "name" ∷ codes "cluster" ∷ codes "cost" ∷ codes "period" ∷ codes "deadline" ∷ codes "phase" ∷ codes "kind" ∷ codes "prio" ∷ codes "enforce" ∷ codes "uses" ∷ codes "resv" ∷ codes "body" ∷ codes "early" ∷ []
+task_members =
+    codes "name" ∷ codes "cluster" ∷ codes "cost" ∷ codes "period" ∷ codes "deadline" ∷ codes "phase" ∷ codes "kind"
+    ∷ codes "prio" ∷ codes "enforce" ∷ codes "uses" ∷ codes "resv" ∷ codes "body" ∷ codes "early" ∷ []
 
 -- the n-th task
 unfoldable pub task_form : Names → ℕ → Data → Option DraftTask

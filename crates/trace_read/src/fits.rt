@@ -98,13 +98,16 @@ fn totals_fit(totals: &[u64]) -> bool
 }
 
 fn group_fits(k: &Known, group: GroupNo, links: &[CpuLink]) -> bool
-    ensures { IsTrue result ↔ known.IsLine (known_seen k.now) (group_line group.0 (links_of links.now)) }
+    ensures { IsTrue result
+        ↔ known.IsLine (known_seen k.now) (group_line group.0 (links_of links.now)) }
 {
     links.len() >= 1 && links_fit(k, links)
 }
 
 fn entry_fits(k: &Known, no: u32, entry: Entry, links: &[CpuLink]) -> bool
-    ensures { IsTrue result ↔ known.IsEntryLine (known_seen k.now) no entry.step.tick.0 entry.step.cpu.0 entry.step.act entry.reply (links_of links.now) }
+    ensures { IsTrue result ↔ known.IsEntryLine
+        (known_seen k.now) no entry.step.tick.0 entry.step.cpu.0 entry.step.act entry.reply
+        (links_of links.now) }
 {
     act_fits(k, entry.step.act) && reply_fits(k, entry.reply) && links_fit(k, links)
 }
@@ -118,7 +121,8 @@ fn block_fits(
     ends_all: u32,
     bound: Option<u32>,
 ) -> bool
-    ensures { IsTrue result ↔ known.IsBlockLine (known_seen k.now) no task.0 sem.0 ends ends_all bound }
+    ensures { IsTrue result
+        ↔ known.IsBlockLine (known_seen k.now) no task.0 sem.0 ends ends_all bound }
 {
     is_number_of(k.tasks, task.0) && is_number_of(k.sems, sem.0)
 }

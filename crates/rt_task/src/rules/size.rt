@@ -106,7 +106,7 @@ fn tasks_of_size(d: &Draft) -> Result<(), SetStop>
 }
 
 /// The rules of the kind Size.
-pub(super) fn is_of_size(d: &Draft) -> Result<(), SetStop>
+pub(super) fn check_sizes(d: &Draft) -> Result<(), SetStop>
     ensures { Keeps result (first (size_rows d.now)) }
 {
     whole_of_size(d)?;
