@@ -6,7 +6,7 @@ use Rattle.std.proofs.lemmas.Bool.Decides.{nat_tests}
 use Rattle.rt_base.specs.declared.TaskNo.{TaskNo}
 use Rattle.rt_base.specs.TaskNos.{number_of_task, numbers_of_tasks}
 use Rattle.rt_order.specs.declared.Key.{Key}
-use Rattle.rt_order.specs.KeyOrder.{higher}
+use Rattle.rt_order.specs.KeyOrder.{higher, lowest_key}
 use Rattle.rt_rules.specs.Numbers.{has, is, numbers_from}
 use Rattle.rt_rules.specs.Keys.{highest}
 use Rattle.rt_rules.specs.Walks.{walk, followers}
@@ -15,7 +15,7 @@ use Rattle.sem_laws.specs.KeptKeys.{key_at}
 use Rattle.sem_laws.proofs.Members.{equal_self}
 use Rattle.sem_laws.proofs.Tests.{clash, both, is-some, some-is}
 use Rattle.sem_laws.proofs.KeyLaws.{higher-self, higher-trans}
-use Rattle.prio_inherit.specs.Waits.{next_of, base_of, lowest_key, NoWalkComesRound}
+use Rattle.prio_inherit.specs.Waits.{next_of, base_of, NoWalkComesRound}
 use Rattle.prio_inherit.specs.Local.{IsTop, IsLocal, IsInherit, IsSettling}
 use Rattle.prio_inherit.proofs.Walking.{after, after-step, after-all, kept-is}
 
