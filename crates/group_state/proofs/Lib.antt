@@ -1,4 +1,3 @@
-pub mod Ahead
 pub mod Ranking
 pub mod Fresh
 pub mod Rules

@@ -4,7 +4,7 @@ ghost use Rattle.rt_base.specs.TaskNos.{number_of_task, numbers, numbers_of_task
 ghost use Rattle.rt_rules.specs.Distinct.{IsDistinct};
 ghost use Rattle.rt_rules.specs.Numbers.{has};
 ghost use Rattle.rt_rules.specs.Placing.{filled_with, kept, kept_link, placed, tasks_in};
-ghost use Rattle.rank_afresh.specs.Taken.{first_taken};
+ghost use Rattle.link_table.specs.Linked.{first_taken};
 
 use rt_base::TaskNo;
 
