@@ -1,6 +1,5 @@
 pub mod Ahead
 pub mod Ranking
-pub mod Fresh
 pub mod Rules
 pub mod DueLaws
 pub mod Plain
