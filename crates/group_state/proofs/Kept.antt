@@ -27,7 +27,7 @@ use Rattle.rt_rules.proofs.NumberLaws.{has-numbers_from}
 use Rattle.group_state.proofs.PlainGroup.{IsPlainGroup, task_range}
 use Rattle.group_state.specs.Moves.{clock_moved, job_ended}
 use Rattle.group_state.proofs.PlainModel.{ranking-at}
-use Rattle.group_state.proofs.Fresh.{placed-again}
+use Rattle.rt_laws.proofs.PlacedAgain.{placed-again}
 use Rattle.group_state.proofs.Ranking.{ranked_by-same, ranked_by-less, ranked_by-with}
 use Rattle.group_state.proofs.DueLaws.{due}
 

@@ -1,5 +1,4 @@
 pub mod Ranking
-pub mod Fresh
 pub mod Rules
 pub mod DueLaws
 pub mod Plain

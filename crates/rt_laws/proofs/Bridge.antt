@@ -2,6 +2,7 @@
 use Rattle.std.proofs.Common.{List, [], false, inl, inr, not, refl, sym, true, ℕ, ◌||◌, ◌∙◌, ◌∷◌, ◌≡◌, ◌⊎◌}
 use Rattle.std.specs.Prelude.{None, Option, Some, is_some}
 use Rattle.rt_rules.specs.Numbers.{has, is, is_empty}
+use Rattle.rt_rules.specs.Pcp.{of_sem}
 use Rattle.rt_rules.specs.SemState.{Asks}
 use Rattle.rt_model.specs.Answers.{nests}
 use Rattle.rt_model.specs.Ceilings.{above_ceiling, is_pcp, pcp}
@@ -25,7 +26,9 @@ use Rattle.rt_laws.proofs.Holding.{one-holds}
 use Rattle.rt_laws.proofs.Moves.{by_moves, last_move}
 use Rattle.rt_laws.proofs.Next.{IsNext, next}
 use Rattle.rt_laws.proofs.OneWait.{awaits-is, waits_once}
-use Rattle.rt_laws.proofs.PcpState.{IsPcpKept, pcp_kept, user-not_over}
+use Rattle.rt_laws.proofs.PcpGrants.{held_once}
+use Rattle.rt_laws.proofs.PcpOnce.{length-one}
+use Rattle.rt_laws.proofs.PcpState.{IsPcpKept, IsUser, pcp_kept, sem-home, user-not_over}
 use Rattle.rt_laws.proofs.Rules.{MeetsRules}
 use Rattle.rt_laws.proofs.Running.{IsRunning, running}
 use Rattle.rt_laws.proofs.ValidSets.{rules_of}
@@ -115,11 +118,22 @@ holder_holds_one g past valid made t s r hs hr n h k = split (alone g (rules_of 
     split (inr p) = absurd (clash _ p.0 n)
 
 pub one_holder : OneHolder
-one_holder g past valid made c s t u h k =
-    let kept : IsPcpKept g c (pcp g c past) = pcp_kept g (rules_of g valid) c made in
-    let a : has_pair t s (pcp g c past).held ≡ true = sym (has-of_sem t s (pcp g c past).held) ∙ h in
-    let b : has_pair u s (pcp g c past).held ≡ true = sym (has-of_sem u s (pcp g c past).held) ∙ k in
-    one_holder_of (above_ceiling g) (pcp g c past).held kept.stack.stacked t u s (user-not_over g t s (kept.held t s a).user) (user-not_over g u s (kept.held u s b).user) a b
+one_holder g past valid made s = record {
+  once = λ c. length-one (of_sem s (pcp g c past).held) ((held_once g (rules_of g valid) c made).once s) (λ t u h k. one_task c t u h k);
+  one_cluster = λ b c t u h k. sym (sem-home g (rules_of g valid) b t s (user b t h)) ∙ sem-home g (rules_of g valid) c u s (user c u k);
+}
+  where
+    kept : (c : ℕ) → IsPcpKept g c (pcp g c past)
+    kept c = pcp_kept g (rules_of g valid) c made
+
+    pair : (c t : ℕ) → has t (of_sem s (pcp g c past).held) ≡ true → has_pair t s (pcp g c past).held ≡ true
+    pair c t h = sym (has-of_sem t s (pcp g c past).held) ∙ h
+
+    user : (c t : ℕ) → has t (of_sem s (pcp g c past).held) ≡ true → IsUser g c t s
+    user c t h = (kept c).held t s (pair c t h)
+
+    one_task : (c t u : ℕ) → has t (of_sem s (pcp g c past).held) ≡ true → has u (of_sem s (pcp g c past).held) ≡ true → t ≡ u
+    one_task c t u h k = one_holder_of (above_ceiling g) (pcp g c past).held (kept c).stack.stacked t u s (user-not_over g t s (user c t h).user) (user-not_over g u s (user c u k).user) (pair c t h) (pair c u k)
 
 pub histories_are_made : HistoriesAreMade
 unfolding past_of

@@ -2,8 +2,9 @@
 use Rattle.std.specs.Prelude.{length, true, ℕ, ◌<◌, ◌≡◌, ◌≤◌}
 use Rattle.rt_task.specs.RuleWords.{is_of_one_cluster, stands_under}
 use Rattle.rt_task.specs.declared.Kind.TheVariants.{Periodic}
+use Rattle.rt_task.specs.declared.ResvKind.TheVariants.{Sporadic}
 use Rattle.rt_rules.specs.Numbers.{has}
-use Rattle.rt_model.specs.Group.{Group, cpus, declares, home, protocol, sems, task, tasks, users}
+use Rattle.rt_model.specs.Group.{Group, cpus, declares, home, protocol, resv, sems, task, tasks, users}
 
 -- the setup of a group keeps the rules
 pub record MeetsRules (g : Group) : Type 0 where
@@ -15,6 +16,8 @@ pub record MeetsRules (g : Group) : Type 0 where
   pub has_cost : (t : ℕ) → has t (tasks g) ≡ true → 1 ≤ (task g t).cost
   pub is_periodic : (t : ℕ) → (task g t).early ≡ true → (task g t).kind ≡ Periodic
   pub is_known : (t s : ℕ) → has t (tasks g) ≡ true → declares g t s ≡ true → has s (sems g) ≡ true
+  -- a sporadic reservation has a period
+  pub has_period : (r : ℕ) → (resv g r).kind ≡ Sporadic → 1 ≤ (resv g r).period
   -- each protocol stands under its plugins, and where its users share a cluster they do
   pub is_allowed : (s : ℕ) → has s (sems g) ≡ true → stands_under (protocol g s) g.setup.plugin ≡ true
   pub shares : (s t u : ℕ) → is_of_one_cluster (protocol g s) g.setup.plugin ≡ true → has t (users g s) ≡ true → has u (users g s) ≡ true → home g t ≡ home g u

@@ -4,10 +4,10 @@ use Rattle.std.proofs.lemmas.List.{get_or-map, length-map}
 use Rattle.std.specs.List.{list_all, list_any}
 use Rattle.std.specs.Prelude.{None, Option, Some, bytes_eq, filter, if◌then◌else◌, nat_le, nat_lt, option_map, slice_index_or, ⊤, ◌==◌}
 use Rattle.rt_base.specs.declared.TheConstants.{MOST_CPUS, TICK_END}
-use Rattle.rt_task.specs.Draft.{draft_cluster, draft_of, draft_task, runs}
+use Rattle.rt_task.specs.Draft.{draft_cluster, draft_of, draft_resv, draft_task, runs}
 use Rattle.rt_task.specs.Lookups.{group_of}
 use Rattle.rt_task.specs.NameRules.{piece_is_known, resv_is_known, task_name}
-use Rattle.rt_task.specs.RangeRules.{cluster_range, task_range, whole_range}
+use Rattle.rt_task.specs.RangeRules.{cluster_range, resv_range, task_range, whole_range}
 use Rattle.rt_task.specs.Refusals.{bad, each, first, first_failing, whole}
 use Rattle.rt_task.specs.RuleWords as words
 use Rattle.rt_task.specs.RuleWords.{all_same, allows_clusters, is_known, is_name, is_of_one_cluster, is_periodic, is_prio, is_span, no_repeat, piece_in_range, sem_numbers, stands_under, within}
@@ -18,6 +18,7 @@ use Rattle.rt_task.specs.declared.Kind.{Kind}
 use Rattle.rt_task.specs.declared.Parts.{Parts}
 use Rattle.rt_task.specs.declared.PluginKind.TheVariants as plugins
 use Rattle.rt_task.specs.declared.PluginKind.{PluginKind}
+use Rattle.rt_task.specs.declared.ResvKind.TheVariants as resv_kinds
 use Rattle.rt_task.specs.declared.Sem.{Sem}
 use Rattle.rt_task.specs.declared.Task.{Task}
 use Rattle.rt_task.specs.declared.bad_set.BadSet.{BadSet}
@@ -27,9 +28,10 @@ use Rattle.rt_task.specs.declared.bad_set.SetKind.TheVariants as kinds
 use Rattle.rt_task.specs.declared.bad_set.SetKind.{SetKind}
 use Rattle.rt_task.specs.declared.draft.Draft.{Draft}
 use Rattle.rt_task.specs.declared.draft.DraftCluster.{DraftCluster}
+use Rattle.rt_task.specs.declared.draft.DraftResv.{DraftResv}
 use Rattle.rt_task.specs.declared.draft.DraftTask.{DraftTask}
 use Rattle.rt_rules.specs.Numbers.{has, numbers_from}
-use Rattle.rt_model.specs.Group.{Group, cluster, cpus, declares, home, no_cluster, no_sem, no_task, protocol, sem, sems, task, tasks, users}
+use Rattle.rt_model.specs.Group.{Group, cluster, cpus, declares, home, no_cluster, no_resv, no_sem, no_task, protocol, resv, sem, sems, task, tasks, users}
 use Rattle.rt_rules.proofs.BoolLaws.{both, either, or_true}
 use Rattle.rt_rules.proofs.MemberLaws.{equal_self, has-filter, list_all-has, turned}
 use Rattle.rt_rules.proofs.NumberLaws.{has-numbers_from, numbers_from-has}
@@ -88,6 +90,7 @@ record KeepsRows (p : Parts) : Type 0 where
   cluster : (i : ℕ) (d : DraftCluster) → i < length (draft_of p).clusters → KeepsRule (cluster_range (draft_of p)) i (slice_index_or (draft_of p).clusters i d)
   range : (i : ℕ) (d : DraftTask) → i < length (draft_of p).tasks → KeepsRule (task_range (draft_of p)) i (slice_index_or (draft_of p).tasks i d)
   name : (i : ℕ) (d : DraftTask) → i < length (draft_of p).tasks → KeepsRule (task_name (draft_of p)) i (slice_index_or (draft_of p).tasks i d)
+  resv : (i : ℕ) (d : DraftResv) → i < length (draft_of p).resvs → KeepsRule (resv_range (draft_of p)) i (slice_index_or (draft_of p).resvs i d)
   sem : (i : ℕ) (d : Sem) → i < length p.sems → KeepsRule (sem_sharing (draft_of p)) i (slice_index_or p.sems i d)
   task : (i : ℕ) (d : DraftTask) → i < length (draft_of p).tasks → KeepsRule (task_sharing (draft_of p)) i (slice_index_or (draft_of p).tasks i d)
 
@@ -103,6 +106,7 @@ keeps_rows p valid =
     record {
       whole = whole-none kinds.Range (whole_range d) range.0;
       cluster = λ i x low. each-keeps kinds.Range parts.Cluster (cluster_range d) d.clusters i x range.1.0 low;
+      resv = λ i x low. each-keeps kinds.Range parts.Resv (resv_range d) d.resvs i x range.1.1.0 low;
       range = λ i x low. each-keeps kinds.Range parts.Task (task_range d) d.tasks i x range.1.1.1.0 low;
       name = λ i x low. each-keeps kinds.Name parts.Task (task_name d) d.tasks i x name.1.1.0 low;
       sem = λ i x low. each-keeps kinds.Sharing parts.Sem (sem_sharing d) d.sems i x sharing.0 low;
@@ -156,11 +160,11 @@ early-periodic : (early periodic : Bool) → not early || periodic ≡ true → 
 early-periodic true periodic h e = h
 early-periodic false periodic h e = cc
 
--- a number that stands for no task stands for one that is not early
-beyond : (ts : List Task) (i : ℕ) → length ts ≤ i → slice_index_or ts i no_task ≡ no_task
-beyond [] i h = refl
-beyond (t ∷ ts) zero h = absurd (omega arith)
-beyond (t ∷ ts) (suc i) h = beyond ts i (omega arith)
+-- a number beyond a list stands for the default
+beyond : {A : Type 0} (d : A) (xs : List A) (i : ℕ) → length xs ≤ i → slice_index_or xs i d ≡ d
+beyond d [] i h = refl
+beyond d (x ∷ xs) zero h = absurd (omega arith)
+beyond d (x ∷ xs) (suc i) h = beyond d xs i (omega arith)
 
 -- ---- the clusters of a semaphore's users
 
@@ -256,7 +260,21 @@ module _ (g : Group) (valid : IsValid g.setup) where
       by_case true low =
           let r = task-keeps g.setup (task_sharing (draft_of g.setup)) rows.task (t - 1) (ltb-true _ _ low) in
           periodic-is (task g t).kind (early-periodic (task g t).early (is_periodic (task g t).kind) (both _ _ (both _ _ r.keeps).1).1 e)
-      by_case false low = let none : task g t ≡ no_task = beyond g.setup.tasks (t - 1) (ltb-false _ _ low) in ap (λ (x : Task). x.kind) none
+      by_case false low = let none : task g t ≡ no_task = beyond no_task g.setup.tasks (t - 1) (ltb-false _ _ low) in ap (λ (x : Task). x.kind) none
+
+  -- a number that stands for no reservation stands for a polling one
+  a_period : (r : ℕ) → (resv g r).kind ≡ resv_kinds.Sporadic → 1 ≤ (resv g r).period
+  unfolding resv resv_range
+  a_period r sporadic = by_case (nat_lt (r - 1) (length g.setup.resvs)) refl
+    where
+      by_case : (b : Bool) → nat_lt (r - 1) (length g.setup.resvs) ≡ b → 1 ≤ (slice_index_or g.setup.resvs (r - 1) no_resv).period
+      by_case true low =
+          let inside : r - 1 < length g.setup.resvs = ltb-true _ _ low in
+          let k = rows.resv (r - 1) (draft_resv no_resv) (rw (length-map g.setup.resvs draft_resv) inside) in
+          let n : ℕ = (slice_index_or (draft_of g.setup).resvs (r - 1) (draft_resv no_resv)).period in
+          let is : n ≡ (slice_index_or g.setup.resvs (r - 1) no_resv).period = ap (λ (x : DraftResv). x.period) (get_or-map draft_resv g.setup.resvs (r - 1) no_resv (draft_resv no_resv) inside) in
+          rw is at (within-bounds 1 _ n (both _ _ k.keeps).0).0
+      by_case false high = let none : slice_index_or g.setup.resvs (r - 1) no_resv ≡ no_resv = beyond no_resv g.setup.resvs (r - 1) (ltb-false _ _ high) in let k : (slice_index_or g.setup.resvs (r - 1) no_resv).kind ≡ resv_kinds.Polling = rw none in cc
 
   sem_at : (s : ℕ) → has s (sems g) ≡ true → KeepsRule (sem_sharing (draft_of g.setup)) (s - 1) (sem g s)
   unfolding sem
@@ -288,6 +306,7 @@ module _ (g : Group) (valid : IsValid g.setup) where
     has_cost = a_cost;
     is_periodic = periodic;
     is_known = declared_sem;
+    has_period = a_period;
     is_allowed = allowed;
     shares = users_share;
   }

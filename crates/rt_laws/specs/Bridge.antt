@@ -1,5 +1,5 @@
 -- Tasks and semaphores: what each task that runs, holds or waits may rely on.
-use Rattle.std.specs.Prelude.{◌≡◌, ℕ, Bool, true, false, not, ◌||◌, ◌∷◌, None, Some, is_some}
+use Rattle.std.specs.Prelude.{◌≡◌, ℕ, ◌≤◌, length, Bool, true, false, not, ◌||◌, ◌∷◌, None, Some, is_some}
 use Rattle.rt_rules.specs.Numbers.{has, is_empty}
 use Rattle.rt_rules.specs.Pcp.{of_sem}
 use Rattle.rt_rules.specs.SemState.{Asks}
@@ -66,6 +66,12 @@ HolderHoldsOne = EveryPast (λ g past. (t s r : ℕ) → has s (sems g) ≡ true
 abbrev pub HolderWaitsNot : Type 0
 HolderWaitsNot = EveryPast (λ g past. (t s : ℕ) → has s (sems g) ≡ true → is_pcp (protocol g s) ≡ false → holder g s past ≡ Some t → awaits g t past ≡ None)
 
--- Each semaphore has at most one holder: no two tasks stand for one semaphore among the PCP grants of a cluster; under the other protocols the holder is one by its form.
+-- a semaphore stands once among the PCP grants of all clusters
+pub record HasOneGrant (g : Group) (s : ℕ) (past : Past) : Type 0 where
+  pub once : (c : ℕ) → length (of_sem s (pcp g c past).held) ≤ 1
+  pub one_cluster : (b c t u : ℕ) → has t (of_sem s (pcp g b past).held) ≡ true → has u (of_sem s (pcp g c past).held) ≡ true → b ≡ c
+
+-- Each semaphore has at most one holder: under PCP it is granted once at most, in one cluster; under the other protocols the
+-- holder is one by its form.
 abbrev pub OneHolder : Type 0
-OneHolder = EveryPast (λ g past. (c s t u : ℕ) → has t (of_sem s (pcp g c past).held) ≡ true → has u (of_sem s (pcp g c past).held) ≡ true → t ≡ u)
+OneHolder = EveryPast (λ g past. (s : ℕ) → HasOneGrant g s past)

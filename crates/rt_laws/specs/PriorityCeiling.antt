@@ -1,7 +1,7 @@
 -- The priority ceiling protocol (Sha, Rajkumar and Lehoczky, IEEE Transactions on Computers 1990): what it keeps, and that waits never come round.
-use Rattle.std.specs.Prelude.{◌≡◌, ◌≢◌, ℕ, ◌≤◌, true, false, List, [], ◌∷◌, ◌++◌, length, None, Some}
+use Rattle.std.specs.Prelude.{◌≡◌, ◌≢◌, ℕ, ◌+◌, ◌≤◌, true, false, List, [], ◌∷◌, ◌++◌, length, None, Some}
 use Rattle.rt_rules.specs.Distinct.{IsDistinct}
-use Rattle.rt_rules.specs.Pcp.{TaskSem, passes}
+use Rattle.rt_rules.specs.Pcp.{PcpState, TaskSem, passes}
 use Rattle.rt_rules.specs.SemState.{Frees}
 use Rattle.rt_rules.specs.Walks.{walk}
 use Rattle.rt_model.specs.Ceilings.{is_pcp, above_ceiling, pcp}
@@ -40,6 +40,11 @@ WalksEnd = EveryPast (λ g past. (t : ℕ) → WalkEnds g t past)
 abbrev pub WalksHaveOneStep : Type 0
 WalksHaveOneStep = EveryPast (λ g past. (t s : ℕ) → awaits g t past ≡ Some s → length (reached_from g t past) ≡ 1)
 
--- An Unlock grants at most one request: no more is held after it than before.
+-- of the requests that wait in a cluster at most one is granted, and no more is held than before
+pub record GrantsOne (before after : PcpState) : Type 0 where
+  pub waiting : length before.waiting ≤ length after.waiting + 1
+  pub held : length after.held ≤ length before.held
+
+-- An Unlock grants at most one request that waits.
 abbrev pub UnlockGrantsOne : Type 0
-UnlockGrantsOne = EveryMove (λ g e past. (c t s : ℕ) → sem_act e ≡ Frees t s → length (pcp g c (e ∷ past)).held ≤ length (pcp g c past).held)
+UnlockGrantsOne = EveryMove (λ g e past. (c t s : ℕ) → sem_act e ≡ Frees t s → GrantsOne (pcp g c past) (pcp g c (e ∷ past)))

@@ -1,16 +1,15 @@
 -- The top of a cluster has each task once, and no more than the cluster has processors.
-use Rattle.std.proofs.Common.{◌≡◌, ℕ, zero, suc, ◌≤◌, Bool, true, false, ◌||◌, cond, ◌⊎◌, inl, inr, eqb-true, List, [], ◌∷◌, length, map, take, refl, ap, ◌∙◌, arith}
+use Rattle.std.proofs.Common.{◌≡◌, ℕ, ◌≤◌, List, [], ◌∷◌, length, map, refl, ap, arith}
 use Rattle.std.specs.Prelude.{◌==◌, filter}
 use Rattle.std.proofs.lemmas.List.{length-take}
-use Rattle.std.proofs.lemmas.Bool.Decides.{nat_tests}
 use Rattle.rt_rules.specs.Distinct.{IsDistinct}
-use Rattle.rt_rules.specs.Keys.{Ranked, ahead, inserted, sorted}
-use Rattle.rt_rules.specs.Numbers.{has, numbers_from}
+use Rattle.rt_rules.specs.Keys.{Ranked, sorted}
+use Rattle.rt_rules.specs.Numbers.{numbers_from}
 use Rattle.rt_model.specs.EffectiveKeys.{effective_key}
 use Rattle.rt_model.specs.Group.{Group, cpus, tasks, tasks_of, in_group, home}
 use Rattle.rt_model.specs.Past.{Past}
 use Rattle.rt_model.specs.Tops.{eligible, ranking, top}
-use Rattle.rt_rules.proofs.PlacingLaws.{either, or_true, or_middle, distinct-filter}
+use Rattle.rt_rules.proofs.PlacingLaws.{distinct-filter}
 use Rattle.rt_rules.proofs.RankedLaws.{tasks_ranked, distinct-sorted, distinct-take}
 use Rattle.rt_rules.proofs.NumberLaws.{distinct-numbers_from}
 

@@ -4,7 +4,7 @@ use Rattle.rt_order.specs.KeyOrder.{higher}
 use Rattle.rt_rules.specs.Numbers.{foremost}
 use Rattle.rt_rules.specs.Pcp.{TaskSem, of_others, holder_among}
 use Rattle.rt_model.specs.Ceilings.{ceiling, pcp}
-use Rattle.rt_model.specs.Group.{Group, sem, home}
+use Rattle.rt_model.specs.Group.{Group, home}
 use Rattle.rt_model.specs.Past.{Past}
 
 module _ (g : Group) where

@@ -7,7 +7,7 @@ use Rattle.rt_rules.specs.Omlp.{omlp_sem_state}
 use Rattle.rt_rules.specs.Pcp.{TaskSem, pcp_sem_state}
 use Rattle.rt_rules.specs.SemState.{SemState, in_line}
 use Rattle.rt_model.specs.Ceilings.{pcp}
-use Rattle.rt_model.specs.Group.{Group, task, sem, home, sems, protocol}
+use Rattle.rt_model.specs.Group.{Group, home, sems, protocol}
 use Rattle.rt_model.specs.Past.{Past}
 use Rattle.rt_model.specs.Semaphores.{cluster_of, fmlp, omlp, mpcp}
 

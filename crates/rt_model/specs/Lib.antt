@@ -24,4 +24,9 @@ pub mod Blocking
 pub mod Computed
 pub mod Samples
 pub mod Worked
+pub mod WorkedJobs
+pub mod WorkedLocks
+pub mod WorkedPcp
+pub mod WorkedMpcp
+pub mod WorkedReservations
 pub mod WorkedBody

@@ -5,7 +5,7 @@ use Rattle.rt_task.specs.declared.PluginKind.TheVariants as plugins
 use Rattle.rt_rules.specs.Keys.{Ranked, sorted}
 use Rattle.rt_rules.specs.Numbers.{is}
 use Rattle.rt_model.specs.EffectiveKeys.{effective_key}
-use Rattle.rt_model.specs.Group.{Group, task, cpus, tasks_of, served_by}
+use Rattle.rt_model.specs.Group.{Group, cpus, tasks_of, served_by}
 use Rattle.rt_model.specs.Holders.{awaits}
 use Rattle.rt_model.specs.Past.{Past}
 use Rattle.rt_model.specs.Releases.{ready}

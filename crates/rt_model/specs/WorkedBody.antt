@@ -1,39 +1,131 @@
--- A body run: the next acts that the processor has.
-use Rattle.std.specs.Prelude.{◌≡◌, false, List, [], ◌∷◌, map, Option, None, Some, refl}
+-- Worked examples: the next acts of processor 0 in body runs.
+use Rattle.std.specs.Prelude.{◌≡◌, List, [], ◌∷◌, Option, None, Some, refl}
 use Rattle.rt_task.specs.declared.Drive.TheVariants.{Horizon}
-use Rattle.rt_task.specs.declared.Kind.TheVariants.{Periodic}
 use Rattle.rt_task.specs.declared.PluginKind.TheVariants as plugins
+use Rattle.rt_task.specs.declared.Protocol.TheVariants.{Fmlp}
+use Rattle.rt_task.specs.declared.ResvKind.TheVariants as resv_kinds
 use Rattle.rt_task.specs.declared.Step.{Step}
 use Rattle.rt_task.specs.declared.Act.{Act}
-use Rattle.rt_task.specs.declared.Act.TheVariants as acts
 use Rattle.rt_task.specs.declared.Op.TheVariants as ops
+use Rattle.rt_history.specs.declared.Reply.TheVariants.{Done, Quiet}
 use Rattle.rt_model.specs.Computed.{computed}
 use Rattle.rt_model.specs.Group.{Group}
-use Rattle.rt_model.specs.Histories.{after, raises}
+use Rattle.rt_model.specs.Histories.{after}
 use Rattle.rt_model.specs.Past.{Past}
-use Rattle.rt_model.specs.Samples.{task_with, with_body, step_of}
+use Rattle.rt_model.specs.Samples.{Line, line, steps_of, IsTrace, step_of, group_of, cluster_with, sem_under, reservation, sem_no}
+use Rattle.rt_model.specs.Samples.{periodic, using, client_of, with_body, tick, irq, work, lock, unlock, np_on, np_off, end, runs_task, to}
 use Rattle.rt_model.specs.Situations.{situation, next_act}
-use Rattle.rt_model.specs.Worked.{non_preemptive_section, non_preemptive_section_steps}
-use Rattle.rt_history.specs.declared.Entry.{Entry}
-use Rattle.rt_history.specs.declared.Reply.TheVariants as replies
 
-abbrev pub body_run : Group
-body_run = record { setup = record { plugin = plugins.GsnEdf; clusters = record { cpus = 1; group = record { 0 = 0 } } ∷ []; sems = []; resvs = []; tasks = with_body (ops.Work ∷ ops.Work ∷ ops.End ∷ []) (task_with 1 0 2 3 3 0 Periodic 511 false [] None) ∷ []; drive = Horizon 3 }; number = 0 }
-
--- the next act of processor 0 before the first step, and after each
+-- the next act before the first step, and after each
 abbrev pub nexts : Group → Past → List Step → List (Option Act)
 nexts g past [] = next_act g (situation g 0 past) ∷ []
 nexts g past (step ∷ steps) = next_act g (situation g 0 past) ∷ nexts g (after g step past) steps
 
-pub body_run_nexts : nexts body_run [] (step_of 0 0 acts.Tick ∷ step_of 0 0 acts.Irq ∷ step_of 0 0 (acts.Do ops.Work) ∷ step_of 0 1 acts.Tick ∷ step_of 0 1 acts.Irq ∷ step_of 0 1 (acts.Do ops.Work) ∷ step_of 0 1 (acts.Do ops.End) ∷ [])
-    ≡ Some acts.Irq ∷ Some acts.Irq ∷ Some (acts.Do ops.Work) ∷ None ∷ Some (acts.Do ops.Work) ∷ Some (acts.Do ops.Work) ∷ Some (acts.Do ops.End) ∷ None ∷ []
+-- two units of work a job: the second waits for the next tick, and the second job begins the body anew
+abbrev pub body_run : Group
+body_run =
+    let g = group_of plugins.GsnEdf (cluster_with 1 0 ∷ []) [] [] (
+    with_body (ops.Work ∷ ops.Work ∷ ops.End ∷ []) (periodic 1 2 3 3) ∷
+    []) in
+    record g { setup = record g.setup { drive = Horizon 4 } }
+
+abbrev pub body_run_lines : List Line
+body_run_lines =
+    line 0 0 tick Done [] ∷
+    line 0 0 irq (runs_task 1) [] ∷
+    line 0 0 work Done [] ∷
+    line 0 1 tick Done [] ∷
+    line 0 1 irq Quiet [] ∷
+    line 0 1 work Done [] ∷
+    line 0 1 end Done (to 0 None ∷ []) ∷
+    line 0 2 tick Done [] ∷
+    line 0 2 irq Quiet [] ∷
+    line 0 3 tick Done (to 0 (Some 1) ∷ []) ∷
+    line 0 3 irq (runs_task 1) [] ∷
+    []
+
+pub body_run_played : IsTrace body_run (to 0 (Some 1) ∷ []) body_run_lines
+unfolding computed
+body_run_played = (refl, refl)
+
+pub body_run_nexts : nexts body_run [] (steps_of body_run_lines) ≡
+    Some irq ∷
+    Some irq ∷
+    Some work ∷
+    None ∷
+    Some work ∷
+    Some work ∷
+    Some end ∷
+    None ∷
+    None ∷
+    None ∷
+    Some irq ∷
+    Some work ∷
+    []
 unfolding computed
 body_run_nexts = refl
 
--- The interrupts that entries raise: one, at the arrival
-abbrev pub entries_by : List Step → List Entry
-entries_by steps = map (λ s. record { step = s; reply = replies.Done }) steps
+-- no budget is left: an interrupt is pending and deferred, NpOff goes on, and Work waits for the replenishment
+abbrev pub without_budget : Group
+without_budget =
+    group_of plugins.PRes (cluster_with 1 0 ∷ []) [] (reservation resv_kinds.Polling 1 10 1 ∷ []) (
+    client_of 1 (with_body (ops.NpOn ∷ ops.Work ∷ ops.NpOff ∷ ops.NpOn ∷ ops.Work ∷ ops.NpOff ∷ ops.End ∷ []) (periodic 1 5 100 100)) ∷
+    [])
 
-pub non_preemptive_section_raises : raises non_preemptive_section 0 (entries_by non_preemptive_section_steps) ≡ 1
+abbrev pub without_budget_steps : List Step
+without_budget_steps =
+    step_of 0 0 irq ∷
+    step_of 0 0 np_on ∷
+    step_of 0 0 work ∷
+    step_of 0 0 np_off ∷
+    step_of 0 0 np_on ∷
+    step_of 0 1 tick ∷
+    step_of 0 10 tick ∷
+    []
+
+pub without_budget_nexts : nexts without_budget [] without_budget_steps ≡
+    Some irq ∷
+    Some np_on ∷
+    Some work ∷
+    Some np_off ∷
+    Some irq ∷
+    None ∷
+    None ∷
+    Some work ∷
+    []
 unfolding computed
-non_preemptive_section_raises = refl
+without_budget_nexts = refl
+
+-- a queued Lock counts as done: once it is granted, the job goes on after it
+abbrev pub queued_lock : Group
+queued_lock =
+    group_of plugins.GsnEdf (cluster_with 2 0 ∷ []) (sem_under Fmlp ∷ []) [] (
+    using (1 ∷ []) (with_body (ops.Lock (sem_no 1) ∷ ops.Work ∷ ops.Unlock (sem_no 1) ∷ ops.End ∷ []) (periodic 1 5 100 10)) ∷
+    using (1 ∷ []) (with_body (ops.Lock (sem_no 1) ∷ ops.Unlock (sem_no 1) ∷ ops.End ∷ []) (periodic 2 5 100 20)) ∷
+    [])
+
+abbrev pub queued_lock_steps : List Step
+queued_lock_steps =
+    step_of 0 0 irq ∷
+    step_of 1 0 irq ∷
+    step_of 1 0 (lock 1) ∷
+    step_of 0 0 (lock 1) ∷
+    step_of 0 0 irq ∷
+    step_of 1 0 (unlock 1) ∷
+    step_of 0 0 irq ∷
+    step_of 0 0 work ∷
+    []
+
+pub queued_lock_nexts : nexts queued_lock [] queued_lock_steps ≡
+    Some irq ∷
+    Some (lock 1) ∷
+    Some (lock 1) ∷
+    Some (lock 1) ∷
+    None ∷
+    None ∷
+    Some irq ∷
+    Some work ∷
+    Some (unlock 1) ∷
+    []
+unfolding computed
+queued_lock_nexts = refl
