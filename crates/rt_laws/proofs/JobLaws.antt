@@ -9,9 +9,10 @@ use Rattle.rt_model.specs.BaseKeys.{base_key, key_by}
 use Rattle.rt_model.specs.Group.{Group, task}
 use Rattle.rt_model.specs.Jobs.{done}
 use Rattle.rt_model.specs.Past.{Acted, Clock, Event, Past, accepted, did, ends_job, now}
-use Rattle.rt_model.specs.Releases.{arrivals, arrives, deadline, exists, has_come, is_released, opens_early, release, release_by}
+use Rattle.rt_model.specs.Releases.{arrivals, arrives, deadline, exists, has_come, is_released, release, release_by}
 use Rattle.rt_model.specs.Sleep.{sleep_end, sleeps, wakes}
 use Rattle.rt_rules.proofs.BoolLaws.{both, either, or_true}
+use Rattle.rt_model.proofs.ReleaseLaws.{is_next_of_early, exists-early}
 use Rattle.rt_model.proofs.Steps.{done-step}
 use Rattle.rt_laws.proofs.Rules.{MeetsRules}
 
@@ -43,10 +44,9 @@ unfolding release_by
 release_by-keeps g Periodic t k r e past h = h
 release_by-keeps g Sporadic t k r e past h = arrivals-keep t k r e past h
 
--- a job is there that was released, or that is open early
-there_by : (g : Group) (t : ℕ) (past : Past) → exists g t past ≡ true → (is_released g t past ≡ true) ⊎ (opens_early g t past ≡ true)
-unfolding exists
-there_by g t past h = either (is_released g t past) (opens_early g t past) h
+-- a job is there that was released, or that is the next one of an early task
+there_by : (g : Group) (t : ℕ) (past : Past) → exists g t past ≡ true → (is_released g t past ≡ true) ⊎ (is_next_of_early g t past ≡ true)
+there_by g t past h = either (is_released g t past) (is_next_of_early g t past) (rw exists-early at h)
 
 -- a release that has come is one
 has_come-is : (clock : ℕ) (o : Option ℕ) → has_come clock o ≡ true → (r : ℕ) × (o ≡ Some r) × (r ≤ clock)
@@ -58,8 +58,7 @@ unfolding is_released
 released g t past h = has_come-is (now past) (release g t past) h
 
 -- an early task is periodic: its releases do not wait for arrivals
-early-periodic : (g : Group) → MeetsRules g → (t : ℕ) (past : Past) → opens_early g t past ≡ true → (task g t).kind ≡ Periodic
-unfolding opens_early
+early-periodic : (g : Group) → MeetsRules g → (t : ℕ) (past : Past) → is_next_of_early g t past ≡ true → (task g t).kind ≡ Periodic
 early-periodic g rules t past h = rules.is_periodic t (both (task g t).early (nat_lt 0 (done t past)) h).0
 
 -- while a job that is there goes on, its release stays
@@ -67,7 +66,7 @@ release-keeps : (g : Group) → MeetsRules g → (t : ℕ) (e : Event) (past : P
 unfolding release release_by
 release-keeps g rules t e past h k = rw (done-keeps t e past k) (split (there_by g t past h))
   where
-    split : (is_released g t past ≡ true) ⊎ (opens_early g t past ≡ true) → release_by g (task g t).kind t (done t past) (e ∷ past) ≡ release g t past
+    split : (is_released g t past ≡ true) ⊎ (is_next_of_early g t past ≡ true) → release_by g (task g t).kind t (done t past) (e ∷ past) ≡ release g t past
     split (inl m) =
         let r = released g t past m in
         release_by-keeps g (task g t).kind t (done t past) r.0 e past r.1 ∙ sym r.1
@@ -75,10 +74,10 @@ release-keeps g rules t e past h k = rw (done-keeps t e past k) (split (there_by
 
 -- while a job that is there goes on, it stays there
 pub exists-keeps : (g : Group) → MeetsRules g → (t : ℕ) (e : Event) (past : Past) → exists g t past ≡ true → ends_job t e ≡ false → exists g t (e ∷ past) ≡ true
-unfolding exists is_released opens_early
-exists-keeps g rules t e past h k = split (there_by g t past h)
+unfolding is_released
+exists-keeps g rules t e past h k = rw exists-early (split (there_by g t past h))
   where
-    split : (is_released g t past ≡ true) ⊎ (opens_early g t past ≡ true) → has_come (now (e ∷ past)) (release g t (e ∷ past)) || ((task g t).early && nat_lt 0 (done t (e ∷ past))) ≡ true
+    split : (is_released g t past ≡ true) ⊎ (is_next_of_early g t past ≡ true) → has_come (now (e ∷ past)) (release g t (e ∷ past)) || ((task g t).early && nat_lt 0 (done t (e ∷ past))) ≡ true
     split (inl m) =
         let r = released g t past m in
         let same : release g t (e ∷ past) ≡ Some r.0 = release-keeps g rules t e past h k ∙ r.1 in

@@ -1,3 +1,4 @@
+pub mod ReleaseLaws
 pub mod TopLaws
 pub mod AnswerLaws
 pub mod PastLaws

@@ -37,12 +37,12 @@ module _ (g : Group) where
   unfoldable pub deadline : ℕ → Past → ℕ
   deadline t past = unwrap_or (release t past) 0 + (task g t).rel_deadline
 
-  -- the current job is there from its release on; that of an early task that has ended a job is there at once, before its release too
+  -- the current job is there from its release on; that of an early task that has ended a job is open early until then
   unfoldable pub is_released : ℕ → Past → Bool
   is_released t past = has_come (now past) (release t past)
 
   unfoldable pub opens_early : ℕ → Past → Bool
-  opens_early t past = (task g t).early && nat_lt 0 (done t past)
+  opens_early t past = (task g t).early && (nat_lt 0 (done t past) && not (is_released t past))
 
   unfoldable pub exists : ℕ → Past → Bool
   exists t past = is_released t past || opens_early t past

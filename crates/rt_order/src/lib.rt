@@ -7,7 +7,7 @@ ghost use Rattle.rt_order.specs.KeyOrder.{higher};
 mod order;
 mod steps;
 
-pub use order::{ByKey, Order};
+pub use order::{ByKey, Order, Ordered};
 pub use steps::Steps;
 
 /// A priority. Of two keys the one with the smaller (band, major, minor) is the higher, compared in that order.
