@@ -22,7 +22,7 @@ pub struct DraftCluster {
     pub group: u64,
 }
 
-/// A reservation; its cluster is a number from 0, its budget and period are in ticks.
+/// A reservation; its cluster is a number from 0, its budget is in units of work, its period in ticks.
 #[derive(Drop)]
 pub struct DraftResv {
     pub name: Name,

@@ -120,7 +120,11 @@ get_text (w ∷ ws) zero h = h.0
 get_text (w ∷ ws) (suc i) h = get_text ws i h.1
 
 text_at : (ws : List (List ℕ)) (n : ℕ) → AllText ws → IsUtf8 (name_at ws n)
-text_at ws n h = subst IsUtf8 (sym (unwrap_or-slice_get ws (n - 1) [])) (get_text ws (n - 1) h)
+text_at ws n h = by_test (n == 0)
+  where
+    by_test : (b : Bool) → IsUtf8 (cond b [] (unwrap_or (slice_get ws (n - 1)) []))
+    by_test true = key [] refl
+    by_test false = subst IsUtf8 (sym (unwrap_or-slice_get ws (n - 1) [])) (get_text ws (n - 1) h)
 
 -- a rule by which each name is text
 all_text : {A B : Type 0} (rule : List B → B → Bool) (f : A → B) (name : A → List ℕ) → ((e : List B) (x : A) → rule e (f x) ≡ true → IsUtf8 (name x))
