@@ -1,7 +1,6 @@
-ghost use Rattle.std.specs.Prelude.{◌≡◌, ◌≢◌, ◌<◌, ◌==◌, ◌||◌, ◌&&◌, [], ℕ, true, false, not, length, IfOk, Some, None, slice_set};
-ghost use Rattle.std.specs.List.{list_all};
+ghost use Rattle.std.specs.Prelude.{◌≡◌, ◌≢◌, ◌<◌, [], ℕ, true, false, length, IfOk, Some, None, slice_set};
 ghost use Rattle.rt_order.specs.KeyOrder.{equal_keys};
-ghost use Rattle.rt_rules.specs.Numbers.{has, without, foremost};
+ghost use Rattle.rt_rules.specs.Numbers.{has};
 ghost use Rattle.rt_rules.specs.SemState.{Asks, Frees};
 ghost use Rattle.rt_rules.specs.Mpcp.{mpcp_after};
 ghost use Rattle.sem_laws.specs.KeptKeys.{key_at, above};
