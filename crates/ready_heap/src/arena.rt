@@ -83,7 +83,8 @@ impl Arena {
     /// Sets the place of the task's node, if it has one.
     pub(crate) fn move_to(&mut self, task: TaskNo, place: usize)
         requires { task.0 < length self.old }
-        ensures { self.new ≡ slice_set self.old task.0 (option_map (with_place place) (slice_index_or self.old task.0 None)) }
+        ensures { self.new ≡ slice_set self.old task.0
+            (option_map (with_place place) (slice_index_or self.old task.0 None)) }
     {
         if let Some(at) = self.kept[task.0 as usize] {
             if let Some(node) = self.nodes.get_mut(at) {
@@ -95,7 +96,8 @@ impl Arena {
     /// Sets the key of the task's node, if it has one.
     pub(crate) fn rekey(&mut self, task: TaskNo, key: Key)
         requires { task.0 < length self.old }
-        ensures { self.new ≡ slice_set self.old task.0 (option_map (with_key key) (slice_index_or self.old task.0 None)) }
+        ensures { self.new ≡ slice_set self.old task.0
+            (option_map (with_key key) (slice_index_or self.old task.0 None)) }
     {
         if let Some(at) = self.kept[task.0 as usize] {
             if let Some(node) = self.nodes.get_mut(at) {

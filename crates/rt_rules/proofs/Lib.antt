@@ -14,3 +14,4 @@ pub mod MpcpLaws
 pub mod PairLaws
 pub mod PcpLaws
 pub mod PcpGrantLaws
+pub mod BlockerLaws
