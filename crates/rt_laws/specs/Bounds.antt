@@ -16,6 +16,10 @@ FmlpBound = EveryPast (λ g past. (r t s : ℕ) → protocol g s ≡ Fmlp → en
 abbrev pub OmlpBound : Type 0
 OmlpBound = EveryPast (λ g past. (r t s : ℕ) → protocol g s ≡ Omlp → ends g r t s past ≤ 2 * cpus g (home g t) - 1)
 
+-- Of the critical sections that end while a request waits, those that end while its task is priority-blocked are a part.
+abbrev pub BlockedEndsAreEnds : Type 0
+BlockedEndsAreEnds = EveryPast (λ g past. (r t s : ℕ) → ends g r t s past ≤ ends_all g r t s past)
+
 -- an FMLP request that sees n - 1 critical sections end, n at least 2
 pub record ReachesFmlpBound : Type 0 where
   pub group : Group
