@@ -1,7 +1,7 @@
 -- Worked examples: releases, arrivals, early releasing, sleeping, and enforcement.
 use Rattle.std.specs.Prelude.{List, [], ◌∷◌, None, Some, refl}
 use Rattle.rt_task.specs.declared.PluginKind.TheVariants as plugins
-use Rattle.rt_history.specs.declared.Reply.TheVariants.{Done, Idle, TooEarly, NotSporadic}
+use Rattle.rt_history.specs.declared.Reply.TheVariants.{Done, Idle, Spent, TooEarly, NotSporadic}
 use Rattle.rt_model.specs.Computed.{computed}
 use Rattle.rt_model.specs.Group.{Group}
 use Rattle.rt_model.specs.Samples.{Line, line, IsTrace, group_of, cluster_with, periodic, sporadic, with_phase, enforced, early, tick}
@@ -43,6 +43,25 @@ late_jobs_lines =
 pub late_jobs_played : IsTrace late_jobs (to 0 (Some 1) ∷ []) late_jobs_lines
 unfolding computed
 late_jobs_played = (refl, refl)
+
+-- a step with an earlier tick leaves the clock
+abbrev pub earlier_tick : Group
+earlier_tick =
+    group_of plugins.GsnEdf (cluster_with 1 0 ∷ []) [] [] (
+    with_phase 5 (periodic 1 1 1000 30) ∷
+    [])
+
+abbrev pub earlier_tick_lines : List Line
+earlier_tick_lines =
+    line 0 5 tick Done (to 0 (Some 1) ∷ []) ∷
+    line 0 3 irq (runs_task 1) [] ∷
+    line 0 3 work Done [] ∷
+    line 0 5 work Spent [] ∷
+    []
+
+pub earlier_tick_played : IsTrace earlier_tick (to 0 None ∷ []) earlier_tick_lines
+unfolding computed
+earlier_tick_played = (refl, refl)
 
 -- arrivals come a period apart, and to sporadic tasks alone
 abbrev pub sporadic_arrivals : Group

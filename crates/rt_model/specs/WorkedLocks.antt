@@ -3,12 +3,12 @@ use Rattle.std.specs.Prelude.{◌≡◌, List, [], ◌∷◌, None, Some, refl}
 use Rattle.rt_task.specs.declared.PluginKind.TheVariants as plugins
 use Rattle.rt_task.specs.declared.Protocol.{Protocol}
 use Rattle.rt_task.specs.declared.Protocol.TheVariants.{Fmlp, Omlp}
-use Rattle.rt_history.specs.declared.Reply.TheVariants.{Done, Granted, Queued, Quiet, Idle, NotDeclared, Nested, NotHeld, Holding}
+use Rattle.rt_history.specs.declared.Reply.TheVariants.{Done, Granted, Queued, Idle, NotDeclared, Nested, NotHeld, Holding}
 use Rattle.rt_model.specs.Computed.{computed}
 use Rattle.rt_model.specs.Group.{Group}
 use Rattle.rt_model.specs.Histories.{past_by}
-use Rattle.rt_model.specs.Samples.{Line, line, steps_of, IsTrace, group_of, cluster_with, sem_under, periodic, sporadic, in_cluster}
-use Rattle.rt_model.specs.Samples.{using, enforced, irq, arrive, work, lock, unlock, sleep, end, runs_task, to, block, blocks}
+use Rattle.rt_model.specs.Samples.{Line, line, steps_of, IsTrace, group_of, cluster_with, sem_under, periodic, sporadic, using, enforced}
+use Rattle.rt_model.specs.Samples.{irq, arrive, work, lock, unlock, sleep, end, runs_task, to, block, blocks}
 
 -- a semaphore that the task does not declare
 abbrev pub undeclared : Group
@@ -96,70 +96,6 @@ pub fmlp_in_order_blocks : blocks fmlp_in_order (past_by fmlp_in_order [] (steps
     []
 unfolding computed
 fmlp_in_order_blocks = refl
-
--- FMLP under PSN-EDF: the holder is boosted, above the earlier deadline of task 2
-abbrev pub fmlp_boost : Group
-fmlp_boost =
-    group_of plugins.PsnEdf (cluster_with 1 0 ∷ cluster_with 1 0 ∷ []) (sem_under Fmlp ∷ []) [] (
-    using (1 ∷ []) (periodic 1 1 1000 100) ∷
-    sporadic 2 1 1000 5 ∷
-    using (1 ∷ []) (in_cluster 1 (periodic 3 1 1000 100)) ∷
-    [])
-
-abbrev pub fmlp_boost_lines : List Line
-fmlp_boost_lines =
-    line 0 0 irq (runs_task 1) [] ∷
-    line 0 0 (lock 1) Granted [] ∷
-    line 0 1 (arrive 2) Done [] ∷
-    line 1 1 irq (runs_task 3) [] ∷
-    line 1 1 (lock 1) Queued (to 1 None ∷ []) ∷
-    line 0 1 (unlock 1) Done (to 0 (Some 2) ∷ to 1 (Some 3) ∷ []) ∷
-    []
-
-pub fmlp_boost_played : IsTrace fmlp_boost (to 0 (Some 1) ∷ to 1 (Some 3) ∷ []) fmlp_boost_lines
-unfolding computed
-fmlp_boost_played = (refl, refl)
-
-pub fmlp_boost_blocks : blocks fmlp_boost (past_by fmlp_boost [] (steps_of fmlp_boost_lines)) ≡
-    block 1 1 1 0 0 (Some 1) ∷
-    block 4 3 1 1 1 (Some 1) ∷
-    []
-unfolding computed
-fmlp_boost_blocks = refl
-
--- two boosted FMLP holders of one cluster: the earlier grant goes first, whatever their deadlines and numbers
-abbrev pub fmlp_by_grant : Group
-fmlp_by_grant =
-    group_of plugins.PsnEdf (cluster_with 1 0 ∷ cluster_with 1 0 ∷ []) (sem_under Fmlp ∷ sem_under Fmlp ∷ []) [] (
-    using (2 ∷ []) (periodic 1 1 1000 10) ∷
-    using (1 ∷ []) (periodic 2 1 1000 20) ∷
-    using (2 ∷ []) (in_cluster 1 (periodic 3 1 1000 30)) ∷
-    [])
-
-abbrev pub fmlp_by_grant_lines : List Line
-fmlp_by_grant_lines =
-    line 1 0 irq (runs_task 3) [] ∷
-    line 1 0 (lock 2) Granted [] ∷
-    line 0 0 irq (runs_task 1) [] ∷
-    line 0 0 (lock 2) Queued (to 0 (Some 2) ∷ []) ∷
-    line 0 1 irq (runs_task 2) [] ∷
-    line 0 1 (lock 1) Granted [] ∷
-    line 1 2 (unlock 2) Done [] ∷
-    line 0 2 irq Quiet [] ∷
-    line 0 2 (unlock 1) Done (to 0 (Some 1) ∷ []) ∷
-    []
-
-pub fmlp_by_grant_played : IsTrace fmlp_by_grant (to 0 (Some 1) ∷ to 1 (Some 3) ∷ []) fmlp_by_grant_lines
-unfolding computed
-fmlp_by_grant_played = (refl, refl)
-
-pub fmlp_by_grant_blocks : blocks fmlp_by_grant (past_by fmlp_by_grant [] (steps_of fmlp_by_grant_lines)) ≡
-    block 1 3 2 0 0 (Some 1) ∷
-    block 3 1 2 1 1 (Some 1) ∷
-    block 5 2 1 0 0 (Some 0) ∷
-    []
-unfolding computed
-fmlp_by_grant_blocks = refl
 
 -- a holder inherits: task 1 holds, task 3 waits for it, and task 2, whose deadline is between theirs, is not linked in its
 -- stead
