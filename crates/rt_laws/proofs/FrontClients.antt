@@ -1,5 +1,5 @@
 -- A client whose job is released goes before one whose job is open early: its release is the earlier one.
-use Rattle.std.proofs.Common.{◌≡◌, ℕ, ◌<◌, ◌≤◌, true, false, ◌||◌, refl, arith, leb-false}
+use Rattle.std.proofs.Common.{◌≡◌, ℕ, ◌<◌, true, false, arith}
 use Rattle.std.specs.Prelude.{Some, nat_le, nat_lt, not, ◌&&◌, ◌*◌, ◌+◌}
 use Rattle.std.proofs.lemmas.Bool.Decides.{nat_tests}
 use Rattle.rt_model.specs.Group.{Group, task}

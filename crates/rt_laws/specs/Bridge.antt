@@ -67,7 +67,8 @@ HolderHoldsOne =
 -- The holder of an FMLP, OMLP or MPCP semaphore never waits.
 abbrev pub HolderWaitsNot : Type 0
 HolderWaitsNot =
-    EveryPast (λ g past. (t s : ℕ) → has s (sems g) ≡ true → is_pcp (protocol g s) ≡ false → holder g s past ≡ Some t → awaits g t past ≡ None)
+    EveryPast (λ g past. (t s : ℕ) → has s (sems g) ≡ true → is_pcp (protocol g s) ≡ false →
+    holder g s past ≡ Some t → awaits g t past ≡ None)
 
 -- a semaphore stands once among the PCP grants of all clusters
 pub record HasOneGrant (g : Group) (s : ℕ) (past : Past) : Type 0 where

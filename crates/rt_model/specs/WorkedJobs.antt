@@ -99,7 +99,9 @@ first_arrival_lines =
     line 0 15 (arrive 1) Done [] ∷
     line 0 15 end Done [] ∷
     line 0 15 irq (runs_task 1) [] ∷
-    line 0 15 end Done (to 0 None ∷ []) ∷
+    line 0 20 (arrive 1) TooEarly [] ∷
+    line 0 25 (arrive 1) Done [] ∷
+    line 0 25 end Done [] ∷
     []
 
 pub first_arrival_played : IsTrace first_arrival (to 0 None ∷ []) first_arrival_lines

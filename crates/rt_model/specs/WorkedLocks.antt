@@ -3,12 +3,12 @@ use Rattle.std.specs.Prelude.{◌≡◌, List, [], ◌∷◌, None, Some, refl}
 use Rattle.rt_task.specs.declared.PluginKind.TheVariants as plugins
 use Rattle.rt_task.specs.declared.Protocol.{Protocol}
 use Rattle.rt_task.specs.declared.Protocol.TheVariants.{Fmlp, Omlp}
-use Rattle.rt_history.specs.declared.Reply.TheVariants.{Done, Granted, Queued, Idle, NotDeclared, Nested, NotHeld, Holding}
+use Rattle.rt_history.specs.declared.Reply.TheVariants.{Done, Granted, Queued, Idle, NotDeclared, Nested, NotHeld, Holding, InNp}
 use Rattle.rt_model.specs.Computed.{computed}
 use Rattle.rt_model.specs.Group.{Group}
 use Rattle.rt_model.specs.Histories.{past_by}
 use Rattle.rt_model.specs.Samples.{Line, line, steps_of, IsTrace, group_of, cluster_with, sem_under, periodic, sporadic, using, enforced}
-use Rattle.rt_model.specs.Samples.{irq, arrive, work, lock, unlock, sleep, end, runs_task, to, block, blocks}
+use Rattle.rt_model.specs.Samples.{irq, arrive, work, lock, unlock, sleep, np_on, np_off, end, runs_task, to, block, blocks}
 
 -- a semaphore that the task does not declare
 abbrev pub undeclared : Group
@@ -27,6 +27,39 @@ undeclared_lines =
 pub undeclared_played : IsTrace undeclared (to 0 (Some 1) ∷ []) undeclared_lines
 unfolding computed
 undeclared_played = (refl, refl)
+
+-- a non-preemptive job works and unlocks, and does nothing else but end its section
+abbrev pub while_non_preemptive : Group
+while_non_preemptive =
+    group_of plugins.GsnEdf (cluster_with 1 0 ∷ []) (sem_under Fmlp ∷ sem_under Fmlp ∷ []) [] (
+    using (1 ∷ 2 ∷ []) (periodic 1 9 1000 30) ∷
+    [])
+
+abbrev pub while_non_preemptive_lines : List Line
+while_non_preemptive_lines =
+    line 0 0 irq (runs_task 1) [] ∷
+    line 0 0 (lock 1) Granted [] ∷
+    line 0 0 np_on Done [] ∷
+    line 0 0 (lock 2) InNp [] ∷
+    line 0 0 (sleep 5) InNp [] ∷
+    line 0 0 np_on InNp [] ∷
+    line 0 0 end InNp [] ∷
+    line 0 0 work Done [] ∷
+    line 0 0 (unlock 1) Done [] ∷
+    line 0 0 np_off Done [] ∷
+    line 0 0 (lock 2) Granted [] ∷
+    []
+
+pub while_non_preemptive_played : IsTrace while_non_preemptive (to 0 (Some 1) ∷ []) while_non_preemptive_lines
+unfolding computed
+while_non_preemptive_played = (refl, refl)
+
+pub while_non_preemptive_blocks : blocks while_non_preemptive (past_by while_non_preemptive [] (steps_of while_non_preemptive_lines)) ≡
+    block 1 1 1 0 0 (Some 0) ∷
+    block 10 1 2 0 0 (Some 0) ∷
+    []
+unfolding computed
+while_non_preemptive_blocks = refl
 
 -- a forced end is put off to the unlock
 abbrev pub fmlp_end_put_off : Group

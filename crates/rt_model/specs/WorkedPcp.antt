@@ -230,3 +230,33 @@ pub pcp_beside_mpcp_blocks : blocks pcp_beside_mpcp (past_by pcp_beside_mpcp [] 
     []
 unfolding computed
 pcp_beside_mpcp_blocks = refl
+
+-- a PCP request does not nest in an MPCP one, nor the other way round, nor in itself
+abbrev pub kinds_do_not_nest : Group
+kinds_do_not_nest =
+    group_of plugins.PFp (cluster_with 1 0 ∷ []) (sem_under Mpcp ∷ sem_under Pcp ∷ []) [] (
+    using (1 ∷ 2 ∷ []) (with_prio 5 (periodic 1 1 1000 1000)) ∷
+    [])
+
+abbrev pub kinds_do_not_nest_lines : List Line
+kinds_do_not_nest_lines =
+    line 0 0 irq (runs_task 1) [] ∷
+    line 0 0 (lock 1) Granted [] ∷
+    line 0 0 (lock 2) Nested [] ∷
+    line 0 0 (unlock 1) Done [] ∷
+    line 0 0 (lock 2) Granted [] ∷
+    line 0 0 (lock 1) Nested [] ∷
+    line 0 0 (lock 2) Nested [] ∷
+    line 0 0 (unlock 2) Done [] ∷
+    []
+
+pub kinds_do_not_nest_played : IsTrace kinds_do_not_nest (to 0 (Some 1) ∷ []) kinds_do_not_nest_lines
+unfolding computed
+kinds_do_not_nest_played = (refl, refl)
+
+pub kinds_do_not_nest_blocks : blocks kinds_do_not_nest (past_by kinds_do_not_nest [] (steps_of kinds_do_not_nest_lines)) ≡
+    block 1 1 1 0 0 None ∷
+    block 4 1 2 0 0 None ∷
+    []
+unfolding computed
+kinds_do_not_nest_blocks = refl

@@ -85,6 +85,7 @@ pub replenished_when_ready_played : IsTrace replenished_when_ready (to 0 None �
 unfolding computed
 replenished_when_ready_played = (refl, refl)
 
-pub replenished_when_ready_at_opening : budget_of replenished_when_ready [] ≡ (0, None)
+pub replenished_when_ready_at_opening :
+    budget_of replenished_when_ready [] ≡ (0, None)
 unfolding computed
 replenished_when_ready_at_opening = refl

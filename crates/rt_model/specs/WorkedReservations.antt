@@ -31,11 +31,13 @@ pub sporadic_reservation_played : IsTrace sporadic_reservation (to 0 (Some 1) �
 unfolding computed
 sporadic_reservation_played = (refl, refl)
 
-pub sporadic_reservation_state : budget_of sporadic_reservation (past_by sporadic_reservation [] (steps_of sporadic_reservation_lines)) ≡ (2, Some 10)
+pub sporadic_reservation_state :
+    budget_of sporadic_reservation (past_by sporadic_reservation [] (steps_of sporadic_reservation_lines)) ≡ (2, Some 10)
 unfolding computed
 sporadic_reservation_state = refl
 
-pub sporadic_reservation_at_opening : budget_of sporadic_reservation [] ≡ (2, Some 0)
+pub sporadic_reservation_at_opening :
+    budget_of sporadic_reservation [] ≡ (2, Some 0)
 unfolding computed
 sporadic_reservation_at_opening = refl
 
@@ -61,7 +63,8 @@ unfolding computed
 polling_reservation_played = (refl, refl)
 
 -- it is lost at opening too, where nobody is ready
-pub polling_reservation_at_opening : budget_of polling_reservation [] ≡ (0, Some 0)
+pub polling_reservation_at_opening :
+    budget_of polling_reservation [] ≡ (0, Some 0)
 unfolding computed
 polling_reservation_at_opening = refl
 
@@ -86,7 +89,8 @@ unfolding computed
 two_periods_played = (refl, refl)
 
 -- its last replenishment is shown as the beginning of the period
-pub two_periods_state : budget_of two_periods (past_by two_periods [] (steps_of two_periods_lines)) ≡ (0, Some 20)
+pub two_periods_state :
+    budget_of two_periods (past_by two_periods [] (steps_of two_periods_lines)) ≡ (0, Some 20)
 unfolding computed
 two_periods_state = refl
 
