@@ -130,6 +130,41 @@ pub fmlp_in_order_blocks : blocks fmlp_in_order (past_by fmlp_in_order [] (steps
 unfolding computed
 fmlp_in_order_blocks = refl
 
+-- a second request of the same task is counted by itself
+abbrev pub asked_again : Group
+asked_again =
+    group_of plugins.GsnEdf (cluster_with 2 0 ∷ []) (sem_under Fmlp ∷ []) [] (
+    using (1 ∷ []) (periodic 1 1 1000 10) ∷
+    using (1 ∷ []) (periodic 2 1 1000 20) ∷
+    [])
+
+abbrev pub asked_again_lines : List Line
+asked_again_lines =
+    line 0 0 irq (runs_task 1) [] ∷
+    line 1 0 irq (runs_task 2) [] ∷
+    line 0 0 (lock 1) Granted [] ∷
+    line 1 0 (lock 1) Queued (to 1 None ∷ []) ∷
+    line 0 1 (unlock 1) Done (to 1 (Some 2) ∷ []) ∷
+    line 1 1 irq (runs_task 2) [] ∷
+    line 1 1 (unlock 1) Done [] ∷
+    line 0 2 (lock 1) Granted [] ∷
+    line 1 2 (lock 1) Queued (to 1 None ∷ []) ∷
+    line 0 3 (unlock 1) Done (to 1 (Some 2) ∷ []) ∷
+    []
+
+pub asked_again_played : IsTrace asked_again (to 0 (Some 1) ∷ to 1 (Some 2) ∷ []) asked_again_lines
+unfolding computed
+asked_again_played = (refl, refl)
+
+pub asked_again_blocks : blocks asked_again (past_by asked_again [] (steps_of asked_again_lines)) ≡
+    block 2 1 1 0 0 (Some 1) ∷
+    block 3 2 1 1 1 (Some 1) ∷
+    block 7 1 1 0 0 (Some 1) ∷
+    block 8 2 1 1 1 (Some 1) ∷
+    []
+unfolding computed
+asked_again_blocks = refl
+
 -- a holder inherits: task 1 holds, task 3 waits for it, and task 2, whose deadline is between theirs, is not linked in its
 -- stead
 abbrev pub holder_inherits : Protocol → Group
