@@ -27,7 +27,7 @@ use Rattle.rt_model.specs.Holders.{holder, awaits}
 use Rattle.rt_model.specs.Jobs.{done}
 use Rattle.rt_model.specs.Samples.{step_of, steps_of, group_of, cluster_with, sem_under, periodic, sporadic, in_cluster, using}
 use Rattle.rt_model.specs.Samples.{enforced, early, irq, arrive, lock, unlock, end}
-use Rattle.rt_model.specs.WorkedLocks.{omlp_bound_reached_lines}
+use Rattle.rt_model.specs.WorkedOmlp.{omlp_bound_reached_lines}
 
 -- a proof that computes with the rules of a set says `unfolding rules_computed`
 unfoldable pub rules_computed : Unit {0}

@@ -26,6 +26,7 @@ pub mod Samples
 pub mod Worked
 pub mod WorkedJobs
 pub mod WorkedLocks
+pub mod WorkedOmlp
 pub mod WorkedBoosts
 pub mod WorkedPcp
 pub mod WorkedMpcp

@@ -1,11 +1,12 @@
 -- Worked examples: releases, arrivals, early releasing, sleeping, and enforcement.
-use Rattle.std.specs.Prelude.{List, [], ◌∷◌, None, Some, refl}
+use Rattle.std.specs.Prelude.{◌≡◌, List, [], ◌∷◌, None, Some, refl}
 use Rattle.rt_task.specs.declared.PluginKind.TheVariants as plugins
 use Rattle.rt_history.specs.declared.Reply.TheVariants.{Done, Idle, Spent, TooEarly, NotSporadic}
 use Rattle.rt_model.specs.Computed.{computed}
 use Rattle.rt_model.specs.Group.{Group}
-use Rattle.rt_model.specs.Samples.{Line, line, IsTrace, group_of, cluster_with, periodic, sporadic, with_phase, enforced, early, tick}
-use Rattle.rt_model.specs.Samples.{irq, arrive, work, sleep, np_on, np_off, end, runs_task, to}
+use Rattle.rt_model.specs.Histories.{raises}
+use Rattle.rt_model.specs.Samples.{Line, line, entries_of, IsTrace, group_of, cluster_with, periodic, sporadic, with_phase, enforced}
+use Rattle.rt_model.specs.Samples.{early, tick, irq, arrive, work, sleep, np_on, np_off, end, runs_task, to}
 
 -- a job that ends is followed by that of the next deadline
 abbrev pub next_job : Group
@@ -130,6 +131,11 @@ early_releasing_lines =
 pub early_releasing_played : IsTrace early_releasing (to 0 (Some 1) ∷ []) early_releasing_lines
 unfolding computed
 early_releasing_played = (refl, refl)
+
+-- each end raises an interrupt, also the last, after which the link is the same
+pub early_releasing_raises : raises early_releasing 0 (entries_of early_releasing_lines) ≡ 3
+unfolding computed
+early_releasing_raises = refl
 
 -- the first job of an early task is not early
 abbrev pub early_from_phase : Group

@@ -21,6 +21,7 @@ sporadic_reservation_lines =
     line 0 0 irq (runs_task 1) [] ∷
     line 0 0 work Done [] ∷
     line 0 1 work Done (to 0 None ∷ []) ∷
+    line 0 1 work Spent [] ∷
     line 0 2 work NoBudget [] ∷
     line 0 2 irq Idles [] ∷
     line 0 9 tick Done [] ∷
