@@ -3,8 +3,8 @@ use Rattle.std.proofs.Common.{◌≡◌, ℕ, ◌<◌, ◌≤◌, true, false, �
 use Rattle.std.specs.Prelude.{◌==◌}
 use Rattle.rt_rules.specs.Numbers.{has, rest}
 use Rattle.rt_rules.proofs.PlacingLaws.{either}
-use Rattle.sem_laws.proofs.Members.{has-push, distinct-push, has-rest, distinct-rest}
-use Rattle.sem_laws.proofs.Few.{length-few}
+use Rattle.rt_rules.proofs.MemberLaws.{has-push, has-rest}
+use Rattle.rt_rules.proofs.DistinctLaws.{distinct-append, distinct-rest, length-few}
 use Rattle.fmlp_sem.specs.FmlpLine.{IsRoomy}
 
 -- a task that is not in the line has a place in it
@@ -19,7 +19,7 @@ room_for room capacity line t ok below outside =
 
 pub roomy-push : (room capacity : ℕ) (line : List ℕ) (t capacity' : ℕ) → IsRoomy room capacity line → t < room → has t line ≡ false → capacity ≤ capacity' → IsRoomy room capacity' (line ++ t ∷ [])
 roomy-push room capacity line t capacity' ok below outside grows = record {
-  once = distinct-push t line ok.once outside;
+  once = distinct-append t line ok.once outside;
   below = λ u h. under u (either (u == t) (has u line) (sym (has-push u t line) ∙ h));
   reserved = omega (arith, ok.reserved);
   limit = ok.limit;

@@ -1,6 +1,7 @@
 //! The engine of one group: its history, kept step by step.
 ghost use Rattle.std.specs.Prelude.{◌≡◌, ◌<◌, ◌≤◌, ◌+◌, [], IfOk, true, length};
 ghost use Rattle.rt_base.specs.TaskNos.{number_of_task};
+ghost use Rattle.rt_base.specs.declared.TheConstants.{MOST_STEPS};
 ghost use Rattle.rt_task.specs.Validity.{IsValid};
 ghost use Rattle.rt_model.specs.Runs.{runs};
 ghost use Rattle.rt_model.specs.Links.{linked};
@@ -44,9 +45,10 @@ impl Engine {
     /// A group of a setup, with room for so many steps. It takes all the memory that the engine ever has.
     pub fn open(alloc: Global, setup: &Setup, group: GroupNo, room: u32) -> Result<Engine, NoMemory>
         requires group { IsGroupOf setup.now group.0 }
-        requires room { room ≤ 200000 }
+        requires room { room ≤ MOST_STEPS }
         requires built { is_built setup.now ≡ true }
-        ensures { IfOk result (λ e. e ≡ record { setup = setup.now; group = group.0; entries = []; spare = room }) }
+        ensures { IfOk result (λ e. e
+            ≡ record { setup = setup.now; group = group.0; entries = []; spare = room }) }
     {
         let setup = setup.share()?;
         let parts = setup.parts();
@@ -76,7 +78,7 @@ impl Engine {
         ensures entries { result.now ≡ self.now.entries }
         ensures legal { IsLegalNow self.now }
         ensures played { AllPlayed self.now }
-        ensures room { length self.now.entries + self.now.spare ≤ 200000 }
+        ensures room { length self.now.entries + self.now.spare ≤ MOST_STEPS }
     {
         self.entries.as_slice()
     }

@@ -6,7 +6,7 @@ ghost use Rattle.rt_rules.specs.Keys.{Ranked};
 ghost use Rattle.rt_rules.specs.Distinct.{IsDistinct};
 ghost use Rattle.rt_rules.specs.Placing.{placed, at_place};
 ghost use Rattle.rt_task.specs.declared.Task.{Task};
-ghost use Rattle.rt_base.specs.declared.TheConstants.{TICK_END};
+ghost use Rattle.rt_base.specs.declared.TheConstants.{MOST_TASKS, TICK_END};
 ghost use Rattle.rt_rules.specs.Numbers.{numbers_from};
 ghost use Rattle.rt_model.specs.Group.{no_task};
 ghost use Rattle.rt_model.specs.Past.{Acted};
@@ -88,7 +88,8 @@ fn release_due(clock: u64, tasks: &[Task], waiting: &mut Queue, ready: &mut Queu
     requires bounded { All (IsBounded (length tasks.now)) waiting.old.tasks }
     requires deadlines { All (λ (t : Task). t.rel_deadline < 2 ^ 62) tasks.now }
     requires room { length waiting.old.tasks + length ready.old.tasks ≤ ready.old.room }
-    ensures ready { ready.new.tasks ≡ due_ready clock (rel_deadline_of tasks.now) waiting.old.tasks ready.old.tasks }
+    ensures ready { ready.new.tasks
+        ≡ due_ready clock (rel_deadline_of tasks.now) waiting.old.tasks ready.old.tasks }
     ensures waiting { waiting.new.tasks ≡ not_due clock waiting.old.tasks }
     ensures ready_room { ready.old.room ≤ ready.new.room }
     ensures waiting_room { waiting.old.room ≤ waiting.new.room }
@@ -108,7 +109,7 @@ fn release_due(clock: u64, tasks: &[Task], waiting: &mut Queue, ready: &mut Queu
 
 /// All the tasks, in the order of their first releases.
 fn waiting_tasks(alloc: Global, tasks: &[Task]) -> Result<Queue, NoMemory>
-    requires few { length tasks.now ≤ 1024 }
+    requires few { length tasks.now ≤ MOST_TASKS }
     requires phases { All (λ (t : Task). t.phase < 2 ^ 62) tasks.now }
     ensures tasks { IfOk result (λ q. q.tasks ≡ first_waiting tasks.now) }
     ensures room { IfOk result (λ q. length tasks.now ≤ q.room) }
@@ -214,9 +215,14 @@ impl GroupState {
         requires bounded { All (IsBounded (length tasks.now)) self.old.waiting }
         requires deadlines { All (λ (t : Task). t.rel_deadline < 2 ^ 62) tasks.now }
         requires room { length self.old.waiting + length self.old.ready ≤ length self.old.done }
-        requires distinct { IsDistinct (tasks_of (due_ready (max self.old.clock tick) (rel_deadline_of tasks.now) self.old.waiting self.old.ready)) }
-        requires settled { placed (top_tasks (length self.old.runs) self.old.ready) self.old.runs self.old.links ≡ self.old.links }
-        ensures { self.new ≡ clock_moved (length self.old.runs) (rel_deadline_of tasks.now) tick self.old }
+        requires distinct { IsDistinct (tasks_of (due_ready
+            (max self.old.clock tick)
+            (rel_deadline_of tasks.now) self.old.waiting self.old.ready)) }
+        requires settled { placed (top_tasks
+            (length self.old.runs) self.old.ready) self.old.runs self.old.links
+            ≡ self.old.links }
+        ensures { self.new
+            ≡ clock_moved (length self.old.runs) (rel_deadline_of tasks.now) tick self.old }
     {
         self.clock = self.clock.max(tick);
         if release_due(self.clock, tasks, &mut self.waiting, &mut self.ready) {
@@ -236,9 +242,13 @@ impl GroupState {
     pub(crate) fn take_irq(&mut self, cpu: CpuNo) -> Reply
         requires cpu { cpu.0 < length self.old.runs }
         requires distinct { IsDistinct (tasks_of self.old.ready) }
-        requires settled { placed (top_tasks (length self.old.runs) self.old.ready) self.old.runs self.old.links ≡ self.old.links }
+        requires settled { placed (top_tasks
+            (length self.old.runs) self.old.ready) self.old.runs self.old.links
+            ≡ self.old.links }
         ensures reply { result ≡ irq_reply (linked_of self.old) cpu.0 false }
-        ensures state { self.new ≡ replaced (length self.old.runs) (record self.old { runs = (after_irq (linked_of self.old) cpu.0 false).runs }) }
+        ensures state { self.new ≡ replaced
+            (length self.old.runs)
+            (record self.old { runs = (after_irq (linked_of self.old) cpu.0 false).runs }) }
     {
         let reply = self.links.take_irq(cpu, false);
         if matches!(reply, Reply::Runs(_) | Reply::Idles) {
@@ -277,9 +287,16 @@ impl GroupState {
         requires phase { task.now.phase < TICK_END }
         requires period { task.now.period < TICK_END }
         requires deadline { task.now.rel_deadline < TICK_END }
-        ensures released { let release = task.now.phase + (slice_index self.now.done (number.0 - 1) + 1) * task.now.period in result.is_released ≡ nat_le release self.now.clock }
-        ensures job_key { let release = task.now.phase + (slice_index self.now.done (number.0 - 1) + 1) * task.now.period in result.job_key ≡ record { band = 2; major = release + task.now.rel_deadline; minor = number.0 } }
-        ensures wait_key { let release = task.now.phase + (slice_index self.now.done (number.0 - 1) + 1) * task.now.period in result.wait_key ≡ record { band = 0; major = release; minor = number.0 } }
+        ensures released { let release = task.now.phase + (slice_index self.now.done
+            (number.0 - 1) + 1) * task.now.period
+            in result.is_released ≡ nat_le release self.now.clock }
+        ensures job_key { let release = task.now.phase + (slice_index self.now.done
+            (number.0 - 1) + 1) * task.now.period
+            in result.job_key
+            ≡ record { band = 2; major = release + task.now.rel_deadline; minor = number.0 } }
+        ensures wait_key { let release = task.now.phase + (slice_index self.now.done
+            (number.0 - 1) + 1) * task.now.period
+            in result.wait_key ≡ record { band = 0; major = release; minor = number.0 } }
     {
         let release = task.phase + (self.done(number) + 1) * task.period;
         NextJob {
@@ -300,7 +317,8 @@ impl GroupState {
     /// The task that the processor runs works for a unit, unless the processor has worked at this clock.
     fn do_work(&mut self, tasks: &[Task], cpu: CpuNo, task: TaskNo) -> Reply
         requires { CanOperateNow self.old tasks.now cpu.0 task.0 }
-        ensures { (at : Moment) → CanOperate at self.old tasks.now cpu.0 task.0 → HasActed at cpu.0 (Act.Do Op.Work) result self.new }
+        ensures { (at : Moment) → CanOperate at self.old tasks.now cpu.0 task.0
+            → HasActed at cpu.0 (Act.Do Op.Work) result self.new }
     {
         if self.last_work(cpu) == Some(self.clock) {
             return Reply::Spent;
@@ -312,7 +330,8 @@ impl GroupState {
     /// The task that the processor runs ends its job.
     fn do_end(&mut self, tasks: &[Task], cpu: CpuNo, task: TaskNo) -> Reply
         requires { CanOperateNow self.old tasks.now cpu.0 task.0 }
-        ensures { (at : Moment) → CanOperate at self.old tasks.now cpu.0 task.0 → HasActed at cpu.0 (Act.Do Op.End) result self.new }
+        ensures { (at : Moment) → CanOperate at self.old tasks.now cpu.0 task.0
+            → HasActed at cpu.0 (Act.Do Op.End) result self.new }
     {
         let next = self.next_job(task, &tasks[task.0 as usize - 1]);
         self.end_job(cpu, task, &next);
@@ -323,7 +342,8 @@ impl GroupState {
     pub(crate) fn act(&mut self, tasks: &[Task], cpu: CpuNo, act: Act) -> Reply
         requires acts { CanActNow self.old tasks.now cpu.0 }
         requires built { is_built_act act ≡ true }
-        ensures { (at : Moment) → CanAct at self.old tasks.now cpu.0 → HasActed at cpu.0 act result self.new }
+        ensures { (at : Moment) → CanAct at self.old tasks.now cpu.0
+            → HasActed at cpu.0 act result self.new }
     {
         match act {
             Act::Tick => Reply::Done,

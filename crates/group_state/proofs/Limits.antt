@@ -4,7 +4,7 @@ use Rattle.std.specs.Prelude.{◌==◌, nat_le, filter, All, ⊤, Some}
 use Rattle.std.proofs.lemmas.Bool.Decides.{nat_tests}
 use Rattle.std.proofs.Math.Nat.{mul-le-mul_left, mul-le-mul_right}
 use Rattle.std.proofs.lemmas.List.{length-map}
-use Rattle.rt_base.specs.declared.TheConstants.{TICK_END}
+use Rattle.rt_base.specs.declared.TheConstants.{MOST_STEPS, TICK_END}
 use Rattle.rt_order.specs.declared.Key.{Key}
 use Rattle.rt_history.specs.declared.Entry.{Entry}
 use Rattle.rt_rules.specs.Numbers.{has, numbers_from}
@@ -162,6 +162,6 @@ pub ready-without : (g : Group) (t : ℕ) (p : Past) (state : State) → IsKept 
 ready-without g t p state k r = length-without t state.ready (rw k.ready_is (has-ranked_by _ _ t (tasks_of g 0) ∙ rw (r.there, r.released)))
 
 -- how long a past of so many entries and a move of the clock is
-pub past-short : (g : Group) (es : List Entry) → length es ≤ 200000 → length (past_of g es) ≤ 400000
+pub past-short : (g : Group) (es : List Entry) → length es ≤ MOST_STEPS → length (past_of g es) ≤ 2 * MOST_STEPS
 unfolding past_of
 past-short g es h = let l : length (past_of g es) ≡ 0 + 2 * length es = length-past_from g es [] in omega arith

@@ -3,6 +3,7 @@ use Rattle.std.proofs.Common.{◌≡◌, ◌+◌, ◌-◌, ◌^◌, ◌<◌, ◌
 use Rattle.std.specs.Prelude.{None, All, filter, replicate, nat_le}
 use Rattle.std.proofs.lemmas.List.{get_or_default, length-replicate, length-map}
 use Rattle.std.proofs.lemmas.List.Elements.{All-from_get_or}
+use Rattle.rt_base.specs.declared.TheConstants.{MOST_STEPS}
 use Rattle.rt_task.specs.declared.Task.{Task}
 use Rattle.rt_order.specs.declared.Key.{Key}
 use Rattle.rt_rules.specs.Numbers.{has, numbers_from}
@@ -175,6 +176,6 @@ module _ (g : Group) (played : IsPlayed g) where
   pub some-cluster : 0 < length g.setup.clusters
   some-cluster = let o = s.set.one_cluster in omega arith
 
-  pub sound-open : (room capacity : ℕ) → room ≤ 200000 → room ≤ capacity → IsSound g [] room capacity first_state
+  pub sound-open : (room capacity : ℕ) → room ≤ MOST_STEPS → room ≤ capacity → IsSound g [] room capacity first_state
   unfolding past_of past_from
   sound-open room capacity limit reserved = record { played = played; limit = limit; within = omega arith; reserved = reserved; kept = kept-open; legal = tt; played_entries = λ k d lt. absurd (omega arith) }

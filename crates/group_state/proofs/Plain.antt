@@ -14,7 +14,7 @@ use Rattle.rt_task.specs.declared.PluginKind.TheVariants.{GsnEdf}
 use Rattle.rt_task.specs.declared.BadSet.{BadSet}
 use Rattle.rt_task.specs.declared.SetKind.TheVariants as kinds
 use Rattle.rt_task.specs.declared.Part.TheVariants as parts
-use Rattle.rt_base.specs.declared.TheConstants.{TICK_END, MOST_TASKS}
+use Rattle.rt_base.specs.declared.TheConstants.{MOST_CLUSTERS, MOST_CPUS, MOST_TASKS, TICK_END}
 use Rattle.rt_task.specs.declared.draft.Draft.{Draft}
 use Rattle.rt_task.specs.declared.draft.DraftTask.{DraftTask}
 use Rattle.rt_task.specs.declared.draft.DraftCluster.{DraftCluster}
@@ -43,9 +43,9 @@ pub record IsPlainSet (p : Parts) : Type 0 where
   pub no_sems : p.sems ≡ []
   pub one_cluster : length p.clusters ≡ 1
   pub cpus_low : 1 ≤ (get_or p.clusters 0 no_cluster).cpus
-  pub cpus_high : (get_or p.clusters 0 no_cluster).cpus ≤ 64
+  pub cpus_high : (get_or p.clusters 0 no_cluster).cpus ≤ MOST_CPUS
   pub first_group : (get_or p.clusters 0 no_cluster).group.0 ≡ 0
-  pub few_tasks : length p.tasks ≤ 1024
+  pub few_tasks : length p.tasks ≤ MOST_TASKS
   pub tasks_are : (i : ℕ) → i < length p.tasks → IsPlainTask (get_or p.tasks i no_task)
 
 pub both : (a b : Bool) → a && b ≡ true → (a ≡ true) × (b ≡ true)
@@ -89,7 +89,7 @@ no_draft_cluster : DraftCluster
 no_draft_cluster = draft_cluster no_cluster
 
 record IsPlainCluster (c : DraftCluster) : Type 0 where
-  cpus_in : within 1 64 c.cpus ≡ true
+  cpus_in : within 1 MOST_CPUS c.cpus ≡ true
   group_is : c.group == 0 ≡ true
 
 first_cluster : (d : Draft) → InRange d → d.plugin ≡ GsnEdf → IsPlainCluster (get_or d.clusters 0 (draft_cluster no_cluster))
@@ -97,7 +97,7 @@ unfolding cluster_range
 first_cluster d r gsn =
     let one : length d.clusters ≡ 1 = one_cluster d r gsn in
     let passes = each-none kinds.Range parts.Cluster (cluster_range d) d.clusters 0 (draft_cluster no_cluster) r.cluster_row (omega arith) in
-    let sides = both (within 1 64 (get_or d.clusters 0 (draft_cluster no_cluster)).cpus) _ passes in
+    let sides = both (within 1 MOST_CPUS (get_or d.clusters 0 (draft_cluster no_cluster)).cpus) _ passes in
     record { cpus_in = sides.0; group_is = (both _ _ sides.1).1 }
 
 record IsPlainDraftTask (d : Draft) (t : DraftTask) : Type 0 where
@@ -117,10 +117,10 @@ draft_task_in d i e r lt =
     let k = both _ _ f.1 in
     record { period_in = b.0; deadline_in = c.0; phase_in = f.0; cluster_in = (both _ _ k.1).0 }
 
-few_tasks : (d : Draft) → InRange d → length d.tasks ≤ 1024
+few_tasks : (d : Draft) → InRange d → length d.tasks ≤ MOST_TASKS
 unfolding whole_size
 few_tasks d r =
-    let c = both (nat_le (length d.clusters) 64) _ r.size_row in
+    let c = both (nat_le (length d.clusters) MOST_CLUSTERS) _ r.size_row in
     let m = both _ _ c.1 in
     let n : nat_le (length d.tasks) MOST_TASKS ≡ true = (both _ _ m.1).0 in
     grind (arith, nat_tests, n)
@@ -180,10 +180,10 @@ plain-set p valid built =
     let gsn : p.plugin ≡ GsnEdf = gsn_edf p.plugin a.0 in
     let k : IsPlainCluster (get_or (draft_of p).clusters 0 (draft_cluster no_cluster)) = first_cluster (draft_of p) r gsn in
     let seen : get_or (draft_of p).clusters 0 (draft_cluster no_cluster) ≡ draft_cluster (get_or p.clusters 0 no_cluster) = get_or-map draft_cluster p.clusters 0 no_cluster in
-    let cpus_in : within 1 64 (get_or p.clusters 0 no_cluster).cpus ≡ true = rw seen at k.cpus_in in
+    let cpus_in : within 1 MOST_CPUS (get_or p.clusters 0 no_cluster).cpus ≡ true = rw seen at k.cpus_in in
     let group_is : (get_or p.clusters 0 no_cluster).group.0 == 0 ≡ true = rw seen at k.group_is in
     let one : length (draft_of p).clusters ≡ 1 = one_cluster (draft_of p) r gsn in
-    let few : length (draft_of p).tasks ≤ 1024 = few_tasks (draft_of p) r in
+    let few : length (draft_of p).tasks ≤ MOST_TASKS = few_tasks (draft_of p) r in
     record {
       plugin = gsn;
       no_sems = empty_list p.sems b.0;

@@ -3,6 +3,7 @@ use Rattle.std.proofs.Common.{◌≡◌, ℕ, ◌+◌, ◌-◌, ◌<◌, ◌≤�
 use Rattle.std.specs.Prelude.{◌==◌, nat_lt, filter}
 use Rattle.std.specs.List.{list_any}
 use Rattle.std.proofs.lemmas.Bool.Decides.{nat_tests}
+use Rattle.rt_base.specs.declared.TheConstants.{MOST_CPUS}
 use Rattle.rt_task.specs.declared.Parts.{Parts}
 use Rattle.rt_task.specs.declared.Cluster.{Cluster}
 use Rattle.rt_rules.specs.Numbers.{has, numbers_from}
@@ -18,7 +19,7 @@ pub record IsPlainGroup (g : Group) : Type 0 where
   pub number_is : g.number ≡ 0
   pub clusters_are : clusters g ≡ 0 ∷ []
   pub cpus_low : 1 ≤ cpus g 0
-  pub cpus_high : cpus g 0 ≤ 64
+  pub cpus_high : cpus g 0 ≤ MOST_CPUS
   pub first_is : first_cpu g 0 ≡ 0
   pub processors_are : group_processors g ≡ numbers_from 0 (cpus g 0)
   pub at_home : (q : ℕ) → q < cpus g 0 → cluster_with g q ≡ 0

@@ -5,7 +5,7 @@ use Rattle.std.specs.List.{list_all}
 use Rattle.std.proofs.Math.ListN.{get_or-map}
 use Rattle.std.proofs.lemmas.Bool.Decides.{nat_tests}
 use Rattle.std.proofs.lemmas.List.{length-map}
-use Rattle.rt_base.specs.declared.TheConstants.{MOST_STEPS}
+use Rattle.rt_base.specs.declared.TheConstants.{MOST_CLUSTERS, MOST_CPUS, MOST_RESVS, MOST_SEMS, MOST_STEPS}
 use Rattle.rt_task.specs.declared.Parts.{Parts}
 use Rattle.rt_task.specs.declared.Step.{Step}
 use Rattle.rt_task.specs.declared.Drive.{Drive}
@@ -30,7 +30,7 @@ use Rattle.group_state.proofs.PlainGroup.{IsPlainGroup, plain-group, one}
 use Rattle.group_state.proofs.Rules.{each-none}
 
 pub record ArePlainSteps (p : Parts) (steps : List Step) : Type 0 where
-  pub few : length steps ≤ 200000
+  pub few : length steps ≤ MOST_STEPS
   pub at_processors : All (λ (s : Step). IsProcessorOf (record { setup = p; number = 0 }) s.cpu.0) steps
   pub acts : All (λ (s : Step). is_built_act s.act ≡ true) steps
 
@@ -55,15 +55,15 @@ module _ (p : Parts) (valid : IsValid p) (built : is_built p ≡ true) (steps : 
       let same : p.clusters ≡ get_or p.clusters 0 no_cluster ∷ [] = one p.clusters no_cluster (plain-set p valid built).one_cluster in
       cpus-one (draft_of p) (draft_cluster (get_or p.clusters 0 no_cluster)) (ap (map draft_cluster) same)
 
-  few-steps : length steps ≤ 200000
+  few-steps : length steps ≤ MOST_STEPS
   unfolding whole_size
   few-steps =
       let d : Draft = draft_of p in
-      let a = both (nat_le (length d.clusters) 64) _ range.size_row in
-      let b = both (nat_le (lookups.cpus d) 64) _ a.1 in
+      let a = both (nat_le (length d.clusters) MOST_CLUSTERS) _ range.size_row in
+      let b = both (nat_le (lookups.cpus d) MOST_CPUS) _ a.1 in
       let c = both _ _ b.1 in
-      let e = both (nat_le (length d.sems) 256) _ c.1 in
-      let f = both (nat_le (length d.resvs) 64) _ e.1 in
+      let e = both (nat_le (length d.sems) MOST_SEMS) _ c.1 in
+      let f = both (nat_le (length d.resvs) MOST_RESVS) _ e.1 in
       let fits : horizon_fits d (draft_drive p.drive) ≡ true = f.1 in
       let n : nat_le (length (map draft_step steps)) MOST_STEPS ≡ true = rw drive at fits in
       let m : length (map draft_step steps) ≡ length steps = length-map _ _ in

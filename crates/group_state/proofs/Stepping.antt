@@ -2,6 +2,7 @@
 use Rattle.std.proofs.Common.{◌≡◌, ℕ, ◌+◌, ◌-◌, ◌^◌, ◌<◌, ◌≤◌, max, true, List, [], ◌∷◌, ◌++◌, length, get_or, sym, ap, ◌∙◌, subst, arith, length-append}
 use Rattle.std.specs.Prelude.{All}
 use Rattle.std.proofs.lemmas.List.Elements.{All-from_get_or, All-push}
+use Rattle.rt_base.specs.declared.TheConstants.{MOST_STEPS}
 use Rattle.rt_task.specs.declared.Task.{Task}
 use Rattle.rt_task.specs.declared.Step.{Step}
 use Rattle.rt_history.specs.declared.Reply.{Reply}
@@ -36,7 +37,7 @@ module _ (g : Group) (es : List Entry) (room capacity : ℕ) (state : State) (so
   abbrev s : IsPlainGroup g
   s = plain g sound.played
 
-  short : length (past_of g es) ≤ 400000
+  short : length (past_of g es) ≤ 2 * MOST_STEPS
   short = past-short g es (omega (arith, sound.within, sound.limit))
 
   pub bounded : All (IsBounded (length g.setup.tasks)) state.waiting

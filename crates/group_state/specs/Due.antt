@@ -9,7 +9,9 @@ ready_task rel_deadline w = record { key = record { band = 2; major = w.key.majo
 -- those that are due, in the order of their releases, join the ready ones
 abbrev pub due_ready : ℕ → (ℕ → ℕ) → List Ranked → List Ranked → List Ranked
 due_ready now rel_deadline [] ready = ready
-due_ready now rel_deadline (w ∷ ws) ready = if nat_le w.key.major now then due_ready now rel_deadline ws (inserted (ready_task rel_deadline w) ready) else ready
+due_ready now rel_deadline (w ∷ ws) ready =
+    if nat_le w.key.major now then due_ready now rel_deadline ws (inserted (ready_task rel_deadline w) ready)
+    else ready
 
 -- those that still wait
 abbrev pub not_due : ℕ → List Ranked → List Ranked

@@ -1,5 +1,6 @@
 -- What each move makes of the state, in a cluster of m processors whose tasks have these relative deadlines.
 use Rattle.std.specs.Prelude.{ℕ, ◌+◌, ◌-◌, ◌^◌, ◌<◌, ◌≤◌, All, max, Bool, true, List, [], Option, None, Some, if◌then◌else◌, length, replicate, slice_index, slice_index_or, slice_set}
+use Rattle.rt_base.specs.declared.TheConstants.{MOST_TASKS}
 use Rattle.rt_task.specs.declared.Task.{Task}
 use Rattle.rt_order.specs.declared.Key.{Key}
 use Rattle.rt_rules.specs.Numbers.{numbers_from}
@@ -19,7 +20,11 @@ replaced m state = record state { links = placed (top_tasks m state.ready) state
 abbrev pub clock_moved : ℕ → (ℕ → ℕ) → ℕ → State → State
 clock_moved m rel_deadline tick state =
     let clock = max state.clock tick in
-    replaced m (record state { clock = clock; ready = due_ready clock rel_deadline state.waiting state.ready; waiting = not_due clock state.waiting })
+    replaced m (record state {
+      clock = clock;
+      ready = due_ready clock rel_deadline state.waiting state.ready;
+      waiting = not_due clock state.waiting;
+    })
 
 -- the processor in this place has worked at this clock
 abbrev pub has_worked : ℕ → State → State
@@ -42,16 +47,26 @@ job_ended m place t is_released job_key wait_key state =
 
 -- all the tasks, in the order of their first releases
 abbrev pub first_waiting : List Task → List Ranked
-first_waiting tasks = ranked_by (λ t. record { band = 0; major = (slice_index_or tasks (t - 1) no_task).phase; minor = t }) (λ t. true) (numbers_from 1 (length tasks))
+first_waiting tasks =
+    let first_release : ℕ → Key = λ t. record { band = 0; major = (slice_index_or tasks (t - 1) no_task).phase; minor = t } in
+    ranked_by first_release (λ t. true) (numbers_from 1 (length tasks))
 
 -- the state of a cluster of m processors at opening: those that are due are ready, and nothing runs
 abbrev pub opened : ℕ → List Task → State
 opened m tasks =
-    replaced m (record { clock = 0; done = replicate (length tasks) 0; worked = replicate m None; ready = due_ready 0 (rel_deadline_of tasks) (first_waiting tasks) []; waiting = not_due 0 (first_waiting tasks); runs = replicate m None; links = replicate m None })
+    replaced m (record {
+      clock = 0;
+      done = replicate (length tasks) 0;
+      worked = replicate m None;
+      ready = due_ready 0 (rel_deadline_of tasks) (first_waiting tasks) [];
+      waiting = not_due 0 (first_waiting tasks);
+      runs = replicate m None;
+      links = replicate m None;
+    })
 
 -- what the opening rests on
 pub record CanOpen (m : ℕ) (tasks : List Task) : Type 0 where
-  pub few : length tasks ≤ 1024
+  pub few : length tasks ≤ MOST_TASKS
   pub phases : All (λ (t : Task). t.phase < 2 ^ 62) tasks
   pub deadlines : All (λ (t : Task). t.rel_deadline < 2 ^ 62) tasks
   pub bounded : All (IsBounded (length tasks)) (first_waiting tasks)

@@ -1,5 +1,6 @@
 -- What the engine keeps of the past that its entries made, part by part.
 use Rattle.std.specs.Prelude.{◌≡◌, ℕ, ◌+◌, ◌-◌, ◌*◌, ◌<◌, ◌≤◌, true, false, not, nat_le, List, ◌∷◌, All, length, map, take, Option, None, Some, slice_index, slice_index_or, ◌^◌}
+use Rattle.rt_base.specs.declared.TheConstants.{MOST_STEPS}
 use Rattle.rt_task.specs.declared.Task.{Task}
 use Rattle.rt_task.specs.Validity.{IsValid}
 use Rattle.rt_order.specs.declared.Key.{Key}
@@ -35,7 +36,8 @@ key_at g t k = record { band = 2; major = release_at g t k + (task g t).rel_dead
 abbrev pub wait_key : Group → ℕ → ℕ → Key
 wait_key g t k = record { band = 0; major = release_at g t k; minor = t }
 
--- the state: the clock, the jobs that ended by task, the clock of each processor's last Work, the tasks that are ready and those that wait for a release, what runs and what is linked
+-- the state: the clock, the jobs that ended by task, the clock of each processor's last Work, the tasks that are ready and
+-- those that wait for a release, what runs and what is linked
 pub record State : Type 0 where
   pub clock : ℕ
   pub done : List ℕ
@@ -58,7 +60,8 @@ pub record IsKept (g : Group) (p : Past) (s : State) : Type 0 where
   pub worked_length : length s.worked ≡ cpus g 0
   pub worked_are : (q : ℕ) → q < cpus g 0 → slice_index_or s.worked q None ≡ last_work q p
   pub ready_is : s.ready ≡ ranked_by (λ t. key_at g t (done t p)) (λ t. nat_le (release_at g t (done t p)) (now p)) (tasks_of g 0)
-  pub waiting_is : s.waiting ≡ ranked_by (λ t. wait_key g t (done t p)) (λ t. not (nat_le (release_at g t (done t p)) (now p))) (tasks_of g 0)
+  pub waiting_is : s.waiting
+      ≡ ranked_by (λ t. wait_key g t (done t p)) (λ t. not (nat_le (release_at g t (done t p)) (now p))) (tasks_of g 0)
   pub runs_are : s.runs ≡ runs_of g 0 p
   pub links_are : s.links ≡ links g 0 p
   pub awake : (t : ℕ) → wakes t p ≡ 0
@@ -125,7 +128,7 @@ pub record HasActed (at : Moment) (cpu : ℕ) (act : Act) (reply : Reply) (state
 -- the invariant of the engine: there is room for the entries to come, they are legal so far, and what is kept is of their past
 pub record IsSound (g : Group) (entries : List Entry) (room capacity : ℕ) (state : State) : Type 0 where
   pub played : IsPlayed g
-  pub limit : room ≤ 200000
+  pub limit : room ≤ MOST_STEPS
   pub within : length entries ≤ room
   pub reserved : room ≤ capacity
   pub kept : IsKept g (past_of g entries) state

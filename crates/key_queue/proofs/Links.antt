@@ -4,7 +4,8 @@ use Rattle.std.specs.Prelude.{◌==◌, if◌then◌else◌}
 use Rattle.rt_rules.specs.Distinct.{IsDistinct}
 use Rattle.rt_rules.specs.Numbers.{has, without}
 use Rattle.rt_rules.proofs.PlacingLaws.{or_true}
-use Rattle.sem_laws.proofs.Members.{equal_self, equal_turned, neither}
+use Rattle.rt_rules.proofs.MemberLaws.{equal_self, turned}
+use Rattle.rt_rules.proofs.BoolLaws.{neither}
 use Rattle.key_queue.specs.Ring.{IsLinked, ring_from}
 
 -- what is a member is no number that is not one
@@ -35,7 +36,7 @@ ring_from-linked next previous room p zero (x ∷ xs) h away few = absurd (omega
 ring_from-linked next previous room p (suc n) [] h away few = rw (h.0, equal_self room)
 ring_from-linked next previous room p (suc n) (x ∷ xs) h away few =
     let q = neither (room == x) (has room xs) away in
-    rw (h.0, equal_turned x room, q.0) (ap (λ (ys : List ℕ). x ∷ ys) (ring_from-linked next previous room x n xs h.2 q.1 (omega arith)))
+    rw (h.0, turned x room, q.0) (ap (λ (ys : List ℕ). x ∷ ys) (ring_from-linked next previous room x n xs h.2 q.1 (omega arith)))
 
 -- links that are the same at all places of a list
 framed : (next previous next' previous' : ℕ → ℕ) (room p : ℕ) (xs : List ℕ) → ((k : ℕ) → has k (p ∷ xs) ≡ true → next' k ≡ next k) → ((k : ℕ) → has k xs ≡ true → previous' k ≡ previous k) → previous' room ≡ previous room → IsLinked next previous room p xs → IsLinked next' previous' room p xs
@@ -55,7 +56,7 @@ module _ (next previous next' previous' : ℕ → ℕ) (room t : ℕ) where
       let not_last : p == l ≡ false = other p l (x ∷ xs) apart last in
       let q = neither (room == x) (has room xs) away in
       let o = neither (t == x) (has t xs) out in
-      (same p not_last np ∙ h.0, same' x (equal_turned x t ∙ o.0) (equal_turned x room ∙ q.0) ∙ h.1, linked-push l x xs is h.2 once.0 once.1 q.1 (equal_turned x t ∙ o.0) o.1 nl nt pt pr same same')
+      (same p not_last np ∙ h.0, same' x (turned x t ∙ o.0) (turned x room ∙ q.0) ∙ h.1, linked-push l x xs is h.2 once.0 once.1 q.1 (turned x t ∙ o.0) o.1 nl nt pt pr same same')
 
   -- the places beside a member
   pub has-previous : (p : ℕ) (xs : List ℕ) → IsLinked next previous room p xs → has t xs ≡ true → has (previous t) (p ∷ xs) ≡ true
@@ -104,8 +105,8 @@ module _ (next previous next' previous' : ℕ → ℕ) (room t : ℕ) where
             ap next' (sym b) ∙ nb ∙ n,
             ap previous' (sym n) ∙ pa ∙ b,
             framed next previous next' previous' room y ys
-                (λ k m. same k (ap (λ i. k == i) b ∙ equal_turned k p ∙ other p k (y ∷ ys) q.1 m))
-                (λ k m. same' k (ap (λ i. k == i) n ∙ equal_turned k y ∙ other y k ys d.0 m))
+                (λ k m. same k (ap (λ i. k == i) b ∙ turned k p ∙ other p k (y ∷ ys) q.1 m))
+                (λ k m. same' k (ap (λ i. k == i) n ∙ turned k y ∙ other y k ys d.0 m))
                 (same' room (ap (λ i. room == i) n ∙ z.0)) l.2,
           )
 
@@ -117,7 +118,7 @@ module _ (next previous next' previous' : ℕ → ℕ) (room t : ℕ) where
           (same p not_before ∙ h.0, same' x not_after ∙ h.1, rest)
         where
           after : (next t ≡ room) ⊎ (has (next t) xs ≡ true) → room == x ≡ false → x == next t ≡ false
-          after (inl q) r = ap (λ i. x == i) q ∙ equal_turned x room ∙ r
+          after (inl q) r = ap (λ i. x == i) q ∙ turned x room ∙ r
           after (inr q) r = other x (next t) xs once.0 q
 
       by_case : (b : Bool) → t == x ≡ b → b || has t xs ≡ true → (has t xs ≡ true → IsLinked next' previous' room x (without t xs)) → IsLinked next' previous' room p (if b then xs else (x ∷ without t xs))

@@ -12,9 +12,9 @@ use Rattle.rt_order.specs.declared.Key.{Key}
 use Rattle.rt_order.specs.KeyOrder.{higher, equal_keys}
 use Rattle.rt_rules.specs.Numbers.{has, without, foremost}
 use Rattle.rt_rules.proofs.PlacingLaws.{either, or_true}
-use Rattle.sem_laws.proofs.Members.{equal_self, equal_turned, has-push, distinct-push, has-without, distinct-without, length-without}
-use Rattle.sem_laws.proofs.Few.{length-few}
-use Rattle.sem_laws.proofs.Foremost.{foremost-is}
+use Rattle.rt_rules.proofs.MemberLaws.{equal_self, has-push, has-without, length-without, turned}
+use Rattle.rt_rules.proofs.DistinctLaws.{distinct-append, distinct-without, length-few}
+use Rattle.rt_rules.proofs.KeyLaws.{foremost-is}
 use Rattle.key_queue.specs.declared.queue.Waiter.{Waiter}
 use Rattle.sem_laws.specs.KeptKeys.{key_at, above}
 use Rattle.key_queue.specs.Queue.{IsQueue, later, tasks_of, key_of, copies}
@@ -76,10 +76,10 @@ module _ (keys : List Key) (room : ℕ) (waiting : List ℕ) (items : List (Reve
   few_wait = omega (arith, length-few room waiting ok.once ok.below, ok.size_is, ok.limit)
 
   stays : (t k : ℕ) (d : Reverse Waiter) → has t waiting ≡ false → k < length items → (get_or items k d).0.task == t ≡ false
-  stays t k d outside h = equal_turned _ t ∙ other t _ waiting outside (sym (has-held _) ∙ has-item items k d h)
+  stays t k d outside h = turned _ t ∙ other t _ waiting outside (sym (has-held _) ∙ has-item items k d h)
 
   old_key : (t : ℕ) (key : Key) (u : ℕ) → has t waiting ≡ false → has u waiting ≡ true → key_at (set keys t key) u ≡ key_at keys u
-  old_key t key u outside m = key_at-other keys t u key (equal_turned u t ∙ other t u waiting outside m)
+  old_key t key u outside m = key_at-other keys t u key (turned u t ∙ other t u waiting outside m)
 
   pub queue-note : (t : ℕ) (key : Key) → has t waiting ≡ false → IsQueue (set keys t key) room waiting items capacity size
   queue-note t key outside = record {
@@ -101,7 +101,7 @@ module _ (keys : List Key) (room : ℕ) (waiting : List ℕ) (items : List (Reve
   queue-push t key items' capacity' size' below outside apart perm heap grows one_more = record {
     keys_length = length-set keys t key ∙ ok.keys_length;
     limit = ok.limit;
-    once = distinct-push t waiting ok.once outside;
+    once = distinct-append t waiting ok.once outside;
     below = λ u h. under u (either (u == t) (has u waiting) (sym (has-push u t waiting) ∙ h));
     reserved = omega (arith, ok.reserved);
     apart = λ u v hu hv e. differ u v e (either (u == t) (has u waiting) (sym (has-push u t waiting) ∙ hu)) (either (v == t) (has v waiting) (sym (has-push v t waiting) ∙ hv));
@@ -160,6 +160,6 @@ module _ (keys : List Key) (room : ℕ) (waiting : List ℕ) (items : List (Reve
         by_case : (y : ℕ) → has y waiting ≡ true → (b : Bool) → x.0.task == y ≡ b → b || above keys x.0.task y ≡ true
         by_case y h true e = refl
         by_case y h false e =
-            let apart_from : y == x.0.task ≡ false = equal_turned y x.0.task ∙ e in
+            let apart_from : y == x.0.task ≡ false = turned y x.0.task ∙ e in
             let there : copies y (tasks_of items') ≡ copies y waiting = omega (arith, (rw apart_from at (counts y))) in
             above_task keys x y items' (all_keyed 0 x (omega arith)) least (All-tail (λ w. key_at keys w.0.task ≡ key_of w) x items' all_keyed) (ok.apart x.0.task y top_waits h e) (has-same y (tasks_of items') waiting there ∙ h)

@@ -5,8 +5,8 @@ use Rattle.std.specs.Prelude.{◌==◌, slice_index}
 use Rattle.std.proofs.lemmas.Bool.Decides.{nat_tests}
 use Rattle.rt_rules.specs.Numbers.{has, without}
 use Rattle.rt_rules.proofs.PlacingLaws.{either, unless}
-use Rattle.sem_laws.proofs.Members.{has-push, distinct-push, has-without, distinct-without}
-use Rattle.sem_laws.proofs.Few.{length-few}
+use Rattle.rt_rules.proofs.MemberLaws.{has-push, has-without}
+use Rattle.rt_rules.proofs.DistinctLaws.{distinct-append, distinct-without, length-few}
 use Rattle.key_queue.specs.Ring.{IsRing, ring_tasks}
 use Rattle.key_queue.proofs.Links.{has-last_of, previous-room, ring_from-linked, linked-push, linked-without, has-previous, has-next}
 
@@ -76,7 +76,7 @@ module _ (next previous : List ℕ) (room : ℕ) (ts : List ℕ) (ring : IsRing 
             (same_place (set previous t l) room t (omega (arith, length-set previous t l, ring.previous_length)))
             (λ k a b. other_place (set next l t) t k room b ∙ other_place next l k t a)
             (λ k a b. other_place (set previous t l) room k t b ∙ other_place previous t k l a);
-        once = distinct-push t ts ring.once out;
+        once = distinct-append t ts ring.once out;
         below = λ u h. under u (either (u == t) (has u ts) (sym (has-push u t ts) ∙ h));
         next_length = length-set _ _ _ ∙ length-set _ _ _ ∙ ring.next_length;
         previous_length = length-set _ _ _ ∙ length-set _ _ _ ∙ ring.previous_length;

@@ -63,14 +63,9 @@ impl KeyQueue {
         ensures empty { IfOk result (λ q. q.waiting ≡ []) }
         ensures room { IfOk result (λ q. length q.keys ≡ room) }
     {
-        let lowest = Key {
-            band: u32::MAX,
-            major: u64::MAX,
-            minor: u32::MAX,
-        };
         let line = TaskLine::new(alloc, room)?;
         let heap = BinaryHeap::with_capacity(alloc, room as usize).map_err(|_| NoMemory)?;
-        let keys = vec![in alloc; lowest; room as usize].map_err(|_| NoMemory)?;
+        let keys = vec![in alloc; Key::LOWEST; room as usize].map_err(|_| NoMemory)?;
         Ok(KeyQueue { line, heap, keys })
     }
 

@@ -2,3 +2,4 @@ pub mod Filling
 pub mod MarkLaws
 pub mod PlaceLaws
 pub mod SoundLaws
+pub mod AmongLaws

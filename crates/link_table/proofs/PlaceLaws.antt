@@ -54,7 +54,7 @@ at_place-set_other (l ∷ ls) (suc k) zero o apart = refl
 at_place-set_other (l ∷ ls) (suc k) (suc j) o apart = at_place-set_other ls k j o (λ e. apart (ap suc e))
 
 -- a task of the changed list is the new one or was there
-has-set : (t : ℕ) (ls : List (Option ℕ)) (k : ℕ) (o : Option ℕ) → has t (tasks_in (set ls k o)) ≡ true → (is t o ≡ true) ⊎ (has t (tasks_in ls) ≡ true)
+pub has-set : (t : ℕ) (ls : List (Option ℕ)) (k : ℕ) (o : Option ℕ) → has t (tasks_in (set ls k o)) ≡ true → (is t o ≡ true) ⊎ (has t (tasks_in ls) ≡ true)
 has-set t [] k o h = cc
 has-set t (l ∷ ls) zero o h = by_case (either (is t o) _ (rw has-tasks_in at h))
   where

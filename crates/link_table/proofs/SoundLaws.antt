@@ -9,7 +9,7 @@ use Rattle.rt_rules.proofs.LinkLaws.{distinct-placed, links-runs, length-placed}
 use Rattle.link_table.specs.Linked.{Linked, unlinked, IsSound}
 use Rattle.link_table.proofs.PlaceLaws.{same_place, at_place-set_same, at_place-set_other, distinct-set}
 
-none_in : (n : ℕ) → tasks_in (replicate n None) ≡ []
+pub none_in : (n : ℕ) → tasks_in (replicate n None) ≡ []
 none_in zero = refl
 none_in (suc n) = none_in n
 

@@ -1,8 +1,9 @@
 -- Links and runs of one cluster, and what an interrupt does.
-use Rattle.std.specs.Prelude.{◌≡◌, ℕ, ◌+◌, ◌-◌, ◌<◌, ◌≤◌, Bool, true, not, ◌&&◌, List, [], ◌∷◌, Option, None, Some, is_some, if◌then◌else◌, length, slice_set, replicate}
+use Rattle.std.specs.Prelude.{◌≡◌, ◌↔◌, ℕ, ◌+◌, ◌-◌, ◌<◌, ◌≤◌, Bool, true, not, ◌&&◌, List, [], ◌∷◌, Option, None, Some, is_some}
+use Rattle.std.specs.Prelude.{if◌then◌else◌, length, slice_set, replicate}
 use Rattle.rt_history.specs.declared.Reply.{Reply}
 use Rattle.rt_history.specs.declared.Reply.TheVariants.{Quiet, Deferred, Runs, Idles}
-use Rattle.rt_rules.specs.Numbers.{is, same}
+use Rattle.rt_rules.specs.Numbers.{has, is, same}
 use Rattle.rt_rules.specs.Distinct.{IsDistinct}
 use Rattle.rt_rules.specs.Placing.{tasks_in, at_place}
 
@@ -56,6 +57,28 @@ pub record IsSound (l : Linked) : Type 0 where
   pub runs_once : IsDistinct (tasks_in l.runs)
   pub linked_once : IsDistinct (tasks_in l.links)
   pub one_place : (t i j : ℕ) → is t (at_place l.links i) ≡ true → is t (at_place l.runs j) ≡ true → i ≡ j
+
+-- these tasks alone run on the cluster's processors or are linked to them
+pub record IsAmong (ts : List ℕ) (l : Linked) : Type 0 where
+  pub runs : (t : ℕ) → has t (tasks_in l.runs) ≡ true → has t ts ≡ true
+  pub links : (t : ℕ) → has t (tasks_in l.links) ≡ true → has t ts ≡ true
+
+-- where these tasks alone ran or were linked, they alone do so after
+abbrev pub StaysAmong : Linked → Linked → Type 0
+StaysAmong old new = (ts : List ℕ) → IsAmong ts old → IsAmong ts new
+
+-- and where the top is of these tasks too
+abbrev pub StaysAmongWith : List ℕ → Linked → Linked → Type 0
+StaysAmongWith top old new = (ts : List ℕ) → ((t : ℕ) → has t top ≡ true → has t ts ≡ true) → IsAmong ts old → IsAmong ts new
+
+-- a task stands among the links exactly where some processor of the cluster is linked to it
+abbrev pub LinksAreOfProcessors : Type 0
+LinksAreOfProcessors = (l : Linked) (t : ℕ) → IsSound l → (has t (tasks_in l.links) ≡ true) ↔ (q : ℕ) × IsOfCluster l q ×
+    (is t (link_of l q) ≡ true)
+
+-- a task stands among what runs exactly where some processor of the cluster runs it
+abbrev pub RunsAreOfProcessors : Type 0
+RunsAreOfProcessors = (l : Linked) (t : ℕ) → (has t (tasks_in l.runs) ≡ true) ↔ (q : ℕ) × IsOfCluster l q × (is t (runs_on l q) ≡ true)
 
 -- the first processor that is left takes the task
 abbrev pub first_taken : ℕ → List (Option ℕ) → List (Option ℕ)

@@ -1,13 +1,13 @@
 //! Links of one cluster and what its processors run: link-based scheduling, where a processor may run another task
-//! than its link until it takes an interrupt (Block, Leontyev, Brandenburg and Anderson, RTCSA 2007).
+//! than its link until it takes an interrupt (Brandenburg, dissertation, University of North Carolina, 2011).
 #![tactic(auto)]
 
-ghost use Rattle.std.specs.Prelude.{◌≡◌, ℕ, ◌-◌, ◌<◌, ◌≤◌, IfOk, length, true};
+ghost use Rattle.std.specs.Prelude.{◌≡◌, ℕ, ◌-◌, ◌<◌, ◌≤◌, IfOk, List, length, true};
 ghost use Rattle.rt_base.specs.TaskNos.{number_of_task, numbers};
 ghost use Rattle.rt_rules.specs.Distinct.{IsDistinct};
 ghost use Rattle.rt_rules.specs.Numbers.{is};
 ghost use Rattle.rt_rules.specs.Placing.{placed};
-ghost use Rattle.link_table.specs.Linked.{after_irq, irq_reply, is_pending, link_of, runs_on, unlinked, with_run, IsOfCluster, IsSound};
+ghost use Rattle.link_table.specs.Linked.{after_irq, irq_reply, is_pending, link_of, runs_on, unlinked, with_run, IsAmong, IsOfCluster, IsSound, LinksAreOfProcessors, RunsAreOfProcessors, StaysAmong, StaysAmongWith};
 
 mod marks;
 mod places;
@@ -39,15 +39,26 @@ impl Model for Links {
 
     ghost Value = { Linked };
 
-    ghost view = { λ a. record { first = a.first; runs = numbers_of_tasks a.runs.items; links = numbers_of_tasks a.links.items } };
+    ghost view = { λ a. record {
+      first = a.first;
+      runs = numbers_of_tasks a.runs.items;
+      links = numbers_of_tasks a.links.items;
+    } };
 
-    ghost invariant = { λ a. IsSound (record { first = a.first; runs = numbers_of_tasks a.runs.items; links = numbers_of_tasks a.links.items }) × AreMarks a.top_marks [] × AreMarks a.link_marks [] };
+    ghost invariant = { λ a. IsSound (record {
+      first = a.first;
+      runs = numbers_of_tasks a.runs.items;
+      links = numbers_of_tasks a.links.items;
+    }) × AreMarks a.top_marks [] × AreMarks a.link_marks [] };
 }
 
 impl Links {
     /// The links of `cpus` processors, numbered from `first` on, that run nothing and are linked to none.
+    ///
+    /// Example: `Links::new(alloc, CpuNo(2), 4)` has the links of processors 2 to 5.
     pub fn new(alloc: Global, first: CpuNo, cpus: u32) -> Result<Links, NoMemory>
         ensures unlinked { IfOk result (λ links. links ≡ unlinked first.0 cpus) }
+        ensures among { IfOk result (λ links. (ts : List ℕ) → IsAmong ts links) }
         ensures sound { IfOk result IsSound }
     {
         let Ok(runs) = vec![in alloc; None; cpus as usize] else {
@@ -68,6 +79,8 @@ impl Links {
     }
 
     /// The task that the processor is linked to.
+    ///
+    /// Example: `links.linked(CpuNo(2))` is `None` in a new table.
     pub fn linked(&self, q: CpuNo) -> Option<TaskNo>
         requires { IsOfCluster self.now q.0 }
         ensures link { number_of_task result ≡ link_of self.now q.0 }
@@ -77,6 +90,8 @@ impl Links {
     }
 
     /// The task that the processor runs.
+    ///
+    /// Example: `links.runs(CpuNo(2))` is `None` in a new table.
     pub fn runs(&self, q: CpuNo) -> Option<TaskNo>
         requires { IsOfCluster self.now q.0 }
         ensures runs { number_of_task result ≡ runs_on self.now q.0 }
@@ -86,6 +101,8 @@ impl Links {
     }
 
     /// Whether an interrupt is pending: the processor runs another task than its link, or one of them is none.
+    ///
+    /// Example: `links.pending(CpuNo(2))` is true after a placing has linked processor 2 to its first task.
     pub fn pending(&self, q: CpuNo) -> bool
         requires { IsOfCluster self.now q.0 }
         ensures { result ≡ is_pending self.now q.0 }
@@ -95,15 +112,20 @@ impl Links {
 
     /// Links the cluster's top tasks, which are given highest first. It takes no memory.
     ///
-    /// A task that runs on a processor is linked to it. One that runs nowhere keeps its link, unless that processor went
-    /// to a task that runs there. The others take the free processors, lowest number first.
+    /// A task that runs on a processor is linked to it. One that runs nowhere keeps its link, unless that processor
+    /// went to a task that runs there. The others take the free processors, lowest number first.
     ///
-    /// It costs about ten looks or writes for each processor of the cluster and three for each task of the top. Only a
-    /// task whose number is above `MOST_TASKS` is searched in the lists.
+    /// It costs about ten looks or writes for each processor of the cluster and three for each task of the top. Only
+    /// a task whose number is above `MOST_TASKS` is searched in the lists.
+    ///
+    /// Example: `links.place(&[TaskNo(3), TaskNo(1)])` links a new table's first two processors to tasks 3 and 1.
     pub fn place(&mut self, top: &[TaskNo])
         requires distinct { IsDistinct (numbers top.now) }
         requires fits { length top.now ≤ length self.old.runs }
-        ensures placed { self.new ≡ record self.old { links = placed (numbers top.now) self.old.runs self.old.links } }
+        ensures placed { self.new ≡ record self.old {
+          links = placed (numbers top.now) self.old.runs self.old.links;
+        } }
+        ensures among { StaysAmongWith (numbers top.now) self.old self.new }
         ensures sound { IsSound self.new }
     {
         places::place(
@@ -119,10 +141,13 @@ impl Links {
     ///
     /// It is `Quiet` where none is pending, `Deferred` where what runs is non-preemptive, and else `Runs` or `Idles`:
     /// the processor runs its link from now on.
+    ///
+    /// Example: after that, `links.take_irq(first, false)` is `Reply::Runs(TaskNo(3))`.
     pub fn take_irq(&mut self, q: CpuNo, np: bool) -> Reply
         requires { IsOfCluster self.old q.0 }
         ensures reply { result ≡ irq_reply self.old q.0 np }
         ensures runs { self.new ≡ after_irq self.old q.0 np }
+        ensures among { StaysAmong self.old self.new }
         ensures sound { IsSound self.new }
     {
         let link = self.linked(q);
@@ -141,9 +166,12 @@ impl Links {
     }
 
     /// The processor runs nothing from now on.
+    ///
+    /// Example: `links.leave(first)` at the end of a job: `links.runs(first)` is then `None`.
     pub fn leave(&mut self, q: CpuNo)
         requires { IsOfCluster self.old q.0 }
         ensures runs { self.new ≡ with_run self.old q.0 None }
+        ensures among { StaysAmong self.old self.new }
         ensures sound { IsSound self.new }
     {
         self.run(q, None);
@@ -152,8 +180,10 @@ impl Links {
     // Runs the processor's link, or nothing.
     fn run(&mut self, q: CpuNo, task: Option<TaskNo>)
         requires of_cluster { IsOfCluster self.old q.0 }
-        requires of_link { (t : ℕ) → is t (number_of_task task) ≡ true → is t (link_of self.old q.0) ≡ true }
+        requires of_link { (t : ℕ) → is t (number_of_task task) ≡ true →
+            is t (link_of self.old q.0) ≡ true }
         ensures runs { self.new ≡ with_run self.old q.0 (number_of_task task) }
+        ensures among { StaysAmong self.old self.new }
         ensures sound { IsSound self.new }
     {
         let place = self.place_of(q);
@@ -170,6 +200,16 @@ impl Links {
         (q.0 - self.first) as usize
     }
 }
+
+/// A task is in a cluster's links exactly where some processor of the cluster is linked to it.
+pub fn links_are_of_processors()
+    ensures { LinksAreOfProcessors }
+{}
+
+/// A task is in what a cluster runs exactly where some processor of the cluster runs it.
+pub fn runs_are_of_processors()
+    ensures { RunsAreOfProcessors }
+{}
 
 #[cfg(test)]
 mod tests;

@@ -41,7 +41,8 @@ impl TaskMarks {
 
     // Whether the task is marked, if it has a mark.
     fn get(&self, t: TaskNo) -> Option<bool>
-        ensures some { IfSome result (λ marked. (t.0 < length self.now) × (slice_index_or self.now t.0 false ≡ marked)) }
+        ensures some { IfSome result (λ marked. (t.0 < length self.now) ×
+            (slice_index_or self.now t.0 false ≡ marked)) }
         ensures none { IfNone result (length self.now ≤ t.0) }
     {
         self.marks.get(t.0 as usize).copied()

@@ -23,7 +23,8 @@ pub(crate) fn place(
     requires distinct { IsDistinct (numbers top.now) }
     requires top_clear { AreMarks top_marks.old [] }
     requires links_clear { AreMarks link_marks.old [] }
-    ensures placed { numbers_of_tasks links.new ≡ placed (numbers top.now) (numbers_of_tasks runs.now) (numbers_of_tasks links.old) }
+    ensures placed { numbers_of_tasks links.new ≡
+        placed (numbers top.now) (numbers_of_tasks runs.now) (numbers_of_tasks links.old) }
     ensures top_clear { AreMarks top_marks.new [] }
     ensures links_clear { AreMarks link_marks.new [] }
 {
@@ -48,7 +49,8 @@ fn kept_at(
 ) -> Option<TaskNo>
     requires top { AreMarks top_marks.now (numbers top.now) }
     requires runs { AreMarks run_marks.now (tasks_in (numbers_of_tasks all.now)) }
-    ensures { number_of_task result ≡ kept_link (numbers top.now) (tasks_in (numbers_of_tasks all.now)) (number_of_task runs) (number_of_task link) }
+    ensures { number_of_task result ≡ kept_link (numbers top.now)
+        (tasks_in (numbers_of_tasks all.now)) (number_of_task runs) (number_of_task link) }
 {
     if let Some(t) = runs {
         if top_marks.is_among(top, t) {
@@ -78,7 +80,9 @@ fn keep(
     requires length { length runs.now ≡ length links.old }
     requires top { AreMarks top_marks.now (numbers top.now) }
     requires runs { AreMarks run_marks.now (tasks_in (numbers_of_tasks runs.now)) }
-    ensures { numbers_of_tasks links.new ≡ kept (numbers top.now) (tasks_in (numbers_of_tasks runs.now)) (numbers_of_tasks runs.now) (numbers_of_tasks links.old) }
+    ensures { numbers_of_tasks links.new ≡
+        kept (numbers top.now) (tasks_in (numbers_of_tasks runs.now)) (numbers_of_tasks runs.now)
+        (numbers_of_tasks links.old) }
 {
     for q in 0..links.len() {
         links[q] = kept_at(top, runs, runs[q], links[q], top_marks, run_marks);
@@ -108,7 +112,8 @@ fn put(links: &mut [Option<TaskNo>], link_marks: &mut TaskMarks, t: TaskNo, from
 fn fill(top: &[TaskNo], links: &mut [Option<TaskNo>], link_marks: &mut TaskMarks)
     requires distinct { IsDistinct (numbers top.now) }
     requires marked { AreMarks link_marks.old (tasks_in (numbers_of_tasks links.old)) }
-    ensures filled { numbers_of_tasks links.new ≡ filled_with (numbers top.now) (numbers_of_tasks links.old) }
+    ensures filled { numbers_of_tasks links.new ≡
+        filled_with (numbers top.now) (numbers_of_tasks links.old) }
     ensures marked { AreMarks link_marks.new (tasks_in (numbers_of_tasks links.new)) }
 {
     let mut from = 0;

@@ -5,9 +5,10 @@ use Rattle.rt_base.specs.declared.TaskNo.{TaskNo}
 use Rattle.rt_base.specs.TaskNos.{number_of_task}
 use Rattle.rt_rules.specs.Numbers.{has, without, first, rest, foremost}
 use Rattle.rt_rules.proofs.PlacingLaws.{either, or_true, unless}
-use Rattle.sem_laws.proofs.Members.{neither, has-append, has-push, distinct-push, has-rest, distinct-rest, has-without, distinct-without, has-gone, distinct-append}
-use Rattle.sem_laws.proofs.Few.{length-few}
-use Rattle.sem_laws.proofs.Foremost.{has-foremost}
+use Rattle.rt_rules.proofs.BoolLaws.{neither}
+use Rattle.rt_rules.proofs.MemberLaws.{has-append, has-push, has-rest, has-without}
+use Rattle.rt_rules.proofs.DistinctLaws.{distinct-append, distinct-joined, distinct-rest, distinct-without, length-few, without-gone}
+use Rattle.rt_rules.proofs.KeyLaws.{foremost-some}
 use Rattle.omlp_sem.specs.OmlpKept.{IsOmlp}
 
 -- a task that neither holds nor waits is in neither list
@@ -44,7 +45,7 @@ nobody-left (Some t) (u ∷ fifo) queue e none = (λ n. cc, λ n. cc)
 
 module _ (cap room capacity : ℕ) (fifo queue : List ℕ) (ok : IsOmlp cap room capacity fifo queue) where
   pub few_in : length fifo + length queue ≤ room
-  few_in = omega (arith, length-few room (fifo ++ queue) (distinct-append fifo queue ok.fifo_once ok.queue_once ok.apart) (λ t h. below t (either (has t fifo) (has t queue) (sym (has-append t fifo queue) ∙ h))), length-append fifo queue)
+  few_in = omega (arith, length-few room (fifo ++ queue) (distinct-joined fifo queue ok.fifo_once ok.queue_once ok.apart) (λ t h. below t (either (has t fifo) (has t queue) (sym (has-append t fifo queue) ∙ h))), length-append fifo queue)
     where
       below : (t : ℕ) → (has t fifo ≡ true) ⊎ (has t queue ≡ true) → t < room
       below t (inl m) = ok.fifo_below t m
@@ -63,7 +64,7 @@ module _ (cap room capacity : ℕ) (fifo queue : List ℕ) (ok : IsOmlp cap room
   pub omlp-fifo : (t : ℕ) → t < room → has t fifo ≡ false → has t queue ≡ false → length fifo < cap → IsOmlp cap room capacity (fifo ++ t ∷ []) queue
   omlp-fifo t below outside away short = record {
     limit = ok.limit;
-    fifo_once = distinct-push t fifo ok.fifo_once outside;
+    fifo_once = distinct-append t fifo ok.fifo_once outside;
     queue_once = ok.queue_once;
     apart = λ u h. split u (either (u == t) (has u fifo) (sym (has-push u t fifo) ∙ h));
     fifo_below = λ u h. under u (either (u == t) (has u fifo) (sym (has-push u t fifo) ∙ h));
@@ -84,7 +85,7 @@ module _ (cap room capacity : ℕ) (fifo queue : List ℕ) (ok : IsOmlp cap room
   omlp-queue t below outside away = record {
     limit = ok.limit;
     fifo_once = ok.fifo_once;
-    queue_once = distinct-push t queue ok.queue_once away;
+    queue_once = distinct-append t queue ok.queue_once away;
     apart = λ u h. has-push u t queue ∙ rw (ok.apart u h, differ u h);
     fifo_below = ok.fifo_below;
     queue_below = λ u h. under u (either (u == t) (has u queue) (sym (has-push u t queue) ∙ h));
@@ -114,7 +115,7 @@ module _ (cap room capacity : ℕ) (fifo queue : List ℕ) (ok : IsOmlp cap room
   pub omlp-handed : (above : ℕ → ℕ → Bool) (held t : ℕ) → first fifo ≡ Some held → Some t ≡ foremost above queue → IsOmlp cap room capacity (rest fifo ++ t ∷ []) (without t queue)
   omlp-handed above held t holds chosen = record {
     limit = ok.limit;
-    fifo_once = distinct-push t (rest fifo) (distinct-rest fifo ok.fifo_once) (unless (has t (rest fifo)) (λ h. let n : has t queue ≡ false = ok.apart t (has-rest t fifo h) in let k : has t queue ≡ true = there in cc));
+    fifo_once = distinct-append t (rest fifo) (distinct-rest fifo ok.fifo_once) (unless (has t (rest fifo)) (λ h. let n : has t queue ≡ false = ok.apart t (has-rest t fifo h) in let k : has t queue ≡ true = there in cc));
     queue_once = distinct-without t queue ok.queue_once;
     apart = λ u h. split u (either (u == t) (has u (rest fifo)) (sym (has-push u t (rest fifo)) ∙ h));
     fifo_below = λ u h. under u (either (u == t) (has u (rest fifo)) (sym (has-push u t (rest fifo)) ∙ h));
@@ -124,10 +125,10 @@ module _ (cap room capacity : ℕ) (fifo queue : List ℕ) (ok : IsOmlp cap room
   }
     where
       there : has t queue ≡ true
-      there = has-foremost above queue t (sym chosen)
+      there = (foremost-some above queue t (sym chosen)).0
 
       split : (u : ℕ) → (u == t ≡ true) ⊎ (has u (rest fifo) ≡ true) → has u (without t queue) ≡ false
-      split u (inl m) = ap (λ n. has n (without t queue)) (eqb-true u t m) ∙ has-gone t queue ok.queue_once
+      split u (inl m) = ap (λ n. has n (without t queue)) (eqb-true u t m) ∙ without-gone t queue ok.queue_once
       split u (inr m) = unless (has u (without t queue)) (λ h. let n : has u queue ≡ false = ok.apart u (has-rest u fifo m) in let k : has u queue ≡ true = has-without u t queue h in cc)
 
       under : (u : ℕ) → (u == t ≡ true) ⊎ (has u (rest fifo) ≡ true) → u < room

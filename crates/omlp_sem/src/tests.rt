@@ -8,6 +8,7 @@ ghost use Rattle.sem_laws.specs.KeptKeys.{key_at, above};
 ghost use Rattle.omlp_sem.specs.OmlpKept.{OmlpKept};
 
 use super::*;
+use sem_laws::{highest, is_apart, take_out};
 use std::process::Abort;
 use std::test::Fail;
 
@@ -43,68 +44,6 @@ fn the_earliest_deadline_joins_the_list(rt: HostRuntime) -> Result<(), Fail> {
 fn next(seed: u64) -> u64 {
     seed.wrapping_mul(6364136223846793005)
         .wrapping_add(1442695040888963407)
-}
-
-fn key_in(keys: &[Key], task: u32) -> Key
-    ensures { result ≡ key_at keys.now task }
-{
-    keys.get(task as usize).copied().unwrap_or(Key {
-        band: 0,
-        major: 0,
-        minor: 0,
-    })
-}
-
-fn same_key(a: Key, b: Key) -> bool
-    ensures { result ≡ equal_keys a b }
-{
-    a.band == b.band && a.major == b.major && a.minor == b.minor
-}
-
-// Whether the task is not in the list, and no task there asked with the key.
-fn is_apart(line: &[u32], keys: &[Key], task: u32, key: Key) -> bool
-    ensures { result ≡ list_all (λ u. not (task == u) && not (equal_keys (key_at keys.now u) key)) line.now }
-{
-    for u in line {
-        if task == *u || same_key(key_in(keys, *u), key) {
-            return false;
-        }
-    }
-    true
-}
-
-// Whether the key of a task is higher than those of all others.
-fn is_ahead(queue: &[u32], keys: &[Key], task: u32) -> bool
-    ensures { result ≡ list_all (λ u. task == u || above keys.now task u) queue.now }
-{
-    for u in queue {
-        if task != *u && !key_in(keys, task).is_higher(key_in(keys, *u)) {
-            return false;
-        }
-    }
-    true
-}
-
-fn highest(queue: &[u32], keys: &[Key]) -> Option<u32>
-    ensures { result ≡ foremost (above keys.now) queue.now }
-{
-    for t in queue {
-        if is_ahead(queue, keys, *t) {
-            return Some(*t);
-        }
-    }
-    None
-}
-
-fn take_out(queue: &mut Vec<u32>, task: u32)
-    ensures { queue.new.items ≡ without task queue.old.items }
-{
-    for place in 0..queue.len() {
-        if task == queue[place] {
-            queue.remove(place);
-            return;
-        }
-    }
 }
 
 // The two lists and the keys, plainly.

@@ -8,16 +8,16 @@ use Rattle.rt_rules.specs.SemState.{Asks, Frees}
 use Rattle.rt_rules.specs.Pcp.{TaskSem, PcpState, by_key, in_order, without_pair, passes, pcp_after}
 use Rattle.rt_rules.proofs.PlacingLaws.{unless, or_true}
 use Rattle.sem_laws.specs.KeptKeys.{key_at, above}
-use Rattle.sem_laws.proofs.Members.{equal_self, has-append}
-use Rattle.sem_laws.proofs.Tests.{clash}
-use Rattle.sem_laws.proofs.KeyLaws.{higher-falls}
+use Rattle.rt_rules.proofs.MemberLaws.{equal_self, has-append}
+use Rattle.rt_rules.proofs.BoolLaws.{clash}
+use Rattle.rt_rules.proofs.KeyLaws.{higher-falls}
 use Rattle.pcp_sem.specs.Pairs.{has_pair, tasks_of}
 use Rattle.pcp_sem.specs.Stack.{IsStack}
 use Rattle.pcp_sem.specs.PcpKept.{above_ceiling}
 use Rattle.pcp_sem.specs.IsPcp.{IsUser, IsSound, IsPcp}
 use Rattle.pcp_sem.specs.Settled.{IsSettled}
-use Rattle.pcp_sem.proofs.StackLaws.{stack-step, has_pair-in_order}
-use Rattle.pcp_sem.proofs.Grants.{pair-of, distinct-in_order}
+use Rattle.rt_rules.proofs.PcpLaws.{stack-step}
+use Rattle.rt_rules.proofs.PairLaws.{distinct-in_order, has_pair-in_order, pair-of}
 use Rattle.pcp_sem.proofs.KeptOrder.{higher-differs, ranking-keys, length-in_order, in_order-rekeyed, in_order-push, tested-nobody, tested-first}
 use Rattle.pcp_sem.proofs.Sound.{pair-task, sound-asks, sound-frees, stack-rekeyed, sound-rekeyed, few-held, few-waiting, one-more-waiting}
 use Rattle.pcp_sem.proofs.Blockers.{waiting-blocked}

@@ -8,68 +8,19 @@ use Rattle.rt_rules.specs.Numbers.{has, first, foremost}
 use Rattle.rt_rules.specs.Pcp.{TaskSem, PcpState, of_sem, of_others, passes, holder_among}
 use Rattle.rt_rules.proofs.PlacingLaws.{either, or_true, unless}
 use Rattle.sem_laws.specs.KeptKeys.{key_at}
-use Rattle.sem_laws.proofs.Members.{equal_self, equal_turned as turned}
-use Rattle.sem_laws.proofs.Tests.{clash, both, has-first, some-is}
-use Rattle.sem_laws.proofs.KeyLaws.{IsOrder, higher-self, higher-trans, higher-mixed, higher-below, higher-falls, foremost-none, foremost-some}
+use Rattle.rt_rules.proofs.MemberLaws.{equal_self, has-first, some-is, turned}
+use Rattle.rt_rules.proofs.BoolLaws.{both, clash}
+use Rattle.rt_rules.proofs.KeyLaws.{IsOrder, foremost-none, foremost-some, higher-mixed, keys-order}
+use Rattle.rt_order.specs.OrderLaws.{higher-irreflexive, higher-transitive}
 use Rattle.pcp_sem.specs.Pairs.{has_pair, tasks_of, sems_of}
 use Rattle.pcp_sem.specs.Stack.{IsStacked, IsStack}
 use Rattle.pcp_sem.specs.PcpKept.{above_ceiling, has_higher_ceiling, blocker_of}
 use Rattle.pcp_sem.specs.IsPcp.{IsSound}
-use Rattle.pcp_sem.proofs.PairLaws.{has-of_sem}
-use Rattle.pcp_sem.proofs.StackLaws.{passes-cons, passes-over}
-use Rattle.pcp_sem.proofs.Grants.{pair-of}
-
--- who does not pass is not the owner of the newest grant
-pub newest-other : (over : ℕ → ℕ → Bool) (p : TaskSem) (ps : List TaskSem) (t : ℕ) → IsStacked over (p ∷ ps) → passes over (p ∷ ps) t ≡ false → p.task == t ≡ false
-newest-other over p ps t k h = unless _ (λ e. let same : p.task ≡ t = eqb-true p.task t e in let pass : passes over ps t ≡ true = subst (λ n. passes over ps n ≡ true) same k.0 in let m : passes over (p ∷ ps) t ≡ true = rw (passes-cons over p ps t, e, pass) in clash _ m h)
+use Rattle.rt_rules.proofs.PairLaws.{has-of_sem, has_pair-others, pair-of, sem-there}
+use Rattle.rt_rules.proofs.PcpLaws.{newest-other, passes-above_ceiling, passes-cons}
 
 higher-order : (ceilings : List Key) → IsOrder (has_higher_ceiling ceilings)
-higher-order ceilings = record {
-  trans = λ x y z h k. trans (key_at ceilings x) (key_at ceilings y) (key_at ceilings z) x y z (either (higher (key_at ceilings x) (key_at ceilings y)) _ h) (either (higher (key_at ceilings y) (key_at ceilings z)) _ k);
-  total = λ x y ne h. total (higher (key_at ceilings x) (key_at ceilings y)) (higher (key_at ceilings y) (key_at ceilings x)) x y ne h;
-}
-  where
-    total : (a b : Bool) (x y : ℕ) → x == y ≡ false → a || not b && nat_lt x y ≡ false → b || not a && nat_lt y x ≡ true
-    total true b x y ne h = cc
-    total false true x y ne h = refl
-    total false false x y ne h = grind (arith, nat_tests)
-
-    less : (x y z : ℕ) → nat_lt x y ≡ true → nat_lt y z ≡ true → nat_lt x z ≡ true
-    less x y z h k = grind (arith, nat_tests)
-
-    flat : (a : Bool) → not a ≡ true → a ≡ false
-    flat true h = cc
-    flat false h = refl
-
-    trans : (i j k : Key) (x y z : ℕ) → (higher i j ≡ true) ⊎ (not (higher j i) && nat_lt x y ≡ true) → (higher j k ≡ true) ⊎ (not (higher k j) && nat_lt y z ≡ true) → higher i k || not (higher k i) && nat_lt x z ≡ true
-    trans i j k x y z (inl a) (inl b) = rw (higher-trans i j k a b)
-    trans i j k x y z (inl a) (inr b) = rw (higher-below i j k a (flat _ (both _ _ b).0))
-    trans i j k x y z (inr a) (inl b) = rw (higher-mixed j i k (flat _ (both _ _ a).0) b)
-    trans i j k x y z (inr a) (inr b) = rw (higher-falls i j k (flat _ (both (not (higher j i)) (nat_lt x y) a).0) (flat _ (both (not (higher k j)) (nat_lt y z) b).0), less x y z (both (not (higher j i)) (nat_lt x y) a).1 (both (not (higher k j)) (nat_lt y z) b).1) (or_true (higher i k))
-
-has_pair-others : (t u s : ℕ) (ps : List TaskSem) → has_pair u s (of_others t ps) ≡ true → has_pair u s ps ≡ true
-has_pair-others t u s [] h = h
-has_pair-others t u s (p ∷ ps) h = by_case (p.task == t) h (has_pair-others t u s ps)
-  where
-    by_case : (b : Bool) → has_pair u s (cond (not b) (p ∷ of_others t ps) (of_others t ps)) ≡ true → (has_pair u s (of_others t ps) ≡ true → has_pair u s ps ≡ true) → (u == p.task && s == p.sem) || has_pair u s ps ≡ true
-    by_case true k r = rw (r k) (or_true (u == p.task && s == p.sem))
-    by_case false k r = split (either (u == p.task && s == p.sem) _ k)
-      where
-        split : (u == p.task && s == p.sem ≡ true) ⊎ (has_pair u s (of_others t ps) ≡ true) → (u == p.task && s == p.sem) || has_pair u s ps ≡ true
-        split (inl m) = rw m
-        split (inr m) = rw (r m) (or_true (u == p.task && s == p.sem))
-
-sem-there : (r : ℕ) (ps : List TaskSem) → has r (map (λ (p : TaskSem). p.sem) ps) ≡ true → is_none (first (of_sem r ps)) ≡ false
-sem-there r [] h = cc
-sem-there r (p ∷ ps) h = by_case (p.sem == r) (turned r p.sem) h (sem-there r ps)
-  where
-    by_case : (b : Bool) → r == p.sem ≡ b → r == p.sem || has r (map (λ (q : TaskSem). q.sem) ps) ≡ true → (has r (map (λ (q : TaskSem). q.sem) ps) ≡ true → is_none (first (of_sem r ps)) ≡ false) → is_none (first (map (λ (q : TaskSem). q.task) (cond b (p ∷ filter (λ q. q.sem == r) ps) (filter (λ q. q.sem == r) ps)))) ≡ false
-    by_case true e k rec = refl
-    by_case false e k rec = rec (right (r == p.sem) _ k e)
-      where
-        right : (a b : Bool) → a || b ≡ true → a ≡ false → b ≡ true
-        right true b m n = cc
-        right false b m n = m
+higher-order ceilings = keys-order (key_at ceilings)
 
 -- the owner of the newest grant holds the highest ceiling
 pub newest-blocks : (ceilings keys : List Key) (p : TaskSem) (ps : List TaskSem) → IsStacked (above_ceiling keys ceilings) (p ∷ ps) → above_ceiling keys ceilings p.task p.sem ≡ false → holder_among (p ∷ ps) (foremost (has_higher_ceiling ceilings) (sems_of (p ∷ ps))) ≡ Some p.task
@@ -77,10 +28,10 @@ newest-blocks ceilings keys p ps k low = by_case (foremost (has_higher_ceiling c
   where
     -- the owner of the newest grant is over what others hold, but not over what it holds
     lower : (x r : ℕ) → has_pair x r ps ≡ true → x == p.task ≡ false → higher (key_at ceilings p.sem) (key_at ceilings r) ≡ true
-    lower x r m n = higher-mixed (key_at keys p.task) (key_at ceilings p.sem) (key_at ceilings r) low (passes-over (above_ceiling keys ceilings) ps p.task x r k.0 m n)
+    lower x r m n = higher-mixed (key_at keys p.task) (key_at ceilings p.sem) (key_at ceilings r) low (passes-above_ceiling (above_ceiling keys ceilings) ps p.task x r k.0 m n)
 
     leads_not : (r : ℕ) → p.sem == r ≡ false → higher (key_at ceilings p.sem) (key_at ceilings r) ≡ true → r == p.sem || has_higher_ceiling ceilings r p.sem ≡ true → ⊥
-    leads_not r ne up lead = no (r == p.sem) (higher (key_at ceilings r) (key_at ceilings p.sem)) (higher (key_at ceilings p.sem) (key_at ceilings r)) lead (turned r p.sem ∙ ne) (unless _ (λ m. clash _ (higher-trans (key_at ceilings r) (key_at ceilings p.sem) (key_at ceilings r) m up) (higher-self (key_at ceilings r)))) up
+    leads_not r ne up lead = no (r == p.sem) (higher (key_at ceilings r) (key_at ceilings p.sem)) (higher (key_at ceilings p.sem) (key_at ceilings r)) lead (turned r p.sem ∙ ne) (unless _ (λ m. clash _ (higher-transitive (key_at ceilings r) (key_at ceilings p.sem) (key_at ceilings r) m up) (higher-irreflexive (key_at ceilings r)))) up
       where
         no : (a b c : Bool) → a || (b || not c && nat_lt r p.sem) ≡ true → a ≡ false → b ≡ false → c ≡ true → ⊥
         no true b c l x y z = cc

@@ -1,7 +1,4 @@
-pub mod PairLaws
-pub mod StackLaws
 pub mod OrderLaws
-pub mod Grants
 pub mod Sound
 pub mod KeptOrder
 pub mod Blockers

@@ -10,16 +10,15 @@ use Rattle.rt_rules.specs.SemState.{Asks, Frees}
 use Rattle.rt_rules.specs.Pcp.{TaskSem, PcpState, of_others, without_pair, is_same_pair, granted, tested, passes, in_order, pcp_after}
 use Rattle.rt_rules.proofs.PlacingLaws.{either, or_true, unless}
 use Rattle.sem_laws.specs.KeptKeys.{key_at, above}
-use Rattle.sem_laws.proofs.Members.{equal_self, distinct-push}
-use Rattle.sem_laws.proofs.Tests.{clash, both}
-use Rattle.sem_laws.proofs.Few.{length-few}
+use Rattle.rt_rules.proofs.MemberLaws.{equal_self}
+use Rattle.rt_rules.proofs.DistinctLaws.{distinct-append, length-few}
+use Rattle.rt_rules.proofs.BoolLaws.{both, clash}
 use Rattle.pcp_sem.specs.Pairs.{has_pair, tasks_of, sems_of}
 use Rattle.pcp_sem.specs.Stack.{IsStacked, IsStack}
 use Rattle.pcp_sem.specs.PcpKept.{above_ceiling}
 use Rattle.pcp_sem.specs.IsPcp.{IsUser, IsSound}
-use Rattle.pcp_sem.proofs.PairLaws.{has_pair-without_pair, has_pair-append}
-use Rattle.pcp_sem.proofs.StackLaws.{passes-over, has_pair-in_order, without_pair-gone}
-use Rattle.pcp_sem.proofs.Grants.{pair-of, distinct-in_order}
+use Rattle.rt_rules.proofs.PairLaws.{distinct-in_order, has_pair-append, has_pair-in_order, has_pair-without_pair, pair-of, without_pair-gone}
+use Rattle.rt_rules.proofs.PcpLaws.{passes-above_ceiling}
 
 -- ---- members
 
@@ -88,7 +87,7 @@ module _ (ceilings keys : List Key) where
         where
           by_case : (b : Bool) → q.0 == t ≡ b → ⊥
           by_case true e = let m : has_pair t s held ≡ true = subst (λ n. has_pair n s held ≡ true) (eqb-true q.0 t e) q.1 in clash _ m out
-          by_case false e = clash _ (passes-over over held t q.0 s pass q.1 e) low
+          by_case false e = clash _ (passes-above_ceiling over held t q.0 s pass q.1 e) low
 
   -- a pair that is granted
   sound-grant : (p : TaskSem) (held waiting : List TaskSem) → IsSound ceilings keys (record { held = held; waiting = waiting }) → IsUser ceilings keys p.task p.sem → has_pair p.task p.sem held ≡ false → passes over held p.task ≡ true → has_pair p.task p.sem waiting ≡ false → IsSound ceilings keys (record { held = p ∷ held; waiting = waiting })
@@ -167,7 +166,7 @@ module _ (ceilings keys : List Key) where
         held_by = ok.held_by;
         awaited_by = λ u r h. by u r (either (has_pair u r l.waiting) _ (rw has_pair-append at h));
         one_holder = ok.one_holder;
-        waits_once = rw tasks-push (distinct-push t (tasks_of l.waiting) ok.waits_once idle);
+        waits_once = rw tasks-push (distinct-append t (tasks_of l.waiting) ok.waits_once idle);
         unheld = λ u r h. apart u r (either (has_pair u r l.waiting) _ (rw has_pair-append at h));
       }
         where

@@ -14,10 +14,6 @@ pub record PcpKept : Type 0 where
   pub keys : List Key
   pub grants : List ℕ
 
--- the lowest of all keys
-abbrev pub lowest : Key
-lowest = record { band = 4294967295; major = 18446744073709551615; minor = 4294967295 }
-
 -- whether the key of t is higher than the ceiling of s
 abbrev pub above_ceiling : List Key → List Key → ℕ → ℕ → Bool
 above_ceiling keys ceilings t s = higher (key_at keys t) (key_at ceilings s)

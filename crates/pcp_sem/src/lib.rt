@@ -3,13 +3,13 @@
 
 ghost use Rattle.std.specs.Prelude.{◌≡◌, ◌≢◌, ◌<◌, ◌≤◌, ◌↔◌, ◌++◌, ◌==◌, [], ℕ, true, false, length, reverse, replicate, filter, IfOk, IsNone, Some, None, slice_set, slice_get};
 ghost use Rattle.rt_base.specs.TaskNos.{number_of_task};
-ghost use Rattle.rt_order.specs.KeyOrder.{higher, equal_keys};
+ghost use Rattle.rt_order.specs.KeyOrder.{higher, equal_keys, lowest_key};
 ghost use Rattle.rt_rules.specs.Numbers.{has};
 ghost use Rattle.rt_rules.specs.SemState.{Asks, Frees};
 ghost use Rattle.rt_rules.specs.Pcp.{of_others, pcp_after, pcp_sem_state, passes, without_pair};
 ghost use Rattle.sem_laws.specs.KeptKeys.{key_at, above};
 ghost use Rattle.pcp_sem.specs.Pairs.{has_pair, tasks_of};
-ghost use Rattle.pcp_sem.specs.PcpKept.{PcpKept, above_ceiling, blocker_of, last_granted, lowest};
+ghost use Rattle.pcp_sem.specs.PcpKept.{PcpKept, above_ceiling, blocker_of, last_granted};
 ghost use Rattle.pcp_sem.specs.Settled.{IsSettled};
 
 use pairs::Pair;
@@ -53,7 +53,7 @@ impl PcpSet {
         ensures free { IfOk result (λ s. s.state ≡ record { held = []; waiting = [] }) }
         ensures ceilings { IfOk result (λ s. s.ceilings ≡ ceilings.now) }
         ensures room { IfOk result (λ s. length s.keys ≡ room) }
-        ensures keys { IfOk result (λ s. s.keys ≡ replicate room lowest) }
+        ensures keys { IfOk result (λ s. s.keys ≡ replicate room lowest_key) }
         ensures grants { IfOk result (λ s. s.grants ≡ []) }
     {
         let room = room as usize;

@@ -8,9 +8,9 @@ use Rattle.rt_order.specs.declared.Key.{Key}
 use Rattle.rt_order.specs.KeyOrder.{higher}
 use Rattle.rt_rules.proofs.PlacingLaws.{unless}
 use Rattle.sem_laws.specs.KeptKeys.{key_at}
-use Rattle.sem_laws.proofs.Tests.{clash}
-use Rattle.sem_laws.proofs.Members.{equal_self}
-use Rattle.sem_laws.proofs.KeyLaws.{higher-self, higher-trans}
+use Rattle.rt_rules.proofs.BoolLaws.{clash}
+use Rattle.rt_rules.proofs.MemberLaws.{equal_self}
+use Rattle.rt_order.specs.OrderLaws.{higher-irreflexive, higher-transitive}
 use Rattle.prio_inherit.specs.Waits.{next_of, base_of, NoWalkComesRound}
 use Rattle.prio_inherit.specs.Local.{IsTop, IsLocal, IsInherit, IsRaising}
 use Rattle.prio_inherit.proofs.Settling.{waits_not, settle-step, settle-join, set-set, told-below}
@@ -25,14 +25,14 @@ module _ (room : ℕ) (next next' : ℕ → Option ℕ) (key key' : ℕ → Key)
     where
       by_case : (b : Bool) → higher j k ≡ b → IsTop room next' key' base h (if b then j else k)
       by_case true up = record {
-        own = unless _ (λ m. clash _ (higher-trans base j k m up) top.own);
+        own = unless _ (λ m. clash _ (higher-transitive base j k m up) top.own);
         waits = λ u low e. among u low e (u == w) refl;
         among = inr (w, below, waits, sym with);
       }
         where
           among : (u : ℕ) → u < room → next' u ≡ Some h → (b : Bool) → u == w ≡ b → higher (key' u) j ≡ false
-          among u low e true m = ap (λ n. higher (key' n) j) (eqb-true u w m) ∙ ap (λ i. higher i j) with ∙ higher-self j
-          among u low e false m = let p = back u m e in ap (λ i. higher i j) p.1 ∙ unless _ (λ x. clash _ (higher-trans (key u) j k x up) (top.waits u low p.0))
+          among u low e true m = ap (λ n. higher (key' n) j) (eqb-true u w m) ∙ ap (λ i. higher i j) with ∙ higher-irreflexive j
+          among u low e false m = let p = back u m e in ap (λ i. higher i j) p.1 ∙ unless _ (λ x. clash _ (higher-transitive (key u) j k x up) (top.waits u low p.0))
       by_case false stays = record {
         own = top.own;
         waits = λ u low e. among u low e (u == w) refl;

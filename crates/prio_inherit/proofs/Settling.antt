@@ -6,16 +6,16 @@ use Rattle.std.proofs.lemmas.Bool.Decides.{nat_tests}
 use Rattle.rt_base.specs.declared.TaskNo.{TaskNo}
 use Rattle.rt_base.specs.TaskNos.{number_of_task, numbers_of_tasks}
 use Rattle.rt_order.specs.declared.Key.{Key}
-use Rattle.rt_order.specs.KeyOrder.{higher}
+use Rattle.rt_order.specs.KeyOrder.{higher, lowest_key}
 use Rattle.rt_rules.specs.Numbers.{has, is, numbers_from}
 use Rattle.rt_rules.specs.Keys.{highest}
 use Rattle.rt_rules.specs.Walks.{walk, followers}
 use Rattle.rt_rules.proofs.PlacingLaws.{either, or_true, unless}
 use Rattle.sem_laws.specs.KeptKeys.{key_at}
-use Rattle.sem_laws.proofs.Members.{equal_self}
-use Rattle.sem_laws.proofs.Tests.{clash, both, is-some, some-is}
-use Rattle.sem_laws.proofs.KeyLaws.{higher-self, higher-trans}
-use Rattle.prio_inherit.specs.Waits.{next_of, base_of, lowest_key, NoWalkComesRound}
+use Rattle.rt_rules.proofs.MemberLaws.{equal_self, is-some, some-is}
+use Rattle.rt_rules.proofs.BoolLaws.{both, clash}
+use Rattle.rt_order.specs.OrderLaws.{higher-irreflexive, higher-transitive}
+use Rattle.prio_inherit.specs.Waits.{next_of, base_of, NoWalkComesRound}
 use Rattle.prio_inherit.specs.Local.{IsTop, IsLocal, IsInherit, IsSettling}
 use Rattle.prio_inherit.proofs.Walking.{after, after-step, after-all, kept-is}
 
@@ -58,14 +58,14 @@ other a b e s = let k : a == b ≡ true = ap (λ n. n == b) s ∙ equal_self b i
 -- one task more is looked at: it has a higher key than the best so far
 pub top-higher : (i : ℕ) (next : ℕ → Option ℕ) (key : ℕ → Key) (base : Key) (t : ℕ) (k : Key) → IsTop i next key base t k → next i ≡ Some t → higher (key i) k ≡ true → IsTop (i + 1) next key base t (key i)
 top-higher i next key base t k top waits up = record {
-  own = unless _ (λ m. clash _ (higher-trans base (key i) k m up) top.own);
+  own = unless _ (λ m. clash _ (higher-transitive base (key i) k m up) top.own);
   waits = λ u below e. by_case u below e (u == i) refl;
   among = inr (i, omega arith, waits, refl);
 }
   where
     by_case : (u : ℕ) → u < i + 1 → next u ≡ Some t → (b : Bool) → u == i ≡ b → higher (key u) (key i) ≡ false
-    by_case u below e true m = ap (λ n. higher (key n) (key i)) (eqb-true u i m) ∙ higher-self (key i)
-    by_case u below e false m = unless _ (λ h. clash _ (higher-trans (key u) (key i) k h up) (top.waits u (grind (arith, nat_tests)) e))
+    by_case u below e true m = ap (λ n. higher (key n) (key i)) (eqb-true u i m) ∙ higher-irreflexive (key i)
+    by_case u below e false m = unless _ (λ h. clash _ (higher-transitive (key u) (key i) k h up) (top.waits u (grind (arith, nat_tests)) e))
 
 -- or it has not
 pub top-keeps : (i : ℕ) (next : ℕ → Option ℕ) (key : ℕ → Key) (base : Key) (t : ℕ) (k : Key) → IsTop i next key base t k → (next i ≡ Some t → higher (key i) k ≡ false) → IsTop (i + 1) next key base t k
@@ -85,7 +85,7 @@ top-keeps i next key base t k top low = record {
 
 pub top-none : (next : ℕ → Option ℕ) (key : ℕ → Key) (base : Key) (t : ℕ) → IsTop 0 next key base t base
 top-none next key base t = record {
-  own = higher-self base;
+  own = higher-irreflexive base;
   waits = λ u below e. absurd (omega arith);
   among = inl refl;
 }
@@ -330,7 +330,7 @@ module _ (n : ℕ) where
     within = λ t v e. absurd (nothing t v e);
     acyclic = λ t. ap (λ o. has t (walk (next_of (replicate n None)) (length (replicate {A = Option ℕ} n None)) o)) (none-next t) ∙ empty t (length (replicate {A = Option ℕ} n None));
     local = λ t below. let own : key_at (replicate n lowest_key) t ≡ lowest_key = get_or-replicate n t lowest_key _ (omega (arith, size {X = Option ℕ} None)) in record {
-      own = ap (λ b. higher b (key_at (replicate n lowest_key) t)) (none-base t) ∙ ap (higher lowest_key) own ∙ higher-self lowest_key;
+      own = ap (λ b. higher b (key_at (replicate n lowest_key) t)) (none-base t) ∙ ap (higher lowest_key) own ∙ higher-irreflexive lowest_key;
       waits = λ u low e. absurd (nothing u t e);
       among = inl (own ∙ sym (none-base t));
     };

@@ -9,60 +9,12 @@ use Rattle.rt_rules.specs.Numbers.{has, numbers_from}
 use Rattle.rt_rules.specs.Keys.{highest}
 use Rattle.rt_rules.specs.Walks.{walk, followers}
 use Rattle.rt_rules.proofs.PlacingLaws.{either, or_true, unless, has-filter}
-use Rattle.sem_laws.proofs.Members.{equal_self}
-use Rattle.sem_laws.proofs.Tests.{clash, both}
-use Rattle.sem_laws.proofs.KeyLaws.{higher-self, higher-trans, higher-falls}
-use Rattle.sem_laws.proofs.Few.{length-few, has-between, length-numbers_from}
+use Rattle.rt_rules.proofs.MemberLaws.{equal_self}
+use Rattle.rt_rules.proofs.BoolLaws.{both, clash}
+use Rattle.rt_rules.proofs.KeyLaws.{higher-falls, highest-is}
+use Rattle.rt_rules.proofs.DistinctLaws.{length-few}
+use Rattle.rt_rules.proofs.NumberLaws.{length-numbers_from, numbers_from-has}
 use Rattle.prio_inherit.specs.Local.{IsTop}
-
--- ---- the highest of keys
-
-key-same : (a b : Key) → higher a b ≡ false → higher b a ≡ false → a ≡ b
-key-same a b h k = same a b (equal.0) (equal.1) (equal.2)
-  where
-    equal : (a.band ≡ b.band) × (a.major ≡ b.major) × (a.minor ≡ b.minor)
-    equal = (grind (arith, nat_tests), grind (arith, nat_tests), grind (arith, nat_tests))
-
-    same : (x y : Key) → x.band ≡ y.band → x.major ≡ y.major → x.minor ≡ y.minor → x ≡ y
-    same x y p q r = let make : ℕ → ℕ → ℕ → Key = λ a b c. record { band = a; major = b; minor = c } in ap (λ i. make i x.major x.minor) p ∙ ap (λ i. make y.band i x.minor) q ∙ ap (λ i. make y.band y.major i) r
-
--- a key that is not above one is not above the highest of it and others
-highest-above : (k j : Key) (js : List Key) → higher k j ≡ false → higher k (highest j js) ≡ false
-highest-above k j [] h = h
-highest-above k j (i ∷ is) h = highest-above k (if higher i j then i else j) is (by_case (higher i j) refl)
-  where
-    by_case : (b : Bool) → higher i j ≡ b → higher k (if b then i else j) ≡ false
-    by_case true e = unless _ (λ m. clash _ (higher-trans k i j m e) h)
-    by_case false e = h
-
--- none of the keys is above the highest
-highest-of : (f : ℕ → Key) (t : ℕ) (us : List ℕ) (j : Key) → has t us ≡ true → higher (f t) (highest j (map f us)) ≡ false
-highest-of f t [] j h = cc
-highest-of f t (u ∷ us) j h = split (either (t == u) (has t us) h) (λ k. highest-of f t us (if higher (f u) j then f u else j) k)
-  where
-    at_head : (b : Bool) → higher (f u) j ≡ b → higher (f u) (if b then f u else j) ≡ false
-    at_head true e = higher-self (f u)
-    at_head false e = e
-
-    split : (t == u ≡ true) ⊎ (has t us ≡ true) → (has t us ≡ true → higher (f t) (highest (if higher (f u) j then f u else j) (map f us)) ≡ false) → higher (f t) (highest (if higher (f u) j then f u else j) (map f us)) ≡ false
-    split (inl k) r = rw (eqb-true t u k) (highest-above (f u) (if higher (f u) j then f u else j) (map f us) (at_head (higher (f u) j) refl))
-    split (inr k) r = r k
-
--- a key that is above none of them is not below the highest
-highest-below : (f : ℕ → Key) (us : List ℕ) (j k : Key) → higher j k ≡ false → ((u : ℕ) → has u us ≡ true → higher (f u) k ≡ false) → higher (highest j (map f us)) k ≡ false
-highest-below f [] j k own each = own
-highest-below f (u ∷ us) j k own each = highest-below f us (if higher (f u) j then f u else j) k (by_case (higher (f u) j)) (λ v h. each v (ap (λ b. v == u || b) h ∙ or_true (v == u)))
-  where
-    by_case : (b : Bool) → higher (if b then f u else j) k ≡ false
-    by_case true = each u (rw (equal_self u))
-    by_case false = own
-
-pub highest-is : (f : ℕ → Key) (us : List ℕ) (j k : Key) → higher j k ≡ false → ((u : ℕ) → has u us ≡ true → higher (f u) k ≡ false) → (k ≡ j) ⊎ ((u : ℕ) × (has u us ≡ true) × (k ≡ f u)) → k ≡ highest j (map f us)
-highest-is f us j k own each among = key-same k (highest j (map f us)) (top among) (highest-below f us j k own each)
-  where
-    top : (k ≡ j) ⊎ ((u : ℕ) × (has u us ≡ true) × (k ≡ f u)) → higher k (highest j (map f us)) ≡ false
-    top (inl e) = highest-above k j (map f us) (ap (λ i. higher i j) e ∙ higher-self j)
-    top (inr q) = ap (λ i. higher i (highest j (map f us))) q.2 ∙ highest-of f q.0 us j q.1
 
 -- ---- walks
 
@@ -226,4 +178,4 @@ module _ (room : ℕ) (next : ℕ → Option ℕ) (within : (t v : ℕ) → next
 
         among : (key t ≡ base t) ⊎ ((w : ℕ) × (w < room) × (has t (walk next room (next w)) ≡ true) × (key t ≡ base w)) → (key t ≡ base t) ⊎ ((u : ℕ) × (has u (followers next (numbers_from 0 room) t) ≡ true) × (key t ≡ base u))
         among (inl e) = inl e
-        among (inr q) = inr (q.0, has-filter (λ v. has t (walk next (length (numbers_from 0 room)) (next v))) q.0 (numbers_from 0 room) ∙ rw (has-between q.0 0 room (omega arith) (omega (arith, q.1)), size, q.2), q.3)
+        among (inr q) = inr (q.0, has-filter (λ v. has t (walk next (length (numbers_from 0 room)) (next v))) q.0 (numbers_from 0 room) ∙ rw (numbers_from-has 0 room q.0 (omega arith) (omega (arith, q.1)), size, q.2), q.3)

@@ -1,6 +1,7 @@
 -- Tasks that wait for others, their base keys and boosts.
 use Rattle.std.specs.Prelude.{◌≡◌, ℕ, false, List, length, Option, None, slice_index_or, unwrap_or}
 use Rattle.rt_order.specs.declared.Key.{Key}
+use Rattle.rt_order.specs.KeyOrder.{lowest_key}
 use Rattle.rt_rules.specs.Numbers.{has, numbers_from}
 use Rattle.rt_rules.specs.Walks.{walk, followers, inherited}
 
@@ -15,10 +16,6 @@ next_of nexts t = slice_index_or nexts t None
 
 abbrev pub boost_of : List (Option Key) → ℕ → Option Key
 boost_of boosts t = slice_index_or boosts t None
-
--- a key below all others
-abbrev pub lowest_key : Key
-lowest_key = record { band = 4294967295; major = 18446744073709551615; minor = 4294967295 }
 
 abbrev pub base_of : List (Option Key) → ℕ → Key
 base_of bases t = unwrap_or (slice_index_or bases t None) lowest_key

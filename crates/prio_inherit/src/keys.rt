@@ -2,21 +2,15 @@
 ghost use Rattle.std.specs.Prelude.{◌≡◌, ◌<◌, ◌&&◌, ℕ, List, Option, None, Some, IfOk, length, replicate};
 ghost use Rattle.rt_base.specs.TaskNos.{number_of_task, numbers_of_tasks};
 ghost use Rattle.rt_order.specs.declared.Key.{Key};
-ghost use Rattle.rt_order.specs.KeyOrder.{higher};
+ghost use Rattle.rt_order.specs.KeyOrder.{higher, lowest_key};
 ghost use Rattle.rt_rules.specs.Numbers.{is};
 ghost use Rattle.sem_laws.specs.KeptKeys.{key_at};
-ghost use Rattle.prio_inherit.specs.Waits.{base_of, lowest_key, next_of};
+ghost use Rattle.prio_inherit.specs.Waits.{base_of, next_of};
 ghost use Rattle.prio_inherit.specs.Local.{IsTop, IsLocal, IsSettling, IsRaising};
 
 use rt_base::{NoMemory, TaskNo};
 use rt_order::Key;
 use std::alloc::Global;
-
-const LOWEST: Key = Key {
-    band: u32::MAX,
-    major: u64::MAX,
-    minor: u32::MAX,
-};
 
 /// As many places with no key.
 pub fn no_keys(alloc: Global, room: usize) -> Result<Vec<Option<Key>>, NoMemory>
@@ -36,7 +30,7 @@ pub fn no_tasks(alloc: Global, room: usize) -> Result<Vec<Option<TaskNo>>, NoMem
 pub fn lowest_keys(alloc: Global, room: usize) -> Result<Vec<Key>, NoMemory>
     ensures { IfOk result (λ v. v.items ≡ replicate room lowest_key) }
 {
-    vec![in alloc; LOWEST; room].map_err(|_| NoMemory)
+    vec![in alloc; Key::LOWEST; room].map_err(|_| NoMemory)
 }
 
 // The base key of a task, or the lowest key where none was told.
@@ -45,7 +39,7 @@ fn base_in(bases: &[Option<Key>], task: TaskNo) -> Key
 {
     match bases.get(task.0 as usize) {
         Some(Some(key)) => *key,
-        _ => LOWEST,
+        _ => Key::LOWEST,
     }
 }
 

@@ -1,4 +1,3 @@
-pub mod Filling
 pub mod Rising
 pub mod RankLaws
 pub mod Rankings

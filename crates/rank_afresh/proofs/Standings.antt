@@ -4,6 +4,7 @@ use Rattle.std.specs.Prelude.{Option, None, All, replicate}
 use Rattle.std.proofs.lemmas.List.{length-replicate}
 use Rattle.std.proofs.lemmas.List.Elements.{All-from_get_or}
 use Rattle.rt_base.specs.declared.TaskNo.{TaskNo}
+use Rattle.rt_base.specs.declared.TheConstants.{MOST_STEPS}
 use Rattle.rt_task.specs.declared.Task.{Task}
 use Rattle.rt_task.specs.declared.Step.{Step}
 use Rattle.rt_history.specs.declared.Reply.{Reply}
@@ -49,11 +50,11 @@ module _ (g : Group) (played : IsPlayed g) where
   small : All IsSmall g.setup.tasks
   small = All-from_get_or IsSmall g.setup.tasks no_task (λ i lt. let f : IsPlainTask (get_or g.setup.tasks i no_task) = s.set.tasks_are i lt in record { phase = f.phase_low; period = f.period_low; deadline = f.deadline_low })
 
-  pub can_rank : (ns : List ℕ) → length ns ≡ length g.setup.tasks → All (λ (n : ℕ). n ≤ 200000) ns → CanRank g.setup.tasks ns
+  pub can_rank : (ns : List ℕ) → length ns ≡ length g.setup.tasks → All (λ (n : ℕ). n ≤ MOST_STEPS) ns → CanRank g.setup.tasks ns
   can_rank ns e few = record { few = s.set.few_tasks; small = small; same_length = e; few_done = few }
 
   pub can_rank-first : CanRank g.setup.tasks (replicate (length g.setup.tasks) 0)
-  can_rank-first = can_rank (replicate (length g.setup.tasks) 0) (length-replicate _ _) (all-zero (length g.setup.tasks) 200000)
+  can_rank-first = can_rank (replicate (length g.setup.tasks) 0) (length-replicate _ _) (all-zero (length g.setup.tasks) MOST_STEPS)
 
   abbrev first_facts : Facts
   first_facts = relinked (cpus g 0) g.setup.tasks (unlinked (cpus g 0) g.setup.tasks)
@@ -66,7 +67,7 @@ module _ (g : Group) (played : IsPlayed g) where
       let links : S.links ≡ links_of (cpus g 0) g.setup.tasks (unlinked (cpus g 0) g.setup.tasks) = ap (λ (rs : List Ranked). placed (top_tasks (cpus g 0) rs) (replicate (cpus g 0) None) (replicate (cpus g 0) None)) fresh in
       subst (λ ls. IsKept g [] (state_of g.setup.tasks (record (unlinked (cpus g 0) g.setup.tasks) { links = ls }))) links (kept-afresh g played [] S k)
 
-  pub fit-first : (next room : ℕ) → room ≤ 200000 → IsNext g.setup.tasks 0 (replicate (length g.setup.tasks) 0) (numbers_from 1 (length g.setup.tasks)) next → IsFit g first_facts next room
+  pub fit-first : (next room : ℕ) → room ≤ MOST_STEPS → IsNext g.setup.tasks 0 (replicate (length g.setup.tasks) 0) (numbers_from 1 (length g.setup.tasks)) next → IsFit g first_facts next room
   fit-first next room limit is = record {
     played = played;
     limit = limit;
@@ -103,7 +104,7 @@ module _ (v : Standing) (next : ℕ) (fit : IsFit (group_of v) v.facts next v.sp
           let low : 1 ≤ t = task-low g' s' past (state_of v.setup.tasks v.facts) at.kept t there in
           let high : t ≤ length g'.setup.tasks = task-high g' s' past (state_of v.setup.tasks v.facts) at.kept t there in
           let count : length v.facts.done ≡ length v.setup.tasks = at.kept.done_length in
-          let b : get_or v.facts.done (t - 1) 0 ≤ 200000 = fit.can_rank.few_done (t - 1) 0 (omega arith) in
+          let b : get_or v.facts.done (t - 1) 0 ≤ MOST_STEPS = fit.can_rank.few_done (t - 1) 0 (omega arith) in
           omega arith
 
   pub can_move : (past : Past) (tasks : List Task) → tasks ≡ v.setup.tasks → IsAt v past → CanMove (record { group = g'; past = past }) v.facts tasks
@@ -131,10 +132,10 @@ module _ (v : Standing) (next : ℕ) (fit : IsFit (group_of v) v.facts next v.sp
   pub fit-after : (past : Past) (step : Step) (reply : Reply) (tasks : List Task) (f : Facts) (next' : ℕ) → 0 < v.spare → tasks ≡ v.setup.tasks → HasActed (record { group = g'; past = Clock step.tick.0 ∷ past }) step.cpu.0 step.act reply (state_of tasks f)
       → Grows v.facts.done f.done → length f.runs ≡ length v.facts.runs → IsNext tasks f.clock f.done (numbers_from 1 (length tasks)) next' → IsFit g' f next' (v.spare - 1)
   fit-after past step reply tasks f next' room same acted grows runs_same is =
-      let most : ℕ = 200000 - v.spare in
-      let before : All (λ (n : ℕ). n ≤ most) v.facts.done = λ k d lt. (let h : get_or v.facts.done k d + v.spare ≤ 200000 = fit.few k d lt in omega arith) in
+      let most : ℕ = MOST_STEPS - v.spare in
+      let before : All (λ (n : ℕ). n ≤ most) v.facts.done = λ k d lt. (let h : get_or v.facts.done k d + v.spare ≤ MOST_STEPS = fit.few k d lt in omega arith) in
       let grown : All (λ (n : ℕ). n ≤ most + 1) f.done = grows most before in
-      let limit : v.spare ≤ 200000 = fit.limit in
+      let limit : v.spare ≤ MOST_STEPS = fit.limit in
       record {
         played = fit.played;
         limit = omega arith;

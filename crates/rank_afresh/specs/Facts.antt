@@ -1,6 +1,6 @@
 -- Plain facts of a group, and the ranking and the links that follow from them afresh.
 use Rattle.std.specs.Prelude.{◌≡◌, ◌≢◌, ℕ, ◌+◌, ◌-◌, ◌*◌, ◌<◌, ◌≤◌, ◌^◌, Bool, true, false, not, nat_le, List, All, length, replicate, Option, None, Some, slice_index, slice_index_or, slice_set}
-use Rattle.rt_base.specs.declared.TheConstants.{TICK_END}
+use Rattle.rt_base.specs.declared.TheConstants.{MOST_STEPS, MOST_TASKS, TICK_END}
 use Rattle.rt_task.specs.declared.Task.{Task}
 use Rattle.rt_order.specs.declared.Key.{Key}
 use Rattle.rt_rules.specs.Numbers.{has, numbers_from}
@@ -21,7 +21,8 @@ pub record Facts : Type 0 where
 
 -- the task's current job: its release, and its key
 abbrev pub release_of : List Task → List ℕ → ℕ → ℕ
-release_of tasks done t = (slice_index_or tasks (t - 1) no_task).phase + slice_index done (t - 1) * (slice_index_or tasks (t - 1) no_task).period
+release_of tasks done t =
+    (slice_index_or tasks (t - 1) no_task).phase + slice_index done (t - 1) * (slice_index_or tasks (t - 1) no_task).period
 
 abbrev pub key_of : List Task → List ℕ → ℕ → Key
 key_of tasks done t = record { band = 2; major = release_of tasks done t + (slice_index_or tasks (t - 1) no_task).rel_deadline; minor = t }
@@ -37,7 +38,9 @@ abbrev pub ready_of : List Task → ℕ → List ℕ → List Ranked
 ready_of tasks clock done = ranking_of tasks clock done (numbers_from 1 (length tasks))
 
 abbrev pub waiting_of : List Task → ℕ → List ℕ → List Ranked
-waiting_of tasks clock done = ranked_by (λ t. record { band = 0; major = release_of tasks done t; minor = t }) (λ t. not (is_due tasks clock done t)) (numbers_from 1 (length tasks))
+waiting_of tasks clock done =
+    let next_release : ℕ → Key = λ t. record { band = 0; major = release_of tasks done t; minor = t } in
+    ranked_by next_release (λ t. not (is_due tasks clock done t)) (numbers_from 1 (length tasks))
 
 -- the top of a cluster of m processors
 abbrev pub top_of : ℕ → List Task → ℕ → List ℕ → List ℕ
@@ -53,7 +56,15 @@ relinked m tasks f = record f { links = links_of m tasks f }
 
 -- the facts, with the ranking that follows from them, as what is kept of a past
 abbrev pub state_of : List Task → Facts → State
-state_of tasks f = record { clock = f.clock; done = f.done; worked = f.worked; ready = ready_of tasks f.clock f.done; waiting = waiting_of tasks f.clock f.done; runs = f.runs; links = f.links }
+state_of tasks f = record {
+  clock = f.clock;
+  done = f.done;
+  worked = f.worked;
+  ready = ready_of tasks f.clock f.done;
+  waiting = waiting_of tasks f.clock f.done;
+  runs = f.runs;
+  links = f.links;
+}
 
 -- the links and runs among the facts
 abbrev pub linked_in : Facts → Linked
@@ -61,7 +72,13 @@ linked_in f = record { first = 0; runs = f.runs; links = f.links }
 
 -- a cluster of m processors before anything is linked
 abbrev pub unlinked : ℕ → List Task → Facts
-unlinked m tasks = record { clock = 0; done = replicate (length tasks) 0; worked = replicate m None; runs = replicate m None; links = replicate m None }
+unlinked m tasks = record {
+  clock = 0;
+  done = replicate (length tasks) 0;
+  worked = replicate m None;
+  runs = replicate m None;
+  links = replicate m None;
+}
 
 -- the processor in this place has worked at this clock
 abbrev pub has_worked : ℕ → Facts → Facts
@@ -79,10 +96,10 @@ pub record IsSmall (t : Task) : Type 0 where
 
 -- what ranking rests on
 pub record CanRank (tasks : List Task) (done : List ℕ) : Type 0 where
-  pub few : length tasks ≤ 1024
+  pub few : length tasks ≤ MOST_TASKS
   pub small : All IsSmall tasks
   pub same_length : length done ≡ length tasks
-  pub few_done : All (λ (n : ℕ). n ≤ 200000) done
+  pub few_done : All (λ (n : ℕ). n ≤ MOST_STEPS) done
 
 -- room for the top of the cluster
 pub record IsRoomy (f : Facts) (best top : ℕ) : Type 0 where

@@ -1,4 +1,3 @@
-pub mod Taken
 pub mod Candidates
 pub mod Rising
 pub mod Facts

@@ -1,6 +1,7 @@
 -- One group at a past, as contracts see it.
 use Rattle.std.specs.Prelude.{◌≡◌, ℕ, ◌+◌, ◌<◌, ◌≤◌, Bool, nat_lt, List, [], ◌∷◌, All, length, Option, None, option_map}
 use Rattle.rt_base.specs.declared.TaskNo.{TaskNo}
+use Rattle.rt_base.specs.declared.TheConstants.{MOST_STEPS}
 use Rattle.rt_task.specs.declared.Parts.{Parts}
 use Rattle.rt_rules.specs.Numbers.{numbers_from}
 use Rattle.rt_model.specs.Group.{Group, cpus}
@@ -43,8 +44,8 @@ pub record IsOfSame (v w : Standing) : Type 0 where
 -- what holds at all times: a group that is played, in which no task ends more jobs than there was room for acts
 pub record IsFit (g : Group) (f : Facts) (next spare : ℕ) : Type 0 where
   pub played : IsPlayed g
-  pub limit : spare ≤ 200000
+  pub limit : spare ≤ MOST_STEPS
   pub runs_length : length f.runs ≡ cpus g 0
   pub can_rank : CanRank g.setup.tasks f.done
-  pub few : All (λ (n : ℕ). n + spare ≤ 200000) f.done
+  pub few : All (λ (n : ℕ). n + spare ≤ MOST_STEPS) f.done
   pub next_is : IsNext g.setup.tasks f.clock f.done (numbers_from 1 (length g.setup.tasks)) next

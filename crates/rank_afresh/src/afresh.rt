@@ -1,6 +1,7 @@
 //! One group whose moves are played from plain facts.
 ghost use Rattle.std.specs.Prelude.{◌≡◌, ◌+◌, ◌<◌, ◌≤◌, ◌∷◌, [], IfOk, None, true};
 ghost use Rattle.rt_base.specs.TaskNos.{number_of_task};
+ghost use Rattle.rt_base.specs.declared.TheConstants.{MOST_STEPS};
 ghost use Rattle.rt_model.specs.Past.{Past, Clock};
 ghost use Rattle.rt_model.specs.Runs.{runs};
 ghost use Rattle.rt_model.specs.Links.{linked};
@@ -44,7 +45,7 @@ impl Afresh {
     /// A group of a setup at opening, with room for so many acts. It takes all the memory that the value ever has.
     pub fn open(alloc: Global, setup: &Setup, group: GroupNo, room: u32) -> Result<Afresh, NoMemory>
         requires group { IsGroupOf setup.now group.0 }
-        requires room { room ≤ 200000 }
+        requires room { room ≤ MOST_STEPS }
         requires built { is_built setup.now ≡ true }
         ensures setup { IfOk result (λ a. a.setup ≡ setup.now) }
         ensures group { IfOk result (λ a. a.group ≡ group.0) }
@@ -81,8 +82,10 @@ impl Afresh {
         requires cpu { IsProcessorOf (group_of self.old) step.cpu.0 }
         requires act { is_built_act step.act ≡ true }
         requires clocked { (past : Past) × IsAt self.old (Clock step.tick.0 ∷ past) }
-        ensures reply { (past : Past) → IsAt self.old (Clock step.tick.0 ∷ past) → result ≡ reply_to (group_of self.old) step past }
-        ensures acted { (past : Past) → IsAt self.old (Clock step.tick.0 ∷ past) → IsAt self.new (after (group_of self.old) step past) }
+        ensures reply { (past : Past) → IsAt self.old (Clock step.tick.0 ∷ past)
+            → result ≡ reply_to (group_of self.old) step past }
+        ensures acted { (past : Past) → IsAt self.old (Clock step.tick.0 ∷ past)
+            → IsAt self.new (after (group_of self.old) step past) }
         ensures same { IsOfSame self.old self.new }
         ensures room { self.new.spare + 1 ≡ self.old.spare }
     {
@@ -95,7 +98,8 @@ impl Afresh {
     /// What the processor is linked to.
     pub fn linked(&self, cpu: CpuNo) -> Option<TaskNo>
         requires { IsProcessorOf (group_of self.now) cpu.0 }
-        ensures { (past : Past) → IsAt self.now past → number_of_task result ≡ linked (group_of self.now) cpu.0 past }
+        ensures { (past : Past) → IsAt self.now past
+            → number_of_task result ≡ linked (group_of self.now) cpu.0 past }
     {
         self.facts.linked(cpu)
     }
@@ -111,7 +115,8 @@ impl Afresh {
     /// The task whose job the last move ended, and whether the clock was past that job's deadline; `None` where it ended
     /// no job.
     pub fn ended(&self) -> Option<(TaskNo, bool)>
-        ensures { (past : Past) → IsAt self.now past → result ≡ ended_last (group_of self.now) past }
+        ensures { (past : Past) → IsAt self.now past → result
+            ≡ ended_last (group_of self.now) past }
     {
         self.ended
     }

@@ -1,6 +1,7 @@
 //! The plain facts of one group with one cluster, whose processors are numbered from 0.
 ghost use Rattle.std.specs.Prelude.{◌≡◌, ◌+◌, ◌-◌, ◌^◌, ◌<◌, ◌≤◌, ℕ, All, IfOk, length, replicate, max, nat_lt, true, false, None, slice_index, slice_index_or, slice_set};
 ghost use Rattle.rt_base.specs.TaskNos.{number_of_task};
+ghost use Rattle.rt_base.specs.declared.TheConstants.{MOST_STEPS};
 ghost use Rattle.rt_rules.specs.Numbers.{numbers_from};
 ghost use Rattle.rt_rules.specs.Placing.{at_place};
 ghost use Rattle.link_table.specs.Linked.{irq_reply, after_irq};
@@ -50,8 +51,10 @@ impl Facts {
     /// The facts at opening, of a cluster of so many processors.
     pub(crate) fn open(alloc: Global, tasks: &[Task], cpus: u32) -> Result<Facts, NoMemory>
         requires { CanRank tasks.now (replicate (length tasks.now) 0) }
-        ensures facts { IfOk result (λ f. f.facts ≡ relinked cpus tasks.now (unlinked cpus tasks.now)) }
-        ensures next { IfOk result (λ f. IsNext tasks.now 0 (replicate (length tasks.now) 0) (numbers_from 1 (length tasks.now)) f.next) }
+        ensures facts { IfOk result (λ f. f.facts
+            ≡ relinked cpus tasks.now (unlinked cpus tasks.now)) }
+        ensures next { IfOk result (λ f. IsNext tasks.now 0 (replicate
+            (length tasks.now) 0) (numbers_from 1 (length tasks.now)) f.next) }
     {
         let cpus = cpus as usize;
         let mut facts = Facts {
@@ -87,8 +90,10 @@ impl Facts {
     /// Ranks the tasks afresh, and links the first of them.
     fn place(&mut self, tasks: &[Task])
         requires { CanRank tasks.now self.old.facts.done }
-        ensures facts { self.new.facts ≡ relinked (length self.old.facts.runs) tasks.now self.old.facts }
-        ensures next { IsNext tasks.now self.old.facts.clock self.old.facts.done (numbers_from 1 (length tasks.now)) self.new.next }
+        ensures facts { self.new.facts
+            ≡ relinked (length self.old.facts.runs) tasks.now self.old.facts }
+        ensures next { IsNext tasks.now self.old.facts.clock self.old.facts.done (numbers_from 1
+            (length tasks.now)) self.new.next }
     {
         let cpus = self.runs.len();
         self.next = rank(
@@ -109,9 +114,12 @@ impl Facts {
     /// Moves the clock, if the tick is later; where jobs are released by it, the links follow.
     pub(crate) fn move_clock(&mut self, tasks: &[Task], tick: u64)
         requires tasks { CanRank tasks.now self.old.facts.done }
-        requires next { IsNext tasks.now self.old.facts.clock self.old.facts.done (numbers_from 1 (length tasks.now)) self.old.next }
-        ensures moved { (at : Moment) → CanMove at self.old.facts tasks.now → HasMoved at tick self.new.facts tasks.now }
-        ensures next { IsNext tasks.now self.new.facts.clock self.new.facts.done (numbers_from 1 (length tasks.now)) self.new.next }
+        requires next { IsNext tasks.now self.old.facts.clock self.old.facts.done (numbers_from 1
+            (length tasks.now)) self.old.next }
+        ensures moved { (at : Moment) → CanMove at self.old.facts tasks.now
+            → HasMoved at tick self.new.facts tasks.now }
+        ensures next { IsNext tasks.now self.new.facts.clock self.new.facts.done (numbers_from 1
+            (length tasks.now)) self.new.next }
         ensures done { self.new.facts.done ≡ self.old.facts.done }
         ensures runs { self.new.facts.runs ≡ self.old.facts.runs }
     {
@@ -129,11 +137,14 @@ impl Facts {
     fn take_irq(&mut self, tasks: &[Task], cpu: CpuNo) -> Reply
         requires tasks { CanRank tasks.now self.old.facts.done }
         requires cpu { cpu.0 < length self.old.facts.runs }
-        requires settled { links_of (length self.old.facts.runs) tasks.now self.old.facts ≡ self.old.facts.links }
-        requires next { IsNext tasks.now self.old.facts.clock self.old.facts.done (numbers_from 1 (length tasks.now)) self.old.next }
+        requires settled { links_of (length self.old.facts.runs) tasks.now self.old.facts
+            ≡ self.old.facts.links }
+        requires next { IsNext tasks.now self.old.facts.clock self.old.facts.done (numbers_from 1
+            (length tasks.now)) self.old.next }
         ensures reply { result ≡ irq_reply (linked_in self.old.facts) cpu.0 false }
         ensures facts { self.new.facts ≡ relinked (length self.old.facts.runs) tasks.now (record self.old.facts { runs = (after_irq (linked_in self.old.facts) cpu.0 false).runs }) }
-        ensures next { IsNext tasks.now self.new.facts.clock self.new.facts.done (numbers_from 1 (length tasks.now)) self.new.next }
+        ensures next { IsNext tasks.now self.new.facts.clock self.new.facts.done (numbers_from 1
+            (length tasks.now)) self.new.next }
     {
         let link = self.linked(cpu);
         if link == self.runs(cpu) {
@@ -160,7 +171,13 @@ impl Facts {
         requires low { 1 ≤ task.0 }
         requires high { task.0 ≤ length self.old.facts.done }
         requires few { slice_index self.old.facts.done (task.0 - 1) < 2 ^ 20 }
-        ensures { self.new ≡ record self.old { facts = record self.old.facts { done = slice_set self.old.facts.done (task.0 - 1) (slice_index self.old.facts.done (task.0 - 1) + 1) } } }
+        ensures { self.new
+            ≡ record self.old {
+              facts = record self.old.facts {
+                done = slice_set self.old.facts.done
+                    (task.0 - 1) (slice_index self.old.facts.done (task.0 - 1) + 1);
+              };
+            } }
     {
         self.done[task.0 as usize - 1] += 1;
     }
@@ -184,7 +201,9 @@ impl Facts {
     /// The task that the processor runs works for a unit, unless the processor has worked at this clock.
     fn do_work(&mut self, tasks: &[Task], cpu: CpuNo, task: TaskNo) -> Reply
         requires { CanOperateNow (state_of tasks.now self.old.facts) tasks.now cpu.0 task.0 }
-        ensures acted { (at : Moment) → CanOperate at (state_of tasks.now self.old.facts) tasks.now cpu.0 task.0 → HasActed at cpu.0 (Act.Do Op.Work) result (state_of tasks.now self.new.facts) }
+        ensures acted { (at : Moment)
+            → CanOperate at (state_of tasks.now self.old.facts) tasks.now cpu.0 task.0
+            → HasActed at cpu.0 (Act.Do Op.Work) result (state_of tasks.now self.new.facts) }
         ensures clock { self.new.facts.clock ≡ self.old.facts.clock }
         ensures done { self.new.facts.done ≡ self.old.facts.done }
         ensures runs { self.new.facts.runs ≡ self.old.facts.runs }
@@ -199,11 +218,15 @@ impl Facts {
 
     /// The task that the processor runs ends its job, and the links follow.
     fn do_end(&mut self, tasks: &[Task], cpu: CpuNo, task: TaskNo) -> Reply
-        requires operates { CanOperateNow (state_of tasks.now self.old.facts) tasks.now cpu.0 task.0 }
+        requires operates { CanOperateNow
+            (state_of tasks.now self.old.facts) tasks.now cpu.0 task.0 }
         requires tasks { CanRank tasks.now self.old.facts.done }
-        requires few { All (λ (n : ℕ). n < 200000) self.old.facts.done }
-        ensures acted { (at : Moment) → CanOperate at (state_of tasks.now self.old.facts) tasks.now cpu.0 task.0 → HasActed at cpu.0 (Act.Do Op.End) result (state_of tasks.now self.new.facts) }
-        ensures next { IsNext tasks.now self.new.facts.clock self.new.facts.done (numbers_from 1 (length tasks.now)) self.new.next }
+        requires few { All (λ (n : ℕ). n < MOST_STEPS) self.old.facts.done }
+        ensures acted { (at : Moment)
+            → CanOperate at (state_of tasks.now self.old.facts) tasks.now cpu.0 task.0
+            → HasActed at cpu.0 (Act.Do Op.End) result (state_of tasks.now self.new.facts) }
+        ensures next { IsNext tasks.now self.new.facts.clock self.new.facts.done (numbers_from 1
+            (length tasks.now)) self.new.next }
         ensures grows { Grows self.old.facts.done self.new.facts.done }
         ensures runs { length self.new.facts.runs ≡ length self.old.facts.runs }
     {
@@ -218,10 +241,14 @@ impl Facts {
         requires acts { CanActNow (state_of tasks.now self.old.facts) tasks.now cpu.0 }
         requires built { is_built_act act ≡ true }
         requires tasks { CanRank tasks.now self.old.facts.done }
-        requires few { All (λ (n : ℕ). n < 200000) self.old.facts.done }
-        requires next { IsNext tasks.now self.old.facts.clock self.old.facts.done (numbers_from 1 (length tasks.now)) self.old.next }
-        ensures acted { (at : Moment) → CanAct at (state_of tasks.now self.old.facts) tasks.now cpu.0 → HasActed at cpu.0 act result (state_of tasks.now self.new.facts) }
-        ensures next { IsNext tasks.now self.new.facts.clock self.new.facts.done (numbers_from 1 (length tasks.now)) self.new.next }
+        requires few { All (λ (n : ℕ). n < MOST_STEPS) self.old.facts.done }
+        requires next { IsNext tasks.now self.old.facts.clock self.old.facts.done (numbers_from 1
+            (length tasks.now)) self.old.next }
+        ensures acted { (at : Moment)
+            → CanAct at (state_of tasks.now self.old.facts) tasks.now cpu.0
+            → HasActed at cpu.0 act result (state_of tasks.now self.new.facts) }
+        ensures next { IsNext tasks.now self.new.facts.clock self.new.facts.done (numbers_from 1
+            (length tasks.now)) self.new.next }
         ensures grows { Grows self.old.facts.done self.new.facts.done }
         ensures runs { length self.new.facts.runs ≡ length self.old.facts.runs }
     {
@@ -245,7 +272,8 @@ impl Facts {
         requires acts { CanActNow (state_of tasks.now self.now.facts) tasks.now cpu.0 }
         requires built { is_built_act act ≡ true }
         requires tasks { CanRank tasks.now self.now.facts.done }
-        ensures { (at : Moment) → CanAct at (state_of tasks.now self.now.facts) tasks.now cpu.0 → result ≡ ended_in at.group (past_act at.group cpu.0 act at.past) at.past }
+        ensures { (at : Moment) → CanAct at (state_of tasks.now self.now.facts) tasks.now cpu.0
+            → result ≡ ended_in at.group (past_act at.group cpu.0 act at.past) at.past }
     {
         if act != Act::Do(Op::End) {
             return None;
@@ -261,7 +289,9 @@ impl Facts {
         requires tasks { CanRank tasks.now self.now.facts.done }
         requires low { 1 ≤ task.0 }
         requires high { task.0 ≤ length tasks.now }
-        ensures { result ≡ nat_lt (release_of tasks.now self.now.facts.done task.0 + (slice_index_or tasks.now (task.0 - 1) no_task).rel_deadline) self.now.facts.clock }
+        ensures { result
+            ≡ nat_lt (release_of tasks.now self.now.facts.done task.0 + (slice_index_or tasks.now
+            (task.0 - 1) no_task).rel_deadline) self.now.facts.clock }
     {
         let place = task.0 as usize - 1;
         let release = release_after(&tasks[place], self.done[place]);

@@ -4,7 +4,7 @@ ghost use Rattle.rt_base.specs.TaskNos.{number_of_task, numbers, numbers_of_task
 ghost use Rattle.rt_rules.specs.Distinct.{IsDistinct};
 ghost use Rattle.rt_rules.specs.Numbers.{has};
 ghost use Rattle.rt_rules.specs.Placing.{filled_with, kept, kept_link, placed, tasks_in};
-ghost use Rattle.rank_afresh.specs.Taken.{first_taken};
+ghost use Rattle.link_table.specs.Linked.{first_taken};
 
 use rt_base::TaskNo;
 
@@ -12,7 +12,8 @@ use rt_base::TaskNo;
 pub(crate) fn place(top: &[TaskNo], runs: &[Option<TaskNo>], links: &mut [Option<TaskNo>])
     requires length { length runs.now ≡ length links.old }
     requires distinct { IsDistinct (numbers top.now) }
-    ensures { numbers_of_tasks links.new ≡ placed (numbers top.now) (numbers_of_tasks runs.now) (numbers_of_tasks links.old) }
+    ensures { numbers_of_tasks links.new
+        ≡ placed (numbers top.now) (numbers_of_tasks runs.now) (numbers_of_tasks links.old) }
 {
     keep(top, runs, links);
     fill(top, links);
@@ -49,7 +50,9 @@ fn kept_at(
     runs: Option<TaskNo>,
     link: Option<TaskNo>,
 ) -> Option<TaskNo>
-    ensures { number_of_task result ≡ kept_link (numbers top.now) (tasks_in (numbers_of_tasks all.now)) (number_of_task runs) (number_of_task link) }
+    ensures { number_of_task result
+        ≡ kept_link (numbers top.now) (tasks_in
+        (numbers_of_tasks all.now)) (number_of_task runs) (number_of_task link) }
 {
     if let Some(t) = runs {
         if is_among(top, t) {
@@ -71,7 +74,9 @@ fn kept_at(
 // Each processor keeps its link or loses it.
 fn keep(top: &[TaskNo], runs: &[Option<TaskNo>], links: &mut [Option<TaskNo>])
     requires { length runs.now ≡ length links.old }
-    ensures { numbers_of_tasks links.new ≡ kept (numbers top.now) (tasks_in (numbers_of_tasks runs.now)) (numbers_of_tasks runs.now) (numbers_of_tasks links.old) }
+    ensures { numbers_of_tasks links.new
+        ≡ kept (numbers top.now) (tasks_in
+        (numbers_of_tasks runs.now)) (numbers_of_tasks runs.now) (numbers_of_tasks links.old) }
 {
     for q in 0..links.len() {
         links[q] = kept_at(top, runs, runs[q], links[q]);
@@ -93,7 +98,8 @@ fn put(links: &mut [Option<TaskNo>], t: TaskNo)
 // The tasks of the top that are not linked take the processors that are left.
 fn fill(top: &[TaskNo], links: &mut [Option<TaskNo>])
     requires { IsDistinct (numbers top.now) }
-    ensures { numbers_of_tasks links.new ≡ filled_with (numbers top.now) (numbers_of_tasks links.old) }
+    ensures { numbers_of_tasks links.new
+        ≡ filled_with (numbers top.now) (numbers_of_tasks links.old) }
 {
     for t in top {
         if !is_linked(links, *t) {

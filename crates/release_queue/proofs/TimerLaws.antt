@@ -10,7 +10,7 @@ use Rattle.rt_order.specs.declared.Key.{Key}
 use Rattle.rt_order.specs.KeyOrder.{higher}
 use Rattle.ready_heap.specs.Heap.{goes_ahead}
 use Rattle.ready_heap.specs.Ready.{IsFirst}
-use Rattle.release_queue.specs.Timers.{ticks_in, tick_at, IsTimed, IsNextDue, NothingDue}
+use Rattle.release_queue.specs.Timers.{key_of_tick, ticks_in, tick_at, IsTimed, IsNextDue, NothingDue}
 
 abbrev pub tick_of : Option Key → Option ℕ
 tick_of o = option_map (λ (k : Key). k.major) o
@@ -55,23 +55,23 @@ key_inside (k ∷ ks) (suc t) j h = let rest = key_inside ks t j h in omega arit
 pub timed-empty : (ticks : List ℕ) (n : ℕ) → length ticks ≡ n → IsTimed (replicate n None) ticks
 timed-empty ticks n e = record { same_length = e ∙ sym (length-replicate n None); keyed = λ t k h. let none = get_or-replicate n t in cc }
 
-pub timed-arm : (keys : List (Option Key)) (ticks : List ℕ) (t tick : ℕ) → IsTimed keys ticks → t < length keys → IsTimed (set keys t (Some (record { band = 0; major = tick; minor = 0 }))) (set ticks t tick)
+pub timed-arm : (keys : List (Option Key)) (ticks : List ℕ) (t tick : ℕ) → IsTimed keys ticks → t < length keys → IsTimed (set keys t (Some (key_of_tick tick))) (set ticks t tick)
 timed-arm keys ticks t tick timed inside = record {
   same_length = length-set _ _ _ ∙ timed.same_length ∙ sym (length-set _ _ _);
   keyed = λ u k h. keyed u k h (cases_eq u t);
 }
   where
     key : Key
-    key = record { band = 0; major = tick; minor = 0 }
+    key = key_of_tick tick
 
-    keyed : (u : ℕ) (k : Key) → get_or (set keys t (Some (record { band = 0; major = tick; minor = 0 }))) u None ≡ Some k → (u ≡ t) ⊎ (u ≢ t) → k ≡ record { band = 0; major = get_or (set ticks t tick) u 0; minor = 0 }
+    keyed : (u : ℕ) (k : Key) → get_or (set keys t (Some (key_of_tick tick))) u None ≡ Some k → (u ≡ t) ⊎ (u ≢ t) → k ≡ key_of_tick (get_or (set ticks t tick) u 0)
     keyed u k h (inl is) =
-        let new : Key = record { band = 0; major = tick; minor = 0 } in
+        let new : Key = key_of_tick tick in
         let e : Some new ≡ Some k = sym (get_or-set_same keys t (Some new) None inside) ∙ ap (λ i. get_or (set keys t (Some new)) i None) (sym is) ∙ h in
         let at : get_or (set ticks t tick) u 0 ≡ tick = ap (λ i. get_or (set ticks t tick) i 0) is ∙ get_or-set_same ticks t tick 0 (omega (arith, timed.same_length)) in
         rw at (sym (same_Some new k e))
     keyed u k h (inr ne) =
-        let new : Key = record { band = 0; major = tick; minor = 0 } in
+        let new : Key = key_of_tick tick in
         let old : get_or keys u None ≡ Some k = sym (get_or-set_other keys t u (Some new) None ne) ∙ h in
         rw (get_or-set_other ticks t u tick 0 ne) (timed.keyed u k old)
 
@@ -81,12 +81,12 @@ timed-cancel keys ticks t timed inside = record {
   keyed = λ u k h. keyed u k h (cases_eq u t);
 }
   where
-    keyed : (u : ℕ) (k : Key) → get_or (set keys t None) u None ≡ Some k → (u ≡ t) ⊎ (u ≢ t) → k ≡ record { band = 0; major = get_or ticks u 0; minor = 0 }
+    keyed : (u : ℕ) (k : Key) → get_or (set keys t None) u None ≡ Some k → (u ≡ t) ⊎ (u ≢ t) → k ≡ key_of_tick (get_or ticks u 0)
     keyed u k h (inl is) = let clash : None ≡ Some k = sym (get_or-set_same keys t None None inside) ∙ ap (λ i. get_or (set keys t None) i None) (sym is) ∙ h in cc
     keyed u k h (inr ne) = timed.keyed u k (sym (get_or-set_other keys t u None None ne) ∙ h)
 
 -- of two ticks that do not go ahead
-not_before : (m n u t : ℕ) → goes_ahead higher (record { key = record { band = 0; major = m; minor = 0 }; task = u }) (record { key = record { band = 0; major = n; minor = 0 }; task = t }) ≡ false → (n ≤ m) × (m ≡ n → t ≤ u)
+not_before : (m n u t : ℕ) → goes_ahead higher (record { key = key_of_tick m; task = u }) (record { key = key_of_tick n; task = t }) ≡ false → (n ≤ m) × (m ≡ n → t ≤ u)
 not_before m n u t h = (grind (arith, nat_tests, h), λ e. grind (arith, nat_tests, h))
 
 -- a tick is that of a key
@@ -115,7 +115,7 @@ module _ (keys : List (Option Key)) (ticks : List ℕ) (timed : IsTimed keys tic
   -- every other tick is as late, and a lower number waits for another
   after : (u : ℕ) (k : Key) → get_or keys u None ≡ Some k → (get_or ticks task 0 ≤ get_or ticks u 0) × (get_or ticks u 0 ≡ get_or ticks task 0 → task ≤ u)
   after u k h = not_before (get_or ticks u 0) (get_or ticks task 0) u task
-      (ap (λ j. goes_ahead higher (record { key = record { band = 0; major = get_or ticks u 0; minor = 0 }; task = u }) (record { key = j; task = task })) (sym (timed.keyed task first.key first.is_in))
+      (ap (λ j. goes_ahead higher (record { key = key_of_tick (get_or ticks u 0); task = u }) (record { key = j; task = task })) (sym (timed.keyed task first.key first.is_in))
       ∙ ap (λ j. goes_ahead higher (record { key = j; task = u }) (record { key = first.key; task = task })) (sym (timed.keyed u k h))
       ∙ first.best u k h)
 

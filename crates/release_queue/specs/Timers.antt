@@ -18,10 +18,14 @@ pub record IsNextDue (ticks : List (Option ℕ)) (now task : ℕ) : Type 0 where
 abbrev pub NothingDue : List (Option ℕ) → ℕ → Type 0
 NothingDue ticks now = (task tick : ℕ) → tick_at ticks task ≡ Some tick → now < tick
 
+-- a tick as it stands in the heap, where a base key has the deadline
+abbrev pub key_of_tick : ℕ → Key
+key_of_tick tick = record { band = 2; major = tick; minor = 0 }
+
 abbrev pub ticks_in : List (Option Key) → List (Option ℕ)
 ticks_in keys = map (option_map (λ (k : Key). k.major)) keys
 
 -- each task that is in has its tick for its key
 pub record IsTimed (keys : List (Option Key)) (ticks : List ℕ) : Type 0 where
   pub same_length : length ticks ≡ length keys
-  pub keyed : (t : ℕ) (k : Key) → slice_index_or keys t None ≡ Some k → k ≡ record { band = 0; major = slice_index ticks t; minor = 0 }
+  pub keyed : (t : ℕ) (k : Key) → slice_index_or keys t None ≡ Some k → k ≡ key_of_tick (slice_index ticks t)

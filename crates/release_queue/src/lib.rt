@@ -3,7 +3,7 @@
 
 ghost use Rattle.std.specs.Prelude.{◌≡◌, ◌<◌, IfNone, IfOk, IfSome, None, Some, is_some, length, replicate, slice_set};
 ghost use Rattle.ready_heap.specs.Row.{key_at};
-ghost use Rattle.release_queue.specs.Timers.{tick_at, IsNextDue, NothingDue};
+ghost use Rattle.release_queue.specs.Timers.{key_of_tick, tick_at, IsNextDue, NothingDue};
 
 use ready_heap::ReadyHeap;
 use rt_base::{NoMemory, TaskNo, Tick};
@@ -32,12 +32,13 @@ impl Model for ReleaseQueue {
     ghost invariant = { λ q. IsTimed q.heap.keys q.ticks.items };
 }
 
-// A tick as a key: the earlier is the higher.
+// A tick in the heap, whose elements are keys: it stands where a base key has the deadline, so that the earlier is the
+// higher. No other key is in this heap, and none of them is a task's priority.
 fn key_of(tick: u64) -> Key
-    ensures { result ≡ record { band = 0; major = tick; minor = 0 } }
+    ensures { result ≡ key_of_tick tick }
 {
     Key {
-        band: 0,
+        band: 2,
         major: tick,
         minor: 0,
     }

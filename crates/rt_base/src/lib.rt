@@ -58,7 +58,7 @@ pub const MOST_SEMS: u32 = 256;
 pub const MOST_RESVS: u32 = 64;
 
 /// The most steps of a set, in all its groups together.
-pub const MOST_STEPS: u32 = 200_000;
+pub const MOST_STEPS: u32 = 1_000_000;
 
 /// Ticks and durations are below this.
 pub const TICK_END: u64 = 1_000_000_000_000;
@@ -69,11 +69,20 @@ pub const MOST_PRIO: u32 = 511;
 /// The most PCP semaphores that a job holds at once.
 pub const MOST_HELD: u32 = 8;
 
+/// The most bytes of a name.
+pub const MOST_NAME_BYTES: u32 = 32;
+
 /// The most operations of a body, each unit of work counted.
 pub const MOST_OPERATIONS: u32 = 1000;
 
 /// The most acts of a processor in a turn of a body run, besides its tick and its first interrupt.
 pub const MOST_TURN_ACTS: u32 = 16;
+
+/// The most steps of a processor in a turn of a body run: its tick, its first interrupt, and its acts.
+pub const MOST_TURN_STEPS: u32 = MOST_TURN_ACTS + 2;
+
+/// The most values of a count line.
+pub const MOST_TOTALS: u32 = 64;
 
 /// The most bytes of a set document.
 pub const MOST_SET_BYTES: u64 = 16_777_216;

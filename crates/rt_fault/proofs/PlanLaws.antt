@@ -1,5 +1,5 @@
 -- Counting the calls that failed.
-use Rattle.std.proofs.Common.{◌≡◌, ℕ, zero, suc, ◌+◌, ◌-◌, ◌^◌, ◌<◌, ◌≤◌, nat_lt, min, cond, List, [], ◌∷◌, length, slice_index_or, sum_by, arith}
+use Rattle.std.proofs.Common.{◌≡◌, ℕ, zero, suc, ◌+◌, ◌-◌, ◌^◌, ◌<◌, ◌≤◌, nat_lt, min, cond, List, [], ◌∷◌, length, slice_index_or, sum_by, refl, arith}
 use Rattle.std.proofs.lemmas.Bool.Decides.{nat_tests}
 use Rattle.std.proofs.lemmas.List.Sums.{sum_by-cons}
 use Rattle.rt_fault.specs.Memory.{Plan, IsFailing, after_call, failed_calls}
@@ -37,13 +37,43 @@ count_below_rises_at (k ∷ fails) (suc i) c d h at is =
     rw (sum_by-cons (weight c) k fails, sum_by-cons (weight d) k fails)
     (omega (arith, weight_rises k c d (omega arith), count_below_rises_at fails i c d h (omega arith) is))
 
+-- the numbers below a later one are the same, where none is at it or between
+count_below_same :
+    (fails : List ℕ) (c d e : ℕ) → ((i : ℕ) → i < length fails → weight d (slice_index_or fails i e) ≡ weight c (slice_index_or fails i e))
+    → sum_by (weight d) fails ≡ sum_by (weight c) fails
+count_below_same [] c d e same = refl
+count_below_same (k ∷ fails) c d e same =
+    let here = same 0 (omega arith) in
+    let rest = count_below_same fails c d e (λ i h. same (suc i) (omega arith)) in
+    rw (sum_by-cons (weight d) k fails, sum_by-cons (weight c) k fails) (omega arith)
+
+-- the calls that could fail, by the number of the next call
+abbrev made : ℕ → ℕ
+made calls = min calls (2 ^ 32)
+
+abbrev next : ℕ → ℕ
+next calls = min (calls + 1) (2 ^ 64 - 1)
+
+-- a number that is not the call's is that of a call made after it only if before it
+weight_same : (k c : ℕ) → c < 2 ^ 64 → (c < 2 ^ 32 → k ≡ c → ⊥) → weight (made (next c)) k ≡ weight (made c) k
+unfolding weight
+weight_same k c small other = grind (arith, nat_tests)
+
 -- a call that is made takes back no fault
 pub failed_calls-after_call : (p : Plan) → p.calls < 2 ^ 64 → failed_calls p ≤ failed_calls (after_call p)
 unfolding weight
-failed_calls-after_call p h = count_below_rises p.fails p.calls (min (p.calls + 1) (2 ^ 64 - 1)) (omega arith)
+failed_calls-after_call p h = count_below_rises p.fails (made p.calls) (made (next p.calls)) (omega arith)
 
 -- a call that fails is a fault more
 pub failed_calls-fails : (p : Plan) → IsFailing p → failed_calls p < failed_calls (after_call p)
 unfolding weight
 failed_calls-fails p (small, (i, at, is)) =
-    count_below_rises_at p.fails i p.calls (min (p.calls + 1) (2 ^ 64 - 1)) (omega arith) at is
+    let here : made p.calls ≡ p.calls = omega arith in
+    rw here (count_below_rises_at p.fails i p.calls (made (next p.calls)) (omega arith) at is)
+
+-- a call that does not fail is none
+pub failed_calls-no_fail : (p : Plan) → p.calls < 2 ^ 64 → (IsFailing p → ⊥) → failed_calls (after_call p) ≡ failed_calls p
+unfolding weight
+failed_calls-no_fail p small sure =
+    count_below_same p.fails (made p.calls) (made (next p.calls)) p.calls
+    (λ i at. weight_same (slice_index_or p.fails i p.calls) p.calls small (λ few is. sure (few, (i, at, is))))

@@ -15,9 +15,9 @@ IsFailing p = (p.calls < 2 ^ 32) × Contains p.fails p.calls
 abbrev pub after_call : Plan → Plan
 after_call p = record p { calls = min (p.calls + 1) (2 ^ 64 - 1) }
 
--- how many of the numbers are those of calls that were made
+-- how many of the numbers are those of calls that were made and could fail
 abbrev pub failed_calls : Plan → ℕ
-failed_calls p = count_by (λ k. nat_lt k p.calls) p.fails
+failed_calls p = count_by (λ k. nat_lt k (min p.calls (2 ^ 32))) p.fails
 
 -- The first `room` bytes that came, and how many came beyond them, which stays at 2^64 - 1.
 pub record Kept : Type 0 where

@@ -1,5 +1,5 @@
 -- What the reading of a whole source took from the bytes still to come, where the source tells them.
-use Rattle.std.specs.Prelude.{◌≡◌, ℕ, ◌<◌, ◌≤◌, List, [], length, ⊤, Option, None, Some}
+use Rattle.std.specs.Prelude.{◌≡◌, ℕ, ◌+◌, ◌≤◌, List, [], length, ⊤, Option, None, Some}
 use Rattle.std.specs.Io.KnownBytes.{Consumes}
 
 -- these were all the bytes still to come, and none is left
@@ -11,6 +11,6 @@ TakesAll (Some xs) new bs = (bs ≡ xs) × (new ≡ Some [])
 abbrev pub TakesAtMost : ℕ → Option (List ℕ) → Option (List ℕ) → Type 0
 TakesAtMost limit old new = (bs : List ℕ) × (length bs ≤ limit) × Consumes old new bs
 
--- more than `limit` bytes came
-abbrev pub TakesMoreThan : ℕ → Option (List ℕ) → Option (List ℕ) → Type 0
-TakesMoreThan limit old new = (bs : List ℕ) × (limit < length bs) × Consumes old new bs
+-- one byte more than the limit came, and no other
+abbrev pub TakesOneMoreThan : ℕ → Option (List ℕ) → Option (List ℕ) → Type 0
+TakesOneMoreThan limit old new = (bs : List ℕ) × (length bs ≡ limit + 1) × Consumes old new bs

@@ -1,5 +1,5 @@
 //! What gives bytes.
-ghost use Rattle.std.specs.Prelude.{◌≡◌, ℕ, ◌<◌, ◌≤◌, List, length, take, Option, IfOk, OnErr};
+ghost use Rattle.std.specs.Prelude.{◌≡◌, ℕ, ◌<◌, ◌≤◌, List, length, take, Option, IfOk, OnOk, OnErr};
 ghost use Rattle.std.specs.Io.KnownBytes.{Consumes, Keeps, IsAtEnd};
 ghost use Rattle.rt_fault.specs.Faults.{HasRisen};
 
@@ -18,7 +18,7 @@ pub trait Source {
 
     /// Fills a first part of `buf` with the next bytes, and answers their number: 0 only at the end of input.
     ///
-    /// It fails only where `faults` rose in this call, and then takes no byte.
+    /// It fails exactly where `faults` rose in this call, and then takes no byte.
     fn read(&mut self, buf: &mut [u8]) -> Result<usize, Failed>
         requires { 0 < length buf.old }
         ensures bound { IfOk result (λ n. n ≤ length buf.new) }
@@ -26,5 +26,6 @@ pub trait Source {
         ensures end { result ≡ Ok 0 → IsAtEnd (left self.new) }
         ensures kept { OnErr result (Keeps (left self.old) (left self.new)) }
         ensures fault { OnErr result (HasRisen (faults self.old) (faults self.new)) }
+        ensures unfailed { OnOk result (faults self.new ≡ faults self.old) }
         ensures counted { faults self.old ≤ faults self.new };
 }

@@ -62,6 +62,7 @@ impl Source for MemSource {
         ensures end { result ≡ Ok 0 → IsAtEnd (Some self.new.left) }
         ensures kept { OnErr result (Keeps (Some self.old.left) (Some self.new.left)) }
         ensures fault { OnErr result (failed_calls self.old.plan < failed_calls self.new.plan) }
+        ensures unfailed { OnOk result (failed_calls self.new.plan ≡ failed_calls self.old.plan) }
         ensures counted { failed_calls self.old.plan ≤ failed_calls self.new.plan }
 
         // What this one does.
@@ -137,6 +138,7 @@ impl Sink for MemSink {
         ensures taken { IfOk result (λ n. Extends (held_in self.old.kept) (held_in self.new.kept) (take n bytes.now)) }
         ensures kept { OnErr result (Stays (held_in self.old.kept) (held_in self.new.kept)) }
         ensures fault { OnErr result (failed_calls self.old.plan < failed_calls self.new.plan) }
+        ensures unfailed { OnOk result (failed_calls self.new.plan ≡ failed_calls self.old.plan) }
         ensures counted { failed_calls self.old.plan ≤ failed_calls self.new.plan }
 
         // What this one does.

@@ -1,5 +1,5 @@
 //! What takes bytes.
-ghost use Rattle.std.specs.Prelude.{ℕ, ◌<◌, ◌≤◌, length, take, IfOk, OnErr};
+ghost use Rattle.std.specs.Prelude.{◌≡◌, ℕ, ◌<◌, ◌≤◌, length, take, IfOk, OnOk, OnErr};
 ghost use Rattle.rt_fault.specs.Faults.{HasRisen};
 ghost use Rattle.rt_fault.specs.Held.{Held, Extends, Stays};
 
@@ -15,7 +15,7 @@ pub trait Sink {
 
     /// Takes a first part of `bytes`, of one byte at least, and answers its length.
     ///
-    /// It fails only where `faults` rose in this call, and then takes no byte.
+    /// It fails exactly where `faults` rose in this call, and then takes no byte.
     fn write(&mut self, bytes: &[u8]) -> Result<usize, Failed>
         requires { 0 < length bytes.now }
         ensures some { IfOk result (λ n. 0 < n) }
@@ -23,5 +23,6 @@ pub trait Sink {
         ensures taken { IfOk result (λ n. Extends (held self.old) (held self.new) (take n bytes.now)) }
         ensures kept { OnErr result (Stays (held self.old) (held self.new)) }
         ensures fault { OnErr result (HasRisen (faults self.old) (faults self.new)) }
+        ensures unfailed { OnOk result (faults self.new ≡ faults self.old) }
         ensures counted { faults self.old ≤ faults self.new };
 }

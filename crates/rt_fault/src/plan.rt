@@ -21,7 +21,7 @@ impl Model for Plan {
 }
 
 impl Plan {
-    ghost use Rattle.std.specs.Prelude.{◌≡◌, ◌↔◌, ◌<◌, ◌≤◌, IsTrue};
+    ghost use Rattle.std.specs.Prelude.{◌≡◌, ◌↔◌, ◌<◌, ◌≤◌, IsFalse, IsTrue};
     ghost use Rattle.rt_fault.specs.Memory.{IsFailing, after_call, failed_calls};
 
     pub fn new(fails: Vec<u32>) -> Plan
@@ -35,6 +35,7 @@ impl Plan {
         ensures answer { IsTrue result ↔ IsFailing self.old }
         ensures counted { self.new ≡ after_call self.old }
         ensures fault { IsTrue result → failed_calls self.old < failed_calls self.new }
+        ensures no_fault { IsFalse result → failed_calls self.new ≡ failed_calls self.old }
         ensures never_falls { failed_calls self.old ≤ failed_calls self.new }
     {
         let number = self.calls;

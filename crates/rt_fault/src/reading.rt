@@ -1,7 +1,7 @@
 //! Reading a whole source.
 ghost use Rattle.std.specs.Prelude.{◌≡◌, ◌≢◌, ◌≤◌, vec_len, IfOk};
 ghost use Rattle.rt_fault.specs.Faults.{HasRisen};
-ghost use Rattle.rt_fault.specs.Reading.{TakesAll, TakesAtMost, TakesMoreThan};
+ghost use Rattle.rt_fault.specs.Reading.{TakesAll, TakesAtMost, TakesOneMoreThan};
 
 use crate::{Failed, Source};
 use std::alloc::{AllocError, Global};
@@ -48,17 +48,18 @@ const PIECE: usize = 65_536;
 
 /// Reads a source to its end, and refuses more than `limit` bytes.
 ///
-/// On Ok the bytes are all that the source had left, where it tells them. It is TooLong as soon as more than `limit`
-/// bytes came: nothing is asked of the source after that. The bytes that came before a refusal are gone from the source.
+/// On Ok the bytes are all that the source had left, where it tells them. On TooLong one byte more than `limit` came, and
+/// no more were taken. Nothing is asked after a failed read. The bytes that came before a refusal are gone from the source.
 pub fn read_all<S: Source>(alloc: Global, src: &mut S, limit: u64) -> Result<Vec<u8>, ReadStop>
     ensures ok { IfOk result (λ v. TakesAll (S.left src.old) (S.left src.new) v.items) }
     ensures within { IfOk result (λ v. vec_len v ≤ limit) }
     ensures fault { result ≡ Err ReadStop.Fault → HasRisen (S.faults src.old) (S.faults src.new) }
+    ensures unfailed { result ≢ Err ReadStop.Fault → S.faults src.new ≡ S.faults src.old }
     ensures counted { S.faults src.old ≤ S.faults src.new }
 
-    // TooLong is the answer exactly where more than `limit` bytes came.
+    // TooLong is the answer exactly where one byte more than `limit` came.
     ensures too_long { result ≡ Err ReadStop.TooLong →
-        TakesMoreThan limit (S.left src.old) (S.left src.new) }
+        TakesOneMoreThan limit (S.left src.old) (S.left src.new) }
     ensures not_too_long { result ≢ Err ReadStop.TooLong →
         TakesAtMost limit (S.left src.old) (S.left src.new) }
 {
@@ -66,13 +67,16 @@ pub fn read_all<S: Source>(alloc: Global, src: &mut S, limit: u64) -> Result<Vec
     piece.resize(PIECE, 0u8)?;
     let mut bytes = Vec::new(alloc);
     loop {
-        let count = src.read(piece.as_mut_slice())?;
+        // One byte beyond the limit is enough to know that the input is too long.
+        let room = limit - bytes.len() as u64;
+        let buf = &mut piece.as_mut_slice()[..room.min(PIECE as u64 - 1) as usize + 1];
+        let count = src.read(buf)?;
         if count == 0 {
             return Ok(bytes);
         }
-        if count as u64 > limit - bytes.len() as u64 {
+        if count as u64 > room {
             return Err(ReadStop::TooLong);
         }
-        bytes.extend_from_slice(&piece.as_slice()[..count])?;
+        bytes.extend_from_slice(&buf[..count])?;
     }
 }

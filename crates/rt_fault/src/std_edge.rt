@@ -1,5 +1,5 @@
 //! std's readers and writers as sources and sinks: the trusted edge.
-ghost use Rattle.std.specs.Prelude.{◌≡◌, ℕ, ◌<◌, ◌≤◌, length, take, is_err, IfOk, OnErr};
+ghost use Rattle.std.specs.Prelude.{◌≡◌, ℕ, ◌<◌, ◌≤◌, length, take, is_err, IfOk, OnOk, OnErr};
 ghost use Rattle.std.specs.Io.KnownBytes.{Consumes, Keeps, IsAtEnd};
 ghost use Rattle.rt_fault.specs.Faults.{HasRisen, faults_after};
 ghost use Rattle.rt_fault.specs.Held.{Extends, Stays, held_of_contents};
@@ -40,6 +40,7 @@ impl<T: Read> Source for StdSource<T> {
         ensures end { result ≡ Ok 0 → IsAtEnd (T.remaining self.new.reader) }
         ensures kept { OnErr result (Keeps (T.remaining self.old.reader) (T.remaining self.new.reader)) }
         ensures fault { OnErr result (HasRisen self.old.faults self.new.faults) }
+        ensures unfailed { OnOk result (self.new.faults ≡ self.old.faults) }
         ensures counted { self.old.faults ≤ self.new.faults }
 
         // It counts its failures, and nothing else.
@@ -89,6 +90,7 @@ impl<T: Write> Sink for StdSink<T> {
         ensures kept { OnErr result (Stays (held_of_contents (T.contents self.old.writer))
             (held_of_contents (T.contents self.new.writer))) }
         ensures fault { OnErr result (HasRisen self.old.faults self.new.faults) }
+        ensures unfailed { OnOk result (self.new.faults ≡ self.old.faults) }
         ensures counted { self.old.faults ≤ self.new.faults }
 
         // It counts its failures, and nothing else.

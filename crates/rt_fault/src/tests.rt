@@ -2,7 +2,7 @@
 ghost use Rattle.std.specs.Prelude.{◌≡◌, ◌≢◌, List, ℕ};
 ghost use Rattle.rt_fault.specs.Faults.{HasRisen};
 ghost use Rattle.rt_fault.specs.Held.{Extends};
-ghost use Rattle.rt_fault.specs.Reading.{TakesAll, TakesMoreThan};
+ghost use Rattle.rt_fault.specs.Reading.{TakesAll, TakesOneMoreThan};
 
 use crate::{
     MemSink, MemSource, ReadStop, Sink, Source, Status, StdSink, StdSource, SureSink, SureSource,
@@ -19,7 +19,7 @@ fn pass_on<S: Source, K: Sink>(alloc: Global, src: &mut S, out: &mut K) -> Statu
         × TakesAll (S.left src.old) (S.left src.new) bytes
         × Extends (K.held out.old) (K.held out.new) bytes }
     ensures read_fault { result ≡ Status.ReadFault → HasRisen (S.faults src.old) (S.faults src.new) }
-    ensures too_long { result ≡ Status.TooLong → TakesMoreThan 8 (S.left src.old) (S.left src.new) }
+    ensures too_long { result ≡ Status.TooLong → TakesOneMoreThan 8 (S.left src.old) (S.left src.new) }
     ensures write_fault { result ≡ Status.WriteFault → HasRisen (K.faults out.old) (K.faults out.new) }
 {
     match read_all(alloc, src, 8) {
@@ -146,6 +146,21 @@ fn an_error_of_std_is_a_fault(rt: HostRuntime) -> Result<(), Fail> {
     assert!(rt; put_all(&mut out, b"c").is_err());
     assert!(rt; put_all(&mut out, b"c").is_ok());
     assert!(rt; put_all(&mut out, b"d").is_err());
+    Ok(())
+}
+
+/// What failed is not asked again: the call after the one that fails would succeed.
+#[test]
+fn std_is_asked_once(rt: HostRuntime) -> Result<(), Fail> {
+    let mut flawed = Flawed(2);
+    let mut src = StdSource::new(&mut flawed);
+    assert!(rt; src.read(&mut [0u8; 4]).is_err());
+    assert_eq!(rt; flawed.0, 3);
+
+    let mut flawed = Flawed(2);
+    let mut out = StdSink::new(&mut flawed);
+    assert!(rt; out.write(b"ab").is_err());
+    assert_eq!(rt; flawed.0, 3);
     Ok(())
 }
 

@@ -1,5 +1,5 @@
 //! Writing a whole text.
-ghost use Rattle.std.specs.Prelude.{◌≤◌, OnOk, OnErr};
+ghost use Rattle.std.specs.Prelude.{◌≡◌, ◌≤◌, OnOk, OnErr};
 ghost use Rattle.rt_fault.specs.Faults.{HasRisen};
 ghost use Rattle.rt_fault.specs.Held.{Extends, ExtendsByPrefix};
 
@@ -12,6 +12,7 @@ pub fn put_all<K: Sink>(out: &mut K, bytes: &[u8]) -> Result<(), Failed>
     ensures ok { OnOk result (Extends (K.held out.old) (K.held out.new) bytes.now) }
     ensures failed { OnErr result (ExtendsByPrefix (K.held out.old) (K.held out.new) bytes.now) }
     ensures fault { OnErr result (HasRisen (K.faults out.old) (K.faults out.new)) }
+    ensures unfailed { OnOk result (K.faults out.new ≡ K.faults out.old) }
     ensures counted { K.faults out.old ≤ K.faults out.new }
 {
     let mut rest = bytes;

@@ -9,7 +9,8 @@ use Rattle.rt_task.specs.declared.Protocol.{Protocol}
 use Rattle.rt_model.specs.BaseKeys.{above, base_key, key_by}
 use Rattle.rt_model.specs.Group.{Group}
 use Rattle.rt_model.specs.Past.{Past}
-use Rattle.rt_rules.proofs.KeyLaws.{IsOrder, higher-self, higher-total, higher-trans}
+use Rattle.rt_order.specs.OrderLaws.{higher-irreflexive as higher-self, higher-transitive as higher-trans}
+use Rattle.rt_rules.proofs.KeyLaws.{IsOrder, higher-total}
 use Rattle.rt_rules.proofs.PcpGrantLaws.{IsStrict}
 use Rattle.rt_laws.specs.Keys.{BaseKeysDiffer}
 

@@ -1,11 +1,12 @@
 -- PCP: the two kept facts over every past, and that no semaphore has two holders.
 use Rattle.std.proofs.Common.{ap, List, [], false, inl, inr, refl, sym, true, ℕ, ◌∙◌, ◌∷◌, ◌≡◌, ◌⊎◌}
 use Rattle.std.specs.Prelude.{None, Option, Some}
+use Rattle.rt_order.specs.KeyOrder.{lowest_key}
 use Rattle.rt_rules.specs.Numbers.{first, has, is}
 use Rattle.rt_rules.specs.Pcp.{PcpState, of_sem, passes, pcp_after}
 use Rattle.rt_rules.specs.SemState.{Asks, SemAct}
 use Rattle.rt_model.specs.BaseKeys.{above, base_key}
-use Rattle.rt_model.specs.Ceilings.{above_ceiling, at_cluster, ceiling, is_pcp, lowest_key, pcp}
+use Rattle.rt_model.specs.Ceilings.{above_ceiling, at_cluster, ceiling, is_pcp, pcp}
 use Rattle.rt_model.specs.Group.{Group, home, protocol, users}
 use Rattle.rt_model.specs.Made.{IsMade}
 use Rattle.rt_model.specs.Past.{Event, Past, sem_act}

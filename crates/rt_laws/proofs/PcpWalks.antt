@@ -20,7 +20,8 @@ use Rattle.rt_model.specs.Made.{IsMade}
 use Rattle.rt_model.specs.Past.{Past}
 use Rattle.rt_model.specs.Semaphores.{cluster_of}
 use Rattle.rt_rules.proofs.BoolLaws.{both, clash, either, or_true, unless, not_true}
-use Rattle.rt_rules.proofs.KeyLaws.{IsOrder, foremost-none, foremost-some, higher-below, higher-falls, higher-mixed, higher-self, higher-trans}
+use Rattle.rt_order.specs.OrderLaws.{higher-irreflexive as higher-self, higher-transitive as higher-trans}
+use Rattle.rt_rules.proofs.KeyLaws.{IsOrder, foremost-none, foremost-some, higher-below, higher-falls, higher-mixed}
 use Rattle.rt_rules.proofs.MemberLaws.{equal_self, has-first, some-is, turned}
 use Rattle.rt_rules.proofs.PairLaws.{has-of_sem, has_pair, has_pair-others, sem-there}
 use Rattle.rt_rules.proofs.PcpLaws.{IsStacked, newest-other, passes-above_ceiling}

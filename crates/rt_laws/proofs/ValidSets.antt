@@ -3,7 +3,7 @@ use Rattle.std.proofs.Common.{Bool, List, [], ap, arith, cond, eqb-true, false, 
 use Rattle.std.proofs.lemmas.List.{get_or-map, length-map}
 use Rattle.std.specs.List.{list_all, list_any}
 use Rattle.std.specs.Prelude.{None, Option, Some, bytes_eq, filter, if◌then◌else◌, nat_le, nat_lt, option_map, slice_index_or, ⊤, ◌==◌}
-use Rattle.rt_base.specs.declared.TheConstants.{TICK_END}
+use Rattle.rt_base.specs.declared.TheConstants.{MOST_CPUS, TICK_END}
 use Rattle.rt_task.specs.Draft.{draft_cluster, draft_of, draft_resv, draft_task, runs}
 use Rattle.rt_task.specs.Lookups.{group_of}
 use Rattle.rt_task.specs.NameRules.{piece_is_known, resv_is_known, task_name}
@@ -226,7 +226,7 @@ module _ (g : Group) (valid : IsValid g.setup) where
       let k = rows.cluster c (draft_cluster no_cluster) (rw (length-map g.setup.clusters draft_cluster) low) in
       let n : ℕ = (slice_index_or (draft_of g.setup).clusters c (draft_cluster no_cluster)).cpus in
       let is : n ≡ (slice_index_or g.setup.clusters c no_cluster).cpus = ap (λ (x : DraftCluster). x.cpus) (get_or-map draft_cluster g.setup.clusters c no_cluster (draft_cluster no_cluster) low) in
-      rw is at (within-bounds 1 64 n (both _ _ k.keeps).0).0
+      rw is at (within-bounds 1 MOST_CPUS n (both _ _ k.keeps).0).0
 
   task_at : (t : ℕ) → t - 1 < length g.setup.tasks → KeepsRule (task_range (draft_of g.setup)) (t - 1) (drafted (task g t))
   unfolding task

@@ -4,7 +4,7 @@ use Rattle.std.specs.Prelude.{ℕ, Bool, false, ◌&&◌, ◌==◌, [], ◌∷�
 use Rattle.rt_task.specs.declared.Protocol.{Protocol}
 use Rattle.rt_task.specs.declared.Protocol.TheVariants.{Pcp}
 use Rattle.rt_order.specs.declared.Key.{Key}
-use Rattle.rt_order.specs.KeyOrder.{higher}
+use Rattle.rt_order.specs.KeyOrder.{higher, lowest_key}
 use Rattle.rt_rules.specs.Keys.{highest}
 use Rattle.rt_rules.specs.Pcp.{PcpState, pcp_after}
 use Rattle.rt_rules.specs.SemState.{SemAct, Asks, Frees, Neither}
@@ -15,10 +15,6 @@ use Rattle.rt_model.specs.Past.{Past, sem_act}
 abbrev pub is_pcp : Protocol → Bool
 is_pcp Pcp = true
 is_pcp _ = false
-
--- a key below each key of a task
-abbrev pub lowest_key : Key
-lowest_key = record { band = 3; major = 0; minor = 0 }
 
 module _ (g : Group) where
   -- the ceiling of a semaphore is the highest base key of the tasks that declare it; under P-FP no base key depends on the past

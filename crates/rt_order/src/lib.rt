@@ -7,7 +7,7 @@ ghost use Rattle.rt_order.specs.KeyOrder.{higher};
 mod order;
 mod steps;
 
-pub use order::{ByKey, Order};
+pub use order::{ByKey, Order, Ordered};
 pub use steps::Steps;
 
 /// A priority. Of two keys the one with the smaller (band, major, minor) is the higher, compared in that order.
@@ -19,6 +19,13 @@ pub struct Key {
 }
 
 impl Key {
+    /// The lowest of all keys.
+    pub const LOWEST: Key = Key {
+        band: u32::MAX,
+        major: u64::MAX,
+        minor: u32::MAX,
+    };
+
     /// Whether this key is higher than the other.
     pub fn is_higher(self, other: Key) -> bool
         ensures { result ≡ higher self other }

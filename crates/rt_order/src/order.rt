@@ -5,17 +5,12 @@ use crate::{Key, Steps};
 use std::sync::ledger::Ledger;
 
 /// A strict order of keys that is total on different keys: which of two keys is the higher.
-pub trait Order: Drop {
+pub trait Ordered: Drop {
     ghost use Rattle.std.specs.Prelude.{Bool, true, false};
     ghost use Rattle.rt_order.specs.declared.Key.{Key};
 
     /// Whether the first key is higher than the second.
     ghost is_higher: { Self → Key → Key → Bool };
-
-    /// Whether `a` is higher than `b`. Each call is one step.
-    fn higher<L: Ledger>(&self, a: &Key, b: &Key, steps: &mut Steps<L>) -> bool
-        ensures higher { result ≡ is_higher self.now a.now b.now }
-        ensures steps { steps.new ≡ steps.old + 1 };
 
     ghost irreflexive: { (o : Self) (a : Key) → is_higher o a a ≡ false };
 
@@ -24,11 +19,21 @@ pub trait Order: Drop {
     ghost total: { (o : Self) (a b : Key) → is_higher o a b ≡ false → is_higher o b a ≡ false → a ≡ b };
 }
 
+/// An order whose comparisons are counted in one ledger.
+///
+/// Code that is given an order of some ledger compares through that ledger alone, so that each comparison counts there.
+pub trait Order<L: Ledger>: Ordered {
+    /// Whether `a` is higher than `b`. Each call is one step.
+    fn higher(&self, a: &Key, b: &Key, steps: &mut Steps<L>) -> bool
+        ensures higher { result ≡ Self.is_higher self.now a.now b.now }
+        ensures steps { steps.new ≡ steps.old + 1 };
+}
+
 /// The order of the keys themselves: band, then major, then minor, the smaller being the higher.
 #[derive(Clone, Copy, Debug)]
 pub struct ByKey;
 
-impl Order for ByKey {
+impl Ordered for ByKey {
     ghost use Rattle.rt_order.specs.KeyOrder.{higher};
     ghost use Rattle.rt_order.specs.OrderLaws.{higher-irreflexive, higher-transitive, higher-total};
 
@@ -39,8 +44,10 @@ impl Order for ByKey {
     ghost transitive = { λ _. higher-transitive };
 
     ghost total = { λ _. higher-total };
+}
 
-    fn higher<L: Ledger>(&self, a: &Key, b: &Key, steps: &mut Steps<L>) -> bool {
+impl<L: Ledger> Order<L> for ByKey {
+    fn higher(&self, a: &Key, b: &Key, steps: &mut Steps<L>) -> bool {
         steps.tick();
         a.is_higher(*b)
     }

@@ -1,10 +1,11 @@
 -- Lists in which each number stands once.
-use Rattle.std.proofs.Common.{Bool, List, [], arith, cond, eqb-true, false, inl, inr, length, map, refl, true, ℕ, ◌++◌, ◌∷◌, ◌≡◌, ◌≤◌, ◌⊎◌}
+use Rattle.std.proofs.Common.{Bool, List, [], ap, arith, cond, eqb-true, false, inl, inr, length, map, refl, true, ℕ, ◌++◌, ◌+◌, ◌<◌, ◌||◌, ◌∙◌, ◌∷◌, ◌≡◌, ◌≤◌, ◌⊎◌}
 use Rattle.std.specs.Prelude.{◌==◌}
 use Rattle.rt_rules.specs.Distinct.{IsDistinct}
-use Rattle.rt_rules.specs.Numbers.{first, has, is, rest, without}
+use Rattle.rt_rules.specs.Numbers.{first, has, is, numbers_from, rest, without}
 use Rattle.rt_rules.proofs.BoolLaws.{clash, neither, or_true, unless}
-use Rattle.rt_rules.proofs.MemberLaws.{equal_self, has-appended, has-one, has-without, map-back}
+use Rattle.rt_rules.proofs.MemberLaws.{equal_self, has-append, has-appended, has-one, has-without, map-back}
+use Rattle.rt_rules.proofs.NumberLaws.{distinct-numbers_from, length-numbers_from, numbers_from-has}
 use Rattle.rt_rules.proofs.PlacingLaws.{length-beside}
 
 -- one that is new may be appended
@@ -18,6 +19,11 @@ distinct-append u (x ∷ xs) d h =
     split (inl k) e = clash _ k d.0
     split (inr k) e = let same : x ≡ u = has-one x u k in let m : u == u ≡ false = rw same at e in clash _ (equal_self u) m
 
+-- two lists with no number in common may be joined
+pub distinct-joined : (xs ys : List ℕ) → IsDistinct xs → IsDistinct ys → ((x : ℕ) → has x xs ≡ true → has x ys ≡ false) → IsDistinct (xs ++ ys)
+distinct-joined [] ys d e apart = e
+distinct-joined (x ∷ xs) ys d e apart = (has-append x xs ys ∙ rw (d.0, apart x (rw (equal_self x))), distinct-joined xs ys d.1 e (λ z h. apart z (ap (λ b. z == x || b) h ∙ or_true (z == x))))
+
 -- one may be taken out
 pub distinct-without : (u : ℕ) (xs : List ℕ) → IsDistinct xs → IsDistinct (without u xs)
 distinct-without u [] d = tt
@@ -30,6 +36,12 @@ distinct-without u (x ∷ xs) d = by_case (u == x) (distinct-without u xs d.1)
 -- a list whose members are all of another is no longer
 pub length-distinct : (us ts : List ℕ) → IsDistinct us → IsDistinct ts → ((t : ℕ) → has t us ≡ true → has t ts ≡ true) → length us ≤ length ts
 length-distinct us ts du dt inside = omega (arith, length-beside us ts du dt inside)
+
+-- different numbers below n are at most n
+pub length-few : (n : ℕ) (ts : List ℕ) → IsDistinct ts → ((t : ℕ) → has t ts ≡ true → t < n) → length ts ≤ n
+length-few n ts d below =
+    let all = length-distinct ts (numbers_from 0 n) d (distinct-numbers_from 0 n) (λ t h. numbers_from-has 0 n t (omega arith) (omega (arith, below t h))) in
+    omega (arith, all, length-numbers_from 0 n)
 
 -- the first may be left out
 pub distinct-rest : (xs : List ℕ) → IsDistinct xs → IsDistinct (rest xs)

@@ -4,7 +4,7 @@ use Rattle.std.proofs.lemmas.Bool.Decides.{nat_tests}
 use Rattle.std.specs.List.{list_all, list_any}
 use Rattle.std.specs.Prelude.{None, Option, Some, filter, find, ◌==◌, is_none}
 use Rattle.rt_rules.specs.Numbers.{first, has, is, is_empty, rest, without}
-use Rattle.rt_rules.proofs.BoolLaws.{both, either, neither, or_true, or_assoc}
+use Rattle.rt_rules.proofs.BoolLaws.{both, either, neither, or_true, or_assoc, or_middle}
 
 pub equal_self : (u : ℕ) → u == u ≡ true
 equal_self u = grind (arith, nat_tests)
@@ -46,6 +46,11 @@ has-append t (x ∷ xs) ys = rw (has-append t xs ys) (or_assoc (t == x) (has t x
 pub has-appended : (t : ℕ) (xs ys : List ℕ) → has t (xs ++ ys) ≡ true → (has t xs ≡ true) ⊎ (has t ys ≡ true)
 has-appended t xs ys h = either _ _ (rw has-append at h)
 
+-- one number more at the end
+pub has-push : (x y : ℕ) (xs : List ℕ) → has x (xs ++ y ∷ []) ≡ x == y || has x xs
+has-push x y [] = refl
+has-push x y (z ∷ xs) = ap (λ b. x == z || b) (has-push x y xs) ∙ or_middle (x == z) (x == y) (has x xs)
+
 pub has-one : (t u : ℕ) → has t (u ∷ []) ≡ true → t ≡ u
 has-one t u h = by_case (t == u) refl h
   where
@@ -77,15 +82,22 @@ has-without t u (x ∷ xs) h = by_case (u == x) h (has-without t u xs)
         join (inl m) = rw m
         join (inr m) = rw (r m) (or_true (t == x))
 
-without-other : (t u : ℕ) (xs : List ℕ) → has t xs ≡ true → t == u ≡ false → has t (without u xs) ≡ true
-without-other t u [] h ne = cc
-without-other t u (x ∷ xs) h ne = by_case (u == x) refl (either _ _ h) (without-other t u xs)
+-- whatever else was there is left
+pub has-left : (x t : ℕ) (xs : List ℕ) → x == t ≡ false → has x (without t xs) ≡ has x xs
+has-left x t [] h = refl
+has-left x t (y ∷ ys) h = by_case (t == y) refl (has-left x t ys h)
   where
-    by_case : (b : Bool) → u == x ≡ b → (t == x ≡ true) ⊎ (has t xs ≡ true) → (has t xs ≡ true → t == u ≡ false → has t (without u xs) ≡ true) → has t (cond b xs (x ∷ without u xs)) ≡ true
-    by_case true e (inl m) r = let a : t ≡ x = eqb-true t x m in let b : u ≡ x = eqb-true u x e in let c : t == u ≡ true = rw (a, b, equal_self x) in cc
-    by_case true e (inr m) r = m
-    by_case false e (inl m) r = rw m
-    by_case false e (inr m) r = rw (r m ne) (or_true (t == x))
+    by_case : (b : Bool) → t == y ≡ b → has x (without t ys) ≡ has x ys → has x (cond b ys (y ∷ without t ys)) ≡ x == y || has x ys
+    by_case true e rest = let s : t ≡ y = eqb-true t y e in let n : x == y ≡ false = ap (λ m. x == m) (sym s) ∙ h in rw n
+    by_case false e rest = ap (λ b. x == y || b) rest
+
+pub length-without : (t : ℕ) (xs : List ℕ) → has t xs ≡ true → length (without t xs) + 1 ≡ length xs
+length-without t [] h = cc
+length-without t (y ∷ ys) h = by_case (t == y) h (length-without t ys)
+  where
+    by_case : (b : Bool) → b || has t ys ≡ true → (has t ys ≡ true → length (without t ys) + 1 ≡ length ys) → length (cond b ys (y ∷ without t ys)) + 1 ≡ length (y ∷ ys)
+    by_case true k rest = omega arith
+    by_case false k rest = omega (arith, rest k)
 
 -- the first of a list is taken out
 pub without-first : (t : ℕ) (xs : List ℕ) → is t (first xs) ≡ true → without t xs ≡ rest xs

@@ -1,5 +1,5 @@
 -- Numbers in a row.
-use Rattle.std.proofs.Common.{Bool, arith, eqb-true, false, inl, inr, refl, suc, true, zero, ℕ, ◌+◌, ◌<◌, ◌||◌, ◌≡◌, ◌≤◌, ◌⊎◌}
+use Rattle.std.proofs.Common.{Bool, arith, eqb-true, false, inl, inr, length, refl, suc, true, zero, ℕ, ◌+◌, ◌<◌, ◌||◌, ◌≡◌, ◌≤◌, ◌⊎◌}
 use Rattle.std.proofs.lemmas.Bool.Decides.{nat_tests}
 use Rattle.std.specs.Prelude.{◌==◌}
 use Rattle.rt_rules.specs.Distinct.{IsDistinct}
@@ -25,3 +25,7 @@ numbers_from-has a (suc n) q h k = by_case (q == a) refl (numbers_from-has (suc 
     by_case : (b : Bool) → q == a ≡ b → (suc a ≤ q → q < suc a + n → has q (numbers_from (suc a) n) ≡ true) → b || has q (numbers_from (suc a) n) ≡ true
     by_case true e r = refl
     by_case false e r = r (grind (arith, nat_tests, e)) (omega arith)
+
+pub length-numbers_from : (a n : ℕ) → length (numbers_from a n) ≡ n
+length-numbers_from a zero = refl
+length-numbers_from a (suc n) = omega (arith, length-numbers_from (suc a) n)

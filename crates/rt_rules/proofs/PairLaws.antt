@@ -61,7 +61,7 @@ without_pair-keeps t s p (q ∷ qs) ne h = by_case (is_same_pair p q) refl (eith
 
 -- ---- in falling order of keys
 
-has_pair-by_key : (above : ℕ → ℕ → Bool) (t s : ℕ) (p : TaskSem) (qs : List TaskSem) → has_pair t s (by_key above p qs) ≡ (t == p.task && s == p.sem) || has_pair t s qs
+pub has_pair-by_key : (above : ℕ → ℕ → Bool) (t s : ℕ) (p : TaskSem) (qs : List TaskSem) → has_pair t s (by_key above p qs) ≡ (t == p.task && s == p.sem) || has_pair t s qs
 has_pair-by_key above t s p [] = refl
 has_pair-by_key above t s p (q ∷ qs) = by_case (above p.task q.task) (has_pair-by_key above t s p qs)
   where
@@ -194,7 +194,7 @@ has-by_key before t p (q ∷ qs) h = by_case (before p.task q.task) h (has-by_ke
         split (inl m) = inr (rw m)
         split (inr m) = deeper (r m)
 
-distinct-by_key : (before : ℕ → ℕ → Bool) (p : TaskSem) (qs : List TaskSem) → has p.task (tasks_of_pairs qs) ≡ false → IsDistinct (tasks_of_pairs qs) → IsDistinct (tasks_of_pairs (by_key before p qs))
+pub distinct-by_key : (before : ℕ → ℕ → Bool) (p : TaskSem) (qs : List TaskSem) → has p.task (tasks_of_pairs qs) ≡ false → IsDistinct (tasks_of_pairs qs) → IsDistinct (tasks_of_pairs (by_key before p qs))
 distinct-by_key before p [] n d = (refl, tt)
 distinct-by_key before p (q ∷ qs) n d = by_case (before p.task q.task) (neither (p.task == q.task) _ n) (distinct-by_key before p qs)
   where
@@ -206,7 +206,7 @@ distinct-by_key before p (q ∷ qs) n d = by_case (before p.task q.task) (neithe
     by_case true k r = (n, d)
     by_case false k r = (unless _ (λ h. apart k.0 (has-by_key before q.task p qs h)), r k.1 d.1)
 
-has-in_order : (before : ℕ → ℕ → Bool) (t : ℕ) (ps : List TaskSem) → has t (tasks_of_pairs (in_order before ps)) ≡ true → has t (tasks_of_pairs ps) ≡ true
+pub has-in_order : (before : ℕ → ℕ → Bool) (t : ℕ) (ps : List TaskSem) → has t (tasks_of_pairs (in_order before ps)) ≡ true → has t (tasks_of_pairs ps) ≡ true
 has-in_order before t [] h = h
 has-in_order before t (p ∷ ps) h = split (has-by_key before t p (in_order before ps) h) (has-in_order before t ps)
   where

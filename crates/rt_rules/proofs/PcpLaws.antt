@@ -30,7 +30,7 @@ passes-cons above_ceiling p ps t = by_case (p.task == t)
     by_case true = refl
     by_case false = refl
 
-passes-more : (above_ceiling : ℕ → ℕ → Bool) (p : TaskSem) (ps : List TaskSem) (t : ℕ) → passes above_ceiling ps t ≡ false → passes above_ceiling (p ∷ ps) t ≡ false
+pub passes-more : (above_ceiling : ℕ → ℕ → Bool) (p : TaskSem) (ps : List TaskSem) (t : ℕ) → passes above_ceiling ps t ≡ false → passes above_ceiling (p ∷ ps) t ≡ false
 passes-more above_ceiling p ps t h = rw (passes-cons, h) (and_false (p.task == t || above_ceiling t p.sem))
 
 passes-without_pair : (above_ceiling : ℕ → ℕ → Bool) (q : TaskSem) (ps : List TaskSem) (t : ℕ) → passes above_ceiling ps t ≡ true → passes above_ceiling (without_pair q ps) t ≡ true
@@ -151,7 +151,7 @@ pcp-waits above above_ceiling t s (Asks u r) l h = by_case (passes above_ceiling
 pcp-waits above above_ceiling t s (Frees u r) l h = inl (waiting-tested above_ceiling t s (in_order above l.waiting) _ h)
 pcp-waits above above_ceiling t s Neither l h = inl h
 
-tested-held : (above_ceiling : ℕ → ℕ → Bool) (t s : ℕ) (ps : List TaskSem) (l : PcpState) → has_pair t s (tested above_ceiling ps l).held ≡ true → (has_pair t s l.held ≡ true) ⊎ (has_pair t s ps ≡ true)
+pub tested-held : (above_ceiling : ℕ → ℕ → Bool) (t s : ℕ) (ps : List TaskSem) (l : PcpState) → has_pair t s (tested above_ceiling ps l).held ≡ true → (has_pair t s l.held ≡ true) ⊎ (has_pair t s ps ≡ true)
 tested-held above_ceiling t s [] l h = inl h
 tested-held above_ceiling t s (p ∷ ps) l h = join (tested-held above_ceiling t s ps (if passes above_ceiling l.held p.task then granted p l else l) h)
   where

@@ -5,7 +5,7 @@ use Rattle.std.specs.List.{list_all, list_any}
 use Rattle.std.proofs.lemmas.Bool.{and_parts}
 use Rattle.std.proofs.lemmas.List.{length-map, map-append}
 use Rattle.std.proofs.lemmas.Option.{slice_get-map}
-use Rattle.rt_base.specs.declared.TheConstants.{TICK_END, MOST_TASKS}
+use Rattle.rt_base.specs.declared.TheConstants.{MOST_CLUSTERS, MOST_CPUS, MOST_OPERATIONS, MOST_RESVS, MOST_SEMS, MOST_TASKS, TICK_END}
 use Rattle.rt_task.specs.declared.Act.{Act}
 use Rattle.rt_task.specs.declared.Act.TheVariants as acts
 use Rattle.rt_task.specs.declared.Op.{Op}
@@ -236,11 +236,11 @@ module _ (d : Draft) where
 
   size_again : whole_size (recut_draft d) ≡ whole_size d
   unfolding whole_size cpus recut_draft
-  size_again = ap (λ n. nat_le (length d.clusters) 64 && (nat_le (cpus d) 64 && (nat_le n MOST_TASKS && (nat_le (length d.sems) 256 && (nat_le (length d.resvs) 64 && horizon_fits d d.drive))))) (length-map d.tasks recut_task)
+  size_again = ap (λ n. nat_le (length d.clusters) MOST_CLUSTERS && (nat_le (cpus d) MOST_CPUS && (nat_le n MOST_TASKS && (nat_le (length d.sems) MOST_SEMS && (nat_le (length d.resvs) MOST_RESVS && horizon_fits d d.drive))))) (length-map d.tasks recut_task)
 
   task_size_again : (e : List DraftTask) (p : DraftTask) → task_size d e p ≡ true → task_size d e p ≡ true → task_size (recut_draft d) (map recut_task e) (recut_task p) ≡ true
   unfolding task_size recut_task
-  task_size_again e p g h = ap (λ n. nat_le n 1000) (body_len-recut p.pieces) ∙ h
+  task_size_again e p g h = ap (λ n. nat_le n MOST_OPERATIONS) (body_len-recut p.pieces) ∙ h
 
   -- ---- the table
 

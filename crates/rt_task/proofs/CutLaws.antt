@@ -4,6 +4,7 @@ use Rattle.std.specs.Prelude.{flat_map, replicate}
 use Rattle.std.specs.List.{list_all}
 use Rattle.std.proofs.lemmas.List.Sums.{sum_by-cons}
 use Rattle.std.proofs.lemmas.Bool.{and_parts, and_from, ltb-true, leb-true, le-leb}
+use Rattle.rt_base.specs.declared.TheConstants.{MOST_OPERATIONS}
 use Rattle.rt_task.specs.declared.Op.{Op}
 use Rattle.rt_task.specs.declared.Op.TheVariants as ops
 use Rattle.rt_task.specs.declared.draft.Piece.{Piece}
@@ -27,7 +28,7 @@ works-front f os (suc n) h = h (runs (replicate n ops.Work ++ os)) ∙ works-fro
 
 one_more-some : (ps : List Piece) → is_empty (one_more_work ps) ≡ false
 one_more-some [] = refl
-one_more-some (Works n ∷ rest) = by_test (nat_lt n 1000)
+one_more-some (Works n ∷ rest) = by_test (nat_lt n MOST_OPERATIONS)
   where
     by_test : (b : Bool) → is_empty (cond b (Works (n + 1) ∷ rest) (Works 1 ∷ Works n ∷ rest)) ≡ false
     by_test true = refl
@@ -39,13 +40,13 @@ unfolding runs
 some_works zero os h = absurd (omega arith)
 some_works (suc n) os h = one_more-some (runs (replicate n ops.Work ++ os))
 
-in_range_parts : (n : ℕ) → within 1 1000 n ≡ true → (1 ≤ n) × (n ≤ 1000)
-in_range_parts n h = let p = and_parts (nat_le 1 n) (nat_le n 1000) h in (leb-true 1 n p.0, leb-true n 1000 p.1)
+in_range_parts : (n : ℕ) → within 1 MOST_OPERATIONS n ≡ true → (1 ≤ n) × (n ≤ MOST_OPERATIONS)
+in_range_parts n h = let p = and_parts (nat_le 1 n) (nat_le n MOST_OPERATIONS) h in (leb-true 1 n p.0, leb-true n MOST_OPERATIONS p.1)
 
 pub is_empty-recut : (ps : List Piece) → list_all piece_in_range ps ≡ true → is_empty (recut ps) ≡ is_empty ps
 unfolding runs
 is_empty-recut [] h = refl
-is_empty-recut (Works n ∷ rest) h = some_works n (flat_map operations rest) (in_range_parts n (and_parts (within 1 1000 n) (list_all piece_in_range rest) h).0).0
+is_empty-recut (Works n ∷ rest) h = some_works n (flat_map operations rest) (in_range_parts n (and_parts (within 1 MOST_OPERATIONS n) (list_all piece_in_range rest) h).0).0
 is_empty-recut (Once ops.Work ∷ rest) h = one_more-some (recut rest)
 is_empty-recut (Once (ops.Lock s) ∷ rest) h = refl
 is_empty-recut (Once (ops.Unlock s) ∷ rest) h = refl
@@ -56,16 +57,16 @@ is_empty-recut (Once ops.End ∷ rest) h = refl
 
 -- ---- a test of each piece
 
-module _ (q : Piece → Bool) (one : q (Works 1) ≡ true) (more : (n : ℕ) → n < 1000 → q (Works n) ≡ true → q (Works (n + 1)) ≡ true) where
+module _ (q : Piece → Bool) (one : q (Works 1) ≡ true) (more : (n : ℕ) → n < MOST_OPERATIONS → q (Works n) ≡ true → q (Works (n + 1)) ≡ true) where
   all-one_more : (ps : List Piece) → list_all q ps ≡ true → list_all q (one_more_work ps) ≡ true
   all-one_more [] h = and_from (q (Works 1)) true one refl
-  all-one_more (Works n ∷ rest) h = by_test (nat_lt n 1000) refl
+  all-one_more (Works n ∷ rest) h = by_test (nat_lt n MOST_OPERATIONS) refl
     where
       parts : (q (Works n) ≡ true) × (list_all q rest ≡ true)
       parts = and_parts (q (Works n)) (list_all q rest) h
 
-      by_test : (b : Bool) → nat_lt n 1000 ≡ b → list_all q (cond b (Works (n + 1) ∷ rest) (Works 1 ∷ Works n ∷ rest)) ≡ true
-      by_test true e = and_from (q (Works (n + 1))) (list_all q rest) (more n (ltb-true n 1000 e) parts.0) parts.1
+      by_test : (b : Bool) → nat_lt n MOST_OPERATIONS ≡ b → list_all q (cond b (Works (n + 1) ∷ rest) (Works 1 ∷ Works n ∷ rest)) ≡ true
+      by_test true e = and_from (q (Works (n + 1))) (list_all q rest) (more n (ltb-true n MOST_OPERATIONS e) parts.0) parts.1
       by_test false e = and_from (q (Works 1)) (list_all q (Works n ∷ rest)) one h
   all-one_more (Once op ∷ rest) h = and_from (q (Works 1)) (list_all q (Once op ∷ rest)) one h
 
@@ -87,7 +88,7 @@ module _ (q : Piece → Bool) (one : q (Works 1) ≡ true) (more : (n : ℕ) →
   all-recut (Once ops.End ∷ rest) h = let p = and_parts (q (Once ops.End)) (list_all q rest) h in and_from (q (Once ops.End)) (list_all q (recut rest)) p.0 (all-recut rest p.1)
 
 pub all_in_range-recut : (ps : List Piece) → list_all piece_in_range ps ≡ true → list_all piece_in_range (recut ps) ≡ true
-all_in_range-recut ps h = all-recut piece_in_range refl (λ n lt e. and_from (nat_le 1 (n + 1)) (nat_le (n + 1) 1000) (le-leb 1 (n + 1) (omega arith)) (le-leb (n + 1) 1000 (omega arith))) ps h
+all_in_range-recut ps h = all-recut piece_in_range refl (λ n lt e. and_from (nat_le 1 (n + 1)) (nat_le (n + 1) MOST_OPERATIONS) (le-leb 1 (n + 1) (omega arith)) (le-leb (n + 1) MOST_OPERATIONS (omega arith))) ps h
 
 -- ---- going on
 
@@ -95,7 +96,7 @@ goes_on-one_more : (declared : List ℕ) (pcp : ℕ → Bool) (h : Option Holdin
 unfolding goes_on
 goes_on-one_more declared pcp None ps = goes_on-refused declared pcp (one_more_work ps) ∙ sym (goes_on-refused declared pcp ps)
 goes_on-one_more declared pcp (Some h) [] = refl
-goes_on-one_more declared pcp (Some h) (Works n ∷ rest) = by_test (nat_lt n 1000)
+goes_on-one_more declared pcp (Some h) (Works n ∷ rest) = by_test (nat_lt n MOST_OPERATIONS)
   where
     by_test : (b : Bool) → goes_on declared pcp (cond b (Works (n + 1) ∷ rest) (Works 1 ∷ Works n ∷ rest)) (Some h) ≡ goes_on declared pcp rest (Some h)
     by_test true = refl
@@ -131,7 +132,7 @@ body_len-front p ps = sum_by-cons piece_len p ps
 
 body_len-one_more : (ps : List Piece) → body_len (one_more_work ps) ≡ 1 + body_len ps
 body_len-one_more [] = refl
-body_len-one_more (Works n ∷ rest) = by_test (nat_lt n 1000)
+body_len-one_more (Works n ∷ rest) = by_test (nat_lt n MOST_OPERATIONS)
   where
     by_test : (b : Bool) → body_len (cond b (Works (n + 1) ∷ rest) (Works 1 ∷ Works n ∷ rest)) ≡ 1 + body_len (Works n ∷ rest)
     by_test true = let e = body_len-front (Works (n + 1)) rest in let f = body_len-front (Works n) rest in omega arith

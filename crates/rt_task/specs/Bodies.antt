@@ -1,6 +1,7 @@
 -- Well-formed bodies: end is the last operation, and no operation is refused to a job that is granted each lock.
 use Rattle.std.specs.List.{list_any}
 use Rattle.std.specs.Prelude.{ℕ, Bool, true, false, not, ◌&&◌, ◌||◌, ◌==◌, nat_le, List, [], ◌∷◌, length, Option, None, Some, if◌then◌else◌}
+use Rattle.rt_base.specs.declared.TheConstants.{MOST_HELD}
 use Rattle.rt_task.specs.declared.Op.{Op}
 use Rattle.rt_task.specs.declared.draft.Piece.{Piece}
 use Rattle.rt_task.specs.declared.draft.Piece.TheVariants.{Works, Once}
@@ -11,6 +12,10 @@ use Rattle.rt_task.specs.declared.Op.TheVariants as ops
 pub record Holding : Type 0 where
   pub held : List ℕ
   pub np : Bool
+
+-- at its release it holds nothing and is preemptive
+abbrev pub at_release : Holding
+at_release = record { held = []; np = false }
 
 abbrev pub without : ℕ → List ℕ → List ℕ
 without s [] = []
@@ -24,13 +29,16 @@ is_newest s (x ∷ xs) = x == s
 module _ (declared : List ℕ) (pcp : ℕ → Bool) where
   unfoldable pub nests : ℕ → List ℕ → Bool
   nests s [] = false
-  nests s held = not (pcp s) || (list_any (λ r. not (pcp r)) held || (has s held || nat_le 8 (length held)))
+  nests s held = not (pcp s) || (list_any (λ r. not (pcp r)) held || (has s held || nat_le MOST_HELD (length held)))
 
   -- an operation that is not refused, each lock granted
   unfoldable pub after_op : Op → Holding → Option Holding
   after_op ops.Work h = Some h
-  after_op (ops.Lock s) h = if not h.np && (has s.0 declared && not (nests s.0 h.held)) then Some (record h { held = s.0 ∷ h.held }) else None
-  after_op (ops.Unlock s) h = if has s.0 h.held && (not (pcp s.0) || is_newest s.0 h.held) then Some (record h { held = without s.0 h.held }) else None
+  after_op (ops.Lock s) h =
+      if not h.np && (has s.0 declared && not (nests s.0 h.held)) then Some (record h { held = s.0 ∷ h.held }) else None
+  after_op (ops.Unlock s) h =
+      if has s.0 h.held
+      && (not (pcp s.0) || is_newest s.0 h.held) then Some (record h { held = without s.0 h.held }) else None
   after_op (ops.Sleep n) h = if not h.np && is_empty h.held then Some h else None
   after_op ops.NpOn h = if h.np then None else Some (record h { np = true })
   after_op ops.NpOff h = if h.np then Some (record h { np = false }) else None

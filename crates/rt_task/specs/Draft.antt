@@ -1,5 +1,6 @@
 -- A set before its rules are tried, whether a document says it or code made its parts.
 use Rattle.std.specs.Prelude.{◌+◌, nat_lt, if◌then◌else◌, List, [], ◌∷◌, map, flat_map, replicate}
+use Rattle.rt_base.specs.declared.TheConstants.{MOST_OPERATIONS}
 use Rattle.rt_task.specs.declared.Op.{Op}
 use Rattle.rt_task.specs.declared.Op.TheVariants as ops
 use Rattle.rt_task.specs.declared.Task.{Task}
@@ -19,10 +20,10 @@ use Rattle.rt_task.specs.declared.draft.DraftDrive.{DraftDrive}
 use Rattle.rt_task.specs.declared.draft.DraftDrive.TheVariants.{Steps, Horizon}
 use Rattle.rt_task.specs.declared.draft.Draft.{Draft}
 
--- each longest run of Work as one piece, of at most 1,000 units: more are in no valid body
+-- each longest run of Work as one piece, of at most as many units as a body has operations: more are in no valid body
 abbrev pub one_more_work : List Piece → List Piece
 one_more_work [] = Works 1 ∷ []
-one_more_work (Works n ∷ rest) = if nat_lt n 1000 then Works (n + 1) ∷ rest else Works 1 ∷ Works n ∷ rest
+one_more_work (Works n ∷ rest) = if nat_lt n MOST_OPERATIONS then Works (n + 1) ∷ rest else Works 1 ∷ Works n ∷ rest
 one_more_work (Once op ∷ rest) = Works 1 ∷ Once op ∷ rest
 
 -- one more operation in front
@@ -48,7 +49,22 @@ draft_resv r = record { name = r.name; cluster = r.cluster.0; kind = r.kind; bud
 
 -- a task with these pieces
 abbrev pub draft_task : Task → List Piece → DraftTask
-draft_task t pieces = record { number = t.number; name = t.name; cluster = t.cluster.0; cost = t.cost; period = t.period; rel_deadline = t.rel_deadline; phase = t.phase; kind = t.kind; prio = t.prio; enforce = t.enforce; uses = t.uses; resv = t.resv; pieces = pieces; early = t.early }
+draft_task t pieces = record {
+  number = t.number;
+  name = t.name;
+  cluster = t.cluster.0;
+  cost = t.cost;
+  period = t.period;
+  rel_deadline = t.rel_deadline;
+  phase = t.phase;
+  kind = t.kind;
+  prio = t.prio;
+  enforce = t.enforce;
+  uses = t.uses;
+  resv = t.resv;
+  pieces = pieces;
+  early = t.early;
+}
 
 abbrev pub draft_step : Step → DraftStep
 draft_step s = record { cpu = s.cpu.0; tick = s.tick.0; act = s.act }
@@ -58,7 +74,14 @@ draft_drive (drives.Steps ss) = Steps (map draft_step ss)
 draft_drive (drives.Horizon h) = Horizon h
 
 abbrev pub draft_of : Parts → Draft
-draft_of p = record { plugin = p.plugin; clusters = map draft_cluster p.clusters; sems = p.sems; resvs = map draft_resv p.resvs; tasks = map (λ (t : Task). draft_task t (runs t.body)) p.tasks; drive = draft_drive p.drive }
+draft_of p = record {
+  plugin = p.plugin;
+  clusters = map draft_cluster p.clusters;
+  sems = p.sems;
+  resvs = map draft_resv p.resvs;
+  tasks = map (λ (t : Task). draft_task t (runs t.body)) p.tasks;
+  drive = draft_drive p.drive;
+}
 
 -- ---- the parts that a draft stands for
 
@@ -69,7 +92,22 @@ abbrev pub resv_of : DraftResv → Resv
 resv_of r = record { name = r.name; cluster = record { 0 = r.cluster }; kind = r.kind; budget = r.budget; period = r.period; prio = r.prio }
 
 abbrev pub task_of : DraftTask → Task
-task_of t = record { number = t.number; name = t.name; cluster = record { 0 = t.cluster }; cost = t.cost; period = t.period; rel_deadline = t.rel_deadline; phase = t.phase; kind = t.kind; prio = t.prio; enforce = t.enforce; uses = t.uses; resv = t.resv; body = flat_map operations t.pieces; early = t.early }
+task_of t = record {
+  number = t.number;
+  name = t.name;
+  cluster = record { 0 = t.cluster };
+  cost = t.cost;
+  period = t.period;
+  rel_deadline = t.rel_deadline;
+  phase = t.phase;
+  kind = t.kind;
+  prio = t.prio;
+  enforce = t.enforce;
+  uses = t.uses;
+  resv = t.resv;
+  body = flat_map operations t.pieces;
+  early = t.early;
+}
 
 abbrev pub step_of : DraftStep → Step
 step_of s = record { cpu = record { 0 = s.cpu }; tick = record { 0 = s.tick }; act = s.act }
@@ -79,7 +117,14 @@ drive_of (Steps ss) = drives.Steps (map step_of ss)
 drive_of (Horizon h) = drives.Horizon h
 
 abbrev pub parts_of : Draft → Parts
-parts_of d = record { plugin = d.plugin; clusters = map cluster_of d.clusters; sems = d.sems; resvs = map resv_of d.resvs; tasks = map task_of d.tasks; drive = drive_of d.drive }
+parts_of d = record {
+  plugin = d.plugin;
+  clusters = map cluster_of d.clusters;
+  sems = d.sems;
+  resvs = map resv_of d.resvs;
+  tasks = map task_of d.tasks;
+  drive = drive_of d.drive;
+}
 
 -- the steps, none where there is a horizon
 abbrev pub steps_of : DraftDrive → List DraftStep

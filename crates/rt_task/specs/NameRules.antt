@@ -36,7 +36,11 @@ module _ (d : Draft) where
   resv_is_known (Some r) = is_known d.resvs r.0
 
   unfoldable pub task_name : List DraftTask → DraftTask → Bool
-  task_name earlier p = (p.number.0 == length earlier + 1) && (is_name p.name && (not (list_any (λ (x : DraftTask). bytes_eq x.name p.name) earlier) && (list_all (is_known d.sems) (sem_numbers p) && (no_repeat (sem_numbers p) && (resv_is_known p.resv && list_all piece_is_known p.pieces)))))
+  task_name earlier p =
+      (p.number.0 == length earlier + 1) && (is_name p.name
+      && (not (list_any (λ (x : DraftTask). bytes_eq x.name p.name) earlier)
+      && (list_all (is_known d.sems) (sem_numbers p) && (no_repeat (sem_numbers p)
+      && (resv_is_known p.resv && list_all piece_is_known p.pieces)))))
 
   abbrev pub act_is_known : Act → Bool
   act_is_known (acts.Arrive t) = is_known d.tasks t.0

@@ -1,7 +1,7 @@
 -- Numbers in range.
 use Rattle.std.specs.List.{list_all}
 use Rattle.std.specs.Prelude.{ℕ, ◌+◌, Bool, true, not, ◌&&◌, ◌||◌, ◌==◌, nat_lt, nat_le, List, [], ◌∷◌, length, map}
-use Rattle.rt_base.specs.declared.TheConstants.{TICK_END}
+use Rattle.rt_base.specs.declared.TheConstants.{MOST_CPUS, TICK_END}
 use Rattle.rt_task.specs.declared.draft.Draft.{Draft}
 use Rattle.rt_task.specs.declared.draft.DraftCluster.{DraftCluster}
 use Rattle.rt_task.specs.declared.draft.DraftDrive.{DraftDrive}
@@ -30,13 +30,15 @@ module _ (d : Draft) where
   whole_range = allows_clusters d.plugin (length d.clusters) && horizon_in_range d.drive
 
   unfoldable pub cluster_range : List DraftCluster → DraftCluster → Bool
-  cluster_range earlier c = within 1 64 c.cpus && ((not (is_partitioned d.plugin) || c.cpus == 1) && group_follows earlier c.group)
+  cluster_range earlier c = within 1 MOST_CPUS c.cpus && ((not (is_partitioned d.plugin) || c.cpus == 1) && group_follows earlier c.group)
 
   unfoldable pub resv_range : List DraftResv → DraftResv → Bool
   resv_range earlier r = is_span r.period && (within 1 r.period r.budget && (is_prio r.prio && nat_lt r.cluster (length d.clusters)))
 
   unfoldable pub task_range : List DraftTask → DraftTask → Bool
-  task_range earlier p = is_span p.cost && (is_span p.period && (is_span p.rel_deadline && (nat_lt p.phase TICK_END && (is_prio p.prio && (nat_lt p.cluster (length d.clusters) && list_all piece_in_range p.pieces)))))
+  task_range earlier p =
+      is_span p.cost && (is_span p.period && (is_span p.rel_deadline && (nat_lt p.phase TICK_END && (is_prio p.prio
+      && (nat_lt p.cluster (length d.clusters) && list_all piece_in_range p.pieces)))))
 
   unfoldable pub step_range : List DraftStep → DraftStep → Bool
   step_range earlier s = nat_lt s.cpu (cpus d) && (nat_lt s.tick TICK_END && act_in_range s.act)

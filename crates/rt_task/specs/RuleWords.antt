@@ -2,7 +2,7 @@
 use Rattle.std.specs.List.{list_any, list_all}
 use Rattle.std.specs.Prelude.{ℕ, ◌-◌, Bool, true, false, not, ◌&&◌, ◌||◌, ◌==◌, nat_lt, nat_le, max, List, [], ◌∷◌, length, map, sum_by}
 use Rattle.rt_base.specs.declared.SemNo.{SemNo}
-use Rattle.rt_base.specs.declared.TheConstants.{TICK_END}
+use Rattle.rt_base.specs.declared.TheConstants.{MOST_NAME_BYTES, MOST_OPERATIONS, MOST_PRIO, TICK_END}
 use Rattle.rt_task.specs.declared.Act.{Act}
 use Rattle.rt_task.specs.declared.Kind.{Kind}
 use Rattle.rt_task.specs.declared.Kind.TheVariants.{Periodic, Sporadic}
@@ -51,13 +51,13 @@ abbrev pub is_span : ℕ → Bool
 is_span n = within 1 (TICK_END - 1) n
 
 abbrev pub is_prio : ℕ → Bool
-is_prio n = within 1 511 n
+is_prio n = within 1 MOST_PRIO n
 
 abbrev pub is_name_byte : ℕ → Bool
 is_name_byte b = within 48 57 b || (within 65 90 b || (within 97 122 b || (b == 95 || b == 45)))
 
 abbrev pub is_name : List ℕ → Bool
-is_name n = within 1 32 (length n) && list_all is_name_byte n
+is_name n = within 1 MOST_NAME_BYTES (length n) && list_all is_name_byte n
 
 abbrev pub is_p_res : PluginKind → Bool
 is_p_res PRes = true
@@ -116,7 +116,7 @@ op_in_range (ops.Sleep n) = is_span n
 op_in_range _ = true
 
 abbrev pub piece_in_range : Piece → Bool
-piece_in_range (Works n) = within 1 1000 n
+piece_in_range (Works n) = within 1 MOST_OPERATIONS n
 piece_in_range (Once op) = op_in_range op
 
 abbrev pub act_in_range : Act → Bool

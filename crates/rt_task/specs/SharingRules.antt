@@ -7,7 +7,7 @@ use Rattle.rt_task.specs.declared.draft.Draft.{Draft}
 use Rattle.rt_task.specs.declared.draft.DraftResv.{DraftResv}
 use Rattle.rt_task.specs.declared.draft.DraftStep.{DraftStep}
 use Rattle.rt_task.specs.declared.draft.DraftTask.{DraftTask}
-use Rattle.rt_task.specs.Bodies.{goes_on}
+use Rattle.rt_task.specs.Bodies.{at_release, goes_on}
 use Rattle.rt_task.specs.Lookups.{group_of, cluster_with, is_pcp_sem, cluster_of_task, cluster_of_resv}
 use Rattle.rt_task.specs.RuleWords.{is_empty, has, all_same, is_p_res, stands_under, is_of_one_cluster, is_periodic, sem_numbers}
 use Rattle.rt_task.specs.declared.Act.TheVariants as acts
@@ -18,7 +18,10 @@ module _ (d : Draft) where
   clusters_sharing s = map (λ (p : DraftTask). p.cluster) (filter (λ p. has s (sem_numbers p)) d.tasks)
 
   unfoldable pub sem_sharing : List Sem → Sem → Bool
-  sem_sharing earlier s = stands_under s.protocol d.plugin && (if is_of_one_cluster s.protocol d.plugin then all_same (clusters_sharing (length earlier + 1)) else all_same (map (group_of d) (clusters_sharing (length earlier + 1))))
+  sem_sharing earlier s =
+      let sharing = clusters_sharing (length earlier + 1) in
+      stands_under s.protocol d.plugin
+      && (if is_of_one_cluster s.protocol d.plugin then all_same sharing else all_same (map (group_of d) sharing))
 
   unfoldable pub resv_sharing : List DraftResv → DraftResv → Bool
   resv_sharing earlier r = is_p_res d.plugin
@@ -30,7 +33,10 @@ module _ (d : Draft) where
   resv_fits false c (Some r) = false
 
   unfoldable pub task_sharing : List DraftTask → DraftTask → Bool
-  task_sharing earlier p = resv_fits (is_p_res d.plugin) p.cluster p.resv && ((is_empty p.pieces || goes_on (sem_numbers p) (is_pcp_sem d) p.pieces (Some (record { held = []; np = false }))) && (not p.early || is_periodic p.kind))
+  task_sharing earlier p =
+      resv_fits (is_p_res d.plugin) p.cluster p.resv
+      && ((is_empty p.pieces || goes_on (sem_numbers p) (is_pcp_sem d) p.pieces (Some at_release))
+      && (not p.early || is_periodic p.kind))
 
   abbrev pub act_is_in_group : ℕ → Act → Bool
   act_is_in_group q (acts.Arrive t) = group_of d (cluster_of_task d t.0) == group_of d (cluster_with d q)

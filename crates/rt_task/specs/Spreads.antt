@@ -21,7 +21,11 @@ clusters_among ts s = map (λ (p : DraftTask). p.cluster) (filter (λ p. has s (
 -- one more task, in this cluster
 abbrev added_to : Draft → Option ℕ → Spread → ℕ → Spread
 added_to d None s c = record { first = Some c; one_cluster = true; one_group = true }
-added_to d (Some x) s c = record { first = Some x; one_cluster = s.one_cluster && c == x; one_group = s.one_group && group_of d c == group_of d x }
+added_to d (Some x) s c = record {
+  first = Some x;
+  one_cluster = s.one_cluster && c == x;
+  one_group = s.one_group && group_of d c == group_of d x;
+}
 
 abbrev pub added : Draft → Spread → ℕ → Spread
 added d s c = added_to d s.first s c

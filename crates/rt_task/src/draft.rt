@@ -1,10 +1,7 @@
 //! A set before its rules are tried: numbers have 64 bits, bodies stand in pieces, a name that is
 //! unknown stands as number 0.
-ghost use Rattle.std.specs.Prelude.{◌≡◌};
-
-use crate::{Act, Kind, Name, Op, PluginKind, ResvKind, SemList, SemNos};
+use crate::{Act, Items, Kind, Name, Op, PluginKind, ResvKind, SemList, SemNos};
 use rt_base::{ResvNo, TaskNo};
-use std::marker::Model;
 
 /// A part of a body.
 #[derive(Clone, Copy, Debug, PartialEq, Eq)]
@@ -16,35 +13,7 @@ pub enum Piece {
 }
 
 /// The pieces of a body, in order.
-#[derive(Drop)]
-pub struct Pieces {
-    items: Vec<Piece>,
-}
-
-impl Model for Pieces {
-    ghost use Rattle.std.specs.Prelude.{List};
-    ghost use Rattle.rt_task.specs.declared.draft.Piece.{Piece};
-
-    ghost Value = { List Piece };
-
-    ghost view = { λ a. a.items.items };
-}
-
-impl Pieces {
-    /// The list of these elements.
-    pub fn from_vec(items: Vec<Piece>) -> Pieces
-        ensures { result ≡ items.items }
-    {
-        Pieces { items }
-    }
-
-    /// The elements, in order.
-    pub fn as_slice(&self) -> &[Piece]
-        ensures { result.now ≡ self.now }
-    {
-        self.items.as_slice()
-    }
-}
+pub type Pieces = Items<Piece>;
 
 /// A cluster; its group is a number from 0.
 #[derive(Clone, Copy, Debug, PartialEq, Eq)]
@@ -53,7 +22,7 @@ pub struct DraftCluster {
     pub group: u64,
 }
 
-/// A reservation; its cluster is a number from 0, its budget and period are in ticks.
+/// A reservation; its cluster is a number from 0, its budget is in units of work, its period in ticks.
 #[derive(Drop)]
 pub struct DraftResv {
     pub name: Name,
@@ -92,142 +61,16 @@ pub struct DraftStep {
 }
 
 /// Clusters, numbered from 0.
-#[derive(Drop)]
-pub struct DraftClusters {
-    items: Vec<DraftCluster>,
-}
-
-impl Model for DraftClusters {
-    ghost use Rattle.std.specs.Prelude.{List};
-    ghost use Rattle.rt_task.specs.declared.draft.DraftCluster.{DraftCluster};
-
-    ghost Value = { List DraftCluster };
-
-    ghost view = { λ a. a.items.items };
-}
-
-impl DraftClusters {
-    /// The list of these elements.
-    pub fn from_vec(items: Vec<DraftCluster>) -> DraftClusters
-        ensures { result ≡ items.items }
-    {
-        DraftClusters { items }
-    }
-
-    /// The elements, in order.
-    pub fn as_slice(&self) -> &[DraftCluster]
-        ensures { result.now ≡ self.now }
-    {
-        self.items.as_slice()
-    }
-}
+pub type DraftClusters = Items<DraftCluster>;
 
 /// Reservations, numbered from 1.
-#[derive(Drop)]
-pub struct DraftResvs {
-    items: Vec<DraftResv>,
-}
-
-impl Model for DraftResvs {
-    ghost use Rattle.std.specs.Prelude.{List};
-    ghost use Rattle.rt_task.specs.declared.draft.DraftResv.{DraftResv};
-
-    ghost Value = { List DraftResv };
-
-    ghost view = { λ a. a.items.items };
-}
-
-impl DraftResvs {
-    /// The list of these elements.
-    pub fn from_vec(items: Vec<DraftResv>) -> DraftResvs
-        ensures { result ≡ items.items }
-    {
-        DraftResvs { items }
-    }
-
-    /// The elements, in order.
-    pub fn as_slice(&self) -> &[DraftResv]
-        ensures { result.now ≡ self.now }
-    {
-        self.items.as_slice()
-    }
-
-    /// The elements themselves, in order.
-    pub fn into_vec(self) -> Vec<DraftResv>
-        ensures { result.items ≡ self }
-    {
-        self.items
-    }
-}
+pub type DraftResvs = Items<DraftResv>;
 
 /// Tasks, numbered from 1.
-#[derive(Drop)]
-pub struct DraftTasks {
-    items: Vec<DraftTask>,
-}
-
-impl Model for DraftTasks {
-    ghost use Rattle.std.specs.Prelude.{List};
-    ghost use Rattle.rt_task.specs.declared.draft.DraftTask.{DraftTask};
-
-    ghost Value = { List DraftTask };
-
-    ghost view = { λ a. a.items.items };
-}
-
-impl DraftTasks {
-    /// The list of these elements.
-    pub fn from_vec(items: Vec<DraftTask>) -> DraftTasks
-        ensures { result ≡ items.items }
-    {
-        DraftTasks { items }
-    }
-
-    /// The elements, in order.
-    pub fn as_slice(&self) -> &[DraftTask]
-        ensures { result.now ≡ self.now }
-    {
-        self.items.as_slice()
-    }
-
-    /// The elements themselves, in order.
-    pub fn into_vec(self) -> Vec<DraftTask>
-        ensures { result.items ≡ self }
-    {
-        self.items
-    }
-}
+pub type DraftTasks = Items<DraftTask>;
 
 /// Steps, in order.
-#[derive(Drop)]
-pub struct DraftSteps {
-    items: Vec<DraftStep>,
-}
-
-impl Model for DraftSteps {
-    ghost use Rattle.std.specs.Prelude.{List};
-    ghost use Rattle.rt_task.specs.declared.draft.DraftStep.{DraftStep};
-
-    ghost Value = { List DraftStep };
-
-    ghost view = { λ a. a.items.items };
-}
-
-impl DraftSteps {
-    /// The list of these elements.
-    pub fn from_vec(items: Vec<DraftStep>) -> DraftSteps
-        ensures { result ≡ items.items }
-    {
-        DraftSteps { items }
-    }
-
-    /// The elements, in order.
-    pub fn as_slice(&self) -> &[DraftStep]
-        ensures { result.now ≡ self.now }
-    {
-        self.items.as_slice()
-    }
-}
+pub type DraftSteps = Items<DraftStep>;
 
 /// What a draft runs by.
 #[derive(Drop)]

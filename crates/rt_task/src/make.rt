@@ -47,7 +47,8 @@ fn task_of(alloc: Global, t: &Task) -> Result<DraftTask, AllocError>
 }
 
 fn tasks_of(alloc: Global, tasks: &[Task]) -> Result<Vec<DraftTask>, AllocError>
-    ensures { IfOk result (λ v. v.items ≡ map (λ (t : Task). spec.draft_task t (spec.runs t.body)) tasks.now) }
+    ensures { IfOk result (λ v. v.items
+        ≡ map (λ (t : Task). spec.draft_task t (spec.runs t.body)) tasks.now) }
 {
     let mut found = Vec::new(alloc);
     for t in tasks {

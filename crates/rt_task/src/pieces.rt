@@ -3,6 +3,7 @@ ghost use Rattle.std.specs.Prelude.{◌≡◌, reverse, IfOk, OnOk};
 ghost use Rattle.rt_task.specs.Draft.{op_front, runs};
 
 use crate::{Op, Piece};
+use rt_base::MOST_OPERATIONS;
 use std::alloc::{AllocError, Global};
 
 /// One more operation in front of the pieces, which stand from the last to the first.
@@ -14,7 +15,7 @@ fn push_front(pieces: &mut Vec<Piece>, op: Op) -> Result<(), AllocError>
         return Ok(());
     }
     if let Some(Piece::Works(n)) = pieces.last().copied()
-        && n < 1000
+        && n < u64::from(MOST_OPERATIONS)
     {
         let _last = pieces.pop();
         pieces.push(Piece::Works(n + 1))?;
@@ -24,8 +25,8 @@ fn push_front(pieces: &mut Vec<Piece>, op: Op) -> Result<(), AllocError>
     Ok(())
 }
 
-/// The operations of a body in pieces: each run of work as pieces of at most 1,000 units, each
-/// other operation as one.
+/// The operations of a body in pieces: each run of work as pieces of at most `MOST_OPERATIONS`
+/// units, each other operation as one.
 #[tactic(auto, unfolding(crate::specs::Draft::runs))]
 pub fn pieces_of(alloc: Global, ops: &[Op]) -> Result<Vec<Piece>, AllocError>
     ensures { IfOk result (λ v. v.items ≡ runs ops.now) }

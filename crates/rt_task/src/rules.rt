@@ -37,10 +37,10 @@ fn stop(kind: SetKind, part: Part, index: usize) -> SetStop
 fn try_later_rules(alloc: Global, d: &Draft) -> Result<(), SetStop>
     ensures { Keeps result (refusal d.now) }
 {
-    range::is_in_range(d)?;
-    name::are_named(alloc, d)?;
-    sharing::is_sharing(alloc, d)?;
-    size::is_of_size(d)
+    range::check_ranges(d)?;
+    name::check_names(alloc, d)?;
+    sharing::check_sharing(alloc, d)?;
+    size::check_sizes(d)
 }
 
 /// Tries each rule, in the order of their kinds.
@@ -48,6 +48,6 @@ fn try_later_rules(alloc: Global, d: &Draft) -> Result<(), SetStop>
 pub(crate) fn try_rules(alloc: Global, d: &Draft) -> Result<(), SetStop>
     ensures { Keeps result (whole_refusal d.now) }
 {
-    shape::is_shaped(d)?;
+    shape::check_shapes(d)?;
     try_later_rules(alloc, d)
 }

@@ -2,7 +2,7 @@ use crate::{
     BadSet, Cluster, ClusterList, Drive, Kind, Name, Op, Ops, Part, Parts, Place, PluginKind,
     ResvList, SemList, SemNos, SetKind, SetStop, Setup, StepList, Task, TaskList,
 };
-use rt_base::{ClusterNo, GroupNo, TaskNo};
+use rt_base::{ClusterNo, GroupNo, MOST_PRIO, TaskNo};
 use std::alloc::{AllocError, Global};
 use std::test::Fail;
 
@@ -16,7 +16,7 @@ fn task_named(alloc: Global, name: &[u8]) -> Result<Task, AllocError> {
         rel_deadline: 10,
         phase: 0,
         kind: Kind::Periodic,
-        prio: 511,
+        prio: MOST_PRIO,
         enforce: false,
         uses: SemNos::from_vec(Vec::new(alloc)),
         resv: None,

@@ -9,9 +9,8 @@ use Rattle.rt_order.specs.KeyOrder.{equal_keys}
 use Rattle.rt_rules.specs.Numbers.{has, without, rest}
 use Rattle.rt_rules.proofs.PlacingLaws.{either, unless}
 use Rattle.sem_laws.specs.KeptKeys.{key_at}
-use Rattle.sem_laws.proofs.Members.{has-append, has-rest, equal_self}
-use Rattle.sem_laws.proofs.Foremost.{each-list_all}
-use Rattle.sem_laws.proofs.Tests.{both, clash}
+use Rattle.rt_rules.proofs.MemberLaws.{equal_self, has-append, has-rest, list_all-has}
+use Rattle.rt_rules.proofs.BoolLaws.{both, clash}
 
 -- ---- taking a number out
 
@@ -35,7 +34,7 @@ module _ (keys : List Key) (t : ℕ) (key : Key) where
   is_clear u = not (t == u) && not (equal_keys (key_at keys u) key)
 
   clear : (us : List ℕ) → list_all is_clear us ≡ true → (u : ℕ) → has u us ≡ true → (t == u ≡ false) × (equal_keys (key_at keys u) key ≡ false)
-  clear us all u h = let p = both (not (t == u)) (not (equal_keys (key_at keys u) key)) (each-list_all is_clear us u all h) in (denied _ p.0, denied _ p.1)
+  clear us all u h = let p = both (not (t == u)) (not (equal_keys (key_at keys u) key)) (list_all-has is_clear us u all h) in (denied _ p.0, denied _ p.1)
     where
       denied : (b : Bool) → not b ≡ true → b ≡ false
       denied true e = cc

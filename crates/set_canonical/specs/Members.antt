@@ -23,7 +23,9 @@ steps_text sems tasks (Steps ss) = codes ",\"steps\":" ++ compact_text (array_da
 steps_text sems tasks (Horizon h) = []
 
 unfoldable pub setting_text : Parts → List ℕ
-setting_text p = codes "{\"clusters\":" ++ (compact_text (array_data cluster_data p.clusters) ++ (horizon_text p.drive ++ (codes ",\"plugin\":" ++ quoted (plugin_word p.plugin))))
+setting_text p =
+    codes "{\"clusters\":" ++ (compact_text (array_data cluster_data p.clusters) ++ (horizon_text p.drive
+    ++ (codes ",\"plugin\":" ++ quoted (plugin_word p.plugin))))
 
 unfoldable pub elements_text : List Sem → List Resv → List Task → Drive → List ℕ
 elements_text sems resvs tasks drive =

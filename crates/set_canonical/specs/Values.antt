@@ -1,5 +1,5 @@
 -- The elements of a set as JSON values: every member, in rising order of names.
-use Rattle.std.specs.Prelude.{ℕ, ◌-◌, Bool, true, List, [], ◌∷◌, map, Option, None, Some, unwrap_or, codes, slice_get, if◌then◌else◌}
+use Rattle.std.specs.Prelude.{ℕ, ◌-◌, ◌==◌, Bool, true, List, [], ◌∷◌, map, Option, None, Some, unwrap_or, codes, slice_get, if◌then◌else◌}
 use Rattle.rt_base.specs.declared.SemNo.{SemNo}
 use Rattle.rt_base.specs.declared.ResvNo.{ResvNo}
 use Rattle.rt_task.specs.declared.Op.{Op}
@@ -38,9 +38,9 @@ resv_names rs = map (λ (r : Resv). r.name) rs
 abbrev pub task_names : List Task → List (List ℕ)
 task_names ts = map (λ (t : Task). t.name) ts
 
--- the name of the element with this number, from 1; an unknown number has none
+-- the name of the element with this number, from 1; a number that stands for no element has the empty name
 abbrev pub name_at : List (List ℕ) → ℕ → List ℕ
-name_at names n = unwrap_or (slice_get names (n - 1)) []
+name_at names n = if n == 0 then [] else unwrap_or (slice_get names (n - 1)) []
 
 -- ---- elements
 

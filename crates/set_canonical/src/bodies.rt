@@ -11,7 +11,8 @@ use std::alloc::{AllocError, Global};
 
 #[tactic(auto, using(std::proofs::Common::append_assoc), unfolding(crate::specs::Values::piece_data))]
 fn put_piece(out: &mut Vec<u8>, sems: &[Sem], piece: Piece) -> Result<(), AllocError>
-    ensures { OnOk result (out.new.items ≡ out.old.items ++ compact_text (piece_data (sem_names sems.now) piece)) }
+    ensures { OnOk result (out.new.items
+        ≡ out.old.items ++ compact_text (piece_data (sem_names sems.now) piece)) }
 {
     put(out, b"[")?;
     match piece {
@@ -28,7 +29,9 @@ fn put_pieces(
     sems: &[Sem],
     pieces: &[Piece],
 ) -> Result<(), AllocError>
-    ensures { OnOk result (out.new.items ≡ out.old.items ++ (before.now ++ compact_text (array_data (piece_data (sem_names sems.now)) pieces.now))) }
+    ensures { OnOk result (out.new.items
+        ≡ out.old.items ++ (before.now ++ compact_text (array_data (piece_data
+        (sem_names sems.now)) pieces.now))) }
 {
     put(out, before)?;
     put(out, b"[")?;
@@ -47,7 +50,9 @@ pub fn put_body(
     sems: &[Sem],
     body: &[Op],
 ) -> Result<(), AllocError>
-    ensures { OnOk result (out.new.items ≡ out.old.items ++ (before.now ++ compact_text (array_data (piece_data (sem_names sems.now)) (runs body.now)))) }
+    ensures { OnOk result (out.new.items
+        ≡ out.old.items ++ (before.now ++ compact_text (array_data (piece_data
+        (sem_names sems.now)) (runs body.now)))) }
 {
     let pieces = pieces_of(alloc, body)?;
     put_pieces(out, before, sems, &pieces)

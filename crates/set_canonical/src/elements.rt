@@ -24,7 +24,8 @@ pub fn put_clusters(
     before: &[u8],
     clusters: &[Cluster],
 ) -> Result<(), AllocError>
-    ensures { OnOk result (out.new.items ≡ out.old.items ++ (before.now ++ compact_text (array_data cluster_data clusters.now))) }
+    ensures { OnOk result (out.new.items
+        ≡ out.old.items ++ (before.now ++ compact_text (array_data cluster_data clusters.now))) }
 {
     put(out, before)?;
     put(out, b"[")?;
@@ -48,7 +49,8 @@ fn put_sem(out: &mut Vec<u8>, s: &Sem) -> Result<(), AllocError>
 
 #[tactic(auto, using(std::proofs::Common::append_assoc))]
 pub fn put_sems(out: &mut Vec<u8>, before: &[u8], sems: &[Sem]) -> Result<(), AllocError>
-    ensures { OnOk result (out.new.items ≡ out.old.items ++ (before.now ++ compact_text (array_data sem_data sems.now))) }
+    ensures { OnOk result (out.new.items
+        ≡ out.old.items ++ (before.now ++ compact_text (array_data sem_data sems.now))) }
 {
     put(out, before)?;
     put(out, b"[")?;
@@ -76,7 +78,8 @@ fn put_resv(out: &mut Vec<u8>, r: &Resv) -> Result<(), AllocError>
 
 #[tactic(auto, using(std::proofs::Common::append_assoc))]
 pub fn put_resvs(out: &mut Vec<u8>, before: &[u8], resvs: &[Resv]) -> Result<(), AllocError>
-    ensures { OnOk result (out.new.items ≡ out.old.items ++ (before.now ++ compact_text (array_data resv_data resvs.now))) }
+    ensures { OnOk result (out.new.items
+        ≡ out.old.items ++ (before.now ++ compact_text (array_data resv_data resvs.now))) }
 {
     put(out, before)?;
     put(out, b"[")?;

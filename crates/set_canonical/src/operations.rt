@@ -13,7 +13,8 @@ use std::alloc::AllocError;
 /// The rest of an array that has a word alone.
 #[tactic(auto, using(std::proofs::Common::append_assoc))]
 fn put_word(out: &mut Vec<u8>, later: bool, word: &[u8]) -> Result<(), AllocError>
-    ensures { OnOk result (out.new.items ≡ out.old.items ++ items_text later (items_of (string word.now ∷ []))) }
+    ensures { OnOk result (out.new.items
+        ≡ out.old.items ++ items_text later (items_of (string word.now ∷ []))) }
 {
     put_comma(out, later)?;
     put_string(out, b"", word)?;
@@ -29,7 +30,8 @@ fn put_word_and_name(
     word: &[u8],
     name: &[u8],
 ) -> Result<(), AllocError>
-    ensures { OnOk result (out.new.items ≡ out.old.items ++ items_text later (items_of (string word.now ∷ string name.now ∷ []))) }
+    ensures { OnOk result (out.new.items
+        ≡ out.old.items ++ items_text later (items_of (string word.now ∷ string name.now ∷ []))) }
 {
     put_comma(out, later)?;
     put_string(out, b"", word)?;
@@ -46,7 +48,8 @@ pub fn put_word_and_number(
     word: &[u8],
     n: u64,
 ) -> Result<(), AllocError>
-    ensures { OnOk result (out.new.items ≡ out.old.items ++ items_text later (items_of (string word.now ∷ natural_data n ∷ []))) }
+    ensures { OnOk result (out.new.items
+        ≡ out.old.items ++ items_text later (items_of (string word.now ∷ natural_data n ∷ []))) }
 {
     put_comma(out, later)?;
     put_string(out, b"", word)?;
@@ -57,7 +60,8 @@ pub fn put_word_and_number(
 
 /// The rest of an array that has an operation.
 pub fn put_op(out: &mut Vec<u8>, later: bool, sems: &[Sem], op: Op) -> Result<(), AllocError>
-    ensures { OnOk result (out.new.items ≡ out.old.items ++ items_text later (items_of (op_items (sem_names sems.now) op))) }
+    ensures { OnOk result (out.new.items
+        ≡ out.old.items ++ items_text later (items_of (op_items (sem_names sems.now) op))) }
 {
     match op {
         Op::Work => put_word(out, later, b"work"),
@@ -72,7 +76,9 @@ pub fn put_op(out: &mut Vec<u8>, later: bool, sems: &[Sem], op: Op) -> Result<()
 
 /// The rest of an array that has an act.
 fn put_act(out: &mut Vec<u8>, sems: &[Sem], tasks: &[Task], act: Act) -> Result<(), AllocError>
-    ensures { OnOk result (out.new.items ≡ out.old.items ++ items_text true (items_of (act_items (sem_names sems.now) (task_names tasks.now) act))) }
+    ensures { OnOk result (out.new.items
+        ≡ out.old.items ++ items_text true (items_of (act_items
+        (sem_names sems.now) (task_names tasks.now) act))) }
 {
     match act {
         Act::Tick => put_word(out, true, b"tick"),
@@ -84,7 +90,9 @@ fn put_act(out: &mut Vec<u8>, sems: &[Sem], tasks: &[Task], act: Act) -> Result<
 
 #[tactic(auto, using(crate::proofs::Texts::step_text, std::proofs::Common::append_assoc))]
 fn put_step(out: &mut Vec<u8>, sems: &[Sem], tasks: &[Task], s: &Step) -> Result<(), AllocError>
-    ensures { OnOk result (out.new.items ≡ out.old.items ++ compact_text (step_data (sem_names sems.now) (task_names tasks.now) s.now)) }
+    ensures { OnOk result (out.new.items
+        ≡ out.old.items ++ compact_text (step_data
+        (sem_names sems.now) (task_names tasks.now) s.now)) }
 {
     put_number(out, b"[", u64::from(s.cpu.0))?;
     put_number(out, b",", s.tick.0)?;
@@ -100,7 +108,9 @@ pub fn put_steps(
     tasks: &[Task],
     steps: &[Step],
 ) -> Result<(), AllocError>
-    ensures { OnOk result (out.new.items ≡ out.old.items ++ (before.now ++ compact_text (array_data (step_data (sem_names sems.now) (task_names tasks.now)) steps.now))) }
+    ensures { OnOk result (out.new.items
+        ≡ out.old.items ++ (before.now ++ compact_text (array_data (step_data
+        (sem_names sems.now) (task_names tasks.now)) steps.now))) }
 {
     put(out, before)?;
     put(out, b"[")?;

@@ -40,7 +40,8 @@ pub fn put_number(out: &mut Vec<u8>, before: &[u8], n: u64) -> Result<(), AllocE
 /// `true` or `false`, after the text before it.
 #[tactic(auto, using(std::proofs::Common::append_assoc))]
 pub fn put_flag(out: &mut Vec<u8>, before: &[u8], flag: bool) -> Result<(), AllocError>
-    ensures { OnOk result (out.new.items ≡ out.old.items ++ (before.now ++ compact_text (boolean flag))) }
+    ensures { OnOk result (out.new.items
+        ≡ out.old.items ++ (before.now ++ compact_text (boolean flag))) }
 {
     put(out, before)?;
     if flag {

@@ -32,7 +32,8 @@ fn put_given_steps(
     tasks: &[Task],
     drive: &Drive,
 ) -> Result<(), AllocError>
-    ensures { OnOk result (out.new.items ≡ out.old.items ++ steps_text (sem_names sems.now) (task_names tasks.now) drive.now) }
+    ensures { OnOk result (out.new.items
+        ≡ out.old.items ++ steps_text (sem_names sems.now) (task_names tasks.now) drive.now) }
 {
     match drive {
         Drive::Steps(steps) => put_steps(out, b",\"steps\":", sems, tasks, steps.as_slice()),
@@ -61,7 +62,8 @@ fn put_elements(
     tasks: &[Task],
     drive: &Drive,
 ) -> Result<(), AllocError>
-    ensures { OnOk result (out.new.items ≡ out.old.items ++ elements_text sems.now resvs.now tasks.now drive.now) }
+    ensures { OnOk result (out.new.items
+        ≡ out.old.items ++ elements_text sems.now resvs.now tasks.now drive.now) }
 {
     put_resvs(out, b",\"resvs\":", resvs)?;
     put_sems(out, b",\"sems\":", sems)?;

@@ -17,7 +17,10 @@ use std::alloc::{AllocError, Global};
 
 /// The cluster, the cost and the deadline.
 fn put_demand(out: &mut Vec<u8>, t: &Task) -> Result<(), AllocError>
-    ensures { OnOk result (out.new.items ≡ out.old.items ++ (codes ",\"cluster\":" ++ (decimal t.now.cluster.0 ++ (codes ",\"cost\":" ++ (decimal t.now.cost ++ (codes ",\"deadline\":" ++ decimal t.now.rel_deadline)))))) }
+    ensures { OnOk result (out.new.items
+        ≡ out.old.items ++ (codes ",\"cluster\":" ++ (decimal t.now.cluster.0 ++
+        (codes ",\"cost\":" ++ (decimal t.now.cost ++
+        (codes ",\"deadline\":" ++ decimal t.now.rel_deadline)))))) }
 {
     put_number(out, b",\"cluster\":", u64::from(t.cluster.0))?;
     put_number(out, b",\"cost\":", t.cost)?;
@@ -38,7 +41,10 @@ fn put_early(out: &mut Vec<u8>, early: bool) -> Result<(), AllocError>
 
 /// Whether the budget is enforced, the kind and the name.
 fn put_identity(out: &mut Vec<u8>, t: &Task) -> Result<(), AllocError>
-    ensures { OnOk result (out.new.items ≡ out.old.items ++ (codes ",\"enforce\":" ++ (compact_text (boolean t.now.enforce) ++ (codes ",\"kind\":" ++ (quoted (spec.kind_word t.now.kind) ++ (codes ",\"name\":" ++ quoted t.now.name)))))) }
+    ensures { OnOk result (out.new.items
+        ≡ out.old.items ++ (codes ",\"enforce\":" ++ (compact_text
+        (boolean t.now.enforce) ++ (codes ",\"kind\":" ++ (quoted
+        (spec.kind_word t.now.kind) ++ (codes ",\"name\":" ++ quoted t.now.name)))))) }
 {
     put_flag(out, b",\"enforce\":", t.enforce)?;
     put_string(out, b",\"kind\":", kind_word(t.kind))?;
@@ -49,7 +55,9 @@ fn put_identity(out: &mut Vec<u8>, t: &Task) -> Result<(), AllocError>
 /// The period, the phase and the priority.
 #[tactic(auto, using(std::proofs::Common::append_assoc))]
 fn put_pattern(out: &mut Vec<u8>, t: &Task) -> Result<(), AllocError>
-    ensures { OnOk result (out.new.items ≡ out.old.items ++ (codes ",\"period\":" ++ (decimal t.now.period ++ (codes ",\"phase\":" ++ (decimal t.now.phase ++ (codes ",\"prio\":" ++ decimal t.now.prio)))))) }
+    ensures { OnOk result (out.new.items
+        ≡ out.old.items ++ (codes ",\"period\":" ++ (decimal t.now.period ++ (codes ",\"phase\":" ++
+        (decimal t.now.phase ++ (codes ",\"prio\":" ++ decimal t.now.prio)))))) }
 {
     put_number(out, b",\"period\":", t.period)?;
     put_number(out, b",\"phase\":", t.phase)?;
@@ -59,7 +67,9 @@ fn put_pattern(out: &mut Vec<u8>, t: &Task) -> Result<(), AllocError>
 
 /// The reservation, or `null` where there is none.
 fn put_resv(out: &mut Vec<u8>, resvs: &[Resv], resv: Option<ResvNo>) -> Result<(), AllocError>
-    ensures { OnOk result (out.new.items ≡ out.old.items ++ (codes ",\"resv\":" ++ compact_text (resv_or_null (resv_names resvs.now) resv))) }
+    ensures { OnOk result (out.new.items
+        ≡ out.old.items ++ (codes ",\"resv\":" ++ compact_text (resv_or_null
+        (resv_names resvs.now) resv))) }
 {
     match resv {
         Some(r) => put_string(out, b",\"resv\":", resv_name(resvs, r)),
@@ -70,7 +80,9 @@ fn put_resv(out: &mut Vec<u8>, resvs: &[Resv], resv: Option<ResvNo>) -> Result<(
 /// The names of the semaphores that the task declares.
 #[tactic(auto, using(std::proofs::Common::append_assoc))]
 fn put_uses(out: &mut Vec<u8>, sems: &[Sem], uses: &[SemNo]) -> Result<(), AllocError>
-    ensures { OnOk result (out.new.items ≡ out.old.items ++ (codes ",\"uses\":" ++ compact_text (uses_data (sem_names sems.now) uses.now))) }
+    ensures { OnOk result (out.new.items
+        ≡ out.old.items ++ (codes ",\"uses\":" ++ compact_text (uses_data
+        (sem_names sems.now) uses.now))) }
 {
     put(out, b",\"uses\":[")?;
     for (i, s) in uses.iter().enumerate() {
@@ -89,7 +101,9 @@ fn put_task(
     resvs: &[Resv],
     t: &Task,
 ) -> Result<(), AllocError>
-    ensures { OnOk result (out.new.items ≡ out.old.items ++ compact_text (task_data (sem_names sems.now) (resv_names resvs.now) t.now)) }
+    ensures { OnOk result (out.new.items
+        ≡ out.old.items ++ compact_text (task_data
+        (sem_names sems.now) (resv_names resvs.now) t.now)) }
 {
     put_body(alloc, out, b"{\"body\":", sems, t.body.as_slice())?;
     put_demand(out, t)?;
@@ -111,7 +125,9 @@ pub fn put_tasks(
     resvs: &[Resv],
     tasks: &[Task],
 ) -> Result<(), AllocError>
-    ensures { OnOk result (out.new.items ≡ out.old.items ++ (before.now ++ compact_text (array_data (task_data (sem_names sems.now) (resv_names resvs.now)) tasks.now))) }
+    ensures { OnOk result (out.new.items
+        ≡ out.old.items ++ (before.now ++ compact_text (array_data (task_data
+        (sem_names sems.now) (resv_names resvs.now)) tasks.now))) }
 {
     put(out, before)?;
     put(out, b"[")?;

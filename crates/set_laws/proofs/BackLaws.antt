@@ -2,6 +2,7 @@
 use Rattle.std.proofs.Common.{◌≡◌, ℕ, ◌+◌, List, [], ◌∷◌, ◌++◌, Bool, true, false, cond, map, Option, Some, None, Ok, refl, ap, ◌∙◌, add-one}
 use Rattle.std.specs.Prelude.{filter_map, flat_map, nat_lt}
 use Rattle.rt_base.specs.declared.SemNo.{SemNo}
+use Rattle.rt_base.specs.declared.TheConstants.{MOST_OPERATIONS}
 use Rattle.rt_task.specs.declared.Op.{Op}
 use Rattle.rt_task.specs.declared.Op.TheVariants as ops
 use Rattle.rt_task.specs.declared.Act.{Act}
@@ -170,7 +171,7 @@ works-again names n = refl
 
 one_more-again : (names : Names) (xs : List Piece) → AllAgain (piece_form names) (piece_data names.sems) xs → AllAgain (piece_form names) (piece_data names.sems) (one_more_work xs)
 one_more-again names [] h = (works-again names 1, tt)
-one_more-again names (Works n ∷ rest) h = by_room (nat_lt n 1000)
+one_more-again names (Works n ∷ rest) h = by_room (nat_lt n MOST_OPERATIONS)
   where
     by_room : (b : Bool) → AllAgain (piece_form names) (piece_data names.sems) (cond b (Works (n + 1) ∷ rest) (Works 1 ∷ Works n ∷ rest))
     by_room true = (works-again names (n + 1), h.1)
@@ -191,7 +192,7 @@ pieces-again names (ops.End ∷ rest) k = (refl, pieces-again names rest k.1)
 -- the body comes back out of its runs
 operations-one_more : (xs : List Piece) → flat_map operations (one_more_work xs) ≡ ops.Work ∷ flat_map operations xs
 operations-one_more [] = refl
-operations-one_more (Works n ∷ rest) = by_room (nat_lt n 1000)
+operations-one_more (Works n ∷ rest) = by_room (nat_lt n MOST_OPERATIONS)
   where
     by_room : (b : Bool) → flat_map operations (cond b (Works (n + 1) ∷ rest) (Works 1 ∷ Works n ∷ rest)) ≡ ops.Work ∷ flat_map operations (Works n ∷ rest)
     by_room true = rw add-one refl

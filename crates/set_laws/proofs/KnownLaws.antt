@@ -6,6 +6,7 @@ use Rattle.std.proofs.lemmas.Bool.{and_parts, eqb-true}
 use Rattle.std.proofs.lemmas.List.{length-append}
 use Rattle.rt_base.specs.declared.ResvNo.{ResvNo}
 use Rattle.rt_base.specs.declared.SemNo.{SemNo}
+use Rattle.rt_base.specs.declared.TheConstants.{MOST_OPERATIONS}
 use Rattle.rt_task.specs.declared.Act.{Act}
 use Rattle.rt_task.specs.declared.Act.TheVariants as acts
 use Rattle.rt_task.specs.declared.Drive.{Drive}
@@ -78,7 +79,7 @@ has_fresh p h = record {
 -- a run of Work says nothing of the pieces after it
 fewer : (q : Piece → Bool) (ps : List Piece) → ((n : ℕ) → q (Works n) ≡ true) → list_all q (one_more_work ps) ≡ true → list_all q ps ≡ true
 fewer q [] w h = refl
-fewer q (Works n ∷ rest) w h = by_room (nat_lt n 1000) h
+fewer q (Works n ∷ rest) w h = by_room (nat_lt n MOST_OPERATIONS) h
   where
     by_room : (b : Bool) → list_all q (cond b (Works (n + 1) ∷ rest) (Works 1 ∷ Works n ∷ rest)) ≡ true → list_all q (Works n ∷ rest) ≡ true
     by_room true k = ap (λ b. b && list_all q rest) (w n) ∙ (and_parts (q (Works (n + 1))) (list_all q rest) k).1

@@ -1,7 +1,8 @@
 -- A number that stands for an element is the position of the element's name.
 use Rattle.std.proofs.Common.{◌≡◌, ℕ, zero, suc, ◌+◌, ◌-◌, ◌<◌, ◌≤◌, List, [], ◌∷◌, ◌++◌, Bool, true, false, ◌||◌, length, take, get_or, map, None, refl, ap, ap₂, sym, subst, ◌∙◌, arith, append_assoc, append-nil}
 use Rattle.std.specs.List.{list_any}
-use Rattle.std.specs.Prelude.{bytes_eq}
+use Rattle.std.specs.Prelude.{bytes_eq, ◌==◌}
+use Rattle.std.proofs.lemmas.Bool.Decides.{nat_tests}
 use Rattle.std.proofs.lemmas.List.{length-map, map-append}
 use Rattle.std.proofs.lemmas.Option.{unwrap_or-slice_get}
 use Rattle.rt_task.specs.Refusals.{first_failing}
@@ -24,7 +25,8 @@ fresh-at earlier (w ∷ ws) (suc i) h lt =
 
 own_position : (ws : List (List ℕ)) (n : ℕ) → Fresh [] ws → 1 ≤ n → n ≤ length ws → position_from 1 ws (name_at ws n) ≡ n
 own_position ws n h low high =
-    ap (position_from 1 ws) (unwrap_or-slice_get ws (n - 1) [])
+    let numbered : n == 0 ≡ false = grind (arith, nat_tests) in
+    ap (position_from 1 ws) (rw numbered (unwrap_or-slice_get ws (n - 1) []))
     ∙ position-first 1 ws (n - 1) (omega arith) (fresh-at [] ws (n - 1) h (omega arith))
     ∙ (let e : 1 + (n - 1) ≡ n = omega arith in e)
 

@@ -8,7 +8,7 @@ use Rattle.std.proofs.lemmas.List.{length-append, length-map}
 use Rattle.std.proofs.lemmas.Option.{unwrap_or-slice_get}
 use Rattle.rt_base.specs.declared.ResvNo.{ResvNo}
 use Rattle.rt_base.specs.declared.SemNo.{SemNo}
-use Rattle.rt_base.specs.declared.TheConstants.{TICK_END, MOST_STEPS, MOST_TASKS}
+use Rattle.rt_base.specs.declared.TheConstants.{MOST_CLUSTERS, MOST_CPUS, MOST_OPERATIONS, MOST_PRIO, MOST_RESVS, MOST_SEMS, MOST_STEPS, MOST_TASKS, MOST_TURN_STEPS, TICK_END}
 use Rattle.rt_task.specs.declared.Act.{Act}
 use Rattle.rt_task.specs.declared.Act.TheVariants as acts
 use Rattle.rt_task.specs.declared.Cluster.{Cluster}
@@ -120,7 +120,11 @@ get_text (w ∷ ws) zero h = h.0
 get_text (w ∷ ws) (suc i) h = get_text ws i h.1
 
 text_at : (ws : List (List ℕ)) (n : ℕ) → AllText ws → IsUtf8 (name_at ws n)
-text_at ws n h = subst IsUtf8 (sym (unwrap_or-slice_get ws (n - 1) [])) (get_text ws (n - 1) h)
+text_at ws n h = by_test (n == 0)
+  where
+    by_test : (b : Bool) → IsUtf8 (cond b [] (unwrap_or (slice_get ws (n - 1)) []))
+    by_test true = key [] refl
+    by_test false = subst IsUtf8 (sym (unwrap_or-slice_get ws (n - 1) [])) (get_text ws (n - 1) h)
 
 -- a rule by which each name is text
 all_text : {A B : Type 0} (rule : List B → B → Bool) (f : A → B) (name : A → List ℕ) → ((e : List B) (x : A) → rule e (f x) ≡ true → IsUtf8 (name x))
@@ -130,14 +134,14 @@ all_text rule f name text e (x ∷ xs) h = let a = passed rule e (f x) (map f xs
 
 -- ---- numbers
 
-fits : (n m : ℕ) → n ≤ m → m ≤ 1000000000000 → n < 2 ^ 64
+fits : (n m : ℕ) → n ≤ m → m ≤ TICK_END → n < 2 ^ 64
 fits n m a b = omega arith
 
 span_fits : (n : ℕ) → is_span n ≡ true → n < 2 ^ 64
 span_fits n h = fits n (TICK_END - 1) (within_parts 1 (TICK_END - 1) n h).1 (omega arith)
 
 prio_fits : (n : ℕ) → is_prio n ≡ true → n < 2 ^ 64
-prio_fits n h = fits n 511 (within_parts 1 511 n h).1 (omega arith)
+prio_fits n h = fits n MOST_PRIO (within_parts 1 MOST_PRIO n h).1 (omega arith)
 
 -- ---- operations, acts and pieces
 
@@ -159,7 +163,7 @@ module _ (sems tasks : List (List ℕ)) (text : AllText sems) (task_text : AllTe
 
   piece_stored : (x : Piece) → piece_in_range x ≡ true → IsStored (piece_data sems x)
   unfolding piece_data
-  piece_stored (Works n) h = (key (codes "work") refl, (fits n 1000 (within_parts 1 1000 n h).1 (omega arith), tt))
+  piece_stored (Works n) h = (key (codes "work") refl, (fits n MOST_OPERATIONS (within_parts 1 MOST_OPERATIONS n h).1 (omega arith), tt))
   piece_stored (Once op) h = op_stored op h
 
   pieces_stored : (xs : List Piece) → list_all piece_in_range xs ≡ true → AreStored (items_of (map (piece_data sems) xs))
@@ -259,7 +263,7 @@ module _ (sems resvs : List (List ℕ)) (text : AllText sems) (resv_text : AllTe
       by_early false = (refl, first_stored t (later_members t) h (later_stored t h))
 
 module _ (p : Parts) where
-  clusters_stored : (e : List DraftCluster) (cs : List Cluster) → groups_top e ≤ length e → length e + length cs ≤ 64
+  clusters_stored : (e : List DraftCluster) (cs : List Cluster) → groups_top e ≤ length e → length e + length cs ≤ MOST_CLUSTERS
       → first_failing (cluster_range (draft_of p)) e (map draft_cluster cs) ≡ None → AreStored (items_of (map cluster_data cs))
   unfolding cluster_data cluster_range
   clusters_stored e [] top count h = tt
@@ -274,8 +278,8 @@ module _ (p : Parts) where
           refl,
           (
             key (codes "cpus") refl,
-            fits c.cpus 64 (within_parts 1 64 c.cpus b.0).1 (omega arith),
-            (key (codes "group") refl, fits c.group.0 65 (omega arith) (omega arith), tt),
+            fits c.cpus MOST_CPUS (within_parts 1 MOST_CPUS c.cpus b.0).1 (omega arith),
+            (key (codes "group") refl, fits c.group.0 (MOST_CLUSTERS + 1) (omega arith) (omega arith), tt),
           ),
         ),
         clusters_stored (e ++ draft_cluster c ∷ []) cs (omega arith) (omega arith) a.1,
@@ -288,13 +292,13 @@ module _ (p : Parts) where
 
   -- the number of clusters
   abbrev FewClusters : Type 0
-  FewClusters = length p.clusters ≤ 64
+  FewClusters = length p.clusters ≤ MOST_CLUSTERS
 
   cluster_fits : FewClusters → (n : ℕ) → nat_lt n (length (map draft_cluster p.clusters)) ≡ true → n < 2 ^ 64
   cluster_fits few n h =
       let lt = ltb-true n (length (map draft_cluster p.clusters)) h in
       let count = length-map p.clusters draft_cluster in
-      fits n 64 (omega arith) (omega arith)
+      fits n MOST_CLUSTERS (omega arith) (omega arith)
 
   resv_is_stored : FewClusters → (e : List DraftResv) (r : Resv) → resv_range (draft_of p) e (draft_resv r) ≡ true → resv_name (draft_of p) e (draft_resv r) ≡ true → IsStored (resv_data r)
   unfolding resv_data resv_range resv_name
@@ -345,14 +349,14 @@ module _ (p : Parts) where
         pieces = place.1;
       }
 
-  step_is_stored : AllText (sem_names p.sems) → AllText (task_names p.tasks) → cpus (draft_of p) ≤ 64 → (e : List DraftStep) (s : Step) → step_range (draft_of p) e (draft_step s) ≡ true → IsStored (step_data (sem_names p.sems) (task_names p.tasks) s)
+  step_is_stored : AllText (sem_names p.sems) → AllText (task_names p.tasks) → cpus (draft_of p) ≤ MOST_CPUS → (e : List DraftStep) (s : Step) → step_range (draft_of p) e (draft_step s) ≡ true → IsStored (step_data (sem_names p.sems) (task_names p.tasks) s)
   unfolding step_data step_range
   step_is_stored sems tasks few e s h =
       let a = and_parts _ _ h in
       let b = and_parts _ _ a.1 in
       let cpu = ltb-true s.cpu.0 (cpus (draft_of p)) a.0 in
       let tick = ltb-true s.tick.0 TICK_END b.0 in
-      (fits s.cpu.0 64 (omega arith) (omega arith), (fits s.tick.0 TICK_END (omega arith) (omega arith), act_stored (sem_names p.sems) (task_names p.tasks) sems tasks s.act b.1))
+      (fits s.cpu.0 MOST_CPUS (omega arith) (omega arith), (fits s.tick.0 TICK_END (omega arith) (omega arith), act_stored (sem_names p.sems) (task_names p.tasks) sems tasks s.act b.1))
 
 -- ---- the horizon
 
@@ -378,7 +382,7 @@ module _ (p : Parts) where
   cpus-above (c ∷ cs) some h =
       let a = passed (cluster_range (draft_of p)) [] (draft_cluster c) (map draft_cluster cs) h in
       let b = and_parts _ _ a.0 in
-      let low = within_parts 1 64 c.cpus b.0 in
+      let low = within_parts 1 MOST_CPUS c.cpus b.0 in
       let rest = sum-above (0 + c.cpus) (map draft_cluster cs) in
       omega (arith, low.0, rest)
 
@@ -389,27 +393,27 @@ module _ (p : Parts) where
   few_clusters : Rows (draft_of p) → FewClusters p
   unfolding whole_size
   few_clusters h =
-      let a = leb-true (length (map draft_cluster p.clusters)) 64 (and_parts _ _ h.size).0 in
+      let a = leb-true (length (map draft_cluster p.clusters)) MOST_CLUSTERS (and_parts _ _ h.size).0 in
       let count = length-map p.clusters draft_cluster in
       omega arith
 
-  few_cpus : Rows (draft_of p) → cpus (draft_of p) ≤ 64
+  few_cpus : Rows (draft_of p) → cpus (draft_of p) ≤ MOST_CPUS
   unfolding whole_size
-  few_cpus h = leb-true (cpus (draft_of p)) 64 (and_parts _ _ (and_parts _ _ h.size).1).0
+  few_cpus h = leb-true (cpus (draft_of p)) MOST_CPUS (and_parts _ _ (and_parts _ _ h.size).1).0
 
   drive_fits : Rows (draft_of p) → horizon_fits (draft_of p) (draft_drive p.drive) ≡ true
   unfolding whole_size
   drive_fits h =
       let d = draft_of p in
-      let a = and_parts (nat_le (length d.clusters) 64) _ h.size in
-      let b = and_parts (nat_le (cpus d) 64) _ a.1 in
+      let a = and_parts (nat_le (length d.clusters) MOST_CLUSTERS) _ h.size in
+      let b = and_parts (nat_le (cpus d) MOST_CPUS) _ a.1 in
       let c = and_parts (nat_le (length d.tasks) MOST_TASKS) _ b.1 in
-      let e = and_parts (nat_le (length d.sems) 256) _ c.1 in
-      (and_parts (nat_le (length d.resvs) 64) _ e.1).1
+      let e = and_parts (nat_le (length d.sems) MOST_SEMS) _ c.1 in
+      (and_parts (nat_le (length d.resvs) MOST_RESVS) _ e.1).1
 
   horizon_stored : Rows (draft_of p) → (h : ℕ) → horizon_fits (draft_of p) (DraftDrives.Horizon h) ≡ true → h < 2 ^ 64
   horizon_stored r h k =
-      let a = leb-true (h * cpus (draft_of p) * 18) MOST_STEPS k in
+      let a = leb-true (h * cpus (draft_of p) * MOST_TURN_STEPS) MOST_STEPS k in
       let b = times-above h (cpus (draft_of p)) (some_cpus r) in
       fits h MOST_STEPS (omega arith) (omega arith)
 

@@ -32,5 +32,6 @@ pub fn document_has_canonical(document: &[u8])
 
 /// Two documents are of one setup exactly where their setups have one canonical text.
 pub fn canonical_tells_apart(first: &[u8], second: &[u8])
-    ensures { (p q : Parts) → set first.now ≡ Ok p → set second.now ≡ Ok q → (canonical p ≡ canonical q) ↔ (p ≡ q) }
+    ensures { (p q : Parts) → set first.now ≡ Ok p → set second.now ≡ Ok q
+        → (canonical p ≡ canonical q) ↔ (p ≡ q) }
 {}

@@ -3,6 +3,7 @@ use Rattle.std.specs.Prelude.{ℕ, ◌+◌, Bool, true, false, not, ◌&&◌, �
 use Rattle.rt_base.specs.declared.TaskNo.{TaskNo}
 use Rattle.rt_base.specs.declared.SemNo.{SemNo}
 use Rattle.rt_base.specs.declared.ResvNo.{ResvNo}
+use Rattle.rt_base.specs.declared.TheConstants.{MOST_PRIO}
 use Rattle.rt_task.specs.declared.Op.{Op}
 use Rattle.rt_task.specs.declared.Op.TheVariants as ops
 use Rattle.rt_task.specs.declared.Act.{Act}
@@ -68,7 +69,9 @@ abbrev pub bare_ops : List (List ℕ × Op)
 bare_ops = (codes "npon", ops.NpOn) ∷ (codes "npoff", ops.NpOff) ∷ (codes "end", ops.End) ∷ []
 
 abbrev pub bare_acts : List (List ℕ × Act)
-bare_acts = (codes "tick", acts.Tick) ∷ (codes "irq", acts.Irq) ∷ (codes "work", acts.Do ops.Work) ∷ (codes "npon", acts.Do ops.NpOn) ∷ (codes "npoff", acts.Do ops.NpOff) ∷ (codes "end", acts.Do ops.End) ∷ []
+bare_acts =
+    (codes "tick", acts.Tick) ∷ (codes "irq", acts.Irq) ∷ (codes "work", acts.Do ops.Work)
+    ∷ (codes "npon", acts.Do ops.NpOn) ∷ (codes "npoff", acts.Do ops.NpOff) ∷ (codes "end", acts.Do ops.End) ∷ []
 
 -- an operation with its one argument
 abbrev pub op_with : Names → List ℕ → Data → Option Op
@@ -134,11 +137,13 @@ reservation_form d = do
   kind ← required (one_of reservation_kinds) (codes "kind") d
   budget ← required natural (codes "budget") d
   period ← required natural (codes "period") d
-  prio ← optional natural 511 (codes "prio") d
+  prio ← optional natural MOST_PRIO (codes "prio") d
   Some (record { name = name; cluster = cluster; kind = kind; budget = budget; period = period; prio = prio })
 
 abbrev pub task_members : List (List ℕ)
-task_members = codes "name" ∷ codes "cluster" ∷ codes "cost" ∷ codes "period" ∷ codes "deadline" ∷ codes "phase" ∷ codes "kind" ∷ codes "prio" ∷ codes "enforce" ∷ codes "uses" ∷ codes "resv" ∷ codes "body" ∷ codes "early" ∷ []
+task_members =
+    codes "name" ∷ codes "cluster" ∷ codes "cost" ∷ codes "period" ∷ codes "deadline" ∷ codes "phase" ∷ codes "kind"
+    ∷ codes "prio" ∷ codes "enforce" ∷ codes "uses" ∷ codes "resv" ∷ codes "body" ∷ codes "early" ∷ []
 
 -- the n-th task
 unfoldable pub task_form : Names → ℕ → Data → Option DraftTask
@@ -151,7 +156,7 @@ task_form names n d = do
   deadline ← optional natural period (codes "deadline") d
   phase ← optional natural 0 (codes "phase") d
   kind ← optional (one_of release_kinds) task_kinds.Periodic (codes "kind") d
-  prio ← optional natural 511 (codes "prio") d
+  prio ← optional natural MOST_PRIO (codes "prio") d
   enforce ← optional truth false (codes "enforce") d
   uses ← optional (list_of (sem_form names)) [] (codes "uses") d
   resv ← optional (or_null (resv_form names)) None (codes "resv") d

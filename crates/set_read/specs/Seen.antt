@@ -17,4 +17,11 @@ play_seen (Steps vs) = document.steps (values_seen vs)
 play_seen (Horizon h) = document.horizon h
 
 abbrev pub whole_seen : Whole → document.Whole
-whole_seen w = record { plugin = w.plugin; clusters = values_seen w.clusters; sems = values_seen w.sems; resvs = values_seen w.resvs; tasks = values_seen w.tasks; play = play_seen w.play }
+whole_seen w = record {
+  plugin = w.plugin;
+  clusters = values_seen w.clusters;
+  sems = values_seen w.sems;
+  resvs = values_seen w.resvs;
+  tasks = values_seen w.tasks;
+  play = play_seen w.play;
+}

@@ -65,7 +65,9 @@ fn items_or_none<'a>(v: &'a Value, key: &str) -> Option<&'a [Value]>
 }
 
 fn play_of<'a>(steps: Option<&'a Value>, horizon: Option<&'a Value>) -> Option<Play<'a>>
-    ensures { option_map play_seen result ≡ document.play_of (option_map (λ v. view v.now) steps.entry) (option_map (λ v. view v.now) horizon.entry) }
+    ensures { option_map play_seen result
+        ≡ document.play_of (option_map
+        (λ v. view v.now) steps.entry) (option_map (λ v. view v.now) horizon.entry) }
 {
     match (steps, horizon) {
         (Some(steps), None) => {

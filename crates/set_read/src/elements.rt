@@ -19,7 +19,9 @@ use std::alloc::{AllocError, Global};
 
 fn misshapen(part: Part, index: usize) -> SetStop
     requires { index < 2 ^ 32 }
-    ensures { result ≡ SetStop.Bad (record { kind = SetKind.Shape; place = record { part = part; index = index } }) }
+    ensures { result
+        ≡ SetStop.Bad
+        (record { kind = SetKind.Shape; place = record { part = part; index = index } }) }
 {
     SetStop::Bad(BadSet {
         kind: SetKind::Shape,
@@ -32,7 +34,8 @@ fn misshapen(part: Part, index: usize) -> SetStop
 
 pub(crate) fn clusters_of(alloc: Global, items: &[Value]) -> Result<Vec<DraftCluster>, SetStop>
     requires { length items.now < 2 ^ 32 }
-    ensures { Gives (λ v. v.items) result (elements_from parts.Cluster 0 (map (λ x. document.cluster_form x) (map view items.now))) }
+    ensures { Gives (λ v. v.items) result (elements_from parts.Cluster 0 (map
+        (λ x. document.cluster_form x) (map view items.now))) }
 {
     let mut found = Vec::new(alloc);
     for (i, item) in items.iter().enumerate() {
@@ -46,7 +49,8 @@ pub(crate) fn clusters_of(alloc: Global, items: &[Value]) -> Result<Vec<DraftClu
 
 pub(crate) fn semaphores_of(alloc: Global, items: &[Value]) -> Result<Vec<Sem>, SetStop>
     requires { length items.now < 2 ^ 32 }
-    ensures { Gives (λ v. v.items) result (elements_from parts.Sem 0 (map (λ x. document.semaphore_form x) (map view items.now))) }
+    ensures { Gives (λ v. v.items) result (elements_from parts.Sem 0 (map
+        (λ x. document.semaphore_form x) (map view items.now))) }
 {
     let mut found = Vec::new(alloc);
     for (i, item) in items.iter().enumerate() {
@@ -60,7 +64,8 @@ pub(crate) fn semaphores_of(alloc: Global, items: &[Value]) -> Result<Vec<Sem>, 
 
 pub(crate) fn reservations_of(alloc: Global, items: &[Value]) -> Result<Vec<DraftResv>, SetStop>
     requires { length items.now < 2 ^ 32 }
-    ensures { Gives (λ v. v.items) result (elements_from parts.Resv 0 (map (λ x. document.reservation_form x) (map view items.now))) }
+    ensures { Gives (λ v. v.items) result (elements_from parts.Resv 0 (map
+        (λ x. document.reservation_form x) (map view items.now))) }
 {
     let mut found = Vec::new(alloc);
     for (i, item) in items.iter().enumerate() {
@@ -78,7 +83,8 @@ pub(crate) fn steps_of(
     items: &[Value],
 ) -> Result<Vec<DraftStep>, SetStop>
     requires { length items.now < 2 ^ 32 }
-    ensures { Gives (λ v. v.items) result (elements_from parts.Step 0 (map (λ x. document.step_form (names_seen names.now) x) (map view items.now))) }
+    ensures { Gives (λ v. v.items) result (elements_from parts.Step 0 (map (λ x. document.step_form
+        (names_seen names.now) x) (map view items.now))) }
 {
     let mut found = Vec::new(alloc);
     for (i, item) in items.iter().enumerate() {
@@ -103,7 +109,9 @@ fn shaped_task_of(
     number: u32,
     v: &Value,
 ) -> Result<Option<DraftTask>, AllocError>
-    ensures { IfOk result (λ r. r ≡ document.shaped has_horizon (document.task_form (names_seen names.now) number (view v.now))) }
+    ensures { IfOk result (λ r. r
+        ≡ document.shaped has_horizon (document.task_form
+        (names_seen names.now) number (view v.now))) }
 {
     let Some(task) = task_of(alloc, names, number, v)? else {
         return Ok(None);
@@ -121,7 +129,8 @@ pub(crate) fn tasks_of(
     items: &[Value],
 ) -> Result<Vec<DraftTask>, SetStop>
     requires { length items.now + 1 < 2 ^ 32 }
-    ensures { Gives (λ v. v.items) result (elements_from parts.Task 0 (document.tasks_from (names_seen names.now) has_horizon 1 (map view items.now))) }
+    ensures { Gives (λ v. v.items) result (elements_from parts.Task 0 (document.tasks_from
+        (names_seen names.now) has_horizon 1 (map view items.now))) }
 {
     let mut found = Vec::new(alloc);
     for (i, item) in items.iter().enumerate() {

@@ -63,7 +63,9 @@ pub(crate) fn is_among(words: &[&str], word: &str) -> bool
 }
 
 fn keys_among(members: &Map<String, Value>, words: &[&str]) -> bool
-    ensures { result ≡ list_all (λ k. forms.is_among (map (λ w. w.now) words.now) (string_bytes k)) (keys members.now) }
+    ensures { result
+        ≡ list_all (λ k. forms.is_among (map
+        (λ w. w.now) words.now) (string_bytes k)) (keys members.now) }
 {
     members.keys().all(|k| is_among(words, k.as_str()))
 }

@@ -59,7 +59,9 @@ fn numbers_of<'a>(
     names: &[&'a str],
 ) -> Result<IndexMap<&'a str, u32>, AllocFailed<(&'a str, u32)>>
     requires { length names.now + 1 < 2 ^ 32 }
-    ensures { IfOk result (λ m. (w : List ℕ) → unwrap_or (get_by (λ k. bytes_eq w k.now) m) 0 ≡ document.position_from 1 (map (λ k. k.now) names.now) w) }
+    ensures { IfOk result (λ m. (w : List ℕ)
+        → unwrap_or (get_by (λ k. bytes_eq w k.now) m) 0
+        ≡ document.position_from 1 (map (λ k. k.now) names.now) w) }
 {
     let mut index: IndexMap<&'a str, u32> = IndexMap::new(alloc);
     for (i, name) in names.iter().enumerate() {

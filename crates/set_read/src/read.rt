@@ -33,7 +33,8 @@ fn name_in(v: &Value) -> &str
 
 fn names_in(alloc: Global, items: &[Value]) -> Result<Vec<&str>, AllocError>
     ensures count { IfOk result (λ v. vec_len v ≡ length items.now) }
-    ensures names { IfOk result (λ v. map (λ w. w.now) v.items ≡ map document.name_in (map view items.now)) }
+    ensures names { IfOk result (λ v. map (λ w. w.now) v.items
+        ≡ map document.name_in (map view items.now)) }
 {
     let mut names = Vec::new(alloc);
     for item in items {

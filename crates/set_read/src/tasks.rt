@@ -7,7 +7,7 @@ ghost use Rattle.set_read.specs.Names.{names_seen};
 
 use crate::acts::{NameLists, op_with};
 use crate::forms::{has_only, natural_at, natural_or, protocol_in, text_at, truth_or};
-use rt_base::{ResvNo, SemNo, TaskNo};
+use rt_base::{MOST_PRIO, ResvNo, SemNo, TaskNo};
 use rt_task::{DraftResv, DraftTask, Kind, Name, Op, Piece, Pieces, ResvKind, Sem, SemNos};
 use serde_json::Value;
 use std::alloc::{AllocError, Global};
@@ -74,7 +74,7 @@ pub(crate) fn reservation_of(alloc: Global, v: &Value) -> Result<Option<DraftRes
     let Some(period) = natural_at(v, "period") else {
         return Ok(None);
     };
-    let Some(prio) = natural_or(v, 511, "prio") else {
+    let Some(prio) = natural_or(v, u64::from(MOST_PRIO), "prio") else {
         return Ok(None);
     };
     let name = named(alloc, name)?;
@@ -93,7 +93,8 @@ fn uses_in(
     names: &NameLists,
     items: &[Value],
 ) -> Result<Option<Vec<SemNo>>, AllocError>
-    ensures { IfOk result (λ r. option_map (λ v. v.items) r ≡ forms.every (document.sem_form (names_seen names.now)) (map view items.now)) }
+    ensures { IfOk result (λ r. option_map (λ v. v.items) r
+        ≡ forms.every (document.sem_form (names_seen names.now)) (map view items.now)) }
 {
     let mut found = Vec::new(alloc);
     for item in items {
@@ -107,7 +108,9 @@ fn uses_in(
 
 #[tactic(auto, using(crate::proofs::FormLaws::listed_items))]
 fn uses_of(alloc: Global, names: &NameLists, v: &Value) -> Result<Option<SemNos>, AllocError>
-    ensures { IfOk result (λ r. r ≡ forms.optional (forms.list_of (document.sem_form (names_seen names.now))) [] (codes "uses") (view v.now)) }
+    ensures { IfOk result (λ r. r
+        ≡ forms.optional (forms.list_of (document.sem_form
+        (names_seen names.now))) [] (codes "uses") (view v.now)) }
 {
     let Some(member) = v.get("uses") else {
         return Ok(Some(SemNos::from_vec(Vec::new(alloc))));
@@ -173,7 +176,8 @@ fn pieces_in(
     names: &NameLists,
     items: &[Value],
 ) -> Result<Option<Vec<Piece>>, AllocError>
-    ensures { IfOk result (λ r. option_map (λ v. v.items) r ≡ forms.every (document.piece_form (names_seen names.now)) (map view items.now)) }
+    ensures { IfOk result (λ r. option_map (λ v. v.items) r
+        ≡ forms.every (document.piece_form (names_seen names.now)) (map view items.now)) }
 {
     let mut found = Vec::new(alloc);
     for item in items {
@@ -187,7 +191,9 @@ fn pieces_in(
 
 #[tactic(auto, using(crate::proofs::FormLaws::listed_items))]
 fn body_of(alloc: Global, names: &NameLists, v: &Value) -> Result<Option<Pieces>, AllocError>
-    ensures { IfOk result (λ r. r ≡ forms.optional (forms.list_of (document.piece_form (names_seen names.now))) [] (codes "body") (view v.now)) }
+    ensures { IfOk result (λ r. r
+        ≡ forms.optional (forms.list_of (document.piece_form
+        (names_seen names.now))) [] (codes "body") (view v.now)) }
 {
     let Some(member) = v.get("body") else {
         return Ok(Some(Pieces::from_vec(Vec::new(alloc))));
@@ -214,7 +220,9 @@ fn resv_or_null(names: &NameLists, v: &Value) -> Option<Option<ResvNo>>
 }
 
 fn resv_of(names: &NameLists, v: &Value) -> Option<Option<ResvNo>>
-    ensures { result ≡ forms.optional (forms.or_null (document.resv_form (names_seen names.now))) None (codes "resv") (view v.now) }
+    ensures { result
+        ≡ forms.optional (forms.or_null (document.resv_form
+        (names_seen names.now))) None (codes "resv") (view v.now) }
 {
     match v.get("resv") {
         None => Some(None),
@@ -233,7 +241,9 @@ fn kind_in(word: &str) -> Option<Kind>
 }
 
 fn kind_of(v: &Value) -> Option<Kind>
-    ensures { result ≡ forms.optional (forms.one_of document.release_kinds) Kind.Periodic (codes "kind") (view v.now) }
+    ensures { result
+        ≡ forms.optional
+        (forms.one_of document.release_kinds) Kind.Periodic (codes "kind") (view v.now) }
 {
     match v.get("kind") {
         None => Some(Kind::Periodic),
@@ -283,7 +293,7 @@ pub(crate) fn task_of(
     let Some(kind) = kind_of(v) else {
         return Ok(None);
     };
-    let Some(prio) = natural_or(v, 511, "prio") else {
+    let Some(prio) = natural_or(v, u64::from(MOST_PRIO), "prio") else {
         return Ok(None);
     };
     let Some(enforce) = truth_or(v, false, "enforce") else {

@@ -54,8 +54,11 @@ link_word x = decimal x.0 ++ 58 ∷ number_word x.1
 
 unfoldable pub line_words : Line → List Word
 line_words (group_line g links) = codes "group" ∷ decimal g ∷ map link_word links
-line_words (entry_line i e links) = decimal i ∷ decimal e.step.tick.0 ∷ decimal e.step.cpu.0 ∷ (act_words e.step.act ++ (reply_words e.reply ++ map link_word links))
-line_words (block_line i t s ends all bound) = codes "block" ∷ decimal i ∷ decimal t ∷ decimal s ∷ decimal ends ∷ decimal all ∷ number_word bound ∷ []
+line_words (entry_line i e links) =
+    decimal i ∷ decimal e.step.tick.0 ∷ decimal e.step.cpu.0
+    ∷ (act_words e.step.act ++ (reply_words e.reply ++ map link_word links))
+line_words (block_line i t s ends all bound) =
+    codes "block" ∷ decimal i ∷ decimal t ∷ decimal s ∷ decimal ends ∷ decimal all ∷ number_word bound ∷ []
 line_words end_line = codes "end" ∷ []
 line_words (count_line name totals) = codes "count" ∷ (name ∷ []) ∷ map decimal totals
 

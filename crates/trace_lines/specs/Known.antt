@@ -1,5 +1,6 @@
 -- Which lines a trace of a set may have: their numbers fit the types of their fields, and their tasks and semaphores are the set's.
 use Rattle.std.specs.Prelude.{ℕ, ◌^◌, ◌<◌, ◌≤◌, ◌⊎◌, List, length, All, Option, None, Some}
+use Rattle.rt_base.specs.declared.TheConstants.{MOST_TOTALS}
 use Rattle.rt_task.specs.declared.Op.{Op}
 use Rattle.rt_task.specs.declared.Op.TheVariants as ops
 use Rattle.rt_task.specs.declared.Act.{Act}
@@ -81,4 +82,4 @@ IsLine k (group_line g links) = Is32 g × (1 ≤ length links) × All (LinkIsKno
 IsLine k (entry_line i e links) = IsEntryLine k i e.step.tick.0 e.step.cpu.0 e.step.act e.reply links
 IsLine k (block_line i t s ends all bound) = IsBlockLine k i t s ends all bound
 IsLine k end_line = Unit {0}
-IsLine k (count_line name totals) = IsLetter name × (length totals ≤ 64) × All Is64 totals
+IsLine k (count_line name totals) = IsLetter name × (length totals ≤ MOST_TOTALS) × All Is64 totals

@@ -19,7 +19,8 @@ pub data Line : Type 0 where
   group_line : ℕ → List Link → Line
   -- an entry's number in its group, the entry, and the links that it changed
   entry_line : ℕ → Entry → List Link → Line
-  -- a request by its entry's number, its task and semaphore, the critical sections that ended while its task was blocked, all that ended while it waited, and the bound on the former
+  -- a request by its entry's number, its task and semaphore, the critical sections that ended while its task was blocked,
+  -- all that ended while it waited, and the bound on the former
   block_line : ℕ → ℕ → ℕ → ℕ → ℕ → Option ℕ → Line
   -- the end of the groups
   end_line : Line

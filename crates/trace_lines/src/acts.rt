@@ -10,7 +10,8 @@ use std::alloc::AllocError;
 /// A word and a number, each after a space.
 #[tactic(auto, using(std::proofs::Common::append_assoc))]
 pub fn put_word_and_number(out: &mut Vec<u8>, word: &[u8], n: u64) -> Result<(), AllocError>
-    ensures { OnOk result (out.new.items ≡ out.old.items ++ further 32 (word.now ∷ decimal n ∷ [])) }
+    ensures { OnOk result (out.new.items
+        ≡ out.old.items ++ further 32 (word.now ∷ decimal n ∷ [])) }
 {
     put_next_word(out, word)?;
     put_next_number(out, n)

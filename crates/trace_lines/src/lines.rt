@@ -16,7 +16,8 @@ use std::alloc::AllocError;
 
 #[tactic(auto, using(crate::proofs::LineTexts::group_text, std::proofs::Common::append_assoc))]
 fn append_group_line(out: &mut Vec<u8>, group: GroupNo, links: &[CpuLink]) -> Result<(), AllocError>
-    ensures { OnOk result (out.new.items ≡ out.old.items ++ line_text (group_line group.0 (links_of links.now))) }
+    ensures { OnOk result (out.new.items
+        ≡ out.old.items ++ line_text (group_line group.0 (links_of links.now))) }
 {
     put(out, b"group")?;
     put_next_number(out, u64::from(group.0))?;
@@ -32,7 +33,8 @@ fn append_entry_line(
     entry: &Entry,
     links: &[CpuLink],
 ) -> Result<(), AllocError>
-    ensures { OnOk result (out.new.items ≡ out.old.items ++ line_text (entry_line number entry.now (links_of links.now))) }
+    ensures { OnOk result (out.new.items
+        ≡ out.old.items ++ line_text (entry_line number entry.now (links_of links.now))) }
 {
     put_number(out, u64::from(number))?;
     put_next_number(out, entry.step.tick.0)?;
@@ -54,7 +56,8 @@ fn append_block_line(
     ends_all: u32,
     bound: Option<u32>,
 ) -> Result<(), AllocError>
-    ensures { OnOk result (out.new.items ≡ out.old.items ++ line_text (block_line number task.0 sem.0 ends ends_all bound)) }
+    ensures { OnOk result (out.new.items
+        ≡ out.old.items ++ line_text (block_line number task.0 sem.0 ends ends_all bound)) }
 {
     put(out, b"block")?;
     put_next_number(out, u64::from(number))?;
@@ -69,7 +72,8 @@ fn append_block_line(
 
 #[tactic(auto, using(crate::proofs::LineTexts::count_text, std::proofs::Common::append_assoc))]
 fn append_count_line(out: &mut Vec<u8>, name: u8, totals: &[u64]) -> Result<(), AllocError>
-    ensures { OnOk result (out.new.items ≡ out.old.items ++ line_text (count_line name totals.now)) }
+    ensures { OnOk result (out.new.items
+        ≡ out.old.items ++ line_text (count_line name totals.now)) }
 {
     put(out, b"count")?;
     put_next_word(out, &[name])?;
@@ -80,7 +84,8 @@ fn append_count_line(out: &mut Vec<u8>, name: u8, totals: &[u64]) -> Result<(), 
 
 /// The line of a group: `group <group> <cpu>:<link> ..`, with the links of its processors at opening.
 pub fn put_group_line(out: &mut Vec<u8>, group: GroupNo, links: &[CpuLink]) -> Result<(), NoMemory>
-    ensures { OnOk result (out.new.items ≡ out.old.items ++ line_text (group_line group.0 (links_of links.now))) }
+    ensures { OnOk result (out.new.items
+        ≡ out.old.items ++ line_text (group_line group.0 (links_of links.now))) }
 {
     match append_group_line(out, group, links) {
         Ok(()) => Ok(()),
@@ -96,7 +101,8 @@ pub fn put_entry_line(
     entry: &Entry,
     links: &[CpuLink],
 ) -> Result<(), NoMemory>
-    ensures { OnOk result (out.new.items ≡ out.old.items ++ line_text (entry_line number entry.now (links_of links.now))) }
+    ensures { OnOk result (out.new.items
+        ≡ out.old.items ++ line_text (entry_line number entry.now (links_of links.now))) }
 {
     match append_entry_line(out, number, entry, links) {
         Ok(()) => Ok(()),
@@ -115,7 +121,8 @@ pub fn put_block_line(
     ends_all: u32,
     bound: Option<u32>,
 ) -> Result<(), NoMemory>
-    ensures { OnOk result (out.new.items ≡ out.old.items ++ line_text (block_line number task.0 sem.0 ends ends_all bound)) }
+    ensures { OnOk result (out.new.items
+        ≡ out.old.items ++ line_text (block_line number task.0 sem.0 ends ends_all bound)) }
 {
     match append_block_line(out, number, task, sem, ends, ends_all, bound) {
         Ok(()) => Ok(()),
@@ -125,7 +132,8 @@ pub fn put_block_line(
 
 /// The line of what a tool counted: `count <letter> <total> ..`.
 pub fn put_count_line(out: &mut Vec<u8>, name: u8, totals: &[u64]) -> Result<(), NoMemory>
-    ensures { OnOk result (out.new.items ≡ out.old.items ++ line_text (count_line name totals.now)) }
+    ensures { OnOk result (out.new.items
+        ≡ out.old.items ++ line_text (count_line name totals.now)) }
 {
     match append_count_line(out, name, totals) {
         Ok(()) => Ok(()),

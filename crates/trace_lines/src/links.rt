@@ -38,7 +38,8 @@ fn put_link(out: &mut Vec<u8>, link: CpuLink) -> Result<(), AllocError>
 /// The links, each after a space.
 #[tactic(auto, using(std::proofs::Common::append_assoc))]
 pub fn put_links(out: &mut Vec<u8>, links: &[CpuLink]) -> Result<(), AllocError>
-    ensures { OnOk result (out.new.items ≡ out.old.items ++ further 32 (map link_word (links_of links.now))) }
+    ensures { OnOk result (out.new.items
+        ≡ out.old.items ++ further 32 (map link_word (links_of links.now))) }
 {
     for link in links {
         put_link(out, *link)?;

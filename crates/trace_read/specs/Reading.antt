@@ -1,4 +1,5 @@
--- What the reader makes of the text of a line before it is checked. What is promised of a trace cites none of this: the laws say that each line of the grammar is given back.
+-- What the reader makes of the text of a line before it is checked. What is promised of a trace
+-- cites none of this: the laws say that each line of the grammar is given back.
 use Rattle.std.specs.Prelude.{ℕ, ◌+◌, ◌-◌, ◌*◌, ◌^◌, ◌==◌, nat_lt, List, [], ◌∷◌, Option, None, Some, option_map, if◌then◌else◌, bytes_eq, codes}
 use Rattle.std.specs.Char.{is_ascii_digit}
 use Rattle.rt_task.specs.declared.Op.TheVariants as ops
@@ -70,7 +71,9 @@ small_at text = option_map (λ n. (n, (cut 32 text).1)) (small_in (cut 32 text).
 -- ---- acts and replies
 
 abbrev pub bare_acts : List (Word × Act)
-bare_acts = (codes "tick", acts.Tick) ∷ (codes "irq", acts.Irq) ∷ (codes "work", acts.Do ops.Work) ∷ (codes "npon", acts.Do ops.NpOn) ∷ (codes "npoff", acts.Do ops.NpOff) ∷ (codes "end", acts.Do ops.End) ∷ []
+bare_acts =
+    (codes "tick", acts.Tick) ∷ (codes "irq", acts.Irq) ∷ (codes "work", acts.Do ops.Work)
+    ∷ (codes "npon", acts.Do ops.NpOn) ∷ (codes "npoff", acts.Do ops.NpOff) ∷ (codes "end", acts.Do ops.End) ∷ []
 
 abbrev pub small_act : Word → ℕ → Option Act
 small_act w n =
@@ -89,9 +92,13 @@ abbrev pub act_at : List ℕ → Read Act
 act_at text = act_after (cut 32 text).0 (word_in bare_acts (cut 32 text).0) (cut 32 text).1
 
 abbrev pub bare_replies : List (Word × Reply)
-bare_replies = (codes "done", replies.Done) ∷ (codes "idles", replies.Idles) ∷ (codes "granted", replies.Granted) ∷ (codes "queued", replies.Queued) ∷ (codes "quiet", replies.Quiet)
-    ∷ (codes "deferred", replies.Deferred) ∷ (codes "idle", replies.Idle) ∷ (codes "spent", replies.Spent) ∷ (codes "nobudget", replies.NoBudget) ∷ (codes "notdeclared", replies.NotDeclared)
-    ∷ (codes "nested", replies.Nested) ∷ (codes "notheld", replies.NotHeld) ∷ (codes "notlast", replies.NotLast) ∷ (codes "holding", replies.Holding) ∷ (codes "innp", replies.InNp)
+bare_replies =
+    (codes "done", replies.Done) ∷ (codes "idles", replies.Idles) ∷ (codes "granted", replies.Granted)
+    ∷ (codes "queued", replies.Queued) ∷ (codes "quiet", replies.Quiet)
+    ∷ (codes "deferred", replies.Deferred) ∷ (codes "idle", replies.Idle) ∷ (codes "spent", replies.Spent)
+    ∷ (codes "nobudget", replies.NoBudget) ∷ (codes "notdeclared", replies.NotDeclared)
+    ∷ (codes "nested", replies.Nested) ∷ (codes "notheld", replies.NotHeld) ∷ (codes "notlast", replies.NotLast)
+    ∷ (codes "holding", replies.Holding) ∷ (codes "innp", replies.InNp)
     ∷ (codes "notinnp", replies.NotInNp) ∷ (codes "tooearly", replies.TooEarly) ∷ (codes "notsporadic", replies.NotSporadic) ∷ []
 
 abbrev pub reply_with : Word → ℕ → Option Reply

@@ -1,12 +1,13 @@
 //! Which lines a trace of a set may have.
 ghost use Rattle.std.specs.Prelude.{◌≡◌, ◌↔◌, ◌≤◌, All, IsTrue, length};
+ghost use Rattle.rt_base.specs.declared.TheConstants.{MOST_TOTALS};
 ghost use Rattle.trace_lines.specs.Known as known;
 ghost use Rattle.trace_lines.specs.Lines.{link_of, links_of, group_line};
 ghost use Rattle.trace_read.specs.Lines.{line_of};
 ghost use Rattle.trace_read.specs.Seen.{known_seen};
 
 use crate::Line;
-use rt_base::{GroupNo, SemNo, TaskNo};
+use rt_base::{GroupNo, MOST_TOTALS, SemNo, TaskNo};
 use rt_history::{Entry, Reply};
 use rt_task::{Act, Op, Parts};
 use trace_lines::CpuLink;
@@ -91,19 +92,22 @@ fn is_letter(c: u8) -> bool
 }
 
 fn totals_fit(totals: &[u64]) -> bool
-    ensures { IsTrue result ↔ ((length totals.now ≤ 64) × All known.Is64 totals.now) }
+    ensures { IsTrue result ↔ ((length totals.now ≤ MOST_TOTALS) × All known.Is64 totals.now) }
 {
-    totals.len() <= 64
+    totals.len() <= MOST_TOTALS as usize
 }
 
 fn group_fits(k: &Known, group: GroupNo, links: &[CpuLink]) -> bool
-    ensures { IsTrue result ↔ known.IsLine (known_seen k.now) (group_line group.0 (links_of links.now)) }
+    ensures { IsTrue result
+        ↔ known.IsLine (known_seen k.now) (group_line group.0 (links_of links.now)) }
 {
     links.len() >= 1 && links_fit(k, links)
 }
 
 fn entry_fits(k: &Known, no: u32, entry: Entry, links: &[CpuLink]) -> bool
-    ensures { IsTrue result ↔ known.IsEntryLine (known_seen k.now) no entry.step.tick.0 entry.step.cpu.0 entry.step.act entry.reply (links_of links.now) }
+    ensures { IsTrue result ↔ known.IsEntryLine
+        (known_seen k.now) no entry.step.tick.0 entry.step.cpu.0 entry.step.act entry.reply
+        (links_of links.now) }
 {
     act_fits(k, entry.step.act) && reply_fits(k, entry.reply) && links_fit(k, links)
 }
@@ -117,7 +121,8 @@ fn block_fits(
     ends_all: u32,
     bound: Option<u32>,
 ) -> bool
-    ensures { IsTrue result ↔ known.IsBlockLine (known_seen k.now) no task.0 sem.0 ends ends_all bound }
+    ensures { IsTrue result
+        ↔ known.IsBlockLine (known_seen k.now) no task.0 sem.0 ends ends_all bound }
 {
     is_number_of(k.tasks, task.0) && is_number_of(k.sems, sem.0)
 }

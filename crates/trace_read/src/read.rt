@@ -38,7 +38,8 @@ fn put_line(out: &mut Vec<u8>, line: &Line) -> Result<(), NoMemory>
 
 /// What stands before the first line feed, and what stands after it.
 fn split_line(bytes: &[u8]) -> Option<(&[u8], &[u8])>
-    ensures { MatchOption result (All (λ (c : ℕ). c ≢ 10) bytes.now) (λ x. IsSplitAtFeed bytes.now x.0.now x.1.now) }
+    ensures { MatchOption result (All (λ
+        (c : ℕ). c ≢ 10) bytes.now) (λ x. IsSplitAtFeed bytes.now x.0.now x.1.now) }
 {
     for (i, c) in bytes.iter().enumerate() {
         if *c == b'\n' {
@@ -50,7 +51,8 @@ fn split_line(bytes: &[u8]) -> Option<(&[u8], &[u8])>
 
 /// What stands after these first bytes.
 fn after<'a>(first: &[u8], bytes: &'a [u8]) -> Option<&'a [u8]>
-    ensures { MatchOption result ((rest : List ℕ) → bytes.now ≢ first.now ++ rest) (λ x. bytes.now ≡ first.now ++ x.now) }
+    ensures { MatchOption result ((rest : List ℕ)
+        → bytes.now ≢ first.now ++ rest) (λ x. bytes.now ≡ first.now ++ x.now) }
 {
     bytes.strip_prefix(first)
 }
@@ -73,7 +75,9 @@ fn read_line<'a>(
     bytes: &'a [u8],
     text: &mut Vec<u8>,
 ) -> Result<Option<(Line, &'a [u8])>, TraceFault>
-    ensures line { IfOk result (λ o. MatchOption o (BeginsNoLine (known_seen k.now) bytes.now) (λ x. BeginsLine (known_seen k.now) bytes.now (line_of x.0) x.1.now)) }
+    ensures line { IfOk result (λ o. MatchOption o (BeginsNoLine
+        (known_seen k.now) bytes.now) (λ x. BeginsLine
+        (known_seen k.now) bytes.now (line_of x.0) x.1.now)) }
     ensures memory { IfErr result (λ e. e ≡ faults.NoMemory) }
 {
     let Some((front, _)) = split_line(bytes) else {
@@ -99,7 +103,8 @@ fn read_lines<'a>(
     k: &Known,
     bytes: &'a [u8],
 ) -> Result<(LineList, &'a [u8]), TraceFault>
-    ensures lines { IfOk result (λ x. AreLines (known_seen k.now) bytes.now (lines_of x.0) x.1.now) }
+    ensures lines { IfOk result (λ x. AreLines
+        (known_seen k.now) bytes.now (lines_of x.0) x.1.now) }
     ensures memory { IfErr result (λ e. e ≡ faults.NoMemory) }
 {
     let mut lines = Vec::new(alloc);
@@ -116,7 +121,8 @@ fn read_lines<'a>(
 
 /// The bytes of the set, and what stands after its line.
 fn read_head(bytes: &[u8]) -> Result<(&[u8], &[u8]), TraceFault>
-    ensures { MatchResult result (λ x. HasHead bytes.now x.0.now x.1.now) (λ e. IsRefused bytes.now e) }
+    ensures { MatchResult result
+        (λ x. HasHead bytes.now x.0.now x.1.now) (λ e. IsRefused bytes.now e) }
 {
     let Some(second) = after(b"rtsched trace 1\n", bytes) else {
         return Err(TraceFault::NotTrace(1));

@@ -2,20 +2,20 @@
 ghost use Rattle.std.specs.Prelude.{◌≡◌, ◌≢◌, true, ◌&&◌, ◌||◌, false, ◌==◌, not, ℕ, List, Some, None, [], map, position, IfOk, if◌then◌else◌};
 ghost use Rattle.std.specs.List.{list_any};
 ghost use Rattle.rt_base.specs.declared.SemNo.{SemNo};
-ghost use Rattle.rt_task.specs.Bodies.{Holding, without, is_newest, nests, after_op, goes_on};
+ghost use Rattle.rt_task.specs.Bodies.{at_release, Holding, without, is_newest, nests, after_op, goes_on};
 ghost use Rattle.rt_task.specs.Lookups.{is_pcp_sem};
 ghost use Rattle.rt_task.specs.NamesSeen.{has_number};
 ghost use Rattle.rt_task.specs.RuleWords as words;
 
 use super::seen::add_number;
 use crate::{Draft, Op, Piece, Protocol, SemNos};
-use rt_base::SemNo;
+use rt_base::{MOST_HELD, SemNo};
 use std::alloc::{AllocError, Global};
 use std::collections::HashSet;
 use std::marker::Model;
 
 /// What a job holds while its body is gone through: numbers of semaphores, the newest first, which
-/// are never more than eight, and whether it is non-preemptive.
+/// are never more than `MOST_HELD`, and whether it is non-preemptive.
 #[derive(Drop)]
 struct Held {
     sems: Vec<u32>,
@@ -53,12 +53,17 @@ fn is_nested(d: &Draft, s: u32, held: &[u32]) -> bool
     if held.is_empty() {
         return false;
     }
-    !is_pcp(d, s) || has_other_than_pcp(d, held) || held.contains(&s) || held.len() >= 8
+    !is_pcp(d, s)
+        || has_other_than_pcp(d, held)
+        || held.contains(&s)
+        || held.len() >= MOST_HELD as usize
 }
 
 #[tactic(auto, unfolding(crate::specs::Bodies::after_op))]
 fn lock(d: &Draft, declared: &HashSet<u32>, h: &mut Held, s: SemNo) -> Result<bool, AllocError>
-    ensures { IfOk result (λ b. (ns : List ℕ) → ((n : ℕ) → has_number declared.now n ≡ words.has n ns) → after_op ns (is_pcp_sem d.now) (Op.Lock s) h.old ≡ (if b then Some h.new else None)) }
+    ensures { IfOk result (λ b. (ns : List ℕ)
+        → ((n : ℕ) → has_number declared.now n ≡ words.has n ns)
+        → after_op ns (is_pcp_sem d.now) (Op.Lock s) h.old ≡ (if b then Some h.new else None)) }
 {
     if h.np || !declared.contains(&s.0) || is_nested(d, s.0, h.sems.as_slice()) {
         return Ok(false);
@@ -93,7 +98,9 @@ fn let_go(held: &mut Vec<u32>, s: u32)
 
 #[tactic(auto, unfolding(crate::specs::Bodies::after_op))]
 fn unlock(d: &Draft, h: &mut Held, s: SemNo) -> bool
-    ensures { (ns : List ℕ) → after_op ns (is_pcp_sem d.now) (Op.Unlock s) h.old ≡ (if result then Some h.new else None) }
+    ensures { (ns : List ℕ)
+        → after_op ns (is_pcp_sem d.now) (Op.Unlock s) h.old ≡ (if result then Some h.new
+        else None) }
 {
     let held = h.sems.as_slice();
     if !held.contains(&s.0) || (is_pcp(d, s.0) && !is_newest_held(s.0, held)) {
@@ -112,7 +119,9 @@ fn is_free(h: &Held) -> bool
 /// Goes on by one operation, each lock granted, and says whether it is not refused.
 #[tactic(auto, unfolding(crate::specs::Bodies::after_op))]
 fn goes_on_by(d: &Draft, declared: &HashSet<u32>, h: &mut Held, op: Op) -> Result<bool, AllocError>
-    ensures { IfOk result (λ b. (ns : List ℕ) → ((n : ℕ) → has_number declared.now n ≡ words.has n ns) → after_op ns (is_pcp_sem d.now) op h.old ≡ (if b then Some h.new else None)) }
+    ensures { IfOk result (λ b. (ns : List ℕ)
+        → ((n : ℕ) → has_number declared.now n ≡ words.has n ns)
+        → after_op ns (is_pcp_sem d.now) op h.old ≡ (if b then Some h.new else None)) }
 {
     match op {
         Op::Work => Ok(true),
@@ -141,7 +150,8 @@ fn is_end(op: Op) -> bool
 
 /// The numbers of semaphores.
 fn numbers_of(alloc: Global, uses: &[SemNo]) -> Result<HashSet<u32>, AllocError>
-    ensures { IfOk result (λ r. (n : ℕ) → has_number r n ≡ words.has n (map (λ (s : SemNo). s.0) uses.now)) }
+    ensures { IfOk result (λ r. (n : ℕ)
+        → has_number r n ≡ words.has n (map (λ (s : SemNo). s.0) uses.now)) }
 {
     let mut numbers = HashSet::new(alloc);
     for s in uses {
@@ -157,7 +167,8 @@ pub(super) fn is_well_formed(
     uses: &[SemNo],
     pieces: &[Piece],
 ) -> Result<bool, AllocError>
-    ensures { IfOk result (λ b. b ≡ goes_on (map (λ (s : SemNo). s.0) uses.now) (is_pcp_sem d.now) pieces.now (Some (record { held = []; np = false }))) }
+    ensures { let declared = map (λ (s : SemNo). s.0) uses.now in
+        IfOk result (λ b. b ≡ goes_on declared (is_pcp_sem d.now) pieces.now (Some at_release)) }
 {
     let declared = numbers_of(alloc, uses)?;
     let mut h = Held {

@@ -21,7 +21,7 @@ use super::stop;
 use crate::{
     Act, Draft, DraftDrive, DraftResv, DraftStep, DraftTask, Op, Part, Piece, Sem, SetKind, SetStop,
 };
-use rt_base::{ResvNo, SemNo};
+use rt_base::{MOST_NAME_BYTES, ResvNo, SemNo};
 use std::alloc::{AllocError, Global};
 use std::collections::HashSet;
 
@@ -40,7 +40,7 @@ fn are_name_bytes(name: &[u8]) -> bool
 fn is_name(name: &[u8]) -> bool
     ensures { result ≡ words.is_name name.now }
 {
-    name.len() >= 1 && name.len() <= 32 && are_name_bytes(name)
+    name.len() >= 1 && name.len() <= MOST_NAME_BYTES as usize && are_name_bytes(name)
 }
 
 fn is_known(count: usize, n: u32) -> bool
@@ -112,7 +112,8 @@ fn step_name(d: &Draft, s: DraftStep) -> bool
 }
 
 fn steps_named(d: &Draft) -> Result<(), SetStop>
-    ensures { Keeps result (each kinds.Name parts.Step (rules.step_name d.now) (steps_of d.now.drive)) }
+    ensures { Keeps result (each kinds.Name parts.Step
+        (rules.step_name d.now) (steps_of d.now.drive)) }
 {
     let DraftDrive::Steps(steps) = &d.drive else {
         return Ok(());
@@ -127,7 +128,9 @@ fn steps_named(d: &Draft) -> Result<(), SetStop>
 
 #[tactic(auto, unfolding(crate::specs::NameRules::sem_name))]
 fn sem_name(is_new: bool, s: &Sem) -> bool
-    ensures { (d : Draft) (earlier : List Sem) → is_new ≡ not (list_any (λ (x : Sem). bytes_eq x.name s.now.name) earlier) → result ≡ rules.sem_name d earlier s.now }
+    ensures { (d : Draft) (earlier : List Sem)
+        → is_new ≡ not (list_any (λ (x : Sem). bytes_eq x.name s.now.name) earlier)
+        → result ≡ rules.sem_name d earlier s.now }
 {
     is_name(s.name.as_slice()) && is_new
 }
@@ -148,7 +151,9 @@ fn sems_named(alloc: Global, d: &Draft) -> Result<(), SetStop>
 
 #[tactic(auto, unfolding(crate::specs::NameRules::resv_name))]
 fn resv_name(is_new: bool, r: &DraftResv) -> bool
-    ensures { (d : Draft) (earlier : List DraftResv) → is_new ≡ not (list_any (λ (x : DraftResv). bytes_eq x.name r.now.name) earlier) → result ≡ rules.resv_name d earlier r.now }
+    ensures { (d : Draft) (earlier : List DraftResv)
+        → is_new ≡ not (list_any (λ (x : DraftResv). bytes_eq x.name r.now.name) earlier)
+        → result ≡ rules.resv_name d earlier r.now }
 {
     is_name(r.name.as_slice()) && is_new
 }
@@ -188,7 +193,9 @@ fn task_name(
     p: &DraftTask,
 ) -> Result<bool, AllocError>
     requires { index + 1 < 2 ^ 64 }
-    ensures { IfOk result (λ r. (earlier : List DraftTask) → index ≡ length earlier → is_new ≡ not (list_any (λ (x : DraftTask). bytes_eq x.name p.now.name) earlier) → r ≡ rules.task_name d.now earlier p.now) }
+    ensures { IfOk result (λ r. (earlier : List DraftTask) → index ≡ length earlier
+        → is_new ≡ not (list_any (λ (x : DraftTask). bytes_eq x.name p.now.name) earlier)
+        → r ≡ rules.task_name d.now earlier p.now) }
 {
     let uses = p.uses.as_slice();
     let no_repeat = are_without_repeat(alloc, uses)?;
@@ -218,7 +225,7 @@ fn tasks_named(alloc: Global, d: &Draft) -> Result<(), SetStop>
 }
 
 /// The rules of the kind Name.
-pub(super) fn are_named(alloc: Global, d: &Draft) -> Result<(), SetStop>
+pub(super) fn check_names(alloc: Global, d: &Draft) -> Result<(), SetStop>
     ensures { Keeps result (first (name_rows d.now)) }
 {
     sems_named(alloc, d)?;

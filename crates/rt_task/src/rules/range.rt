@@ -22,7 +22,7 @@ use crate::{
     Act, Draft, DraftCluster, DraftDrive, DraftResv, DraftStep, DraftTask, Op, Part, Piece,
     PluginKind, SetKind, SetStop,
 };
-use rt_base::TICK_END;
+use rt_base::{MOST_CPUS, MOST_OPERATIONS, MOST_PRIO, TICK_END};
 
 fn is_span(n: u64) -> bool
     ensures { result ≡ words.is_span n }
@@ -33,7 +33,7 @@ fn is_span(n: u64) -> bool
 fn is_prio(n: u64) -> bool
     ensures { result ≡ words.is_prio n }
 {
-    n >= 1 && n <= 511
+    n >= 1 && n <= u64::from(MOST_PRIO)
 }
 
 fn op_in_range(op: Op) -> bool
@@ -49,7 +49,7 @@ fn piece_in_range(piece: Piece) -> bool
     ensures { result ≡ words.piece_in_range piece }
 {
     match piece {
-        Piece::Works(n) => n >= 1 && n <= 1000,
+        Piece::Works(n) => n >= 1 && n <= u64::from(MOST_OPERATIONS),
         Piece::Once(op) => op_in_range(op),
     }
 }
@@ -134,17 +134,20 @@ fn group_follows(is_first: bool, top: u64, group: u64) -> bool
 
 #[tactic(auto, unfolding(crate::specs::RangeRules::cluster_range), using(crate::proofs::RangeLaws::group_follows_top))]
 fn cluster_range(plugin: PluginKind, is_first: bool, top: u64, c: &DraftCluster) -> bool
-    ensures { (d : Draft) (earlier : List DraftCluster) → d.plugin ≡ plugin → is_first ≡ words.is_empty earlier → top ≡ groups_top earlier → result ≡ rules.cluster_range d earlier c.now }
+    ensures { (d : Draft) (earlier : List DraftCluster) → d.plugin ≡ plugin
+        → is_first ≡ words.is_empty earlier → top ≡ groups_top earlier
+        → result ≡ rules.cluster_range d earlier c.now }
 {
     c.cpus >= 1
-        && c.cpus <= 64
+        && c.cpus <= u64::from(MOST_CPUS)
         && (!is_partitioned(plugin) || c.cpus == 1)
         && group_follows(is_first, top, c.group)
 }
 
 #[tactic(auto, using(crate::proofs::RangeLaws::top_laws))]
 fn clusters_in_range(d: &Draft) -> Result<(), SetStop>
-    ensures { Keeps result (each kinds.Range parts.Cluster (rules.cluster_range d.now) d.now.clusters) }
+    ensures { Keeps result (each kinds.Range parts.Cluster
+        (rules.cluster_range d.now) d.now.clusters) }
 {
     let mut top: u64 = 0;
     for (i, c) in d.clusters.as_slice().iter().enumerate() {
@@ -200,13 +203,15 @@ fn act_in_range(act: Act) -> bool
 
 #[tactic(auto, unfolding(crate::specs::RangeRules::step_range))]
 fn step_range(cpus: u64, s: DraftStep) -> bool
-    ensures { (d : Draft) (earlier : List DraftStep) → cpus ≡ lookups.cpus d → result ≡ rules.step_range d earlier s }
+    ensures { (d : Draft) (earlier : List DraftStep) → cpus ≡ lookups.cpus d
+        → result ≡ rules.step_range d earlier s }
 {
     s.cpu < cpus && s.tick < TICK_END && act_in_range(s.act)
 }
 
 fn steps_in_range(d: &Draft) -> Result<(), SetStop>
-    ensures { Keeps result (each kinds.Range parts.Step (rules.step_range d.now) (steps_of d.now.drive)) }
+    ensures { Keeps result (each kinds.Range parts.Step
+        (rules.step_range d.now) (steps_of d.now.drive)) }
 {
     let DraftDrive::Steps(steps) = &d.drive else {
         return Ok(());
@@ -223,7 +228,7 @@ fn steps_in_range(d: &Draft) -> Result<(), SetStop>
 }
 
 /// The rules of the kind Range.
-pub(super) fn is_in_range(d: &Draft) -> Result<(), SetStop>
+pub(super) fn check_ranges(d: &Draft) -> Result<(), SetStop>
     ensures { Keeps result (first (range_rows d.now)) }
 {
     whole_in_range(d)?;

@@ -12,7 +12,8 @@ pub(super) fn add_name<'a>(
     name: &'a Name,
 ) -> Result<bool, AllocError>
     ensures new { IfOk result (λ is_new. is_new ≡ not (has_name names.old name.now)) }
-    ensures added { OnOk result ((w : List ℕ) → has_name names.new w ≡ (bytes_eq name.now w || has_name names.old w)) }
+    ensures added { OnOk result ((w : List ℕ)
+        → has_name names.new w ≡ (bytes_eq name.now w || has_name names.old w)) }
 {
     let is_new = names.insert(name.as_slice())?;
     Ok(is_new)
@@ -21,7 +22,8 @@ pub(super) fn add_name<'a>(
 /// Adds a number, and says whether it was not there before.
 pub(super) fn add_number(numbers: &mut HashSet<u32>, number: u32) -> Result<bool, AllocError>
     ensures new { IfOk result (λ is_new. is_new ≡ not (has_number numbers.old number)) }
-    ensures added { OnOk result ((n : ℕ) → has_number numbers.new n ≡ (number == n || has_number numbers.old n)) }
+    ensures added { OnOk result ((n : ℕ)
+        → has_number numbers.new n ≡ (number == n || has_number numbers.old n)) }
 {
     let is_new = numbers.insert(number)?;
     Ok(is_new)

@@ -28,7 +28,7 @@ fn task_shape(d: &Draft, p: &DraftTask) -> bool
 }
 
 /// The rule on tasks of a set with a horizon.
-pub(super) fn is_shaped(d: &Draft) -> Result<(), SetStop>
+pub(super) fn check_shapes(d: &Draft) -> Result<(), SetStop>
     ensures { Keeps result (each kinds.Shape parts.Task (rules.task_shape d.now) d.now.tasks) }
 {
     let tasks = d.tasks.as_slice();

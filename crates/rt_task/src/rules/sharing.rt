@@ -59,7 +59,9 @@ fn is_of_one_cluster(protocol: Protocol, plugin: PluginKind) -> bool
 
 #[tactic(auto, unfolding(crate::specs::SharingRules::sem_sharing))]
 fn sem_sharing(d: &Draft, spread: Spread, s: &Sem) -> bool
-    ensures { (earlier : List Sem) → spread ≡ spread_of d.now (rules.clusters_sharing d.now (length earlier + 1)) → result ≡ rules.sem_sharing d.now earlier s.now }
+    ensures { (earlier : List Sem)
+        → spread ≡ spread_of d.now (rules.clusters_sharing d.now (length earlier + 1))
+        → result ≡ rules.sem_sharing d.now earlier s.now }
 {
     stands_under(s.protocol, d.plugin)
         && if is_of_one_cluster(s.protocol, d.plugin) {
@@ -84,7 +86,8 @@ fn sems_sharing(alloc: Global, d: &Draft) -> Result<(), SetStop>
 
 #[tactic(auto, unfolding(crate::specs::SharingRules::resv_sharing))]
 fn resv_sharing(d: &Draft) -> bool
-    ensures { (earlier : List DraftResv) (r : DraftResv) → result ≡ rules.resv_sharing d.now earlier r }
+    ensures { (earlier : List DraftResv) (r : DraftResv)
+        → result ≡ rules.resv_sharing d.now earlier r }
 {
     is_p_res(d.plugin)
 }
@@ -120,7 +123,8 @@ fn resv_fits(d: &Draft, cluster: u64, resv: Option<ResvNo>) -> bool
 
 #[tactic(auto, unfolding(crate::specs::SharingRules::task_sharing))]
 fn task_sharing(alloc: Global, d: &Draft, p: &DraftTask) -> Result<bool, AllocError>
-    ensures { IfOk result (λ b. (earlier : List DraftTask) → b ≡ rules.task_sharing d.now earlier p.now) }
+    ensures { IfOk result (λ b. (earlier : List DraftTask)
+        → b ≡ rules.task_sharing d.now earlier p.now) }
 {
     let pieces = p.pieces.as_slice();
     let is_body = pieces.is_empty() || is_well_formed(alloc, d, p.uses.as_slice(), pieces)?;
@@ -170,7 +174,8 @@ fn step_sharing(d: &Draft, ends: &[u64], s: DraftStep) -> bool
 }
 
 fn steps_sharing(alloc: Global, d: &Draft) -> Result<(), SetStop>
-    ensures { Keeps result (each kinds.Sharing parts.Step (rules.step_sharing d.now) (steps_of d.now.drive)) }
+    ensures { Keeps result (each kinds.Sharing parts.Step
+        (rules.step_sharing d.now) (steps_of d.now.drive)) }
 {
     let DraftDrive::Steps(steps) = &d.drive else {
         return Ok(());
@@ -186,7 +191,7 @@ fn steps_sharing(alloc: Global, d: &Draft) -> Result<(), SetStop>
 }
 
 /// The rules of the kind Sharing.
-pub(super) fn is_sharing(alloc: Global, d: &Draft) -> Result<(), SetStop>
+pub(super) fn check_sharing(alloc: Global, d: &Draft) -> Result<(), SetStop>
     ensures { Keeps result (first (sharing_rows d.now)) }
 {
     sems_sharing(alloc, d)?;

@@ -14,15 +14,18 @@ ghost use Rattle.rt_task.specs.Validity.{size_rows};
 use super::range::cpus_of;
 use super::stop;
 use crate::{Draft, DraftDrive, DraftTask, Part, Piece, SetKind, SetStop};
-use rt_base::{MOST_STEPS, MOST_TASKS};
+use rt_base::{
+    MOST_CLUSTERS, MOST_CPUS, MOST_OPERATIONS, MOST_RESVS, MOST_SEMS, MOST_STEPS, MOST_TASKS,
+    MOST_TURN_STEPS,
+};
 
-/// Whether a horizon times so many processors times 18 is within the limit of steps.
+/// Whether a horizon times so many processors, each with all steps of a turn, is within the limit of steps.
 fn product_fits(horizon: u64, cpus: u64) -> bool
-    ensures { result ≡ nat_le (horizon * cpus * 18) MOST_STEPS }
+    ensures { result ≡ nat_le (horizon * cpus * MOST_TURN_STEPS) MOST_STEPS }
 {
     match horizon.checked_mul(cpus) {
         None => false,
-        Some(n) => n <= MOST_STEPS as u64 / 18,
+        Some(n) => n <= u64::from(MOST_STEPS / MOST_TURN_STEPS),
     }
 }
 
@@ -40,11 +43,11 @@ fn whole_size(d: &Draft, cpus: u64) -> bool
     requires { cpus ≡ lookups.cpus d.now }
     ensures { result ≡ rules.whole_size d.now }
 {
-    d.clusters.as_slice().len() <= 64
-        && cpus <= 64
+    d.clusters.as_slice().len() <= MOST_CLUSTERS as usize
+        && cpus <= u64::from(MOST_CPUS)
         && d.tasks.as_slice().len() <= MOST_TASKS as usize
-        && d.sems.as_slice().len() <= 256
-        && d.resvs.as_slice().len() <= 64
+        && d.sems.as_slice().len() <= MOST_SEMS as usize
+        && d.resvs.as_slice().len() <= MOST_RESVS as usize
         && horizon_fits(&d.drive, cpus)
 }
 
@@ -70,9 +73,9 @@ fn piece_len(piece: Piece) -> u64
 }
 
 fn body_fits(pieces: &[Piece]) -> bool
-    ensures { result ≡ nat_le (words.body_len pieces.now) 1000 }
+    ensures { result ≡ nat_le (words.body_len pieces.now) MOST_OPERATIONS }
 {
-    let mut left: u64 = 1000;
+    let mut left = u64::from(MOST_OPERATIONS);
     for piece in pieces {
         let n = piece_len(*piece);
         if n > left {
@@ -103,7 +106,7 @@ fn tasks_of_size(d: &Draft) -> Result<(), SetStop>
 }
 
 /// The rules of the kind Size.
-pub(super) fn is_of_size(d: &Draft) -> Result<(), SetStop>
+pub(super) fn check_sizes(d: &Draft) -> Result<(), SetStop>
     ensures { Keeps result (first (size_rows d.now)) }
 {
     whole_of_size(d)?;

@@ -48,7 +48,10 @@ fn with_cluster(d: &Draft, s: Spread, cluster: u64) -> Spread
 }
 
 fn add_at(d: &Draft, spreads: &mut [Spread], number: u32, cluster: u64)
-    ensures { (i : ℕ) (e : Spread) → i < length spreads.old → slice_index_or spreads.new i e ≡ (if number == i + 1 then added d.now (slice_index_or spreads.old i e) cluster else slice_index_or spreads.old i e) }
+    ensures { (i : ℕ) (e : Spread) → i < length spreads.old
+        → slice_index_or spreads.new i e ≡ (if number == i + 1
+        then added d.now (slice_index_or spreads.old i e) cluster
+        else slice_index_or spreads.old i e) }
 {
     if number >= 1 && number as usize <= spreads.len() {
         let i = number as usize - 1;
@@ -58,7 +61,10 @@ fn add_at(d: &Draft, spreads: &mut [Spread], number: u32, cluster: u64)
 
 /// Adds a task of this cluster that declares these semaphores.
 fn add_task(d: &Draft, spreads: &mut [Spread], uses: &[SemNo], cluster: u64)
-    ensures { (i : ℕ) (e : Spread) → i < length spreads.old → slice_index_or spreads.new i e ≡ (if has (i + 1) (map (λ (s : SemNo). s.0) uses.now) then added d.now (slice_index_or spreads.old i e) cluster else slice_index_or spreads.old i e) }
+    ensures { (i : ℕ) (e : Spread) → i < length spreads.old
+        → slice_index_or spreads.new i e ≡ (if has (i + 1) (map (λ (s : SemNo). s.0) uses.now)
+        then added d.now (slice_index_or spreads.old i e) cluster
+        else slice_index_or spreads.old i e) }
 {
     for s in uses {
         add_at(d, spreads, s.0, cluster);
@@ -67,7 +73,8 @@ fn add_task(d: &Draft, spreads: &mut [Spread], uses: &[SemNo], cluster: u64)
 
 fn unused(alloc: Global, count: usize) -> Result<Vec<Spread>, AllocError>
     ensures count { IfOk result (λ v. vec_len v ≡ count) }
-    ensures unused { IfOk result (λ v. (d : Draft) (i : ℕ) (e : Spread) → i < count → slice_index_or v.items i e ≡ spread_of d []) }
+    ensures unused { IfOk result (λ v. (d : Draft) (i : ℕ) (e : Spread) → i < count
+        → slice_index_or v.items i e ≡ spread_of d []) }
 {
     let mut spreads = Vec::new(alloc);
     for i in 0..count {
@@ -83,7 +90,8 @@ fn unused(alloc: Global, count: usize) -> Result<Vec<Spread>, AllocError>
 /// For each semaphore, in one pass over the tasks.
 pub(super) fn spreads_of(alloc: Global, d: &Draft) -> Result<Vec<Spread>, AllocError>
     ensures count { IfOk result (λ v. vec_len v ≡ length d.now.sems) }
-    ensures spreads { IfOk result (λ v. (i : ℕ) (e : Spread) → i < length d.now.sems → slice_index_or v.items i e ≡ spread_of d.now (clusters_sharing d.now (i + 1))) }
+    ensures spreads { IfOk result (λ v. (i : ℕ) (e : Spread) → i < length d.now.sems
+        → slice_index_or v.items i e ≡ spread_of d.now (clusters_sharing d.now (i + 1))) }
 {
     let mut spreads = unused(alloc, d.sems.as_slice().len())?;
     for p in d.tasks.as_slice() {

@@ -1,6 +1,6 @@
 use Rattle.std.proofs.Common.{◌≤◌, length, arith}
 use Rattle.rt_base.specs.TaskNos.{numbers}
-use Rattle.sem_laws.proofs.Few.{length-few}
+use Rattle.rt_rules.proofs.DistinctLaws.{length-few}
 use Rattle.sem_laws.proofs.TaskNumbers.{length-numbers}
 use Rattle.fmlp_sem.proofs.FmlpSem.waiters.Goals as goal
 

@@ -1,5 +1,6 @@
 use Rattle.std.proofs.Common.{rules}
 use Rattle.link_table.proofs.PlaceLaws.{numbers_of_tasks-replicate}
+use Rattle.link_table.proofs.AmongLaws.{among-unlinked}
 use Rattle.link_table.proofs.SoundLaws.{sound-unlinked}
 use Rattle.link_table.proofs.Links.new.Goals as goal
 
@@ -8,6 +9,9 @@ returns-clause-unlinked c = rw (c.in-Ok.ensures.items_if_clones_equal (search ru
 
 pub returns-clause-sound : goal.returns-clause-sound
 returns-clause-sound c = rw (returns-clause-unlinked c) (sound-unlinked _ _)
+
+pub returns-clause-among : goal.returns-clause-among
+returns-clause-among c = rw (returns-clause-unlinked c) (among-unlinked _ _)
 
 pub invariant_of-result : goal.invariant_of-result
 invariant_of-result c = (returns-clause-sound c, c.in_ok-top_marks.ensures, c.in_ok-link_marks.ensures)

@@ -2,6 +2,7 @@ use Rattle.std.proofs.Common.{◌≡◌, ◌∙◌, ◌-◌, ◌<◌, length, sy
 use Rattle.rt_base.specs.TaskNos.{numbers_of_tasks}
 use Rattle.link_table.specs.Linked.{Linked}
 use Rattle.link_table.proofs.PlaceLaws.{numbers_of_tasks-set}
+use Rattle.link_table.proofs.AmongLaws.{among-set}
 use Rattle.link_table.proofs.SoundLaws.{sound-set}
 use Rattle.link_table.proofs.Links.run.Goals as goal
 
@@ -17,6 +18,9 @@ returns-clause-sound c =
     let same : length (numbers_of_tasks c.self.inside.runs.items) ≡ length c.args.self.now.runs = ap (λ (l : Linked). length l.runs) c.self.view_is in
     let inside : c.place_of-place.result < length (numbers_of_tasks c.self.inside.runs.items) = omega (arith, c.place_of-place.ensures.runs) in
     rw numbers_of_tasks-set (sound-set _ _ _ c.self.invariant.0 inside (rw (place c) (rw (← c.self.view_is) at c.requires.of_link)))
+
+pub returns-clause-among : goal.returns-clause-among
+returns-clause-among c = rw (← c.self.view_is, numbers_of_tasks-set) (among-set _ _ _ (rw (place c) (rw (← c.self.view_is) at c.requires.of_link)))
 
 pub invariant_of-self : goal.invariant_of-self
 invariant_of-self c = (returns-clause-sound c, c.self.invariant.1, c.self.invariant.2)

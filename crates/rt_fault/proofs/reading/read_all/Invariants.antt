@@ -2,12 +2,12 @@ use Rattle.std.proofs.Common.{◌≡◌, ◌≤◌, ◌-◌, ℕ, List, Option, 
 use Rattle.std.specs.Io.KnownBytes.{Consumes}
 use Rattle.rt_fault.proofs.reading.read_all.Given as goal
 
--- the bytes so far were taken from the front, and are within the limit
+-- the bytes so far were taken from the front, and are within the limit; no read failed
 pub record HasRead (limit piece : ℕ) (bytes : List ℕ) (before now : Option (List ℕ)) (count_before count_now : ℕ) : Type 0 where
   pub buffer : piece ≡ 65536
   pub within : length bytes ≤ limit
   pub taken : Consumes before now bytes
-  pub counted : count_before ≤ count_now
+  pub unfailed : count_now ≡ count_before
 
 abbrev pub invariant-loop-bytes : goal.invariant-loop-bytes
 invariant-loop-bytes g l =

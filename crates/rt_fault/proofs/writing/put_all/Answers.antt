@@ -1,4 +1,4 @@
-use Rattle.std.proofs.Common.{rules, ◌≡◌, ℕ, List, ◌-◌, ◌++◌, take, drop, length, append_assoc, length-drop, arith}
+use Rattle.std.proofs.Common.{rules, ◌≡◌, ℕ, List, ◌-◌, ◌++◌, ◌∙◌, take, drop, length, append_assoc, length-drop, arith}
 use Rattle.std.proofs.lemmas.List.{take-append-drop, take_all}
 use Rattle.rt_fault.proofs.HeldLaws.{Extends-append, Extends-stays, ExtendsByPrefix-front}
 use Rattle.rt_fault.proofs.writing.put_all.Goals as goal
@@ -23,5 +23,5 @@ loop-rest-preserved g c =
       front = written.front ++ more;
       split = split_more c.args.bytes.now written.front c.loop-rest.rest.now c.in_ok-taken.taken written.split;
       held = Extends-append _ _ _ written.front more written.held c.in_ok-taken.ensures.taken;
-      counted = omega (arith, written.counted, c.in_ok-taken.ensures.counted);
+      unfailed = c.in_ok-taken.ensures.unfailed ∙ written.unfailed;
     }
