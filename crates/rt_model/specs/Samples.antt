@@ -20,6 +20,7 @@ use Rattle.rt_task.specs.declared.Kind.TheVariants.{Periodic, Sporadic}
 use Rattle.rt_history.specs.declared.Entry.{Entry}
 use Rattle.rt_history.specs.declared.Reply.{Reply}
 use Rattle.rt_history.specs.declared.Reply.TheVariants as replies
+use Rattle.rt_rules.specs.Pcp.{TaskSem}
 use Rattle.rt_model.specs.Blocking.{Asked, requests, ends, ends_all, bound}
 use Rattle.rt_model.specs.Group.{Group, group_processors}
 use Rattle.rt_model.specs.Histories.{played}
@@ -160,6 +161,10 @@ steps_of ls = map (λ (l : Line). l.step) ls
 
 abbrev pub entries_of : List Line → List Entry
 entries_of ls = map (λ (l : Line). record { step = l.step; reply = l.reply }) ls
+
+-- a task and a semaphore that it holds
+abbrev pub held_by : ℕ → ℕ → TaskSem
+held_by t s = record { task = t; sem = s }
 
 -- what is left of the budget of reservation 1, and the clock of its last replenishment
 abbrev pub budget_of : Group → Past → ℕ × Option ℕ

@@ -6,8 +6,9 @@ use Rattle.rt_history.specs.declared.Reply.TheVariants.{Done, Granted, Queued, Q
 use Rattle.rt_model.specs.Computed.{computed}
 use Rattle.rt_model.specs.Group.{Group}
 use Rattle.rt_model.specs.Histories.{past_by}
+use Rattle.rt_model.specs.Blockers.{blocker_among}
 use Rattle.rt_model.specs.Samples.{Line, line, steps_of, IsTrace, group_of, cluster_with, sem_under, periodic, sporadic, in_cluster}
-use Rattle.rt_model.specs.Samples.{with_prio, using, irq, arrive, lock, unlock, runs_task, to, block, blocks}
+use Rattle.rt_model.specs.Samples.{with_prio, using, irq, arrive, lock, unlock, runs_task, to, block, blocks, held_by}
 
 -- PCP: task 1 is refused a free semaphore by the ceiling of another; unlocks are last in, first out
 abbrev pub pcp_ceiling : Group
@@ -260,3 +261,8 @@ pub kinds_do_not_nest_blocks : blocks kinds_do_not_nest (past_by kinds_do_not_ne
     []
 unfolding computed
 kinds_do_not_nest_blocks = refl
+
+-- of two semaphores with one ceiling the holder of the lower number blocks
+pub ties_block : blocker_among pcp_ceiling (held_by 5 2 ∷ held_by 4 1 ∷ []) ≡ Some 4
+unfolding computed
+ties_block = refl
