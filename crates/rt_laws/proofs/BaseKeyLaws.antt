@@ -1,6 +1,7 @@
 -- The order of base keys.
-use Rattle.std.proofs.Common.{refl, true, ℕ, ◌≡◌}
-use Rattle.rt_task.specs.RuleWords.{stands_under}
+use Rattle.std.proofs.Common.{ap, false, refl, sym, true, ℕ, ◌∙◌, ◌≡◌}
+use Rattle.rt_order.specs.declared.Key.{Key}
+use Rattle.rt_task.specs.RuleWords.{is_p_res, stands_under}
 use Rattle.rt_task.specs.declared.PluginKind.TheVariants as plugins
 use Rattle.rt_task.specs.declared.PluginKind.{PluginKind}
 use Rattle.rt_task.specs.declared.Protocol.TheVariants.{Fmlp, Mpcp, Omlp, Pcp}
@@ -11,6 +12,7 @@ use Rattle.rt_model.specs.Past.{Past}
 use Rattle.rt_order.specs.OrderLaws.{higher-irreflexive as higher-self, higher-transitive as higher-trans}
 use Rattle.rt_rules.proofs.KeyLaws.{IsOrder, higher-total}
 use Rattle.rt_rules.proofs.PcpGrantLaws.{IsStrict}
+use Rattle.rt_laws.specs.Keys.{BaseKeysDiffer}
 
 -- under a plugin with semaphores a base key's last part is the task's number
 pub minor-is : (g : Group) (t : ℕ) (past : Past) (x : Protocol) → stands_under x g.setup.plugin ≡ true → (base_key g t past).minor ≡ t
@@ -42,3 +44,13 @@ above-strict g past = record {
   trans = λ x y z h k. higher-trans (base_key g x past) (base_key g y past) (base_key g z past) h k;
   self = λ x. higher-self (base_key g x past);
 }
+
+-- no tie between tasks where the last part of a key is a task's number
+minor-task : (g : Group) (t : ℕ) (past : Past) (p : PluginKind) → is_p_res p ≡ false → (key_by g p t past).minor ≡ t
+unfolding key_by
+minor-task g t past plugins.PRes h = cc
+minor-task g t past p h = refl
+
+pub base_keys_differ : BaseKeysDiffer
+unfolding base_key
+base_keys_differ g past valid made none t u same = sym (minor-task g t past g.setup.plugin none) ∙ ap (λ (k : Key). k.minor) same ∙ minor-task g u past g.setup.plugin none

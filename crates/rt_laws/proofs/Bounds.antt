@@ -1,19 +1,19 @@
 -- The bounds of the blocking counts.
-use Rattle.std.proofs.Common.{Bool, arith, false, refl, true, ℕ, ◌&&◌, ◌*◌, ◌+◌, ◌-◌, ◌≡◌, ◌≤◌}
+use Rattle.std.proofs.Common.{Bool, [], arith, false, refl, true, ℕ, ◌&&◌, ◌*◌, ◌+◌, ◌-◌, ◌∷◌, ◌≡◌, ◌≤◌}
 use Rattle.std.specs.Prelude.{if◌then◌else◌}
 use Rattle.rt_task.specs.RuleWords.{is_of_one_cluster, stands_under}
 use Rattle.rt_task.specs.declared.PluginKind.TheVariants as plugins
 use Rattle.rt_task.specs.declared.PluginKind.{PluginKind}
 use Rattle.rt_task.specs.declared.Protocol.TheVariants.{Omlp}
 use Rattle.rt_rules.specs.Numbers.{has}
-use Rattle.rt_model.specs.Blocking.{ends, frees, is_open}
+use Rattle.rt_model.specs.Blocking.{ends, ends_all, frees, is_blocked, is_open}
 use Rattle.rt_model.specs.Group.{Group, cpus, home, protocol, sems, users}
 use Rattle.rt_model.specs.Holders.{sem_state}
 use Rattle.rt_model.specs.Made.{IsMade}
 use Rattle.rt_model.specs.Past.{Past, sem_act}
 use Rattle.rt_model.specs.Semaphores.{cluster_of}
 use Rattle.rt_rules.proofs.BoolLaws.{clash, unless}
-use Rattle.rt_laws.specs.Bounds.{FmlpBound, OmlpBound}
+use Rattle.rt_laws.specs.Bounds.{BlockedEndsAreEnds, FmlpBound, OmlpBound}
 use Rattle.rt_laws.proofs.Engaged.{waiting-engaged}
 use Rattle.rt_laws.proofs.EngagedJobs.{IsActive, all_active}
 use Rattle.rt_laws.proofs.FmlpCount as fmlp
@@ -62,3 +62,18 @@ omlp_bound g past valid made r t s p = by_case (has t (users g s)) (has s (sems 
         rw same (omlp.counted g (rules_of g valid) r t s p permitted shares k made).so_far
     by_case false c h k = let none : ends g r t s past ≡ 0 = none-ended g (rules_of g valid) r t s (rw h) made in omega (arith, none)
     by_case true false h k = let none : ends g r t s past ≡ 0 = none-ended g (rules_of g valid) r t s (rw (h, k)) made in omega (arith, none)
+
+-- one more at the same event, or both as they were
+ends-within : (g : Group) (r t s : ℕ) (past : Past) → ends g r t s past ≤ ends_all g r t s past
+unfolding ends ends_all
+ends-within g r t s [] = omega arith
+ends-within g r t s (e ∷ past) = by_cases (frees s (sem_act e)) (is_open g r t s past) (is_blocked g t past) (ends-within g r t s past)
+  where
+    by_cases : (a b c : Bool) {n m : ℕ} → n ≤ m → (if a && (b && c) then n + 1 else n) ≤ (if a && b then m + 1 else m)
+    by_cases true true true h = omega arith
+    by_cases true true false h = omega arith
+    by_cases true false c h = h
+    by_cases false b c h = h
+
+pub blocked_ends_are_ends : BlockedEndsAreEnds
+blocked_ends_are_ends g past valid made r t s = ends-within g r t s past

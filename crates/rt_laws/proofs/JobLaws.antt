@@ -53,7 +53,7 @@ has_come-is : (clock : ℕ) (o : Option ℕ) → has_come clock o ≡ true → (
 has_come-is clock None h = cc
 has_come-is clock (Some r) h = (r, refl, leb-true r clock h)
 
-released : (g : Group) (t : ℕ) (past : Past) → is_released g t past ≡ true → (r : ℕ) × (release g t past ≡ Some r) × (r ≤ now past)
+pub released : (g : Group) (t : ℕ) (past : Past) → is_released g t past ≡ true → (r : ℕ) × (release g t past ≡ Some r) × (r ≤ now past)
 unfolding is_released
 released g t past h = has_come-is (now past) (release g t past) h
 

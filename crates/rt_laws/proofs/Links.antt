@@ -1,8 +1,8 @@
 -- Each task has one processor at most, and that is of its cluster.
-use Rattle.std.proofs.Common.{arith, length, subst, sym, true, ℕ, ◌-◌, ◌∙◌, ◌≡◌, ◌≤◌}
-use Rattle.std.specs.Prelude.{Some}
+use Rattle.std.proofs.Common.{List, [], arith, inl, inr, length, subst, suc, sym, true, ℕ, ◌+◌, ◌-◌, ◌<◌, ◌∙◌, ◌∷◌, ◌≡◌, ◌≤◌, ◌⊎◌}
+use Rattle.std.specs.Prelude.{Option, Some}
 use Rattle.rt_rules.specs.Distinct.{IsDistinct}
-use Rattle.rt_rules.specs.Numbers.{is}
+use Rattle.rt_rules.specs.Numbers.{has, is}
 use Rattle.rt_rules.specs.Placing.{at_place, tasks_in}
 use Rattle.rt_model.specs.Group.{Group, cpus, first_cpu, home, processors}
 use Rattle.rt_model.specs.Links.{linked, links, runs_of}
@@ -10,12 +10,14 @@ use Rattle.rt_model.specs.Made.{IsMade}
 use Rattle.rt_model.specs.Past.{Past}
 use Rattle.rt_model.specs.Tops.{top}
 use Rattle.rt_rules.proofs.DistinctLaws.{length-distinct}
-use Rattle.rt_rules.proofs.LinkLaws.{distinct-placed, one_place}
-use Rattle.rt_rules.proofs.MemberLaws.{some-is}
-use Rattle.rt_rules.proofs.NumberLaws.{has-numbers_from}
-use Rattle.rt_model.proofs.PastLaws.{IsSingle, links-top, processor-home, single}
+use Rattle.rt_rules.proofs.LinkLaws.{distinct-placed, has-at_place, one_place}
+use Rattle.rt_rules.proofs.MemberLaws.{is-some, some-is}
+use Rattle.rt_rules.proofs.NumberLaws.{has-numbers_from, numbers_from-has}
+use Rattle.rt_rules.proofs.BoolLaws.{either}
+use Rattle.rt_rules.proofs.PlacingLaws.{has-tasks_in}
+use Rattle.rt_model.proofs.PastLaws.{IsSingle, length-links, links-top, processor-home, single}
 use Rattle.rt_model.proofs.TopLaws.{distinct-top, length-top}
-use Rattle.rt_laws.specs.Links.{LinkedAtHome, LinkedToOne, LinksFit, RunsAtHome, RunsOnOne}
+use Rattle.rt_laws.specs.Links.{HasLinkTo, LinkedAtHome, LinkedToOne, LinksAreLinked, LinksFit, RunsAtHome, RunsOnOne}
 use Rattle.rt_laws.proofs.LinkedTasks.{IsLinked, linked-eligible}
 use Rattle.rt_laws.proofs.Running.{running, runs_once}
 use Rattle.rt_laws.proofs.ValidSets.{rules_of}
@@ -56,3 +58,29 @@ pub links_fit : LinksFit
 links_fit g past valid made c =
     let few : length (tasks_in (links g c past)) ≤ length (top g c past) = length-distinct _ _ (links-distinct g c made) (distinct-top g c past) (λ t h. sym (links-top g c (processor-home g c) made t) ∙ h) in
     omega (arith, few, length-top g c past)
+
+-- a task in a list of links has a place
+placed-at : (t : ℕ) (ls : List (Option ℕ)) → has t (tasks_in ls) ≡ true → (k : ℕ) × (k < length ls) × (is t (at_place ls k) ≡ true)
+placed-at t [] h = cc
+placed-at t (l ∷ ls) h = split (either (is t l) _ (rw has-tasks_in at h)) (placed-at t ls)
+  where
+    split : (is t l ≡ true) ⊎ (has t (tasks_in ls) ≡ true) → (has t (tasks_in ls) ≡ true → (k : ℕ) × (k < length ls) × (is t (at_place ls k) ≡ true)) → (k : ℕ) × (k < length (l ∷ ls)) × (is t (at_place (l ∷ ls) k) ≡ true)
+    split (inl k) r = (0, omega arith, k)
+    split (inr k) r = let q = r k in (suc q.0, omega (arith, q.1), q.2)
+
+linked-at : (g : Group) (c q : ℕ) (past : Past) → has q (processors g c) ≡ true → linked g q past ≡ at_place (links g c past) (q - first_cpu g c)
+unfolding linked
+linked-at g c q past there = rw (processor-home g c q there)
+
+has_link : (g : Group) {past : Past} → IsMade g past → (c t : ℕ) → has t (tasks_in (links g c past)) ≡ true → HasLinkTo g c t past
+unfolding processors
+has_link g {past} made c t h =
+    let place = placed-at t (links g c past) h in
+    let fits : length (links g c past) ≡ cpus g c = length-links g c past (single g c (processor-home g c) made) in
+    let q : ℕ = first_cpu g c + place.0 in
+    let there : has q (processors g c) ≡ true = numbers_from-has (first_cpu g c) (cpus g c) q (omega arith) (omega (arith, place.1, fits)) in
+    let at : q - first_cpu g c ≡ place.0 = omega arith in
+    record { cpu = q; there = there; linked_it = linked-at g c q past there ∙ rw at (is-some t _ place.2) }
+
+pub links_are_linked : LinksAreLinked
+links_are_linked g past valid made c t = (has_link g made c t, λ l. has-at_place t (links g c past) (l.cpu - first_cpu g c) (some-is t _ (sym (linked-at g c l.cpu past l.there) ∙ l.linked_it)))

@@ -1,5 +1,5 @@
 -- An Unlock grants at most one waiting PCP task: the others are not over the ceiling of what was granted.
-use Rattle.std.proofs.Common.{Bool, [], arith, eqb-true, false, length, refl, subst, sym, true, ℕ, ◌&&◌, ◌||◌, ◌∙◌, ◌∷◌, ◌≡◌, ◌≤◌}
+use Rattle.std.proofs.Common.{Bool, [], arith, eqb-true, false, refl, subst, sym, true, ℕ, ◌&&◌, ◌||◌, ◌∙◌, ◌∷◌, ◌≡◌}
 use Rattle.std.specs.Prelude.{if◌then◌else◌, ◌==◌}
 use Rattle.rt_rules.specs.Distinct.{IsDistinct}
 use Rattle.rt_rules.specs.Numbers.{first, has, is}

@@ -24,12 +24,12 @@ use Rattle.rt_model.specs.Holders.{awaits, holder, holds, sem_state, sem_state_b
 use Rattle.rt_model.specs.Jobs.{done, this_job, used, position_in_body}
 use Rattle.rt_model.specs.NonPreemptive.{non_preemptive}
 use Rattle.rt_model.specs.Outcomes.{past_act, ended}
-use Rattle.rt_model.specs.Past.{PastAct, Event, Acted, Past, accepted, did, ends_job, now, sem_act}
+use Rattle.rt_model.specs.Past.{PastAct, Acted, Past, accepted, did, ends_job, now, sem_act}
 use Rattle.rt_model.specs.Releases.{arrives, arrivals, deadline, exists, has_come, is_released, opens_early, ready, release, release_by}
 use Rattle.rt_model.specs.Runs.{leaves, runs, runs_after, runs_by}
 use Rattle.rt_model.specs.Semaphores.{fmlp, omlp, mpcp}
 use Rattle.rt_model.specs.Sleep.{sleeps, wakes}
-use Rattle.rt_model.proofs.Steps.{done-step, past_act-reply, runs-acted, used-step}
+use Rattle.rt_model.proofs.Steps.{done-step, runs-acted, used-step}
 
 -- an act that is refused ends no job
 pub record IsRefused (d : PastAct) : Type 0 where

@@ -1,11 +1,10 @@
 -- An act that is refused leaves effective keys, reservations, eligible tasks, tops and links, and the counts of blocking.
-use Rattle.std.proofs.Common.{◌≡◌, ℕ, ◌+◌, ◌≤◌, Bool, true, false, not, ◌&&◌, ◌||◌, cond, List, [], ◌∷◌, map, refl, sym, ◌∙◌, arith}
+use Rattle.std.proofs.Common.{◌≡◌, ℕ, ◌+◌, ◌≤◌, Bool, true, false, ◌&&◌, ◌||◌, cond, List, [], ◌∷◌, map, refl, sym, ◌∙◌, arith}
 use Rattle.std.specs.Prelude.{◌-◌, Option, None, Some, count_by, filter, is_some, nat_lt, take}
 use Rattle.std.specs.List.{list_any}
 use Rattle.std.proofs.lemmas.Bool.Decides.{nat_tests}
 use Rattle.std.proofs.lemmas.List.Sums.{sum_by-cons}
 use Rattle.rt_order.specs.KeyOrder.{higher}
-use Rattle.rt_task.specs.declared.Act.{Act}
 use Rattle.rt_task.specs.declared.PluginKind.{PluginKind}
 use Rattle.rt_task.specs.declared.PluginKind.TheVariants as plugins
 use Rattle.rt_task.specs.declared.Protocol.{Protocol}
@@ -18,8 +17,6 @@ use Rattle.rt_rules.specs.Placing.{at_place, placed}
 use Rattle.rt_rules.specs.Walks.{followers, inherited}
 use Rattle.rt_rules.proofs.BoolLaws.{and_false}
 use Rattle.rt_rules.proofs.MemberLaws.{equal_self}
-use Rattle.rt_model.specs.Answers.{answer}
-use Rattle.rt_model.specs.BaseKeys.{base_key}
 use Rattle.rt_model.specs.Blockers.{blocker}
 use Rattle.rt_model.specs.Blocking.{ends, ends_all, is_blocked, requests}
 use Rattle.rt_model.specs.Boosts.{boost, boost_by, boost_of, granted_at}
@@ -29,11 +26,9 @@ use Rattle.rt_model.specs.Holders.{awaits}
 use Rattle.rt_model.specs.Links.{links, linked, pending, runs_of}
 use Rattle.rt_model.specs.Made.{IsMade, clocked}
 use Rattle.rt_model.specs.Outcomes.{past_act}
-use Rattle.rt_model.specs.Past.{PastAct, Event, Acted, Past, did, is_work, now}
+use Rattle.rt_model.specs.Past.{PastAct, Event, Acted, Past, is_work, now}
 use Rattle.rt_model.specs.Histories.{after as after_step, clock_moved, reply_to}
-use Rattle.rt_model.specs.Releases.{exists, ready, release}
 use Rattle.rt_model.specs.Reservations.{any_ready, begins_period, earlier, first_refill, front, is_due, is_loss, is_lost, is_refill, last, left, refilled, spent, works_for}
-use Rattle.rt_model.specs.Runs.{runs}
 use Rattle.rt_model.specs.Tops.{eligible, is_served, ranking, top}
 use Rattle.rt_model.proofs.PastLaws.{IsSingle, length-runs_of, processor-home, single}
 use Rattle.rt_model.proofs.Steps.{links-step}

@@ -8,13 +8,19 @@ use Rattle.rt_model.specs.Made.{IsMade}
 use Rattle.rt_model.specs.Past.{Past}
 use Rattle.rt_laws.specs.EveryPast.{EveryPast}
 
--- FMLP (Block, Leontyev, Brandenburg and Anderson, RTCSA 2007): while a request waits, at most n - 1 critical sections of its semaphore end, n the number of tasks that declare it, in whatever clusters.
+-- FMLP (Block, Leontyev, Brandenburg and Anderson, RTCSA 2007): while a request waits, at most n - 1 critical sections of its
+-- semaphore end, n the number of tasks that declare it, in whatever clusters.
 abbrev pub FmlpBound : Type 0
 FmlpBound = EveryPast (λ g past. (r t s : ℕ) → protocol g s ≡ Fmlp → ends_all g r t s past ≤ length (users g s) - 1)
 
--- OMLP (Brandenburg and Anderson, RTSS 2010): while a request waits and its task is priority-blocked, at most 2m - 1 critical sections of its semaphore end, m the number of processors of the task's cluster.
+-- OMLP (Brandenburg and Anderson, RTSS 2010): while a request waits and its task is priority-blocked, at most 2m - 1 critical
+-- sections of its semaphore end, m the number of processors of the task's cluster.
 abbrev pub OmlpBound : Type 0
 OmlpBound = EveryPast (λ g past. (r t s : ℕ) → protocol g s ≡ Omlp → ends g r t s past ≤ 2 * cpus g (home g t) - 1)
+
+-- Of the critical sections that end while a request waits, those that end while its task is priority-blocked are a part.
+abbrev pub BlockedEndsAreEnds : Type 0
+BlockedEndsAreEnds = EveryPast (λ g past. (r t s : ℕ) → ends g r t s past ≤ ends_all g r t s past)
 
 -- an FMLP request that sees n - 1 critical sections end, n at least 2
 pub record ReachesFmlpBound : Type 0 where

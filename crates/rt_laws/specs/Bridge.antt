@@ -60,11 +60,15 @@ RequestsDoNotNest = EveryMove (λ g e past. (t s : ℕ) → sem_act e ≡ Asks t
 
 -- The holder of an FMLP, OMLP or MPCP semaphore holds no other.
 abbrev pub HolderHoldsOne : Type 0
-HolderHoldsOne = EveryPast (λ g past. (t s r : ℕ) → has s (sems g) ≡ true → has r (sems g) ≡ true → is_pcp (protocol g s) ≡ false → holder g s past ≡ Some t → holder g r past ≡ Some t → s ≡ r)
+HolderHoldsOne =
+    EveryPast (λ g past. (t s r : ℕ) → has s (sems g) ≡ true → has r (sems g) ≡ true → is_pcp (protocol g s) ≡ false →
+    holder g s past ≡ Some t → holder g r past ≡ Some t → s ≡ r)
 
 -- The holder of an FMLP, OMLP or MPCP semaphore never waits.
 abbrev pub HolderWaitsNot : Type 0
-HolderWaitsNot = EveryPast (λ g past. (t s : ℕ) → has s (sems g) ≡ true → is_pcp (protocol g s) ≡ false → holder g s past ≡ Some t → awaits g t past ≡ None)
+HolderWaitsNot =
+    EveryPast (λ g past. (t s : ℕ) → has s (sems g) ≡ true → is_pcp (protocol g s) ≡ false →
+    holder g s past ≡ Some t → awaits g t past ≡ None)
 
 -- a semaphore stands once among the PCP grants of all clusters
 pub record HasOneGrant (g : Group) (s : ℕ) (past : Past) : Type 0 where

@@ -22,6 +22,10 @@ pub record HasLinkedHolder (g : Group) (s : ℕ) (past : Past) : Type 0 where
   pub holds_it : holder g s past ≡ Some task
   pub linked : has task (tasks_in (links g (home g task) past)) ≡ true
 
--- Under GSN-EDF and C-EDF, after every move at which a task that waits for an OMLP or FMLP semaphore is priority-blocked, the semaphore's holder is linked (priority inheritance under link-based global scheduling: Block, Leontyev, Brandenburg and Anderson, RTCSA 2007).
+-- Under GSN-EDF and C-EDF, after every move at which a task that waits for an OMLP or FMLP semaphore is priority-blocked, the
+-- semaphore's holder is linked (priority inheritance under link-based global scheduling: Block, Leontyev, Brandenburg and Anderson,
+-- RTCSA 2007).
 abbrev pub HolderIsLinked : Type 0
-HolderIsLinked = EveryPast (λ g past. (t s : ℕ) → is_global g.setup.plugin ≡ true → awaits g t past ≡ Some s → is_blocked g t past ≡ true → HasLinkedHolder g s past)
+HolderIsLinked =
+    EveryPast (λ g past. (t s : ℕ) → is_global g.setup.plugin ≡ true → awaits g t past ≡ Some s →
+    is_blocked g t past ≡ true → HasLinkedHolder g s past)

@@ -1,4 +1,5 @@
--- The priority ceiling protocol (Sha, Rajkumar and Lehoczky, IEEE Transactions on Computers 1990): what it keeps, and that waits never come round.
+-- The priority ceiling protocol (Sha, Rajkumar and Lehoczky, IEEE Transactions on Computers, 1990): what it keeps, and that waits
+-- never come round.
 use Rattle.std.specs.Prelude.{◌≡◌, ◌≢◌, ℕ, ◌+◌, ◌≤◌, true, false, List, [], ◌∷◌, ◌++◌, length, None, Some}
 use Rattle.rt_rules.specs.Distinct.{IsDistinct}
 use Rattle.rt_rules.specs.Pcp.{PcpState, TaskSem, passes}
@@ -13,11 +14,16 @@ use Rattle.rt_laws.specs.EveryPast.{EveryPast, EveryMove}
 
 -- Each waiting task does not pass: its base key is not above the ceiling of each semaphore that others hold.
 abbrev pub WaitingDoesNotPass : Type 0
-WaitingDoesNotPass = EveryPast (λ g past. (t s : ℕ) → is_pcp (protocol g s) ≡ true → awaits g t past ≡ Some s → passes (above_ceiling g) (pcp g (home g t) past).held t ≡ false)
+WaitingDoesNotPass =
+    EveryPast (λ g past. (t s : ℕ) → is_pcp (protocol g s) ≡ true → awaits g t past ≡ Some s →
+    passes (above_ceiling g) (pcp g (home g t) past).held t ≡ false)
 
 -- Of two held semaphores of different holders, the later holder's base key is above the earlier one's ceiling.
 abbrev pub LaterIsAboveCeiling : Type 0
-LaterIsAboveCeiling = EveryPast (λ g past. (c : ℕ) (newest between oldest : List TaskSem) (later earlier : TaskSem) → (pcp g c past).held ≡ newest ++ later ∷ (between ++ earlier ∷ oldest) → later.task ≢ earlier.task → above_ceiling g later.task earlier.sem ≡ true)
+LaterIsAboveCeiling =
+    EveryPast (λ g past. (c : ℕ) (newest between oldest : List TaskSem) (later earlier : TaskSem) →
+    (pcp g c past).held ≡ newest ++ later ∷ (between ++ earlier ∷ oldest) → later.task ≢ earlier.task →
+    above_ceiling g later.task earlier.sem ≡ true)
 
 -- the tasks that a walk along waits reaches from a task, and where it ends
 abbrev pub reached_from : Group → ℕ → Past → List ℕ

@@ -1,6 +1,7 @@
 -- What each act of a processor is answered.
 use Rattle.std.specs.List.{list_any}
-use Rattle.std.specs.Prelude.{ℕ, ◌+◌, Bool, false, not, ◌&&◌, ◌||◌, ◌==◌, nat_le, List, [], ◌∷◌, length, Option, None, Some, if◌then◌else◌, is_none}
+use Rattle.std.specs.Prelude.{ℕ, ◌+◌, Bool, false, not, ◌&&◌, ◌||◌, ◌==◌, nat_le, List, [], ◌∷◌, length, Option, None, Some}
+use Rattle.std.specs.Prelude.{if◌then◌else◌, is_none}
 use Rattle.rt_task.specs.declared.Act.{Act}
 use Rattle.rt_task.specs.declared.Kind.{Kind}
 use Rattle.rt_task.specs.declared.Kind.TheVariants.{Periodic, Sporadic}
@@ -55,7 +56,10 @@ module _ (g : Group) where
   link_reply (Some t) = replies.Runs (record { 0 = t })
 
   unfoldable pub irq_answer : ℕ → Past → Reply
-  irq_answer q past = if pending g q past then (if np_on (runs q past) past then replies.Deferred else link_reply (linked g q past)) else replies.Quiet
+  irq_answer q past =
+      if pending g q past
+      then (if np_on (runs q past) past then replies.Deferred else link_reply (linked g q past))
+      else replies.Quiet
 
   -- an arrival: the first from the phase on, a later one from a period after the last
   unfoldable pub may_arrive : ℕ → Option ℕ → Past → Bool
@@ -71,11 +75,15 @@ module _ (g : Group) where
   no_budget _ t past = false
 
   unfoldable pub work_answer : ℕ → ℕ → Past → Reply
-  work_answer q t past = if same (last_work q past) (Some (now past)) then replies.Spent else (if no_budget g.setup.plugin t past then replies.NoBudget else replies.Done)
+  work_answer q t past =
+      if same (last_work q past) (Some (now past))
+      then replies.Spent
+      else (if no_budget g.setup.plugin t past then replies.NoBudget else replies.Done)
 
   -- requests do not nest, but for PCP
   unfoldable pub nests : Protocol → ℕ → ℕ → Past → Bool
-  nests Pcp s t past = list_any (λ r. not (is_pcp (protocol g r))) (holds g t past) || (has s (holds g t past) || nat_le 8 (length (holds g t past)))
+  nests Pcp s t past =
+      list_any (λ r. not (is_pcp (protocol g r))) (holds g t past) || (has s (holds g t past) || nat_le 8 (length (holds g t past)))
   nests _ s t past = not (is_empty (holds g t past))
 
   unfoldable pub is_granted : Protocol → ℕ → ℕ → Past → Bool
@@ -83,10 +91,18 @@ module _ (g : Group) where
   is_granted _ s t past = is_none (holder g s past)
 
   unfoldable pub lock_answer : ℕ → ℕ → Past → Reply
-  lock_answer s t past = if not (declares g t s) then replies.NotDeclared else (if nests (protocol g s) s t past then replies.Nested else (if is_granted (protocol g s) s t past then replies.Granted else replies.Queued))
+  lock_answer s t past =
+      if not (declares g t s)
+      then replies.NotDeclared
+      else (if nests (protocol g s) s t past
+      then replies.Nested
+      else (if is_granted (protocol g s) s t past then replies.Granted else replies.Queued))
 
   unfoldable pub unlock_answer : ℕ → ℕ → Past → Reply
-  unlock_answer s t past = if not (is t (holder g s past)) then replies.NotHeld else (if is_pcp (protocol g s) && not (is s (last_granted g t past)) then replies.NotLast else replies.Done)
+  unlock_answer s t past =
+      if not (is t (holder g s past))
+      then replies.NotHeld
+      else (if is_pcp (protocol g s) && not (is s (last_granted g t past)) then replies.NotLast else replies.Done)
 
   unfoldable pub unless_holding : ℕ → Past → Reply
   unless_holding t past = if is_empty (holds g t past) then replies.Done else replies.Holding

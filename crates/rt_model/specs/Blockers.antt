@@ -1,4 +1,4 @@
--- PCP: the task that keeps a waiting task from its semaphore.
+-- PCP (Sha, Rajkumar and Lehoczky, IEEE Transactions on Computers, 1990): the task that keeps a waiting task from its semaphore.
 use Rattle.std.specs.Prelude.{ℕ, Bool, not, ◌&&◌, ◌||◌, List, Option, nat_lt, map}
 use Rattle.rt_order.specs.KeyOrder.{higher}
 use Rattle.rt_rules.specs.Numbers.{foremost}

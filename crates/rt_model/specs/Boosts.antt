@@ -1,4 +1,4 @@
--- Boosted holders: an FMLP holder under the partitioned plugins, and an MPCP holder.
+-- Boosted holders: an MPCP holder (Rajkumar, ICDCS 1990), and by a rule of our own an FMLP holder under PSN-EDF and P-FP.
 use Rattle.std.specs.Prelude.{ℕ, Bool, false, not, ◌==◌, [], ◌∷◌, Option, None, Some, if◌then◌else◌, nat_lt, true, map, filter, unwrap_or}
 use Rattle.rt_task.specs.declared.PluginKind.{PluginKind}
 use Rattle.rt_task.specs.declared.Protocol.{Protocol}
@@ -24,7 +24,9 @@ module _ (g : Group) where
 
   -- MPCP: the smallest priority number among users in other clusters, or the task's own where there are none
   unfoldable pub mpcp_ceiling : ℕ → ℕ → ℕ
-  mpcp_ceiling s t = unwrap_or (foremost nat_lt (map (λ u. (task g u).prio) (filter (λ u. not (home g u == home g t)) (users g s)))) (task g t).prio
+  mpcp_ceiling s t =
+      let others = filter (λ u. not (home g u == home g t)) (users g s) in
+      unwrap_or (foremost nat_lt (map (λ u. (task g u).prio) others)) (task g t).prio
 
   unfoldable pub boost_by : Protocol → ℕ → ℕ → Past → Option Key
   boost_by Fmlp s t past = if boosts_fmlp g.setup.plugin then Some (record { band = 0; major = granted_at s past; minor = t }) else None

@@ -1,4 +1,5 @@
--- PCP: the ceilings of semaphores, and what the tasks of a cluster hold and wait for.
+-- PCP (Sha, Rajkumar and Lehoczky, IEEE Transactions on Computers, 1990): the ceilings of semaphores, and what the tasks of a
+-- cluster hold and wait for.
 use Rattle.std.specs.Prelude.{ℕ, Bool, false, ◌&&◌, ◌==◌, [], ◌∷◌, if◌then◌else◌, true, map}
 use Rattle.rt_task.specs.declared.Protocol.{Protocol}
 use Rattle.rt_task.specs.declared.Protocol.TheVariants.{Pcp}

@@ -1,4 +1,5 @@
--- Priority inheritance: effective keys, along walks from waiting tasks to those that they wait for.
+-- Priority inheritance (Sha, Rajkumar and Lehoczky, IEEE Transactions on Computers, 1990): effective keys, along walks from
+-- waiting tasks to those that they wait for.
 use Rattle.std.specs.Prelude.{ℕ, Option, None, Some}
 use Rattle.rt_task.specs.declared.Protocol.{Protocol}
 use Rattle.rt_task.specs.declared.Protocol.TheVariants.{Pcp}

@@ -1,5 +1,6 @@
 -- A group of a setup: its clusters, processors, tasks and semaphores.
-use Rattle.std.specs.Prelude.{ℕ, zero, suc, ◌+◌, ◌-◌, Bool, false, ◌==◌, nat_lt, List, [], ◌∷◌, length, map, Option, None, Some, if◌then◌else◌, slice_index_or, flat_map}
+use Rattle.std.specs.Prelude.{ℕ, zero, suc, ◌+◌, ◌-◌, Bool, false, ◌==◌, nat_lt, List, [], ◌∷◌, length, map, Option, None, Some}
+use Rattle.std.specs.Prelude.{if◌then◌else◌, slice_index_or, flat_map}
 use Rattle.std.specs.List.{filter}
 use Rattle.rt_base.specs.declared.SemNo.{SemNo}
 use Rattle.rt_base.specs.declared.ResvNo.{ResvNo}
@@ -20,7 +21,22 @@ pub record Group : Type 0 where
 
 -- what a number that stands for nothing is read as
 abbrev pub no_task : Task
-no_task = record { number = record { 0 = 0 }; name = []; cluster = record { 0 = 0 }; cost = 0; period = 0; rel_deadline = 0; phase = 0; kind = Periodic; prio = 0; enforce = false; uses = []; resv = None; body = []; early = false }
+no_task = record {
+  number = record { 0 = 0 };
+  name = [];
+  cluster = record { 0 = 0 };
+  cost = 0;
+  period = 0;
+  rel_deadline = 0;
+  phase = 0;
+  kind = Periodic;
+  prio = 0;
+  enforce = false;
+  uses = [];
+  resv = None;
+  body = [];
+  early = false;
+}
 
 abbrev pub no_cluster : Cluster
 no_cluster = record { cpus = 0; group = record { 0 = 0 } }

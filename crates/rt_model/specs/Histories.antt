@@ -42,13 +42,16 @@ module _ (g : Group) where
   past_by past [] = past
   past_by past (step ∷ steps) = past_by (after step past) steps
 
-  -- the reply to each step in order, with the processors whose link the step changed
+  -- the processors whose link is another than it was
   unfoldable pub changed : Past → Past → List ℕ
   changed was now = filter (λ q. not (same (linked g q was) (linked g q now))) (group_processors g)
 
+  -- the reply to each step in order, with the links that the step changed
   unfoldable pub played : Past → List Step → List (Reply × List (ℕ × Option ℕ))
   played past [] = []
-  played past (step ∷ steps) = (reply_to step past, map (λ q. (q, linked g q (after step past))) (changed past (after step past))) ∷ played (after step past) steps
+  played past (step ∷ steps) =
+      let next = after step past in
+      (reply_to step past, map (λ q. (q, linked g q next)) (changed past next)) ∷ played next steps
 
   -- how many entries left a new interrupt pending at a processor
   unfoldable pub is_raise : ℕ → Past → Past → Bool
@@ -56,11 +59,14 @@ module _ (g : Group) where
 
   unfoldable pub raises_from : ℕ → Past → List Entry → ℕ
   raises_from q past [] = 0
-  raises_from q past (e ∷ es) = if is_raise q (after e.step past) past then suc (raises_from q (after e.step past) es) else raises_from q (after e.step past) es
+  raises_from q past (e ∷ es) =
+      let next = after e.step past in
+      if is_raise q next past then suc (raises_from q next es) else raises_from q next es
 
   unfoldable pub raises : ℕ → List Entry → ℕ
   raises q es = raises_from q [] es
 
 -- after each history the linked tasks of a cluster are exactly those of its top: a law of the definitions
 abbrev pub LinksAreTheTop : Type 0
-LinksAreTheTop = (g : Group) (es : List Entry) (c t : ℕ) → has t (tasks_in (links g c (past_of g es))) ≡ has t (top g c (past_of g es))
+LinksAreTheTop =
+    (g : Group) (es : List Entry) (c t : ℕ) → has t (tasks_in (links g c (past_of g es))) ≡ has t (top g c (past_of g es))

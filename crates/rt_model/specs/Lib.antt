@@ -26,7 +26,10 @@ pub mod Samples
 pub mod Worked
 pub mod WorkedJobs
 pub mod WorkedLocks
+pub mod WorkedOmlp
+pub mod WorkedBoosts
 pub mod WorkedPcp
 pub mod WorkedMpcp
 pub mod WorkedReservations
+pub mod WorkedReplenishment
 pub mod WorkedBody

@@ -15,7 +15,8 @@ use Rattle.rt_model.specs.Runs.{runs}
 module _ (g : Group) where
   -- an enforced job that has used its cost ends with its act, unless it holds a semaphore or is non-preemptive
   unfoldable pub is_spent : ℕ → Past → Bool
-  is_spent t past = (task g t).enforce && (nat_le (task g t).cost (used t past) && (is_empty (holds g t past) && not (non_preemptive t past)))
+  is_spent t past =
+      (task g t).enforce && (nat_le (task g t).cost (used t past) && (is_empty (holds g t past) && not (non_preemptive t past)))
 
   -- the job that an accepted act ends
   unfoldable pub ended_by : Act → Option ℕ → PastAct → Past → Option ℕ

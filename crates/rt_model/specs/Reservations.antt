@@ -1,5 +1,6 @@
 -- Reservations under P-RES: what is left of their budgets, by counting since the last refill.
-use Rattle.std.specs.Prelude.{ℕ, ◌+◌, ◌-◌, ◌*◌, ◌/◌, max, Bool, true, false, not, ◌&&◌, ◌||◌, ◌==◌, nat_lt, nat_le, [], ◌∷◌, Option, None, Some, if◌then◌else◌, filter, unwrap_or, is_some, count_by}
+use Rattle.std.specs.Prelude.{ℕ, ◌+◌, ◌-◌, ◌*◌, ◌/◌, max, Bool, true, false, not, ◌&&◌, ◌||◌, ◌==◌, nat_lt, nat_le, [], ◌∷◌, Option, None}
+use Rattle.std.specs.Prelude.{Some, if◌then◌else◌, filter, unwrap_or, is_some, count_by}
 use Rattle.std.specs.List.{list_any}
 use Rattle.rt_task.specs.declared.ResvKind.{ResvKind}
 use Rattle.rt_task.specs.declared.ResvKind.TheVariants.{Polling, Sporadic}
@@ -12,7 +13,8 @@ module _ (g : Group) where
   unfoldable pub any_ready : ℕ → Past → Bool
   any_ready r past = list_any (λ t. ready g t past) (clients g r)
 
-  -- the ready client of the earliest release, ties to the lower number
+  -- the ready client of the earliest release, ties to the lower number; a job that is open early has its release ahead, so that
+  -- one that is released goes before it
   unfoldable pub earlier : Past → ℕ → ℕ → Bool
   earlier past t u =
       let a = unwrap_or (release g t past) 0 in
@@ -60,7 +62,8 @@ module _ (g : Group) where
 
   unfoldable pub is_lost : ℕ → Past → Bool
   is_lost r [] = is_loss (resv g r).kind r []
-  is_lost r (e ∷ past) = is_loss (resv g r).kind r (e ∷ past) || not (is_refill (resv g r).kind r e past (refilled r past)) && is_lost r past
+  is_lost r (e ∷ past) =
+      is_loss (resv g r).kind r (e ∷ past) || not (is_refill (resv g r).kind r e past (refilled r past)) && is_lost r past
 
   unfoldable pub left : ℕ → Past → ℕ
   left r past = if is_some (refilled r past) && not (is_lost r past) then (resv g r).budget - spent r past else 0

@@ -20,11 +20,13 @@ use Rattle.rt_task.specs.declared.Kind.TheVariants.{Periodic, Sporadic}
 use Rattle.rt_history.specs.declared.Entry.{Entry}
 use Rattle.rt_history.specs.declared.Reply.{Reply}
 use Rattle.rt_history.specs.declared.Reply.TheVariants as replies
+use Rattle.rt_rules.specs.Pcp.{TaskSem}
 use Rattle.rt_model.specs.Blocking.{Asked, requests, ends, ends_all, bound}
 use Rattle.rt_model.specs.Group.{Group, group_processors}
 use Rattle.rt_model.specs.Histories.{played}
 use Rattle.rt_model.specs.Links.{linked}
 use Rattle.rt_model.specs.Past.{Past}
+use Rattle.rt_model.specs.Reservations.{left, last}
 
 abbrev pub sem_no : ℕ → SemNo
 sem_no n = record { 0 = n }
@@ -159,6 +161,14 @@ steps_of ls = map (λ (l : Line). l.step) ls
 
 abbrev pub entries_of : List Line → List Entry
 entries_of ls = map (λ (l : Line). record { step = l.step; reply = l.reply }) ls
+
+-- a task and a semaphore that it holds
+abbrev pub held_by : ℕ → ℕ → TaskSem
+held_by t s = record { task = t; sem = s }
+
+-- what is left of the budget of reservation 1, and the clock of its last replenishment
+abbrev pub budget_of : Group → Past → ℕ × Option ℕ
+budget_of g past = (left g 1 past, last g 1 past)
 
 abbrev pub opening : Group → List (ℕ × Option ℕ)
 opening g = map (λ q. (q, linked g q [])) (group_processors g)

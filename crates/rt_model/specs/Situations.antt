@@ -27,7 +27,14 @@ module _ (g : Group) where
   lacks_budget (Some t) past = no_budget g g.setup.plugin t past
 
   unfoldable pub situation : ℕ → Past → Situation
-  situation q past = record { runs = option_map task_no (runs q past); at = place_of (runs q past) past; np = np_on g (runs q past) past; pending = pending g q past; worked = same (last_work q past) (Some (now past)); budget = not (lacks_budget (runs q past) past) }
+  situation q past = record {
+    runs = option_map task_no (runs q past);
+    at = place_of (runs q past) past;
+    np = np_on g (runs q past) past;
+    pending = pending g q past;
+    worked = same (last_work q past) (Some (now past));
+    budget = not (lacks_budget (runs q past) past);
+  }
 
   -- the next operation of the body, but that a Work waits for the next tick, or for budget
   unfoldable pub next_op : Situation → Option Op → Option Act

@@ -1,5 +1,5 @@
 -- Worked examples: the next acts of processor 0 in body runs.
-use Rattle.std.specs.Prelude.{◌≡◌, List, [], ◌∷◌, Option, None, Some, refl}
+use Rattle.std.specs.Prelude.{◌≡◌, true, false, List, [], ◌∷◌, Option, None, Some, refl}
 use Rattle.rt_task.specs.declared.Drive.TheVariants.{Horizon}
 use Rattle.rt_task.specs.declared.PluginKind.TheVariants as plugins
 use Rattle.rt_task.specs.declared.Protocol.TheVariants.{Fmlp}
@@ -8,6 +8,7 @@ use Rattle.rt_task.specs.declared.Step.{Step}
 use Rattle.rt_task.specs.declared.Act.{Act}
 use Rattle.rt_task.specs.declared.Op.TheVariants as ops
 use Rattle.rt_history.specs.declared.Reply.TheVariants.{Done, Quiet}
+use Rattle.rt_history.specs.declared.Situation.{Situation}
 use Rattle.rt_model.specs.Computed.{computed}
 use Rattle.rt_model.specs.Group.{Group}
 use Rattle.rt_model.specs.Histories.{after}
@@ -129,3 +130,11 @@ pub queued_lock_nexts : nexts queued_lock [] queued_lock_steps ≡
     []
 unfolding computed
 queued_lock_nexts = refl
+
+-- a processor that runs nothing takes its interrupt, whatever is said of a section
+abbrev pub idle_situation : Situation
+idle_situation = record { runs = None; at = 0; np = true; pending = true; worked = false; budget = true }
+
+pub idle_next : next_act body_run idle_situation ≡ Some irq
+unfolding computed
+idle_next = refl

@@ -1,11 +1,12 @@
 -- Worked examples: releases, arrivals, early releasing, sleeping, and enforcement.
-use Rattle.std.specs.Prelude.{List, [], ◌∷◌, None, Some, refl}
+use Rattle.std.specs.Prelude.{◌≡◌, List, [], ◌∷◌, None, Some, refl}
 use Rattle.rt_task.specs.declared.PluginKind.TheVariants as plugins
-use Rattle.rt_history.specs.declared.Reply.TheVariants.{Done, Idle, TooEarly, NotSporadic}
+use Rattle.rt_history.specs.declared.Reply.TheVariants.{Done, Idle, Spent, TooEarly, NotSporadic}
 use Rattle.rt_model.specs.Computed.{computed}
 use Rattle.rt_model.specs.Group.{Group}
-use Rattle.rt_model.specs.Samples.{Line, line, IsTrace, group_of, cluster_with, periodic, sporadic, with_phase, enforced, early, tick}
-use Rattle.rt_model.specs.Samples.{irq, arrive, work, sleep, np_on, np_off, end, runs_task, to}
+use Rattle.rt_model.specs.Histories.{raises}
+use Rattle.rt_model.specs.Samples.{Line, line, entries_of, IsTrace, group_of, cluster_with, periodic, sporadic, with_phase, enforced}
+use Rattle.rt_model.specs.Samples.{early, tick, irq, arrive, work, sleep, np_on, np_off, end, runs_task, to}
 
 -- a job that ends is followed by that of the next deadline
 abbrev pub next_job : Group
@@ -44,6 +45,25 @@ pub late_jobs_played : IsTrace late_jobs (to 0 (Some 1) ∷ []) late_jobs_lines
 unfolding computed
 late_jobs_played = (refl, refl)
 
+-- a step with an earlier tick leaves the clock
+abbrev pub earlier_tick : Group
+earlier_tick =
+    group_of plugins.GsnEdf (cluster_with 1 0 ∷ []) [] [] (
+    with_phase 5 (periodic 1 1 1000 30) ∷
+    [])
+
+abbrev pub earlier_tick_lines : List Line
+earlier_tick_lines =
+    line 0 5 tick Done (to 0 (Some 1) ∷ []) ∷
+    line 0 3 irq (runs_task 1) [] ∷
+    line 0 3 work Done [] ∷
+    line 0 5 work Spent [] ∷
+    []
+
+pub earlier_tick_played : IsTrace earlier_tick (to 0 None ∷ []) earlier_tick_lines
+unfolding computed
+earlier_tick_played = (refl, refl)
+
 -- arrivals come a period apart, and to sporadic tasks alone
 abbrev pub sporadic_arrivals : Group
 sporadic_arrivals =
@@ -80,7 +100,9 @@ first_arrival_lines =
     line 0 15 (arrive 1) Done [] ∷
     line 0 15 end Done [] ∷
     line 0 15 irq (runs_task 1) [] ∷
-    line 0 15 end Done (to 0 None ∷ []) ∷
+    line 0 20 (arrive 1) TooEarly [] ∷
+    line 0 25 (arrive 1) Done [] ∷
+    line 0 25 end Done [] ∷
     []
 
 pub first_arrival_played : IsTrace first_arrival (to 0 None ∷ []) first_arrival_lines
@@ -109,6 +131,11 @@ early_releasing_lines =
 pub early_releasing_played : IsTrace early_releasing (to 0 (Some 1) ∷ []) early_releasing_lines
 unfolding computed
 early_releasing_played = (refl, refl)
+
+-- each end raises an interrupt, also the last, after which the link is the same
+pub early_releasing_raises : raises early_releasing 0 (entries_of early_releasing_lines) ≡ 3
+unfolding computed
+early_releasing_raises = refl
 
 -- the first job of an early task is not early
 abbrev pub early_from_phase : Group

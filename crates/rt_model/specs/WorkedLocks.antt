@@ -1,20 +1,20 @@
--- Worked examples: FMLP and OMLP.
+-- Worked examples: FMLP, inheritance, and what a lock is answered.
 use Rattle.std.specs.Prelude.{◌≡◌, List, [], ◌∷◌, None, Some, refl}
 use Rattle.rt_task.specs.declared.PluginKind.TheVariants as plugins
 use Rattle.rt_task.specs.declared.Protocol.{Protocol}
 use Rattle.rt_task.specs.declared.Protocol.TheVariants.{Fmlp, Omlp}
-use Rattle.rt_history.specs.declared.Reply.TheVariants.{Done, Granted, Queued, Quiet, Idle, NotDeclared, Nested, NotHeld, Holding}
+use Rattle.rt_history.specs.declared.Reply.TheVariants.{Done, Granted, Queued, Idle, NotDeclared, Nested, NotHeld, Holding, InNp}
 use Rattle.rt_model.specs.Computed.{computed}
 use Rattle.rt_model.specs.Group.{Group}
 use Rattle.rt_model.specs.Histories.{past_by}
-use Rattle.rt_model.specs.Samples.{Line, line, steps_of, IsTrace, group_of, cluster_with, sem_under, periodic, sporadic, in_cluster}
-use Rattle.rt_model.specs.Samples.{using, enforced, irq, arrive, work, lock, unlock, sleep, end, runs_task, to, block, blocks}
+use Rattle.rt_model.specs.Samples.{Line, line, steps_of, IsTrace, group_of, cluster_with, sem_under, periodic, sporadic, using, enforced}
+use Rattle.rt_model.specs.Samples.{irq, arrive, work, lock, unlock, sleep, np_on, np_off, end, runs_task, to, block, blocks}
 
--- a semaphore that the task does not declare
+-- a semaphore that the task does not declare, whether the job holds another or not
 abbrev pub undeclared : Group
 undeclared =
-    group_of plugins.GsnEdf (cluster_with 1 0 ∷ []) (sem_under Fmlp ∷ []) [] (
-    periodic 1 1 1000 10 ∷
+    group_of plugins.GsnEdf (cluster_with 1 0 ∷ []) (sem_under Fmlp ∷ sem_under Fmlp ∷ []) [] (
+    using (2 ∷ []) (periodic 1 1 1000 10) ∷
     [])
 
 abbrev pub undeclared_lines : List Line
@@ -22,11 +22,53 @@ undeclared_lines =
     line 0 0 irq (runs_task 1) [] ∷
     line 0 0 (lock 1) NotDeclared [] ∷
     line 0 0 (unlock 1) NotHeld [] ∷
+    line 0 0 (lock 2) Granted [] ∷
+    line 0 0 (lock 1) NotDeclared [] ∷
+    line 0 0 (unlock 2) Done [] ∷
     []
 
 pub undeclared_played : IsTrace undeclared (to 0 (Some 1) ∷ []) undeclared_lines
 unfolding computed
 undeclared_played = (refl, refl)
+
+pub undeclared_blocks : blocks undeclared (past_by undeclared [] (steps_of undeclared_lines)) ≡
+    block 3 1 2 0 0 (Some 0) ∷
+    []
+unfolding computed
+undeclared_blocks = refl
+
+-- a non-preemptive job works and unlocks, and does nothing else but end its section
+abbrev pub while_non_preemptive : Group
+while_non_preemptive =
+    group_of plugins.GsnEdf (cluster_with 1 0 ∷ []) (sem_under Fmlp ∷ sem_under Fmlp ∷ []) [] (
+    using (1 ∷ 2 ∷ []) (periodic 1 9 1000 30) ∷
+    [])
+
+abbrev pub while_non_preemptive_lines : List Line
+while_non_preemptive_lines =
+    line 0 0 irq (runs_task 1) [] ∷
+    line 0 0 (lock 1) Granted [] ∷
+    line 0 0 np_on Done [] ∷
+    line 0 0 (lock 2) InNp [] ∷
+    line 0 0 (sleep 5) InNp [] ∷
+    line 0 0 np_on InNp [] ∷
+    line 0 0 end InNp [] ∷
+    line 0 0 work Done [] ∷
+    line 0 0 (unlock 1) Done [] ∷
+    line 0 0 np_off Done [] ∷
+    line 0 0 (lock 2) Granted [] ∷
+    []
+
+pub while_non_preemptive_played : IsTrace while_non_preemptive (to 0 (Some 1) ∷ []) while_non_preemptive_lines
+unfolding computed
+while_non_preemptive_played = (refl, refl)
+
+pub while_non_preemptive_blocks : blocks while_non_preemptive (past_by while_non_preemptive [] (steps_of while_non_preemptive_lines)) ≡
+    block 1 1 1 0 0 (Some 0) ∷
+    block 10 1 2 0 0 (Some 0) ∷
+    []
+unfolding computed
+while_non_preemptive_blocks = refl
 
 -- a forced end is put off to the unlock
 abbrev pub fmlp_end_put_off : Group
@@ -97,69 +139,40 @@ pub fmlp_in_order_blocks : blocks fmlp_in_order (past_by fmlp_in_order [] (steps
 unfolding computed
 fmlp_in_order_blocks = refl
 
--- FMLP under PSN-EDF: the holder is boosted, above the earlier deadline of task 2
-abbrev pub fmlp_boost : Group
-fmlp_boost =
-    group_of plugins.PsnEdf (cluster_with 1 0 ∷ cluster_with 1 0 ∷ []) (sem_under Fmlp ∷ []) [] (
-    using (1 ∷ []) (periodic 1 1 1000 100) ∷
-    sporadic 2 1 1000 5 ∷
-    using (1 ∷ []) (in_cluster 1 (periodic 3 1 1000 100)) ∷
-    [])
-
-abbrev pub fmlp_boost_lines : List Line
-fmlp_boost_lines =
-    line 0 0 irq (runs_task 1) [] ∷
-    line 0 0 (lock 1) Granted [] ∷
-    line 0 1 (arrive 2) Done [] ∷
-    line 1 1 irq (runs_task 3) [] ∷
-    line 1 1 (lock 1) Queued (to 1 None ∷ []) ∷
-    line 0 1 (unlock 1) Done (to 0 (Some 2) ∷ to 1 (Some 3) ∷ []) ∷
-    []
-
-pub fmlp_boost_played : IsTrace fmlp_boost (to 0 (Some 1) ∷ to 1 (Some 3) ∷ []) fmlp_boost_lines
-unfolding computed
-fmlp_boost_played = (refl, refl)
-
-pub fmlp_boost_blocks : blocks fmlp_boost (past_by fmlp_boost [] (steps_of fmlp_boost_lines)) ≡
-    block 1 1 1 0 0 (Some 1) ∷
-    block 4 3 1 1 1 (Some 1) ∷
-    []
-unfolding computed
-fmlp_boost_blocks = refl
-
--- two boosted FMLP holders of one cluster: the earlier grant goes first, whatever their deadlines and numbers
-abbrev pub fmlp_by_grant : Group
-fmlp_by_grant =
-    group_of plugins.PsnEdf (cluster_with 1 0 ∷ cluster_with 1 0 ∷ []) (sem_under Fmlp ∷ sem_under Fmlp ∷ []) [] (
-    using (2 ∷ []) (periodic 1 1 1000 10) ∷
+-- a second request of the same task is counted by itself
+abbrev pub asked_again : Group
+asked_again =
+    group_of plugins.GsnEdf (cluster_with 2 0 ∷ []) (sem_under Fmlp ∷ []) [] (
+    using (1 ∷ []) (periodic 1 1 1000 10) ∷
     using (1 ∷ []) (periodic 2 1 1000 20) ∷
-    using (2 ∷ []) (in_cluster 1 (periodic 3 1 1000 30)) ∷
     [])
 
-abbrev pub fmlp_by_grant_lines : List Line
-fmlp_by_grant_lines =
-    line 1 0 irq (runs_task 3) [] ∷
-    line 1 0 (lock 2) Granted [] ∷
+abbrev pub asked_again_lines : List Line
+asked_again_lines =
     line 0 0 irq (runs_task 1) [] ∷
-    line 0 0 (lock 2) Queued (to 0 (Some 2) ∷ []) ∷
-    line 0 1 irq (runs_task 2) [] ∷
-    line 0 1 (lock 1) Granted [] ∷
-    line 1 2 (unlock 2) Done [] ∷
-    line 0 2 irq Quiet [] ∷
-    line 0 2 (unlock 1) Done (to 0 (Some 1) ∷ []) ∷
+    line 1 0 irq (runs_task 2) [] ∷
+    line 0 0 (lock 1) Granted [] ∷
+    line 1 0 (lock 1) Queued (to 1 None ∷ []) ∷
+    line 0 1 (unlock 1) Done (to 1 (Some 2) ∷ []) ∷
+    line 1 1 irq (runs_task 2) [] ∷
+    line 1 1 (unlock 1) Done [] ∷
+    line 0 2 (lock 1) Granted [] ∷
+    line 1 2 (lock 1) Queued (to 1 None ∷ []) ∷
+    line 0 3 (unlock 1) Done (to 1 (Some 2) ∷ []) ∷
     []
 
-pub fmlp_by_grant_played : IsTrace fmlp_by_grant (to 0 (Some 1) ∷ to 1 (Some 3) ∷ []) fmlp_by_grant_lines
+pub asked_again_played : IsTrace asked_again (to 0 (Some 1) ∷ to 1 (Some 2) ∷ []) asked_again_lines
 unfolding computed
-fmlp_by_grant_played = (refl, refl)
+asked_again_played = (refl, refl)
 
-pub fmlp_by_grant_blocks : blocks fmlp_by_grant (past_by fmlp_by_grant [] (steps_of fmlp_by_grant_lines)) ≡
-    block 1 3 2 0 0 (Some 1) ∷
-    block 3 1 2 1 1 (Some 1) ∷
-    block 5 2 1 0 0 (Some 0) ∷
+pub asked_again_blocks : blocks asked_again (past_by asked_again [] (steps_of asked_again_lines)) ≡
+    block 2 1 1 0 0 (Some 1) ∷
+    block 3 2 1 1 1 (Some 1) ∷
+    block 7 1 1 0 0 (Some 1) ∷
+    block 8 2 1 1 1 (Some 1) ∷
     []
 unfolding computed
-fmlp_by_grant_blocks = refl
+asked_again_blocks = refl
 
 -- a holder inherits: task 1 holds, task 3 waits for it, and task 2, whose deadline is between theirs, is not linked in its
 -- stead
@@ -190,97 +203,3 @@ fmlp_holder_inherits_played = (refl, refl)
 pub omlp_holder_inherits_played : IsTrace (holder_inherits Omlp) (to 0 (Some 1) ∷ []) holder_inherits_lines
 unfolding computed
 omlp_holder_inherits_played = (refl, refl)
-
--- OMLP: the third request, number 6, sees 2 * 2 - 1 = 3 critical sections end while blocked
-abbrev pub omlp_bound_reached : Group
-omlp_bound_reached =
-    group_of plugins.GsnEdf (cluster_with 2 0 ∷ []) (sem_under Omlp ∷ []) [] (
-    using (1 ∷ []) (periodic 1 1 1000 100) ∷
-    using (1 ∷ []) (periodic 2 1 1000 100) ∷
-    using (1 ∷ []) (sporadic 3 1 1000 50) ∷
-    using (1 ∷ []) (sporadic 4 1 1000 20) ∷
-    [])
-
-abbrev pub omlp_bound_reached_lines : List Line
-omlp_bound_reached_lines =
-    line 0 0 irq (runs_task 1) [] ∷
-    line 1 0 irq (runs_task 2) [] ∷
-    line 0 0 (lock 1) Granted [] ∷
-    line 1 0 (lock 1) Queued (to 1 None ∷ []) ∷
-    line 1 1 (arrive 3) Done (to 1 (Some 3) ∷ []) ∷
-    line 1 1 irq (runs_task 3) [] ∷
-    line 1 1 (lock 1) Queued (to 1 None ∷ []) ∷
-    line 1 2 (arrive 4) Done (to 1 (Some 4) ∷ []) ∷
-    line 1 2 irq (runs_task 4) [] ∷
-    line 1 2 (lock 1) Queued (to 1 None ∷ []) ∷
-    line 0 2 (unlock 1) Done (to 1 (Some 2) ∷ []) ∷
-    line 1 2 irq (runs_task 2) [] ∷
-    line 1 2 (unlock 1) Done (to 1 (Some 4) ∷ []) ∷
-    line 1 2 irq (runs_task 4) [] ∷
-    line 1 2 (unlock 1) Done (to 0 (Some 3) ∷ []) ∷
-    line 0 2 irq (runs_task 3) [] ∷
-    line 0 2 (unlock 1) Done [] ∷
-    []
-
-pub omlp_bound_reached_played : IsTrace omlp_bound_reached (to 0 (Some 1) ∷ to 1 (Some 2) ∷ []) omlp_bound_reached_lines
-unfolding computed
-omlp_bound_reached_played = (refl, refl)
-
-pub omlp_bound_reached_blocks : blocks omlp_bound_reached (past_by omlp_bound_reached [] (steps_of omlp_bound_reached_lines)) ≡
-    block 2 1 1 0 0 (Some 3) ∷
-    block 3 2 1 0 1 (Some 3) ∷
-    block 6 3 1 3 3 (Some 3) ∷
-    block 9 4 1 2 2 (Some 3) ∷
-    []
-unfolding computed
-omlp_bound_reached_blocks = refl
-
--- OMLP: tasks that sleep count in suspension-oblivious blocking, so that request 10 counts none
-abbrev pub omlp_suspended : Group
-omlp_suspended =
-    group_of plugins.GsnEdf (cluster_with 2 0 ∷ []) (sem_under Omlp ∷ []) [] (
-    using (1 ∷ []) (periodic 1 1 1000 100) ∷
-    using (1 ∷ []) (periodic 2 1 1000 100) ∷
-    using (1 ∷ []) (sporadic 3 1 1000 50) ∷
-    using (1 ∷ []) (sporadic 4 1 1000 20) ∷
-    periodic 5 1 1000 40 ∷
-    periodic 6 1 1000 41 ∷
-    [])
-
-abbrev pub omlp_suspended_lines : List Line
-omlp_suspended_lines =
-    line 0 0 irq (runs_task 5) [] ∷
-    line 1 0 irq (runs_task 6) [] ∷
-    line 0 0 (sleep 900) Done (to 0 (Some 1) ∷ []) ∷
-    line 1 0 (sleep 900) Done (to 1 (Some 2) ∷ []) ∷
-    line 0 0 irq (runs_task 1) [] ∷
-    line 1 0 irq (runs_task 2) [] ∷
-    line 0 0 (lock 1) Granted [] ∷
-    line 1 0 (lock 1) Queued (to 1 None ∷ []) ∷
-    line 1 1 (arrive 3) Done (to 1 (Some 3) ∷ []) ∷
-    line 1 1 irq (runs_task 3) [] ∷
-    line 1 1 (lock 1) Queued (to 1 None ∷ []) ∷
-    line 1 2 (arrive 4) Done (to 1 (Some 4) ∷ []) ∷
-    line 1 2 irq (runs_task 4) [] ∷
-    line 1 2 (lock 1) Queued (to 1 None ∷ []) ∷
-    line 0 2 (unlock 1) Done (to 1 (Some 2) ∷ []) ∷
-    line 1 2 irq (runs_task 2) [] ∷
-    line 1 2 (unlock 1) Done (to 1 (Some 4) ∷ []) ∷
-    line 1 2 irq (runs_task 4) [] ∷
-    line 1 2 (unlock 1) Done (to 0 (Some 3) ∷ []) ∷
-    line 0 2 irq (runs_task 3) [] ∷
-    line 0 2 (unlock 1) Done [] ∷
-    []
-
-pub omlp_suspended_played : IsTrace omlp_suspended (to 0 (Some 5) ∷ to 1 (Some 6) ∷ []) omlp_suspended_lines
-unfolding computed
-omlp_suspended_played = (refl, refl)
-
-pub omlp_suspended_blocks : blocks omlp_suspended (past_by omlp_suspended [] (steps_of omlp_suspended_lines)) ≡
-    block 6 1 1 0 0 (Some 3) ∷
-    block 7 2 1 0 1 (Some 3) ∷
-    block 10 3 1 0 3 (Some 3) ∷
-    block 13 4 1 2 2 (Some 3) ∷
-    []
-unfolding computed
-omlp_suspended_blocks = refl

@@ -1,12 +1,13 @@
 -- Worked examples: reservations under P-RES.
-use Rattle.std.specs.Prelude.{List, [], ◌∷◌, None, Some, refl}
+use Rattle.std.specs.Prelude.{◌≡◌, List, [], ◌∷◌, None, Some, refl}
 use Rattle.rt_task.specs.declared.PluginKind.TheVariants as plugins
 use Rattle.rt_task.specs.declared.ResvKind.TheVariants as resv_kinds
 use Rattle.rt_history.specs.declared.Reply.TheVariants.{Done, Idles, Spent, NoBudget}
 use Rattle.rt_model.specs.Computed.{computed}
 use Rattle.rt_model.specs.Group.{Group}
-use Rattle.rt_model.specs.Samples.{Line, line, IsTrace, group_of, cluster_with, reservation, periodic, sporadic, with_phase, client_of}
-use Rattle.rt_model.specs.Samples.{early, tick, irq, arrive, work, end, runs_task, to}
+use Rattle.rt_model.specs.Histories.{past_by}
+use Rattle.rt_model.specs.Samples.{Line, line, steps_of, IsTrace, group_of, cluster_with, reservation, periodic, sporadic, with_phase}
+use Rattle.rt_model.specs.Samples.{client_of, early, tick, irq, arrive, work, end, runs_task, to, budget_of}
 
 -- a sporadic reservation is replenished a period after the last time
 abbrev pub sporadic_reservation : Group
@@ -20,6 +21,7 @@ sporadic_reservation_lines =
     line 0 0 irq (runs_task 1) [] ∷
     line 0 0 work Done [] ∷
     line 0 1 work Done (to 0 None ∷ []) ∷
+    line 0 1 work Spent [] ∷
     line 0 2 work NoBudget [] ∷
     line 0 2 irq Idles [] ∷
     line 0 9 tick Done [] ∷
@@ -29,6 +31,16 @@ sporadic_reservation_lines =
 pub sporadic_reservation_played : IsTrace sporadic_reservation (to 0 (Some 1) ∷ []) sporadic_reservation_lines
 unfolding computed
 sporadic_reservation_played = (refl, refl)
+
+pub sporadic_reservation_state :
+    budget_of sporadic_reservation (past_by sporadic_reservation [] (steps_of sporadic_reservation_lines)) ≡ (2, Some 10)
+unfolding computed
+sporadic_reservation_state = refl
+
+pub sporadic_reservation_at_opening :
+    budget_of sporadic_reservation [] ≡ (2, Some 0)
+unfolding computed
+sporadic_reservation_at_opening = refl
 
 -- a polling reservation loses its budget where no client is ready, until the next period begins
 abbrev pub polling_reservation : Group
@@ -51,6 +63,12 @@ pub polling_reservation_played : IsTrace polling_reservation (to 0 None ∷ []) 
 unfolding computed
 polling_reservation_played = (refl, refl)
 
+-- it is lost at opening too, where nobody is ready
+pub polling_reservation_at_opening :
+    budget_of polling_reservation [] ≡ (0, Some 0)
+unfolding computed
+polling_reservation_at_opening = refl
+
 -- two periods that pass in one move of the clock are one replenishment; the work of the step comes after it
 abbrev pub two_periods : Group
 two_periods =
@@ -70,6 +88,12 @@ two_periods_lines =
 pub two_periods_played : IsTrace two_periods (to 0 (Some 1) ∷ []) two_periods_lines
 unfolding computed
 two_periods_played = (refl, refl)
+
+-- its last replenishment is shown as the beginning of the period
+pub two_periods_state :
+    budget_of two_periods (past_by two_periods [] (steps_of two_periods_lines)) ≡ (0, Some 20)
+unfolding computed
+two_periods_state = refl
 
 -- clients of one reservation: the one of the earliest release is in front, and of two the lower number
 abbrev pub two_clients : Group
@@ -121,54 +145,6 @@ two_reservations_lines =
 pub two_reservations_played : IsTrace two_reservations (to 0 (Some 3) ∷ []) two_reservations_lines
 unfolding computed
 two_reservations_played = (refl, refl)
-
--- the budget that a new period brings is lost at once, before the job arrives
-abbrev pub arrival_after_loss : Group
-arrival_after_loss =
-    group_of plugins.PRes (cluster_with 1 0 ∷ []) [] (reservation resv_kinds.Polling 2 10 1 ∷ []) (
-    client_of 1 (sporadic 1 5 5 100) ∷
-    [])
-
-abbrev pub arrival_after_loss_lines : List Line
-arrival_after_loss_lines =
-    line 0 10 (arrive 1) Done [] ∷
-    line 0 11 tick Done [] ∷
-    line 0 20 tick Done (to 0 (Some 1) ∷ []) ∷
-    []
-
-pub arrival_after_loss_played : IsTrace arrival_after_loss (to 0 None ∷ []) arrival_after_loss_lines
-unfolding computed
-arrival_after_loss_played = (refl, refl)
-
--- a sporadic reservation keeps what is left, and the period runs from the clock of its last replenishment
-abbrev pub budget_is_kept : Group
-budget_is_kept =
-    group_of plugins.PRes (cluster_with 1 0 ∷ []) [] (reservation resv_kinds.Sporadic 2 10 1 ∷ []) (
-    client_of 1 (sporadic 1 5 5 100) ∷
-    [])
-
-abbrev pub budget_is_kept_lines : List Line
-budget_is_kept_lines =
-    line 0 0 (arrive 1) Done (to 0 (Some 1) ∷ []) ∷
-    line 0 0 irq (runs_task 1) [] ∷
-    line 0 0 work Done [] ∷
-    line 0 0 end Done (to 0 None ∷ []) ∷
-    line 0 5 (arrive 1) Done (to 0 (Some 1) ∷ []) ∷
-    line 0 5 irq (runs_task 1) [] ∷
-    line 0 5 work Done (to 0 None ∷ []) ∷
-    line 0 9 tick Done [] ∷
-    line 0 9 irq Idles [] ∷
-    line 0 12 tick Done (to 0 (Some 1) ∷ []) ∷
-    line 0 12 irq (runs_task 1) [] ∷
-    line 0 12 work Done [] ∷
-    line 0 13 work Done (to 0 None ∷ []) ∷
-    line 0 21 tick Done [] ∷
-    line 0 22 tick Done (to 0 (Some 1) ∷ []) ∷
-    []
-
-pub budget_is_kept_played : IsTrace budget_is_kept (to 0 None ∷ []) budget_is_kept_lines
-unfolding computed
-budget_is_kept_played = (refl, refl)
 
 -- an early client is ready at once, so that the budget is not lost at the end of its job
 abbrev pub early_client : Group

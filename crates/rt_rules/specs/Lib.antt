@@ -8,3 +8,4 @@ pub mod Mpcp
 pub mod Pcp
 pub mod Walks
 pub mod Placing
+pub mod Worked

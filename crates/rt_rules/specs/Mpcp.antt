@@ -1,4 +1,4 @@
--- MPCP (Rajkumar; suspension-based): the waiting request of the highest base key is next.
+-- MPCP (Rajkumar, ICDCS 1990; suspension-based): the waiting request of the highest base key is next.
 -- `above t u` says that the base key of t is higher than that of u.
 use Rattle.std.specs.Prelude.{ℕ, Bool, List, [], ◌∷◌, ◌++◌, Option, None, Some}
 use Rattle.rt_rules.specs.Numbers.{without, foremost}

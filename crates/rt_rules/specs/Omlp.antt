@@ -14,9 +14,11 @@ abbrev pub handed_over : Option ℕ → OmlpState → OmlpState
 handed_over None l = l
 handed_over (Some t) l = record { fifo = l.fifo ++ t ∷ []; queue = without t l.queue }
 
--- a request joins the FIFO list where that has room, else the priority queue; at a release the head leaves, and the highest of the priority queue is handed over
+-- a request joins the FIFO list where that has room, else the priority queue; at a release the head leaves, and the highest of
+-- the priority queue is handed over
 abbrev pub omlp_after : ℕ → (ℕ → ℕ → Bool) → SemAct → OmlpState → OmlpState
-omlp_after m above (Asks t s) l = if nat_lt (length l.fifo) m then record l { fifo = l.fifo ++ t ∷ [] } else record l { queue = l.queue ++ t ∷ [] }
+omlp_after m above (Asks t s) l =
+    if nat_lt (length l.fifo) m then record l { fifo = l.fifo ++ t ∷ [] } else record l { queue = l.queue ++ t ∷ [] }
 omlp_after m above (Frees t s) l = handed_over (foremost above l.queue) (record l { fifo = rest l.fifo })
 omlp_after m above Neither l = l
 

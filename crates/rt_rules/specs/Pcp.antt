@@ -1,4 +1,4 @@
--- PCP (Sha, Rajkumar and Lehoczky, 1990): the semaphores of one cluster, with the ceiling test.
+-- PCP (Sha, Rajkumar and Lehoczky, IEEE Transactions on Computers, 1990): the semaphores of one cluster, with the ceiling test.
 -- `above t u` says that the base key of t is higher than that of u; `above_ceiling t s` that it is higher than the ceiling of s.
 use Rattle.std.specs.Prelude.{ℕ, Bool, not, ◌&&◌, ◌==◌, List, [], ◌∷◌, ◌++◌, map, Option, None, Some, if◌then◌else◌, filter}
 use Rattle.std.specs.List.{list_all}
@@ -50,8 +50,12 @@ tested above_ceiling [] l = l
 tested above_ceiling (p ∷ ps) l = tested above_ceiling ps (if passes above_ceiling l.held p.task then granted p l else l)
 
 abbrev pub pcp_after : (ℕ → ℕ → Bool) → (ℕ → ℕ → Bool) → SemAct → PcpState → PcpState
-pcp_after above above_ceiling (Asks t s) l = if passes above_ceiling l.held t then record l { held = record { task = t; sem = s } ∷ l.held } else record l { waiting = l.waiting ++ record { task = t; sem = s } ∷ [] }
-pcp_after above above_ceiling (Frees t s) l = tested above_ceiling (in_order above l.waiting) (record l { held = without_pair (record { task = t; sem = s }) l.held })
+pcp_after above above_ceiling (Asks t s) l =
+    if passes above_ceiling l.held t
+    then record l { held = record { task = t; sem = s } ∷ l.held }
+    else record l { waiting = l.waiting ++ record { task = t; sem = s } ∷ [] }
+pcp_after above above_ceiling (Frees t s) l =
+    tested above_ceiling (in_order above l.waiting) (record l { held = without_pair (record { task = t; sem = s }) l.held })
 pcp_after above above_ceiling Neither l = l
 
 -- one of the semaphores: who holds it and who waits for it

@@ -1,0 +1,5 @@
+use Rattle.rt_laws.proofs.Bounds as laws
+use Rattle.rt_laws.proofs.blocked_ends_are_ends.Goals as goal
+
+pub returns : goal.returns
+returns c = laws.blocked_ends_are_ends
