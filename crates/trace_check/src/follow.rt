@@ -6,7 +6,7 @@ ghost use Rattle.group_state.specs.Built.{is_built};
 ghost use Rattle.group_state.specs.Groups.{IsGroupOf};
 ghost use Rattle.rank_afresh.specs.Standing.{IsAt, group_of};
 ghost use Rattle.trace_lines.specs.Lines.{links_of};
-ghost use Rattle.trace_laws.specs.Scripts.{steps_given};
+ghost use Rattle.rt_plays.specs.Drives.{steps_given};
 ghost use Rattle.trace_check.specs.Following.{CanStep, first_group, IsAccepted, IsFollowing, IsFollowingWith, IsNextEntry, IsNextPlace, IsNextStep, IsOver, Place};
 
 use crate::links::{are_same, read_changed, read_links};

@@ -10,7 +10,10 @@ use rt_task::Setup;
 use std::alloc::Global;
 
 /// So many processors, numbered from `first` on.
-#[tactic(auto, using(crate::proofs::CpuLaws::numbers_more, crate::proofs::CpuLaws::numbers_start))]
+#[tactic(
+    auto,
+    using(crate::proofs::CpuLaws::numbers_more, crate::proofs::CpuLaws::numbers_start)
+)]
 fn put_cpus(cpus: &mut Vec<CpuNo>, first: u32, count: u32) -> Result<(), NoMemory>
     requires { first + count < 2 ^ 32 }
     ensures { OnOk result (cpu_numbers cpus.new.items ≡ cpu_numbers cpus.old.items ++ numbers_from first count) }
@@ -24,7 +27,7 @@ fn put_cpus(cpus: &mut Vec<CpuNo>, first: u32, count: u32) -> Result<(), NoMemor
 }
 
 /// The processors of a group, by rising number.
-#[tactic(auto, using(crate::proofs::CpuLaws::group_processors_among, crate::proofs::CpuLaws::few_cpus, std::proofs::Common::append_assoc))]
+#[tactic(auto, using(crate::proofs::CpuLaws::few_cpus, std::proofs::Common::append_assoc))]
 pub fn cpus_of(alloc: Global, setup: &Setup, group: GroupNo) -> Result<Vec<CpuNo>, NoMemory>
     requires { is_built setup.now ≡ true }
     ensures { IfOk result (λ cpus. cpu_numbers cpus.items ≡ group_processors (record { setup = setup.now; number = group.0 })) }

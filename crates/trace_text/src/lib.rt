@@ -12,6 +12,7 @@ ghost use Rattle.trace_text.specs.declared.stop.WriteStop.TheVariants as stops;
 
 mod cpus;
 mod groups;
+mod head;
 mod lines;
 mod links;
 mod replay;
@@ -21,6 +22,7 @@ use group_engine::Engine;
 use rt_fault::Sink;
 use rt_task::Setup;
 use std::alloc::Global;
+pub use head::head_of;
 pub use stop::WriteStop;
 
 /// Writes the trace of a setup and its groups, one engine for each group by rising number: the canonical set, each group

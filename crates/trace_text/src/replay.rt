@@ -1,5 +1,6 @@
 //! A group's steps taken again, for the links that each of them changes.
 ghost use Rattle.std.specs.Prelude.{◌≡◌, ◌-◌, ◌<◌, ◌≤◌, [], true, IfOk, OnOk};
+ghost use Rattle.rt_base.specs.declared.TheConstants.{MOST_STEPS};
 ghost use Rattle.rt_model.specs.Histories.{after, changed};
 ghost use Rattle.group_state.specs.Built.{is_built, is_built_act};
 ghost use Rattle.group_state.specs.Groups.{group_of, past, IsGroupOf, IsProcessorOf};
@@ -29,7 +30,7 @@ impl Replay {
     /// A group at opening, with room for so many steps.
     pub fn open(alloc: Global, setup: &Setup, group: GroupNo, room: u32) -> Result<Replay, NoMemory>
         requires group { IsGroupOf setup.now group.0 }
-        requires room { room ≤ 200000 }
+        requires room { room ≤ MOST_STEPS }
         requires built { is_built setup.now ≡ true }
         ensures opened { IfOk result (λ r. r.engine ≡ record { setup = setup.now; group = group.0; entries = []; spare = room }) }
         ensures follows { IfOk result (λ r. Follows r.engine r.cpus.items r.links.items) }
