@@ -28,12 +28,14 @@ module _ (g : Group) where
       let now : Past = after g e.step past in
       entry_line i e (links_at now (changed g past now)) ∷ entry_lines (i + 1) now es
 
+  -- the line of a request
+  abbrev pub block_of : Past → Asked → Line
+  block_of past r =
+      block_line r.no r.task r.sem (ends g r.no r.task r.sem past) (ends_all g r.no r.task r.sem past) (bound g r.task r.sem)
+
   -- one line for each request
   unfoldable pub block_lines : Past → List Line
-  block_lines past =
-      map
-      (λ (r : Asked). block_line r.no r.task r.sem (ends g r.no r.task r.sem past) (ends_all g r.no r.task r.sem past) (bound g r.task r.sem))
-      (requests past)
+  block_lines past = map (block_of past) (requests past)
 
   unfoldable pub group_lines : List Entry → List Line
   group_lines es = group_line g.number (links_at [] (group_processors g)) ∷ (entry_lines 0 [] es ++ block_lines (past_of g es))
