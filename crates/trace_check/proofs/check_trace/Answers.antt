@@ -3,6 +3,7 @@ use Rattle.std.proofs.lemmas.Result.{IfOk-weaker}
 use Rattle.rt_task.specs.declared.Parts.{Parts}
 use Rattle.trace_read.specs.declared.lines.Line.{Line}
 use Rattle.trace_read.specs.Lines.{lines_of}
+use Rattle.rt_rules.proofs.BoolLaws.{clash}
 use Rattle.trace_lines.specs.FirstLine.{format_1}
 use Rattle.trace_text.specs.TraceText.{head_text}
 use Rattle.trace_check.specs.Verdicts.{IsVerdict}
@@ -16,9 +17,7 @@ returns-then-not-branch c =
     not-canonical c.args.trace.now.setup c.parts.ensures.valid c.requires.built c.args.bytes.now (lines_of c.args.trace.now.lines) c.args.trace.now.stop c.requires.read
     (λ same.
         let begins = canonical-begins c.args.trace.now.setup c.args.bytes.now c.requires.read.set_text c.requires.read.rest c.requires.read.head same in
-        let yes : c.in_ok-has_head.branch ≡ true = (c.in_ok-has_head.ensures).1 (c.requires.read.rest, begins ∙ ap (λ (p : Parts). head_text format_1 p ++ c.requires.read.rest) (sym c.parts.ensures.parts)) in
-        let no : c.in_ok-has_head.branch ≡ false = c.if-not-branch.true in
-        cc)
+        clash _ ((c.in_ok-has_head.ensures).1 (c.requires.read.rest, begins ∙ ap (λ (p : Parts). head_text format_1 p ++ c.requires.read.rest) (sym c.parts.ensures.parts))) c.if-not-branch.true)
 
 pub returns : goal.returns
 returns c =
