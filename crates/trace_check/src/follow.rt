@@ -1,13 +1,16 @@
 //! The entry lines of a group, followed step by step.
-ghost use Rattle.std.specs.Prelude.{◌≡◌, ◌+◌, ◌<◌, ◌≤◌, ◌∷◌, ◌++◌, [], ℕ, true, false, IfOk, length, MatchOption};
+ghost use Rattle.std.specs.Prelude.{◌≡◌, ◌+◌, ◌<◌, ◌≤◌, ◌∷◌, ◌++◌, [], ℕ, true, false};
+ghost use Rattle.std.specs.Prelude.{IfOk, length, MatchOption};
 ghost use Rattle.rt_history.specs.declared.Entry.{Entry};
 ghost use Rattle.rt_model.specs.Histories.{after, past_of, reply_to};
 ghost use Rattle.group_state.specs.Built.{is_built};
 ghost use Rattle.group_state.specs.Groups.{IsGroupOf};
 ghost use Rattle.rank_afresh.specs.Standing.{IsAt, group_of};
 ghost use Rattle.trace_lines.specs.Lines.{links_of};
-ghost use Rattle.trace_laws.specs.Scripts.{steps_given};
-ghost use Rattle.trace_check.specs.Following.{CanStep, first_group, IsAccepted, IsFollowing, IsFollowingWith, IsNextEntry, IsNextPlace, IsNextStep, IsOver, Place};
+ghost use Rattle.rt_plays.specs.Drives.{steps_given};
+ghost use Rattle.trace_check.specs.Following.{CanStep, first_group, IsAccepted, IsFollowing};
+ghost use Rattle.trace_check.specs.Following.{IsFollowingWith, IsNextEntry, IsNextPlace};
+ghost use Rattle.trace_check.specs.Following.{IsNextStep, IsOver, Place};
 
 use crate::links::{are_same, read_changed, read_links};
 use crate::room::places;
@@ -20,8 +23,9 @@ use rt_task::{Setup, Step};
 use std::alloc::Global;
 use trace_lines::CpuLink;
 
-/// A group whose entries are followed: the ranker that replays them, the number of its processors, their links, those
-/// that the last entry changed, how many of the set's steps are behind each processor, and the number of entries.
+/// A group whose entries are followed: the ranker that replays them, the number of its processors,
+/// their links, those that the last entry changed, how many of the set's steps are behind each
+/// processor, and the number of entries.
 #[derive(Drop)]
 pub(crate) struct Follow {
     afresh: Afresh,
@@ -57,7 +61,11 @@ impl Follow {
     /// The place of a step among the set's steps, where it is the next one of its processor.
     fn place_of(&self, steps: &[Step], step: Step) -> Option<usize>
         requires { (at : Place) × IsFollowingWith at steps.now self.now }
-        ensures { (at : Place) → IsFollowingWith at steps.now self.now → MatchOption result (IsNextStep at.group at.entries step → ⊥) (λ j. IsNextPlace at.group at.entries step j) }
+        ensures {
+            (at : Place) → IsFollowingWith at steps.now self.now → MatchOption result
+                (IsNextStep at.group at.entries step → ⊥)
+                (λ j. IsNextPlace at.group at.entries step j)
+        }
     {
         if step.cpu.0 >= self.cpus {
             return None;
@@ -77,8 +85,14 @@ impl Follow {
     /// Whether no processor has a step left.
     pub(crate) fn is_over(&self, steps: &[Step]) -> bool
         requires { (at : Place) × IsFollowingWith at steps.now self.now }
-        ensures over { (at : Place) → IsFollowingWith at steps.now self.now → result ≡ true → IsOver at.group at.entries }
-        ensures not_over { (at : Place) → IsFollowingWith at steps.now self.now → result ≡ false → IsOver at.group at.entries → ⊥ }
+        ensures over {
+            (at : Place) → IsFollowingWith at steps.now self.now
+                → result ≡ true → IsOver at.group at.entries
+        }
+        ensures not_over {
+            (at : Place) → IsFollowingWith at steps.now self.now
+                → result ≡ false → IsOver at.group at.entries → ⊥
+        }
     {
         for q in 0..self.cpus {
             if let Some(_) = next_of(steps, self.passed[q as usize], CpuNo(q)) {
@@ -91,8 +105,14 @@ impl Follow {
     /// Takes a step of the group's: the clock moves, and the act is answered.
     fn step(&mut self, step: Step) -> Reply
         requires { (at : Place) × CanStep at self.old step }
-        ensures reply { (at : Place) → CanStep at self.old step → result ≡ reply_to at.group step (past_of at.group at.entries) }
-        ensures at { (at : Place) → CanStep at self.old step → IsAt self.new.afresh (after at.group step (past_of at.group at.entries)) }
+        ensures reply {
+            (at : Place) → CanStep at self.old step
+                → result ≡ reply_to at.group step (past_of at.group at.entries)
+        }
+        ensures at {
+            (at : Place) → CanStep at self.old step
+                → IsAt self.new.afresh (after at.group step (past_of at.group at.entries))
+        }
         ensures group { group_of self.new.afresh ≡ group_of self.old.afresh }
         ensures spare { self.new.afresh.spare + 1 ≡ self.old.afresh.spare }
         ensures others { self.new ≡ record self.old { afresh = self.new.afresh } }
@@ -101,8 +121,8 @@ impl Follow {
         self.afresh.act(step)
     }
 
-    /// Whether an entry line, by its number, its entry and its links, is the next one that is right. Where it is, its step
-    /// was taken.
+    /// Whether an entry line, by its number, its entry and its links, is the next one that is
+    /// right. Where it is, its step was taken.
     pub(crate) fn accepts(
         &mut self,
         steps: &[Step],
@@ -111,8 +131,15 @@ impl Follow {
         links: &[CpuLink],
     ) -> Result<bool, NoMemory>
         requires { (at : Place) × IsFollowingWith at steps.now self.old }
-        ensures accepted { IfOk result (λ b. (at : Place) → IsFollowingWith at steps.now self.old → b ≡ true → IsAccepted at no entry.now (links_of links.now) self.new) }
-        ensures refused { IfOk result (λ b. (at : Place) → IsFollowingWith at steps.now self.old → b ≡ false → IsNextEntry at.group at.entries no entry.now (links_of links.now) → ⊥) }
+        ensures accepted {
+            IfOk result (λ b. (at : Place) → IsFollowingWith at steps.now self.old
+                → b ≡ true → IsAccepted at no entry.now (links_of links.now) self.new)
+        }
+        ensures refused {
+            IfOk result (λ b. (at : Place) → IsFollowingWith at steps.now self.old
+                → b ≡ false
+                → IsNextEntry at.group at.entries no entry.now (links_of links.now) → ⊥)
+        }
     {
         if no != self.count {
             return Ok(false);

@@ -31,7 +31,10 @@ pub(crate) fn read_links(
     links: &mut Vec<CpuLink>,
 ) -> Result<(), NoMemory>
     requires { (q : ℕ) → q < cpus → IsProcessorOf (group_of afresh.now) q }
-    ensures { OnOk result ((past : Past) → IsAt afresh.now past → links_of links.new.items ≡ links_at (group_of afresh.now) past (numbers_from 0 cpus)) }
+    ensures {
+        OnOk result ((past : Past) → IsAt afresh.now past
+            → links_of links.new.items ≡ links_at (group_of afresh.now) past (numbers_from 0 cpus))
+    }
 {
     links.clear();
     for q in 0..cpus {
@@ -54,14 +57,18 @@ fn is_same(a: Option<TaskNo>, b: Option<TaskNo>) -> bool
     }
 }
 
-/// Puts those of the links that are others now, as they are now, in the place of what stood in `changed`.
+/// Puts those of the links that are others now, as they are now, in the place of what stood in
+/// `changed`.
 pub(crate) fn read_changed(
     afresh: &Afresh,
     links: &[CpuLink],
     changed: &mut Vec<CpuLink>,
 ) -> Result<(), NoMemory>
     requires { All (λ x. IsProcessorOf (group_of afresh.now) x.cpu.0) links.now }
-    ensures { OnOk result ((past : Past) → IsAt afresh.now past → links_of changed.new.items ≡ changed_links (λ q. linked (group_of afresh.now) q past) (links_of links.now)) }
+    ensures {
+        OnOk result ((past : Past) → IsAt afresh.now past → links_of changed.new.items ≡
+            changed_links (λ q. linked (group_of afresh.now) q past) (links_of links.now))
+    }
 {
     changed.clear();
     for link in links {

@@ -3,7 +3,7 @@ use Rattle.std.proofs.Common.{◌≡◌, ℕ, ◌+◌, ◌^◌, ◌<◌, ◌≤�
 use Rattle.std.specs.Prelude.{◌==◌, All, Option, None, Some}
 use Rattle.std.proofs.lemmas.List.{length-map}
 use Rattle.std.proofs.lemmas.List.Elements.{All-append, All-cons, All-nil, All-tail}
-use Rattle.rt_base.specs.declared.TheConstants.{TICK_END}
+use Rattle.rt_base.specs.declared.TheConstants.{MOST_STEPS, TICK_END}
 use Rattle.rt_task.specs.declared.Act.{Act}
 use Rattle.rt_task.specs.declared.Act.TheVariants as acts
 use Rattle.rt_task.specs.declared.Op.TheVariants as ops
@@ -34,7 +34,9 @@ use Rattle.trace_lines.specs.Known.{ActIsKnown, IsLine, IsNumberOf, Known, LinkI
 use Rattle.trace_lines.specs.Lines.{Link, end_line, entry_line, group_line}
 use Rattle.trace_text.specs.TraceText.{block_lines, entry_lines, group_lines, lines_from, links_at}
 use Rattle.trace_text.proofs.LineLaws.{blocks_none}
-use Rattle.trace_laws.specs.Scripts.{IsPlayOf}
+use Rattle.rt_plays.specs.Plays.{group_with}
+use Rattle.rt_plays.specs.ScriptPlays.{IsScriptPlay}
+use Rattle.rt_plays.proofs.ScriptParts.{begun-whole}
 use Rattle.trace_laws.proofs.Plays.{few-entries, play-is-played, play-steps, the_plain_group}
 use Rattle.trace_laws.proofs.StepsGiven.{IsGivenStep}
 
@@ -127,12 +129,12 @@ module _ (g : Group) (plain : IsPlainGroup g) where
       (omega (arith, plain.number_is), omega (arith, many, same, plain.cpus_low), links-known opened (group_processors g) (λ q h. h))
 
 -- each line of the history's text, with the line `end`
-pub known-lines : (p : Parts) (es : List Entry) → IsValid p → is_built p ≡ true → IsPlayOf (record { setup = p; number = 0 }) es → All (IsLine (known_of p)) (lines_from p 0 (es ∷ []))
+pub known-lines : (p : Parts) (es : List Entry) → IsValid p → is_built p ≡ true → IsScriptPlay (group_with p 0) es → All (IsLine (known_of p)) (lines_from p 0 (es ∷ []))
 unfolding group_lines
 known-lines p es valid built play =
-    let g : Group = record { setup = p; number = 0 } in
+    let g : Group = group_with p 0 in
     let plain : IsPlainGroup g = the_plain_group p valid built in
-    let few : length es ≤ 200000 = few-entries p es valid built play in
+    let few : length es ≤ MOST_STEPS = few-entries p es valid built (begun-whole (group_with p 0) es play) in
     let entries : All (IsLine (known_of p)) (entry_lines g 0 [] es) = entries-known g plain 0 es opened play.legal (play-steps p es valid built play) (omega arith) in
     let none : block_lines g (past_of g es) ≡ [] = blocks_none g es (play-is-played p es valid built play) in
     let listed : All (IsLine (known_of p)) (entry_lines g 0 [] es ++ block_lines g (past_of g es)) = rw (none, append-nil (entry_lines g 0 [] es)) entries in

@@ -1,5 +1,5 @@
 //! The links of a group's processors, read from an engine.
-ghost use Rattle.std.specs.Prelude.{◌≡◌, All, OnOk};
+ghost use Rattle.std.specs.Prelude.{◌≡◌, ℕ, All, OnOk};
 ghost use Rattle.rt_base.specs.TaskNos.{number_of_task};
 ghost use Rattle.rt_rules.specs.Numbers.{same};
 ghost use Rattle.rt_model.specs.Links.{linked};
@@ -12,11 +12,14 @@ use group_engine::Engine;
 use rt_base::{CpuNo, NoMemory, TaskNo};
 use trace_lines::CpuLink;
 
-#[tactic(auto, using(std::proofs::Common::append_assoc))]
 /// Puts the links of these processors in the place of what stood in `links`.
+#[tactic(auto, using(std::proofs::Common::append_assoc))]
 pub fn read_links(engine: &Engine, cpus: &[CpuNo], links: &mut Vec<CpuLink>) -> Result<(), NoMemory>
     requires { All (λ q. IsProcessorOf (group_of engine.now) q.0) cpus.now }
-    ensures { OnOk result (links_of links.new.items ≡ links_at (group_of engine.now) (past engine.now) (groups.cpu_numbers cpus.now)) }
+    ensures {
+        let now = links_at (group_of engine.now) (past engine.now) (groups.cpu_numbers cpus.now) in
+        OnOk result (links_of links.new.items ≡ now)
+    }
 {
     links.clear();
     for cpu in cpus {
@@ -41,15 +44,19 @@ fn is_same(a: Option<TaskNo>, b: Option<TaskNo>) -> bool
     }
 }
 
+/// Puts those of the links that are others now, as they are now, in the place of what stood in
+/// `changed`.
 #[tactic(auto, using(std::proofs::Common::append_assoc))]
-/// Puts those of the links that are others now, as they are now, in the place of what stood in `changed`.
 pub fn read_changed(
     engine: &Engine,
     links: &[CpuLink],
     changed: &mut Vec<CpuLink>,
 ) -> Result<(), NoMemory>
     requires { All (λ x. IsProcessorOf (group_of engine.now) x.cpu.0) links.now }
-    ensures { OnOk result (links_of changed.new.items ≡ groups.changed_links (λ q. linked (group_of engine.now) q (past engine.now)) (links_of links.now)) }
+    ensures {
+        let now = λ (q : ℕ). linked (group_of engine.now) q (past engine.now) in
+        OnOk result (links_of changed.new.items ≡ groups.changed_links now (links_of links.now))
+    }
 {
     changed.clear();
     for link in links {
