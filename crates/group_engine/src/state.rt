@@ -283,7 +283,7 @@ impl GroupState {
     fn next_job(&self, number: TaskNo, task: &Task) -> NextJob
         requires low { 1 ≤ number.0 }
         requires high { number.0 ≤ length self.now.done }
-        requires few { slice_index self.now.done (number.0 - 1) < 2 ^ 20 }
+        requires few { slice_index self.now.done (number.0 - 1) < 2 ^ 21 }
         requires phase { task.now.phase < TICK_END }
         requires period { task.now.period < TICK_END }
         requires deadline { task.now.rel_deadline < TICK_END }

@@ -123,14 +123,14 @@ module _ (g : Group) (s : IsPlainGroup g) (p : Past) (state : State) (k : IsKept
   pub task-high : (t : ℕ) → has t (tasks_of g 0) ≡ true → t ≤ length g.setup.tasks
   task-high t h = let low = task-low t h in let r = task_range t _ (rw s.homes_are at h) in omega arith
 
-  release-low : (t : ℕ) → has t (tasks_of g 0) ≡ true → length p ≤ 400001 → release_at g t (done t p) < 2 ^ 62
+  release-low : (t : ℕ) → has t (tasks_of g 0) ≡ true → length p ≤ 2 * MOST_STEPS + 1 → release_at g t (done t p) < 2 ^ 62
   release-low t h few =
       let f : IsPlainTask (task g t) = plain-task g s t h in
-      let a : done t p * (task g t).period ≤ 400001 * (task g t).period = (let d : done t p ≤ 400001 = (let e = done-few t in omega arith) in mul-le-mul_right (task g t).period d) in
-      let b : 400001 * (task g t).period ≤ 400001 * TICK_END = (let l : (task g t).period ≤ TICK_END = (let m = f.period_low in omega arith) in mul-le-mul_left 400001 l) in
+      let a : done t p * (task g t).period ≤ (2 * MOST_STEPS + 1) * (task g t).period = (let d : done t p ≤ 2 * MOST_STEPS + 1 = (let e = done-few t in omega arith) in mul-le-mul_right (task g t).period d) in
+      let b : (2 * MOST_STEPS + 1) * (task g t).period ≤ (2 * MOST_STEPS + 1) * TICK_END = (let l : (task g t).period ≤ TICK_END = (let m = f.period_low in omega arith) in mul-le-mul_left (2 * MOST_STEPS + 1) l) in
       omega (arith, f.phase_low, a, b)
 
-  pub bounded-waiting : length p ≤ 400001 → All (IsBounded (length g.setup.tasks)) state.waiting
+  pub bounded-waiting : length p ≤ 2 * MOST_STEPS + 1 → All (IsBounded (length g.setup.tasks)) state.waiting
   bounded-waiting few = subst (λ rs. All (IsBounded (length g.setup.tasks)) rs) (sym k.waiting_is) (ranked_by-each (IsBounded (length g.setup.tasks)) _ _ (tasks_of g 0) (λ t h. record { low = task-low t h; high = task-high t h; release_low = release-low t h few }))
 
 -- a task that runs is one of the cluster's, and its job is released

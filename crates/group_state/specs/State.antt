@@ -103,7 +103,7 @@ pub record Moment : Type 0 where
 -- what an act of a processor rests on: what is kept is of a moment of a group with these tasks
 pub record CanAct (at : Moment) (state : State) (tasks : List Task) (cpu : ℕ) : Type 0 where
   pub played : IsPlayed at.group
-  pub few : (t : ℕ) → has t (tasks_of at.group 0) ≡ true → done t at.past < 2 ^ 20
+  pub few : (t : ℕ) → has t (tasks_of at.group 0) ≡ true → done t at.past < 2 ^ 21
   pub kept : IsKept at.group at.past state
   pub inside : cpu < cpus at.group 0
   pub tasks_are : tasks ≡ at.group.setup.tasks
