@@ -1,24 +1,20 @@
 -- The blocker of a task is the owner of the newest grant among those of other tasks; a waiting task has one, and it does not wait.
-use Rattle.std.proofs.Common.{◌≡◌, ℕ, Bool, true, false, not, ◌&&◌, ◌||◌, cond, ◌⊎◌, inl, inr, eqb-true, List, [], ◌∷◌, map, refl, sym, ap, ◌∙◌, subst, arith}
-use Rattle.std.specs.Prelude.{Option, None, Some, ◌==◌, nat_lt, is_none, filter}
-use Rattle.std.proofs.lemmas.Bool.Decides.{nat_tests}
+use Rattle.std.proofs.Common.{◌≡◌, ℕ, Bool, true, false, List, [], ◌∷◌, refl, ap, ◌∙◌, subst}
+use Rattle.std.specs.Prelude.{Some, ◌==◌}
 use Rattle.rt_order.specs.declared.Key.{Key}
-use Rattle.rt_order.specs.KeyOrder.{higher}
-use Rattle.rt_rules.specs.Numbers.{has, first, foremost}
-use Rattle.rt_rules.specs.Pcp.{TaskSem, PcpState, of_sem, of_others, passes, holder_among}
-use Rattle.rt_rules.proofs.PlacingLaws.{either, or_true, unless}
+use Rattle.rt_rules.specs.Numbers.{has, first}
+use Rattle.rt_rules.specs.Pcp.{TaskSem, PcpState, of_others, passes}
+use Rattle.rt_rules.proofs.PlacingLaws.{unless}
 use Rattle.sem_laws.specs.KeptKeys.{key_at}
-use Rattle.rt_rules.proofs.MemberLaws.{equal_self, has-first, some-is, turned}
-use Rattle.rt_rules.proofs.BoolLaws.{both, clash}
-use Rattle.rt_rules.proofs.KeyLaws.{IsOrder, foremost-none, foremost-some, higher-mixed, keys-order}
-use Rattle.rt_order.specs.OrderLaws.{higher-irreflexive, higher-transitive}
-use Rattle.pcp_sem.specs.Pairs.{has_pair, tasks_of, sems_of}
+use Rattle.rt_rules.proofs.MemberLaws.{equal_self}
+use Rattle.rt_rules.proofs.BoolLaws.{clash}
+use Rattle.pcp_sem.specs.Pairs.{tasks_of}
 use Rattle.pcp_sem.specs.Stack.{IsStacked, IsStack}
-use Rattle.pcp_sem.specs.PcpKept.{above_ceiling, has_higher_ceiling, blocker_of}
+use Rattle.pcp_sem.specs.PcpKept.{above_ceiling, blocker_of}
 use Rattle.pcp_sem.specs.IsPcp.{IsSound}
-use Rattle.rt_rules.proofs.PairLaws.{has-of_sem, has_pair-others, pair-of, sem-there}
+use Rattle.rt_rules.proofs.PairLaws.{pair-of}
 use Rattle.rt_rules.proofs.BlockerLaws.{newest-of_others}
-use Rattle.rt_rules.proofs.PcpLaws.{newest-other, passes-above_ceiling, passes-cons}
+use Rattle.rt_rules.proofs.PcpLaws.{newest-other}
 
 -- the owner of the newest grant among those of others is the blocker
 pub blocker-newest : (ceilings keys : List Key) (t : ℕ) (l : PcpState) → IsStacked (above_ceiling keys ceilings) l.held → IsSound ceilings keys l → blocker_of ceilings l.held t ≡ first (tasks_of (of_others t l.held))

@@ -1,10 +1,10 @@
-use Rattle.std.proofs.Common.{◌≡◌, ◌≢◌, ◌<◌, ◌∙◌, ◌++◌, ℕ, true, false, length, sym, ap, arith}
+use Rattle.std.proofs.Common.{◌≡◌, ◌≢◌, ◌∙◌, ◌++◌, ℕ, true, false, length, sym, ap, arith}
 use Rattle.std.specs.Prelude.{slice_set}
-use Rattle.rt_order.specs.KeyOrder.{higher, equal_keys}
+use Rattle.rt_order.specs.KeyOrder.{equal_keys}
 use Rattle.rt_rules.specs.Numbers.{has}
 use Rattle.rt_rules.specs.Pcp.{passes}
 use Rattle.sem_laws.specs.KeptKeys.{key_at}
-use Rattle.pcp_sem.specs.Pairs.{has_pair, tasks_of}
+use Rattle.pcp_sem.specs.Pairs.{tasks_of}
 use Rattle.pcp_sem.specs.PcpKept.{above_ceiling}
 use Rattle.pcp_sem.specs.Listed.{pairs}
 use Rattle.pcp_sem.proofs.OrderLaws.{length-pairs}
