@@ -1,5 +1,5 @@
 -- Worked examples: the next acts of processor 0 in body runs.
-use Rattle.std.specs.Prelude.{◌≡◌, true, false, List, [], ◌∷◌, Option, None, Some, refl}
+use Rattle.std.specs.Prelude.{◌≡◌, ℕ, true, false, List, [], ◌∷◌, ◌++◌, Option, None, Some, refl}
 use Rattle.rt_task.specs.declared.Drive.TheVariants.{Horizon}
 use Rattle.rt_task.specs.declared.PluginKind.TheVariants as plugins
 use Rattle.rt_task.specs.declared.Protocol.TheVariants.{Fmlp}
@@ -11,7 +11,7 @@ use Rattle.rt_history.specs.declared.Reply.TheVariants.{Done, Quiet}
 use Rattle.rt_history.specs.declared.Situation.{Situation}
 use Rattle.rt_model.specs.Computed.{computed}
 use Rattle.rt_model.specs.Group.{Group}
-use Rattle.rt_model.specs.Histories.{after}
+use Rattle.rt_model.specs.Histories.{after, past_by}
 use Rattle.rt_model.specs.Past.{Past}
 use Rattle.rt_model.specs.Samples.{Line, line, steps_of, IsTrace, step_of, group_of, cluster_with, sem_under, reservation, sem_no}
 use Rattle.rt_model.specs.Samples.{periodic, using, client_of, with_body, tick, irq, work, lock, unlock, np_on, np_off, end, runs_task, to}
@@ -22,13 +22,16 @@ abbrev pub nexts : Group → Past → List Step → List (Option Act)
 nexts g past [] = next_act g (situation g 0 past) ∷ []
 nexts g past (step ∷ steps) = next_act g (situation g 0 past) ∷ nexts g (after g step past) steps
 
--- two units of work a job: the second waits for the next tick, and the second job begins the body anew
-abbrev pub body_run : Group
-body_run =
+-- two units of work a job: the second waits for the next tick
+abbrev pub body_run_of : ℕ → Group
+body_run_of horizon =
     let g = group_of plugins.GsnEdf (cluster_with 1 0 ∷ []) [] [] (
     with_body (ops.Work ∷ ops.Work ∷ ops.End ∷ []) (periodic 1 2 3 3) ∷
     []) in
-    record g { setup = record g.setup { drive = Horizon 4 } }
+    record g { setup = record g.setup { drive = Horizon horizon } }
+
+abbrev pub body_run : Group
+body_run = body_run_of 3
 
 abbrev pub body_run_lines : List Line
 body_run_lines =
@@ -41,8 +44,6 @@ body_run_lines =
     line 0 1 end Done (to 0 None ∷ []) ∷
     line 0 2 tick Done [] ∷
     line 0 2 irq Quiet [] ∷
-    line 0 3 tick Done (to 0 (Some 1) ∷ []) ∷
-    line 0 3 irq (runs_task 1) [] ∷
     []
 
 pub body_run_played : IsTrace body_run (to 0 (Some 1) ∷ []) body_run_lines
@@ -60,11 +61,27 @@ pub body_run_nexts : nexts body_run [] (steps_of body_run_lines) ≡
     None ∷
     None ∷
     None ∷
-    Some irq ∷
-    Some work ∷
     []
 unfolding computed
 body_run_nexts = refl
+
+-- the second job begins the body anew
+abbrev pub second_job : Group
+second_job = body_run_of 4
+
+abbrev pub second_job_lines : List Line
+second_job_lines = body_run_lines ++
+    line 0 3 tick Done (to 0 (Some 1) ∷ []) ∷
+    line 0 3 irq (runs_task 1) [] ∷
+    []
+
+pub second_job_played : IsTrace second_job (to 0 (Some 1) ∷ []) second_job_lines
+unfolding computed
+second_job_played = (refl, refl)
+
+pub second_job_next : next_act second_job (situation second_job 0 (past_by second_job [] (steps_of second_job_lines))) ≡ Some work
+unfolding computed
+second_job_next = refl
 
 -- no budget is left: an interrupt is pending and deferred, NpOff goes on, and Work waits for the replenishment
 abbrev pub without_budget : Group
