@@ -15,10 +15,9 @@ use Rattle.group_state.proofs.Limits.{plain}
 use Rattle.group_state.proofs.Stepping.{inside}
 use Rattle.rank_afresh.specs.Standing.{IsAt, group_of}
 use Rattle.trace_lines.specs.declared.links.CpuLink.{CpuLink}
-use Rattle.trace_lines.specs.Lines.{Link, links_of}
+use Rattle.trace_lines.specs.Lines.{links_of}
 use Rattle.trace_text.specs.TraceText.{links_at}
-use Rattle.trace_text.specs.Groups.{changed_links}
-use Rattle.trace_text.proofs.ReplayLaws.{changed_by}
+use Rattle.trace_text.proofs.ReplayLaws.{AreRead}
 use Rattle.rt_plays.proofs.ScriptParts.{part-next, script-steps_of-next, script-steps_of-skip}
 use Rattle.rt_plays.specs.Drives.{steps_given}
 use Rattle.rt_plays.specs.ScriptPlays.{IsBegunScriptPlay}
@@ -68,12 +67,18 @@ module _ (at : Place) (steps : List Step) (f : Follow) (fw : IsFollowingWith at 
   pub cpu-inside : step.cpu.0 < length f.passed.items
   cpu-inside = let i : step.cpu.0 < cpus g 0 = inside g step.cpu.0 fw.following.played np.next.home in omega (arith, fw.following.passed_length)
 
-  -- the links that the step changed
-  pub changed-are : (v : Group) (ls : List CpuLink) (shown : List Link) → v ≡ g → ls ≡ f.links.items → shown ≡ changed_links (λ q. linked v q (after g step (past_of g es))) (links_of ls) → shown ≡ links_at g (after g step (past_of g es)) (changed g (past_of g es) (after g step (past_of g es)))
-  changed-are v ls shown same links_same told =
-      told ∙ ap (λ (x : Group). changed_links (λ q. linked x q (after g step (past_of g es))) (links_of ls)) same
-      ∙ ap (λ (xs : List CpuLink). changed_links (λ q. linked g q (after g step (past_of g es))) (links_of xs)) links_same
-      ∙ changed_by g (past_of g es) (after g step (past_of g es)) f.links.items fw.following.links_are
+  -- the links after the step, and those before
+  pub read-now : (v : Group) (n : ℕ) (before links : List CpuLink) → v ≡ g → n ≡ f.cpus → before ≡ f.links.items
+      → links_of links ≡ links_at v (after g step (past_of g es)) (numbers_from 0 n) → AreRead g (past_of g es) (after g step (past_of g es)) before links
+  read-now v n before links same count before_is read =
+      let s : IsPlainGroup g = plain g fw.following.played in
+      record {
+        before_are = ap links_of before_is ∙ fw.following.links_are;
+        links_are =
+            read ∙ ap (λ (x : Group). links_at x (after g step (past_of g es)) (numbers_from 0 n)) same
+            ∙ ap (λ m. links_at g (after g step (past_of g es)) (numbers_from 0 m)) (count ∙ fw.following.cpus_are)
+            ∙ ap (λ qs. links_at g (after g step (past_of g es)) qs) (sym s.processors_are);
+      }
 
   -- what is followed afterwards
   pub record IsTaken (f' : Follow) : Type 0 where

@@ -12,7 +12,7 @@ ghost use Rattle.trace_check.specs.Following.{CanStep, first_group, IsAccepted, 
 ghost use Rattle.trace_check.specs.Following.{IsFollowingWith, IsNextEntry, IsNextPlace};
 ghost use Rattle.trace_check.specs.Following.{IsNextStep, IsOver, Place};
 
-use crate::links::{are_same, read_changed, read_links};
+use crate::links::{are_same, read_links};
 use crate::room::places;
 use crate::same::{is_same_reply, is_same_step};
 use crate::scripts::next_of;
@@ -21,16 +21,19 @@ use rt_base::{CpuNo, GroupNo, MOST_STEPS, NoMemory};
 use rt_history::{Entry, Reply};
 use rt_task::{Setup, Step};
 use std::alloc::Global;
+use std::mem;
 use trace_lines::CpuLink;
+use trace_text::put_changed;
 
 /// A group whose entries are followed: the ranker that replays them, the number of its processors,
-/// their links, those that the last entry changed, how many of the set's steps are behind each
-/// processor, and the number of entries.
+/// their links now and before the last entry, those that this entry changed, how many of the set's
+/// steps are behind each processor, and the number of entries.
 #[derive(Drop)]
 pub(crate) struct Follow {
     afresh: Afresh,
     cpus: u32,
     links: Vec<CpuLink>,
+    before: Vec<CpuLink>,
     changed: Vec<CpuLink>,
     passed: Vec<usize>,
     count: u32,
@@ -52,6 +55,7 @@ impl Follow {
             afresh,
             cpus,
             links,
+            before: Vec::new(alloc),
             changed: Vec::new(alloc),
             passed,
             count: 0,
@@ -150,11 +154,12 @@ impl Follow {
         if !is_same_reply(self.step(entry.step), entry.reply) {
             return Ok(false);
         }
-        read_changed(&self.afresh, self.links.as_slice(), &mut self.changed)?;
+        mem::swap(&mut self.before, &mut self.links);
+        read_links(&self.afresh, self.cpus, &mut self.links)?;
+        put_changed(self.before.as_slice(), self.links.as_slice(), &mut self.changed)?;
         if !are_same(self.changed.as_slice(), links) {
             return Ok(false);
         }
-        read_links(&self.afresh, self.cpus, &mut self.links)?;
         self.passed[entry.step.cpu.0 as usize] = j + 1;
         self.count += 1;
         Ok(true)

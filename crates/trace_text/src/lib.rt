@@ -24,6 +24,7 @@ use rt_fault::Sink;
 use rt_task::Setup;
 use std::alloc::Global;
 pub use head::head_of;
+pub use links::{is_same_task, put_changed};
 pub use stop::WriteStop;
 
 /// Writes the trace of a setup and its groups, one engine for each group by rising number: the

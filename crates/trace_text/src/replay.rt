@@ -9,20 +9,22 @@ ghost use Rattle.trace_text.specs.TraceText.{links_at};
 ghost use Rattle.trace_text.specs.Groups.{Follows};
 
 use crate::cpus::cpus_of;
-use crate::links::{read_changed, read_links};
+use crate::links::{put_changed, read_links};
 use group_engine::Engine;
 use rt_base::{CpuNo, GroupNo, NoMemory};
 use rt_task::{Setup, Step};
 use std::alloc::Global;
+use std::mem;
 use trace_lines::CpuLink;
 
-/// An engine that takes the steps of another one again, with its processors, their links, and the
-/// links that the last step changed.
+/// An engine that takes the steps of another one again, with its processors, their links now and
+/// before the last step, and those that this step changed.
 #[derive(Drop)]
 pub struct Replay {
     engine: Engine,
     cpus: Vec<CpuNo>,
     links: Vec<CpuLink>,
+    before: Vec<CpuLink>,
     changed: Vec<CpuLink>,
 }
 
@@ -47,6 +49,7 @@ impl Replay {
             engine,
             cpus,
             links,
+            before: Vec::new(alloc),
             changed: Vec::new(alloc),
         })
     }
@@ -87,7 +90,8 @@ impl Replay {
         }
     {
         self.engine.step(step);
-        read_changed(&self.engine, self.links.as_slice(), &mut self.changed)?;
-        read_links(&self.engine, self.cpus.as_slice(), &mut self.links)
+        mem::swap(&mut self.before, &mut self.links);
+        read_links(&self.engine, self.cpus.as_slice(), &mut self.links)?;
+        put_changed(self.before.as_slice(), self.links.as_slice(), &mut self.changed)
     }
 }
