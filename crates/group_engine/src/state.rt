@@ -15,7 +15,7 @@ ghost use Rattle.rt_model.specs.Answers.{answer};
 ghost use Rattle.rt_model.specs.Outcomes.{past_act};
 ghost use Rattle.group_state.specs.Built.{is_built_act};
 ghost use Rattle.group_engine.specs.Queue.{ranked, ranked_all};
-ghost use Rattle.group_state.specs.Ranked.{ranked_by, tasks_of, without_task};
+ghost use Rattle.rt_rules.specs.Rankings.{ranked_by, tasks_of, without_task};
 ghost use Rattle.link_table.specs.Linked.{irq_reply, after_irq};
 ghost use Rattle.group_state.specs.Due.{due_ready, not_due, ready_task};
 ghost use Rattle.group_state.specs.Moves.{CanOpen, first_waiting, opened, replaced, clock_moved, has_worked, has_run, job_ended};

@@ -20,8 +20,8 @@ use Rattle.rt_model.specs.Runs.{runs, leaves}
 use Rattle.rt_model.specs.Answers.{answer, last_work}
 use Rattle.rt_model.specs.Outcomes.{past_act}
 use Rattle.group_state.specs.Moves.{has_worked, job_ended, replaced}
-use Rattle.group_state.specs.Ranked as queue
-use Rattle.group_state.specs.Ranked.{without_task}
+use Rattle.rt_rules.specs.Rankings as queue
+use Rattle.rt_rules.specs.Rankings.{without_task}
 use Rattle.group_state.specs.State.{State, IsKept, Moment, CanAct, CanOperate, release_at, key_at, top_tasks, linked_of}
 use Rattle.group_state.proofs.Plain.{IsPlainTask}
 use Rattle.group_state.proofs.PlainGroup.{IsPlainGroup}

@@ -10,6 +10,7 @@ use Rattle.rt_history.specs.declared.Entry.{Entry}
 use Rattle.rt_rules.specs.Numbers.{has, numbers_from}
 use Rattle.rt_rules.specs.Distinct.{IsDistinct}
 use Rattle.rt_rules.specs.Placing.{placed, at_place}
+use Rattle.rt_rules.proofs.NumberLaws.{numbers_from-below}
 use Rattle.rt_model.specs.Group.{Group, no_task, task, cpus}
 use Rattle.rt_model.specs.Past.{Clock}
 use Rattle.rt_model.specs.Jobs.{done}
@@ -18,10 +19,9 @@ use Rattle.rt_model.specs.Links.{linked}
 use Rattle.group_state.proofs.Replies.{linked-at, runs-at}
 use Rattle.rt_model.specs.Histories.{past_of, reply_to}
 use Rattle.rt_model.proofs.Steps.{past_of-append, after-acted, reply_to-lem, IsLegal-append}
-use Rattle.rt_model.proofs.PastLaws.{numbers_from-below}
 use Rattle.group_state.specs.Groups.{IsProcessorOf, IsPlayedEntry}
 use Rattle.group_state.specs.Built.{is_built_act}
-use Rattle.group_state.specs.Ranked as queue
+use Rattle.rt_rules.specs.Rankings as queue
 use Rattle.group_state.specs.Due.{due_ready}
 use Rattle.group_state.specs.Moves.{clock_moved}
 use Rattle.group_state.specs.State.{State, IsKept, IsPlayed, IsSound, IsBounded, Moment, CanAct, HasActed, rel_deadline_of, top_tasks}

@@ -41,7 +41,7 @@ impl Model for PcpSet {
     ghost use Rattle.rt_base.specs.TaskNos.{numbers};
     ghost use Rattle.pcp_sem.specs.Listed.{pairs};
     ghost use Rattle.pcp_sem.specs.PcpKept.{PcpKept};
-    ghost use Rattle.pcp_sem.specs.IsPcp.{IsKept};
+    ghost use Rattle.pcp_sem.specs.IsPcp.{IsPcpTable};
 
     ghost Value = { PcpKept };
 
@@ -52,7 +52,7 @@ impl Model for PcpSet {
       grants = numbers a.grants.items;
     } };
 
-    ghost invariant = { λ a. IsKept a.ceilings.items a.keys.items
+    ghost invariant = { λ a. IsPcpTable a.ceilings.items a.keys.items
         (record {
           held = pairs a.held.items;
           waiting = pairs a.waiting.items;
@@ -113,10 +113,10 @@ impl PcpSet {
             } }
         ensures granted { (result ≡ Ask.Granted) ↔
             (passes (above_ceiling self.new.keys self.new.ceilings)
-                self.old.state.held task.0 ≡ true) }
+            self.old.state.held task.0 ≡ true) }
         ensures queued { (result ≡ Ask.Queued) ↔
             (passes (above_ceiling self.new.keys self.new.ceilings)
-                self.old.state.held task.0 ≡ false) }
+            self.old.state.held task.0 ≡ false) }
         ensures settled { IsSettled self.new }
     {
         self.keys[task.0 as usize] = key;

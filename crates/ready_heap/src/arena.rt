@@ -26,13 +26,13 @@ pub(crate) struct Arena {
 impl Model for Arena {
     ghost use Rattle.std.specs.Prelude.{List, Option, map};
     ghost use Rattle.ready_heap.specs.declared.arena.Node.{Node};
-    ghost use Rattle.ready_heap.specs.Arena.{node_in, IsKept};
+    ghost use Rattle.ready_heap.specs.Arena.{node_in, IsArena};
 
     ghost Value = { List (Option Node) };
 
     ghost view = { λ a. map (node_in a.nodes) a.kept.items };
 
-    ghost invariant = { λ a. IsKept a.nodes a.kept.items };
+    ghost invariant = { λ a. IsArena a.nodes a.kept.items };
 }
 
 impl Arena {

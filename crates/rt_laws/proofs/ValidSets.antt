@@ -34,8 +34,7 @@ use Rattle.rt_rules.specs.Numbers.{has, numbers_from}
 use Rattle.rt_model.specs.Group.{Group, cluster, cpus, declares, home, no_cluster, no_resv, no_sem, no_task, protocol, resv, sem, sems, task, tasks, users}
 use Rattle.rt_rules.proofs.BoolLaws.{both, either, or_true}
 use Rattle.rt_rules.proofs.MemberLaws.{equal_self, has-filter, list_all-has, turned}
-use Rattle.rt_rules.proofs.NumberLaws.{has-numbers_from, numbers_from-has}
-use Rattle.rt_model.proofs.PastLaws.{numbers_from-below}
+use Rattle.rt_rules.proofs.NumberLaws.{has-numbers_from, numbers_from-has, numbers_from-below}
 use Rattle.rt_laws.proofs.GroupLaws.{user-task}
 use Rattle.rt_laws.proofs.Rules.{MeetsRules}
 

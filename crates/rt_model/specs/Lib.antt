@@ -17,7 +17,7 @@ pub mod Tops
 pub mod Links
 pub mod Answers
 pub mod Outcomes
-pub mod Made
+pub mod Reachable
 pub mod Situations
 pub mod Histories
 pub mod Blocking

@@ -7,6 +7,7 @@ pub mod DistinctLaws
 pub mod RankedLaws
 pub mod KeyLaws
 pub mod RankingLaws
+pub mod RankedByLaws
 pub mod SemActLaws
 pub mod FmlpLaws
 pub mod OmlpLaws

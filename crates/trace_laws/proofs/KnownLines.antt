@@ -16,14 +16,13 @@ use Rattle.rt_history.specs.declared.Reply.TheVariants as replies
 use Rattle.rt_rules.specs.Numbers.{has, is}
 use Rattle.rt_rules.proofs.BoolLaws.{both, or_true}
 use Rattle.rt_rules.proofs.MemberLaws.{equal_self, has-filter}
-use Rattle.rt_rules.proofs.NumberLaws.{has-numbers_from}
+use Rattle.rt_rules.proofs.NumberLaws.{has-numbers_from, numbers_from-below}
 use Rattle.rt_model.specs.Group.{Group, cpus, group_processors, tasks}
 use Rattle.rt_model.specs.Histories.{IsLegalFrom, after, changed, past_of, reply_to}
 use Rattle.rt_model.specs.Links.{linked}
-use Rattle.rt_model.specs.Made.{IsMade, acted, clocked, opened}
+use Rattle.rt_model.specs.Reachable.{IsReachable, acted, clocked, opened}
 use Rattle.rt_model.specs.Past.{Past, Clock}
 use Rattle.rt_model.proofs.AnswerLaws.{answer-runs_link, to_run}
-use Rattle.rt_model.proofs.PastLaws.{numbers_from-below}
 use Rattle.rt_model.proofs.Steps.{reply_to-lem}
 use Rattle.rt_laws.proofs.LinkedTasks.{linked-eligible}
 use Rattle.group_state.specs.Built.{is_built, is_built_act}
@@ -62,7 +61,7 @@ act-known k (acts.Do ops.NpOn) h = tt
 act-known k (acts.Do ops.NpOff) h = tt
 act-known k (acts.Do ops.End) h = tt
 
-made-after : (g : Group) (s : Step) {past : Past} → IsMade g past → IsMade g (after g s past)
+made-after : (g : Group) (s : Step) {past : Past} → IsReachable g past → IsReachable g (after g s past)
 unfolding after
 made-after g s made = acted s.cpu.0 s.act (clocked s.tick.0 made)
 
@@ -81,7 +80,7 @@ module _ (g : Group) (plain : IsPlainGroup g) where
       let few : length g.setup.tasks ≤ 1024 = plain.set.few_tasks in
       record { low = low; high = omega arith; fits = omega arith }
 
-  linked-known : {past : Past} → IsMade g past → (q : ℕ) → TargetIsKnown k (linked g q past)
+  linked-known : {past : Past} → IsReachable g past → (q : ℕ) → TargetIsKnown k (linked g q past)
   linked-known {past} made q = target-known k (linked g q past) (λ t h. task-known t (linked-eligible g made q t h).member)
 
   processor-low : (q : ℕ) → IsProcessorOf g q → q < 64
@@ -89,17 +88,17 @@ module _ (g : Group) (plain : IsPlainGroup g) where
       let low : q < 0 + cpus g 0 = numbers_from-below q 0 (cpus g 0) (rw plain.processors_are at h) in
       omega (arith, low, plain.cpus_high)
 
-  links-known : {past : Past} → IsMade g past → (qs : List ℕ) → ((q : ℕ) → has q qs ≡ true → IsProcessorOf g q) → All (LinkIsKnown k) (links_at g past qs)
+  links-known : {past : Past} → IsReachable g past → (qs : List ℕ) → ((q : ℕ) → has q qs ≡ true → IsProcessorOf g q) → All (LinkIsKnown k) (links_at g past qs)
   links-known made [] there = All-nil (LinkIsKnown k)
   links-known {past} made (q ∷ qs) there =
       let low : q < 64 = processor-low q (there q (rw (equal_self q))) in
       All-cons (LinkIsKnown k) (q, linked g q past) (links_at g past qs) (omega arith, linked-known made q) (links-known made qs (λ r h. there r (rw h (or_true (r == q)))))
 
-  legal-reply : (s : Step) {past : Past} → IsMade g past → ReplyIsKnown k (reply_to g s past)
+  legal-reply : (s : Step) {past : Past} → IsReachable g past → ReplyIsKnown k (reply_to g s past)
   legal-reply s {past} made =
       reply-known k (reply_to g s past) (λ t h. task-known t (linked-eligible g (clocked s.tick.0 made) s.cpu.0 t (answer-runs_link g s.cpu.0 t s.act (Clock s.tick.0 ∷ past) (rw reply_to-lem at h))).member)
 
-  entry-known : (i : ℕ) (e : Entry) {past : Past} → IsMade g past → e.reply ≡ reply_to g e.step past → IsGivenStep g e.step → i < 2 ^ 32
+  entry-known : (i : ℕ) (e : Entry) {past : Past} → IsReachable g past → e.reply ≡ reply_to g e.step past → IsGivenStep g e.step → i < 2 ^ 32
       → IsLine k (entry_line i e (links_at g (after g e.step past) (changed g past (after g e.step past))))
   entry-known i e {past} made legal given low =
       let tick : e.step.tick.0 < TICK_END = given.tick_low in
@@ -113,7 +112,7 @@ module _ (g : Group) (plain : IsPlainGroup g) where
         links_known = links-known (made-after g e.step made) (changed g past (after g e.step past)) (changed-processor g past (after g e.step past));
       }
 
-  entries-known : (i : ℕ) (es : List Entry) {past : Past} → IsMade g past → IsLegalFrom g past es → All (λ (e : Entry). IsGivenStep g e.step) es → i + length es ≤ 2 ^ 32 → All (IsLine k) (entry_lines g i past es)
+  entries-known : (i : ℕ) (es : List Entry) {past : Past} → IsReachable g past → IsLegalFrom g past es → All (λ (e : Entry). IsGivenStep g e.step) es → i + length es ≤ 2 ^ 32 → All (IsLine k) (entry_lines g i past es)
   unfolding entry_lines
   entries-known i [] made legal given low = All-nil (IsLine k)
   entries-known i (e ∷ es) {past} made legal given low =

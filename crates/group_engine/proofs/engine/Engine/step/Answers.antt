@@ -5,7 +5,7 @@ use Rattle.rt_task.specs.declared.Parts.{Parts}
 use Rattle.rt_rules.specs.Distinct.{IsDistinct}
 use Rattle.rt_model.specs.Histories.{reply_to}
 use Rattle.group_state.specs.Groups.{GroupHistory, group_of, past, IsProcessorOf}
-use Rattle.group_state.specs.Ranked.{tasks_of}
+use Rattle.rt_rules.specs.Rankings.{tasks_of}
 use Rattle.group_state.specs.Due.{due_ready}
 use Rattle.group_state.specs.State.{IsBounded, rel_deadline_of}
 use Rattle.group_state.proofs.Stepping as stepping

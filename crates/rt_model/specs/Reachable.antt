@@ -5,7 +5,7 @@ use Rattle.rt_model.specs.Group.{Group}
 use Rattle.rt_model.specs.Outcomes.{past_act}
 use Rattle.rt_model.specs.Past.{Clock, Acted, Past}
 
-pub data IsMade (g : Group) : Past → Type 0 where
-  opened : IsMade g []
-  clocked : {past : Past} → (tick : ℕ) → IsMade g past → IsMade g (Clock tick ∷ past)
-  acted : {past : Past} → (q : ℕ) (act : Act) → IsMade g past → IsMade g (Acted (past_act g q act past) ∷ past)
+pub data IsReachable (g : Group) : Past → Type 0 where
+  opened : IsReachable g []
+  clocked : {past : Past} → (tick : ℕ) → IsReachable g past → IsReachable g (Clock tick ∷ past)
+  acted : {past : Past} → (q : ℕ) (act : Act) → IsReachable g past → IsReachable g (Acted (past_act g q act past) ∷ past)

@@ -9,7 +9,7 @@ use Rattle.rt_model.specs.Ceilings.{above_ceiling, is_pcp, pcp}
 use Rattle.rt_model.specs.Group.{Group, protocol, sems}
 use Rattle.rt_model.specs.Histories.{past_of}
 use Rattle.rt_model.specs.Holders.{awaits, holder, holds, sem_state}
-use Rattle.rt_model.specs.Made.{IsMade, opened}
+use Rattle.rt_model.specs.Reachable.{IsReachable, opened}
 use Rattle.rt_model.specs.Past.{Event, Past, sem_act}
 use Rattle.rt_model.specs.Semaphores.{cluster_of}
 use Rattle.rt_rules.proofs.BoolLaws.{clash, unless}
@@ -17,7 +17,7 @@ use Rattle.rt_rules.proofs.MemberLaws.{equal_self, some-is}
 use Rattle.rt_rules.proofs.PairLaws.{has-of_sem, has_pair}
 use Rattle.rt_rules.proofs.PcpLaws.{one_holder_of}
 use Rattle.rt_model.proofs.PastLaws.{made-from}
-use Rattle.rt_laws.specs.Bridge.{EngagedHasJob, EngagedKeepsJob, HolderHoldsOne, HolderWaitsNot, OneHolder, RequestsDoNotNest, RunningIsReady, WaitsForOne, is_engaged}
+use Rattle.rt_laws.specs.SemaphoreLaws.{EngagedHasJob, EngagedKeepsJob, HolderHoldsOne, HolderWaitsNot, OneHolder, RequestsDoNotNest, RunningIsReady, WaitsForOne, is_engaged}
 use Rattle.rt_laws.specs.EveryPast.{HistoriesAreMade}
 use Rattle.rt_laws.proofs.Asked.{Asked, asked, asks_empty}
 use Rattle.rt_laws.proofs.Engaged.{engaged, engaged-cases, engaged-step, holder-engaged, nobody-engaged, waiting-engaged}
@@ -85,7 +85,7 @@ holder_waits_not g past valid made t s there n h = none-waits g t past (λ r hr.
 abbrev IsAlone : Group → Past → Type 0
 IsAlone g past = (t s r : ℕ) → has s (sems g) ≡ true → has r (sems g) ≡ true → is t (holder g s past) ≡ true → is t (holder g r past) ≡ true → (s ≡ r) ⊎ (is_pcp (protocol g s) ≡ true) × (is_pcp (protocol g r) ≡ true)
 
-alone-step : (g : Group) → MeetsRules g → (e : Event) (past : Past) → IsMade g past → Asked g e past → IsAlone g past → IsAlone g (e ∷ past)
+alone-step : (g : Group) → MeetsRules g → (e : Event) (past : Past) → IsReachable g past → Asked g e past → IsAlone g past → IsAlone g (e ∷ past)
 alone-step g rules e past made asks before t s r hs hr h k = split (was s (engaged-step g t s e past (holder-engaged g t s (e ∷ past) h))) (was r (engaged-step g t r e past (holder-engaged g t r (e ∷ past) k)))
   where
     was : (o : ℕ) → (engaged g t o past ≡ true) ⊎ (sem_act e ≡ Asks t o) → (is t (holder g o past) ≡ true) ⊎ ((has t (sem_state g o past).waiting ≡ true) ⊎ (sem_act e ≡ Asks t o))
@@ -107,7 +107,7 @@ alone-step g rules e past made asks before t s r hs hr h k = split (was s (engag
     split (inr (inr a)) (inr (inl b)) = absurd (clash _ b ((asks t s a).waits_none r hr))
     split (inr (inr a)) (inr (inr b)) = let x : sem_act e ≡ Asks t s = a in let y : sem_act e ≡ Asks t r = b in inl cc
 
-alone : (g : Group) → MeetsRules g → {past : Past} → IsMade g past → IsAlone g past
+alone : (g : Group) → MeetsRules g → {past : Past} → IsReachable g past → IsAlone g past
 alone g rules made = by_moves g (IsAlone g) (λ t s r hs hr h k. absurd (clash _ (holder-engaged g t s [] h) (nobody-engaged g t s))) (λ past e made move before. alone-step g rules e past made (asked g rules made move) before) made
 
 pub holder_holds_one : HolderHoldsOne
