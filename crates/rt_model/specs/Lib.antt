@@ -18,6 +18,7 @@ pub mod Links
 pub mod Answers
 pub mod Outcomes
 pub mod Reachable
+pub mod Steps
 pub mod Situations
 pub mod Histories
 pub mod Blocking
