@@ -1,4 +1,5 @@
-//! A semaphore under the FMLP for long requests (Block, Leontyev, Brandenburg and Anderson, RTCSA 2007): requests wait first in, first out.
+//! A semaphore under the FMLP for long requests (Block, Leontyev, Brandenburg and Anderson, RTCSA 2007): requests
+//! wait first in, first out.
 #![tactic(auto)]
 
 ghost use Rattle.std.specs.Prelude.{◌≡◌, ◌<◌, ◌≢◌, ◌↔◌, [], false, length, IfOk, Some, None};
@@ -14,7 +15,8 @@ use std::alloc::Global;
 use std::collections::VecDeque;
 use std::marker::Model;
 
-/// A semaphore whose requests wait in the order of asking; the first of them holds.
+/// An FMLP semaphore (Block, Leontyev, Brandenburg and Anderson, RTCSA 2007): requests wait in the order of asking;
+/// the first of them holds.
 #[derive(Drop)]
 pub struct FmlpSem {
     line: VecDeque<TaskNo>,
@@ -35,6 +37,8 @@ impl Model for FmlpSem {
 
 impl FmlpSem {
     /// A semaphore that nobody holds, for tasks whose numbers are below `room`. No later call takes memory.
+    ///
+    /// Example: `FmlpSem::new(alloc, 64)` takes the tasks 0 to 63.
     pub fn new(alloc: Global, room: u32) -> Result<FmlpSem, NoMemory>
         ensures { IfOk result (λ s. s ≡ record { room = room; line = [] }) }
     {
@@ -42,11 +46,15 @@ impl FmlpSem {
         Ok(FmlpSem { line, room })
     }
 
-    /// The task asks for the semaphore. It holds it from now on where nobody did, else it waits behind all others. Its base key does not matter.
+    /// The task asks for the semaphore. It holds it from now on where nobody did, else it waits behind all others.
+    /// Its base key does not matter.
+    ///
+    /// Example: the first `sem.ask(task, key)` is `Ask::Granted`, and the next one, of another task, `Ask::Queued`.
     pub fn ask(&mut self, task: TaskNo, key: Key) -> Ask
         requires below { task.0 < self.old.room }
         requires outside { has task.0 self.old.line ≡ false }
-        ensures after { self.new ≡ record self.old { line = fmlp_after (Asks task.0 0) self.old.line } }
+        ensures after { self.new ≡
+            record self.old { line = fmlp_after (Asks task.0 0) self.old.line } }
         ensures granted { (result ≡ Ask.Granted) ↔ ((in_line self.old.line).holder ≡ None) }
         ensures queued { (result ≡ Ask.Queued) ↔ ((in_line self.old.line).holder ≢ None) }
     {
@@ -59,10 +67,14 @@ impl FmlpSem {
         answer
     }
 
-    /// The task, which holds the semaphore, frees it. The next in line holds it from now on: the answer. `None` where nobody waited.
+    /// The task, which holds the semaphore, frees it. The next in line holds it from now on: the answer. `None` where
+    /// nobody waited.
+    ///
+    /// Example: where task 1 holds and task 2 waits, `sem.release(TaskNo(1))` is `Some(TaskNo(2))`.
     pub fn release(&mut self, task: TaskNo) -> Option<TaskNo>
         requires { (in_line self.old.line).holder ≡ Some task.0 }
-        ensures after { self.new ≡ record self.old { line = fmlp_after (Frees task.0 0) self.old.line } }
+        ensures after { self.new ≡
+            record self.old { line = fmlp_after (Frees task.0 0) self.old.line } }
         ensures next { number_of_task result ≡ (in_line self.new.line).holder }
         ensures nobody { (result ≡ None) ↔ ((in_line self.old.line).waiting ≡ []) }
     {
@@ -71,6 +83,8 @@ impl FmlpSem {
     }
 
     /// The task that holds the semaphore.
+    ///
+    /// Example: `sem.holder()` is `None` at a new semaphore.
     pub fn holder(&self) -> Option<TaskNo>
         ensures { number_of_task result ≡ (in_line self.now.line).holder }
     {
@@ -78,6 +92,8 @@ impl FmlpSem {
     }
 
     /// How many tasks wait.
+    ///
+    /// Example: `sem.waiters()` is 1 where one task holds and one waits.
     pub fn waiters(&self) -> u32
         ensures { result ≡ length (in_line self.now.line).waiting }
     {

@@ -10,7 +10,8 @@ const KEY: Key = Key {
     minor: 1,
 };
 
-/// Tasks A to D of one group of four processors, numbered from 1: the first holds, the others wait in the order of asking, and each release passes the semaphore on to the next.
+/// Tasks A to D of one group of four processors, numbered from 1: the first holds, the others wait in the order of
+/// asking, and each release passes the semaphore on to the next.
 #[test]
 fn tasks_hold_in_the_order_of_asking(rt: HostRuntime) -> Result<(), Fail> {
     let mut sem = FmlpSem::new(rt.alloc(), 5)?;

@@ -6,6 +6,7 @@ ghost use Rattle.rt_task.specs.Validity.{IsValid};
 ghost use Rattle.rt_model.specs.Runs.{runs};
 ghost use Rattle.rt_model.specs.Links.{linked};
 ghost use Rattle.rt_model.specs.Histories.{reply_to};
+ghost use Rattle.rt_model.specs.Steps.{IsStepOf};
 ghost use Rattle.group_state.specs.Built.{is_built, is_built_act};
 ghost use Rattle.group_state.specs.Groups.{GroupHistory, group_of, past, with_entry, IsLegalNow, AllPlayed, IsGroupOf, IsProcessorOf};
 
@@ -99,11 +100,11 @@ impl Engine {
         self.state.runs(cpu)
     }
 
-    /// Takes a step of a processor of the group: the clock moves to its tick, if that is later, and then the act is answered.
+    /// Takes a step of the group: the clock moves to its tick, if that is later, and then the act is answered.
     /// It adds one entry, the step with its reply.
     pub fn step(&mut self, step: Step) -> Reply
         requires room { 0 < self.old.spare }
-        requires cpu { IsProcessorOf (group_of self.old) step.cpu.0 }
+        requires step { IsStepOf (group_of self.old) step }
         requires act { is_built_act step.act ≡ true }
         ensures reply { result ≡ reply_to (group_of self.old) step (past self.old) }
         ensures entry { self.new ≡ with_entry (record { step = step; reply = result }) self.old }

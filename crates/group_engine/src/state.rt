@@ -15,7 +15,7 @@ ghost use Rattle.rt_model.specs.Answers.{answer};
 ghost use Rattle.rt_model.specs.Outcomes.{past_act};
 ghost use Rattle.group_state.specs.Built.{is_built_act};
 ghost use Rattle.group_engine.specs.Queue.{ranked, ranked_all};
-ghost use Rattle.group_state.specs.Ranked.{ranked_by, tasks_of, without_task};
+ghost use Rattle.rt_rules.specs.Rankings.{ranked_by, tasks_of, without_task};
 ghost use Rattle.link_table.specs.Linked.{irq_reply, after_irq};
 ghost use Rattle.group_state.specs.Due.{due_ready, not_due, ready_task};
 ghost use Rattle.group_state.specs.Moves.{CanOpen, first_waiting, opened, replaced, clock_moved, has_worked, has_run, job_ended};
@@ -283,7 +283,7 @@ impl GroupState {
     fn next_job(&self, number: TaskNo, task: &Task) -> NextJob
         requires low { 1 ≤ number.0 }
         requires high { number.0 ≤ length self.now.done }
-        requires few { slice_index self.now.done (number.0 - 1) < 2 ^ 20 }
+        requires few { slice_index self.now.done (number.0 - 1) < 2 ^ 21 }
         requires phase { task.now.phase < TICK_END }
         requires period { task.now.period < TICK_END }
         requires deadline { task.now.rel_deadline < TICK_END }

@@ -20,8 +20,8 @@ use Rattle.rt_model.specs.Runs.{runs, leaves}
 use Rattle.rt_model.specs.Answers.{answer, last_work}
 use Rattle.rt_model.specs.Outcomes.{past_act}
 use Rattle.group_state.specs.Moves.{has_worked, job_ended, replaced}
-use Rattle.group_state.specs.Ranked as queue
-use Rattle.group_state.specs.Ranked.{without_task}
+use Rattle.rt_rules.specs.Rankings as queue
+use Rattle.rt_rules.specs.Rankings.{without_task}
 use Rattle.group_state.specs.State.{State, IsKept, Moment, CanAct, CanOperate, release_at, key_at, top_tasks, linked_of}
 use Rattle.group_state.proofs.Plain.{IsPlainTask}
 use Rattle.group_state.proofs.PlainGroup.{IsPlainGroup}
@@ -93,7 +93,7 @@ module _ (at : Moment) (tasks : List Task) (q t : ℕ) (state : State) (can : Ca
     pub low : 1 ≤ t
     pub high : t ≤ length state.done
     pub listed : t ≤ length g.setup.tasks
-    pub few : get_or state.done (t - 1) 0 < 2 ^ 20
+    pub few : get_or state.done (t - 1) 0 < 2 ^ 21
     pub ready_room : length (without_task t state.ready) < length state.done
     pub waiting_room : length state.waiting < length state.done
     pub runs_length : q < length state.runs
@@ -111,7 +111,7 @@ module _ (at : Moment) (tasks : List Task) (q t : ℕ) (state : State) (can : Ca
         low = low;
         high = omega (arith, k.done_length);
         listed = high;
-        few = let is : get_or state.done (t - 1) 0 ≡ done t p = k.done_are t here.there in let f : done t p < 2 ^ 20 = can.act.few t here.there in omega arith;
+        few = let is : get_or state.done (t - 1) 0 ≡ done t p = k.done_are t here.there in let f : done t p < 2 ^ 21 = can.act.few t here.there in omega arith;
         ready_room = omega (arith, fits, out);
         waiting_room = omega (arith, fits, out);
         runs_length = let l = length-runs g s p state k in omega (arith, inside);

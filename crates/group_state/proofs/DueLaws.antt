@@ -8,9 +8,9 @@ use Rattle.rt_rules.specs.Distinct.{IsDistinct}
 use Rattle.rt_rules.specs.Keys.{Ranked, ahead, inserted}
 use Rattle.rt_rules.proofs.PlacingLaws.{equal_self}
 use Rattle.rt_rules.proofs.RankedLaws.{tasks_ranked}
-use Rattle.group_state.specs.Ranked.{without_task, ranked_by}
+use Rattle.rt_rules.specs.Rankings.{without_task, ranked_by}
 use Rattle.group_state.specs.Due.{ready_task, due_ready, not_due}
-use Rattle.group_state.proofs.Ranking.{ranked_by-same, ranked_by-more, ranked_by-less, has-ranked_by}
+use Rattle.rt_rules.proofs.RankedByLaws.{ranked_by-same, ranked_by-more, ranked_by-less, has-ranked_by}
 
 -- the first of a list that a task joined is that task, or one that it does not go ahead of
 inserted-first : (a : Ranked) (xs : List Ranked) (w : Ranked) (ws : List Ranked) → inserted a xs ≡ w ∷ ws → (w ≡ a) ⊎ (has w.task (tasks_ranked xs) ≡ true) × (ahead a w ≡ false)

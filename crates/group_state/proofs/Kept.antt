@@ -16,19 +16,19 @@ use Rattle.rt_model.specs.Tops.{top}
 use Rattle.rt_model.specs.Links.{runs_of, links}
 use Rattle.rt_model.specs.Answers.{last_work}
 use Rattle.rt_model.specs.Outcomes.{past_act}
-use Rattle.rt_model.specs.Made.{clocked, acted}
+use Rattle.rt_model.specs.Reachable.{clocked, acted}
 use Rattle.rt_rules.proofs.PlacingLaws.{equal_self}
 use Rattle.rt_model.proofs.Steps.{done-step, links-step}
 use Rattle.rt_model.proofs.PastLaws.{IsSingle, single, processor-home, length-runs_of}
 use Rattle.rt_model.proofs.TopLaws.{distinct-top, length-top, distinct-tasks_of}
-use Rattle.group_state.specs.Ranked.{ranked_by, without_task}
+use Rattle.rt_rules.specs.Rankings.{ranked_by, without_task}
 use Rattle.group_state.specs.State.{State, IsKept, top_tasks, release_at, key_at, wait_key}
 use Rattle.rt_rules.proofs.NumberLaws.{has-numbers_from}
 use Rattle.group_state.proofs.PlainGroup.{IsPlainGroup, task_range}
 use Rattle.group_state.specs.Moves.{clock_moved, job_ended}
 use Rattle.group_state.proofs.PlainModel.{ranking-at}
 use Rattle.rt_laws.proofs.PlacedAgain.{placed-again}
-use Rattle.group_state.proofs.Ranking.{ranked_by-same, ranked_by-less, ranked_by-with}
+use Rattle.rt_rules.proofs.RankedByLaws.{ranked_by-same, ranked_by-less, ranked_by-with}
 use Rattle.group_state.proofs.DueLaws.{due}
 
 module _ (g : Group) (s : IsPlainGroup g) where

@@ -1,4 +1,3 @@
-pub mod Ranking
 pub mod Rules
 pub mod DueLaws
 pub mod Plain

@@ -17,17 +17,17 @@ use Rattle.rt_model.specs.Group.{Group, task, cpus, tasks_of}
 use Rattle.rt_model.specs.Past.{Past, now, ends_job}
 use Rattle.rt_model.specs.Jobs.{done}
 use Rattle.rt_model.specs.Runs.{runs}
-use Rattle.rt_model.specs.Made.{IsMade}
+use Rattle.rt_model.specs.Reachable.{IsReachable}
 use Rattle.rt_model.specs.Histories.{past_of}
 use Rattle.rt_model.proofs.Steps.{number_of-le, length-past_from}
 use Rattle.rt_model.proofs.TopLaws.{distinct-tasks_of}
 use Rattle.rt_model.proofs.PastLaws.{length-runs_of}
 use Rattle.rt_laws.proofs.Running.{IsRunning, running}
 use Rattle.rt_laws.proofs.ValidSets.{rules_of}
-use Rattle.group_state.specs.Ranked.{ranked_by, without_task}
-use Rattle.group_state.specs.Ranked as queue
+use Rattle.rt_rules.specs.Rankings.{ranked_by, without_task}
+use Rattle.rt_rules.specs.Rankings as queue
 use Rattle.group_state.specs.State.{State, IsKept, IsPlayed, IsBounded, release_at, wait_key, key_at}
-use Rattle.group_state.proofs.Ranking.{length-inserted, has-ranked_by, tasks_ranked-keys}
+use Rattle.rt_rules.proofs.RankedByLaws.{distinct-ranked_by, length-inserted, has-ranked_by, tasks_ranked-keys}
 use Rattle.group_state.proofs.Plain.{IsPlainTask, plain-set}
 use Rattle.group_state.proofs.PlainGroup.{IsPlainGroup, group-plain, task_range}
 use Rattle.group_state.proofs.PlainModel.{plain-task, exists-at}
@@ -85,12 +85,6 @@ length-both key key' test ts = rw (length-sorted, length-sorted, length-map, len
         by_case true h = omega (arith, h)
         by_case false h = omega (arith, h)
 
-pub distinct-ranked_by : (key : ℕ → Key) (test : ℕ → Bool) (ts : List ℕ) → IsDistinct ts → IsDistinct (queue.tasks_of (ranked_by key test ts))
-distinct-ranked_by key test ts d =
-    let listed : List Ranked = map (λ t. record { key = key t; task = t }) (filter test ts) in
-    let e : IsDistinct (tasks_ranked listed) = rw (tasks_ranked-keys key (filter test ts)) (distinct-filter test ts d) in
-    distinct-sorted listed e
-
 pub length-numbers : (a n : ℕ) → length (numbers_from a n) ≡ n
 length-numbers a zero = refl
 length-numbers a (suc n) = ap suc (length-numbers (suc a) n)
@@ -123,14 +117,14 @@ module _ (g : Group) (s : IsPlainGroup g) (p : Past) (state : State) (k : IsKept
   pub task-high : (t : ℕ) → has t (tasks_of g 0) ≡ true → t ≤ length g.setup.tasks
   task-high t h = let low = task-low t h in let r = task_range t _ (rw s.homes_are at h) in omega arith
 
-  release-low : (t : ℕ) → has t (tasks_of g 0) ≡ true → length p ≤ 400001 → release_at g t (done t p) < 2 ^ 62
+  release-low : (t : ℕ) → has t (tasks_of g 0) ≡ true → length p ≤ 2 * MOST_STEPS + 1 → release_at g t (done t p) < 2 ^ 62
   release-low t h few =
       let f : IsPlainTask (task g t) = plain-task g s t h in
-      let a : done t p * (task g t).period ≤ 400001 * (task g t).period = (let d : done t p ≤ 400001 = (let e = done-few t in omega arith) in mul-le-mul_right (task g t).period d) in
-      let b : 400001 * (task g t).period ≤ 400001 * TICK_END = (let l : (task g t).period ≤ TICK_END = (let m = f.period_low in omega arith) in mul-le-mul_left 400001 l) in
+      let a : done t p * (task g t).period ≤ (2 * MOST_STEPS + 1) * (task g t).period = (let d : done t p ≤ 2 * MOST_STEPS + 1 = (let e = done-few t in omega arith) in mul-le-mul_right (task g t).period d) in
+      let b : (2 * MOST_STEPS + 1) * (task g t).period ≤ (2 * MOST_STEPS + 1) * TICK_END = (let l : (task g t).period ≤ TICK_END = (let m = f.period_low in omega arith) in mul-le-mul_left (2 * MOST_STEPS + 1) l) in
       omega (arith, f.phase_low, a, b)
 
-  pub bounded-waiting : length p ≤ 400001 → All (IsBounded (length g.setup.tasks)) state.waiting
+  pub bounded-waiting : length p ≤ 2 * MOST_STEPS + 1 → All (IsBounded (length g.setup.tasks)) state.waiting
   bounded-waiting few = subst (λ rs. All (IsBounded (length g.setup.tasks)) rs) (sym k.waiting_is) (ranked_by-each (IsBounded (length g.setup.tasks)) _ _ (tasks_of g 0) (λ t h. record { low = task-low t h; high = task-high t h; release_low = release-low t h few }))
 
 -- a task that runs is one of the cluster's, and its job is released
@@ -138,7 +132,7 @@ pub record RunsHere (g : Group) (p : Past) (t : ℕ) : Type 0 where
   pub there : has t (tasks_of g 0) ≡ true
   pub released : nat_le (release_at g t (done t p)) (now p) ≡ true
 
-pub runs-here : (g : Group) (q t : ℕ) (p : Past) → IsPlayed g → IsMade g p → runs q p ≡ Some t → RunsHere g p t
+pub runs-here : (g : Group) (q t : ℕ) (p : Past) → IsPlayed g → IsReachable g p → runs q p ≡ Some t → RunsHere g p t
 runs-here g q t p played made h =
     let r : IsRunning g q t p = running g (rules_of g played.valid) made q t h in
     let s : IsPlainGroup g = plain g played in

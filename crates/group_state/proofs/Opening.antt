@@ -18,15 +18,15 @@ use Rattle.rt_model.specs.Runs.{runs}
 use Rattle.rt_model.specs.Links.{runs_of, links}
 use Rattle.rt_model.specs.Tops.{top}
 use Rattle.rt_model.specs.Answers.{last_work}
-use Rattle.rt_model.specs.Made.{IsMade}
-use Rattle.rt_model.specs.Made as made
+use Rattle.rt_model.specs.Reachable.{IsReachable}
+use Rattle.rt_model.specs.Reachable as made
 use Rattle.rt_model.specs.Histories.{past_of, past_from}
 use Rattle.rt_model.proofs.TopLaws.{distinct-tasks_of}
-use Rattle.group_state.specs.Ranked.{ranked_by}
-use Rattle.group_state.specs.Ranked as queue
+use Rattle.rt_rules.specs.Rankings.{ranked_by}
+use Rattle.rt_rules.specs.Rankings as queue
 use Rattle.group_state.specs.Moves.{opened, CanOpen}
 use Rattle.group_state.specs.State.{State, IsKept, IsPlayed, IsSound, IsBounded, release_at, key_at, wait_key, rel_deadline_of}
-use Rattle.group_state.proofs.Ranking.{ranked_by-same}
+use Rattle.rt_rules.proofs.RankedByLaws.{ranked_by-same}
 use Rattle.group_state.proofs.DueLaws.{due}
 use Rattle.group_state.proofs.Plain.{IsPlainTask}
 use Rattle.group_state.proofs.PlainGroup.{IsPlainGroup}

@@ -8,8 +8,7 @@ use Rattle.rt_task.specs.declared.Parts.{Parts}
 use Rattle.rt_task.specs.declared.Cluster.{Cluster}
 use Rattle.rt_rules.specs.Numbers.{has, numbers_from}
 use Rattle.rt_rules.proofs.PlacingLaws.{equal_self, or_true}
-use Rattle.rt_rules.proofs.NumberLaws.{has-numbers_from}
-use Rattle.rt_model.proofs.PastLaws.{numbers_from-below}
+use Rattle.rt_rules.proofs.NumberLaws.{has-numbers_from, numbers_from-below}
 use Rattle.rt_model.specs.Group.{Group, no_cluster, task, cluster, cpus, home, in_group, clusters, tasks, tasks_of, sems, first_cpu, first_in, cluster_with, cluster_in, processors, group_processors}
 use Rattle.group_state.specs.Groups.{IsGroupOf}
 use Rattle.group_state.proofs.Plain.{IsPlainSet}

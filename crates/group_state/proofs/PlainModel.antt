@@ -16,9 +16,9 @@ use Rattle.rt_model.specs.EffectiveKeys.{next_at, waits_for, effective_key}
 use Rattle.rt_model.specs.Tops.{is_served, eligible, ranking}
 use Rattle.group_state.proofs.Plain.{IsPlainTask}
 use Rattle.group_state.proofs.PlainGroup.{IsPlainGroup, task_range}
-use Rattle.group_state.specs.Ranked.{ranked_by}
+use Rattle.rt_rules.specs.Rankings.{ranked_by}
 use Rattle.group_state.specs.State.{release_at, key_at}
-use Rattle.group_state.proofs.Ranking.{ranked_by-same}
+use Rattle.rt_rules.proofs.RankedByLaws.{ranked_by-same}
 
 walk-none : (next : ℕ → Option ℕ) (n : ℕ) → walk next n None ≡ []
 walk-none next zero = refl

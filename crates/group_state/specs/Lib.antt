@@ -1,4 +1,3 @@
-pub mod Ranked
 pub mod Due
 pub mod Built
 pub mod Groups

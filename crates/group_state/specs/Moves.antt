@@ -8,7 +8,7 @@ use Rattle.rt_model.specs.Group.{no_task}
 use Rattle.rt_rules.specs.Keys.{Ranked, inserted}
 use Rattle.rt_rules.specs.Distinct.{IsDistinct}
 use Rattle.rt_rules.specs.Placing.{placed}
-use Rattle.group_state.specs.Ranked.{without_task, ranked_by, tasks_of}
+use Rattle.rt_rules.specs.Rankings.{without_task, ranked_by, tasks_of}
 use Rattle.group_state.specs.Due.{due_ready, not_due}
 use Rattle.group_state.specs.State.{State, top_tasks, rel_deadline_of, IsBounded}
 

@@ -18,10 +18,10 @@ use Rattle.rt_model.specs.Runs.{runs}
 use Rattle.rt_model.specs.Links.{runs_of, links}
 use Rattle.rt_model.specs.Answers.{answer, last_work}
 use Rattle.rt_model.specs.Outcomes.{past_act}
-use Rattle.rt_model.specs.Made.{IsMade}
+use Rattle.rt_model.specs.Reachable.{IsReachable}
 use Rattle.rt_model.specs.Histories.{past_of, IsLegal}
 use Rattle.link_table.specs.Linked.{Linked}
-use Rattle.group_state.specs.Ranked.{ranked_by}
+use Rattle.rt_rules.specs.Rankings.{ranked_by}
 use Rattle.group_state.specs.Built.{is_built}
 use Rattle.group_state.specs.Groups.{IsGroupOf, IsPlayedEntry}
 
@@ -53,7 +53,7 @@ top_tasks m rs = take m (map (λ (r : Ranked). r.task) rs)
 
 -- each part is what its definition gives at this past
 pub record IsKept (g : Group) (p : Past) (s : State) : Type 0 where
-  pub made : IsMade g p
+  pub made : IsReachable g p
   pub clock_is : s.clock ≡ now p
   pub done_length : length s.done ≡ length g.setup.tasks
   pub done_are : (t : ℕ) → has t (tasks_of g 0) ≡ true → slice_index s.done (t - 1) ≡ done t p
@@ -103,7 +103,7 @@ pub record Moment : Type 0 where
 -- what an act of a processor rests on: what is kept is of a moment of a group with these tasks
 pub record CanAct (at : Moment) (state : State) (tasks : List Task) (cpu : ℕ) : Type 0 where
   pub played : IsPlayed at.group
-  pub few : (t : ℕ) → has t (tasks_of at.group 0) ≡ true → done t at.past < 2 ^ 20
+  pub few : (t : ℕ) → has t (tasks_of at.group 0) ≡ true → done t at.past < 2 ^ 21
   pub kept : IsKept at.group at.past state
   pub inside : cpu < cpus at.group 0
   pub tasks_are : tasks ≡ at.group.setup.tasks

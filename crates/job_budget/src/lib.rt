@@ -57,10 +57,13 @@ impl Model for Budgets {
 
 impl Budgets {
     /// Opens an account for each of the tasks, whose numbers differ, with nothing used.
+    ///
+    /// Example: `Budgets::new(alloc, &tasks)` opens an account with `used: 0` for each of them.
     pub fn new(alloc: Global, tasks: &[Task]) -> Result<Budgets, NoMemory>
         requires { IsDistinct (task_numbers tasks.now) }
         ensures accounts { IfOk result (λ budgets. budgets ≡ accounts_of tasks.now) }
-        ensures tasks { IfOk result (λ budgets. (t : ℕ) → map.contains_key budgets t ≡ has t (task_numbers tasks.now)) }
+        ensures tasks { IfOk result (λ budgets. (t : ℕ) → map.contains_key budgets t ≡
+            has t (task_numbers tasks.now)) }
     {
         let mut accounts = BTreeMap::new(alloc);
         for task in tasks {
@@ -77,9 +80,12 @@ impl Budgets {
     }
 
     /// Adds one unit of use to the task's job. A use of 2^64-1 stays as it is.
+    ///
+    /// Example: `budgets.charge(TaskNo(1))` at each unit of work of task 1.
     pub fn charge(&mut self, task: TaskNo)
         requires { IsSome (map.get self.old task.0) }
-        ensures account { IfSome (map.get self.old task.0) (λ account. self.new ≡ map.insert self.old task.0 (charged account)) }
+        ensures account { IfSome (map.get self.old task.0) (λ account. self.new ≡
+            map.insert self.old task.0 (charged account)) }
         ensures same_tasks { (t : ℕ) → map.contains_key self.new t ≡ map.contains_key self.old t }
     {
         if let Some(account) = self.accounts.get_mut(&task.0) {
@@ -88,9 +94,12 @@ impl Budgets {
     }
 
     /// Begins the task's next job: it has used nothing.
+    ///
+    /// Example: `budgets.renew(TaskNo(1))` where a job of task 1 ended.
     pub fn renew(&mut self, task: TaskNo)
         requires { IsSome (map.get self.old task.0) }
-        ensures account { IfSome (map.get self.old task.0) (λ account. self.new ≡ map.insert self.old task.0 (renewed account)) }
+        ensures account { IfSome (map.get self.old task.0) (λ account. self.new ≡
+            map.insert self.old task.0 (renewed account)) }
         ensures same_tasks { (t : ℕ) → map.contains_key self.new t ≡ map.contains_key self.old t }
     {
         if let Some(account) = self.accounts.get_mut(&task.0) {
@@ -102,6 +111,8 @@ impl Budgets {
     ///
     /// A forced end is put off while the job holds a semaphore, so that none is left locked, and while it is not
     /// preemptive. That a held semaphore puts it off is this project's choice.
+    ///
+    /// Example: an enforced task of cost 2 that was charged twice owes `Forced`, and `PutOff` while it holds.
     pub fn owed(&self, task: TaskNo, holds: bool, np: bool) -> Owed
         requires { IsSome (map.get self.now task.0) }
         ensures { IfSome (map.get self.now task.0) (λ account. result ≡ owed_by account holds np) }

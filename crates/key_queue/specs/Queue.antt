@@ -13,7 +13,8 @@ use Rattle.sem_laws.specs.KeptKeys.{key_at}
 
 -- the order of the heap: the highest key is the greatest
 abbrev pub later : Reverse Waiter → Reverse Waiter → Ordering
-later x y = ordering_then (nat_cmp y.0.band x.0.band) (ordering_then (nat_cmp y.0.major x.0.major) (ordering_then (nat_cmp y.0.minor x.0.minor) (nat_cmp y.0.task x.0.task)))
+later x y = ordering_then (nat_cmp y.0.band x.0.band) (ordering_then (nat_cmp y.0.major x.0.major)
+    (ordering_then (nat_cmp y.0.minor x.0.minor) (nat_cmp y.0.task x.0.task)))
 
 abbrev pub tasks_of : List (Reverse Waiter) → List ℕ
 tasks_of ws = map (λ (w : Reverse Waiter). w.0.task) ws

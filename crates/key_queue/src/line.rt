@@ -7,7 +7,8 @@ use rt_base::{NoMemory, TaskNo};
 use std::alloc::Global;
 use std::marker::Model;
 
-/// Tasks in the order of coming, each once, with numbers below a room. They are kept as a ring: each place names the next and the previous one, and the room itself is the place before the first and after the last.
+/// Tasks in the order of coming, each once, with numbers below a room. They are kept as a ring: each place names the
+/// next and the previous one, and the room itself is the place before the first and after the last.
 #[derive(Drop)]
 pub struct TaskLine {
     next: Vec<u32>,
@@ -22,7 +23,8 @@ impl Model for TaskLine {
 
     ghost view = { λ a. record { room = a.room; tasks = ring_tasks a.next.items a.room } };
 
-    ghost invariant = { λ a. IsRing a.next.items a.previous.items a.room (ring_tasks a.next.items a.room) };
+    ghost invariant = { λ a. IsRing a.next.items a.previous.items a.room
+        (ring_tasks a.next.items a.room) };
 }
 
 // The links of a ring in which the room stands alone.
@@ -34,6 +36,8 @@ fn empty_ring(alloc: Global, room: u32) -> Result<Vec<u32>, NoMemory>
 
 impl TaskLine {
     /// An empty line for tasks whose numbers are below `room`. No later call takes memory.
+    ///
+    /// Example: `TaskLine::new(alloc, 64)` takes the tasks 0 to 63.
     pub fn new(alloc: Global, room: u32) -> Result<TaskLine, NoMemory>
         ensures { IfOk result (λ l. l ≡ record { room = room; tasks = [] }) }
     {
@@ -45,6 +49,8 @@ impl TaskLine {
     }
 
     /// The task comes last.
+    ///
+    /// Example: after `push` of tasks 4 and 2 the line is 4, 2.
     pub fn push(&mut self, task: TaskNo)
         requires below { task.0 < self.old.room }
         requires outside { has task.0 self.old.tasks ≡ false }
@@ -60,6 +66,8 @@ impl TaskLine {
     }
 
     /// The task leaves, wherever it stands.
+    ///
+    /// Example: after `remove` of task 4 the line 4, 2 is 2.
     pub fn remove(&mut self, task: TaskNo)
         requires { has task.0 self.old.tasks ≡ true }
         ensures { self.new ≡ record self.old { tasks = without task.0 self.old.tasks } }

@@ -31,13 +31,15 @@ fn put(heap: &mut BinaryHeap<Reverse<Waiter>>, waiter: Waiter)
     requires { heap_len heap.old < heap_capacity heap.old }
     ensures len { heap_len heap.new ≡ heap_len heap.old + 1 }
     ensures capacity { heap_capacity heap.old ≤ heap_capacity heap.new }
-    ensures permutation { IsPermutation (record { 0 = waiter } ∷ heap_items heap.old) (heap_items heap.new) }
+    ensures permutation { IsPermutation (record { 0 = waiter } ∷ heap_items heap.old)
+        (heap_items heap.new) }
     ensures heap_order { IsHeap later (heap_items heap.old) → IsHeap later (heap_items heap.new) }
 {
     let _ = heap.push(Reverse(waiter));
 }
 
-/// Tasks that wait, each with its key; these keys differ. A task joins and the one of the highest key leaves at the cost of a logarithm of those that wait.
+/// Tasks that wait, each with its key; these keys differ. A task joins and the one of the highest key leaves at the
+/// cost of a logarithm of those that wait.
 #[derive(Drop)]
 pub struct KeyQueue {
     line: TaskLine,
@@ -54,11 +56,14 @@ impl Model for KeyQueue {
 
     ghost view = { λ a. record { keys = a.keys.items; waiting = a.line.tasks } };
 
-    ghost invariant = { λ a. IsQueue a.keys.items a.line.room a.line.tasks (heap_items a.heap) (heap_capacity a.heap) (heap_len a.heap) };
+    ghost invariant = { λ a. IsQueue a.keys.items a.line.room a.line.tasks (heap_items a.heap)
+        (heap_capacity a.heap) (heap_len a.heap) };
 }
 
 impl KeyQueue {
     /// An empty queue for tasks whose numbers are below `room`. No later call takes memory.
+    ///
+    /// Example: `KeyQueue::new(alloc, 64)` takes the tasks 0 to 63.
     pub fn new(alloc: Global, room: u32) -> Result<KeyQueue, NoMemory>
         ensures empty { IfOk result (λ q. q.waiting ≡ []) }
         ensures room { IfOk result (λ q. length q.keys ≡ room) }
@@ -70,11 +75,17 @@ impl KeyQueue {
     }
 
     /// The task waits from now on, behind all others, with a key that no other waiting task has.
+    ///
+    /// Example: `queue.push(TaskNo(2), key)` where task 2 asks and has to wait.
     pub fn push(&mut self, task: TaskNo, key: Key)
         requires below { task.0 < length self.old.keys }
         requires outside { has task.0 self.old.waiting ≡ false }
-        requires apart { (t : ℕ) → has t self.old.waiting ≡ true → equal_keys (key_at self.old.keys t) key ≡ false }
-        ensures { self.new ≡ record { keys = slice_set self.old.keys task.0 key; waiting = self.old.waiting ++ task.0 ∷ [] } }
+        requires apart { (t : ℕ) → has t self.old.waiting ≡ true →
+            equal_keys (key_at self.old.keys t) key ≡ false }
+        ensures { self.new ≡ record {
+          keys = slice_set self.old.keys task.0 key;
+          waiting = self.old.waiting ++ task.0 ∷ [];
+        } }
     {
         self.line.push(task);
         self.keys[task.0 as usize] = key;
@@ -88,6 +99,8 @@ impl KeyQueue {
     }
 
     /// Keeps the key of a task that does not wait.
+    ///
+    /// Example: `queue.note(TaskNo(2), key)` where task 2 asks and is granted at once.
     pub fn note(&mut self, task: TaskNo, key: Key)
         requires below { task.0 < length self.old.keys }
         requires outside { has task.0 self.old.waiting ≡ false }
@@ -97,10 +110,13 @@ impl KeyQueue {
     }
 
     /// The task of the highest key waits no longer: the answer. `None` where no task waits.
+    ///
+    /// Example: of two waiting tasks with the keys (2, 9, 1) and (2, 5, 4) the second is the answer.
     pub fn pop(&mut self) -> Option<TaskNo>
         ensures highest { number_of_task result ≡ foremost (above self.old.keys) self.old.waiting }
         ensures nobody { IsNone result ↔ (self.old.waiting ≡ []) }
-        ensures after { self.new ≡ record self.old { waiting = left (number_of_task result) self.old.waiting } }
+        ensures after { self.new ≡
+            record self.old { waiting = left (number_of_task result) self.old.waiting } }
     {
         match self.heap.pop() {
             Some(Reverse(waiter)) => {
@@ -113,6 +129,8 @@ impl KeyQueue {
     }
 
     /// How many tasks wait.
+    ///
+    /// Example: `queue.len()` is 0 in a new queue.
     pub fn len(&self) -> u32
         ensures { result ≡ length self.now.waiting }
     {
@@ -120,6 +138,8 @@ impl KeyQueue {
     }
 
     /// Whether no task waits.
+    ///
+    /// Example: `queue.is_empty()` is true in a new queue.
     pub fn is_empty(&self) -> bool
         ensures { result ≡ (length self.now.waiting == 0) }
     {

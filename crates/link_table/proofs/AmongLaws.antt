@@ -1,12 +1,12 @@
 -- Which tasks run on a cluster's processors and are linked to them.
-use Rattle.std.proofs.Common.{◌≡◌, ℕ, zero, suc, ◌+◌, ◌-◌, ◌<◌, ◌≤◌, true, ◌⊎◌, inl, inr, List, [], length, set, refl, sym, ◌∙◌, subst, arith}
+use Rattle.std.proofs.Common.{◌≡◌, ℕ, ◌+◌, ◌-◌, ◌<◌, ◌≤◌, true, ◌⊎◌, inl, inr, List, length, set, refl, sym, ◌∙◌, subst, arith}
 use Rattle.std.specs.Prelude.{◌↔◌, Option, None, replicate}
 use Rattle.rt_rules.specs.Distinct.{IsDistinct}
 use Rattle.rt_rules.specs.Numbers.{has, is}
 use Rattle.rt_rules.specs.Placing.{tasks_in, at_place, placed}
 use Rattle.rt_rules.proofs.LinkLaws.{at_place-inside, has-at_place}
 use Rattle.rt_rules.proofs.PlacingLaws.{has-placed}
-use Rattle.link_table.specs.Linked.{Linked, unlinked, link_of, runs_on, IsAmong, IsOfCluster, IsSound, LinksAreOfProcessors, RunsAreOfProcessors, StaysAmong, StaysAmongWith}
+use Rattle.link_table.specs.Linked.{Linked, unlinked, IsAmong, IsSound, LinksAreOfProcessors, RunsAreOfProcessors, StaysAmong, StaysAmongWith}
 use Rattle.link_table.proofs.PlaceLaws.{has-set, place_of}
 use Rattle.link_table.proofs.SoundLaws.{none_in}
 

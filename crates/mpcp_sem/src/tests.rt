@@ -1,7 +1,6 @@
-ghost use Rattle.std.specs.Prelude.{◌≡◌, ◌≢◌, ◌<◌, ◌==◌, ◌||◌, ◌&&◌, [], ℕ, true, false, not, length, IfOk, Some, None, slice_set};
-ghost use Rattle.std.specs.List.{list_all};
+ghost use Rattle.std.specs.Prelude.{◌≡◌, ◌≢◌, ◌<◌, [], ℕ, true, false, length, IfOk, Some, None, slice_set};
 ghost use Rattle.rt_order.specs.KeyOrder.{equal_keys};
-ghost use Rattle.rt_rules.specs.Numbers.{has, without, foremost};
+ghost use Rattle.rt_rules.specs.Numbers.{has};
 ghost use Rattle.rt_rules.specs.SemState.{Asks, Frees};
 ghost use Rattle.rt_rules.specs.Mpcp.{mpcp_after};
 ghost use Rattle.sem_laws.specs.KeptKeys.{key_at, above};
@@ -58,12 +57,16 @@ impl Model for Plain {
 
     ghost Value = { MpcpState };
 
-    ghost view = { λ a. record { state = record { holder = a.holder; waiting = a.waiting.items }; keys = a.keys.items } };
+    ghost view = { λ a. record {
+      state = record { holder = a.holder; waiting = a.waiting.items };
+      keys = a.keys.items;
+    } };
 }
 
 impl Plain {
     fn new(alloc: Global, room: u32) -> Result<Plain, Fail>
-        ensures { IfOk result (λ p. (p.state ≡ record { holder = None; waiting = [] }) × (length p.keys ≡ room)) }
+        ensures { IfOk result (λ p. (p.state ≡ record { holder = None; waiting = [] }) ×
+            (length p.keys ≡ room)) }
     {
         Ok(Plain {
             holder: None,
@@ -74,7 +77,11 @@ impl Plain {
 
     fn ask(&mut self, task: u32, key: Key) -> Result<(), Fail>
         requires { task < length self.old.keys }
-        ensures { IfOk result (λ _. self.new ≡ record { state = mpcp_after (above self.old.keys) (Asks task 0) self.old.state; keys = slice_set self.old.keys task key }) }
+        ensures { IfOk result (λ _. self.new ≡
+            record {
+              state = mpcp_after (above self.old.keys) (Asks task 0) self.old.state;
+              keys = slice_set self.old.keys task key;
+            }) }
     {
         self.keys[task as usize] = key;
         match self.holder {
@@ -85,7 +92,11 @@ impl Plain {
     }
 
     fn release(&mut self)
-        ensures { self.new ≡ record self.old { state = mpcp_after (above self.old.keys) (Frees 0 0) self.old.state } }
+        ensures { self.new ≡
+            record self.old {
+              state = mpcp_after (above self.old.keys) (Frees 0 0)
+                  self.old.state;
+            } }
     {
         self.holder = highest(self.waiting.as_slice(), self.keys.as_slice());
         if let Some(next) = self.holder {
@@ -96,7 +107,8 @@ impl Plain {
     fn may_ask(&self, task: u32, key: Key) -> bool
         ensures free_hands { result ≡ true → self.now.state.holder ≢ Some task }
         ensures outside { result ≡ true → has task self.now.state.waiting ≡ false }
-        ensures apart { result ≡ true → (t : ℕ) → has t self.now.state.waiting ≡ true → equal_keys (key_at self.now.keys t) key ≡ false }
+        ensures apart { result ≡ true → (t : ℕ) → has t self.now.state.waiting ≡ true →
+            equal_keys (key_at self.now.keys t) key ≡ false }
     {
         if let Some(held) = self.holder {
             if held == task {

@@ -1,4 +1,5 @@
-//! A semaphore under the OMLP (Brandenburg and Anderson, RTSS 2010): a FIFO list of at most so many requests, fed by a priority queue.
+//! A semaphore under the OMLP (Brandenburg and Anderson, RTSS 2010): a FIFO list of at most so many requests, fed by
+//! a priority queue.
 #![tactic(auto)]
 
 ghost use Rattle.std.specs.Prelude.{◌≡◌, ◌<◌, ◌≤◌, ◌≢◌, ◌↔◌, [], ℕ, true, false, length, IfOk, Some, None, slice_set};
@@ -17,7 +18,8 @@ use std::alloc::Global;
 use std::collections::VecDeque;
 use std::marker::Model;
 
-/// A semaphore whose FIFO list takes at most `cap` requests, of which the first holds; all others wait in a priority queue. It keeps the key with which a task asked.
+/// An OMLP semaphore (Brandenburg and Anderson, RTSS 2010): its FIFO list takes at most `cap` requests, of which the
+/// first holds; all others wait in a priority queue. It keeps the key with which a task asked.
 #[derive(Drop)]
 pub struct OmlpSem {
     cap: u32,
@@ -33,13 +35,21 @@ impl Model for OmlpSem {
 
     ghost Value = { OmlpKept };
 
-    ghost view = { λ a. record { cap = a.cap; state = record { fifo = numbers a.fifo.items; queue = a.queue.waiting }; keys = a.queue.keys } };
+    ghost view = { λ a. record {
+      cap = a.cap;
+      state = record { fifo = numbers a.fifo.items; queue = a.queue.waiting };
+      keys = a.queue.keys;
+    } };
 
-    ghost invariant = { λ a. IsOmlp a.cap (length a.queue.keys) (deque_capacity a.fifo) (numbers a.fifo.items) a.queue.waiting };
+    ghost invariant = { λ a. IsOmlp a.cap (length a.queue.keys) (deque_capacity a.fifo)
+        (numbers a.fifo.items) a.queue.waiting };
 }
 
 impl OmlpSem {
-    /// A semaphore that nobody holds, whose FIFO list takes at most `cap` requests, for tasks whose numbers are below `room`. No later call takes memory.
+    /// A semaphore that nobody holds, whose FIFO list takes at most `cap` requests, for tasks whose numbers are below
+    /// `room`. No later call takes memory.
+    ///
+    /// Example: `OmlpSem::new(alloc, 2, 64)` for a cluster of two processors.
     pub fn new(alloc: Global, cap: u32, room: u32) -> Result<OmlpSem, NoMemory>
         requires { 1 ≤ cap }
         ensures free { IfOk result (λ s. s.state ≡ record { fifo = []; queue = [] }) }
@@ -51,13 +61,21 @@ impl OmlpSem {
         Ok(OmlpSem { cap, fifo, queue })
     }
 
-    /// The task asks for the semaphore with its base key. It joins the FIFO list where that has room, else the priority queue; it holds where nobody did. No waiting task asked with that key.
+    /// The task asks for the semaphore with its base key. It joins the FIFO list where that has room, else the
+    /// priority queue; it holds where nobody did. No waiting task asked with that key.
+    ///
+    /// Example: with a cap of 2, the third task that asks joins the priority queue.
     pub fn ask(&mut self, task: TaskNo, key: Key) -> Ask
         requires below { task.0 < length self.old.keys }
         requires free_hands { (omlp_sem_state self.old.state).holder ≢ Some task.0 }
         requires outside { has task.0 (omlp_sem_state self.old.state).waiting ≡ false }
-        requires apart { (t : ℕ) → has t (omlp_sem_state self.old.state).waiting ≡ true → equal_keys (key_at self.old.keys t) key ≡ false }
-        ensures after { self.new ≡ record { cap = self.old.cap; state = omlp_after self.old.cap (above self.old.keys) (Asks task.0 0) self.old.state; keys = slice_set self.old.keys task.0 key } }
+        requires apart { (t : ℕ) → has t (omlp_sem_state self.old.state).waiting ≡ true →
+            equal_keys (key_at self.old.keys t) key ≡ false }
+        ensures after { self.new ≡ record {
+          cap = self.old.cap;
+          state = omlp_after self.old.cap (above self.old.keys) (Asks task.0 0) self.old.state;
+          keys = slice_set self.old.keys task.0 key;
+        } }
         ensures granted { (result ≡ Ask.Granted) ↔ ((omlp_sem_state self.old.state).holder ≡ None) }
         ensures queued { (result ≡ Ask.Queued) ↔ ((omlp_sem_state self.old.state).holder ≢ None) }
     {
@@ -75,10 +93,18 @@ impl OmlpSem {
         answer
     }
 
-    /// The task, which holds the semaphore, frees it: it leaves the FIFO list, and the task of the highest key of the priority queue, if any, joins that list. The answer is the task that holds from now on, `None` where nobody waited.
+    /// The task, which holds the semaphore, frees it: it leaves the FIFO list, and the task of the highest key of the
+    /// priority queue, if any, joins that list. The answer is the task that holds from now on, `None` where nobody
+    /// waited.
+    ///
+    /// Example: where task 1 holds and task 2 is next in the FIFO list, `sem.release(TaskNo(1))` is `Some(TaskNo(2))`.
     pub fn release(&mut self, task: TaskNo) -> Option<TaskNo>
         requires { (omlp_sem_state self.old.state).holder ≡ Some task.0 }
-        ensures after { self.new ≡ record self.old { state = omlp_after self.old.cap (above self.old.keys) (Frees task.0 0) self.old.state } }
+        ensures after { self.new ≡
+            record self.old {
+              state = omlp_after self.old.cap (above self.old.keys) (Frees task.0 0)
+                  self.old.state;
+            } }
         ensures next { number_of_task result ≡ (omlp_sem_state self.new.state).holder }
         ensures nobody { (result ≡ None) ↔ ((omlp_sem_state self.old.state).waiting ≡ []) }
     {
@@ -90,6 +116,8 @@ impl OmlpSem {
     }
 
     /// The task that holds the semaphore.
+    ///
+    /// Example: `sem.holder()` is `None` at a new semaphore.
     pub fn holder(&self) -> Option<TaskNo>
         ensures { number_of_task result ≡ (omlp_sem_state self.now.state).holder }
     {
@@ -97,6 +125,8 @@ impl OmlpSem {
     }
 
     /// How many tasks wait.
+    ///
+    /// Example: `sem.waiters()` counts those of both lists but the holder.
     pub fn waiters(&self) -> u32
         ensures { result ≡ length (omlp_sem_state self.now.state).waiting }
     {

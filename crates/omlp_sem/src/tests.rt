@@ -1,7 +1,6 @@
-ghost use Rattle.std.specs.Prelude.{◌≡◌, ◌<◌, ◌==◌, ◌||◌, ◌&&◌, [], ℕ, true, false, not, length, IfOk, slice_set};
-ghost use Rattle.std.specs.List.{list_all};
+ghost use Rattle.std.specs.Prelude.{◌≡◌, ◌<◌, [], ℕ, true, false, length, IfOk, slice_set};
 ghost use Rattle.rt_order.specs.KeyOrder.{equal_keys};
-ghost use Rattle.rt_rules.specs.Numbers.{has, without, foremost};
+ghost use Rattle.rt_rules.specs.Numbers.{has};
 ghost use Rattle.rt_rules.specs.SemState.{Asks, Frees};
 ghost use Rattle.rt_rules.specs.Omlp.{omlp_after, omlp_sem_state};
 ghost use Rattle.sem_laws.specs.KeptKeys.{key_at, above};
@@ -22,7 +21,8 @@ fn base_key(deadline: u64, task: u32) -> Key
     }
 }
 
-/// Two processors: tasks 1 and 2 are in the FIFO list, tasks 3 and 4 in the priority queue; task 4, of the earliest deadline, joins the FIFO list before task 3.
+/// Two processors: tasks 1 and 2 are in the FIFO list, tasks 3 and 4 in the priority queue; task 4, of the earliest
+/// deadline, joins the FIFO list before task 3.
 #[test]
 fn the_earliest_deadline_joins_the_list(rt: HostRuntime) -> Result<(), Fail> {
     let mut sem = OmlpSem::new(rt.alloc(), 2, 5)?;
@@ -60,12 +60,17 @@ impl Model for Plain {
 
     ghost Value = { OmlpKept };
 
-    ghost view = { λ a. record { cap = a.cap; state = record { fifo = a.fifo.items; queue = a.queue.items }; keys = a.keys.items } };
+    ghost view = { λ a. record {
+      cap = a.cap;
+      state = record { fifo = a.fifo.items; queue = a.queue.items };
+      keys = a.keys.items;
+    } };
 }
 
 impl Plain {
     fn new(alloc: Global, cap: u32, room: u32) -> Result<Plain, Fail>
-        ensures { IfOk result (λ p. (p.cap ≡ cap) × (p.state ≡ record { fifo = []; queue = [] }) × (length p.keys ≡ room)) }
+        ensures { IfOk result (λ p. (p.cap ≡ cap) × (p.state ≡ record { fifo = []; queue = [] }) ×
+            (length p.keys ≡ room)) }
     {
         Ok(Plain {
             cap,
@@ -77,7 +82,12 @@ impl Plain {
 
     fn ask(&mut self, task: u32, key: Key) -> Result<(), Fail>
         requires { task < length self.old.keys }
-        ensures { IfOk result (λ _. self.new ≡ record { cap = self.old.cap; state = omlp_after self.old.cap (above self.old.keys) (Asks task 0) self.old.state; keys = slice_set self.old.keys task key }) }
+        ensures { IfOk result (λ _. self.new ≡
+            record {
+              cap = self.old.cap;
+              state = omlp_after self.old.cap (above self.old.keys) (Asks task 0) self.old.state;
+              keys = slice_set self.old.keys task key;
+            }) }
     {
         self.keys[task as usize] = key;
         if self.fifo.len() < self.cap as usize {
@@ -90,7 +100,11 @@ impl Plain {
 
     fn release(&mut self) -> Result<(), Fail>
         requires { 0 < length self.old.state.fifo }
-        ensures { IfOk result (λ _. self.new ≡ record self.old { state = omlp_after self.old.cap (above self.old.keys) (Frees 0 0) self.old.state }) }
+        ensures { IfOk result (λ _. self.new ≡
+            record self.old {
+              state = omlp_after self.old.cap (above self.old.keys) (Frees 0 0)
+                  self.old.state;
+            }) }
     {
         self.fifo.remove(0);
         if let Some(next) = highest(self.queue.as_slice(), self.keys.as_slice()) {
@@ -103,7 +117,9 @@ impl Plain {
     fn may_ask(&self, task: u32, key: Key) -> bool
         ensures outside { result ≡ true → has task self.now.state.fifo ≡ false }
         ensures away { result ≡ true → has task self.now.state.queue ≡ false }
-        ensures apart { result ≡ true → (t : ℕ) → has t (omlp_sem_state self.now.state).waiting ≡ true → equal_keys (key_at self.now.keys t) key ≡ false }
+        ensures apart { result ≡ true → (t : ℕ) →
+            has t (omlp_sem_state self.now.state).waiting ≡ true →
+            equal_keys (key_at self.now.keys t) key ≡ false }
     {
         is_apart(self.fifo.as_slice(), self.keys.as_slice(), task, key)
             && is_apart(self.queue.as_slice(), self.keys.as_slice(), task, key)

@@ -13,7 +13,7 @@ use Rattle.rt_rules.proofs.BoolLaws.{clash}
 use Rattle.rt_rules.proofs.KeyLaws.{higher-falls}
 use Rattle.pcp_sem.specs.Pairs.{has_pair, tasks_of}
 use Rattle.pcp_sem.specs.Stack.{IsStack}
-use Rattle.pcp_sem.specs.PcpKept.{above_ceiling}
+use Rattle.pcp_sem.specs.PcpKept.{PcpKept, above_ceiling}
 use Rattle.pcp_sem.specs.IsPcp.{IsUser, IsSound, IsPcp}
 use Rattle.pcp_sem.specs.Settled.{IsSettled}
 use Rattle.rt_rules.proofs.PcpLaws.{stack-step}
@@ -21,6 +21,19 @@ use Rattle.rt_rules.proofs.PairLaws.{distinct-in_order, has_pair-in_order, pair-
 use Rattle.pcp_sem.proofs.KeptOrder.{higher-differs, ranking-keys, length-in_order, in_order-rekeyed, in_order-push, tested-nobody, tested-first}
 use Rattle.pcp_sem.proofs.Sound.{pair-task, sound-asks, sound-frees, stack-rekeyed, sound-rekeyed, few-held, few-waiting, one-more-waiting}
 use Rattle.pcp_sem.proofs.Blockers.{waiting-blocked}
+
+-- a task may ask
+pub record MayAsk (ceilings keys : List Key) (l : PcpState) (t s : ℕ) (key : Key) : Type 0 where
+  pub below : t < length keys
+  pub known : s < length ceilings
+  pub idle : has t (tasks_of l.waiting) ≡ false
+  pub fresh : has_pair t s l.held ≡ false
+  pub low : higher key (key_at ceilings s) ≡ false
+  pub same : has t (tasks_of l.held) ≡ true → key_at keys t ≡ key
+
+-- what is required of the set as contracts see it holds of its fields
+pub may_ask : {v a : PcpKept} (t s : ℕ) (key : Key) → v ≡ a → MayAsk a.ceilings a.keys a.state t s key → MayAsk v.ceilings v.keys v.state t s key
+may_ask t s key e may = subst (λ (v : PcpKept). MayAsk v.ceilings v.keys v.state t s key) (sym e) may
 
 module _ (ceilings keys : List Key) (l : PcpState) (hc wc oc gc : ℕ) (ok : IsPcp ceilings keys l hc wc oc gc) where
   pub settled : (grants : List ℕ) → IsSettled (record { ceilings = ceilings; state = l; keys = keys; grants = grants })
@@ -77,12 +90,12 @@ module _ (ceilings keys : List Key) (l : PcpState) (hc wc oc gc : ℕ) (ok : IsP
       some [] e = cc
       some (q ∷ ps) e = omega arith
 
-  module _ (t s : ℕ) (key : Key) (below : t < length keys) (known : s < length ceilings) (idle : has t (tasks_of l.waiting) ≡ false) (fresh : has_pair t s l.held ≡ false) (low : higher key (key_at ceilings s) ≡ false) (same : has t (tasks_of l.held) ≡ true → key_at keys t ≡ key) where
+  module _ (t s : ℕ) (key : Key) (may : MayAsk ceilings keys l t s key) where
     abbrev new : List Key
     new = set keys t key
 
     own : key_at (set keys t key) t ≡ key
-    own = get_or-set_same keys t key _ below
+    own = get_or-set_same keys t key _ may.below
 
     others : (u : ℕ) → u == t ≡ false → key_at (set keys t key) u ≡ key_at keys u
     others u e = get_or-set_other keys t u key _ (λ m. let k : u == t ≡ true = rw (m, equal_self t) in clash _ k e)
@@ -91,11 +104,11 @@ module _ (ceilings keys : List Key) (l : PcpState) (hc wc oc gc : ℕ) (ok : IsP
     held-same u r h = by_case (u == t) refl
       where
         by_case : (b : Bool) → u == t ≡ b → key_at (set keys t key) u ≡ key_at keys u
-        by_case true e = let a : u ≡ t = eqb-true u t e in let m : has t (tasks_of l.held) ≡ true = subst (λ n. has n (tasks_of l.held) ≡ true) a (pair-task u r l.held h) in ap (key_at (set keys t key)) a ∙ own ∙ sym (same m) ∙ ap (key_at keys) (sym a)
+        by_case true e = let a : u ≡ t = eqb-true u t e in let m : has t (tasks_of l.held) ≡ true = subst (λ n. has n (tasks_of l.held) ≡ true) a (pair-task u r l.held h) in ap (key_at (set keys t key)) a ∙ own ∙ sym (may.same m) ∙ ap (key_at keys) (sym a)
         by_case false e = others u e
 
     waiting-same : (u r : ℕ) → has_pair u r l.waiting ≡ true → key_at (set keys t key) u ≡ key_at keys u
-    waiting-same u r h = others u (unless _ (λ e. let a : u ≡ t = eqb-true u t e in let m : has t (tasks_of l.waiting) ≡ true = subst (λ n. has n (tasks_of l.waiting) ≡ true) a (pair-task u r l.waiting h) in clash _ m idle))
+    waiting-same u r h = others u (unless _ (λ e. let a : u ≡ t = eqb-true u t e in let m : has t (tasks_of l.waiting) ≡ true = subst (λ n. has n (tasks_of l.waiting) ≡ true) a (pair-task u r l.waiting h) in clash _ m may.idle))
 
     waiting-key : (u : ℕ) → has u (tasks_of l.waiting) ≡ true → key_at (set keys t key) u ≡ key_at keys u
     waiting-key u h = let q = pair-of u l.waiting h in waiting-same u q.0 q.1
@@ -113,14 +126,14 @@ module _ (ceilings keys : List Key) (l : PcpState) (hc wc oc gc : ℕ) (ok : IsP
 
         differ : (u : ℕ) → has u (tasks_of l.waiting) ≡ true → above (set keys t key) u t ≡ not (above (set keys t key) t u)
         differ u h =
-            let others_key : equal_keys (key_at keys u) key ≡ false = apart u (λ e. let m : has t (tasks_of l.waiting) ≡ true = subst (λ n. has n (tasks_of l.waiting) ≡ true) e h in clash _ m idle) (member u h) in
+            let others_key : equal_keys (key_at keys u) key ≡ false = apart u (λ e. let m : has t (tasks_of l.waiting) ≡ true = subst (λ n. has n (tasks_of l.waiting) ≡ true) e h in clash _ m may.idle) (member u h) in
             rw (waiting-key u h, own) (higher-differs (key_at keys u) key others_key)
 
     user : IsUser ceilings (set keys t key) t s
     user = record {
-      task = omega (arith, length-set keys t key);
-      sem = known;
-      low = ap (λ k. higher k (key_at ceilings s)) own ∙ low;
+      task = omega (arith, length-set keys t key, may.below);
+      sem = may.known;
+      low = ap (λ k. higher k (key_at ceilings s)) own ∙ may.low;
     }
 
     stack-new : IsStack (above_ceiling (set keys t key) ceilings) l
@@ -132,7 +145,7 @@ module _ (ceilings keys : List Key) (l : PcpState) (hc wc oc gc : ℕ) (ok : IsP
     asked : (m : PcpState) (hc' wc' oc' : ℕ) → pcp_after (above (set keys t key)) (above_ceiling (set keys t key) ceilings) (Asks t s) l ≡ m → hc ≤ hc' → wc ≤ wc' → oc ≤ oc' → IsPcp ceilings (set keys t key) m hc' wc' oc' gc
     asked m hc' wc' oc' e h w o = record {
       stack = subst (λ n. IsStack (above_ceiling (set keys t key) ceilings) n) e (stack-step (above (set keys t key)) (above_ceiling (set keys t key) ceilings) (Asks t s) l stack-new);
-      sound = subst (λ n. IsSound ceilings (set keys t key) n) e (sound-asks ceilings (set keys t key) t s l sound-new user idle fresh);
+      sound = subst (λ n. IsSound ceilings (set keys t key) n) e (sound-asks ceilings (set keys t key) t s l sound-new user may.idle may.fresh);
       limit = omega (arith, length-set keys t key, ok.limit);
       held_room = omega (arith, length-set keys t key, ok.held_room);
       waiting_room = omega (arith, length-set keys t key, ok.waiting_room);
@@ -150,10 +163,10 @@ module _ (ceilings keys : List Key) (l : PcpState) (hc wc oc gc : ℕ) (ok : IsP
     held-place = omega (arith, held-fits, ok.held_room)
 
     pub waiting-place : length l.waiting < wc
-    waiting-place = omega (arith, one-more-waiting ceilings keys t l ok.sound below idle, ok.waiting_room)
+    waiting-place = omega (arith, one-more-waiting ceilings keys t l ok.sound may.below may.idle, ok.waiting_room)
 
     pub order-place : length (in_order (above keys) l.waiting) < oc
-    order-place = omega (arith, one-more-waiting ceilings keys t l ok.sound below idle, length-in_order (above keys) l.waiting, ok.order_room)
+    order-place = omega (arith, one-more-waiting ceilings keys t l ok.sound may.below may.idle, length-in_order (above keys) l.waiting, ok.order_room)
 
 -- a set whose semaphores nobody holds
 pub pcp-empty : (ceilings keys : List Key) (hc wc oc gc : ℕ) → length keys < 2 ^ 32 → length ceilings + length keys ≤ hc → length keys ≤ wc → length keys ≤ oc → length keys ≤ gc → IsPcp ceilings keys (record { held = []; waiting = [] }) hc wc oc gc

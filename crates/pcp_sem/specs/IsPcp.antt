@@ -33,6 +33,6 @@ pub record IsPcp (ceilings keys : List Key) (l : PcpState) (held waiting order g
   pub grants_room : length keys ≤ grants
 
 -- and the waiting requests stand in falling order of keys
-pub record IsKept (ceilings keys : List Key) (l : PcpState) (order : List TaskSem) (held waiting ordered grants : ℕ) : Type 0 where
+pub record IsPcpTable (ceilings keys : List Key) (l : PcpState) (order : List TaskSem) (held waiting ordered grants : ℕ) : Type 0 where
   pub facts : IsPcp ceilings keys l held waiting ordered grants
   pub in_falling_order : order ≡ in_order (above keys) l.waiting

@@ -7,7 +7,8 @@ use Rattle.rt_rules.specs.Pcp.{TaskSem, PcpState, of_others, holder_among}
 use Rattle.sem_laws.specs.KeptKeys.{key_at}
 use Rattle.pcp_sem.specs.Pairs.{sems_of}
 
--- the ceilings, what is held and waited for, the key with which each task below the room asked last, and the tasks that the last release granted, in order
+-- the ceilings, what is held and waited for, the key with which each task below the room asked last, and the tasks that the last release
+-- granted, in order
 pub record PcpKept : Type 0 where
   pub ceilings : List Key
   pub state : PcpState
@@ -20,7 +21,8 @@ above_ceiling keys ceilings t s = higher (key_at keys t) (key_at ceilings s)
 
 -- whether the ceiling of s is higher than that of r; ties go to the lower number
 abbrev pub has_higher_ceiling : List Key → ℕ → ℕ → Bool
-has_higher_ceiling ceilings s r = higher (key_at ceilings s) (key_at ceilings r) || not (higher (key_at ceilings r) (key_at ceilings s)) && nat_lt s r
+has_higher_ceiling ceilings s r = higher (key_at ceilings s) (key_at ceilings r) || not (higher (key_at ceilings r) (key_at ceilings s))
+    && nat_lt s r
 
 -- the holder of the highest ceiling among the semaphores that other tasks hold
 abbrev pub blocker_of : List Key → List TaskSem → ℕ → Option ℕ

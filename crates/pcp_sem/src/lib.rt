@@ -1,4 +1,5 @@
-//! The semaphores of one cluster under the PCP (Sha, Rajkumar and Lehoczky, 1990): a task is granted a semaphore where its base key is above the ceilings of all that other tasks hold.
+//! The semaphores of one cluster under the PCP (Sha, Rajkumar and Lehoczky, IEEE Transactions on Computers, 1990): a
+//! task is granted a semaphore where its base key is above the ceilings of all that other tasks hold.
 #![tactic(auto)]
 
 ghost use Rattle.std.specs.Prelude.{◌≡◌, ◌≢◌, ◌<◌, ◌≤◌, ◌↔◌, ◌++◌, ◌==◌, [], ℕ, true, false, length, reverse, replicate, filter, IfOk, IsNone, Some, None, slice_set, slice_get};
@@ -20,9 +21,11 @@ use std::marker::Model;
 
 mod pairs;
 
-/// Semaphores, numbered from 0, with their ceilings: the highest base key of the users of each. It keeps the key with which a task asked.
+/// PCP semaphores (Sha, Rajkumar and Lehoczky, 1990), numbered from 0, with their ceilings: the highest base key of
+/// the users of each. It keeps the key with which a task asked.
 ///
-/// The waiting requests stand in falling order of keys from call to call, so that a call takes no more steps than a constant times what is held and waited for.
+/// The waiting requests stand in falling order of keys from call to call, so that a call takes no more steps than a
+/// constant times what is held and waited for.
 #[derive(Drop)]
 pub struct PcpSet {
     ceilings: Vec<Key>,
@@ -38,17 +41,30 @@ impl Model for PcpSet {
     ghost use Rattle.rt_base.specs.TaskNos.{numbers};
     ghost use Rattle.pcp_sem.specs.Listed.{pairs};
     ghost use Rattle.pcp_sem.specs.PcpKept.{PcpKept};
-    ghost use Rattle.pcp_sem.specs.IsPcp.{IsKept};
+    ghost use Rattle.pcp_sem.specs.IsPcp.{IsPcpTable};
 
     ghost Value = { PcpKept };
 
-    ghost view = { λ a. record { ceilings = a.ceilings.items; state = record { held = pairs a.held.items; waiting = pairs a.waiting.items }; keys = a.keys.items; grants = numbers a.grants.items } };
+    ghost view = { λ a. record {
+      ceilings = a.ceilings.items;
+      state = record { held = pairs a.held.items; waiting = pairs a.waiting.items };
+      keys = a.keys.items;
+      grants = numbers a.grants.items;
+    } };
 
-    ghost invariant = { λ a. IsKept a.ceilings.items a.keys.items (record { held = pairs a.held.items; waiting = pairs a.waiting.items }) (pairs a.order.items) (vec_capacity a.held) (vec_capacity a.waiting) (vec_capacity a.order) (vec_capacity a.grants) };
+    ghost invariant = { λ a. IsPcpTable a.ceilings.items a.keys.items
+        (record {
+          held = pairs a.held.items;
+          waiting = pairs a.waiting.items;
+        }) (pairs a.order.items) (vec_capacity a.held)
+        (vec_capacity a.waiting) (vec_capacity a.order) (vec_capacity a.grants) };
 }
 
 impl PcpSet {
-    /// A set whose semaphores nobody holds, for tasks whose numbers are below `room`, each with the lowest of all keys until it asks. No later call takes memory.
+    /// A set whose semaphores nobody holds, for tasks whose numbers are below `room`, each with the lowest of all
+    /// keys until it asks. No later call takes memory.
+    ///
+    /// Example: `PcpSet::new(alloc, &ceilings, 64)` has semaphore 0 with the first of the ceilings.
     pub fn new(alloc: Global, ceilings: &[Key], room: u32) -> Result<PcpSet, NoMemory>
         ensures free { IfOk result (λ s. s.state ≡ record { held = []; waiting = [] }) }
         ensures ceilings { IfOk result (λ s. s.ceilings ≡ ceilings.now) }
@@ -68,9 +84,15 @@ impl PcpSet {
         })
     }
 
-    /// The task asks for the semaphore with its base key. It holds it from now on where its key is above the ceilings of all semaphores that other tasks hold, else it waits.
+    /// The task asks for the semaphore with its base key. It holds it from now on where its key is above the ceilings
+    /// of all semaphores that other tasks hold, else it waits.
     ///
-    /// The task waits for no semaphore, does not hold this one and holds fewer than eight. Its key is not higher than the ceiling of the semaphore, is the one with which it asked for what it holds, and differs from the keys of all other tasks that hold or wait.
+    /// The task waits for no semaphore, does not hold this one and holds fewer than eight. Its key is not higher than
+    /// the ceiling of the semaphore, is the one with which it asked for what it holds, and differs from the keys of
+    /// all other tasks that hold or wait.
+    ///
+    /// Example: where task 1 holds a semaphore whose ceiling is above the key of task 2, task 2 is `Ask::Queued`,
+    /// even at a free one.
     pub fn ask(&mut self, task: TaskNo, key: Key, sem: u32) -> Ask
         requires below { task.0 < length self.old.keys }
         requires known { sem < length self.old.ceilings }
@@ -78,12 +100,23 @@ impl PcpSet {
         requires fresh { has_pair task.0 sem self.old.state.held ≡ false }
         requires few { length (filter (λ p. p.task == task.0) self.old.state.held) < 8 }
         requires low { higher key (key_at self.old.ceilings sem) ≡ false }
-        requires same { has task.0 (tasks_of self.old.state.held) ≡ true → key_at self.old.keys task.0 ≡ key }
-        requires apart { (t : ℕ) → t ≢ task.0 → has t (tasks_of self.old.state.held ++ tasks_of self.old.state.waiting) ≡ true → equal_keys (key_at self.old.keys t) key ≡ false }
+        requires same { has task.0 (tasks_of self.old.state.held) ≡ true →
+            key_at self.old.keys task.0 ≡ key }
+        requires apart { (t : ℕ) → t ≢ task.0 →
+            has t (tasks_of self.old.state.held ++ tasks_of self.old.state.waiting) ≡ true →
+            equal_keys (key_at self.old.keys t) key ≡ false }
         ensures after { let keys = slice_set self.old.keys task.0 key in
-            self.new ≡ record self.old { state = pcp_after (above keys) (above_ceiling keys self.old.ceilings) (Asks task.0 sem) self.old.state; keys = keys } }
-        ensures granted { (result ≡ Ask.Granted) ↔ (passes (above_ceiling self.new.keys self.new.ceilings) self.old.state.held task.0 ≡ true) }
-        ensures queued { (result ≡ Ask.Queued) ↔ (passes (above_ceiling self.new.keys self.new.ceilings) self.old.state.held task.0 ≡ false) }
+            self.new ≡ record self.old {
+              state = pcp_after (above keys) (above_ceiling keys self.old.ceilings)
+                  (Asks task.0 sem) self.old.state;
+              keys = keys;
+            } }
+        ensures granted { (result ≡ Ask.Granted) ↔
+            (passes (above_ceiling self.new.keys self.new.ceilings)
+            self.old.state.held task.0 ≡ true) }
+        ensures queued { (result ≡ Ask.Queued) ↔
+            (passes (above_ceiling self.new.keys self.new.ceilings)
+            self.old.state.held task.0 ≡ false) }
         ensures settled { IsSettled self.new }
     {
         self.keys[task.0 as usize] = key;
@@ -103,12 +136,22 @@ impl PcpSet {
         }
     }
 
-    /// The task frees the semaphore, the last that it was granted among those it holds. Then each waiting task is tested once, in falling order of keys, and is granted its semaphore where it passes at its turn. The answer is how many were granted.
+    /// The task frees the semaphore, the last that it was granted among those it holds. Then each waiting task is
+    /// tested once, in falling order of keys, and is granted its semaphore where it passes at its turn. The answer is
+    /// how many were granted.
+    ///
+    /// Example: `set.release(TaskNo(1), 0)` is 1 where a waiting task passes then.
     pub fn release(&mut self, task: TaskNo, sem: u32) -> u32
         requires known { sem < length self.old.ceilings }
         requires last { last_granted self.old.state.held task.0 ≡ Some sem }
-        ensures after { self.new ≡ record self.old { state = pcp_after (above self.old.keys) (above_ceiling self.old.keys self.old.ceilings) (Frees task.0 sem) self.old.state; grants = self.new.grants } }
-        ensures grants { tasks_of self.new.state.held ≡ reverse self.new.grants ++ tasks_of (without_pair (record { task = task.0; sem = sem }) self.old.state.held) }
+        ensures after { self.new ≡
+            record self.old {
+              state = pcp_after (above self.old.keys)
+                  (above_ceiling self.old.keys self.old.ceilings) (Frees task.0 sem) self.old.state;
+              grants = self.new.grants;
+            } }
+        ensures grants { tasks_of self.new.state.held ≡ reverse self.new.grants ++
+            tasks_of (without_pair (record { task = task.0; sem = sem }) self.old.state.held) }
         ensures count { result ≡ length self.new.grants }
         ensures settled { IsSettled self.new }
     {
@@ -130,7 +173,10 @@ impl PcpSet {
         self.grants.len() as u32
     }
 
-    /// The task that the last release granted at that place, counted from 0, in order of granting; `None` past the last of them, and before the first release.
+    /// The task that the last release granted at that place, counted from 0, in order of granting; `None` past the
+    /// last of them, and before the first release.
+    ///
+    /// Example: `set.granted(0)` is the first task that the last release granted.
     pub fn granted(&self, i: u32) -> Option<TaskNo>
         ensures task { number_of_task result ≡ slice_get self.now.grants i }
         ensures past { IsNone result ↔ (length self.now.grants ≤ i) }
@@ -138,9 +184,13 @@ impl PcpSet {
         self.grants.get(i as usize).copied()
     }
 
-    /// The task that holds the highest ceiling among the semaphores that other tasks hold, ties to the lower number of the semaphore; `None` where no other task holds one. A waiting task has one, which does not wait.
+    /// The task that holds the highest ceiling among the semaphores that other tasks hold, ties to the lower number
+    /// of the semaphore; `None` where no other task holds one. A waiting task has one, which does not wait.
+    ///
+    /// Example: `set.blocker(TaskNo(2))` is whom task 2 waits for, and so the one that inherits its key.
     pub fn blocker(&self, task: TaskNo) -> Option<TaskNo>
-        ensures holder { number_of_task result ≡ blocker_of self.now.ceilings self.now.state.held task.0 }
+        ensures holder { number_of_task result ≡
+            blocker_of self.now.ceilings self.now.state.held task.0 }
         ensures nobody { IsNone result ↔ (of_others task.0 self.now.state.held ≡ []) }
         ensures settled { IsSettled self.now }
     {
@@ -148,6 +198,8 @@ impl PcpSet {
     }
 
     /// The task that holds the semaphore.
+    ///
+    /// Example: `set.holder(0)` is `None` in a new set.
     pub fn holder(&self, sem: u32) -> Option<TaskNo>
         requires { sem < length self.now.ceilings }
         ensures { number_of_task result ≡ (pcp_sem_state sem self.now.state).holder }
@@ -156,6 +208,8 @@ impl PcpSet {
     }
 
     /// The semaphore that the task was granted last among those that it holds.
+    ///
+    /// Example: only what `set.last_of(task)` names may be released by the task.
     pub fn last_of(&self, task: TaskNo) -> Option<u32>
         ensures { result ≡ last_granted self.now.state.held task.0 }
     {

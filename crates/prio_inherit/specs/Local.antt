@@ -34,4 +34,5 @@ pub record IsSettling (bases : List (Option Key)) (nexts : List (Option ℕ)) (k
 -- the same while the keys that are lower than one are raised to it: the task that the walk has come to has its key once this one is joined
 pub record IsRaising (bases : List (Option Key)) (nexts : List (Option ℕ)) (keys : List Key) (at : Option ℕ) (key : Key) : Type 0 where
   pub settling : IsSettling bases nexts keys at
-  pub joined : (t : ℕ) → at ≡ Some t → IsTop (length nexts) (next_of nexts) (key_at keys) (base_of bases t) t (if higher key (key_at keys t) then key else key_at keys t)
+  pub joined : (t : ℕ) → at ≡ Some t → IsTop (length nexts) (next_of nexts) (key_at keys) (base_of bases t) t
+      (if higher key (key_at keys t) then key else key_at keys t)

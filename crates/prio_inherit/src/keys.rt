@@ -56,7 +56,8 @@ fn raises(next: Option<TaskNo>, task: TaskNo, key: Key, best: Key) -> bool
 // The highest of the base key of a task and the keys of those that wait for it.
 fn top_key(bases: &[Option<Key>], nexts: &[Option<TaskNo>], keys: &[Key], task: TaskNo) -> Key
     requires { length keys.now ≡ length nexts.now }
-    ensures { IsTop (length nexts.now) (next_of (numbers_of_tasks nexts.now)) (key_at keys.now) (base_of bases.now task.0) task.0 result }
+    ensures { IsTop (length nexts.now) (next_of (numbers_of_tasks nexts.now)) (key_at keys.now)
+        (base_of bases.now task.0) task.0 result }
 {
     let mut best = base_in(bases, task);
     for u in 0..nexts.len() {
@@ -74,9 +75,11 @@ pub fn follow(
     keys: &mut Vec<Key>,
     start: Option<TaskNo>,
 )
-    requires { IsSettling bases.now (numbers_of_tasks nexts.now) keys.old.items (number_of_task start) }
+    requires { IsSettling bases.now (numbers_of_tasks nexts.now) keys.old.items
+        (number_of_task start) }
     ensures length { length keys.new.items ≡ length (numbers_of_tasks nexts.now) }
-    ensures local { (t : ℕ) → t < length (numbers_of_tasks nexts.now) → IsLocal bases.now (numbers_of_tasks nexts.now) keys.new.items t }
+    ensures local { (t : ℕ) → t < length (numbers_of_tasks nexts.now) →
+        IsLocal bases.now (numbers_of_tasks nexts.now) keys.new.items t }
 {
     let mut at = start;
     for _step in 0..nexts.len() {
@@ -88,13 +91,19 @@ pub fn follow(
     }
 }
 
-/// Raises the keys that are lower than the given one to it, along the walk that begins at the given task, up to the first that is not.
+/// Raises the keys that are lower than the given one to it, along the walk that begins at the given task, up to the
+/// first that is not.
 pub fn raise(nexts: &[Option<TaskNo>], keys: &mut Vec<Key>, start: Option<TaskNo>, key: Key)
     requires length { length keys.old.items ≡ length (numbers_of_tasks nexts.now) }
-    requires start { (t : ℕ) → number_of_task start ≡ Some t → t < length (numbers_of_tasks nexts.now) }
-    requires within { (t v : ℕ) → next_of (numbers_of_tasks nexts.now) t ≡ Some v → v < length (numbers_of_tasks nexts.now) }
+    requires start { (t : ℕ) → number_of_task start ≡ Some t →
+        t < length (numbers_of_tasks nexts.now) }
+    requires within { (t v : ℕ) → next_of (numbers_of_tasks nexts.now) t ≡ Some v →
+        v < length (numbers_of_tasks nexts.now) }
     ensures length { length keys.new.items ≡ length (numbers_of_tasks nexts.now) }
-    ensures local { (bases : List (Option Key)) → IsRaising bases (numbers_of_tasks nexts.now) keys.old.items (number_of_task start) key → (t : ℕ) → t < length (numbers_of_tasks nexts.now) → IsLocal bases (numbers_of_tasks nexts.now) keys.new.items t }
+    ensures local { (bases : List (Option Key)) →
+        IsRaising bases (numbers_of_tasks nexts.now) keys.old.items (number_of_task start) key →
+        (t : ℕ) → t < length (numbers_of_tasks nexts.now) →
+        IsLocal bases (numbers_of_tasks nexts.now) keys.new.items t }
 {
     let mut at = start;
     for _step in 0..nexts.len() {

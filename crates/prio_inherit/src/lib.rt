@@ -1,4 +1,5 @@
-//! Keys that tasks inherit from those that wait for them.
+//! Priority inheritance (Sha, Rajkumar and Lehoczky, IEEE Transactions on Computers, 1990): the keys that tasks
+//! inherit from those that wait for them.
 #![tactic(auto)]
 
 ghost use Rattle.std.specs.Prelude.{◌≡◌, ◌<◌, IsSome, IfOk, None, Some, length, replicate, slice_index_or, slice_set};
@@ -11,7 +12,8 @@ use std::marker::Model;
 
 mod keys;
 
-/// Tasks, each with its base key, the task that it waits for and its boost. The keys are kept call by call along those that are waited for.
+/// Tasks, each with its base key, the task that it waits for and its boost: a boosted task has its boost, as a holder
+/// under MPCP (Rajkumar, ICDCS 1990). The keys are kept call by call along those that are waited for.
 #[derive(Drop)]
 pub struct Inherit {
     bases: Vec<Option<Key>>,
@@ -27,15 +29,27 @@ impl Model for Inherit {
 
     ghost Value = { Waits };
 
-    ghost view = { λ a. record { bases = a.bases.items; nexts = numbers_of_tasks a.nexts.items; boosts = a.boosts.items } };
+    ghost view = { λ a. record {
+      bases = a.bases.items;
+      nexts = numbers_of_tasks a.nexts.items;
+      boosts = a.boosts.items;
+    } };
 
-    ghost invariant = { λ a. IsInherit a.bases.items (numbers_of_tasks a.nexts.items) a.boosts.items a.keys.items };
+    ghost invariant = { λ a. IsInherit a.bases.items (numbers_of_tasks a.nexts.items)
+        a.boosts.items a.keys.items };
 }
 
 impl Inherit {
-    /// A table for tasks whose numbers are below `room`, of which no base key was told and none waits or is boosted. No later call takes memory.
+    /// A table for tasks whose numbers are below `room`, of which no base key was told and none waits or is boosted.
+    /// No later call takes memory.
+    ///
+    /// Example: `Inherit::new(alloc, 64)` takes the tasks 0 to 63.
     pub fn new(alloc: Global, room: u32) -> Result<Inherit, NoMemory>
-        ensures { IfOk result (λ t. t ≡ record { bases = replicate room None; nexts = replicate room None; boosts = replicate room None }) }
+        ensures { IfOk result (λ t. t ≡ record {
+          bases = replicate room None;
+          nexts = replicate room None;
+          boosts = replicate room None;
+        }) }
     {
         let room = room as usize;
         Ok(Inherit {
@@ -47,9 +61,12 @@ impl Inherit {
     }
 
     /// The base key of the task is this from now on.
+    ///
+    /// Example: `table.base(TaskNo(1), key)` before the first call for task 1, and at each new job under EDF.
     pub fn base(&mut self, task: TaskNo, key: Key)
         requires { task.0 < length self.old.bases }
-        ensures { self.new ≡ record self.old { bases = slice_set self.old.bases task.0 (Some key) } }
+        ensures { self.new ≡
+            record self.old { bases = slice_set self.old.bases task.0 (Some key) } }
     {
         self.bases[task.0 as usize] = Some(key);
         keys::follow(
@@ -61,11 +78,14 @@ impl Inherit {
     }
 
     /// The task waits for the holder from now on, and for no other. No walk may come round. `base` was called for both.
+    ///
+    /// Example: `table.waits(TaskNo(2), TaskNo(1))` where task 2 begins to wait for what task 1 holds.
     pub fn waits(&mut self, task: TaskNo, holder: TaskNo)
         requires task { IsSome (slice_index_or self.old.bases task.0 None) }
         requires holder { IsSome (slice_index_or self.old.bases holder.0 None) }
         requires ends { NoWalkComesRound (slice_set self.old.nexts task.0 (Some holder.0)) }
-        ensures { self.new ≡ record self.old { nexts = slice_set self.old.nexts task.0 (Some holder.0) } }
+        ensures { self.new ≡
+            record self.old { nexts = slice_set self.old.nexts task.0 (Some holder.0) } }
     {
         self.stops(task);
         self.nexts[task.0 as usize] = Some(holder);
@@ -74,6 +94,8 @@ impl Inherit {
     }
 
     /// The task waits no longer. `base` was called for it.
+    ///
+    /// Example: `table.stops(TaskNo(2))` where task 2 is granted what it waited for.
     pub fn stops(&mut self, task: TaskNo)
         requires { IsSome (slice_index_or self.old.bases task.0 None) }
         ensures { self.new ≡ record self.old { nexts = slice_set self.old.nexts task.0 None } }
@@ -89,14 +111,19 @@ impl Inherit {
     }
 
     /// The task is boosted with the key. `base` was called for it.
+    ///
+    /// Example: `table.boost(TaskNo(1), key)` where task 1 begins to hold an MPCP semaphore.
     pub fn boost(&mut self, task: TaskNo, key: Key)
         requires { IsSome (slice_index_or self.old.bases task.0 None) }
-        ensures { self.new ≡ record self.old { boosts = slice_set self.old.boosts task.0 (Some key) } }
+        ensures { self.new ≡
+            record self.old { boosts = slice_set self.old.boosts task.0 (Some key) } }
     {
         self.boosts[task.0 as usize] = Some(key);
     }
 
     /// The task is boosted no longer. `base` was called for it.
+    ///
+    /// Example: `table.drop_boost(TaskNo(1))` where task 1 frees it.
     pub fn drop_boost(&mut self, task: TaskNo)
         requires { IsSome (slice_index_or self.old.bases task.0 None) }
         ensures { self.new ≡ record self.old { boosts = slice_set self.old.boosts task.0 None } }
@@ -104,7 +131,10 @@ impl Inherit {
         self.boosts[task.0 as usize] = None;
     }
 
-    /// The effective key of the task: its boost where it is boosted, else the highest base key among its own and those of all tasks from which a walk from waiter to holder leads to it. `base` was called for it.
+    /// The effective key of the task: its boost where it is boosted, else the highest base key among its own and
+    /// those of all tasks from which a walk from waiter to holder leads to it. `base` was called for it.
+    ///
+    /// Example: where task 2 waits for task 1 and has the higher base key, `table.key(TaskNo(1))` is that of task 2.
     pub fn key(&self, task: TaskNo) -> Key
         requires { IsSome (slice_index_or self.now.bases task.0 None) }
         ensures { result ≡ effective_key self.now task.0 }

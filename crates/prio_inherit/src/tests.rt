@@ -125,7 +125,8 @@ fn play_call(table: &mut Inherit, plain: &mut Plain, seed: u64)
 fn begin(alloc: Global) -> Result<(Inherit, Plain), Fail>
     ensures room { IfOk result (λ p. length p.0.bases ≡ 12) }
     ensures told { IfOk result (λ p. (t : ℕ) → t < 12 → IsSome (slice_index_or p.0.bases t None)) }
-    ensures rising { IfOk result (λ p. (t v : ℕ) → slice_index_or p.0.nexts t None ≡ Some v → t < v) }
+    ensures rising { IfOk result (λ p. (t v : ℕ) → slice_index_or p.0.nexts t None ≡ Some v →
+        t < v) }
 {
     let key = base_key(8, 0);
     let mut table = Inherit::new(alloc, 12)?;

@@ -13,11 +13,11 @@ use Rattle.rt_model.specs.Group.{Group, no_task, task, cpus, tasks_of}
 use Rattle.rt_model.specs.Past.{Past, Clock, Acted, now}
 use Rattle.rt_model.specs.Jobs.{done}
 use Rattle.rt_model.specs.Outcomes.{past_act}
-use Rattle.group_state.specs.Ranked.{ranked_by}
+use Rattle.rt_rules.specs.Rankings.{ranked_by}
 use Rattle.group_state.specs.State.{State, IsKept, IsPlayed, release_at, key_at, wait_key, top_tasks}
 use Rattle.group_state.specs.Moves.{clock_moved}
 use Rattle.group_state.proofs.PlainGroup.{IsPlainGroup}
-use Rattle.group_state.proofs.Ranking.{ranked_by-same}
+use Rattle.rt_rules.proofs.RankedByLaws.{ranked_by-same}
 use Rattle.group_state.proofs.Limits.{plain, length-runs}
 use Rattle.group_state.proofs.Kept.{kept-clock, settled}
 use Rattle.rank_afresh.specs.Facts.{Facts, release_of, key_of, is_due, ready_of, waiting_of, top_of, links_of, relinked, state_of}

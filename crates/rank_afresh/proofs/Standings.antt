@@ -98,7 +98,7 @@ module _ (v : Standing) (next : ℕ) (fit : IsFit (group_of v) v.facts next v.sp
     tasks_are = same;
   }
     where
-      few : (t : ℕ) → has t (tasks_of g' 0) ≡ true → done t past < 2 ^ 20
+      few : (t : ℕ) → has t (tasks_of g' 0) ≡ true → done t past < 2 ^ 21
       few t there =
           let e : get_or v.facts.done (t - 1) 0 ≡ done t past = at.kept.done_are t there in
           let low : 1 ≤ t = task-low g' s' past (state_of v.setup.tasks v.facts) at.kept t there in

@@ -8,7 +8,7 @@ use Rattle.rt_rules.specs.Distinct.{IsDistinct}
 use Rattle.rt_rules.specs.Numbers.{numbers_from}
 use Rattle.rt_rules.proofs.RankedLaws.{distinct-take}
 use Rattle.rt_rules.proofs.NumberLaws.{distinct-numbers_from}
-use Rattle.group_state.proofs.Limits.{distinct-ranked_by}
+use Rattle.rt_rules.proofs.RankedByLaws.{distinct-ranked_by}
 use Rattle.rank_afresh.specs.Facts.{key_of, is_due, top_of}
 use Rattle.rank_afresh.proofs.RankLaws.{take-map}
 use Rattle.rank_afresh.specs.declared.ranks.Candidate.{Candidate}

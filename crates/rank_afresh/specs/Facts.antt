@@ -8,7 +8,7 @@ use Rattle.rt_rules.specs.Keys.{Ranked}
 use Rattle.rt_rules.specs.Placing.{placed}
 use Rattle.rt_model.specs.Group.{no_task}
 use Rattle.link_table.specs.Linked.{Linked}
-use Rattle.group_state.specs.Ranked.{ranked_by}
+use Rattle.rt_rules.specs.Rankings.{ranked_by}
 use Rattle.group_state.specs.State.{State, top_tasks}
 
 -- the clock, the jobs that ended by task, the clock of each processor's last Work, what runs and what is linked

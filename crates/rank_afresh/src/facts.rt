@@ -170,7 +170,7 @@ impl Facts {
     fn end(&mut self, task: TaskNo)
         requires low { 1 ≤ task.0 }
         requires high { task.0 ≤ length self.old.facts.done }
-        requires few { slice_index self.old.facts.done (task.0 - 1) < 2 ^ 20 }
+        requires few { slice_index self.old.facts.done (task.0 - 1) < 2 ^ 21 }
         ensures { self.new
             ≡ record self.old {
               facts = record self.old.facts {

@@ -7,7 +7,7 @@ use Rattle.std.proofs.lemmas.Option.{same_Some}
 use Rattle.std.proofs.lemmas.List.Sums.{sum_by-set, count_by-le-length}
 use Rattle.slab.specs.Slab.{Slab, get, slab_len, Updates, with_value}
 use Rattle.ready_heap.specs.declared.arena.Node.{Node}
-use Rattle.ready_heap.specs.Arena.{node_in, IsKept}
+use Rattle.ready_heap.specs.Arena.{node_in, IsArena}
 
 -- how much a kept key counts
 abbrev pub mark : Option ℕ → ℕ
@@ -39,7 +39,7 @@ node_in-updates nodes nodes' at slot up (Some a) apart = up.others a (apart a re
 
 -- ---- a task is given a node
 
-module _ (nodes nodes' : Slab Node) (kept : List (Option ℕ)) (t at : ℕ) (n : Node) (sound : IsKept nodes kept) (inside : t < length kept) (fresh : get nodes at ≡ None) (up : Updates nodes nodes' at (Some n)) where
+module _ (nodes nodes' : Slab Node) (kept : List (Option ℕ)) (t at : ℕ) (n : Node) (sound : IsArena nodes kept) (inside : t < length kept) (fresh : get nodes at ≡ None) (up : Updates nodes nodes' at (Some n)) where
   -- no kept key is the new one
   apart : (u a : ℕ) → get_or kept u None ≡ Some a → a ≢ at
   apart u a h same = let there : is_some (get nodes a) ≡ true = sound.live u a h in let none : get nodes a ≡ None = ap (get nodes) same ∙ fresh in let clash = rw none at there in cc
@@ -48,7 +48,7 @@ module _ (nodes nodes' : Slab Node) (kept : List (Option ℕ)) (t at : ℕ) (n :
   view-insert = view-set nodes nodes' kept (set kept t (Some at)) t (Some n) (length-set _ _ _) (ap (node_in nodes') (get_or-set_same kept t (Some at) None inside) ∙ up.changed)
       (λ u ne. ap (node_in nodes') (get_or-set_other kept t u (Some at) None ne) ∙ node_in-updates nodes nodes' at (Some n) up (get_or kept u None) (apart u))
 
-  pub kept-insert : get_or kept t None ≡ None → slab_len nodes' ≡ slab_len nodes + 1 → nodes'.capacity ≡ nodes.capacity → IsKept nodes' (set kept t (Some at))
+  pub kept-insert : get_or kept t None ≡ None → slab_len nodes' ≡ slab_len nodes + 1 → nodes'.capacity ≡ nodes.capacity → IsArena nodes' (set kept t (Some at))
   kept-insert absent longer capacity = record {
     live = λ u a h. live u a h (cases_eq u t);
     once = λ u v a h k. once u v a h k (cases_eq u t) (cases_eq v t);
@@ -81,7 +81,7 @@ module _ (nodes nodes' : Slab Node) (kept : List (Option ℕ)) (t at : ℕ) (n :
 
 -- ---- a task loses its node
 
-module _ (nodes nodes' : Slab Node) (kept : List (Option ℕ)) (t at : ℕ) (sound : IsKept nodes kept) (inside : t < length kept) (of_task : get_or kept t None ≡ Some at) (up : Updates nodes nodes' at None) where
+module _ (nodes nodes' : Slab Node) (kept : List (Option ℕ)) (t at : ℕ) (sound : IsArena nodes kept) (inside : t < length kept) (of_task : get_or kept t None ≡ Some at) (up : Updates nodes nodes' at None) where
   others_at : (u a : ℕ) → u ≢ t → get_or kept u None ≡ Some a → a ≢ at
   others_at u a ne h same = ne (sound.once u t at (h ∙ ap (λ (i : ℕ). Some i) same) of_task)
 
@@ -89,7 +89,7 @@ module _ (nodes nodes' : Slab Node) (kept : List (Option ℕ)) (t at : ℕ) (sou
   view-remove = view-set nodes nodes' kept (set kept t None) t None (length-set _ _ _) (ap (node_in nodes') (get_or-set_same kept t None None inside))
       (λ u ne. ap (node_in nodes') (get_or-set_other kept t u None None ne) ∙ node_in-updates nodes nodes' at None up (get_or kept u None) (λ a h. others_at u a ne h))
 
-  pub kept-remove : slab_len nodes' + 1 ≡ slab_len nodes → nodes'.capacity ≡ nodes.capacity → IsKept nodes' (set kept t None)
+  pub kept-remove : slab_len nodes' + 1 ≡ slab_len nodes → nodes'.capacity ≡ nodes.capacity → IsArena nodes' (set kept t None)
   kept-remove shorter capacity = record {
     live = λ u a h. live u a h (cases_eq u t);
     once = λ u v a h k. once u v a h k (cases_eq u t) (cases_eq v t);
@@ -126,7 +126,7 @@ inside_of [] i x h = cc
 inside_of (y ∷ ys) zero x h = omega arith
 inside_of (y ∷ ys) (suc i) x h = let rest = inside_of ys i x h in omega arith
 
-pub view-with_value : (nodes : Slab Node) (kept : List (Option ℕ)) (t at : ℕ) (m n : Node) → IsKept nodes kept → get_or kept t None ≡ Some at → Some m ≡ get nodes at → map (node_in (with_value nodes at n)) kept ≡ set (map (node_in nodes) kept) t (Some n)
+pub view-with_value : (nodes : Slab Node) (kept : List (Option ℕ)) (t at : ℕ) (m n : Node) → IsArena nodes kept → get_or kept t None ≡ Some at → Some m ≡ get nodes at → map (node_in (with_value nodes at n)) kept ≡ set (map (node_in nodes) kept) t (Some n)
 view-with_value nodes kept t at m n sound of_task there =
     let inside : at < length nodes.slots = inside_of nodes.slots at m (sym there) in
     let up : Updates nodes (with_value nodes at n) at (Some n) = record { changed = get_or-set_same nodes.slots at (Some n) None inside; others = λ a ne. get_or-set_other nodes.slots at a (Some n) None ne } in
@@ -143,7 +143,7 @@ pub inside_view : (nodes : Slab Node) (kept : List (Option ℕ)) (view : List (O
 inside_view nodes kept view t e h = let same : length kept ≡ length view = sym (length-map kept (node_in nodes)) ∙ ap length e in omega arith
 
 -- a task without a node has no kept key
-pub absent-kept : (nodes : Slab Node) (kept : List (Option ℕ)) (t : ℕ) → IsKept nodes kept → node_in nodes (get_or kept t None) ≡ None → get_or kept t None ≡ None
+pub absent-kept : (nodes : Slab Node) (kept : List (Option ℕ)) (t : ℕ) → IsArena nodes kept → node_in nodes (get_or kept t None) ≡ None → get_or kept t None ≡ None
 absent-kept nodes kept t sound none = by_case (get_or kept t None) refl none
   where
     by_case : (o : Option ℕ) → get_or kept t None ≡ o → node_in nodes o ≡ None → o ≡ None
@@ -151,7 +151,7 @@ absent-kept nodes kept t sound none = by_case (get_or kept t None) refl none
     by_case (Some a) e h = let there : is_some (get nodes a) ≡ true = sound.live t a e in let clash = rw h at there in cc
 
 -- there is room for the node of a task that has none
-pub room_left : (nodes : Slab Node) (kept : List (Option ℕ)) (t : ℕ) → IsKept nodes kept → t < length kept → get_or kept t None ≡ None → slab_len nodes + 1 ≤ nodes.capacity
+pub room_left : (nodes : Slab Node) (kept : List (Option ℕ)) (t : ℕ) → IsArena nodes kept → t < length kept → get_or kept t None ≡ None → slab_len nodes + 1 ≤ nodes.capacity
 room_left nodes kept t sound inside absent =
     let sums = sum_by-set mark kept t (Some 0) None inside in
     let none : mark (get_or kept t None) ≡ 0 = rw absent in

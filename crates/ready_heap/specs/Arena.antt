@@ -16,7 +16,7 @@ abbrev pub with_key : Key → Node → Node
 with_key key n = record n { key = key }
 
 -- each kept key has a node, which is of one task alone, and there is room for a node of each task
-pub record IsKept (nodes : Slab Node) (kept : List (Option ℕ)) : Type 0 where
+pub record IsArena (nodes : Slab Node) (kept : List (Option ℕ)) : Type 0 where
   pub live : (t at : ℕ) → slice_index_or kept t None ≡ Some at → IsSome (get nodes at)
   pub once : (t u at : ℕ) → slice_index_or kept t None ≡ Some at → slice_index_or kept u None ≡ Some at → t ≡ u
   pub count : slab_len nodes ≡ count_by is_some kept

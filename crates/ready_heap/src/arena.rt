@@ -26,13 +26,13 @@ pub(crate) struct Arena {
 impl Model for Arena {
     ghost use Rattle.std.specs.Prelude.{List, Option, map};
     ghost use Rattle.ready_heap.specs.declared.arena.Node.{Node};
-    ghost use Rattle.ready_heap.specs.Arena.{node_in, IsKept};
+    ghost use Rattle.ready_heap.specs.Arena.{node_in, IsArena};
 
     ghost Value = { List (Option Node) };
 
     ghost view = { λ a. map (node_in a.nodes) a.kept.items };
 
-    ghost invariant = { λ a. IsKept a.nodes a.kept.items };
+    ghost invariant = { λ a. IsArena a.nodes a.kept.items };
 }
 
 impl Arena {
@@ -83,7 +83,8 @@ impl Arena {
     /// Sets the place of the task's node, if it has one.
     pub(crate) fn move_to(&mut self, task: TaskNo, place: usize)
         requires { task.0 < length self.old }
-        ensures { self.new ≡ slice_set self.old task.0 (option_map (with_place place) (slice_index_or self.old task.0 None)) }
+        ensures { self.new ≡ slice_set self.old task.0
+            (option_map (with_place place) (slice_index_or self.old task.0 None)) }
     {
         if let Some(at) = self.kept[task.0 as usize] {
             if let Some(node) = self.nodes.get_mut(at) {
@@ -95,7 +96,8 @@ impl Arena {
     /// Sets the key of the task's node, if it has one.
     pub(crate) fn rekey(&mut self, task: TaskNo, key: Key)
         requires { task.0 < length self.old }
-        ensures { self.new ≡ slice_set self.old task.0 (option_map (with_key key) (slice_index_or self.old task.0 None)) }
+        ensures { self.new ≡ slice_set self.old task.0
+            (option_map (with_key key) (slice_index_or self.old task.0 None)) }
     {
         if let Some(at) = self.kept[task.0 as usize] {
             if let Some(node) = self.nodes.get_mut(at) {

@@ -68,7 +68,8 @@ impl TaskRow {
     /// The place of a task, if it is in the row.
     pub(crate) fn place(&self, task: TaskNo) -> Option<usize>
         requires { task.0 < length self.now.keys }
-        ensures found { IfSome result (λ place. (place < length self.now.tasks) × (task_at self.now place ≡ task.0)) }
+        ensures found { IfSome result (λ place. (place < length self.now.tasks) ×
+            (task_at self.now place ≡ task.0)) }
         ensures there { is_some result ≡ is_some (key_at self.now.keys task.0) }
         ensures sound { IsRow self.now }
     {
@@ -119,7 +120,8 @@ impl TaskRow {
     /// Gives a task that is in another key.
     pub(crate) fn rekey(&mut self, task: TaskNo, key: Key)
         requires { IsSome (key_at self.old.keys task.0) }
-        ensures rekeyed { self.new ≡ record self.old { keys = slice_set self.old.keys task.0 (Some key) } }
+        ensures rekeyed { self.new ≡
+            record self.old { keys = slice_set self.old.keys task.0 (Some key) } }
         ensures sound { IsRow self.new }
     {
         self.arena.rekey(task, key);

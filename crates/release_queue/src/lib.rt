@@ -72,6 +72,8 @@ fn take_out<L: Ledger>(heap: &mut ReadyHeap<ByKey>, task: TaskNo, blank: Blank) 
 
 impl ReleaseQueue {
     /// A queue with nothing armed, for tasks whose numbers are below the room. No later call takes memory.
+    ///
+    /// Example: `ReleaseQueue::new(alloc, 64)` takes the tasks 0 to 63.
     pub fn new(alloc: Global, room: u32) -> Result<ReleaseQueue, NoMemory>
         ensures { IfOk result (λ queue. queue ≡ replicate room None) }
     {
@@ -83,6 +85,8 @@ impl ReleaseQueue {
     }
 
     /// Arms a task that is not armed: it waits for the tick.
+    ///
+    /// Example: `queue.arm(TaskNo(2), 100)` makes task 2 due at tick 100.
     pub fn arm(&mut self, task: TaskNo, tick: u64)
         requires room { task.0 < length self.old }
         requires absent { tick_at self.old task.0 ≡ None }
@@ -93,6 +97,8 @@ impl ReleaseQueue {
     }
 
     /// Disarms the task. Whether it was armed.
+    ///
+    /// Example: `queue.cancel(TaskNo(2))` is true once after task 2 was armed.
     pub fn cancel(&mut self, task: TaskNo) -> bool
         requires { task.0 < length self.old }
         ensures was_armed { result ≡ is_some (tick_at self.old task.0) }
@@ -103,6 +109,8 @@ impl ReleaseQueue {
 
     /// Disarms and gives the task of the earliest tick, and of several the one with the lowest number, where that tick
     /// is at most `now`; none where nothing is due.
+    ///
+    /// Example: `while let Some(task) = queue.next_due(now)` goes through the releases that are due, earliest first.
     pub fn next_due(&mut self, now: Tick) -> Option<TaskNo>
         ensures due { IfSome result (λ task. IsNextDue self.old now.0 task.0) }
         ensures taken { IfSome result (λ task. self.new ≡ slice_set self.old task.0 None) }

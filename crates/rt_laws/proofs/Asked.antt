@@ -8,7 +8,7 @@ use Rattle.rt_model.specs.Answers.{nests}
 use Rattle.rt_model.specs.Ceilings.{is_pcp}
 use Rattle.rt_model.specs.Group.{Group, protocol, sems, tasks, users}
 use Rattle.rt_model.specs.Holders.{holder, holds, sem_state}
-use Rattle.rt_model.specs.Made.{IsMade}
+use Rattle.rt_model.specs.Reachable.{IsReachable}
 use Rattle.rt_model.specs.Past.{Event, Past, sem_act}
 use Rattle.rt_model.specs.Releases.{exists}
 use Rattle.rt_model.specs.Sleep.{sleeps}
@@ -38,7 +38,7 @@ abbrev pub Freed : Group → Event → Past → Type 0
 Freed g e past = (t s : ℕ) → sem_act e ≡ Frees t s → is t (holder g s past) ≡ true
 
 -- what an event that asks says of the past before it
-pub asked : (g : Group) → MeetsRules g → {past : Past} {e : Event} → IsMade g past → IsMove g past e → Asked g e past
+pub asked : (g : Group) → MeetsRules g → {past : Past} {e : Event} → IsReachable g past → IsMove g past e → Asked g e past
 asked g rules made (clock_moves tick) t s h = cc
 asked g rules {past} made (cpu_acts q a) t s h =
     let k : IsAsk g q a past t s = asks g q a past t s h in

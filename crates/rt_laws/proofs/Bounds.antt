@@ -9,7 +9,7 @@ use Rattle.rt_rules.specs.Numbers.{has}
 use Rattle.rt_model.specs.Blocking.{ends, ends_all, frees, is_blocked, is_open}
 use Rattle.rt_model.specs.Group.{Group, cpus, home, protocol, sems, users}
 use Rattle.rt_model.specs.Holders.{sem_state}
-use Rattle.rt_model.specs.Made.{IsMade}
+use Rattle.rt_model.specs.Reachable.{IsReachable}
 use Rattle.rt_model.specs.Past.{Past, sem_act}
 use Rattle.rt_model.specs.Semaphores.{cluster_of}
 use Rattle.rt_rules.proofs.BoolLaws.{clash, unless}
@@ -28,13 +28,13 @@ pub fmlp_bound : FmlpBound
 fmlp_bound g past valid made r t s p = (fmlp.counted g (rules_of g valid) r t s p made).so_far
 
 -- a request of what is no user is never open
-never-open : (g : Group) → MeetsRules g → (r t s : ℕ) → has t (users g s) && has s (sems g) ≡ false → {past : Past} → IsMade g past → is_open g r t s past ≡ false
+never-open : (g : Group) → MeetsRules g → (r t s : ℕ) → has t (users g s) && has s (sems g) ≡ false → {past : Past} → IsReachable g past → is_open g r t s past ≡ false
 never-open g rules r t s none {past} made = unless _ (λ o. found (open-waits g r t s past o))
   where
     found : (has s (sems g) ≡ true) × (has t (sem_state g s past).waiting ≡ true) → ⊥
     found w = let k : IsActive g t s past = all_active g rules made t s w.0 (waiting-engaged g t s past w.1) in let m : has t (users g s) && has s (sems g) ≡ true = rw (k.user, w.0) in clash _ m none
 
-none-ended : (g : Group) → MeetsRules g → (r t s : ℕ) → has t (users g s) && has s (sems g) ≡ false → {past : Past} → IsMade g past → ends g r t s past ≡ 0
+none-ended : (g : Group) → MeetsRules g → (r t s : ℕ) → has t (users g s) && has s (sems g) ≡ false → {past : Past} → IsReachable g past → ends g r t s past ≡ 0
 unfolding ends
 none-ended g rules r t s none made = by_moves g (λ past. ends g r t s past ≡ 0) refl (λ past e made move before. rw (never-open g rules r t s none made) (by_case (frees s (sem_act e)) before)) made
   where

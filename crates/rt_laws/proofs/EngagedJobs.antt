@@ -4,7 +4,7 @@ use Rattle.rt_rules.specs.Numbers.{has}
 use Rattle.rt_rules.specs.SemState.{Asks}
 use Rattle.rt_model.specs.BaseKeys.{base_key}
 use Rattle.rt_model.specs.Group.{Group, sems, users}
-use Rattle.rt_model.specs.Made.{IsMade}
+use Rattle.rt_model.specs.Reachable.{IsReachable}
 use Rattle.rt_model.specs.Past.{Event, Past, sem_act}
 use Rattle.rt_model.specs.Releases.{exists}
 use Rattle.rt_model.specs.Sleep.{sleeps}
@@ -41,7 +41,7 @@ active-step g rules e past next before t s there h = kept (was (engaged-step g t
     }
 
 -- so it is after every move
-pub all_active : (g : Group) → MeetsRules g → {past : Past} → IsMade g past → AllActive g past
+pub all_active : (g : Group) → MeetsRules g → {past : Past} → IsReachable g past → AllActive g past
 all_active g rules made = by_moves g (AllActive g) (λ t s there h. absurd (clash _ h (nobody-engaged g t s))) (λ past e made move before. active-step g rules e past (next g rules made move) before) made
 
 -- while a task holds or waits its base key stays

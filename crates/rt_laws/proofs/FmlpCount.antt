@@ -8,7 +8,7 @@ use Rattle.rt_rules.specs.SemState.{Asks, Frees, Neither, SemAct}
 use Rattle.rt_model.specs.Blocking.{ends_all, frees, is_open, newest_request}
 use Rattle.rt_model.specs.Group.{Group, protocol, users}
 use Rattle.rt_model.specs.Holders.{awaits}
-use Rattle.rt_model.specs.Made.{IsMade}
+use Rattle.rt_model.specs.Reachable.{IsReachable}
 use Rattle.rt_model.specs.Past.{Event, Past, entries_in, sem_act}
 use Rattle.rt_model.specs.Semaphores.{at_sem, fmlp}
 use Rattle.rt_rules.proofs.BoolLaws.{both, clash, unless}
@@ -109,5 +109,5 @@ unfolding ends_all fmlp
 nothing-counted g r t s = record { so_far = omega arith; still = λ h. omega arith }
 
 -- so it is after every move
-pub counted : (g : Group) → MeetsRules g → (r t s : ℕ) → protocol g s ≡ Fmlp → {past : Past} → IsMade g past → IsCounted g r t s past
+pub counted : (g : Group) → MeetsRules g → (r t s : ℕ) → protocol g s ≡ Fmlp → {past : Past} → IsReachable g past → IsCounted g r t s past
 counted g rules r t s p made = by_moves g (IsCounted g r t s) (nothing-counted g r t s) (λ past e made move before. counted-step g rules r t s p e past (waits_once g rules made) (next g rules made move) (fmlp-line g rules s p made) before) made

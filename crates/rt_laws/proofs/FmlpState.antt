@@ -7,7 +7,7 @@ use Rattle.rt_rules.specs.SemState.{SemState, in_line}
 use Rattle.rt_model.specs.Blocking.{asks}
 use Rattle.rt_model.specs.Group.{Group, protocol, users}
 use Rattle.rt_model.specs.Holders.{holder, sem_state, sem_state_by}
-use Rattle.rt_model.specs.Made.{IsMade}
+use Rattle.rt_model.specs.Reachable.{IsReachable}
 use Rattle.rt_model.specs.Past.{Event, Past, sem_act}
 use Rattle.rt_model.specs.Semaphores.{at_sem, fmlp}
 use Rattle.rt_rules.proofs.BoolLaws.{clash, unless}
@@ -47,7 +47,7 @@ unfolding fmlp
 fmlp-line-step g s e past p asks l = line-after (users g s) (at_sem s (sem_act e)) (fmlp g s past) (λ t r h. let a : IsAsked g t s past = asks t s (at_sem-asks s t r (sem_act e) h) in (fmlp-fresh g s t past p a, a.user)) l
 
 -- so it is after every move
-pub fmlp-line : (g : Group) → MeetsRules g → (s : ℕ) → protocol g s ≡ Fmlp → {past : Past} → IsMade g past → IsLine (users g s) (fmlp g s past)
+pub fmlp-line : (g : Group) → MeetsRules g → (s : ℕ) → protocol g s ≡ Fmlp → {past : Past} → IsReachable g past → IsLine (users g s) (fmlp g s past)
 unfolding fmlp
 fmlp-line g rules s p made = by_moves g (λ past. IsLine (users g s) (fmlp g s past)) (record { once = tt; inside = λ t h. cc }) (λ past e made move before. fmlp-line-step g s e past p (asked g rules made move) before) made
 

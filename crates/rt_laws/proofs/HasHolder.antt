@@ -7,7 +7,7 @@ use Rattle.rt_rules.specs.Numbers.{first, has, rest}
 use Rattle.rt_model.specs.Ceilings.{is_pcp}
 use Rattle.rt_model.specs.Group.{Group, cpus, protocol, sems}
 use Rattle.rt_model.specs.Holders.{holder, sem_state}
-use Rattle.rt_model.specs.Made.{IsMade}
+use Rattle.rt_model.specs.Reachable.{IsReachable}
 use Rattle.rt_model.specs.Past.{Past}
 use Rattle.rt_model.specs.Semaphores.{cluster_of, fmlp, omlp}
 use Rattle.rt_rules.proofs.MemberLaws.{has-appended}
@@ -27,7 +27,7 @@ rest-there t [] h = cc
 rest-there t (x ∷ xs) h = refl
 
 -- a semaphore that a task waits for has a holder
-pub has_holder : (g : Group) → MeetsRules g → {past : Past} → IsMade g past → (t s : ℕ) → has s (sems g) ≡ true → is_pcp (protocol g s) ≡ false → has t (sem_state g s past).waiting ≡ true → is_none (holder g s past) ≡ false
+pub has_holder : (g : Group) → MeetsRules g → {past : Past} → IsReachable g past → (t s : ℕ) → has s (sems g) ≡ true → is_pcp (protocol g s) ≡ false → has t (sem_state g s past).waiting ≡ true → is_none (holder g s past) ≡ false
 has_holder g rules {past} made t s there n w = by_protocol (protocol g s) refl
   where
     of_omlp : protocol g s ≡ Omlp → is_none (holder g s past) ≡ false

@@ -18,7 +18,7 @@ use Rattle.rt_model.specs.Ceilings.{is_pcp}
 use Rattle.rt_model.specs.EffectiveKeys.{effective_key, next_at, next_by, waits_for}
 use Rattle.rt_model.specs.Group.{Group, cpus, home, protocol, sems, tasks, tasks_of}
 use Rattle.rt_model.specs.Holders.{awaits, holder, holds, sem_state}
-use Rattle.rt_model.specs.Made.{IsMade}
+use Rattle.rt_model.specs.Reachable.{IsReachable}
 use Rattle.rt_model.specs.Past.{Past}
 use Rattle.rt_model.specs.Releases.{exists, ready}
 use Rattle.rt_model.specs.Sleep.{sleeps}
@@ -82,7 +82,7 @@ global-unboosted g Omlp s t past h k = refl
 global-unboosted g Pcp s t past h k = refl
 global-unboosted g Mpcp s t past h k = absurd (clash _ k (no_mpcp g.setup.plugin h))
 
-module _ (g : Group) (rules : MeetsRules g) (past : Past) (made : IsMade g past) (global : is_global g.setup.plugin ≡ true) where
+module _ (g : Group) (rules : MeetsRules g) (past : Past) (made : IsReachable g past) (global : is_global g.setup.plugin ≡ true) where
   sem-facts : (s : ℕ) → has s (sems g) ≡ true → (is_pcp (protocol g s) ≡ false) × (is_of_one_cluster (protocol g s) g.setup.plugin ≡ true)
   sem-facts s h = global-protocol g.setup.plugin (protocol g s) global (rules.is_allowed s h)
 

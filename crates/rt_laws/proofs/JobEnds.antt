@@ -21,7 +21,7 @@ use Rattle.rt_model.specs.Ceilings.{above_ceiling, at_cluster, pcp}
 use Rattle.rt_model.specs.Group.{Group, cpus, protocol, sems, task, tasks}
 use Rattle.rt_model.specs.Holders.{holder, holds, sem_state, sem_state_by}
 use Rattle.rt_model.specs.Jobs.{this_job, used}
-use Rattle.rt_model.specs.Made.{IsMade, acted}
+use Rattle.rt_model.specs.Reachable.{IsReachable, acted}
 use Rattle.rt_model.specs.NonPreemptive.{non_preemptive, np_after}
 use Rattle.rt_model.specs.Outcomes.{attempt, ended, ended_by, is_spent, past_act}
 use Rattle.rt_model.specs.Past.{Acted, Clock, Event, Past, PastAct, accepted, did, ends_job, is_work, operation, sem_act, sem_act_of}
@@ -169,7 +169,7 @@ unspent-move g (clock_moves tick) t op d k = cc
 unspent-move g {past} (cpu_acts q a) t op d k = own-unspent g q t a op past d k
 
 -- so it is after every move
-unspent : (g : Group) → MeetsRules g → {past : Past} → IsMade g past → IsUnspent g past
+unspent : (g : Group) → MeetsRules g → {past : Past} → IsReachable g past → IsUnspent g past
 unfolding used this_job
 unspent g rules made = by_moves g (IsUnspent g) (λ t there en empty np. let cost : 1 ≤ (task g t).cost = rules.has_cost t there in cost) (λ past e made move before. unspent-step g rules e past (freed g move) (λ c. pcp_kept g rules c (moved g made move)) (unspent-move g move) before) made
 
@@ -213,7 +213,7 @@ unfolding past_act attempt
 same_request g q act past = refl
 
 -- whose job ends in an event is engaged nowhere after it
-pub ended-free : (g : Group) → MeetsRules g → {past : Past} → IsMade g past → (q t s : ℕ) (act : Act) → has s (sems g) ≡ true → is t (past_act g q act past).ended ≡ true → engaged g t s (Acted (past_act g q act past) ∷ past) ≡ true → ⊥
+pub ended-free : (g : Group) → MeetsRules g → {past : Past} → IsReachable g past → (q t s : ℕ) (act : Act) → has s (sems g) ≡ true → is t (past_act g q act past).ended ≡ true → engaged g t s (Acted (past_act g q act past) ∷ past) ≡ true → ⊥
 ended-free g rules {past} made q t s act there h engaged_after = by_how how.1
   where
     e : Event

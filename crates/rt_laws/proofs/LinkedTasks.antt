@@ -8,7 +8,7 @@ use Rattle.rt_rules.specs.Placing.{tasks_in}
 use Rattle.rt_model.specs.EffectiveKeys.{effective_key}
 use Rattle.rt_model.specs.Group.{Group, cluster_in, cluster_with, cpus, first_cpu, first_in, home, processors, tasks, tasks_of}
 use Rattle.rt_model.specs.Links.{linked, links}
-use Rattle.rt_model.specs.Made.{IsMade}
+use Rattle.rt_model.specs.Reachable.{IsReachable}
 use Rattle.rt_model.specs.Past.{Past}
 use Rattle.rt_model.specs.Tops.{eligible, ranking, top}
 use Rattle.rt_rules.proofs.BoolLaws.{both}
@@ -46,7 +46,7 @@ pub record IsLinked (g : Group) (q t : ℕ) (past : Past) : Type 0 where
   pub was_eligible : eligible g t past ≡ true
 
 -- a task that is linked to a processor is of its cluster and was eligible
-pub linked-eligible : (g : Group) {past : Past} → IsMade g past → (q t : ℕ) → is t (linked g q past) ≡ true → IsLinked g q t past
+pub linked-eligible : (g : Group) {past : Past} → IsReachable g past → (q t : ℕ) → is t (linked g q past) ≡ true → IsLinked g q t past
 unfolding linked processors first_cpu cluster_with
 linked-eligible g {past} made q t h =
     let c : ℕ = cluster_in g.setup.clusters q in

@@ -6,7 +6,7 @@ use Rattle.rt_rules.specs.Numbers.{has, is}
 use Rattle.rt_rules.specs.Placing.{at_place, tasks_in}
 use Rattle.rt_model.specs.Group.{Group, cpus, first_cpu, home, processors}
 use Rattle.rt_model.specs.Links.{linked, links, runs_of}
-use Rattle.rt_model.specs.Made.{IsMade}
+use Rattle.rt_model.specs.Reachable.{IsReachable}
 use Rattle.rt_model.specs.Past.{Past}
 use Rattle.rt_model.specs.Tops.{top}
 use Rattle.rt_rules.proofs.DistinctLaws.{length-distinct}
@@ -23,7 +23,7 @@ use Rattle.rt_laws.proofs.Running.{running, runs_once}
 use Rattle.rt_laws.proofs.ValidSets.{rules_of}
 
 -- the links of a cluster have no task twice
-links-distinct : (g : Group) (c : ℕ) {past : Past} → IsMade g past → IsDistinct (tasks_in (links g c past))
+links-distinct : (g : Group) (c : ℕ) {past : Past} → IsReachable g past → IsDistinct (tasks_in (links g c past))
 links-distinct g c {past} made =
     let s : IsSingle g c past = single g c (processor-home g c) made in
     rw s.links_are (distinct-placed (top g c past) (runs_of g c past) s.before (distinct-top g c past) s.runs_distinct s.before_distinct)
@@ -34,18 +34,18 @@ runs_on_one g past valid made p q t h k = runs_once g made p q t (running g (rul
 pub runs_at_home : RunsAtHome
 runs_at_home g past valid made q t h = (running g (rules_of g valid) made q t h).at_home
 
-is_linked : (g : Group) {past : Past} → IsMade g past → (q t : ℕ) → linked g q past ≡ Some t → IsLinked g q t past
+is_linked : (g : Group) {past : Past} → IsReachable g past → (q t : ℕ) → linked g q past ≡ Some t → IsLinked g q t past
 is_linked g {past} made q t h = linked-eligible g made q t (some-is t (linked g q past) h)
 
 pub linked_at_home : LinkedAtHome
 linked_at_home g past valid made q t h = (is_linked g made q t h).at_home
 
 -- where a task is linked, and how far that is from the first processor of its cluster
-at_home : (g : Group) {past : Past} → IsMade g past → (q t : ℕ) → linked g q past ≡ Some t → is t (at_place (links g (home g t) past) (q - first_cpu g (home g t))) ≡ true
+at_home : (g : Group) {past : Past} → IsReachable g past → (q t : ℕ) → linked g q past ≡ Some t → is t (at_place (links g (home g t) past) (q - first_cpu g (home g t))) ≡ true
 unfolding linked
 at_home g {past} made q t h = subst (λ c. is t (at_place (links g c past) (q - first_cpu g c)) ≡ true) (is_linked g made q t h).at_home (some-is t _ h)
 
-from_first : (g : Group) {past : Past} → IsMade g past → (q t : ℕ) → linked g q past ≡ Some t → first_cpu g (home g t) ≤ q
+from_first : (g : Group) {past : Past} → IsReachable g past → (q t : ℕ) → linked g q past ≡ Some t → first_cpu g (home g t) ≤ q
 unfolding processors
 from_first g made q t h = has-numbers_from q (first_cpu g (home g t)) (cpus g (home g t)) (is_linked g made q t h).placed
 
@@ -72,7 +72,7 @@ linked-at : (g : Group) (c q : ℕ) (past : Past) → has q (processors g c) ≡
 unfolding linked
 linked-at g c q past there = rw (processor-home g c q there)
 
-has_link : (g : Group) {past : Past} → IsMade g past → (c t : ℕ) → has t (tasks_in (links g c past)) ≡ true → HasLinkTo g c t past
+has_link : (g : Group) {past : Past} → IsReachable g past → (c t : ℕ) → has t (tasks_in (links g c past)) ≡ true → HasLinkTo g c t past
 unfolding processors
 has_link g {past} made c t h =
     let place = placed-at t (links g c past) h in

@@ -7,7 +7,7 @@ use Rattle.rt_rules.specs.SemState.{SemState}
 use Rattle.rt_model.specs.BaseKeys.{above}
 use Rattle.rt_model.specs.Group.{Group, protocol}
 use Rattle.rt_model.specs.Holders.{holder, sem_state, sem_state_by}
-use Rattle.rt_model.specs.Made.{IsMade}
+use Rattle.rt_model.specs.Reachable.{IsReachable}
 use Rattle.rt_model.specs.Past.{Event, Past, sem_act}
 use Rattle.rt_model.specs.Semaphores.{at_sem, mpcp}
 use Rattle.rt_rules.proofs.MpcpLaws.{IsBusy, StandsOnce, mpcp-busy, mpcp-once}
@@ -36,7 +36,7 @@ unfolding mpcp
 mpcp-once-step g s p e past asks k = mpcp-once (above g past) (at_sem s (sem_act e)) (mpcp g s past) (λ t r h. mpcp-fresh g s t past p (asks t s (at_sem-asks s t r (sem_act e) h))) k
 
 -- after every move nobody stands twice
-pub mpcp_once : (g : Group) → MeetsRules g → (s : ℕ) → protocol g s ≡ Mpcp → {past : Past} → IsMade g past → StandsOnce (mpcp g s past)
+pub mpcp_once : (g : Group) → MeetsRules g → (s : ℕ) → protocol g s ≡ Mpcp → {past : Past} → IsReachable g past → StandsOnce (mpcp g s past)
 unfolding mpcp
 mpcp_once g rules s p made = by_moves g (λ past. StandsOnce (mpcp g s past)) (record { once = tt; apart = λ t h. cc }) (λ past e made move before. mpcp-once-step g s p e past (asked g rules made move) before) made
 

@@ -11,7 +11,7 @@ use Rattle.rt_rules.specs.SemState.{Asks}
 use Rattle.rt_model.specs.Answers.{answer, do_answer, op_answer, unless_holding}
 use Rattle.rt_model.specs.Group.{Group, sems}
 use Rattle.rt_model.specs.Holders.{holder, holds, sem_state}
-use Rattle.rt_model.specs.Made.{IsMade}
+use Rattle.rt_model.specs.Reachable.{IsReachable}
 use Rattle.rt_model.specs.NonPreemptive.{non_preemptive}
 use Rattle.rt_model.specs.Outcomes.{past_act}
 use Rattle.rt_model.specs.Past.{Acted, Event, Past, accepted, did, ends_job, now, operation, sem_act}
@@ -66,7 +66,7 @@ sleep-is g q t clock act past = by_case (is t (runs q past)) refl (accepted (ans
     by_case false e c = inl refl
 
 -- a task that holds or waits after an event does not fall asleep in it
-awake-act : (g : Group) → MeetsRules g → {past : Past} → IsMade g past → (q t s : ℕ) (act : Act) → has s (sems g) ≡ true → engaged g t s (Acted (past_act g q act past) ∷ past) ≡ true → sleep_end (now past) (did t (Acted (past_act g q act past))) ≡ 0
+awake-act : (g : Group) → MeetsRules g → {past : Past} → IsReachable g past → (q t s : ℕ) (act : Act) → has s (sems g) ≡ true → engaged g t s (Acted (past_act g q act past) ∷ past) ≡ true → sleep_end (now past) (did t (Acted (past_act g q act past))) ≡ 0
 awake-act g rules {past} made q t s act there h = split (sleep-is g q t (now past) act past)
   where
     asleep : (n : ℕ) → act ≡ acts.Do (ops.Sleep n) → accepted (answer g q act past) ≡ true → runs q past ≡ Some t → (engaged g t s past ≡ true) ⊎ (sem_act (Acted (past_act g q act past)) ≡ Asks t s) → ⊥
@@ -89,7 +89,7 @@ pub record IsNext (g : Group) (e : Event) (past : Past) : Type 0 where
   pub awake : (t s : ℕ) → has s (sems g) ≡ true → engaged g t s (e ∷ past) ≡ true → sleep_end (now past) (did t e) ≡ 0
 
 -- so does each move
-pub next : (g : Group) → MeetsRules g → {past : Past} {e : Event} → IsMade g past → IsMove g past e → IsNext g e past
+pub next : (g : Group) → MeetsRules g → {past : Past} {e : Event} → IsReachable g past → IsMove g past e → IsNext g e past
 next g rules {past} {e} made move = record {
   asked = asked g rules made move;
   freed = freed g move;

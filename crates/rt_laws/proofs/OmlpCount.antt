@@ -14,7 +14,7 @@ use Rattle.rt_model.specs.BaseKeys.{above, base_key}
 use Rattle.rt_model.specs.Blocking.{ends, frees, is_blocked, is_open, newest_request}
 use Rattle.rt_model.specs.Group.{Group, cpus, home, protocol, sems, tasks_of}
 use Rattle.rt_model.specs.Holders.{awaits}
-use Rattle.rt_model.specs.Made.{IsMade}
+use Rattle.rt_model.specs.Reachable.{IsReachable}
 use Rattle.rt_model.specs.Past.{Event, Past, entries_in, sem_act}
 use Rattle.rt_model.specs.Releases.{exists}
 use Rattle.rt_model.specs.Semaphores.{at_sem, cluster_of, omlp}
@@ -463,5 +463,5 @@ module _ (g : Group) (rules : MeetsRules g) (r t s : ℕ) (p : protocol g s ≡ 
   unfolding ends omlp
   nothing-counted = record { so_far = omega arith; in_fifo = λ o w. cc; in_queue = λ o w. cc }
 
-  pub counted : {past : Past} → IsMade g past → IsCounted past
+  pub counted : {past : Past} → IsReachable g past → IsCounted past
   counted made = by_moves g IsCounted nothing-counted (λ past e made move before. counted-step e past (waits_once g rules made) (next g rules made move) (all_active g rules made) (queued g rules s p a made) (queued g rules s p a (moved g made move)) before) made

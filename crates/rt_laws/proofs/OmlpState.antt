@@ -7,7 +7,7 @@ use Rattle.rt_rules.specs.Omlp.{omlp_sem_state}
 use Rattle.rt_model.specs.BaseKeys.{above}
 use Rattle.rt_model.specs.Group.{Group, cpus, protocol}
 use Rattle.rt_model.specs.Holders.{holder, sem_state, sem_state_by}
-use Rattle.rt_model.specs.Made.{IsMade}
+use Rattle.rt_model.specs.Reachable.{IsReachable}
 use Rattle.rt_model.specs.Past.{Event, Past, sem_act}
 use Rattle.rt_model.specs.Semaphores.{at_sem, cluster_of, omlp}
 use Rattle.rt_rules.proofs.BoolLaws.{clash, neither, unless}
@@ -53,6 +53,6 @@ unfolding omlp
 queued-event g rules s p a e past asks k = queued-after (cpus g (cluster_of g s)) (above g past) (at_sem s (sem_act e)) (omlp g s past) (has_room g rules s) (above-order g past Omlp a) (λ t r h. omlp-fresh g s t past p (asks t s (at_sem-asks s t r (sem_act e) h))) k
 
 -- so they are after every move
-pub queued : (g : Group) → MeetsRules g → (s : ℕ) → protocol g s ≡ Omlp → stands_under Omlp g.setup.plugin ≡ true → {past : Past} → IsMade g past → IsQueued (cpus g (cluster_of g s)) (omlp g s past)
+pub queued : (g : Group) → MeetsRules g → (s : ℕ) → protocol g s ≡ Omlp → stands_under Omlp g.setup.plugin ≡ true → {past : Past} → IsReachable g past → IsQueued (cpus g (cluster_of g s)) (omlp g s past)
 unfolding omlp
 queued g rules s p a made = by_moves g (λ past. IsQueued (cpus g (cluster_of g s)) (omlp g s past)) (record { fifo_once = tt; queue_once = tt; apart = λ t h. cc; fits = omega arith; full = λ t h. cc }) (λ past e made move before. queued-event g rules s p a e past (asked g rules made move) before) made

@@ -6,7 +6,7 @@ use Rattle.rt_rules.specs.SemState.{Asks}
 use Rattle.rt_model.specs.Answers.{is_granted}
 use Rattle.rt_model.specs.Group.{Group, protocol, sems}
 use Rattle.rt_model.specs.Holders.{awaits, sem_state}
-use Rattle.rt_model.specs.Made.{IsMade}
+use Rattle.rt_model.specs.Reachable.{IsReachable}
 use Rattle.rt_model.specs.Past.{Event, Past, sem_act}
 use Rattle.rt_rules.proofs.BoolLaws.{clash}
 use Rattle.rt_laws.proofs.Asked.{Asked, asked}
@@ -28,7 +28,7 @@ waits_once-step g rules e past asks before t s r hs hr h k = split (waiting-step
     split (inr m) (inr n) = let a : sem_act e ≡ Asks t s = m.0 in let b : sem_act e ≡ Asks t r = n.0 in cc
 
 -- so it is after every move
-pub waits_once : (g : Group) → MeetsRules g → {past : Past} → IsMade g past → WaitsOnce g past
+pub waits_once : (g : Group) → MeetsRules g → {past : Past} → IsReachable g past → WaitsOnce g past
 waits_once g rules made = by_moves g (WaitsOnce g) (λ t s r hs hr h k. absurd (clash _ h (nobody-waits g t s))) (λ past e made move before. waits_once-step g rules e past (asked g rules made move) before) made
 
 -- the semaphore for which a task waits

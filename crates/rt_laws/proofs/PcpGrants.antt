@@ -12,7 +12,7 @@ use Rattle.rt_model.specs.BaseKeys.{above, base_key}
 use Rattle.rt_model.specs.Ceilings.{above_ceiling, at_cluster, ceiling, is_pcp, pcp}
 use Rattle.rt_model.specs.Group.{Group, home, protocol, sems, users}
 use Rattle.rt_model.specs.Holders.{holder, holds}
-use Rattle.rt_model.specs.Made.{IsMade}
+use Rattle.rt_model.specs.Reachable.{IsReachable}
 use Rattle.rt_model.specs.Past.{Event, Past, sem_act}
 use Rattle.rt_model.specs.Semaphores.{cluster_of}
 use Rattle.rt_rules.proofs.BoolLaws.{both, clash, neither, unless}
@@ -34,7 +34,7 @@ use Rattle.rt_laws.proofs.ValidSets.{rules_of}
 
 -- ---- each waiting task stands once
 
-pub waits_not : (g : Group) → MeetsRules g → {past : Past} → IsMade g past → (c t s : ℕ) → IsAsked g t s past → has t (tasks_of_pairs (pcp g c past).waiting) ≡ false
+pub waits_not : (g : Group) → MeetsRules g → {past : Past} → IsReachable g past → (c t s : ℕ) → IsAsked g t s past → has t (tasks_of_pairs (pcp g c past).waiting) ≡ false
 waits_not g rules {past} made c t s a = unless _ (λ h. met (pair-of t (pcp g c past).waiting h))
   where
     met : (r : ℕ) × (has_pair t r (pcp g c past).waiting ≡ true) → ⊥
@@ -45,11 +45,11 @@ waits_not g rules {past} made c t s a = unless _ (λ h. met (pair-of t (pcp g c 
         let known : has q.0 (sems g) ≡ true = rules.is_known t q.0 d.0 d.1 in
         clash _ (pcp-waiting g t q.0 past u.of_pcp ∙ subst (λ n. has_pair t q.0 (pcp g n past).waiting ≡ true) (sym home_is) q.1) (a.waits_none q.0 known)
 
-once-event : (g : Group) → MeetsRules g → (c : ℕ) (e : Event) (past : Past) → IsMade g past → Asked g e past → IsDistinct (tasks_of_pairs (pcp g c past).waiting) → IsDistinct (tasks_of_pairs (pcp g c (e ∷ past)).waiting)
+once-event : (g : Group) → MeetsRules g → (c : ℕ) (e : Event) (past : Past) → IsReachable g past → Asked g e past → IsDistinct (tasks_of_pairs (pcp g c past).waiting) → IsDistinct (tasks_of_pairs (pcp g c (e ∷ past)).waiting)
 unfolding pcp
 once-event g rules c e past made asks d = pcp-once (above g []) (above_ceiling g) (at_cluster g c (sem_act e)) (pcp g c past) (λ t s h. waits_not g rules made c t s (asks t s (at_cluster-asks g c t s (sem_act e) h).0)) d
 
-pub waiting_once : (g : Group) → MeetsRules g → (c : ℕ) → {past : Past} → IsMade g past → IsDistinct (tasks_of_pairs (pcp g c past).waiting)
+pub waiting_once : (g : Group) → MeetsRules g → (c : ℕ) → {past : Past} → IsReachable g past → IsDistinct (tasks_of_pairs (pcp g c past).waiting)
 unfolding pcp
 waiting_once g rules c made = by_moves g (λ past. IsDistinct (tasks_of_pairs (pcp g c past).waiting)) tt (λ past e made move before. once-event g rules c e past made (asked g rules made move) before) made
 
@@ -61,7 +61,7 @@ nests-holds g Pcp t s past e h = (neither (has s (holds g t past)) _ (neither _ 
 nests-holds g p t s past e h = cc
 
 -- what a task asks for it does not hold
-is_new : (g : Group) → MeetsRules g → {past : Past} → IsMade g past → (c t s : ℕ) → is_pcp (protocol g s) ≡ true → IsAsked g t s past → IsNew t s (pcp g c past)
+is_new : (g : Group) → MeetsRules g → {past : Past} → IsReachable g past → (c t s : ℕ) → is_pcp (protocol g s) ≡ true → IsAsked g t s past → IsNew t s (pcp g c past)
 unfolding holds
 is_new g rules {past} made c t s e a = record { holds_not = unless _ (λ h. clash _ (held h) (nests-holds g (protocol g s) t s past e a.unnested)); waits_not = waits_not g rules made c t s a }
   where
@@ -73,11 +73,11 @@ is_new g rules {past} made c t s e a = record { holds_not = unless _ (λ h. clas
         let holder_is : is t (holder g s past) ≡ true = rw (pcp-holder g s past e) first_is in
         rw (has-filter (λ r. is t (holder g r past)) s (sems g), a.known, holder_is)
 
-held-event : (g : Group) → MeetsRules g → (c : ℕ) (e : Event) (past : Past) → IsMade g past → Asked g e past → IsOnce (pcp g c past) → IsOnce (pcp g c (e ∷ past))
+held-event : (g : Group) → MeetsRules g → (c : ℕ) (e : Event) (past : Past) → IsReachable g past → Asked g e past → IsOnce (pcp g c past) → IsOnce (pcp g c (e ∷ past))
 unfolding pcp
 held-event g rules c e past made asks o = once-step (above g []) (above_ceiling g) (at_cluster g c (sem_act e)) (pcp g c past) (λ t s h. let q = at_cluster-asks g c t s (sem_act e) h in is_new g rules made c t s q.2 (asks t s q.0)) (waiting_once g rules c made) o
 
-pub held_once : (g : Group) → MeetsRules g → (c : ℕ) → {past : Past} → IsMade g past → IsOnce (pcp g c past)
+pub held_once : (g : Group) → MeetsRules g → (c : ℕ) → {past : Past} → IsReachable g past → IsOnce (pcp g c past)
 unfolding pcp
 held_once g rules c made = by_moves g (λ past. IsOnce (pcp g c past)) (record { once = λ s. tt; apart = λ t s h. refl }) (λ past e made move before. held-event g rules c e past made (asked g rules made move) before) made
 
@@ -88,7 +88,7 @@ under-ceiling : (g : Group) (t u s : ℕ) → has u (users g s) ≡ true → abo
 unfolding above above_ceiling
 under-ceiling g t u s h k = unless _ (λ m. clash _ (higher-below (base_key g t []) (ceiling g s) (base_key g u []) m (user-not_over g u s h)) k)
 
-grants-one : (g : Group) → MeetsRules g → (c t s : ℕ) (e : Event) (past : Past) → IsMade g past → Freed g e past → sem_act e ≡ Frees t s → GrantsOne (pcp g c past) (pcp g c (e ∷ past))
+grants-one : (g : Group) → MeetsRules g → (c t s : ℕ) (e : Event) (past : Past) → IsReachable g past → Freed g e past → sem_act e ≡ Frees t s → GrantsOne (pcp g c past) (pcp g c (e ∷ past))
 unfolding pcp at_cluster
 grants-one g rules c t s e past made frees h = rw h (by_case (home g t == c && is_pcp (protocol g s)) refl)
   where

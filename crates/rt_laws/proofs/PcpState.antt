@@ -8,7 +8,7 @@ use Rattle.rt_rules.specs.SemState.{Asks, SemAct}
 use Rattle.rt_model.specs.BaseKeys.{above, base_key}
 use Rattle.rt_model.specs.Ceilings.{above_ceiling, at_cluster, ceiling, is_pcp, pcp}
 use Rattle.rt_model.specs.Group.{Group, home, protocol, users}
-use Rattle.rt_model.specs.Made.{IsMade}
+use Rattle.rt_model.specs.Reachable.{IsReachable}
 use Rattle.rt_model.specs.Past.{Event, Past, sem_act}
 use Rattle.rt_rules.proofs.KeyLaws.{highest-of}
 use Rattle.rt_rules.proofs.MemberLaws.{equal_self, has-first, some-is}
@@ -67,7 +67,7 @@ pcp_kept-event g c e past asks k = pcp_kept-step g c (at_cluster g c (sem_act e)
     user t s h = let q = at_cluster-asks g c t s (sem_act e) h in record { user = (asks t s q.0).user; at_home = q.1; of_pcp = q.2 }
 
 -- so it is after every move
-pub pcp_kept : (g : Group) → MeetsRules g → (c : ℕ) → {past : Past} → IsMade g past → IsPcpKept g c (pcp g c past)
+pub pcp_kept : (g : Group) → MeetsRules g → (c : ℕ) → {past : Past} → IsReachable g past → IsPcpKept g c (pcp g c past)
 unfolding pcp
 pcp_kept g rules c made = by_moves g (λ past. IsPcpKept g c (pcp g c past)) (record { stack = record { stacked = tt; blocked = λ t s h. cc }; held = λ t s h. cc; waiting = λ t s h. cc }) (λ past e made move before. pcp_kept-event g c e past (asked g rules made move) before) made
 

@@ -16,7 +16,7 @@ use Rattle.rt_model.specs.Ceilings.{above_ceiling, ceiling, is_pcp, pcp}
 use Rattle.rt_model.specs.EffectiveKeys.{next_at, next_by, waits_for}
 use Rattle.rt_model.specs.Group.{Group, home, protocol, sems, users}
 use Rattle.rt_model.specs.Holders.{awaits, holder, sem_state}
-use Rattle.rt_model.specs.Made.{IsMade}
+use Rattle.rt_model.specs.Reachable.{IsReachable}
 use Rattle.rt_model.specs.Past.{Past}
 use Rattle.rt_model.specs.Semaphores.{cluster_of}
 use Rattle.rt_rules.proofs.BoolLaws.{both, clash, either, or_true, unless, not_true}
@@ -101,7 +101,7 @@ newest-blocks g t p ps k user h = rw others_are (by_case (foremost (has_higher_c
 
 -- ---- walks
 
-module _ (g : Group) (rules : MeetsRules g) (past : Past) (made : IsMade g past) where
+module _ (g : Group) (rules : MeetsRules g) (past : Past) (made : IsReachable g past) where
   -- the owner of the newest grant of a cluster does not wait
   newest-free : (c : ℕ) (p : TaskSem) (ps : List TaskSem) → (pcp g c past).held ≡ p ∷ ps → awaits g p.task past ≡ None
   newest-free c p ps e = none-waits g p.task past (λ r hr. unless _ (λ w. by_kind r hr w (is_pcp (protocol g r)) refl))

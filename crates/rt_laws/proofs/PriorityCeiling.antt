@@ -9,7 +9,7 @@ use Rattle.rt_model.specs.Ceilings.{above_ceiling}
 use Rattle.rt_model.specs.EffectiveKeys.{waits_for}
 use Rattle.rt_model.specs.Group.{Group, sems, tasks}
 use Rattle.rt_model.specs.Holders.{awaits, sem_state}
-use Rattle.rt_model.specs.Made.{IsMade}
+use Rattle.rt_model.specs.Reachable.{IsReachable}
 use Rattle.rt_model.specs.Past.{Past}
 use Rattle.rt_rules.proofs.BoolLaws.{or_true, unless}
 use Rattle.rt_rules.proofs.MemberLaws.{equal_self}
@@ -52,7 +52,7 @@ record ReachesOne (g : Group) (t : ℕ) (past : Past) : Type 0 where
   reached : reached_from g t past ≡ last ∷ []
   free : awaits g last past ≡ None
 
-reaches_one : (g : Group) → MeetsRules g → {past : Past} → IsMade g past → (t s : ℕ) → awaits g t past ≡ Some s → ReachesOne g t past
+reaches_one : (g : Group) → MeetsRules g → {past : Past} → IsReachable g past → (t s : ℕ) → awaits g t past ≡ Some s → ReachesOne g t past
 reaches_one g rules {past} made t s a = record { last = q.0; reached = rw q.1 (one (tasks g) member); free = q.2 }
   where
     q : (u : ℕ) × (waits_for g t past ≡ Some u) × (awaits g u past ≡ None)

@@ -24,7 +24,7 @@ use Rattle.rt_model.specs.EffectiveKeys.{effective_key, next_at, next_by, waits_
 use Rattle.rt_model.specs.Group.{Group, clients, cluster_with, cpus, first_cpu, home, processors, protocol, resv, served_by, tasks, tasks_of}
 use Rattle.rt_model.specs.Holders.{awaits}
 use Rattle.rt_model.specs.Links.{links, linked, pending, runs_of}
-use Rattle.rt_model.specs.Made.{IsMade, clocked}
+use Rattle.rt_model.specs.Reachable.{IsReachable, clocked}
 use Rattle.rt_model.specs.Outcomes.{past_act}
 use Rattle.rt_model.specs.Past.{PastAct, Event, Acted, Past, is_work, now}
 use Rattle.rt_model.specs.Histories.{after as after_step, clock_moved, reply_to}
@@ -41,7 +41,7 @@ use Rattle.rt_laws.proofs.Rules.{MeetsRules}
 use Rattle.rt_laws.proofs.ValidSets.{rules_of}
 
 -- placing again changes no link
-pub links-settle : (g : Group) (c : ℕ) {past : Past} → IsMade g past → placed (top g c past) (runs_of g c past) (links g c past) ≡ links g c past
+pub links-settle : (g : Group) (c : ℕ) {past : Past} → IsReachable g past → placed (top g c past) (runs_of g c past) (links g c past) ≡ links g c past
 links-settle g c {past} made =
     let a : IsSingle g c past = single g c (processor-home g c) made in
     rw a.links_are (placed-again (top g c past) (runs_of g c past) a.before (distinct-top g c past) a.runs_distinct a.before_distinct (length-runs_of g c past ∙ sym a.before_length) (omega (arith, length-top g c past, length-runs_of g c past)))
@@ -214,14 +214,14 @@ module _ (g : Group) (rules : MeetsRules g) (d : PastAct) (past : Past) (x : IsR
   unfolding runs_of
   runs_of-refused c = λ i. map (λ q. jobs.runs-refused d past x q i) (processors g c)
 
-  links-refused : IsMade g past → (c : ℕ) → links g c after ≡ links g c past
+  links-refused : IsReachable g past → (c : ℕ) → links g c after ≡ links g c past
   links-refused made c = links-step g c (Acted d) past ∙ rw (top-refused c, runs_of-refused c) (links-settle g c made)
 
-  linked-refused : IsMade g past → (q : ℕ) → linked g q after ≡ linked g q past
+  linked-refused : IsReachable g past → (q : ℕ) → linked g q after ≡ linked g q past
   unfolding linked
   linked-refused made q = λ i. at_place (links-refused made (cluster_with g q) i) (q - first_cpu g (cluster_with g q))
 
-  pending-refused : IsMade g past → (q : ℕ) → pending g q after ≡ pending g q past
+  pending-refused : IsReachable g past → (q : ℕ) → pending g q after ≡ pending g q past
   unfolding pending
   pending-refused made q = rw (linked-refused made q, jobs.runs-refused d past x q)
 
@@ -243,7 +243,7 @@ module _ (g : Group) (rules : MeetsRules g) (d : PastAct) (past : Past) (x : IsR
   unfolding ends_all
   ends_all-refused r t s = rw (jobs.sem_act-refused d past x)
 
-  pub same-refused : IsMade g past → IsSame g past after
+  pub same-refused : IsReachable g past → IsSame g past after
   same-refused made = record {
     now_same = refl;
     done_same = jobs.done-refused d past x;

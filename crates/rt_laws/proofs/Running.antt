@@ -13,7 +13,7 @@ use Rattle.rt_model.specs.Answers.{answer, is_granted}
 use Rattle.rt_model.specs.Group.{Group, cluster_with, home, processors, protocol, sems, tasks}
 use Rattle.rt_model.specs.Holders.{awaits, sem_state}
 use Rattle.rt_model.specs.Links.{runs_of}
-use Rattle.rt_model.specs.Made.{IsMade}
+use Rattle.rt_model.specs.Reachable.{IsReachable}
 use Rattle.rt_model.specs.Outcomes.{attempt, ended, ended_by, past_act}
 use Rattle.rt_model.specs.Past.{Acted, Clock, Event, Past, PastAct, accepted, did, ends_job, now, operation, sem_act}
 use Rattle.rt_model.specs.Releases.{exists, ready}
@@ -96,7 +96,7 @@ eligible-running g q t past l =
     }
 
 -- a task runs on one processor
-pub runs_once : (g : Group) {past : Past} → IsMade g past → (p q t : ℕ) → IsRunning g p t past → IsRunning g q t past → runs p past ≡ Some t → runs q past ≡ Some t → p ≡ q
+pub runs_once : (g : Group) {past : Past} → IsReachable g past → (p q t : ℕ) → IsRunning g p t past → IsRunning g q t past → runs p past ≡ Some t → runs q past ≡ Some t → p ≡ q
 unfolding runs_of
 runs_once g {past} made p q t rp rq hp hq = one_processor t p q (λ r. runs r past) (processors g (home g t)) (single g (home g t) (processor-home g (home g t)) made).runs_distinct rp.placed rq.placed (some-is t (runs p past) hp) (some-is t (runs q past) hq)
 
@@ -154,7 +154,7 @@ not_ended : (t : ℕ) (o : Option ℕ) → is_some o ≡ false → is t o ≡ fa
 not_ended t None h = refl
 not_ended t (Some u) h = cc
 
-running-here : (g : Group) → MeetsRules g → {past : Past} → IsMade g past → ((q t : ℕ) → runs q past ≡ Some t → IsRunning g q t past) → (p t : ℕ) (act : Act) → runs_after (past_act g p act past) (runs p past) ≡ Some t → IsRunning g p t (Acted (past_act g p act past) ∷ past)
+running-here : (g : Group) → MeetsRules g → {past : Past} → IsReachable g past → ((q t : ℕ) → runs q past ≡ Some t → IsRunning g q t past) → (p t : ℕ) (act : Act) → runs_after (past_act g p act past) (runs p past) ≡ Some t → IsRunning g p t (Acted (past_act g p act past) ∷ past)
 unfolding past_act
 running-here g rules {past} made before p t act h =
     running-keeps g rules p t (Acted (past_act g p act past)) past (base facts.2) (not_ended t (past_act g p act past).ended facts.0) (no_sleep t (now past) (past_act g p act past) facts.1) (λ s k. not_queued g p t s act past facts.1 (asks g p act past t s k))
@@ -166,7 +166,7 @@ running-here g rules {past} made before p t act h =
     base (inl m) = before p t m
     base (inr m) = eligible-running g p t past (linked-eligible g made p t (answer-runs_link g p t act past m))
 
-running-other : (g : Group) → MeetsRules g → {past : Past} → IsMade g past → ((q t : ℕ) → runs q past ≡ Some t → IsRunning g q t past) → (q t p : ℕ) (act : Act) → p == q ≡ false → runs q past ≡ Some t → IsRunning g q t (Acted (past_act g p act past) ∷ past)
+running-other : (g : Group) → MeetsRules g → {past : Past} → IsReachable g past → ((q t : ℕ) → runs q past ≡ Some t → IsRunning g q t past) → (q t p : ℕ) (act : Act) → p == q ≡ false → runs q past ≡ Some t → IsRunning g q t (Acted (past_act g p act past) ∷ past)
 running-other g rules {past} made before q t p act e h =
     running-keeps g rules q t (Acted (past_act g p act past)) past (before q t h) (unless _ (λ k. not_there (ended-runs g p t act past k))) (rw (did-other g p t act past elsewhere)) (λ s k. absurd (not_there (asks g p act past t s k).runs_it))
   where
@@ -176,7 +176,7 @@ running-other g rules {past} made before q t p act e h =
     elsewhere : is t (runs p past) ≡ false
     elsewhere = unless _ (λ k. not_there (is-some t (runs p past) k))
 
-running-acted : (g : Group) → MeetsRules g → {past : Past} → IsMade g past → ((q t : ℕ) → runs q past ≡ Some t → IsRunning g q t past) → (q t p : ℕ) (act : Act) → runs q (Acted (past_act g p act past) ∷ past) ≡ Some t → IsRunning g q t (Acted (past_act g p act past) ∷ past)
+running-acted : (g : Group) → MeetsRules g → {past : Past} → IsReachable g past → ((q t : ℕ) → runs q past ≡ Some t → IsRunning g q t past) → (q t p : ℕ) (act : Act) → runs q (Acted (past_act g p act past) ∷ past) ≡ Some t → IsRunning g q t (Acted (past_act g p act past) ∷ past)
 running-acted g rules {past} made before q t p act h = by_case (p == q) refl (rw (runs-acted, past_act-cpu) at h)
   where
     by_case : (b : Bool) → p == q ≡ b → (if b then runs_after (past_act g p act past) (runs q past) else runs q past) ≡ Some t → IsRunning g q t (Acted (past_act g p act past) ∷ past)
@@ -191,12 +191,12 @@ running-acted g rules {past} made before q t p act h = by_case (p == q) refl (rw
 abbrev AllRun : Group → Past → Type 0
 AllRun g past = (q t : ℕ) → runs q past ≡ Some t → IsRunning g q t past
 
-running-step : (g : Group) → MeetsRules g → (past : Past) (e : Event) → IsMade g past → IsMove g past e → AllRun g past → AllRun g (e ∷ past)
+running-step : (g : Group) → MeetsRules g → (past : Past) (e : Event) → IsReachable g past → IsMove g past e → AllRun g past → AllRun g (e ∷ past)
 unfolding runs
 running-step g rules past e made (clock_moves tick) before q t h = running-keeps g rules q t (Clock tick) past (before q t h) refl refl (λ s k. cc)
 running-step g rules past e made (cpu_acts p a) before q t h = running-acted g rules made before q t p a h
 
 -- so it is after every move
-pub running : (g : Group) → MeetsRules g → {past : Past} → IsMade g past → AllRun g past
+pub running : (g : Group) → MeetsRules g → {past : Past} → IsReachable g past → AllRun g past
 unfolding runs
 running g rules made = by_moves g (AllRun g) (λ q t h. cc) (running-step g rules) made

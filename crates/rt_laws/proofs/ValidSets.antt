@@ -4,14 +4,14 @@ use Rattle.std.proofs.lemmas.List.{get_or-map, length-map}
 use Rattle.std.specs.List.{list_all, list_any}
 use Rattle.std.specs.Prelude.{None, Option, Some, bytes_eq, filter, if◌then◌else◌, nat_le, nat_lt, option_map, slice_index_or, ⊤, ◌==◌}
 use Rattle.rt_base.specs.declared.TheConstants.{MOST_CPUS, TICK_END}
-use Rattle.rt_task.specs.Draft.{draft_cluster, draft_of, draft_resv, draft_task, runs}
+use Rattle.rt_task.specs.Draft.{draft_cluster, draft_drive, draft_of, draft_resv, draft_task, runs, steps_of}
 use Rattle.rt_task.specs.Lookups.{group_of}
-use Rattle.rt_task.specs.NameRules.{piece_is_known, resv_is_known, task_name}
-use Rattle.rt_task.specs.RangeRules.{cluster_range, resv_range, task_range, whole_range}
+use Rattle.rt_task.specs.NameRules.{piece_is_known, resv_is_known, step_name, task_name}
+use Rattle.rt_task.specs.RangeRules.{cluster_range, resv_range, step_range, task_range, whole_range}
 use Rattle.rt_task.specs.Refusals.{bad, each, first, first_failing, whole}
 use Rattle.rt_task.specs.RuleWords as words
 use Rattle.rt_task.specs.RuleWords.{all_same, allows_clusters, is_known, is_name, is_of_one_cluster, is_periodic, is_prio, is_span, no_repeat, piece_in_range, sem_numbers, stands_under, within}
-use Rattle.rt_task.specs.SharingRules.{clusters_sharing, sem_sharing, task_sharing}
+use Rattle.rt_task.specs.SharingRules.{clusters_sharing, sem_sharing, step_sharing, task_sharing}
 use Rattle.rt_task.specs.Validity.{IsValid, name_rows, range_rows, refusal, refusal_of, whole_refusal, sharing_rows, size_rows, task_shape}
 use Rattle.rt_task.specs.declared.Kind.TheVariants.{Periodic, Sporadic}
 use Rattle.rt_task.specs.declared.Kind.{Kind}
@@ -29,13 +29,13 @@ use Rattle.rt_task.specs.declared.bad_set.SetKind.{SetKind}
 use Rattle.rt_task.specs.declared.draft.Draft.{Draft}
 use Rattle.rt_task.specs.declared.draft.DraftCluster.{DraftCluster}
 use Rattle.rt_task.specs.declared.draft.DraftResv.{DraftResv}
+use Rattle.rt_task.specs.declared.draft.DraftStep.{DraftStep}
 use Rattle.rt_task.specs.declared.draft.DraftTask.{DraftTask}
 use Rattle.rt_rules.specs.Numbers.{has, numbers_from}
 use Rattle.rt_model.specs.Group.{Group, cluster, cpus, declares, home, no_cluster, no_resv, no_sem, no_task, protocol, resv, sem, sems, task, tasks, users}
 use Rattle.rt_rules.proofs.BoolLaws.{both, either, or_true}
 use Rattle.rt_rules.proofs.MemberLaws.{equal_self, has-filter, list_all-has, turned}
-use Rattle.rt_rules.proofs.NumberLaws.{has-numbers_from, numbers_from-has}
-use Rattle.rt_model.proofs.PastLaws.{numbers_from-below}
+use Rattle.rt_rules.proofs.NumberLaws.{has-numbers_from, numbers_from-has, numbers_from-below}
 use Rattle.rt_laws.proofs.GroupLaws.{user-task}
 use Rattle.rt_laws.proofs.Rules.{MeetsRules}
 
@@ -55,10 +55,10 @@ whole-none kind true h = refl
 whole-none kind false h = cc
 
 -- each element keeps the rule beside those before it
-record KeepsRule {A : Type 0} (rule : List A → A → Bool) (n : ℕ) (x : A) : Type 0 where
-  earlier : List A
-  number : length earlier ≡ n
-  keeps : rule earlier x ≡ true
+pub record KeepsRule {A : Type 0} (rule : List A → A → Bool) (n : ℕ) (x : A) : Type 0 where
+  pub earlier : List A
+  pub number : length earlier ≡ n
+  pub keeps : rule earlier x ≡ true
 
 first_failing-none : {A : Type 0} (rule : List A → A → Bool) (earlier xs : List A) (i : ℕ) (d : A) → first_failing rule earlier xs ≡ None → i < length xs → KeepsRule rule (length earlier + i) (slice_index_or xs i d)
 first_failing-none rule earlier [] i d h low = absurd (omega arith)
@@ -113,6 +113,27 @@ keeps_rows p valid =
       task = λ i x low. each-keeps kinds.Sharing parts.Task (task_sharing d) d.tasks i x sharing.1.1.0 low;
     }
 
+-- each step keeps the rules of its row
+pub record KeepsSteps (p : Parts) : Type 0 where
+  pub range : (i : ℕ) (d : DraftStep) → i < length (steps_of (draft_drive p.drive)) → KeepsRule (step_range (draft_of p)) i (slice_index_or (steps_of (draft_drive p.drive)) i d)
+  pub name : (i : ℕ) (d : DraftStep) → i < length (steps_of (draft_drive p.drive)) → KeepsRule (step_name (draft_of p)) i (slice_index_or (steps_of (draft_drive p.drive)) i d)
+  pub sharing : (i : ℕ) (d : DraftStep) → i < length (steps_of (draft_drive p.drive)) → KeepsRule (step_sharing (draft_of p)) i (slice_index_or (steps_of (draft_drive p.drive)) i d)
+
+pub step_rows : (p : Parts) → IsValid p → KeepsSteps p
+unfolding refusal_of whole_refusal refusal
+step_rows p valid =
+    let d : Draft = draft_of p in
+    let all = all-none (each kinds.Shape parts.Task (task_shape d) d.tasks ∷ refusal d ∷ []) valid in
+    let table = all-none (first (range_rows d) ∷ first (name_rows d) ∷ first (sharing_rows d) ∷ first (size_rows d) ∷ []) all.1.0 in
+    let range = all-none (range_rows d) table.0 in
+    let name = all-none (name_rows d) table.1.0 in
+    let sharing = all-none (sharing_rows d) table.1.1.0 in
+    record {
+      range = λ i x low. each-keeps kinds.Range parts.Step (step_range d) (steps_of d.drive) i x range.1.1.1.1.0 low;
+      name = λ i x low. each-keeps kinds.Name parts.Step (step_name d) (steps_of d.drive) i x name.1.1.1.0 low;
+      sharing = λ i x low. each-keeps kinds.Sharing parts.Step (step_sharing d) (steps_of d.drive) i x sharing.1.1.1.0 low;
+    }
+
 -- ---- tasks and semaphores by their numbers
 
 -- a number of the list stands for an element
@@ -149,7 +170,7 @@ has_cluster plugins.PsnEdf n h = ltb-true 0 n h
 has_cluster plugins.PFp n h = ltb-true 0 n h
 has_cluster plugins.PRes n h = ltb-true 0 n h
 
-within-bounds : (low high n : ℕ) → within low high n ≡ true → (low ≤ n) × (n ≤ high)
+pub within-bounds : (low high n : ℕ) → within low high n ≡ true → (low ≤ n) × (n ≤ high)
 within-bounds low high n h = let q = both (nat_le low n) (nat_le n high) h in (leb-true low n q.0, leb-true n high q.1)
 
 periodic-is : (k : Kind) → is_periodic k ≡ true → k ≡ Periodic

@@ -8,7 +8,7 @@ use Rattle.rt_model.specs.Answers.{is_granted, nests}
 use Rattle.rt_model.specs.Ceilings.{is_pcp}
 use Rattle.rt_model.specs.Group.{Group, cpus, protocol, sems}
 use Rattle.rt_model.specs.Holders.{holder, holds, sem_state}
-use Rattle.rt_model.specs.Made.{IsMade}
+use Rattle.rt_model.specs.Reachable.{IsReachable}
 use Rattle.rt_model.specs.Past.{Event, Past, sem_act}
 use Rattle.rt_model.specs.Semaphores.{cluster_of, fmlp, omlp}
 use Rattle.rt_rules.proofs.BoolLaws.{clash, neither, not_false}
@@ -30,7 +30,7 @@ use Rattle.rt_laws.proofs.Waiting.{nobody-waits, waiting-step}
 -- ---- who holds a semaphore does not wait for it, but perhaps under PCP
 
 -- who holds a semaphore and waits for it does so under PCP
-waits_not_at_own : (g : Group) → MeetsRules g → {past : Past} → IsMade g past → (t s : ℕ) → has s (sems g) ≡ true → is t (holder g s past) ≡ true → has t (sem_state g s past).waiting ≡ true → is_pcp (protocol g s) ≡ true
+waits_not_at_own : (g : Group) → MeetsRules g → {past : Past} → IsReachable g past → (t s : ℕ) → has s (sems g) ≡ true → is t (holder g s past) ≡ true → has t (sem_state g s past).waiting ≡ true → is_pcp (protocol g s) ≡ true
 waits_not_at_own g rules {past} made t s there h w = by_protocol (protocol g s) refl
   where
     of_fmlp : protocol g s ≡ Fmlp → ⊥
@@ -72,7 +72,7 @@ asks_pcp g t s r past Fmlp n there h = absurd (clash _ h (holds-none g t s past 
 asks_pcp g t s r past Omlp n there h = absurd (clash _ h (holds-none g t s past (not_false _ n) there))
 asks_pcp g t s r past Mpcp n there h = absurd (clash _ h (holds-none g t s past (not_false _ n) there))
 
-waits_under_pcp-step : (g : Group) → MeetsRules g → (e : Event) (past : Past) → IsMade g past → IsMade g (e ∷ past) → Asked g e past → WaitsUnderPcp g past → WaitsUnderPcp g (e ∷ past)
+waits_under_pcp-step : (g : Group) → MeetsRules g → (e : Event) (past : Past) → IsReachable g past → IsReachable g (e ∷ past) → Asked g e past → WaitsUnderPcp g past → WaitsUnderPcp g (e ∷ past)
 waits_under_pcp-step g rules e past made made_after asks before t s r hs hr h w = split (was (engaged-step g t s e past (holder-engaged g t s (e ∷ past) h))) (waiting-step g rules t r e past w)
   where
     was : (engaged g t s past ≡ true) ⊎ (sem_act e ≡ Asks t s) → (is t (holder g s past) ≡ true) ⊎ ((has t (sem_state g s past).waiting ≡ true) ⊎ (sem_act e ≡ Asks t s))
@@ -98,5 +98,5 @@ waits_under_pcp-step g rules e past made made_after asks before t s r hs hr h w 
     split (inr (inr a)) (inr b) = let x : sem_act e ≡ Asks t s = a in let y : sem_act e ≡ Asks t r = b.0 in one_sem cc
 
 -- so it is after every move
-pub waits_under_pcp : (g : Group) → MeetsRules g → {past : Past} → IsMade g past → WaitsUnderPcp g past
+pub waits_under_pcp : (g : Group) → MeetsRules g → {past : Past} → IsReachable g past → WaitsUnderPcp g past
 waits_under_pcp g rules made = by_moves g (WaitsUnderPcp g) (λ t s r hs hr h w. absurd (clash _ w (nobody-waits g t r))) (λ past e made move before. waits_under_pcp-step g rules e past made (moved g made move) (asked g rules made move) before) made

@@ -5,13 +5,13 @@ use Rattle.rt_task.specs.declared.Step.{Step}
 use Rattle.rt_model.specs.Computed.{computed}
 use Rattle.rt_model.specs.Group.{Group, cpus, home, protocol, users}
 use Rattle.rt_model.specs.Histories.{after, past_by}
-use Rattle.rt_model.specs.Made.{IsMade, acted, clocked, opened}
+use Rattle.rt_model.specs.Reachable.{IsReachable, acted, clocked, opened}
 use Rattle.rt_model.specs.Past.{Past}
 use Rattle.rt_laws.specs.Bounds.{ReachesFmlpBound, ReachesOmlpBound}
-use Rattle.rt_laws.specs.Corners.{fmlp_reached, fmlp_reached_steps, fmlp_reached-valid, fmlp_reached-ends, omlp_reached, omlp_reached_steps, omlp_reached-valid, omlp_reached-ends}
+use Rattle.rt_laws.specs.EdgeCases.{fmlp_reached, fmlp_reached_steps, fmlp_reached-valid, fmlp_reached-ends, omlp_reached, omlp_reached_steps, omlp_reached-valid, omlp_reached-ends}
 
 -- steps make a past
-made_by : (g : Group) (steps : List Step) {past : Past} → IsMade g past → IsMade g (past_by g past steps)
+made_by : (g : Group) (steps : List Step) {past : Past} → IsReachable g past → IsReachable g (past_by g past steps)
 unfolding past_by after
 made_by g [] made = made
 made_by g (s ∷ steps) made = made_by g steps (acted s.cpu.0 s.act (clocked s.tick.0 made))

@@ -4,7 +4,7 @@ use Rattle.rt_task.specs.Validity.{IsValid}
 use Rattle.rt_task.specs.declared.Protocol.TheVariants.{Fmlp, Omlp}
 use Rattle.rt_model.specs.Blocking.{ends, ends_all}
 use Rattle.rt_model.specs.Group.{Group, cpus, home, users, protocol}
-use Rattle.rt_model.specs.Made.{IsMade}
+use Rattle.rt_model.specs.Reachable.{IsReachable}
 use Rattle.rt_model.specs.Past.{Past}
 use Rattle.rt_laws.specs.EveryPast.{EveryPast}
 
@@ -27,7 +27,7 @@ pub record ReachesFmlpBound : Type 0 where
   pub group : Group
   pub past : Past
   pub is_valid : IsValid group.setup
-  pub is_made : IsMade group past
+  pub is_made : IsReachable group past
   pub no : ℕ
   pub task : ℕ
   pub sem : ℕ
@@ -40,7 +40,7 @@ pub record ReachesOmlpBound : Type 0 where
   pub group : Group
   pub past : Past
   pub is_valid : IsValid group.setup
-  pub is_made : IsMade group past
+  pub is_made : IsReachable group past
   pub no : ℕ
   pub task : ℕ
   pub sem : ℕ

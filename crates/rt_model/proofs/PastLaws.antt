@@ -11,7 +11,7 @@ use Rattle.rt_rules.specs.Placing.{tasks_in, placed, at_place}
 use Rattle.rt_model.specs.Group.{Group, cpus, cluster, processors, first_cpu, cluster_with, first_in, cluster_in, no_cluster}
 use Rattle.rt_model.specs.Histories.{past_from, past_of, after, LinksAreTheTop}
 use Rattle.rt_model.specs.Links.{runs_of, links, linked}
-use Rattle.rt_model.specs.Made.{IsMade, opened, acted, clocked}
+use Rattle.rt_model.specs.Reachable.{IsReachable, opened, acted, clocked}
 use Rattle.rt_model.specs.Outcomes.{past_act}
 use Rattle.rt_model.specs.Past.{PastAct, Event, Clock, Acted, Past}
 use Rattle.rt_model.specs.Runs.{runs, runs_after, runs_by, leaves}
@@ -20,7 +20,7 @@ use Rattle.rt_task.specs.declared.Cluster.{Cluster}
 use Rattle.rt_history.specs.declared.Entry.{Entry}
 use Rattle.rt_rules.proofs.PlacingLaws.{has-tasks_in, has-placed, either, or_true, equal_self, distinct_cons, distinct-head, distinct-tail}
 use Rattle.rt_rules.proofs.LinkLaws.{distinct-placed, links-runs, length-placed}
-use Rattle.rt_rules.proofs.NumberLaws.{distinct-numbers_from, has-numbers_from}
+use Rattle.rt_rules.proofs.NumberLaws.{distinct-numbers_from, has-numbers_from, numbers_from-below}
 use Rattle.rt_model.proofs.TopLaws.{distinct-top, length-top}
 use Rattle.rt_model.proofs.AnswerLaws.{to_run, answer-runs_link}
 use Rattle.rt_model.proofs.Steps.{runs-acted, links-step, past_act-cpu, past_act-reply}
@@ -161,7 +161,7 @@ runs_of-acted g c q act past home s =
             let from_p : first_cpu g c ≤ p = has-numbers_from p (first_cpu g c) (cpus g c) hp in
             other (omega arith)
 
-pub single : (g : Group) (c : ℕ) → ((p : ℕ) → has p (processors g c) ≡ true → cluster_with g p ≡ c) → {past : Past} → IsMade g past → IsSingle g c past
+pub single : (g : Group) (c : ℕ) → ((p : ℕ) → has p (processors g c) ≡ true → cluster_with g p ≡ c) → {past : Past} → IsReachable g past → IsSingle g c past
 unfolding links runs_of
 single g c home opened = record {
   before = runs_of g c [];
@@ -174,14 +174,14 @@ single g c home (clocked {past = past} tick made) = let s : IsSingle g c past = 
 single g c home (acted {past = past} q act made) = let s : IsSingle g c past = single g c home made in single-step g c (Acted (past_act g q act past)) past s (runs_of-acted g c q act past home s)
 
 -- after every move the linked tasks of a cluster are exactly those of its top
-pub links-top : (g : Group) (c : ℕ) → ((p : ℕ) → has p (processors g c) ≡ true → cluster_with g p ≡ c) → {past : Past} → IsMade g past → (t : ℕ) → has t (tasks_in (links g c past)) ≡ has t (top g c past)
+pub links-top : (g : Group) (c : ℕ) → ((p : ℕ) → has p (processors g c) ≡ true → cluster_with g p ≡ c) → {past : Past} → IsReachable g past → (t : ℕ) → has t (tasks_in (links g c past)) ≡ has t (top g c past)
 links-top g c home {past} made t =
     let s : IsSingle g c past = single g c home made in
     rw s.links_are (has-placed t (top g c past) (runs_of g c past) s.before (distinct-top g c past) s.runs_distinct s.before_distinct (length-runs_of g c past ∙ sym s.before_length) (omega (arith, length-top g c past, length-runs_of g c past)))
 
 -- ---- histories
 
-pub made-from : (g : Group) (es : List Entry) {past : Past} → IsMade g past → IsMade g (past_from g past es)
+pub made-from : (g : Group) (es : List Entry) {past : Past} → IsReachable g past → IsReachable g (past_from g past es)
 unfolding past_from after
 made-from g [] made = made
 made-from g (e ∷ es) made = made-from g es (acted e.step.cpu.0 e.step.act (clocked e.step.tick.0 made))
@@ -193,14 +193,6 @@ cluster_in-first (k ∷ ks) (suc c) i h =
     let high : nat_lt (k.cpus + first_in ks c + i) k.cpus ≡ false = grind (arith, nat_tests) in
     let less : k.cpus + first_in ks c + i - k.cpus ≡ first_in ks c + i = omega arith in
     rw (high, less) (ap suc (cluster_in-first ks c i h))
-
-pub numbers_from-below : (t a n : ℕ) → has t (numbers_from a n) ≡ true → t < a + n
-numbers_from-below t a zero h = cc
-numbers_from-below t a (suc n) h = join (either (t == a) _ h) (numbers_from-below t (suc a) n)
-  where
-    join : (t == a ≡ true) ⊎ (has t (numbers_from (suc a) n) ≡ true) → (has t (numbers_from (suc a) n) ≡ true → t < suc a + n) → t < a + suc n
-    join (inl k) rest = let e : t ≡ a = eqb-true t a k in omega arith
-    join (inr k) rest = omega (arith, rest k)
 
 pub processor-home : (g : Group) (c p : ℕ) → has p (processors g c) ≡ true → cluster_with g p ≡ c
 unfolding cluster_with processors first_cpu cpus cluster

@@ -17,7 +17,8 @@ pub mod Tops
 pub mod Links
 pub mod Answers
 pub mod Outcomes
-pub mod Made
+pub mod Reachable
+pub mod Steps
 pub mod Situations
 pub mod Histories
 pub mod Blocking

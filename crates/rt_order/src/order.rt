@@ -14,9 +14,11 @@ pub trait Ordered: Drop {
 
     ghost irreflexive: { (o : Self) (a : Key) → is_higher o a a ≡ false };
 
-    ghost transitive: { (o : Self) (a b c : Key) → is_higher o a b ≡ true → is_higher o b c ≡ true → is_higher o a c ≡ true };
+    ghost transitive: { (o : Self) (a b c : Key) → is_higher o a b ≡ true → is_higher o b c ≡ true →
+        is_higher o a c ≡ true };
 
-    ghost total: { (o : Self) (a b : Key) → is_higher o a b ≡ false → is_higher o b a ≡ false → a ≡ b };
+    ghost total: { (o : Self) (a b : Key) → is_higher o a b ≡ false → is_higher o b a ≡ false →
+        a ≡ b };
 }
 
 /// An order whose comparisons are counted in one ledger.

@@ -7,6 +7,7 @@ pub mod DistinctLaws
 pub mod RankedLaws
 pub mod KeyLaws
 pub mod RankingLaws
+pub mod RankedByLaws
 pub mod SemActLaws
 pub mod FmlpLaws
 pub mod OmlpLaws
@@ -14,3 +15,4 @@ pub mod MpcpLaws
 pub mod PairLaws
 pub mod PcpLaws
 pub mod PcpGrantLaws
+pub mod BlockerLaws

@@ -26,6 +26,14 @@ numbers_from-has a (suc n) q h k = by_case (q == a) refl (numbers_from-has (suc 
     by_case true e r = refl
     by_case false e r = r (grind (arith, nat_tests, e)) (omega arith)
 
+pub numbers_from-below : (t a n : ℕ) → has t (numbers_from a n) ≡ true → t < a + n
+numbers_from-below t a zero h = cc
+numbers_from-below t a (suc n) h = join (either (t == a) _ h) (numbers_from-below t (suc a) n)
+  where
+    join : (t == a ≡ true) ⊎ (has t (numbers_from (suc a) n) ≡ true) → (has t (numbers_from (suc a) n) ≡ true → t < suc a + n) → t < a + suc n
+    join (inl k) rest = let e : t ≡ a = eqb-true t a k in omega arith
+    join (inr k) rest = omega (arith, rest k)
+
 pub length-numbers_from : (a n : ℕ) → length (numbers_from a n) ≡ n
 length-numbers_from a zero = refl
 length-numbers_from a (suc n) = omega (arith, length-numbers_from (suc a) n)

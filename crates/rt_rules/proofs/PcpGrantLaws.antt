@@ -10,7 +10,7 @@ use Rattle.rt_rules.proofs.PairLaws.{has-by_key, has_pair, tasks_of_pairs}
 use Rattle.rt_rules.proofs.PcpLaws.{passes-cons}
 
 -- no later one is above an earlier one
-abbrev IsFalling : (ℕ → ℕ → Bool) → List TaskSem → Type 0
+abbrev pub IsFalling : (ℕ → ℕ → Bool) → List TaskSem → Type 0
 IsFalling before [] = ⊤
 IsFalling before (p ∷ ps) = ((t : ℕ) → has t (tasks_of_pairs ps) ≡ true → before t p.task ≡ false) × IsFalling before ps
 

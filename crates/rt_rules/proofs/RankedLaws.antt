@@ -18,7 +18,7 @@ has-inserted t a (b ∷ bs) = by_case (ahead a b) (has-inserted t a bs)
     by_case true h = refl
     by_case false h = rw h (or_middle (t == b.task) (t == a.task) (has t (tasks_ranked bs)))
 
-distinct-inserted : (a : Ranked) (bs : List Ranked) → has a.task (tasks_ranked bs) ≡ false → IsDistinct (tasks_ranked bs) → IsDistinct (tasks_ranked (inserted a bs))
+pub distinct-inserted : (a : Ranked) (bs : List Ranked) → has a.task (tasks_ranked bs) ≡ false → IsDistinct (tasks_ranked bs) → IsDistinct (tasks_ranked (inserted a bs))
 distinct-inserted a [] h d = (refl, tt)
 distinct-inserted a (b ∷ bs) h d = by_case (ahead a b) (distinct-inserted a bs)
   where

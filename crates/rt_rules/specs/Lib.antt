@@ -8,4 +8,5 @@ pub mod Mpcp
 pub mod Pcp
 pub mod Walks
 pub mod Placing
+pub mod Rankings
 pub mod Worked

@@ -3,24 +3,19 @@ use Rattle.std.proofs.Common.{◌≡◌, ℕ, zero, suc, ◌+◌, ◌<◌, Bool,
 use Rattle.std.specs.Prelude.{Option, None, Some, Result, Ok, Err, IsOk, if◌then◌else◌}
 use Rattle.rt_base.specs.declared.TheConstants.{MOST_SET_BYTES}
 use Rattle.rt_task.specs.declared.Parts.{Parts}
-use Rattle.rt_task.specs.declared.Cluster.{Cluster}
 use Rattle.rt_task.specs.declared.bad_set.BadSet.{BadSet}
 use Rattle.rt_task.specs.declared.bad_set.SetKind.TheVariants as kinds
 use Rattle.rt_task.specs.declared.bad_set.Part.TheVariants as parts
-use Rattle.rt_task.specs.RuleWords.{greatest}
 use Rattle.rt_task.specs.Refusals.{bad}
 use Rattle.rt_task.specs.Validity.{IsValid}
-use Rattle.rt_model.specs.Group.{no_cluster}
 use Rattle.set_read.specs.Sets.{set, ◌>>=◌}
 use Rattle.group_state.specs.Built.{is_built}
-use Rattle.group_state.specs.Groups.{GroupHistory, IsGroupOf}
-use Rattle.group_state.proofs.Plain.{IsPlainSet, plain-set}
-use Rattle.group_state.proofs.PlainGroup.{one}
+use Rattle.group_state.specs.Groups.{GroupHistory}
 use Rattle.trace_text.specs.Groups.{AreGroupsOf}
 use Rattle.trace_text.specs.Groups as groups
-use Rattle.rtsim.specs.Order.{history_of, histories, group_count}
+use Rattle.trace_text.proofs.GroupLaws.{group_count-one, one_group}
+use Rattle.rt_plays.specs.Order.{histories, history_of}
 use Rattle.rtsim.specs.Sim.{playable, if_built, WasRefused, CanPlay}
-use Rattle.rtsim.proofs.GivenSteps.{first-group, only-group}
 use Rattle.rtsim.proofs.EndLaws.{IsToldWithin}
 
 -- a set that is played is built
@@ -38,26 +33,11 @@ playable-is_built bytes p h = by_set (set bytes) h
 
 -- ---- the one group of a set that is played
 
-group_count-one : (p : Parts) → IsValid p → is_built p ≡ true → group_count p ≡ 1
-group_count-one p valid built =
-    let s : IsPlainSet p = plain-set p valid built in
-    let same : p.clusters ≡ get_or p.clusters 0 no_cluster ∷ [] = one p.clusters no_cluster s.one_cluster in
-    ap (λ (cs : List Cluster). greatest (map (λ (c : Cluster). c.group.0) cs) + 1) same ∙ rw s.first_group
-
 pub one-history : (p : Parts) (h : GroupHistory) (hs : List GroupHistory) → IsValid p → is_built p ≡ true → hs ≡ h ∷ [] → h.entries ≡ history_of p 0 → groups.histories hs ≡ histories p
 one-history p h hs valid built only same = rw (only, group_count-one p valid built, same)
 
 pub one-group : (p : Parts) (h : GroupHistory) (hs : List GroupHistory) → IsValid p → is_built p ≡ true → hs ≡ h ∷ [] → h.setup ≡ p → h.group ≡ 0 → AreGroupsOf p hs
-one-group p h hs valid built only setup group = subst (AreGroupsOf p) (sym only) (record {
-  of_setup = first;
-  in_order = ap (λ n. n ∷ []) group;
-  are_groups = λ n lt. subst (IsGroupOf p) (omega arith) (first-group p valid built);
-  are_all = λ n there. let z : n ≡ 0 = only-group p n valid built there in omega (arith, z);
-})
-  where
-    first : (k : ℕ) (d : GroupHistory) → k < 1 → (get_or (h ∷ []) k d).setup ≡ p
-    first zero d lt = setup
-    first (suc k) d lt = absurd (omega arith)
+one-group p h hs valid built only setup group = subst (AreGroupsOf p) (sym only) (one_group p h valid built setup group)
 
 -- ---- a set that can be played
 

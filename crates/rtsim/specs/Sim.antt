@@ -17,7 +17,7 @@ use Rattle.set_read.specs.Sets.{set, ◌>>=◌}
 use Rattle.group_state.specs.Built.{is_built}
 use Rattle.trace_lines.specs.FirstLine.{format_1}
 use Rattle.trace_text.specs.TraceText.{trace_text}
-use Rattle.rtsim.specs.Order.{histories}
+use Rattle.rt_plays.specs.Order.{histories}
 
 -- the command `sim`
 abbrev pub is_sim : List (String Global) → Bool

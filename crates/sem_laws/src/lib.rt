@@ -1,5 +1,5 @@
-//! The keys with which tasks asked, by task number, and the plain lists of tasks with which semaphores are compared: their
-//! words, their laws, and the lists as code for the tests.
+//! The keys with which tasks asked, by task number, and the plain lists of tasks with which semaphores are compared:
+//! their words, their laws, and the lists as code for the tests.
 #![tactic(auto)]
 
 mod plain;

@@ -27,7 +27,8 @@ fn same_key(a: Key, b: Key) -> bool
 
 /// Whether the task is not in the list, and no task there asked with the key.
 pub fn is_apart(line: &[u32], keys: &[Key], task: u32, key: Key) -> bool
-    ensures { result ≡ list_all (λ u. not (task == u) && not (equal_keys (key_at keys.now u) key)) line.now }
+    ensures { result ≡ list_all (λ u. not (task == u) && not (equal_keys (key_at keys.now u) key))
+        line.now }
 {
     for u in line {
         if task == *u || same_key(key_in(keys, *u), key) {

@@ -1,5 +1,6 @@
 -- An entry that is the next one is followed.
 use Rattle.std.proofs.Common.{◌≡◌, ◌≢◌, ℕ, ◌+◌, ◌<◌, ◌≤◌, ◌==◌, Bool, true, false, List, [], ◌∷◌, ◌++◌, length, get_or, set, refl, sym, ap, ◌∙◌, subst, arith, eqb-true, length-append, length-set, get_or-set_same, get_or-set_other}
+use Rattle.rt_base.specs.declared.TheConstants.{MOST_STEPS}
 use Rattle.rt_task.specs.declared.Step.{Step}
 use Rattle.rt_history.specs.declared.Entry.{Entry}
 use Rattle.rt_rules.specs.Numbers.{numbers_from}
@@ -14,13 +15,12 @@ use Rattle.group_state.proofs.Limits.{plain}
 use Rattle.group_state.proofs.Stepping.{inside}
 use Rattle.rank_afresh.specs.Standing.{IsAt, group_of}
 use Rattle.trace_lines.specs.declared.links.CpuLink.{CpuLink}
-use Rattle.trace_lines.specs.Lines.{Link, links_of}
+use Rattle.trace_lines.specs.Lines.{links_of}
 use Rattle.trace_text.specs.TraceText.{links_at}
-use Rattle.trace_text.specs.Groups.{changed_links}
-use Rattle.trace_text.proofs.ReplayLaws.{changed_by}
-use Rattle.trace_laws.specs.Scripts.{steps_given}
-use Rattle.trace_laws.proofs.PartLaws.{IsPartOf, part-next, script-steps_of-next, script-steps_of-skip}
-use Rattle.trace_laws.proofs.Completion.{completed}
+use Rattle.trace_text.proofs.ReplayLaws.{AreRead}
+use Rattle.rt_plays.proofs.ScriptParts.{part-next, script-steps_of-next, script-steps_of-skip}
+use Rattle.rt_plays.specs.Drives.{steps_given}
+use Rattle.rt_plays.specs.ScriptPlays.{IsBegunScriptPlay}
 use Rattle.trace_laws.proofs.Plays.{few-entries}
 use Rattle.trace_laws.proofs.StepsGiven.{IsGivenStep, steps-given}
 use Rattle.trace_check.specs.declared.follow.Follow.{Follow}
@@ -31,12 +31,9 @@ pub is-first : (g : Group) → IsPlayed g → g ≡ first_group g.setup
 is-first g played = let s : IsPlainGroup g = plain g played in ap (λ n. let x : Group = record { setup = g.setup; number = n } in x) s.number_is
 
 -- a part of a history has few entries
-pub few-in-part : (g : Group) (es : List Entry) → IsPlayed g → IsPartOf g es → length es ≤ 200000
+pub few-in-part : (g : Group) (es : List Entry) → IsPlayed g → IsBegunScriptPlay g es → length es ≤ MOST_STEPS
 few-in-part g es played part =
-    let part' : IsPartOf (first_group g.setup) es = subst (λ (x : Group). IsPartOf x es) (is-first g played) part in
-    let whole = completed (first_group g.setup) es part' in
-    let few : length (es ++ whole.0) ≤ 200000 = few-entries g.setup (es ++ whole.0) played.valid played.built whole.1 in
-    omega (arith, few, length-append es whole.0)
+    few-entries g.setup es played.valid played.built (subst (λ (x : Group). IsBegunScriptPlay x es) (is-first g played) part)
 
 module _ (at : Place) (steps : List Step) (f : Follow) (fw : IsFollowingWith at steps f) (step : Step) (j : ℕ) (np : IsNextPlace at.group at.entries step j) where
   abbrev g : Group
@@ -49,8 +46,8 @@ module _ (at : Place) (steps : List Step) (f : Follow) (fw : IsFollowingWith at 
   abbrev made : Entry
   made = record { step = step; reply = reply_to g step (past_of g es) }
 
-  pub part-made : IsPartOf g (es ++ made ∷ [])
-  part-made = part-next g es made np.next.more fw.following.part refl np.next.home np.next.next
+  pub part-made : IsBegunScriptPlay g (es ++ made ∷ [])
+  part-made = part-next g es made np.next.more fw.following.begun refl np.next.home np.next.next
 
   given : IsGivenStep (first_group g.setup) step
   given =
@@ -59,7 +56,7 @@ module _ (at : Place) (steps : List Step) (f : Follow) (fw : IsFollowingWith at 
 
   pub can_step : CanStep at f step
   can_step =
-      let few : length (es ++ made ∷ []) ≤ 200000 = few-in-part g (es ++ made ∷ []) fw.following.played part-made in
+      let few : length (es ++ made ∷ []) ≤ MOST_STEPS = few-in-part g (es ++ made ∷ []) fw.following.played part-made in
       record {
         following = fw.following;
         home = np.next.home;
@@ -70,12 +67,18 @@ module _ (at : Place) (steps : List Step) (f : Follow) (fw : IsFollowingWith at 
   pub cpu-inside : step.cpu.0 < length f.passed.items
   cpu-inside = let i : step.cpu.0 < cpus g 0 = inside g step.cpu.0 fw.following.played np.next.home in omega (arith, fw.following.passed_length)
 
-  -- the links that the step changed
-  pub changed-are : (v : Group) (ls : List CpuLink) (shown : List Link) → v ≡ g → ls ≡ f.links.items → shown ≡ changed_links (λ q. linked v q (after g step (past_of g es))) (links_of ls) → shown ≡ links_at g (after g step (past_of g es)) (changed g (past_of g es) (after g step (past_of g es)))
-  changed-are v ls shown same links_same told =
-      told ∙ ap (λ (x : Group). changed_links (λ q. linked x q (after g step (past_of g es))) (links_of ls)) same
-      ∙ ap (λ (xs : List CpuLink). changed_links (λ q. linked g q (after g step (past_of g es))) (links_of xs)) links_same
-      ∙ changed_by g (past_of g es) (after g step (past_of g es)) f.links.items fw.following.links_are
+  -- the links after the step, and those before
+  pub read-now : (v : Group) (n : ℕ) (before links : List CpuLink) → v ≡ g → n ≡ f.cpus → before ≡ f.links.items
+      → links_of links ≡ links_at v (after g step (past_of g es)) (numbers_from 0 n) → AreRead g (past_of g es) (after g step (past_of g es)) before links
+  read-now v n before links same count before_is read =
+      let s : IsPlainGroup g = plain g fw.following.played in
+      record {
+        before_are = ap links_of before_is ∙ fw.following.links_are;
+        links_are =
+            read ∙ ap (λ (x : Group). links_at x (after g step (past_of g es)) (numbers_from 0 n)) same
+            ∙ ap (λ m. links_at g (after g step (past_of g es)) (numbers_from 0 m)) (count ∙ fw.following.cpus_are)
+            ∙ ap (λ qs. links_at g (after g step (past_of g es)) qs) (sym s.processors_are);
+      }
 
   -- what is followed afterwards
   pub record IsTaken (f' : Follow) : Type 0 where
@@ -126,7 +129,7 @@ module _ (at : Place) (steps : List Step) (f : Follow) (fw : IsFollowingWith at 
           let s : IsPlainGroup g = plain g fw.following.played in
           record {
             played = fw.following.played;
-            part = part-made;
+            begun = part-made;
             at = subst (λ past. IsAt f'.afresh past) (sym past_is) t.at_after;
             group_is = group_same;
             count_is = omega (arith, t.count_more, fw.following.count_is, length-append es (made ∷ []));

@@ -1,5 +1,6 @@
 -- A text that begins with the first two lines of a canonical set.
 use Rattle.std.proofs.Common.{◌≡◌, ◌≢◌, ℕ, Bool, true, false, List, [], ◌∷◌, ◌++◌, codes, sym, ap, ◌∙◌, append_assoc, eqb, length, drop}
+use Rattle.std.specs.Prelude.{◌↔◌}
 use Rattle.std.specs.List.{starts_with}
 use Rattle.std.proofs.lemmas.Slice.Eq.{starts_is}
 use Rattle.std.proofs.lemmas.Bool.Decides.{Decides-eqb}
@@ -10,23 +11,23 @@ use Rattle.trace_lines.specs.FirstLine.{first_line, format_1}
 use Rattle.trace_read.specs.Reads.{HasHead}
 use Rattle.trace_laws.proofs.Heads.{head-unique}
 use Rattle.trace_laws.proofs.OneLine.{canonical-one_line}
-use Rattle.trace_check.specs.Head.{head_text}
+use Rattle.trace_text.specs.TraceText.{head_text}
 
-pub has-head : (p : Parts) (bytes head : List ℕ) (b : Bool) → head ≡ head_text p → b ≡ starts_with eqb bytes head
-    → (b ≡ true → (rest : List ℕ) × (bytes ≡ head_text p ++ rest)) × (b ≡ false → (rest : List ℕ) → bytes ≢ head_text p ++ rest)
+pub has-head : (p : Parts) (bytes head : List ℕ) (b : Bool) → head ≡ head_text format_1 p → b ≡ starts_with eqb bytes head
+    → (b ≡ true) ↔ ((rest : List ℕ) × (bytes ≡ head_text format_1 p ++ rest))
 has-head p bytes head b is told =
     let s = starts_is Decides-eqb bytes head b told in
-    (λ yes. (drop (length head) bytes, s.0 yes ∙ ap (λ (h : List ℕ). h ++ drop (length head) bytes) is), (λ none rest same. (let k : b ≡ true = s.1 rest (same ∙ ap (λ (h : List ℕ). h ++ rest) (sym is)) in cc)))
+    (λ yes. (drop (length head) bytes, s.0 yes ∙ ap (λ (h : List ℕ). h ++ drop (length head) bytes) is), λ has. s.1 has.0 (has.1 ∙ ap (λ (h : List ℕ). h ++ has.0) (sym is)))
 
 -- the two lines, and what stands after them
-pub head-text : (p : Parts) (rest : List ℕ) → head_text p ++ rest ≡ first_line format_1 ++ (codes "set " ++ (canonical p ++ 10 ∷ rest))
+pub head-text : (p : Parts) (rest : List ℕ) → head_text format_1 p ++ rest ≡ first_line format_1 ++ (codes "set " ++ (canonical p ++ 10 ∷ rest))
 head-text p rest = ap (λ (xs : List ℕ). first_line format_1 ++ (codes "set " ++ xs)) (append_assoc (canonical p) (10 ∷ []) rest)
 
-pub canonical-said : (p : Parts) (bytes set_text rest more : List ℕ) → IsValid p → HasHead bytes set_text rest → bytes ≡ head_text p ++ more → set_text ≡ canonical p
+pub canonical-said : (p : Parts) (bytes set_text rest more : List ℕ) → IsValid p → HasHead bytes set_text rest → bytes ≡ head_text format_1 p ++ more → set_text ≡ canonical p
 canonical-said p bytes set_text rest more valid head is =
     let other : HasHead bytes (canonical p) more = record { bytes_are = is ∙ head-text p more; on_one_line = canonical-one_line p valid } in
     (head-unique bytes set_text rest (canonical p) more head other).0
 
-pub canonical-begins : (p : Parts) (bytes set_text rest : List ℕ) → HasHead bytes set_text rest → set_text ≡ canonical p → bytes ≡ head_text p ++ rest
+pub canonical-begins : (p : Parts) (bytes set_text rest : List ℕ) → HasHead bytes set_text rest → set_text ≡ canonical p → bytes ≡ head_text format_1 p ++ rest
 canonical-begins p bytes set_text rest head is =
     head.bytes_are ∙ ap (λ (s : List ℕ). first_line format_1 ++ (codes "set " ++ (s ++ 10 ∷ rest))) is ∙ sym (head-text p rest)

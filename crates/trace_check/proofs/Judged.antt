@@ -12,30 +12,27 @@ use Rattle.rt_model.specs.Group.{Group, group_processors}
 use Rattle.rt_model.specs.Past.{Past}
 use Rattle.rt_model.specs.Histories.{after, changed, past_of, reply_to}
 use Rattle.group_state.specs.Built.{is_built}
-use Rattle.group_state.specs.Groups.{IsGroupOf}
-use Rattle.group_state.proofs.Plain.{plain-set}
-use Rattle.group_state.proofs.PlainGroup.{the_group}
 use Rattle.set_canonical.specs.Canonical.{canonical}
 use Rattle.trace_lines.specs.FirstLine.{first_line, format_1}
 use Rattle.trace_lines.specs.Grammar.{line_text}
 use Rattle.trace_lines.specs.Known.{known_of}
 use Rattle.trace_lines.specs.Lines.{Line, entry_line, group_line, end_line}
 use Rattle.trace_text.specs.TraceText.{entry_lines, lines_from, links_at, trace_text}
-use Rattle.trace_text.proofs.GroupLaws.{first_group}
 use Rattle.trace_read.specs.Reads.{HasHead, AreLines, IsTraceOf, stop_at}
 use Rattle.trace_read.proofs.LineLaws.{lines-unique}
-use Rattle.trace_laws.specs.Scripts.{ArePlays, IsPlayOf}
+use Rattle.rt_plays.proofs.ScriptCompletion.{script-completed}
+use Rattle.rt_plays.proofs.ScriptParts.{part-first}
+use Rattle.rt_plays.specs.ScriptPlays.{IsBegunScriptPlay, IsScriptPlay}
 use Rattle.trace_laws.specs.ValidTexts.{IsBegun, IsValidText}
 use Rattle.trace_laws.proofs.Alike.{AgreeThrough, alike-head, alike-made, alike-one_head, alike-take}
-use Rattle.trace_laws.proofs.Completion.{completed}
 use Rattle.trace_laws.proofs.Heads.{head-unique, trace-begins, trace-head}
 use Rattle.trace_laws.proofs.KnownLines.{known-lines}
 use Rattle.trace_laws.proofs.OneLine.{canonical-one_line}
-use Rattle.trace_laws.proofs.PartLaws.{IsPartOf, part-first}
-use Rattle.trace_laws.proofs.Plays.{plays-of-one}
+use Rattle.trace_laws.proofs.Plays.{plays-of-one, plays-one}
 use Rattle.trace_laws.proofs.ReadBack.{are-lines}
+use Rattle.trace_check.specs.Following.{first_group}
 use Rattle.trace_check.specs.Verdicts.{IsInvalid}
-use Rattle.trace_check.proofs.NextLine.{group_0, lines_so_far, next_line, lines_so_far-more, length-so_far, whole-lines, length-whole, HasNext, HasEnd, next-line}
+use Rattle.trace_check.proofs.NextLine.{lines_so_far, next_line, lines_so_far-more, length-so_far, whole-lines, length-whole, HasNext, HasEnd, next-line}
 
 -- ---- lists that agree
 
@@ -74,22 +71,11 @@ next-no_end g es e same = cc
 module _ (p : Parts) (valid : IsValid p) (built : is_built p ≡ true) where
   -- ---- one history
 
-  plays-one : (es : List Entry) → IsPlayOf (group_0 p) es → ArePlays p (es ∷ [])
-  plays-one es play = record {
-    are_groups = λ n low. (let none : 0 ≡ n = omega arith in subst (IsGroupOf p) none (first_group p valid built));
-    are_all = λ n there. (let none : n ≡ 0 = the_group p n (plain-set p valid built) there in omega (arith, none));
-    plays = the_play;
-  }
-    where
-      the_play : (n : ℕ) → n < 1 → IsPlayOf (record { setup = p; number = n }) (get_or (es ∷ []) n [])
-      the_play zero low = play
-      the_play (suc n) low = absurd (omega arith)
-
   abbrev one_line : All (λ (c : ℕ). c ≢ 10) (canonical p)
   one_line = canonical-one_line p valid
 
-  valid-one : (es : List Entry) → IsPlayOf (group_0 p) es → IsValidText p (trace_text format_1 p (es ∷ [])) (length es)
-  valid-one es play = record { histories = es ∷ []; plays = plays-one es play; text_is = refl; count = omega arith }
+  valid-one : (es : List Entry) → IsScriptPlay (first_group p) es → IsValidText p (trace_text format_1 p (es ∷ [])) (length es)
+  valid-one es play = record { histories = es ∷ []; plays = plays-one p es valid built play; text_is = refl; count = omega arith }
 
   module _ (bytes : List ℕ) (lines : List Line) (stop : Option ℕ) (r : IsTraceOf bytes p lines stop) where
     left-none : stop ≡ None → r.left ≡ []
@@ -103,7 +89,7 @@ module _ (p : Parts) (valid : IsValid p) (built : is_built p ≡ true) where
     stop-none none = r.stop_is ∙ ap (stop_at lines) none
 
     -- a text that is valid has a history's lines, and nothing after them
-    pub valid-lines : (n : ℕ) → IsValidText p bytes n → (es : List Entry) × IsPlayOf (group_0 p) es × (r.set_text ≡ canonical p) × (lines ≡ lines_from p 0 (es ∷ [])) × (stop ≡ None)
+    pub valid-lines : (n : ℕ) → IsValidText p bytes n → (es : List Entry) × IsScriptPlay (first_group p) es × (r.set_text ≡ canonical p) × (lines ≡ lines_from p 0 (es ∷ [])) × (stop ≡ None)
     valid-lines n is =
         let one = plays-of-one p is.histories valid built is.plays in
         let es : List Entry = one.0 in
@@ -118,7 +104,7 @@ module _ (p : Parts) (valid : IsValid p) (built : is_built p ≡ true) where
         (es, one.2, heads.0, both.0, stop-none both.1)
 
     -- a text that begins as a valid one agrees with a history's lines
-    pub begun-agrees : (k : ℕ) → 2 ≤ k → IsBegun p k bytes → (es : List Entry) × IsPlayOf (group_0 p) es × (r.set_text ≡ canonical p) × AgreeThrough (k - 2) lines (lines_from p 0 (es ∷ []))
+    pub begun-agrees : (k : ℕ) → 2 ≤ k → IsBegun p k bytes → (es : List Entry) × IsScriptPlay (first_group p) es × (r.set_text ≡ canonical p) × AgreeThrough (k - 2) lines (lines_from p 0 (es ∷ []))
     begun-agrees k many begun =
         let is = begun.valid in
         let one = plays-of-one p is.histories valid built is.plays in
@@ -132,7 +118,7 @@ module _ (p : Parts) (valid : IsValid p) (built : is_built p ≡ true) where
         (es, one.2, same, agree)
 
     -- the same the other way round
-    pub agrees-begun : (m : ℕ) (es : List Entry) → r.set_text ≡ canonical p → IsPlayOf (group_0 p) es → AgreeThrough m lines (lines_from p 0 (es ∷ [])) → IsBegun p (m + 2) bytes
+    pub agrees-begun : (m : ℕ) (es : List Entry) → r.set_text ≡ canonical p → IsScriptPlay (first_group p) es → AgreeThrough m lines (lines_from p 0 (es ∷ [])) → IsBegun p (m + 2) bytes
     agrees-begun m es same play agree =
         let head : HasHead (trace_text format_1 p (es ∷ [])) r.set_text (flat_map line_text (lines_from p 0 (es ∷ []))) =
         subst (λ (s : List ℕ). HasHead (trace_text format_1 p (es ∷ [])) s (flat_map line_text (lines_from p 0 (es ∷ [])))) (sym same) (trace-head p (es ∷ []) one_line) in
@@ -144,9 +130,9 @@ module _ (p : Parts) (valid : IsValid p) (built : is_built p ≡ true) where
         }
 
     -- where no history's lines agree in one line more, that line is wrong
-    pub judged : (m : ℕ) (es : List Entry) → r.set_text ≡ canonical p → IsPlayOf (group_0 p) es → AgreeThrough m lines (lines_from p 0 (es ∷ []))
-        → ((es' : List Entry) → IsPlayOf (group_0 p) es' → AgreeThrough (m + 1) lines (lines_from p 0 (es' ∷ [])) → ⊥)
-        → ((es' : List Entry) → IsPlayOf (group_0 p) es' → lines ≡ lines_from p 0 (es' ∷ []) → stop ≡ None → ⊥) → IsInvalid p bytes (m + 3)
+    pub judged : (m : ℕ) (es : List Entry) → r.set_text ≡ canonical p → IsScriptPlay (first_group p) es → AgreeThrough m lines (lines_from p 0 (es ∷ []))
+        → ((es' : List Entry) → IsScriptPlay (first_group p) es' → AgreeThrough (m + 1) lines (lines_from p 0 (es' ∷ [])) → ⊥)
+        → ((es' : List Entry) → IsScriptPlay (first_group p) es' → lines ≡ lines_from p 0 (es' ∷ []) → stop ≡ None → ⊥) → IsInvalid p bytes (m + 3)
     judged m es same play agree no_more not_whole = record {
       not_valid = λ n is. (let v = valid-lines n is in not_whole v.0 v.1 v.3 v.4);
       right = m + 2;
@@ -165,12 +151,12 @@ module _ (p : Parts) (valid : IsValid p) (built : is_built p ≡ true) where
 
     -- ---- the text stops being right
 
-    pub stopped : (m : ℕ) (es : List Entry) → r.set_text ≡ canonical p → IsPartOf (group_0 p) es → m ≤ length es + 1 → m ≤ length lines → take m lines ≡ take m (lines_so_far (group_0 p) es)
-        → ((es' : List Entry) → IsPlayOf (group_0 p) es' → m + 1 ≤ length lines → m + 1 ≤ length (lines_from p 0 (es' ∷ [])) → take (m + 1) lines ≡ take (m + 1) (lines_from p 0 (es' ∷ [])) → ⊥)
+    pub stopped : (m : ℕ) (es : List Entry) → r.set_text ≡ canonical p → IsBegunScriptPlay (first_group p) es → m ≤ length es + 1 → m ≤ length lines → take m lines ≡ take m (lines_so_far (first_group p) es)
+        → ((es' : List Entry) → IsScriptPlay (first_group p) es' → m + 1 ≤ length lines → m + 1 ≤ length (lines_from p 0 (es' ∷ [])) → take (m + 1) lines ≡ take (m + 1) (lines_from p 0 (es' ∷ [])) → ⊥)
         → IsInvalid p bytes (m + 3)
     stopped m es same part few within right no_more =
-        let g : Group = group_0 p in
-        let whole = completed g es part in
+        let g : Group = first_group p in
+        let whole = script-completed g es part in
         let all : List Entry = es ++ whole.0 in
         let others : List Line = entry_lines g (length es) (past_of g es) whole.0 in
         let low : m ≤ length (lines_so_far g es) = omega (arith, few, length-so_far g es) in
@@ -183,20 +169,20 @@ module _ (p : Parts) (valid : IsValid p) (built : is_built p ≡ true) where
         } in
         judged m all same whole.1 agree (λ es' play h. no_more es' play h.within h.within' h.same) (λ es' play is none. not_whole es' play is (nat_lt m (length lines)) refl)
       where
-        not_whole : (es' : List Entry) → IsPlayOf (group_0 p) es' → lines ≡ lines_from p 0 (es' ∷ []) → (b : Bool) → nat_lt m (length lines) ≡ b → ⊥
+        not_whole : (es' : List Entry) → IsScriptPlay (first_group p) es' → lines ≡ lines_from p 0 (es' ∷ []) → (b : Bool) → nat_lt m (length lines) ≡ b → ⊥
         not_whole es' play is true e =
             let high : m + 1 ≤ length lines = grind (arith, nat_tests, e) in
             no_more es' play high (omega (arith, high, ap length is)) (ap (take (m + 1)) is)
         not_whole es' play is false e =
             let low : length lines ≤ m = grind (arith, nat_tests, e) in
-            let so_far : take m (lines_so_far (group_0 p) es) ≡ lines_so_far (group_0 p) es' ++ end_line ∷ [] = sym right ∙ take_all m lines low ∙ is ∙ whole-lines p es' valid built play in
-            some-end (lines_so_far (group_0 p) es') (subst (All IsNoEnd) so_far (All-take IsNoEnd m (lines_so_far (group_0 p) es) (so_far-no_end (group_0 p) es)))
+            let so_far : take m (lines_so_far (first_group p) es) ≡ lines_so_far (first_group p) es' ++ end_line ∷ [] = sym right ∙ take_all m lines low ∙ is ∙ whole-lines p es' valid built play in
+            some-end (lines_so_far (first_group p) es') (subst (All IsNoEnd) so_far (All-take IsNoEnd m (lines_so_far (first_group p) es) (so_far-no_end (first_group p) es)))
 
     -- the line after the head is not the group's
-    pub wrong-first : (d : Line) → r.set_text ≡ canonical p → (1 ≤ length lines → get_or lines 0 d ≡ group_line 0 (links_at (group_0 p) [] (group_processors (group_0 p))) → ⊥) → IsInvalid p bytes 3
-    wrong-first d same wrong = stopped 0 [] same (part-first (group_0 p)) (omega arith) (omega arith) refl not_right
+    pub wrong-first : (d : Line) → r.set_text ≡ canonical p → (1 ≤ length lines → get_or lines 0 d ≡ group_line 0 (links_at (first_group p) [] (group_processors (first_group p))) → ⊥) → IsInvalid p bytes 3
+    wrong-first d same wrong = stopped 0 [] same (part-first (first_group p)) (omega arith) (omega arith) refl not_right
       where
-        not_right : (es' : List Entry) → IsPlayOf (group_0 p) es' → 1 ≤ length lines → 1 ≤ length (lines_from p 0 (es' ∷ [])) → take 1 lines ≡ take 1 (lines_from p 0 (es' ∷ [])) → ⊥
+        not_right : (es' : List Entry) → IsScriptPlay (first_group p) es' → 1 ≤ length lines → 1 ≤ length (lines_from p 0 (es' ∷ [])) → take 1 lines ≡ take 1 (lines_from p 0 (es' ∷ [])) → ⊥
         not_right es' play some some' first =
             let those : List Line = lines_from p 0 (es' ∷ []) in
             let here : get_or lines 0 d ≡ get_or those 0 d =
@@ -204,23 +190,23 @@ module _ (p : Parts) (valid : IsValid p) (built : is_built p ≡ true) where
             wrong some (here ∙ ap (λ (ls : List Line). get_or ls 0 d) (whole-lines p es' valid built play))
 
     -- the line after those of some entries is not that of an entry that may come next, nor the end of a whole history
-    pub wrong-next : (es : List Entry) (d : Line) → r.set_text ≡ canonical p → IsPartOf (group_0 p) es → length es + 1 ≤ length lines → take (length es + 1) lines ≡ lines_so_far (group_0 p) es
-        → ((e : Entry) (more : List Entry) → length es + 2 ≤ length lines → IsPlayOf (group_0 p) (es ++ e ∷ more) → e.reply ≡ reply_to (group_0 p) e.step (past_of (group_0 p) es) → get_or lines (length es + 1) d ≡ next_line (group_0 p) es e → ⊥)
-        → (length es + 2 ≤ length lines → IsPlayOf (group_0 p) es → get_or lines (length es + 1) d ≡ end_line → ⊥) → IsInvalid p bytes (length es + 4)
+    pub wrong-next : (es : List Entry) (d : Line) → r.set_text ≡ canonical p → IsBegunScriptPlay (first_group p) es → length es + 1 ≤ length lines → take (length es + 1) lines ≡ lines_so_far (first_group p) es
+        → ((e : Entry) (more : List Entry) → length es + 2 ≤ length lines → IsScriptPlay (first_group p) (es ++ e ∷ more) → e.reply ≡ reply_to (first_group p) e.step (past_of (first_group p) es) → get_or lines (length es + 1) d ≡ next_line (first_group p) es e → ⊥)
+        → (length es + 2 ≤ length lines → IsScriptPlay (first_group p) es → get_or lines (length es + 1) d ≡ end_line → ⊥) → IsInvalid p bytes (length es + 4)
     wrong-next es d same part within right no_entry no_end =
-        let all : take (length es + 1) (lines_so_far (group_0 p) es) ≡ lines_so_far (group_0 p) es = take_all (length es + 1) (lines_so_far (group_0 p) es) (omega (arith, length-so_far (group_0 p) es)) in
+        let all : take (length es + 1) (lines_so_far (first_group p) es) ≡ lines_so_far (first_group p) es = take_all (length es + 1) (lines_so_far (first_group p) es) (omega (arith, length-so_far (first_group p) es)) in
         let count : length es + 1 + 3 ≡ length es + 4 = omega arith in
         subst (IsInvalid p bytes) count (stopped (length es + 1) es same part (omega arith) within (right ∙ sym all) not_right)
       where
-        by_case : (es' : List Entry) (line : Line) → IsPlayOf (group_0 p) es' → length es + 2 ≤ length lines → get_or lines (length es + 1) d ≡ line → HasNext (group_0 p) es es' line ⊎ HasEnd es es' line → ⊥
-        by_case es' line play more here (inl h) = no_entry h.entry h.more more (subst (IsPlayOf (group_0 p)) h.is_longer play) h.reply_is (here ∙ h.line_is)
-        by_case es' line play more here (inr h) = no_end more (subst (IsPlayOf (group_0 p)) h.is_whole play) (here ∙ h.line_is)
+        by_case : (es' : List Entry) (line : Line) → IsScriptPlay (first_group p) es' → length es + 2 ≤ length lines → get_or lines (length es + 1) d ≡ line → HasNext (first_group p) es es' line ⊎ HasEnd es es' line → ⊥
+        by_case es' line play more here (inl h) = no_entry h.entry h.more more (subst (IsScriptPlay (first_group p)) h.is_longer play) h.reply_is (here ∙ h.line_is)
+        by_case es' line play more here (inr h) = no_end more (subst (IsScriptPlay (first_group p)) h.is_whole play) (here ∙ h.line_is)
 
-        not_right : (es' : List Entry) → IsPlayOf (group_0 p) es' → length es + 1 + 1 ≤ length lines → length es + 1 + 1 ≤ length (lines_from p 0 (es' ∷ []))
+        not_right : (es' : List Entry) → IsScriptPlay (first_group p) es' → length es + 1 + 1 ≤ length lines → length es + 1 + 1 ≤ length (lines_from p 0 (es' ∷ []))
             → take (length es + 1 + 1) lines ≡ take (length es + 1 + 1) (lines_from p 0 (es' ∷ [])) → ⊥
         not_right es' play more more' agree =
             let those : List Line = lines_from p 0 (es' ∷ []) in
-            let first : take (length es + 1) those ≡ lines_so_far (group_0 p) es =
+            let first : take (length es + 1) those ≡ lines_so_far (first_group p) es =
             sym (take-take (length es + 1) (length es + 1 + 1) those (omega arith)) ∙ ap (take (length es + 1)) (sym agree) ∙ take-take (length es + 1) (length es + 1 + 1) lines (omega arith) ∙ right in
             let here : get_or lines (length es + 1) d ≡ get_or those (length es + 1) d =
             sym (get_or-take (length es + 1 + 1) lines (length es + 1) d (omega arith)) ∙ ap (λ (ls : List Line). get_or ls (length es + 1) d) agree ∙ get_or-take (length es + 1 + 1) those (length es + 1) d (omega arith) in
@@ -228,7 +214,7 @@ module _ (p : Parts) (valid : IsValid p) (built : is_built p ≡ true) where
 
     -- ---- the text ends
 
-    pub ended-valid : (es : List Entry) → r.set_text ≡ canonical p → IsPlayOf (group_0 p) es → lines ≡ lines_so_far (group_0 p) es ++ end_line ∷ [] → stop ≡ None → IsValidText p bytes (length es)
+    pub ended-valid : (es : List Entry) → r.set_text ≡ canonical p → IsScriptPlay (first_group p) es → lines ≡ lines_so_far (first_group p) es ++ end_line ∷ [] → stop ≡ None → IsValidText p bytes (length es)
     ended-valid es same play is none =
         let all : lines ≡ lines_from p 0 (es ∷ []) = is ∙ sym (whole-lines p es valid built play) in
         let rest : r.rest ≡ flat_map line_text (lines_from p 0 (es ∷ [])) =
@@ -236,12 +222,12 @@ module _ (p : Parts) (valid : IsValid p) (built : is_built p ≡ true) where
         let text : bytes ≡ trace_text format_1 p (es ∷ []) =
         r.head.bytes_are ∙ ap (λ (s : List ℕ). first_line format_1 ++ (codes "set " ++ (s ++ 10 ∷ r.rest))) same
         ∙ ap (λ (t : List ℕ). first_line format_1 ++ (codes "set " ++ (canonical p ++ 10 ∷ t))) rest ∙ sym (trace-begins p (es ∷ [])) in
-        record { histories = es ∷ []; plays = plays-one es play; text_is = text; count = omega arith }
+        record { histories = es ∷ []; plays = plays-one p es valid built play; text_is = text; count = omega arith }
 
     -- no other history has the lines of a whole one and one more
-    none-longer : (es es' : List Entry) → IsPlayOf (group_0 p) es' → take (length es + 2) lines ≡ lines_so_far (group_0 p) es ++ end_line ∷ [] → AgreeThrough (length es + 2 + 1) lines (lines_from p 0 (es' ∷ [])) → ⊥
+    none-longer : (es es' : List Entry) → IsScriptPlay (first_group p) es' → take (length es + 2) lines ≡ lines_so_far (first_group p) es ++ end_line ∷ [] → AgreeThrough (length es + 2 + 1) lines (lines_from p 0 (es' ∷ [])) → ⊥
     none-longer es es' play ended agree =
-        let g : Group = group_0 p in
+        let g : Group = first_group p in
         let those : List Line = lines_from p 0 (es' ∷ []) in
         let less = agree-less (length es + 2) (length es + 2 + 1) lines those (omega arith) agree in
         let first : take (length es + 2) those ≡ lines_so_far g es ++ end_line ∷ [] = sym less.same ∙ ended in
@@ -253,11 +239,11 @@ module _ (p : Parts) (valid : IsValid p) (built : is_built p ≡ true) where
         by_case (agree.within') last (next-line p es es' end_line valid built play less.within' shorter)
       where
         by_case : length es + 2 + 1 ≤ length (lines_from p 0 (es' ∷ [])) → get_or (lines_from p 0 (es' ∷ [])) (length es + 1) end_line ≡ end_line
-            → HasNext (group_0 p) es es' (get_or (lines_from p 0 (es' ∷ [])) (length es + 1) end_line) ⊎ HasEnd es es' (get_or (lines_from p 0 (es' ∷ [])) (length es + 1) end_line) → ⊥
-        by_case long last (inl h) = next-no_end (group_0 p) es h.entry (sym h.line_is ∙ last)
+            → HasNext (first_group p) es es' (get_or (lines_from p 0 (es' ∷ [])) (length es + 1) end_line) ⊎ HasEnd es es' (get_or (lines_from p 0 (es' ∷ [])) (length es + 1) end_line) → ⊥
+        by_case long last (inl h) = next-no_end (first_group p) es h.entry (sym h.line_is ∙ last)
         by_case long last (inr h) = omega (arith, long, length-whole p es' valid built play, ap length h.is_whole)
 
-    pub ended-more : (es : List Entry) → r.set_text ≡ canonical p → IsPlayOf (group_0 p) es → length es + 2 ≤ length lines → take (length es + 2) lines ≡ lines_so_far (group_0 p) es ++ end_line ∷ []
+    pub ended-more : (es : List Entry) → r.set_text ≡ canonical p → IsScriptPlay (first_group p) es → length es + 2 ≤ length lines → take (length es + 2) lines ≡ lines_so_far (first_group p) es ++ end_line ∷ []
         → (length lines ≡ length es + 2 → stop ≡ None → ⊥) → IsInvalid p bytes (length es + 5)
     ended-more es same play within ended more =
         let agree : AgreeThrough (length es + 2) lines (lines_from p 0 (es ∷ [])) = record {
@@ -268,7 +254,7 @@ module _ (p : Parts) (valid : IsValid p) (built : is_built p ≡ true) where
         let count : length es + 2 + 3 ≡ length es + 5 = omega arith in
         subst (IsInvalid p bytes) count (judged (length es + 2) es same play agree (λ es' other h. none-longer es es' other ended h) (λ es' other is none. not_whole es' other is none (nat_lt (length es + 2) (length lines)) refl))
       where
-        not_whole : (es' : List Entry) → IsPlayOf (group_0 p) es' → lines ≡ lines_from p 0 (es' ∷ []) → stop ≡ None → (b : Bool) → nat_lt (length es + 2) (length lines) ≡ b → ⊥
+        not_whole : (es' : List Entry) → IsScriptPlay (first_group p) es' → lines ≡ lines_from p 0 (es' ∷ []) → stop ≡ None → (b : Bool) → nat_lt (length es + 2) (length lines) ≡ b → ⊥
         not_whole es' other is none true e =
             let high : length es + 2 + 1 ≤ length lines = grind (arith, nat_tests, e) in
             none-longer es es' other ended (agree-same (length es + 2 + 1) lines (lines_from p 0 (es' ∷ [])) high is)
@@ -280,7 +266,7 @@ module _ (p : Parts) (valid : IsValid p) (built : is_built p ≡ true) where
 
     pub not-canonical : (r.set_text ≡ canonical p → ⊥) → IsInvalid p bytes 2
     not-canonical other =
-        let whole = completed (group_0 p) [] (part-first (group_0 p)) in
+        let whole = script-completed (first_group p) [] (part-first (first_group p)) in
         let es : List Entry = whole.0 in
         record {
           not_valid = λ n is. (let v = valid-lines n is in other v.2);

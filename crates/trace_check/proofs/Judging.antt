@@ -15,8 +15,9 @@ use Rattle.trace_read.specs.Lines.{line_of, lines_of}
 use Rattle.trace_read.specs.declared.lines.Line.TheVariants as read
 use Rattle.trace_read.specs.declared.lines.Line as kinds
 use Rattle.trace_lines.specs.declared.links.CpuLink.{CpuLink}
-use Rattle.trace_laws.specs.Scripts.{IsPlayOf, script, steps_of}
-use Rattle.trace_laws.proofs.PartLaws.{play-of-part, part-of-play}
+use Rattle.rt_plays.proofs.ScriptParts.{begun-of-play, play-of-part}
+use Rattle.rt_plays.specs.ScriptPlays.{IsScriptPlay}
+use Rattle.rt_plays.specs.Scripts.{script, steps_of}
 use Rattle.trace_check.specs.declared.follow.Follow.{Follow}
 use Rattle.trace_check.specs.declared.verdict.Verdict.{Verdict}
 use Rattle.trace_check.specs.declared.verdict.Verdict.TheVariants.{Valid, Invalid}
@@ -131,12 +132,12 @@ module _ (p : Parts) (lines : List Line) (stop : Option ℕ) where
       }
 
   -- what may come next says so
-  next-entry : (es : List Entry) (e : Entry) (more : List Entry) → IsPlayOf g (es ++ e ∷ more) → e.reply ≡ reply_to g e.step (past_of g es) → IsNextLine g es (next_line g es e)
+  next-entry : (es : List Entry) (e : Entry) (more : List Entry) → IsScriptPlay g (es ++ e ∷ more) → e.reply ≡ reply_to g e.step (past_of g es) → IsNextLine g es (next_line g es e)
   next-entry es e more play told =
       record {
         number = refl;
         next = record {
-          home = (let part = part-of-play g (es ++ e ∷ []) more (subst (IsPlayOf g) (one_more es e more) play) in last_home g es e part.at_home);
+          home = (let part = begun-of-play g (es ++ e ∷ []) more (subst (IsScriptPlay g) (one_more es e more) play) in last_home g es e part.at_home);
           more = script (steps_of more) e.step.cpu.0;
           next = next-of_script g es e more play;
         };
@@ -151,7 +152,7 @@ module _ (p : Parts) (lines : List Line) (stop : Option ℕ) where
       let so_far : take (length es + 1) lines ≡ lines_so_far g es = ap (λ n. take n lines) (sym right.count) ∙ right.same in
       let line : length es + 4 ≡ i + 3 = omega (arith, right.count) in
       let at : get_or lines i d ≡ get_or lines (length es + 1) d = ap (λ n. get_or lines n d) right.count in
-      subst (IsInvalid p bytes) line (wrong-next p right.following.played.valid right.following.played.built bytes lines stop r es d same right.following.part (omega (arith, right.count, right.within)) so_far
+      subst (IsInvalid p bytes) line (wrong-next p right.following.played.valid right.following.played.built bytes lines stop r es d same right.following.begun (omega (arith, right.count, right.within)) so_far
       (λ e more long play told is. no_entry (omega (arith, long, right.count)) (subst (IsNextLine g es) (sym (at ∙ is)) (next-entry es e more play told)))
       (λ long play is. no_end (omega (arith, long, right.count)) (λ q there. sym (play.scripts q there)) (at ∙ is)))
 
@@ -198,8 +199,8 @@ module _ (p : Parts) (lines : List Line) (stop : Option ℕ) where
           not_entry k = k
       by_case (inr (inl h)) = subst (IsJudged p lines stop) (sym h.0) (λ bytes r same.
           let line : length es + 5 ≡ i + 1 + 3 = omega (arith, right.count) in
-          subst (IsInvalid p bytes) line (ended-more p right.following.played.valid right.following.played.built bytes lines stop r es same (play-of-part g es right.following.part h.1) long ended
+          subst (IsInvalid p bytes) line (ended-more p right.following.played.valid right.following.played.built bytes lines stop r es same (play-of-part g es right.following.begun h.1) long ended
           (λ count none. h.2 (omega (arith, count, right.count)) none)))
       by_case (inr (inr h)) = subst (IsJudged p lines stop) (sym (h.0 ∙ ap Valid right.following.count_is)) (λ bytes r same.
           let all : lines ≡ lines_so_far g es ++ end_line ∷ [] = sym (take_all (length es + 2) lines (omega (arith, h.2, right.count))) ∙ ended in
-          ended-valid p right.following.played.valid right.following.played.built bytes lines stop r es same (play-of-part g es right.following.part h.1) all h.3)
+          ended-valid p right.following.played.valid right.following.played.built bytes lines stop r es same (play-of-part g es right.following.begun h.1) all h.3)

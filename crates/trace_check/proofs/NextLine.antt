@@ -15,13 +15,12 @@ use Rattle.group_state.specs.Groups.{IsProcessorOf}
 use Rattle.trace_lines.specs.Lines.{Line, group_line, entry_line, end_line}
 use Rattle.trace_text.specs.TraceText.{block_lines, entry_lines, group_lines, lines_from, links_at}
 use Rattle.trace_text.proofs.LineLaws.{blocks_none}
-use Rattle.trace_laws.specs.Scripts.{IsPlayOf, script, steps_given, steps_of}
+use Rattle.rt_plays.proofs.ScriptParts.{script-append}
+use Rattle.rt_plays.specs.Drives.{steps_given}
+use Rattle.rt_plays.specs.ScriptPlays.{IsScriptPlay}
+use Rattle.rt_plays.specs.Scripts.{script, steps_of}
 use Rattle.trace_laws.proofs.Plays.{play-is-played}
-use Rattle.trace_laws.proofs.PartLaws.{script-append}
-
--- the one group of a set that is built
-abbrev pub group_0 : Parts → Group
-group_0 p = record { setup = p; number = 0 }
+use Rattle.trace_check.specs.Following.{first_group}
 
 -- the group line and one line for each entry
 abbrev pub lines_so_far : Group → List Entry → List Line
@@ -70,18 +69,18 @@ lines_so_far-append g es e =
     ∙ ap (λ (ls : List Line). lines_so_far g es ++ ls) (entry_lines-next g es e [] ∙ ap (λ (ls : List Line). next_line g es e ∷ ls) (entry_lines-none g (length es + 1) (after g e.step (past_of g es))))
 
 -- all the lines of a whole history: no semaphore is asked for
-pub whole-lines : (p : Parts) (es : List Entry) → IsValid p → is_built p ≡ true → IsPlayOf (group_0 p) es
-    → lines_from p 0 (es ∷ []) ≡ lines_so_far (group_0 p) es ++ end_line ∷ []
+pub whole-lines : (p : Parts) (es : List Entry) → IsValid p → is_built p ≡ true → IsScriptPlay (first_group p) es
+    → lines_from p 0 (es ∷ []) ≡ lines_so_far (first_group p) es ++ end_line ∷ []
 unfolding group_lines
 whole-lines p es valid built play =
-    let g : Group = group_0 p in
+    let g : Group = first_group p in
     let none : block_lines g (past_of g es) ≡ [] = blocks_none g es (play-is-played p es valid built play) in
     ap (λ (bs : List Line). (group_line 0 (links_at g [] (group_processors g)) ∷ (entry_lines g 0 [] es ++ bs)) ++ end_line ∷ []) none
     ∙ ap (λ (ls : List Line). (group_line 0 (links_at g [] (group_processors g)) ∷ ls) ++ end_line ∷ []) (append-nil (entry_lines g 0 [] es))
 
-pub length-whole : (p : Parts) (es : List Entry) → IsValid p → is_built p ≡ true → IsPlayOf (group_0 p) es → length (lines_from p 0 (es ∷ [])) ≡ length es + 2
+pub length-whole : (p : Parts) (es : List Entry) → IsValid p → is_built p ≡ true → IsScriptPlay (first_group p) es → length (lines_from p 0 (es ∷ [])) ≡ length es + 2
 length-whole p es valid built play =
-    let g : Group = group_0 p in
+    let g : Group = first_group p in
     omega (arith, ap length (whole-lines p es valid built play), length-append (lines_so_far g es) (end_line ∷ []), length-so_far g es)
 
 -- ---- the line after some
@@ -106,10 +105,10 @@ second_lines : (l m : Line) (ls ms : List Line) → l ∷ ls ≡ m ∷ ms → ls
 second_lines l m ls ms h = cc
 
 -- a whole history whose first lines are those of some entries begins with them
-pub begins-so : (p : Parts) (es es' : List Entry) → IsValid p → is_built p ≡ true → IsPlayOf (group_0 p) es' → length es ≤ length es'
-    → take (length es + 1) (lines_from p 0 (es' ∷ [])) ≡ lines_so_far (group_0 p) es → (rest : List Entry) × (es' ≡ es ++ rest)
+pub begins-so : (p : Parts) (es es' : List Entry) → IsValid p → is_built p ≡ true → IsScriptPlay (first_group p) es' → length es ≤ length es'
+    → take (length es + 1) (lines_from p 0 (es' ∷ [])) ≡ lines_so_far (first_group p) es → (rest : List Entry) × (es' ≡ es ++ rest)
 begins-so p es es' valid built play few same =
-    let g : Group = group_0 p in
+    let g : Group = first_group p in
     let n : length es + 1 ≡ suc (length es) = omega arith in
     let within : length es + 1 ≤ length (lines_so_far g es') = omega (arith, few, length-so_far g es') in
     let so_far : take (length es + 1) (lines_so_far g es') ≡ lines_so_far g es = sym (take-append-le (length es + 1) (lines_so_far g es') (end_line ∷ []) within) ∙ ap (take (length es + 1)) (sym (whole-lines p es' valid built play)) ∙ same in
@@ -134,9 +133,9 @@ pub record HasEnd (es es' : List Entry) (line : Line) : Type 0 where
   pub is_whole : es' ≡ es
   pub line_is : line ≡ end_line
 
-pub next-line : (p : Parts) (es es' : List Entry) (d : Line) → IsValid p → is_built p ≡ true → IsPlayOf (group_0 p) es' → length es + 2 ≤ length (lines_from p 0 (es' ∷ []))
-    → take (length es + 1) (lines_from p 0 (es' ∷ [])) ≡ lines_so_far (group_0 p) es
-    → HasNext (group_0 p) es es' (get_or (lines_from p 0 (es' ∷ [])) (length es + 1) d) ⊎ HasEnd es es' (get_or (lines_from p 0 (es' ∷ [])) (length es + 1) d)
+pub next-line : (p : Parts) (es es' : List Entry) (d : Line) → IsValid p → is_built p ≡ true → IsScriptPlay (first_group p) es' → length es + 2 ≤ length (lines_from p 0 (es' ∷ []))
+    → take (length es + 1) (lines_from p 0 (es' ∷ [])) ≡ lines_so_far (first_group p) es
+    → HasNext (first_group p) es es' (get_or (lines_from p 0 (es' ∷ [])) (length es + 1) d) ⊎ HasEnd es es' (get_or (lines_from p 0 (es' ∷ [])) (length es + 1) d)
 unfolding past_of
 next-line p es es' d valid built play within same =
     let few : length es ≤ length es' = omega (arith, within, length-whole p es' valid built play) in
@@ -144,7 +143,7 @@ next-line p es es' d valid built play within same =
     by_rest begun.0 begun.1
   where
     g : Group
-    g = group_0 p
+    g = first_group p
 
     lines : List Line
     lines = lines_from p 0 (es' ∷ [])
@@ -171,7 +170,7 @@ next-line p es es' d valid built play within same =
         })
 
 -- its step is the next of its processor's script
-pub next-of_script : (g : Group) (es : List Entry) (e : Entry) (more : List Entry) → IsPlayOf g (es ++ e ∷ more)
+pub next-of_script : (g : Group) (es : List Entry) (e : Entry) (more : List Entry) → IsScriptPlay g (es ++ e ∷ more)
     → script (steps_given g.setup.drive) e.step.cpu.0 ≡ script (steps_of es) e.step.cpu.0 ++ e.step ∷ script (steps_of more) e.step.cpu.0
 next-of_script g es e more play =
     let inside : length es < length (es ++ e ∷ more) = omega (arith, length-append es (e ∷ more)) in

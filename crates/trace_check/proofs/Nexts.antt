@@ -2,6 +2,7 @@
 use Rattle.std.proofs.Common.{◌≡◌, ℕ, zero, suc, ◌+◌, ◌<◌, ◌≤◌, true, List, [], ◌∷◌, ◌++◌, length, take, drop, get_or, refl, sym, ap, ◌∙◌, subst, arith, append_assoc, length-append}
 use Rattle.std.specs.Prelude.{replicate}
 use Rattle.std.proofs.lemmas.List.{get_or_default, length-replicate}
+use Rattle.rt_base.specs.declared.TheConstants.{MOST_STEPS}
 use Rattle.rt_task.specs.declared.Act.TheVariants as acts
 use Rattle.rt_task.specs.declared.Parts.{Parts}
 use Rattle.rt_task.specs.declared.Step.{Step}
@@ -21,8 +22,9 @@ use Rattle.group_state.proofs.PlainGroup.{IsPlainGroup}
 use Rattle.group_state.proofs.Limits.{plain}
 use Rattle.group_state.proofs.Stepping.{inside}
 use Rattle.trace_text.proofs.GroupLaws.{processor_there}
-use Rattle.trace_laws.specs.Scripts.{script, steps_given, steps_of}
-use Rattle.trace_laws.proofs.PartLaws.{script-take-next, script-take-drop, part-first}
+use Rattle.rt_plays.proofs.ScriptParts.{part-first, script-take-drop, script-take-next}
+use Rattle.rt_plays.specs.Drives.{steps_given}
+use Rattle.rt_plays.specs.Scripts.{script, steps_of}
 use Rattle.trace_check.specs.declared.follow.Follow.{Follow}
 use Rattle.trace_check.specs.Next.{IsNextAt}
 use Rattle.trace_check.specs.Following.{first_group, IsFollowing, IsFollowingWith, IsPassed, IsNextPlace, IsNextStep, Place}
@@ -140,7 +142,7 @@ pub record IsMadeOf (p : Parts) (f : Follow) : Type 0 where
   pub there : IsGroupOf p 0
   pub setup_is : f.afresh.setup ≡ p
   pub group_is : f.afresh.group ≡ 0
-  pub spare_is : f.afresh.spare ≡ 200000
+  pub spare_is : f.afresh.spare ≡ MOST_STEPS
   pub at : IsAt f.afresh []
   pub cpus_are : f.cpus ≡ cpus (first_group p) 0
   pub links_are : (past : Past) → IsAt f.afresh past → links_of f.links.items ≡ links_at (group_of f.afresh) past (numbers_from 0 f.cpus)
@@ -157,7 +159,7 @@ following-first p f m =
     let same : group_of f.afresh ≡ first_group p = group-made p f.afresh m.setup_is m.group_is in
     record {
       played = played;
-      part = part-first (first_group p);
+      begun = part-first (first_group p);
       at = subst (λ past. IsAt f.afresh past) (sym (past-none (first_group p))) m.at;
       group_is = same;
       count_is = m.count_is;

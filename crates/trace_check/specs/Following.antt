@@ -1,5 +1,6 @@
 -- A group's lines, followed step by step, as contracts see it.
 use Rattle.std.specs.Prelude.{◌≡◌, true, ℕ, ◌+◌, ◌<◌, ◌≤◌, List, [], ◌∷◌, ◌++◌, length, take, slice_index, slice_index_or}
+use Rattle.rt_base.specs.declared.TheConstants.{MOST_STEPS}
 use Rattle.rt_task.specs.declared.Parts.{Parts}
 use Rattle.rt_task.specs.declared.Step.{Step}
 use Rattle.rt_history.specs.declared.Entry.{Entry}
@@ -11,8 +12,10 @@ use Rattle.group_state.specs.State.{IsPlayed}
 use Rattle.rank_afresh.specs.Standing.{IsAt, group_of}
 use Rattle.trace_lines.specs.Lines.{Link, links_of}
 use Rattle.trace_text.specs.TraceText.{links_at}
-use Rattle.trace_laws.specs.Scripts.{script, steps_given, steps_of}
-use Rattle.trace_laws.proofs.PartLaws.{IsPartOf}
+use Rattle.rt_plays.specs.Drives.{steps_given}
+use Rattle.rt_plays.specs.Plays.{group_with}
+use Rattle.rt_plays.specs.ScriptPlays.{IsBegunScriptPlay}
+use Rattle.rt_plays.specs.Scripts.{script, steps_of}
 use Rattle.trace_check.specs.declared.follow.Follow.{Follow}
 
 -- the first steps of a processor that are behind it, and those that its entries took
@@ -22,16 +25,16 @@ pub record IsPassed (steps : List Step) (es : List Entry) (q passed : ℕ) : Typ
 
 -- the one group of a set that is played
 abbrev pub first_group : Parts → Group
-first_group p = record { setup = p; number = 0 }
+first_group p = group_with p 0
 
 -- these entries of the group were followed
 pub record IsFollowing (g : Group) (es : List Entry) (f : Follow) : Type 0 where
   pub played : IsPlayed g
-  pub part : IsPartOf g es
+  pub begun : IsBegunScriptPlay g es
   pub at : IsAt f.afresh (past_of g es)
   pub group_is : group_of f.afresh ≡ g
   pub count_is : f.count ≡ length es
-  pub spare_is : f.afresh.spare + length es ≡ 200000
+  pub spare_is : f.afresh.spare + length es ≡ MOST_STEPS
   pub cpus_are : f.cpus ≡ cpus g 0
   pub links_are : links_of f.links.items ≡ links_at g (past_of g es) (group_processors g)
   pub passed_length : length f.passed.items ≡ cpus g 0

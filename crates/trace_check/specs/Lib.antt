@@ -3,4 +3,3 @@ pub mod Next
 pub mod SameLinks
 pub mod Following
 pub mod Judging
-pub mod Head

@@ -9,8 +9,8 @@ ghost use Rattle.trace_check.specs.Judging.{IsEndVerdict, IsJudged, begins_with}
 use crate::Verdict;
 use crate::follow::Follow;
 use crate::links::are_same;
-use crate::scripts::steps_in;
 use rt_base::NoMemory;
+use rt_plays::steps_given;
 use rt_task::{Setup, Step};
 use std::alloc::Global;
 use trace_read::Line;
@@ -53,7 +53,7 @@ pub(crate) fn judge_lines(
     requires built { is_built setup.now ≡ true }
     ensures { IfOk result (λ v. IsJudged setup.now (lines_of lines.now) stop v) }
 {
-    let steps = steps_in(&setup.parts().drive);
+    let steps = steps_given(&setup.parts().drive);
     let mut follow = Follow::open(alloc, setup)?;
     if !begins(&follow, lines) {
         return wrong_at(0);
@@ -82,7 +82,10 @@ fn end_at(
 ) -> Result<Verdict, NoMemory>
     requires steps { (at : Place) × IsFollowingWith at steps.now follow.now }
     requires place { place < count }
-    ensures { IfOk result (λ v. (at : Place) → IsFollowingWith at steps.now follow.now → IsEndVerdict at follow.now.count place count stop v) }
+    ensures {
+        IfOk result (λ v. (at : Place) → IsFollowingWith at steps.now follow.now
+            → IsEndVerdict at follow.now.count place count stop v)
+    }
 {
     if !follow.is_over(steps) {
         return wrong_at(place);

@@ -1,4 +1,5 @@
-//! Checks a trace: whether its lines are the ones that its set gives, in some order of its processors' steps.
+//! Checks a trace: whether its lines are the ones that its set gives, in some order of its
+//! processors' steps.
 #![tactic(auto)]
 
 ghost use Rattle.std.specs.Prelude.{◌≡◌, IfOk, true};
@@ -23,9 +24,9 @@ use std::alloc::Global;
 use trace_read::Trace;
 pub use verdict::Verdict;
 
-/// Whether the text that a trace was read of is valid for its set: the canonical set, and for each group the lines of a
-/// legal history in which each processor's steps are its script, and the line `end` last. Else the first line that is
-/// wrong: one more than the greatest number of lines with which a valid text begins as this one does.
+/// Whether the text that a trace was read of is valid for its set: the canonical set, and for each
+/// group the lines of a play of it, and the line `end` last. Else the first line that is wrong: one
+/// more than the greatest number of lines with which a valid text begins as this one does.
 ///
 /// The steps are replayed by `Afresh`.
 pub fn check_trace(alloc: Global, bytes: &[u8], trace: &Trace) -> Result<Verdict, NoMemory>

@@ -1,19 +1,17 @@
 //! The links of a group's processors, read from the ranker.
-ghost use Rattle.std.specs.Prelude.{◌≡◌, ◌<◌, ◌++◌, ◌∷◌, [], ℕ, All, OnOk};
-ghost use Rattle.rt_base.specs.TaskNos.{number_of_task};
-ghost use Rattle.rt_rules.specs.Numbers.{numbers_from, same};
+ghost use Rattle.std.specs.Prelude.{◌≡◌, ◌<◌, ◌++◌, ◌∷◌, [], ℕ, OnOk};
+ghost use Rattle.rt_rules.specs.Numbers.{numbers_from};
 ghost use Rattle.rt_model.specs.Past.{Past};
-ghost use Rattle.rt_model.specs.Links.{linked};
 ghost use Rattle.group_state.specs.Groups.{IsProcessorOf};
 ghost use Rattle.rank_afresh.specs.Standing.{IsAt, group_of};
 ghost use Rattle.trace_lines.specs.Lines.{links_of};
 ghost use Rattle.trace_text.specs.TraceText.{links_at};
-ghost use Rattle.trace_text.specs.Groups.{changed_links};
 ghost use Rattle.trace_check.specs.SameLinks.{same_links};
 
 use rank_afresh::Afresh;
-use rt_base::{CpuNo, NoMemory, TaskNo};
+use rt_base::{CpuNo, NoMemory};
 use trace_lines::CpuLink;
+use trace_text::is_same_task;
 
 fn put_link(links: &mut Vec<CpuLink>, link: CpuLink) -> Result<(), NoMemory>
     ensures { OnOk result (links.new.items ≡ links.old.items ++ link ∷ []) }
@@ -31,7 +29,10 @@ pub(crate) fn read_links(
     links: &mut Vec<CpuLink>,
 ) -> Result<(), NoMemory>
     requires { (q : ℕ) → q < cpus → IsProcessorOf (group_of afresh.now) q }
-    ensures { OnOk result ((past : Past) → IsAt afresh.now past → links_of links.new.items ≡ links_at (group_of afresh.now) past (numbers_from 0 cpus)) }
+    ensures {
+        OnOk result ((past : Past) → IsAt afresh.now past
+            → links_of links.new.items ≡ links_at (group_of afresh.now) past (numbers_from 0 cpus))
+    }
 {
     links.clear();
     for q in 0..cpus {
@@ -44,40 +45,6 @@ pub(crate) fn read_links(
     Ok(())
 }
 
-fn is_same(a: Option<TaskNo>, b: Option<TaskNo>) -> bool
-    ensures { result ≡ same (number_of_task a) (number_of_task b) }
-{
-    match (a, b) {
-        (Some(t), Some(u)) => t.0 == u.0,
-        (None, None) => true,
-        _ => false,
-    }
-}
-
-/// Puts those of the links that are others now, as they are now, in the place of what stood in `changed`.
-pub(crate) fn read_changed(
-    afresh: &Afresh,
-    links: &[CpuLink],
-    changed: &mut Vec<CpuLink>,
-) -> Result<(), NoMemory>
-    requires { All (λ x. IsProcessorOf (group_of afresh.now) x.cpu.0) links.now }
-    ensures { OnOk result ((past : Past) → IsAt afresh.now past → links_of changed.new.items ≡ changed_links (λ q. linked (group_of afresh.now) q past) (links_of links.now)) }
-{
-    changed.clear();
-    for link in links {
-        let task = afresh.linked(link.cpu);
-        if is_same(link.task, task) {
-            continue;
-        }
-        let link = CpuLink {
-            cpu: link.cpu,
-            task,
-        };
-        put_link(changed, link)?;
-    }
-    Ok(())
-}
-
 /// Whether two lists have the same links.
 pub(crate) fn are_same(a: &[CpuLink], b: &[CpuLink]) -> bool
     ensures { result ≡ same_links (links_of a.now) (links_of b.now) }
@@ -86,7 +53,7 @@ pub(crate) fn are_same(a: &[CpuLink], b: &[CpuLink]) -> bool
         return false;
     }
     for (i, x) in a.iter().enumerate() {
-        if x.cpu.0 != b[i].cpu.0 || !is_same(x.task, b[i].task) {
+        if x.cpu.0 != b[i].cpu.0 || !is_same_task(x.task, b[i].task) {
             return false;
         }
     }

@@ -1,25 +1,20 @@
 //! The scripts of processors.
-ghost use Rattle.std.specs.Prelude.{◌≡◌, ◌<◌, ◌≤◌, ◌==◌, true, length, take, slice_get, MatchOption, Some};
-ghost use Rattle.trace_laws.specs.Scripts.{script, steps_given};
+ghost use Rattle.std.specs.Prelude.{◌≡◌, ◌<◌, ◌≤◌, ◌==◌, true, length, take};
+ghost use Rattle.std.specs.Prelude.{MatchOption, Some, slice_get};
+ghost use Rattle.rt_plays.specs.Scripts.{script};
 ghost use Rattle.trace_check.specs.Next.{IsNextAt};
 
 use rt_base::CpuNo;
-use rt_task::{Drive, Step};
-
-/// The steps of a set; one with a horizon has none.
-pub(crate) fn steps_in(drive: &Drive) -> &[Step]
-    ensures { result.now ≡ steps_given drive.now }
-{
-    match drive {
-        Drive::Steps(steps) => steps.as_slice(),
-        Drive::Horizon(_) => &[],
-    }
-}
+use rt_task::Step;
 
 /// The place of the processor's next step from a place on.
 pub(crate) fn next_of(steps: &[Step], from: usize, cpu: CpuNo) -> Option<usize>
     requires { from ≤ length steps.now }
-    ensures { MatchOption result (script steps.now cpu.0 ≡ script (take from steps.now) cpu.0) (λ j. IsNextAt steps.now from cpu.0 j) }
+    ensures {
+        MatchOption result
+            (script steps.now cpu.0 ≡ script (take from steps.now) cpu.0)
+            (λ j. IsNextAt steps.now from cpu.0 j)
+    }
 {
     for j in from..steps.len() {
         if steps[j].cpu.0 == cpu.0 {

@@ -3,7 +3,7 @@ use Rattle.std.proofs.Common.{◌≡◌, ℕ, ◌+◌, ◌^◌, ◌<◌, ◌≤�
 use Rattle.std.specs.Prelude.{◌==◌, All, Option, None, Some}
 use Rattle.std.proofs.lemmas.List.{length-map}
 use Rattle.std.proofs.lemmas.List.Elements.{All-append, All-cons, All-nil, All-tail}
-use Rattle.rt_base.specs.declared.TheConstants.{TICK_END}
+use Rattle.rt_base.specs.declared.TheConstants.{MOST_STEPS, TICK_END}
 use Rattle.rt_task.specs.declared.Act.{Act}
 use Rattle.rt_task.specs.declared.Act.TheVariants as acts
 use Rattle.rt_task.specs.declared.Op.TheVariants as ops
@@ -16,14 +16,13 @@ use Rattle.rt_history.specs.declared.Reply.TheVariants as replies
 use Rattle.rt_rules.specs.Numbers.{has, is}
 use Rattle.rt_rules.proofs.BoolLaws.{both, or_true}
 use Rattle.rt_rules.proofs.MemberLaws.{equal_self, has-filter}
-use Rattle.rt_rules.proofs.NumberLaws.{has-numbers_from}
+use Rattle.rt_rules.proofs.NumberLaws.{has-numbers_from, numbers_from-below}
 use Rattle.rt_model.specs.Group.{Group, cpus, group_processors, tasks}
 use Rattle.rt_model.specs.Histories.{IsLegalFrom, after, changed, past_of, reply_to}
 use Rattle.rt_model.specs.Links.{linked}
-use Rattle.rt_model.specs.Made.{IsMade, acted, clocked, opened}
+use Rattle.rt_model.specs.Reachable.{IsReachable, acted, clocked, opened}
 use Rattle.rt_model.specs.Past.{Past, Clock}
 use Rattle.rt_model.proofs.AnswerLaws.{answer-runs_link, to_run}
-use Rattle.rt_model.proofs.PastLaws.{numbers_from-below}
 use Rattle.rt_model.proofs.Steps.{reply_to-lem}
 use Rattle.rt_laws.proofs.LinkedTasks.{linked-eligible}
 use Rattle.group_state.specs.Built.{is_built, is_built_act}
@@ -34,7 +33,9 @@ use Rattle.trace_lines.specs.Known.{ActIsKnown, IsLine, IsNumberOf, Known, LinkI
 use Rattle.trace_lines.specs.Lines.{Link, end_line, entry_line, group_line}
 use Rattle.trace_text.specs.TraceText.{block_lines, entry_lines, group_lines, lines_from, links_at}
 use Rattle.trace_text.proofs.LineLaws.{blocks_none}
-use Rattle.trace_laws.specs.Scripts.{IsPlayOf}
+use Rattle.rt_plays.specs.Plays.{group_with}
+use Rattle.rt_plays.specs.ScriptPlays.{IsScriptPlay}
+use Rattle.rt_plays.proofs.ScriptParts.{begun-whole}
 use Rattle.trace_laws.proofs.Plays.{few-entries, play-is-played, play-steps, the_plain_group}
 use Rattle.trace_laws.proofs.StepsGiven.{IsGivenStep}
 
@@ -60,7 +61,7 @@ act-known k (acts.Do ops.NpOn) h = tt
 act-known k (acts.Do ops.NpOff) h = tt
 act-known k (acts.Do ops.End) h = tt
 
-made-after : (g : Group) (s : Step) {past : Past} → IsMade g past → IsMade g (after g s past)
+made-after : (g : Group) (s : Step) {past : Past} → IsReachable g past → IsReachable g (after g s past)
 unfolding after
 made-after g s made = acted s.cpu.0 s.act (clocked s.tick.0 made)
 
@@ -79,7 +80,7 @@ module _ (g : Group) (plain : IsPlainGroup g) where
       let few : length g.setup.tasks ≤ 1024 = plain.set.few_tasks in
       record { low = low; high = omega arith; fits = omega arith }
 
-  linked-known : {past : Past} → IsMade g past → (q : ℕ) → TargetIsKnown k (linked g q past)
+  linked-known : {past : Past} → IsReachable g past → (q : ℕ) → TargetIsKnown k (linked g q past)
   linked-known {past} made q = target-known k (linked g q past) (λ t h. task-known t (linked-eligible g made q t h).member)
 
   processor-low : (q : ℕ) → IsProcessorOf g q → q < 64
@@ -87,17 +88,17 @@ module _ (g : Group) (plain : IsPlainGroup g) where
       let low : q < 0 + cpus g 0 = numbers_from-below q 0 (cpus g 0) (rw plain.processors_are at h) in
       omega (arith, low, plain.cpus_high)
 
-  links-known : {past : Past} → IsMade g past → (qs : List ℕ) → ((q : ℕ) → has q qs ≡ true → IsProcessorOf g q) → All (LinkIsKnown k) (links_at g past qs)
+  links-known : {past : Past} → IsReachable g past → (qs : List ℕ) → ((q : ℕ) → has q qs ≡ true → IsProcessorOf g q) → All (LinkIsKnown k) (links_at g past qs)
   links-known made [] there = All-nil (LinkIsKnown k)
   links-known {past} made (q ∷ qs) there =
       let low : q < 64 = processor-low q (there q (rw (equal_self q))) in
       All-cons (LinkIsKnown k) (q, linked g q past) (links_at g past qs) (omega arith, linked-known made q) (links-known made qs (λ r h. there r (rw h (or_true (r == q)))))
 
-  legal-reply : (s : Step) {past : Past} → IsMade g past → ReplyIsKnown k (reply_to g s past)
+  legal-reply : (s : Step) {past : Past} → IsReachable g past → ReplyIsKnown k (reply_to g s past)
   legal-reply s {past} made =
       reply-known k (reply_to g s past) (λ t h. task-known t (linked-eligible g (clocked s.tick.0 made) s.cpu.0 t (answer-runs_link g s.cpu.0 t s.act (Clock s.tick.0 ∷ past) (rw reply_to-lem at h))).member)
 
-  entry-known : (i : ℕ) (e : Entry) {past : Past} → IsMade g past → e.reply ≡ reply_to g e.step past → IsGivenStep g e.step → i < 2 ^ 32
+  entry-known : (i : ℕ) (e : Entry) {past : Past} → IsReachable g past → e.reply ≡ reply_to g e.step past → IsGivenStep g e.step → i < 2 ^ 32
       → IsLine k (entry_line i e (links_at g (after g e.step past) (changed g past (after g e.step past))))
   entry-known i e {past} made legal given low =
       let tick : e.step.tick.0 < TICK_END = given.tick_low in
@@ -111,7 +112,7 @@ module _ (g : Group) (plain : IsPlainGroup g) where
         links_known = links-known (made-after g e.step made) (changed g past (after g e.step past)) (changed-processor g past (after g e.step past));
       }
 
-  entries-known : (i : ℕ) (es : List Entry) {past : Past} → IsMade g past → IsLegalFrom g past es → All (λ (e : Entry). IsGivenStep g e.step) es → i + length es ≤ 2 ^ 32 → All (IsLine k) (entry_lines g i past es)
+  entries-known : (i : ℕ) (es : List Entry) {past : Past} → IsReachable g past → IsLegalFrom g past es → All (λ (e : Entry). IsGivenStep g e.step) es → i + length es ≤ 2 ^ 32 → All (IsLine k) (entry_lines g i past es)
   unfolding entry_lines
   entries-known i [] made legal given low = All-nil (IsLine k)
   entries-known i (e ∷ es) {past} made legal given low =
@@ -127,12 +128,12 @@ module _ (g : Group) (plain : IsPlainGroup g) where
       (omega (arith, plain.number_is), omega (arith, many, same, plain.cpus_low), links-known opened (group_processors g) (λ q h. h))
 
 -- each line of the history's text, with the line `end`
-pub known-lines : (p : Parts) (es : List Entry) → IsValid p → is_built p ≡ true → IsPlayOf (record { setup = p; number = 0 }) es → All (IsLine (known_of p)) (lines_from p 0 (es ∷ []))
+pub known-lines : (p : Parts) (es : List Entry) → IsValid p → is_built p ≡ true → IsScriptPlay (group_with p 0) es → All (IsLine (known_of p)) (lines_from p 0 (es ∷ []))
 unfolding group_lines
 known-lines p es valid built play =
-    let g : Group = record { setup = p; number = 0 } in
+    let g : Group = group_with p 0 in
     let plain : IsPlainGroup g = the_plain_group p valid built in
-    let few : length es ≤ 200000 = few-entries p es valid built play in
+    let few : length es ≤ MOST_STEPS = few-entries p es valid built (begun-whole (group_with p 0) es play) in
     let entries : All (IsLine (known_of p)) (entry_lines g 0 [] es) = entries-known g plain 0 es opened play.legal (play-steps p es valid built play) (omega arith) in
     let none : block_lines g (past_of g es) ≡ [] = blocks_none g es (play-is-played p es valid built play) in
     let listed : All (IsLine (known_of p)) (entry_lines g 0 [] es ++ block_lines g (past_of g es)) = rw (none, append-nil (entry_lines g 0 [] es)) entries in

@@ -6,5 +6,3 @@ pub mod OneLine
 pub mod Heads
 pub mod ReadBack
 pub mod Alike
-pub mod PartLaws
-pub mod Completion

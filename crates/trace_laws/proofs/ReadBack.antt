@@ -3,13 +3,11 @@ use Rattle.std.proofs.Common.{◌≡◌, ◌≢◌, ℕ, ◌+◌, true, List, []
 use Rattle.std.specs.Prelude.{flat_map}
 use Rattle.rt_task.specs.declared.bad_set.BadSet.{BadSet}
 use Rattle.rt_task.specs.declared.Parts.{Parts}
-use Rattle.rt_task.specs.Validity.{IsValid}
 use Rattle.rt_history.specs.declared.Entry.{Entry}
 use Rattle.rt_model.specs.Group.{Group}
 use Rattle.rt_model.specs.Past.{Past}
 use Rattle.rt_model.specs.Histories.{after, past_of}
 use Rattle.rt_model.specs.Blocking.{Asked, requests}
-use Rattle.group_state.specs.Built.{is_built}
 use Rattle.set_canonical.specs.Canonical.{canonical}
 use Rattle.set_read.specs.Sets.{set}
 use Rattle.set_laws.proofs.CanonicalLaws.{set-of-canonical}
@@ -21,8 +19,7 @@ use Rattle.trace_text.specs.TraceText.{lines_from, trace_text, entry_lines, bloc
 use Rattle.trace_read.specs.Reads.{HasHead, AreLines, stop_at}
 use Rattle.trace_read.specs.declared.fault.TraceFault.TheVariants as faults
 use Rattle.trace_read.proofs.LineLaws.{line_body, line_text-ends, lines-unique}
-use Rattle.trace_laws.specs.Scripts.{ArePlays}
-use Rattle.trace_laws.specs.TraceLaws.{TraceIsRead, TraceIsNotRefused, TracesTellApart}
+use Rattle.trace_laws.specs.TraceLaws.{ArePlayed, TraceIsRead, TraceIsNotRefused, TracesTellApart}
 use Rattle.trace_laws.proofs.OneLine.{canonical-one_line}
 use Rattle.trace_laws.proofs.Heads.{head-unique, trace-begins, trace-head}
 use Rattle.trace_laws.proofs.KnownLines.{known-lines}
@@ -38,10 +35,10 @@ no_text l more e =
 pub are-lines : (k : Known) (ls : List Line) → All (IsLine k) ls → AreLines k (flat_map line_text ls) ls []
 are-lines k ls known = record { lines_known = known; text_is = sym (append-nil (flat_map line_text ls)); none_further = λ l more is e. no_text l more e }
 
-pub all_known : (p : Parts) (hs : List (List Entry)) → IsValid p → is_built p ≡ true → ArePlays p hs → All (IsLine (known_of p)) (lines_from p 0 hs)
-all_known p hs valid built plays =
-    let one = plays-of-one p hs valid built plays in
-    subst (λ (xs : List (List Entry)). All (IsLine (known_of p)) (lines_from p 0 xs)) (sym one.1) (known-lines p one.0 valid built one.2)
+pub all_known : (p : Parts) (hs : List (List Entry)) → ArePlayed p hs → All (IsLine (known_of p)) (lines_from p 0 hs)
+all_known p hs played =
+    let one = plays-of-one p hs played.valid played.built played.plays in
+    subst (λ (xs : List (List Entry)). All (IsLine (known_of p)) (lines_from p 0 xs)) (sym one.1) (known-lines p one.0 played.valid played.built one.2)
 
 -- ---- it is read
 
@@ -54,10 +51,11 @@ lines_read k rest left lines ls stop known same are stop_is =
     (both.0, stop_is ∙ ap (stop_at lines) both.1)
 
 pub trace-is-read : TraceIsRead
-trace-is-read p q hs lines stop valid built plays t =
+trace-is-read p q hs lines stop played t =
+    let valid = played.valid in
     let heads = head-unique (trace_text format_1 p hs) t.set_text t.rest (canonical p) (flat_map line_text (lines_from p 0 hs)) t.head (trace-head p hs (canonical-one_line p valid)) in
     let same : q ≡ p = same_set t.set_text (canonical p) p q heads.0 t.set_is (set-of-canonical p valid) in
-    let read = lines_read (known_of p) t.rest t.left lines (lines_from p 0 hs) stop (all_known p hs valid built plays) heads.1
+    let read = lines_read (known_of p) t.rest t.left lines (lines_from p 0 hs) stop (all_known p hs played) heads.1
     (subst (λ (x : Parts). AreLines (known_of x) t.rest lines t.left) same t.lines_are) t.stop_is in
     (same, read.0, read.1)
 
@@ -67,13 +65,13 @@ no_bad_set : (s t : List ℕ) (p : Parts) (b : BadSet) → s ≡ t → set s ≡
 no_bad_set s t p b same g h = let both = sym g ∙ ap set same ∙ h in cc
 
 pub trace-is-not-refused : TraceIsNotRefused
-trace-is-not-refused p hs (faults.NotTrace n) valid built plays (inl h) = absurd (h.1 _ (trace-begins p hs))
-trace-is-not-refused p hs (faults.NotTrace n) valid built plays (inr h) =
-    absurd (h.1.no_set (canonical p) (flat_map line_text (lines_from p 0 hs)) (trace-head p hs (canonical-one_line p valid)))
-trace-is-not-refused p hs (faults.BadSet b) valid built plays h =
-    let heads = head-unique (trace_text format_1 p hs) h.set_text h.rest (canonical p) (flat_map line_text (lines_from p 0 hs)) h.head (trace-head p hs (canonical-one_line p valid)) in
-    absurd (no_bad_set h.set_text (canonical p) p b heads.0 h.refused (set-of-canonical p valid))
-trace-is-not-refused p hs faults.NoMemory valid built plays h = refl
+trace-is-not-refused p hs (faults.NotTrace n) played (inl h) = absurd (h.1 _ (trace-begins p hs))
+trace-is-not-refused p hs (faults.NotTrace n) played (inr h) =
+    absurd (h.1.no_set (canonical p) (flat_map line_text (lines_from p 0 hs)) (trace-head p hs (canonical-one_line p played.valid)))
+trace-is-not-refused p hs (faults.BadSet b) played h =
+    let heads = head-unique (trace_text format_1 p hs) h.set_text h.rest (canonical p) (flat_map line_text (lines_from p 0 hs)) h.head (trace-head p hs (canonical-one_line p played.valid)) in
+    absurd (no_bad_set h.set_text (canonical p) p b heads.0 h.refused (set-of-canonical p played.valid))
+trace-is-not-refused p hs faults.NoMemory played h = refl
 
 -- ---- lines hold their entries
 
@@ -119,13 +117,13 @@ entries-of-one p es =
 
 -- ---- different histories have different texts
 
-same_lines : (p : Parts) (hs hs' : List (List Entry)) → IsValid p → is_built p ≡ true → ArePlays p hs → ArePlays p hs' → trace_text format_1 p hs ≡ trace_text format_1 p hs' → lines_from p 0 hs ≡ lines_from p 0 hs'
-same_lines p hs hs' valid built plays plays' same =
-    let one = canonical-one_line p valid in
+same_lines : (p : Parts) (hs hs' : List (List Entry)) → ArePlayed p hs → ArePlayed p hs' → trace_text format_1 p hs ≡ trace_text format_1 p hs' → lines_from p 0 hs ≡ lines_from p 0 hs'
+same_lines p hs hs' played played' same =
+    let one = canonical-one_line p played.valid in
     let rests = head-unique (trace_text format_1 p hs) (canonical p) (flat_map line_text (lines_from p 0 hs)) (canonical p) (flat_map line_text (lines_from p 0 hs'))
     (trace-head p hs one) (subst (λ (t : List ℕ). HasHead t (canonical p) (flat_map line_text (lines_from p 0 hs'))) (sym same) (trace-head p hs' one)) in
-    (lines_read (known_of p) (flat_map line_text (lines_from p 0 hs)) [] (lines_from p 0 hs) (lines_from p 0 hs') None (all_known p hs' valid built plays') rests.1
-    (are-lines (known_of p) (lines_from p 0 hs) (all_known p hs valid built plays)) refl).0
+    (lines_read (known_of p) (flat_map line_text (lines_from p 0 hs)) [] (lines_from p 0 hs) (lines_from p 0 hs') None (all_known p hs' played') rests.1
+    (are-lines (known_of p) (lines_from p 0 hs) (all_known p hs played)) refl).0
 
 same_entries : (p : Parts) (hs hs' : List (List Entry)) (es es' : List Entry) → hs ≡ es ∷ [] → hs' ≡ es' ∷ [] → lines_from p 0 hs ≡ lines_from p 0 hs' → hs ≡ hs'
 same_entries p hs hs' es es' is is' same =
@@ -134,7 +132,7 @@ same_entries p hs hs' es es' is is' same =
     is ∙ ap (λ (xs : List Entry). xs ∷ []) entries ∙ sym is'
 
 pub traces-tell-apart : TracesTellApart
-traces-tell-apart p hs hs' valid built plays plays' same =
-    let one = plays-of-one p hs valid built plays in
-    let one' = plays-of-one p hs' valid built plays' in
-    same_entries p hs hs' one.0 one'.0 one.1 one'.1 (same_lines p hs hs' valid built plays plays' same)
+traces-tell-apart p hs hs' played played' same =
+    let one = plays-of-one p hs played.valid played.built played.plays in
+    let one' = plays-of-one p hs' played'.valid played'.built played'.plays in
+    same_entries p hs hs' one.0 one'.0 one.1 one'.1 (same_lines p hs hs' played played' same)

@@ -4,13 +4,13 @@ use Rattle.rt_task.specs.declared.Parts.{Parts}
 use Rattle.rt_history.specs.declared.Entry.{Entry}
 use Rattle.trace_lines.specs.FirstLine.{format_1}
 use Rattle.trace_text.specs.TraceText.{trace_text}
-use Rattle.trace_laws.specs.Scripts.{ArePlays}
+use Rattle.rt_plays.specs.Plays.{ArePlays}
 
 -- how many entries the histories have together
 abbrev pub entry_count : List (List Entry) → ℕ
 entry_count hs = sum (map (λ (es : List Entry). length es) hs)
 
--- the text of histories, one for each group, each legal and made of its processors' scripts
+-- the text of plays of the set, one for each group
 pub record IsValidText (p : Parts) (text : List ℕ) (entries : ℕ) : Type 0 where
   pub histories : List (List Entry)
   pub plays : ArePlays p histories

@@ -27,7 +27,7 @@ use Rattle.trace_lines.specs.Lines.{Link, Line, links_of, group_line, entry_line
 use Rattle.trace_lines.specs.declared.links.CpuLink.{CpuLink}
 use Rattle.trace_lines.specs.Grammar.{line_text}
 use Rattle.trace_lines.specs.FirstLine.{first_line, format_1}
-use Rattle.trace_text.specs.TraceText.{links_at, entry_lines, block_lines, group_lines, lines_from, trace_text, set_line}
+use Rattle.trace_text.specs.TraceText.{links_at, entry_lines, block_lines, group_lines, lines_from, trace_text, head_text}
 use Rattle.trace_text.specs.Groups.{AreGroupsOf, Follows, histories}
 
 pub drop_end : {A : Type 0} (xs : List A) (n : ℕ) → length xs ≤ n → drop n xs ≡ []
@@ -155,9 +155,9 @@ pub item_number : (p : Parts) (hs : List GroupHistory) (i : ℕ) (h : GroupHisto
 item_number p hs i h are low e = ap (λ (x : GroupHistory). x.group) e ∙ ap (λ (g : Group). g.number) (history_group p hs i h are low)
 
 -- the first two lines, and the others
-pub trace_parts : (p : Parts) (hs : List GroupHistory) → trace_text format_1 p (histories hs) ≡ (first_line format_1 ++ set_line p) ++ texts (lines_from p 0 (histories hs))
+pub trace_parts : (p : Parts) (hs : List GroupHistory) → trace_text format_1 p (histories hs) ≡ head_text format_1 p ++ texts (lines_from p 0 (histories hs))
 unfolding trace_text
-trace_parts p hs = sym (append_assoc (first_line format_1) (set_line p) (texts (lines_from p 0 (histories hs))))
+trace_parts p hs = refl
 
 pub groups_end : (p : Parts) (hs : List GroupHistory) (i : ℕ) → length hs ≤ i → texts (lines_from p i (histories (drop i hs))) ≡ line_text end_line
 groups_end p hs i h = rw (drop_end hs i h) (append-nil (line_text end_line))

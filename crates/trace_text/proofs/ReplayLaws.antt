@@ -1,6 +1,7 @@
 -- An engine that takes the steps of another again, and the links of its processors.
-use Rattle.std.proofs.Common.{◌≡◌, ℕ, zero, suc, ◌+◌, ◌≤◌, ◌==◌, Bool, true, false, not, List, [], ◌∷◌, map, get_or, refl, sym, ap, ◌∙◌, subst, arith}
+use Rattle.std.proofs.Common.{◌≡◌, ℕ, zero, suc, ◌+◌, ◌≤◌, ◌==◌, Bool, true, false, not, List, [], ◌∷◌, length, map, get_or, refl, sym, ap, ◌∙◌, subst, arith}
 use Rattle.std.specs.Prelude.{All, filter, if◌then◌else◌, Result, Ok, Err, OnOk}
+use Rattle.std.proofs.lemmas.List.{length-map}
 use Rattle.rt_base.specs.declared.CpuNo.{CpuNo}
 use Rattle.rt_task.specs.declared.Step.{Step}
 use Rattle.rt_history.specs.declared.Reply.{Reply}
@@ -14,7 +15,7 @@ use Rattle.rt_model.specs.Past.{Past}
 use Rattle.rt_model.proofs.Steps.{past_of-append}
 use Rattle.group_state.specs.Groups.{GroupHistory, group_of, past, with_entry, IsProcessorOf}
 use Rattle.trace_lines.specs.declared.links.CpuLink.{CpuLink}
-use Rattle.trace_lines.specs.Lines.{Link, links_of}
+use Rattle.trace_lines.specs.Lines.{Link, link_of, links_of}
 use Rattle.trace_text.specs.TraceText.{links_at}
 use Rattle.trace_text.specs.Groups.{cpu_numbers, changed_links, Follows}
 
@@ -44,19 +45,47 @@ links_there g p xs e k d h =
 pub past_step : (h h' : GroupHistory) (s : Step) (r : Reply) → h' ≡ with_entry (record { step = s; reply = r }) h → past h' ≡ after (group_of h) s (past h)
 past_step h h' s r e = ap past e ∙ past_of-append (group_of h) h.entries (record { step = s; reply = r })
 
--- of the links at one past, those that are others at another
-changed_at : (g : Group) (was now : Past) (qs : List ℕ) → changed_links (λ q. linked g q now) (links_at g was qs) ≡ links_at g now (filter (λ q. not (same (linked g q was) (linked g q now))) qs)
+-- of the links at a past, those that were others before
+changed_at : (g : Group) (was now : Past) (qs : List ℕ)
+    → changed_links (links_at g was qs) (links_at g now qs) ≡ links_at g now (filter (λ q. not (same (linked g q was) (linked g q now))) qs)
 changed_at g was now [] = refl
-changed_at g was now (q ∷ qs) = by_case (same (linked g q was) (linked g q now)) (changed_at g was now qs)
+changed_at g was now (q ∷ qs) = by_case (same (linked g q was) (linked g q now)) (filter (λ q. not (same (linked g q was) (linked g q now))) qs) (changed_at g was now qs)
   where
-    by_case : (b : Bool) → changed_links (λ q. linked g q now) (links_at g was qs) ≡ links_at g now (filter (λ q. not (same (linked g q was) (linked g q now))) qs)
-        → (if b then changed_links (λ q. linked g q now) (links_at g was qs) else ((q, linked g q now) ∷ changed_links (λ q. linked g q now) (links_at g was qs))) ≡ links_at g now (if not b then (q ∷ filter (λ q. not (same (linked g q was) (linked g q now))) qs) else filter (λ q. not (same (linked g q was) (linked g q now))) qs)
-    by_case true rest = rest
-    by_case false rest = ap (λ ls. (q, linked g q now) ∷ ls) rest
+    by_case : (b : Bool) (others : List ℕ) → changed_links (links_at g was qs) (links_at g now qs) ≡ links_at g now others
+        → (if b then changed_links (links_at g was qs) (links_at g now qs) else ((q, linked g q now) ∷ changed_links (links_at g was qs) (links_at g now qs)))
+        ≡ links_at g now (if not b then (q ∷ others) else others)
+    by_case true others rest = rest
+    by_case false others rest = ap (λ ls. (q, linked g q now) ∷ ls) rest
 
-pub changed_by : (g : Group) (was now : Past) (links : List CpuLink) → links_of links ≡ links_at g was (group_processors g) → changed_links (λ q. linked g q now) (links_of links) ≡ links_at g now (changed g was now)
+-- the links of a group's processors at a past, and those before
+pub record AreRead (g : Group) (was now : Past) (before links : List CpuLink) : Type 0 where
+  pub before_are : links_of before ≡ links_at g was (group_processors g)
+  pub links_are : links_of links ≡ links_at g now (group_processors g)
+
+pub changed_by : (g : Group) (was now : Past) (before links : List CpuLink) → AreRead g was now before links
+    → changed_links (links_of before) (links_of links) ≡ links_at g now (changed g was now)
 unfolding changed
-changed_by g was now links e = ap (changed_links (λ q. linked g q now)) e ∙ changed_at g was now (group_processors g)
+changed_by g was now before links r =
+    ap (λ (xs : List Link). changed_links xs (links_of links)) r.before_are
+    ∙ ap (changed_links (links_at g was (group_processors g))) r.links_are ∙ changed_at g was now (group_processors g)
+
+pub as_many : (g : Group) (was now : Past) (before links : List CpuLink) → AreRead g was now before links → length links ≡ length before
+as_many g was now before links r =
+    let a : length (links_of links) ≡ length links = length-map links link_of in
+    let b : length (links_of before) ≡ length before = length-map before link_of in
+    let c : length (links_at g now (group_processors g)) ≡ length (group_processors g) = length-map (group_processors g) (λ q. (q, linked g q now)) in
+    let d : length (links_at g was (group_processors g)) ≡ length (group_processors g) = length-map (group_processors g) (λ q. (q, linked g q was)) in
+    omega (arith, a, b, c, d, ap length r.links_are, ap length r.before_are)
+
+-- those that were read of the group's processors
+pub are-read : (g v : Group) (was now : Past) (qs ks : List CpuNo) (old before links : List CpuLink) → v ≡ g → cpu_numbers qs ≡ group_processors g → ks ≡ qs
+    → before ≡ old → links_of old ≡ links_at g was (group_processors g) → links_of links ≡ links_at v now (cpu_numbers ks) → AreRead g was now before links
+are-read g v was now qs ks old before links same cpus_are ks_are before_is old_are read = record {
+  before_are = ap links_of before_is ∙ old_are;
+  links_are =
+      read ∙ ap (λ (x : Group). links_at x now (cpu_numbers ks)) same
+      ∙ ap (λ (ns : List ℕ). links_at g now ns) (ap cpu_numbers ks_are ∙ cpus_are);
+}
 
 pub on_ok : {E : Type 0} {P : Type 0} (r : Result (Unit {0}) E) → P → OnOk r P
 on_ok (Ok u) p = p

@@ -1,5 +1,5 @@
 -- The groups of a setup, each with its history.
-use Rattle.std.specs.Prelude.{◌≡◌, ℕ, ◌<◌, List, [], ◌∷◌, length, map, All, Option, if◌then◌else◌}
+use Rattle.std.specs.Prelude.{◌≡◌, ℕ, ◌<◌, List, [], ◌∷◌, length, map, All, if◌then◌else◌}
 use Rattle.rt_base.specs.declared.CpuNo.{CpuNo}
 use Rattle.rt_task.specs.declared.Parts.{Parts}
 use Rattle.rt_history.specs.declared.Entry.{Entry}
@@ -23,10 +23,11 @@ pub record AreGroupsOf (p : Parts) (hs : List GroupHistory) : Type 0 where
 abbrev pub cpu_numbers : List CpuNo → List ℕ
 cpu_numbers qs = map (λ (q : CpuNo). q.0) qs
 
--- of these links, those that are others now, as they are now
-abbrev pub changed_links : (ℕ → Option ℕ) → List Link → List Link
-changed_links now [] = []
-changed_links now (x ∷ xs) = if same x.1 (now x.0) then changed_links now xs else ((x.0, now x.0) ∷ changed_links now xs)
+-- of the links now, those that are others than before, place by place
+abbrev pub changed_links : List Link → List Link → List Link
+changed_links [] now = []
+changed_links (x ∷ before) [] = []
+changed_links (x ∷ before) (y ∷ now) = if same x.1 y.1 then changed_links before now else (y ∷ changed_links before now)
 
 -- these are the processors of a group and their links after its history
 pub record Follows (h : GroupHistory) (qs : List CpuNo) (links : List CpuLink) : Type 0 where

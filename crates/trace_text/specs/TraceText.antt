@@ -12,8 +12,9 @@ use Rattle.trace_lines.specs.Lines.{Link, Line, group_line, entry_line, block_li
 use Rattle.trace_lines.specs.FirstLine.{Version, first_line}
 use Rattle.trace_lines.specs.Grammar.{line_text}
 
-abbrev pub set_line : Parts → List ℕ
-set_line p = codes "set " ++ (canonical p ++ 10 ∷ [])
+-- the first two lines: that of the format, and that of the canonical set
+abbrev pub head_text : Version → Parts → List ℕ
+head_text version p = first_line version ++ (codes "set " ++ (canonical p ++ 10 ∷ []))
 
 module _ (g : Group) where
   -- the links of these processors after a past
@@ -23,11 +24,18 @@ module _ (g : Group) where
   -- one line for each entry, numbered from i on, with the links that it changed
   unfoldable pub entry_lines : ℕ → Past → List Entry → List Line
   entry_lines i past [] = []
-  entry_lines i past (e ∷ es) = entry_line i e (links_at (after g e.step past) (changed g past (after g e.step past))) ∷ entry_lines (i + 1) (after g e.step past) es
+  entry_lines i past (e ∷ es) =
+      let now : Past = after g e.step past in
+      entry_line i e (links_at now (changed g past now)) ∷ entry_lines (i + 1) now es
+
+  -- the line of a request
+  abbrev pub block_of : Past → Asked → Line
+  block_of past r =
+      block_line r.no r.task r.sem (ends g r.no r.task r.sem past) (ends_all g r.no r.task r.sem past) (bound g r.task r.sem)
 
   -- one line for each request
   unfoldable pub block_lines : Past → List Line
-  block_lines past = map (λ (r : Asked). block_line r.no r.task r.sem (ends g r.no r.task r.sem past) (ends_all g r.no r.task r.sem past) (bound g r.task r.sem)) (requests past)
+  block_lines past = map (block_of past) (requests past)
 
   unfoldable pub group_lines : List Entry → List Line
   group_lines es = group_line g.number (links_at [] (group_processors g)) ∷ (entry_lines 0 [] es ++ block_lines (past_of g es))
@@ -39,4 +47,4 @@ lines_from p n (es ∷ more) = group_lines (record { setup = p; number = n }) es
 
 -- the text of a setup and the histories of its groups, by rising number
 unfoldable pub trace_text : Version → Parts → List (List Entry) → List ℕ
-trace_text version p histories = first_line version ++ (set_line p ++ flat_map line_text (lines_from p 0 histories))
+trace_text version p histories = head_text version p ++ flat_map line_text (lines_from p 0 histories)

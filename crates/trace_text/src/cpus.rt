@@ -2,6 +2,7 @@
 ghost use Rattle.std.specs.Prelude.{◌≡◌, ◌+◌, ◌^◌, ◌<◌, ◌++◌, true, IfOk, OnOk};
 ghost use Rattle.rt_rules.specs.Numbers.{numbers_from};
 ghost use Rattle.rt_model.specs.Group.{group_processors};
+ghost use Rattle.rt_plays.specs.Plays.{group_with};
 ghost use Rattle.group_state.specs.Built.{is_built};
 ghost use Rattle.trace_text.specs.Groups.{cpu_numbers};
 
@@ -10,10 +11,16 @@ use rt_task::Setup;
 use std::alloc::Global;
 
 /// So many processors, numbered from `first` on.
-#[tactic(auto, using(crate::proofs::CpuLaws::numbers_more, crate::proofs::CpuLaws::numbers_start))]
+#[tactic(
+    auto,
+    using(crate::proofs::CpuLaws::numbers_more, crate::proofs::CpuLaws::numbers_start)
+)]
 fn put_cpus(cpus: &mut Vec<CpuNo>, first: u32, count: u32) -> Result<(), NoMemory>
     requires { first + count < 2 ^ 32 }
-    ensures { OnOk result (cpu_numbers cpus.new.items ≡ cpu_numbers cpus.old.items ++ numbers_from first count) }
+    ensures {
+        OnOk result
+            (cpu_numbers cpus.new.items ≡ cpu_numbers cpus.old.items ++ numbers_from first count)
+    }
 {
     for q in first..first + count {
         if cpus.push(CpuNo(q)).is_err() {
@@ -24,10 +31,13 @@ fn put_cpus(cpus: &mut Vec<CpuNo>, first: u32, count: u32) -> Result<(), NoMemor
 }
 
 /// The processors of a group, by rising number.
-#[tactic(auto, using(crate::proofs::CpuLaws::group_processors_among, crate::proofs::CpuLaws::few_cpus, std::proofs::Common::append_assoc))]
+#[tactic(auto, using(crate::proofs::CpuLaws::few_cpus, std::proofs::Common::append_assoc))]
 pub fn cpus_of(alloc: Global, setup: &Setup, group: GroupNo) -> Result<Vec<CpuNo>, NoMemory>
     requires { is_built setup.now ≡ true }
-    ensures { IfOk result (λ cpus. cpu_numbers cpus.items ≡ group_processors (record { setup = setup.now; number = group.0 })) }
+    ensures {
+        let g = group_with setup.now group.0 in
+        IfOk result (λ cpus. cpu_numbers cpus.items ≡ group_processors g)
+    }
 {
     let mut cpus = Vec::new(alloc);
     let mut first = 0;

@@ -1,14 +1,17 @@
 //! The groups of a trace.
-ghost use Rattle.std.specs.Prelude.{◌≡◌, ◌≤◌, ◌++◌, All, IfOk, IfErr, true, flat_map, length};
+ghost use Rattle.std.specs.Prelude.{◌≡◌, ◌≤◌, All, true, flat_map, length};
+ghost use Rattle.rt_base.specs.declared.TheConstants.{MOST_STEPS};
 ghost use Rattle.group_state.specs.Built.{is_built};
 ghost use Rattle.group_state.specs.Groups.{group_of, past, IsGroupOf, IsPlayedEntry};
 ghost use Rattle.trace_lines.specs.Grammar.{line_text};
 ghost use Rattle.trace_text.specs.Groups.{AreGroupsOf, Follows, histories};
-ghost use Rattle.trace_lines.specs.FirstLine.{first_line, format_1};
-ghost use Rattle.trace_text.specs.TraceText.{entry_lines, group_lines, lines_from, set_line, trace_text};
+ghost use Rattle.trace_lines.specs.FirstLine.{format_1};
+ghost use Rattle.trace_text.specs.TraceText.{entry_lines, group_lines, head_text};
+ghost use Rattle.trace_text.specs.TraceText.{lines_from, trace_text};
 ghost use Rattle.trace_text.specs.Writing.{Came};
 
 use crate::WriteStop;
+use crate::head::head_of;
 use crate::lines::{write_bytes, write_end_line, write_entry_line, write_group_line};
 use crate::replay::Replay;
 use group_engine::Engine;
@@ -16,7 +19,6 @@ use rt_base::GroupNo;
 use rt_fault::Sink;
 use rt_history::Entry;
 use rt_task::{Parts, Setup};
-use set_canonical::canonical_of_parts;
 use std::alloc::Global;
 
 /// The lines of entries, whose steps are taken again.
@@ -28,9 +30,13 @@ fn write_entries<K: Sink>(
 ) -> Result<(), WriteStop>
     requires follows { Follows replay.old.engine replay.old.cpus.items replay.old.links.items }
     requires room { length entries.now ≤ replay.old.engine.spare }
-    requires few { length entries.now ≤ 200000 }
+    requires few { length entries.now ≤ MOST_STEPS }
     requires played { All (IsPlayedEntry (group_of replay.old.engine)) entries.now }
-    ensures { Came result (K.held out.old) (K.held out.new) (K.faults out.old) (K.faults out.new) (flat_map line_text (entry_lines (group_of replay.old.engine) 0 (past replay.old.engine) entries.now)) }
+    ensures {
+        Came result (K.held out.old) (K.held out.new) (K.faults out.old) (K.faults out.new)
+            (flat_map line_text
+                (entry_lines (group_of replay.old.engine) 0 (past replay.old.engine) entries.now))
+    }
 {
     for (i, entry) in entries.iter().enumerate() {
         replay.step(entry.step)?;
@@ -52,7 +58,10 @@ fn write_group<K: Sink>(
     requires built { is_built setup.now ≡ true }
     requires setup { group.now.setup ≡ setup.now }
     requires number { group.now.group ≡ number.0 }
-    ensures { Came result (K.held out.old) (K.held out.new) (K.faults out.old) (K.faults out.new) (flat_map line_text (group_lines (group_of group.now) group.now.entries)) }
+    ensures {
+        Came result (K.held out.old) (K.held out.new) (K.faults out.old) (K.faults out.new)
+            (flat_map line_text (group_lines (group_of group.now) group.now.entries))
+    }
 {
     let entries = group.entries();
     let mut replay = Replay::open(alloc, setup, number, entries.len() as u32)?;
@@ -70,7 +79,10 @@ fn write_groups<K: Sink>(
     requires groups { AreGroupsOf setup.now groups.now }
     requires few { length groups.now ≤ 64 }
     requires built { is_built setup.now ≡ true }
-    ensures { Came result (K.held out.old) (K.held out.new) (K.faults out.old) (K.faults out.new) (flat_map line_text (lines_from setup.now 0 (histories groups.now))) }
+    ensures {
+        Came result (K.held out.old) (K.held out.new) (K.faults out.old) (K.faults out.new)
+            (flat_map line_text (lines_from setup.now 0 (histories groups.now)))
+    }
 {
     let mut line = Vec::new(alloc);
     for (i, group) in groups.iter().enumerate() {
@@ -79,25 +91,15 @@ fn write_groups<K: Sink>(
     write_end_line(out, &mut line)
 }
 
-/// The line of the set.
-fn set_line_of(alloc: Global, parts: &Parts) -> Result<Vec<u8>, WriteStop>
-    ensures line { IfOk result (λ v. v.items ≡ set_line parts.now) }
-    ensures memory { IfErr result (λ e. e ≡ WriteStop.NoMemory) }
-{
-    let set = canonical_of_parts(alloc, parts)?;
-    let mut line = b"set ".to_vec(alloc)?;
-    line.extend_from_slice(set.as_slice())?;
-    line.extend_from_slice(b"\n")?;
-    Ok(line)
-}
-
-/// The line of the format and the line of the set.
+/// The first two lines.
 fn write_head<K: Sink>(alloc: Global, parts: &Parts, out: &mut K) -> Result<(), WriteStop>
-    ensures { Came result (K.held out.old) (K.held out.new) (K.faults out.old) (K.faults out.new) (first_line format_1 ++ set_line parts.now) }
+    ensures {
+        Came result (K.held out.old) (K.held out.new) (K.faults out.old) (K.faults out.new)
+            (head_text format_1 parts.now)
+    }
 {
-    let line = set_line_of(alloc, parts)?;
-    write_bytes(out, b"rtsched trace 1\n")?;
-    write_bytes(out, line.as_slice())
+    let head = head_of(alloc, parts)?;
+    write_bytes(out, head.as_slice())
 }
 
 /// The whole trace.
@@ -109,7 +111,10 @@ pub fn write_all<K: Sink>(
 ) -> Result<(), WriteStop>
     requires groups { AreGroupsOf setup.now groups.now }
     requires built { is_built setup.now ≡ true }
-    ensures { Came result (K.held out.old) (K.held out.new) (K.faults out.old) (K.faults out.new) (trace_text format_1 setup.now (histories groups.now)) }
+    ensures {
+        Came result (K.held out.old) (K.held out.new) (K.faults out.old) (K.faults out.new)
+            (trace_text format_1 setup.now (histories groups.now))
+    }
 {
     write_head(alloc, setup.parts(), out)?;
     write_groups(alloc, setup, groups, out)

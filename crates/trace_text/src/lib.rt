@@ -1,4 +1,5 @@
-//! The text of a trace, format 1: the set, and for each group its links at opening and a line for each entry.
+//! The text of a trace, format 1: the set, and for each group its links at opening and a line for
+//! each entry.
 #![tactic(auto)]
 
 ghost use Rattle.std.specs.Prelude.{◌≡◌, ◌≤◌, true, OnOk, OnErr, IfErr};
@@ -12,6 +13,7 @@ ghost use Rattle.trace_text.specs.declared.stop.WriteStop.TheVariants as stops;
 
 mod cpus;
 mod groups;
+mod head;
 mod lines;
 mod links;
 mod replay;
@@ -21,13 +23,16 @@ use group_engine::Engine;
 use rt_fault::Sink;
 use rt_task::Setup;
 use std::alloc::Global;
+pub use head::head_of;
+pub use links::{is_same_task, put_changed};
 pub use stop::WriteStop;
 
-/// Writes the trace of a setup and its groups, one engine for each group by rising number: the canonical set, each group
-/// with its links at opening and a line for each entry, and the line `end`.
+/// Writes the trace of a setup and its groups, one engine for each group by rising number: the
+/// canonical set, each group with its links at opening and a line for each entry, and the line
+/// `end`.
 ///
-/// Where a write fails or memory runs out, a first part of the text was written. Memory is taken for one line, and for
-/// one group at a time.
+/// Where a write fails or memory runs out, a first part of the text was written. Memory is taken
+/// for one line, and for one group at a time.
 pub fn write_trace<K: Sink>(
     alloc: Global,
     setup: &Setup,
@@ -36,8 +41,14 @@ pub fn write_trace<K: Sink>(
 ) -> Result<(), WriteStop>
     requires groups { AreGroupsOf setup.now groups.now }
     requires built { is_built setup.now ≡ true }
-    ensures ok { OnOk result (Extends (K.held out.old) (K.held out.new) (trace_text format_1 setup.now (histories groups.now))) }
-    ensures stopped { OnErr result (ExtendsByPrefix (K.held out.old) (K.held out.new) (trace_text format_1 setup.now (histories groups.now))) }
+    ensures ok {
+        let text = trace_text format_1 setup.now (histories groups.now) in
+        OnOk result (Extends (K.held out.old) (K.held out.new) text)
+    }
+    ensures stopped {
+        let text = trace_text format_1 setup.now (histories groups.now) in
+        OnErr result (ExtendsByPrefix (K.held out.old) (K.held out.new) text)
+    }
     ensures fault { result ≡ Err stops.Fault → HasRisen (K.faults out.old) (K.faults out.new) }
     ensures counted { K.faults out.old ≤ K.faults out.new }
 {

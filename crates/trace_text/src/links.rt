@@ -1,22 +1,24 @@
-//! The links of a group's processors, read from an engine.
-ghost use Rattle.std.specs.Prelude.{◌≡◌, All, OnOk};
+//! The links of a group's processors: read from an engine, and compared with those before.
+ghost use Rattle.std.specs.Prelude.{◌≡◌, All, OnOk, length};
 ghost use Rattle.rt_base.specs.TaskNos.{number_of_task};
 ghost use Rattle.rt_rules.specs.Numbers.{same};
-ghost use Rattle.rt_model.specs.Links.{linked};
 ghost use Rattle.group_state.specs.Groups.{group_of, past, IsProcessorOf};
 ghost use Rattle.trace_lines.specs.Lines.{links_of};
 ghost use Rattle.trace_text.specs.TraceText.{links_at};
-ghost use Rattle.trace_text.specs.Groups as groups;
+ghost use Rattle.trace_text.specs.Groups.{changed_links, cpu_numbers};
 
 use group_engine::Engine;
 use rt_base::{CpuNo, NoMemory, TaskNo};
 use trace_lines::CpuLink;
 
-#[tactic(auto, using(std::proofs::Common::append_assoc))]
 /// Puts the links of these processors in the place of what stood in `links`.
+#[tactic(auto, using(std::proofs::Common::append_assoc))]
 pub fn read_links(engine: &Engine, cpus: &[CpuNo], links: &mut Vec<CpuLink>) -> Result<(), NoMemory>
     requires { All (λ q. IsProcessorOf (group_of engine.now) q.0) cpus.now }
-    ensures { OnOk result (links_of links.new.items ≡ links_at (group_of engine.now) (past engine.now) (groups.cpu_numbers cpus.now)) }
+    ensures {
+        let now = links_at (group_of engine.now) (past engine.now) (cpu_numbers cpus.now) in
+        OnOk result (links_of links.new.items ≡ now)
+    }
 {
     links.clear();
     for cpu in cpus {
@@ -31,7 +33,8 @@ pub fn read_links(engine: &Engine, cpus: &[CpuNo], links: &mut Vec<CpuLink>) -> 
     Ok(())
 }
 
-fn is_same(a: Option<TaskNo>, b: Option<TaskNo>) -> bool
+/// Whether two processors are linked alike: to the same task, or to none.
+pub fn is_same_task(a: Option<TaskNo>, b: Option<TaskNo>) -> bool
     ensures { result ≡ same (number_of_task a) (number_of_task b) }
 {
     match (a, b) {
@@ -41,27 +44,26 @@ fn is_same(a: Option<TaskNo>, b: Option<TaskNo>) -> bool
     }
 }
 
+/// Puts those of the links that are others than before, place by place, in the place of what stood
+/// in `changed`.
 #[tactic(auto, using(std::proofs::Common::append_assoc))]
-/// Puts those of the links that are others now, as they are now, in the place of what stood in `changed`.
-pub fn read_changed(
-    engine: &Engine,
+pub fn put_changed(
+    before: &[CpuLink],
     links: &[CpuLink],
     changed: &mut Vec<CpuLink>,
 ) -> Result<(), NoMemory>
-    requires { All (λ x. IsProcessorOf (group_of engine.now) x.cpu.0) links.now }
-    ensures { OnOk result (links_of changed.new.items ≡ groups.changed_links (λ q. linked (group_of engine.now) q (past engine.now)) (links_of links.now)) }
+    requires { length links.now ≡ length before.now }
+    ensures {
+        OnOk result
+            (links_of changed.new.items ≡ changed_links (links_of before.now) (links_of links.now))
+    }
 {
     changed.clear();
-    for link in links {
-        let task = engine.linked(link.cpu);
-        if is_same(link.task, task) {
+    for (i, link) in links.iter().enumerate() {
+        if is_same_task(before[i].task, link.task) {
             continue;
         }
-        let link = CpuLink {
-            cpu: link.cpu,
-            task,
-        };
-        if changed.push(link).is_err() {
+        if changed.push(*link).is_err() {
             return Err(NoMemory);
         }
     }

@@ -1,5 +1,6 @@
 //! A group's steps taken again, for the links that each of them changes.
 ghost use Rattle.std.specs.Prelude.{◌≡◌, ◌-◌, ◌<◌, ◌≤◌, [], true, IfOk, OnOk};
+ghost use Rattle.rt_base.specs.declared.TheConstants.{MOST_STEPS};
 ghost use Rattle.rt_model.specs.Histories.{after, changed};
 ghost use Rattle.group_state.specs.Built.{is_built, is_built_act};
 ghost use Rattle.group_state.specs.Groups.{group_of, past, IsGroupOf, IsProcessorOf};
@@ -8,20 +9,22 @@ ghost use Rattle.trace_text.specs.TraceText.{links_at};
 ghost use Rattle.trace_text.specs.Groups.{Follows};
 
 use crate::cpus::cpus_of;
-use crate::links::{read_changed, read_links};
+use crate::links::{put_changed, read_links};
 use group_engine::Engine;
 use rt_base::{CpuNo, GroupNo, NoMemory};
 use rt_task::{Setup, Step};
 use std::alloc::Global;
+use std::mem;
 use trace_lines::CpuLink;
 
-/// An engine that takes the steps of another one again, with its processors, their links, and the links that the last
-/// step changed.
+/// An engine that takes the steps of another one again, with its processors, their links now and
+/// before the last step, and those that this step changed.
 #[derive(Drop)]
 pub struct Replay {
     engine: Engine,
     cpus: Vec<CpuNo>,
     links: Vec<CpuLink>,
+    before: Vec<CpuLink>,
     changed: Vec<CpuLink>,
 }
 
@@ -29,9 +32,13 @@ impl Replay {
     /// A group at opening, with room for so many steps.
     pub fn open(alloc: Global, setup: &Setup, group: GroupNo, room: u32) -> Result<Replay, NoMemory>
         requires group { IsGroupOf setup.now group.0 }
-        requires room { room ≤ 200000 }
+        requires room { room ≤ MOST_STEPS }
         requires built { is_built setup.now ≡ true }
-        ensures opened { IfOk result (λ r. r.engine ≡ record { setup = setup.now; group = group.0; entries = []; spare = room }) }
+        ensures opened {
+            IfOk result (λ r.
+                r.engine ≡
+                    record { setup = setup.now; group = group.0; entries = []; spare = room })
+        }
         ensures follows { IfOk result (λ r. Follows r.engine r.cpus.items r.links.items) }
     {
         let engine = Engine::open(alloc, setup, group, room)?;
@@ -42,6 +49,7 @@ impl Replay {
             engine,
             cpus,
             links,
+            before: Vec::new(alloc),
             changed: Vec::new(alloc),
         })
     }
@@ -68,12 +76,22 @@ impl Replay {
         requires follows { Follows self.old.engine self.old.cpus.items self.old.links.items }
         ensures group { OnOk result (group_of self.new.engine ≡ group_of self.old.engine) }
         ensures spare { OnOk result (self.new.engine.spare ≡ self.old.engine.spare - 1) }
-        ensures past { OnOk result (past self.new.engine ≡ after (group_of self.old.engine) step (past self.old.engine)) }
-        ensures changed { OnOk result (links_of self.new.changed.items ≡ links_at (group_of self.old.engine) (past self.new.engine) (changed (group_of self.old.engine) (past self.old.engine) (past self.new.engine))) }
-        ensures follows { OnOk result (Follows self.new.engine self.new.cpus.items self.new.links.items) }
+        ensures past {
+            let now = after (group_of self.old.engine) step (past self.old.engine) in
+            OnOk result (past self.new.engine ≡ now)
+        }
+        ensures changed {
+            let g = group_of self.old.engine in
+            let others = changed g (past self.old.engine) (past self.new.engine) in
+            OnOk result (links_of self.new.changed.items ≡ links_at g (past self.new.engine) others)
+        }
+        ensures follows {
+            OnOk result (Follows self.new.engine self.new.cpus.items self.new.links.items)
+        }
     {
         self.engine.step(step);
-        read_changed(&self.engine, self.links.as_slice(), &mut self.changed)?;
-        read_links(&self.engine, self.cpus.as_slice(), &mut self.links)
+        mem::swap(&mut self.before, &mut self.links);
+        read_links(&self.engine, self.cpus.as_slice(), &mut self.links)?;
+        put_changed(self.before.as_slice(), self.links.as_slice(), &mut self.changed)
     }
 }

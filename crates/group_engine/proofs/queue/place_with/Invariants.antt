@@ -1,6 +1,6 @@
 use Rattle.std.proofs.Common.{◌≡◌, ◌++◌, take, drop}
 use Rattle.group_engine.specs.Queue.{ranked_all}
-use Rattle.group_state.specs.Ranked.{without_task}
+use Rattle.rt_rules.specs.Rankings.{without_task}
 use Rattle.group_engine.proofs.queue.place_with.Given as goal
 
 -- the task is not among those that were passed

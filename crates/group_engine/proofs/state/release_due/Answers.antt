@@ -2,7 +2,7 @@ use Rattle.std.proofs.Common.{◌≡◌, ◌+◌, ◌≤◌, List, length, max, 
 use Rattle.rt_rules.specs.Keys.{Ranked}
 use Rattle.group_engine.specs.Queue.{ranked}
 use Rattle.group_state.specs.State.{rel_deadline_of}
-use Rattle.group_state.proofs.Ranking.{length-inserted}
+use Rattle.rt_rules.proofs.RankedByLaws.{length-inserted}
 use Rattle.group_state.proofs.DueLaws.{due-first, due-stop, due-none, some-there, dropped, length-dropped}
 use Rattle.group_engine.proofs.state.release_due.Goals as goal
 

@@ -1,5 +1,5 @@
 use Rattle.std.proofs.Common.{◌≡◌, ◌+◌, length, arith}
-use Rattle.group_state.proofs.Ranking.{length-inserted}
+use Rattle.rt_rules.proofs.RankedByLaws.{length-inserted}
 use Rattle.group_state.proofs.Opening.{waiting-more}
 use Rattle.group_engine.proofs.state.waiting_tasks.Goals as goal
 

@@ -1,7 +1,7 @@
 use Rattle.std.proofs.Common.{◌≡◌, ◌+◌, ◌-◌, ◌≤◌, true, length, get_or}
 use Rattle.rt_rules.specs.Numbers.{numbers_from}
 use Rattle.rt_model.specs.Group.{no_task}
-use Rattle.group_state.specs.Ranked.{ranked_by}
+use Rattle.rt_rules.specs.Rankings.{ranked_by}
 use Rattle.group_engine.proofs.state.waiting_tasks.Given as goal
 
 -- the tasks after the ones that are left are in the list

@@ -4,7 +4,7 @@ use Rattle.rt_fault.specs.Held.{Extends, ExtendsByPrefix}
 use Rattle.trace_text.specs.Groups as groups
 use Rattle.trace_lines.specs.FirstLine.{format_1}
 use Rattle.trace_text.specs.TraceText.{trace_text}
-use Rattle.rtsim.specs.Order.{histories}
+use Rattle.rt_plays.specs.Order.{histories}
 use Rattle.rtsim.proofs.EndLaws.{answer-complete}
 use Rattle.rtsim.proofs.SimLaws.{playable-is_built, one-group, one-history, can_play-told, can_play-unrefused}
 use Rattle.rtsim.proofs.play_set.play_set.Goals as goal

@@ -4,14 +4,14 @@ use Rattle.std.proofs.lemmas.List.{length-map}
 use Rattle.rt_task.specs.declared.Parts.{Parts}
 use Rattle.trace_lines.specs.Lines.{links_of}
 use Rattle.trace_read.specs.Lines.{line_of, lines_of}
-use Rattle.trace_laws.specs.Scripts.{steps_given}
+use Rattle.rt_plays.specs.Drives.{steps_given}
 use Rattle.trace_check.specs.declared.verdict.Verdict.{Verdict}
 use Rattle.trace_check.specs.declared.verdict.Verdict.TheVariants.{Invalid}
 use Rattle.trace_lines.specs.declared.links.CpuLink.{CpuLink}
 use Rattle.trace_check.specs.Following.{IsAccepted, IsFollowingWith, IsNextEntry, Place}
 use Rattle.trace_check.specs.Judging.{IsEndVerdict, IsJudged}
 use Rattle.trace_check.proofs.Judging.{place_at, IsOtherLine, line-there, other-line, judged-first, first-right, accepted-right, refused-there, other-there, runs-out, ended-there}
-use Rattle.trace_text.proofs.GroupLaws.{first_group}
+use Rattle.trace_text.proofs.GroupLaws.{group_0-there}
 use Rattle.trace_check.proofs.judge.judge_lines.Goals as goal
 
 pub returns-then-not-begins : goal.returns-then-not-begins
@@ -24,12 +24,12 @@ pub loop-i-init : goal.loop-i-init
 loop-i-init c = first-right c.args.setup.now (lines_of c.args.lines.now) c.args.stop c.in_ok-follow.follow c.in_ok-follow.ensures (sym c.begins.ensures ∙ c.if-not-begins.false)
 
 pub accepts-requires : goal.accepts-requires
-accepts-requires c = (place_at c.loop-i.invariant, record { following = c.loop-i.invariant.following; steps_are = c.steps_in-steps.ensures ∙ ap (λ (p : Parts). steps_given p.drive) c.parts.ensures.parts })
+accepts-requires c = (place_at c.loop-i.invariant, record { following = c.loop-i.invariant.following; steps_are = c.steps_given-steps.ensures ∙ ap (λ (p : Parts). steps_given p.drive) c.parts.ensures.parts })
 
 pub returns-then-not-branch : goal.returns-then-not-branch
 returns-then-not-branch c =
     let at : Place = place_at c.loop-i.invariant in
-    let fw : IsFollowingWith at c.steps_in-steps.result.now c.loop-i.follow = record { following = c.loop-i.invariant.following; steps_are = c.steps_in-steps.ensures ∙ ap (λ (p : Parts). steps_given p.drive) c.parts.ensures.parts } in
+    let fw : IsFollowingWith at c.steps_given-steps.result.now c.loop-i.follow = record { following = c.loop-i.invariant.following; steps_are = c.steps_given-steps.ensures ∙ ap (λ (p : Parts). steps_given p.drive) c.parts.ensures.parts } in
     let here = line-there c.args.lines.now c.loop-i.i c.index-lines-i.result c.loop-i-test.true c.index-lines-i.is ∙ ap line_of c.in-EntryLine.is in
     IfOk-weaker c.wrong_at-then-not-branch.result (λ (v : Verdict). v ≡ Invalid (c.loop-i.i + 3)) (IsJudged c.args.setup.now (lines_of c.args.lines.now) c.args.stop)
     (λ v is. subst (IsJudged c.args.setup.now (lines_of c.args.lines.now) c.args.stop) (sym is)
@@ -38,15 +38,15 @@ returns-then-not-branch c =
     c.wrong_at-then-not-branch.ensures
 
 pub end_at-requires-clause-steps : goal.end_at-requires-clause-steps
-end_at-requires-clause-steps c = (place_at c.loop-i.invariant, record { following = c.loop-i.invariant.following; steps_are = c.steps_in-steps.ensures ∙ ap (λ (p : Parts). steps_given p.drive) c.parts.ensures.parts })
+end_at-requires-clause-steps c = (place_at c.loop-i.invariant, record { following = c.loop-i.invariant.following; steps_are = c.steps_given-steps.ensures ∙ ap (λ (p : Parts). steps_given p.drive) c.parts.ensures.parts })
 
 pub returns-in-EndLine : goal.returns-in-EndLine
 returns-in-EndLine c =
     let at : Place = place_at c.loop-i.invariant in
-    let fw : IsFollowingWith at c.steps_in-steps.result.now c.loop-i.follow = record { following = c.loop-i.invariant.following; steps_are = c.steps_in-steps.ensures ∙ ap (λ (p : Parts). steps_given p.drive) c.parts.ensures.parts } in
+    let fw : IsFollowingWith at c.steps_given-steps.result.now c.loop-i.follow = record { following = c.loop-i.invariant.following; steps_are = c.steps_given-steps.ensures ∙ ap (λ (p : Parts). steps_given p.drive) c.parts.ensures.parts } in
     let here = line-there c.args.lines.now c.loop-i.i c.index-lines-i.result c.loop-i-test.true c.index-lines-i.is ∙ ap line_of c.in-EndLine.is in
     let count : length (lines_of c.args.lines.now) ≡ length c.args.lines.now = length-map c.args.lines.now line_of in
-    IfOk-weaker c.end_at.result (λ (v : Verdict). (p : Place) → IsFollowingWith p c.steps_in-steps.result.now c.loop-i.follow → IsEndVerdict p c.loop-i.follow.count c.loop-i.i (length c.args.lines.now) c.args.stop v) (IsJudged c.args.setup.now (lines_of c.args.lines.now) c.args.stop)
+    IfOk-weaker c.end_at.result (λ (v : Verdict). (p : Place) → IsFollowingWith p c.steps_given-steps.result.now c.loop-i.follow → IsEndVerdict p c.loop-i.follow.count c.loop-i.i (length c.args.lines.now) c.args.stop v) (IsJudged c.args.setup.now (lines_of c.args.lines.now) c.args.stop)
     (λ v is. ended-there c.args.setup.now (lines_of c.args.lines.now) c.args.stop c.loop-i.i c.loop-i.follow c.loop-i.invariant v (line_of c.index-lines-i.result) (omega (arith, count, c.loop-i-test.true)) here
     (subst (λ n. IsEndVerdict at c.loop-i.follow.count c.loop-i.i n c.args.stop v) (sym count) (is at fw)))
     c.end_at.ensures
@@ -63,7 +63,7 @@ returns-in_default c =
 pub loop-i-preserved : goal.loop-i-preserved
 loop-i-preserved c =
     let at : Place = place_at c.loop-i.invariant in
-    let fw : IsFollowingWith at c.steps_in-steps.result.now c.loop-i.follow = record { following = c.loop-i.invariant.following; steps_are = c.steps_in-steps.ensures ∙ ap (λ (p : Parts). steps_given p.drive) c.parts.ensures.parts } in
+    let fw : IsFollowingWith at c.steps_given-steps.result.now c.loop-i.follow = record { following = c.loop-i.invariant.following; steps_are = c.steps_given-steps.ensures ∙ ap (λ (p : Parts). steps_given p.drive) c.parts.ensures.parts } in
     let here = line-there c.args.lines.now c.loop-i.i c.index-lines-i.result c.loop-i-test.true c.index-lines-i.is ∙ ap line_of c.in-EntryLine.is in
     let count : length (lines_of c.args.lines.now) ≡ length c.args.lines.now = length-map c.args.lines.now line_of in
     accepted-right c.args.setup.now (lines_of c.args.lines.now) c.args.stop c.loop-i.i c.loop-i.follow c.accepts.new.self c.loop-i.invariant c.in-EntryLine.no c.in-EntryLine.entry (links_of c.in-EntryLine.links) (line_of c.index-lines-i.result) (omega (arith, count, c.loop-i-test.true)) here
@@ -79,4 +79,4 @@ returns c =
     c.wrong_at-2.ensures
 
 pub open-requires-clause-group : goal.open-requires-clause-group
-open-requires-clause-group c = first_group c.args.setup.now c.parts.ensures.valid c.requires.built
+open-requires-clause-group c = group_0-there c.args.setup.now c.parts.ensures.valid c.requires.built

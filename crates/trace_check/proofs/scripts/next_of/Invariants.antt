@@ -1,5 +1,5 @@
 use Rattle.std.proofs.Common.{◌≡◌, take}
-use Rattle.trace_laws.specs.Scripts.{script}
+use Rattle.rt_plays.specs.Scripts.{script}
 use Rattle.trace_check.proofs.scripts.next_of.Given as goal
 
 -- none of those that were passed is of the processor

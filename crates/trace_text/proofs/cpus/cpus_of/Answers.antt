@@ -1,7 +1,7 @@
 use Rattle.std.proofs.Common.{◌≡◌, [], drop, ap, sym, ◌∙◌, append-nil, arith}
 use Rattle.rt_task.specs.declared.Parts.{Parts}
 use Rattle.trace_text.specs.Groups.{cpu_numbers}
-use Rattle.trace_text.proofs.CpuLaws.{cpus_among, group_processors_among}
+use Rattle.rt_plays.proofs.ProcessorLaws.{cpus_among, group_processors_among}
 use Rattle.trace_text.proofs.LineLaws.{drop_end}
 use Rattle.trace_text.proofs.cpus.cpus_of.Goals as goal
 

@@ -1,6 +1,6 @@
 use Rattle.std.proofs.Common.{◌≡◌, ◌+◌, ◌≤◌, ◌++◌, drop}
 use Rattle.trace_text.specs.Groups.{cpu_numbers}
-use Rattle.trace_text.proofs.CpuLaws.{cpus_among, cpu_count}
+use Rattle.rt_plays.proofs.ProcessorLaws.{cpus_among, cpu_count}
 use Rattle.trace_text.proofs.cpus.cpus_of.Given as goal
 
 -- what was put, and then the group's processors among the rest of the clusters, are all of them

@@ -3,7 +3,7 @@ use Rattle.std.proofs.lemmas.List.{get_or_read}
 use Rattle.rt_task.specs.declared.Task.{Task}
 use Rattle.rt_rules.specs.Distinct.{IsDistinct}
 use Rattle.rt_model.specs.Group.{no_task}
-use Rattle.group_state.specs.Ranked.{tasks_of}
+use Rattle.rt_rules.specs.Rankings.{tasks_of}
 use Rattle.group_state.specs.State.{State, Moment, CanOperate}
 use Rattle.group_state.proofs.Plain.{IsPlainTask}
 use Rattle.group_state.proofs.Doing.{CanEnd, can_end, end-answer, kept-ended, distinct-ended, IsNext, released-next, state-next}

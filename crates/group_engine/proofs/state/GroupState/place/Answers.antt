@@ -3,7 +3,7 @@ use Rattle.rt_base.specs.TaskNos.{numbers}
 use Rattle.rt_rules.specs.Distinct.{IsDistinct}
 use Rattle.rt_rules.specs.Keys.{Ranked}
 use Rattle.rt_rules.proofs.RankedLaws.{distinct-take}
-use Rattle.group_state.specs.Ranked.{tasks_of}
+use Rattle.rt_rules.specs.Rankings.{tasks_of}
 use Rattle.group_state.specs.State.{State, top_tasks}
 use Rattle.group_engine.proofs.state.GroupState.place.Goals as goal
 

@@ -1,5 +1,6 @@
 use Rattle.std.proofs.Common.{◌≡◌, ℕ, ◌<◌}
-use Rattle.trace_laws.specs.Scripts.{script, steps_given, steps_of}
+use Rattle.rt_plays.specs.Drives.{steps_given}
+use Rattle.rt_plays.specs.Scripts.{script, steps_of}
 use Rattle.trace_check.specs.Following.{IsFollowingWith, Place}
 use Rattle.trace_check.proofs.follow.Follow.is_over.Given as goal
 

@@ -1,0 +1,3 @@
+pub mod Refreshing
+pub mod ReadySets
+pub mod SplitLaws

@@ -1,0 +1,35 @@
+use Rattle.std.proofs.Common.{◌≡◌, ◌+◌, ◌<◌, ◌≤◌, false, true, length, sym, ap, ◌∙◌, arith}
+use Rattle.rt_rules.specs.Numbers.{has}
+use Rattle.rt_rules.specs.Rankings.{tasks_of, without_task}
+use Rattle.ready_queue.proofs.Refreshing.{without-absent}
+use Rattle.ready_queue.proofs.SplitLaws.{few-top, length-without_task, split-rest_taken, split-top_taken, split-followed}
+use Rattle.ready_queue.proofs.ReadyQueue.take_out.Goals as goal
+
+pub invariant_of-self : goal.invariant_of-self
+invariant_of-self c =
+    let room = rw (← c.self.view_is) at c.requires in
+    let out : has c.args.task.0 (tasks_of c.self.inside.first.tasks) ≡ false = sym c.remove.ensures.was_in ∙ c.if-not-remove.true in (
+      rw (c.remove.ensures.tasks, c.take_out.ensures, c.take_out-then-not-remove.ensures, without-absent c.args.task.0 c.self.inside.first.tasks out) (split-rest_taken _ _ _ c.self.invariant.0 c.args.task.0 room out),
+      omega (arith, c.self.invariant.1, c.remove.ensures.room),
+    )
+
+pub push-requires : goal.push-requires
+push-requires c =
+    let few = few-top _ _ _ c.self.invariant.0 in
+    let fewer = length-without_task c.args.task.0 c.self.inside.first.tasks in
+    let now = ap length c.remove.ensures.tasks in
+    omega (arith, c.self.invariant.1, c.remove.ensures.room)
+
+pub invariant_of-self-in-Some : goal.invariant_of-self-in-Some
+invariant_of-self-in-Some c =
+    let there : has c.args.task.0 (tasks_of c.self.inside.first.tasks) ≡ true = sym c.remove.ensures.was_in ∙ c.if-not-remove.false in (
+      rw (c.push.ensures.tasks, c.remove.ensures.tasks, c.take_out.ensures, c.in-Some.ensures.taken) (split-followed _ _ _ c.self.invariant.0 c.args.task.0 _ _ there c.in-Some.ensures.first c.in-Some.ensures.key),
+      omega (arith, c.self.invariant.1, c.remove.ensures.room, c.push.ensures.room),
+    )
+
+pub invariant_of-self-in_default : goal.invariant_of-self-in_default
+invariant_of-self-in_default c =
+    let there : has c.args.task.0 (tasks_of c.self.inside.first.tasks) ≡ true = sym c.remove.ensures.was_in ∙ c.if-not-remove.false in (
+      rw (c.remove.ensures.tasks, c.take_out.ensures, c.in_default.ensures.stays) (split-top_taken _ _ _ c.self.invariant.0 c.args.task.0 there c.in_default.ensures.none),
+      omega (arith, c.self.invariant.1, c.remove.ensures.room),
+    )

@@ -1,0 +1,4 @@
+pub mod Refreshed
+pub mod ReadySet
+pub mod Queue
+pub mod RankedTasks
