@@ -78,8 +78,10 @@ impl Replay {
             OnOk result (past self.new.engine ≡ now) }
         ensures changed { let g = group_of self.old.engine in
             let others = changed g (past self.old.engine) (past self.new.engine) in
-            OnOk result (links_of self.new.changed.items ≡ links_at g (past self.new.engine) others) }
-        ensures follows { OnOk result (Follows self.new.engine self.new.cpus.items self.new.links.items) }
+            let shown = links_at g (past self.new.engine) others in
+            OnOk result (links_of self.new.changed.items ≡ shown) }
+        ensures follows { OnOk result
+            (Follows self.new.engine self.new.cpus.items self.new.links.items) }
     {
         self.engine.step(step);
         mem::swap(&mut self.before, &mut self.links);
