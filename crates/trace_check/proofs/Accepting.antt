@@ -6,8 +6,7 @@ use Rattle.rt_history.specs.declared.Entry.{Entry}
 use Rattle.rt_rules.specs.Numbers.{numbers_from}
 use Rattle.rt_rules.proofs.MemberLaws.{equal_self}
 use Rattle.rt_model.specs.Group.{Group, cpus, group_processors}
-use Rattle.rt_model.specs.Links.{linked}
-use Rattle.rt_model.specs.Histories.{after, changed, past_of, reply_to}
+use Rattle.rt_model.specs.Histories.{after, past_of, reply_to}
 use Rattle.rt_model.proofs.Steps.{past_of-append}
 use Rattle.group_state.specs.State.{IsPlayed}
 use Rattle.group_state.proofs.PlainGroup.{IsPlainGroup}
