@@ -1,7 +1,7 @@
 //! The text of a trace, format 1: the set, and for each group its links at opening and a line for each entry.
 #![tactic(auto)]
 
-ghost use Rattle.std.specs.Prelude.{◌≡◌, ◌≤◌, true, OnOk, OnErr, IfErr};
+ghost use Rattle.std.specs.Prelude.{◌≡◌, ◌≢◌, ◌≤◌, true, OnOk, OnErr, IfErr};
 ghost use Rattle.rt_fault.specs.Faults.{HasRisen};
 ghost use Rattle.rt_fault.specs.Held.{Extends, ExtendsByPrefix};
 ghost use Rattle.group_state.specs.Built.{is_built};
@@ -39,6 +39,7 @@ pub fn write_trace<K: Sink>(
     ensures ok { OnOk result (Extends (K.held out.old) (K.held out.new) (trace_text format_1 setup.now (histories groups.now))) }
     ensures stopped { OnErr result (ExtendsByPrefix (K.held out.old) (K.held out.new) (trace_text format_1 setup.now (histories groups.now))) }
     ensures fault { result ≡ Err stops.Fault → HasRisen (K.faults out.old) (K.faults out.new) }
+    ensures unfailed { result ≢ Err stops.Fault → K.faults out.new ≡ K.faults out.old }
     ensures counted { K.faults out.old ≤ K.faults out.new }
 {
     groups::write_all(alloc, setup, groups, out)
