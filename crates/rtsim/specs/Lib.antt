@@ -1,3 +1,8 @@
 pub mod Order
+pub mod Ends
+pub mod LinksOf
 pub mod Sim
 pub mod Check
+pub mod Stopped
+pub mod SimAnswers
+pub mod CheckAnswers
