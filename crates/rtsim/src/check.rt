@@ -16,9 +16,11 @@ pub(crate) fn check<S: Source, K: Sink>(alloc: Global, src: &mut S, out: &mut K)
     ensures answers { CheckAnswers (reading S.left S.faults src.old src.new)
         (writing K.held K.faults out.old out.new) result }
     ensures unwritten { IsUnwritten result → out.new ≡ out.old }
-    ensures read_fault { result ≡ Status.ReadFault → HasRisen (S.faults src.old) (S.faults src.new) }
+    ensures read_fault { result ≡ Status.ReadFault →
+        HasRisen (S.faults src.old) (S.faults src.new) }
     ensures no_read_fault { result ≢ Status.ReadFault → S.faults src.new ≡ S.faults src.old }
-    ensures write_fault { result ≡ Status.WriteFault → HasRisen (K.faults out.old) (K.faults out.new) }
+    ensures write_fault { result ≡ Status.WriteFault →
+        HasRisen (K.faults out.old) (K.faults out.new) }
     ensures no_write_fault { result ≢ Status.WriteFault → K.faults out.new ≡ K.faults out.old }
     ensures not_usage { result ≢ Status.Usage }
 {

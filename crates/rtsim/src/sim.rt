@@ -28,9 +28,11 @@ pub fn sim<S: Source, K: Sink>(alloc: Global, words: &[String], src: &mut S, out
     ensures unwritten { IsUnwritten result → out.new ≡ out.old }
 
     // A fault is answered exactly where a read or a write of this call failed.
-    ensures read_fault { result ≡ Status.ReadFault → HasRisen (S.faults src.old) (S.faults src.new) }
+    ensures read_fault { result ≡ Status.ReadFault →
+        HasRisen (S.faults src.old) (S.faults src.new) }
     ensures no_read_fault { result ≢ Status.ReadFault → S.faults src.new ≡ S.faults src.old }
-    ensures write_fault { result ≡ Status.WriteFault → HasRisen (K.faults out.old) (K.faults out.new) }
+    ensures write_fault { result ≡ Status.WriteFault →
+        HasRisen (K.faults out.old) (K.faults out.new) }
     ensures no_write_fault { result ≢ Status.WriteFault → K.faults out.new ≡ K.faults out.old }
 
     // What each command answers, and what it read and wrote.
