@@ -1,5 +1,6 @@
 -- What a run of `sim` reads and writes.
-use Rattle.std.specs.Prelude.{◌≡◌, ℕ, ◌≤◌, Bool, false, ◌||◌, List, [], ◌∷◌, length, codes, bytes_eq, string_bytes, String, Option, None, Some, Result, Ok, Err, IsOk, if◌then◌else◌, ⊤}
+use Rattle.std.specs.Prelude.{◌≡◌, ℕ, ◌≤◌, Bool, false, ◌||◌, if◌then◌else◌, ⊤}
+use Rattle.std.specs.Prelude.{List, [], ◌∷◌, length, codes, bytes_eq, string_bytes, String, Option, None, Some, Result, Ok, Err, IsOk}
 use Rattle.std.specs.declared.alloc.Global.{Global}
 use Rattle.rt_base.specs.declared.TheConstants.{MOST_SET_BYTES}
 use Rattle.rt_task.specs.declared.Parts.{Parts}
