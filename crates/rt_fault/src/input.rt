@@ -22,7 +22,8 @@ pub trait Source {
     fn read(&mut self, buf: &mut [u8]) -> Result<usize, Failed>
         requires { 0 < length buf.old }
         ensures bound { IfOk result (λ n. n ≤ length buf.new) }
-        ensures taken { IfOk result (λ n. Consumes (left self.old) (left self.new) (take n buf.new)) }
+        ensures taken { IfOk result (λ n.
+            Consumes (left self.old) (left self.new) (take n buf.new)) }
         ensures end { result ≡ Ok 0 → IsAtEnd (left self.new) }
         ensures kept { OnErr result (Keeps (left self.old) (left self.new)) }
         ensures fault { OnErr result (HasRisen (faults self.old) (faults self.new)) }

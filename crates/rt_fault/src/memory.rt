@@ -39,7 +39,11 @@ impl MemSource {
     /// fail. Takes no memory.
     pub fn new(bytes: Vec<u8>, piece: u32, fails: Vec<u32>) -> MemSource
         requires { 0 < piece }
-        ensures { result ≡ record { left = bytes.items; piece = piece; plan = record { fails = fails.items; calls = 0 } } }
+        ensures { result ≡ record {
+          left = bytes.items;
+          piece = piece;
+          plan = record { fails = fails.items; calls = 0 };
+        } }
     {
         MemSource {
             rest: Rest::new(bytes),
@@ -58,7 +62,8 @@ impl Source for MemSource {
         requires { 0 < length buf.old }
         // What each source does.
         ensures bound { IfOk result (λ n. n ≤ length buf.new) }
-        ensures taken { IfOk result (λ n. Consumes (Some self.old.left) (Some self.new.left) (take n buf.new)) }
+        ensures taken { IfOk result (λ n.
+            Consumes (Some self.old.left) (Some self.new.left) (take n buf.new)) }
         ensures end { result ≡ Ok 0 → IsAtEnd (Some self.new.left) }
         ensures kept { OnErr result (Keeps (Some self.old.left) (Some self.new.left)) }
         ensures fault { OnErr result (failed_calls self.old.plan < failed_calls self.new.plan) }
@@ -67,8 +72,10 @@ impl Source for MemSource {
 
         // What this one does.
         ensures fails { IsErr result ↔ IsFailing self.old.plan }
-        ensures count { IfOk result (λ n. n ≡ min (min (length buf.old) self.old.piece) (length self.old.left)) }
-        ensures after { self.new ≡ record self.old { left = self.new.left; plan = after_call self.old.plan } }
+        ensures count { IfOk result (λ n.
+            n ≡ min (min (length buf.old) self.old.piece) (length self.old.left)) }
+        ensures after { self.new ≡
+            record self.old { left = self.new.left; plan = after_call self.old.plan } }
     {
         if self.plan.fails_next() {
             return Err(Failed);
@@ -135,7 +142,8 @@ impl Sink for MemSink {
         // What each sink does.
         ensures some { IfOk result (λ n. 0 < n) }
         ensures bound { IfOk result (λ n. n ≤ length bytes.now) }
-        ensures taken { IfOk result (λ n. Extends (held_in self.old.kept) (held_in self.new.kept) (take n bytes.now)) }
+        ensures taken { IfOk result (λ n.
+            Extends (held_in self.old.kept) (held_in self.new.kept) (take n bytes.now)) }
         ensures kept { OnErr result (Stays (held_in self.old.kept) (held_in self.new.kept)) }
         ensures fault { OnErr result (failed_calls self.old.plan < failed_calls self.new.plan) }
         ensures unfailed { OnOk result (failed_calls self.new.plan ≡ failed_calls self.old.plan) }

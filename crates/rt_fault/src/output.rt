@@ -20,7 +20,8 @@ pub trait Sink {
         requires { 0 < length bytes.now }
         ensures some { IfOk result (λ n. 0 < n) }
         ensures bound { IfOk result (λ n. n ≤ length bytes.now) }
-        ensures taken { IfOk result (λ n. Extends (held self.old) (held self.new) (take n bytes.now)) }
+        ensures taken { IfOk result (λ n.
+            Extends (held self.old) (held self.new) (take n bytes.now)) }
         ensures kept { OnErr result (Stays (held self.old) (held self.new)) }
         ensures fault { OnErr result (HasRisen (faults self.old) (faults self.new)) }
         ensures unfailed { OnOk result (faults self.new ≡ faults self.old) }

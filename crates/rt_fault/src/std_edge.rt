@@ -38,7 +38,8 @@ impl<T: Read> Source for StdSource<T> {
         ensures taken { IfOk result (λ n.
             Consumes (T.remaining self.old.reader) (T.remaining self.new.reader) (take n buf.new)) }
         ensures end { result ≡ Ok 0 → IsAtEnd (T.remaining self.new.reader) }
-        ensures kept { OnErr result (Keeps (T.remaining self.old.reader) (T.remaining self.new.reader)) }
+        ensures kept { OnErr result
+            (Keeps (T.remaining self.old.reader) (T.remaining self.new.reader)) }
         ensures fault { OnErr result (HasRisen self.old.faults self.new.faults) }
         ensures unfailed { OnOk result (self.new.faults ≡ self.old.faults) }
         ensures counted { self.old.faults ≤ self.new.faults }

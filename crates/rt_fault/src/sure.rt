@@ -47,7 +47,8 @@ impl Source for SureSource {
         ensures sure { result ≡ Ok (min (length buf.old) (length self.old)) }
         ensures bound { IfOk result (λ n. n ≤ length buf.new) }
         ensures end { result ≡ Ok 0 → self.new ≡ [] }
-        ensures taken { IfOk result (λ n. Consumes (Some self.old) (Some self.new) (take n buf.new)) }
+        ensures taken { IfOk result (λ n.
+            Consumes (Some self.old) (Some self.new) (take n buf.new)) }
     {
         let room = buf.len();
         Ok(self.rest.give(buf, room))

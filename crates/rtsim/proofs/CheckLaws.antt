@@ -14,6 +14,8 @@ use Rattle.trace_read.specs.declared.fault.TraceFault.TheVariants as faults
 use Rattle.trace_laws.specs.ValidTexts.{IsValidText}
 use Rattle.trace_laws.proofs.Heads.{head-unique}
 use Rattle.trace_check.specs.Verdicts.{IsInvalid}
+use Rattle.rt_fault.specs.Reading.{TakesAll}
+use Rattle.rtsim.specs.Ends.{Reading}
 use Rattle.rtsim.specs.Check.{SaysSet, SaysUnbuilt, TraceIsRefused, WasTrace, WasNoTrace, IsValidTrace, CanCheck}
 use Rattle.rtsim.proofs.EndLaws.{IsToldWithin}
 
@@ -56,13 +58,19 @@ pub can_check-told : (left : Option (List ℕ)) → CanCheck left → IsToldWith
 can_check-told None can = absurd can
 can_check-told (Some xs) can = record { bytes = xs; left_is = refl; within = can.0 }
 
-pub can_check-unrefused : (left left' : Option (List ℕ)) (b : BadSet) → CanCheck left → WasNoTrace left left' b → ⊥
-can_check-unrefused None left' b can lack = can
-can_check-unrefused (Some xs) left' b can lack = says-unrefused xs can.1.setup b can.1.says (subst (λ (bytes : List ℕ). TraceIsRefused bytes b) lack.all.0 lack.refused)
+pub can_check-unrefused : (source : Reading) (b : BadSet) → CanCheck source.old.left → WasNoTrace source b → ⊥
+can_check-unrefused source b can lack = by_left source.old.left can lack.all
+  where
+    by_left : (left : Option (List ℕ)) → CanCheck left → TakesAll left source.new.left lack.bytes → ⊥
+    by_left None able all = able
+    by_left (Some xs) able all = says-unrefused xs able.1.setup b able.1.says (subst (λ (bytes : List ℕ). TraceIsRefused bytes b) all.0 lack.refused)
 
-pub can_check-valid : (left left' : Option (List ℕ)) (bytes : List ℕ) (p : Parts) (line : ℕ) → CanCheck left → WasTrace left left' bytes p → IsInvalid p bytes line → ⊥
-can_check-valid None left' bytes p line can was wrong = can
-can_check-valid (Some xs) left' bytes p line can was wrong =
-    let valid : IsValidTrace bytes = subst IsValidTrace (sym was.all.0) can.1 in
-    let same : valid.setup ≡ p = says-unique bytes valid.setup p valid.says was.says in
-    wrong.not_valid valid.entries (subst (λ (q : Parts). IsValidText q bytes valid.entries) same valid.valid)
+pub can_check-valid : (source : Reading) (bytes : List ℕ) (p : Parts) (line : ℕ) → CanCheck source.old.left → WasTrace source bytes p → IsInvalid p bytes line → ⊥
+can_check-valid source bytes p line can was wrong = by_left source.old.left can was.all
+  where
+    by_left : (left : Option (List ℕ)) → CanCheck left → TakesAll left source.new.left bytes → ⊥
+    by_left None able all = able
+    by_left (Some xs) able all =
+        let valid : IsValidTrace bytes = subst IsValidTrace (sym all.0) able.1 in
+        let same : valid.setup ≡ p = says-unique bytes valid.setup p valid.says was.says in
+        wrong.not_valid valid.entries (subst (λ (q : Parts). IsValidText q bytes valid.entries) same valid.valid)

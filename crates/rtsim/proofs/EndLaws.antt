@@ -1,12 +1,19 @@
--- No fault, no refusal, and no more bytes than the limit: the run was well, or memory ran out.
-use Rattle.std.proofs.Common.{◌≡◌, ◌≢◌, ℕ, ◌+◌, ◌≤◌, List, ◌++◌, length, refl, ap, ◌∙◌, subst, arith, length-append}
-use Rattle.std.specs.Prelude.{Option, None, Some, Result, Err}
+-- How the reading of an input ends, and that no fault, no refusal and no byte too many leaves an answer that is well.
+use Rattle.std.proofs.Common.{◌≡◌, ℕ, ◌+◌, ◌≤◌, List, ◌++◌, length, refl, ap, subst, arith, length-append}
+use Rattle.std.specs.Prelude.{Option, None, Some, Result, Ok, Err, IsErrAnd}
 use Rattle.rt_task.specs.declared.bad_set.BadSet.{BadSet}
+use Rattle.rt_task.specs.declared.bad_set.SetStop.{SetStop}
+use Rattle.rt_task.specs.declared.bad_set.SetStop.TheVariants as sets
 use Rattle.rt_fault.specs.Faults.{HasRisen}
-use Rattle.rt_fault.specs.Reading.{TakesMoreThan}
+use Rattle.rt_fault.specs.Reading.{TakesAtMost, TakesOneMoreThan}
+use Rattle.rt_fault.specs.Stops.{unread, unmade}
+use Rattle.rt_fault.specs.declared.reading.ReadStop.{ReadStop}
+use Rattle.rt_fault.specs.declared.reading.ReadStop.TheVariants as reads
 use Rattle.rt_fault.specs.declared.status.Status.{Status}
 use Rattle.rt_fault.specs.declared.status.Status.TheVariants as ends
+use Rattle.rtsim.specs.Ends.{Reading}
 use Rattle.rtsim.specs.Sim.{IsWell}
+use Rattle.rtsim.specs.Stopped.{EndsReading}
 
 -- what is still to come is told, and is within the limit
 pub record IsToldWithin (limit : ℕ) (left : Option (List ℕ)) : Type 0 where
@@ -14,7 +21,7 @@ pub record IsToldWithin (limit : ℕ) (left : Option (List ℕ)) : Type 0 where
   pub left_is : left ≡ Some bytes
   pub within : length bytes ≤ limit
 
-pub within-no_more : (limit : ℕ) (xs : List ℕ) (left' : Option (List ℕ)) → length xs ≤ limit → TakesMoreThan limit (Some xs) left' → ⊥
+pub within-no_more : (limit : ℕ) (xs : List ℕ) (left' : Option (List ℕ)) → length xs ≤ limit → TakesOneMoreThan limit (Some xs) left' → ⊥
 within-no_more limit xs None within more = more.2
 within-no_more limit xs (Some ys) within more =
     let same : xs ≡ more.0 ++ ys = more.2 in
@@ -22,30 +29,118 @@ within-no_more limit xs (Some ys) within more =
     let sum : length (more.0 ++ ys) ≡ length more.0 + length ys = length-append more.0 ys in
     omega (arith, more.1, within, longer, sum)
 
-pub read-complete : (status : Status) (left left' : Option (List ℕ)) (limit before after : ℕ) → IsToldWithin limit left → ¬ (HasRisen before after)
-    → status ≢ ends.Ok → ((line : ℕ) → status ≢ ends.Invalid line) → status ≢ ends.Usage → status ≢ ends.WriteFault
-    → ((b : BadSet) → status ≢ ends.BadInput b)
-    → (status ≡ ends.ReadFault → HasRisen before after)
-    → (status ≡ ends.TooLong → TakesMoreThan limit left left')
-    → IsWell status
-read-complete ends.Ok left left' limit before after told sure never not_invalid not_usage no_write not_bad read_fault too_long = tt
-read-complete ends.NoMemory left left' limit before after told sure never not_invalid not_usage no_write not_bad read_fault too_long = tt
-read-complete (ends.Invalid line) left left' limit before after told sure never not_invalid not_usage no_write not_bad read_fault too_long = not_invalid line refl
-read-complete ends.Usage left left' limit before after told sure never not_invalid not_usage no_write not_bad read_fault too_long = not_usage refl
-read-complete ends.WriteFault left left' limit before after told sure never not_invalid not_usage no_write not_bad read_fault too_long = no_write refl
-read-complete (ends.BadInput b) left left' limit before after told sure never not_invalid not_usage no_write not_bad read_fault too_long = not_bad b refl
-read-complete ends.ReadFault left left' limit before after told sure never not_invalid not_usage no_write not_bad read_fault too_long = sure (read_fault refl)
-read-complete ends.TooLong left left' limit before after told sure never not_invalid not_usage no_write not_bad read_fault too_long =
-    within-no_more limit told.bytes left' told.within (subst (λ (o : Option (List ℕ)). TakesMoreThan limit o left') told.left_is (too_long refl))
+module _ (source : Reading) (limit : ℕ) (refused : BadSet → Type 0) where
+  abbrev pub IsQuiet : Type 0
+  IsQuiet = source.new.faults ≡ source.old.faults
 
--- the same of what the reading of the input answered
-pub answer-complete : {T : Type 0} (r : Result T Status) (status : Status) (left left' : Option (List ℕ)) (limit before after : ℕ) → r ≡ Err status
-    → IsToldWithin limit left → ¬ (HasRisen before after)
-    → r ≢ Err ends.Ok → ((line : ℕ) → r ≢ Err (ends.Invalid line)) → r ≢ Err ends.Usage → r ≢ Err ends.WriteFault
-    → ((b : BadSet) → r ≢ Err (ends.BadInput b))
-    → (r ≡ Err ends.ReadFault → HasRisen before after)
-    → (r ≡ Err ends.TooLong → TakesMoreThan limit left left')
-    → IsWell status
-answer-complete {T} r status left left' limit before after same told sure never not_invalid not_usage no_write not_bad read_fault too_long =
-    let given : (s : Status) → status ≡ s → r ≡ Err s = λ s k. same ∙ ap (λ (x : Status). Err x) k in
-    read-complete status left left' limit before after told sure (λ k. never (given _ k)) (λ line k. not_invalid line (given _ k)) (λ k. not_usage (given _ k)) (λ k. no_write (given _ k)) (λ b k. not_bad b (given _ k)) (λ k. read_fault (given _ k)) (λ k. too_long (given _ k))
+  abbrev pub IsFew : Type 0
+  IsFew = TakesAtMost limit source.old.left source.new.left
+
+  -- what each answer says
+  abbrev pub Cause : Status → Type 0
+  Cause (ends.BadInput b) = refused b × IsQuiet × IsFew
+  Cause ends.ReadFault = HasRisen source.old.faults source.new.faults × IsFew
+  Cause ends.TooLong = TakesOneMoreThan limit source.old.left source.new.left × IsQuiet
+  Cause ends.NoMemory = IsQuiet × IsFew
+  Cause _ = ⊥
+
+  pub ends-ok : {T : Type 0} (x : T) → IsQuiet → IsFew → EndsReading {T = T} source limit refused (Ok x)
+  ends-ok x quiet few = record {
+    bad_input = λ b is. cc;
+    read_fault = λ is. cc;
+    no_read_fault = λ _. quiet;
+    too_long = λ is. cc;
+    not_too_long = λ _. few;
+    not_ok = λ is. cc;
+    not_invalid = λ line is. cc;
+    not_usage = λ is. cc;
+    not_write_fault = λ is. cc;
+  }
+
+  ends-at : (T : Type 0) (answer : Status) → Cause answer → EndsReading {T = T} source limit refused (Err answer)
+  ends-at T (ends.BadInput b) (lacks, quiet, few) = record {
+    bad_input = λ other is. let same : b ≡ other = cc in subst refused same lacks;
+    read_fault = λ is. cc;
+    no_read_fault = λ _. quiet;
+    too_long = λ is. cc;
+    not_too_long = λ _. few;
+    not_ok = λ is. cc;
+    not_invalid = λ line is. cc;
+    not_usage = λ is. cc;
+    not_write_fault = λ is. cc;
+  }
+  ends-at T ends.ReadFault (risen, few) = record {
+    bad_input = λ b is. cc;
+    read_fault = λ _. risen;
+    no_read_fault = λ other. absurd (other refl);
+    too_long = λ is. cc;
+    not_too_long = λ _. few;
+    not_ok = λ is. cc;
+    not_invalid = λ line is. cc;
+    not_usage = λ is. cc;
+    not_write_fault = λ is. cc;
+  }
+  ends-at T ends.TooLong (more, quiet) = record {
+    bad_input = λ b is. cc;
+    read_fault = λ is. cc;
+    no_read_fault = λ _. quiet;
+    too_long = λ _. more;
+    not_too_long = λ other. absurd (other refl);
+    not_ok = λ is. cc;
+    not_invalid = λ line is. cc;
+    not_usage = λ is. cc;
+    not_write_fault = λ is. cc;
+  }
+  ends-at T ends.NoMemory (quiet, few) = record {
+    bad_input = λ b is. cc;
+    read_fault = λ is. cc;
+    no_read_fault = λ _. quiet;
+    too_long = λ is. cc;
+    not_too_long = λ _. few;
+    not_ok = λ is. cc;
+    not_invalid = λ line is. cc;
+    not_usage = λ is. cc;
+    not_write_fault = λ is. cc;
+  }
+  ends-at T ends.Ok cause = absurd cause
+  ends-at T (ends.Invalid line) cause = absurd cause
+  ends-at T ends.Usage cause = absurd cause
+  ends-at T ends.WriteFault cause = absurd cause
+
+  pub ends-with : {T : Type 0} (answer end : Status) → answer ≡ end → Cause end → EndsReading {T = T} source limit refused (Err answer)
+  ends-with {T} answer end same cause = rw same (ends-at T end cause)
+
+  -- the same of an end that is handed on
+  pub ends-handed : {T : Type 0} (r : Result T Status) (end : Status) → IsErrAnd r (λ x. x ≡ end) → Cause end → EndsReading source limit refused r
+  ends-handed (Ok x) end is cause = absurd is
+  ends-handed (Err answer) end is cause = ends-with answer end is cause
+
+  -- no input was read whole
+  pub unread-cause :
+      {T : Type 0} (stop : ReadStop)
+      → (◌≡◌ {A = Result T ReadStop} (Err stop) (Err reads.Fault) → HasRisen source.old.faults source.new.faults) → (¬ (◌≡◌ {A = Result T ReadStop} (Err stop) (Err reads.Fault)) → IsQuiet)
+      → (◌≡◌ {A = Result T ReadStop} (Err stop) (Err reads.TooLong) → TakesOneMoreThan limit source.old.left source.new.left) → (¬ (◌≡◌ {A = Result T ReadStop} (Err stop) (Err reads.TooLong)) → IsFew)
+      → Cause (unread stop)
+  unread-cause reads.Fault fault unfailed too_long not_too_long = (fault refl, not_too_long (λ is. cc))
+  unread-cause reads.TooLong fault unfailed too_long not_too_long = (too_long refl, unfailed (λ is. cc))
+  unread-cause reads.NoMemory fault unfailed too_long not_too_long = (unfailed (λ is. cc), not_too_long (λ is. cc))
+
+  -- no set was made of it
+  pub unmade-cause : (stop : SetStop) → ((b : BadSet) → unmade stop ≡ ends.BadInput b → refused b) → IsQuiet → IsFew → Cause (unmade stop)
+  unmade-cause (sets.Bad b) lacks quiet few = (lacks b refl, quiet, few)
+  unmade-cause sets.NoMemory lacks quiet few = (quiet, few)
+
+  -- an end without fault, refusal or a byte too many is well
+  pub ended-well :
+      {T : Type 0} (answer : Status) → EndsReading {T = T} source limit refused (Err answer) → IsToldWithin limit source.old.left
+      → ¬ (HasRisen source.old.faults source.new.faults) → ((b : BadSet) → refused b → ⊥) → IsWell answer
+  ended-well ends.Ok e told sure none = tt
+  ended-well ends.NoMemory e told sure none = tt
+  ended-well (ends.Invalid line) e told sure none = e.not_invalid line refl
+  ended-well ends.Usage e told sure none = e.not_usage refl
+  ended-well ends.WriteFault e told sure none = e.not_write_fault refl
+  ended-well (ends.BadInput b) e told sure none = none b (e.bad_input b refl)
+  ended-well ends.ReadFault e told sure none = sure (e.read_fault refl)
+  ended-well ends.TooLong e told sure none =
+      within-no_more limit told.bytes source.new.left told.within
+      (subst (λ (o : Option (List ℕ)). TakesOneMoreThan limit o source.new.left) told.left_is (e.too_long refl))

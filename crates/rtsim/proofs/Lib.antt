@@ -4,3 +4,5 @@ pub mod PlayableLaws
 pub mod EndLaws
 pub mod SimLaws
 pub mod CheckLaws
+pub mod SimAnswerLaws
+pub mod CheckAnswerLaws

@@ -15,6 +15,8 @@ use Rattle.trace_text.specs.Groups.{AreGroupsOf}
 use Rattle.trace_text.specs.Groups as groups
 use Rattle.trace_text.proofs.GroupLaws.{group_count-one, one_group}
 use Rattle.rt_plays.specs.Order.{histories, history_of}
+use Rattle.rt_fault.specs.Reading.{TakesAll}
+use Rattle.rtsim.specs.Ends.{Reading}
 use Rattle.rtsim.specs.Sim.{playable, if_built, WasRefused, CanPlay}
 use Rattle.rtsim.proofs.EndLaws.{IsToldWithin}
 
@@ -45,8 +47,11 @@ pub can_play-told : (left : Option (List ℕ)) → CanPlay left → IsToldWithin
 can_play-told None can = absurd can
 can_play-told (Some xs) can = record { bytes = xs; left_is = refl; within = can.0 }
 
-pub can_play-unrefused : (left left' : Option (List ℕ)) (b : BadSet) → CanPlay left → WasRefused left left' b → ⊥
-can_play-unrefused None left' b can refused = can
-can_play-unrefused (Some xs) left' b can refused =
-    let wrong : IsOk {T = Parts} {E = BadSet} (Err b) = subst IsOk (ap playable (sym refused.all.0) ∙ refused.refused) can.1 in
-    cc
+pub can_play-unrefused : (source : Reading) (b : BadSet) → CanPlay source.old.left → WasRefused source b → ⊥
+can_play-unrefused source b can refused = by_left source.old.left can refused.all
+  where
+    by_left : (left : Option (List ℕ)) → CanPlay left → TakesAll left source.new.left refused.bytes → ⊥
+    by_left None able all = able
+    by_left (Some xs) able all =
+        let wrong : IsOk {T = Parts} {E = BadSet} (Err b) = subst IsOk (ap playable (sym all.0) ∙ refused.refused) able.1 in
+        cc

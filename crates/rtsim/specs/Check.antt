@@ -6,7 +6,7 @@ use Rattle.rt_task.specs.declared.bad_set.BadSet.{BadSet}
 use Rattle.rt_task.specs.declared.bad_set.SetKind.TheVariants.{NotTrace, Unbuilt}
 use Rattle.rt_task.specs.declared.bad_set.Part.TheVariants.{Line, Whole}
 use Rattle.rt_task.specs.Refusals.{bad}
-use Rattle.rt_fault.specs.Held.{Held, Extends, ExtendsByPrefix, Stays}
+use Rattle.rt_fault.specs.Held.{Extends, ExtendsByPrefix}
 use Rattle.rt_fault.specs.Reading.{TakesAll}
 use Rattle.set_read.specs.Sets.{set}
 use Rattle.group_state.specs.Built.{is_built}
@@ -15,6 +15,7 @@ use Rattle.trace_laws.specs.ValidTexts.{IsValidText}
 use Rattle.trace_check.specs.declared.verdict.Verdict.{Verdict}
 use Rattle.trace_check.specs.declared.verdict.Verdict.TheVariants.{Valid, Invalid}
 use Rattle.trace_check.specs.Verdicts.{IsVerdict}
+use Rattle.rtsim.specs.Ends.{Reading, Writing}
 
 -- the second line of the text says this set, which is played so far
 pub record SaysSet (bytes : List ℕ) (p : Parts) : Type 0 where
@@ -25,8 +26,8 @@ pub record SaysSet (bytes : List ℕ) (p : Parts) : Type 0 where
   pub built : is_built p ≡ true
 
 -- what was read to its end is within the limit, and says a set
-pub record WasTrace (left left' : Option (List ℕ)) (bytes : List ℕ) (p : Parts) : Type 0 where
-  pub all : TakesAll left left' bytes
+pub record WasTrace (source : Reading) (bytes : List ℕ) (p : Parts) : Type 0 where
+  pub all : TakesAll source.old.left source.new.left bytes
   pub within : length bytes ≤ MOST_TRACE_BYTES
   pub says : SaysSet bytes p
 
@@ -40,12 +41,15 @@ pub record SaysUnbuilt (bytes : List ℕ) : Type 0 where
   pub unbuilt : is_built setup ≡ false
 
 abbrev pub TraceIsRefused : List ℕ → BadSet → Type 0
-TraceIsRefused bytes b = ((b ≡ bad NotTrace Line 1) × LacksFirstLine bytes) ⊎ (((b ≡ bad NotTrace Line 2) × LacksSetLine bytes) ⊎ (HasBadSet bytes b ⊎ ((b ≡ bad Unbuilt Whole 0) × SaysUnbuilt bytes)))
+TraceIsRefused bytes b =
+    ((b ≡ bad NotTrace Line 1) × LacksFirstLine bytes)
+    ⊎ (((b ≡ bad NotTrace Line 2) × LacksSetLine bytes)
+    ⊎ (HasBadSet bytes b ⊎ ((b ≡ bad Unbuilt Whole 0) × SaysUnbuilt bytes)))
 
 -- what was read to its end is within the limit, and is refused
-pub record WasNoTrace (left left' : Option (List ℕ)) (b : BadSet) : Type 0 where
+pub record WasNoTrace (source : Reading) (b : BadSet) : Type 0 where
   pub bytes : List ℕ
-  pub all : TakesAll left left' bytes
+  pub all : TakesAll source.old.left source.new.left bytes
   pub within : length bytes ≤ MOST_TRACE_BYTES
   pub refused : TraceIsRefused bytes b
 
@@ -55,25 +59,21 @@ verdict_text (Valid entries) = codes "valid " ++ (decimal entries ++ 10 ∷ [])
 verdict_text (Invalid line) = codes "invalid " ++ (decimal line ++ 10 ∷ [])
 
 -- a trace was read, and its verdict came
-pub record WasChecked (left left' : Option (List ℕ)) (held held' : Held) (v : Verdict) : Type 0 where
+pub record WasChecked (source : Reading) (sink : Writing) (v : Verdict) : Type 0 where
   pub bytes : List ℕ
   pub setup : Parts
-  pub read : WasTrace left left' bytes setup
+  pub read : WasTrace source bytes setup
   pub verdict : IsVerdict setup bytes v
-  pub written : Extends held held' (verdict_text v)
+  pub written : Extends sink.old.held sink.new.held (verdict_text v)
 
 -- a trace was read, and a first part of its verdict came
-pub record VerdictWasCut (left left' : Option (List ℕ)) (held held' : Held) : Type 0 where
+pub record VerdictWasCut (source : Reading) (sink : Writing) : Type 0 where
   pub bytes : List ℕ
   pub setup : Parts
   pub verdict : Verdict
-  pub read : WasTrace left left' bytes setup
+  pub read : WasTrace source bytes setup
   pub is_verdict : IsVerdict setup bytes verdict
-  pub written : ExtendsByPrefix held held' (verdict_text verdict)
-
--- memory ran out: before anything was written, or in the writing
-abbrev pub VerdictCameShort : Option (List ℕ) → Option (List ℕ) → Held → Held → Type 0
-VerdictCameShort left left' held held' = Stays held held' ⊎ VerdictWasCut left left' held held'
+  pub written : ExtendsByPrefix sink.old.held sink.new.held (verdict_text verdict)
 
 -- what is still to come is told, is within the limit, and is a valid trace of the set that it says
 pub record IsValidTrace (bytes : List ℕ) : Type 0 where

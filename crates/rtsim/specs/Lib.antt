@@ -1,2 +1,7 @@
+pub mod Ends
+pub mod LinksOf
 pub mod Sim
 pub mod Check
+pub mod Stopped
+pub mod SimAnswers
+pub mod CheckAnswers

@@ -1,5 +1,6 @@
 -- What a run of `sim` reads and writes.
-use Rattle.std.specs.Prelude.{◌≡◌, ℕ, ◌≤◌, Bool, false, ◌||◌, List, [], ◌∷◌, length, codes, bytes_eq, string_bytes, String, Option, None, Some, Result, Ok, Err, IsOk, if◌then◌else◌, ◌⊎◌, ⊤}
+use Rattle.std.specs.Prelude.{◌≡◌, ℕ, ◌≤◌, Bool, false, ◌||◌, if◌then◌else◌, ⊤}
+use Rattle.std.specs.Prelude.{List, [], ◌∷◌, length, codes, bytes_eq, string_bytes, String, Option, None, Some, Result, Ok, Err, IsOk}
 use Rattle.std.specs.declared.alloc.Global.{Global}
 use Rattle.rt_base.specs.declared.TheConstants.{MOST_SET_BYTES}
 use Rattle.rt_task.specs.declared.Parts.{Parts}
@@ -8,7 +9,7 @@ use Rattle.rt_task.specs.declared.bad_set.SetKind.TheVariants.{Unbuilt}
 use Rattle.rt_task.specs.declared.bad_set.Part.TheVariants.{Whole}
 use Rattle.rt_task.specs.Refusals.{bad}
 use Rattle.rt_task.specs.Validity.{IsValid}
-use Rattle.rt_fault.specs.Held.{Held, Extends, ExtendsByPrefix, Stays}
+use Rattle.rt_fault.specs.Held.{Extends, ExtendsByPrefix}
 use Rattle.rt_fault.specs.declared.status.Status.{Status}
 use Rattle.rt_fault.specs.declared.status.Status.TheVariants.{Usage, BadInput, ReadFault, TooLong}
 use Rattle.rt_fault.specs.declared.status.Status.TheVariants as ends
@@ -18,6 +19,8 @@ use Rattle.group_state.specs.Built.{is_built}
 use Rattle.trace_lines.specs.FirstLine.{format_1}
 use Rattle.trace_text.specs.TraceText.{trace_text}
 use Rattle.rt_plays.specs.Order.{histories}
+use Rattle.rtsim.specs.Ends.{Reading, Writing}
+use Rattle.rtsim.specs.LinksOf.{LinksAreTheTopOf}
 
 -- the command `sim`
 abbrev pub is_sim : List (String Global) → Bool
@@ -42,17 +45,17 @@ unfoldable pub playable : List ℕ → Result Parts BadSet
 playable bytes = set bytes >>= if_built
 
 -- what was read to its end is within the limit and stands for a set that is played
-pub record WasRead (left left' : Option (List ℕ)) (p : Parts) : Type 0 where
+pub record WasRead (source : Reading) (p : Parts) : Type 0 where
   pub bytes : List ℕ
-  pub all : TakesAll left left' bytes
+  pub all : TakesAll source.old.left source.new.left bytes
   pub within : length bytes ≤ MOST_SET_BYTES
   pub reads : playable bytes ≡ Ok p
   pub valid : IsValid p
 
 -- or for none, with the refusal
-pub record WasRefused (left left' : Option (List ℕ)) (b : BadSet) : Type 0 where
+pub record WasRefused (source : Reading) (b : BadSet) : Type 0 where
   pub bytes : List ℕ
-  pub all : TakesAll left left' bytes
+  pub all : TakesAll source.old.left source.new.left bytes
   pub within : length bytes ≤ MOST_SET_BYTES
   pub refused : playable bytes ≡ Err b
 
@@ -60,21 +63,18 @@ pub record WasRefused (left left' : Option (List ℕ)) (b : BadSet) : Type 0 whe
 abbrev pub set_trace : Parts → List ℕ
 set_trace p = trace_text format_1 p (histories p)
 
--- a set was read, and its whole trace came
-pub record WasPlayed (left left' : Option (List ℕ)) (held held' : Held) : Type 0 where
+-- a set was read, and its whole trace came; what that shows holds after each entry
+pub record WasPlayed (source : Reading) (sink : Writing) : Type 0 where
   pub setup : Parts
-  pub read : WasRead left left' setup
-  pub written : Extends held held' (set_trace setup)
+  pub read : WasRead source setup
+  pub written : Extends sink.old.held sink.new.held (set_trace setup)
+  pub links : LinksAreTheTopOf setup (histories setup)
 
 -- a set was read, and a first part of its trace came
-pub record WasCut (left left' : Option (List ℕ)) (held held' : Held) : Type 0 where
+pub record WasCut (source : Reading) (sink : Writing) : Type 0 where
   pub setup : Parts
-  pub read : WasRead left left' setup
-  pub written : ExtendsByPrefix held held' (set_trace setup)
-
--- memory ran out: before anything was written, or in the writing
-abbrev pub CameShort : Option (List ℕ) → Option (List ℕ) → Held → Held → Type 0
-CameShort left left' held held' = Stays held held' ⊎ WasCut left left' held held'
+  pub read : WasRead source setup
+  pub written : ExtendsByPrefix sink.old.held sink.new.held (set_trace setup)
 
 -- nothing is written where the input was not read, or is refused
 abbrev pub IsUnwritten : Status → Type 0

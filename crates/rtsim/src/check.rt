@@ -1,12 +1,9 @@
 //! The command `check`: from the bytes of a trace to the line that says what it is.
-ghost use Rattle.std.specs.Prelude.{◌≡◌, ◌≢◌, ℕ};
-ghost use Rattle.rt_base.specs.declared.TheConstants.{MOST_TRACE_BYTES};
-ghost use Rattle.rt_task.specs.declared.bad_set.BadSet.{BadSet};
+ghost use Rattle.std.specs.Prelude.{◌≡◌, ◌≢◌};
 ghost use Rattle.rt_fault.specs.Faults.{HasRisen};
-ghost use Rattle.rt_fault.specs.Reading.{TakesAtMost, TakesMoreThan};
-ghost use Rattle.trace_check.specs.declared.verdict.Verdict.TheVariants as verdicts;
-ghost use Rattle.rtsim.specs.Sim.{IsUnwritten, IsWell};
-ghost use Rattle.rtsim.specs.Check.{WasChecked, VerdictWasCut, VerdictCameShort, WasNoTrace, CanCheck};
+ghost use Rattle.rtsim.specs.Ends.{reading, writing};
+ghost use Rattle.rtsim.specs.Sim.{IsUnwritten};
+ghost use Rattle.rtsim.specs.CheckAnswers.{CheckAnswers};
 
 use crate::trace_input::read_trace_input;
 use crate::verdict_line::put_verdict;
@@ -16,17 +13,15 @@ use trace_check::{Verdict, check_trace};
 
 /// Reads a trace, and writes the line that says whether it is valid for its set.
 pub(crate) fn check<S: Source, K: Sink>(alloc: Global, src: &mut S, out: &mut K) -> Status
+    ensures answers { CheckAnswers (reading S.left S.faults src.old src.new)
+        (writing K.held K.faults out.old out.new) result }
     ensures unwritten { IsUnwritten result → out.new ≡ out.old }
-    ensures ok { result ≡ Status.Ok → (n : ℕ) × WasChecked (S.left src.old) (S.left src.new) (K.held out.old) (K.held out.new) (verdicts.Valid n) }
-    ensures invalid { (line : ℕ) → result ≡ Status.Invalid line → WasChecked (S.left src.old) (S.left src.new) (K.held out.old) (K.held out.new) (verdicts.Invalid line) }
-    ensures bad_input { (bad : BadSet) → result ≡ Status.BadInput bad → WasNoTrace (S.left src.old) (S.left src.new) bad }
-    ensures read_fault { result ≡ Status.ReadFault → HasRisen (S.faults src.old) (S.faults src.new) }
-    ensures too_long { result ≡ Status.TooLong → TakesMoreThan MOST_TRACE_BYTES (S.left src.old) (S.left src.new) }
-    ensures not_too_long { result ≢ Status.TooLong → TakesAtMost MOST_TRACE_BYTES (S.left src.old) (S.left src.new) }
-    ensures write_fault { result ≡ Status.WriteFault → HasRisen (K.faults out.old) (K.faults out.new) }
-    ensures cut_by_fault { result ≡ Status.WriteFault → VerdictWasCut (S.left src.old) (S.left src.new) (K.held out.old) (K.held out.new) }
-    ensures no_memory { result ≡ Status.NoMemory → VerdictCameShort (S.left src.old) (S.left src.new) (K.held out.old) (K.held out.new) }
-    ensures complete { CanCheck (S.left src.old) → ¬ (HasRisen (S.faults src.old) (S.faults src.new)) → ¬ (HasRisen (K.faults out.old) (K.faults out.new)) → IsWell result }
+    ensures read_fault { result ≡ Status.ReadFault →
+        HasRisen (S.faults src.old) (S.faults src.new) }
+    ensures no_read_fault { result ≢ Status.ReadFault → S.faults src.new ≡ S.faults src.old }
+    ensures write_fault { result ≡ Status.WriteFault →
+        HasRisen (K.faults out.old) (K.faults out.new) }
+    ensures no_write_fault { result ≢ Status.WriteFault → K.faults out.new ≡ K.faults out.old }
     ensures not_usage { result ≢ Status.Usage }
 {
     let (bytes, trace) = match read_trace_input(alloc, src) {

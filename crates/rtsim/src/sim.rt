@@ -1,14 +1,11 @@
 //! The top call: the commands `sim` and `check`.
-ghost use Rattle.std.specs.Prelude.{◌≡◌, ◌≢◌, ℕ, true, false};
-ghost use Rattle.rt_base.specs.declared.TheConstants.{MOST_SET_BYTES, MOST_TRACE_BYTES};
-ghost use Rattle.rt_task.specs.declared.bad_set.BadSet.{BadSet};
+ghost use Rattle.std.specs.Prelude.{◌≡◌, ◌≢◌, true, false};
 ghost use Rattle.rt_fault.specs.Faults.{HasRisen};
-ghost use Rattle.rt_fault.specs.Reading.{TakesAtMost, TakesMoreThan};
-ghost use Rattle.rt_model.specs.Histories.{LinksAreTheTop};
-ghost use Rattle.trace_check.specs.declared.verdict.Verdict.TheVariants as verdicts;
+ghost use Rattle.rtsim.specs.Ends.{reading, writing};
 ghost use Rattle.rtsim.specs.Sim as commands;
-ghost use Rattle.rtsim.specs.Sim.{is_command, IsUnwritten, WasPlayed, WasCut, CameShort, WasRefused, CanPlay, IsWell};
-ghost use Rattle.rtsim.specs.Check.{WasChecked, VerdictWasCut, VerdictCameShort, WasNoTrace, CanCheck};
+ghost use Rattle.rtsim.specs.Sim.{is_command, IsUnwritten};
+ghost use Rattle.rtsim.specs.SimAnswers.{SimAnswers};
+ghost use Rattle.rtsim.specs.CheckAnswers.{CheckAnswers};
 
 use crate::check::check;
 use crate::play_set::play_set;
@@ -30,42 +27,19 @@ pub fn sim<S: Source, K: Sink>(alloc: Global, words: &[String], src: &mut S, out
     ensures unread { result ≡ Status.Usage → src.new ≡ src.old }
     ensures unwritten { IsUnwritten result → out.new ≡ out.old }
 
-    // A fault is answered only where a read or a write failed.
-    ensures read_fault { result ≡ Status.ReadFault → HasRisen (S.faults src.old) (S.faults src.new) }
-    ensures write_fault { result ≡ Status.WriteFault → HasRisen (K.faults out.old) (K.faults out.new) }
+    // A fault is answered exactly where a read or a write of this call failed.
+    ensures read_fault { result ≡ Status.ReadFault →
+        HasRisen (S.faults src.old) (S.faults src.new) }
+    ensures no_read_fault { result ≢ Status.ReadFault → S.faults src.new ≡ S.faults src.old }
+    ensures write_fault { result ≡ Status.WriteFault →
+        HasRisen (K.faults out.old) (K.faults out.new) }
+    ensures no_write_fault { result ≢ Status.WriteFault → K.faults out.new ≡ K.faults out.old }
 
-    // After each entry the links are those of the jobs of highest priority.
-    ensures links { LinksAreTheTop }
-
-    // `sim`: on Ok all input was read, and the sink got the text of its set and of the one legal history of the steps.
-    ensures ok { commands.is_sim words.now ≡ true → result ≡ Status.Ok → WasPlayed (S.left src.old) (S.left src.new) (K.held out.old) (K.held out.new) }
-
-    // The other answers of `sim` and their causes.
-    ensures bad_input { commands.is_sim words.now ≡ true → (bad : BadSet) → result ≡ Status.BadInput bad → WasRefused (S.left src.old) (S.left src.new) bad }
-    ensures too_long { commands.is_sim words.now ≡ true → result ≡ Status.TooLong → TakesMoreThan MOST_SET_BYTES (S.left src.old) (S.left src.new) }
-    ensures not_too_long { commands.is_sim words.now ≡ true → result ≢ Status.TooLong → TakesAtMost MOST_SET_BYTES (S.left src.old) (S.left src.new) }
-    ensures cut_by_fault { commands.is_sim words.now ≡ true → result ≡ Status.WriteFault → WasCut (S.left src.old) (S.left src.new) (K.held out.old) (K.held out.new) }
-    ensures no_memory { commands.is_sim words.now ≡ true → result ≡ Status.NoMemory → CameShort (S.left src.old) (S.left src.new) (K.held out.old) (K.held out.new) }
-    ensures not_invalid { commands.is_sim words.now ≡ true → (line : ℕ) → result ≢ Status.Invalid line }
-
-    // On a whole set that is played, from a source and to a sink without fault, `sim` is done, unless memory runs out.
-    ensures complete { commands.is_sim words.now ≡ true → CanPlay (S.left src.old) → ¬ (HasRisen (S.faults src.old) (S.faults src.new)) → ¬ (HasRisen (K.faults out.old) (K.faults out.new)) → IsWell result }
-
-    // `check`: on Ok and Invalid all input was read, and the sink got the one line that says what the trace is.
-    ensures check_ok { commands.is_check words.now ≡ true → result ≡ Status.Ok → (n : ℕ) × WasChecked (S.left src.old) (S.left src.new) (K.held out.old) (K.held out.new) (verdicts.Valid n) }
-    ensures check_invalid { commands.is_check words.now ≡ true → (line : ℕ) → result ≡ Status.Invalid line → WasChecked (S.left src.old) (S.left src.new) (K.held out.old) (K.held out.new) (verdicts.Invalid line) }
-    ensures invalid_of_check { (line : ℕ) → result ≡ Status.Invalid line → commands.is_check words.now ≡ true }
-
-    // The other answers of `check` and their causes.
-    ensures check_bad_input { commands.is_check words.now ≡ true → (bad : BadSet) → result ≡ Status.BadInput bad → WasNoTrace (S.left src.old) (S.left src.new) bad }
-    ensures check_too_long { commands.is_check words.now ≡ true → result ≡ Status.TooLong → TakesMoreThan MOST_TRACE_BYTES (S.left src.old) (S.left src.new) }
-    ensures check_not_too_long { commands.is_check words.now ≡ true → result ≢ Status.TooLong → TakesAtMost MOST_TRACE_BYTES (S.left src.old) (S.left src.new) }
-    ensures check_cut_by_fault { commands.is_check words.now ≡ true → result ≡ Status.WriteFault → VerdictWasCut (S.left src.old) (S.left src.new) (K.held out.old) (K.held out.new) }
-    ensures check_no_memory { commands.is_check words.now ≡ true → result ≡ Status.NoMemory → VerdictCameShort (S.left src.old) (S.left src.new) (K.held out.old) (K.held out.new) }
-
-    // On a whole valid trace, from a source and to a sink without fault, `check` says that it is valid, unless memory
-    // runs out.
-    ensures check_complete { commands.is_check words.now ≡ true → CanCheck (S.left src.old) → ¬ (HasRisen (S.faults src.old) (S.faults src.new)) → ¬ (HasRisen (K.faults out.old) (K.faults out.new)) → IsWell result }
+    // What each command answers, and what it read and wrote.
+    ensures sim { commands.is_sim words.now ≡ true → SimAnswers
+        (reading S.left S.faults src.old src.new) (writing K.held K.faults out.old out.new) result }
+    ensures check { commands.is_check words.now ≡ true → CheckAnswers
+        (reading S.left S.faults src.old src.new) (writing K.held K.faults out.old out.new) result }
 {
     if is_sim(words) {
         return play_set(alloc, src, out);

@@ -1,12 +1,11 @@
 //! The trace that a run checks.
-ghost use Rattle.std.specs.Prelude.{◌≡◌, ◌≢◌, ℕ, Err, IfOk};
+ghost use Rattle.std.specs.Prelude.{IfOk};
 ghost use Rattle.rt_base.specs.declared.TheConstants.{MOST_TRACE_BYTES};
-ghost use Rattle.rt_task.specs.declared.bad_set.BadSet.{BadSet};
-ghost use Rattle.rt_fault.specs.Faults.{HasRisen};
-ghost use Rattle.rt_fault.specs.Reading.{TakesAtMost, TakesMoreThan};
 ghost use Rattle.trace_read.specs.Lines.{lines_of};
 ghost use Rattle.trace_read.specs.Reads.{IsTraceOf};
+ghost use Rattle.rtsim.specs.Ends.{reading};
 ghost use Rattle.rtsim.specs.Check.{WasTrace, WasNoTrace};
+ghost use Rattle.rtsim.specs.Stopped.{EndsReading};
 
 use crate::refusal::{refused, unbuilt};
 use group_engine::is_built;
@@ -21,16 +20,12 @@ pub(crate) fn read_trace_input<S: Source>(
     alloc: Global,
     src: &mut S,
 ) -> Result<(Vec<u8>, Trace), Status>
-    ensures ok { IfOk result (λ x. WasTrace (S.left src.old) (S.left src.new) x.0.items x.1.setup) }
-    ensures trace { IfOk result (λ x. IsTraceOf x.0.items x.1.setup (lines_of x.1.lines) x.1.stop) }
-    ensures never { result ≢ Err Status.Ok }
-    ensures not_invalid { (line : ℕ) → result ≢ Err (Status.Invalid line) }
-    ensures not_usage { result ≢ Err Status.Usage }
-    ensures no_write { result ≢ Err Status.WriteFault }
-    ensures bad_input { (bad : BadSet) → result ≡ Err (Status.BadInput bad) → WasNoTrace (S.left src.old) (S.left src.new) bad }
-    ensures read_fault { result ≡ Err Status.ReadFault → HasRisen (S.faults src.old) (S.faults src.new) }
-    ensures too_long { result ≡ Err Status.TooLong → TakesMoreThan MOST_TRACE_BYTES (S.left src.old) (S.left src.new) }
-    ensures not_too_long { result ≢ Err Status.TooLong → TakesAtMost MOST_TRACE_BYTES (S.left src.old) (S.left src.new) }
+    ensures ok { let source = reading S.left S.faults src.old src.new in
+        IfOk result (λ x. WasTrace source x.0.items x.1.setup) }
+    ensures trace { IfOk result (λ x.
+        IsTraceOf x.0.items x.1.setup (lines_of x.1.lines) x.1.stop) }
+    ensures ends { let source = reading S.left S.faults src.old src.new in
+        EndsReading source MOST_TRACE_BYTES (WasNoTrace source) result }
 {
     let bytes = read_all(alloc, src, MOST_TRACE_BYTES)?;
     let trace = match read_trace(alloc, bytes.as_slice()) {

@@ -9,7 +9,8 @@ use trace_check::Verdict;
 /// A word, a number and a line feed.
 #[tactic(auto, using(std::proofs::Common::append_assoc))]
 fn put_word_and_number(out: &mut Vec<u8>, word: &[u8], number: u32) -> Result<(), AllocError>
-    ensures { OnOk result (out.new.items ≡ out.old.items ++ (word.now ++ (decimal number ++ 10 ∷ []))) }
+    ensures { OnOk result
+        (out.new.items ≡ out.old.items ++ (word.now ++ (decimal number ++ 10 ∷ []))) }
 {
     let mut buffer = Buffer::new();
     out.extend_from_slice(word)?;

@@ -13,46 +13,38 @@ use Rattle.trace_text.specs.Writing.{Came}
 pub record Coming (old new : Held) (before after : ℕ) (text left : List ℕ) : Type 0 where
   pub front : List ℕ
   pub came : Extends old new front
-  pub counted : before ≤ after
+  pub unfailed : after ≡ before
   pub split : text ≡ front ++ left
 
 -- no byte came yet
 pub coming-start : (h : Held) (f : ℕ) (text : List ℕ) → Coming h h f f text text
-coming-start h f text = record { front = []; came = Extends-none h; counted = omega arith; split = refl }
+coming-start h f text = record { front = []; came = Extends-none h; unfailed = refl; split = refl }
 
 -- the next part came
 pub coming-next : (a b c : Held) (f g h : ℕ) (text part left : List ℕ) → Coming a b f g text (part ++ left) → Came (Ok tt) b c g h part → Coming a c f h text left
 coming-next a b c f g h text part left s p = record {
   front = s.front ++ part;
   came = Extends-append a b c s.front part s.came p.0;
-  counted = omega (arith, s.counted, p.1);
+  unfailed = p.1 ∙ s.unfailed;
   split = s.split ∙ sym (append_assoc s.front part left);
 }
-
--- a count that rose has risen from each count before it
-risen : (f g h : ℕ) → f ≤ g → g ≤ h → HasRisen g h → HasRisen f h
-risen f g h low high rise = λ differs. by_case differs (g == 2 ^ 64 - 1) refl
-  where
-    by_case : f ≢ 2 ^ 64 - 1 → (b : Bool) → g == 2 ^ 64 - 1 ≡ b → f < h
-    by_case differs true e = let same : g ≡ 2 ^ 64 - 1 = eqb-true g (2 ^ 64 - 1) e in omega (arith, low, high, differs, same)
-    by_case differs false e = let up : g < h = rise (λ same. let k : g == 2 ^ 64 - 1 ≡ true = eq-eqb g (2 ^ 64 - 1) same in cc) in omega arith
 
 -- the next part stopped
 pub coming-stop : (e : WriteStop) (a b c : Held) (f g h : ℕ) (text part left : List ℕ) → Coming a b f g text (part ++ left) → Came (Err e) b c g h part → Came (Err e) a c f h text
 coming-stop stops.Fault a b c f g h text part left s p =
     let prefix = ExtendsByPrefix-more a c (s.front ++ part) left (ExtendsByPrefix-append a b c s.front part s.came p.0) in
-    (rw (s.split, ← append_assoc) prefix, omega (arith, s.counted, p.1), risen f g h s.counted p.1 p.2)
+    (rw (s.split, ← append_assoc) prefix, rw s.unfailed at p.1, rw s.unfailed at p.2)
 coming-stop stops.NoMemory a b c f g h text part left s p =
     let prefix = ExtendsByPrefix-more a c (s.front ++ part) left (ExtendsByPrefix-append a b c s.front part s.came p.0) in
-    (rw (s.split, ← append_assoc) prefix, omega (arith, s.counted, p.1))
+    (rw (s.split, ← append_assoc) prefix, p.1 ∙ s.unfailed)
 
 -- memory ran out before the next part
 pub coming-cut : (a b : Held) (f g : ℕ) (text left : List ℕ) → Coming a b f g text left → Came (Err stops.NoMemory) a b f g text
-coming-cut a b f g text left s = (ExtendsByPrefix-front a b text s.front left s.split s.came, s.counted)
+coming-cut a b f g text left s = (ExtendsByPrefix-front a b text s.front left s.split s.came, s.unfailed)
 
 -- all of it came
 pub coming-end : (a b : Held) (f g : ℕ) (text : List ℕ) → Coming a b f g text [] → Came (Ok tt) a b f g text
-coming-end a b f g text s = (rw (s.split, append-nil) s.came, s.counted)
+coming-end a b f g text s = (rw (s.split, append-nil) s.came, s.unfailed)
 
 -- memory ran out before any part
 pub came-none : (h : Held) (f : ℕ) (text : List ℕ) → Came (Err stops.NoMemory) h h f f text
@@ -65,11 +57,11 @@ came-err (Err x) e a b f g text h p = rw h p
 
 -- the last part came, or stopped
 pub coming-last : (r : Result (Unit {0}) WriteStop) (a b c : Held) (f g h : ℕ) (text part : List ℕ) → Coming a b f g text part → Came r b c g h part → Came r a c f h text
-coming-last (Ok u) a b c f g h text part s p = (rw s.split (Extends-append a b c s.front part s.came p.0), omega (arith, s.counted, p.1))
+coming-last (Ok u) a b c f g h text part s p = (rw s.split (Extends-append a b c s.front part s.came p.0), p.1 ∙ s.unfailed)
 coming-last (Err e) a b c f g h text part s p = coming-stop e a b c f g h text part [] more p
   where
     more : Coming a b f g text (part ++ [])
-    more = record { front = s.front; came = s.came; counted = s.counted; split = s.split ∙ ap (λ xs. s.front ++ xs) (sym (append-nil part)) }
+    more = record { front = s.front; came = s.came; unfailed = s.unfailed; split = s.split ∙ ap (λ xs. s.front ++ xs) (sym (append-nil part)) }
 
 -- the parts of an end
 pub came-ok : (r : Result (Unit {0}) WriteStop) (a b : Held) (f g : ℕ) (text : List ℕ) → Came r a b f g text → OnOk r (Extends a b text)
@@ -87,6 +79,11 @@ came-fault (Err stops.Fault) a b f g text p e = p.2
 came-fault (Err stops.NoMemory) a b f g text p e = cc
 
 pub came-counted : (r : Result (Unit {0}) WriteStop) (a b : Held) (f g : ℕ) (text : List ℕ) → Came r a b f g text → f ≤ g
-came-counted (Ok u) a b f g text p = p.1
+came-counted (Ok u) a b f g text p = let e : g ≡ f = p.1 in omega arith
 came-counted (Err stops.Fault) a b f g text p = p.1
-came-counted (Err stops.NoMemory) a b f g text p = p.1
+came-counted (Err stops.NoMemory) a b f g text p = let e : g ≡ f = p.1 in omega arith
+
+pub came-unfailed : (r : Result (Unit {0}) WriteStop) (a b : Held) (f g : ℕ) (text : List ℕ) → Came r a b f g text → r ≢ Err stops.Fault → g ≡ f
+came-unfailed (Ok u) a b f g text p other = p.1
+came-unfailed (Err stops.Fault) a b f g text p other = absurd (other refl)
+came-unfailed (Err stops.NoMemory) a b f g text p other = p.1

@@ -2,7 +2,7 @@
 //! each entry.
 #![tactic(auto)]
 
-ghost use Rattle.std.specs.Prelude.{◌≡◌, ◌≤◌, true, OnOk, OnErr, IfErr};
+ghost use Rattle.std.specs.Prelude.{◌≡◌, ◌≢◌, ◌≤◌, true, OnOk, OnErr, IfErr};
 ghost use Rattle.rt_fault.specs.Faults.{HasRisen};
 ghost use Rattle.rt_fault.specs.Held.{Extends, ExtendsByPrefix};
 ghost use Rattle.group_state.specs.Built.{is_built};
@@ -46,6 +46,7 @@ pub fn write_trace<K: Sink>(
     ensures stopped { let text = trace_text format_1 setup.now (histories groups.now) in
         OnErr result (ExtendsByPrefix (K.held out.old) (K.held out.new) text) }
     ensures fault { result ≡ Err stops.Fault → HasRisen (K.faults out.old) (K.faults out.new) }
+    ensures unfailed { result ≢ Err stops.Fault → K.faults out.new ≡ K.faults out.old }
     ensures counted { K.faults out.old ≤ K.faults out.new }
 {
     groups::write_all(alloc, setup, groups, out)

@@ -1,4 +1,4 @@
-use Rattle.trace_text.proofs.CameLaws.{came-ok, came-stopped, came-fault, came-counted}
+use Rattle.trace_text.proofs.CameLaws.{came-ok, came-stopped, came-fault, came-unfailed, came-counted}
 use Rattle.trace_text.proofs.write_trace.Goals as goal
 
 pub returns-clause-ok : goal.returns-clause-ok
@@ -12,3 +12,6 @@ returns-clause-fault g c = came-fault c.write_all.result _ _ (g.K.Sink.faults c.
 
 pub returns-clause-counted : goal.returns-clause-counted
 returns-clause-counted g c = came-counted c.write_all.result _ _ (g.K.Sink.faults c.args.out.now) (g.K.Sink.faults c.write_all.new.out) _ c.write_all.ensures
+
+pub returns-clause-unfailed : goal.returns-clause-unfailed
+returns-clause-unfailed g c = came-unfailed c.write_all.result _ _ (g.K.Sink.faults c.args.out.now) (g.K.Sink.faults c.write_all.new.out) _ c.write_all.ensures

@@ -3,33 +3,48 @@ use Rattle.rt_base.specs.declared.TheConstants.{MOST_SET_BYTES}
 use Rattle.rt_task.specs.Validity.{IsValid}
 use Rattle.set_read.specs.Sets.{set}
 use Rattle.group_state.specs.Built.{is_built}
-use Rattle.rt_fault.specs.declared.status.Status.TheVariants.{BadInput}
-use Rattle.rt_fault.specs.Stops.{unmade}
+use Rattle.rtsim.proofs.EndLaws.{ends-ok, ends-with, ends-handed, unread-cause, unmade-cause}
 use Rattle.rtsim.proofs.PlayableLaws.{playable-built, playable-unbuilt, playable-refused, stop-refused}
 use Rattle.rtsim.proofs.input.read_input.Goals as goal
 
-pub returns-in_err-setup-clause-bad_input : goal.returns-in_err-setup-clause-bad_input
-returns-in_err-setup-clause-bad_input g c = λ b same.
+pub returns-in_err-bytes-clause-ends : goal.returns-in_err-bytes-clause-ends
+returns-in_err-bytes-clause-ends g c =
+    let stopped = c.in_err-bytes.ensures in
+    ends-handed _ _ _ _ _ c.from_residual.ensures.1
+    (unread-cause _ _ _ c.in_err-bytes.field-0.0 stopped.fault stopped.unfailed stopped.too_long stopped.not_too_long)
+
+pub returns-in_err-setup-clause-ends : goal.returns-in_err-setup-clause-ends
+returns-in_err-setup-clause-ends g c =
     let within : length c.in_ok-bytes.bytes.items ≤ MOST_SET_BYTES = omega (arith, c.in_ok-bytes.ensures.within, c.in_ok-bytes.bytes.ok.0) in
-    let said : BadInput b ≡ unmade c.in_err-setup.field-0.0 = rw same at c.from_residual-in_err-setup.ensures.1 in
-    record {
+    ends-handed _ _ _ _ _ c.from_residual-in_err-setup.ensures.1
+    (unmade-cause _ _ _ c.in_err-setup.field-0.0
+    (λ b said. record {
       bytes = c.in_ok-bytes.bytes.items;
       all = c.in_ok-bytes.ensures.ok;
       within = within;
-      refused = playable-refused _ b (rw (sym c.as_slice.ensures.value) (stop-refused _ b _ c.in_err-setup.ensures (sym said)));
-    }
+      refused = playable-refused _ b (rw (sym c.as_slice.ensures.value) (stop-refused _ b _ c.in_err-setup.ensures said));
+    })
+    (c.in_ok-bytes.ensures.unfailed (λ is. cc)) (c.in_ok-bytes.ensures.not_too_long (λ is. cc)))
 
-pub returns-then-not-is_built-clause-bad_input : goal.returns-then-not-is_built-clause-bad_input
-returns-then-not-is_built-clause-bad_input g c = λ b same.
+pub returns-then-not-is_built-clause-ends : goal.returns-then-not-is_built-clause-ends
+returns-then-not-is_built-clause-ends g c =
     let within : length c.in_ok-bytes.bytes.items ≤ MOST_SET_BYTES = omega (arith, c.in_ok-bytes.ensures.within, c.in_ok-bytes.bytes.ok.0) in
     let reads : set c.in_ok-bytes.bytes.items ≡ Ok c.in_ok-setup.setup = ap set (sym c.as_slice.ensures.value) ∙ c.in_ok-setup.ensures in
     let unbuilt : is_built c.in_ok-setup.setup ≡ false = sym c.is_built.ensures ∙ c.if-not-is_built.true in
-    record {
-      bytes = c.in_ok-bytes.bytes.items;
-      all = c.in_ok-bytes.ensures.ok;
-      within = within;
-      refused = playable-unbuilt _ _ reads unbuilt ∙ cc;
-    }
+    ends-with _ _ _ _ _ c.unbuilt.ensures (
+      record {
+        bytes = c.in_ok-bytes.bytes.items;
+        all = c.in_ok-bytes.ensures.ok;
+        within = within;
+        refused = playable-unbuilt _ _ reads unbuilt;
+      },
+      c.in_ok-bytes.ensures.unfailed (λ is. cc),
+      c.in_ok-bytes.ensures.not_too_long (λ is. cc),
+    )
+
+pub returns-clause-ends : goal.returns-clause-ends
+returns-clause-ends g c =
+    ends-ok _ _ _ _ (c.in_ok-bytes.ensures.unfailed (λ is. cc)) (c.in_ok-bytes.ensures.not_too_long (λ is. cc))
 
 pub returns-clause-ok : goal.returns-clause-ok
 returns-clause-ok g c =

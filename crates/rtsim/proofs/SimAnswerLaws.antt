@@ -1,0 +1,86 @@
+-- The answers of `sim`, by how its reading and its writing ended.
+use Rattle.std.proofs.Common.{◌≡◌, List, [], take, get_or, ap, inl, inr}
+use Rattle.std.specs.Prelude.{◌⊎◌, Result, Err}
+use Rattle.rt_base.specs.declared.TheConstants.{MOST_SET_BYTES}
+use Rattle.rt_task.specs.declared.Parts.{Parts}
+use Rattle.rt_history.specs.declared.Entry.{Entry}
+use Rattle.rt_fault.specs.Faults.{HasRisen}
+use Rattle.rt_fault.specs.Held.{Extends, ExtendsByPrefix}
+use Rattle.rt_fault.specs.Reading.{TakesAtMost}
+use Rattle.rt_fault.specs.declared.status.Status.{Status}
+use Rattle.rt_fault.specs.declared.status.Status.TheVariants as ends
+use Rattle.rt_model.proofs.PastLaws.{links_are_the_top}
+use Rattle.rtsim.specs.Ends.{Reading, Writing}
+use Rattle.rtsim.specs.LinksOf.{LinksAreTheTopOf}
+use Rattle.rt_plays.specs.Order.{histories}
+use Rattle.rtsim.specs.Sim.{WasRead, WasRefused, set_trace}
+use Rattle.rtsim.specs.SimAnswers.{SimAnswers}
+use Rattle.rtsim.specs.Stopped.{EndsReading}
+use Rattle.rtsim.proofs.EndLaws.{ended-well}
+use Rattle.rtsim.proofs.SimLaws.{can_play-told, can_play-unrefused}
+
+links-of : (p : Parts) (hs : List (List Entry)) → LinksAreTheTopOf p hs
+links-of p hs n k low within c t = links_are_the_top (record { setup = p; number = n }) (take k (get_or hs n [])) c t
+
+-- no set was read
+pub sim-unread :
+    {T : Type 0} (source : Reading) (sink : Writing) (answer : Status) → EndsReading {T = T} source MOST_SET_BYTES (WasRefused source) (Err answer)
+    → sink.new ≡ sink.old → SimAnswers source sink answer
+sim-unread {T} source sink answer e same =
+    let err = λ (s : Status) (is : answer ≡ s). ap (λ (x : Status). let r : Result T Status = Err x in r) is in
+    record {
+      ok = λ is. absurd (e.not_ok (err _ is));
+      bad_input = λ b is. e.bad_input b (err _ is);
+      too_long = λ is. e.too_long (err _ is);
+      not_too_long = λ other. e.not_too_long (λ is. other cc);
+      cut_by_fault = λ is. absurd (e.not_write_fault (err _ is));
+      no_memory = λ _. inl same;
+      not_invalid = λ line is. e.not_invalid line (err _ is);
+      complete = λ can sure. ended-well source MOST_SET_BYTES (WasRefused source) answer e (can_play-told _ can) sure.read (λ b. can_play-unrefused source b can);
+    }
+
+-- a set was read, and its trace written, or a first part of it
+abbrev pub Wrote : Writing → Parts → Status → Type 0
+Wrote sink p ends.Ok = Extends sink.old.held sink.new.held (set_trace p)
+Wrote sink p ends.WriteFault = ExtendsByPrefix sink.old.held sink.new.held (set_trace p) × HasRisen sink.old.faults sink.new.faults
+Wrote sink p ends.NoMemory = (sink.new ≡ sink.old) ⊎ ExtendsByPrefix sink.old.held sink.new.held (set_trace p)
+Wrote sink p _ = ⊥
+
+pub sim-read :
+    (source : Reading) (sink : Writing) (p : Parts) (answer : Status) → WasRead source p
+    → TakesAtMost MOST_SET_BYTES source.old.left source.new.left → Wrote sink p answer → SimAnswers source sink answer
+sim-read source sink p ends.Ok read few all = record {
+  ok = λ _. record { setup = p; read = read; written = all; links = links-of p (histories p) };
+  bad_input = λ b is. cc;
+  too_long = λ is. cc;
+  not_too_long = λ _. few;
+  cut_by_fault = λ is. cc;
+  no_memory = λ is. cc;
+  not_invalid = λ line is. cc;
+  complete = λ _ _. tt;
+}
+sim-read source sink p ends.WriteFault read few (part, risen) = record {
+  ok = λ is. cc;
+  bad_input = λ b is. cc;
+  too_long = λ is. cc;
+  not_too_long = λ _. few;
+  cut_by_fault = λ _. record { setup = p; read = read; written = part };
+  no_memory = λ is. cc;
+  not_invalid = λ line is. cc;
+  complete = λ _ sure. absurd (sure.write risen);
+}
+sim-read source sink p ends.NoMemory read few short = record {
+  ok = λ is. cc;
+  bad_input = λ b is. cc;
+  too_long = λ is. cc;
+  not_too_long = λ _. few;
+  cut_by_fault = λ is. cc;
+  no_memory = λ _. elim short [ inl same ↦ inl same | inr part ↦ inr (record { setup = p; read = read; written = part }) ];
+  not_invalid = λ line is. cc;
+  complete = λ _ _. tt;
+}
+sim-read source sink p (ends.Invalid line) read few h = absurd h
+sim-read source sink p ends.Usage read few h = absurd h
+sim-read source sink p (ends.BadInput b) read few h = absurd h
+sim-read source sink p ends.ReadFault read few h = absurd h
+sim-read source sink p ends.TooLong read few h = absurd h
