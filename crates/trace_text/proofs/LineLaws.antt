@@ -92,7 +92,7 @@ no_request g p e built none =
 pub requests_none : (g : Group) (p : Past) (es : List Entry) → All (IsPlayedEntry g) es → requests p ≡ [] → requests (past_from g p es) ≡ []
 unfolding past_from
 requests_none g p [] played none = none
-requests_none g p (e ∷ es) played none = requests_none g (after g e.step p) es (λ k d h. played (suc k) d (omega arith)) (no_request g p e (played 0 e (omega arith)).0 none)
+requests_none g p (e ∷ es) played none = requests_none g (after g e.step p) es (λ k d h. played (suc k) d (omega arith)) (no_request g p e (played 0 e (omega arith)).built none)
 
 pub blocks_none : (g : Group) (es : List Entry) → All (IsPlayedEntry g) es → block_lines g (past_of g es) ≡ []
 unfolding block_lines past_of requests
