@@ -113,10 +113,10 @@ impl PcpSet {
             } }
         ensures granted { (result ≡ Ask.Granted) ↔
             (passes (above_ceiling self.new.keys self.new.ceilings)
-                self.old.state.held task.0 ≡ true) }
+            self.old.state.held task.0 ≡ true) }
         ensures queued { (result ≡ Ask.Queued) ↔
             (passes (above_ceiling self.new.keys self.new.ceilings)
-                self.old.state.held task.0 ≡ false) }
+            self.old.state.held task.0 ≡ false) }
         ensures settled { IsSettled self.new }
     {
         self.keys[task.0 as usize] = key;
