@@ -37,9 +37,14 @@ impl Model for Engine {
 
     ghost Value = { GroupHistory };
 
-    ghost view = { λ a. record { setup = a.setup; group = a.group.0; entries = a.entries.items; spare = a.room - vec_len a.entries } };
+    ghost view = { λ a. record {
+        setup = a.setup; group = a.group.0;
+        entries = a.entries.items; spare = a.room - vec_len a.entries;
+    } };
 
-    ghost invariant = { λ a. IsSound (record { setup = a.setup; number = a.group.0 }) a.entries.items a.room (vec_capacity a.entries) a.state };
+    ghost invariant = { λ a.
+        IsSound (record { setup = a.setup; number = a.group.0 })
+            a.entries.items a.room (vec_capacity a.entries) a.state };
 }
 
 impl Engine {

@@ -37,9 +37,13 @@ impl Model for Afresh {
 
     ghost Value = { Standing };
 
-    ghost view = { λ a. record { setup = a.setup; group = a.group.0; facts = a.facts.facts; spare = a.spare; ended = a.ended } };
+    ghost view = { λ a. record {
+        setup = a.setup; group = a.group.0; facts = a.facts.facts;
+        spare = a.spare; ended = a.ended;
+    } };
 
-    ghost invariant = { λ a. IsFit (record { setup = a.setup; number = a.group.0 }) a.facts.facts a.facts.next a.spare };
+    ghost invariant = { λ a.
+        IsFit (record { setup = a.setup; number = a.group.0 }) a.facts.facts a.facts.next a.spare };
 }
 
 impl Afresh {
