@@ -1,30 +1,26 @@
 -- Every waiting PCP task of a cluster has the same blocker, the owner of the newest grant, and that one does not wait: each walk is one step long.
-use Rattle.rt_order.specs.declared.Key.{Key}
-use Rattle.rt_rules.proofs.RankingLaws.{lt-trans}
-use Rattle.std.proofs.Common.{Bool, List, [], ap, arith, cond, eqb-true, false, inl, inr, map, not, refl, subst, suc, sym, true, zero, ℕ, ◌&&◌, ◌||◌, ◌∙◌, ◌∷◌, ◌≡◌, ◌⊎◌}
-use Rattle.std.proofs.lemmas.Bool.Decides.{nat_tests}
-use Rattle.std.specs.Prelude.{None, Option, Some, filter, is_none, nat_lt, ◌==◌}
+use Rattle.std.proofs.Common.{Bool, List, [], ap, false, refl, subst, suc, sym, true, zero, ℕ, ◌∙◌, ◌∷◌, ◌≡◌}
+use Rattle.std.specs.Prelude.{None, Option, Some, is_none}
 use Rattle.rt_task.specs.declared.Protocol.TheVariants.{Fmlp, Mpcp, Omlp, Pcp}
 use Rattle.rt_task.specs.declared.Protocol.{Protocol}
-use Rattle.rt_order.specs.KeyOrder.{higher}
-use Rattle.rt_rules.specs.Numbers.{first, foremost, has, is}
-use Rattle.rt_rules.specs.Pcp.{TaskSem, holder_among, of_others, of_sem, passes}
+use Rattle.rt_rules.specs.Numbers.{first, has, is}
+use Rattle.rt_rules.specs.Pcp.{TaskSem, of_others, of_sem, passes}
 use Rattle.rt_rules.specs.Walks.{walk}
 use Rattle.rt_model.specs.BaseKeys.{base_key}
 use Rattle.rt_model.specs.Blockers.{blocker, blocker_among, has_higher_ceiling}
 use Rattle.rt_model.specs.Ceilings.{above_ceiling, ceiling, is_pcp, pcp}
 use Rattle.rt_model.specs.EffectiveKeys.{next_at, next_by, waits_for}
-use Rattle.rt_model.specs.Group.{Group, home, protocol, sems, users}
+use Rattle.rt_model.specs.Group.{Group, home, protocol, sems}
 use Rattle.rt_model.specs.Holders.{awaits, holder, sem_state}
 use Rattle.rt_model.specs.Reachable.{IsReachable}
 use Rattle.rt_model.specs.Past.{Past}
 use Rattle.rt_model.specs.Semaphores.{cluster_of}
-use Rattle.rt_rules.proofs.BoolLaws.{both, clash, either, or_true, unless, not_true}
-use Rattle.rt_order.specs.OrderLaws.{higher-irreflexive as higher-self, higher-transitive as higher-trans}
-use Rattle.rt_rules.proofs.KeyLaws.{IsOrder, foremost-none, foremost-some, higher-below, higher-falls, higher-mixed}
-use Rattle.rt_rules.proofs.MemberLaws.{equal_self, has-first, some-is, turned}
-use Rattle.rt_rules.proofs.PairLaws.{has-of_sem, has_pair, has_pair-others, sem-there}
-use Rattle.rt_rules.proofs.PcpLaws.{IsStacked, newest-other, passes-above_ceiling}
+use Rattle.rt_rules.proofs.BoolLaws.{clash, unless}
+use Rattle.rt_rules.proofs.MemberLaws.{equal_self, some-is}
+use Rattle.rt_rules.proofs.PairLaws.{has_pair}
+use Rattle.rt_rules.proofs.BlockerLaws.{newest-of_others}
+use Rattle.rt_rules.proofs.PairLaws.{tasks_of_pairs}
+use Rattle.rt_rules.proofs.PcpLaws.{IsStacked, newest-other}
 use Rattle.rt_laws.proofs.GroupLaws.{user-task}
 use Rattle.rt_laws.proofs.HasHolder.{has_holder}
 use Rattle.rt_laws.proofs.PcpState.{pcp-waiting, pcp-holder, sem-home, IsPcpKept, IsUser, pcp-first, pcp_kept, user-not_over}
@@ -32,72 +28,16 @@ use Rattle.rt_laws.proofs.Rules.{MeetsRules}
 use Rattle.rt_laws.proofs.Waiting.{awaits-waits, none-waits}
 use Rattle.rt_laws.proofs.WaitsHolding.{waits_under_pcp}
 
-higher-order : (g : Group) → IsOrder (has_higher_ceiling g)
-unfolding has_higher_ceiling
-higher-order g = record {
-  trans = λ x y z h k. trans (ceiling g x) (ceiling g y) (ceiling g z) x y z (either (higher (ceiling g x) (ceiling g y)) _ h) (either (higher (ceiling g y) (ceiling g z)) _ k);
-  total = λ x y ne h. total (higher (ceiling g x) (ceiling g y)) (higher (ceiling g y) (ceiling g x)) x y ne h;
-}
-  where
-    total : (a b : Bool) (x y : ℕ) → x == y ≡ false → a || not b && nat_lt x y ≡ false → b || not a && nat_lt y x ≡ true
-    total true b x y ne h = cc
-    total false true x y ne h = refl
-    total false false x y ne h = grind (arith, nat_tests)
-
-    trans : (i j k : Key) (x y z : ℕ) → (higher i j ≡ true) ⊎ (not (higher j i) && nat_lt x y ≡ true) → (higher j k ≡ true) ⊎ (not (higher k j) && nat_lt y z ≡ true) → higher i k || not (higher k i) && nat_lt x z ≡ true
-    trans i j k x y z (inl a) (inl b) = rw (higher-trans i j k a b)
-    trans i j k x y z (inl a) (inr b) = rw (higher-below i j k a (not_true _ (both _ _ b).0))
-    trans i j k x y z (inr a) (inl b) = rw (higher-mixed j i k (not_true _ (both _ _ a).0) b)
-    trans i j k x y z (inr a) (inr b) = rw (higher-falls i j k (not_true _ (both (not (higher j i)) (nat_lt x y) a).0) (not_true _ (both (not (higher k j)) (nat_lt y z) b).0), lt-trans x y z (both (not (higher j i)) (nat_lt x y) a).1 (both (not (higher k j)) (nat_lt y z) b).1) (or_true (higher i k))
-
--- the blocker is the owner of the newest grant
-newest-blocks : (g : Group) (t : ℕ) (p : TaskSem) (ps : List TaskSem) → IsStacked (above_ceiling g) (p ∷ ps) → has p.task (users g p.sem) ≡ true → passes (above_ceiling g) (p ∷ ps) t ≡ false → blocker_among g (of_others t (p ∷ ps)) ≡ Some p.task
+-- the blocker of a task that does not pass is the owner of the newest grant
+newest-blocks :
+    (g : Group) (t : ℕ) (p : TaskSem) (ps : List TaskSem) → IsStacked (above_ceiling g) (p ∷ ps)
+    → ((u s : ℕ) → has_pair u s (p ∷ ps) ≡ true → above_ceiling g u s ≡ false) → passes (above_ceiling g) (p ∷ ps) t ≡ false
+    → blocker_among g (of_others t (p ∷ ps)) ≡ Some p.task
 unfolding blocker_among has_higher_ceiling above_ceiling
-newest-blocks g t p ps k user h = rw others_are (by_case (foremost (has_higher_ceiling g) (p.sem ∷ map (λ (q : TaskSem). q.sem) (of_others t ps))) refl)
-  where
-    others_are : of_others t (p ∷ ps) ≡ p ∷ of_others t ps
-    others_are = rw (newest-other (above_ceiling g) p ps t k h)
-
-    -- the owner of the newest grant is over what others hold, but not over what it holds
-    lower : (x r : ℕ) → has_pair x r ps ≡ true → x == p.task ≡ false → higher (ceiling g p.sem) (ceiling g r) ≡ true
-    lower x r m n = higher-mixed (base_key g p.task []) (ceiling g p.sem) (ceiling g r) (user-not_over g p.task p.sem user) (passes-above_ceiling (above_ceiling g) ps p.task x r k.0 m n)
-
-    leads_not : (r : ℕ) → p.sem == r ≡ false → higher (ceiling g p.sem) (ceiling g r) ≡ true → r == p.sem || has_higher_ceiling g r p.sem ≡ true → ⊥
-    leads_not r ne up lead = no (r == p.sem) (higher (ceiling g r) (ceiling g p.sem)) (higher (ceiling g p.sem) (ceiling g r)) lead (turned r p.sem ∙ ne) (unless _ (λ m. clash _ (higher-trans (ceiling g r) (ceiling g p.sem) (ceiling g r) m up) (higher-self (ceiling g r)))) up
-      where
-        no : (a b c : Bool) → a || (b || not c && nat_lt r p.sem) ≡ true → a ≡ false → b ≡ false → c ≡ true → ⊥
-        no true b c l x y z = cc
-        no false true c l x y z = cc
-        no false false true l x y z = cc
-        no false false false l x y z = cc
-
-    owner : (r x : ℕ) → p.sem == r ≡ false → r == p.sem || has_higher_ceiling g r p.sem ≡ true → has_pair x r ps ≡ true → x ≡ p.task
-    owner r x ne lead there = by_eq (x == p.task) refl
-      where
-        by_eq : (b : Bool) → x == p.task ≡ b → x ≡ p.task
-        by_eq true m = eqb-true x p.task m
-        by_eq false m = absurd (leads_not r ne (lower x r there m) lead)
-
-    found : (r : ℕ) → p.sem == r ≡ false → has r (p.sem ∷ map (λ (q : TaskSem). q.sem) (of_others t ps)) ≡ true → r == p.sem || has_higher_ceiling g r p.sem ≡ true → (o : Option ℕ) → first (of_sem r (of_others t ps)) ≡ o → o ≡ Some p.task
-    found r ne h lead None e = absurd (missing (either (r == p.sem) _ h))
-      where
-        missing : (r == p.sem ≡ true) ⊎ (has r (map (λ (q : TaskSem). q.sem) (of_others t ps)) ≡ true) → ⊥
-        missing (inl m) = clash _ m (turned r p.sem ∙ ne)
-        missing (inr m) = let z : is_none (first (of_sem r (of_others t ps))) ≡ false = sem-there r (of_others t ps) m in let y : true ≡ false = rw e at z in cc
-    found r ne h lead (Some x) e =
-        let there : has_pair x r (of_others t ps) ≡ true = sym (has-of_sem x r (of_others t ps)) ∙ has-first x (of_sem r (of_others t ps)) (some-is x (first (of_sem r (of_others t ps))) e) in
-        ap {B = Option ℕ} (λ n. Some n) (owner r x ne lead (has_pair-others t x r ps there))
-
-    by_case : (o : Option ℕ) → foremost (has_higher_ceiling g) (p.sem ∷ map (λ (q : TaskSem). q.sem) (of_others t ps)) ≡ o → holder_among (p ∷ of_others t ps) o ≡ Some p.task
-    by_case None e = let none : p.sem ∷ map (λ (q : TaskSem). q.sem) (of_others t ps) ≡ [] = foremost-none (has_higher_ceiling g) (higher-order g) (p.sem ∷ map (λ (q : TaskSem). q.sem) (of_others t ps)) e in cc
-    by_case (Some r) e = at (p.sem == r) refl
-      where
-        facts : (has r (p.sem ∷ map (λ (q : TaskSem). q.sem) (of_others t ps)) ≡ true) × ((y : ℕ) → has y (p.sem ∷ map (λ (q : TaskSem). q.sem) (of_others t ps)) ≡ true → r == y || has_higher_ceiling g r y ≡ true)
-        facts = foremost-some (has_higher_ceiling g) (p.sem ∷ map (λ (q : TaskSem). q.sem) (of_others t ps)) r e
-
-        at : (b : Bool) → p.sem == r ≡ b → first (map (λ (q : TaskSem). q.task) (cond b (p ∷ filter (λ q. q.sem == r) (of_others t ps)) (filter (λ q. q.sem == r) (of_others t ps)))) ≡ Some p.task
-        at true m = refl
-        at false m = found r m facts.0 (facts.1 p.sem (rw (equal_self p.sem))) (first (of_sem r (of_others t ps))) refl
+newest-blocks g t p ps k low stops =
+    let newest = newest-of_others (λ u. base_key g u []) (ceiling g) t (p ∷ ps) k low in
+    let others_are : of_others t (p ∷ ps) ≡ p ∷ of_others t ps = rw (newest-other (above_ceiling g) p ps t k stops) in
+    newest ∙ ap (λ qs. first (tasks_of_pairs qs)) others_are
 
 -- ---- walks
 
@@ -158,8 +98,8 @@ module _ (g : Group) (rules : MeetsRules g) (past : Past) (made : IsReachable g 
       by_held : (l : List TaskSem) → (pcp g (home g t) past).held ≡ l → (u : ℕ) × (blocker_among g (of_others t (pcp g (home g t) past).held) ≡ Some u) × (awaits g u past ≡ None)
       by_held [] e = let m : passes (above_ceiling g) [] t ≡ false = subst (λ l. passes (above_ceiling g) l t ≡ false) e stops in cc
       by_held (p ∷ ps) e =
-          let there : has_pair p.task p.sem (pcp g (home g t) past).held ≡ true = rw (e, equal_self p.task, equal_self p.sem) in
-          let blocks : blocker_among g (of_others t (p ∷ ps)) ≡ Some p.task = newest-blocks g t p ps (subst (λ l. IsStacked (above_ceiling g) l) e kept.stack.stacked) (kept.held p.task p.sem there).user (subst (λ l. passes (above_ceiling g) l t ≡ false) e stops) in
+          let low = subst (λ l. (u r : ℕ) → has_pair u r l ≡ true → above_ceiling g u r ≡ false) e (λ u r m. user-not_over g u r (kept.held u r m).user) in
+          let blocks : blocker_among g (of_others t (p ∷ ps)) ≡ Some p.task = newest-blocks g t p ps (subst (λ l. IsStacked (above_ceiling g) l) e kept.stack.stacked) low (subst (λ l. passes (above_ceiling g) l t ≡ false) e stops) in
           (p.task, subst (λ l. blocker_among g (of_others t l) ≡ Some p.task) (sym e) blocks, newest-free (home g t) p ps e)
 
   -- whoever waits waits for a task that does not

@@ -1,30 +1,25 @@
 -- The steps of a valid set name what is there, and their numbers are within the limits.
-use Rattle.std.proofs.Common.{Bool, List, [], ap, arith, cond, eqb-true, inl, inr, length, ltb-true, map, refl, subst, suc, sym, true, zero, ℕ, ◌&&◌, ◌++◌, ◌+◌, ◌-◌, ◌<◌, ◌∙◌, ◌∷◌, ◌≡◌, ◌≤◌, ◌||◌, ◌⊎◌, get_or}
+use Rattle.std.proofs.Common.{List, [], ap, arith, eqb-true, inl, inr, length, ltb-true, map, refl, subst, suc, sym, true, zero, ℕ, ◌&&◌, ◌-◌, ◌<◌, ◌∙◌, ◌∷◌, ◌≡◌, ◌⊎◌, get_or}
 use Rattle.std.proofs.lemmas.List.{get_or-map, length-map}
 use Rattle.std.proofs.lemmas.List.Concat.{flat_map-cons}
-use Rattle.std.specs.Prelude.{None, Option, Some, All, filter, flat_map, if◌then◌else◌, nat_lt, option_map, slice_get, slice_index_or, unwrap_or, ◌==◌}
+use Rattle.std.specs.Prelude.{flat_map, nat_lt, option_map, slice_get, slice_index_or, unwrap_or, ◌==◌}
 use Rattle.rt_base.specs.declared.TheConstants.{TICK_END}
 use Rattle.rt_task.specs.declared.Act.{Act}
 use Rattle.rt_task.specs.declared.Act.TheVariants as acts
 use Rattle.rt_task.specs.declared.Cluster.{Cluster}
-use Rattle.rt_task.specs.declared.Drive.{Drive}
-use Rattle.rt_task.specs.declared.Drive.TheVariants.{Steps}
 use Rattle.rt_task.specs.declared.Op.{Op}
 use Rattle.rt_task.specs.declared.Op.TheVariants as ops
 use Rattle.rt_task.specs.declared.Step.{Step}
 use Rattle.rt_task.specs.declared.Task.{Task}
-use Rattle.rt_task.specs.declared.draft.Draft.{Draft}
 use Rattle.rt_task.specs.declared.draft.DraftCluster.{DraftCluster}
-use Rattle.rt_task.specs.declared.draft.DraftStep.{DraftStep}
 use Rattle.rt_task.specs.declared.draft.DraftTask.{DraftTask}
 use Rattle.rt_task.specs.Draft.{draft_cluster, draft_drive, draft_of, draft_step, draft_task, runs, steps_of}
 use Rattle.rt_task.specs.Lookups.{cluster_among, cluster_of_task, group_of}
 use Rattle.rt_task.specs.Lookups as lookups
 use Rattle.rt_task.specs.NameRules.{act_is_known, step_name}
 use Rattle.rt_task.specs.RangeRules.{step_range}
-use Rattle.rt_task.specs.RuleWords.{act_in_range, is_known, is_span}
+use Rattle.rt_task.specs.RuleWords.{act_in_range, is_known}
 use Rattle.rt_task.specs.SharingRules.{act_is_in_group, step_sharing}
-use Rattle.rt_task.specs.Validity.{IsValid}
 use Rattle.rt_rules.specs.Numbers.{has, numbers_from}
 use Rattle.rt_rules.proofs.BoolLaws.{both, either, or_true}
 use Rattle.rt_rules.proofs.MemberLaws.{equal_self, has-append, has-filter}
