@@ -6,11 +6,10 @@ ghost use Rattle.rt_base.specs.TaskNos.{numbers};
 ghost use Rattle.ready_heap.specs.Row.{key_at};
 ghost use Rattle.ready_queue.specs.Queue.{first_tasks};
 
-mod heaps;
 mod ranked_list;
 
 pub use ranked_list::{RankedList, RankedTask};
-use ready_heap::ReadyHeap;
+use ready_heap::{ReadyHeap, uncounted};
 use rt_base::{NoMemory, TaskNo};
 use rt_order::{ByKey, Key};
 use std::alloc::Global;
@@ -44,6 +43,8 @@ impl Model for ReadyQueue {
 
 impl ReadyQueue {
     /// An empty set for tasks whose numbers are below the room, with so many first ones. No later call takes memory.
+    ///
+    /// Example: `ReadyQueue::new(alloc, 2, 64)` takes the tasks 0 to 63, for a cluster of two processors.
     pub fn new(alloc: Global, most: u32, room: u32) -> Result<ReadyQueue, NoMemory>
         ensures { IfOk result (λ q. q ≡ record { most = most; keys = replicate room None }) }
     {
@@ -66,6 +67,8 @@ impl ReadyQueue {
     }
 
     /// Writes the first tasks, highest first, in place of what `into` holds, which has room for them.
+    ///
+    /// Example: of three tasks in a set with two first ones, `queue.copy_first(&mut top)` writes the two highest.
     pub fn copy_first(&self, into: &mut Vec<TaskNo>)
         requires { self.now.most ≤ vec_capacity into.old }
         ensures first { numbers into.new.items ≡ first_tasks self.now.most self.now.keys }
@@ -75,6 +78,8 @@ impl ReadyQueue {
     }
 
     /// Gives the task this key, or takes it out, whether it is in or not.
+    ///
+    /// Example: `queue.set(TaskNo(3), Some(key))` makes task 3 ready, and `queue.set(TaskNo(3), None)` takes it out.
     pub fn set(&mut self, task: TaskNo, key: Option<Key>)
         requires { task.0 < length self.old.keys }
         ensures { self.new ≡ record self.old { keys = slice_set self.old.keys task.0 key } }
@@ -89,12 +94,12 @@ impl ReadyQueue {
         requires { task.0 < length self.old.keys }
         ensures { self.new ≡ record self.old { keys = slice_set self.old.keys task.0 None } }
     {
-        heaps::take_out(&mut self.all, task);
+        uncounted::take_out(&mut self.all, task);
         if !self.first.remove(task) {
-            heaps::take_out(&mut self.rest, task);
+            uncounted::take_out(&mut self.rest, task);
             return;
         }
-        if let Some((next, key)) = heaps::take_first(&mut self.rest) {
+        if let Some((next, key)) = uncounted::take_first(&mut self.rest) {
             self.first.push(key, next);
         }
     }
@@ -104,12 +109,12 @@ impl ReadyQueue {
         requires absent { key_at self.old.keys task.0 ≡ None }
         ensures { self.new ≡ record self.old { keys = slice_set self.old.keys task.0 (Some key) } }
     {
-        heaps::put_in(&mut self.all, task, key);
+        uncounted::put_in(&mut self.all, task, key);
         self.first.insert(key, task);
         if self.first.as_slice().len() > self.most
             && let Some(last) = self.first.pop()
         {
-            heaps::put_in(&mut self.rest, last.task, last.key);
+            uncounted::put_in(&mut self.rest, last.task, last.key);
         }
     }
 }

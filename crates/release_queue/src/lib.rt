@@ -5,12 +5,11 @@ ghost use Rattle.std.specs.Prelude.{◌≡◌, ◌<◌, IfNone, IfOk, IfSome, No
 ghost use Rattle.ready_heap.specs.Row.{key_at};
 ghost use Rattle.release_queue.specs.Timers.{key_of_tick, tick_at, IsNextDue, NothingDue};
 
-use ready_heap::ReadyHeap;
+use ready_heap::{ReadyHeap, uncounted};
 use rt_base::{NoMemory, TaskNo, Tick};
-use rt_order::{ByKey, Key, Steps};
+use rt_order::{ByKey, Key};
 use std::alloc::Global;
-use std::marker::{Brand, Model};
-use std::sync::ledger::{Blank, Ledger};
+use std::marker::Model;
 
 /// The armed tasks, in a heap by tick: contracts see at each task's number below the room the tick that the task waits
 /// for, or none where it is not armed.
@@ -44,32 +43,6 @@ fn key_of(tick: u64) -> Key
     }
 }
 
-// Puts a task in without a count of the comparisons.
-fn put<L: Ledger>(heap: &mut ReadyHeap<ByKey>, task: TaskNo, key: Key, blank: Blank)
-    requires name { blank.name ≡ L.name }
-    requires parts { blank.parts ≡ L.parts }
-    requires one_part { blank.parts ≡ 1 }
-    requires room { task.0 < length heap.old.keys }
-    requires absent { key_at heap.old.keys task.0 ≡ None }
-    ensures { heap.new ≡ record heap.old { keys = slice_set heap.old.keys task.0 (Some key) } }
-{
-    let mut steps = Steps::<L>::new(blank);
-    heap.insert(task, key, &mut steps);
-}
-
-// Takes a task out without a count of the comparisons.
-fn take_out<L: Ledger>(heap: &mut ReadyHeap<ByKey>, task: TaskNo, blank: Blank) -> bool
-    requires name { blank.name ≡ L.name }
-    requires parts { blank.parts ≡ L.parts }
-    requires one_part { blank.parts ≡ 1 }
-    requires room { task.0 < length heap.old.keys }
-    ensures was_in { result ≡ is_some (key_at heap.old.keys task.0) }
-    ensures removed { heap.new ≡ record heap.old { keys = slice_set heap.old.keys task.0 None } }
-{
-    let mut steps = Steps::<L>::new(blank);
-    heap.remove(task, &mut steps)
-}
-
 impl ReleaseQueue {
     /// A queue with nothing armed, for tasks whose numbers are below the room. No later call takes memory.
     ///
@@ -93,7 +66,7 @@ impl ReleaseQueue {
         ensures { self.new ≡ slice_set self.old task.0 (Some tick) }
     {
         self.ticks[task.0 as usize] = tick;
-        put::<Brand>(&mut self.heap, task, key_of(tick), Blank::new(1));
+        uncounted::put_in(&mut self.heap, task, key_of(tick));
     }
 
     /// Disarms the task. Whether it was armed.
@@ -104,7 +77,7 @@ impl ReleaseQueue {
         ensures was_armed { result ≡ is_some (tick_at self.old task.0) }
         ensures cancelled { self.new ≡ slice_set self.old task.0 None }
     {
-        take_out::<Brand>(&mut self.heap, task, Blank::new(1))
+        uncounted::take_out(&mut self.heap, task)
     }
 
     /// Disarms and gives the task of the earliest tick, and of several the one with the lowest number, where that tick
@@ -123,7 +96,7 @@ impl ReleaseQueue {
         if self.ticks[task.0 as usize] > now.0 {
             return None;
         }
-        let _ = take_out::<Brand>(&mut self.heap, task, Blank::new(1));
+        let _ = uncounted::take_out(&mut self.heap, task);
         Some(task)
     }
 }

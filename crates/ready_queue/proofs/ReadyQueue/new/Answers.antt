@@ -1,4 +1,4 @@
-use Rattle.std.proofs.Common.{◌≡◌, arith}
+use Rattle.std.proofs.Common.{arith}
 use Rattle.ready_queue.proofs.SplitLaws.{split-none}
 use Rattle.ready_queue.proofs.ReadyQueue.new.Goals as goal
 

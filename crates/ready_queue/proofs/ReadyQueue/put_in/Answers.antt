@@ -1,10 +1,7 @@
-use Rattle.std.proofs.Common.{◌≡◌, ℕ, ◌+◌, ◌<◌, ◌≤◌, List, [], ◌∷◌, ◌++◌, None, Some, length, sym, ap, ◌∙◌, arith}
-use Rattle.std.proofs.lemmas.List.{length-map, length-append}
-use Rattle.rt_rules.specs.Keys.{Ranked, inserted}
-use Rattle.rt_rules.proofs.RankedByLaws.{length-inserted}
-use Rattle.ready_heap.specs.Row.{key_at}
-use Rattle.ready_queue.specs.Queue.{Queue}
-use Rattle.ready_queue.specs.RankedTasks.{ranked, ranked_all}
+use Rattle.std.proofs.Common.{◌≡◌, ◌≤◌, [], ◌∷◌, ◌++◌, length, sym, ap, ◌∙◌, arith}
+use Rattle.std.proofs.lemmas.List.{length-map}
+use Rattle.rt_rules.specs.Keys.{inserted}
+use Rattle.ready_queue.specs.RankedTasks.{ranked}
 use Rattle.ready_queue.proofs.SplitLaws.{split-put_in, last-inside, last-absent, split-put_over, over-full}
 use Rattle.ready_queue.proofs.ReadyQueue.put_in.Goals as goal
 

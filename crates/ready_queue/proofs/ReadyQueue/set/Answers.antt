@@ -1,4 +1,4 @@
-use Rattle.std.proofs.Common.{List, Option, Some, ap, set-set}
+use Rattle.std.proofs.Common.{List, Option, ap, set-set}
 use Rattle.rt_order.specs.declared.Key.{Key}
 use Rattle.ready_queue.specs.Queue.{Queue}
 use Rattle.ready_queue.proofs.ReadyQueue.set.Goals as goal

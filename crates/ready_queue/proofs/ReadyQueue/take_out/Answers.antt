@@ -1,6 +1,6 @@
-use Rattle.std.proofs.Common.{◌≡◌, ◌+◌, ◌<◌, ◌≤◌, false, true, length, sym, ap, ◌∙◌, arith}
+use Rattle.std.proofs.Common.{◌≡◌, false, true, length, sym, ap, ◌∙◌, arith}
 use Rattle.rt_rules.specs.Numbers.{has}
-use Rattle.rt_rules.specs.Rankings.{tasks_of, without_task}
+use Rattle.rt_rules.specs.Rankings.{tasks_of}
 use Rattle.ready_queue.proofs.Refreshing.{without-absent}
 use Rattle.ready_queue.proofs.SplitLaws.{few-top, length-without_task, split-rest_taken, split-top_taken, split-followed}
 use Rattle.ready_queue.proofs.ReadyQueue.take_out.Goals as goal
@@ -9,7 +9,7 @@ pub invariant_of-self : goal.invariant_of-self
 invariant_of-self c =
     let room = rw (← c.self.view_is) at c.requires in
     let out : has c.args.task.0 (tasks_of c.self.inside.first.tasks) ≡ false = sym c.remove.ensures.was_in ∙ c.if-not-remove.true in (
-      rw (c.remove.ensures.tasks, c.take_out.ensures, c.take_out-then-not-remove.ensures, without-absent c.args.task.0 c.self.inside.first.tasks out) (split-rest_taken _ _ _ c.self.invariant.0 c.args.task.0 room out),
+      rw (c.remove.ensures.tasks, c.take_out.ensures.removed, c.take_out-then-not-remove.ensures.removed, without-absent c.args.task.0 c.self.inside.first.tasks out) (split-rest_taken _ _ _ c.self.invariant.0 c.args.task.0 room out),
       omega (arith, c.self.invariant.1, c.remove.ensures.room),
     )
 
@@ -23,13 +23,13 @@ push-requires c =
 pub invariant_of-self-in-Some : goal.invariant_of-self-in-Some
 invariant_of-self-in-Some c =
     let there : has c.args.task.0 (tasks_of c.self.inside.first.tasks) ≡ true = sym c.remove.ensures.was_in ∙ c.if-not-remove.false in (
-      rw (c.push.ensures.tasks, c.remove.ensures.tasks, c.take_out.ensures, c.in-Some.ensures.taken) (split-followed _ _ _ c.self.invariant.0 c.args.task.0 _ _ there c.in-Some.ensures.first c.in-Some.ensures.key),
+      rw (c.push.ensures.tasks, c.remove.ensures.tasks, c.take_out.ensures.removed, c.in-Some.ensures.taken) (split-followed _ _ _ c.self.invariant.0 c.args.task.0 _ _ there c.in-Some.ensures.first c.in-Some.ensures.key),
       omega (arith, c.self.invariant.1, c.remove.ensures.room, c.push.ensures.room),
     )
 
 pub invariant_of-self-in_default : goal.invariant_of-self-in_default
 invariant_of-self-in_default c =
     let there : has c.args.task.0 (tasks_of c.self.inside.first.tasks) ≡ true = sym c.remove.ensures.was_in ∙ c.if-not-remove.false in (
-      rw (c.remove.ensures.tasks, c.take_out.ensures, c.in_default.ensures.stays) (split-top_taken _ _ _ c.self.invariant.0 c.args.task.0 there c.in_default.ensures.none),
+      rw (c.remove.ensures.tasks, c.take_out.ensures.removed, c.in_default.ensures.stays) (split-top_taken _ _ _ c.self.invariant.0 c.args.task.0 there c.in_default.ensures.none),
       omega (arith, c.self.invariant.1, c.remove.ensures.room),
     )

@@ -1,4 +1,4 @@
-use Rattle.ready_queue.proofs.heaps.take_out.Given as goal
+use Rattle.ready_heap.proofs.uncounted.take_out.Given as goal
 
 -- the ledger of a count that nobody reads
 abbrev pub ghosts-counted_remove : goal.ghosts-counted_remove

@@ -1,4 +1,4 @@
-use Rattle.ready_queue.proofs.heaps.put_in.Given as goal
+use Rattle.ready_heap.proofs.uncounted.put_in.Given as goal
 
 -- the ledger of a count that nobody reads
 abbrev pub ghosts-counted_insert : goal.ghosts-counted_insert
