@@ -6,6 +6,7 @@ ghost use Rattle.rt_task.specs.Validity.{IsValid};
 ghost use Rattle.rt_model.specs.Runs.{runs};
 ghost use Rattle.rt_model.specs.Links.{linked};
 ghost use Rattle.rt_model.specs.Histories.{reply_to};
+ghost use Rattle.rt_model.specs.Steps.{IsStepOf};
 ghost use Rattle.group_state.specs.Built.{is_built, is_built_act};
 ghost use Rattle.group_state.specs.Groups.{GroupHistory, group_of, past, with_entry, IsLegalNow, AllPlayed, IsGroupOf, IsProcessorOf};
 
@@ -36,9 +37,16 @@ impl Model for Engine {
 
     ghost Value = { GroupHistory };
 
-    ghost view = { λ a. record { setup = a.setup; group = a.group.0; entries = a.entries.items; spare = a.room - vec_len a.entries } };
+    ghost view = { λ a. record {
+      setup = a.setup;
+      group = a.group.0;
+      entries = a.entries.items;
+      spare = a.room - vec_len a.entries;
+    } };
 
-    ghost invariant = { λ a. IsSound (record { setup = a.setup; number = a.group.0 }) a.entries.items a.room (vec_capacity a.entries) a.state };
+    ghost invariant = { λ a.
+        IsSound (record { setup = a.setup; number = a.group.0 })
+        a.entries.items a.room (vec_capacity a.entries) a.state };
 }
 
 impl Engine {
@@ -99,11 +107,11 @@ impl Engine {
         self.state.runs(cpu)
     }
 
-    /// Takes a step of a processor of the group: the clock moves to its tick, if that is later, and then the act is answered.
+    /// Takes a step of the group: the clock moves to its tick, if that is later, and then the act is answered.
     /// It adds one entry, the step with its reply.
     pub fn step(&mut self, step: Step) -> Reply
         requires room { 0 < self.old.spare }
-        requires cpu { IsProcessorOf (group_of self.old) step.cpu.0 }
+        requires step { IsStepOf (group_of self.old) step }
         requires act { is_built_act step.act ≡ true }
         ensures reply { result ≡ reply_to (group_of self.old) step (past self.old) }
         ensures entry { self.new ≡ with_entry (record { step = step; reply = result }) self.old }

@@ -49,9 +49,19 @@ impl Model for GroupState {
 
     ghost Value = { State };
 
-    ghost view = { λ a. record { clock = a.clock; done = a.done.items; worked = a.worked.items; ready = a.ready.tasks; waiting = a.waiting.tasks; runs = a.links.runs; links = a.links.links } };
+    ghost view = { λ a. record {
+      clock = a.clock;
+      done = a.done.items;
+      worked = a.worked.items;
+      ready = a.ready.tasks;
+      waiting = a.waiting.tasks;
+      runs = a.links.runs;
+      links = a.links.links;
+    } };
 
-    ghost invariant = { λ a. HasRooms (length a.done.items) (length a.links.runs) a.links.first (length a.worked.items) a.ready.room a.waiting.room (vec_capacity a.top) };
+    ghost invariant = { λ a.
+        HasRooms (length a.done.items) (length a.links.runs) a.links.first (length a.worked.items)
+        a.ready.room a.waiting.room (vec_capacity a.top) };
 }
 
 /// The first of the tasks that are ready, as many as there are processors.
@@ -265,8 +275,11 @@ impl GroupState {
         requires few { slice_index self.old.done (task.0 - 1) < 2 ^ 62 }
         requires ready_room { length (without_task task.0 self.old.ready) < length self.old.done }
         requires waiting_room { length self.old.waiting < length self.old.done }
-        requires distinct { IsDistinct (tasks_of (job_ended (length self.old.runs) cpu.0 task.0 next.now.is_released next.now.job_key next.now.wait_key self.old).ready) }
-        ensures { self.new ≡ job_ended (length self.old.runs) cpu.0 task.0 next.now.is_released next.now.job_key next.now.wait_key self.old }
+        requires distinct { let after = job_ended (length self.old.runs) cpu.0 task.0
+            next.now.is_released next.now.job_key next.now.wait_key self.old in
+            IsDistinct (tasks_of after.ready) }
+        ensures { self.new ≡ job_ended (length self.old.runs) cpu.0 task.0
+            next.now.is_released next.now.job_key next.now.wait_key self.old }
     {
         self.done[task.0 as usize - 1] += 1;
         self.ready.remove(task);

@@ -5,7 +5,11 @@ use Rattle.std.specs.List.{list_all}
 use Rattle.std.proofs.Math.ListN.{get_or-map}
 use Rattle.std.proofs.lemmas.Bool.Decides.{nat_tests}
 use Rattle.std.proofs.lemmas.List.{length-map}
-use Rattle.rt_base.specs.declared.TheConstants.{MOST_CLUSTERS, MOST_CPUS, MOST_RESVS, MOST_SEMS, MOST_STEPS}
+use Rattle.rt_base.specs.declared.TheConstants.{MOST_CLUSTERS, MOST_CPUS, MOST_RESVS, MOST_SEMS, MOST_STEPS, TICK_END}
+use Rattle.rt_task.specs.declared.Act.{Act}
+use Rattle.rt_task.specs.declared.Act.TheVariants as acts
+use Rattle.rt_task.specs.declared.Op.{Op}
+use Rattle.rt_task.specs.declared.Op.TheVariants as ops
 use Rattle.rt_task.specs.declared.Parts.{Parts}
 use Rattle.rt_task.specs.declared.Step.{Step}
 use Rattle.rt_task.specs.declared.Drive.{Drive}
@@ -23,16 +27,38 @@ use Rattle.rt_task.specs.SizeRules.{whole_size, horizon_fits}
 use Rattle.rt_task.specs.Validity.{IsValid}
 use Rattle.rt_rules.proofs.NumberLaws.{numbers_from-has}
 use Rattle.rt_model.specs.Group.{Group, no_cluster, cluster, cpus}
+use Rattle.rt_model.specs.Steps.{IsActOf, IsOpOf, IsStepOf}
+use Rattle.rt_laws.proofs.ValidSteps.{steps_are_of_groups}
 use Rattle.group_state.specs.Built.{is_built, is_built_act, is_built_task, is_gsn_edf}
 use Rattle.group_state.specs.Groups.{IsProcessorOf}
 use Rattle.group_state.proofs.Plain.{InRange, plain-set, in_range, valid-refusal, both, all-at}
 use Rattle.group_state.proofs.PlainGroup.{IsPlainGroup, plain-group, one}
 use Rattle.group_state.proofs.Rules.{each-none}
 
+-- an act that is played so far names nothing
+pub built-step : (g : Group) (s : Step) → IsProcessorOf g s.cpu.0 → s.tick.0 < TICK_END → is_built_act s.act ≡ true → IsStepOf g s
+built-step g s there tick built = record { processor = there; tick = tick; act = by_act s.act built }
+  where
+    by_op : (op : Op) → is_built_act (acts.Do op) ≡ true → IsOpOf g op
+    by_op ops.Work h = tt
+    by_op ops.End h = tt
+    by_op (ops.Lock n) h = cc
+    by_op (ops.Unlock n) h = cc
+    by_op (ops.Sleep n) h = cc
+    by_op ops.NpOn h = cc
+    by_op ops.NpOff h = cc
+
+    by_act : (a : Act) → is_built_act a ≡ true → IsActOf g a
+    by_act acts.Tick h = tt
+    by_act acts.Irq h = tt
+    by_act (acts.Arrive t) h = cc
+    by_act (acts.Do op) h = by_op op h
+
 pub record ArePlainSteps (p : Parts) (steps : List Step) : Type 0 where
   pub few : length steps ≤ MOST_STEPS
   pub at_processors : All (λ (s : Step). IsProcessorOf (record { setup = p; number = 0 }) s.cpu.0) steps
   pub acts : All (λ (s : Step). is_built_act s.act ≡ true) steps
+  pub of_group : All (λ (s : Step). IsStepOf (record { setup = p; number = 0 }) s) steps
 
 -- the processors of one cluster
 cpus-one : (d : Draft) (c : DraftCluster) → d.clusters ≡ c ∷ [] → lookups.cpus d ≡ c.cpus
@@ -92,5 +118,6 @@ module _ (p : Parts) (valid : IsValid p) (built : is_built p ≡ true) (steps : 
   plain-steps = record {
     few = few-steps;
     at_processors = λ i s lt. cpu-in i s lt;
+    of_group = λ i s lt. steps_are_of_groups g valid steps drive i s lt (cpu-in i s lt);
     acts = λ i s lt. all-at (λ (s : Step). is_built_act s.act) steps i s built-steps lt;
   }

@@ -18,6 +18,7 @@ use Rattle.rt_model.specs.Runs.{runs}
 use Rattle.rt_model.specs.Links.{linked}
 use Rattle.group_state.proofs.Replies.{linked-at, runs-at}
 use Rattle.rt_model.specs.Histories.{past_of, reply_to}
+use Rattle.rt_model.specs.Steps.{IsStepOf}
 use Rattle.rt_model.proofs.Steps.{past_of-append, after-acted, reply_to-lem, IsLegal-append}
 use Rattle.group_state.specs.Groups.{IsProcessorOf, IsPlayedEntry}
 use Rattle.group_state.specs.Built.{is_built_act}
@@ -81,15 +82,15 @@ module _ (g : Group) (es : List Entry) (room capacity : ℕ) (state : State) (so
   pub reply-is : (step : Step) (reply : Reply) (after : State) → HasActed (at_tick step.tick.0) step.cpu.0 step.act reply after → reply ≡ reply_to g step (past_of g es)
   reply-is step reply after acted = acted.reply_is ∙ sym (reply_to-lem g step (past_of g es))
 
-  pub sound-step : (step : Step) (reply : Reply) (after : State) (capacity' : ℕ) → is_built_act step.act ≡ true → IsProcessorOf g step.cpu.0 → length es < room → capacity ≤ capacity' → HasActed (at_tick step.tick.0) step.cpu.0 step.act reply after → IsSound g (es ++ record { step = step; reply = reply } ∷ []) room capacity' after
-  sound-step step reply after capacity' act there spare grows acted = record {
+  pub sound-step : (step : Step) (reply : Reply) (after : State) (capacity' : ℕ) → is_built_act step.act ≡ true → IsStepOf g step → length es < room → capacity ≤ capacity' → HasActed (at_tick step.tick.0) step.cpu.0 step.act reply after → IsSound g (es ++ record { step = step; reply = reply } ∷ []) room capacity' after
+  sound-step step reply after capacity' act of_group spare grows acted = record {
     played = sound.played;
     limit = sound.limit;
     within = omega (arith, length-append {A = Entry});
     reserved = omega (arith, sound.reserved);
     kept = rw (past_of-append, after-acted) acted.kept;
     legal = IsLegal-append g es _ sound.legal (reply-is step reply after acted);
-    played_entries = All-push (IsPlayedEntry g) es _ sound.played_entries (act, there);
+    played_entries = All-push (IsPlayedEntry g) es _ sound.played_entries (record { step = of_group; built = act });
   }
 
   -- ---- what is linked and what runs

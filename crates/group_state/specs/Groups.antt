@@ -8,6 +8,7 @@ use Rattle.rt_rules.specs.Numbers.{has}
 use Rattle.rt_model.specs.Group.{Group, group_processors}
 use Rattle.rt_model.specs.Past.{Past}
 use Rattle.rt_model.specs.Histories.{past_of, IsLegal}
+use Rattle.rt_model.specs.Steps.{IsStepOf}
 use Rattle.group_state.specs.Built.{is_built_act}
 
 -- a group of a setup: its entries so far, and room for how many more
@@ -39,9 +40,10 @@ IsGroupOf p n = list_any (λ (c : Cluster). c.group.0 == n) p.clusters ≡ true
 abbrev pub IsProcessorOf : Group → ℕ → Type 0
 IsProcessorOf g q = has q (group_processors g) ≡ true
 
--- the entry's act is one that is played so far, and its processor is of the group
-abbrev pub IsPlayedEntry : Group → Entry → Type 0
-IsPlayedEntry g e = (is_built_act e.step.act ≡ true) × IsProcessorOf g e.step.cpu.0
+-- the entry's step is one of the group, and its act is one that is played so far
+pub record IsPlayedEntry (g : Group) (e : Entry) : Type 0 where
+  pub step : IsStepOf g e.step
+  pub built : is_built_act e.step.act ≡ true
 
 abbrev pub AllPlayed : GroupHistory → Type 0
 AllPlayed h = All (IsPlayedEntry (group_of h)) h.entries

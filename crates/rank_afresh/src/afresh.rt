@@ -6,6 +6,7 @@ ghost use Rattle.rt_model.specs.Past.{Past, Clock};
 ghost use Rattle.rt_model.specs.Runs.{runs};
 ghost use Rattle.rt_model.specs.Links.{linked};
 ghost use Rattle.rt_model.specs.Histories.{after, reply_to};
+ghost use Rattle.rt_model.specs.Steps.{IsStepOf};
 ghost use Rattle.group_state.specs.Built.{is_built, is_built_act};
 ghost use Rattle.group_state.specs.Groups.{IsGroupOf, IsProcessorOf};
 ghost use Rattle.rank_afresh.specs.Standing.{IsAt, IsOfSame, ended_last, group_of};
@@ -36,9 +37,16 @@ impl Model for Afresh {
 
     ghost Value = { Standing };
 
-    ghost view = { λ a. record { setup = a.setup; group = a.group.0; facts = a.facts.facts; spare = a.spare; ended = a.ended } };
+    ghost view = { λ a. record {
+      setup = a.setup;
+      group = a.group.0;
+      facts = a.facts.facts;
+      spare = a.spare;
+      ended = a.ended;
+    } };
 
-    ghost invariant = { λ a. IsFit (record { setup = a.setup; number = a.group.0 }) a.facts.facts a.facts.next a.spare };
+    ghost invariant = { λ a.
+        IsFit (record { setup = a.setup; number = a.group.0 }) a.facts.facts a.facts.next a.spare };
 }
 
 impl Afresh {
@@ -79,7 +87,7 @@ impl Afresh {
     /// Answers the act of a step, whose tick the clock was moved to last: the second move of a step.
     pub fn act(&mut self, step: Step) -> Reply
         requires room { 0 < self.old.spare }
-        requires cpu { IsProcessorOf (group_of self.old) step.cpu.0 }
+        requires step { IsStepOf (group_of self.old) step }
         requires act { is_built_act step.act ≡ true }
         requires clocked { (past : Past) × IsAt self.old (Clock step.tick.0 ∷ past) }
         ensures reply { (past : Past) → IsAt self.old (Clock step.tick.0 ∷ past)

@@ -42,9 +42,24 @@ impl Model for Facts {
 
     ghost Value = { Kept };
 
-    ghost view = { λ a. record { facts = record { clock = a.clock; done = a.done.items; worked = a.worked.items; runs = numbers_of_tasks a.runs.items; links = numbers_of_tasks a.links.items }; next = a.next } };
+    ghost view = { λ a. record {
+      facts = record {
+        clock = a.clock;
+        done = a.done.items;
+        worked = a.worked.items;
+        runs = numbers_of_tasks a.runs.items;
+        links = numbers_of_tasks a.links.items;
+      };
+      next = a.next;
+    } };
 
-    ghost invariant = { λ a. IsRoomy (record { clock = a.clock; done = a.done.items; worked = a.worked.items; runs = numbers_of_tasks a.runs.items; links = numbers_of_tasks a.links.items }) (vec_capacity a.best) (vec_capacity a.top) };
+    ghost invariant = { λ a. IsRoomy (record {
+      clock = a.clock;
+      done = a.done.items;
+      worked = a.worked.items;
+      runs = numbers_of_tasks a.runs.items;
+      links = numbers_of_tasks a.links.items;
+    }) (vec_capacity a.best) (vec_capacity a.top) };
 }
 
 impl Facts {
@@ -142,7 +157,9 @@ impl Facts {
         requires next { IsNext tasks.now self.old.facts.clock self.old.facts.done (numbers_from 1
             (length tasks.now)) self.old.next }
         ensures reply { result ≡ irq_reply (linked_in self.old.facts) cpu.0 false }
-        ensures facts { self.new.facts ≡ relinked (length self.old.facts.runs) tasks.now (record self.old.facts { runs = (after_irq (linked_in self.old.facts) cpu.0 false).runs }) }
+        ensures facts { let taken = after_irq (linked_in self.old.facts) cpu.0 false in
+            self.new.facts ≡ relinked (length self.old.facts.runs) tasks.now
+            (record self.old.facts { runs = taken.runs }) }
         ensures next { IsNext tasks.now self.new.facts.clock self.new.facts.done (numbers_from 1
             (length tasks.now)) self.new.next }
     {
@@ -161,7 +178,8 @@ impl Facts {
     /// The processor runs this task, or nothing, from now on.
     fn run(&mut self, cpu: CpuNo, task: Option<TaskNo>)
         requires { cpu.0 < length self.old.facts.runs }
-        ensures { self.new ≡ record self.old { facts = record self.old.facts { runs = slice_set self.old.facts.runs cpu.0 (number_of_task task) } } }
+        ensures { let runs = slice_set self.old.facts.runs cpu.0 (number_of_task task) in
+            self.new ≡ record self.old { facts = record self.old.facts { runs = runs } } }
     {
         self.runs[cpu.0 as usize] = task;
     }

@@ -37,7 +37,9 @@ impl Model for ReadyQueue {
 
     ghost view = { λ a. record { most = a.most; keys = a.all.keys } };
 
-    ghost invariant = { λ a. IsSplit (record { most = a.most; keys = a.all.keys }) a.first.tasks a.rest.keys × (a.most + 1 ≤ a.first.room) };
+    ghost invariant = { λ a.
+        IsSplit (record { most = a.most; keys = a.all.keys }) a.first.tasks a.rest.keys
+        × (a.most + 1 ≤ a.first.room) };
 }
 
 impl ReadyQueue {

@@ -18,9 +18,12 @@ fn pass_on<S: Source, K: Sink>(alloc: Global, src: &mut S, out: &mut K) -> Statu
     ensures ok { result ≡ Status.Ok → (bytes : List ℕ)
         × TakesAll (S.left src.old) (S.left src.new) bytes
         × Extends (K.held out.old) (K.held out.new) bytes }
-    ensures read_fault { result ≡ Status.ReadFault → HasRisen (S.faults src.old) (S.faults src.new) }
-    ensures too_long { result ≡ Status.TooLong → TakesOneMoreThan 8 (S.left src.old) (S.left src.new) }
-    ensures write_fault { result ≡ Status.WriteFault → HasRisen (K.faults out.old) (K.faults out.new) }
+    ensures read_fault { result ≡ Status.ReadFault →
+        HasRisen (S.faults src.old) (S.faults src.new) }
+    ensures too_long { result ≡ Status.TooLong →
+        TakesOneMoreThan 8 (S.left src.old) (S.left src.new) }
+    ensures write_fault { result ≡ Status.WriteFault →
+        HasRisen (K.faults out.old) (K.faults out.new) }
 {
     match read_all(alloc, src, 8) {
         Ok(bytes) => match put_all(out, bytes.as_slice()) {

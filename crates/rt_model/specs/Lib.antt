@@ -31,6 +31,7 @@ pub mod WorkedOmlp
 pub mod WorkedBoosts
 pub mod WorkedPcp
 pub mod WorkedMpcp
+pub mod WorkedClusters
 pub mod WorkedReservations
 pub mod WorkedReplenishment
 pub mod WorkedBody

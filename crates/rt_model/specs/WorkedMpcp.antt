@@ -165,3 +165,38 @@ mpcp_by_own =
 pub mpcp_by_own_played : IsTrace mpcp_by_own (to 0 (Some 3) ∷ to 1 (Some 5) ∷ []) mpcp_by_ceiling_lines
 unfolding computed
 mpcp_by_own_played = (refl, refl)
+
+-- two MPCP holders of one ceiling: the lower task number goes first
+abbrev pub mpcp_ties : Group
+mpcp_ties =
+    group_of plugins.PFp (cluster_with 1 0 ∷ cluster_with 1 0 ∷ []) (sem_under Mpcp ∷ sem_under Mpcp ∷ []) [] (
+    using (2 ∷ []) (with_prio 6 (periodic 1 1 1000 1000)) ∷
+    using (1 ∷ []) (with_prio 5 (periodic 2 1 1000 1000)) ∷
+    using (1 ∷ 2 ∷ []) (with_prio 4 (in_cluster 1 (periodic 3 1 1000 1000))) ∷
+    [])
+
+abbrev pub mpcp_ties_lines : List Line
+mpcp_ties_lines =
+    line 1 0 irq (runs_task 3) [] ∷
+    line 1 0 (lock 1) Granted [] ∷
+    line 0 0 irq (runs_task 2) [] ∷
+    line 0 0 (lock 1) Queued (to 0 (Some 1) ∷ []) ∷
+    line 0 0 irq (runs_task 1) [] ∷
+    line 0 0 (lock 2) Granted [] ∷
+    line 1 1 (unlock 1) Done [] ∷
+    line 0 1 irq Quiet [] ∷
+    line 0 1 (unlock 2) Done (to 0 (Some 2) ∷ []) ∷
+    line 0 1 irq (runs_task 2) [] ∷
+    []
+
+pub mpcp_ties_played : IsTrace mpcp_ties (to 0 (Some 2) ∷ to 1 (Some 3) ∷ []) mpcp_ties_lines
+unfolding computed
+mpcp_ties_played = (refl, refl)
+
+pub mpcp_ties_blocks : blocks mpcp_ties (past_by mpcp_ties [] (steps_of mpcp_ties_lines)) ≡
+    block 1 3 1 0 0 None ∷
+    block 3 2 1 1 1 None ∷
+    block 5 1 2 0 0 None ∷
+    []
+unfolding computed
+mpcp_ties_blocks = refl

@@ -1,13 +1,14 @@
 -- Worked examples: OMLP, and its counts of blocking.
-use Rattle.std.specs.Prelude.{◌≡◌, List, [], ◌∷◌, None, Some, refl}
+use Rattle.std.specs.Prelude.{◌≡◌, false, List, [], ◌∷◌, None, Some, refl}
 use Rattle.rt_task.specs.declared.PluginKind.TheVariants as plugins
 use Rattle.rt_task.specs.declared.Protocol.TheVariants.{Omlp}
 use Rattle.rt_history.specs.declared.Reply.TheVariants.{Done, Granted, Queued}
 use Rattle.rt_model.specs.Computed.{computed}
 use Rattle.rt_model.specs.Group.{Group}
 use Rattle.rt_model.specs.Histories.{past_by}
+use Rattle.rt_model.specs.Blocking.{is_blocked}
 use Rattle.rt_model.specs.Samples.{Line, line, steps_of, IsTrace, group_of, cluster_with, sem_under, periodic, sporadic, in_cluster}
-use Rattle.rt_model.specs.Samples.{using, irq, arrive, lock, unlock, sleep, runs_task, to, block, blocks}
+use Rattle.rt_model.specs.Samples.{using, irq, arrive, lock, unlock, sleep, end, runs_task, to, block, blocks}
 
 -- OMLP: the third request, number 6, sees 2 * 2 - 1 = 3 critical sections end while blocked
 abbrev pub omlp_bound_reached : Group
@@ -103,6 +104,40 @@ pub omlp_suspended_blocks : blocks omlp_suspended (past_by omlp_suspended [] (st
 unfolding computed
 omlp_suspended_blocks = refl
 
+-- blocking goes by the keys of the current jobs: task 2 waits in its second job, below tasks 1 and 3, and so is not
+-- blocked
+abbrev pub omlp_later_job : Group
+omlp_later_job =
+    group_of plugins.GsnEdf (cluster_with 2 0 ∷ []) (sem_under Omlp ∷ []) [] (
+    using (1 ∷ []) (periodic 1 1 1000 500) ∷
+    using (1 ∷ []) (periodic 2 1 400 400) ∷
+    periodic 3 1 1000 450 ∷
+    [])
+
+abbrev pub omlp_later_job_lines : List Line
+omlp_later_job_lines =
+    line 0 0 irq (runs_task 2) [] ∷
+    line 1 0 irq (runs_task 3) [] ∷
+    line 0 0 end Done (to 0 (Some 1) ∷ []) ∷
+    line 0 0 irq (runs_task 1) [] ∷
+    line 0 0 (lock 1) Granted [] ∷
+    line 1 400 (sleep 100) Done (to 1 (Some 2) ∷ []) ∷
+    line 1 400 irq (runs_task 2) [] ∷
+    line 1 400 (lock 1) Queued (to 1 None ∷ []) ∷
+    line 0 401 (unlock 1) Done (to 1 (Some 2) ∷ []) ∷
+    []
+
+pub omlp_later_job_played : IsTrace omlp_later_job (to 0 (Some 2) ∷ to 1 (Some 3) ∷ []) omlp_later_job_lines
+unfolding computed
+omlp_later_job_played = (refl, refl)
+
+pub omlp_later_job_blocks : blocks omlp_later_job (past_by omlp_later_job [] (steps_of omlp_later_job_lines)) ≡
+    block 4 1 1 0 0 (Some 3) ∷
+    block 7 2 1 0 1 (Some 3) ∷
+    []
+unfolding computed
+omlp_later_job_blocks = refl
+
 -- OMLP: the FIFO list has room for as many as the cluster of the users has processors
 abbrev pub omlp_of_cluster : Group
 omlp_of_cluster =
@@ -137,3 +172,8 @@ pub omlp_of_cluster_blocks : blocks omlp_of_cluster (past_by omlp_of_cluster [] 
     []
 unfolding computed
 omlp_of_cluster_blocks = refl
+
+-- a task that does not wait is not blocked
+pub free_is_not_blocked : is_blocked omlp_of_cluster 1 [] ≡ false
+unfolding computed
+free_is_not_blocked = refl

@@ -1,11 +1,12 @@
 -- The value of a valid set has numbers of 64 bits, names that are text, and members in rising order.
-use Rattle.std.proofs.Common.{◌≡◌, ℕ, zero, suc, ◌+◌, ◌-◌, ◌*◌, ◌^◌, max, ◌<◌, ◌≤◌, ◌==◌, List, [], ◌∷◌, ◌++◌, Bool, true, false, cond, unwrap_or, slice_get, ◌&&◌, ◌||◌, codes, fold, length, get_or, map, nat_le, nat_lt, Option, Some, None, refl, ap, sym, subst, ◌∙◌, arith}
+use Rattle.std.proofs.Common.{◌≡◌, ℕ, zero, suc, ◌+◌, ◌-◌, ◌*◌, ◌^◌, max, ◌<◌, ◌≤◌, ◌==◌, List, [], ◌∷◌, ◌++◌, Bool, true, false, ◌&&◌, ◌||◌, cond, codes, fold, length, get_or, map, nat_le, nat_lt, Option, Some, None, refl, ap, sym, subst, ◌∙◌, arith}
 use Rattle.std.specs.Str.{IsUtf8}
 use Rattle.std.specs.List.{list_all}
 use Rattle.std.proofs.Math.Nat.{mul-suc}
 use Rattle.std.proofs.lemmas.Bool.{and_parts, eqb-true, leb-true, ltb-true, lt-ltb}
 use Rattle.std.proofs.lemmas.List.{length-append, length-map}
 use Rattle.std.proofs.lemmas.Option.{unwrap_or-slice_get}
+use Rattle.std.specs.Prelude.{slice_get, unwrap_or}
 use Rattle.rt_base.specs.declared.ResvNo.{ResvNo}
 use Rattle.rt_base.specs.declared.SemNo.{SemNo}
 use Rattle.rt_base.specs.declared.TheConstants.{MOST_CLUSTERS, MOST_CPUS, MOST_OPERATIONS, MOST_PRIO, MOST_RESVS, MOST_SEMS, MOST_STEPS, MOST_TASKS, MOST_TURN_STEPS, TICK_END}

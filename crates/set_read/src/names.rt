@@ -23,7 +23,9 @@ impl<'a> Model for Names<'a> {
 
     ghost view = { λ a. map (λ w. w.now) a.names.items };
 
-    ghost invariant = { λ a. (w : List ℕ) → unwrap_or (get_by (λ k. bytes_eq w k.now) a.numbers) 0 ≡ document.position_from 1 (map (λ k. k.now) a.names.items) w };
+    ghost invariant = { λ a. (w : List ℕ) →
+        unwrap_or (get_by (λ k. bytes_eq w k.now) a.numbers) 0
+        ≡ document.position_from 1 (map (λ k. k.now) a.names.items) w };
 }
 
 impl<'a> Names<'a> {

@@ -6,10 +6,10 @@ use Rattle.rt_history.specs.declared.Entry.{Entry}
 use Rattle.rt_rules.specs.Numbers.{numbers_from}
 use Rattle.rt_rules.proofs.MemberLaws.{equal_self}
 use Rattle.rt_model.specs.Group.{Group, cpus, group_processors}
-use Rattle.rt_model.specs.Links.{linked}
-use Rattle.rt_model.specs.Histories.{after, changed, past_of, reply_to}
+use Rattle.rt_model.specs.Histories.{after, past_of, reply_to}
 use Rattle.rt_model.proofs.Steps.{past_of-append}
 use Rattle.group_state.specs.State.{IsPlayed}
+use Rattle.group_state.proofs.PlainSteps.{built-step}
 use Rattle.group_state.proofs.PlainGroup.{IsPlainGroup}
 use Rattle.group_state.proofs.Limits.{plain}
 use Rattle.group_state.proofs.Stepping.{inside}
@@ -59,7 +59,7 @@ module _ (at : Place) (steps : List Step) (f : Follow) (fw : IsFollowingWith at 
       let few : length (es ++ made ∷ []) ≤ MOST_STEPS = few-in-part g (es ++ made ∷ []) fw.following.played part-made in
       record {
         following = fw.following;
-        home = np.next.home;
+        of_group = built-step g step np.next.home given.tick_low given.act_built;
         built = given.act_built;
         room = omega (arith, few, length-append es (made ∷ []), fw.following.spare_is);
       }

@@ -5,6 +5,7 @@ use Rattle.rt_task.specs.declared.Parts.{Parts}
 use Rattle.rt_task.specs.declared.Step.{Step}
 use Rattle.rt_history.specs.declared.Entry.{Entry}
 use Rattle.rt_model.specs.Group.{Group, cpus, group_processors}
+use Rattle.rt_model.specs.Steps.{IsStepOf}
 use Rattle.rt_model.specs.Histories.{after, changed, past_of, reply_to}
 use Rattle.group_state.specs.Built.{is_built_act}
 use Rattle.group_state.specs.Groups.{IsProcessorOf}
@@ -53,7 +54,7 @@ pub record IsFollowingWith (at : Place) (steps : List Step) (f : Follow) : Type 
 -- the step can be taken
 pub record CanStep (at : Place) (f : Follow) (step : Step) : Type 0 where
   pub following : IsFollowing at.group at.entries f
-  pub home : IsProcessorOf at.group step.cpu.0
+  pub of_group : IsStepOf at.group step
   pub built : is_built_act step.act ≡ true
   pub room : 0 < f.afresh.spare
 

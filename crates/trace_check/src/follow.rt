@@ -65,11 +65,9 @@ impl Follow {
     /// The place of a step among the set's steps, where it is the next one of its processor.
     fn place_of(&self, steps: &[Step], step: Step) -> Option<usize>
         requires { (at : Place) × IsFollowingWith at steps.now self.now }
-        ensures {
-            (at : Place) → IsFollowingWith at steps.now self.now → MatchOption result
-                (IsNextStep at.group at.entries step → ⊥)
-                (λ j. IsNextPlace at.group at.entries step j)
-        }
+        ensures { (at : Place) → IsFollowingWith at steps.now self.now → MatchOption result
+            (IsNextStep at.group at.entries step → ⊥)
+            (λ j. IsNextPlace at.group at.entries step j) }
     {
         if step.cpu.0 >= self.cpus {
             return None;
@@ -89,14 +87,10 @@ impl Follow {
     /// Whether no processor has a step left.
     pub(crate) fn is_over(&self, steps: &[Step]) -> bool
         requires { (at : Place) × IsFollowingWith at steps.now self.now }
-        ensures over {
-            (at : Place) → IsFollowingWith at steps.now self.now
-                → result ≡ true → IsOver at.group at.entries
-        }
-        ensures not_over {
-            (at : Place) → IsFollowingWith at steps.now self.now
-                → result ≡ false → IsOver at.group at.entries → ⊥
-        }
+        ensures over { (at : Place) → IsFollowingWith at steps.now self.now
+            → result ≡ true → IsOver at.group at.entries }
+        ensures not_over { (at : Place) → IsFollowingWith at steps.now self.now
+            → result ≡ false → IsOver at.group at.entries → ⊥ }
     {
         for q in 0..self.cpus {
             if let Some(_) = next_of(steps, self.passed[q as usize], CpuNo(q)) {
@@ -109,14 +103,10 @@ impl Follow {
     /// Takes a step of the group's: the clock moves, and the act is answered.
     fn step(&mut self, step: Step) -> Reply
         requires { (at : Place) × CanStep at self.old step }
-        ensures reply {
-            (at : Place) → CanStep at self.old step
-                → result ≡ reply_to at.group step (past_of at.group at.entries)
-        }
-        ensures at {
-            (at : Place) → CanStep at self.old step
-                → IsAt self.new.afresh (after at.group step (past_of at.group at.entries))
-        }
+        ensures reply { (at : Place) → CanStep at self.old step
+            → result ≡ reply_to at.group step (past_of at.group at.entries) }
+        ensures at { (at : Place) → CanStep at self.old step
+            → IsAt self.new.afresh (after at.group step (past_of at.group at.entries)) }
         ensures group { group_of self.new.afresh ≡ group_of self.old.afresh }
         ensures spare { self.new.afresh.spare + 1 ≡ self.old.afresh.spare }
         ensures others { self.new ≡ record self.old { afresh = self.new.afresh } }
@@ -135,15 +125,11 @@ impl Follow {
         links: &[CpuLink],
     ) -> Result<bool, NoMemory>
         requires { (at : Place) × IsFollowingWith at steps.now self.old }
-        ensures accepted {
-            IfOk result (λ b. (at : Place) → IsFollowingWith at steps.now self.old
-                → b ≡ true → IsAccepted at no entry.now (links_of links.now) self.new)
-        }
-        ensures refused {
-            IfOk result (λ b. (at : Place) → IsFollowingWith at steps.now self.old
-                → b ≡ false
-                → IsNextEntry at.group at.entries no entry.now (links_of links.now) → ⊥)
-        }
+        ensures accepted { IfOk result (λ b. (at : Place) → IsFollowingWith at steps.now self.old
+            → b ≡ true → IsAccepted at no entry.now (links_of links.now) self.new) }
+        ensures refused { IfOk result (λ b. (at : Place) → IsFollowingWith at steps.now self.old
+            → b ≡ false
+            → IsNextEntry at.group at.entries no entry.now (links_of links.now) → ⊥) }
     {
         if no != self.count {
             return Ok(false);
@@ -156,7 +142,11 @@ impl Follow {
         }
         mem::swap(&mut self.before, &mut self.links);
         read_links(&self.afresh, self.cpus, &mut self.links)?;
-        put_changed(self.before.as_slice(), self.links.as_slice(), &mut self.changed)?;
+        put_changed(
+            self.before.as_slice(),
+            self.links.as_slice(),
+            &mut self.changed,
+        )?;
         if !are_same(self.changed.as_slice(), links) {
             return Ok(false);
         }

@@ -10,10 +10,8 @@ use trace_text::head_of;
 
 /// Whether the text begins with the two lines of a canonical set.
 pub(crate) fn has_head(alloc: Global, bytes: &[u8], parts: &Parts) -> Result<bool, NoMemory>
-    ensures {
-        IfOk result (λ b.
-            (b ≡ true) ↔ ((rest : List ℕ) × bytes.now ≡ head_text format_1 parts.now ++ rest))
-    }
+    ensures { IfOk result (λ b.
+        (b ≡ true) ↔ ((rest : List ℕ) × bytes.now ≡ head_text format_1 parts.now ++ rest)) }
 {
     let head = head_of(alloc, parts)?;
     Ok(bytes.starts_with(head.as_slice()))

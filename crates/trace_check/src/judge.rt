@@ -82,10 +82,8 @@ fn end_at(
 ) -> Result<Verdict, NoMemory>
     requires steps { (at : Place) × IsFollowingWith at steps.now follow.now }
     requires place { place < count }
-    ensures {
-        IfOk result (λ v. (at : Place) → IsFollowingWith at steps.now follow.now
-            → IsEndVerdict at follow.now.count place count stop v)
-    }
+    ensures { IfOk result (λ v. (at : Place) → IsFollowingWith at steps.now follow.now
+        → IsEndVerdict at follow.now.count place count stop v) }
 {
     if !follow.is_over(steps) {
         return wrong_at(place);

@@ -29,10 +29,8 @@ pub(crate) fn read_links(
     links: &mut Vec<CpuLink>,
 ) -> Result<(), NoMemory>
     requires { (q : ℕ) → q < cpus → IsProcessorOf (group_of afresh.now) q }
-    ensures {
-        OnOk result ((past : Past) → IsAt afresh.now past
-            → links_of links.new.items ≡ links_at (group_of afresh.now) past (numbers_from 0 cpus))
-    }
+    ensures { OnOk result ((past : Past) → IsAt afresh.now past
+        → links_of links.new.items ≡ links_at (group_of afresh.now) past (numbers_from 0 cpus)) }
 {
     links.clear();
     for q in 0..cpus {

@@ -1,5 +1,5 @@
 -- The one play of a set that is built: its steps are the set's.
-use Rattle.std.proofs.Common.{◌≡◌, ℕ, zero, suc, ◌<◌, ◌≤◌, true, List, [], ◌∷◌, length, map, get_or, refl, sym, ap, ◌∙◌, subst, arith}
+use Rattle.std.proofs.Common.{◌≡◌, ℕ, zero, suc, ◌<◌, ◌≤◌, true, List, [], ◌∷◌, length, map, get_or, sym, ap, ◌∙◌, subst, arith}
 use Rattle.std.specs.Prelude.{◌==◌, All}
 use Rattle.std.proofs.Math.ListN.{get_or-map}
 use Rattle.std.proofs.lemmas.List.{length-map}
@@ -23,7 +23,7 @@ use Rattle.group_state.specs.Built.{is_built, is_built_drive}
 use Rattle.group_state.specs.Groups.{IsPlayedEntry, IsProcessorOf}
 use Rattle.group_state.proofs.Plain.{plain-set}
 use Rattle.group_state.proofs.PlainGroup.{IsPlainGroup, group-plain, one}
-use Rattle.group_state.proofs.PlainSteps.{ArePlainSteps}
+use Rattle.group_state.proofs.PlainSteps.{ArePlainSteps, built-step}
 use Rattle.trace_text.proofs.GroupLaws.{group_0-there, group_count-one}
 use Rattle.trace_laws.proofs.ScriptLaws.{all-by_script}
 use Rattle.trace_laws.proofs.StepsGiven.{AreGivenSteps, IsGivenStep, built-drive, steps-given, steps-plain}
@@ -97,4 +97,4 @@ module _ (p : Parts) (es : List Entry) (valid : IsValid p) (built : is_built p �
   play-steps = all-of_map (IsGivenStep g) (λ (e : Entry). e.step) es steps-of_set
 
   pub play-is-played : All (IsPlayedEntry g) es
-  play-is-played k d lt = let s : IsGivenStep g (get_or es k d).step = play-steps k d lt in (s.act_built, s.at_processor)
+  play-is-played k d lt = let s : IsGivenStep g (get_or es k d).step = play-steps k d lt in record { step = built-step g (get_or es k d).step s.at_processor s.tick_low s.act_built; built = s.act_built }

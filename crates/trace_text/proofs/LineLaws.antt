@@ -1,5 +1,5 @@
 -- The lines of a group, part by part as they are written.
-use Rattle.std.proofs.Common.{◌≡◌, ℕ, zero, suc, ◌+◌, ◌<◌, ◌≤◌, Bool, true, false, List, [], ◌∷◌, ◌++◌, length, map, drop, get_or, refl, sym, ap, ◌∙◌, arith, append-nil, append_assoc}
+use Rattle.std.proofs.Common.{◌≡◌, ℕ, zero, suc, ◌+◌, ◌<◌, ◌≤◌, Bool, true, false, List, [], ◌∷◌, ◌++◌, length, map, drop, get_or, refl, sym, ap, ◌∙◌, arith, append-nil}
 use Rattle.std.specs.Prelude.{All, flat_map, Option, if◌then◌else◌, nat_lt}
 use Rattle.std.proofs.lemmas.Bool.Decides.{nat_tests}
 use Rattle.std.proofs.lemmas.Grind.{flat_map-append}
@@ -26,7 +26,7 @@ use Rattle.group_state.proofs.PlainGroup.{group-plain}
 use Rattle.trace_lines.specs.Lines.{Link, Line, links_of, group_line, entry_line, end_line}
 use Rattle.trace_lines.specs.declared.links.CpuLink.{CpuLink}
 use Rattle.trace_lines.specs.Grammar.{line_text}
-use Rattle.trace_lines.specs.FirstLine.{first_line, format_1}
+use Rattle.trace_lines.specs.FirstLine.{format_1}
 use Rattle.trace_text.specs.TraceText.{links_at, entry_lines, block_lines, group_lines, lines_from, trace_text, head_text}
 use Rattle.trace_text.specs.Groups.{AreGroupsOf, Follows, histories}
 
@@ -92,7 +92,7 @@ no_request g p e built none =
 pub requests_none : (g : Group) (p : Past) (es : List Entry) → All (IsPlayedEntry g) es → requests p ≡ [] → requests (past_from g p es) ≡ []
 unfolding past_from
 requests_none g p [] played none = none
-requests_none g p (e ∷ es) played none = requests_none g (after g e.step p) es (λ k d h. played (suc k) d (omega arith)) (no_request g p e (played 0 e (omega arith)).0 none)
+requests_none g p (e ∷ es) played none = requests_none g (after g e.step p) es (λ k d h. played (suc k) d (omega arith)) (no_request g p e (played 0 e (omega arith)).built none)
 
 pub blocks_none : (g : Group) (es : List Entry) → All (IsPlayedEntry g) es → block_lines g (past_of g es) ≡ []
 unfolding block_lines past_of requests

@@ -11,16 +11,11 @@ use rt_task::Setup;
 use std::alloc::Global;
 
 /// So many processors, numbered from `first` on.
-#[tactic(
-    auto,
-    using(crate::proofs::CpuLaws::numbers_more, crate::proofs::CpuLaws::numbers_start)
-)]
+#[tactic(auto, using(crate::proofs::CpuLaws::numbers_more, crate::proofs::CpuLaws::numbers_start))]
 fn put_cpus(cpus: &mut Vec<CpuNo>, first: u32, count: u32) -> Result<(), NoMemory>
     requires { first + count < 2 ^ 32 }
-    ensures {
-        OnOk result
-            (cpu_numbers cpus.new.items ≡ cpu_numbers cpus.old.items ++ numbers_from first count)
-    }
+    ensures { OnOk result
+        (cpu_numbers cpus.new.items ≡ cpu_numbers cpus.old.items ++ numbers_from first count) }
 {
     for q in first..first + count {
         if cpus.push(CpuNo(q)).is_err() {
@@ -34,10 +29,8 @@ fn put_cpus(cpus: &mut Vec<CpuNo>, first: u32, count: u32) -> Result<(), NoMemor
 #[tactic(auto, using(crate::proofs::CpuLaws::few_cpus, std::proofs::Common::append_assoc))]
 pub fn cpus_of(alloc: Global, setup: &Setup, group: GroupNo) -> Result<Vec<CpuNo>, NoMemory>
     requires { is_built setup.now ≡ true }
-    ensures {
-        let g = group_with setup.now group.0 in
-        IfOk result (λ cpus. cpu_numbers cpus.items ≡ group_processors g)
-    }
+    ensures { let g = group_with setup.now group.0 in
+        IfOk result (λ cpus. cpu_numbers cpus.items ≡ group_processors g) }
 {
     let mut cpus = Vec::new(alloc);
     let mut first = 0;

@@ -32,11 +32,9 @@ fn write_entries<K: Sink>(
     requires room { length entries.now ≤ replay.old.engine.spare }
     requires few { length entries.now ≤ MOST_STEPS }
     requires played { All (IsPlayedEntry (group_of replay.old.engine)) entries.now }
-    ensures {
-        Came result (K.held out.old) (K.held out.new) (K.faults out.old) (K.faults out.new)
-            (flat_map line_text
-                (entry_lines (group_of replay.old.engine) 0 (past replay.old.engine) entries.now))
-    }
+    ensures { Came result (K.held out.old) (K.held out.new) (K.faults out.old) (K.faults out.new)
+        (flat_map line_text
+        (entry_lines (group_of replay.old.engine) 0 (past replay.old.engine) entries.now)) }
 {
     for (i, entry) in entries.iter().enumerate() {
         replay.step(entry.step)?;
@@ -58,10 +56,8 @@ fn write_group<K: Sink>(
     requires built { is_built setup.now ≡ true }
     requires setup { group.now.setup ≡ setup.now }
     requires number { group.now.group ≡ number.0 }
-    ensures {
-        Came result (K.held out.old) (K.held out.new) (K.faults out.old) (K.faults out.new)
-            (flat_map line_text (group_lines (group_of group.now) group.now.entries))
-    }
+    ensures { Came result (K.held out.old) (K.held out.new) (K.faults out.old) (K.faults out.new)
+        (flat_map line_text (group_lines (group_of group.now) group.now.entries)) }
 {
     let entries = group.entries();
     let mut replay = Replay::open(alloc, setup, number, entries.len() as u32)?;
@@ -79,10 +75,8 @@ fn write_groups<K: Sink>(
     requires groups { AreGroupsOf setup.now groups.now }
     requires few { length groups.now ≤ 64 }
     requires built { is_built setup.now ≡ true }
-    ensures {
-        Came result (K.held out.old) (K.held out.new) (K.faults out.old) (K.faults out.new)
-            (flat_map line_text (lines_from setup.now 0 (histories groups.now)))
-    }
+    ensures { Came result (K.held out.old) (K.held out.new) (K.faults out.old) (K.faults out.new)
+        (flat_map line_text (lines_from setup.now 0 (histories groups.now))) }
 {
     let mut line = Vec::new(alloc);
     for (i, group) in groups.iter().enumerate() {
@@ -93,10 +87,8 @@ fn write_groups<K: Sink>(
 
 /// The first two lines.
 fn write_head<K: Sink>(alloc: Global, parts: &Parts, out: &mut K) -> Result<(), WriteStop>
-    ensures {
-        Came result (K.held out.old) (K.held out.new) (K.faults out.old) (K.faults out.new)
-            (head_text format_1 parts.now)
-    }
+    ensures { Came result (K.held out.old) (K.held out.new) (K.faults out.old) (K.faults out.new)
+        (head_text format_1 parts.now) }
 {
     let head = head_of(alloc, parts)?;
     write_bytes(out, head.as_slice())
@@ -111,10 +103,8 @@ pub fn write_all<K: Sink>(
 ) -> Result<(), WriteStop>
     requires groups { AreGroupsOf setup.now groups.now }
     requires built { is_built setup.now ≡ true }
-    ensures {
-        Came result (K.held out.old) (K.held out.new) (K.faults out.old) (K.faults out.new)
-            (trace_text format_1 setup.now (histories groups.now))
-    }
+    ensures { Came result (K.held out.old) (K.held out.new) (K.faults out.old) (K.faults out.new)
+        (trace_text format_1 setup.now (histories groups.now)) }
 {
     write_head(alloc, setup.parts(), out)?;
     write_groups(alloc, setup, groups, out)

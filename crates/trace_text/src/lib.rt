@@ -20,11 +20,11 @@ mod replay;
 mod stop;
 
 use group_engine::Engine;
+pub use head::head_of;
+pub use links::{is_same_task, put_changed};
 use rt_fault::Sink;
 use rt_task::Setup;
 use std::alloc::Global;
-pub use head::head_of;
-pub use links::{is_same_task, put_changed};
 pub use stop::WriteStop;
 
 /// Writes the trace of a setup and its groups, one engine for each group by rising number: the
@@ -41,14 +41,10 @@ pub fn write_trace<K: Sink>(
 ) -> Result<(), WriteStop>
     requires groups { AreGroupsOf setup.now groups.now }
     requires built { is_built setup.now ≡ true }
-    ensures ok {
-        let text = trace_text format_1 setup.now (histories groups.now) in
-        OnOk result (Extends (K.held out.old) (K.held out.new) text)
-    }
-    ensures stopped {
-        let text = trace_text format_1 setup.now (histories groups.now) in
-        OnErr result (ExtendsByPrefix (K.held out.old) (K.held out.new) text)
-    }
+    ensures ok { let text = trace_text format_1 setup.now (histories groups.now) in
+        OnOk result (Extends (K.held out.old) (K.held out.new) text) }
+    ensures stopped { let text = trace_text format_1 setup.now (histories groups.now) in
+        OnErr result (ExtendsByPrefix (K.held out.old) (K.held out.new) text) }
     ensures fault { result ≡ Err stops.Fault → HasRisen (K.faults out.old) (K.faults out.new) }
     ensures unfailed { result ≢ Err stops.Fault → K.faults out.new ≡ K.faults out.old }
     ensures counted { K.faults out.old ≤ K.faults out.new }

@@ -12,10 +12,8 @@ use trace_lines::{CpuLink, put_end_line, put_entry_line, put_group_line};
 
 /// Writes bytes.
 pub fn write_bytes<K: Sink>(out: &mut K, bytes: &[u8]) -> Result<(), WriteStop>
-    ensures {
-        Came result (K.held out.old) (K.held out.new) (K.faults out.old) (K.faults out.new)
-            bytes.now
-    }
+    ensures { Came result (K.held out.old) (K.held out.new) (K.faults out.old) (K.faults out.new)
+        bytes.now }
 {
     put_all(out, bytes)?;
     Ok(())
@@ -28,10 +26,8 @@ pub fn write_group_line<K: Sink>(
     group: GroupNo,
     links: &[CpuLink],
 ) -> Result<(), WriteStop>
-    ensures {
-        Came result (K.held out.old) (K.held out.new) (K.faults out.old) (K.faults out.new)
-            (line_text (group_line group.0 (links_of links.now)))
-    }
+    ensures { Came result (K.held out.old) (K.held out.new) (K.faults out.old) (K.faults out.new)
+        (line_text (group_line group.0 (links_of links.now))) }
 {
     line.clear();
     put_group_line(line, group, links)?;
@@ -46,10 +42,8 @@ pub fn write_entry_line<K: Sink>(
     entry: &Entry,
     links: &[CpuLink],
 ) -> Result<(), WriteStop>
-    ensures {
-        Came result (K.held out.old) (K.held out.new) (K.faults out.old) (K.faults out.new)
-            (line_text (entry_line number entry.now (links_of links.now)))
-    }
+    ensures { Came result (K.held out.old) (K.held out.new) (K.faults out.old) (K.faults out.new)
+        (line_text (entry_line number entry.now (links_of links.now))) }
 {
     line.clear();
     put_entry_line(line, number, entry, links)?;
@@ -58,10 +52,8 @@ pub fn write_entry_line<K: Sink>(
 
 /// Writes the line `end`.
 pub fn write_end_line<K: Sink>(out: &mut K, line: &mut Vec<u8>) -> Result<(), WriteStop>
-    ensures {
-        Came result (K.held out.old) (K.held out.new) (K.faults out.old) (K.faults out.new)
-            (line_text end_line)
-    }
+    ensures { Came result (K.held out.old) (K.held out.new) (K.faults out.old) (K.faults out.new)
+        (line_text end_line) }
 {
     line.clear();
     put_end_line(line)?;

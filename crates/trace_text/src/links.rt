@@ -15,10 +15,8 @@ use trace_lines::CpuLink;
 #[tactic(auto, using(std::proofs::Common::append_assoc))]
 pub fn read_links(engine: &Engine, cpus: &[CpuNo], links: &mut Vec<CpuLink>) -> Result<(), NoMemory>
     requires { All (λ q. IsProcessorOf (group_of engine.now) q.0) cpus.now }
-    ensures {
-        let now = links_at (group_of engine.now) (past engine.now) (cpu_numbers cpus.now) in
-        OnOk result (links_of links.new.items ≡ now)
-    }
+    ensures { let now = links_at (group_of engine.now) (past engine.now) (cpu_numbers cpus.now) in
+        OnOk result (links_of links.new.items ≡ now) }
 {
     links.clear();
     for cpu in cpus {
@@ -53,10 +51,8 @@ pub fn put_changed(
     changed: &mut Vec<CpuLink>,
 ) -> Result<(), NoMemory>
     requires { length links.now ≡ length before.now }
-    ensures {
-        OnOk result
-            (links_of changed.new.items ≡ changed_links (links_of before.now) (links_of links.now))
-    }
+    ensures { OnOk result
+        (links_of changed.new.items ≡ changed_links (links_of before.now) (links_of links.now)) }
 {
     changed.clear();
     for (i, link) in links.iter().enumerate() {

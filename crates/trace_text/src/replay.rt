@@ -2,8 +2,9 @@
 ghost use Rattle.std.specs.Prelude.{◌≡◌, ◌-◌, ◌<◌, ◌≤◌, [], true, IfOk, OnOk};
 ghost use Rattle.rt_base.specs.declared.TheConstants.{MOST_STEPS};
 ghost use Rattle.rt_model.specs.Histories.{after, changed};
+ghost use Rattle.rt_model.specs.Steps.{IsStepOf};
 ghost use Rattle.group_state.specs.Built.{is_built, is_built_act};
-ghost use Rattle.group_state.specs.Groups.{group_of, past, IsGroupOf, IsProcessorOf};
+ghost use Rattle.group_state.specs.Groups.{group_of, past, IsGroupOf};
 ghost use Rattle.trace_lines.specs.Lines.{links_of};
 ghost use Rattle.trace_text.specs.TraceText.{links_at};
 ghost use Rattle.trace_text.specs.Groups.{Follows};
@@ -34,11 +35,9 @@ impl Replay {
         requires group { IsGroupOf setup.now group.0 }
         requires room { room ≤ MOST_STEPS }
         requires built { is_built setup.now ≡ true }
-        ensures opened {
-            IfOk result (λ r.
-                r.engine ≡
-                    record { setup = setup.now; group = group.0; entries = []; spare = room })
-        }
+        ensures opened { IfOk result (λ r.
+            r.engine ≡
+            record { setup = setup.now; group = group.0; entries = []; spare = room }) }
         ensures follows { IfOk result (λ r. Follows r.engine r.cpus.items r.links.items) }
     {
         let engine = Engine::open(alloc, setup, group, room)?;
@@ -71,27 +70,27 @@ impl Replay {
     /// Takes a step.
     pub fn step(&mut self, step: Step) -> Result<(), NoMemory>
         requires room { 0 < self.old.engine.spare }
-        requires cpu { IsProcessorOf (group_of self.old.engine) step.cpu.0 }
+        requires step { IsStepOf (group_of self.old.engine) step }
         requires act { is_built_act step.act ≡ true }
         requires follows { Follows self.old.engine self.old.cpus.items self.old.links.items }
         ensures group { OnOk result (group_of self.new.engine ≡ group_of self.old.engine) }
         ensures spare { OnOk result (self.new.engine.spare ≡ self.old.engine.spare - 1) }
-        ensures past {
-            let now = after (group_of self.old.engine) step (past self.old.engine) in
-            OnOk result (past self.new.engine ≡ now)
-        }
-        ensures changed {
-            let g = group_of self.old.engine in
+        ensures past { let now = after (group_of self.old.engine) step (past self.old.engine) in
+            OnOk result (past self.new.engine ≡ now) }
+        ensures changed { let g = group_of self.old.engine in
             let others = changed g (past self.old.engine) (past self.new.engine) in
-            OnOk result (links_of self.new.changed.items ≡ links_at g (past self.new.engine) others)
-        }
-        ensures follows {
-            OnOk result (Follows self.new.engine self.new.cpus.items self.new.links.items)
-        }
+            let shown = links_at g (past self.new.engine) others in
+            OnOk result (links_of self.new.changed.items ≡ shown) }
+        ensures follows { OnOk result
+            (Follows self.new.engine self.new.cpus.items self.new.links.items) }
     {
         self.engine.step(step);
         mem::swap(&mut self.before, &mut self.links);
         read_links(&self.engine, self.cpus.as_slice(), &mut self.links)?;
-        put_changed(self.before.as_slice(), self.links.as_slice(), &mut self.changed)
+        put_changed(
+            self.before.as_slice(),
+            self.links.as_slice(),
+            &mut self.changed,
+        )
     }
 }

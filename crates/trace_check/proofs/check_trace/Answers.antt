@@ -16,8 +16,8 @@ pub returns-then-not-branch : goal.returns-then-not-branch
 returns-then-not-branch c =
     not-canonical c.args.trace.now.setup c.parts.ensures.valid c.requires.built c.args.bytes.now (lines_of c.args.trace.now.lines) c.args.trace.now.stop c.requires.read
     (λ same.
-        let begins = canonical-begins c.args.trace.now.setup c.args.bytes.now c.requires.read.set_text c.requires.read.rest c.requires.read.head same in
-        clash _ ((c.in_ok-has_head.ensures).1 (c.requires.read.rest, begins ∙ ap (λ (p : Parts). head_text format_1 p ++ c.requires.read.rest) (sym c.parts.ensures.parts))) c.if-not-branch.true)
+    let begins = canonical-begins c.args.trace.now.setup c.args.bytes.now c.requires.read.set_text c.requires.read.rest c.requires.read.head same in
+    clash _ ((c.in_ok-has_head.ensures).1 (c.requires.read.rest, begins ∙ ap (λ (p : Parts). head_text format_1 p ++ c.requires.read.rest) (sym c.parts.ensures.parts))) c.if-not-branch.true)
 
 pub returns : goal.returns
 returns c =
