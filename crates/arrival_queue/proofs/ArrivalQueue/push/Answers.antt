@@ -25,8 +25,7 @@ invariant_of-self c =
     let place : c.len-place.result ≡ length c.self.inside.arrivals.items = c.len-place.ensures ∙ c.self.inside.arrivals.ok.0 in
     let items : c.push_reserved.new.self.items ≡ pushed _ _ c.self.invariant.0 c.args.task.0 low c.args.clock.0 = rw (c.push_reserved.ensures.items, c.follow.ensures.items, read, place) in
     let longer : length c.push_reserved.new.self.items ≡ length c.self.inside.arrivals.items + 1 = ap length items ∙ pushed-length _ _ c.self.invariant.0 c.args.task.0 low c.args.clock.0 in
-    let room : c.self.inside.room - length c.self.inside.arrivals.items ≡ c.args.self.now.room = ap (λ (w : Waiting). w.room) c.self.view_is in
-    (
+    let room : c.self.inside.room - length c.self.inside.arrivals.items ≡ c.args.self.now.room = ap (λ (w : Waiting). w.room) c.self.view_is in (
       rw (items, c.unwrap_or.ensures, read, place) (chained-pushed _ _ c.self.invariant.0 c.args.task.0 low c.args.clock.0),
       omega (arith, longer, room, c.requires.room),
       omega (arith, c.push_reserved.ensures.capacity, c.follow.ensures.room, c.self.invariant.2),
