@@ -85,16 +85,16 @@ each-keeps kind part rule xs i d h low = let e : 0 + i ≡ i = omega arith in su
 
 -- ---- the rows of the table
 
-record KeepsRows (p : Parts) : Type 0 where
-  whole : whole_range (draft_of p) ≡ true
-  cluster : (i : ℕ) (d : DraftCluster) → i < length (draft_of p).clusters → KeepsRule (cluster_range (draft_of p)) i (slice_index_or (draft_of p).clusters i d)
-  range : (i : ℕ) (d : DraftTask) → i < length (draft_of p).tasks → KeepsRule (task_range (draft_of p)) i (slice_index_or (draft_of p).tasks i d)
-  name : (i : ℕ) (d : DraftTask) → i < length (draft_of p).tasks → KeepsRule (task_name (draft_of p)) i (slice_index_or (draft_of p).tasks i d)
-  resv : (i : ℕ) (d : DraftResv) → i < length (draft_of p).resvs → KeepsRule (resv_range (draft_of p)) i (slice_index_or (draft_of p).resvs i d)
-  sem : (i : ℕ) (d : Sem) → i < length p.sems → KeepsRule (sem_sharing (draft_of p)) i (slice_index_or p.sems i d)
-  task : (i : ℕ) (d : DraftTask) → i < length (draft_of p).tasks → KeepsRule (task_sharing (draft_of p)) i (slice_index_or (draft_of p).tasks i d)
+pub record KeepsRows (p : Parts) : Type 0 where
+  pub whole : whole_range (draft_of p) ≡ true
+  pub cluster : (i : ℕ) (d : DraftCluster) → i < length (draft_of p).clusters → KeepsRule (cluster_range (draft_of p)) i (slice_index_or (draft_of p).clusters i d)
+  pub range : (i : ℕ) (d : DraftTask) → i < length (draft_of p).tasks → KeepsRule (task_range (draft_of p)) i (slice_index_or (draft_of p).tasks i d)
+  pub name : (i : ℕ) (d : DraftTask) → i < length (draft_of p).tasks → KeepsRule (task_name (draft_of p)) i (slice_index_or (draft_of p).tasks i d)
+  pub resv : (i : ℕ) (d : DraftResv) → i < length (draft_of p).resvs → KeepsRule (resv_range (draft_of p)) i (slice_index_or (draft_of p).resvs i d)
+  pub sem : (i : ℕ) (d : Sem) → i < length p.sems → KeepsRule (sem_sharing (draft_of p)) i (slice_index_or p.sems i d)
+  pub task : (i : ℕ) (d : DraftTask) → i < length (draft_of p).tasks → KeepsRule (task_sharing (draft_of p)) i (slice_index_or (draft_of p).tasks i d)
 
-keeps_rows : (p : Parts) → IsValid p → KeepsRows p
+pub keeps_rows : (p : Parts) → IsValid p → KeepsRows p
 unfolding refusal_of whole_refusal refusal
 keeps_rows p valid =
     let d : Draft = draft_of p in
@@ -140,7 +140,7 @@ step_rows p valid =
 numbered : (t n : ℕ) → has t (numbers_from 1 n) ≡ true → (1 ≤ t) × (t - 1 < n)
 numbered t n h = let low : 1 ≤ t = has-numbers_from t 1 n h in (low, omega (arith, low, numbers_from-below t 1 n h))
 
-task-numbered : (g : Group) (t : ℕ) → has t (tasks g) ≡ true → t - 1 < length g.setup.tasks
+pub task-numbered : (g : Group) (t : ℕ) → has t (tasks g) ≡ true → t - 1 < length g.setup.tasks
 unfolding tasks
 task-numbered g t h = (numbered t (length g.setup.tasks) (both _ _ (rw has-filter at h)).0).1
 

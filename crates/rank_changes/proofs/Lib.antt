@@ -1,0 +1,9 @@
+pub mod TouchedTasks
+pub mod SameEligibility
+pub mod SameClusters
+pub mod ServedClients
+pub mod SameReservations
+pub mod QuietMoves
+pub mod ClientHomes
+pub mod MovedClusters
+pub mod FirstClients
