@@ -1,4 +1,5 @@
 pub mod Rules
+pub mod ReleaseLaws
 pub mod DueLaws
 pub mod Plain
 pub mod PlainGroup
