@@ -12,3 +12,4 @@ pub mod Limits
 pub mod Doing
 pub mod Stepping
 pub mod Opening
+pub mod TopLists
