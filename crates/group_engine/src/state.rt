@@ -1,25 +1,19 @@
 //! What the engine keeps of its group, and what each move makes of it.
-ghost use Rattle.std.specs.Prelude.{◌≡◌, ◌+◌, ◌-◌, ◌*◌, ◌^◌, ◌<◌, ◌≤◌, ◌∷◌, nat_le, true, ℕ, List, All, IfOk, length, take, max, Some, None, false, option_map, slice_index, slice_index_or, vec_capacity};
+ghost use Rattle.std.specs.Prelude.{◌≡◌, ◌+◌, ◌-◌, ◌*◌, ◌^◌, ◌<◌, ◌≤◌, nat_le, true, All, IfOk, length, max, Some, None, false, slice_index, slice_index_or, vec_capacity};
 ghost use Rattle.rt_base.specs.TaskNos.{number_of_task, numbers};
 ghost use Rattle.rt_order.specs.declared.Key.{Key};
-ghost use Rattle.rt_rules.specs.Keys.{Ranked};
 ghost use Rattle.rt_rules.specs.Distinct.{IsDistinct};
 ghost use Rattle.rt_rules.specs.Placing.{placed, at_place};
 ghost use Rattle.rt_task.specs.declared.Task.{Task};
 ghost use Rattle.rt_base.specs.declared.TheConstants.{MOST_TASKS, TICK_END};
-ghost use Rattle.rt_rules.specs.Numbers.{numbers_from};
-ghost use Rattle.rt_model.specs.Group.{no_task};
-ghost use Rattle.rt_model.specs.Past.{Acted};
 ghost use Rattle.rt_model.specs.Runs.{runs};
-ghost use Rattle.rt_model.specs.Answers.{answer};
-ghost use Rattle.rt_model.specs.Outcomes.{past_act};
 ghost use Rattle.group_state.specs.Built.{is_built_act};
 ghost use Rattle.group_engine.specs.Releases.{numbered};
 ghost use Rattle.ready_queue.specs.RankedTasks.{ranked, ranked_all};
-ghost use Rattle.rt_rules.specs.Rankings.{ranked_by, tasks_of, without_task};
+ghost use Rattle.rt_rules.specs.Rankings.{tasks_of, without_task};
 ghost use Rattle.link_table.specs.Linked.{irq_reply, after_irq};
 ghost use Rattle.group_state.specs.Due.{due_ready, not_due, ready_task};
-ghost use Rattle.group_state.specs.Moves.{CanOpen, first_waiting, opened, replaced, clock_moved, has_worked, has_run, job_ended};
+ghost use Rattle.group_state.specs.Moves.{CanOpen, first_waiting, opened, replaced, clock_moved, has_worked, job_ended};
 ghost use Rattle.group_state.specs.State.{State, top_tasks, rel_deadline_of, CanAct, CanActNow, CanOperate, CanOperateNow, HasActed, IsBounded, Moment, linked_of};
 
 use crate::releases::{NextRelease, ReleaseList};

@@ -9,7 +9,7 @@ use Rattle.rt_order.specs.declared.Key.{Key}
 use Rattle.rt_history.specs.declared.Entry.{Entry}
 use Rattle.rt_rules.specs.Numbers.{has, numbers_from}
 use Rattle.rt_rules.specs.Distinct.{IsDistinct}
-use Rattle.rt_rules.specs.Keys.{Ranked, ahead, inserted, sorted}
+use Rattle.rt_rules.specs.Keys.{Ranked, sorted}
 use Rattle.rt_rules.proofs.RankedLaws.{tasks_ranked}
 use Rattle.rt_rules.proofs.PlacingLaws.{equal_self, or_true}
 use Rattle.rt_rules.proofs.NumberLaws.{has-numbers_from}
@@ -28,8 +28,8 @@ use Rattle.rt_rules.specs.Rankings.{ranked_by, without_task}
 use Rattle.rt_rules.specs.Rankings as queue
 use Rattle.group_state.specs.State.{State, IsKept, IsPlayed, IsBounded, release_at, key_at}
 use Rattle.rt_rules.proofs.RankedByLaws.{distinct-ranked_by, length-inserted, has-ranked_by}
-use Rattle.group_state.specs.Releases.{Release, releases_by}
-use Rattle.group_state.proofs.ReleaseLaws.{release_key, length-releases_by, All-releases_by}
+use Rattle.group_state.specs.Releases.{Release, comes_first, put_release, in_order, releases_by}
+use Rattle.group_state.proofs.ReleaseLaws.{length-releases_by}
 use Rattle.group_state.proofs.Plain.{IsPlainTask, plain-set}
 use Rattle.group_state.proofs.PlainGroup.{IsPlainGroup, group-plain, task_range}
 use Rattle.group_state.proofs.PlainModel.{plain-task, exists-at}
@@ -37,42 +37,35 @@ use Rattle.group_state.proofs.PlainModel.{plain-task, exists-at}
 pub plain : (g : Group) → IsPlayed g → IsPlainGroup g
 plain g p = group-plain g.setup g.number (plain-set g.setup p.valid p.built) p.is_there
 
--- ---- each element of a sorted list
+-- ---- each release of a list in order
 
-abbrev Each : (Ranked → Type 0) → List Ranked → Type 0
+abbrev Each : (Release → Type 0) → List Release → Type 0
 Each P [] = ⊤
 Each P (r ∷ rs) = P r × Each P rs
 
-each-inserted : (P : Ranked → Type 0) (a : Ranked) (rs : List Ranked) → P a → Each P rs → Each P (inserted a rs)
-each-inserted P a [] h e = (h, tt)
-each-inserted P a (x ∷ rs) h e = by_case (ahead a x) (each-inserted P a rs h e.1)
+each-put : (P : Release → Type 0) (a : Release) (rs : List Release) → P a → Each P rs → Each P (put_release a rs)
+each-put P a [] h e = (h, tt)
+each-put P a (x ∷ rs) h e = by_case (comes_first a x) (each-put P a rs h e.1)
   where
-    by_case : (b : Bool) → Each P (inserted a rs) → Each P (cond b (a ∷ x ∷ rs) (x ∷ inserted a rs))
+    by_case : (b : Bool) → Each P (put_release a rs) → Each P (cond b (a ∷ x ∷ rs) (x ∷ put_release a rs))
     by_case true rest = (h, e)
     by_case false rest = (e.0, rest)
 
-each-sorted : (P : Ranked → Type 0) (rs : List Ranked) → Each P rs → Each P (sorted rs)
-each-sorted P [] e = tt
-each-sorted P (r ∷ rs) e = each-inserted P r (sorted rs) e.0 (each-sorted P rs e.1)
-
-each-all : (P : Ranked → Type 0) (rs : List Ranked) → Each P rs → All P rs
+each-all : (P : Release → Type 0) (rs : List Release) → Each P rs → All P rs
 each-all P [] e k d lt = absurd (omega arith)
 each-all P (r ∷ rs) e zero d lt = e.0
 each-all P (r ∷ rs) e (suc k) d lt = each-all P rs e.1 k d (omega arith)
 
-ranked_by-each : (P : Ranked → Type 0) (key : ℕ → Key) (test : ℕ → Bool) (ts : List ℕ) → ((t : ℕ) → has t ts ≡ true → P (record { key = key t; task = t })) → All P (ranked_by key test ts)
-ranked_by-each P key test ts h = each-all P _ (each-sorted P _ (listed ts (λ t k. h t k)))
+pub releases_by-each : (P : Release → Type 0) (release : ℕ → ℕ) (test : ℕ → Bool) (ts : List ℕ) → ((t : ℕ) → has t ts ≡ true → P (record { tick = release t; task = t })) → All P (releases_by release test ts)
+releases_by-each P release test ts h = each-all P _ (listed ts (λ t k. h t k))
   where
-    listed : (us : List ℕ) → ((t : ℕ) → has t us ≡ true → P (record { key = key t; task = t })) → Each P (map (λ t. record { key = key t; task = t }) (filter test us))
+    listed : (us : List ℕ) → ((t : ℕ) → has t us ≡ true → P (record { tick = release t; task = t })) → Each P (releases_by release test us)
     listed [] k = tt
     listed (u ∷ us) k = by_case (test u) (listed us (λ t m. k t (rw m (or_true (t == u)))))
       where
-        by_case : (b : Bool) → Each P (map (λ t. record { key = key t; task = t }) (filter test us)) → Each P (map (λ t. record { key = key t; task = t }) (cond b (u ∷ filter test us) (filter test us)))
-        by_case true rest = (k u (rw (equal_self u)), rest)
+        by_case : (b : Bool) → Each P (releases_by release test us) → Each P (in_order (map (λ t. record { tick = release t; task = t }) (cond b (u ∷ filter test us) (filter test us))))
+        by_case true rest = each-put P (record { tick = release u; task = u }) (releases_by release test us) (k u (rw (equal_self u))) rest
         by_case false rest = rest
-
-pub releases_by-each : (P : Release → Type 0) (release : ℕ → ℕ) (test : ℕ → Bool) (ts : List ℕ) → ((t : ℕ) → has t ts ≡ true → P (record { tick = release t; task = t })) → All P (releases_by release test ts)
-releases_by-each P release test ts h = All-releases_by P release test ts (ranked_by-each (λ r. P (record { tick = r.key.major; task = r.task })) (release_key release) test ts h)
 
 length-sorted : (rs : List Ranked) → length (sorted rs) ≡ length rs
 length-sorted [] = refl

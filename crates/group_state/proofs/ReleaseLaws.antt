@@ -1,8 +1,7 @@
 -- Releases in the order of their ticks are tasks ranked by keys of one band, and so keep the laws of those.
-use Rattle.std.proofs.Common.{◌≡◌, ℕ, ◌+◌, Bool, true, false, not, ◌&&◌, ◌||◌, cond, List, [], ◌∷◌, length, map, refl, sym, ap, ◌∙◌, subst, arith}
-use Rattle.std.specs.Prelude.{◌==◌, nat_lt, All, filter}
+use Rattle.std.proofs.Common.{◌≡◌, ℕ, ◌+◌, Bool, true, false, not, ◌&&◌, ◌||◌, cond, List, [], ◌∷◌, length, map, refl, sym, ap, ◌∙◌, arith}
+use Rattle.std.specs.Prelude.{◌==◌, nat_lt, filter}
 use Rattle.std.proofs.lemmas.List.{length-map}
-use Rattle.std.proofs.lemmas.List.Elements.{All-map}
 use Rattle.rt_order.specs.declared.Key.{Key}
 use Rattle.rt_rules.specs.Numbers.{has}
 use Rattle.rt_rules.specs.Distinct.{IsDistinct}
@@ -81,7 +80,3 @@ length-in_order (r ∷ rs) = length-put r (in_order rs) ∙ (let e = length-in_o
 
 pub length-releases_by : (release : ℕ → ℕ) (test : ℕ → Bool) (ts : List ℕ) → length (releases_by release test ts) ≡ length (filter test ts)
 length-releases_by release test ts = length-in_order _ ∙ length-map _ _
-
--- what holds of the tasks ranked by their releases holds of the releases
-pub All-releases_by : (P : Release → Type 0) (release : ℕ → ℕ) (test : ℕ → Bool) (ts : List ℕ) → All (λ r. P (release_in r)) (ranked_by (release_key release) test ts) → All P (releases_by release test ts)
-All-releases_by P release test ts h = subst (λ rs. All P rs) (ap (λ rs. map release_in rs) (sym (is-ranked release test ts)) ∙ back (releases_by release test ts)) (All-map P release_in _ h)

@@ -1,5 +1,5 @@
 -- What each move makes of the state, in a cluster of m processors whose tasks have these relative deadlines.
-use Rattle.std.specs.Prelude.{ℕ, ◌+◌, ◌-◌, ◌^◌, ◌<◌, ◌≤◌, All, max, Bool, true, List, [], Option, None, Some, if◌then◌else◌}
+use Rattle.std.specs.Prelude.{ℕ, ◌+◌, ◌-◌, ◌^◌, ◌<◌, ◌≤◌, All, max, Bool, true, List, [], None, Some, if◌then◌else◌}
 use Rattle.std.specs.Prelude.{length, replicate, slice_index, slice_index_or, slice_set}
 use Rattle.rt_base.specs.declared.TheConstants.{MOST_TASKS}
 use Rattle.rt_task.specs.declared.Task.{Task}
@@ -31,10 +31,6 @@ clock_moved m rel_deadline tick state =
 -- the processor in this place has worked at this clock
 abbrev pub has_worked : ℕ → State → State
 has_worked place state = record state { worked = slice_set state.worked place (Some state.clock) }
-
--- the processor in this place runs this task, or nothing
-abbrev pub has_run : ℕ → Option ℕ → State → State
-has_run place task state = record state { runs = slice_set state.runs place task }
 
 -- the task of the processor in this place has ended its job, and its next job is released, or waits for its release
 abbrev pub job_ended : ℕ → ℕ → ℕ → Bool → Key → ℕ → State → State
