@@ -2,7 +2,6 @@
 ghost use Rattle.std.specs.Prelude.{◌≡◌, ◌<◌, ◌≤◌, ◌+◌, [], IfOk, true, length};
 ghost use Rattle.rt_base.specs.TaskNos.{number_of_task};
 ghost use Rattle.rt_base.specs.declared.TheConstants.{MOST_STEPS};
-ghost use Rattle.rt_task.specs.Validity.{IsValid};
 ghost use Rattle.rt_model.specs.Runs.{runs};
 ghost use Rattle.rt_model.specs.Links.{linked};
 ghost use Rattle.rt_model.specs.Histories.{reply_to};

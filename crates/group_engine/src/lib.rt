@@ -3,7 +3,7 @@
 
 mod built;
 mod engine;
-mod queue;
+mod releases;
 mod room;
 mod state;
 

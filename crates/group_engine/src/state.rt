@@ -1,29 +1,25 @@
 //! What the engine keeps of its group, and what each move makes of it.
-ghost use Rattle.std.specs.Prelude.{◌≡◌, ◌+◌, ◌-◌, ◌*◌, ◌^◌, ◌<◌, ◌≤◌, ◌∷◌, nat_le, true, ℕ, List, All, IfOk, length, take, max, Some, None, false, option_map, slice_index, slice_index_or, vec_capacity};
+ghost use Rattle.std.specs.Prelude.{◌≡◌, ◌+◌, ◌-◌, ◌*◌, ◌^◌, ◌<◌, ◌≤◌, nat_le, true, All, IfOk, length, max, Some, None, false, slice_index, slice_index_or, vec_capacity};
 ghost use Rattle.rt_base.specs.TaskNos.{number_of_task, numbers};
 ghost use Rattle.rt_order.specs.declared.Key.{Key};
-ghost use Rattle.rt_rules.specs.Keys.{Ranked};
 ghost use Rattle.rt_rules.specs.Distinct.{IsDistinct};
 ghost use Rattle.rt_rules.specs.Placing.{placed, at_place};
 ghost use Rattle.rt_task.specs.declared.Task.{Task};
 ghost use Rattle.rt_base.specs.declared.TheConstants.{MOST_TASKS, TICK_END};
-ghost use Rattle.rt_rules.specs.Numbers.{numbers_from};
-ghost use Rattle.rt_model.specs.Group.{no_task};
-ghost use Rattle.rt_model.specs.Past.{Acted};
 ghost use Rattle.rt_model.specs.Runs.{runs};
-ghost use Rattle.rt_model.specs.Answers.{answer};
-ghost use Rattle.rt_model.specs.Outcomes.{past_act};
 ghost use Rattle.group_state.specs.Built.{is_built_act};
-ghost use Rattle.group_engine.specs.Queue.{ranked, ranked_all};
-ghost use Rattle.rt_rules.specs.Rankings.{ranked_by, tasks_of, without_task};
+ghost use Rattle.group_engine.specs.Releases.{numbered};
+ghost use Rattle.ready_queue.specs.RankedTasks.{ranked, ranked_all};
+ghost use Rattle.rt_rules.specs.Rankings.{tasks_of, without_task};
 ghost use Rattle.link_table.specs.Linked.{irq_reply, after_irq};
 ghost use Rattle.group_state.specs.Due.{due_ready, not_due, ready_task};
-ghost use Rattle.group_state.specs.Moves.{CanOpen, first_waiting, opened, replaced, clock_moved, has_worked, has_run, job_ended};
+ghost use Rattle.group_state.specs.Moves.{CanOpen, first_waiting, opened, replaced, clock_moved, has_worked, job_ended};
 ghost use Rattle.group_state.specs.State.{State, top_tasks, rel_deadline_of, CanAct, CanActNow, CanOperate, CanOperateNow, HasActed, IsBounded, Moment, linked_of};
 
-use crate::queue::{Queue, Queued};
+use crate::releases::{NextRelease, ReleaseList};
 use crate::room::put;
 use link_table::Links;
+use ready_queue::{RankedList, RankedTask};
 use rt_base::{CpuNo, NoMemory, TaskNo};
 use rt_history::Reply;
 use rt_order::Key;
@@ -37,8 +33,8 @@ pub(crate) struct GroupState {
     clock: u64,
     done: Vec<u64>,
     worked: Vec<Option<u64>>,
-    ready: Queue,
-    waiting: Queue,
+    ready: RankedList,
+    waiting: ReleaseList,
     links: Links,
     top: Vec<TaskNo>,
 }
@@ -54,7 +50,7 @@ impl Model for GroupState {
       done = a.done.items;
       worked = a.worked.items;
       ready = a.ready.tasks;
-      waiting = a.waiting.tasks;
+      waiting = a.waiting.releases;
       runs = a.links.runs;
       links = a.links.links;
     } };
@@ -65,49 +61,54 @@ impl Model for GroupState {
 }
 
 /// The first of the tasks that are ready, as many as there are processors.
-fn fill_top(top: &mut Vec<TaskNo>, ready: &[Queued], most: usize)
+fn fill_top(top: &mut Vec<TaskNo>, ready: &[RankedTask], most: usize)
     requires { most ≤ vec_capacity top.old }
     ensures top { numbers top.new.items ≡ top_tasks most (ranked_all ready.now) }
     ensures room { vec_capacity top.old ≤ vec_capacity top.new }
 {
     top.clear();
-    for queued in ready {
+    for ranked in ready {
         if top.len() >= most {
             return;
         }
-        put(top, queued.task);
+        put(top, ranked.task);
     }
 }
 
 /// The key of a task's job that was released.
-fn job_key(tasks: &[Task], released: Queued) -> Key
-    requires bounded { IsBounded (length tasks.now) (ranked released) }
+fn job_key(tasks: &[Task], released: NextRelease) -> Key
+    requires bounded { IsBounded (length tasks.now) (numbered released) }
     requires deadlines { All (λ (t : Task). t.rel_deadline < 2 ^ 62) tasks.now }
-    ensures { result ≡ (ready_task (rel_deadline_of tasks.now) (ranked released)).key }
+    ensures { result ≡ (ready_task (rel_deadline_of tasks.now) (numbered released)).key }
 {
     let task = &tasks[released.task.0 as usize - 1];
     Key {
         band: 2,
-        major: released.key.major + task.rel_deadline,
+        major: released.tick + task.rel_deadline,
         minor: released.task.0,
     }
 }
 
 /// Takes the tasks that are due from those that wait to those that are ready, and says whether there was one.
-fn release_due(clock: u64, tasks: &[Task], waiting: &mut Queue, ready: &mut Queue) -> bool
-    requires bounded { All (IsBounded (length tasks.now)) waiting.old.tasks }
+fn release_due(
+    clock: u64,
+    tasks: &[Task],
+    waiting: &mut ReleaseList,
+    ready: &mut RankedList,
+) -> bool
+    requires bounded { All (IsBounded (length tasks.now)) waiting.old.releases }
     requires deadlines { All (λ (t : Task). t.rel_deadline < 2 ^ 62) tasks.now }
-    requires room { length waiting.old.tasks + length ready.old.tasks ≤ ready.old.room }
+    requires room { length waiting.old.releases + length ready.old.tasks ≤ ready.old.room }
     ensures ready { ready.new.tasks
-        ≡ due_ready clock (rel_deadline_of tasks.now) waiting.old.tasks ready.old.tasks }
-    ensures waiting { waiting.new.tasks ≡ not_due clock waiting.old.tasks }
+        ≡ due_ready clock (rel_deadline_of tasks.now) waiting.old.releases ready.old.tasks }
+    ensures waiting { waiting.new.releases ≡ not_due clock waiting.old.releases }
     ensures ready_room { ready.old.room ≤ ready.new.room }
     ensures waiting_room { waiting.old.room ≤ waiting.new.room }
     ensures none_due { result ≡ false → ready.new.tasks ≡ ready.old.tasks }
 {
     let mut moved = false;
     while let Some(first) = waiting.first() {
-        if first.key.major > clock {
+        if first.tick > clock {
             break;
         }
         waiting.drop_first();
@@ -117,22 +118,20 @@ fn release_due(clock: u64, tasks: &[Task], waiting: &mut Queue, ready: &mut Queu
     moved
 }
 
-/// All the tasks, in the order of their first releases.
-fn waiting_tasks(alloc: Global, tasks: &[Task]) -> Result<Queue, NoMemory>
+/// The first releases of all the tasks.
+fn first_releases(alloc: Global, tasks: &[Task]) -> Result<ReleaseList, NoMemory>
     requires few { length tasks.now ≤ MOST_TASKS }
     requires phases { All (λ (t : Task). t.phase < 2 ^ 62) tasks.now }
-    ensures tasks { IfOk result (λ q. q.tasks ≡ first_waiting tasks.now) }
+    ensures releases { IfOk result (λ q. q.releases ≡ first_waiting tasks.now) }
     ensures room { IfOk result (λ q. length tasks.now ≤ q.room) }
 {
-    let mut waiting = Queue::with_room(alloc, tasks.len())?;
+    let mut waiting = ReleaseList::with_room(alloc, tasks.len())?;
     let mut left = tasks.len();
     while left > 0 {
-        let key = Key {
-            band: 0,
-            major: tasks[left - 1].phase,
-            minor: left as u32,
-        };
-        waiting.insert(key, TaskNo(left as u32));
+        waiting.insert(NextRelease {
+            tick: tasks[left - 1].phase,
+            task: TaskNo(left as u32),
+        });
         left -= 1;
     }
     Ok(waiting)
@@ -144,8 +143,8 @@ impl GroupState {
         requires { CanOpen cpus tasks.now }
         ensures { IfOk result (λ s. s ≡ opened cpus tasks.now) }
     {
-        let mut waiting = waiting_tasks(alloc, tasks)?;
-        let mut ready = Queue::with_room(alloc, tasks.len())?;
+        let mut waiting = first_releases(alloc, tasks)?;
+        let mut ready = RankedList::with_room(alloc, tasks.len())?;
         let _ = release_due(0, tasks, &mut waiting, &mut ready);
         let Ok(done) = vec![in alloc; 0u64; tasks.len()] else {
             return Err(NoMemory);
@@ -276,17 +275,20 @@ impl GroupState {
         requires ready_room { length (without_task task.0 self.old.ready) < length self.old.done }
         requires waiting_room { length self.old.waiting < length self.old.done }
         requires distinct { let after = job_ended (length self.old.runs) cpu.0 task.0
-            next.now.is_released next.now.job_key next.now.wait_key self.old in
+            next.now.is_released next.now.job_key next.now.release self.old in
             IsDistinct (tasks_of after.ready) }
         ensures { self.new ≡ job_ended (length self.old.runs) cpu.0 task.0
-            next.now.is_released next.now.job_key next.now.wait_key self.old }
+            next.now.is_released next.now.job_key next.now.release self.old }
     {
         self.done[task.0 as usize - 1] += 1;
         self.ready.remove(task);
         if next.is_released {
             self.ready.insert(next.job_key, task);
         } else {
-            self.waiting.insert(next.wait_key, task);
+            self.waiting.insert(NextRelease {
+                tick: next.release,
+                task,
+            });
         }
         self.links.leave(cpu);
         self.place();
@@ -307,9 +309,8 @@ impl GroupState {
             (number.0 - 1) + 1) * task.now.period
             in result.job_key
             ≡ record { band = 2; major = release + task.now.rel_deadline; minor = number.0 } }
-        ensures wait_key { let release = task.now.phase + (slice_index self.now.done
-            (number.0 - 1) + 1) * task.now.period
-            in result.wait_key ≡ record { band = 0; major = release; minor = number.0 } }
+        ensures release { result.release ≡ task.now.phase + (slice_index self.now.done
+            (number.0 - 1) + 1) * task.now.period }
     {
         let release = task.phase + (self.done(number) + 1) * task.period;
         NextJob {
@@ -319,11 +320,7 @@ impl GroupState {
                 major: release + task.rel_deadline,
                 minor: number.0,
             },
-            wait_key: Key {
-                band: 0,
-                major: release,
-                minor: number.0,
-            },
+            release,
         }
     }
 
@@ -374,10 +371,10 @@ impl GroupState {
     }
 }
 
-/// A task's next job: its keys, and whether it is released.
+/// A task's next job: whether it is released by now, its key, and the tick of its release.
 #[derive(Clone, Copy)]
 pub(crate) struct NextJob {
     pub(crate) is_released: bool,
     pub(crate) job_key: Key,
-    pub(crate) wait_key: Key,
+    pub(crate) release: u64,
 }

@@ -119,21 +119,21 @@ module _ (at : Moment) (tasks : List Task) (q t : ℕ) (state : State) (can : Ca
       }
 
   -- the next job, as code computes it from the task
-  pub record IsNext (u : Task) (released : Bool) (job_key wait_key' : Key) : Type 0 where
+  pub record IsNext (u : Task) (released : Bool) (job_key : Key) (next_release : ℕ) : Type 0 where
     pub released_is : released ≡ nat_le (u.phase + next * u.period) state.clock
     pub job_key_is : job_key ≡ record { band = 2; major = u.phase + next * u.period + u.rel_deadline; minor = t }
-    pub wait_key_is : wait_key' ≡ record { band = 0; major = u.phase + next * u.period; minor = t }
+    pub release_is : next_release ≡ u.phase + next * u.period
 
-  pub released-next : (u : Task) (released : Bool) (job_key wait_key' : Key) → u ≡ get_or g.setup.tasks (t - 1) no_task → IsNext u released job_key wait_key' → released ≡ nat_le (release_at g t next) state.clock
+  pub released-next : (u : Task) (released : Bool) (job_key : Key) (next_release : ℕ) → u ≡ get_or g.setup.tasks (t - 1) no_task → IsNext u released job_key next_release → released ≡ nat_le (release_at g t next) state.clock
   unfolding task
-  released-next u released job_key wait_key' e n = n.released_is ∙ ap (λ (v : Task). nat_le (v.phase + next * v.period) state.clock) e
+  released-next u released job_key next_release e n = n.released_is ∙ ap (λ (v : Task). nat_le (v.phase + next * v.period) state.clock) e
 
-  pub state-next : (u : Task) (released : Bool) (job_key wait_key' : Key) → u ≡ get_or g.setup.tasks (t - 1) no_task → IsNext u released job_key wait_key' → job_ended (length state.runs) q t released job_key wait_key' state ≡ ended_state g s q t released state
+  pub state-next : (u : Task) (released : Bool) (job_key : Key) (next_release : ℕ) → u ≡ get_or g.setup.tasks (t - 1) no_task → IsNext u released job_key next_release → job_ended (length state.runs) q t released job_key next_release state ≡ ended_state g s q t released state
   unfolding task
-  state-next u released job_key wait_key' e n =
-      ap (λ m. job_ended m q t released job_key wait_key' state) (length-runs g s p state k)
-      ∙ ap (λ j. job_ended (cpus g 0) q t released j wait_key' state) (n.job_key_is ∙ ap (λ (v : Task). let r : Key = record { band = 2; major = v.phase + next * v.period + v.rel_deadline; minor = t } in r) e)
-      ∙ ap (λ w. job_ended (cpus g 0) q t released (key_at g t next) w state) (n.wait_key_is ∙ ap (λ (v : Task). let r : Key = record { band = 0; major = v.phase + next * v.period; minor = t } in r) e)
+  state-next u released job_key next_release e n =
+      ap (λ m. job_ended m q t released job_key next_release state) (length-runs g s p state k)
+      ∙ ap (λ j. job_ended (cpus g 0) q t released j next_release state) (n.job_key_is ∙ ap (λ (v : Task). let r : Key = record { band = 2; major = v.phase + next * v.period + v.rel_deadline; minor = t } in r) e)
+      ∙ ap (λ n. job_ended (cpus g 0) q t released (key_at g t next) n state) (n.release_is ∙ ap (λ (v : Task). v.phase + next * v.period) e)
 
 -- ---- any act
 

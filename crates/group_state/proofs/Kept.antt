@@ -4,7 +4,7 @@ use Rattle.std.specs.Prelude.{Option, None, Some, ◌==◌, nat_le}
 use Rattle.std.proofs.lemmas.Bool.Decides.{nat_tests}
 use Rattle.rt_task.specs.declared.Act.{Act}
 use Rattle.rt_rules.specs.Numbers.{has, is, numbers_from}
-use Rattle.rt_rules.specs.Keys.{Ranked, inserted}
+use Rattle.rt_rules.specs.Keys.{Ranked}
 use Rattle.rt_rules.specs.Placing.{placed}
 use Rattle.rt_model.specs.Group.{Group, task, cpus, tasks_of}
 use Rattle.rt_model.specs.Past.{PastAct, Event, Clock, Acted, Past, now, did}
@@ -22,13 +22,15 @@ use Rattle.rt_model.proofs.Steps.{done-step, links-step}
 use Rattle.rt_model.proofs.PastLaws.{IsSingle, single, processor-home, length-runs_of}
 use Rattle.rt_model.proofs.TopLaws.{distinct-top, length-top, distinct-tasks_of}
 use Rattle.rt_rules.specs.Rankings.{ranked_by, without_task}
-use Rattle.group_state.specs.State.{State, IsKept, top_tasks, release_at, key_at, wait_key}
+use Rattle.group_state.specs.State.{State, IsKept, top_tasks, release_at, key_at}
 use Rattle.rt_rules.proofs.NumberLaws.{has-numbers_from}
 use Rattle.group_state.proofs.PlainGroup.{IsPlainGroup, task_range}
 use Rattle.group_state.specs.Moves.{clock_moved, job_ended}
 use Rattle.group_state.proofs.PlainModel.{ranking-at}
 use Rattle.rt_laws.proofs.PlacedAgain.{placed-again}
 use Rattle.rt_rules.proofs.RankedByLaws.{ranked_by-same, ranked_by-less, ranked_by-with}
+use Rattle.group_state.specs.Releases.{Release, put_release, releases_by}
+use Rattle.group_state.proofs.ReleaseLaws.{releases_by-same, releases_by-with}
 use Rattle.group_state.proofs.DueLaws.{due}
 
 module _ (g : Group) (s : IsPlainGroup g) where
@@ -79,7 +81,7 @@ module _ (g : Group) (s : IsPlainGroup g) where
       let ready_before : state.ready ≡ ranked_by (λ t. key_at g t (done t p)) (λ t. not (not (nat_le (release t) (now p)))) (tasks_of g 0) = k.ready_is ∙ ranked_by-same _ _ _ _ (tasks_of g 0) (λ t h. sym (twice (nat_le (release t) (now p)))) (λ t h e. refl) in
       let after = due (max state.clock tick) (λ t. (task g t).rel_deadline) release (tasks_of g 0) (distinct-tasks_of g 0) state.waiting state.ready (λ t. not (nat_le (release t) (now p))) k.waiting_is ready_before (λ t h e. came t e) in
       let ready_after = after.1 ∙ ranked_by-same (λ t. key_at g t (done t p)) (λ t. key_at g t (done t (Clock tick ∷ p))) (λ t. nat_le (release t) (max state.clock tick)) (λ t. nat_le (release_at g t (done t (Clock tick ∷ p))) (now (Clock tick ∷ p))) (tasks_of g 0) (λ t h. same_test t) (λ t h e. rw (done-clock t)) in
-      let waiting_after = after.0 ∙ ranked_by-same (λ t. wait_key g t (done t p)) (λ t. wait_key g t (done t (Clock tick ∷ p))) (λ t. not (nat_le (release t) (max state.clock tick))) (λ t. not (nat_le (release_at g t (done t (Clock tick ∷ p))) (now (Clock tick ∷ p)))) (tasks_of g 0) (λ t h. ap not (same_test t)) (λ t h e. rw (done-clock t)) in
+      let waiting_after = after.0 ∙ releases_by-same release (λ t. release_at g t (done t (Clock tick ∷ p))) (λ t. not (nat_le (release t) (max state.clock tick))) (λ t. not (nat_le (release_at g t (done t (Clock tick ∷ p))) (now (Clock tick ∷ p)))) (tasks_of g 0) (λ t h. ap not (same_test t)) (λ t h e. rw (done-clock t)) in
       record {
         made = clocked tick k.made;
         clock_is = ap (λ n. max n tick) k.clock_is;
@@ -152,7 +154,7 @@ module _ (g : Group) (s : IsPlainGroup g) where
         worked_length = worked_length;
         worked_are = worked_are;
         ready_is = ready_after;
-        waiting_is = k.waiting_is ∙ ranked_by-same (λ t. wait_key g t (done t p)) (λ t. wait_key g t (done t (Acted d ∷ p))) (λ t. not (nat_le (release_at g t (done t p)) (now p))) (λ t. not (nat_le (release_at g t (done t (Acted d ∷ p))) (now (Acted d ∷ p)))) (tasks_of g 0) (λ t h. rw (done-act t d p (none t))) (λ t h e. rw (done-act t d p (none t)));
+        waiting_is = k.waiting_is ∙ releases_by-same (λ t. release_at g t (done t p)) (λ t. release_at g t (done t (Acted d ∷ p))) (λ t. not (nat_le (release_at g t (done t p)) (now p))) (λ t. not (nat_le (release_at g t (done t (Acted d ∷ p))) (now (Acted d ∷ p)))) (tasks_of g 0) (λ t h. rw (done-act t d p (none t))) (λ t h e. rw (done-act t d p (none t)));
         runs_are = runs_are;
         links_are = links-after (Acted d) p state state.ready running k (λ t. wakes-act t d p still (k.awake t)) ready_after runs_are;
         awake = λ t. wakes-act t d p still (k.awake t);
@@ -161,11 +163,11 @@ module _ (g : Group) (s : IsPlainGroup g) where
 
   -- ---- a job ends
 
-  -- the state once the task has ended its job, by the keys of its next job
+  -- the state once the task has ended its job, by the key and the release of its next job
   abbrev pub ended_state : ℕ → ℕ → Bool → State → State
   ended_state place t released state =
       let next = get_or state.done (t - 1) 0 + 1 in
-      job_ended (cpus g 0) place t released (key_at g t next) (wait_key g t next) state
+      job_ended (cpus g 0) place t released (key_at g t next) (release_at g t next) state
 
   module _ (q t place : ℕ) (act : Act) (p : Past) (state : State) (k : IsKept g p state) (ended : (past_act g q act p).ended ≡ Some t) (there : has t (tasks_of g 0) ≡ true) (released_now : nat_le (release_at g t (done t p)) (now p) ≡ true) (still : IsStill (past_act g q act p)) where
     abbrev d : PastAct
@@ -216,10 +218,10 @@ module _ (g : Group) (s : IsPlainGroup g) where
         by_case true e = let s : u ≡ t = eqb-true u t e in rw (s, released_now)
         by_case false e = rw (done-other u e)
 
-    waits_on : state.waiting ≡ ranked_by (λ u. wait_key g u (done u p')) (λ u. not (u == t) && not (le_new u)) (tasks_of g 0)
+    waits_on : state.waiting ≡ releases_by (λ u. release_at g u (done u p')) (λ u. not (u == t) && not (le_new u)) (tasks_of g 0)
     waits_on =
         k.waiting_is
-        ∙ ranked_by-same (λ u. wait_key g u (done u p)) (λ u. wait_key g u (done u p')) (λ u. not (le_old u)) (λ u. not (u == t) && not (le_new u)) (tasks_of g 0) (λ u h. waiting_tests u) (λ u h e. rw (done-other u (not_it u (not (le_new u)) (sym (waiting_tests u) ∙ e))))
+        ∙ releases_by-same (λ u. release_at g u (done u p)) (λ u. release_at g u (done u p')) (λ u. not (le_old u)) (λ u. not (u == t) && not (le_new u)) (tasks_of g 0) (λ u h. waiting_tests u) (λ u h e. rw (done-other u (not_it u (not (le_new u)) (sym (waiting_tests u) ∙ e))))
 
     pub kept-end : (released : Bool) → nat_le (release_at g t (get_or state.done (t - 1) 0 + 1)) (now p) ≡ released → ((r : ℕ) → r < cpus g 0 → last_work r p' ≡ last_work r p) → set state.runs place None ≡ runs_of g 0 p' → IsKept g p' (ended_state place t released state)
     kept-end released is_released works runs_are =
@@ -240,12 +242,12 @@ module _ (g : Group) (s : IsPlainGroup g) where
           preemptive = λ u. np-act u d p still (k.preemptive u);
         }
       where
-        turned : (b : Bool) (xs ys : List Ranked) → cond b xs ys ≡ cond (not b) ys xs
+        turned : (b : Bool) (xs ys : List Release) → cond b xs ys ≡ cond (not b) ys xs
         turned true xs ys = refl
         turned false xs ys = refl
 
-        waiting_after : (b : Bool) → le_new t ≡ b → cond b state.waiting (inserted (record { key = wait_key g t (get_or state.done (t - 1) 0 + 1); task = t }) state.waiting) ≡ ranked_by (λ u. wait_key g u (done u p')) (λ u. not (le_new u)) (tasks_of g 0)
-        waiting_after b e = rw (waits_on, ← done-it) (turned b _ _ ∙ sym (ranked_by-with (λ u. wait_key g u (done u p')) (λ u. not (le_new u)) t (tasks_of g 0) (not b) (distinct-tasks_of g 0) there (ap not e)))
+        waiting_after : (b : Bool) → le_new t ≡ b → cond b state.waiting (put_release (record { tick = release_at g t (get_or state.done (t - 1) 0 + 1); task = t }) state.waiting) ≡ releases_by (λ u. release_at g u (done u p')) (λ u. not (le_new u)) (tasks_of g 0)
+        waiting_after b e = rw (waits_on, ← done-it) (turned b _ _ ∙ sym (releases_by-with (λ u. release_at g u (done u p')) (λ u. not (le_new u)) t (tasks_of g 0) (not b) (distinct-tasks_of g 0) there (ap not e)))
 
         done_after : (u : ℕ) → has u (tasks_of g 0) ≡ true → get_or (set state.done (t - 1) (get_or state.done (t - 1) 0 + 1)) (u - 1) 0 ≡ done u p'
         done_after u h = by_case (u == t) refl

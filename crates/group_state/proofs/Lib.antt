@@ -1,4 +1,5 @@
 pub mod Rules
+pub mod ReleaseLaws
 pub mod DueLaws
 pub mod Plain
 pub mod PlainGroup
@@ -11,3 +12,4 @@ pub mod Limits
 pub mod Doing
 pub mod Stepping
 pub mod Opening
+pub mod TopLists

@@ -9,9 +9,9 @@ use Rattle.rt_order.specs.declared.Key.{Key}
 use Rattle.rt_history.specs.declared.Entry.{Entry}
 use Rattle.rt_rules.specs.Numbers.{has, numbers_from}
 use Rattle.rt_rules.specs.Distinct.{IsDistinct}
-use Rattle.rt_rules.specs.Keys.{Ranked, ahead, inserted, sorted}
-use Rattle.rt_rules.proofs.RankedLaws.{tasks_ranked, distinct-sorted}
-use Rattle.rt_rules.proofs.PlacingLaws.{equal_self, or_true, distinct-filter}
+use Rattle.rt_rules.specs.Keys.{Ranked, sorted}
+use Rattle.rt_rules.proofs.RankedLaws.{tasks_ranked}
+use Rattle.rt_rules.proofs.PlacingLaws.{equal_self, or_true}
 use Rattle.rt_rules.proofs.NumberLaws.{has-numbers_from}
 use Rattle.rt_model.specs.Group.{Group, task, cpus, tasks_of}
 use Rattle.rt_model.specs.Past.{Past, now, ends_job}
@@ -26,8 +26,10 @@ use Rattle.rt_laws.proofs.Running.{IsRunning, running}
 use Rattle.rt_laws.proofs.ValidSets.{rules_of}
 use Rattle.rt_rules.specs.Rankings.{ranked_by, without_task}
 use Rattle.rt_rules.specs.Rankings as queue
-use Rattle.group_state.specs.State.{State, IsKept, IsPlayed, IsBounded, release_at, wait_key, key_at}
-use Rattle.rt_rules.proofs.RankedByLaws.{distinct-ranked_by, length-inserted, has-ranked_by, tasks_ranked-keys}
+use Rattle.group_state.specs.State.{State, IsKept, IsPlayed, IsBounded, release_at, key_at}
+use Rattle.rt_rules.proofs.RankedByLaws.{distinct-ranked_by, length-inserted, has-ranked_by}
+use Rattle.group_state.specs.Releases.{Release, comes_first, put_release, in_order, releases_by}
+use Rattle.group_state.proofs.ReleaseLaws.{length-releases_by}
 use Rattle.group_state.proofs.Plain.{IsPlainTask, plain-set}
 use Rattle.group_state.proofs.PlainGroup.{IsPlainGroup, group-plain, task_range}
 use Rattle.group_state.proofs.PlainModel.{plain-task, exists-at}
@@ -35,47 +37,43 @@ use Rattle.group_state.proofs.PlainModel.{plain-task, exists-at}
 pub plain : (g : Group) → IsPlayed g → IsPlainGroup g
 plain g p = group-plain g.setup g.number (plain-set g.setup p.valid p.built) p.is_there
 
--- ---- each element of a sorted list
+-- ---- each release of a list in order
 
-abbrev Each : (Ranked → Type 0) → List Ranked → Type 0
+abbrev Each : (Release → Type 0) → List Release → Type 0
 Each P [] = ⊤
 Each P (r ∷ rs) = P r × Each P rs
 
-each-inserted : (P : Ranked → Type 0) (a : Ranked) (rs : List Ranked) → P a → Each P rs → Each P (inserted a rs)
-each-inserted P a [] h e = (h, tt)
-each-inserted P a (x ∷ rs) h e = by_case (ahead a x) (each-inserted P a rs h e.1)
+each-put : (P : Release → Type 0) (a : Release) (rs : List Release) → P a → Each P rs → Each P (put_release a rs)
+each-put P a [] h e = (h, tt)
+each-put P a (x ∷ rs) h e = by_case (comes_first a x) (each-put P a rs h e.1)
   where
-    by_case : (b : Bool) → Each P (inserted a rs) → Each P (cond b (a ∷ x ∷ rs) (x ∷ inserted a rs))
+    by_case : (b : Bool) → Each P (put_release a rs) → Each P (cond b (a ∷ x ∷ rs) (x ∷ put_release a rs))
     by_case true rest = (h, e)
     by_case false rest = (e.0, rest)
 
-each-sorted : (P : Ranked → Type 0) (rs : List Ranked) → Each P rs → Each P (sorted rs)
-each-sorted P [] e = tt
-each-sorted P (r ∷ rs) e = each-inserted P r (sorted rs) e.0 (each-sorted P rs e.1)
-
-each-all : (P : Ranked → Type 0) (rs : List Ranked) → Each P rs → All P rs
+each-all : (P : Release → Type 0) (rs : List Release) → Each P rs → All P rs
 each-all P [] e k d lt = absurd (omega arith)
 each-all P (r ∷ rs) e zero d lt = e.0
 each-all P (r ∷ rs) e (suc k) d lt = each-all P rs e.1 k d (omega arith)
 
-pub ranked_by-each : (P : Ranked → Type 0) (key : ℕ → Key) (test : ℕ → Bool) (ts : List ℕ) → ((t : ℕ) → has t ts ≡ true → P (record { key = key t; task = t })) → All P (ranked_by key test ts)
-ranked_by-each P key test ts h = each-all P _ (each-sorted P _ (listed ts (λ t k. h t k)))
+pub releases_by-each : (P : Release → Type 0) (release : ℕ → ℕ) (test : ℕ → Bool) (ts : List ℕ) → ((t : ℕ) → has t ts ≡ true → P (record { tick = release t; task = t })) → All P (releases_by release test ts)
+releases_by-each P release test ts h = each-all P _ (listed ts (λ t k. h t k))
   where
-    listed : (us : List ℕ) → ((t : ℕ) → has t us ≡ true → P (record { key = key t; task = t })) → Each P (map (λ t. record { key = key t; task = t }) (filter test us))
+    listed : (us : List ℕ) → ((t : ℕ) → has t us ≡ true → P (record { tick = release t; task = t })) → Each P (releases_by release test us)
     listed [] k = tt
     listed (u ∷ us) k = by_case (test u) (listed us (λ t m. k t (rw m (or_true (t == u)))))
       where
-        by_case : (b : Bool) → Each P (map (λ t. record { key = key t; task = t }) (filter test us)) → Each P (map (λ t. record { key = key t; task = t }) (cond b (u ∷ filter test us) (filter test us)))
-        by_case true rest = (k u (rw (equal_self u)), rest)
+        by_case : (b : Bool) → Each P (releases_by release test us) → Each P (in_order (map (λ t. record { tick = release t; task = t }) (cond b (u ∷ filter test us) (filter test us))))
+        by_case true rest = each-put P (record { tick = release u; task = u }) (releases_by release test us) (k u (rw (equal_self u))) rest
         by_case false rest = rest
 
-pub length-sorted : (rs : List Ranked) → length (sorted rs) ≡ length rs
+length-sorted : (rs : List Ranked) → length (sorted rs) ≡ length rs
 length-sorted [] = refl
 length-sorted (r ∷ rs) = length-inserted r (sorted rs) ∙ (let e = length-sorted rs in omega (arith, e))
 
 -- the tasks that pass a test and those that do not are all of them
-length-both : (key key' : ℕ → Key) (test : ℕ → Bool) (ts : List ℕ) → length (ranked_by key (λ t. not (test t)) ts) + length (ranked_by key' test ts) ≡ length ts
-length-both key key' test ts = rw (length-sorted, length-sorted, length-map, length-map) (go ts)
+length-both : (release : ℕ → ℕ) (key : ℕ → Key) (test : ℕ → Bool) (ts : List ℕ) → length (releases_by release (λ t. not (test t)) ts) + length (ranked_by key test ts) ≡ length ts
+length-both release key test ts = rw (length-releases_by, length-sorted, length-map) (go ts)
   where
     go : (us : List ℕ) → length (filter (λ t. not (test t)) us) + length (filter test us) ≡ length us
     go [] = refl
@@ -98,7 +96,7 @@ module _ (g : Group) (s : IsPlainGroup g) (p : Past) (state : State) (k : IsKept
   -- there is room for all
   pub few-queued : length state.waiting + length state.ready ≤ length state.done
   few-queued =
-      let all : length (ranked_by (λ t. wait_key g t (done t p)) (λ t. not (nat_le (release_at g t (done t p)) (now p))) (tasks_of g 0)) + length (ranked_by (λ t. key_at g t (done t p)) (λ t. nat_le (release_at g t (done t p)) (now p)) (tasks_of g 0)) ≡ length (tasks_of g 0) = length-both _ _ (λ t. nat_le (release_at g t (done t p)) (now p)) (tasks_of g 0) in
+      let all : length (releases_by (λ t. release_at g t (done t p)) (λ t. not (nat_le (release_at g t (done t p)) (now p))) (tasks_of g 0)) + length (ranked_by (λ t. key_at g t (done t p)) (λ t. nat_le (release_at g t (done t p)) (now p)) (tasks_of g 0)) ≡ length (tasks_of g 0) = length-both _ _ (λ t. nat_le (release_at g t (done t p)) (now p)) (tasks_of g 0) in
       rw (k.waiting_is, k.ready_is) (omega (arith, all, length-tasks, k.done_length))
 
   pub distinct-ready : IsDistinct (queue.tasks_of state.ready)
@@ -125,7 +123,7 @@ module _ (g : Group) (s : IsPlainGroup g) (p : Past) (state : State) (k : IsKept
       omega (arith, f.phase_low, a, b)
 
   pub bounded-waiting : length p ≤ 2 * MOST_STEPS + 1 → All (IsBounded (length g.setup.tasks)) state.waiting
-  bounded-waiting few = subst (λ rs. All (IsBounded (length g.setup.tasks)) rs) (sym k.waiting_is) (ranked_by-each (IsBounded (length g.setup.tasks)) _ _ (tasks_of g 0) (λ t h. record { low = task-low t h; high = task-high t h; release_low = release-low t h few }))
+  bounded-waiting few = subst (λ rs. All (IsBounded (length g.setup.tasks)) rs) (sym k.waiting_is) (releases_by-each (IsBounded (length g.setup.tasks)) _ _ (tasks_of g 0) (λ t h. record { low = task-low t h; high = task-high t h; release_low = release-low t h few }))
 
 -- a task that runs is one of the cluster's, and its job is released
 pub record RunsHere (g : Group) (p : Past) (t : ℕ) : Type 0 where

@@ -1,14 +1,12 @@
 -- The state at opening: all tasks wait for their first releases, and those that are due are ready.
 use Rattle.std.proofs.Common.{◌≡◌, ◌+◌, ◌-◌, ◌^◌, ◌<◌, ◌≤◌, ℕ, zero, suc, true, false, not, List, [], ◌∷◌, length, map, get_or, refl, sym, ap, ◌∙◌, arith}
 use Rattle.std.specs.Prelude.{None, All, filter, replicate, nat_le}
-use Rattle.std.proofs.lemmas.List.{get_or_default, length-replicate, length-map}
+use Rattle.std.proofs.lemmas.List.{get_or_default, length-replicate}
 use Rattle.std.proofs.lemmas.List.Elements.{All-from_get_or}
 use Rattle.rt_base.specs.declared.TheConstants.{MOST_STEPS}
 use Rattle.rt_task.specs.declared.Task.{Task}
-use Rattle.rt_order.specs.declared.Key.{Key}
 use Rattle.rt_rules.specs.Numbers.{has, numbers_from}
 use Rattle.rt_rules.specs.Distinct.{IsDistinct}
-use Rattle.rt_rules.specs.Keys.{Ranked, inserted}
 use Rattle.rt_rules.specs.Placing.{placed}
 use Rattle.rt_model.specs.Group.{Group, no_task, no_cluster, task, cluster, cpus, tasks_of, processors, first_cpu}
 use Rattle.rt_model.specs.Jobs.{done}
@@ -25,29 +23,29 @@ use Rattle.rt_model.proofs.TopLaws.{distinct-tasks_of}
 use Rattle.rt_rules.specs.Rankings.{ranked_by}
 use Rattle.rt_rules.specs.Rankings as queue
 use Rattle.group_state.specs.Moves.{opened, CanOpen}
-use Rattle.group_state.specs.State.{State, IsKept, IsPlayed, IsSound, IsBounded, release_at, key_at, wait_key, rel_deadline_of}
-use Rattle.rt_rules.proofs.RankedByLaws.{ranked_by-same}
+use Rattle.group_state.specs.State.{State, IsKept, IsPlayed, IsSound, IsBounded, release_at, key_at, rel_deadline_of}
+use Rattle.group_state.specs.Releases.{Release, put_release, releases_by}
+use Rattle.group_state.proofs.ReleaseLaws.{releases_by-same, length-releases_by}
 use Rattle.group_state.proofs.DueLaws.{due}
 use Rattle.group_state.proofs.Plain.{IsPlainTask}
 use Rattle.group_state.proofs.PlainGroup.{IsPlainGroup}
 use Rattle.group_state.proofs.Kept.{top-ready}
-use Rattle.group_state.proofs.Limits.{plain, ranked_by-each, length-sorted, task-low, task-high, length-numbers, distinct-ready}
+use Rattle.group_state.proofs.Limits.{plain, releases_by-each, task-low, task-high, length-numbers, distinct-ready}
 
--- the tasks by their first releases
-abbrev pub first_key : List Task → ℕ → Key
-first_key tasks t = record { band = 0; major = (get_or tasks (t - 1) no_task).phase; minor = t }
+abbrev pub first_release : List Task → ℕ → ℕ
+first_release tasks t = (get_or tasks (t - 1) no_task).phase
 
 -- one task more, from the last on
-pub waiting-more : (tasks : List Task) (left : ℕ) (d : Task) (ws ws' : List Ranked) → 0 < left → left ≤ length tasks
-    → ws ≡ ranked_by (first_key tasks) (λ t. true) (numbers_from (left + 1) (length tasks - left))
-    → ws' ≡ inserted (record { key = record { band = 0; major = (get_or tasks (left - 1) d).phase; minor = left }; task = left }) ws
-    → ws' ≡ ranked_by (first_key tasks) (λ t. true) (numbers_from (left - 1 + 1) (length tasks - (left - 1)))
+pub waiting-more : (tasks : List Task) (left : ℕ) (d : Task) (ws ws' : List Release) → 0 < left → left ≤ length tasks
+    → ws ≡ releases_by (first_release tasks) (λ t. true) (numbers_from (left + 1) (length tasks - left))
+    → ws' ≡ put_release (record { tick = (get_or tasks (left - 1) d).phase; task = left }) ws
+    → ws' ≡ releases_by (first_release tasks) (λ t. true) (numbers_from (left - 1 + 1) (length tasks - (left - 1)))
 waiting-more tasks left d ws ws' some few so_far more =
     let same : get_or tasks (left - 1) d ≡ get_or tasks (left - 1) no_task = get_or_default tasks (left - 1) d no_task (omega arith) in
     let a : left - 1 + 1 ≡ left = omega arith in
     let b : length tasks - (left - 1) ≡ suc (length tasks - left) = omega arith in
     let c : left + 1 ≡ suc left = omega arith in
-    more ∙ ap (λ (y : Task). inserted (record { key = record { band = 0; major = y.phase; minor = left }; task = left }) ws) same ∙ ap (λ rs. inserted (record { key = first_key tasks left; task = left }) rs) so_far ∙ rw (a, b, c)
+    more ∙ ap (λ (y : Task). put_release (record { tick = y.phase; task = left }) ws) same ∙ ap (λ rs. put_release (record { tick = first_release tasks left; task = left }) rs) so_far ∙ rw (a, b, c)
 
 same-all : {A : Type 0} (n k : ℕ) (a : A) → get_or (replicate n a) k a ≡ a
 same-all zero k a = refl
@@ -62,7 +60,7 @@ module _ (g : Group) (played : IsPlayed g) where
   abbrev s : IsPlainGroup g
   s = plain g played
 
-  first-release : (t : ℕ) → (get_or g.setup.tasks (t - 1) no_task).phase ≡ release_at g t 0
+  first-release : (t : ℕ) → first_release g.setup.tasks t ≡ release_at g t 0
   unfolding task
   first-release t = omega arith
 
@@ -71,11 +69,11 @@ module _ (g : Group) (played : IsPlayed g) where
   done-none t = refl
 
   -- all the tasks, by their first releases
-  abbrev all_waiting : List Ranked
-  all_waiting = ranked_by (first_key g.setup.tasks) (λ t. true) (numbers_from 1 (length g.setup.tasks))
+  abbrev all_waiting : List Release
+  all_waiting = releases_by (first_release g.setup.tasks) (λ t. true) (numbers_from 1 (length g.setup.tasks))
 
-  all-waiting : all_waiting ≡ ranked_by (λ t. wait_key g t (done t [])) (λ t. true) (tasks_of g 0)
-  all-waiting = rw (← s.homes_are) (ranked_by-same (first_key g.setup.tasks) (λ t. wait_key g t (done t [])) (λ t. true) (λ t. true) (tasks_of g 0) (λ t h. refl) (λ t h e. rw (first-release t, done-none t)))
+  all-waiting : all_waiting ≡ releases_by (λ t. release_at g t (done t [])) (λ t. true) (tasks_of g 0)
+  all-waiting = rw (← s.homes_are) (releases_by-same (first_release g.setup.tasks) (λ t. release_at g t (done t [])) (λ t. true) (λ t. true) (tasks_of g 0) (λ t h. refl) (λ t h e. rw (first-release t, done-none t)))
 
   none-ready : [] ≡ ranked_by (λ t. key_at g t (done t [])) (λ t. not true) (tasks_of g 0)
   none-ready = empty (tasks_of g 0)
@@ -112,7 +110,7 @@ module _ (g : Group) (played : IsPlayed g) where
   first_state = opened (cpus g 0) g.setup.tasks
 
   record IsQueued : Type 0 where
-    waiting_is : first_state.waiting ≡ ranked_by (λ t. wait_key g t (done t [])) (λ t. not (nat_le (release_at g t (done t [])) 0)) (tasks_of g 0)
+    waiting_is : first_state.waiting ≡ releases_by (λ t. release_at g t (done t [])) (λ t. not (nat_le (release_at g t (done t [])) 0)) (tasks_of g 0)
     ready_is : first_state.ready ≡ ranked_by (λ t. key_at g t (done t [])) (λ t. nat_le (release_at g t (done t [])) 0) (tasks_of g 0)
 
   queued-first : IsQueued
@@ -148,9 +146,9 @@ module _ (g : Group) (played : IsPlayed g) where
   deadlines = All-from_get_or (λ (t : Task). t.rel_deadline < 2 ^ 62) g.setup.tasks no_task (λ i lt. let f : IsPlainTask (get_or g.setup.tasks i no_task) = s.set.tasks_are i lt in omega (arith, f.deadline_low))
 
   pub bounded-all : All (IsBounded (length g.setup.tasks)) all_waiting
-  bounded-all = ranked_by-each (IsBounded (length g.setup.tasks)) (first_key g.setup.tasks) (λ t. true) (numbers_from 1 (length g.setup.tasks)) (λ t h. bound t (rw s.homes_are h))
+  bounded-all = releases_by-each (IsBounded (length g.setup.tasks)) (first_release g.setup.tasks) (λ t. true) (numbers_from 1 (length g.setup.tasks)) (λ t h. bound t (rw s.homes_are h))
     where
-      bound : (t : ℕ) → has t (tasks_of g 0) ≡ true → IsBounded (length g.setup.tasks) (record { key = first_key g.setup.tasks t; task = t })
+      bound : (t : ℕ) → has t (tasks_of g 0) ≡ true → IsBounded (length g.setup.tasks) (record { tick = first_release g.setup.tasks t; task = t })
       bound t h =
           let low : 1 ≤ t = task-low g s [] first_state kept-open t h in
           let high : t ≤ length g.setup.tasks = task-high g s [] first_state kept-open t h in
@@ -160,8 +158,7 @@ module _ (g : Group) (played : IsPlayed g) where
   pub length-all : length all_waiting ≤ length g.setup.tasks
   length-all =
       let ts : List ℕ = numbers_from 1 (length g.setup.tasks) in
-      let a : length all_waiting ≡ length (map (λ t. let r : Ranked = record { key = first_key g.setup.tasks t; task = t } in r) (filter (λ t. true) ts)) = length-sorted _ in
-      omega (arith, a, length-map (filter (λ t. true) ts) (λ t. let r : Ranked = record { key = first_key g.setup.tasks t; task = t } in r), length-every ts, length-numbers 1 (length g.setup.tasks))
+      omega (arith, length-releases_by (first_release g.setup.tasks) (λ t. true) ts, length-every ts, length-numbers 1 (length g.setup.tasks))
 
   pub distinct-open : IsDistinct (queue.tasks_of first_state.ready)
   distinct-open = distinct-ready g s [] first_state kept-open

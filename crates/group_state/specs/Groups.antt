@@ -4,11 +4,11 @@ use Rattle.std.specs.List.{list_any}
 use Rattle.rt_task.specs.declared.Parts.{Parts}
 use Rattle.rt_task.specs.declared.Cluster.{Cluster}
 use Rattle.rt_history.specs.declared.Entry.{Entry}
-use Rattle.rt_rules.specs.Numbers.{has}
-use Rattle.rt_model.specs.Group.{Group, group_processors}
+use Rattle.rt_model.specs.Group.{Group}
 use Rattle.rt_model.specs.Past.{Past}
 use Rattle.rt_model.specs.Histories.{past_of, IsLegal}
 use Rattle.rt_model.specs.Steps.{IsStepOf}
+pub use Rattle.rt_plays.specs.Homes.{IsProcessorOf}
 use Rattle.group_state.specs.Built.{is_built_act}
 
 -- a group of a setup: its entries so far, and room for how many more
@@ -35,10 +35,6 @@ IsLegalNow h = IsLegal (group_of h) h.entries
 -- the group is one of the setup's: a cluster is in it
 abbrev pub IsGroupOf : Parts → ℕ → Type 0
 IsGroupOf p n = list_any (λ (c : Cluster). c.group.0 == n) p.clusters ≡ true
-
--- the processor is of the group
-abbrev pub IsProcessorOf : Group → ℕ → Type 0
-IsProcessorOf g q = has q (group_processors g) ≡ true
 
 -- the entry's step is one of the group, and its act is one that is played so far
 pub record IsPlayedEntry (g : Group) (e : Entry) : Type 0 where

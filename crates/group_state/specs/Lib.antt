@@ -1,3 +1,4 @@
+pub mod Releases
 pub mod Due
 pub mod Built
 pub mod Groups

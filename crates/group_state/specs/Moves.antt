@@ -1,14 +1,16 @@
 -- What each move makes of the state, in a cluster of m processors whose tasks have these relative deadlines.
-use Rattle.std.specs.Prelude.{ℕ, ◌+◌, ◌-◌, ◌^◌, ◌<◌, ◌≤◌, All, max, Bool, true, List, [], Option, None, Some, if◌then◌else◌, length, replicate, slice_index, slice_index_or, slice_set}
+use Rattle.std.specs.Prelude.{ℕ, ◌+◌, ◌-◌, ◌^◌, ◌<◌, ◌≤◌, All, max, Bool, true, List, [], None, Some, if◌then◌else◌}
+use Rattle.std.specs.Prelude.{length, replicate, slice_index, slice_index_or, slice_set}
 use Rattle.rt_base.specs.declared.TheConstants.{MOST_TASKS}
 use Rattle.rt_task.specs.declared.Task.{Task}
 use Rattle.rt_order.specs.declared.Key.{Key}
 use Rattle.rt_rules.specs.Numbers.{numbers_from}
 use Rattle.rt_model.specs.Group.{no_task}
-use Rattle.rt_rules.specs.Keys.{Ranked, inserted}
+use Rattle.rt_rules.specs.Keys.{inserted}
 use Rattle.rt_rules.specs.Distinct.{IsDistinct}
 use Rattle.rt_rules.specs.Placing.{placed}
-use Rattle.rt_rules.specs.Rankings.{without_task, ranked_by, tasks_of}
+use Rattle.rt_rules.specs.Rankings.{without_task, tasks_of}
+use Rattle.group_state.specs.Releases.{Release, put_release, releases_by}
 use Rattle.group_state.specs.Due.{due_ready, not_due}
 use Rattle.group_state.specs.State.{State, top_tasks, rel_deadline_of, IsBounded}
 
@@ -30,26 +32,20 @@ clock_moved m rel_deadline tick state =
 abbrev pub has_worked : ℕ → State → State
 has_worked place state = record state { worked = slice_set state.worked place (Some state.clock) }
 
--- the processor in this place runs this task, or nothing
-abbrev pub has_run : ℕ → Option ℕ → State → State
-has_run place task state = record state { runs = slice_set state.runs place task }
-
--- the task of the processor in this place has ended its job, and its next job is released, or waits
-abbrev pub job_ended : ℕ → ℕ → ℕ → Bool → Key → Key → State → State
-job_ended m place t is_released job_key wait_key state =
+-- the task of the processor in this place has ended its job, and its next job is released, or waits for its release
+abbrev pub job_ended : ℕ → ℕ → ℕ → Bool → Key → ℕ → State → State
+job_ended m place t is_released job_key next_release state =
     let gone = without_task t state.ready in
     replaced m (record state {
       done = slice_set state.done (t - 1) (slice_index state.done (t - 1) + 1);
       ready = if is_released then inserted (record { key = job_key; task = t }) gone else gone;
-      waiting = if is_released then state.waiting else inserted (record { key = wait_key; task = t }) state.waiting;
+      waiting = if is_released then state.waiting else put_release (record { tick = next_release; task = t }) state.waiting;
       runs = slice_set state.runs place None;
     })
 
--- all the tasks, in the order of their first releases
-abbrev pub first_waiting : List Task → List Ranked
-first_waiting tasks =
-    let first_release : ℕ → Key = λ t. record { band = 0; major = (slice_index_or tasks (t - 1) no_task).phase; minor = t } in
-    ranked_by first_release (λ t. true) (numbers_from 1 (length tasks))
+-- the first releases of all the tasks
+abbrev pub first_waiting : List Task → List Release
+first_waiting tasks = releases_by (λ t. (slice_index_or tasks (t - 1) no_task).phase) (λ t. true) (numbers_from 1 (length tasks))
 
 -- the state of a cluster of m processors at opening: those that are due are ready, and nothing runs
 abbrev pub opened : ℕ → List Task → State

@@ -1,5 +1,6 @@
 -- What the engine keeps of the past that its entries made, part by part.
-use Rattle.std.specs.Prelude.{◌≡◌, ℕ, ◌+◌, ◌-◌, ◌*◌, ◌<◌, ◌≤◌, true, false, not, nat_le, List, ◌∷◌, All, length, map, take, Option, None, Some, slice_index, slice_index_or, ◌^◌}
+use Rattle.std.specs.Prelude.{◌≡◌, ℕ, ◌+◌, ◌-◌, ◌*◌, ◌<◌, ◌≤◌, true, false, not, nat_le, List, ◌∷◌, All, length, map, take}
+use Rattle.std.specs.Prelude.{Option, None, Some, slice_index, slice_index_or, ◌^◌}
 use Rattle.rt_base.specs.declared.TheConstants.{MOST_STEPS}
 use Rattle.rt_task.specs.declared.Task.{Task}
 use Rattle.rt_task.specs.Validity.{IsValid}
@@ -22,6 +23,7 @@ use Rattle.rt_model.specs.Reachable.{IsReachable}
 use Rattle.rt_model.specs.Histories.{past_of, IsLegal}
 use Rattle.link_table.specs.Linked.{Linked}
 use Rattle.rt_rules.specs.Rankings.{ranked_by}
+use Rattle.group_state.specs.Releases.{Release, releases_by}
 use Rattle.group_state.specs.Built.{is_built}
 use Rattle.group_state.specs.Groups.{IsGroupOf, IsPlayedEntry}
 
@@ -32,18 +34,14 @@ release_at g t k = (task g t).phase + k * (task g t).period
 abbrev pub key_at : Group → ℕ → ℕ → Key
 key_at g t k = record { band = 2; major = release_at g t k + (task g t).rel_deadline; minor = t }
 
--- the tasks wait for their releases in the order of these
-abbrev pub wait_key : Group → ℕ → ℕ → Key
-wait_key g t k = record { band = 0; major = release_at g t k; minor = t }
-
 -- the state: the clock, the jobs that ended by task, the clock of each processor's last Work, the tasks that are ready and
--- those that wait for a release, what runs and what is linked
+-- the releases that the others wait for, what runs and what is linked
 pub record State : Type 0 where
   pub clock : ℕ
   pub done : List ℕ
   pub worked : List (Option ℕ)
   pub ready : List Ranked
-  pub waiting : List Ranked
+  pub waiting : List Release
   pub runs : List (Option ℕ)
   pub links : List (Option ℕ)
 
@@ -61,7 +59,7 @@ pub record IsKept (g : Group) (p : Past) (s : State) : Type 0 where
   pub worked_are : (q : ℕ) → q < cpus g 0 → slice_index_or s.worked q None ≡ last_work q p
   pub ready_is : s.ready ≡ ranked_by (λ t. key_at g t (done t p)) (λ t. nat_le (release_at g t (done t p)) (now p)) (tasks_of g 0)
   pub waiting_is : s.waiting
-      ≡ ranked_by (λ t. wait_key g t (done t p)) (λ t. not (nat_le (release_at g t (done t p)) (now p))) (tasks_of g 0)
+      ≡ releases_by (λ t. release_at g t (done t p)) (λ t. not (nat_le (release_at g t (done t p)) (now p))) (tasks_of g 0)
   pub runs_are : s.runs ≡ runs_of g 0 p
   pub links_are : s.links ≡ links g 0 p
   pub awake : (t : ℕ) → wakes t p ≡ 0
@@ -71,11 +69,11 @@ pub record IsKept (g : Group) (p : Past) (s : State) : Type 0 where
 abbrev pub rel_deadline_of : List Task → ℕ → ℕ
 rel_deadline_of tasks t = (slice_index_or tasks (t - 1) no_task).rel_deadline
 
--- a task that waits, with a release that leaves room for its deadline
-pub record IsBounded (n : ℕ) (r : Ranked) : Type 0 where
+-- the release of one of n tasks, which leaves room for the deadline
+pub record IsBounded (n : ℕ) (r : Release) : Type 0 where
   pub low : 1 ≤ r.task
   pub high : r.task ≤ n
-  pub release_low : r.key.major < 2 ^ 62
+  pub release_low : r.tick < 2 ^ 62
 
 -- room for all the tasks in each list, for one cluster of m processors from 0 on
 pub record HasRooms (n m first worked ready waiting top : ℕ) : Type 0 where

@@ -1,13 +1,12 @@
 -- Acts of the task that a processor runs: what is kept afterwards.
-use Rattle.std.proofs.Common.{◌≡◌, ℕ, ◌+◌, ◌-◌, ◌<◌, ◌≤◌, Bool, true, false, List, ◌∷◌, length, get_or, set, refl, sym, ap, ◌∙◌, subst, arith, length-set}
-use Rattle.std.specs.Prelude.{None, Some, nat_eq, nat_le}
-use Rattle.std.specs.Option.{option_eq}
+use Rattle.std.proofs.Common.{◌≡◌, ℕ, ◌+◌, ◌-◌, Bool, List, ◌∷◌, length, get_or, set, refl, sym, ap, ◌∙◌, subst, length-set}
+use Rattle.std.specs.Prelude.{None, nat_le}
 use Rattle.rt_task.specs.declared.Task.{Task}
 use Rattle.rt_task.specs.declared.Act.TheVariants as acts
 use Rattle.rt_task.specs.declared.Op.TheVariants as ops
 use Rattle.rt_rules.specs.Keys.{Ranked}
 use Rattle.rt_rules.specs.Placing.{placed}
-use Rattle.rt_model.specs.Group.{Group, cpus}
+use Rattle.rt_model.specs.Group.{cpus}
 use Rattle.rt_model.specs.Past.{Acted}
 use Rattle.rt_model.specs.Outcomes.{past_act}
 use Rattle.group_state.specs.State.{State, IsKept, Moment, CanAct, CanOperate, release_at, top_tasks}
@@ -15,7 +14,7 @@ use Rattle.group_state.proofs.Limits.{plain}
 use Rattle.group_state.proofs.Kept.{ended_state}
 use Rattle.group_state.proofs.Doing.{kept-ended}
 use Rattle.rank_afresh.specs.Facts.{Facts, ready_of, top_of, links_of, relinked, has_ended, state_of}
-use Rattle.rank_afresh.proofs.Refreshed.{facts_of, ready-afresh, kept-afresh, runs-count, settled-facts}
+use Rattle.rank_afresh.proofs.Refreshed.{ready-afresh, kept-afresh, runs-count, settled-facts}
 
 -- a job has ended: the links follow from a ranking afresh
 module _ (at : Moment) (q t : ℕ) (f : Facts) (can : CanOperate at (state_of at.group.setup.tasks f) at.group.setup.tasks q t) where

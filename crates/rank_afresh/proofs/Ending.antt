@@ -1,30 +1,27 @@
 -- Whose job an act ends, and whether late.
-use Rattle.std.proofs.Common.{◌≡◌, ℕ, ◌+◌, ◌-◌, ◌<◌, ◌≤◌, Bool, true, false, List, ◌∷◌, length, get_or, refl, sym, ap, ◌∙◌, subst, arith}
-use Rattle.std.specs.Prelude.{Option, None, Some, nat_lt, option_map}
+use Rattle.std.proofs.Common.{◌≡◌, ℕ, ◌+◌, ◌-◌, Bool, true, List, get_or, refl, sym, ap, ◌∙◌}
+use Rattle.std.specs.Prelude.{Option, None, Some, nat_lt}
 use Rattle.rt_base.specs.declared.TaskNo.{TaskNo}
 use Rattle.rt_task.specs.declared.Task.{Task}
 use Rattle.rt_task.specs.declared.Act.{Act}
 use Rattle.rt_task.specs.declared.Act.TheVariants as acts
 use Rattle.rt_task.specs.declared.Op.{Op}
 use Rattle.rt_task.specs.declared.Op.TheVariants as ops
-use Rattle.rt_history.specs.declared.Reply.TheVariants as replies
-use Rattle.rt_rules.specs.Numbers.{has}
-use Rattle.rt_model.specs.Group.{Group, no_task, task, cpus, tasks_of}
+use Rattle.rt_model.specs.Group.{Group, no_task, task}
 use Rattle.rt_model.specs.Past.{Past, now}
 use Rattle.rt_model.specs.Jobs.{done}
 use Rattle.rt_model.specs.Releases.{deadline}
 use Rattle.rt_model.specs.Runs.{runs}
-use Rattle.rt_model.specs.Answers.{answer}
 use Rattle.rt_model.specs.Outcomes.{past_act}
 use Rattle.rt_model.proofs.Steps.{past_act-tick, past_act-end}
 use Rattle.group_state.specs.Built.{is_built_act}
-use Rattle.group_state.specs.State.{State, IsKept, IsPlayed, Moment, CanAct, CanOperate, release_at}
+use Rattle.group_state.specs.State.{State, Moment, CanAct, CanOperate, release_at}
 use Rattle.group_state.proofs.PlainGroup.{IsPlainGroup}
 use Rattle.group_state.proofs.PlainModel.{release-at}
 use Rattle.group_state.proofs.Limits.{plain, RunsHere, runs-here}
 use Rattle.group_state.proofs.Acts.{irq-ended, refused-ended, work-ended}
 use Rattle.group_state.proofs.Doing.{idle-answer, end-answer}
-use Rattle.rank_afresh.specs.Facts.{Facts, release_of, state_of}
+use Rattle.rank_afresh.specs.Facts.{release_of}
 use Rattle.rank_afresh.specs.Standing.{ended_in}
 use Rattle.rank_afresh.proofs.Refreshed.{release-afresh}
 

@@ -1,21 +1,18 @@
 -- What is kept of a past, with the ranking taken afresh from the clock and the jobs that ended.
-use Rattle.std.proofs.Common.{◌≡◌, ℕ, ◌+◌, ◌-◌, ◌*◌, ◌<◌, ◌≤◌, max, Bool, true, false, not, List, ◌∷◌, length, get_or, set, refl, sym, ap, ◌∙◌, subst, arith}
-use Rattle.std.specs.Prelude.{None, Some, nat_le}
-use Rattle.std.proofs.lemmas.Bool.Decides.{nat_tests}
-use Rattle.rt_task.specs.declared.Task.{Task}
-use Rattle.rt_task.specs.declared.Act.TheVariants as acts
-use Rattle.rt_task.specs.declared.Op.TheVariants as ops
+use Rattle.std.proofs.Common.{◌≡◌, ℕ, ◌+◌, ◌-◌, ◌*◌, max, true, not, List, ◌∷◌, length, get_or, refl, sym, ap, ◌∙◌, subst}
+use Rattle.std.specs.Prelude.{nat_le}
 use Rattle.rt_order.specs.declared.Key.{Key}
 use Rattle.rt_rules.specs.Numbers.{has, numbers_from}
 use Rattle.rt_rules.specs.Keys.{Ranked}
 use Rattle.rt_rules.specs.Placing.{placed}
 use Rattle.rt_model.specs.Group.{Group, no_task, task, cpus, tasks_of}
-use Rattle.rt_model.specs.Past.{Past, Clock, Acted, now}
+use Rattle.rt_model.specs.Past.{Past, Clock, now}
 use Rattle.rt_model.specs.Jobs.{done}
-use Rattle.rt_model.specs.Outcomes.{past_act}
 use Rattle.rt_rules.specs.Rankings.{ranked_by}
-use Rattle.group_state.specs.State.{State, IsKept, IsPlayed, release_at, key_at, wait_key, top_tasks}
+use Rattle.group_state.specs.State.{State, IsKept, IsPlayed, release_at, key_at, top_tasks}
+use Rattle.group_state.specs.Releases.{releases_by}
 use Rattle.group_state.specs.Moves.{clock_moved}
+use Rattle.group_state.proofs.ReleaseLaws.{releases_by-same}
 use Rattle.group_state.proofs.PlainGroup.{IsPlainGroup}
 use Rattle.rt_rules.proofs.RankedByLaws.{ranked_by-same}
 use Rattle.group_state.proofs.Limits.{plain, length-runs}
@@ -47,8 +44,8 @@ module _ (g : Group) (played : IsPlayed g) (p : Past) (S : State) (k : IsKept g 
   pub waiting-afresh : S.waiting ≡ waiting_of g.setup.tasks S.clock S.done
   waiting-afresh =
       k.waiting_is
-      ∙ ranked_by-same (λ t. wait_key g t (done t p)) (λ t. record { band = 0; major = release_of g.setup.tasks S.done t; minor = t }) (λ t. not (nat_le (release_at g t (done t p)) (now p))) (λ t. not (is_due g.setup.tasks S.clock S.done t)) (tasks_of g 0) (λ t h. ap not (due-afresh t h)) (λ t h e. ap (λ n. let r : Key = record { band = 0; major = n; minor = t } in r) (release-afresh t h))
-      ∙ ap (λ ts. ranked_by (λ t. record { band = 0; major = release_of g.setup.tasks S.done t; minor = t }) (λ t. not (is_due g.setup.tasks S.clock S.done t)) ts) s.homes_are
+      ∙ releases_by-same (λ t. release_at g t (done t p)) (release_of g.setup.tasks S.done) (λ t. not (nat_le (release_at g t (done t p)) (now p))) (λ t. not (is_due g.setup.tasks S.clock S.done t)) (tasks_of g 0) (λ t h. ap not (due-afresh t h)) (λ t h e. release-afresh t h)
+      ∙ ap (λ ts. releases_by (release_of g.setup.tasks S.done) (λ t. not (is_due g.setup.tasks S.clock S.done t)) ts) s.homes_are
 
   -- the facts of what is kept, with the ranking that follows, are kept too
   pub kept-afresh : IsKept g p (state_of g.setup.tasks (facts_of S))

@@ -21,7 +21,7 @@ use Rattle.rt_model.specs.Histories.{after, reply_to}
 use Rattle.rt_model.proofs.Steps.{after-acted, reply_to-lem}
 use Rattle.group_state.specs.Groups.{IsProcessorOf}
 use Rattle.group_state.specs.Moves.{opened}
-use Rattle.group_state.specs.State.{State, IsKept, IsPlayed, Moment, CanAct, HasActed, top_tasks}
+use Rattle.group_state.specs.State.{State, IsKept, IsPlayed, CanAct, HasActed, top_tasks}
 use Rattle.group_state.proofs.Plain.{IsPlainTask}
 use Rattle.group_state.proofs.PlainGroup.{IsPlainGroup}
 use Rattle.group_state.proofs.Limits.{plain, task-low, task-high}
@@ -29,9 +29,9 @@ use Rattle.group_state.proofs.Opening.{kept-open}
 use Rattle.group_state.proofs.Replies.{linked-at, runs-at}
 use Rattle.group_state.proofs.Stepping.{inside}
 use Rattle.rank_afresh.specs.Facts.{Facts, IsSmall, CanRank, IsNext, links_of, ready_of, relinked, state_of, unlinked}
-use Rattle.rank_afresh.specs.Moved.{CanMove, HasMoved, Grows}
-use Rattle.rank_afresh.specs.Standing.{Standing, IsAt, IsFit, group_of, ended_in, ended_last}
-use Rattle.rank_afresh.proofs.Refreshed.{facts_of, ready-afresh, kept-afresh}
+use Rattle.rank_afresh.specs.Moved.{CanMove, Grows}
+use Rattle.rank_afresh.specs.Standing.{Standing, IsAt, IsFit, group_of, ended_in}
+use Rattle.rank_afresh.proofs.Refreshed.{ready-afresh, kept-afresh}
 
 -- ---- opening
 

@@ -1,7 +1,6 @@
--- The first tasks of a list, one more at a time.
-use Rattle.std.proofs.Common.{◌≡◌, ℕ, ◌+◌, ◌<◌, List, [], ◌∷◌, ◌++◌, length, map, take, get_or, refl, sym, ap, ◌∙◌, arith}
-use Rattle.std.proofs.lemmas.List.{take_more, length-map}
-use Rattle.std.proofs.Math.ListN.{get_or-map}
+-- The top of the tasks, and of the best of them.
+use Rattle.std.proofs.Common.{◌≡◌, ℕ, List, [], ◌∷◌, length, map, take, refl, sym, ap, ◌∙◌}
+use Rattle.std.proofs.lemmas.List.{length-map}
 use Rattle.rt_rules.specs.Keys.{Ranked}
 use Rattle.rt_task.specs.declared.Task.{Task}
 use Rattle.rt_rules.specs.Distinct.{IsDistinct}
@@ -14,14 +13,6 @@ use Rattle.rank_afresh.proofs.RankLaws.{take-map}
 use Rattle.rank_afresh.specs.declared.ranks.Candidate.{Candidate}
 use Rattle.rank_afresh.specs.Candidates.{ranked, ranked_all}
 use Rattle.group_state.specs.State.{top_tasks}
-
-pub top_tasks-more : (qs : List Candidate) (i : ℕ) (d : Candidate) → i < length qs → top_tasks (i + 1) (ranked_all qs) ≡ top_tasks i (ranked_all qs) ++ (get_or qs i d).task.0 ∷ []
-top_tasks-more qs i d lt =
-    let all : List ℕ = map (λ (r : Ranked). r.task) (ranked_all qs) in
-    let same : length all ≡ length qs = length-map _ _ ∙ length-map _ _ in
-    let there : i < length all = omega arith in
-    let one : get_or all i (ranked d).task ≡ (get_or qs i d).task.0 = get_or-map (λ (r : Ranked). r.task) (ranked_all qs) i (ranked d) ∙ ap (λ (r : Ranked). r.task) (get_or-map ranked qs i d) in
-    take_more all i (ranked d).task there ∙ ap (λ n. take i all ++ n ∷ []) one
 
 take-whole : {A : Type 0} {B : Type 0} (f : A → B) (xs : List A) → take (length xs) (map f xs) ≡ map f xs
 take-whole f [] = refl

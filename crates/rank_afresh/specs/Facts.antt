@@ -1,5 +1,6 @@
 -- Plain facts of a group, and the ranking and the links that follow from them afresh.
-use Rattle.std.specs.Prelude.{◌≡◌, ◌≢◌, ℕ, ◌+◌, ◌-◌, ◌*◌, ◌<◌, ◌≤◌, ◌^◌, Bool, true, false, not, nat_le, List, All, length, replicate, Option, None, Some, slice_index, slice_index_or, slice_set}
+use Rattle.std.specs.Prelude.{◌≡◌, ℕ, ◌+◌, ◌-◌, ◌*◌, ◌<◌, ◌≤◌, Bool, true, false, not, nat_le, List, All, length}
+use Rattle.std.specs.Prelude.{replicate, Option, None, Some, slice_index, slice_index_or, slice_set}
 use Rattle.rt_base.specs.declared.TheConstants.{MOST_STEPS, MOST_TASKS, TICK_END}
 use Rattle.rt_task.specs.declared.Task.{Task}
 use Rattle.rt_order.specs.declared.Key.{Key}
@@ -9,6 +10,7 @@ use Rattle.rt_rules.specs.Placing.{placed}
 use Rattle.rt_model.specs.Group.{no_task}
 use Rattle.link_table.specs.Linked.{Linked}
 use Rattle.rt_rules.specs.Rankings.{ranked_by}
+use Rattle.group_state.specs.Releases.{Release, releases_by}
 use Rattle.group_state.specs.State.{State, top_tasks}
 
 -- the clock, the jobs that ended by task, the clock of each processor's last Work, what runs and what is linked
@@ -37,10 +39,9 @@ ranking_of tasks clock done ts = ranked_by (key_of tasks done) (is_due tasks clo
 abbrev pub ready_of : List Task → ℕ → List ℕ → List Ranked
 ready_of tasks clock done = ranking_of tasks clock done (numbers_from 1 (length tasks))
 
-abbrev pub waiting_of : List Task → ℕ → List ℕ → List Ranked
-waiting_of tasks clock done =
-    let next_release : ℕ → Key = λ t. record { band = 0; major = release_of tasks done t; minor = t } in
-    ranked_by next_release (λ t. not (is_due tasks clock done t)) (numbers_from 1 (length tasks))
+-- the releases that the other tasks wait for
+abbrev pub waiting_of : List Task → ℕ → List ℕ → List Release
+waiting_of tasks clock done = releases_by (release_of tasks done) (λ t. not (is_due tasks clock done t)) (numbers_from 1 (length tasks))
 
 -- the top of a cluster of m processors
 abbrev pub top_of : ℕ → List Task → ℕ → List ℕ → List ℕ
@@ -115,4 +116,5 @@ pub record Kept : Type 0 where
 
 -- no job of these tasks is released after the clock and before this tick
 abbrev pub IsNext : List Task → ℕ → List ℕ → List ℕ → ℕ → Type 0
-IsNext tasks clock done ts next = (t : ℕ) → has t ts ≡ true → is_due tasks clock done t ≡ false → next ≤ release_of tasks done t
+IsNext tasks clock done ts next =
+    (t : ℕ) → has t ts ≡ true → is_due tasks clock done t ≡ false → next ≤ release_of tasks done t

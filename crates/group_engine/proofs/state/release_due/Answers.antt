@@ -1,6 +1,6 @@
 use Rattle.std.proofs.Common.{◌≡◌, ◌+◌, ◌≤◌, List, length, max, ◌∙◌, arith}
-use Rattle.rt_rules.specs.Keys.{Ranked}
-use Rattle.group_engine.specs.Queue.{ranked}
+use Rattle.group_state.specs.Releases.{Release}
+use Rattle.group_engine.specs.Releases.{numbered}
 use Rattle.group_state.specs.State.{rel_deadline_of}
 use Rattle.rt_rules.proofs.RankedByLaws.{length-inserted}
 use Rattle.group_state.proofs.DueLaws.{due-first, due-stop, due-none, some-there, dropped, length-dropped}
@@ -20,15 +20,15 @@ returns-in_default-clause-waiting c = (due-none c.args.clock (rel_deadline_of c.
 
 pub loop-first-preserved : goal.loop-first-preserved
 loop-first-preserved c =
-    let ws : List Ranked = c.loop-first.waiting.tasks in
-    let step = due-first c.args.clock (rel_deadline_of c.args.tasks.now) (ranked c.in-Some.first) ws c.loop-first.ready.tasks c.in-Some.ensures c.if-first-clock.false in
+    let ws : List Release = c.loop-first.waiting.releases in
+    let step = due-first c.args.clock (rel_deadline_of c.args.tasks.now) (numbered c.in-Some.first) ws c.loop-first.ready.tasks c.in-Some.ensures c.if-first-clock.false in
     let there : 1 ≤ length ws = some-there _ ws c.in-Some.ensures in
-    let fewer : length c.drop_first.new.self.tasks + 1 ≡ max 1 (length ws) = rw c.drop_first.ensures.tasks (length-dropped ws) in
+    let fewer : length c.drop_first.new.self.releases + 1 ≡ max 1 (length ws) = rw c.drop_first.ensures.releases (length-dropped ws) in
     let more : length c.insert.new.self.tasks ≡ length c.loop-first.ready.tasks + 1 = rw c.insert.ensures.tasks (length-inserted _ _) in
     record {
-      ready_is = rw (c.drop_first.ensures.tasks, c.insert.ensures.tasks, c.job_key.ensures) (step.0 ∙ c.loop-first.invariant.ready_is);
-      waiting_is = rw c.drop_first.ensures.tasks (step.1 ∙ c.loop-first.invariant.waiting_is);
-      bounded = λ k d lt. rw (c.drop_first.ensures.tasks, dropped) (c.loop-first.invariant.bounded (k + 1) d (omega arith));
+      ready_is = rw (c.drop_first.ensures.releases, c.insert.ensures.tasks, c.job_key.ensures) (step.0 ∙ c.loop-first.invariant.ready_is);
+      waiting_is = rw c.drop_first.ensures.releases (step.1 ∙ c.loop-first.invariant.waiting_is);
+      bounded = λ k d lt. rw (c.drop_first.ensures.releases, dropped) (c.loop-first.invariant.bounded (k + 1) d (omega arith));
       room = omega (arith, c.loop-first.invariant.room, c.insert.ensures.room);
       ready_room = omega (arith, c.loop-first.invariant.ready_room, c.insert.ensures.room);
       waiting_room = omega (arith, c.loop-first.invariant.waiting_room, c.drop_first.ensures.room);

@@ -35,7 +35,7 @@ end_job-requires c =
     let r : CanOperate at c.args.self.now c.args.tasks.now c.args.cpu.0 c.args.task.0 = c.requires.1 in
     let can : CanEnd at c.args.tasks.now c.args.cpu.0 c.args.task.0 c.args.self.now r = can_end _ _ _ _ _ r in
     let is : c.index-tasks-task.result ≡ get_or at.group.setup.tasks (c.args.task.0 - 1) no_task = task_read _ _ _ _ r.act.tasks_are (omega (arith, can.low, can.listed)) c.index-tasks-task.is in
-    let n : IsNext at c.args.tasks.now c.args.cpu.0 c.args.task.0 c.args.self.now r c.index-tasks-task.result c.next_job-next.result.is_released c.next_job-next.result.job_key c.next_job-next.result.wait_key = record { released_is = c.next_job-next.ensures.released; job_key_is = c.next_job-next.ensures.job_key; wait_key_is = c.next_job-next.ensures.wait_key } in
+    let n : IsNext at c.args.tasks.now c.args.cpu.0 c.args.task.0 c.args.self.now r c.index-tasks-task.result c.next_job-next.result.is_released c.next_job-next.result.job_key c.next_job-next.result.release = record { released_is = c.next_job-next.ensures.released; job_key_is = c.next_job-next.ensures.job_key; release_is = c.next_job-next.ensures.release } in
     let released = released-next at c.args.tasks.now c.args.cpu.0 c.args.task.0 c.args.self.now r _ _ _ _ is n in
     let same = state-next at c.args.tasks.now c.args.cpu.0 c.args.task.0 c.args.self.now r _ _ _ _ is n in
     record {
@@ -52,7 +52,7 @@ pub returns : goal.returns
 returns c = λ at r.
     let can : CanEnd at c.args.tasks.now c.args.cpu.0 c.args.task.0 c.args.self.now r = can_end _ _ _ _ _ r in
     let is : c.index-tasks-task.result ≡ get_or at.group.setup.tasks (c.args.task.0 - 1) no_task = task_read _ _ _ _ r.act.tasks_are (omega (arith, can.low, can.listed)) c.index-tasks-task.is in
-    let n : IsNext at c.args.tasks.now c.args.cpu.0 c.args.task.0 c.args.self.now r c.index-tasks-task.result c.next_job-next.result.is_released c.next_job-next.result.job_key c.next_job-next.result.wait_key = record { released_is = c.next_job-next.ensures.released; job_key_is = c.next_job-next.ensures.job_key; wait_key_is = c.next_job-next.ensures.wait_key } in
+    let n : IsNext at c.args.tasks.now c.args.cpu.0 c.args.task.0 c.args.self.now r c.index-tasks-task.result c.next_job-next.result.is_released c.next_job-next.result.job_key c.next_job-next.result.release = record { released_is = c.next_job-next.ensures.released; job_key_is = c.next_job-next.ensures.job_key; release_is = c.next_job-next.ensures.release } in
     let released = released-next at c.args.tasks.now c.args.cpu.0 c.args.task.0 c.args.self.now r _ _ _ _ is n in
     let same = state-next at c.args.tasks.now c.args.cpu.0 c.args.task.0 c.args.self.now r _ _ _ _ is n in
     record {

@@ -1,7 +1,7 @@
-use Rattle.std.proofs.Common.{◌≡◌, ◌<◌, List, ◌∷◌, refl, sym, ap, ◌∙◌, subst}
+use Rattle.std.proofs.Common.{◌≡◌, ◌<◌, ◌∷◌, sym, ap, ◌∙◌, subst}
 use Rattle.rt_task.specs.declared.Parts.{Parts}
 use Rattle.rt_model.specs.Past.{Clock}
-use Rattle.rt_model.specs.Histories.{after, reply_to}
+use Rattle.rt_model.specs.Histories.{reply_to}
 use Rattle.group_state.specs.Groups.{IsProcessorOf}
 use Rattle.rank_afresh.specs.contracts.afresh.Afresh.{the_view}
 use Rattle.rank_afresh.specs.Standing.{Standing, IsAt, group_of}

@@ -1,4 +1,4 @@
-use Rattle.std.proofs.Common.{◌≡◌, sym, ap, ◌∙◌, subst}
+use Rattle.std.proofs.Common.{sym, ap, ◌∙◌, subst}
 use Rattle.rt_model.specs.Links.{linked}
 use Rattle.group_state.specs.Groups.{IsProcessorOf}
 use Rattle.rank_afresh.specs.contracts.afresh.Afresh.{the_view}

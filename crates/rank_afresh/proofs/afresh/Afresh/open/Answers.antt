@@ -1,4 +1,4 @@
-use Rattle.std.proofs.Common.{◌≡◌, ◌≤◌, ℕ, List, [], true, get_or, length, refl, sym, ap, ◌∙◌, subst, arith}
+use Rattle.std.proofs.Common.{◌≡◌, ℕ, List, true, get_or, length, refl, sym, ap, ◌∙◌, subst}
 use Rattle.std.specs.Prelude.{replicate}
 use Rattle.std.proofs.lemmas.List.{get_or_default}
 use Rattle.rt_task.specs.declared.Task.{Task}
@@ -9,10 +9,9 @@ use Rattle.rt_rules.specs.Numbers.{numbers_from}
 use Rattle.rt_model.specs.Group.{Group, no_cluster, cpus}
 use Rattle.group_state.specs.Built.{is_built}
 use Rattle.group_state.specs.Groups.{IsGroupOf}
-use Rattle.group_state.specs.State.{IsPlayed, IsKept}
+use Rattle.group_state.specs.State.{IsPlayed}
 use Rattle.group_state.proofs.Opening.{first-cpus, some-cluster}
-use Rattle.rank_afresh.specs.Facts.{Facts, CanRank, IsNext, relinked, unlinked, state_of}
-use Rattle.rank_afresh.specs.Standing.{IsFit}
+use Rattle.rank_afresh.specs.Facts.{Facts, CanRank, IsNext, relinked, unlinked}
 use Rattle.rank_afresh.proofs.Standings.{can_rank-first, kept-first, fit-first}
 use Rattle.rank_afresh.proofs.afresh.Afresh.open.Goals as goal
 

@@ -1,5 +1,4 @@
-use Rattle.std.proofs.Common.{◌≡◌, sym, ap, ◌∙◌, subst}
-use Rattle.rt_model.specs.Runs.{runs}
+use Rattle.std.proofs.Common.{sym, ◌∙◌, subst}
 use Rattle.group_state.specs.Groups.{IsProcessorOf}
 use Rattle.rank_afresh.specs.contracts.afresh.Afresh.{the_view}
 use Rattle.rank_afresh.specs.Standing.{Standing, IsAt, group_of}

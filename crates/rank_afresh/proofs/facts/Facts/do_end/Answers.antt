@@ -1,4 +1,4 @@
-use Rattle.std.proofs.Common.{◌≡◌, sym}
+use Rattle.std.proofs.Common.{sym}
 use Rattle.group_state.proofs.Doing.{can_end, end-answer}
 use Rattle.rank_afresh.proofs.Acting.{kept-ended-afresh}
 use Rattle.rank_afresh.proofs.facts.Facts.do_end.Goals as goal

@@ -1,10 +1,8 @@
-use Rattle.std.proofs.Common.{◌≡◌, ◌+◌, ◌-◌, ◌≤◌, List, length, get_or, true, sym, ap, ◌∙◌, subst, arith, rules}
+use Rattle.std.proofs.Common.{◌+◌, ◌-◌, List, get_or, ap, ◌∙◌, arith, rules}
 use Rattle.std.specs.Prelude.{None, Some, nat_lt}
 use Rattle.rt_task.specs.declared.Task.{Task}
-use Rattle.rt_task.specs.declared.Act.TheVariants as acts
-use Rattle.rt_task.specs.declared.Op.TheVariants as ops
 use Rattle.rt_model.specs.Group.{no_task}
-use Rattle.group_state.proofs.Doing.{CanEnd, runs-inside, runs-now, can_end}
+use Rattle.group_state.proofs.Doing.{runs-inside, runs-now, can_end}
 use Rattle.rank_afresh.specs.Facts.{release_of}
 use Rattle.rank_afresh.proofs.Ending.{other-act, idle-end, end-late}
 use Rattle.rank_afresh.proofs.facts.Facts.ending.Goals as goal

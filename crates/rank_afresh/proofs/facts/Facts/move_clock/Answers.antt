@@ -1,8 +1,8 @@
-use Rattle.std.proofs.Common.{◌≡◌, ◌<◌, length, sym, ap, ◌∙◌, subst, arith}
+use Rattle.std.proofs.Common.{length, sym, ap, subst, arith}
 use Rattle.rt_rules.specs.Numbers.{numbers_from}
-use Rattle.rank_afresh.specs.Facts.{Kept, IsNext, state_of}
-use Rattle.rank_afresh.specs.Moved.{CanMove, HasMoved}
-use Rattle.rank_afresh.proofs.Moving.{moved-back, moved-before, moved-placed, next-later}
+use Rattle.rank_afresh.specs.Facts.{Kept, IsNext}
+use Rattle.rank_afresh.specs.Moved.{CanMove}
+use Rattle.rank_afresh.proofs.Moving.{moved-back, moved-before, moved-placed}
 use Rattle.rank_afresh.proofs.facts.Facts.move_clock.Goals as goal
 
 pub returns-then-tick-self-clause-moved : goal.returns-then-tick-self-clause-moved

@@ -1,4 +1,4 @@
-use Rattle.std.proofs.Common.{◌≡◌, ℕ, length, sym, ap, ◌∙◌, subst, arith, rules}
+use Rattle.std.proofs.Common.{◌∙◌}
 use Rattle.std.proofs.lemmas.List.{length-replicate}
 use Rattle.link_table.proofs.PlaceLaws.{numbers_of_tasks-replicate}
 use Rattle.rank_afresh.proofs.facts.Facts.open.Goals as goal

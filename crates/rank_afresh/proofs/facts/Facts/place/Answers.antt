@@ -1,4 +1,4 @@
-use Rattle.std.proofs.Common.{◌≡◌, ◌++◌, ℕ, List, length, take, drop, sym, ap, ◌∙◌, subst, arith, rules}
+use Rattle.std.proofs.Common.{◌≡◌, ℕ, List, length, take, sym, ap, ◌∙◌, subst, arith, rules}
 use Rattle.std.proofs.lemmas.List.{length-map, with_items_is}
 use Rattle.rt_base.specs.TaskNos.{number_of_task, numbers, numbers_of_tasks}
 use Rattle.rt_task.specs.declared.Task.{Task}
@@ -6,7 +6,7 @@ use Rattle.rt_rules.specs.Distinct.{IsDistinct}
 use Rattle.rt_rules.specs.Placing.{placed}
 use Rattle.rank_afresh.specs.declared.ranks.Candidate.{Candidate}
 use Rattle.rank_afresh.specs.Candidates.{ranked_all}
-use Rattle.rank_afresh.specs.Facts.{Kept, relinked, ready_of, top_of}
+use Rattle.rank_afresh.specs.Facts.{ready_of, top_of}
 use Rattle.group_state.specs.State.{top_tasks}
 use Rattle.rank_afresh.proofs.TopTasks.{top-best, distinct-top_of}
 use Rattle.rank_afresh.proofs.facts.Facts.place.Goals as goal

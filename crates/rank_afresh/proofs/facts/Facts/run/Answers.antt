@@ -1,6 +1,3 @@
-use Rattle.std.proofs.Common.{◌≡◌, ap, ◌∙◌}
-use Rattle.rt_base.specs.TaskNos.{number_of_task, numbers_of_tasks}
-use Rattle.rank_afresh.specs.Facts.{Kept, Facts}
 use Rattle.link_table.proofs.PlaceLaws.{numbers_of_tasks-set}
 use Rattle.rank_afresh.proofs.facts.Facts.run.Goals as goal
 
