@@ -1,4 +1,5 @@
-ghost use Rattle.std.specs.Prelude.{◌≡◌};
+ghost use Rattle.std.specs.Prelude.{◌≡◌, ◌+◌, ◌<◌};
+ghost use Rattle.tick_clock.specs.Clocks.{fresh};
 
 use super::*;
 use std::sync::Wait;
@@ -21,22 +22,29 @@ fn the_next_turn_comes_once_all_have_passed(rt: HostRuntime) -> Result<(), Fail>
     Ok(())
 }
 
-// Passes turns 0, 1 and 2, each once the clock shows it, and says what the clock shows then.
-fn pass_three_turns<R: Wait>(rt: &R, clock: &TickClock, mut seat: ClockSeat) -> u64
+// Passes one turn, once the clock shows it.
+fn pass_one<R: Wait>(rt: &R, clock: &TickClock, seat: &mut ClockSeat, turn: u64)
+    requires clock { seat.old.clock ≡ clock.now }
+    requires turn { (seat.old.passes ≡ turn) × (turn < 10) }
+    ensures { (seat.new.clock ≡ seat.old.clock) × (seat.new.passes ≡ turn + 1) }
+{
+    for _ in rt.forever() {
+        if clock.look(seat) == turn {
+            clock.pass(seat);
+            return;
+        }
+        thread::yield_now();
+    }
+    unreachable!()
+}
+
+// Passes three turns, and says what the clock shows then.
+fn pass_three<R: Wait>(rt: &R, clock: &TickClock, mut seat: ClockSeat) -> u64
     requires { seat ≡ fresh clock.now }
 {
-    let mut turn = 0;
-    for _ in rt.forever() {
-        if turn == 3 {
-            break;
-        }
-        if clock.look(&mut seat) == turn {
-            clock.pass(&mut seat);
-            turn += 1;
-        } else {
-            thread::yield_now();
-        }
-    }
+    pass_one(rt, clock, &mut seat, 0);
+    pass_one(rt, clock, &mut seat, 1);
+    pass_one(rt, clock, &mut seat, 2);
     clock.look(&mut seat)
 }
 
@@ -48,8 +56,8 @@ fn two_threads_pass_three_turns(rt: HostRuntime) -> Result<(), Fail> {
     let first = seats.pop().expect(&rt, "a first seat");
     let (one, two) = thread::join(
         &rt,
-        || pass_three_turns(&rt, &clock, first),
-        || pass_three_turns(&rt, &clock, second),
+        || pass_three(&rt, &clock, first),
+        || pass_three(&rt, &clock, second),
     );
     assert_eq!(rt; one.max(two), 3);
     assert!(rt; one.min(two) >= 2);
