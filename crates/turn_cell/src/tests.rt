@@ -1,11 +1,13 @@
-ghost use Rattle.std.specs.Prelude.{◌≡◌, ◌+◌, ◌++◌, ◌∷◌, [], IfOk, false};
+ghost use Rattle.std.specs.Prelude.{◌≡◌, ◌+◌, ◌++◌, ◌∷◌, [], IfOk, Some, false, true, length, ◌≤◌, ◌^◌};
 
 use super::*;
 use std::alloc::{AllocError, Global};
 use std::process::Abort;
+use std::rt::Clock;
 use std::sync::Wait;
 use std::test::Fail;
 use std::thread;
+use std::time::Duration;
 
 /// Who wrote, and how often each of two processors was called.
 #[derive(Drop)]
@@ -74,6 +76,25 @@ fn write_three<R: Wait + Abort>(
     write_one(rt, turn, &mut seat, cpu);
     write_one(rt, turn, &mut seat, cpu);
     write_one(rt, turn, &mut seat, cpu);
+    seat
+}
+
+// Keeps the turn for a while, and gives it with nothing new.
+fn hold<R: Clock>(
+    rt: &R,
+    turn: &Turn<Diary>,
+    mut seat: TurnSeat<Diary>,
+    diary: Diary,
+) -> TurnSeat<Diary>
+    requires cell { (seat.cell ≡ turn.now.cell) × (seat.holds ≡ true) }
+    requires subject { turn.now.cell.subject ≡ Some tt }
+    requires diary { (diary.writers.items ≡ seat.seen)
+        × (diary.calls.0 ∷ diary.calls.1 ∷ [] ≡ seat.raises)
+        × (length seat.seen ≤ 2 ^ 62) }
+    ensures { (result.cell ≡ seat.cell) × (result.holds ≡ false) × (result.cpu ≡ seat.cpu) }
+{
+    thread::sleep(rt, Duration::from_millis(20));
+    turn.give(&mut seat, diary, &[]);
     seat
 }
 
@@ -148,5 +169,23 @@ fn two_threads_write_three_each(rt: HostRuntime) -> Result<(), Fail> {
     assert_eq!(rt; all.iter().filter(|writer| **writer == 0).count(), 3);
     assert_eq!(rt; all.iter().filter(|writer| **writer == 1).count(), 3);
     assert_eq!(rt; all.len(), 6);
+    Ok(())
+}
+
+/// A thread that finds the turn held for long sleeps, and is woken when it is given.
+#[test]
+fn a_thread_that_sleeps_is_woken(rt: HostRuntime) -> Result<(), Fail> {
+    let (turn, mut seats) = Turn::open(rt.alloc(), blank(rt.alloc()), 2)?;
+    let second = seats.pop().expect(&rt, "a second seat");
+    let mut first = seats.pop().expect(&rt, "a first seat");
+    let diary = turn.take(&rt, &mut first);
+    assert_eq!(rt; diary.count(), 0);
+    let (first, second) = thread::join(
+        &rt,
+        || hold(&rt, &turn, first, diary),
+        || write_three(&rt, &turn, second, 1),
+    );
+    let all = writers(rt.alloc(), turn, first, second)?;
+    assert_eq!(rt; all.as_slice(), &[1, 1, 1][..]);
     Ok(())
 }
