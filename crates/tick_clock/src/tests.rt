@@ -48,7 +48,7 @@ fn pass_three<R: Wait>(rt: &R, clock: &TickClock, mut seat: ClockSeat) -> u64
     clock.look(&mut seat)
 }
 
-/// Two threads: each has passed three turns, so the clock is at turn 2 or 3 for each, and at 3 for the one that ends last.
+/// Two threads: each has passed three turns, so that it finds turn 2 or 3, and the one that ends last finds turn 3.
 #[test]
 fn two_threads_pass_three_turns(rt: HostRuntime) -> Result<(), Fail> {
     let (clock, mut seats) = TickClock::open(rt.alloc(), 2)?;
