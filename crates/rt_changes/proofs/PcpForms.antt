@@ -1,0 +1,116 @@
+-- PCP: a cluster after an Unlock, in one of two forms: nothing was granted, or one request was.
+use Rattle.std.proofs.Common.{Bool, List, [], eqb-true, false, inl, inr, refl, subst, sym, true, ℕ, ◌&&◌, ◌||◌, ◌∙◌, ◌∷◌, ◌≡◌, ◌⊎◌}
+use Rattle.std.specs.Prelude.{if◌then◌else◌, ⊤, ◌==◌}
+use Rattle.rt_rules.specs.Distinct.{IsDistinct}
+use Rattle.rt_rules.specs.Numbers.{has}
+use Rattle.rt_rules.specs.Pcp.{PcpState, TaskSem, granted, in_order, passes, pcp_after, tested, without_pair}
+use Rattle.rt_rules.specs.SemState.{Frees}
+use Rattle.rt_model.specs.BaseKeys.{above, base_key}
+use Rattle.rt_model.specs.Ceilings.{above_ceiling, at_cluster, ceiling, is_pcp, pcp}
+use Rattle.rt_model.specs.Group.{Group, protocol, sems, users}
+use Rattle.rt_model.specs.Reachable.{IsReachable}
+use Rattle.rt_model.specs.Past.{Event, Past, sem_act}
+use Rattle.rt_model.specs.Semaphores.{cluster_of}
+use Rattle.rt_rules.proofs.BoolLaws.{clash, or_true, unless}
+use Rattle.rt_rules.proofs.KeyLaws.{higher-below}
+use Rattle.rt_rules.proofs.MemberLaws.{equal_self}
+use Rattle.rt_rules.proofs.PairLaws.{distinct-in_order, has_pair, has_pair-in_order, pair-of, tasks_of_pairs}
+use Rattle.rt_rules.proofs.PcpGrantLaws.{IsStrict, falling-in_order}
+use Rattle.rt_rules.proofs.PcpLaws.{passes-cons, pcp-once}
+use Rattle.rt_laws.proofs.Asked.{Asked, IsAsked, asked}
+use Rattle.rt_laws.proofs.AtSem.{at_cluster-asks}
+use Rattle.rt_laws.proofs.BaseKeyLaws.{above-strict}
+use Rattle.rt_laws.proofs.GroupLaws.{user-task}
+use Rattle.rt_laws.proofs.Moves.{by_moves}
+use Rattle.rt_laws.proofs.PcpState.{IsPcpKept, IsUser, pcp-waiting, pcp_kept, sem-home, user-not_over}
+use Rattle.rt_laws.proofs.Rules.{MeetsRules}
+use Rattle.rt_changes.proofs.Acting.{IsParty, party-home}
+
+-- no later one is above an earlier one
+abbrev pub IsFalling : (ℕ → ℕ → Bool) → List TaskSem → Type 0
+IsFalling before [] = ⊤
+IsFalling before (p ∷ ps) = ((t : ℕ) → has t (tasks_of_pairs ps) ≡ true → before t p.task ≡ false) × IsFalling before ps
+
+falling : (before : ℕ → ℕ → Bool) → IsStrict before → (ps : List TaskSem) → IsFalling before (in_order before ps)
+falling before order ps = falling-in_order before order ps
+
+-- ---- the tries, in falling order
+
+tested-none : (over : ℕ → ℕ → Bool) (ps : List TaskSem) (l : PcpState) → ((t : ℕ) → has t (tasks_of_pairs ps) ≡ true → passes over l.held t ≡ false) → tested over ps l ≡ l
+tested-none over [] l h = refl
+tested-none over (p ∷ ps) l h = let no : passes over l.held p.task ≡ false = h p.task (rw (equal_self p.task)) in rw no (tested-none over ps l (λ t k. h t (rw k (or_true (t == p.task)))))
+
+-- at most one of the tries is granted
+abbrev IsForm : (ℕ → ℕ → Bool) → List TaskSem → PcpState → Type 0
+IsForm over ps l = (tested over ps l ≡ l) ⊎ ((p : TaskSem) × (has_pair p.task p.sem ps ≡ true) × (tested over ps l ≡ granted p l))
+
+tested-form : (before over : ℕ → ℕ → Bool) (ps : List TaskSem) (l : PcpState) → IsDistinct (tasks_of_pairs ps) → IsFalling before ps → ((p : TaskSem) (t : ℕ) → has_pair p.task p.sem ps ≡ true → before t p.task ≡ false → over t p.sem ≡ false) → IsForm over ps l
+tested-form before over [] l d f low = inl refl
+tested-form before over (p ∷ ps) l d f low = by_case (passes over l.held p.task) refl (tested-form before over ps l d.1 f.1 (λ q t h k. low q t (rw h (or_true (q.task == p.task && q.sem == p.sem))) k))
+  where
+    none_more : (t : ℕ) → has t (tasks_of_pairs ps) ≡ true → passes over (p ∷ l.held) t ≡ false
+    none_more t h =
+        let under : over t p.sem ≡ false = low p t (rw (equal_self p.task, equal_self p.sem)) (f.0 t h) in
+        let other : p.task == t ≡ false = unless _ (λ m. let same : p.task ≡ t = eqb-true p.task t m in let k : has p.task (tasks_of_pairs ps) ≡ true = rw same h in clash _ k d.0) in
+        rw (passes-cons over p l.held t, other, under)
+
+    later : IsForm over ps l → (tested over ps l ≡ l) ⊎ ((q : TaskSem) × ((q.task == p.task && q.sem == p.sem) || has_pair q.task q.sem ps ≡ true) × (tested over ps l ≡ granted q l))
+    later (inl e) = inl e
+    later (inr q) = inr (q.0, rw q.1 (or_true (q.0.task == p.task && q.0.sem == p.sem)), q.2)
+
+    by_case : (b : Bool) → passes over l.held p.task ≡ b → IsForm over ps l → (tested over ps (if b then granted p l else l) ≡ l) ⊎ ((q : TaskSem) × ((q.task == p.task && q.sem == p.sem) || has_pair q.task q.sem ps ≡ true) × (tested over ps (if b then granted p l else l) ≡ granted q l))
+    by_case true e r = inr (p, rw (equal_self p.task, equal_self p.sem), tested-none over ps (granted p l) none_more)
+    by_case false e r = later r
+
+-- ---- each waiting task stands once
+
+waits_not : (g : Group) → MeetsRules g → {past : Past} → IsReachable g past → (c t s : ℕ) → IsAsked g t s past → has t (tasks_of_pairs (pcp g c past).waiting) ≡ false
+waits_not g rules {past} made c t s a = unless _ (λ h. met (pair-of t (pcp g c past).waiting h))
+  where
+    met : (r : ℕ) × (has_pair t r (pcp g c past).waiting ≡ true) → ⊥
+    met q =
+        let u : IsUser g c t q.0 = (pcp_kept g rules c made).waiting t q.0 q.1 in
+        let home_is : cluster_of g q.0 ≡ c = sem-home g rules c t q.0 u in
+        let d = user-task g q.0 t u.user in
+        let known : has q.0 (sems g) ≡ true = rules.is_known t q.0 d.0 d.1 in
+        clash _ (pcp-waiting g t q.0 past u.of_pcp ∙ subst (λ n. has_pair t q.0 (pcp g n past).waiting ≡ true) (sym home_is) q.1) (a.waits_none q.0 known)
+
+once-event : (g : Group) → MeetsRules g → (c : ℕ) (e : Event) (past : Past) → IsReachable g past → Asked g e past → IsDistinct (tasks_of_pairs (pcp g c past).waiting) → IsDistinct (tasks_of_pairs (pcp g c (e ∷ past)).waiting)
+unfolding pcp
+once-event g rules c e past made asks d = pcp-once (above g []) (above_ceiling g) (at_cluster g c (sem_act e)) (pcp g c past) (λ t s h. waits_not g rules made c t s (asks t s (at_cluster-asks g c t s (sem_act e) h).0)) d
+
+waiting_once : (g : Group) → MeetsRules g → (c : ℕ) → {past : Past} → IsReachable g past → IsDistinct (tasks_of_pairs (pcp g c past).waiting)
+unfolding pcp
+waiting_once g rules c made = by_moves g (λ past. IsDistinct (tasks_of_pairs (pcp g c past).waiting)) tt (λ past e made move before. once-event g rules c e past made (asked g rules made move) before) made
+
+-- ---- an Unlock
+
+-- what is left of a cluster where a task has freed a semaphore
+abbrev pub freed_state : ℕ → ℕ → PcpState → PcpState
+freed_state t s l = record l { held = without_pair (record { task = t; sem = s }) l.held }
+
+-- nothing was granted, or one request that waited
+abbrev pub IsFreed : ℕ → ℕ → PcpState → PcpState → Type 0
+IsFreed t s before after = (after ≡ freed_state t s before) ⊎ ((p : TaskSem) × (has_pair p.task p.sem before.waiting ≡ true) × (after ≡ granted p (freed_state t s before)))
+
+-- a user of the semaphore is not over its ceiling, nor is one that is not above a user
+under-ceiling : (g : Group) (t u s : ℕ) → has u (users g s) ≡ true → above g [] t u ≡ false → above_ceiling g t s ≡ false
+unfolding above above_ceiling
+under-ceiling g t u s h k = unless _ (λ m. clash _ (higher-below (base_key g t []) (ceiling g s) (base_key g u []) m (user-not_over g u s h)) k)
+
+pub freed-form : (g : Group) → MeetsRules g → (t s : ℕ) (e : Event) (past : Past) → IsReachable g past → IsParty g t s → is_pcp (protocol g s) ≡ true → sem_act e ≡ Frees t s → IsFreed t s (pcp g (cluster_of g s) past) (pcp g (cluster_of g s) (e ∷ past))
+unfolding pcp at_cluster
+freed-form g rules t s e past made party k h = rw (h, party-home g rules t s party k, equal_self (cluster_of g s), k) (in_waiting (tested-form (above g []) (above_ceiling g) (in_order (above g []) (pcp g c past).waiting) (freed_state t s (pcp g c past)) (distinct-in_order (above g []) (pcp g c past).waiting (waiting_once g rules c made)) (falling (above g []) (above-strict g []) (pcp g c past).waiting) low))
+  where
+    c : ℕ
+    c = cluster_of g s
+
+    kept : IsPcpKept g c (pcp g c past)
+    kept = pcp_kept g rules c made
+
+    low : (p : TaskSem) (v : ℕ) → has_pair p.task p.sem (in_order (above g []) (pcp g c past).waiting) ≡ true → above g [] v p.task ≡ false → above_ceiling g v p.sem ≡ false
+    low p v m n = under-ceiling g v p.task p.sem (kept.waiting p.task p.sem (rw has_pair-in_order at m)).user n
+
+    in_waiting : IsForm (above_ceiling g) (in_order (above g []) (pcp g c past).waiting) (freed_state t s (pcp g c past)) → IsFreed t s (pcp g c past) (pcp_after (above g []) (above_ceiling g) (Frees t s) (pcp g c past))
+    in_waiting (inl m) = inl m
+    in_waiting (inr q) = inr (q.0, rw has_pair-in_order at q.1, q.2)
