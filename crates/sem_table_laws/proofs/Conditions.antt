@@ -44,11 +44,14 @@ use Rattle.rt_changes.proofs.Apart.{asks-holds_not}
 use Rattle.sem_laws.specs.KeptKeys as kept
 use Rattle.pcp_sem.specs.Pairs.{has_pair, tasks_of, sems_of}
 use Rattle.pcp_sem.specs.PcpKept as words
-use Rattle.sem_table.specs.declared.kept.Kept.{Kept}
-use Rattle.sem_table.specs.declared.kept.Kept.TheVariants as ks
-use Rattle.sem_table.specs.Conditions.{IsApart, IsPcpRequest, MayAsk, MayRelease}
-use Rattle.sem_table.specs.Words.{Words, kept_at, set_at, state_by}
-use Rattle.sem_table_laws.specs.Keeping.{HasRoom, KeepsKeys, KeepsSem, KeepsSems, KeepsSet, AskFits, ReleaseFits, TellsState}
+use Rattle.sem_table.specs.declared.any_sem.AnySem.{AnySem}
+use Rattle.sem_table.specs.declared.any_sem.AnySem.TheVariants as any
+use Rattle.sem_table.specs.Conditions.{IsApart, IsPcpRequest, MayAskBy, MayReleaseBy}
+use Rattle.sem_table.specs.SemTable.{SemTable, sem_at, set_at}
+use Rattle.sem_table.specs.Told.{state_by}
+use Rattle.sem_table_laws.specs.Fitting.{AskFits, ReleaseFits}
+use Rattle.sem_table_laws.specs.KeptSems.{HasRoom, IsPcpOf, KeepsKeys, KeepsSem, KeepsSems, KeepsSet}
+use Rattle.sem_table_laws.specs.Telling.{TellsState}
 use Rattle.sem_table_laws.proofs.Sets.{fixed-key, idle, fresh, low}
 
 -- ---- what is told
@@ -57,7 +60,7 @@ pub group-of : (g : Group) (t : ℕ) → has t (tasks g) ≡ true → in_group g
 unfolding tasks
 group-of g t h = (both _ _ (rw has-filter at h)).1
 
-module _ (g : Group) (rules : MeetsRules g) (past : Past) (w : Words) (k : KeepsSems g past w) (s u : ℕ) (known : has s (sems g) ≡ true) (user : has u (users g s) ≡ true) where
+module _ (g : Group) (rules : MeetsRules g) (past : Past) (w : SemTable) (k : KeepsSems g past w) (s u : ℕ) (known : has s (sems g) ≡ true) (user : has u (users g s) ≡ true) where
   in-group : in_group g (home g u) ≡ true
   in-group = group-of g u (user-task g s u user).0
 
@@ -66,20 +69,20 @@ module _ (g : Group) (rules : MeetsRules g) (past : Past) (w : Words) (k : Keeps
       let h : home g u ≡ cluster_of g s = user-home g rules s u (pcp-shares g.setup.plugin (protocol g s) q) user in
       rw e (subst (λ (n : ℕ). KeepsSet g n past (set_at w.sets n)) h (k.sets (home g u) (rules.has_home u (user-task g s u user).0) in-group))
 
-  state-is : (p : Protocol) (x : Kept) → protocol g s ≡ p → KeepsSem g s past p x → state_by w.sets s x ≡ sem_state_by g p s past
+  state-is : (p : Protocol) (x : AnySem) → protocol g s ≡ p → KeepsSem g s past p x → state_by w.sets s x ≡ sem_state_by g p s past
   unfolding sem_state_by
-  state-is Fmlp (ks.Fmlp l) q v = ap in_line v.line
-  state-is Omlp (ks.Omlp l) q v = ap omlp_sem_state v.state
-  state-is Mpcp (ks.Mpcp l) q v = v.state
-  state-is Pcp (ks.Pcp c) q v = ap (pcp_sem_state s) (set-here (rw q refl) c.0 v).state
+  state-is Fmlp (any.Fmlp l) q v = ap in_line v.line
+  state-is Omlp (any.Omlp l) q v = ap omlp_sem_state v.state
+  state-is Mpcp (any.Mpcp l) q v = v.state
+  state-is Pcp (any.Pcp c) q v = ap (pcp_sem_state s) (set-here (rw q refl) c.0 v).state
   state-is p x q v = absurd v
 
-  pub tells : (p : Protocol) (x : Kept) → protocol g s ≡ p → KeepsSem g s past p x → state_by w.sets s x ≡ sem_state g s past
+  pub tells : (p : Protocol) (x : AnySem) → protocol g s ≡ p → KeepsSem g s past p x → state_by w.sets s x ≡ sem_state g s past
   unfolding sem_state
   tells p x q v = state-is p x q v ∙ ap (λ (y : Protocol). sem_state_by g y s past) (sym q)
 
 pub tells_state : TellsState
-tells_state g past valid made w s u known user k = tells g (rules_of g valid) past w k s u known user (protocol g s) (kept_at w.kept s) refl (k.kept s known)
+tells_state g past valid made w s u known user k = tells g (rules_of g valid) past w k s u known user (protocol g s) (sem_at w.sems s) refl (k.kept s known)
 
 -- ---- lists
 
@@ -142,7 +145,7 @@ differ g past x h t u ne k l a b = unless _ (λ m. same (both (k.band == l.band)
 
 -- ---- a request
 
-module _ (g : Group) (rules : MeetsRules g) (e : Event) (past : Past) (made : IsReachable g past) (move : IsMove g past e) (w : Words) (k : KeepsSems g past w) (t s : ℕ) (h : sem_act e ≡ Asks t s) where
+module _ (g : Group) (rules : MeetsRules g) (e : Event) (past : Past) (made : IsReachable g past) (move : IsMove g past e) (w : SemTable) (k : KeepsSems g past w) (t s : ℕ) (h : sem_act e ≡ Asks t s) where
   a : IsAsked g t s past
   a = (next g rules made move).asked t s h
 
@@ -166,8 +169,8 @@ module _ (g : Group) (rules : MeetsRules g) (e : Event) (past : Past) (made : Is
 
   pcp-request : protocol g s ≡ Pcp → (p : words.PcpKept) → KeepsSet g (cluster_of g s) past p → IsPcpRequest p t (base_key g t past) s
   pcp-request q p v = record {
-    below = v.room t a.member;
-    known = v.known s a.known;
+    below = v.room s t own a.member;
+    known = v.known s own;
     idle = idle g rules e past made move (cluster_of g s) p v t s h at-home (rw q refl);
     fresh = fresh g rules e past made move (cluster_of g s) p v t s h at-home (rw q refl);
     few = omega (arith, few-of g s t past (rw q at a.unnested), fewer, length-sems (filter (λ (x : TaskSem). x.task == t) p.state.held));
@@ -176,6 +179,9 @@ module _ (g : Group) (rules : MeetsRules g) (e : Event) (past : Past) (made : Is
     apart = λ u ne m. other u (unless _ (λ n. ne (sym (eqb-true t u n)))) m;
   }
     where
+      own : IsPcpOf g (cluster_of g s) s
+      own = record { known = a.known; of_pcp = rw q refl; home_is = refl }
+
       at-home : home g t ≡ cluster_of g s
       at-home = user-home g rules s t (pcp-shares g.setup.plugin (protocol g s) (rw q refl)) a.user
 
@@ -205,22 +211,22 @@ module _ (g : Group) (rules : MeetsRules g) (e : Event) (past : Past) (made : Is
           key-of (inl n) = let r = pair-of u p.state.held n in v.keys u r.0 (rw (subst (λ (l : PcpState). has_pair u r.0 l.held ≡ true) v.state r.1) refl)
           key-of (inr n) = let r = pair-of u p.state.waiting n in v.keys u r.0 (rw (subst (λ (l : PcpState). has_pair u r.0 l.waiting ≡ true) v.state r.1) (or_true (has_pair u r.0 (pcp g (cluster_of g s) past).held)))
 
-  pub ask-fits : (p : Protocol) (x : Kept) → protocol g s ≡ p → KeepsSem g s past p x → MayAsk t (base_key g t past) s w.sets x
-  ask-fits Fmlp (ks.Fmlp l) q v = record { below = v.room t a.user; outside = rw v.line (fmlp-fresh g s t past q a) }
-  ask-fits Omlp (ks.Omlp l) q v = apart l.keys (omlp_sem_state l.state) (tells g rules past w k s t a.known a.user Omlp (ks.Omlp l) q v) v.keys v.room
-  ask-fits Mpcp (ks.Mpcp l) q v = apart l.keys l.state (tells g rules past w k s t a.known a.user Mpcp (ks.Mpcp l) q v) v.keys v.room
-  ask-fits Pcp (ks.Pcp c) q v = pcp-request q (set_at w.sets c.0) (set-here g rules past w k s t a.known a.user (rw q refl) c.0 v)
+  pub ask-fits : (p : Protocol) (x : AnySem) → protocol g s ≡ p → KeepsSem g s past p x → MayAskBy t (base_key g t past) s w.sets x
+  ask-fits Fmlp (any.Fmlp l) q v = record { below = v.room t a.user; outside = rw v.line (fmlp-fresh g s t past q a) }
+  ask-fits Omlp (any.Omlp l) q v = apart l.keys (omlp_sem_state l.state) (tells g rules past w k s t a.known a.user Omlp (any.Omlp l) q v) v.keys v.room
+  ask-fits Mpcp (any.Mpcp l) q v = apart l.keys l.state (tells g rules past w k s t a.known a.user Mpcp (any.Mpcp l) q v) v.keys v.room
+  ask-fits Pcp (any.Pcp c) q v = pcp-request q (set_at w.sets c.0) (set-here g rules past w k s t a.known a.user (rw q refl) c.0 v)
   ask-fits p x q v = absurd v
 
 pub ask_fits : AskFits
 ask_fits g e past valid made w t s h k =
     let last = last_move g made in
     let a : IsAsked g t s past = (next g (rules_of g valid) last.0 last.1).asked t s h in
-    ask-fits g (rules_of g valid) e past last.0 last.1 w k t s h (protocol g s) (kept_at w.kept s) refl (k.kept s a.known)
+    ask-fits g (rules_of g valid) e past last.0 last.1 w k t s h (protocol g s) (sem_at w.sems s) refl (k.kept s a.known)
 
 -- ---- a release
 
-module _ (g : Group) (rules : MeetsRules g) (past : Past) (w : Words) (k : KeepsSems g past w) (t s : ℕ) (owns : IsParty g t s) (held : is t (holder g s past) ≡ true) where
+module _ (g : Group) (rules : MeetsRules g) (past : Past) (w : SemTable) (k : KeepsSems g past w) (t s : ℕ) (owns : IsParty g t s) (held : is t (holder g s past) ≡ true) where
   holder-is : (l : SemState) → l ≡ sem_state g s past → l.holder ≡ Some t
   unfolding holder
   holder-is l same = ap (λ (y : SemState). y.holder) same ∙ is-some t (holder g s past) held
@@ -229,14 +235,14 @@ module _ (g : Group) (rules : MeetsRules g) (past : Past) (w : Words) (k : Keeps
   unfolding last_granted
   newest-is m p same = rw same (is-some s (last_granted g t past) m)
 
-  pub release-fits : (is_pcp (protocol g s) ≡ true → is s (last_granted g t past) ≡ true) → (p : Protocol) (x : Kept) → protocol g s ≡ p → KeepsSem g s past p x → MayRelease t s w.sets x
-  release-fits m Fmlp (ks.Fmlp l) q v = holder-is (in_line l.line) (tells g rules past w k s t owns.known owns.user Fmlp (ks.Fmlp l) q v)
-  release-fits m Omlp (ks.Omlp l) q v = holder-is (omlp_sem_state l.state) (tells g rules past w k s t owns.known owns.user Omlp (ks.Omlp l) q v)
-  release-fits m Mpcp (ks.Mpcp l) q v = holder-is l.state (tells g rules past w k s t owns.known owns.user Mpcp (ks.Mpcp l) q v)
-  release-fits m Pcp (ks.Pcp c) q v =
+  pub release-fits : (is_pcp (protocol g s) ≡ true → is s (last_granted g t past) ≡ true) → (p : Protocol) (x : AnySem) → protocol g s ≡ p → KeepsSem g s past p x → MayReleaseBy t s w.sets x
+  release-fits m Fmlp (any.Fmlp l) q v = holder-is (in_line l.line) (tells g rules past w k s t owns.known owns.user Fmlp (any.Fmlp l) q v)
+  release-fits m Omlp (any.Omlp l) q v = holder-is (omlp_sem_state l.state) (tells g rules past w k s t owns.known owns.user Omlp (any.Omlp l) q v)
+  release-fits m Mpcp (any.Mpcp l) q v = holder-is l.state (tells g rules past w k s t owns.known owns.user Mpcp (any.Mpcp l) q v)
+  release-fits m Pcp (any.Pcp c) q v =
       let set : KeepsSet g (cluster_of g s) past (set_at w.sets c.0) = set-here g rules past w k s t owns.known owns.user (rw q refl) c.0 v in
       let at-home : home g t ≡ cluster_of g s = user-home g rules s t (pcp-shares g.setup.plugin (protocol g s) (rw q refl)) owns.user in
-      record { known = set.known s owns.known; last = newest-is (m (rw q refl)) (set_at w.sets c.0) (set.state ∙ ap (λ (n : ℕ). pcp g n past) (sym at-home)) }
+      record { known = set.known s (record { known = owns.known; of_pcp = rw q refl; home_is = refl }); last = newest-is (m (rw q refl)) (set_at w.sets c.0) (set.state ∙ ap (λ (n : ℕ). pcp g n past) (sym at-home)) }
   release-fits m p x q v = absurd v
 
 newest-of : (g : Group) (past : Past) (e : Event) → IsMove g past e → (t s : ℕ) → sem_act e ≡ Frees t s → is_pcp (protocol g s) ≡ true → is s (last_granted g t past) ≡ true
@@ -248,4 +254,4 @@ release_fits g e past valid made w t s h k =
     let last = last_move g made in
     let held : is t (holder g s past) ≡ true = (next g (rules_of g valid) last.0 last.1).freed t s h in
     let owns : IsParty g t s = all_parties g (rules_of g valid) last.0 t s (holder-engaged g t s past held) in
-    release-fits g (rules_of g valid) past w k t s owns held (newest-of g past e last.1 t s h) (protocol g s) (kept_at w.kept s) refl (k.kept s owns.known)
+    release-fits g (rules_of g valid) past w k t s owns held (newest-of g past e last.1 t s h) (protocol g s) (sem_at w.sems s) refl (k.kept s owns.known)

@@ -20,10 +20,13 @@ use Rattle.rt_laws.proofs.Next.{next}
 use Rattle.rt_laws.proofs.Rules.{MeetsRules}
 use Rattle.rt_laws.proofs.ValidSets.{rules_of}
 use Rattle.rt_changes.proofs.Acting.{IsParty, all_parties}
-use Rattle.sem_table.specs.declared.kept.Kept.{Kept}
-use Rattle.sem_table.specs.declared.kept.Kept.TheVariants as ks
-use Rattle.sem_table.specs.Words.{Words, kept_at, set_at, asked, freed, set_asked, set_freed, sets_asked, sets_freed, after_ask, after_release}
-use Rattle.sem_table_laws.specs.Keeping.{KeepsSem, KeepsSems, KeepsSet, QuietKeeps, AskKeeps, ReleaseKeeps}
+use Rattle.sem_table.specs.declared.any_sem.AnySem.{AnySem}
+use Rattle.sem_table.specs.declared.any_sem.AnySem.TheVariants as any
+use Rattle.sem_table.specs.Asked.{after_ask, asked, set_asked, sets_asked}
+use Rattle.sem_table.specs.Released.{after_release, freed, set_freed, sets_freed}
+use Rattle.sem_table.specs.SemTable.{SemTable, sem_at, set_at}
+use Rattle.sem_table_laws.specs.Keeping.{AskKeeps, QuietKeeps, ReleaseKeeps}
+use Rattle.sem_table_laws.specs.KeptSems.{KeepsSem, KeepsSems, KeepsSet}
 use Rattle.sem_table_laws.proofs.Lists.{at-other, at-same, still-below}
 use Rattle.sem_table_laws.proofs.Sems.{sem-quiet, sem-asks, sem-frees}
 use Rattle.sem_table_laws.proofs.Sets.{set-quiet, set-asks, set-frees, away-ask, away-free, other-ask, other-free}
@@ -47,12 +50,12 @@ quiet-set g c x h = rw h refl
 quiet-sem : (s : ℕ) (x : SemAct) → x ≡ Neither → at_sem s x ≡ Neither
 quiet-sem s x h = rw h refl
 
-module _ (g : Group) (rules : MeetsRules g) (e : Event) (past : Past) (made : IsReachable g past) (move : IsMove g past e) (w : Words) (k : KeepsSems g past w) where
+module _ (g : Group) (rules : MeetsRules g) (e : Event) (past : Past) (made : IsReachable g past) (move : IsMove g past e) (w : SemTable) (k : KeepsSems g past w) where
   pub quiet : sem_act e ≡ Neither → KeepsSems g (e ∷ past) w
   quiet h = record {
-    kept_room = k.kept_room;
+    sem_room = k.sem_room;
     set_room = k.set_room;
-    kept = λ s there. sem-quiet g rules e past made move s (protocol g s) (kept_at w.kept s) there (quiet-sem s (sem_act e) h) (k.kept s there);
+    kept = λ s there. sem-quiet g rules e past made move s (protocol g s) (sem_at w.sems s) there (quiet-sem s (sem_act e) h) (k.kept s there);
     sets = λ c low mine. set-quiet g rules e past made move c (set_at w.sets c) (k.sets c low mine) (quiet-set g c (sem_act e) h);
   }
 
@@ -62,25 +65,25 @@ module _ (g : Group) (rules : MeetsRules g) (e : Event) (past : Past) (made : Is
 
     -- a request
     module _ (h : sem_act e ≡ Asks t s) where
-      ask-room : (x : Kept) (c : ℕ) → c < length w.sets → c < length (sets_asked t (base_key g t past) s x w.sets)
-      ask-room (ks.Fmlp l) c m = m
-      ask-room (ks.Omlp l) c m = m
-      ask-room (ks.Mpcp l) c m = m
-      ask-room (ks.Pcp d) c m = still-below w.sets d.0 c _ m
+      ask-room : (x : AnySem) (c : ℕ) → c < length w.sets → c < length (sets_asked t (base_key g t past) s x w.sets)
+      ask-room (any.Fmlp l) c m = m
+      ask-room (any.Omlp l) c m = m
+      ask-room (any.Mpcp l) c m = m
+      ask-room (any.Pcp d) c m = still-below w.sets d.0 c _ m
 
-      ask-kept : (r : ℕ) → has r (sems g) ≡ true → (b : Bool) → s == r ≡ b → KeepsSem g r (e ∷ past) (protocol g r) (kept_at (slice_set w.kept s (asked t (base_key g t past) (kept_at w.kept s))) r)
+      ask-kept : (r : ℕ) → has r (sems g) ≡ true → (b : Bool) → s == r ≡ b → KeepsSem g r (e ∷ past) (protocol g r) (sem_at (slice_set w.sems s (asked t (base_key g t past) (sem_at w.sems s))) r)
       ask-kept r there true m =
-          let here : KeepsSem g s (e ∷ past) (protocol g s) (asked t (base_key g t past) (kept_at w.kept s)) = sem-asks g rules e past made move t s h (protocol g s) (kept_at w.kept s) refl (k.kept s known) in
-          subst (λ (n : ℕ). KeepsSem g n (e ∷ past) (protocol g n) (kept_at (slice_set w.kept s (asked t (base_key g t past) (kept_at w.kept s))) n)) (eqb-true s r m) (subst (λ (x : Kept). KeepsSem g s (e ∷ past) (protocol g s) x) (sym (at-same w.kept s s (asked t (base_key g t past) (kept_at w.kept s)) _ (equal_self s) (k.kept_room s known))) here)
+          let here : KeepsSem g s (e ∷ past) (protocol g s) (asked t (base_key g t past) (sem_at w.sems s)) = sem-asks g rules e past made move t s h (protocol g s) (sem_at w.sems s) refl (k.kept s known) in
+          subst (λ (n : ℕ). KeepsSem g n (e ∷ past) (protocol g n) (sem_at (slice_set w.sems s (asked t (base_key g t past) (sem_at w.sems s))) n)) (eqb-true s r m) (subst (λ (x : AnySem). KeepsSem g s (e ∷ past) (protocol g s) x) (sym (at-same w.sems s s (asked t (base_key g t past) (sem_at w.sems s)) _ (equal_self s) (k.sem_room s known))) here)
       ask-kept r there false m =
           let quiet_here : at_sem r (sem_act e) ≡ Neither = rw h (sem-away-ask r t s m) in
-          subst (λ (x : Kept). KeepsSem g r (e ∷ past) (protocol g r) x) (sym (at-other w.kept s r (asked t (base_key g t past) (kept_at w.kept s)) _ m)) (sem-quiet g rules e past made move r (protocol g r) (kept_at w.kept r) there quiet_here (k.kept r there))
+          subst (λ (x : AnySem). KeepsSem g r (e ∷ past) (protocol g r) x) (sym (at-other w.sems s r (asked t (base_key g t past) (sem_at w.sems s)) _ m)) (sem-quiet g rules e past made move r (protocol g r) (sem_at w.sems r) there quiet_here (k.kept r there))
 
-      ask-sets : (p : Protocol) (x : Kept) → protocol g s ≡ p → KeepsSem g s past p x → (c : ℕ) → c < length g.setup.clusters → in_group g c ≡ true → KeepsSet g c (e ∷ past) (set_at (sets_asked t (base_key g t past) s x w.sets) c)
-      ask-sets Fmlp (ks.Fmlp l) q v c low mine = set-quiet g rules e past made move c (set_at w.sets c) (k.sets c low mine) (rw h (other-ask g c t s (rw q refl)))
-      ask-sets Omlp (ks.Omlp l) q v c low mine = set-quiet g rules e past made move c (set_at w.sets c) (k.sets c low mine) (rw h (other-ask g c t s (rw q refl)))
-      ask-sets Mpcp (ks.Mpcp l) q v c low mine = set-quiet g rules e past made move c (set_at w.sets c) (k.sets c low mine) (rw h (other-ask g c t s (rw q refl)))
-      ask-sets Pcp (ks.Pcp d) q v c low mine = by_case (d.0 == c) refl
+      ask-sets : (p : Protocol) (x : AnySem) → protocol g s ≡ p → KeepsSem g s past p x → (c : ℕ) → c < length g.setup.clusters → in_group g c ≡ true → KeepsSet g c (e ∷ past) (set_at (sets_asked t (base_key g t past) s x w.sets) c)
+      ask-sets Fmlp (any.Fmlp l) q v c low mine = set-quiet g rules e past made move c (set_at w.sets c) (k.sets c low mine) (rw h (other-ask g c t s (rw q refl)))
+      ask-sets Omlp (any.Omlp l) q v c low mine = set-quiet g rules e past made move c (set_at w.sets c) (k.sets c low mine) (rw h (other-ask g c t s (rw q refl)))
+      ask-sets Mpcp (any.Mpcp l) q v c low mine = set-quiet g rules e past made move c (set_at w.sets c) (k.sets c low mine) (rw h (other-ask g c t s (rw q refl)))
+      ask-sets Pcp (any.Pcp d) q v c low mine = by_case (d.0 == c) refl
         where
           home_is : home g t ≡ d.0
           home_is = at_home (rw q refl) ∙ sym v
@@ -97,33 +100,33 @@ module _ (g : Group) (rules : MeetsRules g) (e : Event) (past : Past) (made : Is
 
       pub ask : KeepsSems g (e ∷ past) (after_ask t (base_key g t past) s w)
       ask = record {
-        kept_room = λ r there. still-below w.kept s r _ (k.kept_room r there);
-        set_room = λ c low. ask-room (kept_at w.kept s) c (k.set_room c low);
+        sem_room = λ r there. still-below w.sems s r _ (k.sem_room r there);
+        set_room = λ c low. ask-room (sem_at w.sems s) c (k.set_room c low);
         kept = λ r there. ask-kept r there (s == r) refl;
-        sets = λ c low mine. ask-sets (protocol g s) (kept_at w.kept s) refl (k.kept s known) c low mine;
+        sets = λ c low mine. ask-sets (protocol g s) (sem_at w.sems s) refl (k.kept s known) c low mine;
       }
 
     -- a release
     module _ (h : sem_act e ≡ Frees t s) where
-      free-room : (x : Kept) (c : ℕ) → c < length w.sets → c < length (sets_freed t s x w.sets)
-      free-room (ks.Fmlp l) c m = m
-      free-room (ks.Omlp l) c m = m
-      free-room (ks.Mpcp l) c m = m
-      free-room (ks.Pcp d) c m = still-below w.sets d.0 c _ m
+      free-room : (x : AnySem) (c : ℕ) → c < length w.sets → c < length (sets_freed t s x w.sets)
+      free-room (any.Fmlp l) c m = m
+      free-room (any.Omlp l) c m = m
+      free-room (any.Mpcp l) c m = m
+      free-room (any.Pcp d) c m = still-below w.sets d.0 c _ m
 
-      free-kept : (r : ℕ) → has r (sems g) ≡ true → (b : Bool) → s == r ≡ b → KeepsSem g r (e ∷ past) (protocol g r) (kept_at (slice_set w.kept s (freed t (kept_at w.kept s))) r)
+      free-kept : (r : ℕ) → has r (sems g) ≡ true → (b : Bool) → s == r ≡ b → KeepsSem g r (e ∷ past) (protocol g r) (sem_at (slice_set w.sems s (freed t (sem_at w.sems s))) r)
       free-kept r there true m =
-          let here : KeepsSem g s (e ∷ past) (protocol g s) (freed t (kept_at w.kept s)) = sem-frees g rules e past made move t s known h (protocol g s) (kept_at w.kept s) refl (k.kept s known) in
-          subst (λ (n : ℕ). KeepsSem g n (e ∷ past) (protocol g n) (kept_at (slice_set w.kept s (freed t (kept_at w.kept s))) n)) (eqb-true s r m) (subst (λ (x : Kept). KeepsSem g s (e ∷ past) (protocol g s) x) (sym (at-same w.kept s s (freed t (kept_at w.kept s)) _ (equal_self s) (k.kept_room s known))) here)
+          let here : KeepsSem g s (e ∷ past) (protocol g s) (freed t (sem_at w.sems s)) = sem-frees g rules e past made move t s known h (protocol g s) (sem_at w.sems s) refl (k.kept s known) in
+          subst (λ (n : ℕ). KeepsSem g n (e ∷ past) (protocol g n) (sem_at (slice_set w.sems s (freed t (sem_at w.sems s))) n)) (eqb-true s r m) (subst (λ (x : AnySem). KeepsSem g s (e ∷ past) (protocol g s) x) (sym (at-same w.sems s s (freed t (sem_at w.sems s)) _ (equal_self s) (k.sem_room s known))) here)
       free-kept r there false m =
           let quiet_here : at_sem r (sem_act e) ≡ Neither = rw h (sem-away-free r t s m) in
-          subst (λ (x : Kept). KeepsSem g r (e ∷ past) (protocol g r) x) (sym (at-other w.kept s r (freed t (kept_at w.kept s)) _ m)) (sem-quiet g rules e past made move r (protocol g r) (kept_at w.kept r) there quiet_here (k.kept r there))
+          subst (λ (x : AnySem). KeepsSem g r (e ∷ past) (protocol g r) x) (sym (at-other w.sems s r (freed t (sem_at w.sems s)) _ m)) (sem-quiet g rules e past made move r (protocol g r) (sem_at w.sems r) there quiet_here (k.kept r there))
 
-      free-sets : (p : Protocol) (x : Kept) → protocol g s ≡ p → KeepsSem g s past p x → (c : ℕ) → c < length g.setup.clusters → in_group g c ≡ true → KeepsSet g c (e ∷ past) (set_at (sets_freed t s x w.sets) c)
-      free-sets Fmlp (ks.Fmlp l) q v c low mine = set-quiet g rules e past made move c (set_at w.sets c) (k.sets c low mine) (rw h (other-free g c t s (rw q refl)))
-      free-sets Omlp (ks.Omlp l) q v c low mine = set-quiet g rules e past made move c (set_at w.sets c) (k.sets c low mine) (rw h (other-free g c t s (rw q refl)))
-      free-sets Mpcp (ks.Mpcp l) q v c low mine = set-quiet g rules e past made move c (set_at w.sets c) (k.sets c low mine) (rw h (other-free g c t s (rw q refl)))
-      free-sets Pcp (ks.Pcp d) q v c low mine = by_case (d.0 == c) refl
+      free-sets : (p : Protocol) (x : AnySem) → protocol g s ≡ p → KeepsSem g s past p x → (c : ℕ) → c < length g.setup.clusters → in_group g c ≡ true → KeepsSet g c (e ∷ past) (set_at (sets_freed t s x w.sets) c)
+      free-sets Fmlp (any.Fmlp l) q v c low mine = set-quiet g rules e past made move c (set_at w.sets c) (k.sets c low mine) (rw h (other-free g c t s (rw q refl)))
+      free-sets Omlp (any.Omlp l) q v c low mine = set-quiet g rules e past made move c (set_at w.sets c) (k.sets c low mine) (rw h (other-free g c t s (rw q refl)))
+      free-sets Mpcp (any.Mpcp l) q v c low mine = set-quiet g rules e past made move c (set_at w.sets c) (k.sets c low mine) (rw h (other-free g c t s (rw q refl)))
+      free-sets Pcp (any.Pcp d) q v c low mine = by_case (d.0 == c) refl
         where
           home_is : home g t ≡ d.0
           home_is = at_home (rw q refl) ∙ sym v
@@ -140,10 +143,10 @@ module _ (g : Group) (rules : MeetsRules g) (e : Event) (past : Past) (made : Is
 
       pub release : KeepsSems g (e ∷ past) (after_release t s w)
       release = record {
-        kept_room = λ r there. still-below w.kept s r _ (k.kept_room r there);
-        set_room = λ c low. free-room (kept_at w.kept s) c (k.set_room c low);
+        sem_room = λ r there. still-below w.sems s r _ (k.sem_room r there);
+        set_room = λ c low. free-room (sem_at w.sems s) c (k.set_room c low);
         kept = λ r there. free-kept r there (s == r) refl;
-        sets = λ c low mine. free-sets (protocol g s) (kept_at w.kept s) refl (k.kept s known) c low mine;
+        sets = λ c low mine. free-sets (protocol g s) (sem_at w.sems s) refl (k.kept s known) c low mine;
       }
 
 pub quiet_keeps : QuietKeeps

@@ -34,13 +34,18 @@ use Rattle.rt_changes.specs.SemChanges.{LeavesSems}
 use Rattle.rt_changes.proofs.Apart.{asks-holds_not}
 use Rattle.rt_changes.proofs.HoldChanges.{lock_grants, lock_queues}
 use Rattle.rt_changes.proofs.SemChanges.{quiet_move_leaves_sems}
-use Rattle.sem_table.specs.declared.kept.Kept.{Kept}
-use Rattle.sem_table.specs.declared.kept.Kept.TheVariants as ks
-use Rattle.sem_table.specs.declared.kept.Row.{Row}
+use Rattle.sem_table.specs.declared.any_sem.AnySem.{AnySem}
+use Rattle.sem_table.specs.declared.any_sem.AnySem.TheVariants as any
+use Rattle.sem_table.specs.declared.row.Row.{Row}
 use Rattle.sem_table.specs.Opened.{new_row}
-use Rattle.sem_table.specs.Words as words
-use Rattle.sem_table.specs.Words.{Words, kept_at, row_at, set_at, row_asked, after_ask, is_free, one_more, no_row, state_by}
-use Rattle.sem_table_laws.specs.Keeping.{KeepsRow, KeepsSem, KeepsSems, NewRows, QuietRows, AskRows, GrantsAsRules}
+use Rattle.sem_table.specs.Asked as asks
+use Rattle.sem_table.specs.Asked.{after_ask, is_free, one_more, row_asked}
+use Rattle.sem_table.specs.SemTable.{SemTable, no_row, row_at, sem_at, set_at}
+use Rattle.sem_table.specs.Told.{state_by}
+use Rattle.sem_table_laws.specs.Keeping.{AskRows, NewRows, QuietRows}
+use Rattle.sem_table_laws.specs.KeptRows.{KeepsRow, KeepsRows}
+use Rattle.sem_table_laws.specs.KeptSems.{KeepsSem, KeepsSems}
+use Rattle.sem_table_laws.specs.Telling.{GrantsAsRules}
 use Rattle.sem_table_laws.proofs.Conditions.{set-here, tells}
 use Rattle.sem_table_laws.proofs.Lists.{at-other, at-same, still-below}
 use Rattle.sem_table_laws.proofs.Opening.{between}
@@ -84,16 +89,16 @@ free-none : (o : Option ℕ) → is_free o ≡ is_none o
 free-none None = refl
 free-none (Some t) = refl
 
-module _ (g : Group) (rules : MeetsRules g) (e : Event) (past : Past) (made : IsReachable g past) (move : IsMove g past e) (w : Words) (k : KeepsSems g past w) (t s : ℕ) (h : sem_act e ≡ Asks t s) where
+module _ (g : Group) (rules : MeetsRules g) (e : Event) (past : Past) (made : IsReachable g past) (move : IsMove g past e) (w : SemTable) (k : KeepsSems g past w) (t s : ℕ) (h : sem_act e ≡ Asks t s) where
   a : IsAsked g t s past
   a = (next g rules made move).asked t s h
 
-  granted-is : (p : Protocol) (x : Kept) → protocol g s ≡ p → KeepsSem g s past p x → words.is_granted t (base_key g t past) w.sets x ≡ is_granted g p s t past
+  granted-is : (p : Protocol) (x : AnySem) → protocol g s ≡ p → KeepsSem g s past p x → asks.is_granted_by t (base_key g t past) w.sets x ≡ is_granted g p s t past
   unfolding is_granted holder
-  granted-is Fmlp (ks.Fmlp l) q v = free-none _ ∙ ap (λ y. is_none y.holder) (tells g rules past w k s t a.known a.user Fmlp (ks.Fmlp l) q v)
-  granted-is Omlp (ks.Omlp l) q v = free-none _ ∙ ap (λ y. is_none y.holder) (tells g rules past w k s t a.known a.user Omlp (ks.Omlp l) q v)
-  granted-is Mpcp (ks.Mpcp l) q v = free-none _ ∙ ap (λ y. is_none y.holder) (tells g rules past w k s t a.known a.user Mpcp (ks.Mpcp l) q v)
-  granted-is Pcp (ks.Pcp c) q v =
+  granted-is Fmlp (any.Fmlp l) q v = free-none _ ∙ ap (λ y. is_none y.holder) (tells g rules past w k s t a.known a.user Fmlp (any.Fmlp l) q v)
+  granted-is Omlp (any.Omlp l) q v = free-none _ ∙ ap (λ y. is_none y.holder) (tells g rules past w k s t a.known a.user Omlp (any.Omlp l) q v)
+  granted-is Mpcp (any.Mpcp l) q v = free-none _ ∙ ap (λ y. is_none y.holder) (tells g rules past w k s t a.known a.user Mpcp (any.Mpcp l) q v)
+  granted-is Pcp (any.Pcp c) q v =
       let at-home : home g t ≡ cluster_of g s = user-home g rules s t (pcp-shares g.setup.plugin (protocol g s) (rw q refl)) a.user in
       rw at-home (passes-as-rules g rules e past made move (cluster_of g s) (set_at w.sets c.0) (set-here g rules past w k s t a.known a.user (rw q refl) c.0 v) t s h at-home (rw q refl))
   granted-is p x q v = absurd v
@@ -102,7 +107,7 @@ pub grants_as_rules : GrantsAsRules
 grants_as_rules g e past valid made w t s h k =
     let last = last_move g made in
     let a : IsAsked g t s past = (next g (rules_of g valid) last.0 last.1).asked t s h in
-    granted-is g (rules_of g valid) e past last.0 last.1 w k t s h (protocol g s) (kept_at w.kept s) refl (k.kept s a.known)
+    granted-is g (rules_of g valid) e past last.0 last.1 w k t s h (protocol g s) (sem_at w.sems s) refl (k.kept s a.known)
 
 -- ---- rows
 
@@ -127,7 +132,7 @@ ask_rows g e past valid made w t s h sems_kept k = record {
     a : IsAsked g t s past
     a = (next g (rules_of g valid) last.0 last.1).asked t s h
 
-    granted : words.is_granted t (base_key g t past) w.sets (kept_at w.kept s) ≡ is_granted g (protocol g s) s t past
+    granted : asks.is_granted t (base_key g t past) s w ≡ is_granted g (protocol g s) s t past
     granted = grants_as_rules g e past valid made w t s h sems_kept
 
     waited-none : awaits g t past ≡ None
@@ -155,12 +160,12 @@ ask_rows g e past valid made w t s h sems_kept k = record {
     other u ne true m r = let q : KeepsHolds g u e past = (lock_grants g e past valid made t s h m).others u ne in keeps-row g u e past (row_at w.rows u) q.awaited q.held r
     other u ne false m r = let q : IsQueueing g t s e past = lock_queues g e past valid made t s h m in keeps-row g u e past (row_at w.rows u) (q.others u ne) (q.held u) r
 
-    by_task : (u : ℕ) → has u (tasks g) ≡ true → (b : Bool) → t == u ≡ b → KeepsRow g u (e ∷ past) (row_at (slice_set w.rows t (row_asked (words.is_granted t (base_key g t past) w.sets (kept_at w.kept s)) s (row_at w.rows t))) u)
+    by_task : (u : ℕ) → has u (tasks g) ≡ true → (b : Bool) → t == u ≡ b → KeepsRow g u (e ∷ past) (row_at (slice_set w.rows t (row_asked (asks.is_granted t (base_key g t past) s w) s (row_at w.rows t))) u)
     by_task u there true m =
-        let new : Row = row_asked (words.is_granted t (base_key g t past) w.sets (kept_at w.kept s)) s (row_at w.rows t) in
-        let here : KeepsRow g t (e ∷ past) (row_asked (words.is_granted t (base_key g t past) w.sets (kept_at w.kept s)) s (row_at w.rows t)) = rw granted (own (is_granted g (protocol g s) s t past) refl) in
-        rw (at-same w.rows t u (row_asked (words.is_granted t (base_key g t past) w.sets (kept_at w.kept s)) s (row_at w.rows t)) no_row m (k.row_room t a.member)) (subst (λ (n : ℕ). KeepsRow g n (e ∷ past) (row_asked (words.is_granted t (base_key g t past) w.sets (kept_at w.kept s)) s (row_at w.rows t))) (eqb-true t u m) here)
-    by_task u there false m = rw (at-other w.rows t u (row_asked (words.is_granted t (base_key g t past) w.sets (kept_at w.kept s)) s (row_at w.rows t)) no_row m) (other u (turn u m) (is_granted g (protocol g s) s t past) refl (k.rows u there))
+        let new : Row = row_asked (asks.is_granted t (base_key g t past) s w) s (row_at w.rows t) in
+        let here : KeepsRow g t (e ∷ past) (row_asked (asks.is_granted t (base_key g t past) s w) s (row_at w.rows t)) = rw granted (own (is_granted g (protocol g s) s t past) refl) in
+        rw (at-same w.rows t u (row_asked (asks.is_granted t (base_key g t past) s w) s (row_at w.rows t)) no_row m (k.row_room t a.member)) (subst (λ (n : ℕ). KeepsRow g n (e ∷ past) (row_asked (asks.is_granted t (base_key g t past) s w) s (row_at w.rows t))) (eqb-true t u m) here)
+    by_task u there false m = rw (at-other w.rows t u (row_asked (asks.is_granted t (base_key g t past) s w) s (row_at w.rows t)) no_row m) (other u (turn u m) (is_granted g (protocol g s) s t past) refl (k.rows u there))
       where
         turn : (v : ℕ) → t == v ≡ false → v == t ≡ false
         turn v n = unless _ (λ z. let same : v ≡ t = eqb-true v t z in clash _ (equal_self t) (rw same at n))

@@ -29,10 +29,11 @@ use Rattle.rt_laws.proofs.OmlpState.{omlp-sem_state}
 use Rattle.rt_laws.proofs.Rules.{MeetsRules}
 use Rattle.rt_laws.proofs.Waiting.{waiting-step}
 use Rattle.sem_laws.specs.KeptKeys as kept
-use Rattle.sem_table.specs.declared.kept.Kept.{Kept}
-use Rattle.sem_table.specs.declared.kept.Kept.TheVariants as ks
-use Rattle.sem_table.specs.Words.{asked, freed}
-use Rattle.sem_table_laws.specs.Keeping.{HasRoom, KeepsKeys, KeepsSem}
+use Rattle.sem_table.specs.declared.any_sem.AnySem.{AnySem}
+use Rattle.sem_table.specs.declared.any_sem.AnySem.TheVariants as any
+use Rattle.sem_table.specs.Asked.{asked}
+use Rattle.sem_table.specs.Released.{freed}
+use Rattle.sem_table_laws.specs.KeptSems.{HasRoom, KeepsKeys, KeepsSem}
 use Rattle.sem_table_laws.proofs.Agree.{foremost-same}
 use Rattle.sem_table_laws.proofs.Lists.{at-other, at-same, still-below}
 
@@ -72,11 +73,11 @@ module _ (g : Group) (rules : MeetsRules g) (e : Event) (past : Past) (made : Is
   no_ask s u h k = let m : at_sem s (Asks u s) ≡ Neither = rw k at h in let n : Asks u s ≡ Neither = sym (at_sem-ask s u) ∙ m in cc
 
   -- a move that does nothing at a semaphore
-  pub sem-quiet : (s : ℕ) (p : Protocol) (k : Kept) → has s (sems g) ≡ true → at_sem s (sem_act e) ≡ Neither → KeepsSem g s past p k → KeepsSem g s (e ∷ past) p k
-  sem-quiet s Fmlp (ks.Fmlp l) there h w = record { line = w.line ∙ sym (fmlp-step g s e past ∙ rw h refl); room = w.room }
-  sem-quiet s Omlp (ks.Omlp k) there h w = record { state = w.state ∙ sym (omlp-is s Neither h); cap = w.cap; room = w.room; keys = keys-step s k.keys k.keys there w.keys (λ u m. refl) (λ u m. absurd (no_ask s u h m)) }
-  sem-quiet s Mpcp (ks.Mpcp k) there h w = record { state = w.state ∙ sym (mpcp-after s Neither h); room = w.room; keys = keys-step s k.keys k.keys there w.keys (λ u m. refl) (λ u m. absurd (no_ask s u h m)) }
-  sem-quiet s Pcp (ks.Pcp c) there h w = w
+  pub sem-quiet : (s : ℕ) (p : Protocol) (k : AnySem) → has s (sems g) ≡ true → at_sem s (sem_act e) ≡ Neither → KeepsSem g s past p k → KeepsSem g s (e ∷ past) p k
+  sem-quiet s Fmlp (any.Fmlp l) there h w = record { line = w.line ∙ sym (fmlp-step g s e past ∙ rw h refl); room = w.room }
+  sem-quiet s Omlp (any.Omlp k) there h w = record { state = w.state ∙ sym (omlp-is s Neither h); cap = w.cap; room = w.room; keys = keys-step s k.keys k.keys there w.keys (λ u m. refl) (λ u m. absurd (no_ask s u h m)) }
+  sem-quiet s Mpcp (any.Mpcp k) there h w = record { state = w.state ∙ sym (mpcp-after s Neither h); room = w.room; keys = keys-step s k.keys k.keys there w.keys (λ u m. refl) (λ u m. absurd (no_ask s u h m)) }
+  sem-quiet s Pcp (any.Pcp c) there h w = w
   sem-quiet s p k there h w = absurd w
 
   -- a request
@@ -96,20 +97,20 @@ module _ (g : Group) (rules : MeetsRules g) (e : Event) (past : Past) (made : Is
     asked-room : (keys : List Key) (key : Key) → HasRoom g s (length keys) → HasRoom g s (length (slice_set keys t key))
     asked-room keys key room u m = still-below keys t u key (room u m)
 
-    pub sem-asks : (p : Protocol) (k : Kept) → protocol g s ≡ p → KeepsSem g s past p k → KeepsSem g s (e ∷ past) p (asked t (base_key g t past) k)
-    sem-asks Fmlp (ks.Fmlp l) q w = record { line = rw w.line (sym (fmlp-step g s e past ∙ rw here refl)); room = w.room }
-    sem-asks Omlp (ks.Omlp k) q w = record {
+    pub sem-asks : (p : Protocol) (k : AnySem) → protocol g s ≡ p → KeepsSem g s past p k → KeepsSem g s (e ∷ past) p (asked t (base_key g t past) k)
+    sem-asks Fmlp (any.Fmlp l) q w = record { line = rw w.line (sym (fmlp-step g s e past ∙ rw here refl)); room = w.room }
+    sem-asks Omlp (any.Omlp k) q w = record {
       state = ap (λ (l : OmlpState). omlp_after k.cap (kept.above k.keys) (Asks t 0) l) w.state ∙ ap (λ (m : ℕ). omlp_after m (kept.above k.keys) (Asks t 0) (omlp g s past)) w.cap ∙ sym (omlp-is s (Asks t s) here);
       cap = w.cap;
       room = asked-room k.keys (base_key g t past) w.room;
       keys = asked-keys k.keys w.keys w.room;
     }
-    sem-asks Mpcp (ks.Mpcp k) q w = record {
+    sem-asks Mpcp (any.Mpcp k) q w = record {
       state = ap (λ (l : SemState). mpcp_after (kept.above k.keys) (Asks t 0) l) w.state ∙ sym (mpcp-after s (Asks t s) here);
       room = asked-room k.keys (base_key g t past) w.room;
       keys = asked-keys k.keys w.keys w.room;
     }
-    sem-asks Pcp (ks.Pcp c) q w = w
+    sem-asks Pcp (any.Pcp c) q w = w
     sem-asks p k q w = absurd w
 
   -- a release
@@ -126,18 +127,18 @@ module _ (g : Group) (rules : MeetsRules g) (e : Event) (past : Past) (made : Is
     mpcp-order : (p : protocol g s ≡ Mpcp) (keys : List Key) → KeepsKeys g s past keys → foremost (kept.above keys) (mpcp g s past).waiting ≡ foremost (above g past) (mpcp g s past).waiting
     mpcp-order p keys w = order-same g past keys (mpcp g s past).waiting (λ u m. w u (rw (mpcp-is g s past p) m))
 
-    pub sem-frees : (p : Protocol) (k : Kept) → protocol g s ≡ p → KeepsSem g s past p k → KeepsSem g s (e ∷ past) p (freed t k)
-    sem-frees Fmlp (ks.Fmlp l) q w = record { line = rw w.line (sym (fmlp-step g s e past ∙ rw here_free refl)); room = w.room }
-    sem-frees Omlp (ks.Omlp k) q w = record {
+    pub sem-frees : (p : Protocol) (k : AnySem) → protocol g s ≡ p → KeepsSem g s past p k → KeepsSem g s (e ∷ past) p (freed t k)
+    sem-frees Fmlp (any.Fmlp l) q w = record { line = rw w.line (sym (fmlp-step g s e past ∙ rw here_free refl)); room = w.room }
+    sem-frees Omlp (any.Omlp k) q w = record {
       state = ap (λ (l : OmlpState). omlp_after k.cap (kept.above k.keys) (Frees t 0) l) w.state ∙ ap (λ o. handed_over o (record (omlp g s past) { fifo = rest (omlp g s past).fifo })) (omlp-order q k.keys w.keys) ∙ sym (omlp-is s (Frees t s) here_free);
       cap = w.cap;
       room = w.room;
       keys = freed-keys k.keys w.keys;
     }
-    sem-frees Mpcp (ks.Mpcp k) q w = record {
+    sem-frees Mpcp (any.Mpcp k) q w = record {
       state = ap (λ (l : SemState). mpcp_after (kept.above k.keys) (Frees t 0) l) w.state ∙ ap (λ o. passed_on o (mpcp g s past).waiting) (mpcp-order q k.keys w.keys) ∙ sym (mpcp-after s (Frees t s) here_free);
       room = w.room;
       keys = freed-keys k.keys w.keys;
     }
-    sem-frees Pcp (ks.Pcp c) q w = w
+    sem-frees Pcp (any.Pcp c) q w = w
     sem-frees p k q w = absurd w

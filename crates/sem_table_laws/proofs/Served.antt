@@ -34,11 +34,15 @@ use Rattle.rt_changes.proofs.Left.{holder-left}
 use Rattle.rt_changes.proofs.PcpForms.{IsFreed, freed-form, freed_state}
 use Rattle.rt_changes.proofs.SemChanges.{left}
 use Rattle.pcp_sem.specs.Pairs.{has_pair}
-use Rattle.sem_table.specs.declared.kept.Kept.{Kept}
-use Rattle.sem_table.specs.declared.kept.Kept.TheVariants as ks
-use Rattle.sem_table.specs.declared.kept.Row.{Row}
-use Rattle.sem_table.specs.Words.{Words, kept_at, row_at, set_at, no_row, freed, newcomer, served_by, pcp_freed, row_freed, row_served, rows_served, after_release}
-use Rattle.sem_table_laws.specs.Keeping.{KeepsRow, KeepsRows, KeepsSem, KeepsSems, KeepsSet, ReleaseRows}
+use Rattle.sem_table.specs.declared.any_sem.AnySem.{AnySem}
+use Rattle.sem_table.specs.declared.any_sem.AnySem.TheVariants as any
+use Rattle.sem_table.specs.declared.row.Row.{Row}
+use Rattle.sem_table.specs.Released.{after_release, freed, newcomer, pcp_freed, row_freed, row_served, rows_served, served_by}
+use Rattle.sem_table.specs.SemTable.{SemTable, no_row, row_at, sem_at, set_at}
+use Rattle.sem_table_laws.specs.Keeping.{ReleaseRows}
+use Rattle.sem_table_laws.specs.KeptRows.{KeepsRow, KeepsRows}
+use Rattle.sem_table_laws.specs.KeptSems.{KeepsSem, KeepsSems, KeepsSet}
+use Rattle.sem_table_laws.specs.Telling.{IsServedBy, TellsServed}
 use Rattle.sem_table_laws.proofs.Conditions.{set-here, tells}
 use Rattle.sem_table_laws.proofs.Keeps as keeps
 use Rattle.sem_table_laws.proofs.Lists.{at-other, at-same, still-below}
@@ -58,12 +62,7 @@ no-newcomer ps qs e = rw (e, lt-itself (length ps)) refl
 one-newcomer : (p : TaskSem) (ps qs : List TaskSem) → qs ≡ p ∷ ps → newcomer ps qs ≡ Some p.task
 one-newcomer p ps qs e = rw (e, lt-next (length ps) (length (p ∷ ps)) (omega arith)) refl
 
--- the task that a release serves, if any
-record Serves (g : Group) (e : Event) (past : Past) (o : Option ℕ) : Type 0 where
-  gives : (u : ℕ) → o ≡ Some u → (r : ℕ) × IsServed g u r e past
-  takes : (u r : ℕ) → IsServed g u r e past → o ≡ Some u
-
-module _ (g : Group) (rules : MeetsRules g) (e : Event) (past : Past) (made : IsReachable g past) (move : IsMove g past e) (w : Words) (k : KeepsSems g past w) (t s : ℕ) (h : sem_act e ≡ Frees t s) where
+module _ (g : Group) (rules : MeetsRules g) (e : Event) (past : Past) (made : IsReachable g past) (move : IsMove g past e) (w : SemTable) (k : KeepsSems g past w) (t s : ℕ) (h : sem_act e ≡ Frees t s) where
   held : is t (holder g s past) ≡ true
   held = (next g rules made move).freed t s h
 
@@ -81,13 +80,13 @@ module _ (g : Group) (rules : MeetsRules g) (e : Event) (past : Past) (made : Is
 
   -- ---- FMLP, OMLP and MPCP
 
-  plain : is_pcp (protocol g s) ≡ false → (o : Option ℕ) → o ≡ holder g s (e ∷ past) → Serves g e past o
+  plain : is_pcp (protocol g s) ≡ false → (o : Option ℕ) → o ≡ holder g s (e ∷ past) → IsServedBy g e past o
   plain n o same = record {
     gives = λ u m. (s, q.new_holder u s owns.known (unless _ (λ z. let equal : u ≡ t = is_one u t (holder g s past) z held in clash _ (subst (λ (v : ℕ). is v (holder g s (e ∷ past)) ≡ true) equal (some-is u (holder g s (e ∷ past)) (sym same ∙ m))) q.freed)) (some-is u (holder g s (e ∷ past)) (sym same ∙ m)));
     takes = λ u r v. same ∙ subst (λ (x : ℕ). holder g x (e ∷ past) ≡ Some u) (q.at_own u r v n) v.holder_is;
   }
 
-  holder-after : (p : Protocol) (x : Kept) → protocol g s ≡ p → KeepsSem g s past p x → (o : Option ℕ) → ((l : SemState) → l ≡ sem_state g s (e ∷ past) → o ≡ l.holder → o ≡ holder g s (e ∷ past))
+  holder-after : (p : Protocol) (x : AnySem) → protocol g s ≡ p → KeepsSem g s past p x → (o : Option ℕ) → ((l : SemState) → l ≡ sem_state g s (e ∷ past) → o ≡ l.holder → o ≡ holder g s (e ∷ past))
   unfolding holder
   holder-after p x m v o l same z = z ∙ ap (λ (y : SemState). y.holder) same
 
@@ -133,10 +132,10 @@ module _ (g : Group) (rules : MeetsRules g) (e : Event) (past : Past) (made : Is
       holds-it : is p.task (holder g p.sem (e ∷ past)) ≡ true
       holds-it = rw (pcp-holder g p.sem (e ∷ past) user.of_pcp) (pcp-first g (cluster_of g p.sem) p.task p.sem (pcp g (cluster_of g p.sem) (e ∷ past)) (pcp_kept g rules (cluster_of g p.sem) made_after) (subst (λ (n : ℕ). has_pair p.task p.sem (pcp g n (e ∷ past)).held ≡ true) (sym c) there))
 
-  pcp-serves : is_pcp (protocol g s) ≡ true → (o : Option ℕ) → o ≡ newcomer (without_pair (record { task = t; sem = s }) (pcp g (cluster_of g s) past).held) (pcp g (cluster_of g s) (e ∷ past)).held → Serves g e past o
+  pcp-serves : is_pcp (protocol g s) ≡ true → (o : Option ℕ) → o ≡ newcomer (without_pair (record { task = t; sem = s }) (pcp g (cluster_of g s) past).held) (pcp g (cluster_of g s) (e ∷ past)).held → IsServedBy g e past o
   pcp-serves n o same = by_form (freed-form g rules t s e past made owns n h)
     where
-      by_form : IsFreed t s (pcp g (cluster_of g s) past) (pcp g (cluster_of g s) (e ∷ past)) → Serves g e past o
+      by_form : IsFreed t s (pcp g (cluster_of g s) past) (pcp g (cluster_of g s) (e ∷ past)) → IsServedBy g e past o
       by_form (inl f) = record {
         gives = λ u m. let none : o ≡ None = same ∙ no-newcomer _ _ (ap (λ (l : PcpState). l.held) f) in absurd cc;
         takes = λ u r v. absurd (serves-none n f u r v);
@@ -149,11 +148,11 @@ module _ (g : Group) (rules : MeetsRules g) (e : Event) (past : Past) (made : Is
             takes = λ u r v. one ∙ ap {B = Option ℕ} (λ (x : ℕ). Some x) (q.one p.0.task u p.0.sem r served v);
           }
 
-  serves : (p : Protocol) (x : Kept) → protocol g s ≡ p → KeepsSem g s past p x → Serves g e past (served_by t s w.sets x)
-  serves Fmlp (ks.Fmlp l) m v = plain (rw m refl) _ (holder-after Fmlp (ks.Fmlp l) m v _ _ (tells g rules (e ∷ past) (after_release t s w) after s t owns.known owns.user Fmlp (freed t (ks.Fmlp l)) m (sem-frees g rules e past made move t s owns.known h Fmlp (ks.Fmlp l) m v)) refl)
-  serves Omlp (ks.Omlp l) m v = plain (rw m refl) _ (holder-after Omlp (ks.Omlp l) m v _ _ (tells g rules (e ∷ past) (after_release t s w) after s t owns.known owns.user Omlp (freed t (ks.Omlp l)) m (sem-frees g rules e past made move t s owns.known h Omlp (ks.Omlp l) m v)) refl)
-  serves Mpcp (ks.Mpcp l) m v = plain (rw m refl) _ (holder-after Mpcp (ks.Mpcp l) m v _ _ (tells g rules (e ∷ past) (after_release t s w) after s t owns.known owns.user Mpcp (freed t (ks.Mpcp l)) m (sem-frees g rules e past made move t s owns.known h Mpcp (ks.Mpcp l) m v)) refl)
-  serves Pcp (ks.Pcp c) m v =
+  serves : (p : Protocol) (x : AnySem) → protocol g s ≡ p → KeepsSem g s past p x → IsServedBy g e past (served_by t s w.sets x)
+  serves Fmlp (any.Fmlp l) m v = plain (rw m refl) _ (holder-after Fmlp (any.Fmlp l) m v _ _ (tells g rules (e ∷ past) (after_release t s w) after s t owns.known owns.user Fmlp (freed t (any.Fmlp l)) m (sem-frees g rules e past made move t s owns.known h Fmlp (any.Fmlp l) m v)) refl)
+  serves Omlp (any.Omlp l) m v = plain (rw m refl) _ (holder-after Omlp (any.Omlp l) m v _ _ (tells g rules (e ∷ past) (after_release t s w) after s t owns.known owns.user Omlp (freed t (any.Omlp l)) m (sem-frees g rules e past made move t s owns.known h Omlp (any.Omlp l) m v)) refl)
+  serves Mpcp (any.Mpcp l) m v = plain (rw m refl) _ (holder-after Mpcp (any.Mpcp l) m v _ _ (tells g rules (e ∷ past) (after_release t s w) after s t owns.known owns.user Mpcp (freed t (any.Mpcp l)) m (sem-frees g rules e past made move t s owns.known h Mpcp (any.Mpcp l) m v)) refl)
+  serves Pcp (any.Pcp c) m v =
       let n : is_pcp (protocol g s) ≡ true = rw m refl in
       let set : KeepsSet g (cluster_of g s) past (set_at w.sets c.0) = set-here g rules past w k s t owns.known owns.user n c.0 v in
       let at-home : home g t ≡ cluster_of g s = user-home g rules s t (pcp-shares g.setup.plugin (protocol g s) n) owns.user in
@@ -217,7 +216,7 @@ module _ (g : Group) (rules : MeetsRules g) (e : Event) (past : Past) (made : Is
         split (inl z) = keeps-row g u e past (row_at w.rows u) z.awaited z.held (rows.rows u there)
         split (inr z) = absurd (none z.0 z.1)
 
-    row-after : (o : Option ℕ) → Serves g e past o → (u : ℕ) → has u (tasks g) ≡ true → KeepsRow g u (e ∷ past) (row_at (rows_served o (slice_set w.rows t (row_freed (row_at w.rows t)))) u)
+    row-after : (o : Option ℕ) → IsServedBy g e past o → (u : ℕ) → has u (tasks g) ≡ true → KeepsRow g u (e ∷ past) (row_at (rows_served o (slice_set w.rows t (row_freed (row_at w.rows t)))) u)
     row-after None z u there = unserved u there (λ r v. let m : None ≡ Some u = z.takes u r v in cc) (t == u) refl
     row-after (Some v) z u there = by_case (v == u) refl
       where
@@ -241,9 +240,16 @@ module _ (g : Group) (rules : MeetsRules g) (e : Event) (past : Past) (made : Is
     pub rows-after : KeepsRows g (e ∷ past) (after_release t s w)
     rows-after = record {
       small = rows.small;
-      row_room = λ u there. room-after (served_by t s w.sets (kept_at w.kept s)) u (rows.row_room u there);
-      rows = λ u there. row-after (served_by t s w.sets (kept_at w.kept s)) (serves (protocol g s) (kept_at w.kept s) refl (k.kept s owns.known)) u there;
+      row_room = λ u there. room-after (served_by t s w.sets (sem_at w.sems s)) u (rows.row_room u there);
+      rows = λ u there. row-after (served_by t s w.sets (sem_at w.sems s)) (serves (protocol g s) (sem_at w.sems s) refl (k.kept s owns.known)) u there;
     }
 
 pub release_rows : ReleaseRows
 release_rows g e past valid made w t s h k rows = let last = last_move g made in rows-after g (rules_of g valid) e past last.0 last.1 w k t s h rows
+
+pub tells_served : TellsServed
+tells_served g e past valid made w t s h k =
+    let last = last_move g made in
+    let rules = rules_of g valid in
+    let party : IsParty g t s = owns g rules e past last.0 last.1 w k t s h in
+    serves g rules e past last.0 last.1 w k t s h (protocol g s) (sem_at w.sems s) refl (k.kept s party.known)

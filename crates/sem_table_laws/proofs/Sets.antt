@@ -37,8 +37,9 @@ use Rattle.rt_laws.proofs.Rules.{MeetsRules}
 use Rattle.sem_laws.specs.KeptKeys as kept
 use Rattle.pcp_sem.specs.Pairs.{has_pair, tasks_of}
 use Rattle.pcp_sem.specs.PcpKept as words
-use Rattle.sem_table.specs.Words.{set_asked, set_freed}
-use Rattle.sem_table_laws.specs.Keeping.{KeepsSet}
+use Rattle.sem_table.specs.Asked.{set_asked}
+use Rattle.sem_table.specs.Released.{set_freed}
+use Rattle.sem_table_laws.specs.KeptSems.{IsPcpOf, KeepsSet}
 use Rattle.sem_table_laws.proofs.Agree.{Each, asks-same, frees-same, passes-same}
 use Rattle.sem_table_laws.proofs.Lists.{at-other, at-same, still-below, each-there}
 
@@ -122,8 +123,11 @@ module _ (g : Group) (rules : MeetsRules g) (e : Event) (past : Past) (made : Is
       }
 
   -- the pairs are those of users
+  pcp-of : (t s : ℕ) → IsUser g c t s → IsPcpOf g c s
+  pcp-of t s u = let d = user-task g s t u.user in record { known = rules.is_known t s d.0 d.1; of_pcp = u.of_pcp; home_is = sem-home g rules c t s u }
+
   user-ceiling : (t s : ℕ) → IsUser g c t s → kept.key_at p.ceilings s ≡ ceiling g s
-  user-ceiling t s u = let d = user-task g s t u.user in w.ceilings s (rules.is_known t s d.0 d.1) u.of_pcp
+  user-ceiling t s u = w.ceilings s (pcp-of t s u)
 
   k : IsPcpKept g c (pcp g c past)
   k = pcp_kept g rules c made
@@ -134,6 +138,12 @@ module _ (g : Group) (rules : MeetsRules g) (e : Event) (past : Past) (made : Is
 
     here : at_cluster g c (sem_act e) ≡ Asks t s
     here = rw h (cluster-ask g c t s at_home q)
+
+    sem-is-here : cluster_of g s ≡ c
+    sem-is-here = sem-home g rules c t s (record { user = a.user; at_home = at_home; of_pcp = q })
+
+    own : IsPcpOf g c s
+    own = record { known = a.known; of_pcp = q; home_is = sem-is-here }
 
     key : Key
     key = base_key g t past
@@ -148,11 +158,11 @@ module _ (g : Group) (rules : MeetsRules g) (e : Event) (past : Past) (made : Is
     new-key u old = by_case (t == u) refl
       where
         by_case : (b : Bool) → t == u ≡ b → kept.key_at (slice_set p.keys t (base_key g t past)) u ≡ base_key g u []
-        by_case true m = at-same p.keys t u (base_key g t past) _ m (w.room t a.member) ∙ fixed ∙ ap (λ (v : ℕ). base_key g v []) (eqb-true t u m)
+        by_case true m = at-same p.keys t u (base_key g t past) _ m (w.room s t own a.member) ∙ fixed ∙ ap (λ (v : ℕ). base_key g v []) (eqb-true t u m)
         by_case false m = at-other p.keys t u (base_key g t past) _ m ∙ old m
 
     pub asker : IsGood g (slice_set p.keys t (base_key g t past)) p.ceilings t s
-    asker = (new-key t (λ m. absurd (clash _ (equal_self t) m)), w.ceilings s a.known q)
+    asker = (new-key t (λ m. absurd (clash _ (equal_self t) m)), w.ceilings s own)
 
     pub held : Each (IsGood g (slice_set p.keys t (base_key g t past)) p.ceilings) (pcp g c past).held
     held = each-there (IsGood g (slice_set p.keys t (base_key g t past)) p.ceilings) (pcp g c past).held (λ u r m. (new-key u (λ n. w.keys u r (rw m refl)), user-ceiling u r (k.held u r m)))
@@ -167,20 +177,17 @@ module _ (g : Group) (rules : MeetsRules g) (e : Event) (past : Past) (made : Is
             let there : has t (sem_state g m.0 past).waiting ≡ true = pcp-waiting g t m.0 past u.of_pcp ∙ ap (λ (n : ℕ). has_pair t m.0 (pcp g n past).waiting) (sem-home g rules c t m.0 u) ∙ m.1 in
             clash _ there (a.waits_none m.0 (rules.is_known t m.0 d.0 d.1))
 
-    sem-is-here : cluster_of g s ≡ c
-    sem-is-here = sem-home g rules c t s (record { user = a.user; at_home = at_home; of_pcp = q })
-
     pub fresh : has_pair t s p.state.held ≡ false
     fresh = rw w.state (unless _ (λ m. clash _ (ap (is t) (pcp-holder g s past q ∙ ap (λ (n : ℕ). first (of_sem s (pcp g n past).held)) sem-is-here) ∙ pcp-first g c t s (pcp g c past) k m) (asks-holds_not g t s past a)))
 
     pub low : higher (base_key g t past) (kept.key_at p.ceilings s) ≡ false
-    low = rw (fixed, w.ceilings s a.known q) (under g t s a.user)
+    low = rw (fixed, w.ceilings s own) (under g t s a.user)
 
     sound_asked : IsSound p.ceilings (slice_set p.keys t (base_key g t past)) (pcp_after (kept.above (slice_set p.keys t (base_key g t past))) (words.above_ceiling (slice_set p.keys t (base_key g t past)) p.ceilings) (Asks t s) p.state)
     sound_asked =
         sound-asks p.ceilings (slice_set p.keys t (base_key g t past)) t s p.state
         (sound-rekeyed p.ceilings p.keys (slice_set p.keys t (base_key g t past)) p.state (length-set p.keys t (base_key g t past)) (λ u r m. agrees u r (rw m refl)) (λ u r m. agrees u r (rw m (or_true (has_pair u r p.state.held)))) w.sound)
-        (record { task = still-below p.keys t t (base_key g t past) (w.room t a.member); sem = w.known s a.known; low = ap (λ (x : Key). higher x (kept.key_at p.ceilings s)) (new-key t (λ m. absurd (clash _ (equal_self t) m)) ∙ sym fixed) ∙ low })
+        (record { task = still-below p.keys t t (base_key g t past) (w.room s t own a.member); sem = w.known s own; low = ap (λ (x : Key). higher x (kept.key_at p.ceilings s)) (new-key t (λ m. absurd (clash _ (equal_self t) m)) ∙ sym fixed) ∙ low })
         idle fresh
       where
         agrees : (u r : ℕ) → has_pair u r p.state.held || has_pair u r p.state.waiting ≡ true → kept.key_at (slice_set p.keys t (base_key g t past)) u ≡ kept.key_at p.keys u
@@ -194,7 +201,7 @@ module _ (g : Group) (rules : MeetsRules g) (e : Event) (past : Past) (made : Is
       state = ap (λ (l : PcpState). pcp_after (kept.above (slice_set p.keys t (base_key g t past))) (words.above_ceiling (slice_set p.keys t (base_key g t past)) p.ceilings) (Asks t s) l) w.state ∙ asks-same (IsGood g (slice_set p.keys t (base_key g t past)) p.ceilings) (kept.above (slice_set p.keys t (base_key g t past))) (above g []) (words.above_ceiling (slice_set p.keys t (base_key g t past)) p.ceilings) (above_ceiling g) (good-before g _ _) (good-over g _ _) t s (pcp g c past) asker held ∙ sym (pcp-is (Asks t s) here);
       known = w.known;
       ceilings = w.ceilings;
-      room = λ u m. still-below p.keys t u (base_key g t past) (w.room u m);
+      room = λ r u m n. still-below p.keys t u (base_key g t past) (w.room r u m n);
       sound = sound_asked;
       keys = λ u r m. new-key u (λ n. split u r n (pcp-stands (above g []) (above_ceiling g) u r (Asks t s) (pcp g c past) (subst (λ (l : PcpState). stands_for u r l ≡ true) (pcp-is (Asks t s) here) m)));
     }

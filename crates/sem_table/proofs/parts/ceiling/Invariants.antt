@@ -3,7 +3,7 @@ use Rattle.rt_base.specs.TaskNos.{numbers}
 use Rattle.rt_rules.specs.Keys.{highest}
 use Rattle.rt_order.specs.KeyOrder.{lowest_key}
 use Rattle.sem_table.specs.Opened.{group_in, prio_key}
-use Rattle.sem_table.proofs.open.ceiling.Given as goal
+use Rattle.sem_table.proofs.parts.ceiling.Given as goal
 
 -- the rest answers as the whole
 abbrev pub invariant-loop-t : goal.invariant-loop-t
