@@ -16,11 +16,10 @@ use Rattle.rt_model.specs.Reachable.{IsReachable}
 use Rattle.rt_model.specs.Past.{Past}
 use Rattle.rt_model.specs.Semaphores.{cluster_of}
 use Rattle.rt_rules.proofs.BoolLaws.{both, clash, either, unless}
-use Rattle.rt_order.specs.OrderLaws.{higher-irreflexive, higher-transitive}
-use Rattle.rt_rules.proofs.KeyLaws.{foremost-some, higher-mixed}
+use Rattle.rt_rules.proofs.BlockerLaws.{newest-of_others}
 use Rattle.rt_rules.proofs.MemberLaws.{empty-none, equal_self, has-first, some-is}
-use Rattle.rt_rules.proofs.PairLaws.{has-of_sem, has_pair, has_pair-others}
-use Rattle.rt_rules.proofs.PcpLaws.{IsStacked, newest-other, passes-above_ceiling}
+use Rattle.rt_rules.proofs.PairLaws.{has_pair, tasks_of_pairs}
+use Rattle.rt_rules.proofs.PcpLaws.{IsStacked, newest-other}
 use Rattle.rt_laws.proofs.Engaged.{waiting-engaged}
 use Rattle.rt_laws.proofs.GroupLaws.{user-task}
 use Rattle.rt_laws.proofs.Holding.{holds-one}
@@ -33,39 +32,13 @@ use Rattle.rt_changes.proofs.Acting.{all_parties, party-home}
 
 -- ---- PCP: the blocker is the owner of the newest grant
 
-blocker-newest : (g : Group) (t v : ℕ) (p : TaskSem) (ps : List TaskSem) → IsStacked (above_ceiling g) (p ∷ ps) → has p.task (users g p.sem) ≡ true → passes (above_ceiling g) (p ∷ ps) t ≡ false → blocker_among g (of_others t (p ∷ ps)) ≡ Some v → v ≡ p.task
+blocker-newest : (g : Group) (t v : ℕ) (p : TaskSem) (ps : List TaskSem) → IsStacked (above_ceiling g) (p ∷ ps) → ((u s : ℕ) → has_pair u s (p ∷ ps) ≡ true → has u (users g s) ≡ true) → passes (above_ceiling g) (p ∷ ps) t ≡ false → blocker_among g (of_others t (p ∷ ps)) ≡ Some v → v ≡ p.task
 unfolding blocker_among has_higher_ceiling above_ceiling
-blocker-newest g t v p ps k user h b = by_case (foremost (has_higher_ceiling g) (p.sem ∷ map (λ (q : TaskSem). q.sem) (of_others t ps))) refl (rw others_are at b)
-  where
-    others_are : of_others t (p ∷ ps) ≡ p ∷ of_others t ps
-    others_are = rw (newest-other (above_ceiling g) p ps t k h)
-
-    -- the owner of the newest grant is over what others hold, but not over what it holds
-    lower : (r : ℕ) → has_pair v r ps ≡ true → v == p.task ≡ false → higher (ceiling g p.sem) (ceiling g r) ≡ true
-    lower r m n = higher-mixed (base_key g p.task []) (ceiling g p.sem) (ceiling g r) (user-not_over g p.task p.sem user) (passes-above_ceiling (above_ceiling g) ps p.task v r k.0 m n)
-
-    leads_not : (r : ℕ) → higher (ceiling g p.sem) (ceiling g r) ≡ true → (r == p.sem ≡ true) ⊎ (has_higher_ceiling g r p.sem ≡ true) → ⊥
-    leads_not r up (inl m) = let same : r ≡ p.sem = eqb-true r p.sem m in clash _ (rw same at up) (higher-irreflexive (ceiling g p.sem))
-    leads_not r up (inr m) = deeper (either (higher (ceiling g r) (ceiling g p.sem)) _ m)
-      where
-        deeper : (higher (ceiling g r) (ceiling g p.sem) ≡ true) ⊎ (not (higher (ceiling g p.sem) (ceiling g r)) && nat_lt r p.sem ≡ true) → ⊥
-        deeper (inl n) = clash _ (higher-transitive (ceiling g r) (ceiling g p.sem) (ceiling g r) n up) (higher-irreflexive (ceiling g r))
-        deeper (inr n) = let z : false && nat_lt r p.sem ≡ true = rw up at n in cc
-
-    found : (r : ℕ) → (r == p.sem ≡ true) ⊎ (has_higher_ceiling g r p.sem ≡ true) → (v == p.task && r == p.sem ≡ true) ⊎ (has_pair v r (of_others t ps) ≡ true) → v ≡ p.task
-    found r lead (inl m) = eqb-true v p.task (both (v == p.task) (r == p.sem) m).0
-    found r lead (inr m) = by_eq (v == p.task) refl
-      where
-        by_eq : (c : Bool) → v == p.task ≡ c → v ≡ p.task
-        by_eq true n = eqb-true v p.task n
-        by_eq false n = absurd (leads_not r (lower r (has_pair-others t v r ps m) n) lead)
-
-    by_case : (o : Option ℕ) → foremost (has_higher_ceiling g) (p.sem ∷ map (λ (q : TaskSem). q.sem) (of_others t ps)) ≡ o → holder_among (p ∷ of_others t ps) o ≡ Some v → v ≡ p.task
-    by_case None e m = cc
-    by_case (Some r) e m =
-        let lead = (foremost-some (has_higher_ceiling g) (p.sem ∷ map (λ (q : TaskSem). q.sem) (of_others t ps)) r e).1 p.sem (rw (equal_self p.sem)) in
-        let there : has_pair v r (p ∷ of_others t ps) ≡ true = sym (has-of_sem v r (p ∷ of_others t ps)) ∙ has-first v (of_sem r (p ∷ of_others t ps)) (some-is v _ m) in
-        found r (either (r == p.sem) _ lead) (either (v == p.task && r == p.sem) _ there)
+blocker-newest g t v p ps k user h b =
+    let newest = newest-of_others (λ u. base_key g u []) (ceiling g) t (p ∷ ps) k (λ u s m. user-not_over g u s (user u s m)) in
+    let others : first (tasks_of_pairs (of_others t (p ∷ ps))) ≡ Some p.task = rw (newest-other (above_ceiling g) p ps t k h) refl in
+    let same : Some v ≡ Some p.task = sym b ∙ newest ∙ others in
+    cc
 
 -- ---- the owner
 
@@ -83,8 +56,7 @@ module _ (g : Group) (rules : MeetsRules g) (past : Past) (made : IsReachable g 
       by_held : (l : List TaskSem) → (pcp g (home g t) past).held ≡ l → first (map (λ (p : TaskSem). p.task) (pcp g (home g t) past).held) ≡ Some v
       by_held [] e = let m : passes (above_ceiling g) [] t ≡ false = subst (λ l. passes (above_ceiling g) l t ≡ false) e stops in cc
       by_held (p ∷ ps) e =
-          let pair : has_pair p.task p.sem (pcp g (home g t) past).held ≡ true = rw (e, equal_self p.task, equal_self p.sem) in
-          let same : v ≡ p.task = blocker-newest g t v p ps (subst (λ l. IsStacked (above_ceiling g) l) e kept.stack.stacked) (kept.held p.task p.sem pair).user (subst (λ l. passes (above_ceiling g) l t ≡ false) e stops) (subst (λ l. blocker_among g (of_others t l) ≡ Some v) e b) in
+          let same : v ≡ p.task = blocker-newest g t v p ps (subst (λ l. IsStacked (above_ceiling g) l) e kept.stack.stacked) (λ u r m. (kept.held u r (rw e m)).user) (subst (λ l. passes (above_ceiling g) l t ≡ false) e stops) (subst (λ l. blocker_among g (of_others t l) ≡ Some v) e b) in
           rw (e, same)
 
   -- a task that waits at a semaphore waits for its owner

@@ -15,7 +15,7 @@ use Rattle.rt_rules.proofs.BoolLaws.{clash, or_true, unless}
 use Rattle.rt_rules.proofs.KeyLaws.{higher-below}
 use Rattle.rt_rules.proofs.MemberLaws.{equal_self}
 use Rattle.rt_rules.proofs.PairLaws.{distinct-in_order, has_pair, has_pair-in_order, pair-of, tasks_of_pairs}
-use Rattle.rt_rules.proofs.PcpGrantLaws.{IsStrict, falling-in_order}
+use Rattle.rt_rules.proofs.PcpGrantLaws.{IsFalling, falling-in_order}
 use Rattle.rt_rules.proofs.PcpLaws.{passes-cons, pcp-once}
 use Rattle.rt_laws.proofs.Asked.{Asked, IsAsked, asked}
 use Rattle.rt_laws.proofs.AtSem.{at_cluster-asks}
@@ -24,15 +24,8 @@ use Rattle.rt_laws.proofs.GroupLaws.{user-task}
 use Rattle.rt_laws.proofs.Moves.{by_moves}
 use Rattle.rt_laws.proofs.PcpState.{IsPcpKept, IsUser, pcp-waiting, pcp_kept, sem-home, user-not_over}
 use Rattle.rt_laws.proofs.Rules.{MeetsRules}
+use Rattle.rt_laws.proofs.PcpGrants.{waiting_once}
 use Rattle.rt_changes.proofs.Acting.{IsParty, party-home}
-
--- no later one is above an earlier one
-abbrev pub IsFalling : (ℕ → ℕ → Bool) → List TaskSem → Type 0
-IsFalling before [] = ⊤
-IsFalling before (p ∷ ps) = ((t : ℕ) → has t (tasks_of_pairs ps) ≡ true → before t p.task ≡ false) × IsFalling before ps
-
-falling : (before : ℕ → ℕ → Bool) → IsStrict before → (ps : List TaskSem) → IsFalling before (in_order before ps)
-falling before order ps = falling-in_order before order ps
 
 -- ---- the tries, in falling order
 
@@ -62,27 +55,6 @@ tested-form before over (p ∷ ps) l d f low = by_case (passes over l.held p.tas
     by_case true e r = inr (p, rw (equal_self p.task, equal_self p.sem), tested-none over ps (granted p l) none_more)
     by_case false e r = later r
 
--- ---- each waiting task stands once
-
-waits_not : (g : Group) → MeetsRules g → {past : Past} → IsReachable g past → (c t s : ℕ) → IsAsked g t s past → has t (tasks_of_pairs (pcp g c past).waiting) ≡ false
-waits_not g rules {past} made c t s a = unless _ (λ h. met (pair-of t (pcp g c past).waiting h))
-  where
-    met : (r : ℕ) × (has_pair t r (pcp g c past).waiting ≡ true) → ⊥
-    met q =
-        let u : IsUser g c t q.0 = (pcp_kept g rules c made).waiting t q.0 q.1 in
-        let home_is : cluster_of g q.0 ≡ c = sem-home g rules c t q.0 u in
-        let d = user-task g q.0 t u.user in
-        let known : has q.0 (sems g) ≡ true = rules.is_known t q.0 d.0 d.1 in
-        clash _ (pcp-waiting g t q.0 past u.of_pcp ∙ subst (λ n. has_pair t q.0 (pcp g n past).waiting ≡ true) (sym home_is) q.1) (a.waits_none q.0 known)
-
-once-event : (g : Group) → MeetsRules g → (c : ℕ) (e : Event) (past : Past) → IsReachable g past → Asked g e past → IsDistinct (tasks_of_pairs (pcp g c past).waiting) → IsDistinct (tasks_of_pairs (pcp g c (e ∷ past)).waiting)
-unfolding pcp
-once-event g rules c e past made asks d = pcp-once (above g []) (above_ceiling g) (at_cluster g c (sem_act e)) (pcp g c past) (λ t s h. waits_not g rules made c t s (asks t s (at_cluster-asks g c t s (sem_act e) h).0)) d
-
-waiting_once : (g : Group) → MeetsRules g → (c : ℕ) → {past : Past} → IsReachable g past → IsDistinct (tasks_of_pairs (pcp g c past).waiting)
-unfolding pcp
-waiting_once g rules c made = by_moves g (λ past. IsDistinct (tasks_of_pairs (pcp g c past).waiting)) tt (λ past e made move before. once-event g rules c e past made (asked g rules made move) before) made
-
 -- ---- an Unlock
 
 -- what is left of a cluster where a task has freed a semaphore
@@ -100,7 +72,7 @@ under-ceiling g t u s h k = unless _ (λ m. clash _ (higher-below (base_key g t 
 
 pub freed-form : (g : Group) → MeetsRules g → (t s : ℕ) (e : Event) (past : Past) → IsReachable g past → IsParty g t s → is_pcp (protocol g s) ≡ true → sem_act e ≡ Frees t s → IsFreed t s (pcp g (cluster_of g s) past) (pcp g (cluster_of g s) (e ∷ past))
 unfolding pcp at_cluster
-freed-form g rules t s e past made party k h = rw (h, party-home g rules t s party k, equal_self (cluster_of g s), k) (in_waiting (tested-form (above g []) (above_ceiling g) (in_order (above g []) (pcp g c past).waiting) (freed_state t s (pcp g c past)) (distinct-in_order (above g []) (pcp g c past).waiting (waiting_once g rules c made)) (falling (above g []) (above-strict g []) (pcp g c past).waiting) low))
+freed-form g rules t s e past made party k h = rw (h, party-home g rules t s party k, equal_self (cluster_of g s), k) (in_waiting (tested-form (above g []) (above_ceiling g) (in_order (above g []) (pcp g c past).waiting) (freed_state t s (pcp g c past)) (distinct-in_order (above g []) (pcp g c past).waiting (waiting_once g rules c made)) (falling-in_order (above g []) (above-strict g []) (pcp g c past).waiting) low))
   where
     c : ℕ
     c = cluster_of g s
