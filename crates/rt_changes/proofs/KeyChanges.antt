@@ -25,14 +25,14 @@ use Rattle.rt_laws.proofs.Rules.{MeetsRules}
 use Rattle.rt_laws.proofs.ValidSets.{rules_of}
 use Rattle.rt_laws.proofs.Waiting.{awaits-waits}
 use Rattle.rt_changes.specs.BoostChanges.{BoostStays}
-use Rattle.rt_changes.specs.EngineKeys.{waiters}
+use Rattle.rt_changes.specs.KeysOfWaiters.{waiters}
 use Rattle.rt_changes.specs.KeyChanges.{EffectiveKeyFollowsBase, EffectiveKeyStays}
 use Rattle.rt_changes.specs.Owners.{is_beside, newest_owner, owner, sem_of, is_touched, is_touched_at}
 use Rattle.rt_changes.specs.SemChanges.{LeavesSems}
 use Rattle.rt_changes.proofs.Acting.{IsActor, actor, party-home}
 use Rattle.rt_changes.proofs.BaseKeys.{base_key-left}
 use Rattle.rt_changes.proofs.Boosts.{boost-is, boost-none, boost_by-left}
-use Rattle.rt_changes.proofs.EngineKeys.{key_is_of_waiters}
+use Rattle.rt_changes.proofs.KeysOfWaiters.{key_is_of_waiters}
 use Rattle.rt_changes.proofs.Left.{granted_at-left, holder-left, pcp-left}
 use Rattle.rt_changes.proofs.Lists.{agree, filter-same, inherited-same}
 use Rattle.rt_changes.proofs.Owning.{waits-owner}

@@ -30,11 +30,11 @@ use Rattle.rt_laws.proofs.PcpWalks.{walk-stops}
 use Rattle.rt_laws.proofs.Rules.{MeetsRules}
 use Rattle.rt_laws.proofs.ValidSets.{rules_of}
 use Rattle.rt_laws.proofs.Waiting.{awaits-waits}
-use Rattle.rt_changes.specs.EngineKeys.{waiters}
+use Rattle.rt_changes.specs.KeysOfWaiters.{waiters}
 use Rattle.rt_changes.specs.HoldChanges.{IsQueueing}
 use Rattle.rt_changes.specs.OwnerKeys.{KeyOfHolder, KeyOfNewestOwner, KeyOfOthers, LeaderGivesKey, QueuedRaisesOwner}
 use Rattle.rt_changes.specs.Owners.{newest_owner, owner}
-use Rattle.rt_changes.proofs.EngineKeys.{key_is_of_waiters}
+use Rattle.rt_changes.proofs.KeysOfWaiters.{key_is_of_waiters}
 use Rattle.rt_changes.proofs.HoldChanges.{queueing}
 use Rattle.rt_changes.proofs.Highest.{highest-last, highest-lead, highest-members}
 use Rattle.rt_changes.proofs.Boosts.{boost-is, boost-none}

@@ -23,7 +23,7 @@ use Rattle.rt_laws.proofs.PcpWalks.{walk-stops}
 use Rattle.rt_laws.proofs.Rules.{MeetsRules}
 use Rattle.rt_laws.proofs.ValidSets.{rules_of}
 use Rattle.rt_laws.proofs.Waiting.{awaits-waits}
-use Rattle.rt_changes.specs.EngineKeys.{waiters}
+use Rattle.rt_changes.specs.KeysOfWaiters.{waiters}
 use Rattle.rt_changes.specs.OwnerKeys.{WaitersOfHolder, WaitersOfNewestOwner}
 use Rattle.rt_changes.specs.Owners.{newest_owner, owner}
 use Rattle.rt_changes.proofs.Acting.{all_parties}

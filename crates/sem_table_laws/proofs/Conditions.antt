@@ -3,6 +3,7 @@ use Rattle.std.proofs.Common.{◌≡◌, ◌∙◌, ◌<◌, ◌≤◌, ◌&&◌
 use Rattle.std.specs.Prelude.{◌==◌, Some, nat_le, if◌then◌else◌, filter, not}
 use Rattle.std.specs.List.{list_any}
 use Rattle.std.proofs.lemmas.Bool.{leb-false}
+use Rattle.std.proofs.lemmas.List.{length-map}
 use Rattle.rt_task.specs.RuleWords.{stands_under}
 use Rattle.rt_task.specs.declared.Protocol.{Protocol}
 use Rattle.rt_task.specs.declared.Protocol.TheVariants.{Fmlp, Mpcp, Omlp, Pcp}
@@ -106,10 +107,6 @@ distinct-sems f (p ∷ ps) d = by_case (f p) (distinct-sems f ps d.1)
     by_case true rec = (unless _ (λ m. clash _ (has-sems p.sem f ps m) d.0), rec)
     by_case false rec = rec
 
-length-sems : (ps : List TaskSem) → length (sems_of ps) ≡ length ps
-length-sems [] = refl
-length-sems (p ∷ ps) = simp (length-sems ps)
-
 own-sems : (t r : ℕ) (ps : List TaskSem) → has r (sems_of (filter (λ (p : TaskSem). p.task == t) ps)) ≡ true → has_pair t r ps ≡ true
 own-sems t r [] h = h
 own-sems t r (p ∷ ps) h = by_case (p.task == t) refl h (own-sems t r ps)
@@ -122,7 +119,7 @@ own-sems t r (p ∷ ps) h = by_case (p.task == t) refl h (own-sems t r ps)
         split (inr n) = rw (rec n) (or_true (t == p.task && r == p.sem))
     by_case false e m rec = rw (rec m) (or_true (t == p.task && r == p.sem))
 
-distinct-holds : (g : Group) (t : ℕ) (past : Past) → IsDistinct (holds g t past)
+pub distinct-holds : (g : Group) (t : ℕ) (past : Past) → IsDistinct (holds g t past)
 unfolding holds sems
 distinct-holds g t past = distinct-filter (λ r. is t (holder g r past)) _ (distinct-numbers_from 1 (length g.setup.sems))
 
@@ -173,7 +170,7 @@ module _ (g : Group) (rules : MeetsRules g) (e : Event) (past : Past) (made : Is
     known = v.known s own;
     idle = idle g rules e past made move (cluster_of g s) p v t s h at-home (rw q refl);
     fresh = fresh g rules e past made move (cluster_of g s) p v t s h at-home (rw q refl);
-    few = omega (arith, few-of g s t past (rw q at a.unnested), fewer, length-sems (filter (λ (x : TaskSem). x.task == t) p.state.held));
+    few = omega (arith, few-of g s t past (rw q at a.unnested), fewer, length-map (filter (λ (x : TaskSem). x.task == t) p.state.held) (λ (q : TaskSem). q.sem));
     low = low g rules e past made move (cluster_of g s) p v t s h at-home (rw q refl);
     equal = λ m. own-key (pair-of t p.state.held m);
     apart = λ u ne m. other u (unless _ (λ n. ne (sym (eqb-true t u n)))) m;

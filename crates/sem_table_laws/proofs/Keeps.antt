@@ -32,16 +32,10 @@ use Rattle.sem_table_laws.proofs.Sems.{sem-quiet, sem-asks, sem-frees}
 use Rattle.sem_table_laws.proofs.Sets.{set-quiet, set-asks, set-frees, away-ask, away-free, other-ask, other-free}
 
 sem-away-ask : (r t s : ℕ) → s == r ≡ false → at_sem r (Asks t s) ≡ Neither
-sem-away-ask r t s h = rw (turn r s h) refl
-  where
-    turn : (m n : ℕ) → n == m ≡ false → m == n ≡ false
-    turn m n k = rw (turned m n) k
+sem-away-ask r t s h = rw (turned r s ∙ h) refl
 
 sem-away-free : (r t s : ℕ) → s == r ≡ false → at_sem r (Frees t s) ≡ Neither
-sem-away-free r t s h = rw (turn r s h) refl
-  where
-    turn : (m n : ℕ) → n == m ≡ false → m == n ≡ false
-    turn m n k = rw (turned m n) k
+sem-away-free r t s h = rw (turned r s ∙ h) refl
 
 quiet-set : (g : Group) (c : ℕ) (x : SemAct) → x ≡ Neither → at_cluster g c x ≡ Neither
 unfolding at_cluster

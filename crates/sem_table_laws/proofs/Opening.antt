@@ -22,8 +22,9 @@ use Rattle.rt_laws.proofs.GroupLaws.{user-task, has_room}
 use Rattle.rt_laws.proofs.Rules.{MeetsRules}
 use Rattle.rt_laws.proofs.ValidSets.{rules_of}
 use Rattle.rt_laws.proofs.Waiting.{nobody-waits}
-use Rattle.rt_rules.proofs.NumberLaws.{length-numbers_from}
+use Rattle.rt_rules.proofs.NumberLaws.{has-numbers_from, length-numbers_from, numbers_from-below}
 use Rattle.sem_laws.specs.KeptKeys.{key_at}
+use Rattle.sem_table_laws.proofs.Sets.{is-pcp}
 use Rattle.pcp_sem.specs.PcpKept.{PcpKept}
 use Rattle.sem_table.specs.declared.any_sem.AnySem.{AnySem}
 use Rattle.sem_table.specs.declared.any_sem.AnySem.TheVariants as any
@@ -33,8 +34,7 @@ use Rattle.sem_table_laws.specs.Keeping.{NewKeeps}
 use Rattle.sem_table_laws.specs.KeptSems.{HasRoom, IsPcpOf, KeepsSem, KeepsSet}
 
 pub between : (t a n : ℕ) → has t (numbers_from a n) ≡ true → (a ≤ t) × (t < a + n)
-between t a zero h = cc
-between t a (suc n) h = elim (either (t == a) (has t (numbers_from (suc a) n)) h) [ inl m ↦ let e : t ≡ a = eqb-true t a m in (omega arith, omega arith) | inr m ↦ let b = between t (suc a) n m in (omega arith, omega arith) ]
+between t a n h = (has-numbers_from t a n h, numbers_from-below t a n h)
 
 read-mapped : {X : Type 0} (f : ℕ → X) (d : X) (a n i : ℕ) → i < n → slice_index_or (map f (numbers_from a n)) i d ≡ f (a + i)
 read-mapped f d a zero i h = absurd (omega arith)
@@ -91,10 +91,6 @@ map-eq f h (x ∷ xs) e = rw (e x, map-eq f h xs e) refl
 ceiling-is : (g : Group) (s : ℕ) → stands_under Pcp g.setup.plugin ≡ true → prio_ceiling g s ≡ ceiling g s
 unfolding ceiling
 ceiling-is g s h = ap (highest lowest_key) (map-eq (prio_key g) (λ t. base_key g t []) (users g s) (λ t. prio-base g t h))
-
-is-pcp : (p : Protocol) → is_pcp p ≡ true → p ≡ Pcp
-is-pcp Pcp h = refl
-is-pcp p h = cc
 
 ceilings-at : (g : Group) (s : ℕ) → has s (sems g) ≡ true → key_at (ceilings g) s ≡ prio_ceiling g s
 unfolding sems

@@ -18,7 +18,7 @@ use Rattle.rt_model.specs.Semaphores.{cluster_of}
 use Rattle.rt_rules.proofs.BoolLaws.{both, clash, unless}
 use Rattle.rt_rules.proofs.DistinctLaws.{length-distinct}
 use Rattle.rt_rules.proofs.MemberLaws.{equal_self, has-filter}
-use Rattle.rt_rules.proofs.NumberLaws.{distinct-numbers_from}
+use Rattle.rt_rules.proofs.NumberLaws.{distinct-numbers_from, length-numbers_from}
 use Rattle.rt_rules.proofs.PlacingLaws.{distinct-filter}
 use Rattle.rt_laws.proofs.Asked.{IsAsked}
 use Rattle.rt_laws.proofs.GroupLaws.{user-home, pcp-shares}
@@ -46,20 +46,12 @@ use Rattle.sem_table_laws.specs.Keeping.{AskRows, NewRows, QuietRows}
 use Rattle.sem_table_laws.specs.KeptRows.{KeepsRow, KeepsRows}
 use Rattle.sem_table_laws.specs.KeptSems.{KeepsSem, KeepsSems}
 use Rattle.sem_table_laws.specs.Telling.{GrantsAsRules}
-use Rattle.sem_table_laws.proofs.Conditions.{set-here, tells}
+use Rattle.sem_table_laws.proofs.Conditions.{distinct-holds, set-here, tells}
 use Rattle.sem_table_laws.proofs.Lists.{at-other, at-same, still-below}
 use Rattle.sem_table_laws.proofs.Opening.{between}
 use Rattle.sem_table_laws.proofs.Sets.{passes-as-rules}
 
 -- ---- counting
-
-pub distinct-holds : (g : Group) (t : ℕ) (past : Past) → IsDistinct (holds g t past)
-unfolding holds sems
-distinct-holds g t past = distinct-filter (λ r. is t (holder g r past)) _ (distinct-numbers_from 1 (length g.setup.sems))
-
-length-numbers : (a n : ℕ) → length (numbers_from a n) ≡ n
-length-numbers a zero = refl
-length-numbers a (suc n) = ap suc (length-numbers (suc a) n)
 
 distinct-sems : (g : Group) → IsDistinct (sems g)
 unfolding sems
@@ -67,7 +59,7 @@ distinct-sems g = distinct-numbers_from 1 (length g.setup.sems)
 
 length-sems : (g : Group) → length (sems g) ≡ length g.setup.sems
 unfolding sems
-length-sems g = length-numbers 1 (length g.setup.sems)
+length-sems g = length-numbers_from 1 (length g.setup.sems)
 
 -- a task holds no more than there is
 pub holds-few : (g : Group) (t : ℕ) (past : Past) → length (holds g t past) ≤ length g.setup.sems

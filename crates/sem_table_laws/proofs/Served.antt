@@ -13,7 +13,7 @@ use Rattle.rt_model.specs.Reachable.{IsReachable}
 use Rattle.rt_model.specs.Past.{Event, Past, sem_act}
 use Rattle.rt_model.specs.Semaphores.{cluster_of}
 use Rattle.rt_rules.proofs.BoolLaws.{both, clash, unless}
-use Rattle.rt_rules.proofs.MemberLaws.{equal_self, is_one, some-is}
+use Rattle.rt_rules.proofs.MemberLaws.{equal_self, is_one, some-is, turned}
 use Rattle.rt_rules.proofs.PairLaws.{has_pair-without_pair}
 use Rattle.rt_laws.proofs.Engaged.{holder-engaged}
 use Rattle.rt_laws.proofs.GroupLaws.{user-home, user-task, pcp-shares}
@@ -43,10 +43,10 @@ use Rattle.sem_table_laws.specs.Keeping.{ReleaseRows}
 use Rattle.sem_table_laws.specs.KeptRows.{KeepsRow, KeepsRows}
 use Rattle.sem_table_laws.specs.KeptSems.{KeepsSem, KeepsSems, KeepsSet}
 use Rattle.sem_table_laws.specs.Telling.{IsServedBy, TellsServed}
-use Rattle.sem_table_laws.proofs.Conditions.{set-here, tells}
+use Rattle.sem_table_laws.proofs.Conditions.{distinct-holds, set-here, tells}
 use Rattle.sem_table_laws.proofs.Keeps as keeps
 use Rattle.sem_table_laws.proofs.Lists.{at-other, at-same, still-below}
-use Rattle.sem_table_laws.proofs.Rows.{distinct-holds, holds-few, keeps-row, length-more, one-more}
+use Rattle.sem_table_laws.proofs.Rows.{holds-few, keeps-row, length-more, one-more}
 use Rattle.sem_table_laws.proofs.Sems.{sem-frees}
 use Rattle.sem_table_laws.proofs.Sets.{set-frees}
 
@@ -204,13 +204,10 @@ module _ (g : Group) (rules : MeetsRules g) (e : Event) (past : Past) (made : Is
             let lost : not (r == s) && has r (holds g t past) ≡ true = sym (q.loses r) ∙ subst (λ (x : ℕ). has r (holds g x (e ∷ past)) ≡ true) (sym same) gained in
             served-not u r v (subst (λ (x : ℕ). is x (holder g r past) ≡ true) same (one-holds g t r past (both (not (r == s)) (has r (holds g t past)) lost).1).1)
 
-    turn : (m n : ℕ) → m == n ≡ false → n == m ≡ false
-    turn m n z = unless _ (λ y. let same : n ≡ m = eqb-true n m y in clash _ (equal_self m) (rw same at z))
-
     -- where the task was not served
     unserved : (u : ℕ) → has u (tasks g) ≡ true → ((r : ℕ) → IsServed g u r e past → ⊥) → (b : Bool) → t == u ≡ b → KeepsRow g u (e ∷ past) (row_at (slice_set w.rows t (row_freed (row_at w.rows t))) u)
     unserved u there none true m = rw (at-same w.rows t u (row_freed (row_at w.rows t)) no_row m (rows.row_room t member)) (subst (λ (n : ℕ). KeepsRow g n (e ∷ past) (row_freed (row_at w.rows t))) (eqb-true t u m) own-row)
-    unserved u there none false m = rw (at-other w.rows t u (row_freed (row_at w.rows t)) no_row m) (split (q.others u (turn t u m)))
+    unserved u there none false m = rw (at-other w.rows t u (row_freed (row_at w.rows t)) no_row m) (split (q.others u (turned u t ∙ m)))
       where
         split : KeepsHolds g u e past ⊎ ((r : ℕ) × IsServed g u r e past) → KeepsRow g u (e ∷ past) (row_at w.rows u)
         split (inl z) = keeps-row g u e past (row_at w.rows u) z.awaited z.held (rows.rows u there)

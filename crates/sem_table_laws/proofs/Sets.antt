@@ -15,7 +15,7 @@ use Rattle.rt_model.specs.Ceilings.{above_ceiling, at_cluster, ceiling, is_pcp, 
 use Rattle.rt_model.specs.Group.{Group, home, protocol, users}
 use Rattle.rt_model.specs.Reachable.{IsReachable}
 use Rattle.rt_model.specs.Past.{Event, Past, sem_act}
-use Rattle.rt_rules.proofs.BoolLaws.{clash, or_true, unless}
+use Rattle.rt_rules.proofs.BoolLaws.{and_false, clash, or_true, unless}
 use Rattle.rt_rules.proofs.MemberLaws.{equal_self}
 use Rattle.rt_rules.proofs.PcpLaws.{pcp-stands, stands_for}
 use Rattle.rt_laws.proofs.Asked.{IsAsked}
@@ -55,7 +55,7 @@ fixed-key g t past h = by_plugin g.setup.plugin h
     by_plugin plugins.PsnEdf k = cc
     by_plugin plugins.PRes k = cc
 
-is-pcp : (p : Protocol) → is_pcp p ≡ true → p ≡ Pcp
+pub is-pcp : (p : Protocol) → is_pcp p ≡ true → p ≡ Pcp
 is-pcp Pcp h = refl
 is-pcp p h = cc
 
@@ -76,10 +76,6 @@ away-ask g c t s h = rw h refl
 pub away-free : (g : Group) (c t s : ℕ) → home g t == c ≡ false → at_cluster g c (Frees t s) ≡ Neither
 unfolding at_cluster
 away-free g c t s h = rw h refl
-
-and_false : (a : Bool) → a && false ≡ false
-and_false true = refl
-and_false false = refl
 
 pub other-ask : (g : Group) (c t s : ℕ) → is_pcp (protocol g s) ≡ false → at_cluster g c (Asks t s) ≡ Neither
 unfolding at_cluster

@@ -16,7 +16,7 @@ use Rattle.rt_laws.proofs.PcpWalks.{walk-none, walk-step, walk-stops}
 use Rattle.rt_laws.proofs.Rules.{MeetsRules}
 use Rattle.rt_laws.proofs.ValidSets.{rules_of}
 use Rattle.rt_laws.proofs.Waiting.{awaits-waits}
-use Rattle.rt_changes.specs.EngineKeys.{HoldsNothingHasBase, KeyIsOfWaiters, WaitsForOwner, waiters}
+use Rattle.rt_changes.specs.KeysOfWaiters.{HoldsNothingHasBase, KeyIsOfWaiters, WaitsForOwner, waiters}
 use Rattle.rt_changes.specs.Owners.{owner}
 use Rattle.rt_changes.proofs.Lists.{filter-same}
 use Rattle.rt_changes.proofs.Owning.{owner-holds, waits-owner}
