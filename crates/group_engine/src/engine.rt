@@ -38,13 +38,15 @@ impl Model for Engine {
     ghost Value = { GroupHistory };
 
     ghost view = { λ a. record {
-        setup = a.setup; group = a.group.0;
-        entries = a.entries.items; spare = a.room - vec_len a.entries;
+      setup = a.setup;
+      group = a.group.0;
+      entries = a.entries.items;
+      spare = a.room - vec_len a.entries;
     } };
 
     ghost invariant = { λ a.
         IsSound (record { setup = a.setup; number = a.group.0 })
-            a.entries.items a.room (vec_capacity a.entries) a.state };
+        a.entries.items a.room (vec_capacity a.entries) a.state };
 }
 
 impl Engine {

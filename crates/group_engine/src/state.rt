@@ -50,14 +50,18 @@ impl Model for GroupState {
     ghost Value = { State };
 
     ghost view = { λ a. record {
-        clock = a.clock; done = a.done.items; worked = a.worked.items;
-        ready = a.ready.tasks; waiting = a.waiting.tasks;
-        runs = a.links.runs; links = a.links.links;
+      clock = a.clock;
+      done = a.done.items;
+      worked = a.worked.items;
+      ready = a.ready.tasks;
+      waiting = a.waiting.tasks;
+      runs = a.links.runs;
+      links = a.links.links;
     } };
 
     ghost invariant = { λ a.
         HasRooms (length a.done.items) (length a.links.runs) a.links.first (length a.worked.items)
-            a.ready.room a.waiting.room (vec_capacity a.top) };
+        a.ready.room a.waiting.room (vec_capacity a.top) };
 }
 
 /// The first of the tasks that are ready, as many as there are processors.

@@ -38,8 +38,11 @@ impl Model for Afresh {
     ghost Value = { Standing };
 
     ghost view = { λ a. record {
-        setup = a.setup; group = a.group.0; facts = a.facts.facts;
-        spare = a.spare; ended = a.ended;
+      setup = a.setup;
+      group = a.group.0;
+      facts = a.facts.facts;
+      spare = a.spare;
+      ended = a.ended;
     } };
 
     ghost invariant = { λ a.

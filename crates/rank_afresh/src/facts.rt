@@ -43,16 +43,22 @@ impl Model for Facts {
     ghost Value = { Kept };
 
     ghost view = { λ a. record {
-        facts = record {
-            clock = a.clock; done = a.done.items; worked = a.worked.items;
-            runs = numbers_of_tasks a.runs.items; links = numbers_of_tasks a.links.items;
-        };
-        next = a.next;
+      facts = record {
+        clock = a.clock;
+        done = a.done.items;
+        worked = a.worked.items;
+        runs = numbers_of_tasks a.runs.items;
+        links = numbers_of_tasks a.links.items;
+      };
+      next = a.next;
     } };
 
     ghost invariant = { λ a. IsRoomy (record {
-        clock = a.clock; done = a.done.items; worked = a.worked.items;
-        runs = numbers_of_tasks a.runs.items; links = numbers_of_tasks a.links.items;
+      clock = a.clock;
+      done = a.done.items;
+      worked = a.worked.items;
+      runs = numbers_of_tasks a.runs.items;
+      links = numbers_of_tasks a.links.items;
     }) (vec_capacity a.best) (vec_capacity a.top) };
 }
 
@@ -153,7 +159,7 @@ impl Facts {
         ensures reply { result ≡ irq_reply (linked_in self.old.facts) cpu.0 false }
         ensures facts { let taken = after_irq (linked_in self.old.facts) cpu.0 false in
             self.new.facts ≡ relinked (length self.old.facts.runs) tasks.now
-                (record self.old.facts { runs = taken.runs }) }
+            (record self.old.facts { runs = taken.runs }) }
         ensures next { IsNext tasks.now self.new.facts.clock self.new.facts.done (numbers_from 1
             (length tasks.now)) self.new.next }
     {

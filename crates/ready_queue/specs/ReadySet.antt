@@ -24,7 +24,9 @@ set_refreshed key test [] keys = keys
 set_refreshed key test (t ∷ touched) keys = set_refreshed key test touched (slice_set keys t (kept_key key test t))
 
 abbrev pub SetIsRefreshed : Type 0
-SetIsRefreshed = (touched ts : List ℕ) (key key' : ℕ → Key) (test test' : ℕ → Bool) (keys : List (Option Key)) → AgreeBut touched ts key key' test test' → HoldsJust ts key test keys → HoldsJust ts key' test' (set_refreshed key' test' touched keys)
+SetIsRefreshed = (touched ts : List ℕ) (key key' : ℕ → Key) (test test' : ℕ → Bool) (keys : List (Option Key))
+    → AgreeBut touched ts key key' test test' → HoldsJust ts key test keys
+    → HoldsJust ts key' test' (set_refreshed key' test' touched keys)
 
 -- these tasks are taken out of the set one after the other, each as its first, until there are so many or none is left
 abbrev pub AreTaken : ℕ → List (Option Key) → List ℕ → Type 0
@@ -33,7 +35,8 @@ AreTaken (suc m) keys [] = size keys ≡ 0
 AreTaken (suc m) keys (u ∷ us) = IsFirst higher keys u × AreTaken m (slice_set keys u None) us
 
 abbrev pub FirstAreTheRanking : Type 0
-FirstAreTheRanking = (m : ℕ) (ts : List ℕ) (key : ℕ → Key) (test : ℕ → Bool) (keys : List (Option Key)) (us : List ℕ) → IsDistinct ts → HoldsJust ts key test keys → AreTaken m keys us → us ≡ take m (tasks_of (ranked_by key test ts))
+FirstAreTheRanking = (m : ℕ) (ts : List ℕ) (key : ℕ → Key) (test : ℕ → Bool) (keys : List (Option Key)) (us : List ℕ) → IsDistinct ts
+    → HoldsJust ts key test keys → AreTaken m keys us → us ≡ take m (tasks_of (ranked_by key test ts))
 
 -- the set without these tasks
 abbrev pub set_without : List ℕ → List (Option Key) → List (Option Key)
@@ -42,4 +45,6 @@ set_without (u ∷ us) keys = set_without us (slice_set keys u None)
 
 -- A set from which tasks were taken out holds the same again once each is put back.
 abbrev pub SetIsRestored : Type 0
-SetIsRestored = (us ts : List ℕ) (key : ℕ → Key) (test : ℕ → Bool) (keys : List (Option Key)) → ((t : ℕ) → has t us ≡ true → has t ts ≡ true) → HoldsJust ts key test keys → HoldsJust ts key test (set_refreshed key test us (set_without us keys))
+SetIsRestored = (us ts : List ℕ) (key : ℕ → Key) (test : ℕ → Bool) (keys : List (Option Key))
+    → ((t : ℕ) → has t us ≡ true → has t ts ≡ true) → HoldsJust ts key test keys
+    → HoldsJust ts key test (set_refreshed key test us (set_without us keys))

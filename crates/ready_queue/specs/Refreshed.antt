@@ -22,4 +22,5 @@ refreshed key test [] rs = rs
 refreshed key test (t ∷ touched) rs = refreshed key test touched (put_back key test t rs)
 
 abbrev pub RankingIsRefreshed : Type 0
-RankingIsRefreshed = (touched ts : List ℕ) (key key' : ℕ → Key) (test test' : ℕ → Bool) → IsDistinct ts → AgreeBut touched ts key key' test test' → ranked_by key' test' ts ≡ refreshed key' test' touched (ranked_by key test ts)
+RankingIsRefreshed = (touched ts : List ℕ) (key key' : ℕ → Key) (test test' : ℕ → Bool) → IsDistinct ts
+    → AgreeBut touched ts key key' test test' → ranked_by key' test' ts ≡ refreshed key' test' touched (ranked_by key test ts)

@@ -1,11 +1,10 @@
 -- Whoever waits waits for the owner of the semaphore, who holds one.
-use Rattle.std.proofs.Common.{Bool, List, [], eqb-true, false, inl, inr, map, not, refl, subst, sym, true, ℕ, ◌&&◌, ◌∙◌, ◌∷◌, ◌≡◌, ◌⊎◌}
-use Rattle.std.specs.Prelude.{None, Option, Some, nat_lt, if◌then◌else◌, ◌==◌}
+use Rattle.std.proofs.Common.{Bool, List, [], false, map, refl, subst, sym, true, ℕ, ◌∙◌, ◌∷◌, ◌≡◌}
+use Rattle.std.specs.Prelude.{Some, if◌then◌else◌}
 use Rattle.rt_task.specs.declared.Protocol.TheVariants.{Fmlp, Mpcp, Omlp, Pcp}
 use Rattle.rt_task.specs.declared.Protocol.{Protocol}
-use Rattle.rt_order.specs.KeyOrder.{higher}
-use Rattle.rt_rules.specs.Numbers.{first, foremost, has, is, is_empty}
-use Rattle.rt_rules.specs.Pcp.{TaskSem, holder_among, of_others, of_sem, passes}
+use Rattle.rt_rules.specs.Numbers.{first, has, is, is_empty}
+use Rattle.rt_rules.specs.Pcp.{TaskSem, of_others, of_sem, passes}
 use Rattle.rt_model.specs.BaseKeys.{base_key}
 use Rattle.rt_model.specs.Blockers.{blocker, blocker_among, has_higher_ceiling}
 use Rattle.rt_model.specs.Ceilings.{above_ceiling, ceiling, is_pcp, pcp}
@@ -15,9 +14,9 @@ use Rattle.rt_model.specs.Holders.{awaits, holder, holds, sem_state}
 use Rattle.rt_model.specs.Reachable.{IsReachable}
 use Rattle.rt_model.specs.Past.{Past}
 use Rattle.rt_model.specs.Semaphores.{cluster_of}
-use Rattle.rt_rules.proofs.BoolLaws.{both, clash, either, unless}
+use Rattle.rt_rules.proofs.BoolLaws.{clash, unless}
 use Rattle.rt_rules.proofs.BlockerLaws.{newest-of_others}
-use Rattle.rt_rules.proofs.MemberLaws.{empty-none, equal_self, has-first, some-is}
+use Rattle.rt_rules.proofs.MemberLaws.{empty-none, equal_self, some-is}
 use Rattle.rt_rules.proofs.PairLaws.{has_pair, tasks_of_pairs}
 use Rattle.rt_rules.proofs.PcpLaws.{IsStacked, newest-other}
 use Rattle.rt_laws.proofs.Engaged.{waiting-engaged}

@@ -1,28 +1,24 @@
 -- PCP: a cluster after an Unlock, in one of two forms: nothing was granted, or one request was.
-use Rattle.std.proofs.Common.{Bool, List, [], eqb-true, false, inl, inr, refl, subst, sym, true, ℕ, ◌&&◌, ◌||◌, ◌∙◌, ◌∷◌, ◌≡◌, ◌⊎◌}
-use Rattle.std.specs.Prelude.{if◌then◌else◌, ⊤, ◌==◌}
+use Rattle.std.proofs.Common.{Bool, List, [], eqb-true, false, inl, inr, refl, true, ℕ, ◌&&◌, ◌||◌, ◌∷◌, ◌≡◌, ◌⊎◌}
+use Rattle.std.specs.Prelude.{if◌then◌else◌, ◌==◌}
 use Rattle.rt_rules.specs.Distinct.{IsDistinct}
 use Rattle.rt_rules.specs.Numbers.{has}
 use Rattle.rt_rules.specs.Pcp.{PcpState, TaskSem, granted, in_order, passes, pcp_after, tested, without_pair}
 use Rattle.rt_rules.specs.SemState.{Frees}
 use Rattle.rt_model.specs.BaseKeys.{above, base_key}
 use Rattle.rt_model.specs.Ceilings.{above_ceiling, at_cluster, ceiling, is_pcp, pcp}
-use Rattle.rt_model.specs.Group.{Group, protocol, sems, users}
+use Rattle.rt_model.specs.Group.{Group, protocol, users}
 use Rattle.rt_model.specs.Reachable.{IsReachable}
 use Rattle.rt_model.specs.Past.{Event, Past, sem_act}
 use Rattle.rt_model.specs.Semaphores.{cluster_of}
 use Rattle.rt_rules.proofs.BoolLaws.{clash, or_true, unless}
 use Rattle.rt_rules.proofs.KeyLaws.{higher-below}
 use Rattle.rt_rules.proofs.MemberLaws.{equal_self}
-use Rattle.rt_rules.proofs.PairLaws.{distinct-in_order, has_pair, has_pair-in_order, pair-of, tasks_of_pairs}
+use Rattle.rt_rules.proofs.PairLaws.{distinct-in_order, has_pair, has_pair-in_order, tasks_of_pairs}
 use Rattle.rt_rules.proofs.PcpGrantLaws.{IsFalling, falling-in_order}
-use Rattle.rt_rules.proofs.PcpLaws.{passes-cons, pcp-once}
-use Rattle.rt_laws.proofs.Asked.{Asked, IsAsked, asked}
-use Rattle.rt_laws.proofs.AtSem.{at_cluster-asks}
+use Rattle.rt_rules.proofs.PcpLaws.{passes-cons}
 use Rattle.rt_laws.proofs.BaseKeyLaws.{above-strict}
-use Rattle.rt_laws.proofs.GroupLaws.{user-task}
-use Rattle.rt_laws.proofs.Moves.{by_moves}
-use Rattle.rt_laws.proofs.PcpState.{IsPcpKept, IsUser, pcp-waiting, pcp_kept, sem-home, user-not_over}
+use Rattle.rt_laws.proofs.PcpState.{IsPcpKept, pcp_kept, user-not_over}
 use Rattle.rt_laws.proofs.Rules.{MeetsRules}
 use Rattle.rt_laws.proofs.PcpGrants.{waiting_once}
 use Rattle.rt_changes.proofs.Acting.{IsParty, party-home}

@@ -1,5 +1,5 @@
 -- The answers of `sim`, by how its reading and its writing ended.
-use Rattle.std.proofs.Common.{◌≡◌, List, [], take, get_or, ap, inl, inr}
+use Rattle.std.proofs.Common.{◌≡◌, ℕ, true, List, [], ◌∷◌, take, get_or, ap, subst, inl, inr}
 use Rattle.std.specs.Prelude.{◌⊎◌, Result, Err}
 use Rattle.rt_base.specs.declared.TheConstants.{MOST_SET_BYTES}
 use Rattle.rt_task.specs.declared.Parts.{Parts}
@@ -12,12 +12,17 @@ use Rattle.rt_fault.specs.declared.status.Status.TheVariants as ends
 use Rattle.rt_model.proofs.PastLaws.{links_are_the_top}
 use Rattle.rtsim.specs.Ends.{Reading, Writing}
 use Rattle.rtsim.specs.LinksOf.{LinksAreTheTopOf}
-use Rattle.rt_plays.specs.Order.{histories}
+use Rattle.rt_plays.specs.Order.{histories, history_of}
+use Rattle.group_state.specs.Built.{is_built}
+use Rattle.group_state.specs.Groups.{GroupHistory}
+use Rattle.trace_lines.specs.FirstLine.{format_1}
+use Rattle.trace_text.specs.Groups as groups
+use Rattle.trace_text.specs.TraceText.{trace_text}
 use Rattle.rtsim.specs.Sim.{WasRead, WasRefused, set_trace}
 use Rattle.rtsim.specs.SimAnswers.{SimAnswers}
 use Rattle.rtsim.specs.Stopped.{EndsReading}
 use Rattle.rtsim.proofs.EndLaws.{ended-well}
-use Rattle.rtsim.proofs.SimLaws.{can_play-told, can_play-unrefused}
+use Rattle.rtsim.proofs.SimLaws.{playable-is_built, one-history, can_play-told, can_play-unrefused}
 
 links-of : (p : Parts) (hs : List (List Entry)) → LinksAreTheTopOf p hs
 links-of p hs n k low within c t = links_are_the_top (record { setup = p; number = n }) (take k (get_or hs n [])) c t
@@ -39,17 +44,17 @@ sim-unread {T} source sink answer e same =
       complete = λ can sure. ended-well source MOST_SET_BYTES (WasRefused source) answer e (can_play-told _ can) sure.read (λ b. can_play-unrefused source b can);
     }
 
--- a set was read, and its trace written, or a first part of it
-abbrev pub Wrote : Writing → Parts → Status → Type 0
-Wrote sink p ends.Ok = Extends sink.old.held sink.new.held (set_trace p)
-Wrote sink p ends.WriteFault = ExtendsByPrefix sink.old.held sink.new.held (set_trace p) × HasRisen sink.old.faults sink.new.faults
-Wrote sink p ends.NoMemory = (sink.new ≡ sink.old) ⊎ ExtendsByPrefix sink.old.held sink.new.held (set_trace p)
-Wrote sink p _ = ⊥
+-- a text was written, or a first part of it
+abbrev pub Wrote : Writing → List ℕ → Status → Type 0
+Wrote sink text ends.Ok = Extends sink.old.held sink.new.held text
+Wrote sink text ends.WriteFault = ExtendsByPrefix sink.old.held sink.new.held text × HasRisen sink.old.faults sink.new.faults
+Wrote sink text ends.NoMemory = (sink.new ≡ sink.old) ⊎ ExtendsByPrefix sink.old.held sink.new.held text
+Wrote sink text _ = ⊥
 
-pub sim-read :
+wrote-answers :
     (source : Reading) (sink : Writing) (p : Parts) (answer : Status) → WasRead source p
-    → TakesAtMost MOST_SET_BYTES source.old.left source.new.left → Wrote sink p answer → SimAnswers source sink answer
-sim-read source sink p ends.Ok read few all = record {
+    → TakesAtMost MOST_SET_BYTES source.old.left source.new.left → Wrote sink (set_trace p) answer → SimAnswers source sink answer
+wrote-answers source sink p ends.Ok read few all = record {
   ok = λ _. record { setup = p; read = read; written = all; links = links-of p (histories p) };
   bad_input = λ b is. cc;
   too_long = λ is. cc;
@@ -59,7 +64,7 @@ sim-read source sink p ends.Ok read few all = record {
   not_invalid = λ line is. cc;
   complete = λ _ _. tt;
 }
-sim-read source sink p ends.WriteFault read few (part, risen) = record {
+wrote-answers source sink p ends.WriteFault read few (part, risen) = record {
   ok = λ is. cc;
   bad_input = λ b is. cc;
   too_long = λ is. cc;
@@ -69,7 +74,7 @@ sim-read source sink p ends.WriteFault read few (part, risen) = record {
   not_invalid = λ line is. cc;
   complete = λ _ sure. absurd (sure.write risen);
 }
-sim-read source sink p ends.NoMemory read few short = record {
+wrote-answers source sink p ends.NoMemory read few short = record {
   ok = λ is. cc;
   bad_input = λ b is. cc;
   too_long = λ is. cc;
@@ -79,8 +84,18 @@ sim-read source sink p ends.NoMemory read few short = record {
   not_invalid = λ line is. cc;
   complete = λ _ _. tt;
 }
-sim-read source sink p (ends.Invalid line) read few h = absurd h
-sim-read source sink p ends.Usage read few h = absurd h
-sim-read source sink p (ends.BadInput b) read few h = absurd h
-sim-read source sink p ends.ReadFault read few h = absurd h
-sim-read source sink p ends.TooLong read few h = absurd h
+wrote-answers source sink p (ends.Invalid line) read few h = absurd h
+wrote-answers source sink p ends.Usage read few h = absurd h
+wrote-answers source sink p (ends.BadInput b) read few h = absurd h
+wrote-answers source sink p ends.ReadFault read few h = absurd h
+wrote-answers source sink p ends.TooLong read few h = absurd h
+
+-- a set was read, and the trace of its one group written, or a first part of it
+pub sim-read :
+    (source : Reading) (sink : Writing) (p : Parts) (h : GroupHistory) (hs : List GroupHistory) (answer : Status) → WasRead source p
+    → TakesAtMost MOST_SET_BYTES source.old.left source.new.left → hs ≡ h ∷ [] → h.entries ≡ history_of p 0
+    → Wrote sink (trace_text format_1 p (groups.histories hs)) answer → SimAnswers source sink answer
+sim-read source sink p h hs answer read few only same wrote =
+    let built : is_built p ≡ true = playable-is_built _ _ read.reads in
+    wrote-answers source sink p answer read few
+    (subst (λ (es : List (List Entry)). Wrote sink (trace_text format_1 p es) answer) (one-history p h hs read.valid built only same) wrote)

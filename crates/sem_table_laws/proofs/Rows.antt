@@ -6,7 +6,7 @@ use Rattle.rt_task.specs.declared.Task.{Task}
 use Rattle.rt_task.specs.declared.Protocol.{Protocol}
 use Rattle.rt_task.specs.declared.Protocol.TheVariants.{Fmlp, Mpcp, Omlp, Pcp}
 use Rattle.rt_rules.specs.Distinct.{IsDistinct}
-use Rattle.rt_rules.specs.Numbers.{has, is, numbers_from, same}
+use Rattle.rt_rules.specs.Numbers.{has, same}
 use Rattle.rt_rules.specs.SemState.{Asks}
 use Rattle.rt_model.specs.Answers.{is_granted}
 use Rattle.rt_model.specs.BaseKeys.{base_key}
@@ -19,7 +19,6 @@ use Rattle.rt_rules.proofs.BoolLaws.{both, clash, unless}
 use Rattle.rt_rules.proofs.DistinctLaws.{length-distinct}
 use Rattle.rt_rules.proofs.MemberLaws.{equal_self, has-filter}
 use Rattle.rt_rules.proofs.NumberLaws.{distinct-numbers_from, length-numbers_from}
-use Rattle.rt_rules.proofs.PlacingLaws.{distinct-filter}
 use Rattle.rt_laws.proofs.Asked.{IsAsked}
 use Rattle.rt_laws.proofs.GroupLaws.{user-home, pcp-shares}
 use Rattle.rt_laws.proofs.Holding.{one-holds}
@@ -41,9 +40,8 @@ use Rattle.sem_table.specs.Opened.{new_row}
 use Rattle.sem_table.specs.Asked as asks
 use Rattle.sem_table.specs.Asked.{after_ask, is_free, one_more, row_asked}
 use Rattle.sem_table.specs.SemTable.{SemTable, no_row, row_at, sem_at, set_at}
-use Rattle.sem_table.specs.Told.{state_by}
 use Rattle.sem_table_laws.specs.Keeping.{AskRows, NewRows, QuietRows}
-use Rattle.sem_table_laws.specs.KeptRows.{KeepsRow, KeepsRows}
+use Rattle.sem_table_laws.specs.KeptRows.{KeepsRow}
 use Rattle.sem_table_laws.specs.KeptSems.{KeepsSem, KeepsSems}
 use Rattle.sem_table_laws.specs.Telling.{GrantsAsRules}
 use Rattle.sem_table_laws.proofs.Conditions.{distinct-holds, set-here, tells}

@@ -1,5 +1,5 @@
 -- The PCP semaphores of a cluster.
-use Rattle.std.proofs.Common.{◌≡◌, ◌∙◌, ◌&&◌, ◌||◌, ℕ, Bool, true, false, List, [], ◌∷◌, refl, sym, ap, eqb-true, subst, inl, inr, ◌⊎◌}
+use Rattle.std.proofs.Common.{◌≡◌, ◌∙◌, ◌||◌, ℕ, Bool, true, false, List, [], ◌∷◌, refl, sym, ap, eqb-true, subst, inl, inr, ◌⊎◌}
 use Rattle.std.specs.Prelude.{◌==◌, slice_set}
 use Rattle.rt_task.specs.RuleWords.{stands_under}
 use Rattle.rt_task.specs.declared.PluginKind.{PluginKind}

@@ -35,10 +35,10 @@ use Rattle.sem_table.specs.declared.any_sem.AnySem.{AnySem}
 use Rattle.sem_table.specs.declared.any_sem.AnySem.TheVariants as any
 use Rattle.sem_table.specs.declared.row.Row.{Row}
 use Rattle.sem_table.specs.Told as table
-use Rattle.sem_table.specs.SemTable.{SemTable, no_row, row_at, sem_at, set_at}
+use Rattle.sem_table.specs.SemTable.{SemTable, row_at, sem_at, set_at}
 use Rattle.sem_table.specs.Told.{last_in}
 use Rattle.sem_table_laws.specs.Fitting.{AskIsKnown, ReleaseIsKnown}
-use Rattle.sem_table_laws.specs.KeptSems.{IsPcpOf, KeepsSem, KeepsSems, KeepsSet}
+use Rattle.sem_table_laws.specs.KeptSems.{KeepsSem, KeepsSems, KeepsSet}
 use Rattle.sem_table_laws.specs.Telling.{TellsLast, TellsWaits}
 use Rattle.sem_table_laws.proofs.Agree.{foremost-same}
 use Rattle.sem_table_laws.proofs.Conditions.{group-of, set-here, tells}

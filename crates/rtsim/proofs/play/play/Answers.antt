@@ -31,10 +31,10 @@ pub step-requires-clause-room : goal.step-requires-clause-room
 step-requires-clause-room c =
     rw c.loop-step.invariant (omega (arith, c.loop-step-test.true))
 
-pub step-requires-clause-cpu : goal.step-requires-clause-cpu
-step-requires-clause-cpu c =
+pub step-requires-clause-step : goal.step-requires-clause-step
+step-requires-clause-step c =
     let given : ArePlainSteps c.args.setup.now c.steps_given-steps.result.now = subst (ArePlainSteps c.args.setup.now) (sym (c.steps_given-steps.ensures ∙ ap (λ (p : Parts). steps_given p.drive) c.parts.ensures.parts)) (steps-plain c.args.setup.now c.parts.ensures.valid c.requires) in
-    rw c.loop-step.invariant (given.at_processors _ _ (omega arith))
+    rw c.loop-step.invariant (given.of_group _ _ (omega arith))
 
 pub step-requires-clause-act : goal.step-requires-clause-act
 step-requires-clause-act c =

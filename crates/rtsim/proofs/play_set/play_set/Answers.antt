@@ -1,11 +1,5 @@
-use Rattle.std.proofs.Common.{◌≡◌, List, inr, refl, subst}
-use Rattle.rt_history.specs.declared.Entry.{Entry}
-use Rattle.rt_fault.specs.Held.{Extends, ExtendsByPrefix}
-use Rattle.trace_text.specs.Groups as groups
-use Rattle.trace_lines.specs.FirstLine.{format_1}
-use Rattle.trace_text.specs.TraceText.{trace_text}
-use Rattle.rt_plays.specs.Order.{histories}
-use Rattle.rtsim.proofs.SimLaws.{playable-is_built, one-group, one-history}
+use Rattle.std.proofs.Common.{inr, refl}
+use Rattle.rtsim.proofs.SimLaws.{playable-is_built, one-group}
 use Rattle.rtsim.proofs.SimAnswerLaws.{sim-unread, sim-read}
 use Rattle.rtsim.proofs.play_set.play_set.Goals as goal
 
@@ -20,18 +14,15 @@ write_trace-requires-clause-groups g c = one-group c.in-Ok.setup c.in-Ok-play.en
 
 pub returns-in-Ok-write_trace-clause-answers : goal.returns-in-Ok-write_trace-clause-answers
 returns-in-Ok-write_trace-clause-answers g c =
-    let told : groups.histories c.from_ref.result.now ≡ histories c.in-Ok.setup = one-history c.in-Ok.setup c.in-Ok-play.engine c.from_ref.result.now c.in-Ok.ensures.ok.valid (playable-is_built _ _ c.in-Ok.ensures.ok.reads) c.from_ref.ensures.value c.in-Ok-play.ensures.entries in
-    sim-read _ _ c.in-Ok.setup _ c.in-Ok.ensures.ok (c.in-Ok.ensures.ends.not_too_long (λ is. cc))
-    (subst (λ (hs : List (List Entry)). Extends (g.K.Sink.held c.args.out.now) (g.K.Sink.held c.write_trace.new.out) (trace_text format_1 c.in-Ok.setup hs)) told c.in-Ok-write_trace.ensures.ok)
+    sim-read _ _ c.in-Ok.setup c.in-Ok-play.engine c.from_ref.result.now _ c.in-Ok.ensures.ok (c.in-Ok.ensures.ends.not_too_long (λ is. cc))
+    c.from_ref.ensures.value c.in-Ok-play.ensures.entries c.in-Ok-write_trace.ensures.ok
 
 pub returns-in-Err-Fault-clause-answers : goal.returns-in-Err-Fault-clause-answers
 returns-in-Err-Fault-clause-answers g c =
-    let told : groups.histories c.from_ref.result.now ≡ histories c.in-Ok.setup = one-history c.in-Ok.setup c.in-Ok-play.engine c.from_ref.result.now c.in-Ok.ensures.ok.valid (playable-is_built _ _ c.in-Ok.ensures.ok.reads) c.from_ref.ensures.value c.in-Ok-play.ensures.entries in
-    sim-read _ _ c.in-Ok.setup _ c.in-Ok.ensures.ok (c.in-Ok.ensures.ends.not_too_long (λ is. cc))
-    (subst (λ (hs : List (List Entry)). ExtendsByPrefix (g.K.Sink.held c.args.out.now) (g.K.Sink.held c.write_trace.new.out) (trace_text format_1 c.in-Ok.setup hs)) told c.in-Err-Fault.ensures.stopped, c.in-Err-Fault.ensures.fault (cc))
+    sim-read _ _ c.in-Ok.setup c.in-Ok-play.engine c.from_ref.result.now _ c.in-Ok.ensures.ok (c.in-Ok.ensures.ends.not_too_long (λ is. cc))
+    c.from_ref.ensures.value c.in-Ok-play.ensures.entries (c.in-Err-Fault.ensures.stopped, c.in-Err-Fault.ensures.fault (cc))
 
 pub returns-clause-answers : goal.returns-clause-answers
 returns-clause-answers g c =
-    let told : groups.histories c.from_ref.result.now ≡ histories c.in-Ok.setup = one-history c.in-Ok.setup c.in-Ok-play.engine c.from_ref.result.now c.in-Ok.ensures.ok.valid (playable-is_built _ _ c.in-Ok.ensures.ok.reads) c.from_ref.ensures.value c.in-Ok-play.ensures.entries in
-    sim-read _ _ c.in-Ok.setup _ c.in-Ok.ensures.ok (c.in-Ok.ensures.ends.not_too_long (λ is. cc))
-    (inr (subst (λ (hs : List (List Entry)). ExtendsByPrefix (g.K.Sink.held c.args.out.now) (g.K.Sink.held c.write_trace.new.out) (trace_text format_1 c.in-Ok.setup hs)) told c.in-Err-NoMemory.ensures.stopped))
+    sim-read _ _ c.in-Ok.setup c.in-Ok-play.engine c.from_ref.result.now _ c.in-Ok.ensures.ok (c.in-Ok.ensures.ends.not_too_long (λ is. cc))
+    c.from_ref.ensures.value c.in-Ok-play.ensures.entries (inr c.in-Err-NoMemory.ensures.stopped)
