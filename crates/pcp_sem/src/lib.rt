@@ -5,7 +5,7 @@
 ghost use Rattle.std.specs.Prelude.{◌≡◌, ◌≢◌, ◌<◌, ◌≤◌, ◌↔◌, ◌++◌, ◌==◌, [], ℕ, true, false, length, reverse, replicate, filter, IfOk, IsNone, Some, None, slice_set, slice_get};
 ghost use Rattle.rt_base.specs.TaskNos.{number_of_task};
 ghost use Rattle.rt_order.specs.KeyOrder.{higher, equal_keys, lowest_key};
-ghost use Rattle.rt_rules.specs.Numbers.{has};
+ghost use Rattle.rt_rules.specs.Numbers.{first, has};
 ghost use Rattle.rt_rules.specs.SemState.{Asks, Frees};
 ghost use Rattle.rt_rules.specs.Pcp.{of_others, pcp_after, pcp_sem_state, passes, without_pair};
 ghost use Rattle.sem_laws.specs.KeptKeys.{key_at, above};
@@ -138,7 +138,7 @@ impl PcpSet {
 
     /// The task frees the semaphore, the last that it was granted among those it holds. Then each waiting task is
     /// tested once, in falling order of keys, and is granted its semaphore where it passes at its turn. The answer is
-    /// how many were granted.
+    /// how many were granted: at most one, since no later one passes once one holds.
     ///
     /// Example: `set.release(TaskNo(1), 0)` is 1 where a waiting task passes then.
     pub fn release(&mut self, task: TaskNo, sem: u32) -> u32
@@ -153,6 +153,7 @@ impl PcpSet {
         ensures grants { tasks_of self.new.state.held ≡ reverse self.new.grants ++
             tasks_of (without_pair (record { task = task.0; sem = sem }) self.old.state.held) }
         ensures count { result ≡ length self.new.grants }
+        ensures one { result ≤ 1 }
         ensures settled { IsSettled self.new }
     {
         pairs::take_out(&mut self.held, Pair { task, sem });
@@ -197,11 +198,20 @@ impl PcpSet {
         pairs::newest_of_others(self.held.as_slice(), task)
     }
 
-    /// The task that holds the semaphore.
+    /// The task of the newest grant among those that are held, `None` where nothing is held. It is the blocker of
+    /// each waiting task.
+    ///
+    /// Example: where task 1 and then task 2 are granted semaphores, `set.newest()` is task 2.
+    pub fn newest(&self) -> Option<TaskNo>
+        ensures { number_of_task result ≡ first (tasks_of self.now.state.held) }
+    {
+        self.held.first().map(|p| p.task)
+    }
+
+    /// The task that holds the semaphore; `None` also of a number that is no semaphore of the set.
     ///
     /// Example: `set.holder(0)` is `None` in a new set.
     pub fn holder(&self, sem: u32) -> Option<TaskNo>
-        requires { sem < length self.now.ceilings }
         ensures { number_of_task result ≡ (pcp_sem_state sem self.now.state).holder }
     {
         pairs::holder_in(self.held.as_slice(), sem)

@@ -1,0 +1,66 @@
+-- What the table tells of a semaphore and of a task.
+use Rattle.std.specs.Prelude.{ℕ, ◌==◌, List, Option, None, Some, if◌then◌else◌, slice_get}
+use Rattle.rt_base.specs.declared.SemNo.{SemNo}
+use Rattle.rt_rules.specs.Numbers.{first}
+use Rattle.rt_rules.specs.Omlp.{omlp_sem_state}
+use Rattle.rt_rules.specs.Pcp.{pcp_sem_state}
+use Rattle.rt_rules.specs.SemState.{SemState, in_line}
+use Rattle.pcp_sem.specs.Pairs.{tasks_of}
+use Rattle.pcp_sem.specs.PcpKept.{PcpKept, blocker_of, last_granted}
+use Rattle.sem_table.specs.declared.any_sem.AnySem.{AnySem}
+use Rattle.sem_table.specs.declared.any_sem.AnySem.TheVariants as any
+use Rattle.sem_table.specs.declared.row.Row.{Row}
+use Rattle.sem_table.specs.SemTable.{SemTable, sem_at, set_at, row_at}
+
+-- who holds a semaphore and who waits for it
+abbrev pub state_by : List PcpKept → ℕ → AnySem → SemState
+state_by sets s (any.Fmlp l) = in_line l.line
+state_by sets s (any.Omlp k) = omlp_sem_state k.state
+state_by sets s (any.Mpcp k) = k.state
+state_by sets s (any.Pcp c) = pcp_sem_state s (set_at sets c.0).state
+
+abbrev pub state_of : SemTable → ℕ → SemState
+state_of w s = state_by w.sets s (sem_at w.sems s)
+
+-- the owner of a semaphore, for whom all wait that wait for it: its holder, under PCP the task of the newest grant of the cluster
+abbrev pub owner_by : List PcpKept → AnySem → Option ℕ
+owner_by sets (any.Fmlp l) = first l.line
+owner_by sets (any.Omlp k) = first k.state.fifo
+owner_by sets (any.Mpcp k) = k.state.holder
+owner_by sets (any.Pcp c) = first (tasks_of (set_at sets c.0).state.held)
+
+abbrev pub owner_of : SemTable → ℕ → Option ℕ
+owner_of w s = owner_by w.sets (sem_at w.sems s)
+
+-- the semaphore that a task waits for, and how many it holds
+abbrev pub awaits_of : SemTable → ℕ → Option SemNo
+awaits_of w t = (row_at w.rows t).awaits
+
+abbrev pub held_of : SemTable → ℕ → ℕ
+held_of w t = (row_at w.rows t).held
+
+-- whom a task waits for that waits for a semaphore: its holder, under PCP the blocker
+abbrev pub next_by : List PcpKept → ℕ → AnySem → Option ℕ
+next_by sets t (any.Fmlp l) = first l.line
+next_by sets t (any.Omlp k) = first k.state.fifo
+next_by sets t (any.Mpcp k) = k.state.holder
+next_by sets t (any.Pcp c) = blocker_of (set_at sets c.0).ceilings (set_at sets c.0).state.held t
+
+abbrev pub next_at : SemTable → ℕ → Option SemNo → Option ℕ
+next_at w t None = None
+next_at w t (Some s) = next_by w.sets t (sem_at w.sems s.0)
+
+abbrev pub waits_for_of : SemTable → ℕ → Option ℕ
+waits_for_of w t = next_at w t (awaits_of w t)
+
+-- the tasks that the last release granted a semaphore: one at most
+abbrev pub served_at : SemTable → ℕ → Option ℕ
+served_at w i = if i == 0 then w.served else None
+
+-- the PCP semaphore of its cluster that a task was granted last among those that it holds
+abbrev pub last_in : List PcpKept → ℕ → Option Row → Option ℕ
+last_in sets t None = None
+last_in sets t (Some r) = last_granted (set_at sets r.home.0).state.held t
+
+abbrev pub last_of : SemTable → ℕ → Option ℕ
+last_of w t = last_in w.sets t (slice_get w.rows t)

@@ -1,0 +1,122 @@
+//! A semaphore of any of the four protocols.
+ghost use Rattle.std.specs.Prelude.{◌≡◌, ◌↔◌, true, None, Some, slice_index_or};
+ghost use Rattle.rt_base.specs.TaskNos.{number_of_task};
+ghost use Rattle.rt_rules.specs.Numbers.{first};
+ghost use Rattle.pcp_sem.specs.PcpKept.{blocker_of};
+ghost use Rattle.sem_table.specs.SemTable.{set_at};
+ghost use Rattle.sem_table.specs.Told.{state_by, owner_by, next_by};
+ghost use Rattle.sem_table.specs.Asked.{asked, sets_asked, set_asked, set_passes, is_granted_by};
+ghost use Rattle.sem_table.specs.Released.{freed, sets_freed, set_freed, set_served, served_by};
+ghost use Rattle.sem_table.specs.Conditions.{MayAskBy, MayReleaseBy, IsPcpRequest, IsPcpLast};
+
+use fmlp_sem::FmlpSem;
+use mpcp_sem::MpcpSem;
+use omlp_sem::OmlpSem;
+use pcp_sem::PcpSet;
+use rt_base::{Ask, ClusterNo, SemNo, TaskNo};
+use rt_order::Key;
+
+/// A semaphore of one of the four protocols. The PCP semaphores of a cluster are kept in one set, where each has its
+/// own number.
+#[derive(Drop)]
+pub enum AnySem {
+    Fmlp(FmlpSem),
+    Omlp(OmlpSem),
+    Mpcp(MpcpSem),
+    Pcp(ClusterNo),
+}
+
+fn ask_set(set: &mut PcpSet, task: TaskNo, key: Key, sem: SemNo) -> Ask
+    requires { IsPcpRequest set.old task.0 key sem.0 }
+    ensures after { set.new ≡ set_asked task.0 key sem.0 set.old }
+    ensures granted { (result ≡ Ask.Granted) ↔ (set_passes task.0 key set.old ≡ true) }
+{
+    set.ask(task, key, sem.0)
+}
+
+fn release_set(set: &mut PcpSet, task: TaskNo, sem: SemNo) -> Option<TaskNo>
+    requires { IsPcpLast set.old task.0 sem.0 }
+    ensures after { set.new ≡ set_freed task.0 sem.0 set.old }
+    ensures served { number_of_task result ≡ set_served task.0 sem.0 set.old }
+{
+    let count = set.release(task, sem.0);
+    if count == 0 { None } else { set.granted(0) }
+}
+
+impl AnySem {
+    /// The task asks for the semaphore.
+    pub fn ask(&mut self, sets: &mut [PcpSet], task: TaskNo, key: Key, sem: SemNo) -> Ask
+        requires { MayAskBy task.0 key sem.0 sets.old self.old }
+        ensures sem { self.new ≡ asked task.0 key self.old }
+        ensures sets { sets.new ≡ sets_asked task.0 key sem.0 self.old sets.old }
+        ensures granted { (result ≡ Ask.Granted) ↔
+            (is_granted_by task.0 key sets.old self.old ≡ true) }
+    {
+        match self {
+            AnySem::Fmlp(one) => one.ask(task, key),
+            AnySem::Omlp(one) => one.ask(task, key),
+            AnySem::Mpcp(one) => one.ask(task, key),
+            AnySem::Pcp(c) => ask_set(&mut sets[c.0 as usize], task, key, sem),
+        }
+    }
+
+    /// The task frees the semaphore. The answer is the task that is granted one.
+    pub fn release(&mut self, sets: &mut [PcpSet], task: TaskNo, sem: SemNo) -> Option<TaskNo>
+        requires { MayReleaseBy task.0 sem.0 sets.old self.old }
+        ensures sem { self.new ≡ freed task.0 self.old }
+        ensures sets { sets.new ≡ sets_freed task.0 sem.0 self.old sets.old }
+        ensures served { number_of_task result ≡ served_by task.0 sem.0 sets.old self.old }
+    {
+        match self {
+            AnySem::Fmlp(one) => one.release(task),
+            AnySem::Omlp(one) => one.release(task),
+            AnySem::Mpcp(one) => one.release(task),
+            AnySem::Pcp(c) => release_set(&mut sets[c.0 as usize], task, sem),
+        }
+    }
+
+    /// The task that holds the semaphore.
+    pub fn holder(&self, sets: &[PcpSet], sem: SemNo) -> Option<TaskNo>
+        ensures { number_of_task result ≡ (state_by sets.now sem.0 self.now).holder }
+    {
+        match self {
+            AnySem::Fmlp(one) => one.holder(),
+            AnySem::Omlp(one) => one.holder(),
+            AnySem::Mpcp(one) => one.holder(),
+            AnySem::Pcp(c) => {
+                let set = sets.get(c.0 as usize)?;
+                set.holder(sem.0)
+            }
+        }
+    }
+
+    /// The task for which all wait that wait for the semaphore.
+    pub fn owner(&self, sets: &[PcpSet]) -> Option<TaskNo>
+        ensures { number_of_task result ≡ owner_by sets.now self.now }
+    {
+        match self {
+            AnySem::Fmlp(one) => one.holder(),
+            AnySem::Omlp(one) => one.holder(),
+            AnySem::Mpcp(one) => one.holder(),
+            AnySem::Pcp(c) => {
+                let set = sets.get(c.0 as usize)?;
+                set.newest()
+            }
+        }
+    }
+
+    /// The task for which that task waits, where it waits for the semaphore.
+    pub fn next(&self, sets: &[PcpSet], task: TaskNo) -> Option<TaskNo>
+        ensures { number_of_task result ≡ next_by sets.now task.0 self.now }
+    {
+        match self {
+            AnySem::Fmlp(one) => one.holder(),
+            AnySem::Omlp(one) => one.holder(),
+            AnySem::Mpcp(one) => one.holder(),
+            AnySem::Pcp(c) => {
+                let set = sets.get(c.0 as usize)?;
+                set.blocker(task)
+            }
+        }
+    }
+}

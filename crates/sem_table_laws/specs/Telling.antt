@@ -1,0 +1,54 @@
+-- What the table tells is what the rules say.
+use Rattle.std.specs.Prelude.{◌≡◌, ℕ, true, Option, Some}
+use Rattle.rt_rules.specs.Numbers.{has}
+use Rattle.rt_rules.specs.SemState.{Asks, Frees}
+use Rattle.rt_model.specs.Answers.{is_granted as is_granted_by_rules}
+use Rattle.rt_model.specs.BaseKeys.{base_key}
+use Rattle.rt_model.specs.EffectiveKeys.{waits_for}
+use Rattle.rt_model.specs.Group.{Group, protocol, sems, tasks, users}
+use Rattle.rt_model.specs.Holders.{sem_state, last_granted}
+use Rattle.rt_model.specs.Past.{Event, Past, sem_act}
+use Rattle.rt_laws.specs.EveryPast.{EveryMove, EveryPast}
+use Rattle.rt_changes.specs.HoldChanges.{IsServed}
+use Rattle.rt_changes.specs.Owners.{owner}
+use Rattle.sem_table.specs.Asked.{is_granted}
+use Rattle.sem_table.specs.Released.{after_release}
+use Rattle.sem_table.specs.SemTable.{SemTable}
+use Rattle.sem_table.specs.Told.{last_of, owner_of, state_of, waits_for_of}
+use Rattle.sem_table_laws.specs.KeptSems.{KeepsSems}
+use Rattle.sem_table_laws.specs.KeptRows.{KeepsRows}
+
+-- Who holds and who waits, of a semaphore that a task of the group declares.
+abbrev pub TellsState : Type 0
+TellsState = EveryPast (λ g past. (w : SemTable) (s u : ℕ) → has s (sems g) ≡ true → has u (users g s) ≡ true → KeepsSems g past w →
+    state_of w s ≡ sem_state g s past)
+
+-- Its owner.
+abbrev pub TellsOwner : Type 0
+TellsOwner = EveryPast (λ g past. (w : SemTable) (s u : ℕ) → has s (sems g) ≡ true → has u (users g s) ≡ true → KeepsSems g past w →
+    owner_of w s ≡ owner g s past)
+
+-- For whom a task waits.
+abbrev pub TellsWaits : Type 0
+TellsWaits = EveryPast (λ g past. (w : SemTable) (t : ℕ) → has t (tasks g) ≡ true → KeepsSems g past w → KeepsRows g past w →
+    waits_for_of w t ≡ waits_for g t past)
+
+-- The PCP semaphore that it was granted last.
+abbrev pub TellsLast : Type 0
+TellsLast = EveryPast (λ g past. (w : SemTable) (t : ℕ) → has t (tasks g) ≡ true → KeepsSems g past w → KeepsRows g past w →
+    last_of w t ≡ last_granted g t past)
+
+-- A request is granted where the rules grant it.
+abbrev pub GrantsAsRules : Type 0
+GrantsAsRules = EveryMove (λ g e past. (w : SemTable) (t s : ℕ) → sem_act e ≡ Asks t s → KeepsSems g past w →
+    is_granted t (base_key g t past) s w ≡ is_granted_by_rules g (protocol g s) s t past)
+
+-- the task, if any, that a release granted what it waited for, and there is no other
+pub record IsServedBy (g : Group) (e : Event) (past : Past) (o : Option ℕ) : Type 0 where
+  pub gives : (u : ℕ) → o ≡ Some u → (r : ℕ) × IsServed g u r e past
+  pub takes : (u r : ℕ) → IsServed g u r e past → o ≡ Some u
+
+-- A release grants a semaphore to the task that the accepted Unlock serves.
+abbrev pub TellsServed : Type 0
+TellsServed = EveryMove (λ g e past. (w : SemTable) (t s : ℕ) → sem_act e ≡ Frees t s → KeepsSems g past w →
+    IsServedBy g e past (after_release t s w).served)
