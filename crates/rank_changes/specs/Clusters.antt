@@ -21,7 +21,7 @@ use Rattle.rank_changes.specs.Touched.{arriving}
 abbrev pub AgreeInCluster : Group → ℕ → List ℕ → Past → Past → Type 0
 AgreeInCluster g c touched past past' =
     AgreeBut touched (tasks_of g c) (λ t. effective_key g t past) (λ t. effective_key g t past')
-        (λ t. eligible g t past) (λ t. eligible g t past')
+    (λ t. eligible g t past) (λ t. eligible g t past')
 
 -- The ranking of a cluster is kept by taking out the touched tasks and putting back those that are eligible now.
 abbrev pub RankingIsKept : Type 0
