@@ -11,7 +11,7 @@ ghost use Rattle.trace_text.specs.TraceText.{lines_from, trace_text};
 ghost use Rattle.trace_text.specs.Writing.{Came};
 
 use crate::WriteStop;
-use crate::head::head_of;
+use crate::head::set_line_of;
 use crate::lines::{write_bytes, write_end_line, write_entry_line, write_group_line};
 use crate::replay::Replay;
 use group_engine::Engine;
@@ -85,13 +85,14 @@ fn write_groups<K: Sink>(
     write_end_line(out, &mut line)
 }
 
-/// The first two lines.
+/// The first two lines, one after the other.
 fn write_head<K: Sink>(alloc: Global, parts: &Parts, out: &mut K) -> Result<(), WriteStop>
     ensures { Came result (K.held out.old) (K.held out.new) (K.faults out.old) (K.faults out.new)
         (head_text format_1 parts.now) }
 {
-    let head = head_of(alloc, parts)?;
-    write_bytes(out, head.as_slice())
+    let line = set_line_of(alloc, parts)?;
+    write_bytes(out, b"rtsched trace 1\n")?;
+    write_bytes(out, line.as_slice())
 }
 
 /// The whole trace.
