@@ -29,7 +29,7 @@ use Rattle.rt_laws.proofs.Waiting.{awaits-waits, none-waits}
 use Rattle.rt_laws.proofs.WaitsHolding.{waits_under_pcp}
 
 -- the blocker of a task that does not pass is the owner of the newest grant
-newest-blocks :
+pub newest-blocks :
     (g : Group) (t : ℕ) (p : TaskSem) (ps : List TaskSem) → IsStacked (above_ceiling g) (p ∷ ps)
     → ((u s : ℕ) → has_pair u s (p ∷ ps) ≡ true → above_ceiling g u s ≡ false) → passes (above_ceiling g) (p ∷ ps) t ≡ false
     → blocker_among g (of_others t (p ∷ ps)) ≡ Some p.task

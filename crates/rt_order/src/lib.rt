@@ -5,9 +5,11 @@ ghost use Rattle.std.specs.Prelude.{◌≡◌};
 ghost use Rattle.rt_order.specs.KeyOrder.{higher};
 
 mod order;
+mod plugin;
 mod steps;
 
 pub use order::{ByKey, Order, Ordered};
+pub use plugin::Plugin;
 pub use steps::Steps;
 
 /// A priority. Of two keys the one with the smaller (band, major, minor) is the higher, compared in that order.
