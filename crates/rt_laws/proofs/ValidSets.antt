@@ -148,11 +148,11 @@ sem-numbered : (g : Group) (s : ℕ) → has s (sems g) ≡ true → (1 ≤ s) �
 unfolding sems
 sem-numbered g s h = numbered s (length g.setup.sems) h
 
-abbrev drafted : Task → DraftTask
+abbrev pub drafted : Task → DraftTask
 drafted t = draft_task t (runs t.body)
 
 -- what is kept of a task, as the rules see it
-task-keeps : (p : Parts) (rule : List DraftTask → DraftTask → Bool) → ((i : ℕ) (d : DraftTask) → i < length (draft_of p).tasks → KeepsRule rule i (slice_index_or (draft_of p).tasks i d)) → (i : ℕ) → i < length p.tasks → KeepsRule rule i (drafted (slice_index_or p.tasks i no_task))
+pub task-keeps : (p : Parts) (rule : List DraftTask → DraftTask → Bool) → ((i : ℕ) (d : DraftTask) → i < length (draft_of p).tasks → KeepsRule rule i (slice_index_or (draft_of p).tasks i d)) → (i : ℕ) → i < length p.tasks → KeepsRule rule i (drafted (slice_index_or p.tasks i no_task))
 task-keeps p rule each i low = subst (KeepsRule rule i) (get_or-map drafted p.tasks i no_task (drafted no_task) low) (each i (drafted no_task) (rw (length-map p.tasks drafted) low))
 
 -- ---- what the rules say
@@ -163,7 +163,7 @@ fourth a b c d e h = (both d e (both c (d && e) (both b (c && (d && e)) (both a 
 sixth : (a b c d e f k : Bool) → a && (b && (c && (d && (e && (f && k))))) ≡ true → f ≡ true
 sixth a b c d e f k h = fourth c d e f k (both b (c && (d && (e && (f && k)))) (both a (b && (c && (d && (e && (f && k))))) h).1).1
 
-has_cluster : (plugin : PluginKind) (n : ℕ) → allows_clusters plugin n ≡ true → 1 ≤ n
+pub has_cluster : (plugin : PluginKind) (n : ℕ) → allows_clusters plugin n ≡ true → 1 ≤ n
 has_cluster plugins.GsnEdf n h = let e : n ≡ 1 = eqb-true n 1 h in omega (arith, e)
 has_cluster plugins.CEdf n h = ltb-true 0 n h
 has_cluster plugins.PsnEdf n h = ltb-true 0 n h

@@ -32,11 +32,11 @@ use Rattle.rt_laws.proofs.ValidSets.{KeepsRule, KeepsSteps, step_rows, within-bo
 
 -- ---- what the rules and the definitions look up is the same
 
-cluster_among-in : (ks : List Cluster) (q : ℕ) → cluster_among (map draft_cluster ks) q ≡ cluster_in ks q
+pub cluster_among-in : (ks : List Cluster) (q : ℕ) → cluster_among (map draft_cluster ks) q ≡ cluster_in ks q
 cluster_among-in [] q = refl
 cluster_among-in (k ∷ ks) q = rw (cluster_among-in ks (q - k.cpus)) refl
 
-looked_up : {A B : Type 0} (f : A → ℕ) (h : B → A) (xs : List B) (i : ℕ) (d : B) → f (h d) ≡ 0 → unwrap_or (option_map f (slice_get (map h xs) i)) 0 ≡ f (h (slice_index_or xs i d))
+pub looked_up : {A B : Type 0} (f : A → ℕ) (h : B → A) (xs : List B) (i : ℕ) (d : B) → f (h d) ≡ 0 → unwrap_or (option_map f (slice_get (map h xs) i)) 0 ≡ f (h (slice_index_or xs i d))
 looked_up f h [] i d none = sym none
 looked_up f h (x ∷ xs) zero d none = refl
 looked_up f h (x ∷ xs) (suc i) d none = looked_up f h xs i d none
@@ -51,7 +51,7 @@ home-looked_up g t = looked_up (λ (p : DraftTask). p.cluster) (λ (p : Task). d
 
 -- ---- the group of a processor
 
-in_some : (f : ℕ → List ℕ) (cs : List ℕ) (q : ℕ) → has q (flat_map f cs) ≡ true → (c : ℕ) × (has c cs ≡ true) × (has q (f c) ≡ true)
+pub in_some : (f : ℕ → List ℕ) (cs : List ℕ) (q : ℕ) → has q (flat_map f cs) ≡ true → (c : ℕ) × (has c cs ≡ true) × (has q (f c) ≡ true)
 in_some f [] q h = cc
 in_some f (c ∷ cs) q h = split (either (has q (f c)) (has q (flat_map f cs)) (sym (has-append q (f c) (flat_map f cs)) ∙ ap (has q) (sym (flat_map-cons f c cs)) ∙ h)) (in_some f cs q)
   where
@@ -60,7 +60,7 @@ in_some f (c ∷ cs) q h = split (either (has q (f c)) (has q (flat_map f cs)) (
     split (inl k) more = (c, rw (equal_self c) refl, k)
     split (inr k) more = let b = more k in (b.0, rw b.1 (or_true (b.0 == c)), b.2)
 
-group-of-processor : (g : Group) (q : ℕ) → has q (group_processors g) ≡ true → in_group g (cluster_with g q) ≡ true
+pub group-of-processor : (g : Group) (q : ℕ) → has q (group_processors g) ≡ true → in_group g (cluster_with g q) ≡ true
 unfolding group_processors clusters
 group-of-processor g q h =
     let one = in_some (processors g) (clusters g) q h in
