@@ -41,16 +41,16 @@ use Rattle.rt_laws.proofs.Rules.{MeetsRules}
 
 -- ---- tests on a list in order
 
-abbrev AllNone : List (Option BadSet) → Type 0
+abbrev pub AllNone : List (Option BadSet) → Type 0
 AllNone [] = ⊤
 AllNone (o ∷ os) = (o ≡ None) × AllNone os
 
-all-none : (os : List (Option BadSet)) → first os ≡ None → AllNone os
+pub all-none : (os : List (Option BadSet)) → first os ≡ None → AllNone os
 all-none [] h = tt
 all-none (None ∷ os) h = (refl, all-none os h)
 all-none (Some x ∷ os) h = cc
 
-whole-none : (kind : SetKind) (b : Bool) → whole kind b ≡ None → b ≡ true
+pub whole-none : (kind : SetKind) (b : Bool) → whole kind b ≡ None → b ≡ true
 whole-none kind true h = refl
 whole-none kind false h = cc
 
