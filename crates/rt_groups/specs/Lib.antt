@@ -1,0 +1,4 @@
+pub mod Built
+pub mod Groups
+pub mod Limits
+pub mod Places

@@ -1,0 +1,49 @@
+//! A group of a setup and its history, as contracts see them; what is played so far; and what a valid setup says of its
+//! groups and of its numbers. The functions but `is_built` have a law as their contract, and do nothing.
+#![tactic(auto)]
+
+ghost use Rattle.std.specs.Prelude.{◌≡◌};
+ghost use Rattle.rt_groups.specs.Built as built;
+ghost use Rattle.rt_groups.specs.Limits.{SetsAreInLimits};
+ghost use Rattle.rt_groups.specs.Places.{GroupsAreCounted, ProcessorsAreAtHome, TasksAreAtHome};
+
+use rt_task::{Drive, PluginKind, Setup};
+
+fn gives_steps(drive: &Drive) -> bool
+    ensures { result ≡ built.gives_steps drive.now }
+{
+    match drive {
+        Drive::Steps(_) => true,
+        Drive::Horizon(_) => false,
+    }
+}
+
+/// Whether the set is one that is played so far: it gives steps, and has neither semaphores nor reservations.
+pub fn is_built(setup: &Setup) -> bool
+    ensures { result ≡ built.is_built setup.now }
+{
+    let parts = setup.parts();
+    parts.plugin != PluginKind::PRes
+        && parts.sems.as_slice().is_empty()
+        && gives_steps(&parts.drive)
+}
+
+/// The numbers of a valid setup are within the limits.
+pub fn sets_are_in_limits()
+    ensures { SetsAreInLimits }
+{}
+
+/// The groups of a valid setup are numbered from 0 on, without a gap.
+pub fn groups_are_counted()
+    ensures { GroupsAreCounted }
+{}
+
+/// The cluster of a group's processor is of the group, and the processor is one of that cluster.
+pub fn processors_are_at_home()
+    ensures { ProcessorsAreAtHome }
+{}
+
+/// The cluster of a group's task is of the group.
+pub fn tasks_are_at_home()
+    ensures { TasksAreAtHome }
+{}
