@@ -125,7 +125,8 @@ impl Budgets {
 }
 
 impl Account {
-    fn owed(self, holds: bool, np: bool) -> Owed
+    /// What the job owes, as `Budgets::owed` says.
+    pub fn owed(self, holds: bool, np: bool) -> Owed
         ensures { result ≡ owed_by self holds np }
     {
         if !self.enforced || self.used < self.cost {

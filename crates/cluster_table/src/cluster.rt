@@ -1,0 +1,154 @@
+//! One cluster, whose links are placed anew where a key or what runs has changed.
+ghost use Rattle.std.specs.Prelude.{◌≡◌, ◌<◌, ◌&&◌, true, false, not, IfOk, length};
+ghost use Rattle.rt_base.specs.TaskNos.{number_of_task};
+ghost use Rattle.link_table.specs.Linked.{IsOfCluster, irq_reply, link_of, runs_on};
+ghost use Rattle.cluster_table.specs.Clusters.{IsSettled, after_take, fresh, left_by, relinked, takes, with_key};
+ghost use Rattle.cluster_table.specs.Placed.{as_placed};
+
+use link_table::Links;
+use ready_heap::ReadyHeap;
+use ready_queue::ReadyQueue;
+use rt_base::{CpuNo, NoMemory, TaskNo};
+use rt_history::Reply;
+use rt_order::{ByKey, Key};
+use std::alloc::Global;
+use std::marker::Model;
+
+/// The eligible tasks of a cluster, and the links and runs of its processors.
+#[derive(Drop)]
+pub(crate) struct ClusterState {
+    queue: ReadyQueue,
+    links: Links,
+    // The first of the eligible tasks, while they are placed.
+    top: Vec<TaskNo>,
+    is_placed: bool,
+}
+
+impl Model for ClusterState {
+    ghost use Rattle.std.specs.Prelude.{◌≡◌, ◌≤◌, true, length, vec_capacity};
+    ghost use Rattle.cluster_table.specs.Clusters.{IsSettled};
+    ghost use Rattle.cluster_table.specs.Placed as seen;
+
+    ghost Value = { seen.PlacedCluster };
+
+    ghost view = { λ a. record {
+      cluster = record { cpus = a.queue.most; keys = a.queue.keys; linked = a.links };
+      is_placed = a.is_placed;
+    } };
+
+    ghost invariant = { λ a. (a.queue.most ≡ length a.links.runs)
+        × (a.queue.most ≤ vec_capacity a.top)
+        × (a.is_placed ≡ true
+        → IsSettled (record { cpus = a.queue.most; keys = a.queue.keys; linked = a.links })) };
+}
+
+impl ClusterState {
+    /// Processors from `first` on, and nothing that is eligible, for tasks whose numbers are below the room.
+    pub(crate) fn new(
+        alloc: Global,
+        first: CpuNo,
+        cpus: u32,
+        room: u32,
+    ) -> Result<ClusterState, NoMemory>
+        ensures kept { IfOk result (λ k. k ≡ as_placed (fresh first.0 cpus room)) }
+        ensures settled { IsSettled (fresh first.0 cpus room) }
+    {
+        let queue = ReadyQueue::new(alloc, cpus, room)?;
+        let links = Links::new(alloc, first, cpus)?;
+        let Ok(top) = Vec::with_capacity(alloc, cpus as usize) else {
+            return Err(NoMemory);
+        };
+        Ok(ClusterState {
+            queue,
+            links,
+            top,
+            is_placed: true,
+        })
+    }
+
+    /// The heap of the eligible tasks.
+    pub(crate) fn heap(&self) -> &ReadyHeap<ByKey>
+        ensures { result.now.keys ≡ self.now.cluster.keys }
+    {
+        self.queue.heap()
+    }
+
+    /// What the processor is linked to.
+    pub(crate) fn linked(&self, q: CpuNo) -> Option<TaskNo>
+        requires { IsOfCluster self.now.cluster.linked q.0 }
+        ensures { number_of_task result ≡ link_of self.now.cluster.linked q.0 }
+    {
+        self.links.linked(q)
+    }
+
+    /// What the processor runs.
+    pub(crate) fn runs(&self, q: CpuNo) -> Option<TaskNo>
+        requires { IsOfCluster self.now.cluster.linked q.0 }
+        ensures { number_of_task result ≡ runs_on self.now.cluster.linked q.0 }
+    {
+        self.links.runs(q)
+    }
+
+    /// Gives the task this key, or says that it is not eligible.
+    pub(crate) fn set(&mut self, task: TaskNo, key: Option<Key>)
+        requires { task.0 < length self.old.cluster.keys }
+        ensures { self.new ≡ record {
+          cluster = with_key task.0 key self.old.cluster;
+          is_placed = false;
+        } }
+    {
+        self.queue.set(task, key);
+        self.is_placed = false;
+    }
+
+    /// Takes an interrupt at the processor, where `np` says whether what it runs is non-preemptive. Where the reply is
+    /// `Runs` or `Idles`, the processor runs its link from now on.
+    pub(crate) fn take_irq(&mut self, q: CpuNo, np: bool) -> Reply
+        requires { IsOfCluster self.old.cluster.linked q.0 }
+        ensures reply { result ≡ irq_reply self.old.cluster.linked q.0 np }
+        ensures cluster { self.new.cluster ≡ after_take q.0 np self.old.cluster }
+        ensures placed { self.new.is_placed
+            ≡ self.old.is_placed && not (takes q.0 np self.old.cluster) }
+    {
+        let reply = self.links.take_irq(q, np);
+        if matches!(reply, Reply::Runs(_) | Reply::Idles) {
+            self.is_placed = false;
+        }
+        reply
+    }
+
+    /// The processor runs nothing from now on.
+    pub(crate) fn leave(&mut self, q: CpuNo)
+        requires { IsOfCluster self.old.cluster.linked q.0 }
+        ensures { self.new ≡ record {
+          cluster = left_by q.0 self.old.cluster;
+          is_placed = false;
+        } }
+    {
+        self.is_placed = false;
+        self.links.leave(q);
+    }
+
+    /// Whether the links follow from the eligible tasks and from what runs.
+    pub(crate) fn is_placed(&self) -> bool
+        ensures flag { result ≡ self.now.is_placed }
+        ensures settled { self.now.is_placed ≡ true → IsSettled self.now.cluster }
+    {
+        self.is_placed
+    }
+
+    /// Links the first of the eligible tasks.
+    pub(crate) fn place(&mut self)
+        ensures cluster { self.new ≡ record {
+          cluster = relinked self.old.cluster;
+          is_placed = true;
+        } }
+        ensures settled { IsSettled self.new.cluster }
+    {
+        if !self.is_placed {
+            self.queue.copy_first(&mut self.top);
+            self.links.place(self.top.as_slice());
+            self.is_placed = true;
+        }
+    }
+}
