@@ -1,5 +1,5 @@
 -- What is kept of a group's past, as contracts see it.
-use Rattle.std.specs.Prelude.{◌≡◌, ℕ, ◌-◌, ◌<◌, ◌≤◌, Bool, true, false, List, length, Option, Some, if◌then◌else◌, slice_index_or}
+use Rattle.std.specs.Prelude.{◌≡◌, ℕ, ◌-◌, ◌<◌, ◌≤◌, Bool, true, false, List, length, Option, None, Some, if◌then◌else◌, slice_index_or}
 use Rattle.rt_base.specs.declared.TheConstants.{MOST_STEPS, TICK_END}
 use Rattle.rt_task.specs.declared.Op.{Op}
 use Rattle.rt_task.specs.declared.Op.TheVariants as ops
@@ -7,7 +7,9 @@ use Rattle.rt_task.specs.declared.Task.{Task}
 use Rattle.rt_history.specs.declared.Reply.{Reply}
 use Rattle.rt_history.specs.declared.Reply.TheVariants as replies
 use Rattle.rt_model.specs.Group.{no_task}
+use Rattle.rt_model.specs.Past.{is_work}
 use Rattle.group_facts.specs.Bounds.{AreBounded}
+use Rattle.group_facts.specs.Facts.{CpuFacts}
 use Rattle.group_facts.specs.Kept.{Kept, cpu_of, job_of}
 use Rattle.group_facts.specs.Replies.{np_off_reply, np_on_reply, work_reply}
 
@@ -33,6 +35,13 @@ pub record IsTaskOf (k : Kept) (tasks : List Task) (t : ℕ) : Type 0 where
 -- what the processor runs, if anything, is one of the tasks
 abbrev pub RunsTask : Kept → ℕ → Type 0
 RunsTask k q = (t : ℕ) → (cpu_of k q).runs ≡ Some t → (1 ≤ t) × (t ≤ length k.jobs)
+
+-- a processor after an operation at this clock that leaves it or not
+abbrev pub cpu_left : ℕ → Op → Bool → CpuFacts → CpuFacts
+cpu_left clock op is_left cpu = record {
+  runs = if is_left then None else cpu.runs;
+  worked = if is_work (Some op) then Some clock else cpu.worked;
+}
 
 -- ---- replies to operations
 

@@ -1,9 +1,7 @@
 //! A processor: what it runs, and when it worked last.
-ghost use Rattle.std.specs.Prelude.{◌≡◌, true, if◌then◌else◌};
+ghost use Rattle.std.specs.Prelude.{◌≡◌, true};
 ghost use Rattle.rt_model.specs.Runs.{leaves};
-ghost use Rattle.group_facts.specs.Facts.{idle_cpu};
 ghost use Rattle.group_jobs.specs.GroupJobs.{is_op_reply};
-ghost use Rattle.group_jobs.specs.States.{cpu_seen};
 
 use rt_base::TaskNo;
 use rt_history::Reply;
@@ -22,19 +20,6 @@ impl CpuState {
         runs: None,
         worked: None,
     };
-
-    /// The processor with this last Work, left by its job or not.
-    pub(crate) fn after(self, is_left: bool, worked: Option<u64>) -> CpuState
-        ensures { cpu_seen result ≡ record {
-          runs = (if is_left then None else (cpu_seen self).runs);
-          worked = worked;
-        } }
-    {
-        CpuState {
-            runs: if is_left { None } else { self.runs },
-            worked,
-        }
-    }
 }
 
 /// Whether an accepted operation leaves nothing running, but for the end of a job: a Sleep, and a Lock that is queued.

@@ -2,17 +2,19 @@
 //! last. The engine and the slow ranker both keep it.
 #![tactic(auto)]
 
-ghost use Rattle.std.specs.Prelude.{◌≡◌, ◌+◌, ◌<◌, ◌≤◌, true, Some, IfOk, length};
+ghost use Rattle.std.specs.Prelude.{◌≡◌, ◌+◌, ◌-◌, ◌<◌, ◌≤◌, ◌∷◌, ◌++◌, [], true, IfOk, length};
 ghost use Rattle.rt_base.specs.TaskNos.{number_of_task};
-ghost use Rattle.rt_base.specs.declared.TheConstants.{MOST_STEPS, MOST_TASKS};
-ghost use Rattle.rt_rules.specs.Numbers.{same};
-ghost use Rattle.group_facts.specs.Kept.{cpu_of, has_arrived, has_operated, job_of, opened, with_clock, with_cpu};
-ghost use Rattle.group_facts.specs.Moves.{is_end};
+ghost use Rattle.rt_base.specs.declared.TheConstants.{MOST_STEPS, MOST_TASKS, TICK_END};
+ghost use Rattle.rt_rules.specs.Numbers.{first, rest, same};
+ghost use Rattle.rt_model.specs.Releases as come;
+ghost use Rattle.group_facts.specs.Bounds.{AreBounded};
+ghost use Rattle.group_facts.specs.Kept.{cpu_of, has_arrived, has_operated, job_of, opened, with_clock, with_cpu, with_job};
+ghost use Rattle.group_facts.specs.Moves.{after_op, is_end};
 ghost use Rattle.group_facts.specs.Replies as told;
 ghost use Rattle.group_facts.specs.Timers as timers;
 ghost use Rattle.group_facts.specs.Words as words;
-ghost use Rattle.group_jobs.specs.GroupJobs.{IsTaskOf, RunsTask, is_op_reply, plain_reply, task_in};
-ghost use Rattle.group_jobs.specs.States.{SleepIsShort};
+ghost use Rattle.group_jobs.specs.GroupJobs.{IsTaskOf, RunsTask, cpu_left, is_op_reply, plain_reply, task_in};
+ghost use Rattle.group_jobs.specs.States.{SleepIsShort, job_with};
 
 mod cpus;
 mod states;
@@ -102,13 +104,31 @@ impl GroupJobs {
         self.cpus[cpu.0 as usize].worked == Some(self.clock)
     }
 
+    /// What is counted of the task.
+    fn state(&self, task: TaskNo) -> TaskState
+        requires low { 1 ≤ task.0 }
+        requires high { task.0 ≤ length self.now.kept.jobs }
+        ensures { let job = job_of self.now.kept task.0 in job ≡ job_with result job.to_come }
+    {
+        self.states[task.0 as usize - 1]
+    }
+
+    /// The clock of the task's first arrival that is of its current job or of a later one.
+    fn first_arrival(&self, task: TaskNo) -> Option<u64>
+        requires low { 1 ≤ task.0 }
+        requires high { task.0 ≤ length self.now.kept.jobs }
+        ensures { result ≡ first (job_of self.now.kept task.0).to_come }
+    {
+        self.arrivals.first(task)
+    }
+
     /// Whether the task's current job is non-preemptive.
     pub fn is_non_preemptive(&self, task: TaskNo) -> bool
         requires low { 1 ≤ task.0 }
         requires high { task.0 ≤ length self.now.kept.jobs }
         ensures { result ≡ (job_of self.now.kept task.0).np }
     {
-        self.states[task.0 as usize - 1].non_preemptive
+        self.state(task).non_preemptive
     }
 
     /// Whether what the processor runs is non-preemptive.
@@ -129,7 +149,7 @@ impl GroupJobs {
         requires high { task.0 ≤ length self.now.kept.jobs }
         ensures { result ≡ (job_of self.now.kept task.0).place }
     {
-        self.states[task.0 as usize - 1].place
+        self.state(task).place
     }
 
     /// The release of the task's current job; none where a sporadic task's has not arrived.
@@ -140,10 +160,8 @@ impl GroupJobs {
     {
         let row = &tasks[task.0 as usize - 1];
         match row.kind {
-            Kind::Periodic => {
-                Some(row.phase + self.states[task.0 as usize - 1].done * row.period)
-            }
-            Kind::Sporadic => self.arrivals.first(task),
+            Kind::Periodic => Some(row.phase + self.state(task).done * row.period),
+            Kind::Sporadic => self.first_arrival(task),
         }
     }
 
@@ -153,11 +171,8 @@ impl GroupJobs {
         ensures { let job = job_of self.now.kept task.0 in
             result ≡ words.is_ready self.now.kept.clock (task_in tasks.now task.0) job }
     {
-        let state = self.states[task.0 as usize - 1];
-        let is_released = match self.release(tasks, task) {
-            Some(release) => release <= self.clock,
-            None => false,
-        };
+        let state = self.state(task);
+        let is_released = has_come(self.clock, self.release(tasks, task));
         let is_early = tasks[task.0 as usize - 1].early && state.done > 0;
         (is_released || is_early) && state.wakes <= self.clock
     }
@@ -169,17 +184,9 @@ impl GroupJobs {
         ensures { let job = job_of self.now.kept task.0 in
             result ≡ timers.timer self.now.kept.clock (task_in tasks.now task.0) job }
     {
-        let release = self
-            .release(tasks, task)
-            .filter(|release| self.clock < *release);
-        let wakes = self.states[task.0 as usize - 1].wakes;
-        if wakes <= self.clock {
-            return release;
-        }
-        match release {
-            None => Some(wakes),
-            Some(release) => Some(release.min(wakes)),
-        }
+        let release = if_later(self.clock, self.release(tasks, task));
+        let wakes = if_later(self.clock, Some(self.state(task).wakes));
+        first_of_two(release, wakes)
     }
 
     /// The reply to an arrival of the task: a sporadic task's first job may arrive from its phase on, a later one from a
@@ -193,7 +200,7 @@ impl GroupJobs {
         if row.kind == Kind::Periodic {
             return Reply::NotSporadic;
         }
-        let earliest = match self.states[task.0 as usize - 1].newest {
+        let earliest = match self.state(task).newest {
             None => row.phase,
             Some(newest) => newest + row.period,
         };
@@ -221,16 +228,32 @@ impl GroupJobs {
             let np = (job_of self.now.kept task.0).np in result
             ≡ plain_reply op self.now.kept.clock worked np lacks_budget holds_none }
     {
-        let is_non_preemptive = self.is_non_preemptive(task);
+        let np = self.is_non_preemptive(task);
         match op {
-            Op::Work if self.has_worked(cpu) => Reply::Spent,
-            Op::Work if lacks_budget => Reply::NoBudget,
-            Op::NpOff if !is_non_preemptive => Reply::NotInNp,
-            Op::Work | Op::NpOff => Reply::Done,
-            _ if is_non_preemptive => Reply::InNp,
-            Op::NpOn => Reply::Done,
-            _ if holds_none => Reply::Done,
-            _ => Reply::Holding,
+            Op::Work => self.work_reply(cpu, lacks_budget),
+            Op::NpOn => if np { Reply::InNp } else { Reply::Done },
+            Op::NpOff => if np { Reply::Done } else { Reply::NotInNp },
+            _ => if np {
+                Reply::InNp
+            } else if holds_none {
+                Reply::Done
+            } else {
+                Reply::Holding
+            },
+        }
+    }
+
+    fn work_reply(&self, cpu: CpuNo, lacks_budget: bool) -> Reply
+        requires { cpu.0 < length self.now.kept.cpus }
+        ensures { let worked = (cpu_of self.now.kept cpu.0).worked in
+            result ≡ told.work_reply self.now.kept.clock worked lacks_budget }
+    {
+        if self.has_worked(cpu) {
+            Reply::Spent
+        } else if lacks_budget {
+            Reply::NoBudget
+        } else {
+            Reply::Done
         }
     }
 
@@ -250,6 +273,42 @@ impl GroupJobs {
         self.cpus[cpu.0 as usize].runs = task;
     }
 
+    /// The task has these counts from now on.
+    fn put(&mut self, task: TaskNo, state: TaskState)
+        requires low { 1 ≤ task.0 }
+        requires high { task.0 ≤ length self.old.kept.jobs }
+        ensures { let job = job_with state (job_of self.old.kept task.0).to_come in
+            self.new ≡ record self.old { kept = with_job task.0 job self.old.kept } }
+    {
+        self.states[task.0 as usize - 1] = state;
+    }
+
+    /// The clock joins the task's arrivals that wait.
+    fn push_arrival(&mut self, task: TaskNo)
+        requires low { 1 ≤ task.0 }
+        requires high { task.0 ≤ length self.old.kept.jobs }
+        requires room { 0 < self.old.room }
+        ensures { let job = job_of self.old.kept task.0 in
+            let more = record job { to_come = job.to_come ++ self.old.kept.clock ∷ [] } in
+            self.new ≡ record {
+              kept = with_job task.0 more self.old.kept;
+              room = self.old.room - 1;
+            } }
+    {
+        self.arrivals.push(task, Tick(self.clock));
+    }
+
+    /// The first of the task's arrivals that wait is left behind.
+    fn drop_arrival(&mut self, task: TaskNo)
+        requires low { 1 ≤ task.0 }
+        requires high { task.0 ≤ length self.old.kept.jobs }
+        ensures { let job = job_of self.old.kept task.0 in
+            let fewer = record job { to_come = rest job.to_come } in
+            self.new ≡ record self.old { kept = with_job task.0 fewer self.old.kept } }
+    {
+        self.arrivals.drop_first(task);
+    }
+
     /// An accepted arrival of the task at this clock.
     pub fn arrive(&mut self, task: TaskNo)
         requires low { 1 ≤ task.0 }
@@ -259,13 +318,12 @@ impl GroupJobs {
         ensures kept { self.new.kept ≡ has_arrived task.0 self.old.kept }
         ensures room { self.old.room ≤ self.new.room + 1 }
     {
-        let state = &mut self.states[task.0 as usize - 1];
-        let waits = state.done <= state.arrived;
-        state.arrived += 1;
-        state.newest = Some(self.clock);
-        if waits {
-            self.arrivals.push(task, Tick(self.clock));
+        let state = self.state(task);
+        if state.done <= state.arrived {
+            self.push_arrival(task);
         }
+        let clock = self.clock;
+        self.put(task, state.arrived_at(clock));
     }
 
     /// An accepted operation of the task that the processor runs, with this reply; whether the task holds no semaphore
@@ -290,19 +348,80 @@ impl GroupJobs {
               = has_operated tasks.now cpu.0 task.0 op reply holds_none self.old.kept;
         } }
     {
-        let after = self.states[task.0 as usize - 1].after_op(self.clock, op);
-        let ends = op == Op::End || after.is_used_up(&tasks[task.0 as usize - 1], holds_none);
-        self.states[task.0 as usize - 1] = if ends { after.next_job() } else { after };
-        if ends {
-            self.arrivals.drop_first(task);
-        }
-        let worked = if op == Op::Work {
-            Some(self.clock)
-        } else {
-            self.cpus[cpu.0 as usize].worked
-        };
-        let leaves = ends || leaves_nothing(op, reply);
-        self.cpus[cpu.0 as usize] = self.cpus[cpu.0 as usize].after(leaves, worked);
+        let ends = self.count(&tasks[task.0 as usize - 1], task, op, holds_none);
+        self.leave(cpu, op, ends || leaves_nothing(op, reply));
         ends
+    }
+
+    /// Counts an accepted operation for its task; whether the job ends by it.
+    fn count(&mut self, row: &Task, task: TaskNo, op: Op, holds_none: bool) -> bool
+        requires low { 1 ≤ task.0 }
+        requires high { task.0 ≤ length self.old.kept.jobs }
+        requires clock { self.old.kept.clock < TICK_END }
+        requires bounded { AreBounded MOST_STEPS self.old.kept.clock (job_of self.old.kept task.0) }
+        requires sleep { SleepIsShort op }
+        ensures ends { let job = job_of self.old.kept task.0 in result
+            ≡ is_end row.now self.old.kept.clock op holds_none job }
+        ensures job { let job = job_of self.old.kept task.0 in
+            let after = after_op row.now self.old.kept.clock op holds_none job in
+            self.new ≡ record self.old { kept = with_job task.0 after self.old.kept } }
+    {
+        let after = self.state(task).after_op(self.clock, op);
+        let ends = op == Op::End || after.is_used_up(row, holds_none);
+        if ends {
+            self.drop_arrival(task);
+            self.put(task, after.next_job());
+        } else {
+            self.put(task, after);
+        }
+        ends
+    }
+
+    /// The processor has worked at this clock where the operation is a Work, and runs nothing where it is left.
+    fn leave(&mut self, cpu: CpuNo, op: Op, is_left: bool)
+        requires { cpu.0 < length self.old.kept.cpus }
+        ensures { let was = cpu_of self.old.kept cpu.0 in
+            let now = cpu_left self.old.kept.clock op is_left was in
+            self.new ≡ record self.old { kept = with_cpu cpu.0 now self.old.kept } }
+    {
+        let clock = self.clock;
+        let cpu = &mut self.cpus[cpu.0 as usize];
+        if is_left {
+            cpu.runs = None;
+        }
+        if op == Op::Work {
+            cpu.worked = Some(clock);
+        }
+    }
+}
+
+/// Whether a moment has come at this clock.
+fn has_come(clock: u64, moment: Option<u64>) -> bool
+    ensures { result ≡ come.has_come clock moment }
+{
+    match moment {
+        None => false,
+        Some(moment) => moment <= clock,
+    }
+}
+
+/// The moment, if it is still ahead.
+fn if_later(clock: u64, moment: Option<u64>) -> Option<u64>
+    ensures { result ≡ timers.if_later clock moment }
+{
+    match moment {
+        Some(moment) if clock < moment => Some(moment),
+        _ => None,
+    }
+}
+
+/// The earlier of two moments that may be there.
+fn first_of_two(a: Option<u64>, b: Option<u64>) -> Option<u64>
+    ensures { result ≡ timers.first_of_two a b }
+{
+    match (a, b) {
+        (None, b) => b,
+        (a, None) => a,
+        (Some(a), Some(b)) => Some(a.min(b)),
     }
 }

@@ -1,5 +1,5 @@
 //! What is counted of a task.
-ghost use Rattle.std.specs.Prelude.{◌≡◌, ◌<◌, List, ℕ};
+ghost use Rattle.std.specs.Prelude.{◌≡◌, ◌+◌, ◌^◌, ◌<◌, List, ℕ};
 ghost use Rattle.group_facts.specs.Facts.{no_job};
 ghost use Rattle.group_facts.specs.Moves.{job_ended, op_done};
 ghost use Rattle.group_facts.specs.Words.{is_used_up};
@@ -52,6 +52,17 @@ impl TaskState {
             Op::NpOff => after.non_preemptive = false,
             Op::Lock(_) | Op::Unlock(_) | Op::End => {}
         }
+        after
+    }
+
+    /// After an accepted arrival at this clock.
+    pub(crate) fn arrived_at(self, clock: u64) -> TaskState
+        requires { self.arrived < 2 ^ 63 }
+        ensures { result ≡ record self { arrived = self.arrived + 1; newest = Some clock } }
+    {
+        let mut after = self;
+        after.arrived += 1;
+        after.newest = Some(clock);
         after
     }
 

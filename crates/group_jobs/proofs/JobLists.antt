@@ -1,0 +1,49 @@
+-- The facts of tasks as they are kept: counts in one list, the arrivals that wait in another.
+use Rattle.std.proofs.Common.{◌≡◌, ℕ, zero, suc, ◌+◌, ◌-◌, ◌<◌, ◌≤◌, List, [], ◌∷◌, length, drop, get_or, set, refl, sym, ap, ◌∙◌, arith}
+use Rattle.arrival_queue.specs.Waiting.{queue_at}
+use Rattle.group_facts.specs.Facts.{JobFacts, no_job}
+use Rattle.group_jobs.specs.States.{job_with, jobs_with}
+use Rattle.group_jobs.specs.declared.states.TaskState.{TaskState}
+
+pub length-jobs : (ss : List TaskState) (qs : List (List ℕ)) → length (jobs_with ss qs) ≡ length ss
+length-jobs [] qs = refl
+length-jobs (s ∷ ss) [] = ap suc (length-jobs ss [])
+length-jobs (s ∷ ss) (q ∷ qs) = ap suc (length-jobs ss qs)
+
+job-in : (ss : List TaskState) (qs : List (List ℕ)) (i : ℕ) (d : TaskState) → i < length ss → get_or (jobs_with ss qs) i no_job ≡ job_with (get_or ss i d) (get_or qs i [])
+job-in [] qs i d low = absurd (omega arith)
+job-in (s ∷ ss) [] zero d low = refl
+job-in (s ∷ ss) [] (suc i) d low = job-in ss [] i d (omega arith)
+job-in (s ∷ ss) (q ∷ qs) zero d low = refl
+job-in (s ∷ ss) (q ∷ qs) (suc i) d low = job-in ss qs i d (omega arith)
+
+job-put : (ss : List TaskState) (qs : List (List ℕ)) (i : ℕ) (s : TaskState) (q : List ℕ) → length qs ≡ length ss → set (jobs_with ss qs) i (job_with s q) ≡ jobs_with (set ss i s) (set qs i q)
+job-put [] [] i s q same = refl
+job-put [] (p ∷ qs) i s q same = refl
+job-put (x ∷ ss) [] i s q same = absurd (omega arith)
+job-put (x ∷ ss) (p ∷ qs) zero s q same = refl
+job-put (x ∷ ss) (p ∷ qs) (suc i) s q same = ap (λ js. job_with x p ∷ js) (job-put ss qs i s q (omega arith))
+
+queue-behind : (qs : List (List ℕ)) (i : ℕ) → get_or (drop 1 qs) i [] ≡ get_or qs (suc i) []
+queue-behind [] i = refl
+queue-behind (q ∷ qs) i = refl
+
+set-behind : (qs : List (List ℕ)) (i : ℕ) (q : List ℕ) → set (drop 1 qs) i q ≡ drop 1 (set qs (suc i) q)
+set-behind [] i q = refl
+set-behind (p ∷ qs) i q = refl
+
+length-behind : (qs : List (List ℕ)) (n : ℕ) → length qs ≡ n + 1 → length (drop 1 qs) ≡ n
+length-behind [] n h = absurd (omega arith)
+length-behind (q ∷ qs) n h = omega (arith, h)
+
+-- the facts of task t
+pub job-at : (ss : List TaskState) (qs : List (List ℕ)) (t : ℕ) (d : TaskState) → 1 ≤ t → t ≤ length ss → get_or (jobs_with ss (drop 1 qs)) (t - 1) no_job ≡ job_with (get_or ss (t - 1) d) (queue_at qs t)
+job-at ss qs t d low high =
+    let place : suc (t - 1) ≡ t = omega arith in
+    job-in ss (drop 1 qs) (t - 1) d (omega arith) ∙ ap (job_with (get_or ss (t - 1) d)) (queue-behind qs (t - 1) ∙ ap (λ i. get_or qs i []) place)
+
+-- the facts of all tasks where those of task t are put in their place
+pub job-set : (ss : List TaskState) (qs : List (List ℕ)) (t : ℕ) (s : TaskState) (q : List ℕ) → 1 ≤ t → length qs ≡ length ss + 1 → set (jobs_with ss (drop 1 qs)) (t - 1) (job_with s q) ≡ jobs_with (set ss (t - 1) s) (drop 1 (set qs t q))
+job-set ss qs t s q low same =
+    let place : suc (t - 1) ≡ t = omega arith in
+    job-put ss (drop 1 qs) (t - 1) s q (length-behind qs (length ss) same) ∙ ap (jobs_with (set ss (t - 1) s)) (set-behind qs (t - 1) q ∙ ap (λ i. drop 1 (set qs i q)) place)
