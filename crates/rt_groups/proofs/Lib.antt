@@ -1,1 +1,4 @@
-
+pub mod ValidRows
+pub mod SetLimits
+pub mod GroupCount
+pub mod GroupPlaces
