@@ -2,3 +2,4 @@ pub mod ValidRows
 pub mod SetLimits
 pub mod GroupCount
 pub mod GroupPlaces
+pub mod TaskNumbers
