@@ -1,1 +1,5 @@
-
+pub mod ValidRows
+pub mod SetLimits
+pub mod GroupCount
+pub mod GroupPlaces
+pub mod TaskNumbers
