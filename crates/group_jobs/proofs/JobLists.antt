@@ -1,5 +1,5 @@
 -- The facts of tasks as they are kept: counts in one list, the arrivals that wait in another.
-use Rattle.std.proofs.Common.{◌≡◌, ℕ, zero, suc, ◌+◌, ◌-◌, ◌<◌, ◌≤◌, List, [], ◌∷◌, length, drop, get_or, set, refl, sym, ap, ◌∙◌, arith}
+use Rattle.std.proofs.Common.{false, None, ◌≡◌, ℕ, zero, suc, ◌+◌, ◌-◌, ◌<◌, ◌≤◌, List, [], ◌∷◌, length, drop, get_or, set, refl, sym, ap, ◌∙◌, arith}
 use Rattle.arrival_queue.specs.Waiting.{queue_at}
 use Rattle.group_facts.specs.Facts.{JobFacts, no_job}
 use Rattle.group_jobs.specs.States.{job_with, jobs_with}
@@ -47,3 +47,47 @@ pub job-set : (ss : List TaskState) (qs : List (List ℕ)) (t : ℕ) (s : TaskSt
 job-set ss qs t s q low same =
     let place : suc (t - 1) ≡ t = omega arith in
     job-put ss (drop 1 qs) (t - 1) s q (length-behind qs (length ss) same) ∙ ap (jobs_with (set ss (t - 1) s)) (set-behind qs (t - 1) q ∙ ap (λ i. drop 1 (set qs i q)) place)
+
+pub high-kept : (ss : List TaskState) (qs : List (List ℕ)) (t : ℕ) → t ≤ length (jobs_with ss (drop 1 qs)) → t ≤ length ss
+high-kept ss qs t h = omega (arith, h, length-jobs ss (drop 1 qs))
+
+-- what is counted of task t beside its arrivals
+pub state-at : (ss : List TaskState) (qs : List (List ℕ)) (t : ℕ) (s : TaskState) → 1 ≤ t → t ≤ length ss → s ≡ get_or ss (t - 1) s
+    → get_or (jobs_with ss (drop 1 qs)) (t - 1) no_job ≡ job_with s (get_or (jobs_with ss (drop 1 qs)) (t - 1) no_job).to_come
+state-at ss qs t s low high is =
+    let at : get_or (jobs_with ss (drop 1 qs)) (t - 1) no_job ≡ job_with s (queue_at qs t) = job-at ss qs t s low high ∙ ap (λ x. job_with x (queue_at qs t)) (sym is) in
+    let queue : (get_or (jobs_with ss (drop 1 qs)) (t - 1) no_job).to_come ≡ queue_at qs t = ap (λ (j : JobFacts). j.to_come) at in
+    at ∙ ap (job_with s) (sym queue)
+
+-- these counts in their place, beside the arrivals that are there
+pub state-set : (ss : List TaskState) (qs : List (List ℕ)) (t : ℕ) (s : TaskState) → 1 ≤ t → t ≤ length ss → length qs ≡ length ss + 1
+    → jobs_with (set ss (t - 1) s) (drop 1 qs) ≡ set (jobs_with ss (drop 1 qs)) (t - 1) (job_with s (get_or (jobs_with ss (drop 1 qs)) (t - 1) no_job).to_come)
+state-set ss qs t s low high same =
+    let queue : (get_or (jobs_with ss (drop 1 qs)) (t - 1) no_job).to_come ≡ queue_at qs t = ap (λ (j : JobFacts). j.to_come) (job-at ss qs t s low high) in
+    let put : set (jobs_with ss (drop 1 qs)) (t - 1) (job_with s (queue_at qs t)) ≡ jobs_with (set ss (t - 1) s) (drop 1 (set qs t (queue_at qs t))) = job-set ss qs t s (queue_at qs t) low same in
+    let stays : set qs t (queue_at qs t) ≡ qs = set-own qs t (omega (arith, same)) in
+    sym (ap (λ q. set (jobs_with ss (drop 1 qs)) (t - 1) (job_with s q)) queue ∙ put ∙ ap (λ x. jobs_with (set ss (t - 1) s) (drop 1 x)) stays)
+  where
+    set-own : (xs : List (List ℕ)) (i : ℕ) → i < length xs → set xs i (get_or xs i []) ≡ xs
+    set-own [] i h = refl
+    set-own (x ∷ xs) zero h = refl
+    set-own (x ∷ xs) (suc i) h = ap (λ ys. x ∷ ys) (set-own xs i (omega arith))
+
+-- these arrivals in their place, beside the counts that are there
+pub queue-set : (ss : List TaskState) (qs : List (List ℕ)) (t : ℕ) (change : List ℕ → List ℕ) → 1 ≤ t → t ≤ length ss → length qs ≡ length ss + 1
+    → (let job : JobFacts = get_or (jobs_with ss (drop 1 qs)) (t - 1) no_job in
+      jobs_with ss (drop 1 (set qs t (change (queue_at qs t)))) ≡ set (jobs_with ss (drop 1 qs)) (t - 1) (record job { to_come = change job.to_come }))
+queue-set ss qs t change low high same =
+    let d : TaskState = get_or ss (t - 1) no_state in
+    let at : get_or (jobs_with ss (drop 1 qs)) (t - 1) no_job ≡ job_with d (queue_at qs t) = job-at ss qs t no_state low high in
+    let put : set (jobs_with ss (drop 1 qs)) (t - 1) (job_with d (change (queue_at qs t))) ≡ jobs_with (set ss (t - 1) d) (drop 1 (set qs t (change (queue_at qs t)))) = job-set ss qs t d (change (queue_at qs t)) low same in
+    let stays : set ss (t - 1) d ≡ ss = set-own ss (t - 1) (omega arith) in
+    sym (ap (λ (job : JobFacts). set (jobs_with ss (drop 1 qs)) (t - 1) (record job { to_come = change job.to_come })) at ∙ put ∙ ap (λ x. jobs_with x (drop 1 (set qs t (change (queue_at qs t))))) stays)
+  where
+    no_state : TaskState
+    no_state = record { done = 0; used = 0; place = 0; wakes = 0; non_preemptive = false; arrived = 0; newest = None }
+
+    set-own : (xs : List TaskState) (i : ℕ) → i < length xs → set xs i (get_or xs i no_state) ≡ xs
+    set-own [] i h = refl
+    set-own (x ∷ xs) zero h = refl
+    set-own (x ∷ xs) (suc i) h = ap (λ ys. x ∷ ys) (set-own xs i (omega arith))
