@@ -1,8 +1,9 @@
 -- The facts of tasks as they are kept: counts in one list, the arrivals that wait in another.
-use Rattle.std.proofs.Common.{false, None, ◌≡◌, ℕ, zero, suc, ◌+◌, ◌-◌, ◌<◌, ◌≤◌, List, [], ◌∷◌, length, drop, get_or, set, refl, sym, ap, ◌∙◌, arith}
+use Rattle.std.proofs.Common.{false, None, ◌≡◌, ℕ, zero, suc, ◌+◌, ◌-◌, ◌<◌, ◌≤◌, List, [], ◌∷◌, length, drop, map, replicate, get_or, set, refl, sym, ap, ◌∙◌, arith}
 use Rattle.arrival_queue.specs.Waiting.{queue_at}
-use Rattle.group_facts.specs.Facts.{JobFacts, no_job}
-use Rattle.group_jobs.specs.States.{job_with, jobs_with}
+use Rattle.group_facts.specs.Facts.{JobFacts, idle_cpu, no_job}
+use Rattle.group_jobs.specs.States.{cpu_seen, job_with, jobs_with}
+use Rattle.group_jobs.specs.declared.cpus.CpuState.{CpuState}
 use Rattle.group_jobs.specs.declared.states.TaskState.{TaskState}
 
 pub length-jobs : (ss : List TaskState) (qs : List (List ℕ)) → length (jobs_with ss qs) ≡ length ss
@@ -73,21 +74,28 @@ state-set ss qs t s low high same =
     set-own (x ∷ xs) zero h = refl
     set-own (x ∷ xs) (suc i) h = ap (λ ys. x ∷ ys) (set-own xs i (omega arith))
 
--- these arrivals in their place, beside the counts that are there
-pub queue-set : (ss : List TaskState) (qs : List (List ℕ)) (t : ℕ) (change : List ℕ → List ℕ) → 1 ≤ t → t ≤ length ss → length qs ≡ length ss + 1
-    → (let job : JobFacts = get_or (jobs_with ss (drop 1 qs)) (t - 1) no_job in
-      jobs_with ss (drop 1 (set qs t (change (queue_at qs t)))) ≡ set (jobs_with ss (drop 1 qs)) (t - 1) (record job { to_come = change job.to_come }))
-queue-set ss qs t change low high same =
-    let d : TaskState = get_or ss (t - 1) no_state in
-    let at : get_or (jobs_with ss (drop 1 qs)) (t - 1) no_job ≡ job_with d (queue_at qs t) = job-at ss qs t no_state low high in
-    let put : set (jobs_with ss (drop 1 qs)) (t - 1) (job_with d (change (queue_at qs t))) ≡ jobs_with (set ss (t - 1) d) (drop 1 (set qs t (change (queue_at qs t)))) = job-set ss qs t d (change (queue_at qs t)) low same in
-    let stays : set ss (t - 1) d ≡ ss = set-own ss (t - 1) (omega arith) in
-    sym (ap (λ (job : JobFacts). set (jobs_with ss (drop 1 qs)) (t - 1) (record job { to_come = change job.to_come })) at ∙ put ∙ ap (λ x. jobs_with x (drop 1 (set qs t (change (queue_at qs t))))) stays)
-  where
-    no_state : TaskState
-    no_state = record { done = 0; used = 0; place = 0; wakes = 0; non_preemptive = false; arrived = 0; newest = None }
+-- both in their place
+pub both-set : (ss : List TaskState) (qs : List (List ℕ)) (t : ℕ) (s : TaskState) (change : List ℕ → List ℕ) → 1 ≤ t → t ≤ length ss → length qs ≡ length ss + 1
+    → jobs_with (set ss (t - 1) s) (drop 1 (set qs t (change (queue_at qs t)))) ≡ set (jobs_with ss (drop 1 qs)) (t - 1) (job_with s (change (get_or (jobs_with ss (drop 1 qs)) (t - 1) no_job).to_come))
+both-set ss qs t s change low high same =
+    let queue : (get_or (jobs_with ss (drop 1 qs)) (t - 1) no_job).to_come ≡ queue_at qs t = ap (λ (j : JobFacts). j.to_come) (job-at ss qs t s low high) in
+    sym (ap (λ q. set (jobs_with ss (drop 1 qs)) (t - 1) (job_with s (change q))) queue ∙ job-set ss qs t s (change (queue_at qs t)) low same)
 
-    set-own : (xs : List TaskState) (i : ℕ) → i < length xs → set xs i (get_or xs i no_state) ≡ xs
-    set-own [] i h = refl
-    set-own (x ∷ xs) zero h = refl
-    set-own (x ∷ xs) (suc i) h = ap (λ ys. x ∷ ys) (set-own xs i (omega arith))
+-- ---- at the opening
+
+abbrev pub new_state : TaskState
+new_state = record { done = 0; used = 0; place = 0; wakes = 0; non_preemptive = false; arrived = 0; newest = None }
+
+abbrev pub idle_state : CpuState
+idle_state = record { runs = None; worked = None }
+
+pub jobs-new : (n : ℕ) → jobs_with (replicate n new_state) (drop 1 (replicate (n + 1) [])) ≡ replicate n no_job
+jobs-new n = let one : n + 1 ≡ suc n = omega arith in rw one (go n)
+  where
+    go : (k : ℕ) → jobs_with (replicate k new_state) (replicate k []) ≡ replicate k no_job
+    go zero = refl
+    go (suc k) = ap (λ js. no_job ∷ js) (go k)
+
+pub cpus-idle : (n : ℕ) → map cpu_seen (replicate n idle_state) ≡ replicate n idle_cpu
+cpus-idle zero = refl
+cpus-idle (suc n) = ap (λ cs. idle_cpu ∷ cs) (cpus-idle n)

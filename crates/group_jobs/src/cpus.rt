@@ -1,7 +1,8 @@
 //! A processor: what it runs, and when it worked last.
 ghost use Rattle.std.specs.Prelude.{◌≡◌, true};
 ghost use Rattle.rt_model.specs.Runs.{leaves};
-ghost use Rattle.group_jobs.specs.GroupJobs.{is_op_reply};
+ghost use Rattle.group_jobs.specs.GroupJobs.{cpu_left, is_op_reply};
+ghost use Rattle.group_jobs.specs.States.{cpu_seen};
 
 use rt_base::TaskNo;
 use rt_history::Reply;
@@ -20,6 +21,20 @@ impl CpuState {
         runs: None,
         worked: None,
     };
+
+    /// After an operation at this clock that leaves it or not.
+    pub(crate) fn after(self, clock: u64, op: Op, is_left: bool) -> CpuState
+        ensures { cpu_seen result ≡ cpu_left clock op is_left (cpu_seen self) }
+    {
+        CpuState {
+            runs: if is_left { None } else { self.runs },
+            worked: if op == Op::Work {
+                Some(clock)
+            } else {
+                self.worked
+            },
+        }
+    }
 }
 
 /// Whether an accepted operation leaves nothing running, but for the end of a job: a Sleep, and a Lock that is queued.

@@ -13,8 +13,8 @@ ghost use Rattle.group_facts.specs.Moves.{after_op, is_end};
 ghost use Rattle.group_facts.specs.Replies as told;
 ghost use Rattle.group_facts.specs.Timers as timers;
 ghost use Rattle.group_facts.specs.Words as words;
-ghost use Rattle.group_jobs.specs.GroupJobs.{IsTaskOf, RunsTask, cpu_left, is_op_reply, plain_reply, task_in};
-ghost use Rattle.group_jobs.specs.States.{SleepIsShort, job_with};
+ghost use Rattle.group_jobs.specs.GroupJobs.{IsTaskOf, RunsTask, is_op_reply, plain_reply, task_in};
+ghost use Rattle.group_jobs.specs.States.{SleepIsShort, cpu_seen, job_with};
 
 mod cpus;
 mod states;
@@ -24,7 +24,7 @@ use cpus::{CpuState, leaves_nothing};
 use rt_base::{CpuNo, NoMemory, TaskNo, Tick};
 use rt_history::Reply;
 use rt_task::{Kind, Op, Task};
-use states::TaskState;
+use states::{TaskState, ends_job};
 use std::alloc::Global;
 use std::marker::Model;
 
@@ -270,7 +270,8 @@ impl GroupJobs {
         ensures { let now = record (cpu_of self.old.kept cpu.0) { runs = number_of_task task } in
             self.new ≡ record self.old { kept = with_cpu cpu.0 now self.old.kept } }
     {
-        self.cpus[cpu.0 as usize].runs = task;
+        let worked = self.cpu(cpu).worked;
+        self.put_cpu(cpu, CpuState { runs: task, worked });
     }
 
     /// The task has these counts from now on.
@@ -283,29 +284,30 @@ impl GroupJobs {
         self.states[task.0 as usize - 1] = state;
     }
 
-    /// The clock joins the task's arrivals that wait.
-    fn push_arrival(&mut self, task: TaskNo)
+    /// The task has these counts from now on, and the clock joins its arrivals that wait.
+    fn put_arrival(&mut self, task: TaskNo, state: TaskState)
         requires low { 1 ≤ task.0 }
         requires high { task.0 ≤ length self.old.kept.jobs }
         requires room { 0 < self.old.room }
-        ensures { let job = job_of self.old.kept task.0 in
-            let more = record job { to_come = job.to_come ++ self.old.kept.clock ∷ [] } in
+        ensures { let queue = (job_of self.old.kept task.0).to_come in
+            let job = job_with state (queue ++ self.old.kept.clock ∷ []) in
             self.new ≡ record {
-              kept = with_job task.0 more self.old.kept;
+              kept = with_job task.0 job self.old.kept;
               room = self.old.room - 1;
             } }
     {
+        self.states[task.0 as usize - 1] = state;
         self.arrivals.push(task, Tick(self.clock));
     }
 
-    /// The first of the task's arrivals that wait is left behind.
-    fn drop_arrival(&mut self, task: TaskNo)
+    /// The task has these counts from now on, and leaves the first of its arrivals behind.
+    fn put_next(&mut self, task: TaskNo, state: TaskState)
         requires low { 1 ≤ task.0 }
         requires high { task.0 ≤ length self.old.kept.jobs }
-        ensures { let job = job_of self.old.kept task.0 in
-            let fewer = record job { to_come = rest job.to_come } in
-            self.new ≡ record self.old { kept = with_job task.0 fewer self.old.kept } }
+        ensures { let job = job_with state (rest (job_of self.old.kept task.0).to_come) in
+            self.new ≡ record self.old { kept = with_job task.0 job self.old.kept } }
     {
+        self.states[task.0 as usize - 1] = state;
         self.arrivals.drop_first(task);
     }
 
@@ -319,11 +321,12 @@ impl GroupJobs {
         ensures room { self.old.room ≤ self.new.room + 1 }
     {
         let state = self.state(task);
+        let after = state.arrived_at(self.clock);
         if state.done <= state.arrived {
-            self.push_arrival(task);
+            self.put_arrival(task, after);
+        } else {
+            self.put(task, after);
         }
-        let clock = self.clock;
-        self.put(task, state.arrived_at(clock));
     }
 
     /// An accepted operation of the task that the processor runs, with this reply; whether the task holds no semaphore
@@ -349,7 +352,9 @@ impl GroupJobs {
         } }
     {
         let ends = self.count(&tasks[task.0 as usize - 1], task, op, holds_none);
-        self.leave(cpu, op, ends || leaves_nothing(op, reply));
+        let is_left = ends || leaves_nothing(op, reply);
+        let state = self.cpu(cpu).after(self.clock, op, is_left);
+        self.put_cpu(cpu, state);
         ends
     }
 
@@ -367,31 +372,30 @@ impl GroupJobs {
             self.new ≡ record self.old { kept = with_job task.0 after self.old.kept } }
     {
         let after = self.state(task).after_op(self.clock, op);
-        let ends = op == Op::End || after.is_used_up(row, holds_none);
+        let ends = ends_job(op, after, row, holds_none);
         if ends {
-            self.drop_arrival(task);
-            self.put(task, after.next_job());
+            self.put_next(task, after.next_job());
         } else {
             self.put(task, after);
         }
         ends
     }
 
-    /// The processor has worked at this clock where the operation is a Work, and runs nothing where it is left.
-    fn leave(&mut self, cpu: CpuNo, op: Op, is_left: bool)
-        requires { cpu.0 < length self.old.kept.cpus }
-        ensures { let was = cpu_of self.old.kept cpu.0 in
-            let now = cpu_left self.old.kept.clock op is_left was in
-            self.new ≡ record self.old { kept = with_cpu cpu.0 now self.old.kept } }
+    /// What is kept of the processor.
+    fn cpu(&self, cpu: CpuNo) -> CpuState
+        requires { cpu.0 < length self.now.kept.cpus }
+        ensures { cpu_seen result ≡ cpu_of self.now.kept cpu.0 }
     {
-        let clock = self.clock;
-        let cpu = &mut self.cpus[cpu.0 as usize];
-        if is_left {
-            cpu.runs = None;
-        }
-        if op == Op::Work {
-            cpu.worked = Some(clock);
-        }
+        self.cpus[cpu.0 as usize]
+    }
+
+    /// The processor is this from now on.
+    fn put_cpu(&mut self, cpu: CpuNo, state: CpuState)
+        requires { cpu.0 < length self.old.kept.cpus }
+        ensures { self.new
+            ≡ record self.old { kept = with_cpu cpu.0 (cpu_seen state) self.old.kept } }
+    {
+        self.cpus[cpu.0 as usize] = state;
     }
 }
 

@@ -1,9 +1,9 @@
 //! What is counted of a task.
 ghost use Rattle.std.specs.Prelude.{◌≡◌, ◌+◌, ◌^◌, ◌<◌, List, ℕ};
-ghost use Rattle.group_facts.specs.Facts.{no_job};
-ghost use Rattle.group_facts.specs.Moves.{job_ended, op_done};
+ghost use Rattle.group_facts.specs.Facts.{JobFacts};
+ghost use Rattle.group_facts.specs.Moves.{is_end, job_ended, op_done};
 ghost use Rattle.group_facts.specs.Words.{is_used_up};
-ghost use Rattle.rt_base.specs.declared.TheConstants.{MOST_STEPS, TICK_END};
+ghost use Rattle.rt_base.specs.declared.TheConstants.{TICK_END};
 ghost use Rattle.rt_rules.specs.Numbers.{rest};
 ghost use Rattle.group_jobs.specs.States.{job_with, HasRoom, SleepIsShort};
 
@@ -40,8 +40,9 @@ impl TaskState {
         requires few { HasRoom self }
         requires clock { clock < TICK_END }
         requires sleep { SleepIsShort op }
-        ensures { (queue : List ℕ) → job_with result queue
+        ensures facts { (queue : List ℕ) → job_with result queue
             ≡ op_done clock op (job_with self queue) }
+        ensures done { result.done ≡ self.done }
     {
         let mut after = self;
         after.place += 1;
@@ -82,7 +83,7 @@ impl TaskState {
 
     /// The current job has ended, and the next one becomes the current one.
     pub(crate) fn next_job(self) -> TaskState
-        requires { HasRoom self }
+        requires { self.done < 2 ^ 63 }
         ensures { (queue : List ℕ) → job_with result (rest queue)
             ≡ job_ended (job_with self queue) }
     {
@@ -95,5 +96,17 @@ impl TaskState {
             arrived: self.arrived,
             newest: self.newest,
         }
+    }
+}
+
+/// Whether an accepted operation ends its job, which it leaves so: an End does, and any other by force.
+pub(crate) fn ends_job(op: Op, after: TaskState, task: &Task, holds_none: bool) -> bool
+    ensures { (clock : ℕ) (queue : List ℕ) (job : JobFacts)
+        → job_with after queue ≡ op_done clock op job
+        → result ≡ is_end task.now clock op holds_none job }
+{
+    match op {
+        Op::End => true,
+        _ => after.is_used_up(task, holds_none),
     }
 }
