@@ -3,3 +3,4 @@ pub mod SetLimits
 pub mod GroupCount
 pub mod GroupPlaces
 pub mod TaskNumbers
+pub mod NoSems
