@@ -1,1 +1,3 @@
 pub mod JobLists
+pub mod ReleaseBounds
+pub mod KeyWords

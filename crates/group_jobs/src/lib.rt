@@ -2,11 +2,13 @@
 //! last. The engine and the slow ranker both keep it.
 #![tactic(auto)]
 
-ghost use Rattle.std.specs.Prelude.{◌≡◌, ◌+◌, ◌-◌, ◌<◌, ◌≤◌, ◌∷◌, ◌++◌, [], true, IfOk, length};
+ghost use Rattle.std.specs.Prelude.{◌≡◌, ◌+◌, ◌-◌, ◌<◌, ◌≤◌, ◌∷◌, ◌++◌, [], false, true, IfOk, length};
 ghost use Rattle.rt_base.specs.TaskNos.{number_of_task};
 ghost use Rattle.rt_base.specs.declared.TheConstants.{MOST_STEPS, MOST_TASKS, TICK_END};
 ghost use Rattle.rt_rules.specs.Numbers.{first, rest, same};
 ghost use Rattle.rt_model.specs.Releases as come;
+ghost use Rattle.rt_plays.specs.Plays.{group_with};
+ghost use Rattle.rt_task.specs.RuleWords.{is_p_res};
 ghost use Rattle.group_facts.specs.Bounds.{AreBounded};
 ghost use Rattle.group_facts.specs.Kept.{cpu_of, has_arrived, has_operated, job_of, opened, with_clock, with_cpu, with_job};
 ghost use Rattle.group_facts.specs.Moves.{after_op, is_end};
@@ -17,13 +19,16 @@ ghost use Rattle.group_jobs.specs.GroupJobs.{IsTaskOf, RunsTask, is_op_reply, pl
 ghost use Rattle.group_jobs.specs.States.{SleepIsShort, cpu_seen, job_with};
 
 mod cpus;
+mod keys;
 mod states;
 
 use arrival_queue::ArrivalQueue;
 use cpus::{CpuState, leaves_nothing};
+use keys::key_under;
 use rt_base::{CpuNo, NoMemory, TaskNo, Tick};
 use rt_history::Reply;
-use rt_task::{Kind, Op, Task};
+use rt_order::Key;
+use rt_task::{Kind, Op, Parts, Task};
 use states::{TaskState, ends_job};
 use std::alloc::Global;
 use std::marker::Model;
@@ -163,6 +168,20 @@ impl GroupJobs {
             Kind::Periodic => Some(row.phase + self.state(task).done * row.period),
             Kind::Sporadic => self.first_arrival(task),
         }
+    }
+
+    /// The base key of the task's current job under the set's plugin, which has no reservations.
+    pub fn base_key(&self, parts: &Parts, task: TaskNo) -> Key
+        requires task { IsTaskOf self.now.kept parts.now.tasks task.0 }
+        requires plugin { is_p_res parts.now.plugin ≡ false }
+        requires deadline { (task_in parts.now.tasks task.0).rel_deadline < TICK_END }
+        requires number { (task_in parts.now.tasks task.0).number.0 ≡ task.0 }
+        ensures { let g = group_with parts.now 0 in
+            result ≡ words.key_of g parts.now.plugin task.0 (job_of self.now.kept task.0) }
+    {
+        let tasks = parts.tasks.as_slice();
+        let release = self.release(tasks, task).unwrap_or(0);
+        key_under(parts.plugin, &tasks[task.0 as usize - 1], Tick(release))
     }
 
     /// Whether the task's current job is there, by its release or early, and does not sleep.
