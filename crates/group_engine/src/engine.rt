@@ -1,18 +1,24 @@
 //! The engine of one group: its history, kept step by step.
-ghost use Rattle.std.specs.Prelude.{◌≡◌, ◌<◌, ◌≤◌, ◌+◌, [], IfOk, true, length};
+ghost use Rattle.std.specs.Prelude.{◌≡◌, ◌<◌, ◌≤◌, ◌+◌, [], IfOk, IfSome, IsSome, true, length};
 ghost use Rattle.rt_base.specs.TaskNos.{number_of_task};
 ghost use Rattle.rt_base.specs.declared.TheConstants.{MOST_STEPS};
+ghost use Rattle.rt_rules.specs.Numbers.{has};
+ghost use Rattle.rt_model.specs.Group.{clusters};
 ghost use Rattle.rt_model.specs.Runs.{runs};
 ghost use Rattle.rt_model.specs.Links.{linked};
 ghost use Rattle.rt_model.specs.Histories.{reply_to};
 ghost use Rattle.rt_model.specs.Steps.{IsStepOf};
-ghost use Rattle.group_state.specs.Built.{is_built, is_built_act};
-ghost use Rattle.group_state.specs.Groups.{GroupHistory, group_of, past, with_entry, IsLegalNow, AllPlayed, IsGroupOf, IsProcessorOf};
+ghost use Rattle.rt_plays.specs.Homes.{IsProcessorOf};
+ghost use Rattle.rank_changes.specs.Clusters.{HoldsEligible};
+ghost use Rattle.rt_groups.specs.Built.{is_built};
+ghost use Rattle.rt_groups.specs.Groups.{GroupHistory, group_of, past, with_entry, AreStepsOf, IsGroupOf, IsLegalNow};
 
 use crate::room::put;
 use crate::state::GroupState;
-use rt_base::{CpuNo, GroupNo, NoMemory, TaskNo};
+use ready_heap::ReadyHeap;
+use rt_base::{ClusterNo, CpuNo, GroupNo, NoMemory, TaskNo};
 use rt_history::{Entry, Reply};
+use rt_order::ByKey;
 use rt_task::{Setup, Step};
 use std::alloc::Global;
 use std::marker::Model;
@@ -31,8 +37,8 @@ pub struct Engine {
 
 impl Model for Engine {
     ghost use Rattle.std.specs.Prelude.{◌-◌, vec_len, vec_capacity};
-    ghost use Rattle.group_state.specs.Groups.{GroupHistory};
-    ghost use Rattle.group_state.specs.State.{IsSound};
+    ghost use Rattle.rt_groups.specs.Groups.{GroupHistory};
+    ghost use Rattle.group_engine.specs.Sound.{IsSound};
 
     ghost Value = { GroupHistory };
 
@@ -58,9 +64,7 @@ impl Engine {
             ≡ record { setup = setup.now; group = group.0; entries = []; spare = room }) }
     {
         let setup = setup.share()?;
-        let parts = setup.parts();
-        let cpus = parts.clusters.as_slice()[0].cpus;
-        let state = GroupState::open(alloc, parts.tasks.as_slice(), cpus)?;
+        let state = GroupState::open(alloc, setup.parts(), group, room)?;
         let Ok(entries) = Vec::with_capacity(alloc, room as usize) else {
             return Err(NoMemory);
         };
@@ -84,7 +88,7 @@ impl Engine {
     pub fn entries(&self) -> &[Entry]
         ensures entries { result.now ≡ self.now.entries }
         ensures legal { IsLegalNow self.now }
-        ensures played { AllPlayed self.now }
+        ensures steps { AreStepsOf (group_of self.now) self.now.entries }
         ensures room { length self.now.entries + self.now.spare ≤ MOST_STEPS }
     {
         self.entries.as_slice()
@@ -111,14 +115,12 @@ impl Engine {
     pub fn step(&mut self, step: Step) -> Reply
         requires room { 0 < self.old.spare }
         requires step { IsStepOf (group_of self.old) step }
-        requires act { is_built_act step.act ≡ true }
         ensures reply { result ≡ reply_to (group_of self.old) step (past self.old) }
         ensures entry { self.new ≡ with_entry (record { step = step; reply = result }) self.old }
         ensures legal { IsLegalNow self.new }
     {
-        let tasks = self.setup.parts().tasks.as_slice();
-        self.state.move_clock(tasks, step.tick.0);
-        let reply = self.state.act(tasks, step.cpu, step.act);
+        self.state.move_clock(self.setup.parts(), step.tick);
+        let reply = self.state.act(self.setup.parts(), step.cpu, step.act);
         put(&mut self.entries, Entry { step, reply });
         reply
     }

@@ -1,11 +1,8 @@
-//! The state of one group, kept step by step.
+//! The engine of one group: its history, and the state that follows from it, kept move by move.
 #![tactic(auto)]
 
-mod built;
 mod engine;
-mod releases;
 mod room;
 mod state;
 
-pub use built::{is_built, is_built_act};
 pub use engine::Engine;

@@ -1,380 +1,215 @@
 //! What the engine keeps of its group, and what each move makes of it.
-ghost use Rattle.std.specs.Prelude.{◌≡◌, ◌+◌, ◌-◌, ◌*◌, ◌^◌, ◌<◌, ◌≤◌, nat_le, true, All, IfOk, length, max, Some, None, false, slice_index, slice_index_or, vec_capacity};
-ghost use Rattle.rt_base.specs.TaskNos.{number_of_task, numbers};
-ghost use Rattle.rt_order.specs.declared.Key.{Key};
-ghost use Rattle.rt_rules.specs.Distinct.{IsDistinct};
-ghost use Rattle.rt_rules.specs.Placing.{placed, at_place};
-ghost use Rattle.rt_task.specs.declared.Task.{Task};
-ghost use Rattle.rt_base.specs.declared.TheConstants.{MOST_TASKS, TICK_END};
+ghost use Rattle.std.specs.Prelude.{◌≡◌, ℕ, List, ◌+◌, ◌<◌, ◌≤◌, ◌∷◌, [], IfOk};
+ghost use Rattle.rt_base.specs.TaskNos.{number_of_task};
+ghost use Rattle.rt_base.specs.declared.TheConstants.{MOST_STEPS};
+ghost use Rattle.rt_model.specs.Group.{tasks};
+ghost use Rattle.rt_model.specs.Links.{linked};
+ghost use Rattle.rt_model.specs.Past.{Clock};
 ghost use Rattle.rt_model.specs.Runs.{runs};
-ghost use Rattle.group_state.specs.Built.{is_built_act};
-ghost use Rattle.group_engine.specs.Releases.{numbered};
-ghost use Rattle.ready_queue.specs.RankedTasks.{ranked, ranked_all};
-ghost use Rattle.rt_rules.specs.Rankings.{tasks_of, without_task};
-ghost use Rattle.link_table.specs.Linked.{irq_reply, after_irq};
-ghost use Rattle.group_state.specs.Due.{due_ready, not_due, ready_task};
-ghost use Rattle.group_state.specs.Moves.{CanOpen, first_waiting, opened, replaced, clock_moved, has_worked, job_ended};
-ghost use Rattle.group_state.specs.State.{State, top_tasks, rel_deadline_of, CanAct, CanActNow, CanOperate, CanOperateNow, HasActed, IsBounded, Moment, linked_of};
+ghost use Rattle.rt_plays.specs.Homes.{IsProcessorOf};
+ghost use Rattle.rt_plays.specs.Plays.{group_with};
+ghost use Rattle.group_facts.specs.Timers.{AreDue};
+ghost use Rattle.group_engine.specs.Moments.{CanAct, CanActOn, CanLook, CanMove, CanOperate, HasActed, IsPlayed, Moment};
+ghost use Rattle.group_engine.specs.State.{IsAt};
+ghost use Rattle.group_engine.specs.Touching.{AreArmedOnly, CanBringUp, CanBringUpAll, CanLeave, all_brought_up, brought_up, left_alone};
 
-use crate::releases::{NextRelease, ReleaseList};
-use crate::room::put;
-use link_table::Links;
-use ready_queue::{RankedList, RankedTask};
-use rt_base::{CpuNo, NoMemory, TaskNo};
+use cluster_table::ClusterTable;
+use group_jobs::GroupJobs;
+use release_queue::ReleaseQueue;
+use rt_base::{CpuNo, GroupNo, MOST_CPUS, NoMemory, TaskNo, Tick};
 use rt_history::Reply;
-use rt_order::Key;
-use rt_task::{Act, Op, Task};
+use rt_task::{Act, Op, Parts};
 use std::alloc::Global;
-use std::marker::Model;
 
-/// The state of a group with one cluster, whose processors are numbered from 0.
+/// The jobs of a group's tasks and what its processors run; the moments that tasks wait for; and of each cluster the
+/// eligible tasks by key, and the links.
 #[derive(Drop)]
 pub(crate) struct GroupState {
-    clock: u64,
-    done: Vec<u64>,
-    worked: Vec<Option<u64>>,
-    ready: RankedList,
-    waiting: ReleaseList,
-    links: Links,
-    top: Vec<TaskNo>,
-}
-
-impl Model for GroupState {
-    ghost use Rattle.std.specs.Prelude.{◌≡◌, ◌≤◌, length, vec_capacity};
-    ghost use Rattle.group_state.specs.State.{State, HasRooms};
-
-    ghost Value = { State };
-
-    ghost view = { λ a. record {
-      clock = a.clock;
-      done = a.done.items;
-      worked = a.worked.items;
-      ready = a.ready.tasks;
-      waiting = a.waiting.releases;
-      runs = a.links.runs;
-      links = a.links.links;
-    } };
-
-    ghost invariant = { λ a.
-        HasRooms (length a.done.items) (length a.links.runs) a.links.first (length a.worked.items)
-        a.ready.room a.waiting.room (vec_capacity a.top) };
-}
-
-/// The first of the tasks that are ready, as many as there are processors.
-fn fill_top(top: &mut Vec<TaskNo>, ready: &[RankedTask], most: usize)
-    requires { most ≤ vec_capacity top.old }
-    ensures top { numbers top.new.items ≡ top_tasks most (ranked_all ready.now) }
-    ensures room { vec_capacity top.old ≤ vec_capacity top.new }
-{
-    top.clear();
-    for ranked in ready {
-        if top.len() >= most {
-            return;
-        }
-        put(top, ranked.task);
-    }
-}
-
-/// The key of a task's job that was released.
-fn job_key(tasks: &[Task], released: NextRelease) -> Key
-    requires bounded { IsBounded (length tasks.now) (numbered released) }
-    requires deadlines { All (λ (t : Task). t.rel_deadline < 2 ^ 62) tasks.now }
-    ensures { result ≡ (ready_task (rel_deadline_of tasks.now) (numbered released)).key }
-{
-    let task = &tasks[released.task.0 as usize - 1];
-    Key {
-        band: 2,
-        major: released.tick + task.rel_deadline,
-        minor: released.task.0,
-    }
-}
-
-/// Takes the tasks that are due from those that wait to those that are ready, and says whether there was one.
-fn release_due(
-    clock: u64,
-    tasks: &[Task],
-    waiting: &mut ReleaseList,
-    ready: &mut RankedList,
-) -> bool
-    requires bounded { All (IsBounded (length tasks.now)) waiting.old.releases }
-    requires deadlines { All (λ (t : Task). t.rel_deadline < 2 ^ 62) tasks.now }
-    requires room { length waiting.old.releases + length ready.old.tasks ≤ ready.old.room }
-    ensures ready { ready.new.tasks
-        ≡ due_ready clock (rel_deadline_of tasks.now) waiting.old.releases ready.old.tasks }
-    ensures waiting { waiting.new.releases ≡ not_due clock waiting.old.releases }
-    ensures ready_room { ready.old.room ≤ ready.new.room }
-    ensures waiting_room { waiting.old.room ≤ waiting.new.room }
-    ensures none_due { result ≡ false → ready.new.tasks ≡ ready.old.tasks }
-{
-    let mut moved = false;
-    while let Some(first) = waiting.first() {
-        if first.tick > clock {
-            break;
-        }
-        waiting.drop_first();
-        ready.insert(job_key(tasks, first), first.task);
-        moved = true;
-    }
-    moved
-}
-
-/// The first releases of all the tasks.
-fn first_releases(alloc: Global, tasks: &[Task]) -> Result<ReleaseList, NoMemory>
-    requires few { length tasks.now ≤ MOST_TASKS }
-    requires phases { All (λ (t : Task). t.phase < 2 ^ 62) tasks.now }
-    ensures releases { IfOk result (λ q. q.releases ≡ first_waiting tasks.now) }
-    ensures room { IfOk result (λ q. length tasks.now ≤ q.room) }
-{
-    let mut waiting = ReleaseList::with_room(alloc, tasks.len())?;
-    let mut left = tasks.len();
-    while left > 0 {
-        waiting.insert(NextRelease {
-            tick: tasks[left - 1].phase,
-            task: TaskNo(left as u32),
-        });
-        left -= 1;
-    }
-    Ok(waiting)
+    jobs: GroupJobs,
+    timers: ReleaseQueue,
+    clusters: ClusterTable,
 }
 
 impl GroupState {
-    /// The state at opening, of a cluster of so many processors.
-    pub(crate) fn open(alloc: Global, tasks: &[Task], cpus: u32) -> Result<GroupState, NoMemory>
-        requires { CanOpen cpus tasks.now }
-        ensures { IfOk result (λ s. s ≡ opened cpus tasks.now) }
+    /// The state at opening, with room for so many arrivals.
+    pub(crate) fn open(
+        alloc: Global,
+        parts: &Parts,
+        group: GroupNo,
+        room: u32,
+    ) -> Result<GroupState, NoMemory>
+        requires { IsPlayed (group_with parts.now group.0) }
+        ensures at { IfOk result (λ s. IsAt (group_with parts.now group.0) [] s) }
+        ensures room { IfOk result (λ s. s.jobs.room ≡ room) }
     {
-        let mut waiting = first_releases(alloc, tasks)?;
-        let mut ready = RankedList::with_room(alloc, tasks.len())?;
-        let _ = release_due(0, tasks, &mut waiting, &mut ready);
-        let Ok(done) = vec![in alloc; 0u64; tasks.len()] else {
-            return Err(NoMemory);
-        };
-        let Ok(worked) = vec![in alloc; None; cpus as usize] else {
-            return Err(NoMemory);
-        };
-        let links = Links::new(alloc, CpuNo(0), cpus)?;
-        let Ok(top) = Vec::with_capacity(alloc, cpus as usize) else {
-            return Err(NoMemory);
-        };
+        let count = parts.tasks.as_slice().len() as u32;
         let mut state = GroupState {
-            clock: 0,
-            done,
-            worked,
-            ready,
-            waiting,
-            links,
-            top,
+            jobs: GroupJobs::open(alloc, count, MOST_CPUS, room)?,
+            timers: ReleaseQueue::new(alloc, count + 1)?,
+            clusters: ClusterTable::open(alloc, parts.clusters.as_slice(), group, count + 1)?,
         };
-        state.place();
+        state.bring_up_group(parts, group);
+        state.clusters.place_changed();
         Ok(state)
     }
 
-    /// The clock of the group.
-    pub(crate) fn clock(&self) -> u64
-        ensures { result ≡ self.now.clock }
+    /// Looks at all tasks of the group.
+    fn bring_up_group(&mut self, parts: &Parts, group: GroupNo)
+        requires { CanBringUpAll parts.now (tasks (group_with parts.now group.0)) self.old }
+        ensures { self.new
+            ≡ all_brought_up parts.now (tasks (group_with parts.now group.0)) self.old }
     {
-        self.clock
-    }
-
-    /// How many jobs the task has ended.
-    pub(crate) fn done(&self, task: TaskNo) -> u64
-        requires low { 1 ≤ task.0 }
-        requires high { task.0 ≤ length self.now.done }
-        ensures { result ≡ slice_index self.now.done (task.0 - 1) }
-    {
-        self.done[task.0 as usize - 1]
-    }
-
-    /// The clock of the processor's last Work.
-    pub(crate) fn last_work(&self, cpu: CpuNo) -> Option<u64>
-        requires { cpu.0 < length self.now.worked }
-        ensures { result ≡ slice_index_or self.now.worked cpu.0 None }
-    {
-        self.worked[cpu.0 as usize]
-    }
-
-    /// What the processor runs.
-    pub(crate) fn runs(&self, cpu: CpuNo) -> Option<TaskNo>
-        requires { cpu.0 < length self.now.runs }
-        ensures { number_of_task result ≡ at_place self.now.runs cpu.0 }
-    {
-        self.links.runs(cpu)
+        for (i, task) in parts.tasks.as_slice().iter().enumerate() {
+            let home = task.cluster.0 as usize;
+            if parts.clusters.as_slice()[home].group.0 == group.0 {
+                self.bring_up(parts, TaskNo(i as u32 + 1));
+            }
+        }
     }
 
     /// What the processor is linked to.
     pub(crate) fn linked(&self, cpu: CpuNo) -> Option<TaskNo>
-        requires { cpu.0 < length self.now.runs }
-        ensures { number_of_task result ≡ at_place self.now.links cpu.0 }
+        requires { CanLook cpu.0 self.now }
+        ensures { (at : Moment) → IsAt at.group at.past self.now → IsProcessorOf at.group cpu.0
+            → number_of_task result ≡ linked at.group cpu.0 at.past }
     {
-        self.links.linked(cpu)
+        let home = self.clusters.home(cpu);
+        self.clusters.linked(home, cpu)
     }
 
-    /// Links the top of the tasks that are ready.
-    fn place(&mut self)
-        requires { IsDistinct (tasks_of self.old.ready) }
-        ensures { self.new ≡ replaced (length self.old.runs) self.old }
+    /// What the processor runs.
+    pub(crate) fn runs(&self, cpu: CpuNo) -> Option<TaskNo>
+        requires { CanLook cpu.0 self.now }
+        ensures { (at : Moment) → IsAt at.group at.past self.now → IsProcessorOf at.group cpu.0
+            → number_of_task result ≡ runs cpu.0 at.past }
     {
-        let cpus = self.worked.len();
-        fill_top(&mut self.top, self.ready.as_slice(), cpus);
-        self.links.place(self.top.as_slice());
+        self.jobs.runs(cpu)
     }
 
-    /// Moves the clock: the tasks whose jobs are due are ready, and the links follow.
-    pub(crate) fn move_clock(&mut self, tasks: &[Task], tick: u64)
-        requires bounded { All (IsBounded (length tasks.now)) self.old.waiting }
-        requires deadlines { All (λ (t : Task). t.rel_deadline < 2 ^ 62) tasks.now }
-        requires room { length self.old.waiting + length self.old.ready ≤ length self.old.done }
-        requires distinct { IsDistinct (tasks_of (due_ready
-            (max self.old.clock tick)
-            (rel_deadline_of tasks.now) self.old.waiting self.old.ready)) }
-        requires settled { placed (top_tasks
-            (length self.old.runs) self.old.ready) self.old.runs self.old.links
-            ≡ self.old.links }
-        ensures { self.new
-            ≡ clock_moved (length self.old.runs) (rel_deadline_of tasks.now) tick self.old }
+    /// Arms the task's timer anew, and looks at whether its job is eligible, and at its key.
+    fn bring_up(&mut self, parts: &Parts, task: TaskNo)
+        requires { CanBringUp parts.now task.0 self.old }
+        ensures { self.new ≡ brought_up parts.now task.0 self.old }
     {
-        self.clock = self.clock.max(tick);
-        if release_due(self.clock, tasks, &mut self.waiting, &mut self.ready) {
-            self.place();
+        let tasks = parts.tasks.as_slice();
+        self.timers.cancel(task);
+        if let Some(tick) = self.jobs.timer(tasks, task) {
+            self.timers.arm(task, tick);
+        }
+        let key = if self.jobs.is_ready(tasks, task) {
+            Some(self.jobs.base_key(parts, task))
+        } else {
+            None
+        };
+        self.clusters.set(tasks[task.0 as usize - 1].cluster, task, key);
+    }
+
+    /// Looks at each task whose moment has come, the earliest first.
+    fn bring_up_due(&mut self, parts: &Parts)
+        requires { (ts : List ℕ) × CanBringUpAll parts.now ts self.old × AreArmedOnly ts self.old }
+        ensures { (us : List ℕ) × AreDue self.old.jobs.kept.clock self.old.timers us
+            × (self.new ≡ all_brought_up parts.now us self.old) }
+    {
+        let clock = Tick(self.jobs.clock());
+        while let Some(task) = self.timers.next_due(clock) {
+            self.bring_up(parts, task);
         }
     }
 
-    /// The processor has worked at this clock.
-    pub(crate) fn work(&mut self, cpu: CpuNo)
-        requires { cpu.0 < length self.old.worked }
-        ensures { self.new ≡ has_worked cpu.0 self.old }
+    /// Moves the clock to the tick, if that is later: the tasks whose moment has come are looked at, and the links
+    /// follow.
+    pub(crate) fn move_clock(&mut self, parts: &Parts, tick: Tick)
+        requires { (at : Moment) × CanMove at tick.0 parts.now self.old }
+        ensures moved { (at : Moment) → CanMove at tick.0 parts.now self.old
+            → IsAt at.group (Clock tick.0 ∷ at.past) self.new }
+        ensures room { self.new.jobs.room ≡ self.old.jobs.room }
     {
-        self.worked[cpu.0 as usize] = Some(self.clock);
+        self.jobs.move_clock(tick);
+        self.bring_up_due(parts);
+        self.clusters.place_changed();
     }
 
-    /// Takes an interrupt at the processor, and the links follow.
-    pub(crate) fn take_irq(&mut self, cpu: CpuNo) -> Reply
-        requires cpu { cpu.0 < length self.old.runs }
-        requires distinct { IsDistinct (tasks_of self.old.ready) }
-        requires settled { placed (top_tasks
-            (length self.old.runs) self.old.ready) self.old.runs self.old.links
-            ≡ self.old.links }
-        ensures reply { result ≡ irq_reply (linked_of self.old) cpu.0 false }
-        ensures state { self.new ≡ replaced
-            (length self.old.runs)
-            (record self.old { runs = (after_irq (linked_of self.old) cpu.0 false).runs }) }
+    /// Takes an interrupt at the processor: it runs its link from now on, unless what it runs is non-preemptive.
+    fn take_irq(&mut self, cpu: CpuNo) -> Reply
+        requires { (at : Moment) × CanAct at cpu.0 Act.Irq self.old }
+        ensures acted { (at : Moment) → CanAct at cpu.0 Act.Irq self.old
+            → HasActed at cpu.0 Act.Irq result self.new }
+        ensures room { self.new.jobs.room ≡ self.old.jobs.room }
     {
-        let reply = self.links.take_irq(cpu, false);
+        let home = self.clusters.home(cpu);
+        let np = self.jobs.runs_non_preemptive(cpu);
+        let reply = self.clusters.take_irq(home, cpu, np);
         if matches!(reply, Reply::Runs(_) | Reply::Idles) {
-            self.place();
+            let running = self.clusters.runs(home, cpu);
+            self.jobs.run(cpu, running);
+            self.clusters.place_changed();
         }
         reply
     }
 
-    /// The task that the processor runs ends its job: the next one is ready, or waits for its release.
-    pub(crate) fn end_job(&mut self, cpu: CpuNo, task: TaskNo, next: &NextJob)
-        requires cpu { cpu.0 < length self.old.runs }
-        requires low { 1 ≤ task.0 }
-        requires high { task.0 ≤ length self.old.done }
-        requires few { slice_index self.old.done (task.0 - 1) < 2 ^ 62 }
-        requires ready_room { length (without_task task.0 self.old.ready) < length self.old.done }
-        requires waiting_room { length self.old.waiting < length self.old.done }
-        requires distinct { let after = job_ended (length self.old.runs) cpu.0 task.0
-            next.now.is_released next.now.job_key next.now.release self.old in
-            IsDistinct (tasks_of after.ready) }
-        ensures { self.new ≡ job_ended (length self.old.runs) cpu.0 task.0
-            next.now.is_released next.now.job_key next.now.release self.old }
+    /// An arrival of the task at this clock.
+    fn arrive(&mut self, parts: &Parts, cpu: CpuNo, task: TaskNo) -> Reply
+        requires at { (at : Moment) × CanActOn at cpu.0 (Act.Arrive task) parts.now self.old }
+        requires room { 0 < self.old.jobs.room }
+        ensures acted { (at : Moment) → CanActOn at cpu.0 (Act.Arrive task) parts.now self.old
+            → HasActed at cpu.0 (Act.Arrive task) result self.new }
+        ensures room { self.old.jobs.room ≤ self.new.jobs.room + 1 }
     {
-        self.done[task.0 as usize - 1] += 1;
-        self.ready.remove(task);
-        if next.is_released {
-            self.ready.insert(next.job_key, task);
-        } else {
-            self.waiting.insert(NextRelease {
-                tick: next.release,
-                task,
-            });
+        let reply = self.jobs.arrival_reply(parts.tasks.as_slice(), task);
+        if reply == Reply::Done {
+            self.jobs.arrive(task);
+            self.bring_up(parts, task);
+            self.clusters.place_changed();
         }
-        self.links.leave(cpu);
-        self.place();
+        reply
     }
 
-    /// The task's job after the one that it does now.
-    fn next_job(&self, number: TaskNo, task: &Task) -> NextJob
-        requires low { 1 ≤ number.0 }
-        requires high { number.0 ≤ length self.now.done }
-        requires few { slice_index self.now.done (number.0 - 1) < 2 ^ 21 }
-        requires phase { task.now.phase < TICK_END }
-        requires period { task.now.period < TICK_END }
-        requires deadline { task.now.rel_deadline < TICK_END }
-        ensures released { let release = task.now.phase + (slice_index self.now.done
-            (number.0 - 1) + 1) * task.now.period
-            in result.is_released ≡ nat_le release self.now.clock }
-        ensures job_key { let release = task.now.phase + (slice_index self.now.done
-            (number.0 - 1) + 1) * task.now.period
-            in result.job_key
-            ≡ record { band = 2; major = release + task.now.rel_deadline; minor = number.0 } }
-        ensures release { result.release ≡ task.now.phase + (slice_index self.now.done
-            (number.0 - 1) + 1) * task.now.period }
+    /// The processor runs nothing from now on, since the job that it ran has ended or sleeps; its task is looked at, and
+    /// the links follow.
+    fn leave(&mut self, parts: &Parts, cpu: CpuNo, task: TaskNo)
+        requires { CanLeave parts.now cpu.0 task.0 self.old }
+        ensures { self.new ≡ left_alone parts.now cpu.0 task.0 self.old }
     {
-        let release = task.phase + (self.done(number) + 1) * task.period;
-        NextJob {
-            is_released: release <= self.clock,
-            job_key: Key {
-                band: 2,
-                major: release + task.rel_deadline,
-                minor: number.0,
-            },
-            release,
-        }
+        let home = self.clusters.home(cpu);
+        self.clusters.leave(home, cpu);
+        self.bring_up(parts, task);
+        self.clusters.place_changed();
     }
 
-    /// The task that the processor runs works for a unit, unless the processor has worked at this clock.
-    fn do_work(&mut self, tasks: &[Task], cpu: CpuNo, task: TaskNo) -> Reply
-        requires { CanOperateNow self.old tasks.now cpu.0 task.0 }
-        ensures { (at : Moment) → CanOperate at self.old tasks.now cpu.0 task.0
-            → HasActed at cpu.0 (Act.Do Op.Work) result self.new }
+    /// An operation of the task that the processor runs.
+    fn operate(&mut self, parts: &Parts, cpu: CpuNo, task: TaskNo, op: Op) -> Reply
+        requires { (at : Moment) × CanOperate at cpu.0 task.0 op parts.now self.old }
+        ensures acted { (at : Moment) → CanOperate at cpu.0 task.0 op parts.now self.old
+            → HasActed at cpu.0 (Act.Do op) result self.new }
+        ensures room { self.new.jobs.room ≡ self.old.jobs.room }
     {
-        if self.last_work(cpu) == Some(self.clock) {
-            return Reply::Spent;
+        let reply = self.jobs.op_reply(cpu, task, op, false, true);
+        if reply == Reply::Done {
+            let tasks = parts.tasks.as_slice();
+            let ends = self.jobs.operate(tasks, cpu, task, op, reply, true);
+            if ends || matches!(op, Op::Sleep(_)) {
+                self.leave(parts, cpu, task);
+            }
         }
-        self.work(cpu);
-        Reply::Done
-    }
-
-    /// The task that the processor runs ends its job.
-    fn do_end(&mut self, tasks: &[Task], cpu: CpuNo, task: TaskNo) -> Reply
-        requires { CanOperateNow self.old tasks.now cpu.0 task.0 }
-        ensures { (at : Moment) → CanOperate at self.old tasks.now cpu.0 task.0
-            → HasActed at cpu.0 (Act.Do Op.End) result self.new }
-    {
-        let next = self.next_job(task, &tasks[task.0 as usize - 1]);
-        self.end_job(cpu, task, &next);
-        Reply::Done
+        reply
     }
 
     /// An act of the processor, once the clock has moved.
-    pub(crate) fn act(&mut self, tasks: &[Task], cpu: CpuNo, act: Act) -> Reply
-        requires acts { CanActNow self.old tasks.now cpu.0 }
-        requires built { is_built_act act ≡ true }
-        ensures { (at : Moment) → CanAct at self.old tasks.now cpu.0
+    pub(crate) fn act(&mut self, parts: &Parts, cpu: CpuNo, act: Act) -> Reply
+        requires at { (at : Moment) × CanActOn at cpu.0 act parts.now self.old }
+        requires room { 0 < self.old.jobs.room }
+        ensures acted { (at : Moment) → CanActOn at cpu.0 act parts.now self.old
             → HasActed at cpu.0 act result self.new }
+        ensures room { self.old.jobs.room ≤ self.new.jobs.room + 1 }
     {
         match act {
             Act::Tick => Reply::Done,
             Act::Irq => self.take_irq(cpu),
-            Act::Do(op) => match self.runs(cpu) {
+            Act::Arrive(task) => self.arrive(parts, cpu, task),
+            Act::Do(op) => match self.jobs.runs(cpu) {
                 None => Reply::Idle,
-                Some(task) => match op {
-                    Op::Work => self.do_work(tasks, cpu, task),
-                    Op::End => self.do_end(tasks, cpu, task),
-                    _ => unreachable!(),
-                },
+                Some(task) => self.operate(parts, cpu, task, op),
             },
-            Act::Arrive(_) => unreachable!(),
         }
     }
-}
-
-/// A task's next job: whether it is released by now, its key, and the tick of its release.
-#[derive(Clone, Copy)]
-pub(crate) struct NextJob {
-    pub(crate) is_released: bool,
-    pub(crate) job_key: Key,
-    pub(crate) release: u64,
 }

@@ -1,0 +1,63 @@
+-- The moments between moves of a group, and what moves rest on.
+use Rattle.std.specs.Prelude.{◌≡◌, ℕ, ◌<◌, ◌∷◌, true, Some}
+use Rattle.rt_base.specs.declared.TheConstants.{MOST_STEPS, TICK_END}
+use Rattle.rt_task.specs.declared.Act.{Act}
+use Rattle.rt_task.specs.declared.Act.TheVariants as acts
+use Rattle.rt_task.specs.declared.Op.{Op}
+use Rattle.rt_task.specs.declared.Parts.{Parts}
+use Rattle.rt_task.specs.Validity.{IsValid}
+use Rattle.rt_history.specs.declared.Reply.{Reply}
+use Rattle.rt_model.specs.Answers.{answer}
+use Rattle.rt_model.specs.Group.{Group}
+use Rattle.rt_model.specs.Outcomes.{past_act}
+use Rattle.rt_model.specs.Past.{Acted, Past, entries_in}
+use Rattle.rt_model.specs.Runs.{runs}
+use Rattle.rt_model.specs.Steps.{IsActOf}
+use Rattle.rt_plays.specs.Homes.{IsProcessorOf}
+use Rattle.rt_groups.specs.Built.{is_built}
+use Rattle.rt_groups.specs.Groups.{IsGroupOf}
+use Rattle.group_engine.specs.declared.state.GroupState.{GroupState}
+use Rattle.group_engine.specs.State.{IsAt}
+
+-- a group of a valid set that is played
+pub record IsPlayed (g : Group) : Type 0 where
+  pub valid : IsValid g.setup
+  pub built : is_built g.setup ≡ true
+  pub is_there : IsGroupOf g.setup g.number
+
+pub record Moment : Type 0 where
+  pub group : Group
+  pub past : Past
+
+-- the state is of this moment of a group with these parts, and the tick is within the limit
+pub record CanMove (at : Moment) (tick : ℕ) (parts : Parts) (s : GroupState) : Type 0 where
+  pub played : IsPlayed at.group
+  pub kept : IsAt at.group at.past s
+  pub parts_are : parts ≡ at.group.setup
+  pub tick_low : tick < TICK_END
+
+-- and the act is one of a processor of the group
+pub record CanAct (at : Moment) (cpu : ℕ) (act : Act) (s : GroupState) : Type 0 where
+  pub played : IsPlayed at.group
+  pub kept : IsAt at.group at.past s
+  pub inside : IsProcessorOf at.group cpu
+  pub act_is_of : IsActOf at.group act
+  pub few : entries_in at.past < MOST_STEPS
+
+pub record CanActOn (at : Moment) (cpu : ℕ) (act : Act) (parts : Parts) (s : GroupState) : Type 0 where
+  pub can : CanAct at cpu act s
+  pub parts_are : parts ≡ at.group.setup
+
+-- and the processor runs the task
+pub record CanOperate (at : Moment) (cpu t : ℕ) (op : Op) (parts : Parts) (s : GroupState) : Type 0 where
+  pub can : CanActOn at cpu (acts.Do op) parts s
+  pub runs_it : runs cpu at.past ≡ Some t
+
+-- the act was answered, and the state is of the past with it
+pub record HasActed (at : Moment) (cpu : ℕ) (act : Act) (reply : Reply) (s : GroupState) : Type 0 where
+  pub reply_is : reply ≡ answer at.group cpu act at.past
+  pub kept : IsAt at.group (Acted (past_act at.group cpu act at.past) ∷ at.past) s
+
+-- the processor is one of a moment's group
+abbrev pub CanLook : ℕ → GroupState → Type 0
+CanLook cpu s = (at : Moment) × IsAt at.group at.past s × IsProcessorOf at.group cpu
