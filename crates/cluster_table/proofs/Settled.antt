@@ -1,31 +1,19 @@
 -- Placing the first tasks of a cluster once settles its links.
 use Rattle.std.proofs.Common.{◌≡◌, ℕ, zero, suc, ◌≤◌, Bool, true, false, not, ◌&&◌, cond, List, [], ◌∷◌, length, replicate, refl, sym, ap, ◌∙◌, arith}
 use Rattle.std.specs.Prelude.{Option, None, Some}
-use Rattle.std.proofs.lemmas.List.{length-take, take-map}
+use Rattle.std.proofs.lemmas.List.{take-map}
 use Rattle.rt_base.specs.declared.TaskNo.{TaskNo}
 use Rattle.rt_history.specs.declared.Reply.TheVariants.{Deferred, Idles, Quiet, Runs}
-use Rattle.rt_order.specs.declared.Key.{Key}
-use Rattle.rt_rules.specs.Distinct.{IsDistinct}
 use Rattle.rt_rules.specs.Keys.{Ranked}
-use Rattle.rt_rules.specs.Numbers.{numbers_from}
 use Rattle.rt_rules.specs.Placing.{kept, tasks_in}
 use Rattle.rt_rules.specs.Rankings.{tasks_of}
-use Rattle.rt_rules.proofs.NumberLaws.{distinct-numbers_from}
-use Rattle.rt_rules.proofs.RankedByLaws.{distinct-ranked_by}
-use Rattle.rt_rules.proofs.RankedLaws.{distinct-take}
 use Rattle.rt_laws.proofs.PlacedAgain.{placed-again}
-use Rattle.ready_queue.specs.Queue.{first_tasks, in_order, is_in, key_in}
+use Rattle.ready_queue.specs.Queue.{first_tasks, in_order}
 use Rattle.ready_queue.proofs.SplitLaws.{split-none}
 use Rattle.link_table.specs.Linked.{Linked, IsSound, after_irq, irq_reply, is_deferred, is_pending, link_of, link_reply, with_run}
 use Rattle.link_table.proofs.Filling.{filled-none}
+use Rattle.cluster_table.proofs.FirstTasks.{distinct-first_tasks, few-first_tasks}
 use Rattle.cluster_table.specs.Clusters.{KeptCluster, IsSettled, fresh, relinked}
-
-pub distinct-first_tasks : (most : ℕ) (keys : List (Option Key)) → IsDistinct (first_tasks most keys)
-distinct-first_tasks most keys =
-    distinct-take most (tasks_of (in_order keys)) (distinct-ranked_by (key_in keys) (is_in keys) (numbers_from 0 (length keys)) (distinct-numbers_from 0 (length keys)))
-
-pub few-first_tasks : (most : ℕ) (keys : List (Option Key)) → length (first_tasks most keys) ≤ most
-few-first_tasks most keys = omega (arith, length-take most (tasks_of (in_order keys)))
 
 pub settled-relinked : (k : KeptCluster) → IsSound k.linked → k.cpus ≡ length k.linked.runs → IsSettled (relinked k)
 settled-relinked k sound all =

@@ -1,5 +1,6 @@
 use Rattle.std.proofs.Common.{arith}
-use Rattle.cluster_table.proofs.Settled.{distinct-first_tasks, settled-relinked}
+use Rattle.cluster_table.proofs.FirstTasks.{distinct-first_tasks}
+use Rattle.cluster_table.proofs.Settled.{settled-relinked}
 use Rattle.cluster_table.proofs.cluster.ClusterState.place.Goals as goal
 
 pub place-requires-clause-distinct : goal.place-requires-clause-distinct
