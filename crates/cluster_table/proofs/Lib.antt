@@ -1,0 +1,5 @@
+pub mod FirstTasks
+pub mod RowLaws
+pub mod Settled
+pub mod Listed
+pub mod Seen

@@ -26,6 +26,7 @@ pub(crate) struct ClusterState {
 
 impl Model for ClusterState {
     ghost use Rattle.std.specs.Prelude.{◌≡◌, ◌≤◌, true, length, vec_capacity};
+    ghost use Rattle.link_table.specs.Linked.{IsSound};
     ghost use Rattle.cluster_table.specs.Clusters.{IsSettled};
     ghost use Rattle.cluster_table.specs.Placed as seen;
 
@@ -38,6 +39,7 @@ impl Model for ClusterState {
 
     ghost invariant = { λ a. (a.queue.most ≡ length a.links.runs)
         × (a.queue.most ≤ vec_capacity a.top)
+        × IsSound a.links
         × (a.is_placed ≡ true
         → IsSettled (record { cpus = a.queue.most; keys = a.queue.keys; linked = a.links })) };
 }

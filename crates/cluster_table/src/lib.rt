@@ -1,13 +1,14 @@
 //! The clusters of a group: of each the eligible tasks by key, and what its processors run and are linked to.
 #![tactic(auto)]
 
-ghost use Rattle.std.specs.Prelude.{◌≡◌, ◌<◌, ◌≤◌, Some, IfOk, IfSome, IsSome, length, map, option_map, slice_index, sum_by};
+ghost use Rattle.std.specs.Prelude.{◌≡◌, ◌<◌, ◌≤◌, ◌++◌, [], ◌∷◌, ◌&&◌, if◌then◌else◌, true, not, Some, IfOk, IfSome, IsSome};
+ghost use Rattle.std.specs.Prelude.{length, map, option_map, slice_index, sum_by, vec_capacity, vec_len};
 ghost use Rattle.rt_base.specs.TaskNos.{number_of_task};
 ghost use Rattle.rt_base.specs.declared.TheConstants.{MOST_CLUSTERS, MOST_CPUS};
 ghost use Rattle.rt_task.specs.declared.Cluster as sets;
 ghost use Rattle.link_table.specs.Linked.{irq_reply, link_of, runs_on};
 ghost use Rattle.cluster_table.specs.Clusters.{KeptCluster, after_take, homes_from, left_by, relinked, rows_from, with_key};
-ghost use Rattle.cluster_table.specs.Table.{HasProcessor, HasTask, IsThere, changed_at, cluster_at};
+ghost use Rattle.cluster_table.specs.Table.{HasProcessor, HasTask, IsThere, changed_at, cluster_at, cluster_numbers};
 
 mod cluster;
 mod rows;
@@ -124,10 +125,10 @@ impl ClusterTable {
         let Some(cluster) = &mut self.clusters[c.0 as usize] else {
             return;
         };
-        if cluster.is_placed() {
-            self.changed.push_reserved(c);
-        }
+        let was_placed = cluster.is_placed();
         cluster.set(task, key);
+        let is_placed = cluster.is_placed();
+        list_unplaced(&mut self.changed, c, was_placed, is_placed);
     }
 
     /// Takes an interrupt at a processor of the cluster, where `np` says whether what it runs is non-preemptive.
@@ -143,9 +144,8 @@ impl ClusterTable {
         };
         let was_placed = cluster.is_placed();
         let reply = cluster.take_irq(q, np);
-        if was_placed && !cluster.is_placed() {
-            self.changed.push_reserved(c);
-        }
+        let is_placed = cluster.is_placed();
+        list_unplaced(&mut self.changed, c, was_placed, is_placed);
         reply
     }
 
@@ -157,10 +157,10 @@ impl ClusterTable {
         let Some(cluster) = &mut self.clusters[c.0 as usize] else {
             return;
         };
-        if cluster.is_placed() {
-            self.changed.push_reserved(c);
-        }
+        let was_placed = cluster.is_placed();
         cluster.leave(q);
+        let is_placed = cluster.is_placed();
+        list_unplaced(&mut self.changed, c, was_placed, is_placed);
     }
 
     /// Links the first of the eligible tasks in each cluster in which a key or what runs has changed.
@@ -174,5 +174,18 @@ impl ClusterTable {
                 cluster.place();
             }
         }
+    }
+}
+
+/// Writes the cluster behind the others, where it was placed and no longer is.
+fn list_unplaced(changed: &mut Vec<ClusterNo>, c: ClusterNo, was_placed: bool, is_placed: bool)
+    requires { was_placed ≡ true → vec_len changed.old < vec_capacity changed.old }
+    ensures numbers { cluster_numbers changed.new.items
+        ≡ (if was_placed && not is_placed then cluster_numbers changed.old.items ++ c.0 ∷ []
+        else cluster_numbers changed.old.items) }
+    ensures room { vec_capacity changed.new ≡ vec_capacity changed.old }
+{
+    if was_placed && !is_placed {
+        changed.push_reserved(c);
     }
 }
