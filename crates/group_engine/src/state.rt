@@ -101,7 +101,8 @@ impl GroupState {
         } else {
             None
         };
-        self.clusters.set(tasks[task.0 as usize - 1].cluster, task, key);
+        self.clusters
+            .set(tasks[task.0 as usize - 1].cluster, task, key);
     }
 
     /// Looks at each task whose moment has come, the earliest first.
