@@ -1,3 +1,5 @@
 pub mod Reading
 pub mod Bringing
 pub mod Settling
+pub mod ClockMoves
+pub mod ActMoves

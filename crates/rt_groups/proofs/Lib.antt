@@ -4,3 +4,4 @@ pub mod GroupCount
 pub mod GroupPlaces
 pub mod TaskNumbers
 pub mod NoSems
+pub mod RunsAfter

@@ -1,0 +1,108 @@
+-- The state as the clock moves.
+use Rattle.std.proofs.Common.{◌≡◌, ℕ, ◌<◌, max, Bool, true, false, ◌&&◌, ◌||◌, List, [], ◌∷◌, length, length-set, set, eqb-true, refl, sym, ap, ◌∙◌, subst, arith}
+use Rattle.std.specs.Prelude.{◌==◌, Option, None, Some, if◌then◌else◌}
+use Rattle.rt_base.specs.declared.TheConstants.{TICK_END}
+use Rattle.rt_rules.specs.Numbers.{has}
+use Rattle.rt_rules.proofs.BoolLaws.{both, or_true}
+use Rattle.rt_rules.proofs.MemberLaws.{equal_self}
+use Rattle.rt_model.specs.Group.{Group, clusters, tasks, tasks_of}
+use Rattle.rt_model.specs.Past.{Clock, Past, now}
+use Rattle.rt_model.specs.Reachable.{clocked}
+use Rattle.rt_laws.proofs.GroupLaws.{tasks_of-home}
+use Rattle.release_queue.specs.Timers.{tick_at}
+use Rattle.rank_changes.specs.Touched.{comes_due}
+use Rattle.rank_changes.proofs.QuietMoves.{standing_after_clock}
+use Rattle.rank_changes.proofs.SameClusters.{runs-clock}
+use Rattle.group_facts.specs.Kept.{with_clock}
+use Rattle.group_facts.specs.Timers.{AreArmed, AreDue, AreMoved, TimersAreKept, renewed, ticks_without, timer_at}
+use Rattle.group_facts.proofs.KeptMoves.{kept_after_clock}
+use Rattle.group_facts.proofs.TimerMoves.{timers_after_clock}
+use Rattle.group_facts.proofs.TimerSets.{length-without, tick-set, tick-without}
+use Rattle.group_engine.specs.declared.state.GroupState.{GroupState}
+use Rattle.group_engine.specs.Moments.{IsPlayed}
+use Rattle.group_engine.specs.State.{HasClusterAt, IsAt, IsWithin}
+use Rattle.group_engine.proofs.Reading.{unreserved}
+use Rattle.group_engine.proofs.Settling.{HasClusterBetween, IsBetween}
+
+-- ---- timers that are set again need not be taken out
+
+pub length-renewed : (f : ℕ → Option ℕ) (us : List ℕ) (ticks : List (Option ℕ)) → length (renewed f us ticks) ≡ length ticks
+length-renewed f [] ticks = refl
+length-renewed f (u ∷ us) ticks = length-renewed f us (set ticks u (f u)) ∙ length-set _ _ _
+
+pub tick-renewed : (f : ℕ → Option ℕ) (us : List ℕ) (ticks : List (Option ℕ)) (t : ℕ) → ((u : ℕ) → has u us ≡ true → u < length ticks)
+    → tick_at (renewed f us ticks) t ≡ (if has t us then f t else tick_at ticks t)
+tick-renewed f [] ticks t room = refl
+tick-renewed f (u ∷ us) ticks t room =
+    tick-renewed f us (set ticks u (f u)) t (λ v k. let r : v < length ticks = room v (rw k (or_true (v == u))) in omega (arith, r, length-set ticks u (f u)))
+    ∙ by_cases (has t us) (t == u) refl
+  where
+    there : u < length ticks
+    there = room u (rw (equal_self u))
+
+    by_cases : (b c : Bool) → t == u ≡ c → (if b then f t else tick_at (set ticks u (f u)) t) ≡ (if c || b then f t else tick_at ticks t)
+    by_cases true true e = refl
+    by_cases true false e = refl
+    by_cases false true e = let same : t ≡ u = eqb-true t u e in tick-set ticks u t (f u) there ∙ rw e (ap f (sym same))
+    by_cases false false e = tick-set ticks u t (f u) there ∙ rw e refl
+
+timers-again : (g : Group) (past : Past) (us : List ℕ) (ticks : List (Option ℕ)) → ((u : ℕ) → has u us ≡ true → u < length ticks)
+    → TimersAreKept g past (renewed (timer_at g past) us (ticks_without us ticks)) → TimersAreKept g past (renewed (timer_at g past) us ticks)
+timers-again g past us ticks room kept = record {
+  room = λ t h. omega (arith, kept.room t h, length-renewed (timer_at g past) us (ticks_without us ticks), length-without us ticks, length-renewed (timer_at g past) us ticks);
+  armed = λ t. same t ∙ kept.armed t;
+}
+  where
+    same : (t : ℕ) → tick_at (renewed (timer_at g past) us ticks) t ≡ tick_at (renewed (timer_at g past) us (ticks_without us ticks)) t
+    same t =
+        tick-renewed (timer_at g past) us ticks t room
+        ∙ by_case (has t us) refl
+        ∙ sym (tick-renewed (timer_at g past) us (ticks_without us ticks) t (λ u h. omega (arith, room u h, length-without us ticks)))
+      where
+        by_case : (b : Bool) → has t us ≡ b → (if has t us then timer_at g past t else tick_at ticks t) ≡ (if has t us then timer_at g past t else tick_at (ticks_without us ticks) t)
+        by_case true e = rw e refl
+        by_case false e = rw (e, tick-without us ticks t room, e) refl
+
+-- ---- the move
+
+rest-false : (a b c : Bool) → c ≡ a && b → a ≡ true → c ≡ false → b ≡ false
+rest-false true b c h k m = sym h ∙ m
+rest-false false b c h k m = cc
+
+-- the state whose clock has moved, before the tasks that are due are looked at
+abbrev pub clocked_state : ℕ → GroupState → GroupState
+clocked_state tick s = record s { jobs = record s.jobs { kept = with_clock tick s.jobs.kept } }
+
+pub between-clock : (g : Group) → IsPlayed g → (past : Past) (s : GroupState) → IsAt g past s → (tick : ℕ) → tick < TICK_END → (us : List ℕ)
+    → AreDue (max (now past) tick) s.timers us → IsBetween g (Clock tick) past us (clocked_state tick s)
+between-clock g played past s at tick low us due = record {
+  reachable = clocked tick at.reachable;
+  within = record { few = at.within.few; clock_low = omega (arith, at.within.clock_low, low); sleeps_low = at.within.sleeps_low };
+  jobs_are = kept_after_clock g past played.valid at.reachable tick s.jobs.kept at.jobs_are;
+  timers_are = timers-again g (Clock tick ∷ past) us s.timers (λ u h. at.timers_are.room u (inside u h)) moved.kept;
+  homes_are = at.homes_are;
+  clusters_are = λ c h. between (at.clusters_are c h);
+  inside = inside;
+  others = λ c t h k. standing_after_clock g past played.valid at.reachable (unreserved g played) tick t
+      (rest-false (has t (tasks g)) (comes_due g tick t past) (has t us) (moved.due t) (tasks_of-home g c t h).0 k);
+}
+  where
+    moved : AreMoved g tick past s.timers us
+    moved = timers_after_clock g past played.valid at.reachable tick s.timers us at.timers_are due
+
+    inside : (t : ℕ) → has t us ≡ true → has t (tasks g) ≡ true
+    inside t h = (both (has t (tasks g)) (comes_due g tick t past) (sym (moved.due t) ∙ h)).0
+
+    between : {c : ℕ} → HasClusterAt g c past s.clusters → HasClusterBetween g c (Clock tick) past s.clusters
+    between {c} was = record {
+      cluster = was.cluster;
+      there = was.there;
+      is_between = record {
+        cpus_are = was.is_at.cpus_are;
+        first_is = was.is_at.first_is;
+        room = was.is_at.room;
+        keys_are = was.is_at.keys_are;
+        runs_are = was.is_at.runs_are ∙ sym (runs-clock g c tick past);
+        links_are = was.is_at.links_are;
+      };
+    }
