@@ -3,3 +3,10 @@ pub mod Bringing
 pub mod Settling
 pub mod ClockMoves
 pub mod ActMoves
+pub mod Bounding
+pub mod Answering
+pub mod Refusing
+pub mod Running
+pub mod Interrupting
+pub mod Arriving
+pub mod Operating
