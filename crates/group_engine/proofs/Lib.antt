@@ -1,0 +1,2 @@
+pub mod BringingUp
+pub mod DueAgain

@@ -1,0 +1,1 @@
+-- Tasks that are due are taken out one by one, and are armed anew for moments after the clock.
