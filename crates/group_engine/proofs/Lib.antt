@@ -1,2 +1,3 @@
 pub mod BringingUp
 pub mod DueAgain
+pub mod DueInTurn
