@@ -10,3 +10,6 @@ pub mod Running
 pub mod Interrupting
 pub mod Arriving
 pub mod Operating
+pub mod BringingUp
+pub mod DueAgain
+pub mod DueInTurn

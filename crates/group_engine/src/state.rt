@@ -1,5 +1,5 @@
 //! What the engine keeps of its group, and what each move makes of it.
-ghost use Rattle.std.specs.Prelude.{◌≡◌, ℕ, List, ◌+◌, ◌<◌, ◌≤◌, ◌∷◌, [], IfOk};
+ghost use Rattle.std.specs.Prelude.{◌≡◌, ℕ, List, ◌+◌, ◌<◌, ◌≤◌, ◌∷◌, [], IfOk, slice_set};
 ghost use Rattle.rt_base.specs.TaskNos.{number_of_task};
 ghost use Rattle.rt_base.specs.declared.TheConstants.{MOST_STEPS};
 ghost use Rattle.rt_model.specs.Group.{tasks};
@@ -11,13 +11,14 @@ ghost use Rattle.rt_plays.specs.Plays.{group_with};
 ghost use Rattle.group_facts.specs.Timers.{AreDue};
 ghost use Rattle.group_engine.specs.Moments.{CanAct, CanActOn, CanLook, CanMove, CanOperate, HasActed, IsPlayed, Moment};
 ghost use Rattle.group_engine.specs.State.{IsAt};
-ghost use Rattle.group_engine.specs.Touching.{AreArmedOnly, CanBringUp, CanBringUpAll, CanLeave, all_brought_up, brought_up, left_alone};
+ghost use Rattle.group_engine.specs.Touching.{AreArmedOnly, CanBringUp, CanBringUpAll, CanLeave, all_brought_up, brought_up, key_now, left_alone, timer_now};
 
 use cluster_table::ClusterTable;
 use group_jobs::GroupJobs;
 use release_queue::ReleaseQueue;
 use rt_base::{CpuNo, GroupNo, MOST_CPUS, NoMemory, TaskNo, Tick};
 use rt_history::Reply;
+use rt_order::Key;
 use rt_task::{Act, Op, Parts};
 use std::alloc::Global;
 
@@ -86,23 +87,39 @@ impl GroupState {
         self.jobs.runs(cpu)
     }
 
+    /// The key of the task's job, where that is eligible.
+    fn key(&self, parts: &Parts, task: TaskNo) -> Option<Key>
+        requires { CanBringUp parts.now task.0 self.now }
+        ensures { result ≡ key_now parts.now self.now.jobs.kept task.0 }
+    {
+        if self.jobs.is_ready(parts.tasks.as_slice(), task) {
+            Some(self.jobs.base_key(parts, task))
+        } else {
+            None
+        }
+    }
+
+    /// Arms the task's timer for the moment that its job waits for, if any, and for no other.
+    fn arm_anew(&mut self, parts: &Parts, task: TaskNo)
+        requires { CanBringUp parts.now task.0 self.old }
+        ensures { let moment = timer_now parts.now self.old.jobs.kept task.0 in self.new
+            ≡ record self.old { timers = slice_set self.old.timers task.0 moment } }
+    {
+        self.timers.cancel(task);
+        if let Some(tick) = self.jobs.timer(parts.tasks.as_slice(), task) {
+            self.timers.arm(task, tick);
+        }
+    }
+
     /// Arms the task's timer anew, and looks at whether its job is eligible, and at its key.
     fn bring_up(&mut self, parts: &Parts, task: TaskNo)
         requires { CanBringUp parts.now task.0 self.old }
         ensures { self.new ≡ brought_up parts.now task.0 self.old }
     {
-        let tasks = parts.tasks.as_slice();
-        self.timers.cancel(task);
-        if let Some(tick) = self.jobs.timer(tasks, task) {
-            self.timers.arm(task, tick);
-        }
-        let key = if self.jobs.is_ready(tasks, task) {
-            Some(self.jobs.base_key(parts, task))
-        } else {
-            None
-        };
-        self.clusters
-            .set(tasks[task.0 as usize - 1].cluster, task, key);
+        let key = self.key(parts, task);
+        self.arm_anew(parts, task);
+        let home = parts.tasks.as_slice()[task.0 as usize - 1].cluster;
+        self.clusters.set(home, task, key);
     }
 
     /// Looks at each task whose moment has come, the earliest first.
