@@ -32,7 +32,7 @@ use Rattle.group_facts.proofs.KeptMoves.{kept_after_act}
 use Rattle.group_facts.proofs.TimerMoves.{release-op, timer_stays, wakes-op}
 use Rattle.group_facts.proofs.TimerSets.{timers_are_renewed}
 use Rattle.group_engine.specs.declared.state.GroupState.{GroupState}
-use Rattle.group_engine.specs.Moments.{IsPlayed}
+use Rattle.group_engine.specs.Moments.{CanAct, IsPlayed, Moment}
 use Rattle.group_engine.specs.State.{HasClusterAt, IsAt, IsWithin}
 use Rattle.group_engine.proofs.Reading.{SameLook, no_sems, same-standing}
 use Rattle.group_engine.proofs.Settling.{HasClusterBetween, IsBetween, unmoved}
@@ -141,3 +141,7 @@ module _ (g : Group) (q : ℕ) (act : Act) (past : Past) (s : GroupState) (can :
   pub all-stays : AllStay past (with_act g q act past) → has_acted g.setup.tasks q act (answer g q act past) true s.jobs.kept ≡ s.jobs.kept → IsAt g (with_act g q act past) s
   all-stays stay same =
       stays s (subst (IsKept g (with_act g q act past)) same kept-after) refl refl (ap (λ c. c.runs) (stay.cpus q)) (λ t. look-same g q t act past (stay.jobs t))
+
+-- what an act of a moment rests on
+pub can-be : (at : Moment) (q : ℕ) (act : Act) (s : GroupState) → CanAct at q act s → CanBe at.group q act at.past s
+can-be at q act s can = record { played = can.played; at = can.kept; inside = can.inside; act_is_of = can.act_is_of; few = can.few }

@@ -50,8 +50,8 @@ in-turn-more p start s u h next = record {
   us = h.us ++ u ∷ [];
   state_is = ap (brought_up p u) h.state_is ∙ sym (all_brought_up-push p h.us u start);
   goes_on = λ vs d.
-  subst (AreDue start.jobs.kept.clock start.timers) (sym (append_assoc h.us (u ∷ []) vs))
-  (h.goes_on (u ∷ vs) (next, due-again start.jobs.kept.clock vs s.timers u (timer_now p s.jobs.kept u) (later-now p start s u h) d));
+      subst (AreDue start.jobs.kept.clock start.timers) (sym (append_assoc h.us (u ∷ []) vs))
+      (h.goes_on (u ∷ vs) (next, due-again start.jobs.kept.clock vs s.timers u (timer_now p s.jobs.kept u) (later-now p start s u h) d));
 }
   where
     armed : (t n : ℕ) → tick_at (set s.timers u (timer_now p s.jobs.kept u)) t ≡ Some n → has t h.tasks ≡ true

@@ -1,6 +1,6 @@
 -- The state after an interrupt.
-use Rattle.std.proofs.Common.{◌≡◌, ℕ, Bool, true, false, not, ◌&&◌, ◌||◌, List, [], ◌∷◌, zero, suc, refl, get_or, set, sym, ap, ◌∙◌, subst}
-use Rattle.std.specs.Prelude.{Option, None, Some, if◌then◌else◌, is_some, option_map}
+use Rattle.std.proofs.Common.{◌≡◌, ℕ, Bool, true, false, not, ◌&&◌, ◌||◌, List, [], ◌∷◌, zero, suc, refl, get_or, set, sym, ap, ◌∙◌, ◌-◌, subst, arith}
+use Rattle.std.specs.Prelude.{Option, None, Some, if◌then◌else◌, is_some, option_map, slice_index}
 use Rattle.rt_task.specs.declared.Act.TheVariants as acts
 use Rattle.rt_history.specs.declared.Reply.{Reply}
 use Rattle.rt_history.specs.declared.Reply.TheVariants as replies
@@ -12,6 +12,8 @@ use Rattle.rt_model.specs.Past.{Acted, Past, accepted, now}
 use Rattle.rt_model.specs.Outcomes.{past_act}
 use Rattle.rt_model.specs.Runs.{runs, runs_by}
 use Rattle.link_table.specs.Linked.{Linked, after_irq, irq_reply, is_deferred, is_pending, link_of, link_reply, runs_on, with_run}
+use Rattle.link_table.proofs.PlaceLaws.{at_place-set_same}
+use Rattle.cluster_table.proofs.RowLaws.{at-changed}
 use Rattle.group_facts.specs.Facts.{CpuFacts, cpu_facts}
 use Rattle.group_facts.specs.FactMoves.{CountsNothing, with_act}
 use Rattle.group_facts.specs.Kept.{IsKept, Kept, cpu_of, has_acted, interrupted, with_cpu}
@@ -22,12 +24,12 @@ use Rattle.group_facts.proofs.JobSteps.{others_count_nothing}
 use Rattle.cluster_table.specs.Clusters.{KeptCluster, after_take}
 use Rattle.cluster_table.specs.Table.{Table, changed_at, cluster_at}
 use Rattle.group_engine.specs.declared.state.GroupState.{GroupState}
-use Rattle.group_engine.specs.State.{IsAt, IsClusterAt}
+use Rattle.group_engine.specs.State.{HasClusterAt, IsAt, IsClusterAt}
 use Rattle.group_engine.specs.Touching.{placed_all}
 use Rattle.group_engine.proofs.ActMoves.{CanBe, between-act, kept-after, look-same}
 use Rattle.group_engine.proofs.Answering.{answer-read}
 use Rattle.group_engine.proofs.Refusing.{refused}
-use Rattle.group_engine.proofs.Running.{between-run, link-read, runs-read}
+use Rattle.group_engine.proofs.Running.{between-run, link-read, of_cluster, own_cluster, runs-read}
 use Rattle.group_engine.proofs.Settling.{settled}
 
 -- ---- the reply by the table and by the model
@@ -145,3 +147,55 @@ module _ (g : Group) (q : ℕ) (past : Past) (s : GroupState) (can : CanBe g q a
       (between-act g q acts.Irq past s can [] s1 (subst (IsKept g (with_act g q acts.Irq past)) (cpu-then (linked g q past) told_is) (kept-after g q acts.Irq past s can)) refl refl
       (between-run g q acts.Irq past s can s1.clusters (after_take q np) refl changes)
       (λ t h. cc) (λ t h. look-same g q t acts.Irq past (nothing.facts_stay t)))
+
+-- ---- as the table tells of it
+
+link-accepted : (link : Option ℕ) → accepted (link_reply link) ≡ true
+link-accepted None = refl
+link-accepted (Some t) = refl
+
+module _ (g : Group) (q : ℕ) (past : Past) (s : GroupState) (can : CanBe g q acts.Irq past s) (home : ℕ) (home_is : home ≡ slice_index s.clusters.homes q) (np : Bool)
+    (np_is : np ≡ told.np_of s.jobs.kept (cpu_of s.jobs.kept q).runs) (reply : Reply) (reply_is : (k : KeptCluster) → cluster_at s.clusters home ≡ Some k → reply ≡ irq_reply k.linked q np) where
+  own : HasClusterAt g (cluster_with g q) past s.clusters
+  own = own_cluster g q can.inside past s can.at
+
+  here : home ≡ cluster_with g q
+  here = home_is ∙ can.at.homes_are.are q can.inside
+
+  there_own : cluster_at s.clusters home ≡ Some own.cluster
+  there_own = ap (cluster_at s.clusters) here ∙ own.there
+
+  pub irq-told : reply ≡ answer g q acts.Irq past
+  irq-told = reply_is own.cluster there_own ∙ irq-answer g q past s can own.cluster own.there own.is_at np np_is
+
+  pub irq-waited : accepted reply ≡ false → IsAt g (with_act g q acts.Irq past) (record s { clusters = changed_at home (after_take q np) s.clusters })
+  irq-waited out = by_kind (is_taken own.cluster.linked q np)
+    where
+      told_out : accepted (irq_reply own.cluster.linked q np) ≡ false
+      told_out = ap accepted (sym (reply_is own.cluster there_own)) ∙ out
+
+      by_kind : IsTaken own.cluster.linked q np → IsAt g (with_act g q acts.Irq past) (record s { clusters = changed_at home (after_take q np) s.clusters })
+      by_kind (takes r a) = absurd (let t : accepted (irq_reply own.cluster.linked q np) ≡ true = ap accepted r ∙ link-accepted (link_of own.cluster.linked q) in let f = told_out in cc)
+      by_kind (waits r a) =
+          let same : changed_at home (after_take q np) s.clusters ≡ s.clusters = ap (λ c. changed_at c (after_take q np) s.clusters) here ∙ same-table g q past s can own.cluster own.there own.is_at np np_is a in
+          let P : Table → Type 0 = λ t. IsAt g (with_act g q acts.Irq past) (record s { clusters = t }) in
+          subst P (sym same) (waited g q past s can own.cluster own.there own.is_at np np_is r)
+
+  pub irq-taken : accepted reply ≡ true → (running : Option ℕ)
+      → ((k : KeptCluster) → cluster_at (changed_at home (after_take q np) s.clusters) home ≡ Some k → running ≡ runs_on k.linked q)
+      → IsAt g (with_act g q acts.Irq past) (placed_all (linked_state q running np home s))
+  irq-taken accepts running running_is = by_kind (is_taken own.cluster.linked q np)
+    where
+      told_in : accepted (irq_reply own.cluster.linked q np) ≡ true
+      told_in = ap accepted (sym (reply_is own.cluster there_own)) ∙ accepts
+
+      by_kind : IsTaken own.cluster.linked q np → IsAt g (with_act g q acts.Irq past) (placed_all (linked_state q running np home s))
+      by_kind (waits r a) = absurd (let t = told_in in let f = r in cc)
+      by_kind (takes r a) =
+          let k : KeptCluster = own.cluster in
+          let next : cluster_at (changed_at home (after_take q np) s.clusters) home ≡ Some (after_take q np k) = at-changed home (after_take q np) s.clusters ∙ ap (option_map (after_take q np)) there_own in
+          let range = of_cluster g q can.inside past s can.at k own.is_at in
+          let placed_in : runs_on (with_run k.linked q (link_of k.linked q)) q ≡ link_of k.linked q = at_place-set_same k.linked.runs (q - k.linked.first) (link_of k.linked q) (omega (arith, range.0, range.1)) in
+          let link : running ≡ linked g q past = running_is (after_take q np k) next ∙ ap (λ l. runs_on l q) a ∙ placed_in ∙ link-read g q can.inside past s can.at k own.is_at in
+          let P : Option ℕ → ℕ → Type 0 = λ o h. IsAt g (with_act g q acts.Irq past) (placed_all (linked_state q o np h s)) in
+          subst (λ o. P o home) (sym link) (subst (P (linked g q past)) (sym here) (taken g q past s can k own.there own.is_at np np_is r a))

@@ -7,11 +7,14 @@ use Rattle.rt_rules.specs.Numbers.{has}
 use Rattle.rt_rules.specs.Placing.{at_place}
 use Rattle.rt_rules.proofs.MemberLaws.{equal_self}
 use Rattle.rt_rules.proofs.NumberLaws.{numbers_from-has}
-use Rattle.rt_model.specs.Group.{Group, cluster_with, clusters, cpus, first_cpu, processors}
+use Rattle.rt_model.specs.Group.{Group, cluster_with, clusters, cpus, first_cpu, processors, tasks}
 use Rattle.rt_model.specs.Links.{linked, links, runs_of}
 use Rattle.rt_model.specs.Outcomes.{past_act}
 use Rattle.rt_model.specs.Past.{Acted, Past}
+use Rattle.rt_model.specs.Reachable.{IsReachable}
 use Rattle.rt_model.specs.Runs.{runs}
+use Rattle.rt_laws.proofs.Running.{running}
+use Rattle.rt_laws.proofs.ValidSets.{rules_of}
 use Rattle.rt_model.proofs.PastLaws.{at_place-numbers, length-runs_of}
 use Rattle.rt_plays.specs.Homes.{IsProcessorOf}
 use Rattle.rt_groups.specs.Places.{IsAtHome}
@@ -19,11 +22,15 @@ use Rattle.rt_groups.proofs.GroupPlaces.{processors_are_at_home}
 use Rattle.rt_groups.proofs.RunsAfter.{runs_of-changed}
 use Rattle.rank_changes.proofs.SameClusters.{runs-elsewhere}
 use Rattle.link_table.specs.Linked.{IsOfCluster, link_of, runs_on, with_run}
+use Rattle.group_facts.specs.Facts.{CpuFacts}
 use Rattle.group_facts.specs.FactMoves.{with_act}
+use Rattle.group_facts.proofs.KeptMoves.{task-range}
+use Rattle.group_jobs.specs.GroupJobs.{RunsTask}
 use Rattle.cluster_table.specs.Clusters.{KeptCluster}
 use Rattle.cluster_table.specs.Table.{HasProcessor, Table, changed_at, cluster_at}
 use Rattle.cluster_table.proofs.RowLaws.{at-changed, at-changed_other}
 use Rattle.group_engine.specs.declared.state.GroupState.{GroupState}
+use Rattle.group_engine.specs.Moments.{IsPlayed}
 use Rattle.group_engine.specs.State.{HasClusterAt, IsAt, IsClusterAt}
 use Rattle.group_engine.proofs.ActMoves.{CanBe}
 use Rattle.group_engine.proofs.Settling.{HasClusterBetween, IsClusterBetween}
@@ -38,7 +45,7 @@ module _ (g : Group) (q : ℕ) (inside : IsProcessorOf g q) (past : Past) (s : G
   pub own_cluster : HasClusterAt g (cluster_with g q) past s.clusters
   own_cluster = at.clusters_are (cluster_with g q) home_at.cluster_there
 
-  of_cluster : (k : KeptCluster) → IsClusterAt g (cluster_with g q) past k → IsOfCluster k.linked q
+  pub of_cluster : (k : KeptCluster) → IsClusterAt g (cluster_with g q) past k → IsOfCluster k.linked q
   of_cluster k is =
       let size : length k.linked.runs ≡ cpus g (cluster_with g q) = ap length is.runs_are ∙ length-runs_of g (cluster_with g q) past in
       (omega (arith, is.first_is, home_at.low), omega (arith, is.first_is, home_at.high, size))
@@ -107,3 +114,13 @@ module _ (g : Group) (q : ℕ) (act : Act) (past : Past) (s : GroupState) (can :
               links_are = was.is_at.links_are;
             };
           }
+
+-- what a processor of the group runs is a task of it
+pub runs-member : (g : Group) → IsPlayed g → (q t : ℕ) (past : Past) → IsReachable g past → runs q past ≡ Some t → has t (tasks g) ≡ true
+runs-member g played q t past made h = (running g (rules_of g played.valid) made q t h).member
+
+pub runs-task : (g : Group) → IsPlayed g → (q : ℕ) → IsProcessorOf g q → (past : Past) (s : GroupState) → IsAt g past s → RunsTask s.jobs.kept q
+runs-task g played q inside past s at = λ t h.
+    let r : runs q past ≡ Some t = sym (ap (λ (c : CpuFacts). c.runs) (at.jobs_are.cpus_are q inside)) ∙ h in
+    let range = task-range g t (runs-member g played q t past at.reachable r) in
+    (range.0, omega (arith, range.1, at.jobs_are.jobs_length))

@@ -4,7 +4,7 @@ ghost use Rattle.rt_base.specs.TaskNos.{number_of_task};
 ghost use Rattle.rt_base.specs.declared.TheConstants.{MOST_STEPS};
 ghost use Rattle.rt_model.specs.Group.{tasks};
 ghost use Rattle.rt_model.specs.Links.{linked};
-ghost use Rattle.rt_model.specs.Past.{Clock};
+ghost use Rattle.rt_model.specs.Past.{Clock, accepted};
 ghost use Rattle.rt_model.specs.Runs.{runs};
 ghost use Rattle.rt_plays.specs.Homes.{IsProcessorOf};
 ghost use Rattle.rt_plays.specs.Plays.{group_with};
@@ -157,7 +157,7 @@ impl GroupState {
         let home = self.clusters.home(cpu);
         let np = self.jobs.runs_non_preemptive(cpu);
         let reply = self.clusters.take_irq(home, cpu, np);
-        if matches!(reply, Reply::Runs(_) | Reply::Idles) {
+        if is_accepted(reply) {
             let running = self.clusters.runs(home, cpu);
             self.jobs.run(cpu, running);
             self.clusters.place_changed();
@@ -230,4 +230,14 @@ impl GroupState {
             },
         }
     }
+}
+
+/// Whether an act with this reply was done.
+fn is_accepted(reply: Reply) -> bool
+    ensures { result ≡ accepted reply }
+{
+    matches!(
+        reply,
+        Reply::Done | Reply::Runs(_) | Reply::Idles | Reply::Granted | Reply::Queued
+    )
 }
