@@ -48,7 +48,7 @@ look-same g q t act past same = record {
 
 -- ---- the move
 
-act-within : (g : Group) (q : ℕ) (act : Act) (past : Past) → IsActOf g act → IsWithin past → entries_in past < MOST_STEPS → IsWithin (with_act g q act past)
+pub act-within : (g : Group) (q : ℕ) (act : Act) (past : Past) → IsActOf g act → IsWithin past → entries_in past < MOST_STEPS → IsWithin (with_act g q act past)
 unfolding past_act
 act-within g q act past of w few = record {
   few = omega (arith, few);

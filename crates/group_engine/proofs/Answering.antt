@@ -1,12 +1,15 @@
 -- Each reply is read off what is kept, where there are neither semaphores nor reservations.
-use Rattle.std.proofs.Common.{◌≡◌, ℕ, Bool, true, false, [], refl, sym, ap, ◌∙◌, subst}
+use Rattle.std.proofs.Common.{◌≡◌, ◌⊎◌, ℕ, Bool, true, false, [], inl, inr, refl, sym, ap, ◌∙◌, subst}
 use Rattle.std.specs.Prelude.{Option, None, Some, if◌then◌else◌}
 use Rattle.rt_task.specs.declared.Act.{Act}
 use Rattle.rt_task.specs.declared.Act.TheVariants as acts
+use Rattle.rt_task.specs.declared.Kind.{Kind}
+use Rattle.rt_task.specs.declared.Kind.TheVariants.{Periodic, Sporadic}
 use Rattle.rt_task.specs.declared.Op.{Op}
 use Rattle.rt_task.specs.declared.Op.TheVariants as ops
 use Rattle.rt_task.specs.declared.PluginKind.{PluginKind}
 use Rattle.rt_task.specs.declared.PluginKind.TheVariants as plugins
+use Rattle.rt_task.specs.declared.Task.{Task}
 use Rattle.rt_task.specs.RuleWords.{is_p_res}
 use Rattle.rt_history.specs.declared.Reply.{Reply}
 use Rattle.rt_history.specs.declared.Reply.TheVariants as replies
@@ -19,8 +22,8 @@ use Rattle.rt_model.specs.Past.{Past, accepted}
 use Rattle.rt_model.specs.Runs.{runs}
 use Rattle.rt_model.specs.Steps.{IsActOf}
 use Rattle.rt_groups.proofs.NoSems.{holds-nothing}
-use Rattle.group_facts.specs.Kept.{job_of}
-use Rattle.group_facts.specs.Replies.{IsSeen, SemFacts, asked_by, freed_by, lacks, op_reply, reply_of}
+use Rattle.group_facts.specs.Facts.{JobFacts}
+use Rattle.group_facts.specs.Replies.{IsSeen, SemFacts, arrival_reply, arrival_reply_by, asked_by, freed_by, lacks, may_come, op_reply, reply_of}
 use Rattle.group_facts.proofs.ReadReplies.{reply_is_read}
 use Rattle.group_jobs.specs.GroupJobs.{plain_reply}
 use Rattle.group_engine.specs.declared.state.GroupState.{GroupState}
@@ -94,22 +97,42 @@ plain-op g played ops.NpOn of t clock worked np = refl
 plain-op g played ops.NpOff of t clock worked np = refl
 plain-op g played ops.End of t clock worked np = refl
 
--- an operation that is not done is refused
-pub not-done : (op : Op) (clock : ℕ) (worked : Option ℕ) (np : Bool) → (plain_reply op clock worked np false true ≡ replies.Done → ⊥) → accepted (plain_reply op clock worked np false true) ≡ false
-not-done ops.Work clock worked np h = by_case (same worked (Some clock)) h
+-- an operation is done or refused
+pub done-or-refused : (op : Op) (clock : ℕ) (worked : Option ℕ) (np : Bool) → (plain_reply op clock worked np false true ≡ replies.Done) ⊎ (accepted (plain_reply op clock worked np false true) ≡ false)
+done-or-refused ops.Work clock worked np = by_case (same worked (Some clock))
   where
-    by_case : (b : Bool) → ((if b then replies.Spent else (if false then replies.NoBudget else replies.Done)) ≡ replies.Done → ⊥) → accepted (if b then replies.Spent else (if false then replies.NoBudget else replies.Done)) ≡ false
+    by_case : (b : Bool) → ((if b then replies.Spent else (if false then replies.NoBudget else replies.Done)) ≡ replies.Done) ⊎ (accepted (if b then replies.Spent else (if false then replies.NoBudget else replies.Done)) ≡ false)
+    by_case true = inr refl
+    by_case false = inl refl
+done-or-refused ops.NpOff clock worked true = inl refl
+done-or-refused ops.NpOff clock worked false = inr refl
+done-or-refused ops.NpOn clock worked true = inr refl
+done-or-refused ops.NpOn clock worked false = inl refl
+done-or-refused (ops.Lock r) clock worked true = inr refl
+done-or-refused (ops.Lock r) clock worked false = inl refl
+done-or-refused (ops.Unlock r) clock worked true = inr refl
+done-or-refused (ops.Unlock r) clock worked false = inl refl
+done-or-refused (ops.Sleep n) clock worked true = inr refl
+done-or-refused (ops.Sleep n) clock worked false = inl refl
+done-or-refused ops.End clock worked true = inr refl
+done-or-refused ops.End clock worked false = inl refl
+
+pub op-done : (op : Op) (clock : ℕ) (worked : Option ℕ) (np : Bool) → accepted (plain_reply op clock worked np false true) ≡ true → plain_reply op clock worked np false true ≡ replies.Done
+op-done op clock worked np h = by_kind (done-or-refused op clock worked np)
+  where
+    by_kind : (plain_reply op clock worked np false true ≡ replies.Done) ⊎ (accepted (plain_reply op clock worked np false true) ≡ false) → plain_reply op clock worked np false true ≡ replies.Done
+    by_kind (inl d) = d
+    by_kind (inr r) = absurd (let a = h in let b = r in cc)
+
+-- ---- arrivals
+
+pub arrival-done : (clock : ℕ) (row : Task) (job : JobFacts) → accepted (arrival_reply clock row job) ≡ true → arrival_reply clock row job ≡ replies.Done
+arrival-done clock row job h = by_kind row.kind h
+  where
+    by_case : (b : Bool) → accepted (if b then replies.Done else replies.TooEarly) ≡ true → (if b then replies.Done else replies.TooEarly) ≡ replies.Done
     by_case true k = refl
-    by_case false k = absurd (k refl)
-not-done ops.NpOff clock worked true h = absurd (h refl)
-not-done ops.NpOff clock worked false h = refl
-not-done ops.NpOn clock worked true h = refl
-not-done ops.NpOn clock worked false h = absurd (h refl)
-not-done (ops.Lock r) clock worked true h = refl
-not-done (ops.Lock r) clock worked false h = absurd (h refl)
-not-done (ops.Unlock r) clock worked true h = refl
-not-done (ops.Unlock r) clock worked false h = absurd (h refl)
-not-done (ops.Sleep n) clock worked true h = refl
-not-done (ops.Sleep n) clock worked false h = absurd (h refl)
-not-done ops.End clock worked true h = refl
-not-done ops.End clock worked false h = absurd (h refl)
+    by_case false k = cc
+
+    by_kind : (kind : Kind) → accepted (arrival_reply_by kind clock row job) ≡ true → arrival_reply_by kind clock row job ≡ replies.Done
+    by_kind Periodic k = cc
+    by_kind Sporadic k = by_case (may_come clock row job.newest) k

@@ -45,13 +45,17 @@ module _ (g : Group) (q : ℕ) (t : TaskNo) (past : Past) (s : GroupState) (can 
         by_case true k = cc
         by_case false k = refl
 
+    pub kept-arrived : IsKept g (with_act g q (acts.Arrive t) past) (has_arrived t.0 s.jobs.kept)
+    kept-arrived =
+        let same : has_acted g.setup.tasks q (acts.Arrive t) (answer g q (acts.Arrive t) past) true s.jobs.kept ≡ has_arrived t.0 s.jobs.kept = rw done refl in
+        subst (IsKept g (with_act g q (acts.Arrive t) past)) same (kept-after g q (acts.Arrive t) past s can)
+
     -- an arrival that is accepted: the task is looked at
     pub has_arrived-at : (jobs : GroupJobs) → jobs.kept ≡ has_arrived t.0 s.jobs.kept → IsAt g (with_act g q (acts.Arrive t) past) (placed_all (brought_up g.setup t.0 (record s { jobs = jobs })))
     has_arrived-at jobs kept_is =
         let s1 : GroupState = record s { jobs = jobs } in
-        let kept : has_acted g.setup.tasks q (acts.Arrive t) (answer g q (acts.Arrive t) past) true s.jobs.kept ≡ jobs.kept = rw done (sym kept_is) in
         settled g can.played (Acted (past_act g q (acts.Arrive t) past)) past (t.0 ∷ []) s1
-        (between-act g q (acts.Arrive t) past s can (t.0 ∷ []) s1 (subst (IsKept g (with_act g q (acts.Arrive t) past)) kept (kept-after g q (acts.Arrive t) past s can)) refl refl
+        (between-act g q (acts.Arrive t) past s can (t.0 ∷ []) s1 (subst (IsKept g (with_act g q (acts.Arrive t) past)) (sym kept_is) kept-arrived) refl refl
         (between-still g q (acts.Arrive t) past s can runs-still)
         (λ u h. only u h) (λ u h. look-same g q u (acts.Arrive t) past (arrived.others u (apart u h))))
       where

@@ -17,7 +17,7 @@ use Rattle.cluster_table.specs.Table.{HasTask}
 use Rattle.group_jobs.specs.GroupJobs.{IsTaskOf, task_in}
 use Rattle.group_engine.specs.declared.state.GroupState.{GroupState}
 use Rattle.group_engine.specs.Moments.{IsPlayed}
-use Rattle.group_engine.specs.State.{IsWithin}
+use Rattle.group_engine.specs.State.{HasClusterAt, IsAt, IsWithin}
 use Rattle.group_engine.specs.Touching.{CanBringUp, home_in}
 use Rattle.group_engine.proofs.Reading.{unreserved}
 
@@ -71,3 +71,13 @@ module _ (g : Group) (played : IsPlayed g) (t : ℕ) (h : has t (tasks g) ≡ tr
     timer_room = room;
     at_home = subst (λ c. HasTask s.clusters c t) (sym home-is) there;
   }
+
+-- each task of the group can be looked at once a move is written down
+pub can-look : (g : Group) → IsPlayed g → (past : Past) (s : GroupState) → IsAt g past s → (past1 : Past) (s1 : GroupState) → IsKept g past1 s1.jobs.kept → IsWithin past1
+    → s1.timers ≡ s.timers → s1.clusters ≡ s.clusters → (t : ℕ) → has t (tasks g) ≡ true → CanBringUp g.setup t s1
+can-look g played past s at past1 s1 kept within timers clusters_same t h =
+    let home_of : IsHomeTask g t = tasks_are_at_home g t played.valid h in
+    let was : HasClusterAt g (home g t) past s.clusters = at.clusters_are (home g t) home_of.cluster_there in
+    let room : t < length s.timers = at.timers_are.room t h in
+    let there : HasTask s.clusters (home g t) t = (was.cluster, was.there, omega (arith, was.is_at.room, home_of.high)) in
+    can_bring_up g played t h past1 s1 kept within (rw timers room) (rw clusters_same there)

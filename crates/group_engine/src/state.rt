@@ -174,7 +174,7 @@ impl GroupState {
         ensures room { self.old.jobs.room ≤ self.new.jobs.room + 1 }
     {
         let reply = self.jobs.arrival_reply(parts.tasks.as_slice(), task);
-        if reply == Reply::Done {
+        if is_accepted(reply) {
             self.jobs.arrive(task);
             self.bring_up(parts, task);
             self.clusters.place_changed();
@@ -202,7 +202,7 @@ impl GroupState {
         ensures room { self.new.jobs.room ≡ self.old.jobs.room }
     {
         let reply = self.jobs.op_reply(cpu, task, op, false, true);
-        if reply == Reply::Done {
+        if is_accepted(reply) {
             let tasks = parts.tasks.as_slice();
             let ends = self.jobs.operate(tasks, cpu, task, op, reply, true);
             if ends || matches!(op, Op::Sleep(_)) {
