@@ -1,3 +1,4 @@
 pub mod BringingUp
 pub mod DueAgain
 pub mod DueInTurn
+pub mod GroupInTurn

@@ -1,7 +1,8 @@
 //! What the engine keeps of its group, and what each move makes of it.
-ghost use Rattle.std.specs.Prelude.{◌≡◌, ℕ, List, ◌+◌, ◌<◌, ◌≤◌, ◌∷◌, [], IfOk, slice_set};
+ghost use Rattle.std.specs.Prelude.{◌≡◌, ℕ, List, ◌+◌, ◌<◌, ◌≤◌, ◌∷◌, [], All, IfOk, length, slice_set};
 ghost use Rattle.rt_base.specs.TaskNos.{number_of_task};
 ghost use Rattle.rt_base.specs.declared.TheConstants.{MOST_STEPS};
+ghost use Rattle.rt_task.specs.declared.Task.{Task};
 ghost use Rattle.rt_model.specs.Group.{tasks};
 ghost use Rattle.rt_model.specs.Links.{linked};
 ghost use Rattle.rt_model.specs.Past.{Clock};
@@ -56,14 +57,16 @@ impl GroupState {
 
     /// Looks at all tasks of the group.
     fn bring_up_group(&mut self, parts: &Parts, group: GroupNo)
-        requires { CanBringUpAll parts.now (tasks (group_with parts.now group.0)) self.old }
+        requires within { All (λ (t : Task). t.cluster.0 < length parts.now.clusters)
+            parts.now.tasks }
+        requires can { CanBringUpAll parts.now (tasks (group_with parts.now group.0)) self.old }
         ensures { self.new
             ≡ all_brought_up parts.now (tasks (group_with parts.now group.0)) self.old }
     {
-        for (i, task) in parts.tasks.as_slice().iter().enumerate() {
+        for task in parts.tasks.as_slice() {
             let home = task.cluster.0 as usize;
             if parts.clusters.as_slice()[home].group.0 == group.0 {
-                self.bring_up(parts, TaskNo(i as u32 + 1));
+                self.bring_up(parts, task.number);
             }
         }
     }
