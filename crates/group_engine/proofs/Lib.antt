@@ -13,3 +13,4 @@ pub mod Operating
 pub mod BringingUp
 pub mod DueAgain
 pub mod DueInTurn
+pub mod GroupInTurn

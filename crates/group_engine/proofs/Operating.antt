@@ -107,7 +107,7 @@ module _ (g : Group) (q t : ℕ) (op : Op) (past : Past) (s : GroupState) (can :
     kept-is : has_acted g.setup.tasks q (acts.Do op) (answer g q (acts.Do op) past) true s.jobs.kept ≡ has_operated g.setup.tasks q t op replies.Done true s.jobs.kept
     kept-is = ap (λ r. has_acted g.setup.tasks q (acts.Do op) r true s.jobs.kept) done ∙ ap (λ o. after_act g.setup.tasks q (acts.Do op) o replies.Done true s.jobs.kept) runs_kept
 
-    kept-then : IsKept g after (has_operated g.setup.tasks q t op replies.Done true s.jobs.kept)
+    pub kept-then : IsKept g after (has_operated g.setup.tasks q t op replies.Done true s.jobs.kept)
     kept-then = subst (IsKept g after) kept-is (kept-after g q (acts.Do op) past s can)
 
     others : (u : ℕ) → u == t ≡ false → SameLook g u past after
@@ -163,15 +163,23 @@ module _ (g : Group) (q t : ℕ) (op : Op) (past : Past) (s : GroupState) (can :
             by_case true e k = cc
             by_case false e k = others u e
 
-    pub idle-ended : is_end (task_in g.setup.tasks t) s.jobs.kept.clock op true (job_of s.jobs.kept t) ≡ true → runs q after ≡ None
+    idle-ended : is_end (task_in g.setup.tasks t) s.jobs.kept.clock op true (job_of s.jobs.kept t) ≡ true → runs q after ≡ None
     idle-ended h =
         let last : is_end (task g t) (now past) op true (job_facts t past) ≡ true = sym ends-read ∙ h in
         let ended : (past_act g q (acts.Do op) past).ended ≡ Some t = operated.ended_is ∙ rw last refl in
         runs-then true (leaves (acts.Do op) replies.Done) (ap is_some ended) refl
 
-    pub idle-asleep : is_sleep op ≡ true → runs q after ≡ None
+    idle-asleep : is_sleep op ≡ true → runs q after ≡ None
     idle-asleep h = runs-then (is_some (past_act g q (acts.Do op) past).ended) true refl (leaves-sleep op h) ∙ either-way (is_some (past_act g q (acts.Do op) past).ended)
       where
         either-way : (b : Bool) → (if b || true then None else runs q past) ≡ None
         either-way true = refl
         either-way false = refl
+
+    -- either way the processor runs nothing
+    pub idle-over : is_end (task_in g.setup.tasks t) s.jobs.kept.clock op true (job_of s.jobs.kept t) || is_sleep op ≡ true → runs q after ≡ None
+    idle-over h = by_case (is_end (task_in g.setup.tasks t) s.jobs.kept.clock op true (job_of s.jobs.kept t)) refl h
+      where
+        by_case : (b : Bool) → is_end (task_in g.setup.tasks t) s.jobs.kept.clock op true (job_of s.jobs.kept t) ≡ b → b || is_sleep op ≡ true → runs q after ≡ None
+        by_case true e k = idle-ended e
+        by_case false e k = idle-asleep k

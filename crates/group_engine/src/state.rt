@@ -1,14 +1,15 @@
 //! What the engine keeps of its group, and what each move makes of it.
-ghost use Rattle.std.specs.Prelude.{◌≡◌, ℕ, List, ◌+◌, ◌<◌, ◌≤◌, ◌∷◌, [], IfOk, slice_set};
+ghost use Rattle.std.specs.Prelude.{◌≡◌, ◌||◌, ℕ, List, ◌+◌, ◌<◌, ◌≤◌, ◌∷◌, [], All, IfOk, length, slice_set};
 ghost use Rattle.rt_base.specs.TaskNos.{number_of_task};
 ghost use Rattle.rt_base.specs.declared.TheConstants.{MOST_STEPS};
+ghost use Rattle.rt_task.specs.declared.Task.{Task};
 ghost use Rattle.rt_model.specs.Group.{tasks};
 ghost use Rattle.rt_model.specs.Links.{linked};
 ghost use Rattle.rt_model.specs.Past.{Clock, accepted};
 ghost use Rattle.rt_model.specs.Runs.{runs};
 ghost use Rattle.rt_plays.specs.Homes.{IsProcessorOf};
 ghost use Rattle.rt_plays.specs.Plays.{group_with};
-ghost use Rattle.group_facts.specs.Timers.{AreDue};
+ghost use Rattle.group_facts.specs.Timers.{AreDue, is_sleep};
 ghost use Rattle.group_engine.specs.Moments.{CanAct, CanActOn, CanLook, CanMove, CanOperate, HasActed, IsPlayed, Moment};
 ghost use Rattle.group_engine.specs.State.{IsAt};
 ghost use Rattle.group_engine.specs.Touching.{AreArmedOnly, CanBringUp, CanBringUpAll, CanLeave, all_brought_up, brought_up, key_now, left_alone, timer_now};
@@ -56,14 +57,16 @@ impl GroupState {
 
     /// Looks at all tasks of the group.
     fn bring_up_group(&mut self, parts: &Parts, group: GroupNo)
-        requires { CanBringUpAll parts.now (tasks (group_with parts.now group.0)) self.old }
+        requires within { All (λ (t : Task). t.cluster.0 < length parts.now.clusters)
+            parts.now.tasks }
+        requires can { CanBringUpAll parts.now (tasks (group_with parts.now group.0)) self.old }
         ensures { self.new
             ≡ all_brought_up parts.now (tasks (group_with parts.now group.0)) self.old }
     {
-        for (i, task) in parts.tasks.as_slice().iter().enumerate() {
+        for task in parts.tasks.as_slice() {
             let home = task.cluster.0 as usize;
             if parts.clusters.as_slice()[home].group.0 == group.0 {
-                self.bring_up(parts, TaskNo(i as u32 + 1));
+                self.bring_up(parts, task.number);
             }
         }
     }
@@ -205,7 +208,7 @@ impl GroupState {
         if is_accepted(reply) {
             let tasks = parts.tasks.as_slice();
             let ends = self.jobs.operate(tasks, cpu, task, op, reply, true);
-            if ends || matches!(op, Op::Sleep(_)) {
+            if is_over(op, ends) {
                 self.leave(parts, cpu, task);
             }
         }
@@ -240,4 +243,11 @@ fn is_accepted(reply: Reply) -> bool
         reply,
         Reply::Done | Reply::Runs(_) | Reply::Idles | Reply::Granted | Reply::Queued
     )
+}
+
+/// Whether an operation that ended its job or not leaves its processor with nothing to run: a Sleep does too.
+fn is_over(op: Op, ends: bool) -> bool
+    ensures { result ≡ ends || is_sleep op }
+{
+    ends || matches!(op, Op::Sleep(_))
 }

@@ -19,10 +19,11 @@ bring_up_due-requires c =
     let can = c.requires.1 in
     let past1 : Past = Clock c.args.tick.0 ∷ at.past in
     let kept : IsKept at.group past1 c.move_clock.new.self.kept = rw c.move_clock.ensures (kept_after_clock at.group at.past can.played.valid can.kept.reachable c.args.tick.0 c.args.self.now.jobs.kept can.kept.jobs_are) in
-    let s1 : GroupState = record c.args.self.now { jobs = c.move_clock.new.self } in
-    (tasks at.group,
-    rw can.parts_are (λ t h. can-look at.group can.played at.past c.args.self.now can.kept past1 s1 kept (clock-within c.args.tick.0 at.past can.tick_low can.kept.within) refl refl t h),
-    λ t tick h. armed-member at.group at.past c.args.self.now.timers can.kept.timers_are t tick h)
+    let s1 : GroupState = record c.args.self.now { jobs = c.move_clock.new.self } in (
+      tasks at.group,
+      rw can.parts_are (λ t h. can-look at.group can.played at.past c.args.self.now can.kept past1 s1 kept (clock-within c.args.tick.0 at.past can.tick_low can.kept.within) refl refl t h),
+      λ t tick h. armed-member at.group at.past c.args.self.now.timers can.kept.timers_are t tick h,
+    )
 
 pub returns-clause-moved : goal.returns-clause-moved
 returns-clause-moved c = λ at can.
