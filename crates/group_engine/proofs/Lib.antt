@@ -14,3 +14,5 @@ pub mod BringingUp
 pub mod DueAgain
 pub mod DueInTurn
 pub mod GroupInTurn
+pub mod Idling
+pub mod Opening

@@ -85,7 +85,7 @@ pub timer-kept : (g : Group) (past : Past) (s : GroupState) → IsKept g past s.
 unfolding task
 timer-kept g past s kept t h = sym (timer_is_read g past s.jobs.kept kept t h)
 
-length-refreshed : (key : ℕ → Key) (test : ℕ → Bool) (us : List ℕ) (keys : List (Option Key)) → length (set_refreshed key test us keys) ≡ length keys
+pub length-refreshed : (key : ℕ → Key) (test : ℕ → Bool) (us : List ℕ) (keys : List (Option Key)) → length (set_refreshed key test us keys) ≡ length keys
 length-refreshed key test [] keys = refl
 length-refreshed key test (u ∷ us) keys = length-refreshed key test us (set keys u (kept_key key test u)) ∙ length-set _ _ _
 
