@@ -16,3 +16,4 @@ pub mod DueInTurn
 pub mod GroupInTurn
 pub mod Idling
 pub mod Opening
+pub mod Stepping

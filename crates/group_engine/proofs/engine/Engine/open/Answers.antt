@@ -1,18 +1,13 @@
-use Rattle.std.proofs.Common.{rules, ◌≡◌, ◌<◌, ◌≤◌, ◌+◌, [], IfOk, IfSome, IsSome, true, length, ℕ, ◌-◌, ◌*◌, ◌/◌, ◌%◌, Bool, false, nat_eq, nat_lt, List, ◌∷◌, ◌++◌, slice_index_or, slice_set, bit_and, bit_or, Fits, w8, w32, w64, Bor, MutBor}
-use Rattle.rt_base.specs.TaskNos.{number_of_task}
-use Rattle.rt_base.specs.declared.TheConstants.{MOST_STEPS}
-use Rattle.rt_rules.specs.Numbers.{has}
-use Rattle.rt_model.specs.Group.{clusters}
-use Rattle.rt_model.specs.Runs.{runs}
-use Rattle.rt_model.specs.Links.{linked}
-use Rattle.rt_model.specs.Histories.{reply_to}
-use Rattle.rt_model.specs.Steps.{IsStepOf}
-use Rattle.rt_plays.specs.Homes.{IsProcessorOf}
-use Rattle.rank_changes.specs.Clusters.{HoldsEligible}
-use Rattle.rt_groups.specs.Built.{is_built}
-use Rattle.rt_groups.specs.Groups.{GroupHistory, group_of, past, with_entry, AreStepsOf, IsGroupOf, IsLegalNow}
+use Rattle.std.proofs.Common.{◌≡◌, ◌≤◌, ap, arith, subst, sym, vec_capacity, []}
+use Rattle.rt_task.specs.declared.Parts.{Parts}
+use Rattle.rt_plays.specs.Plays.{group_with}
+use Rattle.group_engine.specs.State.{IsAt}
+use Rattle.group_engine.proofs.Stepping.{played, sound-open}
 use Rattle.group_engine.proofs.engine.Engine.open.Goals as goal
 
--- src/engine.rt:71:9
 pub invariant_of-result : goal.invariant_of-result
-invariant_of-result c = ?
+invariant_of-result c =
+    let p = played c.in_ok-setup.setup c.args.setup.now c.args.group.0 c.in_ok-setup.ensures c.parts.ensures.valid c.requires.built c.requires.group in
+    let reserved : c.args.room ≤ vec_capacity c.in-Ok.entries = omega (arith, c.in-Ok.ensures.exact) in
+    let kept = subst (λ (q : Parts). IsAt (group_with q c.args.group.0) [] c.in_ok-state.state) c.parts.ensures.parts c.in_ok-state.ensures.at in
+    rw c.in-Ok.ensures.items (sound-open _ c.args.room _ _ p c.requires.room reserved c.in_ok-state.ensures.room kept)

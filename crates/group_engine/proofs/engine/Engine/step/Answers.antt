@@ -1,34 +1,42 @@
-use Rattle.std.proofs.Common.{rules, ◌≡◌, ◌<◌, ◌≤◌, ◌+◌, [], IfOk, IfSome, IsSome, true, length, ℕ, ◌-◌, ◌*◌, ◌/◌, ◌%◌, Bool, false, nat_eq, nat_lt, List, ◌∷◌, ◌++◌, slice_index_or, slice_set, bit_and, bit_or, Fits, w8, w32, w64, Bor, MutBor}
-use Rattle.rt_base.specs.TaskNos.{number_of_task}
-use Rattle.rt_base.specs.declared.TheConstants.{MOST_STEPS}
-use Rattle.rt_rules.specs.Numbers.{has}
-use Rattle.rt_model.specs.Group.{clusters}
-use Rattle.rt_model.specs.Runs.{runs}
-use Rattle.rt_model.specs.Links.{linked}
+use Rattle.std.proofs.Common.{◌≡◌, ◌+◌, ◌-◌, ◌<◌, ◌≤◌, length, ap, ◌∙◌, arith, vec_len}
 use Rattle.rt_model.specs.Histories.{reply_to}
-use Rattle.rt_model.specs.Steps.{IsStepOf}
-use Rattle.rt_plays.specs.Homes.{IsProcessorOf}
-use Rattle.rank_changes.specs.Clusters.{HoldsEligible}
-use Rattle.rt_groups.specs.Built.{is_built}
-use Rattle.rt_groups.specs.Groups.{GroupHistory, group_of, past, with_entry, AreStepsOf, IsGroupOf, IsLegalNow}
+use Rattle.rt_groups.specs.Groups.{GroupHistory, group_of, past}
+use Rattle.group_engine.specs.Moments.{CanActOn, HasActed}
+use Rattle.group_engine.proofs.Stepping.{at_tick, can_act, can_move, moment, of_group, reply-is, sound-step}
 use Rattle.group_engine.proofs.engine.Engine.step.Goals as goal
 
--- src/engine.rt:122:9
 pub move_clock-requires : goal.move_clock-requires
-move_clock-requires c = ?
+move_clock-requires c = (moment _ _ _ _ _ c.self.invariant, can_move _ _ _ _ _ c.self.invariant _ c.args.step c.parts.ensures.parts (of_group _ _ _ c.self.view_is c.requires.step))
 
--- src/engine.rt:123:13
 pub act-reply-requires-clause-at : goal.act-reply-requires-clause-at
-act-reply-requires-clause-at c = ?
+act-reply-requires-clause-at c =
+    let of = of_group _ _ _ c.self.view_is c.requires.step in
+    let moved = c.move_clock.ensures.moved (moment _ _ _ _ _ c.self.invariant) (can_move _ _ _ _ _ c.self.invariant _ c.args.step c.parts.ensures.parts of) in
+    let shown : c.self.inside.room - vec_len c.self.inside.entries ≡ c.args.self.now.spare = ap (λ (h : GroupHistory). h.spare) c.self.view_is in
+    let spare : length c.self.inside.entries.items < c.self.inside.room = omega (arith, c.requires.room, c.self.inside.entries.ok.0) in
+    (at_tick _ _ _ _ _ c.self.invariant c.args.step.tick.0, can_act _ _ _ _ _ c.self.invariant _ c.args.step _ c.parts-2.ensures.parts of spare moved)
 
--- src/engine.rt:115:5
+-- the act was answered
+acted : (c : goal.After-put) → HasActed (at_tick _ _ _ _ _ c.self.invariant c.args.step.tick.0) c.args.step.cpu.0 c.args.step.act c.act-reply.result c.act-reply.new.self
+acted c =
+    let of = of_group _ _ _ c.self.view_is c.requires.step in
+    let moved = c.move_clock.ensures.moved (moment _ _ _ _ _ c.self.invariant) (can_move _ _ _ _ _ c.self.invariant _ c.args.step c.parts.ensures.parts of) in
+    let shown : c.self.inside.room - vec_len c.self.inside.entries ≡ c.args.self.now.spare = ap (λ (h : GroupHistory). h.spare) c.self.view_is in
+    let spare : length c.self.inside.entries.items < c.self.inside.room = omega (arith, c.requires.room, c.self.inside.entries.ok.0) in
+    c.act-reply.ensures.acted (at_tick _ _ _ _ _ c.self.invariant c.args.step.tick.0) (can_act _ _ _ _ _ c.self.invariant _ c.args.step _ c.parts-2.ensures.parts of spare moved)
+
 pub invariant_of-self : goal.invariant_of-self
-invariant_of-self c = ?
+invariant_of-self c =
+    let of = of_group _ _ _ c.self.view_is c.requires.step in
+    let shown : c.self.inside.room - vec_len c.self.inside.entries ≡ c.args.self.now.spare = ap (λ (h : GroupHistory). h.spare) c.self.view_is in
+    let spare : length c.self.inside.entries.items < c.self.inside.room = omega (arith, c.requires.room, c.self.inside.entries.ok.0) in
+    let arrivals : c.self.inside.state.jobs.room ≤ c.act-reply.new.self.jobs.room + 1 = omega (arith, c.act-reply.ensures.room, c.move_clock.ensures.room) in
+    rw c.put.ensures.items (sound-step _ _ _ _ _ c.self.invariant c.args.step c.act-reply.result c.act-reply.new.self _ of spare c.put.ensures.capacity arrivals (acted c))
 
--- src/engine.rt:115:5
 pub returns-clause-reply : goal.returns-clause-reply
-returns-clause-reply c = ?
+returns-clause-reply c =
+    reply-is _ _ _ _ _ c.self.invariant c.args.step c.act-reply.result c.act-reply.new.self (acted c)
+    ∙ ap (λ (h : GroupHistory). reply_to (group_of h) c.args.step (past h)) c.self.view_is
 
--- src/engine.rt:115:5
 pub returns-clause-legal : goal.returns-clause-legal
-returns-clause-legal c = ?
+returns-clause-legal c = (invariant_of-self c).legal
