@@ -21,7 +21,7 @@ use Rattle.rt_model.specs.Answers.{answer, last_work, works_at}
 use Rattle.rt_model.specs.Outcomes.{past_act, ended, ended_by, is_spent}
 use Rattle.rt_model.proofs.Steps.{runs-acted, past_act-cpu, past_act-reply, past_act-end, past_act-tick}
 use Rattle.link_table.specs.Linked.{Linked, irq_reply, is_pending, link_reply, link_of, runs_on, with_run, after_irq}
-use Rattle.group_state.specs.Built.{is_built_act}
+use Rattle.group_state.specs.Built.{is_ranked_act}
 use Rattle.group_state.specs.Moves.{replaced, has_worked}
 use Rattle.group_state.specs.State.{State, IsKept, linked_of, release_at}
 use Rattle.group_state.proofs.PlainGroup.{IsPlainGroup}
@@ -79,10 +79,10 @@ module _ (g : Group) (s : IsPlainGroup g) (q : ℕ) (inside : q < cpus g 0) (act
   unfolding past_act
   act-is = refl
 
-  still-built : is_built_act act ≡ true → IsStill g s d
+  still-built : is_ranked_act act ≡ true → IsStill g s d
   still-built h t clock before = rw act-is (by_act act h (is t d.task && accepted d.reply))
     where
-      by_act : (a : Act) → is_built_act a ≡ true → (b : Bool) → (sleep_end clock (cond b (operation a) None) ≡ 0) × (np_after (cond b (operation a) None) before ≡ before)
+      by_act : (a : Act) → is_ranked_act a ≡ true → (b : Bool) → (sleep_end clock (cond b (operation a) None) ≡ 0) × (np_after (cond b (operation a) None) before ≡ before)
       by_act acts.Tick e true = (refl, refl)
       by_act acts.Tick e false = (refl, refl)
       by_act acts.Irq e true = (refl, refl)
@@ -139,7 +139,7 @@ irq-answer l q false b e f = rw e
 
 module _ (g : Group) (s : IsPlainGroup g) (q : ℕ) (inside : q < cpus g 0) (p : Past) (state : State) (k : IsKept g p state) where
   -- where the act changes nothing, the state stays
-  kept-same : (act : Act) → is_built_act act ≡ true → (past_act g q act p).ended ≡ None → runs_after (past_act g q act p) (runs q p) ≡ runs q p → ((r : ℕ) → last_work r (Acted (past_act g q act p) ∷ p) ≡ last_work r p) → IsKept g (Acted (past_act g q act p) ∷ p) state
+  kept-same : (act : Act) → is_ranked_act act ≡ true → (past_act g q act p).ended ≡ None → runs_after (past_act g q act p) (runs q p) ≡ runs q p → ((r : ℕ) → last_work r (Acted (past_act g q act p) ∷ p) ≡ last_work r p) → IsKept g (Acted (past_act g q act p) ∷ p) state
   kept-same act built none runs_same works_same =
       let after = kept-still g s q act p state k none (still-built g s q inside act p built) state.worked k.worked_length (λ r h. k.worked_are r h ∙ sym (works_same r)) state.runs (k.runs_are ∙ sym (runs_of-still g s q inside act p runs_same)) in
       subst (λ ls. IsKept g (Acted (past_act g q act p) ∷ p) (record state { links = ls })) (settled g s p state k) after
@@ -213,7 +213,7 @@ module _ (g : Group) (s : IsPlainGroup g) (q : ℕ) (inside : q < cpus g 0) (p :
   unfolding past_act ended
   refused-ended op h = rw h
 
-  pub kept-refused : (op : Op) (r : Reply) → is_built_act (acts.Do op) ≡ true → answer g q (acts.Do op) p ≡ r → accepted r ≡ false → runs_by r (runs q p) ≡ runs q p → leaves (acts.Do op) r ≡ false → IsKept g (Acted (past_act g q (acts.Do op) p) ∷ p) state
+  pub kept-refused : (op : Op) (r : Reply) → is_ranked_act (acts.Do op) ≡ true → answer g q (acts.Do op) p ≡ r → accepted r ≡ false → runs_by r (runs q p) ≡ runs q p → leaves (acts.Do op) r ≡ false → IsKept g (Acted (past_act g q (acts.Do op) p) ∷ p) state
   kept-refused op r built reply refused runs_on_as_before stays =
       kept-same (acts.Do op) built none (rw (none, act-is g s q inside (acts.Do op) p, past_act-reply, reply, stays) runs_on_as_before) (λ n. no_work (acts.Do op) n (works n))
     where

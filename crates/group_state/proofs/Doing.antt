@@ -15,7 +15,7 @@ use Rattle.rt_model.specs.Past.{Acted, Past, now}
 use Rattle.rt_model.specs.Jobs.{done}
 use Rattle.rt_rules.specs.Placing.{placed, at_place}
 use Rattle.link_table.specs.Linked.{irq_reply, after_irq}
-use Rattle.group_state.specs.Built.{is_built_act}
+use Rattle.group_state.specs.Built.{is_ranked_act}
 use Rattle.rt_model.specs.Runs.{runs, leaves}
 use Rattle.rt_model.specs.Answers.{answer, last_work}
 use Rattle.rt_model.specs.Outcomes.{past_act}
@@ -138,7 +138,7 @@ module _ (at : Moment) (tasks : List Task) (q t : ℕ) (state : State) (can : Ca
 -- ---- any act
 
 -- the operations that are played
-pub only_built : (op : Op) → is_built_act (acts.Do op) ≡ true → (op ≡ ops.Work → ⊥) → (op ≡ ops.End → ⊥) → ⊥
+pub only_built : (op : Op) → is_ranked_act (acts.Do op) ≡ true → (op ≡ ops.Work → ⊥) → (op ≡ ops.End → ⊥) → ⊥
 only_built ops.Work h no_work no_end = no_work refl
 only_built ops.End h no_work no_end = no_end refl
 only_built (ops.Lock r) h no_work no_end = cc
@@ -182,10 +182,10 @@ module _ (at : Moment) (tasks : List Task) (q : ℕ) (state : State) (can : CanA
   pub idle-answer : (op : Op) → runs q at.past ≡ None → answer g' q (acts.Do op) at.past ≡ replies.Idle
   idle-answer op h = idle-reply g' s' at.past state can.kept op q h
 
-  pub kept-idle : (op : Op) → is_built_act (acts.Do op) ≡ true → runs q at.past ≡ None → IsKept g' (Acted (past_act g' q (acts.Do op) at.past) ∷ at.past) state
+  pub kept-idle : (op : Op) → is_ranked_act (acts.Do op) ≡ true → runs q at.past ≡ None → IsKept g' (Acted (past_act g' q (acts.Do op) at.past) ∷ at.past) state
   kept-idle op built h = kept-refused g' s' q can.inside at.past state can.kept op replies.Idle built (idle-answer op h) refl refl (stays op built)
     where
-      stays : (o : Op) → is_built_act (acts.Do o) ≡ true → leaves (acts.Do o) replies.Idle ≡ false
+      stays : (o : Op) → is_ranked_act (acts.Do o) ≡ true → leaves (acts.Do o) replies.Idle ≡ false
       stays ops.Work b = refl
       stays ops.End b = refl
       stays (ops.Lock r) b = refl

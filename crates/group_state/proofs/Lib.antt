@@ -4,6 +4,7 @@ pub mod DueLaws
 pub mod Plain
 pub mod PlainGroup
 pub mod PlainSteps
+pub mod OneGroup
 pub mod PlainModel
 pub mod Kept
 pub mod Replies

@@ -25,7 +25,7 @@ use Rattle.rt_task.specs.RangeRules.{whole_range, cluster_range, task_range, ste
 use Rattle.rt_task.specs.SizeRules.{whole_size}
 use Rattle.rt_task.specs.Validity.{refusal, refusal_of, whole_refusal, range_rows, name_rows, sharing_rows, size_rows, task_shape, IsValid}
 use Rattle.rt_model.specs.Group.{no_task, no_cluster}
-use Rattle.group_state.specs.Built.{is_built, is_gsn_edf, is_built_task}
+use Rattle.group_state.specs.Built.{is_ranked, is_gsn_edf, is_ranked_task}
 use Rattle.group_state.proofs.Rules.{first-none, whole-none, each-none}
 
 -- a task of such a set
@@ -146,10 +146,10 @@ all-at test [] i d h lt = absurd (omega arith)
 all-at test (x ∷ xs) zero d h lt = (both (test x) _ h).0
 all-at test (x ∷ xs) (suc i) d h lt = all-at test xs i d (both (test x) _ h).1 (omega arith)
 
-plain-task : (p : Parts) (i : ℕ) → InRange (draft_of p) → p.plugin ≡ GsnEdf → list_all is_built_task p.tasks ≡ true → i < length p.tasks → IsPlainTask (get_or p.tasks i no_task)
+plain-task : (p : Parts) (i : ℕ) → InRange (draft_of p) → p.plugin ≡ GsnEdf → list_all is_ranked_task p.tasks ≡ true → i < length p.tasks → IsPlainTask (get_or p.tasks i no_task)
 plain-task p i r gsn all lt =
     let t : Task = get_or p.tasks i no_task in
-    let built = all-at is_built_task p.tasks i no_task all lt in
+    let built = all-at is_ranked_task p.tasks i no_task all lt in
     let kinds_are = both (is_periodic t.kind) _ built in
     let flags = both (not t.enforce) (not t.early) kinds_are.1 in
     let same : length (draft_of p).tasks ≡ length p.tasks = length-map _ _ in
@@ -171,12 +171,12 @@ plain-task p i r gsn all lt =
       deadline_low = grind (arith, nat_tests, deadline_in);
     }
 
-pub plain-set : (p : Parts) → IsValid p → is_built p ≡ true → IsPlainSet p
+pub plain-set : (p : Parts) → IsValid p → is_ranked p ≡ true → IsPlainSet p
 plain-set p valid built =
     let r : InRange (draft_of p) = in_range (draft_of p) (valid-refusal p valid) in
     let a = both (is_gsn_edf p.plugin) _ built in
     let b = both (is_empty p.sems) _ a.1 in
-    let c = both (list_all is_built_task p.tasks) _ b.1 in
+    let c = both (list_all is_ranked_task p.tasks) _ b.1 in
     let gsn : p.plugin ≡ GsnEdf = gsn_edf p.plugin a.0 in
     let k : IsPlainCluster (get_or (draft_of p).clusters 0 (draft_cluster no_cluster)) = first_cluster (draft_of p) r gsn in
     let seen : get_or (draft_of p).clusters 0 (draft_cluster no_cluster) ≡ draft_cluster (get_or p.clusters 0 no_cluster) = get_or-map draft_cluster p.clusters 0 no_cluster in

@@ -13,7 +13,7 @@ use Rattle.rt_task.specs.declared.Op.TheVariants as ops
 use Rattle.rt_task.specs.declared.Parts.{Parts}
 use Rattle.rt_task.specs.declared.Step.{Step}
 use Rattle.rt_task.specs.declared.Drive.{Drive}
-use Rattle.rt_task.specs.declared.Drive.TheVariants.{Steps}
+use Rattle.rt_task.specs.declared.Drive.TheVariants.{Steps, Horizon}
 use Rattle.rt_task.specs.declared.SetKind.TheVariants as kinds
 use Rattle.rt_task.specs.declared.Part.TheVariants as parts
 use Rattle.rt_task.specs.declared.draft.Draft.{Draft}
@@ -29,17 +29,18 @@ use Rattle.rt_rules.proofs.NumberLaws.{numbers_from-has}
 use Rattle.rt_model.specs.Group.{Group, no_cluster, cluster, cpus}
 use Rattle.rt_model.specs.Steps.{IsActOf, IsOpOf, IsStepOf}
 use Rattle.rt_laws.proofs.ValidSteps.{steps_are_of_groups}
-use Rattle.group_state.specs.Built.{is_built, is_built_act, is_built_task, is_gsn_edf}
+use Rattle.rt_plays.specs.Drives.{steps_given}
+use Rattle.group_state.specs.Built.{is_ranked, is_ranked_act, is_ranked_drive, is_ranked_task, is_gsn_edf}
 use Rattle.group_state.specs.Groups.{IsProcessorOf}
 use Rattle.group_state.proofs.Plain.{InRange, plain-set, in_range, valid-refusal, both, all-at}
 use Rattle.group_state.proofs.PlainGroup.{IsPlainGroup, plain-group, one}
 use Rattle.group_state.proofs.Rules.{each-none}
 
--- an act that is played so far names nothing
-pub built-step : (g : Group) (s : Step) → IsProcessorOf g s.cpu.0 → s.tick.0 < TICK_END → is_built_act s.act ≡ true → IsStepOf g s
+-- such an act names nothing
+pub built-step : (g : Group) (s : Step) → IsProcessorOf g s.cpu.0 → s.tick.0 < TICK_END → is_ranked_act s.act ≡ true → IsStepOf g s
 built-step g s there tick built = record { processor = there; tick = tick; act = by_act s.act built }
   where
-    by_op : (op : Op) → is_built_act (acts.Do op) ≡ true → IsOpOf g op
+    by_op : (op : Op) → is_ranked_act (acts.Do op) ≡ true → IsOpOf g op
     by_op ops.Work h = tt
     by_op ops.End h = tt
     by_op (ops.Lock n) h = cc
@@ -48,7 +49,7 @@ built-step g s there tick built = record { processor = there; tick = tick; act =
     by_op ops.NpOn h = cc
     by_op ops.NpOff h = cc
 
-    by_act : (a : Act) → is_built_act a ≡ true → IsActOf g a
+    by_act : (a : Act) → is_ranked_act a ≡ true → IsActOf g a
     by_act acts.Tick h = tt
     by_act acts.Irq h = tt
     by_act (acts.Arrive t) h = cc
@@ -57,7 +58,7 @@ built-step g s there tick built = record { processor = there; tick = tick; act =
 pub record ArePlainSteps (p : Parts) (steps : List Step) : Type 0 where
   pub few : length steps ≤ MOST_STEPS
   pub at_processors : All (λ (s : Step). IsProcessorOf (record { setup = p; number = 0 }) s.cpu.0) steps
-  pub acts : All (λ (s : Step). is_built_act s.act ≡ true) steps
+  pub acts : All (λ (s : Step). is_ranked_act s.act ≡ true) steps
   pub of_group : All (λ (s : Step). IsStepOf (record { setup = p; number = 0 }) s) steps
 
 -- the processors of one cluster
@@ -65,7 +66,13 @@ cpus-one : (d : Draft) (c : DraftCluster) → d.clusters ≡ c ∷ [] → lookup
 unfolding lookups.cpus
 cpus-one d c same = rw same (omega arith)
 
-module _ (p : Parts) (valid : IsValid p) (built : is_built p ≡ true) (steps : List Step) (drive : p.drive ≡ Steps steps) where
+built-drive : (p : Parts) → is_ranked p ≡ true → is_ranked_drive p.drive ≡ true
+built-drive p built =
+    let a = both (is_gsn_edf p.plugin) _ built in
+    let b = both (is_empty p.sems) _ a.1 in
+    (both (list_all is_ranked_task p.tasks) _ b.1).1
+
+module _ (p : Parts) (valid : IsValid p) (built : is_ranked p ≡ true) (steps : List Step) (drive : p.drive ≡ Steps steps) where
   abbrev g : Group
   g = record { setup = p; number = 0 }
 
@@ -107,17 +114,21 @@ module _ (p : Parts) (valid : IsValid p) (built : is_built p ≡ true) (steps : 
       let inside : (get_or steps i s).cpu.0 < 0 + cpus g 0 = grind (arith, nat_tests, low, same) in
       rw plain.processors_are (numbers_from-has 0 (cpus g 0) (get_or steps i s).cpu.0 (omega arith) inside)
 
-  built-steps : list_all (λ (s : Step). is_built_act s.act) steps ≡ true
-  built-steps =
-      let a = both (is_gsn_edf p.plugin) _ built in
-      let b = both (is_empty p.sems) _ a.1 in
-      let c = both (list_all is_built_task p.tasks) _ b.1 in
-      rw drive at c.1
+  built-steps : list_all (λ (s : Step). is_ranked_act s.act) steps ≡ true
+  built-steps = rw drive at (built-drive p built)
 
   pub plain-steps : ArePlainSteps p steps
   plain-steps = record {
     few = few-steps;
     at_processors = λ i s lt. cpu-in i s lt;
     of_group = λ i s lt. steps_are_of_groups g valid steps drive i s lt (cpu-in i s lt);
-    acts = λ i s lt. all-at (λ (s : Step). is_built_act s.act) steps i s built-steps lt;
+    acts = λ i s lt. all-at (λ (s : Step). is_ranked_act s.act) steps i s built-steps lt;
   }
+
+-- and those that the set gives
+pub steps-plain : (p : Parts) → IsValid p → is_ranked p ≡ true → ArePlainSteps p (steps_given p.drive)
+steps-plain p valid built = by_drive p.drive refl (built-drive p built)
+  where
+    by_drive : (drive : Drive) → p.drive ≡ drive → is_ranked_drive drive ≡ true → ArePlainSteps p (steps_given drive)
+    by_drive (Steps steps) same k = plain-steps p valid built steps same
+    by_drive (Horizon h) same k = cc

@@ -21,7 +21,7 @@ use Rattle.rt_model.specs.Histories.{past_of, reply_to}
 use Rattle.rt_model.specs.Steps.{IsStepOf}
 use Rattle.rt_model.proofs.Steps.{past_of-append, after-acted, reply_to-lem, IsLegal-append}
 use Rattle.group_state.specs.Groups.{IsProcessorOf, IsPlayedEntry}
-use Rattle.group_state.specs.Built.{is_built_act}
+use Rattle.group_state.specs.Built.{is_ranked_act}
 use Rattle.rt_rules.specs.Rankings as queue
 use Rattle.group_state.specs.Due.{due_ready}
 use Rattle.group_state.specs.Moves.{clock_moved}
@@ -82,7 +82,7 @@ module _ (g : Group) (es : List Entry) (room capacity : ℕ) (state : State) (so
   pub reply-is : (step : Step) (reply : Reply) (after : State) → HasActed (at_tick step.tick.0) step.cpu.0 step.act reply after → reply ≡ reply_to g step (past_of g es)
   reply-is step reply after acted = acted.reply_is ∙ sym (reply_to-lem g step (past_of g es))
 
-  pub sound-step : (step : Step) (reply : Reply) (after : State) (capacity' : ℕ) → is_built_act step.act ≡ true → IsStepOf g step → length es < room → capacity ≤ capacity' → HasActed (at_tick step.tick.0) step.cpu.0 step.act reply after → IsSound g (es ++ record { step = step; reply = reply } ∷ []) room capacity' after
+  pub sound-step : (step : Step) (reply : Reply) (after : State) (capacity' : ℕ) → is_ranked_act step.act ≡ true → IsStepOf g step → length es < room → capacity ≤ capacity' → HasActed (at_tick step.tick.0) step.cpu.0 step.act reply after → IsSound g (es ++ record { step = step; reply = reply } ∷ []) room capacity' after
   sound-step step reply after capacity' act of_group spare grows acted = record {
     played = sound.played;
     limit = sound.limit;

@@ -1,4 +1,5 @@
--- What is played so far: periodic tasks under GSN-EDF with no semaphore, by steps that tick, take interrupts, work and end jobs.
+-- What the slow ranker plays so far: periodic tasks under GSN-EDF with no semaphore, by steps that tick, take interrupts, work and
+-- end jobs.
 use Rattle.std.specs.Prelude.{Bool, true, false, not, ◌&&◌}
 use Rattle.std.specs.List.{list_all}
 use Rattle.rt_task.specs.declared.Act.{Act}
@@ -17,19 +18,19 @@ abbrev pub is_gsn_edf : PluginKind → Bool
 is_gsn_edf GsnEdf = true
 is_gsn_edf _ = false
 
-abbrev pub is_built_act : Act → Bool
-is_built_act acts.Tick = true
-is_built_act acts.Irq = true
-is_built_act (acts.Do ops.Work) = true
-is_built_act (acts.Do ops.End) = true
-is_built_act _ = false
+abbrev pub is_ranked_act : Act → Bool
+is_ranked_act acts.Tick = true
+is_ranked_act acts.Irq = true
+is_ranked_act (acts.Do ops.Work) = true
+is_ranked_act (acts.Do ops.End) = true
+is_ranked_act _ = false
 
-abbrev pub is_built_task : Task → Bool
-is_built_task t = is_periodic t.kind && (not t.enforce && not t.early)
+abbrev pub is_ranked_task : Task → Bool
+is_ranked_task t = is_periodic t.kind && (not t.enforce && not t.early)
 
-abbrev pub is_built_drive : Drive → Bool
-is_built_drive (Steps steps) = list_all (λ (s : Step). is_built_act s.act) steps
-is_built_drive (Horizon h) = false
+abbrev pub is_ranked_drive : Drive → Bool
+is_ranked_drive (Steps steps) = list_all (λ (s : Step). is_ranked_act s.act) steps
+is_ranked_drive (Horizon h) = false
 
-abbrev pub is_built : Parts → Bool
-is_built p = is_gsn_edf p.plugin && (is_empty p.sems && (list_all is_built_task p.tasks && is_built_drive p.drive))
+abbrev pub is_ranked : Parts → Bool
+is_ranked p = is_gsn_edf p.plugin && (is_empty p.sems && (list_all is_ranked_task p.tasks && is_ranked_drive p.drive))

@@ -9,7 +9,7 @@ use Rattle.rt_model.specs.Past.{Past}
 use Rattle.rt_model.specs.Histories.{past_of, IsLegal}
 use Rattle.rt_model.specs.Steps.{IsStepOf}
 pub use Rattle.rt_plays.specs.Homes.{IsProcessorOf}
-use Rattle.group_state.specs.Built.{is_built_act}
+use Rattle.group_state.specs.Built.{is_ranked_act}
 
 -- a group of a setup: its entries so far, and room for how many more
 pub record GroupHistory : Type 0 where
@@ -36,10 +36,10 @@ IsLegalNow h = IsLegal (group_of h) h.entries
 abbrev pub IsGroupOf : Parts → ℕ → Type 0
 IsGroupOf p n = list_any (λ (c : Cluster). c.group.0 == n) p.clusters ≡ true
 
--- the entry's step is one of the group, and its act is one that is played so far
+-- the entry's step is one of the group, and its act is one that the slow ranker plays
 pub record IsPlayedEntry (g : Group) (e : Entry) : Type 0 where
   pub step : IsStepOf g e.step
-  pub built : is_built_act e.step.act ≡ true
+  pub built : is_ranked_act e.step.act ≡ true
 
 abbrev pub AllPlayed : GroupHistory → Type 0
 AllPlayed h = All (IsPlayedEntry (group_of h)) h.entries

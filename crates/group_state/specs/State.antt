@@ -24,7 +24,7 @@ use Rattle.rt_model.specs.Histories.{past_of, IsLegal}
 use Rattle.link_table.specs.Linked.{Linked}
 use Rattle.rt_rules.specs.Rankings.{ranked_by}
 use Rattle.group_state.specs.Releases.{Release, releases_by}
-use Rattle.group_state.specs.Built.{is_built}
+use Rattle.group_state.specs.Built.{is_ranked}
 use Rattle.group_state.specs.Groups.{IsGroupOf, IsPlayedEntry}
 
 -- the release of the task's job number k + 1, and that job's key
@@ -87,10 +87,10 @@ pub record HasRooms (n m first worked ready waiting top : ℕ) : Type 0 where
 abbrev pub linked_of : State → Linked
 linked_of s = record { first = 0; runs = s.runs; links = s.links }
 
--- what is played so far: a group of a valid set of that form
+-- what the slow ranker plays so far: a group of a valid set of that form
 pub record IsPlayed (g : Group) : Type 0 where
   pub valid : IsValid g.setup
-  pub built : is_built g.setup ≡ true
+  pub built : is_ranked g.setup ≡ true
   pub is_there : IsGroupOf g.setup g.number
 
 -- a group at a moment of its past

@@ -14,7 +14,7 @@ use Rattle.rt_model.specs.Releases.{deadline}
 use Rattle.rt_model.specs.Runs.{runs}
 use Rattle.rt_model.specs.Outcomes.{past_act}
 use Rattle.rt_model.proofs.Steps.{past_act-tick, past_act-end}
-use Rattle.group_state.specs.Built.{is_built_act}
+use Rattle.group_state.specs.Built.{is_ranked_act}
 use Rattle.group_state.specs.State.{State, Moment, CanAct, CanOperate, release_at}
 use Rattle.group_state.proofs.PlainGroup.{IsPlainGroup}
 use Rattle.group_state.proofs.PlainModel.{release-at}
@@ -46,7 +46,7 @@ module _ (at : Moment) (q : ℕ) (tasks : List Task) (S : State) (can : CanAct a
   work-ends-none None h = idle-ends-none ops.Work h
   work-ends-none (Some t) h = let here : RunsHere g p t = runs-here g q t p can.played can.kept.made h in work-ended g s q can.inside p S can.kept t h here.there
 
-  others-end-none : (act : Act) → is_built_act act ≡ true → (act ≡ acts.Do ops.End → ⊥) → (past_act g q act p).ended ≡ None
+  others-end-none : (act : Act) → is_ranked_act act ≡ true → (act ≡ acts.Do ops.End → ⊥) → (past_act g q act p).ended ≡ None
   others-end-none acts.Tick built other = rw past_act-tick
   others-end-none acts.Irq built other = irq-ended g s q can.inside p S can.kept
   others-end-none (acts.Arrive t) built other = cc
@@ -59,7 +59,7 @@ module _ (at : Moment) (q : ℕ) (tasks : List Task) (S : State) (can : CanAct a
   others-end-none (acts.Do ops.NpOff) built other = cc
 
   -- only an End ends a job
-  pub other-act : (act : Act) → is_built_act act ≡ true → (act ≡ acts.Do ops.End → ⊥) → None ≡ ended_in g (past_act g q act p) p
+  pub other-act : (act : Act) → is_ranked_act act ≡ true → (act ≡ acts.Do ops.End → ⊥) → None ≡ ended_in g (past_act g q act p) p
   other-act act built other = none_in act (others-end-none act built other)
 
   pub idle-end : (act : Act) → act ≡ acts.Do ops.End → runs q p ≡ None → None ≡ ended_in g (past_act g q act p) p

@@ -7,7 +7,7 @@ ghost use Rattle.rt_model.specs.Runs.{runs};
 ghost use Rattle.rt_model.specs.Links.{linked};
 ghost use Rattle.rt_model.specs.Histories.{after, reply_to};
 ghost use Rattle.rt_model.specs.Steps.{IsStepOf};
-ghost use Rattle.group_state.specs.Built.{is_built, is_built_act};
+ghost use Rattle.group_state.specs.Built.{is_ranked, is_ranked_act};
 ghost use Rattle.group_state.specs.Groups.{IsGroupOf, IsProcessorOf};
 ghost use Rattle.rank_afresh.specs.Standing.{IsAt, IsOfSame, ended_last, group_of};
 
@@ -54,7 +54,7 @@ impl Afresh {
     pub fn open(alloc: Global, setup: &Setup, group: GroupNo, room: u32) -> Result<Afresh, NoMemory>
         requires group { IsGroupOf setup.now group.0 }
         requires room { room ≤ MOST_STEPS }
-        requires built { is_built setup.now ≡ true }
+        requires built { is_ranked setup.now ≡ true }
         ensures setup { IfOk result (λ a. a.setup ≡ setup.now) }
         ensures group { IfOk result (λ a. a.group ≡ group.0) }
         ensures room { IfOk result (λ a. a.spare ≡ room) }
@@ -88,7 +88,7 @@ impl Afresh {
     pub fn act(&mut self, step: Step) -> Reply
         requires room { 0 < self.old.spare }
         requires step { IsStepOf (group_of self.old) step }
-        requires act { is_built_act step.act ≡ true }
+        requires act { is_ranked_act step.act ≡ true }
         requires clocked { (past : Past) × IsAt self.old (Clock step.tick.0 ∷ past) }
         ensures reply { (past : Past) → IsAt self.old (Clock step.tick.0 ∷ past)
             → result ≡ reply_to (group_of self.old) step past }

@@ -5,7 +5,7 @@ ghost use Rattle.rt_base.specs.declared.TheConstants.{MOST_STEPS};
 ghost use Rattle.rt_rules.specs.Numbers.{numbers_from};
 ghost use Rattle.rt_rules.specs.Placing.{at_place};
 ghost use Rattle.link_table.specs.Linked.{irq_reply, after_irq};
-ghost use Rattle.group_state.specs.Built.{is_built_act};
+ghost use Rattle.group_state.specs.Built.{is_ranked_act};
 ghost use Rattle.group_state.specs.State.{Moment, CanAct, CanActNow, CanOperate, CanOperateNow, HasActed};
 ghost use Rattle.rt_model.specs.Group.{no_task};
 ghost use Rattle.rt_model.specs.Outcomes.{past_act};
@@ -257,7 +257,7 @@ impl Facts {
     /// An act of the processor, once the clock has moved.
     pub(crate) fn act(&mut self, tasks: &[Task], cpu: CpuNo, act: Act) -> Reply
         requires acts { CanActNow (state_of tasks.now self.old.facts) tasks.now cpu.0 }
-        requires built { is_built_act act ≡ true }
+        requires built { is_ranked_act act ≡ true }
         requires tasks { CanRank tasks.now self.old.facts.done }
         requires few { All (λ (n : ℕ). n < MOST_STEPS) self.old.facts.done }
         requires next { IsNext tasks.now self.old.facts.clock self.old.facts.done (numbers_from 1
@@ -288,7 +288,7 @@ impl Facts {
     /// The task whose job the act will end, and whether that job's deadline is over.
     pub(crate) fn ending(&self, tasks: &[Task], cpu: CpuNo, act: Act) -> Option<(TaskNo, bool)>
         requires acts { CanActNow (state_of tasks.now self.now.facts) tasks.now cpu.0 }
-        requires built { is_built_act act ≡ true }
+        requires built { is_ranked_act act ≡ true }
         requires tasks { CanRank tasks.now self.now.facts.done }
         ensures { (at : Moment) → CanAct at (state_of tasks.now self.now.facts) tasks.now cpu.0
             → result ≡ ended_in at.group (past_act at.group cpu.0 act at.past) at.past }

@@ -4,7 +4,9 @@
 mod afresh;
 mod facts;
 mod placing;
+mod ranked;
 mod ranks;
 mod room;
 
 pub use afresh::Afresh;
+pub use ranked::is_ranked;

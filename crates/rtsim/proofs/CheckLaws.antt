@@ -8,7 +8,7 @@ use Rattle.rt_task.specs.declared.bad_set.SetKind.TheVariants.{NotTrace}
 use Rattle.rt_task.specs.declared.bad_set.Part.TheVariants.{Line}
 use Rattle.rt_task.specs.Refusals.{bad}
 use Rattle.set_read.specs.Sets.{set}
-use Rattle.group_state.specs.Built.{is_built}
+use Rattle.group_state.specs.Built.{is_ranked}
 use Rattle.trace_read.specs.Reads.{IsRefused}
 use Rattle.trace_read.specs.declared.fault.TraceFault.TheVariants as faults
 use Rattle.trace_laws.specs.ValidTexts.{IsValidText}
@@ -32,7 +32,7 @@ says-unique bytes p q says also =
     let other : set also.set_text ≡ Ok q = also.set_is in
     cc
 
--- what says a set that is played is not refused
+-- what says a set that is checked is not refused
 pub says-unrefused : (bytes : List ℕ) (p : Parts) (b : BadSet) → SaysSet bytes p → TraceIsRefused bytes b → ⊥
 says-unrefused bytes p b says (inl lack) = lack.1 _ says.head.bytes_are
 says-unrefused bytes p b says (inr (inl lack)) = lack.1.no_set _ _ says.head
@@ -49,7 +49,7 @@ says-unrefused bytes p b says (inr (inr (inr other))) = unbuilt other.1
         let mine : set un.set_text ≡ Ok p = ap set (sym same) ∙ says.set_is in
         let other : set un.set_text ≡ Ok un.setup = un.set_is in
         let one : p ≡ un.setup = cc in
-        let wrong : true ≡ false = sym says.built ∙ ap is_built one ∙ un.unbuilt in
+        let wrong : true ≡ false = sym says.built ∙ ap is_ranked one ∙ un.unbuilt in
         cc
 
 -- ---- a trace that can be checked

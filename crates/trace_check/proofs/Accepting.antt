@@ -7,9 +7,12 @@ use Rattle.rt_rules.specs.Numbers.{numbers_from}
 use Rattle.rt_rules.proofs.MemberLaws.{equal_self}
 use Rattle.rt_model.specs.Group.{Group, cpus, group_processors}
 use Rattle.rt_model.specs.Histories.{after, past_of, reply_to}
+use Rattle.rt_model.specs.Steps.{IsStepOf}
 use Rattle.rt_model.proofs.Steps.{past_of-append}
+use Rattle.rt_plays.specs.Homes.{IsProcessorOf}
 use Rattle.group_state.specs.State.{IsPlayed}
-use Rattle.group_state.proofs.PlainSteps.{built-step}
+use Rattle.group_state.specs.Built.{is_ranked_act}
+use Rattle.group_state.proofs.PlainSteps.{steps-plain}
 use Rattle.group_state.proofs.PlainGroup.{IsPlainGroup}
 use Rattle.group_state.proofs.Limits.{plain}
 use Rattle.group_state.proofs.Stepping.{inside}
@@ -22,7 +25,7 @@ use Rattle.rt_plays.proofs.ScriptParts.{part-next, script-steps_of-next, script-
 use Rattle.rt_plays.specs.Drives.{steps_given}
 use Rattle.rt_plays.specs.ScriptPlays.{IsBegunScriptPlay}
 use Rattle.trace_laws.proofs.Plays.{few-entries}
-use Rattle.trace_laws.proofs.StepsGiven.{IsGivenStep, steps-given}
+use Rattle.trace_laws.proofs.StepsGiven.{steps-of_groups}
 use Rattle.trace_check.specs.declared.follow.Follow.{Follow}
 use Rattle.trace_check.specs.Following.{first_group, CanStep, IsFollowing, IsFollowingWith, IsPassed, IsNextPlace, Place}
 
@@ -32,8 +35,7 @@ is-first g played = let s : IsPlainGroup g = plain g played in ap (λ n. let x :
 
 -- a part of a history has few entries
 pub few-in-part : (g : Group) (es : List Entry) → IsPlayed g → IsBegunScriptPlay g es → length es ≤ MOST_STEPS
-few-in-part g es played part =
-    few-entries g.setup es played.valid played.built (subst (λ (x : Group). IsBegunScriptPlay x es) (is-first g played) part)
+few-in-part g es played part = few-entries g es played.valid part
 
 module _ (at : Place) (steps : List Step) (f : Follow) (fw : IsFollowingWith at steps f) (step : Step) (j : ℕ) (np : IsNextPlace at.group at.entries step j) where
   abbrev g : Group
@@ -49,18 +51,21 @@ module _ (at : Place) (steps : List Step) (f : Follow) (fw : IsFollowingWith at 
   pub part-made : IsBegunScriptPlay g (es ++ made ∷ [])
   part-made = part-next g es made np.next.more fw.following.begun refl np.next.home np.next.next
 
-  given : IsGivenStep (first_group g.setup) step
-  given =
-      let all = (steps-given g.setup fw.following.played.valid fw.following.played.built).each_step in
-      subst (λ (s : Step). IsGivenStep (first_group g.setup) s) (np.step_is step) (all j step np.there)
+  of_group : IsStepOf g step
+  of_group = subst (λ (s : Step). IsProcessorOf g s.cpu.0 → IsStepOf g s) (np.step_is step) (steps-of_groups g fw.following.played.valid j step np.there) np.next.home
+
+  ranked : is_ranked_act step.act ≡ true
+  ranked =
+      let acts = (steps-plain g.setup fw.following.played.valid fw.following.played.built).acts in
+      subst (λ (s : Step). is_ranked_act s.act ≡ true) (np.step_is step) (acts j step np.there)
 
   pub can_step : CanStep at f step
   can_step =
       let few : length (es ++ made ∷ []) ≤ MOST_STEPS = few-in-part g (es ++ made ∷ []) fw.following.played part-made in
       record {
         following = fw.following;
-        of_group = built-step g step np.next.home given.tick_low given.act_built;
-        built = given.act_built;
+        of_group = of_group;
+        built = ranked;
         room = omega (arith, few, length-append es (made ∷ []), fw.following.spare_is);
       }
 

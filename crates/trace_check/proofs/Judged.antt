@@ -11,7 +11,7 @@ use Rattle.rt_history.specs.declared.Entry.{Entry}
 use Rattle.rt_model.specs.Group.{Group, group_processors}
 use Rattle.rt_model.specs.Past.{Past}
 use Rattle.rt_model.specs.Histories.{after, changed, past_of, reply_to}
-use Rattle.group_state.specs.Built.{is_built}
+use Rattle.group_state.specs.Built.{is_ranked}
 use Rattle.set_canonical.specs.Canonical.{canonical}
 use Rattle.trace_lines.specs.FirstLine.{first_line, format_1}
 use Rattle.trace_lines.specs.Grammar.{line_text}
@@ -26,12 +26,11 @@ use Rattle.rt_plays.specs.ScriptPlays.{IsBegunScriptPlay, IsScriptPlay}
 use Rattle.trace_laws.specs.ValidTexts.{IsBegun, IsValidText}
 use Rattle.trace_laws.proofs.Alike.{AgreeThrough, alike-head, alike-made, alike-one_head, alike-take}
 use Rattle.trace_laws.proofs.Heads.{head-unique, trace-begins, trace-head}
-use Rattle.trace_laws.proofs.KnownLines.{known-lines}
 use Rattle.trace_laws.proofs.OneLine.{canonical-one_line}
-use Rattle.trace_laws.proofs.Plays.{plays-of-one, plays-one}
 use Rattle.trace_laws.proofs.ReadBack.{are-lines}
 use Rattle.trace_check.specs.Following.{first_group}
 use Rattle.trace_check.specs.Verdicts.{IsInvalid}
+use Rattle.trace_check.proofs.OnePlay.{known-one, plays-of-one, plays-one}
 use Rattle.trace_check.proofs.NextLine.{lines_so_far, next_line, lines_so_far-more, length-so_far, whole-lines, length-whole, HasNext, HasEnd, next-line}
 
 -- ---- lists that agree
@@ -68,7 +67,7 @@ some-end ls none =
 next-no_end : (g : Group) (es : List Entry) (e : Entry) → next_line g es e ≢ end_line
 next-no_end g es e same = cc
 
-module _ (p : Parts) (valid : IsValid p) (built : is_built p ≡ true) where
+module _ (p : Parts) (valid : IsValid p) (built : is_ranked p ≡ true) where
   -- ---- one history
 
   abbrev one_line : All (λ (c : ℕ). c ≢ 10) (canonical p)
@@ -97,7 +96,7 @@ module _ (p : Parts) (valid : IsValid p) (built : is_built p ≡ true) where
         let head : HasHead bytes (canonical p) (flat_map line_text (lines_from p 0 (es ∷ []))) =
         subst (λ (t : List ℕ). HasHead t (canonical p) (flat_map line_text (lines_from p 0 (es ∷ [])))) (sym text) (trace-head p (es ∷ []) one_line) in
         let heads = head-unique bytes r.set_text r.rest (canonical p) (flat_map line_text (lines_from p 0 (es ∷ []))) r.head head in
-        let known = known-lines p es valid built one.2 in
+        let known = known-one p es valid built one.2 in
         let others : AreLines (known_of p) r.rest (lines_from p 0 (es ∷ [])) [] =
         subst (λ (t : List ℕ). AreLines (known_of p) t (lines_from p 0 (es ∷ [])) []) (sym heads.1) (are-lines (known_of p) (lines_from p 0 (es ∷ [])) known) in
         let both = lines-unique (known_of p) r.rest lines (lines_from p 0 (es ∷ [])) r.left [] r.lines_are others in
@@ -114,7 +113,7 @@ module _ (p : Parts) (valid : IsValid p) (built : is_built p ≡ true) where
         subst (λ (t : List ℕ). HasHead t (canonical p) (flat_map line_text (lines_from p 0 (es ∷ [])))) (sym text) (trace-head p (es ∷ []) one_line) in
         let same = alike-head k bytes begun.whole r.set_text r.rest (canonical p) (flat_map line_text (lines_from p 0 (es ∷ []))) begun.alike many r.head head in
         let agree = alike-take (known_of p) k bytes begun.whole r.set_text r.rest (canonical p) (flat_map line_text (lines_from p 0 (es ∷ []))) r.left lines (lines_from p 0 (es ∷ [])) r.head head r.lines_are
-        (known-lines p es valid built one.2) refl begun.alike many in
+        (known-one p es valid built one.2) refl begun.alike many in
         (es, one.2, same, agree)
 
     -- the same the other way round

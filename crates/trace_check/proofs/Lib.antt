@@ -1,4 +1,5 @@
 pub mod LinkLists
+pub mod OnePlay
 pub mod NextLine
 pub mod Judged
 pub mod Nexts

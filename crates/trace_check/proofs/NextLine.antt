@@ -10,8 +10,9 @@ use Rattle.rt_rules.proofs.MemberLaws.{equal_self}
 use Rattle.rt_model.specs.Group.{Group, group_processors}
 use Rattle.rt_model.specs.Past.{Past}
 use Rattle.rt_model.specs.Histories.{after, changed, past_from, past_of, reply_to, IsLegalFrom}
-use Rattle.group_state.specs.Built.{is_built}
+use Rattle.group_state.specs.Built.{is_ranked}
 use Rattle.group_state.specs.Groups.{IsProcessorOf}
+use Rattle.group_state.proofs.OneGroup.{ranked-built}
 use Rattle.trace_lines.specs.Lines.{Line, group_line, entry_line, end_line}
 use Rattle.trace_text.specs.TraceText.{block_lines, entry_lines, group_lines, lines_from, links_at}
 use Rattle.trace_text.proofs.LineLaws.{blocks_none}
@@ -19,7 +20,7 @@ use Rattle.rt_plays.proofs.ScriptParts.{script-append}
 use Rattle.rt_plays.specs.Drives.{steps_given}
 use Rattle.rt_plays.specs.ScriptPlays.{IsScriptPlay}
 use Rattle.rt_plays.specs.Scripts.{script, steps_of}
-use Rattle.trace_laws.proofs.Plays.{play-is-played}
+use Rattle.trace_laws.proofs.Plays.{play-steps}
 use Rattle.trace_check.specs.Following.{first_group}
 
 -- the group line and one line for each entry
@@ -69,16 +70,16 @@ lines_so_far-append g es e =
     ∙ ap (λ (ls : List Line). lines_so_far g es ++ ls) (entry_lines-next g es e [] ∙ ap (λ (ls : List Line). next_line g es e ∷ ls) (entry_lines-none g (length es + 1) (after g e.step (past_of g es))))
 
 -- all the lines of a whole history: no semaphore is asked for
-pub whole-lines : (p : Parts) (es : List Entry) → IsValid p → is_built p ≡ true → IsScriptPlay (first_group p) es
+pub whole-lines : (p : Parts) (es : List Entry) → IsValid p → is_ranked p ≡ true → IsScriptPlay (first_group p) es
     → lines_from p 0 (es ∷ []) ≡ lines_so_far (first_group p) es ++ end_line ∷ []
 unfolding group_lines
 whole-lines p es valid built play =
     let g : Group = first_group p in
-    let none : block_lines g (past_of g es) ≡ [] = blocks_none g es (play-is-played p es valid built play) in
+    let none : block_lines g (past_of g es) ≡ [] = blocks_none g es (ranked-built p built) (play-steps g es valid play) in
     ap (λ (bs : List Line). (group_line 0 (links_at g [] (group_processors g)) ∷ (entry_lines g 0 [] es ++ bs)) ++ end_line ∷ []) none
     ∙ ap (λ (ls : List Line). (group_line 0 (links_at g [] (group_processors g)) ∷ ls) ++ end_line ∷ []) (append-nil (entry_lines g 0 [] es))
 
-pub length-whole : (p : Parts) (es : List Entry) → IsValid p → is_built p ≡ true → IsScriptPlay (first_group p) es → length (lines_from p 0 (es ∷ [])) ≡ length es + 2
+pub length-whole : (p : Parts) (es : List Entry) → IsValid p → is_ranked p ≡ true → IsScriptPlay (first_group p) es → length (lines_from p 0 (es ∷ [])) ≡ length es + 2
 length-whole p es valid built play =
     let g : Group = first_group p in
     omega (arith, ap length (whole-lines p es valid built play), length-append (lines_so_far g es) (end_line ∷ []), length-so_far g es)
@@ -105,7 +106,7 @@ second_lines : (l m : Line) (ls ms : List Line) → l ∷ ls ≡ m ∷ ms → ls
 second_lines l m ls ms h = cc
 
 -- a whole history whose first lines are those of some entries begins with them
-pub begins-so : (p : Parts) (es es' : List Entry) → IsValid p → is_built p ≡ true → IsScriptPlay (first_group p) es' → length es ≤ length es'
+pub begins-so : (p : Parts) (es es' : List Entry) → IsValid p → is_ranked p ≡ true → IsScriptPlay (first_group p) es' → length es ≤ length es'
     → take (length es + 1) (lines_from p 0 (es' ∷ [])) ≡ lines_so_far (first_group p) es → (rest : List Entry) × (es' ≡ es ++ rest)
 begins-so p es es' valid built play few same =
     let g : Group = first_group p in
@@ -133,7 +134,7 @@ pub record HasEnd (es es' : List Entry) (line : Line) : Type 0 where
   pub is_whole : es' ≡ es
   pub line_is : line ≡ end_line
 
-pub next-line : (p : Parts) (es es' : List Entry) (d : Line) → IsValid p → is_built p ≡ true → IsScriptPlay (first_group p) es' → length es + 2 ≤ length (lines_from p 0 (es' ∷ []))
+pub next-line : (p : Parts) (es es' : List Entry) (d : Line) → IsValid p → is_ranked p ≡ true → IsScriptPlay (first_group p) es' → length es + 2 ≤ length (lines_from p 0 (es' ∷ []))
     → take (length es + 1) (lines_from p 0 (es' ∷ [])) ≡ lines_so_far (first_group p) es
     → HasNext (first_group p) es es' (get_or (lines_from p 0 (es' ∷ [])) (length es + 1) d) ⊎ HasEnd es es' (get_or (lines_from p 0 (es' ∷ [])) (length es + 1) d)
 unfolding past_of

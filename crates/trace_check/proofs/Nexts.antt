@@ -12,7 +12,7 @@ use Rattle.rt_history.specs.declared.Entry.{Entry}
 use Rattle.rt_model.specs.Group.{Group, cpus, group_processors}
 use Rattle.rt_model.specs.Past.{Past}
 use Rattle.rt_model.specs.Histories.{past_of, past_from}
-use Rattle.group_state.specs.Built.{is_built}
+use Rattle.group_state.specs.Built.{is_ranked}
 use Rattle.group_state.specs.Groups.{IsGroupOf, IsProcessorOf}
 use Rattle.rank_afresh.specs.Standing.{Standing, IsAt, group_of}
 use Rattle.trace_lines.specs.Lines.{links_of}
@@ -21,7 +21,7 @@ use Rattle.group_state.specs.State.{IsPlayed}
 use Rattle.group_state.proofs.PlainGroup.{IsPlainGroup}
 use Rattle.group_state.proofs.Limits.{plain}
 use Rattle.group_state.proofs.Stepping.{inside}
-use Rattle.trace_text.proofs.GroupLaws.{processor_there}
+use Rattle.group_state.proofs.OneGroup.{processor_there}
 use Rattle.rt_plays.proofs.ScriptParts.{part-first, script-take-drop, script-take-next}
 use Rattle.rt_plays.specs.Drives.{steps_given}
 use Rattle.rt_plays.specs.Scripts.{script, steps_of}
@@ -138,7 +138,7 @@ past-none g = refl
 -- what was made at opening
 pub record IsMadeOf (p : Parts) (f : Follow) : Type 0 where
   pub valid : IsValid p
-  pub built : is_built p ≡ true
+  pub built : is_ranked p ≡ true
   pub there : IsGroupOf p 0
   pub setup_is : f.afresh.setup ≡ p
   pub group_is : f.afresh.group ≡ 0

@@ -7,7 +7,7 @@ use Rattle.rt_history.specs.declared.Entry.{Entry}
 use Rattle.rt_model.specs.Group.{Group, cpus, group_processors}
 use Rattle.rt_model.specs.Steps.{IsStepOf}
 use Rattle.rt_model.specs.Histories.{after, changed, past_of, reply_to}
-use Rattle.group_state.specs.Built.{is_built_act}
+use Rattle.group_state.specs.Built.{is_ranked_act}
 use Rattle.group_state.specs.Groups.{IsProcessorOf}
 use Rattle.group_state.specs.State.{IsPlayed}
 use Rattle.rank_afresh.specs.Standing.{IsAt, group_of}
@@ -55,7 +55,7 @@ pub record IsFollowingWith (at : Place) (steps : List Step) (f : Follow) : Type 
 pub record CanStep (at : Place) (f : Follow) (step : Step) : Type 0 where
   pub following : IsFollowing at.group at.entries f
   pub of_group : IsStepOf at.group step
-  pub built : is_built_act step.act ≡ true
+  pub built : is_ranked_act step.act ≡ true
   pub room : 0 < f.afresh.spare
 
 -- the step is the next one of its processor

@@ -3,7 +3,7 @@ ghost use Rattle.std.specs.Prelude.{◌≡◌, ◌+◌, ◌<◌, ◌≤◌, ◌�
 ghost use Rattle.std.specs.Prelude.{IfOk, length, MatchOption};
 ghost use Rattle.rt_history.specs.declared.Entry.{Entry};
 ghost use Rattle.rt_model.specs.Histories.{after, past_of, reply_to};
-ghost use Rattle.group_state.specs.Built.{is_built};
+ghost use Rattle.group_state.specs.Built.{is_ranked};
 ghost use Rattle.group_state.specs.Groups.{IsGroupOf};
 ghost use Rattle.rank_afresh.specs.Standing.{IsAt, group_of};
 ghost use Rattle.trace_lines.specs.Lines.{links_of};
@@ -43,7 +43,7 @@ impl Follow {
     /// The one group of a setup at opening.
     pub(crate) fn open(alloc: Global, setup: &Setup) -> Result<Follow, NoMemory>
         requires group { IsGroupOf setup.now 0 }
-        requires built { is_built setup.now ≡ true }
+        requires built { is_ranked setup.now ≡ true }
         ensures { IfOk result (λ f. IsFollowing (first_group setup.now) [] f) }
     {
         let cpus = setup.parts().clusters.as_slice()[0].cpus;

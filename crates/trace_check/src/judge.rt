@@ -1,6 +1,6 @@
 //! The lines of a trace after its first two, judged one by one.
 ghost use Rattle.std.specs.Prelude.{◌≡◌, ◌+◌, ◌<◌, ℕ, List, IfOk, true};
-ghost use Rattle.group_state.specs.Built.{is_built};
+ghost use Rattle.group_state.specs.Built.{is_ranked};
 ghost use Rattle.trace_read.specs.Lines.{lines_of};
 ghost use Rattle.trace_lines.specs.Lines.{links_of};
 ghost use Rattle.trace_check.specs.Following.{IsFollowingWith, Place};
@@ -50,7 +50,7 @@ pub(crate) fn judge_lines(
     lines: &[Line],
     stop: Option<u32>,
 ) -> Result<Verdict, NoMemory>
-    requires built { is_built setup.now ≡ true }
+    requires built { is_ranked setup.now ≡ true }
     ensures { IfOk result (λ v. IsJudged setup.now (lines_of lines.now) stop v) }
 {
     let steps = steps_given(&setup.parts().drive);

@@ -1,9 +1,8 @@
 //! The processors of a group.
-ghost use Rattle.std.specs.Prelude.{◌≡◌, ◌+◌, ◌^◌, ◌<◌, ◌++◌, true, IfOk, OnOk};
+ghost use Rattle.std.specs.Prelude.{◌≡◌, ◌+◌, ◌^◌, ◌<◌, ◌++◌, IfOk, OnOk};
 ghost use Rattle.rt_rules.specs.Numbers.{numbers_from};
 ghost use Rattle.rt_model.specs.Group.{group_processors};
 ghost use Rattle.rt_plays.specs.Plays.{group_with};
-ghost use Rattle.group_state.specs.Built.{is_built};
 ghost use Rattle.trace_text.specs.Groups.{cpu_numbers};
 
 use rt_base::{CpuNo, GroupNo, NoMemory};
@@ -28,7 +27,6 @@ fn put_cpus(cpus: &mut Vec<CpuNo>, first: u32, count: u32) -> Result<(), NoMemor
 /// The processors of a group, by rising number.
 #[tactic(auto, using(crate::proofs::CpuLaws::few_cpus, std::proofs::Common::append_assoc))]
 pub fn cpus_of(alloc: Global, setup: &Setup, group: GroupNo) -> Result<Vec<CpuNo>, NoMemory>
-    requires { is_built setup.now ≡ true }
     ensures { let g = group_with setup.now group.0 in
         IfOk result (λ cpus. cpu_numbers cpus.items ≡ group_processors g) }
 {

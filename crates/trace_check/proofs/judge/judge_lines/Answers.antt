@@ -11,7 +11,7 @@ use Rattle.trace_lines.specs.declared.links.CpuLink.{CpuLink}
 use Rattle.trace_check.specs.Following.{IsAccepted, IsFollowingWith, IsNextEntry, Place}
 use Rattle.trace_check.specs.Judging.{IsEndVerdict, IsJudged}
 use Rattle.trace_check.proofs.Judging.{place_at, IsOtherLine, line-there, other-line, judged-first, first-right, accepted-right, refused-there, other-there, runs-out, ended-there}
-use Rattle.trace_text.proofs.GroupLaws.{group_0-there}
+use Rattle.group_state.proofs.OneGroup.{group_0-there}
 use Rattle.trace_check.proofs.judge.judge_lines.Goals as goal
 
 pub returns-then-not-begins : goal.returns-then-not-begins

@@ -7,7 +7,7 @@ use Rattle.rt_task.specs.declared.Cluster.{Cluster}
 use Rattle.rt_task.specs.Validity.{IsValid}
 use Rattle.rt_rules.specs.Numbers.{numbers_from}
 use Rattle.rt_model.specs.Group.{Group, no_cluster, cpus}
-use Rattle.group_state.specs.Built.{is_built}
+use Rattle.group_state.specs.Built.{is_ranked}
 use Rattle.group_state.specs.Groups.{IsGroupOf}
 use Rattle.group_state.specs.State.{IsPlayed}
 use Rattle.group_state.proofs.Opening.{first-cpus, some-cluster}
@@ -15,8 +15,8 @@ use Rattle.rank_afresh.specs.Facts.{Facts, CanRank, IsNext, relinked, unlinked}
 use Rattle.rank_afresh.proofs.Standings.{can_rank-first, kept-first, fit-first}
 use Rattle.rank_afresh.proofs.afresh.Afresh.open.Goals as goal
 
-played : (p q : Parts) (n : ℕ) → p ≡ q → IsValid p → is_built q ≡ true → IsGroupOf q n → IsPlayed (record { setup = p; number = n })
-played p q n same valid built there = record { valid = valid; built = subst (λ (r : Parts). is_built r ≡ true) (sym same) built; is_there = subst (λ (r : Parts). IsGroupOf r n) (sym same) there }
+played : (p q : Parts) (n : ℕ) → p ≡ q → IsValid p → is_ranked q ≡ true → IsGroupOf q n → IsPlayed (record { setup = p; number = n })
+played p q n same valid built there = record { valid = valid; built = subst (λ (r : Parts). is_ranked r ≡ true) (sym same) built; is_there = subst (λ (r : Parts). IsGroupOf r n) (sym same) there }
 
 -- the processors that were read are those of the group's cluster
 cpus_read : (g : Group) (p : IsPlayed g) (cs : List Cluster) (d : Cluster) → cs ≡ g.setup.clusters → (get_or cs 0 d).cpus ≡ cpus g 0

@@ -1,7 +1,7 @@
 use Rattle.std.proofs.Common.{◌≡◌, true, sym, ◌∙◌, subst}
 use Rattle.std.specs.Prelude.{None, Some}
 use Rattle.rt_task.specs.declared.Act.TheVariants as acts
-use Rattle.group_state.specs.Built.{is_built_act}
+use Rattle.group_state.specs.Built.{is_ranked_act}
 use Rattle.group_state.proofs.Doing.{runs-inside, runs-now, tick-answer, kept-ticked, irq-answered, kept-interrupted, idle-answer, kept-idle}
 use Rattle.rank_afresh.proofs.Acting.{settled-here}
 use Rattle.rank_afresh.proofs.facts.Facts.act.Goals as goal
@@ -35,7 +35,7 @@ returns-in-Irq-clause-acted c = λ at can. record {
 
 pub returns-in-None-clause-acted : goal.returns-in-None-clause-acted
 returns-in-None-clause-acted c = λ at can.
-    let built : is_built_act (acts.Do c.in-Do.op) ≡ true = subst (λ a. is_built_act a ≡ true) c.in-Do.is c.requires.built in
+    let built : is_ranked_act (acts.Do c.in-Do.op) ≡ true = subst (λ a. is_ranked_act a ≡ true) c.in-Do.is c.requires.built in
     let none = runs-now at _ _ _ can None c.in-None.ensures in
     record {
       reply_is = rw c.in-Do.is (sym (idle-answer at _ _ _ can c.in-Do.op none));
