@@ -3,16 +3,17 @@
 #![tactic(auto)]
 
 ghost use Rattle.std.specs.Prelude.{◌≡◌, IfOk, true};
-ghost use Rattle.group_state.specs.Built.{is_ranked};
+ghost use Rattle.rt_groups.specs.Built.{is_built};
 ghost use Rattle.trace_read.specs.Lines.{lines_of};
 ghost use Rattle.trace_read.specs.Reads.{IsTraceOf};
 ghost use Rattle.trace_check.specs.Verdicts.{IsVerdict};
 
 mod follow;
+mod group;
 mod head;
 mod judge;
 mod links;
-mod room;
+mod progress;
 mod same;
 mod scripts;
 mod verdict;
@@ -31,7 +32,7 @@ pub use verdict::Verdict;
 /// The steps are replayed by `Afresh`.
 pub fn check_trace(alloc: Global, bytes: &[u8], trace: &Trace) -> Result<Verdict, NoMemory>
     requires read { IsTraceOf bytes.now trace.now.setup (lines_of trace.now.lines) trace.now.stop }
-    requires built { is_ranked trace.now.setup ≡ true }
+    requires built { is_built trace.now.setup ≡ true }
     ensures { IfOk result (IsVerdict trace.now.setup bytes.now) }
 {
     if !has_head(alloc, bytes, trace.setup.parts())? {

@@ -74,7 +74,7 @@ trace-is-not-refused p hs faults.NoMemory played h = refl
 -- ---- lines hold their histories
 
 -- the entries of these lines, up to the next line of a group
-abbrev entries_first : List Line → List Entry
+abbrev pub entries_first : List Line → List Entry
 entries_first [] = []
 entries_first (group_line g links ∷ ls) = []
 entries_first (entry_line i e links ∷ ls) = e ∷ entries_first ls
@@ -83,7 +83,7 @@ entries_first (end_line ∷ ls) = entries_first ls
 entries_first (count_line name totals ∷ ls) = entries_first ls
 
 -- those of each group
-abbrev histories_said : List Line → List (List Entry)
+abbrev pub histories_said : List Line → List (List Entry)
 histories_said [] = []
 histories_said (group_line g links ∷ ls) = entries_first ls ∷ histories_said ls
 histories_said (entry_line i e links ∷ ls) = histories_said ls
@@ -91,12 +91,12 @@ histories_said (block_line i t s ends all bound ∷ ls) = histories_said ls
 histories_said (end_line ∷ ls) = histories_said ls
 histories_said (count_line name totals ∷ ls) = histories_said ls
 
-first-entries : (g : Group) (i : ℕ) (past : Past) (es : List Entry) (ls : List Line) → entries_first (entry_lines g i past es ++ ls) ≡ es ++ entries_first ls
+pub first-entries : (g : Group) (i : ℕ) (past : Past) (es : List Entry) (ls : List Line) → entries_first (entry_lines g i past es ++ ls) ≡ es ++ entries_first ls
 unfolding entry_lines
 first-entries g i past [] ls = refl
 first-entries g i past (e ∷ es) ls = ap (λ (xs : List Entry). e ∷ xs) (first-entries g (i + 1) (after g e.step past) es ls)
 
-said-entries : (g : Group) (i : ℕ) (past : Past) (es : List Entry) (ls : List Line) → histories_said (entry_lines g i past es ++ ls) ≡ histories_said ls
+pub said-entries : (g : Group) (i : ℕ) (past : Past) (es : List Entry) (ls : List Line) → histories_said (entry_lines g i past es ++ ls) ≡ histories_said ls
 unfolding entry_lines
 said-entries g i past [] ls = refl
 said-entries g i past (e ∷ es) ls = said-entries g (i + 1) (after g e.step past) es ls

@@ -126,7 +126,7 @@ pub entries_end : (g : Group) (i : ℕ) (p : Past) (es : List Entry) → length 
 unfolding entry_lines
 entries_end g i p es h = rw (drop_end es i h) refl
 
-past_none : (g : Group) → past_of g [] ≡ []
+pub past_none : (g : Group) → past_of g [] ≡ []
 unfolding past_of past_from
 past_none g = refl
 

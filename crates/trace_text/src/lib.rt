@@ -19,6 +19,7 @@ mod links;
 mod replay;
 mod stop;
 
+pub use cpus::{count_groups, cpus_of};
 use group_engine::Engine;
 pub use head::head_of;
 pub use links::{is_same_task, put_changed};
