@@ -1,53 +1,54 @@
--- The clock moves: the links follow, or stay where no job is released.
-use Rattle.std.proofs.Common.{◌≡◌, ℕ, ◌<◌, ◌≤◌, max, Bool, true, false, List, ◌∷◌, length, refl, sym, subst, arith}
-use Rattle.std.specs.Prelude.{nat_le}
-use Rattle.std.proofs.lemmas.Bool.Decides.{nat_tests}
+-- What the steps of a move rest on, and what they make of the facts.
+use Rattle.std.proofs.Common.{◌≡◌, ℕ, ◌-◌, ◌<◌, ◌≤◌, Bool, true, length, refl, arith, length-set}
+use Rattle.std.specs.Prelude.{None, Some, if◌then◌else◌, ◌||◌}
+use Rattle.rt_base.specs.declared.TaskNo.{TaskNo}
+use Rattle.rt_base.specs.declared.TheConstants.{MOST_STEPS, TICK_END}
+use Rattle.rt_task.specs.declared.Act.TheVariants as acts
+use Rattle.rt_task.specs.declared.Op.{Op}
+use Rattle.rt_task.specs.declared.Parts.{Parts}
 use Rattle.rt_task.specs.declared.Task.{Task}
-use Rattle.rt_rules.specs.Numbers.{has, numbers_from}
-use Rattle.rt_model.specs.Past.{Clock}
-use Rattle.group_state.specs.State.{IsKept, Moment}
-use Rattle.rank_afresh.specs.Facts.{Facts, IsNext, is_due, release_of, relinked, state_of}
-use Rattle.rank_afresh.specs.Moved.{CanMove, HasMoved}
-use Rattle.rank_afresh.proofs.Refreshed.{kept-moved, kept-quiet}
+use Rattle.rt_history.specs.declared.Reply.{Reply}
+use Rattle.rt_history.specs.declared.Reply.TheVariants as replies
+use Rattle.group_facts.specs.Kept.{Kept, cpu_of, has_arrived, has_operated, job_of, with_clock}
+use Rattle.group_facts.specs.Timers.{is_sleep}
+use Rattle.group_jobs.specs.GroupJobs.{task_in}
+use Rattle.rank_afresh.specs.Facts.{CanAct, CanFollow, Facts, acted, ends_in, home_of, placed_afresh}
+use Rattle.rank_afresh.proofs.Counting.{bounded-after_op, bounded-arrived, places-stay, read-clock, read-cpu, read-job, read-more}
 
--- a later clock finds the same jobs released, as long as it is before the next release
-pub due-later : (tasks : List Task) (done ts : List ℕ) (clock tick next : ℕ) → clock ≤ tick → tick < next → IsNext tasks clock done ts next → (t : ℕ) → has t ts ≡ true → is_due tasks tick done t ≡ is_due tasks clock done t
-due-later tasks done ts clock tick next later before is t h = by_case (is_due tasks clock done t) refl
-  where
-    due : (r a b : ℕ) → a ≤ b → nat_le r a ≡ true → nat_le r b ≡ true
-    due r a b l e = grind (arith, nat_tests, l, e)
+pub follow-clock : (p : Parts) (f : Facts) (tick : ℕ) → tick < TICK_END → CanFollow p f → CanFollow p (record f { kept = with_clock tick f.kept })
+follow-clock p f tick low can = record {
+  read = read-clock MOST_STEPS MOST_STEPS p f.kept (omega arith) can.read tick low;
+  places = places-stay p f.kept (with_clock tick f.kept) f.clusters refl can.places;
+}
 
-    not_due : (r n : ℕ) → n < r → nat_le r n ≡ false
-    not_due r n l = grind (arith, nat_tests, l)
+module _ (p : Parts) (q : ℕ) (f : Facts) (can : CanAct p q f) where
+  abbrev k : Kept
+  k = f.kept
 
-    by_case : (b : Bool) → is_due tasks clock done t ≡ b → is_due tasks tick done t ≡ b
-    by_case true e = due (release_of tasks done t) clock tick later e
-    by_case false e = let l : next ≤ release_of tasks done t = is t h e in not_due (release_of tasks done t) tick (omega arith)
+  pub follow-still : CanFollow p f
+  follow-still = record { read = read-more (MOST_STEPS - 1) MOST_STEPS p k (omega arith) can.read; places = can.places }
 
--- and what is not released then was not released before
-pub next-later : (tasks : List Task) (done ts : List ℕ) (clock tick next : ℕ) → clock ≤ tick → IsNext tasks clock done ts next → IsNext tasks tick done ts next
-next-later tasks done ts clock tick next later is = λ t h e. is t h (earlier (release_of tasks done t) e)
-  where
-    earlier : (r : ℕ) → nat_le r tick ≡ false → nat_le r clock ≡ false
-    earlier r e = grind (arith, nat_tests, later, e)
+  pub follow-arrival : (t : ℕ) → 1 ≤ t → t ≤ length p.tasks → CanFollow p (record { kept = has_arrived t k; clusters = f.clusters })
+  follow-arrival t low high = record {
+    read = read-job (MOST_STEPS - 1) MOST_STEPS p k (omega arith) can.read t _ low high (bounded-arrived (MOST_STEPS - 1) MOST_STEPS k.clock (job_of k t) (omega arith) (can.read.bounded t));
+    places = places-stay p k (has_arrived t k) f.clusters refl can.places;
+  }
 
-module _ (at : Moment) (f : Facts) (tasks : List Task) (tick : ℕ) (can : CanMove at f tasks) where
-  kept : IsKept at.group at.past (state_of at.group.setup.tasks f)
-  kept = subst (λ (ts : List Task). IsKept at.group at.past (state_of ts f)) can.tasks_are can.kept
+  pub follow-operation : (t : ℕ) (op : Op) (reply : Reply) → 1 ≤ t → t ≤ length p.tasks → CanFollow p (record { kept = has_operated p.tasks q t op reply true k; clusters = f.clusters })
+  follow-operation t op reply low high =
+      let job = read-job (MOST_STEPS - 1) MOST_STEPS p k (omega arith) can.read t _ low high (bounded-after_op (MOST_STEPS - 1) MOST_STEPS k.clock (job_of k t) (omega arith) (can.read.bounded t) (task_in p.tasks t) op true) in
+      record {
+        read = read-cpu MOST_STEPS MOST_STEPS p _ (omega arith) job q _;
+        places = places-stay p k (has_operated p.tasks q t op reply true k) f.clusters (length-set k.cpus q _) can.places;
+      }
 
-  of_tasks : (f' : Facts) → IsKept at.group (Clock tick ∷ at.past) (state_of at.group.setup.tasks f') → HasMoved at tick f' tasks
-  of_tasks f' k = subst (λ (ts : List Task). IsKept at.group (Clock tick ∷ at.past) (state_of ts f')) (sym can.tasks_are) k
+-- ---- what accepted acts make of the facts
 
-  pub moved-back : tick ≤ f.clock → HasMoved at tick f tasks
-  moved-back low = of_tasks f (kept-quiet at.group can.played at.past f kept tick f.clock (omega arith) (λ t h. refl))
+pub arrived-facts : (p : Parts) (q : ℕ) (t : TaskNo) (f : Facts) (k : Kept) (row : Task) → k ≡ has_arrived t.0 f.kept → row ≡ task_in p.tasks t.0
+    → record { kept = k; clusters = placed_afresh p k (Some row.cluster.0) f.clusters } ≡ acted p q (acts.Arrive t) replies.Done f
+arrived-facts p q t f k row same is = rw (same, is) refl
 
-  pub moved-before : (next : ℕ) → f.clock < tick → tick < next → IsNext tasks f.clock f.done (numbers_from 1 (length tasks)) next → HasMoved at tick (record f { clock = tick }) tasks
-  moved-before next later before is =
-      let is' : IsNext at.group.setup.tasks f.clock f.done (numbers_from 1 (length at.group.setup.tasks)) next = subst (λ (ts : List Task). IsNext ts f.clock f.done (numbers_from 1 (length ts)) next) can.tasks_are is in
-      of_tasks (record f { clock = tick }) (kept-quiet at.group can.played at.past f kept tick tick (omega arith) (due-later at.group.setup.tasks f.done (numbers_from 1 (length at.group.setup.tasks)) f.clock tick next (omega arith) before is'))
-
-  pub moved-placed : f.clock < tick → HasMoved at tick (relinked (length f.runs) tasks (record f { clock = tick })) tasks
-  moved-placed later =
-      let e : max f.clock tick ≡ tick = omega arith in
-      let k : IsKept at.group (Clock tick ∷ at.past) (state_of at.group.setup.tasks (relinked (length f.runs) at.group.setup.tasks (record f { clock = tick }))) = subst (λ n. IsKept at.group (Clock tick ∷ at.past) (state_of at.group.setup.tasks (relinked (length f.runs) at.group.setup.tasks (record f { clock = n })))) e (kept-moved at.group can.played at.past f kept tick) in
-      subst (λ (ts : List Task). IsKept at.group (Clock tick ∷ at.past) (state_of ts (relinked (length f.runs) ts (record f { clock = tick })))) (sym can.tasks_are) k
+pub operated-facts : (p : Parts) (q t : ℕ) (op : Op) (f : Facts) (k : Kept) (touched : Bool) → (cpu_of f.kept q).runs ≡ Some t
+    → k ≡ has_operated p.tasks q t op replies.Done true f.kept → touched ≡ ends_in p op t f.kept || is_sleep op
+    → record { kept = k; clusters = placed_afresh p k (if touched then Some (home_of p q) else None) f.clusters } ≡ acted p q (acts.Do op) replies.Done f
+operated-facts p q t op f k touched runs same is = rw (runs, same, is) refl

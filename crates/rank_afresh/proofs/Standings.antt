@@ -1,146 +1,151 @@
--- A group that stands at a past: what its moves rest on, and where they lead.
-use Rattle.std.proofs.Common.{◌≡◌, ℕ, zero, suc, ◌+◌, ◌-◌, ◌^◌, ◌<◌, ◌≤◌, Bool, true, List, [], ◌∷◌, length, get_or, refl, sym, ap, ◌∙◌, subst, arith}
-use Rattle.std.specs.Prelude.{Option, None, All, replicate}
-use Rattle.std.proofs.lemmas.List.{length-replicate}
-use Rattle.std.proofs.lemmas.List.Elements.{All-from_get_or}
-use Rattle.rt_base.specs.declared.TaskNo.{TaskNo}
-use Rattle.rt_base.specs.declared.TheConstants.{MOST_STEPS}
-use Rattle.rt_task.specs.declared.Task.{Task}
-use Rattle.rt_task.specs.declared.Step.{Step}
-use Rattle.rt_history.specs.declared.Reply.{Reply}
-use Rattle.rt_rules.specs.Numbers.{has, numbers_from}
-use Rattle.rt_rules.specs.Keys.{Ranked}
+-- A group that stands at a past: its processors, their links, what they run, and moves of the clock.
+use Rattle.std.proofs.Common.{◌≡◌, ℕ, ◌-◌, ◌<◌, max, Bool, true, false, List, ◌∷◌, length, take, refl, sym, ap, ◌∙◌, arith, ltb-true}
+use Rattle.std.specs.Prelude.{All, None, if◌then◌else◌, nat_lt}
+use Rattle.std.proofs.lemmas.List.{length-map}
+use Rattle.rt_base.specs.declared.TheConstants.{MOST_STEPS, TICK_END}
+use Rattle.rt_task.specs.declared.Parts.{Parts}
+use Rattle.rt_rules.specs.Numbers.{has}
 use Rattle.rt_rules.specs.Placing.{at_place, placed}
-use Rattle.rt_model.specs.Group.{Group, no_task, cpus, tasks_of}
-use Rattle.rt_model.specs.Past.{Past, Clock, Acted}
-use Rattle.rt_model.specs.Jobs.{done}
+use Rattle.rt_rules.proofs.RankedByLaws.{ranked_by-same}
+use Rattle.rt_rules.specs.Rankings.{tasks_of}
+use Rattle.rt_model.specs.Group.{Group, cluster_with, clusters, cpus, first_cpu}
+use Rattle.rt_model.specs.Group as groups
+use Rattle.rt_model.specs.Links.{linked, links, runs_of}
+use Rattle.rt_model.specs.Past.{Clock, Event, Past}
+use Rattle.rt_model.specs.Reachable.{clocked}
 use Rattle.rt_model.specs.Runs.{runs}
-use Rattle.rt_model.specs.Links.{linked}
-use Rattle.rt_model.specs.Outcomes.{past_act}
-use Rattle.rt_model.specs.Histories.{after, reply_to}
-use Rattle.rt_model.proofs.Steps.{after-acted, reply_to-lem}
-use Rattle.group_state.specs.Groups.{IsProcessorOf}
-use Rattle.group_state.specs.Moves.{opened}
-use Rattle.group_state.specs.State.{State, IsKept, IsPlayed, CanAct, HasActed, top_tasks}
-use Rattle.group_state.proofs.Plain.{IsPlainTask}
-use Rattle.group_state.proofs.PlainGroup.{IsPlainGroup}
-use Rattle.group_state.proofs.Limits.{plain, task-low, task-high}
-use Rattle.group_state.proofs.Opening.{kept-open}
-use Rattle.group_state.proofs.Replies.{linked-at, runs-at}
-use Rattle.group_state.proofs.Stepping.{inside}
-use Rattle.rank_afresh.specs.Facts.{Facts, IsSmall, CanRank, IsNext, links_of, ready_of, relinked, state_of, unlinked}
-use Rattle.rank_afresh.specs.Moved.{CanMove, Grows}
-use Rattle.rank_afresh.specs.Standing.{Standing, IsAt, IsFit, group_of, ended_in}
-use Rattle.rank_afresh.proofs.Refreshed.{ready-afresh, kept-afresh}
+use Rattle.rt_model.specs.Tops.{top}
+use Rattle.rt_model.proofs.Steps.{links-step}
+use Rattle.rt_plays.specs.Homes.{IsProcessorOf}
+use Rattle.rt_groups.specs.Places.{IsAtHome}
+use Rattle.rt_groups.proofs.GroupPlaces.{processors_are_at_home}
+use Rattle.rank_changes.proofs.SameClusters.{links-stay, runs-clock}
+use Rattle.group_facts.specs.Facts.{CpuFacts}
+use Rattle.group_facts.specs.Kept.{IsKept, Kept, cpu_of, with_clock}
+use Rattle.group_facts.proofs.KeptMoves.{kept_after_clock}
+use Rattle.rank_afresh.specs.Clusters.{CanPlace, ClusterFacts, HasCpu, followed, relinked, runs_in}
+use Rattle.rank_afresh.specs.Facts.{CanFollow, Facts, cluster_at, home_of, link_in}
+use Rattle.rank_afresh.specs.Facts as moves
+use Rattle.rank_afresh.specs.Ranks.{is_candidate, key_in, top_in}
+use Rattle.rank_afresh.specs.Standing.{IsAt, IsClusterOf, IsFit, Standing, group_of}
+use Rattle.rank_afresh.proofs.ClockSteps.{candidate-later}
+use Rattle.rank_afresh.proofs.Counting.{read-clock, read-more}
+use Rattle.rank_afresh.proofs.Fitting.{at-followed, fit-followed, places-of}
+use Rattle.rank_afresh.proofs.ModelWords.{runs-read, top-read}
+use Rattle.rank_afresh.proofs.SetLists.{cluster-inside, cluster-within}
 
--- ---- opening
+-- ---- the links of a cluster after a move
 
-all-zero : (n b : ℕ) → All (λ (k : ℕ). k ≤ b) (replicate n 0)
-all-zero n b = All-from_get_or (λ (k : ℕ). k ≤ b) (replicate n 0) 0 (λ i lt. let z = zeros n i in omega (arith, z))
-  where
-    zeros : (m i : ℕ) → ◌≡◌ {A = ℕ} (get_or (replicate m 0) i 0) 0
-    zeros zero i = refl
-    zeros (suc m) zero = refl
-    zeros (suc m) (suc i) = zeros m i
+-- it was placed afresh
+pub links-placed : (g : Group) (c : ℕ) (e : Event) (past : Past) (x : ClusterFacts) (before k : Kept) → IsClusterOf g before c x → x.links ≡ links g c past
+    → top g c (e ∷ past) ≡ top_in (cpus g c) g.setup k (groups.tasks_of g c) → runs_of g c (e ∷ past) ≡ runs_in k (first_cpu g c) (cpus g c)
+    → (relinked g.setup k x).links ≡ links g c (e ∷ past)
+links-placed g c e past x before k is was tops running =
+    let here : (relinked g.setup k x).links ≡ placed (top_in (cpus g c) g.setup k (groups.tasks_of g c)) (runs_in k (first_cpu g c) (cpus g c)) x.links =
+    rw (is.links_length, is.tasks_are, is.first_is) refl in
+    here ∙ rw (← tops, ← running, was) (sym (links-step g c e past))
 
-module _ (g : Group) (played : IsPlayed g) where
-  abbrev s : IsPlainGroup g
-  s = plain g played
+-- the same tasks are ranked by the same keys
+pub top-same : (m : ℕ) (p : Parts) (k k' : Kept) (ts : List ℕ) → ((t : ℕ) → has t ts ≡ true → is_candidate p k' t ≡ is_candidate p k t)
+    → ((t : ℕ) → has t ts ≡ true → key_in p k' t ≡ key_in p k t) → top_in m p k' ts ≡ top_in m p k ts
+top-same m p k k' ts tests keys =
+    ap (λ rs. take m (tasks_of rs)) (ranked_by-same (key_in p k') (key_in p k) (is_candidate p k') (is_candidate p k) ts tests (λ t h e. keys t h))
 
-  small : All IsSmall g.setup.tasks
-  small = All-from_get_or IsSmall g.setup.tasks no_task (λ i lt. let f : IsPlainTask (get_or g.setup.tasks i no_task) = s.set.tasks_are i lt in record { phase = f.phase_low; period = f.period_low; deadline = f.deadline_low })
+module _ (v : Standing) (room : ℕ) (fit : IsFit (group_of v) v.facts room v.spare) where
+  abbrev g : Group
+  g = group_of v
 
-  pub can_rank : (ns : List ℕ) → length ns ≡ length g.setup.tasks → All (λ (n : ℕ). n ≤ MOST_STEPS) ns → CanRank g.setup.tasks ns
-  can_rank ns e few = record { few = s.set.few_tasks; small = small; same_length = e; few_done = few }
+  abbrev cs : List ClusterFacts
+  cs = v.facts.clusters
 
-  pub can_rank-first : CanRank g.setup.tasks (replicate (length g.setup.tasks) 0)
-  can_rank-first = can_rank (replicate (length g.setup.tasks) 0) (length-replicate _ _) (all-zero (length g.setup.tasks) MOST_STEPS)
+  abbrev k : Kept
+  k = v.facts.kept
 
-  abbrev first_facts : Facts
-  first_facts = relinked (cpus g 0) g.setup.tasks (unlinked (cpus g 0) g.setup.tasks)
+  -- ---- processors
 
-  pub kept-first : IsKept g [] (state_of g.setup.tasks first_facts)
-  kept-first =
-      let S : State = opened (cpus g 0) g.setup.tasks in
-      let k : IsKept g [] S = kept-open g played in
-      let fresh : S.ready ≡ ready_of g.setup.tasks S.clock S.done = ready-afresh g played [] S k in
-      let links : S.links ≡ links_of (cpus g 0) g.setup.tasks (unlinked (cpus g 0) g.setup.tasks) = ap (λ (rs : List Ranked). placed (top_tasks (cpus g 0) rs) (replicate (cpus g 0) None) (replicate (cpus g 0) None)) fresh in
-      subst (λ ls. IsKept g [] (state_of g.setup.tasks (record (unlinked (cpus g 0) g.setup.tasks) { links = ls }))) links (kept-afresh g played [] S k)
+  module _ (q : ℕ) (of : IsProcessorOf g q) where
+    at_home : IsAtHome g q (home_of v.setup q)
+    unfolding cluster_with
+    at_home = processors_are_at_home g q of
 
-  pub fit-first : (next room : ℕ) → room ≤ MOST_STEPS → IsNext g.setup.tasks 0 (replicate (length g.setup.tasks) 0) (numbers_from 1 (length g.setup.tasks)) next → IsFit g first_facts next room
-  fit-first next room limit is = record {
-    played = played;
-    limit = limit;
-    runs_length = length-replicate _ _;
-    can_rank = can_rank-first;
-    few = λ k d lt. let z : get_or (replicate (length g.setup.tasks) 0) k d ≤ 0 = all-zero (length g.setup.tasks) 0 k d lt in omega arith;
-    next_is = is;
-  }
+    pub cluster-is : IsClusterOf g k (home_of v.setup q) (cluster_at cs (home_of v.setup q))
+    cluster-is = fit.clusters_are (home_of v.setup q) at_home.inside
 
--- ---- at a past
+    pub home-there : home_of v.setup q < length cs
+    home-there = let i = at_home.inside in let n = fit.all_clusters in omega (arith, i, n)
 
-module _ (v : Standing) (next : ℕ) (fit : IsFit (group_of v) v.facts next v.spare) where
-  abbrev g' : Group
-  g' = group_of v
+    pub has-cpu : HasCpu (cluster_at cs (home_of v.setup q)) q
+    has-cpu = record {
+      low = let l = at_home.low in omega (arith, l, cluster-is.first_is);
+      high = let h = at_home.high in omega (arith, h, cluster-is.first_is, cluster-is.links_length);
+    }
 
-  abbrev s' : IsPlainGroup g'
-  s' = plain g' fit.played
+    pub cpu-there : q < length k.cpus
+    cpu-there = let w = cluster-within g (home_of v.setup q) at_home.inside in let h = at_home.high in let n = fit.all_cpus in omega (arith, w, h, n)
 
-  pub inside-runs : (q : ℕ) → IsProcessorOf g' q → q < length v.facts.runs
-  inside-runs q h = let i : q < cpus g' 0 = inside g' q fit.played h in omega (arith, fit.runs_length)
+    pub linked-there : (past : Past) → IsAt v past → link_in v.setup q v.facts ≡ linked g q past
+    unfolding linked cluster_with
+    linked-there past at =
+        ap (λ ls. at_place ls (q - (cluster_at cs (home_of v.setup q)).first)) (at.links_are (home_of v.setup q) at_home.cluster_there)
+        ∙ ap (λ n. at_place (links g (home_of v.setup q) past) (q - n)) cluster-is.first_is
 
-  pub can_act : (past : Past) (q : ℕ) (tasks : List Task) → tasks ≡ v.setup.tasks → IsProcessorOf g' q → IsAt v past → CanAct (record { group = g'; past = past }) (state_of tasks v.facts) tasks q
-  can_act past q tasks same h at = record {
-    played = fit.played;
-    few = few;
-    kept = subst (λ (ts : List Task). IsKept g' past (state_of ts v.facts)) (sym same) at.kept;
-    inside = inside g' q fit.played h;
-    tasks_are = same;
-  }
-    where
-      few : (t : ℕ) → has t (tasks_of g' 0) ≡ true → done t past < 2 ^ 21
-      few t there =
-          let e : get_or v.facts.done (t - 1) 0 ≡ done t past = at.kept.done_are t there in
-          let low : 1 ≤ t = task-low g' s' past (state_of v.setup.tasks v.facts) at.kept t there in
-          let high : t ≤ length g'.setup.tasks = task-high g' s' past (state_of v.setup.tasks v.facts) at.kept t there in
-          let count : length v.facts.done ≡ length v.setup.tasks = at.kept.done_length in
-          let b : get_or v.facts.done (t - 1) 0 ≤ MOST_STEPS = fit.can_rank.few_done (t - 1) 0 (omega arith) in
-          omega arith
+    pub runs-there : (past : Past) → IsAt v past → (cpu_of k q).runs ≡ runs q past
+    runs-there past at = ap (λ (x : CpuFacts). x.runs) (at.kept.cpus_are q of)
 
-  pub can_move : (past : Past) (tasks : List Task) → tasks ≡ v.setup.tasks → IsAt v past → CanMove (record { group = g'; past = past }) v.facts tasks
-  can_move past tasks same at = record { played = fit.played; kept = subst (λ (ts : List Task). IsKept g' past (state_of ts v.facts)) (sym same) at.kept; tasks_are = same }
+  -- ---- moves of the clock
 
-  pub linked-there : (past : Past) (q : ℕ) → IsProcessorOf g' q → IsAt v past → linked g' q past ≡ at_place v.facts.links q
-  linked-there past q h at = let same : q - 0 ≡ q = omega arith in linked-at g' s' past (state_of v.setup.tasks v.facts) at.kept q (inside g' q fit.played h) ∙ ap (λ n. at_place v.facts.links n) same
+  pub all-places : All (CanPlace v.setup k) cs
+  all-places = places-of g k cs fit.all_clusters fit.all_cpus fit.clusters_are
 
-  pub runs-there : (past : Past) (q : ℕ) → IsProcessorOf g' q → IsAt v past → runs q past ≡ at_place v.facts.runs q
-  runs-there past q h at = let same : q - 0 ≡ q = omega arith in runs-at g' s' past (state_of v.setup.tasks v.facts) at.kept q (inside g' q fit.played h) ∙ ap (λ n. at_place v.facts.runs n) same
+  pub can_follow : CanFollow v.setup v.facts
+  can_follow = record { read = read-more (MOST_STEPS - v.spare) MOST_STEPS v.setup k (omega arith) fit.read; places = all-places }
 
-  -- ---- an act
+  module _ (tick : ℕ) where
+    abbrev k' : Kept
+    k' = with_clock tick k
 
-  pub reply-is : (past : Past) (step : Step) (reply : Reply) (tasks : List Task) (f : Facts) → HasActed (record { group = g'; past = Clock step.tick.0 ∷ past }) step.cpu.0 step.act reply (state_of tasks f) → reply ≡ reply_to g' step past
-  reply-is past step reply tasks f acted = acted.reply_is ∙ sym (reply_to-lem g' step past)
+    abbrev f' : Facts
+    f' = moves.clocked v.setup tick v.facts
 
-  pub at-after : (past : Past) (step : Step) (reply : Reply) (tasks : List Task) (f : Facts) (spare : ℕ) (ended : Option (TaskNo × Bool)) → tasks ≡ v.setup.tasks
-      → ended ≡ ended_in g' (past_act g' step.cpu.0 step.act (Clock step.tick.0 ∷ past)) (Clock step.tick.0 ∷ past)
-      → HasActed (record { group = g'; past = Clock step.tick.0 ∷ past }) step.cpu.0 step.act reply (state_of tasks f) → IsAt (record v { facts = f; spare = spare; ended = ended }) (after g' step past)
-  at-after past step reply tasks f spare ended same e acted = record {
-    kept = rw after-acted (subst (λ (ts : List Task). IsKept g' (Acted (past_act g' step.cpu.0 step.act (Clock step.tick.0 ∷ past)) ∷ Clock step.tick.0 ∷ past) (state_of ts f)) same acted.kept);
-    ended_is = rw after-acted e;
-  }
+    clusters-follow : (c : ℕ) → c < length v.setup.clusters → cluster_at f'.clusters c ≡ followed v.setup k' (cluster_at cs c)
+    clusters-follow c inside = at-followed v.setup k' cs c (let n = fit.all_clusters in omega (arith, n, inside))
 
-  pub fit-after : (past : Past) (step : Step) (reply : Reply) (tasks : List Task) (f : Facts) (next' : ℕ) → 0 < v.spare → tasks ≡ v.setup.tasks → HasActed (record { group = g'; past = Clock step.tick.0 ∷ past }) step.cpu.0 step.act reply (state_of tasks f)
-      → Grows v.facts.done f.done → length f.runs ≡ length v.facts.runs → IsNext tasks f.clock f.done (numbers_from 1 (length tasks)) next' → IsFit g' f next' (v.spare - 1)
-  fit-after past step reply tasks f next' room same acted grows runs_same is =
-      let most : ℕ = MOST_STEPS - v.spare in
-      let before : All (λ (n : ℕ). n ≤ most) v.facts.done = λ k d lt. (let h : get_or v.facts.done k d + v.spare ≤ MOST_STEPS = fit.few k d lt in omega arith) in
-      let grown : All (λ (n : ℕ). n ≤ most + 1) f.done = grows most before in
-      let limit : v.spare ≤ MOST_STEPS = fit.limit in
-      record {
-        played = fit.played;
-        limit = omega arith;
-        runs_length = runs_same ∙ fit.runs_length;
-        can_rank = can_rank g' fit.played f.done acted.kept.done_length (λ k d lt. let h : get_or f.done k d ≤ most + 1 = grown k d lt in omega arith);
-        few = λ k d lt. (let h : get_or f.done k d ≤ most + 1 = grown k d lt in omega arith);
-        next_is = subst (λ (ts : List Task). IsNext ts f.clock f.done (numbers_from 1 (length ts)) next') same is;
+    pub fit-clock : tick < TICK_END → IsFit g f' room v.spare
+    fit-clock low = record {
+      valid = fit.valid;
+      built = fit.built;
+      limit = fit.limit;
+      room_left = fit.room_left;
+      read = read-clock (MOST_STEPS - v.spare) (MOST_STEPS - v.spare) v.setup k (omega arith) fit.read tick low;
+      all_cpus = fit.all_cpus;
+      all_clusters = length-map cs (followed v.setup k') ∙ fit.all_clusters;
+      clusters_are = λ c inside. rw (clusters-follow c inside) (fit-followed g c (cluster_at cs c) k tick (fit.clusters_are c inside));
+    }
+
+    module _ (past : Past) (at : IsAt v past) where
+      kept' : IsKept g (Clock tick ∷ past) k'
+      kept' = kept_after_clock g past fit.valid at.reachable tick k at.kept
+
+      links-clock : (c : ℕ) → has c (clusters g) ≡ true → c < length v.setup.clusters → (b : Bool) → nat_lt k'.clock (cluster_at cs c).next ≡ b
+          → (if b then cluster_at cs c else relinked v.setup k' (cluster_at cs c)).links ≡ links g c (Clock tick ∷ past)
+      links-clock c there inside true e =
+          let is = fit.clusters_are c inside in
+          let next : max k.clock tick < (cluster_at cs c).next = ltb-true _ _ e in
+          let tops : top g c (Clock tick ∷ past) ≡ top g c past =
+          top-read g fit.built (Clock tick ∷ past) k' kept' c
+          ∙ top-same (cpus g c) v.setup k k' (groups.tasks_of g c) (λ t h. candidate-later v.setup k tick (cluster_at cs c).next next t (λ n f. is.next_is t n (rw is.tasks_are h) f)) (λ t h. refl)
+          ∙ sym (top-read g fit.built past k at.kept c) in
+          at.links_are c there ∙ sym (links-stay g c (Clock tick) past at.reachable tops (runs-clock g c tick past))
+      links-clock c there inside false e =
+          links-placed g c (Clock tick) past (cluster_at cs c) k k' (fit.clusters_are c inside) (at.links_are c there)
+          (top-read g fit.built (Clock tick ∷ past) k' kept' c) (runs-read g fit.built (Clock tick ∷ past) k' kept' c there)
+
+      pub at-clock : IsAt (record v { facts = f'; ended = None }) (Clock tick ∷ past)
+      at-clock = record {
+        reachable = clocked tick at.reachable;
+        kept = kept';
+        links_are = λ c there.
+            let inside : c < length v.setup.clusters = cluster-inside g c there in
+            rw (clusters-follow c inside) (links-clock c there inside (nat_lt k'.clock (cluster_at cs c).next) refl);
+        ended_is = refl;
       }

@@ -1,14 +1,21 @@
 -- One group at a past, as contracts see it.
-use Rattle.std.specs.Prelude.{◌≡◌, ℕ, ◌+◌, ◌≤◌, Bool, nat_lt, [], ◌∷◌, All, length, Option, None, option_map}
+use Rattle.std.specs.Prelude.{◌≡◌, ℕ, ◌-◌, ◌<◌, ◌≤◌, Bool, true, nat_lt, [], ◌∷◌, length, Option, None, Some, option_map}
 use Rattle.rt_base.specs.declared.TaskNo.{TaskNo}
 use Rattle.rt_base.specs.declared.TheConstants.{MOST_STEPS}
+use Rattle.rt_task.specs.Validity.{IsValid}
 use Rattle.rt_task.specs.declared.Parts.{Parts}
-use Rattle.rt_rules.specs.Numbers.{numbers_from}
-use Rattle.rt_model.specs.Group.{Group, cpus}
+use Rattle.rt_rules.specs.Numbers.{has}
+use Rattle.rt_model.specs.Group.{Group, clusters, cpus, first_cpu, tasks_of}
+use Rattle.rt_model.specs.Links.{links}
 use Rattle.rt_model.specs.Past.{Past, PastAct, Clock, Acted, now}
+use Rattle.rt_model.specs.Reachable.{IsReachable}
 use Rattle.rt_model.specs.Releases.{deadline}
-use Rattle.group_state.specs.State.{IsKept, IsPlayed}
-use Rattle.rank_afresh.specs.Facts.{Facts, CanRank, IsNext, state_of}
+use Rattle.rt_plays.specs.Room.{processor_count}
+use Rattle.rt_groups.specs.Built.{is_built}
+use Rattle.group_facts.specs.Kept.{IsKept, Kept}
+use Rattle.rank_afresh.specs.Clusters.{ClusterFacts}
+use Rattle.rank_afresh.specs.Facts.{Facts, cluster_at}
+use Rattle.rank_afresh.specs.Ranks.{CanRead, timer_in}
 
 -- the task whose job an act ended, and whether the clock was past that job's deadline
 abbrev pub ended_in : Group → PastAct → Past → Option (TaskNo × Bool)
@@ -33,7 +40,9 @@ group_of v = record { setup = v.setup; number = v.group }
 
 -- it stands at this past: each fact is what the definitions give there
 pub record IsAt (v : Standing) (past : Past) : Type 0 where
-  pub kept : IsKept (group_of v) past (state_of v.setup.tasks v.facts)
+  pub reachable : IsReachable (group_of v) past
+  pub kept : IsKept (group_of v) past v.facts.kept
+  pub links_are : (c : ℕ) → has c (clusters (group_of v)) ≡ true → (cluster_at v.facts.clusters c).links ≡ links (group_of v) c past
   pub ended_is : v.ended ≡ ended_last (group_of v) past
 
 -- another value of the same group
@@ -41,11 +50,20 @@ pub record IsOfSame (v w : Standing) : Type 0 where
   pub setup_is : w.setup ≡ v.setup
   pub group_is : w.group ≡ v.group
 
--- what holds at all times: a group that is played, in which no task ends more jobs than there was room for acts
-pub record IsFit (g : Group) (f : Facts) (next spare : ℕ) : Type 0 where
-  pub played : IsPlayed g
+-- these are the facts of a cluster, and none of its tasks waits for a moment before the next one
+pub record IsClusterOf (g : Group) (k : Kept) (c : ℕ) (x : ClusterFacts) : Type 0 where
+  pub first_is : x.first ≡ first_cpu g c
+  pub tasks_are : x.tasks ≡ tasks_of g c
+  pub links_length : length x.links ≡ cpus g c
+  pub next_is : (t n : ℕ) → has t x.tasks ≡ true → timer_in g.setup k t ≡ Some n → x.next ≤ n
+
+-- what holds at all times: a group that is played, of which nothing is counted more often than there were acts
+pub record IsFit (g : Group) (f : Facts) (room spare : ℕ) : Type 0 where
+  pub valid : IsValid g.setup
+  pub built : is_built g.setup ≡ true
   pub limit : spare ≤ MOST_STEPS
-  pub runs_length : length f.runs ≡ cpus g 0
-  pub can_rank : CanRank g.setup.tasks f.done
-  pub few : All (λ (n : ℕ). n + spare ≤ MOST_STEPS) f.done
-  pub next_is : IsNext g.setup.tasks f.clock f.done (numbers_from 1 (length g.setup.tasks)) next
+  pub room_left : spare ≤ room
+  pub read : CanRead (MOST_STEPS - spare) g.setup f.kept
+  pub all_cpus : length f.kept.cpus ≡ processor_count g.setup
+  pub all_clusters : length f.clusters ≡ length g.setup.clusters
+  pub clusters_are : (c : ℕ) → c < length g.setup.clusters → IsClusterOf g f.kept c (cluster_at f.clusters c)

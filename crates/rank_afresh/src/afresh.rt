@@ -1,14 +1,15 @@
 //! One group whose moves are played from plain facts.
-ghost use Rattle.std.specs.Prelude.{◌≡◌, ◌+◌, ◌<◌, ◌≤◌, ◌∷◌, [], IfOk, None, true};
+ghost use Rattle.std.specs.Prelude.{◌≡◌, ◌+◌, ◌<◌, ◌≤◌, ◌∷◌, [], IfOk, true};
 ghost use Rattle.rt_base.specs.TaskNos.{number_of_task};
-ghost use Rattle.rt_base.specs.declared.TheConstants.{MOST_STEPS};
+ghost use Rattle.rt_base.specs.declared.TheConstants.{MOST_STEPS, TICK_END};
 ghost use Rattle.rt_model.specs.Past.{Past, Clock};
 ghost use Rattle.rt_model.specs.Runs.{runs};
 ghost use Rattle.rt_model.specs.Links.{linked};
 ghost use Rattle.rt_model.specs.Histories.{after, reply_to};
 ghost use Rattle.rt_model.specs.Steps.{IsStepOf};
-ghost use Rattle.group_state.specs.Built.{is_ranked, is_ranked_act};
-ghost use Rattle.group_state.specs.Groups.{IsGroupOf, IsProcessorOf};
+ghost use Rattle.rt_plays.specs.Homes.{IsProcessorOf};
+ghost use Rattle.rt_groups.specs.Built.{is_built};
+ghost use Rattle.rt_groups.specs.Groups.{IsGroupOf};
 ghost use Rattle.rank_afresh.specs.Standing.{IsAt, IsOfSame, ended_last, group_of};
 
 use crate::facts::Facts;
@@ -18,8 +19,8 @@ use rt_task::{Setup, Step};
 use std::alloc::Global;
 use std::marker::Model;
 
-/// One group of a setup, played from plain facts of its tasks and processors: all tasks are ranked afresh at each move
-/// that changes any of them.
+/// One group of a setup, played from plain facts of its tasks and processors: the tasks of a cluster are ranked afresh at
+/// each move that changes any of them.
 ///
 /// A step is two moves: `clock` and then `act`. Contracts say what each gives at every past that the value stands at:
 /// the replies, links and runs of the definitions. After `open` no call takes memory.
@@ -46,7 +47,7 @@ impl Model for Afresh {
     } };
 
     ghost invariant = { λ a.
-        IsFit (record { setup = a.setup; number = a.group.0 }) a.facts.facts a.facts.next a.spare };
+        IsFit (record { setup = a.setup; number = a.group.0 }) a.facts.facts a.facts.room a.spare };
 }
 
 impl Afresh {
@@ -54,16 +55,14 @@ impl Afresh {
     pub fn open(alloc: Global, setup: &Setup, group: GroupNo, room: u32) -> Result<Afresh, NoMemory>
         requires group { IsGroupOf setup.now group.0 }
         requires room { room ≤ MOST_STEPS }
-        requires built { is_ranked setup.now ≡ true }
+        requires built { is_built setup.now ≡ true }
         ensures setup { IfOk result (λ a. a.setup ≡ setup.now) }
         ensures group { IfOk result (λ a. a.group ≡ group.0) }
         ensures room { IfOk result (λ a. a.spare ≡ room) }
         ensures opened { IfOk result (λ a. IsAt a []) }
     {
         let setup = setup.share()?;
-        let parts = setup.parts();
-        let cpus = parts.clusters.as_slice()[0].cpus;
-        let facts = Facts::open(alloc, parts.tasks.as_slice(), cpus)?;
+        let facts = Facts::open(alloc, setup.parts(), group, room)?;
         Ok(Afresh {
             setup,
             group,
@@ -75,12 +74,12 @@ impl Afresh {
 
     /// Moves the clock to the tick, if that is later: the first move of a step.
     pub fn clock(&mut self, tick: Tick)
+        requires { tick.0 < TICK_END }
         ensures moved { (past : Past) → IsAt self.old past → IsAt self.new (Clock tick.0 ∷ past) }
         ensures same { IsOfSame self.old self.new }
         ensures room { self.new.spare ≡ self.old.spare }
     {
-        let tasks = self.setup.parts().tasks.as_slice();
-        self.facts.move_clock(tasks, tick.0);
+        self.facts.move_clock(self.setup.parts(), tick);
         self.ended = None;
     }
 
@@ -88,7 +87,6 @@ impl Afresh {
     pub fn act(&mut self, step: Step) -> Reply
         requires room { 0 < self.old.spare }
         requires step { IsStepOf (group_of self.old) step }
-        requires act { is_ranked_act step.act ≡ true }
         requires clocked { (past : Past) × IsAt self.old (Clock step.tick.0 ∷ past) }
         ensures reply { (past : Past) → IsAt self.old (Clock step.tick.0 ∷ past)
             → result ≡ reply_to (group_of self.old) step past }
@@ -97,10 +95,11 @@ impl Afresh {
         ensures same { IsOfSame self.old self.new }
         ensures room { self.new.spare + 1 ≡ self.old.spare }
     {
-        let tasks = self.setup.parts().tasks.as_slice();
-        self.ended = self.facts.ending(tasks, step.cpu, step.act);
         self.spare -= 1;
-        self.facts.act(tasks, step.cpu, step.act)
+        let parts = self.setup.parts();
+        let answer = self.facts.act(parts, step.cpu, step.act);
+        self.ended = answer.ended;
+        answer.reply
     }
 
     /// What the processor is linked to.
@@ -109,7 +108,7 @@ impl Afresh {
         ensures { (past : Past) → IsAt self.now past
             → number_of_task result ≡ linked (group_of self.now) cpu.0 past }
     {
-        self.facts.linked(cpu)
+        self.facts.linked(self.setup.parts(), cpu)
     }
 
     /// What the processor runs.

@@ -1,12 +1,12 @@
-//! One group played from plain facts: the tasks are ranked afresh at each move that changes any of them.
+//! One group played from plain facts: the tasks of a cluster are ranked afresh at each move that changes any of them.
 #![tactic(auto)]
 
 mod afresh;
+mod cluster;
 mod facts;
 mod placing;
-mod ranked;
 mod ranks;
 mod room;
+mod rows;
 
 pub use afresh::Afresh;
-pub use ranked::is_ranked;

@@ -8,7 +8,7 @@ use Rattle.rt_task.specs.declared.bad_set.SetKind.TheVariants.{NotTrace}
 use Rattle.rt_task.specs.declared.bad_set.Part.TheVariants.{Line}
 use Rattle.rt_task.specs.Refusals.{bad}
 use Rattle.set_read.specs.Sets.{set}
-use Rattle.group_state.specs.Built.{is_ranked}
+use Rattle.rt_groups.specs.Built.{is_built}
 use Rattle.trace_read.specs.Reads.{IsRefused}
 use Rattle.trace_read.specs.declared.fault.TraceFault.TheVariants as faults
 use Rattle.trace_laws.specs.ValidTexts.{IsValidText}
@@ -49,7 +49,7 @@ says-unrefused bytes p b says (inr (inr (inr other))) = unbuilt other.1
         let mine : set un.set_text ≡ Ok p = ap set (sym same) ∙ says.set_is in
         let other : set un.set_text ≡ Ok un.setup = un.set_is in
         let one : p ≡ un.setup = cc in
-        let wrong : true ≡ false = sym says.built ∙ ap is_ranked one ∙ un.unbuilt in
+        let wrong : true ≡ false = sym says.built ∙ ap is_built one ∙ un.unbuilt in
         cc
 
 -- ---- a trace that can be checked

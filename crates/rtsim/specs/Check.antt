@@ -9,7 +9,7 @@ use Rattle.rt_task.specs.Refusals.{bad}
 use Rattle.rt_fault.specs.Held.{Extends, ExtendsByPrefix}
 use Rattle.rt_fault.specs.Reading.{TakesAll}
 use Rattle.set_read.specs.Sets.{set}
-use Rattle.group_state.specs.Built.{is_ranked}
+use Rattle.rt_groups.specs.Built.{is_built}
 use Rattle.trace_read.specs.Reads.{HasHead, HasBadSet, LacksFirstLine, LacksSetLine}
 use Rattle.trace_laws.specs.ValidTexts.{IsValidText}
 use Rattle.trace_check.specs.declared.verdict.Verdict.{Verdict}
@@ -17,13 +17,13 @@ use Rattle.trace_check.specs.declared.verdict.Verdict.TheVariants.{Valid, Invali
 use Rattle.trace_check.specs.Verdicts.{IsVerdict}
 use Rattle.rtsim.specs.Ends.{Reading, Writing}
 
--- the second line of the text says this set, which is checked so far: the slow ranker plays it
+-- the second line of the text says this set, which is played so far
 pub record SaysSet (bytes : List ℕ) (p : Parts) : Type 0 where
   pub set_text : List ℕ
   pub rest : List ℕ
   pub head : HasHead bytes set_text rest
   pub set_is : set set_text ≡ Ok p
-  pub built : is_ranked p ≡ true
+  pub built : is_built p ≡ true
 
 -- what was read to its end is within the limit, and says a set
 pub record WasTrace (source : Reading) (bytes : List ℕ) (p : Parts) : Type 0 where
@@ -31,14 +31,14 @@ pub record WasTrace (source : Reading) (bytes : List ℕ) (p : Parts) : Type 0 w
   pub within : length bytes ≤ MOST_TRACE_BYTES
   pub says : SaysSet bytes p
 
--- why a text is refused: its first line, its second, the set that this says, or that this set is not checked so far
+-- why a text is refused: its first line, its second, the set that this says, or that this set is not played so far
 pub record SaysUnbuilt (bytes : List ℕ) : Type 0 where
   pub set_text : List ℕ
   pub rest : List ℕ
   pub setup : Parts
   pub head : HasHead bytes set_text rest
   pub set_is : set set_text ≡ Ok setup
-  pub unbuilt : is_ranked setup ≡ false
+  pub unbuilt : is_built setup ≡ false
 
 abbrev pub TraceIsRefused : List ℕ → BadSet → Type 0
 TraceIsRefused bytes b =

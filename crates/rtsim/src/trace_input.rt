@@ -8,14 +8,14 @@ ghost use Rattle.rtsim.specs.Check.{WasTrace, WasNoTrace};
 ghost use Rattle.rtsim.specs.Stopped.{EndsReading};
 
 use crate::refusal::{refused, unbuilt};
-use rank_afresh::is_ranked;
+use rt_groups::is_built;
 use rt_base::MOST_TRACE_BYTES;
 use rt_fault::{Source, Status, read_all};
 use rt_task::{Part, SetKind};
 use std::alloc::Global;
 use trace_read::{Trace, TraceFault, read_trace};
 
-/// Reads a trace to its end: one whose set is valid and is one that is checked so far.
+/// Reads a trace to its end: one whose set is valid and is one that is played so far.
 pub(crate) fn read_trace_input<S: Source>(
     alloc: Global,
     src: &mut S,
@@ -36,7 +36,7 @@ pub(crate) fn read_trace_input<S: Source>(
         Err(TraceFault::BadSet(bad)) => return Err(Status::BadInput(bad)),
         Err(TraceFault::NoMemory) => return Err(Status::NoMemory),
     };
-    if !is_ranked(&trace.setup) {
+    if !is_built(&trace.setup) {
         return Err(unbuilt());
     }
     Ok((bytes, trace))

@@ -1,17 +1,23 @@
-use Rattle.std.proofs.Common.{◌≡◌, List, refl, sym, ap, ◌∙◌, subst}
-use Rattle.rt_task.specs.declared.Task.{Task}
+use Rattle.std.proofs.Common.{◌≡◌, ◌∷◌, ap, ◌∙◌, subst, sym}
+use Rattle.std.specs.Prelude.{None}
 use Rattle.rt_task.specs.declared.Parts.{Parts}
-use Rattle.group_state.specs.State.{Moment}
-use Rattle.rank_afresh.specs.Moved.{HasMoved}
+use Rattle.rt_model.specs.Past.{Clock}
 use Rattle.rank_afresh.specs.contracts.afresh.Afresh.{the_view}
-use Rattle.rank_afresh.specs.Standing.{Standing, IsAt, group_of}
-use Rattle.rank_afresh.proofs.Standings.{can_move}
+use Rattle.rank_afresh.specs.Facts.{CanFollow, Facts, WithRoom, clocked}
+use Rattle.rank_afresh.specs.Standing.{IsAt, Standing}
+use Rattle.rank_afresh.proofs.Standings.{at-clock, can_follow, fit-clock}
 use Rattle.rank_afresh.proofs.afresh.Afresh.clock.Goals as goal
+
+pub move_clock-requires-clause-follow : goal.move_clock-requires-clause-follow
+move_clock-requires-clause-follow c = subst (λ (p : Parts). CanFollow p c.self.inside.facts.facts) (sym c.parts.ensures.parts) (can_follow (the_view c.self.inside) _ c.self.invariant)
+
+pub invariant_of-self : goal.invariant_of-self
+invariant_of-self c =
+    let same : c.move_clock.new.self ≡ record c.self.inside.facts { facts = clocked c.self.inside.setup c.args.tick.0 c.self.inside.facts.facts } = c.move_clock.ensures ∙ ap (λ (p : Parts). let w : WithRoom = record c.self.inside.facts { facts = clocked p c.args.tick.0 c.self.inside.facts.facts } in w) c.parts.ensures.parts in
+    rw same (fit-clock (the_view c.self.inside) c.self.inside.facts.room c.self.invariant c.args.tick.0 c.requires)
 
 pub returns-clause-moved : goal.returns-clause-moved
 returns-clause-moved c = λ past at.
-    let same : c.as_slice-tasks.result.now ≡ c.self.inside.setup.tasks = c.as_slice-tasks.ensures ∙ ap (λ (p : Parts). p.tasks) c.parts.ensures.parts in
-    let at' = subst (λ (v : Standing). IsAt v past) (sym c.self.view_is) at in
-    let at_past : Moment = record { group = group_of (the_view c.self.inside); past = past } in
-    let moved = c.move_clock.ensures.moved at_past (can_move (the_view c.self.inside) _ c.self.invariant past _ same at') in
-    record { kept = subst (λ (ts : List Task). HasMoved at_past c.args.tick.0 c.move_clock.new.self.facts ts) same moved; ended_is = refl }
+    let same : c.move_clock.new.self.facts ≡ clocked c.self.inside.setup c.args.tick.0 c.self.inside.facts.facts = ap (λ (w : WithRoom). w.facts) c.move_clock.ensures ∙ ap (λ (p : Parts). clocked p c.args.tick.0 c.self.inside.facts.facts) c.parts.ensures.parts in
+    let here = subst (λ (v : Standing). IsAt v past) (sym c.self.view_is) at in
+    subst (λ (f : Facts). IsAt (record (the_view c.self.inside) { facts = f; ended = None }) (Clock c.args.tick.0 ∷ past)) (sym same) (at-clock (the_view c.self.inside) _ c.self.invariant c.args.tick.0 past here)

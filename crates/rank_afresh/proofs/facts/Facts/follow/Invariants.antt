@@ -1,0 +1,11 @@
+use Rattle.std.proofs.Common.{◌≡◌, ◌++◌, drop, map, take, vec_len}
+use Rattle.rank_afresh.specs.Clusters.{followed}
+use Rattle.rank_afresh.proofs.facts.Facts.follow.Given as goal
+
+-- the first c clusters have followed
+abbrev pub invariant-loop-c : goal.invariant-loop-c
+invariant-loop-c l = record {
+  jobs : l.self-inside.jobs ≡ l.initial.self-inside.jobs;
+  count : vec_len l.self-inside.clusters ≡ vec_len l.initial.self-inside.clusters;
+  so_far : l.self-inside.clusters.items ≡ map (followed l.parts l.initial.self-inside.jobs.kept) (take l.c l.initial.self-inside.clusters.items) ++ drop l.c l.initial.self-inside.clusters.items;
+}
