@@ -1,20 +1,16 @@
 -- The state after an act, before the tasks that it touched are looked at.
-use Rattle.std.proofs.Common.{◌≡◌, ℕ, ◌+◌, ◌<◌, ◌≤◌, Bool, true, false, List, [], ◌∷◌, refl, sym, ap, ◌∙◌, subst, arith}
-use Rattle.std.specs.Prelude.{Option, Some, None}
+use Rattle.std.proofs.Common.{◌≡◌, ℕ, ◌<◌, true, false, List, [], refl, sym, ap, ◌∙◌, subst, arith}
+use Rattle.std.specs.Prelude.{Some}
 use Rattle.rt_base.specs.declared.TheConstants.{MOST_STEPS, TICK_END}
 use Rattle.rt_task.specs.declared.Act.{Act}
 use Rattle.rt_task.specs.declared.Act.TheVariants as acts
-use Rattle.rt_task.specs.declared.Op.{Op}
 use Rattle.rt_task.specs.declared.Op.TheVariants as ops
-use Rattle.rt_task.specs.declared.Task.{Task}
 use Rattle.rt_rules.specs.Numbers.{has, is_empty}
-use Rattle.rt_rules.specs.SemState.{Neither}
 use Rattle.rt_model.specs.Answers.{answer}
-use Rattle.rt_model.specs.Group.{Group, clusters, sems, task, tasks}
-use Rattle.rt_model.specs.Holders.{holds}
+use Rattle.rt_model.specs.Group.{Group, clusters, task, tasks}
 use Rattle.rt_model.specs.Outcomes.{past_act}
-use Rattle.rt_model.specs.Past.{Acted, Past, accepted, entries_in, now}
-use Rattle.rt_model.specs.Reachable.{IsReachable, acted}
+use Rattle.rt_model.specs.Past.{Acted, Past, entries_in, now}
+use Rattle.rt_model.specs.Reachable.{acted}
 use Rattle.rt_model.specs.Runs.{runs}
 use Rattle.rt_model.specs.Steps.{IsActOf}
 use Rattle.rt_plays.specs.Homes.{IsProcessorOf}
@@ -22,14 +18,12 @@ use Rattle.rt_groups.proofs.NoSems.{holds-nothing}
 use Rattle.rt_groups.proofs.RunsAfter.{runs_of-still}
 use Rattle.rank_changes.specs.Touched.{arriving}
 use Rattle.group_facts.specs.Bounds.{SleepFits}
-use Rattle.group_facts.specs.Facts.{JobFacts, job_facts}
+use Rattle.group_facts.specs.Facts.{job_facts}
 use Rattle.group_facts.specs.FactMoves.{AllStay, with_act}
 use Rattle.group_facts.specs.Kept.{HoldsNone, IsKept, IsOfGroup, has_acted}
-use Rattle.group_facts.specs.Moves.{op_done}
-use Rattle.group_facts.specs.Timers.{TimersAreKept, is_sleep, renewed, timer, timer_at}
-use Rattle.group_facts.specs.Words.{deadline_of, is_ready, key_of, release_of}
+use Rattle.group_facts.specs.Timers.{timer, timer_at}
+use Rattle.group_facts.specs.Words.{is_ready, key_of}
 use Rattle.group_facts.proofs.KeptMoves.{kept_after_act}
-use Rattle.group_facts.proofs.TimerMoves.{release-op, timer_stays, wakes-op}
 use Rattle.group_facts.proofs.TimerSets.{timers_are_renewed}
 use Rattle.group_engine.specs.declared.state.GroupState.{GroupState}
 use Rattle.group_engine.specs.Moments.{CanAct, IsPlayed, Moment}

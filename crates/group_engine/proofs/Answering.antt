@@ -1,5 +1,5 @@
 -- Each reply is read off what is kept, where there are neither semaphores nor reservations.
-use Rattle.std.proofs.Common.{◌≡◌, ◌⊎◌, ℕ, Bool, true, false, [], inl, inr, refl, sym, ap, ◌∙◌, subst}
+use Rattle.std.proofs.Common.{◌≡◌, ◌⊎◌, ℕ, Bool, true, false, [], inl, inr, refl, sym, ap, subst}
 use Rattle.std.specs.Prelude.{Option, None, Some, if◌then◌else◌}
 use Rattle.rt_task.specs.declared.Act.{Act}
 use Rattle.rt_task.specs.declared.Act.TheVariants as acts
@@ -11,15 +11,12 @@ use Rattle.rt_task.specs.declared.PluginKind.{PluginKind}
 use Rattle.rt_task.specs.declared.PluginKind.TheVariants as plugins
 use Rattle.rt_task.specs.declared.Task.{Task}
 use Rattle.rt_task.specs.RuleWords.{is_p_res}
-use Rattle.rt_history.specs.declared.Reply.{Reply}
 use Rattle.rt_history.specs.declared.Reply.TheVariants as replies
 use Rattle.rt_rules.specs.Numbers.{has, same}
-use Rattle.rt_model.specs.Answers.{answer, is_granted}
-use Rattle.rt_model.specs.Group.{Group, protocol, sems}
-use Rattle.rt_model.specs.Holders.{holder, last_granted}
+use Rattle.rt_model.specs.Answers.{answer}
+use Rattle.rt_model.specs.Group.{Group, sems}
 use Rattle.rt_model.specs.Links.{linked}
 use Rattle.rt_model.specs.Past.{Past, accepted}
-use Rattle.rt_model.specs.Runs.{runs}
 use Rattle.rt_model.specs.Steps.{IsActOf}
 use Rattle.rt_groups.proofs.NoSems.{holds-nothing}
 use Rattle.group_facts.specs.Facts.{JobFacts}

@@ -1,6 +1,6 @@
 -- The state after an arrival.
-use Rattle.std.proofs.Common.{◌≡◌, ℕ, Bool, true, false, not, [], ◌∷◌, ◌||◌, eqb-true, refl, sym, ap, ◌∙◌, subst}
-use Rattle.std.specs.Prelude.{◌==◌, None, Some}
+use Rattle.std.proofs.Common.{◌≡◌, ℕ, Bool, true, false, [], ◌∷◌, ◌||◌, eqb-true, refl, sym, ap, ◌∙◌, subst}
+use Rattle.std.specs.Prelude.{◌==◌}
 use Rattle.rt_base.specs.declared.TaskNo.{TaskNo}
 use Rattle.rt_task.specs.declared.Act.TheVariants as acts
 use Rattle.rt_history.specs.declared.Reply.TheVariants as replies
@@ -8,13 +8,11 @@ use Rattle.rt_rules.specs.Numbers.{has}
 use Rattle.rt_model.specs.Answers.{answer}
 use Rattle.rt_model.specs.Group.{Group, task, tasks}
 use Rattle.rt_model.specs.Outcomes.{past_act}
-use Rattle.rt_model.specs.Past.{Acted, Past, accepted, now}
+use Rattle.rt_model.specs.Past.{Acted, Past, accepted}
 use Rattle.rt_model.specs.Runs.{runs}
-use Rattle.rt_rules.proofs.MemberLaws.{equal_self}
-use Rattle.group_facts.specs.Facts.{CpuFacts, cpu_facts}
+use Rattle.group_facts.specs.Facts.{CpuFacts}
 use Rattle.group_facts.specs.FactMoves.{IsArrived, with_act}
 use Rattle.group_facts.specs.Kept.{IsKept, has_acted, has_arrived, job_of}
-use Rattle.group_facts.specs.Moves.{cpu_after}
 use Rattle.group_facts.specs.Replies as told
 use Rattle.group_facts.proofs.CpuSteps.{cpu_is_counted}
 use Rattle.group_facts.proofs.JobSteps.{arrival_is_counted}

@@ -1,11 +1,10 @@
 -- What looking at a task rests on holds of each task of the group.
-use Rattle.std.proofs.Common.{◌≡◌, ℕ, suc, ◌+◌, ◌-◌, ◌<◌, ◌≤◌, true, false, ◌∷◌, length, refl, sym, ap, ◌∙◌, subst, arith}
-use Rattle.std.specs.Prelude.{Some}
-use Rattle.rt_base.specs.declared.TheConstants.{MOST_STEPS, TICK_END}
+use Rattle.std.proofs.Common.{◌≡◌, ℕ, ◌+◌, ◌-◌, ◌<◌, ◌≤◌, true, length, refl, sym, subst, arith}
+use Rattle.rt_base.specs.declared.TheConstants.{MOST_STEPS}
 use Rattle.rt_rules.specs.Numbers.{has}
-use Rattle.rt_model.specs.Group.{Group, clusters, home, no_task, task, tasks}
+use Rattle.rt_model.specs.Group.{Group, home, task, tasks}
 use Rattle.rt_model.specs.Past.{Past, entries_in, now}
-use Rattle.rt_groups.specs.Limits.{IsInLimits, IsTaskInLimits}
+use Rattle.rt_groups.specs.Limits.{IsTaskInLimits}
 use Rattle.rt_groups.specs.Places.{IsHomeTask}
 use Rattle.rt_groups.proofs.GroupPlaces.{tasks_are_at_home}
 use Rattle.rt_groups.proofs.SetLimits.{sets_are_in_limits}

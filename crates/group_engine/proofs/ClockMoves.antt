@@ -1,11 +1,11 @@
 -- The state as the clock moves.
-use Rattle.std.proofs.Common.{◌≡◌, ℕ, ◌<◌, max, Bool, true, false, ◌&&◌, ◌||◌, List, [], ◌∷◌, length, length-set, set, eqb-true, refl, sym, ap, ◌∙◌, subst, arith}
+use Rattle.std.proofs.Common.{◌≡◌, ℕ, ◌<◌, max, Bool, true, false, ◌&&◌, ◌||◌, List, [], ◌∷◌, length, length-set, set, eqb-true, refl, sym, ap, ◌∙◌, arith}
 use Rattle.std.specs.Prelude.{◌==◌, Option, None, Some, if◌then◌else◌}
 use Rattle.rt_base.specs.declared.TheConstants.{TICK_END}
 use Rattle.rt_rules.specs.Numbers.{has}
 use Rattle.rt_rules.proofs.BoolLaws.{both, or_true}
 use Rattle.rt_rules.proofs.MemberLaws.{equal_self}
-use Rattle.rt_model.specs.Group.{Group, clusters, tasks, tasks_of}
+use Rattle.rt_model.specs.Group.{Group, tasks}
 use Rattle.rt_model.specs.Past.{Clock, Past, now}
 use Rattle.rt_model.specs.Reachable.{clocked}
 use Rattle.rt_laws.proofs.GroupLaws.{tasks_of-home}
@@ -14,7 +14,7 @@ use Rattle.rank_changes.specs.Touched.{comes_due}
 use Rattle.rank_changes.proofs.QuietMoves.{standing_after_clock}
 use Rattle.rank_changes.proofs.SameClusters.{runs-clock}
 use Rattle.group_facts.specs.Kept.{with_clock}
-use Rattle.group_facts.specs.Timers.{AreArmed, AreDue, AreMoved, TimersAreKept, renewed, ticks_without, timer_at}
+use Rattle.group_facts.specs.Timers.{AreDue, AreMoved, TimersAreKept, renewed, ticks_without, timer_at}
 use Rattle.group_facts.proofs.KeptMoves.{kept_after_clock}
 use Rattle.group_facts.proofs.TimerMoves.{timers_after_clock}
 use Rattle.group_facts.proofs.TimerSets.{length-without, tick-set, tick-without}

@@ -1,5 +1,5 @@
 -- An operation of a processor that runs nothing.
-use Rattle.std.proofs.Common.{◌≡◌, ℕ, refl, sym, ap, ◌∙◌}
+use Rattle.std.proofs.Common.{◌≡◌, ℕ, sym, ap, ◌∙◌}
 use Rattle.std.specs.Prelude.{None}
 use Rattle.rt_task.specs.declared.Act.TheVariants as acts
 use Rattle.rt_task.specs.declared.Op.{Op}

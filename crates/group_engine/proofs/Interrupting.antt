@@ -1,22 +1,22 @@
 -- The state after an interrupt.
-use Rattle.std.proofs.Common.{◌≡◌, ℕ, Bool, true, false, not, ◌&&◌, ◌||◌, List, [], ◌∷◌, zero, suc, refl, get_or, set, sym, ap, ◌∙◌, ◌-◌, subst, arith}
+use Rattle.std.proofs.Common.{◌≡◌, ℕ, Bool, true, false, not, ◌&&◌, List, [], ◌∷◌, zero, suc, refl, get_or, set, sym, ap, ◌∙◌, ◌-◌, subst, arith}
 use Rattle.std.specs.Prelude.{Option, None, Some, if◌then◌else◌, is_some, option_map, slice_index}
 use Rattle.rt_task.specs.declared.Act.TheVariants as acts
 use Rattle.rt_history.specs.declared.Reply.{Reply}
 use Rattle.rt_history.specs.declared.Reply.TheVariants as replies
-use Rattle.rt_rules.specs.Numbers.{has, same}
+use Rattle.rt_rules.specs.Numbers.{same}
 use Rattle.rt_model.specs.Answers.{answer}
 use Rattle.rt_model.specs.Group.{Group, cluster_with}
 use Rattle.rt_model.specs.Links.{linked}
 use Rattle.rt_model.specs.Past.{Acted, Past, accepted, now}
 use Rattle.rt_model.specs.Outcomes.{past_act}
-use Rattle.rt_model.specs.Runs.{runs, runs_by}
+use Rattle.rt_model.specs.Runs.{runs}
 use Rattle.link_table.specs.Linked.{Linked, after_irq, irq_reply, is_deferred, is_pending, link_of, link_reply, runs_on, with_run}
 use Rattle.link_table.proofs.PlaceLaws.{at_place-set_same}
 use Rattle.cluster_table.proofs.RowLaws.{at-changed}
 use Rattle.group_facts.specs.Facts.{CpuFacts, cpu_facts}
 use Rattle.group_facts.specs.FactMoves.{CountsNothing, with_act}
-use Rattle.group_facts.specs.Kept.{IsKept, Kept, cpu_of, has_acted, interrupted, with_cpu}
+use Rattle.group_facts.specs.Kept.{IsKept, Kept, cpu_of, has_acted, with_cpu}
 use Rattle.group_facts.specs.Moves.{cpu_after}
 use Rattle.group_facts.specs.Replies as told
 use Rattle.group_facts.proofs.CpuSteps.{cpu_is_counted}

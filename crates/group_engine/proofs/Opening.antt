@@ -1,9 +1,8 @@
 -- The state at opening.
-use Rattle.std.proofs.Common.{◌≡◌, ℕ, zero, suc, ◌+◌, ◌<◌, ◌≤◌, Bool, true, false, ◌&&◌, List, [], ◌∷◌, length, map, replicate, get_or, refl, sym, ap, ◌∙◌, subst, arith}
-use Rattle.std.specs.Prelude.{Option, None, Some, if◌then◌else◌, option_map, sum_by}
-use Rattle.rt_base.specs.declared.TheConstants.{MOST_CLUSTERS, MOST_CPUS, MOST_TASKS}
+use Rattle.std.proofs.Common.{◌≡◌, ℕ, zero, suc, ◌+◌, ◌<◌, Bool, true, false, ◌&&◌, List, [], ◌∷◌, length, map, replicate, refl, sym, ap, ◌∙◌, subst, arith}
+use Rattle.std.specs.Prelude.{Option, None, Some, if◌then◌else◌, option_map}
+use Rattle.rt_base.specs.declared.TheConstants.{MOST_CPUS}
 use Rattle.rt_order.specs.declared.Key.{Key}
-use Rattle.rt_task.specs.declared.Cluster as sets
 use Rattle.rt_rules.specs.Numbers.{has, numbers_from}
 use Rattle.rt_rules.specs.Placing.{placed}
 use Rattle.rt_rules.proofs.BoolLaws.{both}
@@ -12,7 +11,6 @@ use Rattle.rt_rules.proofs.NumberLaws.{numbers_from-below}
 use Rattle.rt_model.specs.EffectiveKeys.{effective_key}
 use Rattle.rt_model.specs.Group.{Group, clusters, cpus, first_cpu, home, in_group, processors, tasks, tasks_of}
 use Rattle.rt_model.specs.Links.{links, runs_of}
-use Rattle.rt_model.specs.Past.{Past}
 use Rattle.rt_model.specs.Reachable.{opened}
 use Rattle.rt_model.specs.Runs.{runs}
 use Rattle.rt_model.specs.Tops.{eligible, top}
@@ -22,15 +20,13 @@ use Rattle.rt_groups.specs.Limits.{IsInLimits}
 use Rattle.rt_groups.specs.Places.{IsHomeTask}
 use Rattle.rt_groups.proofs.GroupPlaces.{tasks_are_at_home}
 use Rattle.rt_groups.proofs.SetLimits.{sets_are_in_limits}
-use Rattle.ready_heap.specs.Row.{key_at}
-use Rattle.ready_queue.specs.Queue.{first_tasks}
 use Rattle.ready_queue.specs.ReadySet.{HoldsJust, set_refreshed}
 use Rattle.ready_queue.specs.Refreshed.{AgreeBut}
 use Rattle.ready_queue.proofs.ReadySets.{set_is_refreshed}
 use Rattle.rank_changes.specs.ClusterMoves.{of_cluster}
 use Rattle.rank_changes.specs.Clusters.{HoldsEligible}
 use Rattle.group_facts.specs.Kept.{IsKept, opened as no_jobs}
-use Rattle.group_facts.specs.Timers.{TimersAreKept, renewed, timer_at}
+use Rattle.group_facts.specs.Timers.{TimersAreKept, timer_at}
 use Rattle.group_facts.proofs.KeptMoves.{kept_at_opening, length-replicated, replicated}
 use Rattle.group_facts.proofs.TimerMoves.{timers_at_opening}
 use Rattle.cluster_table.specs.Clusters.{KeptCluster, fresh, homes_from, relinked, rows_from}
@@ -38,7 +34,7 @@ use Rattle.cluster_table.specs.Table.{HasTask, cluster_at}
 use Rattle.cluster_table.proofs.RowLaws.{at-relinked, home-at, length-homes, processor-low, row-at}
 use Rattle.group_engine.specs.declared.state.GroupState.{GroupState}
 use Rattle.group_engine.specs.Moments.{IsPlayed}
-use Rattle.group_engine.specs.State.{AreHomes, HasClusterAt, IsAt, IsWithin}
+use Rattle.group_engine.specs.State.{HasClusterAt, IsAt, IsWithin}
 use Rattle.group_engine.specs.Touching.{CanBringUpAll, all_brought_up, placed_all, timer_now}
 use Rattle.group_engine.proofs.Bounding.{can_bring_up}
 use Rattle.group_engine.proofs.Bringing.{cluster-brought, homes-brought, jobs-brought, keys-refreshed, renewed-same, timers-brought}

@@ -1,6 +1,6 @@
 -- The state after an operation.
 use Rattle.std.proofs.Common.{◌≡◌, ℕ, Bool, true, false, not, [], ◌∷◌, ◌||◌, ◌&&◌, eqb-true, refl, sym, ap, ◌∙◌, subst}
-use Rattle.std.specs.Prelude.{◌==◌, Option, None, Some, if◌then◌else◌, is_some, nat_lt, slice_index}
+use Rattle.std.specs.Prelude.{◌==◌, None, Some, if◌then◌else◌, is_some, nat_lt, slice_index}
 use Rattle.rt_task.specs.declared.Act.TheVariants as acts
 use Rattle.rt_task.specs.declared.Op.{Op}
 use Rattle.rt_task.specs.declared.Op.TheVariants as ops
@@ -9,23 +9,21 @@ use Rattle.rt_task.specs.declared.PluginKind.TheVariants as plugins
 use Rattle.rt_task.specs.declared.Task.{Task}
 use Rattle.rt_history.specs.declared.Reply.TheVariants as replies
 use Rattle.rt_rules.specs.Numbers.{has, is_empty}
-use Rattle.rt_rules.proofs.MemberLaws.{equal_self, is-some}
 use Rattle.rt_model.specs.Answers.{answer}
 use Rattle.rt_model.specs.Group.{Group, cluster_with, task, tasks}
 use Rattle.rt_model.specs.Holders.{holds}
 use Rattle.rt_model.specs.Outcomes.{past_act}
 use Rattle.rt_model.specs.Past.{Acted, Past, accepted, now}
 use Rattle.rt_model.specs.Releases.{has_come}
-use Rattle.rt_model.specs.Runs.{leaves, runs, runs_by}
-use Rattle.rt_laws.proofs.Running.{IsRunning, running}
+use Rattle.rt_model.specs.Runs.{leaves, runs}
+use Rattle.rt_laws.proofs.Running.{running}
 use Rattle.rt_laws.proofs.ValidSets.{rules_of}
-use Rattle.rank_changes.specs.Touched.{arriving, touched_by}
-use Rattle.group_facts.specs.Facts.{CpuFacts, JobFacts, cpu_facts, job_facts}
+use Rattle.group_facts.specs.Facts.{CpuFacts, JobFacts, job_facts}
 use Rattle.group_facts.specs.FactMoves.{IsOperated, with_act}
 use Rattle.group_facts.specs.Kept.{IsKept, after_act, cpu_of, has_acted, has_operated, job_of}
-use Rattle.group_facts.specs.Moves.{after_op, cpu_after, is_end, op_done}
+use Rattle.group_facts.specs.Moves.{is_end, op_done}
 use Rattle.group_facts.specs.Timers.{is_sleep, timer}
-use Rattle.group_facts.specs.Words.{is_ready, is_there, key_of, release_of}
+use Rattle.group_facts.specs.Words.{is_ready, key_of, release_of}
 use Rattle.group_facts.proofs.CpuSteps.{cpu_is_counted}
 use Rattle.group_facts.proofs.JobSteps.{operation_is_counted, other_jobs_stay}
 use Rattle.group_facts.proofs.TimerMoves.{release-op, timer_stays, wakes-op}
@@ -35,7 +33,7 @@ use Rattle.link_table.specs.Linked.{with_run}
 use Rattle.group_jobs.specs.GroupJobs.{GroupJobs, plain_reply, task_in}
 use Rattle.group_engine.specs.declared.state.GroupState.{GroupState}
 use Rattle.group_engine.specs.State.{IsAt, IsClusterAt}
-use Rattle.group_engine.specs.Touching.{brought_up, left_alone, placed_all}
+use Rattle.group_engine.specs.Touching.{left_alone}
 use Rattle.group_engine.proofs.ActMoves.{CanBe, between-act, holds_none, kept-after, look-same, stays}
 use Rattle.group_engine.proofs.Answering.{answer-read, plain-op}
 use Rattle.group_engine.proofs.Reading.{SameLook}

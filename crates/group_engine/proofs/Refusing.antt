@@ -1,16 +1,14 @@
 -- Acts that leave the state: ticks, and those that are refused.
-use Rattle.std.proofs.Common.{◌≡◌, ℕ, Bool, true, false, ◌∷◌, eqb-true, refl, sym, ap, ◌∙◌, subst}
-use Rattle.std.specs.Prelude.{◌==◌, None}
+use Rattle.std.proofs.Common.{◌≡◌, ℕ, Bool, true, false, eqb-true, refl, sym, ◌∙◌, subst}
+use Rattle.std.specs.Prelude.{◌==◌}
 use Rattle.rt_task.specs.declared.Act.{Act}
 use Rattle.rt_task.specs.declared.Act.TheVariants as acts
 use Rattle.rt_history.specs.declared.Reply.TheVariants as replies
 use Rattle.rt_model.specs.Answers.{answer}
 use Rattle.rt_model.specs.Group.{Group}
 use Rattle.rt_model.specs.Past.{Past, accepted}
-use Rattle.rt_model.specs.Runs.{runs}
-use Rattle.group_facts.specs.Facts.{CpuFacts, cpu_facts}
+use Rattle.group_facts.specs.Facts.{cpu_facts}
 use Rattle.group_facts.specs.FactMoves.{AllStay, CountsNothing, with_act}
-use Rattle.group_facts.specs.Kept.{has_acted}
 use Rattle.group_facts.proofs.CpuSteps.{cpu_is_counted, refused_stays}
 use Rattle.group_facts.proofs.JobSteps.{others_count_nothing}
 use Rattle.group_engine.specs.declared.state.GroupState.{GroupState}

@@ -1,14 +1,12 @@
 -- The clusters after an act by which its processor runs something else.
-use Rattle.std.proofs.Common.{◌≡◌, ◌≢◌, ℕ, ◌+◌, ◌-◌, ◌<◌, ◌≤◌, Bool, true, false, List, ◌∷◌, length, set, eqb-true, refl, sym, ap, ◌∙◌, subst, arith}
-use Rattle.std.specs.Prelude.{◌==◌, Option, None, Some, option_map, slice_index, slice_set}
+use Rattle.std.proofs.Common.{◌≡◌, ◌≢◌, ℕ, Bool, true, false, length, eqb-true, refl, sym, ap, ◌∙◌, subst, arith}
+use Rattle.std.specs.Prelude.{◌==◌, Some, option_map, slice_index}
 use Rattle.std.proofs.lemmas.Bool.{eqb-false}
 use Rattle.rt_task.specs.declared.Act.{Act}
 use Rattle.rt_rules.specs.Numbers.{has}
-use Rattle.rt_rules.specs.Placing.{at_place}
-use Rattle.rt_rules.proofs.MemberLaws.{equal_self}
 use Rattle.rt_rules.proofs.NumberLaws.{numbers_from-has}
 use Rattle.rt_model.specs.Group.{Group, cluster_with, clusters, cpus, first_cpu, processors, tasks}
-use Rattle.rt_model.specs.Links.{linked, links, runs_of}
+use Rattle.rt_model.specs.Links.{linked, runs_of}
 use Rattle.rt_model.specs.Outcomes.{past_act}
 use Rattle.rt_model.specs.Past.{Acted, Past}
 use Rattle.rt_model.specs.Reachable.{IsReachable}
@@ -33,7 +31,7 @@ use Rattle.group_engine.specs.declared.state.GroupState.{GroupState}
 use Rattle.group_engine.specs.Moments.{IsPlayed}
 use Rattle.group_engine.specs.State.{HasClusterAt, IsAt, IsClusterAt}
 use Rattle.group_engine.proofs.ActMoves.{CanBe}
-use Rattle.group_engine.proofs.Settling.{HasClusterBetween, IsClusterBetween}
+use Rattle.group_engine.proofs.Settling.{HasClusterBetween}
 
 -- ---- a processor in its cluster
 

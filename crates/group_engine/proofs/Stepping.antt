@@ -1,8 +1,7 @@
 -- One step of the engine: what its moves rest on, and that what is kept stays sound.
-use Rattle.std.proofs.Common.{◌≡◌, ℕ, ◌+◌, ◌<◌, ◌≤◌, true, List, [], ◌∷◌, ◌++◌, length, refl, sym, ap, ◌∙◌, subst, arith, length-append}
+use Rattle.std.proofs.Common.{◌≡◌, ℕ, ◌+◌, ◌<◌, ◌≤◌, true, List, [], ◌∷◌, ◌++◌, length, sym, ◌∙◌, subst, arith, length-append}
 use Rattle.std.proofs.lemmas.List.Elements.{All-push}
-use Rattle.rt_base.specs.declared.TheConstants.{MOST_STEPS, TICK_END}
-use Rattle.rt_task.specs.declared.Act.{Act}
+use Rattle.rt_base.specs.declared.TheConstants.{MOST_STEPS}
 use Rattle.rt_task.specs.declared.Parts.{Parts}
 use Rattle.rt_task.specs.declared.Step.{Step}
 use Rattle.rt_task.specs.Validity.{IsValid}
@@ -11,7 +10,7 @@ use Rattle.rt_history.specs.declared.Reply.{Reply}
 use Rattle.rt_model.specs.Group.{Group}
 use Rattle.rt_model.specs.Histories.{after, past_from, past_of, reply_to}
 use Rattle.rt_model.specs.Past.{Clock, Past, entries_in}
-use Rattle.rt_model.specs.Steps.{IsActOf, IsStepOf}
+use Rattle.rt_model.specs.Steps.{IsStepOf}
 use Rattle.rt_model.proofs.Steps.{IsLegal-append, after-acted, past_of-append, reply_to-lem}
 use Rattle.rt_plays.specs.Homes.{IsProcessorOf}
 use Rattle.rt_groups.specs.Built.{is_built}

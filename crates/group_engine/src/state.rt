@@ -1,25 +1,28 @@
 //! What the engine keeps of its group, and what each move makes of it.
-ghost use Rattle.std.specs.Prelude.{◌≡◌, ◌||◌, ℕ, List, ◌+◌, ◌<◌, ◌≤◌, ◌∷◌, [], All, IfOk, length, slice_set};
+ghost use Rattle.std.specs.Prelude.{◌≡◌, ◌||◌, ℕ, List, ◌+◌, ◌<◌, ◌≤◌, ◌∷◌, [], All, IfOk, length, slice_set, true};
 ghost use Rattle.rt_base.specs.TaskNos.{number_of_task};
 ghost use Rattle.rt_base.specs.declared.TheConstants.{MOST_STEPS};
 ghost use Rattle.rt_task.specs.declared.Task.{Task};
-ghost use Rattle.rt_model.specs.Group.{tasks};
+ghost use Rattle.rt_rules.specs.Numbers.{has};
+ghost use Rattle.rt_model.specs.Group.{clusters, tasks};
 ghost use Rattle.rt_model.specs.Links.{linked};
 ghost use Rattle.rt_model.specs.Past.{Clock, accepted};
 ghost use Rattle.rt_model.specs.Runs.{runs};
 ghost use Rattle.rt_plays.specs.Homes.{IsProcessorOf};
 ghost use Rattle.rt_plays.specs.Plays.{group_with};
+ghost use Rattle.rank_changes.specs.Clusters.{HoldsEligible};
 ghost use Rattle.group_facts.specs.Timers.{AreDue, is_sleep};
-ghost use Rattle.group_engine.specs.Moments.{CanAct, CanActOn, CanLook, CanMove, CanOperate, HasActed, IsPlayed, Moment};
+ghost use Rattle.group_engine.specs.Moments.{CanAct, CanActOn, CanLend, CanLook, CanMove, CanOperate, HasActed, IsPlayed, Moment};
 ghost use Rattle.group_engine.specs.State.{IsAt};
 ghost use Rattle.group_engine.specs.Touching.{AreArmedOnly, CanBringUp, CanBringUpAll, CanLeave, all_brought_up, brought_up, key_now, left_alone, timer_now};
 
 use cluster_table::ClusterTable;
 use group_jobs::GroupJobs;
+use ready_heap::ReadyHeap;
 use release_queue::ReleaseQueue;
-use rt_base::{CpuNo, GroupNo, MOST_CPUS, NoMemory, TaskNo, Tick};
+use rt_base::{ClusterNo, CpuNo, GroupNo, MOST_CPUS, NoMemory, TaskNo, Tick};
 use rt_history::Reply;
-use rt_order::Key;
+use rt_order::{ByKey, Key};
 use rt_task::{Act, Op, Parts};
 use std::alloc::Global;
 
@@ -88,6 +91,19 @@ impl GroupState {
             → number_of_task result ≡ runs cpu.0 at.past }
     {
         self.jobs.runs(cpu)
+    }
+
+    /// The heap of a cluster's eligible tasks.
+    pub(crate) fn ready(&self, cluster: ClusterNo) -> &ReadyHeap<ByKey>
+        requires { CanLend cluster.0 self.now }
+        ensures { (at : Moment) → IsAt at.group at.past self.now
+            → has cluster.0 (clusters at.group) ≡ true
+            → HoldsEligible at.group cluster.0 at.past result.now.keys }
+    {
+        match self.clusters.heap(cluster) {
+            Some(heap) => heap,
+            None => unreachable!(),
+        }
     }
 
     /// The key of the task's job, where that is eligible.

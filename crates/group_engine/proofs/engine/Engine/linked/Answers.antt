@@ -1,5 +1,4 @@
 use Rattle.std.proofs.Common.{ap, ◌∙◌}
-use Rattle.rt_model.specs.Histories.{past_of}
 use Rattle.rt_model.specs.Links.{linked}
 use Rattle.rt_groups.specs.Groups.{GroupHistory, group_of, past}
 use Rattle.group_engine.proofs.Stepping.{at_home, moment}

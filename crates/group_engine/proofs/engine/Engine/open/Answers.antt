@@ -1,4 +1,4 @@
-use Rattle.std.proofs.Common.{◌≡◌, ◌≤◌, ap, arith, subst, sym, vec_capacity, []}
+use Rattle.std.proofs.Common.{◌≤◌, arith, subst, vec_capacity, []}
 use Rattle.rt_task.specs.declared.Parts.{Parts}
 use Rattle.rt_plays.specs.Plays.{group_with}
 use Rattle.group_engine.specs.State.{IsAt}

@@ -1,7 +1,7 @@
 use Rattle.std.proofs.Common.{◌≡◌, ◌+◌, ◌-◌, ◌<◌, ◌≤◌, length, ap, ◌∙◌, arith, vec_len}
 use Rattle.rt_model.specs.Histories.{reply_to}
 use Rattle.rt_groups.specs.Groups.{GroupHistory, group_of, past}
-use Rattle.group_engine.specs.Moments.{CanActOn, HasActed}
+use Rattle.group_engine.specs.Moments.{HasActed}
 use Rattle.group_engine.proofs.Stepping.{at_tick, can_act, can_move, moment, of_group, reply-is, sound-step}
 use Rattle.group_engine.proofs.engine.Engine.step.Goals as goal
 
