@@ -32,7 +32,7 @@ says-unique bytes p q says also =
     let other : set also.set_text ≡ Ok q = also.set_is in
     cc
 
--- what says a set that is checked is not refused
+-- what says a set that is played is not refused
 pub says-unrefused : (bytes : List ℕ) (p : Parts) (b : BadSet) → SaysSet bytes p → TraceIsRefused bytes b → ⊥
 says-unrefused bytes p b says (inl lack) = lack.1 _ says.head.bytes_are
 says-unrefused bytes p b says (inr (inl lack)) = lack.1.no_set _ _ says.head

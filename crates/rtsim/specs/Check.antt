@@ -31,7 +31,7 @@ pub record WasTrace (source : Reading) (bytes : List ℕ) (p : Parts) : Type 0 w
   pub within : length bytes ≤ MOST_TRACE_BYTES
   pub says : SaysSet bytes p
 
--- why a text is refused: its first line, its second, the set that this says, or that this set is not played so far
+-- why a text is refused: its first line, its second, the set that this says, or that this set is not played
 pub record SaysUnbuilt (bytes : List ℕ) : Type 0 where
   pub set_text : List ℕ
   pub rest : List ℕ

@@ -1,25 +1,13 @@
-//! The groups of a set: how many there are, whose the processors are, and the room that each group needs.
-ghost use Rattle.std.specs.Prelude.{◌≡◌, ◌≤◌, ◌++◌, IfOk, OnOk, replicate, true};
-ghost use Rattle.rt_plays.specs.Plays.{group_count};
+//! The groups of a set: whose the processors are, and the room that each group needs.
+ghost use Rattle.std.specs.Prelude.{◌≡◌, ◌++◌, IfOk, OnOk, replicate, true};
 ghost use Rattle.rt_groups.specs.Built.{is_built};
 ghost use Rattle.rtsim.specs.Groups.{cpu_groups, group_rooms};
 
 use rt_base::{GroupNo, NoMemory};
 use rt_plays::steps_given;
-use rt_task::{Cluster, Parts, Setup};
+use rt_task::{Cluster, Setup};
 use std::alloc::Global;
-
-/// How many groups the set has.
-fn count_groups(parts: &Parts) -> u32
-    requires { group_count parts.now ≤ 64 }
-    ensures { result ≡ group_count parts.now }
-{
-    let mut greatest = 0;
-    for cluster in parts.clusters.as_slice() {
-        greatest = cluster.group.0.max(greatest);
-    }
-    greatest + 1
-}
+use trace_text::count_groups;
 
 /// The group of so many processors more.
 fn put_group(groups: &mut Vec<GroupNo>, group: GroupNo, count: u32) -> Result<(), NoMemory>
@@ -63,7 +51,7 @@ pub(crate) fn rooms_of_groups(
 {
     let parts = setup.parts();
     let steps = steps_given(&parts.drive);
-    let mut rooms = zeros(alloc, count_groups(parts))?;
+    let mut rooms = zeros(alloc, count_groups(setup))?;
     for step in steps {
         let group = groups[step.cpu.0 as usize];
         rooms[group.0 as usize] += 1;

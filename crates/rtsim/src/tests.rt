@@ -103,8 +103,6 @@ const WITH_A_SEM: &str =
 
 const WITH_A_HORIZON: &str = r#"{"plugin":"GSN-EDF","clusters":[{"cpus":1}],"horizon":1}"#;
 
-const NOT_RANKED: &str = r#"{"plugin":"PSN-EDF","clusters":[{"cpus":1}],"steps":[]}"#;
-
 fn words(alloc: Global, texts: &[&str]) -> Result<Vec<String>, Fail> {
     let mut words = Vec::new(alloc);
     for text in texts {
@@ -325,6 +323,13 @@ fn checks_the_trace_of_the_first_path(rt: HostRuntime) -> Result<(), Fail> {
 }
 
 #[test]
+fn checks_each_group(rt: HostRuntime) -> Result<(), Fail> {
+    let trace: [&str; 4] = ["rtsched trace 1\nset ", TWO_GROUPS, "\n", TWO_GROUPS_REST];
+    assert!(rt; checks(rt.alloc(), trace.as_slice(), Status::Ok, "valid 30\n")?);
+    Ok(())
+}
+
+#[test]
 fn refuses_what_is_no_trace(rt: HostRuntime) -> Result<(), Fail> {
     let alloc = rt.alloc();
     let all: [(&[&str], Status); 5] = [
@@ -342,7 +347,7 @@ fn refuses_what_is_no_trace(rt: HostRuntime) -> Result<(), Fail> {
             refused(SetKind::NotJson, Part::Whole, 0),
         ),
         (
-            &["rtsched trace 1\nset ", NOT_RANKED, "\n"],
+            &["rtsched trace 1\nset ", WITH_A_SEM, "\n"],
             refused(SetKind::Unbuilt, Part::Whole, 0),
         ),
     ];

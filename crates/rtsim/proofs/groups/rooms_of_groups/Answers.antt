@@ -4,20 +4,16 @@ use Rattle.rt_task.specs.declared.Parts.{Parts}
 use Rattle.rt_task.specs.declared.Step.{Step}
 use Rattle.rt_plays.specs.Drives.{steps_given}
 use Rattle.rt_plays.specs.Plays.{group_count}
-use Rattle.trace_text.proofs.GroupLaws.{groups-few}
 use Rattle.trace_laws.proofs.StepsGiven.{steps-few}
 use Rattle.rtsim.proofs.Numbered.{length-numbered, replicate-numbered}
 use Rattle.rtsim.proofs.OneStep.{IsNext, at-group, cpu-there, is-next, no_group, no_step}
 use Rattle.rtsim.proofs.OrderLaws.{all_counted, counted, counted-all, counted-few, counted-next, counted-none}
 use Rattle.rtsim.proofs.groups.rooms_of_groups.Goals as goal
 
-pub count_groups-requires : goal.count_groups-requires
-count_groups-requires c = rw c.parts-parts.ensures.parts (groups-few c.args.setup.now c.parts-parts.ensures.valid)
-
 pub loop-step-init : goal.loop-step-init
 loop-step-init c =
     let p : Parts = c.args.setup.now in
-    c.in_ok-rooms.ensures ∙ ap (λ n. replicate n 0) (c.count_groups.ensures ∙ ap group_count c.parts-parts.ensures.parts)
+    c.in_ok-rooms.ensures ∙ ap (λ n. replicate n 0) c.count_groups.ensures
     ∙ replicate-numbered 0 0 (group_count p) ∙ sym (counted-none p c.steps_given-steps.result.now)
 
 pub bounds-groups-step : goal.bounds-groups-step
