@@ -1,5 +1,6 @@
 pub mod FirstTasks
 pub mod RowLaws
+pub mod Stays
 pub mod Settled
 pub mod Listed
 pub mod Seen

@@ -1,6 +1,6 @@
 -- What looking at tasks one after the other makes of the state.
-use Rattle.std.proofs.Common.{◌≡◌, ◌≢◌, ℕ, Bool, true, false, ◌||◌, List, [], ◌∷◌, filter, eqb-true, refl, set, sym, ap, ◌∙◌}
-use Rattle.std.specs.Prelude.{◌==◌, Option, None, Some, if◌then◌else◌, option_map, slice_set}
+use Rattle.std.proofs.Common.{◌≡◌, ◌≢◌, ℕ, Bool, true, false, List, [], ◌∷◌, eqb-true, refl, set, sym, ap, ◌∙◌}
+use Rattle.std.specs.Prelude.{◌==◌, Option, Some, if◌then◌else◌, option_map, slice_set}
 use Rattle.std.proofs.lemmas.Bool.{eqb-false}
 use Rattle.rt_order.specs.declared.Key.{Key}
 use Rattle.rt_task.specs.declared.Parts.{Parts}
@@ -14,7 +14,7 @@ use Rattle.ready_queue.specs.ReadySet.{kept_key, set_refreshed}
 use Rattle.group_facts.specs.Kept.{Kept}
 use Rattle.group_facts.specs.Timers.{renewed}
 use Rattle.cluster_table.specs.Clusters.{KeptCluster, with_key}
-use Rattle.cluster_table.specs.Table.{Table, cluster_at, changed_at}
+use Rattle.cluster_table.specs.Table.{cluster_at, changed_at}
 use Rattle.cluster_table.proofs.RowLaws.{at-changed, at-changed_other}
 use Rattle.group_engine.specs.declared.state.GroupState.{GroupState}
 use Rattle.group_engine.specs.Touching.{all_brought_up, brought_up, home_in, key_now, timer_now}

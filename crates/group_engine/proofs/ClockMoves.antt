@@ -1,11 +1,11 @@
 -- The state as the clock moves.
-use Rattle.std.proofs.Common.{◌≡◌, ℕ, ◌<◌, max, Bool, true, false, ◌&&◌, ◌||◌, List, [], ◌∷◌, length, length-set, set, eqb-true, refl, sym, ap, ◌∙◌, subst, arith}
+use Rattle.std.proofs.Common.{◌≡◌, ℕ, ◌<◌, max, Bool, true, false, ◌&&◌, ◌||◌, List, [], ◌∷◌, length, length-set, set, eqb-true, refl, sym, ap, ◌∙◌, arith}
 use Rattle.std.specs.Prelude.{◌==◌, Option, None, Some, if◌then◌else◌}
 use Rattle.rt_base.specs.declared.TheConstants.{TICK_END}
 use Rattle.rt_rules.specs.Numbers.{has}
 use Rattle.rt_rules.proofs.BoolLaws.{both, or_true}
 use Rattle.rt_rules.proofs.MemberLaws.{equal_self}
-use Rattle.rt_model.specs.Group.{Group, clusters, tasks, tasks_of}
+use Rattle.rt_model.specs.Group.{Group, tasks}
 use Rattle.rt_model.specs.Past.{Clock, Past, now}
 use Rattle.rt_model.specs.Reachable.{clocked}
 use Rattle.rt_laws.proofs.GroupLaws.{tasks_of-home}
@@ -14,7 +14,7 @@ use Rattle.rank_changes.specs.Touched.{comes_due}
 use Rattle.rank_changes.proofs.QuietMoves.{standing_after_clock}
 use Rattle.rank_changes.proofs.SameClusters.{runs-clock}
 use Rattle.group_facts.specs.Kept.{with_clock}
-use Rattle.group_facts.specs.Timers.{AreArmed, AreDue, AreMoved, TimersAreKept, renewed, ticks_without, timer_at}
+use Rattle.group_facts.specs.Timers.{AreDue, AreMoved, TimersAreKept, renewed, ticks_without, timer_at}
 use Rattle.group_facts.proofs.KeptMoves.{kept_after_clock}
 use Rattle.group_facts.proofs.TimerMoves.{timers_after_clock}
 use Rattle.group_facts.proofs.TimerSets.{length-without, tick-set, tick-without}
@@ -69,6 +69,17 @@ rest-false : (a b c : Bool) → c ≡ a && b → a ≡ true → c ≡ false → 
 rest-false true b c h k m = sym h ∙ m
 rest-false false b c h k m = cc
 
+pub clock-within : (tick : ℕ) (past : Past) → tick < TICK_END → IsWithin past → IsWithin (Clock tick ∷ past)
+clock-within tick past low within = record { few = within.few; clock_low = omega (arith, within.clock_low, low); sleeps_low = within.sleeps_low }
+
+-- whoever waits for a moment is a task of the group
+pub armed-member : (g : Group) (past : Past) (ticks : List (Option ℕ)) → TimersAreKept g past ticks → (t tick : ℕ) → tick_at ticks t ≡ Some tick → has t (tasks g) ≡ true
+armed-member g past ticks kept t tick h = by_case (has t (tasks g)) refl
+  where
+    by_case : (b : Bool) → has t (tasks g) ≡ b → b ≡ true
+    by_case true e = refl
+    by_case false e = let none : tick_at ticks t ≡ None = kept.armed t ∙ rw e refl in cc
+
 -- the state whose clock has moved, before the tasks that are due are looked at
 abbrev pub clocked_state : ℕ → GroupState → GroupState
 clocked_state tick s = record s { jobs = record s.jobs { kept = with_clock tick s.jobs.kept } }
@@ -77,7 +88,7 @@ pub between-clock : (g : Group) → IsPlayed g → (past : Past) (s : GroupState
     → AreDue (max (now past) tick) s.timers us → IsBetween g (Clock tick) past us (clocked_state tick s)
 between-clock g played past s at tick low us due = record {
   reachable = clocked tick at.reachable;
-  within = record { few = at.within.few; clock_low = omega (arith, at.within.clock_low, low); sleeps_low = at.within.sleeps_low };
+  within = clock-within tick past low at.within;
   jobs_are = kept_after_clock g past played.valid at.reachable tick s.jobs.kept at.jobs_are;
   timers_are = timers-again g (Clock tick ∷ past) us s.timers (λ u h. at.timers_are.room u (inside u h)) moved.kept;
   homes_are = at.homes_are;

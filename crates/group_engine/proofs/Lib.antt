@@ -3,3 +3,17 @@ pub mod Bringing
 pub mod Settling
 pub mod ClockMoves
 pub mod ActMoves
+pub mod Bounding
+pub mod Answering
+pub mod Refusing
+pub mod Running
+pub mod Interrupting
+pub mod Arriving
+pub mod Operating
+pub mod BringingUp
+pub mod DueAgain
+pub mod DueInTurn
+pub mod GroupInTurn
+pub mod Idling
+pub mod Opening
+pub mod Stepping

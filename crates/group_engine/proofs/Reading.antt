@@ -5,10 +5,8 @@ use Rattle.rt_task.specs.declared.PluginKind.{PluginKind}
 use Rattle.rt_task.specs.declared.PluginKind.TheVariants as plugins
 use Rattle.rt_task.specs.RuleWords.{is_empty, is_p_res}
 use Rattle.rt_rules.proofs.BoolLaws.{both}
-use Rattle.rt_order.specs.declared.Key.{Key}
 use Rattle.rt_model.specs.EffectiveKeys.{effective_key}
 use Rattle.rt_model.specs.Group.{Group, resv, sems, served_by, task}
-use Rattle.rt_model.specs.Holders.{awaits}
 use Rattle.rt_model.specs.Past.{Past, now}
 use Rattle.rt_model.specs.Tops.{eligible, is_served}
 use Rattle.rt_plays.specs.Plays.{group_with}

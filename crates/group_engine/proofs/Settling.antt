@@ -1,9 +1,8 @@
 -- The state after a move: the tasks that it touched are looked at, and the links are placed anew.
-use Rattle.std.proofs.Common.{◌≡◌, ℕ, ◌+◌, Bool, true, false, List, [], ◌∷◌, length, refl, set, length-set, sym, ap, ◌∙◌, subst}
-use Rattle.std.specs.Prelude.{Option, Some, option_map, if◌then◌else◌}
+use Rattle.std.proofs.Common.{◌≡◌, ℕ, ◌+◌, Bool, true, List, [], ◌∷◌, length, refl, set, length-set, sym, ap, ◌∙◌, subst}
+use Rattle.std.specs.Prelude.{Option, Some, option_map}
 use Rattle.rt_order.specs.declared.Key.{Key}
 use Rattle.rt_rules.specs.Numbers.{has}
-use Rattle.rt_rules.specs.Placing.{placed}
 use Rattle.rt_model.specs.EffectiveKeys.{effective_key}
 use Rattle.rt_model.specs.Group.{Group, clusters, cpus, first_cpu, task, tasks, tasks_of}
 use Rattle.rt_model.specs.Links.{links, runs_of}
@@ -12,8 +11,6 @@ use Rattle.rt_model.specs.Reachable.{IsReachable}
 use Rattle.rt_model.specs.Tops.{eligible, ranking, top}
 use Rattle.rt_model.proofs.Steps.{links-step}
 use Rattle.rt_model.proofs.TopLaws.{distinct-tasks_of}
-use Rattle.rt_laws.proofs.GroupLaws.{tasks_of-home}
-use Rattle.rt_laws.proofs.Moves.{last_move}
 use Rattle.ready_queue.specs.Queue.{first_tasks}
 use Rattle.ready_queue.specs.ReadySet.{kept_key, set_refreshed}
 use Rattle.rank_changes.specs.ClusterMoves.{SameBut, of_cluster}
@@ -21,8 +18,8 @@ use Rattle.rank_changes.specs.Clusters.{HoldsEligible}
 use Rattle.rank_changes.proofs.MovedClusters.{set_after_move}
 use Rattle.rank_changes.proofs.SameClusters.{links-stay, ranking-same}
 use Rattle.group_facts.specs.Facts.{job_facts}
-use Rattle.group_facts.specs.Kept.{IsKept, job_of}
-use Rattle.group_facts.specs.Timers.{TimersAreKept, renewed, timer, timer_at}
+use Rattle.group_facts.specs.Kept.{IsKept}
+use Rattle.group_facts.specs.Timers.{TimersAreKept, renewed, timer_at}
 use Rattle.group_facts.specs.Words.{is_ready, key_of}
 use Rattle.group_facts.proofs.TimerMoves.{timer_is_read}
 use Rattle.cluster_table.specs.Clusters.{KeptCluster, relinked}
@@ -32,10 +29,10 @@ use Rattle.cluster_table.proofs.RowLaws.{at-relinked}
 use Rattle.group_jobs.specs.GroupJobs.{task_in}
 use Rattle.group_engine.specs.declared.state.GroupState.{GroupState}
 use Rattle.group_engine.specs.Moments.{IsPlayed}
-use Rattle.group_engine.specs.State.{AreHomes, HasClusterAt, IsAt, IsClusterAt, IsWithin}
+use Rattle.group_engine.specs.State.{AreHomes, HasClusterAt, IsAt, IsWithin}
 use Rattle.group_engine.specs.Touching.{all_brought_up, key_now, placed_all, timer_now}
 use Rattle.group_engine.proofs.Bringing.{cluster-brought, homes-brought, jobs-brought, keys-refreshed, renewed-same, timers-brought}
-use Rattle.group_engine.proofs.Reading.{SameLook, effective-read, eligible-ready, key_of-any, same-standing}
+use Rattle.group_engine.proofs.Reading.{effective-read, eligible-ready, key_of-any}
 
 -- ---- the top of a cluster is the first of the tasks that its set holds
 
@@ -85,7 +82,7 @@ pub timer-kept : (g : Group) (past : Past) (s : GroupState) → IsKept g past s.
 unfolding task
 timer-kept g past s kept t h = sym (timer_is_read g past s.jobs.kept kept t h)
 
-length-refreshed : (key : ℕ → Key) (test : ℕ → Bool) (us : List ℕ) (keys : List (Option Key)) → length (set_refreshed key test us keys) ≡ length keys
+pub length-refreshed : (key : ℕ → Key) (test : ℕ → Bool) (us : List ℕ) (keys : List (Option Key)) → length (set_refreshed key test us keys) ≡ length keys
 length-refreshed key test [] keys = refl
 length-refreshed key test (u ∷ us) keys = length-refreshed key test us (set keys u (kept_key key test u)) ∙ length-set _ _ _
 

@@ -8,7 +8,8 @@ use Rattle.rt_task.specs.declared.Parts.{Parts}
 use Rattle.rt_task.specs.Validity.{IsValid}
 use Rattle.rt_history.specs.declared.Reply.{Reply}
 use Rattle.rt_model.specs.Answers.{answer}
-use Rattle.rt_model.specs.Group.{Group}
+use Rattle.rt_rules.specs.Numbers.{has}
+use Rattle.rt_model.specs.Group.{Group, clusters}
 use Rattle.rt_model.specs.Outcomes.{past_act}
 use Rattle.rt_model.specs.Past.{Acted, Past, entries_in}
 use Rattle.rt_model.specs.Runs.{runs}
@@ -61,3 +62,7 @@ pub record HasActed (at : Moment) (cpu : ℕ) (act : Act) (reply : Reply) (s : G
 -- the processor is one of a moment's group
 abbrev pub CanLook : ℕ → GroupState → Type 0
 CanLook cpu s = (at : Moment) × IsAt at.group at.past s × IsProcessorOf at.group cpu
+
+-- the cluster is one of a moment's group
+abbrev pub CanLend : ℕ → GroupState → Type 0
+CanLend c s = (at : Moment) × IsAt at.group at.past s × (has c (clusters at.group) ≡ true)

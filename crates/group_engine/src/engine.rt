@@ -110,6 +110,14 @@ impl Engine {
         self.state.runs(cpu)
     }
 
+    /// The eligible tasks of a cluster of the group, each with its effective key.
+    pub fn ready(&self, cluster: ClusterNo) -> &ReadyHeap<ByKey>
+        requires { has cluster.0 (clusters (group_of self.now)) ≡ true }
+        ensures { HoldsEligible (group_of self.now) cluster.0 (past self.now) result.now.keys }
+    {
+        self.state.ready(cluster)
+    }
+
     /// Takes a step of the group: the clock moves to its tick, if that is later, and then the act is answered.
     /// It adds one entry, the step with its reply.
     pub fn step(&mut self, step: Step) -> Reply

@@ -1,23 +1,28 @@
 //! What the engine keeps of its group, and what each move makes of it.
-ghost use Rattle.std.specs.Prelude.{◌≡◌, ℕ, List, ◌+◌, ◌<◌, ◌≤◌, ◌∷◌, [], IfOk};
+ghost use Rattle.std.specs.Prelude.{◌≡◌, ◌||◌, ℕ, List, ◌+◌, ◌<◌, ◌≤◌, ◌∷◌, [], All, IfOk, length, slice_set, true};
 ghost use Rattle.rt_base.specs.TaskNos.{number_of_task};
 ghost use Rattle.rt_base.specs.declared.TheConstants.{MOST_STEPS};
-ghost use Rattle.rt_model.specs.Group.{tasks};
+ghost use Rattle.rt_task.specs.declared.Task.{Task};
+ghost use Rattle.rt_rules.specs.Numbers.{has};
+ghost use Rattle.rt_model.specs.Group.{clusters, tasks};
 ghost use Rattle.rt_model.specs.Links.{linked};
-ghost use Rattle.rt_model.specs.Past.{Clock};
+ghost use Rattle.rt_model.specs.Past.{Clock, accepted};
 ghost use Rattle.rt_model.specs.Runs.{runs};
 ghost use Rattle.rt_plays.specs.Homes.{IsProcessorOf};
 ghost use Rattle.rt_plays.specs.Plays.{group_with};
-ghost use Rattle.group_facts.specs.Timers.{AreDue};
-ghost use Rattle.group_engine.specs.Moments.{CanAct, CanActOn, CanLook, CanMove, CanOperate, HasActed, IsPlayed, Moment};
+ghost use Rattle.rank_changes.specs.Clusters.{HoldsEligible};
+ghost use Rattle.group_facts.specs.Timers.{AreDue, is_sleep};
+ghost use Rattle.group_engine.specs.Moments.{CanAct, CanActOn, CanLend, CanLook, CanMove, CanOperate, HasActed, IsPlayed, Moment};
 ghost use Rattle.group_engine.specs.State.{IsAt};
-ghost use Rattle.group_engine.specs.Touching.{AreArmedOnly, CanBringUp, CanBringUpAll, CanLeave, all_brought_up, brought_up, left_alone};
+ghost use Rattle.group_engine.specs.Touching.{AreArmedOnly, CanBringUp, CanBringUpAll, CanLeave, all_brought_up, brought_up, key_now, left_alone, timer_now};
 
 use cluster_table::ClusterTable;
 use group_jobs::GroupJobs;
+use ready_heap::ReadyHeap;
 use release_queue::ReleaseQueue;
-use rt_base::{CpuNo, GroupNo, MOST_CPUS, NoMemory, TaskNo, Tick};
+use rt_base::{ClusterNo, CpuNo, GroupNo, MOST_CPUS, NoMemory, TaskNo, Tick};
 use rt_history::Reply;
+use rt_order::{ByKey, Key};
 use rt_task::{Act, Op, Parts};
 use std::alloc::Global;
 
@@ -55,14 +60,16 @@ impl GroupState {
 
     /// Looks at all tasks of the group.
     fn bring_up_group(&mut self, parts: &Parts, group: GroupNo)
-        requires { CanBringUpAll parts.now (tasks (group_with parts.now group.0)) self.old }
+        requires within { All (λ (t : Task). t.cluster.0 < length parts.now.clusters)
+            parts.now.tasks }
+        requires can { CanBringUpAll parts.now (tasks (group_with parts.now group.0)) self.old }
         ensures { self.new
             ≡ all_brought_up parts.now (tasks (group_with parts.now group.0)) self.old }
     {
-        for (i, task) in parts.tasks.as_slice().iter().enumerate() {
+        for task in parts.tasks.as_slice() {
             let home = task.cluster.0 as usize;
             if parts.clusters.as_slice()[home].group.0 == group.0 {
-                self.bring_up(parts, TaskNo(i as u32 + 1));
+                self.bring_up(parts, task.number);
             }
         }
     }
@@ -86,23 +93,52 @@ impl GroupState {
         self.jobs.runs(cpu)
     }
 
+    /// The heap of a cluster's eligible tasks.
+    pub(crate) fn ready(&self, cluster: ClusterNo) -> &ReadyHeap<ByKey>
+        requires { CanLend cluster.0 self.now }
+        ensures { (at : Moment) → IsAt at.group at.past self.now
+            → has cluster.0 (clusters at.group) ≡ true
+            → HoldsEligible at.group cluster.0 at.past result.now.keys }
+    {
+        match self.clusters.heap(cluster) {
+            Some(heap) => heap,
+            None => unreachable!(),
+        }
+    }
+
+    /// The key of the task's job, where that is eligible.
+    fn key(&self, parts: &Parts, task: TaskNo) -> Option<Key>
+        requires { CanBringUp parts.now task.0 self.now }
+        ensures { result ≡ key_now parts.now self.now.jobs.kept task.0 }
+    {
+        if self.jobs.is_ready(parts.tasks.as_slice(), task) {
+            Some(self.jobs.base_key(parts, task))
+        } else {
+            None
+        }
+    }
+
+    /// Arms the task's timer for the moment that its job waits for, if any, and for no other.
+    fn arm_anew(&mut self, parts: &Parts, task: TaskNo)
+        requires { CanBringUp parts.now task.0 self.old }
+        ensures { let moment = timer_now parts.now self.old.jobs.kept task.0 in self.new
+            ≡ record self.old { timers = slice_set self.old.timers task.0 moment } }
+    {
+        self.timers.cancel(task);
+        if let Some(tick) = self.jobs.timer(parts.tasks.as_slice(), task) {
+            self.timers.arm(task, tick);
+        }
+    }
+
     /// Arms the task's timer anew, and looks at whether its job is eligible, and at its key.
     fn bring_up(&mut self, parts: &Parts, task: TaskNo)
         requires { CanBringUp parts.now task.0 self.old }
         ensures { self.new ≡ brought_up parts.now task.0 self.old }
     {
-        let tasks = parts.tasks.as_slice();
-        self.timers.cancel(task);
-        if let Some(tick) = self.jobs.timer(tasks, task) {
-            self.timers.arm(task, tick);
-        }
-        let key = if self.jobs.is_ready(tasks, task) {
-            Some(self.jobs.base_key(parts, task))
-        } else {
-            None
-        };
-        self.clusters
-            .set(tasks[task.0 as usize - 1].cluster, task, key);
+        let key = self.key(parts, task);
+        self.arm_anew(parts, task);
+        let home = parts.tasks.as_slice()[task.0 as usize - 1].cluster;
+        self.clusters.set(home, task, key);
     }
 
     /// Looks at each task whose moment has come, the earliest first.
@@ -140,7 +176,7 @@ impl GroupState {
         let home = self.clusters.home(cpu);
         let np = self.jobs.runs_non_preemptive(cpu);
         let reply = self.clusters.take_irq(home, cpu, np);
-        if matches!(reply, Reply::Runs(_) | Reply::Idles) {
+        if is_accepted(reply) {
             let running = self.clusters.runs(home, cpu);
             self.jobs.run(cpu, running);
             self.clusters.place_changed();
@@ -157,7 +193,7 @@ impl GroupState {
         ensures room { self.old.jobs.room ≤ self.new.jobs.room + 1 }
     {
         let reply = self.jobs.arrival_reply(parts.tasks.as_slice(), task);
-        if reply == Reply::Done {
+        if is_accepted(reply) {
             self.jobs.arrive(task);
             self.bring_up(parts, task);
             self.clusters.place_changed();
@@ -185,10 +221,10 @@ impl GroupState {
         ensures room { self.new.jobs.room ≡ self.old.jobs.room }
     {
         let reply = self.jobs.op_reply(cpu, task, op, false, true);
-        if reply == Reply::Done {
+        if is_accepted(reply) {
             let tasks = parts.tasks.as_slice();
             let ends = self.jobs.operate(tasks, cpu, task, op, reply, true);
-            if ends || matches!(op, Op::Sleep(_)) {
+            if is_over(op, ends) {
                 self.leave(parts, cpu, task);
             }
         }
@@ -213,4 +249,21 @@ impl GroupState {
             },
         }
     }
+}
+
+/// Whether an act with this reply was done.
+fn is_accepted(reply: Reply) -> bool
+    ensures { result ≡ accepted reply }
+{
+    matches!(
+        reply,
+        Reply::Done | Reply::Runs(_) | Reply::Idles | Reply::Granted | Reply::Queued
+    )
+}
+
+/// Whether an operation that ended its job or not leaves its processor with nothing to run: a Sleep does too.
+fn is_over(op: Op, ends: bool) -> bool
+    ensures { result ≡ ends || is_sleep op }
+{
+    ends || matches!(op, Op::Sleep(_))
 }

@@ -94,7 +94,7 @@ release-op given clock op job = by_kind given.kind
     by_kind Periodic = refl
     by_kind Sporadic = refl
 
-wakes-op : (clock : ℕ) (op : Op) (job : JobFacts) → is_sleep op ≡ false → (op_done clock op job).wakes ≡ job.wakes
+pub wakes-op : (clock : ℕ) (op : Op) (job : JobFacts) → is_sleep op ≡ false → (op_done clock op job).wakes ≡ job.wakes
 wakes-op clock ops.Work job h = zero-max job.wakes
 wakes-op clock (ops.Lock n) job h = zero-max job.wakes
 wakes-op clock (ops.Unlock n) job h = zero-max job.wakes

@@ -8,7 +8,7 @@ use Rattle.rt_task.specs.declared.bad_set.SetKind.TheVariants.{NotTrace}
 use Rattle.rt_task.specs.declared.bad_set.Part.TheVariants.{Line}
 use Rattle.rt_task.specs.Refusals.{bad}
 use Rattle.set_read.specs.Sets.{set}
-use Rattle.group_state.specs.Built.{is_built}
+use Rattle.rt_groups.specs.Built.{is_built}
 use Rattle.trace_read.specs.Reads.{IsRefused}
 use Rattle.trace_read.specs.declared.fault.TraceFault.TheVariants as faults
 use Rattle.trace_laws.specs.ValidTexts.{IsValidText}
@@ -32,7 +32,7 @@ says-unique bytes p q says also =
     let other : set also.set_text ≡ Ok q = also.set_is in
     cc
 
--- what says a set that is played is not refused
+-- what says a set that is checked is not refused
 pub says-unrefused : (bytes : List ℕ) (p : Parts) (b : BadSet) → SaysSet bytes p → TraceIsRefused bytes b → ⊥
 says-unrefused bytes p b says (inl lack) = lack.1 _ says.head.bytes_are
 says-unrefused bytes p b says (inr (inl lack)) = lack.1.no_set _ _ says.head

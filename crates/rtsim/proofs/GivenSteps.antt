@@ -1,24 +1,67 @@
--- The one history that a set that is built gives: of all its steps.
-use Rattle.std.proofs.Common.{◌≡◌, true, [], refl, ap, ◌∙◌}
+-- The steps that a set gives: what each group plays of them, and that their processors are there.
+use Rattle.std.proofs.Common.{◌≡◌, ℕ, ◌<◌, ◌≤◌, true, not, List, [], ◌∷◌, length, map, get_or, ltb-true, refl, ap, ◌∙◌, subst, arith}
+use Rattle.std.specs.Prelude.{All, nat_lt, slice_index_or, sum_by, ◌&&◌}
+use Rattle.std.proofs.lemmas.List.{get_or-map, length-map}
+use Rattle.std.proofs.lemmas.List.Filters.{length-filter_both}
+use Rattle.std.proofs.lemmas.List.Sums.{sum_by-cons}
+use Rattle.rt_base.specs.declared.TheConstants.{MOST_STEPS, TICK_END}
+use Rattle.rt_task.specs.declared.Cluster.{Cluster}
 use Rattle.rt_task.specs.declared.Drive.{Drive}
 use Rattle.rt_task.specs.declared.Drive.TheVariants.{Steps, Horizon}
 use Rattle.rt_task.specs.declared.Parts.{Parts}
+use Rattle.rt_task.specs.declared.Step.{Step}
+use Rattle.rt_task.specs.declared.draft.DraftCluster.{DraftCluster}
+use Rattle.rt_task.specs.Draft.{draft_cluster, draft_drive, draft_of, draft_step, steps_of}
+use Rattle.rt_task.specs.Lookups as lookups
+use Rattle.rt_task.specs.RangeRules.{step_range}
+use Rattle.rt_task.specs.RuleWords.{act_in_range}
 use Rattle.rt_task.specs.Validity.{IsValid}
-use Rattle.rt_model.specs.Group.{Group}
+use Rattle.rt_rules.specs.Numbers.{has}
+use Rattle.rt_rules.proofs.BoolLaws.{both}
+use Rattle.rt_model.specs.Group.{group_processors}
+use Rattle.rt_laws.proofs.ValidSets.{KeepsRule, step_rows}
 use Rattle.rt_plays.specs.Drives.{steps_given}
-use Rattle.rt_plays.specs.Order.{history, history_of, order_by, steps_in_group}
+use Rattle.rt_plays.specs.Order.{order, order_by, steps_in_group}
 use Rattle.rt_plays.specs.Plays.{group_with}
-use Rattle.rt_plays.proofs.ScriptOrder.{all-in_group}
-use Rattle.group_state.specs.Built.{is_built, is_built_drive}
-use Rattle.trace_laws.proofs.StepsGiven.{built-drive, steps-plain}
+use Rattle.rt_plays.specs.Room.{room, room_by}
+use Rattle.rt_plays.proofs.ProcessorLaws.{cpu_count}
+use Rattle.rt_groups.specs.Built.{gives_steps, is_built}
+use Rattle.trace_laws.proofs.Plays.{built-steps}
+use Rattle.trace_laws.proofs.StepsGiven.{steps-few}
 
--- what is built is played in the order of its steps
-order-built : (g : Group) (drive : Drive) → is_built_drive drive ≡ true → order_by g drive ≡ steps_in_group g (steps_given drive)
-order-built g (Steps steps) built = refl
-order-built g (Horizon h) built = cc
+given : (drive : Drive) → gives_steps drive ≡ true → drive ≡ Steps (steps_given drive)
+given (Steps steps) h = refl
+given (Horizon n) h = cc
 
--- all of them are of the one group
-pub history-given : (p : Parts) → IsValid p → is_built p ≡ true → history_of p 0 ≡ history (group_with p 0) [] (steps_given p.drive)
-history-given p valid built =
-    let g : Group = group_with p 0 in
-    ap (history g []) (order-built g p.drive (built-drive p built) ∙ all-in_group g (steps_given p.drive) (steps-plain p valid built).at_processors)
+pub order-given : (p : Parts) (n : ℕ) → is_built p ≡ true → order (group_with p n) ≡ steps_in_group (group_with p n) (steps_given p.drive)
+order-given p n built = ap (order_by (group_with p n)) (given p.drive (built-steps p built))
+
+pub room-given : (p : Parts) (n : ℕ) → is_built p ≡ true → room (group_with p n) ≡ length (steps_in_group (group_with p n) (steps_given p.drive))
+room-given p n built = ap (room_by (group_with p n)) (given p.drive (built-steps p built))
+
+-- no group has more steps than a set may have
+pub room-few : (p : Parts) (n : ℕ) → IsValid p → is_built p ≡ true → room (group_with p n) ≤ MOST_STEPS
+room-few p n valid built =
+    let test = λ (s : Step). has s.cpu.0 (group_processors (group_with p n)) in
+    omega (arith, room-given p n built, length-filter_both test (λ s. not (test s)) (λ s. refl) (steps_given p.drive), steps-few p valid)
+
+-- ---- their processors
+
+cpus-drafted : (ks : List Cluster) → sum_by (λ (c : DraftCluster). c.cpus) (map draft_cluster ks) ≡ cpu_count ks
+cpus-drafted [] = refl
+cpus-drafted (k ∷ ks) = omega (arith, cpus-drafted ks, sum_by-cons (λ (c : DraftCluster). c.cpus) (draft_cluster k) (map draft_cluster ks), sum_by-cons (λ (c : Cluster). c.cpus) k ks)
+
+pub steps-inside : (p : Parts) → IsValid p → All (λ (s : Step). s.cpu.0 < cpu_count p.clusters) (steps_given p.drive)
+unfolding step_range lookups.cpus
+steps-inside p valid i s low = by_drive p.drive refl low
+  where
+    by_drive : (drive : Drive) → p.drive ≡ drive → i < length (steps_given drive) → (get_or (steps_given drive) i s).cpu.0 < cpu_count p.clusters
+    by_drive (Steps steps) same inside =
+        let listed : steps_of (draft_drive p.drive) ≡ map draft_step steps = ap (λ (x : Drive). steps_of (draft_drive x)) same in
+        let there : i < length (steps_of (draft_drive p.drive)) = omega (arith, inside, ap length listed, length-map steps draft_step) in
+        let seen : slice_index_or (steps_of (draft_drive p.drive)) i (draft_step s) ≡ draft_step (get_or steps i s) = ap (λ xs. slice_index_or xs i (draft_step s)) listed ∙ get_or-map draft_step steps i s (draft_step s) inside in
+        let range = subst (λ x. KeepsRule (step_range (draft_of p)) i x) seen ((step_rows p valid).range i (draft_step s) there) in
+        let t : Step = get_or steps i s in
+        let by_cpu : nat_lt t.cpu.0 (lookups.cpus (draft_of p)) ≡ true = (both (nat_lt t.cpu.0 (lookups.cpus (draft_of p))) (nat_lt t.tick.0 TICK_END && act_in_range t.act) range.keeps).0 in
+        omega (arith, ltb-true t.cpu.0 (lookups.cpus (draft_of p)) by_cpu, cpus-drafted p.clusters)
+    by_drive (Horizon h) same inside = absurd (omega arith)

@@ -1,5 +1,8 @@
-pub mod OrderLaws
+pub mod Numbered
+pub mod CpuGroups
 pub mod GivenSteps
+pub mod OrderLaws
+pub mod OneStep
 pub mod PlayableLaws
 pub mod EndLaws
 pub mod SimLaws

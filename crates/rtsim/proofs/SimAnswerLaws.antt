@@ -1,5 +1,5 @@
 -- The answers of `sim`, by how its reading and its writing ended.
-use Rattle.std.proofs.Common.{◌≡◌, ℕ, true, List, [], ◌∷◌, take, get_or, ap, subst, inl, inr}
+use Rattle.std.proofs.Common.{◌≡◌, ℕ, List, [], take, get_or, ap, subst, inl, inr}
 use Rattle.std.specs.Prelude.{◌⊎◌, Result, Err}
 use Rattle.rt_base.specs.declared.TheConstants.{MOST_SET_BYTES}
 use Rattle.rt_task.specs.declared.Parts.{Parts}
@@ -11,10 +11,10 @@ use Rattle.rt_fault.specs.declared.status.Status.{Status}
 use Rattle.rt_fault.specs.declared.status.Status.TheVariants as ends
 use Rattle.rt_model.proofs.PastLaws.{links_are_the_top}
 use Rattle.rtsim.specs.Ends.{Reading, Writing}
+use Rattle.rtsim.specs.Groups.{all_played}
 use Rattle.rtsim.specs.LinksOf.{LinksAreTheTopOf}
-use Rattle.rt_plays.specs.Order.{histories, history_of}
-use Rattle.group_state.specs.Built.{is_built}
-use Rattle.group_state.specs.Groups.{GroupHistory}
+use Rattle.rt_plays.specs.Order.{histories}
+use Rattle.rt_groups.specs.Groups.{GroupHistory}
 use Rattle.trace_lines.specs.FirstLine.{format_1}
 use Rattle.trace_text.specs.Groups as groups
 use Rattle.trace_text.specs.TraceText.{trace_text}
@@ -22,7 +22,7 @@ use Rattle.rtsim.specs.Sim.{WasRead, WasRefused, set_trace}
 use Rattle.rtsim.specs.SimAnswers.{SimAnswers}
 use Rattle.rtsim.specs.Stopped.{EndsReading}
 use Rattle.rtsim.proofs.EndLaws.{ended-well}
-use Rattle.rtsim.proofs.SimLaws.{playable-is_built, one-history, can_play-told, can_play-unrefused}
+use Rattle.rtsim.proofs.SimLaws.{played-histories, can_play-told, can_play-unrefused}
 
 links-of : (p : Parts) (hs : List (List Entry)) → LinksAreTheTopOf p hs
 links-of p hs n k low within c t = links_are_the_top (record { setup = p; number = n }) (take k (get_or hs n [])) c t
@@ -90,12 +90,11 @@ wrote-answers source sink p (ends.BadInput b) read few h = absurd h
 wrote-answers source sink p ends.ReadFault read few h = absurd h
 wrote-answers source sink p ends.TooLong read few h = absurd h
 
--- a set was read, and the trace of its one group written, or a first part of it
+-- a set was read, and the trace of its groups written, or a first part of it
 pub sim-read :
-    (source : Reading) (sink : Writing) (p : Parts) (h : GroupHistory) (hs : List GroupHistory) (answer : Status) → WasRead source p
-    → TakesAtMost MOST_SET_BYTES source.old.left source.new.left → hs ≡ h ∷ [] → h.entries ≡ history_of p 0
+    (source : Reading) (sink : Writing) (p : Parts) (hs : List GroupHistory) (answer : Status) → WasRead source p
+    → TakesAtMost MOST_SET_BYTES source.old.left source.new.left → hs ≡ all_played p
     → Wrote sink (trace_text format_1 p (groups.histories hs)) answer → SimAnswers source sink answer
-sim-read source sink p h hs answer read few only same wrote =
-    let built : is_built p ≡ true = playable-is_built _ _ read.reads in
+sim-read source sink p hs answer read few all wrote =
     wrote-answers source sink p answer read few
-    (subst (λ (es : List (List Entry)). Wrote sink (trace_text format_1 p es) answer) (one-history p h hs read.valid built only same) wrote)
+    (subst (λ (es : List (List Entry)). Wrote sink (trace_text format_1 p es) answer) (played-histories p hs all) wrote)

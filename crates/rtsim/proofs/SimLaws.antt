@@ -1,7 +1,9 @@
--- The one history of a set that is played, and what a run of `sim` cannot answer where the set can be played.
-use Rattle.std.proofs.Common.{◌≡◌, ℕ, Bool, true, false, List, [], ◌∷◌, refl, sym, ap, ◌∙◌, subst}
-use Rattle.std.specs.Prelude.{Option, None, Some, Result, Ok, Err, IsOk, if◌then◌else◌}
+-- The histories of a set that is played, and what a run of `sim` cannot answer where the set can be played.
+use Rattle.std.proofs.Common.{◌≡◌, ℕ, ◌<◌, Bool, true, false, List, [], ◌∷◌, map, refl, sym, ap, ◌∙◌, subst, arith}
+use Rattle.std.specs.Prelude.{All, Option, None, Some, Result, Ok, Err, IsOk, if◌then◌else◌}
 use Rattle.rt_base.specs.declared.TheConstants.{MOST_SET_BYTES}
+use Rattle.rt_history.specs.declared.Entry.{Entry}
+use Rattle.rt_rules.specs.Numbers.{numbers_from}
 use Rattle.rt_task.specs.declared.Parts.{Parts}
 use Rattle.rt_task.specs.declared.bad_set.BadSet.{BadSet}
 use Rattle.rt_task.specs.declared.bad_set.SetKind.TheVariants as kinds
@@ -9,16 +11,19 @@ use Rattle.rt_task.specs.declared.bad_set.Part.TheVariants as parts
 use Rattle.rt_task.specs.Refusals.{bad}
 use Rattle.rt_task.specs.Validity.{IsValid}
 use Rattle.set_read.specs.Sets.{set, ◌>>=◌}
-use Rattle.group_state.specs.Built.{is_built}
-use Rattle.group_state.specs.Groups.{GroupHistory}
+use Rattle.rt_groups.specs.Built.{is_built}
+use Rattle.rt_groups.specs.Groups.{GroupHistory}
 use Rattle.trace_text.specs.Groups.{AreGroupsOf}
 use Rattle.trace_text.specs.Groups as groups
-use Rattle.trace_text.proofs.GroupLaws.{group_count-one, one_group}
+use Rattle.trace_text.proofs.GroupLaws.{all-groups}
 use Rattle.rt_plays.specs.Order.{histories, history_of}
+use Rattle.rt_plays.specs.Plays.{group_count}
 use Rattle.rt_fault.specs.Reading.{TakesAll}
 use Rattle.rtsim.specs.Ends.{Reading}
+use Rattle.rtsim.specs.Groups.{all_played, played}
 use Rattle.rtsim.specs.Sim.{playable, if_built, WasRefused, CanPlay}
 use Rattle.rtsim.proofs.EndLaws.{IsToldWithin}
+use Rattle.rtsim.proofs.Numbered.{at-number, length-numbered}
 
 -- a set that is played is built
 pub playable-is_built : (bytes : List ℕ) (p : Parts) → playable bytes ≡ Ok p → is_built p ≡ true
@@ -33,13 +38,26 @@ playable-is_built bytes p h = by_set (set bytes) h
     by_set (Ok q) k = by_test q (is_built q) refl k
     by_set (Err e) k = cc
 
--- ---- the one group of a set that is played
+-- ---- the groups of a set that has been played
 
-pub one-history : (p : Parts) (h : GroupHistory) (hs : List GroupHistory) → IsValid p → is_built p ≡ true → hs ≡ h ∷ [] → h.entries ≡ history_of p 0 → groups.histories hs ≡ histories p
-one-history p h hs valid built only same = rw (only, group_count-one p valid built, same)
+groups-of : (p : Parts) (ns : List ℕ) → map (λ (h : GroupHistory). h.group) (map (played p) ns) ≡ ns
+groups-of p [] = refl
+groups-of p (n ∷ ns) = ap (λ xs. n ∷ xs) (groups-of p ns)
 
-pub one-group : (p : Parts) (h : GroupHistory) (hs : List GroupHistory) → IsValid p → is_built p ≡ true → hs ≡ h ∷ [] → h.setup ≡ p → h.group ≡ 0 → AreGroupsOf p hs
-one-group p h hs valid built only setup group = subst (AreGroupsOf p) (sym only) (one_group p h valid built setup group)
+histories-of : (p : Parts) (ns : List ℕ) → groups.histories (map (played p) ns) ≡ map (history_of p) ns
+histories-of p [] = refl
+histories-of p (n ∷ ns) = ap (λ (xs : List (List Entry)). history_of p n ∷ xs) (histories-of p ns)
+
+pub played-histories : (p : Parts) (hs : List GroupHistory) → hs ≡ all_played p → groups.histories hs ≡ histories p
+played-histories p hs all = ap groups.histories all ∙ histories-of p (numbers_from 0 (group_count p))
+
+pub played-groups : (p : Parts) (hs : List GroupHistory) → IsValid p → hs ≡ all_played p → AreGroupsOf p hs
+played-groups p hs valid all = subst (AreGroupsOf p) (sym all) (all-groups p (all_played p) valid of_setup (groups-of p (numbers_from 0 (group_count p))))
+  where
+    of_setup : All (λ (h : GroupHistory). h.setup ≡ p) (all_played p)
+    of_setup k d low =
+        let inside : k < group_count p = omega (arith, low, length-numbered (played p) 0 (group_count p)) in
+        ap (λ (h : GroupHistory). h.setup) (at-number (played p) 0 (group_count p) k d inside)
 
 -- ---- a set that can be played
 

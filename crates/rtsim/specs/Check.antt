@@ -9,7 +9,7 @@ use Rattle.rt_task.specs.Refusals.{bad}
 use Rattle.rt_fault.specs.Held.{Extends, ExtendsByPrefix}
 use Rattle.rt_fault.specs.Reading.{TakesAll}
 use Rattle.set_read.specs.Sets.{set}
-use Rattle.group_state.specs.Built.{is_built}
+use Rattle.rt_groups.specs.Built.{is_built}
 use Rattle.trace_read.specs.Reads.{HasHead, HasBadSet, LacksFirstLine, LacksSetLine}
 use Rattle.trace_laws.specs.ValidTexts.{IsValidText}
 use Rattle.trace_check.specs.declared.verdict.Verdict.{Verdict}
@@ -31,7 +31,7 @@ pub record WasTrace (source : Reading) (bytes : List ℕ) (p : Parts) : Type 0 w
   pub within : length bytes ≤ MOST_TRACE_BYTES
   pub says : SaysSet bytes p
 
--- why a text is refused: its first line, its second, the set that this says, or that this set is not played
+-- why a text is refused: its first line, its second, the set that this says, or that this set is not played so far
 pub record SaysUnbuilt (bytes : List ℕ) : Type 0 where
   pub set_text : List ℕ
   pub rest : List ℕ

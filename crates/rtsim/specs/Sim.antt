@@ -15,7 +15,7 @@ use Rattle.rt_fault.specs.declared.status.Status.TheVariants.{Usage, BadInput, R
 use Rattle.rt_fault.specs.declared.status.Status.TheVariants as ends
 use Rattle.rt_fault.specs.Reading.{TakesAll}
 use Rattle.set_read.specs.Sets.{set, ◌>>=◌}
-use Rattle.group_state.specs.Built.{is_built}
+use Rattle.rt_groups.specs.Built.{is_built}
 use Rattle.trace_lines.specs.FirstLine.{format_1}
 use Rattle.trace_text.specs.TraceText.{trace_text}
 use Rattle.rt_plays.specs.Order.{histories}

@@ -6,9 +6,9 @@ ghost use Rattle.rtsim.specs.Sim.{WasRead, WasRefused};
 ghost use Rattle.rtsim.specs.Stopped.{EndsReading};
 
 use crate::refusal::unbuilt;
-use group_engine::is_built;
 use rt_base::MOST_SET_BYTES;
 use rt_fault::{Source, Status, read_all};
+use rt_groups::is_built;
 use rt_task::Setup;
 use set_read::read_set;
 use std::alloc::Global;

@@ -3,6 +3,7 @@
 
 mod check;
 mod fault_line;
+mod groups;
 mod input;
 mod play;
 mod play_set;

@@ -1,25 +1,55 @@
 //! Playing the steps of a set in their order.
-ghost use Rattle.std.specs.Prelude.{◌≡◌, IfOk, true, length};
-ghost use Rattle.group_state.specs.Built.{is_built};
-ghost use Rattle.rt_plays.specs.Order.{history_of};
+ghost use Rattle.std.specs.Prelude.{◌≡◌, IfOk, true};
+ghost use Rattle.rt_task.specs.Validity.{IsValid};
+ghost use Rattle.rt_groups.specs.Built.{is_built};
+ghost use Rattle.rtsim.specs.Groups.{all_opened, all_played, cpu_groups, group_rooms};
 
+use crate::groups::{groups_of_cpus, rooms_of_groups};
 use group_engine::Engine;
 use rt_base::{GroupNo, NoMemory};
 use rt_plays::steps_given;
 use rt_task::Setup;
 use std::alloc::Global;
 
-/// The engine of the set's group, once it has taken all the steps in the given order.
-pub(crate) fn play(alloc: Global, setup: &Setup) -> Result<Engine, NoMemory>
-    requires { is_built setup.now ≡ true }
-    ensures setup { IfOk result (λ e. e.setup ≡ setup.now) }
-    ensures group { IfOk result (λ e. e.group ≡ 0) }
-    ensures entries { IfOk result (λ e. e.entries ≡ history_of setup.now 0) }
+/// An engine for each group, by rising number, with this room.
+fn open_groups(alloc: Global, setup: &Setup, rooms: &[u32]) -> Result<Vec<Engine>, NoMemory>
+    requires valid { IsValid setup.now }
+    requires built { is_built setup.now ≡ true }
+    requires rooms { rooms.now ≡ group_rooms setup.now }
+    ensures { IfOk result (λ v. v.items ≡ all_opened setup.now) }
+{
+    let mut engines = Vec::new(alloc);
+    for (n, room) in rooms.iter().enumerate() {
+        let engine = Engine::open(alloc, setup, GroupNo(n as u32), *room)?;
+        if engines.push(engine).is_err() {
+            return Err(NoMemory);
+        }
+    }
+    Ok(engines)
+}
+
+/// Each engine takes the steps of its group, in the given order. `groups` are those of the processors.
+fn take_steps(setup: &Setup, groups: &[GroupNo], engines: &mut [Engine])
+    requires built { is_built setup.now ≡ true }
+    requires groups { groups.now ≡ cpu_groups setup.now.clusters }
+    requires engines { engines.old ≡ all_opened setup.now }
+    ensures { engines.new ≡ all_played setup.now }
 {
     let steps = steps_given(&setup.parts().drive);
-    let mut engine = Engine::open(alloc, setup, GroupNo(0), steps.len() as u32)?;
     for step in steps {
-        engine.step(*step);
+        let group = groups[step.cpu.0 as usize];
+        engines[group.0 as usize].step(*step);
     }
-    Ok(engine)
+}
+
+/// The engines of the set's groups, once each has taken its steps in the given order.
+pub(crate) fn play(alloc: Global, setup: &Setup) -> Result<Vec<Engine>, NoMemory>
+    requires { is_built setup.now ≡ true }
+    ensures { IfOk result (λ v. v.items ≡ all_played setup.now) }
+{
+    let groups = groups_of_cpus(alloc, setup.parts().clusters.as_slice())?;
+    let rooms = rooms_of_groups(alloc, setup, groups.as_slice())?;
+    let mut engines = open_groups(alloc, setup, rooms.as_slice())?;
+    take_steps(setup, groups.as_slice(), engines.as_mut_slice());
+    Ok(engines)
 }

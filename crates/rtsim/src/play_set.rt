@@ -9,7 +9,6 @@ use crate::input::read_input;
 use crate::play::play;
 use rt_fault::{Sink, Source, Status};
 use std::alloc::Global;
-use std::slice;
 use trace_text::{WriteStop, write_trace};
 
 /// Reads a set, plays its steps in the given order, and writes the trace of the histories that come about.
@@ -29,10 +28,10 @@ pub(crate) fn play_set<S: Source, K: Sink>(alloc: Global, src: &mut S, out: &mut
         Ok(setup) => setup,
         Err(status) => return status,
     };
-    let Ok(engine) = play(alloc, &setup) else {
+    let Ok(engines) = play(alloc, &setup) else {
         return Status::NoMemory;
     };
-    match write_trace(alloc, &setup, slice::from_ref(&engine), out) {
+    match write_trace(alloc, &setup, engines.as_slice(), out) {
         Ok(()) => Status::Ok,
         Err(WriteStop::Fault) => Status::WriteFault,
         Err(WriteStop::NoMemory) => Status::NoMemory,

@@ -1,4 +1,5 @@
-//! The smallest worked examples, whose texts are the published ones, and each answer of the commands with its cause.
+//! The smallest worked examples, a set of two groups, whose texts are the published ones, and each answer of the
+//! commands with its cause.
 
 use crate::fault_line::FaultLine;
 use crate::sim;
@@ -59,7 +60,50 @@ const ONE_STEP_REST: &str = "group 0 0:1 1:2
 end
 ";
 
-const UNBUILT: &str = r#"{"plugin":"PSN-EDF","clusters":[{"cpus":1}],"steps":[]}"#;
+const TWO_GROUPS: &str =
+    r#"{"clusters":[{"cpus":1,"group":0},{"cpus":1,"group":0},{"cpus":1,"group":1}],"plugin":"PSN-EDF","resvs":[],"sems":[],"steps":[[0,0,"irq"],[1,0,"irq"],[0,0,"end"],[1,0,"sleep",8],[2,0,"tick"],[2,0,"irq"],[2,1,"sleep",8],[1,1,"tick"],[2,2,"tick"],[1,2,"tick"],[0,2,"tick"],[1,4,"irq"],[1,5,"irq"],[1,5,"tick"],[2,9,"irq"],[2,9,"npoff"],[2,9,"npon"],[2,9,"npoff"],[2,9,"work"],[2,9,"sleep",3],[2,10,"irq"],[0,6,"tick"],[1,13,"tick"],[0,15,"irq"],[1,15,"tick"],[1,15,"tick"],[0,15,"sleep",8],[1,15,"irq"],[1,15,"sleep",3],[1,30,"tick"]],"tasks":[{"body":[],"cluster":1,"cost":4,"deadline":10,"enforce":false,"kind":"periodic","name":"t1","period":3,"phase":0,"prio":3,"resv":null,"uses":[]},{"body":[],"cluster":0,"cost":3,"deadline":8,"enforce":false,"kind":"periodic","name":"t2","period":8,"phase":0,"prio":5,"resv":null,"uses":[]},{"body":[],"cluster":2,"cost":3,"deadline":5,"enforce":true,"kind":"periodic","name":"t3","period":5,"phase":0,"prio":3,"resv":null,"uses":[]}]}"#;
+
+const TWO_GROUPS_REST: &str = "group 0 0:2 1:1
+0 0 0 irq runs 2
+1 0 1 irq runs 1
+2 0 0 end done 0:-
+3 0 1 sleep 8 done 1:-
+4 1 1 tick done
+5 2 1 tick done
+6 2 0 tick done
+7 4 1 irq quiet
+8 5 1 irq quiet
+9 5 1 tick done
+10 6 0 tick done
+11 13 1 tick done 0:2 1:1
+12 15 0 irq runs 2
+13 15 1 tick done
+14 15 1 tick done
+15 15 0 sleep 8 done 0:-
+16 15 1 irq runs 1
+17 15 1 sleep 3 done 1:-
+18 30 1 tick done 0:2 1:1
+group 1 2:3
+0 0 2 tick done
+1 0 2 irq runs 3
+2 1 2 sleep 8 done 2:-
+3 2 2 tick done
+4 9 2 irq runs 3 2:3
+5 9 2 npoff notinnp
+6 9 2 npon done
+7 9 2 npoff done
+8 9 2 work done
+9 9 2 sleep 3 done 2:-
+10 10 2 irq quiet
+end
+";
+
+const WITH_A_SEM: &str =
+    r#"{"plugin":"GSN-EDF","clusters":[{"cpus":1}],"sems":[{"name":"S","protocol":"FMLP"}],"steps":[]}"#;
+
+const WITH_A_HORIZON: &str = r#"{"plugin":"GSN-EDF","clusters":[{"cpus":1}],"horizon":1}"#;
+
+const NOT_RANKED: &str = r#"{"plugin":"PSN-EDF","clusters":[{"cpus":1}],"steps":[]}"#;
 
 fn words(alloc: Global, texts: &[&str]) -> Result<Vec<String>, Fail> {
     let mut words = Vec::new(alloc);
@@ -133,6 +177,19 @@ fn plays_the_first_path(rt: HostRuntime) -> Result<(), Fail> {
 }
 
 #[test]
+fn plays_each_group(rt: HostRuntime) -> Result<(), Fail> {
+    let head = "rtsched trace 1\nset ";
+    assert!(rt;
+        plays(
+            rt.alloc(),
+            TWO_GROUPS,
+            &[head, TWO_GROUPS, "\n", TWO_GROUPS_REST]
+        )?
+    );
+    Ok(())
+}
+
+#[test]
 fn refuses_what_is_no_json(rt: HostRuntime) -> Result<(), Fail> {
     let wanted = refused(SetKind::NotJson, Part::Whole, 0);
     assert_eq!(rt; answer(rt.alloc(), "{\"plugin\"")?, wanted);
@@ -168,7 +225,8 @@ fn refuses_by_the_first_rule_that_is_broken(rt: HostRuntime) -> Result<(), Fail>
 #[test]
 fn refuses_what_is_not_played_yet(rt: HostRuntime) -> Result<(), Fail> {
     let unbuilt = refused(SetKind::Unbuilt, Part::Whole, 0);
-    assert_eq!(rt; answer(rt.alloc(), UNBUILT)?, unbuilt);
+    assert_eq!(rt; answer(rt.alloc(), WITH_A_SEM)?, unbuilt);
+    assert_eq!(rt; answer(rt.alloc(), WITH_A_HORIZON)?, unbuilt);
     Ok(())
 }
 
@@ -284,7 +342,7 @@ fn refuses_what_is_no_trace(rt: HostRuntime) -> Result<(), Fail> {
             refused(SetKind::NotJson, Part::Whole, 0),
         ),
         (
-            &["rtsched trace 1\nset ", UNBUILT, "\n"],
+            &["rtsched trace 1\nset ", NOT_RANKED, "\n"],
             refused(SetKind::Unbuilt, Part::Whole, 0),
         ),
     ];

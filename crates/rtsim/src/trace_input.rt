@@ -8,14 +8,14 @@ ghost use Rattle.rtsim.specs.Check.{WasTrace, WasNoTrace};
 ghost use Rattle.rtsim.specs.Stopped.{EndsReading};
 
 use crate::refusal::{refused, unbuilt};
-use group_engine::is_built;
+use rt_groups::is_built;
 use rt_base::MOST_TRACE_BYTES;
 use rt_fault::{Source, Status, read_all};
 use rt_task::{Part, SetKind};
 use std::alloc::Global;
 use trace_read::{Trace, TraceFault, read_trace};
 
-/// Reads a trace to its end: one whose set is valid and is played so far.
+/// Reads a trace to its end: one whose set is valid and is one that is played so far.
 pub(crate) fn read_trace_input<S: Source>(
     alloc: Global,
     src: &mut S,

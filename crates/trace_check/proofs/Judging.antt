@@ -1,206 +1,429 @@
 -- Lines that were judged right so far, and what the next one comes to.
-use Rattle.std.proofs.Common.{◌≡◌, ◌≢◌, ℕ, ◌+◌, ◌<◌, ◌≤◌, inl, inr, Bool, true, false, ◌&&◌, ◌==◌, List, [], ◌∷◌, ◌++◌, length, take, get_or, Option, refl, sym, ap, ◌∙◌, subst, arith, eqb-true, append_assoc, length-append}
-use Rattle.std.proofs.lemmas.List.{take_all}
-use Rattle.std.proofs.Math.Seq.{get_or-append_seam}
+use Rattle.std.proofs.Common.{◌≡◌, ◌≢◌, ℕ, suc, ◌+◌, ◌-◌, ◌*◌, ◌<◌, ◌≤◌, ◌^◌, inl, inr, ◌⊎◌, Bool, true, false, ◌&&◌, ◌==◌, List, [], ◌∷◌, ◌++◌, length, take, drop, get_or, Option, None, refl, sym, ap, ◌∙◌, subst, arith, eqb-true, append-nil, append_assoc, length-append}
+use Rattle.std.specs.Prelude.{All, Some, sum_by}
+use Rattle.std.specs.Option.{is_some}
+use Rattle.std.proofs.lemmas.List.Sums.{sum-map, sum_by-cons, sum_by_push}
+use Rattle.std.proofs.lemmas.List.{drop-map, length-drop, length-map, take_all}
+use Rattle.std.proofs.lemmas.List.Elements.{All-append, All-get_or, All-head, All-tail}
 use Rattle.std.proofs.Math.ListN.{get_or-map}
-use Rattle.std.specs.Prelude.{All}
+use Rattle.std.proofs.Math.Seq.{drop-cons, get_or-append_seam}
+use Rattle.rt_base.specs.declared.TheConstants.{MOST_STEPS}
 use Rattle.rt_task.specs.declared.Parts.{Parts}
+use Rattle.rt_task.specs.declared.Step.{Step}
+use Rattle.rt_task.specs.Validity.{IsValid}
 use Rattle.rt_history.specs.declared.Entry.{Entry}
+use Rattle.rt_rules.proofs.MemberLaws.{equal_self}
 use Rattle.rt_model.specs.Group.{Group, group_processors}
-use Rattle.rt_model.specs.Histories.{past_of, reply_to}
-use Rattle.group_state.specs.Groups.{IsProcessorOf}
+use Rattle.rt_groups.specs.Built.{is_built}
+use Rattle.rt_groups.specs.Groups.{IsGroupOf}
+use Rattle.rt_groups.proofs.GroupCount.{groups_are_counted}
+use Rattle.rt_plays.proofs.ScriptParts.{begun-whole, play-of-part}
+use Rattle.rt_plays.specs.Drives.{steps_given}
+use Rattle.rt_plays.specs.Plays.{ArePlays, group_count, group_with}
+use Rattle.rt_plays.specs.ScriptPlays.{IsScriptPlay}
 use Rattle.trace_lines.specs.Lines.{Link, Line, group_line, entry_line, block_line, end_line, count_line, links_of}
-use Rattle.trace_text.specs.TraceText.{links_at}
+use Rattle.trace_text.specs.TraceText.{lines_from, links_at}
+use Rattle.trace_text.proofs.GroupLaws.{groups-few}
+use Rattle.trace_text.proofs.LineLaws.{drop_end, past_none}
 use Rattle.trace_read.specs.Lines.{line_of, lines_of}
 use Rattle.trace_read.specs.declared.lines.Line.TheVariants as read
 use Rattle.trace_read.specs.declared.lines.Line as kinds
+use Rattle.trace_laws.specs.ValidTexts.{IsValidText, entry_count}
+use Rattle.trace_laws.proofs.Plays.{few-entries}
 use Rattle.trace_lines.specs.declared.links.CpuLink.{CpuLink}
-use Rattle.rt_plays.proofs.ScriptParts.{begun-of-play, play-of-part}
-use Rattle.rt_plays.specs.ScriptPlays.{IsScriptPlay}
-use Rattle.rt_plays.specs.Scripts.{script, steps_of}
 use Rattle.trace_check.specs.declared.follow.Follow.{Follow}
-use Rattle.trace_check.specs.declared.verdict.Verdict.{Verdict}
+use Rattle.trace_check.specs.declared.progress.Progress.{Progress}
+use Rattle.trace_check.specs.declared.progress.Followed.{Followed}
 use Rattle.trace_check.specs.declared.verdict.Verdict.TheVariants.{Valid, Invalid}
 use Rattle.trace_check.specs.Verdicts.{IsInvalid}
 use Rattle.trace_check.specs.SameLinks.{same_links}
-use Rattle.trace_check.specs.Following.{first_group, IsAccepted, IsFollowing, IsNextEntry, IsOver, Place}
-use Rattle.trace_check.specs.Judging.{IsEndVerdict, IsJudged, begins_with}
+use Rattle.trace_check.specs.Following.{IsAccepted, IsFollowing, IsFollowingWith, IsNextEntry, IsOver, Place}
+use Rattle.trace_check.specs.GroupLines.{ArePlaysFrom, lines_of_groups, lines_so_far, opening_line}
+use Rattle.trace_check.specs.Judging.{IsJudged, begins_with, begins_with_end}
+use Rattle.trace_check.specs.Progress.{AreAllRight, AreRight, IsEndedAt, IsFollowedTo}
 use Rattle.trace_check.proofs.LinkLists.{same_links-self, same_links-true}
-use Rattle.trace_check.proofs.Nexts.{past-none}
-use Rattle.trace_check.proofs.NextLine.{lines_so_far, next_line, next-of_script, so_far-first, so_far-next, so_far-end}
-use Rattle.trace_check.proofs.Judged.{wrong-first, wrong-next, ended-valid, ended-more}
+use Rattle.trace_check.proofs.GroupLines.{IsNoEnd, lines_so_far-last, lines_so_far-none, next-step, next-told, next_line, so_far-no_end}
+use Rattle.trace_check.proofs.SetLines.{IsEntryNext, IsNextAfter, all-from, completed-between, completed-within, from-all, groups-no_end, lines-last, lines_through, next-between, next-within, plays-append, whole-lines}
+use Rattle.trace_check.proofs.Judged.{ended-valid, stopped}
 
--- the first i lines are right, and their entries were followed
-pub record IsRight (p : Parts) (lines : List Line) (i : ℕ) (f : Follow) : Type 0 where
-  pub entries : List Entry
-  pub following : IsFollowing (first_group p) entries f
-  pub count : i ≡ length entries + 1
-  pub within : i ≤ length lines
-  pub same : take i lines ≡ lines_so_far (first_group p) entries
+-- ---- lines
 
--- the place where such lines stand
-abbrev pub place_at : {p : Parts} → {lines : List Line} → {i : ℕ} → {f : Follow} → IsRight p lines i f → Place
-place_at {p = p} right = record { group = first_group p; entries = right.entries }
+heads : (x y : Line) (xs ys : List Line) → x ∷ xs ≡ y ∷ ys → x ≡ y
+heads x y xs ys e = cc
 
--- the line says the entry that may come next
-abbrev IsNextLine : Group → List Entry → Line → Type 0
-IsNextLine g es (entry_line n e links) = IsNextEntry g es n e links
-IsNextLine g es _ = ⊥
+tails : (x y : Line) (xs ys : List Line) → x ∷ xs ≡ y ∷ ys → xs ≡ ys
+tails x y xs ys e = cc
+
+-- these lines stand in front of a place, and the others behind it
+pub record StandBefore (front ls : List Line) (place : ℕ) : Type 0 where
+  pub place_is : place ≡ length front
+  pub lines_are : ls ≡ front ++ drop place ls
+
+stand-within : (front ls : List Line) (place : ℕ) → StandBefore front ls place → place ≤ length ls
+stand-within front ls place s = omega (arith, ap length s.lines_are, length-append front (drop place ls), s.place_is)
+
+-- the next line, where there is one
+rest-cons : (ls : List Line) (place : ℕ) (l : Line) (others : List Line) → drop place ls ≡ l ∷ others → (place < length ls) × (drop (place + 1) ls ≡ others)
+rest-cons ls place l others is =
+    let inside : place < length ls = omega (arith, ap length is, length-drop place ls) in
+    let next : suc place ≡ place + 1 = omega arith in
+    let parts : get_or ls place l ∷ drop (suc place) ls ≡ l ∷ others = sym (drop-cons ls place l inside) ∙ is in
+    (inside, ap (λ (n : ℕ). drop n ls) (sym next) ∙ tails _ _ _ _ parts)
+
+rest-at : (ls : List Line) (place : ℕ) (d : Line) → place < length ls → drop place ls ≡ get_or ls place d ∷ drop (place + 1) ls
+rest-at ls place d inside = let next : suc place ≡ place + 1 = omega arith in drop-cons ls place d inside ∙ ap (λ (n : ℕ). get_or ls place d ∷ drop n ls) next
+
+-- it stands in front too
+stand-more : (front ls : List Line) (place : ℕ) (l : Line) (others : List Line) → StandBefore front ls place → drop place ls ≡ l ∷ others → StandBefore (front ++ l ∷ []) ls (place + 1)
+stand-more front ls place l others s is = record {
+  place_is = omega (arith, s.place_is, length-append front (l ∷ []));
+  lines_are =
+      s.lines_are ∙ ap (λ (xs : List Line). front ++ xs) (is ∙ ap (λ (xs : List Line). l ∷ xs) (sym (rest-cons ls place l others is).1))
+      ∙ sym (append_assoc front (l ∷ []) (drop (place + 1) ls));
+}
 
 -- the line that was read
 pub line-there : (ls : List kinds.Line) (i : ℕ) (l : kinds.Line) → i < length ls → l ≡ get_or ls i l → get_or (lines_of ls) i (line_of l) ≡ line_of l
 line-there ls i l low is = get_or-map line_of ls i l ∙ ap line_of (sym is)
 
--- a line of another kind
+-- a line of another kind than an entry's
 abbrev pub IsOtherLine : Line → Type 0
 IsOtherLine (entry_line n e links) = ⊥
-IsOtherLine end_line = ⊥
 IsOtherLine _ = Unit {0}
 
-pub other-line : (l : kinds.Line) → ((n : ℕ) (e : Entry) (links : List CpuLink) → l ≢ read.EntryLine n e links) → l ≢ read.EndLine → IsOtherLine (line_of l)
-other-line (read.GroupLine n shown) other no_end = tt
-other-line (read.EntryLine n e links) other no_end = other n e links refl
-other-line (read.BlockLine i t s n m b) other no_end = tt
-other-line read.EndLine other no_end = no_end refl
-other-line (read.CountLine n totals) other no_end = tt
+pub other-line : (l : kinds.Line) → ((n : ℕ) (e : Entry) (links : List CpuLink) → l ≢ read.EntryLine n e links) → IsOtherLine (line_of l)
+other-line (read.GroupLine n shown) other = tt
+other-line (read.EntryLine n e links) other = other n e links refl
+other-line (read.BlockLine i t s n m b) other = tt
+other-line read.EndLine other = tt
+other-line (read.CountLine n totals) other = tt
 
--- the first line of a text
-begins-true : (ks : List Link) (ls : List Line) → begins_with ks ls ≡ true → (1 ≤ length ls) × (get_or ls 0 end_line ≡ group_line 0 ks)
-begins-true ks [] h = cc
-begins-true ks (group_line g shown ∷ ls) h = (omega arith, by_parts (g == 0) (same_links ks shown) refl refl h)
+-- the lines from a place on
+pub rest-read : (ls : List kinds.Line) (n : ℕ) → lines_of (take (length ls - n) (drop n ls)) ≡ drop n (lines_of ls)
+rest-read ls n = ap lines_of (take_all (length ls - n) (drop n ls) (omega (arith, length-drop n ls))) ∙ sym (drop-map line_of n ls)
+
+pub length-read : (ls : List kinds.Line) → length (lines_of ls) ≡ length ls
+length-read ls = length-map ls line_of
+
+-- nothing stops the lines
+pub no-stop : (o : Option ℕ) → is_some o ≡ false → o ≡ None
+no-stop None h = refl
+no-stop (Some n) h = cc
+
+-- no line but the last of plays is `end`
+inner-end : (ls front : List Line) (l : Line) (more : List Line) → All IsNoEnd ls → ls ++ end_line ∷ [] ≡ (front ++ end_line ∷ []) ++ l ∷ more → ⊥
+inner-end [] [] l more none e = cc
+inner-end [] (x ∷ front) l more none e = omega (arith, ap length e, length-append (front ++ end_line ∷ []) (l ∷ more), length-append front (end_line ∷ []))
+inner-end (y ∷ ls) [] l more none e = All-head IsNoEnd y ls none (heads _ _ _ _ e)
+inner-end (y ∷ ls) (x ∷ front) l more none e = inner-end ls front l more (All-tail IsNoEnd y ls none) (tails _ _ _ _ e)
+
+last-end : (ls front : List Line) → All IsNoEnd front → ls ++ end_line ∷ [] ≡ front → ⊥
+last-end ls front none e =
+    let inside : length ls < length front = omega (arith, ap length e, length-append ls (end_line ∷ [])) in
+    All-get_or IsNoEnd front (length ls) end_line inside none (ap (λ (xs : List Line). get_or xs (length ls) end_line) (sym e) ∙ get_or-append_seam ls end_line [] end_line)
+
+-- the first line behind a place
+begins-true : (n : ℕ) (ks : List Link) (ls : List Line) → begins_with n ks ls ≡ true → (others : List Line) × (ls ≡ group_line n ks ∷ others)
+begins-true n ks [] h = cc
+begins-true n ks (group_line g shown ∷ ls) h = (ls, by_parts (g == n) (same_links ks shown) refl refl h)
   where
-    by_parts : (a b : Bool) → g == 0 ≡ a → same_links ks shown ≡ b → a && b ≡ true → group_line g shown ≡ group_line 0 ks
-    by_parts true true ea eb k = let n : g ≡ 0 = omega (arith, eqb-true g 0 ea) in ap (λ m. group_line m shown) n ∙ ap (group_line 0) (sym (same_links-true ks shown eb))
+    by_parts : (a b : Bool) → g == n ≡ a → same_links ks shown ≡ b → a && b ≡ true → group_line g shown ∷ ls ≡ group_line n ks ∷ ls
+    by_parts true true ea eb k = ap (λ (m : ℕ). group_line m shown ∷ ls) (eqb-true g n ea) ∙ ap (λ (xs : List Link). group_line n xs ∷ ls) (sym (same_links-true ks shown eb))
     by_parts true false ea eb k = cc
     by_parts false b ea eb k = cc
-begins-true ks (entry_line n e xs ∷ ls) h = cc
-begins-true ks (block_line i t s n m b ∷ ls) h = cc
-begins-true ks (end_line ∷ ls) h = cc
-begins-true ks (count_line n xs ∷ ls) h = cc
+begins-true n ks (entry_line i e xs ∷ ls) h = cc
+begins-true n ks (block_line i t s a m b ∷ ls) h = cc
+begins-true n ks (end_line ∷ ls) h = cc
+begins-true n ks (count_line i xs ∷ ls) h = cc
 
-begins-self : (ks : List Link) (ls : List Line) → begins_with ks (group_line 0 ks ∷ ls) ≡ true
-begins-self ks ls = same_links-self ks
+begins-self : (n : ℕ) (ks : List Link) (ls : List Line) → begins_with n ks (group_line n ks ∷ ls) ≡ true
+begins-self n ks ls = rw (equal_self n) (same_links-self ks)
 
-one_more : (es : List Entry) (e : Entry) (more : List Entry) → es ++ e ∷ more ≡ (es ++ e ∷ []) ++ more
-one_more es e more = sym (append_assoc es (e ∷ []) more)
+ends-true : (ls : List Line) → begins_with_end ls ≡ true → (others : List Line) × (ls ≡ end_line ∷ others)
+ends-true [] h = cc
+ends-true (group_line g shown ∷ ls) h = cc
+ends-true (entry_line i e xs ∷ ls) h = cc
+ends-true (block_line i t s a m b ∷ ls) h = cc
+ends-true (end_line ∷ ls) h = (ls, refl)
+ends-true (count_line i xs ∷ ls) h = cc
 
-last_home : (h : Group) (es : List Entry) (e : Entry) → All (λ (x : Entry). IsProcessorOf h x.step.cpu.0) (es ++ e ∷ []) → IsProcessorOf h e.step.cpu.0
-last_home h es e all = subst (λ (x : Entry). IsProcessorOf h x.step.cpu.0) (get_or-append_seam es e [] e) (all (length es) e (omega (arith, length-append es (e ∷ []))))
+-- ---- how many entries
 
-module _ (p : Parts) (lines : List Line) (stop : Option ℕ) where
-  abbrev g : Group
-  g = first_group p
+counted : (hs : List (List Entry)) → entry_count hs ≡ sum_by (λ (es : List Entry). length es) hs
+counted hs = sum-map (λ (es : List Entry). length es) hs
 
-  opening : (f : Follow) → IsFollowing g [] f → links_of f.links.items ≡ links_at g [] (group_processors g)
-  opening f fol = fol.links_are ∙ ap (λ past. links_at g past (group_processors g)) (past-none g)
+count-more : (hs : List (List Entry)) (es : List Entry) → entry_count (hs ++ es ∷ []) ≡ entry_count hs + length es
+count-more hs es = omega (arith, counted (hs ++ es ∷ []), counted hs, sum_by_push (λ (xs : List Entry). length xs) hs es)
 
-  pub judged-first : (f : Follow) → IsFollowing g [] f → begins_with (links_of f.links.items) lines ≡ false → IsJudged p lines stop (Invalid 3)
-  judged-first f fol other = λ bytes r same. wrong-first p fol.played.valid fol.played.built bytes lines stop r end_line same (wrong lines other)
-    where
-      wrong : (ls : List Line) → begins_with (links_of f.links.items) ls ≡ false → 1 ≤ length ls → get_or ls 0 end_line ≡ group_line 0 (links_at g [] (group_processors g)) → ⊥
-      wrong [] n some here = omega arith
-      wrong (l ∷ ls) n some here =
-          let is : l ≡ group_line 0 (links_of f.links.items) = here ∙ ap (group_line 0) (sym (opening f fol)) in
-          let yes : begins_with (links_of f.links.items) (l ∷ ls) ≡ true = ap (λ (x : Line). begins_with (links_of f.links.items) (x ∷ ls)) is ∙ begins-self (links_of f.links.items) ls in
-          cc
+count-few : (p : Parts) (n : ℕ) (hs : List (List Entry)) → IsValid p → ArePlaysFrom p n hs → entry_count hs ≤ length hs * MOST_STEPS
+count-few p n [] valid plays = omega arith
+count-few p n (es ∷ hs) valid plays =
+    let one : length es ≤ MOST_STEPS = few-entries (group_with p n) es valid (begun-whole (group_with p n) es plays.0) in
+    omega (arith, one, count-few p (n + 1) hs valid plays.1, counted (es ∷ hs), counted hs, sum_by-cons (λ (xs : List Entry). length xs) es hs)
 
-  pub first-right : (f : Follow) → IsFollowing g [] f → begins_with (links_of f.links.items) lines ≡ true → IsRight p lines 1 f
-  first-right f fol begun =
-      let b = begins-true (links_of f.links.items) lines begun in
-      record {
-        entries = [];
-        following = fol;
-        count = refl;
-        within = b.0;
-        same = so_far-first g lines end_line b.0 (b.1 ∙ ap (group_line 0) (opening f fol));
-      }
+-- ---- lines of groups
 
-  pub accepted-right : (i : ℕ) (f f' : Follow) (right : IsRight p lines i f) (n : ℕ) (e : Entry) (links : List Link) (d : Line) → i < length lines → get_or lines i d ≡ entry_line n e links
-      → IsAccepted (place_at right) n e links f' → IsRight p lines (i + 1) f'
-  accepted-right i f f' right n e links d more here a =
-      let es : List Entry = right.entries in
-      let at : get_or lines (length es + 1) d ≡ next_line g es e =
-      ap (λ m. get_or lines m d) (sym right.count) ∙ here ∙ ap (λ m. entry_line m e links) a.next.number ∙ ap (entry_line (length es) e) a.next.links_are in
-      let so_far : take (length es + 1) lines ≡ lines_so_far g es = ap (λ n. take n lines) (sym right.count) ∙ right.same in
-      let count : i + 1 ≡ length (es ++ e ∷ []) + 1 = omega (arith, right.count, length-append es (e ∷ [])) in
-      record {
-        entries = es ++ e ∷ [];
-        following = a.following;
-        count = count;
-        within = omega (arith, more);
-        same = ap (λ n. take n lines) count ∙ so_far-next g es e lines d (omega (arith, more, right.count)) so_far at;
-      }
+pub group-low : (p : Parts) (n : ℕ) → IsValid p → IsGroupOf p n → n < group_count p
+group-low p n valid there = (groups_are_counted p n valid).0 there
 
-  -- what may come next says so
-  next-entry : (es : List Entry) (e : Entry) (more : List Entry) → IsScriptPlay g (es ++ e ∷ more) → e.reply ≡ reply_to g e.step (past_of g es) → IsNextLine g es (next_line g es e)
-  next-entry es e more play told =
-      record {
-        number = refl;
-        next = record {
-          home = (let part = begun-of-play g (es ++ e ∷ []) more (subst (IsScriptPlay g) (one_more es e more) play) in last_home g es e part.at_home);
-          more = script (steps_of more) e.step.cpu.0;
-          next = next-of_script g es e more play;
-        };
-        reply_is = told;
-        links_are = refl;
-      }
+-- so many of the lines are those of whole groups and of the entries of group n that were followed
+pub record IsRight (p : Parts) (lines : List Line) (n : ℕ) (from : Progress) (place : ℕ) (f : Follow) : Type 0 where
+  pub before : AreRight p lines n from
+  pub entries : List Entry
+  pub following : IsFollowing (group_with p n) entries f
+  pub stands : StandBefore (lines_through p before.histories n entries) lines place
 
-  pub wrong-there : (i : ℕ) (f : Follow) (right : IsRight p lines i f) (d : Line)
-      → (i < length lines → IsNextLine g right.entries (get_or lines i d) → ⊥) → (i < length lines → IsOver g right.entries → get_or lines i d ≡ end_line → ⊥) → IsJudged p lines stop (Invalid (i + 3))
-  wrong-there i f right d no_entry no_end = λ bytes r same.
-      let es : List Entry = right.entries in
-      let so_far : take (length es + 1) lines ≡ lines_so_far g es = ap (λ n. take n lines) (sym right.count) ∙ right.same in
-      let line : length es + 4 ≡ i + 3 = omega (arith, right.count) in
-      let at : get_or lines i d ≡ get_or lines (length es + 1) d = ap (λ n. get_or lines n d) right.count in
-      subst (IsInvalid p bytes) line (wrong-next p right.following.played.valid right.following.played.built bytes lines stop r es d same right.following.begun (omega (arith, right.count, right.within)) so_far
-      (λ e more long play told is. no_entry (omega (arith, long, right.count)) (subst (IsNextLine g es) (sym (at ∙ is)) (next-entry es e more play told)))
-      (λ long play is. no_end (omega (arith, long, right.count)) (λ q there. sym (play.scripts q there)) (at ∙ is)))
+-- where they were followed to
+abbrev pub place_at : {p : Parts} → {lines : List Line} → {n : ℕ} → {from : Progress} → {place : ℕ} → {f : Follow} → IsRight p lines n from place f → Place
+place_at {p = p} {n = n} right = record { group = group_with p n; entries = right.entries }
 
-  pub refused-there : (i : ℕ) (f : Follow) (right : IsRight p lines i f) (n : ℕ) (e : Entry) (links : List Link) (d : Line) → get_or lines i d ≡ entry_line n e links
-      → (IsNextEntry g right.entries n e links → ⊥) → IsJudged p lines stop (Invalid (i + 3))
-  refused-there i f right n e links d here not_next =
-      wrong-there i f right d (λ more k. not_next (subst (IsNextLine g right.entries) here k)) (λ more over is. (let k : entry_line n e links ≡ end_line = sym here ∙ is in cc))
+-- the line that shows the links of a group at opening
+pub opened-line : {p : Parts} → (n : ℕ) (f : Follow) → IsFollowing (group_with p n) [] f → group_line n (links_of f.links.items) ≡ opening_line (group_with p n)
+opened-line {p = p} n f following =
+    let g : Group = group_with p n in
+    ap (group_line n) (following.links_are ∙ ap (λ past. links_at g past (group_processors g)) (past_none g))
 
-  pub other-there : (i : ℕ) (f : Follow) (right : IsRight p lines i f) (d : Line) → IsOtherLine (get_or lines i d) → IsJudged p lines stop (Invalid (i + 3))
-  other-there i f right d other = wrong-there i f right d (λ more n. not_entry (get_or lines i d) other n) (λ more over is. subst IsOtherLine is other)
-    where
-      not_entry : (l : Line) → IsOtherLine l → IsNextLine g right.entries l → ⊥
-      not_entry (entry_line n e links) o k = o
-      not_entry (group_line n shown) o k = k
-      not_entry (block_line i t s n m b) o k = k
-      not_entry end_line o k = k
-      not_entry (count_line n xs) o k = k
+module _ (p : Parts) (lines : List Line) where
+  stands-before : {n : ℕ} → {r : Progress} → (right : AreRight p lines n r) → StandBefore (lines_of_groups p 0 right.histories) lines r.lines
+  stands-before right = record { place_is = right.place_is; lines_are = right.lines_are }
 
-  pub runs-out : (i : ℕ) (f : Follow) → IsRight p lines i f → length lines ≤ i → IsJudged p lines stop (Invalid (length lines + 3))
-  runs-out i f right all =
-      let is : i ≡ length lines = omega (arith, all, right.within) in
-      subst (λ n. IsJudged p lines stop (Invalid (n + 3))) is (wrong-there i f right end_line (λ more n. omega (arith, more, all)) (λ more over n. omega (arith, more, all)))
+  pub right-within : (n : ℕ) (r : Progress) → AreRight p lines n r → r.lines ≤ length lines
+  right-within n r right = stand-within (lines_of_groups p 0 right.histories) lines r.lines (stands-before right)
 
-  pub ended-there : (i : ℕ) (f : Follow) (right : IsRight p lines i f) (v : Verdict) (d : Line) → i < length lines → get_or lines i d ≡ end_line
-      → IsEndVerdict (place_at right) f.count i (length lines) stop v → IsJudged p lines stop v
-  ended-there i f right v d more here is = by_case is
-    where
-      es : List Entry
-      es = right.entries
+  -- before all groups
+  pub right-first : AreRight p lines 0 (record { lines = 0; entries = 0 })
+  right-first = record { histories = []; plays = tt; count = refl; place_is = refl; lines_are = refl; entries_are = refl }
 
-      there : get_or lines (length es + 1) d ≡ end_line
-      there = ap (λ n. get_or lines n d) (sym right.count) ∙ here
+  -- plays have a line `end`
+  ended : (hs : List (List Entry)) (front : List Line) → IsValid p → is_built p ≡ true → ArePlays p hs → All IsNoEnd front → lines_from p 0 hs ≡ front → ⊥
+  ended hs front valid built plays none is = last-end (lines_of_groups p 0 hs) front none (sym (whole-lines p 0 hs valid built (all-from p hs built plays)) ∙ is)
 
-      long : length es + 2 ≤ length lines
-      long = omega (arith, more, right.count)
+  -- ---- the line of a group
 
-      ended : take (length es + 2) lines ≡ lines_so_far g es ++ end_line ∷ []
-      ended = so_far-end g es lines d long (ap (λ n. take n lines) (sym right.count) ∙ right.same) there
+  module _ (n : ℕ) (r : Progress) (right : AreRight p lines n r) (valid : IsValid p) (built : is_built p ≡ true) (low : n < group_count p) where
+    -- it is not there
+    pub opened-wrong : (links : List Link) → group_line n links ≡ opening_line (group_with p n) → begins_with n links (drop r.lines lines) ≡ false → (stop : Option ℕ) → IsJudged p lines stop (Invalid (r.lines + 3))
+    opened-wrong links shown other stop bytes t same = subst (λ (m : ℕ). IsInvalid p bytes (m + 3)) (sym right.place_is) (stopped p valid built bytes lines stop t front rest same (record {
+      lines_are = right.lines_are;
+      plays = all.0;
+      are_plays = all.1;
+      later = all.2.0;
+      plays_begin = all.2.1;
+      no_more = λ hs l others ls plays here begin. none_next l others here (next-between p valid built hs right.histories l ls plays right.plays begin);
+      not_whole = λ hs plays none begin stops. ended hs front valid built plays (groups-no_end p 0 right.histories) begin;
+    }))
+      where
+        front : List Line
+        front = lines_of_groups p 0 right.histories
 
-      by_case : IsEndVerdict (place_at right) f.count i (length lines) stop v → IsJudged p lines stop v
-      by_case (inl h) = subst (IsJudged p lines stop) (sym h.0) (wrong-there i f right d (λ m n. not_entry (subst (IsNextLine g es) here n)) (λ m over k. h.1 over))
-        where
-          not_entry : IsNextLine g es end_line → ⊥
-          not_entry k = k
-      by_case (inr (inl h)) = subst (IsJudged p lines stop) (sym h.0) (λ bytes r same.
-          let line : length es + 5 ≡ i + 1 + 3 = omega (arith, right.count) in
-          subst (IsInvalid p bytes) line (ended-more p right.following.played.valid right.following.played.built bytes lines stop r es same (play-of-part g es right.following.begun h.1) long ended
-          (λ count none. h.2 (omega (arith, count, right.count)) none)))
-      by_case (inr (inr h)) = subst (IsJudged p lines stop) (sym (h.0 ∙ ap Valid right.following.count_is)) (λ bytes r same.
-          let all : lines ≡ lines_so_far g es ++ end_line ∷ [] = sym (take_all (length es + 2) lines (omega (arith, h.2, right.count))) ∙ ended in
-          ended-valid p right.following.played.valid right.following.played.built bytes lines stop r es same (play-of-part g es right.following.begun h.1) all h.3)
+        rest : List Line
+        rest = drop r.lines lines
+
+        all : (hs : List (List Entry)) × ArePlays p hs × ((ls : List Line) × (lines_from p 0 hs ≡ front ++ ls))
+        all = completed-between p valid built right.histories right.plays (omega (arith, low, right.count))
+
+        none_next : (l : Line) (others : List Line) → rest ≡ l ∷ others → IsNextAfter p (length right.histories) l → ⊥
+        none_next l others here (inl next) =
+            let is : l ≡ group_line n links = next.line_is ∙ ap (λ (m : ℕ). opening_line (group_with p m)) right.count ∙ sym shown in
+            let yes : begins_with n links rest ≡ true = ap (begins_with n links) (here ∙ ap (λ (x : Line). x ∷ others) is) ∙ begins-self n links others in
+            cc
+        none_next l others here (inr next) = omega (arith, next.all, low, right.count)
+
+    -- it is
+    pub opened-right : (f : Follow) → IsFollowing (group_with p n) [] f → begins_with n (links_of f.links.items) (drop r.lines lines) ≡ true → IsRight p lines n r (r.lines + 1) f
+    opened-right f following begins =
+        let line = begins-true n (links_of f.links.items) (drop r.lines lines) begins in
+        let g : Group = group_with p n in
+        let more = stand-more (lines_of_groups p 0 right.histories) lines r.lines (group_line n (links_of f.links.items)) line.0 (stands-before right) line.1 in
+        record {
+          before = right;
+          entries = [];
+          following = following;
+          stands = subst (λ (xs : List Line). StandBefore (lines_of_groups p 0 right.histories ++ xs) lines (r.lines + 1)) (ap (λ (l : Line). l ∷ []) (opened-line n f following) ∙ sym (lines_so_far-none g)) more;
+        }
+
+  -- ---- lines of entries
+
+  -- they were followed by the set's steps
+  pub followed-with : {n : ℕ} → {from : Progress} → {place : ℕ} → {f : Follow} → (right : IsRight p lines n from place f) (steps : List Step) → steps ≡ steps_given p.drive → IsFollowingWith (place_at right) steps f
+  followed-with right steps given = record { following = right.following; steps_are = given }
+
+  module _ (n : ℕ) (from : Progress) (place : ℕ) (f : Follow) (right : IsRight p lines n from place f) where
+    abbrev g : Group
+    g = group_with p n
+
+    abbrev es : List Entry
+    es = right.entries
+
+    abbrev done : List (List Entry)
+    done = right.before.histories
+
+    abbrev front : List Line
+    front = lines_through p done n es
+
+    valid : IsValid p
+    valid = right.following.valid
+
+    built : is_built p ≡ true
+    built = right.following.built
+
+    low : n < group_count p
+    low = group-low p n valid right.following.is_there
+
+    -- the next entry is followed
+    pub accepted-right : (i : ℕ) (e : Entry) (links : List Link) (d : Line) (f' : Follow) → place < length lines → get_or lines place d ≡ entry_line i e links → IsAccepted (place_at right) i e links f' → IsRight p lines n from (place + 1) f'
+    accepted-right i e links d f' inside here a =
+        let is : drop place lines ≡ next_line g es e ∷ drop (place + 1) lines =
+        rest-at lines place d inside
+        ∙ ap (λ (l : Line). l ∷ drop (place + 1) lines) (here ∙ ap (λ (m : ℕ). entry_line m e links) a.next.number ∙ ap (entry_line (length es) e) a.next.links_are) in
+        record {
+          before = right.before;
+          entries = es ++ e ∷ [];
+          following = a.following;
+          stands = subst (λ (xs : List Line). StandBefore xs lines (place + 1)) more (stand-more front lines place (next_line g es e) (drop (place + 1) lines) right.stands is);
+        }
+      where
+        more : front ++ next_line g es e ∷ [] ≡ lines_through p done n (es ++ e ∷ [])
+        more = append_assoc (lines_of_groups p 0 done) (lines_so_far g es) (next_line g es e ∷ []) ∙ ap (λ (xs : List Line). lines_of_groups p 0 done ++ xs) (sym (lines_so_far-last g es e))
+
+    -- the line behind them is wrong where none that may come there is it
+    wrong-there : ((l : Line) (others : List Line) → drop place lines ≡ l ∷ others → IsEntryNext g es l ⊎ (IsScriptPlay g es × IsNextAfter p (n + 1) l) → ⊥) → (stop : Option ℕ) → IsJudged p lines stop (Invalid (place + 3))
+    wrong-there none stop bytes t same = subst (λ (m : ℕ). IsInvalid p bytes (m + 3)) (sym right.stands.place_is) (stopped p valid built bytes lines stop t front (drop place lines) same (record {
+      lines_are = right.stands.lines_are;
+      plays = all.0;
+      are_plays = all.1;
+      later = all.2.0;
+      plays_begin = all.2.1;
+      no_more = λ hs l others ls plays here begin. none l others here (next-within p valid built hs done n es l ls plays right.before.count begin);
+      not_whole = λ hs plays rest begin stops. ended hs front valid built plays (All-append IsNoEnd (lines_of_groups p 0 done) (lines_so_far g es) (groups-no_end p 0 done) (so_far-no_end g es)) begin;
+    }))
+      where
+        all : (hs : List (List Entry)) × ArePlays p hs × ((ls : List Line) × (lines_from p 0 hs ≡ front ++ ls))
+        all = completed-within p valid built done n es right.before.plays right.before.count low right.following.begun
+
+    -- an entry that is not the next one
+    pub refused-there : (i : ℕ) (e : Entry) (links : List Link) (d : Line) → place < length lines → get_or lines place d ≡ entry_line i e links → (IsNextEntry g es i e links → ⊥) → (stop : Option ℕ) → IsJudged p lines stop (Invalid (place + 3))
+    refused-there i e links d inside here refused = wrong-there none
+      where
+        same_entry : (l : Line) → l ≡ entry_line i e links → IsEntryNext g es l ⊎ (IsScriptPlay g es × IsNextAfter p (n + 1) l) → ⊥
+        same_entry l is (inl next) =
+            let line : next_line g es next.entry ≡ entry_line i e links = sym next.line_is ∙ is in
+            refused (subst IsNextLine line (record { number = refl; next = next-step g es next.entry next.more next.play; reply_is = next-told g es next.entry next.more next.play; links_are = refl }))
+          where
+            IsNextLine : Line → Type 0
+            IsNextLine (entry_line m x ks) = IsNextEntry g es m x ks
+            IsNextLine _ = ⊥
+        same_entry l is (inr (play, inl next)) = let line : entry_line i e links ≡ opening_line (group_with p (n + 1)) = sym is ∙ next.line_is in cc
+        same_entry l is (inr (play, inr next)) = let line : entry_line i e links ≡ end_line = sym is ∙ next.line_is in cc
+
+        none : (l : Line) (others : List Line) → drop place lines ≡ l ∷ others → IsEntryNext g es l ⊎ (IsScriptPlay g es × IsNextAfter p (n + 1) l) → ⊥
+        none l others is = same_entry l (heads _ _ _ _ (sym is ∙ rest-at lines place d inside) ∙ here)
+
+    -- no entry line is there
+    abbrev pub NoEntryThere : Type 0
+    NoEntryThere = (l : Line) (others : List Line) → drop place lines ≡ l ∷ others → IsOtherLine l
+
+    pub other-there : (d : Line) → place < length lines → IsOtherLine (get_or lines place d) → NoEntryThere
+    other-there d inside other l others is = subst IsOtherLine (heads _ _ _ _ (sym (rest-at lines place d inside) ∙ is)) other
+
+    pub none-there : length lines ≤ place → NoEntryThere
+    none-there all l others is = absurd (omega (arith, all, ap length is, length-drop place lines))
+
+    -- and a step is left
+    unfinished-there : NoEntryThere → (IsOver g es → ⊥) → (stop : Option ℕ) → IsJudged p lines stop (Invalid (place + 3))
+    unfinished-there other left = wrong-there none
+      where
+        none : (l : Line) (others : List Line) → drop place lines ≡ l ∷ others → IsEntryNext g es l ⊎ (IsScriptPlay g es × IsNextAfter p (n + 1) l) → ⊥
+        none l others is (inl next) = subst IsOtherLine next.line_is (other l others is)
+        none l others is (inr next) = left (λ q there. sym (next.0.scripts q there))
+
+    pub place-within : place ≤ length lines
+    place-within = stand-within front lines place right.stands
+
+    -- all the steps of the group were followed
+    group-right : IsOver g es → AreRight p lines (n + 1) (record { lines = place; entries = from.entries + f.count })
+    group-right over =
+        let all : lines_of_groups p 0 (done ++ es ∷ []) ≡ front = lines-last p done n es right.before.count in
+        let here : n ≡ 0 + length done = omega (arith, right.before.count) in
+        record {
+          histories = done ++ es ∷ [];
+          plays = plays-append p 0 done (es ∷ []) right.before.plays (subst (λ (m : ℕ). IsScriptPlay (group_with p m) es) here (play-of-part g es right.following.begun over), tt);
+          count = omega (arith, right.before.count, length-append done (es ∷ []));
+          place_is = right.stands.place_is ∙ ap length (sym all);
+          lines_are = right.stands.lines_are ∙ ap (λ (xs : List Line). xs ++ drop place lines) (sym all);
+          entries_are = omega (arith, right.before.entries_are, right.following.count_is, count-more done es);
+        }
+
+    pub entries-few : from.entries + f.count < 2 ^ 32
+    entries-few =
+        let before : entry_count done ≤ length done * MOST_STEPS = count-few p 0 done valid right.before.plays in
+        let here : length es ≤ MOST_STEPS = few-entries g es valid right.following.begun in
+        let groups : group_count p ≤ 64 = groups-few p valid in
+        omega (arith, before, here, groups, low, right.before.count, right.before.entries_are, right.following.count_is)
+
+    -- what comes of it
+    pub ended-there : (fd : Followed) → NoEntryThere → IsEndedAt (place_at right) from f.count place fd → IsFollowedTo p lines n fd
+    ended-there fd other (inl h) = subst (IsFollowedTo p lines n) (sym h.0) (unfinished-there other h.1)
+    ended-there fd other (inr h) = subst (IsFollowedTo p lines n) (sym h.0) (group-right h.1)
+
+  -- ---- the line `end`
+
+  module _ (r : Progress) (all : AreAllRight p lines r) where
+    abbrev hs : List (List Entry)
+    hs = all.right.histories
+
+    abbrev groups : List Line
+    groups = lines_of_groups p 0 hs
+
+    plays_all : ArePlays p hs
+    plays_all = from-all p hs all.built all.right.plays all.right.count
+
+    lines_all : lines_from p 0 hs ≡ groups ++ end_line ∷ []
+    lines_all = whole-lines p 0 hs all.valid all.built all.right.plays
+
+    -- it is not there
+    pub end-wrong : begins_with_end (drop r.lines lines) ≡ false → (stop : Option ℕ) → IsJudged p lines stop (Invalid (r.lines + 3))
+    end-wrong other stop bytes t same = subst (λ (m : ℕ). IsInvalid p bytes (m + 3)) (sym all.right.place_is) (stopped p all.valid all.built bytes lines stop t groups (drop r.lines lines) same (record {
+      lines_are = all.right.lines_are;
+      plays = hs;
+      are_plays = plays_all;
+      later = end_line ∷ [];
+      plays_begin = lines_all;
+      no_more = λ ps l others ls plays here begin. none_next l others here (next-between p all.valid all.built ps hs l ls plays all.right.plays begin);
+      not_whole = λ ps plays none begin stops. ended ps groups all.valid all.built plays (groups-no_end p 0 hs) begin;
+    }))
+      where
+        none_next : (l : Line) (others : List Line) → drop r.lines lines ≡ l ∷ others → IsNextAfter p (length hs) l → ⊥
+        none_next l others here (inl next) = omega (arith, next.low, all.right.count)
+        none_next l others here (inr next) =
+            let yes : begins_with_end (drop r.lines lines) ≡ true = ap begins_with_end (here ∙ ap (λ (x : Line). x ∷ others) next.line_is) in
+            cc
+
+    module _ (there : begins_with_end (drop r.lines lines) ≡ true) where
+      abbrev whole : List Line
+      whole = groups ++ end_line ∷ []
+
+      stands : StandBefore whole lines (r.lines + 1)
+      stands = let e = ends-true (drop r.lines lines) there in stand-more groups lines r.lines end_line e.0 (stands-before all.right) e.1
+
+      pub end-inside : r.lines < length lines
+      end-inside = let e = ends-true (drop r.lines lines) there in (rest-cons lines r.lines end_line e.0 e.1).0
+
+      -- more is behind it
+      pub end-more : (stop : Option ℕ) → (r.lines + 1 ≡ length lines → stop ≡ None → ⊥) → IsJudged p lines stop (Invalid (r.lines + 1 + 3))
+      end-more stop more bytes t same = subst (λ (m : ℕ). IsInvalid p bytes (m + 3)) (sym stands.place_is) (stopped p all.valid all.built bytes lines stop t whole (drop (r.lines + 1) lines) same (record {
+        lines_are = stands.lines_are;
+        plays = hs;
+        are_plays = plays_all;
+        later = [];
+        plays_begin = lines_all ∙ sym (append-nil whole);
+        no_more = λ ps l others ls plays here begin. inner-end (lines_of_groups p 0 ps) groups l ls (groups-no_end p 0 ps) (sym (whole-lines p 0 ps all.valid all.built (all-from p ps all.built plays)) ∙ begin);
+        not_whole = λ ps plays none begin stops. more (let m = stand-within whole lines (r.lines + 1) stands in omega (arith, m, ap length none, length-drop (r.lines + 1) lines)) stops;
+      }))
+
+      -- nothing is
+      pub end-valid : (stop : Option ℕ) → r.lines + 1 ≡ length lines → stop ≡ None → IsJudged p lines stop (Valid r.entries)
+      end-valid stop last none bytes t same =
+          let rest : drop (r.lines + 1) lines ≡ [] = drop_end lines (r.lines + 1) (omega (arith, last)) in
+          let is : lines ≡ lines_from p 0 hs = stands.lines_are ∙ ap (λ (xs : List Line). whole ++ xs) rest ∙ append-nil whole ∙ sym lines_all in
+          subst (IsValidText p bytes) (sym all.right.entries_are) (ended-valid p all.valid all.built bytes lines stop t hs same plays_all is none)

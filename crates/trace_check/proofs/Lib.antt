@@ -1,7 +1,9 @@
 pub mod LinkLists
-pub mod NextLine
-pub mod Judged
-pub mod Nexts
-pub mod Accepting
-pub mod Judging
 pub mod HeadText
+pub mod Places
+pub mod Opening
+pub mod Accepting
+pub mod GroupLines
+pub mod SetLines
+pub mod Judged
+pub mod Judging

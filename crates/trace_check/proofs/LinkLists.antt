@@ -1,28 +1,13 @@
 -- Lists of links.
-use Rattle.std.proofs.Common.{◌≡◌, ◌≢◌, ℕ, zero, suc, ◌+◌, ◌==◌, Bool, true, false, ◌&&◌, List, [], ◌∷◌, ◌++◌, length, eqb-true, refl, sym, ap, ◌∙◌, arith}
+use Rattle.std.proofs.Common.{◌≡◌, ◌≢◌, ℕ, suc, ◌==◌, Bool, true, false, ◌&&◌, List, [], ◌∷◌, ◌++◌, length, eqb-true, refl, sym, ap, ◌∙◌, arith}
 use Rattle.std.specs.Prelude.{Option, None, Some}
 use Rattle.std.proofs.lemmas.List.{map-append, length-map}
 use Rattle.std.proofs.lemmas.Bool.Decides.{nat_tests}
 use Rattle.rt_base.specs.TaskNos.{number_of_task}
-use Rattle.rt_rules.specs.Numbers.{numbers_from, same}
-use Rattle.rt_model.specs.Group.{Group}
-use Rattle.rt_model.specs.Past.{Past}
-use Rattle.rt_model.specs.Links.{linked}
+use Rattle.rt_rules.specs.Numbers.{same}
 use Rattle.trace_lines.specs.declared.links.CpuLink.{CpuLink}
 use Rattle.trace_lines.specs.Lines.{Link, links_of}
-use Rattle.trace_text.specs.TraceText.{links_at}
 use Rattle.trace_check.specs.SameLinks.{same_links}
-
-numbers-push : (a n : ℕ) → numbers_from a (suc n) ≡ numbers_from a n ++ (a + n) ∷ []
-numbers-push a zero = let e : a + 0 ≡ a = omega arith in rw e
-numbers-push a (suc n) = let e : suc a + n ≡ a + suc n = omega arith in ap (λ xs. a ∷ xs) (numbers-push (suc a) n ∙ ap (λ k. numbers_from (suc a) n ++ k ∷ []) e)
-
--- one processor more
-pub links_at-next : (g : Group) (past : Past) (q : ℕ) → links_at g past (numbers_from 0 (q + 1)) ≡ links_at g past (numbers_from 0 q) ++ (q, linked g q past) ∷ []
-links_at-next g past q =
-    let more : q + 1 ≡ suc q = omega arith in
-    let at : 0 + q ≡ q = omega arith in
-    ap (λ n. links_at g past (numbers_from 0 n)) more ∙ ap (links_at g past) (numbers-push 0 q ∙ ap (λ k. numbers_from 0 q ++ k ∷ []) at) ∙ map-append (λ r. (r, linked g r past)) (numbers_from 0 q) (q ∷ [])
 
 pub links_of-push : (xs : List CpuLink) (x : CpuLink) → links_of (xs ++ x ∷ []) ≡ links_of xs ++ (x.cpu.0, number_of_task x.task) ∷ []
 links_of-push xs x = map-append (λ (y : CpuLink). (y.cpu.0, number_of_task y.task)) xs (x ∷ [])

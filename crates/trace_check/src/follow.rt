@@ -3,85 +3,64 @@ ghost use Rattle.std.specs.Prelude.{◌≡◌, ◌+◌, ◌<◌, ◌≤◌, ◌�
 ghost use Rattle.std.specs.Prelude.{IfOk, length, MatchOption};
 ghost use Rattle.rt_history.specs.declared.Entry.{Entry};
 ghost use Rattle.rt_model.specs.Histories.{after, past_of, reply_to};
-ghost use Rattle.group_state.specs.Built.{is_built};
-ghost use Rattle.group_state.specs.Groups.{IsGroupOf};
+ghost use Rattle.rt_groups.specs.Built.{is_built};
+ghost use Rattle.rt_groups.specs.Groups.{IsGroupOf};
+ghost use Rattle.rt_plays.specs.Plays.{group_with};
 ghost use Rattle.rank_afresh.specs.Standing.{IsAt, group_of};
 ghost use Rattle.trace_lines.specs.Lines.{links_of};
-ghost use Rattle.rt_plays.specs.Drives.{steps_given};
-ghost use Rattle.trace_check.specs.Following.{CanStep, first_group, IsAccepted, IsFollowing};
-ghost use Rattle.trace_check.specs.Following.{IsFollowingWith, IsNextEntry, IsNextPlace};
-ghost use Rattle.trace_check.specs.Following.{IsNextStep, IsOver, Place};
+ghost use Rattle.trace_check.specs.Following.{CanStep, IsAccepted, IsFollowing};
+ghost use Rattle.trace_check.specs.Following.{IsFollowingWith, IsNextEntry, IsOver, Place};
 
 use crate::links::{are_same, read_links};
-use crate::room::places;
-use crate::same::{is_same_reply, is_same_step};
-use crate::scripts::next_of;
+use crate::same::is_same_reply;
+use crate::scripts::Scripts;
 use rank_afresh::Afresh;
-use rt_base::{CpuNo, GroupNo, MOST_STEPS, NoMemory};
+use rt_base::{CpuNo, GroupNo, NoMemory};
 use rt_history::{Entry, Reply};
+use rt_plays::steps_given;
 use rt_task::{Setup, Step};
 use std::alloc::Global;
 use std::mem;
 use trace_lines::CpuLink;
-use trace_text::put_changed;
+use trace_text::{cpus_of, put_changed};
 
-/// A group whose entries are followed: the ranker that replays them, the number of its processors,
-/// their links now and before the last entry, those that this entry changed, how many of the set's
-/// steps are behind each processor, and the number of entries.
+/// A group whose entries are followed: the ranker that replays them, the group's processors, their
+/// links now and before the last entry, those that this entry changed, how far the scripts of the
+/// processors were followed, and the number of entries.
 #[derive(Drop)]
 pub(crate) struct Follow {
     afresh: Afresh,
-    cpus: u32,
+    cpus: Vec<CpuNo>,
     links: Vec<CpuLink>,
     before: Vec<CpuLink>,
     changed: Vec<CpuLink>,
-    passed: Vec<usize>,
+    scripts: Scripts,
     count: u32,
 }
 
 impl Follow {
-    /// The one group of a setup at opening.
-    pub(crate) fn open(alloc: Global, setup: &Setup) -> Result<Follow, NoMemory>
-        requires group { IsGroupOf setup.now 0 }
+    /// A group of a setup at opening. There is room for as many entries as the group has steps.
+    pub(crate) fn open(alloc: Global, setup: &Setup, group: GroupNo) -> Result<Follow, NoMemory>
+        requires group { IsGroupOf setup.now group.0 }
         requires built { is_built setup.now ≡ true }
-        ensures { IfOk result (λ f. IsFollowing (first_group setup.now) [] f) }
+        ensures { IfOk result (λ f. IsFollowing (group_with setup.now group.0) [] f) }
     {
-        let cpus = setup.parts().clusters.as_slice()[0].cpus;
-        let afresh = Afresh::open(alloc, setup, GroupNo(0), MOST_STEPS)?;
+        let steps = steps_given(&setup.parts().drive);
+        let cpus = cpus_of(alloc, setup, group)?;
+        let scripts = Scripts::open(alloc, cpus.as_slice())?;
+        let room = scripts.count(steps);
+        let afresh = Afresh::open(alloc, setup, group, room)?;
         let mut links = Vec::new(alloc);
-        read_links(&afresh, cpus, &mut links)?;
-        let passed = places(alloc, cpus as usize)?;
+        read_links(&afresh, cpus.as_slice(), &mut links)?;
         Ok(Follow {
             afresh,
             cpus,
             links,
             before: Vec::new(alloc),
             changed: Vec::new(alloc),
-            passed,
+            scripts,
             count: 0,
         })
-    }
-
-    /// The place of a step among the set's steps, where it is the next one of its processor.
-    fn place_of(&self, steps: &[Step], step: Step) -> Option<usize>
-        requires { (at : Place) × IsFollowingWith at steps.now self.now }
-        ensures { (at : Place) → IsFollowingWith at steps.now self.now → MatchOption result
-            (IsNextStep at.group at.entries step → ⊥)
-            (λ j. IsNextPlace at.group at.entries step j) }
-    {
-        if step.cpu.0 >= self.cpus {
-            return None;
-        }
-        match next_of(steps, self.passed[step.cpu.0 as usize], step.cpu) {
-            Some(j) => {
-                if is_same_step(steps[j], step) {
-                    Some(j)
-                } else {
-                    None
-                }
-            }
-            None => None,
-        }
     }
 
     /// Whether no processor has a step left.
@@ -92,12 +71,7 @@ impl Follow {
         ensures not_over { (at : Place) → IsFollowingWith at steps.now self.now
             → result ≡ false → IsOver at.group at.entries → ⊥ }
     {
-        for q in 0..self.cpus {
-            if let Some(_) = next_of(steps, self.passed[q as usize], CpuNo(q)) {
-                return false;
-            }
-        }
-        true
+        self.scripts.are_over(steps)
     }
 
     /// Takes a step of the group's: the clock moves, and the act is answered.
@@ -134,14 +108,14 @@ impl Follow {
         if no != self.count {
             return Ok(false);
         }
-        let Some(j) = self.place_of(steps, entry.step) else {
+        let Some(j) = self.scripts.next(steps, entry.step) else {
             return Ok(false);
         };
         if !is_same_reply(self.step(entry.step), entry.reply) {
             return Ok(false);
         }
         mem::swap(&mut self.before, &mut self.links);
-        read_links(&self.afresh, self.cpus, &mut self.links)?;
+        read_links(&self.afresh, self.cpus.as_slice(), &mut self.links)?;
         put_changed(
             self.before.as_slice(),
             self.links.as_slice(),
@@ -150,7 +124,7 @@ impl Follow {
         if !are_same(self.changed.as_slice(), links) {
             return Ok(false);
         }
-        self.passed[entry.step.cpu.0 as usize] = j + 1;
+        self.scripts.pass(entry.step.cpu, j + 1);
         self.count += 1;
         Ok(true)
     }

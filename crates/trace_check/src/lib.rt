@@ -3,16 +3,17 @@
 #![tactic(auto)]
 
 ghost use Rattle.std.specs.Prelude.{◌≡◌, IfOk, true};
-ghost use Rattle.group_state.specs.Built.{is_built};
+ghost use Rattle.rt_groups.specs.Built.{is_built};
 ghost use Rattle.trace_read.specs.Lines.{lines_of};
 ghost use Rattle.trace_read.specs.Reads.{IsTraceOf};
 ghost use Rattle.trace_check.specs.Verdicts.{IsVerdict};
 
 mod follow;
+mod group;
 mod head;
 mod judge;
 mod links;
-mod room;
+mod progress;
 mod same;
 mod scripts;
 mod verdict;

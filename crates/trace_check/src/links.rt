@@ -1,10 +1,10 @@
 //! The links of a group's processors, read from the ranker.
-ghost use Rattle.std.specs.Prelude.{◌≡◌, ◌<◌, ◌++◌, ◌∷◌, [], ℕ, OnOk};
-ghost use Rattle.rt_rules.specs.Numbers.{numbers_from};
+ghost use Rattle.std.specs.Prelude.{◌≡◌, ◌<◌, All, OnOk};
 ghost use Rattle.rt_model.specs.Past.{Past};
-ghost use Rattle.group_state.specs.Groups.{IsProcessorOf};
+ghost use Rattle.rt_plays.specs.Homes.{IsProcessorOf};
 ghost use Rattle.rank_afresh.specs.Standing.{IsAt, group_of};
 ghost use Rattle.trace_lines.specs.Lines.{links_of};
+ghost use Rattle.trace_text.specs.Groups.{cpu_numbers};
 ghost use Rattle.trace_text.specs.TraceText.{links_at};
 ghost use Rattle.trace_check.specs.SameLinks.{same_links};
 
@@ -13,32 +13,27 @@ use rt_base::{CpuNo, NoMemory};
 use trace_lines::CpuLink;
 use trace_text::is_same_task;
 
-fn put_link(links: &mut Vec<CpuLink>, link: CpuLink) -> Result<(), NoMemory>
-    ensures { OnOk result (links.new.items ≡ links.old.items ++ link ∷ []) }
-{
-    match links.push(link) {
-        Ok(()) => Ok(()),
-        Err(_) => Err(NoMemory),
-    }
-}
-
-/// Puts the links of so many processors, from the first on, in the place of what stood in `links`.
+/// Puts the links of these processors in the place of what stood in `links`.
+#[tactic(auto, using(std::proofs::Common::append_assoc))]
 pub(crate) fn read_links(
     afresh: &Afresh,
-    cpus: u32,
+    cpus: &[CpuNo],
     links: &mut Vec<CpuLink>,
 ) -> Result<(), NoMemory>
-    requires { (q : ℕ) → q < cpus → IsProcessorOf (group_of afresh.now) q }
+    requires { All (λ q. IsProcessorOf (group_of afresh.now) q.0) cpus.now }
     ensures { OnOk result ((past : Past) → IsAt afresh.now past
-        → links_of links.new.items ≡ links_at (group_of afresh.now) past (numbers_from 0 cpus)) }
+        → links_of links.new.items
+        ≡ links_at (group_of afresh.now) past (cpu_numbers cpus.now)) }
 {
     links.clear();
-    for q in 0..cpus {
+    for cpu in cpus {
         let link = CpuLink {
-            cpu: CpuNo(q),
-            task: afresh.linked(CpuNo(q)),
+            cpu: *cpu,
+            task: afresh.linked(*cpu),
         };
-        put_link(links, link)?;
+        if links.push(link).is_err() {
+            return Err(NoMemory);
+        }
     }
     Ok(())
 }

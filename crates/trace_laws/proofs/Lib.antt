@@ -1,6 +1,7 @@
 pub mod ScriptLaws
 pub mod StepsGiven
 pub mod Plays
+pub mod Processors
 pub mod KnownLines
 pub mod OneLine
 pub mod Heads

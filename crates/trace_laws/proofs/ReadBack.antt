@@ -1,5 +1,5 @@
 -- The text of a valid set's histories is read back, and no other histories have it.
-use Rattle.std.proofs.Common.{◌≡◌, ◌≢◌, ℕ, ◌+◌, List, [], ◌∷◌, ◌++◌, map, All, Option, None, Ok, Err, length, refl, sym, ap, subst, ◌∙◌, arith, append-nil, length-append, inl, inr}
+use Rattle.std.proofs.Common.{◌≡◌, ◌≢◌, ℕ, ◌+◌, List, [], ◌∷◌, ◌++◌, map, All, Option, None, Ok, Err, length, refl, sym, ap, subst, ◌∙◌, arith, append_assoc, append-nil, length-append, inl, inr}
 use Rattle.std.specs.Prelude.{flat_map}
 use Rattle.rt_task.specs.declared.bad_set.BadSet.{BadSet}
 use Rattle.rt_task.specs.declared.Parts.{Parts}
@@ -7,7 +7,8 @@ use Rattle.rt_history.specs.declared.Entry.{Entry}
 use Rattle.rt_model.specs.Group.{Group}
 use Rattle.rt_model.specs.Past.{Past}
 use Rattle.rt_model.specs.Histories.{after, past_of}
-use Rattle.rt_model.specs.Blocking.{Asked, requests}
+use Rattle.rt_model.specs.Blocking.{requests}
+use Rattle.rt_plays.specs.Plays.{group_with}
 use Rattle.set_canonical.specs.Canonical.{canonical}
 use Rattle.set_read.specs.Sets.{set}
 use Rattle.set_laws.proofs.CanonicalLaws.{set-of-canonical}
@@ -23,7 +24,6 @@ use Rattle.trace_laws.specs.TraceLaws.{ArePlayed, TraceIsRead, TraceIsNotRefused
 use Rattle.trace_laws.proofs.OneLine.{canonical-one_line}
 use Rattle.trace_laws.proofs.Heads.{head-unique, trace-begins, trace-head}
 use Rattle.trace_laws.proofs.KnownLines.{known-lines}
-use Rattle.trace_laws.proofs.Plays.{plays-of-one}
 
 -- ---- the lines
 
@@ -36,9 +36,7 @@ pub are-lines : (k : Known) (ls : List Line) → All (IsLine k) ls → AreLines 
 are-lines k ls known = record { lines_known = known; text_is = sym (append-nil (flat_map line_text ls)); none_further = λ l more is e. no_text l more e }
 
 pub all_known : (p : Parts) (hs : List (List Entry)) → ArePlayed p hs → All (IsLine (known_of p)) (lines_from p 0 hs)
-all_known p hs played =
-    let one = plays-of-one p hs played.valid played.built played.plays in
-    subst (λ (xs : List (List Entry)). All (IsLine (known_of p)) (lines_from p 0 xs)) (sym one.1) (known-lines p one.0 played.valid played.built one.2)
+all_known p hs played = known-lines p played.valid played.built hs played.plays
 
 -- ---- it is read
 
@@ -73,47 +71,70 @@ trace-is-not-refused p hs (faults.BadSet b) played h =
     absurd (no_bad_set h.set_text (canonical p) p b heads.0 h.refused (set-of-canonical p played.valid))
 trace-is-not-refused p hs faults.NoMemory played h = refl
 
--- ---- lines hold their entries
+-- ---- lines hold their histories
 
-abbrev pub entries_said : List Line → List Entry
-entries_said [] = []
-entries_said (group_line g links ∷ ls) = entries_said ls
-entries_said (entry_line i e links ∷ ls) = e ∷ entries_said ls
-entries_said (block_line i t s ends all bound ∷ ls) = entries_said ls
-entries_said (end_line ∷ ls) = entries_said ls
-entries_said (count_line name totals ∷ ls) = entries_said ls
+-- the entries of these lines, up to the next line of a group
+abbrev pub entries_first : List Line → List Entry
+entries_first [] = []
+entries_first (group_line g links ∷ ls) = []
+entries_first (entry_line i e links ∷ ls) = e ∷ entries_first ls
+entries_first (block_line i t s ends all bound ∷ ls) = entries_first ls
+entries_first (end_line ∷ ls) = entries_first ls
+entries_first (count_line name totals ∷ ls) = entries_first ls
 
-entries_said-append : (ls ms : List Line) → entries_said (ls ++ ms) ≡ entries_said ls ++ entries_said ms
-entries_said-append [] ms = refl
-entries_said-append (group_line g links ∷ ls) ms = entries_said-append ls ms
-entries_said-append (entry_line i e links ∷ ls) ms = ap (λ (es : List Entry). e ∷ es) (entries_said-append ls ms)
-entries_said-append (block_line i t s ends all bound ∷ ls) ms = entries_said-append ls ms
-entries_said-append (end_line ∷ ls) ms = entries_said-append ls ms
-entries_said-append (count_line name totals ∷ ls) ms = entries_said-append ls ms
+-- those of each group
+abbrev pub histories_said : List Line → List (List Entry)
+histories_said [] = []
+histories_said (group_line g links ∷ ls) = entries_first ls ∷ histories_said ls
+histories_said (entry_line i e links ∷ ls) = histories_said ls
+histories_said (block_line i t s ends all bound ∷ ls) = histories_said ls
+histories_said (end_line ∷ ls) = histories_said ls
+histories_said (count_line name totals ∷ ls) = histories_said ls
 
-entries-of-entries : (g : Group) (i : ℕ) (past : Past) (es : List Entry) → entries_said (entry_lines g i past es) ≡ es
+pub first-entries : (g : Group) (i : ℕ) (past : Past) (es : List Entry) (ls : List Line) → entries_first (entry_lines g i past es ++ ls) ≡ es ++ entries_first ls
 unfolding entry_lines
-entries-of-entries g i past [] = refl
-entries-of-entries g i past (e ∷ es) = ap (λ (xs : List Entry). e ∷ xs) (entries-of-entries g (i + 1) (after g e.step past) es)
+first-entries g i past [] ls = refl
+first-entries g i past (e ∷ es) ls = ap (λ (xs : List Entry). e ∷ xs) (first-entries g (i + 1) (after g e.step past) es ls)
 
-asked_entries : (f : Asked → Line) (rs : List Asked) → ((r : Asked) (ls : List Line) → entries_said (f r ∷ ls) ≡ entries_said ls) → entries_said (map f rs) ≡ []
-asked_entries f [] h = refl
-asked_entries f (r ∷ rs) h = h r (map f rs) ∙ asked_entries f rs h
+pub said-entries : (g : Group) (i : ℕ) (past : Past) (es : List Entry) (ls : List Line) → histories_said (entry_lines g i past es ++ ls) ≡ histories_said ls
+unfolding entry_lines
+said-entries g i past [] ls = refl
+said-entries g i past (e ∷ es) ls = said-entries g (i + 1) (after g e.step past) es ls
 
-entries-of-blocks : (g : Group) (past : Past) → entries_said (block_lines g past) ≡ []
+-- lines that say nothing of entries
+passed_over : {A B : Type 0} (f : A → Line) (said : List Line → B) → ((x : A) (ls : List Line) → said (f x ∷ ls) ≡ said ls) → (xs : List A) (ls : List Line) → said (map f xs ++ ls) ≡ said ls
+passed_over f said h [] ls = refl
+passed_over f said h (x ∷ xs) ls = h x (map f xs ++ ls) ∙ passed_over f said h xs ls
+
+first-blocks : (g : Group) (past : Past) (ls : List Line) → entries_first (block_lines g past ++ ls) ≡ entries_first ls
 unfolding block_lines
-entries-of-blocks g past = asked_entries _ (requests past) (λ r ls. refl)
+first-blocks g past ls = passed_over _ entries_first (λ r ms. refl) (requests past) ls
 
-entries-of-group : (g : Group) (es : List Entry) → entries_said (group_lines g es) ≡ es
+said-blocks : (g : Group) (past : Past) (ls : List Line) → histories_said (block_lines g past ++ ls) ≡ histories_said ls
+unfolding block_lines
+said-blocks g past ls = passed_over _ histories_said (λ r ms. refl) (requests past) ls
+
+said-group : (g : Group) (es : List Entry) (ls : List Line) → histories_said (group_lines g es ++ ls) ≡ (es ++ entries_first ls) ∷ histories_said ls
 unfolding group_lines
-entries-of-group g es =
-    entries_said-append (entry_lines g 0 [] es) (block_lines g (past_of g es))
-    ∙ rw (entries-of-entries g 0 [] es, entries-of-blocks g (past_of g es)) (append-nil es)
+said-group g es ls =
+    let blocks : List Line = block_lines g (past_of g es) in
+    let apart : (entry_lines g 0 [] es ++ blocks) ++ ls ≡ entry_lines g 0 [] es ++ (blocks ++ ls) = append_assoc (entry_lines g 0 [] es) blocks ls in
+    let first : entries_first ((entry_lines g 0 [] es ++ blocks) ++ ls) ≡ es ++ entries_first ls =
+    ap entries_first apart ∙ first-entries g 0 [] es (blocks ++ ls) ∙ ap (λ (xs : List Entry). es ++ xs) (first-blocks g (past_of g es) ls) in
+    let later : histories_said ((entry_lines g 0 [] es ++ blocks) ++ ls) ≡ histories_said ls = ap histories_said apart ∙ said-entries g 0 [] es (blocks ++ ls) ∙ said-blocks g (past_of g es) ls in
+    rw (first, later) refl
 
-pub entries-of-one : (p : Parts) (es : List Entry) → entries_said (lines_from p 0 (es ∷ [])) ≡ es
-entries-of-one p es =
-    entries_said-append (group_lines (record { setup = p; number = 0 }) es) (end_line ∷ [])
-    ∙ rw (entries-of-group (record { setup = p; number = 0 }) es) (append-nil es)
+-- the lines of further groups, and the line `end`, say no further entry
+first-lines : (p : Parts) (n : ℕ) (hs : List (List Entry)) → entries_first (lines_from p n hs) ≡ []
+unfolding group_lines
+first-lines p n [] = refl
+first-lines p n (es ∷ hs) = refl
+
+pub said-lines : (p : Parts) (n : ℕ) (hs : List (List Entry)) → histories_said (lines_from p n hs) ≡ hs
+said-lines p n [] = refl
+said-lines p n (es ∷ hs) =
+    said-group (group_with p n) es (lines_from p (n + 1) hs)
+    ∙ rw (first-lines p (n + 1) hs, append-nil es, said-lines p (n + 1) hs) refl
 
 -- ---- different histories have different texts
 
@@ -125,14 +146,5 @@ same_lines p hs hs' played played' same =
     (lines_read (known_of p) (flat_map line_text (lines_from p 0 hs)) [] (lines_from p 0 hs) (lines_from p 0 hs') None (all_known p hs' played') rests.1
     (are-lines (known_of p) (lines_from p 0 hs) (all_known p hs played)) refl).0
 
-same_entries : (p : Parts) (hs hs' : List (List Entry)) (es es' : List Entry) → hs ≡ es ∷ [] → hs' ≡ es' ∷ [] → lines_from p 0 hs ≡ lines_from p 0 hs' → hs ≡ hs'
-same_entries p hs hs' es es' is is' same =
-    let lines : lines_from p 0 (es ∷ []) ≡ lines_from p 0 (es' ∷ []) = ap (lines_from p 0) (sym is) ∙ same ∙ ap (lines_from p 0) is' in
-    let entries : es ≡ es' = sym (entries-of-one p es) ∙ ap entries_said lines ∙ entries-of-one p es' in
-    is ∙ ap (λ (xs : List Entry). xs ∷ []) entries ∙ sym is'
-
 pub traces-tell-apart : TracesTellApart
-traces-tell-apart p hs hs' played played' same =
-    let one = plays-of-one p hs played.valid played.built played.plays in
-    let one' = plays-of-one p hs' played'.valid played'.built played'.plays in
-    same_entries p hs hs' one.0 one'.0 one.1 one'.1 (same_lines p hs hs' played played' same)
+traces-tell-apart p hs hs' played played' same = sym (said-lines p 0 hs) ∙ ap histories_said (same_lines p hs hs' played played' same) ∙ said-lines p 0 hs'

@@ -1,71 +1,46 @@
--- The steps of a set that is built.
-use Rattle.std.proofs.Common.{◌≡◌, ℕ, ◌<◌, ◌≤◌, true, List, length, map, get_or, refl, subst, arith}
-use Rattle.std.specs.Prelude.{nat_lt, All, None}
-use Rattle.std.specs.List.{list_all}
-use Rattle.std.proofs.Math.ListN.{get_or-map}
-use Rattle.std.proofs.lemmas.Bool.Decides.{nat_tests}
+-- The steps that a set gives: few, and each a step of its processor's group.
+use Rattle.std.proofs.Common.{◌≡◌, ◌≤◌, true, length, leb-true, refl, arith}
+use Rattle.std.specs.Prelude.{All, nat_le}
 use Rattle.std.proofs.lemmas.List.{length-map}
-use Rattle.rt_base.specs.declared.TheConstants.{MOST_STEPS, TICK_END}
-use Rattle.rt_task.specs.declared.Parts.{Parts}
-use Rattle.rt_task.specs.declared.Step.{Step}
+use Rattle.std.proofs.lemmas.List.Elements.{All-nil}
+use Rattle.rt_base.specs.declared.TheConstants.{MOST_CLUSTERS, MOST_CPUS, MOST_RESVS, MOST_SEMS, MOST_STEPS, MOST_TASKS}
 use Rattle.rt_task.specs.declared.Drive.{Drive}
 use Rattle.rt_task.specs.declared.Drive.TheVariants.{Steps, Horizon}
-use Rattle.rt_task.specs.declared.SetKind.TheVariants as kinds
-use Rattle.rt_task.specs.declared.Part.TheVariants as parts
-use Rattle.rt_task.specs.Draft.{draft_of, draft_step, draft_drive, steps_of}
+use Rattle.rt_task.specs.declared.Parts.{Parts}
+use Rattle.rt_task.specs.declared.Step.{Step}
+use Rattle.rt_task.specs.declared.draft.Draft.{Draft}
+use Rattle.rt_task.specs.Draft.{draft_drive, draft_of, draft_step}
 use Rattle.rt_task.specs.Lookups as lookups
-use Rattle.rt_task.specs.Refusals.{each}
-use Rattle.rt_task.specs.RangeRules.{step_range}
-use Rattle.rt_task.specs.RuleWords.{is_empty}
+use Rattle.rt_task.specs.SizeRules.{horizon_fits, whole_size}
 use Rattle.rt_task.specs.Validity.{IsValid}
+use Rattle.rt_rules.proofs.BoolLaws.{both}
 use Rattle.rt_model.specs.Group.{Group}
-use Rattle.group_state.specs.Built.{is_built, is_built_act, is_built_drive, is_built_task, is_gsn_edf}
-use Rattle.group_state.specs.Groups.{IsProcessorOf}
-use Rattle.group_state.proofs.Plain.{in_range, valid-refusal, both}
-use Rattle.group_state.proofs.PlainSteps.{ArePlainSteps, plain-steps}
-use Rattle.group_state.proofs.Rules.{each-none}
+use Rattle.rt_model.specs.Steps.{IsStepOf}
+use Rattle.rt_laws.proofs.ValidSteps.{steps_are_of_groups}
 use Rattle.rt_plays.specs.Drives.{steps_given}
-use Rattle.rt_plays.specs.Plays.{group_with}
+use Rattle.rt_plays.specs.Homes.{IsProcessorOf}
+use Rattle.rt_groups.proofs.ValidRows.{passes_rows}
 
-pub record IsGivenStep (g : Group) (s : Step) : Type 0 where
-  pub tick_low : s.tick.0 < TICK_END
-  pub at_processor : IsProcessorOf g s.cpu.0
-  pub act_built : is_built_act s.act ≡ true
+pub steps-few : (p : Parts) → IsValid p → length (steps_given p.drive) ≤ MOST_STEPS
+unfolding whole_size
+steps-few p valid =
+    let by_clusters = both (nat_le (length d.clusters) MOST_CLUSTERS) _ (passes_rows p valid).size in
+    let by_cpus = both (nat_le (lookups.cpus d) MOST_CPUS) _ by_clusters.1 in
+    let by_tasks = both (nat_le (length d.tasks) MOST_TASKS) _ by_cpus.1 in
+    let by_sems = both (nat_le (length d.sems) MOST_SEMS) _ by_tasks.1 in
+    let by_resvs = both (nat_le (length d.resvs) MOST_RESVS) _ by_sems.1 in
+    by_drive p.drive by_resvs.1
+  where
+    d : Draft
+    d = draft_of p
 
-pub record AreGivenSteps (p : Parts) (steps : List Step) : Type 0 where
-  pub few : length steps ≤ MOST_STEPS
-  pub each_step : All (IsGivenStep (group_with p 0)) steps
+    by_drive : (drive : Drive) → horizon_fits d (draft_drive drive) ≡ true → length (steps_given drive) ≤ MOST_STEPS
+    by_drive (Steps steps) fits = omega (arith, leb-true _ _ fits, length-map steps draft_step)
+    by_drive (Horizon h) fits = omega arith
 
-tick-in : (p : Parts) (steps : List Step) (i : ℕ) (s : Step) → IsValid p → p.drive ≡ Steps steps → i < length steps → (get_or steps i s).tick.0 < TICK_END
-unfolding step_range
-tick-in p steps i s valid drive lt =
-    let row = subst (λ (x : Drive). each kinds.Range parts.Step (step_range (draft_of p)) (steps_of (draft_drive x)) ≡ None) drive (in_range (draft_of p) (valid-refusal p valid)).step_row in
-    let m : length (map draft_step steps) ≡ length steps = length-map _ _ in
-    let passes = each-none kinds.Range parts.Step (step_range (draft_of p)) (map draft_step steps) i (draft_step s) row (omega arith) in
-    let seen : get_or (map draft_step steps) i (draft_step s) ≡ draft_step (get_or steps i s) = get_or-map draft_step steps i s in
-    let later = (both (nat_lt (get_or steps i s).cpu.0 (lookups.cpus (draft_of p))) _ (rw seen at passes)).1 in
-    let low : nat_lt (get_or steps i s).tick.0 TICK_END ≡ true = (both _ _ later).0 in
-    grind (arith, nat_tests, low)
-
-pub built-drive : (p : Parts) → is_built p ≡ true → is_built_drive p.drive ≡ true
-built-drive p built =
-    let a = both (is_gsn_edf p.plugin) _ built in
-    let b = both (is_empty p.sems) _ a.1 in
-    (both (list_all is_built_task p.tasks) _ b.1).1
-
-plain-by : (p : Parts) (drive : Drive) → p.drive ≡ drive → IsValid p → is_built p ≡ true → is_built_drive drive ≡ true → ArePlainSteps p (steps_given drive)
-plain-by p (Steps steps) same valid built k = plain-steps p valid built steps same
-plain-by p (Horizon h) same valid built k = cc
-
-pub steps-plain : (p : Parts) → IsValid p → is_built p ≡ true → ArePlainSteps p (steps_given p.drive)
-steps-plain p valid built = plain-by p p.drive refl valid built (built-drive p built)
-
-given-by : (p : Parts) (drive : Drive) → p.drive ≡ drive → IsValid p → is_built_drive drive ≡ true → ArePlainSteps p (steps_given drive) → AreGivenSteps p (steps_given drive)
-given-by p (Steps steps) same valid k plain = record {
-  few = plain.few;
-  each_step = λ i s lt. record { tick_low = tick-in p steps i s valid same lt; at_processor = plain.at_processors i s lt; act_built = plain.acts i s lt };
-}
-given-by p (Horizon h) same valid k plain = cc
-
-pub steps-given : (p : Parts) → IsValid p → is_built p ≡ true → AreGivenSteps p (steps_given p.drive)
-steps-given p valid built = given-by p p.drive refl valid (built-drive p built) (steps-plain p valid built)
+pub steps-of_groups : (g : Group) → IsValid g.setup → All (λ (s : Step). IsProcessorOf g s.cpu.0 → IsStepOf g s) (steps_given g.setup.drive)
+steps-of_groups g valid = by_drive g.setup.drive refl
+  where
+    by_drive : (drive : Drive) → g.setup.drive ≡ drive → All (λ (s : Step). IsProcessorOf g s.cpu.0 → IsStepOf g s) (steps_given drive)
+    by_drive (Steps steps) same = steps_are_of_groups g valid steps same
+    by_drive (Horizon h) same = All-nil (λ (s : Step). IsProcessorOf g s.cpu.0 → IsStepOf g s)

@@ -5,7 +5,7 @@ use Rattle.rt_task.specs.Validity.{IsValid}
 use Rattle.rt_history.specs.declared.Entry.{Entry}
 use Rattle.rt_plays.specs.Order.{histories}
 use Rattle.rt_plays.specs.Plays.{ArePlays}
-use Rattle.group_state.specs.Built.{is_built}
+use Rattle.rt_groups.specs.Built.{is_built}
 use Rattle.trace_lines.specs.FirstLine.{format_1}
 use Rattle.trace_lines.specs.Lines.{Line}
 use Rattle.trace_text.specs.TraceText.{lines_from, trace_text}

@@ -19,8 +19,8 @@ pub fn traces_tell_apart()
     ensures { TracesTellApart }
 {}
 
-/// The trace of the histories that one thread gives of a set is a valid one of it. So `check` has
-/// to find valid what `sim` writes.
+/// The trace of the histories that one thread gives of a set is a valid one of it. So `check`, where
+/// it checks traces of the set, has to find valid what `sim` writes.
 pub fn one_thread_trace_is_valid()
     ensures { OneThreadTraceIsValid }
 {}

@@ -1,16 +1,12 @@
 -- The processors of a group, counted through the clusters in order.
-use Rattle.std.proofs.Common.{◌≡◌, ℕ, suc, ◌+◌, ◌-◌, ◌<◌, ◌≤◌, true, List, [], ◌∷◌, ◌++◌, length, get_or, refl, ap, arith, append_assoc}
-use Rattle.std.proofs.lemmas.List.Sums.{sum_by-cons}
+use Rattle.std.proofs.Common.{◌≡◌, ℕ, suc, ◌+◌, ◌-◌, ◌<◌, ◌≤◌, List, [], ◌∷◌, ◌++◌, refl, ap, arith, append_assoc}
 use Rattle.rt_base.specs.declared.CpuNo.{CpuNo}
-use Rattle.rt_task.specs.declared.Cluster.{Cluster}
 use Rattle.rt_task.specs.declared.Parts.{Parts}
 use Rattle.rt_task.specs.Validity.{IsValid}
 use Rattle.rt_rules.specs.Numbers.{numbers_from}
-use Rattle.rt_model.specs.Group.{no_cluster}
 use Rattle.rt_plays.proofs.ProcessorLaws.{cpu_count}
-use Rattle.group_state.specs.Built.{is_built}
+use Rattle.rt_groups.proofs.SetLimits.{sets_are_in_limits}
 use Rattle.trace_text.specs.Groups.{cpu_numbers}
-use Rattle.group_state.proofs.Plain.{plain-set}
 
 -- numbers from a up to e
 pub numbers_more : (xs : List ℕ) (a e : ℕ) → a < e → (xs ++ a ∷ []) ++ numbers_from (a + 1) (e - (a + 1)) ≡ xs ++ numbers_from a (e - a)
@@ -27,10 +23,5 @@ pub numbers_start : (a n : ℕ) → numbers_from a (a + n - a) ≡ numbers_from 
 numbers_start a n = ap (numbers_from a) (omega arith)
 
 -- a valid set has few processors
-pub few_cpus : (p : Parts) → IsValid p → is_built p ≡ true → cpu_count p.clusters ≤ 64
-few_cpus p valid built = let plain = plain-set p valid built in of_one p.clusters plain.one_cluster plain.cpus_high
-  where
-    of_one : (ks : List Cluster) → length ks ≡ 1 → (get_or ks 0 no_cluster).cpus ≤ 64 → cpu_count ks ≤ 64
-    of_one [] h low = absurd (omega arith)
-    of_one (k ∷ []) h low = rw (sum_by-cons (λ (x : Cluster). x.cpus) k []) (omega arith)
-    of_one (k ∷ m ∷ ks) h low = absurd (omega arith)
+pub few_cpus : (p : Parts) → IsValid p → cpu_count p.clusters ≤ 64
+few_cpus p valid = (sets_are_in_limits p valid).few_cpus

@@ -1,7 +1,7 @@
 -- The lines of a group, part by part as they are written.
-use Rattle.std.proofs.Common.{◌≡◌, ℕ, zero, suc, ◌+◌, ◌<◌, ◌≤◌, Bool, true, false, List, [], ◌∷◌, ◌++◌, length, map, drop, get_or, refl, sym, ap, ◌∙◌, arith, append-nil}
-use Rattle.std.specs.Prelude.{All, flat_map, Option, if◌then◌else◌, nat_lt}
-use Rattle.std.proofs.lemmas.Bool.Decides.{nat_tests}
+use Rattle.std.proofs.Common.{◌≡◌, ℕ, zero, suc, ◌+◌, ◌<◌, ◌≤◌, Bool, true, false, not, List, [], ◌∷◌, ◌++◌, length, map, drop, get_or, refl, sym, ap, ◌∙◌, arith, append-nil}
+use Rattle.std.specs.Prelude.{flat_map, Option, if◌then◌else◌}
+use Rattle.std.proofs.lemmas.List.Elements.{All-head, All-tail}
 use Rattle.std.proofs.lemmas.Grind.{flat_map-append}
 use Rattle.std.proofs.Math.Seq.{drop-cons}
 use Rattle.rt_task.specs.declared.Act.{Act}
@@ -12,23 +12,25 @@ use Rattle.rt_history.specs.declared.Entry.{Entry}
 use Rattle.rt_base.specs.declared.CpuNo.{CpuNo}
 use Rattle.rt_rules.specs.Numbers.{numbers_from, rest}
 use Rattle.rt_task.specs.Validity.{IsValid}
+use Rattle.rt_task.specs.RuleWords.{is_empty, is_p_res}
+use Rattle.rt_rules.proofs.BoolLaws.{both}
 use Rattle.rt_rules.specs.SemState.{Neither}
 use Rattle.rt_model.specs.Blocking.{requests, asked_by}
-use Rattle.rt_model.specs.Group.{Group, group_processors}
+use Rattle.rt_model.specs.Group.{Group, group_processors, sems}
 use Rattle.rt_model.specs.Histories.{after, changed, clock_moved, past_from, past_of}
 use Rattle.rt_model.specs.Outcomes.{past_act}
 use Rattle.rt_model.specs.Past.{Past, sem_act, PastAct, sem_act_of, accepted, entries_in, Clock, Acted}
+use Rattle.rt_model.specs.Steps.{IsActOf, IsStepOf}
 use Rattle.rt_model.proofs.Steps.{after-acted}
-use Rattle.group_state.specs.Built.{is_built, is_built_act}
-use Rattle.group_state.specs.Groups.{GroupHistory, group_of, past, IsPlayedEntry}
-use Rattle.group_state.proofs.Plain.{plain-set}
-use Rattle.group_state.proofs.PlainGroup.{group-plain}
+use Rattle.rt_groups.specs.Built.{gives_steps, is_built}
+use Rattle.rt_groups.specs.Groups.{AreStepsOf, GroupHistory, group_of, past}
 use Rattle.trace_lines.specs.Lines.{Link, Line, links_of, group_line, entry_line, end_line}
 use Rattle.trace_lines.specs.declared.links.CpuLink.{CpuLink}
 use Rattle.trace_lines.specs.Grammar.{line_text}
 use Rattle.trace_lines.specs.FirstLine.{format_1}
 use Rattle.trace_text.specs.TraceText.{links_at, entry_lines, block_lines, group_lines, lines_from, trace_text, head_text}
 use Rattle.trace_text.specs.Groups.{AreGroupsOf, Follows, histories}
+use Rattle.trace_text.proofs.GroupLaws.{groups-counted, groups-few}
 
 pub drop_end : {A : Type 0} (xs : List A) (n : ℕ) → length xs ≤ n → drop n xs ≡ []
 drop_end [] zero h = refl
@@ -60,48 +62,60 @@ past_act-act : (g : Group) (q : ℕ) (act : Act) (p : Past) → (past_act g q ac
 unfolding past_act
 past_act-act g q act p = refl
 
--- the acts that are played so far ask for no semaphore
-quiet : (act : Act) (t : Option ℕ) → is_built_act act ≡ true → sem_act_of act t ≡ Neither
-quiet acts.Tick t h = refl
-quiet acts.Irq t h = refl
-quiet (acts.Arrive u) t h = cc
-quiet (acts.Do ops.Work) t h = refl
-quiet (acts.Do (ops.Lock s)) t h = cc
-quiet (acts.Do (ops.Unlock s)) t h = cc
-quiet (acts.Do (ops.Sleep n)) t h = cc
-quiet (acts.Do ops.NpOn) t h = cc
-quiet (acts.Do ops.NpOff) t h = cc
-quiet (acts.Do ops.End) t h = refl
+-- a set that is played has no semaphore
+pub sems-none : (g : Group) → is_built g.setup ≡ true → sems g ≡ []
+unfolding sems
+sems-none g built = rw (empty g.setup.sems (both (is_empty g.setup.sems) (gives_steps g.setup.drive) (both (not (is_p_res g.setup.plugin)) _ built).1).0) refl
+  where
+    empty : {A : Type 0} (xs : List A) → is_empty xs ≡ true → xs ≡ []
+    empty [] h = refl
+    empty (x ∷ xs) h = cc
 
-quiet_event : (d : PastAct) → is_built_act d.act ≡ true → sem_act (Acted d) ≡ Neither
-quiet_event d built = by_case (accepted d.reply) (quiet d.act d.task built)
+-- where there is no semaphore no act of the group is a request
+quiet : (g : Group) (act : Act) (t : Option ℕ) → sems g ≡ [] → IsActOf g act → sem_act_of act t ≡ Neither
+quiet g acts.Tick t none h = refl
+quiet g acts.Irq t none h = refl
+quiet g (acts.Arrive u) t none h = refl
+quiet g (acts.Do ops.Work) t none h = refl
+quiet g (acts.Do (ops.Lock s)) t none h = let wrong : false ≡ true = rw none at h in cc
+quiet g (acts.Do (ops.Unlock s)) t none h = let wrong : false ≡ true = rw none at h in cc
+quiet g (acts.Do (ops.Sleep n)) t none h = refl
+quiet g (acts.Do ops.NpOn) t none h = refl
+quiet g (acts.Do ops.NpOff) t none h = refl
+quiet g (acts.Do ops.End) t none h = refl
+
+quiet_event : (g : Group) (d : PastAct) → sems g ≡ [] → IsActOf g d.act → sem_act (Acted d) ≡ Neither
+quiet_event g d none of_group = by_case (accepted d.reply) (quiet g d.act d.task none of_group)
   where
     by_case : (b : Bool) → sem_act_of d.act d.task ≡ Neither → (if b then sem_act_of d.act d.task else Neither) ≡ Neither
     by_case true h = h
     by_case false h = refl
 
-no_request : (g : Group) (p : Past) (e : Entry) → is_built_act e.step.act ≡ true → requests p ≡ [] → requests (after g e.step p) ≡ []
-no_request g p e built none =
+no_request : (g : Group) (p : Past) (e : Entry) → sems g ≡ [] → IsActOf g e.step.act → requests p ≡ [] → requests (after g e.step p) ≡ []
+no_request g p e no_sems of_group none =
     let d : PastAct = past_act g e.step.cpu.0 e.step.act (clock_moved e.step p) in
     let act_is : d.act ≡ e.step.act = past_act-act g e.step.cpu.0 e.step.act (clock_moved e.step p) in
-    let nothing : sem_act (Acted d) ≡ Neither = quiet_event d (rw act_is built) in
+    let nothing : sem_act (Acted d) ≡ Neither = quiet_event g d no_sems (rw act_is of_group) in
     ap requests (after-acted g e.step p) ∙ requests-acted d (clock_moved e.step p)
     ∙ ap (λ a. asked_by a (entries_in (clock_moved e.step p)) (requests (clock_moved e.step p))) nothing
     ∙ requests-clock e.step.tick.0 p ∙ none
 
-pub requests_none : (g : Group) (p : Past) (es : List Entry) → All (IsPlayedEntry g) es → requests p ≡ [] → requests (past_from g p es) ≡ []
+requests_none : (g : Group) (p : Past) (es : List Entry) → sems g ≡ [] → AreStepsOf g es → requests p ≡ [] → requests (past_from g p es) ≡ []
 unfolding past_from
-requests_none g p [] played none = none
-requests_none g p (e ∷ es) played none = requests_none g (after g e.step p) es (λ k d h. played (suc k) d (omega arith)) (no_request g p e (played 0 e (omega arith)).built none)
+requests_none g p [] no_sems steps none = none
+requests_none g p (e ∷ es) no_sems steps none =
+    requests_none g (after g e.step p) es no_sems (All-tail (λ (x : Entry). IsStepOf g x.step) e es steps)
+    (no_request g p e no_sems (All-head (λ (x : Entry). IsStepOf g x.step) e es steps).act none)
 
-pub blocks_none : (g : Group) (es : List Entry) → All (IsPlayedEntry g) es → block_lines g (past_of g es) ≡ []
+pub blocks_none : (g : Group) (es : List Entry) → is_built g.setup ≡ true → AreStepsOf g es → block_lines g (past_of g es) ≡ []
 unfolding block_lines past_of requests
-blocks_none g es played = rw (requests_none g [] es played refl) refl
+blocks_none g es built steps = rw (requests_none g [] es (sems-none g built) steps refl) refl
 
 -- the text of a group, where no request is made
-pub group_parts : (g : Group) (es : List Entry) → All (IsPlayedEntry g) es → texts (group_lines g es) ≡ line_text (group_line g.number (links_at g [] (group_processors g))) ++ texts (entry_lines g 0 [] es)
+pub group_parts : (g : Group) (es : List Entry) → is_built g.setup ≡ true → AreStepsOf g es
+    → texts (group_lines g es) ≡ line_text (group_line g.number (links_at g [] (group_processors g))) ++ texts (entry_lines g 0 [] es)
 unfolding group_lines
-group_parts g es played = rw (blocks_none g es played, append-nil (entry_lines g 0 [] es)) refl
+group_parts g es built steps = rw (blocks_none g es built steps, append-nil (entry_lines g 0 [] es)) refl
 
 -- the same, with the links that a replay showed
 pub entry_next : (g g' : Group) (i : ℕ) (p p' : Past) (es : List Entry) (d : Entry) (shown : List Link) → i < length es → g' ≡ g → p' ≡ after g' (get_or es i d).step p → shown ≡ links_at g' p' (changed g' p p')
@@ -112,7 +126,7 @@ pub entries_end : (g : Group) (i : ℕ) (p : Past) (es : List Entry) → length 
 unfolding entry_lines
 entries_end g i p es h = rw (drop_end es i h) refl
 
-past_none : (g : Group) → past_of g [] ≡ []
+pub past_none : (g : Group) → past_of g [] ≡ []
 unfolding past_of past_from
 past_none g = refl
 
@@ -162,13 +176,6 @@ trace_parts p hs = refl
 pub groups_end : (p : Parts) (hs : List GroupHistory) (i : ℕ) → length hs ≤ i → texts (lines_from p i (histories (drop i hs))) ≡ line_text end_line
 groups_end p hs i h = rw (drop_end hs i h) (append-nil (line_text end_line))
 
--- a valid set that is played so far has one group
-pub few_groups : (p : Parts) (hs : List GroupHistory) → AreGroupsOf p hs → IsValid p → is_built p ≡ true → length hs ≤ 64
-few_groups p hs are valid built = by_case (nat_lt 1 (length hs)) refl
-  where
-    by_case : (b : Bool) → nat_lt 1 (length hs) ≡ b → length hs ≤ 64
-    by_case true e =
-        let low : 1 < length hs = grind (arith, nat_tests, e) in
-        let none : 1 ≡ 0 = (group-plain p 1 (plain-set p valid built) (are.are_groups 1 low)).number_is in
-        absurd (omega (arith, none))
-    by_case false e = grind (arith, nat_tests, e)
+-- a valid set has few groups
+pub few_groups : (p : Parts) (hs : List GroupHistory) → AreGroupsOf p hs → IsValid p → length hs ≤ 64
+few_groups p hs are valid = omega (arith, groups-counted p hs valid are, groups-few p valid)

@@ -13,7 +13,8 @@ use Rattle.rt_model.specs.Histories.{after, changed}
 use Rattle.rt_model.specs.Links.{linked}
 use Rattle.rt_model.specs.Past.{Past}
 use Rattle.rt_model.proofs.Steps.{past_of-append}
-use Rattle.group_state.specs.Groups.{GroupHistory, group_of, past, with_entry, IsProcessorOf}
+use Rattle.rt_plays.specs.Homes.{IsProcessorOf}
+use Rattle.rt_groups.specs.Groups.{GroupHistory, group_of, past, with_entry}
 use Rattle.trace_lines.specs.declared.links.CpuLink.{CpuLink}
 use Rattle.trace_lines.specs.Lines.{Link, link_of, links_of}
 use Rattle.trace_text.specs.TraceText.{links_at}

@@ -5,7 +5,7 @@ use Rattle.rt_task.specs.declared.Parts.{Parts}
 use Rattle.rt_history.specs.declared.Entry.{Entry}
 use Rattle.rt_rules.specs.Numbers.{numbers_from, same}
 use Rattle.rt_model.specs.Group.{group_processors}
-use Rattle.group_state.specs.Groups.{GroupHistory, IsGroupOf, group_of, past}
+use Rattle.rt_groups.specs.Groups.{GroupHistory, IsGroupOf, group_of, past}
 use Rattle.trace_lines.specs.declared.links.CpuLink.{CpuLink}
 use Rattle.trace_lines.specs.Lines.{Link, links_of}
 use Rattle.trace_text.specs.TraceText.{links_at}

@@ -1,8 +1,8 @@
 //! The groups of a trace.
-ghost use Rattle.std.specs.Prelude.{◌≡◌, ◌≤◌, All, true, flat_map, length};
+ghost use Rattle.std.specs.Prelude.{◌≡◌, ◌≤◌, true, flat_map, length};
 ghost use Rattle.rt_base.specs.declared.TheConstants.{MOST_STEPS};
-ghost use Rattle.group_state.specs.Built.{is_built};
-ghost use Rattle.group_state.specs.Groups.{group_of, past, IsGroupOf, IsPlayedEntry};
+ghost use Rattle.rt_groups.specs.Built.{is_built};
+ghost use Rattle.rt_groups.specs.Groups.{group_of, past, AreStepsOf, IsGroupOf};
 ghost use Rattle.trace_lines.specs.Grammar.{line_text};
 ghost use Rattle.trace_text.specs.Groups.{AreGroupsOf, Follows, histories};
 ghost use Rattle.trace_lines.specs.FirstLine.{format_1};
@@ -31,7 +31,7 @@ fn write_entries<K: Sink>(
     requires follows { Follows replay.old.engine replay.old.cpus.items replay.old.links.items }
     requires room { length entries.now ≤ replay.old.engine.spare }
     requires few { length entries.now ≤ MOST_STEPS }
-    requires played { All (IsPlayedEntry (group_of replay.old.engine)) entries.now }
+    requires steps { AreStepsOf (group_of replay.old.engine) entries.now }
     ensures { Came result (K.held out.old) (K.held out.new) (K.faults out.old) (K.faults out.new)
         (flat_map line_text
         (entry_lines (group_of replay.old.engine) 0 (past replay.old.engine) entries.now)) }

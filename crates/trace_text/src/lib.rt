@@ -5,7 +5,7 @@
 ghost use Rattle.std.specs.Prelude.{◌≡◌, ◌≢◌, ◌≤◌, true, OnOk, OnErr, IfErr};
 ghost use Rattle.rt_fault.specs.Faults.{HasRisen};
 ghost use Rattle.rt_fault.specs.Held.{Extends, ExtendsByPrefix};
-ghost use Rattle.group_state.specs.Built.{is_built};
+ghost use Rattle.rt_groups.specs.Built.{is_built};
 ghost use Rattle.trace_lines.specs.FirstLine.{format_1};
 ghost use Rattle.trace_text.specs.TraceText.{trace_text};
 ghost use Rattle.trace_text.specs.Groups.{AreGroupsOf, histories};
@@ -19,6 +19,7 @@ mod links;
 mod replay;
 mod stop;
 
+pub use cpus::{count_groups, cpus_of};
 use group_engine::Engine;
 pub use head::head_of;
 pub use links::{is_same_task, put_changed};

@@ -3,8 +3,8 @@ ghost use Rattle.std.specs.Prelude.{◌≡◌, ◌-◌, ◌<◌, ◌≤◌, [], 
 ghost use Rattle.rt_base.specs.declared.TheConstants.{MOST_STEPS};
 ghost use Rattle.rt_model.specs.Histories.{after, changed};
 ghost use Rattle.rt_model.specs.Steps.{IsStepOf};
-ghost use Rattle.group_state.specs.Built.{is_built, is_built_act};
-ghost use Rattle.group_state.specs.Groups.{group_of, past, IsGroupOf};
+ghost use Rattle.rt_groups.specs.Built.{is_built};
+ghost use Rattle.rt_groups.specs.Groups.{group_of, past, IsGroupOf};
 ghost use Rattle.trace_lines.specs.Lines.{links_of};
 ghost use Rattle.trace_text.specs.TraceText.{links_at};
 ghost use Rattle.trace_text.specs.Groups.{Follows};
@@ -71,7 +71,6 @@ impl Replay {
     pub fn step(&mut self, step: Step) -> Result<(), NoMemory>
         requires room { 0 < self.old.engine.spare }
         requires step { IsStepOf (group_of self.old.engine) step }
-        requires act { is_built_act step.act ≡ true }
         requires follows { Follows self.old.engine self.old.cpus.items self.old.links.items }
         ensures group { OnOk result (group_of self.new.engine ≡ group_of self.old.engine) }
         ensures spare { OnOk result (self.new.engine.spare ≡ self.old.engine.spare - 1) }

@@ -30,13 +30,15 @@ loop-c-preserved-in-Some-index_mut c =
     let ks = c.loop-c.self-inside.clusters.items in
     let k = c.in-Some-index_mut.cluster in
     let new = c.place.new.self in
+    let changed = cluster_numbers c.loop-c.self-inside.changed.items in
+    let placed = ap (λ (k : PlacedCluster). k.is_placed) c.place.ensures.cluster in
     let at = sym (get_or_read ks c.in-Some.c.0 c.index_mut.result.now (within popped) c.index_mut.ensures.value None) ∙ c.in-Some-index_mut.is in
     record {
       homes = c.loop-c.invariant.homes;
       relinked = relinked-once ks c.in-Some.c.0 k new at (ap (λ (k : PlacedCluster). k.cluster) c.place.ensures.cluster) c.place.ensures.settled ∙ c.loop-c.invariant.relinked;
       listed =
           rw c.pop.ensures.capacity
-          (listed-placed ks (cluster_numbers c.loop-c.self-inside.changed.items) _ c.loop-c.invariant.listed c.in-Some.c.0 k at (cluster_numbers c.pop.new.self.items) new (last popped) (ap (λ (k : PlacedCluster). k.is_placed) c.place.ensures.cluster) c.place.ensures.settled);
+          (listed-placed ks changed _ c.loop-c.invariant.listed c.in-Some.c.0 k at (cluster_numbers c.pop.new.self.items) new (last popped) placed c.place.ensures.settled);
     }
 
 pub loop-c-preserved : goal.loop-c-preserved

@@ -20,18 +20,24 @@ at c =
 pub list_unplaced-requires : goal.list_unplaced-requires
 list_unplaced-requires c =
     λ h.
+    let inside = c.self.inside in
+    let here = at (goal.at.list_unplaced-requires c).In-Some in
     let placed : c.in-Some.cluster.is_placed ≡ true = sym c.is_placed-was_placed.ensures.flag ∙ h in
-    let room = room-listed c.self.inside.clusters.items (cluster_numbers c.self.inside.changed.items) _ c.self.invariant c.args.c.0 c.in-Some.cluster (at (goal.at.list_unplaced-requires c).In-Some) placed in
-    omega (arith, room, length-map c.self.inside.changed.items (λ (c : ClusterNo). c.0), c.self.inside.changed.ok.0)
+    let room = room-listed inside.clusters.items (cluster_numbers inside.changed.items) _ c.self.invariant c.args.c.0 c.in-Some.cluster here placed in
+    omega (arith, room, length-map inside.changed.items (λ (c : ClusterNo). c.0), inside.changed.ok.0)
 
 pub invariant_of-self-2 : goal.invariant_of-self-2
 invariant_of-self-2 c =
+    let inside = c.self.inside in
+    let here = at (goal.at.invariant_of-self-2 c).In-Some in
     let now = rw (c.is_placed-was_placed.ensures.flag, c.is_placed-is_placed.ensures.flag) at c.list_unplaced.ensures.numbers in
     rw c.list_unplaced.ensures.room
-    (listed-set c.self.inside.clusters.items (cluster_numbers c.self.inside.changed.items) _ c.self.invariant c.args.c.0 c.in-Some.cluster (at (goal.at.invariant_of-self-2 c).In-Some) c.set.new.self _ (λ h. absurd (clash _ h (ap (λ (k : PlacedCluster). k.is_placed) c.set.ensures))) c.is_placed-is_placed.ensures.settled now)
+    (listed-set inside.clusters.items (cluster_numbers inside.changed.items) _ c.self.invariant c.args.c.0 c.in-Some.cluster here c.set.new.self _
+    (λ h. absurd (clash _ h (ap (λ (k : PlacedCluster). k.is_placed) c.set.ensures))) c.is_placed-is_placed.ensures.settled now)
 
 pub returns : goal.returns
 returns c =
+    let here = at (goal.at.returns c).In-Some in
     rw (← c.self.view_is)
     (ap (λ (ks : List (Option KeptCluster)). record { homes = cluster_numbers c.self.inside.homes.items; clusters = ks })
-    (seen-set c.self.inside.clusters.items c.args.c.0 c.in-Some.cluster c.set.new.self (with_key c.args.task.0 c.args.key) (at (goal.at.returns c).In-Some) (ap (λ (k : PlacedCluster). k.cluster) c.set.ensures)))
+    (seen-set c.self.inside.clusters.items c.args.c.0 c.in-Some.cluster c.set.new.self (with_key c.args.task.0 c.args.key) here (ap (λ (k : PlacedCluster). k.cluster) c.set.ensures)))

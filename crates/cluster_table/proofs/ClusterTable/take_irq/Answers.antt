@@ -19,21 +19,27 @@ at c =
 pub list_unplaced-requires : goal.list_unplaced-requires
 list_unplaced-requires c =
     λ h.
+    let inside = c.self.inside in
+    let here = at (goal.at.list_unplaced-requires c).In-Some in
     let placed : c.in-Some.cluster.is_placed ≡ true = sym c.is_placed-was_placed.ensures.flag ∙ h in
-    let room = room-listed c.self.inside.clusters.items (cluster_numbers c.self.inside.changed.items) _ c.self.invariant c.args.c.0 c.in-Some.cluster (at (goal.at.list_unplaced-requires c).In-Some) placed in
-    omega (arith, room, length-map c.self.inside.changed.items (λ (c : ClusterNo). c.0), c.self.inside.changed.ok.0)
+    let room = room-listed inside.clusters.items (cluster_numbers inside.changed.items) _ c.self.invariant c.args.c.0 c.in-Some.cluster here placed in
+    omega (arith, room, length-map inside.changed.items (λ (c : ClusterNo). c.0), inside.changed.ok.0)
 
 pub invariant_of-self-2 : goal.invariant_of-self-2
 invariant_of-self-2 c =
+    let inside = c.self.inside in
+    let here = at (goal.at.invariant_of-self-2 c).In-Some in
     let now = rw (c.is_placed-was_placed.ensures.flag, c.is_placed-is_placed.ensures.flag) at c.list_unplaced.ensures.numbers in
     rw c.list_unplaced.ensures.room
-    (listed-set c.self.inside.clusters.items (cluster_numbers c.self.inside.changed.items) _ c.self.invariant c.args.c.0 c.in-Some.cluster (at (goal.at.invariant_of-self-2 c).In-Some) c.take_irq-reply.new.self _ (λ h. (both _ _ (sym c.take_irq-reply.ensures.placed ∙ h)).0) c.is_placed-is_placed.ensures.settled now)
+    (listed-set inside.clusters.items (cluster_numbers inside.changed.items) _ c.self.invariant c.args.c.0 c.in-Some.cluster here c.take_irq-reply.new.self _
+    (λ h. (both _ _ (sym c.take_irq-reply.ensures.placed ∙ h)).0) c.is_placed-is_placed.ensures.settled now)
 
 pub returns-clause-changed : goal.returns-clause-changed
 returns-clause-changed c =
+    let here = at (goal.at.returns-clause-changed c).In-Some in
     rw (← c.self.view_is)
     (ap (λ (ks : List (Option KeptCluster)). record { homes = cluster_numbers c.self.inside.homes.items; clusters = ks })
-    (seen-set c.self.inside.clusters.items c.args.c.0 c.in-Some.cluster c.take_irq-reply.new.self (after_take c.args.q.0 c.args.np) (at (goal.at.returns-clause-changed c).In-Some) c.take_irq-reply.ensures.cluster))
+    (seen-set c.self.inside.clusters.items c.args.c.0 c.in-Some.cluster c.take_irq-reply.new.self (after_take c.args.q.0 c.args.np) here c.take_irq-reply.ensures.cluster))
 
 pub returns-clause-reply : goal.returns-clause-reply
 returns-clause-reply c =

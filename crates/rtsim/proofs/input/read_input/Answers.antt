@@ -2,7 +2,7 @@ use Rattle.std.proofs.Common.{◌≡◌, ◌≤◌, length, true, false, sym, ap
 use Rattle.rt_base.specs.declared.TheConstants.{MOST_SET_BYTES}
 use Rattle.rt_task.specs.Validity.{IsValid}
 use Rattle.set_read.specs.Sets.{set}
-use Rattle.group_state.specs.Built.{is_built}
+use Rattle.rt_groups.specs.Built.{is_built}
 use Rattle.rtsim.proofs.EndLaws.{ends-ok, ends-with, ends-handed, unread-cause, unmade-cause}
 use Rattle.rtsim.proofs.PlayableLaws.{playable-built, playable-unbuilt, playable-refused, stop-refused}
 use Rattle.rtsim.proofs.input.read_input.Goals as goal

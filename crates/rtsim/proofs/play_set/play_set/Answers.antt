@@ -1,5 +1,5 @@
-use Rattle.std.proofs.Common.{inr, refl}
-use Rattle.rtsim.proofs.SimLaws.{playable-is_built, one-group}
+use Rattle.std.proofs.Common.{◌∙◌, inr, refl}
+use Rattle.rtsim.proofs.SimLaws.{playable-is_built, played-groups}
 use Rattle.rtsim.proofs.SimAnswerLaws.{sim-unread, sim-read}
 use Rattle.rtsim.proofs.play_set.play_set.Goals as goal
 
@@ -9,20 +9,23 @@ returns-in-Err-clause-answers g c = sim-unread _ _ c.in-Err.status c.in-Err.ensu
 pub play-requires : goal.play-requires
 play-requires g c = playable-is_built _ _ c.in-Ok.ensures.ok.reads
 
+pub write_trace-requires-clause-built : goal.write_trace-requires-clause-built
+write_trace-requires-clause-built g c = playable-is_built _ _ c.in-Ok.ensures.ok.reads
+
 pub write_trace-requires-clause-groups : goal.write_trace-requires-clause-groups
-write_trace-requires-clause-groups g c = one-group c.in-Ok.setup c.in-Ok-play.engine c.from_ref.result.now c.in-Ok.ensures.ok.valid (playable-is_built _ _ c.in-Ok.ensures.ok.reads) c.from_ref.ensures.value c.in-Ok-play.ensures.setup c.in-Ok-play.ensures.group
+write_trace-requires-clause-groups g c = played-groups c.in-Ok.setup c.as_slice.result.now c.in-Ok.ensures.ok.valid (c.as_slice.ensures.value ∙ c.in-Ok-play.ensures)
 
 pub returns-in-Ok-write_trace-clause-answers : goal.returns-in-Ok-write_trace-clause-answers
 returns-in-Ok-write_trace-clause-answers g c =
-    sim-read _ _ c.in-Ok.setup c.in-Ok-play.engine c.from_ref.result.now _ c.in-Ok.ensures.ok (c.in-Ok.ensures.ends.not_too_long (λ is. cc))
-    c.from_ref.ensures.value c.in-Ok-play.ensures.entries c.in-Ok-write_trace.ensures.ok
+    sim-read _ _ c.in-Ok.setup c.as_slice.result.now _ c.in-Ok.ensures.ok (c.in-Ok.ensures.ends.not_too_long (λ is. cc))
+    (c.as_slice.ensures.value ∙ c.in-Ok-play.ensures) c.in-Ok-write_trace.ensures.ok
 
 pub returns-in-Err-Fault-clause-answers : goal.returns-in-Err-Fault-clause-answers
 returns-in-Err-Fault-clause-answers g c =
-    sim-read _ _ c.in-Ok.setup c.in-Ok-play.engine c.from_ref.result.now _ c.in-Ok.ensures.ok (c.in-Ok.ensures.ends.not_too_long (λ is. cc))
-    c.from_ref.ensures.value c.in-Ok-play.ensures.entries (c.in-Err-Fault.ensures.stopped, c.in-Err-Fault.ensures.fault (cc))
+    sim-read _ _ c.in-Ok.setup c.as_slice.result.now _ c.in-Ok.ensures.ok (c.in-Ok.ensures.ends.not_too_long (λ is. cc))
+    (c.as_slice.ensures.value ∙ c.in-Ok-play.ensures) (c.in-Err-Fault.ensures.stopped, c.in-Err-Fault.ensures.fault (cc))
 
 pub returns-clause-answers : goal.returns-clause-answers
 returns-clause-answers g c =
-    sim-read _ _ c.in-Ok.setup c.in-Ok-play.engine c.from_ref.result.now _ c.in-Ok.ensures.ok (c.in-Ok.ensures.ends.not_too_long (λ is. cc))
-    c.from_ref.ensures.value c.in-Ok-play.ensures.entries (inr c.in-Err-NoMemory.ensures.stopped)
+    sim-read _ _ c.in-Ok.setup c.as_slice.result.now _ c.in-Ok.ensures.ok (c.in-Ok.ensures.ends.not_too_long (λ is. cc))
+    (c.as_slice.ensures.value ∙ c.in-Ok-play.ensures) (inr c.in-Err-NoMemory.ensures.stopped)

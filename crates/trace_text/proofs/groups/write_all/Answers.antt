@@ -18,7 +18,7 @@ returns-in_err-write_head g c =
     (subst (λ (q : Parts). Came (Err c.in_err-write_head.field-0.0) (g.K.Sink.held c.args.out.now) (g.K.Sink.held c.write_head.new.out) (g.K.Sink.faults c.args.out.now) (g.K.Sink.faults c.write_head.new.out) (head_text format_1 q)) c.parts.ensures.parts c.in_err-write_head.ensures))
 
 pub write_groups-requires-clause-few : goal.write_groups-requires-clause-few
-write_groups-requires-clause-few g c = few_groups c.args.setup.now c.args.groups.now c.requires.groups c.parts.ensures.valid c.requires.built
+write_groups-requires-clause-few g c = few_groups c.args.setup.now c.args.groups.now c.requires.groups c.parts.ensures.valid
 
 pub returns : goal.returns
 returns g c =

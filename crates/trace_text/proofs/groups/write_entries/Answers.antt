@@ -1,5 +1,5 @@
 use Rattle.std.proofs.Common.{ap, ◌∙◌, subst, arith}
-use Rattle.group_state.specs.Groups.{group_of, past}
+use Rattle.rt_groups.specs.Groups.{group_of, past}
 use Rattle.trace_lines.specs.Lines.{links_of}
 use Rattle.trace_text.specs.TraceText.{entry_lines}
 use Rattle.trace_text.specs.declared.stop.WriteStop.TheVariants as stops

@@ -1,5 +1,5 @@
 use Rattle.std.proofs.Common.{length, drop}
-use Rattle.group_state.specs.Groups.{group_of, past}
+use Rattle.rt_groups.specs.Groups.{group_of, past}
 use Rattle.trace_text.specs.TraceText.{entry_lines}
 use Rattle.trace_text.proofs.CameLaws.{Coming}
 use Rattle.trace_text.proofs.LineLaws.{texts}

@@ -1,5 +1,5 @@
 use Rattle.std.proofs.Common.{◌+◌, drop, subst, arith}
-use Rattle.group_state.specs.Groups.{GroupHistory, group_of}
+use Rattle.rt_groups.specs.Groups.{GroupHistory, group_of}
 use Rattle.trace_lines.specs.Grammar.{line_text}
 use Rattle.trace_lines.specs.Lines.{end_line}
 use Rattle.trace_text.specs.Groups.{histories}

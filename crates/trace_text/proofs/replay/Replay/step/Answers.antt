@@ -3,7 +3,7 @@ use Rattle.std.proofs.lemmas.Result.{on_ok_weaker}
 use Rattle.rt_model.specs.Group.{Group}
 use Rattle.rt_model.specs.Past.{Past}
 use Rattle.trace_lines.specs.Lines.{links_of}
-use Rattle.group_state.specs.Groups.{group_of, past}
+use Rattle.rt_groups.specs.Groups.{group_of, past}
 use Rattle.trace_text.proofs.ReplayLaws.{cpus_there, past_step, changed_by, are-read, as_many, on_ok}
 use Rattle.trace_text.proofs.replay.Replay.step.Goals as goal
 

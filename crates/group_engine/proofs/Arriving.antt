@@ -1,0 +1,65 @@
+-- The state after an arrival.
+use Rattle.std.proofs.Common.{◌≡◌, ℕ, Bool, true, false, [], ◌∷◌, ◌||◌, eqb-true, refl, sym, ap, ◌∙◌, subst}
+use Rattle.std.specs.Prelude.{◌==◌}
+use Rattle.rt_base.specs.declared.TaskNo.{TaskNo}
+use Rattle.rt_task.specs.declared.Act.TheVariants as acts
+use Rattle.rt_history.specs.declared.Reply.TheVariants as replies
+use Rattle.rt_rules.specs.Numbers.{has}
+use Rattle.rt_model.specs.Answers.{answer}
+use Rattle.rt_model.specs.Group.{Group, task, tasks}
+use Rattle.rt_model.specs.Outcomes.{past_act}
+use Rattle.rt_model.specs.Past.{Acted, Past, accepted}
+use Rattle.rt_model.specs.Runs.{runs}
+use Rattle.group_facts.specs.Facts.{CpuFacts}
+use Rattle.group_facts.specs.FactMoves.{IsArrived, with_act}
+use Rattle.group_facts.specs.Kept.{IsKept, has_acted, has_arrived, job_of}
+use Rattle.group_facts.specs.Replies as told
+use Rattle.group_facts.proofs.CpuSteps.{cpu_is_counted}
+use Rattle.group_facts.proofs.JobSteps.{arrival_is_counted}
+use Rattle.group_jobs.specs.GroupJobs.{GroupJobs, task_in}
+use Rattle.group_engine.specs.declared.state.GroupState.{GroupState}
+use Rattle.group_engine.specs.State.{IsAt}
+use Rattle.group_engine.specs.Touching.{brought_up, placed_all}
+use Rattle.group_engine.proofs.ActMoves.{CanBe, between-act, between-still, kept-after, look-same}
+use Rattle.group_engine.proofs.Answering.{answer-read}
+use Rattle.group_engine.proofs.Settling.{settled}
+
+module _ (g : Group) (q : ℕ) (t : TaskNo) (past : Past) (s : GroupState) (can : CanBe g q (acts.Arrive t) past s) where
+  pub arrival-answer : told.arrival_reply s.jobs.kept.clock (task_in g.setup.tasks t.0) (job_of s.jobs.kept t.0) ≡ answer g q (acts.Arrive t) past
+  unfolding task
+  arrival-answer = answer-read g q (acts.Arrive t) past s can
+
+  module _ (done : answer g q (acts.Arrive t) past ≡ replies.Done) where
+    arrived : IsArrived g q t past
+    arrived = arrival_is_counted g q t past (ap accepted done)
+
+    runs-still : runs q (with_act g q (acts.Arrive t) past) ≡ runs q past
+    runs-still = ap (λ (c : CpuFacts). c.runs) (cpu_is_counted g q (acts.Arrive t) past).own ∙ rw (arrived.ends_none, done) refl
+
+    apart : (u : ℕ) → has u (t.0 ∷ []) ≡ false → u == t.0 ≡ false
+    apart u h = by_case (u == t.0) h
+      where
+        by_case : (b : Bool) → b || false ≡ false → b ≡ false
+        by_case true k = cc
+        by_case false k = refl
+
+    pub kept-arrived : IsKept g (with_act g q (acts.Arrive t) past) (has_arrived t.0 s.jobs.kept)
+    kept-arrived =
+        let same : has_acted g.setup.tasks q (acts.Arrive t) (answer g q (acts.Arrive t) past) true s.jobs.kept ≡ has_arrived t.0 s.jobs.kept = rw done refl in
+        subst (IsKept g (with_act g q (acts.Arrive t) past)) same (kept-after g q (acts.Arrive t) past s can)
+
+    -- an arrival that is accepted: the task is looked at
+    pub has_arrived-at : (jobs : GroupJobs) → jobs.kept ≡ has_arrived t.0 s.jobs.kept → IsAt g (with_act g q (acts.Arrive t) past) (placed_all (brought_up g.setup t.0 (record s { jobs = jobs })))
+    has_arrived-at jobs kept_is =
+        let s1 : GroupState = record s { jobs = jobs } in
+        settled g can.played (Acted (past_act g q (acts.Arrive t) past)) past (t.0 ∷ []) s1
+        (between-act g q (acts.Arrive t) past s can (t.0 ∷ []) s1 (subst (IsKept g (with_act g q (acts.Arrive t) past)) (sym kept_is) kept-arrived) refl refl
+        (between-still g q (acts.Arrive t) past s can runs-still)
+        (λ u h. only u h) (λ u h. look-same g q u (acts.Arrive t) past (arrived.others u (apart u h))))
+      where
+        only : (u : ℕ) → has u (t.0 ∷ []) ≡ true → has u (tasks g) ≡ true
+        only u h = by_case (u == t.0) refl h
+          where
+            by_case : (b : Bool) → u == t.0 ≡ b → b || false ≡ true → has u (tasks g) ≡ true
+            by_case true e k = let same : u ≡ t.0 = eqb-true u t.0 e in rw same can.act_is_of
+            by_case false e k = cc

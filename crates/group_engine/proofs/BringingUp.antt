@@ -1,0 +1,57 @@
+-- What can be brought up stays so while tasks are brought up and processors left.
+use Rattle.std.proofs.Common.{◌≡◌, ℕ, Bool, true, false, List, [], ◌∷◌, ◌++◌, length, set, eqb-true, length-set, refl, ap, ◌∙◌}
+use Rattle.std.specs.Prelude.{◌==◌, Option, None, option_map}
+use Rattle.std.proofs.lemmas.Bool.{eqb-false}
+use Rattle.std.proofs.lemmas.List.{set-set}
+use Rattle.rt_task.specs.declared.Parts.{Parts}
+use Rattle.cluster_table.specs.Clusters.{KeptCluster, left_by, with_key}
+use Rattle.cluster_table.specs.Table.{Table, HasTask, changed_at}
+use Rattle.cluster_table.proofs.RowLaws.{at-changed, at-changed_other}
+use Rattle.group_engine.specs.declared.state.GroupState.{GroupState}
+use Rattle.group_engine.specs.Touching.{CanBringUp, all_brought_up, brought_up, home_in, key_now}
+
+-- a change that leaves room for as many keys
+has-task-changed : (c d t : ℕ) (change : KeptCluster → KeptCluster) (table : Table)
+    → ((k : KeptCluster) → length (change k).keys ≡ length k.keys) → HasTask table d t → HasTask (changed_at c change table) d t
+has-task-changed c d t change table same h = by_place (d == c) refl
+  where
+    by_place : (b : Bool) → d == c ≡ b → HasTask (changed_at c change table) d t
+    by_place true e =
+        let here : d ≡ c = eqb-true d c e in
+        rw here (change h.0, at-changed c change table ∙ ap (option_map change) (rw here at h.1), rw (same h.0) h.2)
+    by_place false e = (h.0, at-changed_other c d change table (eqb-false d c e) ∙ h.1, h.2)
+
+can-still : (p : Parts) (t : ℕ) (s : GroupState) (ticks : List (Option ℕ)) (table : Table) → length ticks ≡ length s.timers
+    → HasTask table (home_in p t) t → CanBringUp p t s → CanBringUp p t (record s { timers = ticks; clusters = table })
+can-still p t s ticks table same there h = record {
+  task = h.task;
+  number_is = h.number_is;
+  deadline_low = h.deadline_low;
+  unreserved = h.unreserved;
+  timer_room = rw same h.timer_room;
+  at_home = there;
+}
+
+-- after another task is brought up
+pub can-after : (p : Parts) (t u : ℕ) (s : GroupState) → CanBringUp p t s → CanBringUp p t (brought_up p u s)
+can-after p t u s h =
+    let change : KeptCluster → KeptCluster = with_key u (key_now p s.jobs.kept u) in
+    let there = has-task-changed (home_in p u) (home_in p t) t change s.clusters (λ k. length-set _ _ _) h.at_home in
+    can-still p t s (brought_up p u s).timers (brought_up p u s).clusters (length-set _ _ _) there h
+
+-- once a processor of some cluster is left
+pub can-left : (p : Parts) (t c q : ℕ) (s : GroupState) → CanBringUp p t s
+    → CanBringUp p t (record s { clusters = changed_at c (left_by q) s.clusters })
+can-left p t c q s h =
+    let there = has-task-changed c (home_in p t) t (left_by q) s.clusters (λ k. refl) h.at_home in
+    can-still p t s s.timers (changed_at c (left_by q) s.clusters) refl there h
+
+-- a timer that was taken out is armed anew as one that was not
+pub brought_up-taken : (p : Parts) (u : ℕ) (s : GroupState) → brought_up p u (record s { timers = set s.timers u None }) ≡ brought_up p u s
+brought_up-taken p u s = rw set-set
+
+-- one more task is the last
+pub all_brought_up-push : (p : Parts) (us : List ℕ) (u : ℕ) (s : GroupState)
+    → all_brought_up p (us ++ u ∷ []) s ≡ brought_up p u (all_brought_up p us s)
+all_brought_up-push p [] u s = refl
+all_brought_up-push p (t ∷ us) u s = all_brought_up-push p us u (brought_up p t s)

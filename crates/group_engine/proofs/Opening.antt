@@ -1,0 +1,156 @@
+-- The state at opening.
+use Rattle.std.proofs.Common.{◌≡◌, ℕ, zero, suc, ◌+◌, ◌<◌, Bool, true, false, ◌&&◌, List, [], ◌∷◌, length, map, replicate, refl, sym, ap, ◌∙◌, subst, arith}
+use Rattle.std.specs.Prelude.{Option, None, Some, if◌then◌else◌, option_map}
+use Rattle.rt_base.specs.declared.TheConstants.{MOST_CPUS}
+use Rattle.rt_order.specs.declared.Key.{Key}
+use Rattle.rt_rules.specs.Numbers.{has, numbers_from}
+use Rattle.rt_rules.specs.Placing.{placed}
+use Rattle.rt_rules.proofs.BoolLaws.{both}
+use Rattle.rt_rules.proofs.MemberLaws.{has-filter}
+use Rattle.rt_rules.proofs.NumberLaws.{numbers_from-below}
+use Rattle.rt_model.specs.EffectiveKeys.{effective_key}
+use Rattle.rt_model.specs.Group.{Group, clusters, cpus, first_cpu, home, in_group, processors, tasks, tasks_of}
+use Rattle.rt_model.specs.Links.{links, runs_of}
+use Rattle.rt_model.specs.Reachable.{opened}
+use Rattle.rt_model.specs.Runs.{runs}
+use Rattle.rt_model.specs.Tops.{eligible, top}
+use Rattle.rt_plays.specs.Homes.{IsProcessorOf}
+use Rattle.rt_laws.proofs.GroupLaws.{tasks_of-home}
+use Rattle.rt_groups.specs.Limits.{IsInLimits}
+use Rattle.rt_groups.specs.Places.{IsHomeTask}
+use Rattle.rt_groups.proofs.GroupPlaces.{tasks_are_at_home}
+use Rattle.rt_groups.proofs.SetLimits.{sets_are_in_limits}
+use Rattle.ready_queue.specs.ReadySet.{HoldsJust, set_refreshed}
+use Rattle.ready_queue.specs.Refreshed.{AgreeBut}
+use Rattle.ready_queue.proofs.ReadySets.{set_is_refreshed}
+use Rattle.rank_changes.specs.ClusterMoves.{of_cluster}
+use Rattle.rank_changes.specs.Clusters.{HoldsEligible}
+use Rattle.group_facts.specs.Kept.{IsKept, opened as no_jobs}
+use Rattle.group_facts.specs.Timers.{TimersAreKept, timer_at}
+use Rattle.group_facts.proofs.KeptMoves.{kept_at_opening, length-replicated, replicated}
+use Rattle.group_facts.proofs.TimerMoves.{timers_at_opening}
+use Rattle.cluster_table.specs.Clusters.{KeptCluster, fresh, homes_from, relinked, rows_from}
+use Rattle.cluster_table.specs.Table.{HasTask, cluster_at}
+use Rattle.cluster_table.proofs.RowLaws.{at-relinked, home-at, length-homes, processor-low, row-at}
+use Rattle.group_engine.specs.declared.state.GroupState.{GroupState}
+use Rattle.group_engine.specs.Moments.{IsPlayed}
+use Rattle.group_engine.specs.State.{HasClusterAt, IsAt, IsWithin}
+use Rattle.group_engine.specs.Touching.{CanBringUpAll, all_brought_up, placed_all, timer_now}
+use Rattle.group_engine.proofs.Bounding.{can_bring_up}
+use Rattle.group_engine.proofs.Bringing.{cluster-brought, homes-brought, jobs-brought, keys-refreshed, renewed-same, timers-brought}
+use Rattle.group_engine.proofs.Settling.{first-top, key-kept, length-refreshed, timer-kept}
+
+-- before any task was looked at
+abbrev pub empty_state : Group → ℕ → GroupState
+empty_state g room = record {
+  jobs = record { kept = no_jobs (length g.setup.tasks) MOST_CPUS; room = room };
+  timers = replicate (length g.setup.tasks + 1) None;
+  clusters = record { homes = homes_from 0 g.setup.clusters; clusters = rows_from g.number (length g.setup.tasks + 1) 0 g.setup.clusters };
+}
+
+no-runs : (a n : ℕ) → map (λ q. runs q []) (numbers_from a n) ≡ replicate n None
+unfolding runs
+no-runs a zero = refl
+no-runs a (suc n) = ap (λ os. None ∷ os) (no-runs (suc a) n)
+
+runs_of-none : (g : Group) (c : ℕ) → runs_of g c [] ≡ replicate (cpus g c) None
+unfolding runs_of processors
+runs_of-none g c = no-runs (first_cpu g c) (cpus g c)
+
+links-first : (g : Group) (c : ℕ) → links g c [] ≡ placed (top g c []) (runs_of g c []) (runs_of g c [])
+unfolding links
+links-first g c = refl
+
+cluster-row : (g : Group) (c : ℕ) → has c (clusters g) ≡ true → (c < length g.setup.clusters) × (in_group g c ≡ true)
+unfolding clusters
+cluster-row g c h =
+    let parts = both (has c (numbers_from 0 (length g.setup.clusters))) (in_group g c) (rw has-filter at h) in
+    let low : c < 0 + length g.setup.clusters = numbers_from-below c 0 (length g.setup.clusters) parts.0 in
+    (omega (arith, low), parts.1)
+
+module _ (g : Group) (played : IsPlayed g) (room : ℕ) where
+  abbrev s0 : GroupState
+  s0 = empty_state g room
+
+  limits : IsInLimits g.setup
+  limits = sets_are_in_limits g.setup played.valid
+
+  within : IsWithin []
+  within = record { few = omega arith; clock_low = omega arith; sleeps_low = tt }
+
+  low-cpu : (q : ℕ) → IsProcessorOf g q → q < MOST_CPUS
+  low-cpu q h = omega (arith, processor-low g q h, limits.few_cpus)
+
+  kept : IsKept g [] s0.jobs.kept
+  kept = kept_at_opening g MOST_CPUS low-cpu
+
+  row : (c : ℕ) → has c (clusters g) ≡ true → cluster_at s0.clusters c ≡ Some (fresh (first_cpu g c) (cpus g c) (length g.setup.tasks + 1))
+  row c h = let p = cluster-row g c h in row-at g (length g.setup.tasks + 1) c p.0 ∙ rw p.1 refl
+
+  pub can_all : CanBringUpAll g.setup (tasks g) s0
+  can_all t h =
+      let home_of : IsHomeTask g t = tasks_are_at_home g t played.valid h in
+      let n : length (replicate {A = Option ℕ} (length g.setup.tasks + 1) None) ≡ length g.setup.tasks + 1 = length-replicated (length g.setup.tasks + 1) None in
+      let m : length (replicate {A = Option Key} (length g.setup.tasks + 1) None) ≡ length g.setup.tasks + 1 = length-replicated (length g.setup.tasks + 1) None in
+      let there : HasTask s0.clusters (home g t) t = (fresh (first_cpu g (home g t)) (cpus g (home g t)) (length g.setup.tasks + 1), row (home g t) home_of.cluster_there, omega (arith, home_of.high, m)) in
+      can_bring_up g played t h [] s0 kept within (omega (arith, home_of.high, n)) there
+
+  holds : (c : ℕ) → HoldsEligible g c [] (set_refreshed (λ u. effective_key g u []) (λ u. eligible g u []) (of_cluster g c (tasks g)) (replicate (length g.setup.tasks + 1) None))
+  holds c = set_is_refreshed (of_cluster g c (tasks g)) (tasks_of g c) (λ u. effective_key g u []) (λ u. effective_key g u []) (λ u. false) (λ u. eligible g u []) (replicate (length g.setup.tasks + 1) None) agree nothing
+    where
+      agree : AgreeBut (of_cluster g c (tasks g)) (tasks_of g c) (λ u. effective_key g u []) (λ u. effective_key g u []) (λ u. false) (λ u. eligible g u [])
+      agree = record {
+        inside = λ t h. (both (has t (tasks g)) (has t (tasks_of g c)) (rw has-filter at h)).1;
+        tests = λ t h k. absurd (let all : has t (of_cluster g c (tasks g)) ≡ true = rw (has-filter, (tasks_of-home g c t h).0, h) refl in cc);
+        keys = λ t h k e. refl;
+      }
+
+      nothing : HoldsJust (tasks_of g c) (λ u. effective_key g u []) (λ u. false) (replicate (length g.setup.tasks + 1) None)
+      nothing = record {
+        room = λ t h.
+            let home_of : IsHomeTask g t = tasks_are_at_home g t played.valid (tasks_of-home g c t h).0 in
+            let m : length (replicate {A = Option Key} (length g.setup.tasks + 1) None) ≡ length g.setup.tasks + 1 = length-replicated (length g.setup.tasks + 1) None in
+            omega (arith, home_of.high, m);
+        is_in = λ t. replicated (length g.setup.tasks + 1) t None ∙ either-way (has t (tasks_of g c)) (effective_key g t []);
+      }
+        where
+          either-way : (b : Bool) (k : Key) → None ≡ (if b && false then Some k else None)
+          either-way true k = refl
+          either-way false k = refl
+
+  cluster-opened : (c : ℕ) → has c (clusters g) ≡ true → HasClusterAt g c [] (placed_all (all_brought_up g.setup (tasks g) s0)).clusters
+  cluster-opened c h =
+      let k : KeptCluster = fresh (first_cpu g c) (cpus g c) (length g.setup.tasks + 1) in
+      let keys : List (Option Key) = set_refreshed (λ u. effective_key g u []) (λ u. eligible g u []) (of_cluster g c (tasks g)) k.keys in
+      let keys_same = keys-refreshed g c s0.jobs.kept (λ u. effective_key g u []) (λ u. eligible g u []) (tasks g) k.keys (λ u m. (m, key-kept g played [] s0 kept u m)) in
+      let next : KeptCluster = record k { keys = keys } in
+      let brought : cluster_at (all_brought_up g.setup (tasks g) s0).clusters c ≡ Some next = cluster-brought g.setup (tasks g) s0 c k (row c h) ∙ ap (λ ks. let x : KeptCluster = record k { keys = ks } in Some x) keys_same in
+      let m : length (replicate {A = Option Key} (length g.setup.tasks + 1) None) ≡ length g.setup.tasks + 1 = length-replicated (length g.setup.tasks + 1) None in
+      record {
+        cluster = relinked next;
+        there = at-relinked (all_brought_up g.setup (tasks g) s0).clusters c ∙ ap (option_map relinked) brought;
+        is_at = record {
+          cpus_are = refl;
+          first_is = refl;
+          room = length-refreshed (λ u. effective_key g u []) (λ u. eligible g u []) (of_cluster g c (tasks g)) k.keys ∙ m;
+          keys_are = holds c;
+          runs_are = sym (runs_of-none g c);
+          links_are = rw (first-top g c [] keys (holds c)) (rw (links-first g c, runs_of-none g c) refl);
+        };
+      }
+
+  pub opened-at : IsAt g [] (placed_all (all_brought_up g.setup (tasks g) s0))
+  opened-at = record {
+    reachable = opened;
+    within = within;
+    jobs_are = rw (jobs-brought g.setup (tasks g) s0) kept;
+    timers_are =
+        subst (TimersAreKept g [])
+        (sym (timers-brought g.setup (tasks g) s0 ∙ renewed-same (timer_now g.setup s0.jobs.kept) (timer_at g []) (tasks g) s0.timers (λ u h. timer-kept g [] s0 kept u h)))
+        (timers_at_opening g (length g.setup.tasks + 1) (omega arith));
+    homes_are = rw (homes-brought g.setup (tasks g) s0) (record {
+      there = λ q h. omega (arith, processor-low g q h, length-homes 0 g.setup.clusters);
+      are = λ q h. home-at g q (processor-low g q h);
+    });
+    clusters_are = cluster-opened;
+  }

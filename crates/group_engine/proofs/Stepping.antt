@@ -1,0 +1,99 @@
+-- One step of the engine: what its moves rest on, and that what is kept stays sound.
+use Rattle.std.proofs.Common.{◌≡◌, ℕ, ◌+◌, ◌<◌, ◌≤◌, true, List, [], ◌∷◌, ◌++◌, length, sym, ◌∙◌, subst, arith, length-append}
+use Rattle.std.proofs.lemmas.List.Elements.{All-push}
+use Rattle.rt_base.specs.declared.TheConstants.{MOST_STEPS}
+use Rattle.rt_task.specs.declared.Parts.{Parts}
+use Rattle.rt_task.specs.declared.Step.{Step}
+use Rattle.rt_task.specs.Validity.{IsValid}
+use Rattle.rt_history.specs.declared.Entry.{Entry}
+use Rattle.rt_history.specs.declared.Reply.{Reply}
+use Rattle.rt_model.specs.Group.{Group}
+use Rattle.rt_model.specs.Histories.{after, past_from, past_of, reply_to}
+use Rattle.rt_model.specs.Past.{Clock, Past, entries_in}
+use Rattle.rt_model.specs.Steps.{IsStepOf}
+use Rattle.rt_model.proofs.Steps.{IsLegal-append, after-acted, past_of-append, reply_to-lem}
+use Rattle.rt_plays.specs.Homes.{IsProcessorOf}
+use Rattle.rt_groups.specs.Built.{is_built}
+use Rattle.rt_groups.specs.Groups.{GroupHistory, IsGroupOf, group_of}
+use Rattle.group_engine.specs.declared.state.GroupState.{GroupState}
+use Rattle.group_engine.specs.Moments.{CanActOn, CanMove, HasActed, IsPlayed, Moment}
+use Rattle.group_engine.specs.Sound.{IsSound}
+use Rattle.group_engine.specs.State.{IsAt}
+
+pub entries_in-from : (g : Group) (es : List Entry) (past : Past) → entries_in (past_from g past es) ≡ length es + entries_in past
+unfolding past_from after
+entries_in-from g [] past = omega arith
+entries_in-from g (e ∷ es) past = let h = entries_in-from g es (after g e.step past) in omega (arith, h)
+
+-- the steps in a history's past are its entries
+pub entries_in-past_of : (g : Group) (es : List Entry) → entries_in (past_of g es) ≡ length es
+unfolding past_of
+entries_in-past_of g es = let h = entries_in-from g es [] in omega (arith, h)
+
+pub played : (p q : Parts) (n : ℕ) → p ≡ q → IsValid p → is_built q ≡ true → IsGroupOf q n → IsPlayed (record { setup = p; number = n })
+played p q n same valid built there = record {
+  valid = valid;
+  built = subst (λ (r : Parts). is_built r ≡ true) (sym same) built;
+  is_there = subst (λ (r : Parts). IsGroupOf r n) (sym same) there;
+}
+
+pub sound-open : (g : Group) (room capacity : ℕ) (s : GroupState) → IsPlayed g → room ≤ MOST_STEPS → room ≤ capacity → s.jobs.room ≡ room → IsAt g [] s → IsSound g [] room capacity s
+unfolding past_of past_from
+sound-open g room capacity s plays limit reserved arrivals kept = record {
+  played = plays;
+  limit = limit;
+  within = omega arith;
+  reserved = reserved;
+  arrivals = omega (arith, arrivals);
+  kept = kept;
+  legal = tt;
+  steps = λ k d low. absurd (omega (arith, low));
+}
+
+-- what holds of the group that contracts see holds of the group inside
+pub at_home : (h h' : GroupHistory) (q : ℕ) → h ≡ h' → IsProcessorOf (group_of h') q → IsProcessorOf (group_of h) q
+at_home h h' q same there = subst (λ (x : GroupHistory). IsProcessorOf (group_of x) q) (sym same) there
+
+pub of_group : (h h' : GroupHistory) (step : Step) → h ≡ h' → IsStepOf (group_of h') step → IsStepOf (group_of h) step
+of_group h h' step same of = subst (λ (x : GroupHistory). IsStepOf (group_of x) step) (sym same) of
+
+module _ (g : Group) (es : List Entry) (room capacity : ℕ) (state : GroupState) (sound : IsSound g es room capacity state) where
+  abbrev pub moment : Moment
+  moment = record { group = g; past = past_of g es }
+
+  -- the moment after the clock has moved
+  abbrev pub at_tick : ℕ → Moment
+  at_tick tick = record { group = g; past = Clock tick ∷ past_of g es }
+
+  pub can_move : (parts : Parts) (step : Step) → parts ≡ g.setup → IsStepOf g step → CanMove moment step.tick.0 parts state
+  can_move parts step same of = record { played = sound.played; kept = sound.kept; parts_are = same; tick_low = of.tick }
+
+  pub can_act : (parts : Parts) (step : Step) (moved : GroupState) → parts ≡ g.setup → IsStepOf g step → length es < room
+      → IsAt g (Clock step.tick.0 ∷ past_of g es) moved → CanActOn (at_tick step.tick.0) step.cpu.0 step.act parts moved
+  can_act parts step moved same of spare kept = record {
+    can = record {
+      played = sound.played;
+      kept = kept;
+      inside = of.processor;
+      act_is_of = of.act;
+      few = omega (arith, spare, sound.limit, entries_in-past_of g es);
+    };
+    parts_are = same;
+  }
+
+  pub reply-is : (step : Step) (reply : Reply) (s : GroupState) → HasActed (at_tick step.tick.0) step.cpu.0 step.act reply s → reply ≡ reply_to g step (past_of g es)
+  reply-is step reply s acted = acted.reply_is ∙ sym (reply_to-lem g step (past_of g es))
+
+  pub sound-step : (step : Step) (reply : Reply) (s : GroupState) (capacity' : ℕ) → IsStepOf g step → length es < room → capacity ≤ capacity'
+      → state.jobs.room ≤ s.jobs.room + 1 → HasActed (at_tick step.tick.0) step.cpu.0 step.act reply s
+      → IsSound g (es ++ record { step = step; reply = reply } ∷ []) room capacity' s
+  sound-step step reply s capacity' of spare grows arrivals acted = record {
+    played = sound.played;
+    limit = sound.limit;
+    within = omega (arith, length-append {A = Entry});
+    reserved = omega (arith, sound.reserved);
+    arrivals = omega (arith, sound.arrivals, arrivals, length-append {A = Entry});
+    kept = rw (past_of-append, after-acted) acted.kept;
+    legal = IsLegal-append g es _ sound.legal (reply-is step reply s acted);
+    steps = All-push (λ (e : Entry). IsStepOf g e.step) es _ sound.steps of;
+  }

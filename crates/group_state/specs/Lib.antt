@@ -1,6 +1,0 @@
-pub mod Releases
-pub mod Due
-pub mod Built
-pub mod Groups
-pub mod State
-pub mod Moves

@@ -1,0 +1,82 @@
+use Rattle.std.proofs.Common.{ℕ, ◌≡◌, ◌<◌, ◌≤◌, List, length, sym, ap, ◌∙◌, subst, arith}
+use Rattle.trace_lines.specs.Lines.{links_of}
+use Rattle.trace_lines.specs.declared.links.CpuLink.{CpuLink}
+use Rattle.trace_read.specs.Lines.{line_of, lines_of}
+use Rattle.trace_check.specs.Following.{IsAccepted, IsFollowingWith, IsNextEntry, Place}
+use Rattle.trace_check.specs.Judging.{begins_with}
+use Rattle.trace_check.specs.Progress.{IsEndedAt}
+use Rattle.trace_check.proofs.Judging.{IsOtherLine, accepted-right, ended-there, entries-few, followed-with, group-low, length-read, line-there, none-there, opened-line, opened-right, opened-wrong, other-line, other-there, place-within, place_at, refused-there, rest-read}
+use Rattle.trace_check.proofs.group.follow_group.Goals as goal
+
+pub returns-then-not-begins : goal.returns-then-not-begins
+returns-then-not-begins c =
+    let n = c.args.group.0 in
+    let links = links_of c.in_ok-follow.follow.links.items in
+    opened-wrong c.args.setup.now (lines_of c.args.lines.now) n c.args.from c.requires.before c.in_ok-follow.ensures.valid c.requires.built (group-low c.args.setup.now n c.in_ok-follow.ensures.valid c.requires.group) links (opened-line n c.in_ok-follow.follow c.in_ok-follow.ensures)
+    (ap (begins_with n links) (sym (rest-read c.args.lines.now c.args.from.lines)) ∙ sym c.begins.ensures ∙ c.if-not-begins.true)
+
+pub loop-i-init : goal.loop-i-init
+loop-i-init c =
+    let n = c.args.group.0 in
+    let links = links_of c.in_ok-follow.follow.links.items in
+    opened-right c.args.setup.now (lines_of c.args.lines.now) n c.args.from c.requires.before c.in_ok-follow.ensures.valid c.requires.built (group-low c.args.setup.now n c.in_ok-follow.ensures.valid c.requires.group) c.in_ok-follow.follow c.in_ok-follow.ensures
+    (ap (begins_with n links) (sym (rest-read c.args.lines.now c.args.from.lines)) ∙ sym c.begins.ensures ∙ c.if-not-begins.false)
+
+pub accepts-requires : goal.accepts-requires
+accepts-requires c =
+    (place_at c.loop-i.invariant, followed-with c.args.setup.now (lines_of c.args.lines.now) c.loop-i.invariant c.args.steps.now c.requires.steps)
+
+pub returns-then-not-branch : goal.returns-then-not-branch
+returns-then-not-branch c =
+    let at : Place = place_at c.loop-i.invariant in
+    let fw : IsFollowingWith at c.args.steps.now c.loop-i.follow = followed-with c.args.setup.now (lines_of c.args.lines.now) c.loop-i.invariant c.args.steps.now c.requires.steps in
+    let here = line-there c.args.lines.now c.loop-i.i c.index-lines-i.result c.loop-i-test.true c.index-lines-i.is ∙ ap line_of c.in-EntryLine.is in
+    let inside : c.loop-i.i < length (lines_of c.args.lines.now) = omega (arith, length-read c.args.lines.now, c.loop-i-test.true) in
+    refused-there c.args.setup.now (lines_of c.args.lines.now) c.args.group.0 c.args.from c.loop-i.i c.loop-i.follow c.loop-i.invariant c.in-EntryLine.no c.in-EntryLine.entry (links_of c.in-EntryLine.links) (line_of c.index-lines-i.result) inside here
+    (λ next. c.in_ok-accepts-in-EntryLine.ensures.refused at fw c.if-not-branch.true (subst (λ (ls : List CpuLink). IsNextEntry at.group at.entries c.in-EntryLine.no c.in-EntryLine.entry (links_of ls)) (sym c.as_slice.ensures) next))
+
+pub ended_at-requires : goal.ended_at-requires
+ended_at-requires c =
+    record {
+      steps = (place_at c.loop-i.invariant, followed-with c.args.setup.now (lines_of c.args.lines.now) c.loop-i.invariant c.args.steps.now c.requires.steps);
+      few = entries-few c.args.setup.now (lines_of c.args.lines.now) c.args.group.0 c.args.from c.loop-i.i c.loop-i.follow c.loop-i.invariant;
+    }
+
+pub returns-in_default : goal.returns-in_default
+returns-in_default c =
+    let p = c.args.setup.now in
+    let ls = lines_of c.args.lines.now in
+    let at : Place = place_at c.loop-i.invariant in
+    let fw : IsFollowingWith at c.args.steps.now c.loop-i.follow = followed-with p ls c.loop-i.invariant c.args.steps.now c.requires.steps in
+    let here = line-there c.args.lines.now c.loop-i.i c.index-lines-i.result c.loop-i-test.true c.index-lines-i.is in
+    let inside : c.loop-i.i < length ls = omega (arith, length-read c.args.lines.now, c.loop-i-test.true) in
+    ended-there p ls c.args.group.0 c.args.from c.loop-i.i c.loop-i.follow c.loop-i.invariant c.ended_at.result
+    (other-there p ls c.args.group.0 c.args.from c.loop-i.i c.loop-i.follow c.loop-i.invariant (line_of c.index-lines-i.result) inside (subst IsOtherLine (sym here) (other-line c.index-lines-i.result c.in_default.not-EntryLine))) (c.ended_at.ensures at fw)
+
+pub loop-i-preserved : goal.loop-i-preserved
+loop-i-preserved c =
+    let at : Place = place_at c.loop-i.invariant in
+    let fw : IsFollowingWith at c.args.steps.now c.loop-i.follow = followed-with c.args.setup.now (lines_of c.args.lines.now) c.loop-i.invariant c.args.steps.now c.requires.steps in
+    let here = line-there c.args.lines.now c.loop-i.i c.index-lines-i.result c.loop-i-test.true c.index-lines-i.is ∙ ap line_of c.in-EntryLine.is in
+    let inside : c.loop-i.i < length (lines_of c.args.lines.now) = omega (arith, length-read c.args.lines.now, c.loop-i-test.true) in
+    accepted-right c.args.setup.now (lines_of c.args.lines.now) c.args.group.0 c.args.from c.loop-i.i c.loop-i.follow c.loop-i.invariant c.in-EntryLine.no c.in-EntryLine.entry (links_of c.in-EntryLine.links) (line_of c.index-lines-i.result) c.accepts.new.self inside here
+    (subst (λ (ls : List CpuLink). IsAccepted at c.in-EntryLine.no c.in-EntryLine.entry (links_of ls) c.accepts.new.self) c.as_slice.ensures (c.in_ok-accepts-in-EntryLine.ensures.accepted at fw c.if-not-branch.false))
+
+pub ended_at-requires-2 : goal.ended_at-requires-2
+ended_at-requires-2 c =
+    record {
+      steps = (place_at c.loop-i.invariant, followed-with c.args.setup.now (lines_of c.args.lines.now) c.loop-i.invariant c.args.steps.now c.requires.steps);
+      few = entries-few c.args.setup.now (lines_of c.args.lines.now) c.args.group.0 c.args.from c.loop-i.i c.loop-i.follow c.loop-i.invariant;
+    }
+
+pub returns : goal.returns
+returns c =
+    let p = c.args.setup.now in
+    let ls = lines_of c.args.lines.now in
+    let at : Place = place_at c.loop-i.invariant in
+    let fw : IsFollowingWith at c.args.steps.now c.loop-i.follow = followed-with p ls c.loop-i.invariant c.args.steps.now c.requires.steps in
+    let within : c.loop-i.i ≤ length ls = place-within p ls c.args.group.0 c.args.from c.loop-i.i c.loop-i.follow c.loop-i.invariant in
+    let is : length c.args.lines.now ≡ c.loop-i.i = omega (arith, within, length-read c.args.lines.now, c.loop-i-test.false) in
+    ended-there p ls c.args.group.0 c.args.from c.loop-i.i c.loop-i.follow c.loop-i.invariant c.ended_at-2.result
+    (none-there p ls c.args.group.0 c.args.from c.loop-i.i c.loop-i.follow c.loop-i.invariant (omega (arith, is, length-read c.args.lines.now)))
+    (subst (λ (m : ℕ). IsEndedAt at c.args.from c.loop-i.follow.count m c.ended_at-2.result) is (c.ended_at-2.ensures at fw))

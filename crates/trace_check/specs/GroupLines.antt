@@ -1,0 +1,27 @@
+-- The lines of the groups of a set that is played, without the line `end`.
+use Rattle.std.specs.Prelude.{ℕ, ◌+◌, List, [], ◌∷◌, ◌++◌}
+use Rattle.rt_task.specs.declared.Parts.{Parts}
+use Rattle.rt_history.specs.declared.Entry.{Entry}
+use Rattle.rt_model.specs.Group.{Group, group_processors}
+use Rattle.rt_plays.specs.Plays.{group_with}
+use Rattle.rt_plays.specs.ScriptPlays.{IsScriptPlay}
+use Rattle.trace_lines.specs.Lines.{Line, group_line}
+use Rattle.trace_text.specs.TraceText.{entry_lines, links_at}
+
+-- the line of a group, with the links at opening
+abbrev pub opening_line : Group → Line
+opening_line g = group_line g.number (links_at g [] (group_processors g))
+
+-- and one line for each entry
+abbrev pub lines_so_far : Group → List Entry → List Line
+lines_so_far g es = opening_line g ∷ entry_lines g 0 [] es
+
+-- those of the groups from a number on, each with its history
+abbrev pub lines_of_groups : Parts → ℕ → List (List Entry) → List Line
+lines_of_groups p n [] = []
+lines_of_groups p n (es ∷ more) = lines_so_far (group_with p n) es ++ lines_of_groups p (n + 1) more
+
+-- plays of the groups from a number on
+abbrev pub ArePlaysFrom : Parts → ℕ → List (List Entry) → Type 0
+ArePlaysFrom p n [] = Unit {0}
+ArePlaysFrom p n (es ∷ more) = IsScriptPlay (group_with p n) es × ArePlaysFrom p (n + 1) more

@@ -1,0 +1,42 @@
+-- How far the lines of a trace are right.
+use Rattle.std.specs.Prelude.{◌≡◌, ℕ, ◌+◌, true, List, ◌++◌, length, drop, Option, ◌⊎◌}
+use Rattle.rt_task.specs.declared.Parts.{Parts}
+use Rattle.rt_task.specs.Validity.{IsValid}
+use Rattle.rt_history.specs.declared.Entry.{Entry}
+use Rattle.rt_groups.specs.Built.{is_built}
+use Rattle.rt_plays.specs.Plays.{group_count}
+use Rattle.trace_lines.specs.Lines.{Line}
+use Rattle.trace_laws.specs.ValidTexts.{entry_count}
+use Rattle.trace_check.specs.declared.progress.Progress.{Progress}
+use Rattle.trace_check.specs.declared.progress.Followed.{Followed}
+use Rattle.trace_check.specs.declared.progress.Followed.TheVariants.{Whole, Wrong}
+use Rattle.trace_check.specs.declared.verdict.Verdict.TheVariants.{Invalid}
+use Rattle.trace_check.specs.Following.{IsOver, Place}
+use Rattle.trace_check.specs.GroupLines.{ArePlaysFrom, lines_of_groups}
+use Rattle.trace_check.specs.Judging.{IsJudged}
+
+-- so many of the lines are those of plays of the first n groups
+pub record AreRight (p : Parts) (lines : List Line) (n : ℕ) (r : Progress) : Type 0 where
+  pub histories : List (List Entry)
+  pub plays : ArePlaysFrom p 0 histories
+  pub count : length histories ≡ n
+  pub place_is : r.lines ≡ length (lines_of_groups p 0 histories)
+  pub lines_are : lines ≡ lines_of_groups p 0 histories ++ drop r.lines lines
+  pub entries_are : r.entries ≡ entry_count histories
+
+-- those of plays of all the groups of a set that is played
+pub record AreAllRight (p : Parts) (lines : List Line) (r : Progress) : Type 0 where
+  pub valid : IsValid p
+  pub built : is_built p ≡ true
+  pub right : AreRight p lines (group_count p) r
+
+-- what comes of following the lines of group n, behind those of the groups before it
+abbrev pub IsFollowedTo : Parts → List Line → ℕ → Followed → Type 0
+IsFollowedTo p lines n (Whole r) = AreRight p lines (n + 1) r
+IsFollowedTo p lines n (Wrong place) = (stop : Option ℕ) → IsJudged p lines stop (Invalid (place + 3))
+
+-- what comes of it where no entry line follows: a step is missing, or all were followed
+abbrev pub IsEndedAt : Place → Progress → ℕ → ℕ → Followed → Type 0
+IsEndedAt at from count place f =
+    ((f ≡ Wrong place) × (IsOver at.group at.entries → ⊥))
+    ⊎ ((f ≡ Whole (record { lines = place; entries = from.entries + count })) × IsOver at.group at.entries)

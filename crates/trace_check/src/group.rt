@@ -1,0 +1,79 @@
+//! The lines of a group.
+ghost use Rattle.std.specs.Prelude.{◌≡◌, ◌+◌, ◌^◌, ◌<◌, IfOk, true};
+ghost use Rattle.rt_groups.specs.Built.{is_built};
+ghost use Rattle.rt_groups.specs.Groups.{IsGroupOf};
+ghost use Rattle.rt_plays.specs.Drives.{steps_given};
+ghost use Rattle.trace_lines.specs.Lines.{links_of};
+ghost use Rattle.trace_read.specs.Lines.{lines_of};
+ghost use Rattle.trace_check.specs.Judging.{begins_with};
+ghost use Rattle.trace_check.specs.Following.{IsFollowingWith, Place};
+ghost use Rattle.trace_check.specs.Progress.{AreRight, IsEndedAt, IsFollowedTo};
+
+use crate::follow::Follow;
+use crate::links::are_same;
+use crate::progress::{Followed, Progress};
+use rt_base::{GroupNo, NoMemory};
+use rt_task::{Setup, Step};
+use std::alloc::Global;
+use trace_read::Line;
+
+/// Whether the first of the lines is that of the group, with its links at opening.
+fn begins(follow: &Follow, number: GroupNo, lines: &[Line]) -> bool
+    ensures { result
+        ≡ begins_with number.0 (links_of follow.now.links.items) (lines_of lines.now) }
+{
+    match lines.first() {
+        Some(Line::GroupLine { group, links }) => {
+            group.0 == number.0 && are_same(follow.links(), links.as_slice())
+        }
+        _ => false,
+    }
+}
+
+/// What the lines of a group come to where no entry line stands in this place.
+fn ended_at(follow: &Follow, steps: &[Step], from: Progress, place: usize) -> Followed
+    requires steps { (at : Place) × IsFollowingWith at steps.now follow.now }
+    requires few { from.entries + follow.now.count < 2 ^ 32 }
+    ensures { (at : Place) → IsFollowingWith at steps.now follow.now
+        → IsEndedAt at from follow.now.count place result }
+{
+    if !follow.is_over(steps) {
+        return Followed::Wrong(place);
+    }
+    Followed::Whole(Progress {
+        lines: place,
+        entries: from.entries + follow.count(),
+    })
+}
+
+/// Follows the lines of a group, behind those of the groups before it. `steps` are the set's.
+pub(crate) fn follow_group(
+    alloc: Global,
+    setup: &Setup,
+    steps: &[Step],
+    group: GroupNo,
+    lines: &[Line],
+    from: Progress,
+) -> Result<Followed, NoMemory>
+    requires built { is_built setup.now ≡ true }
+    requires steps { steps.now ≡ steps_given setup.now.drive }
+    requires group { IsGroupOf setup.now group.0 }
+    requires before { AreRight setup.now (lines_of lines.now) group.0 from }
+    ensures { IfOk result (IsFollowedTo setup.now (lines_of lines.now) group.0) }
+{
+    let mut follow = Follow::open(alloc, setup, group)?;
+    if !begins(&follow, group, &lines[from.lines..]) {
+        return Ok(Followed::Wrong(from.lines));
+    }
+    for i in from.lines + 1..lines.len() {
+        match &lines[i] {
+            Line::EntryLine { no, entry, links } => {
+                if !follow.accepts(steps, *no, entry, links.as_slice())? {
+                    return Ok(Followed::Wrong(i));
+                }
+            }
+            _ => return Ok(ended_at(&follow, steps, from, i)),
+        }
+    }
+    Ok(ended_at(&follow, steps, from, lines.len()))
+}
