@@ -67,7 +67,7 @@ done-unless : (b : Bool) (r : Reply) → accepted r ≡ false → accepted (if b
 done-unless true r refused h = refl
 done-unless false r refused h = absurd (clash (accepted r) h refused)
 
-pub plain-done : (op : Op) (clock : ℕ) (worked : Option ℕ) (np : Bool) → accepted (plain_reply op clock worked np false true) ≡ true → plain_reply op clock worked np false true ≡ replies.Done
+plain-done : (op : Op) (clock : ℕ) (worked : Option ℕ) (np : Bool) → accepted (plain_reply op clock worked np false true) ≡ true → plain_reply op clock worked np false true ≡ replies.Done
 plain-done ops.Work clock worked np h = done-if (same worked (Some clock)) replies.Spent refl h
 plain-done (ops.Lock s) clock worked np h = done-if np replies.InNp refl h
 plain-done (ops.Unlock s) clock worked np h = done-if np replies.InNp refl h

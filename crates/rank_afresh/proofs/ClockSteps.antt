@@ -62,10 +62,10 @@ module _ (clock clock' next : ℕ) (u : Task) (job : JobFacts) (later : clock �
       let same : nat_lt clock' n ≡ nat_lt clock n = moment-same clock clock' next n later before (waits-first clock n next (if_later clock (Some job.wakes)) l) in
       (rw same refl, come-same clock clock' n same)
 
-  pub ready-later : is_ready clock' u job ≡ is_ready clock u job
+  ready-later : is_ready clock' u job ≡ is_ready clock u job
   ready-later = rw ((release-same (release_of u job) least).1, wakes-same) refl
 
-  pub timer-later : timer clock' u job ≡ timer clock u job
+  timer-later : timer clock' u job ≡ timer clock u job
   timer-later = rw ((release-same (release_of u job) least).0, wakes-same) refl
 
 -- ---- the first of the moments

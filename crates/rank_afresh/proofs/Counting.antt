@@ -24,7 +24,7 @@ use Rattle.rank_afresh.specs.Ranks.{CanRead}
 
 -- ---- one job
 
-pub bounded-more : (n m clock clock' : ℕ) (job : JobFacts) → n ≤ m → clock ≤ clock' → AreBounded n clock job → AreBounded m clock' job
+bounded-more : (n m clock clock' : ℕ) (job : JobFacts) → n ≤ m → clock ≤ clock' → AreBounded n clock job → AreBounded m clock' job
 bounded-more n m clock clock' job few later b = record {
   counts = let c = b.counts in omega (arith, c);
   used_low = b.used_low;

@@ -2,7 +2,7 @@
 use Rattle.std.proofs.Common.{◌≡◌, ℕ, ◌-◌, ◌<◌, ◌≤◌, max, Bool, true, false, List, length, map, get_or, refl, sym, ◌∙◌, subst, arith, ltb-true}
 use Rattle.std.specs.Prelude.{All, None, if◌then◌else◌, nat_lt}
 use Rattle.std.proofs.lemmas.List.{get_or-map, get_or_default, length-map, length-replicate}
-use Rattle.rt_base.specs.declared.TheConstants.{MOST_CPUS, MOST_STEPS}
+use Rattle.rt_base.specs.declared.TheConstants.{MOST_STEPS}
 use Rattle.rt_task.specs.declared.Parts.{Parts}
 use Rattle.rt_task.specs.RuleWords.{is_p_res}
 use Rattle.rt_rules.specs.Numbers.{has, numbers_from}
@@ -25,7 +25,7 @@ use Rattle.rank_afresh.proofs.ClockSteps.{next-least, timer-stays}
 use Rattle.rank_afresh.proofs.SetLists.{at-mapped, cluster-within, length-runs_in}
 
 module _ (g : Group) (c : ℕ) (x : ClusterFacts) where
-  pub fits-place : (k k' : Kept) → IsClusterOf g k c x → c < length g.setup.clusters → processor_count g.setup ≤ length k'.cpus → CanPlace g.setup k' x
+  fits-place : (k k' : Kept) → IsClusterOf g k c x → c < length g.setup.clusters → processor_count g.setup ≤ length k'.cpus → CanPlace g.setup k' x
   fits-place k k' is inside room = record {
     tasks = λ t h. task-range g t (tasks_of-home g c t (rw is.tasks_are at h)).0;
     once = rw is.tasks_are (distinct-tasks_of g c);
@@ -56,10 +56,6 @@ module _ (g : Group) (c : ℕ) (x : ClusterFacts) where
       by_case false e = fit-relinked k (with_clock tick k) is
 
 -- ---- all clusters
-
--- what holds of the group's setup at all times
-pub limits-of : (g : Group) (acts : ℕ) (k : Kept) → CanRead acts g.setup k → processor_count g.setup ≤ MOST_CPUS
-limits-of g acts k can = can.limits.few_cpus
 
 pub places-of : (g : Group) (k : Kept) (cs : List ClusterFacts) → length cs ≡ length g.setup.clusters → length k.cpus ≡ processor_count g.setup
     → ((c : ℕ) → c < length g.setup.clusters → IsClusterOf g k c (cluster_at cs c)) → All (CanPlace g.setup k) cs
@@ -99,7 +95,7 @@ fit-unlinked g k c = record { first_is = refl; tasks_are = refl; links_length = 
 pub length-unlinked : (g : Group) → length (unlinked_clusters g) ≡ length g.setup.clusters
 length-unlinked g = length-map (numbers_from 0 (length g.setup.clusters)) (unlinked_cluster g) ∙ length-numbers_from 0 (length g.setup.clusters)
 
-pub at-unlinked : (g : Group) (k : Kept) (c : ℕ) → c < length g.setup.clusters → IsClusterOf g k c (cluster_at (unlinked_clusters g) c)
+at-unlinked : (g : Group) (k : Kept) (c : ℕ) → c < length g.setup.clusters → IsClusterOf g k c (cluster_at (unlinked_clusters g) c)
 at-unlinked g k c inside = rw (at-mapped (unlinked_cluster g) (length g.setup.clusters) c no_facts inside) (fit-unlinked g k c)
 
 pub follow-opened : (g : Group) → is_p_res g.setup.plugin ≡ false → IsInLimits g.setup

@@ -80,8 +80,8 @@ none-mapped [] = refl
 none-mapped (n ∷ ns) = ap (λ os. None ∷ os) (none-mapped ns)
 
 module _ (g : Group) (valid : IsValid g.setup) (built : is_built g.setup ≡ true) where
-  abbrev k₀ : Kept
-  k₀ = kept_words.opened (length g.setup.tasks) (processor_count g.setup)
+  abbrev first_kept : Kept
+  first_kept = kept_words.opened (length g.setup.tasks) (processor_count g.setup)
 
   roomy : HasRoom g (processor_count g.setup)
   roomy q h =
@@ -90,13 +90,13 @@ module _ (g : Group) (valid : IsValid g.setup) (built : is_built g.setup ≡ tru
       let high = at.high in
       omega (arith, w, high)
 
-  kept₀ : IsKept g [] k₀
-  kept₀ = kept_at_opening g (processor_count g.setup) roomy
+  kept_first : IsKept g [] first_kept
+  kept_first = kept_at_opening g (processor_count g.setup) roomy
 
-  first-cluster : (c : ℕ) → c < length g.setup.clusters → cluster_at (at_opening g).clusters c ≡ relinked g.setup k₀ (unlinked_cluster g c)
+  first-cluster : (c : ℕ) → c < length g.setup.clusters → cluster_at (at_opening g).clusters c ≡ relinked g.setup first_kept (unlinked_cluster g c)
   first-cluster c inside =
-      at-followed g.setup k₀ (unlinked_clusters g) c (let n = length-unlinked g in omega (arith, inside, n))
-      ∙ ap (followed g.setup k₀) (at-mapped (unlinked_cluster g) (length g.setup.clusters) c no_facts inside)
+      at-followed g.setup first_kept (unlinked_clusters g) c (let n = length-unlinked g in omega (arith, inside, n))
+      ∙ ap (followed g.setup first_kept) (at-mapped (unlinked_cluster g) (length g.setup.clusters) c no_facts inside)
 
   none-run : (c : ℕ) → runs_of g c [] ≡ replicate (cpus g c) None
   unfolding runs_of processors
@@ -106,17 +106,17 @@ module _ (g : Group) (valid : IsValid g.setup) (built : is_built g.setup ≡ tru
   unfolding links
   links-first c = refl
 
-  links-opened : (c : ℕ) → has c (clusters g) ≡ true → (relinked g.setup k₀ (unlinked_cluster g c)).links ≡ links g c []
+  links-opened : (c : ℕ) → has c (clusters g) ≡ true → (relinked g.setup first_kept (unlinked_cluster g c)).links ≡ links g c []
   links-opened c there =
       let count : length (replicate (cpus g c) None) ≡ cpus g c = length-replicate (cpus g c) None in
-      let here : (relinked g.setup k₀ (unlinked_cluster g c)).links ≡ placed (top_in (cpus g c) g.setup k₀ (tasks_of g c)) (runs_in k₀ (first_cpu g c) (cpus g c)) (replicate (cpus g c) None) =
-      ap (λ n. placed (top_in n g.setup k₀ (tasks_of g c)) (runs_in k₀ (first_cpu g c) n) (replicate (cpus g c) None)) count in
-      here ∙ rw (← top-read g built [] k₀ kept₀ c, ← runs-read g built [] k₀ kept₀ c there, ← none-run c) (sym (links-first c))
+      let here : (relinked g.setup first_kept (unlinked_cluster g c)).links ≡ placed (top_in (cpus g c) g.setup first_kept (tasks_of g c)) (runs_in first_kept (first_cpu g c) (cpus g c)) (replicate (cpus g c) None) =
+      ap (λ n. placed (top_in n g.setup first_kept (tasks_of g c)) (runs_in first_kept (first_cpu g c) n) (replicate (cpus g c) None)) count in
+      here ∙ rw (← top-read g built [] first_kept kept_first c, ← runs-read g built [] first_kept kept_first c there, ← none-run c) (sym (links-first c))
 
   pub at-first : (room : ℕ) → IsAt (record { setup = g.setup; group = g.number; facts = at_opening g; spare = room; ended = None }) []
   at-first room = record {
     reachable = opened;
-    kept = kept₀;
+    kept = kept_first;
     links_are = λ c there. rw (first-cluster c (cluster-inside g c there)) (links-opened c there);
     ended_is = refl;
   }
@@ -129,8 +129,8 @@ module _ (g : Group) (valid : IsValid g.setup) (built : is_built g.setup ≡ tru
     room_left = omega arith;
     read = read-opened (MOST_STEPS - room) g.setup (no-p_res g.setup built) (sets_are_in_limits g.setup valid);
     all_cpus = length-replicated (processor_count g.setup) _;
-    all_clusters = length-map (unlinked_clusters g) (followed g.setup k₀) ∙ length-unlinked g;
-    clusters_are = λ c inside. rw (first-cluster c inside) (fit-relinked g c (unlinked_cluster g c) k₀ k₀ (fit-unlinked g k₀ c));
+    all_clusters = length-map (unlinked_clusters g) (followed g.setup first_kept) ∙ length-unlinked g;
+    clusters_are = λ c inside. rw (first-cluster c inside) (fit-relinked g c (unlinked_cluster g c) first_kept first_kept (fit-unlinked g first_kept c));
   }
 
 -- ---- an act, where the clock was moved to its tick
@@ -180,7 +180,7 @@ module _ (v : Standing) (room : ℕ) (fit : IsFit (group_of v) v.facts room v.sp
   pub reply-is : reply ≡ answer g q act past
   reply-is = reply-read g fit.built past at.reachable fit.valid q act v.facts is_act at.kept of (linked-there v room fit q of.inside past at)
 
-  pub ended-is : ended_now p q act reply v.facts ≡ ended_in g (past_act g q act past) past
+  ended-is : ended_now p q act reply v.facts ≡ ended_in g (past_act g q act past) past
   ended-is = ended-read g fit.built past at.reachable fit.valid q act v.facts is_act at.kept of.inside reply reply-is
 
   abbrev k' : Kept

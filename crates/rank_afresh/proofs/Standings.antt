@@ -68,7 +68,7 @@ module _ (v : Standing) (room : ℕ) (fit : IsFit (group_of v) v.facts room v.sp
     unfolding cluster_with
     at_home = processors_are_at_home g q of
 
-    pub cluster-is : IsClusterOf g k (home_of v.setup q) (cluster_at cs (home_of v.setup q))
+    cluster-is : IsClusterOf g k (home_of v.setup q) (cluster_at cs (home_of v.setup q))
     cluster-is = fit.clusters_are (home_of v.setup q) at_home.inside
 
     pub home-there : home_of v.setup q < length cs

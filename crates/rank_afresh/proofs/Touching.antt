@@ -43,7 +43,7 @@ pub record IsStill (p : Parts) (k k' : Kept) (ts : List ℕ) (first n : ℕ) : T
   pub timers : (t : ℕ) → has t ts ≡ true → timer_in p k' t ≡ timer_in p k t
   pub runs : runs_in k' first n ≡ runs_in k first n
 
-pub still-same : (p : Parts) (k : Kept) (ts : List ℕ) (first n : ℕ) → IsStill p k k ts first n
+still-same : (p : Parts) (k : Kept) (ts : List ℕ) (first n : ℕ) → IsStill p k k ts first n
 still-same p k ts first n = record { candidates = λ t h. refl; keys = λ t h. refl; timers = λ t h. refl; runs = refl }
 
 -- the jobs of its tasks are the same

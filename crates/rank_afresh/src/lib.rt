@@ -10,3 +10,6 @@ mod room;
 mod rows;
 
 pub use afresh::Afresh;
+
+#[cfg(test)]
+mod tests;

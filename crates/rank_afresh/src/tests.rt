@@ -1,0 +1,238 @@
+//! A group of two clusters, played by hand by the rules of the model.
+ghost use Rattle.std.specs.Prelude.{◌≡◌, ◌+◌, ◌<◌, true};
+ghost use Rattle.rt_model.specs.Past.{Past};
+ghost use Rattle.rt_model.specs.Steps.{IsStepOf};
+ghost use Rattle.rt_plays.specs.Homes.{IsProcessorOf};
+ghost use Rattle.rank_afresh.specs.Standing.{IsAt, IsOfSame, group_of};
+
+use crate::Afresh;
+use crate::rows::cluster_of;
+use rt_base::{ClusterNo, CpuNo, GroupNo, TaskNo, Tick};
+use rt_groups::is_built;
+use rt_history::Reply;
+use rt_task::{
+    Act, Cluster, ClusterList, Drive, Kind, Name, Op, Ops, Parts, PluginKind, ResvList, SemList,
+    SemNos, Setup, Step, StepList, Task, TaskList,
+};
+use std::alloc::{AllocError, Global};
+use std::test::Fail;
+
+/// A task of this cluster; its jobs are a period of 10 apart, and have this cost and relative deadline.
+fn task(
+    alloc: Global,
+    number: u32,
+    cluster: u32,
+    cost: u64,
+    rel_deadline: u64,
+) -> Result<Task, AllocError> {
+    let letter = [b'@' + (number % 26) as u8];
+    Ok(Task {
+        number: TaskNo(number),
+        name: Name::from_vec(Vec::from_slice(alloc, &letter)?),
+        cluster: ClusterNo(cluster),
+        cost,
+        period: 10,
+        rel_deadline,
+        phase: 0,
+        kind: Kind::Periodic,
+        prio: 1,
+        enforce: false,
+        uses: SemNos::from_vec(Vec::new(alloc)),
+        resv: None,
+        body: Ops::from_vec(Vec::new(alloc)),
+        early: false,
+    })
+}
+
+/// Task 2 is sporadic, from clock 2 on. Task 3 is enforced and early. Task 5 is of the other group.
+fn tasks(alloc: Global) -> Result<Vec<Task>, AllocError> {
+    let sporadic = Task {
+        kind: Kind::Sporadic,
+        phase: 2,
+        ..task(alloc, 2, 0, 1, 3)?
+    };
+    let enforced = Task {
+        enforce: true,
+        early: true,
+        ..task(alloc, 3, 2, 2, 4)?
+    };
+    let mut tasks = Vec::new(alloc);
+    tasks.push(task(alloc, 1, 0, 1, 5)?)?;
+    tasks.push(sporadic)?;
+    tasks.push(enforced)?;
+    tasks.push(task(alloc, 4, 2, 1, 20)?)?;
+    tasks.push(task(alloc, 5, 1, 1, 1)?)?;
+    Ok(tasks)
+}
+
+fn step(cpu: u32, tick: u64, act: Act) -> Step {
+    Step {
+        cpu: CpuNo(cpu),
+        tick: Tick(tick),
+        act,
+    }
+}
+
+fn operation(cpu: u32, tick: u64, op: Op) -> Step {
+    step(cpu, tick, Act::Do(op))
+}
+
+/// The steps of the first group.
+fn steps(alloc: Global) -> Result<Vec<Step>, AllocError> {
+    let steps = [
+        step(0, 0, Act::Irq),
+        step(3, 0, Act::Irq),
+        operation(3, 0, Op::Work),
+        operation(3, 0, Op::Work),
+        step(0, 1, Act::Arrive(TaskNo(2))),
+        step(0, 2, Act::Arrive(TaskNo(2))),
+        step(1, 2, Act::Irq),
+        operation(3, 2, Op::Work),
+        operation(1, 2, Op::Sleep(3)),
+        step(3, 3, Act::Irq),
+        operation(3, 3, Op::NpOn),
+        operation(3, 3, Op::Work),
+        operation(3, 4, Op::Work),
+        operation(3, 4, Op::End),
+        operation(3, 4, Op::NpOff),
+        step(1, 5, Act::Tick),
+        step(1, 6, Act::Irq),
+        operation(1, 6, Op::End),
+        operation(0, 6, Op::End),
+        operation(0, 6, Op::Work),
+        step(0, 10, Act::Tick),
+    ];
+    Vec::from_slice(alloc, &steps)
+}
+
+/// C-EDF over a cluster of processors 0 and 1, one of processor 2, and one of processor 3; the middle one is a group of
+/// its own.
+fn two_groups(alloc: Global) -> Result<Parts, AllocError> {
+    let cluster = |cpus, group| Cluster {
+        cpus,
+        group: GroupNo(group),
+    };
+    let clusters = vec![in alloc; cluster(2, 0), cluster(1, 1), cluster(1, 0)]?;
+    Ok(Parts {
+        plugin: PluginKind::CEdf,
+        clusters: ClusterList::from_vec(clusters),
+        sems: SemList::from_vec(Vec::new(alloc)),
+        resvs: ResvList::from_vec(Vec::new(alloc)),
+        tasks: TaskList::from_vec(tasks(alloc)?),
+        drive: Drive::Steps(StepList::from_vec(steps(alloc)?)),
+    })
+}
+
+/// What is seen of a step: its reply, what its processor is linked to and runs then, and the task whose job it ended, with
+/// whether that was late.
+#[derive(Clone, Copy, Debug, PartialEq, Eq)]
+struct Outcome {
+    reply: Reply,
+    linked: Option<TaskNo>,
+    runs: Option<TaskNo>,
+    ended: Option<(TaskNo, bool)>,
+}
+
+const NONE: Option<TaskNo> = None;
+
+const A: Option<TaskNo> = Some(TaskNo(1));
+
+const B: Option<TaskNo> = Some(TaskNo(2));
+
+const C: Option<TaskNo> = Some(TaskNo(3));
+
+const D: Option<TaskNo> = Some(TaskNo(4));
+
+fn seen(reply: Reply, linked: Option<TaskNo>, runs: Option<TaskNo>) -> Outcome {
+    Outcome {
+        reply,
+        linked,
+        runs,
+        ended: None,
+    }
+}
+
+/// The task ended its job, late or not, and its processor is linked to the other.
+fn ended(task: u32, is_late: bool, linked: Option<TaskNo>) -> Outcome {
+    Outcome {
+        ended: Some((TaskNo(task), is_late)),
+        ..seen(Reply::Done, linked, NONE)
+    }
+}
+
+/// What is to be seen, by the rules: jobs are ranked by deadline, and then by number.
+fn wanted(alloc: Global) -> Result<Vec<Outcome>, AllocError> {
+    let wanted = [
+        seen(Reply::Runs(TaskNo(1)), A, A),
+        seen(Reply::Runs(TaskNo(3)), C, C),
+        seen(Reply::Done, C, C),
+        seen(Reply::Spent, C, C),
+        seen(Reply::TooEarly, A, A),
+        seen(Reply::Done, A, A),
+        seen(Reply::Runs(TaskNo(2)), B, B),
+        ended(3, false, C),
+        seen(Reply::Done, NONE, NONE),
+        seen(Reply::Runs(TaskNo(3)), C, C),
+        seen(Reply::Done, C, C),
+        seen(Reply::Done, C, C),
+        seen(Reply::Done, C, C),
+        seen(Reply::InNp, C, C),
+        ended(3, false, D),
+        seen(Reply::Done, B, NONE),
+        seen(Reply::Runs(TaskNo(2)), B, B),
+        ended(2, true, NONE),
+        ended(1, true, NONE),
+        seen(Reply::Idle, NONE, NONE),
+        seen(Reply::Done, A, NONE),
+    ];
+    Vec::from_slice(alloc, &wanted)
+}
+
+/// Whether the processor is of the first group.
+fn is_of_group(parts: &Parts, cpu: CpuNo) -> bool
+    ensures { result ≡ true
+        → IsProcessorOf (record { setup = parts.now; number = 0 }) cpu.0 }
+{
+    let clusters = parts.clusters.as_slice();
+    let home = cluster_of(clusters, cpu);
+    home < clusters.len() && clusters[home].group.0 == 0
+}
+
+/// Takes a step, and looks at its processor.
+fn take(afresh: &mut Afresh, step: Step) -> Outcome
+    requires room { 0 < afresh.old.spare }
+    requires step { IsStepOf (group_of afresh.old) step }
+    requires at { (past : Past) × IsAt afresh.old past }
+    ensures at { (past : Past) × IsAt afresh.new past }
+    ensures same { IsOfSame afresh.old afresh.new }
+    ensures room { afresh.new.spare + 1 ≡ afresh.old.spare }
+{
+    afresh.clock(step.tick);
+    let reply = afresh.act(step);
+    Outcome {
+        reply,
+        linked: afresh.linked(step.cpu),
+        runs: afresh.runs(step.cpu),
+        ended: afresh.ended(),
+    }
+}
+
+#[test]
+fn plays_two_clusters(rt: HostRuntime) -> Result<(), Fail> {
+    let setup = Setup::make(rt.alloc(), two_groups(rt.alloc())?)?;
+    let parts = setup.parts();
+    assert!(rt; is_built(&setup));
+    assert!(rt; parts.clusters.as_slice().iter().any(|c| c.group.0 == 0));
+    let Drive::Steps(steps) = &parts.drive else {
+        panic!(rt; "no steps");
+    };
+    let wanted = wanted(rt.alloc())?;
+    assert_eq!(rt; steps.as_slice().len(), 21);
+    assert_eq!(rt; wanted.len(), 21);
+    let mut afresh = Afresh::open(rt.alloc(), &setup, GroupNo(0), 21)?;
+    for (i, step) in steps.as_slice().iter().enumerate() {
+        assert!(rt; is_of_group(parts, step.cpu));
+        assert_eq!(rt; take(&mut afresh, *step), wanted[i], "step {i}");
+    }
+    Ok(())
+}
