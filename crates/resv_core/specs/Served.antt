@@ -129,9 +129,13 @@ first_refill Sporadic = None
 -- nothing was worked or lost, and no client is ready; there is room for clients whose numbers are below the room
 abbrev pub fresh : ResvKind → ℕ → ℕ → ℕ → ServerState
 fresh kind budget period room = record {
-  kind = kind; budget = budget; period = period;
+  kind = kind;
+  budget = budget;
+  period = period;
   releases = replicate room None;
-  refilled = first_refill kind; spent = 0; lost = false;
+  refilled = first_refill kind;
+  spent = 0;
+  lost = false;
 }
 
 module _ (p : Parts) (group : ℕ) where

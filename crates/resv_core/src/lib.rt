@@ -1,9 +1,10 @@
-//! Reservations of a group, polling or sporadic: the ready clients and the budget of each.
+//! Reservations of a group, polling or sporadic as those of LITMUS-RT's P-RES: the ready clients and the budget of each.
 #![tactic(auto)]
 
 ghost use Rattle.std.specs.Prelude.{◌≡◌, ◌≤◌, IfNone, IfOk, IfSome, IsSome, false, option_map};
 ghost use Rattle.rt_base.specs.declared.Tick.{Tick};
-ghost use Rattle.resv_core.specs.Served.{charged, gone, has_ready, last_of, left_of, opened, readied, server, server_of, settled, ticked, with_each, with_server, IsFront, IsResv};
+ghost use Rattle.resv_core.specs.Served.{charged, gone, has_ready, last_of, left_of, opened, readied, settled, ticked};
+ghost use Rattle.resv_core.specs.Served.{server, server_of, with_each, with_server, IsFront, IsResv};
 
 mod opening;
 mod server;
@@ -14,23 +15,24 @@ use server::Server;
 use std::alloc::Global;
 use std::marker::Model;
 
-/// What is shown of a reservation.
+/// What is shown of a reservation between two moves.
 #[derive(Clone, Copy, Debug, PartialEq, Eq)]
 pub struct ResvState {
-    /// The clock of the last refill; for a polling reservation, when the period of that refill began.
+    /// The tick of the last replenishment; of a polling reservation, the tick at which the period of that one began.
     pub last: Option<Tick>,
-    /// What is left of the budget.
+    /// The units of work that are left of the budget.
     pub left: u64,
 }
 
-/// The reservations of one group, with their ready clients and budgets.
+/// The reservations of one group, with their ready clients and budgets, polling or sporadic as those of LITMUS-RT's P-RES.
 ///
 /// A move of the group is told by `tick` where it moves the clock, `charge` where a client worked, `client_ready` and
-/// `client_gone` for the clients that it made so, and `settle` at its end. So is the opening, with no `tick`.
+/// `client_gone` for the clients that it made so, and `settle` at its end. So is the opening, with no `tick`. Each
+/// reservation that a call names is of the group, and each task a client of one.
 #[derive(Drop)]
 pub struct Resvs {
     clock: u64,
-    // By the numbers of the set, less 1. Those of other groups have no room for a client.
+    // By their numbers in the set, less 1. Those of other groups have no room for a client.
     servers: Vec<Server>,
     // By the number of the task.
     served_by: Vec<Option<ResvNo>>,
@@ -41,13 +43,19 @@ impl Model for Resvs {
 
     ghost Value = { Served };
 
-    ghost view = { λ a. record { clock = a.clock; servers = a.servers.items; served_by = a.served_by.items } };
+    ghost view = { λ a. record {
+      clock = a.clock;
+      servers = a.servers.items;
+      served_by = a.served_by.items;
+    } };
 
     ghost invariant = { λ a. IsPlaced a.servers.items a.served_by.items };
 }
 
 impl Resvs {
-    /// The reservations of a group at the opening, with no client ready. No later call takes memory.
+    /// The reservations of a group at tick 0, not yet settled, with no client ready. No later call takes memory.
+    ///
+    /// Example: `Resvs::new(alloc, &setup, GroupNo(0))`, then `client_ready` for each client that is ready, then `settle`.
     pub fn new(alloc: Global, setup: &Setup, group: GroupNo) -> Result<Resvs, NoMemory>
         ensures { IfOk result (λ resvs. resvs ≡ opened setup.now group.0) }
     {
@@ -62,6 +70,8 @@ impl Resvs {
     }
 
     /// The client is ready, with a job of this release. It may have been ready with another.
+    ///
+    /// Example: `resvs.client_ready(TaskNo(2), Tick(5))` where task 2 begins the job of release 5.
     pub fn client_ready(&mut self, task: TaskNo, release: Tick)
         requires { IsSome (server_of self.old task.0) }
         ensures { IfSome (server_of self.old task.0) (λ r. self.new ≡
@@ -72,7 +82,9 @@ impl Resvs {
         }
     }
 
-    /// The client is not ready.
+    /// The client is not ready: its job has ended, or sleeps.
+    ///
+    /// Example: `resvs.client_gone(TaskNo(2))` where task 2 has no further job yet.
     pub fn client_gone(&mut self, task: TaskNo)
         requires { IsSome (server_of self.old task.0) }
         ensures { IfSome (server_of self.old task.0) (λ r. self.new ≡
@@ -83,7 +95,10 @@ impl Resvs {
         }
     }
 
-    /// Moves the clock. Several periods that this begins are one refill of a polling reservation.
+    /// Moves the clock, which never falls. Several periods that begin in one move are one replenishment of a polling
+    /// reservation.
+    ///
+    /// Example: `resvs.tick(Tick(25))` from tick 0 replenishes a polling reservation of period 10 once.
     pub fn tick(&mut self, now: Tick)
         requires { self.old.clock ≤ now.0 }
         ensures { self.new ≡
@@ -93,7 +108,9 @@ impl Resvs {
         self.clock = now.0;
     }
 
-    /// A client of the reservation worked one unit. It counts before what its move refills or loses.
+    /// A client of the reservation worked one unit. It counts before what its move replenishes or loses.
+    ///
+    /// Example: `resvs.charge(r)` where a client's work was accepted, which needs a budget of at least 1.
     pub fn charge(&mut self, r: ResvNo)
         requires resv { IsResv self.old r.0 }
         requires left { 1 ≤ left_of (server self.old r.0) }
@@ -102,14 +119,19 @@ impl Resvs {
         self.servers[r.0 as usize - 1].charge();
     }
 
-    /// Ends a move, or the opening, once it is told which clients are ready: what they refill and what is lost.
+    /// Ends a move, or the opening, once all its clients are told: a polling reservation with no ready client loses what
+    /// is left, and a sporadic one with a ready client is replenished where a period is over since the last time.
+    ///
+    /// Example: `resvs.settle()` after `tick`, `charge` and the clients of the same move.
     pub fn settle(&mut self)
         ensures { self.new ≡ with_each (settled self.old.clock) self.old }
     {
         server::settle_each(&mut self.servers, self.clock);
     }
 
-    /// What is left of the reservation's budget.
+    /// The units of work that are left of the reservation's budget.
+    ///
+    /// Example: `resvs.budget(r)` is 0 where a polling reservation had no ready client at the opening.
     pub fn budget(&self, r: ResvNo) -> u64
         requires { IsResv self.now r.0 }
         ensures { result ≡ left_of (server self.now r.0) }
@@ -117,7 +139,9 @@ impl Resvs {
         self.servers[r.0 as usize - 1].left()
     }
 
-    /// The last refill, and what is left.
+    /// The last replenishment, and what is left.
+    ///
+    /// Example: `resvs.state(r).last` is `None` for a sporadic reservation with no ready client so far.
     pub fn state(&self, r: ResvNo) -> ResvState
         requires { IsResv self.now r.0 }
         ensures last { option_map (λ (t : Tick). t.0) result.last ≡ last_of (server self.now r.0) }
@@ -126,7 +150,9 @@ impl Resvs {
         self.servers[r.0 as usize - 1].state()
     }
 
-    /// The reservation's ready client of the earliest release, and of several that with the lowest number.
+    /// The front client: the ready client of the earliest release, and of several that of the lowest number.
+    ///
+    /// Example: `resvs.front(r)` is `None` where no client is ready.
     pub fn front(&self, r: ResvNo) -> Option<TaskNo>
         requires { IsResv self.now r.0 }
         ensures front { IfSome result (λ task. IsFront (server self.now r.0).releases task.0) }

@@ -2,7 +2,8 @@
 ghost use Rattle.std.specs.Prelude.{◌≡◌, ◌≤◌, ◌<◌, IfNone, IfOk, IfSome, false, length, map, option_map};
 ghost use Rattle.rt_base.specs.declared.Tick.{Tick};
 ghost use Rattle.resv_core.specs.Releases.{key_of_release};
-ghost use Rattle.resv_core.specs.Served.{charged, fresh, gone, has_ready, last_of, left_of, readied, settled, ticked, is_over, refilled_at, IsFront};
+ghost use Rattle.resv_core.specs.Served.{charged, fresh, gone, has_ready, is_over, last_of, left_of, readied};
+ghost use Rattle.resv_core.specs.Served.{refilled_at, settled, ticked, IsFront};
 
 use crate::ResvState;
 use ready_heap::{ReadyHeap, uncounted};
@@ -19,7 +20,7 @@ pub(crate) struct Server {
     budget: u64,
     period: u64,
     clients: ReadyHeap<ByKey>,
-    // The clock of the last refill.
+    // The clock of the last replenishment.
     refilled: Option<u64>,
     // The units that were worked since.
     spent: u64,
@@ -34,7 +35,15 @@ impl Model for Server {
 
     ghost Value = { ServerState };
 
-    ghost view = { λ s. record { kind = s.kind; budget = s.budget; period = s.period; releases = releases_in s.clients.keys; refilled = s.refilled; spent = s.spent; lost = s.lost } };
+    ghost view = { λ s. record {
+      kind = s.kind;
+      budget = s.budget;
+      period = s.period;
+      releases = releases_in s.clients.keys;
+      refilled = s.refilled;
+      spent = s.spent;
+      lost = s.lost;
+    } };
 
     ghost invariant = { λ s. (1 ≤ s.period) × AreReleases s.clients.keys };
 }
@@ -141,7 +150,7 @@ impl Server {
         }
     }
 
-    /// The last refill, and what is left.
+    /// The last replenishment, and what is left.
     pub(crate) fn state(&self) -> ResvState
         ensures last { option_map (λ (t : Tick). t.0) result.last ≡ last_of self.now }
         ensures left { result.left ≡ left_of self.now }
@@ -152,7 +161,7 @@ impl Server {
         }
     }
 
-    /// The ready client of the earliest release, and of several that with the lowest number.
+    /// The ready client of the earliest release, and of several that of the lowest number.
     pub(crate) fn front(&self) -> Option<TaskNo>
         ensures front { IfSome result (λ task. IsFront self.now.releases task.0) }
         ensures none { IfNone result (has_ready self.now.releases ≡ false) }
@@ -176,7 +185,7 @@ impl Server {
         self.clients.first().is_some()
     }
 
-    // Whether there was no refill, or a period is over since the last.
+    // Whether there was no replenishment, or a period is over since the last.
     fn is_over(&self, clock: u64) -> bool
         ensures { result ≡ is_over clock self.now.period self.now.refilled }
     {

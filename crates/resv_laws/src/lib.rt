@@ -3,7 +3,8 @@
 #![tactic(auto)]
 
 ghost use Rattle.resv_laws.specs.Kept.{MoveIsKept, MoveIsKeptInAnyOrder, OpeningIsKept, StateIsShown, WorkFindsBudget};
-ghost use Rattle.resv_laws.specs.Serving.{AllMovedAreServing, AllMovedInAnyOrder, AllOpenedAreServing, WorkMayBeCharged};
+ghost use Rattle.resv_laws.specs.Serving.{AllMovedAreServing, AllMovedInAnyOrder, AllOpenedAreServing};
+ghost use Rattle.resv_laws.specs.Serving.{WorkMayBeCharged};
 
 /// At the opening, once the ready clients are told and it is settled, the state is that of the empty past.
 pub fn opening_is_kept()
