@@ -1,4 +1,4 @@
-//! Reservations of a group, polling or sporadic as those of LITMUS-RT's P-RES: the ready clients and the budget of each.
+//! Reservations of a group, polling or sporadic as in LITMUS-RT's P-RES: the ready clients and the budget of each.
 #![tactic(auto)]
 
 ghost use Rattle.std.specs.Prelude.{◌≡◌, ◌≤◌, IfNone, IfOk, IfSome, IsSome, false, option_map};
@@ -24,7 +24,7 @@ pub struct ResvState {
     pub left: u64,
 }
 
-/// The reservations of one group, with their ready clients and budgets, polling or sporadic as those of LITMUS-RT's P-RES.
+/// The reservations of one group, polling or sporadic as in LITMUS-RT's P-RES, with their ready clients and budgets.
 ///
 /// A move of the group is told by `tick` where it moves the clock, `charge` where a client worked, `client_ready` and
 /// `client_gone` for the clients that it made so, and `settle` at its end. So is the opening, with no `tick`. Each
@@ -55,7 +55,7 @@ impl Model for Resvs {
 impl Resvs {
     /// The reservations of a group at tick 0, not yet settled, with no client ready. No later call takes memory.
     ///
-    /// Example: `Resvs::new(alloc, &setup, GroupNo(0))`, then `client_ready` for each client that is ready, then `settle`.
+    /// Example: `Resvs::new(alloc, &setup, GroupNo(0))`, then `client_ready` for each ready client, then `settle`.
     pub fn new(alloc: Global, setup: &Setup, group: GroupNo) -> Result<Resvs, NoMemory>
         ensures { IfOk result (λ resvs. resvs ≡ opened setup.now group.0) }
     {
@@ -119,8 +119,8 @@ impl Resvs {
         self.servers[r.0 as usize - 1].charge();
     }
 
-    /// Ends a move, or the opening, once all its clients are told: a polling reservation with no ready client loses what
-    /// is left, and a sporadic one with a ready client is replenished where a period is over since the last time.
+    /// Ends a move, or the opening, once its clients are told. A polling reservation with no ready client loses what
+    /// is left; a sporadic one with a ready client is replenished where it never was or its period is over.
     ///
     /// Example: `resvs.settle()` after `tick`, `charge` and the clients of the same move.
     pub fn settle(&mut self)
