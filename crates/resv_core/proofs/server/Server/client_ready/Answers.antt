@@ -1,0 +1,6 @@
+use Rattle.std.proofs.Common.{refl}
+use Rattle.resv_core.proofs.ReleaseLaws.{releases_in-set, set_twice}
+use Rattle.resv_core.proofs.server.Server.client_ready.Goals as goal
+
+pub returns : goal.returns
+returns c = rw (← c.self.view_is, c.put_in.ensures, c.take_out.ensures.removed, c.key_of.ensures, set_twice, releases_in-set) refl

@@ -1,0 +1,54 @@
+//! The laws of reservations: what is kept of each, call by call, is what the definitions say of the whole past. Each
+//! function has a law as its contract, and does nothing.
+#![tactic(auto)]
+
+ghost use Rattle.resv_laws.specs.Kept.{MoveIsKept, MoveIsKeptInAnyOrder, OpeningIsKept, StateIsShown, WorkFindsBudget};
+ghost use Rattle.resv_laws.specs.Serving.{AllMovedAreServing, AllMovedInAnyOrder, AllOpenedAreServing};
+ghost use Rattle.resv_laws.specs.Serving.{WorkMayBeCharged};
+
+/// At the opening, once the ready clients are told and it is settled, the state is that of the empty past.
+pub fn opening_is_kept()
+    ensures { OpeningIsKept }
+{}
+
+/// The calls that a move brings, a tick or a charge, the clients that changed, and `settle`, make the state of a past
+/// that of the longer past.
+pub fn move_is_kept()
+    ensures { MoveIsKept }
+{}
+
+/// So they do however the clients are told, once the releases are those of the longer past.
+pub fn move_is_kept_in_any_order()
+    ensures { MoveIsKeptInAnyOrder }
+{}
+
+/// An accepted Work of a client is charged to a reservation with a unit left.
+pub fn work_finds_budget()
+    ensures { WorkFindsBudget }
+{}
+
+/// The budget, the last refill and the front client that the state shows are those of the definitions.
+pub fn state_is_shown()
+    ensures { StateIsShown }
+{}
+
+/// At the opening of a group of a valid set under P-RES, the calls of `Resvs` make the state of all its reservations
+/// that of the empty past.
+pub fn all_opened_are_serving()
+    ensures { AllOpenedAreServing }
+{}
+
+/// The calls of `Resvs` that a move brings make the state of all reservations that of the longer past.
+pub fn all_moved_are_serving()
+    ensures { AllMovedAreServing }
+{}
+
+/// So they do in whatever order the clients are told.
+pub fn all_moved_in_any_order()
+    ensures { AllMovedInAnyOrder }
+{}
+
+/// A task that does an accepted Work has a reservation that may be charged.
+pub fn work_may_be_charged()
+    ensures { WorkMayBeCharged }
+{}
