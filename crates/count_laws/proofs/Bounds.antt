@@ -20,6 +20,7 @@ within g past valid made r = record {
   all_within = λ b p h. all_by (protocol g r.sem) b p h (fmlp_bound g past valid made r.no r.task r.sem p);
   under_omlp = omlp_bound g past valid made r.no r.task r.sem;
   under_fmlp = fmlp_bound g past valid made r.no r.task r.sem;
+  blocked_among = blocked_ends_are_ends g past valid made r.no r.task r.sem;
 }
   where
     all_by : (p : Protocol) (b : ℕ) → p ≡ Fmlp → bound_by g p r.task r.sem ≡ Some b → ends_all g r.no r.task r.sem past ≤ length (users g r.sem) - 1 → ends_all g r.no r.task r.sem past ≤ b

@@ -66,12 +66,14 @@ CountsItsOwn =
 abbrev pub CountsOthers : Type 0
 CountsOthers = EveryMove (λ g e past. (r t s : ℕ) → sem_act e ≡ Frees t s → is_open g r t s past ≡ false)
 
--- the counts of a request are within its bound, if it has one, and within the bounds of its protocol
+-- the counts of a request are within its bound, if it has one, and within the bounds of its protocol; and the critical sections that
+-- ended while its task was priority-blocked are among all that ended
 pub record IsWithin (g : Group) (x : Tally) : Type 0 where
   pub ends_within : (b : ℕ) → x.bound ≡ Some b → x.ends ≤ b
   pub all_within : (b : ℕ) → protocol g x.sem ≡ Fmlp → x.bound ≡ Some b → x.ends_all ≤ b
   pub under_omlp : protocol g x.sem ≡ Omlp → x.ends ≤ 2 * cpus g (home g x.task) - 1
   pub under_fmlp : protocol g x.sem ≡ Fmlp → x.ends_all ≤ length (users g x.sem) - 1
+  pub blocked_among : x.ends ≤ x.ends_all
 
 -- The bounds hold of each request in the list. While its task was priority-blocked, no more critical sections ended than its bound
 -- says, which is 2m - 1 under OMLP; and under FMLP no more than n - 1 ended in all.
