@@ -1,0 +1,18 @@
+-- What the code that counts a bound rests on.
+use Rattle.std.specs.Prelude.{ℕ, ◌<◌, ◌≤◌, length, slice_index_or}
+use Rattle.rt_task.specs.declared.Parts.{Parts}
+use Rattle.rt_model.specs.Group.{no_cluster, no_task}
+
+-- a set whose bounds can be counted
+pub record CanBound (p : Parts) : Type 0 where
+  pub few_tasks : length p.tasks ≤ 1024
+  pub few_cpus : (c : ℕ) → c < length p.clusters → (slice_index_or p.clusters c no_cluster).cpus ≤ 64
+  pub homes : (i : ℕ) → i < length p.tasks → (slice_index_or p.tasks i no_task).cluster.0 < length p.clusters
+
+-- the number of a task of the set
+abbrev pub IsTaskOf : Parts → ℕ → Type 0
+IsTaskOf p t = (1 ≤ t) × (t ≤ length p.tasks)
+
+-- the number of a semaphore of the set
+abbrev pub IsSemOf : Parts → ℕ → Type 0
+IsSemOf p s = (1 ≤ s) × (s ≤ length p.sems)

@@ -1,0 +1,5 @@
+pub mod Feeding
+pub mod Laws
+pub mod Open
+pub mod Bounds
+pub mod Once
