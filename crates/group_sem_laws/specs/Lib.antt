@@ -1,0 +1,5 @@
+pub mod Kept
+pub mod Keeping
+pub mod Fitting
+pub mod Reading
+pub mod Leaving

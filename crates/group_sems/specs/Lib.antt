@@ -1,0 +1,5 @@
+pub mod GroupSems
+pub mod Telling
+pub mod BoostKeys
+pub mod Locking
+pub mod Refusing

@@ -1,0 +1,123 @@
+//! When a Lock and an Unlock are refused.
+ghost use Rattle.std.specs.Prelude.{◌≡◌, ◌≤◌, ℕ, length, map, true};
+ghost use Rattle.rt_model.specs.Ceilings as ceilings;
+ghost use Rattle.rt_model.specs.Group.{declares, protocol};
+ghost use Rattle.rt_plays.specs.Plays.{group_with};
+ghost use Rattle.group_sems.specs.Refusing as refusing;
+ghost use Rattle.group_sems.specs.Refusing.{AreSemsOf};
+
+use rt_base::{SemNo, TaskNo};
+use rt_history::Reply;
+use rt_task::{Parts, Protocol};
+use sem_table::Sems;
+
+/// Whether the semaphore is one of PCP.
+#[tactic(auto, unfolding(rt_model::specs::Group::protocol, rt_model::specs::Group::sem))]
+fn is_pcp(parts: &Parts, sem: SemNo) -> bool
+    requires { (1 ≤ sem.0) × (sem.0 ≤ length parts.now.sems) }
+    ensures { result ≡ ceilings.is_pcp (protocol (group_with parts.now 0) sem.0) }
+{
+    matches!(parts.sems.as_slice()[sem.0 as usize - 1].protocol, Protocol::Pcp)
+}
+
+/// Whether the task holds the semaphore.
+fn holds_it(sems: &Sems, task: TaskNo, sem: SemNo) -> bool
+    ensures { result ≡ refusing.holds_it sems.now task.0 sem.0 }
+{
+    match sems.holder(sem) {
+        Some(holder) => task.0 == holder.0,
+        None => false,
+    }
+}
+
+/// Whether the task declares the semaphore.
+#[tactic(auto, unfolding(rt_model::specs::Group::declares, rt_model::specs::Group::task))]
+fn declares_it(parts: &Parts, task: TaskNo, sem: SemNo) -> bool
+    requires { (1 ≤ task.0) × (task.0 ≤ length parts.now.tasks) }
+    ensures { result ≡ declares (group_with parts.now 0) task.0 sem.0 }
+{
+    let row = &parts.tasks.as_slice()[task.0 as usize - 1];
+    has_sem(row.uses.as_slice(), sem)
+}
+
+fn has_sem(sems: &[SemNo], sem: SemNo) -> bool
+    ensures { result ≡ has sem.0 (map (λ n. n.0) sems.now) }
+{
+    for s in sems {
+        if sem.0 == s.0 {
+            return true;
+        }
+    }
+    false
+}
+
+/// Whether the task holds one of these semaphores that is none of PCP.
+fn holds_other(sems: &Sems, parts: &Parts, task: TaskNo, of: &[SemNo]) -> bool
+    requires { (r : ℕ) → has r (map (λ n. n.0) of.now) ≡ true → (1 ≤ r) × (r ≤ length parts.now.sems) }
+    ensures { result ≡ refusing.holds_other parts.now sems.now task.0 (map (λ n. n.0) of.now) }
+{
+    for sem in of {
+        if !is_pcp(parts, *sem) && holds_it(sems, task, *sem) {
+            return true;
+        }
+    }
+    false
+}
+
+/// Whether a request for the semaphore would nest where it must not.
+#[tactic(auto, unfolding(rt_model::specs::Group::protocol, rt_model::specs::Group::sem, rt_model::specs::Group::task))]
+fn is_nested(sems: &Sems, parts: &Parts, task: TaskNo, sem: SemNo) -> bool
+    requires task { (1 ≤ task.0) × (task.0 ≤ length parts.now.tasks) }
+    requires sem { (1 ≤ sem.0) × (sem.0 ≤ length parts.now.sems) }
+    requires uses { AreSemsOf parts.now task.0 }
+    ensures { result ≡ refusing.is_nested_by (protocol (group_with parts.now 0) sem.0) parts.now sems.now task.0 sem.0 }
+{
+    let held = sems.held_by(task);
+    match parts.sems.as_slice()[sem.0 as usize - 1].protocol {
+        Protocol::Pcp => {
+            let uses = parts.tasks.as_slice()[task.0 as usize - 1].uses.as_slice();
+            holds_other(sems, parts, task, uses) || holds_it(sems, task, sem) || held >= 8
+        }
+        Protocol::Fmlp | Protocol::Omlp | Protocol::Mpcp => held != 0,
+    }
+}
+
+/// Why the task may not ask for the semaphore.
+pub(crate) fn lock_refusal(sems: &Sems, parts: &Parts, task: TaskNo, sem: SemNo) -> Option<Reply>
+    requires task { (1 ≤ task.0) × (task.0 ≤ length parts.now.tasks) }
+    requires sem { (1 ≤ sem.0) × (sem.0 ≤ length parts.now.sems) }
+    requires uses { AreSemsOf parts.now task.0 }
+    ensures { result ≡ refusing.lock_refusal parts.now sems.now task.0 sem.0 }
+{
+    if !declares_it(parts, task, sem) {
+        Some(Reply::NotDeclared)
+    } else if is_nested(sems, parts, task, sem) {
+        Some(Reply::Nested)
+    } else {
+        None
+    }
+}
+
+/// Whether the semaphore is the last of PCP that the task was granted among those that it holds.
+fn is_last(sems: &Sems, task: TaskNo, sem: SemNo) -> bool
+    ensures { result ≡ is sem.0 (last_of sems.now task.0) }
+{
+    match sems.last_of(task) {
+        Some(last) => sem.0 == last.0,
+        None => false,
+    }
+}
+
+/// Why the task may not free the semaphore.
+pub(crate) fn unlock_refusal(sems: &Sems, parts: &Parts, task: TaskNo, sem: SemNo) -> Option<Reply>
+    requires { (1 ≤ sem.0) × (sem.0 ≤ length parts.now.sems) }
+    ensures { result ≡ refusing.unlock_refusal parts.now sems.now task.0 sem.0 }
+{
+    if !holds_it(sems, task, sem) {
+        Some(Reply::NotHeld)
+    } else if is_pcp(parts, sem) && !is_last(sems, task, sem) {
+        Some(Reply::NotLast)
+    } else {
+        None
+    }
+}
