@@ -1,0 +1,4 @@
+pub mod UserLaws
+pub mod SmallestLaws
+pub mod NotedLaws
+pub mod Known
