@@ -1,1 +1,2 @@
 pub mod TellingLaws
+mod RefusalLaws

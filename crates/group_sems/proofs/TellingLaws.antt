@@ -1,5 +1,8 @@
 -- Telling tasks whom they wait for keeps walks of one step.
-use Rattle.std.proofs.Common.{◌≡◌, ◌≢◌, ℕ, zero, suc, Bool, true, false, ⊥, List, [], ◌∷◌, ◌||◌, length, set, eqb-true, refl, sym, ap, ◌∙◌, subst}
+use Rattle.std.proofs.Common.{◌≡◌, ◌≢◌, ℕ, zero, suc, Bool, true, false, List, [], ◌∷◌, ◌||◌, length, set, eqb-true, refl, sym, ap, ◌∙◌, subst, get_or, get_or-set_other, drop, ◌+◌, ◌<◌}
+use Rattle.std.proofs.lemmas.List.{drop_more}
+use Rattle.rt_base.specs.declared.TaskNo.{TaskNo}
+use Rattle.rt_base.specs.TaskNos.{numbers}
 use Rattle.std.specs.Prelude.{◌==◌, Option, None, Some, slice_index_or, slice_set}
 use Rattle.std.proofs.lemmas.Bool.{eqb-false}
 use Rattle.rt_order.specs.declared.Key.{Key}
@@ -7,16 +10,12 @@ use Rattle.rt_rules.specs.Numbers.{has}
 use Rattle.rt_rules.specs.Walks.{walk}
 use Rattle.rt_rules.proofs.BoolLaws.{or_true}
 use Rattle.rt_rules.proofs.MemberLaws.{equal_self}
-use Rattle.prio_inherit.specs.Waits.{NoWalkComesRound, next_of}
-use Rattle.group_sems.specs.Telling.{AreShallow, CanTell}
+use Rattle.prio_inherit.specs.Waits.{NoWalkComesRound, Waits, next_of}
+use Rattle.group_sems.specs.Telling.{AreShallow, CanTell, told}
 
 -- the next of a task once one was told: that one's is new, of others it is the old one
 pub next-set : (nexts : List (Option ℕ)) (x t : ℕ) (o : Option ℕ) → t == x ≡ false → next_of (slice_set nexts x o) t ≡ next_of nexts t
-next-set [] x t o h = refl
-next-set (n ∷ ns) zero zero o h = cc
-next-set (n ∷ ns) zero (suc t) o h = refl
-next-set (n ∷ ns) (suc x) zero o h = refl
-next-set (n ∷ ns) (suc x) (suc t) o h = next-set ns x t o h
+next-set nexts x t o h = get_or-set_other nexts x t o None (eqb-false t x h)
 
 -- it is the new one, or the place is not there
 next-told : (nexts : List (Option ℕ)) (x v : ℕ) (o : Option ℕ) → next_of (slice_set nexts x o) x ≡ Some v → o ≡ Some v
@@ -103,3 +102,46 @@ module _ (o x : ℕ) (xs : List ℕ) (bases : List (Option Key)) (nexts : List (
           let member : has o xs ≡ true = subst (λ n. has n xs ≡ true) is h in
           let out : has o xs ≡ false = rest (o == x) (has o xs) can.owner_outside in cc
       by_case y u h to false e = can.awaited_not y u (rw h (or_true (y == x))) (sym (next-set nexts x u (Some o) e) ∙ to)
+
+-- the first of them may be told
+pub can-first : (o x : ℕ) (xs : List ℕ) (bases : List (Option Key)) (nexts : List (Option ℕ)) → CanTell o (x ∷ xs) bases nexts → CanTell o (x ∷ []) bases nexts
+can-first o x xs bases nexts can = record {
+  shallow = can.shallow;
+  owner_based = can.owner_based;
+  owner_waits_not = can.owner_waits_not;
+  owner_outside = rw (apart o x xs bases nexts can) refl;
+  based = λ y h. can.based y (member y h);
+  awaited_not = λ y u h. can.awaited_not y u (member y h);
+}
+  where
+    member : (y : ℕ) → has y (x ∷ []) ≡ true → has y (x ∷ xs) ≡ true
+    member y h = by_case (y == x) h
+      where
+        by_case : (b : Bool) → b || false ≡ true → b || has y xs ≡ true
+        by_case true k = refl
+        by_case false k = cc
+
+-- all of these were told from the first keys on but those from the i-th on, which may be told next
+pub record AreToTell (o i : ℕ) (all : List TaskNo) (start w : Waits) : Type 0 where
+  pub can : CanTell o (numbers (drop i all)) w.bases w.nexts
+  pub nexts : told o (numbers (drop i all)) w.nexts ≡ told o (numbers all) start.nexts
+  pub bases : w.bases ≡ start.bases
+  pub boosts : w.boosts ≡ start.boosts
+
+module _ (o i : ℕ) (all : List TaskNo) (start w : Waits) (d : TaskNo) (h : AreToTell o i all start w) (low : i < length all) where
+  abbrev next : ℕ
+  next = (get_or all i d).0
+
+  can-here : CanTell o (next ∷ numbers (drop (i + 1) all)) w.bases w.nexts
+  can-here = rw (drop_more all i d low) at h.can
+
+  pub to-tell-can : CanTell o (next ∷ []) w.bases w.nexts
+  to-tell-can = can-first o next (numbers (drop (i + 1) all)) w.bases w.nexts can-here
+
+  pub to-tell-next : AreToTell o (i + 1) all start (record w { nexts = slice_set w.nexts next (Some o) })
+  to-tell-next = record {
+    can = told-next o next (numbers (drop (i + 1) all)) w.bases w.nexts can-here;
+    nexts = rw (drop_more all i d low) at h.nexts;
+    bases = h.bases;
+    boosts = h.boosts;
+  }

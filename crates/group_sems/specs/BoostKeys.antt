@@ -1,5 +1,5 @@
 -- The key to which the holder of a semaphore is boosted, by the set's plugin and the protocol of the semaphore.
-use Rattle.std.specs.Prelude.{ℕ, Option}
+use Rattle.std.specs.Prelude.{◌≤◌, ◌<◌, ℕ, length, Option}
 use Rattle.rt_order.specs.declared.Key.{Key}
 use Rattle.rt_task.specs.declared.Parts.{Parts}
 use Rattle.rt_task.specs.declared.PluginKind.{PluginKind}
@@ -21,3 +21,9 @@ boost_under _ row p granted ceiling = global_boost row p granted ceiling
 abbrev pub boost_now : Parts → CeilingTable → ℕ → ℕ → ℕ → Option Key
 boost_now p ceilings clock s t =
     boost_under p.plugin (task (group_with p 0) t) (protocol (group_with p 0) s) clock (ceiling_in p ceilings s t)
+
+-- the semaphore is one of the set, and has its ceiling
+pub record IsSemOf (p : Parts) (ceilings : CeilingTable) (s : ℕ) : Type 0 where
+  pub low : 1 ≤ s
+  pub high : s ≤ length p.sems
+  pub row : s < length ceilings.rows

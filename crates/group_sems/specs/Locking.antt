@@ -9,7 +9,7 @@ use Rattle.sem_table.specs.Released.{after_release}
 use Rattle.sem_table.specs.SemTable.{SemTable}
 use Rattle.sem_table.specs.Told.{awaits_of, owner_of, waiters_of}
 use Rattle.mpcp_ceilings.specs.Ceilings.{CeilingTable}
-use Rattle.group_sems.specs.BoostKeys.{boost_now}
+use Rattle.group_sems.specs.BoostKeys.{IsSemOf, boost_now}
 use Rattle.group_sems.specs.GroupSems.{GroupSems}
 use Rattle.group_sems.specs.Telling.{CanTell, HasBase, retold}
 
@@ -46,27 +46,33 @@ after_unlock p clock t s v = record v {
 }
 
 -- the waiters of a semaphore may be told of its owner, and fit into a list
-pub record CanRetell (table : SemTable) (s : ℕ) (w : Waits) : Type 0 where
-  pub few : length (waiters_of table s) ≤ length w.bases
-  pub tell : (o : ℕ) → owner_of table s ≡ Some o → CanTell o (waiters_of table s) w.bases w.nexts
+pub record CanRetell (table : SemTable) (s : ℕ) (bases : List (Option Key)) (nexts : List (Option ℕ)) : Type 0 where
+  pub few : length (waiters_of table s) ≤ length bases
+  pub tell : (o : ℕ) → owner_of table s ≡ Some o → CanTell o (waiters_of table s) bases nexts
+
+-- a base key was told of a task of the set
+pub record CanServe (p : Parts) (u : ℕ) (bases : List (Option Key)) : Type 0 where
+  pub based : HasBase bases u
+  pub low : 1 ≤ u
+  pub high : u ≤ length p.tasks
 
 pub record CanLock (p : Parts) (t : ℕ) (key : Key) (s : ℕ) (v : GroupSems) : Type 0 where
   pub task : t < length v.table.rows
   pub sem : s < length v.table.sems
   pub idle : awaits_of v.table t ≡ None
   pub may : MayAsk t key s v.table
-  pub task_there : (1 ≤ t) × (t ≤ length p.tasks)
-  pub sem_there : (1 ≤ s) × (s ≤ length p.sems)
-  pub based : HasBase v.waits.bases t
+  pub sem_there : IsSemOf p v.ceilings s
+  pub based : CanServe p t v.waits.bases
   pub queue : is_granted t key s v.table ≡ false → (o : ℕ) → owner_of (after_ask t key s v.table) s ≡ Some o
       → CanTell o (t ∷ []) v.waits.bases v.waits.nexts
-  pub tell : is_granted t key s v.table ≡ true → CanRetell (after_ask t key s v.table) s v.waits
+  pub tell : is_granted t key s v.table ≡ true → CanRetell (after_ask t key s v.table) s v.waits.bases v.waits.nexts
 
 pub record CanUnlock (p : Parts) (clock t s : ℕ) (v : GroupSems) : Type 0 where
   pub task : t < length v.table.rows
   pub sem : s < length v.table.sems
   pub may : MayRelease t s v.table
-  pub sem_there : (1 ≤ s) × (s ≤ length p.sems)
+  pub sem_there : IsSemOf p v.ceilings s
   pub based : HasBase v.waits.bases t
-  pub served : (u : ℕ) → (after_release t s v.table).served ≡ Some u → HasBase v.waits.bases u × (1 ≤ u) × (u ≤ length p.tasks)
-  pub tell : CanRetell (after_release t s v.table) s (freed_waits p clock t s v)
+  pub served : (u : ℕ) → (after_release t s v.table).served ≡ Some u → CanServe p u v.waits.bases
+  pub tell : CanRetell (after_release t s v.table) s (freed_waits p clock t s v).bases
+      (freed_waits p clock t s v).nexts

@@ -18,9 +18,12 @@ use Rattle.sem_table.specs.Told.{held_of, last_of, state_of}
 abbrev pub holds_it : SemTable → ℕ → ℕ → Bool
 holds_it table t s = is t (state_of table s).holder
 
--- whether the task holds, of these, a semaphore that is none of PCP
+-- whether the task holds a semaphore that is none of PCP, and whether it holds one of these
+abbrev pub holds_other_one : Parts → SemTable → ℕ → ℕ → Bool
+holds_other_one p table t s = not (is_pcp (protocol (group_with p 0) s)) && holds_it table t s
+
 abbrev pub holds_other : Parts → SemTable → ℕ → List ℕ → Bool
-holds_other p table t ss = list_any (λ r. not (is_pcp (protocol (group_with p 0) r)) && holds_it table t r) ss
+holds_other p table t ss = list_any (holds_other_one p table t) ss
 
 abbrev pub uses_of : Parts → ℕ → List ℕ
 uses_of p t = map (λ (n : SemNo). n.0) (task (group_with p 0) t).uses
@@ -40,6 +43,9 @@ unlock_refusal p table t s =
     if not (holds_it table t s) then Some replies.NotHeld else
     (if is_pcp (protocol (group_with p 0) s) && not (is s (last_of table t)) then Some replies.NotLast else None)
 
--- the semaphores that the task declares are some
+-- these are semaphores of the set, and so are those that the task declares
+abbrev pub AreSems : Parts → List ℕ → Type 0
+AreSems p ss = (r : ℕ) → has r ss ≡ true → (1 ≤ r) × (r ≤ length p.sems)
+
 abbrev pub AreSemsOf : Parts → ℕ → Type 0
-AreSemsOf p t = (r : ℕ) → has r (uses_of p t) ≡ true → (1 ≤ r) × (r ≤ length p.sems)
+AreSemsOf p t = AreSems p (uses_of p t)

@@ -1,6 +1,7 @@
 //! The boosts of holders by the set's plugin.
 ghost use Rattle.std.specs.Prelude.{◌≡◌, ◌≤◌, length};
 ghost use Rattle.group_sems.specs.BoostKeys as boosting;
+ghost use Rattle.group_sems.specs.BoostKeys.{IsSemOf};
 
 use global_edf::{CEdf, GsnEdf};
 use mpcp_ceilings::MpcpCeilings;
@@ -39,7 +40,7 @@ pub(crate) fn boost_now(
     task: TaskNo,
 ) -> Option<Key>
     requires task { (1 ≤ task.0) × (task.0 ≤ length parts.now.tasks) }
-    requires sem { (1 ≤ sem.0) × (sem.0 ≤ length parts.now.sems) }
+    requires sem { IsSemOf parts.now ceilings.now sem.0 }
     ensures { result ≡ boosting.boost_now parts.now ceilings.now clock.0 sem.0 task.0 }
 {
     let row = &parts.tasks.as_slice()[task.0 as usize - 1];

@@ -10,7 +10,8 @@ ghost use Rattle.sem_table.specs.Opened.{IsOpened};
 ghost use Rattle.sem_table.specs.Told.{awaits_of, held_of, owner_of, state_of, waiters_of};
 ghost use Rattle.mpcp_ceilings.specs.Ceilings.{AreCeilings};
 ghost use Rattle.rt_plays.specs.Plays.{group_with};
-ghost use Rattle.group_sems.specs.Locking.{after_lock, after_unlock, served_waits, with_boost, with_next, CanLock, CanRetell, CanUnlock};
+ghost use Rattle.group_sems.specs.Locking.{after_lock, after_unlock, served_waits, with_boost, with_next, CanLock, CanRetell, CanServe, CanUnlock};
+ghost use Rattle.group_sems.specs.BoostKeys.{IsSemOf};
 ghost use Rattle.group_sems.specs.BoostKeys as boosting;
 ghost use Rattle.group_sems.specs.Refusing as refusing;
 ghost use Rattle.group_sems.specs.Refusing.{AreSemsOf};
@@ -46,7 +47,7 @@ pub struct GroupSems {
 }
 
 impl Model for GroupSems {
-    ghost use Rattle.std.specs.Prelude.{[], ◌≤◌, length, vec_capacity};
+    ghost use Rattle.std.specs.Prelude.{◌≡◌, ◌≤◌, [], length, vec_capacity};
     ghost use Rattle.group_sems.specs.GroupSems as seen;
 
     ghost Value = { seen.GroupSems };
@@ -198,18 +199,15 @@ impl GroupSems {
         self.sems.release(task, sem);
         self.keys.drop_boost(task);
         let served = self.sems.granted(0);
-        if let Some(next) = served {
-            self.serve(parts, clock, next, sem);
-        }
+        self.serve(parts, clock, served, sem);
         self.tell_waiters(before, sem);
         served
     }
 
     /// The task, which is granted the semaphore at this clock, is boosted as the plugin and the protocol say.
     fn boost(&mut self, parts: &Parts, clock: Tick, task: TaskNo, sem: SemNo)
-        requires task { (1 ≤ task.0) × (task.0 ≤ length parts.now.tasks) }
-        requires sem { (1 ≤ sem.0) × (sem.0 ≤ length parts.now.sems) }
-        requires based { HasBase self.old.waits.bases task.0 }
+        requires task { CanServe parts.now task.0 self.old.waits.bases }
+        requires sem { IsSemOf parts.now self.old.ceilings sem.0 }
         ensures { self.new ≡ record self.old {
           waits = let key = boosting.boost_now parts.now self.old.ceilings clock.0 sem.0 task.0 in
               with_boost task.0 key self.old.waits;
@@ -221,18 +219,20 @@ impl GroupSems {
         }
     }
 
-    /// The task waits no longer, and is boosted as one that is granted the semaphore at this clock.
-    fn serve(&mut self, parts: &Parts, clock: Tick, task: TaskNo, sem: SemNo)
-        requires task { (1 ≤ task.0) × (task.0 ≤ length parts.now.tasks) }
-        requires sem { (1 ≤ sem.0) × (sem.0 ≤ length parts.now.sems) }
-        requires based { HasBase self.old.waits.bases task.0 }
+    /// The task, if any, waits no longer, and is boosted as one that is granted the semaphore at this clock.
+    fn serve(&mut self, parts: &Parts, clock: Tick, served: Option<TaskNo>, sem: SemNo)
+        requires task { (u : ℕ) → number_of_task served ≡ Some u →
+            CanServe parts.now u self.old.waits.bases }
+        requires sem { IsSemOf parts.now self.old.ceilings sem.0 }
         ensures { self.new ≡ record self.old {
-          waits = served_waits parts.now self.old.ceilings clock.0 sem.0 (Some task.0)
+          waits = served_waits parts.now self.old.ceilings clock.0 sem.0 (number_of_task served)
               self.old.waits;
         } }
     {
-        self.keys.stops(task);
-        self.boost(parts, clock, task, sem);
+        if let Some(task) = served {
+            self.keys.stops(task);
+            self.boost(parts, clock, task, sem);
+        }
     }
 
     /// The task waits for the owner of the semaphore.
@@ -252,7 +252,7 @@ impl GroupSems {
 
     /// Where the owner of the semaphore is another than before, its waiters wait for the new one.
     fn tell_waiters(&mut self, before: Option<TaskNo>, sem: SemNo)
-        requires { CanRetell self.old.table sem.0 self.old.waits }
+        requires { CanRetell self.old.table sem.0 self.old.waits.bases self.old.waits.nexts }
         ensures { self.new ≡ record self.old {
           waits = retold (number_of_task before) self.old.table sem.0 self.old.waits;
         } }
@@ -277,7 +277,7 @@ impl GroupSems {
           };
         } }
     {
-        let _ = sem; // STUB
+        let _ = sem;
         keys::tell_all(&mut self.keys, self.waiters.as_slice(), owner);
         self.waiters.clear();
     }

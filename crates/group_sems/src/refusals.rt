@@ -1,10 +1,12 @@
 //! When a Lock and an Unlock are refused.
 ghost use Rattle.std.specs.Prelude.{◌≡◌, ◌≤◌, ℕ, length, map, true};
+ghost use Rattle.rt_rules.specs.Numbers.{has, is};
+ghost use Rattle.sem_table.specs.Told.{last_of};
 ghost use Rattle.rt_model.specs.Ceilings as ceilings;
 ghost use Rattle.rt_model.specs.Group.{declares, protocol};
 ghost use Rattle.rt_plays.specs.Plays.{group_with};
 ghost use Rattle.group_sems.specs.Refusing as refusing;
-ghost use Rattle.group_sems.specs.Refusing.{AreSemsOf};
+ghost use Rattle.group_sems.specs.Refusing.{AreSems, AreSemsOf};
 
 use rt_base::{SemNo, TaskNo};
 use rt_history::Reply;
@@ -51,21 +53,48 @@ fn has_sem(sems: &[SemNo], sem: SemNo) -> bool
     false
 }
 
+/// Whether the task holds the semaphore and that is none of PCP.
+fn holds_other_one(sems: &Sems, parts: &Parts, task: TaskNo, sem: SemNo) -> bool
+    requires { (1 ≤ sem.0) × (sem.0 ≤ length parts.now.sems) }
+    ensures { result ≡ refusing.holds_other_one parts.now sems.now task.0 sem.0 }
+{
+    !is_pcp(parts, sem) && holds_it(sems, task, sem)
+}
+
 /// Whether the task holds one of these semaphores that is none of PCP.
 fn holds_other(sems: &Sems, parts: &Parts, task: TaskNo, of: &[SemNo]) -> bool
-    requires { (r : ℕ) → has r (map (λ n. n.0) of.now) ≡ true → (1 ≤ r) × (r ≤ length parts.now.sems) }
+    requires { AreSems parts.now (map (λ n. n.0) of.now) }
     ensures { result ≡ refusing.holds_other parts.now sems.now task.0 (map (λ n. n.0) of.now) }
 {
     for sem in of {
-        if !is_pcp(parts, *sem) && holds_it(sems, task, *sem) {
+        if holds_other_one(sems, parts, task, *sem) {
             return true;
         }
     }
     false
 }
 
+/// The semaphores that the task declares.
+#[tactic(auto, unfolding(rt_model::specs::Group::task))]
+fn uses_of(parts: &Parts, task: TaskNo) -> &[SemNo]
+    requires { (1 ≤ task.0) × (task.0 ≤ length parts.now.tasks) }
+    ensures { map (λ n. n.0) result.now ≡ refusing.uses_of parts.now task.0 }
+{
+    parts.tasks.as_slice()[task.0 as usize - 1].uses.as_slice()
+}
+
+/// Whether the task holds one of the semaphores that it declares and that is none of PCP.
+fn holds_any_other(sems: &Sems, parts: &Parts, task: TaskNo) -> bool
+    requires task { (1 ≤ task.0) × (task.0 ≤ length parts.now.tasks) }
+    requires uses { AreSemsOf parts.now task.0 }
+    ensures { let uses = refusing.uses_of parts.now task.0 in
+        result ≡ refusing.holds_other parts.now sems.now task.0 uses }
+{
+    holds_other(sems, parts, task, uses_of(parts, task))
+}
+
 /// Whether a request for the semaphore would nest where it must not.
-#[tactic(auto, unfolding(rt_model::specs::Group::protocol, rt_model::specs::Group::sem, rt_model::specs::Group::task))]
+#[tactic(auto, unfolding(rt_model::specs::Group::protocol, rt_model::specs::Group::sem))]
 fn is_nested(sems: &Sems, parts: &Parts, task: TaskNo, sem: SemNo) -> bool
     requires task { (1 ≤ task.0) × (task.0 ≤ length parts.now.tasks) }
     requires sem { (1 ≤ sem.0) × (sem.0 ≤ length parts.now.sems) }
@@ -75,8 +104,7 @@ fn is_nested(sems: &Sems, parts: &Parts, task: TaskNo, sem: SemNo) -> bool
     let held = sems.held_by(task);
     match parts.sems.as_slice()[sem.0 as usize - 1].protocol {
         Protocol::Pcp => {
-            let uses = parts.tasks.as_slice()[task.0 as usize - 1].uses.as_slice();
-            holds_other(sems, parts, task, uses) || holds_it(sems, task, sem) || held >= 8
+            holds_any_other(sems, parts, task) || holds_it(sems, task, sem) || held >= 8
         }
         Protocol::Fmlp | Protocol::Omlp | Protocol::Mpcp => held != 0,
     }
