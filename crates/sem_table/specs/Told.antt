@@ -32,6 +32,16 @@ owner_by sets (any.Pcp c) = first (tasks_of (set_at sets c.0).state.held)
 abbrev pub owner_of : SemTable → ℕ → Option ℕ
 owner_of w s = owner_by w.sets (sem_at w.sems s)
 
+-- the tasks that wait for the owner of a semaphore: those that wait for it, under PCP for any semaphore of its cluster
+abbrev pub waiters_by : List PcpKept → ℕ → AnySem → List ℕ
+waiters_by sets s (any.Fmlp l) = (state_by sets s (any.Fmlp l)).waiting
+waiters_by sets s (any.Omlp k) = (state_by sets s (any.Omlp k)).waiting
+waiters_by sets s (any.Mpcp k) = (state_by sets s (any.Mpcp k)).waiting
+waiters_by sets s (any.Pcp c) = tasks_of (set_at sets c.0).state.waiting
+
+abbrev pub waiters_of : SemTable → ℕ → List ℕ
+waiters_of w s = waiters_by w.sets s (sem_at w.sems s)
+
 -- the semaphore that a task waits for, and how many it holds
 abbrev pub awaits_of : SemTable → ℕ → Option SemNo
 awaits_of w t = (row_at w.rows t).awaits
