@@ -2,8 +2,8 @@
 //! wait first in, first out.
 #![tactic(auto)]
 
-ghost use Rattle.std.specs.Prelude.{◌≡◌, ◌<◌, ◌≢◌, ◌↔◌, [], false, length, IfOk, Some, None};
-ghost use Rattle.rt_base.specs.TaskNos.{number_of_task};
+ghost use Rattle.std.specs.Prelude.{◌≡◌, ◌<◌, ◌≢◌, ◌↔◌, ◌+◌, ◌≤◌, ◌++◌, [], false, length, IfOk, Some, None, vec_len, vec_capacity};
+ghost use Rattle.rt_base.specs.TaskNos.{number_of_task, numbers};
 ghost use Rattle.rt_rules.specs.Numbers.{has, first};
 ghost use Rattle.rt_rules.specs.SemState.{in_line, Asks, Frees};
 ghost use Rattle.rt_rules.specs.Fmlp.{fmlp_after};
@@ -11,6 +11,7 @@ ghost use Rattle.fmlp_sem.specs.FmlpLine.{FmlpLine};
 
 use rt_base::{Ask, NoMemory, TaskNo};
 use rt_order::Key;
+use sem_laws::list_behind_first;
 use std::alloc::Global;
 use std::collections::VecDeque;
 use std::marker::Model;
@@ -98,5 +99,19 @@ impl FmlpSem {
         ensures { result ≡ length (in_line self.now.line).waiting }
     {
         self.line.len().saturating_sub(1) as u32
+    }
+
+    /// Adds the tasks that wait, in the order of asking, behind what `into` holds, which has room for them. It takes
+    /// no memory.
+    ///
+    /// Example: where task 1 holds and tasks 4 and 2 wait in this order, `sem.list_waiting(&mut into)` adds 4, 2.
+    pub fn list_waiting(&self, into: &mut Vec<TaskNo>)
+        requires room { vec_len into.old + length (in_line self.now.line).waiting ≤
+            vec_capacity into.old }
+        ensures tasks { numbers into.new.items ≡
+            numbers into.old.items ++ (in_line self.now.line).waiting }
+        ensures capacity { vec_capacity into.new ≡ vec_capacity into.old }
+    {
+        list_behind_first(&self.line, into);
     }
 }

@@ -29,10 +29,10 @@ module _ (p : Parts) (table : SemTable) (t i : ℕ) (all : List SemNo) (d : SemN
   rest-known = known-here next (rw (equal_self next) refl)
 
   pub rest-next : holds_other_one p table t next ≡ false → IsRest p table t (i + 1) all
-  rest-next no = record {
-    same = rw (drop_more all i d low, no) at h.same;
+  rest-next out = record {
+    same = rw (drop_more all i d low, out) at h.same;
     known = λ r m. known-here r (rw m (or_true (r == next)));
   }
 
   pub rest-found : holds_other_one p table t next ≡ true → true ≡ holds_other p table t (numbers_of all)
-  rest-found yes = rw (drop_more all i d low, yes) at h.same
+  rest-found found = rw (drop_more all i d low, found) at h.same

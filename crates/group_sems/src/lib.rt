@@ -277,7 +277,7 @@ impl GroupSems {
           };
         } }
     {
-        let _ = sem;
+        self.sems.list_waiters(sem, &mut self.waiters);
         keys::tell_all(&mut self.keys, self.waiters.as_slice(), owner);
         self.waiters.clear();
     }

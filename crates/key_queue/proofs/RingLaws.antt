@@ -1,13 +1,13 @@
 -- What joining and leaving do to a ring.
-use Rattle.std.proofs.Common.{◌≡◌, ℕ, ◌+◌, ◌<◌, true, false, ◌⊎◌, inl, inr, eqb-true, List, [], ◌∷◌, ◌++◌, length, set, sym, ap, ◌∙◌, arith, length-set, get_or-set_same, get_or-set_other, replicate}
+use Rattle.std.proofs.Common.{◌≡◌, ℕ, zero, suc, ◌+◌, ◌<◌, true, false, ◌||◌, refl, ◌⊎◌, inl, inr, eqb-true, List, [], ◌∷◌, ◌++◌, length, set, sym, ap, ◌∙◌, arith, length-set, get_or-set_same, get_or-set_other, replicate}
 use Rattle.std.proofs.lemmas.List.{get_or-replicate, length-replicate}
 use Rattle.std.specs.Prelude.{◌==◌, slice_index}
 use Rattle.std.proofs.lemmas.Bool.Decides.{nat_tests}
 use Rattle.rt_rules.specs.Numbers.{has, without}
-use Rattle.rt_rules.proofs.PlacingLaws.{either, unless}
-use Rattle.rt_rules.proofs.MemberLaws.{has-push, has-without}
+use Rattle.rt_rules.proofs.PlacingLaws.{either, unless, or_true}
+use Rattle.rt_rules.proofs.MemberLaws.{equal_self, has-push, has-without}
 use Rattle.rt_rules.proofs.DistinctLaws.{distinct-append, distinct-without, length-few}
-use Rattle.key_queue.specs.Ring.{IsRing, ring_tasks}
+use Rattle.key_queue.specs.Ring.{IsLinked, IsRing, ring_from, ring_tasks}
 use Rattle.key_queue.proofs.Links.{has-last_of, previous-room, ring_from-linked, linked-push, linked-without, has-previous, has-next}
 
 -- a number that is another is no equal one
@@ -106,3 +106,39 @@ module _ (next previous : List ℕ) (room : ℕ) (ts : List ℕ) (ring : IsRing 
     next_length = length-set _ _ _ ∙ ring.next_length;
     previous_length = length-set _ _ _ ∙ ring.previous_length;
   }
+
+  -- where the first and each following step of a walk lead
+  pub first_in : has (slice_index next room) (room ∷ ts) ≡ true
+  first_in = by_case ts ring.linked
+    where
+      by_case : (xs : List ℕ) → IsLinked (slice_index next) (slice_index previous) room room xs → has (slice_index next room) (room ∷ xs) ≡ true
+      by_case [] l = rw (l.0, equal_self room)
+      by_case (x ∷ xs) l = rw (l.0, equal_self x) (or_true (x == room))
+
+  pub next_in : (t : ℕ) → has t (room ∷ ts) ≡ true → t == room ≡ false → has (slice_index next t) (room ∷ ts) ≡ true
+  next_in t h apart = join (has-next (slice_index next) (slice_index previous) (slice_index next) (slice_index previous) room t room ts ring.linked (ap (λ b. b || has t ts) (sym apart) ∙ h))
+    where
+      join : (slice_index next t ≡ room) ⊎ (has (slice_index next t) ts ≡ true) → has (slice_index next t) (room ∷ ts) ≡ true
+      join (inl e) = rw (e, equal_self room)
+      join (inr m) = ap (λ b. slice_index next t == room || b) m ∙ or_true (slice_index next t == room)
+
+  pub place_within : (t : ℕ) → has t (room ∷ ts) ≡ true → t < length next
+  place_within t h = omega (arith, within t h, ring.next_length)
+
+-- ---- a walk that adds what it finds
+
+pub ring_tasks-from : (next : List ℕ) (room n : ℕ) → n ≡ room → ring_from next room n (slice_index next room) ≡ ring_tasks next room
+unfolding ring_tasks
+ring_tasks-from next room n e = ap (λ i. ring_from next room i (slice_index next room)) e
+
+pub ring_from-end : (next : List ℕ) (room n place : ℕ) → place ≡ room → ring_from next room n place ≡ []
+ring_from-end next room zero place e = refl
+ring_from-end next room (suc n) place e = rw (e, equal_self room)
+
+pub ring_from-none : (next : List ℕ) (room n place : ℕ) → n ≡ 0 → ring_from next room n place ≡ []
+ring_from-none next room zero place e = refl
+ring_from-none next room (suc n) place e = absurd (omega arith)
+
+pub ring_from-step : (next : List ℕ) (room n m place : ℕ) → n ≡ m + 1 → place == room ≡ false → ring_from next room n place ≡ place ∷ ring_from next room m (slice_index next place)
+ring_from-step next room zero m place e apart = absurd (omega arith)
+ring_from-step next room (suc n) m place e apart = let s : n ≡ m = omega arith in rw (apart, s)

@@ -1,7 +1,8 @@
 //! A list of tasks from which any can leave in constant time.
-ghost use Rattle.std.specs.Prelude.{◌≡◌, ◌<◌, [], ◌∷◌, ◌++◌, ◌+◌, true, false, IfOk, replicate};
+ghost use Rattle.std.specs.Prelude.{◌≡◌, ◌<◌, ◌≤◌, [], ◌∷◌, ◌++◌, ◌+◌, true, false, List, ℕ, IfOk, length, replicate, vec_len, vec_capacity};
+ghost use Rattle.rt_base.specs.TaskNos.{numbers};
 ghost use Rattle.rt_rules.specs.Numbers.{has, without};
-ghost use Rattle.key_queue.specs.Ring.{Line};
+ghost use Rattle.key_queue.specs.Ring.{IsRing, Line, ring_tasks};
 
 use rt_base::{NoMemory, TaskNo};
 use std::alloc::Global;
@@ -32,6 +33,25 @@ fn empty_ring(alloc: Global, room: u32) -> Result<Vec<u32>, NoMemory>
     ensures { IfOk result (λ v. v.items ≡ replicate (room + 1) room) }
 {
     vec![in alloc; room; room as usize + 1].map_err(|_| NoMemory)
+}
+
+// Adds the numbers of a ring behind what `into` holds, which has room for them.
+fn add_ring(next: &[u32], room: u32, into: &mut Vec<TaskNo>)
+    requires ring { (previous : List ℕ) ×
+        IsRing next.now previous room (ring_tasks next.now room) }
+    requires room { vec_len into.old + length (ring_tasks next.now room) ≤ vec_capacity into.old }
+    ensures tasks { numbers into.new.items ≡
+        numbers into.old.items ++ ring_tasks next.now room }
+    ensures capacity { vec_capacity into.new ≡ vec_capacity into.old }
+{
+    let mut place = next[room as usize];
+    for _step in 0..room {
+        if place == room {
+            return;
+        }
+        into.push_reserved(TaskNo(place));
+        place = next[place as usize];
+    }
 }
 
 impl TaskLine {
@@ -77,5 +97,16 @@ impl TaskLine {
         let previous = self.previous[place];
         self.next[previous as usize] = next;
         self.previous[next as usize] = previous;
+    }
+
+    /// Adds the tasks in the order of coming behind what `into` holds, which has room for them. It takes no memory.
+    ///
+    /// Example: where `into` is empty and the line is 4, 2, `into` is 4, 2 afterwards.
+    pub fn list(&self, into: &mut Vec<TaskNo>)
+        requires room { vec_len into.old + length self.now.tasks ≤ vec_capacity into.old }
+        ensures tasks { numbers into.new.items ≡ numbers into.old.items ++ self.now.tasks }
+        ensures capacity { vec_capacity into.new ≡ vec_capacity into.old }
+    {
+        add_ring(self.next.as_slice(), self.room, into);
     }
 }

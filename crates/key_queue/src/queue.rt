@@ -1,8 +1,8 @@
 //! A queue of tasks by their keys.
-ghost use Rattle.std.specs.Prelude.{◌≡◌, ◌+◌, ◌<◌, ◌≤◌, ◌↔◌, [], ◌∷◌, ◌++◌, true, false, ℕ, length, ◌==◌, IfOk, IsNone, slice_set};
+ghost use Rattle.std.specs.Prelude.{◌≡◌, ◌+◌, ◌<◌, ◌≤◌, ◌↔◌, [], ◌∷◌, ◌++◌, true, false, ℕ, length, ◌==◌, IfOk, IsNone, slice_set, vec_len, vec_capacity};
 ghost use Rattle.std.specs.BinaryHeap.{heap_items, heap_len, heap_capacity, IsHeap};
 ghost use Rattle.std.specs.List.Sorted.{IsPermutation};
-ghost use Rattle.rt_base.specs.TaskNos.{number_of_task};
+ghost use Rattle.rt_base.specs.TaskNos.{number_of_task, numbers};
 ghost use Rattle.rt_order.specs.KeyOrder.{equal_keys};
 ghost use Rattle.rt_rules.specs.Numbers.{has, foremost};
 ghost use Rattle.key_queue.specs.Queue.{later};
@@ -144,5 +144,17 @@ impl KeyQueue {
         ensures { result ≡ (length self.now.waiting == 0) }
     {
         self.heap.is_empty()
+    }
+
+    /// Adds the tasks that wait, in the order of asking, behind what `into` holds, which has room for them. It takes
+    /// no memory.
+    ///
+    /// Example: where `into` is empty, and task 4 and then task 2 began to wait, `into` is 4, 2 afterwards.
+    pub fn list(&self, into: &mut Vec<TaskNo>)
+        requires room { vec_len into.old + length self.now.waiting ≤ vec_capacity into.old }
+        ensures tasks { numbers into.new.items ≡ numbers into.old.items ++ self.now.waiting }
+        ensures capacity { vec_capacity into.new ≡ vec_capacity into.old }
+    {
+        self.line.list(into);
     }
 }

@@ -2,8 +2,8 @@
 //! the highest base key is next.
 #![tactic(auto)]
 
-ghost use Rattle.std.specs.Prelude.{◌≡◌, ◌<◌, ◌≢◌, ◌↔◌, [], ℕ, true, false, length, IfOk, Some, None, slice_set};
-ghost use Rattle.rt_base.specs.TaskNos.{number_of_task};
+ghost use Rattle.std.specs.Prelude.{◌≡◌, ◌<◌, ◌≢◌, ◌↔◌, ◌+◌, ◌≤◌, ◌++◌, [], ℕ, true, false, length, IfOk, Some, None, slice_set, vec_len, vec_capacity};
+ghost use Rattle.rt_base.specs.TaskNos.{number_of_task, numbers};
 ghost use Rattle.rt_order.specs.KeyOrder.{equal_keys};
 ghost use Rattle.rt_rules.specs.Numbers.{has};
 ghost use Rattle.rt_rules.specs.SemState.{Asks, Frees};
@@ -117,5 +117,18 @@ impl MpcpSem {
         ensures { result ≡ length self.now.state.waiting }
     {
         self.queue.len()
+    }
+
+    /// Adds the tasks that wait, in the order of asking, behind what `into` holds, which has room for them. It takes
+    /// no memory.
+    ///
+    /// Example: where task 1 holds and tasks 4 and 2 wait in this order, `sem.list_waiting(&mut into)` adds 4, 2.
+    pub fn list_waiting(&self, into: &mut Vec<TaskNo>)
+        requires room { vec_len into.old + length self.now.state.waiting ≤ vec_capacity into.old }
+        ensures tasks { numbers into.new.items ≡
+            numbers into.old.items ++ self.now.state.waiting }
+        ensures capacity { vec_capacity into.new ≡ vec_capacity into.old }
+    {
+        self.queue.list(into);
     }
 }

@@ -2,8 +2,8 @@
 //! a priority queue.
 #![tactic(auto)]
 
-ghost use Rattle.std.specs.Prelude.{◌≡◌, ◌<◌, ◌≤◌, ◌≢◌, ◌↔◌, [], ℕ, true, false, length, IfOk, Some, None, slice_set};
-ghost use Rattle.rt_base.specs.TaskNos.{number_of_task};
+ghost use Rattle.std.specs.Prelude.{◌≡◌, ◌<◌, ◌≤◌, ◌≢◌, ◌↔◌, ◌+◌, ◌++◌, [], ℕ, true, false, length, IfOk, Some, None, slice_set, vec_len, vec_capacity};
+ghost use Rattle.rt_base.specs.TaskNos.{number_of_task, numbers};
 ghost use Rattle.rt_order.specs.KeyOrder.{equal_keys};
 ghost use Rattle.rt_rules.specs.Numbers.{has};
 ghost use Rattle.rt_rules.specs.SemState.{Asks, Frees};
@@ -14,6 +14,7 @@ ghost use Rattle.omlp_sem.specs.OmlpKept.{OmlpKept};
 use key_queue::KeyQueue;
 use rt_base::{Ask, NoMemory, TaskNo};
 use rt_order::Key;
+use sem_laws::list_behind_first;
 use std::alloc::Global;
 use std::collections::VecDeque;
 use std::marker::Model;
@@ -131,5 +132,20 @@ impl OmlpSem {
         ensures { result ≡ length (omlp_sem_state self.now.state).waiting }
     {
         self.fifo.len().saturating_sub(1) as u32 + self.queue.len()
+    }
+
+    /// Adds the tasks that wait behind what `into` holds, which has room for them: first those of the FIFO list, then
+    /// those of the priority queue, each in the order of joining it. It takes no memory.
+    ///
+    /// Example: with a cap of 2, where tasks 1, 4 and 2 asked in this order, `sem.list_waiting(&mut into)` adds 4, 2.
+    pub fn list_waiting(&self, into: &mut Vec<TaskNo>)
+        requires room { vec_len into.old + length (omlp_sem_state self.now.state).waiting ≤
+            vec_capacity into.old }
+        ensures tasks { numbers into.new.items ≡
+            numbers into.old.items ++ (omlp_sem_state self.now.state).waiting }
+        ensures capacity { vec_capacity into.new ≡ vec_capacity into.old }
+    {
+        list_behind_first(&self.fifo, into);
+        self.queue.list(into);
     }
 }

@@ -4,3 +4,4 @@ pub mod KeptOrder
 pub mod Blockers
 pub mod Acts
 pub mod PlainLists
+pub mod Listing

@@ -2,8 +2,8 @@
 //! task is granted a semaphore where its base key is above the ceilings of all that other tasks hold.
 #![tactic(auto)]
 
-ghost use Rattle.std.specs.Prelude.{◌≡◌, ◌≢◌, ◌<◌, ◌≤◌, ◌↔◌, ◌++◌, ◌==◌, [], ℕ, true, false, length, reverse, replicate, filter, IfOk, IsNone, Some, None, slice_set, slice_get};
-ghost use Rattle.rt_base.specs.TaskNos.{number_of_task};
+ghost use Rattle.std.specs.Prelude.{◌≡◌, ◌≢◌, ◌<◌, ◌≤◌, ◌↔◌, ◌+◌, ◌++◌, ◌==◌, [], ℕ, true, false, length, reverse, replicate, filter, IfOk, IsNone, Some, None, slice_set, slice_get, vec_len, vec_capacity};
+ghost use Rattle.rt_base.specs.TaskNos.{number_of_task, numbers};
 ghost use Rattle.rt_order.specs.KeyOrder.{higher, equal_keys, lowest_key};
 ghost use Rattle.rt_rules.specs.Numbers.{first, has};
 ghost use Rattle.rt_rules.specs.SemState.{Asks, Frees};
@@ -224,6 +224,35 @@ impl PcpSet {
         ensures { result ≡ last_granted self.now.state.held task.0 }
     {
         pairs::last_in(self.held.as_slice(), task)
+    }
+
+    /// Adds the tasks that wait for the semaphore, in the order of asking, behind what `into` holds, which has room
+    /// for them. It takes no memory, and adds none for a number that is no semaphore of the set.
+    ///
+    /// Example: where task 4 waits for semaphore 0 and task 2 for semaphore 1, `set.list_waiting(0, &mut into)` adds 4.
+    pub fn list_waiting(&self, sem: u32, into: &mut Vec<TaskNo>)
+        requires room { vec_len into.old + length (pcp_sem_state sem self.now.state).waiting ≤
+            vec_capacity into.old }
+        ensures tasks { numbers into.new.items ≡
+            numbers into.old.items ++ (pcp_sem_state sem self.now.state).waiting }
+        ensures capacity { vec_capacity into.new ≡ vec_capacity into.old }
+    {
+        pairs::list_of_sem(self.waiting.as_slice(), sem, into);
+    }
+
+    /// Adds the tasks that wait for any semaphore of the set, in the order of asking, behind what `into` holds, which
+    /// has room for them. It takes no memory.
+    ///
+    /// Example: where task 4 waits for semaphore 0 and task 2 for semaphore 1, `set.list_all_waiting(&mut into)` adds
+    /// both.
+    pub fn list_all_waiting(&self, into: &mut Vec<TaskNo>)
+        requires room { vec_len into.old + length (tasks_of self.now.state.waiting) ≤
+            vec_capacity into.old }
+        ensures tasks { numbers into.new.items ≡
+            numbers into.old.items ++ tasks_of self.now.state.waiting }
+        ensures capacity { vec_capacity into.new ≡ vec_capacity into.old }
+    {
+        pairs::list_tasks(self.waiting.as_slice(), into);
     }
 }
 

@@ -34,9 +34,9 @@ owner_of w s = owner_by w.sets (sem_at w.sems s)
 
 -- the tasks that wait for the owner of a semaphore: those that wait for it, under PCP for any semaphore of its cluster
 abbrev pub waiters_by : List PcpKept → ℕ → AnySem → List ℕ
-waiters_by sets s (any.Fmlp l) = (in_line l.line).waiting
-waiters_by sets s (any.Omlp k) = (omlp_sem_state k.state).waiting
-waiters_by sets s (any.Mpcp k) = k.state.waiting
+waiters_by sets s (any.Fmlp l) = (state_by sets s (any.Fmlp l)).waiting
+waiters_by sets s (any.Omlp k) = (state_by sets s (any.Omlp k)).waiting
+waiters_by sets s (any.Mpcp k) = (state_by sets s (any.Mpcp k)).waiting
 waiters_by sets s (any.Pcp c) = tasks_of (set_at sets c.0).state.waiting
 
 abbrev pub waiters_of : SemTable → ℕ → List ℕ

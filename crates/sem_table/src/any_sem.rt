@@ -1,10 +1,12 @@
 //! A semaphore of any of the four protocols.
-ghost use Rattle.std.specs.Prelude.{◌≡◌, ◌↔◌, true, None, Some, slice_index_or};
-ghost use Rattle.rt_base.specs.TaskNos.{number_of_task};
+ghost use Rattle.std.specs.Prelude.{◌≡◌, ◌↔◌, ◌+◌, ◌≤◌, ◌++◌, true, None, Some, length, slice_index_or, vec_len, vec_capacity};
+ghost use Rattle.rt_base.specs.TaskNos.{number_of_task, numbers};
 ghost use Rattle.rt_rules.specs.Numbers.{first};
+ghost use Rattle.rt_rules.specs.Pcp.{pcp_sem_state};
+ghost use Rattle.pcp_sem.specs.Pairs.{tasks_of};
 ghost use Rattle.pcp_sem.specs.PcpKept.{blocker_of};
 ghost use Rattle.sem_table.specs.SemTable.{set_at};
-ghost use Rattle.sem_table.specs.Told.{state_by, owner_by, next_by};
+ghost use Rattle.sem_table.specs.Told.{state_by, owner_by, next_by, waiters_by};
 ghost use Rattle.sem_table.specs.Asked.{asked, sets_asked, set_asked, set_passes, is_granted_by};
 ghost use Rattle.sem_table.specs.Released.{freed, sets_freed, set_freed, set_served, served_by};
 ghost use Rattle.sem_table.specs.Conditions.{MayAskBy, MayReleaseBy, IsPcpRequest, IsPcpLast};
@@ -41,6 +43,32 @@ fn release_set(set: &mut PcpSet, task: TaskNo, sem: SemNo) -> Option<TaskNo>
 {
     let count = set.release(task, sem.0);
     if count == 0 { None } else { set.granted(0) }
+}
+
+// Adds the tasks that wait for a PCP semaphore of the cluster, if it has any.
+fn list_of_set(sets: &[PcpSet], c: ClusterNo, sem: SemNo, into: &mut Vec<TaskNo>)
+    requires { vec_len into.old + length (pcp_sem_state sem.0 (set_at sets.now c.0).state).waiting ≤
+        vec_capacity into.old }
+    ensures tasks { numbers into.new.items ≡
+        numbers into.old.items ++ (pcp_sem_state sem.0 (set_at sets.now c.0).state).waiting }
+    ensures capacity { vec_capacity into.new ≡ vec_capacity into.old }
+{
+    if let Some(set) = sets.get(c.0 as usize) {
+        set.list_waiting(sem.0, into);
+    }
+}
+
+// Adds the tasks that wait for any PCP semaphore of the cluster, if it has any.
+fn list_all_of_set(sets: &[PcpSet], c: ClusterNo, into: &mut Vec<TaskNo>)
+    requires { vec_len into.old + length (tasks_of (set_at sets.now c.0).state.waiting) ≤
+        vec_capacity into.old }
+    ensures tasks { numbers into.new.items ≡
+        numbers into.old.items ++ tasks_of (set_at sets.now c.0).state.waiting }
+    ensures capacity { vec_capacity into.new ≡ vec_capacity into.old }
+{
+    if let Some(set) = sets.get(c.0 as usize) {
+        set.list_all_waiting(into);
+    }
 }
 
 impl AnySem {
@@ -117,6 +145,38 @@ impl AnySem {
                 let set = sets.get(c.0 as usize)?;
                 set.blocker(task)
             }
+        }
+    }
+
+    /// Adds the tasks that wait for the semaphore behind what `into` holds, which has room for them.
+    pub fn list_waiting(&self, sets: &[PcpSet], sem: SemNo, into: &mut Vec<TaskNo>)
+        requires { vec_len into.old + length (state_by sets.now sem.0 self.now).waiting ≤
+            vec_capacity into.old }
+        ensures tasks { numbers into.new.items ≡
+            numbers into.old.items ++ (state_by sets.now sem.0 self.now).waiting }
+        ensures capacity { vec_capacity into.new ≡ vec_capacity into.old }
+    {
+        match self {
+            AnySem::Fmlp(one) => one.list_waiting(into),
+            AnySem::Omlp(one) => one.list_waiting(into),
+            AnySem::Mpcp(one) => one.list_waiting(into),
+            AnySem::Pcp(c) => list_of_set(sets, *c, sem, into),
+        }
+    }
+
+    /// Adds the tasks that wait for the owner of the semaphore behind what `into` holds, which has room for them.
+    pub fn list_waiters(&self, sets: &[PcpSet], sem: SemNo, into: &mut Vec<TaskNo>)
+        requires { vec_len into.old + length (waiters_by sets.now sem.0 self.now) ≤
+            vec_capacity into.old }
+        ensures tasks { numbers into.new.items ≡
+            numbers into.old.items ++ waiters_by sets.now sem.0 self.now }
+        ensures capacity { vec_capacity into.new ≡ vec_capacity into.old }
+    {
+        match self {
+            AnySem::Fmlp(one) => one.list_waiting(into),
+            AnySem::Omlp(one) => one.list_waiting(into),
+            AnySem::Mpcp(one) => one.list_waiting(into),
+            AnySem::Pcp(c) => list_all_of_set(sets, *c, into),
         }
     }
 }
