@@ -1,6 +1,8 @@
--- Each reply is read off what is kept, where there are neither semaphores nor reservations.
-use Rattle.std.proofs.Common.{◌≡◌, ◌⊎◌, ℕ, Bool, true, false, [], inl, inr, refl, sym, ap, subst}
+-- Each reply is read off what is kept, where there are no reservations.
+use Rattle.std.proofs.Common.{◌≡◌, ◌⊎◌, ℕ, Bool, true, false, List, [], length, inl, inr, refl}
 use Rattle.std.specs.Prelude.{Option, None, Some, if◌then◌else◌}
+use Rattle.rt_rules.proofs.NumberLaws.{distinct-numbers_from}
+use Rattle.rt_rules.proofs.PlacingLaws.{distinct-filter}
 use Rattle.rt_task.specs.declared.Act.{Act}
 use Rattle.rt_task.specs.declared.Act.TheVariants as acts
 use Rattle.rt_task.specs.declared.Kind.{Kind}
@@ -12,13 +14,15 @@ use Rattle.rt_task.specs.declared.PluginKind.TheVariants as plugins
 use Rattle.rt_task.specs.declared.Task.{Task}
 use Rattle.rt_task.specs.RuleWords.{is_p_res}
 use Rattle.rt_history.specs.declared.Reply.TheVariants as replies
-use Rattle.rt_rules.specs.Numbers.{has, same}
-use Rattle.rt_model.specs.Answers.{answer}
-use Rattle.rt_model.specs.Group.{Group, sems}
+use Rattle.rt_rules.specs.Distinct.{IsDistinct}
+use Rattle.rt_rules.specs.Numbers.{is, is_empty, numbers_from, same}
+use Rattle.rt_changes.specs.SemActs.{is_at_sem}
+use Rattle.rt_model.specs.Answers.{answer, is_granted}
+use Rattle.rt_model.specs.Holders.{holder, holds, last_granted}
+use Rattle.rt_model.specs.Runs.{runs}
+use Rattle.rt_model.specs.Group.{Group, protocol, sems}
 use Rattle.rt_model.specs.Links.{linked}
 use Rattle.rt_model.specs.Past.{Past, accepted}
-use Rattle.rt_model.specs.Steps.{IsActOf}
-use Rattle.rt_groups.proofs.NoSems.{holds-nothing}
 use Rattle.group_facts.specs.Facts.{JobFacts}
 use Rattle.group_facts.specs.Replies.{IsSeen, SemFacts, arrival_reply, arrival_reply_by, asked_by, freed_by, lacks, may_come, op_reply, reply_of}
 use Rattle.group_facts.proofs.ReadReplies.{reply_is_read}
@@ -26,54 +30,52 @@ use Rattle.group_jobs.specs.GroupJobs.{plain_reply}
 use Rattle.group_engine.specs.declared.state.GroupState.{GroupState}
 use Rattle.group_engine.specs.Moments.{IsPlayed}
 use Rattle.group_engine.proofs.ActMoves.{CanBe, of_group}
-use Rattle.group_engine.proofs.Reading.{no_sems, unreserved}
+use Rattle.group_engine.proofs.Reading.{unreserved}
 
--- no semaphore is there to be told of
-abbrev pub nothing_held : SemFacts
-nothing_held = record { held = []; last = None; holder = None; granted = false }
+-- what the semaphores say of a processor that runs this, and of the semaphores of its act
+held_by : Group → Past → Option ℕ → List ℕ
+held_by g past None = []
+held_by g past (Some t) = holds g t past
 
--- no act is at a semaphore
-none-asked : (g : Group) → sems g ≡ [] → (act : Act) → IsActOf g act → (s : ℕ) → asked_by act ≡ Some s → {A : Type 0} → A
-none-asked g none acts.Tick of s e = cc
-none-asked g none acts.Irq of s e = cc
-none-asked g none (acts.Arrive t) of s e = cc
-none-asked g none (acts.Do ops.Work) of s e = cc
-none-asked g none (acts.Do (ops.Lock r)) of s e = absurd (let m : has r.0 [] ≡ true = subst (λ ss. has r.0 ss ≡ true) none of in cc)
-none-asked g none (acts.Do (ops.Unlock r)) of s e = cc
-none-asked g none (acts.Do (ops.Sleep n)) of s e = cc
-none-asked g none (acts.Do ops.NpOn) of s e = cc
-none-asked g none (acts.Do ops.NpOff) of s e = cc
-none-asked g none (acts.Do ops.End) of s e = cc
+last_by : Group → Past → Option ℕ → Option ℕ
+last_by g past None = None
+last_by g past (Some t) = last_granted g t past
 
-none-freed : (g : Group) → sems g ≡ [] → (act : Act) → IsActOf g act → (s : ℕ) → freed_by act ≡ Some s → {A : Type 0} → A
-none-freed g none acts.Tick of s e = cc
-none-freed g none acts.Irq of s e = cc
-none-freed g none (acts.Arrive t) of s e = cc
-none-freed g none (acts.Do ops.Work) of s e = cc
-none-freed g none (acts.Do (ops.Lock r)) of s e = cc
-none-freed g none (acts.Do (ops.Unlock r)) of s e = absurd (let m : has r.0 [] ≡ true = subst (λ ss. has r.0 ss ≡ true) none of in cc)
-none-freed g none (acts.Do (ops.Sleep n)) of s e = cc
-none-freed g none (acts.Do ops.NpOn) of s e = cc
-none-freed g none (acts.Do ops.NpOff) of s e = cc
-none-freed g none (acts.Do ops.End) of s e = cc
+holder_by : Group → Past → Option ℕ → Option ℕ
+holder_by g past None = None
+holder_by g past (Some s) = holder g s past
+
+granted_by : Group → Past → Option ℕ → Option ℕ → Bool
+granted_by g past None o = false
+granted_by g past (Some t) None = false
+granted_by g past (Some t) (Some s) = is_granted g (protocol g s) s t past
+
+abbrev pub sem_facts : Group → ℕ → Act → Past → SemFacts
+sem_facts g q act past = record {
+  held = held_by g past (runs q past);
+  last = last_by g past (runs q past);
+  holder = holder_by g past (freed_by act);
+  granted = granted_by g past (runs q past) (asked_by act);
+}
+
+holds-once : (g : Group) (t : ℕ) (past : Past) → IsDistinct (holds g t past)
+unfolding holds sems
+holds-once g t past = distinct-filter (λ s. is t (holder g s past)) (numbers_from 1 (length g.setup.sems)) (distinct-numbers_from 1 (length g.setup.sems))
 
 module _ (g : Group) (q : ℕ) (act : Act) (past : Past) (s : GroupState) (can : CanBe g q act past s) where
-  none : sems g ≡ []
-  none = no_sems g can.played
-
-  seen : IsSeen g q act past (linked g q past) 0 nothing_held
+  seen : IsSeen g q act past (linked g q past) 0 (sem_facts g q act past)
   seen = record {
     link_is = refl;
     budget_is = λ t h res. absurd (let no : is_p_res g.setup.plugin ≡ false = unreserved g can.played in cc);
-    held_are = λ t h. record { once = tt; members = λ r. ap (has r) (sym (holds-nothing g none past t)) };
-    granted_is = λ t r h asked. none-asked g none act can.act_is_of r asked;
-    holder_is = λ r freed. none-freed g none act can.act_is_of r freed;
-    last_is = λ t r h freed. none-freed g none act can.act_is_of r freed;
+    held_are = λ t h. rw h (record { once = holds-once g t past; members = λ r. refl });
+    granted_is = λ t r h asked. rw (h, asked) refl;
+    holder_is = λ r freed. rw freed refl;
+    last_is = λ t r h freed. rw h refl;
   }
 
   -- the reply
-  pub answer-read : reply_of g q act (linked g q past) 0 nothing_held s.jobs.kept ≡ answer g q act past
-  answer-read = reply_is_read g past can.played.valid can.at.reachable q act (linked g q past) 0 nothing_held s.jobs.kept (of_group g q act can.inside can.act_is_of) can.at.jobs_are seen
+  pub answer-read : reply_of g q act (linked g q past) 0 (sem_facts g q act past) s.jobs.kept ≡ answer g q act past
+  answer-read = reply_is_read g past can.played.valid can.at.reachable q act (linked g q past) 0 (sem_facts g q act past) s.jobs.kept (of_group g q act can.inside can.act_is_of) can.at.jobs_are seen
 
 -- ---- operations
 
@@ -84,40 +86,48 @@ lacks-none plugins.PsnEdf h = refl
 lacks-none plugins.PFp h = refl
 lacks-none plugins.PRes h = cc
 
-pub plain-op : (g : Group) → IsPlayed g → (op : Op) → IsActOf g (acts.Do op) → (t clock : ℕ) (worked : Option ℕ) (np : Bool)
-    → plain_reply op clock worked np false true ≡ op_reply g op t clock worked np 0 nothing_held
-plain-op g played ops.Work of t clock worked np = rw (lacks-none g.setup.plugin (unreserved g played)) refl
-plain-op g played (ops.Lock r) of t clock worked np = none-asked g (no_sems g played) (acts.Do (ops.Lock r)) of r.0 refl
-plain-op g played (ops.Unlock r) of t clock worked np = none-freed g (no_sems g played) (acts.Do (ops.Unlock r)) of r.0 refl
-plain-op g played (ops.Sleep n) of t clock worked np = refl
-plain-op g played ops.NpOn of t clock worked np = refl
-plain-op g played ops.NpOff of t clock worked np = refl
-plain-op g played ops.End of t clock worked np = refl
+-- at no semaphore
+pub plain-op : (g : Group) → IsPlayed g → (op : Op) → is_at_sem (acts.Do op) ≡ false → (t clock : ℕ) (worked : Option ℕ) (np none : Bool) (sems : SemFacts)
+    → none ≡ is_empty sems.held → plain_reply op clock worked np false none ≡ op_reply g op t clock worked np 0 sems
+plain-op g played ops.Work plain t clock worked np none sems h = rw (lacks-none g.setup.plugin (unreserved g played)) refl
+plain-op g played (ops.Lock r) plain t clock worked np none sems h = cc
+plain-op g played (ops.Unlock r) plain t clock worked np none sems h = cc
+plain-op g played (ops.Sleep n) plain t clock worked np none sems h = rw h refl
+plain-op g played ops.NpOn plain t clock worked np none sems h = refl
+plain-op g played ops.NpOff plain t clock worked np none sems h = refl
+plain-op g played ops.End plain t clock worked np none sems h = rw h refl
 
 -- an operation is done or refused
-pub done-or-refused : (op : Op) (clock : ℕ) (worked : Option ℕ) (np : Bool) → (plain_reply op clock worked np false true ≡ replies.Done) ⊎ (accepted (plain_reply op clock worked np false true) ≡ false)
-done-or-refused ops.Work clock worked np = by_case (same worked (Some clock))
+pub done-or-refused : (op : Op) (clock : ℕ) (worked : Option ℕ) (np none : Bool) → (plain_reply op clock worked np false none ≡ replies.Done) ⊎ (accepted (plain_reply op clock worked np false none) ≡ false)
+done-or-refused ops.Work clock worked np none = by_case (same worked (Some clock))
   where
-    by_case : (b : Bool) → ((if b then replies.Spent else (if false then replies.NoBudget else replies.Done)) ≡ replies.Done) ⊎ (accepted (if b then replies.Spent else (if false then replies.NoBudget else replies.Done)) ≡ false)
+    by_case : (b : Bool) → ((if b then replies.Spent else (if false then replies.NoBudget else replies.Done)) ≡ replies.Done)
+        ⊎ (accepted (if b then replies.Spent else (if false then replies.NoBudget else replies.Done)) ≡ false)
     by_case true = inr refl
     by_case false = inl refl
-done-or-refused ops.NpOff clock worked true = inl refl
-done-or-refused ops.NpOff clock worked false = inr refl
-done-or-refused ops.NpOn clock worked true = inr refl
-done-or-refused ops.NpOn clock worked false = inl refl
-done-or-refused (ops.Lock r) clock worked true = inr refl
-done-or-refused (ops.Lock r) clock worked false = inl refl
-done-or-refused (ops.Unlock r) clock worked true = inr refl
-done-or-refused (ops.Unlock r) clock worked false = inl refl
-done-or-refused (ops.Sleep n) clock worked true = inr refl
-done-or-refused (ops.Sleep n) clock worked false = inl refl
-done-or-refused ops.End clock worked true = inr refl
-done-or-refused ops.End clock worked false = inl refl
+done-or-refused ops.NpOff clock worked true none = inl refl
+done-or-refused ops.NpOff clock worked false none = inr refl
+done-or-refused ops.NpOn clock worked true none = inr refl
+done-or-refused ops.NpOn clock worked false none = inl refl
+done-or-refused (ops.Lock r) clock worked true none = inr refl
+done-or-refused (ops.Lock r) clock worked false true = inl refl
+done-or-refused (ops.Lock r) clock worked false false = inr refl
+done-or-refused (ops.Unlock r) clock worked true none = inr refl
+done-or-refused (ops.Unlock r) clock worked false true = inl refl
+done-or-refused (ops.Unlock r) clock worked false false = inr refl
+done-or-refused (ops.Sleep n) clock worked true none = inr refl
+done-or-refused (ops.Sleep n) clock worked false true = inl refl
+done-or-refused (ops.Sleep n) clock worked false false = inr refl
+done-or-refused ops.End clock worked true none = inr refl
+done-or-refused ops.End clock worked false true = inl refl
+done-or-refused ops.End clock worked false false = inr refl
 
-pub op-done : (op : Op) (clock : ℕ) (worked : Option ℕ) (np : Bool) → accepted (plain_reply op clock worked np false true) ≡ true → plain_reply op clock worked np false true ≡ replies.Done
-op-done op clock worked np h = by_kind (done-or-refused op clock worked np)
+pub op-done : (op : Op) (clock : ℕ) (worked : Option ℕ) (np none : Bool) → accepted (plain_reply op clock worked np false none) ≡ true
+    → plain_reply op clock worked np false none ≡ replies.Done
+op-done op clock worked np none h = by_kind (done-or-refused op clock worked np none)
   where
-    by_kind : (plain_reply op clock worked np false true ≡ replies.Done) ⊎ (accepted (plain_reply op clock worked np false true) ≡ false) → plain_reply op clock worked np false true ≡ replies.Done
+    by_kind : (plain_reply op clock worked np false none ≡ replies.Done) ⊎ (accepted (plain_reply op clock worked np false none) ≡ false)
+        → plain_reply op clock worked np false none ≡ replies.Done
     by_kind (inl d) = d
     by_kind (inr r) = absurd (let a = h in let b = r in cc)
 

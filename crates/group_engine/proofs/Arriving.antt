@@ -1,6 +1,6 @@
 -- The state after an arrival.
-use Rattle.std.proofs.Common.{◌≡◌, ℕ, Bool, true, false, [], ◌∷◌, ◌||◌, eqb-true, refl, sym, ap, ◌∙◌, subst}
-use Rattle.std.specs.Prelude.{◌==◌}
+use Rattle.std.proofs.Common.{◌≡◌, ℕ, ◌<◌, Bool, true, false, List, length, [], ◌∷◌, ◌||◌, eqb-true, refl, sym, ap, ◌∙◌, subst}
+use Rattle.std.specs.Prelude.{◌==◌, Option}
 use Rattle.rt_base.specs.declared.TaskNo.{TaskNo}
 use Rattle.rt_task.specs.declared.Act.TheVariants as acts
 use Rattle.rt_history.specs.declared.Reply.TheVariants as replies
@@ -8,7 +8,11 @@ use Rattle.rt_rules.specs.Numbers.{has}
 use Rattle.rt_model.specs.Answers.{answer}
 use Rattle.rt_model.specs.Group.{Group, task, tasks}
 use Rattle.rt_model.specs.Outcomes.{past_act}
-use Rattle.rt_model.specs.Past.{Acted, Past, accepted}
+use Rattle.rt_order.specs.declared.Key.{Key}
+use Rattle.rt_rules.specs.SemState.{Neither}
+use Rattle.rt_model.specs.BaseKeys.{base_key}
+use Rattle.rt_model.specs.Past.{Acted, Past, accepted, sem_act}
+use Rattle.rt_changes.proofs.SemActs.{other_act_is_quiet}
 use Rattle.rt_model.specs.Runs.{runs}
 use Rattle.group_facts.specs.Facts.{CpuFacts}
 use Rattle.group_facts.specs.FactMoves.{IsArrived, with_act}
@@ -19,8 +23,12 @@ use Rattle.group_facts.proofs.JobSteps.{arrival_is_counted}
 use Rattle.group_jobs.specs.GroupJobs.{GroupJobs, task_in}
 use Rattle.group_engine.specs.declared.state.GroupState.{GroupState}
 use Rattle.group_engine.specs.State.{IsAt}
-use Rattle.group_engine.specs.Touching.{brought_up, placed_all}
-use Rattle.group_engine.proofs.ActMoves.{CanBe, between-act, between-still, kept-after, look-same}
+use Rattle.group_engine.specs.Touching.{based, base_now, brought_up, placed_all}
+use Rattle.group_sem_laws.specs.Kept.{KeepsGroupSems, KeepsLocks}
+use Rattle.group_engine.proofs.Bases.{base-told, bases-told}
+use Rattle.group_engine.proofs.Bounding.{in-bases}
+use Rattle.group_engine.proofs.SemLaws.{quiet_is_kept}
+use Rattle.group_engine.proofs.ActMoves.{CanBe, base-same, between-act, between-still, held-none, held_none, kept-after, look-same, made-after}
 use Rattle.group_engine.proofs.Answering.{answer-read}
 use Rattle.group_engine.proofs.Settling.{settled}
 
@@ -45,17 +53,36 @@ module _ (g : Group) (q : ℕ) (t : TaskNo) (past : Past) (s : GroupState) (can 
 
     pub kept-arrived : IsKept g (with_act g q (acts.Arrive t) past) (has_arrived t.0 s.jobs.kept)
     kept-arrived =
-        let same : has_acted g.setup.tasks q (acts.Arrive t) (answer g q (acts.Arrive t) past) true s.jobs.kept ≡ has_arrived t.0 s.jobs.kept = rw done refl in
-        subst (IsKept g (with_act g q (acts.Arrive t) past)) same (kept-after g q (acts.Arrive t) past s can)
+        let none : Bool = held_none g q (acts.Arrive t) past in
+        let same : has_acted g.setup.tasks q (acts.Arrive t) (answer g q (acts.Arrive t) past) none s.jobs.kept ≡ has_arrived t.0 s.jobs.kept = rw done refl in
+        subst (IsKept g (with_act g q (acts.Arrive t) past)) same (kept-after g q (acts.Arrive t) past s can none (held-none g q (acts.Arrive t) past))
+
+    quiet : sem_act (Acted (past_act g q (acts.Arrive t) past)) ≡ Neither
+    quiet = other_act_is_quiet g q (acts.Arrive t) past refl
+
+    -- the semaphores stay, and the base key of the task is told
+    pub sems-arrived : (jobs : GroupJobs) → jobs.kept ≡ has_arrived t.0 s.jobs.kept
+        → KeepsGroupSems g (with_act g q (acts.Arrive t) past) (based g.setup t.0 (record s { jobs = jobs })).sems
+    sems-arrived jobs kept_is =
+        let after : Past = with_act g q (acts.Arrive t) past in
+        let s0 : GroupState = record s { jobs = jobs } in
+        let bases : List (Option Key) = s.sems.waits.bases in
+        let told_is : base_now g.setup jobs.kept t.0 ≡ base_key g t.0 after = base-told g after s0 (subst (IsKept g after) (sym kept_is) kept-arrived) t.0 can.act_is_of in
+        let locks : KeepsLocks g after s.sems = quiet_is_kept g (Acted (past_act g q (acts.Arrive t) past)) past can.played.valid (made-after g q (acts.Arrive t) past s can) s.sems quiet can.at.sems_are.locks in
+        let inside : t.0 < length bases = in-bases g past s can.played can.at t.0 can.act_is_of in
+        record {
+          locks = record { sems_are = locks.sems_are; rows_are = locks.rows_are; nexts_are = locks.nexts_are; boosts_are = locks.boosts_are; ceilings_are = locks.ceilings_are };
+          bases = rw told_is (bases-told g past after t.0 bases inside (λ u h e. base-same g u past after (arrived.others u e)) can.at.sems_are.bases);
+        }
 
     -- an arrival that is accepted: the task is looked at
-    pub has_arrived-at : (jobs : GroupJobs) → jobs.kept ≡ has_arrived t.0 s.jobs.kept → IsAt g (with_act g q (acts.Arrive t) past) (placed_all (brought_up g.setup t.0 (record s { jobs = jobs })))
+    pub has_arrived-at : (jobs : GroupJobs) → jobs.kept ≡ has_arrived t.0 s.jobs.kept → IsAt g (with_act g q (acts.Arrive t) past) (placed_all (brought_up g.setup t.0 (based g.setup t.0 (record s { jobs = jobs }))))
     has_arrived-at jobs kept_is =
-        let s1 : GroupState = record s { jobs = jobs } in
+        let s1 : GroupState = based g.setup t.0 (record s { jobs = jobs }) in
         settled g can.played (Acted (past_act g q (acts.Arrive t) past)) past (t.0 ∷ []) s1
-        (between-act g q (acts.Arrive t) past s can (t.0 ∷ []) s1 (subst (IsKept g (with_act g q (acts.Arrive t) past)) (sym kept_is) kept-arrived) refl refl
+        (between-act g q (acts.Arrive t) past s can (t.0 ∷ []) s1 (subst (IsKept g (with_act g q (acts.Arrive t) past)) (sym kept_is) kept-arrived) (sems-arrived jobs kept_is) refl refl
         (between-still g q (acts.Arrive t) past s can runs-still)
-        (λ u h. only u h) (λ u h. look-same g q u (acts.Arrive t) past (arrived.others u (apart u h))))
+        (λ u h. only u h) (λ u h. look-same g can.played q u (acts.Arrive t) past can.at.reachable quiet (arrived.others u (apart u h))))
       where
         only : (u : ℕ) → has u (t.0 ∷ []) ≡ true → has u (tasks g) ≡ true
         only u h = by_case (u == t.0) refl h

@@ -17,7 +17,8 @@ use Rattle.group_jobs.specs.GroupJobs.{IsTaskOf, task_in}
 use Rattle.group_engine.specs.declared.state.GroupState.{GroupState}
 use Rattle.group_engine.specs.Moments.{IsPlayed}
 use Rattle.group_engine.specs.State.{HasClusterAt, IsAt, IsWithin}
-use Rattle.group_engine.specs.Touching.{CanBringUp, home_in}
+use Rattle.group_sems.specs.Telling.{HasBase}
+use Rattle.group_engine.specs.Touching.{CanBase, CanBringUp, home_in}
 use Rattle.group_engine.proofs.Reading.{unreserved}
 
 weaker : (a b c : ℕ) (job : JobFacts) → a ≤ b → AreBounded a c job → AreBounded b c job
@@ -60,23 +61,36 @@ module _ (g : Group) (played : IsPlayed g) (t : ℕ) (h : has t (tasks g) ≡ tr
   unfolding home task
   home-is = refl
 
-  -- it can be looked at
-  pub can_bring_up : (past : Past) (s : GroupState) → IsKept g past s.jobs.kept → IsWithin past → t < length s.timers → HasTask s.clusters (home g t) t → CanBringUp g.setup t s
-  can_bring_up past s kept within room there = record {
+  -- its base key can be told
+  pub can_base : (past : Past) (s : GroupState) → IsKept g past s.jobs.kept → IsWithin past → t < length s.sems.waits.bases → CanBase g.setup t s
+  can_base past s kept within room = record {
     task = task-of past s.jobs.kept kept within;
     number_is = limits.number_is;
     deadline_low = limits.deadline_low;
     unreserved = unreserved g played;
+    room = room;
+  }
+
+  -- it can be looked at
+  pub can_bring_up : (past : Past) (s : GroupState) → IsKept g past s.jobs.kept → IsWithin past → HasBase s.sems.waits.bases t → t < length s.timers
+      → HasTask s.clusters (home g t) t → CanBringUp g.setup t s
+  can_bring_up past s kept within base room there = record {
+    task = task-of past s.jobs.kept kept within;
+    has_base = base;
     timer_room = room;
     at_home = subst (λ c. HasTask s.clusters c t) (sym home-is) there;
   }
 
 -- each task of the group can be looked at once a move is written down
 pub can-look : (g : Group) → IsPlayed g → (past : Past) (s : GroupState) → IsAt g past s → (past1 : Past) (s1 : GroupState) → IsKept g past1 s1.jobs.kept → IsWithin past1
-    → s1.timers ≡ s.timers → s1.clusters ≡ s.clusters → (t : ℕ) → has t (tasks g) ≡ true → CanBringUp g.setup t s1
-can-look g played past s at past1 s1 kept within timers clusters_same t h =
+    → ((t : ℕ) → has t (tasks g) ≡ true → HasBase s1.sems.waits.bases t) → s1.timers ≡ s.timers → s1.clusters ≡ s.clusters → (t : ℕ) → has t (tasks g) ≡ true → CanBringUp g.setup t s1
+can-look g played past s at past1 s1 kept within based timers clusters_same t h =
     let home_of : IsHomeTask g t = tasks_are_at_home g t played.valid h in
     let was : HasClusterAt g (home g t) past s.clusters = at.clusters_are (home g t) home_of.cluster_there in
     let room : t < length s.timers = at.timers_are.room t h in
     let there : HasTask s.clusters (home g t) t = (was.cluster, was.there, omega (arith, was.is_at.room, home_of.high)) in
-    can_bring_up g played t h past1 s1 kept within (rw timers room) (rw clusters_same there)
+    can_bring_up g played t h past1 s1 kept within (based t h) (rw timers room) (rw clusters_same there)
+
+-- there is room for the base key of each task of the group
+pub in-bases : (g : Group) (past : Past) (s : GroupState) → IsPlayed g → IsAt g past s → (t : ℕ) → has t (tasks g) ≡ true → t < length s.sems.waits.bases
+in-bases g past s played at t h = let home_of : IsHomeTask g t = tasks_are_at_home g t played.valid h in omega (arith, home_of.high, at.sems_are.bases.room)

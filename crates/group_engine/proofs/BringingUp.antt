@@ -25,9 +25,7 @@ can-still : (p : Parts) (t : ℕ) (s : GroupState) (ticks : List (Option ℕ)) (
     → HasTask table (home_in p t) t → CanBringUp p t s → CanBringUp p t (record s { timers = ticks; clusters = table })
 can-still p t s ticks table same there h = record {
   task = h.task;
-  number_is = h.number_is;
-  deadline_low = h.deadline_low;
-  unreserved = h.unreserved;
+  has_base = h.has_base;
   timer_room = rw same h.timer_room;
   at_home = there;
 }
@@ -35,7 +33,7 @@ can-still p t s ticks table same there h = record {
 -- after another task is brought up
 pub can-after : (p : Parts) (t u : ℕ) (s : GroupState) → CanBringUp p t s → CanBringUp p t (brought_up p u s)
 can-after p t u s h =
-    let change : KeptCluster → KeptCluster = with_key u (key_now p s.jobs.kept u) in
+    let change : KeptCluster → KeptCluster = with_key u (key_now p s.jobs.kept s.sems u) in
     let there = has-task-changed (home_in p u) (home_in p t) t change s.clusters (λ k. length-set _ _ _) h.at_home in
     can-still p t s (brought_up p u s).timers (brought_up p u s).clusters (length-set _ _ _) there h
 

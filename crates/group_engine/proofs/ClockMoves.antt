@@ -11,7 +11,10 @@ use Rattle.rt_model.specs.Reachable.{clocked}
 use Rattle.rt_laws.proofs.GroupLaws.{tasks_of-home}
 use Rattle.release_queue.specs.Timers.{tick_at}
 use Rattle.rank_changes.specs.Touched.{comes_due}
-use Rattle.rank_changes.proofs.QuietMoves.{standing_after_clock}
+use Rattle.rank_changes.proofs.QuietMoves.{base_key-same, standing_after_clock}
+use Rattle.rank_changes.proofs.TouchedTasks.{clock_keeps_jobs}
+use Rattle.group_engine.proofs.Bases.{bases-stay}
+use Rattle.group_engine.proofs.SemLaws.{quiet_is_kept}
 use Rattle.rank_changes.proofs.SameClusters.{runs-clock}
 use Rattle.group_facts.specs.Kept.{with_clock}
 use Rattle.group_facts.specs.Timers.{AreDue, AreMoved, TimersAreKept, renewed, ticks_without, timer_at}
@@ -90,6 +93,10 @@ between-clock g played past s at tick low us due = record {
   reachable = clocked tick at.reachable;
   within = clock-within tick past low at.within;
   jobs_are = kept_after_clock g past played.valid at.reachable tick s.jobs.kept at.jobs_are;
+  sems_are = record {
+    locks = quiet_is_kept g (Clock tick) past played.valid (clocked tick at.reachable) s.sems refl at.sems_are.locks;
+    bases = bases-stay g past (Clock tick ∷ past) s.sems.waits.bases (λ t h. base_key-same g t past (Clock tick ∷ past) (clock_keeps_jobs g past played.valid at.reachable tick t)) at.sems_are.bases;
+  };
   timers_are = timers-again g (Clock tick ∷ past) us s.timers (λ u h. at.timers_are.room u (inside u h)) moved.kept;
   homes_are = at.homes_are;
   clusters_are = λ c h. between (at.clusters_are c h);

@@ -13,11 +13,11 @@ use Rattle.group_facts.specs.Replies.{do_reply}
 use Rattle.group_engine.specs.declared.state.GroupState.{GroupState}
 use Rattle.group_engine.specs.State.{IsAt}
 use Rattle.group_engine.proofs.ActMoves.{CanBe}
-use Rattle.group_engine.proofs.Answering.{answer-read, nothing_held}
+use Rattle.group_engine.proofs.Answering.{answer-read, sem_facts}
 use Rattle.group_engine.proofs.Refusing.{refused}
 
 pub idle : (g : Group) (q : ℕ) (op : Op) (past : Past) (s : GroupState) → CanBe g q (acts.Do op) past s → (cpu_of s.jobs.kept q).runs ≡ None
     → (replies.Idle ≡ answer g q (acts.Do op) past) × IsAt g (with_act g q (acts.Do op) past) s
 idle g q op past s can nothing =
-    let told : replies.Idle ≡ answer g q (acts.Do op) past = sym (ap (λ o. do_reply g op q o 0 nothing_held s.jobs.kept) nothing) ∙ answer-read g q (acts.Do op) past s can in
+    let told : replies.Idle ≡ answer g q (acts.Do op) past = sym (ap (λ o. do_reply g op q o 0 (sem_facts g q (acts.Do op) past) s.jobs.kept) nothing) ∙ answer-read g q (acts.Do op) past s can in
     (told, refused g q (acts.Do op) past s can (ap accepted (sym told)))

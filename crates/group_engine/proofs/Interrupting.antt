@@ -8,7 +8,7 @@ use Rattle.rt_rules.specs.Numbers.{same}
 use Rattle.rt_model.specs.Answers.{answer}
 use Rattle.rt_model.specs.Group.{Group, cluster_with}
 use Rattle.rt_model.specs.Links.{linked}
-use Rattle.rt_model.specs.Past.{Acted, Past, accepted, now}
+use Rattle.rt_model.specs.Past.{Acted, Past, accepted, now, sem_act}
 use Rattle.rt_model.specs.Outcomes.{past_act}
 use Rattle.rt_model.specs.Runs.{runs}
 use Rattle.link_table.specs.Linked.{Linked, after_irq, irq_reply, is_deferred, is_pending, link_of, link_reply, runs_on, with_run}
@@ -26,7 +26,10 @@ use Rattle.cluster_table.specs.Table.{Table, changed_at, cluster_at}
 use Rattle.group_engine.specs.declared.state.GroupState.{GroupState}
 use Rattle.group_engine.specs.State.{HasClusterAt, IsAt, IsClusterAt}
 use Rattle.group_engine.specs.Touching.{placed_all}
-use Rattle.group_engine.proofs.ActMoves.{CanBe, between-act, kept-after, look-same}
+use Rattle.group_engine.proofs.ActMoves.{CanBe, base-same, between-act, held-none, held_none, kept-after, look-same, quiet-sems}
+use Rattle.group_sem_laws.specs.Kept.{KeepsGroupSems}
+use Rattle.rt_changes.proofs.SemActs.{other_act_is_quiet}
+use Rattle.rt_rules.specs.SemState.{Neither}
 use Rattle.group_engine.proofs.Answering.{answer-read}
 use Rattle.group_engine.proofs.Refusing.{refused}
 use Rattle.group_engine.proofs.Running.{between-run, link-read, of_cluster, own_cluster, runs-read}
@@ -106,8 +109,14 @@ module _ (g : Group) (q : ℕ) (past : Past) (s : GroupState) (can : CanBe g q a
       ∙ ap (told.irq_reply (linked g q past) (cpu_of s.jobs.kept q).runs) np_is
       ∙ answer-read g q acts.Irq past s can)
 
+  quiet : sem_act (Acted (past_act g q acts.Irq past)) ≡ Neither
+  quiet = other_act_is_quiet g q acts.Irq past refl
+
   nothing : CountsNothing g q acts.Irq past
   nothing = (others_count_nothing g q past).1
+
+  sems : KeepsGroupSems g (with_act g q acts.Irq past) s.sems
+  sems = quiet-sems g q acts.Irq past s can quiet (λ t h. base-same g t past (with_act g q acts.Irq past) (nothing.facts_stay t))
 
   -- what the processor runs after it
   runs-then : (link : Option ℕ) → answer g q acts.Irq past ≡ link_reply link → runs q (with_act g q acts.Irq past) ≡ link
@@ -118,10 +127,10 @@ module _ (g : Group) (q : ℕ) (past : Past) (s : GroupState) (can : CanBe g q a
       by_link (Some t) = refl
 
   cpu-then : (link : Option ℕ) → answer g q acts.Irq past ≡ link_reply link
-      → has_acted g.setup.tasks q acts.Irq (answer g q acts.Irq past) true s.jobs.kept ≡ with_cpu q (record (cpu_of s.jobs.kept q) { runs = link }) s.jobs.kept
+      → has_acted g.setup.tasks q acts.Irq (answer g q acts.Irq past) (held_none g q acts.Irq past) s.jobs.kept ≡ with_cpu q (record (cpu_of s.jobs.kept q) { runs = link }) s.jobs.kept
   cpu-then link told_is = rw told_is (by_link link)
     where
-      by_link : (o : Option ℕ) → has_acted g.setup.tasks q acts.Irq (link_reply o) true s.jobs.kept ≡ with_cpu q (record (cpu_of s.jobs.kept q) { runs = o }) s.jobs.kept
+      by_link : (o : Option ℕ) → has_acted g.setup.tasks q acts.Irq (link_reply o) (held_none g q acts.Irq past) s.jobs.kept ≡ with_cpu q (record (cpu_of s.jobs.kept q) { runs = o }) s.jobs.kept
       by_link None = refl
       by_link (Some t) = refl
 
@@ -144,9 +153,9 @@ module _ (g : Group) (q : ℕ) (past : Past) (s : GroupState) (can : CanBe g q a
       let P : KeptCluster → Type 0 = λ j. after_take q np j ≡ record j { linked = with_run j.linked q (runs q (with_act g q acts.Irq past)) } in
       let changes : (j : KeptCluster) → cluster_at s.clusters (cluster_with g q) ≡ Some j → IsClusterAt g (cluster_with g q) past j → P j = λ j h i. let e : k ≡ j = cc in subst P e own in
       settled g can.played (Acted (past_act g q acts.Irq past)) past [] s1
-      (between-act g q acts.Irq past s can [] s1 (subst (IsKept g (with_act g q acts.Irq past)) (cpu-then (linked g q past) told_is) (kept-after g q acts.Irq past s can)) refl refl
+      (between-act g q acts.Irq past s can [] s1 (subst (IsKept g (with_act g q acts.Irq past)) (cpu-then (linked g q past) told_is) (kept-after g q acts.Irq past s can (held_none g q acts.Irq past) (held-none g q acts.Irq past))) sems refl refl
       (between-run g q acts.Irq past s can s1.clusters (after_take q np) refl changes)
-      (λ t h. cc) (λ t h. look-same g q t acts.Irq past (nothing.facts_stay t)))
+      (λ t h. cc) (λ t h. look-same g can.played q t acts.Irq past can.at.reachable quiet (nothing.facts_stay t)))
 
 -- ---- as the table tells of it
 

@@ -17,3 +17,8 @@ pub mod GroupInTurn
 pub mod Idling
 pub mod Opening
 pub mod Stepping
+mod SemLaws
+mod Bases
+mod Locking
+mod Unlocking
+mod Following

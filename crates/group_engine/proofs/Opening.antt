@@ -1,13 +1,15 @@
 -- The state at opening.
-use Rattle.std.proofs.Common.{◌≡◌, ℕ, zero, suc, ◌+◌, ◌<◌, Bool, true, false, ◌&&◌, List, [], ◌∷◌, length, map, replicate, refl, sym, ap, ◌∙◌, subst, arith}
-use Rattle.std.specs.Prelude.{Option, None, Some, if◌then◌else◌, option_map}
+use Rattle.std.proofs.Common.{◌≡◌, ℕ, zero, suc, ◌+◌, ◌<◌, Bool, true, false, ◌&&◌, List, [], ◌∷◌, length, map, replicate, set, refl, sym, ap, ◌∙◌, subst, arith}
+use Rattle.std.specs.Prelude.{◌==◌, Option, None, Some, if◌then◌else◌, option_map}
 use Rattle.rt_base.specs.declared.TheConstants.{MOST_CPUS}
 use Rattle.rt_order.specs.declared.Key.{Key}
 use Rattle.rt_rules.specs.Numbers.{has, numbers_from}
 use Rattle.rt_rules.specs.Placing.{placed}
-use Rattle.rt_rules.proofs.BoolLaws.{both}
-use Rattle.rt_rules.proofs.MemberLaws.{has-filter}
+use Rattle.rt_rules.proofs.BoolLaws.{both, or_true}
+use Rattle.rt_rules.proofs.MemberLaws.{equal_self, has-filter}
 use Rattle.rt_rules.proofs.NumberLaws.{numbers_from-below}
+use Rattle.rt_task.specs.declared.Parts.{Parts}
+use Rattle.rt_model.specs.BaseKeys.{base_key}
 use Rattle.rt_model.specs.EffectiveKeys.{effective_key}
 use Rattle.rt_model.specs.Group.{Group, clusters, cpus, first_cpu, home, in_group, processors, tasks, tasks_of}
 use Rattle.rt_model.specs.Links.{links, runs_of}
@@ -25,25 +27,57 @@ use Rattle.ready_queue.specs.Refreshed.{AgreeBut}
 use Rattle.ready_queue.proofs.ReadySets.{set_is_refreshed}
 use Rattle.rank_changes.specs.ClusterMoves.{of_cluster}
 use Rattle.rank_changes.specs.Clusters.{HoldsEligible}
-use Rattle.group_facts.specs.Kept.{IsKept, opened as no_jobs}
+use Rattle.group_facts.specs.Kept.{IsKept, Kept, opened as no_jobs}
 use Rattle.group_facts.specs.Timers.{TimersAreKept, timer_at}
 use Rattle.group_facts.proofs.KeptMoves.{kept_at_opening, length-replicated, replicated}
 use Rattle.group_facts.proofs.TimerMoves.{timers_at_opening}
 use Rattle.cluster_table.specs.Clusters.{KeptCluster, fresh, homes_from, relinked, rows_from}
 use Rattle.cluster_table.specs.Table.{HasTask, cluster_at}
 use Rattle.cluster_table.proofs.RowLaws.{at-relinked, home-at, length-homes, processor-low, row-at}
+use Rattle.prio_inherit.specs.Waits.{Waits}
+use Rattle.sem_table.specs.Opened.{IsOpened}
+use Rattle.mpcp_ceilings.specs.Ceilings.{AreCeilings}
+use Rattle.group_sems.specs.GroupSems.{GroupSems}
+use Rattle.group_sem_laws.specs.Kept.{KeepsGroupSems, KeepsLocks}
+use Rattle.group_sem_laws.specs.Keeping.{rebased, untold}
+use Rattle.group_engine.proofs.SemLaws.{bases_are_told, opening_is_kept}
 use Rattle.group_engine.specs.declared.state.GroupState.{GroupState}
 use Rattle.group_engine.specs.Moments.{IsPlayed}
 use Rattle.group_engine.specs.State.{HasClusterAt, IsAt, IsWithin}
-use Rattle.group_engine.specs.Touching.{CanBringUpAll, all_brought_up, placed_all, timer_now}
-use Rattle.group_engine.proofs.Bounding.{can_bring_up}
-use Rattle.group_engine.proofs.Bringing.{cluster-brought, homes-brought, jobs-brought, keys-refreshed, renewed-same, timers-brought}
+use Rattle.group_engine.specs.Touching.{AreNumbered, CanBaseAll, CanBringUp, all_based, all_brought_up, base_now, based, placed_all, timer_now}
+use Rattle.group_engine.proofs.Bases.{base-told, has-base}
+use Rattle.group_engine.proofs.Bounding.{can_base, can_bring_up}
+use Rattle.group_engine.proofs.Bringing.{cluster-brought, homes-brought, jobs-brought, sems-brought, keys-refreshed, renewed-same, timers-brought}
 use Rattle.group_engine.proofs.Settling.{first-top, key-kept, length-refreshed, timer-kept}
 
+-- telling base keys changes the semaphores alone, and of them the base keys
+pub state-based : (p : Parts) (us : List ℕ) (s : GroupState) → all_based p us s ≡ record s { sems = (all_based p us s).sems }
+state-based p [] s = refl
+state-based p (u ∷ us) s = state-based p us (based p u s)
+
+bases-of : (p : Parts) (k : Kept) (us : List ℕ) (v : GroupSems) → GroupSems
+bases-of p k us v = record v { waits = record v.waits { bases = rebased (base_now p k) us v.waits.bases } }
+
+pub sems-based : (p : Parts) (us : List ℕ) (s : GroupState) → (all_based p us s).sems ≡ bases-of p s.jobs.kept us s.sems
+unfolding bases-of
+sems-based p [] s = refl
+sems-based p (u ∷ us) s = sems-based p us (based p u s)
+
+rebased-alike : (f f' : ℕ → Key) (us : List ℕ) (bases : List (Option Key)) → ((u : ℕ) → has u us ≡ true → f u ≡ f' u) → rebased f us bases ≡ rebased f' us bases
+rebased-alike f f' [] bases same = refl
+rebased-alike f f' (u ∷ us) bases same =
+    ap (λ k. rebased f us (set bases u (Some k))) (same u (rw (equal_self u)))
+    ∙ rebased-alike f f' us (set bases u (Some (f' u))) (λ v h. same v (rw h (or_true (v == u))))
+
+rebased-same : (g : Group) (s : GroupState) → IsKept g [] s.jobs.kept
+    → rebased (base_now g.setup s.jobs.kept) (tasks g) (replicate (length g.setup.tasks + 1) None) ≡ rebased (λ t. base_key g t []) (tasks g) (replicate (length g.setup.tasks + 1) None)
+rebased-same g s kept = rebased-alike (base_now g.setup s.jobs.kept) (λ t. base_key g t []) (tasks g) (replicate (length g.setup.tasks + 1) None) (λ u h. base-told g [] s kept u h)
+
 -- before any task was looked at
-abbrev pub empty_state : Group → ℕ → GroupState
-empty_state g room = record {
+abbrev pub empty_state : Group → ℕ → GroupSems → GroupState
+empty_state g room v = record {
   jobs = record { kept = no_jobs (length g.setup.tasks) MOST_CPUS; room = room };
+  sems = v;
   timers = replicate (length g.setup.tasks + 1) None;
   clusters = record { homes = homes_from 0 g.setup.clusters; clusters = rows_from g.number (length g.setup.tasks + 1) 0 g.setup.clusters };
 }
@@ -68,9 +102,22 @@ cluster-row g c h =
     let low : c < 0 + length g.setup.clusters = numbers_from-below c 0 (length g.setup.clusters) parts.0 in
     (omega (arith, low), parts.1)
 
-module _ (g : Group) (played : IsPlayed g) (room : ℕ) where
+-- its semaphores, of which nothing was told
+pub record IsUntold (g : Group) (v : GroupSems) : Type 0 where
+  pub table : IsOpened g v.table
+  pub ceilings : AreCeilings g v.ceilings
+  pub waits : v.waits ≡ untold (length g.setup.tasks + 1)
+
+module _ (g : Group) (played : IsPlayed g) (room : ℕ) (v : GroupSems) (new : IsUntold g v) where
   abbrev s0 : GroupState
-  s0 = empty_state g room
+  s0 = empty_state g room v
+
+  -- once the base keys were told
+  abbrev s1 : GroupState
+  s1 = all_based g.setup (tasks g) s0
+
+  abbrev s2 : GroupState
+  s2 = record s0 { sems = s1.sems }
 
   limits : IsInLimits g.setup
   limits = sets_are_in_limits g.setup played.valid
@@ -87,13 +134,28 @@ module _ (g : Group) (played : IsPlayed g) (room : ℕ) where
   row : (c : ℕ) → has c (clusters g) ≡ true → cluster_at s0.clusters c ≡ Some (fresh (first_cpu g c) (cpus g c) (length g.setup.tasks + 1))
   row c h = let p = cluster-row g c h in row-at g (length g.setup.tasks + 1) c p.0 ∙ rw p.1 refl
 
-  pub can_all : CanBringUpAll g.setup (tasks g) s0
+  pub can_base_all : CanBaseAll g.setup (tasks g) s0
+  can_base_all t h =
+      let home_of : IsHomeTask g t = tasks_are_at_home g t played.valid h in
+      let bases : length s0.sems.waits.bases ≡ length g.setup.tasks + 1 = rw new.waits (length-replicated (length g.setup.tasks + 1) None) in
+      can_base g played t h [] s0 kept within (omega (arith, home_of.high, bases))
+
+  sems-told : KeepsGroupSems g [] s1.sems
+  sems-told = rw (sems-based g.setup (tasks g) s0, new.waits) (record {
+    locks =
+        let l : KeepsLocks g [] v = opening_is_kept g v played.valid new.table new.ceilings (ap (λ (w : Waits). w.nexts) new.waits) (ap (λ (w : Waits). w.boosts) new.waits) in
+        record { sems_are = l.sems_are; rows_are = l.rows_are; nexts_are = rw new.waits at l.nexts_are; boosts_are = rw new.waits at l.boosts_are; ceilings_are = l.ceilings_are };
+    bases = rw (rebased-same g s0 kept) (bases_are_told g played.valid);
+  })
+
+  pub can_all : AreNumbered g.setup (tasks g) s1
   can_all t h =
       let home_of : IsHomeTask g t = tasks_are_at_home g t played.valid h in
       let n : length (replicate {A = Option ℕ} (length g.setup.tasks + 1) None) ≡ length g.setup.tasks + 1 = length-replicated (length g.setup.tasks + 1) None in
       let m : length (replicate {A = Option Key} (length g.setup.tasks + 1) None) ≡ length g.setup.tasks + 1 = length-replicated (length g.setup.tasks + 1) None in
       let there : HasTask s0.clusters (home g t) t = (fresh (first_cpu g (home g t)) (cpus g (home g t)) (length g.setup.tasks + 1), row (home g t) home_of.cluster_there, omega (arith, home_of.high, m)) in
-      can_bring_up g played t h [] s0 kept within (omega (arith, home_of.high, n)) there
+      let looks : CanBringUp g.setup t (record s0 { sems = s1.sems }) = can_bring_up g played t h [] (record s0 { sems = s1.sems }) kept within (has-base g [] s1.sems.waits.bases sems-told.bases t h) (omega (arith, home_of.high, n)) there in
+      (subst (CanBringUp g.setup t) (sym (state-based g.setup (tasks g) s0)) looks, (can_base_all t h).number_is)
 
   holds : (c : ℕ) → HoldsEligible g c [] (set_refreshed (λ u. effective_key g u []) (λ u. eligible g u []) (of_cluster g c (tasks g)) (replicate (length g.setup.tasks + 1) None))
   holds c = set_is_refreshed (of_cluster g c (tasks g)) (tasks_of g c) (λ u. effective_key g u []) (λ u. effective_key g u []) (λ u. false) (λ u. eligible g u []) (replicate (length g.setup.tasks + 1) None) agree nothing
@@ -118,17 +180,17 @@ module _ (g : Group) (played : IsPlayed g) (room : ℕ) where
           either-way true k = refl
           either-way false k = refl
 
-  cluster-opened : (c : ℕ) → has c (clusters g) ≡ true → HasClusterAt g c [] (placed_all (all_brought_up g.setup (tasks g) s0)).clusters
+  cluster-opened : (c : ℕ) → has c (clusters g) ≡ true → HasClusterAt g c [] (placed_all (all_brought_up g.setup (tasks g) s2)).clusters
   cluster-opened c h =
       let k : KeptCluster = fresh (first_cpu g c) (cpus g c) (length g.setup.tasks + 1) in
       let keys : List (Option Key) = set_refreshed (λ u. effective_key g u []) (λ u. eligible g u []) (of_cluster g c (tasks g)) k.keys in
-      let keys_same = keys-refreshed g c s0.jobs.kept (λ u. effective_key g u []) (λ u. eligible g u []) (tasks g) k.keys (λ u m. (m, key-kept g played [] s0 kept u m)) in
+      let keys_same = keys-refreshed g c s0.jobs.kept s1.sems (λ u. effective_key g u []) (λ u. eligible g u []) (tasks g) k.keys (λ u m. (m, key-kept g played [] opened (record s0 { sems = s1.sems }) kept sems-told u m)) in
       let next : KeptCluster = record k { keys = keys } in
-      let brought : cluster_at (all_brought_up g.setup (tasks g) s0).clusters c ≡ Some next = cluster-brought g.setup (tasks g) s0 c k (row c h) ∙ ap (λ ks. let x : KeptCluster = record k { keys = ks } in Some x) keys_same in
+      let brought : cluster_at (all_brought_up g.setup (tasks g) s2).clusters c ≡ Some next = cluster-brought g.setup (tasks g) s2 c k (row c h) ∙ ap (λ ks. let x : KeptCluster = record k { keys = ks } in Some x) keys_same in
       let m : length (replicate {A = Option Key} (length g.setup.tasks + 1) None) ≡ length g.setup.tasks + 1 = length-replicated (length g.setup.tasks + 1) None in
       record {
         cluster = relinked next;
-        there = at-relinked (all_brought_up g.setup (tasks g) s0).clusters c ∙ ap (option_map relinked) brought;
+        there = at-relinked (all_brought_up g.setup (tasks g) s2).clusters c ∙ ap (option_map relinked) brought;
         is_at = record {
           cpus_are = refl;
           first_is = refl;
@@ -139,18 +201,22 @@ module _ (g : Group) (played : IsPlayed g) (room : ℕ) where
         };
       }
 
-  pub opened-at : IsAt g [] (placed_all (all_brought_up g.setup (tasks g) s0))
-  opened-at = record {
+  opened-then : IsAt g [] (placed_all (all_brought_up g.setup (tasks g) s2))
+  opened-then = record {
     reachable = opened;
     within = within;
-    jobs_are = rw (jobs-brought g.setup (tasks g) s0) kept;
+    jobs_are = rw (jobs-brought g.setup (tasks g) s2) kept;
+    sems_are = rw (sems-brought g.setup (tasks g) s2) sems-told;
     timers_are =
         subst (TimersAreKept g [])
-        (sym (timers-brought g.setup (tasks g) s0 ∙ renewed-same (timer_now g.setup s0.jobs.kept) (timer_at g []) (tasks g) s0.timers (λ u h. timer-kept g [] s0 kept u h)))
+        (sym (timers-brought g.setup (tasks g) s2 ∙ renewed-same (timer_now g.setup s0.jobs.kept) (timer_at g []) (tasks g) s0.timers (λ u h. timer-kept g [] s0 kept u h)))
         (timers_at_opening g (length g.setup.tasks + 1) (omega arith));
-    homes_are = rw (homes-brought g.setup (tasks g) s0) (record {
+    homes_are = rw (homes-brought g.setup (tasks g) s2) (record {
       there = λ q h. omega (arith, processor-low g q h, length-homes 0 g.setup.clusters);
       are = λ q h. home-at g q (processor-low g q h);
     });
     clusters_are = cluster-opened;
   }
+
+  pub opened-at : IsAt g [] (placed_all (all_brought_up g.setup (tasks g) s1))
+  opened-at = subst (λ s. IsAt g [] (placed_all (all_brought_up g.setup (tasks g) s))) (sym (state-based g.setup (tasks g) s0)) opened-then

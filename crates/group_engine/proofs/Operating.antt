@@ -1,183 +1,126 @@
--- The state after an operation.
-use Rattle.std.proofs.Common.{◌≡◌, ℕ, Bool, true, false, not, [], ◌∷◌, ◌||◌, ◌&&◌, eqb-true, refl, sym, ap, ◌∙◌, subst}
-use Rattle.std.specs.Prelude.{◌==◌, None, Some, if◌then◌else◌, is_some, nat_lt, slice_index}
+-- The state after an operation that is at no semaphore.
+use Rattle.std.proofs.Common.{◌≡◌, ℕ, Bool, true, false, [], ◌∷◌, ◌||◌, eqb-true, refl, sym, ap, ◌∙◌, subst}
+use Rattle.std.specs.Prelude.{◌==◌, None, Some, if◌then◌else◌, filter}
 use Rattle.rt_task.specs.declared.Act.TheVariants as acts
 use Rattle.rt_task.specs.declared.Op.{Op}
 use Rattle.rt_task.specs.declared.Op.TheVariants as ops
-use Rattle.rt_task.specs.declared.PluginKind.{PluginKind}
-use Rattle.rt_task.specs.declared.PluginKind.TheVariants as plugins
-use Rattle.rt_task.specs.declared.Task.{Task}
 use Rattle.rt_history.specs.declared.Reply.TheVariants as replies
-use Rattle.rt_rules.specs.Numbers.{has, is_empty}
+use Rattle.rt_rules.specs.Numbers.{has, is, is_empty}
+use Rattle.rt_rules.specs.SemState.{Neither, SemState}
 use Rattle.rt_model.specs.Answers.{answer}
-use Rattle.rt_model.specs.Group.{Group, cluster_with, task, tasks}
-use Rattle.rt_model.specs.Holders.{holds}
+use Rattle.rt_model.specs.Group.{Group, sems, tasks}
+use Rattle.rt_model.specs.Holders.{holder, holds}
 use Rattle.rt_model.specs.Outcomes.{past_act}
-use Rattle.rt_model.specs.Past.{Acted, Past, accepted, now}
-use Rattle.rt_model.specs.Releases.{has_come}
+use Rattle.rt_model.specs.Past.{Acted, Event, Past, sem_act}
 use Rattle.rt_model.specs.Runs.{leaves, runs}
 use Rattle.rt_laws.proofs.Running.{running}
 use Rattle.rt_laws.proofs.ValidSets.{rules_of}
-use Rattle.group_facts.specs.Facts.{CpuFacts, JobFacts, job_facts}
-use Rattle.group_facts.specs.FactMoves.{IsOperated, with_act}
-use Rattle.group_facts.specs.Kept.{IsKept, after_act, cpu_of, has_acted, has_operated, job_of}
-use Rattle.group_facts.specs.Moves.{is_end, op_done}
-use Rattle.group_facts.specs.Timers.{is_sleep, timer}
-use Rattle.group_facts.specs.Words.{is_ready, key_of, release_of}
-use Rattle.group_facts.proofs.CpuSteps.{cpu_is_counted}
-use Rattle.group_facts.proofs.JobSteps.{operation_is_counted, other_jobs_stay}
-use Rattle.group_facts.proofs.TimerMoves.{release-op, timer_stays, wakes-op}
-use Rattle.cluster_table.specs.Clusters.{KeptCluster, left_by}
-use Rattle.cluster_table.specs.Table.{changed_at, cluster_at}
-use Rattle.link_table.specs.Linked.{with_run}
-use Rattle.group_jobs.specs.GroupJobs.{GroupJobs, plain_reply, task_in}
+use Rattle.rt_changes.specs.SemActs.{is_at_sem}
+use Rattle.rt_changes.proofs.SemActs.{other_act_is_quiet}
+use Rattle.rank_changes.proofs.SameEligibility.{sem_state-quiet}
+use Rattle.group_facts.specs.Facts.{CpuFacts}
+use Rattle.group_facts.specs.FactMoves.{with_act}
+use Rattle.group_facts.specs.Kept.{cpu_of, job_of}
+use Rattle.group_facts.specs.Timers.{is_sleep}
+use Rattle.group_facts.specs.Replies.{do_reply, op_reply}
+use Rattle.group_jobs.specs.GroupJobs.{plain_reply, task_in}
+use Rattle.group_facts.specs.Moves.{is_end}
+use Rattle.group_sem_laws.specs.Kept.{KeepsLocks}
 use Rattle.group_engine.specs.declared.state.GroupState.{GroupState}
-use Rattle.group_engine.specs.State.{IsAt, IsClusterAt}
-use Rattle.group_engine.specs.Touching.{left_alone}
-use Rattle.group_engine.proofs.ActMoves.{CanBe, between-act, holds_none, kept-after, look-same, stays}
-use Rattle.group_engine.proofs.Answering.{answer-read, plain-op}
-use Rattle.group_engine.proofs.Reading.{SameLook}
-use Rattle.group_engine.proofs.Running.{between-run}
-use Rattle.group_engine.proofs.Settling.{settled}
+use Rattle.group_engine.specs.State.{IsAt}
+use Rattle.group_engine.specs.Touching.{CanCount, counted, followed, holds_none, is_over, operated}
+use Rattle.group_engine.proofs.ActMoves.{CanBe, base-same, look-same, made-after, stays}
+use Rattle.group_engine.proofs.Answering.{answer-read, plain-op, sem_facts}
+use Rattle.group_engine.proofs.Following.{IsAnswered, can-count, followed-at, kept-then, lasts-of, others-jobs, own-look, runs-then, sems-on}
+use Rattle.group_engine.proofs.Reading.{SameLook, quiet-standing}
+use Rattle.group_engine.proofs.SemLaws.{holding_is_read, quiet_is_kept}
 
--- ---- an operation that goes on and is no Sleep leaves how its job looks
+holds-still : (g : Group) (t : ℕ) (e : Event) (past : Past) → sem_act e ≡ Neither → holds g t (e ∷ past) ≡ holds g t past
+unfolding holds holder
+holds-still g t e past h = λ i. filter (λ s. is t (ap (λ (x : SemState). x.holder) (sem_state-quiet g s e past h) i)) (sems g)
 
-ready-op : (row : Task) (clock : ℕ) (op : Op) (job : JobFacts) → is_sleep op ≡ false → is_ready clock row (op_done clock op job) ≡ is_ready clock row job
-ready-op row clock op job h =
-    let w : ℕ = (op_done clock op job).wakes in
-    ap (λ o. (has_come clock o || row.early && (nat_lt 0 job.done && not (has_come clock o))) && not (nat_lt clock w)) (release-op row clock op job)
-    ∙ ap (λ n. (has_come clock (release_of row job) || row.early && (nat_lt 0 job.done && not (has_come clock (release_of row job)))) && not (nat_lt clock n)) (wakes-op clock op job h)
+-- a Sleep leaves its processor
+leaves-sleep : (op : Op) → leaves (acts.Do op) replies.Done ≡ is_sleep op
+leaves-sleep ops.Work = refl
+leaves-sleep (ops.Lock r) = refl
+leaves-sleep (ops.Unlock r) = refl
+leaves-sleep (ops.Sleep n) = refl
+leaves-sleep ops.NpOn = refl
+leaves-sleep ops.NpOff = refl
+leaves-sleep ops.End = refl
 
-key-op : (g : Group) (t clock : ℕ) (op : Op) (job : JobFacts) → key_of g g.setup.plugin t (op_done clock op job) ≡ key_of g g.setup.plugin t job
-key-op g t clock op job = by_plugin g.setup.plugin
-  where
-    by_plugin : (p : PluginKind) → key_of g p t (op_done clock op job) ≡ key_of g p t job
-    by_plugin plugins.GsnEdf = rw (release-op (task g t) clock op job) refl
-    by_plugin plugins.CEdf = rw (release-op (task g t) clock op job) refl
-    by_plugin plugins.PsnEdf = rw (release-op (task g t) clock op job) refl
-    by_plugin plugins.PFp = refl
-    by_plugin plugins.PRes = refl
-
-leaves-not : (op : Op) → is_sleep op ≡ false → leaves (acts.Do op) replies.Done ≡ false
-leaves-not ops.Work h = refl
-leaves-not (ops.Lock r) h = refl
-leaves-not (ops.Unlock r) h = refl
-leaves-not (ops.Sleep n) h = cc
-leaves-not ops.NpOn h = refl
-leaves-not ops.NpOff h = refl
-leaves-not ops.End h = refl
-
-leaves-sleep : (op : Op) → is_sleep op ≡ true → leaves (acts.Do op) replies.Done ≡ true
-leaves-sleep (ops.Sleep n) h = refl
-leaves-sleep _ h = cc
-
-module _ (g : Group) (q t : ℕ) (op : Op) (past : Past) (s : GroupState) (can : CanBe g q (acts.Do op) past s) (runs_it : runs q past ≡ Some t) where
+module _ (g : Group) (q t : ℕ) (op : Op) (past : Past) (s : GroupState) (can : CanBe g q (acts.Do op) past s) (runs_it : runs q past ≡ Some t)
+    (plain : is_at_sem (acts.Do op) ≡ false) where
   abbrev after : Past
   after = with_act g q (acts.Do op) past
 
-  runs_kept : (cpu_of s.jobs.kept q).runs ≡ Some t
-  runs_kept = ap (λ (c : CpuFacts). c.runs) (can.at.jobs_are.cpus_are q can.inside) ∙ runs_it
+  quiet : sem_act (Acted (past_act g q (acts.Do op) past)) ≡ Neither
+  quiet = other_act_is_quiet g q (acts.Do op) past plain
 
   pub member : has t (tasks g) ≡ true
   member = (running g (rules_of g can.played.valid) can.at.reachable q t runs_it).member
 
-  job_is : job_of s.jobs.kept t ≡ job_facts t past
-  job_is = can.at.jobs_are.jobs_are t member
+  none-now : holds_none s t ≡ is_empty (holds g t past)
+  none-now = (holding_is_read g past can.played.valid can.at.reachable s.sems t member can.at.sems_are.locks).0
+
+  none-then : is_empty (holds g t after) ≡ holds_none s t
+  none-then = ap is_empty (holds-still g t (Acted (past_act g q (acts.Do op) past)) past quiet) ∙ sym none-now
+
+  runs_kept : (cpu_of s.jobs.kept q).runs ≡ Some t
+  runs_kept = ap (λ (c : CpuFacts). c.runs) (can.at.jobs_are.cpus_are q can.inside) ∙ runs_it
 
   -- the reply
-  pub op-answer : plain_reply op s.jobs.kept.clock (cpu_of s.jobs.kept q).worked (job_of s.jobs.kept t).np false true ≡ answer g q (acts.Do op) past
+  pub op-answer : plain_reply op s.jobs.kept.clock (cpu_of s.jobs.kept q).worked (job_of s.jobs.kept t).np false (holds_none s t) ≡ answer g q (acts.Do op) past
   op-answer =
-      plain-op g can.played op can.act_is_of t s.jobs.kept.clock (cpu_of s.jobs.kept q).worked (job_of s.jobs.kept t).np
+      plain-op g can.played op plain t s.jobs.kept.clock (cpu_of s.jobs.kept q).worked (job_of s.jobs.kept t).np (holds_none s t) (sem_facts g q (acts.Do op) past) (none-now ∙ rw runs_it refl)
       ∙ (rw runs_kept at (answer-read g q (acts.Do op) past s can))
 
   module _ (done : answer g q (acts.Do op) past ≡ replies.Done) where
-    none_held : is_empty (holds g t after) ≡ true
-    none_held = holds_none g can.played q (acts.Do op) past t runs_it
+    answered : IsAnswered g q t op past replies.Done (holds_none s t)
+    answered = record { runs_it = runs_it; answer_is = done; op_reply = refl; none_is = none-then }
 
-    operated : IsOperated g q t op past true
-    operated = subst (IsOperated g q t op past) none_held (operation_is_counted g q t op past runs_it (ap accepted done))
+    locks : KeepsLocks g after s.sems
+    locks = quiet_is_kept g (Acted (past_act g q (acts.Do op) past)) past can.played.valid (made-after g q (acts.Do op) past s can) s.sems quiet can.at.sems_are.locks
 
-    -- whether the job ends is read off what is kept
-    ends-read : is_end (task_in g.setup.tasks t) s.jobs.kept.clock op true (job_of s.jobs.kept t) ≡ is_end (task g t) (now past) op true (job_facts t past)
-    unfolding task
-    ends-read = rw (can.at.jobs_are.clock_is, job_is) refl
-
-    kept-is : has_acted g.setup.tasks q (acts.Do op) (answer g q (acts.Do op) past) true s.jobs.kept ≡ has_operated g.setup.tasks q t op replies.Done true s.jobs.kept
-    kept-is = ap (λ r. has_acted g.setup.tasks q (acts.Do op) r true s.jobs.kept) done ∙ ap (λ o. after_act g.setup.tasks q (acts.Do op) o replies.Done true s.jobs.kept) runs_kept
-
-    pub kept-then : IsKept g after (has_operated g.setup.tasks q t op replies.Done true s.jobs.kept)
-    kept-then = subst (IsKept g after) kept-is (kept-after g q (acts.Do op) past s can)
+    pub can-count-it : CanCount g.setup q t op replies.Done (holds_none s t) s
+    can-count-it = can-count g q t op past s can replies.Done (holds_none s t) answered s.sems locks refl
 
     others : (u : ℕ) → u == t ≡ false → SameLook g u past after
-    others u e = look-same g q u (acts.Do op) past (other_jobs_stay g past can.played.valid can.at.reachable q u (acts.Do op) (rw (done, runs_it) (rw e refl)))
+    others u e = look-same g can.played q u (acts.Do op) past can.at.reachable quiet (others-jobs g q t op past s can replies.Done (holds_none s t) answered u e)
 
-    runs-then : (b l : Bool) → is_some (past_act g q (acts.Do op) past).ended ≡ b → leaves (acts.Do op) replies.Done ≡ l → runs q after ≡ (if b || l then None else runs q past)
-    runs-then b l e f = ap (λ (c : CpuFacts). c.runs) (cpu_is_counted g q (acts.Do op) past).own ∙ rw (e, done, f) refl
-
-    -- the job goes on, and is awake
-    pub goes_on : (jobs : GroupJobs) → jobs.kept ≡ has_operated g.setup.tasks q t op replies.Done true s.jobs.kept
-        → is_end (task_in g.setup.tasks t) s.jobs.kept.clock op true (job_of s.jobs.kept t) ≡ false → is_sleep op ≡ false → IsAt g after (record s { jobs = jobs })
-    goes_on jobs jobs_are lasts awake =
-        let last : is_end (task g t) (now past) op true (job_facts t past) ≡ false = sym ends-read ∙ lasts in
-        let ended : (past_act g q (acts.Do op) past).ended ≡ None = operated.ended_is ∙ rw last refl in
-        let facts : job_facts t after ≡ op_done (now past) op (job_facts t past) = operated.facts_are ∙ rw last refl in
-        stays g q (acts.Do op) past s can (record s { jobs = jobs }) (subst (IsKept g after) (sym jobs_are) kept-then) refl refl
-        (runs-then false false (ap is_some ended) (leaves-not op awake)) (λ u. by_case (u == t) refl facts)
+    pub counted-at : IsAt g after (counted g.setup q t op (holds_none s t) s)
+    counted-at = by_case (is_over g.setup t op replies.Done (holds_none s t) s) refl
       where
-        own : job_facts t after ≡ op_done (now past) op (job_facts t past) → SameLook g t past after
-        own facts = record {
-          timer_same = ap (timer (now past) (task g t)) facts ∙ timer_stays (now past) (task g t) op (job_facts t past) awake;
-          ready_same = ap (is_ready (now past) (task g t)) facts ∙ ready-op (task g t) (now past) op (job_facts t past) awake;
-          key_same = ap (key_of g g.setup.plugin t) facts ∙ key-op g t (now past) op (job_facts t past);
-        }
-
-        by_case : {u : ℕ} → (b : Bool) → u == t ≡ b → job_facts t after ≡ op_done (now past) op (job_facts t past) → SameLook g u past after
-        by_case {u} true e facts = let same : t ≡ u = sym (eqb-true u t e) in subst (λ x. SameLook g x past after) same (own facts)
-        by_case {u} false e facts = others u e
-
-    -- the job has ended or sleeps: the processor runs nothing, and the task is looked at
-    pub leaves_off : (jobs : GroupJobs) → jobs.kept ≡ has_operated g.setup.tasks q t op replies.Done true s.jobs.kept → runs q after ≡ None
-        → IsAt g after (left_alone g.setup q t (record s { jobs = jobs }))
-    leaves_off jobs jobs_are idle =
-        let home : slice_index s.clusters.homes q ≡ cluster_with g q = can.at.homes_are.are q can.inside in
-        let s1 : GroupState = record s { jobs = jobs; clusters = changed_at (slice_index s.clusters.homes q) (left_by q) s.clusters } in
-        let changes : (k : KeptCluster) → cluster_at s.clusters (cluster_with g q) ≡ Some k → IsClusterAt g (cluster_with g q) past k → left_by q k ≡ record k { linked = with_run k.linked q (runs q after) } = λ k h is. rw idle refl in
-        settled g can.played (Acted (past_act g q (acts.Do op) past)) past (t ∷ []) s1
-        (between-act g q (acts.Do op) past s can (t ∷ []) s1 (subst (IsKept g after) (sym jobs_are) kept-then) refl refl
-        (between-run g q (acts.Do op) past s can s1.clusters (left_by q) (ap (λ c. changed_at c (left_by q) s.clusters) home) changes)
-        only apart)
-      where
-        only : (u : ℕ) → has u (t ∷ []) ≡ true → has u (tasks g) ≡ true
-        only u h = by_case (u == t) refl h
+        apart : (u : ℕ) → has u (t ∷ []) ≡ false → u == t ≡ false
+        apart u h = first (u == t) h
           where
-            by_case : (b : Bool) → u == t ≡ b → b || false ≡ true → has u (tasks g) ≡ true
-            by_case true e k = let same : u ≡ t = eqb-true u t e in rw same member
-            by_case false e k = cc
+            first : (b : Bool) → b || false ≡ false → b ≡ false
+            first true k = cc
+            first false k = refl
 
-        apart : (u : ℕ) → has u (t ∷ []) ≡ false → SameLook g u past after
-        apart u h = by_case (u == t) refl h
+        by_case : (b : Bool) → is_over g.setup t op replies.Done (holds_none s t) s ≡ b
+            → IsAt g after (if b then followed true g.setup q t [] (operated g.setup q t op replies.Done (holds_none s t) s) else operated g.setup q t op replies.Done (holds_none s t) s)
+        by_case true e =
+            rw e at (followed-at g q t op past s can replies.Done (holds_none s t) answered s.sems locks refl [] (λ u h. cc) (λ u h. others u (apart u h)))
+        by_case false e =
+            let lasts : is_end (task_in g.setup.tasks t) s.jobs.kept.clock op (holds_none s t) (job_of s.jobs.kept t) ≡ false = lasts-of g q t op past s can replies.Done (holds_none s t) answered e in
+            let awake : is_sleep op ≡ false = sym (leaves-sleep op) ∙ second (is_end (task_in g.setup.tasks t) s.jobs.kept.clock op (holds_none s t) (job_of s.jobs.kept t)) (leaves (acts.Do op) replies.Done) e in
+            stays g q (acts.Do op) past s can (operated g.setup q t op replies.Done (holds_none s t) s)
+            (kept-then g q t op past s can replies.Done (holds_none s t) answered)
+            (sems-on g q t op past s can replies.Done (holds_none s t) answered s.sems locks refl e)
+            refl refl (runs-then g q t op past s can replies.Done (holds_none s t) answered ∙ rw e refl) (λ u. look u (u == t) refl lasts awake)
           where
-            by_case : (b : Bool) → u == t ≡ b → b || false ≡ false → SameLook g u past after
-            by_case true e k = cc
-            by_case false e k = others u e
+            second : (a b : Bool) → a || b ≡ false → b ≡ false
+            second true b k = cc
+            second false b k = k
 
-    idle-ended : is_end (task_in g.setup.tasks t) s.jobs.kept.clock op true (job_of s.jobs.kept t) ≡ true → runs q after ≡ None
-    idle-ended h =
-        let last : is_end (task g t) (now past) op true (job_facts t past) ≡ true = sym ends-read ∙ h in
-        let ended : (past_act g q (acts.Do op) past).ended ≡ Some t = operated.ended_is ∙ rw last refl in
-        runs-then true (leaves (acts.Do op) replies.Done) (ap is_some ended) refl
-
-    idle-asleep : is_sleep op ≡ true → runs q after ≡ None
-    idle-asleep h = runs-then (is_some (past_act g q (acts.Do op) past).ended) true refl (leaves-sleep op h) ∙ either-way (is_some (past_act g q (acts.Do op) past).ended)
-      where
-        either-way : (b : Bool) → (if b || true then None else runs q past) ≡ None
-        either-way true = refl
-        either-way false = refl
-
-    -- either way the processor runs nothing
-    pub idle-over : is_end (task_in g.setup.tasks t) s.jobs.kept.clock op true (job_of s.jobs.kept t) || is_sleep op ≡ true → runs q after ≡ None
-    idle-over h = by_case (is_end (task_in g.setup.tasks t) s.jobs.kept.clock op true (job_of s.jobs.kept t)) refl h
-      where
-        by_case : (b : Bool) → is_end (task_in g.setup.tasks t) s.jobs.kept.clock op true (job_of s.jobs.kept t) ≡ b → b || is_sleep op ≡ true → runs q after ≡ None
-        by_case true e k = idle-ended e
-        by_case false e k = idle-asleep k
+            look : (u : ℕ) (b : Bool) → u == t ≡ b → is_end (task_in g.setup.tasks t) s.jobs.kept.clock op (holds_none s t) (job_of s.jobs.kept t) ≡ false
+                → is_sleep op ≡ false → SameLook g u past after
+            look u true k lasts awake =
+                let own = own-look g q t op past s can replies.Done (holds_none s t) answered lasts awake in
+                let same : t ≡ u = sym (eqb-true u t k) in
+                subst (λ x. SameLook g x past after) same (record {
+                  timer_same = own.0;
+                  standing = quiet-standing g can.played (Acted (past_act g q (acts.Do op) past)) past (made-after g q (acts.Do op) past s can) quiet t own.1 own.2;
+                })
+            look u false k lasts awake = others u k

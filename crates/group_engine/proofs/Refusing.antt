@@ -7,6 +7,7 @@ use Rattle.rt_history.specs.declared.Reply.TheVariants as replies
 use Rattle.rt_model.specs.Answers.{answer}
 use Rattle.rt_model.specs.Group.{Group}
 use Rattle.rt_model.specs.Past.{Past, accepted}
+use Rattle.rt_changes.proofs.SemActs.{other_act_is_quiet, refused_act_is_quiet}
 use Rattle.group_facts.specs.Facts.{cpu_facts}
 use Rattle.group_facts.specs.FactMoves.{AllStay, CountsNothing, with_act}
 use Rattle.group_facts.proofs.CpuSteps.{cpu_is_counted, refused_stays}
@@ -17,14 +18,14 @@ use Rattle.group_engine.proofs.ActMoves.{CanBe, all-stays}
 
 pub refused : (g : Group) (q : ℕ) (act : Act) (past : Past) (s : GroupState) → CanBe g q act past s → accepted (answer g q act past) ≡ false → IsAt g (with_act g q act past) s
 refused g q act past s can out =
-    all-stays g q act past s can (refused_stays g past can.played.valid can.at.reachable q act out) (rw out refl)
+    all-stays g q act past s can (refused_act_is_quiet g q act past out) (refused_stays g past can.played.valid can.at.reachable q act out) (rw out refl)
 
 tick-done : (g : Group) (q : ℕ) (past : Past) → answer g q acts.Tick past ≡ replies.Done
 unfolding answer
 tick-done g q past = refl
 
 pub ticked : (g : Group) (q : ℕ) (past : Past) (s : GroupState) → CanBe g q acts.Tick past s → (replies.Done ≡ answer g q acts.Tick past) × IsAt g (with_act g q acts.Tick past) s
-ticked g q past s can = (sym (tick-done g q past), all-stays g q acts.Tick past s can stay (rw (tick-done g q past) refl))
+ticked g q past s can = (sym (tick-done g q past), all-stays g q acts.Tick past s can (other_act_is_quiet g q acts.Tick past refl) stay (rw (tick-done g q past) refl))
   where
     nothing : CountsNothing g q acts.Tick past
     nothing = (others_count_nothing g q past).0

@@ -1,10 +1,11 @@
 -- The state after a move: the tasks that it touched are looked at, and the links are placed anew.
-use Rattle.std.proofs.Common.{◌≡◌, ℕ, ◌+◌, Bool, true, List, [], ◌∷◌, length, refl, set, length-set, sym, ap, ◌∙◌, subst}
-use Rattle.std.specs.Prelude.{Option, Some, option_map}
+use Rattle.std.proofs.Common.{◌≡◌, ℕ, ◌+◌, Bool, true, not, ◌&&◌, List, [], ◌∷◌, length, refl, set, length-set, sym, ap, ◌∙◌, subst}
+use Rattle.std.specs.Prelude.{Option, None, Some, is_none, is_some, option_map}
 use Rattle.rt_order.specs.declared.Key.{Key}
 use Rattle.rt_rules.specs.Numbers.{has}
 use Rattle.rt_model.specs.EffectiveKeys.{effective_key}
 use Rattle.rt_model.specs.Group.{Group, clusters, cpus, first_cpu, task, tasks, tasks_of}
+use Rattle.rt_model.specs.Holders.{awaits}
 use Rattle.rt_model.specs.Links.{links, runs_of}
 use Rattle.rt_model.specs.Past.{Event, Past, now}
 use Rattle.rt_model.specs.Reachable.{IsReachable}
@@ -20,19 +21,24 @@ use Rattle.rank_changes.proofs.SameClusters.{links-stay, ranking-same}
 use Rattle.group_facts.specs.Facts.{job_facts}
 use Rattle.group_facts.specs.Kept.{IsKept}
 use Rattle.group_facts.specs.Timers.{TimersAreKept, renewed, timer_at}
-use Rattle.group_facts.specs.Words.{is_ready, key_of}
+use Rattle.group_facts.specs.Words.{is_ready}
 use Rattle.group_facts.proofs.TimerMoves.{timer_is_read}
 use Rattle.cluster_table.specs.Clusters.{KeptCluster, relinked}
 use Rattle.cluster_table.specs.Table.{Table, cluster_at}
 use Rattle.cluster_table.proofs.FirstTasks.{first_tasks-holds}
 use Rattle.cluster_table.proofs.RowLaws.{at-relinked}
 use Rattle.group_jobs.specs.GroupJobs.{task_in}
+use Rattle.prio_inherit.specs.Waits as kept_keys
+use Rattle.sem_table.specs.Told.{awaits_of}
+use Rattle.group_sems.specs.GroupSems.{GroupSems}
+use Rattle.group_sem_laws.specs.Kept.{KeepsGroupSems, KeepsWaits}
+use Rattle.group_engine.proofs.SemLaws.{holding_is_read, key_is_read}
 use Rattle.group_engine.specs.declared.state.GroupState.{GroupState}
 use Rattle.group_engine.specs.Moments.{IsPlayed}
 use Rattle.group_engine.specs.State.{AreHomes, HasClusterAt, IsAt, IsWithin}
 use Rattle.group_engine.specs.Touching.{all_brought_up, key_now, placed_all, timer_now}
-use Rattle.group_engine.proofs.Bringing.{cluster-brought, homes-brought, jobs-brought, keys-refreshed, renewed-same, timers-brought}
-use Rattle.group_engine.proofs.Reading.{effective-read, eligible-ready, key_of-any}
+use Rattle.group_engine.proofs.Bringing.{cluster-brought, homes-brought, jobs-brought, sems-brought, keys-refreshed, renewed-same, timers-brought}
+use Rattle.group_engine.proofs.Reading.{eligible-ready}
 
 -- ---- the top of a cluster is the first of the tasks that its set holds
 
@@ -61,22 +67,33 @@ pub record IsBetween (g : Group) (e : Event) (past : Past) (us : List ℕ) (s : 
   pub reachable : IsReachable g (e ∷ past)
   pub within : IsWithin (e ∷ past)
   pub jobs_are : IsKept g (e ∷ past) s.jobs.kept
+  pub sems_are : KeepsGroupSems g (e ∷ past) s.sems
   pub timers_are : TimersAreKept g (e ∷ past) (renewed (timer_at g (e ∷ past)) us s.timers)
   pub homes_are : AreHomes g s.clusters.homes
   pub clusters_are : (c : ℕ) → has c (clusters g) ≡ true → HasClusterBetween g c e past s.clusters
   pub inside : (t : ℕ) → has t us ≡ true → has t (tasks g) ≡ true
   pub others : (c : ℕ) → SameBut g c us past (e ∷ past)
 
+not-some : (o : Option ℕ) → not (is_some o) ≡ is_none o
+not-some None = refl
+not-some (Some x) = refl
+
+-- the keys that are kept
+pub waits-kept : (g : Group) (past : Past) (v : GroupSems) → KeepsGroupSems g past v → KeepsWaits g past v.waits
+waits-kept g past v kept = record { bases_are = kept.bases; nexts_are = kept.locks.nexts_are; boosts_are = kept.locks.boosts_are }
+
 -- what is kept of a task is its key at the past, where it is eligible
-pub key-kept : (g : Group) → IsPlayed g → (past : Past) (s : GroupState) → IsKept g past s.jobs.kept → (t : ℕ) → has t (tasks g) ≡ true
-    → key_now g.setup s.jobs.kept t ≡ kept_key (λ u. effective_key g u past) (λ u. eligible g u past) t
+pub key-kept : (g : Group) → IsPlayed g → (past : Past) → IsReachable g past → (s : GroupState) → IsKept g past s.jobs.kept → KeepsGroupSems g past s.sems
+    → (t : ℕ) → has t (tasks g) ≡ true
+    → key_now g.setup s.jobs.kept s.sems t ≡ kept_key (λ u. effective_key g u past) (λ u. eligible g u past) t
 unfolding task
-key-kept g played past s kept t h =
+key-kept g played past made s kept sems t h =
     let job = kept.jobs_are t h in
     let clock = kept.clock_is in
-    let key : key_of g g.setup.plugin t (job_facts t past) ≡ effective_key g t past = sym (effective-read g played past t) in
-    let test : is_ready (now past) (task_in g.setup.tasks t) (job_facts t past) ≡ eligible g t past = sym (eligible-ready g played past t) in
-    rw (clock, job) (rw (key_of-any g g.setup.plugin t (job_facts t past)) (rw (key, test) refl))
+    let key : kept_keys.effective_key s.sems.waits t ≡ effective_key g t past = key_is_read g past played.valid made s.sems.waits t h (waits-kept g past s.sems sems) in
+    let waits : not (is_some (awaits_of s.sems.table t)) ≡ is_none (awaits g t past) = ap not (holding_is_read g past played.valid made s.sems t h sems.locks).1 ∙ not-some (awaits g t past) in
+    let test : is_ready (now past) (task_in g.setup.tasks t) (job_facts t past) && is_none (awaits g t past) ≡ eligible g t past = sym (eligible-ready g played past t) in
+    rw (clock, job, waits, key, test) refl
 
 pub timer-kept : (g : Group) (past : Past) (s : GroupState) → IsKept g past s.jobs.kept → (t : ℕ) → has t (tasks g) ≡ true → timer_now g.setup s.jobs.kept t ≡ timer_at g past t
 unfolding task
@@ -97,7 +114,7 @@ module _ (g : Group) (played : IsPlayed g) (e : Event) (past : Past) (us : List 
   cluster-settled c was =
       let k : KeptCluster = was.cluster in
       let keys : List (Option Key) = set_refreshed (λ u. effective_key g u (e ∷ past)) (λ u. eligible g u (e ∷ past)) (of_cluster g c us) k.keys in
-      let keys_same = keys-refreshed g c s.jobs.kept (λ u. effective_key g u (e ∷ past)) (λ u. eligible g u (e ∷ past)) us k.keys (λ u h. (between.inside u h, key-kept g played (e ∷ past) s between.jobs_are u (between.inside u h))) in
+      let keys_same = keys-refreshed g c s.jobs.kept s.sems (λ u. effective_key g u (e ∷ past)) (λ u. eligible g u (e ∷ past)) us k.keys (λ u h. (between.inside u h, key-kept g played (e ∷ past) between.reachable s between.jobs_are between.sems_are u (between.inside u h))) in
       let next : KeptCluster = record k { keys = keys } in
       let brought : cluster_at (all_brought_up g.setup us s).clusters c ≡ Some next = cluster-brought g.setup us s c k was.there ∙ ap (λ ks. let x : KeptCluster = record k { keys = ks } in Some x) keys_same in
       let holds : HoldsEligible g c (e ∷ past) keys = set_after_move g c us past (e ∷ past) k.keys (between.others c) was.is_between.keys_are in
@@ -122,6 +139,7 @@ module _ (g : Group) (played : IsPlayed g) (e : Event) (past : Past) (us : List 
     reachable = between.reachable;
     within = between.within;
     jobs_are = rw (jobs-brought g.setup us s) between.jobs_are;
+    sems_are = rw (sems-brought g.setup us s) between.sems_are;
     timers_are = timers-settled;
     homes_are = rw (homes-brought g.setup us s) between.homes_are;
     clusters_are = λ c h. cluster-settled c (between.clusters_are c h);
@@ -135,6 +153,7 @@ unmoved g e past s between still made = record {
   reachable = between.reachable;
   within = between.within;
   jobs_are = between.jobs_are;
+  sems_are = between.sems_are;
   timers_are = between.timers_are;
   homes_are = between.homes_are;
   clusters_are = λ c h. at c (between.clusters_are c h) (still c h);

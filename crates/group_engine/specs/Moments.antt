@@ -1,29 +1,29 @@
 -- The moments between moves of a group, and what moves rest on.
-use Rattle.std.specs.Prelude.{◌≡◌, ℕ, ◌<◌, ◌∷◌, true, Some}
+use Rattle.std.specs.Prelude.{◌≡◌, ℕ, ◌<◌, ◌∷◌, true, false, Some}
 use Rattle.rt_base.specs.declared.TheConstants.{MOST_STEPS, TICK_END}
 use Rattle.rt_task.specs.declared.Act.{Act}
 use Rattle.rt_task.specs.declared.Act.TheVariants as acts
 use Rattle.rt_task.specs.declared.Op.{Op}
 use Rattle.rt_task.specs.declared.Parts.{Parts}
+use Rattle.rt_task.specs.RuleWords.{is_p_res}
 use Rattle.rt_task.specs.Validity.{IsValid}
 use Rattle.rt_history.specs.declared.Reply.{Reply}
 use Rattle.rt_model.specs.Answers.{answer}
 use Rattle.rt_rules.specs.Numbers.{has}
-use Rattle.rt_model.specs.Group.{Group, clusters}
+use Rattle.rt_model.specs.Group.{Group, clusters, sems, users}
 use Rattle.rt_model.specs.Outcomes.{past_act}
 use Rattle.rt_model.specs.Past.{Acted, Past, entries_in}
 use Rattle.rt_model.specs.Runs.{runs}
 use Rattle.rt_model.specs.Steps.{IsActOf}
 use Rattle.rt_plays.specs.Homes.{IsProcessorOf}
-use Rattle.rt_groups.specs.Built.{is_built}
 use Rattle.rt_groups.specs.Groups.{IsGroupOf}
 use Rattle.group_engine.specs.declared.state.GroupState.{GroupState}
 use Rattle.group_engine.specs.State.{IsAt}
 
--- a group of a valid set that is played
+-- a group of a valid set that is played: one without reservations
 pub record IsPlayed (g : Group) : Type 0 where
   pub valid : IsValid g.setup
-  pub built : is_built g.setup ≡ true
+  pub unreserved : is_p_res g.setup.plugin ≡ false
   pub is_there : IsGroupOf g.setup g.number
 
 pub record Moment : Type 0 where
@@ -66,3 +66,7 @@ CanLook cpu s = (at : Moment) × IsAt at.group at.past s × IsProcessorOf at.gro
 -- the cluster is one of a moment's group
 abbrev pub CanLend : ℕ → GroupState → Type 0
 CanLend c s = (at : Moment) × IsAt at.group at.past s × (has c (clusters at.group) ≡ true)
+
+-- a task of the group declares the semaphore
+abbrev pub IsDeclared : Group → ℕ → Type 0
+IsDeclared g s = (has s (sems g) ≡ true) × ((u : ℕ) × (has u (users g s) ≡ true))

@@ -1,5 +1,5 @@
 //! The engine of one group: its history, kept step by step.
-ghost use Rattle.std.specs.Prelude.{◌≡◌, ◌<◌, ◌≤◌, ◌+◌, [], IfOk, IfSome, IsSome, true, length};
+ghost use Rattle.std.specs.Prelude.{◌≡◌, ◌<◌, ◌≤◌, ◌+◌, [], IfOk, true, false, length};
 ghost use Rattle.rt_base.specs.TaskNos.{number_of_task};
 ghost use Rattle.rt_base.specs.declared.TheConstants.{MOST_STEPS};
 ghost use Rattle.rt_rules.specs.Numbers.{has};
@@ -7,16 +7,20 @@ ghost use Rattle.rt_model.specs.Group.{clusters};
 ghost use Rattle.rt_model.specs.Runs.{runs};
 ghost use Rattle.rt_model.specs.Links.{linked};
 ghost use Rattle.rt_model.specs.Histories.{reply_to};
+ghost use Rattle.rt_model.specs.Holders.{holder};
+ghost use Rattle.rt_task.specs.RuleWords.{is_p_res};
+ghost use Rattle.group_engine.specs.Keys.{HoldsKeys};
+ghost use Rattle.group_engine.specs.Moments.{IsDeclared};
 ghost use Rattle.rt_model.specs.Steps.{IsStepOf};
 ghost use Rattle.rt_plays.specs.Homes.{IsProcessorOf};
 ghost use Rattle.rank_changes.specs.Clusters.{HoldsEligible};
-ghost use Rattle.rt_groups.specs.Built.{is_built};
 ghost use Rattle.rt_groups.specs.Groups.{GroupHistory, group_of, past, with_entry, AreStepsOf, IsGroupOf, IsLegalNow};
 
 use crate::room::put;
 use crate::state::GroupState;
 use ready_heap::ReadyHeap;
-use rt_base::{ClusterNo, CpuNo, GroupNo, NoMemory, TaskNo};
+use prio_inherit::Inherit;
+use rt_base::{ClusterNo, CpuNo, GroupNo, NoMemory, SemNo, TaskNo};
 use rt_history::{Entry, Reply};
 use rt_order::ByKey;
 use rt_task::{Setup, Step};
@@ -59,12 +63,12 @@ impl Engine {
     pub fn open(alloc: Global, setup: &Setup, group: GroupNo, room: u32) -> Result<Engine, NoMemory>
         requires group { IsGroupOf setup.now group.0 }
         requires room { room ≤ MOST_STEPS }
-        requires built { is_built setup.now ≡ true }
+        requires unreserved { is_p_res setup.now.plugin ≡ false }
         ensures { IfOk result (λ e. e
             ≡ record { setup = setup.now; group = group.0; entries = []; spare = room }) }
     {
         let setup = setup.share()?;
-        let state = GroupState::open(alloc, setup.parts(), group, room)?;
+        let state = GroupState::open(alloc, &setup, group, room)?;
         let Ok(entries) = Vec::with_capacity(alloc, room as usize) else {
             return Err(NoMemory);
         };
@@ -116,6 +120,21 @@ impl Engine {
         ensures { HoldsEligible (group_of self.now) cluster.0 (past self.now) result.now.keys }
     {
         self.state.ready(cluster)
+    }
+
+    /// The task that holds the semaphore, which a task of the group declares.
+    pub fn holder(&self, sem: SemNo) -> Option<TaskNo>
+        requires { IsDeclared (group_of self.now) sem.0 }
+        ensures { number_of_task result ≡ holder (group_of self.now) sem.0 (past self.now) }
+    {
+        self.state.holder(sem)
+    }
+
+    /// The keys of the tasks of the group: of each the base key was told, and `Inherit::key` is its effective key.
+    pub fn keys(&self) -> &Inherit
+        ensures { HoldsKeys (group_of self.now) (past self.now) result.now }
+    {
+        self.state.keys()
     }
 
     /// Takes a step of the group: the clock moves to its tick, if that is later, and then the act is answered.

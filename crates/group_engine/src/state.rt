@@ -1,5 +1,5 @@
 //! What the engine keeps of its group, and what each move makes of it.
-ghost use Rattle.std.specs.Prelude.{◌≡◌, ◌||◌, ℕ, List, ◌+◌, ◌<◌, ◌≤◌, ◌∷◌, [], All, IfOk, length, slice_set, true};
+ghost use Rattle.std.specs.Prelude.{◌≡◌, ◌||◌, false, ℕ, List, ◌+◌, ◌<◌, ◌≤◌, ◌∷◌, [], All, IfOk, length, slice_set, true};
 ghost use Rattle.rt_base.specs.TaskNos.{number_of_task};
 ghost use Rattle.rt_base.specs.declared.TheConstants.{MOST_STEPS};
 ghost use Rattle.rt_task.specs.declared.Task.{Task};
@@ -7,30 +7,38 @@ ghost use Rattle.rt_rules.specs.Numbers.{has};
 ghost use Rattle.rt_model.specs.Group.{clusters, tasks};
 ghost use Rattle.rt_model.specs.Links.{linked};
 ghost use Rattle.rt_model.specs.Past.{Clock, accepted};
-ghost use Rattle.rt_model.specs.Runs.{runs};
+ghost use Rattle.rt_model.specs.Runs.{leaves, runs};
 ghost use Rattle.rt_plays.specs.Homes.{IsProcessorOf};
 ghost use Rattle.rt_plays.specs.Plays.{group_with};
 ghost use Rattle.rank_changes.specs.Clusters.{HoldsEligible};
-ghost use Rattle.group_facts.specs.Timers.{AreDue, is_sleep};
-ghost use Rattle.group_engine.specs.Moments.{CanAct, CanActOn, CanLend, CanLook, CanMove, CanOperate, HasActed, IsPlayed, Moment};
+ghost use Rattle.rt_model.specs.Holders.{holder};
+ghost use Rattle.rt_rules.specs.Placing.{tasks_in};
+ghost use Rattle.rt_changes.specs.SemActs.{is_at_sem};
+ghost use Rattle.group_facts.specs.Timers.{AreDue};
+ghost use Rattle.group_sems.specs.Locking.{CanLock};
+ghost use Rattle.group_engine.specs.Moments.{CanAct, CanActOn, CanLend, CanLook, CanMove, CanOperate, HasActed, IsDeclared, IsPlayed, Moment};
+ghost use Rattle.group_engine.specs.Asking.{asked_for, asked_reply, lock_refused, CanAskFor};
 ghost use Rattle.group_engine.specs.State.{IsAt};
-ghost use Rattle.group_engine.specs.Touching.{AreArmedOnly, CanBringUp, CanBringUpAll, CanLeave, all_brought_up, brought_up, key_now, left_alone, timer_now};
+ghost use Rattle.group_engine.specs.Touching.{AreArmedOnly, AreNumbered, CanBase, CanBaseAll, CanBringUp, CanBringUpAll, CanCount, CanQuit, after_sem, all_based, all_brought_up, base_now, based, brought_up, counted, holds_none, key_now, operated, quitted, quitted_if, timer_now, touched_at};
 
 use cluster_table::ClusterTable;
 use group_jobs::GroupJobs;
+use group_sems::GroupSems;
+use prio_inherit::Inherit;
 use ready_heap::ReadyHeap;
 use release_queue::ReleaseQueue;
-use rt_base::{ClusterNo, CpuNo, GroupNo, MOST_CPUS, NoMemory, TaskNo, Tick};
+use rt_base::{Ask, ClusterNo, CpuNo, GroupNo, MOST_CPUS, NoMemory, SemNo, TaskNo, Tick};
 use rt_history::Reply;
 use rt_order::{ByKey, Key};
-use rt_task::{Act, Op, Parts};
+use rt_task::{Act, Op, Parts, Setup};
 use std::alloc::Global;
 
-/// The jobs of a group's tasks and what its processors run; the moments that tasks wait for; and of each cluster the
-/// eligible tasks by key, and the links.
+/// The jobs of a group's tasks and what its processors run; the semaphores, and the keys of the tasks; the moments that
+/// tasks wait for; and of each cluster the eligible tasks by key, and the links.
 #[derive(Drop)]
 pub(crate) struct GroupState {
     jobs: GroupJobs,
+    sems: GroupSems,
     timers: ReleaseQueue,
     clusters: ClusterTable,
 }
@@ -39,30 +47,48 @@ impl GroupState {
     /// The state at opening, with room for so many arrivals.
     pub(crate) fn open(
         alloc: Global,
-        parts: &Parts,
+        setup: &Setup,
         group: GroupNo,
         room: u32,
     ) -> Result<GroupState, NoMemory>
-        requires { IsPlayed (group_with parts.now group.0) }
-        ensures at { IfOk result (λ s. IsAt (group_with parts.now group.0) [] s) }
+        requires { IsPlayed (group_with setup.now group.0) }
+        ensures at { IfOk result (λ s. IsAt (group_with setup.now group.0) [] s) }
         ensures room { IfOk result (λ s. s.jobs.room ≡ room) }
     {
+        let parts = setup.parts();
         let count = parts.tasks.as_slice().len() as u32;
         let mut state = GroupState {
             jobs: GroupJobs::open(alloc, count, MOST_CPUS, room)?,
+            sems: GroupSems::open(alloc, setup, group)?,
             timers: ReleaseQueue::new(alloc, count + 1)?,
             clusters: ClusterTable::open(alloc, parts.clusters.as_slice(), group, count + 1)?,
         };
+        state.tell_bases(parts, group);
         state.bring_up_group(parts, group);
         state.clusters.place_changed();
         Ok(state)
+    }
+
+    /// Tells the base keys of all tasks of the group.
+    fn tell_bases(&mut self, parts: &Parts, group: GroupNo)
+        requires within { All (λ (t : Task). t.cluster.0 < length parts.now.clusters)
+            parts.now.tasks }
+        requires can { CanBaseAll parts.now (tasks (group_with parts.now group.0)) self.old }
+        ensures { self.new ≡ all_based parts.now (tasks (group_with parts.now group.0)) self.old }
+    {
+        for task in parts.tasks.as_slice() {
+            let home = task.cluster.0 as usize;
+            if parts.clusters.as_slice()[home].group.0 == group.0 {
+                self.tell_base(parts, task.number);
+            }
+        }
     }
 
     /// Looks at all tasks of the group.
     fn bring_up_group(&mut self, parts: &Parts, group: GroupNo)
         requires within { All (λ (t : Task). t.cluster.0 < length parts.now.clusters)
             parts.now.tasks }
-        requires can { CanBringUpAll parts.now (tasks (group_with parts.now group.0)) self.old }
+        requires can { AreNumbered parts.now (tasks (group_with parts.now group.0)) self.old }
         ensures { self.new
             ≡ all_brought_up parts.now (tasks (group_with parts.now group.0)) self.old }
     {
@@ -106,16 +132,40 @@ impl GroupState {
         }
     }
 
+    /// The task that holds the semaphore, which a task of the group declares.
+    pub(crate) fn holder(&self, sem: SemNo) -> Option<TaskNo>
+        ensures { (at : Moment) → IsPlayed at.group → IsAt at.group at.past self.now
+            → IsDeclared at.group sem.0 → number_of_task result ≡ holder at.group sem.0 at.past }
+    {
+        self.sems.holder(sem)
+    }
+
+    /// The table of keys.
+    pub(crate) fn keys(&self) -> &Inherit
+        ensures { result.now ≡ self.now.sems.waits }
+    {
+        self.sems.keys()
+    }
+
     /// The key of the task's job, where that is eligible.
     fn key(&self, parts: &Parts, task: TaskNo) -> Option<Key>
         requires { CanBringUp parts.now task.0 self.now }
-        ensures { result ≡ key_now parts.now self.now.jobs.kept task.0 }
+        ensures { result ≡ key_now parts.now self.now.jobs.kept self.now.sems task.0 }
     {
-        if self.jobs.is_ready(parts.tasks.as_slice(), task) {
-            Some(self.jobs.base_key(parts, task))
+        if self.jobs.is_ready(parts.tasks.as_slice(), task) && !self.sems.waits(task) {
+            Some(self.sems.key(task))
         } else {
             None
         }
+    }
+
+    /// Tells the base key of the task's job.
+    fn tell_base(&mut self, parts: &Parts, task: TaskNo)
+        requires { CanBase parts.now task.0 self.old }
+        ensures { self.new ≡ based parts.now task.0 self.old }
+    {
+        let key = self.jobs.base_key(parts, task);
+        self.sems.base(task, key);
     }
 
     /// Arms the task's timer for the moment that its job waits for, if any, and for no other.
@@ -195,40 +245,196 @@ impl GroupState {
         let reply = self.jobs.arrival_reply(parts.tasks.as_slice(), task);
         if is_accepted(reply) {
             self.jobs.arrive(task);
+            self.tell_base(parts, task);
             self.bring_up(parts, task);
             self.clusters.place_changed();
         }
         reply
     }
 
-    /// The processor runs nothing from now on, since the job that it ran has ended or sleeps; its task is looked at, and
-    /// the links follow.
-    fn leave(&mut self, parts: &Parts, cpu: CpuNo, task: TaskNo)
-        requires { CanLeave parts.now cpu.0 task.0 self.old }
-        ensures { self.new ≡ left_alone parts.now cpu.0 task.0 self.old }
+    /// The processor runs nothing from now on, since the job that it ran has ended or sleeps, or its task waits; the base
+    /// key of the task's next job is told.
+    fn quit(&mut self, parts: &Parts, cpu: CpuNo, task: TaskNo)
+        requires { CanQuit parts.now cpu.0 task.0 self.old }
+        ensures { self.new ≡ quitted parts.now cpu.0 task.0 self.old }
     {
         let home = self.clusters.home(cpu);
         self.clusters.leave(home, cpu);
-        self.bring_up(parts, task);
-        self.clusters.place_changed();
+        self.tell_base(parts, task);
     }
 
-    /// An operation of the task that the processor runs.
+    fn quit_if(&mut self, over: bool, parts: &Parts, cpu: CpuNo, task: TaskNo)
+        requires { CanQuit parts.now cpu.0 task.0 self.old }
+        ensures { self.new ≡ quitted_if over parts.now cpu.0 task.0 self.old }
+    {
+        if over {
+            self.quit(parts, cpu, task);
+        }
+    }
+
+    /// Looks at the task, if there is one.
+    fn bring_up_any(&mut self, parts: &Parts, task: Option<TaskNo>)
+        requires { CanBringUpAll parts.now (tasks_in (number_of_task task ∷ [])) self.old }
+        ensures { self.new
+            ≡ all_brought_up parts.now (tasks_in (number_of_task task ∷ [])) self.old }
+    {
+        if let Some(task) = task {
+            self.bring_up(parts, task);
+        }
+    }
+
+    /// Looks at these tasks, if they are there.
+    fn bring_up_three(
+        &mut self,
+        parts: &Parts,
+        a: Option<TaskNo>,
+        b: Option<TaskNo>,
+        c: Option<TaskNo>,
+    )
+        requires { let all = number_of_task a ∷ number_of_task b ∷ number_of_task c ∷ [] in
+            CanBringUpAll parts.now (tasks_in all) self.old }
+        ensures { let all = number_of_task a ∷ number_of_task b ∷ number_of_task c ∷ [] in
+            self.new ≡ all_brought_up parts.now (tasks_in all) self.old }
+    {
+        self.bring_up_any(parts, a);
+        self.bring_up_any(parts, b);
+        self.bring_up_any(parts, c);
+    }
+
+    /// Counts an accepted operation but Lock and Unlock of the task that the processor runs. Where that ends its job, or
+    /// is a Sleep, the processor runs nothing, and the task is looked at.
+    fn count(&mut self, parts: &Parts, cpu: CpuNo, task: TaskNo, op: Op)
+        requires { CanCount parts.now cpu.0 task.0 op Reply.Done (holds_none self.old task.0) self.old }
+        ensures { self.new ≡ counted parts.now cpu.0 task.0 op (holds_none self.old task.0) self.old }
+    {
+        let none = self.sems.holds_none(task);
+        let tasks = parts.tasks.as_slice();
+        let ends = self.jobs.operate(tasks, cpu, task, op, Reply::Done, none);
+        if leaves_processor(op, Reply::Done, ends) {
+            self.quit(parts, cpu, task);
+            self.bring_up(parts, task);
+            self.clusters.place_changed();
+        }
+    }
+
+    /// An operation but Lock and Unlock of the task that the processor runs.
     fn operate(&mut self, parts: &Parts, cpu: CpuNo, task: TaskNo, op: Op) -> Reply
-        requires { (at : Moment) × CanOperate at cpu.0 task.0 op parts.now self.old }
+        requires plain { is_at_sem (Act.Do op) ≡ false }
+        requires at { (at : Moment) × CanOperate at cpu.0 task.0 op parts.now self.old }
         ensures acted { (at : Moment) → CanOperate at cpu.0 task.0 op parts.now self.old
             → HasActed at cpu.0 (Act.Do op) result self.new }
         ensures room { self.new.jobs.room ≡ self.old.jobs.room }
     {
-        let reply = self.jobs.op_reply(cpu, task, op, false, true);
+        let none = self.sems.holds_none(task);
+        let reply = self.jobs.op_reply(cpu, task, op, false, none);
         if is_accepted(reply) {
-            let tasks = parts.tasks.as_slice();
-            let ends = self.jobs.operate(tasks, cpu, task, op, reply, true);
-            if is_over(op, ends) {
-                self.leave(parts, cpu, task);
-            }
+            self.count(parts, cpu, task, op);
         }
         reply
+    }
+
+    /// Counts an accepted Lock or Unlock of the task that the processor runs, once the semaphores have changed. The task,
+    /// the owners of the semaphore before and after, and the task that was served are looked at.
+    fn follow(
+        &mut self,
+        parts: &Parts,
+        cpu: CpuNo,
+        task: TaskNo,
+        op: Op,
+        reply: Reply,
+        sem: SemNo,
+        before: Option<TaskNo>,
+        served: Option<TaskNo>,
+    )
+        requires count { CanCount parts.now cpu.0 task.0 op reply (holds_none self.old task.0) self.old }
+        requires looks { let us = touched_at self.old sem.0 (number_of_task before) (number_of_task served) in
+            let next = operated parts.now cpu.0 task.0 op reply (holds_none self.old task.0) self.old in
+            CanBringUpAll parts.now us next }
+        ensures { self.new
+            ≡ after_sem parts.now cpu.0 task.0 op reply sem.0 (number_of_task before) (number_of_task served) self.old }
+    {
+        let none = self.sems.holds_none(task);
+        let tasks = parts.tasks.as_slice();
+        let ends = self.jobs.operate(tasks, cpu, task, op, reply, none);
+        self.quit_if(leaves_processor(op, reply, ends), parts, cpu, task);
+        self.bring_up(parts, task);
+        self.bring_up_three(parts, before, self.sems.owner(sem), served);
+        self.clusters.place_changed();
+    }
+
+    /// Why the task's Lock is refused: its job is non-preemptive, or the semaphores refuse it.
+    fn lock_refusal(&self, parts: &Parts, task: TaskNo, sem: SemNo) -> Option<Reply>
+        requires { CanAskFor parts.now task.0 sem.0 self.now }
+        ensures { result ≡ lock_refused parts.now task.0 sem.0 self.now }
+    {
+        if self.jobs.is_non_preemptive(task) {
+            Some(Reply::InNp)
+        } else {
+            self.sems.lock_refusal(parts, task, sem)
+        }
+    }
+
+    /// The task asks for the semaphore, which is not refused.
+    fn ask(&mut self, parts: &Parts, task: TaskNo, sem: SemNo) -> Reply
+        requires base { CanBase parts.now task.0 self.old }
+        requires can { CanLock parts.now task.0 (base_now parts.now self.old.jobs.kept task.0) sem.0
+            self.old.sems }
+        ensures asked { self.new ≡ asked_for parts.now task.0 sem.0 self.old }
+        ensures reply { result ≡ asked_reply parts.now task.0 sem.0 self.old }
+    {
+        let clock = Tick(self.jobs.clock());
+        let key = self.jobs.base_key(parts, task);
+        match self.sems.lock(parts, clock, task, key, sem) {
+            Ask::Granted => Reply::Granted,
+            Ask::Queued => Reply::Queued,
+        }
+    }
+
+    /// A Lock of the task that the processor runs.
+    fn lock(&mut self, parts: &Parts, cpu: CpuNo, task: TaskNo, sem: SemNo) -> Reply
+        requires at { (at : Moment) × CanOperate at cpu.0 task.0 (Op.Lock sem) parts.now self.old }
+        ensures acted { (at : Moment) → CanOperate at cpu.0 task.0 (Op.Lock sem) parts.now self.old
+            → HasActed at cpu.0 (Act.Do (Op.Lock sem)) result self.new }
+        ensures room { self.new.jobs.room ≡ self.old.jobs.room }
+    {
+        if let Some(refusal) = self.lock_refusal(parts, task, sem) {
+            return refusal;
+        }
+        let before = self.sems.owner(sem);
+        let reply = self.ask(parts, task, sem);
+        self.follow(parts, cpu, task, Op::Lock(sem), reply, sem, before, None);
+        reply
+    }
+
+    /// An Unlock of the task that the processor runs.
+    fn unlock(&mut self, parts: &Parts, cpu: CpuNo, task: TaskNo, sem: SemNo) -> Reply
+        requires at { (at : Moment) × CanOperate at cpu.0 task.0 (Op.Unlock sem) parts.now self.old }
+        ensures acted { (at : Moment) → CanOperate at cpu.0 task.0 (Op.Unlock sem) parts.now self.old
+            → HasActed at cpu.0 (Act.Do (Op.Unlock sem)) result self.new }
+        ensures room { self.new.jobs.room ≡ self.old.jobs.room }
+    {
+        if let Some(refusal) = self.sems.unlock_refusal(parts, task, sem) {
+            return refusal;
+        }
+        let before = self.sems.owner(sem);
+        let clock = Tick(self.jobs.clock());
+        let served = self.sems.unlock(parts, clock, task, sem);
+        self.follow(parts, cpu, task, Op::Unlock(sem), Reply::Done, sem, before, served);
+        Reply::Done
+    }
+
+    /// An operation of the task that the processor runs.
+    fn act_of(&mut self, parts: &Parts, cpu: CpuNo, task: TaskNo, op: Op) -> Reply
+        requires at { (at : Moment) × CanOperate at cpu.0 task.0 op parts.now self.old }
+        ensures acted { (at : Moment) → CanOperate at cpu.0 task.0 op parts.now self.old
+            → HasActed at cpu.0 (Act.Do op) result self.new }
+        ensures room { self.new.jobs.room ≡ self.old.jobs.room }
+    {
+        match op {
+            Op::Lock(sem) => self.lock(parts, cpu, task, sem),
+            Op::Unlock(sem) => self.unlock(parts, cpu, task, sem),
+            _ => self.operate(parts, cpu, task, op),
+        }
     }
 
     /// An act of the processor, once the clock has moved.
@@ -245,7 +451,7 @@ impl GroupState {
             Act::Arrive(task) => self.arrive(parts, cpu, task),
             Act::Do(op) => match self.jobs.runs(cpu) {
                 None => Reply::Idle,
-                Some(task) => self.operate(parts, cpu, task, op),
+                Some(task) => self.act_of(parts, cpu, task, op),
             },
         }
     }
@@ -261,9 +467,14 @@ fn is_accepted(reply: Reply) -> bool
     )
 }
 
-/// Whether an operation that ended its job or not leaves its processor with nothing to run: a Sleep does too.
-fn is_over(op: Op, ends: bool) -> bool
-    ensures { result ≡ ends || is_sleep op }
+/// Whether an operation with this reply, which ended its job or not, leaves its processor with nothing to run: a Sleep
+/// does, and a Lock that is queued.
+fn leaves_processor(op: Op, reply: Reply, ends: bool) -> bool
+    ensures { result ≡ ends || leaves (Act.Do op) reply }
 {
-    ends || matches!(op, Op::Sleep(_))
+    ends
+        || match op {
+            Op::Sleep(_) => is_accepted(reply),
+            _ => reply == Reply::Queued,
+        }
 }

@@ -1,0 +1,189 @@
+-- The state after a Lock.
+use Rattle.std.proofs.Common.{◌≡◌, ℕ, Bool, true, false, not, List, [], ◌∷◌, ◌||◌, eqb-true, refl, sym, ap, ◌∙◌, subst}
+use Rattle.std.specs.Prelude.{◌==◌, Option, None, Some, if◌then◌else◌}
+use Rattle.rt_base.specs.declared.SemNo.{SemNo}
+use Rattle.rt_task.specs.declared.Act.TheVariants as acts
+use Rattle.rt_task.specs.declared.Op.TheVariants as ops
+use Rattle.rt_history.specs.declared.Reply.{Reply}
+use Rattle.rt_history.specs.declared.Reply.TheVariants as replies
+use Rattle.rt_rules.specs.Numbers.{has, is, is_empty}
+use Rattle.rt_rules.specs.Placing.{tasks_in}
+use Rattle.rt_rules.specs.SemState.{Asks}
+use Rattle.rt_rules.proofs.MemberLaws.{has-filter}
+use Rattle.rt_model.specs.Answers.{answer, is_granted as granted_by_rules, nests}
+use Rattle.rt_model.specs.BaseKeys.{base_key}
+use Rattle.rt_model.specs.Group.{Group, declares, protocol, sems, tasks, users}
+use Rattle.rt_model.specs.Holders.{holds}
+use Rattle.rt_model.specs.NonPreemptive.{non_preemptive}
+use Rattle.rt_model.specs.Outcomes.{past_act}
+use Rattle.rt_model.specs.Past.{Acted, Event, Past, accepted, now, sem_act}
+use Rattle.rt_model.specs.Reachable.{IsReachable}
+use Rattle.rt_model.specs.Runs.{runs}
+use Rattle.rt_laws.proofs.Running.{running}
+use Rattle.rt_laws.proofs.ValidSets.{rules_of}
+use Rattle.rt_changes.specs.Owners.{owner}
+use Rattle.rt_changes.proofs.SemActs.{lock_asks}
+use Rattle.group_facts.specs.Facts.{JobFacts, job_facts}
+use Rattle.group_facts.specs.FactMoves.{with_act}
+use Rattle.group_facts.specs.Kept.{job_of}
+use Rattle.group_facts.specs.Timers.{timer}
+use Rattle.group_facts.specs.Words.{is_ready}
+use Rattle.sem_table.specs.Asked.{is_granted}
+use Rattle.sem_table.specs.Told.{owner_of}
+use Rattle.group_sems.specs.GroupSems.{GroupSems}
+use Rattle.group_sems.specs.Locking.{CanLock}
+use Rattle.group_sem_laws.specs.Kept.{KeepsLocks}
+use Rattle.group_sem_laws.specs.Leaving.{IsLeft}
+use Rattle.group_sem_laws.specs.Reading as read
+use Rattle.group_engine.specs.declared.state.GroupState.{GroupState}
+use Rattle.group_engine.specs.Asking.{asked_for, asked_reply, lock_refused}
+use Rattle.group_engine.specs.State.{IsAt}
+use Rattle.group_engine.specs.Touching.{CanBringUp, CanCount, after_sem, base_now, holds_none, operated, touched_at}
+use Rattle.group_engine.proofs.ActMoves.{CanBe, made-after}
+use Rattle.group_engine.proofs.Bases.{base-told}
+use Rattle.group_engine.proofs.Following.{IsAnswered, can-count, can-looks, followed-at, others-jobs}
+use Rattle.group_engine.proofs.Reading.{SameLook, same-standing}
+use Rattle.group_engine.proofs.SemLaws.{grant_is_read, holding_is_read, lock_fits, lock_is_kept, lock_leaves, lock_refusal_is_read, owner_is_read}
+
+-- why a Lock is refused, and its answer
+record IsCase (refusal : Option Reply) (answer : Reply) (granted : Bool) : Type 0 where
+  out : (r : Reply) → refusal ≡ Some r → (r ≡ answer) × (accepted answer ≡ false)
+  goes : refusal ≡ None → answer ≡ (if granted then replies.Granted else replies.Queued)
+
+lock-case : (np declared nested granted : Bool)
+    → IsCase (if np then Some replies.InNp else (if not declared then Some replies.NotDeclared else (if nested then Some replies.Nested else None)))
+    (if np then replies.InNp else (if not declared then replies.NotDeclared else (if nested then replies.Nested else (if granted then replies.Granted else replies.Queued)))) granted
+lock-case true d n b = record { out = λ r h. (cc, refl); goes = λ h. cc }
+lock-case false false n b = record { out = λ r h. (cc, refl); goes = λ h. cc }
+lock-case false true true b = record { out = λ r h. (cc, refl); goes = λ h. cc }
+lock-case false true false b = record { out = λ r h. cc; goes = λ h. refl }
+
+-- a task asks only for what it declares
+declared-of : (np declared nested : Bool) → (if np then Some replies.InNp else (if not declared then Some replies.NotDeclared else (if nested then Some replies.Nested else None))) ≡ None → declared ≡ true
+declared-of true d n h = cc
+declared-of false false n h = cc
+declared-of false true n h = refl
+
+module _ (g : Group) (q t : ℕ) (sem : SemNo) (past : Past) (s : GroupState) (can : CanBe g q (acts.Do (ops.Lock sem)) past s) (runs_it : runs q past ≡ Some t) where
+  abbrev after : Past
+  after = with_act g q (acts.Do (ops.Lock sem)) past
+
+  abbrev event : Event
+  event = Acted (past_act g q (acts.Do (ops.Lock sem)) past)
+
+  pub member : has t (tasks g) ≡ true
+  member = (running g (rules_of g can.played.valid) can.at.reachable q t runs_it).member
+
+  granted : Bool
+  granted = granted_by_rules g (protocol g sem.0) sem.0 t past
+
+  np-is : (job_of s.jobs.kept t).np ≡ non_preemptive t past
+  np-is = ap (λ (j : JobFacts). j.np) (can.at.jobs_are.jobs_are t member)
+
+  answer-is : answer g q (acts.Do (ops.Lock sem)) past
+      ≡ (if non_preemptive t past then replies.InNp else (if not (declares g t sem.0) then replies.NotDeclared else (if nests g (protocol g sem.0) sem.0 t past then replies.Nested else (if granted then replies.Granted else replies.Queued))))
+  unfolding answer granted
+  answer-is = rw runs_it refl
+
+  refusal-is : lock_refused g.setup t sem.0 s
+      ≡ (if non_preemptive t past then Some replies.InNp else (if not (declares g t sem.0) then Some replies.NotDeclared else (if nests g (protocol g sem.0) sem.0 t past then Some replies.Nested else None)))
+  refusal-is =
+      ap (λ b. if b then Some replies.InNp else _) np-is
+      ∙ ap (λ (o : Option Reply). if non_preemptive t past then Some replies.InNp else o) (lock_refusal_is_read g past can.played.valid can.at.reachable s.sems t sem.0 member can.act_is_of can.at.sems_are.locks)
+
+  case : IsCase (lock_refused g.setup t sem.0 s) (answer g q (acts.Do (ops.Lock sem)) past) granted
+  case = rw (refusal-is, answer-is) (lock-case (non_preemptive t past) (declares g t sem.0) (nests g (protocol g sem.0) sem.0 t past) granted)
+
+  pub refused-of : (r : Reply) → lock_refused g.setup t sem.0 s ≡ Some r → (r ≡ answer g q (acts.Do (ops.Lock sem)) past) × (accepted (answer g q (acts.Do (ops.Lock sem)) past) ≡ false)
+  refused-of r h = case.out r h
+
+  module _ (goes : lock_refused g.setup t sem.0 s ≡ None) where
+    user : has t (users g sem.0) ≡ true
+    unfolding users
+    user = has-filter (λ u. declares g u sem.0) t (tasks g) ∙ rw (member, declared-of (non_preemptive t past) (declares g t sem.0) (nests g (protocol g sem.0) sem.0 t past) (sym refusal-is ∙ goes)) refl
+
+    answer-goes : answer g q (acts.Do (ops.Lock sem)) past ≡ (if granted then replies.Granted else replies.Queued)
+    answer-goes = case.goes goes
+
+    accepts : accepted (answer g q (acts.Do (ops.Lock sem)) past) ≡ true
+    accepts = ap accepted answer-goes ∙ either-way granted
+      where
+        either-way : (b : Bool) → accepted (if b then replies.Granted else replies.Queued) ≡ true
+        either-way true = refl
+        either-way false = refl
+
+    asks : sem_act event ≡ Asks t sem.0
+    asks = lock_asks g q t sem past runs_it accepts
+
+    made : IsReachable g after
+    made = made-after g q (acts.Do (ops.Lock sem)) past s can
+
+    base-is : base_now g.setup s.jobs.kept t ≡ base_key g t past
+    base-is = base-told g past s can.at.jobs_are t member
+
+    pub can-lock : CanLock g.setup t (base_now g.setup s.jobs.kept t) sem.0 s.sems
+    can-lock = rw base-is (lock_fits g event past can.played.valid made s.sems t sem.0 asks can.at.sems_are)
+
+    abbrev asked : GroupState
+    asked = asked_for g.setup t sem.0 s
+
+    abbrev reply : Reply
+    reply = asked_reply g.setup t sem.0 s
+
+    grant-is : is_granted t (base_now g.setup s.jobs.kept t) sem.0 s.sems.table ≡ granted
+    unfolding granted
+    grant-is = rw base-is (grant_is_read g event past can.played.valid made s.sems t sem.0 asks can.at.sems_are.locks)
+
+    pub reply-is : reply ≡ answer g q (acts.Do (ops.Lock sem)) past
+    reply-is = ap (λ b. if b then replies.Granted else replies.Queued) grant-is ∙ sym answer-goes
+
+    locks : KeepsLocks g after asked.sems
+    locks = rw (can.at.jobs_are.clock_is, base-is) (lock_is_kept g event past can.played.valid made s.sems t sem.0 asks can.at.sems_are.locks)
+
+    answered : IsAnswered g q t (ops.Lock sem) past reply (holds_none asked t)
+    answered = record {
+      runs_it = runs_it;
+      answer_is = sym reply-is;
+      op_reply = either-way (is_granted t (base_now g.setup s.jobs.kept t) sem.0 s.sems.table);
+      none_is = sym (holding_is_read g after can.played.valid made asked.sems t member locks).0;
+    }
+      where
+        either-way : (b : Bool) → is_op_reply (if b then replies.Granted else replies.Queued) ≡ true
+        either-way true = refl
+        either-way false = refl
+
+    same_bases : asked.sems.waits.bases ≡ s.sems.waits.bases
+    same_bases = bases-asked g.setup s.jobs.kept.clock t (base_now g.setup s.jobs.kept t) sem.0 s.sems
+
+    pub can-follow : CanCount g.setup q t (ops.Lock sem) reply (holds_none asked t) asked
+    can-follow = can-count g q t (ops.Lock sem) past s can reply (holds_none asked t) answered asked.sems locks same_bases
+
+    before-is : owner_of s.sems.table sem.0 ≡ owner g sem.0 past
+    before-is = owner_is_read g past can.played.valid can.at.reachable s.sems sem.0 t can.act_is_of user can.at.sems_are.locks
+
+    after-is : owner_of asked.sems.table sem.0 ≡ owner g sem.0 after
+    after-is = owner_is_read g after can.played.valid made asked.sems sem.0 t can.act_is_of user locks
+
+    abbrev touched : List ℕ
+    touched = touched_at asked sem.0 (owner_of s.sems.table sem.0) None
+
+    inside : (u : ℕ) → has u touched ≡ true → has u (tasks g) ≡ true
+    inside u h = among-three u (owner_of s.sems.table sem.0) (owner_of asked.sems.table sem.0) None (λ v. has v (tasks g) ≡ true)
+        (λ v e. owner-member g sem.0 v past can.played.valid can.at.reachable (sym before-is ∙ e))
+        (λ v e. owner-member g sem.0 v after can.played.valid made (sym after-is ∙ e)) (λ v e. cc) h
+
+    pub can-look-touched : (u : ℕ) → has u touched ≡ true → CanBringUp g.setup u (operated g.setup q t (ops.Lock sem) reply (holds_none asked t) asked)
+    can-look-touched u h = can-looks g q t (ops.Lock sem) past s can reply (holds_none asked t) answered asked.sems locks same_bases u (inside u h)
+
+    others : (u : ℕ) → has u (t ∷ touched) ≡ false → SameLook g u past after
+    others u h =
+        let out = outside-three u t (owner_of s.sems.table sem.0) (owner_of asked.sems.table sem.0) None h in
+        let job : job_facts u after ≡ job_facts u past = others-jobs g q t (ops.Lock sem) past s can reply (holds_none asked t) answered u out.0 in
+        let left : IsLeft g u event past = lock_leaves g event past can.played.valid made t sem.0 u asks out.0 (record { before = rw before-is at out.1; after = rw after-is at out.2 }) in
+        record {
+          timer_same = ap (timer (now past) _) job;
+          standing = same-standing g can.played u past after (ap (is_ready (now past) _) job) left.awaited left.key;
+        }
+
+    pub locked-at : IsAt g after (after_sem g.setup q t (ops.Lock sem) reply sem.0 (owner_of s.sems.table sem.0) None asked)
+    locked-at = followed-at g q t (ops.Lock sem) past s can reply (holds_none asked t) answered asked.sems locks same_bases touched inside others
