@@ -1,1 +1,4 @@
 pub mod Leaving
+pub mod Reading
+pub mod Outside
+pub mod Refusals
