@@ -85,13 +85,13 @@ module _ (g : Group) (valid : IsValid g.setup) (past : Past) (made : IsReachable
   undeclared none Pcp (any.Pcp c) q v = let zero : cluster_of g s ≡ 0 = cluster-zero g s none in in-set c.0 (v ∙ zero) zero none (rw q refl)
   undeclared none p x q v = absurd v
 
+  declared-holder : (u : ℕ) → has u (users g s) ≡ true → (state_of w s).holder ≡ holder g s past
+  unfolding holder
+  declared-holder u user = ap (λ (y : SemState). y.holder) (tells_state g past valid made w s u known user k)
+
   pub holder-told : (state_of w s).holder ≡ holder g s past
   holder-told = by_user (users g s) refl
     where
-      declared-holder : (u : ℕ) → has u (users g s) ≡ true → (state_of w s).holder ≡ holder g s past
-      unfolding holder
-      declared-holder u user = ap (λ (y : SemState). y.holder) (tells_state g past valid made w s u known user k)
-
       by_user : (us : List ℕ) → users g s ≡ us → (state_of w s).holder ≡ holder g s past
       by_user [] e = undeclared (rw e refl) (protocol g s) (sem_at w.sems s) refl (k.kept s known)
       by_user (u ∷ us) e = declared-holder u (rw (e, equal_self u) refl)
