@@ -1,13 +1,14 @@
 -- What is kept of a group's semaphores and of the keys of its tasks is what the rules say of its past.
-use Rattle.std.specs.Prelude.{◌≡◌, ℕ, ◌+◌, true, false, List, length, Option, None, Some, slice_index_or}
+use Rattle.std.specs.Prelude.{◌≡◌, ℕ, ◌+◌, true, false, List, [], length, Option, None, Some, slice_index_or}
 use Rattle.rt_order.specs.declared.Key.{Key}
 use Rattle.rt_rules.specs.Numbers.{has}
 use Rattle.rt_model.specs.BaseKeys.{base_key}
 use Rattle.rt_model.specs.Boosts.{boost}
 use Rattle.rt_model.specs.EffectiveKeys.{waits_for}
-use Rattle.rt_model.specs.Group.{Group, tasks}
+use Rattle.rt_model.specs.Group.{Group, in_group, tasks}
 use Rattle.rt_model.specs.Past.{Past}
 use Rattle.prio_inherit.specs.Waits.{Waits, boost_of, next_of}
+use Rattle.sem_table.specs.SemTable.{SemTable, set_at}
 use Rattle.sem_table_laws.specs.KeptRows.{KeepsRows}
 use Rattle.sem_table_laws.specs.KeptSems.{KeepsSems}
 use Rattle.mpcp_ceilings.specs.Ceilings.{AreCeilings}
@@ -34,10 +35,15 @@ pub record KeepsWaits (g : Group) (past : Past) (w : Waits) : Type 0 where
   pub nexts_are : KeepsNexts g past w.nexts
   pub boosts_are : KeepsBoosts g past w.boosts
 
+-- in a cluster outside the group no PCP semaphore is held
+abbrev pub IsEmptyOutside : Group → SemTable → Type 0
+IsEmptyOutside g w = (c : ℕ) → in_group g c ≡ false → (set_at w.sets c).state.held ≡ []
+
 -- all but the base keys
 pub record KeepsLocks (g : Group) (past : Past) (v : GroupSems) : Type 0 where
   pub sems_are : KeepsSems g past v.table
   pub rows_are : KeepsRows g past v.table
+  pub none_outside : IsEmptyOutside g v.table
   pub nexts_are : KeepsNexts g past v.waits.nexts
   pub boosts_are : KeepsBoosts g past v.waits.boosts
   pub ceilings_are : AreCeilings g v.ceilings

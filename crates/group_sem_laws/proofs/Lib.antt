@@ -1,0 +1,5 @@
+pub mod Leaving
+pub mod Reading
+pub mod Outside
+pub mod Refusals
+pub mod Fitting

@@ -1,0 +1,5 @@
+use Rattle.group_sem_laws.proofs.Fitting as law
+use Rattle.group_sem_laws.proofs.unlock_fits.Goals as goal
+
+pub returns : goal.returns
+returns c = law.unlock_fits
