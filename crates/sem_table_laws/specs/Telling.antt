@@ -1,20 +1,24 @@
 -- What the table tells is what the rules say.
-use Rattle.std.specs.Prelude.{◌≡◌, ℕ, true, Option, Some}
+use Rattle.std.specs.Prelude.{◌≡◌, ◌≤◌, ℕ, true, List, length, Option, Some, if◌then◌else◌}
+use Rattle.rt_rules.specs.Distinct.{IsDistinct}
 use Rattle.rt_rules.specs.Numbers.{has}
 use Rattle.rt_rules.specs.SemState.{Asks, Frees}
 use Rattle.rt_model.specs.Answers.{is_granted as is_granted_by_rules}
 use Rattle.rt_model.specs.BaseKeys.{base_key}
+use Rattle.rt_model.specs.Ceilings.{is_pcp, pcp}
 use Rattle.rt_model.specs.EffectiveKeys.{waits_for}
 use Rattle.rt_model.specs.Group.{Group, protocol, sems, tasks, users}
 use Rattle.rt_model.specs.Holders.{sem_state, last_granted}
 use Rattle.rt_model.specs.Past.{Event, Past, sem_act}
+use Rattle.rt_model.specs.Semaphores.{cluster_of}
 use Rattle.rt_laws.specs.EveryPast.{EveryMove, EveryPast}
 use Rattle.rt_changes.specs.HoldChanges.{IsServed}
 use Rattle.rt_changes.specs.Owners.{owner}
+use Rattle.pcp_sem.specs.Pairs.{tasks_of}
 use Rattle.sem_table.specs.Asked.{is_granted}
 use Rattle.sem_table.specs.Released.{after_release}
 use Rattle.sem_table.specs.SemTable.{SemTable}
-use Rattle.sem_table.specs.Told.{last_of, owner_of, state_of, waits_for_of}
+use Rattle.sem_table.specs.Told.{last_of, owner_of, state_of, waiters_of, waits_for_of}
 use Rattle.sem_table_laws.specs.KeptSems.{KeepsSems}
 use Rattle.sem_table_laws.specs.KeptRows.{KeepsRows}
 
@@ -27,6 +31,26 @@ TellsState = EveryPast (λ g past. (w : SemTable) (s u : ℕ) → has s (sems g)
 abbrev pub TellsOwner : Type 0
 TellsOwner = EveryPast (λ g past. (w : SemTable) (s u : ℕ) → has s (sems g) ≡ true → has u (users g s) ≡ true → KeepsSems g past w →
     owner_of w s ≡ owner g s past)
+
+-- the tasks that wait for the owner of a semaphore: those that wait for it, under PCP for any semaphore of its cluster
+abbrev pub waiters_at : Group → ℕ → Past → List ℕ
+waiters_at g s past = if is_pcp (protocol g s) then tasks_of (pcp g (cluster_of g s) past).waiting else (sem_state g s past).waiting
+
+-- Those that wait for its owner.
+abbrev pub TellsWaiters : Type 0
+TellsWaiters = EveryPast (λ g past. (w : SemTable) (s u : ℕ) → has s (sems g) ≡ true → has u (users g s) ≡ true → KeepsSems g past w →
+    waiters_of w s ≡ waiters_at g s past)
+
+-- tasks of the group, each once, so that they are no more than it has
+pub record AreFewTasks (g : Group) (ts : List ℕ) : Type 0 where
+  pub few : length ts ≤ length (tasks g)
+  pub once : IsDistinct ts
+  pub of_group : (t : ℕ) → has t ts ≡ true → has t (tasks g) ≡ true
+
+-- Those that wait for its owner are few, and so are those that wait for it.
+abbrev pub WaitersAreFew : Type 0
+WaitersAreFew = EveryPast (λ g past. (w : SemTable) (s u : ℕ) → has s (sems g) ≡ true → has u (users g s) ≡ true → KeepsSems g past w →
+    AreFewTasks g (waiters_of w s) × AreFewTasks g (state_of w s).waiting)
 
 -- For whom a task waits.
 abbrev pub TellsWaits : Type 0
