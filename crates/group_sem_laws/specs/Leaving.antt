@@ -1,5 +1,5 @@
 -- Which tasks' waits and keys a move leaves.
-use Rattle.std.specs.Prelude.{◌≡◌, ℕ, false, ◌==◌, ◌∷◌, ⊥}
+use Rattle.std.specs.Prelude.{◌≡◌, ℕ, false, ◌==◌, ◌∷◌}
 use Rattle.rt_rules.specs.Numbers.{is}
 use Rattle.rt_rules.specs.SemState.{Asks, Frees, Neither}
 use Rattle.rt_model.specs.EffectiveKeys.{effective_key}
