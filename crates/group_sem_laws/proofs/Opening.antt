@@ -1,7 +1,7 @@
 -- At first nobody holds, waits or is boosted.
-use Rattle.std.proofs.Common.{◌≡◌, ◌∙◌, ◌+◌, ℕ, true, false, List, [], ◌∷◌, length, refl, sym, ap, subst}
+use Rattle.std.proofs.Common.{◌≡◌, ◌∙◌, ◌+◌, ℕ, zero, suc, true, false, List, [], ◌∷◌, length, refl, sym, ap, subst}
 use Rattle.std.specs.Prelude.{Option, None, Some, replicate, slice_index_or}
-use Rattle.std.proofs.lemmas.List.{get_or-replicate, length-replicate}
+use Rattle.std.proofs.lemmas.List.{length-replicate}
 use Rattle.rt_order.specs.declared.Key.{Key}
 use Rattle.rt_rules.specs.Numbers.{has, is}
 use Rattle.rt_rules.proofs.BoolLaws.{clash, unless}
@@ -22,8 +22,10 @@ use Rattle.group_sem_laws.specs.Keeping.{OpeningIsKept}
 use Rattle.group_sem_laws.specs.Kept.{KeepsBoosts, KeepsNexts}
 
 -- a list of nothing tells nothing
-none-at : {X : Type 0} (n t : ℕ) → slice_index_or (replicate n (None {A = X})) t None ≡ None
-none-at n t = get_or-replicate n t None
+none-at : {X : Type 0} (n t : ℕ) (x : X) → slice_index_or (replicate n x) t x ≡ x
+none-at zero t x = refl
+none-at (suc n) zero x = refl
+none-at (suc n) (suc t) x = none-at n t x
 
 first-wait : (g : Group) → MeetsRules g → (t : ℕ) → waits_for g t [] ≡ None
 first-wait g rules t = walk-stops g rules [] opened t (none-waits g t [] (λ s there. nobody-waits g t s))
@@ -34,14 +36,14 @@ first-boost g t = boost-none g t [] (λ s there plain. unless _ (λ m. clash _ (
 first-nexts : (g : Group) → MeetsRules g → KeepsNexts g [] (replicate (length g.setup.tasks + 1) None)
 first-nexts g rules = record {
   room = length-replicate (length g.setup.tasks + 1) None;
-  are = λ t there. none-at (length g.setup.tasks + 1) t ∙ sym (first-wait g rules t);
-  others = λ t away. none-at (length g.setup.tasks + 1) t;
+  are = λ t there. none-at (length g.setup.tasks + 1) t None ∙ sym (first-wait g rules t);
+  others = λ t away. none-at (length g.setup.tasks + 1) t None;
 }
 
 first-boosts : (g : Group) → KeepsBoosts g [] (replicate (length g.setup.tasks + 1) None)
 first-boosts g = record {
   room = length-replicate (length g.setup.tasks + 1) None;
-  are = λ t there. none-at (length g.setup.tasks + 1) t ∙ sym (first-boost g t);
+  are = λ t there. none-at (length g.setup.tasks + 1) t None ∙ sym (first-boost g t);
 }
 
 pub opening_is_kept : OpeningIsKept
