@@ -102,9 +102,9 @@ can-serve g past bases t k there = let r = task-range g t there in record { base
 -- ---- owners and those that wait for them
 
 -- a task that owns a semaphore holds one
-record IsOwner (g : Group) (o : ℕ) (past : Past) : Type 0 where
-  member : has o (tasks g) ≡ true
-  waits_not : awaits g o past ≡ None
+pub record IsOwner (g : Group) (o : ℕ) (past : Past) : Type 0 where
+  pub member : has o (tasks g) ≡ true
+  pub waits_not : awaits g o past ≡ None
 
 module _ (g : Group) (valid : IsValid g.setup) (past : Past) (made : IsReachable g past) where
   rules : MeetsRules g
@@ -144,7 +144,7 @@ module _ (g : Group) (valid : IsValid g.setup) (past : Past) (made : IsReachable
           let owns : owner g r past ≡ Some o = rw (of_pcp, here) h in
           awaited-free o o (waits-owner g rules past made o r e ∙ owns)
 
-  owner-is : (s o : ℕ) → has s (sems g) ≡ true → owner g s past ≡ Some o → IsOwner g o past
+  pub owner-is : (s o : ℕ) → has s (sems g) ≡ true → owner g s past ≡ Some o → IsOwner g o past
   owner-is s o known = by_kind (is_pcp (protocol g s)) refl
     where
       by_kind : (b : Bool) → is_pcp (protocol g s) ≡ b → (if b then newest_owner g (cluster_of g s) past else holder g s past) ≡ Some o → IsOwner g o past
@@ -444,7 +444,7 @@ module _ (g : Group) (valid : IsValid g.setup) (e : Event) (past : Past) (made_a
   freed-retell : CanRetell (after_release t s v.table) s (freed_waits g.setup (now past) t s v).bases (freed_waits g.setup (now past) t s v).nexts
   freed-retell = rw (served-nexts g.setup v.ceilings (now past) s (after_release t s v.table).served (with_boost t None v.waits), served-bases g.setup v.ceilings (now past) s (after_release t s v.table).served (with_boost t None v.waits)) freed-tell
 
-  served-member : (u : ℕ) → (after_release t s v.table).served ≡ Some u → has u (tasks g) ≡ true
+  pub served-member : (u : ℕ) → (after_release t s v.table).served ≡ Some u → has u (tasks g) ≡ true
   served-member u m = let q : (r : ℕ) × IsServed g u r e past = served-is.gives u m in waiter-member g valid past began q.0 u q.1.waited
 
 pub unlock_fits : UnlockFits

@@ -3,3 +3,8 @@ pub mod Reading
 pub mod Outside
 pub mod Refusals
 pub mod Fitting
+pub mod Putting
+pub mod Keys
+pub mod Bases
+pub mod Opening
+pub mod Quiet
