@@ -19,6 +19,7 @@ pub mod Opening
 pub mod Stepping
 mod SemLaws
 mod Bases
+mod Touched
 mod Locking
 mod Unlocking
 mod Following

@@ -43,6 +43,9 @@ use Rattle.group_engine.proofs.ActMoves.{CanBe, made-after}
 use Rattle.group_engine.proofs.Bases.{base-told}
 use Rattle.group_engine.proofs.Following.{IsAnswered, can-count, can-looks, followed-at, others-jobs}
 use Rattle.group_engine.proofs.Reading.{SameLook, same-standing}
+use Rattle.group_engine.proofs.Touched.{among-three, bases-asked, outside-three}
+use Rattle.group_sem_laws.proofs.Fitting.{owner-is}
+use Rattle.group_jobs.specs.GroupJobs.{is_op_reply}
 use Rattle.group_engine.proofs.SemLaws.{grant_is_read, holding_is_read, lock_fits, lock_is_kept, lock_leaves, lock_refusal_is_read, owner_is_read}
 
 -- why a Lock is refused, and its answer
@@ -169,8 +172,8 @@ module _ (g : Group) (q t : ℕ) (sem : SemNo) (past : Past) (s : GroupState) (c
 
     inside : (u : ℕ) → has u touched ≡ true → has u (tasks g) ≡ true
     inside u h = among-three u (owner_of s.sems.table sem.0) (owner_of asked.sems.table sem.0) None (λ v. has v (tasks g) ≡ true)
-        (λ v e. owner-member g sem.0 v past can.played.valid can.at.reachable (sym before-is ∙ e))
-        (λ v e. owner-member g sem.0 v after can.played.valid made (sym after-is ∙ e)) (λ v e. cc) h
+        (λ v e. (owner-is g can.played.valid past can.at.reachable sem.0 v can.act_is_of (sym before-is ∙ e)).member)
+        (λ v e. (owner-is g can.played.valid after made sem.0 v can.act_is_of (sym after-is ∙ e)).member) (λ v e. cc) h
 
     pub can-look-touched : (u : ℕ) → has u touched ≡ true → CanBringUp g.setup u (operated g.setup q t (ops.Lock sem) reply (holds_none asked t) asked)
     can-look-touched u h = can-looks g q t (ops.Lock sem) past s can reply (holds_none asked t) answered asked.sems locks same_bases u (inside u h)

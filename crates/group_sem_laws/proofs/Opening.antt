@@ -19,6 +19,7 @@ use Rattle.rt_changes.proofs.Boosts.{boost-none}
 use Rattle.sem_table_laws.proofs.Opening.{new_keeps}
 use Rattle.sem_table_laws.proofs.Rows.{new_rows}
 use Rattle.group_sem_laws.specs.Keeping.{OpeningIsKept}
+use Rattle.group_sem_laws.proofs.Outside.{opened-empty}
 use Rattle.group_sem_laws.specs.Kept.{KeepsBoosts, KeepsNexts}
 
 -- a list of nothing tells nothing
@@ -50,6 +51,7 @@ pub opening_is_kept : OpeningIsKept
 opening_is_kept g v valid new ceilings nexts boosts = record {
   sems_are = new_keeps g v.table valid new;
   rows_are = new_rows g v.table valid new;
+  none_outside = opened-empty g v.table new;
   nexts_are = subst (KeepsNexts g []) (sym nexts) (first-nexts g (rules_of g valid));
   boosts_are = subst (KeepsBoosts g []) (sym boosts) (first-boosts g);
   ceilings_are = ceilings;

@@ -14,6 +14,7 @@ quiet_is_kept g e past valid made v h k =
     record {
       sems_are = quiet_keeps g e past valid made v.table h k.sems_are;
       rows_are = quiet_rows g e past valid made v.table h k.rows_are;
+      none_outside = k.none_outside;
       nexts_are = record {
         room = k.nexts_are.room;
         are = λ t there. k.nexts_are.are t there ∙ sym (left.next t);
