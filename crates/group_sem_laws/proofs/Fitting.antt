@@ -1,34 +1,33 @@
 -- What a lock and an unlock rest on holds whenever the act is accepted.
-use Rattle.std.proofs.Common.{◌≡◌, ◌≢◌, ◌∙◌, ◌+◌, ◌<◌, ◌≤◌, ◌⊎◌, ℕ, zero, suc, Bool, true, false, ◌&&◌, List, [], ◌∷◌, length, map, refl, sym, ap, subst, eqb-true, arith, inl, inr}
+use Rattle.std.proofs.Common.{◌≡◌, ◌∙◌, ◌+◌, ◌<◌, ◌≤◌, ◌⊎◌, ℕ, zero, suc, Bool, true, false, ◌&&◌, List, [], ◌∷◌, length, refl, sym, subst, eqb-true, arith, inl, inr}
 use Rattle.std.specs.Prelude.{◌==◌, Option, None, Some, IsSome, slice_index_or, slice_set, filter, if◌then◌else◌}
 use Rattle.rt_task.specs.Validity.{IsValid}
 use Rattle.rt_task.specs.declared.Parts.{Parts}
 use Rattle.rt_task.specs.declared.Protocol.{Protocol}
 use Rattle.rt_task.specs.declared.Protocol.TheVariants.{Fmlp, Mpcp, Omlp, Pcp}
 use Rattle.rt_order.specs.declared.Key.{Key}
-use Rattle.rt_rules.specs.Distinct.{IsDistinct}
 use Rattle.rt_rules.specs.Numbers.{has, is, numbers_from}
-use Rattle.rt_rules.specs.Pcp.{PcpState, TaskSem, passes, pcp_after}
+use Rattle.rt_rules.specs.Pcp.{passes, pcp_after}
 use Rattle.rt_rules.specs.SemState.{Asks, Frees, Neither}
 use Rattle.rt_model.specs.Answers.{is_granted as is_granted_by_rules}
 use Rattle.rt_model.specs.BaseKeys.{above, base_key}
 use Rattle.rt_model.specs.Ceilings.{above_ceiling, at_cluster, is_pcp, pcp}
 use Rattle.rt_model.specs.EffectiveKeys.{waits_for}
-use Rattle.rt_model.specs.Group.{Group, home, in_group, protocol, sems, tasks, users}
+use Rattle.rt_model.specs.Group.{Group, home, in_group, protocol, sems, tasks}
 use Rattle.rt_model.specs.Holders.{awaits, holder, sem_state}
 use Rattle.rt_model.specs.Past.{Event, Past, now, sem_act}
 use Rattle.rt_model.specs.Reachable.{IsReachable}
 use Rattle.rt_model.specs.Semaphores.{cluster_of}
-use Rattle.rt_rules.proofs.BoolLaws.{both, clash, unless}
+use Rattle.rt_rules.proofs.BoolLaws.{both, unless}
 use Rattle.rt_rules.proofs.DistinctLaws.{length-distinct}
-use Rattle.rt_rules.proofs.MemberLaws.{equal_self, has-filter, has-one, some-is, turned}
+use Rattle.rt_rules.proofs.MemberLaws.{has-filter, has-one, some-is}
 use Rattle.rt_rules.proofs.NumberLaws.{distinct-numbers_from, length-numbers_from}
 use Rattle.rt_rules.proofs.PairLaws.{has_pair, pair-of}
 use Rattle.rt_rules.proofs.PlacingLaws.{distinct-filter}
 use Rattle.rt_laws.proofs.Asked.{IsAsked}
 use Rattle.rt_laws.proofs.Engaged.{holder-engaged, waiting-engaged}
 use Rattle.rt_laws.proofs.GroupLaws.{user-task}
-use Rattle.rt_laws.proofs.Moves.{IsMove, last_move}
+use Rattle.rt_laws.proofs.Moves.{last_move}
 use Rattle.rt_laws.proofs.Next.{next}
 use Rattle.rt_laws.proofs.OneWait.{awaits-is, waits_once}
 use Rattle.rt_laws.proofs.PcpState.{IsUser, pcp-waiting, pcp_kept, sem-home}

@@ -1,30 +1,28 @@
 -- Which tasks' waits and keys a move leaves.
-use Rattle.std.proofs.Common.{◌≡◌, ◌∙◌, ◌||◌, ℕ, Bool, true, false, refl, ap, sym, subst}
-use Rattle.std.specs.Prelude.{◌==◌, ◌∷◌, Option, None, Some, if◌then◌else◌, ◌⊎◌}
+use Rattle.std.proofs.Common.{◌≡◌, ℕ, Bool, true, false, refl}
+use Rattle.std.specs.Prelude.{◌==◌, ◌∷◌, None, Some, if◌then◌else◌, ◌⊎◌}
 use Rattle.std.proofs.Common.{inl, inr}
 use Rattle.rt_base.specs.declared.SemNo.{SemNo}
-use Rattle.rt_task.specs.Validity.{IsValid}
 use Rattle.rt_task.specs.declared.Act.{Act}
 use Rattle.rt_task.specs.declared.Act.TheVariants as acts
 use Rattle.rt_task.specs.declared.Op.TheVariants as ops
 use Rattle.rt_rules.specs.Numbers.{is}
-use Rattle.rt_rules.specs.SemState.{Asks, Frees, Neither}
+use Rattle.rt_rules.specs.SemState.{Asks, Frees}
 use Rattle.rt_model.specs.Answers.{answer, is_granted}
 use Rattle.rt_model.specs.Group.{Group, protocol}
 use Rattle.rt_model.specs.Holders.{awaits}
 use Rattle.rt_model.specs.Outcomes.{attempt, ended, ended_by, is_spent, past_act}
-use Rattle.rt_model.specs.Past.{Acted, Clock, Event, Past, PastAct, accepted, ends_job, sem_act}
-use Rattle.rt_model.specs.Reachable.{IsReachable}
+use Rattle.rt_model.specs.Past.{Acted, Event, Past, accepted, sem_act}
 use Rattle.rt_model.specs.Runs.{runs}
 use Rattle.rt_laws.proofs.Moves.{IsMove, clock_moves, cpu_acts, last_move}
 use Rattle.rt_laws.proofs.Requests.{IsAsk, IsFree, asks, frees}
 use Rattle.rt_changes.specs.HoldChanges.{IsServed, KeepsHolds}
 use Rattle.rt_changes.specs.KeyChanges.{renews}
-use Rattle.rt_changes.specs.Owners.{is_touched, is_touched_at, owner, sem_of}
+use Rattle.rt_changes.specs.Owners.{is_touched, sem_of}
 use Rattle.rt_changes.proofs.HoldChanges.{lock_grants, lock_queues, unlock_releases}
 use Rattle.rt_changes.proofs.KeyChanges.{effective_key_stays}
 use Rattle.rt_changes.proofs.SemChanges.{quiet_move_leaves_sems}
-use Rattle.group_sem_laws.specs.Leaving.{IsLeft, LockLeaves, OwnsNeither, QuietLeaves, UnlockLeaves}
+use Rattle.group_sem_laws.specs.Leaving.{LockLeaves, OwnsNeither, QuietLeaves, UnlockLeaves}
 
 pub quiet_leaves : QuietLeaves
 quiet_leaves g e past valid made u h fresh = record {

@@ -1,15 +1,26 @@
 -- In clusters outside the group no PCP semaphore is held, at first and after each call.
-use Rattle.std.proofs.Common.{◌≡◌, ◌∙◌, ◌+◌, ◌<◌, ℕ, zero, suc, Bool, true, false, ◌&&◌, List, [], ◌∷◌, length, map, refl, sym, ap, subst, eqb-true, arith}
+use Rattle.std.proofs.Common.{◌≡◌, ◌∙◌, ℕ, zero, suc, Bool, true, false, List, [], ◌∷◌, length, map, refl, sym, subst, eqb-true}
 use Rattle.std.specs.Prelude.{◌==◌, slice_index_or, slice_set}
 use Rattle.rt_task.specs.declared.Protocol.{Protocol}
 use Rattle.rt_task.specs.declared.Protocol.TheVariants.{Fmlp, Mpcp, Omlp, Pcp}
 use Rattle.rt_order.specs.declared.Key.{Key}
 use Rattle.rt_rules.specs.Numbers.{has, numbers_from}
 use Rattle.rt_model.specs.Ceilings.{is_pcp}
-use Rattle.rt_model.specs.Group.{Group, home, in_group, protocol, sems, tasks, users}
-use Rattle.rt_model.specs.Past.{Past}
+use Rattle.rt_model.specs.Group.{Group, home, in_group, protocol, sems, users}
+use Rattle.rt_model.specs.Past.{Event, Past, sem_act}
+use Rattle.rt_model.specs.Reachable.{IsReachable}
+use Rattle.rt_model.specs.BaseKeys.{base_key}
+use Rattle.rt_task.specs.Validity.{IsValid}
+use Rattle.rt_rules.specs.SemState.{Asks, Frees}
+use Rattle.rt_laws.proofs.Asked.{IsAsked}
+use Rattle.rt_laws.proofs.Engaged.{holder-engaged}
+use Rattle.rt_laws.proofs.Moves.{last_move}
+use Rattle.rt_laws.proofs.Next.{next}
+use Rattle.rt_laws.proofs.ValidSets.{rules_of}
+use Rattle.rt_changes.proofs.Acting.{IsParty, all_parties}
+use Rattle.group_sems.specs.GroupSems.{GroupSems}
 use Rattle.rt_model.specs.Semaphores.{cluster_of}
-use Rattle.rt_rules.proofs.BoolLaws.{both, clash, unless}
+use Rattle.rt_rules.proofs.BoolLaws.{clash, unless}
 use Rattle.rt_laws.proofs.GroupLaws.{user-home, user-task, pcp-shares}
 use Rattle.rt_laws.proofs.Rules.{MeetsRules}
 use Rattle.pcp_sem.specs.PcpKept.{PcpKept}
@@ -22,7 +33,7 @@ use Rattle.sem_table.specs.SemTable.{SemTable, no_set, sem_at, set_at}
 use Rattle.sem_table_laws.specs.KeptSems.{KeepsSem, KeepsSems}
 use Rattle.sem_table_laws.proofs.Conditions.{group-of}
 use Rattle.sem_table_laws.proofs.Lists.{at-other}
-use Rattle.group_sem_laws.specs.Kept.{IsEmptyOutside}
+use Rattle.group_sem_laws.specs.Kept.{IsEmptyOutside, KeepsLocks}
 
 -- ---- at first
 
@@ -67,8 +78,22 @@ module _ (g : Group) (rules : MeetsRules g) (past : Past) (w : SemTable) (t s : 
   freed-by p x q v c h = absurd v
 
 -- a request of a user, and a release
-pub ask-empty : (g : Group) → MeetsRules g → (past : Past) (w : SemTable) (t s : ℕ) (key : Key) → has s (sems g) ≡ true → has t (users g s) ≡ true → KeepsSems g past w → IsEmptyOutside g w → IsEmptyOutside g (after_ask t key s w)
+ask-empty : (g : Group) → MeetsRules g → (past : Past) (w : SemTable) (t s : ℕ) (key : Key) → has s (sems g) ≡ true → has t (users g s) ≡ true → KeepsSems g past w → IsEmptyOutside g w → IsEmptyOutside g (after_ask t key s w)
 ask-empty g rules past w t s key known user k empty = asked-by g rules past w t s user empty key (protocol g s) (sem_at w.sems s) refl (k.kept s known)
 
-pub release-empty : (g : Group) → MeetsRules g → (past : Past) (w : SemTable) (t s : ℕ) → has s (sems g) ≡ true → has t (users g s) ≡ true → KeepsSems g past w → IsEmptyOutside g w → IsEmptyOutside g (after_release t s w)
+release-empty : (g : Group) → MeetsRules g → (past : Past) (w : SemTable) (t s : ℕ) → has s (sems g) ≡ true → has t (users g s) ≡ true → KeepsSems g past w → IsEmptyOutside g w → IsEmptyOutside g (after_release t s w)
 release-empty g rules past w t s known user k empty = freed-by g rules past w t s user empty (protocol g s) (sem_at w.sems s) refl (k.kept s known)
+
+-- ---- a Lock and an Unlock that are accepted
+
+pub asked-empty : (g : Group) (e : Event) (past : Past) → IsValid g.setup → IsReachable g (e ∷ past) → (v : GroupSems) (t s : ℕ) → sem_act e ≡ Asks t s → KeepsLocks g past v → IsEmptyOutside g (after_ask t (base_key g t past) s v.table)
+asked-empty g e past valid made v t s h k =
+    let last = last_move g made in
+    let a : IsAsked g t s past = (next g (rules_of g valid) last.0 last.1).asked t s h in
+    ask-empty g (rules_of g valid) past v.table t s (base_key g t past) a.known a.user k.sems_are k.none_outside
+
+pub freed-empty : (g : Group) (e : Event) (past : Past) → IsValid g.setup → IsReachable g (e ∷ past) → (v : GroupSems) (t s : ℕ) → sem_act e ≡ Frees t s → KeepsLocks g past v → IsEmptyOutside g (after_release t s v.table)
+freed-empty g e past valid made v t s h k =
+    let last = last_move g made in
+    let owns : IsParty g t s = all_parties g (rules_of g valid) last.0 t s (holder-engaged g t s past ((next g (rules_of g valid) last.0 last.1).freed t s h)) in
+    release-empty g (rules_of g valid) past v.table t s owns.known owns.user k.sems_are k.none_outside

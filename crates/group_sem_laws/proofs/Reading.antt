@@ -1,10 +1,10 @@
 -- What is read off the semaphores and keys that are kept is what the rules say.
-use Rattle.std.proofs.Common.{◌≡◌, ◌∙◌, ℕ, true, false, List, [], ◌∷◌, length, arith, refl, sym, ap}
+use Rattle.std.proofs.Common.{◌≡◌, ◌∙◌, ℕ, List, [], ◌∷◌, length, arith, refl, ap}
 use Rattle.std.specs.Prelude.{◌==◌, Option, None, Some, is_some, option_map}
 use Rattle.std.proofs.lemmas.Bool.Decides.{nat_tests}
 use Rattle.rt_base.specs.declared.SemNo.{SemNo}
 use Rattle.rt_rules.specs.Numbers.{is_empty}
-use Rattle.rt_model.specs.Holders.{awaits, holds}
+use Rattle.rt_model.specs.Holders.{holds}
 use Rattle.sem_table.specs.SemTable.{row_at}
 use Rattle.sem_table.specs.Told.{awaits_of}
 use Rattle.sem_table_laws.specs.KeptRows.{KeepsRow}

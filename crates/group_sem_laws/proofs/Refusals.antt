@@ -1,29 +1,26 @@
 -- Who holds a semaphore, and why a task may not ask for one or free it.
-use Rattle.std.proofs.Common.{◌≡◌, ◌∙◌, ℕ, Bool, true, false, not, ◌&&◌, ◌||◌, List, [], ◌∷◌, length, map, arith, refl, sym, ap, subst}
+use Rattle.std.proofs.Common.{◌≡◌, ◌∙◌, ℕ, Bool, true, false, not, ◌&&◌, List, [], ◌∷◌, length, arith, refl, sym, ap}
 use Rattle.std.specs.List.{list_any}
-use Rattle.std.specs.Prelude.{◌==◌, Option, None, Some, nat_le, option_map, unwrap_or, if◌then◌else◌}
-use Rattle.rt_base.specs.declared.SemNo.{SemNo}
-use Rattle.rt_history.specs.declared.Reply.{Reply}
-use Rattle.rt_history.specs.declared.Reply.TheVariants as replies
+use Rattle.std.specs.Prelude.{◌==◌, Option, None, Some}
 use Rattle.rt_task.specs.declared.Protocol.{Protocol}
 use Rattle.rt_task.specs.declared.Protocol.TheVariants.{Fmlp, Mpcp, Omlp, Pcp}
 use Rattle.rt_task.specs.Validity.{IsValid}
-use Rattle.rt_rules.specs.Numbers.{first, has, is, is_empty}
+use Rattle.rt_rules.specs.Numbers.{first, has, is}
 use Rattle.rt_rules.specs.Omlp.{omlp_sem_state}
-use Rattle.rt_rules.specs.Pcp.{PcpState, of_sem, pcp_sem_state}
-use Rattle.rt_rules.specs.SemState.{SemState, in_line}
+use Rattle.rt_rules.specs.Pcp.{PcpState, of_sem}
+use Rattle.rt_rules.specs.SemState.{SemState}
 use Rattle.rt_model.specs.Answers.{nests}
 use Rattle.rt_model.specs.Ceilings.{is_pcp, pcp}
-use Rattle.rt_model.specs.Group.{Group, declares, home, in_group, protocol, sem, sems, task, tasks, users}
+use Rattle.rt_model.specs.Group.{Group, declares, in_group, protocol, sem, sems, task, tasks, users}
 use Rattle.rt_model.specs.Holders.{holder, holds, sem_state, sem_state_by}
 use Rattle.rt_model.specs.Past.{Past}
 use Rattle.rt_model.specs.Reachable.{IsReachable}
 use Rattle.rt_model.specs.Semaphores.{cluster_of}
 use Rattle.rt_plays.specs.Plays.{group_with}
-use Rattle.rt_rules.proofs.BoolLaws.{and_false, clash, or_true, unless}
-use Rattle.rt_rules.proofs.MemberLaws.{any-none, equal_self, some-is}
+use Rattle.rt_rules.proofs.BoolLaws.{and_false, clash, or_true}
+use Rattle.rt_rules.proofs.MemberLaws.{any-none, equal_self}
 use Rattle.rt_laws.proofs.Engaged.{holder-engaged}
-use Rattle.rt_laws.proofs.GroupLaws.{task-user, user-task}
+use Rattle.rt_laws.proofs.GroupLaws.{user-task}
 use Rattle.rt_laws.proofs.Holding.{holds-one, one-holds}
 use Rattle.rt_laws.proofs.PcpState.{pcp-holder}
 use Rattle.rt_laws.proofs.Rules.{MeetsRules}
@@ -33,12 +30,12 @@ use Rattle.rt_changes.proofs.Moving.{has-holds}
 use Rattle.sem_table.specs.declared.any_sem.AnySem.{AnySem}
 use Rattle.sem_table.specs.declared.any_sem.AnySem.TheVariants as any
 use Rattle.sem_table.specs.SemTable.{SemTable, sem_at, set_at}
-use Rattle.sem_table.specs.Told.{held_of, last_of, state_by, state_of}
+use Rattle.sem_table.specs.Told.{held_of, state_by, state_of}
 use Rattle.sem_table_laws.specs.KeptSems.{KeepsSem, KeepsSems}
 use Rattle.sem_table_laws.proofs.Conditions.{tells_state}
 use Rattle.sem_table_laws.proofs.Waits.{tells_last}
 use Rattle.group_sems.specs.GroupSems.{GroupSems}
-use Rattle.group_sems.specs.Refusing.{holds_it, holds_other, holds_other_one, is_nested_by, lock_refusal, unlock_refusal, uses_of}
+use Rattle.group_sems.specs.Refusing.{holds_it, holds_other, holds_other_one, is_nested_by, uses_of}
 use Rattle.group_sem_laws.specs.Kept.{IsEmptyOutside, KeepsLocks}
 use Rattle.group_sem_laws.specs.Reading.{HolderIsRead, LockRefusalIsRead, UnlockRefusalIsRead}
 use Rattle.group_sem_laws.proofs.Reading.{none-counted}
