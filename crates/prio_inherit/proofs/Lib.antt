@@ -2,3 +2,5 @@ pub mod Walking
 pub mod Settling
 mod Rising
 mod Raising
+pub mod Counting
+pub mod Tables
