@@ -16,6 +16,7 @@ pub record IsCounted (nexts : List (Option ℕ)) (counts : List ℕ) : Type 0 wh
   pub counted : (t : ℕ) → t < length nexts → slice_index counts t ≡ count_of nexts t
 
 -- with the keys
-pub record IsTable (bases : List (Option Key)) (nexts : List (Option ℕ)) (boosts : List (Option Key)) (keys : List Key) (counts : List ℕ) : Type 0 where
+pub record IsTable (bases : List (Option Key)) (nexts : List (Option ℕ)) (boosts : List (Option Key)) (keys : List Key)
+    (counts : List ℕ) : Type 0 where
   pub inherit : IsInherit bases nexts boosts keys
   pub counted : IsCounted nexts counts
