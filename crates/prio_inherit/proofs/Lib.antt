@@ -1,3 +1,5 @@
 pub mod Walking
 pub mod Settling
 mod Raising
+pub mod Counting
+pub mod Tables

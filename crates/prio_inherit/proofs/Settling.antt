@@ -149,6 +149,14 @@ settle-step bases nexts keys t k ok top = record {
 pub settled : (bases : List (Option Key)) (nexts : List (Option ℕ)) (keys : List Key) (o : Option ℕ) → IsSettling bases nexts keys o → o ≡ None → (t : ℕ) → t < length nexts → IsLocal bases nexts keys t
 settled bases nexts keys o ok e t below = ok.local t below (ap (is t) e)
 
+-- the task that the walk has come to has its key
+pub settled-here : (bases : List (Option Key)) (nexts : List (Option ℕ)) (keys : List Key) (h : ℕ) → IsSettling bases nexts keys (Some h) → IsLocal bases nexts keys h → (t : ℕ) → t < length nexts → IsLocal bases nexts keys t
+settled-here bases nexts keys h ok here t below = by_case (t == h) refl
+  where
+    by_case : (b : Bool) → t == h ≡ b → IsLocal bases nexts keys t
+    by_case true m = subst (IsLocal bases nexts keys) (sym (eqb-true t h m)) here
+    by_case false m = ok.local t below m
+
 pub walked : (bases : List (Option Key)) (nexts : List (Option ℕ)) (keys : List Key) (start : Option ℕ) → IsSettling bases nexts keys start → after (next_of nexts) (length nexts) start ≡ None
 walked bases nexts keys start ok = after-all (length nexts) (next_of nexts) ok.within ok.acyclic start ok.at_within
 
@@ -226,6 +234,21 @@ module _ (bases : List (Option Key)) (nexts : List (Option ℕ)) (boosts : List 
 
       stays : (u v : ℕ) → is u (next_of nexts t) ≡ false → next_of nexts v ≡ Some u → next_of (set nexts t None) v ≡ Some u
       stays u v away m = get_or-set_other nexts t v None None (λ s. clash _ (some-is u (next_of nexts t) (ap (next_of nexts) (sym s) ∙ m)) away) ∙ m
+
+  -- where its key was lower, that of the task it waited for stays
+  pub local-cut : (t h : ℕ) → next_of nexts t ≡ Some h → higher (key_at keys h) (key_at keys t) ≡ true → IsLocal bases (set nexts t None) keys h
+  local-cut t h e lower = subst (λ n. IsTop n (next_of (set nexts t None)) (key_at keys) (base_of bases h) h (key_at keys h)) (sym (length-set nexts t None)) record {
+    own = top.own;
+    waits = λ u low m. top.waits u low (next-cut t u h m).1;
+    among = stays top.among;
+  }
+    where
+      top : IsLocal bases nexts keys h
+      top = ok.local h (ok.within t h e)
+
+      stays : (key_at keys h ≡ base_of bases h) ⊎ ((u : ℕ) × (u < length nexts) × (next_of nexts u ≡ Some h) × (key_at keys h ≡ key_at keys u)) → (key_at keys h ≡ base_of bases h) ⊎ ((u : ℕ) × (u < length nexts) × (next_of (set nexts t None) u ≡ Some h) × (key_at keys h ≡ key_at keys u))
+      stays (inl m) = inl m
+      stays (inr q) = inr (q.0, q.1, get_or-set_other nexts t q.0 None None (λ s. clash _ (ap (λ n. higher (key_at keys h) (key_at keys n)) s ∙ lower) (ap (higher (key_at keys h)) (sym q.3) ∙ higher-irreflexive (key_at keys h))) ∙ q.2, q.3)
 
   -- a task that waited for none waits for another
   pub settle-join : (t h : ℕ) → t < length nexts → h < length nexts → next_of nexts t ≡ None → NoWalkComesRound (set nexts t (Some h)) → IsSettling bases (set nexts t (Some h)) keys (Some h)

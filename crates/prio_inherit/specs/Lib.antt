@@ -1,2 +1,3 @@
 pub mod Waits
 pub mod Local
+pub mod Counts

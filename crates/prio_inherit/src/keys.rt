@@ -1,10 +1,11 @@
 //! The keys that are kept, and their update along a walk.
-ghost use Rattle.std.specs.Prelude.{◌≡◌, ◌<◌, ◌&&◌, ℕ, List, Option, None, Some, IfOk, length, replicate};
+ghost use Rattle.std.specs.Prelude.{◌≡◌, ◌<◌, ◌&&◌, true, ℕ, List, Option, None, Some, IfOk, length, replicate};
 ghost use Rattle.rt_base.specs.TaskNos.{number_of_task, numbers_of_tasks};
 ghost use Rattle.rt_order.specs.declared.Key.{Key};
 ghost use Rattle.rt_order.specs.KeyOrder.{higher, lowest_key};
 ghost use Rattle.rt_rules.specs.Numbers.{is};
 ghost use Rattle.sem_laws.specs.KeptKeys.{key_at};
+ghost use Rattle.prio_inherit.specs.Counts.{IsCounted};
 ghost use Rattle.prio_inherit.specs.Waits.{base_of, next_of};
 ghost use Rattle.prio_inherit.specs.Local.{IsTop, IsLocal, IsSettling, IsRaising};
 
@@ -24,6 +25,13 @@ pub fn no_tasks(alloc: Global, room: usize) -> Result<Vec<Option<TaskNo>>, NoMem
     ensures { IfOk result (λ v. v.items ≡ replicate room None) }
 {
     vec![in alloc; None; room].map_err(|_| NoMemory)
+}
+
+/// As many counts of none.
+pub fn no_counts(alloc: Global, room: usize) -> Result<Vec<u32>, NoMemory>
+    ensures { IfOk result (λ v. v.items ≡ replicate room 0) }
+{
+    vec![in alloc; 0; room].map_err(|_| NoMemory)
 }
 
 /// As many of the lowest key.
@@ -53,13 +61,25 @@ fn raises(next: Option<TaskNo>, task: TaskNo, key: Key, best: Key) -> bool
     }
 }
 
-// The highest of the base key of a task and the keys of those that wait for it.
-fn top_key(bases: &[Option<Key>], nexts: &[Option<TaskNo>], keys: &[Key], task: TaskNo) -> Key
-    requires { length keys.now ≡ length nexts.now }
+// The highest of the base key of a task and the keys of those that wait for it, which are looked for where there are
+// any.
+fn top_key(
+    bases: &[Option<Key>],
+    nexts: &[Option<TaskNo>],
+    counts: &[u32],
+    keys: &[Key],
+    task: TaskNo,
+) -> Key
+    requires length { length keys.now ≡ length nexts.now }
+    requires counts { IsCounted (numbers_of_tasks nexts.now) counts.now }
+    requires below { task.0 < length nexts.now }
     ensures { IsTop (length nexts.now) (next_of (numbers_of_tasks nexts.now)) (key_at keys.now)
         (base_of bases.now task.0) task.0 result }
 {
     let mut best = base_in(bases, task);
+    if counts[task.0 as usize] == 0 {
+        return best;
+    }
     for u in 0..nexts.len() {
         if raises(nexts[u], task, keys[u], best) {
             best = keys[u];
@@ -72,10 +92,12 @@ fn top_key(bases: &[Option<Key>], nexts: &[Option<TaskNo>], keys: &[Key], task: 
 pub fn follow(
     bases: &[Option<Key>],
     nexts: &[Option<TaskNo>],
+    counts: &[u32],
     keys: &mut Vec<Key>,
     start: Option<TaskNo>,
 )
-    requires { IsSettling bases.now (numbers_of_tasks nexts.now) keys.old.items
+    requires counts { IsCounted (numbers_of_tasks nexts.now) counts.now }
+    requires settling { IsSettling bases.now (numbers_of_tasks nexts.now) keys.old.items
         (number_of_task start) }
     ensures length { length keys.new.items ≡ length (numbers_of_tasks nexts.now) }
     ensures local { (t : ℕ) → t < length (numbers_of_tasks nexts.now) →
@@ -86,9 +108,35 @@ pub fn follow(
         let Some(task) = at else {
             return;
         };
-        keys[task.0 as usize] = top_key(bases, nexts, keys.as_slice(), task);
+        keys[task.0 as usize] = top_key(bases, nexts, counts, keys.as_slice(), task);
         at = nexts[task.0 as usize];
     }
+}
+
+/// Brings the keys up to date where a task waits for the holder no longer. Where its key was lower than that of the
+/// holder, they are.
+pub fn follow_left(
+    bases: &[Option<Key>],
+    nexts: &[Option<TaskNo>],
+    counts: &[u32],
+    keys: &mut Vec<Key>,
+    holder: TaskNo,
+    task: TaskNo,
+)
+    requires counts { IsCounted (numbers_of_tasks nexts.now) counts.now }
+    requires settling { IsSettling bases.now (numbers_of_tasks nexts.now) keys.old.items
+        (Some holder.0) }
+    requires task { task.0 < length (numbers_of_tasks nexts.now) }
+    requires lower { higher (key_at keys.old.items holder.0) (key_at keys.old.items task.0) ≡ true →
+        IsLocal bases.now (numbers_of_tasks nexts.now) keys.old.items holder.0 }
+    ensures length { length keys.new.items ≡ length (numbers_of_tasks nexts.now) }
+    ensures local { (t : ℕ) → t < length (numbers_of_tasks nexts.now) →
+        IsLocal bases.now (numbers_of_tasks nexts.now) keys.new.items t }
+{
+    if keys[holder.0 as usize].is_higher(keys[task.0 as usize]) {
+        return;
+    }
+    follow(bases, nexts, counts, keys, Some(holder));
 }
 
 /// Raises the keys that are lower than the given one to it, along the walk that begins at the given task, up to the

@@ -13,19 +13,21 @@ use std::marker::Model;
 mod keys;
 
 /// Tasks, each with its base key, the task that it waits for and its boost: a boosted task has its boost, as a holder
-/// under MPCP (Rajkumar, ICDCS 1990). The keys are kept call by call along those that are waited for.
+/// under MPCP (Rajkumar, ICDCS 1990). The keys are kept call by call along those that are waited for, and how many
+/// wait for each, so that no call looks for waiting tasks where there are none.
 #[derive(Drop)]
 pub struct Inherit {
     bases: Vec<Option<Key>>,
     nexts: Vec<Option<TaskNo>>,
     boosts: Vec<Option<Key>>,
     keys: Vec<Key>,
+    counts: Vec<u32>,
 }
 
 impl Model for Inherit {
     ghost use Rattle.rt_base.specs.TaskNos.{numbers_of_tasks};
     ghost use Rattle.prio_inherit.specs.Waits.{Waits};
-    ghost use Rattle.prio_inherit.specs.Local.{IsInherit};
+    ghost use Rattle.prio_inherit.specs.Counts.{IsTable};
 
     ghost Value = { Waits };
 
@@ -35,8 +37,8 @@ impl Model for Inherit {
       boosts = a.boosts.items;
     } };
 
-    ghost invariant = { λ a. IsInherit a.bases.items (numbers_of_tasks a.nexts.items)
-        a.boosts.items a.keys.items };
+    ghost invariant = { λ a. IsTable a.bases.items (numbers_of_tasks a.nexts.items)
+        a.boosts.items a.keys.items a.counts.items };
 }
 
 impl Inherit {
@@ -57,6 +59,7 @@ impl Inherit {
             nexts: keys::no_tasks(alloc, room)?,
             boosts: keys::no_keys(alloc, room)?,
             keys: keys::lowest_keys(alloc, room)?,
+            counts: keys::no_counts(alloc, room)?,
         })
     }
 
@@ -72,6 +75,7 @@ impl Inherit {
         keys::follow(
             self.bases.as_slice(),
             self.nexts.as_slice(),
+            self.counts.as_slice(),
             &mut self.keys,
             Some(task),
         );
@@ -89,6 +93,7 @@ impl Inherit {
     {
         self.stops(task);
         self.nexts[task.0 as usize] = Some(holder);
+        self.counts[holder.0 as usize] += 1;
         let key = self.keys[task.0 as usize];
         keys::raise(self.nexts.as_slice(), &mut self.keys, Some(holder), key);
     }
@@ -100,13 +105,18 @@ impl Inherit {
         requires { IsSome (slice_index_or self.old.bases task.0 None) }
         ensures { self.new ≡ record self.old { nexts = slice_set self.old.nexts task.0 None } }
     {
-        let holder = self.nexts[task.0 as usize];
+        let Some(holder) = self.nexts[task.0 as usize] else {
+            return;
+        };
         self.nexts[task.0 as usize] = None;
-        keys::follow(
+        self.counts[holder.0 as usize] -= 1;
+        keys::follow_left(
             self.bases.as_slice(),
             self.nexts.as_slice(),
+            self.counts.as_slice(),
             &mut self.keys,
             holder,
+            task,
         );
     }
 

@@ -13,9 +13,9 @@ pub returns-in-None : goal.returns-in-None
 returns-in-None c =
     let told : is_some (slice_index_or c.self.inside.bases.items c.args.task.0 None) ≡ true = rw (← c.self.view_is) at c.requires in
     let below : c.args.task.0 < length c.self.inside.bases.items = told-below c.self.inside.bases.items c.args.task.0 told in
-    let boosts_below : c.args.task.0 < length c.self.inside.boosts.items = omega (arith, c.self.invariant.bases_length, c.self.invariant.boosts_length) in
-    let keys_below : c.args.task.0 < length c.self.inside.keys.items = omega (arith, c.self.invariant.bases_length, c.self.invariant.keys_length) in
+    let boosts_below : c.args.task.0 < length c.self.inside.boosts.items = omega (arith, c.self.invariant.inherit.bases_length, c.self.invariant.inherit.boosts_length) in
+    let keys_below : c.args.task.0 < length c.self.inside.keys.items = omega (arith, c.self.invariant.inherit.bases_length, c.self.invariant.inherit.keys_length) in
     let boost : slice_index_or c.self.inside.boosts.items c.args.task.0 None ≡ None = sym (get_or_read c.self.inside.boosts.items c.args.task.0 c.index.result.now boosts_below c.index.ensures None) ∙ c.in-None.is in
     let read : c.index-in-None.result.now ≡ key_at c.self.inside.keys.items c.args.task.0 = get_or_read c.self.inside.keys.items c.args.task.0 c.index-in-None.result.now keys_below c.index-in-None.ensures _ in
-    rw (← c.self.view_is) (read ∙ kept-highest _ _ _ _ c.args.task.0 c.self.invariant below
+    rw (← c.self.view_is) (read ∙ kept-highest _ _ _ _ c.args.task.0 c.self.invariant.inherit below
     ∙ ap (λ o. inherited o (base_of c.self.inside.bases.items) (followers (next_of (numbers_of_tasks c.self.inside.nexts.items)) (numbers_from 0 (length c.self.inside.bases.items)) c.args.task.0) c.args.task.0) (sym boost))

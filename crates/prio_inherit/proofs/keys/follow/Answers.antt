@@ -18,4 +18,4 @@ loop-step-preserved c =
     }
 
 pub returns-clause-local : goal.returns-clause-local
-returns-clause-local c = follow-end c.args.bases.now c.args.nexts.now c.loop-step.keys.items c.args.keys.now.items (number_of_task c.args.start) (number_of_task c.loop-step.at) c.loop-step._step c.requires c.loop-step.invariant.settling c.loop-step.invariant.came (omega arith)
+returns-clause-local c = follow-end c.args.bases.now c.args.nexts.now c.loop-step.keys.items c.args.keys.now.items (number_of_task c.args.start) (number_of_task c.loop-step.at) c.loop-step._step c.requires.settling c.loop-step.invariant.settling c.loop-step.invariant.came (omega arith)
