@@ -44,7 +44,7 @@ use Rattle.group_engine.proofs.ActMoves.{CanBe, made-after}
 use Rattle.group_engine.proofs.Following.{IsAnswered, can-count, can-looks, followed-at, others-jobs}
 use Rattle.group_engine.proofs.Reading.{SameLook, same-standing}
 use Rattle.group_engine.proofs.Touched.{among-three, bases-freed, outside-three}
-use Rattle.group_sem_laws.proofs.Fitting.{owner-is, served-member}
+use Rattle.group_sem_laws.proofs.Fitting.{owner-is, party, served-member}
 use Rattle.group_sems.specs.Refusing.{unlock_refusal}
 use Rattle.sem_table_laws.specs.Telling.{IsServedBy}
 use Rattle.group_engine.proofs.SemLaws.{holding_is_read, owner_is_read, served_is_read, unlock_fits, unlock_is_kept, unlock_leaves, unlock_refusal_is_read}
@@ -96,7 +96,7 @@ module _ (g : Group) (q t : ℕ) (sem : SemNo) (past : Past) (s : GroupState) (c
     made = made-after g q (acts.Do (ops.Unlock sem)) past s can
 
     user : has t (users g sem.0) ≡ true
-    user = freed-user g event past can.played.valid made t sem.0 frees
+    user = (party g can.played.valid event past made t sem.0 frees s.sems can.at.sems_are).user
 
     pub can-unlock : CanUnlock g.setup s.jobs.kept.clock t sem.0 s.sems
     can-unlock = rw can.at.jobs_are.clock_is (unlock_fits g event past can.played.valid made s.sems t sem.0 frees can.at.sems_are)
