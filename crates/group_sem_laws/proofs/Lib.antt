@@ -8,3 +8,8 @@ pub mod Keys
 pub mod Bases
 pub mod Opening
 pub mod Quiet
+pub mod Owners
+pub mod Retelling
+pub mod Boosting
+pub mod Locks
+pub mod Unlocks
