@@ -84,8 +84,8 @@ base-keeps p t u s h = record {
   room = let same : length (set s.sems.waits.bases u (Some (base_now p s.jobs.kept u))) ≡ length s.sems.waits.bases = length-set _ _ _ in omega (arith, h.room, same);
 }
 
-pub base_turn : (p : Parts) → IsTurn p
+abbrev pub base_turn : (p : Parts) → IsTurn p
 base_turn p = record { step = based p; Can = CanBase p; keeps = base-keeps p }
 
-pub look_turn : (p : Parts) → IsTurn p
+abbrev pub look_turn : (p : Parts) → IsTurn p
 look_turn p = record { step = brought_up p; Can = λ t s. CanBringUp p t s × ((task_in p.tasks t).number.0 ≡ t); keeps = λ t u s h. (can-after p t u s h.0, h.1) }

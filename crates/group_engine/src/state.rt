@@ -358,7 +358,8 @@ impl GroupState {
         let ends = self.jobs.operate(tasks, cpu, task, op, reply, none);
         self.quit_if(leaves_processor(op, reply, ends), parts, cpu, task);
         self.bring_up(parts, task);
-        self.bring_up_three(parts, before, self.sems.owner(sem), served);
+        let after = self.sems.owner(sem);
+        self.bring_up_three(parts, before, after, served);
         self.clusters.place_changed();
     }
 

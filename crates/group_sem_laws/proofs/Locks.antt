@@ -45,6 +45,7 @@ use Rattle.group_sems.specs.GroupSems.{GroupSems}
 use Rattle.group_sems.specs.Locking.{asked_waits, with_boost, with_next}
 use Rattle.group_sems.specs.Telling.{retold}
 use Rattle.group_sem_laws.specs.Keeping.{LockIsKept}
+use Rattle.group_sem_laws.proofs.Outside.{asked-empty}
 use Rattle.group_sem_laws.specs.Kept.{KeepsBoosts, KeepsLocks, KeepsNexts}
 use Rattle.group_sem_laws.proofs.Bases.{task-place}
 use Rattle.group_sem_laws.proofs.Boosting.{boost-kept, boost-now-is, boost-now-none, boost-set, boost-unset, next-set, next-unset, now-stays}
@@ -184,6 +185,7 @@ pub lock_is_kept : LockIsKept
 lock_is_kept g e past valid made v t s a k = record {
   sems_are = ask_keeps g e past valid made v.table t s a k.sems_are;
   rows_are = ask_rows g e past valid made v.table t s a k.sems_are k.rows_are;
+  none_outside = asked-empty g e past valid made v t s a k;
   nexts_are = asked-nexts g e past valid made v t s a k (is_granted t (base_key g t past) s v.table) (granted-is g e past valid made v t s a k);
   boosts_are = asked-boosts g e past valid made v t s a k (is_granted t (base_key g t past) s v.table) (granted-is g e past valid made v t s a k);
   ceilings_are = k.ceilings_are;

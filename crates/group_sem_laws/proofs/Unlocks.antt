@@ -48,6 +48,7 @@ use Rattle.group_sems.specs.GroupSems.{GroupSems}
 use Rattle.group_sems.specs.Locking.{freed_waits, served_waits, with_boost, with_next}
 use Rattle.group_sems.specs.Telling.{retold}
 use Rattle.group_sem_laws.specs.Keeping.{UnlockIsKept}
+use Rattle.group_sem_laws.proofs.Outside.{freed-empty}
 use Rattle.group_sem_laws.specs.Kept.{KeepsBoosts, KeepsLocks, KeepsNexts}
 use Rattle.group_sem_laws.proofs.Bases.{task-place}
 use Rattle.group_sem_laws.proofs.Boosting.{boost-kept, boost-now-is, boost-now-none, boost-set, boost-unset, next-set, next-unset, now-stays}
@@ -239,6 +240,7 @@ pub unlock_is_kept : UnlockIsKept
 unlock_is_kept g e past valid made v t s f k = record {
   sems_are = release_keeps g e past valid made v.table t s f k.sems_are;
   rows_are = release_rows g e past valid made v.table t s f k.sems_are k.rows_are;
+  none_outside = freed-empty g e past valid made v t s f k;
   nexts_are = unlock-nexts g e past valid made v t s f k;
   boosts_are = unlock-boosts g e past valid made v t s f k;
   ceilings_are = k.ceilings_are;

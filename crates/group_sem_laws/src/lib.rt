@@ -3,7 +3,7 @@
 #![tactic(auto)]
 
 ghost use Rattle.group_sem_laws.specs.Fitting.{LockFits, UnlockFits};
-ghost use Rattle.group_sem_laws.specs.Keeping.{BasesAreKept, BasesAreTold, OpeningIsKept, QuietIsKept};
+ghost use Rattle.group_sem_laws.specs.Keeping.{BasesAreKept, BasesAreTold, LockIsKept, OpeningIsKept, QuietIsKept, UnlockIsKept};
 ghost use Rattle.group_sem_laws.specs.Leaving.{LockLeaves, QuietLeaves, UnlockLeaves};
 ghost use Rattle.group_sem_laws.specs.Reading.{GrantIsRead, HolderIsRead, HoldingIsRead, KeyIsRead, LockRefusalIsRead, OwnerIsRead, ServedIsRead, UnlockRefusalIsRead};
 
@@ -25,6 +25,16 @@ pub fn bases_are_kept()
 /// A move that does nothing at a semaphore leaves all else.
 pub fn quiet_is_kept()
     ensures { QuietIsKept }
+{}
+
+/// A lock with the task's base key makes of it what an accepted Lock does.
+pub fn lock_is_kept()
+    ensures { LockIsKept }
+{}
+
+/// An unlock makes of it what an accepted Unlock does.
+pub fn unlock_is_kept()
+    ensures { UnlockIsKept }
 {}
 
 /// What a lock rests on holds whenever a Lock is accepted.
