@@ -1,5 +1,5 @@
 -- The state after an act, before the tasks that it touched are looked at.
-use Rattle.std.proofs.Common.{◌≡◌, ℕ, ◌<◌, Bool, true, false, List, [], ◌∷◌, refl, sym, ap, ◌∙◌, subst, arith}
+use Rattle.std.proofs.Common.{◌≡◌, ℕ, ◌<◌, Bool, true, false, List, [], refl, sym, ap, ◌∙◌, subst, arith}
 use Rattle.std.specs.Prelude.{Option, None, Some}
 use Rattle.rt_base.specs.declared.TheConstants.{MOST_STEPS, TICK_END}
 use Rattle.rt_task.specs.declared.Act.{Act}
@@ -83,7 +83,7 @@ of_group g q act inside of = record { inside = inside; arrives_in = λ t h. by_a
     by_act (acts.Do op) h t e = cc
 
 -- whether the task that runs holds nothing after it
-none_after : Group → ℕ → Act → Past → Option ℕ → Bool
+abbrev none_after : Group → ℕ → Act → Past → Option ℕ → Bool
 none_after g q act past None = true
 none_after g q act past (Some t) = is_empty (holds g t (with_act g q act past))
 

@@ -33,19 +33,19 @@ use Rattle.group_engine.proofs.ActMoves.{CanBe, of_group}
 use Rattle.group_engine.proofs.Reading.{unreserved}
 
 -- what the semaphores say of a processor that runs this, and of the semaphores of its act
-held_by : Group → Past → Option ℕ → List ℕ
+abbrev held_by : Group → Past → Option ℕ → List ℕ
 held_by g past None = []
 held_by g past (Some t) = holds g t past
 
-last_by : Group → Past → Option ℕ → Option ℕ
+abbrev last_by : Group → Past → Option ℕ → Option ℕ
 last_by g past None = None
 last_by g past (Some t) = last_granted g t past
 
-holder_by : Group → Past → Option ℕ → Option ℕ
+abbrev holder_by : Group → Past → Option ℕ → Option ℕ
 holder_by g past None = None
 holder_by g past (Some s) = holder g s past
 
-granted_by : Group → Past → Option ℕ → Option ℕ → Bool
+abbrev granted_by : Group → Past → Option ℕ → Option ℕ → Bool
 granted_by g past None o = false
 granted_by g past (Some t) None = false
 granted_by g past (Some t) (Some s) = is_granted g (protocol g s) s t past

@@ -22,13 +22,14 @@ use Rattle.group_facts.proofs.CpuSteps.{cpu_is_counted}
 use Rattle.group_facts.proofs.JobSteps.{arrival_is_counted}
 use Rattle.group_jobs.specs.GroupJobs.{GroupJobs, task_in}
 use Rattle.group_engine.specs.declared.state.GroupState.{GroupState}
-use Rattle.group_engine.specs.State.{IsAt}
-use Rattle.group_engine.specs.Touching.{based, base_now, brought_up, placed_all}
+use Rattle.group_engine.specs.State.{IsAt, IsWithin}
+use Rattle.group_engine.specs.Touching.{CanBase, CanBringUp, based, base_now, brought_up, placed_all}
 use Rattle.group_sem_laws.specs.Kept.{KeepsGroupSems, KeepsLocks}
-use Rattle.group_engine.proofs.Bases.{base-told, bases-told}
-use Rattle.group_engine.proofs.Bounding.{in-bases}
+use Rattle.group_engine.proofs.Bases.{base-told, bases-told, has-base}
+use Rattle.group_engine.proofs.Bounding.{can-look, can_base, in-bases}
+use Rattle.group_engine.proofs.Quitting.{can-based}
 use Rattle.group_engine.proofs.SemLaws.{quiet_is_kept}
-use Rattle.group_engine.proofs.ActMoves.{CanBe, base-same, between-act, between-still, held-none, held_none, kept-after, look-same, made-after}
+use Rattle.group_engine.proofs.ActMoves.{CanBe, act-within, base-same, between-act, between-still, held-none, held_none, kept-after, look-same, made-after}
 use Rattle.group_engine.proofs.Answering.{answer-read}
 use Rattle.group_engine.proofs.Settling.{settled}
 
@@ -71,7 +72,7 @@ module _ (g : Group) (q : ℕ) (t : TaskNo) (past : Past) (s : GroupState) (can 
         let locks : KeepsLocks g after s.sems = quiet_is_kept g (Acted (past_act g q (acts.Arrive t) past)) past can.played.valid (made-after g q (acts.Arrive t) past s can) s.sems quiet can.at.sems_are.locks in
         let inside : t.0 < length bases = in-bases g past s can.played can.at t.0 can.act_is_of in
         record {
-          locks = record { sems_are = locks.sems_are; rows_are = locks.rows_are; nexts_are = locks.nexts_are; boosts_are = locks.boosts_are; ceilings_are = locks.ceilings_are };
+          locks = record { sems_are = locks.sems_are; rows_are = locks.rows_are; none_outside = locks.none_outside; nexts_are = locks.nexts_are; boosts_are = locks.boosts_are; ceilings_are = locks.ceilings_are };
           bases = rw told_is (bases-told g past after t.0 bases inside (λ u h e. base-same g u past after (arrived.others u e)) can.at.sems_are.bases);
         }
 
@@ -90,3 +91,15 @@ module _ (g : Group) (q : ℕ) (t : TaskNo) (past : Past) (s : GroupState) (can 
             by_case : (b : Bool) → u == t.0 ≡ b → b || false ≡ true → has u (tasks g) ≡ true
             by_case true e k = let same : u ≡ t.0 = eqb-true u t.0 e in rw same can.act_is_of
             by_case false e k = cc
+
+    -- what telling its base key and looking at it rest on
+    pub can-arrive : (jobs : GroupJobs) → jobs.kept ≡ has_arrived t.0 s.jobs.kept
+        → CanBase g.setup t.0 (record s { jobs = jobs }) × CanBringUp g.setup t.0 (based g.setup t.0 (record s { jobs = jobs }))
+    can-arrive jobs kept_is =
+        let after : Past = with_act g q (acts.Arrive t) past in
+        let kept : IsKept g after jobs.kept = subst (IsKept g after) (sym kept_is) kept-arrived in
+        let within : IsWithin after = act-within g q (acts.Arrive t) past can.act_is_of can.at.within can.few in
+        let s1 : GroupState = record s { jobs = jobs } in (
+          can_base g can.played t.0 can.act_is_of after s1 kept within (in-bases g past s can.played can.at t.0 can.act_is_of),
+          can-based g.setup t.0 t.0 s1 (can-look g can.played past s can.at after s1 kept within (λ u h. has-base g past s.sems.waits.bases can.at.sems_are.bases u h) refl refl t.0 can.act_is_of),
+        )

@@ -1,5 +1,5 @@
 -- The base keys that are kept after a move: they stay, or that of one task is told anew.
-use Rattle.std.proofs.Common.{◌≡◌, ℕ, ◌+◌, ◌<◌, Bool, true, false, List, length, length-set, set, eqb-true, refl, sym, ap, ◌∙◌, subst, arith, get_or-set_same, get_or-set_other}
+use Rattle.std.proofs.Common.{◌≡◌, ℕ, ◌<◌, Bool, true, false, List, length, length-set, set, eqb-true, refl, sym, ap, ◌∙◌, subst, get_or-set_same, get_or-set_other}
 use Rattle.std.specs.Prelude.{◌==◌, Option, None, Some, IsSome, slice_index_or}
 use Rattle.std.proofs.lemmas.Bool.{eqb-false}
 use Rattle.rt_order.specs.declared.Key.{Key}
@@ -7,7 +7,6 @@ use Rattle.rt_rules.specs.Numbers.{has}
 use Rattle.rt_model.specs.BaseKeys.{base_key}
 use Rattle.rt_model.specs.Group.{Group, tasks}
 use Rattle.rt_model.specs.Past.{Past}
-use Rattle.group_facts.specs.Facts.{job_facts}
 use Rattle.group_facts.specs.Kept.{IsKept}
 use Rattle.group_facts.specs.Words.{key_of}
 use Rattle.group_facts.proofs.ReadWords.{key-read}
@@ -43,4 +42,4 @@ base-told g past s kept t h = key_of-any g g.setup.plugin t _ ∙ ap (key_of g g
 
 -- each task of the group has one
 pub has-base : (g : Group) (past : Past) (bases : List (Option Key)) → KeepsBases g past bases → (t : ℕ) → has t (tasks g) ≡ true → HasBase bases t
-has-base g past bases kept t h = subst IsSome (sym (kept.are t h)) tt
+has-base g past bases kept t h = subst IsSome (sym (kept.are t h)) refl

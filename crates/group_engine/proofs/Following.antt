@@ -1,5 +1,5 @@
 -- The state after an accepted operation: it is counted, its processor left where it is over, and the touched tasks looked at.
-use Rattle.std.proofs.Common.{◌≡◌, ℕ, ◌<◌, Bool, true, false, not, List, [], ◌∷◌, ◌||◌, ◌&&◌, length, eqb-true, refl, sym, ap, ◌∙◌, subst, arith}
+use Rattle.std.proofs.Common.{◌≡◌, ℕ, ◌<◌, Bool, true, false, not, List, ◌∷◌, ◌||◌, ◌&&◌, length, eqb-true, refl, sym, ap, ◌∙◌, subst, arith}
 use Rattle.std.specs.Prelude.{◌==◌, Option, None, Some, if◌then◌else◌, is_some, nat_lt, slice_index}
 use Rattle.rt_order.specs.declared.Key.{Key}
 use Rattle.rt_task.specs.declared.Act.TheVariants as acts
@@ -11,10 +11,9 @@ use Rattle.rt_task.specs.declared.Task.{Task}
 use Rattle.rt_history.specs.declared.Reply.{Reply}
 use Rattle.rt_history.specs.declared.Reply.TheVariants as replies
 use Rattle.rt_rules.specs.Numbers.{has, is_empty}
-use Rattle.rt_rules.proofs.BoolLaws.{or_true}
 use Rattle.rt_model.specs.Answers.{answer}
 use Rattle.rt_model.specs.BaseKeys.{base_key}
-use Rattle.rt_model.specs.Group.{Group, cluster_with, clusters, task, tasks}
+use Rattle.rt_model.specs.Group.{Group, cluster_with, task, tasks}
 use Rattle.rt_model.specs.Holders.{holds}
 use Rattle.rt_model.specs.Outcomes.{past_act}
 use Rattle.rt_model.specs.Past.{Acted, Past, accepted, now}
@@ -37,7 +36,7 @@ use Rattle.group_facts.proofs.TimerMoves.{release-op, timer_stays, wakes-op}
 use Rattle.cluster_table.specs.Clusters.{KeptCluster, left_by}
 use Rattle.cluster_table.specs.Table.{changed_at, cluster_at}
 use Rattle.link_table.specs.Linked.{with_run}
-use Rattle.group_jobs.specs.GroupJobs.{GroupJobs, is_op_reply, task_in}
+use Rattle.group_jobs.specs.GroupJobs.{is_op_reply, task_in}
 use Rattle.group_jobs.specs.States.{SleepIsShort}
 use Rattle.group_sems.specs.GroupSems.{GroupSems}
 use Rattle.group_sem_laws.specs.Kept.{KeepsBases, KeepsGroupSems, KeepsLocks}
@@ -49,7 +48,7 @@ use Rattle.group_engine.proofs.Bases.{base-told, bases-stay, bases-told, has-bas
 use Rattle.group_engine.proofs.Bounding.{can-look, can_base, in-bases, task-of}
 use Rattle.group_engine.proofs.Reading.{SameLook}
 use Rattle.group_engine.proofs.Running.{between-run, has_processor}
-use Rattle.group_engine.proofs.Settling.{HasClusterBetween, settled}
+use Rattle.group_engine.proofs.Settling.{settled}
 
 -- ---- an operation that goes on and is no Sleep leaves how its job looks
 
@@ -121,7 +120,10 @@ module _ (g : Group) (q t : ℕ) (op : Op) (past : Past) (s : GroupState) (can :
   kept-then = subst (IsKept g after) same (kept-after g q (acts.Do op) past s can none held)
     where
       same : has_acted g.setup.tasks q (acts.Do op) (answer g q (acts.Do op) past) none s.jobs.kept ≡ has_operated g.setup.tasks q t op reply none s.jobs.kept
-      same = rw (done, runs_kept, answered.answer_is) refl
+      same =
+          ap (λ r. has_acted g.setup.tasks q (acts.Do op) r none s.jobs.kept) answered.answer_is
+          ∙ ap (λ b. if b then after_act g.setup.tasks q (acts.Do op) (cpu_of s.jobs.kept q).runs reply none s.jobs.kept else s.jobs.kept) (op-accepted reply answered.op_reply)
+          ∙ ap (λ o. after_act g.setup.tasks q (acts.Do op) o reply none s.jobs.kept) runs_kept
 
   -- whether the job ends is read off what is kept
   pub ends-read : is_end (task_in g.setup.tasks t) s.jobs.kept.clock op none (job_of s.jobs.kept t) ≡ is_end (task g t) (now past) op none (job_facts t past)
@@ -140,7 +142,7 @@ module _ (g : Group) (q t : ℕ) (op : Op) (past : Past) (s : GroupState) (can :
   runs-then =
       ap (λ (c : CpuFacts). c.runs) (cpu_is_counted g q (acts.Do op) past).own
       ∙ rw (answered.answer_is, ended-some (is_end (task g t) (now past) op none (job_facts t past)) refl, sym ends-read)
-        (ap (λ o. if over then None else o) (runs-same reply (runs q past) answered.op_reply))
+      (ap (λ o. if over then None else o) (runs-same reply (runs q past) answered.op_reply))
 
   -- a job that goes on has the same base key
   goes-on-base : is_end (task_in g.setup.tasks t) s.jobs.kept.clock op none (job_of s.jobs.kept t) ≡ false → base_key g t after ≡ base_key g t past
@@ -149,7 +151,7 @@ module _ (g : Group) (q t : ℕ) (op : Op) (past : Past) (s : GroupState) (can :
       let facts : job_facts t after ≡ op_done (now past) op (job_facts t past) = counted.facts_are ∙ rw last refl in
       key-read g t after ∙ ap (key_of g g.setup.plugin t) facts ∙ key-op g t (now past) op (job_facts t past) ∙ sym (key-read g t past)
 
-  lasts-of : over ≡ false → is_end (task_in g.setup.tasks t) s.jobs.kept.clock op none (job_of s.jobs.kept t) ≡ false
+  pub lasts-of : over ≡ false → is_end (task_in g.setup.tasks t) s.jobs.kept.clock op none (job_of s.jobs.kept t) ≡ false
   lasts-of h = first (is_end (task_in g.setup.tasks t) s.jobs.kept.clock op none (job_of s.jobs.kept t)) (leaves (acts.Do op) reply) h
     where
       first : (a b : Bool) → a || b ≡ false → a ≡ false
@@ -163,10 +165,11 @@ module _ (g : Group) (q t : ℕ) (op : Op) (past : Past) (s : GroupState) (can :
       × (key_of g g.setup.plugin t (job_facts t after) ≡ key_of g g.setup.plugin t (job_facts t past))
   own-look lasts awake =
       let last : is_end (task g t) (now past) op none (job_facts t past) ≡ false = sym ends-read ∙ lasts in
-      let facts : job_facts t after ≡ op_done (now past) op (job_facts t past) = counted.facts_are ∙ rw last refl in
-      (ap (timer (now past) (task g t)) facts ∙ timer_stays (now past) (task g t) op (job_facts t past) awake,
-       ap (is_ready (now past) (task g t)) facts ∙ ready-op (task g t) (now past) op (job_facts t past) awake,
-       ap (key_of g g.setup.plugin t) facts ∙ key-op g t (now past) op (job_facts t past))
+      let facts : job_facts t after ≡ op_done (now past) op (job_facts t past) = counted.facts_are ∙ rw last refl in (
+        ap (timer (now past) (task g t)) facts ∙ timer_stays (now past) (task g t) op (job_facts t past) awake,
+        ap (is_ready (now past) (task g t)) facts ∙ ready-op (task g t) (now past) op (job_facts t past) awake,
+        ap (key_of g g.setup.plugin t) facts ∙ key-op g t (now past) op (job_facts t past),
+      )
 
   -- ---- the semaphores that are kept of the past with the act, but for the base key of the task
   module _ (v : GroupSems) (locks : KeepsLocks g after v) (bases_same : v.waits.bases ≡ s.sems.waits.bases) where
@@ -195,7 +198,7 @@ module _ (g : Group) (q t : ℕ) (op : Op) (past : Past) (s : GroupState) (can :
     sems-off =
         let told : base_now g.setup with_sems.jobs.kept t ≡ base_key g t after = base-told g after with_sems kept-then t member in
         record {
-          locks = record { sems_are = locks.sems_are; rows_are = locks.rows_are; nexts_are = locks.nexts_are; boosts_are = locks.boosts_are; ceilings_are = locks.ceilings_are };
+          locks = record { sems_are = locks.sems_are; rows_are = locks.rows_are; none_outside = locks.none_outside; nexts_are = locks.nexts_are; boosts_are = locks.boosts_are; ceilings_are = locks.ceilings_are };
           bases = rw told (bases-told g past after t v.waits.bases inside-bases base-others kept-bases);
         }
 
@@ -248,7 +251,7 @@ module _ (g : Group) (q t : ℕ) (op : Op) (past : Past) (s : GroupState) (can :
               let home : slice_index s.clusters.homes q ≡ cluster_with g q = can.at.homes_are.are q can.inside in
               let s1 : GroupState = quitted g.setup q t with_sems in
               let changes : (k : KeptCluster) → cluster_at s.clusters (cluster_with g q) ≡ Some k → IsClusterAt g (cluster_with g q) past k
-                      → left_by q k ≡ record k { linked = with_run k.linked q (runs q after) } = λ k h is. rw idle refl in
+              → left_by q k ≡ record k { linked = with_run k.linked q (runs q after) } = λ k h is. rw idle refl in
               settled g can.played (Acted (past_act g q (acts.Do op) past)) past (t ∷ us) s1
               (between-act g q (acts.Do op) past s can (t ∷ us) s1 kept-then sems-off refl refl
               (between-run g q (acts.Do op) past s can s1.clusters (left_by q) (ap (λ c. changed_at c (left_by q) s.clusters) home) changes)

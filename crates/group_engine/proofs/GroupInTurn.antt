@@ -75,7 +75,7 @@ module _ (p : Parts) (turn : IsTurn p) (n i : ℕ) (start s : GroupState) (h : A
 
 -- ---- telling base keys, and looking at tasks
 
-base-keeps : (p : Parts) (t u : ℕ) (s : GroupState) → CanBase p t s → CanBase p t (based p u s)
+pub base-keeps : (p : Parts) (t u : ℕ) (s : GroupState) → CanBase p t s → CanBase p t (based p u s)
 base-keeps p t u s h = record {
   task = h.task;
   number_is = h.number_is;

@@ -20,6 +20,7 @@ pub mod Stepping
 mod SemLaws
 mod Bases
 mod Touched
+mod Quitting
 mod Locking
 mod Unlocking
 mod Following

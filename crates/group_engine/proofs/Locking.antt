@@ -1,19 +1,17 @@
 -- The state after a Lock.
-use Rattle.std.proofs.Common.{◌≡◌, ℕ, Bool, true, false, not, List, [], ◌∷◌, ◌||◌, eqb-true, refl, sym, ap, ◌∙◌, subst}
-use Rattle.std.specs.Prelude.{◌==◌, Option, None, Some, if◌then◌else◌}
+use Rattle.std.proofs.Common.{◌≡◌, ℕ, ◌+◌, ◌<◌, ◌≤◌, length, arith, Bool, true, false, not, List, ◌∷◌, refl, sym, ap, ◌∙◌}
+use Rattle.std.specs.Prelude.{Option, None, Some, if◌then◌else◌}
 use Rattle.rt_base.specs.declared.SemNo.{SemNo}
 use Rattle.rt_task.specs.declared.Act.TheVariants as acts
 use Rattle.rt_task.specs.declared.Op.TheVariants as ops
 use Rattle.rt_history.specs.declared.Reply.{Reply}
 use Rattle.rt_history.specs.declared.Reply.TheVariants as replies
-use Rattle.rt_rules.specs.Numbers.{has, is, is_empty}
-use Rattle.rt_rules.specs.Placing.{tasks_in}
+use Rattle.rt_rules.specs.Numbers.{has}
 use Rattle.rt_rules.specs.SemState.{Asks}
 use Rattle.rt_rules.proofs.MemberLaws.{has-filter}
-use Rattle.rt_model.specs.Answers.{answer, is_granted as granted_by_rules, nests}
+use Rattle.rt_model.specs.Answers.{answer, do_answer, is_granted as granted_by_rules, lock_answer, nests, op_answer}
 use Rattle.rt_model.specs.BaseKeys.{base_key}
-use Rattle.rt_model.specs.Group.{Group, declares, protocol, sems, tasks, users}
-use Rattle.rt_model.specs.Holders.{holds}
+use Rattle.rt_model.specs.Group.{Group, declares, protocol, sems, task, tasks, users}
 use Rattle.rt_model.specs.NonPreemptive.{non_preemptive}
 use Rattle.rt_model.specs.Outcomes.{past_act}
 use Rattle.rt_model.specs.Past.{Acted, Event, Past, accepted, now, sem_act}
@@ -30,23 +28,39 @@ use Rattle.group_facts.specs.Timers.{timer}
 use Rattle.group_facts.specs.Words.{is_ready}
 use Rattle.sem_table.specs.Asked.{is_granted}
 use Rattle.sem_table.specs.Told.{owner_of}
-use Rattle.group_sems.specs.GroupSems.{GroupSems}
 use Rattle.group_sems.specs.Locking.{CanLock}
+use Rattle.group_sems.specs.Refusing.{AreSemsOf, lock_refusal}
 use Rattle.group_sem_laws.specs.Kept.{KeepsLocks}
 use Rattle.group_sem_laws.specs.Leaving.{IsLeft}
-use Rattle.group_sem_laws.specs.Reading as read
 use Rattle.group_engine.specs.declared.state.GroupState.{GroupState}
-use Rattle.group_engine.specs.Asking.{asked_for, asked_reply, lock_refused}
+use Rattle.group_engine.specs.Asking.{CanAskFor, asked_for, asked_reply, lock_refused}
 use Rattle.group_engine.specs.State.{IsAt}
-use Rattle.group_engine.specs.Touching.{CanBringUp, CanCount, after_sem, base_now, holds_none, operated, touched_at}
+use Rattle.group_engine.specs.Touching.{CanBase, CanBringUp, CanCount, after_sem, base_now, holds_none, operated, touched_at}
 use Rattle.group_engine.proofs.ActMoves.{CanBe, made-after}
+use Rattle.rt_task.specs.declared.Parts.{Parts}
+use Rattle.rt_task.specs.Validity.{IsValid}
+use Rattle.rt_rules.proofs.NumberLaws.{has-numbers_from, numbers_from-below}
+use Rattle.rt_groups.specs.Places.{IsHomeTask}
+use Rattle.rt_groups.proofs.GroupPlaces.{tasks_are_at_home}
 use Rattle.group_engine.proofs.Bases.{base-told}
+use Rattle.group_engine.proofs.Bounding.{can_base, in-bases}
 use Rattle.group_engine.proofs.Following.{IsAnswered, can-count, can-looks, followed-at, others-jobs}
 use Rattle.group_engine.proofs.Reading.{SameLook, same-standing}
 use Rattle.group_engine.proofs.Touched.{among-three, bases-asked, outside-three}
 use Rattle.group_sem_laws.proofs.Fitting.{owner-is}
 use Rattle.group_jobs.specs.GroupJobs.{is_op_reply}
 use Rattle.group_engine.proofs.SemLaws.{grant_is_read, holding_is_read, lock_fits, lock_is_kept, lock_leaves, lock_refusal_is_read, owner_is_read}
+
+-- the semaphores of a set, and those that a task declares, are numbered from 1
+pub sem-range : (g : Group) (r : ℕ) → has r (sems g) ≡ true → (1 ≤ r) × (r ≤ length g.setup.sems)
+unfolding sems
+sem-range g r h =
+    let high : r < 1 + length g.setup.sems = numbers_from-below r 1 (length g.setup.sems) h in
+    (has-numbers_from r 1 (length g.setup.sems) h, omega (arith, high))
+
+uses-known : (g : Group) (t : ℕ) → IsValid g.setup → has t (tasks g) ≡ true → AreSemsOf g.setup t
+unfolding declares task
+uses-known g t valid member = λ r h. sem-range g r ((rules_of g valid).is_known t r member h)
 
 -- why a Lock is refused, and its answer
 record IsCase (refusal : Option Reply) (answer : Reply) (granted : Bool) : Type 0 where
@@ -85,17 +99,34 @@ module _ (g : Group) (q t : ℕ) (sem : SemNo) (past : Past) (s : GroupState) (c
 
   answer-is : answer g q (acts.Do (ops.Lock sem)) past
       ≡ (if non_preemptive t past then replies.InNp else (if not (declares g t sem.0) then replies.NotDeclared else (if nests g (protocol g sem.0) sem.0 t past then replies.Nested else (if granted then replies.Granted else replies.Queued))))
-  unfolding answer granted
+  unfolding answer do_answer op_answer lock_answer granted
   answer-is = rw runs_it refl
 
   refusal-is : lock_refused g.setup t sem.0 s
       ≡ (if non_preemptive t past then Some replies.InNp else (if not (declares g t sem.0) then Some replies.NotDeclared else (if nests g (protocol g sem.0) sem.0 t past then Some replies.Nested else None)))
   refusal-is =
-      ap (λ b. if b then Some replies.InNp else _) np-is
+      ap (λ b. if b then Some replies.InNp else lock_refusal g.setup s.sems.table t sem.0) np-is
       ∙ ap (λ (o : Option Reply). if non_preemptive t past then Some replies.InNp else o) (lock_refusal_is_read g past can.played.valid can.at.reachable s.sems t sem.0 member can.act_is_of can.at.sems_are.locks)
 
   case : IsCase (lock_refused g.setup t sem.0 s) (answer g q (acts.Do (ops.Lock sem)) past) granted
   case = rw (refusal-is, answer-is) (lock-case (non_preemptive t past) (declares g t sem.0) (nests g (protocol g sem.0) sem.0 t past) granted)
+
+  -- what reading its refusal rests on
+  pub can-ask-for : CanAskFor g.setup t sem.0 s
+  can-ask-for =
+      let home_of : IsHomeTask g t = tasks_are_at_home g t can.played.valid member in
+      let range = sem-range g sem.0 can.act_is_of in
+      record {
+        low = home_of.low;
+        high = home_of.high;
+        jobs_high = omega (arith, home_of.high, can.at.jobs_are.jobs_length);
+        sem_low = range.0;
+        sem_high = range.1;
+        uses = uses-known g t can.played.valid member;
+      }
+
+  pub can-base-key : CanBase g.setup t s
+  can-base-key = can_base g can.played t member past s can.at.jobs_are can.at.within (in-bases g past s can.played can.at t member)
 
   pub refused-of : (r : Reply) → lock_refused g.setup t sem.0 s ≡ Some r → (r ≡ answer g q (acts.Do (ops.Lock sem)) past) × (accepted (answer g q (acts.Do (ops.Lock sem)) past) ≡ false)
   refused-of r h = case.out r h
@@ -190,3 +221,12 @@ module _ (g : Group) (q t : ℕ) (sem : SemNo) (past : Past) (s : GroupState) (c
 
     pub locked-at : IsAt g after (after_sem g.setup q t (ops.Lock sem) reply sem.0 (owner_of s.sems.table sem.0) None asked)
     locked-at = followed-at g q t (ops.Lock sem) past s can reply (holds_none asked t) answered asked.sems locks same_bases touched inside others
+
+    -- as the code tells it
+    module _ (p : Parts) (before : Option ℕ) (reply1 : Reply) (asked1 : GroupState) (parts_are : p ≡ g.setup) (before_is : before ≡ owner_of s.sems.table sem.0)
+        (reply1_is : reply1 ≡ asked_reply p t sem.0 s) (asked1_is : asked1 ≡ asked_for p t sem.0 s) where
+      pub looks-told : (u : ℕ) → has u (touched_at asked1 sem.0 before None) ≡ true → CanBringUp p u (operated p q t (ops.Lock sem) reply1 (holds_none asked1 t) asked1)
+      looks-told = rw (reply1_is, asked1_is, before_is, parts_are) can-look-touched
+
+      pub locked-told : (s1 : GroupState) → s1 ≡ after_sem p q t (ops.Lock sem) reply1 sem.0 before None asked1 → IsAt g after s1
+      locked-told s1 e = rw (e, reply1_is, asked1_is, before_is, parts_are) locked-at

@@ -35,13 +35,12 @@ use Rattle.cluster_table.specs.Clusters.{KeptCluster, fresh, homes_from, relinke
 use Rattle.cluster_table.specs.Table.{HasTask, cluster_at}
 use Rattle.cluster_table.proofs.RowLaws.{at-relinked, home-at, length-homes, processor-low, row-at}
 use Rattle.prio_inherit.specs.Waits.{Waits}
-use Rattle.sem_table.specs.Opened.{IsOpened}
-use Rattle.mpcp_ceilings.specs.Ceilings.{AreCeilings}
 use Rattle.group_sems.specs.GroupSems.{GroupSems}
 use Rattle.group_sem_laws.specs.Kept.{KeepsGroupSems, KeepsLocks}
-use Rattle.group_sem_laws.specs.Keeping.{rebased, untold}
+use Rattle.group_sem_laws.specs.Keeping.{rebased}
 use Rattle.group_engine.proofs.SemLaws.{bases_are_told, opening_is_kept}
 use Rattle.group_engine.specs.declared.state.GroupState.{GroupState}
+use Rattle.group_engine.specs.Asking.{IsUntold}
 use Rattle.group_engine.specs.Moments.{IsPlayed}
 use Rattle.group_engine.specs.State.{HasClusterAt, IsAt, IsWithin}
 use Rattle.group_engine.specs.Touching.{AreNumbered, CanBaseAll, CanBringUp, all_based, all_brought_up, base_now, based, placed_all, timer_now}
@@ -55,11 +54,10 @@ pub state-based : (p : Parts) (us : List ℕ) (s : GroupState) → all_based p u
 state-based p [] s = refl
 state-based p (u ∷ us) s = state-based p us (based p u s)
 
-bases-of : (p : Parts) (k : Kept) (us : List ℕ) (v : GroupSems) → GroupSems
+abbrev pub bases-of : Parts → Kept → List ℕ → GroupSems → GroupSems
 bases-of p k us v = record v { waits = record v.waits { bases = rebased (base_now p k) us v.waits.bases } }
 
 pub sems-based : (p : Parts) (us : List ℕ) (s : GroupState) → (all_based p us s).sems ≡ bases-of p s.jobs.kept us s.sems
-unfolding bases-of
 sems-based p [] s = refl
 sems-based p (u ∷ us) s = sems-based p us (based p u s)
 
@@ -102,12 +100,6 @@ cluster-row g c h =
     let low : c < 0 + length g.setup.clusters = numbers_from-below c 0 (length g.setup.clusters) parts.0 in
     (omega (arith, low), parts.1)
 
--- its semaphores, of which nothing was told
-pub record IsUntold (g : Group) (v : GroupSems) : Type 0 where
-  pub table : IsOpened g v.table
-  pub ceilings : AreCeilings g v.ceilings
-  pub waits : v.waits ≡ untold (length g.setup.tasks + 1)
-
 module _ (g : Group) (played : IsPlayed g) (room : ℕ) (v : GroupSems) (new : IsUntold g v) where
   abbrev s0 : GroupState
   s0 = empty_state g room v
@@ -144,7 +136,7 @@ module _ (g : Group) (played : IsPlayed g) (room : ℕ) (v : GroupSems) (new : I
   sems-told = rw (sems-based g.setup (tasks g) s0, new.waits) (record {
     locks =
         let l : KeepsLocks g [] v = opening_is_kept g v played.valid new.table new.ceilings (ap (λ (w : Waits). w.nexts) new.waits) (ap (λ (w : Waits). w.boosts) new.waits) in
-        record { sems_are = l.sems_are; rows_are = l.rows_are; nexts_are = rw new.waits at l.nexts_are; boosts_are = rw new.waits at l.boosts_are; ceilings_are = l.ceilings_are };
+        record { sems_are = l.sems_are; rows_are = l.rows_are; none_outside = l.none_outside; nexts_are = rw new.waits at l.nexts_are; boosts_are = rw new.waits at l.boosts_are; ceilings_are = l.ceilings_are };
     bases = rw (rebased-same g s0 kept) (bases_are_told g played.valid);
   })
 

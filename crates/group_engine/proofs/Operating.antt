@@ -1,6 +1,6 @@
 -- The state after an operation that is at no semaphore.
 use Rattle.std.proofs.Common.{◌≡◌, ℕ, Bool, true, false, [], ◌∷◌, ◌||◌, eqb-true, refl, sym, ap, ◌∙◌, subst}
-use Rattle.std.specs.Prelude.{◌==◌, None, Some, if◌then◌else◌, filter}
+use Rattle.std.specs.Prelude.{◌==◌, Some, filter}
 use Rattle.rt_task.specs.declared.Act.TheVariants as acts
 use Rattle.rt_task.specs.declared.Op.{Op}
 use Rattle.rt_task.specs.declared.Op.TheVariants as ops
@@ -22,14 +22,13 @@ use Rattle.group_facts.specs.Facts.{CpuFacts}
 use Rattle.group_facts.specs.FactMoves.{with_act}
 use Rattle.group_facts.specs.Kept.{cpu_of, job_of}
 use Rattle.group_facts.specs.Timers.{is_sleep}
-use Rattle.group_facts.specs.Replies.{do_reply, op_reply}
 use Rattle.group_jobs.specs.GroupJobs.{plain_reply, task_in}
 use Rattle.group_facts.specs.Moves.{is_end}
 use Rattle.group_sem_laws.specs.Kept.{KeepsLocks}
 use Rattle.group_engine.specs.declared.state.GroupState.{GroupState}
 use Rattle.group_engine.specs.State.{IsAt}
-use Rattle.group_engine.specs.Touching.{CanCount, counted, followed, holds_none, is_over, operated}
-use Rattle.group_engine.proofs.ActMoves.{CanBe, base-same, look-same, made-after, stays}
+use Rattle.group_engine.specs.Touching.{CanCount, counted, followed, holds_none, is_over, left_if, operated}
+use Rattle.group_engine.proofs.ActMoves.{CanBe, look-same, made-after, stays}
 use Rattle.group_engine.proofs.Answering.{answer-read, plain-op, sem_facts}
 use Rattle.group_engine.proofs.Following.{IsAnswered, can-count, followed-at, kept-then, lasts-of, others-jobs, own-look, runs-then, sems-on}
 use Rattle.group_engine.proofs.Reading.{SameLook, quiet-standing}
@@ -99,9 +98,10 @@ module _ (g : Group) (q t : ℕ) (op : Op) (past : Past) (s : GroupState) (can :
             first false k = refl
 
         by_case : (b : Bool) → is_over g.setup t op replies.Done (holds_none s t) s ≡ b
-            → IsAt g after (if b then followed true g.setup q t [] (operated g.setup q t op replies.Done (holds_none s t) s) else operated g.setup q t op replies.Done (holds_none s t) s)
+            → IsAt g after (left_if b g.setup q t (operated g.setup q t op replies.Done (holds_none s t) s))
         by_case true e =
-            rw e at (followed-at g q t op past s can replies.Done (holds_none s t) answered s.sems locks refl [] (λ u h. cc) (λ u h. others u (apart u h)))
+            let P : Bool → Type 0 = λ b. IsAt g after (followed b g.setup q t [] (operated g.setup q t op replies.Done (holds_none s t) s)) in
+            subst P e (followed-at g q t op past s can replies.Done (holds_none s t) answered s.sems locks refl [] (λ u h. cc) (λ u h. others u (apart u h)))
         by_case false e =
             let lasts : is_end (task_in g.setup.tasks t) s.jobs.kept.clock op (holds_none s t) (job_of s.jobs.kept t) ≡ false = lasts-of g q t op past s can replies.Done (holds_none s t) answered e in
             let awake : is_sleep op ≡ false = sym (leaves-sleep op) ∙ second (is_end (task_in g.setup.tasks t) s.jobs.kept.clock op (holds_none s t) (job_of s.jobs.kept t)) (leaves (acts.Do op) replies.Done) e in

@@ -34,9 +34,11 @@ use Rattle.group_sems.specs.GroupSems.{GroupSems}
 use Rattle.group_sem_laws.specs.Kept.{KeepsGroupSems, KeepsWaits}
 use Rattle.group_engine.proofs.SemLaws.{holding_is_read, key_is_read}
 use Rattle.group_engine.specs.declared.state.GroupState.{GroupState}
+use Rattle.group_engine.specs.Keys.{HoldsKeys}
 use Rattle.group_engine.specs.Moments.{IsPlayed}
 use Rattle.group_engine.specs.State.{AreHomes, HasClusterAt, IsAt, IsWithin}
 use Rattle.group_engine.specs.Touching.{all_brought_up, key_now, placed_all, timer_now}
+use Rattle.group_engine.proofs.Bases.{has-base}
 use Rattle.group_engine.proofs.Bringing.{cluster-brought, homes-brought, jobs-brought, sems-brought, keys-refreshed, renewed-same, timers-brought}
 use Rattle.group_engine.proofs.Reading.{eligible-ready}
 
@@ -175,3 +177,10 @@ unmoved g e past s between still made = record {
             links_are = was.is_between.links_are ∙ sym (links-stay g c e past made tops runs);
           };
         }
+
+-- the table of keys holds those of the group's tasks
+pub keys-held : (g : Group) → IsPlayed g → (past : Past) (s : GroupState) → IsAt g past s → HoldsKeys g past s.sems.waits
+keys-held g played past s at = record {
+  told = λ t h. has-base g past s.sems.waits.bases at.sems_are.bases t h;
+  keys = λ t h. key_is_read g past played.valid at.reachable s.sems.waits t h (waits-kept g past s.sems at.sems_are);
+}

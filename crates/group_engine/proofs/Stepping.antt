@@ -1,9 +1,10 @@
 -- One step of the engine: what its moves rest on, and that what is kept stays sound.
-use Rattle.std.proofs.Common.{◌≡◌, ℕ, ◌+◌, ◌<◌, ◌≤◌, true, List, [], ◌∷◌, ◌++◌, length, sym, ◌∙◌, subst, arith, length-append}
+use Rattle.std.proofs.Common.{◌≡◌, ℕ, ◌+◌, ◌<◌, ◌≤◌, false, List, [], ◌∷◌, ◌++◌, length, sym, ◌∙◌, subst, arith, length-append}
 use Rattle.std.proofs.lemmas.List.Elements.{All-push}
 use Rattle.rt_base.specs.declared.TheConstants.{MOST_STEPS}
 use Rattle.rt_task.specs.declared.Parts.{Parts}
 use Rattle.rt_task.specs.declared.Step.{Step}
+use Rattle.rt_task.specs.RuleWords.{is_p_res}
 use Rattle.rt_task.specs.Validity.{IsValid}
 use Rattle.rt_history.specs.declared.Entry.{Entry}
 use Rattle.rt_history.specs.declared.Reply.{Reply}
@@ -13,7 +14,6 @@ use Rattle.rt_model.specs.Past.{Clock, Past, entries_in}
 use Rattle.rt_model.specs.Steps.{IsStepOf}
 use Rattle.rt_model.proofs.Steps.{IsLegal-append, after-acted, past_of-append, reply_to-lem}
 use Rattle.rt_plays.specs.Homes.{IsProcessorOf}
-use Rattle.rt_groups.specs.Built.{is_built}
 use Rattle.rt_groups.specs.Groups.{GroupHistory, IsGroupOf, group_of}
 use Rattle.group_engine.specs.declared.state.GroupState.{GroupState}
 use Rattle.group_engine.specs.Moments.{CanActOn, CanMove, HasActed, IsPlayed, Moment}
@@ -30,10 +30,10 @@ pub entries_in-past_of : (g : Group) (es : List Entry) → entries_in (past_of g
 unfolding past_of
 entries_in-past_of g es = let h = entries_in-from g es [] in omega (arith, h)
 
-pub played : (p q : Parts) (n : ℕ) → p ≡ q → IsValid p → is_built q ≡ true → IsGroupOf q n → IsPlayed (record { setup = p; number = n })
-played p q n same valid built there = record {
+pub played : (p q : Parts) (n : ℕ) → p ≡ q → IsValid p → is_p_res q.plugin ≡ false → IsGroupOf q n → IsPlayed (record { setup = p; number = n })
+played p q n same valid none there = record {
   valid = valid;
-  built = subst (λ (r : Parts). is_built r ≡ true) (sym same) built;
+  unreserved = subst (λ (r : Parts). is_p_res r.plugin ≡ false) (sym same) none;
   is_there = subst (λ (r : Parts). IsGroupOf r n) (sym same) there;
 }
 

@@ -1,5 +1,5 @@
 -- The tasks that a Lock or an Unlock touches beside the one that runs: at most three.
-use Rattle.std.proofs.Common.{◌≡◌, ℕ, Bool, true, false, ◌||◌, List, [], ◌∷◌, set, eqb-true, refl, sym, ◌∙◌}
+use Rattle.std.proofs.Common.{◌≡◌, ℕ, Bool, true, false, ◌||◌, List, [], ◌∷◌, eqb-true, refl, sym, ◌∙◌}
 use Rattle.std.specs.Prelude.{◌==◌, Option, None, Some, if◌then◌else◌}
 use Rattle.rt_order.specs.declared.Key.{Key}
 use Rattle.rt_task.specs.declared.Parts.{Parts}
@@ -13,7 +13,7 @@ use Rattle.sem_table.specs.Told.{owner_of, waiters_of}
 use Rattle.mpcp_ceilings.specs.Ceilings.{CeilingTable}
 use Rattle.group_sems.specs.BoostKeys.{boost_now}
 use Rattle.group_sems.specs.GroupSems.{GroupSems}
-use Rattle.group_sems.specs.Locking.{after_lock, after_unlock, asked_waits, freed_waits, served_waits, with_boost, with_next}
+use Rattle.group_sems.specs.Locking.{after_lock, after_unlock, asked_waits, freed_waits, served_waits, with_boost}
 use Rattle.group_sems.specs.Telling.{retold, told_of}
 
 -- ---- three tasks that may be there

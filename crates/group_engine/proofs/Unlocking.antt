@@ -1,19 +1,19 @@
 -- The state after an Unlock.
-use Rattle.std.proofs.Common.{◌≡◌, ℕ, Bool, true, false, not, List, [], ◌∷◌, ◌||◌, ◌&&◌, eqb-true, refl, sym, ap, ◌∙◌, subst}
-use Rattle.std.specs.Prelude.{◌==◌, Option, None, Some, if◌then◌else◌}
+use Rattle.std.proofs.Common.{◌≡◌, ℕ, Bool, true, false, not, List, ◌∷◌, ◌&&◌, refl, sym, ap, ◌∙◌, subst}
+use Rattle.std.specs.Prelude.{Option, None, Some, if◌then◌else◌}
 use Rattle.rt_base.specs.declared.SemNo.{SemNo}
+use Rattle.rt_task.specs.declared.Parts.{Parts}
 use Rattle.rt_task.specs.declared.Act.TheVariants as acts
 use Rattle.rt_task.specs.declared.Op.TheVariants as ops
 use Rattle.rt_history.specs.declared.Reply.{Reply}
 use Rattle.rt_history.specs.declared.Reply.TheVariants as replies
 use Rattle.rt_rules.proofs.BoolLaws.{clash}
 use Rattle.rt_rules.proofs.MemberLaws.{equal_self}
-use Rattle.rt_rules.specs.Numbers.{has, is, is_empty}
-use Rattle.rt_rules.specs.Placing.{tasks_in}
+use Rattle.rt_rules.specs.Numbers.{has, is}
 use Rattle.rt_rules.specs.SemState.{Frees}
-use Rattle.rt_model.specs.Answers.{answer}
+use Rattle.rt_model.specs.Answers.{answer, do_answer, op_answer, unlock_answer}
 use Rattle.rt_model.specs.Ceilings.{is_pcp}
-use Rattle.rt_model.specs.Group.{Group, protocol, sems, tasks, users}
+use Rattle.rt_model.specs.Group.{Group, protocol, tasks, users}
 use Rattle.rt_model.specs.Holders.{holder, last_granted}
 use Rattle.rt_model.specs.Outcomes.{past_act}
 use Rattle.rt_model.specs.Past.{Acted, Event, Past, accepted, now, sem_act}
@@ -24,18 +24,15 @@ use Rattle.rt_laws.proofs.ValidSets.{rules_of}
 use Rattle.rt_changes.specs.Owners.{owner}
 use Rattle.rt_changes.specs.HoldChanges.{IsServed}
 use Rattle.rt_changes.proofs.SemActs.{unlock_frees}
-use Rattle.group_facts.specs.Facts.{JobFacts, job_facts}
+use Rattle.group_facts.specs.Facts.{job_facts}
 use Rattle.group_facts.specs.FactMoves.{with_act}
-use Rattle.group_facts.specs.Kept.{job_of}
 use Rattle.group_facts.specs.Timers.{timer}
 use Rattle.group_facts.specs.Words.{is_ready}
 use Rattle.sem_table.specs.Released.{after_release}
 use Rattle.sem_table.specs.Told.{owner_of}
-use Rattle.group_sems.specs.GroupSems.{GroupSems}
 use Rattle.group_sems.specs.Locking.{CanUnlock}
 use Rattle.group_sem_laws.specs.Kept.{KeepsLocks}
 use Rattle.group_sem_laws.specs.Leaving.{IsLeft}
-use Rattle.group_sem_laws.specs.Reading as read
 use Rattle.group_engine.specs.declared.state.GroupState.{GroupState}
 use Rattle.group_engine.specs.Asking.{freed_it}
 use Rattle.group_engine.specs.State.{IsAt}
@@ -73,7 +70,7 @@ module _ (g : Group) (q t : ℕ) (sem : SemNo) (past : Past) (s : GroupState) (c
 
   answer-is : answer g q (acts.Do (ops.Unlock sem)) past
       ≡ (if not (is t (holder g sem.0 past)) then replies.NotHeld else (if is_pcp (protocol g sem.0) && not (is sem.0 (last_granted g t past)) then replies.NotLast else replies.Done))
-  unfolding answer
+  unfolding answer do_answer op_answer unlock_answer
   answer-is = rw runs_it refl
 
   case : IsCase (unlock_refusal g.setup s.sems.table t sem.0) (answer g q (acts.Do (ops.Unlock sem)) past)
@@ -149,7 +146,7 @@ module _ (g : Group) (q t : ℕ) (sem : SemNo) (past : Past) (s : GroupState) (c
     others u h =
         let out = outside-three u t (owner_of s.sems.table sem.0) (owner_of freed.sems.table sem.0) served h in
         let job : job_facts u after ≡ job_facts u past = others-jobs g q t (ops.Unlock sem) past s can replies.Done (holds_none freed t) answered u out.0 in
-        let unserved : (r : ℕ) → IsServed g u r event past → ⊥ = λ r is. let here : served ≡ Some u = served-is.takes u r is in let m : is u (Some u) ≡ false = subst (λ o. is u o ≡ false) here out.3 in clash _ (equal_self u) m in
+        let unserved : (r : ℕ) → IsServed g u r event past → ⊥ = λ r x. let here : served ≡ Some u = served-is.takes u r x in let m : is u (Some u) ≡ false = subst (λ o. is u o ≡ false) here out.3 in clash _ (equal_self u) m in
         let left : IsLeft g u event past = unlock_leaves g event past can.played.valid made t sem.0 u frees out.0 (record { before = rw before-is at out.1; after = rw after-is at out.2 }) unserved in
         record {
           timer_same = ap (timer (now past) _) job;
@@ -158,3 +155,13 @@ module _ (g : Group) (q t : ℕ) (sem : SemNo) (past : Past) (s : GroupState) (c
 
     pub unlocked-at : IsAt g after (after_sem g.setup q t (ops.Unlock sem) replies.Done sem.0 (owner_of s.sems.table sem.0) served freed)
     unlocked-at = followed-at g q t (ops.Unlock sem) past s can replies.Done (holds_none freed t) answered freed.sems locks same_bases touched inside others
+
+    -- as the code tells it
+    module _ (p : Parts) (before served1 : Option ℕ) (freed1 : GroupState) (parts_are : p ≡ g.setup) (before_is : before ≡ owner_of s.sems.table sem.0)
+        (freed1_is : freed1 ≡ freed_it p t sem.0 s) (served1_is : served1 ≡ freed1.sems.table.served) where
+      pub looks-told : (u : ℕ) → has u (touched_at freed1 sem.0 before served1) ≡ true
+          → CanBringUp p u (operated p q t (ops.Unlock sem) replies.Done (holds_none freed1 t) freed1)
+      looks-told = rw (served1_is, freed1_is, before_is, parts_are) can-look-touched
+
+      pub unlocked-told : (s1 : GroupState) → s1 ≡ after_sem p q t (ops.Unlock sem) replies.Done sem.0 before served1 freed1 → IsAt g after s1
+      unlocked-told s1 e = rw (e, served1_is, freed1_is, before_is, parts_are) unlocked-at

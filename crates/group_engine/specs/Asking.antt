@@ -1,11 +1,16 @@
 -- Asking for a semaphore.
-use Rattle.std.specs.Prelude.{◌≡◌, ◌≤◌, ℕ, Option, Some, length, if◌then◌else◌}
+use Rattle.std.specs.Prelude.{◌≡◌, ◌≤◌, ◌+◌, ℕ, Option, Some, length, if◌then◌else◌}
 use Rattle.rt_task.specs.declared.Parts.{Parts}
 use Rattle.rt_history.specs.declared.Reply.{Reply}
 use Rattle.rt_history.specs.declared.Reply.TheVariants as replies
+use Rattle.rt_model.specs.Group.{Group}
 use Rattle.sem_table.specs.Asked.{is_granted}
+use Rattle.sem_table.specs.Opened.{IsOpened}
+use Rattle.mpcp_ceilings.specs.Ceilings.{AreCeilings}
 use Rattle.group_facts.specs.Kept.{job_of}
+use Rattle.group_sems.specs.GroupSems.{GroupSems}
 use Rattle.group_sems.specs.Locking.{after_lock, after_unlock}
+use Rattle.group_sem_laws.specs.Keeping.{untold}
 use Rattle.group_sems.specs.Refusing.{AreSemsOf, lock_refusal}
 use Rattle.group_engine.specs.declared.state.GroupState.{GroupState}
 use Rattle.group_engine.specs.Touching.{base_now}
@@ -33,3 +38,9 @@ pub record CanAskFor (p : Parts) (t sem : ℕ) (s : GroupState) : Type 0 where
   pub sem_low : 1 ≤ sem
   pub sem_high : sem ≤ length p.sems
   pub uses : AreSemsOf p t
+
+-- the semaphores of a group of which nothing was told
+pub record IsUntold (g : Group) (v : GroupSems) : Type 0 where
+  pub table : IsOpened g v.table
+  pub ceilings : AreCeilings g v.ceilings
+  pub waits : v.waits ≡ untold (length g.setup.tasks + 1)

@@ -90,9 +90,12 @@ abbrev pub followed : Bool → Parts → ℕ → ℕ → List ℕ → GroupState
 followed over p q t us s = placed_all (all_brought_up p (t ∷ us) (quitted_if over p q t s))
 
 -- an operation at no semaphore: where it is over its task is looked at
+abbrev pub left_if : Bool → Parts → ℕ → ℕ → GroupState → GroupState
+left_if true p q t s = followed true p q t [] s
+left_if false p q t s = s
+
 abbrev pub counted : Parts → ℕ → ℕ → Op → Bool → GroupState → GroupState
-counted p q t op none s =
-    if is_over p t op replies.Done none s then followed true p q t [] (operated p q t op replies.Done none s) else operated p q t op replies.Done none s
+counted p q t op none s = left_if (is_over p t op replies.Done none s) p q t (operated p q t op replies.Done none s)
 
 -- whether the task holds no semaphore
 abbrev pub holds_none : GroupState → ℕ → Bool

@@ -18,8 +18,8 @@ ghost use Rattle.rt_groups.specs.Groups.{GroupHistory, group_of, past, with_entr
 
 use crate::room::put;
 use crate::state::GroupState;
-use ready_heap::ReadyHeap;
 use prio_inherit::Inherit;
+use ready_heap::ReadyHeap;
 use rt_base::{ClusterNo, CpuNo, GroupNo, NoMemory, SemNo, TaskNo};
 use rt_history::{Entry, Reply};
 use rt_order::ByKey;

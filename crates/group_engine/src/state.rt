@@ -11,15 +11,17 @@ ghost use Rattle.rt_model.specs.Runs.{leaves, runs};
 ghost use Rattle.rt_plays.specs.Homes.{IsProcessorOf};
 ghost use Rattle.rt_plays.specs.Plays.{group_with};
 ghost use Rattle.rank_changes.specs.Clusters.{HoldsEligible};
+ghost use Rattle.rt_groups.specs.Groups.{IsGroupOf};
+ghost use Rattle.rt_task.specs.RuleWords.{is_p_res};
 ghost use Rattle.rt_model.specs.Holders.{holder};
 ghost use Rattle.rt_rules.specs.Placing.{tasks_in};
 ghost use Rattle.rt_changes.specs.SemActs.{is_at_sem};
 ghost use Rattle.group_facts.specs.Timers.{AreDue};
 ghost use Rattle.group_sems.specs.Locking.{CanLock};
 ghost use Rattle.group_engine.specs.Moments.{CanAct, CanActOn, CanLend, CanLook, CanMove, CanOperate, HasActed, IsDeclared, IsPlayed, Moment};
-ghost use Rattle.group_engine.specs.Asking.{asked_for, asked_reply, lock_refused, CanAskFor};
+ghost use Rattle.group_engine.specs.Asking.{asked_for, asked_reply, lock_refused, CanAskFor, IsUntold};
 ghost use Rattle.group_engine.specs.State.{IsAt};
-ghost use Rattle.group_engine.specs.Touching.{AreArmedOnly, AreNumbered, CanBase, CanBaseAll, CanBringUp, CanBringUpAll, CanCount, CanQuit, after_sem, all_based, all_brought_up, base_now, based, brought_up, counted, holds_none, key_now, operated, quitted, quitted_if, timer_now, touched_at};
+ghost use Rattle.group_engine.specs.Touching.{AreArmedOnly, AreNumbered, CanBase, CanBaseAll, CanBringUp, CanBringUpAll, CanCount, CanQuit, after_sem, all_based, all_brought_up, base_now, based, brought_up, counted, holds_none, key_now, left_if, operated, quitted, quitted_if, timer_now, touched_at};
 
 use cluster_table::ClusterTable;
 use group_jobs::GroupJobs;
@@ -51,15 +53,33 @@ impl GroupState {
         group: GroupNo,
         room: u32,
     ) -> Result<GroupState, NoMemory>
-        requires { IsPlayed (group_with setup.now group.0) }
+        requires group { IsGroupOf setup.now group.0 }
+        requires unreserved { is_p_res setup.now.plugin ≡ false }
+        ensures played { IfOk result (λ _. IsPlayed (group_with setup.now group.0)) }
         ensures at { IfOk result (λ s. IsAt (group_with setup.now group.0) [] s) }
         ensures room { IfOk result (λ s. s.jobs.room ≡ room) }
     {
-        let parts = setup.parts();
+        let sems = GroupSems::open(alloc, setup, group)?;
+        GroupState::with_sems(alloc, setup.parts(), sems, group, room)
+    }
+
+    /// The same with these semaphores, of which nothing was told.
+    fn with_sems(
+        alloc: Global,
+        parts: &Parts,
+        sems: GroupSems,
+        group: GroupNo,
+        room: u32,
+    ) -> Result<GroupState, NoMemory>
+        requires played { IsPlayed (group_with parts.now group.0) }
+        requires untold { IsUntold (group_with parts.now group.0) sems }
+        ensures at { IfOk result (λ s. IsAt (group_with parts.now group.0) [] s) }
+        ensures room { IfOk result (λ s. s.jobs.room ≡ room) }
+    {
         let count = parts.tasks.as_slice().len() as u32;
         let mut state = GroupState {
             jobs: GroupJobs::open(alloc, count, MOST_CPUS, room)?,
-            sems: GroupSems::open(alloc, setup, group)?,
+            sems,
             timers: ReleaseQueue::new(alloc, count + 1)?,
             clusters: ClusterTable::open(alloc, parts.clusters.as_slice(), group, count + 1)?,
         };
@@ -301,6 +321,19 @@ impl GroupState {
         self.bring_up_any(parts, c);
     }
 
+    /// Where the operation is over, the processor runs nothing, its task is looked at, and the links follow.
+    fn leave_if(&mut self, over: bool, parts: &Parts, cpu: CpuNo, task: TaskNo)
+        requires quits { CanQuit parts.now cpu.0 task.0 self.old }
+        requires looks { CanBringUp parts.now task.0 self.old }
+        ensures { self.new ≡ left_if over parts.now cpu.0 task.0 self.old }
+    {
+        if over {
+            self.quit(parts, cpu, task);
+            self.bring_up(parts, task);
+            self.clusters.place_changed();
+        }
+    }
+
     /// Counts an accepted operation but Lock and Unlock of the task that the processor runs. Where that ends its job, or
     /// is a Sleep, the processor runs nothing, and the task is looked at.
     fn count(&mut self, parts: &Parts, cpu: CpuNo, task: TaskNo, op: Op)
@@ -310,11 +343,7 @@ impl GroupState {
         let none = self.sems.holds_none(task);
         let tasks = parts.tasks.as_slice();
         let ends = self.jobs.operate(tasks, cpu, task, op, Reply::Done, none);
-        if leaves_processor(op, Reply::Done, ends) {
-            self.quit(parts, cpu, task);
-            self.bring_up(parts, task);
-            self.clusters.place_changed();
-        }
+        self.leave_if(leaves_processor(op, Reply::Done, ends), parts, cpu, task);
     }
 
     /// An operation but Lock and Unlock of the task that the processor runs.
@@ -353,12 +382,12 @@ impl GroupState {
         ensures { self.new
             ≡ after_sem parts.now cpu.0 task.0 op reply sem.0 (number_of_task before) (number_of_task served) self.old }
     {
+        let after = self.sems.owner(sem);
         let none = self.sems.holds_none(task);
         let tasks = parts.tasks.as_slice();
         let ends = self.jobs.operate(tasks, cpu, task, op, reply, none);
         self.quit_if(leaves_processor(op, reply, ends), parts, cpu, task);
         self.bring_up(parts, task);
-        let after = self.sems.owner(sem);
         self.bring_up_three(parts, before, after, served);
         self.clusters.place_changed();
     }
@@ -420,7 +449,16 @@ impl GroupState {
         let before = self.sems.owner(sem);
         let clock = Tick(self.jobs.clock());
         let served = self.sems.unlock(parts, clock, task, sem);
-        self.follow(parts, cpu, task, Op::Unlock(sem), Reply::Done, sem, before, served);
+        self.follow(
+            parts,
+            cpu,
+            task,
+            Op::Unlock(sem),
+            Reply::Done,
+            sem,
+            before,
+            served,
+        );
         Reply::Done
     }
 
@@ -473,9 +511,8 @@ fn is_accepted(reply: Reply) -> bool
 fn leaves_processor(op: Op, reply: Reply, ends: bool) -> bool
     ensures { result ≡ ends || leaves (Act.Do op) reply }
 {
-    ends
-        || match op {
-            Op::Sleep(_) => is_accepted(reply),
-            _ => reply == Reply::Queued,
-        }
+    ends || match op {
+        Op::Sleep(_) => is_accepted(reply),
+        _ => reply == Reply::Queued,
+    }
 }

@@ -1,5 +1,5 @@
 -- The base keys that are told are those of the past.
-use Rattle.std.proofs.Common.{◌≡◌, ◌∙◌, ◌<◌, ◌+◌, ℕ, Bool, true, false, List, [], ◌∷◌, length, refl, sym, ap, subst, arith}
+use Rattle.std.proofs.Common.{◌≡◌, ◌∙◌, ◌<◌, ◌+◌, ℕ, Bool, true, false, List, ◌∷◌, length, refl, sym, ap, subst, arith}
 use Rattle.std.specs.Prelude.{Option, None, Some, replicate, slice_index_or}
 use Rattle.std.proofs.lemmas.List.{length-replicate}
 use Rattle.rt_order.specs.declared.Key.{Key}
@@ -9,11 +9,9 @@ use Rattle.rt_rules.proofs.MemberLaws.{has-filter}
 use Rattle.rt_rules.proofs.NumberLaws.{numbers_from-below}
 use Rattle.rt_model.specs.BaseKeys.{base_key}
 use Rattle.rt_model.specs.Group.{Group, tasks}
-use Rattle.rt_model.specs.Past.{Past}
 use Rattle.rt_changes.proofs.BaseKeys.{base_key-left}
 use Rattle.group_sem_laws.specs.Keeping.{BasesAreKept, BasesAreTold, rebased}
-use Rattle.group_sem_laws.specs.Kept.{KeepsBases}
-use Rattle.group_sem_laws.proofs.Putting.{put, put-at, put-length, put-other, rebased-put}
+use Rattle.group_sem_laws.proofs.Putting.{put-at, put-length, put-other, rebased-put}
 
 -- a task of the group has a place
 pub task-place : (g : Group) (t : ℕ) → has t (tasks g) ≡ true → t < length g.setup.tasks + 1

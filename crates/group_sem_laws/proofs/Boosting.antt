@@ -1,5 +1,5 @@
 -- What holders are boosted to.
-use Rattle.std.proofs.Common.{Bool, false, length, refl, subst, sym, ap, true, ℕ, ◌+◌, ◌<◌, ◌∙◌, ◌∷◌, ◌≡◌, List, []}
+use Rattle.std.proofs.Common.{false, length, refl, subst, sym, true, ℕ, ◌<◌, ◌∙◌, ◌∷◌, ◌≡◌, List}
 use Rattle.std.specs.Prelude.{None, Option, Some, ◌==◌, slice_set}
 use Rattle.rt_task.specs.Validity.{IsValid}
 use Rattle.rt_task.specs.declared.PluginKind.TheVariants as plugins
@@ -8,8 +8,7 @@ use Rattle.rt_task.specs.declared.Protocol.TheVariants.{Fmlp, Mpcp, Omlp, Pcp}
 use Rattle.rt_task.specs.declared.Protocol.{Protocol}
 use Rattle.rt_task.specs.declared.Task.{Task}
 use Rattle.rt_order.specs.declared.Key.{Key}
-use Rattle.rt_rules.specs.Numbers.{first, has, is}
-use Rattle.rt_rules.specs.SemState.{Asks, Frees, Neither, SemAct}
+use Rattle.rt_rules.specs.Numbers.{first, has}
 use Rattle.rt_rules.proofs.MemberLaws.{has-first, is-some, some-is, turned}
 use Rattle.rt_model.specs.Boosts.{boost, boost_by, boost_of, granted_at, mpcp_ceiling}
 use Rattle.rt_model.specs.Ceilings.{is_pcp}

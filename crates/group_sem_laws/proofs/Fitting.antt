@@ -6,7 +6,7 @@ use Rattle.rt_task.specs.declared.Parts.{Parts}
 use Rattle.rt_task.specs.declared.Protocol.{Protocol}
 use Rattle.rt_task.specs.declared.Protocol.TheVariants.{Fmlp, Mpcp, Omlp, Pcp}
 use Rattle.rt_order.specs.declared.Key.{Key}
-use Rattle.rt_rules.specs.Numbers.{has, is, numbers_from}
+use Rattle.rt_rules.specs.Numbers.{has, numbers_from}
 use Rattle.rt_rules.specs.Pcp.{passes, pcp_after}
 use Rattle.rt_rules.specs.SemState.{Asks, Frees, Neither}
 use Rattle.rt_model.specs.Answers.{is_granted as is_granted_by_rules}
@@ -371,7 +371,7 @@ module _ (g : Group) (valid : IsValid g.setup) (e : Event) (past : Past) (made_a
   began : IsReachable g past
   began = (last_move g made_after).0
 
-  party : IsParty g t s
+  pub party : IsParty g t s
   party = all_parties g (rules_of g valid) began t s (holder-engaged g t s past ((next g (rules_of g valid) began (last_move g made_after).1).freed t s h))
 
   release : IsRelease g t s e past

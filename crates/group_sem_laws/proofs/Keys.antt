@@ -1,6 +1,6 @@
 -- The effective key of a task is read off what is kept.
-use Rattle.std.proofs.Common.{◌≡◌, ◌∙◌, ◌<◌, ◌+◌, ◌&&◌, ◌||◌, ℕ, suc, Bool, true, false, List, [], ◌∷◌, length, map, refl, sym, ap, subst, arith, add-one}
-use Rattle.std.specs.Prelude.{◌==◌, Option, None, Some, filter, slice_index_or, unwrap_or}
+use Rattle.std.proofs.Common.{◌≡◌, ◌∙◌, ◌+◌, ◌&&◌, ◌||◌, ℕ, suc, Bool, true, false, List, length, refl, sym, ap, subst, arith, add-one}
+use Rattle.std.specs.Prelude.{◌==◌, Option, None, Some, unwrap_or}
 use Rattle.rt_order.specs.KeyOrder.{lowest_key}
 use Rattle.rt_order.specs.declared.Key.{Key}
 use Rattle.rt_task.specs.Validity.{IsValid}

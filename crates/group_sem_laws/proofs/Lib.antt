@@ -1,11 +1,6 @@
-pub mod Leaving
-pub mod Reading
-pub mod Outside
-pub mod Refusals
-pub mod Fitting
 pub mod Putting
-pub mod Keys
 pub mod Bases
+pub mod Keys
 pub mod Opening
 pub mod Quiet
 pub mod Owners
@@ -13,3 +8,8 @@ pub mod Retelling
 pub mod Boosting
 pub mod Locks
 pub mod Unlocks
+pub mod Leaving
+pub mod Reading
+pub mod Outside
+pub mod Refusals
+pub mod Fitting

@@ -1,19 +1,18 @@
 -- A lock makes of what is kept what an accepted Lock does.
-use Rattle.std.proofs.Common.{Bool, eqb-true, false, inl, inr, length, length-set, refl, subst, sym, ap, true, ℕ, ◌+◌, ◌<◌, ◌∙◌, ◌∷◌, ◌≡◌, ◌||◌, ◌⊎◌, List, []}
+use Rattle.std.proofs.Common.{Bool, eqb-true, false, inl, inr, length, length-set, refl, subst, sym, ap, true, ℕ, ◌<◌, ◌∙◌, ◌∷◌, ◌≡◌, ◌⊎◌}
 use Rattle.std.specs.Prelude.{None, Option, Some, ◌==◌, slice_set}
 use Rattle.rt_task.specs.Validity.{IsValid}
 use Rattle.rt_order.specs.declared.Key.{Key}
-use Rattle.rt_rules.specs.Numbers.{has, is}
+use Rattle.rt_rules.specs.Numbers.{has}
 use Rattle.rt_rules.specs.SemState.{Asks}
 use Rattle.rt_rules.proofs.BoolLaws.{clash, either, unless}
-use Rattle.rt_rules.proofs.MemberLaws.{turned}
 use Rattle.rt_model.specs.Answers.{is_granted as is_granted_by_rules}
 use Rattle.rt_model.specs.BaseKeys.{base_key}
 use Rattle.rt_model.specs.Boosts.{boost}
 use Rattle.rt_model.specs.Ceilings.{is_pcp}
 use Rattle.rt_model.specs.EffectiveKeys.{waits_for}
-use Rattle.rt_model.specs.Group.{Group, protocol, sems, tasks}
-use Rattle.rt_model.specs.Holders.{awaits, holder, holds}
+use Rattle.rt_model.specs.Group.{Group, protocol, tasks}
+use Rattle.rt_model.specs.Holders.{awaits, holds}
 use Rattle.rt_model.specs.Past.{Event, Past, now, sem_act}
 use Rattle.rt_model.specs.Reachable.{IsReachable}
 use Rattle.rt_laws.proofs.Asked.{IsAsked}
@@ -42,13 +41,13 @@ use Rattle.sem_table_laws.proofs.Owner.{tells_owner}
 use Rattle.sem_table_laws.proofs.Rows.{ask_rows, grants_as_rules}
 use Rattle.group_sems.specs.BoostKeys.{boost_now}
 use Rattle.group_sems.specs.GroupSems.{GroupSems}
-use Rattle.group_sems.specs.Locking.{asked_waits, with_boost, with_next}
+use Rattle.group_sems.specs.Locking.{asked_waits, with_boost}
 use Rattle.group_sems.specs.Telling.{retold}
 use Rattle.group_sem_laws.specs.Keeping.{LockIsKept}
-use Rattle.group_sem_laws.proofs.Outside.{asked-empty}
 use Rattle.group_sem_laws.specs.Kept.{KeepsBoosts, KeepsLocks, KeepsNexts}
 use Rattle.group_sem_laws.proofs.Bases.{task-place}
 use Rattle.group_sem_laws.proofs.Boosting.{boost-kept, boost-now-is, boost-now-none, boost-set, boost-unset, next-set, next-unset, now-stays}
+use Rattle.group_sem_laws.proofs.Outside.{asked-empty}
 use Rattle.group_sem_laws.proofs.Owners.{queued-owner}
 use Rattle.group_sem_laws.proofs.Retelling.{IsBefore, retold-boosts, retold-keeps}
 

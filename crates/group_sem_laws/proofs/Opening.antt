@@ -1,14 +1,11 @@
 -- At first nobody holds, waits or is boosted.
-use Rattle.std.proofs.Common.{◌≡◌, ◌∙◌, ◌+◌, ℕ, zero, suc, true, false, List, [], ◌∷◌, length, refl, sym, ap, subst}
-use Rattle.std.specs.Prelude.{Option, None, Some, replicate, slice_index_or}
+use Rattle.std.proofs.Common.{◌≡◌, ◌∙◌, ◌+◌, ℕ, zero, suc, [], length, refl, sym, subst}
+use Rattle.std.specs.Prelude.{None, replicate, slice_index_or}
 use Rattle.std.proofs.lemmas.List.{length-replicate}
-use Rattle.rt_order.specs.declared.Key.{Key}
-use Rattle.rt_rules.specs.Numbers.{has, is}
 use Rattle.rt_rules.proofs.BoolLaws.{clash, unless}
 use Rattle.rt_model.specs.Boosts.{boost}
 use Rattle.rt_model.specs.EffectiveKeys.{waits_for}
-use Rattle.rt_model.specs.Group.{Group, tasks}
-use Rattle.rt_model.specs.Holders.{holder}
+use Rattle.rt_model.specs.Group.{Group}
 use Rattle.rt_model.specs.Reachable.{opened}
 use Rattle.rt_laws.proofs.Engaged.{holder-engaged, nobody-engaged}
 use Rattle.rt_laws.proofs.PcpWalks.{walk-stops}
@@ -19,8 +16,8 @@ use Rattle.rt_changes.proofs.Boosts.{boost-none}
 use Rattle.sem_table_laws.proofs.Opening.{new_keeps}
 use Rattle.sem_table_laws.proofs.Rows.{new_rows}
 use Rattle.group_sem_laws.specs.Keeping.{OpeningIsKept}
-use Rattle.group_sem_laws.proofs.Outside.{opened-empty}
 use Rattle.group_sem_laws.specs.Kept.{KeepsBoosts, KeepsNexts}
+use Rattle.group_sem_laws.proofs.Outside.{opened-empty}
 
 -- a list of nothing tells nothing
 none-at : {X : Type 0} (n t : ℕ) (x : X) → slice_index_or (replicate n x) t x ≡ x

@@ -1,15 +1,15 @@
 -- The owners of semaphores over a move.
-use Rattle.std.proofs.Common.{Bool, eqb-true, false, refl, subst, sym, true, ℕ, ◌&&◌, ◌||◌, ◌∙◌, ◌∷◌, ◌≡◌, List, [], map}
-use Rattle.std.specs.Prelude.{None, Option, Some, if◌then◌else◌, ◌==◌}
+use Rattle.std.proofs.Common.{Bool, eqb-true, false, refl, subst, sym, true, ℕ, ◌&&◌, ◌||◌, ◌∙◌, ◌∷◌, ◌≡◌, List, []}
+use Rattle.std.specs.Prelude.{Some, if◌then◌else◌, ◌==◌}
 use Rattle.rt_task.specs.declared.Protocol.TheVariants.{Fmlp, Mpcp, Omlp, Pcp}
 use Rattle.rt_task.specs.declared.Protocol.{Protocol}
-use Rattle.rt_rules.specs.Numbers.{has, is}
+use Rattle.rt_rules.specs.Numbers.{has}
 use Rattle.rt_rules.specs.Pcp.{TaskSem, passes, pcp_after}
-use Rattle.rt_rules.specs.SemState.{Asks, Frees, Neither, SemAct}
+use Rattle.rt_rules.specs.SemState.{Asks, Neither}
 use Rattle.rt_model.specs.Answers.{is_granted}
 use Rattle.rt_model.specs.BaseKeys.{above}
 use Rattle.rt_model.specs.Ceilings.{above_ceiling, at_cluster, is_pcp, pcp}
-use Rattle.rt_model.specs.Group.{Group, home, protocol, sems, tasks, users}
+use Rattle.rt_model.specs.Group.{Group, home, protocol, sems}
 use Rattle.rt_model.specs.Holders.{awaits, holder, sem_state}
 use Rattle.rt_model.specs.Past.{Event, Past, sem_act}
 use Rattle.rt_model.specs.Reachable.{IsReachable}

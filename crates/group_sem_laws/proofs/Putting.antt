@@ -1,5 +1,5 @@
 -- Writing one value each at several places of a list.
-use Rattle.std.proofs.Common.{◌≡◌, ◌∙◌, ◌<◌, ◌||◌, ℕ, Bool, true, false, List, [], ◌∷◌, length, length-set, refl, sym, ap, subst, arith, eqb-true}
+use Rattle.std.proofs.Common.{◌≡◌, ◌∙◌, ◌<◌, ◌||◌, ℕ, Bool, true, false, List, [], ◌∷◌, length, length-set, refl, sym, ap, subst, eqb-true}
 use Rattle.std.specs.Prelude.{◌==◌, Option, None, Some, slice_index_or, slice_set}
 use Rattle.rt_order.specs.declared.Key.{Key}
 use Rattle.rt_rules.specs.Numbers.{has}

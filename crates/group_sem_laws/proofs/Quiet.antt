@@ -1,7 +1,5 @@
 -- A move that does nothing at a semaphore leaves all but the base keys.
-use Rattle.std.proofs.Common.{◌≡◌, ◌∙◌, ℕ, List, ◌∷◌, refl, sym}
-use Rattle.rt_model.specs.Group.{Group}
-use Rattle.rt_model.specs.Past.{Event, Past}
+use Rattle.std.proofs.Common.{◌∙◌, sym}
 use Rattle.rt_changes.specs.SemChanges.{LeavesSems}
 use Rattle.rt_changes.proofs.SemChanges.{quiet}
 use Rattle.sem_table_laws.proofs.Keeps.{quiet_keeps}

@@ -1,8 +1,7 @@
 -- Where an owner is another than before, all who wait for it are told; so each task waits for whom it waits by the rules.
-use Rattle.std.proofs.Common.{Bool, false, inl, inr, length, refl, subst, sym, ap, true, ℕ, ◌+◌, ◌<◌, ◌∙◌, ◌∷◌, ◌≡◌, ◌⊎◌, List, []}
+use Rattle.std.proofs.Common.{Bool, false, inl, inr, length, refl, subst, sym, ap, true, ℕ, ◌+◌, ◌<◌, ◌∙◌, ◌∷◌, ◌≡◌, ◌⊎◌, List}
 use Rattle.std.specs.Prelude.{None, Option, Some, if◌then◌else◌, slice_index_or}
 use Rattle.rt_task.specs.Validity.{IsValid}
-use Rattle.rt_order.specs.declared.Key.{Key}
 use Rattle.rt_rules.specs.Numbers.{has, is, same}
 use Rattle.rt_rules.proofs.BoolLaws.{clash, unless}
 use Rattle.rt_rules.proofs.MemberLaws.{is-some}

@@ -1,5 +1,5 @@
 -- An unlock makes of what is kept what an accepted Unlock does.
-use Rattle.std.proofs.Common.{Bool, eqb-true, false, inl, inr, length, length-set, not, refl, subst, sym, ap, true, ℕ, ◌+◌, ◌<◌, ◌∙◌, ◌∷◌, ◌≡◌, ◌⊎◌, ◌||◌, ◌&&◌, List, []}
+use Rattle.std.proofs.Common.{Bool, eqb-true, false, inl, inr, length, length-set, not, refl, subst, sym, ap, true, ℕ, ◌+◌, ◌<◌, ◌∙◌, ◌∷◌, ◌≡◌, ◌⊎◌, List}
 use Rattle.std.specs.Prelude.{None, Option, Some, ◌==◌, slice_set}
 use Rattle.rt_task.specs.Validity.{IsValid}
 use Rattle.rt_order.specs.declared.Key.{Key}
@@ -9,7 +9,6 @@ use Rattle.rt_rules.proofs.BoolLaws.{both, clash, either, not_true, unless}
 use Rattle.rt_rules.proofs.MemberLaws.{equal_self, is-some}
 use Rattle.rt_model.specs.Boosts.{boost}
 use Rattle.rt_model.specs.Ceilings.{is_pcp}
-use Rattle.rt_model.specs.EffectiveKeys.{waits_for}
 use Rattle.rt_model.specs.Group.{Group, protocol, sems, tasks}
 use Rattle.rt_model.specs.Holders.{awaits, holder, holds, sem_state}
 use Rattle.rt_model.specs.Past.{Event, Past, now, sem_act}
@@ -26,7 +25,6 @@ use Rattle.rt_laws.proofs.Waiting.{awaits-waits, none-waits, waits-none}
 use Rattle.rt_laws.proofs.WaitsHolding.{waits_under_pcp}
 use Rattle.rt_changes.specs.HoldChanges.{IsRelease, IsServed, KeepsHolds}
 use Rattle.rt_changes.specs.Owners.{is_beside, owner, sem_of}
-use Rattle.rt_changes.specs.SemChanges.{LeavesSem}
 use Rattle.rt_changes.proofs.Acting.{IsParty, all_parties}
 use Rattle.rt_changes.proofs.Apart.{apart}
 use Rattle.rt_changes.proofs.Boosts.{boost-none, boost_of_holder, grant_is_now}
@@ -45,13 +43,13 @@ use Rattle.sem_table_laws.proofs.Owner.{tells_owner}
 use Rattle.sem_table_laws.proofs.Served.{release_rows, tells_served}
 use Rattle.group_sems.specs.BoostKeys.{boost_now}
 use Rattle.group_sems.specs.GroupSems.{GroupSems}
-use Rattle.group_sems.specs.Locking.{freed_waits, served_waits, with_boost, with_next}
+use Rattle.group_sems.specs.Locking.{served_waits, with_boost}
 use Rattle.group_sems.specs.Telling.{retold}
 use Rattle.group_sem_laws.specs.Keeping.{UnlockIsKept}
-use Rattle.group_sem_laws.proofs.Outside.{freed-empty}
 use Rattle.group_sem_laws.specs.Kept.{KeepsBoosts, KeepsLocks, KeepsNexts}
 use Rattle.group_sem_laws.proofs.Bases.{task-place}
 use Rattle.group_sem_laws.proofs.Boosting.{boost-kept, boost-now-is, boost-now-none, boost-set, boost-unset, next-set, next-unset, now-stays}
+use Rattle.group_sem_laws.proofs.Outside.{freed-empty}
 use Rattle.group_sem_laws.proofs.Retelling.{IsBefore, retold-boosts, retold-keeps}
 
 module _ (g : Group) (e : Event) (past : Past) (valid : IsValid g.setup) (made_after : IsReachable g (e ∷ past)) (v : GroupSems) (t s : ℕ) (f : sem_act e ≡ Frees t s) (k : KeepsLocks g past v) where

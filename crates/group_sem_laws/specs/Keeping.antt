@@ -14,7 +14,7 @@ use Rattle.sem_table.specs.Opened.{IsOpened}
 use Rattle.mpcp_ceilings.specs.Ceilings.{AreCeilings}
 use Rattle.group_sems.specs.GroupSems.{GroupSems}
 use Rattle.group_sems.specs.Locking.{after_lock, after_unlock}
-use Rattle.group_sem_laws.specs.Kept.{KeepsBases, KeepsGroupSems, KeepsLocks}
+use Rattle.group_sem_laws.specs.Kept.{KeepsBases, KeepsLocks}
 
 -- the base keys of these tasks are told
 abbrev pub rebased : (ℕ → Key) → List ℕ → List (Option Key) → List (Option Key)

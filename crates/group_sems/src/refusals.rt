@@ -19,7 +19,10 @@ fn is_pcp(parts: &Parts, sem: SemNo) -> bool
     requires { (1 ≤ sem.0) × (sem.0 ≤ length parts.now.sems) }
     ensures { result ≡ ceilings.is_pcp (protocol (group_with parts.now 0) sem.0) }
 {
-    matches!(parts.sems.as_slice()[sem.0 as usize - 1].protocol, Protocol::Pcp)
+    matches!(
+        parts.sems.as_slice()[sem.0 as usize - 1].protocol,
+        Protocol::Pcp
+    )
 }
 
 /// Whether the task holds the semaphore.

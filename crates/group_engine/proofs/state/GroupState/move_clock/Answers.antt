@@ -7,6 +7,7 @@ use Rattle.group_facts.proofs.KeptMoves.{kept_after_clock}
 use Rattle.group_jobs.specs.GroupJobs.{GroupJobs}
 use Rattle.group_engine.specs.declared.state.GroupState.{GroupState}
 use Rattle.group_engine.specs.Moments.{Moment}
+use Rattle.group_engine.proofs.Bases.{has-base}
 use Rattle.group_engine.proofs.Bounding.{can-look}
 use Rattle.group_engine.proofs.Bringing.{jobs-brought}
 use Rattle.group_engine.proofs.ClockMoves.{armed-member, between-clock, clock-within, clocked_state}
@@ -21,7 +22,7 @@ bring_up_due-requires c =
     let kept : IsKept at.group past1 c.move_clock.new.self.kept = rw c.move_clock.ensures (kept_after_clock at.group at.past can.played.valid can.kept.reachable c.args.tick.0 c.args.self.now.jobs.kept can.kept.jobs_are) in
     let s1 : GroupState = record c.args.self.now { jobs = c.move_clock.new.self } in (
       tasks at.group,
-      rw can.parts_are (λ t h. can-look at.group can.played at.past c.args.self.now can.kept past1 s1 kept (clock-within c.args.tick.0 at.past can.tick_low can.kept.within) refl refl t h),
+      rw can.parts_are (λ t h. can-look at.group can.played at.past c.args.self.now can.kept past1 s1 kept (clock-within c.args.tick.0 at.past can.tick_low can.kept.within) (λ u m. has-base at.group at.past c.args.self.now.sems.waits.bases can.kept.sems_are.bases u m) refl refl t h),
       λ t tick h. armed-member at.group at.past c.args.self.now.timers can.kept.timers_are t tick h,
     )
 
