@@ -1,7 +1,10 @@
 -- A group without semaphores: no task holds or awaits one, and each has its base key.
-use Rattle.std.proofs.Common.{◌≡◌, ℕ, zero, suc, true, false, List, [], ◌∷◌, length, refl, sym, ap, ◌∙◌}
+use Rattle.std.proofs.Common.{◌≡◌, ℕ, zero, suc, Bool, true, false, not, List, [], ◌∷◌, length, refl, sym, ap, ◌∙◌}
 use Rattle.std.specs.Prelude.{None, filter}
-use Rattle.rt_task.specs.RuleWords.{is_empty}
+use Rattle.rt_task.specs.declared.Parts.{Parts}
+use Rattle.rt_task.specs.RuleWords.{is_empty, is_p_res}
+use Rattle.rt_rules.proofs.BoolLaws.{both}
+use Rattle.rt_groups.specs.Built.{is_built}
 use Rattle.rt_rules.specs.Numbers.{has, numbers_from}
 use Rattle.rt_rules.specs.Walks.{followers, inherited, walk}
 use Rattle.rt_model.specs.BaseKeys.{base_key}
@@ -47,3 +50,13 @@ module _ (g : Group) (none : sems g ≡ []) (past : Past) where
   pub effective-base : (t : ℕ) → effective_key g t past ≡ base_key g t past
   unfolding effective_key
   effective-base t = rw (boost-none t) (ap (λ us. inherited None (λ u. base_key g u past) us t) (no_followers (length (tasks g)) t (tasks g)))
+
+-- ---- a set that is played so far
+
+not-true : (b : Bool) → not b ≡ true → b ≡ false
+not-true true h = sym h
+not-true false h = refl
+
+-- it has no reservations
+pub built-unreserved : (p : Parts) → is_built p ≡ true → is_p_res p.plugin ≡ false
+built-unreserved p built = not-true (is_p_res p.plugin) (both (not (is_p_res p.plugin)) _ built).0
