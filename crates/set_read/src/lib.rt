@@ -9,6 +9,7 @@ mod names;
 mod read;
 mod tasks;
 
+pub use names::Names;
 pub use read::read_set;
 
 #[cfg(test)]

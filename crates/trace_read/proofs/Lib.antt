@@ -1,5 +1,6 @@
 pub mod WordLaws
 pub mod EachLaws
+pub mod TellLaws
 pub mod PartLaws
 pub mod LineLaws
 pub mod FitLaws

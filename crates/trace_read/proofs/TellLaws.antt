@@ -1,0 +1,56 @@
+-- In a valid set each task has a name by the rules, and is found again by it.
+use Rattle.std.proofs.Common.{◌≡◌, ℕ, ◌-◌, ◌<◌, ◌≤◌, ◌^◌, ◌==◌, Bool, true, false, List, [], ◌∷◌, ◌++◌, All, map, length, get_or, None, refl, ap, sym, subst, ◌∙◌, arith}
+use Rattle.std.specs.Str.{IsUtf8}
+use Rattle.std.proofs.lemmas.Bool.{and_parts}
+use Rattle.std.proofs.lemmas.Bool.Decides.{nat_tests}
+use Rattle.std.proofs.lemmas.List.{length-map}
+use Rattle.std.proofs.lemmas.List.Elements.{All-nil, All-cons}
+use Rattle.std.proofs.lemmas.Option.{unwrap_or-slice_get}
+use Rattle.rt_task.specs.declared.Parts.{Parts}
+use Rattle.rt_task.specs.declared.Task.{Task}
+use Rattle.rt_task.specs.declared.draft.DraftTask.{DraftTask}
+use Rattle.rt_task.specs.Draft.{draft_of}
+use Rattle.rt_task.specs.NameRules.{task_name}
+use Rattle.rt_task.specs.Refusals.{first_failing}
+use Rattle.rt_task.specs.RuleWords.{is_known, is_name}
+use Rattle.rt_task.specs.Validity.{IsValid, refusal_of}
+use Rattle.set_laws.proofs.KnownLaws.{has_fresh, names_task}
+use Rattle.set_laws.proofs.Passing.{passed, rows}
+use Rattle.set_laws.proofs.PositionLaws.{known_position, map-map}
+use Rattle.set_laws.proofs.WholeLaws.{canonical_plan}
+use Rattle.trace_lines.specs.declared.format.Version.{Version}
+use Rattle.trace_lines.specs.Words.{Word}
+use Rattle.trace_lines.specs.Known.{IsNumberOf, known_of, name_at, task_names}
+use Rattle.trace_read.specs.Seen.{Tells}
+
+abbrev IsNamed : Word → Type 0
+IsNamed w = is_name w ≡ true
+
+-- a rule by which each name is one
+named-by : {A : Type 0} (rule : List A → A → Bool) (name : A → List ℕ) → ((e : List A) (x : A) → rule e x ≡ true → IsNamed (name x)) → (e xs : List A) → first_failing rule e xs ≡ None → All IsNamed (map name xs)
+named-by rule name is e [] h = All-nil IsNamed
+named-by rule name is e (x ∷ xs) h =
+    let p = passed rule e x xs h in
+    All-cons IsNamed (name x) (map name xs) (is e x p.0) (named-by rule name is (e ++ x ∷ []) xs p.1)
+
+pub all-named : (p : Parts) → IsValid p → All IsNamed (task_names p.tasks)
+unfolding refusal_of
+all-named p valid =
+    subst (All IsNamed) (map-map (λ (t : DraftTask). t.name) canonical_plan (λ (t : Task). t.name) p.tasks (λ t. refl))
+    (named-by (task_name (draft_of p)) (λ (t : DraftTask). t.name) (λ e t k. (names_task p e t k).form) [] (map canonical_plan p.tasks) (rows (draft_of p) valid).tasks_named)
+
+at_number : (ws : List Word) (n : ℕ) → 1 ≤ n → name_at ws n ≡ get_or ws (n - 1) []
+at_number ws n low = let numbered : n == 0 ≡ false = grind (arith, nat_tests) in rw numbered (unwrap_or-slice_get ws (n - 1) [])
+
+known_number : (xs : List Task) (n : ℕ) → IsNumberOf (length (task_names xs)) n → is_known xs n ≡ true
+known_number xs n h =
+    let low = h.low in
+    let high : n ≤ length xs = omega (arith, h.high, length-map xs (λ (t : Task). t.name)) in
+    grind (arith, nat_tests)
+
+pub valid-tells : (version : Version) (p : Parts) → IsValid p → Tells (known_of version p)
+unfolding refusal_of
+valid-tells version p valid = record {
+  is_named = λ t h. rw (at_number (task_names p.tasks) t h.low) (all-named p valid (t - 1) [] (omega (arith, h.low, h.high)));
+  is_found = λ t h. known_position (λ (x : Task). x.name) p.tasks t (has_fresh p (rows (draft_of p) valid)).tasks (known_number p.tasks t h);
+}
