@@ -10,6 +10,3 @@ mod read;
 mod tasks;
 
 pub use read::read_set;
-
-#[cfg(test)]
-mod tests;

@@ -6,8 +6,6 @@ mod lines;
 mod links;
 mod put;
 mod replies;
-#[cfg(test)]
-mod tests;
 
 pub use lines::{put_block_line, put_count_line, put_end_line, put_entry_line, put_group_line};
 pub use links::CpuLink;

@@ -9,8 +9,6 @@ mod links;
 mod parse;
 mod read;
 mod replies;
-#[cfg(test)]
-mod tests;
 mod words;
 
 pub use fault::TraceFault;
