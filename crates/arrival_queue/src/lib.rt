@@ -140,6 +140,3 @@ impl ArrivalQueue {
         }
     }
 }
-
-#[cfg(test)]
-mod tests;

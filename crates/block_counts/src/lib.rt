@@ -11,6 +11,3 @@ mod seen;
 
 pub use blocks::Blocks;
 pub use seen::{Seen, Waiting};
-
-#[cfg(test)]
-mod tests;

@@ -189,6 +189,3 @@ fn list_unplaced(changed: &mut Vec<ClusterNo>, c: ClusterNo, was_placed: bool, i
         changed.push_reserved(c);
     }
 }
-
-#[cfg(test)]
-mod tests;

@@ -100,6 +100,3 @@ impl FmlpSem {
         self.line.len().saturating_sub(1) as u32
     }
 }
-
-#[cfg(test)]
-mod tests;

@@ -138,6 +138,3 @@ impl Account {
         }
     }
 }
-
-#[cfg(test)]
-mod tests;

@@ -210,6 +210,3 @@ pub fn links_are_of_processors()
 pub fn runs_are_of_processors()
     ensures { RunsAreOfProcessors }
 {}
-
-#[cfg(test)]
-mod tests;

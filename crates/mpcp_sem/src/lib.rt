@@ -119,6 +119,3 @@ impl MpcpSem {
         self.queue.len()
     }
 }
-
-#[cfg(test)]
-mod tests;

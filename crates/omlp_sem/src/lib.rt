@@ -133,6 +133,3 @@ impl OmlpSem {
         self.fifo.len().saturating_sub(1) as u32 + self.queue.len()
     }
 }
-
-#[cfg(test)]
-mod tests;

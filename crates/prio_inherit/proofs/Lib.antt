@@ -1,4 +1,3 @@
 pub mod Walking
 pub mod Settling
-mod Rising
 mod Raising

@@ -145,6 +145,3 @@ impl Inherit {
         }
     }
 }
-
-#[cfg(test)]
-mod tests;

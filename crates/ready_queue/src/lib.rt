@@ -118,6 +118,3 @@ impl ReadyQueue {
         }
     }
 }
-
-#[cfg(test)]
-mod tests;

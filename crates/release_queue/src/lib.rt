@@ -100,6 +100,3 @@ impl ReleaseQueue {
         Some(task)
     }
 }
-
-#[cfg(test)]
-mod tests;

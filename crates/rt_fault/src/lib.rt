@@ -12,8 +12,6 @@ mod rest;
 mod status;
 mod std_edge;
 mod sure;
-#[cfg(test)]
-mod tests;
 mod writing;
 
 pub use input::{Failed, Source};

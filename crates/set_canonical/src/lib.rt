@@ -11,8 +11,6 @@ mod operations;
 mod put;
 mod sets;
 mod tasks;
-#[cfg(test)]
-mod tests;
 mod words;
 
 use rt_base::NoMemory;

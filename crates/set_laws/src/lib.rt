@@ -8,9 +8,6 @@ ghost use Rattle.set_read.specs.Sets.{set};
 
 use rt_task::Setup;
 
-#[cfg(test)]
-mod tests;
-
 /// The canonical text of a setup is a document of that setup.
 pub fn canonical_is_read(setup: &Setup)
     ensures { set (canonical setup.now) ≡ Ok setup.now }

@@ -11,6 +11,3 @@ mod tasks;
 
 pub use names::Names;
 pub use read::read_set;
-
-#[cfg(test)]
-mod tests;

@@ -9,8 +9,6 @@ mod links;
 mod put;
 mod replies;
 mod tasks;
-#[cfg(test)]
-mod tests;
 
 pub use format::{Format, Version, first_line};
 pub use lines::{put_block_line, put_count_line, put_end_line, put_entry_line, put_group_line};

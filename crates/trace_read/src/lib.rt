@@ -11,8 +11,6 @@ mod parse;
 mod read;
 mod replies;
 mod tasks;
-#[cfg(test)]
-mod tests;
 mod words;
 
 pub use fault::TraceFault;

@@ -1,0 +1,3 @@
+mod InheritLaws
+mod MpcpLaws
+mod OmlpLaws

@@ -1,5 +1,0 @@
-use Rattle.ready_heap.proofs.tests.heap_beside_ordered_maps.Given as goal
-
--- the ledger of the test's count
-abbrev pub ghosts-play : goal.ghosts-play
-ghosts-play g a = record { name = a.blank.name; parts = a.blank.parts }

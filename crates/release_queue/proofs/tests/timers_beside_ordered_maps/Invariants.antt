@@ -1,6 +1,0 @@
-use Rattle.std.proofs.Common.{◌≡◌, length}
-use Rattle.release_queue.proofs.tests.timers_beside_ordered_maps.Given as goal
-
--- the room stays
-abbrev pub invariant-loop : goal.invariant-loop
-invariant-loop g l = length l.queue ≡ 64
