@@ -1,12 +1,13 @@
 -- The parts of a line come back out of its text.
-use Rattle.std.proofs.Common.{◌≡◌, ℕ, ◌<◌, ◌^◌, true, false, List, [], ◌∷◌, ◌++◌, map, All, codes, Option, Some, None, decimal, refl, arith, length, length-append}
+use Rattle.std.proofs.Common.{◌≡◌, ℕ, ◌<◌, ◌≤◌, ◌^◌, ◌==◌, ◌||◌, ◌⊎◌, inl, inr, Bool, true, false, List, [], ◌∷◌, ◌++◌, map, All, codes, Option, Some, None, decimal, refl, ap, arith, length, length-append}
 use Rattle.std.proofs.lemmas.Bool.Decides.{nat_tests}
 use Rattle.std.proofs.lemmas.List.Elements.{All-head, All-tail}
 use Rattle.std.proofs.lemmas.Fmt.{decimal_nonempty}
 use Rattle.std.specs.List.{list_all}
 use Rattle.std.specs.Prelude.{bytes_eq}
-use Rattle.std.proofs.lemmas.Bool.{and_parts}
-use Rattle.rt_task.specs.RuleWords.{is_name, is_name_byte}
+use Rattle.std.proofs.lemmas.Bool.{and_parts, eqb-true}
+use Rattle.rt_task.specs.RuleWords.{is_name, is_name_byte, within}
+use Rattle.set_laws.proofs.Passing.{within_parts}
 use Rattle.rt_task.specs.declared.Op.TheVariants as ops
 use Rattle.rt_task.specs.declared.Act.{Act}
 use Rattle.rt_task.specs.declared.Act.TheVariants as acts
@@ -35,8 +36,40 @@ colon = record { differs = λ d h. grind (arith, nat_tests) }
 
 -- ---- tasks
 
+either : (a b : Bool) → a || b ≡ true → (a ≡ true) ⊎ (b ≡ true)
+either true b h = inl refl
+either false b h = inr h
+
+within-plain : (low high b : ℕ) → 33 ≤ low → high ≤ 127 → within low high b ≡ true → is_plain_byte b ≡ true
+within-plain low high b above below h =
+    let parts = within_parts low high b h in
+    let least : 32 < b = omega (arith, parts.0) in
+    let most : b < 128 = omega (arith, parts.1) in
+    grind (arith, nat_tests)
+
+same-plain : (c b : ℕ) → 33 ≤ c → c ≤ 127 → b == c ≡ true → is_plain_byte b ≡ true
+same-plain c b above below h =
+    let same : b ≡ c = eqb-true b c h in
+    let least : 32 < b = omega arith in
+    let most : b < 128 = omega arith in
+    grind (arith, nat_tests)
+
+-- a letter or digit of ASCII, `_` or `-`
 name_byte-plain : (b : ℕ) → is_name_byte b ≡ true → is_plain_byte b ≡ true
-name_byte-plain b h = grind (arith, nat_tests)
+name_byte-plain b h =
+    elim (either (within 48 57 b) _ h) [
+      | inl digit ↦ within-plain 48 57 b (omega arith) (omega arith) digit
+      | inr letters ↦ elim (either (within 65 90 b) _ letters) [
+        | inl capital ↦ within-plain 65 90 b (omega arith) (omega arith) capital
+        | inr others ↦ elim (either (within 97 122 b) _ others) [
+          | inl small ↦ within-plain 97 122 b (omega arith) (omega arith) small
+          | inr marks ↦ elim (either (b == 95) (b == 45) marks) [
+            | inl low ↦ same-plain 95 b (omega arith) (omega arith) low
+            | inr dash_is ↦ same-plain 45 b (omega arith) (omega arith) dash_is
+          ]
+        ]
+      ]
+    ]
 
 bytes-plain : (w : Word) → list_all is_name_byte w ≡ true → is_plain w ≡ true
 bytes-plain [] h = refl
@@ -80,6 +113,10 @@ task_at-join k t ws tell h = rw (cut-join (task_word k t) ws (task_word-plain k 
 
 -- ---- acts
 
+arrive-join : (k : Known) (w : Word) (t : ℕ) (ws : List Word) → is_plain w ≡ true → word_in bare_acts w ≡ None → bytes_eq w (codes "arrive") ≡ true → Tells k → IsNumberOf (length k.names) t
+    → act_at k (join 32 (w ∷ task_word k t ∷ ws)) ≡ Some (acts.Arrive (record { 0 = t }), join 32 ws)
+arrive-join k w t ws plain none is tell h = rw (cut-join w (task_word k t ∷ ws) plain, none, is, task_at-join k t ws tell h) refl
+
 bare_act-join : (k : Known) (w : Word) (a : Act) (ws : List Word) → is_plain w ≡ true → word_in bare_acts w ≡ Some a → act_at k (join 32 (w ∷ ws)) ≡ Some (a, join 32 ws)
 bare_act-join k w a ws plain is = rw (cut-join w ws plain, is) refl
 
@@ -90,7 +127,7 @@ act_with-join k w n a ws plain none other fits is = rw (cut-join w (decimal n �
 pub act_at-join : (k : Known) (a : Act) (ws : List Word) → Tells k → ActIsKnown k a → act_at k (join 32 (act_words k a ++ ws)) ≡ Some (a, join 32 ws)
 act_at-join k acts.Tick ws tell h = bare_act-join k (codes "tick") acts.Tick ws refl refl
 act_at-join k acts.Irq ws tell h = bare_act-join k (codes "irq") acts.Irq ws refl refl
-act_at-join k (acts.Arrive t) ws tell h = rw (cut-join (codes "arrive") (task_word k t.0 ∷ ws) refl, task_at-join k t.0 ws tell h) refl
+act_at-join k (acts.Arrive t) ws tell h = arrive-join k (codes "arrive") t.0 ws refl refl refl tell h
 act_at-join k (acts.Do ops.Work) ws tell h = bare_act-join k (codes "work") (acts.Do ops.Work) ws refl refl
 act_at-join k (acts.Do (ops.Lock s)) ws tell h = act_with-join k (codes "lock") s.0 (acts.Do (ops.Lock s)) ws refl refl refl (fits_64 s.0 h.fits) (rw (when_32-same s.0 h.fits) refl)
 act_at-join k (acts.Do (ops.Unlock s)) ws tell h = act_with-join k (codes "unlock") s.0 (acts.Do (ops.Unlock s)) ws refl refl refl (fits_64 s.0 h.fits) (rw (when_32-same s.0 h.fits) refl)
@@ -116,8 +153,12 @@ act-plain k (acts.Do ops.End) tell h = (refl, tt)
 bare_reply-join : (k : Known) (w : Word) (r : Reply) (ws : List Word) → is_plain w ≡ true → word_in bare_replies w ≡ Some r → reply_at k (join 32 (w ∷ ws)) ≡ Some (r, join 32 ws)
 bare_reply-join k w r ws plain is = rw (cut-join w ws plain, is) refl
 
+runs-join : (k : Known) (w : Word) (t : ℕ) (ws : List Word) → is_plain w ≡ true → word_in bare_replies w ≡ None → bytes_eq w (codes "runs") ≡ true → Tells k → IsNumberOf (length k.names) t
+    → reply_at k (join 32 (w ∷ task_word k t ∷ ws)) ≡ Some (replies.Runs (record { 0 = t }), join 32 ws)
+runs-join k w t ws plain none is tell h = rw (cut-join w (task_word k t ∷ ws) plain, none, is, task_at-join k t ws tell h) refl
+
 pub reply_at-join : (k : Known) (r : Reply) (ws : List Word) → Tells k → ReplyIsKnown k r → reply_at k (join 32 (reply_words k r ++ ws)) ≡ Some (r, join 32 ws)
-reply_at-join k (replies.Runs t) ws tell h = rw (cut-join (codes "runs") (task_word k t.0 ∷ ws) refl, task_at-join k t.0 ws tell h) refl
+reply_at-join k (replies.Runs t) ws tell h = runs-join k (codes "runs") t.0 ws refl refl refl tell h
 reply_at-join k replies.Done ws tell h = bare_reply-join k (codes "done") replies.Done ws refl refl
 reply_at-join k replies.Idles ws tell h = bare_reply-join k (codes "idles") replies.Idles ws refl refl
 reply_at-join k replies.Granted ws tell h = bare_reply-join k (codes "granted") replies.Granted ws refl refl

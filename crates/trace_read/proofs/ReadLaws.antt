@@ -20,19 +20,10 @@ use Rattle.trace_read.specs.Lines.{line_of}
 use Rattle.trace_read.specs.Reads.{HasHead, AreLines, LacksFirstLine, LacksSetLine}
 use Rattle.trace_read.specs.Seen.{BeginsNoLine, BeginsLine, BeginsLines, ReadsBack, IsSplitAtFeed, Tells}
 use Rattle.trace_read.specs.Reading.{cut, line_in}
-use Rattle.trace_read.proofs.WordLaws.{is_free, is_plain_byte, is_plain, AllPlain, free_from-reads, cut-free, cut-first}
+use Rattle.trace_read.proofs.WordLaws.{is_free, AllPlain, word-ascii, free_from-reads, cut-free, cut-first}
 use Rattle.trace_read.proofs.LineLaws.{line_words-plain, line_body, line_text-ends, cut-line, line_in-body}
 
 -- ---- the text of a line is ASCII
-
-ascii_byte : (x : ℕ) → is_plain_byte x ≡ true → x < 128
-ascii_byte x h = grind (arith, nat_tests)
-
-word-ascii : (w : Word) → is_plain w ≡ true → All (λ (b : ℕ). b < 128) w
-word-ascii [] h = All-nil (λ (b : ℕ). b < 128)
-word-ascii (x ∷ xs) h =
-    let parts = and_parts (is_plain_byte x) (is_plain xs) h in
-    All-cons (λ (b : ℕ). b < 128) x xs (ascii_byte x parts.0) (word-ascii xs parts.1)
 
 join-ascii : (ws : List Word) → AllPlain ws → All (λ (b : ℕ). b < 128) (join 32 ws)
 join-ascii [] h = All-nil (λ (b : ℕ). b < 128)
@@ -112,9 +103,9 @@ after_same (c ∷ p) x y e = after_same p x y (let same : c ∷ (p ++ x) ≡ c �
 second_is : (v : Version) (bytes second set_text more : List ℕ) → bytes ≡ first_line v ++ second → HasHead v bytes set_text more → second ≡ codes "set " ++ (set_text ++ 10 ∷ more)
 second_is v bytes second set_text more e h = after_same (first_line v) second (codes "set " ++ (set_text ++ 10 ∷ more)) (sym e ∙ h.bytes_are)
 
-pub LacksFirstLine-both : (bytes : List ℕ) → ((rest : List ℕ) → bytes ≢ first_line One ++ rest) → ((rest : List ℕ) → bytes ≢ first_line Two ++ rest) → LacksFirstLine bytes
-LacksFirstLine-both bytes one two One = one
-LacksFirstLine-both bytes one two Two = two
+pub LacksFirstLine-both : (bytes f g : List ℕ) → f ≡ first_line One → g ≡ first_line Two → ((rest : List ℕ) → bytes ≢ f ++ rest) → ((rest : List ℕ) → bytes ≢ g ++ rest) → LacksFirstLine bytes
+LacksFirstLine-both bytes f g is_f is_g one two One = λ rest. subst (λ (xs : List ℕ). bytes ≢ xs ++ rest) is_f (one rest)
+LacksFirstLine-both bytes f g is_f is_g one two Two = λ rest. subst (λ (xs : List ℕ). bytes ≢ xs ++ rest) is_g (two rest)
 
 pub LacksSetLine-other : (v : Version) (bytes second : List ℕ) → bytes ≡ first_line v ++ second → ((rest : List ℕ) → second ≢ codes "set " ++ rest) → LacksSetLine bytes
 LacksSetLine-other v bytes second e other = record {

@@ -1,11 +1,15 @@
 -- In a valid set each task has a name by the rules, and is found again by it.
-use Rattle.std.proofs.Common.{◌≡◌, ℕ, ◌-◌, ◌<◌, ◌≤◌, ◌^◌, ◌==◌, Bool, true, false, List, [], ◌∷◌, ◌++◌, All, map, length, get_or, None, refl, ap, sym, subst, ◌∙◌, arith}
+use Rattle.std.proofs.Common.{◌≡◌, ℕ, ◌+◌, ◌-◌, ◌<◌, ◌≤◌, ◌^◌, ◌==◌, Bool, true, false, List, [], ◌∷◌, ◌++◌, All, map, length, get_or, None, refl, ap, sym, subst, ◌∙◌, arith}
 use Rattle.std.specs.Str.{IsUtf8}
-use Rattle.std.proofs.lemmas.Bool.{and_parts}
+use Rattle.std.specs.Prelude.{nat_le}
+use Rattle.std.proofs.lemmas.Bool.{and_parts, leb-true}
 use Rattle.std.proofs.lemmas.Bool.Decides.{nat_tests}
 use Rattle.std.proofs.lemmas.List.{length-map}
-use Rattle.std.proofs.lemmas.List.Elements.{All-nil, All-cons}
+use Rattle.std.proofs.lemmas.List.Elements.{All-nil, All-cons, All-head, All-tail}
 use Rattle.std.proofs.lemmas.Option.{unwrap_or-slice_get}
+use Rattle.std.proofs.lemmas.Str.{IsUtf8-from_ascii}
+use Rattle.std.proofs.lemmas.Str.Ascii.{IsAscii-from_all}
+use Rattle.rt_base.specs.declared.TheConstants.{MOST_TASKS}
 use Rattle.rt_task.specs.declared.Parts.{Parts}
 use Rattle.rt_task.specs.declared.Task.{Task}
 use Rattle.rt_task.specs.declared.draft.DraftTask.{DraftTask}
@@ -13,6 +17,7 @@ use Rattle.rt_task.specs.Draft.{draft_of}
 use Rattle.rt_task.specs.NameRules.{task_name}
 use Rattle.rt_task.specs.Refusals.{first_failing}
 use Rattle.rt_task.specs.RuleWords.{is_known, is_name}
+use Rattle.rt_task.specs.SizeRules.{whole_size}
 use Rattle.rt_task.specs.Validity.{IsValid, refusal_of}
 use Rattle.set_laws.proofs.KnownLaws.{has_fresh, names_task}
 use Rattle.set_laws.proofs.Passing.{passed, rows}
@@ -21,7 +26,9 @@ use Rattle.set_laws.proofs.WholeLaws.{canonical_plan}
 use Rattle.trace_lines.specs.declared.format.Version.{Version}
 use Rattle.trace_lines.specs.Words.{Word}
 use Rattle.trace_lines.specs.Known.{IsNumberOf, known_of, name_at, task_names}
-use Rattle.trace_read.specs.Seen.{Tells}
+use Rattle.trace_read.specs.Seen.{AreTexts, Tells}
+use Rattle.trace_read.proofs.PartLaws.{name-plain}
+use Rattle.trace_read.proofs.WordLaws.{word-ascii}
 
 abbrev IsNamed : Word → Type 0
 IsNamed w = is_name w ≡ true
@@ -47,6 +54,31 @@ known_number xs n h =
     let low = h.low in
     let high : n ≤ length xs = omega (arith, h.high, length-map xs (λ (t : Task). t.name)) in
     grind (arith, nat_tests)
+
+-- the names are as many as the tasks
+pub names_count : (ts : List Task) → length (task_names ts) ≡ length ts
+names_count ts = length-map ts (λ (t : Task). t.name)
+
+-- and few
+pub few_tasks : (p : Parts) → IsValid p → length p.tasks + 1 < 2 ^ 32
+unfolding refusal_of whole_size
+few_tasks p valid =
+    let by_clusters = and_parts _ _ (rows (draft_of p) valid).size in
+    let by_cpus = and_parts _ _ by_clusters.1 in
+    let by_tasks = and_parts (nat_le (length (draft_of p).tasks) MOST_TASKS) _ by_cpus.1 in
+    omega (arith, leb-true _ _ by_tasks.0, length-map p.tasks canonical_plan)
+
+name-text : (w : Word) → is_name w ≡ true → IsUtf8 w
+name-text w h = IsUtf8-from_ascii w (IsAscii-from_all w (word-ascii w (name-plain w h)))
+
+texts-of : (ts : List Task) → All IsNamed (task_names ts) → AreTexts ts
+texts-of [] h = All-nil (λ (t : Task). IsUtf8 t.name)
+texts-of (t ∷ ts) h =
+    All-cons (λ (x : Task). IsUtf8 x.name) t ts (name-text t.name (All-head IsNamed t.name (task_names ts) h)) (texts-of ts (All-tail IsNamed t.name (task_names ts) h))
+
+-- each name is text
+pub are_texts : (p : Parts) → IsValid p → AreTexts p.tasks
+are_texts p valid = texts-of p.tasks (all-named p valid)
 
 pub valid-tells : (version : Version) (p : Parts) → IsValid p → Tells (known_of version p)
 unfolding refusal_of

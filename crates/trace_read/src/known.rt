@@ -67,6 +67,7 @@ impl<'a> Known<'a> {
     }
 
     /// How many tasks the set has.
+    #[tactic(auto, using(crate::proofs::TellLaws::names_count))]
     pub(crate) fn tasks(&self) -> usize
         ensures { result ≡ length self.now.names }
     {

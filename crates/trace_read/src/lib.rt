@@ -8,6 +8,7 @@ mod known;
 mod lines;
 mod links;
 mod parse;
+mod put;
 mod read;
 mod replies;
 mod tasks;
@@ -15,6 +16,7 @@ mod words;
 
 pub use fault::TraceFault;
 pub use lines::{Line, LineList, LinkList, Totals};
+pub use put::put_line;
 pub use read::read_trace;
 use rt_task::Setup;
 use trace_lines::Version;

@@ -25,11 +25,7 @@ fn link_in(k: &Known, word: &str) -> Option<CpuLink>
 }
 
 /// A link for each word, or none where one says no link.
-pub(crate) fn links_in(
-    alloc: Global,
-    k: &Known,
-    text: &str,
-) -> Result<Option<LinkList>, AllocError>
+pub(crate) fn links_in(alloc: Global, k: &Known, text: &str) -> Result<Option<LinkList>, AllocError>
     ensures { IfOk result (λ o. option_map links_of o ≡ reading.links_in k.now text.now) }
 {
     let mut links = Vec::new(alloc);

@@ -111,11 +111,7 @@ fn count_line_in(alloc: Global, text: &str) -> Result<Option<Line>, AllocError>
 /// The line that a text without its line feed says, before it is checked: each line of the grammar is read, and a text
 /// that is none of its may be too.
 #[tactic(auto, unfolding(crate::specs::Reading::line_in))]
-pub(crate) fn line_in(
-    alloc: Global,
-    k: &Known,
-    text: &str,
-) -> Result<Option<Line>, AllocError>
+pub(crate) fn line_in(alloc: Global, k: &Known, text: &str) -> Result<Option<Line>, AllocError>
     ensures { IfOk result (λ o. option_map line_of o ≡ reading.line_in k.now text.now) }
 {
     let (word, rest) = cut(text, ' ');

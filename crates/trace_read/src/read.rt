@@ -12,37 +12,13 @@ ghost use Rattle.trace_read.specs.Seen.{BeginsNoLine, BeginsLine, IsSplitAtFeed,
 use crate::fits::line_fits;
 use crate::known::Known;
 use crate::parse::line_in;
+use crate::put::put_line;
 use crate::{Line, LineList, Trace, TraceFault};
-use rt_base::NoMemory;
 use rt_task::Setup;
 use set_read::read_set;
 use std::alloc::{AllocError, Global};
 use std::str;
-use trace_lines::{
-    Version, first_line, put_block_line, put_count_line, put_end_line, put_entry_line,
-    put_group_line,
-};
-
-/// The line's text.
-fn put_line(out: &mut Vec<u8>, k: &Known, line: &Line) -> Result<(), NoMemory>
-    ensures { OnOk result (out.new.items ≡ out.old.items ++ line_text k.now (line_of line.now)) }
-{
-    let format = k.format();
-    match line {
-        Line::GroupLine { group, links } => put_group_line(out, format, *group, links.as_slice()),
-        Line::EntryLine { no, entry, links } => put_entry_line(out, format, *no, entry, links.as_slice()),
-        Line::BlockLine {
-            no,
-            task,
-            sem,
-            ends,
-            ends_all,
-            bound,
-        } => put_block_line(out, format, *no, *task, *sem, *ends, *ends_all, *bound),
-        Line::EndLine => put_end_line(out),
-        Line::CountLine { name, totals } => put_count_line(out, *name, totals.as_slice()),
-    }
-}
+use trace_lines::{Version, first_line};
 
 /// What stands before the first line feed, and what stands after it.
 fn split_line(bytes: &[u8]) -> Option<(&[u8], &[u8])>
@@ -99,7 +75,7 @@ fn read_line<'a>(
         return Ok(None);
     }
     text.clear();
-    put_line(text, k, &line)?;
+    put_line(text, k.format(), &line)?;
     match after(text.as_slice(), bytes) {
         None => Ok(None),
         Some(rest) => Ok(Some((line, rest))),

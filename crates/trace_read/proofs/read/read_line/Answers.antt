@@ -1,5 +1,6 @@
 use Rattle.std.proofs.Common.{◌≡◌, ◌≢◌, ◌++◌, IsTrue, ap, ◌∙◌, subst}
 use Rattle.trace_lines.specs.Grammar.{line_text}
+use Rattle.trace_lines.specs.Known.{Known, known_in}
 use Rattle.trace_read.specs.Lines.{line_of}
 use Rattle.trace_read.specs.Seen.{ReadsBack}
 use Rattle.trace_read.proofs.ReadLaws.{none-no_feed, none-not_read, none-not_fit, none-other_text}
@@ -22,7 +23,8 @@ returns-then-not-line_fits-clause-line c =
 pub returns-in-None-clause-line : goal.returns-in-None-clause-line
 returns-in-None-clause-line c =
     let text : c.as_slice.result.now ≡ line_text c.args.k.now (line_of c.in-Some-2.line) =
-    c.as_slice.ensures.value ∙ c.in_ok-put_line.ensures ∙ ap (λ xs. xs ++ line_text c.args.k.now (line_of c.in-Some-2.line)) c.clear.ensures.items in
+    c.as_slice.ensures.value ∙ c.in_ok-put_line.ensures ∙ ap (λ xs. xs ++ line_text (known_in c.format.result.now) (line_of c.in-Some-2.line)) c.clear.ensures.items
+    ∙ ap (λ (k : Known). line_text k (line_of c.in-Some-2.line)) c.format.ensures in
     none-other_text c.args.k.now c.args.bytes.now c.in-Some.front.now c.in-Some.field-0-1.now c.in-Some-2.line c.requires c.in-Some.ensures
     (subst (λ o. ReadsBack c.args.k.now c.in-Some.front.now o) c.in-Some-2.is c.in_ok-line.ensures)
     (λ more. subst (λ xs. c.args.bytes.now ≢ xs ++ more) text (c.in-None.ensures more))
