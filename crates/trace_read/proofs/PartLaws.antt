@@ -4,10 +4,9 @@ use Rattle.std.proofs.lemmas.Bool.Decides.{nat_tests}
 use Rattle.std.proofs.lemmas.List.Elements.{All-head, All-tail}
 use Rattle.std.proofs.lemmas.Fmt.{decimal_nonempty}
 use Rattle.std.specs.List.{list_all}
-use Rattle.std.specs.Prelude.{bytes_eq}
-use Rattle.std.proofs.lemmas.Bool.{and_parts, eqb-true}
+use Rattle.std.specs.Prelude.{bytes_eq, nat_le}
+use Rattle.std.proofs.lemmas.Bool.{and_parts, eqb-true, leb-true}
 use Rattle.rt_task.specs.RuleWords.{is_name, is_name_byte, within}
-use Rattle.set_laws.proofs.Passing.{within_parts}
 use Rattle.rt_task.specs.declared.Op.TheVariants as ops
 use Rattle.rt_task.specs.declared.Act.{Act}
 use Rattle.rt_task.specs.declared.Act.TheVariants as acts
@@ -42,9 +41,9 @@ either false b h = inr h
 
 within-plain : (low high b : ℕ) → 33 ≤ low → high ≤ 127 → within low high b ≡ true → is_plain_byte b ≡ true
 within-plain low high b above below h =
-    let parts = within_parts low high b h in
-    let least : 32 < b = omega (arith, parts.0) in
-    let most : b < 128 = omega (arith, parts.1) in
+    let parts = and_parts (nat_le low b) (nat_le b high) h in
+    let least : 32 < b = omega (arith, leb-true low b parts.0) in
+    let most : b < 128 = omega (arith, leb-true b high parts.1) in
     grind (arith, nat_tests)
 
 same-plain : (c b : ℕ) → 33 ≤ c → c ≤ 127 → b == c ≡ true → is_plain_byte b ≡ true
