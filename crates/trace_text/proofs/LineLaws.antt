@@ -159,7 +159,7 @@ pub groups_next : (k : Known) (p : Parts) (hs : List GroupHistory) (i : ℕ) (d 
     → texts k (lines_from p i (histories (drop i hs))) ≡ texts k (group_lines (group_of (get_or hs i d)) (get_or hs i d).entries) ++ texts k (lines_from p (i + 1) (histories (drop (i + 1) hs)))
 groups_next k p hs i d are low =
     let next : i + 1 ≡ suc i = omega arith in
-    rw (history_group p hs i d are low, drop-cons hs i d low, next) (flat_map-append (line_text k) k (group_lines (record { setup = p; number = i }) (get_or hs i d).entries) (lines_from p (suc i) (histories (drop (suc i) hs))))
+    rw (history_group p hs i d are low, drop-cons hs i d low, next) (flat_map-append (line_text k) (group_lines (record { setup = p; number = i }) (get_or hs i d).entries) (lines_from p (suc i) (histories (drop (suc i) hs))))
 
 -- the same for an item of the list
 pub groups_next_item : (k : Known) (p : Parts) (hs : List GroupHistory) (i : ℕ) (h : GroupHistory) → AreGroupsOf p hs → i < length hs → h ≡ get_or hs i h
