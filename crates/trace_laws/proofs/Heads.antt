@@ -28,7 +28,7 @@ first-unique v w x y g h same =
     (ap (λ (p : List ℕ × List ℕ). p.0) cuts, ap (λ (p : List ℕ × List ℕ). p.1) cuts)
 
 -- the digit in the first line
-digit : List ℕ → ℕ
+abbrev digit : List ℕ → ℕ
 digit text = get_or text 14 0
 
 -- a text begins with the first line of one format
