@@ -9,10 +9,12 @@ use Rattle.rt_task.specs.declared.bad_set.Part.TheVariants.{Line}
 use Rattle.rt_task.specs.Refusals.{bad}
 use Rattle.set_read.specs.Sets.{set}
 use Rattle.rt_groups.specs.Built.{is_built}
-use Rattle.trace_read.specs.Reads.{IsRefused}
+use Rattle.trace_lines.specs.declared.format.Version.{Version}
+use Rattle.trace_read.specs.Reads.{HasHead, IsRefused}
 use Rattle.trace_read.specs.declared.fault.TraceFault.TheVariants as faults
 use Rattle.trace_laws.specs.ValidTexts.{IsValidText}
 use Rattle.trace_laws.proofs.Heads.{head-unique}
+use Rattle.trace_laws.proofs.Heads as heads
 use Rattle.trace_check.specs.Verdicts.{IsInvalid}
 use Rattle.rt_fault.specs.Reading.{TakesAll}
 use Rattle.rtsim.specs.Ends.{Reading}
@@ -24,28 +26,34 @@ pub headless-refused : (bytes : List ℕ) (line : ℕ) (b : BadSet) → IsRefuse
 headless-refused bytes line b (inl lack) same = inl (same ∙ ap (bad NotTrace Line) lack.0, lack.1)
 headless-refused bytes line b (inr lack) same = inr (inl (same ∙ ap (bad NotTrace Line) lack.0, lack.1))
 
+-- a text names one format
+pub version-unique : (bytes : List ℕ) (v w : Version) (p q : Parts) → SaysSet bytes v p → SaysSet bytes w q → v ≡ w
+version-unique bytes v w p q says also = (head-unique v w bytes _ _ _ _ says.head also.head).version
+
 -- a text says one set
-pub says-unique : (bytes : List ℕ) (p q : Parts) → SaysSet bytes p → SaysSet bytes q → p ≡ q
-says-unique bytes p q says also =
-    let same : says.set_text ≡ also.set_text = (head-unique bytes _ _ _ _ says.head also.head).0 in
+pub says-unique : (bytes : List ℕ) (v w : Version) (p q : Parts) → SaysSet bytes v p → SaysSet bytes w q → p ≡ q
+says-unique bytes v w p q says also =
+    let same : says.set_text ≡ also.set_text = (head-unique v w bytes _ _ _ _ says.head also.head).set_text in
     let mine : set also.set_text ≡ Ok p = ap set (sym same) ∙ says.set_is in
     let other : set also.set_text ≡ Ok q = also.set_is in
     cc
 
 -- what says a set that is played is not refused
-pub says-unrefused : (bytes : List ℕ) (p : Parts) (b : BadSet) → SaysSet bytes p → TraceIsRefused bytes b → ⊥
-says-unrefused bytes p b says (inl lack) = lack.1 _ says.head.bytes_are
-says-unrefused bytes p b says (inr (inl lack)) = lack.1.no_set _ _ says.head
-says-unrefused bytes p b says (inr (inr (inl other))) =
-    let same : says.set_text ≡ other.set_text = (head-unique bytes _ _ _ _ says.head other.head).0 in
+pub says-unrefused : (bytes : List ℕ) (v : Version) (p : Parts) (b : BadSet) → SaysSet bytes v p → TraceIsRefused bytes b → ⊥
+says-unrefused bytes v p b says (inl lack) = lack.1 v _ says.head.bytes_are
+says-unrefused bytes v p b says (inr (inl lack)) =
+    let same : v ≡ lack.1.version = heads.version-unique v lack.1.version _ _ (sym says.head.bytes_are ∙ lack.1.begins) in
+    lack.1.no_set _ _ (subst (λ (u : Version). HasHead u bytes says.set_text says.rest) same says.head)
+says-unrefused bytes v p b says (inr (inr (inl other))) =
+    let same : says.set_text ≡ other.set_text = (head-unique v other.version bytes _ _ _ _ says.head other.head).set_text in
     let read : set other.set_text ≡ Ok p = ap set (sym same) ∙ says.set_is in
     let refused : set other.set_text ≡ Err b = other.refused in
     cc
-says-unrefused bytes p b says (inr (inr (inr other))) = unbuilt other.1
+says-unrefused bytes v p b says (inr (inr (inr other))) = unbuilt other.1
   where
     unbuilt : SaysUnbuilt bytes → ⊥
     unbuilt un =
-        let same : says.set_text ≡ un.set_text = (head-unique bytes _ _ _ _ says.head un.head).0 in
+        let same : says.set_text ≡ un.set_text = (head-unique v un.version bytes _ _ _ _ says.head un.head).set_text in
         let mine : set un.set_text ≡ Ok p = ap set (sym same) ∙ says.set_is in
         let other : set un.set_text ≡ Ok un.setup = un.set_is in
         let one : p ≡ un.setup = cc in
@@ -63,14 +71,16 @@ can_check-unrefused source b can lack = by_left source.old.left can lack.all
   where
     by_left : (left : Option (List ℕ)) → CanCheck left → TakesAll left source.new.left lack.bytes → ⊥
     by_left None able all = able
-    by_left (Some xs) able all = says-unrefused xs able.1.setup b able.1.says (subst (λ (bytes : List ℕ). TraceIsRefused bytes b) all.0 lack.refused)
+    by_left (Some xs) able all = says-unrefused xs able.1.version able.1.setup b able.1.says (subst (λ (bytes : List ℕ). TraceIsRefused bytes b) all.0 lack.refused)
 
-pub can_check-valid : (source : Reading) (bytes : List ℕ) (p : Parts) (line : ℕ) → CanCheck source.old.left → WasTrace source bytes p → IsInvalid p bytes line → ⊥
-can_check-valid source bytes p line can was wrong = by_left source.old.left can was.all
+pub can_check-valid : (source : Reading) (bytes : List ℕ) (v : Version) (p : Parts) (line : ℕ) → CanCheck source.old.left → WasTrace source bytes v p → IsInvalid v p bytes line → ⊥
+can_check-valid source bytes v p line can was wrong = by_left source.old.left can was.all
   where
     by_left : (left : Option (List ℕ)) → CanCheck left → TakesAll left source.new.left bytes → ⊥
     by_left None able all = able
     by_left (Some xs) able all =
         let valid : IsValidTrace bytes = subst IsValidTrace (sym all.0) able.1 in
-        let same : valid.setup ≡ p = says-unique bytes valid.setup p valid.says was.says in
-        wrong.not_valid valid.entries (subst (λ (q : Parts). IsValidText q bytes valid.entries) same valid.valid)
+        let version : valid.version ≡ v = version-unique bytes valid.version v valid.setup p valid.says was.says in
+        let same : valid.setup ≡ p = says-unique bytes valid.version v valid.setup p valid.says was.says in
+        wrong.not_valid valid.entries
+        (subst (λ (u : Version). IsValidText u p bytes valid.entries) version (subst (λ (q : Parts). IsValidText valid.version q bytes valid.entries) same valid.valid))

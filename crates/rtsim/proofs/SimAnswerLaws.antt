@@ -15,7 +15,7 @@ use Rattle.rtsim.specs.Groups.{all_played}
 use Rattle.rtsim.specs.LinksOf.{LinksAreTheTopOf}
 use Rattle.rt_plays.specs.Order.{histories}
 use Rattle.rt_groups.specs.Groups.{GroupHistory}
-use Rattle.trace_lines.specs.FirstLine.{format_1}
+use Rattle.trace_lines.specs.declared.format.Version.TheVariants.{Two}
 use Rattle.trace_text.specs.Groups as groups
 use Rattle.trace_text.specs.TraceText.{trace_text}
 use Rattle.rtsim.specs.Sim.{WasRead, WasRefused, set_trace}
@@ -94,7 +94,7 @@ wrote-answers source sink p ends.TooLong read few h = absurd h
 pub sim-read :
     (source : Reading) (sink : Writing) (p : Parts) (hs : List GroupHistory) (answer : Status) → WasRead source p
     → TakesAtMost MOST_SET_BYTES source.old.left source.new.left → hs ≡ all_played p
-    → Wrote sink (trace_text format_1 p (groups.histories hs)) answer → SimAnswers source sink answer
+    → Wrote sink (trace_text Two p (groups.histories hs)) answer → SimAnswers source sink answer
 sim-read source sink p hs answer read few all wrote =
     wrote-answers source sink p answer read few
-    (subst (λ (es : List (List Entry)). Wrote sink (trace_text format_1 p es) answer) (played-histories p hs all) wrote)
+    (subst (λ (es : List (List Entry)). Wrote sink (trace_text Two p es) answer) (played-histories p hs all) wrote)

@@ -10,6 +10,7 @@ use Rattle.rt_fault.specs.Held.{Extends, ExtendsByPrefix}
 use Rattle.rt_fault.specs.Reading.{TakesAll}
 use Rattle.set_read.specs.Sets.{set}
 use Rattle.rt_groups.specs.Built.{is_built}
+use Rattle.trace_lines.specs.declared.format.Version.{Version}
 use Rattle.trace_read.specs.Reads.{HasHead, HasBadSet, LacksFirstLine, LacksSetLine}
 use Rattle.trace_laws.specs.ValidTexts.{IsValidText}
 use Rattle.trace_check.specs.declared.verdict.Verdict.{Verdict}
@@ -17,26 +18,27 @@ use Rattle.trace_check.specs.declared.verdict.Verdict.TheVariants.{Valid, Invali
 use Rattle.trace_check.specs.Verdicts.{IsVerdict}
 use Rattle.rtsim.specs.Ends.{Reading, Writing}
 
--- the second line of the text says this set, which is played so far
-pub record SaysSet (bytes : List ℕ) (p : Parts) : Type 0 where
+-- the first line of the text names this format, and the second says this set, which is played so far
+pub record SaysSet (bytes : List ℕ) (version : Version) (p : Parts) : Type 0 where
   pub set_text : List ℕ
   pub rest : List ℕ
-  pub head : HasHead bytes set_text rest
+  pub head : HasHead version bytes set_text rest
   pub set_is : set set_text ≡ Ok p
   pub built : is_built p ≡ true
 
 -- what was read to its end is within the limit, and says a set
-pub record WasTrace (source : Reading) (bytes : List ℕ) (p : Parts) : Type 0 where
+pub record WasTrace (source : Reading) (bytes : List ℕ) (version : Version) (p : Parts) : Type 0 where
   pub all : TakesAll source.old.left source.new.left bytes
   pub within : length bytes ≤ MOST_TRACE_BYTES
-  pub says : SaysSet bytes p
+  pub says : SaysSet bytes version p
 
 -- why a text is refused: its first line, its second, the set that this says, or that this set is not played
 pub record SaysUnbuilt (bytes : List ℕ) : Type 0 where
+  pub version : Version
   pub set_text : List ℕ
   pub rest : List ℕ
   pub setup : Parts
-  pub head : HasHead bytes set_text rest
+  pub head : HasHead version bytes set_text rest
   pub set_is : set set_text ≡ Ok setup
   pub unbuilt : is_built setup ≡ false
 
@@ -61,26 +63,29 @@ verdict_text (Invalid line) = codes "invalid " ++ (decimal line ++ 10 ∷ [])
 -- a trace was read, and its verdict came
 pub record WasChecked (source : Reading) (sink : Writing) (v : Verdict) : Type 0 where
   pub bytes : List ℕ
+  pub version : Version
   pub setup : Parts
-  pub read : WasTrace source bytes setup
-  pub verdict : IsVerdict setup bytes v
+  pub read : WasTrace source bytes version setup
+  pub verdict : IsVerdict version setup bytes v
   pub written : Extends sink.old.held sink.new.held (verdict_text v)
 
 -- a trace was read, and a first part of its verdict came
 pub record VerdictWasCut (source : Reading) (sink : Writing) : Type 0 where
   pub bytes : List ℕ
+  pub version : Version
   pub setup : Parts
   pub verdict : Verdict
-  pub read : WasTrace source bytes setup
-  pub is_verdict : IsVerdict setup bytes verdict
+  pub read : WasTrace source bytes version setup
+  pub is_verdict : IsVerdict version setup bytes verdict
   pub written : ExtendsByPrefix sink.old.held sink.new.held (verdict_text verdict)
 
--- what is still to come is told, is within the limit, and is a valid trace of the set that it says
+-- what is still to come is told, is within the limit, and is a valid trace, in its format, of the set that it says
 pub record IsValidTrace (bytes : List ℕ) : Type 0 where
+  pub version : Version
   pub setup : Parts
   pub entries : ℕ
-  pub says : SaysSet bytes setup
-  pub valid : IsValidText setup bytes entries
+  pub says : SaysSet bytes version setup
+  pub valid : IsValidText version setup bytes entries
 
 abbrev pub CanCheck : Option (List ℕ) → Type 0
 CanCheck None = ⊥

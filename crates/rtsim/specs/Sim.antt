@@ -16,7 +16,7 @@ use Rattle.rt_fault.specs.declared.status.Status.TheVariants as ends
 use Rattle.rt_fault.specs.Reading.{TakesAll}
 use Rattle.set_read.specs.Sets.{set, ◌>>=◌}
 use Rattle.rt_groups.specs.Built.{is_built}
-use Rattle.trace_lines.specs.FirstLine.{format_1}
+use Rattle.trace_lines.specs.declared.format.Version.TheVariants.{Two}
 use Rattle.trace_text.specs.TraceText.{trace_text}
 use Rattle.rt_plays.specs.Order.{histories}
 use Rattle.rtsim.specs.Ends.{Reading, Writing}
@@ -59,9 +59,9 @@ pub record WasRefused (source : Reading) (b : BadSet) : Type 0 where
   pub within : length bytes ≤ MOST_SET_BYTES
   pub refused : playable bytes ≡ Err b
 
--- the trace of a set: the text of its canonical set and of the one legal history of each group
+-- the trace of a set: the text in format 2 of its canonical set and of the one legal history of each group
 abbrev pub set_trace : Parts → List ℕ
-set_trace p = trace_text format_1 p (histories p)
+set_trace p = trace_text Two p (histories p)
 
 -- a set was read, and its whole trace came; what that shows holds after each entry
 pub record WasPlayed (source : Reading) (sink : Writing) : Type 0 where

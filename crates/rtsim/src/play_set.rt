@@ -9,6 +9,7 @@ use crate::input::read_input;
 use crate::play::play;
 use rt_fault::{Sink, Source, Status};
 use std::alloc::Global;
+use trace_lines::Version;
 use trace_text::{WriteStop, write_trace};
 
 /// Reads a set, plays its steps in the given order, and writes the trace of the histories that come about.
@@ -31,7 +32,7 @@ pub(crate) fn play_set<S: Source, K: Sink>(alloc: Global, src: &mut S, out: &mut
     let Ok(engines) = play(alloc, &setup) else {
         return Status::NoMemory;
     };
-    match write_trace(alloc, &setup, engines.as_slice(), out) {
+    match write_trace(alloc, Version::Two, &setup, engines.as_slice(), out) {
         Ok(()) => Status::Ok,
         Err(WriteStop::Fault) => Status::WriteFault,
         Err(WriteStop::NoMemory) => Status::NoMemory,

@@ -16,7 +16,7 @@ use std::alloc::Global;
 /// Runs the command that the words name, those after the program's name.
 ///
 /// `sim` reads a set, plays its steps in the given order, and writes the trace of the histories that come about, in
-/// format 1 through the line `end`. `check` reads a trace, and writes one line: `valid` with the number of its entries,
+/// format 2 through the line `end`. `check` reads a trace of either format, and writes one line: `valid` with the number of its entries,
 /// or `invalid` with the number of the first line that is wrong.
 ///
 /// Nothing is written before all input was read, nor where it is refused.

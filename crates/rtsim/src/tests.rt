@@ -11,7 +11,7 @@ use std::test::Fail;
 
 const NO_TASKS: &str = r#"{"plugin":"GSN-EDF","clusters":[{"cpus":1}],"steps":[]}"#;
 
-const NO_TASKS_TRACE: &str = "rtsched trace 1
+const NO_TASKS_TRACE: &str = "rtsched trace 2
 set {\"clusters\":[{\"cpus\":1,\"group\":0}],\"plugin\":\"GSN-EDF\",\"resvs\":[],\"sems\":[],\"steps\":[],\"tasks\":[]}
 group 0 0:-
 end
@@ -20,42 +20,53 @@ end
 const FIRST_PATH: &str =
     r#"{"plugin":"GSN-EDF","clusters":[{"cpus":2}],"tasks":[{"name":"A","cost":1,"period":10,"deadline":5},{"name":"B","cost":1,"period":10,"deadline":7},{"name":"C","cost":1,"period":10,"deadline":9}],"steps":[[0,0,"tick"],[0,0,"irq"],[0,0,"irq"]]}"#;
 
-const FIRST_PATH_HEAD: &str = "rtsched trace 1
+const FIRST_PATH_HEAD: &str = "rtsched trace 2
 set {\"clusters\":[{\"cpus\":2,\"group\":0}],\"plugin\":\"GSN-EDF\",\"resvs\":[],\"sems\":[],\"steps\":[[0,0,\"tick\"],[0,0,\"irq\"],[0,0,\"irq\"]],\"tasks\":[{\"body\":[],\"cluster\":0,\"cost\":1,\"deadline\":5,\"enforce\":false,\"kind\":\"periodic\",\"name\":\"A\",\"period\":10,\"phase\":0,\"prio\":511,\"resv\":null,\"uses\":[]},{\"body\":[],\"cluster\":0,\"cost\":1,\"deadline\":7,\"enforce\":false,\"kind\":\"periodic\",\"name\":\"B\",\"period\":10,\"phase\":0,\"prio\":511,\"resv\":null,\"uses\":[]},{\"body\":[],\"cluster\":0,\"cost\":1,\"deadline\":9,\"enforce\":false,\"kind\":\"periodic\",\"name\":\"C\",\"period\":10,\"phase\":0,\"prio\":511,\"resv\":null,\"uses\":[]}]}
 ";
 
-const FIRST_PATH_REST: &str = "group 0 0:1 1:2
+const FIRST_PATH_REST: &str = "group 0 0:@A 1:@B
+0 0 0 tick done
+1 0 0 irq runs @A
+2 0 0 irq quiet
+end
+";
+
+const FORMAT_1_HEAD: &str = "rtsched trace 1
+set {\"clusters\":[{\"cpus\":2,\"group\":0}],\"plugin\":\"GSN-EDF\",\"resvs\":[],\"sems\":[],\"steps\":[[0,0,\"tick\"],[0,0,\"irq\"],[0,0,\"irq\"]],\"tasks\":[{\"body\":[],\"cluster\":0,\"cost\":1,\"deadline\":5,\"enforce\":false,\"kind\":\"periodic\",\"name\":\"A\",\"period\":10,\"phase\":0,\"prio\":511,\"resv\":null,\"uses\":[]},{\"body\":[],\"cluster\":0,\"cost\":1,\"deadline\":7,\"enforce\":false,\"kind\":\"periodic\",\"name\":\"B\",\"period\":10,\"phase\":0,\"prio\":511,\"resv\":null,\"uses\":[]},{\"body\":[],\"cluster\":0,\"cost\":1,\"deadline\":9,\"enforce\":false,\"kind\":\"periodic\",\"name\":\"C\",\"period\":10,\"phase\":0,\"prio\":511,\"resv\":null,\"uses\":[]}]}
+";
+
+const FORMAT_1_REST: &str = "group 0 0:1 1:2
 0 0 0 tick done
 1 0 0 irq runs 1
 2 0 0 irq quiet
 end
 ";
 
-const IDLES_FOR_QUIET_REST: &str = "group 0 0:1 1:2
+const IDLES_FOR_QUIET_REST: &str = "group 0 0:@A 1:@B
 0 0 0 tick done
-1 0 0 irq runs 1
+1 0 0 irq runs @A
 2 0 0 irq idles
 end
 ";
 
-const NO_END_REST: &str = "group 0 0:1 1:2
+const NO_END_REST: &str = "group 0 0:@A 1:@B
 0 0 0 tick done
-1 0 0 irq runs 1
+1 0 0 irq runs @A
 2 0 0 irq quiet
 ";
 
-const BLANK_IN_SET_HEAD: &str = "rtsched trace 1
+const BLANK_IN_SET_HEAD: &str = "rtsched trace 2
 set { \"clusters\":[{\"cpus\":2,\"group\":0}],\"plugin\":\"GSN-EDF\",\"resvs\":[],\"sems\":[],\"steps\":[[0,0,\"tick\"],[0,0,\"irq\"],[0,0,\"irq\"]],\"tasks\":[{\"body\":[],\"cluster\":0,\"cost\":1,\"deadline\":5,\"enforce\":false,\"kind\":\"periodic\",\"name\":\"A\",\"period\":10,\"phase\":0,\"prio\":511,\"resv\":null,\"uses\":[]},{\"body\":[],\"cluster\":0,\"cost\":1,\"deadline\":7,\"enforce\":false,\"kind\":\"periodic\",\"name\":\"B\",\"period\":10,\"phase\":0,\"prio\":511,\"resv\":null,\"uses\":[]},{\"body\":[],\"cluster\":0,\"cost\":1,\"deadline\":9,\"enforce\":false,\"kind\":\"periodic\",\"name\":\"C\",\"period\":10,\"phase\":0,\"prio\":511,\"resv\":null,\"uses\":[]}]}
 ";
 
 const ONE_STEP: &str =
     r#"{"plugin":"GSN-EDF","clusters":[{"cpus":2}],"tasks":[{"name":"A","cost":1,"period":10,"deadline":5},{"name":"B","cost":1,"period":10,"deadline":7},{"name":"C","cost":1,"period":10,"deadline":9}],"steps":[[0,0,"tick"]]}"#;
 
-const ONE_STEP_HEAD: &str = "rtsched trace 1
+const ONE_STEP_HEAD: &str = "rtsched trace 2
 set {\"clusters\":[{\"cpus\":2,\"group\":0}],\"plugin\":\"GSN-EDF\",\"resvs\":[],\"sems\":[],\"steps\":[[0,0,\"tick\"]],\"tasks\":[{\"body\":[],\"cluster\":0,\"cost\":1,\"deadline\":5,\"enforce\":false,\"kind\":\"periodic\",\"name\":\"A\",\"period\":10,\"phase\":0,\"prio\":511,\"resv\":null,\"uses\":[]},{\"body\":[],\"cluster\":0,\"cost\":1,\"deadline\":7,\"enforce\":false,\"kind\":\"periodic\",\"name\":\"B\",\"period\":10,\"phase\":0,\"prio\":511,\"resv\":null,\"uses\":[]},{\"body\":[],\"cluster\":0,\"cost\":1,\"deadline\":9,\"enforce\":false,\"kind\":\"periodic\",\"name\":\"C\",\"period\":10,\"phase\":0,\"prio\":511,\"resv\":null,\"uses\":[]}]}
 ";
 
-const ONE_STEP_REST: &str = "group 0 0:1 1:2
+const ONE_STEP_REST: &str = "group 0 0:@A 1:@B
 0 0 0 tick done
 end
 ";
@@ -63,9 +74,9 @@ end
 const TWO_GROUPS: &str =
     r#"{"clusters":[{"cpus":1,"group":0},{"cpus":1,"group":0},{"cpus":1,"group":1}],"plugin":"PSN-EDF","resvs":[],"sems":[],"steps":[[0,0,"irq"],[1,0,"irq"],[0,0,"end"],[1,0,"sleep",8],[2,0,"tick"],[2,0,"irq"],[2,1,"sleep",8],[1,1,"tick"],[2,2,"tick"],[1,2,"tick"],[0,2,"tick"],[1,4,"irq"],[1,5,"irq"],[1,5,"tick"],[2,9,"irq"],[2,9,"npoff"],[2,9,"npon"],[2,9,"npoff"],[2,9,"work"],[2,9,"sleep",3],[2,10,"irq"],[0,6,"tick"],[1,13,"tick"],[0,15,"irq"],[1,15,"tick"],[1,15,"tick"],[0,15,"sleep",8],[1,15,"irq"],[1,15,"sleep",3],[1,30,"tick"]],"tasks":[{"body":[],"cluster":1,"cost":4,"deadline":10,"enforce":false,"kind":"periodic","name":"t1","period":3,"phase":0,"prio":3,"resv":null,"uses":[]},{"body":[],"cluster":0,"cost":3,"deadline":8,"enforce":false,"kind":"periodic","name":"t2","period":8,"phase":0,"prio":5,"resv":null,"uses":[]},{"body":[],"cluster":2,"cost":3,"deadline":5,"enforce":true,"kind":"periodic","name":"t3","period":5,"phase":0,"prio":3,"resv":null,"uses":[]}]}"#;
 
-const TWO_GROUPS_REST: &str = "group 0 0:2 1:1
-0 0 0 irq runs 2
-1 0 1 irq runs 1
+const TWO_GROUPS_REST: &str = "group 0 0:@t2 1:@t1
+0 0 0 irq runs @t2
+1 0 1 irq runs @t1
 2 0 0 end done 0:-
 3 0 1 sleep 8 done 1:-
 4 1 1 tick done
@@ -75,20 +86,20 @@ const TWO_GROUPS_REST: &str = "group 0 0:2 1:1
 8 5 1 irq quiet
 9 5 1 tick done
 10 6 0 tick done
-11 13 1 tick done 0:2 1:1
-12 15 0 irq runs 2
+11 13 1 tick done 0:@t2 1:@t1
+12 15 0 irq runs @t2
 13 15 1 tick done
 14 15 1 tick done
 15 15 0 sleep 8 done 0:-
-16 15 1 irq runs 1
+16 15 1 irq runs @t1
 17 15 1 sleep 3 done 1:-
-18 30 1 tick done 0:2 1:1
-group 1 2:3
+18 30 1 tick done 0:@t2 1:@t1
+group 1 2:@t3
 0 0 2 tick done
-1 0 2 irq runs 3
+1 0 2 irq runs @t3
 2 1 2 sleep 8 done 2:-
 3 2 2 tick done
-4 9 2 irq runs 3 2:3
+4 9 2 irq runs @t3 2:@t3
 5 9 2 npoff notinnp
 6 9 2 npon done
 7 9 2 npoff done
@@ -176,7 +187,7 @@ fn plays_the_first_path(rt: HostRuntime) -> Result<(), Fail> {
 
 #[test]
 fn plays_each_group(rt: HostRuntime) -> Result<(), Fail> {
-    let head = "rtsched trace 1\nset ";
+    let head = "rtsched trace 2\nset ";
     assert!(rt;
         plays(
             rt.alloc(),
@@ -323,8 +334,29 @@ fn checks_the_trace_of_the_first_path(rt: HostRuntime) -> Result<(), Fail> {
 }
 
 #[test]
+fn checks_both_formats_and_no_mixture(rt: HostRuntime) -> Result<(), Fail> {
+    let all: [(&[&str], Status, &str); 3] = [
+        (&[FORMAT_1_HEAD, FORMAT_1_REST], Status::Ok, "valid 3\n"),
+        (
+            &[FORMAT_1_HEAD, FIRST_PATH_REST],
+            Status::Invalid(3),
+            "invalid 3\n",
+        ),
+        (
+            &[FIRST_PATH_HEAD, FORMAT_1_REST],
+            Status::Invalid(3),
+            "invalid 3\n",
+        ),
+    ];
+    for (parts, ends, line) in all {
+        assert!(rt; checks(rt.alloc(), parts, ends, line)?);
+    }
+    Ok(())
+}
+
+#[test]
 fn checks_each_group(rt: HostRuntime) -> Result<(), Fail> {
-    let trace: [&str; 4] = ["rtsched trace 1\nset ", TWO_GROUPS, "\n", TWO_GROUPS_REST];
+    let trace: [&str; 4] = ["rtsched trace 2\nset ", TWO_GROUPS, "\n", TWO_GROUPS_REST];
     assert!(rt; checks(rt.alloc(), trace.as_slice(), Status::Ok, "valid 30\n")?);
     Ok(())
 }
@@ -343,11 +375,11 @@ fn refuses_what_is_no_trace(rt: HostRuntime) -> Result<(), Fail> {
             refused(SetKind::NotTrace, Part::Line, 2),
         ),
         (
-            &["rtsched trace 1\n", "set {\n"],
+            &["rtsched trace 2\n", "set {\n"],
             refused(SetKind::NotJson, Part::Whole, 0),
         ),
         (
-            &["rtsched trace 1\nset ", WITH_A_SEM, "\n"],
+            &["rtsched trace 2\nset ", WITH_A_SEM, "\n"],
             refused(SetKind::Unbuilt, Part::Whole, 0),
         ),
     ];

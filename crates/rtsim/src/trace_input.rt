@@ -15,15 +15,15 @@ use rt_task::{Part, SetKind};
 use std::alloc::Global;
 use trace_read::{Trace, TraceFault, read_trace};
 
-/// Reads a trace to its end: one whose set is valid and is played so far.
+/// Reads a trace of either format to its end: one whose set is valid and is played so far.
 pub(crate) fn read_trace_input<S: Source>(
     alloc: Global,
     src: &mut S,
 ) -> Result<(Vec<u8>, Trace), Status>
     ensures ok { let source = reading S.left S.faults src.old src.new in
-        IfOk result (λ x. WasTrace source x.0.items x.1.setup) }
+        IfOk result (λ x. WasTrace source x.0.items x.1.version x.1.setup) }
     ensures trace { IfOk result (λ x.
-        IsTraceOf x.0.items x.1.setup (lines_of x.1.lines) x.1.stop) }
+        IsTraceOf x.0.items x.1.version x.1.setup (lines_of x.1.lines) x.1.stop) }
     ensures ends { let source = reading S.left S.faults src.old src.new in
         EndsReading source MOST_TRACE_BYTES (WasNoTrace source) result }
 {

@@ -9,4 +9,5 @@ mod names;
 mod read;
 mod tasks;
 
+pub use names::Names;
 pub use read::read_set;

@@ -9,7 +9,7 @@ use std::marker::Model;
 
 /// The names of an array's elements in order, with the number of each: its first position, from 1.
 #[derive(Drop)]
-pub(crate) struct Names<'a> {
+pub struct Names<'a> {
     names: Vec<&'a str>,
     numbers: IndexMap<&'a str, u32>,
 }
@@ -29,7 +29,8 @@ impl<'a> Model for Names<'a> {
 }
 
 impl<'a> Names<'a> {
-    pub(crate) fn of(alloc: Global, names: Vec<&'a str>) -> Result<Names<'a>, AllocError>
+    /// These names with their numbers, of which the index is made once.
+    pub fn of(alloc: Global, names: Vec<&'a str>) -> Result<Names<'a>, AllocError>
         requires { vec_len names + 1 < 2 ^ 32 }
         ensures { IfOk result (λ n. n ≡ map (λ w. w.now) names.entry.items) }
     {
@@ -38,7 +39,7 @@ impl<'a> Names<'a> {
     }
 
     /// The number of a name, and 0 where it is unknown.
-    pub(crate) fn number(&self, word: &str) -> u32
+    pub fn number(&self, word: &str) -> u32
         ensures { result ≡ document.position_from 1 self.now word.now }
     {
         number_at(&self.numbers, word)

@@ -1,23 +1,84 @@
-//! Lines as text, with each act and each reply.
+//! Lines as text, with each act and each reply, in both formats.
 
 use rt_base::{CpuNo, GroupNo, SemNo, TaskNo, Tick};
 use rt_history::{Entry, Reply};
-use rt_task::{Act, Op, Step};
+use rt_task::{Act, Op, Setup, Step};
+use set_read::read_set;
 use std::alloc::Global;
 use std::test::Fail;
 use trace_lines::{
-    CpuLink, put_block_line, put_count_line, put_end_line, put_entry_line, put_group_line,
+    CpuLink, Format, Version, put_block_line, put_count_line, put_end_line, put_entry_line,
+    put_group_line,
 };
 
-fn line_of(alloc: Global, act: Act, reply: Reply, links: &[CpuLink]) -> Result<Vec<u8>, Fail> {
+/// Three tasks, whose names are what a number and a dash are too.
+fn set(alloc: Global) -> Result<Setup, Fail> {
+    let document = b"{\"plugin\":\"GSN-EDF\",\"clusters\":[{\"cpus\":1}],\"tasks\":[{\"name\":\"2\",\"cost\":1,\"period\":10},{\"name\":\"-\",\"cost\":1,\"period\":10},{\"name\":\"a_B-9\",\"cost\":1,\"period\":10}],\"steps\":[]}";
+    Ok(read_set(alloc, document)?)
+}
+
+fn line_in(
+    alloc: Global,
+    version: Version,
+    act: Act,
+    reply: Reply,
+    links: &[CpuLink],
+) -> Result<Vec<u8>, Fail> {
+    let setup = set(alloc)?;
+    let parts = setup.parts();
     let mut out = Vec::new(alloc);
     let step = Step {
         cpu: CpuNo(63),
         tick: Tick(999_999_999_999),
         act,
     };
-    put_entry_line(&mut out, 199_999, &Entry { step, reply }, links)?;
+    put_entry_line(
+        &mut out,
+        &Format { version, parts },
+        199_999,
+        &Entry { step, reply },
+        links,
+    )?;
     Ok(out)
+}
+
+fn line_of(alloc: Global, act: Act, reply: Reply, links: &[CpuLink]) -> Result<Vec<u8>, Fail> {
+    line_in(alloc, Version::One, act, reply, links)
+}
+
+#[test]
+fn writes_names_in_format_2(rt: HostRuntime) -> Result<(), Fail> {
+    let links = [
+        CpuLink {
+            cpu: CpuNo(0),
+            task: Some(TaskNo(3)),
+        },
+        CpuLink {
+            cpu: CpuNo(10),
+            task: None,
+        },
+    ];
+    let line = line_in(
+        rt.alloc(),
+        Version::Two,
+        Act::Arrive(TaskNo(2)),
+        Reply::Runs(TaskNo(1)),
+        &links,
+    )?;
+    assert_eq!(rt;
+        line.as_slice(),
+        b"199999 999999999999 63 arrive @- runs @2 0:@a_B-9 10:-\n".as_slice()
+    );
+    let setup = set(rt.alloc())?;
+    let format = Format {
+        version: Version::Two,
+        parts: setup.parts(),
+    };
+    let mut out = Vec::new(rt.alloc());
+    put_group_line(&mut out, &format, GroupNo(2), &links)?;
+    put_block_line(&mut out, &format, 6, TaskNo(3), SemNo(1), 2, 4, Some(3))?;
+    assert_eq!(rt; out.as_slice(), b"group 2 0:@a_B-9 10:-\nblock 6 @a_B-9 1 2 4 3\n".as_slice());
+    Ok(())
 }
 
 #[test]
@@ -104,8 +165,13 @@ fn writes_links(rt: HostRuntime) -> Result<(), Fail> {
             task: None,
         },
     ];
+    let setup = set(rt.alloc())?;
+    let format = Format {
+        version: Version::One,
+        parts: setup.parts(),
+    };
     let mut out = Vec::new(rt.alloc());
-    put_group_line(&mut out, GroupNo(2), &links)?;
+    put_group_line(&mut out, &format, GroupNo(2), &links)?;
     assert_eq!(rt; out.as_slice(), b"group 2 0:3 10:-\n".as_slice());
     put_end_line(&mut out)?;
     assert_eq!(rt; out.as_slice(), b"group 2 0:3 10:-\nend\n".as_slice());
@@ -119,11 +185,16 @@ fn writes_links(rt: HostRuntime) -> Result<(), Fail> {
 
 #[test]
 fn writes_block_lines_and_count_lines(rt: HostRuntime) -> Result<(), Fail> {
+    let setup = set(rt.alloc())?;
+    let format = Format {
+        version: Version::One,
+        parts: setup.parts(),
+    };
     let mut out = Vec::new(rt.alloc());
-    put_block_line(&mut out, 6, TaskNo(3), SemNo(1), 2, 4, Some(3))?;
+    put_block_line(&mut out, &format, 6, TaskNo(3), SemNo(1), 2, 4, Some(3))?;
     assert_eq!(rt; out.as_slice(), b"block 6 3 1 2 4 3\n".as_slice());
     out.clear();
-    put_block_line(&mut out, 6, TaskNo(3), SemNo(1), 0, 0, None)?;
+    put_block_line(&mut out, &format, 6, TaskNo(3), SemNo(1), 0, 0, None)?;
     assert_eq!(rt; out.as_slice(), b"block 6 3 1 0 0 -\n".as_slice());
     out.clear();
     put_count_line(&mut out, b't', &[12, 0])?;

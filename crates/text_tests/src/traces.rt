@@ -5,17 +5,77 @@ use rt_history::Reply;
 use rt_task::{BadSet, Part, Place, SetKind};
 use std::alloc::Global;
 use std::test::Fail;
+use trace_lines::Version;
 use trace_read::{Line, Trace, TraceFault, read_trace};
 
-const HEAD: &[u8] =
-    b"rtsched trace 1\nset {\"clusters\":[{\"cpus\":2,\"group\":0}],\"plugin\":\"GSN-EDF\",\"resvs\":[],\"sems\":[{\"name\":\"S\",\"protocol\":\"OMLP\"}],\"steps\":[[0,0,\"tick\"],[0,0,\"irq\"],[0,0,\"irq\"]],\"tasks\":[{\"body\":[],\"cluster\":0,\"cost\":1,\"deadline\":5,\"enforce\":false,\"kind\":\"periodic\",\"name\":\"A\",\"period\":10,\"phase\":0,\"prio\":511,\"resv\":null,\"uses\":[]},{\"body\":[],\"cluster\":0,\"cost\":1,\"deadline\":7,\"enforce\":false,\"kind\":\"periodic\",\"name\":\"B\",\"period\":10,\"phase\":0,\"prio\":511,\"resv\":null,\"uses\":[]}]}\n";
+const SET_LINE: &[u8] =
+    b"set {\"clusters\":[{\"cpus\":2,\"group\":0}],\"plugin\":\"GSN-EDF\",\"resvs\":[],\"sems\":[{\"name\":\"S\",\"protocol\":\"OMLP\"}],\"steps\":[[0,0,\"tick\"],[0,0,\"irq\"],[0,0,\"irq\"]],\"tasks\":[{\"body\":[],\"cluster\":0,\"cost\":1,\"deadline\":5,\"enforce\":false,\"kind\":\"periodic\",\"name\":\"A\",\"period\":10,\"phase\":0,\"prio\":511,\"resv\":null,\"uses\":[]},{\"body\":[],\"cluster\":0,\"cost\":1,\"deadline\":7,\"enforce\":false,\"kind\":\"periodic\",\"name\":\"B\",\"period\":10,\"phase\":0,\"prio\":511,\"resv\":null,\"uses\":[]}]}\n";
 
 /// The example of the document of formats.
 const EXAMPLE: &[u8] =
     b"rtsched trace 1\nset {\"clusters\":[{\"cpus\":2,\"group\":0}],\"plugin\":\"GSN-EDF\",\"resvs\":[],\"sems\":[],\"steps\":[[0,0,\"tick\"],[0,0,\"irq\"],[0,0,\"irq\"]],\"tasks\":[{\"body\":[],\"cluster\":0,\"cost\":1,\"deadline\":5,\"enforce\":false,\"kind\":\"periodic\",\"name\":\"A\",\"period\":10,\"phase\":0,\"prio\":511,\"resv\":null,\"uses\":[]},{\"body\":[],\"cluster\":0,\"cost\":1,\"deadline\":7,\"enforce\":false,\"kind\":\"periodic\",\"name\":\"B\",\"period\":10,\"phase\":0,\"prio\":511,\"resv\":null,\"uses\":[]},{\"body\":[],\"cluster\":0,\"cost\":1,\"deadline\":9,\"enforce\":false,\"kind\":\"periodic\",\"name\":\"C\",\"period\":10,\"phase\":0,\"prio\":511,\"resv\":null,\"uses\":[]}]}\ngroup 0 0:1 1:2\n0 0 0 tick done\n1 0 0 irq runs 1\n2 0 0 irq quiet\nend\n";
 
+/// These lines behind the head of a set with the tasks A and B, in format 2.
+fn read_named(alloc: Global, lines: &str) -> Result<Trace, Fail> {
+    let mut bytes = b"rtsched trace 2\n".to_vec(alloc)?;
+    bytes.extend_from_slice(SET_LINE)?;
+    bytes.extend_from_slice(lines.as_bytes())?;
+    Ok(read_trace(alloc, bytes.as_slice())?)
+}
+
+#[test]
+fn reads_names_in_format_2(rt: HostRuntime) -> Result<(), Fail> {
+    let trace = read_named(
+        rt.alloc(),
+        "group 0 0:@B 1:-\n0 0 0 arrive @A runs @B 1:@A\nblock 7 @B 1 0 3 -\nend\n",
+    )?;
+    assert_eq!(rt; trace.version, Version::Two);
+    assert_eq!(rt; trace.stop, None);
+    match trace.lines.as_slice() {
+        [
+            Line::GroupLine { links, .. },
+            Line::EntryLine { entry, .. },
+            Line::BlockLine { task, sem, .. },
+            Line::EndLine,
+        ] => {
+            assert_eq!(rt; links.as_slice()[0].task, Some(TaskNo(2)));
+            assert_eq!(rt; links.as_slice()[1].task, None);
+            assert_eq!(rt; entry.reply, Reply::Runs(TaskNo(2)));
+            assert_eq!(rt; *task, TaskNo(2));
+            assert_eq!(rt; *sem, SemNo(1));
+        }
+        _ => panic!(rt; "other lines"),
+    }
+    Ok(())
+}
+
+#[test]
+fn stops_where_a_task_has_the_other_form(rt: HostRuntime) -> Result<(), Fail> {
+    for line in [
+        "group 0 0:1\n",
+        "group 0 0:A\n",
+        "group 0 0:@1\n",
+        "group 0 0:@\n",
+        "group 0 0:@C\n",
+        "group 0 0:@@A\n",
+        "group 0 0:1@A\n",
+        "0 0 0 irq runs 1\n",
+        "0 0 0 arrive A done\n",
+        "block 7 2 1 0 3 -\n",
+    ] {
+        let trace = read_named(rt.alloc(), line)?;
+        assert_eq!(rt; trace.stop, Some(3));
+    }
+    for line in ["group 0 0:@A\n", "0 0 0 irq runs @A\n", "block 7 @B 1 0 3 -\n"] {
+        let trace = read_lines(rt.alloc(), line)?;
+        assert_eq!(rt; trace.stop, Some(3));
+    }
+    Ok(())
+}
+
 fn read_lines(alloc: Global, lines: &str) -> Result<Trace, Fail> {
-    let mut bytes = HEAD.to_vec(alloc)?;
+    let mut bytes = b"rtsched trace 1\n".to_vec(alloc)?;
+    bytes.extend_from_slice(SET_LINE)?;
     bytes.extend_from_slice(lines.as_bytes())?;
     Ok(read_trace(alloc, bytes.as_slice())?)
 }
@@ -23,6 +83,7 @@ fn read_lines(alloc: Global, lines: &str) -> Result<Trace, Fail> {
 #[test]
 fn reads_a_whole_trace(rt: HostRuntime) -> Result<(), Fail> {
     let trace = read_trace(rt.alloc(), EXAMPLE)?;
+    assert_eq!(rt; trace.version, Version::One);
     assert_eq!(rt; trace.setup.parts().tasks.as_slice().len(), 3);
     assert_eq!(rt; trace.stop, None);
     match trace.lines.as_slice() {

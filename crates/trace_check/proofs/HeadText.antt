@@ -7,27 +7,30 @@ use Rattle.std.proofs.lemmas.Bool.Decides.{Decides-eqb}
 use Rattle.rt_task.specs.declared.Parts.{Parts}
 use Rattle.rt_task.specs.Validity.{IsValid}
 use Rattle.set_canonical.specs.Canonical.{canonical}
-use Rattle.trace_lines.specs.FirstLine.{first_line, format_1}
+use Rattle.trace_lines.specs.FirstLine.{first_line}
+use Rattle.trace_lines.specs.declared.format.Version.{Version}
 use Rattle.trace_read.specs.Reads.{HasHead}
 use Rattle.trace_laws.proofs.Heads.{head-unique}
 use Rattle.trace_laws.proofs.OneLine.{canonical-one_line}
 use Rattle.trace_text.specs.TraceText.{head_text}
 
-pub has-head : (p : Parts) (bytes head : List ℕ) (b : Bool) → head ≡ head_text format_1 p → b ≡ starts_with eqb bytes head
-    → (b ≡ true) ↔ ((rest : List ℕ) × (bytes ≡ head_text format_1 p ++ rest))
-has-head p bytes head b is told =
+pub has-head : (v : Version) (p : Parts) (bytes head : List ℕ) (b : Bool) → head ≡ head_text v p → b ≡ starts_with eqb bytes head
+    → (b ≡ true) ↔ ((rest : List ℕ) × (bytes ≡ head_text v p ++ rest))
+has-head v p bytes head b is told =
     let s = starts_is Decides-eqb bytes head b told in
     (λ yes. (drop (length head) bytes, s.0 yes ∙ ap (λ (h : List ℕ). h ++ drop (length head) bytes) is), λ has. s.1 has.0 (has.1 ∙ ap (λ (h : List ℕ). h ++ has.0) (sym is)))
 
 -- the two lines, and what stands after them
-pub head-text : (p : Parts) (rest : List ℕ) → head_text format_1 p ++ rest ≡ first_line format_1 ++ (codes "set " ++ (canonical p ++ 10 ∷ rest))
-head-text p rest = ap (λ (xs : List ℕ). first_line format_1 ++ (codes "set " ++ xs)) (append_assoc (canonical p) (10 ∷ []) rest)
+pub head-text : (v : Version) (p : Parts) (rest : List ℕ) → head_text v p ++ rest ≡ first_line v ++ (codes "set " ++ (canonical p ++ 10 ∷ rest))
+head-text v p rest =
+    append_assoc (first_line v) (codes "set " ++ (canonical p ++ 10 ∷ [])) rest
+    ∙ ap (λ (xs : List ℕ). first_line v ++ (codes "set " ++ xs)) (append_assoc (canonical p) (10 ∷ []) rest)
 
-pub canonical-said : (p : Parts) (bytes set_text rest more : List ℕ) → IsValid p → HasHead bytes set_text rest → bytes ≡ head_text format_1 p ++ more → set_text ≡ canonical p
-canonical-said p bytes set_text rest more valid head is =
-    let other : HasHead bytes (canonical p) more = record { bytes_are = is ∙ head-text p more; on_one_line = canonical-one_line p valid } in
-    (head-unique bytes set_text rest (canonical p) more head other).0
+pub canonical-said : (v : Version) (p : Parts) (bytes set_text rest more : List ℕ) → IsValid p → HasHead v bytes set_text rest → bytes ≡ head_text v p ++ more → set_text ≡ canonical p
+canonical-said v p bytes set_text rest more valid head is =
+    let other : HasHead v bytes (canonical p) more = record { bytes_are = is ∙ head-text v p more; on_one_line = canonical-one_line p valid } in
+    (head-unique v v bytes set_text rest (canonical p) more head other).set_text
 
-pub canonical-begins : (p : Parts) (bytes set_text rest : List ℕ) → HasHead bytes set_text rest → set_text ≡ canonical p → bytes ≡ head_text format_1 p ++ rest
-canonical-begins p bytes set_text rest head is =
-    head.bytes_are ∙ ap (λ (s : List ℕ). first_line format_1 ++ (codes "set " ++ (s ++ 10 ∷ rest))) is ∙ sym (head-text p rest)
+pub canonical-begins : (v : Version) (p : Parts) (bytes set_text rest : List ℕ) → HasHead v bytes set_text rest → set_text ≡ canonical p → bytes ≡ head_text v p ++ rest
+canonical-begins v p bytes set_text rest head is =
+    head.bytes_are ∙ ap (λ (s : List ℕ). first_line v ++ (codes "set " ++ (s ++ 10 ∷ rest))) is ∙ sym (head-text v p rest)

@@ -10,16 +10,19 @@ use Rattle.rt_history.specs.declared.Entry.{Entry}
 use Rattle.rt_groups.specs.Built.{is_built}
 use Rattle.rt_plays.specs.Plays.{ArePlays}
 use Rattle.set_canonical.specs.Canonical.{canonical}
-use Rattle.trace_lines.specs.FirstLine.{first_line, format_1}
+use Rattle.trace_lines.specs.declared.format.Version.{Version}
+use Rattle.trace_lines.specs.FirstLine.{first_line}
 use Rattle.trace_lines.specs.Grammar.{line_text}
-use Rattle.trace_lines.specs.Known.{known_of}
+use Rattle.trace_lines.specs.Known.{Known, known_of}
 use Rattle.trace_lines.specs.Lines.{Line}
 use Rattle.trace_text.specs.TraceText.{lines_from, trace_text}
 use Rattle.trace_read.specs.Reads.{HasHead, AreLines, IsTraceOf, stop_at}
+use Rattle.trace_read.specs.Seen.{Tells}
 use Rattle.trace_read.proofs.LineLaws.{lines-unique}
+use Rattle.trace_read.proofs.TellLaws.{valid-tells}
 use Rattle.trace_laws.specs.ValidTexts.{IsBegun, IsValidText, entry_count}
 use Rattle.trace_laws.proofs.Alike.{AgreeThrough, alike-head, alike-made, alike-one_head, alike-take}
-use Rattle.trace_laws.proofs.Heads.{head-unique, trace-begins, trace-head}
+use Rattle.trace_laws.proofs.Heads.{head-unique, lines_of, trace-begins, trace-head}
 use Rattle.trace_laws.proofs.KnownLines.{known-lines}
 use Rattle.trace_laws.proofs.OneLine.{canonical-one_line}
 use Rattle.trace_laws.proofs.ReadBack.{are-lines}
@@ -64,14 +67,20 @@ agree-next front (l ∷ rest) ls vs e h =
       vs_are = sym (take-append-drop (length front + 1) vs) ∙ ap (λ (xs : List Line). xs ++ more) first ∙ append_assoc front (l ∷ []) more;
     }
 
-module _ (p : Parts) (valid : IsValid p) (built : is_built p ≡ true) where
+module _ (v : Version) (p : Parts) (valid : IsValid p) (built : is_built p ≡ true) where
   abbrev one_line : All (λ (c : ℕ). c ≢ 10) (canonical p)
   one_line = canonical-one_line p valid
 
-  valid-text : (hs : List (List Entry)) → ArePlays p hs → IsValidText p (trace_text format_1 p hs) (entry_count hs)
+  abbrev k : Known
+  k = known_of v p
+
+  tells : Tells k
+  tells = valid-tells v p valid
+
+  valid-text : (hs : List (List Entry)) → ArePlays p hs → IsValidText v p (trace_text v p hs) (entry_count hs)
   valid-text hs plays = record { histories = hs; plays = plays; text_is = refl; count = refl }
 
-  module _ (bytes : List ℕ) (lines : List Line) (stop : Option ℕ) (r : IsTraceOf bytes p lines stop) where
+  module _ (bytes : List ℕ) (lines : List Line) (stop : Option ℕ) (r : IsTraceOf bytes v p lines stop) where
     left-none : stop ≡ None → r.left ≡ []
     left-none none = by_left r.left (sym r.stop_is ∙ none)
       where
@@ -83,39 +92,39 @@ module _ (p : Parts) (valid : IsValid p) (built : is_built p ≡ true) where
     stop-none none = r.stop_is ∙ ap (stop_at lines) none
 
     -- a text that is valid has the lines of plays, and nothing after them
-    valid-lines : (n : ℕ) → IsValidText p bytes n → (hs : List (List Entry)) × ArePlays p hs × (r.set_text ≡ canonical p) × (lines ≡ lines_from p 0 hs) × (stop ≡ None)
+    valid-lines : (n : ℕ) → IsValidText v p bytes n → (hs : List (List Entry)) × ArePlays p hs × (r.set_text ≡ canonical p) × (lines ≡ lines_from p 0 hs) × (stop ≡ None)
     valid-lines n is =
         let hs : List (List Entry) = is.histories in
-        let head : HasHead bytes (canonical p) (flat_map line_text (lines_from p 0 hs)) =
-        subst (λ (t : List ℕ). HasHead t (canonical p) (flat_map line_text (lines_from p 0 hs))) (sym is.text_is) (trace-head p hs one_line) in
-        let heads = head-unique bytes r.set_text r.rest (canonical p) (flat_map line_text (lines_from p 0 hs)) r.head head in
-        let others : AreLines (known_of p) r.rest (lines_from p 0 hs) [] =
-        subst (λ (t : List ℕ). AreLines (known_of p) t (lines_from p 0 hs) []) (sym heads.1) (are-lines (known_of p) (lines_from p 0 hs) (known-lines p valid built hs is.plays)) in
-        let both = lines-unique (known_of p) r.rest lines (lines_from p 0 hs) r.left [] r.lines_are others in
-        (hs, is.plays, heads.0, both.0, stop-none both.1)
+        let head : HasHead v bytes (canonical p) (lines_of v p hs) =
+        subst (λ (t : List ℕ). HasHead v t (canonical p) (lines_of v p hs)) (sym is.text_is) (trace-head v p hs one_line) in
+        let heads = head-unique v v bytes r.set_text r.rest (canonical p) (lines_of v p hs) r.head head in
+        let others : AreLines k r.rest (lines_from p 0 hs) [] =
+        subst (λ (t : List ℕ). AreLines k t (lines_from p 0 hs) []) (sym heads.rest) (are-lines k (lines_from p 0 hs) (known-lines v p valid built hs is.plays)) in
+        let both = lines-unique k r.rest lines (lines_from p 0 hs) r.left [] tells r.lines_are others in
+        (hs, is.plays, heads.set_text, both.0, stop-none both.1)
 
     -- a text that begins as a valid one agrees with the lines of plays
-    begun-agrees : (k : ℕ) → 2 ≤ k → IsBegun p k bytes → (hs : List (List Entry)) × ArePlays p hs × (r.set_text ≡ canonical p) × AgreeThrough (k - 2) lines (lines_from p 0 hs)
-    begun-agrees k many begun =
+    begun-agrees : (n : ℕ) → 2 ≤ n → IsBegun v p n bytes → (hs : List (List Entry)) × ArePlays p hs × (r.set_text ≡ canonical p) × AgreeThrough (n - 2) lines (lines_from p 0 hs)
+    begun-agrees n many begun =
         let is = begun.valid in
         let hs : List (List Entry) = is.histories in
-        let head : HasHead begun.whole (canonical p) (flat_map line_text (lines_from p 0 hs)) =
-        subst (λ (t : List ℕ). HasHead t (canonical p) (flat_map line_text (lines_from p 0 hs))) (sym is.text_is) (trace-head p hs one_line) in
-        let same = alike-head k bytes begun.whole r.set_text r.rest (canonical p) (flat_map line_text (lines_from p 0 hs)) begun.alike many r.head head in
-        let agree = alike-take (known_of p) k bytes begun.whole r.set_text r.rest (canonical p) (flat_map line_text (lines_from p 0 hs)) r.left lines (lines_from p 0 hs) r.head head r.lines_are
-        (known-lines p valid built hs is.plays) refl begun.alike many in
+        let head : HasHead v begun.whole (canonical p) (lines_of v p hs) =
+        subst (λ (t : List ℕ). HasHead v t (canonical p) (lines_of v p hs)) (sym is.text_is) (trace-head v p hs one_line) in
+        let same = alike-head v v n bytes begun.whole r.set_text r.rest (canonical p) (lines_of v p hs) begun.alike many r.head head in
+        let agree = alike-take k v v n bytes begun.whole r.set_text r.rest (canonical p) (lines_of v p hs) r.left lines (lines_from p 0 hs) tells r.head head r.lines_are
+        (known-lines v p valid built hs is.plays) refl begun.alike many in
         (hs, is.plays, same, agree)
 
     -- the same the other way round
-    agrees-begun : (m : ℕ) (hs : List (List Entry)) → r.set_text ≡ canonical p → ArePlays p hs → AgreeThrough m lines (lines_from p 0 hs) → IsBegun p (m + 2) bytes
+    agrees-begun : (m : ℕ) (hs : List (List Entry)) → r.set_text ≡ canonical p → ArePlays p hs → AgreeThrough m lines (lines_from p 0 hs) → IsBegun v p (m + 2) bytes
     agrees-begun m hs same plays agree =
-        let head : HasHead (trace_text format_1 p hs) r.set_text (flat_map line_text (lines_from p 0 hs)) =
-        subst (λ (s : List ℕ). HasHead (trace_text format_1 p hs) s (flat_map line_text (lines_from p 0 hs))) (sym same) (trace-head p hs one_line) in
+        let head : HasHead v (trace_text v p hs) r.set_text (lines_of v p hs) =
+        subst (λ (s : List ℕ). HasHead v (trace_text v p hs) s (lines_of v p hs)) (sym same) (trace-head v p hs one_line) in
         record {
-          whole = trace_text format_1 p hs;
+          whole = trace_text v p hs;
           entries = entry_count hs;
           valid = valid-text hs plays;
-          alike = alike-made (known_of p) m bytes (trace_text format_1 p hs) r.set_text r.rest (flat_map line_text (lines_from p 0 hs)) r.left lines (lines_from p 0 hs) r.head head r.lines_are refl agree;
+          alike = alike-made k v m bytes (trace_text v p hs) r.set_text r.rest (lines_of v p hs) r.left lines (lines_from p 0 hs) tells r.head head r.lines_are refl agree;
         }
 
     -- lines that begin as those of plays, where no plays have them and one more, and none have just them
@@ -129,55 +138,55 @@ module _ (p : Parts) (valid : IsValid p) (built : is_built p ≡ true) where
       pub not_whole : (hs : List (List Entry)) → ArePlays p hs → rest ≡ [] → lines_from p 0 hs ≡ front → stop ≡ None → ⊥
 
     -- the line behind them is wrong
-    pub stopped : (front rest : List Line) → r.set_text ≡ canonical p → IsStopped front rest → IsInvalid p bytes (length front + 3)
+    pub stopped : (front rest : List Line) → r.set_text ≡ canonical p → IsStopped front rest → IsInvalid v p bytes (length front + 3)
     stopped front rest same s = record {
-      not_valid = λ n is. (let v = valid-lines n is in whole v.0 v.1 v.3 v.4 rest s.lines_are refl);
+      not_valid = λ n is. (let said = valid-lines n is in whole said.0 said.1 said.3 said.4 rest s.lines_are refl);
       right = length front + 2;
       line_is = omega arith;
       begun = agrees-begun (length front) s.plays same s.are_plays (agree-front front rest s.later lines (lines_from p 0 s.plays) s.lines_are s.plays_begin);
-      most = λ k begun. most k begun (nat_lt (length front + 2) k) refl;
+      most = λ n begun. most n begun (nat_lt (length front + 2) n) refl;
     }
       where
         whole : (hs : List (List Entry)) → ArePlays p hs → lines ≡ lines_from p 0 hs → stop ≡ None → (others : List Line) → lines ≡ front ++ others → others ≡ rest → ⊥
         whole hs plays is none [] begin last = s.not_whole hs plays (sym last) (sym is ∙ begin ∙ append-nil front) none
         whole hs plays is none (l ∷ others) begin last = s.no_more hs l others others plays (sym last) (sym is ∙ begin)
 
-        most : (k : ℕ) → IsBegun p k bytes → (b : Bool) → nat_lt (length front + 2) k ≡ b → k ≤ length front + 2
-        most k begun true e =
-            let high : length front + 2 < k = grind (arith, nat_tests, e) in
-            let a = begun-agrees k (omega arith) begun in
-            let low : length front + 1 ≤ k - 2 = omega arith in
-            let next = agree-next front rest lines (lines_from p 0 a.0) s.lines_are (agree-less (length front + 1) (k - 2) lines (lines_from p 0 a.0) low a.3) in
+        most : (n : ℕ) → IsBegun v p n bytes → (b : Bool) → nat_lt (length front + 2) n ≡ b → n ≤ length front + 2
+        most n begun true e =
+            let high : length front + 2 < n = grind (arith, nat_tests, e) in
+            let a = begun-agrees n (omega arith) begun in
+            let low : length front + 1 ≤ n - 2 = omega arith in
+            let next = agree-next front rest lines (lines_from p 0 a.0) s.lines_are (agree-less (length front + 1) (n - 2) lines (lines_from p 0 a.0) low a.3) in
             absurd (s.no_more a.0 next.line next.later next.more a.1 next.rest_is next.vs_are)
-        most k begun false e = grind (arith, nat_tests, e)
+        most n begun false e = grind (arith, nat_tests, e)
 
     -- lines that are all those of plays
-    pub ended-valid : (hs : List (List Entry)) → r.set_text ≡ canonical p → ArePlays p hs → lines ≡ lines_from p 0 hs → stop ≡ None → IsValidText p bytes (entry_count hs)
+    pub ended-valid : (hs : List (List Entry)) → r.set_text ≡ canonical p → ArePlays p hs → lines ≡ lines_from p 0 hs → stop ≡ None → IsValidText v p bytes (entry_count hs)
     ended-valid hs same plays all none =
-        let rest : r.rest ≡ flat_map line_text (lines_from p 0 hs) =
-        r.lines_are.text_is ∙ ap (λ (t : List ℕ). flat_map line_text lines ++ t) (left-none none) ∙ append-nil (flat_map line_text lines) ∙ ap (flat_map line_text) all in
-        let text : bytes ≡ trace_text format_1 p hs =
-        r.head.bytes_are ∙ ap (λ (s : List ℕ). first_line format_1 ++ (codes "set " ++ (s ++ 10 ∷ r.rest))) same
-        ∙ ap (λ (t : List ℕ). first_line format_1 ++ (codes "set " ++ (canonical p ++ 10 ∷ t))) rest ∙ sym (trace-begins p hs) in
+        let rest : r.rest ≡ lines_of v p hs =
+        r.lines_are.text_is ∙ ap (λ (t : List ℕ). flat_map (line_text k) lines ++ t) (left-none none) ∙ append-nil (flat_map (line_text k) lines) ∙ ap (flat_map (line_text k)) all in
+        let text : bytes ≡ trace_text v p hs =
+        r.head.bytes_are ∙ ap (λ (s : List ℕ). first_line v ++ (codes "set " ++ (s ++ 10 ∷ r.rest))) same
+        ∙ ap (λ (t : List ℕ). first_line v ++ (codes "set " ++ (canonical p ++ 10 ∷ t))) rest ∙ sym (trace-begins v p hs) in
         record { histories = hs; plays = plays; text_is = text; count = refl }
 
     -- the set's text is not the canonical one
-    pub not-canonical : (r.set_text ≡ canonical p → ⊥) → IsInvalid p bytes 2
+    pub not-canonical : (r.set_text ≡ canonical p → ⊥) → IsInvalid v p bytes 2
     not-canonical other =
         let all = completed-between p valid built [] tt (omega arith) in
         record {
-          not_valid = λ n is. (let v = valid-lines n is in other v.2);
+          not_valid = λ n is. (let said = valid-lines n is in other said.2);
           right = 1;
           line_is = refl;
           begun = record {
-            whole = trace_text format_1 p all.0;
+            whole = trace_text v p all.0;
             entries = entry_count all.0;
             valid = valid-text all.0 all.1;
-            alike = alike-one_head bytes (trace_text format_1 p all.0) r.set_text r.rest (canonical p) (flat_map line_text (lines_from p 0 all.0)) r.head (trace-head p all.0 one_line);
+            alike = alike-one_head v bytes (trace_text v p all.0) r.set_text r.rest (canonical p) (lines_of v p all.0) r.head (trace-head v p all.0 one_line);
           };
-          most = λ k begun. most k begun (nat_lt 1 k) refl;
+          most = λ n begun. most n begun (nat_lt 1 n) refl;
         }
       where
-        most : (k : ℕ) → IsBegun p k bytes → (b : Bool) → nat_lt 1 k ≡ b → k ≤ 1
-        most k begun true e = let many : 2 ≤ k = grind (arith, nat_tests, e) in absurd (other (begun-agrees k many begun).2)
-        most k begun false e = grind (arith, nat_tests, e)
+        most : (n : ℕ) → IsBegun v p n bytes → (b : Bool) → nat_lt 1 n ≡ b → n ≤ 1
+        most n begun true e = let many : 2 ≤ n = grind (arith, nat_tests, e) in absurd (other (begun-agrees n many begun).2)
+        most n begun false e = grind (arith, nat_tests, e)

@@ -203,7 +203,7 @@ module _ (p : Parts) (lines : List Line) where
   module _ (n : ℕ) (r : Progress) (right : AreRight p lines n r) (valid : IsValid p) (built : is_built p ≡ true) (low : n < group_count p) where
     -- it is not there
     pub opened-wrong : (links : List Link) → group_line n links ≡ opening_line (group_with p n) → begins_with n links (drop r.lines lines) ≡ false → (stop : Option ℕ) → IsJudged p lines stop (Invalid (r.lines + 3))
-    opened-wrong links shown other stop bytes t same = subst (λ (m : ℕ). IsInvalid p bytes (m + 3)) (sym right.place_is) (stopped p valid built bytes lines stop t front rest same (record {
+    opened-wrong links shown other stop version bytes t same = subst (λ (m : ℕ). IsInvalid version p bytes (m + 3)) (sym right.place_is) (stopped version p valid built bytes lines stop t front rest same (record {
       lines_are = right.lines_are;
       plays = all.0;
       are_plays = all.1;
@@ -288,7 +288,7 @@ module _ (p : Parts) (lines : List Line) where
 
     -- the line behind them is wrong where none that may come there is it
     wrong-there : ((l : Line) (others : List Line) → drop place lines ≡ l ∷ others → IsEntryNext g es l ⊎ (IsScriptPlay g es × IsNextAfter p (n + 1) l) → ⊥) → (stop : Option ℕ) → IsJudged p lines stop (Invalid (place + 3))
-    wrong-there none stop bytes t same = subst (λ (m : ℕ). IsInvalid p bytes (m + 3)) (sym right.stands.place_is) (stopped p valid built bytes lines stop t front (drop place lines) same (record {
+    wrong-there none stop version bytes t same = subst (λ (m : ℕ). IsInvalid version p bytes (m + 3)) (sym right.stands.place_is) (stopped version p valid built bytes lines stop t front (drop place lines) same (record {
       lines_are = right.stands.lines_are;
       plays = all.0;
       are_plays = all.1;
@@ -383,7 +383,7 @@ module _ (p : Parts) (lines : List Line) where
 
     -- it is not there
     pub end-wrong : begins_with_end (drop r.lines lines) ≡ false → (stop : Option ℕ) → IsJudged p lines stop (Invalid (r.lines + 3))
-    end-wrong other stop bytes t same = subst (λ (m : ℕ). IsInvalid p bytes (m + 3)) (sym all.right.place_is) (stopped p all.valid all.built bytes lines stop t groups (drop r.lines lines) same (record {
+    end-wrong other stop version bytes t same = subst (λ (m : ℕ). IsInvalid version p bytes (m + 3)) (sym all.right.place_is) (stopped version p all.valid all.built bytes lines stop t groups (drop r.lines lines) same (record {
       lines_are = all.right.lines_are;
       plays = hs;
       are_plays = plays_all;
@@ -411,7 +411,7 @@ module _ (p : Parts) (lines : List Line) where
 
       -- more is behind it
       pub end-more : (stop : Option ℕ) → (r.lines + 1 ≡ length lines → stop ≡ None → ⊥) → IsJudged p lines stop (Invalid (r.lines + 1 + 3))
-      end-more stop more bytes t same = subst (λ (m : ℕ). IsInvalid p bytes (m + 3)) (sym stands.place_is) (stopped p all.valid all.built bytes lines stop t whole (drop (r.lines + 1) lines) same (record {
+      end-more stop more version bytes t same = subst (λ (m : ℕ). IsInvalid version p bytes (m + 3)) (sym stands.place_is) (stopped version p all.valid all.built bytes lines stop t whole (drop (r.lines + 1) lines) same (record {
         lines_are = stands.lines_are;
         plays = hs;
         are_plays = plays_all;
@@ -423,7 +423,7 @@ module _ (p : Parts) (lines : List Line) where
 
       -- nothing is
       pub end-valid : (stop : Option ℕ) → r.lines + 1 ≡ length lines → stop ≡ None → IsJudged p lines stop (Valid r.entries)
-      end-valid stop last none bytes t same =
+      end-valid stop last none version bytes t same =
           let rest : drop (r.lines + 1) lines ≡ [] = drop_end lines (r.lines + 1) (omega (arith, last)) in
           let is : lines ≡ lines_from p 0 hs = stands.lines_are ∙ ap (λ (xs : List Line). whole ++ xs) rest ∙ append-nil whole ∙ sym lines_all in
-          subst (IsValidText p bytes) (sym all.right.entries_are) (ended-valid p all.valid all.built bytes lines stop t hs same plays_all is none)
+          subst (IsValidText version p bytes) (sym all.right.entries_are) (ended-valid version p all.valid all.built bytes lines stop t hs same plays_all is none)

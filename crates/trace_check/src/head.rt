@@ -1,18 +1,23 @@
 //! The first two lines of a trace, compared.
 ghost use Rattle.std.specs.Prelude.{◌≡◌, ◌↔◌, ◌++◌, List, ℕ, IfOk, true};
-ghost use Rattle.trace_lines.specs.FirstLine.{format_1};
 ghost use Rattle.trace_text.specs.TraceText.{head_text};
 
 use rt_base::NoMemory;
 use rt_task::Parts;
 use std::alloc::Global;
+use trace_lines::Version;
 use trace_text::head_of;
 
-/// Whether the text begins with the two lines of a canonical set.
-pub(crate) fn has_head(alloc: Global, bytes: &[u8], parts: &Parts) -> Result<bool, NoMemory>
+/// Whether the text begins with the line of the format and that of the canonical set.
+pub(crate) fn has_head(
+    alloc: Global,
+    bytes: &[u8],
+    version: Version,
+    parts: &Parts,
+) -> Result<bool, NoMemory>
     ensures { IfOk result (λ b.
-        (b ≡ true) ↔ ((rest : List ℕ) × bytes.now ≡ head_text format_1 parts.now ++ rest)) }
+        (b ≡ true) ↔ ((rest : List ℕ) × bytes.now ≡ head_text version parts.now ++ rest)) }
 {
-    let head = head_of(alloc, parts)?;
+    let head = head_of(alloc, version, parts)?;
     Ok(bytes.starts_with(head.as_slice()))
 }

@@ -2,11 +2,14 @@
 use Rattle.std.proofs.Common.{◌≡◌, ◌≢◌, ℕ, suc, zero, ◌+◌, ◌-◌, ◌≤◌, List, [], ◌∷◌, ◌++◌, All, codes, length, take, refl, sym, ap, subst, ◌∙◌, arith, append_assoc, append-nil, length-append}
 use Rattle.std.specs.Prelude.{flat_map}
 use Rattle.std.proofs.lemmas.List.Elements.{All-nil, All-cons, All-head, All-tail, All-append}
-use Rattle.trace_lines.specs.FirstLine.{first_line, format_1}
+use Rattle.trace_lines.specs.declared.format.Version.{Version}
+use Rattle.trace_lines.specs.declared.format.Version.TheVariants.{One, Two}
+use Rattle.trace_lines.specs.FirstLine.{first_line}
 use Rattle.trace_lines.specs.Grammar.{line_text}
 use Rattle.trace_lines.specs.Known.{Known, IsLine}
 use Rattle.trace_lines.specs.Lines.{Line}
 use Rattle.trace_read.specs.Reads.{HasHead, AreLines}
+use Rattle.trace_read.specs.Seen.{Tells}
 use Rattle.trace_read.proofs.LineLaws.{line_body, line_text-ends, line_body-one_line, line-unique}
 use Rattle.trace_laws.specs.ValidTexts.{with_feeds, BeginAlike}
 use Rattle.trace_laws.proofs.OneLine.{one_line-from_free}
@@ -19,28 +22,28 @@ OnOneLine w = All (λ (c : ℕ). c ≢ 10) w
 feeds-cons : (w : List ℕ) (ws : List (List ℕ)) (rest : List ℕ) → with_feeds (w ∷ ws) ++ rest ≡ w ++ 10 ∷ (with_feeds ws ++ rest)
 feeds-cons w ws rest = append_assoc (w ++ 10 ∷ []) (with_feeds ws) rest ∙ append_assoc w (10 ∷ []) (with_feeds ws ++ rest)
 
-line-first : (l : Line) (ls : List Line) (left : List ℕ) → flat_map line_text (l ∷ ls) ++ left ≡ line_body l ++ 10 ∷ (flat_map line_text ls ++ left)
-line-first l ls left =
-    append_assoc (line_text l) (flat_map line_text ls) left
-    ∙ ap (λ (xs : List ℕ). xs ++ (flat_map line_text ls ++ left)) (line_text-ends l)
-    ∙ append_assoc (line_body l) (10 ∷ []) (flat_map line_text ls ++ left)
+line-first : (k : Known) (l : Line) (ls : List Line) (left : List ℕ) → flat_map (line_text k) (l ∷ ls) ++ left ≡ line_body k l ++ 10 ∷ (flat_map (line_text k) ls ++ left)
+line-first k l ls left =
+    append_assoc (line_text k l) (flat_map (line_text k) ls) left
+    ∙ ap (λ (xs : List ℕ). xs ++ (flat_map (line_text k) ls ++ left)) (line_text-ends k l)
+    ∙ append_assoc (line_body k l) (10 ∷ []) (flat_map (line_text k) ls ++ left)
 
 no_line : (w rest : List ℕ) → [] ≢ w ++ 10 ∷ rest
 no_line w rest e = omega (arith, ap length e, length-append w (10 ∷ rest))
 
-same_line : (k : Known) (l v : Line) (w : List ℕ) → IsLine k l → IsLine k v → line_body l ≡ w → line_body v ≡ w → l ≡ v
-same_line k l v w g h e f =
-    let texts : line_text l ++ [] ≡ line_text v ++ [] = ap (λ (xs : List ℕ). xs ++ []) (line_text-ends l ∙ ap (λ (xs : List ℕ). xs ++ 10 ∷ []) (e ∙ sym f) ∙ sym (line_text-ends v)) in
-    (line-unique k l v [] [] g h texts).0
+same_line : (k : Known) (l v : Line) (w : List ℕ) → Tells k → IsLine k l → IsLine k v → line_body k l ≡ w → line_body k v ≡ w → l ≡ v
+same_line k l v w tell g h e f =
+    let texts : line_text k l ++ [] ≡ line_text k v ++ [] = ap (λ (xs : List ℕ). xs ++ []) (line_text-ends k l ∙ ap (λ (xs : List ℕ). xs ++ 10 ∷ []) (e ∙ sym f) ∙ sym (line_text-ends k v)) in
+    (line-unique k l v [] [] tell g h texts).0
 
 -- the text begins with this line of the grammar
-line-begins : (k : Known) (l : Line) (w rest text : List ℕ) → line_body l ≡ w → text ≡ w ++ 10 ∷ rest → text ≡ line_text l ++ rest
+line-begins : (k : Known) (l : Line) (w rest text : List ℕ) → line_body k l ≡ w → text ≡ w ++ 10 ∷ rest → text ≡ line_text k l ++ rest
 line-begins k l w rest text e f =
-    f ∙ ap (λ (xs : List ℕ). xs ++ 10 ∷ rest) (sym e) ∙ sym (append_assoc (line_body l) (10 ∷ []) rest) ∙ ap (λ (xs : List ℕ). xs ++ rest) (sym (line_text-ends l))
+    f ∙ ap (λ (xs : List ℕ). xs ++ 10 ∷ rest) (sym e) ∙ sym (append_assoc (line_body k l) (10 ∷ []) rest) ∙ ap (λ (xs : List ℕ). xs ++ rest) (sym (line_text-ends k l))
 
 -- what is left after the lines of a text begins with no line of the grammar
 abbrev pub NoneFurther : Known → List ℕ → Type 0
-NoneFurther k left = (l : Line) (more : List ℕ) → IsLine k l → left ≢ line_text l ++ more
+NoneFurther k left = (l : Line) (more : List ℕ) → IsLine k l → left ≢ line_text k l ++ more
 
 pub record AgreeThrough (m : ℕ) (ls vs : List Line) : Type 0 where
   pub within : m ≤ length ls
@@ -55,50 +58,56 @@ agree-more m l v ls vs e h = record {
 }
 
 -- the first line of a text that begins with a line of the grammar
-first_of : (k : Known) (l : Line) (ls : List Line) (left w : List ℕ) (ws : List (List ℕ)) (rest : List ℕ) → IsLine k l → OnOneLine w → flat_map line_text (l ∷ ls) ++ left ≡ with_feeds (w ∷ ws) ++ rest
-    → (line_body l ≡ w) × (flat_map line_text ls ++ left ≡ with_feeds ws ++ rest)
-first_of k l ls left w ws rest is one e =
-    first-unique (line_body l) w (flat_map line_text ls ++ left) (with_feeds ws ++ rest) (line_body-one_line k l is) one (sym (line-first l ls left) ∙ e ∙ feeds-cons w ws rest)
+first_of : (k : Known) (l : Line) (ls : List Line) (left w : List ℕ) (ws : List (List ℕ)) (rest : List ℕ) → Tells k → IsLine k l → OnOneLine w → flat_map (line_text k) (l ∷ ls) ++ left ≡ with_feeds (w ∷ ws) ++ rest
+    → (line_body k l ≡ w) × (flat_map (line_text k) ls ++ left ≡ with_feeds ws ++ rest)
+first_of k l ls left w ws rest tell is one e =
+    first-unique (line_body k l) w (flat_map (line_text k) ls ++ left) (with_feeds ws ++ rest) (line_body-one_line k l tell is) one (sym (line-first k l ls left) ∙ e ∙ feeds-cons w ws rest)
 
-agree-lines : (k : Known) (ws : List (List ℕ)) (ls vs : List Line) (left rest rest' : List ℕ) → All OnOneLine ws → All (IsLine k) ls → All (IsLine k) vs → NoneFurther k left
-    → flat_map line_text ls ++ left ≡ with_feeds ws ++ rest → flat_map line_text vs ++ [] ≡ with_feeds ws ++ rest' → AgreeThrough (length ws) ls vs
-agree-lines k [] ls vs left rest rest' ones g h none e f = record { within = omega arith; within' = omega arith; same = refl }
-agree-lines k (w ∷ ws) ls [] left rest rest' ones g h none e f = absurd (no_line w (with_feeds ws ++ rest') (f ∙ feeds-cons w ws rest'))
-agree-lines k (w ∷ ws) [] (v ∷ vs) left rest rest' ones g h none e f =
+agree-lines : (k : Known) (ws : List (List ℕ)) (ls vs : List Line) (left rest rest' : List ℕ) → Tells k → All OnOneLine ws → All (IsLine k) ls → All (IsLine k) vs → NoneFurther k left
+    → flat_map (line_text k) ls ++ left ≡ with_feeds ws ++ rest → flat_map (line_text k) vs ++ [] ≡ with_feeds ws ++ rest' → AgreeThrough (length ws) ls vs
+agree-lines k [] ls vs left rest rest' tell ones g h none e f = record { within = omega arith; within' = omega arith; same = refl }
+agree-lines k (w ∷ ws) ls [] left rest rest' tell ones g h none e f = absurd (no_line w (with_feeds ws ++ rest') (f ∙ feeds-cons w ws rest'))
+agree-lines k (w ∷ ws) [] (v ∷ vs) left rest rest' tell ones g h none e f =
     let is = All-head (IsLine k) v vs h in
     let one = All-head OnOneLine w ws ones in
-    let first = first_of k v vs [] w ws rest' is one f in
+    let first = first_of k v vs [] w ws rest' tell is one f in
     absurd (none v (with_feeds ws ++ rest) is (line-begins k v w (with_feeds ws ++ rest) left first.0 (e ∙ feeds-cons w ws rest)))
-agree-lines k (w ∷ ws) (l ∷ ls) (v ∷ vs) left rest rest' ones g h none e f =
+agree-lines k (w ∷ ws) (l ∷ ls) (v ∷ vs) left rest rest' tell ones g h none e f =
     let l_is = All-head (IsLine k) l ls g in
     let v_is = All-head (IsLine k) v vs h in
     let one = All-head OnOneLine w ws ones in
-    let first = first_of k l ls left w ws rest l_is one e in
-    let first' = first_of k v vs [] w ws rest' v_is one f in
-    agree-more (length ws) l v ls vs (same_line k l v w l_is v_is first.0 first'.0)
-    (agree-lines k ws ls vs left rest rest' (All-tail OnOneLine w ws ones) (All-tail (IsLine k) l ls g) (All-tail (IsLine k) v vs h) none first.1 first'.1)
+    let first = first_of k l ls left w ws rest tell l_is one e in
+    let first' = first_of k v vs [] w ws rest' tell v_is one f in
+    agree-more (length ws) l v ls vs (same_line k l v w tell l_is v_is first.0 first'.0)
+    (agree-lines k ws ls vs left rest rest' tell (All-tail OnOneLine w ws ones) (All-tail (IsLine k) l ls g) (All-tail (IsLine k) v vs h) none first.1 first'.1)
 
 -- ---- the head
 
-abbrev name_line : List ℕ
-name_line = codes "rtsched trace 1"
+abbrev name_line : Version → List ℕ
+name_line One = codes "rtsched trace 1"
+name_line Two = codes "rtsched trace 2"
 
 abbrev set_line : List ℕ → List ℕ
 set_line s = codes "set " ++ s
 
-name_line-one : OnOneLine name_line
-name_line-one = one_line-from_free name_line refl
+name_line-one : (v : Version) → OnOneLine (name_line v)
+name_line-one One = one_line-from_free (name_line One) refl
+name_line-one Two = one_line-from_free (name_line Two) refl
+
+name_line-feed : (v : Version) (rest : List ℕ) → first_line v ++ rest ≡ name_line v ++ 10 ∷ rest
+name_line-feed One rest = refl
+name_line-feed Two rest = refl
 
 set_line-one : (s : List ℕ) → OnOneLine s → OnOneLine (set_line s)
 set_line-one s h = All-append (λ (c : ℕ). c ≢ 10) (codes "set ") s (one_line-from_free (codes "set ") refl) h
 
-head-lines : (bytes s r : List ℕ) → HasHead bytes s r → bytes ≡ name_line ++ 10 ∷ (set_line s ++ 10 ∷ r)
-head-lines bytes s r h = h.bytes_are
+head-lines : (v : Version) (bytes s r : List ℕ) → HasHead v bytes s r → bytes ≡ name_line v ++ 10 ∷ (set_line s ++ 10 ∷ r)
+head-lines v bytes s r h = h.bytes_are ∙ name_line-feed v (set_line s ++ 10 ∷ r)
 
 -- the second of a text's lines, and what follows it
-second_of : (bytes s r a b rest : List ℕ) (ws : List (List ℕ)) → HasHead bytes s r → OnOneLine a → OnOneLine b → bytes ≡ with_feeds (a ∷ b ∷ ws) ++ rest → (set_line s ≡ b) × (r ≡ with_feeds ws ++ rest)
-second_of bytes s r a b rest ws h one two e =
-    let first = first-unique name_line a (set_line s ++ 10 ∷ r) (with_feeds (b ∷ ws) ++ rest) name_line-one one (sym (head-lines bytes s r h) ∙ e ∙ feeds-cons a (b ∷ ws) rest) in
+second_of : (u : Version) (bytes s r a b rest : List ℕ) (ws : List (List ℕ)) → HasHead u bytes s r → OnOneLine a → OnOneLine b → bytes ≡ with_feeds (a ∷ b ∷ ws) ++ rest → (set_line s ≡ b) × (r ≡ with_feeds ws ++ rest)
+second_of u bytes s r a b rest ws h one two e =
+    let first = first-unique (name_line u) a (set_line s ++ 10 ∷ r) (with_feeds (b ∷ ws) ++ rest) (name_line-one u) one (sym (head-lines u bytes s r h) ∙ e ∙ feeds-cons a (b ∷ ws) rest) in
     first-unique (set_line s) b r (with_feeds ws ++ rest) (set_line-one s h.on_one_line) two (first.1 ∙ feeds-cons b ws rest)
 
 -- ---- the same first lines
@@ -143,22 +152,22 @@ after_prefix : (s s' : List ℕ) → set_line s ≡ set_line s' → s ≡ s'
 after_prefix s s' e = cc
 
 -- two texts with the same first two lines have the same set
-pub alike-head : (n : ℕ) (bytes text s r s' r' : List ℕ) → BeginAlike n bytes text → 2 ≤ n → HasHead bytes s r → HasHead text s' r' → s ≡ s'
-alike-head n bytes text s r s' r' h many g g' =
+pub alike-head : (u u' : Version) (n : ℕ) (bytes text s r s' r' : List ℕ) → BeginAlike n bytes text → 2 ≤ n → HasHead u bytes s r → HasHead u' text s' r' → s ≡ s'
+alike-head u u' n bytes text s r s' r' h many g g' =
     let a = alike-after n bytes text h many in
-    let one = second_of bytes s r a.first a.second a.rest a.others g a.first_one a.second_one a.text_is in
-    let two = second_of text s' r' a.first a.second a.rest' a.others g' a.first_one a.second_one a.text'_is in
+    let one = second_of u bytes s r a.first a.second a.rest a.others g a.first_one a.second_one a.text_is in
+    let two = second_of u' text s' r' a.first a.second a.rest' a.others g' a.first_one a.second_one a.text'_is in
     after_prefix s s' (one.0 ∙ sym two.0)
 
 -- and where their lines are known, the same first lines after them
-pub alike-take : (k : Known) (n : ℕ) (bytes text s r s' r' left : List ℕ) (ls vs : List Line) → HasHead bytes s r → HasHead text s' r' → AreLines k r ls left → All (IsLine k) vs → r' ≡ flat_map line_text vs
+pub alike-take : (k : Known) (u u' : Version) (n : ℕ) (bytes text s r s' r' left : List ℕ) (ls vs : List Line) → Tells k → HasHead u bytes s r → HasHead u' text s' r' → AreLines k r ls left → All (IsLine k) vs → r' ≡ flat_map (line_text k) vs
     → BeginAlike n bytes text → 2 ≤ n → AgreeThrough (n - 2) ls vs
-alike-take k n bytes text s r s' r' left ls vs g g' are known rest_is h many =
+alike-take k u u' n bytes text s r s' r' left ls vs tell g g' are known rest_is h many =
     let a = alike-after n bytes text h many in
-    let one = second_of bytes s r a.first a.second a.rest a.others g a.first_one a.second_one a.text_is in
-    let two = second_of text s' r' a.first a.second a.rest' a.others g' a.first_one a.second_one a.text'_is in
+    let one = second_of u bytes s r a.first a.second a.rest a.others g a.first_one a.second_one a.text_is in
+    let two = second_of u' text s' r' a.first a.second a.rest' a.others g' a.first_one a.second_one a.text'_is in
     subst (λ (m : ℕ). AgreeThrough m ls vs) a.count
-    (agree-lines k a.others ls vs left a.rest a.rest' a.others_one are.lines_known known are.none_further (sym are.text_is ∙ one.1) (append-nil (flat_map line_text vs) ∙ sym rest_is ∙ two.1))
+    (agree-lines k a.others ls vs left a.rest a.rest' tell a.others_one are.lines_known known are.none_further (sym are.text_is ∙ one.1) (append-nil (flat_map (line_text k) vs) ∙ sym rest_is ∙ two.1))
 
 -- ---- made alike
 
@@ -178,33 +187,35 @@ alike-cons n w bytes text one h = record {
 }
 
 -- texts that begin with the first line have it alike
-pub alike-one : (bytes text x y : List ℕ) → bytes ≡ first_line format_1 ++ x → text ≡ first_line format_1 ++ y → BeginAlike 1 bytes text
-alike-one bytes text x y e f = subst (λ (t : List ℕ). BeginAlike 1 t text) (sym e) (subst (BeginAlike 1 (first_line format_1 ++ x)) (sym f) (alike-cons 0 name_line x y name_line-one (alike-none x y)))
+pub alike-one : (v : Version) (bytes text x y : List ℕ) → bytes ≡ first_line v ++ x → text ≡ first_line v ++ y → BeginAlike 1 bytes text
+alike-one v bytes text x y e f =
+    subst (λ (t : List ℕ). BeginAlike 1 t text) (sym (e ∙ name_line-feed v x))
+    (subst (BeginAlike 1 (name_line v ++ 10 ∷ x)) (sym (f ∙ name_line-feed v y)) (alike-cons 0 (name_line v) x y (name_line-one v) (alike-none x y)))
 
-pub alike-one_head : (bytes text s r s' r' : List ℕ) → HasHead bytes s r → HasHead text s' r' → BeginAlike 1 bytes text
-alike-one_head bytes text s r s' r' g h = alike-one bytes text (codes "set " ++ (s ++ 10 ∷ r)) (codes "set " ++ (s' ++ 10 ∷ r')) g.bytes_are h.bytes_are
+pub alike-one_head : (v : Version) (bytes text s r s' r' : List ℕ) → HasHead v bytes s r → HasHead v text s' r' → BeginAlike 1 bytes text
+alike-one_head v bytes text s r s' r' g h = alike-one v bytes text (codes "set " ++ (s ++ 10 ∷ r)) (codes "set " ++ (s' ++ 10 ∷ r')) g.bytes_are h.bytes_are
 
 same_first : (m : ℕ) (l v : Line) (ls vs : List Line) → take (suc m) (l ∷ ls) ≡ take (suc m) (v ∷ vs) → (l ≡ v) × (take m ls ≡ take m vs)
 same_first m l v ls vs e = let f : l ∷ take m ls ≡ v ∷ take m vs = e in (cc, cc)
 
-alike-lines : (k : Known) (m : ℕ) (ls vs : List Line) (left : List ℕ) → All (IsLine k) ls → AgreeThrough m ls vs → BeginAlike m (flat_map line_text ls ++ left) (flat_map line_text vs ++ [])
-alike-lines k zero ls vs left g h = alike-none (flat_map line_text ls ++ left) (flat_map line_text vs ++ [])
-alike-lines k (suc m) [] vs left g h = absurd (let w = h.within in omega arith)
-alike-lines k (suc m) (l ∷ ls) [] left g h = absurd (let w = h.within' in omega arith)
-alike-lines k (suc m) (l ∷ ls) (v ∷ vs) left g h =
+alike-lines : (k : Known) (m : ℕ) (ls vs : List Line) (left : List ℕ) → Tells k → All (IsLine k) ls → AgreeThrough m ls vs → BeginAlike m (flat_map (line_text k) ls ++ left) (flat_map (line_text k) vs ++ [])
+alike-lines k zero ls vs left tell g h = alike-none (flat_map (line_text k) ls ++ left) (flat_map (line_text k) vs ++ [])
+alike-lines k (suc m) [] vs left tell g h = absurd (let w = h.within in omega arith)
+alike-lines k (suc m) (l ∷ ls) [] left tell g h = absurd (let w = h.within' in omega arith)
+alike-lines k (suc m) (l ∷ ls) (v ∷ vs) left tell g h =
     let same = same_first m l v ls vs h.same in
     let rest : AgreeThrough m ls vs = record { within = (let w = h.within in omega arith); within' = (let w = h.within' in omega arith); same = same.1 } in
-    let made = alike-cons m (line_body l) (flat_map line_text ls ++ left) (flat_map line_text vs ++ []) (line_body-one_line k l (All-head (IsLine k) l ls g)) (alike-lines k m ls vs left (All-tail (IsLine k) l ls g) rest) in
-    subst (λ (t : List ℕ). BeginAlike (suc m) t (flat_map line_text (v ∷ vs) ++ [])) (sym (line-first l ls left))
-    (subst (BeginAlike (suc m) (line_body l ++ 10 ∷ (flat_map line_text ls ++ left))) (ap (λ (x : Line). line_body x ++ 10 ∷ (flat_map line_text vs ++ [])) same.0 ∙ sym (line-first v vs [])) made)
+    let made = alike-cons m (line_body k l) (flat_map (line_text k) ls ++ left) (flat_map (line_text k) vs ++ []) (line_body-one_line k l tell (All-head (IsLine k) l ls g)) (alike-lines k m ls vs left tell (All-tail (IsLine k) l ls g) rest) in
+    subst (λ (t : List ℕ). BeginAlike (suc m) t (flat_map (line_text k) (v ∷ vs) ++ [])) (sym (line-first k l ls left))
+    (subst (BeginAlike (suc m) (line_body k l ++ 10 ∷ (flat_map (line_text k) ls ++ left))) (ap (λ (x : Line). line_body k x ++ 10 ∷ (flat_map (line_text k) vs ++ [])) same.0 ∙ sym (line-first k v vs [])) made)
 
 -- the same set and the same first lines make texts alike
-pub alike-made : (k : Known) (m : ℕ) (bytes text s r r' left : List ℕ) (ls vs : List Line) → HasHead bytes s r → HasHead text s r' → AreLines k r ls left → r' ≡ flat_map line_text vs
+pub alike-made : (k : Known) (u : Version) (m : ℕ) (bytes text s r r' left : List ℕ) (ls vs : List Line) → Tells k → HasHead u bytes s r → HasHead u text s r' → AreLines k r ls left → r' ≡ flat_map (line_text k) vs
     → AgreeThrough m ls vs → BeginAlike (m + 2) bytes text
-alike-made k m bytes text s r r' left ls vs g g' are rest_is h =
-    let others = alike-lines k m ls vs left are.lines_known h in
-    let rests : BeginAlike m r r' = subst (λ (t : List ℕ). BeginAlike m t r') (sym are.text_is) (subst (BeginAlike m (flat_map line_text ls ++ left)) (append-nil (flat_map line_text vs) ∙ sym rest_is) others) in
-    let two = alike-cons (suc m) name_line (set_line s ++ 10 ∷ r) (set_line s ++ 10 ∷ r') name_line-one (alike-cons m (set_line s) r r' (set_line-one s g.on_one_line) rests) in
+alike-made k u m bytes text s r r' left ls vs tell g g' are rest_is h =
+    let others = alike-lines k m ls vs left tell are.lines_known h in
+    let rests : BeginAlike m r r' = subst (λ (t : List ℕ). BeginAlike m t r') (sym are.text_is) (subst (BeginAlike m (flat_map (line_text k) ls ++ left)) (append-nil (flat_map (line_text k) vs) ∙ sym rest_is) others) in
+    let two = alike-cons (suc m) (name_line u) (set_line s ++ 10 ∷ r) (set_line s ++ 10 ∷ r') (name_line-one u) (alike-cons m (set_line s) r r' (set_line-one s g.on_one_line) rests) in
     let count : suc (suc m) ≡ m + 2 = omega arith in
     subst (λ (n : ℕ). BeginAlike n bytes text) count
-    (subst (λ (t : List ℕ). BeginAlike (suc (suc m)) t text) (sym (head-lines bytes s r g)) (subst (BeginAlike (suc (suc m)) (name_line ++ 10 ∷ (set_line s ++ 10 ∷ r))) (sym (head-lines text s r' g')) two))
+    (subst (λ (t : List ℕ). BeginAlike (suc (suc m)) t text) (sym (head-lines u bytes s r g)) (subst (BeginAlike (suc (suc m)) (name_line u ++ 10 ∷ (set_line s ++ 10 ∷ r))) (sym (head-lines u text s r' g')) two))

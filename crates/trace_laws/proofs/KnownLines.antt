@@ -36,6 +36,7 @@ use Rattle.rt_groups.proofs.GroupCount.{groups_are_counted}
 use Rattle.rt_groups.proofs.GroupPlaces.{tasks_are_at_home}
 use Rattle.rt_groups.proofs.SetLimits.{sets_are_in_limits}
 use Rattle.trace_lines.specs.Known.{ActIsKnown, IsLine, IsNumberOf, Known, LinkIsKnown, OpIsKnown, ReplyIsKnown, TargetIsKnown, known_of}
+use Rattle.trace_lines.specs.declared.format.Version.{Version}
 use Rattle.trace_lines.specs.Lines.{Link, end_line, entry_line, group_line}
 use Rattle.trace_text.specs.TraceText.{block_lines, entry_lines, group_lines, lines_from, links_at}
 use Rattle.trace_text.proofs.GroupLaws.{groups-few}
@@ -44,12 +45,12 @@ use Rattle.trace_laws.proofs.Plays.{few-entries, play-steps, script-plays}
 use Rattle.trace_laws.proofs.Processors.{processor-low, processor-some}
 
 -- a link that is missing, or is one of the tasks
-target-known : (k : Known) (o : Option ℕ) → ((t : ℕ) → is t o ≡ true → IsNumberOf k.tasks t) → TargetIsKnown k o
+target-known : (k : Known) (o : Option ℕ) → ((t : ℕ) → is t o ≡ true → IsNumberOf (length k.names) t) → TargetIsKnown k o
 target-known k None h = tt
 target-known k (Some t) h = h t (equal_self t)
 
 -- a reply that runs one of the tasks, or none
-reply-known : (k : Known) (r : Reply) → ((t : ℕ) → is t (to_run r) ≡ true → IsNumberOf k.tasks t) → ReplyIsKnown k r
+reply-known : (k : Known) (r : Reply) → ((t : ℕ) → is t (to_run r) ≡ true → IsNumberOf (length k.names) t) → ReplyIsKnown k r
 reply-known k (replies.Runs t) h = h t.0 (equal_self t.0)
 reply-known k _ h = tt
 
@@ -61,15 +62,16 @@ changed-processor : (g : Group) (was now : Past) (q : ℕ) → has q (changed g 
 unfolding changed
 changed-processor g was now q h = (both _ _ (rw has-filter at h)).0
 
-module _ (g : Group) (valid : IsValid g.setup) (built : is_built g.setup ≡ true) where
+module _ (v : Version) (g : Group) (valid : IsValid g.setup) (built : is_built g.setup ≡ true) where
   abbrev k : Known
-  k = known_of g.setup
+  k = known_of v g.setup
 
-  task-known : (t : ℕ) → has t (tasks g) ≡ true → IsNumberOf (length g.setup.tasks) t
+  task-known : (t : ℕ) → has t (tasks g) ≡ true → IsNumberOf (length k.names) t
   task-known t h =
       let home = tasks_are_at_home g t valid h in
       let few : length g.setup.tasks ≤ MOST_TASKS = (sets_are_in_limits g.setup valid).few_tasks in
-      record { low = home.low; high = home.high; fits = omega (arith, home.high, few) }
+      let count : length k.names ≡ length g.setup.tasks = length-map _ _ in
+      record { low = home.low; high = omega (arith, home.high, count); fits = omega (arith, home.high, few) }
 
   linked-known : {past : Past} → IsReachable g past → (q : ℕ) → TargetIsKnown k (linked g q past)
   linked-known {past} made q = target-known k (linked g q past) (λ t h. task-known t (linked-eligible g made q t h).member)
@@ -141,21 +143,21 @@ module _ (g : Group) (valid : IsValid g.setup) (built : is_built g.setup ≡ tru
       let listed : All (IsLine k) (entry_lines g 0 [] es ++ block_lines g (past_of g es)) = rw (none, append-nil (entry_lines g 0 [] es)) entries in
       All-cons (IsLine k) (group_line g.number (links_at g [] (group_processors g))) (entry_lines g 0 [] es ++ block_lines g (past_of g es)) (group-known there) listed
 
-module _ (p : Parts) (valid : IsValid p) (built : is_built p ≡ true) where
+module _ (v : Version) (p : Parts) (valid : IsValid p) (built : is_built p ≡ true) where
   -- the lines of the plays of the groups from a number on, with the line `end`
-  lines-known : (n : ℕ) (hs : List (List Entry)) → n + length hs ≤ group_count p → ((i : ℕ) → i < length hs → IsScriptPlay (group_with p (n + i)) (get_or hs i [])) → All (IsLine (known_of p)) (lines_from p n hs)
-  lines-known n [] few plays = All-cons (IsLine (known_of p)) end_line [] tt (All-nil (IsLine (known_of p)))
+  lines-known : (n : ℕ) (hs : List (List Entry)) → n + length hs ≤ group_count p → ((i : ℕ) → i < length hs → IsScriptPlay (group_with p (n + i)) (get_or hs i [])) → All (IsLine (known_of v p)) (lines_from p n hs)
+  lines-known n [] few plays = All-cons (IsLine (known_of v p)) end_line [] tt (All-nil (IsLine (known_of v p)))
   lines-known n (es ∷ hs) few plays =
       let here : n + 0 ≡ n = omega arith in
       let there : IsGroupOf p n = (groups_are_counted p n valid).1 (omega arith) in
       let play : IsScriptPlay (group_with p n) es = subst (λ (m : ℕ). IsScriptPlay (group_with p m) es) here (plays 0 (omega arith)) in
-      All-append (IsLine (known_of p)) (group_lines (group_with p n) es) (lines_from p (n + 1) hs) (group-lines-known (group_with p n) valid built es there play) (lines-known (n + 1) hs (omega arith) later)
+      All-append (IsLine (known_of v p)) (group_lines (group_with p n) es) (lines_from p (n + 1) hs) (group-lines-known v (group_with p n) valid built es there play) (lines-known (n + 1) hs (omega arith) later)
     where
       later : (i : ℕ) → i < length hs → IsScriptPlay (group_with p (n + 1 + i)) (get_or hs i [])
       later i low = let next : n + suc i ≡ n + 1 + i = omega arith in subst (λ (m : ℕ). IsScriptPlay (group_with p m) (get_or hs i [])) next (plays (suc i) (omega arith))
 
   -- each line of the text of plays
-  pub known-lines : (hs : List (List Entry)) → ArePlays p hs → All (IsLine (known_of p)) (lines_from p 0 hs)
+  pub known-lines : (hs : List (List Entry)) → ArePlays p hs → All (IsLine (known_of v p)) (lines_from p 0 hs)
   known-lines hs are = lines-known 0 hs (omega (arith, are.count)) at_number
     where
       at_number : (i : ℕ) → i < length hs → IsScriptPlay (group_with p (0 + i)) (get_or hs i [])

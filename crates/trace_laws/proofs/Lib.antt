@@ -6,4 +6,5 @@ pub mod KnownLines
 pub mod OneLine
 pub mod Heads
 pub mod ReadBack
+pub mod UpgradeLaws
 pub mod Alike

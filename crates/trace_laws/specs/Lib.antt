@@ -1,2 +1,3 @@
 pub mod ValidTexts
 pub mod TraceLaws
+pub mod Upgrades

@@ -2,7 +2,7 @@
 use Rattle.std.specs.Prelude.{◌≡◌, ◌≢◌, ℕ, List, [], ◌∷◌, ◌++◌, map, flat_map, sum, length, All}
 use Rattle.rt_task.specs.declared.Parts.{Parts}
 use Rattle.rt_history.specs.declared.Entry.{Entry}
-use Rattle.trace_lines.specs.FirstLine.{format_1}
+use Rattle.trace_lines.specs.declared.format.Version.{Version}
 use Rattle.trace_text.specs.TraceText.{trace_text}
 use Rattle.rt_plays.specs.Plays.{ArePlays}
 
@@ -10,11 +10,11 @@ use Rattle.rt_plays.specs.Plays.{ArePlays}
 abbrev pub entry_count : List (List Entry) → ℕ
 entry_count hs = sum (map (λ (es : List Entry). length es) hs)
 
--- the text of plays of the set, one for each group
-pub record IsValidText (p : Parts) (text : List ℕ) (entries : ℕ) : Type 0 where
+-- the text, in this format, of plays of the set, one for each group
+pub record IsValidText (version : Version) (p : Parts) (text : List ℕ) (entries : ℕ) : Type 0 where
   pub histories : List (List Entry)
   pub plays : ArePlays p histories
-  pub text_is : text ≡ trace_text format_1 p histories
+  pub text_is : text ≡ trace_text version p histories
   pub count : entries ≡ entry_count histories
 
 -- lines, each with its line feed
@@ -32,8 +32,8 @@ pub record BeginAlike (k : ℕ) (text text' : List ℕ) : Type 0 where
   pub text'_is : text' ≡ with_feeds lines ++ rest'
 
 -- the first k lines are the first k lines of a valid text
-pub record IsBegun (p : Parts) (k : ℕ) (text : List ℕ) : Type 0 where
+pub record IsBegun (version : Version) (p : Parts) (k : ℕ) (text : List ℕ) : Type 0 where
   pub whole : List ℕ
   pub entries : ℕ
-  pub valid : IsValidText p whole entries
+  pub valid : IsValidText version p whole entries
   pub alike : BeginAlike k text whole

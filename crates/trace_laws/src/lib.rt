@@ -1,10 +1,11 @@
 //! Laws of traces, whose contracts are the statements.
 #![tactic(auto)]
 
-ghost use Rattle.trace_laws.specs.TraceLaws.{OneThreadTraceIsValid, TraceIsNotRefused};
-ghost use Rattle.trace_laws.specs.TraceLaws.{TraceIsRead, TracesTellApart};
+ghost use Rattle.trace_laws.specs.TraceLaws.{NamesTellTasksApart, OneThreadTraceIsValid, TraceIsNotRefused};
+ghost use Rattle.trace_laws.specs.TraceLaws.{TraceIsRead, TracesTellApart, VersionsTellApart};
+ghost use Rattle.trace_laws.specs.Upgrades.{UpgradeIsKept, UpgradeIsThere, UpgradeIsValid};
 
-/// What is read of the text of plays of a set is the set and all the lines, and no line is left.
+/// What is read of the text of plays of a set is the format, the set and all the lines, and no line is left.
 pub fn trace_is_read()
     ensures { TraceIsRead }
 {}
@@ -14,13 +15,39 @@ pub fn trace_is_not_refused()
     ensures { TraceIsNotRefused }
 {}
 
-/// Different plays of one set have different texts.
+/// Different plays of one set have different texts in each format.
 pub fn traces_tell_apart()
     ensures { TracesTellApart }
 {}
 
-/// The trace of the histories that one thread gives of a set is a valid one of it. So `check`, where
-/// it checks traces of the set, has to find valid what `sim` writes.
+/// Texts of different formats differ.
+pub fn versions_tell_apart()
+    ensures { VersionsTellApart }
+{}
+
+/// Each task of a valid set has a name by the rules of sets, and no other task has it. A name has no space and no line
+/// feed by these rules, so that a line of format 2 names its tasks in one way.
+pub fn names_tell_tasks_apart()
+    ensures { NamesTellTasksApart }
+{}
+
+/// The trace of the histories that one thread gives of a set is a valid one of it in each format. So `check`, where it
+/// checks traces of the set, has to find valid what `sim` writes.
 pub fn one_thread_trace_is_valid()
     ensures { OneThreadTraceIsValid }
+{}
+
+/// A valid text of either format has exactly one upgrade: the text in format 2 of the same set and histories.
+pub fn upgrade_is_there()
+    ensures { UpgradeIsThere }
+{}
+
+/// The upgrade of a valid text is a valid text of the same set, with the same number of entries.
+pub fn upgrade_is_valid()
+    ensures { UpgradeIsValid }
+{}
+
+/// Upgrading again gives the same text.
+pub fn upgrade_is_kept()
+    ensures { UpgradeIsKept }
 {}

@@ -1,8 +1,8 @@
 -- The first line of a trace, which names its format.
 use Rattle.std.specs.Prelude.{ℕ, List, codes}
-
-pub data Version : Type 0 where
-  format_1 : Version
+use Rattle.trace_lines.specs.declared.format.Version.{Version}
+use Rattle.trace_lines.specs.declared.format.Version.TheVariants.{One, Two}
 
 abbrev pub first_line : Version → List ℕ
-first_line format_1 = codes "rtsched trace 1\n"
+first_line One = codes "rtsched trace 1\n"
+first_line Two = codes "rtsched trace 2\n"

@@ -1,22 +1,37 @@
 -- Which lines a trace of a set may have: their numbers fit the types of their fields, and their tasks and semaphores are the set's.
-use Rattle.std.specs.Prelude.{ℕ, ◌^◌, ◌<◌, ◌≤◌, ◌⊎◌, List, length, All, Option, None, Some}
+use Rattle.std.specs.Prelude.{ℕ, ◌-◌, ◌^◌, ◌<◌, ◌≤◌, ◌==◌, ◌⊎◌, List, [], length, map, All, Option, None, Some, unwrap_or, slice_get, if◌then◌else◌}
 use Rattle.rt_base.specs.declared.TheConstants.{MOST_TOTALS}
 use Rattle.rt_task.specs.declared.Op.{Op}
 use Rattle.rt_task.specs.declared.Op.TheVariants as ops
 use Rattle.rt_task.specs.declared.Act.{Act}
 use Rattle.rt_task.specs.declared.Act.TheVariants as acts
 use Rattle.rt_task.specs.declared.Parts.{Parts}
+use Rattle.rt_task.specs.declared.Task.{Task}
 use Rattle.rt_history.specs.declared.Reply.{Reply}
 use Rattle.rt_history.specs.declared.Reply.TheVariants as replies
+use Rattle.trace_lines.specs.declared.format.Format.{Format}
+use Rattle.trace_lines.specs.declared.format.Version.{Version}
+use Rattle.trace_lines.specs.Words.{Word}
 use Rattle.trace_lines.specs.Lines.{Link, Line, group_line, entry_line, block_line, end_line, count_line}
 
--- how many tasks and semaphores a set has
+-- the format of a trace, the names of its set's tasks, and how many semaphores the set has
 pub record Known : Type 0 where
-  pub tasks : ℕ
+  pub version : Version
+  pub names : List Word
   pub sems : ℕ
 
-abbrev pub known_of : Parts → Known
-known_of p = record { tasks = length p.tasks; sems = length p.sems }
+abbrev pub task_names : List Task → List Word
+task_names ts = map (λ (t : Task). t.name) ts
+
+abbrev pub known_of : Version → Parts → Known
+known_of version p = record { version = version; names = task_names p.tasks; sems = length p.sems }
+
+abbrev pub known_in : Format → Known
+known_in f = known_of f.version f.parts.now
+
+-- the name of the task with this number, from 1; a number that stands for no task has the empty name
+abbrev pub name_at : List Word → ℕ → Word
+name_at names n = if n == 0 then [] else unwrap_or (slice_get names (n - 1)) []
 
 abbrev pub Is32 : ℕ → Type 0
 Is32 n = n < 2 ^ 32
@@ -37,17 +52,17 @@ OpIsKnown k (ops.Sleep n) = Is64 n
 OpIsKnown k _ = Unit {0}
 
 abbrev pub ActIsKnown : Known → Act → Type 0
-ActIsKnown k (acts.Arrive t) = IsNumberOf k.tasks t.0
+ActIsKnown k (acts.Arrive t) = IsNumberOf (length k.names) t.0
 ActIsKnown k (acts.Do op) = OpIsKnown k op
 ActIsKnown k _ = Unit {0}
 
 abbrev pub ReplyIsKnown : Known → Reply → Type 0
-ReplyIsKnown k (replies.Runs t) = IsNumberOf k.tasks t.0
+ReplyIsKnown k (replies.Runs t) = IsNumberOf (length k.names) t.0
 ReplyIsKnown k _ = Unit {0}
 
 abbrev pub TargetIsKnown : Known → Option ℕ → Type 0
 TargetIsKnown k None = Unit {0}
-TargetIsKnown k (Some t) = IsNumberOf k.tasks t
+TargetIsKnown k (Some t) = IsNumberOf (length k.names) t
 
 abbrev pub LinkIsKnown : Known → Link → Type 0
 LinkIsKnown k x = Is32 x.0 × TargetIsKnown k x.1
@@ -70,7 +85,7 @@ pub record IsEntryLine (k : Known) (i tick cpu : ℕ) (act : Act) (reply : Reply
 
 pub record IsBlockLine (k : Known) (i t s ends all : ℕ) (bound : Option ℕ) : Type 0 where
   pub number : Is32 i
-  pub task_known : IsNumberOf k.tasks t
+  pub task_known : IsNumberOf (length k.names) t
   pub sem_known : IsNumberOf k.sems s
   pub ends_fit : Is32 ends
   pub all_fit : Is32 all

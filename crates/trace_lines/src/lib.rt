@@ -1,11 +1,15 @@
-//! The lines of a trace, format 1: words with one space between them, and a line feed at the end.
+//! The lines of a trace, in each of its formats: words with one space between them, and a line feed
+//! at the end.
 #![tactic(auto)]
 
 mod acts;
+mod format;
 mod lines;
 mod links;
 mod put;
 mod replies;
+mod tasks;
 
+pub use format::{Format, Version, first_line};
 pub use lines::{put_block_line, put_count_line, put_end_line, put_entry_line, put_group_line};
 pub use links::CpuLink;

@@ -1,27 +1,34 @@
 //! The lines of a trace.
 ghost use Rattle.std.specs.Prelude.{◌≡◌, ◌++◌, OnOk};
 ghost use Rattle.trace_lines.specs.Lines.{links_of, group_line, entry_line, block_line, end_line, count_line};
+ghost use Rattle.trace_lines.specs.Known.{Known, known_in};
 ghost use Rattle.trace_lines.specs.Grammar.{line_text};
 
-use crate::CpuLink;
 use crate::acts::put_act;
 use crate::links::put_links;
 use crate::put::{
     put, put_next_number, put_next_number_or_dash, put_next_numbers, put_next_word, put_number,
 };
 use crate::replies::put_reply;
+use crate::tasks::put_next_task;
+use crate::{CpuLink, Format};
 use rt_base::{GroupNo, NoMemory, SemNo, TaskNo};
 use rt_history::Entry;
 use std::alloc::AllocError;
 
 #[tactic(auto, using(crate::proofs::LineTexts::group_text, std::proofs::Common::append_assoc))]
-fn append_group_line(out: &mut Vec<u8>, group: GroupNo, links: &[CpuLink]) -> Result<(), AllocError>
-    ensures { OnOk result (out.new.items
-        ≡ out.old.items ++ line_text (group_line group.0 (links_of links.now))) }
+fn append_group_line(
+    out: &mut Vec<u8>,
+    format: &Format,
+    group: GroupNo,
+    links: &[CpuLink],
+) -> Result<(), AllocError>
+    ensures { let text = line_text (known_in format.now) in OnOk result (out.new.items
+        ≡ out.old.items ++ text (group_line group.0 (links_of links.now))) }
 {
     put(out, b"group")?;
     put_next_number(out, u64::from(group.0))?;
-    put_links(out, links)?;
+    put_links(out, format, links)?;
     put(out, b"\n")?;
     Ok(())
 }
@@ -29,19 +36,20 @@ fn append_group_line(out: &mut Vec<u8>, group: GroupNo, links: &[CpuLink]) -> Re
 #[tactic(auto, using(crate::proofs::LineTexts::entry_text, std::proofs::Common::append_assoc))]
 fn append_entry_line(
     out: &mut Vec<u8>,
+    format: &Format,
     number: u32,
     entry: &Entry,
     links: &[CpuLink],
 ) -> Result<(), AllocError>
-    ensures { OnOk result (out.new.items
-        ≡ out.old.items ++ line_text (entry_line number entry.now (links_of links.now))) }
+    ensures { let text = line_text (known_in format.now) in OnOk result (out.new.items
+        ≡ out.old.items ++ text (entry_line number entry.now (links_of links.now))) }
 {
     put_number(out, u64::from(number))?;
     put_next_number(out, entry.step.tick.0)?;
     put_next_number(out, u64::from(entry.step.cpu.0))?;
-    put_act(out, entry.step.act)?;
-    put_reply(out, entry.reply)?;
-    put_links(out, links)?;
+    put_act(out, format, entry.step.act)?;
+    put_reply(out, format, entry.reply)?;
+    put_links(out, format, links)?;
     put(out, b"\n")?;
     Ok(())
 }
@@ -49,6 +57,7 @@ fn append_entry_line(
 #[tactic(auto, using(crate::proofs::LineTexts::block_text, std::proofs::Common::append_assoc))]
 fn append_block_line(
     out: &mut Vec<u8>,
+    format: &Format,
     number: u32,
     task: TaskNo,
     sem: SemNo,
@@ -56,12 +65,12 @@ fn append_block_line(
     ends_all: u32,
     bound: Option<u32>,
 ) -> Result<(), AllocError>
-    ensures { OnOk result (out.new.items
-        ≡ out.old.items ++ line_text (block_line number task.0 sem.0 ends ends_all bound)) }
+    ensures { let text = line_text (known_in format.now) in OnOk result (out.new.items
+        ≡ out.old.items ++ text (block_line number task.0 sem.0 ends ends_all bound)) }
 {
     put(out, b"block")?;
     put_next_number(out, u64::from(number))?;
-    put_next_number(out, u64::from(task.0))?;
+    put_next_task(out, format, task)?;
     put_next_number(out, u64::from(sem.0))?;
     put_next_number(out, u64::from(ends))?;
     put_next_number(out, u64::from(ends_all))?;
@@ -72,8 +81,8 @@ fn append_block_line(
 
 #[tactic(auto, using(crate::proofs::LineTexts::count_text, std::proofs::Common::append_assoc))]
 fn append_count_line(out: &mut Vec<u8>, name: u8, totals: &[u64]) -> Result<(), AllocError>
-    ensures { OnOk result (out.new.items
-        ≡ out.old.items ++ line_text (count_line name totals.now)) }
+    ensures { (k : Known)
+        → OnOk result (out.new.items ≡ out.old.items ++ line_text k (count_line name totals.now)) }
 {
     put(out, b"count")?;
     put_next_word(out, &[name])?;
@@ -83,11 +92,16 @@ fn append_count_line(out: &mut Vec<u8>, name: u8, totals: &[u64]) -> Result<(), 
 }
 
 /// The line of a group: `group <group> <cpu>:<link> ..`, with the links of its processors at opening.
-pub fn put_group_line(out: &mut Vec<u8>, group: GroupNo, links: &[CpuLink]) -> Result<(), NoMemory>
-    ensures { OnOk result (out.new.items
-        ≡ out.old.items ++ line_text (group_line group.0 (links_of links.now))) }
+pub fn put_group_line(
+    out: &mut Vec<u8>,
+    format: &Format,
+    group: GroupNo,
+    links: &[CpuLink],
+) -> Result<(), NoMemory>
+    ensures { let text = line_text (known_in format.now) in OnOk result (out.new.items
+        ≡ out.old.items ++ text (group_line group.0 (links_of links.now))) }
 {
-    match append_group_line(out, group, links) {
+    match append_group_line(out, format, group, links) {
         Ok(()) => Ok(()),
         Err(_) => Err(NoMemory),
     }
@@ -97,14 +111,15 @@ pub fn put_group_line(out: &mut Vec<u8>, group: GroupNo, links: &[CpuLink]) -> R
 /// 0 and the links that it changed.
 pub fn put_entry_line(
     out: &mut Vec<u8>,
+    format: &Format,
     number: u32,
     entry: &Entry,
     links: &[CpuLink],
 ) -> Result<(), NoMemory>
-    ensures { OnOk result (out.new.items
-        ≡ out.old.items ++ line_text (entry_line number entry.now (links_of links.now))) }
+    ensures { let text = line_text (known_in format.now) in OnOk result (out.new.items
+        ≡ out.old.items ++ text (entry_line number entry.now (links_of links.now))) }
 {
-    match append_entry_line(out, number, entry, links) {
+    match append_entry_line(out, format, number, entry, links) {
         Ok(()) => Ok(()),
         Err(_) => Err(NoMemory),
     }
@@ -114,6 +129,7 @@ pub fn put_entry_line(
 /// sections that ended while its task was blocked, all that ended while it waited, and the bound on them, or a dash.
 pub fn put_block_line(
     out: &mut Vec<u8>,
+    format: &Format,
     number: u32,
     task: TaskNo,
     sem: SemNo,
@@ -121,10 +137,10 @@ pub fn put_block_line(
     ends_all: u32,
     bound: Option<u32>,
 ) -> Result<(), NoMemory>
-    ensures { OnOk result (out.new.items
-        ≡ out.old.items ++ line_text (block_line number task.0 sem.0 ends ends_all bound)) }
+    ensures { let text = line_text (known_in format.now) in OnOk result (out.new.items
+        ≡ out.old.items ++ text (block_line number task.0 sem.0 ends ends_all bound)) }
 {
-    match append_block_line(out, number, task, sem, ends, ends_all, bound) {
+    match append_block_line(out, format, number, task, sem, ends, ends_all, bound) {
         Ok(()) => Ok(()),
         Err(_) => Err(NoMemory),
     }
@@ -132,8 +148,8 @@ pub fn put_block_line(
 
 /// The line of what a tool counted: `count <letter> <total> ..`.
 pub fn put_count_line(out: &mut Vec<u8>, name: u8, totals: &[u64]) -> Result<(), NoMemory>
-    ensures { OnOk result (out.new.items
-        ≡ out.old.items ++ line_text (count_line name totals.now)) }
+    ensures { (k : Known)
+        → OnOk result (out.new.items ≡ out.old.items ++ line_text k (count_line name totals.now)) }
 {
     match append_count_line(out, name, totals) {
         Ok(()) => Ok(()),
@@ -144,7 +160,8 @@ pub fn put_count_line(out: &mut Vec<u8>, name: u8, totals: &[u64]) -> Result<(),
 /// The line `end`, after the last group.
 #[tactic(auto, using(crate::proofs::LineTexts::end_text))]
 pub fn put_end_line(out: &mut Vec<u8>) -> Result<(), NoMemory>
-    ensures { OnOk result (out.new.items ≡ out.old.items ++ line_text end_line) }
+    ensures { (k : Known)
+        → OnOk result (out.new.items ≡ out.old.items ++ line_text k end_line) }
 {
     match put(out, b"end\n") {
         Ok(()) => Ok(()),

@@ -1,20 +1,23 @@
 //! The words of replies.
 ghost use Rattle.std.specs.Prelude.{◌≡◌, ◌++◌, OnOk};
 ghost use Rattle.trace_lines.specs.Words.{further};
+ghost use Rattle.trace_lines.specs.Known.{known_in};
 ghost use Rattle.trace_lines.specs.Grammar.{reply_words};
 
-use crate::acts::put_word_and_number;
+use crate::Format;
 use crate::put::put_next_word;
+use crate::tasks::put_word_and_task;
 use rt_history::Reply;
 use std::alloc::AllocError;
 
 /// The words of a reply, each after a space.
-pub fn put_reply(out: &mut Vec<u8>, reply: Reply) -> Result<(), AllocError>
-    ensures { OnOk result (out.new.items ≡ out.old.items ++ further 32 (reply_words reply)) }
+pub fn put_reply(out: &mut Vec<u8>, format: &Format, reply: Reply) -> Result<(), AllocError>
+    ensures { OnOk result (out.new.items
+        ≡ out.old.items ++ further 32 (reply_words (known_in format.now) reply)) }
 {
     match reply {
         Reply::Done => put_next_word(out, b"done"),
-        Reply::Runs(t) => put_word_and_number(out, b"runs", u64::from(t.0)),
+        Reply::Runs(t) => put_word_and_task(out, format, b"runs", t),
         Reply::Idles => put_next_word(out, b"idles"),
         Reply::Granted => put_next_word(out, b"granted"),
         Reply::Queued => put_next_word(out, b"queued"),

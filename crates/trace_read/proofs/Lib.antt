@@ -1,6 +1,7 @@
 pub mod WordLaws
 pub mod EachLaws
 pub mod PartLaws
+pub mod TellLaws
 pub mod LineLaws
 pub mod FitLaws
 pub mod ReadLaws

@@ -1,5 +1,5 @@
 -- Words come back out of a line, and numbers out of words.
-use Rattle.std.proofs.Common.{◌≡◌, ◌≢◌, ℕ, ◌+◌, ◌-◌, ◌*◌, ◌/◌, ◌%◌, ◌<◌, ◌≤◌, ◌^◌, ◌==◌, suc, Bool, true, false, not, ◌&&◌, List, [], ◌∷◌, ◌++◌, get_or, Option, Some, None, decimal, refl, ap, ◌∙◌, arith, eq-eqb, length}
+use Rattle.std.proofs.Common.{◌≡◌, ◌≢◌, ℕ, ◌+◌, ◌-◌, ◌*◌, ◌/◌, ◌%◌, ◌<◌, ◌≤◌, ◌^◌, ◌==◌, suc, Bool, true, false, not, ◌&&◌, List, [], ◌∷◌, ◌++◌, get_or, All, Option, Some, None, decimal, refl, ap, ◌∙◌, arith, eq-eqb, length}
 use Rattle.std.specs.Prelude.{bytes_eq, nat_lt, if◌then◌else◌}
 use Rattle.std.specs.Char.{is_ascii_digit}
 use Rattle.std.specs.List.{list_all}
@@ -8,6 +8,7 @@ use denote.Ref.{Bor}
 use Rattle.std.proofs.lemmas.Str.Pattern.{IsSplitOnceResult, split_parts}
 use Rattle.std.proofs.lemmas.Bool.{and_parts}
 use Rattle.std.proofs.lemmas.Bool.Decides.{nat_tests}
+use Rattle.std.proofs.lemmas.List.Elements.{All-nil, All-cons}
 use Rattle.std.proofs.lemmas.List.Folds.{list_all-append}
 use Rattle.std.proofs.lemmas.Fmt.{decimal_by_steps}
 use Rattle.set_read.specs.Forms.{◌>>=◌}
@@ -58,6 +59,16 @@ plain-free c [] low h = refl
 plain-free c (x ∷ xs) low h =
     let parts = and_parts (is_plain_byte x) (is_plain xs) h in
     rw (above c x low parts.0, plain-free c xs low parts.1) refl
+
+-- a plain word is ASCII
+ascii_byte : (x : ℕ) → is_plain_byte x ≡ true → x < 128
+ascii_byte x h = grind (arith, nat_tests)
+
+pub word-ascii : (w : Word) → is_plain w ≡ true → All (λ (b : ℕ). b < 128) w
+word-ascii [] h = All-nil (λ (b : ℕ). b < 128)
+word-ascii (x ∷ xs) h =
+    let parts = and_parts (is_plain_byte x) (is_plain xs) h in
+    All-cons (λ (b : ℕ). b < 128) x xs (ascii_byte x parts.0) (word-ascii xs parts.1)
 
 -- ---- cutting
 

@@ -8,8 +8,12 @@ use Rattle.rt_task.specs.declared.Act.TheVariants as acts
 use Rattle.rt_history.specs.declared.Reply.{Reply}
 use Rattle.rt_history.specs.declared.Reply.TheVariants as replies
 use Rattle.rt_history.specs.declared.Entry.{Entry}
+use Rattle.trace_lines.specs.declared.format.Version.{Version}
+use Rattle.trace_lines.specs.declared.format.Version.TheVariants.{One, Two}
+use Rattle.trace_lines.specs.Known.{Known}
 use Rattle.trace_lines.specs.Words.{Word}
 use Rattle.trace_lines.specs.Lines.{Link, Line, group_line, entry_line, block_line, end_line, count_line}
+use Rattle.set_read.specs.Document.{position_from}
 use Rattle.set_read.specs.Forms.{◌>>=◌, word_in}
 
 -- ---- words
@@ -68,6 +72,23 @@ number_at text = option_map (λ n. (n, (cut 32 text).1)) (number_in (cut 32 text
 abbrev pub small_at : List ℕ → Read ℕ
 small_at text = option_map (λ n. (n, (cut 32 text).1)) (small_in (cut 32 text).0)
 
+-- ---- tasks
+
+-- the task that a word says: in format 1 its number, in format 2 what stands after an @ is its name
+abbrev pub task_by : Version → List Word → Word → Option ℕ
+task_by One names w = small_in w
+task_by Two names w = Some (position_from 1 names (cut 64 w).1)
+
+abbrev pub task_in : Known → Word → Option ℕ
+task_in k w = task_by k.version k.names w
+
+-- a task, or a dash for none
+abbrev pub target_in : Known → Word → Option (Option ℕ)
+target_in k w = if bytes_eq w (codes "-") then Some None else option_map Some (task_in k w)
+
+abbrev pub task_at : Known → List ℕ → Read ℕ
+task_at k text = option_map (λ n. (n, (cut 32 text).1)) (task_in k (cut 32 text).0)
+
 -- ---- acts and replies
 
 abbrev pub bare_acts : List (Word × Act)
@@ -75,21 +96,26 @@ bare_acts =
     (codes "tick", acts.Tick) ∷ (codes "irq", acts.Irq) ∷ (codes "work", acts.Do ops.Work)
     ∷ (codes "npon", acts.Do ops.NpOn) ∷ (codes "npoff", acts.Do ops.NpOff) ∷ (codes "end", acts.Do ops.End) ∷ []
 
-abbrev pub small_act : Word → ℕ → Option Act
-small_act w n =
-    if bytes_eq w (codes "arrive") then Some (acts.Arrive (record { 0 = n }))
-    else (if bytes_eq w (codes "lock") then Some (acts.Do (ops.Lock (record { 0 = n })))
-    else (if bytes_eq w (codes "unlock") then Some (acts.Do (ops.Unlock (record { 0 = n }))) else None))
+abbrev pub sem_act : Word → ℕ → Option Act
+sem_act w n =
+    if bytes_eq w (codes "lock") then Some (acts.Do (ops.Lock (record { 0 = n })))
+    else (if bytes_eq w (codes "unlock") then Some (acts.Do (ops.Unlock (record { 0 = n }))) else None)
 
 abbrev pub act_with : Word → ℕ → Option Act
-act_with w n = if bytes_eq w (codes "sleep") then Some (acts.Do (ops.Sleep n)) else (when_32 n >>= small_act w)
+act_with w n = if bytes_eq w (codes "sleep") then Some (acts.Do (ops.Sleep n)) else (when_32 n >>= sem_act w)
 
-abbrev pub act_after : Word → Option Act → List ℕ → Read Act
-act_after w (Some a) text = Some (a, text)
-act_after w None text = number_at text >>= λ p. option_map (λ a. (a, p.1)) (act_with w p.0)
+abbrev pub number_act_at : Word → List ℕ → Read Act
+number_act_at w text = number_at text >>= λ p. option_map (λ a. (a, p.1)) (act_with w p.0)
 
-abbrev pub act_at : List ℕ → Read Act
-act_at text = act_after (cut 32 text).0 (word_in bare_acts (cut 32 text).0) (cut 32 text).1
+abbrev pub arrive_at : Known → List ℕ → Read Act
+arrive_at k text = option_map (λ p. (acts.Arrive (record { 0 = p.0 }), p.1)) (task_at k text)
+
+abbrev pub act_after : Known → Word → Option Act → List ℕ → Read Act
+act_after k w (Some a) text = Some (a, text)
+act_after k w None text = if bytes_eq w (codes "arrive") then arrive_at k text else number_act_at w text
+
+abbrev pub act_at : Known → List ℕ → Read Act
+act_at k text = act_after k (cut 32 text).0 (word_in bare_acts (cut 32 text).0) (cut 32 text).1
 
 abbrev pub bare_replies : List (Word × Reply)
 bare_replies =
@@ -101,54 +127,54 @@ bare_replies =
     ∷ (codes "holding", replies.Holding) ∷ (codes "innp", replies.InNp)
     ∷ (codes "notinnp", replies.NotInNp) ∷ (codes "tooearly", replies.TooEarly) ∷ (codes "notsporadic", replies.NotSporadic) ∷ []
 
-abbrev pub reply_with : Word → ℕ → Option Reply
-reply_with w n = if bytes_eq w (codes "runs") then Some (replies.Runs (record { 0 = n })) else None
+abbrev pub runs_at : Known → List ℕ → Read Reply
+runs_at k text = option_map (λ p. (replies.Runs (record { 0 = p.0 }), p.1)) (task_at k text)
 
-abbrev pub reply_after : Word → Option Reply → List ℕ → Read Reply
-reply_after w (Some r) text = Some (r, text)
-reply_after w None text = small_at text >>= λ p. option_map (λ r. (r, p.1)) (reply_with w p.0)
+abbrev pub reply_after : Known → Word → Option Reply → List ℕ → Read Reply
+reply_after k w (Some r) text = Some (r, text)
+reply_after k w None text = if bytes_eq w (codes "runs") then runs_at k text else None
 
-abbrev pub reply_at : List ℕ → Read Reply
-reply_at text = reply_after (cut 32 text).0 (word_in bare_replies (cut 32 text).0) (cut 32 text).1
+abbrev pub reply_at : Known → List ℕ → Read Reply
+reply_at k text = reply_after k (cut 32 text).0 (word_in bare_replies (cut 32 text).0) (cut 32 text).1
 
 -- ---- links
 
-abbrev pub link_in : Word → Option Link
-link_in w = small_in (cut 58 w).0 >>= λ cpu. option_map (λ task. (cpu, task)) (small_or_dash (cut 58 w).1)
+abbrev pub link_in : Known → Word → Option Link
+link_in k w = small_in (cut 58 w).0 >>= λ cpu. option_map (λ task. (cpu, task)) (target_in k (cut 58 w).1)
 
-abbrev pub links_in : List ℕ → Option (List Link)
-links_in text = each_in link_in (pieces 32 text)
+abbrev pub links_in : Known → List ℕ → Option (List Link)
+links_in k text = each_in (link_in k) (pieces 32 text)
 
 abbrev pub totals_in : List ℕ → Option (List ℕ)
 totals_in text = each_in number_in (pieces 32 text)
 
 -- ---- lines
 
-unfoldable pub entry_at : List ℕ → Read Entry
-entry_at text = do
+unfoldable pub entry_at : Known → List ℕ → Read Entry
+entry_at k text = do
   tick ← number_at text
   cpu ← small_at tick.1
-  act ← act_at cpu.1
-  reply ← reply_at act.1
+  act ← act_at k cpu.1
+  reply ← reply_at k act.1
   Some (record { step = record { cpu = record { 0 = cpu.0 }; tick = record { 0 = tick.0 }; act = act.0 }; reply = reply.0 }, reply.1)
 
-unfoldable pub entry_line_in : List ℕ → Option Line
-entry_line_in text = do
+unfoldable pub entry_line_in : Known → List ℕ → Option Line
+entry_line_in k text = do
   number ← small_at text
-  entry ← entry_at number.1
-  links ← links_in entry.1
+  entry ← entry_at k number.1
+  links ← links_in k entry.1
   Some (entry_line number.0 entry.0 links)
 
-unfoldable pub group_line_in : List ℕ → Option Line
-group_line_in text = do
+unfoldable pub group_line_in : Known → List ℕ → Option Line
+group_line_in k text = do
   group ← small_at text
-  links ← links_in group.1
+  links ← links_in k group.1
   Some (group_line group.0 links)
 
-unfoldable pub block_line_in : List ℕ → Option Line
-block_line_in text = do
+unfoldable pub block_line_in : Known → List ℕ → Option Line
+block_line_in k text = do
   number ← small_at text
-  task ← small_at number.1
+  task ← task_at k number.1
   sem ← small_at task.1
   ends ← small_at sem.1
   all ← small_at ends.1
@@ -166,12 +192,12 @@ count_line_in text = do
   Some (count_line name totals)
 
 -- a line by its first word, which for an entry is its number
-abbrev pub line_after : Word → List ℕ → List ℕ → Option Line
-line_after w text rest =
-    if bytes_eq w (codes "group") then group_line_in rest
-    else (if bytes_eq w (codes "block") then block_line_in rest
+abbrev pub line_after : Known → Word → List ℕ → List ℕ → Option Line
+line_after k w text rest =
+    if bytes_eq w (codes "group") then group_line_in k rest
+    else (if bytes_eq w (codes "block") then block_line_in k rest
     else (if bytes_eq w (codes "end") then Some end_line
-    else (if bytes_eq w (codes "count") then count_line_in rest else entry_line_in text)))
+    else (if bytes_eq w (codes "count") then count_line_in rest else entry_line_in k text)))
 
-unfoldable pub line_in : List ℕ → Option Line
-line_in text = line_after (cut 32 text).0 text (cut 32 text).1
+unfoldable pub line_in : Known → List ℕ → Option Line
+line_in k text = line_after k (cut 32 text).0 text (cut 32 text).1

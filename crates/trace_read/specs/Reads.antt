@@ -3,7 +3,8 @@ use Rattle.std.specs.Prelude.{◌≡◌, ◌≢◌, ℕ, ◌+◌, ◌⊎◌, Lis
 use Rattle.rt_task.specs.declared.bad_set.BadSet.{BadSet}
 use Rattle.rt_task.specs.declared.Parts.{Parts}
 use Rattle.set_read.specs.Sets.{set}
-use Rattle.trace_lines.specs.FirstLine.{first_line, format_1}
+use Rattle.trace_lines.specs.declared.format.Version.{Version}
+use Rattle.trace_lines.specs.FirstLine.{first_line}
 use Rattle.trace_lines.specs.Grammar.{line_text}
 use Rattle.trace_lines.specs.Known.{Known, known_of, IsLine}
 use Rattle.trace_lines.specs.Lines.{Line}
@@ -12,47 +13,49 @@ use Rattle.trace_read.specs.Lines.{lines_of}
 use Rattle.trace_read.specs.declared.fault.TraceFault.{TraceFault}
 use Rattle.trace_read.specs.declared.fault.TraceFault.TheVariants as faults
 
--- the first line, a second one that says a set, and the rest
-pub record HasHead (bytes set_text rest : List ℕ) : Type 0 where
-  pub bytes_are : bytes ≡ first_line format_1 ++ (codes "set " ++ (set_text ++ 10 ∷ rest))
+-- the first line, which names the format, a second one that says a set, and the rest
+pub record HasHead (version : Version) (bytes set_text rest : List ℕ) : Type 0 where
+  pub bytes_are : bytes ≡ first_line version ++ (codes "set " ++ (set_text ++ 10 ∷ rest))
   pub on_one_line : All (λ (c : ℕ). c ≢ 10) set_text
 
 -- these lines, up to a text that begins with no line of the grammar
 pub record AreLines (k : Known) (text : List ℕ) (lines : List Line) (left : List ℕ) : Type 0 where
   pub lines_known : All (IsLine k) lines
-  pub text_is : text ≡ flat_map line_text lines ++ left
-  pub none_further : (l : Line) (more : List ℕ) → IsLine k l → left ≢ line_text l ++ more
+  pub text_is : text ≡ flat_map (line_text k) lines ++ left
+  pub none_further : (l : Line) (more : List ℕ) → IsLine k l → left ≢ line_text k l ++ more
 
 -- the number of the line after these, from 1 and with the two of the head, where there is one
 abbrev pub stop_at : List Line → List ℕ → Option ℕ
 stop_at lines [] = None
 stop_at lines (c ∷ cs) = Some (length lines + 3)
 
--- the bytes are a trace of this set with these lines, and `stop` is the number of the first line that is none of the grammar
-pub record IsTraceOf (bytes : List ℕ) (p : Parts) (lines : List Line) (stop : Option ℕ) : Type 0 where
+-- the bytes are a trace, in this format, of this set with these lines, and `stop` is the number of the first line that is none of the grammar
+pub record IsTraceOf (bytes : List ℕ) (version : Version) (p : Parts) (lines : List Line) (stop : Option ℕ) : Type 0 where
   pub set_text : List ℕ
   pub rest : List ℕ
   pub left : List ℕ
-  pub head : HasHead bytes set_text rest
+  pub head : HasHead version bytes set_text rest
   pub set_is : set set_text ≡ Ok p
-  pub lines_are : AreLines (known_of p) rest lines left
+  pub lines_are : AreLines (known_of version p) rest lines left
   pub stop_is : stop ≡ stop_at lines left
 
--- the bytes do not begin with the first line
+-- the bytes do not begin with the first line of a format
 abbrev pub LacksFirstLine : List ℕ → Type 0
-LacksFirstLine bytes = (rest : List ℕ) → bytes ≢ first_line format_1 ++ rest
+LacksFirstLine bytes = (version : Version) (rest : List ℕ) → bytes ≢ first_line version ++ rest
 
--- they begin with it, and the second line says no set
+-- they begin with one, and the second line says no set
 pub record LacksSetLine (bytes : List ℕ) : Type 0 where
+  pub version : Version
   pub rest : List ℕ
-  pub begins : bytes ≡ first_line format_1 ++ rest
-  pub no_set : (set_text more : List ℕ) → HasHead bytes set_text more → ⊥
+  pub begins : bytes ≡ first_line version ++ rest
+  pub no_set : (set_text more : List ℕ) → HasHead version bytes set_text more → ⊥
 
 -- the second line says a set that is refused
 pub record HasBadSet (bytes : List ℕ) (b : BadSet) : Type 0 where
+  pub version : Version
   pub set_text : List ℕ
   pub rest : List ℕ
-  pub head : HasHead bytes set_text rest
+  pub head : HasHead version bytes set_text rest
   pub refused : set set_text ≡ Err b
 
 abbrev pub IsRefused : List ℕ → TraceFault → Type 0
@@ -62,5 +65,5 @@ IsRefused bytes faults.NoMemory = Unit {0}
 
 -- how reading ends
 abbrev pub HasRead : List ℕ → Result Trace TraceFault → Type 0
-HasRead bytes (Ok t) = IsTraceOf bytes t.setup (lines_of t.lines) t.stop
+HasRead bytes (Ok t) = IsTraceOf bytes t.version t.setup (lines_of t.lines) t.stop
 HasRead bytes (Err e) = IsRefused bytes e

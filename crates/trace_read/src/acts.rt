@@ -3,8 +3,10 @@ ghost use Rattle.std.specs.Prelude.{◌≡◌, option_map};
 ghost use Rattle.set_read.specs.Forms.{word_in};
 ghost use Rattle.trace_read.specs.Reading as reading;
 
+use crate::known::Known;
+use crate::tasks::task_at;
 use crate::words::{cut, number_at};
-use rt_base::{SemNo, TaskNo};
+use rt_base::SemNo;
 use rt_task::{Act, Op};
 
 /// An act that is one word.
@@ -22,11 +24,10 @@ fn bare_act(word: &str) -> Option<Act>
     }
 }
 
-fn small_act(word: &str, n: u32) -> Option<Act>
-    ensures { result ≡ reading.small_act word.now n }
+fn sem_act(word: &str, n: u32) -> Option<Act>
+    ensures { result ≡ reading.sem_act word.now n }
 {
     match word {
-        "arrive" => Some(Act::Arrive(TaskNo(n))),
         "lock" => Some(Act::Do(Op::Lock(SemNo(n)))),
         "unlock" => Some(Act::Do(Op::Unlock(SemNo(n)))),
         _ => None,
@@ -41,22 +42,39 @@ fn act_with(word: &str, n: u64) -> Option<Act>
         "sleep" => Some(Act::Do(Op::Sleep(n))),
         _ => {
             let small = u32::try_from(n).ok()?;
-            small_act(word, small)
+            sem_act(word, small)
         }
     }
 }
 
+/// An act of this word and a number, and what stands after it.
+fn number_act_at<'a>(word: &str, text: &'a str) -> Option<(Act, &'a str)>
+    ensures { option_map (λ p. (p.0, p.1.now)) result
+        ≡ reading.number_act_at word.now text.now }
+{
+    let (n, rest) = number_at(text)?;
+    let act = act_with(word, n)?;
+    Some((act, rest))
+}
+
+/// An arrival of the task that comes next, and what stands after it.
+fn arrive_at<'a>(k: &Known, text: &'a str) -> Option<(Act, &'a str)>
+    ensures { option_map (λ p. (p.0, p.1.now)) result ≡ reading.arrive_at k.now text.now }
+{
+    let (task, rest) = task_at(k, text)?;
+    Some((Act::Arrive(task), rest))
+}
+
 /// An act, and what stands after it.
-pub(crate) fn act_at(text: &str) -> Option<(Act, &str)>
-    ensures { option_map (λ p. (p.0, p.1.now)) result ≡ reading.act_at text.now }
+pub(crate) fn act_at<'a>(k: &Known, text: &'a str) -> Option<(Act, &'a str)>
+    ensures { option_map (λ p. (p.0, p.1.now)) result ≡ reading.act_at k.now text.now }
 {
     let (word, rest) = cut(text, ' ');
     match bare_act(word) {
         Some(act) => Some((act, rest)),
-        None => {
-            let (n, rest) = number_at(rest)?;
-            let act = act_with(word, n)?;
-            Some((act, rest))
-        }
+        None => match word {
+            "arrive" => arrive_at(k, rest),
+            _ => number_act_at(word, rest),
+        },
     }
 }

@@ -4,31 +4,13 @@ ghost use Rattle.rt_base.specs.declared.TheConstants.{MOST_TOTALS};
 ghost use Rattle.trace_lines.specs.Known as known;
 ghost use Rattle.trace_lines.specs.Lines.{link_of, links_of, group_line};
 ghost use Rattle.trace_read.specs.Lines.{line_of};
-ghost use Rattle.trace_read.specs.Seen.{known_seen};
 
 use crate::Line;
+use crate::known::Known;
 use rt_base::{GroupNo, MOST_TOTALS, SemNo, TaskNo};
 use rt_history::{Entry, Reply};
-use rt_task::{Act, Op, Parts};
+use rt_task::{Act, Op};
 use trace_lines::CpuLink;
-
-/// How many tasks and semaphores a set has.
-#[derive(Clone, Copy)]
-pub(crate) struct Known {
-    pub(crate) tasks: usize,
-    pub(crate) sems: usize,
-}
-
-impl Known {
-    pub(crate) fn of(parts: &Parts) -> Known
-        ensures { known_seen result ≡ known.known_of parts.now }
-    {
-        Known {
-            tasks: parts.tasks.as_slice().len(),
-            sems: parts.sems.as_slice().len(),
-        }
-    }
-}
 
 /// Whether this is the number of one of so many, which are numbered from 1.
 fn is_number_of(most: usize, n: u32) -> bool
@@ -38,44 +20,44 @@ fn is_number_of(most: usize, n: u32) -> bool
 }
 
 fn op_fits(k: &Known, op: Op) -> bool
-    ensures { IsTrue result ↔ known.OpIsKnown (known_seen k.now) op }
+    ensures { IsTrue result ↔ known.OpIsKnown k.now op }
 {
     match op {
-        Op::Lock(s) | Op::Unlock(s) => is_number_of(k.sems, s.0),
+        Op::Lock(s) | Op::Unlock(s) => is_number_of(k.sems(), s.0),
         _ => true,
     }
 }
 
 fn act_fits(k: &Known, act: Act) -> bool
-    ensures { IsTrue result ↔ known.ActIsKnown (known_seen k.now) act }
+    ensures { IsTrue result ↔ known.ActIsKnown k.now act }
 {
     match act {
-        Act::Arrive(t) => is_number_of(k.tasks, t.0),
+        Act::Arrive(t) => is_number_of(k.tasks(), t.0),
         Act::Do(op) => op_fits(k, op),
         _ => true,
     }
 }
 
 fn reply_fits(k: &Known, reply: Reply) -> bool
-    ensures { IsTrue result ↔ known.ReplyIsKnown (known_seen k.now) reply }
+    ensures { IsTrue result ↔ known.ReplyIsKnown k.now reply }
 {
     match reply {
-        Reply::Runs(t) => is_number_of(k.tasks, t.0),
+        Reply::Runs(t) => is_number_of(k.tasks(), t.0),
         _ => true,
     }
 }
 
 fn link_fits(k: &Known, link: CpuLink) -> bool
-    ensures { IsTrue result ↔ known.LinkIsKnown (known_seen k.now) (link_of link) }
+    ensures { IsTrue result ↔ known.LinkIsKnown k.now (link_of link) }
 {
     match link.task {
         None => true,
-        Some(t) => is_number_of(k.tasks, t.0),
+        Some(t) => is_number_of(k.tasks(), t.0),
     }
 }
 
 fn links_fit(k: &Known, links: &[CpuLink]) -> bool
-    ensures { IsTrue result ↔ All (known.LinkIsKnown (known_seen k.now)) (links_of links.now) }
+    ensures { IsTrue result ↔ All (known.LinkIsKnown k.now) (links_of links.now) }
 {
     for link in links {
         if !link_fits(k, *link) {
@@ -99,14 +81,14 @@ fn totals_fit(totals: &[u64]) -> bool
 
 fn group_fits(k: &Known, group: GroupNo, links: &[CpuLink]) -> bool
     ensures { IsTrue result
-        ↔ known.IsLine (known_seen k.now) (group_line group.0 (links_of links.now)) }
+        ↔ known.IsLine k.now (group_line group.0 (links_of links.now)) }
 {
     links.len() >= 1 && links_fit(k, links)
 }
 
 fn entry_fits(k: &Known, no: u32, entry: Entry, links: &[CpuLink]) -> bool
     ensures { IsTrue result ↔ known.IsEntryLine
-        (known_seen k.now) no entry.step.tick.0 entry.step.cpu.0 entry.step.act entry.reply
+        k.now no entry.step.tick.0 entry.step.cpu.0 entry.step.act entry.reply
         (links_of links.now) }
 {
     act_fits(k, entry.step.act) && reply_fits(k, entry.reply) && links_fit(k, links)
@@ -122,14 +104,14 @@ fn block_fits(
     bound: Option<u32>,
 ) -> bool
     ensures { IsTrue result
-        ↔ known.IsBlockLine (known_seen k.now) no task.0 sem.0 ends ends_all bound }
+        ↔ known.IsBlockLine k.now no task.0 sem.0 ends ends_all bound }
 {
-    is_number_of(k.tasks, task.0) && is_number_of(k.sems, sem.0)
+    is_number_of(k.tasks(), task.0) && is_number_of(k.sems(), sem.0)
 }
 
 /// Whether a line is one of the grammar, and its tasks and semaphores are the set's.
 pub(crate) fn line_fits(k: &Known, line: &Line) -> bool
-    ensures { IsTrue result ↔ known.IsLine (known_seen k.now) (line_of line.now) }
+    ensures { IsTrue result ↔ known.IsLine k.now (line_of line.now) }
 {
     match line {
         Line::GroupLine { group, links } => group_fits(k, *group, links.as_slice()),

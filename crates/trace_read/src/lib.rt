@@ -1,24 +1,31 @@
-//! Reads the text of a trace, format 1: its set, and its lines up to the first that is none of the grammar.
+//! Reads the text of a trace, in each of its formats: its set, and its lines up to the first that is none of the grammar.
 #![tactic(auto)]
 
 mod acts;
 mod fault;
 mod fits;
+mod known;
 mod lines;
 mod links;
 mod parse;
+mod put;
 mod read;
 mod replies;
+mod tasks;
 mod words;
 
 pub use fault::TraceFault;
 pub use lines::{Line, LineList, LinkList, Totals};
+pub use put::put_line;
 pub use read::read_trace;
 use rt_task::Setup;
+use trace_lines::Version;
 
 /// What was read of a trace.
 #[derive(Drop)]
 pub struct Trace {
+    /// The format that the first line names.
+    pub version: Version,
     pub setup: Setup,
     /// The lines after the second up to the first that is none of the grammar.
     pub lines: LineList,

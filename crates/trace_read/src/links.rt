@@ -1,46 +1,38 @@
 //! Links and totals.
 ghost use Rattle.std.specs.Prelude.{◌≡◌, option_map, IfOk, Some, None};
-ghost use Rattle.rt_base.specs.TaskNos.{number_of_task};
 ghost use Rattle.trace_lines.specs.Lines.{link_of, links_of};
 ghost use Rattle.trace_read.specs.Reading as reading;
 
-use crate::words::{cut, number_in, small_in, small_or_dash};
+use crate::known::Known;
+use crate::tasks::target_in;
+use crate::words::{cut, number_in, small_in};
 use crate::{LinkList, Totals};
-use rt_base::{CpuNo, TaskNo};
+use rt_base::CpuNo;
 use std::alloc::{AllocError, Global};
 use trace_lines::CpuLink;
 
-fn task_of(n: Option<u32>) -> Option<TaskNo>
-    ensures { number_of_task result ≡ n }
-{
-    match n {
-        None => None,
-        Some(n) => Some(TaskNo(n)),
-    }
-}
-
 /// A processor and the task that it is linked to.
-fn link_in(word: &str) -> Option<CpuLink>
-    ensures { option_map link_of result ≡ reading.link_in word.now }
+fn link_in(k: &Known, word: &str) -> Option<CpuLink>
+    ensures { option_map link_of result ≡ reading.link_in k.now word.now }
 {
     let (cpu, task) = cut(word, ':');
     let cpu = small_in(cpu)?;
-    let task = small_or_dash(task)?;
+    let task = target_in(k, task)?;
     Some(CpuLink {
         cpu: CpuNo(cpu),
-        task: task_of(task),
+        task,
     })
 }
 
 /// A link for each word, or none where one says no link.
-pub(crate) fn links_in(alloc: Global, text: &str) -> Result<Option<LinkList>, AllocError>
-    ensures { IfOk result (λ o. option_map links_of o ≡ reading.links_in text.now) }
+pub(crate) fn links_in(alloc: Global, k: &Known, text: &str) -> Result<Option<LinkList>, AllocError>
+    ensures { IfOk result (λ o. option_map links_of o ≡ reading.links_in k.now text.now) }
 {
     let mut links = Vec::new(alloc);
     let mut rest = text;
     while !rest.is_empty() {
         let (word, more) = cut(rest, ' ');
-        let Some(link) = link_in(word) else {
+        let Some(link) = link_in(k, word) else {
             return Ok(None);
         };
         links.push(link)?;

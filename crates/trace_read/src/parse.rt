@@ -6,23 +6,25 @@ ghost use Rattle.trace_read.specs.Reading as reading;
 
 use crate::Line;
 use crate::acts::act_at;
+use crate::known::Known;
 use crate::links::{links_in, totals_in};
 use crate::replies::reply_at;
+use crate::tasks::task_at;
 use crate::words::{cut, number_at, small_at, small_or_dash};
-use rt_base::{CpuNo, GroupNo, SemNo, TaskNo, Tick};
+use rt_base::{CpuNo, GroupNo, SemNo, Tick};
 use rt_history::Entry;
 use rt_task::Step;
 use std::alloc::{AllocError, Global};
 
 /// An entry, and what stands after it.
 #[tactic(auto, unfolding(crate::specs::Reading::entry_at))]
-fn entry_at(text: &str) -> Option<(Entry, &str)>
-    ensures { option_map (λ p. (p.0, p.1.now)) result ≡ reading.entry_at text.now }
+fn entry_at<'a>(k: &Known, text: &'a str) -> Option<(Entry, &'a str)>
+    ensures { option_map (λ p. (p.0, p.1.now)) result ≡ reading.entry_at k.now text.now }
 {
     let (tick, rest) = number_at(text)?;
     let (cpu, rest) = small_at(rest)?;
-    let (act, rest) = act_at(rest)?;
-    let (reply, rest) = reply_at(rest)?;
+    let (act, rest) = act_at(k, rest)?;
+    let (reply, rest) = reply_at(k, rest)?;
     let step = Step {
         cpu: CpuNo(cpu),
         tick: Tick(tick),
@@ -32,29 +34,29 @@ fn entry_at(text: &str) -> Option<(Entry, &str)>
 }
 
 #[tactic(auto, unfolding(crate::specs::Reading::entry_line_in))]
-fn entry_line_in(alloc: Global, text: &str) -> Result<Option<Line>, AllocError>
-    ensures { IfOk result (λ o. option_map line_of o ≡ reading.entry_line_in text.now) }
+fn entry_line_in(alloc: Global, k: &Known, text: &str) -> Result<Option<Line>, AllocError>
+    ensures { IfOk result (λ o. option_map line_of o ≡ reading.entry_line_in k.now text.now) }
 {
     let Some((no, rest)) = small_at(text) else {
         return Ok(None);
     };
-    let Some((entry, rest)) = entry_at(rest) else {
+    let Some((entry, rest)) = entry_at(k, rest) else {
         return Ok(None);
     };
-    let Some(links) = links_in(alloc, rest)? else {
+    let Some(links) = links_in(alloc, k, rest)? else {
         return Ok(None);
     };
     Ok(Some(Line::EntryLine { no, entry, links }))
 }
 
 #[tactic(auto, unfolding(crate::specs::Reading::group_line_in))]
-fn group_line_in(alloc: Global, text: &str) -> Result<Option<Line>, AllocError>
-    ensures { IfOk result (λ o. option_map line_of o ≡ reading.group_line_in text.now) }
+fn group_line_in(alloc: Global, k: &Known, text: &str) -> Result<Option<Line>, AllocError>
+    ensures { IfOk result (λ o. option_map line_of o ≡ reading.group_line_in k.now text.now) }
 {
     let Some((group, rest)) = small_at(text) else {
         return Ok(None);
     };
-    let Some(links) = links_in(alloc, rest)? else {
+    let Some(links) = links_in(alloc, k, rest)? else {
         return Ok(None);
     };
     Ok(Some(Line::GroupLine {
@@ -64,18 +66,18 @@ fn group_line_in(alloc: Global, text: &str) -> Result<Option<Line>, AllocError>
 }
 
 #[tactic(auto, unfolding(crate::specs::Reading::block_line_in))]
-fn block_line_in(text: &str) -> Option<Line>
-    ensures { option_map line_of result ≡ reading.block_line_in text.now }
+fn block_line_in(k: &Known, text: &str) -> Option<Line>
+    ensures { option_map line_of result ≡ reading.block_line_in k.now text.now }
 {
     let (no, rest) = small_at(text)?;
-    let (task, rest) = small_at(rest)?;
+    let (task, rest) = task_at(k, rest)?;
     let (sem, rest) = small_at(rest)?;
     let (ends, rest) = small_at(rest)?;
     let (ends_all, rest) = small_at(rest)?;
     let bound = small_or_dash(rest)?;
     Some(Line::BlockLine {
         no,
-        task: TaskNo(task),
+        task,
         sem: SemNo(sem),
         ends,
         ends_all,
@@ -109,15 +111,15 @@ fn count_line_in(alloc: Global, text: &str) -> Result<Option<Line>, AllocError>
 /// The line that a text without its line feed says, before it is checked: each line of the grammar is read, and a text
 /// that is none of its may be too.
 #[tactic(auto, unfolding(crate::specs::Reading::line_in))]
-pub(crate) fn line_in(alloc: Global, text: &str) -> Result<Option<Line>, AllocError>
-    ensures { IfOk result (λ o. option_map line_of o ≡ reading.line_in text.now) }
+pub(crate) fn line_in(alloc: Global, k: &Known, text: &str) -> Result<Option<Line>, AllocError>
+    ensures { IfOk result (λ o. option_map line_of o ≡ reading.line_in k.now text.now) }
 {
     let (word, rest) = cut(text, ' ');
     match word {
-        "group" => group_line_in(alloc, rest),
-        "block" => Ok(block_line_in(rest)),
+        "group" => group_line_in(alloc, k, rest),
+        "block" => Ok(block_line_in(k, rest)),
         "end" => Ok(Some(Line::EndLine)),
         "count" => count_line_in(alloc, rest),
-        _ => entry_line_in(alloc, text),
+        _ => entry_line_in(alloc, k, text),
     }
 }

@@ -1,40 +1,24 @@
 //! Reading a trace.
 ghost use Rattle.std.specs.Prelude.{◌≡◌, ◌≢◌, ℕ, ◌++◌, List, All, IfErr, IfOk, MatchOption, MatchResult, OnOk};
+ghost use Rattle.rt_task.specs.Validity.{IsValid};
+ghost use Rattle.trace_lines.specs.FirstLine as heads;
 ghost use Rattle.trace_lines.specs.Grammar.{line_text};
 ghost use Rattle.trace_lines.specs.Known as known;
 ghost use Rattle.trace_read.specs.Lines.{line_of, lines_of};
 ghost use Rattle.trace_read.specs.declared.fault.TraceFault.TheVariants as faults;
-ghost use Rattle.trace_read.specs.Reads.{AreLines, HasHead, HasRead, IsRefused, stop_at};
-ghost use Rattle.trace_read.specs.Seen.{known_seen, BeginsNoLine, BeginsLine, IsSplitAtFeed, ReadsBack};
+ghost use Rattle.trace_read.specs.Reads.{AreLines, HasHead, HasRead, IsRefused, LacksFirstLine, stop_at};
+ghost use Rattle.trace_read.specs.Seen.{BeginsNoLine, BeginsLine, IsSplitAtFeed, ReadsBack, Tells};
 
-use crate::fits::{Known, line_fits};
+use crate::fits::line_fits;
+use crate::known::Known;
 use crate::parse::line_in;
+use crate::put::put_line;
 use crate::{Line, LineList, Trace, TraceFault};
-use rt_base::NoMemory;
+use rt_task::Setup;
 use set_read::read_set;
 use std::alloc::{AllocError, Global};
 use std::str;
-use trace_lines::{put_block_line, put_count_line, put_end_line, put_entry_line, put_group_line};
-
-/// The line's text.
-fn put_line(out: &mut Vec<u8>, line: &Line) -> Result<(), NoMemory>
-    ensures { OnOk result (out.new.items ≡ out.old.items ++ line_text (line_of line.now)) }
-{
-    match line {
-        Line::GroupLine { group, links } => put_group_line(out, *group, links.as_slice()),
-        Line::EntryLine { no, entry, links } => put_entry_line(out, *no, entry, links.as_slice()),
-        Line::BlockLine {
-            no,
-            task,
-            sem,
-            ends,
-            ends_all,
-            bound,
-        } => put_block_line(out, *no, *task, *sem, *ends, *ends_all, *bound),
-        Line::EndLine => put_end_line(out),
-        Line::CountLine { name, totals } => put_count_line(out, *name, totals.as_slice()),
-    }
-}
+use trace_lines::{Version, first_line};
 
 /// What stands before the first line feed, and what stands after it.
 fn split_line(bytes: &[u8]) -> Option<(&[u8], &[u8])>
@@ -58,11 +42,12 @@ fn after<'a>(first: &[u8], bytes: &'a [u8]) -> Option<&'a [u8]>
 }
 
 /// The line that bytes without a line feed say, before it is checked.
-fn parse_line(alloc: Global, bytes: &[u8]) -> Result<Option<Line>, AllocError>
-    ensures { IfOk result (λ o. ReadsBack bytes.now o) }
+fn parse_line(alloc: Global, k: &Known, bytes: &[u8]) -> Result<Option<Line>, AllocError>
+    requires { Tells k.now }
+    ensures { IfOk result (λ o. ReadsBack k.now bytes.now o) }
 {
     match str::from_utf8(bytes) {
-        Ok(text) => line_in(alloc, text),
+        Ok(text) => line_in(alloc, k, text),
         Err(_) => Ok(None),
     }
 }
@@ -75,22 +60,22 @@ fn read_line<'a>(
     bytes: &'a [u8],
     text: &mut Vec<u8>,
 ) -> Result<Option<(Line, &'a [u8])>, TraceFault>
-    ensures line { IfOk result (λ o. MatchOption o (BeginsNoLine
-        (known_seen k.now) bytes.now) (λ x. BeginsLine
-        (known_seen k.now) bytes.now (line_of x.0) x.1.now)) }
+    requires { Tells k.now }
+    ensures line { IfOk result (λ o. MatchOption o
+        (BeginsNoLine k.now bytes.now) (λ x. BeginsLine k.now bytes.now (line_of x.0) x.1.now)) }
     ensures memory { IfErr result (λ e. e ≡ faults.NoMemory) }
 {
     let Some((front, _)) = split_line(bytes) else {
         return Ok(None);
     };
-    let Some(line) = parse_line(alloc, front)? else {
+    let Some(line) = parse_line(alloc, k, front)? else {
         return Ok(None);
     };
     if !line_fits(k, &line) {
         return Ok(None);
     }
     text.clear();
-    put_line(text, &line)?;
+    put_line(text, k.format(), &line)?;
     match after(text.as_slice(), bytes) {
         None => Ok(None),
         Some(rest) => Ok(Some((line, rest))),
@@ -103,8 +88,8 @@ fn read_lines<'a>(
     k: &Known,
     bytes: &'a [u8],
 ) -> Result<(LineList, &'a [u8]), TraceFault>
-    ensures lines { IfOk result (λ x. AreLines
-        (known_seen k.now) bytes.now (lines_of x.0) x.1.now) }
+    requires { Tells k.now }
+    ensures lines { IfOk result (λ x. AreLines k.now bytes.now (lines_of x.0) x.1.now) }
     ensures memory { IfErr result (λ e. e ≡ faults.NoMemory) }
 {
     let mut lines = Vec::new(alloc);
@@ -119,12 +104,41 @@ fn read_lines<'a>(
     Ok((LineList::from_vec(lines), left))
 }
 
-/// The bytes of the set, and what stands after its line.
-fn read_head(bytes: &[u8]) -> Result<(&[u8], &[u8]), TraceFault>
-    ensures { MatchResult result
-        (λ x. HasHead bytes.now x.0.now x.1.now) (λ e. IsRefused bytes.now e) }
+/// The lines of a trace of this set, up to the first that is none of the grammar, and what is left from there on.
+fn read_lines_of<'a>(
+    alloc: Global,
+    version: Version,
+    setup: &Setup,
+    bytes: &'a [u8],
+) -> Result<(LineList, &'a [u8]), TraceFault>
+    ensures lines { let k = known.known_of version setup.now in
+        IfOk result (λ x. AreLines k bytes.now (lines_of x.0) x.1.now) }
+    ensures memory { IfErr result (λ e. e ≡ faults.NoMemory) }
 {
-    let Some(second) = after(b"rtsched trace 1\n", bytes) else {
+    let k = Known::of(alloc, version, setup.parts())?;
+    read_lines(alloc, &k, bytes)
+}
+
+/// The format that the first line names, and what stands after that line.
+fn read_first(bytes: &[u8]) -> Option<(Version, &[u8])>
+    ensures { MatchOption result (LacksFirstLine bytes.now)
+        (λ x. bytes.now ≡ heads.first_line x.0 ++ x.1.now) }
+{
+    if let Some(rest) = after(first_line(Version::One), bytes) {
+        return Some((Version::One, rest));
+    }
+    match after(first_line(Version::Two), bytes) {
+        Some(rest) => Some((Version::Two, rest)),
+        None => None,
+    }
+}
+
+/// The format, the bytes of the set, and what stands after its line.
+fn read_head(bytes: &[u8]) -> Result<(Version, &[u8], &[u8]), TraceFault>
+    ensures { MatchResult result
+        (λ x. HasHead x.0 bytes.now x.1.now x.2.now) (λ e. IsRefused bytes.now e) }
+{
+    let Some((version, second)) = read_first(bytes) else {
         return Err(TraceFault::NotTrace(1));
     };
     let Some(line) = after(b"set ", second) else {
@@ -132,7 +146,7 @@ fn read_head(bytes: &[u8]) -> Result<(&[u8], &[u8]), TraceFault>
     };
     match split_line(line) {
         None => Err(TraceFault::NotTrace(2)),
-        Some((set, rest)) => Ok((set, rest)),
+        Some((set, rest)) => Ok((version, set, rest)),
     }
 }
 
@@ -150,16 +164,20 @@ fn stop_after(lines: &[Line], left: &[u8]) -> Result<Option<u32>, TraceFault>
     }
 }
 
-/// Reads the bytes of a trace, format 1: its set, and its lines up to the first that is none of the grammar. Refused are
-/// bytes that do not begin with the line of the format, those whose second line does not begin as the set's or has no
+/// Reads the bytes of a trace: its format, its set, and its lines up to the first that is none of the grammar. Refused are
+/// bytes that do not begin with the line of a format, those whose second line does not begin as the set's or has no
 /// line feed, and a set that is refused. More lines than a `u32` numbers are answered as memory that ran out.
 pub fn read_trace(alloc: Global, bytes: &[u8]) -> Result<Trace, TraceFault>
     ensures { HasRead bytes.now result }
 {
-    let (set, rest) = read_head(bytes)?;
+    let (version, set, rest) = read_head(bytes)?;
     let setup = read_set(alloc, set)?;
-    let k = Known::of(setup.parts());
-    let (lines, left) = read_lines(alloc, &k, rest)?;
+    let (lines, left) = read_lines_of(alloc, version, &setup, rest)?;
     let stop = stop_after(lines.as_slice(), left)?;
-    Ok(Trace { setup, lines, stop })
+    Ok(Trace {
+        version,
+        setup,
+        lines,
+        stop,
+    })
 }

@@ -3,8 +3,9 @@ ghost use Rattle.std.specs.Prelude.{◌≡◌, option_map};
 ghost use Rattle.set_read.specs.Forms.{word_in};
 ghost use Rattle.trace_read.specs.Reading as reading;
 
-use crate::words::{cut, small_at};
-use rt_base::TaskNo;
+use crate::known::Known;
+use crate::tasks::task_at;
+use crate::words::cut;
 use rt_history::Reply;
 
 /// A reply that is one word.
@@ -34,27 +35,24 @@ fn bare_reply(word: &str) -> Option<Reply>
     }
 }
 
-/// A reply that is a word and a number.
-fn reply_with(word: &str, n: u32) -> Option<Reply>
-    ensures { result ≡ reading.reply_with word.now n }
+/// The reply that the task which comes next runs, and what stands after it.
+fn runs_at<'a>(k: &Known, text: &'a str) -> Option<(Reply, &'a str)>
+    ensures { option_map (λ p. (p.0, p.1.now)) result ≡ reading.runs_at k.now text.now }
 {
-    match word {
-        "runs" => Some(Reply::Runs(TaskNo(n))),
-        _ => None,
-    }
+    let (task, rest) = task_at(k, text)?;
+    Some((Reply::Runs(task), rest))
 }
 
 /// A reply, and what stands after it.
-pub(crate) fn reply_at(text: &str) -> Option<(Reply, &str)>
-    ensures { option_map (λ p. (p.0, p.1.now)) result ≡ reading.reply_at text.now }
+pub(crate) fn reply_at<'a>(k: &Known, text: &'a str) -> Option<(Reply, &'a str)>
+    ensures { option_map (λ p. (p.0, p.1.now)) result ≡ reading.reply_at k.now text.now }
 {
     let (word, rest) = cut(text, ' ');
     match bare_reply(word) {
         Some(reply) => Some((reply, rest)),
-        None => {
-            let (n, rest) = small_at(rest)?;
-            let reply = reply_with(word, n)?;
-            Some((reply, rest))
-        }
+        None => match word {
+            "runs" => runs_at(k, rest),
+            _ => None,
+        },
     }
 }

@@ -9,8 +9,10 @@ use Rattle.rt_model.specs.Histories.{after, changed, past_of}
 use Rattle.rt_model.specs.Blocking.{Asked, requests, ends, ends_all, bound}
 use Rattle.set_canonical.specs.Canonical.{canonical}
 use Rattle.trace_lines.specs.Lines.{Link, Line, group_line, entry_line, block_line, end_line}
-use Rattle.trace_lines.specs.FirstLine.{Version, first_line}
+use Rattle.trace_lines.specs.declared.format.Version.{Version}
+use Rattle.trace_lines.specs.FirstLine.{first_line}
 use Rattle.trace_lines.specs.Grammar.{line_text}
+use Rattle.trace_lines.specs.Known.{known_of}
 
 -- the first two lines: that of the format, and that of the canonical set
 abbrev pub head_text : Version → Parts → List ℕ
@@ -45,6 +47,6 @@ abbrev pub lines_from : Parts → ℕ → List (List Entry) → List Line
 lines_from p n [] = end_line ∷ []
 lines_from p n (es ∷ more) = group_lines (record { setup = p; number = n }) es ++ lines_from p (n + 1) more
 
--- the text of a setup and the histories of its groups, by rising number
+-- the text, in a format, of a setup and the histories of its groups, by rising number
 unfoldable pub trace_text : Version → Parts → List (List Entry) → List ℕ
-trace_text version p histories = head_text version p ++ flat_map line_text (lines_from p 0 histories)
+trace_text version p histories = head_text version p ++ flat_map (line_text (known_of version p)) (lines_from p 0 histories)

@@ -5,7 +5,7 @@ ghost use Rattle.rt_groups.specs.Built.{is_built};
 ghost use Rattle.rt_groups.specs.Groups.{group_of, past, AreStepsOf, IsGroupOf};
 ghost use Rattle.trace_lines.specs.Grammar.{line_text};
 ghost use Rattle.trace_text.specs.Groups.{AreGroupsOf, Follows, histories};
-ghost use Rattle.trace_lines.specs.FirstLine.{format_1};
+ghost use Rattle.trace_lines.specs.Known.{known_in};
 ghost use Rattle.trace_text.specs.TraceText.{entry_lines, group_lines, head_text};
 ghost use Rattle.trace_text.specs.TraceText.{lines_from, trace_text};
 ghost use Rattle.trace_text.specs.Writing.{Came};
@@ -20,11 +20,13 @@ use rt_fault::Sink;
 use rt_history::Entry;
 use rt_task::{Parts, Setup};
 use std::alloc::Global;
+use trace_lines::{Format, Version, first_line};
 
 /// The lines of entries, whose steps are taken again.
 fn write_entries<K: Sink>(
     replay: &mut Replay,
     entries: &[Entry],
+    format: &Format,
     line: &mut Vec<u8>,
     out: &mut K,
 ) -> Result<(), WriteStop>
@@ -33,12 +35,12 @@ fn write_entries<K: Sink>(
     requires few { length entries.now ≤ MOST_STEPS }
     requires steps { AreStepsOf (group_of replay.old.engine) entries.now }
     ensures { Came result (K.held out.old) (K.held out.new) (K.faults out.old) (K.faults out.new)
-        (flat_map line_text
+        (flat_map (line_text (known_in format.now))
         (entry_lines (group_of replay.old.engine) 0 (past replay.old.engine) entries.now)) }
 {
     for (i, entry) in entries.iter().enumerate() {
         replay.step(entry.step)?;
-        write_entry_line(out, line, i as u32, entry, replay.changed())?;
+        write_entry_line(out, line, format, i as u32, entry, replay.changed())?;
     }
     Ok(())
 }
@@ -47,6 +49,7 @@ fn write_entries<K: Sink>(
 fn write_group<K: Sink>(
     alloc: Global,
     setup: &Setup,
+    format: &Format,
     number: GroupNo,
     group: &Engine,
     line: &mut Vec<u8>,
@@ -57,18 +60,20 @@ fn write_group<K: Sink>(
     requires setup { group.now.setup ≡ setup.now }
     requires number { group.now.group ≡ number.0 }
     ensures { Came result (K.held out.old) (K.held out.new) (K.faults out.old) (K.faults out.new)
-        (flat_map line_text (group_lines (group_of group.now) group.now.entries)) }
+        (flat_map (line_text (known_in format.now))
+        (group_lines (group_of group.now) group.now.entries)) }
 {
     let entries = group.entries();
     let mut replay = Replay::open(alloc, setup, number, entries.len() as u32)?;
-    write_group_line(out, line, number, replay.links())?;
-    write_entries(&mut replay, entries, line, out)
+    write_group_line(out, line, format, number, replay.links())?;
+    write_entries(&mut replay, entries, format, line, out)
 }
 
 /// The lines of the groups, and the line `end`.
 fn write_groups<K: Sink>(
     alloc: Global,
     setup: &Setup,
+    format: &Format,
     groups: &[Engine],
     out: &mut K,
 ) -> Result<(), WriteStop>
@@ -76,28 +81,35 @@ fn write_groups<K: Sink>(
     requires few { length groups.now ≤ 64 }
     requires built { is_built setup.now ≡ true }
     ensures { Came result (K.held out.old) (K.held out.new) (K.faults out.old) (K.faults out.new)
-        (flat_map line_text (lines_from setup.now 0 (histories groups.now))) }
+        (flat_map (line_text (known_in format.now))
+        (lines_from setup.now 0 (histories groups.now))) }
 {
     let mut line = Vec::new(alloc);
     for (i, group) in groups.iter().enumerate() {
-        write_group(alloc, setup, GroupNo(i as u32), group, &mut line, out)?;
+        write_group(alloc, setup, format, GroupNo(i as u32), group, &mut line, out)?;
     }
     write_end_line(out, &mut line)
 }
 
 /// The first two lines, one after the other.
-fn write_head<K: Sink>(alloc: Global, parts: &Parts, out: &mut K) -> Result<(), WriteStop>
+fn write_head<K: Sink>(
+    alloc: Global,
+    version: Version,
+    parts: &Parts,
+    out: &mut K,
+) -> Result<(), WriteStop>
     ensures { Came result (K.held out.old) (K.held out.new) (K.faults out.old) (K.faults out.new)
-        (head_text format_1 parts.now) }
+        (head_text version parts.now) }
 {
     let line = set_line_of(alloc, parts)?;
-    write_bytes(out, b"rtsched trace 1\n")?;
+    write_bytes(out, first_line(version))?;
     write_bytes(out, line.as_slice())
 }
 
 /// The whole trace.
 pub fn write_all<K: Sink>(
     alloc: Global,
+    version: Version,
     setup: &Setup,
     groups: &[Engine],
     out: &mut K,
@@ -105,8 +117,9 @@ pub fn write_all<K: Sink>(
     requires groups { AreGroupsOf setup.now groups.now }
     requires built { is_built setup.now ≡ true }
     ensures { Came result (K.held out.old) (K.held out.new) (K.faults out.old) (K.faults out.new)
-        (trace_text format_1 setup.now (histories groups.now)) }
+        (trace_text version setup.now (histories groups.now)) }
 {
-    write_head(alloc, setup.parts(), out)?;
-    write_groups(alloc, setup, groups, out)
+    let parts = setup.parts();
+    write_head(alloc, version, parts, out)?;
+    write_groups(alloc, setup, &Format { version, parts }, groups, out)
 }

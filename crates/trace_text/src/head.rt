@@ -1,13 +1,14 @@
 //! The first two lines of a trace.
 ghost use Rattle.std.specs.Prelude.{◌≡◌, ◌∷◌, ◌++◌, [], IfOk, codes};
 ghost use Rattle.set_canonical.specs.Canonical.{canonical};
-ghost use Rattle.trace_lines.specs.FirstLine.{format_1};
+ghost use Rattle.trace_lines.specs.FirstLine as heads;
 ghost use Rattle.trace_text.specs.TraceText.{head_text};
 
 use rt_base::NoMemory;
 use rt_task::Parts;
 use set_canonical::canonical_of_parts;
 use std::alloc::{AllocError, Global};
+use trace_lines::{Version, first_line};
 
 /// The line with this text of a set.
 fn line_with(alloc: Global, set: &[u8]) -> Result<Vec<u8>, AllocError>
@@ -28,18 +29,18 @@ pub(crate) fn set_line_of(alloc: Global, parts: &Parts) -> Result<Vec<u8>, NoMem
 }
 
 /// This line behind that of the format.
-fn head_with(alloc: Global, line: &[u8]) -> Result<Vec<u8>, AllocError>
-    ensures { IfOk result (λ v. v.items ≡ codes "rtsched trace 1\n" ++ line.now) }
+fn head_with(alloc: Global, version: Version, line: &[u8]) -> Result<Vec<u8>, AllocError>
+    ensures { IfOk result (λ v. v.items ≡ heads.first_line version ++ line.now) }
 {
-    let mut head = b"rtsched trace 1\n".to_vec(alloc)?;
+    let mut head = first_line(version).to_vec(alloc)?;
     head.extend_from_slice(line)?;
     Ok(head)
 }
 
-/// The first two lines of a trace of format 1: that of the format, and that of the canonical set.
-pub fn head_of(alloc: Global, parts: &Parts) -> Result<Vec<u8>, NoMemory>
-    ensures { IfOk result (λ v. v.items ≡ head_text format_1 parts.now) }
+/// The first two lines of a trace: that of the format, and that of the canonical set.
+pub fn head_of(alloc: Global, version: Version, parts: &Parts) -> Result<Vec<u8>, NoMemory>
+    ensures { IfOk result (λ v. v.items ≡ head_text version parts.now) }
 {
     let line = set_line_of(alloc, parts)?;
-    head_with(alloc, line.as_slice()).map_err(|_| NoMemory)
+    head_with(alloc, version, line.as_slice()).map_err(|_| NoMemory)
 }

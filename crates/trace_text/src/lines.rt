@@ -1,5 +1,6 @@
 //! One line at a time: built in a text that is used again, and then written.
 ghost use Rattle.std.specs.Prelude.{◌≡◌};
+ghost use Rattle.trace_lines.specs.Known.{Known, known_in};
 ghost use Rattle.trace_lines.specs.Grammar.{line_text};
 ghost use Rattle.trace_lines.specs.Lines.{links_of, group_line, entry_line, end_line};
 ghost use Rattle.trace_text.specs.Writing.{Came};
@@ -8,7 +9,7 @@ use crate::WriteStop;
 use rt_base::GroupNo;
 use rt_fault::{Sink, put_all};
 use rt_history::Entry;
-use trace_lines::{CpuLink, put_end_line, put_entry_line, put_group_line};
+use trace_lines::{CpuLink, Format, put_end_line, put_entry_line, put_group_line};
 
 /// Writes bytes.
 pub fn write_bytes<K: Sink>(out: &mut K, bytes: &[u8]) -> Result<(), WriteStop>
@@ -23,14 +24,15 @@ pub fn write_bytes<K: Sink>(out: &mut K, bytes: &[u8]) -> Result<(), WriteStop>
 pub fn write_group_line<K: Sink>(
     out: &mut K,
     line: &mut Vec<u8>,
+    format: &Format,
     group: GroupNo,
     links: &[CpuLink],
 ) -> Result<(), WriteStop>
     ensures { Came result (K.held out.old) (K.held out.new) (K.faults out.old) (K.faults out.new)
-        (line_text (group_line group.0 (links_of links.now))) }
+        (line_text (known_in format.now) (group_line group.0 (links_of links.now))) }
 {
     line.clear();
-    put_group_line(line, group, links)?;
+    put_group_line(line, format, group, links)?;
     write_bytes(out, line.as_slice())
 }
 
@@ -38,22 +40,24 @@ pub fn write_group_line<K: Sink>(
 pub fn write_entry_line<K: Sink>(
     out: &mut K,
     line: &mut Vec<u8>,
+    format: &Format,
     number: u32,
     entry: &Entry,
     links: &[CpuLink],
 ) -> Result<(), WriteStop>
     ensures { Came result (K.held out.old) (K.held out.new) (K.faults out.old) (K.faults out.new)
-        (line_text (entry_line number entry.now (links_of links.now))) }
+        (line_text (known_in format.now) (entry_line number entry.now (links_of links.now))) }
 {
     line.clear();
-    put_entry_line(line, number, entry, links)?;
+    put_entry_line(line, format, number, entry, links)?;
     write_bytes(out, line.as_slice())
 }
 
 /// Writes the line `end`.
 pub fn write_end_line<K: Sink>(out: &mut K, line: &mut Vec<u8>) -> Result<(), WriteStop>
-    ensures { Came result (K.held out.old) (K.held out.new) (K.faults out.old) (K.faults out.new)
-        (line_text end_line) }
+    ensures { (k : Known)
+        → Came result (K.held out.old) (K.held out.new) (K.faults out.old) (K.faults out.new)
+        (line_text k end_line) }
 {
     line.clear();
     put_end_line(line)?;

@@ -8,7 +8,7 @@ use Rattle.trace_read.proofs.links.links_in.Given as goal
 
 -- the links so far, and those of what is left, are the links of the text
 abbrev pub invariant-loop-rest : goal.invariant-loop-rest
-invariant-loop-rest l = (option_map (λ xs. links_of l.links.items ++ xs) (reading.links_in l.rest) ≡ reading.links_in l.fn.text) × shadow (Utf8 l.rest)
+invariant-loop-rest l = (option_map (λ xs. links_of l.links.items ++ xs) (reading.links_in l.k l.rest) ≡ reading.links_in l.k l.fn.text) × shadow (Utf8 l.rest)
 
 abbrev pub decreases-loop-rest : goal.decreases-loop-rest
 decreases-loop-rest l = length l.rest

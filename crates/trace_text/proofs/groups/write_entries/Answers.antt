@@ -1,6 +1,7 @@
 use Rattle.std.proofs.Common.{ap, ◌∙◌, subst, arith}
 use Rattle.rt_groups.specs.Groups.{group_of, past}
 use Rattle.trace_lines.specs.Lines.{links_of}
+use Rattle.trace_lines.specs.Known.{known_in}
 use Rattle.trace_text.specs.TraceText.{entry_lines}
 use Rattle.trace_text.specs.declared.stop.WriteStop.TheVariants as stops
 use Rattle.trace_text.proofs.CameLaws.{Coming, coming-next, coming-stop, coming-cut, coming-end, came-err}
@@ -14,27 +15,27 @@ returns-in_err-step g c =
 
 pub returns-in_err-write_entry_line : goal.returns-in_err-write_entry_line
 returns-in_err-write_entry_line g c =
-    let here = entry_next (group_of c.args.replay.now.engine) (group_of c.loop-i.replay.engine) c.loop-i.i (past c.loop-i.replay.engine) (past c.step.new.self.engine) c.args.entries.now _ (links_of c.changed.result.now) c.loop-i-test.true c.loop-i.invariant.0.same_group c.in_ok-step.ensures.past (ap links_of c.changed.ensures ∙ c.in_ok-step.ensures.changed) in
+    let here = entry_next (known_in c.args.format.now) (group_of c.args.replay.now.engine) (group_of c.loop-i.replay.engine) c.loop-i.i (past c.loop-i.replay.engine) (past c.step.new.self.engine) c.args.entries.now _ (links_of c.changed.result.now) c.loop-i-test.true c.loop-i.invariant.0.same_group c.in_ok-step.ensures.past (ap links_of c.changed.ensures ∙ c.in_ok-step.ensures.changed) in
     came-err c.from_residual-in_err-write_entry_line.result c.in_err-write_entry_line.field-0.0 _ _ _ _ _ c.from_residual-in_err-write_entry_line.ensures.1
     (coming-stop _ (g.K.Sink.held c.args.out.now) (g.K.Sink.held c.loop-i.out) (g.K.Sink.held c.write_entry_line.new.out) (g.K.Sink.faults c.args.out.now) (g.K.Sink.faults c.loop-i.out) (g.K.Sink.faults c.write_entry_line.new.out) _ _ _
-    (subst (λ xs. Coming (g.K.Sink.held c.args.out.now) (g.K.Sink.held c.loop-i.out) (g.K.Sink.faults c.args.out.now) (g.K.Sink.faults c.loop-i.out) (texts (entry_lines (group_of c.args.replay.now.engine) 0 (past c.args.replay.now.engine) c.args.entries.now)) xs) here c.loop-i.invariant.1)
+    (subst (λ xs. Coming (g.K.Sink.held c.args.out.now) (g.K.Sink.held c.loop-i.out) (g.K.Sink.faults c.args.out.now) (g.K.Sink.faults c.loop-i.out) (texts (known_in c.args.format.now) (entry_lines (group_of c.args.replay.now.engine) 0 (past c.args.replay.now.engine) c.args.entries.now)) xs) here c.loop-i.invariant.1)
     c.in_err-write_entry_line.ensures)
 
 pub loop-i-preserved : goal.loop-i-preserved
 loop-i-preserved g c =
-    let here = entry_next (group_of c.args.replay.now.engine) (group_of c.loop-i.replay.engine) c.loop-i.i (past c.loop-i.replay.engine) (past c.step.new.self.engine) c.args.entries.now _ (links_of c.changed.result.now) c.loop-i-test.true c.loop-i.invariant.0.same_group c.in_ok-step.ensures.past (ap links_of c.changed.ensures ∙ c.in_ok-step.ensures.changed) in (
+    let here = entry_next (known_in c.args.format.now) (group_of c.args.replay.now.engine) (group_of c.loop-i.replay.engine) c.loop-i.i (past c.loop-i.replay.engine) (past c.step.new.self.engine) c.args.entries.now _ (links_of c.changed.result.now) c.loop-i-test.true c.loop-i.invariant.0.same_group c.in_ok-step.ensures.past (ap links_of c.changed.ensures ∙ c.in_ok-step.ensures.changed) in (
       record {
         same_group = c.in_ok-step.ensures.group ∙ c.loop-i.invariant.0.same_group;
         room = omega (arith, c.loop-i.invariant.0.room, c.in_ok-step.ensures.spare);
         follows = c.in_ok-step.ensures.follows;
       },
       coming-next (g.K.Sink.held c.args.out.now) (g.K.Sink.held c.loop-i.out) (g.K.Sink.held c.write_entry_line.new.out) (g.K.Sink.faults c.args.out.now) (g.K.Sink.faults c.loop-i.out) (g.K.Sink.faults c.write_entry_line.new.out) _ _ _
-          (subst (λ xs. Coming (g.K.Sink.held c.args.out.now) (g.K.Sink.held c.loop-i.out) (g.K.Sink.faults c.args.out.now) (g.K.Sink.faults c.loop-i.out) (texts (entry_lines (group_of c.args.replay.now.engine) 0 (past c.args.replay.now.engine) c.args.entries.now)) xs) here c.loop-i.invariant.1)
+          (subst (λ xs. Coming (g.K.Sink.held c.args.out.now) (g.K.Sink.held c.loop-i.out) (g.K.Sink.faults c.args.out.now) (g.K.Sink.faults c.loop-i.out) (texts (known_in c.args.format.now) (entry_lines (group_of c.args.replay.now.engine) 0 (past c.args.replay.now.engine) c.args.entries.now)) xs) here c.loop-i.invariant.1)
           c.in_ok-write_entry_line.ensures,
     )
 
 pub returns : goal.returns
 returns g c =
-    let none = entries_end (group_of c.args.replay.now.engine) c.loop-i.i (past c.loop-i.replay.engine) c.args.entries.now (omega (arith, c.loop-i-test.false)) in
+    let none = entries_end (known_in c.args.format.now) (group_of c.args.replay.now.engine) c.loop-i.i (past c.loop-i.replay.engine) c.args.entries.now (omega (arith, c.loop-i-test.false)) in
     coming-end (g.K.Sink.held c.args.out.now) (g.K.Sink.held c.loop-i.out) (g.K.Sink.faults c.args.out.now) (g.K.Sink.faults c.loop-i.out) _
-    (subst (λ xs. Coming (g.K.Sink.held c.args.out.now) (g.K.Sink.held c.loop-i.out) (g.K.Sink.faults c.args.out.now) (g.K.Sink.faults c.loop-i.out) (texts (entry_lines (group_of c.args.replay.now.engine) 0 (past c.args.replay.now.engine) c.args.entries.now)) xs) none c.loop-i.invariant.1)
+    (subst (λ xs. Coming (g.K.Sink.held c.args.out.now) (g.K.Sink.held c.loop-i.out) (g.K.Sink.faults c.args.out.now) (g.K.Sink.faults c.loop-i.out) (texts (known_in c.args.format.now) (entry_lines (group_of c.args.replay.now.engine) 0 (past c.args.replay.now.engine) c.args.entries.now)) xs) none c.loop-i.invariant.1)

@@ -1,5 +1,6 @@
 use Rattle.std.proofs.Common.{length, drop}
 use Rattle.rt_groups.specs.Groups.{group_of, past}
+use Rattle.trace_lines.specs.Known.{known_in}
 use Rattle.trace_text.specs.TraceText.{entry_lines}
 use Rattle.trace_text.proofs.CameLaws.{Coming}
 use Rattle.trace_text.proofs.LineLaws.{texts}
@@ -11,5 +12,5 @@ abbrev pub invariant-loop-i : goal.invariant-loop-i
 invariant-loop-i g l =
     Playing l.initial.replay.engine l.replay.engine l.replay.cpus.items l.replay.links.items (length l.entries) l.i
     × Coming (g.K.Sink.held l.initial.out) (g.K.Sink.held l.out) (g.K.Sink.faults l.initial.out) (g.K.Sink.faults l.out)
-    (texts (entry_lines (group_of l.initial.replay.engine) 0 (past l.initial.replay.engine) l.entries))
-    (texts (entry_lines (group_of l.initial.replay.engine) l.i (past l.replay.engine) (drop l.i l.entries)))
+    (texts (known_in l.format) (entry_lines (group_of l.initial.replay.engine) 0 (past l.initial.replay.engine) l.entries))
+    (texts (known_in l.format) (entry_lines (group_of l.initial.replay.engine) l.i (past l.replay.engine) (drop l.i l.entries)))

@@ -3,6 +3,7 @@ use Rattle.rt_groups.specs.Groups.{GroupHistory, group_of}
 use Rattle.trace_lines.specs.Grammar.{line_text}
 use Rattle.trace_lines.specs.Lines.{end_line}
 use Rattle.trace_text.specs.Groups.{histories}
+use Rattle.trace_lines.specs.Known.{known_in}
 use Rattle.trace_text.specs.TraceText.{lines_from, group_lines}
 use Rattle.trace_text.proofs.CameLaws.{Coming, coming-next, coming-stop, coming-last, came-err}
 use Rattle.trace_text.proofs.LineLaws.{texts, groups_next_item, groups_end, item_number}
@@ -14,26 +15,26 @@ write_group-requires-clause-number g c = item_number c.args.setup.now c.args.gro
 pub returns-in_err-write_group : goal.returns-in_err-write_group
 returns-in_err-write_group g c =
     let h : GroupHistory = c.index-groups-i.result in
-    let here = groups_next_item c.args.setup.now c.args.groups.now c.loop-i.i h c.requires.groups c.loop-i-test.true c.index-groups-i.is in
+    let here = groups_next_item (known_in c.args.format.now) c.args.setup.now c.args.groups.now c.loop-i.i h c.requires.groups c.loop-i-test.true c.index-groups-i.is in
     came-err c.from_residual.result c.in_err-write_group.field-0.0 _ _ _ _ _ c.from_residual.ensures.1
     (coming-stop c.in_err-write_group.field-0.0 (g.K.Sink.held c.args.out.now) (g.K.Sink.held c.loop-i.out) (g.K.Sink.held c.write_group.new.out) (g.K.Sink.faults c.args.out.now) (g.K.Sink.faults c.loop-i.out) (g.K.Sink.faults c.write_group.new.out)
-    (texts (lines_from c.args.setup.now 0 (histories c.args.groups.now))) (texts (group_lines (group_of h) h.entries)) (texts (lines_from c.args.setup.now (c.loop-i.i + 1) (histories (drop (c.loop-i.i + 1) c.args.groups.now))))
-    (subst (λ xs. Coming (g.K.Sink.held c.args.out.now) (g.K.Sink.held c.loop-i.out) (g.K.Sink.faults c.args.out.now) (g.K.Sink.faults c.loop-i.out) (texts (lines_from c.args.setup.now 0 (histories c.args.groups.now))) xs) here c.loop-i.invariant)
+    (texts (known_in c.args.format.now) (lines_from c.args.setup.now 0 (histories c.args.groups.now))) (texts (known_in c.args.format.now) (group_lines (group_of h) h.entries)) (texts (known_in c.args.format.now) (lines_from c.args.setup.now (c.loop-i.i + 1) (histories (drop (c.loop-i.i + 1) c.args.groups.now))))
+    (subst (λ xs. Coming (g.K.Sink.held c.args.out.now) (g.K.Sink.held c.loop-i.out) (g.K.Sink.faults c.args.out.now) (g.K.Sink.faults c.loop-i.out) (texts (known_in c.args.format.now) (lines_from c.args.setup.now 0 (histories c.args.groups.now))) xs) here c.loop-i.invariant)
     c.in_err-write_group.ensures)
 
 pub loop-i-preserved : goal.loop-i-preserved
 loop-i-preserved g c =
     let h : GroupHistory = c.index-groups-i.result in
-    let here = groups_next_item c.args.setup.now c.args.groups.now c.loop-i.i h c.requires.groups c.loop-i-test.true c.index-groups-i.is in
+    let here = groups_next_item (known_in c.args.format.now) c.args.setup.now c.args.groups.now c.loop-i.i h c.requires.groups c.loop-i-test.true c.index-groups-i.is in
     coming-next (g.K.Sink.held c.args.out.now) (g.K.Sink.held c.loop-i.out) (g.K.Sink.held c.write_group.new.out) (g.K.Sink.faults c.args.out.now) (g.K.Sink.faults c.loop-i.out) (g.K.Sink.faults c.write_group.new.out)
-    (texts (lines_from c.args.setup.now 0 (histories c.args.groups.now))) (texts (group_lines (group_of h) h.entries)) (texts (lines_from c.args.setup.now (c.loop-i.i + 1) (histories (drop (c.loop-i.i + 1) c.args.groups.now))))
-    (subst (λ xs. Coming (g.K.Sink.held c.args.out.now) (g.K.Sink.held c.loop-i.out) (g.K.Sink.faults c.args.out.now) (g.K.Sink.faults c.loop-i.out) (texts (lines_from c.args.setup.now 0 (histories c.args.groups.now))) xs) here c.loop-i.invariant)
+    (texts (known_in c.args.format.now) (lines_from c.args.setup.now 0 (histories c.args.groups.now))) (texts (known_in c.args.format.now) (group_lines (group_of h) h.entries)) (texts (known_in c.args.format.now) (lines_from c.args.setup.now (c.loop-i.i + 1) (histories (drop (c.loop-i.i + 1) c.args.groups.now))))
+    (subst (λ xs. Coming (g.K.Sink.held c.args.out.now) (g.K.Sink.held c.loop-i.out) (g.K.Sink.faults c.args.out.now) (g.K.Sink.faults c.loop-i.out) (texts (known_in c.args.format.now) (lines_from c.args.setup.now 0 (histories c.args.groups.now))) xs) here c.loop-i.invariant)
     c.in_ok-write_group.ensures
 
 pub returns : goal.returns
 returns g c =
-    let last = groups_end c.args.setup.now c.args.groups.now c.loop-i.i (omega (arith, c.loop-i-test.false)) in
+    let last = groups_end (known_in c.args.format.now) c.args.setup.now c.args.groups.now c.loop-i.i (omega (arith, c.loop-i-test.false)) in
     coming-last c.write_end_line.result (g.K.Sink.held c.args.out.now) (g.K.Sink.held c.loop-i.out) (g.K.Sink.held c.write_end_line.new.out) (g.K.Sink.faults c.args.out.now) (g.K.Sink.faults c.loop-i.out) (g.K.Sink.faults c.write_end_line.new.out)
-    (texts (lines_from c.args.setup.now 0 (histories c.args.groups.now))) (line_text end_line)
-    (subst (λ xs. Coming (g.K.Sink.held c.args.out.now) (g.K.Sink.held c.loop-i.out) (g.K.Sink.faults c.args.out.now) (g.K.Sink.faults c.loop-i.out) (texts (lines_from c.args.setup.now 0 (histories c.args.groups.now))) xs) last c.loop-i.invariant)
-    c.write_end_line.ensures
+    (texts (known_in c.args.format.now) (lines_from c.args.setup.now 0 (histories c.args.groups.now))) (line_text (known_in c.args.format.now) end_line)
+    (subst (λ xs. Coming (g.K.Sink.held c.args.out.now) (g.K.Sink.held c.loop-i.out) (g.K.Sink.faults c.args.out.now) (g.K.Sink.faults c.loop-i.out) (texts (known_in c.args.format.now) (lines_from c.args.setup.now 0 (histories c.args.groups.now))) xs) last c.loop-i.invariant)
+    (c.write_end_line.ensures (known_in c.args.format.now))

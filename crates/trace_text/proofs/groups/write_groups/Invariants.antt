@@ -1,5 +1,6 @@
 use Rattle.std.proofs.Common.{drop}
 use Rattle.trace_text.specs.Groups.{histories}
+use Rattle.trace_lines.specs.Known.{known_in}
 use Rattle.trace_text.specs.TraceText.{lines_from}
 use Rattle.trace_text.proofs.CameLaws.{Coming}
 use Rattle.trace_text.proofs.LineLaws.{texts}
@@ -9,4 +10,4 @@ use Rattle.trace_text.proofs.groups.write_groups.Given as goal
 abbrev pub invariant-loop-i : goal.invariant-loop-i
 invariant-loop-i g l =
     Coming (g.K.Sink.held l.initial.out) (g.K.Sink.held l.out) (g.K.Sink.faults l.initial.out) (g.K.Sink.faults l.out)
-    (texts (lines_from l.setup 0 (histories l.groups))) (texts (lines_from l.setup l.i (histories (drop l.i l.groups))))
+    (texts (known_in l.format) (lines_from l.setup 0 (histories l.groups))) (texts (known_in l.format) (lines_from l.setup l.i (histories (drop l.i l.groups))))
