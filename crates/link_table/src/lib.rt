@@ -7,7 +7,7 @@ ghost use Rattle.rt_base.specs.TaskNos.{number_of_task, numbers};
 ghost use Rattle.rt_rules.specs.Distinct.{IsDistinct};
 ghost use Rattle.rt_rules.specs.Numbers.{is};
 ghost use Rattle.rt_rules.specs.Placing.{placed};
-ghost use Rattle.link_table.specs.Linked.{after_irq, irq_reply, is_pending, link_of, runs_on, unlinked, with_run, IsAmong, IsOfCluster, IsSound, LinksAreOfProcessors, RunsAreOfProcessors, StaysAmong, StaysAmongWith};
+ghost use Rattle.link_table.specs.Linked.{after_irq, irq_reply, is_pending, link_of, runs_on, unlinked, with_run, IsAmong, IsOfCluster, IsSound, LinkedTopStays, LinksAreOfProcessors, PlacedLinksStay, RunsAreOfProcessors, StaysAmong, StaysAmongWith};
 
 mod marks;
 mod places;
@@ -209,6 +209,16 @@ pub fn links_are_of_processors()
 /// A task is in what a cluster runs exactly where some processor of the cluster runs it.
 pub fn runs_are_of_processors()
     ensures { RunsAreOfProcessors }
+{}
+
+/// Links that are placed stay so as a processor takes an interrupt, and as it comes to run nothing.
+pub fn placed_links_stay()
+    ensures { PlacedLinksStay }
+{}
+
+/// Links that are placed for a top are placed for each other top of the same tasks.
+pub fn linked_top_stays()
+    ensures { LinkedTopStays }
 {}
 
 #[cfg(test)]
