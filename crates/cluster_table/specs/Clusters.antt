@@ -20,10 +20,6 @@ fresh first cpus room = record { cpus = cpus; keys = replicate room None; linked
 abbrev pub with_key : ℕ → Option Key → KeptCluster → KeptCluster
 with_key t key c = record c { keys = slice_set c.keys t key }
 
--- an interrupt of the processor is pending and not deferred, where np says so of what it runs
-abbrev pub takes : ℕ → Bool → KeptCluster → Bool
-takes q np c = is_pending c.linked q && not (is_deferred c.linked q np)
-
 -- a processor takes an interrupt, where np says whether what it runs is non-preemptive
 abbrev pub after_take : ℕ → Bool → KeptCluster → KeptCluster
 after_take q np c = record c { linked = after_irq c.linked q np }

@@ -88,10 +88,10 @@ impl ReadyQueue {
         ensures same { result ≡ false → HaveSameFirst self.old self.new }
     {
         let was_first = self.take_out(task);
-        let is_first = match key {
-            Some(key) => self.put_in(task, key),
-            None => false,
+        let Some(key) = key else {
+            return was_first;
         };
+        let is_first = self.put_in(task, key);
         was_first != is_first
     }
 
@@ -122,13 +122,14 @@ impl ReadyQueue {
     {
         uncounted::put_in(&mut self.all, task, key);
         self.first.insert(key, task);
-        if self.first.as_slice().len() > self.most
-            && let Some(last) = self.first.pop()
-        {
-            uncounted::put_in(&mut self.rest, last.task, last.key);
-            return last.task.0 != task.0;
+        if self.first.as_slice().len() <= self.most {
+            return true;
         }
-        true
+        let Some(last) = self.first.pop() else {
+            return true;
+        };
+        uncounted::put_in(&mut self.rest, last.task, last.key);
+        last.task.0 != task.0
     }
 }
 
