@@ -1,5 +1,5 @@
 -- Links that were placed stay as they are while the top has the same tasks and processors run their links or nothing.
-use Rattle.std.proofs.Common.{◌≡◌, ◌≢◌, ℕ, zero, suc, ◌+◌, ◌-◌, ◌<◌, ◌≤◌, Bool, true, false, not, ◌&&◌, cond, eqb-true, ◌⊎◌, inl, inr, List, [], ◌∷◌, length, set, refl, sym, ap, ◌∙◌, subst, arith}
+use Rattle.std.proofs.Common.{◌≡◌, ◌≢◌, ℕ, suc, ◌-◌, ◌<◌, ◌≤◌, Bool, true, false, not, ◌&&◌, cond, eqb-true, ◌⊎◌, inl, inr, List, [], ◌∷◌, length, set, refl, sym, ap, ◌∙◌, subst, arith}
 use Rattle.std.proofs.lemmas.Bool.{cases_eq}
 use Rattle.std.specs.Prelude.{Option, None, Some, ◌==◌, filter}
 use Rattle.rt_rules.specs.Distinct.{IsDistinct}
@@ -8,7 +8,7 @@ use Rattle.rt_rules.specs.Placing.{at_place, filled_with, is_of, kept, kept_link
 use Rattle.rt_rules.proofs.BoolLaws.{clash, or_true, unless}
 use Rattle.rt_rules.proofs.LinkLaws.{has-at_place, links-runs}
 use Rattle.rt_rules.proofs.PlacingLaws.{equal_self, has-placed}
-use Rattle.link_table.specs.Linked.{Linked, IsSound, IsPlaced, LinkedTopStays, PlacedLinksStay, after_irq, is_deferred, is_pending, link_of, with_run}
+use Rattle.link_table.specs.Linked.{Linked, IsSound, IsPlaced, LinkedTopStays, PlacedLinksStay, is_deferred, is_pending, link_of, with_run}
 use Rattle.link_table.proofs.Filling.{filled-none}
 use Rattle.link_table.proofs.PlaceLaws.{at_place-set_other, at_place-set_same, place_of}
 use Rattle.link_table.proofs.SoundLaws.{sound-set}

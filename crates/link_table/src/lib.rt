@@ -117,7 +117,7 @@ impl Links {
     /// A task that runs on a processor is linked to it. One that runs nowhere keeps its link, unless that processor
     /// went to a task that runs there. The others take the free processors, lowest number first.
     ///
-    /// It looks once at each processor of the cluster and twice at each task of the top. Only a task whose number is
+    /// It goes twice over the processors of the cluster and twice over the top, at most. Only a task whose number is
     /// above `MOST_TASKS` is searched in the lists.
     ///
     /// Example: `links.place(&[TaskNo(3), TaskNo(1)])` links a new table's first two processors to tasks 3 and 1.

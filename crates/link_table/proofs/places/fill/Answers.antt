@@ -1,13 +1,10 @@
-use Rattle.std.proofs.Common.{◌≡◌, Bool, List, get_or, drop, false, not, length, ap, sym, subst, ◌∙◌, ◌+◌, ◌<◌, ◌∷◌, []}
+use Rattle.std.proofs.Common.{get_or, drop, not, ap, sym, ◌∙◌, ◌+◌, ◌∷◌, []}
 use Rattle.std.proofs.lemmas.List.{at_drop_more, at_drop_all}
-use Rattle.std.specs.Prelude.{None, Option}
-use Rattle.rt_base.specs.declared.TaskNo.{TaskNo}
 use Rattle.rt_base.specs.TaskNos.{numbers, numbers_of_tasks}
-use Rattle.rt_rules.specs.Numbers.{has}
 use Rattle.rt_rules.specs.Placing.{tasks_in}
 use Rattle.rt_rules.proofs.BoolLaws.{not_false, not_true}
 use Rattle.rt_rules.proofs.PlacingLaws.{beside}
-use Rattle.link_table.specs.Marks.{AreMarks, Says}
+use Rattle.link_table.specs.Marks.{AreMarks}
 use Rattle.link_table.proofs.Filling.{Leads, leads-same, leads-taken, leads-skipped, filled-none}
 use Rattle.link_table.proofs.MarkLaws.{first-says, marks-rest}
 use Rattle.link_table.proofs.places.fill.Goals as goal
