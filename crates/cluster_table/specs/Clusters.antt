@@ -1,10 +1,10 @@
 -- One cluster: the keys of its eligible tasks, and what its processors run and are linked to.
-use Rattle.std.specs.Prelude.{◌≡◌, ℕ, suc, ◌+◌, Bool, not, ◌&&◌, ◌==◌, List, [], ◌∷◌, ◌++◌, replicate, Option, None, Some, if◌then◌else◌, slice_set}
+use Rattle.std.specs.Prelude.{◌≡◌, ℕ, suc, ◌+◌, Bool, ◌==◌, List, [], ◌∷◌, ◌++◌, replicate, Option, None, Some, if◌then◌else◌, slice_set}
 use Rattle.rt_order.specs.declared.Key.{Key}
 use Rattle.rt_rules.specs.Placing.{placed}
 use Rattle.rt_task.specs.declared.Cluster as sets
 use Rattle.ready_queue.specs.Queue.{first_tasks}
-use Rattle.link_table.specs.Linked.{Linked, after_irq, is_deferred, is_pending, unlinked, with_run}
+use Rattle.link_table.specs.Linked.{Linked, after_irq, unlinked, with_run}
 
 -- at each task's number the key of its job, where that is eligible; the links and runs of the processors
 pub record KeptCluster : Type 0 where

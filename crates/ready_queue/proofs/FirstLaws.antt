@@ -1,10 +1,9 @@
 -- Which tasks are the first ones, as one task is given a key or taken out.
-use Rattle.std.proofs.Common.{◌≡◌, ℕ, zero, suc, ◌<◌, Bool, true, false, not, ◌||◌, cond, eqb-true, List, [], ◌∷◌, ◌++◌, length, map, set, take, refl, sym, ap, ◌∙◌, subst}
+use Rattle.std.proofs.Common.{◌≡◌, ℕ, zero, suc, ◌<◌, Bool, true, false, not, ◌||◌, cond, eqb-true, List, [], ◌∷◌, ◌++◌, length, set, take, refl, sym, ap, ◌∙◌, subst}
 use Rattle.std.proofs.lemmas.List.{set-get_or, take-map}
 use Rattle.std.specs.Prelude.{◌==◌, Option, None, Some, is_some, unwrap_or}
 use Rattle.rt_order.specs.declared.Key.{Key}
 use Rattle.rt_order.specs.KeyOrder.{lowest_key}
-use Rattle.rt_rules.specs.Distinct.{IsDistinct}
 use Rattle.rt_rules.specs.Keys.{Ranked, ahead, inserted}
 use Rattle.rt_rules.specs.Numbers.{has, numbers_from}
 use Rattle.rt_rules.specs.Rankings.{tasks_of, without_task}
@@ -15,9 +14,8 @@ use Rattle.rt_rules.proofs.RankedByLaws.{distinct-ranked_by}
 use Rattle.rt_rules.proofs.RankedLaws.{has-inserted, has-take}
 use Rattle.ready_heap.specs.Row.{key_at}
 use Rattle.ready_queue.specs.Queue.{HaveSameFirst, IsSplit, Queue, first_tasks, in_order, is_first, is_in, key_in, moves}
-use Rattle.ready_queue.specs.Refreshed.{put_back}
 use Rattle.ready_queue.proofs.ReadySets.{at_set}
-use Rattle.ready_queue.proofs.SplitLaws.{has-without, in-front, in_order-set, last-apart, split-put_in}
+use Rattle.ready_queue.proofs.SplitLaws.{has-without, in-front, in_order-set, last-apart}
 
 -- ---- one task put in among others
 

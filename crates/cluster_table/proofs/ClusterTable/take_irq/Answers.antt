@@ -1,6 +1,5 @@
-use Rattle.std.proofs.Common.{◌≡◌, true, List, get_or, ap, sym, ◌∙◌, arith}
+use Rattle.std.proofs.Common.{◌≡◌, List, get_or, ap}
 use Rattle.std.specs.Prelude.{None, Option, Some}
-use Rattle.rt_base.specs.declared.ClusterNo.{ClusterNo}
 use Rattle.cluster_table.specs.Clusters.{KeptCluster, after_take}
 use Rattle.cluster_table.specs.Table.{cluster_numbers}
 use Rattle.cluster_table.proofs.Listed.{listed-stays}
