@@ -1,19 +1,19 @@
--- Placing the first tasks of a cluster once settles its links.
-use Rattle.std.proofs.Common.{◌≡◌, ℕ, zero, suc, ◌≤◌, Bool, true, false, not, ◌&&◌, cond, List, [], ◌∷◌, length, replicate, refl, sym, ap, ◌∙◌, arith}
-use Rattle.std.specs.Prelude.{Option, None, Some}
+-- Placing the first tasks of a cluster once settles its links, until others are the first tasks.
+use Rattle.std.proofs.Common.{◌≡◌, ℕ, zero, suc, ◌≤◌, Bool, List, [], ◌∷◌, length, replicate, set, refl, sym, ap, ◌∙◌, arith}
+use Rattle.std.specs.Prelude.{Option, None}
 use Rattle.std.proofs.lemmas.List.{take-map}
-use Rattle.rt_base.specs.declared.TaskNo.{TaskNo}
-use Rattle.rt_history.specs.declared.Reply.TheVariants.{Deferred, Idles, Quiet, Runs}
+use Rattle.rt_order.specs.declared.Key.{Key}
 use Rattle.rt_rules.specs.Keys.{Ranked}
 use Rattle.rt_rules.specs.Placing.{kept, tasks_in}
 use Rattle.rt_rules.specs.Rankings.{tasks_of}
 use Rattle.rt_laws.proofs.PlacedAgain.{placed-again}
-use Rattle.ready_queue.specs.Queue.{first_tasks, in_order}
+use Rattle.ready_queue.specs.Queue.{HaveSameFirst, first_tasks, in_order}
 use Rattle.ready_queue.proofs.SplitLaws.{split-none}
-use Rattle.link_table.specs.Linked.{Linked, IsSound, after_irq, irq_reply, is_deferred, is_pending, link_of, link_reply, with_run}
+use Rattle.link_table.specs.Linked.{IsOfCluster, IsSound}
 use Rattle.link_table.proofs.Filling.{filled-none}
+use Rattle.link_table.proofs.StayLaws.{linked_top-stays, placed_links-stay}
 use Rattle.cluster_table.proofs.FirstTasks.{distinct-first_tasks, few-first_tasks}
-use Rattle.cluster_table.specs.Clusters.{KeptCluster, IsSettled, fresh, relinked}
+use Rattle.cluster_table.specs.Clusters.{KeptCluster, IsSettled, after_take, fresh, left_by, relinked, with_key}
 
 pub settled-relinked : (k : KeptCluster) → IsSound k.linked → k.cpus ≡ length k.linked.runs → IsSettled (relinked k)
 settled-relinked k sound all =
@@ -37,13 +37,16 @@ settled-fresh first cpus room = rw none (rw (idle (tasks_in (replicate cpus None
     idle running zero = refl
     idle running (suc n) = ap (λ ls. None ∷ ls) (idle running n)
 
--- an interrupt that is answered otherwise changes nothing
-pub untaken : (l : Linked) (q : ℕ) (np : Bool) → ((t : TaskNo) → irq_reply l q np ≡ Runs t → ⊥) → (irq_reply l q np ≡ Idles → ⊥) → after_irq l q np ≡ l
-untaken l q np no_run no_idle = by_case (is_pending l q) (is_deferred l q np) (link_of l q) no_run no_idle
-  where
-    by_case : (pending deferred : Bool) (o : Option ℕ) → ((t : TaskNo) → cond pending (cond deferred Deferred (link_reply o)) Quiet ≡ Runs t → ⊥)
-        → (cond pending (cond deferred Deferred (link_reply o)) Quiet ≡ Idles → ⊥) → cond (pending && not deferred) (with_run l q o) l ≡ l
-    by_case true false (Some t) run idle = absurd (run (record { 0 = t }) refl)
-    by_case true false None run idle = absurd (idle refl)
-    by_case true true o run idle = refl
-    by_case false deferred o run idle = refl
+-- links that are placed stay so as a processor takes an interrupt, and as it comes to run nothing
+pub settled-run : (k : KeptCluster) (q : ℕ) (np : Bool) → IsSound k.linked → k.cpus ≡ length k.linked.runs → IsOfCluster k.linked q → IsSettled k
+    → IsSettled (after_take q np k) × IsSettled (left_by q k)
+settled-run k q np sound all of_cluster settled =
+    let few = few-first_tasks k.cpus k.keys in
+    placed_links-stay k.linked (first_tasks k.cpus k.keys) q np sound of_cluster (distinct-first_tasks k.cpus k.keys) (omega (arith, few, all)) settled
+
+-- and as a task is given a key, where the first of the eligible tasks are the same ones
+pub settled-with_key : (k : KeptCluster) (t : ℕ) (key : Option Key) → IsSound k.linked → k.cpus ≡ length k.linked.runs
+    → HaveSameFirst (record { most = k.cpus; keys = k.keys }) (record { most = k.cpus; keys = set k.keys t key }) → IsSettled k → IsSettled (with_key t key k)
+settled-with_key k t key sound all same settled =
+    let few = few-first_tasks k.cpus k.keys in
+    linked_top-stays k.linked (first_tasks k.cpus k.keys) (first_tasks k.cpus (set k.keys t key)) sound (distinct-first_tasks k.cpus k.keys) (omega (arith, few, all)) same settled

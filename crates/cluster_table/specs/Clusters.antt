@@ -1,10 +1,10 @@
 -- One cluster: the keys of its eligible tasks, and what its processors run and are linked to.
-use Rattle.std.specs.Prelude.{◌≡◌, ℕ, suc, ◌+◌, Bool, not, ◌&&◌, ◌==◌, List, [], ◌∷◌, ◌++◌, replicate, Option, None, Some, if◌then◌else◌, slice_set}
+use Rattle.std.specs.Prelude.{◌≡◌, ℕ, suc, ◌+◌, Bool, ◌==◌, List, [], ◌∷◌, ◌++◌, replicate, Option, None, Some, if◌then◌else◌, slice_set}
 use Rattle.rt_order.specs.declared.Key.{Key}
 use Rattle.rt_rules.specs.Placing.{placed}
 use Rattle.rt_task.specs.declared.Cluster as sets
 use Rattle.ready_queue.specs.Queue.{first_tasks}
-use Rattle.link_table.specs.Linked.{Linked, after_irq, is_deferred, is_pending, unlinked, with_run}
+use Rattle.link_table.specs.Linked.{Linked, after_irq, unlinked, with_run}
 
 -- at each task's number the key of its job, where that is eligible; the links and runs of the processors
 pub record KeptCluster : Type 0 where
@@ -19,10 +19,6 @@ fresh first cpus room = record { cpus = cpus; keys = replicate room None; linked
 -- a task has this key, or is not eligible
 abbrev pub with_key : ℕ → Option Key → KeptCluster → KeptCluster
 with_key t key c = record c { keys = slice_set c.keys t key }
-
--- an interrupt of the processor is pending and not deferred, where np says so of what it runs
-abbrev pub takes : ℕ → Bool → KeptCluster → Bool
-takes q np c = is_pending c.linked q && not (is_deferred c.linked q np)
 
 -- a processor takes an interrupt, where np says whether what it runs is non-preemptive
 abbrev pub after_take : ℕ → Bool → KeptCluster → KeptCluster

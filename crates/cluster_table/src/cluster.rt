@@ -1,8 +1,8 @@
-//! One cluster, whose links are placed anew where a key or what runs has changed.
-ghost use Rattle.std.specs.Prelude.{◌≡◌, ◌<◌, ◌&&◌, true, false, not, IfOk, length};
+//! One cluster, whose links are placed anew where others are the first of its eligible tasks.
+ghost use Rattle.std.specs.Prelude.{◌≡◌, ◌<◌, true, IfOk, length};
 ghost use Rattle.rt_base.specs.TaskNos.{number_of_task};
 ghost use Rattle.link_table.specs.Linked.{IsOfCluster, irq_reply, link_of, runs_on};
-ghost use Rattle.cluster_table.specs.Clusters.{IsSettled, after_take, fresh, left_by, relinked, takes, with_key};
+ghost use Rattle.cluster_table.specs.Clusters.{IsSettled, after_take, fresh, left_by, relinked, with_key};
 ghost use Rattle.cluster_table.specs.Placed.{as_placed};
 
 use link_table::Links;
@@ -91,16 +91,16 @@ impl ClusterState {
         self.links.runs(q)
     }
 
-    /// Gives the task this key, or says that it is not eligible.
+    /// Gives the task this key, or says that it is not eligible. The links stay placed where the first of the eligible
+    /// tasks are the same ones.
     pub(crate) fn set(&mut self, task: TaskNo, key: Option<Key>)
         requires { task.0 < length self.old.cluster.keys }
-        ensures { self.new ≡ record {
-          cluster = with_key task.0 key self.old.cluster;
-          is_placed = false;
-        } }
+        ensures cluster { self.new.cluster ≡ with_key task.0 key self.old.cluster }
+        ensures placed { self.new.is_placed ≡ true → self.old.is_placed ≡ true }
     {
-        self.queue.set(task, key);
-        self.is_placed = false;
+        if self.queue.set(task, key) {
+            self.is_placed = false;
+        }
     }
 
     /// Takes an interrupt at the processor, where `np` says whether what it runs is non-preemptive. Where the reply is
@@ -109,25 +109,19 @@ impl ClusterState {
         requires { IsOfCluster self.old.cluster.linked q.0 }
         ensures reply { result ≡ irq_reply self.old.cluster.linked q.0 np }
         ensures cluster { self.new.cluster ≡ after_take q.0 np self.old.cluster }
-        ensures placed { self.new.is_placed
-            ≡ self.old.is_placed && not (takes q.0 np self.old.cluster) }
+        ensures placed { self.new.is_placed ≡ self.old.is_placed }
+        ensures settled { self.new.is_placed ≡ true → IsSettled self.new.cluster }
     {
-        let reply = self.links.take_irq(q, np);
-        if matches!(reply, Reply::Runs(_) | Reply::Idles) {
-            self.is_placed = false;
-        }
-        reply
+        self.links.take_irq(q, np)
     }
 
     /// The processor runs nothing from now on.
     pub(crate) fn leave(&mut self, q: CpuNo)
         requires { IsOfCluster self.old.cluster.linked q.0 }
-        ensures { self.new ≡ record {
-          cluster = left_by q.0 self.old.cluster;
-          is_placed = false;
-        } }
+        ensures cluster { self.new.cluster ≡ left_by q.0 self.old.cluster }
+        ensures placed { self.new.is_placed ≡ self.old.is_placed }
+        ensures settled { self.new.is_placed ≡ true → IsSettled self.new.cluster }
     {
-        self.is_placed = false;
         self.links.leave(q);
     }
 

@@ -132,7 +132,6 @@ impl ClusterTable {
     }
 
     /// Takes an interrupt at a processor of the cluster, where `np` says whether what it runs is non-preemptive.
-    /// The links follow at `place_changed`.
     pub fn take_irq(&mut self, c: ClusterNo, q: CpuNo, np: bool) -> Reply
         requires { HasProcessor self.old c.0 q.0 }
         ensures reply { (k : KeptCluster) → cluster_at self.old c.0 ≡ Some k
@@ -142,14 +141,10 @@ impl ClusterTable {
         let Some(cluster) = &mut self.clusters[c.0 as usize] else {
             return Reply::Quiet;
         };
-        let was_placed = cluster.is_placed();
-        let reply = cluster.take_irq(q, np);
-        let is_placed = cluster.is_placed();
-        list_unplaced(&mut self.changed, c, was_placed, is_placed);
-        reply
+        cluster.take_irq(q, np)
     }
 
-    /// A processor of the cluster runs nothing from now on. The links follow at `place_changed`.
+    /// A processor of the cluster runs nothing from now on.
     pub fn leave(&mut self, c: ClusterNo, q: CpuNo)
         requires { HasProcessor self.old c.0 q.0 }
         ensures { self.new ≡ changed_at c.0 (left_by q.0) self.old }
@@ -157,13 +152,11 @@ impl ClusterTable {
         let Some(cluster) = &mut self.clusters[c.0 as usize] else {
             return;
         };
-        let was_placed = cluster.is_placed();
         cluster.leave(q);
-        let is_placed = cluster.is_placed();
-        list_unplaced(&mut self.changed, c, was_placed, is_placed);
     }
 
-    /// Links the first of the eligible tasks in each cluster in which a key or what runs has changed.
+    /// Links the first of the eligible tasks in each cluster. It looks only at those in which others have become the
+    /// first ones: where they are the same, the links stay as they are, whatever runs.
     pub fn place_changed(&mut self)
         ensures { self.new ≡ record self.old {
           clusters = map (option_map relinked) self.old.clusters;

@@ -42,8 +42,8 @@ module _ (all : List ℕ) (first now : List (Option ℕ)) (t : ℕ) (ts : List �
   equal_self : (u : ℕ) → u == u ≡ true
   equal_self u = grind (arith, nat_tests)
 
-  there : has t (tasks_in now) ≡ has t (tasks_in first)
-  there = leads.same t (rw (equal_self t))
+  pub leads-same : has t (tasks_in now) ≡ has t (tasks_in first)
+  leads-same = leads.same t (rw (equal_self t))
 
   or_true : (a : Bool) → a || true ≡ true
   or_true true = refl
@@ -51,7 +51,7 @@ module _ (all : List ℕ) (first now : List (Option ℕ)) (t : ℕ) (ts : List �
 
   pub leads-taken : has t (tasks_in now) ≡ false → Leads all first (first_taken t now) ts
   leads-taken free =
-      let away : has t (tasks_in first) ≡ false = sym there ∙ free in
+      let away : has t (tasks_in first) ≡ false = sym leads-same ∙ free in
       let whole : filled now (beside (tasks_in first) (t ∷ ts)) ≡ filled now (t ∷ beside (tasks_in first) ts) = rw away in
       record {
         rest = filled-first t _ now ∙ sym whole ∙ leads.rest;
@@ -65,7 +65,7 @@ module _ (all : List ℕ) (first now : List (Option ℕ)) (t : ℕ) (ts : List �
 
   pub leads-skipped : has t (tasks_in now) ≡ true → Leads all first now ts
   leads-skipped linked =
-      let here : has t (tasks_in first) ≡ true = sym there ∙ linked in
+      let here : has t (tasks_in first) ≡ true = sym leads-same ∙ linked in
       let whole : filled now (beside (tasks_in first) (t ∷ ts)) ≡ filled now (beside (tasks_in first) ts) = rw here in
       record {
         rest = sym whole ∙ leads.rest;

@@ -3,3 +3,4 @@ pub mod MarkLaws
 pub mod PlaceLaws
 pub mod SoundLaws
 pub mod AmongLaws
+pub mod StayLaws

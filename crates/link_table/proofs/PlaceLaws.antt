@@ -15,6 +15,11 @@ read-at_place [] k o h is = absurd (omega arith)
 read-at_place (x ∷ os) zero o h is = ap number_of_task is
 read-at_place (x ∷ os) (suc k) o h is = read-at_place os k o (omega arith) is
 
+pub at_place-numbers : (os : List (Option TaskNo)) (k : ℕ) → number_of_task (get_or os k None) ≡ at_place (numbers_of_tasks os) k
+at_place-numbers [] k = refl
+at_place-numbers (x ∷ os) zero = refl
+at_place-numbers (x ∷ os) (suc k) = at_place-numbers os k
+
 pub numbers_of_tasks-set : (os : List (Option TaskNo)) (k : ℕ) (o : Option TaskNo) → numbers_of_tasks (set os k o) ≡ set (numbers_of_tasks os) k (number_of_task o)
 numbers_of_tasks-set [] k o = refl
 numbers_of_tasks-set (x ∷ os) zero o = refl

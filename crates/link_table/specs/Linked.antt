@@ -5,7 +5,7 @@ use Rattle.rt_history.specs.declared.Reply.{Reply}
 use Rattle.rt_history.specs.declared.Reply.TheVariants.{Quiet, Deferred, Runs, Idles}
 use Rattle.rt_rules.specs.Numbers.{has, is, same}
 use Rattle.rt_rules.specs.Distinct.{IsDistinct}
-use Rattle.rt_rules.specs.Placing.{tasks_in, at_place}
+use Rattle.rt_rules.specs.Placing.{tasks_in, at_place, placed}
 
 -- the first processor of a cluster, what each one runs, and the task that each one is linked to
 pub record Linked : Type 0 where
@@ -70,6 +70,20 @@ StaysAmong old new = (ts : List ℕ) → IsAmong ts old → IsAmong ts new
 -- and where the top is of these tasks too
 abbrev pub StaysAmongWith : List ℕ → Linked → Linked → Type 0
 StaysAmongWith top old new = (ts : List ℕ) → ((t : ℕ) → has t top ≡ true → has t ts ≡ true) → IsAmong ts old → IsAmong ts new
+
+-- placing this top again changes no link
+abbrev pub IsPlaced : List ℕ → Linked → Type 0
+IsPlaced top l = placed top l.runs l.links ≡ l.links
+
+-- that stays so as a processor takes an interrupt, and as it comes to run nothing
+abbrev pub PlacedLinksStay : Type 0
+PlacedLinksStay = (l : Linked) (top : List ℕ) (q : ℕ) (np : Bool) → IsSound l → IsOfCluster l q → IsDistinct top → length top ≤ length l.runs
+    → IsPlaced top l → IsPlaced top (after_irq l q np) × IsPlaced top (with_run l q None)
+
+-- and it is so of each other top of the same tasks
+abbrev pub LinkedTopStays : Type 0
+LinkedTopStays = (l : Linked) (top other : List ℕ) → IsSound l → IsDistinct top → length top ≤ length l.runs → ((t : ℕ) → has t top ≡ has t other)
+    → IsPlaced top l → IsPlaced other l
 
 -- a task stands among the links exactly where some processor of the cluster is linked to it
 abbrev pub LinksAreOfProcessors : Type 0

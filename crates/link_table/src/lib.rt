@@ -7,7 +7,7 @@ ghost use Rattle.rt_base.specs.TaskNos.{number_of_task, numbers};
 ghost use Rattle.rt_rules.specs.Distinct.{IsDistinct};
 ghost use Rattle.rt_rules.specs.Numbers.{is};
 ghost use Rattle.rt_rules.specs.Placing.{placed};
-ghost use Rattle.link_table.specs.Linked.{after_irq, irq_reply, is_pending, link_of, runs_on, unlinked, with_run, IsAmong, IsOfCluster, IsSound, LinksAreOfProcessors, RunsAreOfProcessors, StaysAmong, StaysAmongWith};
+ghost use Rattle.link_table.specs.Linked.{after_irq, irq_reply, is_pending, link_of, runs_on, unlinked, with_run, IsAmong, IsOfCluster, IsSound, LinkedTopStays, LinksAreOfProcessors, PlacedLinksStay, RunsAreOfProcessors, StaysAmong, StaysAmongWith};
 
 mod marks;
 mod places;
@@ -26,14 +26,16 @@ pub struct Links {
     first: u32,
     runs: Vec<Option<TaskNo>>,
     links: Vec<Option<TaskNo>>,
+    // What runs.
+    run_marks: TaskMarks,
     // All clear between calls.
     top_marks: TaskMarks,
-    link_marks: TaskMarks,
 }
 
 impl Model for Links {
     ghost use Rattle.std.specs.Prelude.{[]};
     ghost use Rattle.rt_base.specs.TaskNos.{numbers_of_tasks};
+    ghost use Rattle.rt_rules.specs.Placing.{tasks_in};
     ghost use Rattle.link_table.specs.Linked.{Linked, IsSound};
     ghost use Rattle.link_table.specs.Marks.{AreMarks};
 
@@ -49,7 +51,7 @@ impl Model for Links {
       first = a.first;
       runs = numbers_of_tasks a.runs.items;
       links = numbers_of_tasks a.links.items;
-    }) × AreMarks a.top_marks [] × AreMarks a.link_marks [] };
+    }) × AreMarks a.top_marks [] × AreMarks a.run_marks (tasks_in (numbers_of_tasks a.runs.items)) };
 }
 
 impl Links {
@@ -67,14 +69,14 @@ impl Links {
         let Ok(links) = vec![in alloc; None; cpus as usize] else {
             return Err(NoMemory);
         };
+        let run_marks = TaskMarks::new(alloc)?;
         let top_marks = TaskMarks::new(alloc)?;
-        let link_marks = TaskMarks::new(alloc)?;
         Ok(Links {
             first: first.0,
             runs,
             links,
+            run_marks,
             top_marks,
-            link_marks,
         })
     }
 
@@ -115,8 +117,8 @@ impl Links {
     /// A task that runs on a processor is linked to it. One that runs nowhere keeps its link, unless that processor
     /// went to a task that runs there. The others take the free processors, lowest number first.
     ///
-    /// It costs about ten looks or writes for each processor of the cluster and three for each task of the top. Only
-    /// a task whose number is above `MOST_TASKS` is searched in the lists.
+    /// It goes twice over the processors of the cluster and twice over the top, at most. Only a task whose number is
+    /// above `MOST_TASKS` is searched in the lists.
     ///
     /// Example: `links.place(&[TaskNo(3), TaskNo(1)])` links a new table's first two processors to tasks 3 and 1.
     pub fn place(&mut self, top: &[TaskNo])
@@ -133,7 +135,7 @@ impl Links {
             self.runs.as_slice(),
             self.links.as_mut_slice(),
             &mut self.top_marks,
-            &mut self.link_marks,
+            &self.run_marks,
         );
     }
 
@@ -187,6 +189,8 @@ impl Links {
         ensures sound { IsSound self.new }
     {
         let place = self.place_of(q);
+        self.run_marks.set_of(self.runs[place], false);
+        self.run_marks.set_of(task, true);
         self.runs[place] = task;
     }
 
@@ -209,4 +213,14 @@ pub fn links_are_of_processors()
 /// A task is in what a cluster runs exactly where some processor of the cluster runs it.
 pub fn runs_are_of_processors()
     ensures { RunsAreOfProcessors }
+{}
+
+/// Links that are placed stay so as a processor takes an interrupt, and as it comes to run nothing.
+pub fn placed_links_stay()
+    ensures { PlacedLinksStay }
+{}
+
+/// Links that are placed for a top are placed for each other top of the same tasks.
+pub fn linked_top_stays()
+    ensures { LinkedTopStays }
 {}

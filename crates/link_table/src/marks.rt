@@ -1,9 +1,9 @@
 //! Marks of tasks: whether a task is in a list, without a search.
-ghost use Rattle.std.specs.Prelude.{◌≡◌, ◌<◌, ◌≤◌, IfNone, IfOk, IfSome, false, length, slice_index_or, true, [], ◌∷◌, slice_set};
-ghost use Rattle.rt_base.specs.TaskNos.{numbers, numbers_of_tasks};
+ghost use Rattle.std.specs.Prelude.{◌≡◌, ◌<◌, ◌≤◌, IfNone, IfOk, IfSome, false, length, slice_index_or, not, true, [], ◌∷◌, slice_set};
+ghost use Rattle.rt_base.specs.TaskNos.{number_of_task, numbers, numbers_of_tasks};
 ghost use Rattle.rt_rules.specs.Numbers.{has};
 ghost use Rattle.rt_rules.specs.Placing.{tasks_in};
-ghost use Rattle.link_table.specs.Marks.{AreMarks};
+ghost use Rattle.link_table.specs.Marks.{AreMarks, Says, with_mark};
 
 use rt_base::{MOST_TASKS, NoMemory, TaskNo};
 use std::alloc::Global;
@@ -67,19 +67,18 @@ impl TaskMarks {
         }
     }
 
-    /// Clears the marks of the tasks.
-    pub(crate) fn clear_tasks(&mut self, ts: &[TaskNo])
-        requires { AreMarks self.old (numbers ts.now) }
-        ensures { AreMarks self.new [] }
+    /// Marks the task or clears its mark, where there is one.
+    pub(crate) fn set_of(&mut self, o: Option<TaskNo>, marked: bool)
+        ensures { self.new ≡ with_mark self.old (number_of_task o) marked }
     {
-        for t in ts {
-            self.set(*t, false);
+        if let Some(t) = o {
+            self.set(t, marked);
         }
     }
 
-    /// Whether the task is among those that are marked.
+    /// Whether the task is in the list, where its mark says so.
     pub(crate) fn is_among(&self, ts: &[TaskNo], t: TaskNo) -> bool
-        requires { AreMarks self.now (numbers ts.now) }
+        requires { Says self.now t.0 (has t.0 (numbers ts.now)) }
         ensures { result ≡ has t.0 (numbers ts.now) }
     {
         match self.get(t) {
@@ -88,38 +87,25 @@ impl TaskMarks {
         }
     }
 
-    /// Marks the tasks of the processors, where all marks are clear.
-    pub(crate) fn mark_links(&mut self, links: &[Option<TaskNo>])
-        requires { AreMarks self.old [] }
-        ensures { AreMarks self.new (tasks_in (numbers_of_tasks links.now)) }
-    {
-        for o in links {
-            if let Some(t) = o {
-                self.set(*t, true);
-            }
-        }
-    }
-
-    /// Clears the marks of the tasks of the processors.
-    pub(crate) fn clear_links(&mut self, links: &[Option<TaskNo>])
-        requires { AreMarks self.old (tasks_in (numbers_of_tasks links.now)) }
-        ensures { AreMarks self.new [] }
-    {
-        for o in links {
-            if let Some(t) = o {
-                self.set(*t, false);
-            }
-        }
-    }
-
-    /// Whether the task is among those of the processors, which are marked.
+    /// Whether the task is among those of the processors, where its mark says so.
     pub(crate) fn is_linked(&self, links: &[Option<TaskNo>], t: TaskNo) -> bool
-        requires { AreMarks self.now (tasks_in (numbers_of_tasks links.now)) }
+        requires { Says self.now t.0 (has t.0 (tasks_in (numbers_of_tasks links.now))) }
         ensures { result ≡ has t.0 (tasks_in (numbers_of_tasks links.now)) }
     {
         match self.get(t) {
             Some(marked) => marked,
             None => is_linked(links, t),
+        }
+    }
+
+    /// Whether the task is none of those of the processors, where its mark says so.
+    pub(crate) fn is_left(&self, links: &[Option<TaskNo>], t: TaskNo) -> bool
+        requires { Says self.now t.0 (not (has t.0 (tasks_in (numbers_of_tasks links.now)))) }
+        ensures { result ≡ not (has t.0 (tasks_in (numbers_of_tasks links.now))) }
+    {
+        match self.get(t) {
+            Some(marked) => marked,
+            None => !is_linked(links, t),
         }
     }
 }

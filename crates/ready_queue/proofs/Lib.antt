@@ -1,3 +1,4 @@
 pub mod Refreshing
 pub mod ReadySets
 pub mod SplitLaws
+pub mod FirstLaws

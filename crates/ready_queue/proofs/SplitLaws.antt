@@ -168,7 +168,7 @@ rest-in_order (x ∷ top) later keys rest room split are =
     by_case t false e = are t ∙ rw (e, at_set keys x.task t None low) (rw e)
 
 -- a list in which each task stands once, without one of them
-has-without : (t u : ℕ) (rs : List Ranked) → IsDistinct (tasks_of rs) → has u (tasks_of (without_task t rs)) ≡ cond (u == t) false (has u (tasks_of rs))
+pub has-without : (t u : ℕ) (rs : List Ranked) → IsDistinct (tasks_of rs) → has u (tasks_of (without_task t rs)) ≡ cond (u == t) false (has u (tasks_of rs))
 has-without t u [] d = none (u == t)
   where
     none : (b : Bool) → false ≡ cond b false false
@@ -393,7 +393,7 @@ module _ (q : Queue) (top : List Ranked) (rest : List (Option Key)) (s : IsSplit
           within (x ∷ ks) zero j h = omega arith
           within (x ∷ ks) (suc u) j h = omega (arith, within ks u j h)
 
-      last-apart : has l.task (tasks_of front) ≡ false
+      pub last-apart : has l.task (tasks_of front) ≡ false
       last-apart = alone front (subst (λ rs. IsDistinct (tasks_of rs)) is (distinct-inserted (record { key = k; task = t }) top (absent-top t none) distinct-top))
         where
           alone : (rs : List Ranked) → IsDistinct (tasks_of (rs ++ l ∷ [])) → has l.task (tasks_of rs) ≡ false
@@ -403,7 +403,7 @@ module _ (q : Queue) (top : List Ranked) (rest : List (Option Key)) (s : IsSplit
               let other : l.task == r.task ≡ false = turned l.task r.task ∙ (neither (r.task == l.task) false q.1).0 in
               rw other (alone rs d.1)
 
-      in-front : (u : ℕ) → u == l.task ≡ false → has u (tasks_of front) ≡ u == t || has u (tasks_of top)
+      pub in-front : (u : ℕ) → u == l.task ≡ false → has u (tasks_of front) ≡ u == t || has u (tasks_of top)
       in-front u other =
           let whole : has u (tasks_of (front ++ l ∷ [])) ≡ u == t || has u (tasks_of top) = ap (λ rs. has u (tasks_of rs)) (sym is) ∙ has-inserted u (record { key = k; task = t }) top in
           let parts : has u (tasks_of (front ++ l ∷ [])) ≡ has u (tasks_of front) || (u == l.task || false) = has-append u front (l ∷ []) in

@@ -1,10 +1,10 @@
 //! The ready tasks of a cluster by key, with the first of them kept in order beside the rest.
 #![tactic(auto)]
 
-ghost use Rattle.std.specs.Prelude.{◌≡◌, ◌<◌, ◌≤◌, IfOk, Some, None, [], length, map, replicate, slice_set, vec_capacity};
+ghost use Rattle.std.specs.Prelude.{◌≡◌, ◌<◌, ◌≤◌, IfOk, Some, None, false, [], length, map, replicate, slice_set, vec_capacity};
 ghost use Rattle.rt_base.specs.TaskNos.{numbers};
 ghost use Rattle.ready_heap.specs.Row.{key_at};
-ghost use Rattle.ready_queue.specs.Queue.{first_tasks};
+ghost use Rattle.ready_queue.specs.Queue.{HaveSameFirst, first_tasks, is_first, moves};
 
 mod ranked_list;
 
@@ -77,44 +77,58 @@ impl ReadyQueue {
         ranked_list::copy_tasks(self.first.as_slice(), into);
     }
 
-    /// Gives the task this key, or takes it out, whether it is in or not.
+    /// Gives the task this key, or takes it out, whether it is in or not. Whether it comes to be one of the first tasks
+    /// or no longer is one; where it says false, the first tasks are the same ones, in whatever order.
     ///
     /// Example: `queue.set(TaskNo(3), Some(key))` makes task 3 ready, and `queue.set(TaskNo(3), None)` takes it out.
-    pub fn set(&mut self, task: TaskNo, key: Option<Key>)
+    pub fn set(&mut self, task: TaskNo, key: Option<Key>) -> bool
         requires { task.0 < length self.old.keys }
-        ensures { self.new ≡ record self.old { keys = slice_set self.old.keys task.0 key } }
+        ensures keys { self.new ≡ record self.old { keys = slice_set self.old.keys task.0 key } }
+        ensures moves { result ≡ moves (is_first self.old task.0) (is_first self.new task.0) }
+        ensures same { result ≡ false → HaveSameFirst self.old self.new }
     {
-        self.take_out(task);
-        if let Some(key) = key {
-            self.put_in(task, key);
-        }
+        let was_first = self.take_out(task);
+        let Some(key) = key else {
+            return was_first;
+        };
+        let is_first = self.put_in(task, key);
+        was_first != is_first
     }
 
-    fn take_out(&mut self, task: TaskNo)
+    // Whether the task was one of the first ones.
+    fn take_out(&mut self, task: TaskNo) -> bool
         requires { task.0 < length self.old.keys }
-        ensures { self.new ≡ record self.old { keys = slice_set self.old.keys task.0 None } }
+        ensures keys { self.new ≡ record self.old { keys = slice_set self.old.keys task.0 None } }
+        ensures was_first { result ≡ is_first self.old task.0 }
     {
         uncounted::take_out(&mut self.all, task);
         if !self.first.remove(task) {
             uncounted::take_out(&mut self.rest, task);
-            return;
+            return false;
         }
         if let Some((next, key)) = uncounted::take_first(&mut self.rest) {
             self.first.push(key, next);
         }
+        true
     }
 
-    fn put_in(&mut self, task: TaskNo, key: Key)
+    // Whether the task is one of the first ones.
+    fn put_in(&mut self, task: TaskNo, key: Key) -> bool
         requires room { task.0 < length self.old.keys }
         requires absent { key_at self.old.keys task.0 ≡ None }
-        ensures { self.new ≡ record self.old { keys = slice_set self.old.keys task.0 (Some key) } }
+        ensures keys { self.new
+            ≡ record self.old { keys = slice_set self.old.keys task.0 (Some key) } }
+        ensures is_first { result ≡ is_first self.new task.0 }
     {
         uncounted::put_in(&mut self.all, task, key);
         self.first.insert(key, task);
-        if self.first.as_slice().len() > self.most
-            && let Some(last) = self.first.pop()
-        {
-            uncounted::put_in(&mut self.rest, last.task, last.key);
+        if self.first.as_slice().len() <= self.most {
+            return true;
         }
+        let Some(last) = self.first.pop() else {
+            return true;
+        };
+        uncounted::put_in(&mut self.rest, last.task, last.key);
+        last.task.0 != task.0
     }
 }

@@ -1,12 +1,8 @@
-use Rattle.std.proofs.Common.{◌≡◌, true, List, get_or, ap, sym, ◌∙◌, arith}
-use Rattle.std.proofs.lemmas.List.{length-map}
+use Rattle.std.proofs.Common.{◌≡◌, List, get_or, ap}
 use Rattle.std.specs.Prelude.{None, Option, Some}
-use Rattle.rt_base.specs.declared.ClusterNo.{ClusterNo}
-use Rattle.rt_rules.proofs.BoolLaws.{clash}
 use Rattle.cluster_table.specs.Clusters.{KeptCluster, left_by}
-use Rattle.cluster_table.specs.Placed.{PlacedCluster}
 use Rattle.cluster_table.specs.Table.{cluster_numbers}
-use Rattle.cluster_table.proofs.Listed.{listed-set, room-listed}
+use Rattle.cluster_table.proofs.Listed.{listed-stays}
 use Rattle.cluster_table.proofs.Seen.{read-cluster, seen-set}
 use Rattle.cluster_table.proofs.ClusterTable.leave.Goals as goal
 use Rattle.cluster_table.proofs.ClusterTable.leave.Goals.{In-Some}
@@ -17,27 +13,15 @@ at c =
     let there = rw (← c.self.view_is) at c.requires in
     read-cluster c.self.inside.clusters.items c.args.c.0 c.index_mut.result.now c.in-Some.cluster there.0 there.1 c.index_mut.ensures.value c.in-Some.is
 
-pub list_unplaced-requires : goal.list_unplaced-requires
-list_unplaced-requires c =
-    λ h.
-    let inside = c.self.inside in
-    let here = at (goal.at.list_unplaced-requires c).In-Some in
-    let placed : c.in-Some.cluster.is_placed ≡ true = sym c.is_placed-was_placed.ensures.flag ∙ h in
-    let room = room-listed inside.clusters.items (cluster_numbers inside.changed.items) _ c.self.invariant c.args.c.0 c.in-Some.cluster here placed in
-    omega (arith, room, length-map inside.changed.items (λ (c : ClusterNo). c.0), inside.changed.ok.0)
-
 pub invariant_of-self-2 : goal.invariant_of-self-2
 invariant_of-self-2 c =
     let inside = c.self.inside in
     let here = at (goal.at.invariant_of-self-2 c).In-Some in
-    let now = rw (c.is_placed-was_placed.ensures.flag, c.is_placed-is_placed.ensures.flag) at c.list_unplaced.ensures.numbers in
-    rw c.list_unplaced.ensures.room
-    (listed-set inside.clusters.items (cluster_numbers inside.changed.items) _ c.self.invariant c.args.c.0 c.in-Some.cluster here c.leave.new.self _
-    (λ h. absurd (clash _ h (ap (λ (k : PlacedCluster). k.is_placed) c.leave.ensures))) c.is_placed-is_placed.ensures.settled now)
+    listed-stays inside.clusters.items (cluster_numbers inside.changed.items) _ c.self.invariant c.args.c.0 c.in-Some.cluster here c.leave.new.self c.leave.ensures.placed c.leave.ensures.settled
 
 pub returns : goal.returns
 returns c =
     let here = at (goal.at.returns c).In-Some in
     rw (← c.self.view_is)
     (ap (λ (ks : List (Option KeptCluster)). record { homes = cluster_numbers c.self.inside.homes.items; clusters = ks })
-    (seen-set c.self.inside.clusters.items c.args.c.0 c.in-Some.cluster c.leave.new.self (left_by c.args.q.0) here (ap (λ (k : PlacedCluster). k.cluster) c.leave.ensures)))
+    (seen-set c.self.inside.clusters.items c.args.c.0 c.in-Some.cluster c.leave.new.self (left_by c.args.q.0) here c.leave.ensures.cluster))

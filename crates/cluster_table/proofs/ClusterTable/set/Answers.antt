@@ -2,9 +2,7 @@ use Rattle.std.proofs.Common.{◌≡◌, true, List, get_or, ap, sym, ◌∙◌,
 use Rattle.std.proofs.lemmas.List.{length-map}
 use Rattle.std.specs.Prelude.{None, Option, Some}
 use Rattle.rt_base.specs.declared.ClusterNo.{ClusterNo}
-use Rattle.rt_rules.proofs.BoolLaws.{clash}
 use Rattle.cluster_table.specs.Clusters.{KeptCluster, with_key}
-use Rattle.cluster_table.specs.Placed.{PlacedCluster}
 use Rattle.cluster_table.specs.Table.{cluster_numbers}
 use Rattle.cluster_table.proofs.Listed.{listed-set, room-listed}
 use Rattle.cluster_table.proofs.Seen.{read-cluster, seen-set}
@@ -33,11 +31,11 @@ invariant_of-self-2 c =
     let now = rw (c.is_placed-was_placed.ensures.flag, c.is_placed-is_placed.ensures.flag) at c.list_unplaced.ensures.numbers in
     rw c.list_unplaced.ensures.room
     (listed-set inside.clusters.items (cluster_numbers inside.changed.items) _ c.self.invariant c.args.c.0 c.in-Some.cluster here c.set.new.self _
-    (λ h. absurd (clash _ h (ap (λ (k : PlacedCluster). k.is_placed) c.set.ensures))) c.is_placed-is_placed.ensures.settled now)
+    c.set.ensures.placed c.is_placed-is_placed.ensures.settled now)
 
 pub returns : goal.returns
 returns c =
     let here = at (goal.at.returns c).In-Some in
     rw (← c.self.view_is)
     (ap (λ (ks : List (Option KeptCluster)). record { homes = cluster_numbers c.self.inside.homes.items; clusters = ks })
-    (seen-set c.self.inside.clusters.items c.args.c.0 c.in-Some.cluster c.set.new.self (with_key c.args.task.0 c.args.key) here (ap (λ (k : PlacedCluster). k.cluster) c.set.ensures)))
+    (seen-set c.self.inside.clusters.items c.args.c.0 c.in-Some.cluster c.set.new.self (with_key c.args.task.0 c.args.key) here c.set.ensures.cluster))

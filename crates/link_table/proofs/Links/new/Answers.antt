@@ -1,7 +1,7 @@
 use Rattle.std.proofs.Common.{rules}
 use Rattle.link_table.proofs.PlaceLaws.{numbers_of_tasks-replicate}
 use Rattle.link_table.proofs.AmongLaws.{among-unlinked}
-use Rattle.link_table.proofs.SoundLaws.{sound-unlinked}
+use Rattle.link_table.proofs.SoundLaws.{none_in, sound-unlinked}
 use Rattle.link_table.proofs.Links.new.Goals as goal
 
 pub returns-clause-unlinked : goal.returns-clause-unlinked
@@ -14,4 +14,8 @@ pub returns-clause-among : goal.returns-clause-among
 returns-clause-among c = rw (returns-clause-unlinked c) (among-unlinked _ _)
 
 pub invariant_of-result : goal.invariant_of-result
-invariant_of-result c = (returns-clause-sound c, c.in_ok-top_marks.ensures, c.in_ok-link_marks.ensures)
+invariant_of-result c = (
+  returns-clause-sound c,
+  c.in_ok-top_marks.ensures,
+  rw (c.in-Ok.ensures.items_if_clones_equal (search rules), numbers_of_tasks-replicate, none_in) c.in_ok-run_marks.ensures,
+)

@@ -23,4 +23,4 @@ returns-clause-among c =
     rw (← c.self.view_is, items_are, c.place.ensures.placed, c.as_slice.ensures.value, c.as_mut_slice.ensures.value) (among-placed _ _ c.self.invariant.0 c.requires.distinct fit)
 
 pub invariant_of-self : goal.invariant_of-self
-invariant_of-self c = (returns-clause-sound c, c.place.ensures.top_clear, c.place.ensures.links_clear)
+invariant_of-self c = (returns-clause-sound c, c.place.ensures.top_clear, c.self.invariant.2)

@@ -1,7 +1,9 @@
 use Rattle.std.proofs.Common.{◌≡◌, ◌∙◌, ◌-◌, ◌<◌, length, sym, ap, arith}
-use Rattle.rt_base.specs.TaskNos.{numbers_of_tasks}
+use Rattle.std.proofs.lemmas.List.{length-map}
+use Rattle.rt_base.specs.TaskNos.{number_of_task, numbers_of_tasks}
 use Rattle.link_table.specs.Linked.{Linked}
-use Rattle.link_table.proofs.PlaceLaws.{numbers_of_tasks-set}
+use Rattle.link_table.proofs.PlaceLaws.{numbers_of_tasks-set, read-at_place}
+use Rattle.link_table.proofs.MarkLaws.{marks-run}
 use Rattle.link_table.proofs.AmongLaws.{among-set}
 use Rattle.link_table.proofs.SoundLaws.{sound-set}
 use Rattle.link_table.proofs.Links.run.Goals as goal
@@ -23,4 +25,12 @@ pub returns-clause-among : goal.returns-clause-among
 returns-clause-among c = rw (← c.self.view_is, numbers_of_tasks-set) (among-set _ _ _ (rw (place c) (rw (← c.self.view_is) at c.requires.of_link)))
 
 pub invariant_of-self : goal.invariant_of-self
-invariant_of-self c = (returns-clause-sound c, c.self.invariant.1, c.self.invariant.2)
+invariant_of-self c =
+    let inside = c.self.inside in
+    let same : length (numbers_of_tasks inside.runs.items) ≡ length c.args.self.now.runs = ap (λ (l : Linked). length l.runs) c.self.view_is in
+    let low : c.place_of-place.result < length (numbers_of_tasks inside.runs.items) = omega (arith, same, c.place_of-place.ensures.runs) in
+    let read = read-at_place inside.runs.items c.place_of-place.result c.index.result.now (omega (arith, low, length-map inside.runs.items number_of_task)) c.index.ensures in (
+      returns-clause-sound c,
+      c.self.invariant.1,
+      rw (numbers_of_tasks-set, c.set_of-2.ensures, c.set_of.ensures, read) (marks-run _ _ _ _ c.self.invariant.2 c.self.invariant.0.runs_once low),
+    )

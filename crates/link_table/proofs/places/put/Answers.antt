@@ -3,9 +3,6 @@ use Rattle.std.specs.Prelude.{None, is_some}
 use Rattle.rt_base.specs.TaskNos.{numbers_of_tasks}
 use Rattle.link_table.specs.Linked.{first_taken}
 use Rattle.link_table.proofs.Filling.{first_taken-at, first_taken-full}
-use Rattle.link_table.proofs.MarkLaws.{marks_with, has-taken}
-use Rattle.link_table.specs.Marks.{AreMarks}
-use Rattle.rt_rules.specs.Placing.{tasks_in}
 use Rattle.link_table.proofs.places.put.Goals as goal
 
 pub returns-then-is_none-clause-put : goal.returns-then-is_none-clause-put
@@ -15,9 +12,3 @@ returns-then-is_none-clause-put c =
 
 pub returns-clause-put : goal.returns-clause-put
 returns-clause-put c = sym (first_taken-full c.args.t.0 c.loop-q.links (λ k h. c.loop-q.invariant.taken k (omega arith))) ∙ ap (λ ls. first_taken c.args.t.0 (numbers_of_tasks ls)) c.loop-q.invariant.links
-
-pub returns-then-is_none-clause-marked : goal.returns-then-is_none-clause-marked
-returns-then-is_none-clause-marked c =
-    let free : is_some (get_or c.loop-q.links c.loop-q.q None) ≡ false = rw c.if-is_none.true at c.is_none.ensures in
-    let marked : AreMarks c.loop-q.link_marks (tasks_in (numbers_of_tasks c.loop-q.links)) = rw (c.loop-q.invariant.links, c.loop-q.invariant.marks) c.requires.marked in
-    rw c.set.ensures (marks_with _ c.args.t.0 _ _ marked (λ t. has-taken t c.args.t c.loop-q.links c.loop-q.q (omega arith) free))

@@ -7,5 +7,4 @@ abbrev pub invariant-loop-q : goal.invariant-loop-q
 invariant-loop-q l = record {
   taken : (k : ℕ) → k < l.q → is_some (get_or l.links k None) ≡ true;
   links : l.links ≡ l.fn.links;
-  marks : l.link_marks ≡ l.fn.link_marks;
 }

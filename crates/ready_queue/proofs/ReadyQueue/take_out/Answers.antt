@@ -1,6 +1,8 @@
 use Rattle.std.proofs.Common.{◌≡◌, false, true, length, sym, ap, ◌∙◌, arith}
 use Rattle.rt_rules.specs.Numbers.{has}
 use Rattle.rt_rules.specs.Rankings.{tasks_of}
+use Rattle.ready_queue.specs.Queue.{Queue, is_first}
+use Rattle.ready_queue.proofs.FirstLaws.{first-top}
 use Rattle.ready_queue.proofs.Refreshing.{without-absent}
 use Rattle.ready_queue.proofs.SplitLaws.{few-top, length-without_task, split-rest_taken, split-top_taken, split-followed}
 use Rattle.ready_queue.proofs.ReadyQueue.take_out.Goals as goal
@@ -33,3 +35,15 @@ invariant_of-self-in_default c =
       rw (c.remove.ensures.tasks, c.take_out.ensures.removed, c.in_default.ensures.stays) (split-top_taken _ _ _ c.self.invariant.0 c.args.task.0 there c.in_default.ensures.none),
       omega (arith, c.self.invariant.1, c.remove.ensures.room),
     )
+
+pub returns-then-not-remove-clause-was_first : goal.returns-then-not-remove-clause-was_first
+returns-then-not-remove-clause-was_first c =
+    sym c.if-not-remove.true ∙ c.remove.ensures.was_in ∙ first-top _ _ _ c.self.invariant.0 c.args.task.0 ∙ ap (λ (q : Queue). is_first q c.args.task.0) c.self.view_is
+
+pub returns-in-Some-clause-was_first : goal.returns-in-Some-clause-was_first
+returns-in-Some-clause-was_first c =
+    sym c.if-not-remove.false ∙ c.remove.ensures.was_in ∙ first-top _ _ _ c.self.invariant.0 c.args.task.0 ∙ ap (λ (q : Queue). is_first q c.args.task.0) c.self.view_is
+
+pub returns-in_default-clause-was_first : goal.returns-in_default-clause-was_first
+returns-in_default-clause-was_first c =
+    sym c.if-not-remove.false ∙ c.remove.ensures.was_in ∙ first-top _ _ _ c.self.invariant.0 c.args.task.0 ∙ ap (λ (q : Queue). is_first q c.args.task.0) c.self.view_is

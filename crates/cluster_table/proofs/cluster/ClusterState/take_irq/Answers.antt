@@ -1,16 +1,19 @@
-use Rattle.std.proofs.Common.{◌≡◌, ◌∙◌}
-use Rattle.rt_rules.proofs.BoolLaws.{clash}
-use Rattle.cluster_table.proofs.Settled.{untaken}
+use Rattle.std.proofs.Common.{◌∙◌, sym}
+use Rattle.cluster_table.specs.Clusters.{KeptCluster}
+use Rattle.cluster_table.proofs.Settled.{settled-run}
+use Rattle.cluster_table.proofs.Stays.{stays-after_take}
 use Rattle.cluster_table.proofs.cluster.ClusterState.take_irq.Goals as goal
-use Rattle.cluster_table.proofs.cluster.ClusterState.take_irq.Goals.{in-Runs, in_default}
 
-pub invariant_of-self-else-matches : goal.invariant_of-self-else-matches
-invariant_of-self-else-matches c =
-    elim c.match-matches.branch [
-      | in-Runs w ↦ absurd (clash c.match-matches.matches w.matches-is c.if-matches.false)
-      | in_default w ↦
-          let reply = c.take_irq-reply.ensures.reply in
-          let stays = untaken c.self.inside.links c.args.q.0 c.args.np (λ t h. w.in_default.not-Runs t (reply ∙ h)) (λ h. w.in_default.not-Idles (reply ∙ h)) in
-          let same : c.take_irq-reply.new.self ≡ c.self.inside.links = c.take_irq-reply.ensures.runs ∙ stays in
-          rw same c.self.invariant
-    ]
+pub invariant_of-self : goal.invariant_of-self
+invariant_of-self c =
+    let inside = c.self.inside in
+    let k : KeptCluster = record { cpus = inside.queue.most; keys = inside.queue.keys; linked = inside.links } in
+    let of_cluster = rw (← c.self.view_is) at c.requires in (
+      rw c.take_irq.ensures.runs (c.self.invariant.0 ∙ sym ((stays-after_take c.args.q.0 c.args.np).cpus k)),
+      c.self.invariant.1,
+      c.take_irq.ensures.sound,
+      λ h. rw c.take_irq.ensures.runs (settled-run k c.args.q.0 c.args.np c.self.invariant.2 c.self.invariant.0 of_cluster (c.self.invariant.3 h)).0,
+    )
+
+pub returns-clause-settled : goal.returns-clause-settled
+returns-clause-settled c = λ h. (invariant_of-self c).3 h

@@ -1,0 +1,19 @@
+use Rattle.std.proofs.Common.{◌∙◌, sym, false}
+use Rattle.cluster_table.specs.Clusters.{KeptCluster}
+use Rattle.cluster_table.proofs.Settled.{settled-run}
+use Rattle.cluster_table.proofs.Stays.{stays-left_by}
+use Rattle.cluster_table.proofs.cluster.ClusterState.leave.Goals as goal
+
+pub invariant_of-self : goal.invariant_of-self
+invariant_of-self c =
+    let inside = c.self.inside in
+    let k : KeptCluster = record { cpus = inside.queue.most; keys = inside.queue.keys; linked = inside.links } in
+    let of_cluster = rw (← c.self.view_is) at c.requires in (
+      rw c.leave.ensures.runs (c.self.invariant.0 ∙ sym ((stays-left_by c.args.q.0).cpus k)),
+      c.self.invariant.1,
+      c.leave.ensures.sound,
+      λ h. rw c.leave.ensures.runs (settled-run k c.args.q.0 false c.self.invariant.2 c.self.invariant.0 of_cluster (c.self.invariant.3 h)).1,
+    )
+
+pub returns-clause-settled : goal.returns-clause-settled
+returns-clause-settled c = λ h. (invariant_of-self c).3 h
