@@ -1,0 +1,10 @@
+pub mod Tools
+pub mod Seats
+pub mod Entries
+pub mod Rules
+pub mod Places
+pub mod Shipped
+pub mod Laws
+pub mod Tests
+pub mod Choice
+pub mod Found

@@ -1,0 +1,60 @@
+//! A list of tools, each fed up to the entry after which it ends.
+ghost use Rattle.std.specs.Prelude.{◌≡◌, ◌<◌, ◌^◌, map, length, slice_get, IfOk, IfSome};
+ghost use Rattle.trace_lines.specs.Grammar.{line_text};
+ghost use Rattle.trace_tools.specs.Seats.{seat_of, seat_after, seat_line};
+ghost use Rattle.trace_tools.specs.Places.{seats};
+
+use crate::place::Place;
+use crate::shown::Shown;
+use crate::tool::TraceTool;
+use rt_base::NoMemory;
+use std::alloc::Global;
+
+/// The tools of a trace, in the order in which they were handed in.
+///
+/// Contracts see a place for each: its tool as long as that counts, and from then on its name and totals. Only `open` and
+/// `line` take memory.
+#[derive(Drop)]
+pub struct Bus<T> {
+    places: Vec<Place<T>>,
+}
+
+impl<T: TraceTool> Bus<T> {
+    /// A bus of these tools. One that has ended already is dropped, and its totals are kept.
+    pub fn open(alloc: Global, tools: Vec<T>) -> Result<Bus<T>, NoMemory>
+        ensures { IfOk result (λ b. seats T.tool b ≡ map (λ t. seat_of (T.tool t)) tools.items) }
+    {
+        let mut places = Vec::new(alloc);
+        for tool in tools {
+            let Ok(()) = places.push(Place::of(tool)) else {
+                return Err(NoMemory);
+            };
+        }
+        Ok(Bus { places })
+    }
+
+    /// How many tools were handed in.
+    pub fn count(&self) -> usize
+        ensures { result ≡ length (seats T.tool self.now) }
+    {
+        self.places.len()
+    }
+
+    /// Feeds the entry to each tool that has not ended. One that now has ended is dropped, and its totals are kept.
+    pub fn feed(&mut self, e: &Shown)
+        ensures { seats T.tool self.new ≡ map (seat_after e.now) (seats T.tool self.old) }
+    {
+        for i in 0..self.places.len() {
+            self.places[i].feed(e);
+        }
+    }
+
+    /// The count line of the tool with this number, from 0 on, with its line feed.
+    pub fn line(&self, alloc: Global, i: u32) -> Result<Vec<u8>, NoMemory>
+        requires { i < length (seats T.tool self.now) }
+        ensures { IfOk result (λ v. IfSome (slice_get (seats T.tool self.now) i) (λ s. v.items
+            ≡ line_text (seat_line s))) }
+    {
+        self.places[i as usize].line(alloc)
+    }
+}

@@ -1,0 +1,81 @@
+//! The tool `G`.
+ghost use Rattle.std.specs.Prelude.{◌≡◌, ◌+◌, ◌∷◌, ◌<◌, ◌≤◌, IfOk, vec_len, slice_index, slice_set};
+ghost use Rattle.rt_base.specs.declared.TheConstants.{MOST_TASKS};
+ghost use Rattle.trace_tools.specs.Rules.{migration_rules, new_migrations, is_elsewhere};
+ghost use Rattle.trace_tools.specs.Entries.{begun_by};
+ghost use Rattle.trace_tools.specs.Laws.{MigrationsAreCounted};
+
+use crate::shown::Shown;
+use crate::tool::TraceTool;
+use rt_base::{MOST_TASKS, NoMemory};
+use rt_history::Reply;
+use std::alloc::Global;
+
+/// Counts how often a task begins to run on another processor than the last time, of the entries with reply Runs.
+#[derive(Drop)]
+pub struct Migrations {
+    count: u64,
+    // one more than the processor that each task began to run on last, or 0
+    places: Vec<u64>,
+    ghost all_tasks: { vec_len places ≡ MOST_TASKS + 1 },
+}
+
+fn begun(reply: Reply) -> Option<usize>
+    ensures { result ≡ begun_by reply }
+{
+    match reply {
+        Reply::Runs(task) => {
+            if task.0 <= MOST_TASKS {
+                Some(task.0 as usize)
+            } else {
+                None
+            }
+        }
+        _ => None,
+    }
+}
+
+fn is_other(place: u64, cpu: u32) -> bool
+    ensures { result ≡ is_elsewhere place cpu }
+{
+    place != 0 && place - 1 != u64::from(cpu)
+}
+
+impl Migrations {
+    /// Nothing is counted yet. It takes all the memory that the tool ever has.
+    pub fn new(alloc: Global) -> Result<Migrations, NoMemory>
+        ensures tool { IfOk result (λ m. ⟦<Migrations as TraceTool>⟧.tool m ≡ new_migrations) }
+        ensures counts { MigrationsAreCounted }
+    {
+        match vec![in alloc; 0; MOST_TASKS as usize + 1] {
+            Ok(places) => Ok(Migrations { count: 0, places }),
+            Err(_) => Err(NoMemory),
+        }
+    }
+}
+
+impl TraceTool for Migrations {
+    ghost tool = { λ m. record { rules = migration_rules; state = m.count ∷ m.places.items } };
+
+    fn feed(&mut self, e: &Shown) {
+        if let Some(task) = begun(e.entry.reply) {
+            let cpu = e.entry.step.cpu.0;
+            if is_other(self.places[task], cpu) {
+                self.count = self.count.saturating_add(1);
+            }
+            self.places[task] = u64::from(cpu) + 1;
+        }
+    }
+
+    fn total(&self, i: u32) -> Option<u64> {
+        if i == 0 { Some(self.count) } else { None }
+    }
+
+    fn ended(&self) -> bool {
+        false
+    }
+
+    fn name(&self) -> u8 {
+        b'G'
+    }
+}
