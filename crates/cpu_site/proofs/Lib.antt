@@ -1,0 +1,10 @@
+pub mod CpuLaws
+pub mod SetFacts
+pub mod Chaining
+pub mod Advancing
+pub mod Sighting
+pub mod Marking
+pub mod Words
+pub mod Numbering
+pub mod Seating
+pub mod Returning

@@ -1,0 +1,6 @@
+pub mod Chains
+pub mod Cpus
+pub mod Played
+pub mod Playing
+pub mod Raises
+pub mod Seats
