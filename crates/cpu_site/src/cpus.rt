@@ -26,11 +26,7 @@ fn put_cpus(cpus: &mut Vec<CpuNo>, first: u32, count: u32) -> Result<(), NoMemor
 
 /// The processors of a group, by rising number.
 #[tactic(auto, using(crate::proofs::CpuLaws::few_cpus, std::proofs::Common::append_assoc))]
-pub(crate) fn cpus_of(
-    alloc: Global,
-    setup: &Setup,
-    group: GroupNo,
-) -> Result<Vec<CpuNo>, NoMemory>
+pub(crate) fn cpus_of(alloc: Global, setup: &Setup, group: GroupNo) -> Result<Vec<CpuNo>, NoMemory>
     ensures { let g = group_with setup.now group.0 in
         IfOk result (λ cpus. cpu_numbers cpus.items ≡ group_processors g) }
 {

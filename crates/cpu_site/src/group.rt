@@ -9,6 +9,7 @@ ghost use Rattle.cpu_site.specs.Played.{IfDid, IfEnded};
 ghost use Rattle.cpu_site.specs.Playing.{IsNextEntry, IsOver, IsPlayable, unplayed};
 ghost use Rattle.cpu_site.specs.Raises.{AreRaises};
 
+use crate::cpus::cpus_of;
 use crate::marks::no_counts;
 use crate::played::Played;
 use crate::player::Player;
@@ -18,7 +19,6 @@ use rt_base::{CpuNo, GroupNo, NoMemory};
 use rt_task::Setup;
 use std::alloc::Global;
 use std::marker::Model;
-use crate::cpus::cpus_of;
 
 /// A group of a setup whose processors play their scripts, in any order. Contracts see its history: it is legal, and each
 /// processor's steps in it are a first part of its script.

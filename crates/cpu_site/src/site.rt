@@ -15,6 +15,7 @@ ghost use Rattle.cpu_site.specs.Played.{IfDid, IfEnded};
 ghost use Rattle.cpu_site.specs.Raises.{cpu_at, cpu_count};
 ghost use Rattle.cpu_site.specs.Seats.{about, cpu_of, cpu_place, group_at, is_irq, looked_up, unused_seat, unused_seats, word_taken, About, IsEnd, IsPlay};
 
+use crate::cpus::cpus_of;
 use crate::gate::Gate;
 use crate::group::Group;
 use crate::marks::{changed, copy, no_counts, no_places};
@@ -25,7 +26,6 @@ use rt_task::{Act, Setup};
 use std::alloc::Global;
 use std::marker::Model;
 use std::sync::{Mutex, Wait};
-use crate::cpus::cpus_of;
 use turn_cell::{Turn, TurnSeat};
 
 /// Room for the seats when they come back.

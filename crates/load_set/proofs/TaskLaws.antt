@@ -23,7 +23,7 @@ one-more ts t all count i x y below is after so_far =
     let next : suc (i + 1) ≡ (i + 1) + 1 = omega arith in
     append_assoc ts (t ∷ []) (tasks_from (count - (i + 1)) ((i + 1) + 1) y)
     ∙ ap (λ (rest : List Task). ts ++ rest) (ap (λ (u : Task). u ∷ tasks_from (count - (i + 1)) ((i + 1) + 1) y) is ∙ ap (λ (s : ℕ). task_of (i + 1) (draw_from x) ∷ tasks_from (count - (i + 1)) ((i + 1) + 1) s) after
-        ∙ ap (λ (k : ℕ). task_of (i + 1) (draw_from x) ∷ tasks_from (count - (i + 1)) k (after_four x)) (sym next) ∙ sym (tasks_from-next (count - (i + 1)) (i + 1) x) ∙ ap (λ (k : ℕ). tasks_from k (i + 1) x) (sym left))
+    ∙ ap (λ (k : ℕ). task_of (i + 1) (draw_from x) ∷ tasks_from (count - (i + 1)) k (after_four x)) (sym next) ∙ sym (tasks_from-next (count - (i + 1)) (i + 1) x) ∙ ap (λ (k : ℕ). tasks_from k (i + 1) x) (sym left))
     ∙ so_far
 
 pub all-there : (ts all : List Task) (count i x : ℕ) → count ≤ i → ts ++ tasks_from (count - i) (i + 1) x ≡ all → ts ≡ all

@@ -13,7 +13,8 @@ use trace_lines::{
 
 /// Three tasks, whose names are what a number and a dash are too.
 fn set(alloc: Global) -> Result<Setup, Fail> {
-    let document = b"{\"plugin\":\"GSN-EDF\",\"clusters\":[{\"cpus\":1}],\"tasks\":[{\"name\":\"2\",\"cost\":1,\"period\":10},{\"name\":\"-\",\"cost\":1,\"period\":10},{\"name\":\"a_B-9\",\"cost\":1,\"period\":10}],\"steps\":[]}";
+    let document =
+        b"{\"plugin\":\"GSN-EDF\",\"clusters\":[{\"cpus\":1}],\"tasks\":[{\"name\":\"2\",\"cost\":1,\"period\":10},{\"name\":\"-\",\"cost\":1,\"period\":10},{\"name\":\"a_B-9\",\"cost\":1,\"period\":10}],\"steps\":[]}";
     Ok(read_set(alloc, document)?)
 }
 
@@ -77,7 +78,10 @@ fn writes_names_in_format_2(rt: HostRuntime) -> Result<(), Fail> {
     let mut out = Vec::new(rt.alloc());
     put_group_line(&mut out, &format, GroupNo(2), &links)?;
     put_block_line(&mut out, &format, 6, TaskNo(3), SemNo(1), 2, 4, Some(3))?;
-    assert_eq!(rt; out.as_slice(), b"group 2 0:@a_B-9 10:-\nblock 6 @a_B-9 1 2 4 3\n".as_slice());
+    assert_eq!(rt;
+        out.as_slice(),
+        b"group 2 0:@a_B-9 10:-\nblock 6 @a_B-9 1 2 4 3\n".as_slice()
+    );
     Ok(())
 }
 

@@ -66,7 +66,11 @@ fn stops_where_a_task_has_the_other_form(rt: HostRuntime) -> Result<(), Fail> {
         let trace = read_named(rt.alloc(), line)?;
         assert_eq!(rt; trace.stop, Some(3));
     }
-    for line in ["group 0 0:@A\n", "0 0 0 irq runs @A\n", "block 7 @B 1 0 3 -\n"] {
+    for line in [
+        "group 0 0:@A\n",
+        "0 0 0 irq runs @A\n",
+        "block 7 @B 1 0 3 -\n",
+    ] {
         let trace = read_lines(rt.alloc(), line)?;
         assert_eq!(rt; trace.stop, Some(3));
     }

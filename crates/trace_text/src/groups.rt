@@ -86,7 +86,15 @@ fn write_groups<K: Sink>(
 {
     let mut line = Vec::new(alloc);
     for (i, group) in groups.iter().enumerate() {
-        write_group(alloc, setup, format, GroupNo(i as u32), group, &mut line, out)?;
+        write_group(
+            alloc,
+            setup,
+            format,
+            GroupNo(i as u32),
+            group,
+            &mut line,
+            out,
+        )?;
     }
     write_end_line(out, &mut line)
 }

@@ -14,8 +14,7 @@ pub loop-seat-preserved : goal.loop-seat-preserved
 loop-seat-preserved c =
     let i = c.loop-seat.invariant.0 in
     let split = taken-more c.args.seats.items c.loop-seat.seats.items c.pop.new.self.items i.0 c.in-Some.seat i.1 c.in-Some.ensures.items in
-    let cell = middle c.args.self.cell c.args.seats.items c.pop.new.self.items i.0 c.in-Some.seat c.requires.seats split ∙ ap (λ (t : TurnOf GroupOf). t.cell) (sym c.self.view_is) in
-    (
+    let cell = middle c.args.self.cell c.args.seats.items c.pop.new.self.items i.0 c.in-Some.seat c.requires.seats split ∙ ap (λ (t : TurnOf GroupOf). t.cell) (sym c.self.view_is) in (
       (
         c.in-Some.seat ∷ i.0,
         split,

@@ -63,8 +63,7 @@ loop-seat-preserved c =
     let split = taken-more c.in_ok-turn.seats.items c.loop-seat.seats.items c.pop.new.self.items i.0 c.in-Some.seat i.1 c.in-Some.ensures.items in
     let last = fresh-last c.in_ok-turn.turn.cell c.len-count.result c.in_ok-turn.seats.items c.pop.new.self.items i.0 c.in-Some.seat c.in_ok-turn.ensures.seats split in
     let here : c.len-place.result ≡ length c.pop.new.self.items = omega (arith, c.len-place.ensures, c.pop.new.self.ok.0) in
-    let low : c.len-place.result < length c.in_ok-cpus.cpus.items = omega (arith, last.0, here, c.len-count.ensures, c.in_ok-cpus.cpus.ok.0) in
-    (
+    let low : c.len-place.result < length c.in_ok-cpus.cpus.items = omega (arith, last.0, here, c.len-count.ensures, c.in_ok-cpus.cpus.ok.0) in (
       c.in-Some.seat ∷ i.0,
       split,
       put-more g c.loop-seat.all.items c.add.new.all.items i.0 c.in-Some.seat c.in_ok-seat.seat i.2 c.in_ok-add.ensures
