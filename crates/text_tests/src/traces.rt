@@ -38,6 +38,7 @@ fn reads_names_in_format_2(rt: HostRuntime) -> Result<(), Fail> {
             Line::BlockLine { task, sem, .. },
             Line::EndLine,
         ] => {
+            assert_eq!(rt; links.as_slice().len(), 2);
             assert_eq!(rt; links.as_slice()[0].task, Some(TaskNo(2)));
             assert_eq!(rt; links.as_slice()[1].task, None);
             assert_eq!(rt; entry.reply, Reply::Runs(TaskNo(2)));
