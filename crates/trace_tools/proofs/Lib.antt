@@ -1,6 +1,7 @@
 pub mod BusLaws
 pub mod CountLaws
 pub mod FeedLaws
+pub mod LineLaws
 pub mod MigrationLaws
 pub mod MissLaws
 pub mod OccupancyLaws

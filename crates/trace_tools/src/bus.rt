@@ -1,6 +1,7 @@
 //! A list of tools, each fed up to the entry after which it ends.
 ghost use Rattle.std.specs.Prelude.{◌≡◌, ◌<◌, ◌^◌, map, length, slice_get, IfOk, IfSome};
 ghost use Rattle.trace_lines.specs.Grammar.{line_text};
+ghost use Rattle.trace_lines.specs.Known.{Known};
 ghost use Rattle.trace_tools.specs.Seats.{seat_of, seat_after, seat_line};
 ghost use Rattle.trace_tools.specs.Places.{seats};
 
@@ -52,8 +53,9 @@ impl<T: TraceTool> Bus<T> {
     /// The count line of the tool with this number, from 0 on, with its line feed.
     pub fn line(&self, alloc: Global, i: u32) -> Result<Vec<u8>, NoMemory>
         requires { i < length (seats T.tool self.now) }
-        ensures { IfOk result (λ v. IfSome (slice_get (seats T.tool self.now) i) (λ s. v.items
-            ≡ line_text (seat_line s))) }
+        ensures { (k : Known)
+            → IfOk result (λ v. IfSome (slice_get (seats T.tool self.now) i) (λ s. v.items
+            ≡ line_text k (seat_line s))) }
     {
         self.places[i as usize].line(alloc)
     }

@@ -23,6 +23,7 @@ pub struct Place<T> {
 
 impl<T: TraceTool> Place<T> {
     ghost use Rattle.trace_lines.specs.Grammar.{line_text};
+    ghost use Rattle.trace_lines.specs.Known.{Known};
     ghost use Rattle.trace_tools.specs.Seats.{seat_of, seat_after, seat_line, settled, fed_seat};
     ghost use Rattle.trace_tools.specs.Places.{seat};
 
@@ -68,7 +69,8 @@ impl<T: TraceTool> Place<T> {
     }
 
     pub fn line(&self, alloc: Global) -> Result<Vec<u8>, NoMemory>
-        ensures { IfOk result (λ v. v.items ≡ line_text (seat_line (seat T.tool self.now))) }
+        ensures { (k : Known)
+            → IfOk result (λ v. v.items ≡ line_text k (seat_line (seat T.tool self.now))) }
     {
         let mut line = Vec::new(alloc);
         match &self.tool {
