@@ -184,16 +184,24 @@ impl GroupJobs {
         key_under(parts.plugin, &tasks[task.0 as usize - 1], Tick(release))
     }
 
-    /// Whether the task's current job is there, by its release or early, and does not sleep.
+    /// Whether the task's current job is there, by its release or early.
+    pub fn is_there(&self, tasks: &[Task], task: TaskNo) -> bool
+        requires { IsTaskOf self.now.kept tasks.now task.0 }
+        ensures { let job = job_of self.now.kept task.0 in
+            result ≡ words.is_there self.now.kept.clock (task_in tasks.now task.0) job }
+    {
+        let is_released = has_come(self.clock, self.release(tasks, task));
+        let is_early = tasks[task.0 as usize - 1].early && self.state(task).done > 0;
+        is_released || is_early
+    }
+
+    /// Whether the task's current job is there and does not sleep.
     pub fn is_ready(&self, tasks: &[Task], task: TaskNo) -> bool
         requires { IsTaskOf self.now.kept tasks.now task.0 }
         ensures { let job = job_of self.now.kept task.0 in
             result ≡ words.is_ready self.now.kept.clock (task_in tasks.now task.0) job }
     {
-        let state = self.state(task);
-        let is_released = has_come(self.clock, self.release(tasks, task));
-        let is_early = tasks[task.0 as usize - 1].early && state.done > 0;
-        (is_released || is_early) && state.wakes <= self.clock
+        self.is_there(tasks, task) && self.state(task).wakes <= self.clock
     }
 
     /// The next moment that the task's current job waits for: its release or the end of its sleep, whichever is ahead

@@ -119,6 +119,13 @@ impl GroupSems {
         &self.keys
     }
 
+    /// The table of semaphores.
+    pub fn table(&self) -> &Sems
+        ensures { result.now ≡ self.now.table }
+    {
+        &self.sems
+    }
+
     /// The task that holds the semaphore.
     pub fn holder(&self, sem: SemNo) -> Option<TaskNo>
         ensures { number_of_task result ≡ (state_of self.now.table sem.0).holder }

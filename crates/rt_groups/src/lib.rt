@@ -18,14 +18,12 @@ fn gives_steps(drive: &Drive) -> bool
     }
 }
 
-/// Whether the set is one that is played so far: it gives steps, and has neither semaphores nor reservations.
+/// Whether the set is one that is played so far: it gives steps, and has no reservations.
 pub fn is_built(setup: &Setup) -> bool
     ensures { result ≡ built.is_built setup.now }
 {
     let parts = setup.parts();
-    parts.plugin != PluginKind::PRes
-        && parts.sems.as_slice().is_empty()
-        && gives_steps(&parts.drive)
+    parts.plugin != PluginKind::PRes && gives_steps(&parts.drive)
 }
 
 /// The numbers of a valid setup are within the limits.

@@ -1,0 +1,3 @@
+pub mod WaitingList
+pub mod Blocked
+pub mod Listing

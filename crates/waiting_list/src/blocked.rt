@@ -1,0 +1,36 @@
+//! Whether a task that waits is priority-blocked.
+ghost use Rattle.std.specs.Prelude.{◌≡◌, ◌&&◌, ◌==◌};
+ghost use Rattle.waiting_list.specs.Blocked as words;
+ghost use Rattle.waiting_list.specs.Blocked.{CanRank};
+
+use group_jobs::GroupJobs;
+use rt_base::{ClusterNo, TaskNo};
+use rt_order::Key;
+use rt_task::{Parts, Task};
+
+/// Whether the task is of the cluster, and has a current job with a higher base key.
+fn is_above(parts: &Parts, jobs: &GroupJobs, cluster: ClusterNo, key: Key, task: &Task) -> bool
+    requires { CanRank parts.now jobs.now.kept cluster.0 }
+    ensures { result ≡ words.is_above parts.now jobs.now.kept cluster.0 key task.now.number.0 }
+{
+    let tasks = parts.tasks.as_slice();
+    task.cluster.0 == cluster.0
+        && jobs.is_there(tasks, task.number)
+        && jobs.base_key(parts, task.number).is_higher(key)
+}
+
+/// Whether fewer tasks of the task's cluster than this has processors have a current job with a higher base key.
+pub(crate) fn is_among_first(parts: &Parts, jobs: &GroupJobs, task: TaskNo) -> bool
+    requires { CanRank parts.now jobs.now.kept (words.home_in parts.now task.0) }
+    ensures { result ≡ words.is_among_first parts.now jobs.now.kept task.0 }
+{
+    let cluster = parts.tasks.as_slice()[task.0 as usize - 1].cluster;
+    let key = jobs.base_key(parts, task);
+    let mut above = 0;
+    for other in parts.tasks.as_slice() {
+        if is_above(parts, jobs, cluster, key, other) {
+            above += 1;
+        }
+    }
+    above < parts.clusters.as_slice()[cluster.0 as usize].cpus
+}

@@ -1,0 +1,127 @@
+//! The tasks that wait for a semaphore as an act frees it, and which of them are priority-blocked: what the counts of
+//! critical sections are made of.
+#![tactic(auto)]
+
+ghost use Rattle.std.specs.Prelude.{◌≡◌, ◌≤◌, [], IfOk, length};
+ghost use Rattle.rt_base.specs.TaskNos.{numbers};
+ghost use Rattle.rt_rules.specs.Distinct.{IsDistinct};
+ghost use Rattle.count_laws.specs.Tallies.{waiter_tasks};
+ghost use Rattle.waiting_list.specs.Listing.{AreWaitersAt, CanList, Moment};
+
+mod blocked;
+
+use blocked::is_among_first;
+use block_counts::Waiting;
+use group_jobs::GroupJobs;
+use group_sems::GroupSems;
+use rt_base::{CpuNo, NoMemory, SemNo, TaskNo};
+use rt_task::{Act, Op, Parts};
+use std::alloc::Global;
+use std::marker::Model;
+
+/// The tasks that wait for the semaphore that an act frees, each with whether it is priority-blocked: it waits, and fewer
+/// tasks of its cluster than this has processors have a current job with a higher base key (Brandenburg and Anderson,
+/// RTSS 2010).
+///
+/// Contracts see the list, and for how many tasks there is room. After `open` no call takes memory.
+#[derive(Drop)]
+pub struct WaitingList {
+    room: u32,
+    // Empty between calls.
+    tasks: Vec<TaskNo>,
+    waiting: Vec<Waiting>,
+}
+
+impl Model for WaitingList {
+    ghost use Rattle.std.specs.Prelude.{◌≡◌, ◌≤◌, [], vec_capacity};
+    ghost use Rattle.block_counts.specs.SeenWords.{waiters_of};
+    ghost use Rattle.waiting_list.specs.WaitingList as seen;
+
+    ghost Value = { seen.WaitingList };
+
+    ghost view = { λ a. record { room = a.room; waiting = waiters_of a.waiting.items } };
+
+    ghost invariant = { λ a. (a.tasks.items ≡ [])
+        × (a.room ≤ vec_capacity a.tasks)
+        × (a.room ≤ vec_capacity a.waiting) };
+}
+
+impl WaitingList {
+    /// No tasks, with room for so many. It takes all the memory that the value ever has.
+    pub fn open(alloc: Global, room: u32) -> Result<WaitingList, NoMemory>
+        ensures { IfOk result (λ l. l ≡ record { room = room; waiting = [] }) }
+    {
+        let Ok(tasks) = Vec::with_capacity(alloc, room as usize) else {
+            return Err(NoMemory);
+        };
+        let Ok(waiting) = Vec::with_capacity(alloc, room as usize) else {
+            return Err(NoMemory);
+        };
+        Ok(WaitingList {
+            room,
+            tasks,
+            waiting,
+        })
+    }
+
+    /// The tasks.
+    pub fn tasks(&self) -> &[Waiting]
+        ensures { waiters_of result.now ≡ self.now.waiting }
+    {
+        self.waiting.as_slice()
+    }
+
+    /// Lists the tasks that wait for the semaphore that the act of the processor frees, by what is kept of jobs and of
+    /// semaphores between the two moves of a step; none where it frees none. Each task stands once.
+    pub fn list(&mut self, parts: &Parts, jobs: &GroupJobs, sems: &GroupSems, cpu: CpuNo, act: Act)
+        requires { (at : Moment) × CanList at parts.now jobs.now.kept sems.now cpu.0 act self.old.room }
+        ensures waiting { (at : Moment)
+            → CanList at parts.now jobs.now.kept sems.now cpu.0 act self.old.room
+            → AreWaitersAt at cpu.0 act self.new.waiting }
+        ensures once { IsDistinct (waiter_tasks self.new.waiting) }
+        ensures room { self.new.room ≡ self.old.room }
+    {
+        self.waiting.clear();
+        if let Some(sem) = freed_by(jobs, sems, cpu, act) {
+            self.list_for(parts, jobs, sems, sem);
+        }
+    }
+
+    /// Adds the tasks that wait for the semaphore to a list that is empty.
+    fn list_for(&mut self, parts: &Parts, jobs: &GroupJobs, sems: &GroupSems, sem: SemNo)
+        requires empty { self.old.waiting ≡ [] }
+        requires can { CanRankAll parts.now jobs.now.kept (state_of sems.now.table sem.0).waiting }
+        requires few { length (state_of sems.now.table sem.0).waiting ≤ self.old.room }
+        ensures { self.new ≡ record self.old {
+          waiting = waiters_now parts.now jobs.now.kept (state_of sems.now.table sem.0).waiting;
+        } }
+    {
+        sems.table().list_waiting(sem, &mut self.tasks);
+        for task in self.tasks.as_slice() {
+            let blocked = is_among_first(parts, jobs, *task);
+            let _ = self.waiting.push(Waiting {
+                task: *task,
+                blocked,
+            });
+        }
+        self.tasks.clear();
+    }
+}
+
+/// The semaphore that the act of the processor frees: it is an Unlock of what the task that runs there holds.
+fn freed_by(jobs: &GroupJobs, sems: &GroupSems, cpu: CpuNo, act: Act) -> Option<SemNo>
+    requires { cpu.0 < length jobs.now.kept.cpus }
+    ensures { result ≡ freed_at sems.now.table (cpu_of jobs.now.kept cpu.0).runs act }
+{
+    match act {
+        Act::Do(Op::Unlock(sem)) => {
+            let task = jobs.runs(cpu)?;
+            if sems.holder(sem) == Some(task) {
+                Some(sem)
+            } else {
+                None
+            }
+        }
+        _ => None,
+    }
+}
