@@ -28,7 +28,8 @@ use Rattle.group_facts.specs.Words.{is_ready, key_of}
 use Rattle.group_facts.proofs.KeptMoves.{kept_after_act}
 use Rattle.group_facts.proofs.TimerSets.{timers_are_renewed}
 use Rattle.group_engine.specs.declared.state.GroupState.{GroupState}
-use Rattle.group_engine.specs.Moments.{CanAct, IsPlayed, Moment}
+use Rattle.group_engine.specs.Moments.{CanAct, IsPlayed}
+use Rattle.waiting_list.specs.Listing.{Moment}
 use Rattle.group_engine.specs.State.{HasClusterAt, IsAt, IsWithin}
 use Rattle.group_facts.proofs.ReadWords.{key-read}
 use Rattle.group_sem_laws.specs.Kept.{KeepsGroupSems}

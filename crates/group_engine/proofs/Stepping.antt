@@ -16,7 +16,8 @@ use Rattle.rt_model.proofs.Steps.{IsLegal-append, after-acted, past_of-append, r
 use Rattle.rt_plays.specs.Homes.{IsProcessorOf}
 use Rattle.rt_groups.specs.Groups.{GroupHistory, IsGroupOf, group_of}
 use Rattle.group_engine.specs.declared.state.GroupState.{GroupState}
-use Rattle.group_engine.specs.Moments.{CanActOn, CanMove, HasActed, IsPlayed, Moment}
+use Rattle.group_engine.specs.Moments.{CanActOn, CanMove, HasActed, IsPlayed}
+use Rattle.waiting_list.specs.Listing.{Moment}
 use Rattle.group_engine.specs.Sound.{IsSound}
 use Rattle.group_engine.specs.State.{IsAt}
 

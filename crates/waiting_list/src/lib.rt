@@ -2,11 +2,14 @@
 //! critical sections are made of.
 #![tactic(auto)]
 
-ghost use Rattle.std.specs.Prelude.{◌≡◌, ◌≤◌, [], IfOk, length};
-ghost use Rattle.rt_base.specs.TaskNos.{numbers};
+ghost use Rattle.std.specs.Prelude.{◌≡◌, ◌≤◌, ◌<◌, [], IfOk, length};
 ghost use Rattle.rt_rules.specs.Distinct.{IsDistinct};
 ghost use Rattle.count_laws.specs.Tallies.{waiter_tasks};
-ghost use Rattle.waiting_list.specs.Listing.{AreWaitersAt, CanList, Moment};
+ghost use Rattle.block_counts.specs.SeenWords.{waiters_of};
+ghost use Rattle.group_facts.specs.Kept.{cpu_of};
+ghost use Rattle.sem_table.specs.Told.{state_of};
+ghost use Rattle.waiting_list.specs.Blocked.{CanRankAll, waiters_now};
+ghost use Rattle.waiting_list.specs.Listing.{AreWaitersAt, CanList, Moment, freed_at};
 
 mod blocked;
 
