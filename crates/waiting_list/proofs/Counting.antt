@@ -1,5 +1,5 @@
 -- Tasks of a cluster are counted through the rows of the set.
-use Rattle.std.proofs.Common.{◌≡◌, ℕ, zero, suc, ◌+◌, ◌<◌, Bool, true, false, ◌&&◌, cond, List, [], ◌∷◌, length, refl, sym, ap, ◌∙◌, arith, count_by, eqb-true}
+use Rattle.std.proofs.Common.{◌≡◌, ℕ, suc, ◌+◌, ◌<◌, Bool, true, false, ◌&&◌, cond, List, [], ◌∷◌, length, refl, sym, ap, ◌∙◌, arith, count_by, eqb-true}
 use Rattle.std.specs.Prelude.{filter, slice_index_or, ◌==◌}
 use Rattle.std.proofs.lemmas.List.Sums.{sum_by-cons}
 use Rattle.rt_task.specs.declared.Task.{Task}
@@ -19,9 +19,9 @@ module _ (g : Group) (c : ℕ) (inside : in_group g c ≡ true) (f : ℕ → Boo
     where
       by_case : (a b d : Bool) → among_group t ≡ a → at_home t ≡ b → f t ≡ d → cond (b && d) 1 0 + rest ≡ count_by f (filter at_home (cond a (t ∷ us) us))
       by_case true true d e q r = rw q (ap (λ n. cond d 1 0 + n) h ∙ ap (λ x. cond x 1 0 + count_by f (filter at_home us)) (sym r) ∙ sym (sum_by-cons (λ u. cond (f u) 1 0) t (filter at_home us)))
-      by_case true false d e q r = rw q h
+      by_case true false d e q r = let z : 0 + rest ≡ rest = omega arith in rw q (z ∙ h)
       by_case false true d e q r = let same : home g t ≡ c = eqb-true _ _ q in let clash : in_group g c ≡ false = ap (in_group g) (sym same) ∙ e in cc
-      by_case false false d e q r = omega (arith, h)
+      by_case false false d e q r = let z : 0 + rest ≡ rest = omega arith in z ∙ h
 
   pub counted-rows : (rows : List Task) (a : ℕ) → ((i : ℕ) → i < length rows → row (slice_index_or rows i no_task) ≡ (home g (a + i) == c) && f (a + i))
       → count_by row rows ≡ count_by f (filter (λ t. home g t == c) (filter (λ t. in_group g (home g t)) (numbers_from a (length rows))))

@@ -1,7 +1,7 @@
 -- Which waiting tasks are priority-blocked is read off what is kept.
-use Rattle.std.proofs.Common.{◌≡◌, ℕ, ◌+◌, ◌-◌, ◌<◌, ◌≤◌, Bool, true, false, ◌&&◌, List, [], ◌∷◌, length, map, refl, sym, ap, subst, ◌∙◌, arith, count_by, eqb-true}
+use Rattle.std.proofs.Common.{◌≡◌, ℕ, ◌+◌, ◌-◌, ◌<◌, ◌≤◌, Bool, true, false, ◌&&◌, List, [], ◌∷◌, length, map, refl, sym, ap, ◌∙◌, arith, count_by, eqb-true}
 use Rattle.std.proofs.lemmas.Bool.Decides.{nat_tests}
-use Rattle.std.specs.Prelude.{Some, filter, is_some, nat_lt, slice_index_or, ◌==◌}
+use Rattle.std.specs.Prelude.{Some, is_some, nat_lt, slice_index_or, ◌==◌}
 use Rattle.rt_task.specs.declared.PluginKind.{PluginKind}
 use Rattle.rt_task.specs.declared.PluginKind.TheVariants as plugins
 use Rattle.rt_task.specs.declared.Task.{Task}
@@ -23,11 +23,11 @@ use Rattle.rt_laws.proofs.OneWait.{awaits-is, waits_once}
 use Rattle.rt_laws.proofs.ValidSets.{rules_of}
 use Rattle.rt_plays.specs.Plays.{group_with}
 use Rattle.rt_groups.proofs.TaskNumbers.{task-number}
-use Rattle.count_laws.specs.Tallies.{Waiter, waiter, waiters}
+use Rattle.count_laws.specs.Tallies.{Waiter, waiter}
 use Rattle.group_facts.specs.Facts.{JobFacts}
 use Rattle.group_facts.specs.Kept.{IsKept, Kept, job_of}
-use Rattle.group_facts.specs.Words.{AreRead, is_there, key_of}
-use Rattle.group_facts.proofs.ReadWords.{words_of_kept}
+use Rattle.group_facts.specs.Words.{is_there, key_of}
+use Rattle.group_facts.proofs.KeptMoves.{words_of_kept}
 use Rattle.waiting_list.specs.Blocked.{home_in, is_above, is_among_first, key_in, waiter_now, waiters_now}
 use Rattle.waiting_list.proofs.Counting.{counted-rows}
 
@@ -40,17 +40,17 @@ key_of-any g plugins.PsnEdf t job = refl
 key_of-any g plugins.PFp t job = refl
 key_of-any g plugins.PRes t job = refl
 
+-- a task of the set whose cluster is of the group
+pub member-of : (g : Group) (t : ℕ) → 1 ≤ t → t ≤ length g.setup.tasks → in_group g (home g t) ≡ true → has t (tasks g) ≡ true
+unfolding tasks
+member-of g t low high inside = has-filter (λ u. in_group g (home g u)) t (numbers_from 1 (length g.setup.tasks)) ∙ rw (numbers_from-has 1 (length g.setup.tasks) t low (omega (arith, high)), inside) refl
+
 -- the cluster of a task of the group is of the group
-member-home : (g : Group) (t : ℕ) → has t (tasks g) ≡ true → in_group g (home g t) ≡ true
+pub member-home : (g : Group) (t : ℕ) → has t (tasks g) ≡ true → in_group g (home g t) ≡ true
 unfolding tasks
 member-home g t h = (both (has t (numbers_from 1 (length g.setup.tasks))) (in_group g (home g t)) (sym (has-filter (λ u. in_group g (home g u)) t (numbers_from 1 (length g.setup.tasks))) ∙ h)).1
 
 module _ (g : Group) (past : Past) (valid : IsValid g.setup) (k : Kept) (kept : IsKept g past k) where
-  -- a task of the set whose cluster is of the group
-  task-of : (t : ℕ) → 1 ≤ t → t ≤ length g.setup.tasks → in_group g (home g t) ≡ true → has t (tasks g) ≡ true
-  unfolding tasks
-  task-of t low high inside = has-filter (λ u. in_group g (home g u)) t (numbers_from 1 (length g.setup.tasks)) ∙ rw (numbers_from-has 1 (length g.setup.tasks) t low (omega (arith, high)), inside) refl
-
   pub key-read : (t : ℕ) → has t (tasks g) ≡ true → key_in g.setup k t ≡ base_key g t past
   key-read t h = key_of-any g g.setup.plugin t (job_of k t) ∙ sym (words_of_kept g past k kept t h).key_is
 
@@ -72,7 +72,7 @@ module _ (g : Group) (past : Past) (valid : IsValid g.setup) (k : Kept) (kept : 
       by_case false e = ap (λ n. (n == c) && (is_there k.clock row (job_of k row.number.0) && higher (key_in g.setup k row.number.0) key)) (sym home_is) ∙ ap (λ b. b && (is_there k.clock row (job_of k row.number.0) && higher (key_in g.setup k row.number.0) key)) e
       by_case true e =
           let at_home : in_group g (home g (1 + i)) ≡ true = ap (in_group g) (eqb-true _ _ e) ∙ inside in
-          let own : has (1 + i) (tasks g) ≡ true = task-of (1 + i) (omega arith) (omega (arith, low)) at_home in
+          let own : has (1 + i) (tasks g) ≡ true = member-of g (1 + i) (omega arith) (omega (arith, low)) at_home in
           let number : row.number.0 ≡ 1 + i = ap (λ (x : Task). x.number.0) (sym row_is) ∙ task-number g (1 + i) valid own in
           let there : exists g (1 + i) past ≡ is_there k.clock row (job_of k (1 + i)) = (words_of_kept g past k kept (1 + i) own).there_is ∙ ap (λ (x : Task). is_there k.clock x (job_of k (1 + i))) row_is in
           ap (λ n. (n == c) && (is_there k.clock row (job_of k row.number.0) && higher (key_in g.setup k row.number.0) key)) (sym home_is)
@@ -104,5 +104,5 @@ module _ (g : Group) (past : Past) (valid : IsValid g.setup) (k : Kept) (kept : 
         let here = h t (grind (arith, nat_tests)) in
         let at_home : in_group g (home g t) ≡ true = member-home g t here.0 in
         let first : waiter_now g.setup k t ≡ waiter g past t = ap (λ b. let w : Waiter = record { task = t; blocked = b } in w) (blocked-read t here.0 at_home here.1) in
-        let rest : waiters_now g.setup k ts ≡ map (waiter g past) ts = waiters-read ts (λ u m. h u (rw m or_true)) in
+        let rest : waiters_now g.setup k ts ≡ map (waiter g past) ts = waiters-read ts (λ u m. h u (rw m (or_true (u == t)))) in
         ap (λ w. w ∷ waiters_now g.setup k ts) first ∙ ap (λ ws. waiter g past t ∷ ws) rest

@@ -1,9 +1,14 @@
 -- The rows of a set are its tasks.
-use Rattle.std.proofs.Common.{◌≡◌, ℕ, ◌+◌, ◌-◌, ◌<◌, ◌≤◌, length, sym, ap, subst, ◌∙◌, arith}
-use Rattle.std.specs.Prelude.{slice_index_or}
+use Rattle.std.proofs.Common.{◌≡◌, ℕ, zero, suc, true, List, [], ◌∷◌, ◌+◌, ◌-◌, ◌<◌, length, refl, sym, ap, subst, ◌∙◌, arith}
+use Rattle.std.specs.Prelude.{slice_index_or, ◌==◌}
+use Rattle.rt_base.specs.TaskNos.{numbers}
+use Rattle.rt_base.specs.declared.TaskNo.{TaskNo}
+use Rattle.rt_rules.specs.Numbers.{has}
+use Rattle.rt_rules.proofs.BoolLaws.{or_true}
+use Rattle.rt_rules.proofs.MemberLaws.{equal_self}
+use Rattle.rt_base.specs.declared.TheConstants.{TICK_END}
 use Rattle.rt_task.specs.declared.Parts.{Parts}
 use Rattle.rt_task.specs.declared.Task.{Task}
-use Rattle.rt_base.specs.declared.TheConstants.{TICK_END}
 use Rattle.rt_model.specs.Group.{no_task}
 use Rattle.group_facts.specs.Kept.{Kept}
 use Rattle.group_jobs.specs.GroupJobs.{IsTaskOf, task_in}
@@ -36,4 +41,10 @@ module _ (p : Parts) (k : Kept) (t : ℕ) (can : CanRankTask p k t) where
   task-deadline = (can.ranks.limits.tasks_in (t - 1) task-place).deadline_low
 
   pub task-kept : IsTaskOf k p.tasks t
-  task-kept = can.ranks.tasks t can.low can.high (ap (λ n. home_in p n) (omega arith))
+  task-kept = can.ranks.tasks t can.low can.high refl
+
+-- an item of a list is one of its numbers
+pub item-has : (ts : List TaskNo) (i : ℕ) (d : TaskNo) → i < length ts → has (slice_index_or ts i d).0 (numbers ts) ≡ true
+item-has [] i d low = absurd (omega (arith, low))
+item-has (t ∷ ts) zero d low = rw (equal_self t.0) refl
+item-has (t ∷ ts) (suc i) d low = rw (item-has ts i d (omega (arith, low))) (or_true ((slice_index_or ts i d).0 == t.0))

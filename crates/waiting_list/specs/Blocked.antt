@@ -14,11 +14,12 @@ use Rattle.group_facts.specs.Kept.{Kept, job_of}
 use Rattle.group_facts.specs.Words.{is_there, key_of}
 use Rattle.group_jobs.specs.GroupJobs.{IsTaskOf, task_in}
 
-module _ (p : Parts) (k : Kept) where
-  -- the cluster of a task, and the base key of its job
-  abbrev pub home_in : ℕ → ℕ
-  home_in t = (task_in p.tasks t).cluster.0
+-- the cluster of a task
+abbrev pub home_in : Parts → ℕ → ℕ
+home_in p t = (task_in p.tasks t).cluster.0
 
+module _ (p : Parts) (k : Kept) where
+  -- the base key of its job
   abbrev pub key_in : ℕ → Key
   key_in t = key_of (group_with p 0) p.plugin t (job_of k t)
 
@@ -30,7 +31,7 @@ module _ (p : Parts) (k : Kept) where
   -- fewer tasks of its cluster than this has processors have a current job with a higher base key
   abbrev pub is_among_first : ℕ → Bool
   is_among_first t =
-      nat_lt (count_by (is_above (home_in t) (key_in t)) p.tasks) (slice_index_or p.clusters (home_in t) no_cluster).cpus
+      nat_lt (count_by (is_above (home_in p t) (key_in t)) p.tasks) (slice_index_or p.clusters (home_in p t) no_cluster).cpus
 
   -- of tasks that wait
   abbrev pub waiter_now : ℕ → Waiter
@@ -44,13 +45,13 @@ module _ (p : Parts) (k : Kept) where
     pub unreserved : is_p_res p.plugin ≡ false
     pub limits : IsInLimits p
     pub there : c < length p.clusters
-    pub tasks : (t : ℕ) → 1 ≤ t → t ≤ length p.tasks → home_in t ≡ c → IsTaskOf k p.tasks t
+    pub tasks : (t : ℕ) → 1 ≤ t → t ≤ length p.tasks → home_in p t ≡ c → IsTaskOf k p.tasks t
 
   -- these are tasks of the set, and those of their clusters are kept
   pub record CanRankTask (t : ℕ) : Type 0 where
     pub low : 1 ≤ t
     pub high : t ≤ length p.tasks
-    pub ranks : CanRank (home_in t)
+    pub ranks : CanRank (home_in p t)
 
   abbrev pub CanRankAll : List ℕ → Type 0
   CanRankAll ts = (t : ℕ) → has t ts ≡ true → CanRankTask t

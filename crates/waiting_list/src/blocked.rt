@@ -16,9 +16,13 @@ fn is_above(parts: &Parts, jobs: &GroupJobs, cluster: ClusterNo, key: Key, task:
         × (task.now ≡ slice_index_or parts.now.tasks i no_task) }
     ensures { result ≡ words.is_above parts.now jobs.now.kept cluster.0 key task.now }
 {
-    task.cluster.0 == cluster.0
-        && jobs.is_there(parts.tasks.as_slice(), task.number)
-        && jobs.base_key(parts, task.number).is_higher(key)
+    if task.cluster.0 != cluster.0 {
+        return false;
+    }
+    if !jobs.is_there(parts.tasks.as_slice(), task.number) {
+        return false;
+    }
+    jobs.base_key(parts, task.number).is_higher(key)
 }
 
 /// Whether fewer tasks of the task's cluster than this has processors have a current job with a higher base key.
