@@ -14,7 +14,7 @@ use Rattle.rt_rules.specs.Numbers.{has}
 use Rattle.rt_model.specs.Group.{Group, clusters, sems, users}
 use Rattle.rt_model.specs.Outcomes.{past_act}
 use Rattle.rt_model.specs.Histories.{clock_moved}
-use Rattle.rt_model.specs.Past.{Acted, Past, entries_in}
+use Rattle.rt_model.specs.Past.{Acted, entries_in}
 use Rattle.rt_model.specs.Runs.{runs}
 use Rattle.rt_model.specs.Steps.{IsActOf}
 use Rattle.rt_plays.specs.Homes.{IsProcessorOf}

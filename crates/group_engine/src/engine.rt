@@ -177,12 +177,7 @@ impl Engine {
 }
 
 /// Answers the act of a step, to whose tick the clock has moved, and adds the entry.
-fn settle(
-    parts: &Parts,
-    state: &mut GroupState,
-    entries: &mut Vec<Entry>,
-    step: Step,
-) -> Reply
+fn settle(parts: &Parts, state: &mut GroupState, entries: &mut Vec<Entry>, step: Step) -> Reply
     requires { (at : Extent)
         × IsMoved at step parts.now entries.old.items (vec_capacity entries.old) state.old }
     ensures reply { (at : Extent)

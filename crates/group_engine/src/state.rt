@@ -228,13 +228,7 @@ impl GroupState {
     }
 
     /// Lists the tasks that wait for the semaphore that the act of the processor frees, once the clock has moved.
-    pub(crate) fn list_waiting(
-        &self,
-        parts: &Parts,
-        cpu: CpuNo,
-        act: Act,
-        list: &mut WaitingList,
-    )
+    pub(crate) fn list_waiting(&self, parts: &Parts, cpu: CpuNo, act: Act, list: &mut WaitingList)
         requires at { (at : Moment) × CanActOn at cpu.0 act parts.now self.now }
         requires room { length parts.now.tasks ≤ list.old.room }
         ensures waiting { (at : Moment) → CanActOn at cpu.0 act parts.now self.now
