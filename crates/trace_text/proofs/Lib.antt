@@ -3,3 +3,4 @@ pub mod CpuLaws
 pub mod ReplayLaws
 pub mod LineLaws
 pub mod GroupLaws
+pub mod BlockLines

@@ -4,40 +4,26 @@ use Rattle.std.specs.Prelude.{flat_map, Option, if◌then◌else◌}
 use Rattle.std.proofs.lemmas.List.Elements.{All-head, All-tail}
 use Rattle.std.proofs.lemmas.Grind.{flat_map-append}
 use Rattle.std.proofs.Math.Seq.{drop-cons}
-use Rattle.rt_task.specs.declared.Act.{Act}
-use Rattle.rt_task.specs.declared.Act.TheVariants as acts
-use Rattle.rt_task.specs.declared.Op.TheVariants as ops
 use Rattle.rt_task.specs.declared.Parts.{Parts}
 use Rattle.rt_history.specs.declared.Entry.{Entry}
 use Rattle.rt_base.specs.declared.CpuNo.{CpuNo}
 use Rattle.rt_rules.specs.Numbers.{numbers_from, rest}
 use Rattle.rt_task.specs.Validity.{IsValid}
-use Rattle.rt_task.specs.RuleWords.{is_empty, is_p_res}
-use Rattle.rt_rules.proofs.BoolLaws.{both}
-use Rattle.rt_rules.specs.SemState.{Neither}
-use Rattle.rt_model.specs.Blocking.{requests, asked_by}
-use Rattle.rt_model.specs.Group.{Group, group_processors, sems}
-use Rattle.rt_model.specs.Histories.{after, changed, clock_moved, past_from, past_of}
-use Rattle.rt_model.specs.Outcomes.{past_act}
-use Rattle.rt_model.specs.Past.{Past, sem_act, PastAct, sem_act_of, accepted, entries_in, Clock, Acted}
-use Rattle.rt_model.specs.Steps.{IsActOf, IsStepOf}
-use Rattle.rt_model.proofs.Steps.{after-acted}
-use Rattle.rt_groups.specs.Built.{gives_steps, is_built}
-use Rattle.rt_groups.specs.Groups.{AreStepsOf, GroupHistory, group_of, past}
+use Rattle.rt_model.specs.Blocking.{Asked, requests}
+use Rattle.rt_model.specs.Group.{Group, group_processors}
+use Rattle.rt_model.specs.Histories.{after, changed, past_from, past_of}
+use Rattle.rt_model.specs.Past.{Past}
+use Rattle.rt_groups.specs.Groups.{GroupHistory, group_of, past}
+use Rattle.count_laws.specs.Tallies.{tallies, tally}
 use Rattle.trace_lines.specs.Lines.{Link, Line, links_of, group_line, entry_line, end_line}
 use Rattle.trace_lines.specs.declared.links.CpuLink.{CpuLink}
 use Rattle.trace_lines.specs.Grammar.{line_text}
 use Rattle.trace_lines.specs.declared.format.Version.{Version}
 use Rattle.trace_lines.specs.Known.{Known, known_of}
-use Rattle.trace_text.specs.TraceText.{links_at, entry_lines, block_lines, group_lines, lines_from, trace_text, head_text}
-use Rattle.trace_text.specs.Groups.{AreGroupsOf, Follows, histories}
+use Rattle.trace_text.specs.TraceText.{links_at, entry_lines, block_lines, block_of, group_lines, lines_from, trace_text, head_text}
+use Rattle.trace_text.specs.Groups.{AreGroupsOf, Follows, histories, request_line}
+use Rattle.trace_text.proofs.ReplayLaws.{drop_end}
 use Rattle.trace_text.proofs.GroupLaws.{groups-counted, groups-few}
-
-pub drop_end : {A : Type 0} (xs : List A) (n : ℕ) → length xs ≤ n → drop n xs ≡ []
-drop_end [] zero h = refl
-drop_end [] (suc n) h = refl
-drop_end (x ∷ xs) zero h = absurd (omega arith)
-drop_end (x ∷ xs) (suc n) h = drop_end xs n (omega arith)
 
 abbrev pub texts : Known → List Line → List ℕ
 texts k ls = flat_map (line_text k) ls
@@ -51,72 +37,20 @@ entries_next k g i p es d low =
     let next : i + 1 ≡ suc i = omega arith in
     rw (drop-cons es i d low, next) refl
 
-requests-clock : (tick : ℕ) (p : Past) → requests (Clock tick ∷ p) ≡ requests p
-unfolding requests
-requests-clock tick p = refl
-
-requests-acted : (d : PastAct) (p : Past) → requests (Acted d ∷ p) ≡ asked_by (sem_act (Acted d)) (entries_in p) (requests p)
-unfolding requests
-requests-acted d p = refl
-
-past_act-act : (g : Group) (q : ℕ) (act : Act) (p : Past) → (past_act g q act p).act ≡ act
-unfolding past_act
-past_act-act g q act p = refl
-
--- a set that is played has no semaphore
-pub sems-none : (g : Group) → is_built g.setup ≡ true → sems g ≡ []
-unfolding sems
-sems-none g built = rw (empty g.setup.sems (both (is_empty g.setup.sems) (gives_steps g.setup.drive) (both (not (is_p_res g.setup.plugin)) _ built).1).0) refl
+-- the lines of a past's requests, by their counts
+pub request_lines : (g : Group) (past : Past) → block_lines g past ≡ map request_line (tallies g past)
+unfolding block_lines
+request_lines g past = each (requests past)
   where
-    empty : {A : Type 0} (xs : List A) → is_empty xs ≡ true → xs ≡ []
-    empty [] h = refl
-    empty (x ∷ xs) h = cc
+    each : (rs : List Asked) → map (block_of g past) rs ≡ map request_line (map (tally g past) rs)
+    each [] = refl
+    each (r ∷ rs) = ap (λ ls. block_of g past r ∷ ls) (each rs)
 
--- where there is no semaphore no act of the group is a request
-quiet : (g : Group) (act : Act) (t : Option ℕ) → sems g ≡ [] → IsActOf g act → sem_act_of act t ≡ Neither
-quiet g acts.Tick t none h = refl
-quiet g acts.Irq t none h = refl
-quiet g (acts.Arrive u) t none h = refl
-quiet g (acts.Do ops.Work) t none h = refl
-quiet g (acts.Do (ops.Lock s)) t none h = let wrong : false ≡ true = rw none at h in cc
-quiet g (acts.Do (ops.Unlock s)) t none h = let wrong : false ≡ true = rw none at h in cc
-quiet g (acts.Do (ops.Sleep n)) t none h = refl
-quiet g (acts.Do ops.NpOn) t none h = refl
-quiet g (acts.Do ops.NpOff) t none h = refl
-quiet g (acts.Do ops.End) t none h = refl
-
-quiet_event : (g : Group) (d : PastAct) → sems g ≡ [] → IsActOf g d.act → sem_act (Acted d) ≡ Neither
-quiet_event g d none of_group = by_case (accepted d.reply) (quiet g d.act d.task none of_group)
-  where
-    by_case : (b : Bool) → sem_act_of d.act d.task ≡ Neither → (if b then sem_act_of d.act d.task else Neither) ≡ Neither
-    by_case true h = h
-    by_case false h = refl
-
-no_request : (g : Group) (p : Past) (e : Entry) → sems g ≡ [] → IsActOf g e.step.act → requests p ≡ [] → requests (after g e.step p) ≡ []
-no_request g p e no_sems of_group none =
-    let d : PastAct = past_act g e.step.cpu.0 e.step.act (clock_moved e.step p) in
-    let act_is : d.act ≡ e.step.act = past_act-act g e.step.cpu.0 e.step.act (clock_moved e.step p) in
-    let nothing : sem_act (Acted d) ≡ Neither = quiet_event g d no_sems (rw act_is of_group) in
-    ap requests (after-acted g e.step p) ∙ requests-acted d (clock_moved e.step p)
-    ∙ ap (λ a. asked_by a (entries_in (clock_moved e.step p)) (requests (clock_moved e.step p))) nothing
-    ∙ requests-clock e.step.tick.0 p ∙ none
-
-requests_none : (g : Group) (p : Past) (es : List Entry) → sems g ≡ [] → AreStepsOf g es → requests p ≡ [] → requests (past_from g p es) ≡ []
-unfolding past_from
-requests_none g p [] no_sems steps none = none
-requests_none g p (e ∷ es) no_sems steps none =
-    requests_none g (after g e.step p) es no_sems (All-tail (λ (x : Entry). IsStepOf g x.step) e es steps)
-    (no_request g p e no_sems (All-head (λ (x : Entry). IsStepOf g x.step) e es steps).act none)
-
-pub blocks_none : (g : Group) (es : List Entry) → is_built g.setup ≡ true → AreStepsOf g es → block_lines g (past_of g es) ≡ []
-unfolding block_lines past_of requests
-blocks_none g es built steps = rw (requests_none g [] es (sems-none g built) steps refl) refl
-
--- the text of a group, where no request is made
-pub group_parts : (k : Known) (g : Group) (es : List Entry) → is_built g.setup ≡ true → AreStepsOf g es
-    → texts k (group_lines g es) ≡ line_text k (group_line g.number (links_at g [] (group_processors g))) ++ texts k (entry_lines g 0 [] es)
+-- the text of a group
+pub group_parts : (k : Known) (g : Group) (es : List Entry) → texts k (group_lines g es)
+    ≡ line_text k (group_line g.number (links_at g [] (group_processors g))) ++ (texts k (entry_lines g 0 [] es) ++ texts k (block_lines g (past_of g es)))
 unfolding group_lines
-group_parts k g es built steps = rw (blocks_none g es built steps, append-nil (entry_lines g 0 [] es)) refl
+group_parts k g es = ap (λ xs. line_text k (group_line g.number (links_at g [] (group_processors g))) ++ xs) (flat_map-append (line_text k) (entry_lines g 0 [] es) (block_lines g (past_of g es)))
 
 -- the same, with the links that a replay showed
 pub entry_next : (k : Known) (g g' : Group) (i : ℕ) (p p' : Past) (es : List Entry) (d : Entry) (shown : List Link) → i < length es → g' ≡ g → p' ≡ after g' (get_or es i d).step p → shown ≡ links_at g' p' (changed g' p p')

@@ -1,24 +1,40 @@
 -- An engine that takes the steps of another again, and the links of its processors.
-use Rattle.std.proofs.Common.{◌≡◌, ℕ, zero, suc, ◌+◌, ◌≤◌, ◌==◌, Bool, true, false, not, List, [], ◌∷◌, length, map, get_or, refl, sym, ap, ◌∙◌, subst, arith}
-use Rattle.std.specs.Prelude.{All, filter, if◌then◌else◌, Result, Ok, Err, OnOk}
+use Rattle.std.proofs.Common.{◌≡◌, ℕ, zero, suc, ◌+◌, ◌<◌, ◌≤◌, ◌==◌, Bool, true, false, not, List, [], ◌∷◌, length, map, drop, get_or, refl, sym, ap, ◌∙◌, subst, arith}
+use Rattle.std.specs.Prelude.{All, filter, if◌then◌else◌, Option, Result, Ok, Err, OnOk}
 use Rattle.std.proofs.lemmas.List.{length-map}
+use Rattle.std.proofs.Math.Seq.{drop-cons}
 use Rattle.rt_base.specs.declared.CpuNo.{CpuNo}
+use Rattle.rt_task.specs.declared.Parts.{Parts}
 use Rattle.rt_task.specs.declared.Step.{Step}
+use Rattle.rt_task.specs.Validity.{IsValid}
+use Rattle.rt_history.specs.declared.Entry.{Entry}
 use Rattle.rt_history.specs.declared.Reply.{Reply}
 use Rattle.rt_rules.specs.Numbers.{has, same}
 use Rattle.rt_rules.proofs.BoolLaws.{or_true}
 use Rattle.rt_rules.proofs.MemberLaws.{equal_self}
 use Rattle.rt_model.specs.Group.{Group, group_processors}
-use Rattle.rt_model.specs.Histories.{after, changed}
+use Rattle.rt_model.specs.Histories.{after, changed, clock_moved, past_from, past_of, reply_to}
 use Rattle.rt_model.specs.Links.{linked}
 use Rattle.rt_model.specs.Past.{Past}
-use Rattle.rt_model.proofs.Steps.{past_of-append}
+use Rattle.rt_model.specs.Runs.{runs}
+use Rattle.rt_model.proofs.Steps.{past_of-append, runs-clock}
 use Rattle.rt_plays.specs.Homes.{IsProcessorOf}
 use Rattle.rt_groups.specs.Groups.{GroupHistory, group_of, past, with_entry}
+use Rattle.count_laws.specs.CountLaws.{act_of}
+use Rattle.count_laws.specs.Tallies.{AreWaiters, Waiter}
+use Rattle.block_counts.specs.GroupRequests.{GroupRequests, IsAt, IsBetween, group_of as requests_group}
+use Rattle.waiting_list.specs.Listing.{AreWaitersAt}
+use Rattle.group_engine.specs.Moments.{between}
 use Rattle.trace_lines.specs.declared.links.CpuLink.{CpuLink}
 use Rattle.trace_lines.specs.Lines.{Link, link_of, links_of}
 use Rattle.trace_text.specs.TraceText.{links_at}
-use Rattle.trace_text.specs.Groups.{cpu_numbers, changed_links, Follows}
+use Rattle.trace_text.specs.Groups.{Counts, Follows, HasPlayed, changed_links, cpu_numbers}
+
+pub drop_end : {A : Type 0} (xs : List A) (n : ℕ) → length xs ≤ n → drop n xs ≡ []
+drop_end [] zero h = refl
+drop_end [] (suc n) h = refl
+drop_end (x ∷ xs) zero h = absurd (omega arith)
+drop_end (x ∷ xs) (suc n) h = drop_end xs n (omega arith)
 
 -- each element's number is among the elements' numbers
 all-has : {A : Type 0} (f : A → ℕ) (xs : List A) → All (λ x. has (f x) (map f xs) ≡ true) xs
@@ -92,8 +108,61 @@ pub on_ok : {E : Type 0} {P : Type 0} (r : Result (Unit {0}) E) → P → OnOk r
 on_ok (Ok u) p = p
 on_ok (Err e) p = tt
 
--- i of n steps were taken again
-pub record Playing (old now : GroupHistory) (qs : List CpuNo) (links : List CpuLink) (n i : ℕ) : Type 0 where
+-- the first i of these entries' steps were taken again
+pub record Playing (old now : GroupHistory) (qs : List CpuNo) (links : List CpuLink) (es : List Entry) (i : ℕ) : Type 0 where
   pub same_group : group_of now ≡ group_of old
-  pub room : n ≤ now.spare + i
+  pub room : length es ≤ now.spare + i
   pub follows : Follows now qs links
+  pub past_is : past_from (group_of old) (past now) (drop i es) ≡ past_from (group_of old) (past old) es
+
+-- one more
+pub past_next : (g : Group) (p p' : Past) (es : List Entry) (i : ℕ) (d : Entry) → i < length es → p' ≡ after g (get_or es i d).step p → past_from g p' (drop (i + 1) es) ≡ past_from g p (drop i es)
+unfolding past_from
+past_next g p p' es i d low is = let next : i + 1 ≡ suc i = omega arith in rw (next, drop-cons es i d low, is) refl
+
+-- all of them
+pub has_played : (old now : GroupHistory) (qs : List CpuNo) (links : List CpuLink) (es : List Entry) (i : ℕ) → length es ≤ i → Playing old now qs links es i → HasPlayed old now es
+unfolding past_from
+has_played old now qs links es i all p = record {
+  group_is = p.same_group;
+  past_is = ap (past_from (group_of old) (past now)) (sym (drop_end es i all)) ∙ p.past_is;
+}
+
+-- at opening there are no requests
+pub counts-open : (h : GroupHistory) (b : GroupRequests) (room : ℕ) (p : Parts) (n spare : ℕ) → IsValid p → h ≡ record { setup = p; group = n; entries = []; spare = spare }
+    → b.setup ≡ p → b.group ≡ n → b.spare ≡ spare → IsAt b [] → length p.tasks ≤ room → Counts h b room
+unfolding past_of past_from
+counts-open h b room p n spare valid is setup_is group_is spare_is at few = record {
+  valid = subst (λ (x : GroupHistory). IsValid x.setup) (sym is) valid;
+  setup_is = setup_is ∙ ap (λ (x : GroupHistory). x.setup) (sym is);
+  group_is = group_is ∙ ap (λ (x : GroupHistory). x.group) (sym is);
+  at = subst (λ (x : GroupHistory). IsAt b (past x)) (sym is) at;
+  spare = omega (arith, spare_is, ap (λ (x : GroupHistory). x.spare) is);
+  room_is = omega (arith, few, ap (λ (x : GroupHistory). length x.setup.tasks) is);
+}
+
+-- the requests of an entry more
+module _ (h h' : GroupHistory) (b b' : GroupRequests) (room room' : ℕ) (step : Step) (reply : Reply) (counts : Counts h b room) (entry : h' ≡ with_entry (record { step = step; reply = reply }) h) where
+  own : requests_group b ≡ group_of h
+  own = rw (counts.setup_is, counts.group_is) refl
+
+  pub is_between : (running : Option ℕ) (ws : List Waiter) → reply ≡ reply_to (group_of h) step (past h) → running ≡ runs step.cpu.0 (past h) → AreWaitersAt (between h step) step.cpu.0 step.act ws
+      → IsBetween b (past h) (record { step = step; reply = reply }) running ws
+  unfolding reply_to
+  is_between running ws reply_is runs_is waiting = record {
+    reply_is = reply_is ∙ ap (λ (g : Group). reply_to g step (past h)) (sym own);
+    runs_is = runs_is ∙ sym (runs-clock step.cpu.0 step.tick.0 (past h));
+    waiting = λ t s frees.
+        subst (λ (g : Group). AreWaiters g s (clock_moved step (past h)) ws) (sym own)
+        (waiting t s (ap (λ (g : Group). act_of g step (past h)) (sym own) ∙ frees));
+  }
+
+  pub counts-next : b'.setup ≡ b.setup → b'.group ≡ b.group → b'.spare + 1 ≡ b.spare → room' ≡ room → IsAt b' (after (requests_group b) step (past h)) → Counts h' b' room'
+  counts-next setup_same group_same spare_less room_same at = record {
+    valid = subst (λ (x : GroupHistory). IsValid x.setup) (sym entry) counts.valid;
+    setup_is = setup_same ∙ counts.setup_is ∙ ap (λ (x : GroupHistory). x.setup) (sym entry);
+    group_is = group_same ∙ counts.group_is ∙ ap (λ (x : GroupHistory). x.group) (sym entry);
+    at = subst (λ (p : Past). IsAt b' p) (ap (λ (g : Group). after g step (past h)) own ∙ sym (past_step h h' step reply entry)) at;
+    spare = omega (arith, counts.spare, spare_less, ap (λ (x : GroupHistory). x.spare) entry);
+    room_is = omega (arith, counts.room_is, room_same, ap (λ (x : GroupHistory). length x.setup.tasks) entry);
+  }

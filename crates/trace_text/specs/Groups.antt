@@ -1,13 +1,17 @@
 -- The groups of a setup, each with its history.
-use Rattle.std.specs.Prelude.{◌≡◌, ℕ, ◌<◌, List, [], ◌∷◌, length, map, All, if◌then◌else◌}
+use Rattle.std.specs.Prelude.{◌≡◌, ℕ, ◌<◌, ◌≤◌, List, [], ◌∷◌, length, map, All, if◌then◌else◌}
 use Rattle.rt_base.specs.declared.CpuNo.{CpuNo}
 use Rattle.rt_task.specs.declared.Parts.{Parts}
+use Rattle.rt_task.specs.Validity.{IsValid}
 use Rattle.rt_history.specs.declared.Entry.{Entry}
 use Rattle.rt_rules.specs.Numbers.{numbers_from, same}
 use Rattle.rt_model.specs.Group.{group_processors}
+use Rattle.rt_model.specs.Histories.{past_from}
 use Rattle.rt_groups.specs.Groups.{GroupHistory, IsGroupOf, group_of, past}
+use Rattle.count_laws.specs.Tallies.{Tally}
+use Rattle.block_counts.specs.GroupRequests.{GroupRequests, IsAt}
 use Rattle.trace_lines.specs.declared.links.CpuLink.{CpuLink}
-use Rattle.trace_lines.specs.Lines.{Link, links_of}
+use Rattle.trace_lines.specs.Lines.{Line, Link, block_line, links_of}
 use Rattle.trace_text.specs.TraceText.{links_at}
 
 abbrev pub histories : List GroupHistory → List (List Entry)
@@ -33,3 +37,21 @@ changed_links (x ∷ before) (y ∷ now) = if same x.1 y.1 then changed_links be
 pub record Follows (h : GroupHistory) (qs : List CpuNo) (links : List CpuLink) : Type 0 where
   pub cpus_are : cpu_numbers qs ≡ group_processors (group_of h)
   pub links_are : links_of links ≡ links_at (group_of h) (past h) (group_processors (group_of h))
+
+-- the requests of a history are kept, with room for its further entries and for the tasks that wait
+pub record Counts (h : GroupHistory) (b : GroupRequests) (room : ℕ) : Type 0 where
+  pub valid : IsValid h.setup
+  pub setup_is : b.setup ≡ h.setup
+  pub group_is : b.group ≡ h.group
+  pub at : IsAt b (past h)
+  pub spare : h.spare ≤ b.spare
+  pub room_is : length h.setup.tasks ≤ room
+
+-- the line of a request
+abbrev pub request_line : Tally → Line
+request_line x = block_line x.no x.task x.sem x.ends x.ends_all x.bound
+
+-- a history has taken the steps of these entries
+pub record HasPlayed (old new : GroupHistory) (es : List Entry) : Type 0 where
+  pub group_is : group_of new ≡ group_of old
+  pub past_is : past new ≡ past_from (group_of old) (past old) es

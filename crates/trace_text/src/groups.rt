@@ -1,18 +1,22 @@
 //! The groups of a trace.
-ghost use Rattle.std.specs.Prelude.{◌≡◌, ◌≤◌, true, flat_map, length};
+ghost use Rattle.std.specs.Prelude.{◌≡◌, ◌≤◌, true, flat_map, length, map, OnOk};
 ghost use Rattle.rt_base.specs.declared.TheConstants.{MOST_STEPS};
 ghost use Rattle.rt_groups.specs.Built.{is_built};
 ghost use Rattle.rt_groups.specs.Groups.{group_of, past, AreStepsOf, IsGroupOf};
 ghost use Rattle.trace_lines.specs.Grammar.{line_text};
-ghost use Rattle.trace_text.specs.Groups.{AreGroupsOf, Follows, histories};
+ghost use Rattle.block_counts.specs.SeenWords.{tallies_of};
+ghost use Rattle.trace_text.specs.Groups.{AreGroupsOf, Follows, HasPlayed, histories, request_line};
 ghost use Rattle.trace_lines.specs.Known.{known_in};
 ghost use Rattle.trace_text.specs.TraceText.{entry_lines, group_lines, head_text};
 ghost use Rattle.trace_text.specs.TraceText.{lines_from, trace_text};
 ghost use Rattle.trace_text.specs.Writing.{Came};
 
+use block_counts::Seen;
 use crate::WriteStop;
 use crate::head::set_line_of;
-use crate::lines::{write_bytes, write_end_line, write_entry_line, write_group_line};
+use crate::lines::{
+    write_block_line, write_bytes, write_end_line, write_entry_line, write_group_line,
+};
 use crate::replay::Replay;
 use group_engine::Engine;
 use rt_base::GroupNo;
@@ -34,13 +38,32 @@ fn write_entries<K: Sink>(
     requires room { length entries.now ≤ replay.old.engine.spare }
     requires few { length entries.now ≤ MOST_STEPS }
     requires steps { AreStepsOf (group_of replay.old.engine) entries.now }
-    ensures { Came result (K.held out.old) (K.held out.new) (K.faults out.old) (K.faults out.new)
+    ensures lines { Came result (K.held out.old) (K.held out.new) (K.faults out.old) (K.faults out.new)
         (flat_map (line_text (known_in format.now))
         (entry_lines (group_of replay.old.engine) 0 (past replay.old.engine) entries.now)) }
+    ensures played { OnOk result
+        (HasPlayed replay.old.engine replay.new.engine entries.now) }
 {
     for (i, entry) in entries.iter().enumerate() {
         replay.step(entry.step)?;
         write_entry_line(out, line, format, i as u32, entry, replay.changed())?;
+    }
+    Ok(())
+}
+
+/// The lines of requests.
+fn write_blocks<K: Sink>(
+    requests: &[Seen],
+    format: &Format,
+    line: &mut Vec<u8>,
+    out: &mut K,
+) -> Result<(), WriteStop>
+    ensures { Came result (K.held out.old) (K.held out.new) (K.faults out.old) (K.faults out.new)
+        (flat_map (line_text (known_in format.now))
+        (map request_line (tallies_of requests.now))) }
+{
+    for seen in requests {
+        write_block_line(out, line, format, seen)?;
     }
     Ok(())
 }
@@ -66,7 +89,8 @@ fn write_group<K: Sink>(
     let entries = group.entries();
     let mut replay = Replay::open(alloc, setup, number, entries.len() as u32)?;
     write_group_line(out, line, format, number, replay.links())?;
-    write_entries(&mut replay, entries, format, line, out)
+    write_entries(&mut replay, entries, format, line, out)?;
+    write_blocks(replay.requests(), format, line, out)
 }
 
 /// The lines of the groups, and the line `end`.

@@ -9,6 +9,7 @@ ghost use Rattle.trace_text.specs.TraceText.{trace_text};
 ghost use Rattle.trace_text.specs.Groups.{AreGroupsOf, histories};
 ghost use Rattle.trace_text.specs.declared.stop.WriteStop.TheVariants as stops;
 
+mod counted;
 mod cpus;
 mod groups;
 mod head;

@@ -3,13 +3,18 @@ ghost use Rattle.std.specs.Prelude.{◌≡◌};
 ghost use Rattle.trace_lines.specs.Known.{Known, known_in};
 ghost use Rattle.trace_lines.specs.Grammar.{line_text};
 ghost use Rattle.trace_lines.specs.Lines.{links_of, group_line, entry_line, end_line};
+ghost use Rattle.block_counts.specs.SeenWords.{tally_of};
+ghost use Rattle.trace_text.specs.Groups.{request_line};
 ghost use Rattle.trace_text.specs.Writing.{Came};
 
+use block_counts::Seen;
 use crate::WriteStop;
 use rt_base::GroupNo;
 use rt_fault::{Sink, put_all};
 use rt_history::Entry;
-use trace_lines::{CpuLink, Format, put_end_line, put_entry_line, put_group_line};
+use trace_lines::{
+    CpuLink, Format, put_block_line, put_end_line, put_entry_line, put_group_line,
+};
 
 /// Writes bytes.
 pub fn write_bytes<K: Sink>(out: &mut K, bytes: &[u8]) -> Result<(), WriteStop>
@@ -50,6 +55,30 @@ pub fn write_entry_line<K: Sink>(
 {
     line.clear();
     put_entry_line(line, format, number, entry, links)?;
+    write_bytes(out, line.as_slice())
+}
+
+/// Writes the line of a request.
+pub fn write_block_line<K: Sink>(
+    out: &mut K,
+    line: &mut Vec<u8>,
+    format: &Format,
+    seen: &Seen,
+) -> Result<(), WriteStop>
+    ensures { Came result (K.held out.old) (K.held out.new) (K.faults out.old) (K.faults out.new)
+        (line_text (known_in format.now) (request_line (tally_of seen.now))) }
+{
+    line.clear();
+    put_block_line(
+        line,
+        format,
+        seen.no,
+        seen.task,
+        seen.sem,
+        seen.ends,
+        seen.ends_all,
+        seen.bound,
+    )?;
     write_bytes(out, line.as_slice())
 }
 

@@ -1,17 +1,20 @@
-//! A group's steps taken again, for the links that each of them changes.
+//! A group's steps taken again, for the links that each of them changes and for the requests.
 ghost use Rattle.std.specs.Prelude.{◌≡◌, ◌-◌, ◌<◌, ◌≤◌, [], true, IfOk, OnOk};
 ghost use Rattle.rt_base.specs.declared.TheConstants.{MOST_STEPS};
 ghost use Rattle.rt_model.specs.Histories.{after, changed};
 ghost use Rattle.rt_model.specs.Steps.{IsStepOf};
 ghost use Rattle.rt_groups.specs.Built.{is_built};
 ghost use Rattle.rt_groups.specs.Groups.{group_of, past, IsGroupOf};
+ghost use Rattle.count_laws.specs.Tallies.{tallies};
+ghost use Rattle.block_counts.specs.SeenWords.{tallies_of};
 ghost use Rattle.trace_lines.specs.Lines.{links_of};
 ghost use Rattle.trace_text.specs.TraceText.{links_at};
 ghost use Rattle.trace_text.specs.Groups.{Follows};
 
+use block_counts::Seen;
+use crate::counted::Counted;
 use crate::cpus::cpus_of;
 use crate::links::{put_changed, read_links};
-use group_engine::Engine;
 use rt_base::{CpuNo, GroupNo, NoMemory};
 use rt_task::{Setup, Step};
 use std::alloc::Global;
@@ -22,7 +25,7 @@ use trace_lines::CpuLink;
 /// before the last step, and those that this step changed.
 #[derive(Drop)]
 pub struct Replay {
-    engine: Engine,
+    engine: Counted,
     cpus: Vec<CpuNo>,
     links: Vec<CpuLink>,
     before: Vec<CpuLink>,
@@ -40,10 +43,10 @@ impl Replay {
             record { setup = setup.now; group = group.0; entries = []; spare = room }) }
         ensures follows { IfOk result (λ r. Follows r.engine r.cpus.items r.links.items) }
     {
-        let engine = Engine::open(alloc, setup, group, room)?;
+        let engine = Counted::open(alloc, setup, group, room)?;
         let cpus = cpus_of(alloc, setup, group)?;
         let mut links = Vec::new(alloc);
-        read_links(&engine, cpus.as_slice(), &mut links)?;
+        read_links(engine.engine(), cpus.as_slice(), &mut links)?;
         Ok(Replay {
             engine,
             cpus,
@@ -67,6 +70,14 @@ impl Replay {
         self.changed.as_slice()
     }
 
+    /// The requests so far, in order of asking.
+    pub fn requests(&self) -> &[Seen]
+        ensures { tallies_of result.now
+            ≡ tallies (group_of self.now.engine) (past self.now.engine) }
+    {
+        self.engine.requests()
+    }
+
     /// Takes a step.
     pub fn step(&mut self, step: Step) -> Result<(), NoMemory>
         requires room { 0 < self.old.engine.spare }
@@ -85,7 +96,7 @@ impl Replay {
     {
         self.engine.step(step);
         mem::swap(&mut self.before, &mut self.links);
-        read_links(&self.engine, self.cpus.as_slice(), &mut self.links)?;
+        read_links(self.engine.engine(), self.cpus.as_slice(), &mut self.links)?;
         put_changed(
             self.before.as_slice(),
             self.links.as_slice(),

@@ -2,7 +2,7 @@ use Rattle.std.proofs.Common.{◌≡◌, [], drop, ap, sym, ◌∙◌, append-ni
 use Rattle.rt_task.specs.declared.Parts.{Parts}
 use Rattle.trace_text.specs.Groups.{cpu_numbers}
 use Rattle.rt_plays.proofs.ProcessorLaws.{cpus_among, group_processors_among}
-use Rattle.trace_text.proofs.LineLaws.{drop_end}
+use Rattle.trace_text.proofs.ReplayLaws.{drop_end}
 use Rattle.trace_text.proofs.cpus.cpus_of.Goals as goal
 
 pub returns : goal.returns

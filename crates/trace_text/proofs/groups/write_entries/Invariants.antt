@@ -1,4 +1,4 @@
-use Rattle.std.proofs.Common.{length, drop}
+use Rattle.std.proofs.Common.{drop}
 use Rattle.rt_groups.specs.Groups.{group_of, past}
 use Rattle.trace_lines.specs.Known.{known_in}
 use Rattle.trace_text.specs.TraceText.{entry_lines}
@@ -10,7 +10,7 @@ use Rattle.trace_text.proofs.groups.write_entries.Given as goal
 -- the lines of the entries so far came, and the replay has taken their steps
 abbrev pub invariant-loop-i : goal.invariant-loop-i
 invariant-loop-i g l =
-    Playing l.initial.replay.engine l.replay.engine l.replay.cpus.items l.replay.links.items (length l.entries) l.i
+    Playing l.initial.replay.engine l.replay.engine l.replay.cpus.items l.replay.links.items l.entries l.i
     × Coming (g.K.Sink.held l.initial.out) (g.K.Sink.held l.out) (g.K.Sink.faults l.initial.out) (g.K.Sink.faults l.out)
     (texts (known_in l.format) (entry_lines (group_of l.initial.replay.engine) 0 (past l.initial.replay.engine) l.entries))
     (texts (known_in l.format) (entry_lines (group_of l.initial.replay.engine) l.i (past l.replay.engine) (drop l.i l.entries)))
