@@ -1,11 +1,12 @@
 -- The lines of a group, part by part as they are written.
-use Rattle.std.proofs.Common.{◌≡◌, ℕ, zero, suc, ◌+◌, ◌<◌, ◌≤◌, Bool, true, false, not, List, [], ◌∷◌, ◌++◌, length, map, drop, get_or, refl, sym, ap, ◌∙◌, arith, append-nil}
+use Rattle.std.proofs.Common.{◌≡◌, ℕ, zero, suc, ◌+◌, ◌<◌, ◌≤◌, Bool, true, false, not, List, [], ◌∷◌, ◌++◌, length, map, drop, get_or, refl, sym, ap, subst, ◌∙◌, arith, append-nil}
 use Rattle.std.specs.Prelude.{flat_map, Option, if◌then◌else◌}
 use Rattle.std.proofs.lemmas.List.Elements.{All-head, All-tail}
 use Rattle.std.proofs.lemmas.Grind.{flat_map-append}
 use Rattle.std.proofs.Math.Seq.{drop-cons}
 use Rattle.rt_task.specs.declared.Parts.{Parts}
 use Rattle.rt_history.specs.declared.Entry.{Entry}
+use Rattle.rt_fault.specs.Held.{Held}
 use Rattle.rt_base.specs.declared.CpuNo.{CpuNo}
 use Rattle.rt_rules.specs.Numbers.{numbers_from, rest}
 use Rattle.rt_task.specs.Validity.{IsValid}
@@ -15,13 +16,16 @@ use Rattle.rt_model.specs.Histories.{after, changed, past_from, past_of}
 use Rattle.rt_model.specs.Past.{Past}
 use Rattle.rt_groups.specs.Groups.{GroupHistory, group_of, past}
 use Rattle.count_laws.specs.Tallies.{tallies, tally}
+use Rattle.block_counts.specs.declared.seen.Seen.{Seen}
+use Rattle.block_counts.specs.SeenWords.{tallies_of, tally_of}
 use Rattle.trace_lines.specs.Lines.{Link, Line, links_of, group_line, entry_line, end_line}
 use Rattle.trace_lines.specs.declared.links.CpuLink.{CpuLink}
 use Rattle.trace_lines.specs.Grammar.{line_text}
 use Rattle.trace_lines.specs.declared.format.Version.{Version}
 use Rattle.trace_lines.specs.Known.{Known, known_of}
 use Rattle.trace_text.specs.TraceText.{links_at, entry_lines, block_lines, block_of, group_lines, lines_from, trace_text, head_text}
-use Rattle.trace_text.specs.Groups.{AreGroupsOf, Follows, histories, request_line}
+use Rattle.trace_text.specs.Groups.{AreGroupsOf, Follows, HasPlayed, histories, request_line}
+use Rattle.trace_text.proofs.CameLaws.{Coming, coming-start}
 use Rattle.trace_text.proofs.ReplayLaws.{drop_end}
 use Rattle.trace_text.proofs.GroupLaws.{groups-counted, groups-few}
 
@@ -46,11 +50,34 @@ request_lines g past = each (requests past)
     each [] = refl
     each (r ∷ rs) = ap (λ ls. block_of g past r ∷ ls) (each rs)
 
--- the text of a group
-pub group_parts : (k : Known) (g : Group) (es : List Entry) → texts k (group_lines g es)
-    ≡ line_text k (group_line g.number (links_at g [] (group_processors g))) ++ (texts k (entry_lines g 0 [] es) ++ texts k (block_lines g (past_of g es)))
+-- the text of a group, and its parts: its line, those of its entries, and those of its requests
+abbrev pub text_of : Known → GroupHistory → List ℕ
+text_of k h = texts k (group_lines (group_of h) h.entries)
+
+abbrev pub line_of : Known → GroupHistory → List ℕ
+line_of k h = line_text k (group_line h.group (links_at (group_of h) [] (group_processors (group_of h))))
+
+abbrev pub entries_of : Known → GroupHistory → List ℕ
+entries_of k h = texts k (entry_lines (group_of h) 0 [] h.entries)
+
+abbrev pub blocks_of : Known → GroupHistory → List ℕ
+blocks_of k h = texts k (block_lines (group_of h) (past_of (group_of h) h.entries))
+
+group_parts : (k : Known) (h : GroupHistory) → text_of k h ≡ line_of k h ++ (entries_of k h ++ blocks_of k h)
 unfolding group_lines
-group_parts k g es = ap (λ xs. line_text k (group_line g.number (links_at g [] (group_processors g))) ++ xs) (flat_map-append (line_text k) (entry_lines g 0 [] es) (block_lines g (past_of g es)))
+group_parts k h = ap (λ xs. line_of k h ++ xs) (flat_map-append (line_text k) (entry_lines (group_of h) 0 [] h.entries) (block_lines (group_of h) (past_of (group_of h) h.entries)))
+
+-- none of them came yet
+pub coming-group : (k : Known) (h : GroupHistory) (held : Held) (faults : ℕ) → Coming held held faults faults (text_of k h) (line_of k h ++ (entries_of k h ++ blocks_of k h))
+coming-group k h held faults = subst (λ xs. Coming held held faults faults (text_of k h) xs) (group_parts k h) (coming-start held faults (text_of k h))
+
+-- the line of a request in the list, and the lines after it
+pub request_next : (k : Known) (xs : List Seen) (i : ℕ) (d : Seen) → i < length xs
+    → texts k (map request_line (tallies_of (drop i xs))) ≡ line_text k (request_line (tally_of (get_or xs i d))) ++ texts k (map request_line (tallies_of (drop (i + 1) xs)))
+request_next k xs i d low = let next : i + 1 ≡ suc i = omega arith in rw (drop-cons xs i d low, next) refl
+
+pub requests_end : (k : Known) (xs : List Seen) (i : ℕ) → length xs ≤ i → texts k (map request_line (tallies_of (drop i xs))) ≡ []
+requests_end k xs i h = rw (drop_end xs i h) refl
 
 -- the same, with the links that a replay showed
 pub entry_next : (k : Known) (g g' : Group) (i : ℕ) (p p' : Past) (es : List Entry) (d : Entry) (shown : List Link) → i < length es → g' ≡ g → p' ≡ after g' (get_or es i d).step p → shown ≡ links_at g' p' (changed g' p p')
@@ -71,6 +98,19 @@ opened_past g r none = ap (past_of (group_of r)) none ∙ past_none (group_of r)
 
 pub opened_links : (g : Group) (r : GroupHistory) (qs : List CpuNo) (links : List CpuLink) → group_of r ≡ g → r.entries ≡ [] → Follows r qs links → links_of links ≡ links_at g [] (group_processors g)
 opened_links g r qs links same none f = f.links_are ∙ ap (λ (p : Past). links_at (group_of r) p (group_processors (group_of r))) (opened_past g r none) ∙ ap (λ (x : Group). links_at x [] (group_processors x)) same
+
+-- the requests that were counted as the entries were taken again
+pub written_blocks : (k : Known) (h old new : GroupHistory) (es : List Entry) (seen : List Seen) → group_of old ≡ group_of h → old.entries ≡ [] → es ≡ h.entries
+    → HasPlayed old new es → tallies_of seen ≡ tallies (group_of new) (past new)
+    → texts k (map request_line (tallies_of seen)) ≡ texts k (block_lines (group_of h) (past_of (group_of h) h.entries))
+unfolding past_of
+written_blocks k h old new es seen same none all played are =
+    let past_is : past new ≡ past_of (group_of h) h.entries =
+    played.past_is ∙ ap (past_from (group_of old) (past old)) all
+    ∙ ap (λ (p : Past). past_from (group_of old) p h.entries) (opened_past (group_of h) old none) ∙ ap (λ (g : Group). past_from g [] h.entries) same in
+    let group_is : group_of new ≡ group_of h = played.group_is ∙ same in
+    let told : tallies_of seen ≡ tallies (group_of h) (past_of (group_of h) h.entries) = are ∙ ap (λ (g : Group). tallies g (past new)) group_is ∙ ap (tallies (group_of h)) past_is in
+    ap (texts k) (ap (map request_line) told ∙ sym (request_lines (group_of h) (past_of (group_of h) h.entries)))
 
 -- ---- groups
 

@@ -116,9 +116,9 @@ pub record Playing (old now : GroupHistory) (qs : List CpuNo) (links : List CpuL
   pub past_is : past_from (group_of old) (past now) (drop i es) ≡ past_from (group_of old) (past old) es
 
 -- one more
-pub past_next : (g : Group) (p p' : Past) (es : List Entry) (i : ℕ) (d : Entry) → i < length es → p' ≡ after g (get_or es i d).step p → past_from g p' (drop (i + 1) es) ≡ past_from g p (drop i es)
+pub past_next : (g g' : Group) (p p' : Past) (es : List Entry) (i : ℕ) (d : Entry) → i < length es → g' ≡ g → p' ≡ after g' (get_or es i d).step p → past_from g p' (drop (i + 1) es) ≡ past_from g p (drop i es)
 unfolding past_from
-past_next g p p' es i d low is = let next : i + 1 ≡ suc i = omega arith in rw (next, drop-cons es i d low, is) refl
+past_next g g' p p' es i d low same is = let next : i + 1 ≡ suc i = omega arith in rw (next, drop-cons es i d low, is, same) refl
 
 -- all of them
 pub has_played : (old now : GroupHistory) (qs : List CpuNo) (links : List CpuLink) (es : List Entry) (i : ℕ) → length es ≤ i → Playing old now qs links es i → HasPlayed old now es

@@ -39,7 +39,12 @@ impl Model for Counted {
 
 impl Counted {
     /// A group at opening, with room for so many steps.
-    pub fn open(alloc: Global, setup: &Setup, group: GroupNo, room: u32) -> Result<Counted, NoMemory>
+    pub fn open(
+        alloc: Global,
+        setup: &Setup,
+        group: GroupNo,
+        room: u32,
+    ) -> Result<Counted, NoMemory>
         requires group { IsGroupOf setup.now group.0 }
         requires room { room ≤ MOST_STEPS }
         requires unreserved { is_p_res setup.now.plugin ≡ false }

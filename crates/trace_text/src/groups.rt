@@ -11,13 +11,13 @@ ghost use Rattle.trace_text.specs.TraceText.{entry_lines, group_lines, head_text
 ghost use Rattle.trace_text.specs.TraceText.{lines_from, trace_text};
 ghost use Rattle.trace_text.specs.Writing.{Came};
 
-use block_counts::Seen;
 use crate::WriteStop;
 use crate::head::set_line_of;
 use crate::lines::{
     write_block_line, write_bytes, write_end_line, write_entry_line, write_group_line,
 };
 use crate::replay::Replay;
+use block_counts::Seen;
 use group_engine::Engine;
 use rt_base::GroupNo;
 use rt_fault::Sink;

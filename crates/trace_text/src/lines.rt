@@ -7,14 +7,12 @@ ghost use Rattle.block_counts.specs.SeenWords.{tally_of};
 ghost use Rattle.trace_text.specs.Groups.{request_line};
 ghost use Rattle.trace_text.specs.Writing.{Came};
 
-use block_counts::Seen;
 use crate::WriteStop;
+use block_counts::Seen;
 use rt_base::GroupNo;
 use rt_fault::{Sink, put_all};
 use rt_history::Entry;
-use trace_lines::{
-    CpuLink, Format, put_block_line, put_end_line, put_entry_line, put_group_line,
-};
+use trace_lines::{CpuLink, Format, put_block_line, put_end_line, put_entry_line, put_group_line};
 
 /// Writes bytes.
 pub fn write_bytes<K: Sink>(out: &mut K, bytes: &[u8]) -> Result<(), WriteStop>

@@ -11,10 +11,10 @@ ghost use Rattle.trace_lines.specs.Lines.{links_of};
 ghost use Rattle.trace_text.specs.TraceText.{links_at};
 ghost use Rattle.trace_text.specs.Groups.{Follows};
 
-use block_counts::Seen;
 use crate::counted::Counted;
 use crate::cpus::cpus_of;
 use crate::links::{put_changed, read_links};
+use block_counts::Seen;
 use rt_base::{CpuNo, GroupNo, NoMemory};
 use rt_task::{Setup, Step};
 use std::alloc::Global;
@@ -43,12 +43,12 @@ impl Replay {
             record { setup = setup.now; group = group.0; entries = []; spare = room }) }
         ensures follows { IfOk result (λ r. Follows r.engine r.cpus.items r.links.items) }
     {
-        let engine = Counted::open(alloc, setup, group, room)?;
+        let counted = Counted::open(alloc, setup, group, room)?;
         let cpus = cpus_of(alloc, setup, group)?;
         let mut links = Vec::new(alloc);
-        read_links(engine.engine(), cpus.as_slice(), &mut links)?;
+        read_links(counted.engine(), cpus.as_slice(), &mut links)?;
         Ok(Replay {
-            engine,
+            engine: counted,
             cpus,
             links,
             before: Vec::new(alloc),

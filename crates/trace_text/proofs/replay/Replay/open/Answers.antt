@@ -1,4 +1,4 @@
-use Rattle.std.proofs.Common.{ap}
+use Rattle.std.proofs.Common.{ap, ◌∙◌}
 use Rattle.rt_groups.specs.Groups.{group_of}
 use Rattle.rt_groups.proofs.NoSems.{built-unreserved}
 use Rattle.trace_text.proofs.ReplayLaws.{cpus_there}
@@ -8,4 +8,4 @@ pub open-requires-clause-unreserved : goal.open-requires-clause-unreserved
 open-requires-clause-unreserved c = built-unreserved c.args.setup.now c.requires.built
 
 pub read_links-requires : goal.read_links-requires
-read_links-requires c = rw (c.engine.ensures, ap group_of c.in_ok-engine.ensures, c.as_slice.ensures.value) (cpus_there _ c.in_ok-cpus.cpus.items c.in_ok-cpus.ensures)
+read_links-requires c = rw (ap group_of (c.engine.ensures ∙ c.in_ok-counted.ensures), c.as_slice.ensures.value) (cpus_there _ c.in_ok-cpus.cpus.items c.in_ok-cpus.ensures)
