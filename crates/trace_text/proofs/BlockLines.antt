@@ -1,12 +1,10 @@
 -- The lines of the requests of a group's history are lines of the grammar: their tasks and semaphores are the set's, and their counts
 -- and bounds are small.
-use Rattle.std.proofs.Common.{◌≡◌, ℕ, suc, ◌+◌, ◌-◌, ◌*◌, ◌^◌, ◌<◌, ◌≤◌, inl, inr, Bool, true, false, not, ◌&&◌, List, [], ◌∷◌, length, leb-true, refl, ap, arith}
+use Rattle.std.proofs.Common.{◌≡◌, ℕ, ◌+◌, ◌*◌, ◌<◌, ◌≤◌, inl, inr, Bool, true, false, ◌&&◌, List, [], ◌∷◌, length, leb-true, refl, ap, arith}
 use Rattle.std.specs.Prelude.{All, Option, Some, if◌then◌else◌, nat_le}
 use Rattle.std.proofs.lemmas.Bool.{cases_lt}
 use Rattle.std.proofs.lemmas.List.{get_or_past, length-map}
 use Rattle.std.proofs.lemmas.List.Elements.{All-map, All-nil, All-push, All-weaker}
-use Rattle.std.proofs.lemmas.List.Filters.{length-filter_both}
-use Rattle.std.proofs.lemmas.List.Sums.{get_or-le-sum_by}
 use Rattle.rt_base.specs.declared.TheConstants.{MOST_CLUSTERS, MOST_CPUS, MOST_SEMS, MOST_STEPS, MOST_TASKS}
 use Rattle.rt_task.specs.declared.Act.{Act}
 use Rattle.rt_task.specs.declared.Act.TheVariants as acts
@@ -21,12 +19,12 @@ use Rattle.rt_task.specs.Lookups as lookups
 use Rattle.rt_task.specs.SizeRules.{whole_size}
 use Rattle.rt_task.specs.Validity.{IsValid}
 use Rattle.rt_history.specs.declared.Entry.{Entry}
-use Rattle.rt_rules.specs.Numbers.{has, numbers_from}
+use Rattle.rt_rules.specs.Numbers.{has}
 use Rattle.rt_rules.specs.SemState.{Asks, Frees, Neither, SemAct}
 use Rattle.rt_rules.proofs.BoolLaws.{both}
-use Rattle.rt_rules.proofs.NumberLaws.{has-numbers_from, length-numbers_from, numbers_from-below}
+use Rattle.rt_rules.proofs.NumberLaws.{has-numbers_from, numbers_from-below}
 use Rattle.rt_model.specs.Blocking.{Asked, asked_by, bound, bound_by, ends, ends_all, frees, is_blocked, is_open, requests}
-use Rattle.rt_model.specs.Group.{Group, cluster, cpus, declares, home, in_group, no_cluster, protocol, sems, tasks, users}
+use Rattle.rt_model.specs.Group.{Group, cluster, cpus, home, no_cluster, protocol, sems, tasks}
 use Rattle.rt_model.specs.Histories.{past_of}
 use Rattle.rt_model.specs.Past.{Acted, Clock, Event, Past, entries_in, is_act, sem_act}
 use Rattle.rt_model.specs.Reachable.{IsReachable, opened}
@@ -36,13 +34,14 @@ use Rattle.rt_model.proofs.PastLaws.{made-from}
 use Rattle.rt_model.proofs.Steps.{length-past_from, number_of-le}
 use Rattle.rt_laws.proofs.Asked.{IsAsked, asked}
 use Rattle.rt_laws.proofs.Moves.{IsMove, by_moves, clock_moves, cpu_acts}
-use Rattle.rt_laws.proofs.Rules.{MeetsRules}
 use Rattle.rt_laws.proofs.Running.{IsRunning, running}
 use Rattle.rt_laws.proofs.ValidSets.{rules_of}
 use Rattle.rt_groups.proofs.GroupPlaces.{tasks_are_at_home}
 use Rattle.rt_groups.proofs.SetLimits.{sets_are_in_limits}
 use Rattle.rt_groups.proofs.ValidRows.{passes_rows}
 use Rattle.block_counts.specs.GroupRequests.{NamesKnown}
+use Rattle.block_counts.proofs.Limits.{can_bound}
+use Rattle.block_counts.proofs.UserLaws.{users-all, users-few}
 use Rattle.trace_lines.specs.declared.format.Version.{Version}
 use Rattle.trace_lines.specs.Known.{BoundIsKnown, IsLine, IsNumberOf, Known, known_of}
 use Rattle.trace_text.specs.TraceText.{block_lines, block_of}
@@ -99,17 +98,9 @@ cpus-few : (g : Group) (c : ℕ) → IsValid g.setup → cpus g c ≤ 64
 unfolding cpus cluster
 cpus-few g c valid =
     elim (cases_lt c (length g.setup.clusters)) [
-      | inl low ↦ omega (arith, get_or-le-sum_by (λ (k : Cluster). k.cpus) g.setup.clusters c no_cluster low, (sets_are_in_limits g.setup valid).few_cpus)
+      | inl low ↦ (can_bound g.setup valid).few_cpus c low
       | inr high ↦ omega (arith, ap (λ (k : Cluster). k.cpus) (get_or_past g.setup.clusters c no_cluster high))
     ]
-
-users-few : (g : Group) (s : ℕ) → IsValid g.setup → length (users g s) ≤ 1024
-unfolding users tasks
-users-few g s valid =
-    let all : List ℕ = numbers_from 1 (length g.setup.tasks) in
-    let inside = λ (t : ℕ). in_group g (home g t) in
-    let user = λ (t : ℕ). declares g t s in
-    omega (arith, length-filter_both user (λ t. not (user t)) (λ t. refl) (tasks g), length-filter_both inside (λ t. not (inside t)) (λ t. refl) all, length-numbers_from 1 (length g.setup.tasks), (sets_are_in_limits g.setup valid).few_tasks)
 
 pub bound-known : (g : Group) (t s : ℕ) → IsValid g.setup → BoundIsKnown (bound g t s)
 unfolding bound bound_by
@@ -117,7 +108,7 @@ bound-known g t s valid = by_protocol (protocol g s)
   where
     by_protocol : (p : Protocol) → BoundIsKnown (bound_by g p t s)
     by_protocol Omlp = omega (arith, cpus-few g (home g t) valid)
-    by_protocol Fmlp = omega (arith, users-few g s valid)
+    by_protocol Fmlp = omega (arith, users-few g s (length g.setup.tasks), ap (λ (us : List ℕ). length us) (users-all g s), (sets_are_in_limits g.setup valid).few_tasks)
     by_protocol Pcp = tt
     by_protocol Mpcp = tt
 
