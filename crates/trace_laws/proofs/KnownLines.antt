@@ -1,9 +1,9 @@
 -- The lines of the plays of a set that is played are lines of the grammar.
-use Rattle.std.proofs.Common.{◌≡◌, ℕ, suc, ◌+◌, ◌^◌, ◌<◌, ◌≤◌, true, false, List, [], ◌∷◌, ◌++◌, length, get_or, sym, subst, arith, append-nil}
+use Rattle.std.proofs.Common.{◌≡◌, ℕ, suc, ◌+◌, ◌^◌, ◌<◌, ◌≤◌, true, List, [], ◌∷◌, ◌++◌, length, get_or, sym, subst, arith}
 use Rattle.std.specs.Prelude.{◌==◌, All, Option, None, Some}
 use Rattle.std.proofs.lemmas.List.{length-map}
 use Rattle.std.proofs.lemmas.List.Elements.{All-append, All-cons, All-head, All-nil, All-tail}
-use Rattle.rt_base.specs.declared.TheConstants.{MOST_STEPS, MOST_TASKS, TICK_END}
+use Rattle.rt_base.specs.declared.TheConstants.{MOST_STEPS, TICK_END}
 use Rattle.rt_task.specs.declared.Act.{Act}
 use Rattle.rt_task.specs.declared.Act.TheVariants as acts
 use Rattle.rt_task.specs.declared.Op.{Op}
@@ -33,14 +33,12 @@ use Rattle.rt_plays.proofs.ScriptParts.{begun-whole}
 use Rattle.rt_groups.specs.Built.{is_built}
 use Rattle.rt_groups.specs.Groups.{AreStepsOf, IsGroupOf}
 use Rattle.rt_groups.proofs.GroupCount.{groups_are_counted}
-use Rattle.rt_groups.proofs.GroupPlaces.{tasks_are_at_home}
-use Rattle.rt_groups.proofs.SetLimits.{sets_are_in_limits}
 use Rattle.trace_lines.specs.Known.{ActIsKnown, IsLine, IsNumberOf, Known, LinkIsKnown, OpIsKnown, ReplyIsKnown, TargetIsKnown, known_of}
 use Rattle.trace_lines.specs.declared.format.Version.{Version}
 use Rattle.trace_lines.specs.Lines.{Link, end_line, entry_line, group_line}
 use Rattle.trace_text.specs.TraceText.{block_lines, entry_lines, group_lines, lines_from, links_at}
+use Rattle.trace_text.proofs.BlockLines.{block_lines-known, sem-numbered, task-numbered}
 use Rattle.trace_text.proofs.GroupLaws.{groups-few}
-use Rattle.trace_text.proofs.LineLaws.{blocks_none, sems-none}
 use Rattle.trace_laws.proofs.Plays.{few-entries, play-steps, script-plays}
 use Rattle.trace_laws.proofs.Processors.{processor-low, processor-some}
 
@@ -62,16 +60,15 @@ changed-processor : (g : Group) (was now : Past) (q : ℕ) → has q (changed g 
 unfolding changed
 changed-processor g was now q h = (both _ _ (rw has-filter at h)).0
 
-module _ (v : Version) (g : Group) (valid : IsValid g.setup) (built : is_built g.setup ≡ true) where
+module _ (v : Version) (g : Group) (valid : IsValid g.setup) where
   abbrev k : Known
   k = known_of v g.setup
 
   task-known : (t : ℕ) → has t (tasks g) ≡ true → IsNumberOf (length k.names) t
   task-known t h =
-      let home = tasks_are_at_home g t valid h in
-      let few : length g.setup.tasks ≤ MOST_TASKS = (sets_are_in_limits g.setup valid).few_tasks in
+      let number = task-numbered g t valid h in
       let count : length k.names ≡ length g.setup.tasks = length-map _ _ in
-      record { low = home.low; high = omega (arith, home.high, count); fits = omega (arith, home.high, few) }
+      record { low = number.low; high = omega (arith, number.high, count); fits = number.fits }
 
   linked-known : {past : Past} → IsReachable g past → (q : ℕ) → TargetIsKnown k (linked g q past)
   linked-known {past} made q = target-known k (linked g q past) (λ t h. task-known t (linked-eligible g made q t h).member)
@@ -82,11 +79,11 @@ module _ (v : Version) (g : Group) (valid : IsValid g.setup) (built : is_built g
       let low : q < 64 = processor-low g q valid (there q (rw (equal_self q))) in
       All-cons (LinkIsKnown k) (q, linked g q past) (links_at g past qs) (omega arith, linked-known made q) (links-known made qs (λ r h. there r (rw h (or_true (r == q)))))
 
-  -- an act of the group names one of its tasks, and no semaphore
+  -- an act of the group names one of its tasks, or a semaphore of the set
   op-known : (op : Op) → IsOpOf g op → OpIsKnown k op
   op-known ops.Work h = tt
-  op-known (ops.Lock s) h = let wrong : false ≡ true = rw (sems-none g built) at h in cc
-  op-known (ops.Unlock s) h = let wrong : false ≡ true = rw (sems-none g built) at h in cc
+  op-known (ops.Lock s) h = sem-numbered g s.0 valid h
+  op-known (ops.Unlock s) h = sem-numbered g s.0 valid h
   op-known (ops.Sleep n) h = let low : n < TICK_END = h in omega arith
   op-known ops.NpOn h = tt
   op-known ops.NpOff h = tt
@@ -139,8 +136,8 @@ module _ (v : Version) (g : Group) (valid : IsValid g.setup) (built : is_built g
       let few : length es ≤ MOST_STEPS = few-entries g es valid (begun-whole g es play) in
       let steps : AreStepsOf g es = play-steps g es valid play in
       let entries : All (IsLine k) (entry_lines g 0 [] es) = entries-known 0 es opened play.legal steps (omega arith) in
-      let none : block_lines g (past_of g es) ≡ [] = blocks_none g es built steps in
-      let listed : All (IsLine k) (entry_lines g 0 [] es ++ block_lines g (past_of g es)) = rw (none, append-nil (entry_lines g 0 [] es)) entries in
+      let listed : All (IsLine k) (entry_lines g 0 [] es ++ block_lines g (past_of g es)) =
+      All-append (IsLine k) (entry_lines g 0 [] es) (block_lines g (past_of g es)) entries (block_lines-known v g es valid few) in
       All-cons (IsLine k) (group_line g.number (links_at g [] (group_processors g))) (entry_lines g 0 [] es ++ block_lines g (past_of g es)) (group-known there) listed
 
 module _ (v : Version) (p : Parts) (valid : IsValid p) (built : is_built p ≡ true) where
@@ -151,7 +148,7 @@ module _ (v : Version) (p : Parts) (valid : IsValid p) (built : is_built p ≡ t
       let here : n + 0 ≡ n = omega arith in
       let there : IsGroupOf p n = (groups_are_counted p n valid).1 (omega arith) in
       let play : IsScriptPlay (group_with p n) es = subst (λ (m : ℕ). IsScriptPlay (group_with p m) es) here (plays 0 (omega arith)) in
-      All-append (IsLine (known_of v p)) (group_lines (group_with p n) es) (lines_from p (n + 1) hs) (group-lines-known v (group_with p n) valid built es there play) (lines-known (n + 1) hs (omega arith) later)
+      All-append (IsLine (known_of v p)) (group_lines (group_with p n) es) (lines_from p (n + 1) hs) (group-lines-known v (group_with p n) valid es there play) (lines-known (n + 1) hs (omega arith) later)
     where
       later : (i : ℕ) → i < length hs → IsScriptPlay (group_with p (n + 1 + i)) (get_or hs i [])
       later i low = let next : n + suc i ≡ n + 1 + i = omega arith in subst (λ (m : ℕ). IsScriptPlay (group_with p m) (get_or hs i [])) next (plays (suc i) (omega arith))

@@ -10,7 +10,7 @@ use Rattle.rt_task.specs.declared.Drive.{Drive}
 use Rattle.rt_task.specs.declared.Drive.TheVariants.{Steps, Horizon}
 use Rattle.rt_task.specs.declared.Parts.{Parts}
 use Rattle.rt_task.specs.declared.Step.{Step}
-use Rattle.rt_task.specs.RuleWords.{is_empty, is_p_res}
+use Rattle.rt_task.specs.RuleWords.{is_p_res}
 use Rattle.rt_task.specs.Validity.{IsValid}
 use Rattle.rt_history.specs.declared.Entry.{Entry}
 use Rattle.rt_rules.specs.Numbers.{has}
@@ -29,7 +29,7 @@ use Rattle.trace_laws.proofs.ScriptLaws.{all-by_script}
 use Rattle.trace_laws.proofs.StepsGiven.{steps-few, steps-of_groups}
 
 pub built-steps : (p : Parts) → is_built p ≡ true → gives_steps p.drive ≡ true
-built-steps p built = (both (is_empty p.sems) _ (both (not (is_p_res p.plugin)) _ built).1).1
+built-steps p built = (both (not (is_p_res p.plugin)) (gives_steps p.drive) built).1
 
 pub play-by : (drive : Drive) (g : Group) (es : List Entry) → gives_steps drive ≡ true → IsScriptPlay g es → IsPlayBy drive g es
 play-by (Steps steps) g es given play = play

@@ -124,7 +124,7 @@ said-blocks : (g : Group) (past : Past) (ls : List Line) → histories_said (blo
 unfolding block_lines
 said-blocks g past ls = passed_over _ histories_said (λ r ms. refl) (requests past) ls
 
-said-group : (g : Group) (es : List Entry) (ls : List Line) → histories_said (group_lines g es ++ ls) ≡ (es ++ entries_first ls) ∷ histories_said ls
+pub said-group : (g : Group) (es : List Entry) (ls : List Line) → histories_said (group_lines g es ++ ls) ≡ (es ++ entries_first ls) ∷ histories_said ls
 unfolding group_lines
 said-group g es ls =
     let blocks : List Line = block_lines g (past_of g es) in

@@ -10,8 +10,7 @@ use Rattle.trace_lines.specs.declared.format.Version.TheVariants.{Two}
 use Rattle.trace_text.specs.TraceText.{trace_text}
 use Rattle.trace_read.specs.Reads.{HasHead}
 use Rattle.trace_laws.specs.TraceLaws.{ArePlayed}
-use Rattle.trace_laws.specs.Upgrades.{IsUpgradeOf, IsValidOf, UpgradeIsKept, UpgradeIsThere, UpgradeIsValid}
-use Rattle.trace_laws.specs.ValidTexts.{IsValidText, entry_count}
+use Rattle.trace_laws.specs.Upgrades.{IsValidOf, UpgradeIsKept, UpgradeIsThere, UpgradeIsValid}
 use Rattle.trace_laws.proofs.Heads.{head-unique, lines_of, trace-head}
 use Rattle.trace_laws.proofs.OneLine.{canonical-one_line}
 use Rattle.trace_laws.proofs.ReadBack.{traces-tell-apart}
