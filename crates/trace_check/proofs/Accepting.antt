@@ -13,6 +13,7 @@ use Rattle.rt_plays.proofs.RoomLaws.{script-room}
 use Rattle.rt_plays.proofs.ScriptParts.{part-next}
 use Rattle.rt_plays.specs.Homes.{IsProcessorOf}
 use Rattle.rt_plays.specs.ScriptPlays.{IsBegunScriptPlay}
+use Rattle.block_counts.specs.GroupRequests as counts
 use Rattle.rank_afresh.specs.Standing.{IsAt, group_of}
 use Rattle.trace_lines.specs.declared.links.CpuLink.{CpuLink}
 use Rattle.trace_lines.specs.Lines.{links_of}
@@ -73,6 +74,10 @@ module _ (at : Place) (steps : List Step) (f : Follow) (fw : IsFollowingWith at 
     pub cpus_same : f'.cpus.items ≡ f.cpus.items
     pub count_more : f'.count ≡ f.count + 1
     pub links_read : links_of f'.links.items ≡ links_at g (after g step (past_of g es)) (group_processors g)
+    pub counted_after : counts.IsAt f'.blocks (after g step (past_of g es))
+    pub blocks_same : counts.group_of f'.blocks ≡ counts.group_of f.blocks
+    pub blocks_less : f'.blocks.spare + 1 ≡ f.blocks.spare
+    pub room_same : f'.waiting.room ≡ f.waiting.room
     pub places_set : f'.scripts.places.items ≡ set f.scripts.places.items step.cpu.0 (Some (j + 1))
 
   pub following-next : (e : Entry) (f' : Follow) → e.step ≡ step → e.reply ≡ reply_to g step (past_of g es) → IsTaken f' → IsFollowing g (es ++ e ∷ []) f'
@@ -94,6 +99,10 @@ module _ (at : Place) (steps : List Step) (f : Follow) (fw : IsFollowingWith at 
         group_is = t.group_same ∙ fw.following.group_is;
         count_is = omega (arith, t.count_more, fw.following.count_is, length-append es (made ∷ []));
         spare_is = omega (arith, t.spare_less, fw.following.spare_is, length-append es (made ∷ []));
+        blocks_are = subst (counts.IsAt f'.blocks) (sym past_is) t.counted_after;
+        blocks_group = t.blocks_same ∙ fw.following.blocks_group;
+        blocks_spare = omega (arith, t.blocks_less, t.spare_less, fw.following.blocks_spare);
+        waiting_room = omega (arith, t.room_same, fw.following.waiting_room);
         cpus_are = ap cpu_numbers t.cpus_same ∙ fw.following.cpus_are;
         links_are = t.links_read ∙ ap (λ past. links_at g past (group_processors g)) (sym past_is);
         places_are = subst (λ (places : List (Option ℕ)). ArePlaces g (es ++ made ∷ []) places) (sym t.places_set) (places-next g es made j f.scripts.places.items fw.following.places_are np);

@@ -1,11 +1,12 @@
 -- The lines of a group's history, entry by entry.
 use Rattle.std.proofs.Common.{◌≡◌, ◌≢◌, ℕ, ◌+◌, ◌<◌, List, [], ◌∷◌, ◌++◌, All, length, refl, sym, ap, ◌∙◌, subst, arith, length-append}
 use Rattle.std.proofs.lemmas.List.{map-append}
-use Rattle.std.proofs.lemmas.List.Elements.{All-nil, All-cons}
+use Rattle.std.proofs.lemmas.List.Elements.{All-append, All-cons, All-map, All-nil}
 use Rattle.std.proofs.Math.Seq.{get_or-append_seam}
 use Rattle.rt_task.specs.declared.Step.{Step}
 use Rattle.rt_history.specs.declared.Entry.{Entry}
 use Rattle.rt_rules.proofs.MemberLaws.{equal_self}
+use Rattle.rt_model.specs.Blocking.{requests}
 use Rattle.rt_model.specs.Group.{Group}
 use Rattle.rt_model.specs.Past.{Past}
 use Rattle.rt_model.specs.Histories.{after, changed, past_from, past_of, reply_to, IsLegalFrom}
@@ -14,7 +15,7 @@ use Rattle.rt_plays.specs.Homes.{IsProcessorOf}
 use Rattle.rt_plays.specs.ScriptPlays.{IsScriptPlay}
 use Rattle.rt_plays.specs.Scripts.{script, steps_of}
 use Rattle.trace_lines.specs.Lines.{Line, entry_line, end_line}
-use Rattle.trace_text.specs.TraceText.{entry_lines, links_at}
+use Rattle.trace_text.specs.TraceText.{block_lines, block_of, entry_lines, group_lines, links_at}
 use Rattle.trace_laws.proofs.ReadBack.{entries_first, histories_said, first-entries, said-entries}
 use Rattle.trace_check.specs.Following.{IsNextStep}
 use Rattle.trace_check.specs.GroupLines.{lines_so_far, opening_line}
@@ -59,6 +60,11 @@ lines_so_far-last g es e =
     lines_so_far-next g es e []
     ∙ ap (λ (ls : List Line). lines_so_far g es ++ next_line g es e ∷ ls) (entry_lines-none g (length es + 1) (after g e.step (past_of g es)))
 
+-- a whole group has a line for each request too
+pub group_lines-parts : (g : Group) (es : List Entry) → group_lines g es ≡ lines_so_far g es ++ block_lines g (past_of g es)
+unfolding group_lines
+group_lines-parts g es = refl
+
 -- ---- what they say
 
 pub said-so_far : (g : Group) (es : List Entry) (ls : List Line) → histories_said (lines_so_far g es ++ ls) ≡ (es ++ entries_first ls) ∷ histories_said ls
@@ -76,6 +82,22 @@ entries-no_end g i past (e ∷ es) =
 
 pub so_far-no_end : (g : Group) (es : List Entry) → All IsNoEnd (lines_so_far g es)
 so_far-no_end g es = All-cons IsNoEnd (opening_line g) (entry_lines g 0 [] es) (λ same. cc) (entries-no_end g 0 [] es)
+
+pub blocks-no_end : (g : Group) (past : Past) → All IsNoEnd (block_lines g past)
+unfolding block_lines
+blocks-no_end g past = All-map IsNoEnd (block_of g past) (requests past) (λ k d low same. cc)
+
+pub group-no_end : (g : Group) (es : List Entry) → All IsNoEnd (group_lines g es)
+group-no_end g es = subst (All IsNoEnd) (sym (group_lines-parts g es)) (All-append IsNoEnd (lines_so_far g es) (block_lines g (past_of g es)) (so_far-no_end g es) (blocks-no_end g (past_of g es)))
+
+-- a line of another kind than an entry's
+abbrev pub IsOtherLine : Line → Type 0
+IsOtherLine (entry_line n e links) = ⊥
+IsOtherLine _ = Unit {0}
+
+pub blocks-other : (g : Group) (past : Past) → All IsOtherLine (block_lines g past)
+unfolding block_lines
+blocks-other g past = All-map IsOtherLine (block_of g past) (requests past) (λ k d low. tt)
 
 -- ---- the next entry
 

@@ -173,7 +173,7 @@ module _ (v : Version) (p : Parts) (valid : IsValid p) (built : is_built p ≡ t
     -- the set's text is not the canonical one
     pub not-canonical : (r.set_text ≡ canonical p → ⊥) → IsInvalid v p bytes 2
     not-canonical other =
-        let all = completed-between p valid built [] tt (omega arith) in
+        let all = completed-between p built [] tt (omega arith) in
         record {
           not_valid = λ n is. (let said = valid-lines n is in other said.2);
           right = 1;

@@ -1,11 +1,10 @@
 -- Lines that were judged right so far, and what the next one comes to.
-use Rattle.std.proofs.Common.{◌≡◌, ◌≢◌, ℕ, suc, ◌+◌, ◌-◌, ◌*◌, ◌<◌, ◌≤◌, ◌^◌, inl, inr, ◌⊎◌, Bool, true, false, ◌&&◌, ◌==◌, List, [], ◌∷◌, ◌++◌, length, take, drop, get_or, Option, None, refl, sym, ap, ◌∙◌, subst, arith, eqb-true, append-nil, append_assoc, length-append}
+use Rattle.std.proofs.Common.{◌≡◌, ◌≢◌, ℕ, suc, ◌+◌, ◌*◌, ◌<◌, ◌≤◌, ◌^◌, inl, inr, ◌⊎◌, Bool, true, false, ◌&&◌, ◌==◌, List, [], ◌∷◌, ◌++◌, length, take, drop, get_or, Option, None, refl, sym, ap, ◌∙◌, subst, arith, eqb-true, append-nil, append_assoc, length-append}
 use Rattle.std.specs.Prelude.{All, Some, sum_by}
 use Rattle.std.specs.Option.{is_some}
 use Rattle.std.proofs.lemmas.List.Sums.{sum-map, sum_by-cons, sum_by_push}
-use Rattle.std.proofs.lemmas.List.{drop-map, length-drop, length-map, take_all}
-use Rattle.std.proofs.lemmas.List.Elements.{All-append, All-get_or, All-head, All-tail}
-use Rattle.std.proofs.Math.ListN.{get_or-map}
+use Rattle.std.proofs.lemmas.List.{append_cancel_left, length-drop, length-take-le, take-append-drop}
+use Rattle.std.proofs.lemmas.List.Elements.{All-append, All-get_or, All-head, All-tail, All-take}
 use Rattle.std.proofs.Math.Seq.{drop-cons, get_or-append_seam}
 use Rattle.rt_base.specs.declared.TheConstants.{MOST_STEPS}
 use Rattle.rt_task.specs.declared.Parts.{Parts}
@@ -14,6 +13,7 @@ use Rattle.rt_task.specs.Validity.{IsValid}
 use Rattle.rt_history.specs.declared.Entry.{Entry}
 use Rattle.rt_rules.proofs.MemberLaws.{equal_self}
 use Rattle.rt_model.specs.Group.{Group, group_processors}
+use Rattle.rt_model.specs.Histories.{past_of}
 use Rattle.rt_groups.specs.Built.{is_built}
 use Rattle.rt_groups.specs.Groups.{IsGroupOf}
 use Rattle.rt_groups.proofs.GroupCount.{groups_are_counted}
@@ -25,7 +25,7 @@ use Rattle.trace_lines.specs.Lines.{Link, Line, group_line, entry_line, block_li
 use Rattle.trace_text.specs.TraceText.{lines_from, links_at}
 use Rattle.trace_text.proofs.GroupLaws.{groups-few}
 use Rattle.trace_text.proofs.LineLaws.{drop_end, past_none}
-use Rattle.trace_read.specs.Lines.{line_of, lines_of}
+use Rattle.trace_read.specs.Lines.{line_of}
 use Rattle.trace_read.specs.declared.lines.Line.TheVariants as read
 use Rattle.trace_read.specs.declared.lines.Line as kinds
 use Rattle.trace_laws.specs.ValidTexts.{IsValidText, entry_count}
@@ -40,70 +40,23 @@ use Rattle.trace_check.specs.SameLinks.{same_links}
 use Rattle.trace_check.specs.Following.{IsAccepted, IsFollowing, IsFollowingWith, IsNextEntry, IsOver, Place}
 use Rattle.trace_check.specs.GroupLines.{ArePlaysFrom, lines_of_groups, lines_so_far, opening_line}
 use Rattle.trace_check.specs.Judging.{IsJudged, begins_with, begins_with_end}
-use Rattle.trace_check.specs.Progress.{AreAllRight, AreRight, IsEndedAt, IsFollowedTo}
+use Rattle.trace_check.specs.Progress.{AreAllRight, AreRight, IsEndedAt, IsFollowedTo, finished, missing, unfinished}
+use Rattle.trace_check.specs.RequestLines.{AllStandFirst, StopAt}
 use Rattle.trace_check.proofs.LinkLists.{same_links-self, same_links-true}
-use Rattle.trace_check.proofs.GroupLines.{IsNoEnd, lines_so_far-last, lines_so_far-none, next-step, next-told, next_line, so_far-no_end}
-use Rattle.trace_check.proofs.SetLines.{IsEntryNext, IsNextAfter, all-from, completed-between, completed-within, from-all, groups-no_end, lines-last, lines_through, next-between, next-within, plays-append, whole-lines}
+use Rattle.trace_check.proofs.GroupLines.{IsNoEnd, IsOtherLine, blocks-no_end, lines_so_far-last, lines_so_far-none, next-step, next-told, next_line, so_far-no_end}
+use Rattle.trace_check.proofs.SetLines.{IsEntryNext, IsNextAfter, completed-between, completed-within, from-all, goes-on, groups-no_end, lines-last, lines_behind, lines_through, next-between, next-within, plays-append, whole-lines}
 use Rattle.trace_check.proofs.Judged.{ended-valid, stopped}
+use Rattle.trace_check.proofs.LinePlaces.{StandBefore, drop-further, heads, rest-at, rest-cons, stand-further, stand-more, stand-within, tails}
 
 -- ---- lines
 
-heads : (x y : Line) (xs ys : List Line) → x ∷ xs ≡ y ∷ ys → x ≡ y
-heads x y xs ys e = cc
-
-tails : (x y : Line) (xs ys : List Line) → x ∷ xs ≡ y ∷ ys → xs ≡ ys
-tails x y xs ys e = cc
-
--- these lines stand in front of a place, and the others behind it
-pub record StandBefore (front ls : List Line) (place : ℕ) : Type 0 where
-  pub place_is : place ≡ length front
-  pub lines_are : ls ≡ front ++ drop place ls
-
-stand-within : (front ls : List Line) (place : ℕ) → StandBefore front ls place → place ≤ length ls
-stand-within front ls place s = omega (arith, ap length s.lines_are, length-append front (drop place ls), s.place_is)
-
--- the next line, where there is one
-rest-cons : (ls : List Line) (place : ℕ) (l : Line) (others : List Line) → drop place ls ≡ l ∷ others → (place < length ls) × (drop (place + 1) ls ≡ others)
-rest-cons ls place l others is =
-    let inside : place < length ls = omega (arith, ap length is, length-drop place ls) in
-    let next : suc place ≡ place + 1 = omega arith in
-    let parts : get_or ls place l ∷ drop (suc place) ls ≡ l ∷ others = sym (drop-cons ls place l inside) ∙ is in
-    (inside, ap (λ (n : ℕ). drop n ls) (sym next) ∙ tails _ _ _ _ parts)
-
-rest-at : (ls : List Line) (place : ℕ) (d : Line) → place < length ls → drop place ls ≡ get_or ls place d ∷ drop (place + 1) ls
-rest-at ls place d inside = let next : suc place ≡ place + 1 = omega arith in drop-cons ls place d inside ∙ ap (λ (n : ℕ). get_or ls place d ∷ drop n ls) next
-
--- it stands in front too
-stand-more : (front ls : List Line) (place : ℕ) (l : Line) (others : List Line) → StandBefore front ls place → drop place ls ≡ l ∷ others → StandBefore (front ++ l ∷ []) ls (place + 1)
-stand-more front ls place l others s is = record {
-  place_is = omega (arith, s.place_is, length-append front (l ∷ []));
-  lines_are =
-      s.lines_are ∙ ap (λ (xs : List Line). front ++ xs) (is ∙ ap (λ (xs : List Line). l ∷ xs) (sym (rest-cons ls place l others is).1))
-      ∙ sym (append_assoc front (l ∷ []) (drop (place + 1) ls));
-}
-
--- the line that was read
-pub line-there : (ls : List kinds.Line) (i : ℕ) (l : kinds.Line) → i < length ls → l ≡ get_or ls i l → get_or (lines_of ls) i (line_of l) ≡ line_of l
-line-there ls i l low is = get_or-map line_of ls i l ∙ ap line_of (sym is)
-
--- a line of another kind than an entry's
-abbrev pub IsOtherLine : Line → Type 0
-IsOtherLine (entry_line n e links) = ⊥
-IsOtherLine _ = Unit {0}
-
+-- a line of another kind than an entry's was read
 pub other-line : (l : kinds.Line) → ((n : ℕ) (e : Entry) (links : List CpuLink) → l ≢ read.EntryLine n e links) → IsOtherLine (line_of l)
 other-line (read.GroupLine n shown) other = tt
 other-line (read.EntryLine n e links) other = other n e links refl
 other-line (read.BlockLine i t s n m b) other = tt
 other-line read.EndLine other = tt
 other-line (read.CountLine n totals) other = tt
-
--- the lines from a place on
-pub rest-read : (ls : List kinds.Line) (n : ℕ) → lines_of (take (length ls - n) (drop n ls)) ≡ drop n (lines_of ls)
-rest-read ls n = ap lines_of (take_all (length ls - n) (drop n ls) (omega (arith, length-drop n ls))) ∙ sym (drop-map line_of n ls)
-
-pub length-read : (ls : List kinds.Line) → length (lines_of ls) ≡ length ls
-length-read ls = length-map ls line_of
 
 -- nothing stops the lines
 pub no-stop : (o : Option ℕ) → is_some o ≡ false → o ≡ None
@@ -195,8 +148,8 @@ module _ (p : Parts) (lines : List Line) where
   right-first = record { histories = []; plays = tt; count = refl; place_is = refl; lines_are = refl; entries_are = refl }
 
   -- plays have a line `end`
-  ended : (hs : List (List Entry)) (front : List Line) → IsValid p → is_built p ≡ true → ArePlays p hs → All IsNoEnd front → lines_from p 0 hs ≡ front → ⊥
-  ended hs front valid built plays none is = last-end (lines_of_groups p 0 hs) front none (sym (whole-lines p 0 hs valid built (all-from p hs built plays)) ∙ is)
+  ended : (hs : List (List Entry)) (front : List Line) → All IsNoEnd front → lines_from p 0 hs ≡ front → ⊥
+  ended hs front none is = last-end (lines_of_groups p 0 hs) front none (sym (whole-lines p 0 hs) ∙ is)
 
   -- ---- the line of a group
 
@@ -209,8 +162,8 @@ module _ (p : Parts) (lines : List Line) where
       are_plays = all.1;
       later = all.2.0;
       plays_begin = all.2.1;
-      no_more = λ hs l others ls plays here begin. none_next l others here (next-between p valid built hs right.histories l ls plays right.plays begin);
-      not_whole = λ hs plays none begin stops. ended hs front valid built plays (groups-no_end p 0 right.histories) begin;
+      no_more = λ hs l others ls plays here begin. none_next l others here (next-between p built hs right.histories l ls plays right.plays begin);
+      not_whole = λ hs plays none begin stops. ended hs front (groups-no_end p 0 right.histories) begin;
     }))
       where
         front : List Line
@@ -220,7 +173,7 @@ module _ (p : Parts) (lines : List Line) where
         rest = drop r.lines lines
 
         all : (hs : List (List Entry)) × ArePlays p hs × ((ls : List Line) × (lines_from p 0 hs ≡ front ++ ls))
-        all = completed-between p valid built right.histories right.plays (omega (arith, low, right.count))
+        all = completed-between p built right.histories right.plays (omega (arith, low, right.count))
 
         none_next : (l : Line) (others : List Line) → rest ≡ l ∷ others → IsNextAfter p (length right.histories) l → ⊥
         none_next l others here (inl next) =
@@ -287,25 +240,25 @@ module _ (p : Parts) (lines : List Line) where
         more = append_assoc (lines_of_groups p 0 done) (lines_so_far g es) (next_line g es e ∷ []) ∙ ap (λ (xs : List Line). lines_of_groups p 0 done ++ xs) (sym (lines_so_far-last g es e))
 
     -- the line behind them is wrong where none that may come there is it
-    wrong-there : ((l : Line) (others : List Line) → drop place lines ≡ l ∷ others → IsEntryNext g es l ⊎ (IsScriptPlay g es × IsNextAfter p (n + 1) l) → ⊥) → (stop : Option ℕ) → IsJudged p lines stop (Invalid (place + 3))
+    wrong-there : ((l : Line) (others : List Line) → drop place lines ≡ l ∷ others → IsEntryNext g es l ⊎ (IsScriptPlay g es × IsOtherLine l) → ⊥) → (stop : Option ℕ) → IsJudged p lines stop (Invalid (place + 3))
     wrong-there none stop version bytes t same = subst (λ (m : ℕ). IsInvalid version p bytes (m + 3)) (sym right.stands.place_is) (stopped version p valid built bytes lines stop t front (drop place lines) same (record {
       lines_are = right.stands.lines_are;
       plays = all.0;
       are_plays = all.1;
       later = all.2.0;
       plays_begin = all.2.1;
-      no_more = λ hs l others ls plays here begin. none l others here (next-within p valid built hs done n es l ls plays right.before.count begin);
-      not_whole = λ hs plays rest begin stops. ended hs front valid built plays (All-append IsNoEnd (lines_of_groups p 0 done) (lines_so_far g es) (groups-no_end p 0 done) (so_far-no_end g es)) begin;
+      no_more = λ hs l others ls plays here begin. none l others here (next-within p built hs done n es l ls plays right.before.count begin);
+      not_whole = λ hs plays rest begin stops. ended hs front (All-append IsNoEnd (lines_of_groups p 0 done) (lines_so_far g es) (groups-no_end p 0 done) (so_far-no_end g es)) begin;
     }))
       where
         all : (hs : List (List Entry)) × ArePlays p hs × ((ls : List Line) × (lines_from p 0 hs ≡ front ++ ls))
-        all = completed-within p valid built done n es right.before.plays right.before.count low right.following.begun
+        all = completed-within p built done n es right.before.plays right.before.count low right.following.begun
 
     -- an entry that is not the next one
     pub refused-there : (i : ℕ) (e : Entry) (links : List Link) (d : Line) → place < length lines → get_or lines place d ≡ entry_line i e links → (IsNextEntry g es i e links → ⊥) → (stop : Option ℕ) → IsJudged p lines stop (Invalid (place + 3))
     refused-there i e links d inside here refused = wrong-there none
       where
-        same_entry : (l : Line) → l ≡ entry_line i e links → IsEntryNext g es l ⊎ (IsScriptPlay g es × IsNextAfter p (n + 1) l) → ⊥
+        same_entry : (l : Line) → l ≡ entry_line i e links → IsEntryNext g es l ⊎ (IsScriptPlay g es × IsOtherLine l) → ⊥
         same_entry l is (inl next) =
             let line : next_line g es next.entry ≡ entry_line i e links = sym next.line_is ∙ is in
             refused (subst IsNextLine line (record { number = refl; next = next-step g es next.entry next.more next.play; reply_is = next-told g es next.entry next.more next.play; links_are = refl }))
@@ -313,10 +266,9 @@ module _ (p : Parts) (lines : List Line) where
             IsNextLine : Line → Type 0
             IsNextLine (entry_line m x ks) = IsNextEntry g es m x ks
             IsNextLine _ = ⊥
-        same_entry l is (inr (play, inl next)) = let line : entry_line i e links ≡ opening_line (group_with p (n + 1)) = sym is ∙ next.line_is in cc
-        same_entry l is (inr (play, inr next)) = let line : entry_line i e links ≡ end_line = sym is ∙ next.line_is in cc
+        same_entry l is (inr (play, other)) = subst IsOtherLine is other
 
-        none : (l : Line) (others : List Line) → drop place lines ≡ l ∷ others → IsEntryNext g es l ⊎ (IsScriptPlay g es × IsNextAfter p (n + 1) l) → ⊥
+        none : (l : Line) (others : List Line) → drop place lines ≡ l ∷ others → IsEntryNext g es l ⊎ (IsScriptPlay g es × IsOtherLine l) → ⊥
         none l others is = same_entry l (heads _ _ _ _ (sym is ∙ rest-at lines place d inside) ∙ here)
 
     -- no entry line is there
@@ -333,24 +285,84 @@ module _ (p : Parts) (lines : List Line) where
     unfinished-there : NoEntryThere → (IsOver g es → ⊥) → (stop : Option ℕ) → IsJudged p lines stop (Invalid (place + 3))
     unfinished-there other left = wrong-there none
       where
-        none : (l : Line) (others : List Line) → drop place lines ≡ l ∷ others → IsEntryNext g es l ⊎ (IsScriptPlay g es × IsNextAfter p (n + 1) l) → ⊥
+        none : (l : Line) (others : List Line) → drop place lines ≡ l ∷ others → IsEntryNext g es l ⊎ (IsScriptPlay g es × IsOtherLine l) → ⊥
         none l others is (inl next) = subst IsOtherLine next.line_is (other l others is)
         none l others is (inr next) = left (λ q there. sym (next.0.scripts q there))
 
     pub place-within : place ≤ length lines
     place-within = stand-within front lines place right.stands
 
-    -- all the steps of the group were followed
-    group-right : IsOver g es → AreRight p lines (n + 1) (record { lines = place; entries = from.entries + f.count })
-    group-right over =
-        let all : lines_of_groups p 0 (done ++ es ∷ []) ≡ front = lines-last p done n es right.before.count in
+    abbrev blocks : List Line
+    blocks = lines_behind p n es
+
+    -- what comes behind the first lines of requests
+    behind : (k : ℕ) → IsOver g es → (hs : List (List Entry)) (ls : List Line) → ArePlays p hs → lines_from p 0 hs ≡ (front ++ take k blocks) ++ ls → (later : List Line) × (ls ≡ drop k blocks ++ later)
+    behind k over hs ls plays begin =
+        let on = goes-on p built hs done n es (take k blocks ++ ls) plays right.before.count over (begin ∙ append_assoc front (take k blocks) ls) in
+        let later : List Line = lines_of_groups p (n + 1) on.more ++ end_line ∷ [] in (
+          later,
+          append_cancel_left (take k blocks) ls (drop k blocks ++ later)
+              (on.lines_are ∙ ap (λ (bs : List Line). bs ++ later) (sym (take-append-drop k blocks)) ∙ append_assoc (take k blocks) (drop k blocks) later),
+        )
+
+    -- the line of a request is missing
+    missing-there : (k : ℕ) → IsOver g es → StopAt blocks (drop place lines) k → (stop : Option ℕ) → IsJudged p lines stop (Invalid (place + k + 3))
+    missing-there k over cut stop version bytes t same = subst (λ (m : ℕ). IsInvalid version p bytes (m + 3)) (sym stands.place_is) (stopped version p valid built bytes lines stop t here (drop (place + k) lines) same (record {
+      lines_are = stands.lines_are;
+      plays = all.0;
+      are_plays = all.1;
+      later = all.2.0;
+      plays_begin = all.2.1;
+      no_more = λ hs l others ls plays rest begin. no_more l others ls rest (behind k over hs (l ∷ ls) plays begin);
+      not_whole = λ hs plays rest begin stops. ended hs here none begin;
+    }))
+      where
+        here : List Line
+        here = front ++ take k blocks
+
+        stands : StandBefore here lines (place + k)
+        stands = stand-further front (take k blocks) lines place k right.stands (length-take-le k blocks (let l = cut.low in omega arith)) cut.begin
+
+        none : All IsNoEnd here
+        none =
+            All-append IsNoEnd front (take k blocks) (All-append IsNoEnd (lines_of_groups p 0 done) (lines_so_far g es) (groups-no_end p 0 done) (so_far-no_end g es))
+            (All-take IsNoEnd k blocks (blocks-no_end g (past_of g es)))
+
+        next : (l : Line) → drop k blocks ≡ get_or blocks k l ∷ drop (suc k) blocks
+        next l = drop-cons blocks k l cut.low
+
+        no_more : (l : Line) (others ls : List Line) → drop (place + k) lines ≡ l ∷ others → (later : List Line) × (l ∷ ls ≡ drop k blocks ++ later) → ⊥
+        no_more l others ls rest b =
+            let is : l ≡ get_or blocks k l = heads _ _ _ _ (b.1 ∙ ap (λ (bs : List Line). bs ++ b.0) (next l)) in
+            cut.other l others (sym (drop-further front lines place k right.stands) ∙ rest ∙ ap (λ (x : Line). x ∷ others) is)
+
+        -- plays of all groups
+        all : (hs : List (List Entry)) × ArePlays p hs × ((ls : List Line) × (lines_from p 0 hs ≡ here ++ ls))
+        all =
+            let begun = completed-within p built done n es right.before.plays right.before.count low right.following.begun in
+            let on = goes-on p built begun.0 done n es begun.2.0 begun.1 right.before.count over begun.2.1 in
+            let later : List Line = lines_of_groups p (n + 1) on.more ++ end_line ∷ [] in (
+              begun.0,
+              begun.1,
+              (
+                drop k blocks ++ later,
+                begun.2.1 ∙ ap (λ (xs : List Line). front ++ xs) (on.lines_are ∙ ap (λ (bs : List Line). bs ++ later) (sym (take-append-drop k blocks)) ∙ append_assoc (take k blocks) (drop k blocks) later)
+                    ∙ sym (append_assoc front (take k blocks) (drop k blocks ++ later)),
+              ),
+            )
+
+    -- all the steps of the group were followed, and the lines of its requests are there
+    group-right : IsOver g es → AllStandFirst blocks (drop place lines) → AreRight p lines (n + 1) (record { lines = place + length blocks; entries = from.entries + f.count })
+    group-right over there =
+        let all : lines_of_groups p 0 (done ++ es ∷ []) ≡ front ++ blocks = lines-last p done n es right.before.count in
         let here : n ≡ 0 + length done = omega (arith, right.before.count) in
+        let stands : StandBefore (front ++ blocks) lines (place + length blocks) = stand-further front blocks lines place (length blocks) right.stands refl there in
         record {
           histories = done ++ es ∷ [];
           plays = plays-append p 0 done (es ∷ []) right.before.plays (subst (λ (m : ℕ). IsScriptPlay (group_with p m) es) here (play-of-part g es right.following.begun over), tt);
           count = omega (arith, right.before.count, length-append done (es ∷ []));
-          place_is = right.stands.place_is ∙ ap length (sym all);
-          lines_are = right.stands.lines_are ∙ ap (λ (xs : List Line). xs ++ drop place lines) (sym all);
+          place_is = stands.place_is ∙ ap length (sym all);
+          lines_are = stands.lines_are ∙ ap (λ (xs : List Line). xs ++ drop (place + length blocks) lines) (sym all);
           entries_are = omega (arith, right.before.entries_are, right.following.count_is, count-more done es);
         }
 
@@ -362,9 +374,10 @@ module _ (p : Parts) (lines : List Line) where
         omega (arith, before, here, groups, low, right.before.count, right.before.entries_are, right.following.count_is)
 
     -- what comes of it
-    pub ended-there : (fd : Followed) → NoEntryThere → IsEndedAt (place_at right) from f.count place fd → IsFollowedTo p lines n fd
-    ended-there fd other (inl h) = subst (IsFollowedTo p lines n) (sym h.0) (unfinished-there other h.1)
-    ended-there fd other (inr h) = subst (IsFollowedTo p lines n) (sym h.0) (group-right h.1)
+    pub ended-there : (fd : Followed) → NoEntryThere → IsEndedAt (place_at right) lines from f.count place fd → IsFollowedTo p lines n fd
+    ended-there fd other (unfinished left) = unfinished-there other left
+    ended-there fd other (missing k over cut) = missing-there k over cut
+    ended-there fd other (finished over there) = group-right over there
 
   -- ---- the line `end`
 
@@ -379,7 +392,7 @@ module _ (p : Parts) (lines : List Line) where
     plays_all = from-all p hs all.built all.right.plays all.right.count
 
     lines_all : lines_from p 0 hs ≡ groups ++ end_line ∷ []
-    lines_all = whole-lines p 0 hs all.valid all.built all.right.plays
+    lines_all = whole-lines p 0 hs
 
     -- it is not there
     pub end-wrong : begins_with_end (drop r.lines lines) ≡ false → (stop : Option ℕ) → IsJudged p lines stop (Invalid (r.lines + 3))
@@ -389,8 +402,8 @@ module _ (p : Parts) (lines : List Line) where
       are_plays = plays_all;
       later = end_line ∷ [];
       plays_begin = lines_all;
-      no_more = λ ps l others ls plays here begin. none_next l others here (next-between p all.valid all.built ps hs l ls plays all.right.plays begin);
-      not_whole = λ ps plays none begin stops. ended ps groups all.valid all.built plays (groups-no_end p 0 hs) begin;
+      no_more = λ ps l others ls plays here begin. none_next l others here (next-between p all.built ps hs l ls plays all.right.plays begin);
+      not_whole = λ ps plays none begin stops. ended ps groups (groups-no_end p 0 hs) begin;
     }))
       where
         none_next : (l : Line) (others : List Line) → drop r.lines lines ≡ l ∷ others → IsNextAfter p (length hs) l → ⊥
@@ -417,7 +430,7 @@ module _ (p : Parts) (lines : List Line) where
         are_plays = plays_all;
         later = [];
         plays_begin = lines_all ∙ sym (append-nil whole);
-        no_more = λ ps l others ls plays here begin. inner-end (lines_of_groups p 0 ps) groups l ls (groups-no_end p 0 ps) (sym (whole-lines p 0 ps all.valid all.built (all-from p ps all.built plays)) ∙ begin);
+        no_more = λ ps l others ls plays here begin. inner-end (lines_of_groups p 0 ps) groups l ls (groups-no_end p 0 ps) (sym (whole-lines p 0 ps) ∙ begin);
         not_whole = λ ps plays none begin stops. more (let m = stand-within whole lines (r.lines + 1) stands in omega (arith, m, ap length none, length-drop (r.lines + 1) lines)) stops;
       }))
 

@@ -7,3 +7,6 @@ pub mod GroupLines
 pub mod SetLines
 pub mod Judged
 pub mod Judging
+pub mod LinePlaces
+pub mod RequestLaws
+pub mod Counting

@@ -1,5 +1,5 @@
 -- A group at opening.
-use Rattle.std.proofs.Common.{◌≡◌, ℕ, ◌<◌, true, List, [], sym, ap, ◌∙◌, subst, arith}
+use Rattle.std.proofs.Common.{◌≡◌, ℕ, ◌<◌, ◌≤◌, true, List, [], length, sym, ap, ◌∙◌, subst, arith}
 use Rattle.std.specs.Prelude.{None, Some, All, count_by, if◌then◌else◌}
 use Rattle.rt_base.specs.declared.CpuNo.{CpuNo}
 use Rattle.rt_task.specs.declared.Parts.{Parts}
@@ -13,6 +13,7 @@ use Rattle.rt_groups.specs.Groups.{IsGroupOf}
 use Rattle.rt_plays.proofs.ScriptParts.{part-first}
 use Rattle.rt_plays.specs.Drives.{steps_given}
 use Rattle.rt_plays.specs.Plays.{group_with}
+use Rattle.block_counts.specs.GroupRequests as counts
 use Rattle.rank_afresh.specs.Standing.{Standing, IsAt, group_of}
 use Rattle.trace_lines.specs.Lines.{links_of}
 use Rattle.trace_text.specs.Groups.{cpu_numbers}
@@ -36,6 +37,11 @@ pub record IsMadeOf (p : Parts) (n : ℕ) (f : Follow) : Type 0 where
   pub setup_is : f.afresh.setup ≡ p
   pub group_is : f.afresh.group ≡ n
   pub at : IsAt f.afresh []
+  pub blocks_setup : f.blocks.setup ≡ p
+  pub blocks_group : f.blocks.group ≡ n
+  pub blocks_at : counts.IsAt f.blocks []
+  pub blocks_spare : f.blocks.spare ≡ f.afresh.spare
+  pub waiting_room : length p.tasks ≤ f.waiting.room
   pub cpus_are : cpu_numbers f.cpus.items ≡ group_processors (group_with p n)
   pub places_are : (q : ℕ) → place_in f.scripts.places.items q ≡ (if has q (cpu_numbers f.cpus.items) then Some 0 else None)
   pub spare_is : f.afresh.spare ≡ count_by (λ (s : Step). has_place f.scripts.places.items s.cpu.0) (steps_given p.drive)
@@ -44,6 +50,9 @@ pub record IsMadeOf (p : Parts) (n : ℕ) (f : Follow) : Type 0 where
 
 pub group-made : (p : Parts) (n : ℕ) (v : Standing) → v.setup ≡ p → v.group ≡ n → group_of v ≡ group_with p n
 group-made p n v e m = ap (λ (q : Parts). let x : Group = record { setup = q; number = v.group } in x) e ∙ ap (group_with p) m
+
+requests-made : (p : Parts) (n : ℕ) (v : counts.GroupRequests) → v.setup ≡ p → v.group ≡ n → counts.group_of v ≡ group_with p n
+requests-made p n v e m = ap (λ (q : Parts). let x : Group = record { setup = q; number = v.group } in x) e ∙ ap (group_with p) m
 
 pub following-first : (p : Parts) (n : ℕ) (f : Follow) → IsMadeOf p n f → IsFollowing (group_with p n) [] f
 following-first p n f m =
@@ -58,6 +67,10 @@ following-first p n f m =
       group_is = same;
       count_is = m.count_is;
       spare_is = omega (arith, m.spare_is, places-counted g (cpu_numbers f.cpus.items) f.scripts.places.items (steps_given p.drive) m.cpus_are m.places_are);
+      blocks_are = subst (counts.IsAt f.blocks) (sym (past_none g)) m.blocks_at;
+      blocks_group = requests-made p n f.blocks m.blocks_setup m.blocks_group;
+      blocks_spare = m.blocks_spare;
+      waiting_room = m.waiting_room;
       cpus_are = m.cpus_are;
       links_are =
           m.links_are [] m.at ∙ ap (λ (x : Group). links_at x [] (cpu_numbers f.cpus.items)) same ∙ ap (links_at g []) m.cpus_are

@@ -1,9 +1,8 @@
 -- The lines of the groups of a set, and which line may come after those of some histories.
 use Rattle.std.proofs.Common.{◌≡◌, ℕ, zero, suc, ◌+◌, ◌-◌, ◌<◌, ◌≤◌, true, List, [], ◌∷◌, ◌++◌, All, length, get_or, inl, inr, ◌⊎◌, refl, sym, ap, ◌∙◌, subst, arith, append-nil, append_assoc, length-append}
 use Rattle.std.proofs.lemmas.List.{append_cancel_left}
-use Rattle.std.proofs.lemmas.List.Elements.{All-append, All-nil}
+use Rattle.std.proofs.lemmas.List.Elements.{All-append, All-head, All-nil}
 use Rattle.rt_task.specs.declared.Parts.{Parts}
-use Rattle.rt_task.specs.Validity.{IsValid}
 use Rattle.rt_history.specs.declared.Entry.{Entry}
 use Rattle.rt_model.specs.Group.{Group}
 use Rattle.rt_model.specs.Histories.{after, past_of}
@@ -14,13 +13,12 @@ use Rattle.rt_plays.specs.Plays.{ArePlays, group_count, group_with}
 use Rattle.rt_plays.specs.ScriptPlays.{IsBegunScriptPlay, IsScriptPlay}
 use Rattle.trace_lines.specs.Lines.{Line, end_line}
 use Rattle.trace_text.specs.TraceText.{block_lines, entry_lines, group_lines, lines_from}
-use Rattle.trace_text.proofs.LineLaws.{blocks_none}
-use Rattle.trace_laws.proofs.Plays.{built-steps, play-by, play-steps, script-plays}
-use Rattle.trace_laws.proofs.ReadBack.{entries_first, histories_said, said-lines}
+use Rattle.trace_laws.proofs.Plays.{built-steps, play-by, script-plays}
+use Rattle.trace_laws.proofs.ReadBack.{entries_first, histories_said, said-group, said-lines}
 use Rattle.trace_check.specs.Following.{IsOver}
 use Rattle.trace_check.specs.GroupLines.{ArePlaysFrom, lines_of_groups, lines_so_far, opening_line}
 use Rattle.trace_check.proofs.Places.{over-none}
-use Rattle.trace_check.proofs.GroupLines.{IsNoEnd, lines_so_far-more, lines_so_far-next, next-step, next_line, said-so_far, so_far-no_end}
+use Rattle.trace_check.proofs.GroupLines.{IsNoEnd, IsOtherLine, blocks-other, group-no_end, group_lines-parts, lines_so_far-more, lines_so_far-next, next-step, next_line, said-so_far}
 
 -- ---- plays of the groups from a number on
 
@@ -75,39 +73,42 @@ lines-append : (p : Parts) (n : ℕ) (hs more : List (List Entry)) → lines_of_
 lines-append p n [] more = let here : n ≡ n + 0 = omega arith in ap (λ (m : ℕ). lines_of_groups p m more) here
 lines-append p n (es ∷ hs) more =
     let next : n + 1 + length hs ≡ n + suc (length hs) = omega arith in
-    ap (λ (ls : List Line). lines_so_far (group_with p n) es ++ ls) (lines-append p (n + 1) hs more)
-    ∙ sym (append_assoc (lines_so_far (group_with p n) es) (lines_of_groups p (n + 1) hs) (lines_of_groups p (n + 1 + length hs) more))
-    ∙ ap (λ (m : ℕ). (lines_so_far (group_with p n) es ++ lines_of_groups p (n + 1) hs) ++ lines_of_groups p m more) next
+    ap (λ (ls : List Line). group_lines (group_with p n) es ++ ls) (lines-append p (n + 1) hs more)
+    ∙ sym (append_assoc (group_lines (group_with p n) es) (lines_of_groups p (n + 1) hs) (lines_of_groups p (n + 1 + length hs) more))
+    ∙ ap (λ (m : ℕ). (group_lines (group_with p n) es ++ lines_of_groups p (n + 1) hs) ++ lines_of_groups p m more) next
 
 -- those of whole groups, and of a further one so far
 abbrev pub lines_through : Parts → List (List Entry) → ℕ → List Entry → List Line
 lines_through p hs n es = lines_of_groups p 0 hs ++ lines_so_far (group_with p n) es
 
-pub lines-last : (p : Parts) (hs : List (List Entry)) (n : ℕ) (es : List Entry) → length hs ≡ n → lines_of_groups p 0 (hs ++ es ∷ []) ≡ lines_through p hs n es
+-- the lines of the requests of a group's entries
+abbrev pub lines_behind : Parts → ℕ → List Entry → List Line
+lines_behind p n es = block_lines (group_with p n) (past_of (group_with p n) es)
+
+pub lines-last : (p : Parts) (hs : List (List Entry)) (n : ℕ) (es : List Entry) → length hs ≡ n → lines_of_groups p 0 (hs ++ es ∷ []) ≡ lines_through p hs n es ++ lines_behind p n es
 lines-last p hs n es count =
-    lines-append p 0 hs (es ∷ []) ∙ ap (λ (ls : List Line). lines_of_groups p 0 hs ++ ls) (append-nil (lines_so_far (group_with p (0 + length hs)) es))
-    ∙ ap (λ (m : ℕ). lines_through p hs m es) (let same : 0 + length hs ≡ n = omega (arith, count) in same)
+    let same : 0 + length hs ≡ n = omega (arith, count) in
+    lines-append p 0 hs (es ∷ []) ∙ ap (λ (ls : List Line). lines_of_groups p 0 hs ++ ls) (append-nil (group_lines (group_with p (0 + length hs)) es))
+    ∙ ap (λ (m : ℕ). lines_of_groups p 0 hs ++ group_lines (group_with p m) es) same
+    ∙ ap (λ (ls : List Line). lines_of_groups p 0 hs ++ ls) (group_lines-parts (group_with p n) es)
+    ∙ sym (append_assoc (lines_of_groups p 0 hs) (lines_so_far (group_with p n) es) (lines_behind p n es))
 
 pub groups-no_end : (p : Parts) (n : ℕ) (hs : List (List Entry)) → All IsNoEnd (lines_of_groups p n hs)
 groups-no_end p n [] = All-nil IsNoEnd
-groups-no_end p n (es ∷ hs) = All-append IsNoEnd (lines_so_far (group_with p n) es) (lines_of_groups p (n + 1) hs) (so_far-no_end (group_with p n) es) (groups-no_end p (n + 1) hs)
+groups-no_end p n (es ∷ hs) = All-append IsNoEnd (group_lines (group_with p n) es) (lines_of_groups p (n + 1) hs) (group-no_end (group_with p n) es) (groups-no_end p (n + 1) hs)
 
--- all the lines of plays: no semaphore is asked for
-pub whole-lines : (p : Parts) (n : ℕ) (hs : List (List Entry)) → IsValid p → is_built p ≡ true → ArePlaysFrom p n hs → lines_from p n hs ≡ lines_of_groups p n hs ++ end_line ∷ []
-unfolding group_lines
-whole-lines p n [] valid built plays = refl
-whole-lines p n (es ∷ hs) valid built plays =
-    let g : Group = group_with p n in
-    let none : block_lines g (past_of g es) ≡ [] = blocks_none g es built (play-steps g es valid plays.0) in
-    ap (λ (bs : List Line). (opening_line g ∷ (entry_lines g 0 [] es ++ bs)) ++ lines_from p (n + 1) hs) none
-    ∙ ap (λ (ls : List Line). (opening_line g ∷ ls) ++ lines_from p (n + 1) hs) (append-nil (entry_lines g 0 [] es))
-    ∙ ap (λ (ls : List Line). lines_so_far g es ++ ls) (whole-lines p (n + 1) hs valid built plays.1)
-    ∙ sym (append_assoc (lines_so_far g es) (lines_of_groups p (n + 1) hs) (end_line ∷ []))
+-- all the lines of plays
+pub whole-lines : (p : Parts) (n : ℕ) (hs : List (List Entry)) → lines_from p n hs ≡ lines_of_groups p n hs ++ end_line ∷ []
+whole-lines p n [] = refl
+whole-lines p n (es ∷ hs) =
+    ap (λ (ls : List Line). group_lines (group_with p n) es ++ ls) (whole-lines p (n + 1) hs)
+    ∙ sym (append_assoc (group_lines (group_with p n) es) (lines_of_groups p (n + 1) hs) (end_line ∷ []))
 
 -- ---- the histories that lines hold
 
 -- lines of groups hold no entry of a group before them
 none-first : (p : Parts) (n : ℕ) (hs : List (List Entry)) (g : Group) (es : List Entry) (ls : List Line) → entries_first (lines_of_groups p n hs ++ (lines_so_far g es ++ ls)) ≡ []
+unfolding group_lines
 none-first p n [] g es ls = refl
 none-first p n (x ∷ hs) g es ls = refl
 
@@ -116,8 +117,8 @@ said-groups : (p : Parts) (n : ℕ) (hs : List (List Entry)) (g : Group) (es : L
 said-groups p n [] g es ls = said-so_far g es ls
 said-groups p n (x ∷ hs) g es ls =
     let rest : List Line = lines_of_groups p (n + 1) hs ++ (lines_so_far g es ++ ls) in
-    ap histories_said (append_assoc (lines_so_far (group_with p n) x) (lines_of_groups p (n + 1) hs) (lines_so_far g es ++ ls))
-    ∙ said-so_far (group_with p n) x rest
+    ap histories_said (append_assoc (group_lines (group_with p n) x) (lines_of_groups p (n + 1) hs) (lines_so_far g es ++ ls))
+    ∙ said-group (group_with p n) x rest
     ∙ ap (λ (xs : List Entry). (x ++ xs) ∷ histories_said rest) (none-first p (n + 1) hs g es ls)
     ∙ ap (λ (xs : List Entry). xs ∷ histories_said rest) (append-nil x)
     ∙ ap (λ (ys : List (List Entry)). x ∷ ys) (said-groups p (n + 1) hs g es ls)
@@ -158,61 +159,93 @@ pub record IsEndNext (p : Parts) (n : ℕ) (l : Line) : Type 0 where
 abbrev pub IsNextAfter : Parts → ℕ → Line → Type 0
 IsNextAfter p n l = IsGroupNext p n l ⊎ IsEndNext p n l
 
+-- behind the entries of a whole group: the lines of its requests, further groups, and the line `end`
+pub record GoesOn (p : Parts) (n : ℕ) (es : List Entry) (ls : List Line) : Type 0 where
+  pub play : IsScriptPlay (group_with p n) es
+  pub more : List (List Entry)
+  pub count : n + 1 + length more ≡ group_count p
+  pub lines_are : ls ≡ lines_behind p n es ++ (lines_of_groups p (n + 1) more ++ end_line ∷ [])
+
 -- it is the first of those that follow
 first-of : (front ls more : List Line) (l m : Line) → front ++ l ∷ ls ≡ front ++ m ∷ more → l ≡ m
 first-of front ls more l m same = let rest : l ∷ ls ≡ m ∷ more = append_cancel_left front (l ∷ ls) (m ∷ more) same in cc
 
-module _ (p : Parts) (valid : IsValid p) (built : is_built p ≡ true) where
-  -- the lines of plays, some of them, one that begins with these entries, and the others
-  parted : (done more : List (List Entry)) (n : ℕ) (es : List Entry) → length done ≡ n → ArePlaysFrom p 0 (done ++ es ∷ more)
-      → lines_from p 0 (done ++ es ∷ more) ≡ lines_through p done n es ++ (lines_of_groups p (n + 1) more ++ end_line ∷ [])
-  parted done more n es count plays =
+-- no line of an entry is the first behind the entries of a whole group
+first-other : (p : Parts) (n : ℕ) (bs : List Line) (more : List (List Entry)) (l : Line) (ls : List Line) → All IsOtherLine bs → l ∷ ls ≡ bs ++ (lines_of_groups p n more ++ end_line ∷ []) → IsOtherLine l
+unfolding group_lines
+first-other p n [] [] l ls other same = subst IsOtherLine (sym (first-of [] ls [] l end_line same)) tt
+first-other p n [] (x ∷ more) l ls other same = subst IsOtherLine (sym (first-of [] ls _ l (opening_line (group_with p n)) same)) tt
+first-other p n (b ∷ bs) more l ls other same = subst IsOtherLine (sym (first-of [] ls _ l b same)) (All-head IsOtherLine b bs other)
+
+-- what comes behind whole groups
+next-after : (p : Parts) (n : ℕ) (more : List (List Entry)) (ls : List Line) (l : Line) → n + length more ≡ group_count p → l ∷ ls ≡ lines_of_groups p n more ++ end_line ∷ [] → IsNextAfter p n l
+unfolding group_lines
+next-after p n [] ls l count same = inr (record { all = (let none : n + 0 ≡ n = omega arith in sym none ∙ count); line_is = first-of [] ls [] l end_line same })
+next-after p n (x ∷ more) ls l count same = inl (record { low = omega (arith, count); line_is = first-of [] ls _ l (opening_line (group_with p n)) same })
+
+regrouped : (a s b m e : List Line) → (a ++ ((s ++ b) ++ m)) ++ e ≡ (a ++ s) ++ (b ++ (m ++ e))
+regrouped a s b m e = simp append_assoc
+
+regrouped-more : (a s o b r : List Line) → ((a ++ (s ++ o)) ++ b) ++ r ≡ (a ++ s) ++ (o ++ (b ++ r))
+regrouped-more a s o b r = simp append_assoc
+
+-- the lines of plays, some of them, one that begins with these entries, and the others
+parted : (p : Parts) (done more : List (List Entry)) (n : ℕ) (es : List Entry) → length done ≡ n
+    → lines_from p 0 (done ++ es ∷ more) ≡ lines_through p done n es ++ (lines_behind p n es ++ (lines_of_groups p (n + 1) more ++ end_line ∷ []))
+parted p done more n es count =
+    let same : 0 + length done ≡ n = omega (arith, count) in
+    whole-lines p 0 (done ++ es ∷ more)
+    ∙ ap (λ (ls : List Line). ls ++ end_line ∷ []) (lines-append p 0 done (es ∷ more)
+    ∙ ap (λ (m : ℕ). lines_of_groups p 0 done ++ (group_lines (group_with p m) es ++ lines_of_groups p (m + 1) more)) same
+    ∙ ap (λ (ls : List Line). lines_of_groups p 0 done ++ (ls ++ lines_of_groups p (n + 1) more)) (group_lines-parts (group_with p n) es))
+    ∙ regrouped (lines_of_groups p 0 done) (lines_so_far (group_with p n) es) (lines_behind p n es) (lines_of_groups p (n + 1) more) (end_line ∷ [])
+
+module _ (p : Parts) (built : is_built p ≡ true) where
+  -- of histories that begin with some plays, the next one
+  play-of : (hs done more : List (List Entry)) (n : ℕ) (xs : List Entry) → ArePlays p hs → length done ≡ n → hs ≡ done ++ xs ∷ more → IsScriptPlay (group_with p n) xs
+  play-of hs done more n xs are count is =
       let same : 0 + length done ≡ n = omega (arith, count) in
-      whole-lines p 0 (done ++ es ∷ more) valid built plays
-      ∙ ap (λ (ls : List Line). ls ++ end_line ∷ []) (lines-append p 0 done (es ∷ more)
-      ∙ ap (λ (m : ℕ). lines_of_groups p 0 done ++ (lines_so_far (group_with p m) es ++ lines_of_groups p (m + 1) more)) same
-      ∙ sym (append_assoc (lines_of_groups p 0 done) (lines_so_far (group_with p n) es) (lines_of_groups p (n + 1) more)))
-      ∙ append_assoc (lines_through p done n es) (lines_of_groups p (n + 1) more) (end_line ∷ [])
+      subst (λ (m : ℕ). IsScriptPlay (group_with p m) xs) same (plays-split p 0 done (xs ∷ more) (subst (ArePlaysFrom p 0) is (all-from p hs built are))).1.0
 
-  -- what comes behind whole histories
-  next-after : (front : List Line) (n : ℕ) (more : List (List Entry)) (ls : List Line) (l : Line) → n + length more ≡ group_count p → front ++ l ∷ ls ≡ front ++ (lines_of_groups p n more ++ end_line ∷ []) → IsNextAfter p n l
-  next-after front n [] ls l count same = inr (record { all = (let none : n + 0 ≡ n = omega arith in sym none ∙ count); line_is = first-of front ls [] l end_line same })
-  next-after front n (x ∷ more) ls l count same = inl (record {
-    low = omega (arith, count);
-    line_is = first-of front ls ((entry_lines (group_with p n) 0 [] x ++ lines_of_groups p (n + 1) more) ++ end_line ∷ []) l (opening_line (group_with p n)) same;
-  })
+  -- what comes behind these entries where they are all of the group's
+  whole-within : (hs done more : List (List Entry)) (n : ℕ) (es : List Entry) (ls : List Line) → ArePlays p hs → length done ≡ n → hs ≡ done ++ es ∷ more → lines_from p 0 hs ≡ lines_through p done n es ++ ls → GoesOn p n es ls
+  whole-within hs done more n es ls are count is same = record {
+    play = play-of hs done more n es are count is;
+    more = more;
+    count = omega (arith, count, are.count, ap length is, length-append done (es ∷ more));
+    lines_are =
+        append_cancel_left (lines_through p done n es) ls (lines_behind p n es ++ (lines_of_groups p (n + 1) more ++ end_line ∷ []))
+        (sym same ∙ ap (lines_from p 0) is ∙ parted p done more n es count);
+  }
 
-  -- what comes behind some entries of a group
+  -- what comes behind some entries of a group: the line of an entry, or else all the entries are there
   pub next-within : (hs done : List (List Entry)) (n : ℕ) (es : List Entry) (l : Line) (ls : List Line) → ArePlays p hs → length done ≡ n → lines_from p 0 hs ≡ lines_through p done n es ++ l ∷ ls
-      → IsEntryNext (group_with p n) es l ⊎ (IsScriptPlay (group_with p n) es × IsNextAfter p (n + 1) l)
+      → IsEntryNext (group_with p n) es l ⊎ (IsScriptPlay (group_with p n) es × IsOtherLine l)
   next-within hs done n es l ls are count same = by_rest (entries_first (l ∷ ls)) (histories_said (l ∷ ls)) (begin-so p hs done n es (l ∷ ls) same)
     where
-      plays : (xs : List Entry) (more : List (List Entry)) → hs ≡ done ++ xs ∷ more → ArePlaysFrom p 0 (done ++ xs ∷ more)
-      plays xs more is = subst (ArePlaysFrom p 0) is (all-from p hs built are)
-
-      play : (xs : List Entry) (more : List (List Entry)) → hs ≡ done ++ xs ∷ more → IsScriptPlay (group_with p n) xs
-      play xs more is = let same : 0 + length done ≡ n = omega (arith, count) in subst (λ (m : ℕ). IsScriptPlay (group_with p m) xs) same (plays-split p 0 done (xs ∷ more) (plays xs more is)).1.0
-
-      by_rest : (rest : List Entry) (more : List (List Entry)) → hs ≡ done ++ (es ++ rest) ∷ more → IsEntryNext (group_with p n) es l ⊎ (IsScriptPlay (group_with p n) es × IsNextAfter p (n + 1) l)
+      by_rest : (rest : List Entry) (more : List (List Entry)) → hs ≡ done ++ (es ++ rest) ∷ more → IsEntryNext (group_with p n) es l ⊎ (IsScriptPlay (group_with p n) es × IsOtherLine l)
       by_rest [] more is =
-          let here : hs ≡ done ++ es ∷ more = is ∙ ap (λ (xs : List Entry). done ++ xs ∷ more) (append-nil es) in
-          let counted : n + 1 + length more ≡ group_count p = omega (arith, count, are.count, ap length here, length-append done (es ∷ more)) in
-          inr (play es more here, next-after (lines_through p done n es) (n + 1) more ls l counted (sym same ∙ ap (lines_from p 0) here ∙ parted done more n es count (plays es more here)))
+          let on = whole-within hs done more n es (l ∷ ls) are count (is ∙ ap (λ (xs : List Entry). done ++ xs ∷ more) (append-nil es)) same in
+          inr (on.play, first-other p (n + 1) (lines_behind p n es) on.more l ls (blocks-other (group_with p n) (past_of (group_with p n) es)) on.lines_are)
       by_rest (e ∷ rest) more is =
           let g : Group = group_with p n in
           let others : List Line = entry_lines g (length es + 1) (after g e.step (past_of g es)) rest in
-          let after_those : List Line = lines_of_groups p (n + 1) more ++ end_line ∷ [] in
+          let after_those : List Line = lines_behind p n (es ++ e ∷ rest) ++ (lines_of_groups p (n + 1) more ++ end_line ∷ []) in
           let lines : lines_from p 0 hs ≡ lines_through p done n es ++ next_line g es e ∷ (others ++ after_those) =
-          ap (lines_from p 0) is ∙ parted done more n (es ++ e ∷ rest) count (plays (es ++ e ∷ rest) more is)
+          ap (lines_from p 0) is ∙ parted p done more n (es ++ e ∷ rest) count
           ∙ append_assoc (lines_of_groups p 0 done) (lines_so_far g (es ++ e ∷ rest)) after_those
           ∙ ap (λ (xs : List Line). lines_of_groups p 0 done ++ (xs ++ after_those)) (lines_so_far-next g es e rest)
           ∙ ap (λ (xs : List Line). lines_of_groups p 0 done ++ xs) (append_assoc (lines_so_far g es) (next_line g es e ∷ others) after_those)
           ∙ sym (append_assoc (lines_of_groups p 0 done) (lines_so_far g es) (next_line g es e ∷ (others ++ after_those))) in
-          inl (record { entry = e; more = rest; play = play (es ++ e ∷ rest) more is; line_is = first-of (lines_through p done n es) ls (others ++ after_those) l (next_line g es e) (sym same ∙ lines) })
+          inl (record { entry = e; more = rest; play = play-of hs done more n (es ++ e ∷ rest) are count is; line_is = first-of (lines_through p done n es) ls (others ++ after_those) l (next_line g es e) (sym same ∙ lines) })
 
-  -- no entry comes behind a whole history
-  pub over-no_entry : (g : Group) (es : List Entry) (l : Line) → IsOver g es → IsEntryNext g es l → ⊥
-  over-no_entry g es l over next = over-none g es next.entry.step over (next-step g es next.entry next.more next.play)
+  -- and what comes behind all its steps
+  pub goes-on : (hs done : List (List Entry)) (n : ℕ) (es : List Entry) (ls : List Line) → ArePlays p hs → length done ≡ n → IsOver (group_with p n) es → lines_from p 0 hs ≡ lines_through p done n es ++ ls → GoesOn p n es ls
+  goes-on hs done n es ls are count over same = by_rest (entries_first ls) (histories_said ls) (begin-so p hs done n es ls same)
+    where
+      by_rest : (rest : List Entry) (more : List (List Entry)) → hs ≡ done ++ (es ++ rest) ∷ more → GoesOn p n es ls
+      by_rest [] more is = whole-within hs done more n es ls are count (is ∙ ap (λ (xs : List Entry). done ++ xs ∷ more) (append-nil es)) same
+      by_rest (e ∷ rest) more is = absurd (over-none (group_with p n) es e.step over (next-step (group_with p n) es e rest (play-of hs done more n (es ++ e ∷ rest) are count is)))
 
   -- what comes behind plays of the first groups
   pub next-between : (hs done : List (List Entry)) (l : Line) (ls : List Line) → ArePlays p hs → ArePlaysFrom p 0 done → lines_from p 0 hs ≡ lines_of_groups p 0 done ++ l ∷ ls → IsNextAfter p (length done) l
@@ -221,24 +254,24 @@ module _ (p : Parts) (valid : IsValid p) (built : is_built p ≡ true) where
       by_view : (done ≡ []) ⊎ ((front : List (List Entry)) × (es : List Entry) × (done ≡ front ++ es ∷ [])) → IsNextAfter p (length done) l
       by_view (inl none) =
           let counted : length done + length hs ≡ group_count p = omega (arith, are.count, ap length none) in
-          let lines : lines_of_groups p 0 done ++ l ∷ ls ≡ lines_of_groups p 0 done ++ (lines_of_groups p (length done) hs ++ end_line ∷ []) =
-          sym same ∙ whole-lines p 0 hs valid built (all-from p hs built are)
-          ∙ ap (λ (ds : List (List Entry)). lines_of_groups p 0 ds ++ (lines_of_groups p (length ds) hs ++ end_line ∷ [])) (sym none) in
-          next-after (lines_of_groups p 0 done) (length done) hs ls l counted lines
+          let lines : l ∷ ls ≡ lines_of_groups p (length done) hs ++ end_line ∷ [] =
+          sym (same ∙ ap (λ (ds : List (List Entry)). lines_of_groups p 0 ds ++ l ∷ ls) none) ∙ whole-lines p 0 hs
+          ∙ ap (λ (ds : List (List Entry)). lines_of_groups p (length ds) hs ++ end_line ∷ []) (sym none) in
+          next-after p (length done) hs ls l counted lines
       by_view (inr last) =
           let front : List (List Entry) = last.0 in
           let es : List Entry = last.1 in
-          let counted : length front + 1 ≡ length done = omega (arith, ap length last.2, length-append front (es ∷ [])) in
-          let here : 0 + length front ≡ length front = omega arith in
-          let play : IsScriptPlay (group_with p (length front)) es =
+          let n : ℕ = length front in
+          let counted : n + 1 ≡ length done = omega (arith, ap length last.2, length-append front (es ∷ [])) in
+          let here : 0 + n ≡ n = omega arith in
+          let play : IsScriptPlay (group_with p n) es =
           subst (λ (m : ℕ). IsScriptPlay (group_with p m) es) here (plays-split p 0 front (es ∷ []) (subst (ArePlaysFrom p 0) last.2 plays)).1.0 in
-          let lines : lines_from p 0 hs ≡ lines_through p front (length front) es ++ l ∷ ls =
-          same ∙ ap (λ (ds : List (List Entry)). lines_of_groups p 0 ds ++ l ∷ ls) last.2 ∙ ap (λ (xs : List Line). xs ++ l ∷ ls) (lines-last p front (length front) es refl) in
-          by_next (group_with p (length front)) es (length front + 1) counted play (next-within hs front (length front) es l ls are refl lines)
-        where
-          by_next : (g : Group) (es : List Entry) (n : ℕ) → n ≡ length done → IsScriptPlay g es → IsEntryNext g es l ⊎ (IsScriptPlay g es × IsNextAfter p n l) → IsNextAfter p (length done) l
-          by_next g es n counted play (inl next) = absurd (over-no_entry g es l (λ q there. sym (play.scripts q there)) next)
-          by_next g es n counted play (inr next) = subst (λ (m : ℕ). IsNextAfter p m l) counted next.1
+          let lines : lines_from p 0 hs ≡ lines_through p front n es ++ (lines_behind p n es ++ l ∷ ls) =
+          same ∙ ap (λ (ds : List (List Entry)). lines_of_groups p 0 ds ++ l ∷ ls) last.2 ∙ ap (λ (xs : List Line). xs ++ l ∷ ls) (lines-last p front n es refl)
+          ∙ append_assoc (lines_through p front n es) (lines_behind p n es) (l ∷ ls) in
+          let on = goes-on hs front n es (lines_behind p n es ++ l ∷ ls) are refl (λ q there. sym (play.scripts q there)) lines in
+          subst (λ (m : ℕ). IsNextAfter p m l) counted
+          (next-after p (n + 1) on.more ls l on.count (append_cancel_left (lines_behind p n es) (l ∷ ls) (lines_of_groups p (n + 1) on.more ++ end_line ∷ []) on.lines_are))
 
   -- ---- plays that begin so
 
@@ -253,7 +286,7 @@ module _ (p : Parts) (valid : IsValid p) (built : is_built p ≡ true) where
         from-all p (done ++ others.0) built all counted,
         (
           later ++ end_line ∷ [],
-          whole-lines p 0 (done ++ others.0) valid built all ∙ ap (λ (xs : List Line). xs ++ end_line ∷ []) (lines-append p 0 done others.0)
+          whole-lines p 0 (done ++ others.0) ∙ ap (λ (xs : List Line). xs ++ end_line ∷ []) (lines-append p 0 done others.0)
               ∙ append_assoc (lines_of_groups p 0 done) later (end_line ∷ []),
         ),
       )
@@ -266,13 +299,13 @@ module _ (p : Parts) (valid : IsValid p) (built : is_built p ≡ true) where
       let here : n ≡ 0 + length done = omega (arith, count) in
       let so_far : ArePlaysFrom p 0 (done ++ (es ++ whole.0) ∷ []) = plays-append p 0 done ((es ++ whole.0) ∷ []) plays (subst (λ (m : ℕ). IsScriptPlay (group_with p m) (es ++ whole.0)) here whole.1, tt) in
       let all = completed-between (done ++ (es ++ whole.0) ∷ []) so_far (omega (arith, few, count, length-append done ((es ++ whole.0) ∷ []))) in
-      let others : List Line = entry_lines g (length es) (past_of g es) whole.0 in (
+      let others : List Line = entry_lines g (length es) (past_of g es) whole.0 in
+      let behind : List Line = lines_behind p n (es ++ whole.0) in (
         all.0,
         all.1,
         (
-          others ++ all.2.0,
-          all.2.1 ∙ ap (λ (xs : List Line). xs ++ all.2.0) (lines-last p done n (es ++ whole.0) count ∙ ap (λ (xs : List Line). lines_of_groups p 0 done ++ xs) (lines_so_far-more g es whole.0)
-              ∙ sym (append_assoc (lines_of_groups p 0 done) (lines_so_far g es) others))
-              ∙ append_assoc (lines_through p done n es) others all.2.0,
+          others ++ (behind ++ all.2.0),
+          all.2.1 ∙ ap (λ (xs : List Line). xs ++ all.2.0) (lines-last p done n (es ++ whole.0) count ∙ ap (λ (xs : List Line). (lines_of_groups p 0 done ++ xs) ++ behind) (lines_so_far-more g es whole.0))
+              ∙ regrouped-more (lines_of_groups p 0 done) (lines_so_far g es) others behind all.2.0,
         ),
       )

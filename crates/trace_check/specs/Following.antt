@@ -9,6 +9,7 @@ use Rattle.rt_model.specs.Steps.{IsStepOf}
 use Rattle.rt_model.specs.Histories.{after, changed, past_of, reply_to}
 use Rattle.rt_groups.specs.Built.{is_built}
 use Rattle.rt_groups.specs.Groups.{IsGroupOf}
+use Rattle.block_counts.specs.GroupRequests as counts
 use Rattle.rank_afresh.specs.Standing.{IsAt, group_of}
 use Rattle.trace_lines.specs.Lines.{Link, links_of}
 use Rattle.trace_text.specs.TraceText.{links_at}
@@ -51,6 +52,10 @@ pub record IsFollowing (g : Group) (es : List Entry) (f : Follow) : Type 0 where
   pub group_is : group_of f.afresh ≡ g
   pub count_is : f.count ≡ length es
   pub spare_is : f.afresh.spare + length es ≡ length (steps_in_group g (steps_given g.setup.drive))
+  pub blocks_are : counts.IsAt f.blocks (past_of g es)
+  pub blocks_group : counts.group_of f.blocks ≡ g
+  pub blocks_spare : f.blocks.spare ≡ f.afresh.spare
+  pub waiting_room : length g.setup.tasks ≤ f.waiting.room
   pub cpus_are : cpu_numbers f.cpus.items ≡ group_processors g
   pub links_are : links_of f.links.items ≡ links_at g (past_of g es) (group_processors g)
   pub places_are : ArePlaces g es f.scripts.places.items

@@ -6,7 +6,7 @@ use Rattle.rt_model.specs.Group.{Group, group_processors}
 use Rattle.rt_plays.specs.Plays.{group_with}
 use Rattle.rt_plays.specs.ScriptPlays.{IsScriptPlay}
 use Rattle.trace_lines.specs.Lines.{Line, group_line}
-use Rattle.trace_text.specs.TraceText.{entry_lines, links_at}
+use Rattle.trace_text.specs.TraceText.{entry_lines, group_lines, links_at}
 
 -- the line of a group, with the links at opening
 abbrev pub opening_line : Group → Line
@@ -16,10 +16,10 @@ opening_line g = group_line g.number (links_at g [] (group_processors g))
 abbrev pub lines_so_far : Group → List Entry → List Line
 lines_so_far g es = opening_line g ∷ entry_lines g 0 [] es
 
--- those of the groups from a number on, each with its history
+-- those of the groups from a number on, each with its history, and with a line for each request of it
 abbrev pub lines_of_groups : Parts → ℕ → List (List Entry) → List Line
 lines_of_groups p n [] = []
-lines_of_groups p n (es ∷ more) = lines_so_far (group_with p n) es ++ lines_of_groups p (n + 1) more
+lines_of_groups p n (es ∷ more) = group_lines (group_with p n) es ++ lines_of_groups p (n + 1) more
 
 -- plays of the groups from a number on
 abbrev pub ArePlaysFrom : Parts → ℕ → List (List Entry) → Type 0

@@ -3,5 +3,6 @@ pub mod Next
 pub mod SameLinks
 pub mod Following
 pub mod GroupLines
+pub mod RequestLines
 pub mod Judging
 pub mod Progress

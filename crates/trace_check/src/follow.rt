@@ -5,15 +5,20 @@ ghost use Rattle.rt_history.specs.declared.Entry.{Entry};
 ghost use Rattle.rt_model.specs.Histories.{after, past_of, reply_to};
 ghost use Rattle.rt_groups.specs.Built.{is_built};
 ghost use Rattle.rt_groups.specs.Groups.{IsGroupOf};
+ghost use Rattle.block_counts.specs.GroupRequests as counts;
+ghost use Rattle.block_counts.specs.SeenWords.{tallies_of};
 ghost use Rattle.rt_plays.specs.Plays.{group_with};
 ghost use Rattle.rank_afresh.specs.Standing.{IsAt, group_of};
 ghost use Rattle.trace_lines.specs.Lines.{links_of};
+ghost use Rattle.trace_text.specs.TraceText.{block_lines};
 ghost use Rattle.trace_check.specs.Following.{CanStep, IsAccepted, IsFollowing};
 ghost use Rattle.trace_check.specs.Following.{IsFollowingWith, IsNextEntry, IsOver, Place};
+ghost use Rattle.trace_check.specs.RequestLines.{request_lines};
 
 use crate::links::{are_same, read_links};
 use crate::same::is_same_reply;
 use crate::scripts::Scripts;
+use block_counts::{Blocks, Seen};
 use rank_afresh::Afresh;
 use rt_base::{CpuNo, GroupNo, NoMemory};
 use rt_history::{Entry, Reply};
@@ -23,13 +28,17 @@ use std::alloc::Global;
 use std::mem;
 use trace_lines::CpuLink;
 use trace_text::{cpus_of, put_changed};
+use waiting_list::WaitingList;
 
-/// A group whose entries are followed: the ranker that replays them, the group's processors, their
+/// A group whose entries are followed: the ranker that replays them, the requests so far with their
+/// counts, the tasks that waited as the last entry freed a semaphore, the group's processors, their
 /// links now and before the last entry, those that this entry changed, how far the scripts of the
 /// processors were followed, and the number of entries.
 #[derive(Drop)]
 pub(crate) struct Follow {
     afresh: Afresh,
+    blocks: Blocks,
+    waiting: WaitingList,
     cpus: Vec<CpuNo>,
     links: Vec<CpuLink>,
     before: Vec<CpuLink>,
@@ -50,10 +59,15 @@ impl Follow {
         let scripts = Scripts::open(alloc, cpus.as_slice())?;
         let room = scripts.count(steps);
         let afresh = Afresh::open(alloc, setup, group, room)?;
+        let blocks = Blocks::open(alloc, setup, group, room)?;
+        let tasks = setup.parts().tasks.as_slice().len();
+        let waiting = WaitingList::open(alloc, tasks as u32)?;
         let mut links = Vec::new(alloc);
         read_links(&afresh, cpus.as_slice(), &mut links)?;
         Ok(Follow {
             afresh,
+            blocks,
+            waiting,
             cpus,
             links,
             before: Vec::new(alloc),
@@ -74,19 +88,35 @@ impl Follow {
         self.scripts.are_over(steps)
     }
 
-    /// Takes a step of the group's: the clock moves, and the act is answered.
+    /// Takes a step of the group's: the clock moves, and the act is answered. Where it frees a
+    /// semaphore, the requests see which tasks wait for that between the two moves.
     fn step(&mut self, step: Step) -> Reply
         requires { (at : Place) × CanStep at self.old step }
         ensures reply { (at : Place) → CanStep at self.old step
             → result ≡ reply_to at.group step (past_of at.group at.entries) }
         ensures at { (at : Place) → CanStep at self.old step
             → IsAt self.new.afresh (after at.group step (past_of at.group at.entries)) }
+        ensures counted { (at : Place) → CanStep at self.old step → counts.IsAt self.new.blocks
+            (after at.group step (past_of at.group at.entries)) }
         ensures group { group_of self.new.afresh ≡ group_of self.old.afresh }
+        ensures same { counts.group_of self.new.blocks ≡ counts.group_of self.old.blocks }
         ensures spare { self.new.afresh.spare + 1 ≡ self.old.afresh.spare }
-        ensures others { self.new ≡ record self.old { afresh = self.new.afresh } }
+        ensures room { self.new.blocks.spare + 1 ≡ self.old.blocks.spare }
+        ensures waiting { self.new.waiting.room ≡ self.old.waiting.room }
+        ensures others { self.new ≡ record self.old {
+          afresh = self.new.afresh;
+          blocks = self.new.blocks;
+          waiting = self.new.waiting;
+        } }
     {
         self.afresh.clock(step.tick);
-        self.afresh.act(step)
+        let runs = self.afresh.runs(step.cpu);
+        self.afresh
+            .list_waiting(step.cpu, step.act, &mut self.waiting);
+        let reply = self.afresh.act(step);
+        self.blocks
+            .feed(Entry { step, reply }, runs, self.waiting.tasks());
+        reply
     }
 
     /// Whether an entry line, by its number, its entry and its links, is the next one that is
@@ -134,6 +164,15 @@ impl Follow {
         ensures { result.now ≡ self.now.links.items }
     {
         self.links.as_slice()
+    }
+
+    /// The requests among the entries that were followed, each with its counts.
+    pub(crate) fn requests(&self) -> &[Seen]
+        ensures { (at : Place) → IsFollowing at.group at.entries self.now
+            → request_lines (tallies_of result.now)
+            ≡ block_lines at.group (past_of at.group at.entries) }
+    {
+        self.blocks.requests()
     }
 
     /// How many entries were followed.

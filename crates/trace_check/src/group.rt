@@ -1,5 +1,5 @@
 //! The lines of a group.
-ghost use Rattle.std.specs.Prelude.{◌≡◌, ◌+◌, ◌^◌, ◌<◌, IfOk, true};
+ghost use Rattle.std.specs.Prelude.{◌≡◌, ◌+◌, ◌^◌, ◌<◌, ◌≤◌, IfOk, length, true};
 ghost use Rattle.rt_groups.specs.Built.{is_built};
 ghost use Rattle.rt_groups.specs.Groups.{IsGroupOf};
 ghost use Rattle.rt_plays.specs.Drives.{steps_given};
@@ -12,6 +12,7 @@ ghost use Rattle.trace_check.specs.Progress.{AreRight, IsEndedAt, IsFollowedTo};
 use crate::follow::Follow;
 use crate::links::are_same;
 use crate::progress::{Followed, Progress};
+use crate::requests::first_missing;
 use rt_base::{GroupNo, NoMemory};
 use rt_task::{Setup, Step};
 use std::alloc::Global;
@@ -30,20 +31,32 @@ fn begins(follow: &Follow, number: GroupNo, lines: &[Line]) -> bool
     }
 }
 
-/// What the lines of a group come to where no entry line stands in this place.
-fn ended_at(follow: &Follow, steps: &[Step], from: Progress, place: usize) -> Followed
+/// What the lines of a group come to where no entry line stands in this place: all its steps must
+/// have been followed, and the lines of its requests stand there.
+fn ended_at(
+    follow: &Follow,
+    steps: &[Step],
+    lines: &[Line],
+    from: Progress,
+    place: usize,
+) -> Followed
     requires steps { (at : Place) × IsFollowingWith at steps.now follow.now }
     requires few { from.entries + follow.now.count < 2 ^ 32 }
+    requires place { place ≤ length lines.now }
     ensures { (at : Place) → IsFollowingWith at steps.now follow.now
-        → IsEndedAt at from follow.now.count place result }
+        → IsEndedAt at (lines_of lines.now) from follow.now.count place result }
 {
     if !follow.is_over(steps) {
         return Followed::Wrong(place);
     }
-    Followed::Whole(Progress {
-        lines: place,
-        entries: from.entries + follow.count(),
-    })
+    let requests = follow.requests();
+    match first_missing(requests, &lines[place..]) {
+        Some(k) => Followed::Wrong(place + k),
+        None => Followed::Whole(Progress {
+            lines: place + requests.len(),
+            entries: from.entries + follow.count(),
+        }),
+    }
 }
 
 /// Follows the lines of a group, behind those of the groups before it. `steps` are the set's.
@@ -72,8 +85,8 @@ pub(crate) fn follow_group(
                     return Ok(Followed::Wrong(i));
                 }
             }
-            _ => return Ok(ended_at(&follow, steps, from, i)),
+            _ => return Ok(ended_at(&follow, steps, lines, from, i)),
         }
     }
-    Ok(ended_at(&follow, steps, from, lines.len()))
+    Ok(ended_at(&follow, steps, lines, from, lines.len()))
 }

@@ -14,6 +14,7 @@ mod head;
 mod judge;
 mod links;
 mod progress;
+mod requests;
 mod same;
 mod scripts;
 mod verdict;

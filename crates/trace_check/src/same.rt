@@ -1,6 +1,7 @@
-//! Steps and replies that are the same.
+//! Steps, replies and requests that are the same.
 ghost use Rattle.std.specs.Prelude.{◌≡◌, true, false};
 
+use block_counts::Seen;
 use rt_history::Reply;
 use rt_task::Step;
 
@@ -14,6 +15,14 @@ pub(crate) fn is_same_step(a: Step, b: Step) -> bool
 
 /// Whether two replies are the same.
 pub(crate) fn is_same_reply(a: Reply, b: Reply) -> bool
+    ensures same { result ≡ true → a ≡ b }
+    ensures other { result ≡ false → a ≡ b → ⊥ }
+{
+    a == b
+}
+
+/// Whether two requests are the same.
+pub(crate) fn is_same_request(a: Seen, b: Seen) -> bool
     ensures same { result ≡ true → a ≡ b }
     ensures other { result ≡ false → a ≡ b → ⊥ }
 {

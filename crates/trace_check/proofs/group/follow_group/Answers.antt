@@ -5,7 +5,9 @@ use Rattle.trace_read.specs.Lines.{line_of, lines_of}
 use Rattle.trace_check.specs.Following.{IsAccepted, IsFollowingWith, IsNextEntry, Place}
 use Rattle.trace_check.specs.Judging.{begins_with}
 use Rattle.trace_check.specs.Progress.{IsEndedAt}
-use Rattle.trace_check.proofs.Judging.{IsOtherLine, accepted-right, ended-there, entries-few, followed-with, group-low, length-read, line-there, none-there, opened-line, opened-right, opened-wrong, other-line, other-there, place-within, place_at, refused-there, rest-read}
+use Rattle.trace_check.proofs.GroupLines.{IsOtherLine}
+use Rattle.trace_check.proofs.Judging.{accepted-right, ended-there, entries-few, followed-with, group-low, none-there, opened-line, opened-right, opened-wrong, other-line, other-there, place-within, place_at, refused-there}
+use Rattle.trace_check.proofs.LinePlaces.{length-read, line-there, rest-read}
 use Rattle.trace_check.proofs.group.follow_group.Goals as goal
 
 pub returns-then-not-begins : goal.returns-then-not-begins
@@ -40,6 +42,7 @@ ended_at-requires c =
     record {
       steps = (place_at c.loop-i.invariant, followed-with c.args.setup.now (lines_of c.args.lines.now) c.loop-i.invariant c.args.steps.now c.requires.steps);
       few = entries-few c.args.setup.now (lines_of c.args.lines.now) c.args.group.0 c.args.from c.loop-i.i c.loop-i.follow c.loop-i.invariant;
+      place = omega (arith, c.loop-i-test.true);
     }
 
 pub returns-in_default : goal.returns-in_default
@@ -67,6 +70,7 @@ ended_at-requires-2 c =
     record {
       steps = (place_at c.loop-i.invariant, followed-with c.args.setup.now (lines_of c.args.lines.now) c.loop-i.invariant c.args.steps.now c.requires.steps);
       few = entries-few c.args.setup.now (lines_of c.args.lines.now) c.args.group.0 c.args.from c.loop-i.i c.loop-i.follow c.loop-i.invariant;
+      place = omega arith;
     }
 
 pub returns : goal.returns
@@ -79,4 +83,4 @@ returns c =
     let is : length c.args.lines.now ≡ c.loop-i.i = omega (arith, within, length-read c.args.lines.now, c.loop-i-test.false) in
     ended-there p ls c.args.group.0 c.args.from c.loop-i.i c.loop-i.follow c.loop-i.invariant c.ended_at-2.result
     (none-there p ls c.args.group.0 c.args.from c.loop-i.i c.loop-i.follow c.loop-i.invariant (omega (arith, is, length-read c.args.lines.now)))
-    (subst (λ (m : ℕ). IsEndedAt at c.args.from c.loop-i.follow.count m c.ended_at-2.result) is (c.ended_at-2.ensures at fw))
+    (subst (λ (m : ℕ). IsEndedAt at ls c.args.from c.loop-i.follow.count m c.ended_at-2.result) is (c.ended_at-2.ensures at fw))

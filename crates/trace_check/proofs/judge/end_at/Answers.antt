@@ -8,7 +8,8 @@ use Rattle.trace_check.specs.declared.verdict.Verdict.{Verdict}
 use Rattle.trace_check.specs.declared.verdict.Verdict.TheVariants.{Invalid}
 use Rattle.trace_check.specs.Judging.{IsJudged, begins_with_end}
 use Rattle.trace_check.specs.Progress.{AreAllRight}
-use Rattle.trace_check.proofs.Judging.{end-inside, end-more, end-valid, end-wrong, length-read, no-stop, rest-read}
+use Rattle.trace_check.proofs.Judging.{end-inside, end-more, end-valid, end-wrong, no-stop}
+use Rattle.trace_check.proofs.LinePlaces.{length-read, rest-read}
 use Rattle.trace_check.proofs.judge.end_at.Goals as goal
 use Rattle.trace_check.proofs.judge.end_at.Goals.{then-place-lines-via-then-place-lines, then-place-lines-via-else-place-lines+then-is_some}
 

@@ -9,7 +9,8 @@ use Rattle.trace_check.specs.declared.verdict.Verdict.{Verdict}
 use Rattle.trace_check.specs.declared.verdict.Verdict.TheVariants.{Invalid}
 use Rattle.trace_check.specs.Judging.{IsJudged}
 use Rattle.trace_check.specs.Progress.{AreAllRight, AreRight, IsFollowedTo}
-use Rattle.trace_check.proofs.Judging.{length-read, right-first, right-within}
+use Rattle.trace_check.proofs.Judging.{right-first, right-within}
+use Rattle.trace_check.proofs.LinePlaces.{length-read}
 use Rattle.trace_check.proofs.judge.judge_lines.Goals as goal
 
 pub loop-n-init : goal.loop-n-init

@@ -107,6 +107,10 @@ returns-clause-accepted c = λ at fw t.
         cpus_same = ap (λ (f : Follow). f.cpus.items) c.step.ensures.others;
         count_more = ap (λ (f : Follow). f.count + 1) c.step.ensures.others;
         links_read = ap links_of (sym c.as_slice-3.ensures.value) ∙ read.links_are;
+        counted_after = c.step.ensures.counted at can;
+        blocks_same = c.step.ensures.same;
+        blocks_less = c.step.ensures.room;
+        room_same = c.step.ensures.waiting;
         places_set = c.pass.ensures ∙ ap (λ (f : Follow). set f.scripts.places.items step.cpu.0 (Some (c.in-Some.j + 1))) c.step.ensures.others;
       });
     }

@@ -15,6 +15,7 @@ use Rattle.trace_text.proofs.ReplayLaws.{cpus_there}
 use Rattle.trace_text.specs.Groups.{cpu_numbers}
 use Rattle.trace_text.specs.TraceText.{links_at}
 use Rattle.trace_check.specs.Following.{has_place}
+use Rattle.waiting_list.specs.WaitingList.{WaitingList}
 use Rattle.rank_afresh.specs.Standing.{group_of}
 use Rattle.trace_check.proofs.Places.{given}
 use Rattle.trace_check.proofs.Opening.{cpus-low, group-made, following-first}
@@ -50,6 +51,11 @@ returns c =
       setup_is = c.in_ok-afresh.ensures.setup;
       group_is = c.in_ok-afresh.ensures.group;
       at = c.in_ok-afresh.ensures.opened;
+      blocks_setup = c.in_ok-blocks.ensures.setup;
+      blocks_group = c.in_ok-blocks.ensures.group;
+      blocks_at = c.in_ok-blocks.ensures.opened;
+      blocks_spare = c.in_ok-blocks.ensures.room ∙ sym c.in_ok-afresh.ensures.room;
+      waiting_room = omega (arith, ap (λ (w : WaitingList). w.room) c.in_ok-waiting.ensures, ap length c.as_slice-tasks.ensures, ap (λ (q : Parts). length q.tasks) c.parts-2.ensures.parts);
       cpus_are = c.in_ok-cpus.ensures;
       places_are = λ q. c.in_ok-scripts.ensures q ∙ ap (λ (qs : List CpuNo). given (has q (cpu_numbers qs))) c.as_slice.ensures.value;
       spare_is = c.in_ok-afresh.ensures.room ∙ c.count-room.ensures ∙ ap (count_by test) (c.steps_given-steps.ensures ∙ ap (λ (p : Parts). steps_given p.drive) c.parts.ensures.parts);
