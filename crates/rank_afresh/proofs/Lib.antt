@@ -4,6 +4,8 @@ pub mod TopTasks
 pub mod Rankings
 pub mod Reading
 pub mod SetLists
+pub mod InTurn
+pub mod Bases
 pub mod Counting
 pub mod Moving
 pub mod ModelWords

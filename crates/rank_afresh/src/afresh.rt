@@ -62,7 +62,7 @@ impl Afresh {
         ensures opened { IfOk result (λ a. IsAt a []) }
     {
         let setup = setup.share()?;
-        let facts = Facts::open(alloc, setup.parts(), group, room)?;
+        let facts = Facts::open(alloc, &setup, group, room)?;
         Ok(Afresh {
             setup,
             group,
