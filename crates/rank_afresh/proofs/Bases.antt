@@ -1,17 +1,29 @@
 -- Base keys that are told: of one task after the other, and anew.
 use Rattle.std.proofs.Common.{◌≡◌, ℕ, zero, suc, ◌+◌, ◌-◌, ◌<◌, ◌≤◌, Bool, true, false, List, [], ◌∷◌, ◌++◌, length, length-set, set, eqb-true, refl, sym, ap, ◌∙◌, subst, get_or-set_same, get_or-set_other, arith}
-use Rattle.std.specs.Prelude.{◌==◌, Option, None, Some, IsSome, slice_index_or}
+use Rattle.std.specs.Prelude.{◌==◌, Option, None, Some, IsSome, if◌then◌else◌, slice_index_or}
 use Rattle.std.proofs.lemmas.Bool.{eqb-false}
 use Rattle.rt_order.specs.declared.Key.{Key}
+use Rattle.rt_task.specs.declared.Act.{Act}
+use Rattle.rt_task.specs.declared.Act.TheVariants as acts
+use Rattle.rt_task.specs.declared.Op.{Op}
+use Rattle.rt_task.specs.declared.Op.TheVariants as ops
 use Rattle.rt_task.specs.declared.Parts.{Parts}
-use Rattle.rt_rules.specs.Numbers.{has, numbers_from}
+use Rattle.rt_rules.specs.Numbers.{has, numbers_from, same}
 use Rattle.rt_rules.proofs.NumberLaws.{numbers_from-has}
 use Rattle.group_facts.specs.Kept.{Kept}
+use Rattle.prio_inherit.specs.Waits.{Waits}
+use Rattle.sem_table.specs.Asked.{after_ask, is_granted}
+use Rattle.sem_table.specs.Released.{after_release}
+use Rattle.sem_table.specs.SemTable.{SemTable}
+use Rattle.sem_table.specs.Told.{owner_of, waiters_of}
+use Rattle.mpcp_ceilings.specs.Ceilings.{CeilingTable}
+use Rattle.group_sems.specs.BoostKeys.{boost_now}
 use Rattle.group_sems.specs.GroupSems.{GroupSems}
-use Rattle.group_sems.specs.Telling.{HasBase}
+use Rattle.group_sems.specs.Locking.{after_lock, after_unlock, asked_waits, freed_waits, served_waits, with_boost}
+use Rattle.group_sems.specs.Telling.{HasBase, retold, told_of}
 use Rattle.group_sem_laws.specs.Keeping.{rebased}
 use Rattle.group_sem_laws.proofs.Putting.{put-at, put-length, rebased-put}
-use Rattle.rank_afresh.specs.Facts.{all_based, based}
+use Rattle.rank_afresh.specs.Facts.{Facts, all_based, asked_by, based, sems_by}
 use Rattle.rank_afresh.specs.Ranks.{AreBased, HaveBases, base_in}
 use Rattle.rank_afresh.proofs.SetLists.{numbers-more}
 
@@ -75,3 +87,47 @@ based-anew p k k' v w t same range others b = record {
     by_case u low high false e =
         get_or-set_other w.waits.bases t u (Some (base_in p k' t)) None (eqb-false u t e)
         ∙ ap (λ (bs : List (Option Key)). slice_index_or bs u None) same ∙ b.are u low high ∙ ap Some (sym (others u low e))
+
+-- ---- asking for a semaphore and freeing one leave base keys
+
+retold-bases : (before : Option ℕ) (table : SemTable) (s : ℕ) (w : Waits) → (retold before table s w).bases ≡ w.bases
+retold-bases before table s w = by_case (same before (owner_of table s))
+  where
+    by_case : (b : Bool) → (if b then w else (record w { nexts = told_of (owner_of table s) (waiters_of table s) w.nexts })).bases ≡ w.bases
+    by_case true = refl
+    by_case false = refl
+
+bases-asked : (p : Parts) (clock t : ℕ) (key : Key) (s : ℕ) (v : GroupSems) → (after_lock p clock t key s v).waits.bases ≡ v.waits.bases
+bases-asked p clock t key s v = by_case (is_granted t key s v.table)
+  where
+    by_case : (b : Bool) → (asked_waits b (boost_now p v.ceilings clock s t) t s (owner_of v.table s) (after_ask t key s v.table) v.waits).bases ≡ v.waits.bases
+    by_case true = retold-bases (owner_of v.table s) (after_ask t key s v.table) s (with_boost t (boost_now p v.ceilings clock s t) v.waits)
+    by_case false = refl
+
+served-bases : (p : Parts) (ceilings : CeilingTable) (clock s : ℕ) (o : Option ℕ) (w : Waits) → (served_waits p ceilings clock s o w).bases ≡ w.bases
+served-bases p ceilings clock s None w = refl
+served-bases p ceilings clock s (Some u) w = refl
+
+bases-freed : (p : Parts) (clock t s : ℕ) (v : GroupSems) → (after_unlock p clock t s v).waits.bases ≡ v.waits.bases
+bases-freed p clock t s v =
+    retold-bases (owner_of v.table s) (after_release t s v.table) s (freed_waits p clock t s v)
+    ∙ served-bases p v.ceilings clock s (after_release t s v.table).served (with_boost t None v.waits)
+
+pub bases-by : (p : Parts) (t : ℕ) (op : Op) (k : Kept) (v : GroupSems) → (sems_by p t op k v).waits.bases ≡ v.waits.bases
+bases-by p t ops.Work k v = refl
+bases-by p t (ops.Lock s) k v = bases-asked p k.clock t (base_in p k t) s.0 v
+bases-by p t (ops.Unlock s) k v = bases-freed p k.clock t s.0 v
+bases-by p t (ops.Sleep n) k v = refl
+bases-by p t ops.NpOn k v = refl
+bases-by p t ops.NpOff k v = refl
+bases-by p t ops.End k v = refl
+
+pub bases-asked-by : (p : Parts) (act : Act) (o : Option ℕ) (f : Facts) → (asked_by p act o f).waits.bases ≡ f.sems.waits.bases
+bases-asked-by p acts.Tick o f = refl
+bases-asked-by p acts.Irq o f = refl
+bases-asked-by p (acts.Arrive t) o f = refl
+bases-asked-by p (acts.Do op) None f = refl
+bases-asked-by p (acts.Do op) (Some t) f = bases-by p t op f.kept f.sems
+
+pub have-by : (p : Parts) (t : ℕ) (op : Op) (k : Kept) (v : GroupSems) → HaveBases p v → HaveBases p (sems_by p t op k v)
+have-by p t op k v h = λ u low high. subst (λ (bs : List (Option Key)). HasBase bs u) (sym (bases-by p t op k v)) (h u low high)

@@ -221,10 +221,10 @@ impl Facts {
         requires follow { CanFollow parts.now self.old.facts }
         requires cluster { home_of parts.now cpu.0 < length self.old.facts.clusters }
         ensures { let kept = self.old.facts.kept in
-            let where = placing_after parts.now cpu.0 op ends in
+            let which = placing_after parts.now cpu.0 op ends in
             self.new ≡ record self.old {
               facts = record self.old.facts {
-                clusters = placed_afresh parts.now kept self.old.facts.sems where self.old.facts.clusters;
+                clusters = placed_afresh parts.now kept self.old.facts.sems which self.old.facts.clusters;
               };
             } }
     {
