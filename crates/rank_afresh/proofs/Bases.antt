@@ -72,9 +72,9 @@ pub have-based : (p : Parts) (k : Kept) (t : ℕ) (v : GroupSems) → HaveBases 
 have-based p k t v h = λ u low high. base-set v.waits.bases t u (base_in p k t) (h u low high)
 
 -- what is kept of one job alone is new, and its base key is told
-pub based-anew : (p : Parts) (k k' : Kept) (v w : GroupSems) (t : ℕ) → w.waits.bases ≡ v.waits.bases → ((u : ℕ) → 1 ≤ u → u ≡ t → u ≤ length p.tasks)
+pub based-anew : (p : Parts) (k k' : Kept) (v w : GroupSems) (t : ℕ) → w.waits.bases ≡ v.waits.bases
     → ((u : ℕ) → 1 ≤ u → u == t ≡ false → base_in p k' u ≡ base_in p k u) → AreBased p k v → AreBased p k' (based p k' t w)
-based-anew p k k' v w t same range others b = record {
+based-anew p k k' v w t same others b = record {
   room = length-set w.waits.bases t (Some (base_in p k' t)) ∙ ap length same ∙ b.room;
   are = λ u low high. by_case u low high (u == t) refl;
 }

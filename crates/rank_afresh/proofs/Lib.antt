@@ -13,5 +13,7 @@ pub mod ClockSteps
 pub mod Fitting
 pub mod Standings
 pub mod Touching
+pub mod Telling
+pub mod AtSems
 pub mod Answering
 pub mod StandingActs

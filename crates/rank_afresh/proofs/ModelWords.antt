@@ -1,5 +1,5 @@
 -- The top of a cluster, what runs there and its links, read off what is kept of a group without reservations.
-use Rattle.std.proofs.Common.{◌≡◌, ℕ, Bool, true, false, ◌||◌, List, [], ◌∷◌, map, eqb-true, refl, sym, ap, ◌∙◌}
+use Rattle.std.proofs.Common.{◌≡◌, ℕ, Bool, true, false, ◌&&◌, ◌||◌, List, [], ◌∷◌, map, eqb-true, refl, sym, ap, ◌∙◌}
 use Rattle.std.specs.Prelude.{flat_map, is_none, is_some, not, ◌==◌, None, Option, Some}
 use Rattle.rt_task.specs.declared.PluginKind.{PluginKind}
 use Rattle.rt_task.specs.declared.PluginKind.TheVariants as plugins
@@ -21,7 +21,8 @@ use Rattle.rt_model.specs.Tops.{eligible, is_served, ranking, top}
 use Rattle.rt_laws.proofs.GroupLaws.{tasks_of-home}
 use Rattle.group_facts.specs.Facts.{CpuFacts, JobFacts}
 use Rattle.group_facts.specs.Kept.{IsKept, Kept, cpu_of, job_of}
-use Rattle.group_facts.specs.Words.{AreRead, key_of}
+use Rattle.group_facts.specs.Words.{AreRead, is_ready, key_of}
+use Rattle.group_jobs.specs.GroupJobs.{task_in}
 use Rattle.group_facts.proofs.KeptMoves.{task-range, words_of_kept}
 use Rattle.sem_table.specs.Told.{awaits_of}
 use Rattle.group_sems.specs.GroupSems.{GroupSems}
@@ -86,6 +87,13 @@ module _ (g : Group) (plain : is_p_res g.setup.plugin ≡ false) (past : Past) (
     are = λ t there. let r = task-range g t there in based.are t r.0 r.1 ∙ ap Some (sym (base-read t there));
   }
 
+  -- whether a task is eligible, but for what it waits for
+  pub ready-read : (t : ℕ) → has t (tasks g) ≡ true → eligible g t past ≡ is_ready k.clock (task_in g.setup.tasks t) (job_of k t) && is_none (awaits g t past)
+  unfolding task
+  ready-read t there =
+      let words : AreRead g t past k.clock (job_of k t) = words_of_kept g past k kept t there in
+      words.eligible_is ∙ rw (served g g.setup.plugin t past plain, and_true (is_none (awaits g t past))) refl
+
   -- of locks that are kept, with base keys that were told
   pub keeps-sems : (v w : GroupSems) → KeepsLocks g past w → v.table ≡ w.table → v.ceilings ≡ w.ceilings → v.waits.nexts ≡ w.waits.nexts → v.waits.boosts ≡ w.waits.boosts
       → AreBased g.setup k v → KeepsGroupSems g past v
@@ -111,11 +119,9 @@ module _ (g : Group) (plain : is_p_res g.setup.plugin ≡ false) (past : Past) (
 
   module _ (valid : IsValid g.setup) (made : IsReachable g past) (v : GroupSems) (sems : KeepsGroupSems g past v) where
     eligible-read : (t : ℕ) → has t (tasks g) ≡ true → eligible g t past ≡ is_candidate g.setup k v t
-    unfolding task
     eligible-read t there =
-        let words : AreRead g t past k.clock (job_of k t) = words_of_kept g past k kept t there in
         let waits : is_some (awaits_of v.table t) ≡ is_some (awaits g t past) = (holding_is_read g past valid made v t there sems.locks).1 in
-        words.eligible_is ∙ rw (served g g.setup.plugin t past plain, none-not (awaits g t past), waits, and_true (not (is_some (awaits g t past)))) refl
+        ready-read t there ∙ rw (none-not (awaits g t past), waits) refl
 
     pub key-read : (t : ℕ) → has t (tasks g) ≡ true → effective_key g t past ≡ key_in v t
     key-read t there = sym (key_is_read g past valid made v.waits t there (record { bases_are = sems.bases; nexts_are = sems.locks.nexts_are; boosts_are = sems.locks.boosts_are }))

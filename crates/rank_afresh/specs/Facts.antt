@@ -144,9 +144,9 @@ asked_by p (acts.Do op) (Some t) f = sems_by p t op f.kept f.sems
 asked_by p _ o f = f.sems
 
 -- whether the task that runs holds none then
-abbrev pub none_by : Act → Option ℕ → GroupSems → Bool
-none_by (acts.Do op) (Some t) v = holds_none t v
-none_by _ o v = true
+abbrev pub none_by : Option ℕ → GroupSems → Bool
+none_by None v = true
+none_by (Some t) v = holds_none t v
 
 -- whether an operation of the task ends its job, and whether that is late
 abbrev pub ends_in : Parts → Op → ℕ → Kept → Bool → Bool
@@ -205,7 +205,7 @@ abbrev pub asked : Parts → ℕ → Act → Reply → Facts → GroupSems
 asked p q act reply f = if accepted reply then asked_by p act (cpu_of f.kept q).runs f else f.sems
 
 abbrev pub none_after : Parts → ℕ → Act → Reply → Facts → Bool
-none_after p q act reply f = none_by act (cpu_of f.kept q).runs (asked p q act reply f)
+none_after p q act reply f = none_by (cpu_of f.kept q).runs (asked p q act reply f)
 
 abbrev pub kept_after : Parts → ℕ → Act → Reply → Facts → Kept
 kept_after p q act reply f = has_acted p.tasks q act reply (none_after p q act reply f) f.kept
