@@ -14,6 +14,9 @@ ghost use Rattle.group_jobs.specs.GroupJobs.{IsTaskOf, is_op_reply};
 ghost use Rattle.group_jobs.specs.States.{SleepIsShort};
 ghost use Rattle.group_sems.specs.Locking.{CanLock};
 ghost use Rattle.group_sems.specs.Refusing.{unlock_refusal};
+ghost use Rattle.rt_rules.specs.Distinct.{IsDistinct};
+ghost use Rattle.count_laws.specs.Tallies.{waiter_tasks};
+ghost use Rattle.waiting_list.specs.Listing.{AreWaitersAt, CanList, Moment};
 ghost use Rattle.rank_afresh.specs.Clusters.{CanPlace, HasCpu};
 ghost use Rattle.rank_afresh.specs.Ranks.{CanRead, HaveBases, base_in};
 ghost use Rattle.rank_afresh.specs.Facts.{AreOpened, CanAct, CanFollow, IsPlainAct, MayAct, MayDo, MayLock, MayUnlock, acted, all_based, all_followed, all_placed, asked_reply, at_opening, based, clocked, cluster_at, counted, ended_now, ends_in, home_of, late_in, link_in, lock_refused, placed_afresh, placing_after, reply_in, sems_by, task_reply};
@@ -28,6 +31,7 @@ use rt_history::Reply;
 use rt_task::{Act, Op, Parts, Setup};
 use std::alloc::Global;
 use std::marker::Model;
+use waiting_list::WaitingList;
 
 /// What an act is answered, and the task whose job it ended, with whether the clock was past that job's deadline.
 #[derive(Clone, Copy)]
@@ -171,6 +175,19 @@ impl Facts {
     {
         let home = cluster_of(parts.clusters.as_slice(), cpu);
         self.clusters[home].linked(cpu)
+    }
+
+    /// Lists the tasks that wait for the semaphore that the act of the processor frees.
+    pub(crate) fn list_waiting(&self, parts: &Parts, cpu: CpuNo, act: Act, list: &mut WaitingList)
+        requires { (at : Moment)
+            × CanList at parts.now self.now.facts.kept self.now.facts.sems cpu.0 act list.old.room }
+        ensures waiting { (at : Moment)
+            → CanList at parts.now self.now.facts.kept self.now.facts.sems cpu.0 act list.old.room
+            → AreWaitersAt at cpu.0 act list.new.waiting }
+        ensures once { IsDistinct (waiter_tasks list.new.waiting) }
+        ensures room { list.new.room ≡ list.old.room }
+    {
+        list.list(parts, &self.jobs, &self.sems, cpu, act);
     }
 
     /// Places the cluster afresh.
