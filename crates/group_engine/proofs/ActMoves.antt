@@ -1,10 +1,11 @@
 -- The state after an act, before the tasks that it touched are looked at.
-use Rattle.std.proofs.Common.{◌≡◌, ℕ, ◌<◌, Bool, true, false, List, [], refl, sym, ap, ◌∙◌, subst, arith}
+use Rattle.std.proofs.Common.{◌≡◌, ℕ, ◌<◌, ◌≤◌, Bool, true, false, List, [], length, refl, sym, ap, ◌∙◌, subst, arith}
 use Rattle.std.specs.Prelude.{Option, None, Some}
 use Rattle.rt_base.specs.declared.TheConstants.{MOST_STEPS, TICK_END}
 use Rattle.rt_task.specs.declared.Act.{Act}
 use Rattle.rt_task.specs.declared.Act.TheVariants as acts
 use Rattle.rt_task.specs.declared.Op.TheVariants as ops
+use Rattle.rt_task.specs.declared.Parts.{Parts}
 use Rattle.rt_rules.specs.Numbers.{has, is_empty}
 use Rattle.rt_model.specs.Answers.{answer}
 use Rattle.rt_model.specs.Group.{Group, clusters, task, tasks}
@@ -28,7 +29,8 @@ use Rattle.group_facts.specs.Words.{is_ready, key_of}
 use Rattle.group_facts.proofs.KeptMoves.{kept_after_act}
 use Rattle.group_facts.proofs.TimerSets.{timers_are_renewed}
 use Rattle.group_engine.specs.declared.state.GroupState.{GroupState}
-use Rattle.group_engine.specs.Moments.{CanAct, IsPlayed, Moment}
+use Rattle.group_engine.specs.Moments.{CanAct, CanActOn, IsPlayed}
+use Rattle.waiting_list.specs.Listing.{CanList, Moment}
 use Rattle.group_engine.specs.State.{HasClusterAt, IsAt, IsWithin}
 use Rattle.group_facts.proofs.ReadWords.{key-read}
 use Rattle.group_sem_laws.specs.Kept.{KeepsGroupSems}
@@ -172,3 +174,19 @@ module _ (g : Group) (q : ℕ) (act : Act) (past : Past) (s : GroupState) (can :
 -- what an act of a moment rests on
 pub can-be : (at : Moment) (q : ℕ) (act : Act) (s : GroupState) → CanAct at q act s → CanBe at.group q act at.past s
 can-be at q act s can = record { played = can.played; at = can.kept; inside = can.inside; act_is_of = can.act_is_of; few = can.few }
+
+-- the tasks that wait can be listed between the moves of a step
+pub can-list : (at : Moment) (q : ℕ) (act : Act) (p : Parts) (s : GroupState) (room : ℕ) → CanActOn at q act p s → length p.tasks ≤ room → CanList at p s.jobs.kept s.sems q act room
+can-list at q act p s room can roomy = record {
+  valid = can.can.played.valid;
+  unreserved = can.can.played.unreserved;
+  reachable = can.can.kept.reachable;
+  few = can.can.kept.within.few;
+  clock_low = can.can.kept.within.clock_low;
+  parts_are = can.parts_are;
+  jobs_are = can.can.kept.jobs_are;
+  sems_are = can.can.kept.sems_are;
+  inside = can.can.inside;
+  act_is_of = can.can.act_is_of;
+  has_room = omega (arith, roomy, ap (λ (x : Parts). length x.tasks) can.parts_are);
+}

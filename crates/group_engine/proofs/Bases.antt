@@ -14,7 +14,7 @@ use Rattle.group_sems.specs.Telling.{HasBase}
 use Rattle.group_sem_laws.specs.Kept.{KeepsBases}
 use Rattle.group_engine.specs.declared.state.GroupState.{GroupState}
 use Rattle.group_engine.specs.Touching.{base_now}
-use Rattle.group_engine.proofs.Reading.{key_of-any}
+use Rattle.waiting_list.proofs.Reading.{key_of-any}
 
 -- where no base key changes
 pub bases-stay : (g : Group) (past past' : Past) (bases : List (Option Key))

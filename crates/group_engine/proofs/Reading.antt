@@ -9,14 +9,13 @@ use Rattle.rt_model.specs.BaseKeys.{base_key}
 use Rattle.rt_model.specs.Holders.{awaits}
 use Rattle.rt_model.specs.Reachable.{IsReachable}
 use Rattle.rt_model.specs.EffectiveKeys.{effective_key}
-use Rattle.rt_model.specs.Group.{Group, resv, served_by, task}
+use Rattle.rt_model.specs.Group.{Group, task}
 use Rattle.rt_model.specs.Past.{Event, Past, now, sem_act}
 use Rattle.rt_model.specs.Tops.{eligible, is_served}
-use Rattle.rt_plays.specs.Plays.{group_with}
 use Rattle.rank_changes.specs.Clusters.{SameStanding}
 use Rattle.rank_changes.proofs.QuietMoves.{key-quiet}
 use Rattle.rank_changes.proofs.SameEligibility.{awaits-quiet}
-use Rattle.group_facts.specs.Facts.{JobFacts, job_facts}
+use Rattle.group_facts.specs.Facts.{job_facts}
 use Rattle.group_facts.specs.Timers.{timer_at}
 use Rattle.group_facts.specs.Words.{AreRead, is_ready, key_of}
 use Rattle.group_facts.proofs.ReadWords.{key-read, words_are_read}
@@ -36,15 +35,6 @@ served-true g plugins.PRes t past h = cc
 and-true : (b : Bool) → b && true ≡ b
 and-true true = refl
 and-true false = refl
-
--- the key does not depend on the group's number
-pub key_of-any : (g : Group) (plugin : PluginKind) (t : ℕ) (job : JobFacts) → key_of (group_with g.setup 0) plugin t job ≡ key_of g plugin t job
-unfolding task resv served_by
-key_of-any g plugins.GsnEdf t job = refl
-key_of-any g plugins.CEdf t job = refl
-key_of-any g plugins.PsnEdf t job = refl
-key_of-any g plugins.PFp t job = refl
-key_of-any g plugins.PRes t job = refl
 
 module _ (g : Group) (played : IsPlayed g) (past : Past) (t : ℕ) where
   pub eligible-ready : eligible g t past ≡ is_ready (now past) (task g t) (job_facts t past) && is_none (awaits g t past)

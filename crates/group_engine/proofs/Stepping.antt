@@ -16,8 +16,9 @@ use Rattle.rt_model.proofs.Steps.{IsLegal-append, after-acted, past_of-append, r
 use Rattle.rt_plays.specs.Homes.{IsProcessorOf}
 use Rattle.rt_groups.specs.Groups.{GroupHistory, IsGroupOf, group_of}
 use Rattle.group_engine.specs.declared.state.GroupState.{GroupState}
-use Rattle.group_engine.specs.Moments.{CanActOn, CanMove, HasActed, IsPlayed, Moment}
-use Rattle.group_engine.specs.Sound.{IsSound}
+use Rattle.group_engine.specs.Moments.{CanActOn, CanMove, HasActed, IsPlayed}
+use Rattle.waiting_list.specs.Listing.{Moment}
+use Rattle.group_engine.specs.Sound.{Extent, IsMoved, IsSound}
 use Rattle.group_engine.specs.State.{IsAt}
 
 pub entries_in-from : (g : Group) (es : List Entry) (past : Past) → entries_in (past_from g past es) ≡ length es + entries_in past
@@ -61,39 +62,58 @@ module _ (g : Group) (es : List Entry) (room capacity : ℕ) (state : GroupState
   abbrev pub moment : Moment
   moment = record { group = g; past = past_of g es }
 
-  -- the moment after the clock has moved
-  abbrev pub at_tick : ℕ → Moment
-  at_tick tick = record { group = g; past = Clock tick ∷ past_of g es }
-
   pub can_move : (parts : Parts) (step : Step) → parts ≡ g.setup → IsStepOf g step → CanMove moment step.tick.0 parts state
   can_move parts step same of = record { played = sound.played; kept = sound.kept; parts_are = same; tick_low = of.tick }
 
-  pub can_act : (parts : Parts) (step : Step) (moved : GroupState) → parts ≡ g.setup → IsStepOf g step → length es < room
-      → IsAt g (Clock step.tick.0 ∷ past_of g es) moved → CanActOn (at_tick step.tick.0) step.cpu.0 step.act parts moved
-  can_act parts step moved same of spare kept = record {
-    can = record {
-      played = sound.played;
-      kept = kept;
-      inside = of.processor;
-      act_is_of = of.act;
-      few = omega (arith, spare, sound.limit, entries_in-past_of g es);
-    };
+  -- the clock has moved
+  pub has_moved : (step : Step) (parts : Parts) (moved : GroupState) → IsStepOf g step → parts ≡ g.setup → length es < room
+      → IsAt g (Clock step.tick.0 ∷ past_of g es) moved → moved.jobs.room ≡ state.jobs.room
+      → IsMoved (record { group = g; room = room }) step parts es capacity moved
+  has_moved step parts moved of same spare kept arrivals = record {
+    before = state;
+    sound = sound;
     parts_are = same;
+    step_is_of = of;
+    spare = spare;
+    kept = kept;
+    arrivals = arrivals;
   }
 
-  pub reply-is : (step : Step) (reply : Reply) (s : GroupState) → HasActed (at_tick step.tick.0) step.cpu.0 step.act reply s → reply ≡ reply_to g step (past_of g es)
-  reply-is step reply s acted = acted.reply_is ∙ sym (reply_to-lem g step (past_of g es))
+-- the act after that
+module _ (at : Extent) (step : Step) (parts : Parts) (es : List Entry) (capacity : ℕ) (moved : GroupState) (m : IsMoved at step parts es capacity moved) where
+  abbrev pub at_tick : Moment
+  at_tick = record { group = at.group; past = Clock step.tick.0 ∷ past_of at.group es }
 
-  pub sound-step : (step : Step) (reply : Reply) (s : GroupState) (capacity' : ℕ) → IsStepOf g step → length es < room → capacity ≤ capacity'
-      → state.jobs.room ≤ s.jobs.room + 1 → HasActed (at_tick step.tick.0) step.cpu.0 step.act reply s
-      → IsSound g (es ++ record { step = step; reply = reply } ∷ []) room capacity' s
-  sound-step step reply s capacity' of spare grows arrivals acted = record {
-    played = sound.played;
-    limit = sound.limit;
-    within = omega (arith, length-append {A = Entry});
-    reserved = omega (arith, sound.reserved);
-    arrivals = omega (arith, sound.arrivals, arrivals, length-append {A = Entry});
+  pub can_act : CanActOn at_tick step.cpu.0 step.act parts moved
+  can_act = record {
+    can = record {
+      played = m.sound.played;
+      kept = m.kept;
+      inside = m.step_is_of.processor;
+      act_is_of = m.step_is_of.act;
+      few = omega (arith, m.spare, m.sound.limit, entries_in-past_of at.group es);
+    };
+    parts_are = m.parts_are;
+  }
+
+  pub has_room : 0 < moved.jobs.room
+  has_room = omega (arith, m.arrivals, m.sound.arrivals, m.spare)
+
+  pub entry_fits : length es < capacity
+  entry_fits = omega (arith, m.spare, m.sound.reserved)
+
+  pub reply-is : (reply : Reply) (s : GroupState) → HasActed at_tick step.cpu.0 step.act reply s → reply ≡ reply_to at.group step (past_of at.group es)
+  reply-is reply s acted = acted.reply_is ∙ sym (reply_to-lem at.group step (past_of at.group es))
+
+  pub sound-step : (reply : Reply) (s : GroupState) (capacity' : ℕ) → capacity ≤ capacity' → moved.jobs.room ≤ s.jobs.room + 1
+      → HasActed at_tick step.cpu.0 step.act reply s → IsSound at.group (es ++ record { step = step; reply = reply } ∷ []) at.room capacity' s
+  sound-step reply s capacity' grows arrivals acted = record {
+    played = m.sound.played;
+    limit = m.sound.limit;
+    within = omega (arith, m.spare, length-append {A = Entry});
+    reserved = omega (arith, m.sound.reserved);
+    arrivals = omega (arith, m.sound.arrivals, m.arrivals, arrivals, length-append {A = Entry});
     kept = rw (past_of-append, after-acted) acted.kept;
-    legal = IsLegal-append g es _ sound.legal (reply-is step reply s acted);
-    steps = All-push (λ (e : Entry). IsStepOf g e.step) es _ sound.steps of;
+    legal = IsLegal-append at.group es _ m.sound.legal (reply-is reply s acted);
+    steps = All-push (λ (e : Entry). IsStepOf at.group e.step) es _ m.sound.steps m.step_is_of;
   }

@@ -5,6 +5,7 @@ use Rattle.rt_task.specs.declared.Act.{Act}
 use Rattle.rt_task.specs.declared.Act.TheVariants as acts
 use Rattle.rt_task.specs.declared.Op.{Op}
 use Rattle.rt_task.specs.declared.Parts.{Parts}
+use Rattle.rt_task.specs.declared.Step.{Step}
 use Rattle.rt_task.specs.RuleWords.{is_p_res}
 use Rattle.rt_task.specs.Validity.{IsValid}
 use Rattle.rt_history.specs.declared.Reply.{Reply}
@@ -12,11 +13,13 @@ use Rattle.rt_model.specs.Answers.{answer}
 use Rattle.rt_rules.specs.Numbers.{has}
 use Rattle.rt_model.specs.Group.{Group, clusters, sems, users}
 use Rattle.rt_model.specs.Outcomes.{past_act}
-use Rattle.rt_model.specs.Past.{Acted, Past, entries_in}
+use Rattle.rt_model.specs.Histories.{clock_moved}
+use Rattle.rt_model.specs.Past.{Acted, entries_in}
 use Rattle.rt_model.specs.Runs.{runs}
 use Rattle.rt_model.specs.Steps.{IsActOf}
 use Rattle.rt_plays.specs.Homes.{IsProcessorOf}
-use Rattle.rt_groups.specs.Groups.{IsGroupOf}
+use Rattle.rt_groups.specs.Groups.{GroupHistory, IsGroupOf, group_of, past}
+use Rattle.waiting_list.specs.Listing.{Moment}
 use Rattle.group_engine.specs.declared.state.GroupState.{GroupState}
 use Rattle.group_engine.specs.State.{IsAt}
 
@@ -26,9 +29,9 @@ pub record IsPlayed (g : Group) : Type 0 where
   pub unreserved : is_p_res g.setup.plugin ≡ false
   pub is_there : IsGroupOf g.setup g.number
 
-pub record Moment : Type 0 where
-  pub group : Group
-  pub past : Past
+-- the moment between the two moves of a step that follows a history
+abbrev pub between : GroupHistory → Step → Moment
+between h step = record { group = group_of h; past = clock_moved step (past h) }
 
 -- the state is of this moment of a group with these parts, and the tick is within the limit
 pub record CanMove (at : Moment) (tick : ℕ) (parts : Parts) (s : GroupState) : Type 0 where

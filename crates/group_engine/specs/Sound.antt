@@ -1,9 +1,13 @@
 -- What holds of an engine at all times.
-use Rattle.std.specs.Prelude.{ℕ, ◌+◌, ◌≤◌, List, length}
+use Rattle.std.specs.Prelude.{◌≡◌, ℕ, ◌+◌, ◌<◌, ◌≤◌, List, ◌∷◌, length}
 use Rattle.rt_base.specs.declared.TheConstants.{MOST_STEPS}
+use Rattle.rt_task.specs.declared.Parts.{Parts}
+use Rattle.rt_task.specs.declared.Step.{Step}
 use Rattle.rt_history.specs.declared.Entry.{Entry}
 use Rattle.rt_model.specs.Group.{Group}
 use Rattle.rt_model.specs.Histories.{IsLegal, past_of}
+use Rattle.rt_model.specs.Past.{Clock}
+use Rattle.rt_model.specs.Steps.{IsStepOf}
 use Rattle.rt_groups.specs.Groups.{AreStepsOf}
 use Rattle.group_engine.specs.declared.state.GroupState.{GroupState}
 use Rattle.group_engine.specs.Moments.{IsPlayed}
@@ -19,3 +23,18 @@ pub record IsSound (g : Group) (entries : List Entry) (room capacity : ℕ) (s :
   pub kept : IsAt g (past_of g entries) s
   pub legal : IsLegal g entries
   pub steps : AreStepsOf g entries
+
+-- a group, and the room for its entries
+pub record Extent : Type 0 where
+  pub group : Group
+  pub room : ℕ
+
+-- the state was sound, and then the clock moved to the tick of a step of the group, for which there is room
+pub record IsMoved (at : Extent) (step : Step) (parts : Parts) (entries : List Entry) (capacity : ℕ) (s : GroupState) : Type 0 where
+  pub before : GroupState
+  pub sound : IsSound at.group entries at.room capacity before
+  pub parts_are : parts ≡ at.group.setup
+  pub step_is_of : IsStepOf at.group step
+  pub spare : length entries < at.room
+  pub kept : IsAt at.group (Clock step.tick.0 ∷ past_of at.group entries) s
+  pub arrivals : s.jobs.room ≡ before.jobs.room

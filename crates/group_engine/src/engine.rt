@@ -1,16 +1,20 @@
 //! The engine of one group: its history, kept step by step.
-ghost use Rattle.std.specs.Prelude.{◌≡◌, ◌<◌, ◌≤◌, ◌+◌, [], IfOk, true, false, length};
+ghost use Rattle.std.specs.Prelude.{◌≡◌, ◌<◌, ◌≤◌, ◌+◌, ◌∷◌, ◌++◌, [], IfOk, true, false, length, vec_capacity};
 ghost use Rattle.rt_base.specs.TaskNos.{number_of_task};
 ghost use Rattle.rt_base.specs.declared.TheConstants.{MOST_STEPS};
+ghost use Rattle.rt_rules.specs.Distinct.{IsDistinct};
 ghost use Rattle.rt_rules.specs.Numbers.{has};
 ghost use Rattle.rt_model.specs.Group.{clusters};
 ghost use Rattle.rt_model.specs.Runs.{runs};
 ghost use Rattle.rt_model.specs.Links.{linked};
-ghost use Rattle.rt_model.specs.Histories.{reply_to};
+ghost use Rattle.rt_model.specs.Histories.{past_of, reply_to};
 ghost use Rattle.rt_model.specs.Holders.{holder};
 ghost use Rattle.rt_task.specs.RuleWords.{is_p_res};
+ghost use Rattle.count_laws.specs.Tallies.{waiter_tasks};
+ghost use Rattle.waiting_list.specs.Listing.{AreWaitersAt};
 ghost use Rattle.group_engine.specs.Keys.{HoldsKeys};
-ghost use Rattle.group_engine.specs.Moments.{IsDeclared};
+ghost use Rattle.group_engine.specs.Moments.{IsDeclared, between};
+ghost use Rattle.group_engine.specs.Sound.{Extent, IsMoved, IsSound};
 ghost use Rattle.rt_model.specs.Steps.{IsStepOf};
 ghost use Rattle.rt_plays.specs.Homes.{IsProcessorOf};
 ghost use Rattle.rank_changes.specs.Clusters.{HoldsEligible};
@@ -23,9 +27,10 @@ use ready_heap::ReadyHeap;
 use rt_base::{ClusterNo, CpuNo, GroupNo, NoMemory, SemNo, TaskNo};
 use rt_history::{Entry, Reply};
 use rt_order::ByKey;
-use rt_task::{Setup, Step};
+use rt_task::{Parts, Setup, Step};
 use std::alloc::Global;
 use std::marker::Model;
+use waiting_list::WaitingList;
 
 /// One group of a setup and its history. Contracts see the setup, the group's number, the entries, and room for how many more.
 ///
@@ -146,9 +151,45 @@ impl Engine {
         ensures entry { self.new ≡ with_entry (record { step = step; reply = result }) self.old }
         ensures legal { IsLegalNow self.new }
     {
-        self.state.move_clock(self.setup.parts(), step.tick);
-        let reply = self.state.act(self.setup.parts(), step.cpu, step.act);
-        put(&mut self.entries, Entry { step, reply });
-        reply
+        let parts = self.setup.parts();
+        self.state.move_clock(parts, step.tick);
+        settle(parts, &mut self.state, &mut self.entries, step)
     }
+
+    /// Takes a step, as `step` does, and lists the tasks that wait for the semaphore that it frees, each with whether it is
+    /// priority-blocked, as they wait between its two moves; none where it frees none. Each task stands once.
+    pub fn step_listing(&mut self, step: Step, list: &mut WaitingList) -> Reply
+        requires room { 0 < self.old.spare }
+        requires step { IsStepOf (group_of self.old) step }
+        requires list { length self.old.setup.tasks ≤ list.old.room }
+        ensures reply { result ≡ reply_to (group_of self.old) step (past self.old) }
+        ensures entry { self.new ≡ with_entry (record { step = step; reply = result }) self.old }
+        ensures legal { IsLegalNow self.new }
+        ensures waiting { AreWaitersAt (between self.old step) step.cpu.0 step.act list.new.waiting }
+        ensures once { IsDistinct (waiter_tasks list.new.waiting) }
+        ensures same_room { list.new.room ≡ list.old.room }
+    {
+        let parts = self.setup.parts();
+        self.state.move_clock(parts, step.tick);
+        self.state.list_waiting(parts, step.cpu, step.act, list);
+        settle(parts, &mut self.state, &mut self.entries, step)
+    }
+}
+
+/// Answers the act of a step, to whose tick the clock has moved, and adds the entry.
+fn settle(parts: &Parts, state: &mut GroupState, entries: &mut Vec<Entry>, step: Step) -> Reply
+    requires { (at : Extent)
+        × IsMoved at step parts.now entries.old.items (vec_capacity entries.old) state.old }
+    ensures reply { (at : Extent)
+        → IsMoved at step parts.now entries.old.items (vec_capacity entries.old) state.old
+        → result ≡ reply_to at.group step (past_of at.group entries.old.items) }
+    ensures entry { entries.new.items
+        ≡ entries.old.items ++ record { step = step; reply = result } ∷ [] }
+    ensures sound { (at : Extent)
+        → IsMoved at step parts.now entries.old.items (vec_capacity entries.old) state.old
+        → IsSound at.group entries.new.items at.room (vec_capacity entries.new) state.new }
+{
+    let reply = state.act(parts, step.cpu, step.act);
+    put(entries, Entry { step, reply });
+    reply
 }

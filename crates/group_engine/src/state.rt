@@ -18,7 +18,10 @@ ghost use Rattle.rt_rules.specs.Placing.{tasks_in};
 ghost use Rattle.rt_changes.specs.SemActs.{is_at_sem};
 ghost use Rattle.group_facts.specs.Timers.{AreDue};
 ghost use Rattle.group_sems.specs.Locking.{CanLock};
-ghost use Rattle.group_engine.specs.Moments.{CanAct, CanActOn, CanLend, CanLook, CanMove, CanOperate, HasActed, IsDeclared, IsPlayed, Moment};
+ghost use Rattle.group_engine.specs.Moments.{CanAct, CanActOn, CanLend, CanLook, CanMove, CanOperate, HasActed, IsDeclared, IsPlayed};
+ghost use Rattle.count_laws.specs.Tallies.{waiter_tasks};
+ghost use Rattle.rt_rules.specs.Distinct.{IsDistinct};
+ghost use Rattle.waiting_list.specs.Listing.{AreWaitersAt, Moment};
 ghost use Rattle.group_engine.specs.Asking.{asked_for, asked_reply, lock_refused, CanAskFor, IsUntold};
 ghost use Rattle.group_engine.specs.State.{IsAt};
 ghost use Rattle.group_engine.specs.Touching.{AreArmedOnly, AreNumbered, CanBase, CanBaseAll, CanBringUp, CanBringUpAll, CanCount, CanQuit, after_sem, all_based, all_brought_up, base_now, based, brought_up, counted, holds_none, key_now, left_if, operated, quitted, quitted_if, timer_now, touched_at};
@@ -34,6 +37,7 @@ use rt_history::Reply;
 use rt_order::{ByKey, Key};
 use rt_task::{Act, Op, Parts, Setup};
 use std::alloc::Global;
+use waiting_list::WaitingList;
 
 /// The jobs of a group's tasks and what its processors run; the semaphores, and the keys of the tasks; the moments that
 /// tasks wait for; and of each cluster the eligible tasks by key, and the links.
@@ -221,6 +225,18 @@ impl GroupState {
         while let Some(task) = self.timers.next_due(clock) {
             self.bring_up(parts, task);
         }
+    }
+
+    /// Lists the tasks that wait for the semaphore that the act of the processor frees, once the clock has moved.
+    pub(crate) fn list_waiting(&self, parts: &Parts, cpu: CpuNo, act: Act, list: &mut WaitingList)
+        requires at { (at : Moment) × CanActOn at cpu.0 act parts.now self.now }
+        requires room { length parts.now.tasks ≤ list.old.room }
+        ensures waiting { (at : Moment) → CanActOn at cpu.0 act parts.now self.now
+            → AreWaitersAt at cpu.0 act list.new.waiting }
+        ensures once { IsDistinct (waiter_tasks list.new.waiting) }
+        ensures room_is { list.new.room ≡ list.old.room }
+    {
+        list.list(parts, &self.jobs, &self.sems, cpu, act);
     }
 
     /// Moves the clock to the tick, if that is later: the tasks whose moment has come are looked at, and the links

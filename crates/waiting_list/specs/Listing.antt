@@ -1,10 +1,14 @@
 -- Listing the tasks that wait for the semaphore that an act frees.
-use Rattle.std.specs.Prelude.{◌≡◌, ℕ, ◌≤◌, ◌<◌, false, length}
+use Rattle.std.specs.Prelude.{◌≡◌, ℕ, ◌≤◌, ◌<◌, Bool, false, List, length, Option, None, Some, if◌then◌else◌}
 use Rattle.rt_base.specs.declared.TheConstants.{MOST_STEPS, TICK_END}
+use Rattle.rt_base.specs.declared.SemNo.{SemNo}
 use Rattle.rt_task.specs.declared.Act.{Act}
+use Rattle.rt_task.specs.declared.Act.TheVariants as acts
+use Rattle.rt_task.specs.declared.Op.TheVariants as ops
 use Rattle.rt_task.specs.declared.Parts.{Parts}
 use Rattle.rt_task.specs.RuleWords.{is_p_res}
 use Rattle.rt_task.specs.Validity.{IsValid}
+use Rattle.rt_rules.specs.Numbers.{is}
 use Rattle.rt_rules.specs.SemState.{Frees}
 use Rattle.rt_model.specs.Answers.{answer}
 use Rattle.rt_model.specs.Group.{Group}
@@ -14,10 +18,20 @@ use Rattle.rt_model.specs.Runs.{runs}
 use Rattle.rt_model.specs.Steps.{IsActOf}
 use Rattle.rt_plays.specs.Homes.{IsProcessorOf}
 use Rattle.count_laws.specs.Tallies.{AreWaiters, Waiter, act_by}
-use Rattle.std.specs.Prelude.{List}
+use Rattle.sem_table.specs.SemTable.{SemTable}
+use Rattle.sem_table.specs.Told.{state_of}
 use Rattle.group_facts.specs.Kept.{IsKept, Kept}
 use Rattle.group_sems.specs.GroupSems.{GroupSems}
 use Rattle.group_sem_laws.specs.Kept.{KeepsGroupSems}
+
+-- the semaphore that an act frees where this task runs, which must hold it
+abbrev pub held_by : SemTable → Option ℕ → SemNo → Bool
+held_by w None s = false
+held_by w (Some t) s = is t (state_of w s.0).holder
+
+abbrev pub freed_at : SemTable → Option ℕ → Act → Option SemNo
+freed_at w runs (acts.Do (ops.Unlock s)) = if held_by w runs s then Some s else None
+freed_at w runs _ = None
 
 -- a group after a past
 pub record Moment : Type 0 where

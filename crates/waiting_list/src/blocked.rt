@@ -1,7 +1,8 @@
 //! Whether a task that waits is priority-blocked.
-ghost use Rattle.std.specs.Prelude.{◌≡◌, ◌&&◌, ◌==◌};
+ghost use Rattle.std.specs.Prelude.{◌≡◌, ◌<◌, ℕ, length, slice_index_or};
+ghost use Rattle.rt_model.specs.Group.{no_task};
 ghost use Rattle.waiting_list.specs.Blocked as words;
-ghost use Rattle.waiting_list.specs.Blocked.{CanRank};
+ghost use Rattle.waiting_list.specs.Blocked.{CanRank, CanRankTask};
 
 use group_jobs::GroupJobs;
 use rt_base::{ClusterNo, TaskNo};
@@ -10,18 +11,23 @@ use rt_task::{Parts, Task};
 
 /// Whether the task is of the cluster, and has a current job with a higher base key.
 fn is_above(parts: &Parts, jobs: &GroupJobs, cluster: ClusterNo, key: Key, task: &Task) -> bool
-    requires { CanRank parts.now jobs.now.kept cluster.0 }
-    ensures { result ≡ words.is_above parts.now jobs.now.kept cluster.0 key task.now.number.0 }
+    requires can { CanRank parts.now jobs.now.kept cluster.0 }
+    requires task { (i : ℕ) × (i < length parts.now.tasks)
+        × (task.now ≡ slice_index_or parts.now.tasks i no_task) }
+    ensures { result ≡ words.is_above parts.now jobs.now.kept cluster.0 key task.now }
 {
-    let tasks = parts.tasks.as_slice();
-    task.cluster.0 == cluster.0
-        && jobs.is_there(tasks, task.number)
-        && jobs.base_key(parts, task.number).is_higher(key)
+    if task.cluster.0 != cluster.0 {
+        return false;
+    }
+    if !jobs.is_there(parts.tasks.as_slice(), task.number) {
+        return false;
+    }
+    jobs.base_key(parts, task.number).is_higher(key)
 }
 
 /// Whether fewer tasks of the task's cluster than this has processors have a current job with a higher base key.
 pub(crate) fn is_among_first(parts: &Parts, jobs: &GroupJobs, task: TaskNo) -> bool
-    requires { CanRank parts.now jobs.now.kept (words.home_in parts.now task.0) }
+    requires { CanRankTask parts.now jobs.now.kept task.0 }
     ensures { result ≡ words.is_among_first parts.now jobs.now.kept task.0 }
 {
     let cluster = parts.tasks.as_slice()[task.0 as usize - 1].cluster;

@@ -2,16 +2,20 @@
 //! critical sections are made of.
 #![tactic(auto)]
 
-ghost use Rattle.std.specs.Prelude.{◌≡◌, ◌≤◌, [], IfOk, length};
+ghost use Rattle.std.specs.Prelude.{◌≡◌, ◌+◌, ◌≤◌, ◌<◌, ◌++◌, ◌∷◌, [], IfOk, length, vec_len, vec_capacity};
 ghost use Rattle.rt_base.specs.TaskNos.{numbers};
 ghost use Rattle.rt_rules.specs.Distinct.{IsDistinct};
 ghost use Rattle.count_laws.specs.Tallies.{waiter_tasks};
-ghost use Rattle.waiting_list.specs.Listing.{AreWaitersAt, CanList, Moment};
+ghost use Rattle.block_counts.specs.SeenWords.{waiters_of};
+ghost use Rattle.group_facts.specs.Kept.{cpu_of};
+ghost use Rattle.sem_table.specs.Told.{state_of};
+ghost use Rattle.waiting_list.specs.Blocked.{CanRankAll, waiters_now};
+ghost use Rattle.waiting_list.specs.Listing.{AreWaitersAt, CanList, Moment, freed_at};
 
 mod blocked;
 
-use blocked::is_among_first;
 use block_counts::Waiting;
+use blocked::is_among_first;
 use group_jobs::GroupJobs;
 use group_sems::GroupSems;
 use rt_base::{CpuNo, NoMemory, SemNo, TaskNo};
@@ -97,14 +101,37 @@ impl WaitingList {
         } }
     {
         sems.table().list_waiting(sem, &mut self.tasks);
-        for task in self.tasks.as_slice() {
-            let blocked = is_among_first(parts, jobs, *task);
-            let _ = self.waiting.push(Waiting {
+        tell(parts, jobs, self.tasks.as_slice(), &mut self.waiting);
+        self.tasks.clear();
+    }
+}
+
+/// Adds a task, for which there is room.
+fn put(into: &mut Vec<Waiting>, one: Waiting)
+    requires { vec_len into.old < vec_capacity into.old }
+    ensures items { into.new.items ≡ into.old.items ++ one ∷ [] }
+    ensures capacity { vec_capacity into.old ≤ vec_capacity into.new }
+{
+    let _ = into.push(one);
+}
+
+/// Adds these tasks, each with whether it is priority-blocked, for which there is room.
+fn tell(parts: &Parts, jobs: &GroupJobs, tasks: &[TaskNo], into: &mut Vec<Waiting>)
+    requires can { CanRankAll parts.now jobs.now.kept (numbers tasks.now) }
+    requires room { vec_len into.old + length tasks.now ≤ vec_capacity into.old }
+    ensures waiting { waiters_of into.new.items
+        ≡ waiters_of into.old.items ++ waiters_now parts.now jobs.now.kept (numbers tasks.now) }
+    ensures capacity { vec_capacity into.old ≤ vec_capacity into.new }
+{
+    for task in tasks {
+        let blocked = is_among_first(parts, jobs, *task);
+        put(
+            into,
+            Waiting {
                 task: *task,
                 blocked,
-            });
-        }
-        self.tasks.clear();
+            },
+        );
     }
 }
 

@@ -7,7 +7,7 @@ use Rattle.rt_model.specs.Past.{accepted}
 use Rattle.group_facts.specs.Kept.{job_of}
 use Rattle.group_facts.specs.Replies.{arrival_reply}
 use Rattle.group_jobs.specs.GroupJobs.{task_in}
-use Rattle.group_engine.specs.Moments.{Moment}
+use Rattle.waiting_list.specs.Listing.{Moment}
 use Rattle.group_engine.proofs.ActMoves.{CanBe, can-be}
 use Rattle.group_engine.proofs.Answering.{arrival-done}
 use Rattle.group_engine.proofs.Arriving.{arrival-answer, can-arrive, has_arrived-at}

@@ -6,7 +6,7 @@ use Rattle.group_facts.specs.Timers.{AreDue}
 use Rattle.group_facts.proofs.KeptMoves.{kept_after_clock}
 use Rattle.group_jobs.specs.GroupJobs.{GroupJobs}
 use Rattle.group_engine.specs.declared.state.GroupState.{GroupState}
-use Rattle.group_engine.specs.Moments.{Moment}
+use Rattle.waiting_list.specs.Listing.{Moment}
 use Rattle.group_engine.proofs.Bases.{has-base}
 use Rattle.group_engine.proofs.Bounding.{can-look}
 use Rattle.group_engine.proofs.Bringing.{jobs-brought}

@@ -6,7 +6,7 @@ use Rattle.rt_model.specs.Past.{accepted}
 use Rattle.group_facts.specs.Kept.{cpu_of, job_of}
 use Rattle.group_jobs.specs.GroupJobs.{GroupJobs, IsTaskOf, plain_reply}
 use Rattle.group_engine.specs.declared.state.GroupState.{GroupState}
-use Rattle.group_engine.specs.Moments.{Moment}
+use Rattle.waiting_list.specs.Listing.{Moment}
 use Rattle.group_engine.proofs.ActMoves.{CanBe, can-be}
 use Rattle.group_engine.proofs.Answering.{op-done}
 use Rattle.group_engine.proofs.Bounding.{task-of}

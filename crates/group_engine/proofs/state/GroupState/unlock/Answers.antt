@@ -6,7 +6,7 @@ use Rattle.group_sems.specs.Locking.{after_unlock}
 use Rattle.rt_task.specs.declared.Act.TheVariants as acts
 use Rattle.rt_task.specs.declared.Op.TheVariants as ops
 use Rattle.group_engine.specs.declared.state.GroupState.{GroupState}
-use Rattle.group_engine.specs.Moments.{Moment}
+use Rattle.waiting_list.specs.Listing.{Moment}
 use Rattle.group_engine.proofs.ActMoves.{CanBe, can-be}
 use Rattle.group_engine.proofs.Quitting.{jobs-after-sem}
 use Rattle.group_engine.proofs.Refusing.{refused}

@@ -1,0 +1,20 @@
+use Rattle.std.proofs.Common.{arith}
+use Rattle.group_engine.proofs.Stepping.{at_tick, can_act, entry_fits, has_room, reply-is, sound-step}
+use Rattle.group_engine.proofs.engine.settle.Goals as goal
+
+pub act-reply-requires-clause-at : goal.act-reply-requires-clause-at
+act-reply-requires-clause-at c = (at_tick _ _ _ _ _ _ c.requires.1, can_act _ _ _ _ _ _ c.requires.1)
+
+pub act-reply-requires-clause-room : goal.act-reply-requires-clause-room
+act-reply-requires-clause-room c = has_room _ _ _ _ _ _ c.requires.1
+
+pub put-requires : goal.put-requires
+put-requires c = let fits = entry_fits _ _ _ _ _ _ c.requires.1 in omega (arith, fits, c.args.entries.now.ok.0)
+
+pub returns-clause-reply : goal.returns-clause-reply
+returns-clause-reply c = λ at m. reply-is _ _ _ _ _ _ m c.act-reply.result c.act-reply.new.self (c.act-reply.ensures.acted (at_tick _ _ _ _ _ _ m) (can_act _ _ _ _ _ _ m))
+
+pub returns-clause-sound : goal.returns-clause-sound
+returns-clause-sound c = λ at m.
+    rw c.put.ensures.items
+    (sound-step _ _ _ _ _ _ m c.act-reply.result c.act-reply.new.self _ c.put.ensures.capacity c.act-reply.ensures.room (c.act-reply.ensures.acted (at_tick _ _ _ _ _ _ m) (can_act _ _ _ _ _ _ m)))

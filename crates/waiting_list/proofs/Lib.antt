@@ -1,0 +1,5 @@
+pub mod Counting
+pub mod Reading
+pub mod Rows
+pub mod Kept
+pub mod Freeing
