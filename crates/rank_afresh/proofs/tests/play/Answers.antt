@@ -7,7 +7,7 @@ use Rattle.rt_model.specs.Group.{Group}
 use Rattle.rt_model.specs.Steps.{IsStepOf}
 use Rattle.rt_plays.specs.Homes.{IsProcessorOf}
 use Rattle.rt_laws.proofs.ValidSteps.{steps_are_of_groups}
-use Rattle.rank_afresh.proofs.tests.plays_two_clusters.Goals as goal
+use Rattle.rank_afresh.proofs.tests.play.Goals as goal
 
 -- a step of the set, whose processor is of the group
 step-of : (p s : Parts) (v : Group) (steps all : List Step) (i : ℕ) (d : Step) → p ≡ s → IsValid s → p.drive ≡ Steps steps → all ≡ steps → i < length all
