@@ -1,5 +1,5 @@
 -- A Lock and an Unlock of the task that runs: what they are answered, what they rest on, and what they make of the semaphores.
-use Rattle.std.proofs.Common.{◌≡◌, ℕ, ◌+◌, ◌<◌, ◌≤◌, length, Bool, true, false, not, ◌&&◌, refl, sym, ap, ◌∙◌, subst, arith}
+use Rattle.std.proofs.Common.{◌≡◌, ℕ, ◌+◌, ◌<◌, ◌≤◌, length, Bool, true, false, not, ◌&&◌, refl, sym, ap, ◌∙◌, arith}
 use Rattle.std.specs.Prelude.{Option, None, Some, if◌then◌else◌, unwrap_or}
 use Rattle.rt_base.specs.declared.SemNo.{SemNo}
 use Rattle.rt_task.specs.RuleWords.{is_p_res}
@@ -9,7 +9,7 @@ use Rattle.rt_task.specs.declared.Op.TheVariants as ops
 use Rattle.rt_history.specs.declared.Reply.{Reply}
 use Rattle.rt_history.specs.declared.Reply.TheVariants as replies
 use Rattle.rt_rules.specs.Numbers.{has, is}
-use Rattle.rt_rules.specs.SemState.{Asks, Frees}
+use Rattle.rt_rules.specs.SemState.{Asks}
 use Rattle.rt_rules.proofs.NumberLaws.{has-numbers_from, numbers_from-below}
 use Rattle.rt_model.specs.Answers.{answer, do_answer, is_granted as granted_by_rules, lock_answer, nests, op_answer, unlock_answer}
 use Rattle.rt_model.specs.BaseKeys.{base_key}
@@ -17,7 +17,7 @@ use Rattle.rt_model.specs.Ceilings.{is_pcp}
 use Rattle.rt_model.specs.Group.{Group, declares, protocol, sems, task, tasks}
 use Rattle.rt_model.specs.Holders.{holder, last_granted}
 use Rattle.rt_model.specs.NonPreemptive.{non_preemptive}
-use Rattle.rt_model.specs.Past.{Acted, Event, Past, accepted, now, sem_act}
+use Rattle.rt_model.specs.Past.{Acted, Event, Past, accepted, sem_act}
 use Rattle.rt_model.specs.Outcomes.{past_act}
 use Rattle.rt_model.specs.Reachable.{IsReachable, acted}
 use Rattle.rt_model.specs.Runs.{runs}
@@ -26,12 +26,9 @@ use Rattle.rt_laws.proofs.ValidSets.{rules_of}
 use Rattle.rt_changes.proofs.SemActs.{lock_asks, unlock_frees}
 use Rattle.group_facts.specs.Facts.{JobFacts}
 use Rattle.group_facts.specs.FactMoves.{with_act}
-use Rattle.group_facts.specs.Kept.{IsKept, job_of}
-use Rattle.sem_table.specs.Asked.{is_granted}
-use Rattle.group_sems.specs.Locking.{after_lock, after_unlock}
+use Rattle.group_facts.specs.Kept.{IsKept}
 use Rattle.group_sems.specs.Refusing.{AreSemsOf, lock_refusal, unlock_refusal}
 use Rattle.group_sem_laws.specs.Kept.{KeepsGroupSems, KeepsLocks}
-use Rattle.group_sem_laws.specs.Reading.{lock_refused as refused_by_rules, unlock_refused}
 use Rattle.group_sem_laws.proofs.Fitting.{lock_fits, unlock_fits}
 use Rattle.group_sem_laws.proofs.Locks.{lock_is_kept}
 use Rattle.group_sem_laws.proofs.Reading.{grant_is_read}

@@ -1,5 +1,5 @@
 -- Base keys that are told: of one task after the other, and anew.
-use Rattle.std.proofs.Common.{◌≡◌, ℕ, zero, suc, ◌+◌, ◌-◌, ◌<◌, ◌≤◌, Bool, true, false, List, [], ◌∷◌, ◌++◌, length, length-set, set, eqb-true, refl, sym, ap, ◌∙◌, subst, get_or-set_same, get_or-set_other, arith}
+use Rattle.std.proofs.Common.{◌≡◌, ℕ, zero, suc, ◌+◌, ◌<◌, ◌≤◌, Bool, true, false, List, [], ◌∷◌, ◌++◌, length, length-set, set, eqb-true, refl, sym, ap, ◌∙◌, subst, get_or-set_same, get_or-set_other, arith}
 use Rattle.std.specs.Prelude.{◌==◌, Option, None, Some, IsSome, if◌then◌else◌, slice_index_or}
 use Rattle.std.proofs.lemmas.Bool.{eqb-false}
 use Rattle.rt_order.specs.declared.Key.{Key}
@@ -8,7 +8,7 @@ use Rattle.rt_task.specs.declared.Act.TheVariants as acts
 use Rattle.rt_task.specs.declared.Op.{Op}
 use Rattle.rt_task.specs.declared.Op.TheVariants as ops
 use Rattle.rt_task.specs.declared.Parts.{Parts}
-use Rattle.rt_rules.specs.Numbers.{has, numbers_from, same}
+use Rattle.rt_rules.specs.Numbers.{numbers_from, same}
 use Rattle.rt_rules.proofs.NumberLaws.{numbers_from-has}
 use Rattle.group_facts.specs.Kept.{Kept}
 use Rattle.prio_inherit.specs.Waits.{Waits}

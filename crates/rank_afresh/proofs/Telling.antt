@@ -1,5 +1,5 @@
 -- After an act the base key of each task's current job is told.
-use Rattle.std.proofs.Common.{◌≡◌, ◌≢◌, ℕ, ◌+◌, ◌≤◌, Bool, true, false, length, refl, ap}
+use Rattle.std.proofs.Common.{◌≡◌, ℕ, ◌≤◌, Bool, true, false, refl, ap}
 use Rattle.std.specs.Prelude.{◌==◌, Option, None, Some, if◌then◌else◌}
 use Rattle.std.proofs.lemmas.Bool.{eqb-false}
 use Rattle.rt_task.specs.declared.Act.{Act}
@@ -10,11 +10,11 @@ use Rattle.rt_model.specs.Group.{Group}
 use Rattle.rt_model.specs.Past.{Past, accepted}
 use Rattle.rt_task.specs.RuleWords.{is_p_res}
 use Rattle.group_facts.specs.Facts.{JobFacts}
-use Rattle.group_facts.specs.Kept.{IsKept, Kept, after_act, cpu_of, job_of, with_job}
+use Rattle.group_facts.specs.Kept.{IsKept, Kept, after_act, cpu_of, with_job}
 use Rattle.group_facts.specs.Words.{key_of}
 use Rattle.group_sems.specs.GroupSems.{GroupSems}
 use Rattle.group_sem_laws.specs.Kept.{KeepsGroupSems, KeepsLocks}
-use Rattle.rank_afresh.specs.Facts.{Facts, IsPlainAct, asked, asked_by, kept_after, none_after, retold, sems_after, told_by}
+use Rattle.rank_afresh.specs.Facts.{Facts, IsPlainAct, asked_by, kept_after, none_after, retold, sems_after, told_by}
 use Rattle.rank_afresh.specs.Ranks.{AreBased, base_in}
 use Rattle.rank_afresh.proofs.Bases.{based-anew, bases-asked-by}
 use Rattle.rank_afresh.proofs.ModelWords.{keeps-sems}

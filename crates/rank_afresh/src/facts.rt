@@ -147,11 +147,10 @@ impl Facts {
     fn tell_bases(&mut self, parts: &Parts)
         requires read { CanRead MOST_STEPS parts.now self.old.facts.kept }
         requires room { length self.old.facts.sems.waits.bases ≡ length parts.now.tasks + 1 }
-        ensures { self.new ≡ record self.old {
-          facts = record self.old.facts {
-            sems = all_based parts.now self.old.facts.kept (length parts.now.tasks) self.old.facts.sems;
-          };
-        } }
+        ensures { let f = self.old.facts in
+            self.new ≡ record self.old {
+              facts = record f { sems = all_based parts.now f.kept (length parts.now.tasks) f.sems };
+            } }
     {
         for i in 0..parts.tasks.as_slice().len() {
             self.tell_base(parts, TaskNo(i as u32 + 1));
@@ -219,12 +218,11 @@ impl Facts {
     fn place_touched(&mut self, parts: &Parts, cpu: CpuNo, is_touched: bool)
         requires follow { CanFollow parts.now self.old.facts }
         requires cluster { home_of parts.now cpu.0 < length self.old.facts.clusters }
-        ensures { let kept = self.old.facts.kept in
-            let c = if is_touched then seen.OneCluster (home_of parts.now cpu.0) else seen.NoCluster in
+        ensures { let f = self.old.facts in
+            let one = seen.OneCluster (home_of parts.now cpu.0) in
+            let which = if is_touched then one else seen.NoCluster in
             self.new ≡ record self.old {
-              facts = record self.old.facts {
-                clusters = placed_afresh parts.now kept self.old.facts.sems c self.old.facts.clusters;
-              };
+              facts = record f { clusters = placed_afresh parts.now f.kept f.sems which f.clusters };
             } }
     {
         if is_touched {
@@ -237,12 +235,10 @@ impl Facts {
     fn place_after(&mut self, parts: &Parts, cpu: CpuNo, op: Op, ends: bool)
         requires follow { CanFollow parts.now self.old.facts }
         requires cluster { home_of parts.now cpu.0 < length self.old.facts.clusters }
-        ensures { let kept = self.old.facts.kept in
+        ensures { let f = self.old.facts in
             let which = placing_after parts.now cpu.0 op ends in
             self.new ≡ record self.old {
-              facts = record self.old.facts {
-                clusters = placed_afresh parts.now kept self.old.facts.sems which self.old.facts.clusters;
-              };
+              facts = record f { clusters = placed_afresh parts.now f.kept f.sems which f.clusters };
             } }
     {
         if is_of_sem(op) {
@@ -358,12 +354,10 @@ impl Facts {
         requires lock { MayLock parts.now task.0 sem.0 self.old.facts }
         ensures reply { result ≡ unwrap_or (lock_refused parts.now task.0 sem.0 self.old.facts)
             (asked_reply parts.now task.0 sem.0 self.old.facts) }
-        ensures asked { let kept = self.old.facts.kept in
-            let sems = self.old.facts.sems in
+        ensures asked { let f = self.old.facts in
+            let sems = sems_by parts.now task.0 (ops.Lock sem) f.kept f.sems in
             self.new ≡ record self.old {
-              facts = record self.old.facts {
-                sems = if accepted result then sems_by parts.now task.0 (ops.Lock sem) kept sems else sems;
-              };
+              facts = record f { sems = if accepted result then sems else f.sems };
             } }
     {
         match self.lock_refusal(parts, task, sem) {
@@ -377,12 +371,10 @@ impl Facts {
         requires { MayUnlock parts.now task.0 sem.0 self.old.facts }
         ensures reply { result ≡ unwrap_or
             (unlock_refusal parts.now self.old.facts.sems.table task.0 sem.0) Reply.Done }
-        ensures freed { let kept = self.old.facts.kept in
-            let sems = self.old.facts.sems in
+        ensures freed { let f = self.old.facts in
+            let sems = sems_by parts.now task.0 (ops.Unlock sem) f.kept f.sems in
             self.new ≡ record self.old {
-              facts = record self.old.facts {
-                sems = if accepted result then sems_by parts.now task.0 (ops.Unlock sem) kept sems else sems;
-              };
+              facts = record f { sems = if accepted result then sems else f.sems };
             } }
     {
         if let Some(refusal) = self.sems.unlock_refusal(parts, task, sem) {
@@ -400,18 +392,18 @@ impl Facts {
         requires task { IsTaskOf self.old.facts.kept parts.now.tasks task.0 }
         requires op { MayDo parts.now task.0 op self.old.facts }
         ensures reply { result ≡ task_reply parts.now cpu.0 task.0 op self.old.facts }
-        ensures asked { let kept = self.old.facts.kept in
-            let sems = self.old.facts.sems in
+        ensures asked { let f = self.old.facts in
+            let sems = sems_by parts.now task.0 op f.kept f.sems in
             self.new ≡ record self.old {
-              facts = record self.old.facts {
-                sems = if accepted result then sems_by parts.now task.0 op kept sems else sems;
-              };
+              facts = record f { sems = if accepted result then sems else f.sems };
             } }
     {
         match op {
             Op::Lock(sem) => self.lock(parts, task, sem),
             Op::Unlock(sem) => self.unlock(parts, task, sem),
-            _ => self.jobs.op_reply(cpu, task, op, false, self.sems.holds_none(task)),
+            _ => self
+                .jobs
+                .op_reply(cpu, task, op, false, self.sems.holds_none(task)),
         }
     }
 

@@ -235,12 +235,7 @@ fn take(afresh: &mut Afresh, list: &mut WaitingList, step: Step) -> Outcome
 }
 
 /// Plays the steps of the first group of the set, and compares.
-fn play(
-    rt: &impl Abort,
-    alloc: Global,
-    setup: &Setup,
-    wanted: &[Outcome],
-) -> Result<(), Fail> {
+fn play(rt: &impl Abort, alloc: Global, setup: &Setup, wanted: &[Outcome]) -> Result<(), Fail> {
     let parts = setup.parts();
     assert!(rt; is_built(setup));
     assert!(rt; parts.clusters.as_slice().iter().any(|c| c.group.0 == 0));

@@ -1,11 +1,10 @@
-use Rattle.std.proofs.Common.{◌≡◌, ◌+◌, ◌<◌, ◌≤◌, ℕ, length, sym, subst, arith}
-use Rattle.rt_base.specs.declared.TheConstants.{MOST_STEPS, TICK_END}
+use Rattle.std.proofs.Common.{◌≡◌, ◌≤◌, ℕ, length, sym, subst, arith}
 use Rattle.rt_task.specs.declared.Act.{Act}
 use Rattle.rt_task.specs.declared.Parts.{Parts}
 use Rattle.rt_model.specs.Past.{Past}
 use Rattle.rt_model.specs.Steps.{IsActOf}
 use Rattle.rt_plays.specs.Homes.{IsProcessorOf}
-use Rattle.waiting_list.specs.Listing.{AreWaitersAt, CanList, Moment}
+use Rattle.waiting_list.specs.Listing.{AreWaitersAt, CanList}
 use Rattle.rank_afresh.specs.contracts.afresh.Afresh.{the_view}
 use Rattle.rank_afresh.specs.Standing.{IsAt, IsFit, Standing, group_of}
 use Rattle.rank_afresh.proofs.Standings.{unreserved}
@@ -33,9 +32,10 @@ list_waiting-requires c =
     let inside = subst (λ (v : Standing). IsProcessorOf (group_of v) c.args.cpu.0) (sym c.self.view_is) c.requires.cpu in
     let of = subst (λ (v : Standing). IsActOf (group_of v) c.args.act) (sym c.self.view_is) c.requires.act in
     let at = subst (λ (v : Standing). IsAt v c.requires.at.0) (sym c.self.view_is) c.requires.at.1 in
-    let enough = subst (λ (v : Standing). length v.setup.tasks ≤ c.args.list.now.room) (sym c.self.view_is) c.requires.room in
-    (record { group = group_of (the_view c.self.inside); past = c.requires.at.0 },
-      can-list (the_view c.self.inside) _ c.self.invariant c.requires.at.0 at _ c.parts.ensures.parts c.args.cpu.0 c.args.act inside of c.args.list.now.room enough)
+    let enough = subst (λ (v : Standing). length v.setup.tasks ≤ c.args.list.now.room) (sym c.self.view_is) c.requires.room in (
+      record { group = group_of (the_view c.self.inside); past = c.requires.at.0 },
+      can-list (the_view c.self.inside) _ c.self.invariant c.requires.at.0 at _ c.parts.ensures.parts c.args.cpu.0 c.args.act inside of c.args.list.now.room enough,
+    )
 
 pub returns-clause-waiting : goal.returns-clause-waiting
 returns-clause-waiting c = λ past given.

@@ -2,7 +2,6 @@ use Rattle.std.proofs.Common.{◌≡◌, true, sym, subst}
 use Rattle.rt_task.specs.declared.Parts.{Parts}
 use Rattle.rt_task.specs.Validity.{IsValid}
 use Rattle.rt_groups.specs.Built.{is_built}
-use Rattle.rt_groups.specs.Limits.{IsInLimits}
 use Rattle.rt_groups.proofs.SetLimits.{sets_are_in_limits}
 use Rattle.rank_afresh.proofs.StandingActs.{at-first, fit-first}
 use Rattle.rank_afresh.proofs.afresh.Afresh.open.Goals as goal

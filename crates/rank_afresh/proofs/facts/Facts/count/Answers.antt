@@ -1,10 +1,8 @@
-use Rattle.std.proofs.Common.{◌≡◌, ◌+◌, ◌<◌, ℕ, Bool, List, length, sym, ap, ◌∙◌, subst, arith}
-use Rattle.rt_task.specs.declared.Parts.{Parts}
+use Rattle.std.proofs.Common.{◌≡◌, List, length, sym, ap, ◌∙◌, subst, arith}
 use Rattle.rt_task.specs.declared.Task.{Task}
-use Rattle.group_facts.specs.Kept.{Kept, has_operated}
+use Rattle.group_facts.specs.Kept.{has_operated}
 use Rattle.group_jobs.specs.GroupJobs.{GroupJobs}
-use Rattle.rank_afresh.specs.Facts.{CanAct, CanFollow, Facts, WithRoom, based}
-use Rattle.rank_afresh.specs.Ranks.{CanRead}
+use Rattle.rank_afresh.specs.Facts.{CanAct, CanFollow, WithRoom, based}
 use Rattle.rank_afresh.proofs.Bases.{base-inside}
 use Rattle.rank_afresh.proofs.Moving.{follow-operation}
 use Rattle.rank_afresh.proofs.facts.Facts.count.Goals as goal

@@ -1,7 +1,5 @@
-use Rattle.std.proofs.Common.{◌≡◌, ◌+◌, ◌++◌, ◌<◌, ◌≤◌, ℕ, List, length, map, take, drop, get_or, sym, ap, ◌∙◌, subst, arith}
-use Rattle.std.proofs.lemmas.List.{append-nil, get_or_at, length-map, length-take, take_all}
+use Rattle.std.proofs.Common.{◌≡◌, ◌<◌, ◌≤◌, List, length, get_or, sym, ap, ◌∙◌, subst, arith}
 use Rattle.std.proofs.lemmas.List.Edits.{map_over_more}
-use Rattle.rt_task.specs.declared.Parts.{Parts}
 use Rattle.group_facts.specs.Kept.{Kept}
 use Rattle.group_jobs.specs.GroupJobs.{GroupJobs}
 use Rattle.group_sems.specs.GroupSems.{GroupSems}

@@ -1,7 +1,6 @@
 use Rattle.std.proofs.Common.{◌≡◌, ◌+◌, ℕ, length, refl, ap, ◌∙◌, arith}
 use Rattle.rt_task.specs.declared.Parts.{Parts}
 use Rattle.rt_rules.specs.Numbers.{numbers_from}
-use Rattle.group_facts.specs.Kept.{Kept}
 use Rattle.group_sems.specs.GroupSems.{GroupSems}
 use Rattle.rank_afresh.specs.Facts.{WithRoom, all_based, based}
 use Rattle.rank_afresh.specs.Ranks.{base_in}
