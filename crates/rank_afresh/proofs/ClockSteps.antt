@@ -1,6 +1,6 @@
 -- As the clock moves, a job stays ready or not until the moment comes that it waits for.
-use Rattle.std.proofs.Common.{◌≡◌, ℕ, ◌<◌, ◌≤◌, max, min, Bool, true, false, ◌||◌, List, [], ◌∷◌, refl, sym, ◌∙◌, arith, eqb-true}
-use Rattle.std.specs.Prelude.{None, Option, Some, nat_le, nat_lt, ◌==◌}
+use Rattle.std.proofs.Common.{◌≡◌, ℕ, ◌<◌, ◌≤◌, max, min, Bool, true, false, not, ◌&&◌, ◌||◌, List, [], ◌∷◌, refl, sym, ap, ◌∙◌, arith, eqb-true}
+use Rattle.std.specs.Prelude.{is_some, None, Option, Some, nat_le, nat_lt, ◌==◌}
 use Rattle.std.proofs.lemmas.Bool.Decides.{nat_tests}
 use Rattle.rt_task.specs.declared.Parts.{Parts}
 use Rattle.rt_task.specs.declared.Task.{Task}
@@ -11,6 +11,8 @@ use Rattle.group_facts.specs.Kept.{Kept, job_of, with_clock}
 use Rattle.group_facts.specs.Timers.{first_of_two, if_later, timer}
 use Rattle.group_facts.specs.Words.{is_ready, release_of}
 use Rattle.group_jobs.specs.GroupJobs.{task_in}
+use Rattle.sem_table.specs.Told.{awaits_of}
+use Rattle.group_sems.specs.GroupSems.{GroupSems}
 use Rattle.rank_afresh.specs.Ranks.{earlier, is_candidate, next_in, timer_in}
 
 -- ---- one moment
@@ -87,10 +89,10 @@ next-least p k (u ∷ ts) t n h e = by_case (t == u) refl h (λ m. next-least p 
     by_case false s m rest = less (timer_in p k u) (rest m)
 
 -- none of these tasks is due by then
-module _ (p : Parts) (k : Kept) (tick next : ℕ) (before : max k.clock tick < next) (t : ℕ)
+module _ (p : Parts) (k : Kept) (v : GroupSems) (tick next : ℕ) (before : max k.clock tick < next) (t : ℕ)
     (least : (n : ℕ) → timer_in p k t ≡ Some n → next ≤ n) where
-  pub candidate-later : is_candidate p (with_clock tick k) t ≡ is_candidate p k t
-  candidate-later = ready-later k.clock (max k.clock tick) next (task_in p.tasks t) (job_of k t) (omega arith) before least
+  pub candidate-later : is_candidate p (with_clock tick k) v t ≡ is_candidate p k v t
+  candidate-later = ap (λ b. b && not (is_some (awaits_of v.table t))) (ready-later k.clock (max k.clock tick) next (task_in p.tasks t) (job_of k t) (omega arith) before least)
 
   pub timer-stays : timer_in p (with_clock tick k) t ≡ timer_in p k t
   timer-stays = timer-later k.clock (max k.clock tick) next (task_in p.tasks t) (job_of k t) (omega arith) before least

@@ -15,11 +15,11 @@ use Rattle.rt_history.specs.declared.Reply.{Reply}
 use Rattle.rt_model.specs.Past.{accepted}
 use Rattle.group_facts.specs.Bounds.{AreBounded}
 use Rattle.group_facts.specs.Facts.{CpuFacts, JobFacts, no_job}
-use Rattle.group_facts.specs.Kept.{Kept, after_act, cpu_of, job_of, with_clock, with_cpu, with_job}
+use Rattle.group_facts.specs.Kept.{Kept, after_act, cpu_of, has_acted, job_of, with_clock, with_cpu, with_job}
 use Rattle.group_facts.specs.Moves.{after_op, is_end, job_arrived, job_ended, op_done}
 use Rattle.group_jobs.specs.GroupJobs.{task_in}
 use Rattle.rank_afresh.specs.Clusters.{CanPlace, ClusterFacts}
-use Rattle.rank_afresh.specs.Facts.{IsPlainAct, kept_after}
+use Rattle.rank_afresh.specs.Facts.{IsPlainAct}
 use Rattle.rank_afresh.specs.Ranks.{CanRead}
 
 -- ---- one job
@@ -162,27 +162,27 @@ places-stay p k k' cs same all = λ i d inside. let c = all i d inside in record
 -- ---- an act
 
 module _ (n m : ℕ) (p : Parts) (k : Kept) (more : n < m) (can : CanRead n p k) (q : ℕ) where
-  read-operated : (op : Op) (o : Option ℕ) (reply : Reply) → ((t : ℕ) → o ≡ Some t → (1 ≤ t) × (t ≤ length p.tasks)) → CanRead m p (after_act p.tasks q (acts.Do op) o reply true k)
-  read-operated op None reply range = read-more n m p k (omega arith) can
-  read-operated op (Some t) reply range =
+  read-operated : (op : Op) (o : Option ℕ) (reply : Reply) (none : Bool) → ((t : ℕ) → o ≡ Some t → (1 ≤ t) × (t ≤ length p.tasks)) → CanRead m p (after_act p.tasks q (acts.Do op) o reply none k)
+  read-operated op None reply none range = read-more n m p k (omega arith) can
+  read-operated op (Some t) reply none range =
       let r = range t refl in
-      read-cpu m m p _ (omega arith) (read-job n m p k (omega arith) can t _ r.0 r.1 (bounded-after_op n m k.clock (job_of k t) more (can.bounded t) (task_in p.tasks t) op true)) q _
+      read-cpu m m p _ (omega arith) (read-job n m p k (omega arith) can t _ r.0 r.1 (bounded-after_op n m k.clock (job_of k t) more (can.bounded t) (task_in p.tasks t) op none)) q _
 
-  pub read-acted : (act : Act) (reply : Reply) → IsPlainAct p act → ((t : ℕ) → (cpu_of k q).runs ≡ Some t → (1 ≤ t) × (t ≤ length p.tasks)) → CanRead m p (kept_after p q act reply k)
-  read-acted act reply plain range = by_case (accepted reply) act plain
+  pub read-acted : (act : Act) (reply : Reply) (none : Bool) → IsPlainAct p act → ((t : ℕ) → (cpu_of k q).runs ≡ Some t → (1 ≤ t) × (t ≤ length p.tasks)) → CanRead m p (has_acted p.tasks q act reply none k)
+  read-acted act reply none plain range = by_case (accepted reply) act plain
     where
-      by_case : (b : Bool) (a : Act) → IsPlainAct p a → CanRead m p (if b then after_act p.tasks q a (cpu_of k q).runs reply true k else k)
+      by_case : (b : Bool) (a : Act) → IsPlainAct p a → CanRead m p (if b then after_act p.tasks q a (cpu_of k q).runs reply none k else k)
       by_case false a i = read-more n m p k (omega arith) can
       by_case true acts.Tick i = read-more n m p k (omega arith) can
       by_case true acts.Irq i = read-cpu n m p k (omega arith) can q _
       by_case true (acts.Arrive t) i = read-job n m p k (omega arith) can t.0 _ i.0 i.1 (bounded-arrived n m k.clock (job_of k t.0) more (can.bounded t.0))
-      by_case true (acts.Do op) i = read-operated op (cpu_of k q).runs reply range
+      by_case true (acts.Do op) i = read-operated op (cpu_of k q).runs reply none range
 
 -- an act changes the number of no processors
-pub cpus-acted : (p : Parts) (q : ℕ) (act : Act) (reply : Reply) (k : Kept) → length (kept_after p q act reply k).cpus ≡ length k.cpus
-cpus-acted p q act reply k = by_case (accepted reply) act (cpu_of k q).runs
+pub cpus-acted : (p : Parts) (q : ℕ) (act : Act) (reply : Reply) (none : Bool) (k : Kept) → length (has_acted p.tasks q act reply none k).cpus ≡ length k.cpus
+cpus-acted p q act reply none k = by_case (accepted reply) act (cpu_of k q).runs
   where
-    by_case : (b : Bool) (a : Act) (o : Option ℕ) → length (if b then after_act p.tasks q a o reply true k else k).cpus ≡ length k.cpus
+    by_case : (b : Bool) (a : Act) (o : Option ℕ) → length (if b then after_act p.tasks q a o reply none k else k).cpus ≡ length k.cpus
     by_case false a o = refl
     by_case true acts.Tick o = refl
     by_case true acts.Irq o = length-set k.cpus q _

@@ -15,11 +15,12 @@ use Rattle.rt_plays.specs.Room.{processor_count}
 use Rattle.rt_groups.specs.Limits.{IsInLimits}
 use Rattle.group_facts.specs.Bounds.{AreBounded}
 use Rattle.group_facts.specs.Facts.{idle_cpu, no_job}
-use Rattle.group_facts.specs.Kept.{Kept, opened, with_clock}
+use Rattle.group_facts.specs.Kept.{Kept, with_clock}
 use Rattle.group_facts.proofs.KeptMoves.{length-replicated, replicated, task-range}
+use Rattle.group_sems.specs.GroupSems.{GroupSems}
 use Rattle.rank_afresh.specs.Clusters.{CanPlace, ClusterFacts, followed, no_facts, relinked, runs_in}
-use Rattle.rank_afresh.specs.Facts.{CanFollow, cluster_at, unlinked_cluster, unlinked_clusters}
-use Rattle.rank_afresh.specs.Ranks.{CanRead, timer_in, top_in}
+use Rattle.rank_afresh.specs.Facts.{CanFollow, cluster_at, kept_at_opening, unlinked_cluster, unlinked_clusters}
+use Rattle.rank_afresh.specs.Ranks.{CanRead, HaveBases, timer_in, top_in}
 use Rattle.rank_afresh.specs.Standing.{IsClusterOf}
 use Rattle.rank_afresh.proofs.ClockSteps.{next-least, timer-stays}
 use Rattle.rank_afresh.proofs.SetLists.{at-mapped, cluster-within, length-runs_in}
@@ -40,20 +41,20 @@ module _ (g : Group) (c : ℕ) (x : ClusterFacts) where
     next_is = λ t n h e. is.next_is t n h (sym (same t h) ∙ e);
   }
 
-  pub fit-relinked : (k k' : Kept) → IsClusterOf g k c x → IsClusterOf g k' c (relinked g.setup k' x)
-  fit-relinked k k' is = record {
+  pub fit-relinked : (k k' : Kept) (v : GroupSems) → IsClusterOf g k c x → IsClusterOf g k' c (relinked g.setup k' v x)
+  fit-relinked k k' v is = record {
     first_is = is.first_is;
     tasks_are = is.tasks_are;
-    links_length = length-placed (top_in (length x.links) g.setup k' x.tasks) (runs_in k' x.first (length x.links)) x.links (length-runs_in k' x.first (length x.links)) ∙ length-runs_in k' x.first (length x.links) ∙ is.links_length;
+    links_length = length-placed (top_in (length x.links) g.setup k' v x.tasks) (runs_in k' x.first (length x.links)) x.links (length-runs_in k' x.first (length x.links)) ∙ length-runs_in k' x.first (length x.links) ∙ is.links_length;
     next_is = λ t n h e. next-least g.setup k' x.tasks t n h e;
   }
 
-  pub fit-followed : (k : Kept) (tick : ℕ) → IsClusterOf g k c x → IsClusterOf g (with_clock tick k) c (followed g.setup (with_clock tick k) x)
-  fit-followed k tick is = by_case (nat_lt (max k.clock tick) x.next) refl
+  pub fit-followed : (k : Kept) (v : GroupSems) (tick : ℕ) → IsClusterOf g k c x → IsClusterOf g (with_clock tick k) c (followed g.setup (with_clock tick k) v x)
+  fit-followed k v tick is = by_case (nat_lt (max k.clock tick) x.next) refl
     where
-      by_case : (b : Bool) → nat_lt (max k.clock tick) x.next ≡ b → IsClusterOf g (with_clock tick k) c (if b then x else relinked g.setup (with_clock tick k) x)
-      by_case true e = fit-stays k (with_clock tick k) is (λ t h. timer-stays g.setup k tick x.next (ltb-true _ _ e) t (λ n f. is.next_is t n h f))
-      by_case false e = fit-relinked k (with_clock tick k) is
+      by_case : (b : Bool) → nat_lt (max k.clock tick) x.next ≡ b → IsClusterOf g (with_clock tick k) c (if b then x else relinked g.setup (with_clock tick k) v x)
+      by_case true e = fit-stays k (with_clock tick k) is (λ t h. timer-stays g.setup k v tick x.next (ltb-true _ _ e) t (λ n f. is.next_is t n h f))
+      by_case false e = fit-relinked k (with_clock tick k) v is
 
 -- ---- all clusters
 
@@ -64,8 +65,8 @@ places-of g k cs count room are = λ i d inside.
     let same : get_or cs i no_facts ≡ get_or cs i d = get_or_default cs i no_facts d inside in
     subst (CanPlace g.setup k) same (fits-place g i (get_or cs i no_facts) k k (are i low) low (omega (arith, room)))
 
-pub at-followed : (p : Parts) (k : Kept) (cs : List ClusterFacts) (c : ℕ) → c < length cs → cluster_at (map (followed p k) cs) c ≡ followed p k (cluster_at cs c)
-at-followed p k cs c inside = get_or-map (followed p k) cs c no_facts no_facts inside
+pub at-each : (f : ClusterFacts → ClusterFacts) (cs : List ClusterFacts) (c : ℕ) → c < length cs → cluster_at (map f cs) c ≡ f (cluster_at cs c)
+at-each f cs c inside = get_or-map f cs c no_facts no_facts inside
 
 -- ---- the opening
 
@@ -79,7 +80,7 @@ no-job-bounded acts clock = record {
   all_come = λ n h. cc;
 }
 
-pub read-opened : (acts : ℕ) (p : Parts) → is_p_res p.plugin ≡ false → IsInLimits p → CanRead acts p (opened (length p.tasks) (processor_count p))
+pub read-opened : (acts : ℕ) (p : Parts) → is_p_res p.plugin ≡ false → IsInLimits p → CanRead acts p (kept_at_opening p)
 read-opened acts p plugin limits = record {
   plugin = plugin;
   limits = limits;
@@ -98,9 +99,10 @@ length-unlinked g = length-map (numbers_from 0 (length g.setup.clusters)) (unlin
 at-unlinked : (g : Group) (k : Kept) (c : ℕ) → c < length g.setup.clusters → IsClusterOf g k c (cluster_at (unlinked_clusters g) c)
 at-unlinked g k c inside = rw (at-mapped (unlinked_cluster g) (length g.setup.clusters) c no_facts inside) (fit-unlinked g k c)
 
-pub follow-opened : (g : Group) → is_p_res g.setup.plugin ≡ false → IsInLimits g.setup
-    → CanFollow g.setup (record { kept = opened (length g.setup.tasks) (processor_count g.setup); clusters = unlinked_clusters g })
-follow-opened g plugin limits = record {
+pub follow-opened : (g : Group) (v : GroupSems) → is_p_res g.setup.plugin ≡ false → IsInLimits g.setup → HaveBases g.setup v
+    → CanFollow g.setup (record { kept = kept_at_opening g.setup; sems = v; clusters = unlinked_clusters g })
+follow-opened g v plugin limits keys = record {
   read = read-opened MOST_STEPS g.setup plugin limits;
-  places = places-of g (opened (length g.setup.tasks) (processor_count g.setup)) (unlinked_clusters g) (length-unlinked g) (length-replicated (processor_count g.setup) idle_cpu) (at-unlinked g (opened (length g.setup.tasks) (processor_count g.setup)));
+  keys = keys;
+  places = places-of g (kept_at_opening g.setup) (unlinked_clusters g) (length-unlinked g) (length-replicated (processor_count g.setup) idle_cpu) (at-unlinked g (kept_at_opening g.setup));
 }

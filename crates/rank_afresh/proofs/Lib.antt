@@ -4,6 +4,8 @@ pub mod TopTasks
 pub mod Rankings
 pub mod Reading
 pub mod SetLists
+pub mod InTurn
+pub mod Bases
 pub mod Counting
 pub mod Moving
 pub mod ModelWords
@@ -11,5 +13,7 @@ pub mod ClockSteps
 pub mod Fitting
 pub mod Standings
 pub mod Touching
+pub mod Telling
+pub mod AtSems
 pub mod Answering
 pub mod StandingActs

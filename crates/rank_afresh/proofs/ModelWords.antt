@@ -1,38 +1,36 @@
--- The top of a cluster, what runs there and its links, read off what is kept of a group without semaphores and reservations.
-use Rattle.std.proofs.Common.{◌≡◌, ℕ, Bool, true, false, ◌||◌, List, [], ◌∷◌, map, eqb-true, refl, sym, ap, ◌∙◌}
-use Rattle.std.specs.Prelude.{flat_map, not, ◌==◌}
-use Rattle.rt_task.specs.declared.Parts.{Parts}
+-- The top of a cluster, what runs there and its links, read off what is kept of a group without reservations.
+use Rattle.std.proofs.Common.{◌≡◌, ℕ, Bool, true, false, ◌&&◌, ◌||◌, List, [], ◌∷◌, map, eqb-true, refl, sym, ap, ◌∙◌}
+use Rattle.std.specs.Prelude.{flat_map, is_none, is_some, not, ◌==◌, None, Option, Some}
 use Rattle.rt_task.specs.declared.PluginKind.{PluginKind}
 use Rattle.rt_task.specs.declared.PluginKind.TheVariants as plugins
-use Rattle.rt_task.specs.RuleWords.{is_empty, is_p_res}
+use Rattle.rt_task.specs.RuleWords.{is_p_res}
+use Rattle.rt_task.specs.Validity.{IsValid}
 use Rattle.rt_rules.specs.Numbers.{has, numbers_from}
-use Rattle.rt_rules.proofs.BoolLaws.{and_true, both, not_true, or_true}
+use Rattle.rt_rules.proofs.BoolLaws.{and_true, or_true}
 use Rattle.rt_rules.proofs.MemberLaws.{equal_self, has-append}
 use Rattle.rt_rules.proofs.RankedByLaws.{ranked_by-same}
+use Rattle.rt_model.specs.BaseKeys.{base_key}
 use Rattle.rt_model.specs.EffectiveKeys.{effective_key}
-use Rattle.rt_model.specs.Group.{Group, clusters, cpus, first_cpu, group_processors, processors, sems, task, tasks, tasks_of}
+use Rattle.rt_model.specs.Holders.{awaits}
+use Rattle.rt_model.specs.Reachable.{IsReachable}
+use Rattle.rt_model.specs.Group.{Group, clusters, cpus, first_cpu, group_processors, processors, task, tasks, tasks_of}
 use Rattle.rt_model.specs.Links.{runs_of}
 use Rattle.rt_model.specs.Past.{Past}
 use Rattle.rt_model.specs.Runs.{runs}
 use Rattle.rt_model.specs.Tops.{eligible, is_served, ranking, top}
 use Rattle.rt_laws.proofs.GroupLaws.{tasks_of-home}
-use Rattle.rt_groups.specs.Built.{gives_steps, is_built}
-use Rattle.rt_groups.proofs.NoSems.{awaits-none, effective-base, sems-none}
 use Rattle.group_facts.specs.Facts.{CpuFacts, JobFacts}
 use Rattle.group_facts.specs.Kept.{IsKept, Kept, cpu_of, job_of}
-use Rattle.group_facts.specs.Words.{AreRead, key_of}
-use Rattle.group_facts.proofs.KeptMoves.{words_of_kept}
+use Rattle.group_facts.specs.Words.{AreRead, is_ready, key_of}
+use Rattle.group_jobs.specs.GroupJobs.{task_in}
+use Rattle.group_facts.proofs.KeptMoves.{task-range, words_of_kept}
+use Rattle.sem_table.specs.Told.{awaits_of}
+use Rattle.group_sems.specs.GroupSems.{GroupSems}
+use Rattle.group_sem_laws.specs.Kept.{KeepsBases, KeepsGroupSems, KeepsLocks}
+use Rattle.group_sem_laws.proofs.Keys.{key_is_read}
+use Rattle.group_sem_laws.proofs.Reading.{holding_is_read}
 use Rattle.rank_afresh.specs.Clusters.{runs_in}
-use Rattle.rank_afresh.specs.Ranks.{is_candidate, key_in, ranking_in, top_in}
-
--- ---- what is built
-
-module _ (p : Parts) (built : is_built p ≡ true) where
-  pub no-p_res : is_p_res p.plugin ≡ false
-  no-p_res = not_true _ (both (not (is_p_res p.plugin)) _ built).0
-
-  pub no-sems : is_empty p.sems ≡ true
-  no-sems = (both (is_empty p.sems) (gives_steps p.drive) (both (not (is_p_res p.plugin)) _ built).1).0
+use Rattle.rank_afresh.specs.Ranks.{AreBased, base_in, is_candidate, key_in, ranking_in, top_in}
 
 served : (g : Group) (x : PluginKind) (t : ℕ) (past : Past) → is_p_res x ≡ false → is_served g x t past ≡ true
 unfolding is_served
@@ -72,29 +70,44 @@ map-same f f' (n ∷ ns) same =
 
 -- ---- at a past
 
-module _ (g : Group) (built : is_built g.setup ≡ true) (past : Past) (k : Kept) (kept : IsKept g past k) where
-  none : sems g ≡ []
-  none = sems-none g (no-sems g.setup built)
+none-not : {A : Type 0} (o : Option A) → is_none o ≡ not (is_some o)
+none-not None = refl
+none-not (Some x) = refl
 
-  eligible-read : (t : ℕ) → has t (tasks g) ≡ true → eligible g t past ≡ is_candidate g.setup k t
+module _ (g : Group) (plain : is_p_res g.setup.plugin ≡ false) (past : Past) (k : Kept) (kept : IsKept g past k) where
+  -- the base key of a task's current job
+  pub base-read : (t : ℕ) → has t (tasks g) ≡ true → base_key g t past ≡ base_in g.setup k t
+  base-read t there =
+      let words : AreRead g t past k.clock (job_of k t) = words_of_kept g past k kept t there in
+      words.key_is ∙ key-by_setup g g.setup.plugin t (job_of k t) plain
+
+  pub keeps-bases : (v : GroupSems) → AreBased g.setup k v → KeepsBases g past v.waits.bases
+  keeps-bases v based = record {
+    room = based.room;
+    are = λ t there. let r = task-range g t there in based.are t r.0 r.1 ∙ ap Some (sym (base-read t there));
+  }
+
+  -- whether a task is eligible, but for what it waits for
+  pub ready-read : (t : ℕ) → has t (tasks g) ≡ true → eligible g t past ≡ is_ready k.clock (task_in g.setup.tasks t) (job_of k t) && is_none (awaits g t past)
   unfolding task
-  eligible-read t there =
+  ready-read t there =
       let words : AreRead g t past k.clock (job_of k t) = words_of_kept g past k kept t there in
-      words.eligible_is ∙ rw (awaits-none g none past t, served g g.setup.plugin t past (no-p_res g.setup built)) (and_true (is_candidate g.setup k t))
+      words.eligible_is ∙ rw (served g g.setup.plugin t past plain, and_true (is_none (awaits g t past))) refl
 
-  key-read : (t : ℕ) → has t (tasks g) ≡ true → effective_key g t past ≡ key_in g.setup k t
-  key-read t there =
-      let words : AreRead g t past k.clock (job_of k t) = words_of_kept g past k kept t there in
-      effective-base g none past t ∙ words.key_is ∙ key-by_setup g g.setup.plugin t (job_of k t) (no-p_res g.setup built)
-
-  ranking-read : (c : ℕ) → ranking g c past ≡ ranking_in g.setup k (tasks_of g c)
-  unfolding ranking
-  ranking-read c = ranked_by-same (λ t. effective_key g t past) (key_in g.setup k) (λ t. eligible g t past) (is_candidate g.setup k) (tasks_of g c)
-      (λ t h. eligible-read t (tasks_of-home g c t h).0) (λ t h e. key-read t (tasks_of-home g c t h).0)
-
-  pub top-read : (c : ℕ) → top g c past ≡ top_in (cpus g c) g.setup k (tasks_of g c)
-  unfolding top
-  top-read c = rw (ranking-read c) refl
+  -- of locks that are kept, with base keys that were told
+  pub keeps-sems : (v w : GroupSems) → KeepsLocks g past w → v.table ≡ w.table → v.ceilings ≡ w.ceilings → v.waits.nexts ≡ w.waits.nexts → v.waits.boosts ≡ w.waits.boosts
+      → AreBased g.setup k v → KeepsGroupSems g past v
+  keeps-sems v w locks table ceilings nexts boosts based = record {
+    locks = record {
+      sems_are = rw table locks.sems_are;
+      rows_are = rw table locks.rows_are;
+      none_outside = rw table locks.none_outside;
+      nexts_are = rw nexts locks.nexts_are;
+      boosts_are = rw boosts locks.boosts_are;
+      ceilings_are = rw ceilings locks.ceilings_are;
+    };
+    bases = keeps-bases v based;
+  }
 
   pub runs-read : (c : ℕ) → has c (clusters g) ≡ true → runs_of g c past ≡ runs_in k (first_cpu g c) (cpus g c)
   unfolding runs_of processors
@@ -103,3 +116,21 @@ module _ (g : Group) (built : is_built g.setup ≡ true) (past : Past) (k : Kept
     where
       in-there : (q : ℕ) → has q (numbers_from (first_cpu g c) (cpus g c)) ≡ true → has q (group_processors g) ≡ true
       in-there q h = processor-there g c q there h
+
+  module _ (valid : IsValid g.setup) (made : IsReachable g past) (v : GroupSems) (sems : KeepsGroupSems g past v) where
+    eligible-read : (t : ℕ) → has t (tasks g) ≡ true → eligible g t past ≡ is_candidate g.setup k v t
+    eligible-read t there =
+        let waits : is_some (awaits_of v.table t) ≡ is_some (awaits g t past) = (holding_is_read g past valid made v t there sems.locks).1 in
+        ready-read t there ∙ rw (none-not (awaits g t past), waits) refl
+
+    pub key-read : (t : ℕ) → has t (tasks g) ≡ true → effective_key g t past ≡ key_in v t
+    key-read t there = sym (key_is_read g past valid made v.waits t there (record { bases_are = sems.bases; nexts_are = sems.locks.nexts_are; boosts_are = sems.locks.boosts_are }))
+
+    ranking-read : (c : ℕ) → ranking g c past ≡ ranking_in g.setup k v (tasks_of g c)
+    unfolding ranking
+    ranking-read c = ranked_by-same (λ t. effective_key g t past) (key_in v) (λ t. eligible g t past) (is_candidate g.setup k v) (tasks_of g c)
+        (λ t h. eligible-read t (tasks_of-home g c t h).0) (λ t h e. key-read t (tasks_of-home g c t h).0)
+
+    pub top-read : (c : ℕ) → top g c past ≡ top_in (cpus g c) g.setup k v (tasks_of g c)
+    unfolding top
+    top-read c = rw (ranking-read c) refl

@@ -1,9 +1,10 @@
 -- A group that stands at a past: its opening, and where an act leads it.
 use Rattle.std.proofs.Common.{◌≡◌, ◌≢◌, ℕ, ◌+◌, ◌-◌, ◌<◌, ◌≤◌, Bool, true, false, List, [], ◌∷◌, length, map, replicate, eqb-true, refl, sym, ap, ◌∙◌, subst, arith, length-set, get_or-set_same, get_or-set_other}
-use Rattle.std.specs.Prelude.{None, Option, Some, ◌==◌}
+use Rattle.std.specs.Prelude.{None, Option, Some, ◌==◌, ◌||◌, if◌then◌else◌}
 use Rattle.std.proofs.lemmas.List.{length-map, length-replicate}
 use Rattle.rt_base.specs.declared.TaskNo.{TaskNo}
 use Rattle.rt_base.specs.declared.TheConstants.{MOST_STEPS}
+use Rattle.rt_task.specs.RuleWords.{is_p_res}
 use Rattle.rt_task.specs.Validity.{IsValid}
 use Rattle.rt_task.specs.declared.Act.{Act}
 use Rattle.rt_task.specs.declared.Act.TheVariants as acts
@@ -11,61 +12,77 @@ use Rattle.rt_task.specs.declared.Op.{Op}
 use Rattle.rt_task.specs.declared.Parts.{Parts}
 use Rattle.rt_history.specs.declared.Reply.{Reply}
 use Rattle.rt_history.specs.declared.Reply.TheVariants as replies
-use Rattle.rt_rules.specs.Numbers.{has, is, numbers_from}
+use Rattle.rt_rules.specs.Numbers.{has, numbers_from}
+use Rattle.rt_rules.specs.SemState.{Neither}
 use Rattle.rt_rules.specs.Placing.{placed}
 use Rattle.rt_rules.proofs.BoolLaws.{clash}
 use Rattle.rt_rules.proofs.NumberLaws.{length-numbers_from}
 use Rattle.rt_rules.proofs.MemberLaws.{equal_self}
 use Rattle.rt_model.specs.Answers.{answer}
-use Rattle.rt_model.specs.Group.{Group, cluster_with, clusters, cpus, first_cpu, group_processors, home, processors, sems, task, tasks, tasks_of}
+use Rattle.rt_model.specs.Group.{Group, cluster_with, clusters, cpus, first_cpu, group_processors, home, processors, task, tasks, tasks_of}
 use Rattle.rt_model.specs.Links.{links, runs_of}
 use Rattle.rt_model.specs.Outcomes.{past_act}
-use Rattle.rt_model.specs.Past.{Acted, Past, accepted}
-use Rattle.rt_model.specs.Reachable.{acted, opened}
+use Rattle.rt_model.specs.BaseKeys.{base_key}
+use Rattle.rt_model.specs.Past.{Acted, Past, accepted, entries_in, sem_act}
+use Rattle.rt_model.specs.Reachable.{IsReachable, acted, opened}
 use Rattle.rt_model.specs.Runs.{runs}
 use Rattle.rt_model.specs.Steps.{IsActOf}
 use Rattle.rt_model.specs.Tops.{top}
-use Rattle.rt_laws.proofs.GroupLaws.{home-tasks_of}
+use Rattle.rt_laws.proofs.GroupLaws.{home-tasks_of, tasks_of-home}
 use Rattle.rt_laws.proofs.Running.{IsRunning, running}
 use Rattle.rt_laws.proofs.ValidSets.{rules_of}
 use Rattle.rt_plays.specs.Room.{processor_count}
 use Rattle.rt_groups.specs.Built.{is_built}
 use Rattle.rt_groups.specs.Places.{IsAtHome}
 use Rattle.rt_groups.proofs.GroupPlaces.{processors_are_at_home}
-use Rattle.rt_groups.proofs.NoSems.{sems-none}
+use Rattle.rt_groups.proofs.NoSems.{built-unreserved}
 use Rattle.rt_groups.proofs.SetLimits.{sets_are_in_limits}
 use Rattle.rank_changes.specs.Touched.{arriving}
-use Rattle.rank_changes.proofs.SameClusters.{links-stay}
-use Rattle.group_facts.specs.Kept as kept_words
+use Rattle.rt_changes.specs.SemActs.{is_at_sem}
+use Rattle.rt_changes.proofs.SemActs.{other_act_is_quiet, refused_act_is_quiet}
+use Rattle.rank_changes.specs.Clusters.{SameCluster, SameStanding}
+use Rattle.rank_changes.proofs.QuietMoves.{key-quiet}
+use Rattle.rank_changes.proofs.SameClusters.{cluster-stays}
+use Rattle.rank_changes.proofs.SameEligibility.{awaits-quiet}
 use Rattle.group_facts.specs.Kept.{HasRoom, IsKept, IsOfGroup, Kept, cpu_of}
-use Rattle.group_facts.proofs.KeptMoves.{kept_after_act, kept_at_opening, length-replicated, task-range}
+use Rattle.group_facts.specs.Timers.{is_sleep}
+use Rattle.group_facts.proofs.KeptMoves.{kept_after_act, kept_at_opening as facts_at_opening, length-replicated, task-range}
 use Rattle.group_jobs.specs.GroupJobs.{task_in}
-use Rattle.rank_afresh.specs.Clusters.{ClusterFacts, followed, no_facts, relinked, runs_in}
+use Rattle.prio_inherit.specs.Waits.{Waits}
+use Rattle.group_sems.specs.GroupSems.{GroupSems}
+use Rattle.group_sem_laws.specs.Kept.{KeepsGroupSems, KeepsLocks}
+use Rattle.group_sem_laws.proofs.Opening.{opening_is_kept}
+use Rattle.rank_afresh.specs.Clusters.{ClusterFacts, no_facts, relinked, runs_in}
 use Rattle.rank_afresh.specs.Facts as moves
-use Rattle.rank_afresh.specs.Facts.{CanAct, Facts, IsPlainAct, at_opening, cluster_at, ended_now, home_of, kept_after, link_in, op_reply_in, placed_afresh, reply_in, touched, unlinked_cluster, unlinked_clusters}
-use Rattle.rank_afresh.specs.Ranks.{top_in}
+use Rattle.rank_afresh.specs.Facts.{AllClusters, CanAct, Facts, IsPlainAct, IsUntold, MayAct, NoCluster, OneCluster, Placing, all_based, asked, at_opening, cluster_at, ended_now, ends_in, home_of, kept_after, kept_at_opening, link_in, none_after, placed_afresh, placing, placing_by, reply_in, sems_after, told_by, unlinked_cluster, unlinked_clusters}
+use Rattle.rank_afresh.specs.Ranks.{AreBased, top_in}
 use Rattle.rank_afresh.specs.Standing.{IsAt, IsClusterOf, IsFit, Standing, ended_in, group_of}
-use Rattle.rank_afresh.proofs.Answering.{ended-read, holds-none, op-done, plain-act, reply-read}
+use Rattle.rank_afresh.proofs.Answering.{ended-read, idle-refused, locks-kept, may-act, none-held, op-done, plain-act, reply-read}
+use Rattle.rank_afresh.proofs.Bases.{based-first, have-bases}
 use Rattle.rank_afresh.proofs.Counting.{cpus-acted, read-acted, read-more}
-use Rattle.rank_afresh.proofs.Fitting.{at-followed, fit-relinked, fit-stays, fit-unlinked, length-unlinked, read-opened}
-use Rattle.rank_afresh.proofs.ModelWords.{no-p_res, no-sems, runs-read, top-read}
+use Rattle.rank_afresh.proofs.Fitting.{at-each, fit-relinked, fit-stays, fit-unlinked, length-unlinked, read-opened}
+use Rattle.rank_afresh.proofs.ModelWords.{base-read, keeps-sems, ready-read, runs-read, top-read}
 use Rattle.rank_afresh.proofs.SetLists.{at-mapped, cluster-inside, cluster-within}
-use Rattle.rank_afresh.proofs.Standings.{all-places, cpu-there, has-cpu, home-there, linked-there, links-placed, runs-there, top-same}
-use Rattle.rank_afresh.proofs.Touching.{IsStill, still-after}
+use Rattle.rank_afresh.proofs.Standings.{all-places, cpu-there, has-cpu, home-there, linked-there, links-placed, runs-there, unreserved as unreserved-at}
+use Rattle.rank_afresh.proofs.Telling.{based-after, sems-retold}
+use Rattle.rank_afresh.proofs.Touching.{IsStill, is_placed, still-after}
 
 -- ---- a cluster among those of which one is placed afresh
 
-at-placed : (p : Parts) (k : Kept) (o : Option ℕ) (cs : List ClusterFacts) (c : ℕ) → c < length cs → is c o ≡ true → cluster_at (placed_afresh p k o cs) c ≡ relinked p k (cluster_at cs c)
-at-placed p k None cs c inside h = cc
-at-placed p k (Some d) cs c inside h = let s : c ≡ d = eqb-true c d h in rw (← s) (get_or-set_same cs c _ no_facts inside)
+at-placed : (p : Parts) (k : Kept) (v : GroupSems) (w : Placing) (cs : List ClusterFacts) (c : ℕ) → c < length cs → is_placed c w ≡ true → cluster_at (placed_afresh p k v w cs) c ≡ relinked p k v (cluster_at cs c)
+at-placed p k v NoCluster cs c inside h = cc
+at-placed p k v (OneCluster d) cs c inside h = let s : c ≡ d = eqb-true c d h in rw (← s) (get_or-set_same cs c _ no_facts inside)
+at-placed p k v AllClusters cs c inside h = at-each (relinked p k v) cs c inside
 
-at-others : (p : Parts) (k : Kept) (o : Option ℕ) (cs : List ClusterFacts) (c : ℕ) → is c o ≡ false → cluster_at (placed_afresh p k o cs) c ≡ cluster_at cs c
-at-others p k None cs c h = refl
-at-others p k (Some d) cs c h = let apart : c ≢ d = λ s. (let m : d == d ≡ false = rw s at h in clash _ (equal_self d) m) in get_or-set_other cs d c _ no_facts apart
+at-others : (p : Parts) (k : Kept) (v : GroupSems) (w : Placing) (cs : List ClusterFacts) (c : ℕ) → is_placed c w ≡ false → cluster_at (placed_afresh p k v w cs) c ≡ cluster_at cs c
+at-others p k v NoCluster cs c h = refl
+at-others p k v (OneCluster d) cs c h = let apart : c ≢ d = λ s. (let m : d == d ≡ false = rw s at h in clash _ (equal_self d) m) in get_or-set_other cs d c _ no_facts apart
+at-others p k v AllClusters cs c h = cc
 
-length-placed_afresh : (p : Parts) (k : Kept) (o : Option ℕ) (cs : List ClusterFacts) → length (placed_afresh p k o cs) ≡ length cs
-length-placed_afresh p k None cs = refl
-length-placed_afresh p k (Some d) cs = length-set cs d _
+length-placed_afresh : (p : Parts) (k : Kept) (v : GroupSems) (w : Placing) (cs : List ClusterFacts) → length (placed_afresh p k v w cs) ≡ length cs
+length-placed_afresh p k v NoCluster cs = refl
+length-placed_afresh p k v (OneCluster d) cs = length-set cs d _
+length-placed_afresh p k v AllClusters cs = length-map cs (relinked p k v)
 
 -- a task of the group is one of the cluster that its row names
 home-read : (g : Group) (t : ℕ) → has t (tasks g) ≡ true → has t (tasks_of g (task_in g.setup.tasks t).cluster.0) ≡ true
@@ -79,9 +96,15 @@ unfolding runs
 none-mapped [] = refl
 none-mapped (n ∷ ns) = ap (λ os. None ∷ os) (none-mapped ns)
 
-module _ (g : Group) (valid : IsValid g.setup) (built : is_built g.setup ≡ true) where
+module _ (g : Group) (valid : IsValid g.setup) (built : is_built g.setup ≡ true) (v : GroupSems) (new : IsUntold g v) where
+  unreserved : is_p_res g.setup.plugin ≡ false
+  unreserved = built-unreserved g.setup built
+
   abbrev first_kept : Kept
-  first_kept = kept_words.opened (length g.setup.tasks) (processor_count g.setup)
+  first_kept = kept_at_opening g.setup
+
+  abbrev first_sems : GroupSems
+  first_sems = all_based g.setup first_kept (length g.setup.tasks) v
 
   roomy : HasRoom g (processor_count g.setup)
   roomy q h =
@@ -91,12 +114,20 @@ module _ (g : Group) (valid : IsValid g.setup) (built : is_built g.setup ≡ tru
       omega (arith, w, high)
 
   kept_first : IsKept g [] first_kept
-  kept_first = kept_at_opening g (processor_count g.setup) roomy
+  kept_first = facts_at_opening g (processor_count g.setup) roomy
 
-  first-cluster : (c : ℕ) → c < length g.setup.clusters → cluster_at (at_opening g).clusters c ≡ relinked g.setup first_kept (unlinked_cluster g c)
+  based_first : AreBased g.setup first_kept first_sems
+  based_first = based-first g.setup first_kept v (rw new.waits (length-replicate (length g.setup.tasks + 1) None))
+
+  sems_first : KeepsGroupSems g [] first_sems
+  sems_first =
+      let locks : KeepsLocks g [] v = opening_is_kept g v valid new.table new.ceilings (ap (λ (w : Waits). w.nexts) new.waits) (ap (λ (w : Waits). w.boosts) new.waits) in
+      keeps-sems g unreserved [] first_kept kept_first first_sems v locks refl refl refl refl based_first
+
+  first-cluster : (c : ℕ) → c < length g.setup.clusters → cluster_at (at_opening g v).clusters c ≡ relinked g.setup first_kept first_sems (unlinked_cluster g c)
   first-cluster c inside =
-      at-followed g.setup first_kept (unlinked_clusters g) c (let n = length-unlinked g in omega (arith, inside, n))
-      ∙ ap (followed g.setup first_kept) (at-mapped (unlinked_cluster g) (length g.setup.clusters) c no_facts inside)
+      at-each (relinked g.setup first_kept first_sems) (unlinked_clusters g) c (let n = length-unlinked g in omega (arith, inside, n))
+      ∙ ap (relinked g.setup first_kept first_sems) (at-mapped (unlinked_cluster g) (length g.setup.clusters) c no_facts inside)
 
   none-run : (c : ℕ) → runs_of g c [] ≡ replicate (cpus g c) None
   unfolding runs_of processors
@@ -106,31 +137,37 @@ module _ (g : Group) (valid : IsValid g.setup) (built : is_built g.setup ≡ tru
   unfolding links
   links-first c = refl
 
-  links-opened : (c : ℕ) → has c (clusters g) ≡ true → (relinked g.setup first_kept (unlinked_cluster g c)).links ≡ links g c []
+  links-opened : (c : ℕ) → has c (clusters g) ≡ true → (relinked g.setup first_kept first_sems (unlinked_cluster g c)).links ≡ links g c []
   links-opened c there =
       let count : length (replicate (cpus g c) None) ≡ cpus g c = length-replicate (cpus g c) None in
-      let here : (relinked g.setup first_kept (unlinked_cluster g c)).links ≡ placed (top_in (cpus g c) g.setup first_kept (tasks_of g c)) (runs_in first_kept (first_cpu g c) (cpus g c)) (replicate (cpus g c) None) =
-      ap (λ n. placed (top_in n g.setup first_kept (tasks_of g c)) (runs_in first_kept (first_cpu g c) n) (replicate (cpus g c) None)) count in
-      here ∙ rw (← top-read g built [] first_kept kept_first c, ← runs-read g built [] first_kept kept_first c there, ← none-run c) (sym (links-first c))
+      let here : (relinked g.setup first_kept first_sems (unlinked_cluster g c)).links
+      ≡ placed (top_in (cpus g c) g.setup first_kept first_sems (tasks_of g c)) (runs_in first_kept (first_cpu g c) (cpus g c)) (replicate (cpus g c) None) =
+      ap (λ n. placed (top_in n g.setup first_kept first_sems (tasks_of g c)) (runs_in first_kept (first_cpu g c) n) (replicate (cpus g c) None)) count in
+      here
+      ∙ rw (← top-read g unreserved [] first_kept kept_first valid opened first_sems sems_first c, ← runs-read g unreserved [] first_kept kept_first c there, ← none-run c)
+      (sym (links-first c))
 
-  pub at-first : (room : ℕ) → IsAt (record { setup = g.setup; group = g.number; facts = at_opening g; spare = room; ended = None }) []
-  at-first room = record {
+  pub at-first : (room : ℕ) → room ≤ MOST_STEPS → IsAt (record { setup = g.setup; group = g.number; facts = at_opening g v; spare = room; ended = None }) []
+  at-first room low = record {
     reachable = opened;
+    few = omega (arith, low);
     kept = kept_first;
+    sems_are = sems_first;
     links_are = λ c there. rw (first-cluster c (cluster-inside g c there)) (links-opened c there);
     ended_is = refl;
   }
 
-  pub fit-first : (room : ℕ) → room ≤ MOST_STEPS → IsFit g (at_opening g) room room
+  pub fit-first : (room : ℕ) → room ≤ MOST_STEPS → IsFit g (at_opening g v) room room
   fit-first room low = record {
     valid = valid;
     built = built;
     limit = low;
     room_left = omega arith;
-    read = read-opened (MOST_STEPS - room) g.setup (no-p_res g.setup built) (sets_are_in_limits g.setup valid);
+    read = read-opened (MOST_STEPS - room) g.setup unreserved (sets_are_in_limits g.setup valid);
+    based = based_first;
     all_cpus = length-replicated (processor_count g.setup) _;
-    all_clusters = length-map (unlinked_clusters g) (followed g.setup first_kept) ∙ length-unlinked g;
-    clusters_are = λ c inside. rw (first-cluster c inside) (fit-relinked g c (unlinked_cluster g c) first_kept first_kept (fit-unlinked g first_kept c));
+    all_clusters = length-map (unlinked_clusters g) (relinked g.setup first_kept first_sems) ∙ length-unlinked g;
+    clusters_are = λ c inside. rw (first-cluster c inside) (fit-relinked g c (unlinked_cluster g c) first_kept first_kept first_sems (fit-unlinked g first_kept c));
   }
 
 -- ---- an act, where the clock was moved to its tick
@@ -149,11 +186,14 @@ module _ (v : Standing) (room : ℕ) (fit : IsFit (group_of v) v.facts room v.sp
   abbrev cs : List ClusterFacts
   cs = v.facts.clusters
 
-  no_sems : sems g ≡ []
-  no_sems = sems-none g (no-sems p fit.built)
+  abbrev s : GroupSems
+  s = v.facts.sems
+
+  plugin : is_p_res g.setup.plugin ≡ false
+  plugin = unreserved-at v room fit
 
   pub plain : IsPlainAct p act
-  plain = plain-act g no_sems act is_act
+  plain = plain-act g act is_act
 
   -- what the processor runs is a task of its cluster
   runs-home : (u : ℕ) → (cpu_of k q).runs ≡ Some u → has u (tasks_of g (cluster_with g q)) ≡ true
@@ -167,6 +207,7 @@ module _ (v : Standing) (room : ℕ) (fit : IsFit (group_of v) v.facts room v.sp
   pub can_act : 0 < v.spare → CanAct p q v.facts
   can_act some = record {
     read = read-more (MOST_STEPS - v.spare) (MOST_STEPS - 1) p k (omega arith) fit.read;
+    keys = have-bases p k s fit.based;
     places = all-places v room fit;
     same_length = fit.all_clusters;
     home = home-there v room fit q of.inside;
@@ -174,65 +215,125 @@ module _ (v : Standing) (room : ℕ) (fit : IsFit (group_of v) v.facts room v.sp
     runs_task = λ u r. let n = runs-range u r in let a = fit.read.all in (n.0, omega (arith, n.1, a));
   }
 
+  pub may_act : MayAct p q act v.facts
+  may_act = may-act g plugin past at.reachable fit.valid q v.facts at.kept at.sems_are of.inside act is_act
+
   abbrev reply : Reply
   reply = reply_in p q act v.facts
 
   pub reply-is : reply ≡ answer g q act past
-  reply-is = reply-read g fit.built past at.reachable fit.valid q act v.facts is_act at.kept of (linked-there v room fit q of.inside past at)
+  reply-is = reply-read g plugin past at.reachable fit.valid q v.facts at.kept at.sems_are of.inside act is_act of (linked-there v room fit q of.inside past at)
 
   ended-is : ended_now p q act reply v.facts ≡ ended_in g (past_act g q act past) past
-  ended-is = ended-read g fit.built past at.reachable fit.valid q act v.facts is_act at.kept of.inside reply reply-is
+  ended-is = ap (λ (r : Reply). ended_now p q act r v.facts) reply-is ∙ ended-read g plugin past at.reachable fit.valid q v.facts at.kept at.sems_are of.inside act is_act
 
   abbrev k' : Kept
-  k' = kept_after p q act reply k
+  k' = kept_after p q act reply v.facts
+
+  abbrev s' : GroupSems
+  s' = sems_after p q act reply v.facts
 
   abbrev past' : Past
   past' = Acted (past_act g q act past) ∷ past
 
+  made' : IsReachable g past'
+  made' = acted q act at.reachable
+
   kept' : IsKept g past' k'
-  kept' = subst (λ (r : Reply). IsKept g past' (kept_after p q act r k)) (sym reply-is)
-      (kept_after_act g past fit.valid at.reachable q act true k of (holds-none g fit.built past at.reachable fit.valid q act v.facts is_act at.kept) at.kept)
+  kept' = subst (λ (r : Reply). IsKept g past' (kept_after p q act r v.facts)) (sym reply-is)
+      (kept_after_act g past fit.valid at.reachable q act (none_after p q act (answer g q act past) v.facts) k of
+      (none-held g plugin past at.reachable fit.valid q v.facts at.kept at.sems_are of.inside act is_act) at.kept)
 
-  abbrev o : Option ℕ
-  o = touched p q act reply k
+  based' : AreBased p k' s'
+  based' = based-after p q v.facts fit.based act reply plain (λ u r. (runs-range u r).0)
 
-  still : (c : ℕ) → is c o ≡ false → IsStill p k k' (tasks_of g c) (first_cpu g c) (cpus g c)
-  still c out = still-after g q k (cpu-there v room fit q of.inside) fit.read.all runs-home c act reply (λ t e. arrives t e) (λ op e a. done op e a) out
+  sems' : KeepsGroupSems g past' s'
+  sems' = sems-retold g plugin past' k' kept' (if accepted reply then told_by act (cpu_of k q).runs else None) (asked p q act reply v.facts)
+      (subst (λ (r : Reply). KeepsLocks g past' (asked p q act r v.facts)) (sym reply-is) (locks-kept g plugin past at.reachable fit.valid q v.facts at.kept at.sems_are of.inside act is_act))
+      based'
+
+  abbrev w : Placing
+  w = placing p q act reply v.facts
+
+  -- ---- clusters that are not placed afresh
+
+  still : (c : ℕ) → is_placed c w ≡ false → IsStill p k k' (tasks_of g c) (first_cpu g c) (cpus g c)
+  still c out = still-after g q k (none_after p q act reply v.facts) (cpu-there v room fit q of.inside) fit.read.all runs-home c act reply (λ t e. arrives t e) (λ op e n a. done op e n a) out
     where
       arrives : (t : TaskNo) → act ≡ acts.Arrive t → has t.0 (tasks_of g (task_in p.tasks t.0).cluster.0) ≡ true
       arrives t e = home-read g t.0 (of.arrives_in t.0 (ap arriving e))
 
-      done : (op : Op) → act ≡ acts.Do op → accepted reply ≡ true → reply ≡ replies.Done
-      done op e a = ap (λ (x : Act). reply_in p q x v.facts) e ∙ op-done op (cpu_of k q).runs q k (sym (ap (λ (x : Act). accepted (reply_in p q x v.facts)) e) ∙ a)
+      done : (op : Op) → act ≡ acts.Do op → is_at_sem (acts.Do op) ≡ false → accepted reply ≡ true → reply ≡ replies.Done
+      done op e n a = ap (λ (x : Act). reply_in p q x v.facts) e ∙ op-done g q op (cpu_of k q).runs v.facts n (sym (ap (λ (x : Act). accepted (reply_in p q x v.facts)) e) ∙ a)
+
+  -- then the act does nothing at a semaphore
+  quiet : (c : ℕ) → is_placed c w ≡ false → sem_act (Acted (past_act g q act past)) ≡ Neither
+  quiet c out = by_sem (is_at_sem act) refl
+    where
+      by_act : (a : Act) → is_at_sem a ≡ true → (o : Option ℕ) → runs q past ≡ o → is_placed c (placing_by p q a o (none_after p q act reply v.facts) k) ≡ false → accepted (answer g q a past) ≡ false
+      by_act acts.Tick n o r h = cc
+      by_act acts.Irq n o r h = cc
+      by_act (acts.Arrive t) n o r h = cc
+      by_act (acts.Do op) n None r h = idle-refused g q op past r
+      by_act (acts.Do op) n (Some t) r h = let all : is_placed c (if is_at_sem (acts.Do op) then AllClusters else (if ends_in p op t k (none_after p q act reply v.facts) || is_sleep op then OneCluster (home_of p q) else NoCluster)) ≡ false = h in let m : true ≡ false = rw n at all in cc
+
+      refused : (b : Bool) → accepted (answer g q act past) ≡ b → is_at_sem act ≡ true → is_placed c (if b then placing_by p q act (cpu_of k q).runs (none_after p q act reply v.facts) k else NoCluster) ≡ false
+          → accepted (answer g q act past) ≡ false
+      refused true e n h = by_act act n (cpu_of k q).runs (sym (runs-there v room fit q of.inside past at)) h
+      refused false e n h = e
+
+      by_sem : (b : Bool) → is_at_sem act ≡ b → sem_act (Acted (past_act g q act past)) ≡ Neither
+      by_sem true n =
+          let none : Bool = none_after p q act reply v.facts in
+          refused_act_is_quiet g q act past
+          (refused (accepted (answer g q act past)) refl n (subst (λ (r : Reply). is_placed c (if accepted r then placing_by p q act (cpu_of k q).runs none k else NoCluster) ≡ false) reply-is out))
+      by_sem false n = other_act_is_quiet g q act past n
+
+  standing : (c : ℕ) → is_placed c w ≡ false → (t : ℕ) → has t (tasks_of g c) ≡ true → SameStanding g t past past'
+  standing c out t h =
+      let st = still c out in
+      let member : has t (tasks g) ≡ true = (tasks_of-home g c t h).0 in
+      let base : base_key g t past' ≡ base_key g t past = base-read g plugin past' k' kept' t member ∙ st.bases t h ∙ sym (base-read g plugin past k at.kept t member) in
+      let calm : sem_act (Acted (past_act g q act past)) ≡ Neither = quiet c out in
+      record {
+        eligible_same = ready-read g plugin past' k' kept' t member
+            ∙ rw (st.ready t h, awaits-quiet g t (Acted (past_act g q act past)) past calm) (sym (ready-read g plugin past k at.kept t member));
+        key_same = λ _. key-quiet g fit.valid (Acted (past_act g q act past)) past made' calm t base;
+      }
+
+  -- ---- the links
 
   abbrev f' : Facts
   f' = moves.acted p q act reply v.facts
 
-  links-acted : (c : ℕ) → has c (clusters g) ≡ true → c < length p.clusters → (b : Bool) → is c o ≡ b → (cluster_at f'.clusters c).links ≡ links g c past'
+  links-acted : (c : ℕ) → has c (clusters g) ≡ true → c < length p.clusters → (b : Bool) → is_placed c w ≡ b → (cluster_at f'.clusters c).links ≡ links g c past'
   links-acted c there inside true e =
-      rw (at-placed p k' o cs c (let n = fit.all_clusters in omega (arith, n, inside)) e)
-      (links-placed g c (Acted (past_act g q act past)) past (cluster_at cs c) k k' (fit.clusters_are c inside) (at.links_are c there)
-      (top-read g fit.built past' k' kept' c) (runs-read g fit.built past' k' kept' c there))
+      rw (at-placed p k' s' w cs c (let n = fit.all_clusters in omega (arith, n, inside)) e)
+      (links-placed g c (Acted (past_act g q act past)) past (cluster_at cs c) k k' s' (fit.clusters_are c inside) (at.links_are c there)
+      (top-read g plugin past' k' kept' fit.valid made' s' sems' c) (runs-read g plugin past' k' kept' c there))
   links-acted c there inside false e =
-      let s = still c e in
-      let tops : top g c past' ≡ top g c past = top-read g fit.built past' k' kept' c ∙ top-same (cpus g c) p k k' (tasks_of g c) s.candidates s.keys ∙ sym (top-read g fit.built past k at.kept c) in
-      let running_same : runs_of g c past' ≡ runs_of g c past = runs-read g fit.built past' k' kept' c there ∙ s.runs ∙ sym (runs-read g fit.built past k at.kept c there) in
-      rw (at-others p k' o cs c e) (at.links_are c there ∙ sym (links-stay g c (Acted (past_act g q act past)) past at.reachable tops running_same))
+      let running_same : runs_of g c past' ≡ runs_of g c past = runs-read g plugin past' k' kept' c there ∙ (still c e).runs ∙ sym (runs-read g plugin past k at.kept c there) in
+      let same : SameCluster g c past past' = cluster-stays g c (Acted (past_act g q act past)) past at.reachable (standing c e) running_same in
+      rw (at-others p k' s' w cs c e) (at.links_are c there ∙ sym same.links_same)
 
-  pub at-acted : (spare : ℕ) → IsAt (record v { facts = f'; spare = spare; ended = ended_now p q act reply v.facts }) past'
-  at-acted spare = record {
-    reachable = acted q act at.reachable;
+  few' : (spare : ℕ) → 0 < v.spare → spare ≡ v.spare - 1 → entries_in past' + spare ≤ MOST_STEPS
+  few' spare some e = let n = at.few in omega (arith, n, some, e)
+
+  pub at-acted : (spare : ℕ) → 0 < v.spare → spare ≡ v.spare - 1 → IsAt (record v { facts = f'; spare = spare; ended = ended_now p q act reply v.facts }) past'
+  at-acted spare some e = record {
+    reachable = made';
+    few = few' spare some e;
     kept = kept';
-    links_are = λ c there. links-acted c there (cluster-inside g c there) (is c o) refl;
+    sems_are = sems';
+    links_are = λ c there. links-acted c there (cluster-inside g c there) (is_placed c w) refl;
     ended_is = ended-is;
   }
 
-  cluster-acted : (c : ℕ) → c < length p.clusters → (b : Bool) → is c o ≡ b → IsClusterOf g k' c (cluster_at f'.clusters c)
-  cluster-acted c inside true e = rw (at-placed p k' o cs c (let n = fit.all_clusters in omega (arith, n, inside)) e) (fit-relinked g c (cluster_at cs c) k k' (fit.clusters_are c inside))
+  cluster-acted : (c : ℕ) → c < length p.clusters → (b : Bool) → is_placed c w ≡ b → IsClusterOf g k' c (cluster_at f'.clusters c)
+  cluster-acted c inside true e = rw (at-placed p k' s' w cs c (let n = fit.all_clusters in omega (arith, n, inside)) e) (fit-relinked g c (cluster_at cs c) k k' s' (fit.clusters_are c inside))
   cluster-acted c inside false e =
       let is = fit.clusters_are c inside in
-      let s = still c e in
-      rw (at-others p k' o cs c e) (fit-stays g c (cluster_at cs c) k k' is (λ t h. s.timers t (rw is.tasks_are at h)))
+      rw (at-others p k' s' w cs c e) (fit-stays g c (cluster_at cs c) k k' is (λ t h. (still c e).timers t (rw is.tasks_are at h)))
 
   pub fit-acted : (room' : ℕ) → 0 < v.spare → room ≤ room' + 1 → IsFit g f' room' (v.spare - 1)
   fit-acted room' some left = record {
@@ -240,10 +341,11 @@ module _ (v : Standing) (room : ℕ) (fit : IsFit (group_of v) v.facts room v.sp
     built = fit.built;
     limit = let l = fit.limit in omega (arith, l);
     room_left = let l = fit.room_left in omega (arith, l, left, some);
-    read = read-acted (MOST_STEPS - v.spare) (MOST_STEPS - (v.spare - 1)) p k (let l = fit.limit in omega (arith, l, some)) fit.read q act reply plain runs-range;
-    all_cpus = cpus-acted p q act reply k ∙ fit.all_cpus;
-    all_clusters = length-placed_afresh p k' o cs ∙ fit.all_clusters;
-    clusters_are = λ c inside. cluster-acted c inside (is c o) refl;
+    read = read-acted (MOST_STEPS - v.spare) (MOST_STEPS - (v.spare - 1)) p k (let l = fit.limit in omega (arith, l, some)) fit.read q act reply (none_after p q act reply v.facts) plain runs-range;
+    based = based';
+    all_cpus = cpus-acted p q act reply (none_after p q act reply v.facts) k ∙ fit.all_cpus;
+    all_clusters = length-placed_afresh p k' s' w cs ∙ fit.all_clusters;
+    clusters_are = λ c inside. cluster-acted c inside (is_placed c w) refl;
   }
 
 pub step-inside : (g : Group) (q : ℕ) (act : Act) → has q (group_processors g) ≡ true → IsActOf g act → IsOfGroup g q act

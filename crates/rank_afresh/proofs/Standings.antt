@@ -3,6 +3,7 @@ use Rattle.std.proofs.Common.{◌≡◌, ℕ, ◌-◌, ◌<◌, max, Bool, true,
 use Rattle.std.specs.Prelude.{All, None, if◌then◌else◌, nat_lt}
 use Rattle.std.proofs.lemmas.List.{length-map}
 use Rattle.rt_base.specs.declared.TheConstants.{MOST_STEPS, TICK_END}
+use Rattle.rt_task.specs.RuleWords.{is_p_res}
 use Rattle.rt_task.specs.declared.Parts.{Parts}
 use Rattle.rt_rules.specs.Numbers.{has}
 use Rattle.rt_rules.specs.Placing.{at_place, placed}
@@ -12,17 +13,21 @@ use Rattle.rt_model.specs.Group.{Group, cluster_with, clusters, cpus, first_cpu}
 use Rattle.rt_model.specs.Group as groups
 use Rattle.rt_model.specs.Links.{linked, links, runs_of}
 use Rattle.rt_model.specs.Past.{Clock, Event, Past}
-use Rattle.rt_model.specs.Reachable.{clocked}
+use Rattle.rt_model.specs.Reachable.{IsReachable, clocked}
 use Rattle.rt_model.specs.Runs.{runs}
 use Rattle.rt_model.specs.Tops.{top}
 use Rattle.rt_model.proofs.Steps.{links-step}
 use Rattle.rt_plays.specs.Homes.{IsProcessorOf}
 use Rattle.rt_groups.specs.Places.{IsAtHome}
 use Rattle.rt_groups.proofs.GroupPlaces.{processors_are_at_home}
+use Rattle.rt_groups.proofs.NoSems.{built-unreserved}
 use Rattle.rank_changes.proofs.SameClusters.{links-stay, runs-clock}
 use Rattle.group_facts.specs.Facts.{CpuFacts}
 use Rattle.group_facts.specs.Kept.{IsKept, Kept, cpu_of, with_clock}
 use Rattle.group_facts.proofs.KeptMoves.{kept_after_clock}
+use Rattle.group_sems.specs.GroupSems.{GroupSems}
+use Rattle.group_sem_laws.specs.Kept.{KeepsGroupSems}
+use Rattle.group_sem_laws.proofs.Quiet.{quiet_is_kept}
 use Rattle.rank_afresh.specs.Clusters.{CanPlace, ClusterFacts, HasCpu, followed, relinked, runs_in}
 use Rattle.rank_afresh.specs.Facts.{CanFollow, Facts, cluster_at, home_of, link_in}
 use Rattle.rank_afresh.specs.Facts as moves
@@ -30,26 +35,27 @@ use Rattle.rank_afresh.specs.Ranks.{is_candidate, key_in, top_in}
 use Rattle.rank_afresh.specs.Standing.{IsAt, IsClusterOf, IsFit, Standing, group_of}
 use Rattle.rank_afresh.proofs.ClockSteps.{candidate-later}
 use Rattle.rank_afresh.proofs.Counting.{read-clock, read-more}
-use Rattle.rank_afresh.proofs.Fitting.{at-followed, fit-followed, places-of}
-use Rattle.rank_afresh.proofs.ModelWords.{runs-read, top-read}
+use Rattle.rank_afresh.proofs.Bases.{have-bases}
+use Rattle.rank_afresh.proofs.Fitting.{at-each, fit-followed, places-of}
+use Rattle.rank_afresh.proofs.ModelWords.{keeps-bases, runs-read, top-read}
 use Rattle.rank_afresh.proofs.SetLists.{cluster-inside, cluster-within}
 
 -- ---- the links of a cluster after a move
 
 -- it was placed afresh
-pub links-placed : (g : Group) (c : ℕ) (e : Event) (past : Past) (x : ClusterFacts) (before k : Kept) → IsClusterOf g before c x → x.links ≡ links g c past
-    → top g c (e ∷ past) ≡ top_in (cpus g c) g.setup k (groups.tasks_of g c) → runs_of g c (e ∷ past) ≡ runs_in k (first_cpu g c) (cpus g c)
-    → (relinked g.setup k x).links ≡ links g c (e ∷ past)
-links-placed g c e past x before k is was tops running =
-    let here : (relinked g.setup k x).links ≡ placed (top_in (cpus g c) g.setup k (groups.tasks_of g c)) (runs_in k (first_cpu g c) (cpus g c)) x.links =
+pub links-placed : (g : Group) (c : ℕ) (e : Event) (past : Past) (x : ClusterFacts) (before k : Kept) (s : GroupSems) → IsClusterOf g before c x → x.links ≡ links g c past
+    → top g c (e ∷ past) ≡ top_in (cpus g c) g.setup k s (groups.tasks_of g c) → runs_of g c (e ∷ past) ≡ runs_in k (first_cpu g c) (cpus g c)
+    → (relinked g.setup k s x).links ≡ links g c (e ∷ past)
+links-placed g c e past x before k s is was tops running =
+    let here : (relinked g.setup k s x).links ≡ placed (top_in (cpus g c) g.setup k s (groups.tasks_of g c)) (runs_in k (first_cpu g c) (cpus g c)) x.links =
     rw (is.links_length, is.tasks_are, is.first_is) refl in
     here ∙ rw (← tops, ← running, was) (sym (links-step g c e past))
 
 -- the same tasks are ranked by the same keys
-pub top-same : (m : ℕ) (p : Parts) (k k' : Kept) (ts : List ℕ) → ((t : ℕ) → has t ts ≡ true → is_candidate p k' t ≡ is_candidate p k t)
-    → ((t : ℕ) → has t ts ≡ true → key_in p k' t ≡ key_in p k t) → top_in m p k' ts ≡ top_in m p k ts
-top-same m p k k' ts tests keys =
-    ap (λ rs. take m (tasks_of rs)) (ranked_by-same (key_in p k') (key_in p k) (is_candidate p k') (is_candidate p k) ts tests (λ t h e. keys t h))
+pub top-same : (m : ℕ) (p : Parts) (k k' : Kept) (s s' : GroupSems) (ts : List ℕ) → ((t : ℕ) → has t ts ≡ true → is_candidate p k' s' t ≡ is_candidate p k s t)
+    → ((t : ℕ) → has t ts ≡ true → key_in s' t ≡ key_in s t) → top_in m p k' s' ts ≡ top_in m p k s ts
+top-same m p k k' s s' ts tests keys =
+    ap (λ rs. take m (tasks_of rs)) (ranked_by-same (key_in s') (key_in s) (is_candidate p k' s') (is_candidate p k s) ts tests (λ t h e. keys t h))
 
 module _ (v : Standing) (room : ℕ) (fit : IsFit (group_of v) v.facts room v.spare) where
   abbrev g : Group
@@ -60,6 +66,12 @@ module _ (v : Standing) (room : ℕ) (fit : IsFit (group_of v) v.facts room v.sp
 
   abbrev k : Kept
   k = v.facts.kept
+
+  abbrev s : GroupSems
+  s = v.facts.sems
+
+  pub unreserved : is_p_res g.setup.plugin ≡ false
+  unreserved = built-unreserved g.setup fit.built
 
   -- ---- processors
 
@@ -98,7 +110,7 @@ module _ (v : Standing) (room : ℕ) (fit : IsFit (group_of v) v.facts room v.sp
   all-places = places-of g k cs fit.all_clusters fit.all_cpus fit.clusters_are
 
   pub can_follow : CanFollow v.setup v.facts
-  can_follow = record { read = read-more (MOST_STEPS - v.spare) MOST_STEPS v.setup k (omega arith) fit.read; places = all-places }
+  can_follow = record { read = read-more (MOST_STEPS - v.spare) MOST_STEPS v.setup k (omega arith) fit.read; keys = have-bases v.setup k s fit.based; places = all-places }
 
   module _ (tick : ℕ) where
     abbrev k' : Kept
@@ -107,8 +119,8 @@ module _ (v : Standing) (room : ℕ) (fit : IsFit (group_of v) v.facts room v.sp
     abbrev f' : Facts
     f' = moves.clocked v.setup tick v.facts
 
-    clusters-follow : (c : ℕ) → c < length v.setup.clusters → cluster_at f'.clusters c ≡ followed v.setup k' (cluster_at cs c)
-    clusters-follow c inside = at-followed v.setup k' cs c (let n = fit.all_clusters in omega (arith, n, inside))
+    clusters-follow : (c : ℕ) → c < length v.setup.clusters → cluster_at f'.clusters c ≡ followed v.setup k' s (cluster_at cs c)
+    clusters-follow c inside = at-each (followed v.setup k' s) cs c (let n = fit.all_clusters in omega (arith, n, inside))
 
     pub fit-clock : tick < TICK_END → IsFit g f' room v.spare
     fit-clock low = record {
@@ -117,33 +129,45 @@ module _ (v : Standing) (room : ℕ) (fit : IsFit (group_of v) v.facts room v.sp
       limit = fit.limit;
       room_left = fit.room_left;
       read = read-clock (MOST_STEPS - v.spare) (MOST_STEPS - v.spare) v.setup k (omega arith) fit.read tick low;
+      based = record { room = fit.based.room; are = fit.based.are };
       all_cpus = fit.all_cpus;
-      all_clusters = length-map cs (followed v.setup k') ∙ fit.all_clusters;
-      clusters_are = λ c inside. rw (clusters-follow c inside) (fit-followed g c (cluster_at cs c) k tick (fit.clusters_are c inside));
+      all_clusters = length-map cs (followed v.setup k' s) ∙ fit.all_clusters;
+      clusters_are = λ c inside. rw (clusters-follow c inside) (fit-followed g c (cluster_at cs c) k s tick (fit.clusters_are c inside));
     }
 
     module _ (past : Past) (at : IsAt v past) where
       kept' : IsKept g (Clock tick ∷ past) k'
       kept' = kept_after_clock g past fit.valid at.reachable tick k at.kept
 
+      made' : IsReachable g (Clock tick ∷ past)
+      made' = clocked tick at.reachable
+
+      sems' : KeepsGroupSems g (Clock tick ∷ past) s
+      sems' = record {
+        locks = quiet_is_kept g (Clock tick) past fit.valid made' s refl at.sems_are.locks;
+        bases = keeps-bases g unreserved (Clock tick ∷ past) k' kept' s (record { room = fit.based.room; are = fit.based.are });
+      }
+
       links-clock : (c : ℕ) → has c (clusters g) ≡ true → c < length v.setup.clusters → (b : Bool) → nat_lt k'.clock (cluster_at cs c).next ≡ b
-          → (if b then cluster_at cs c else relinked v.setup k' (cluster_at cs c)).links ≡ links g c (Clock tick ∷ past)
+          → (if b then cluster_at cs c else relinked v.setup k' s (cluster_at cs c)).links ≡ links g c (Clock tick ∷ past)
       links-clock c there inside true e =
           let is = fit.clusters_are c inside in
           let next : max k.clock tick < (cluster_at cs c).next = ltb-true _ _ e in
           let tops : top g c (Clock tick ∷ past) ≡ top g c past =
-          top-read g fit.built (Clock tick ∷ past) k' kept' c
-          ∙ top-same (cpus g c) v.setup k k' (groups.tasks_of g c) (λ t h. candidate-later v.setup k tick (cluster_at cs c).next next t (λ n f. is.next_is t n (rw is.tasks_are h) f)) (λ t h. refl)
-          ∙ sym (top-read g fit.built past k at.kept c) in
+          top-read g unreserved (Clock tick ∷ past) k' kept' fit.valid made' s sems' c
+          ∙ top-same (cpus g c) v.setup k k' s s (groups.tasks_of g c) (λ t h. candidate-later v.setup k s tick (cluster_at cs c).next next t (λ n f. is.next_is t n (rw is.tasks_are h) f)) (λ t h. refl)
+          ∙ sym (top-read g unreserved past k at.kept fit.valid at.reachable s at.sems_are c) in
           at.links_are c there ∙ sym (links-stay g c (Clock tick) past at.reachable tops (runs-clock g c tick past))
       links-clock c there inside false e =
-          links-placed g c (Clock tick) past (cluster_at cs c) k k' (fit.clusters_are c inside) (at.links_are c there)
-          (top-read g fit.built (Clock tick ∷ past) k' kept' c) (runs-read g fit.built (Clock tick ∷ past) k' kept' c there)
+          links-placed g c (Clock tick) past (cluster_at cs c) k k' s (fit.clusters_are c inside) (at.links_are c there)
+          (top-read g unreserved (Clock tick ∷ past) k' kept' fit.valid made' s sems' c) (runs-read g unreserved (Clock tick ∷ past) k' kept' c there)
 
       pub at-clock : IsAt (record v { facts = f'; ended = None }) (Clock tick ∷ past)
       at-clock = record {
-        reachable = clocked tick at.reachable;
+        reachable = made';
+        few = at.few;
         kept = kept';
+        sems_are = sems';
         links_are = λ c there.
             let inside : c < length v.setup.clusters = cluster-inside g c there in
             rw (clusters-follow c inside) (links-clock c there inside (nat_lt k'.clock (cluster_at cs c).next) refl);

@@ -15,7 +15,7 @@ use Rattle.rt_task.specs.declared.Task.{Task}
 use Rattle.rt_order.specs.declared.Key.{Key}
 use Rattle.rt_history.specs.declared.Reply.{Reply}
 use Rattle.rt_history.specs.declared.Reply.TheVariants as replies
-use Rattle.rt_rules.specs.Numbers.{has, is, numbers_from}
+use Rattle.rt_rules.specs.Numbers.{has, numbers_from}
 use Rattle.rt_rules.proofs.BoolLaws.{clash, neither}
 use Rattle.rt_rules.proofs.MemberLaws.{equal_self}
 use Rattle.rt_model.specs.Group.{Group, cluster_with, cpus, first_cpu, home, processors, task, tasks_of}
@@ -24,7 +24,8 @@ use Rattle.rt_model.specs.Releases.{has_come}
 use Rattle.rt_model.proofs.PastLaws.{processor-home}
 use Rattle.rt_laws.proofs.GroupLaws.{tasks_of-home}
 use Rattle.group_facts.specs.Facts.{CpuFacts, JobFacts, idle_cpu, no_job}
-use Rattle.group_facts.specs.Kept.{Kept, after_act, cpu_of, has_arrived, has_operated, interrupted, job_of, with_cpu, with_job}
+use Rattle.rt_changes.specs.SemActs.{is_at_sem}
+use Rattle.group_facts.specs.Kept.{Kept, after_act, has_acted, cpu_of, has_arrived, has_operated, interrupted, job_of, with_cpu, with_job}
 use Rattle.group_facts.specs.Moves.{after_op, cpu_after, op_done}
 use Rattle.group_facts.specs.Timers.{is_sleep, timer}
 use Rattle.group_facts.specs.Words.{deadline_of, is_ready, key_of, release_by_kind, release_of}
@@ -32,33 +33,43 @@ use Rattle.group_facts.proofs.KeptMoves.{task-range}
 use Rattle.group_facts.proofs.TimerMoves.{timer_stays}
 use Rattle.group_jobs.specs.GroupJobs.{task_in}
 use Rattle.rank_afresh.specs.Clusters.{runs_in}
-use Rattle.rank_afresh.specs.Facts.{ends_in, home_of, kept_after, touched, touched_by}
-use Rattle.rank_afresh.specs.Ranks.{is_candidate, key_in, timer_in}
+use Rattle.rank_afresh.specs.Facts.{AllClusters, NoCluster, OneCluster, Placing, ends_in, home_of, placing_by}
+use Rattle.rank_afresh.specs.Ranks.{base_in, timer_in}
 use Rattle.rank_afresh.proofs.ModelWords.{map-same}
+
+-- whether the current job of a task is ready
+abbrev pub ready_in : Parts → Kept → ℕ → Bool
+ready_in p k t = is_ready k.clock (task_in p.tasks t) (job_of k t)
+
+-- whether a cluster is placed afresh
+abbrev pub is_placed : ℕ → Placing → Bool
+is_placed c NoCluster = false
+is_placed c (OneCluster d) = c == d
+is_placed c AllClusters = true
 
 -- of a cluster with these tasks, and n processors from the first on
 pub record IsStill (p : Parts) (k k' : Kept) (ts : List ℕ) (first n : ℕ) : Type 0 where
-  pub candidates : (t : ℕ) → has t ts ≡ true → is_candidate p k' t ≡ is_candidate p k t
-  pub keys : (t : ℕ) → has t ts ≡ true → key_in p k' t ≡ key_in p k t
+  pub ready : (t : ℕ) → has t ts ≡ true → ready_in p k' t ≡ ready_in p k t
+  pub bases : (t : ℕ) → has t ts ≡ true → base_in p k' t ≡ base_in p k t
   pub timers : (t : ℕ) → has t ts ≡ true → timer_in p k' t ≡ timer_in p k t
   pub runs : runs_in k' first n ≡ runs_in k first n
 
 still-same : (p : Parts) (k : Kept) (ts : List ℕ) (first n : ℕ) → IsStill p k k ts first n
-still-same p k ts first n = record { candidates = λ t h. refl; keys = λ t h. refl; timers = λ t h. refl; runs = refl }
+still-same p k ts first n = record { ready = λ t h. refl; bases = λ t h. refl; timers = λ t h. refl; runs = refl }
 
 -- the jobs of its tasks are the same
 still-jobs : (p : Parts) (k k' : Kept) (ts : List ℕ) (first n : ℕ) → k'.clock ≡ k.clock → ((t : ℕ) → has t ts ≡ true → job_of k' t ≡ job_of k t)
     → runs_in k' first n ≡ runs_in k first n → IsStill p k k' ts first n
 still-jobs p k k' ts first n clock jobs running = record {
-  candidates = λ t h. ap (λ x. is_ready x (task_in p.tasks t) (job_of k' t)) clock ∙ ap (λ j. is_ready k.clock (task_in p.tasks t) j) (jobs t h);
-  keys = λ t h. ap (λ j. key_of (record { setup = p; number = 0 }) p.plugin t j) (jobs t h);
+  ready = λ t h. ap (λ x. is_ready x (task_in p.tasks t) (job_of k' t)) clock ∙ ap (λ j. is_ready k.clock (task_in p.tasks t) j) (jobs t h);
+  bases = λ t h. ap (λ j. key_of (record { setup = p; number = 0 }) p.plugin t j) (jobs t h);
   timers = λ t h. ap (λ x. timer x (task_in p.tasks t) (job_of k' t)) clock ∙ ap (λ j. timer k.clock (task_in p.tasks t) j) (jobs t h);
   runs = running;
 }
 
 -- ---- one job or one processor is new
 
-job-other : (k : Kept) (u t : ℕ) (job : JobFacts) → 1 ≤ u → 1 ≤ t → t ≢ u → job_of (with_job u job k) t ≡ job_of k t
+pub job-other : (k : Kept) (u t : ℕ) (job : JobFacts) → 1 ≤ u → 1 ≤ t → t ≢ u → job_of (with_job u job k) t ≡ job_of k t
 job-other k u t job low low' apart = let ne : t - 1 ≢ u - 1 = omega (arith, low, low', apart) in get_or-set_other k.jobs (u - 1) (t - 1) job no_job ne
 
 runs-other : (k : Kept) (q : ℕ) (cpu : CpuFacts) (first n : ℕ) → ((r : ℕ) → has r (numbers_from first n) ≡ true → r ≢ q) → runs_in (with_cpu q cpu k) first n ≡ runs_in k first n
@@ -125,7 +136,7 @@ runs-on clock ops.End cpu h = refl
 
 -- ---- a processor's acts, and a cluster
 
-module _ (g : Group) (q : ℕ) (k : Kept) (inside : q < length k.cpus) (count : length g.setup.tasks ≡ length k.jobs)
+module _ (g : Group) (q : ℕ) (k : Kept) (none : Bool) (inside : q < length k.cpus) (count : length g.setup.tasks ≡ length k.jobs)
     (at_home : (u : ℕ) → (cpu_of k q).runs ≡ Some u → (has u (tasks_of g (cluster_with g q)) ≡ true)) (c : ℕ) where
   abbrev p : Parts
   p = g.setup
@@ -154,17 +165,17 @@ module _ (g : Group) (q : ℕ) (k : Kept) (inside : q < length k.cpus) (count : 
       (λ t h. job-other k u t _ (low u d there) (low t c h) (tasks-apart u d there other t h)) refl
 
   module _ (u : ℕ) (op : Op) (runs : (cpu_of k q).runs ≡ Some u) where
-    still-elsewhere : (reply : Reply) → (cluster_with g q ≡ c → ⊥) → Still (has_operated p.tasks q u op reply true k)
-    still-elsewhere reply other = still-jobs p k (has_operated p.tasks q u op reply true k) (tasks_of g c) (first_cpu g c) (cpus g c) refl
+    still-elsewhere : (reply : Reply) → (cluster_with g q ≡ c → ⊥) → Still (has_operated p.tasks q u op reply none k)
+    still-elsewhere reply other = still-jobs p k (has_operated p.tasks q u op reply none k) (tasks_of g c) (first_cpu g c) (cpus g c) refl
         (λ t h. job-other k u t _ (low u (cluster_with g q) (at_home u runs)) (low t c h) (tasks-apart u (cluster_with g q) (at_home u runs) other t h))
         (runs-other k q _ (first_cpu g c) (cpus g c) (cpus-apart other))
 
-    module _ (goes_on : ends_in p op u k ≡ false) (awake : is_sleep op ≡ false) where
+    module _ (goes_on : ends_in p op u k none ≡ false) (awake : is_sleep op ≡ false) where
       abbrev job : JobFacts
       job = op_done k.clock op (job_of k u)
 
       abbrev k' : Kept
-      k' = has_operated p.tasks q u op replies.Done true k
+      k' = has_operated p.tasks q u op replies.Done none k
 
       job-here : job_of k' u ≡ job
       job-here =
@@ -185,13 +196,13 @@ module _ (g : Group) (q : ℕ) (k : Kept) (inside : q < length k.cpus) (count : 
 
       still-here : Still k'
       still-here = record {
-        candidates = λ t h. read-same (is_ready k.clock (task_in p.tasks t)) t h (λ s. ready-same k.clock (task_in p.tasks t) op (job_of k u) awake ∙ ap (λ n. is_ready k.clock (task_in p.tasks t) (job_of k n)) (sym s));
-        keys = λ t h. read-same (key_of (record { setup = p; number = 0 }) p.plugin t) t h (λ s. key-same (record { setup = p; number = 0 }) p.plugin t k.clock op (job_of k u) ∙ ap (λ n. key_of (record { setup = p; number = 0 }) p.plugin t (job_of k n)) (sym s));
+        ready = λ t h. read-same (is_ready k.clock (task_in p.tasks t)) t h (λ s. ready-same k.clock (task_in p.tasks t) op (job_of k u) awake ∙ ap (λ n. is_ready k.clock (task_in p.tasks t) (job_of k n)) (sym s));
+        bases = λ t h. read-same (key_of (record { setup = p; number = 0 }) p.plugin t) t h (λ s. key-same (record { setup = p; number = 0 }) p.plugin t k.clock op (job_of k u) ∙ ap (λ n. key_of (record { setup = p; number = 0 }) p.plugin t (job_of k n)) (sym s));
         timers = λ t h. read-same (timer k.clock (task_in p.tasks t)) t h (λ s. timer_stays k.clock (task_in p.tasks t) op (job_of k u) awake ∙ ap (λ n. timer k.clock (task_in p.tasks t) (job_of k n)) (sym s));
         runs =
-            let cpu : CpuFacts = cpu_after k.clock (acts.Do op) replies.Done (ends_in p op u k) (cpu_of k q) in
+            let cpu : CpuFacts = cpu_after k.clock (acts.Do op) replies.Done (ends_in p op u k none) (cpu_of k q) in
             let running : cpu.runs ≡ (cpu_of k q).runs = rw goes_on (runs-on k.clock op (cpu_of k q) awake) in
-            runs-kept (with_job u (after_op (task_in p.tasks u) k.clock op true (job_of k u)) k) q cpu (first_cpu g c) (cpus g c) inside running;
+            runs-kept (with_job u (after_op (task_in p.tasks u) k.clock op none (job_of k u)) k) q cpu (first_cpu g c) (cpus g c) inside running;
       }
 
   -- ---- any act
@@ -200,19 +211,27 @@ module _ (g : Group) (q : ℕ) (k : Kept) (inside : q < length k.cpus) (count : 
   not-it d e s = let m : c == c ≡ false = rw s at e in clash _ (equal_self c) m
 
   abbrev StillAfter : Act → Reply → Option ℕ → Type 0
-  StillAfter act reply o = Still (after_act p.tasks q act o reply true k)
+  StillAfter act reply o = Still (after_act p.tasks q act o reply none k)
 
-  still-operated : (op : Op) (o : Option ℕ) (reply : Reply) → (cpu_of k q).runs ≡ o → reply ≡ replies.Done → is c (touched_by p q (acts.Do op) o k) ≡ false → StillAfter (acts.Do op) reply o
+  still-operated : (op : Op) (o : Option ℕ) (reply : Reply) → (cpu_of k q).runs ≡ o → (is_at_sem (acts.Do op) ≡ false → reply ≡ replies.Done)
+      → is_placed c (placing_by p q (acts.Do op) o none k) ≡ false → StillAfter (acts.Do op) reply o
   unfolding cluster_with
   still-operated op None reply r done out = still-same p k (tasks_of g c) (first_cpu g c) (cpus g c)
-  still-operated op (Some u) reply r done out = by_case (ends_in p op u k || is_sleep op) refl out
+  still-operated op (Some u) reply r done out = by_sem (is_at_sem (acts.Do op)) refl out
     where
-      by_case : (b : Bool) → ends_in p op u k || is_sleep op ≡ b → is c (if b then Some (home_of p q) else None) ≡ false → Still (has_operated p.tasks q u op reply true k)
-      by_case true e h = still-elsewhere u op r reply (not-it (home_of p q) h)
-      by_case false e h = let n = neither (ends_in p op u k) (is_sleep op) e in subst (λ x. Still (has_operated p.tasks q u op x true k)) (sym done) (still-here u op r n.0 n.1)
+      by_case : (b : Bool) → ends_in p op u k none || is_sleep op ≡ b → reply ≡ replies.Done → is_placed c (if b then OneCluster (home_of p q) else NoCluster) ≡ false
+          → Still (has_operated p.tasks q u op reply none k)
+      by_case true e d h = still-elsewhere u op r reply (not-it (home_of p q) h)
+      by_case false e d h = let n = neither (ends_in p op u k none) (is_sleep op) e in subst (λ x. Still (has_operated p.tasks q u op x none k)) (sym d) (still-here u op r n.0 n.1)
 
-  still-accepted : (act : Act) (reply : Reply) → ((t : TaskNo) → act ≡ acts.Arrive t → has t.0 (tasks_of g (task_in p.tasks t.0).cluster.0) ≡ true) → ((op : Op) → act ≡ acts.Do op → reply ≡ replies.Done)
-      → is c (touched_by p q act (cpu_of k q).runs k) ≡ false → StillAfter act reply (cpu_of k q).runs
+      by_sem : (b : Bool) → is_at_sem (acts.Do op) ≡ b → is_placed c (if b then AllClusters else (if ends_in p op u k none || is_sleep op then OneCluster (home_of p q) else NoCluster)) ≡ false
+          → Still (has_operated p.tasks q u op reply none k)
+      by_sem true e h = cc
+      by_sem false e h = by_case (ends_in p op u k none || is_sleep op) refl (done e) h
+
+  still-accepted : (act : Act) (reply : Reply) → ((t : TaskNo) → act ≡ acts.Arrive t → has t.0 (tasks_of g (task_in p.tasks t.0).cluster.0) ≡ true)
+      → ((op : Op) → act ≡ acts.Do op → is_at_sem (acts.Do op) ≡ false → reply ≡ replies.Done)
+      → is_placed c (placing_by p q act (cpu_of k q).runs none k) ≡ false → StillAfter act reply (cpu_of k q).runs
   unfolding cluster_with
   still-accepted acts.Tick reply arrives done out = still-same p k (tasks_of g c) (first_cpu g c) (cpus g c)
   still-accepted acts.Irq reply arrives done out = still-irq reply (not-it (home_of p q) out)
@@ -220,10 +239,11 @@ module _ (g : Group) (q : ℕ) (k : Kept) (inside : q < length k.cpus) (count : 
   still-accepted (acts.Do op) reply arrives done out = still-operated op (cpu_of k q).runs reply refl (done op refl) out
 
   pub still-after : (act : Act) (reply : Reply) → ((t : TaskNo) → act ≡ acts.Arrive t → has t.0 (tasks_of g (task_in p.tasks t.0).cluster.0) ≡ true)
-      → ((op : Op) → act ≡ acts.Do op → accepted reply ≡ true → reply ≡ replies.Done) → is c (touched p q act reply k) ≡ false → Still (kept_after p q act reply k)
+      → ((op : Op) → act ≡ acts.Do op → is_at_sem (acts.Do op) ≡ false → accepted reply ≡ true → reply ≡ replies.Done)
+      → is_placed c (if accepted reply then placing_by p q act (cpu_of k q).runs none k else NoCluster) ≡ false → Still (has_acted p.tasks q act reply none k)
   still-after act reply arrives done out = by_case (accepted reply) refl out
     where
-      by_case : (b : Bool) → accepted reply ≡ b → is c (if b then touched_by p q act (cpu_of k q).runs k else None) ≡ false
-          → Still (if b then after_act p.tasks q act (cpu_of k q).runs reply true k else k)
-      by_case true e h = still-accepted act reply arrives (λ op s. done op s e) h
+      by_case : (b : Bool) → accepted reply ≡ b → is_placed c (if b then placing_by p q act (cpu_of k q).runs none k else NoCluster) ≡ false
+          → Still (if b then after_act p.tasks q act (cpu_of k q).runs reply none k else k)
+      by_case true e h = still-accepted act reply arrives (λ op s plain. done op s plain e) h
       by_case false e h = still-same p k (tasks_of g c) (first_cpu g c) (cpus g c)

@@ -1,6 +1,6 @@
 -- The plain facts of a group, and what each move makes of them.
-use Rattle.std.specs.Prelude.{◌≡◌, ℕ, ◌-◌, ◌<◌, ◌≤◌, Bool, true, false, ◌||◌, List, All, length, map, Option, None, Some}
-use Rattle.std.specs.Prelude.{if◌then◌else◌, slice_index_or, slice_set, ⊤}
+use Rattle.std.specs.Prelude.{◌≡◌, ℕ, ◌+◌, ◌-◌, ◌<◌, ◌≤◌, Bool, true, false, ◌||◌, ◌==◌, List, All, length, map, Option, None, Some}
+use Rattle.std.specs.Prelude.{if◌then◌else◌, slice_index_or, slice_set, unwrap_or, ⊤}
 use Rattle.rt_base.specs.declared.TaskNo.{TaskNo}
 use Rattle.rt_base.specs.declared.TheConstants.{MOST_STEPS, TICK_END}
 use Rattle.rt_task.specs.declared.Act.{Act}
@@ -14,18 +14,29 @@ use Rattle.rt_rules.specs.Numbers.{numbers_from}
 use Rattle.rt_model.specs.Group.{Group, cluster_in, cpus, first_cpu, tasks_of}
 use Rattle.rt_model.specs.Past.{accepted}
 use Rattle.rt_plays.specs.Room.{processor_count}
-use Rattle.group_facts.specs.Kept.{Kept, cpu_of, has_acted, job_of, opened, with_clock}
+use Rattle.rt_changes.specs.SemActs.{is_at_sem}
+use Rattle.group_facts.specs.Kept.{Kept, cpu_of, has_acted, has_operated, job_of, opened, with_clock}
 use Rattle.group_facts.specs.Moves.{is_end}
 use Rattle.group_facts.specs.Replies.{arrival_reply, irq_reply, np_of}
 use Rattle.group_facts.specs.Timers.{is_sleep}
 use Rattle.group_facts.specs.Words.{is_late}
 use Rattle.group_jobs.specs.GroupJobs.{RunsTask, plain_reply, task_in}
+use Rattle.sem_table.specs.Asked.{is_granted}
+use Rattle.sem_table.specs.Opened.{IsOpened}
+use Rattle.sem_table.specs.Told.{held_of}
+use Rattle.mpcp_ceilings.specs.Ceilings.{AreCeilings}
+use Rattle.group_sems.specs.GroupSems.{GroupSems}
+use Rattle.group_sems.specs.Locking.{CanLock, CanUnlock, after_lock, after_unlock}
+use Rattle.group_sems.specs.Refusing.{AreSemsOf, lock_refusal, unlock_refusal}
+use Rattle.group_sem_laws.specs.Keeping.{rebased, untold}
 use Rattle.rank_afresh.specs.Clusters.{CanPlace, ClusterFacts, HasCpu, followed, link_at, no_facts, relinked, unlinked}
-use Rattle.rank_afresh.specs.Ranks.{CanRead}
+use Rattle.rank_afresh.specs.Ranks.{CanRead, HaveBases, base_in}
 
--- what is kept of jobs and processors, and the clusters of the set; those of other groups have no tasks
+-- what is kept of jobs and processors, and of the semaphores and keys; and the clusters of the set, of which those of other
+-- groups have no tasks
 pub record Facts : Type 0 where
   pub kept : Kept
+  pub sems : GroupSems
   pub clusters : List ClusterFacts
 
 -- with room for how many more arrivals
@@ -36,11 +47,22 @@ pub record WithRoom : Type 0 where
 abbrev pub cluster_at : List ClusterFacts → ℕ → ClusterFacts
 cluster_at cs c = slice_index_or cs c no_facts
 
+-- ---- base keys are told, of one task and of the first n
+
+abbrev pub based : Parts → Kept → ℕ → GroupSems → GroupSems
+based p k t v = record v { waits = record v.waits { bases = slice_set v.waits.bases t (Some (base_in p k t)) } }
+
+abbrev pub all_based : Parts → Kept → ℕ → GroupSems → GroupSems
+all_based p k n v = record v { waits = record v.waits { bases = rebased (base_in p k) (numbers_from 1 n) v.waits.bases } }
+
 -- ---- the opening and the clock
 
--- every cluster follows the clock
+-- every cluster is placed afresh, or follows the clock
+abbrev pub all_placed : Parts → Facts → Facts
+all_placed p f = record f { clusters = map (relinked p f.kept f.sems) f.clusters }
+
 abbrev pub all_followed : Parts → Facts → Facts
-all_followed p f = record f { clusters = map (followed p f.kept) f.clusters }
+all_followed p f = record f { clusters = map (followed p f.kept f.sems) f.clusters }
 
 -- the clusters of the set before they are placed, with the tasks of the group
 abbrev pub unlinked_cluster : Group → ℕ → ClusterFacts
@@ -49,16 +71,31 @@ unlinked_cluster g c = unlinked (first_cpu g c) (cpus g c) (tasks_of g c)
 abbrev pub unlinked_clusters : Group → List ClusterFacts
 unlinked_clusters g = map (unlinked_cluster g) (numbers_from 0 (length g.setup.clusters))
 
-abbrev pub at_opening : Group → Facts
-at_opening g = all_followed g.setup (record {
-  kept = opened (length g.setup.tasks) (processor_count g.setup);
+abbrev pub kept_at_opening : Parts → Kept
+kept_at_opening p = opened (length p.tasks) (processor_count p)
+
+-- with these semaphores, of which nothing was told
+abbrev pub at_opening : Group → GroupSems → Facts
+at_opening g v = all_placed g.setup (record {
+  kept = kept_at_opening g.setup;
+  sems = all_based g.setup (kept_at_opening g.setup) (length g.setup.tasks) v;
   clusters = unlinked_clusters g;
 })
+
+pub record IsUntold (g : Group) (v : GroupSems) : Type 0 where
+  pub table : IsOpened g v.table
+  pub ceilings : AreCeilings g v.ceilings
+  pub waits : v.waits ≡ untold (length g.setup.tasks + 1)
+
+pub record AreOpened (g : Group) (room : ℕ) (f : WithRoom) : Type 0 where
+  pub sems : GroupSems
+  pub untold : IsUntold g sems
+  pub facts_are : f ≡ record { facts = at_opening g sems; room = room }
 
 abbrev pub clocked : Parts → ℕ → Facts → Facts
 clocked p tick f = all_followed p (record f { kept = with_clock tick f.kept })
 
--- ---- acts that are at no semaphore
+-- ---- what an act is answered
 
 -- the cluster of a processor, by the set
 abbrev pub home_of : Parts → ℕ → ℕ
@@ -67,61 +104,139 @@ home_of p q = cluster_in p.clusters q
 abbrev pub link_in : Parts → ℕ → Facts → Option ℕ
 link_in p q f = link_at (cluster_at f.clusters (home_of p q)) q
 
-abbrev pub op_reply_in : Op → Option ℕ → ℕ → Kept → Reply
-op_reply_in op None q k = replies.Idle
-op_reply_in op (Some t) q k = plain_reply op k.clock (cpu_of k q).worked (job_of k t).np false true
+-- why a Lock of the task is refused, and the reply where it is not
+abbrev pub lock_refused : Parts → ℕ → ℕ → Facts → Option Reply
+lock_refused p t s f = if (job_of f.kept t).np then Some replies.InNp else lock_refusal p f.sems.table t s
+
+abbrev pub asked_reply : Parts → ℕ → ℕ → Facts → Reply
+asked_reply p t s f = if is_granted t (base_in p f.kept t) s f.sems.table then replies.Granted else replies.Queued
+
+-- whether the task holds no semaphore
+abbrev pub holds_none : ℕ → GroupSems → Bool
+holds_none t v = held_of v.table t == 0
+
+-- an operation of the task that the processor runs
+abbrev pub task_reply : Parts → ℕ → ℕ → Op → Facts → Reply
+task_reply p q t (ops.Lock s) f = unwrap_or (lock_refused p t s.0 f) (asked_reply p t s.0 f)
+task_reply p q t (ops.Unlock s) f = unwrap_or (unlock_refusal p f.sems.table t s.0) replies.Done
+task_reply p q t op f = plain_reply op f.kept.clock (cpu_of f.kept q).worked (job_of f.kept t).np false (holds_none t f.sems)
+
+abbrev pub op_reply_in : Parts → ℕ → Op → Option ℕ → Facts → Reply
+op_reply_in p q op None f = replies.Idle
+op_reply_in p q op (Some t) f = task_reply p q t op f
 
 abbrev pub reply_in : Parts → ℕ → Act → Facts → Reply
 reply_in p q acts.Tick f = replies.Done
 reply_in p q acts.Irq f = irq_reply (link_in p q f) (cpu_of f.kept q).runs (np_of f.kept (cpu_of f.kept q).runs)
 reply_in p q (acts.Arrive t) f = arrival_reply f.kept.clock (task_in p.tasks t.0) (job_of f.kept t.0)
-reply_in p q (acts.Do op) f = op_reply_in op (cpu_of f.kept q).runs q f.kept
+reply_in p q (acts.Do op) f = op_reply_in p q op (cpu_of f.kept q).runs f
 
--- whether an accepted operation ends the job of its task, and whether that is late
-abbrev pub ends_in : Parts → Op → ℕ → Kept → Bool
-ends_in p op t k = is_end (task_in p.tasks t) k.clock op true (job_of k t)
+-- ---- what an accepted act makes of the facts
+
+-- the semaphores once the task has asked for one or freed one
+abbrev pub sems_by : Parts → ℕ → Op → Kept → GroupSems → GroupSems
+sems_by p t (ops.Lock s) k v = after_lock p k.clock t (base_in p k t) s.0 v
+sems_by p t (ops.Unlock s) k v = after_unlock p k.clock t s.0 v
+sems_by p t op k v = v
+
+abbrev pub asked_by : Parts → Act → Option ℕ → Facts → GroupSems
+asked_by p (acts.Do op) (Some t) f = sems_by p t op f.kept f.sems
+asked_by p _ o f = f.sems
+
+-- whether the task that runs holds none then
+abbrev pub none_by : Option ℕ → GroupSems → Bool
+none_by None v = true
+none_by (Some t) v = holds_none t v
+
+-- whether an operation of the task ends its job, and whether that is late
+abbrev pub ends_in : Parts → Op → ℕ → Kept → Bool → Bool
+ends_in p op t k none = is_end (task_in p.tasks t) k.clock op none (job_of k t)
 
 abbrev pub late_in : Parts → ℕ → Kept → Bool
 late_in p t k = is_late k.clock (task_in p.tasks t) (job_of k t)
 
--- the task whose job an accepted act ends, where the processor runs this
-abbrev pub ended_by : Parts → Act → Option ℕ → Kept → Option (TaskNo × Bool)
-ended_by p (acts.Do op) (Some t) k = if ends_in p op t k then Some (record { 0 = t }, late_in p t k) else None
-ended_by p _ o k = None
+-- the task whose job an act ends, where the processor runs this
+abbrev pub ended_by : Parts → Act → Option ℕ → Bool → Kept → Option (TaskNo × Bool)
+ended_by p (acts.Do op) (Some t) none k = if ends_in p op t k none then Some (record { 0 = t }, late_in p t k) else None
+ended_by p _ o none k = None
 
-abbrev pub ended_now : Parts → ℕ → Act → Reply → Facts → Option (TaskNo × Bool)
-ended_now p q act reply f = if accepted reply then ended_by p act (cpu_of f.kept q).runs f.kept else None
+-- the task whose base key is told anew
+abbrev pub told_by : Act → Option ℕ → Option ℕ
+told_by (acts.Arrive t) o = Some t.0
+told_by (acts.Do op) o = o
+told_by _ o = None
 
--- the cluster that is placed afresh after an accepted act
-abbrev pub touched_by : Parts → ℕ → Act → Option ℕ → Kept → Option ℕ
-touched_by p q acts.Irq o k = Some (home_of p q)
-touched_by p q (acts.Arrive t) o k = Some (task_in p.tasks t.0).cluster.0
-touched_by p q (acts.Do op) (Some t) k = if ends_in p op t k || is_sleep op then Some (home_of p q) else None
-touched_by p q _ o k = None
+abbrev pub retold : Parts → Kept → Option ℕ → GroupSems → GroupSems
+retold p k None v = v
+retold p k (Some t) v = based p k t v
 
-abbrev pub placed_afresh : Parts → Kept → Option ℕ → List ClusterFacts → List ClusterFacts
-placed_afresh p k None cs = cs
-placed_afresh p k (Some c) cs = slice_set cs c (relinked p k (cluster_at cs c))
+-- the clusters that are placed afresh
+pub data Placing : Type 0 where
+  NoCluster : Placing
+  OneCluster : ℕ → Placing
+  AllClusters : Placing
 
--- an act of a processor, answered so
-abbrev pub kept_after : Parts → ℕ → Act → Reply → Kept → Kept
-kept_after p q act reply k = has_acted p.tasks q act reply true k
+abbrev pub placed_afresh : Parts → Kept → GroupSems → Placing → List ClusterFacts → List ClusterFacts
+placed_afresh p k v NoCluster cs = cs
+placed_afresh p k v (OneCluster c) cs = slice_set cs c (relinked p k v (cluster_at cs c))
+placed_afresh p k v AllClusters cs = map (relinked p k v) cs
 
-abbrev pub touched : Parts → ℕ → Act → Reply → Kept → Option ℕ
-touched p q act reply k = if accepted reply then touched_by p q act (cpu_of k q).runs k else None
+abbrev pub placing_after : Parts → ℕ → Op → Bool → Placing
+placing_after p q op ends =
+    if is_at_sem (acts.Do op) then AllClusters else (if ends || is_sleep op then OneCluster (home_of p q) else NoCluster)
+
+abbrev pub placing_by : Parts → ℕ → Act → Option ℕ → Bool → Kept → Placing
+placing_by p q acts.Irq o none k = OneCluster (home_of p q)
+placing_by p q (acts.Arrive t) o none k = OneCluster (task_in p.tasks t.0).cluster.0
+placing_by p q (acts.Do op) (Some t) none k = placing_after p q op (ends_in p op t k none)
+placing_by p q _ o none k = NoCluster
+
+-- once the semaphores have changed, an accepted operation of the task that the processor runs is counted
+abbrev pub counted : Parts → ℕ → ℕ → Op → Reply → Facts → Facts
+counted p q t op reply f =
+    let none = holds_none t f.sems in
+    let k = has_operated p.tasks q t op reply none f.kept in
+    let v = based p k t f.sems in
+    record { kept = k; sems = v; clusters = placed_afresh p k v (placing_after p q op (ends_in p op t f.kept none)) f.clusters }
+
+-- ---- an act of a processor, answered so
+
+abbrev pub asked : Parts → ℕ → Act → Reply → Facts → GroupSems
+asked p q act reply f = if accepted reply then asked_by p act (cpu_of f.kept q).runs f else f.sems
+
+abbrev pub none_after : Parts → ℕ → Act → Reply → Facts → Bool
+none_after p q act reply f = none_by (cpu_of f.kept q).runs (asked p q act reply f)
+
+abbrev pub kept_after : Parts → ℕ → Act → Reply → Facts → Kept
+kept_after p q act reply f = has_acted p.tasks q act reply (none_after p q act reply f) f.kept
+
+abbrev pub sems_after : Parts → ℕ → Act → Reply → Facts → GroupSems
+sems_after p q act reply f =
+    let told = if accepted reply then told_by act (cpu_of f.kept q).runs else None in
+    retold p (kept_after p q act reply f) told (asked p q act reply f)
+
+abbrev pub placing : Parts → ℕ → Act → Reply → Facts → Placing
+placing p q act reply f =
+    if accepted reply then placing_by p q act (cpu_of f.kept q).runs (none_after p q act reply f) f.kept else NoCluster
 
 abbrev pub acted : Parts → ℕ → Act → Reply → Facts → Facts
 acted p q act reply f =
-    let k = kept_after p q act reply f.kept in
-    record { kept = k; clusters = placed_afresh p k (touched p q act reply f.kept) f.clusters }
+    let k = kept_after p q act reply f in
+    let v = sems_after p q act reply f in
+    record { kept = k; sems = v; clusters = placed_afresh p k v (placing p q act reply f) f.clusters }
+
+abbrev pub ended_now : Parts → ℕ → Act → Reply → Facts → Option (TaskNo × Bool)
+ended_now p q act reply f =
+    if accepted reply then ended_by p act (cpu_of f.kept q).runs (none_after p q act reply f) f.kept else None
 
 -- ---- what moves rest on
 
 pub record CanFollow (p : Parts) (f : Facts) : Type 0 where
   pub read : CanRead MOST_STEPS p f.kept
+  pub keys : HaveBases p f.sems
   pub places : All (CanPlace p f.kept) f.clusters
 
--- an act that is at no semaphore, whose task is of the set, and whose sleep is within the limit
+-- an arrival is of a task of the set, and a sleep is within the limit
 abbrev pub IsPlainAct : Parts → Act → Type 0
 IsPlainAct p (acts.Arrive t) = (1 ≤ t.0) × (t.0 ≤ length p.tasks)
 IsPlainAct p (acts.Do (ops.Sleep n)) = n < TICK_END
@@ -129,8 +244,28 @@ IsPlainAct p _ = ⊤
 
 pub record CanAct (p : Parts) (q : ℕ) (f : Facts) : Type 0 where
   pub read : CanRead (MOST_STEPS - 1) p f.kept
+  pub keys : HaveBases p f.sems
   pub places : All (CanPlace p f.kept) f.clusters
   pub same_length : length f.clusters ≡ length p.clusters
   pub home : home_of p q < length f.clusters
   pub has_cpu : HasCpu (cluster_at f.clusters (home_of p q)) q
   pub runs_task : RunsTask f.kept q
+
+-- the task may ask for the semaphore, and may free it, unless that is refused
+pub record MayLock (p : Parts) (t s : ℕ) (f : Facts) : Type 0 where
+  pub sem : (1 ≤ s) × (s ≤ length p.sems)
+  pub uses : AreSemsOf p t
+  pub can : lock_refused p t s f ≡ None → CanLock p t (base_in p f.kept t) s f.sems
+
+pub record MayUnlock (p : Parts) (t s : ℕ) (f : Facts) : Type 0 where
+  pub sem : (1 ≤ s) × (s ≤ length p.sems)
+  pub can : unlock_refusal p f.sems.table t s ≡ None → CanUnlock p f.kept.clock t s f.sems
+
+abbrev pub MayDo : Parts → ℕ → Op → Facts → Type 0
+MayDo p t (ops.Lock s) f = MayLock p t s.0 f
+MayDo p t (ops.Unlock s) f = MayUnlock p t s.0 f
+MayDo p t _ f = ⊤
+
+abbrev pub MayAct : Parts → ℕ → Act → Facts → Type 0
+MayAct p q (acts.Do op) f = (t : ℕ) → (cpu_of f.kept q).runs ≡ Some t → MayDo p t op f
+MayAct p q _ f = ⊤

@@ -1,5 +1,5 @@
 -- One group at a past, as contracts see it.
-use Rattle.std.specs.Prelude.{◌≡◌, ℕ, ◌-◌, ◌<◌, ◌≤◌, Bool, true, nat_lt, [], ◌∷◌, length, Option, None, Some, option_map}
+use Rattle.std.specs.Prelude.{◌≡◌, ℕ, ◌+◌, ◌-◌, ◌<◌, ◌≤◌, Bool, true, nat_lt, [], ◌∷◌, length, Option, None, Some, option_map}
 use Rattle.rt_base.specs.declared.TaskNo.{TaskNo}
 use Rattle.rt_base.specs.declared.TheConstants.{MOST_STEPS}
 use Rattle.rt_task.specs.Validity.{IsValid}
@@ -7,15 +7,16 @@ use Rattle.rt_task.specs.declared.Parts.{Parts}
 use Rattle.rt_rules.specs.Numbers.{has}
 use Rattle.rt_model.specs.Group.{Group, clusters, cpus, first_cpu, tasks_of}
 use Rattle.rt_model.specs.Links.{links}
-use Rattle.rt_model.specs.Past.{Past, PastAct, Clock, Acted, now}
+use Rattle.rt_model.specs.Past.{Past, PastAct, Clock, Acted, entries_in, now}
 use Rattle.rt_model.specs.Reachable.{IsReachable}
 use Rattle.rt_model.specs.Releases.{deadline}
 use Rattle.rt_plays.specs.Room.{processor_count}
 use Rattle.rt_groups.specs.Built.{is_built}
 use Rattle.group_facts.specs.Kept.{IsKept, Kept}
+use Rattle.group_sem_laws.specs.Kept.{KeepsGroupSems}
 use Rattle.rank_afresh.specs.Clusters.{ClusterFacts}
 use Rattle.rank_afresh.specs.Facts.{Facts, cluster_at}
-use Rattle.rank_afresh.specs.Ranks.{CanRead, timer_in}
+use Rattle.rank_afresh.specs.Ranks.{AreBased, CanRead, timer_in}
 
 -- the task whose job an act ended, and whether the clock was past that job's deadline
 abbrev pub ended_in : Group → PastAct → Past → Option (TaskNo × Bool)
@@ -41,7 +42,9 @@ group_of v = record { setup = v.setup; number = v.group }
 -- it stands at this past: each fact is what the definitions give there
 pub record IsAt (v : Standing) (past : Past) : Type 0 where
   pub reachable : IsReachable (group_of v) past
+  pub few : entries_in past + v.spare ≤ MOST_STEPS
   pub kept : IsKept (group_of v) past v.facts.kept
+  pub sems_are : KeepsGroupSems (group_of v) past v.facts.sems
   pub links_are : (c : ℕ) → has c (clusters (group_of v)) ≡ true → (cluster_at v.facts.clusters c).links ≡ links (group_of v) c past
   pub ended_is : v.ended ≡ ended_last (group_of v) past
 
@@ -64,6 +67,7 @@ pub record IsFit (g : Group) (f : Facts) (room spare : ℕ) : Type 0 where
   pub limit : spare ≤ MOST_STEPS
   pub room_left : spare ≤ room
   pub read : CanRead (MOST_STEPS - spare) g.setup f.kept
+  pub based : AreBased g.setup f.kept f.sems
   pub all_cpus : length f.kept.cpus ≡ processor_count g.setup
   pub all_clusters : length f.clusters ≡ length g.setup.clusters
   pub clusters_are : (c : ℕ) → c < length g.setup.clusters → IsClusterOf g f.kept c (cluster_at f.clusters c)

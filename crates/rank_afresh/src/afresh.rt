@@ -1,23 +1,27 @@
 //! One group whose moves are played from plain facts.
-ghost use Rattle.std.specs.Prelude.{◌≡◌, ◌+◌, ◌<◌, ◌≤◌, ◌∷◌, [], IfOk, true};
+ghost use Rattle.std.specs.Prelude.{◌≡◌, ◌+◌, ◌<◌, ◌≤◌, ◌∷◌, [], IfOk, length, true};
 ghost use Rattle.rt_base.specs.TaskNos.{number_of_task};
 ghost use Rattle.rt_base.specs.declared.TheConstants.{MOST_STEPS, TICK_END};
 ghost use Rattle.rt_model.specs.Past.{Past, Clock};
 ghost use Rattle.rt_model.specs.Runs.{runs};
 ghost use Rattle.rt_model.specs.Links.{linked};
 ghost use Rattle.rt_model.specs.Histories.{after, reply_to};
-ghost use Rattle.rt_model.specs.Steps.{IsStepOf};
+ghost use Rattle.rt_model.specs.Steps.{IsActOf, IsStepOf};
 ghost use Rattle.rt_plays.specs.Homes.{IsProcessorOf};
 ghost use Rattle.rt_groups.specs.Built.{is_built};
 ghost use Rattle.rt_groups.specs.Groups.{IsGroupOf};
+ghost use Rattle.rt_rules.specs.Distinct.{IsDistinct};
+ghost use Rattle.count_laws.specs.Tallies.{waiter_tasks};
+ghost use Rattle.waiting_list.specs.Listing.{AreWaitersAt};
 ghost use Rattle.rank_afresh.specs.Standing.{IsAt, IsOfSame, ended_last, group_of};
 
 use crate::facts::Facts;
 use rt_base::{CpuNo, GroupNo, NoMemory, TaskNo, Tick};
 use rt_history::Reply;
-use rt_task::{Setup, Step};
+use rt_task::{Act, Setup, Step};
 use std::alloc::Global;
 use std::marker::Model;
+use waiting_list::WaitingList;
 
 /// One group of a setup, played from plain facts of its tasks and processors: the tasks of a cluster are ranked afresh at
 /// each move that changes any of them.
@@ -62,7 +66,7 @@ impl Afresh {
         ensures opened { IfOk result (λ a. IsAt a []) }
     {
         let setup = setup.share()?;
-        let facts = Facts::open(alloc, setup.parts(), group, room)?;
+        let facts = Facts::open(alloc, &setup, group, room)?;
         Ok(Afresh {
             setup,
             group,
@@ -81,6 +85,21 @@ impl Afresh {
     {
         self.facts.move_clock(self.setup.parts(), tick);
         self.ended = None;
+    }
+
+    /// Lists the tasks that wait for the semaphore that the act of a step frees, each with whether it is priority-blocked,
+    /// between the two moves of the step. Each task stands once.
+    pub fn list_waiting(&self, cpu: CpuNo, act: Act, list: &mut WaitingList)
+        requires cpu { IsProcessorOf (group_of self.now) cpu.0 }
+        requires act { IsActOf (group_of self.now) act }
+        requires at { (past : Past) × IsAt self.now past }
+        requires room { length self.now.setup.tasks ≤ list.old.room }
+        ensures waiting { (past : Past) → IsAt self.now past → AreWaitersAt
+            (record { group = group_of self.now; past = past }) cpu.0 act list.new.waiting }
+        ensures once { IsDistinct (waiter_tasks list.new.waiting) }
+        ensures room { list.new.room ≡ list.old.room }
+    {
+        self.facts.list_waiting(self.setup.parts(), cpu, act, list);
     }
 
     /// Answers the act of a step, whose tick the clock was moved to last: the second move of a step.

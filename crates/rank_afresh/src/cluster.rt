@@ -3,12 +3,13 @@ ghost use Rattle.std.specs.Prelude.{◌≡◌, ◌+◌, ◌≤◌, [], IfOk, len
 ghost use Rattle.rt_base.specs.TaskNos.{number_of_task, numbers, numbers_of_tasks};
 ghost use Rattle.rt_base.specs.declared.TheConstants.{MOST_CPUS, MOST_STEPS};
 ghost use Rattle.rank_afresh.specs.Clusters.{CanPlace, HasCpu, followed, link_at, relinked, runs_in, unlinked};
-ghost use Rattle.rank_afresh.specs.Ranks.{CanRead};
+ghost use Rattle.rank_afresh.specs.Ranks.{CanRead, HaveBases};
 
 use crate::placing;
 use crate::ranks::{Candidate, rank, write_tasks};
 use crate::room::{no_tasks, put, with_room};
 use group_jobs::GroupJobs;
+use group_sems::GroupSems;
 use rt_base::{CpuNo, NoMemory, TaskNo};
 use rt_task::Parts;
 use std::alloc::Global;
@@ -91,13 +92,21 @@ impl RankedCluster {
     }
 
     /// Ranks the tasks afresh, and links the first of them.
-    pub(crate) fn place(&mut self, parts: &Parts, jobs: &GroupJobs)
+    pub(crate) fn place(&mut self, parts: &Parts, jobs: &GroupJobs, sems: &GroupSems)
         requires read { CanRead MOST_STEPS parts.now jobs.now.kept }
+        requires keys { HaveBases parts.now sems.now }
         requires place { CanPlace parts.now jobs.now.kept self.old }
-        ensures { self.new ≡ relinked parts.now jobs.now.kept self.old }
+        ensures { self.new ≡ relinked parts.now jobs.now.kept sems.now self.old }
     {
         let cpus = self.links.len();
-        self.next = rank(parts, jobs, self.tasks.as_slice(), cpus, &mut self.best);
+        self.next = rank(
+            parts,
+            jobs,
+            sems,
+            self.tasks.as_slice(),
+            cpus,
+            &mut self.best,
+        );
         write_tasks(self.best.as_slice(), &mut self.top);
         read_runs(jobs, self.first, cpus, &mut self.runs);
         placing::place(
@@ -108,13 +117,14 @@ impl RankedCluster {
     }
 
     /// Once the clock has moved: the links follow, where a task may be due.
-    pub(crate) fn follow(&mut self, parts: &Parts, jobs: &GroupJobs)
+    pub(crate) fn follow(&mut self, parts: &Parts, jobs: &GroupJobs, sems: &GroupSems)
         requires read { CanRead MOST_STEPS parts.now jobs.now.kept }
+        requires keys { HaveBases parts.now sems.now }
         requires place { CanPlace parts.now jobs.now.kept self.old }
-        ensures { self.new ≡ followed parts.now jobs.now.kept self.old }
+        ensures { self.new ≡ followed parts.now jobs.now.kept sems.now self.old }
     {
         if jobs.clock() >= self.next {
-            self.place(parts, jobs);
+            self.place(parts, jobs, sems);
         }
     }
 }

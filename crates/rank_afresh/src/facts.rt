@@ -1,25 +1,37 @@
-//! The plain facts of one group: what is kept of its jobs and processors, and its clusters.
-ghost use Rattle.std.specs.Prelude.{◌≡◌, ◌+◌, ◌<◌, ◌≤◌, All, IfOk, length, false, true, None, if◌then◌else◌};
+//! The plain facts of one group: what is kept of its jobs and processors and of its semaphores, and its clusters.
+ghost use Rattle.std.specs.Prelude.{◌≡◌, ◌+◌, ◌<◌, ◌≤◌, ◌==◌, ◌∷◌, All, IfOk, length, false, true, None, Some, if◌then◌else◌, unwrap_or};
 ghost use Rattle.rt_base.specs.TaskNos.{number_of_task};
 ghost use Rattle.rt_base.specs.declared.TheConstants.{MOST_STEPS, TICK_END};
 ghost use Rattle.rt_task.specs.RuleWords.{is_p_res};
 ghost use Rattle.rt_task.specs.declared.Act.TheVariants as acts;
+ghost use Rattle.rt_task.specs.declared.Op.TheVariants as ops;
+ghost use Rattle.rt_model.specs.Past.{accepted};
 ghost use Rattle.rt_groups.specs.Limits.{IsInLimits};
-ghost use Rattle.group_facts.specs.Kept.{cpu_of};
+ghost use Rattle.rt_changes.specs.SemActs.{is_at_sem};
+ghost use Rattle.group_facts.specs.Kept.{cpu_of, has_operated, job_of};
 ghost use Rattle.group_facts.specs.Timers as timers;
-ghost use Rattle.group_jobs.specs.GroupJobs.{IsTaskOf};
+ghost use Rattle.group_jobs.specs.GroupJobs.{IsTaskOf, is_op_reply};
+ghost use Rattle.group_jobs.specs.States.{SleepIsShort};
+ghost use Rattle.group_sems.specs.Locking.{CanLock};
+ghost use Rattle.group_sems.specs.Refusing.{unlock_refusal};
+ghost use Rattle.rt_rules.specs.Distinct.{IsDistinct};
+ghost use Rattle.count_laws.specs.Tallies.{waiter_tasks};
+ghost use Rattle.waiting_list.specs.Listing.{AreWaitersAt, CanList, Moment};
 ghost use Rattle.rank_afresh.specs.Clusters.{CanPlace, HasCpu};
-ghost use Rattle.rank_afresh.specs.Ranks.{CanRead};
-ghost use Rattle.rank_afresh.specs.Facts.{CanAct, CanFollow, IsPlainAct, acted, all_followed, at_opening, clocked, cluster_at, ended_now, home_of, late_in, link_in, placed_afresh, reply_in};
+ghost use Rattle.rank_afresh.specs.Ranks.{CanRead, HaveBases, base_in};
+ghost use Rattle.rank_afresh.specs.Facts.{AreOpened, CanAct, CanFollow, IsPlainAct, MayAct, MayDo, MayLock, MayUnlock, acted, all_based, all_followed, all_placed, asked_reply, at_opening, based, clocked, cluster_at, counted, ended_now, ends_in, home_of, late_in, link_in, lock_refused, placed_afresh, placing_after, reply_in, sems_by, task_reply};
+ghost use Rattle.rank_afresh.specs.Facts as seen;
 
 use crate::cluster::RankedCluster;
 use crate::rows::{cluster_of, clusters_of, cpu_count};
 use group_jobs::GroupJobs;
-use rt_base::{CpuNo, GroupNo, NoMemory, TaskNo, Tick};
+use group_sems::GroupSems;
+use rt_base::{Ask, CpuNo, GroupNo, NoMemory, SemNo, TaskNo, Tick};
 use rt_history::Reply;
-use rt_task::{Act, Op, Parts};
+use rt_task::{Act, Op, Parts, Setup};
 use std::alloc::Global;
 use std::marker::Model;
+use waiting_list::WaitingList;
 
 /// What an act is answered, and the task whose job it ended, with whether the clock was past that job's deadline.
 #[derive(Clone, Copy)]
@@ -28,10 +40,11 @@ pub(crate) struct Answer {
     pub(crate) ended: Option<(TaskNo, bool)>,
 }
 
-/// What is kept of jobs and processors, and the clusters of the set by their numbers.
+/// What is kept of jobs and processors and of semaphores, and the clusters of the set by their numbers.
 #[derive(Drop)]
 pub(crate) struct Facts {
     jobs: GroupJobs,
+    sems: GroupSems,
     clusters: Vec<RankedCluster>,
 }
 
@@ -41,7 +54,7 @@ impl Model for Facts {
     ghost Value = { seen.WithRoom };
 
     ghost view = { λ a. record {
-      facts = record { kept = a.jobs.kept; clusters = a.clusters.items };
+      facts = record { kept = a.jobs.kept; sems = a.sems; clusters = a.clusters.items };
       room = a.jobs.room;
     } };
 }
@@ -52,18 +65,53 @@ fn is_sleep(op: Op) -> bool
     matches!(op, Op::Sleep(_))
 }
 
+/// Whether the operation is a Lock or an Unlock.
+fn is_of_sem(op: Op) -> bool
+    ensures { result ≡ is_at_sem (acts.Do op) }
+{
+    matches!(op, Op::Lock(_) | Op::Unlock(_))
+}
+
+/// Whether an act with this reply was done.
+fn is_accepted(reply: Reply) -> bool
+    ensures { result ≡ accepted reply }
+{
+    matches!(
+        reply,
+        Reply::Done | Reply::Runs(_) | Reply::Idles | Reply::Granted | Reply::Queued
+    )
+}
+
 impl Facts {
     /// The facts at opening of a group of the set, with room for so many arrivals.
     pub(crate) fn open(
         alloc: Global,
+        setup: &Setup,
+        group: GroupNo,
+        room: u32,
+    ) -> Result<Facts, NoMemory>
+        requires plugin { is_p_res setup.now.plugin ≡ false }
+        requires limits { IsInLimits setup.now }
+        ensures { IfOk result
+            (λ f. AreOpened (record { setup = setup.now; number = group.0 }) room f) }
+    {
+        let sems = GroupSems::open(alloc, setup, group)?;
+        Facts::with_sems(alloc, setup.parts(), sems, group, room)
+    }
+
+    /// The same with these semaphores, of which nothing was told.
+    fn with_sems(
+        alloc: Global,
         parts: &Parts,
+        sems: GroupSems,
         group: GroupNo,
         room: u32,
     ) -> Result<Facts, NoMemory>
         requires plugin { is_p_res parts.now.plugin ≡ false }
         requires limits { IsInLimits parts.now }
+        requires bases { length sems.waits.bases ≡ length parts.now.tasks + 1 }
         ensures { IfOk result (λ f. f ≡ record {
-          facts = at_opening (record { setup = parts.now; number = group.0 });
+          facts = at_opening (record { setup = parts.now; number = group.0 }) sems;
           room = room;
         }) }
     {
@@ -71,10 +119,42 @@ impl Facts {
         let cpus = cpu_count(parts.clusters.as_slice());
         let mut facts = Facts {
             jobs: GroupJobs::open(alloc, tasks, cpus, room)?,
+            sems,
             clusters: clusters_of(alloc, parts, group)?,
         };
-        facts.follow(parts);
+        facts.tell_bases(parts);
+        facts.place_all(parts);
         Ok(facts)
+    }
+
+    /// Tells the base key of the task's job.
+    fn tell_base(&mut self, parts: &Parts, task: TaskNo)
+        requires read { CanRead MOST_STEPS parts.now self.old.facts.kept }
+        requires low { 1 ≤ task.0 }
+        requires high { task.0 ≤ length parts.now.tasks }
+        requires room { task.0 < length self.old.facts.sems.waits.bases }
+        ensures { self.new ≡ record self.old {
+          facts = record self.old.facts {
+            sems = based parts.now self.old.facts.kept task.0 self.old.facts.sems;
+          };
+        } }
+    {
+        let key = self.jobs.base_key(parts, task);
+        self.sems.base(task, key);
+    }
+
+    /// Tells the base keys of all tasks of the set.
+    fn tell_bases(&mut self, parts: &Parts)
+        requires read { CanRead MOST_STEPS parts.now self.old.facts.kept }
+        requires room { length self.old.facts.sems.waits.bases ≡ length parts.now.tasks + 1 }
+        ensures { let f = self.old.facts in
+            self.new ≡ record self.old {
+              facts = record f { sems = all_based parts.now f.kept (length parts.now.tasks) f.sems };
+            } }
+    {
+        for i in 0..parts.tasks.as_slice().len() {
+            self.tell_base(parts, TaskNo(i as u32 + 1));
+        }
     }
 
     /// What the processor runs.
@@ -96,34 +176,75 @@ impl Facts {
         self.clusters[home].linked(cpu)
     }
 
+    /// Lists the tasks that wait for the semaphore that the act of the processor frees.
+    pub(crate) fn list_waiting(&self, parts: &Parts, cpu: CpuNo, act: Act, list: &mut WaitingList)
+        requires { (at : Moment)
+            × CanList at parts.now self.now.facts.kept self.now.facts.sems cpu.0 act list.old.room }
+        ensures waiting { (at : Moment)
+            → CanList at parts.now self.now.facts.kept self.now.facts.sems cpu.0 act list.old.room
+            → AreWaitersAt at cpu.0 act list.new.waiting }
+        ensures once { IsDistinct (waiter_tasks list.new.waiting) }
+        ensures room { list.new.room ≡ list.old.room }
+    {
+        list.list(parts, &self.jobs, &self.sems, cpu, act);
+    }
+
     /// Places the cluster afresh.
     fn place(&mut self, parts: &Parts, c: usize)
         requires follow { CanFollow parts.now self.old.facts }
         requires cluster { c < length self.old.facts.clusters }
         ensures { self.new ≡ record self.old {
           facts = record self.old.facts {
-            clusters
-                = placed_afresh parts.now self.old.facts.kept (Some c) self.old.facts.clusters;
+            clusters = placed_afresh parts.now self.old.facts.kept self.old.facts.sems
+                (seen.OneCluster c) self.old.facts.clusters;
           };
         } }
     {
-        self.clusters[c].place(parts, &self.jobs);
+        self.clusters[c].place(parts, &self.jobs, &self.sems);
+    }
+
+    /// Places every cluster afresh.
+    fn place_all(&mut self, parts: &Parts)
+        requires { CanFollow parts.now self.old.facts }
+        ensures { self.new
+            ≡ record self.old { facts = all_placed parts.now self.old.facts } }
+    {
+        for c in 0..self.clusters.len() {
+            self.clusters[c].place(parts, &self.jobs, &self.sems);
+        }
     }
 
     /// Places the processor's cluster afresh, where it is touched.
     fn place_touched(&mut self, parts: &Parts, cpu: CpuNo, is_touched: bool)
         requires follow { CanFollow parts.now self.old.facts }
         requires cluster { home_of parts.now cpu.0 < length self.old.facts.clusters }
-        ensures { let kept = self.old.facts.kept in
-            let c = if is_touched then Some (home_of parts.now cpu.0) else None in
+        ensures { let f = self.old.facts in
+            let one = seen.OneCluster (home_of parts.now cpu.0) in
+            let which = if is_touched then one else seen.NoCluster in
             self.new ≡ record self.old {
-              facts = record self.old.facts {
-                clusters = placed_afresh parts.now kept c self.old.facts.clusters;
-              };
+              facts = record f { clusters = placed_afresh parts.now f.kept f.sems which f.clusters };
             } }
     {
         if is_touched {
             self.place(parts, cluster_of(parts.clusters.as_slice(), cpu));
+        }
+    }
+
+    /// Once the operation of the processor is counted: the links follow. One at a semaphore can change keys in any cluster;
+    /// another one that of its processor alone, where it has ended its job or is a Sleep.
+    fn place_after(&mut self, parts: &Parts, cpu: CpuNo, op: Op, ends: bool)
+        requires follow { CanFollow parts.now self.old.facts }
+        requires cluster { home_of parts.now cpu.0 < length self.old.facts.clusters }
+        ensures { let f = self.old.facts in
+            let which = placing_after parts.now cpu.0 op ends in
+            self.new ≡ record self.old {
+              facts = record f { clusters = placed_afresh parts.now f.kept f.sems which f.clusters };
+            } }
+    {
+        if is_of_sem(op) {
+            self.place_all(parts);
+        } else {
+            self.place_touched(parts, cpu, ends || is_sleep(op));
         }
     }
 
@@ -134,7 +255,7 @@ impl Facts {
             ≡ record self.old { facts = all_followed parts.now self.old.facts } }
     {
         for c in 0..self.clusters.len() {
-            self.clusters[c].follow(parts, &self.jobs);
+            self.clusters[c].follow(parts, &self.jobs, &self.sems);
         }
     }
 
@@ -186,15 +307,132 @@ impl Facts {
         let reply = self.jobs.arrival_reply(tasks, task);
         if reply == Reply::Done {
             self.jobs.arrive(task);
+            self.tell_base(parts, task);
             self.place(parts, tasks[task.0 as usize - 1].cluster.0 as usize);
         }
         reply
     }
 
-    /// The task that the processor runs does an operation; where that ends its job or makes it sleep, the links follow.
+    /// Why the task's Lock is refused: its job is non-preemptive, or the semaphores refuse it.
+    fn lock_refusal(&self, parts: &Parts, task: TaskNo, sem: SemNo) -> Option<Reply>
+        requires task { IsTaskOf self.now.facts.kept parts.now.tasks task.0 }
+        requires lock { MayLock parts.now task.0 sem.0 self.now.facts }
+        ensures { result ≡ lock_refused parts.now task.0 sem.0 self.now.facts }
+    {
+        if self.jobs.is_non_preemptive(task) {
+            Some(Reply::InNp)
+        } else {
+            self.sems.lock_refusal(parts, task, sem)
+        }
+    }
+
+    /// The task asks for the semaphore, which is not refused.
+    fn ask(&mut self, parts: &Parts, task: TaskNo, sem: SemNo) -> Reply
+        requires read { CanRead MOST_STEPS parts.now self.old.facts.kept }
+        requires task { IsTaskOf self.old.facts.kept parts.now.tasks task.0 }
+        requires lock { let key = base_in parts.now self.old.facts.kept task.0 in
+            CanLock parts.now task.0 key sem.0 self.old.facts.sems }
+        ensures reply { result ≡ asked_reply parts.now task.0 sem.0 self.old.facts }
+        ensures asked { self.new ≡ record self.old {
+          facts = record self.old.facts {
+            sems = sems_by parts.now task.0 (ops.Lock sem) self.old.facts.kept self.old.facts.sems;
+          };
+        } }
+    {
+        let clock = Tick(self.jobs.clock());
+        let key = self.jobs.base_key(parts, task);
+        match self.sems.lock(parts, clock, task, key, sem) {
+            Ask::Granted => Reply::Granted,
+            Ask::Queued => Reply::Queued,
+        }
+    }
+
+    /// A Lock of the task: it asks for the semaphore, unless that is refused.
+    fn lock(&mut self, parts: &Parts, task: TaskNo, sem: SemNo) -> Reply
+        requires read { CanRead MOST_STEPS parts.now self.old.facts.kept }
+        requires task { IsTaskOf self.old.facts.kept parts.now.tasks task.0 }
+        requires lock { MayLock parts.now task.0 sem.0 self.old.facts }
+        ensures reply { result ≡ unwrap_or (lock_refused parts.now task.0 sem.0 self.old.facts)
+            (asked_reply parts.now task.0 sem.0 self.old.facts) }
+        ensures asked { let f = self.old.facts in
+            let sems = sems_by parts.now task.0 (ops.Lock sem) f.kept f.sems in
+            self.new ≡ record self.old {
+              facts = record f { sems = if accepted result then sems else f.sems };
+            } }
+    {
+        match self.lock_refusal(parts, task, sem) {
+            Some(refusal) => refusal,
+            None => self.ask(parts, task, sem),
+        }
+    }
+
+    /// An Unlock of the task: it frees the semaphore, unless that is refused.
+    fn unlock(&mut self, parts: &Parts, task: TaskNo, sem: SemNo) -> Reply
+        requires { MayUnlock parts.now task.0 sem.0 self.old.facts }
+        ensures reply { result ≡ unwrap_or
+            (unlock_refusal parts.now self.old.facts.sems.table task.0 sem.0) Reply.Done }
+        ensures freed { let f = self.old.facts in
+            let sems = sems_by parts.now task.0 (ops.Unlock sem) f.kept f.sems in
+            self.new ≡ record self.old {
+              facts = record f { sems = if accepted result then sems else f.sems };
+            } }
+    {
+        if let Some(refusal) = self.sems.unlock_refusal(parts, task, sem) {
+            return refusal;
+        }
+        let clock = Tick(self.jobs.clock());
+        let _ = self.sems.unlock(parts, clock, task, sem);
+        Reply::Done
+    }
+
+    /// The reply to an operation of the task that the processor runs, whose Lock or Unlock is done where it is accepted.
+    fn reply(&mut self, parts: &Parts, cpu: CpuNo, task: TaskNo, op: Op) -> Reply
+        requires read { CanRead MOST_STEPS parts.now self.old.facts.kept }
+        requires cpu { cpu.0 < length self.old.facts.kept.cpus }
+        requires task { IsTaskOf self.old.facts.kept parts.now.tasks task.0 }
+        requires op { MayDo parts.now task.0 op self.old.facts }
+        ensures reply { result ≡ task_reply parts.now cpu.0 task.0 op self.old.facts }
+        ensures asked { let f = self.old.facts in
+            let sems = sems_by parts.now task.0 op f.kept f.sems in
+            self.new ≡ record self.old {
+              facts = record f { sems = if accepted result then sems else f.sems };
+            } }
+    {
+        match op {
+            Op::Lock(sem) => self.lock(parts, task, sem),
+            Op::Unlock(sem) => self.unlock(parts, task, sem),
+            _ => self
+                .jobs
+                .op_reply(cpu, task, op, false, self.sems.holds_none(task)),
+        }
+    }
+
+    /// Counts an accepted operation of the task that the processor runs, and the links follow. It says whether the job
+    /// has ended. The base key of the task's job is told, which may be a new one.
+    fn count(&mut self, parts: &Parts, cpu: CpuNo, task: TaskNo, op: Op, reply: Reply) -> bool
+        requires act { CanAct parts.now cpu.0 self.old.facts }
+        requires task { IsTaskOf self.old.facts.kept parts.now.tasks task.0 }
+        requires sleep { SleepIsShort op }
+        requires reply { is_op_reply reply ≡ true }
+        ensures ends { result ≡ ends_in parts.now op task.0 self.old.facts.kept
+            (seen.holds_none task.0 self.old.facts.sems) }
+        ensures counted { self.new ≡ record self.old {
+          facts = counted parts.now cpu.0 task.0 op reply self.old.facts;
+        } }
+    {
+        let none = self.sems.holds_none(task);
+        let tasks = parts.tasks.as_slice();
+        let ends = self.jobs.operate(tasks, cpu, task, op, reply, none);
+        self.tell_base(parts, task);
+        self.place_after(parts, cpu, op, ends);
+        ends
+    }
+
+    /// The task that the processor runs does an operation, and the links follow.
     fn operate(&mut self, parts: &Parts, cpu: CpuNo, op: Op) -> Answer
         requires act { CanAct parts.now cpu.0 self.old.facts }
         requires op { IsPlainAct parts.now (acts.Do op) }
+        requires sems { MayAct parts.now cpu.0 (acts.Do op) self.old.facts }
         ensures reply { result.reply ≡ reply_in parts.now cpu.0 (acts.Do op) self.old.facts }
         ensures ended { result.ended
             ≡ ended_now parts.now cpu.0 (acts.Do op) result.reply self.old.facts }
@@ -208,14 +446,12 @@ impl Facts {
                 ended: None,
             };
         };
-        let reply = self.jobs.op_reply(cpu, task, op, false, true);
-        if reply != Reply::Done {
+        let is_late = self.is_late(parts, task);
+        let reply = self.reply(parts, cpu, task, op);
+        if !is_accepted(reply) {
             return Answer { reply, ended: None };
         }
-        let is_late = self.is_late(parts, task);
-        let tasks = parts.tasks.as_slice();
-        let ends = self.jobs.operate(tasks, cpu, task, op, reply, true);
-        self.place_touched(parts, cpu, ends || is_sleep(op));
+        let ends = self.count(parts, cpu, task, op, reply);
         Answer {
             reply,
             ended: ends.then_some((task, is_late)),
@@ -237,6 +473,7 @@ impl Facts {
     pub(crate) fn act(&mut self, parts: &Parts, cpu: CpuNo, act: Act) -> Answer
         requires act { CanAct parts.now cpu.0 self.old.facts }
         requires plain { IsPlainAct parts.now act }
+        requires sems { MayAct parts.now cpu.0 act self.old.facts }
         requires room { 0 < self.old.room }
         ensures reply { result.reply ≡ reply_in parts.now cpu.0 act self.old.facts }
         ensures ended { result.ended

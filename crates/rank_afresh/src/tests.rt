@@ -1,5 +1,5 @@
-//! A group of two clusters, played by hand by the rules of the model.
-ghost use Rattle.std.specs.Prelude.{◌≡◌, ◌+◌, ◌<◌, true};
+//! A group of two clusters, played by hand by the rules of the model, and tasks that share a semaphore.
+ghost use Rattle.std.specs.Prelude.{◌≡◌, ◌+◌, ◌<◌, ◌≤◌, length, true};
 ghost use Rattle.rt_model.specs.Past.{Past};
 ghost use Rattle.rt_model.specs.Steps.{IsStepOf};
 ghost use Rattle.rt_plays.specs.Homes.{IsProcessorOf};
@@ -7,15 +7,18 @@ ghost use Rattle.rank_afresh.specs.Standing.{IsAt, IsOfSame, group_of};
 
 use crate::Afresh;
 use crate::rows::cluster_of;
-use rt_base::{ClusterNo, CpuNo, GroupNo, TaskNo, Tick};
+use block_counts::Waiting;
+use rt_base::{ClusterNo, CpuNo, GroupNo, SemNo, TaskNo, Tick};
 use rt_groups::is_built;
 use rt_history::Reply;
 use rt_task::{
-    Act, Cluster, ClusterList, Drive, Kind, Name, Op, Ops, Parts, PluginKind, ResvList, SemList,
-    SemNos, Setup, Step, StepList, Task, TaskList,
+    Act, Cluster, ClusterList, Drive, Kind, Name, Op, Ops, Parts, PluginKind, Protocol, ResvList,
+    Sem, SemList, SemNos, Setup, Step, StepList, Task, TaskList,
 };
 use std::alloc::{AllocError, Global};
+use std::process::Abort;
 use std::test::Fail;
+use waiting_list::WaitingList;
 
 /// A task of this cluster; its jobs are a period of 10 apart, and have this cost and relative deadline.
 fn task(
@@ -123,14 +126,16 @@ fn two_groups(alloc: Global) -> Result<Parts, AllocError> {
     })
 }
 
-/// What is seen of a step: its reply, what its processor is linked to and runs then, and the task whose job it ended, with
-/// whether that was late.
+/// What is seen of a step: its reply, what its processor is linked to and runs then, the task whose job it ended, with
+/// whether that was late, and how many tasks wait for the semaphore that it frees, and how many of them are blocked.
 #[derive(Clone, Copy, Debug, PartialEq, Eq)]
 struct Outcome {
     reply: Reply,
     linked: Option<TaskNo>,
     runs: Option<TaskNo>,
     ended: Option<(TaskNo, bool)>,
+    waiting: usize,
+    blocked: usize,
 }
 
 const NONE: Option<TaskNo> = None;
@@ -149,6 +154,8 @@ fn seen(reply: Reply, linked: Option<TaskNo>, runs: Option<TaskNo>) -> Outcome {
         linked,
         runs,
         ended: None,
+        waiting: 0,
+        blocked: 0,
     }
 }
 
@@ -198,41 +205,160 @@ fn is_of_group(parts: &Parts, cpu: CpuNo) -> bool
     home < clusters.len() && clusters[home].group.0 == 0
 }
 
+/// How many of the tasks are blocked.
+fn blocked(waiting: &[Waiting]) -> usize {
+    waiting.iter().filter(|w| w.blocked).count()
+}
+
 /// Takes a step, and looks at its processor.
-fn take(afresh: &mut Afresh, step: Step) -> Outcome
+fn take(afresh: &mut Afresh, list: &mut WaitingList, step: Step) -> Outcome
     requires room { 0 < afresh.old.spare }
     requires step { IsStepOf (group_of afresh.old) step }
     requires at { (past : Past) × IsAt afresh.old past }
+    requires list { length afresh.old.setup.tasks ≤ list.old.room }
     ensures at { (past : Past) × IsAt afresh.new past }
     ensures same { IsOfSame afresh.old afresh.new }
     ensures room { afresh.new.spare + 1 ≡ afresh.old.spare }
+    ensures list { list.new.room ≡ list.old.room }
 {
     afresh.clock(step.tick);
+    afresh.list_waiting(step.cpu, step.act, list);
     let reply = afresh.act(step);
     Outcome {
         reply,
         linked: afresh.linked(step.cpu),
         runs: afresh.runs(step.cpu),
         ended: afresh.ended(),
+        waiting: list.tasks().len(),
+        blocked: blocked(list.tasks()),
     }
+}
+
+/// Plays the steps of the first group of the set, and compares.
+fn play(rt: &impl Abort, alloc: Global, setup: &Setup, wanted: &[Outcome]) -> Result<(), Fail> {
+    let parts = setup.parts();
+    assert!(rt; is_built(setup));
+    assert!(rt; parts.clusters.as_slice().iter().any(|c| c.group.0 == 0));
+    assert!(rt; parts.tasks.as_slice().len() <= 8);
+    let Drive::Steps(steps) = &parts.drive else {
+        panic!(rt; "no steps");
+    };
+    assert!(rt; wanted.len() <= 100);
+    assert_eq!(rt; steps.as_slice().len(), wanted.len());
+    let mut afresh = Afresh::open(alloc, setup, GroupNo(0), 100)?;
+    let mut list = WaitingList::open(alloc, 8)?;
+    for (i, step) in steps.as_slice().iter().enumerate() {
+        assert!(rt; is_of_group(parts, step.cpu));
+        assert_eq!(rt; take(&mut afresh, &mut list, *step), wanted[i], "step {i}");
+    }
+    Ok(())
 }
 
 #[test]
 fn plays_two_clusters(rt: HostRuntime) -> Result<(), Fail> {
     let setup = Setup::make(rt.alloc(), two_groups(rt.alloc())?)?;
-    let parts = setup.parts();
-    assert!(rt; is_built(&setup));
-    assert!(rt; parts.clusters.as_slice().iter().any(|c| c.group.0 == 0));
-    let Drive::Steps(steps) = &parts.drive else {
-        panic!(rt; "no steps");
-    };
     let wanted = wanted(rt.alloc())?;
-    assert_eq!(rt; steps.as_slice().len(), 21);
-    assert_eq!(rt; wanted.len(), 21);
-    let mut afresh = Afresh::open(rt.alloc(), &setup, GroupNo(0), 21)?;
-    for (i, step) in steps.as_slice().iter().enumerate() {
-        assert!(rt; is_of_group(parts, step.cpu));
-        assert_eq!(rt; take(&mut afresh, *step), wanted[i], "step {i}");
+    play(&rt, rt.alloc(), &setup, wanted.as_slice())
+}
+
+/// A task that declares the semaphore; its first job is due after this time.
+fn user(alloc: Global, number: u32, kind: Kind, rel_deadline: u64) -> Result<Task, AllocError> {
+    Ok(Task {
+        kind,
+        period: 1000,
+        uses: SemNos::from_vec(Vec::from_slice(alloc, &[SemNo(1)])?),
+        ..task(alloc, number, 0, 1, rel_deadline)?
+    })
+}
+
+/// Two processors that start jobs of tasks 1 and 2, and then are taken over by jobs of tasks 3 and 4, which ask for the
+/// same semaphore.
+fn sharing_steps(alloc: Global) -> Result<Vec<Step>, AllocError> {
+    let steps = [
+        step(0, 0, Act::Irq),
+        step(1, 0, Act::Irq),
+        operation(0, 0, Op::Lock(SemNo(1))),
+        operation(1, 0, Op::Lock(SemNo(1))),
+        step(1, 1, Act::Arrive(TaskNo(3))),
+        step(1, 1, Act::Irq),
+        operation(1, 1, Op::Lock(SemNo(1))),
+        step(1, 2, Act::Arrive(TaskNo(4))),
+        step(1, 2, Act::Irq),
+        operation(1, 2, Op::Lock(SemNo(1))),
+        operation(0, 2, Op::Unlock(SemNo(1))),
+        step(1, 2, Act::Irq),
+        operation(1, 2, Op::Unlock(SemNo(1))),
+        step(1, 2, Act::Irq),
+        operation(1, 2, Op::Unlock(SemNo(1))),
+        step(0, 2, Act::Irq),
+        operation(0, 2, Op::Unlock(SemNo(1))),
+    ];
+    Vec::from_slice(alloc, &steps)
+}
+
+/// GSN-EDF on two processors, with one semaphore under OMLP: the worked example of its bound.
+fn sharing(alloc: Global) -> Result<Parts, AllocError> {
+    let one = Cluster {
+        cpus: 2,
+        group: GroupNo(0),
+    };
+    let sem = Sem {
+        name: Name::from_vec(Vec::from_slice(alloc, b"s")?),
+        protocol: Protocol::Omlp,
+    };
+    let mut sems = Vec::new(alloc);
+    sems.push(sem)?;
+    let mut tasks = Vec::new(alloc);
+    tasks.push(user(alloc, 1, Kind::Periodic, 100)?)?;
+    tasks.push(user(alloc, 2, Kind::Periodic, 100)?)?;
+    tasks.push(user(alloc, 3, Kind::Sporadic, 50)?)?;
+    tasks.push(user(alloc, 4, Kind::Sporadic, 20)?)?;
+    Ok(Parts {
+        plugin: PluginKind::GsnEdf,
+        clusters: ClusterList::from_vec(vec![in alloc; one]?),
+        sems: SemList::from_vec(sems),
+        resvs: ResvList::from_vec(Vec::new(alloc)),
+        tasks: TaskList::from_vec(tasks),
+        drive: Drive::Steps(StepList::from_vec(sharing_steps(alloc)?)),
+    })
+}
+
+/// An Unlock with these tasks that wait.
+fn freed(linked: Option<TaskNo>, runs: Option<TaskNo>, waiting: usize, blocked: usize) -> Outcome {
+    Outcome {
+        waiting,
+        blocked,
+        ..seen(Reply::Done, linked, runs)
     }
-    Ok(())
+}
+
+/// What is to be seen, by the worked example of the model.
+fn wanted_sharing(alloc: Global) -> Result<Vec<Outcome>, AllocError> {
+    let wanted = [
+        seen(Reply::Runs(TaskNo(1)), A, A),
+        seen(Reply::Runs(TaskNo(2)), B, B),
+        seen(Reply::Granted, A, A),
+        seen(Reply::Queued, NONE, NONE),
+        seen(Reply::Done, C, NONE),
+        seen(Reply::Runs(TaskNo(3)), C, C),
+        seen(Reply::Queued, NONE, NONE),
+        seen(Reply::Done, D, NONE),
+        seen(Reply::Runs(TaskNo(4)), D, D),
+        seen(Reply::Queued, NONE, NONE),
+        freed(A, A, 3, 2),
+        seen(Reply::Runs(TaskNo(2)), B, B),
+        freed(D, B, 2, 2),
+        seen(Reply::Runs(TaskNo(4)), D, D),
+        freed(D, D, 1, 1),
+        seen(Reply::Runs(TaskNo(3)), C, C),
+        freed(C, C, 0, 0),
+    ];
+    Vec::from_slice(alloc, &wanted)
+}
+
+#[test]
+fn plays_a_semaphore(rt: HostRuntime) -> Result<(), Fail> {
+    let setup = Setup::make(rt.alloc(), sharing(rt.alloc())?)?;
+    let wanted = wanted_sharing(rt.alloc())?;
+    play(&rt, rt.alloc(), &setup, wanted.as_slice())
 }

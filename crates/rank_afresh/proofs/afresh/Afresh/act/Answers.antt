@@ -1,4 +1,4 @@
-use Rattle.std.proofs.Common.{◌≡◌, ◌-◌, ◌<◌, ◌∷◌, ℕ, Bool, sym, ap, ◌∙◌, subst}
+use Rattle.std.proofs.Common.{◌≡◌, ◌-◌, ◌<◌, ◌∷◌, ℕ, Bool, refl, sym, ap, ◌∙◌, subst}
 use Rattle.std.specs.Prelude.{Option}
 use Rattle.rt_base.specs.declared.TaskNo.{TaskNo}
 use Rattle.rt_task.specs.declared.Act.{Act}
@@ -9,9 +9,9 @@ use Rattle.rt_model.specs.Past.{Clock}
 use Rattle.rt_model.specs.Steps.{IsStepOf}
 use Rattle.rt_model.proofs.Steps.{after-acted, reply_to-lem}
 use Rattle.rank_afresh.specs.contracts.afresh.Afresh.{the_view}
-use Rattle.rank_afresh.specs.Facts.{CanAct, Facts, IsPlainAct, acted, ended_now, reply_in}
+use Rattle.rank_afresh.specs.Facts.{CanAct, Facts, IsPlainAct, MayAct, acted, ended_now, reply_in}
 use Rattle.rank_afresh.specs.Standing.{IsAt, Standing, group_of}
-use Rattle.rank_afresh.proofs.StandingActs.{at-acted, can_act, fit-acted, plain, reply-is, step-inside}
+use Rattle.rank_afresh.proofs.StandingActs.{at-acted, can_act, fit-acted, may_act, plain, reply-is, step-inside}
 use Rattle.rank_afresh.proofs.afresh.Afresh.act.Goals as goal
 
 pub act-answer-requires-clause-act : goal.act-answer-requires-clause-act
@@ -28,6 +28,13 @@ act-answer-requires-clause-plain c =
     let at = subst (λ (v : Standing). IsAt v (Clock c.args.step.tick.0 ∷ c.requires.clocked.0)) (sym c.self.view_is) c.requires.clocked.1 in
     subst (λ (p : Parts). IsPlainAct p c.args.step.act) (sym c.parts-parts.ensures.parts)
     (plain (the_view c.self.inside) _ c.self.invariant _ at c.args.step.cpu.0 c.args.step.act (step-inside _ _ _ step.processor step.act) step.act)
+
+pub act-answer-requires-clause-sems : goal.act-answer-requires-clause-sems
+act-answer-requires-clause-sems c =
+    let step = subst (λ (v : Standing). IsStepOf (group_of v) c.args.step) (sym c.self.view_is) c.requires.step in
+    let at = subst (λ (v : Standing). IsAt v (Clock c.args.step.tick.0 ∷ c.requires.clocked.0)) (sym c.self.view_is) c.requires.clocked.1 in
+    subst (λ (p : Parts). MayAct p c.args.step.cpu.0 c.args.step.act c.self.inside.facts.facts) (sym c.parts-parts.ensures.parts)
+    (may_act (the_view c.self.inside) _ c.self.invariant _ at c.args.step.cpu.0 c.args.step.act (step-inside _ _ _ step.processor step.act) step.act)
 
 -- what came of the act, by the group's own setup and the reply that is read off its facts
 acted_here : (p' p : Parts) (q : ℕ) (act : Act) (reply : Reply) (f f' : Facts) → p' ≡ p → reply ≡ reply_in p' q act f → f' ≡ acted p' q act reply f → f' ≡ acted p q act (reply_in p q act f) f
@@ -59,6 +66,7 @@ pub returns-clause-acted : goal.returns-clause-acted
 returns-clause-acted c = λ past given.
     let step = subst (λ (v : Standing). IsStepOf (group_of v) c.args.step) (sym c.self.view_is) c.requires.step in
     let at = subst (λ (v : Standing). IsAt v (Clock c.args.step.tick.0 ∷ past)) (sym c.self.view_is) given in
+    let room = subst (λ (v : Standing). 0 < v.spare) (sym c.self.view_is) c.requires.room in
     let facts = acted_here _ _ c.args.step.cpu.0 c.args.step.act _ _ _ c.parts-parts.ensures.parts c.act-answer.ensures.reply c.act-answer.ensures.acted in
     let ended = ended_here _ _ c.args.step.cpu.0 c.args.step.act _ _ _ c.parts-parts.ensures.parts c.act-answer.ensures.reply c.act-answer.ensures.ended in
-    rw (← c.self.view_is, after-acted, facts, ended) (at-acted (the_view c.self.inside) _ c.self.invariant _ at c.args.step.cpu.0 c.args.step.act (step-inside _ _ _ step.processor step.act) step.act (c.self.inside.spare - 1))
+    rw (← c.self.view_is, after-acted, facts, ended) (at-acted (the_view c.self.inside) _ c.self.invariant _ at c.args.step.cpu.0 c.args.step.act (step-inside _ _ _ step.processor step.act) step.act (c.self.inside.spare - 1) room refl)

@@ -1,17 +1,30 @@
-use Rattle.std.proofs.Common.{◌≡◌, true, List, sym, ap, ◌∙◌, subst, arith}
+use Rattle.std.proofs.Common.{◌≡◌, ℕ, Bool, true, false, ap}
+use Rattle.std.specs.Prelude.{if◌then◌else◌}
+use Rattle.rt_task.specs.declared.Op.{Op}
 use Rattle.rt_task.specs.declared.Parts.{Parts}
-use Rattle.rt_task.specs.declared.Task.{Task}
-use Rattle.group_facts.specs.Kept.{Kept, has_operated}
-use Rattle.group_jobs.specs.GroupJobs.{GroupJobs}
-use Rattle.rank_afresh.specs.Facts.{CanAct, WithRoom}
-use Rattle.rank_afresh.proofs.Moving.{follow-operation}
+use Rattle.rt_model.specs.Past.{accepted}
+use Rattle.rank_afresh.specs.Facts.{CanAct, Facts, WithRoom, sems_by}
+use Rattle.rank_afresh.specs.Ranks.{HaveBases}
+use Rattle.rank_afresh.proofs.Bases.{have-by}
 use Rattle.rank_afresh.proofs.facts.Facts.operate.Goals as goal
 
-pub place_touched-requires-clause-follow : goal.place_touched-requires-clause-follow
-place_touched-requires-clause-follow c =
-    let p : Parts = c.args.parts.now in
-    let k : Kept = c.self.inside.jobs.kept in
-    let can = subst (λ (w : WithRoom). CanAct p c.args.cpu.0 w.facts) (sym c.self.view_is) c.requires.act in
-    let range = can.runs_task c.in-Some.task.0 (sym c.in-Some.ensures) in
-    let kept : c.operate-ends.new.self.kept ≡ has_operated p.tasks c.args.cpu.0 c.in-Some.task.0 c.args.op c.op_reply-reply.result true k = ap (λ (j : GroupJobs). j.kept) c.operate-ends.ensures.kept ∙ ap (λ (us : List Task). has_operated us c.args.cpu.0 c.in-Some.task.0 c.args.op c.op_reply-reply.result true k) c.as_slice-tasks.ensures in
-    rw kept (follow-operation p c.args.cpu.0 _ can c.in-Some.task.0 c.args.op c.op_reply-reply.result range.0 (omega (arith, range.1, can.read.all)))
+-- the facts once the semaphores have changed, or not
+can-still : (p : Parts) (q t : ℕ) (op : Op) (b : Bool) (f f' : Facts) → f' ≡ record f { sems = if b then sems_by p t op f.kept f.sems else f.sems } → CanAct p q f → CanAct p q f'
+can-still p q t op b f f' is can = rw is (record {
+  read = can.read;
+  keys = by_case b;
+  places = can.places;
+  same_length = can.same_length;
+  home = can.home;
+  has_cpu = can.has_cpu;
+  runs_task = can.runs_task;
+})
+  where
+    by_case : (a : Bool) → HaveBases p (if a then sems_by p t op f.kept f.sems else f.sems)
+    by_case true = have-by p t op f.kept f.sems can.keys
+    by_case false = can.keys
+
+pub count-ends-requires-clause-act : goal.count-ends-requires-clause-act
+count-ends-requires-clause-act c =
+    can-still c.args.parts.now c.args.cpu.0 c.in-Some.task.0 c.args.op (accepted c.reply-reply.result) c.args.self.now.facts c.reply-reply.new.self.facts
+    (ap (λ (w : WithRoom). w.facts) c.reply-reply.ensures.asked) c.requires.act

@@ -1,0 +1,46 @@
+use Rattle.std.proofs.Common.{◌≡◌, ◌<◌, ◌≤◌, List, length, get_or, sym, ap, ◌∙◌, subst, arith}
+use Rattle.std.proofs.lemmas.List.Edits.{map_over_more}
+use Rattle.group_facts.specs.Kept.{Kept}
+use Rattle.group_jobs.specs.GroupJobs.{GroupJobs}
+use Rattle.group_sems.specs.GroupSems.{GroupSems}
+use Rattle.rank_afresh.specs.Clusters.{CanPlace, ClusterFacts, relinked}
+use Rattle.rank_afresh.specs.Facts.{CanFollow, WithRoom}
+use Rattle.rank_afresh.specs.Ranks.{CanRead, HaveBases}
+use Rattle.rank_afresh.proofs.InTurn.{all-over, next-as_was}
+use Rattle.rank_afresh.proofs.facts.Facts.place_all.Goals as goal
+
+pub place-requires-clause-read : goal.place-requires-clause-read
+place-requires-clause-read c = subst (λ (k : Kept). CanRead _ c.args.parts.now k) (ap (λ (w : WithRoom). w.facts.kept) (sym c.self.view_is) ∙ ap (λ (j : GroupJobs). j.kept) (sym c.loop-c.invariant.jobs)) c.requires.read
+
+pub place-requires-clause-keys : goal.place-requires-clause-keys
+place-requires-clause-keys c =
+    subst (λ (v : GroupSems). HaveBases c.args.parts.now v) (ap (λ (w : WithRoom). w.facts.sems) (sym c.self.view_is) ∙ sym c.loop-c.invariant.sems) c.requires.keys
+
+pub place-requires-clause-place : goal.place-requires-clause-place
+place-requires-clause-place c =
+    let can = subst (λ (w : WithRoom). CanFollow c.args.parts.now w.facts) (sym c.self.view_is) c.requires in
+    let inside : c.loop-c.c < length c.self.inside.clusters.items = omega (arith, c.loop-c-test.true, c.len-c-end.ensures, c.self.inside.clusters.ok.0) in
+    let here : c.index_mut.result.now ≡ get_or c.self.inside.clusters.items c.loop-c.c c.index_mut.result.now = c.index_mut.ensures.value ∙ next-as_was _ _ _ _ _ inside c.loop-c.invariant.so_far in
+    let same : c.self.inside.jobs.kept ≡ c.loop-c.self-inside.jobs.kept = ap (λ (j : GroupJobs). j.kept) (sym c.loop-c.invariant.jobs) in
+    subst (λ (k : Kept). CanPlace c.args.parts.now k c.index_mut.result.now) same (subst (λ (x : ClusterFacts). CanPlace c.args.parts.now c.self.inside.jobs.kept x) (sym here) (can.places c.loop-c.c c.index_mut.result.now inside))
+
+pub loop-c-preserved : goal.loop-c-preserved
+loop-c-preserved c =
+    let inside : c.loop-c.c < length c.self.inside.clusters.items = omega (arith, c.loop-c-test.true, c.len-c-end.ensures, c.self.inside.clusters.ok.0) in
+    let same : c.loop-c.self-inside.jobs.kept ≡ c.self.inside.jobs.kept = ap (λ (j : GroupJobs). j.kept) c.loop-c.invariant.jobs in
+    let new : c.place.new.self ≡ relinked c.args.parts.now c.self.inside.jobs.kept c.self.inside.sems c.index_mut.result.now =
+    c.place.ensures ∙ ap (λ (k : Kept). relinked c.args.parts.now k c.loop-c.self-inside.sems c.index_mut.result.now) same
+    ∙ ap (λ (v : GroupSems). relinked c.args.parts.now c.self.inside.jobs.kept v c.index_mut.result.now) c.loop-c.invariant.sems in
+    record {
+      jobs = c.loop-c.invariant.jobs;
+      sems = c.loop-c.invariant.sems;
+      count = c.loop-c.invariant.count;
+      so_far = rw new (map_over_more (relinked c.args.parts.now c.self.inside.jobs.kept c.self.inside.sems) c.self.inside.clusters.items c.loop-c.self-inside.clusters.items c.loop-c.c c.index_mut.result.now inside c.loop-c.invariant.so_far c.index_mut.ensures.value);
+    }
+
+pub returns : goal.returns
+returns c =
+    let xs : List ClusterFacts = c.self.inside.clusters.items in
+    let all : length xs ≤ c.loop-c.c = omega (arith, c.loop-c-test.false, c.len-c-end.ensures, c.self.inside.clusters.ok.0) in
+    let items = all-over (relinked c.args.parts.now c.self.inside.jobs.kept c.self.inside.sems) xs c.loop-c.self-inside.clusters.items c.loop-c.c all c.loop-c.invariant.so_far in
+    rw (← c.self.view_is, items, c.loop-c.invariant.jobs, c.loop-c.invariant.sems)
