@@ -7,5 +7,6 @@ pub mod PlayableLaws
 pub mod EndLaws
 pub mod SimLaws
 pub mod CheckLaws
+pub mod Promises
 pub mod SimAnswerLaws
 pub mod CheckAnswerLaws

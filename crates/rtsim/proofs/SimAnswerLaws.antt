@@ -1,5 +1,5 @@
 -- The answers of `sim`, by how its reading and its writing ended.
-use Rattle.std.proofs.Common.{◌≡◌, ℕ, List, [], take, get_or, ap, subst, inl, inr}
+use Rattle.std.proofs.Common.{◌≡◌, ℕ, List, ap, subst, inl, inr}
 use Rattle.std.specs.Prelude.{◌⊎◌, Result, Err}
 use Rattle.rt_base.specs.declared.TheConstants.{MOST_SET_BYTES}
 use Rattle.rt_task.specs.declared.Parts.{Parts}
@@ -9,10 +9,8 @@ use Rattle.rt_fault.specs.Held.{Extends, ExtendsByPrefix}
 use Rattle.rt_fault.specs.Reading.{TakesAtMost}
 use Rattle.rt_fault.specs.declared.status.Status.{Status}
 use Rattle.rt_fault.specs.declared.status.Status.TheVariants as ends
-use Rattle.rt_model.proofs.PastLaws.{links_are_the_top}
 use Rattle.rtsim.specs.Ends.{Reading, Writing}
 use Rattle.rtsim.specs.Groups.{all_played}
-use Rattle.rtsim.specs.LinksOf.{LinksAreTheTopOf}
 use Rattle.rt_plays.specs.Order.{histories}
 use Rattle.rt_groups.specs.Groups.{GroupHistory}
 use Rattle.trace_lines.specs.declared.format.Version.TheVariants.{Two}
@@ -22,10 +20,8 @@ use Rattle.rtsim.specs.Sim.{WasRead, WasRefused, set_trace}
 use Rattle.rtsim.specs.SimAnswers.{SimAnswers}
 use Rattle.rtsim.specs.Stopped.{EndsReading}
 use Rattle.rtsim.proofs.EndLaws.{ended-well}
+use Rattle.rtsim.proofs.Promises.{holds-throughout}
 use Rattle.rtsim.proofs.SimLaws.{played-histories, can_play-told, can_play-unrefused}
-
-links-of : (p : Parts) (hs : List (List Entry)) → LinksAreTheTopOf p hs
-links-of p hs n k low within c t = links_are_the_top (record { setup = p; number = n }) (take k (get_or hs n [])) c t
 
 -- no set was read
 pub sim-unread :
@@ -55,7 +51,7 @@ wrote-answers :
     (source : Reading) (sink : Writing) (p : Parts) (answer : Status) → WasRead source p
     → TakesAtMost MOST_SET_BYTES source.old.left source.new.left → Wrote sink (set_trace p) answer → SimAnswers source sink answer
 wrote-answers source sink p ends.Ok read few all = record {
-  ok = λ _. record { setup = p; read = read; written = all; links = links-of p (histories p) };
+  ok = λ _. record { setup = p; read = read; written = all; holds = holds-throughout p (histories p) read.valid };
   bad_input = λ b is. cc;
   too_long = λ is. cc;
   not_too_long = λ _. few;

@@ -1,5 +1,6 @@
 pub mod Ends
 pub mod LinksOf
+pub mod Throughout
 pub mod Groups
 pub mod Sim
 pub mod Check

@@ -20,7 +20,7 @@ use Rattle.trace_lines.specs.declared.format.Version.TheVariants.{Two}
 use Rattle.trace_text.specs.TraceText.{trace_text}
 use Rattle.rt_plays.specs.Order.{histories}
 use Rattle.rtsim.specs.Ends.{Reading, Writing}
-use Rattle.rtsim.specs.LinksOf.{LinksAreTheTopOf}
+use Rattle.rtsim.specs.Throughout.{HoldsThroughout}
 
 -- the command `sim`
 abbrev pub is_sim : List (String Global) → Bool
@@ -68,7 +68,7 @@ pub record WasPlayed (source : Reading) (sink : Writing) : Type 0 where
   pub setup : Parts
   pub read : WasRead source setup
   pub written : Extends sink.old.held sink.new.held (set_trace setup)
-  pub links : LinksAreTheTopOf setup (histories setup)
+  pub holds : HoldsThroughout setup (histories setup)
 
 -- a set was read, and a first part of its trace came
 pub record WasCut (source : Reading) (sink : Writing) : Type 0 where
