@@ -113,7 +113,7 @@ bases-freed p clock t s v =
     retold-bases (owner_of v.table s) (after_release t s v.table) s (freed_waits p clock t s v)
     ∙ served-bases p v.ceilings clock s (after_release t s v.table).served (with_boost t None v.waits)
 
-pub bases-by : (p : Parts) (t : ℕ) (op : Op) (k : Kept) (v : GroupSems) → (sems_by p t op k v).waits.bases ≡ v.waits.bases
+bases-by : (p : Parts) (t : ℕ) (op : Op) (k : Kept) (v : GroupSems) → (sems_by p t op k v).waits.bases ≡ v.waits.bases
 bases-by p t ops.Work k v = refl
 bases-by p t (ops.Lock s) k v = bases-asked p k.clock t (base_in p k t) s.0 v
 bases-by p t (ops.Unlock s) k v = bases-freed p k.clock t s.0 v

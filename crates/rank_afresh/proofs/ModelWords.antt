@@ -123,7 +123,7 @@ module _ (g : Group) (plain : is_p_res g.setup.plugin ≡ false) (past : Past) (
         let waits : is_some (awaits_of v.table t) ≡ is_some (awaits g t past) = (holding_is_read g past valid made v t there sems.locks).1 in
         ready-read t there ∙ rw (none-not (awaits g t past), waits) refl
 
-    pub key-read : (t : ℕ) → has t (tasks g) ≡ true → effective_key g t past ≡ key_in v t
+    key-read : (t : ℕ) → has t (tasks g) ≡ true → effective_key g t past ≡ key_in v t
     key-read t there = sym (key_is_read g past valid made v.waits t there (record { bases_are = sems.bases; nexts_are = sems.locks.nexts_are; boosts_are = sems.locks.boosts_are }))
 
     ranking-read : (c : ℕ) → ranking g c past ≡ ranking_in g.setup k v (tasks_of g c)

@@ -15,9 +15,6 @@ module _ (acts : ℕ) (p : Parts) (k : Kept) (can : CanRead acts p k) (t : ℕ) 
   pub deadline-low : (task_in p.tasks t).rel_deadline < TICK_END
   deadline-low = limits.deadline_low
 
-  pub number-is : (task_in p.tasks t).number.0 ≡ t
-  number-is = let n : (task_in p.tasks t).number.0 ≡ t - 1 + 1 = limits.number_is in omega (arith, n)
-
   pub is-task : acts ≤ MOST_STEPS → (all : List Task) → all ≡ p.tasks → IsTaskOf k all t
   is-task few all same = subst (λ (ts : List Task). IsTaskOf k ts t) (sym same) (record {
     low = low;

@@ -1,5 +1,5 @@
 //! The plain facts of one group: what is kept of its jobs and processors and of its semaphores, and its clusters.
-ghost use Rattle.std.specs.Prelude.{◌≡◌, ◌+◌, ◌<◌, ◌≤◌, ◌==◌, ◌∷◌, All, IfOk, length, false, true, None, Some, if◌then◌else◌, unwrap_or};
+ghost use Rattle.std.specs.Prelude.{◌≡◌, ◌+◌, ◌<◌, ◌≤◌, ◌==◌, IfOk, length, false, true, None, Some, if◌then◌else◌, unwrap_or};
 ghost use Rattle.rt_base.specs.TaskNos.{number_of_task};
 ghost use Rattle.rt_base.specs.declared.TheConstants.{MOST_STEPS, TICK_END};
 ghost use Rattle.rt_task.specs.RuleWords.{is_p_res};
@@ -8,7 +8,7 @@ ghost use Rattle.rt_task.specs.declared.Op.TheVariants as ops;
 ghost use Rattle.rt_model.specs.Past.{accepted};
 ghost use Rattle.rt_groups.specs.Limits.{IsInLimits};
 ghost use Rattle.rt_changes.specs.SemActs.{is_at_sem};
-ghost use Rattle.group_facts.specs.Kept.{cpu_of, has_operated, job_of};
+ghost use Rattle.group_facts.specs.Kept.{cpu_of};
 ghost use Rattle.group_facts.specs.Timers as timers;
 ghost use Rattle.group_jobs.specs.GroupJobs.{IsTaskOf, is_op_reply};
 ghost use Rattle.group_jobs.specs.States.{SleepIsShort};
@@ -17,8 +17,8 @@ ghost use Rattle.group_sems.specs.Refusing.{unlock_refusal};
 ghost use Rattle.rt_rules.specs.Distinct.{IsDistinct};
 ghost use Rattle.count_laws.specs.Tallies.{waiter_tasks};
 ghost use Rattle.waiting_list.specs.Listing.{AreWaitersAt, CanList, Moment};
-ghost use Rattle.rank_afresh.specs.Clusters.{CanPlace, HasCpu};
-ghost use Rattle.rank_afresh.specs.Ranks.{CanRead, HaveBases, base_in};
+ghost use Rattle.rank_afresh.specs.Clusters.{HasCpu};
+ghost use Rattle.rank_afresh.specs.Ranks.{CanRead, base_in};
 ghost use Rattle.rank_afresh.specs.Facts.{AreOpened, CanAct, CanFollow, IsPlainAct, MayAct, MayDo, MayLock, MayUnlock, acted, all_based, all_followed, all_placed, asked_reply, at_opening, based, clocked, cluster_at, counted, ended_now, ends_in, home_of, late_in, link_in, lock_refused, placed_afresh, placing_after, reply_in, sems_by, task_reply};
 ghost use Rattle.rank_afresh.specs.Facts as seen;
 
