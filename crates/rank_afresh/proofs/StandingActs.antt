@@ -35,7 +35,7 @@ use Rattle.rt_plays.specs.Room.{processor_count}
 use Rattle.rt_groups.specs.Built.{is_built}
 use Rattle.rt_groups.specs.Places.{IsAtHome}
 use Rattle.rt_groups.proofs.GroupPlaces.{processors_are_at_home}
-use Rattle.rt_groups.proofs.NoSems.{built-unreserved}
+use Rattle.rt_groups.proofs.Unreserved.{built-unreserved}
 use Rattle.rt_groups.proofs.SetLimits.{sets_are_in_limits}
 use Rattle.rank_changes.specs.Touched.{arriving}
 use Rattle.rt_changes.specs.SemActs.{is_at_sem}

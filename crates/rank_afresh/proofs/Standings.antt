@@ -20,7 +20,7 @@ use Rattle.rt_model.proofs.Steps.{links-step}
 use Rattle.rt_plays.specs.Homes.{IsProcessorOf}
 use Rattle.rt_groups.specs.Places.{IsAtHome}
 use Rattle.rt_groups.proofs.GroupPlaces.{processors_are_at_home}
-use Rattle.rt_groups.proofs.NoSems.{built-unreserved}
+use Rattle.rt_groups.proofs.Unreserved.{built-unreserved}
 use Rattle.rank_changes.proofs.SameClusters.{links-stay, runs-clock}
 use Rattle.group_facts.specs.Facts.{CpuFacts}
 use Rattle.group_facts.specs.Kept.{IsKept, Kept, cpu_of, with_clock}

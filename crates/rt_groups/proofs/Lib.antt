@@ -3,5 +3,5 @@ pub mod SetLimits
 pub mod GroupCount
 pub mod GroupPlaces
 pub mod TaskNumbers
-pub mod NoSems
+pub mod Unreserved
 pub mod RunsAfter

@@ -7,7 +7,7 @@ use Rattle.rt_plays.specs.Room.{room}
 use Rattle.rtsim.specs.Groups.{opened}
 use Rattle.rt_groups.specs.Groups.{GroupHistory}
 use Rattle.rt_groups.proofs.GroupCount.{groups_are_counted}
-use Rattle.rt_groups.proofs.NoSems.{built-unreserved}
+use Rattle.rt_groups.proofs.Unreserved.{built-unreserved}
 use Rattle.trace_text.proofs.GroupLaws.{groups-few}
 use Rattle.rtsim.proofs.GivenSteps.{room-few}
 use Rattle.rtsim.proofs.Numbered.{length-numbered, numbered-push}

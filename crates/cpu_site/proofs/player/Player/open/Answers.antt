@@ -7,7 +7,7 @@ use Rattle.rt_task.specs.declared.Step.{Step}
 use Rattle.rt_rules.specs.Numbers.{has}
 use Rattle.rt_model.specs.Group.{group_processors}
 use Rattle.rt_groups.specs.Groups.{GroupHistory}
-use Rattle.rt_groups.proofs.NoSems.{built-unreserved}
+use Rattle.rt_groups.proofs.Unreserved.{built-unreserved}
 use Rattle.rt_plays.specs.Drives.{steps_given}
 use Rattle.rt_plays.specs.Order.{steps_in_group}
 use Rattle.rt_plays.specs.Plays.{group_with}

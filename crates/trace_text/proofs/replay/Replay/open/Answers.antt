@@ -1,6 +1,6 @@
 use Rattle.std.proofs.Common.{ap, ◌∙◌}
 use Rattle.rt_groups.specs.Groups.{group_of}
-use Rattle.rt_groups.proofs.NoSems.{built-unreserved}
+use Rattle.rt_groups.proofs.Unreserved.{built-unreserved}
 use Rattle.trace_text.proofs.ReplayLaws.{cpus_there}
 use Rattle.trace_text.proofs.replay.Replay.open.Goals as goal
 
