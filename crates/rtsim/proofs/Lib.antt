@@ -3,8 +3,6 @@ pub mod CpuGroups
 pub mod GivenSteps
 pub mod OrderLaws
 pub mod OneStep
-pub mod PlayableLaws
-pub mod EndLaws
 pub mod SimLaws
 pub mod CheckLaws
 pub mod SimAnswerLaws

@@ -1,0 +1,5 @@
+pub mod Ends
+pub mod LinksOf
+pub mod Inputs
+pub mod Answers
+pub mod Stopped
