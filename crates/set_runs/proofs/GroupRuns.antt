@@ -30,7 +30,7 @@ has-at (x ∷ xs) q h = by_case (q == x) refl h (has-at xs q)
   where
     by_case : (b : Bool) → (q == x) ≡ b → b || has q xs ≡ true → (has q xs ≡ true → (k : ℕ) × (k < length xs) × (get_or xs k 0 ≡ q)) → (k : ℕ) × (k < length (x ∷ xs)) × (get_or (x ∷ xs) k 0 ≡ q)
     by_case true is m rest = (0, omega arith, sym (eqb-true q x is))
-    by_case false is m rest = let r = rest m in let low = r.2.0 in (suc r.0, omega (arith, low), r.2.1)
+    by_case false is m rest = let r = rest m in let low = r.1 in (suc r.0, omega (arith, low), r.2)
 
 -- seats that were not used are all of one site
 pub unused-cells : (cell : Cell GroupOf) (qs : List ℕ) (seats : List CpuPlace) → seats ≡ unused_seats cell qs → All (λ (p : CpuPlace). p.cell ≡ cell) seats
@@ -55,11 +55,11 @@ module _ (cell : Cell GroupOf) (p : Parts) (n : ℕ) (before after : List CpuPla
       let qs : List ℕ = group_processors (group_with p n) in
       let at = has-at qs q there in
       let k : ℕ = at.0 in
-      let low = at.2.0 in
+      let low = at.1 in
       let all = are.all in
       let low_before : k < length before = omega (arith, low, ap length unused, length-map qs (unused_seat cell)) in
       let low_after : k < length after = omega (arith, low_before, all) in
-      let own : (d : CpuPlace) → (get_or before k d).cpu ≡ q = λ d. ap (λ (ps : List CpuPlace). (get_or ps k d).cpu) unused ∙ ap (λ (x : CpuPlace). x.cpu) (get_or-map (unused_seat cell) qs k 0 d low) ∙ at.2.1 in
+      let own : (d : CpuPlace) → (get_or before k d).cpu ≡ q = λ d. ap (λ (ps : List CpuPlace). (get_or ps k d).cpu) unused ∙ ap (λ (x : CpuPlace). x.cpu) (get_or-map (unused_seat cell) qs k 0 d low) ∙ at.2 in
       record {
         place = k;
         before_there = low_before;
