@@ -1,13 +1,15 @@
 -- The groups of a set, each with its run.
-use Rattle.std.proofs.Common.{◌≡◌, ℕ, zero, suc, ◌+◌, ◌<◌, false, List, [], ◌∷◌, ◌++◌, length, map, get_or, refl, sym, ap, ◌∙◌, subst, arith, append_assoc}
-use Rattle.std.specs.Prelude.{Result, Ok, Err, is_ok, is_err, if◌then◌else◌}
-use Rattle.std.proofs.lemmas.List.{append-nil, map-append, nil_from_length, get_or-map}
+use Rattle.std.proofs.Common.{◌≡◌, ℕ, zero, suc, ◌+◌, ◌^◌, ◌<◌, ◌≤◌, false, List, [], ◌∷◌, ◌++◌, length, map, get_or, refl, sym, ap, ◌∙◌, subst, arith, append_assoc}
+use Rattle.std.specs.Prelude.{Result, Ok, Err, IfOk, is_ok, is_err, if◌then◌else◌}
+use Rattle.std.proofs.lemmas.List.{append-nil, length-map, map-append, nil_from_length, get_or-map}
+use Rattle.rt_base.specs.declared.NoMemory.{NoMemory}
 use Rattle.rt_task.specs.declared.Parts.{Parts}
 use Rattle.rt_task.specs.Validity.{IsValid}
 use Rattle.rt_rules.specs.Numbers.{numbers_from}
-use Rattle.rt_groups.specs.Groups.{GroupHistory}
+use Rattle.rt_groups.specs.Groups.{GroupHistory, IsGroupOf}
+use Rattle.rt_groups.proofs.GroupCount.{groups_are_counted}
 use Rattle.rt_plays.specs.Plays.{group_count}
-use Rattle.trace_text.proofs.GroupLaws.{all-groups}
+use Rattle.trace_text.proofs.GroupLaws.{all-groups, groups-few}
 use Rattle.set_runs.specs.Runs.{AreRunsOf, IsRunOf}
 
 -- each history is of the group at its place
@@ -56,3 +58,23 @@ module _ {A E : Type 0} where
 pub pushed : {B E : Type 0} {X : Type 0} (r : Result B E) (xs ys : List X) → is_err r ≡ false → (if is_ok r then xs else ys) ≡ xs
 pushed (Ok a) xs ys h = refl
 pushed (Err e) xs ys h = cc
+
+-- ---- the runs of all groups
+
+pub group-there : (p : Parts) (count n : ℕ) → IsValid p → count ≡ group_count p → n < count → (n < 2 ^ 32) × IsGroupOf p n
+group-there p count n valid is low =
+    let few : group_count p ≤ 64 = groups-few p valid in
+    let inside : n < group_count p = omega (arith, low, is) in
+    (omega (arith, few, inside), (groups_are_counted p n valid).1 inside)
+
+runs-of : (p : Parts) (count : ℕ) (runs : List (Result GroupHistory NoMemory)) (hs : List GroupHistory) → IsValid p → count ≡ group_count p → length runs ≡ count
+    → ((i : ℕ) (d : Result GroupHistory NoMemory) → i < count → IfOk (get_or runs i d) (λ h. IsRunOf p i h)) → runs ≡ oks hs → AreRunsOf p hs
+runs-of p count runs hs valid is long each are =
+    let same : length runs ≡ length hs = ap length are ∙ length-map hs (λ (h : GroupHistory). let r : Result GroupHistory NoMemory = Ok h in r) in
+    set-run p hs valid (omega (arith, same, long, is)) (λ k d low.
+        subst (λ (r : Result GroupHistory NoMemory). IfOk r (λ h. IsRunOf p k h)) (ok-at runs hs k d are low) (each k (Ok d) (omega (arith, low, same, long))))
+
+pub all-runs : {X : Type 0} (items : X → List GroupHistory) (p : Parts) (count : ℕ) (runs : List (Result GroupHistory NoMemory)) (r : Result X NoMemory) → IsValid p → count ≡ group_count p → length runs ≡ count
+    → ((i : ℕ) (d : Result GroupHistory NoMemory) → i < count → IfOk (get_or runs i d) (λ h. IsRunOf p i h)) → IfOk r (λ v. runs ≡ oks (items v)) → IfOk r (λ v. AreRunsOf p (items v))
+all-runs items p count runs (Ok v) valid is long each are = runs-of p count runs (items v) valid is long each are
+all-runs items p count runs (Err e) valid is long each are = are

@@ -46,6 +46,8 @@ pub fn run_set<R: Threads + Wait + Sync, G: Gate + Sync>(
         requires { (n < 2 ^ 32) × IsGroupOf setup.now n × (is_built setup.now ≡ true) }
         ensures { IfOk result (λ engine. IsRunOf setup.entry.now n engine) }
     { run_group(rt, alloc, setup, GroupNo(n as u32), gate) };
+    // A proof knows that a setup is valid once its parts are read.
+    let _parts = setup.parts();
     match thread::map_indices(rt, alloc, count_groups(setup) as usize, &run) {
         Ok(runs) => all_run(alloc, runs),
         Err(_) => Err(NoMemory),
