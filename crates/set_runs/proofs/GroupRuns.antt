@@ -1,9 +1,8 @@
 -- The seats of a group, once each has been driven, and the history that this leaves.
-use Rattle.std.proofs.Common.{◌≡◌, ℕ, zero, suc, ◌+◌, ◌<◌, ◌≤◌, Bool, true, false, List, [], ◌∷◌, length, map, get_or, eqb-true, refl, sym, ap, ◌∙◌, subst, arith, Some}
+use Rattle.std.proofs.Common.{◌≡◌, ℕ, suc, ◌<◌, Bool, true, false, List, [], ◌∷◌, length, map, get_or, eqb-true, refl, sym, ap, ◌∙◌, subst, arith, Some}
 use Rattle.std.specs.Prelude.{◌==◌, ◌||◌, All, Contains}
 use Rattle.std.proofs.lemmas.List.{get_or-map, length-map}
 use Rattle.rt_task.specs.declared.Parts.{Parts}
-use Rattle.rt_task.specs.declared.Step.{Step}
 use Rattle.rt_history.specs.declared.Entry.{Entry}
 use Rattle.rt_rules.specs.Numbers.{has}
 use Rattle.rt_model.specs.Group.{group_processors}
@@ -12,16 +11,16 @@ use Rattle.rt_plays.specs.Drives.{steps_given}
 use Rattle.rt_plays.specs.Homes.{IsProcessorOf}
 use Rattle.rt_plays.specs.Plays.{group_with}
 use Rattle.rt_plays.specs.Scripts.{script, steps_of}
-use Rattle.rt_plays.specs.ScriptPlays.{IsBegunScriptPlay, IsScriptPlay}
+use Rattle.rt_plays.specs.ScriptPlays.{IsBegunScriptPlay}
 use Rattle.rt_plays.proofs.ScriptParts.{play-of-part}
 use Rattle.turn_cell.specs.Places.{Cell}
-use Rattle.turn_cell.specs.Words.{entries_of, AgreeOn}
+use Rattle.turn_cell.specs.Words.{AgreeOn}
 use Rattle.turn_cell.proofs.Tools.{one_some}
 use Rattle.cpu_site.specs.declared.story.GroupOf.{GroupOf}
 use Rattle.cpu_site.specs.Playing.{IsOver}
 use Rattle.cpu_site.specs.Seats.{about, cpu_of, group_at, unused_seat, unused_seats, About, CpuPlace}
 use Rattle.cpu_site.proofs.Words.{script-of}
-use Rattle.set_runs.specs.Runs.{AreDriven, IsDriven, IsRunOf}
+use Rattle.set_runs.specs.Runs.{AreDriven, IsRunOf}
 
 -- the place of a number in a list
 has-at : (xs : List ℕ) (q : ℕ) → has q xs ≡ true → (k : ℕ) × (k < length xs) × (get_or xs k 0 ≡ q)

@@ -1,5 +1,5 @@
 -- The groups of a set, each with its run.
-use Rattle.std.proofs.Common.{◌≡◌, ℕ, zero, suc, ◌+◌, ◌^◌, ◌<◌, ◌≤◌, false, List, [], ◌∷◌, ◌++◌, length, map, get_or, refl, sym, ap, ◌∙◌, subst, arith, append_assoc}
+use Rattle.std.proofs.Common.{◌≡◌, ℕ, suc, ◌+◌, ◌^◌, ◌<◌, ◌≤◌, false, List, [], ◌∷◌, ◌++◌, length, map, get_or, refl, sym, ap, ◌∙◌, subst, arith, append_assoc}
 use Rattle.std.specs.Prelude.{Result, Ok, Err, IfOk, is_ok, is_err, if◌then◌else◌}
 use Rattle.std.proofs.lemmas.List.{append-nil, length-map, map-append, nil_from_length, get_or-map}
 use Rattle.rt_base.specs.declared.NoMemory.{NoMemory}
@@ -72,7 +72,7 @@ runs-of : (p : Parts) (count : ℕ) (runs : List (Result GroupHistory NoMemory))
 runs-of p count runs hs valid is long each are =
     let same : length runs ≡ length hs = ap length are ∙ length-map hs (λ (h : GroupHistory). let r : Result GroupHistory NoMemory = Ok h in r) in
     set-run p hs valid (omega (arith, same, long, is)) (λ k d low.
-        subst (λ (r : Result GroupHistory NoMemory). IfOk r (λ h. IsRunOf p k h)) (ok-at runs hs k d are low) (each k (Ok d) (omega (arith, low, same, long))))
+    subst (λ (r : Result GroupHistory NoMemory). IfOk r (λ h. IsRunOf p k h)) (ok-at runs hs k d are low) (each k (Ok d) (omega (arith, low, same, long))))
 
 pub all-runs : {X : Type 0} (items : X → List GroupHistory) (p : Parts) (count : ℕ) (runs : List (Result GroupHistory NoMemory)) (r : Result X NoMemory) → IsValid p → count ≡ group_count p → length runs ≡ count
     → ((i : ℕ) (d : Result GroupHistory NoMemory) → i < count → IfOk (get_or runs i d) (λ h. IsRunOf p i h)) → IfOk r (λ v. runs ≡ oks (items v)) → IfOk r (λ v. AreRunsOf p (items v))

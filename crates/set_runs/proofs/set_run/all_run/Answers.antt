@@ -1,4 +1,4 @@
-use Rattle.std.proofs.Common.{◌++◌, ◌∷◌, [], map, Ok, sym, ap, ◌∙◌, arith}
+use Rattle.std.proofs.Common.{◌++◌, map, Ok, sym, ap, ◌∙◌, arith}
 use Rattle.set_runs.proofs.SetRuns.{all-pushed, all-taken, pushed}
 use Rattle.set_runs.proofs.set_run.all_run.Goals as goal
 
