@@ -1,4 +1,5 @@
-use Rattle.std.proofs.Common.{inr, refl, sym, subst}
+use Rattle.std.proofs.Common.{rules, ◌≡◌, true, inr, refl, sym, subst}
+use Rattle.rt_groups.specs.Built.{is_built}
 use Rattle.trace_text.specs.Groups.{AreGroupsOf}
 use Rattle.set_input.proofs.InputLaws.{playable-is_built}
 use Rattle.set_runs.specs.Runs.{AreRunsOf}
@@ -9,7 +10,9 @@ pub returns-in-Err-clause-answers : goal.returns-in-Err-clause-answers
 returns-in-Err-clause-answers g c = run-unread _ _ c.in-Err.status c.in-Err.ensures.ends refl
 
 pub run_set-requires : goal.run_set-requires
-run_set-requires g c = playable-is_built _ _ c.in-Ok.ensures.ok.reads
+run_set-requires g c =
+    let built : is_built c.in-Ok.setup ≡ true = playable-is_built _ _ c.in-Ok.ensures.ok.reads in
+    search (built, rules)
 
 pub write_trace-requires-clause-built : goal.write_trace-requires-clause-built
 write_trace-requires-clause-built g c = playable-is_built _ _ c.in-Ok.ensures.ok.reads
