@@ -1,5 +1,5 @@
 -- The histories of a set that was run: they are plays of it, and their text is a valid one.
-use Rattle.std.proofs.Common.{◌≡◌, ℕ, ◌<◌, List, [], length, map, get_or, refl, sym, ap, ◌∙◌, subst, arith, true}
+use Rattle.std.proofs.Common.{◌≡◌, ℕ, ◌<◌, List, [], length, get_or, refl, sym, ap, ◌∙◌, subst, arith, true}
 use Rattle.std.proofs.lemmas.List.{get_or-map, length-map}
 use Rattle.rt_task.specs.declared.Parts.{Parts}
 use Rattle.rt_task.specs.Validity.{IsValid}
@@ -7,7 +7,7 @@ use Rattle.rt_history.specs.declared.Entry.{Entry}
 use Rattle.rt_model.specs.Group.{Group}
 use Rattle.rt_groups.specs.Built.{is_built}
 use Rattle.rt_groups.specs.Groups.{GroupHistory, group_of}
-use Rattle.rt_plays.specs.Plays.{ArePlays, IsPlay, group_count, group_with}
+use Rattle.rt_plays.specs.Plays.{ArePlays, IsPlay, group_with}
 use Rattle.rt_plays.specs.ScriptPlays.{IsScriptPlay}
 use Rattle.trace_lines.specs.declared.format.Version.TheVariants.{Two}
 use Rattle.trace_text.specs.Groups.{histories}

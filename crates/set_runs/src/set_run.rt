@@ -31,8 +31,8 @@ fn all_run(alloc: Global, runs: Vec<Result<Engine, NoMemory>>) -> Result<Vec<Eng
 /// The engines of the set's groups, by rising number, once each processor has played its whole script in a thread of its
 /// own. The gate is asked before each play, also before the one that finds no step left.
 ///
-/// A processor whose thread cannot be started is played by the caller. Memory is taken before the first play of a group
-/// and after its last.
+/// A processor whose thread cannot be started is played by the caller. Memory is taken to open the groups and to start
+/// and join threads, and by no play.
 pub fn run_set<R: Threads + Wait + Sync, G: Gate + Sync>(
     rt: &R,
     alloc: Global,
