@@ -3,11 +3,11 @@ use Rattle.std.proofs.Common.{◌≡◌, ap}
 use Rattle.std.specs.Prelude.{Result, Err}
 use Rattle.rt_base.specs.declared.TheConstants.{MOST_TRACE_BYTES}
 use Rattle.rt_fault.specs.declared.status.Status.{Status}
-use Rattle.rtsim.specs.Ends.{Reading, Writing}
+use Rattle.set_input.specs.Ends.{Reading, Writing}
 use Rattle.rtsim.specs.Check.{WasNoTrace}
 use Rattle.rtsim.specs.CheckAnswers.{CheckAnswers}
-use Rattle.rtsim.specs.Stopped.{EndsReading}
-use Rattle.rtsim.proofs.EndLaws.{ended-well}
+use Rattle.set_input.specs.Stopped.{EndsReading}
+use Rattle.set_input.proofs.EndLaws.{ended-well}
 use Rattle.rtsim.proofs.CheckLaws.{can_check-told, can_check-unrefused}
 
 -- no trace was read

@@ -17,9 +17,9 @@ use Rattle.trace_laws.proofs.Heads.{head-unique}
 use Rattle.trace_laws.proofs.Heads as heads
 use Rattle.trace_check.specs.Verdicts.{IsInvalid}
 use Rattle.rt_fault.specs.Reading.{TakesAll}
-use Rattle.rtsim.specs.Ends.{Reading}
+use Rattle.set_input.specs.Ends.{Reading}
 use Rattle.rtsim.specs.Check.{SaysSet, SaysUnbuilt, TraceIsRefused, WasTrace, WasNoTrace, IsValidTrace, CanCheck}
-use Rattle.rtsim.proofs.EndLaws.{IsToldWithin}
+use Rattle.set_input.proofs.EndLaws.{IsToldWithin}
 
 -- what has no head is refused at the line that it lacks
 pub headless-refused : (bytes : List ℕ) (line : ℕ) (b : BadSet) → IsRefused bytes (faults.NotTrace line) → b ≡ bad NotTrace Line line → TraceIsRefused bytes b

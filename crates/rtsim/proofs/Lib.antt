@@ -3,10 +3,7 @@ pub mod CpuGroups
 pub mod GivenSteps
 pub mod OrderLaws
 pub mod OneStep
-pub mod PlayableLaws
-pub mod EndLaws
 pub mod SimLaws
 pub mod CheckLaws
-pub mod Promises
 pub mod SimAnswerLaws
 pub mod CheckAnswerLaws

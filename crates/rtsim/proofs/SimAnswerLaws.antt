@@ -1,27 +1,27 @@
 -- The answers of `sim`, by how its reading and its writing ended.
 use Rattle.std.proofs.Common.{◌≡◌, ℕ, List, ap, subst, inl, inr}
-use Rattle.std.specs.Prelude.{◌⊎◌, Result, Err}
+use Rattle.std.specs.Prelude.{Result, Err}
 use Rattle.rt_base.specs.declared.TheConstants.{MOST_SET_BYTES}
 use Rattle.rt_task.specs.declared.Parts.{Parts}
 use Rattle.rt_history.specs.declared.Entry.{Entry}
-use Rattle.rt_fault.specs.Faults.{HasRisen}
-use Rattle.rt_fault.specs.Held.{Extends, ExtendsByPrefix}
 use Rattle.rt_fault.specs.Reading.{TakesAtMost}
 use Rattle.rt_fault.specs.declared.status.Status.{Status}
 use Rattle.rt_fault.specs.declared.status.Status.TheVariants as ends
-use Rattle.rtsim.specs.Ends.{Reading, Writing}
+use Rattle.set_input.specs.Ends.{Reading, Writing}
 use Rattle.rtsim.specs.Groups.{all_played}
 use Rattle.rt_plays.specs.Order.{histories}
 use Rattle.rt_groups.specs.Groups.{GroupHistory}
 use Rattle.trace_lines.specs.declared.format.Version.TheVariants.{Two}
 use Rattle.trace_text.specs.Groups as groups
 use Rattle.trace_text.specs.TraceText.{trace_text}
-use Rattle.rtsim.specs.Sim.{WasRead, WasRefused, set_trace}
+use Rattle.rtsim.specs.Sim.{set_trace}
+use Rattle.set_input.specs.Inputs.{WasRead, WasRefused}
 use Rattle.rtsim.specs.SimAnswers.{SimAnswers}
-use Rattle.rtsim.specs.Stopped.{EndsReading}
-use Rattle.rtsim.proofs.EndLaws.{ended-well}
-use Rattle.rtsim.proofs.Promises.{holds-throughout}
-use Rattle.rtsim.proofs.SimLaws.{played-histories, can_play-told, can_play-unrefused}
+use Rattle.set_input.specs.Stopped.{EndsReading}
+use Rattle.set_input.proofs.EndLaws.{ended-well, Wrote}
+use Rattle.set_input.proofs.InputLaws.{can_play-told, can_play-unrefused}
+use Rattle.set_input.proofs.Promises.{holds-throughout}
+use Rattle.rtsim.proofs.SimLaws.{played-histories}
 
 -- no set was read
 pub sim-unread :
@@ -39,13 +39,6 @@ sim-unread {T} source sink answer e same =
       not_invalid = λ line is. e.not_invalid line (err _ is);
       complete = λ can sure. ended-well source MOST_SET_BYTES (WasRefused source) answer e (can_play-told _ can) sure.read (λ b. can_play-unrefused source b can);
     }
-
--- a text was written, or a first part of it
-abbrev pub Wrote : Writing → List ℕ → Status → Type 0
-Wrote sink text ends.Ok = Extends sink.old.held sink.new.held text
-Wrote sink text ends.WriteFault = ExtendsByPrefix sink.old.held sink.new.held text × HasRisen sink.old.faults sink.new.faults
-Wrote sink text ends.NoMemory = (sink.new ≡ sink.old) ⊎ ExtendsByPrefix sink.old.held sink.new.held text
-Wrote sink text _ = ⊥
 
 wrote-answers :
     (source : Reading) (sink : Writing) (p : Parts) (answer : Status) → WasRead source p

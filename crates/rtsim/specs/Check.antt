@@ -16,7 +16,7 @@ use Rattle.trace_laws.specs.ValidTexts.{IsValidText}
 use Rattle.trace_check.specs.declared.verdict.Verdict.{Verdict}
 use Rattle.trace_check.specs.declared.verdict.Verdict.TheVariants.{Valid, Invalid}
 use Rattle.trace_check.specs.Verdicts.{IsVerdict}
-use Rattle.rtsim.specs.Ends.{Reading, Writing}
+use Rattle.set_input.specs.Ends.{Reading, Writing}
 
 -- the first line of the text names this format, and the second says this set, which is played so far
 pub record SaysSet (bytes : List ℕ) (version : Version) (p : Parts) : Type 0 where

@@ -6,8 +6,8 @@ use Rattle.rt_fault.specs.Reading.{TakesAtMost, TakesOneMoreThan}
 use Rattle.rt_fault.specs.declared.status.Status.{Status}
 use Rattle.rt_fault.specs.declared.status.Status.TheVariants.{Ok, Invalid, BadInput, WriteFault, TooLong, NoMemory}
 use Rattle.trace_check.specs.declared.verdict.Verdict.TheVariants as verdicts
-use Rattle.rtsim.specs.Ends.{Reading, Writing, IsFaultless}
-use Rattle.rtsim.specs.Sim.{IsWell}
+use Rattle.set_input.specs.Ends.{Reading, Writing, IsFaultless}
+use Rattle.set_input.specs.Answers.{IsWell}
 use Rattle.rtsim.specs.Check.{WasChecked, VerdictWasCut, WasNoTrace, CanCheck}
 
 pub record CheckAnswers (source : Reading) (sink : Writing) (answer : Status) : Type 0 where

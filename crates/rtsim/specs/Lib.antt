@@ -1,9 +1,5 @@
-pub mod Ends
-pub mod LinksOf
-pub mod Throughout
 pub mod Groups
 pub mod Sim
 pub mod Check
-pub mod Stopped
 pub mod SimAnswers
 pub mod CheckAnswers

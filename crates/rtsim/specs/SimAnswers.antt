@@ -5,8 +5,10 @@ use Rattle.rt_task.specs.declared.bad_set.BadSet.{BadSet}
 use Rattle.rt_fault.specs.Reading.{TakesAtMost, TakesOneMoreThan}
 use Rattle.rt_fault.specs.declared.status.Status.{Status}
 use Rattle.rt_fault.specs.declared.status.Status.TheVariants.{Ok, Invalid, BadInput, WriteFault, TooLong, NoMemory}
-use Rattle.rtsim.specs.Ends.{Reading, Writing, IsFaultless}
-use Rattle.rtsim.specs.Sim.{WasPlayed, WasCut, WasRefused, CanPlay, IsWell}
+use Rattle.set_input.specs.Ends.{Reading, Writing, IsFaultless}
+use Rattle.rtsim.specs.Sim.{WasPlayed, WasCut}
+use Rattle.set_input.specs.Inputs.{WasRefused, CanPlay}
+use Rattle.set_input.specs.Answers.{IsWell}
 
 pub record SimAnswers (source : Reading) (sink : Writing) (answer : Status) : Type 0 where
   -- all input was read, and the sink got the trace of its set

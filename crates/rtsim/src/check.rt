@@ -1,8 +1,8 @@
 //! The command `check`: from the bytes of a trace to the line that says what it is.
 ghost use Rattle.std.specs.Prelude.{◌≡◌, ◌≢◌};
 ghost use Rattle.rt_fault.specs.Faults.{HasRisen};
-ghost use Rattle.rtsim.specs.Ends.{reading, writing};
-ghost use Rattle.rtsim.specs.Sim.{IsUnwritten};
+ghost use Rattle.set_input.specs.Ends.{reading, writing};
+ghost use Rattle.set_input.specs.Answers.{IsUnwritten};
 ghost use Rattle.rtsim.specs.CheckAnswers.{CheckAnswers};
 
 use crate::trace_input::read_trace_input;

@@ -2,12 +2,9 @@
 #![tactic(auto)]
 
 mod check;
-mod fault_line;
 mod groups;
-mod input;
 mod play;
 mod play_set;
-mod refusal;
 mod sim;
 #[cfg(test)]
 mod tests;
@@ -15,12 +12,15 @@ mod trace_input;
 mod verdict_line;
 mod words;
 
-use fault_line::FaultLine;
 use rt_fault::{Status, StdSink, StdSource};
+use set_input::FaultLine;
 pub use sim::sim;
 use std::env;
 use std::io::{self, BufWriter, ErrorKind, Write};
 use std::process::ExitCode;
+
+/// The words that are commands, as they are said.
+const USAGE: &str = "usage: rtsim sim, rtsim check";
 
 /// Runs the command between standard input and standard output. What a failed flush keeps back is a failed write.
 fn run(rt: &HostRuntime, words: &[String]) -> Status {
@@ -48,7 +48,7 @@ fn say(rt: &HostRuntime, line: &str) -> Status {
 /// Answers `--help` and `--version`, and runs all other words.
 fn answer(rt: &HostRuntime, words: &[String]) -> Status {
     match words {
-        [word] if word.as_str() == "--help" => say(rt, "usage: rtsim sim, rtsim check"),
+        [word] if word.as_str() == "--help" => say(rt, USAGE),
         [word] if word.as_str() == "--version" => say(rt, "rtsim 0.1.0"),
         _ => run(rt, words),
     }
@@ -69,7 +69,11 @@ fn status_of_words(rt: &HostRuntime) -> Status {
 fn main(rt: HostRuntime) -> ExitCode {
     let status = status_of_words(&rt);
     if status != Status::Ok {
-        let _ = eprintln!(rt; "rtsim: {}", FaultLine(status));
+        let line = FaultLine {
+            usage: USAGE,
+            status,
+        };
+        let _ = eprintln!(rt; "rtsim: {line}");
     }
     ExitCode::from(status.code())
 }

@@ -1,13 +1,13 @@
 //! The command `sim`: from the bytes of a set to the text of its trace.
 ghost use Rattle.std.specs.Prelude.{◌≡◌, ◌≢◌};
 ghost use Rattle.rt_fault.specs.Faults.{HasRisen};
-ghost use Rattle.rtsim.specs.Ends.{reading, writing};
-ghost use Rattle.rtsim.specs.Sim.{IsUnwritten};
+ghost use Rattle.set_input.specs.Ends.{reading, writing};
+ghost use Rattle.set_input.specs.Answers.{IsUnwritten};
 ghost use Rattle.rtsim.specs.SimAnswers.{SimAnswers};
 
-use crate::input::read_input;
 use crate::play::play;
 use rt_fault::{Sink, Source, Status};
+use set_input::read_input;
 use std::alloc::Global;
 use trace_lines::Version;
 use trace_text::{WriteStop, write_trace};

@@ -1,9 +1,10 @@
 //! The top call: the commands `sim` and `check`.
 ghost use Rattle.std.specs.Prelude.{◌≡◌, ◌≢◌, true, false};
 ghost use Rattle.rt_fault.specs.Faults.{HasRisen};
-ghost use Rattle.rtsim.specs.Ends.{reading, writing};
+ghost use Rattle.set_input.specs.Ends.{reading, writing};
 ghost use Rattle.rtsim.specs.Sim as commands;
-ghost use Rattle.rtsim.specs.Sim.{is_command, IsUnwritten};
+ghost use Rattle.rtsim.specs.Sim.{is_command};
+ghost use Rattle.set_input.specs.Answers.{IsUnwritten};
 ghost use Rattle.rtsim.specs.SimAnswers.{SimAnswers};
 ghost use Rattle.rtsim.specs.CheckAnswers.{CheckAnswers};
 

@@ -1,11 +1,11 @@
 //! The smallest worked examples, a set of two groups, whose texts are the published ones, and each answer of the
 //! commands with its cause.
 
-use crate::fault_line::FaultLine;
-use crate::sim;
+use crate::{USAGE, sim};
 use rt_base::MOST_SET_BYTES;
 use rt_fault::{MemSink, MemSource, Source, Status, SureSink, SureSource};
 use rt_task::{BadSet, Part, Place, SetKind};
+use set_input::FaultLine;
 use std::alloc::Global;
 use std::test::Fail;
 
@@ -466,7 +466,11 @@ fn says_each_fault(rt: HostRuntime) -> Result<(), Fail> {
         (Status::TooLong, "input too long"),
         (Status::NoMemory, "no memory"),
     ] {
-        assert_eq!(rt; format!(in alloc; "{}", FaultLine(status))?.as_str(), line);
+        let said = FaultLine {
+            usage: USAGE,
+            status,
+        };
+        assert_eq!(rt; format!(in alloc; "{said}")?.as_str(), line);
     }
     Ok(())
 }

@@ -3,15 +3,15 @@ ghost use Rattle.std.specs.Prelude.{IfOk};
 ghost use Rattle.rt_base.specs.declared.TheConstants.{MOST_TRACE_BYTES};
 ghost use Rattle.trace_read.specs.Lines.{lines_of};
 ghost use Rattle.trace_read.specs.Reads.{IsTraceOf};
-ghost use Rattle.rtsim.specs.Ends.{reading};
+ghost use Rattle.set_input.specs.Ends.{reading};
 ghost use Rattle.rtsim.specs.Check.{WasTrace, WasNoTrace};
-ghost use Rattle.rtsim.specs.Stopped.{EndsReading};
+ghost use Rattle.set_input.specs.Stopped.{EndsReading};
 
-use crate::refusal::{refused, unbuilt};
 use rt_base::MOST_TRACE_BYTES;
 use rt_fault::{Source, Status, read_all};
 use rt_groups::is_built;
 use rt_task::{Part, SetKind};
+use set_input::{refused, unbuilt};
 use std::alloc::Global;
 use trace_read::{Trace, TraceFault, read_trace};
 

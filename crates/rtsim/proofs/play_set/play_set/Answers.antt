@@ -1,5 +1,6 @@
 use Rattle.std.proofs.Common.{◌∙◌, inr, refl}
-use Rattle.rtsim.proofs.SimLaws.{playable-is_built, played-groups}
+use Rattle.set_input.proofs.InputLaws.{playable-is_built}
+use Rattle.rtsim.proofs.SimLaws.{played-groups}
 use Rattle.rtsim.proofs.SimAnswerLaws.{sim-unread, sim-read}
 use Rattle.rtsim.proofs.play_set.play_set.Goals as goal
 

@@ -6,7 +6,7 @@ use Rattle.rt_task.specs.Refusals.{bad}
 use Rattle.trace_read.specs.Reads.{IsRefused}
 use Rattle.rtsim.specs.Check.{TraceIsRefused}
 use Rattle.rtsim.proofs.CheckLaws.{headless-refused}
-use Rattle.rtsim.proofs.EndLaws.{ends-ok, ends-with, ends-handed, unread-cause}
+use Rattle.set_input.proofs.EndLaws.{ends-ok, ends-with, ends-handed, unread-cause}
 use Rattle.rtsim.proofs.trace_input.read_trace_input.Goals as goal
 
 pub returns-in_err-bytes-clause-ends : goal.returns-in_err-bytes-clause-ends

@@ -13,7 +13,7 @@ use Rattle.rt_fault.specs.declared.status.Status.TheVariants.{BadInput}
 use Rattle.rt_fault.specs.Stops.{unmade}
 use Rattle.set_read.specs.Sets.{set}
 use Rattle.rt_groups.specs.Built.{is_built}
-use Rattle.rtsim.specs.Sim.{playable}
+use Rattle.set_input.specs.Inputs.{playable}
 
 pub playable-built : (bytes : List ℕ) (p : Parts) → set bytes ≡ Ok p → is_built p ≡ true → playable bytes ≡ Ok p
 unfolding playable

@@ -8,7 +8,7 @@ use rt_fault::Status;
 use rt_task::{BadSet, Part, Place, SetKind};
 
 /// The input is refused for this reason, at this place.
-pub(crate) fn refused(kind: SetKind, part: Part, index: u32) -> Status
+pub fn refused(kind: SetKind, part: Part, index: u32) -> Status
     ensures { result ≡ Status.BadInput (refusals.bad kind part index) }
 {
     let place = Place { part, index };
@@ -16,7 +16,7 @@ pub(crate) fn refused(kind: SetKind, part: Part, index: u32) -> Status
 }
 
 /// The set is not played so far.
-pub(crate) fn unbuilt() -> Status
+pub fn unbuilt() -> Status
     ensures { result ≡ Status.BadInput (refusals.bad kinds.Unbuilt parts.Whole 0) }
 {
     refused(SetKind::Unbuilt, Part::Whole, 0)

@@ -1,9 +1,9 @@
 //! The set that a run plays.
 ghost use Rattle.std.specs.Prelude.{IfOk};
 ghost use Rattle.rt_base.specs.declared.TheConstants.{MOST_SET_BYTES};
-ghost use Rattle.rtsim.specs.Ends.{reading};
-ghost use Rattle.rtsim.specs.Sim.{WasRead, WasRefused};
-ghost use Rattle.rtsim.specs.Stopped.{EndsReading};
+ghost use Rattle.set_input.specs.Ends.{reading};
+ghost use Rattle.set_input.specs.Inputs.{WasRead, WasRefused};
+ghost use Rattle.set_input.specs.Stopped.{EndsReading};
 
 use crate::refusal::unbuilt;
 use rt_base::MOST_SET_BYTES;
@@ -14,7 +14,7 @@ use set_read::read_set;
 use std::alloc::Global;
 
 /// Reads a set to its end: one that is valid and is played so far.
-pub(crate) fn read_input<S: Source>(alloc: Global, src: &mut S) -> Result<Setup, Status>
+pub fn read_input<S: Source>(alloc: Global, src: &mut S) -> Result<Setup, Status>
     ensures ok { IfOk result (λ s. WasRead (reading S.left S.faults src.old src.new) s) }
     ensures ends { let source = reading S.left S.faults src.old src.new in
         EndsReading source MOST_SET_BYTES (WasRefused source) result }

@@ -1,19 +1,20 @@
 -- How the reading of an input ends, and that no fault, no refusal and no byte too many leaves an answer that is well.
 use Rattle.std.proofs.Common.{◌≡◌, ℕ, ◌+◌, ◌≤◌, List, ◌++◌, length, refl, ap, subst, arith, length-append}
-use Rattle.std.specs.Prelude.{Option, None, Some, Result, Ok, Err, IsErrAnd}
+use Rattle.std.specs.Prelude.{◌⊎◌, Option, None, Some, Result, Ok, Err, IsErrAnd}
 use Rattle.rt_task.specs.declared.bad_set.BadSet.{BadSet}
 use Rattle.rt_task.specs.declared.bad_set.SetStop.{SetStop}
 use Rattle.rt_task.specs.declared.bad_set.SetStop.TheVariants as sets
 use Rattle.rt_fault.specs.Faults.{HasRisen}
+use Rattle.rt_fault.specs.Held.{Extends, ExtendsByPrefix}
 use Rattle.rt_fault.specs.Reading.{TakesAtMost, TakesOneMoreThan}
 use Rattle.rt_fault.specs.Stops.{unread, unmade}
 use Rattle.rt_fault.specs.declared.reading.ReadStop.{ReadStop}
 use Rattle.rt_fault.specs.declared.reading.ReadStop.TheVariants as reads
 use Rattle.rt_fault.specs.declared.status.Status.{Status}
 use Rattle.rt_fault.specs.declared.status.Status.TheVariants as ends
-use Rattle.rtsim.specs.Ends.{Reading}
-use Rattle.rtsim.specs.Sim.{IsWell}
-use Rattle.rtsim.specs.Stopped.{EndsReading}
+use Rattle.set_input.specs.Ends.{Reading, Writing}
+use Rattle.set_input.specs.Answers.{IsWell}
+use Rattle.set_input.specs.Stopped.{EndsReading}
 
 -- what is still to come is told, and is within the limit
 pub record IsToldWithin (limit : ℕ) (left : Option (List ℕ)) : Type 0 where
@@ -144,3 +145,12 @@ module _ (source : Reading) (limit : ℕ) (refused : BadSet → Type 0) where
   ended-well ends.TooLong e told sure none =
       within-no_more limit told.bytes source.new.left told.within
       (subst (λ (o : Option (List ℕ)). TakesOneMoreThan limit o source.new.left) told.left_is (e.too_long refl))
+
+-- ---- writing
+
+-- a text was written, or a first part of it
+abbrev pub Wrote : Writing → List ℕ → Status → Type 0
+Wrote sink text ends.Ok = Extends sink.old.held sink.new.held text
+Wrote sink text ends.WriteFault = ExtendsByPrefix sink.old.held sink.new.held text × HasRisen sink.old.faults sink.new.faults
+Wrote sink text ends.NoMemory = (sink.new ≡ sink.old) ⊎ ExtendsByPrefix sink.old.held sink.new.held text
+Wrote sink text _ = ⊥

@@ -11,8 +11,8 @@ use Rattle.rt_laws.proofs.HolderLinked.{holder_is_linked}
 use Rattle.rt_laws.proofs.PriorityCeiling.{later_is_above_ceiling, waiting_does_not_pass, walks_end}
 use Rattle.rt_laws.proofs.SemaphoreLaws.{histories_are_made, one_holder}
 use Rattle.count_laws.proofs.Bounds.{seen_within_bound}
-use Rattle.rtsim.specs.LinksOf.{LinksAreTheTopOf}
-use Rattle.rtsim.specs.Throughout.{AfterEach, HoldsThroughout}
+use Rattle.set_input.specs.LinksOf.{LinksAreTheTopOf}
+use Rattle.set_input.specs.Throughout.{AfterEach, HoldsThroughout}
 
 -- a law of every past holds after each entry
 law-after : (Holds : Group → Past → Type 0) → EveryPast Holds → (p : Parts) (hs : List (List Entry)) → IsValid p → AfterEach Holds p hs

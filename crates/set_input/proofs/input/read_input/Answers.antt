@@ -3,9 +3,9 @@ use Rattle.rt_base.specs.declared.TheConstants.{MOST_SET_BYTES}
 use Rattle.rt_task.specs.Validity.{IsValid}
 use Rattle.set_read.specs.Sets.{set}
 use Rattle.rt_groups.specs.Built.{is_built}
-use Rattle.rtsim.proofs.EndLaws.{ends-ok, ends-with, ends-handed, unread-cause, unmade-cause}
-use Rattle.rtsim.proofs.PlayableLaws.{playable-built, playable-unbuilt, playable-refused, stop-refused}
-use Rattle.rtsim.proofs.input.read_input.Goals as goal
+use Rattle.set_input.proofs.EndLaws.{ends-ok, ends-with, ends-handed, unread-cause, unmade-cause}
+use Rattle.set_input.proofs.PlayableLaws.{playable-built, playable-unbuilt, playable-refused, stop-refused}
+use Rattle.set_input.proofs.input.read_input.Goals as goal
 
 pub returns-in_err-bytes-clause-ends : goal.returns-in_err-bytes-clause-ends
 returns-in_err-bytes-clause-ends g c =

@@ -14,7 +14,7 @@ use Rattle.rt_laws.specs.PriorityCeiling.{WalkEnds}
 use Rattle.rt_laws.specs.SemaphoreLaws.{HasOneGrant}
 use Rattle.count_laws.specs.OpenLaws.{IsWithin}
 use Rattle.count_laws.specs.Tallies.{tallies}
-use Rattle.rtsim.specs.LinksOf.{LinksAreTheTopOf}
+use Rattle.set_input.specs.LinksOf.{LinksAreTheTopOf}
 
 -- it holds of each group n, after the first k entries of its history
 abbrev pub AfterEach : (Group → Past → Type 0) → Parts → List (List Entry) → Type 0

@@ -6,7 +6,7 @@ use Rattle.rt_fault.specs.Reading.{TakesAtMost, TakesOneMoreThan}
 use Rattle.rt_fault.specs.declared.status.Status.{Status}
 use Rattle.rt_fault.specs.declared.status.Status.TheVariants.{Invalid, Usage, BadInput, ReadFault, WriteFault, TooLong}
 use Rattle.rt_fault.specs.declared.status.Status.TheVariants as ends
-use Rattle.rtsim.specs.Ends.{Reading}
+use Rattle.set_input.specs.Ends.{Reading}
 
 pub record EndsReading {T : Type 0} (source : Reading) (limit : ℕ) (refused : BadSet → Type 0) (result : Result T Status) : Type 0 where
   -- all input was read, and has this refusal

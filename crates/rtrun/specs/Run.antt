@@ -1,0 +1,35 @@
+-- What a run of `run` reads and writes.
+use Rattle.std.specs.Prelude.{ℕ, Bool, false, List, [], ◌∷◌, codes, bytes_eq, string_bytes, String}
+use Rattle.std.specs.declared.alloc.Global.{Global}
+use Rattle.rt_task.specs.declared.Parts.{Parts}
+use Rattle.rt_fault.specs.Held.{Extends, ExtendsByPrefix}
+use Rattle.trace_lines.specs.declared.format.Version.TheVariants.{Two}
+use Rattle.trace_laws.specs.ValidTexts.{IsValidText}
+use Rattle.set_input.specs.Ends.{Reading, Writing}
+use Rattle.set_input.specs.Inputs.{WasRead}
+use Rattle.set_input.specs.Throughout.{HoldsThroughout}
+
+-- the command `run`
+abbrev pub is_run : List (String Global) → Bool
+is_run (word ∷ []) = bytes_eq (string_bytes word) (codes "run")
+is_run _ = false
+
+-- a set was read, and a whole trace of it came: the text in format 2 of its canonical set and of plays of its groups, in
+-- some order of the processors' steps; what that shows holds after each entry
+pub record WasRun (source : Reading) (sink : Writing) : Type 0 where
+  pub setup : Parts
+  pub text : List ℕ
+  pub entries : ℕ
+  pub read : WasRead source setup
+  pub valid : IsValidText Two setup text entries
+  pub written : Extends sink.old.held sink.new.held text
+  pub holds : HoldsThroughout setup valid.histories
+
+-- a set was read, and a first part of such a trace came
+pub record WasCut (source : Reading) (sink : Writing) : Type 0 where
+  pub setup : Parts
+  pub text : List ℕ
+  pub entries : ℕ
+  pub read : WasRead source setup
+  pub valid : IsValidText Two setup text entries
+  pub written : ExtendsByPrefix sink.old.held sink.new.held text

@@ -1,0 +1,4 @@
+pub mod PlayableLaws
+pub mod EndLaws
+pub mod InputLaws
+pub mod Promises

@@ -1,0 +1,6 @@
+pub mod Ends
+pub mod LinksOf
+pub mod Throughout
+pub mod Inputs
+pub mod Answers
+pub mod Stopped

@@ -1,0 +1,60 @@
+//! A group whose processors play in threads, each in one of its own.
+ghost use Rattle.std.specs.Prelude.{◌≡◌, true, All, IfOk};
+ghost use Rattle.rt_groups.specs.Built.{is_built};
+ghost use Rattle.rt_groups.specs.Groups.{IsGroupOf};
+ghost use Rattle.set_runs.specs.Runs.{AreDriven, IsDriven, IsRunOf};
+
+use cpu_site::{CpuSeat, Gate, Site, drive};
+use group_engine::Engine;
+use rt_base::{GroupNo, NoMemory};
+use rt_task::Setup;
+use std::alloc::Global;
+use std::sync::Wait;
+use std::thread::{self, Threads};
+
+/// Plays the steps of a seat's processor until none is left, and gives the seat back.
+fn driven<R: Wait, G: Gate>(rt: &R, site: &Site, mut seat: CpuSeat, gate: &G) -> CpuSeat
+    requires { seat.cell ≡ site.now.cell }
+    ensures { IsDriven site.now.cell seat result }
+{
+    drive(rt, site, &mut seat, gate);
+    seat
+}
+
+/// Plays the processors of all seats, each in a thread of its own. A processor whose thread cannot be started is played
+/// by the caller.
+fn drive_all<R: Threads + Wait + Sync, G: Gate + Sync>(
+    rt: &R,
+    site: &Site,
+    seats: Vec<CpuSeat>,
+    gate: &G,
+) -> Result<Vec<CpuSeat>, NoMemory>
+    requires { All (λ p. p.cell ≡ site.now.cell) seats.items }
+    ensures { IfOk result (λ v. AreDriven site.now.cell seats.items v.items) }
+{
+    let play = |seat: CpuSeat| -> CpuSeat
+        requires { seat.cell ≡ site.now.cell }
+        ensures { IsDriven site.entry.now.cell seat result }
+    { driven(rt, site, seat, gate) };
+    match thread::map_vec(rt, seats, &play) {
+        Ok(seats) => Ok(seats),
+        Err(_) => Err(NoMemory),
+    }
+}
+
+/// The engine of a group, once each of its processors has played its whole script.
+pub(crate) fn run_group<R: Threads + Wait + Sync, G: Gate + Sync>(
+    rt: &R,
+    alloc: Global,
+    setup: &Setup,
+    group: GroupNo,
+    gate: &G,
+) -> Result<Engine, NoMemory>
+    requires group { IsGroupOf setup.now group.0 }
+    requires built { is_built setup.now ≡ true }
+    ensures { IfOk result (λ engine. IsRunOf setup.now group.0 engine) }
+{
+    let (site, seats) = Site::open(alloc, setup, group)?;
+    let seats = drive_all(rt, &site, seats, gate)?;
+    Ok(site.close(seats))
+}

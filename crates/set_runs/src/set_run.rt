@@ -1,0 +1,55 @@
+//! All groups of a set, beside each other.
+ghost use Rattle.std.specs.Prelude.{◌≡◌, ◌<◌, ◌^◌, true, map, IfOk, Ok};
+ghost use Rattle.rt_groups.specs.Built.{is_built};
+ghost use Rattle.rt_groups.specs.Groups.{IsGroupOf};
+ghost use Rattle.set_runs.specs.Runs.{AreRunsOf, IsRunOf};
+
+use crate::group_run::run_group;
+use cpu_site::Gate;
+use group_engine::Engine;
+use rt_base::{GroupNo, NoMemory};
+use rt_task::Setup;
+use std::alloc::Global;
+use std::sync::Wait;
+use std::thread::{self, Threads};
+use trace_text::count_groups;
+
+/// The engines, where memory ran out for none of them.
+fn all_run(alloc: Global, runs: Vec<Result<Engine, NoMemory>>) -> Result<Vec<Engine>, NoMemory>
+    ensures { IfOk result (λ engines. runs.items ≡ map Ok engines.items) }
+{
+    let mut engines = Vec::new(alloc);
+    for run in runs {
+        let engine = run?;
+        if engines.push(engine).is_err() {
+            return Err(NoMemory);
+        }
+    }
+    Ok(engines)
+}
+
+/// The engines of the set's groups, by rising number, once each processor has played its whole script in a thread of its
+/// own. The gate is asked before each play, also before the one that finds no step left.
+///
+/// A processor whose thread cannot be started is played by the caller. Memory is taken to open the groups and to start
+/// and join threads, and by no play.
+pub fn run_set<R: Threads + Wait + Sync, G: Gate + Sync>(
+    rt: &R,
+    alloc: Global,
+    setup: &Setup,
+    gate: &G,
+) -> Result<Vec<Engine>, NoMemory>
+    requires { is_built setup.now ≡ true }
+    ensures { IfOk result (λ engines. AreRunsOf setup.now engines.items) }
+{
+    let run = |n: usize| -> Result<Engine, NoMemory>
+        requires { (n < 2 ^ 32) × IsGroupOf setup.now n × (is_built setup.now ≡ true) }
+        ensures { IfOk result (λ engine. IsRunOf setup.entry.now n engine) }
+    { run_group(rt, alloc, setup, GroupNo(n as u32), gate) };
+    // A proof knows that a setup is valid once its parts are read.
+    let _parts = setup.parts();
+    match thread::map_indices(rt, alloc, count_groups(setup) as usize, &run) {
+        Ok(runs) => all_run(alloc, runs),
+        Err(_) => Err(NoMemory),
+    }
+}
