@@ -17,12 +17,13 @@ use trace_text::{WriteStop, write_trace};
 
 /// Reads a set, plays each processor's steps in a thread of its own, and writes the trace of the histories that come
 /// about.
-pub(crate) fn play_set<
-    R: Threads + Wait + Sync,
-    S: Source,
-    K: Sink,
-    G: Gate + Sync,
->(rt: &R, alloc: Global, src: &mut S, out: &mut K, gate: &G) -> Status
+pub(crate) fn play_set<R: Threads + Wait + Sync, S: Source, K: Sink, G: Gate + Sync>(
+    rt: &R,
+    alloc: Global,
+    src: &mut S,
+    out: &mut K,
+    gate: &G,
+) -> Status
     ensures answers { RunAnswers (reading S.left S.faults src.old src.new)
         (writing K.held K.faults out.old out.new) result }
     ensures unwritten { IsUnwritten result → out.new ≡ out.old }

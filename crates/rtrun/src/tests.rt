@@ -152,7 +152,10 @@ fn two_processors_meet(rt: HostRuntime) -> Result<(), Fail> {
     assert!(rt; !gate.is_out_of_turn.load(Ordering::SeqCst));
     assert_eq!(rt; gate.zero.plays.load(Ordering::SeqCst), 3);
     assert_eq!(rt; gate.one.plays.load(Ordering::SeqCst), 3);
-    assert_eq!(rt; verdict(rt.alloc(), out.as_slice()), Some(Verdict::Valid(4)));
+    assert_eq!(rt;
+        verdict(rt.alloc(), out.as_slice()),
+        Some(Verdict::Valid(4))
+    );
     Ok(())
 }
 
@@ -166,7 +169,10 @@ fn runs_the_first_path(rt: HostRuntime) -> Result<(), Fail> {
 #[test]
 fn runs_each_group(rt: HostRuntime) -> Result<(), Fail> {
     let out = text_of(&rt, rt.alloc(), TWO_GROUPS, &OpenGate)?;
-    assert_eq!(rt; verdict(rt.alloc(), out.as_slice()), Some(Verdict::Valid(8)));
+    assert_eq!(rt;
+        verdict(rt.alloc(), out.as_slice()),
+        Some(Verdict::Valid(8))
+    );
     Ok(())
 }
 
@@ -257,14 +263,7 @@ fn other_words_are_no_command(rt: HostRuntime) -> Result<(), Fail> {
     let all: [&[&str]; 4] = [&[], &["run", "x"], &["Run"], &["sim"]];
     for texts in all {
         let given = words(alloc, texts)?;
-        let status = run(
-            &rt,
-            alloc,
-            given.as_slice(),
-            &mut src,
-            &mut out,
-            &OpenGate,
-        );
+        let status = run(&rt, alloc, given.as_slice(), &mut src, &mut out, &OpenGate);
         assert_eq!(rt; status, Status::Usage);
     }
     let mut buf = [0u8; 2];
@@ -279,6 +278,9 @@ fn says_its_usage(rt: HostRuntime) -> Result<(), Fail> {
         usage: USAGE,
         status: Status::Usage,
     };
-    assert_eq!(rt; format!(in rt.alloc(); "{line}")?.as_str(), "usage: rtrun run");
+    assert_eq!(rt;
+        format!(in rt.alloc(); "{line}")?.as_str(),
+        "usage: rtrun run"
+    );
     Ok(())
 }
