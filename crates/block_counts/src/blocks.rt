@@ -82,7 +82,7 @@ impl Blocks {
 
     /// Takes an entry of the group, with what its processor runs and, where it frees a semaphore, which tasks wait for
     /// that; both are as they stand between the two moves of its step, so a task that the entry grants the semaphore still
-    /// waits. The caller tells them, since the slow ranker, `rank_afresh`, plays no semaphores yet.
+    /// waits. The caller tells them: `waiting_list` lists them.
     ///
     /// There must be room for the entry, the running task and the semaphore of a Lock must be of the setup, and no task may
     /// stand twice in `waiting`.

@@ -2,22 +2,21 @@
 use Rattle.std.proofs.Common.{◌≡◌, ℕ, ◌+◌, ◌<◌, ◌≤◌, List, [], ◌∷◌, ◌++◌, length, take, drop, get_or, sym, ap, ◌∙◌, arith, append_assoc, length-append}
 use Rattle.std.specs.Prelude.{Some}
 use Rattle.std.proofs.lemmas.List.{get_or-map, length-map, length-take-le, take_more}
-use Rattle.std.proofs.lemmas.Simd.{map-map}
-use Rattle.rt_model.specs.Blocking.{requests}
 use Rattle.rt_model.specs.Group.{Group}
 use Rattle.rt_model.specs.Past.{Past}
-use Rattle.count_laws.specs.Tallies.{Tally, tallies, tally}
+use Rattle.count_laws.specs.Tallies.{Tally, tallies}
 use Rattle.block_counts.specs.declared.seen.Seen.{Seen}
 use Rattle.block_counts.specs.SeenWords.{tallies_of, tally_of}
 use Rattle.trace_lines.specs.Lines.{Line, group_line, entry_line, block_line, end_line, count_line}
 use Rattle.trace_text.specs.TraceText.{block_lines}
-use Rattle.trace_check.specs.RequestLines.{StopAt, first_request, request_line, request_lines}
+use Rattle.trace_text.specs.Groups.{request_line}
+use Rattle.trace_text.proofs.LineLaws as writer
+use Rattle.trace_check.specs.RequestLines.{StopAt, first_request, request_lines}
 use Rattle.trace_check.proofs.LinePlaces.{rest-cons}
 
 -- the lines that are wanted of a group are those of its requests
 pub wanted-lines : (g : Group) (past : Past) → request_lines (tallies g past) ≡ block_lines g past
-unfolding block_lines
-wanted-lines g past = map-map request_line (tally g past) (requests past)
+wanted-lines g past = sym (writer.request_lines g past)
 
 -- the first line says the request where it is its line
 pub first-is : (x : Tally) (ls : List Line) → first_request ls ≡ Some x → (later : List Line) × (ls ≡ request_line x ∷ later)

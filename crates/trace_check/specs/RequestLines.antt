@@ -2,11 +2,9 @@
 use Rattle.std.specs.Prelude.{◌≡◌, ℕ, ◌<◌, List, ◌∷◌, ◌++◌, length, map, take, drop, slice_index_or, Option, None, Some}
 use Rattle.count_laws.specs.Tallies.{Tally}
 use Rattle.trace_lines.specs.Lines.{Line, block_line}
+use Rattle.trace_text.specs.Groups.{request_line}
 
--- the line of a request
-abbrev pub request_line : Tally → Line
-request_line x = block_line x.no x.task x.sem x.ends x.ends_all x.bound
-
+-- one line for each request
 abbrev pub request_lines : List Tally → List Line
 request_lines xs = map request_line xs
 

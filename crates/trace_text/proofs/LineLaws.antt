@@ -3,6 +3,7 @@ use Rattle.std.proofs.Common.{◌≡◌, ℕ, zero, suc, ◌+◌, ◌<◌, ◌�
 use Rattle.std.specs.Prelude.{flat_map, Option, if◌then◌else◌}
 use Rattle.std.proofs.lemmas.List.Elements.{All-head, All-tail}
 use Rattle.std.proofs.lemmas.Grind.{flat_map-append}
+use Rattle.std.proofs.lemmas.Simd.{map-map}
 use Rattle.std.proofs.Math.Seq.{drop-cons}
 use Rattle.rt_task.specs.declared.Parts.{Parts}
 use Rattle.rt_history.specs.declared.Entry.{Entry}
@@ -10,7 +11,7 @@ use Rattle.rt_fault.specs.Held.{Held}
 use Rattle.rt_base.specs.declared.CpuNo.{CpuNo}
 use Rattle.rt_rules.specs.Numbers.{numbers_from, rest}
 use Rattle.rt_task.specs.Validity.{IsValid}
-use Rattle.rt_model.specs.Blocking.{Asked, requests}
+use Rattle.rt_model.specs.Blocking.{requests}
 use Rattle.rt_model.specs.Group.{Group, group_processors}
 use Rattle.rt_model.specs.Histories.{after, changed, past_from, past_of}
 use Rattle.rt_model.specs.Past.{Past}
@@ -23,7 +24,7 @@ use Rattle.trace_lines.specs.declared.links.CpuLink.{CpuLink}
 use Rattle.trace_lines.specs.Grammar.{line_text}
 use Rattle.trace_lines.specs.declared.format.Version.{Version}
 use Rattle.trace_lines.specs.Known.{Known, known_of}
-use Rattle.trace_text.specs.TraceText.{links_at, entry_lines, block_lines, block_of, group_lines, lines_from, trace_text, head_text}
+use Rattle.trace_text.specs.TraceText.{links_at, entry_lines, block_lines, group_lines, lines_from, trace_text, head_text}
 use Rattle.trace_text.specs.Groups.{AreGroupsOf, Follows, HasPlayed, histories, request_line}
 use Rattle.trace_text.proofs.CameLaws.{Coming, coming-start}
 use Rattle.trace_text.proofs.ReplayLaws.{drop_end}
@@ -44,11 +45,7 @@ entries_next k g i p es d low =
 -- the lines of a past's requests, by their counts
 pub request_lines : (g : Group) (past : Past) → block_lines g past ≡ map request_line (tallies g past)
 unfolding block_lines
-request_lines g past = each (requests past)
-  where
-    each : (rs : List Asked) → map (block_of g past) rs ≡ map request_line (map (tally g past) rs)
-    each [] = refl
-    each (r ∷ rs) = ap (λ ls. block_of g past r ∷ ls) (each rs)
+request_lines g past = sym (map-map request_line (tally g past) (requests past))
 
 -- the text of a group, and its parts: its line, those of its entries, and those of its requests
 abbrev pub text_of : Known → GroupHistory → List ℕ
