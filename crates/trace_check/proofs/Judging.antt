@@ -5,6 +5,7 @@ use Rattle.std.specs.Option.{is_some}
 use Rattle.std.proofs.lemmas.List.Sums.{sum-map, sum_by-cons, sum_by_push}
 use Rattle.std.proofs.lemmas.List.{append_cancel_left, length-drop, length-take-le, take-append-drop}
 use Rattle.std.proofs.lemmas.List.Elements.{All-append, All-get_or, All-head, All-tail, All-take}
+use Rattle.std.proofs.Math.ListN.{drop_of_length-le}
 use Rattle.std.proofs.Math.Seq.{drop-cons, get_or-append_seam}
 use Rattle.rt_base.specs.declared.TheConstants.{MOST_STEPS}
 use Rattle.rt_task.specs.declared.Parts.{Parts}
@@ -24,7 +25,7 @@ use Rattle.rt_plays.specs.ScriptPlays.{IsScriptPlay}
 use Rattle.trace_lines.specs.Lines.{Link, Line, group_line, entry_line, block_line, end_line, count_line, links_of}
 use Rattle.trace_text.specs.TraceText.{lines_from, links_at}
 use Rattle.trace_text.proofs.GroupLaws.{groups-few}
-use Rattle.trace_text.proofs.LineLaws.{drop_end, past_none}
+use Rattle.trace_text.proofs.LineLaws.{past_none}
 use Rattle.trace_read.specs.Lines.{line_of}
 use Rattle.trace_read.specs.declared.lines.Line.TheVariants as read
 use Rattle.trace_read.specs.declared.lines.Line as kinds
@@ -437,6 +438,6 @@ module _ (p : Parts) (lines : List Line) where
       -- nothing is
       pub end-valid : (stop : Option ℕ) → r.lines + 1 ≡ length lines → stop ≡ None → IsJudged p lines stop (Valid r.entries)
       end-valid stop last none version bytes t same =
-          let rest : drop (r.lines + 1) lines ≡ [] = drop_end lines (r.lines + 1) (omega (arith, last)) in
+          let rest : drop (r.lines + 1) lines ≡ [] = drop_of_length-le lines (omega (arith, last)) in
           let is : lines ≡ lines_from p 0 hs = stands.lines_are ∙ ap (λ (xs : List Line). whole ++ xs) rest ∙ append-nil whole ∙ sym lines_all in
           subst (IsValidText version p bytes) (sym all.right.entries_are) (ended-valid version p all.valid all.built bytes lines stop t hs same plays_all is none)
