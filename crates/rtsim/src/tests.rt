@@ -109,8 +109,8 @@ group 1 2:@t3
 end
 ";
 
-const WITH_A_SEM: &str =
-    r#"{"plugin":"GSN-EDF","clusters":[{"cpus":1}],"sems":[{"name":"S","protocol":"FMLP"}],"steps":[]}"#;
+const WITH_A_RESERVATION: &str =
+    r#"{"plugin":"P-RES","clusters":[{"cpus":1}],"resvs":[{"name":"R","kind":"polling","budget":1,"period":10,"prio":1}],"steps":[]}"#;
 
 const WITH_A_HORIZON: &str = r#"{"plugin":"GSN-EDF","clusters":[{"cpus":1}],"horizon":1}"#;
 
@@ -234,7 +234,7 @@ fn refuses_by_the_first_rule_that_is_broken(rt: HostRuntime) -> Result<(), Fail>
 #[test]
 fn refuses_what_is_not_played_yet(rt: HostRuntime) -> Result<(), Fail> {
     let unbuilt = refused(SetKind::Unbuilt, Part::Whole, 0);
-    assert_eq!(rt; answer(rt.alloc(), WITH_A_SEM)?, unbuilt);
+    assert_eq!(rt; answer(rt.alloc(), WITH_A_RESERVATION)?, unbuilt);
     assert_eq!(rt; answer(rt.alloc(), WITH_A_HORIZON)?, unbuilt);
     Ok(())
 }
@@ -379,7 +379,7 @@ fn refuses_what_is_no_trace(rt: HostRuntime) -> Result<(), Fail> {
             refused(SetKind::NotJson, Part::Whole, 0),
         ),
         (
-            &["rtsched trace 2\nset ", WITH_A_SEM, "\n"],
+            &["rtsched trace 2\nset ", WITH_A_RESERVATION, "\n"],
             refused(SetKind::Unbuilt, Part::Whole, 0),
         ),
     ];
