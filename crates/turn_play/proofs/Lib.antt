@@ -1,0 +1,4 @@
+pub mod StepsTaken
+pub mod TurnSteps
+pub mod TurnsAhead
+pub mod ValidBodies
