@@ -13,9 +13,10 @@ use Rattle.trace_text.specs.TraceText.{trace_text}
 use Rattle.trace_laws.specs.ValidTexts.{IsValidText, entry_count}
 use Rattle.set_input.specs.Ends.{Reading, Writing}
 use Rattle.set_input.specs.Inputs.{WasRead, WasRefused}
+use Rattle.set_input.specs.declared.player.Player.TheVariants.{Threads}
 use Rattle.set_input.specs.Stopped.{EndsReading}
 use Rattle.set_input.proofs.EndLaws.{ended-well, Wrote}
-use Rattle.set_input.proofs.InputLaws.{can_play-told, can_play-unrefused, playable-is_built}
+use Rattle.set_input.proofs.InputLaws.{can_play-told, can_play-unrefused, playable-gives_steps}
 use Rattle.set_input.proofs.Promises.{holds-throughout}
 use Rattle.set_runs.specs.Runs.{AreRunsOf}
 use Rattle.rtrun.specs.RunAnswers.{RunAnswers}
@@ -23,7 +24,7 @@ use Rattle.rtrun.proofs.RunLaws.{run-valid}
 
 -- no set was read
 pub run-unread :
-    {T : Type 0} (source : Reading) (sink : Writing) (answer : Status) → EndsReading {T = T} source MOST_SET_BYTES (WasRefused source) (Err answer)
+    {T : Type 0} (source : Reading) (sink : Writing) (answer : Status) → EndsReading {T = T} source MOST_SET_BYTES (WasRefused Threads source) (Err answer)
     → sink.new ≡ sink.old → RunAnswers source sink answer
 run-unread {T} source sink answer e same =
     let err = λ (s : Status) (is : answer ≡ s). ap (λ (x : Status). let r : Result T Status = Err x in r) is in
@@ -35,11 +36,11 @@ run-unread {T} source sink answer e same =
       cut_by_fault = λ is. absurd (e.not_write_fault (err _ is));
       no_memory = λ _. inl same;
       not_invalid = λ line is. e.not_invalid line (err _ is);
-      complete = λ can sure. ended-well source MOST_SET_BYTES (WasRefused source) answer e (can_play-told _ can) sure.read (λ b. can_play-unrefused source b can);
+      complete = λ can sure. ended-well source MOST_SET_BYTES (WasRefused Threads source) answer e (can_play-told Threads _ can) sure.read (λ b. can_play-unrefused Threads source b can);
     }
 
 wrote-answers :
-    (source : Reading) (sink : Writing) (p : Parts) (text : List ℕ) (entries : ℕ) (answer : Status) → WasRead source p → IsValidText Two p text entries
+    (source : Reading) (sink : Writing) (p : Parts) (text : List ℕ) (entries : ℕ) (answer : Status) → WasRead Threads source p → IsValidText Two p text entries
     → TakesAtMost MOST_SET_BYTES source.old.left source.new.left → Wrote sink text answer → RunAnswers source sink answer
 wrote-answers source sink p text entries ends.Ok read valid few all = record {
   ok = λ _. record { setup = p; text = text; entries = entries; read = read; valid = valid; written = all; holds = holds-throughout p valid.histories read.valid };
@@ -79,16 +80,16 @@ wrote-answers source sink p text entries ends.TooLong read valid few h = absurd 
 
 -- a set was read, and the trace of its groups written, or a first part of it
 pub run-read :
-    (source : Reading) (sink : Writing) (p : Parts) (hs : List GroupHistory) (answer : Status) → WasRead source p
+    (source : Reading) (sink : Writing) (p : Parts) (hs : List GroupHistory) (answer : Status) → WasRead Threads source p
     → TakesAtMost MOST_SET_BYTES source.old.left source.new.left → AreRunsOf p hs
     → Wrote sink (trace_text Two p (histories hs)) answer → RunAnswers source sink answer
 run-read source sink p hs answer read few are wrote =
     wrote-answers source sink p (trace_text Two p (histories hs)) (entry_count (histories hs)) answer read
-    (run-valid p hs read.valid (playable-is_built read.bytes p read.reads) are) few wrote
+    (run-valid p hs read.valid (playable-gives_steps read.bytes p read.reads) are) few wrote
 
 -- memory ran out before a text was written
 pub run-unwritten :
-    (source : Reading) (sink : Writing) (p : Parts) (answer : Status) → WasRead source p
+    (source : Reading) (sink : Writing) (p : Parts) (answer : Status) → WasRead Threads source p
     → TakesAtMost MOST_SET_BYTES source.old.left source.new.left → answer ≡ ends.NoMemory → sink.new ≡ sink.old → RunAnswers source sink answer
 run-unwritten source sink p answer read few is same = record {
   ok = λ other. cc;

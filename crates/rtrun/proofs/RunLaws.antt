@@ -5,7 +5,7 @@ use Rattle.rt_task.specs.declared.Parts.{Parts}
 use Rattle.rt_task.specs.Validity.{IsValid}
 use Rattle.rt_history.specs.declared.Entry.{Entry}
 use Rattle.rt_model.specs.Group.{Group}
-use Rattle.rt_groups.specs.Built.{is_built}
+use Rattle.rt_groups.specs.Built.{gives_steps}
 use Rattle.rt_groups.specs.Groups.{GroupHistory, group_of}
 use Rattle.rt_plays.specs.Plays.{ArePlays, IsPlay, group_with}
 use Rattle.rt_plays.specs.ScriptPlays.{IsScriptPlay}
@@ -14,10 +14,10 @@ use Rattle.trace_text.specs.Groups.{histories}
 use Rattle.trace_text.specs.TraceText.{trace_text}
 use Rattle.trace_text.proofs.GroupLaws.{groups-counted}
 use Rattle.trace_laws.specs.ValidTexts.{IsValidText, entry_count}
-use Rattle.trace_laws.proofs.Plays.{built-steps, play-by}
+use Rattle.trace_laws.proofs.Plays.{play-by}
 use Rattle.set_runs.specs.Runs.{AreRunsOf}
 
-module _ (p : Parts) (hs : List GroupHistory) (valid : IsValid p) (built : is_built p ≡ true) (are : AreRunsOf p hs) where
+module _ (p : Parts) (hs : List GroupHistory) (valid : IsValid p) (gives : gives_steps p.drive ≡ true) (are : AreRunsOf p hs) where
   long : length (histories hs) ≡ length hs
   long = length-map hs (λ (h : GroupHistory). h.entries)
 
@@ -29,7 +29,7 @@ module _ (p : Parts) (hs : List GroupHistory) (valid : IsValid p) (built : is_bu
       let run = are.each n d inside in
       let group : group_of h ≡ group_with p n = ap (λ (q : Parts). group_with q h.group) run.setup_is ∙ ap (group_with p) run.group_is in
       let entries : h.entries ≡ get_or (histories hs) n [] = sym (get_or-map (λ (x : GroupHistory). x.entries) hs n d [] inside) in
-      play-by p.drive (group_with p n) (get_or (histories hs) n []) (built-steps p built)
+      play-by p.drive (group_with p n) (get_or (histories hs) n []) gives
       (subst (λ (es : List Entry). IsScriptPlay (group_with p n) es) entries (subst (λ (g : Group). IsScriptPlay g h.entries) group run.play))
 
   pub run-plays : ArePlays p (histories hs)

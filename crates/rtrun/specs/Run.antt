@@ -7,6 +7,7 @@ use Rattle.trace_lines.specs.declared.format.Version.TheVariants.{Two}
 use Rattle.trace_laws.specs.ValidTexts.{IsValidText}
 use Rattle.set_input.specs.Ends.{Reading, Writing}
 use Rattle.set_input.specs.Inputs.{WasRead}
+use Rattle.set_input.specs.declared.player.Player.TheVariants.{Threads}
 use Rattle.set_input.specs.Throughout.{HoldsThroughout}
 
 -- the command `run`
@@ -20,7 +21,7 @@ pub record WasRun (source : Reading) (sink : Writing) : Type 0 where
   pub setup : Parts
   pub text : List ℕ
   pub entries : ℕ
-  pub read : WasRead source setup
+  pub read : WasRead Threads source setup
   pub valid : IsValidText Two setup text entries
   pub written : Extends sink.old.held sink.new.held text
   pub holds : HoldsThroughout setup valid.histories
@@ -30,6 +31,6 @@ pub record WasCut (source : Reading) (sink : Writing) : Type 0 where
   pub setup : Parts
   pub text : List ℕ
   pub entries : ℕ
-  pub read : WasRead source setup
+  pub read : WasRead Threads source setup
   pub valid : IsValidText Two setup text entries
   pub written : ExtendsByPrefix sink.old.held sink.new.held text

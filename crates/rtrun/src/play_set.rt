@@ -7,7 +7,7 @@ ghost use Rattle.rtrun.specs.RunAnswers.{RunAnswers};
 
 use cpu_site::Gate;
 use rt_fault::{Sink, Source, Status};
-use set_input::read_input;
+use set_input::{Player, read_input};
 use set_runs::run_set;
 use std::alloc::Global;
 use std::sync::Wait;
@@ -35,7 +35,7 @@ pub(crate) fn play_set<R: Threads + Wait + Sync, S: Source, K: Sink, G: Gate + S
     ensures no_write_fault { result ≢ Status.WriteFault → K.faults out.new ≡ K.faults out.old }
     ensures not_usage { result ≢ Status.Usage }
 {
-    let setup = match read_input(alloc, src) {
+    let setup = match read_input(alloc, Player::Threads, src) {
         Ok(setup) => setup,
         Err(status) => return status,
     };

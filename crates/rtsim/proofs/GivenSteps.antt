@@ -25,29 +25,28 @@ use Rattle.rt_plays.specs.Order.{order, order_by, steps_in_group}
 use Rattle.rt_plays.specs.Plays.{group_with}
 use Rattle.rt_plays.specs.Room.{room, room_by}
 use Rattle.rt_plays.proofs.ProcessorLaws.{cpu_count}
-use Rattle.rt_groups.specs.Built.{gives_steps, is_built}
-use Rattle.trace_laws.proofs.Plays.{built-steps}
+use Rattle.rt_groups.specs.Built.{gives_steps}
 use Rattle.trace_laws.proofs.StepsGiven.{steps-few}
 
 given : (drive : Drive) → gives_steps drive ≡ true → drive ≡ Steps (steps_given drive)
 given (Steps steps) h = refl
 given (Horizon n) h = cc
 
-pub order-given : (p : Parts) (n : ℕ) → is_built p ≡ true → order (group_with p n) ≡ steps_in_group (group_with p n) (steps_given p.drive)
-order-given p n built = ap (order_by (group_with p n)) (given p.drive (built-steps p built))
+pub order-given : (p : Parts) (n : ℕ) → gives_steps p.drive ≡ true → order (group_with p n) ≡ steps_in_group (group_with p n) (steps_given p.drive)
+order-given p n gives = ap (order_by (group_with p n)) (given p.drive gives)
 
-pub room-given : (p : Parts) (n : ℕ) → is_built p ≡ true → room (group_with p n) ≡ length (steps_in_group (group_with p n) (steps_given p.drive))
-room-given p n built = ap (room_by (group_with p n)) (given p.drive (built-steps p built))
+pub room-given : (p : Parts) (n : ℕ) → gives_steps p.drive ≡ true → room (group_with p n) ≡ length (steps_in_group (group_with p n) (steps_given p.drive))
+room-given p n gives = ap (room_by (group_with p n)) (given p.drive gives)
 
 -- no group has more steps than a set may have
-pub room-few : (p : Parts) (n : ℕ) → IsValid p → is_built p ≡ true → room (group_with p n) ≤ MOST_STEPS
-room-few p n valid built =
+pub given-few : (p : Parts) (n : ℕ) → IsValid p → length (steps_in_group (group_with p n) (steps_given p.drive)) ≤ MOST_STEPS
+given-few p n valid =
     let test = λ (s : Step). has s.cpu.0 (group_processors (group_with p n)) in
-    omega (arith, room-given p n built, length-filter_both test (λ s. not (test s)) (λ s. refl) (steps_given p.drive), steps-few p valid)
+    omega (arith, length-filter_both test (λ s. not (test s)) (λ s. refl) (steps_given p.drive), steps-few p valid)
 
 -- ---- their processors
 
-cpus-drafted : (ks : List Cluster) → sum_by (λ (c : DraftCluster). c.cpus) (map draft_cluster ks) ≡ cpu_count ks
+pub cpus-drafted : (ks : List Cluster) → sum_by (λ (c : DraftCluster). c.cpus) (map draft_cluster ks) ≡ cpu_count ks
 cpus-drafted [] = refl
 cpus-drafted (k ∷ ks) = omega (arith, cpus-drafted ks, sum_by-cons (λ (c : DraftCluster). c.cpus) (draft_cluster k) (map draft_cluster ks), sum_by-cons (λ (c : Cluster). c.cpus) k ks)
 

@@ -3,6 +3,8 @@ pub mod CpuGroups
 pub mod GivenSteps
 pub mod OrderLaws
 pub mod OneStep
+pub mod TurnRoom
+pub mod TurnOrder
 pub mod SimLaws
 pub mod CheckLaws
 pub mod SimAnswerLaws

@@ -16,6 +16,7 @@ use Rattle.trace_text.specs.Groups as groups
 use Rattle.trace_text.specs.TraceText.{trace_text}
 use Rattle.rtsim.specs.Sim.{set_trace}
 use Rattle.set_input.specs.Inputs.{WasRead, WasRefused}
+use Rattle.set_input.specs.declared.player.Player.TheVariants.{OneThread}
 use Rattle.rtsim.specs.SimAnswers.{SimAnswers}
 use Rattle.set_input.specs.Stopped.{EndsReading}
 use Rattle.set_input.proofs.EndLaws.{ended-well, Wrote}
@@ -25,7 +26,7 @@ use Rattle.rtsim.proofs.SimLaws.{played-histories}
 
 -- no set was read
 pub sim-unread :
-    {T : Type 0} (source : Reading) (sink : Writing) (answer : Status) → EndsReading {T = T} source MOST_SET_BYTES (WasRefused source) (Err answer)
+    {T : Type 0} (source : Reading) (sink : Writing) (answer : Status) → EndsReading {T = T} source MOST_SET_BYTES (WasRefused OneThread source) (Err answer)
     → sink.new ≡ sink.old → SimAnswers source sink answer
 sim-unread {T} source sink answer e same =
     let err = λ (s : Status) (is : answer ≡ s). ap (λ (x : Status). let r : Result T Status = Err x in r) is in
@@ -37,11 +38,11 @@ sim-unread {T} source sink answer e same =
       cut_by_fault = λ is. absurd (e.not_write_fault (err _ is));
       no_memory = λ _. inl same;
       not_invalid = λ line is. e.not_invalid line (err _ is);
-      complete = λ can sure. ended-well source MOST_SET_BYTES (WasRefused source) answer e (can_play-told _ can) sure.read (λ b. can_play-unrefused source b can);
+      complete = λ can sure. ended-well source MOST_SET_BYTES (WasRefused OneThread source) answer e (can_play-told OneThread _ can) sure.read (λ b. can_play-unrefused OneThread source b can);
     }
 
 wrote-answers :
-    (source : Reading) (sink : Writing) (p : Parts) (answer : Status) → WasRead source p
+    (source : Reading) (sink : Writing) (p : Parts) (answer : Status) → WasRead OneThread source p
     → TakesAtMost MOST_SET_BYTES source.old.left source.new.left → Wrote sink (set_trace p) answer → SimAnswers source sink answer
 wrote-answers source sink p ends.Ok read few all = record {
   ok = λ _. record { setup = p; read = read; written = all; holds = holds-throughout p (histories p) read.valid };
@@ -81,7 +82,7 @@ wrote-answers source sink p ends.TooLong read few h = absurd h
 
 -- a set was read, and the trace of its groups written, or a first part of it
 pub sim-read :
-    (source : Reading) (sink : Writing) (p : Parts) (hs : List GroupHistory) (answer : Status) → WasRead source p
+    (source : Reading) (sink : Writing) (p : Parts) (hs : List GroupHistory) (answer : Status) → WasRead OneThread source p
     → TakesAtMost MOST_SET_BYTES source.old.left source.new.left → hs ≡ all_played p
     → Wrote sink (trace_text Two p (groups.histories hs)) answer → SimAnswers source sink answer
 sim-read source sink p hs answer read few all wrote =

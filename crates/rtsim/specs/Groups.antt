@@ -1,5 +1,5 @@
 -- The groups of a set as a run plays them.
-use Rattle.std.specs.Prelude.{ℕ, List, [], ◌∷◌, ◌++◌, map, replicate}
+use Rattle.std.specs.Prelude.{ℕ, ◌-◌, List, [], ◌∷◌, ◌++◌, length, map, replicate}
 use Rattle.rt_base.specs.declared.GroupNo.{GroupNo}
 use Rattle.rt_task.specs.declared.Cluster.{Cluster}
 use Rattle.rt_task.specs.declared.Parts.{Parts}
@@ -18,12 +18,12 @@ cpu_groups (k ∷ ks) = replicate k.cpus k.group ++ cpu_groups ks
 abbrev pub group_rooms : Parts → List ℕ
 group_rooms p = map (λ n. room (group_with p n)) (numbers_from 0 (group_count p))
 
--- a group at opening, with that room, and the same when it has taken its steps
+-- a group at opening, with that room, and the same when it has been played
 abbrev pub opened : Parts → ℕ → GroupHistory
 opened p n = record { setup = p; group = n; entries = []; spare = room (group_with p n) }
 
 abbrev pub played : Parts → ℕ → GroupHistory
-played p n = record { setup = p; group = n; entries = history_of p n; spare = 0 }
+played p n = record { setup = p; group = n; entries = history_of p n; spare = room (group_with p n) - length (history_of p n) }
 
 abbrev pub all_opened : Parts → List GroupHistory
 all_opened p = map (opened p) (numbers_from 0 (group_count p))

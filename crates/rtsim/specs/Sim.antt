@@ -9,6 +9,7 @@ use Rattle.trace_text.specs.TraceText.{trace_text}
 use Rattle.rt_plays.specs.Order.{histories}
 use Rattle.set_input.specs.Ends.{Reading, Writing}
 use Rattle.set_input.specs.Inputs.{WasRead}
+use Rattle.set_input.specs.declared.player.Player.TheVariants.{OneThread}
 use Rattle.set_input.specs.Throughout.{HoldsThroughout}
 
 -- the command `sim`
@@ -32,12 +33,12 @@ set_trace p = trace_text Two p (histories p)
 -- a set was read, and its whole trace came; what that shows holds after each entry
 pub record WasPlayed (source : Reading) (sink : Writing) : Type 0 where
   pub setup : Parts
-  pub read : WasRead source setup
+  pub read : WasRead OneThread source setup
   pub written : Extends sink.old.held sink.new.held (set_trace setup)
   pub holds : HoldsThroughout setup (histories setup)
 
 -- a set was read, and a first part of its trace came
 pub record WasCut (source : Reading) (sink : Writing) : Type 0 where
   pub setup : Parts
-  pub read : WasRead source setup
+  pub read : WasRead OneThread source setup
   pub written : ExtendsByPrefix sink.old.held sink.new.held (set_trace setup)

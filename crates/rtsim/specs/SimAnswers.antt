@@ -8,13 +8,14 @@ use Rattle.rt_fault.specs.declared.status.Status.TheVariants.{Ok, Invalid, BadIn
 use Rattle.set_input.specs.Ends.{Reading, Writing, IsFaultless}
 use Rattle.rtsim.specs.Sim.{WasPlayed, WasCut}
 use Rattle.set_input.specs.Inputs.{WasRefused, CanPlay}
+use Rattle.set_input.specs.declared.player.Player.TheVariants.{OneThread}
 use Rattle.set_input.specs.Answers.{IsWell}
 
 pub record SimAnswers (source : Reading) (sink : Writing) (answer : Status) : Type 0 where
   -- all input was read, and the sink got the trace of its set
   pub ok : answer ≡ Ok → WasPlayed source sink
   -- all input was read, and has this refusal
-  pub bad_input : (bad : BadSet) → answer ≡ BadInput bad → WasRefused source bad
+  pub bad_input : (bad : BadSet) → answer ≡ BadInput bad → WasRefused OneThread source bad
   -- one byte more than the limit was taken
   pub too_long : answer ≡ TooLong → TakesOneMoreThan MOST_SET_BYTES source.old.left source.new.left
   -- on any other answer at most the limit
@@ -26,4 +27,4 @@ pub record SimAnswers (source : Reading) (sink : Writing) (answer : Status) : Ty
   -- a line of a trace is never wrong
   pub not_invalid : (line : ℕ) → answer ≢ Invalid line
   -- a set that is played, from a source and to a sink without fault, is played to its end, unless memory runs out
-  pub complete : CanPlay source.old.left → IsFaultless source sink → IsWell answer
+  pub complete : CanPlay OneThread source.old.left → IsFaultless source sink → IsWell answer

@@ -1,6 +1,6 @@
 //! The groups of a set: whose the processors are, and the room that each group needs.
 ghost use Rattle.std.specs.Prelude.{◌≡◌, ◌++◌, IfOk, OnOk, replicate, true};
-ghost use Rattle.rt_groups.specs.Built.{is_built};
+ghost use Rattle.rt_groups.specs.Built.{gives_steps};
 ghost use Rattle.rtsim.specs.Groups.{cpu_groups, group_rooms};
 
 use rt_base::{GroupNo, NoMemory};
@@ -39,13 +39,13 @@ fn zeros(alloc: Global, count: u32) -> Result<Vec<u32>, NoMemory>
     vec![in alloc; 0u32; count as usize].map_err(|_| NoMemory)
 }
 
-/// The room that each group needs: as many entries as it has steps. `groups` are those of the processors.
+/// The room that each group of a set with steps needs: as many entries as it has steps. `groups` are those of the processors.
 pub(crate) fn rooms_of_groups(
     alloc: Global,
     setup: &Setup,
     groups: &[GroupNo],
 ) -> Result<Vec<u32>, NoMemory>
-    requires built { is_built setup.now ≡ true }
+    requires steps { gives_steps setup.now.drive ≡ true }
     requires groups { groups.now ≡ cpu_groups setup.now.clusters }
     ensures { IfOk result (λ v. v.items ≡ group_rooms setup.now) }
 {

@@ -9,6 +9,7 @@ mod sim;
 #[cfg(test)]
 mod tests;
 mod trace_input;
+mod turns;
 mod verdict_line;
 mod words;
 

@@ -1,14 +1,15 @@
-//! Playing the steps of a set in their order.
+//! Playing a set: its steps in their order, or its turns.
 ghost use Rattle.std.specs.Prelude.{◌≡◌, IfOk, true};
 ghost use Rattle.rt_task.specs.Validity.{IsValid};
-ghost use Rattle.rt_groups.specs.Built.{is_built};
+ghost use Rattle.rt_groups.specs.Built.{gives_steps, is_built};
 ghost use Rattle.rtsim.specs.Groups.{all_opened, all_played, cpu_groups, group_rooms};
 
 use crate::groups::{groups_of_cpus, rooms_of_groups};
+use crate::turns::play_groups;
 use group_engine::Engine;
 use rt_base::{GroupNo, NoMemory};
 use rt_plays::steps_given;
-use rt_task::Setup;
+use rt_task::{Drive, Setup};
 use std::alloc::Global;
 
 /// An engine for each group, by rising number, with this room.
@@ -30,7 +31,7 @@ fn open_groups(alloc: Global, setup: &Setup, rooms: &[u32]) -> Result<Vec<Engine
 
 /// Each engine takes the steps of its group, in the given order. `groups` are those of the processors.
 fn take_steps(setup: &Setup, groups: &[GroupNo], engines: &mut [Engine])
-    requires built { is_built setup.now ≡ true }
+    requires steps { gives_steps setup.now.drive ≡ true }
     requires groups { groups.now ≡ cpu_groups setup.now.clusters }
     requires engines { engines.old ≡ all_opened setup.now }
     ensures { engines.new ≡ all_played setup.now }
@@ -43,8 +44,9 @@ fn take_steps(setup: &Setup, groups: &[GroupNo], engines: &mut [Engine])
 }
 
 /// The engines of the set's groups, once each has taken its steps in the given order.
-pub(crate) fn play(alloc: Global, setup: &Setup) -> Result<Vec<Engine>, NoMemory>
-    requires { is_built setup.now ≡ true }
+fn play_steps(alloc: Global, setup: &Setup) -> Result<Vec<Engine>, NoMemory>
+    requires built { is_built setup.now ≡ true }
+    requires steps { gives_steps setup.now.drive ≡ true }
     ensures { IfOk result (λ v. v.items ≡ all_played setup.now) }
 {
     let groups = groups_of_cpus(alloc, setup.parts().clusters.as_slice())?;
@@ -52,4 +54,15 @@ pub(crate) fn play(alloc: Global, setup: &Setup) -> Result<Vec<Engine>, NoMemory
     let mut engines = open_groups(alloc, setup, rooms.as_slice())?;
     take_steps(setup, groups.as_slice(), engines.as_mut_slice());
     Ok(engines)
+}
+
+/// The engines of the set's groups, once each has been played: its steps in the given order, or its turns.
+pub(crate) fn play(alloc: Global, setup: &Setup) -> Result<Vec<Engine>, NoMemory>
+    requires { is_built setup.now ≡ true }
+    ensures { IfOk result (λ v. v.items ≡ all_played setup.now) }
+{
+    match &setup.parts().drive {
+        Drive::Steps(_) => play_steps(alloc, setup),
+        Drive::Horizon(horizon) => play_groups(alloc, setup, *horizon),
+    }
 }

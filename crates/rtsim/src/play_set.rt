@@ -7,12 +7,12 @@ ghost use Rattle.rtsim.specs.SimAnswers.{SimAnswers};
 
 use crate::play::play;
 use rt_fault::{Sink, Source, Status};
-use set_input::read_input;
+use set_input::{Player, read_input};
 use std::alloc::Global;
 use trace_lines::Version;
 use trace_text::{WriteStop, write_trace};
 
-/// Reads a set, plays its steps in the given order, and writes the trace of the histories that come about.
+/// Reads a set, plays its steps in the given order or its turns, and writes the trace of the histories that come about.
 pub(crate) fn play_set<S: Source, K: Sink>(alloc: Global, src: &mut S, out: &mut K) -> Status
     ensures answers { SimAnswers (reading S.left S.faults src.old src.new)
         (writing K.held K.faults out.old out.new) result }
@@ -25,7 +25,7 @@ pub(crate) fn play_set<S: Source, K: Sink>(alloc: Global, src: &mut S, out: &mut
     ensures no_write_fault { result ≢ Status.WriteFault → K.faults out.new ≡ K.faults out.old }
     ensures not_usage { result ≢ Status.Usage }
 {
-    let setup = match read_input(alloc, src) {
+    let setup = match read_input(alloc, Player::OneThread, src) {
         Ok(setup) => setup,
         Err(status) => return status,
     };

@@ -16,7 +16,7 @@ use std::alloc::Global;
 
 /// Runs the command that the words name, those after the program's name.
 ///
-/// `sim` reads a set, plays its steps in the given order, and writes the trace of the histories that come about, in
+/// `sim` reads a set, plays its steps in the given order or its turns, and writes the trace of the histories that come about, in
 /// format 2 through the line `end`. `check` reads a trace of either format, and writes one line: `valid` with the number of its entries,
 /// or `invalid` with the number of the first line that is wrong.
 ///

@@ -112,7 +112,21 @@ end
 const WITH_A_RESERVATION: &str =
     r#"{"plugin":"P-RES","clusters":[{"cpus":1}],"resvs":[{"name":"R","kind":"polling","budget":1,"period":10,"prio":1}],"steps":[]}"#;
 
-const WITH_A_HORIZON: &str = r#"{"plugin":"GSN-EDF","clusters":[{"cpus":1}],"horizon":1}"#;
+const BODY_RUN: &str =
+    r#"{"clusters":[{"cpus":1,"group":0}],"horizon":3,"plugin":"GSN-EDF","resvs":[],"sems":[],"tasks":[{"body":[["work",2],["end"]],"cluster":0,"cost":2,"deadline":3,"enforce":false,"kind":"periodic","name":"A","period":3,"phase":0,"prio":511,"resv":null,"uses":[]}]}"#;
+
+const BODY_RUN_REST: &str = "group 0 0:@A
+0 0 0 tick done
+1 0 0 irq runs @A
+2 0 0 work done
+3 1 0 tick done
+4 1 0 irq quiet
+5 1 0 work done
+6 1 0 end done 0:-
+7 2 0 tick done
+8 2 0 irq quiet
+end
+";
 
 fn words(alloc: Global, texts: &[&str]) -> Result<Vec<String>, Fail> {
     let mut words = Vec::new(alloc);
@@ -199,6 +213,13 @@ fn plays_each_group(rt: HostRuntime) -> Result<(), Fail> {
 }
 
 #[test]
+fn plays_turns(rt: HostRuntime) -> Result<(), Fail> {
+    let head = "rtsched trace 2\nset ";
+    assert!(rt; plays(rt.alloc(), BODY_RUN, &[head, BODY_RUN, "\n", BODY_RUN_REST])?);
+    Ok(())
+}
+
+#[test]
 fn refuses_what_is_no_json(rt: HostRuntime) -> Result<(), Fail> {
     let wanted = refused(SetKind::NotJson, Part::Whole, 0);
     assert_eq!(rt; answer(rt.alloc(), "{\"plugin\"")?, wanted);
@@ -235,7 +256,6 @@ fn refuses_by_the_first_rule_that_is_broken(rt: HostRuntime) -> Result<(), Fail>
 fn refuses_what_is_not_played_yet(rt: HostRuntime) -> Result<(), Fail> {
     let unbuilt = refused(SetKind::Unbuilt, Part::Whole, 0);
     assert_eq!(rt; answer(rt.alloc(), WITH_A_RESERVATION)?, unbuilt);
-    assert_eq!(rt; answer(rt.alloc(), WITH_A_HORIZON)?, unbuilt);
     Ok(())
 }
 

@@ -2,6 +2,7 @@ use Rattle.std.proofs.Common.{rules, ◌≡◌, true, inr, refl, sym, subst}
 use Rattle.rt_groups.specs.Built.{is_built}
 use Rattle.trace_text.specs.Groups.{AreGroupsOf}
 use Rattle.set_input.proofs.InputLaws.{playable-is_built}
+use Rattle.set_input.specs.declared.player.Player.TheVariants.{Threads}
 use Rattle.set_runs.specs.Runs.{AreRunsOf}
 use Rattle.rtrun.proofs.RunAnswerLaws.{run-unread, run-read}
 use Rattle.rtrun.proofs.play_set.play_set.Goals as goal
@@ -11,11 +12,11 @@ returns-in-Err-clause-answers g c = run-unread _ _ c.in-Err.status c.in-Err.ensu
 
 pub run_set-requires : goal.run_set-requires
 run_set-requires g c =
-    let built : is_built c.in-Ok.setup ≡ true = playable-is_built _ _ c.in-Ok.ensures.ok.reads in
+    let built : is_built c.in-Ok.setup ≡ true = playable-is_built Threads _ _ c.in-Ok.ensures.ok.reads in
     search (built, rules)
 
 pub write_trace-requires-clause-built : goal.write_trace-requires-clause-built
-write_trace-requires-clause-built g c = playable-is_built _ _ c.in-Ok.ensures.ok.reads
+write_trace-requires-clause-built g c = playable-is_built Threads _ _ c.in-Ok.ensures.ok.reads
 
 pub write_trace-requires-clause-groups : goal.write_trace-requires-clause-groups
 write_trace-requires-clause-groups g c = subst (AreGroupsOf c.in-Ok.setup) (sym c.as_slice.ensures.value) c.in-Ok-run_set.ensures.groups

@@ -58,4 +58,4 @@ returns c =
     let p : Parts = c.args.setup.now in
     let given : c.steps_given-steps.result.now ≡ steps_given p.drive = c.steps_given-steps.ensures ∙ ap (λ (q : Parts). steps_given q.drive) c.parts-parts.ensures.parts in
     c.loop-step.invariant ∙ ap (λ (ss : List Step). all_counted p ss c.loop-step.step-index) given
-    ∙ counted-all p c.requires.built c.loop-step.step-index (omega (arith, c.loop-step-test.false, ap length given))
+    ∙ counted-all p c.requires.steps c.loop-step.step-index (omega (arith, c.loop-step-test.false, ap length given))

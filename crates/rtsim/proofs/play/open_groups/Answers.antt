@@ -9,7 +9,7 @@ use Rattle.rt_groups.specs.Groups.{GroupHistory}
 use Rattle.rt_groups.proofs.GroupCount.{groups_are_counted}
 use Rattle.rt_groups.proofs.Unreserved.{built-unreserved}
 use Rattle.trace_text.proofs.GroupLaws.{groups-few}
-use Rattle.rtsim.proofs.GivenSteps.{room-few}
+use Rattle.rtsim.proofs.TurnRoom.{room-few}
 use Rattle.rtsim.proofs.Numbered.{length-numbered, numbered-push}
 use Rattle.rtsim.proofs.OneStep.{at-group}
 use Rattle.rtsim.proofs.play.open_groups.Goals as goal
@@ -33,7 +33,7 @@ open-requires-clause-room c =
     let p : Parts = c.args.setup.now in
     let count : length c.args.rooms.now ≡ group_count p = ap length c.requires.rooms ∙ length-numbered (λ n. room (group_with p n)) 0 (group_count p) in
     let here : get_or c.args.rooms.now c.loop-n.n 0 ≡ room (group_with p c.loop-n.n) = at-group (λ n. room (group_with p n)) c.args.rooms.now (group_count p) c.loop-n.n 0 c.requires.rooms (omega (arith, count, c.loop-n-test.true)) in
-    omega (arith, here, room-few p c.loop-n.n c.requires.valid c.requires.built)
+    omega (arith, here, room-few p c.loop-n.n c.requires.valid)
 
 pub open-requires-clause-unreserved : goal.open-requires-clause-unreserved
 open-requires-clause-unreserved c = built-unreserved c.args.setup.now c.requires.built

@@ -14,7 +14,7 @@ pub loop-step-init : goal.loop-step-init
 loop-step-init c =
     let p : Parts = c.args.setup.now in
     let given : c.steps_given-steps.result.now ≡ steps_given p.drive = c.steps_given-steps.ensures ∙ ap (λ (q : Parts). steps_given q.drive) c.parts.ensures.parts in
-    c.requires.engines ∙ taken-first p c.requires.built ∙ ap (λ (ss : List Step). all_taken p ss 0) (sym given)
+    c.requires.engines ∙ taken-first p c.requires.steps ∙ ap (λ (ss : List Step). all_taken p ss 0) (sym given)
 
 pub bounds-groups-step : goal.bounds-groups-step
 bounds-groups-step c =
@@ -70,4 +70,4 @@ returns c =
     let p : Parts = c.args.setup.now in
     let given : c.steps_given-steps.result.now ≡ steps_given p.drive = c.steps_given-steps.ensures ∙ ap (λ (q : Parts). steps_given q.drive) c.parts.ensures.parts in
     c.loop-step.invariant ∙ ap (λ (ss : List Step). all_taken p ss c.loop-step.step-index) given
-    ∙ taken-all p c.requires.built c.loop-step.step-index (omega (arith, c.loop-step-test.false, ap length given))
+    ∙ taken-all p c.requires.steps c.loop-step.step-index (omega (arith, c.loop-step-test.false, ap length given))

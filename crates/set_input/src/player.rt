@@ -1,0 +1,37 @@
+//! By whom a set is played, and which sets those are.
+ghost use Rattle.std.specs.Prelude.{◌≡◌};
+ghost use Rattle.rt_groups.specs.Built as built;
+ghost use Rattle.set_input.specs.Players.{is_played};
+
+use rt_groups::is_built;
+use rt_task::{Drive, Setup};
+
+/// By whom a set is played.
+#[derive(Clone, Copy, Debug, PartialEq, Eq)]
+pub enum Player {
+    /// One thread, which plays the steps or the turns of all processors.
+    OneThread,
+    /// Threads, each of which plays the steps of one processor. They play no set with a horizon.
+    Threads,
+}
+
+fn gives_steps(drive: &Drive) -> bool
+    ensures { result ≡ built.gives_steps drive.now }
+{
+    match drive {
+        Drive::Steps(_) => true,
+        Drive::Horizon(_) => false,
+    }
+}
+
+impl Player {
+    /// Whether it plays the set.
+    pub fn plays(self, setup: &Setup) -> bool
+        ensures { result ≡ is_played self setup.now }
+    {
+        match self {
+            Player::OneThread => is_built(setup),
+            Player::Threads => is_built(setup) && gives_steps(&setup.parts().drive),
+        }
+    }
+}
