@@ -17,3 +17,4 @@ pub mod Telling
 pub mod AtSems
 pub mod Answering
 pub mod StandingActs
+pub mod Looking

@@ -6,6 +6,7 @@ ghost use Rattle.rt_model.specs.Past.{Past, Clock};
 ghost use Rattle.rt_model.specs.Runs.{runs};
 ghost use Rattle.rt_model.specs.Links.{linked};
 ghost use Rattle.rt_model.specs.Histories.{after, reply_to};
+ghost use Rattle.rt_model.specs.Situations.{situation};
 ghost use Rattle.rt_model.specs.Steps.{IsActOf, IsStepOf};
 ghost use Rattle.rt_plays.specs.Homes.{IsProcessorOf};
 ghost use Rattle.rt_groups.specs.Built.{is_built};
@@ -17,7 +18,7 @@ ghost use Rattle.rank_afresh.specs.Standing.{IsAt, IsOfSame, ended_last, group_o
 
 use crate::facts::Facts;
 use rt_base::{CpuNo, GroupNo, NoMemory, TaskNo, Tick};
-use rt_history::Reply;
+use rt_history::{Reply, Situation};
 use rt_task::{Act, Setup, Step};
 use std::alloc::Global;
 use std::marker::Model;
@@ -136,6 +137,16 @@ impl Afresh {
         ensures { (past : Past) → IsAt self.now past → number_of_task result ≡ runs cpu.0 past }
     {
         self.facts.runs(cpu)
+    }
+
+    /// What the processor's next act depends on.
+    pub fn situation(&self, cpu: CpuNo) -> Situation
+        requires cpu { IsProcessorOf (group_of self.now) cpu.0 }
+        requires at { (past : Past) × IsAt self.now past }
+        ensures { (past : Past) → IsAt self.now past
+            → result ≡ situation (group_of self.now) cpu.0 past }
+    {
+        self.facts.situation(self.setup.parts(), cpu)
     }
 
     /// The task whose job the last move ended, and whether the clock was past that job's deadline; `None` where it ended

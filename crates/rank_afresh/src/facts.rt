@@ -1,14 +1,16 @@
 //! The plain facts of one group: what is kept of its jobs and processors and of its semaphores, and its clusters.
-ghost use Rattle.std.specs.Prelude.{◌≡◌, ◌+◌, ◌<◌, ◌≤◌, ◌==◌, IfOk, length, false, true, None, Some, if◌then◌else◌, unwrap_or};
+ghost use Rattle.std.specs.Prelude.{◌≡◌, ◌+◌, ◌<◌, ◌≤◌, ◌==◌, ℕ, IfOk, length, false, true, None, Some, if◌then◌else◌, unwrap_or};
 ghost use Rattle.rt_base.specs.TaskNos.{number_of_task};
 ghost use Rattle.rt_base.specs.declared.TheConstants.{MOST_STEPS, TICK_END};
 ghost use Rattle.rt_task.specs.RuleWords.{is_p_res};
 ghost use Rattle.rt_task.specs.declared.Act.TheVariants as acts;
 ghost use Rattle.rt_task.specs.declared.Op.TheVariants as ops;
+ghost use Rattle.rt_model.specs.Group.{Group};
 ghost use Rattle.rt_model.specs.Past.{accepted};
 ghost use Rattle.rt_groups.specs.Limits.{IsInLimits};
 ghost use Rattle.rt_changes.specs.SemActs.{is_at_sem};
 ghost use Rattle.group_facts.specs.Kept.{cpu_of};
+ghost use Rattle.group_facts.specs.Situations.{situation_of};
 ghost use Rattle.group_facts.specs.Timers as timers;
 ghost use Rattle.group_jobs.specs.GroupJobs.{IsTaskOf, is_op_reply};
 ghost use Rattle.group_jobs.specs.States.{SleepIsShort};
@@ -18,16 +20,18 @@ ghost use Rattle.rt_rules.specs.Distinct.{IsDistinct};
 ghost use Rattle.count_laws.specs.Tallies.{waiter_tasks};
 ghost use Rattle.waiting_list.specs.Listing.{AreWaitersAt, CanList, Moment};
 ghost use Rattle.rank_afresh.specs.Clusters.{HasCpu};
+ghost use Rattle.rank_afresh.specs.Looking.{CanLook};
 ghost use Rattle.rank_afresh.specs.Ranks.{CanRead, base_in};
 ghost use Rattle.rank_afresh.specs.Facts.{AreOpened, CanAct, CanFollow, IsPlainAct, MayAct, MayDo, MayLock, MayUnlock, acted, all_based, all_followed, all_placed, asked_reply, at_opening, based, clocked, cluster_at, counted, ended_now, ends_in, home_of, late_in, link_in, lock_refused, placed_afresh, placing_after, reply_in, sems_by, task_reply};
 ghost use Rattle.rank_afresh.specs.Facts as seen;
 
 use crate::cluster::RankedCluster;
 use crate::rows::{cluster_of, clusters_of, cpu_count};
+use crate::situations;
 use group_jobs::GroupJobs;
 use group_sems::GroupSems;
 use rt_base::{Ask, CpuNo, GroupNo, NoMemory, SemNo, TaskNo, Tick};
-use rt_history::Reply;
+use rt_history::{Reply, Situation};
 use rt_task::{Act, Op, Parts, Setup};
 use std::alloc::Global;
 use std::marker::Model;
@@ -174,6 +178,16 @@ impl Facts {
     {
         let home = cluster_of(parts.clusters.as_slice(), cpu);
         self.clusters[home].linked(cpu)
+    }
+
+    /// What the processor's next act depends on, in a group without reservations.
+    pub(crate) fn situation(&self, parts: &Parts, cpu: CpuNo) -> Situation
+        requires { CanLook parts.now cpu.0 self.now.facts }
+        ensures { (g : Group) (budget : ℕ) → is_p_res g.setup.plugin ≡ false → result
+            ≡ situation_of g cpu.0 (link_in parts.now cpu.0 self.now.facts) budget self.now.facts.kept }
+    {
+        let link = self.linked(parts, cpu);
+        situations::situation_of(&self.jobs, cpu, link)
     }
 
     /// Lists the tasks that wait for the semaphore that the act of the processor frees.

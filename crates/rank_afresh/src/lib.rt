@@ -8,6 +8,7 @@ mod placing;
 mod ranks;
 mod room;
 mod rows;
+mod situations;
 
 pub use afresh::Afresh;
 

@@ -1,5 +1,5 @@
--- What is played so far: sets that give steps, with no reservation.
-use Rattle.std.specs.Prelude.{Bool, true, false, not, ◌&&◌}
+-- What is played so far: sets with no reservation.
+use Rattle.std.specs.Prelude.{Bool, true, false, not}
 use Rattle.rt_task.specs.declared.Drive.{Drive}
 use Rattle.rt_task.specs.declared.Drive.TheVariants.{Steps, Horizon}
 use Rattle.rt_task.specs.declared.Parts.{Parts}
@@ -10,4 +10,4 @@ gives_steps (Steps steps) = true
 gives_steps (Horizon h) = false
 
 abbrev pub is_built : Parts → Bool
-is_built p = not (is_p_res p.plugin) && gives_steps p.drive
+is_built p = not (is_p_res p.plugin)

@@ -1,5 +1,5 @@
 //! A group of a setup and its history, as contracts see them; what is played so far; and what a valid setup says of its
-//! groups and of its numbers. The functions but `is_built` have a law as their contract, and do nothing.
+//! groups and of its numbers. The functions but `gives_steps` and `is_built` have a law as their contract, and do nothing.
 #![tactic(auto)]
 
 ghost use Rattle.std.specs.Prelude.{◌≡◌};
@@ -9,7 +9,8 @@ ghost use Rattle.rt_groups.specs.Places.{GroupsAreCounted, ProcessorsAreAtHome, 
 
 use rt_task::{Drive, PluginKind, Setup};
 
-fn gives_steps(drive: &Drive) -> bool
+/// Whether the set gives steps; else it has a horizon.
+pub fn gives_steps(drive: &Drive) -> bool
     ensures { result ≡ built.gives_steps drive.now }
 {
     match drive {
@@ -18,12 +19,11 @@ fn gives_steps(drive: &Drive) -> bool
     }
 }
 
-/// Whether the set is one that is played so far: it gives steps, and has no reservations.
+/// Whether the set is one that is played so far: it has no reservations.
 pub fn is_built(setup: &Setup) -> bool
     ensures { result ≡ built.is_built setup.now }
 {
-    let parts = setup.parts();
-    parts.plugin != PluginKind::PRes && gives_steps(&parts.drive)
+    setup.parts().plugin != PluginKind::PRes
 }
 
 /// The numbers of a valid setup are within the limits.

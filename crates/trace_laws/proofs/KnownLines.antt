@@ -1,4 +1,4 @@
--- The lines of the plays of a set that is played are lines of the grammar.
+-- The lines of the plays of a valid set are lines of the grammar.
 use Rattle.std.proofs.Common.{◌≡◌, ℕ, suc, ◌+◌, ◌^◌, ◌<◌, ◌≤◌, true, List, [], ◌∷◌, ◌++◌, length, get_or, sym, subst, arith}
 use Rattle.std.specs.Prelude.{◌==◌, All, Option, None, Some}
 use Rattle.std.proofs.lemmas.List.{length-map}
@@ -27,10 +27,7 @@ use Rattle.rt_model.proofs.AnswerLaws.{answer-runs_link, to_run}
 use Rattle.rt_model.proofs.Steps.{reply_to-lem}
 use Rattle.rt_laws.proofs.LinkedTasks.{linked-eligible}
 use Rattle.rt_plays.specs.Homes.{IsProcessorOf}
-use Rattle.rt_plays.specs.Plays.{ArePlays, group_count, group_with}
-use Rattle.rt_plays.specs.ScriptPlays.{IsScriptPlay}
-use Rattle.rt_plays.proofs.ScriptParts.{begun-whole}
-use Rattle.rt_groups.specs.Built.{is_built}
+use Rattle.rt_plays.specs.Plays.{ArePlays, IsBegunPlay, IsPlay, group_count, group_with}
 use Rattle.rt_groups.specs.Groups.{AreStepsOf, IsGroupOf}
 use Rattle.rt_groups.proofs.GroupCount.{groups_are_counted}
 use Rattle.trace_lines.specs.Known.{ActIsKnown, IsLine, IsNumberOf, Known, LinkIsKnown, OpIsKnown, ReplyIsKnown, TargetIsKnown, known_of}
@@ -39,7 +36,7 @@ use Rattle.trace_lines.specs.Lines.{Link, end_line, entry_line, group_line}
 use Rattle.trace_text.specs.TraceText.{block_lines, entry_lines, group_lines, lines_from, links_at}
 use Rattle.trace_text.proofs.BlockLines.{block_lines-known, sem-numbered, task-numbered}
 use Rattle.trace_text.proofs.GroupLaws.{groups-few}
-use Rattle.trace_laws.proofs.Plays.{few-entries, play-steps, script-plays}
+use Rattle.trace_laws.proofs.Plays.{begun-legal, begun-steps, begun-whole, few-entries}
 use Rattle.trace_laws.proofs.Processors.{processor-low, processor-some}
 
 -- a link that is missing, or is one of the tasks
@@ -130,32 +127,33 @@ module _ (v : Version) (g : Group) (valid : IsValid g.setup) where
       let same : length (links_at g [] (group_processors g)) ≡ length (group_processors g) = length-map _ _ in
       (omega arith, omega arith, links-known opened (group_processors g) (λ q h. h))
 
-  group-lines-known : (es : List Entry) → IsGroupOf g.setup g.number → IsScriptPlay g es → All (IsLine k) (group_lines g es)
+  group-lines-known : (es : List Entry) → IsGroupOf g.setup g.number → IsPlay g es → All (IsLine k) (group_lines g es)
   unfolding group_lines
   group-lines-known es there play =
-      let few : length es ≤ MOST_STEPS = few-entries g es valid (begun-whole g es play) in
-      let steps : AreStepsOf g es = play-steps g es valid play in
-      let entries : All (IsLine k) (entry_lines g 0 [] es) = entries-known 0 es opened play.legal steps (omega arith) in
+      let begun : IsBegunPlay g es = begun-whole g es play in
+      let few : length es ≤ MOST_STEPS = few-entries g es valid begun in
+      let steps : AreStepsOf g es = begun-steps g es valid begun in
+      let entries : All (IsLine k) (entry_lines g 0 [] es) = entries-known 0 es opened (begun-legal g es begun) steps (omega arith) in
       let listed : All (IsLine k) (entry_lines g 0 [] es ++ block_lines g (past_of g es)) =
       All-append (IsLine k) (entry_lines g 0 [] es) (block_lines g (past_of g es)) entries (block_lines-known v g es valid few) in
       All-cons (IsLine k) (group_line g.number (links_at g [] (group_processors g))) (entry_lines g 0 [] es ++ block_lines g (past_of g es)) (group-known there) listed
 
-module _ (v : Version) (p : Parts) (valid : IsValid p) (built : is_built p ≡ true) where
+module _ (v : Version) (p : Parts) (valid : IsValid p) where
   -- the lines of the plays of the groups from a number on, with the line `end`
-  lines-known : (n : ℕ) (hs : List (List Entry)) → n + length hs ≤ group_count p → ((i : ℕ) → i < length hs → IsScriptPlay (group_with p (n + i)) (get_or hs i [])) → All (IsLine (known_of v p)) (lines_from p n hs)
+  lines-known : (n : ℕ) (hs : List (List Entry)) → n + length hs ≤ group_count p → ((i : ℕ) → i < length hs → IsPlay (group_with p (n + i)) (get_or hs i [])) → All (IsLine (known_of v p)) (lines_from p n hs)
   lines-known n [] few plays = All-cons (IsLine (known_of v p)) end_line [] tt (All-nil (IsLine (known_of v p)))
   lines-known n (es ∷ hs) few plays =
       let here : n + 0 ≡ n = omega arith in
       let there : IsGroupOf p n = (groups_are_counted p n valid).1 (omega arith) in
-      let play : IsScriptPlay (group_with p n) es = subst (λ (m : ℕ). IsScriptPlay (group_with p m) es) here (plays 0 (omega arith)) in
+      let play : IsPlay (group_with p n) es = subst (λ (m : ℕ). IsPlay (group_with p m) es) here (plays 0 (omega arith)) in
       All-append (IsLine (known_of v p)) (group_lines (group_with p n) es) (lines_from p (n + 1) hs) (group-lines-known v (group_with p n) valid es there play) (lines-known (n + 1) hs (omega arith) later)
     where
-      later : (i : ℕ) → i < length hs → IsScriptPlay (group_with p (n + 1 + i)) (get_or hs i [])
-      later i low = let next : n + suc i ≡ n + 1 + i = omega arith in subst (λ (m : ℕ). IsScriptPlay (group_with p m) (get_or hs i [])) next (plays (suc i) (omega arith))
+      later : (i : ℕ) → i < length hs → IsPlay (group_with p (n + 1 + i)) (get_or hs i [])
+      later i low = let next : n + suc i ≡ n + 1 + i = omega arith in subst (λ (m : ℕ). IsPlay (group_with p m) (get_or hs i [])) next (plays (suc i) (omega arith))
 
   -- each line of the text of plays
   pub known-lines : (hs : List (List Entry)) → ArePlays p hs → All (IsLine (known_of v p)) (lines_from p 0 hs)
   known-lines hs are = lines-known 0 hs (omega (arith, are.count)) at_number
     where
-      at_number : (i : ℕ) → i < length hs → IsScriptPlay (group_with p (0 + i)) (get_or hs i [])
-      at_number i low = let same : i ≡ 0 + i = omega arith in subst (λ (m : ℕ). IsScriptPlay (group_with p m) (get_or hs i [])) same (script-plays p hs i built are low)
+      at_number : (i : ℕ) → i < length hs → IsPlay (group_with p (0 + i)) (get_or hs i [])
+      at_number i low = let same : i ≡ 0 + i = omega arith in subst (λ (m : ℕ). IsPlay (group_with p m) (get_or hs i [])) same (are.plays i low)

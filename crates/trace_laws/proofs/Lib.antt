@@ -1,5 +1,7 @@
 pub mod ScriptLaws
 pub mod StepsGiven
+pub mod ValidBodies
+pub mod NextActs
 pub mod Plays
 pub mod Processors
 pub mod KnownLines

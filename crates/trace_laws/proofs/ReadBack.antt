@@ -40,7 +40,7 @@ pub are-lines : (k : Known) (ls : List Line) → All (IsLine k) ls → AreLines 
 are-lines k ls known = record { lines_known = known; text_is = sym (append-nil (flat_map (line_text k) ls)); none_further = λ l more is e. no_text k l more e }
 
 pub all_known : (v : Version) (p : Parts) (hs : List (List Entry)) → ArePlayed p hs → All (IsLine (known_of v p)) (lines_from p 0 hs)
-all_known v p hs played = known-lines v p played.valid played.built hs played.plays
+all_known v p hs played = known-lines v p played.valid hs played.plays
 
 -- ---- it is read
 

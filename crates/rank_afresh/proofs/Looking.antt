@@ -1,0 +1,52 @@
+-- A group that stands at a past: what a processor's next act depends on.
+use Rattle.std.proofs.Common.{◌≡◌, ℕ, ◌<◌, ◌^◌, false, sym, ap, ◌∙◌, arith}
+use Rattle.std.specs.Prelude.{Option, None, Some}
+use Rattle.rt_task.specs.RuleWords.{is_p_res}
+use Rattle.rt_history.specs.declared.Situation.{Situation}
+use Rattle.rt_model.specs.Group.{Group}
+use Rattle.rt_model.specs.Links.{linked}
+use Rattle.rt_model.specs.Past.{Past}
+use Rattle.rt_model.specs.Reservations.{left}
+use Rattle.rt_model.specs.Runs.{runs}
+use Rattle.rt_model.specs.Situations.{situation}
+use Rattle.rt_laws.proofs.Running.{running}
+use Rattle.rt_laws.proofs.ValidSets.{rules_of}
+use Rattle.rt_plays.specs.Homes.{IsProcessorOf}
+use Rattle.group_facts.specs.Kept.{cpu_of}
+use Rattle.group_facts.specs.Situations.{place_of, situation_of}
+use Rattle.group_facts.proofs.KeptMoves.{task-range}
+use Rattle.group_facts.proofs.ReadSituations.{situation_is_read}
+use Rattle.group_jobs.specs.GroupJobs.{RunsTask}
+use Rattle.rank_afresh.specs.Facts.{link_in}
+use Rattle.rank_afresh.specs.Looking.{CanLook}
+use Rattle.rank_afresh.specs.Standing.{IsAt, IsFit, Standing, group_of}
+use Rattle.rank_afresh.proofs.Standings.{cpu-there, has-cpu, home-there, linked-there, runs-there, unreserved}
+
+module _ (v : Standing) (room : ℕ) (fit : IsFit (group_of v) v.facts room v.spare) (q : ℕ) (of : IsProcessorOf (group_of v) q) (past : Past) (at : IsAt v past) where
+  abbrev g : Group
+  g = group_of v
+
+  runs-task : RunsTask v.facts.kept q
+  runs-task t is =
+      let n = task-range g t (running g (rules_of g fit.valid) at.reachable q t (sym (runs-there v room fit q of past at) ∙ is)).member in
+      (n.0, (let a = fit.read.all in omega (arith, n.1, a)))
+
+  few-done : (o : Option ℕ) → place_of v.facts.kept o < 2 ^ 32
+  few-done None = omega arith
+  few-done (Some t) = let b = (fit.read.bounded t).counts in omega (arith, b)
+
+  pub can_look : CanLook v.setup q v.facts
+  can_look = record {
+    home = home-there v room fit q of;
+    has_cpu = has-cpu v room fit q of;
+    kept = cpu-there v room fit q of;
+    runs_task = runs-task;
+    few = few-done (cpu_of v.facts.kept q).runs;
+  }
+
+  -- what is read off the facts is what the definitions give
+  pub situation-there : (s : Situation) → ((h : Group) (budget : ℕ) → is_p_res h.setup.plugin ≡ false → s ≡ situation_of h q (link_in v.setup q v.facts) budget v.facts.kept)
+      → s ≡ situation g q past
+  situation-there s is =
+      is g 0 (unreserved v room fit) ∙ ap (λ (link : Option ℕ). situation_of g q link 0 v.facts.kept) (linked-there v room fit q of past at)
+      ∙ situation_is_read g past fit.valid at.reachable q 0 v.facts.kept of (λ t runs h. let no = unreserved v room fit in cc) at.kept
