@@ -38,15 +38,9 @@ order-given p n gives = ap (order_by (group_with p n)) (given p.drive gives)
 pub room-given : (p : Parts) (n : ℕ) → gives_steps p.drive ≡ true → room (group_with p n) ≡ length (steps_in_group (group_with p n) (steps_given p.drive))
 room-given p n gives = ap (room_by (group_with p n)) (given p.drive gives)
 
--- no group has more steps than a set may have
-pub given-few : (p : Parts) (n : ℕ) → IsValid p → length (steps_in_group (group_with p n) (steps_given p.drive)) ≤ MOST_STEPS
-given-few p n valid =
-    let test = λ (s : Step). has s.cpu.0 (group_processors (group_with p n)) in
-    omega (arith, length-filter_both test (λ s. not (test s)) (λ s. refl) (steps_given p.drive), steps-few p valid)
-
 -- ---- their processors
 
-pub cpus-drafted : (ks : List Cluster) → sum_by (λ (c : DraftCluster). c.cpus) (map draft_cluster ks) ≡ cpu_count ks
+cpus-drafted : (ks : List Cluster) → sum_by (λ (c : DraftCluster). c.cpus) (map draft_cluster ks) ≡ cpu_count ks
 cpus-drafted [] = refl
 cpus-drafted (k ∷ ks) = omega (arith, cpus-drafted ks, sum_by-cons (λ (c : DraftCluster). c.cpus) (draft_cluster k) (map draft_cluster ks), sum_by-cons (λ (c : Cluster). c.cpus) k ks)
 

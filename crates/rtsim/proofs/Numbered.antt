@@ -1,6 +1,6 @@
 -- Lists with an element for each number in turn.
-use Rattle.std.proofs.Common.{◌≡◌, ◌≢◌, ℕ, zero, suc, ◌+◌, ◌<◌, ◌≤◌, List, [], ◌∷◌, ◌++◌, length, map, get_or, set, refl, ap, ◌∙◌, arith}
-use Rattle.std.specs.Prelude.{replicate}
+use Rattle.std.proofs.Common.{◌≡◌, ◌≢◌, ℕ, false, zero, suc, ◌+◌, ◌<◌, ◌≤◌, List, [], ◌∷◌, ◌++◌, length, map, get_or, set, refl, ap, ◌∙◌, arith}
+use Rattle.std.specs.Prelude.{Err, Ok, Result, if◌then◌else◌, is_err, is_ok, replicate}
 use Rattle.rt_rules.specs.Numbers.{numbers_from}
 
 pub at-number : {A : Type 0} (f : ℕ → A) (a m j : ℕ) (d : A) → j < m → get_or (map f (numbers_from a m)) j d ≡ f (a + j)
@@ -37,3 +37,8 @@ numbered-set f h a (suc m) zero x here others =
 numbered-set f h a (suc m) (suc j) x here others =
     let e : a + suc j ≡ suc a + j = omega arith in
     rw (others a (λ same. omega arith), numbered-set f h (suc a) m j x (here ∙ ap h e) (λ n other. others n (λ same. other (same ∙ e)))) refl
+
+-- what was not refused was put behind the others
+pub pushed : {A B E : Type 0} (r : Result B E) (xs ys : List A) → is_err r ≡ false → (if is_ok r then xs else ys) ≡ xs
+pushed (Ok a) xs ys h = refl
+pushed (Err e) xs ys h = cc

@@ -1,10 +1,9 @@
 //! By whom a set is played, and which sets those are.
 ghost use Rattle.std.specs.Prelude.{◌≡◌};
-ghost use Rattle.rt_groups.specs.Built as built;
 ghost use Rattle.set_input.specs.Players.{is_played};
 
-use rt_groups::is_built;
-use rt_task::{Drive, Setup};
+use rt_groups::{gives_steps, is_built};
+use rt_task::Setup;
 
 /// By whom a set is played.
 #[derive(Clone, Copy, Debug, PartialEq, Eq)]
@@ -13,15 +12,6 @@ pub enum Player {
     OneThread,
     /// Threads, each of which plays the steps of one processor. They play no set with a horizon.
     Threads,
-}
-
-fn gives_steps(drive: &Drive) -> bool
-    ensures { result ≡ built.gives_steps drive.now }
-{
-    match drive {
-        Drive::Steps(_) => true,
-        Drive::Horizon(_) => false,
-    }
 }
 
 impl Player {

@@ -9,8 +9,8 @@ use Rattle.rt_groups.specs.Groups.{GroupHistory}
 use Rattle.rt_groups.proofs.GroupCount.{groups_are_counted}
 use Rattle.rt_groups.proofs.Unreserved.{built-unreserved}
 use Rattle.trace_text.proofs.GroupLaws.{groups-few}
-use Rattle.rtsim.proofs.TurnRoom.{room-few}
-use Rattle.rtsim.proofs.Numbered.{length-numbered, numbered-push}
+use Rattle.trace_laws.proofs.Plays.{room-few}
+use Rattle.rtsim.proofs.Numbered.{length-numbered, numbered-push, pushed}
 use Rattle.rtsim.proofs.OneStep.{at-group}
 use Rattle.rtsim.proofs.play.open_groups.Goals as goal
 
@@ -33,7 +33,7 @@ open-requires-clause-room c =
     let p : Parts = c.args.setup.now in
     let count : length c.args.rooms.now ≡ group_count p = ap length c.requires.rooms ∙ length-numbered (λ n. room (group_with p n)) 0 (group_count p) in
     let here : get_or c.args.rooms.now c.loop-n.n 0 ≡ room (group_with p c.loop-n.n) = at-group (λ n. room (group_with p n)) c.args.rooms.now (group_count p) c.loop-n.n 0 c.requires.rooms (omega (arith, count, c.loop-n-test.true)) in
-    omega (arith, here, room-few p c.loop-n.n c.requires.valid)
+    omega (arith, here, room-few (group_with p c.loop-n.n) c.requires.valid)
 
 pub open-requires-clause-unreserved : goal.open-requires-clause-unreserved
 open-requires-clause-unreserved c = built-unreserved c.args.setup.now c.requires.built
@@ -44,11 +44,6 @@ returns c =
     let count : length c.args.rooms.now ≡ group_count p = ap length c.requires.rooms ∙ length-numbered (λ n. room (group_with p n)) 0 (group_count p) in
     let all : c.loop-n.n ≡ group_count p = omega (arith, count, c.loop-n-test.false, c.loop-n.auto.n-end) in
     c.loop-n.invariant ∙ ap (λ n. map (opened p) (numbers_from 0 n)) all
-
--- what was not refused was put behind the others
-pushed : {A E : Type 0} (r : Result A E) (xs ys : List GroupHistory) → is_err r ≡ false → (if is_ok r then xs else ys) ≡ xs
-pushed (Ok a) xs ys h = refl
-pushed (Err e) xs ys h = cc
 
 pub loop-n-preserved : goal.loop-n-preserved
 loop-n-preserved c =
