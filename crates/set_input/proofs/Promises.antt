@@ -1,5 +1,5 @@
 -- What is promised holds after each entry of all histories of a valid set.
-use Rattle.std.proofs.Common.{ℕ, List, [], take, get_or}
+use Rattle.std.proofs.Common.{List, [], take, get_or}
 use Rattle.rt_task.specs.declared.Parts.{Parts}
 use Rattle.rt_task.specs.Validity.{IsValid}
 use Rattle.rt_history.specs.declared.Entry.{Entry}
