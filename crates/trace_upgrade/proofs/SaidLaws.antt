@@ -10,7 +10,7 @@ use Rattle.rt_model.specs.Blocking.{Asked, requests}
 use Rattle.rt_model.specs.Group.{Group}
 use Rattle.rt_model.specs.Histories.{after, past_of}
 use Rattle.rt_model.specs.Past.{Past}
-use Rattle.rt_plays.specs.Plays.{ArePlays, group_count, group_with}
+use Rattle.rt_plays.specs.Plays.{group_count, group_with}
 use Rattle.rt_plays.specs.ScriptPlays.{IsScriptPlay}
 use Rattle.rt_plays.proofs.ScriptParts.{begun-whole}
 use Rattle.rt_groups.specs.Built.{is_built}
@@ -21,7 +21,6 @@ use Rattle.trace_lines.specs.Lines.{Line}
 use Rattle.trace_text.specs.Groups.{AreGroupsOf, histories}
 use Rattle.trace_text.specs.TraceText.{block_lines, block_of, entry_lines, group_lines, lines_from}
 use Rattle.trace_text.proofs.GroupLaws.{all-groups}
-use Rattle.trace_laws.specs.TraceLaws.{ArePlayed}
 use Rattle.trace_laws.proofs.Plays.{few-entries, play-steps, script-plays}
 use Rattle.trace_laws.proofs.ReadBack.{trace-is-read}
 use Rattle.trace_read.specs.Lines.{lines_of}

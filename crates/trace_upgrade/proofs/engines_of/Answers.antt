@@ -1,11 +1,9 @@
-use Rattle.std.proofs.Common.{◌≡◌, List, sym, ap, ◌∙◌, subst}
+use Rattle.std.proofs.Common.{List, sym, ap, ◌∙◌, subst}
 use Rattle.std.specs.Prelude.{All}
 use Rattle.std.proofs.lemmas.Result.{IfOk-weaker}
-use Rattle.rt_groups.specs.Groups.{GroupHistory}
-use Rattle.trace_text.specs.Groups.{AreGroupsOf, histories}
 use Rattle.trace_read.specs.Lines.{lines_of}
 use Rattle.trace_read.specs.declared.lines.Line.{Line}
-use Rattle.trace_upgrade.specs.Said.{CanReplay, SaysPlays, groups_said}
+use Rattle.trace_upgrade.specs.Said.{CanReplay, groups_said}
 use Rattle.trace_upgrade.proofs.SaidLaws.{said-all, said-full, said-histories, said-replays}
 use Rattle.trace_upgrade.proofs.engines_of.Goals as goal
 
