@@ -9,3 +9,5 @@ pub mod SimLaws
 pub mod CheckLaws
 pub mod SimAnswerLaws
 pub mod CheckAnswerLaws
+pub mod UpgradeLaws
+pub mod UpgradeAnswerLaws

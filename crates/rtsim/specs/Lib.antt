@@ -3,3 +3,5 @@ pub mod Sim
 pub mod Check
 pub mod SimAnswers
 pub mod CheckAnswers
+pub mod Upgrade
+pub mod UpgradeAnswers

@@ -22,9 +22,14 @@ abbrev pub is_check : List (String Global) → Bool
 is_check (word ∷ []) = bytes_eq (string_bytes word) (codes "check")
 is_check _ = false
 
+-- the command `upgrade`
+abbrev pub is_upgrade : List (String Global) → Bool
+is_upgrade (word ∷ []) = bytes_eq (string_bytes word) (codes "upgrade")
+is_upgrade _ = false
+
 -- one of the commands
 abbrev pub is_command : List (String Global) → Bool
-is_command words = is_sim words || is_check words
+is_command words = is_sim words || is_check words || is_upgrade words
 
 -- the trace of a set: the text in format 2 of its canonical set and of the one legal history of each group
 abbrev pub set_trace : Parts → List ℕ

@@ -1,4 +1,5 @@
-//! `rtsim`: plays the steps of modelled processors in a given order and prints the trace, and checks a trace.
+//! `rtsim`: plays the steps of modelled processors in a given order and prints the trace, checks a trace, and
+//! upgrades a trace to format 2.
 #![tactic(auto)]
 
 mod check;
@@ -10,6 +11,7 @@ mod sim;
 mod tests;
 mod trace_input;
 mod turns;
+mod upgrade;
 mod verdict_line;
 mod words;
 
@@ -21,7 +23,7 @@ use std::io::{self, BufWriter, ErrorKind, Write};
 use std::process::ExitCode;
 
 /// The words that are commands, as they are said.
-const USAGE: &str = "usage: rtsim sim, rtsim check";
+const USAGE: &str = "usage: rtsim sim, rtsim check, rtsim upgrade";
 
 /// Runs the command between standard input and standard output. What a failed flush keeps back is a failed write.
 fn run(rt: &HostRuntime, words: &[String]) -> Status {

@@ -1,5 +1,5 @@
-//! The top call: the commands `sim` and `check`.
-ghost use Rattle.std.specs.Prelude.{◌≡◌, ◌≢◌, true, false};
+//! The top call: the commands `sim`, `check` and `upgrade`.
+ghost use Rattle.std.specs.Prelude.{◌≡◌, ◌≢◌, ℕ, true, false};
 ghost use Rattle.rt_fault.specs.Faults.{HasRisen};
 ghost use Rattle.set_input.specs.Ends.{reading, writing};
 ghost use Rattle.rtsim.specs.Sim as commands;
@@ -7,10 +7,12 @@ ghost use Rattle.rtsim.specs.Sim.{is_command};
 ghost use Rattle.set_input.specs.Answers.{IsUnwritten};
 ghost use Rattle.rtsim.specs.SimAnswers.{SimAnswers};
 ghost use Rattle.rtsim.specs.CheckAnswers.{CheckAnswers};
+ghost use Rattle.rtsim.specs.UpgradeAnswers.{UpgradeAnswers};
 
 use crate::check::check;
 use crate::play_set::play_set;
-use crate::words::{is_check, is_sim};
+use crate::upgrade::upgrade;
+use crate::words::{is_check, is_sim, is_upgrade};
 use rt_fault::{Sink, Source, Status};
 use std::alloc::Global;
 
@@ -18,7 +20,8 @@ use std::alloc::Global;
 ///
 /// `sim` reads a set, plays its steps in the given order or its turns, and writes the trace of the histories that come about, in
 /// format 2 through the line `end`. `check` reads a trace of either format, and writes one line: `valid` with the number of its entries,
-/// or `invalid` with the number of the first line that is wrong.
+/// or `invalid` with the number of the first line that is wrong. `upgrade` reads a trace of either format too, and where it
+/// is valid writes the text in format 2 of its set and histories, through the line `end`.
 ///
 /// Nothing is written before all input was read, nor where it is refused.
 pub fn sim<S: Source, K: Sink>(alloc: Global, words: &[String], src: &mut S, out: &mut K) -> Status
@@ -27,6 +30,8 @@ pub fn sim<S: Source, K: Sink>(alloc: Global, words: &[String], src: &mut S, out
     ensures no_command { result ≡ Status.Usage → is_command words.now ≡ false }
     ensures unread { result ≡ Status.Usage → src.new ≡ src.old }
     ensures unwritten { IsUnwritten result → out.new ≡ out.old }
+    ensures wrong_unwritten { (line : ℕ) → commands.is_upgrade words.now ≡ true
+        → result ≡ Status.Invalid line → out.new ≡ out.old }
 
     // A fault is answered exactly where a read or a write of this call failed.
     ensures read_fault { result ≡ Status.ReadFault →
@@ -41,12 +46,17 @@ pub fn sim<S: Source, K: Sink>(alloc: Global, words: &[String], src: &mut S, out
         (reading S.left S.faults src.old src.new) (writing K.held K.faults out.old out.new) result }
     ensures check { commands.is_check words.now ≡ true → CheckAnswers
         (reading S.left S.faults src.old src.new) (writing K.held K.faults out.old out.new) result }
+    ensures upgrade { commands.is_upgrade words.now ≡ true → UpgradeAnswers
+        (reading S.left S.faults src.old src.new) (writing K.held K.faults out.old out.new) result }
 {
     if is_sim(words) {
         return play_set(alloc, src, out);
     }
     if is_check(words) {
         return check(alloc, src, out);
+    }
+    if is_upgrade(words) {
+        return upgrade(alloc, src, out);
     }
     Status::Usage
 }

@@ -427,12 +427,63 @@ fn a_write_fault_goes_before_an_invalid_trace(rt: HostRuntime) -> Result<(), Fai
     Ok(())
 }
 
+/// Whether `upgrade`, between ends that never fail, ends so and writes these parts of a text, for the text of those.
+fn upgrades(alloc: Global, parts: &[&str], ends: Status, wanted: &[&str]) -> Result<bool, Fail> {
+    let mut text = Vec::new(alloc);
+    for part in parts {
+        text.extend_from_slice(part.as_bytes())?;
+    }
+    let mut upgraded = String::new(alloc);
+    for part in wanted {
+        upgraded.push_str(part)?;
+    }
+    let mut src = SureSource::new(text);
+    let mut out = SureSink::new(alloc, 4096)?;
+    let status = sim(
+        alloc,
+        words(alloc, &["upgrade"])?.as_slice(),
+        &mut src,
+        &mut out,
+    );
+    Ok(status == ends && out.as_slice() == upgraded.as_bytes())
+}
+
+#[test]
+fn upgrades_a_valid_trace(rt: HostRuntime) -> Result<(), Fail> {
+    let alloc = rt.alloc();
+    let wanted: [&str; 2] = [FIRST_PATH_HEAD, FIRST_PATH_REST];
+    let first: [&str; 2] = [FORMAT_1_HEAD, FORMAT_1_REST];
+    assert!(rt; upgrades(alloc, first.as_slice(), Status::Ok, wanted.as_slice())?);
+    assert!(rt; upgrades(alloc, wanted.as_slice(), Status::Ok, wanted.as_slice())?);
+    let groups: [&str; 4] = ["rtsched trace 2\nset ", TWO_GROUPS, "\n", TWO_GROUPS_REST];
+    assert!(rt; upgrades(alloc, groups.as_slice(), Status::Ok, groups.as_slice())?);
+    Ok(())
+}
+
+#[test]
+fn upgrades_no_invalid_trace(rt: HostRuntime) -> Result<(), Fail> {
+    let alloc = rt.alloc();
+    let wrong: [&str; 2] = [FORMAT_1_HEAD, FIRST_PATH_REST];
+    assert!(rt; upgrades(alloc, wrong.as_slice(), Status::Invalid(3), &[])?);
+    let short: [&str; 2] = [FIRST_PATH_HEAD, NO_END_REST];
+    assert!(rt; upgrades(alloc, short.as_slice(), Status::Invalid(7), &[])?);
+    Ok(())
+}
+
 #[test]
 fn other_words_are_no_command(rt: HostRuntime) -> Result<(), Fail> {
     let alloc = rt.alloc();
     let mut src = source(alloc, "x", &[])?;
     let mut out = sink(alloc, &[])?;
-    let all: [&[&str]; 5] = [&[], &["sim", "x"], &["Sim"], &["check", "x"], &["Check"]];
+    let all: [&[&str]; 7] = [
+        &[],
+        &["sim", "x"],
+        &["Sim"],
+        &["check", "x"],
+        &["Check"],
+        &["upgrade", "x"],
+        &["Upgrade"],
+    ];
     for texts in all {
         let status = sim(alloc, words(alloc, texts)?.as_slice(), &mut src, &mut out);
         assert_eq!(rt; status, Status::Usage);
@@ -448,7 +499,10 @@ fn says_each_fault(rt: HostRuntime) -> Result<(), Fail> {
     let alloc = rt.alloc();
     for (status, line) in [
         (Status::Invalid(7), "invalid at line 7"),
-        (Status::Usage, "usage: rtsim sim, rtsim check"),
+        (
+            Status::Usage,
+            "usage: rtsim sim, rtsim check, rtsim upgrade",
+        ),
         (
             refused(SetKind::NotJson, Part::Whole, 0),
             "bad input: not json at whole",

@@ -1,6 +1,7 @@
 //! The trace that a run checks.
 ghost use Rattle.std.specs.Prelude.{IfOk};
 ghost use Rattle.rt_base.specs.declared.TheConstants.{MOST_TRACE_BYTES};
+ghost use Rattle.rt_task.specs.Validity.{IsValid};
 ghost use Rattle.trace_read.specs.Lines.{lines_of};
 ghost use Rattle.trace_read.specs.Reads.{IsTraceOf};
 ghost use Rattle.set_input.specs.Ends.{reading};
@@ -24,6 +25,7 @@ pub(crate) fn read_trace_input<S: Source>(
         IfOk result (λ x. WasTrace source x.0.items x.1.version x.1.setup) }
     ensures trace { IfOk result (λ x.
         IsTraceOf x.0.items x.1.version x.1.setup (lines_of x.1.lines) x.1.stop) }
+    ensures valid { IfOk result (λ x. IsValid x.1.setup) }
     ensures ends { let source = reading S.left S.faults src.old src.new in
         EndsReading source MOST_TRACE_BYTES (WasNoTrace source) result }
 {

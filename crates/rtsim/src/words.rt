@@ -12,6 +12,16 @@ pub(crate) fn is_sim(words: &[String]) -> bool
     }
 }
 
+/// Whether the words are those of the command `upgrade`.
+pub(crate) fn is_upgrade(words: &[String]) -> bool
+    ensures { result ≡ commands.is_upgrade words.now }
+{
+    match words {
+        [word] => word.as_str() == "upgrade",
+        _ => false,
+    }
+}
+
 /// Whether the words are those of the command `check`.
 pub(crate) fn is_check(words: &[String]) -> bool
     ensures { result ≡ commands.is_check words.now }

@@ -1,0 +1,56 @@
+-- A valid trace was read of the text of plays, and its upgrade is the text in format 2 of these.
+use Rattle.std.proofs.Common.{◌≡◌, ℕ, true, List, refl, subst, inr}
+use Rattle.rt_task.specs.Validity.{IsValid}
+use Rattle.rt_task.specs.declared.Parts.{Parts}
+use Rattle.rt_fault.specs.declared.status.Status.{Status}
+use Rattle.rt_fault.specs.declared.status.Status.TheVariants as ends
+use Rattle.rt_groups.specs.Built.{is_built}
+use Rattle.trace_lines.specs.declared.format.Version.{Version}
+use Rattle.trace_lines.specs.declared.format.Version.TheVariants.{Two}
+use Rattle.trace_read.specs.declared.Trace.{Trace}
+use Rattle.trace_read.specs.Lines.{lines_of}
+use Rattle.trace_read.specs.Reads.{IsTraceOf}
+use Rattle.trace_text.specs.Groups.{histories}
+use Rattle.trace_text.specs.TraceText.{trace_text}
+use Rattle.trace_laws.specs.TraceLaws.{ArePlayed}
+use Rattle.trace_laws.specs.Upgrades.{IsUpgradeOf}
+use Rattle.trace_laws.specs.ValidTexts.{IsValidText}
+use Rattle.trace_upgrade.specs.Said.{SaysPlays}
+use Rattle.set_input.specs.Answers.{IsUnwritten}
+use Rattle.set_input.specs.Ends.{Writing}
+use Rattle.rtsim.specs.Upgrade.{HasUpgraded, HasWritten}
+
+module _ (bytes : List ℕ) (t : Trace) (entries : ℕ) (valid : IsValid t.setup) (built : is_built t.setup ≡ true) (is : IsValidText t.version t.setup bytes entries) where
+  played : ArePlayed t.setup is.histories
+  played = record { valid = valid; built = built; plays = is.plays }
+
+  pub valid-says : IsTraceOf bytes t.version t.setup (lines_of t.lines) t.stop → SaysPlays t is.histories
+  valid-says read = record { played = played; read = subst (λ (text : List ℕ). IsTraceOf text t.version t.setup (lines_of t.lines) t.stop) is.text_is read }
+
+  pub valid-upgrade : IsUpgradeOf bytes (trace_text Two t.setup is.histories)
+  valid-upgrade = record { version = t.version; setup = t.setup; histories = is.histories; played = played; text_is = is.text_is; upgraded_is = refl }
+
+-- the text that was written is the upgrade
+pub written-upgraded : (v : Version) (p : Parts) (bytes text : List ℕ) (sink : Writing) (answer : Status) → IsUpgradeOf bytes text → HasWritten text sink answer → HasUpgraded v p bytes sink answer
+written-upgraded v p bytes text sink ends.Ok is h = record { upgraded = text; is_upgrade = is; written = h }
+written-upgraded v p bytes text sink ends.WriteFault is h = record { upgraded = text; is_upgrade = is; written = h }
+written-upgraded v p bytes text sink ends.NoMemory is h = inr (record { upgraded = text; is_upgrade = is; written = h })
+written-upgraded v p bytes text sink (ends.Invalid line) is h = absurd h
+written-upgraded v p bytes text sink ends.Usage is h = absurd h
+written-upgraded v p bytes text sink (ends.BadInput b) is h = absurd h
+written-upgraded v p bytes text sink ends.ReadFault is h = absurd h
+written-upgraded v p bytes text sink ends.TooLong is h = absurd h
+
+-- no answer of a writer is one of those before it, nor that a line is wrong
+pub written-read : (text : List ℕ) (sink : Writing) (answer : Status) → HasWritten text sink answer → IsUnwritten answer → ⊥
+written-read text sink ends.Ok h none = none
+written-read text sink ends.WriteFault h none = none
+written-read text sink ends.NoMemory h none = none
+written-read text sink (ends.Invalid line) h none = none
+written-read text sink ends.Usage h none = h
+written-read text sink (ends.BadInput b) h none = h
+written-read text sink ends.ReadFault h none = h
+written-read text sink ends.TooLong h none = h
+
+pub written-right : (text : List ℕ) (sink : Writing) (answer : Status) (line : ℕ) → HasWritten text sink answer → answer ≡ ends.Invalid line → ⊥
+written-right text sink answer line h is = subst (HasWritten text sink) is h

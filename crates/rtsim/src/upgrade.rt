@@ -1,0 +1,85 @@
+//! The command `upgrade`: from the bytes of a trace to the text in format 2 of its set and histories.
+ghost use Rattle.std.specs.Prelude.{◌≡◌, ◌≢◌, ℕ, List, true};
+ghost use Rattle.rt_task.specs.Validity.{IsValid};
+ghost use Rattle.rt_history.specs.declared.Entry.{Entry};
+ghost use Rattle.rt_fault.specs.Faults.{HasRisen};
+ghost use Rattle.rt_groups.specs.Built.{is_built};
+ghost use Rattle.trace_lines.specs.declared.format.Version.TheVariants.{Two};
+ghost use Rattle.trace_text.specs.TraceText.{trace_text};
+ghost use Rattle.trace_read.specs.Lines.{lines_of};
+ghost use Rattle.trace_read.specs.Reads.{IsTraceOf};
+ghost use Rattle.trace_upgrade.specs.Said.{SaysPlays};
+ghost use Rattle.set_input.specs.Ends.{reading, writing};
+ghost use Rattle.set_input.specs.Answers.{IsUnwritten};
+ghost use Rattle.rtsim.specs.Upgrade.{HasUpgraded, HasWritten};
+ghost use Rattle.rtsim.specs.UpgradeAnswers.{UpgradeAnswers};
+
+use crate::trace_input::read_trace_input;
+use rt_fault::{Sink, Source, Status};
+use std::alloc::Global;
+use trace_check::{Verdict, check_trace};
+use trace_lines::Version;
+use trace_read::Trace;
+use trace_text::{WriteStop, write_trace};
+use trace_upgrade::engines_of;
+
+/// Writes, in format 2, a trace that was read of the text of plays.
+fn write_upgrade<K: Sink>(alloc: Global, trace: &Trace, out: &mut K) -> Status
+    requires { (hs : List (List Entry)) × SaysPlays trace.now hs }
+    ensures written { (hs : List (List Entry)) → SaysPlays trace.now hs → HasWritten
+        (trace_text Two trace.now.setup hs) (writing K.held K.faults out.old out.new) result }
+    ensures write_fault { result ≡ Status.WriteFault →
+        HasRisen (K.faults out.old) (K.faults out.new) }
+    ensures no_write_fault { result ≢ Status.WriteFault → K.faults out.new ≡ K.faults out.old }
+{
+    let Ok(engines) = engines_of(alloc, trace) else {
+        return Status::NoMemory;
+    };
+    match write_trace(alloc, Version::Two, &trace.setup, engines.as_slice(), out) {
+        Ok(()) => Status::Ok,
+        Err(WriteStop::Fault) => Status::WriteFault,
+        Err(WriteStop::NoMemory) => Status::NoMemory,
+    }
+}
+
+/// Writes, in format 2, the trace that was read of these bytes, where it is valid.
+fn upgrade_valid<K: Sink>(alloc: Global, bytes: &[u8], trace: &Trace, out: &mut K) -> Status
+    requires trace { IsTraceOf bytes.now trace.now.version trace.now.setup
+        (lines_of trace.now.lines) trace.now.stop }
+    requires valid { IsValid trace.now.setup }
+    requires built { is_built trace.now.setup ≡ true }
+    ensures upgraded { HasUpgraded trace.now.version trace.now.setup bytes.now
+        (writing K.held K.faults out.old out.new) result }
+    ensures wrong_unwritten { (line : ℕ) → result ≡ Status.Invalid line → out.new ≡ out.old }
+    ensures read { IsUnwritten result → ⊥ }
+    ensures write_fault { result ≡ Status.WriteFault →
+        HasRisen (K.faults out.old) (K.faults out.new) }
+    ensures no_write_fault { result ≢ Status.WriteFault → K.faults out.new ≡ K.faults out.old }
+{
+    match check_trace(alloc, bytes, trace) {
+        Ok(Verdict::Valid(_)) => write_upgrade(alloc, trace, out),
+        Ok(Verdict::Invalid(line)) => Status::Invalid(line),
+        Err(_) => Status::NoMemory,
+    }
+}
+
+/// Reads a trace, and where it is valid for its set, writes it in format 2.
+pub(crate) fn upgrade<S: Source, K: Sink>(alloc: Global, src: &mut S, out: &mut K) -> Status
+    ensures answers { UpgradeAnswers (reading S.left S.faults src.old src.new)
+        (writing K.held K.faults out.old out.new) result }
+    ensures unwritten { IsUnwritten result → out.new ≡ out.old }
+    ensures wrong_unwritten { (line : ℕ) → result ≡ Status.Invalid line → out.new ≡ out.old }
+    ensures read_fault { result ≡ Status.ReadFault →
+        HasRisen (S.faults src.old) (S.faults src.new) }
+    ensures no_read_fault { result ≢ Status.ReadFault → S.faults src.new ≡ S.faults src.old }
+    ensures write_fault { result ≡ Status.WriteFault →
+        HasRisen (K.faults out.old) (K.faults out.new) }
+    ensures no_write_fault { result ≢ Status.WriteFault → K.faults out.new ≡ K.faults out.old }
+    ensures not_usage { result ≢ Status.Usage }
+{
+    let (bytes, trace) = match read_trace_input(alloc, src) {
+        Ok(input) => input,
+        Err(status) => return status,
+    };
+    upgrade_valid(alloc, bytes.as_slice(), &trace, out)
+}

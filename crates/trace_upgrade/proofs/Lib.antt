@@ -1,0 +1,3 @@
+pub mod LineSteps
+pub mod Taking
+pub mod SaidLaws

@@ -1,0 +1,29 @@
+//! The engines of a valid trace: each has taken the steps of the entry lines of its group again.
+#![tactic(auto)]
+
+ghost use Rattle.std.specs.Prelude.{◌≡◌, List, All, IfOk};
+ghost use Rattle.rt_history.specs.declared.Entry.{Entry};
+ghost use Rattle.rt_groups.specs.Groups.{GroupHistory};
+ghost use Rattle.trace_text.specs.Groups.{AreGroupsOf, histories};
+ghost use Rattle.trace_upgrade.specs.Said.{SaysPlays};
+
+mod groups;
+mod replay;
+
+use group_engine::Engine;
+use groups::engines_said;
+use rt_base::NoMemory;
+use std::alloc::Global;
+use trace_read::Trace;
+
+/// The engines of the groups of a trace that was read of the text of plays, by rising number: each with the entries
+/// that the trace says of its group, and with no room for more. Each step is taken again.
+pub fn engines_of(alloc: Global, trace: &Trace) -> Result<Vec<Engine>, NoMemory>
+    requires { (hs : List (List Entry)) × SaysPlays trace.now hs }
+    ensures groups { IfOk result (λ v. AreGroupsOf trace.now.setup v.items) }
+    ensures histories { IfOk result (λ v.
+        (hs : List (List Entry)) → SaysPlays trace.now hs → histories v.items ≡ hs) }
+    ensures full { IfOk result (λ v. All (λ (h : GroupHistory). h.spare ≡ 0) v.items) }
+{
+    engines_said(alloc, &trace.setup, trace.lines.as_slice())
+}
