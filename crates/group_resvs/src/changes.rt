@@ -35,7 +35,11 @@ fn put_changed(into: &mut Vec<TaskNo>, before: Option<TaskNo>, now: Option<TaskN
 }
 
 /// Lists the clients that the reservations served before or serve now and not both, in room that was taken before.
-pub(crate) fn list_changed(before: &[Option<TaskNo>], now: &[Option<TaskNo>], into: &mut Vec<TaskNo>)
+pub(crate) fn list_changed(
+    before: &[Option<TaskNo>],
+    now: &[Option<TaskNo>],
+    into: &mut Vec<TaskNo>,
+)
     requires same { length before.now ≡ length now.now }
     requires room { length now.now + length now.now ≤ vec_capacity into.old }
     ensures items { numbers into.new.items

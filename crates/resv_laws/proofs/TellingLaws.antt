@@ -125,11 +125,13 @@ module _ (g : Group) (valid : IsValid g.setup) (plugin : g.setup.plugin ≡ PRes
       let next : Served = for_task u (told_now (after u) u) v in
       let one = one-told u v h (listed.serves u h) in
       let more = all-told ts (with_one u before) next (λ t k. inside t (or_right (t == u) (has t ts) k)) (one-listed u before v h listed) in
-      let rest = more.0 in
-      (record {
-        keeps = keeps-then v next (told_each after ts next) one.keeps rest.keeps;
-        each = λ r there. rest.each r (resv-kept v next r one.keeps there) ∙ ap (λ (s : ServerState). record s { releases = (server (told_each after ts next) r).releases }) (one.each r there);
-      }, same-listed (with_all ts (with_one u before)) (with_all (u ∷ ts) before) (told_each after ts next) (λ t k. join t (t == u) (has t ts) refl) more.1)
+      let rest = more.0 in (
+        record {
+          keeps = keeps-then v next (told_each after ts next) one.keeps rest.keeps;
+          each = λ r there. rest.each r (resv-kept v next r one.keeps there) ∙ ap (λ (s : ServerState). record s { releases = (server (told_each after ts next) r).releases }) (one.each r there);
+        },
+        same-listed (with_all ts (with_one u before)) (with_all (u ∷ ts) before) (told_each after ts next) (λ t k. join t (t == u) (has t ts) refl) more.1,
+      )
     where
       or_right : (a b : Bool) → b ≡ true → a || b ≡ true
       or_right true b m = refl

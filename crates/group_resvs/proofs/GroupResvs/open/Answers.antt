@@ -12,16 +12,17 @@ pub invariant_of-result : goal.invariant_of-result
 invariant_of-result c =
     let servers : length c.in_ok-resvs.resvs.servers ≡ length c.args.setup.now.resvs = ap (λ (v : Served). length v.servers) c.in_ok-resvs.ensures ∙ opened-count c.args.setup.now c.args.group.0 in
     let count : length c.as_slice-count.result.now ≡ length c.args.setup.now.resvs = ap length c.as_slice-count.ensures ∙ ap (λ (p : Parts). length p.resvs) c.parts.ensures.parts in
-    let few : length c.args.setup.now.resvs ≤ MOST_RESVS = (sets_are_in_limits c.args.setup.now c.parts.ensures.valid).few_resvs in
-    (omega (arith, servers, few),
-    omega (arith, servers, count, c.in_ok-serves.ensures.len),
-    omega (arith, servers, count, c.in_ok-serves.ensures.capacity),
-    omega (arith, servers, count, c.in_ok-before.ensures.capacity),
-    omega (arith, servers, count, c.in-Ok.ensures.capacity))
+    let few : length c.args.setup.now.resvs ≤ MOST_RESVS = (sets_are_in_limits c.args.setup.now c.parts.ensures.valid).few_resvs in (
+      omega (arith, servers, few),
+      omega (arith, servers, count, c.in_ok-serves.ensures.len),
+      omega (arith, servers, count, c.in_ok-serves.ensures.capacity),
+      omega (arith, servers, count, c.in_ok-before.ensures.capacity),
+      omega (arith, servers, count, c.in-Ok.ensures.capacity),
+    )
 
 pub returns : goal.returns
 returns c =
     let count : length c.as_slice-count.result.now ≡ length c.args.setup.now.resvs = ap length c.as_slice-count.ensures ∙ ap (λ (p : Parts). length p.resvs) c.parts.ensures.parts in
     let serves : numbers_of_tasks c.in_ok-serves.serves.items ≡ replicate (length c.args.setup.now.resvs) None =
-        ap numbers_of_tasks c.in_ok-serves.ensures.items ∙ numbers-nobody (length c.as_slice-count.result.now) ∙ ap (λ n. replicate {A = Option ℕ} n None) count in
+    ap numbers_of_tasks c.in_ok-serves.ensures.items ∙ numbers-nobody (length c.as_slice-count.result.now) ∙ ap (λ n. replicate {A = Option ℕ} n None) count in
     rw (c.in_ok-resvs.ensures, serves, c.in-Ok.ensures.items) refl

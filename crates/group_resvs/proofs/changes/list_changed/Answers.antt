@@ -16,7 +16,8 @@ loop-i-preserved c =
     let o : number_of_task (get_or c.args.before.now i None) ≡ get_or os i None = sym (get_or-map number_of_task c.args.before.now i None None low') in
     let n : number_of_task (get_or c.args.now.now i None) ≡ get_or ns i None = sym (get_or-map number_of_task c.args.now.now i None None low) in
     let more = all_changed-more os ns i (omega (arith, low', length-map c.args.before.now number_of_task)) (omega (arith, low, length-map c.args.now.now number_of_task)) in
-    let so_far : numbers c.loop-i.into.items ≡ all_changed (take i os) (take i ns) = c.loop-i.invariant.0 in
-    (c.put_changed.ensures.items ∙ rw (so_far, o, n, more) refl,
-    omega (arith, c.loop-i.invariant.1, c.put_changed.ensures.len),
-    omega (arith, c.loop-i.invariant.2, c.put_changed.ensures.capacity))
+    let so_far : numbers c.loop-i.into.items ≡ all_changed (take i os) (take i ns) = c.loop-i.invariant.0 in (
+      c.put_changed.ensures.items ∙ rw (so_far, o, n, more) refl,
+      omega (arith, c.loop-i.invariant.1, c.put_changed.ensures.len),
+      omega (arith, c.loop-i.invariant.2, c.put_changed.ensures.capacity),
+    )
