@@ -17,6 +17,7 @@ pub mod GroupInTurn
 pub mod Idling
 pub mod Opening
 pub mod Stepping
+pub mod Telling
 mod SemLaws
 mod Bases
 mod Touched

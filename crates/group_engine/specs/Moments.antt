@@ -66,6 +66,10 @@ pub record HasActed (at : Moment) (cpu : ℕ) (act : Act) (reply : Reply) (s : G
 abbrev pub CanLook : ℕ → GroupState → Type 0
 CanLook cpu s = (at : Moment) × IsAt at.group at.past s × IsProcessorOf at.group cpu
 
+-- and the group is one that is played
+abbrev pub CanTell : ℕ → GroupState → Type 0
+CanTell cpu s = (at : Moment) × IsPlayed at.group × IsAt at.group at.past s × IsProcessorOf at.group cpu
+
 -- the cluster is one of a moment's group
 abbrev pub CanLend : ℕ → GroupState → Type 0
 CanLend c s = (at : Moment) × IsAt at.group at.past s × (has c (clusters at.group) ≡ true)

@@ -7,6 +7,7 @@ ghost use Rattle.rt_rules.specs.Numbers.{has};
 ghost use Rattle.rt_model.specs.Group.{clusters};
 ghost use Rattle.rt_model.specs.Runs.{runs};
 ghost use Rattle.rt_model.specs.Links.{linked};
+ghost use Rattle.rt_model.specs.Situations.{situation};
 ghost use Rattle.rt_model.specs.Histories.{past_of, reply_to};
 ghost use Rattle.rt_model.specs.Holders.{holder};
 ghost use Rattle.rt_task.specs.RuleWords.{is_p_res};
@@ -25,7 +26,7 @@ use crate::state::GroupState;
 use prio_inherit::Inherit;
 use ready_heap::ReadyHeap;
 use rt_base::{ClusterNo, CpuNo, GroupNo, NoMemory, SemNo, TaskNo};
-use rt_history::{Entry, Reply};
+use rt_history::{Entry, Reply, Situation};
 use rt_order::ByKey;
 use rt_task::{Parts, Setup, Step};
 use std::alloc::Global;
@@ -117,6 +118,14 @@ impl Engine {
         ensures { number_of_task result ≡ runs cpu.0 (past self.now) }
     {
         self.state.runs(cpu)
+    }
+
+    /// What the processor's next act depends on. It takes a constant time.
+    pub fn situation(&self, cpu: CpuNo) -> Situation
+        requires { IsProcessorOf (group_of self.now) cpu.0 }
+        ensures { result ≡ situation (group_of self.now) cpu.0 (past self.now) }
+    {
+        self.state.situation(cpu)
     }
 
     /// The eligible tasks of a cluster of the group, each with its effective key.

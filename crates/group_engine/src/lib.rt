@@ -3,6 +3,7 @@
 
 mod engine;
 mod room;
+mod situations;
 mod state;
 
 pub use engine::Engine;

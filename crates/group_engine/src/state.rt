@@ -8,6 +8,7 @@ ghost use Rattle.rt_model.specs.Group.{clusters, tasks};
 ghost use Rattle.rt_model.specs.Links.{linked};
 ghost use Rattle.rt_model.specs.Past.{Clock, accepted};
 ghost use Rattle.rt_model.specs.Runs.{leaves, runs};
+ghost use Rattle.rt_model.specs.Situations.{situation};
 ghost use Rattle.rt_plays.specs.Homes.{IsProcessorOf};
 ghost use Rattle.rt_plays.specs.Plays.{group_with};
 ghost use Rattle.rank_changes.specs.Clusters.{HoldsEligible};
@@ -18,7 +19,7 @@ ghost use Rattle.rt_rules.specs.Placing.{tasks_in};
 ghost use Rattle.rt_changes.specs.SemActs.{is_at_sem};
 ghost use Rattle.group_facts.specs.Timers.{AreDue};
 ghost use Rattle.group_sems.specs.Locking.{CanLock};
-ghost use Rattle.group_engine.specs.Moments.{CanAct, CanActOn, CanLend, CanLook, CanMove, CanOperate, HasActed, IsDeclared, IsPlayed};
+ghost use Rattle.group_engine.specs.Moments.{CanAct, CanActOn, CanLend, CanLook, CanMove, CanOperate, CanTell, HasActed, IsDeclared, IsPlayed};
 ghost use Rattle.count_laws.specs.Tallies.{waiter_tasks};
 ghost use Rattle.rt_rules.specs.Distinct.{IsDistinct};
 ghost use Rattle.waiting_list.specs.Listing.{AreWaitersAt, Moment};
@@ -26,6 +27,7 @@ ghost use Rattle.group_engine.specs.Asking.{asked_for, asked_reply, lock_refused
 ghost use Rattle.group_engine.specs.State.{IsAt};
 ghost use Rattle.group_engine.specs.Touching.{AreArmedOnly, AreNumbered, CanBase, CanBaseAll, CanBringUp, CanBringUpAll, CanCount, CanQuit, after_sem, all_based, all_brought_up, base_now, based, brought_up, counted, holds_none, key_now, left_if, operated, quitted, quitted_if, timer_now, touched_at};
 
+use crate::situations::situation_of;
 use cluster_table::ClusterTable;
 use group_jobs::GroupJobs;
 use group_sems::GroupSems;
@@ -33,7 +35,7 @@ use prio_inherit::Inherit;
 use ready_heap::ReadyHeap;
 use release_queue::ReleaseQueue;
 use rt_base::{Ask, ClusterNo, CpuNo, GroupNo, MOST_CPUS, NoMemory, SemNo, TaskNo, Tick};
-use rt_history::Reply;
+use rt_history::{Reply, Situation};
 use rt_order::{ByKey, Key};
 use rt_task::{Act, Op, Parts, Setup};
 use std::alloc::Global;
@@ -141,6 +143,16 @@ impl GroupState {
             → number_of_task result ≡ runs cpu.0 at.past }
     {
         self.jobs.runs(cpu)
+    }
+
+    /// What the processor's next act depends on.
+    pub(crate) fn situation(&self, cpu: CpuNo) -> Situation
+        requires { CanTell cpu.0 self.now }
+        ensures { (at : Moment) → IsPlayed at.group → IsAt at.group at.past self.now
+            → IsProcessorOf at.group cpu.0 → result ≡ situation at.group cpu.0 at.past }
+    {
+        let link = self.linked(cpu);
+        situation_of(&self.jobs, cpu, link)
     }
 
     /// The heap of a cluster's eligible tasks.

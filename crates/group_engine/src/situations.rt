@@ -1,0 +1,44 @@
+//! What a processor's next act depends on, read off what is kept.
+ghost use Rattle.std.specs.Prelude.{◌≡◌, ◌^◌, ◌<◌, ℕ, false, length};
+ghost use Rattle.rt_base.specs.TaskNos.{number_of_task};
+ghost use Rattle.rt_model.specs.Group.{Group};
+ghost use Rattle.rt_task.specs.RuleWords.{is_p_res};
+ghost use Rattle.group_facts.specs.Kept.{cpu_of};
+ghost use Rattle.group_facts.specs.Situations as kept;
+ghost use Rattle.group_jobs.specs.GroupJobs.{RunsTask};
+
+use group_jobs::GroupJobs;
+use rt_base::{CpuNo, TaskNo};
+use rt_history::Situation;
+
+/// How many operations the job that runs has done; 0 where nothing runs.
+fn place_of(jobs: &GroupJobs, cpu: CpuNo) -> u32
+    requires cpu { cpu.0 < length jobs.now.kept.cpus }
+    requires task { RunsTask jobs.now.kept cpu.0 }
+    requires few { kept.place_of jobs.now.kept (cpu_of jobs.now.kept cpu.0).runs < 2 ^ 32 }
+    ensures { result ≡ kept.place_of jobs.now.kept (cpu_of jobs.now.kept cpu.0).runs }
+{
+    match jobs.runs(cpu) {
+        None => 0,
+        Some(task) => jobs.place(task) as u32,
+    }
+}
+
+/// The situation of a processor with this link, in a group without reservations.
+pub(crate) fn situation_of(jobs: &GroupJobs, cpu: CpuNo, link: Option<TaskNo>) -> Situation
+    requires cpu { cpu.0 < length jobs.now.kept.cpus }
+    requires task { RunsTask jobs.now.kept cpu.0 }
+    requires few { kept.place_of jobs.now.kept (cpu_of jobs.now.kept cpu.0).runs < 2 ^ 32 }
+    ensures { (g : Group) (budget : ℕ) → is_p_res g.setup.plugin ≡ false
+        → result ≡ kept.situation_of g cpu.0 (number_of_task link) budget jobs.now.kept }
+{
+    let runs = jobs.runs(cpu);
+    Situation {
+        runs,
+        at: place_of(jobs, cpu),
+        np: jobs.runs_non_preemptive(cpu),
+        pending: link != runs,
+        worked: jobs.has_worked(cpu),
+        budget: true,
+    }
+}
