@@ -1,4 +1,4 @@
-use Rattle.std.proofs.Common.{◌≡◌, ap, arith}
+use Rattle.std.proofs.Common.{◌≡◌, ap, ◌∙◌, arith}
 use Rattle.resv_core.specs.Served.{Served}
 use Rattle.resv_laws.proofs.ServingLaws.{opened-clock}
 use Rattle.group_resvs.specs.GroupResvs.{GroupResvs}
