@@ -29,7 +29,7 @@ deadline-key g t past number = ap (λ n. record { band = 2; major = unwrap_or (r
 -- a plugin under which the model's keys are by deadline
 pub deadline_keys_are_bases : (kind : PluginKind) → ((g : Group) (t : ℕ) (past : Past) → key_by g kind t past ≡ by_deadline g t past) → AreBaseKeys kind (λ t released resv_prio. deadline_key t released)
 unfolding base_key
-deadline_keys_are_bases kind by_kind g t resv_prio past valid under h =
+deadline_keys_are_bases kind by_kind g t resv_prio past valid under h prio =
     deadline-key g t past (task-number g t valid h) ∙ sym (by_kind g t past) ∙ ap (λ (k : PluginKind). key_by g k t past) (sym under)
 
 pub gsn_edf_has_base_keys : AreBaseKeys plugins.GsnEdf (λ t released resv_prio. deadline_key t released)

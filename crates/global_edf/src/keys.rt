@@ -42,7 +42,7 @@ pub fn ceiling_key(t: &Task, ceiling: u32) -> Key
 }
 
 /// The key of the task while it holds a semaphore of this protocol and ceiling: only MPCP boosts.
-pub(crate) fn global_boost(t: &Task, p: Protocol, ceiling: u32) -> Option<Key>
+pub fn global_boost(t: &Task, p: Protocol, ceiling: u32) -> Option<Key>
     ensures { (granted : ℕ) → result ≡ boosts.global_boost t.now p granted ceiling }
 {
     match p {

@@ -10,7 +10,7 @@ mod keys;
 
 pub use c_edf::CEdf;
 pub use gsn_edf::GsnEdf;
-pub use keys::{BASE_BAND, ceiling_key, deadline_key};
+pub use keys::{BASE_BAND, ceiling_key, deadline_key, global_boost};
 use rt_order::Plugin;
 use rt_task::PluginKind;
 

@@ -25,7 +25,7 @@ use Rattle.group_facts.specs.Facts.{job_facts}
 use Rattle.group_facts.specs.FactMoves.{AllStay, with_act}
 use Rattle.group_facts.specs.Kept.{HoldsNone, IsKept, IsOfGroup, has_acted}
 use Rattle.group_facts.specs.Timers.{timer, timer_at}
-use Rattle.group_facts.specs.Words.{is_ready, key_of}
+use Rattle.group_facts.specs.Words.{is_ready, key_of, release_of}
 use Rattle.group_facts.proofs.KeptMoves.{kept_after_act}
 use Rattle.group_facts.proofs.TimerSets.{timers_are_renewed}
 use Rattle.group_engine.specs.declared.state.GroupState.{GroupState}
@@ -37,7 +37,8 @@ use Rattle.group_sem_laws.specs.Kept.{KeepsGroupSems}
 use Rattle.group_engine.proofs.Bases.{bases-stay}
 use Rattle.group_engine.proofs.Reading.{SameLook, quiet-standing}
 use Rattle.group_engine.proofs.SemLaws.{quiet_is_kept}
-use Rattle.group_engine.proofs.Settling.{HasClusterBetween, IsBetween, unmoved}
+use Rattle.group_engine.specs.Ending.{IsEnding}
+use Rattle.group_engine.proofs.Settling.{HasClusterBetween, IsBetween, begun_resvs, brought}
 
 -- ---- tasks that look as before
 
@@ -46,7 +47,7 @@ pub look-same : (g : Group) → IsPlayed g → (q t : ℕ) (act : Act) (past : P
     → job_facts t (with_act g q act past) ≡ job_facts t past → SameLook g t past (with_act g q act past)
 look-same g played q t act past made quiet same = record {
   timer_same = ap (timer (now past) (task g t)) same;
-  standing = quiet-standing g played (Acted (past_act g q act past)) past (acted q act made) quiet t (ap (is_ready (now past) (task g t)) same) (ap (key_of g g.setup.plugin t) same);
+  standing = quiet-standing g played (Acted (past_act g q act past)) past (acted q act made) quiet t (ap (is_ready (now past) (task g t)) same) (ap (release_of (task g t)) same) (ap (key_of g g.setup.plugin t) same);
 }
 
 -- its base key stays
@@ -120,21 +121,24 @@ module _ (g : Group) (q : ℕ) (act : Act) (past : Past) (s : GroupState) (can :
     bases = bases-stay g past (with_act g q act past) s.sems.waits.bases same can.at.sems_are.bases;
   }
 
-  pub between-act : (us : List ℕ) (s1 : GroupState) → IsKept g (with_act g q act past) s1.jobs.kept → KeepsGroupSems g (with_act g q act past) s1.sems → s1.timers ≡ s.timers → s1.clusters.homes ≡ s.clusters.homes
+  pub between-act : (us : List ℕ) (s1 : GroupState) → IsKept g (with_act g q act past) s1.jobs.kept → KeepsGroupSems g (with_act g q act past) s1.sems → s1.timers ≡ s.timers → s1.resvs ≡ begun_resvs (Acted (past_act g q act past)) past s.resvs → s1.clusters.homes ≡ s.clusters.homes
       → ((c : ℕ) → has c (clusters g) ≡ true → HasClusterBetween g c (Acted (past_act g q act past)) past s1.clusters)
       → ((t : ℕ) → has t us ≡ true → has t (tasks g) ≡ true)
       → ((t : ℕ) → has t us ≡ false → SameLook g t past (with_act g q act past))
       → IsBetween g (Acted (past_act g q act past)) past us s1
-  between-act us s1 kept sems timers homes between inside looks = record {
+  between-act us s1 kept sems timers resvs homes between inside looks = record {
     reachable = acted q act can.at.reachable;
     within = act-within g q act past can.act_is_of can.at.within can.few;
     jobs_are = kept;
     sems_are = sems;
     timers_are = rw timers (timers_are_renewed us (tasks g) (timer_at g past) (timer_at g (with_act g q act past)) s.timers inside (λ t h k. sym (looks t k).timer_same) can.at.timers_are);
+    before = s.resvs;
+    kept_before = can.at.resvs_are;
+    resvs_are = resvs;
     homes_are = rw homes can.at.homes_are;
     clusters_are = between;
     inside = inside;
-    others = λ c t h k. (looks t k).standing;
+    others = λ t h k. (looks t k).standing;
   }
 
   -- where the processor runs what it ran, each cluster is between
@@ -157,18 +161,19 @@ module _ (g : Group) (q : ℕ) (act : Act) (past : Past) (s : GroupState) (can :
 
   -- an act after which all tasks look as before and the processor runs what it ran changes at most what is kept of jobs
   pub stays : (s1 : GroupState) → IsKept g (with_act g q act past) s1.jobs.kept → KeepsGroupSems g (with_act g q act past) s1.sems → s1.timers ≡ s.timers
-      → s1.clusters ≡ s.clusters → runs q (with_act g q act past) ≡ runs q past → ((t : ℕ) → SameLook g t past (with_act g q act past)) → IsAt g (with_act g q act past) s1
-  stays s1 kept sems timers same runs_same looks =
-      unmoved g (Acted (past_act g q act past)) past s1
-      (between-act [] s1 kept sems timers (ap (λ t. t.homes) same) (λ c h. rw same (between-still runs_same c h)) (λ t h. cc) (λ t h. looks t))
-      (λ c h. runs_of-still g c q act past runs_same) can.at.reachable
+      → s1.resvs ≡ begun_resvs (Acted (past_act g q act past)) past s.resvs
+      → s1.clusters ≡ s.clusters → runs q (with_act g q act past) ≡ runs q past → ((t : ℕ) → SameLook g t past (with_act g q act past)) → IsEnding g (with_act g q act past) s1
+  stays s1 kept sems timers resvs same runs_same looks =
+      brought g can.played (Acted (past_act g q act past)) past [] s1
+      (between-act [] s1 kept sems timers resvs (ap (λ t. t.homes) same) (λ c h. rw same (between-still runs_same c h)) (λ t h. cc) (λ t h. looks t))
 
   -- an act that leaves all facts leaves the state
   pub all-stays : sem_act (Acted (past_act g q act past)) ≡ Neither → AllStay past (with_act g q act past)
-      → has_acted g.setup.tasks q act (answer g q act past) (held_none g q act past) s.jobs.kept ≡ s.jobs.kept → IsAt g (with_act g q act past) s
-  all-stays quiet stay same =
+      → has_acted g.setup.tasks q act (answer g q act past) (held_none g q act past) s.jobs.kept ≡ s.jobs.kept
+      → s.resvs ≡ begun_resvs (Acted (past_act g q act past)) past s.resvs → IsEnding g (with_act g q act past) s
+  all-stays quiet stay same resvs =
       stays s (subst (IsKept g (with_act g q act past)) same (kept-after (held_none g q act past) (held-none g q act past)))
-      (quiet-sems quiet (λ t h. base-same g t past (with_act g q act past) (stay.jobs t))) refl refl (ap (λ c. c.runs) (stay.cpus q))
+      (quiet-sems quiet (λ t h. base-same g t past (with_act g q act past) (stay.jobs t))) refl resvs refl (ap (λ c. c.runs) (stay.cpus q))
       (λ t. look-same g can.played q t act past can.at.reachable quiet (stay.jobs t))
 
 -- what an act of a moment rests on
@@ -179,7 +184,6 @@ can-be at q act s can = record { played = can.played; at = can.kept; inside = ca
 pub can-list : (at : Moment) (q : ℕ) (act : Act) (p : Parts) (s : GroupState) (room : ℕ) → CanActOn at q act p s → length p.tasks ≤ room → CanList at p s.jobs.kept s.sems q act room
 can-list at q act p s room can roomy = record {
   valid = can.can.played.valid;
-  unreserved = can.can.played.unreserved;
   reachable = can.can.kept.reachable;
   few = can.can.kept.within.few;
   clock_low = can.can.kept.within.clock_low;

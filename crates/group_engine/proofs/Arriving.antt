@@ -1,4 +1,6 @@
 -- The state after an arrival.
+use Rattle.group_engine.proofs.Charging.{no-work, other_is_no_work}
+use Rattle.group_engine.specs.Ending.{IsEnding}
 use Rattle.std.proofs.Common.{◌≡◌, ℕ, ◌<◌, Bool, true, false, List, length, [], ◌∷◌, ◌||◌, eqb-true, refl, sym, ap, ◌∙◌, subst}
 use Rattle.std.specs.Prelude.{◌==◌, Option}
 use Rattle.rt_base.specs.declared.TaskNo.{TaskNo}
@@ -31,7 +33,7 @@ use Rattle.group_engine.proofs.Quitting.{can-based}
 use Rattle.group_engine.proofs.SemLaws.{quiet_is_kept}
 use Rattle.group_engine.proofs.ActMoves.{CanBe, act-within, base-same, between-act, between-still, held-none, held_none, kept-after, look-same, made-after}
 use Rattle.group_engine.proofs.Answering.{answer-read}
-use Rattle.group_engine.proofs.Settling.{settled}
+use Rattle.group_engine.proofs.Settling.{brought}
 
 module _ (g : Group) (q : ℕ) (t : TaskNo) (past : Past) (s : GroupState) (can : CanBe g q (acts.Arrive t) past s) where
   pub arrival-answer : told.arrival_reply s.jobs.kept.clock (task_in g.setup.tasks t.0) (job_of s.jobs.kept t.0) ≡ answer g q (acts.Arrive t) past
@@ -77,11 +79,11 @@ module _ (g : Group) (q : ℕ) (t : TaskNo) (past : Past) (s : GroupState) (can 
         }
 
     -- an arrival that is accepted: the task is looked at
-    pub has_arrived-at : (jobs : GroupJobs) → jobs.kept ≡ has_arrived t.0 s.jobs.kept → IsAt g (with_act g q (acts.Arrive t) past) (placed_all (brought_up g.setup t.0 (based g.setup t.0 (record s { jobs = jobs }))))
+    pub has_arrived-at : (jobs : GroupJobs) → jobs.kept ≡ has_arrived t.0 s.jobs.kept → IsEnding g (with_act g q (acts.Arrive t) past) (brought_up g.setup t.0 (based g.setup t.0 (record s { jobs = jobs })))
     has_arrived-at jobs kept_is =
         let s1 : GroupState = based g.setup t.0 (record s { jobs = jobs }) in
-        settled g can.played (Acted (past_act g q (acts.Arrive t) past)) past (t.0 ∷ []) s1
-        (between-act g q (acts.Arrive t) past s can (t.0 ∷ []) s1 (subst (IsKept g (with_act g q (acts.Arrive t) past)) (sym kept_is) kept-arrived) (sems-arrived jobs kept_is) refl refl
+        brought g can.played (Acted (past_act g q (acts.Arrive t) past)) past (t.0 ∷ []) s1
+        (between-act g q (acts.Arrive t) past s can (t.0 ∷ []) s1 (subst (IsKept g (with_act g q (acts.Arrive t) past)) (sym kept_is) kept-arrived) (sems-arrived jobs kept_is) refl (no-work g q (acts.Arrive t) past s.resvs (λ u. other_is_no_work g q u (acts.Arrive t) past refl)) refl
         (between-still g q (acts.Arrive t) past s can runs-still)
         (λ u h. only u h) (λ u h. look-same g can.played q u (acts.Arrive t) past can.at.reachable quiet (arrived.others u (apart u h))))
       where

@@ -14,7 +14,6 @@ use Rattle.group_engine.specs.State.{HasClusterAt, IsAt, IsWithin}
 use Rattle.group_sems.specs.Telling.{HasBase}
 use Rattle.group_engine.specs.Touching.{CanBase, CanBringUp, home_in}
 use Rattle.waiting_list.proofs.Kept.{at_home, limits-of, task-kept}
-use Rattle.group_engine.proofs.Reading.{unreserved}
 
 module _ (g : Group) (played : IsPlayed g) (t : ℕ) (h : has t (tasks g) ≡ true) where
   own : IsHomeTask g t
@@ -37,7 +36,6 @@ module _ (g : Group) (played : IsPlayed g) (t : ℕ) (h : has t (tasks g) ≡ tr
     task = task-of past s.jobs.kept kept within;
     number_is = limits.number_is;
     deadline_low = limits.deadline_low;
-    unreserved = unreserved g played;
     room = room;
   }
 

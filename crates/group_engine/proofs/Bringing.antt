@@ -1,6 +1,6 @@
 -- What looking at tasks one after the other makes of the state.
-use Rattle.std.proofs.Common.{◌≡◌, ◌≢◌, ℕ, Bool, true, false, List, [], ◌∷◌, eqb-true, refl, set, sym, ap, ◌∙◌}
-use Rattle.std.specs.Prelude.{◌==◌, Option, Some, if◌then◌else◌, option_map, slice_set}
+use Rattle.std.proofs.Common.{◌≡◌, ◌≢◌, ℕ, Bool, true, false, List, [], ◌∷◌, eqb-true, get_or, refl, set, sym, ap, ◌∙◌}
+use Rattle.std.specs.Prelude.{◌==◌, ◌&&◌, Option, None, Some, if◌then◌else◌, option_map, slice_set}
 use Rattle.std.proofs.lemmas.Bool.{eqb-false}
 use Rattle.rt_order.specs.declared.Key.{Key}
 use Rattle.rt_task.specs.declared.Parts.{Parts}
@@ -14,11 +14,19 @@ use Rattle.ready_queue.specs.ReadySet.{kept_key, set_refreshed}
 use Rattle.group_facts.specs.Kept.{Kept}
 use Rattle.group_facts.specs.Timers.{renewed}
 use Rattle.cluster_table.specs.Clusters.{KeptCluster, with_key}
-use Rattle.cluster_table.specs.Table.{cluster_at, changed_at}
+use Rattle.cluster_table.specs.Table.{Table, cluster_at, changed_at}
 use Rattle.cluster_table.proofs.RowLaws.{at-changed, at-changed_other}
 use Rattle.group_sems.specs.GroupSems.{GroupSems}
 use Rattle.group_engine.specs.declared.state.GroupState.{GroupState}
-use Rattle.group_engine.specs.Touching.{all_brought_up, brought_up, home_in, key_now, timer_now}
+use Rattle.group_resvs.specs.GroupResvs.{GroupResvs, is_served, is_served_by}
+use Rattle.resv_core.specs.Served.{Served, ServerState}
+use Rattle.resv_laws.specs.Kept.{told_now}
+use Rattle.resv_laws.specs.Serving.{for_task, told_each}
+use Rattle.resv_laws.proofs.ServingLaws.{for_task-keeps}
+use Rattle.prio_inherit.specs.Waits.{effective_key}
+use Rattle.group_engine.specs.Touching.{all_brought_up, all_offered, brought_up, home_in, key_now, offered, ready_now, stands_now, timer_now}
+
+-- ---- what stays
 
 pub jobs-brought : (p : Parts) (us : List ℕ) (s : GroupState) → (all_brought_up p us s).jobs ≡ s.jobs
 jobs-brought p [] s = refl
@@ -32,9 +40,48 @@ pub homes-brought : (p : Parts) (us : List ℕ) (s : GroupState) → (all_brough
 homes-brought p [] s = refl
 homes-brought p (u ∷ us) s = homes-brought p us (brought_up p u s)
 
+-- putting tasks where they stand changes the clusters alone
+pub record OnlyClusters (s s' : GroupState) : Type 0 where
+  pub jobs_same : s'.jobs ≡ s.jobs
+  pub sems_same : s'.sems ≡ s.sems
+  pub timers_same : s'.timers ≡ s.timers
+  pub resvs_same : s'.resvs ≡ s.resvs
+  pub homes_same : s'.clusters.homes ≡ s.clusters.homes
+
+pub others-offered : (p : Parts) (us : List ℕ) (s : GroupState) → OnlyClusters s (all_offered p us s)
+others-offered p [] s = record { jobs_same = refl; sems_same = refl; timers_same = refl; resvs_same = refl; homes_same = refl }
+others-offered p (u ∷ us) s =
+    let rest = others-offered p us (offered p u s) in
+    record { jobs_same = rest.jobs_same; sems_same = rest.sems_same; timers_same = rest.timers_same; resvs_same = rest.resvs_same; homes_same = rest.homes_same }
+
+-- ---- the timers and the reservations
+
 pub timers-brought : (p : Parts) (us : List ℕ) (s : GroupState) → (all_brought_up p us s).timers ≡ renewed (timer_now p s.jobs.kept) us s.timers
 timers-brought p [] s = refl
 timers-brought p (u ∷ us) s = timers-brought p us (brought_up p u s)
+
+pub resvs-brought : (p : Parts) (us : List ℕ) (s : GroupState)
+    → (all_brought_up p us s).resvs ≡ record s.resvs { resvs = told_each (ready_now p s.jobs.kept) us s.resvs.resvs }
+resvs-brought p [] s = refl
+resvs-brought p (u ∷ us) s = resvs-brought p us (brought_up p u s)
+
+-- what these tasks are told alone matters
+pub told-same : (f f' : ℕ → Option ℕ) (us : List ℕ) (v : Served) → ((u : ℕ) → has u us ≡ true → f u ≡ f' u) → told_each f us v ≡ told_each f' us v
+told-same f f' [] v same = refl
+told-same f f' (u ∷ us) v same =
+    ap (λ o. told_each f us (for_task u (told_now o u) v)) (same u (rw (equal_self u)))
+    ∙ told-same f f' us (for_task u (told_now (f' u) u) v) (λ w h. same w (rw h (or_true (w == u))))
+
+-- a call for a task leaves who is served
+pub served-told : (w : GroupResvs) (t : ℕ) (change : ServerState → ServerState) (u : ℕ)
+    → is_served (record w { resvs = for_task t change w.resvs }) u ≡ is_served w u
+served-told w t change u = ap (λ xs. is_served_by (get_or xs u None) w.serves u) (for_task-keeps w.resvs t change).served_by
+
+pub served-told_each : (f : ℕ → Option ℕ) (us : List ℕ) (w : GroupResvs) (u : ℕ)
+    → is_served (record w { resvs = told_each f us w.resvs }) u ≡ is_served w u
+served-told_each f [] w u = refl
+served-told_each f (t ∷ ts) w u =
+    served-told_each f ts (record w { resvs = for_task t (told_now (f t) t) w.resvs }) u ∙ served-told w t (told_now (f t) t) u
 
 -- the moments of these tasks alone matter
 pub renewed-same : (f f' : ℕ → Option ℕ) (us : List ℕ) (ticks : List (Option ℕ)) → ((u : ℕ) → has u us ≡ true → f u ≡ f' u) → renewed f us ticks ≡ renewed f' us ticks
@@ -44,42 +91,60 @@ renewed-same f f' (u ∷ us) ticks same =
 
 -- ---- a cluster
 
--- the keys of cluster c once these tasks were looked at
-abbrev pub keys_after : Parts → Kept → GroupSems → ℕ → List ℕ → List (Option Key) → List (Option Key)
-keys_after p k v c [] keys = keys
-keys_after p k v c (u ∷ us) keys = keys_after p k v c us (if home_in p u == c then slice_set keys u (key_now p k v u) else keys)
+-- the key of a task, where it stands and is served
+abbrev pub key_where : Parts → Kept → GroupSems → (ℕ → Bool) → ℕ → Option Key
+key_where p k v served t = if stands_now p k v t && served t then Some (effective_key v.waits t) else None
 
-pub cluster-brought : (p : Parts) (us : List ℕ) (s : GroupState) (c : ℕ) (k : KeptCluster) → cluster_at s.clusters c ≡ Some k
-    → cluster_at (all_brought_up p us s).clusters c ≡ Some (record k { keys = keys_after p s.jobs.kept s.sems c us k.keys })
-cluster-brought p [] s c k there = there
-cluster-brought p (u ∷ us) s c k there = by_case (home_in p u == c) refl (λ k' there'. cluster-brought p us (brought_up p u s) c k' there')
+-- the keys of cluster c once these tasks were looked at
+abbrev pub keys_after : Parts → Kept → GroupSems → (ℕ → Bool) → ℕ → List ℕ → List (Option Key) → List (Option Key)
+keys_after p k v served c [] keys = keys
+keys_after p k v served c (u ∷ us) keys = keys_after p k v served c us (if home_in p u == c then slice_set keys u (key_where p k v served u) else keys)
+
+-- one task
+one-cluster : (p : Parts) (u : ℕ) (key : Option Key) (t : Table) (c : ℕ) (k : KeptCluster) → cluster_at t c ≡ Some k
+    → cluster_at (changed_at (home_in p u) (with_key u key) t) c ≡ Some (record k { keys = if home_in p u == c then slice_set k.keys u key else k.keys })
+one-cluster p u key t c k there = by_case (home_in p u == c) refl
   where
     by_case : (b : Bool) → home_in p u == c ≡ b
-        → ((k' : KeptCluster) → cluster_at (brought_up p u s).clusters c ≡ Some k'
-        → cluster_at (all_brought_up p us (brought_up p u s)).clusters c ≡ Some (record k' { keys = keys_after p s.jobs.kept s.sems c us k'.keys }))
-        → cluster_at (all_brought_up p us (brought_up p u s)).clusters c ≡ Some (record k { keys = keys_after p s.jobs.kept s.sems c us (if b then slice_set k.keys u (key_now p s.jobs.kept s.sems u) else k.keys) })
-    by_case true e rest =
+        → cluster_at (changed_at (home_in p u) (with_key u key) t) c ≡ Some (record k { keys = if b then slice_set k.keys u key else k.keys })
+    by_case true e =
         let same : home_in p u ≡ c = eqb-true _ _ e in
-        let key : Option Key = key_now p s.jobs.kept s.sems u in
-        let here : cluster_at (changed_at (home_in p u) (with_key u key) s.clusters) (home_in p u) ≡ Some (with_key u key k) =
-        at-changed (home_in p u) (with_key u key) s.clusters ∙ ap (option_map (with_key u key)) (ap (cluster_at s.clusters) same ∙ there) in
-        rest (with_key u key k) (ap (cluster_at (changed_at (home_in p u) (with_key u key) s.clusters)) (sym same) ∙ here)
-    by_case false e rest =
+        let here : cluster_at (changed_at (home_in p u) (with_key u key) t) (home_in p u) ≡ Some (with_key u key k) =
+        at-changed (home_in p u) (with_key u key) t ∙ ap (option_map (with_key u key)) (ap (cluster_at t) same ∙ there) in
+        ap (cluster_at (changed_at (home_in p u) (with_key u key) t)) (sym same) ∙ here
+    by_case false e =
         let apart : c ≢ home_in p u = λ h. eqb-false _ _ e (sym h) in
-        rest k (at-changed_other (home_in p u) c (with_key u (key_now p s.jobs.kept s.sems u)) s.clusters apart ∙ there)
+        at-changed_other (home_in p u) c (with_key u key) t apart ∙ there
 
-home-in : (g : Group) (t : ℕ) → home_in g.setup t ≡ home g t
+pub cluster-offered : (p : Parts) (us : List ℕ) (s : GroupState) (c : ℕ) (k : KeptCluster) → cluster_at s.clusters c ≡ Some k
+    → cluster_at (all_offered p us s).clusters c ≡ Some (record k { keys = keys_after p s.jobs.kept s.sems (is_served s.resvs) c us k.keys })
+cluster-offered p [] s c k there = there
+cluster-offered p (u ∷ us) s c k there =
+    let key : Option Key = key_now p s.jobs.kept s.sems s.resvs u in
+    cluster-offered p us (offered p u s) c (record k { keys = if home_in p u == c then slice_set k.keys u key else k.keys }) (one-cluster p u key s.clusters c k there)
+
+pub cluster-brought : (p : Parts) (us : List ℕ) (s : GroupState) (served : ℕ → Bool) → ((u : ℕ) → is_served s.resvs u ≡ served u)
+    → (c : ℕ) (k : KeptCluster) → cluster_at s.clusters c ≡ Some k
+    → cluster_at (all_brought_up p us s).clusters c ≡ Some (record k { keys = keys_after p s.jobs.kept s.sems served c us k.keys })
+cluster-brought p [] s served same c k there = there
+cluster-brought p (u ∷ us) s served same c k there =
+    let key : Option Key = key_where p s.jobs.kept s.sems served u in
+    let told : (v : ℕ) → is_served (brought_up p u s).resvs v ≡ served v = λ v. served-told s.resvs u (told_now (ready_now p s.jobs.kept u) u) v ∙ same v in
+    let there_still = one-cluster p u (key_now p s.jobs.kept s.sems s.resvs u) s.clusters c k there ∙ ap (λ b. let x : Option Key = if stands_now p s.jobs.kept s.sems u && b then Some (effective_key s.sems.waits u) else None in let j : KeptCluster = record k { keys = if home_in p u == c then slice_set k.keys u x else k.keys } in Some j) (same u) in
+    cluster-brought p us (brought_up p u s) served told c (record k { keys = if home_in p u == c then slice_set k.keys u key else k.keys }) there_still
+
+pub home-in : (g : Group) (t : ℕ) → home_in g.setup t ≡ home g t
 unfolding home task
 home-in g t = refl
 
 -- these keys are those of the cluster's tasks among them, where each is what is kept of its task
-pub keys-refreshed : (g : Group) (c : ℕ) (k : Kept) (v : GroupSems) (key : ℕ → Key) (test : ℕ → Bool) (us : List ℕ) (keys : List (Option Key))
-    → ((u : ℕ) → has u us ≡ true → (has u (tasks g) ≡ true) × (key_now g.setup k v u ≡ kept_key key test u))
-    → keys_after g.setup k v c us keys ≡ set_refreshed key test (of_cluster g c us) keys
-keys-refreshed g c k v key test [] keys of = refl
-keys-refreshed g c k v key test (u ∷ us) keys of = by_case (has u (tasks_of g c)) refl (λ keys'. keys-refreshed g c k v key test us keys' (λ v h. of v (rw h (or_true (v == u)))))
+pub keys-refreshed : (g : Group) (c : ℕ) (k : Kept) (v : GroupSems) (served : ℕ → Bool) (key : ℕ → Key) (test : ℕ → Bool) (us : List ℕ) (keys : List (Option Key))
+    → ((u : ℕ) → has u us ≡ true → (has u (tasks g) ≡ true) × (key_where g.setup k v served u ≡ kept_key key test u))
+    → keys_after g.setup k v served c us keys ≡ set_refreshed key test (of_cluster g c us) keys
+keys-refreshed g c k v served key test [] keys of = refl
+keys-refreshed g c k v served key test (u ∷ us) keys of = by_case (has u (tasks_of g c)) refl (λ keys'. keys-refreshed g c k v served key test us keys' (λ v h. of v (rw h (or_true (v == u)))))
   where
-    here : (has u (tasks g) ≡ true) × (key_now g.setup k v u ≡ kept_key key test u)
+    here : (has u (tasks g) ≡ true) × (key_where g.setup k v served u ≡ kept_key key test u)
     here = of u (rw (equal_self u))
 
     at_home : (b : Bool) → has u (tasks_of g c) ≡ b → home_in g.setup u == c ≡ b
@@ -94,7 +159,7 @@ keys-refreshed g c k v key test (u ∷ us) keys of = by_case (has u (tasks_of g 
         out false e = refl
 
     by_case : (b : Bool) → has u (tasks_of g c) ≡ b
-        → ((keys' : List (Option Key)) → keys_after g.setup k v c us keys' ≡ set_refreshed key test (of_cluster g c us) keys')
-        → keys_after g.setup k v c us (if home_in g.setup u == c then slice_set keys u (key_now g.setup k v u) else keys) ≡ set_refreshed key test (if b then u ∷ of_cluster g c us else of_cluster g c us) keys
+        → ((keys' : List (Option Key)) → keys_after g.setup k v served c us keys' ≡ set_refreshed key test (of_cluster g c us) keys')
+        → keys_after g.setup k v served c us (if home_in g.setup u == c then slice_set keys u (key_where g.setup k v served u) else keys) ≡ set_refreshed key test (if b then u ∷ of_cluster g c us else of_cluster g c us) keys
     by_case true h rest = rw (at_home true h, here.1) (rest (set keys u (kept_key key test u)))
     by_case false h rest = rw (at_home false h) (rest keys)

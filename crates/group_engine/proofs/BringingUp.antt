@@ -8,7 +8,8 @@ use Rattle.cluster_table.specs.Clusters.{KeptCluster, left_by, with_key}
 use Rattle.cluster_table.specs.Table.{Table, HasTask, changed_at}
 use Rattle.cluster_table.proofs.RowLaws.{at-changed, at-changed_other}
 use Rattle.group_engine.specs.declared.state.GroupState.{GroupState}
-use Rattle.group_engine.specs.Touching.{CanBringUp, all_brought_up, brought_up, home_in, key_now}
+use Rattle.group_resvs.specs.GroupResvs.{GroupResvs}
+use Rattle.group_engine.specs.Touching.{CanBringUp, CanOffer, all_brought_up, all_offered, brought_up, home_in, key_now, offered}
 
 -- a change that leaves room for as many keys
 has-task-changed : (c d t : ℕ) (change : KeptCluster → KeptCluster) (table : Table)
@@ -21,9 +22,9 @@ has-task-changed c d t change table same h = by_place (d == c) refl
         rw here (change h.0, at-changed c change table ∙ ap (option_map change) (rw here at h.1), rw (same h.0) h.2)
     by_place false e = (h.0, at-changed_other c d change table (eqb-false d c e) ∙ h.1, h.2)
 
-can-still : (p : Parts) (t : ℕ) (s : GroupState) (ticks : List (Option ℕ)) (table : Table) → length ticks ≡ length s.timers
-    → HasTask table (home_in p t) t → CanBringUp p t s → CanBringUp p t (record s { timers = ticks; clusters = table })
-can-still p t s ticks table same there h = record {
+can-still : (p : Parts) (t : ℕ) (s : GroupState) (ticks : List (Option ℕ)) (table : Table) (resvs : GroupResvs) → length ticks ≡ length s.timers
+    → HasTask table (home_in p t) t → CanBringUp p t s → CanBringUp p t (record s { timers = ticks; clusters = table; resvs = resvs })
+can-still p t s ticks table resvs same there h = record {
   task = h.task;
   has_base = h.has_base;
   timer_room = rw same h.timer_room;
@@ -33,16 +34,47 @@ can-still p t s ticks table same there h = record {
 -- after another task is brought up
 pub can-after : (p : Parts) (t u : ℕ) (s : GroupState) → CanBringUp p t s → CanBringUp p t (brought_up p u s)
 can-after p t u s h =
-    let change : KeptCluster → KeptCluster = with_key u (key_now p s.jobs.kept s.sems u) in
+    let change : KeptCluster → KeptCluster = with_key u (key_now p s.jobs.kept s.sems s.resvs u) in
     let there = has-task-changed (home_in p u) (home_in p t) t change s.clusters (λ k. length-set _ _ _) h.at_home in
-    can-still p t s (brought_up p u s).timers (brought_up p u s).clusters (length-set _ _ _) there h
+    can-still p t s (brought_up p u s).timers (brought_up p u s).clusters (brought_up p u s).resvs (length-set _ _ _) there h
 
 -- once a processor of some cluster is left
 pub can-left : (p : Parts) (t c q : ℕ) (s : GroupState) → CanBringUp p t s
     → CanBringUp p t (record s { clusters = changed_at c (left_by q) s.clusters })
 can-left p t c q s h =
     let there = has-task-changed c (home_in p t) t (left_by q) s.clusters (λ k. refl) h.at_home in
-    can-still p t s s.timers (changed_at c (left_by q) s.clusters) refl there h
+    can-still p t s s.timers (changed_at c (left_by q) s.clusters) s.resvs refl there h
+
+-- what can be brought up can be put where it stands
+pub can-offer-of : (p : Parts) (t : ℕ) (s : GroupState) → CanBringUp p t s → CanOffer p t s
+can-offer-of p t s h = record { task = h.task; has_base = h.has_base; at_home = h.at_home }
+
+-- once a task is put where it stands
+pub can-offered : (p : Parts) (t u : ℕ) (s : GroupState) → CanBringUp p t s → CanBringUp p t (offered p u s)
+can-offered p t u s h = record {
+  task = h.task;
+  has_base = h.has_base;
+  timer_room = h.timer_room;
+  at_home = has-task-changed (home_in p u) (home_in p t) t (with_key u (key_now p s.jobs.kept s.sems s.resvs u)) s.clusters (λ k. length-set _ _ _) h.at_home;
+}
+
+-- after another task is put where it stands
+pub can-offer-after : (p : Parts) (t u : ℕ) (s : GroupState) → CanOffer p t s → CanOffer p t (offered p u s)
+can-offer-after p t u s h = record {
+  task = h.task;
+  has_base = h.has_base;
+  at_home = has-task-changed (home_in p u) (home_in p t) t (with_key u (key_now p s.jobs.kept s.sems s.resvs u)) s.clusters (λ k. length-set _ _ _) h.at_home;
+}
+
+-- one more is the last
+pub all_offered-push : (p : Parts) (us : List ℕ) (u : ℕ) (s : GroupState)
+    → all_offered p (us ++ u ∷ []) s ≡ offered p u (all_offered p us s)
+all_offered-push p [] u s = refl
+all_offered-push p (t ∷ us) u s = all_offered-push p us u (offered p t s)
+
+pub can-offer-all : (p : Parts) (t : ℕ) (us : List ℕ) (s : GroupState) → CanOffer p t s → CanOffer p t (all_offered p us s)
+can-offer-all p t [] s h = h
+can-offer-all p t (u ∷ us) s h = can-offer-all p t us (offered p u s) (can-offer-after p t u s h)
 
 -- a timer that was taken out is armed anew as one that was not
 pub brought_up-taken : (p : Parts) (u : ℕ) (s : GroupState) → brought_up p u (record s { timers = set s.timers u None }) ≡ brought_up p u s

@@ -1,5 +1,5 @@
 -- The state as the clock moves.
-use Rattle.std.proofs.Common.{◌≡◌, ℕ, ◌<◌, max, Bool, true, false, ◌&&◌, ◌||◌, List, [], ◌∷◌, length, length-set, set, eqb-true, refl, sym, ap, ◌∙◌, arith}
+use Rattle.std.proofs.Common.{◌≡◌, ℕ, ◌<◌, max, Bool, true, false, ◌&&◌, ◌||◌, List, [], ◌∷◌, length, length-set, set, eqb-true, refl, sym, ap, ◌∙◌, subst, arith}
 use Rattle.std.specs.Prelude.{◌==◌, Option, None, Some, if◌then◌else◌}
 use Rattle.rt_base.specs.declared.TheConstants.{TICK_END}
 use Rattle.rt_rules.specs.Numbers.{has}
@@ -11,8 +11,8 @@ use Rattle.rt_model.specs.Reachable.{clocked}
 use Rattle.rt_laws.proofs.GroupLaws.{tasks_of-home}
 use Rattle.release_queue.specs.Timers.{tick_at}
 use Rattle.rank_changes.specs.Touched.{comes_due}
-use Rattle.rank_changes.proofs.QuietMoves.{base_key-same, standing_after_clock}
-use Rattle.rank_changes.proofs.TouchedTasks.{clock_keeps_jobs}
+use Rattle.rank_changes.proofs.QuietMoves.{base_key-same, key-quiet}
+use Rattle.rank_changes.proofs.TouchedTasks.{clock_keeps_jobs, clock_touches_due}
 use Rattle.group_engine.proofs.Bases.{bases-stay}
 use Rattle.group_engine.proofs.SemLaws.{quiet_is_kept}
 use Rattle.rank_changes.proofs.SameClusters.{runs-clock}
@@ -21,11 +21,22 @@ use Rattle.group_facts.specs.Timers.{AreDue, AreMoved, TimersAreKept, renewed, t
 use Rattle.group_facts.proofs.KeptMoves.{kept_after_clock}
 use Rattle.group_facts.proofs.TimerMoves.{timers_after_clock}
 use Rattle.group_facts.proofs.TimerSets.{length-without, tick-set, tick-without}
+use Rattle.group_jobs.specs.GroupJobs.{GroupJobs}
+use Rattle.group_resvs.specs.GroupResvs.{GroupResvs}
 use Rattle.group_engine.specs.declared.state.GroupState.{GroupState}
-use Rattle.group_engine.specs.Moments.{IsPlayed}
+use Rattle.group_engine.specs.Moments.{CanEnd, CanMove, IsPlayed}
 use Rattle.group_engine.specs.State.{HasClusterAt, IsAt, IsWithin}
-use Rattle.group_engine.proofs.Reading.{unreserved}
-use Rattle.group_engine.proofs.Settling.{HasClusterBetween, IsBetween}
+use Rattle.group_engine.proofs.Reading.{IsAlike}
+use Rattle.rank_changes.proofs.SameEligibility.{awaits-quiet}
+use Rattle.resv_laws.specs.Serving.{clock_to}
+use Rattle.group_resvs.specs.Kept.{KeepsResvs}
+use Rattle.rt_model.specs.Holders.{awaits}
+use Rattle.rt_model.specs.Releases.{ready}
+use Rattle.std.specs.Prelude.{is_none, unwrap_or}
+use Rattle.waiting_list.specs.Listing.{Moment}
+use Rattle.rt_task.specs.declared.Parts.{Parts}
+use Rattle.group_engine.specs.Touching.{all_brought_up}
+use Rattle.group_engine.proofs.Settling.{HasClusterBetween, IsBetween, brought}
 
 -- ---- timers that are set again need not be taken out
 
@@ -85,7 +96,9 @@ armed-member g past ticks kept t tick h = by_case (has t (tasks g)) refl
 
 -- the state whose clock has moved, before the tasks that are due are looked at
 abbrev pub clocked_state : ℕ → GroupState → GroupState
-clocked_state tick s = record s { jobs = record s.jobs { kept = with_clock tick s.jobs.kept } }
+clocked_state tick s =
+    let jobs : GroupJobs = record s.jobs { kept = with_clock tick s.jobs.kept } in
+    record s { jobs = jobs; resvs = record s.resvs { resvs = clock_to jobs.kept.clock s.resvs.resvs } }
 
 pub between-clock : (g : Group) → IsPlayed g → (past : Past) (s : GroupState) → IsAt g past s → (tick : ℕ) → tick < TICK_END → (us : List ℕ)
     → AreDue (max (now past) tick) s.timers us → IsBetween g (Clock tick) past us (clocked_state tick s)
@@ -98,11 +111,13 @@ between-clock g played past s at tick low us due = record {
     bases = bases-stay g past (Clock tick ∷ past) s.sems.waits.bases (λ t h. base_key-same g t past (Clock tick ∷ past) (clock_keeps_jobs g past played.valid at.reachable tick t)) at.sems_are.bases;
   };
   timers_are = timers-again g (Clock tick ∷ past) us s.timers (λ u h. at.timers_are.room u (inside u h)) moved.kept;
+  before = s.resvs;
+  kept_before = at.resvs_are;
+  resvs_are = ap (λ n. let x : GroupResvs = record s.resvs { resvs = clock_to (max n tick) s.resvs.resvs } in x) at.jobs_are.clock_is;
   homes_are = at.homes_are;
   clusters_are = λ c h. between (at.clusters_are c h);
   inside = inside;
-  others = λ c t h k. standing_after_clock g past played.valid at.reachable (unreserved g played) tick t
-      (rest-false (has t (tasks g)) (comes_due g tick t past) (has t us) (moved.due t) (tasks_of-home g c t h).0 k);
+  others = λ t h k. alike t (rest-false (has t (tasks g)) (comes_due g tick t past) (has t us) (moved.due t) h k);
 }
   where
     moved : AreMoved g tick past s.timers us
@@ -110,6 +125,18 @@ between-clock g played past s at tick low us due = record {
 
     inside : (t : ℕ) → has t us ≡ true → has t (tasks g) ≡ true
     inside t h = (both (has t (tasks g)) (comes_due g tick t past) (sym (moved.due t) ∙ h)).0
+
+    -- a task that does not come due is as before
+    alike : (t : ℕ) → comes_due g tick t past ≡ false → IsAlike g t past (Clock tick ∷ past)
+    alike t out =
+        let still = clock_touches_due g past played.valid at.reachable tick t out in
+        let job = clock_keeps_jobs g past played.valid at.reachable tick t in
+        let waits : awaits g t (Clock tick ∷ past) ≡ awaits g t past = awaits-quiet g t (Clock tick) past refl in
+        record {
+          stands_same = rw (still.ready_same, waits) refl;
+          key_same = key-quiet g played.valid (Clock tick) past (clocked tick at.reachable) refl t (base_key-same g t past (Clock tick ∷ past) job);
+          told_same = rw (still.ready_same, job.release_same) refl;
+        }
 
     between : {c : ℕ} → HasClusterAt g c past s.clusters → HasClusterBetween g c (Clock tick) past s.clusters
     between {c} was = record {
@@ -124,3 +151,12 @@ between-clock g played past s at tick low us due = record {
         links_are = was.is_at.links_are;
       };
     }
+
+-- once those that are due were looked at, the move is to be ended
+pub clock-ends : (at : Moment) (tick : ℕ) (p : Parts) (s : GroupState) (s1 s2 : GroupState) (us : List ℕ) → CanMove at tick p s → s1 ≡ clocked_state tick s
+    → AreDue s1.jobs.kept.clock s.timers us → s2 ≡ all_brought_up p us s1 → CanEnd (record { group = at.group; past = Clock tick ∷ at.past }) p s2
+clock-ends at tick p s s1 s2 us can clocked_is due is =
+    let clock : s1.jobs.kept.clock ≡ max (now at.past) tick = ap (λ (x : GroupState). x.jobs.kept.clock) clocked_is ∙ ap (λ n. max n tick) can.kept.jobs_are.clock_is in
+    let due_then : AreDue (max (now at.past) tick) s.timers us = subst (λ n. AreDue n s.timers us) clock due in
+    let all = brought at.group can.played (Clock tick) at.past us (clocked_state tick s) (between-clock at.group can.played at.past s can.kept tick can.tick_low us due_then) in
+    record { played = can.played; ending = rw (is, clocked_is, can.parts_are) all; parts_are = can.parts_are }

@@ -1,4 +1,8 @@
 -- The state after an accepted operation: it is counted, its processor left where it is over, and the touched tasks looked at.
+use Rattle.rt_model.specs.Past.{did, is_work}
+use Rattle.group_resvs.proofs.KeptLaws.{work_has_unit}
+use Rattle.group_engine.proofs.Charging.{charged-as, works-as}
+use Rattle.group_engine.specs.Ending.{IsEnding}
 use Rattle.std.proofs.Common.{◌≡◌, ℕ, ◌<◌, Bool, true, false, not, List, ◌∷◌, ◌||◌, ◌&&◌, length, eqb-true, refl, sym, ap, ◌∙◌, subst, arith}
 use Rattle.std.specs.Prelude.{◌==◌, Option, None, Some, if◌then◌else◌, is_some, nat_lt, slice_index}
 use Rattle.rt_order.specs.declared.Key.{Key}
@@ -42,13 +46,13 @@ use Rattle.group_sems.specs.GroupSems.{GroupSems}
 use Rattle.group_sem_laws.specs.Kept.{KeepsBases, KeepsGroupSems, KeepsLocks}
 use Rattle.group_engine.specs.declared.state.GroupState.{GroupState}
 use Rattle.group_engine.specs.State.{IsAt, IsClusterAt, IsWithin}
-use Rattle.group_engine.specs.Touching.{CanBringUp, CanCount, base_now, followed, is_over, operated, quitted}
+use Rattle.group_engine.specs.Touching.{charged_for, CanBringUp, CanCount, base_now, followed, is_over, operated, quitted}
 use Rattle.group_engine.proofs.ActMoves.{CanBe, act-within, base-same, between-act, between-still, kept-after}
 use Rattle.group_engine.proofs.Bases.{base-told, bases-stay, bases-told, has-base}
 use Rattle.group_engine.proofs.Bounding.{can-look, can_base, in-bases, task-of}
 use Rattle.group_engine.proofs.Reading.{SameLook}
 use Rattle.group_engine.proofs.Running.{between-run, has_processor}
-use Rattle.group_engine.proofs.Settling.{settled}
+use Rattle.group_engine.proofs.Settling.{begun_resvs, brought}
 
 -- ---- an operation that goes on and is no Sleep leaves how its job looks
 
@@ -162,12 +166,14 @@ module _ (g : Group) (q t : ℕ) (op : Op) (past : Past) (s : GroupState) (can :
   pub own-look : is_end (task_in g.setup.tasks t) s.jobs.kept.clock op none (job_of s.jobs.kept t) ≡ false → is_sleep op ≡ false
       → (timer (now past) (task g t) (job_facts t after) ≡ timer (now past) (task g t) (job_facts t past))
       × (is_ready (now past) (task g t) (job_facts t after) ≡ is_ready (now past) (task g t) (job_facts t past))
+      × (release_of (task g t) (job_facts t after) ≡ release_of (task g t) (job_facts t past))
       × (key_of g g.setup.plugin t (job_facts t after) ≡ key_of g g.setup.plugin t (job_facts t past))
   own-look lasts awake =
       let last : is_end (task g t) (now past) op none (job_facts t past) ≡ false = sym ends-read ∙ lasts in
       let facts : job_facts t after ≡ op_done (now past) op (job_facts t past) = counted.facts_are ∙ rw last refl in (
         ap (timer (now past) (task g t)) facts ∙ timer_stays (now past) (task g t) op (job_facts t past) awake,
         ap (is_ready (now past) (task g t)) facts ∙ ready-op (task g t) (now past) op (job_facts t past) awake,
+        ap (release_of (task g t)) facts ∙ release-op (task g t) (now past) op (job_facts t past),
         ap (key_of g g.setup.plugin t) facts ∙ key-op g t (now past) op (job_facts t past),
       )
 
@@ -175,6 +181,13 @@ module _ (g : Group) (q t : ℕ) (op : Op) (past : Past) (s : GroupState) (can :
   module _ (v : GroupSems) (locks : KeepsLocks g after v) (bases_same : v.waits.bases ≡ s.sems.waits.bases) where
     abbrev with_sems : GroupState
     with_sems = operated g.setup q t op reply none (record s { sems = v })
+
+    -- a Work is charged
+    abbrev charged_state : GroupState
+    charged_state = charged_for op t with_sems
+
+    charged-then : charged_state.resvs ≡ begun_resvs (Acted (past_act g q (acts.Do op) past)) past s.resvs
+    charged-then = charged-as g q t op past s.resvs answered.runs_it done
 
     base-others : (u : ℕ) → has u (tasks g) ≡ true → u == t ≡ false → base_key g u after ≡ base_key g u past
     base-others u h e = base-same g u past after (others-jobs u e)
@@ -221,8 +234,12 @@ module _ (g : Group) (q t : ℕ) (op : Op) (past : Past) (s : GroupState) (can :
         task = can_base g can.played t member after with_sems kept-then within inside-bases;
       };
       looks = can-looks t member;
+      unit = λ w. work_has_unit g q t (acts.Do op) past s.resvs can.played.valid can.at.reachable can.at.resvs_are answered.runs_it (works w);
     }
       where
+        works : is_work (Some op) ≡ true → is_work (did t (Acted (past_act g q (acts.Do op) past))) ≡ true
+        works w = works-as g q t op past answered.runs_it done ∙ w
+
         sleep-short : (o : Op) → IsOpOf g o → SleepIsShort o
         sleep-short ops.Work h = tt
         sleep-short (ops.Lock r) h = tt
@@ -242,23 +259,23 @@ module _ (g : Group) (q t : ℕ) (op : Op) (past : Past) (s : GroupState) (can :
           by_case true e k = let same : u ≡ t = eqb-true u t e in rw same member
           by_case false e k = inside u k
 
-      pub followed-at : IsAt g after (followed over g.setup q t us with_sems)
+      pub followed-at : IsEnding g after (followed over g.setup q t us charged_state)
       followed-at = by_case over refl
         where
-          by_case : (b : Bool) → over ≡ b → IsAt g after (followed b g.setup q t us with_sems)
+          by_case : (b : Bool) → over ≡ b → IsEnding g after (followed b g.setup q t us charged_state)
           by_case true e =
               let idle : runs q after ≡ None = runs-then ∙ rw e refl in
               let home : slice_index s.clusters.homes q ≡ cluster_with g q = can.at.homes_are.are q can.inside in
-              let s1 : GroupState = quitted g.setup q t with_sems in
+              let s1 : GroupState = quitted g.setup q t charged_state in
               let changes : (k : KeptCluster) → cluster_at s.clusters (cluster_with g q) ≡ Some k → IsClusterAt g (cluster_with g q) past k
               → left_by q k ≡ record k { linked = with_run k.linked q (runs q after) } = λ k h is. rw idle refl in
-              settled g can.played (Acted (past_act g q (acts.Do op) past)) past (t ∷ us) s1
-              (between-act g q (acts.Do op) past s can (t ∷ us) s1 kept-then sems-off refl refl
+              brought g can.played (Acted (past_act g q (acts.Do op) past)) past (t ∷ us) s1
+              (between-act g q (acts.Do op) past s can (t ∷ us) s1 kept-then sems-off refl charged-then refl
               (between-run g q (acts.Do op) past s can s1.clusters (left_by q) (ap (λ c. changed_at c (left_by q) s.clusters) home) changes)
               all-inside others)
           by_case false e =
               let still : runs q after ≡ runs q past = runs-then ∙ rw e refl in
-              settled g can.played (Acted (past_act g q (acts.Do op) past)) past (t ∷ us) with_sems
-              (between-act g q (acts.Do op) past s can (t ∷ us) with_sems kept-then (sems-on e) refl refl
+              brought g can.played (Acted (past_act g q (acts.Do op) past)) past (t ∷ us) charged_state
+              (between-act g q (acts.Do op) past s can (t ∷ us) charged_state kept-then (sems-on e) refl charged-then refl
               (between-still g q (acts.Do op) past s can still)
               all-inside others)

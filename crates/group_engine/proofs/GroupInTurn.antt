@@ -80,7 +80,6 @@ base-keeps p t u s h = record {
   task = h.task;
   number_is = h.number_is;
   deadline_low = h.deadline_low;
-  unreserved = h.unreserved;
   room = let same : length (set s.sems.waits.bases u (Some (base_now p s.jobs.kept u))) ≡ length s.sems.waits.bases = length-set _ _ _ in omega (arith, h.room, same);
 }
 

@@ -1,4 +1,6 @@
 -- An operation of a processor that runs nothing.
+use Rattle.rt_model.specs.Runs.{runs}
+use Rattle.group_engine.specs.Ending.{IsEnding}
 use Rattle.std.proofs.Common.{◌≡◌, ℕ, sym, ap, ◌∙◌}
 use Rattle.std.specs.Prelude.{None}
 use Rattle.rt_task.specs.declared.Act.TheVariants as acts
@@ -13,11 +15,11 @@ use Rattle.group_facts.specs.Replies.{do_reply}
 use Rattle.group_engine.specs.declared.state.GroupState.{GroupState}
 use Rattle.group_engine.specs.State.{IsAt}
 use Rattle.group_engine.proofs.ActMoves.{CanBe}
-use Rattle.group_engine.proofs.Answering.{answer-read, sem_facts}
+use Rattle.group_engine.proofs.Answering.{budget_by, answer-read, sem_facts}
 use Rattle.group_engine.proofs.Refusing.{refused}
 
 pub idle : (g : Group) (q : ℕ) (op : Op) (past : Past) (s : GroupState) → CanBe g q (acts.Do op) past s → (cpu_of s.jobs.kept q).runs ≡ None
-    → (replies.Idle ≡ answer g q (acts.Do op) past) × IsAt g (with_act g q (acts.Do op) past) s
+    → (replies.Idle ≡ answer g q (acts.Do op) past) × IsEnding g (with_act g q (acts.Do op) past) s
 idle g q op past s can nothing =
-    let told : replies.Idle ≡ answer g q (acts.Do op) past = sym (ap (λ o. do_reply g op q o 0 (sem_facts g q (acts.Do op) past) s.jobs.kept) nothing) ∙ answer-read g q (acts.Do op) past s can in
+    let told : replies.Idle ≡ answer g q (acts.Do op) past = sym (ap (λ o. do_reply g op q o (budget_by g past (runs q past)) (sem_facts g q (acts.Do op) past) s.jobs.kept) nothing) ∙ answer-read g q (acts.Do op) past s can in
     (told, refused g q (acts.Do op) past s can (ap accepted (sym told)))

@@ -1,4 +1,6 @@
 -- The state after an interrupt.
+use Rattle.group_engine.proofs.Charging.{no-work, other_is_no_work}
+use Rattle.group_engine.specs.Ending.{IsEnding}
 use Rattle.std.proofs.Common.{◌≡◌, ℕ, Bool, true, false, not, ◌&&◌, List, [], ◌∷◌, zero, suc, refl, get_or, set, sym, ap, ◌∙◌, ◌-◌, subst, arith}
 use Rattle.std.specs.Prelude.{Option, None, Some, if◌then◌else◌, is_some, option_map, slice_index}
 use Rattle.rt_task.specs.declared.Act.TheVariants as acts
@@ -33,7 +35,7 @@ use Rattle.rt_rules.specs.SemState.{Neither}
 use Rattle.group_engine.proofs.Answering.{answer-read}
 use Rattle.group_engine.proofs.Refusing.{refused}
 use Rattle.group_engine.proofs.Running.{between-run, link-read, of_cluster, own_cluster, runs-read}
-use Rattle.group_engine.proofs.Settling.{settled}
+use Rattle.group_engine.proofs.Settling.{brought}
 
 -- ---- the reply by the table and by the model
 
@@ -135,7 +137,7 @@ module _ (g : Group) (q : ℕ) (past : Past) (s : GroupState) (can : CanBe g q a
       by_link (Some t) = refl
 
   -- an interrupt that changes nothing
-  pub waited : accepted (irq_reply k.linked q np) ≡ false → IsAt g (with_act g q acts.Irq past) s
+  pub waited : accepted (irq_reply k.linked q np) ≡ false → IsEnding g (with_act g q acts.Irq past) s
   waited out = refused g q acts.Irq past s can (ap accepted (sym irq-answer) ∙ out)
 
   pub same-table : after_irq k.linked q np ≡ k.linked → changed_at (cluster_with g q) (after_take q np) s.clusters ≡ s.clusters
@@ -143,7 +145,7 @@ module _ (g : Group) (q : ℕ) (past : Past) (s : GroupState) (can : CanBe g q a
 
   -- one that makes the processor run its link
   pub taken : irq_reply k.linked q np ≡ link_reply (link_of k.linked q) → after_irq k.linked q np ≡ with_run k.linked q (link_of k.linked q)
-      → IsAt g (with_act g q acts.Irq past) (placed_all (linked_state q (linked g q past) np (cluster_with g q) s))
+      → IsEnding g (with_act g q acts.Irq past) (linked_state q (linked g q past) np (cluster_with g q) s)
   taken reply_is after_is =
       let link : link_of k.linked q ≡ linked g q past = link-read g q can.inside past s can.at k is in
       let told_is : answer g q acts.Irq past ≡ link_reply (linked g q past) = sym irq-answer ∙ reply_is ∙ ap link_reply link in
@@ -152,8 +154,8 @@ module _ (g : Group) (q : ℕ) (past : Past) (s : GroupState) (can : CanBe g q a
       let own : after_take q np k ≡ record k { linked = with_run k.linked q (runs q (with_act g q acts.Irq past)) } = ap (λ l. let x : KeptCluster = record k { linked = l } in x) (after_is ∙ ap (with_run k.linked q) runs_now) in
       let P : KeptCluster → Type 0 = λ j. after_take q np j ≡ record j { linked = with_run j.linked q (runs q (with_act g q acts.Irq past)) } in
       let changes : (j : KeptCluster) → cluster_at s.clusters (cluster_with g q) ≡ Some j → IsClusterAt g (cluster_with g q) past j → P j = λ j h i. let e : k ≡ j = cc in subst P e own in
-      settled g can.played (Acted (past_act g q acts.Irq past)) past [] s1
-      (between-act g q acts.Irq past s can [] s1 (subst (IsKept g (with_act g q acts.Irq past)) (cpu-then (linked g q past) told_is) (kept-after g q acts.Irq past s can (held_none g q acts.Irq past) (held-none g q acts.Irq past))) sems refl refl
+      brought g can.played (Acted (past_act g q acts.Irq past)) past [] s1
+      (between-act g q acts.Irq past s can [] s1 (subst (IsKept g (with_act g q acts.Irq past)) (cpu-then (linked g q past) told_is) (kept-after g q acts.Irq past s can (held_none g q acts.Irq past) (held-none g q acts.Irq past))) sems refl (no-work g q acts.Irq past s.resvs (λ t. other_is_no_work g q t acts.Irq past refl)) refl
       (between-run g q acts.Irq past s can s1.clusters (after_take q np) refl changes)
       (λ t h. cc) (λ t h. look-same g can.played q t acts.Irq past can.at.reachable quiet (nothing.facts_stay t)))
 
@@ -177,28 +179,28 @@ module _ (g : Group) (q : ℕ) (past : Past) (s : GroupState) (can : CanBe g q a
   pub irq-told : reply ≡ answer g q acts.Irq past
   irq-told = reply_is own.cluster there_own ∙ irq-answer g q past s can own.cluster own.there own.is_at np np_is
 
-  pub irq-waited : accepted reply ≡ false → IsAt g (with_act g q acts.Irq past) (record s { clusters = changed_at home (after_take q np) s.clusters })
+  pub irq-waited : accepted reply ≡ false → IsEnding g (with_act g q acts.Irq past) (record s { clusters = changed_at home (after_take q np) s.clusters })
   irq-waited out = by_kind (is_taken own.cluster.linked q np)
     where
       told_out : accepted (irq_reply own.cluster.linked q np) ≡ false
       told_out = ap accepted (sym (reply_is own.cluster there_own)) ∙ out
 
-      by_kind : IsTaken own.cluster.linked q np → IsAt g (with_act g q acts.Irq past) (record s { clusters = changed_at home (after_take q np) s.clusters })
+      by_kind : IsTaken own.cluster.linked q np → IsEnding g (with_act g q acts.Irq past) (record s { clusters = changed_at home (after_take q np) s.clusters })
       by_kind (takes r a) = absurd (let t : accepted (irq_reply own.cluster.linked q np) ≡ true = ap accepted r ∙ link-accepted (link_of own.cluster.linked q) in let f = told_out in cc)
       by_kind (waits r a) =
           let same : changed_at home (after_take q np) s.clusters ≡ s.clusters = ap (λ c. changed_at c (after_take q np) s.clusters) here ∙ same-table g q past s can own.cluster own.there own.is_at np np_is a in
-          let P : Table → Type 0 = λ t. IsAt g (with_act g q acts.Irq past) (record s { clusters = t }) in
+          let P : Table → Type 0 = λ t. IsEnding g (with_act g q acts.Irq past) (record s { clusters = t }) in
           subst P (sym same) (waited g q past s can own.cluster own.there own.is_at np np_is r)
 
   pub irq-taken : accepted reply ≡ true → (running : Option ℕ)
       → ((k : KeptCluster) → cluster_at (changed_at home (after_take q np) s.clusters) home ≡ Some k → running ≡ runs_on k.linked q)
-      → IsAt g (with_act g q acts.Irq past) (placed_all (linked_state q running np home s))
+      → IsEnding g (with_act g q acts.Irq past) (linked_state q running np home s)
   irq-taken accepts running running_is = by_kind (is_taken own.cluster.linked q np)
     where
       told_in : accepted (irq_reply own.cluster.linked q np) ≡ true
       told_in = ap accepted (sym (reply_is own.cluster there_own)) ∙ accepts
 
-      by_kind : IsTaken own.cluster.linked q np → IsAt g (with_act g q acts.Irq past) (placed_all (linked_state q running np home s))
+      by_kind : IsTaken own.cluster.linked q np → IsEnding g (with_act g q acts.Irq past) (linked_state q running np home s)
       by_kind (waits r a) = absurd (let t = told_in in let f = r in cc)
       by_kind (takes r a) =
           let k : KeptCluster = own.cluster in
@@ -206,5 +208,5 @@ module _ (g : Group) (q : ℕ) (past : Past) (s : GroupState) (can : CanBe g q a
           let range = of_cluster g q can.inside past s can.at k own.is_at in
           let placed_in : runs_on (with_run k.linked q (link_of k.linked q)) q ≡ link_of k.linked q = at_place-set_same k.linked.runs (q - k.linked.first) (link_of k.linked q) (omega (arith, range.0, range.1)) in
           let link : running ≡ linked g q past = running_is (after_take q np k) next ∙ ap (λ l. runs_on l q) a ∙ placed_in ∙ link-read g q can.inside past s can.at k own.is_at in
-          let P : Option ℕ → ℕ → Type 0 = λ o h. IsAt g (with_act g q acts.Irq past) (placed_all (linked_state q o np h s)) in
+          let P : Option ℕ → ℕ → Type 0 = λ o h. IsEnding g (with_act g q acts.Irq past) (linked_state q o np h s) in
           subst (λ o. P o home) (sym link) (subst (P (linked g q past)) (sym here) (taken g q past s can k own.there own.is_at np np_is r a))

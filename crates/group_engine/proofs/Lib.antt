@@ -25,3 +25,5 @@ mod Quitting
 mod Locking
 mod Unlocking
 mod Following
+mod Charging
+mod Offering

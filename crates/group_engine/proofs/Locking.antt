@@ -1,4 +1,5 @@
 -- The state after a Lock.
+use Rattle.group_engine.specs.Ending.{IsEnding}
 use Rattle.std.proofs.Common.{◌≡◌, ℕ, ◌+◌, ◌<◌, ◌≤◌, length, arith, Bool, true, false, not, List, ◌∷◌, refl, sym, ap, ◌∙◌}
 use Rattle.std.specs.Prelude.{Option, None, Some, if◌then◌else◌}
 use Rattle.rt_base.specs.declared.SemNo.{SemNo}
@@ -25,7 +26,7 @@ use Rattle.group_facts.specs.Facts.{JobFacts, job_facts}
 use Rattle.group_facts.specs.FactMoves.{with_act}
 use Rattle.group_facts.specs.Kept.{job_of}
 use Rattle.group_facts.specs.Timers.{timer}
-use Rattle.group_facts.specs.Words.{is_ready}
+use Rattle.group_facts.specs.Words.{release_of, is_ready}
 use Rattle.sem_table.specs.Asked.{is_granted}
 use Rattle.sem_table.specs.Told.{owner_of}
 use Rattle.group_sems.specs.Locking.{CanLock}
@@ -216,10 +217,10 @@ module _ (g : Group) (q t : ℕ) (sem : SemNo) (past : Past) (s : GroupState) (c
         let left : IsLeft g u event past = lock_leaves g event past can.played.valid made t sem.0 u asks out.0 (record { before = rw before-is at out.1; after = rw after-is at out.2 }) in
         record {
           timer_same = ap (timer (now past) _) job;
-          standing = same-standing g can.played u past after (ap (is_ready (now past) _) job) left.awaited left.key;
+          standing = same-standing g u past after (ap (is_ready (now past) _) job) (ap (release_of _) job) left.awaited left.key;
         }
 
-    pub locked-at : IsAt g after (after_sem g.setup q t (ops.Lock sem) reply sem.0 (owner_of s.sems.table sem.0) None asked)
+    pub locked-at : IsEnding g after (after_sem g.setup q t (ops.Lock sem) reply sem.0 (owner_of s.sems.table sem.0) None asked)
     locked-at = followed-at g q t (ops.Lock sem) past s can reply (holds_none asked t) answered asked.sems locks same_bases touched inside others
 
     -- as the code tells it
@@ -228,5 +229,5 @@ module _ (g : Group) (q t : ℕ) (sem : SemNo) (past : Past) (s : GroupState) (c
       pub looks-told : (u : ℕ) → has u (touched_at asked1 sem.0 before None) ≡ true → CanBringUp p u (operated p q t (ops.Lock sem) reply1 (holds_none asked1 t) asked1)
       looks-told = rw (reply1_is, asked1_is, before_is, parts_are) can-look-touched
 
-      pub locked-told : (s1 : GroupState) → s1 ≡ after_sem p q t (ops.Lock sem) reply1 sem.0 before None asked1 → IsAt g after s1
+      pub locked-told : (s1 : GroupState) → s1 ≡ after_sem p q t (ops.Lock sem) reply1 sem.0 before None asked1 → IsEnding g after s1
       locked-told s1 e = rw (e, reply1_is, asked1_is, before_is, parts_are) locked-at

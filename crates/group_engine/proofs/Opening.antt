@@ -1,4 +1,12 @@
 -- The state at opening.
+use Rattle.group_resvs.specs.GroupResvs.{GroupResvs, IsSettled, is_served}
+use Rattle.group_resvs.specs.Kept.{KeepsResvs}
+use Rattle.group_resvs.specs.Laws.{AreChanged, AreToldOf, at_opening}
+use Rattle.group_resvs.proofs.KeptLaws.{opening_is_kept as resvs_opening}
+use Rattle.resv_core.specs.Served.{opened as opened_resvs}
+use Rattle.resv_laws.specs.Kept.{ready_release}
+use Rattle.group_engine.specs.Asking.{untold_resvs}
+use Rattle.group_engine.specs.Ending.{HasClusterEnding, HoldsStanding, IsEnding, stands}
 use Rattle.std.proofs.Common.{◌≡◌, ℕ, zero, suc, ◌+◌, ◌<◌, Bool, true, false, ◌&&◌, List, [], ◌∷◌, length, map, replicate, set, refl, sym, ap, ◌∙◌, subst, arith}
 use Rattle.std.specs.Prelude.{◌==◌, Option, None, Some, if◌then◌else◌, option_map}
 use Rattle.rt_base.specs.declared.TheConstants.{MOST_CPUS}
@@ -43,11 +51,11 @@ use Rattle.group_engine.specs.declared.state.GroupState.{GroupState}
 use Rattle.group_engine.specs.Asking.{IsUntold}
 use Rattle.group_engine.specs.Moments.{IsPlayed}
 use Rattle.group_engine.specs.State.{HasClusterAt, IsAt, IsWithin}
-use Rattle.group_engine.specs.Touching.{AreNumbered, CanBaseAll, CanBringUp, all_based, all_brought_up, base_now, based, placed_all, timer_now}
+use Rattle.group_engine.specs.Touching.{AreNumbered, CanBaseAll, CanBringUp, all_based, all_brought_up, base_now, based, ready_now, timer_now}
 use Rattle.group_engine.proofs.Bases.{base-told, has-base}
 use Rattle.group_engine.proofs.Bounding.{can_base, can_bring_up}
-use Rattle.group_engine.proofs.Bringing.{cluster-brought, homes-brought, jobs-brought, sems-brought, keys-refreshed, renewed-same, timers-brought}
-use Rattle.group_engine.proofs.Settling.{first-top, key-kept, length-refreshed, timer-kept}
+use Rattle.group_engine.proofs.Bringing.{cluster-brought, homes-brought, jobs-brought, keys-refreshed, renewed-same, resvs-brought, sems-brought, served-told_each, timers-brought, told-same}
+use Rattle.group_engine.proofs.Settling.{holds-same, key-kept, length-refreshed, timer-kept, told-kept}
 
 -- telling base keys changes the semaphores alone, and of them the base keys
 pub state-based : (p : Parts) (us : List ℕ) (s : GroupState) → all_based p us s ≡ record s { sems = (all_based p us s).sems }
@@ -74,6 +82,7 @@ rebased-same g s kept = rebased-alike (base_now g.setup s.jobs.kept) (λ t. base
 -- before any task was looked at
 abbrev pub empty_state : Group → ℕ → GroupSems → GroupState
 empty_state g room v = record {
+  resvs = untold_resvs g;
   jobs = record { kept = no_jobs (length g.setup.tasks) MOST_CPUS; room = room };
   sems = v;
   timers = replicate (length g.setup.tasks + 1) None;
@@ -149,10 +158,14 @@ module _ (g : Group) (played : IsPlayed g) (room : ℕ) (v : GroupSems) (new : I
       let looks : CanBringUp g.setup t (record s0 { sems = s1.sems }) = can_bring_up g played t h [] (record s0 { sems = s1.sems }) kept within (has-base g [] s1.sems.waits.bases sems-told.bases t h) (omega (arith, home_of.high, n)) there in
       (subst (CanBringUp g.setup t) (sym (state-based g.setup (tasks g) s0)) looks, (can_base_all t h).number_is)
 
-  holds : (c : ℕ) → HoldsEligible g c [] (set_refreshed (λ u. effective_key g u []) (λ u. eligible g u []) (of_cluster g c (tasks g)) (replicate (length g.setup.tasks + 1) None))
-  holds c = set_is_refreshed (of_cluster g c (tasks g)) (tasks_of g c) (λ u. effective_key g u []) (λ u. effective_key g u []) (λ u. false) (λ u. eligible g u []) (replicate (length g.setup.tasks + 1) None) agree nothing
+  -- the tasks that stand and are served before the reservations are settled
+  abbrev test : ℕ → Bool
+  test u = stands g u [] && is_served (untold_resvs g) u
+
+  holds : (c : ℕ) → HoldsStanding g c [] (untold_resvs g) (set_refreshed (λ u. effective_key g u []) test (of_cluster g c (tasks g)) (replicate (length g.setup.tasks + 1) None))
+  holds c = set_is_refreshed (of_cluster g c (tasks g)) (tasks_of g c) (λ u. effective_key g u []) (λ u. effective_key g u []) (λ u. false) test (replicate (length g.setup.tasks + 1) None) agree nothing
     where
-      agree : AgreeBut (of_cluster g c (tasks g)) (tasks_of g c) (λ u. effective_key g u []) (λ u. effective_key g u []) (λ u. false) (λ u. eligible g u [])
+      agree : AgreeBut (of_cluster g c (tasks g)) (tasks_of g c) (λ u. effective_key g u []) (λ u. effective_key g u []) (λ u. false) test
       agree = record {
         inside = λ t h. (both (has t (tasks g)) (has t (tasks_of g c)) (rw has-filter at h)).1;
         tests = λ t h k. absurd (let all : has t (of_cluster g c (tasks g)) ≡ true = rw (has-filter, (tasks_of-home g c t h).0, h) refl in cc);
@@ -172,28 +185,48 @@ module _ (g : Group) (played : IsPlayed g) (room : ℕ) (v : GroupSems) (new : I
           either-way true k = refl
           either-way false k = refl
 
-  cluster-opened : (c : ℕ) → has c (clusters g) ≡ true → HasClusterAt g c [] (placed_all (all_brought_up g.setup (tasks g) s2)).clusters
+  abbrev opened_state : GroupState
+  opened_state = all_brought_up g.setup (tasks g) s2
+
+  -- what the reservations of the group are told
+  resvs-told : opened_state.resvs ≡ at_opening g (tasks g)
+  resvs-told =
+      resvs-brought g.setup (tasks g) s2
+      ∙ ap (λ v. let x : GroupResvs = record (untold_resvs g) { resvs = v } in x) (told-same (ready_now g.setup s0.jobs.kept) (λ t. ready_release g t []) (tasks g) (opened_resvs g.setup g.number) (λ u h. told-kept g [] s0 kept u h))
+
+  served-told : (t : ℕ) → is_served opened_state.resvs t ≡ is_served (untold_resvs g) t
+  served-told t = ap (λ w. is_served w t) (resvs-brought g.setup (tasks g) s2) ∙ served-told_each (ready_now g.setup s0.jobs.kept) (tasks g) (untold_resvs g) t
+
+  cluster-opened : (c : ℕ) → has c (clusters g) ≡ true → HasClusterEnding g c [] opened_state.resvs opened_state.clusters
   cluster-opened c h =
       let k : KeptCluster = fresh (first_cpu g c) (cpus g c) (length g.setup.tasks + 1) in
-      let keys : List (Option Key) = set_refreshed (λ u. effective_key g u []) (λ u. eligible g u []) (of_cluster g c (tasks g)) k.keys in
-      let keys_same = keys-refreshed g c s0.jobs.kept s1.sems (λ u. effective_key g u []) (λ u. eligible g u []) (tasks g) k.keys (λ u m. (m, key-kept g played [] opened (record s0 { sems = s1.sems }) kept sems-told u m)) in
+      let keys : List (Option Key) = set_refreshed (λ u. effective_key g u []) test (of_cluster g c (tasks g)) k.keys in
+      let keys_same = keys-refreshed g c s0.jobs.kept s1.sems (is_served (untold_resvs g)) (λ u. effective_key g u []) test (tasks g) k.keys (λ u m. (m, key-kept g played [] opened (record s0 { sems = s1.sems }) kept sems-told (is_served (untold_resvs g)) u m)) in
       let next : KeptCluster = record k { keys = keys } in
-      let brought : cluster_at (all_brought_up g.setup (tasks g) s2).clusters c ≡ Some next = cluster-brought g.setup (tasks g) s2 c k (row c h) ∙ ap (λ ks. let x : KeptCluster = record k { keys = ks } in Some x) keys_same in
+      let brought : cluster_at opened_state.clusters c ≡ Some next = cluster-brought g.setup (tasks g) s2 (is_served (untold_resvs g)) (λ u. refl) c k (row c h) ∙ ap (λ ks. let x : KeptCluster = record k { keys = ks } in Some x) keys_same in
       let m : length (replicate {A = Option Key} (length g.setup.tasks + 1) None) ≡ length g.setup.tasks + 1 = length-replicated (length g.setup.tasks + 1) None in
       record {
-        cluster = relinked next;
-        there = at-relinked (all_brought_up g.setup (tasks g) s2).clusters c ∙ ap (option_map relinked) brought;
-        is_at = record {
+        cluster = next;
+        there = brought;
+        is_ending = record {
           cpus_are = refl;
           first_is = refl;
-          room = length-refreshed (λ u. effective_key g u []) (λ u. eligible g u []) (of_cluster g c (tasks g)) k.keys ∙ m;
-          keys_are = holds c;
+          room = length-refreshed (λ u. effective_key g u []) test (of_cluster g c (tasks g)) k.keys ∙ m;
+          keys_are = holds-same (tasks_of g c) (λ u. effective_key g u []) test (λ u. stands g u [] && is_served opened_state.resvs u) keys (λ t n. ap (λ b. stands g t [] && b) (sym (served-told t))) (holds c);
           runs_are = sym (runs_of-none g c);
-          links_are = rw (first-top g c [] keys (holds c)) (rw (links-first g c, runs_of-none g c) refl);
+          links_become = rw (links-first g c, runs_of-none g c) refl;
         };
       }
 
-  opened-then : IsAt g [] (placed_all (all_brought_up g.setup (tasks g) s2))
+  told-of : AreToldOf g (λ t. None) [] (tasks g)
+  told-of = record { inside = λ t h. h; others = λ t h k. absurd (let no : true ≡ false = sym h ∙ k in cc) }
+
+  become : (z : GroupResvs) → IsSettled opened_state.resvs z → KeepsResvs g [] z × AreChanged g opened_state.resvs z
+  become z end =
+      let m = resvs_opening g (tasks g) z played.valid told-of (subst (λ w. IsSettled w z) resvs-told end) in
+      (m.0, subst (λ w. AreChanged g w z) (sym resvs-told) m.1)
+
+  opened-then : IsEnding g [] opened_state
   opened-then = record {
     reachable = opened;
     within = within;
@@ -208,7 +241,8 @@ module _ (g : Group) (played : IsPlayed g) (room : ℕ) (v : GroupSems) (new : I
       are = λ q h. home-at g q (processor-low g q h);
     });
     clusters_are = cluster-opened;
+    resvs_become = become;
   }
 
-  pub opened-at : IsAt g [] (placed_all (all_brought_up g.setup (tasks g) s1))
-  opened-at = subst (λ s. IsAt g [] (placed_all (all_brought_up g.setup (tasks g) s))) (sym (state-based g.setup (tasks g) s0)) opened-then
+  pub opened-at : IsEnding g [] (all_brought_up g.setup (tasks g) s1)
+  opened-at = subst (λ s. IsEnding g [] (all_brought_up g.setup (tasks g) s)) (sym (state-based g.setup (tasks g) s0)) opened-then

@@ -1,4 +1,11 @@
 -- The state after an operation that is at no semaphore.
+use Rattle.group_resvs.specs.GroupResvs.{lacks_budget}
+use Rattle.group_resvs.proofs.KeptLaws.{resvs_are_read}
+use Rattle.group_facts.specs.Replies.{lacks}
+use Rattle.group_facts.proofs.ReadReplies.{lacks-same}
+use Rattle.rt_model.specs.Past.{accepted}
+use Rattle.group_engine.proofs.Charging.{charged-as}
+use Rattle.group_engine.specs.Ending.{IsEnding}
 use Rattle.std.proofs.Common.{◌≡◌, ℕ, Bool, true, false, [], ◌∷◌, ◌||◌, eqb-true, refl, sym, ap, ◌∙◌, subst}
 use Rattle.std.specs.Prelude.{◌==◌, Some, filter}
 use Rattle.rt_task.specs.declared.Act.TheVariants as acts
@@ -27,9 +34,9 @@ use Rattle.group_facts.specs.Moves.{is_end}
 use Rattle.group_sem_laws.specs.Kept.{KeepsLocks}
 use Rattle.group_engine.specs.declared.state.GroupState.{GroupState}
 use Rattle.group_engine.specs.State.{IsAt}
-use Rattle.group_engine.specs.Touching.{CanCount, counted, followed, holds_none, is_over, left_if, operated}
+use Rattle.group_engine.specs.Touching.{charged_for, CanCount, counted, followed, holds_none, is_over, left_if, operated}
 use Rattle.group_engine.proofs.ActMoves.{CanBe, look-same, made-after, stays}
-use Rattle.group_engine.proofs.Answering.{answer-read, plain-op, sem_facts}
+use Rattle.group_engine.proofs.Answering.{budget_by, answer-read, plain-op, sem_facts}
 use Rattle.group_engine.proofs.Following.{IsAnswered, can-count, followed-at, kept-then, lasts-of, others-jobs, own-look, runs-then, sems-on}
 use Rattle.group_engine.proofs.Reading.{SameLook, quiet-standing}
 use Rattle.group_engine.proofs.SemLaws.{holding_is_read, quiet_is_kept}
@@ -68,10 +75,16 @@ module _ (g : Group) (q t : ℕ) (op : Op) (past : Past) (s : GroupState) (can :
   runs_kept : (cpu_of s.jobs.kept q).runs ≡ Some t
   runs_kept = ap (λ (c : CpuFacts). c.runs) (can.at.jobs_are.cpus_are q can.inside) ∙ runs_it
 
+  -- whether its reservation lacks budget
+  lacks-now : lacks_budget s.resvs.resvs t ≡ lacks g.setup.plugin (budget_by g past (runs q past))
+  lacks-now =
+      (resvs_are_read g t past s.resvs can.played.valid can.at.resvs_are member).lacks
+      ∙ sym (lacks-same g t (budget_by g past (runs q past)) past (λ res. rw runs_it refl))
+
   -- the reply
-  pub op-answer : plain_reply op s.jobs.kept.clock (cpu_of s.jobs.kept q).worked (job_of s.jobs.kept t).np false (holds_none s t) ≡ answer g q (acts.Do op) past
+  pub op-answer : plain_reply op s.jobs.kept.clock (cpu_of s.jobs.kept q).worked (job_of s.jobs.kept t).np (lacks_budget s.resvs.resvs t) (holds_none s t) ≡ answer g q (acts.Do op) past
   op-answer =
-      plain-op g can.played op plain t s.jobs.kept.clock (cpu_of s.jobs.kept q).worked (job_of s.jobs.kept t).np (holds_none s t) (sem_facts g q (acts.Do op) past) (none-now ∙ rw runs_it refl)
+      plain-op g op plain t s.jobs.kept.clock (cpu_of s.jobs.kept q).worked (job_of s.jobs.kept t).np (lacks_budget s.resvs.resvs t) (holds_none s t) (budget_by g past (runs q past)) (sem_facts g q (acts.Do op) past) lacks-now (none-now ∙ rw runs_it refl)
       ∙ (rw runs_kept at (answer-read g q (acts.Do op) past s can))
 
   module _ (done : answer g q (acts.Do op) past ≡ replies.Done) where
@@ -87,7 +100,7 @@ module _ (g : Group) (q t : ℕ) (op : Op) (past : Past) (s : GroupState) (can :
     others : (u : ℕ) → u == t ≡ false → SameLook g u past after
     others u e = look-same g can.played q u (acts.Do op) past can.at.reachable quiet (others-jobs g q t op past s can replies.Done (holds_none s t) answered u e)
 
-    pub counted-at : IsAt g after (counted g.setup q t op (holds_none s t) s)
+    pub counted-at : IsEnding g after (counted g.setup q t op (holds_none s t) s)
     counted-at = by_case (is_over g.setup t op replies.Done (holds_none s t) s) refl
       where
         apart : (u : ℕ) → has u (t ∷ []) ≡ false → u == t ≡ false
@@ -98,17 +111,17 @@ module _ (g : Group) (q t : ℕ) (op : Op) (past : Past) (s : GroupState) (can :
             first false k = refl
 
         by_case : (b : Bool) → is_over g.setup t op replies.Done (holds_none s t) s ≡ b
-            → IsAt g after (left_if b g.setup q t (operated g.setup q t op replies.Done (holds_none s t) s))
+            → IsEnding g after (left_if b g.setup q t (charged_for op t (operated g.setup q t op replies.Done (holds_none s t) s)))
         by_case true e =
-            let P : Bool → Type 0 = λ b. IsAt g after (followed b g.setup q t [] (operated g.setup q t op replies.Done (holds_none s t) s)) in
+            let P : Bool → Type 0 = λ b. IsEnding g after (followed b g.setup q t [] (charged_for op t (operated g.setup q t op replies.Done (holds_none s t) s))) in
             subst P e (followed-at g q t op past s can replies.Done (holds_none s t) answered s.sems locks refl [] (λ u h. cc) (λ u h. others u (apart u h)))
         by_case false e =
             let lasts : is_end (task_in g.setup.tasks t) s.jobs.kept.clock op (holds_none s t) (job_of s.jobs.kept t) ≡ false = lasts-of g q t op past s can replies.Done (holds_none s t) answered e in
             let awake : is_sleep op ≡ false = sym (leaves-sleep op) ∙ second (is_end (task_in g.setup.tasks t) s.jobs.kept.clock op (holds_none s t) (job_of s.jobs.kept t)) (leaves (acts.Do op) replies.Done) e in
-            stays g q (acts.Do op) past s can (operated g.setup q t op replies.Done (holds_none s t) s)
+            stays g q (acts.Do op) past s can (charged_for op t (operated g.setup q t op replies.Done (holds_none s t) s))
             (kept-then g q t op past s can replies.Done (holds_none s t) answered)
             (sems-on g q t op past s can replies.Done (holds_none s t) answered s.sems locks refl e)
-            refl refl (runs-then g q t op past s can replies.Done (holds_none s t) answered ∙ rw e refl) (λ u. look u (u == t) refl lasts awake)
+            refl (charged-as g q t op past s.resvs runs_it (ap accepted done)) refl (runs-then g q t op past s can replies.Done (holds_none s t) answered ∙ rw e refl) (λ u. look u (u == t) refl lasts awake)
           where
             second : (a b : Bool) → a || b ≡ false → b ≡ false
             second true b k = cc
@@ -121,6 +134,6 @@ module _ (g : Group) (q t : ℕ) (op : Op) (past : Past) (s : GroupState) (can :
                 let same : t ≡ u = sym (eqb-true u t k) in
                 subst (λ x. SameLook g x past after) same (record {
                   timer_same = own.0;
-                  standing = quiet-standing g can.played (Acted (past_act g q (acts.Do op) past)) past (made-after g q (acts.Do op) past s can) quiet t own.1 own.2;
+                  standing = quiet-standing g can.played (Acted (past_act g q (acts.Do op) past)) past (made-after g q (acts.Do op) past s can) quiet t own.1 own.2 own.3;
                 })
             look u false k lasts awake = others u k

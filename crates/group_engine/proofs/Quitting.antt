@@ -100,13 +100,12 @@ jobs-after-sem p q t op reply sem before served s =
 -- ---- following a Lock or an Unlock, step by step
 
 pub follow-told : (p : Parts) (q t : ℕ) (op : Op) (reply : Reply) (sem : ℕ) (before after served : Option ℕ) (s : GroupState) (none over ends : Bool)
-    (jobs1 : GroupJobs) (s2 s3 s4 : GroupState) (placed : Table)
+    (jobs1 : GroupJobs) (s2 s3 s4 : GroupState)
     → none ≡ holds_none s t → after ≡ owner_of s.sems.table sem
     → jobs1 ≡ record s.jobs { kept = has_operated p.tasks q t op reply none s.jobs.kept }
     → ends ≡ is_end (task_in p.tasks t) s.jobs.kept.clock op none (job_of s.jobs.kept t) → over ≡ ends || leaves (acts.Do op) reply
     → s2 ≡ quitted_if over p q t (record s { jobs = jobs1 }) → s3 ≡ brought_up p t s2
     → s4 ≡ all_brought_up p (tasks_in (before ∷ after ∷ served ∷ [])) s3
-    → placed ≡ record s4.clusters { clusters = map (option_map relinked) s4.clusters.clusters }
-    → record s4 { clusters = placed } ≡ after_sem p q t op reply sem before served s
-follow-told p q t op reply sem before after served s none over ends jobs1 s2 s3 s4 placed none_is after_is jobs_are ends_is over_is quits looks three places =
-    rw (places, three, looks, quits, over_is, ends_is, jobs_are, after_is, none_is) refl
+    → s4 ≡ after_sem p q t op reply sem before served s
+follow-told p q t op reply sem before after served s none over ends jobs1 s2 s3 s4 none_is after_is jobs_are ends_is over_is quits looks three =
+    rw (three, looks, quits, over_is, ends_is, jobs_are, after_is, none_is) refl

@@ -1,4 +1,6 @@
 -- Acts that leave the state: ticks, and those that are refused.
+use Rattle.group_engine.specs.Ending.{IsEnding}
+use Rattle.group_engine.proofs.Charging.{no-work, other_is_no_work, refused_is_no_work}
 use Rattle.std.proofs.Common.{◌≡◌, ℕ, Bool, true, false, eqb-true, refl, sym, ◌∙◌, subst}
 use Rattle.std.specs.Prelude.{◌==◌}
 use Rattle.rt_task.specs.declared.Act.{Act}
@@ -16,16 +18,16 @@ use Rattle.group_engine.specs.declared.state.GroupState.{GroupState}
 use Rattle.group_engine.specs.State.{IsAt}
 use Rattle.group_engine.proofs.ActMoves.{CanBe, all-stays}
 
-pub refused : (g : Group) (q : ℕ) (act : Act) (past : Past) (s : GroupState) → CanBe g q act past s → accepted (answer g q act past) ≡ false → IsAt g (with_act g q act past) s
+pub refused : (g : Group) (q : ℕ) (act : Act) (past : Past) (s : GroupState) → CanBe g q act past s → accepted (answer g q act past) ≡ false → IsEnding g (with_act g q act past) s
 refused g q act past s can out =
-    all-stays g q act past s can (refused_act_is_quiet g q act past out) (refused_stays g past can.played.valid can.at.reachable q act out) (rw out refl)
+    all-stays g q act past s can (refused_act_is_quiet g q act past out) (refused_stays g past can.played.valid can.at.reachable q act out) (rw out refl) (no-work g q act past s.resvs (λ t. refused_is_no_work g q t act past out))
 
 tick-done : (g : Group) (q : ℕ) (past : Past) → answer g q acts.Tick past ≡ replies.Done
 unfolding answer
 tick-done g q past = refl
 
-pub ticked : (g : Group) (q : ℕ) (past : Past) (s : GroupState) → CanBe g q acts.Tick past s → (replies.Done ≡ answer g q acts.Tick past) × IsAt g (with_act g q acts.Tick past) s
-ticked g q past s can = (sym (tick-done g q past), all-stays g q acts.Tick past s can (other_act_is_quiet g q acts.Tick past refl) stay (rw (tick-done g q past) refl))
+pub ticked : (g : Group) (q : ℕ) (past : Past) (s : GroupState) → CanBe g q acts.Tick past s → (replies.Done ≡ answer g q acts.Tick past) × IsEnding g (with_act g q acts.Tick past) s
+ticked g q past s can = (sym (tick-done g q past), all-stays g q acts.Tick past s can (other_act_is_quiet g q acts.Tick past refl) stay (rw (tick-done g q past) refl) (no-work g q acts.Tick past s.resvs (λ t. other_is_no_work g q t acts.Tick past refl)))
   where
     nothing : CountsNothing g q acts.Tick past
     nothing = (others_count_nothing g q past).0

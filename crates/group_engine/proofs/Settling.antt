@@ -1,23 +1,26 @@
 -- The state after a move: the tasks that it touched are looked at, and the links are placed anew.
-use Rattle.std.proofs.Common.{◌≡◌, ℕ, ◌+◌, Bool, true, not, ◌&&◌, List, [], ◌∷◌, length, refl, set, length-set, sym, ap, ◌∙◌, subst}
-use Rattle.std.specs.Prelude.{Option, None, Some, is_none, is_some, option_map}
+use Rattle.std.proofs.Common.{◌≡◌, ℕ, ◌+◌, ◌<◌, Bool, true, false, not, ◌&&◌, List, [], ◌∷◌, length, get_or, refl, set, length-set, sym, ap, ◌∙◌, subst, arith}
+use Rattle.std.specs.Prelude.{Option, None, Some, if◌then◌else◌, is_none, is_some, option_map}
 use Rattle.rt_order.specs.declared.Key.{Key}
 use Rattle.rt_rules.specs.Numbers.{has}
+use Rattle.rt_rules.proofs.BoolLaws.{both}
+use Rattle.rt_rules.proofs.MemberLaws.{has-filter}
 use Rattle.rt_model.specs.EffectiveKeys.{effective_key}
-use Rattle.rt_model.specs.Group.{Group, clusters, cpus, first_cpu, task, tasks, tasks_of}
+use Rattle.rt_model.specs.Group.{Group, clusters, cpus, first_cpu, home, task, tasks, tasks_of}
 use Rattle.rt_model.specs.Holders.{awaits}
 use Rattle.rt_model.specs.Links.{links, runs_of}
-use Rattle.rt_model.specs.Past.{Event, Past, now}
+use Rattle.rt_model.specs.Past.{Event, Clock, Acted, Past, did, is_work, now}
 use Rattle.rt_model.specs.Reachable.{IsReachable}
+use Rattle.rt_model.specs.Releases.{ready}
 use Rattle.rt_model.specs.Tops.{eligible, ranking, top}
 use Rattle.rt_model.proofs.Steps.{links-step}
 use Rattle.rt_model.proofs.TopLaws.{distinct-tasks_of}
 use Rattle.ready_queue.specs.Queue.{first_tasks}
-use Rattle.ready_queue.specs.ReadySet.{kept_key, set_refreshed}
-use Rattle.rank_changes.specs.ClusterMoves.{SameBut, of_cluster}
+use Rattle.ready_queue.specs.ReadySet.{HoldsJust, kept_key, set_refreshed}
+use Rattle.ready_queue.specs.Refreshed.{AgreeBut}
+use Rattle.ready_queue.proofs.ReadySets.{set_is_refreshed}
+use Rattle.rank_changes.specs.ClusterMoves.{of_cluster}
 use Rattle.rank_changes.specs.Clusters.{HoldsEligible}
-use Rattle.rank_changes.proofs.MovedClusters.{set_after_move}
-use Rattle.rank_changes.proofs.SameClusters.{links-stay, ranking-same}
 use Rattle.group_facts.specs.Facts.{job_facts}
 use Rattle.group_facts.specs.Kept.{IsKept}
 use Rattle.group_facts.specs.Timers.{TimersAreKept, renewed, timer_at}
@@ -35,12 +38,27 @@ use Rattle.group_sem_laws.specs.Kept.{KeepsGroupSems, KeepsWaits}
 use Rattle.group_engine.proofs.SemLaws.{holding_is_read, key_is_read}
 use Rattle.group_engine.specs.declared.state.GroupState.{GroupState}
 use Rattle.group_engine.specs.Keys.{HoldsKeys}
+use Rattle.group_engine.specs.Ending.{HasClusterEnding, HoldsStanding, IsEnding, stands}
 use Rattle.group_engine.specs.Moments.{IsPlayed}
 use Rattle.group_engine.specs.State.{AreHomes, HasClusterAt, IsAt, IsWithin}
-use Rattle.group_engine.specs.Touching.{all_brought_up, key_now, placed_all, timer_now}
+use Rattle.group_engine.specs.Touching.{CanOfferAll, all_brought_up, all_offered, placed_all, ready_now, timer_now}
 use Rattle.group_engine.proofs.Bases.{has-base}
-use Rattle.group_engine.proofs.Bringing.{cluster-brought, homes-brought, jobs-brought, sems-brought, keys-refreshed, renewed-same, timers-brought}
-use Rattle.group_engine.proofs.Reading.{eligible-ready}
+use Rattle.waiting_list.proofs.Kept.{at_home}
+use Rattle.group_engine.proofs.Bounding.{task-of}
+use Rattle.group_engine.proofs.Bringing.{OnlyClusters, cluster-brought, cluster-offered, home-in, homes-brought, jobs-brought, key_where, keys-refreshed, others-offered, renewed-same, resvs-brought, sems-brought, served-told_each, timers-brought, told-same}
+use Rattle.group_engine.proofs.Reading.{IsAlike, ready-release, stands-ready}
+use Rattle.group_resvs.specs.GroupResvs.{GroupResvs, IsSettled, is_served, is_served_by}
+use Rattle.group_resvs.specs.Kept.{KeepsResvs}
+use Rattle.group_resvs.specs.Laws.{AreChanged, AreToldOf, told_of_move}
+use Rattle.group_resvs.proofs.KeptLaws.{move_is_kept, resvs_are_read}
+use Rattle.resv_core.specs.Served.{Served, charged}
+use Rattle.resv_laws.specs.Kept.{ready_release}
+use Rattle.resv_laws.specs.Serving as serving
+use Rattle.resv_laws.specs.Serving.{all_begun, for_task, told_each}
+use Rattle.resv_laws.proofs.ServingLaws.{for_task-keeps}
+use Rattle.rt_laws.proofs.GroupLaws.{tasks_of-home}
+use Rattle.cluster_table.specs.Table.{HasTask}
+use Rattle.rt_groups.specs.Places.{IsHomeTask}
 
 -- ---- the top of a cluster is the first of the tasks that its set holds
 
@@ -64,6 +82,10 @@ pub record HasClusterBetween (g : Group) (c : ℕ) (e : Event) (past : Past) (t 
   pub there : cluster_at t c ≡ Some cluster
   pub is_between : IsClusterBetween g c e past cluster
 
+-- of the reservations: the move is begun, and no client is told yet
+abbrev pub begun_resvs : Event → Past → GroupResvs → GroupResvs
+begun_resvs e past w = record w { resvs = all_begun e past w.resvs }
+
 -- of the state, where all tasks but those of a list look as before
 pub record IsBetween (g : Group) (e : Event) (past : Past) (us : List ℕ) (s : GroupState) : Type 0 where
   pub reachable : IsReachable g (e ∷ past)
@@ -71,10 +93,30 @@ pub record IsBetween (g : Group) (e : Event) (past : Past) (us : List ℕ) (s : 
   pub jobs_are : IsKept g (e ∷ past) s.jobs.kept
   pub sems_are : KeepsGroupSems g (e ∷ past) s.sems
   pub timers_are : TimersAreKept g (e ∷ past) (renewed (timer_at g (e ∷ past)) us s.timers)
+  pub before : GroupResvs
+  pub kept_before : KeepsResvs g past before
+  pub resvs_are : s.resvs ≡ begun_resvs e past before
   pub homes_are : AreHomes g s.clusters.homes
   pub clusters_are : (c : ℕ) → has c (clusters g) ≡ true → HasClusterBetween g c e past s.clusters
   pub inside : (t : ℕ) → has t us ≡ true → has t (tasks g) ≡ true
-  pub others : (c : ℕ) → SameBut g c us past (e ∷ past)
+  pub others : (t : ℕ) → has t (tasks g) ≡ true → has t us ≡ false → IsAlike g t past (e ∷ past)
+
+-- ---- the reservations as a move begins
+
+begun-by : (e : Event) (past : Past) (v : Served) → (all_begun e past v).served_by ≡ v.served_by
+begun-by (Clock tick) past v = refl
+begun-by (Acted d) past v = by_task d.task
+  where
+    by_work : (t : ℕ) (b : Bool) → (if b then for_task t charged v else v).served_by ≡ v.served_by
+    by_work t true = (for_task-keeps v t charged).served_by
+    by_work t false = refl
+
+    by_task : (o : Option ℕ) → (serving.charged_for o (Acted d) v).served_by ≡ v.served_by
+    by_task None = refl
+    by_task (Some t) = by_work t (is_work (did t (Acted d)))
+
+served-begun : (e : Event) (past : Past) (w : GroupResvs) (t : ℕ) → is_served (begun_resvs e past w) t ≡ is_served w t
+served-begun e past w t = ap (λ xs. is_served_by (get_or xs t None) w.serves t) (begun-by e past w.resvs)
 
 not-some : (o : Option ℕ) → not (is_some o) ≡ is_none o
 not-some None = refl
@@ -84,18 +126,27 @@ not-some (Some x) = refl
 pub waits-kept : (g : Group) (past : Past) (v : GroupSems) → KeepsGroupSems g past v → KeepsWaits g past v.waits
 waits-kept g past v kept = record { bases_are = kept.bases; nexts_are = kept.locks.nexts_are; boosts_are = kept.locks.boosts_are }
 
--- what is kept of a task is its key at the past, where it is eligible
+-- what is kept of a task is its key at the past, where it stands and is served
 pub key-kept : (g : Group) → IsPlayed g → (past : Past) → IsReachable g past → (s : GroupState) → IsKept g past s.jobs.kept → KeepsGroupSems g past s.sems
-    → (t : ℕ) → has t (tasks g) ≡ true
-    → key_now g.setup s.jobs.kept s.sems t ≡ kept_key (λ u. effective_key g u past) (λ u. eligible g u past) t
+    → (served : ℕ → Bool) (t : ℕ) → has t (tasks g) ≡ true
+    → key_where g.setup s.jobs.kept s.sems served t ≡ kept_key (λ u. effective_key g u past) (λ u. stands g u past && served u) t
 unfolding task
-key-kept g played past made s kept sems t h =
+key-kept g played past made s kept sems served t h =
     let job = kept.jobs_are t h in
     let clock = kept.clock_is in
     let key : kept_keys.effective_key s.sems.waits t ≡ effective_key g t past = key_is_read g past played.valid made s.sems.waits t h (waits-kept g past s.sems sems) in
     let waits : not (is_some (awaits_of s.sems.table t)) ≡ is_none (awaits g t past) = ap not (holding_is_read g past played.valid made s.sems t h sems.locks).1 ∙ not-some (awaits g t past) in
-    let test : is_ready (now past) (task_in g.setup.tasks t) (job_facts t past) && is_none (awaits g t past) ≡ eligible g t past = sym (eligible-ready g played past t) in
+    let test : is_ready (now past) (task_in g.setup.tasks t) (job_facts t past) && is_none (awaits g t past) ≡ stands g t past = sym (stands-ready g past t) in
     rw (clock, job, waits, key, test) refl
+
+-- the release of its ready job is read off
+pub told-kept : (g : Group) (past : Past) (s : GroupState) → IsKept g past s.jobs.kept → (t : ℕ) → has t (tasks g) ≡ true
+    → ready_now g.setup s.jobs.kept t ≡ ready_release g t past
+unfolding task
+told-kept g past s kept t h =
+    let job = kept.jobs_are t h in
+    let clock = kept.clock_is in
+    rw (clock, job) (sym (ready-release g past t))
 
 pub timer-kept : (g : Group) (past : Past) (s : GroupState) → IsKept g past s.jobs.kept → (t : ℕ) → has t (tasks g) ≡ true → timer_now g.setup s.jobs.kept t ≡ timer_at g past t
 unfolding task
@@ -105,78 +156,188 @@ pub length-refreshed : (key : ℕ → Key) (test : ℕ → Bool) (us : List ℕ)
 length-refreshed key test [] keys = refl
 length-refreshed key test (u ∷ us) keys = length-refreshed key test us (set keys u (kept_key key test u)) ∙ length-set _ _ _
 
+-- ---- the tasks of a cluster that stand and are served
+
+-- where the tests agree on these tasks
+pub holds-same : (ts : List ℕ) (key : ℕ → Key) (test test' : ℕ → Bool) (keys : List (Option Key)) → ((t : ℕ) → has t ts ≡ true → test t ≡ test' t)
+    → HoldsJust ts key test keys → HoldsJust ts key test' keys
+holds-same ts key test test' keys same holds = record { room = holds.room; is_in = λ t. holds.is_in t ∙ by_member t (has t ts) refl }
+  where
+    by_member : (t : ℕ) (b : Bool) → has t ts ≡ b → (if b && test t then Some (key t) else None) ≡ (if b && test' t then Some (key t) else None)
+    by_member t true h = ap (λ c. if c then Some (key t) else None) (same t h)
+    by_member t false h = refl
+
+-- a task is eligible where it stands and is served by what is kept
+pub eligible-served : (g : Group) → IsPlayed g → (past : Past) (w : GroupResvs) → KeepsResvs g past w → (t : ℕ) → has t (tasks g) ≡ true
+    → eligible g t past ≡ stands g t past && is_served w t
+unfolding eligible
+eligible-served g played past w kept t h =
+    let read = resvs_are_read g t past w played.valid kept h in
+    ap (λ b. ready g t past && (is_none (awaits g t past) && b)) (sym read.served) ∙ and-three (ready g t past) (is_none (awaits g t past)) (is_served w t)
+  where
+    and-three : (a b c : Bool) → a && (b && c) ≡ (a && b) && c
+    and-three true b c = refl
+    and-three false b c = refl
+
+of_cluster-inside : (g : Group) (c : ℕ) (us : List ℕ) (t : ℕ) → has t (of_cluster g c us) ≡ true → has t (tasks_of g c) ≡ true
+of_cluster-inside g c us t h = (both (has t us) (has t (tasks_of g c)) (sym (has-filter (λ u. has u (tasks_of g c)) t us) ∙ h)).1
+
+of_cluster-outside : (g : Group) (c : ℕ) (us : List ℕ) (t : ℕ) → has t (tasks_of g c) ≡ true → has t (of_cluster g c us) ≡ false → has t us ≡ false
+of_cluster-outside g c us t h k = by_case (has t us) refl
+  where
+    by_case : (b : Bool) → has t us ≡ b → b ≡ false
+    by_case true e = let all : has t (of_cluster g c us) ≡ true = has-filter (λ u. has u (tasks_of g c)) t us ∙ rw (e, h) refl in cc
+    by_case false e = refl
+
 module _ (g : Group) (played : IsPlayed g) (e : Event) (past : Past) (us : List ℕ) (s : GroupState) (between : IsBetween g e past us s) where
-  timers-settled : TimersAreKept g (e ∷ past) (all_brought_up g.setup us s).timers
+  abbrev brought_state : GroupState
+  brought_state = all_brought_up g.setup us s
+
+  timers-settled : TimersAreKept g (e ∷ past) brought_state.timers
   timers-settled =
       subst (TimersAreKept g (e ∷ past))
       (sym (timers-brought g.setup us s ∙ renewed-same (timer_now g.setup s.jobs.kept) (timer_at g (e ∷ past)) us s.timers (λ u h. timer-kept g (e ∷ past) s between.jobs_are u (between.inside u h))))
       between.timers_are
 
-  cluster-settled : (c : ℕ) → HasClusterBetween g c e past s.clusters → HasClusterAt g c (e ∷ past) (placed_all (all_brought_up g.setup us s)).clusters
-  cluster-settled c was =
+  -- who is served is who was before
+  served-before : (t : ℕ) → is_served s.resvs t ≡ is_served between.before t
+  served-before t = ap (λ w. is_served w t) between.resvs_are ∙ served-begun e past between.before t
+
+  resvs-told : brought_state.resvs ≡ told_of_move g e past us between.before
+  resvs-told =
+      resvs-brought g.setup us s
+      ∙ ap (λ v. let x : GroupResvs = record s.resvs { resvs = v } in x) (told-same (ready_now g.setup s.jobs.kept) (λ t. ready_release g t (e ∷ past)) us s.resvs.resvs (λ u h. told-kept g (e ∷ past) s between.jobs_are u (between.inside u h)))
+      ∙ ap (λ w. let x : GroupResvs = record w { resvs = told_each (λ t. ready_release g t (e ∷ past)) us w.resvs } in x) between.resvs_are
+
+  served-told : (t : ℕ) → is_served brought_state.resvs t ≡ is_served between.before t
+  served-told t =
+      ap (λ w. is_served w t) (resvs-brought g.setup us s)
+      ∙ served-told_each (ready_now g.setup s.jobs.kept) us s.resvs t ∙ served-before t
+
+  cluster-ending : (c : ℕ) → HasClusterBetween g c e past s.clusters → HasClusterEnding g c (e ∷ past) brought_state.resvs brought_state.clusters
+  cluster-ending c was =
       let k : KeptCluster = was.cluster in
-      let keys : List (Option Key) = set_refreshed (λ u. effective_key g u (e ∷ past)) (λ u. eligible g u (e ∷ past)) (of_cluster g c us) k.keys in
-      let keys_same = keys-refreshed g c s.jobs.kept s.sems (λ u. effective_key g u (e ∷ past)) (λ u. eligible g u (e ∷ past)) us k.keys (λ u h. (between.inside u h, key-kept g played (e ∷ past) between.reachable s between.jobs_are between.sems_are u (between.inside u h))) in
+      let w : GroupResvs = between.before in
+      let key : ℕ → Key = λ u. effective_key g u (e ∷ past) in
+      let test : ℕ → Bool = λ u. stands g u (e ∷ past) && is_served w u in
+      let keys : List (Option Key) = set_refreshed key test (of_cluster g c us) k.keys in
+      let keys_same = keys-refreshed g c s.jobs.kept s.sems (is_served w) key test us k.keys (λ u h. (between.inside u h, key-kept g played (e ∷ past) between.reachable s between.jobs_are between.sems_are (is_served w) u (between.inside u h))) in
       let next : KeptCluster = record k { keys = keys } in
-      let brought : cluster_at (all_brought_up g.setup us s).clusters c ≡ Some next = cluster-brought g.setup us s c k was.there ∙ ap (λ ks. let x : KeptCluster = record k { keys = ks } in Some x) keys_same in
-      let holds : HoldsEligible g c (e ∷ past) keys = set_after_move g c us past (e ∷ past) k.keys (between.others c) was.is_between.keys_are in
+      let brought : cluster_at brought_state.clusters c ≡ Some next = cluster-brought g.setup us s (is_served w) served-before c k was.there ∙ ap (λ ks. let x : KeptCluster = record k { keys = ks } in Some x) keys_same in
+      let were : HoldsStanding g c past w k.keys = holds-same (tasks_of g c) (λ u. effective_key g u past) (λ u. eligible g u past) (λ u. stands g u past && is_served w u) k.keys (λ t h. eligible-served g played past w between.kept_before t (tasks_of-home g c t h).0) was.is_between.keys_are in
+      let agree : AgreeBut (of_cluster g c us) (tasks_of g c) (λ u. effective_key g u past) key (λ u. stands g u past && is_served w u) test = record {
+        inside = of_cluster-inside g c us;
+        tests = λ t h m. ap (λ b. b && is_served w t) (sym (alike c t h m).stands_same);
+        keys = λ t h m x. sym (alike c t h m).key_same;
+      } in
+      let holds : HoldsStanding g c (e ∷ past) w keys = set_is_refreshed (of_cluster g c us) (tasks_of g c) (λ u. effective_key g u past) key (λ u. stands g u past && is_served w u) test k.keys agree were in
       record {
-        cluster = relinked next;
-        there = at-relinked (all_brought_up g.setup us s).clusters c ∙ ap (option_map relinked) brought;
-        is_at = record {
+        cluster = next;
+        there = brought;
+        is_ending = record {
           cpus_are = was.is_between.cpus_are;
           first_is = was.is_between.first_is;
-          room = length-refreshed (λ u. effective_key g u (e ∷ past)) (λ u. eligible g u (e ∷ past)) (of_cluster g c us) k.keys ∙ was.is_between.room;
-          keys_are = holds;
+          room = length-refreshed key test (of_cluster g c us) k.keys ∙ was.is_between.room;
+          keys_are = holds-same (tasks_of g c) key test (λ u. stands g u (e ∷ past) && is_served brought_state.resvs u) keys (λ t h. ap (λ b. stands g t (e ∷ past) && b) (sym (served-told t))) holds;
           runs_are = was.is_between.runs_are;
-          links_are =
-              let first : first_tasks k.cpus keys ≡ top g c (e ∷ past) = ap (λ m. first_tasks m keys) was.is_between.cpus_are ∙ first-top g c (e ∷ past) keys holds in
-              rw (first, was.is_between.runs_are, was.is_between.links_are) (sym (links-step g c e past));
+          links_become = rw was.is_between.links_are (sym (links-step g c e past));
         };
       }
+    where
+      alike : (c t : ℕ) → has t (tasks_of g c) ≡ true → has t (of_cluster g c us) ≡ false → IsAlike g t past (e ∷ past)
+      alike c t h m = between.others t (tasks_of-home g c t h).0 (of_cluster-outside g c us t h m)
 
-  -- once they were looked at, and the links placed
-  pub settled : IsAt g (e ∷ past) (placed_all (all_brought_up g.setup us s))
-  settled = record {
+  told-of : AreToldOf g (λ t. ready_release g t past) (e ∷ past) us
+  told-of = record { inside = between.inside; others = λ t h k. (between.others t h k).told_same }
+
+  become : (z : GroupResvs) → IsSettled brought_state.resvs z → KeepsResvs g (e ∷ past) z × AreChanged g brought_state.resvs z
+  become z end =
+      let m = move_is_kept g e past us between.before z played.valid between.reachable between.kept_before told-of (subst (λ w. IsSettled w z) resvs-told end) in
+      (m.0, record { inside = m.1.inside; others = λ t h k. m.1.others t h k ∙ sym (served-told t) })
+
+  -- once they were looked at
+  pub brought : IsEnding g (e ∷ past) brought_state
+  brought = record {
     reachable = between.reachable;
     within = between.within;
     jobs_are = rw (jobs-brought g.setup us s) between.jobs_are;
     sems_are = rw (sems-brought g.setup us s) between.sems_are;
     timers_are = timers-settled;
     homes_are = rw (homes-brought g.setup us s) between.homes_are;
-    clusters_are = λ c h. cluster-settled c (between.clusters_are c h);
+    clusters_are = λ c h. cluster-ending c (between.clusters_are c h);
+    resvs_become = become;
   }
 
--- where no task is to be looked at and what runs stays, nothing is to be placed
-pub unmoved : (g : Group) (e : Event) (past : Past) (s : GroupState) → IsBetween g e past [] s
-    → ((c : ℕ) → has c (clusters g) ≡ true → runs_of g c (e ∷ past) ≡ runs_of g c past) → IsReachable g past → IsAt g (e ∷ past) s
-unfolding top
-unmoved g e past s between still made = record {
-  reachable = between.reachable;
-  within = between.within;
-  jobs_are = between.jobs_are;
-  sems_are = between.sems_are;
-  timers_are = between.timers_are;
-  homes_are = between.homes_are;
-  clusters_are = λ c h. at c (between.clusters_are c h) (still c h);
-}
-  where
-    at : (c : ℕ) → HasClusterBetween g c e past s.clusters → runs_of g c (e ∷ past) ≡ runs_of g c past → HasClusterAt g c (e ∷ past) s.clusters
-    at c was runs =
-        let ranked : ranking g c (e ∷ past) ≡ ranking g c past = ranking-same g c past (e ∷ past) (λ t h. between.others c t h refl) in
-        let tops : top g c (e ∷ past) ≡ top g c past = rw ranked refl in
-        record {
-          cluster = was.cluster;
-          there = was.there;
-          is_at = record {
-            cpus_are = was.is_between.cpus_are;
-            first_is = was.is_between.first_is;
-            room = was.is_between.room;
-            keys_are = set_after_move g c [] past (e ∷ past) was.cluster.keys (between.others c) was.is_between.keys_are;
-            runs_are = was.is_between.runs_are;
-            links_are = was.is_between.links_are ∙ sym (links-stay g c e past made tops runs);
-          };
-        }
+-- ---- the end
+
+module _ (g : Group) (played : IsPlayed g) (past : Past) (s : GroupState) (ending : IsEnding g past s) (z : GroupResvs) (end : IsSettled s.resvs z) where
+  abbrev settled_state : GroupState
+  settled_state = record s { resvs = z }
+
+  kept-z : KeepsResvs g past z
+  kept-z = (ending.resvs_become z end).0
+
+  changed-z : AreChanged g s.resvs z
+  changed-z = (ending.resvs_become z end).1
+
+  -- what putting the changed clients where they stand rests on
+  pub can-offer : CanOfferAll g.setup z.changed settled_state
+  can-offer t k =
+      let h : has t (tasks g) ≡ true = changed-z.inside t k in
+      let home_of : IsHomeTask g t = at_home g played.valid t h in
+      let was : HasClusterEnding g (home g t) past s.resvs s.clusters = ending.clusters_are (home g t) home_of.cluster_there in
+      let there : HasTask s.clusters (home g t) t = (was.cluster, was.there, omega (arith, was.is_ending.room, home_of.high)) in
+      record {
+        task = task-of g played t h past s.jobs.kept ending.jobs_are ending.within;
+        has_base = has-base g past s.sems.waits.bases ending.sems_are.bases t h;
+        at_home = subst (λ c. HasTask s.clusters c t) (sym (home-in g t)) there;
+      }
+
+  cluster-ended : (c : ℕ) → HasClusterEnding g c past s.resvs s.clusters → HasClusterAt g c past (placed_all (all_offered g.setup z.changed settled_state)).clusters
+  cluster-ended c was =
+      let k : KeptCluster = was.cluster in
+      let key : ℕ → Key = λ u. effective_key g u past in
+      let test : ℕ → Bool = λ u. stands g u past && is_served z u in
+      let keys : List (Option Key) = set_refreshed key test (of_cluster g c z.changed) k.keys in
+      let keys_same = keys-refreshed g c s.jobs.kept s.sems (is_served z) key test z.changed k.keys (λ u h. (changed-z.inside u h, key-kept g played past ending.reachable s ending.jobs_are ending.sems_are (is_served z) u (changed-z.inside u h))) in
+      let next : KeptCluster = record k { keys = keys } in
+      let offered_row : cluster_at (all_offered g.setup z.changed settled_state).clusters c ≡ Some next = cluster-offered g.setup z.changed settled_state c k was.there ∙ ap (λ ks. let x : KeptCluster = record k { keys = ks } in Some x) keys_same in
+      let agree : AgreeBut (of_cluster g c z.changed) (tasks_of g c) key key (λ u. stands g u past && is_served s.resvs u) test = record {
+        inside = of_cluster-inside g c z.changed;
+        tests = λ t h m. ap (λ b. stands g t past && b) (sym (changed-z.others t (tasks_of-home g c t h).0 (of_cluster-outside g c z.changed t h m)));
+        keys = λ t h m x. refl;
+      } in
+      let stand : HoldsStanding g c past z keys = set_is_refreshed (of_cluster g c z.changed) (tasks_of g c) key key (λ u. stands g u past && is_served s.resvs u) test k.keys agree was.is_ending.keys_are in
+      let holds : HoldsEligible g c past keys = holds-same (tasks_of g c) key test (λ u. eligible g u past) keys (λ t h. sym (eligible-served g played past z kept-z t (tasks_of-home g c t h).0)) stand in
+      record {
+        cluster = relinked next;
+        there = at-relinked (all_offered g.setup z.changed settled_state).clusters c ∙ ap (option_map relinked) offered_row;
+        is_at = record {
+          cpus_are = was.is_ending.cpus_are;
+          first_is = was.is_ending.first_is;
+          room = length-refreshed key test (of_cluster g c z.changed) k.keys ∙ was.is_ending.room;
+          keys_are = holds;
+          runs_are = was.is_ending.runs_are;
+          links_are =
+              let first : first_tasks k.cpus keys ≡ top g c past = ap (λ m. first_tasks m keys) was.is_ending.cpus_are ∙ first-top g c past keys holds in
+              rw (first, was.is_ending.runs_are) was.is_ending.links_become;
+        };
+      }
+
+  -- once the changed clients are where they stand, and the links placed
+  pub ended : IsAt g past (placed_all (all_offered g.setup z.changed settled_state))
+  ended =
+      let only : OnlyClusters settled_state (all_offered g.setup z.changed settled_state) = others-offered g.setup z.changed settled_state in
+      record {
+        reachable = ending.reachable;
+        within = ending.within;
+        jobs_are = rw only.jobs_same ending.jobs_are;
+        sems_are = rw only.sems_same ending.sems_are;
+        timers_are = rw only.timers_same ending.timers_are;
+        resvs_are = rw only.resvs_same kept-z;
+        homes_are = rw only.homes_same ending.homes_are;
+        clusters_are = λ c h. cluster-ended c (ending.clusters_are c h);
+      }
 
 -- the table of keys holds those of the group's tasks
 pub keys-held : (g : Group) → IsPlayed g → (past : Past) (s : GroupState) → IsAt g past s → HoldsKeys g past s.sems.waits

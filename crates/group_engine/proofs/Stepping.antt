@@ -4,7 +4,6 @@ use Rattle.std.proofs.lemmas.List.Elements.{All-push}
 use Rattle.rt_base.specs.declared.TheConstants.{MOST_STEPS}
 use Rattle.rt_task.specs.declared.Parts.{Parts}
 use Rattle.rt_task.specs.declared.Step.{Step}
-use Rattle.rt_task.specs.RuleWords.{is_p_res}
 use Rattle.rt_task.specs.Validity.{IsValid}
 use Rattle.rt_history.specs.declared.Entry.{Entry}
 use Rattle.rt_history.specs.declared.Reply.{Reply}
@@ -31,10 +30,9 @@ pub entries_in-past_of : (g : Group) (es : List Entry) → entries_in (past_of g
 unfolding past_of
 entries_in-past_of g es = let h = entries_in-from g es [] in omega (arith, h)
 
-pub played : (p q : Parts) (n : ℕ) → p ≡ q → IsValid p → is_p_res q.plugin ≡ false → IsGroupOf q n → IsPlayed (record { setup = p; number = n })
-played p q n same valid none there = record {
+pub played : (p q : Parts) (n : ℕ) → p ≡ q → IsValid p → IsGroupOf q n → IsPlayed (record { setup = p; number = n })
+played p q n same valid there = record {
   valid = valid;
-  unreserved = subst (λ (r : Parts). is_p_res r.plugin ≡ false) (sym same) none;
   is_there = subst (λ (r : Parts). IsGroupOf r n) (sym same) there;
 }
 

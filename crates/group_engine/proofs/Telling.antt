@@ -1,4 +1,8 @@
 -- What a processor's next act depends on, read off the state.
+use Rattle.group_facts.proofs.ReadReplies.{lacks-same}
+use Rattle.group_resvs.proofs.KeptLaws.{resvs_are_read}
+use Rattle.group_engine.specs.Touching.{lacks_running}
+use Rattle.group_engine.proofs.Answering.{budget_by}
 use Rattle.std.proofs.Common.{◌≡◌, ℕ, ◌^◌, ◌<◌, false, length, refl, sym, ap, ◌∙◌, arith}
 use Rattle.std.specs.Prelude.{Option, None, Some, option_map}
 use Rattle.rt_base.specs.TaskNos.{number_of_task}
@@ -29,18 +33,6 @@ pub numbered-back : (o : Option TaskNo) → o ≡ option_map task_no (number_of_
 numbered-back None = refl
 numbered-back (Some t) = refl
 
-lacks-none : (plugin : PluginKind) (budget : ℕ) → is_p_res plugin ≡ false → lacks plugin budget ≡ false
-lacks-none plugins.GsnEdf budget h = refl
-lacks-none plugins.CEdf budget h = refl
-lacks-none plugins.PsnEdf budget h = refl
-lacks-none plugins.PFp budget h = refl
-lacks-none plugins.PRes budget h = cc
-
--- without reservations nothing lacks budget
-pub never-lacks : (g : Group) (o : Option ℕ) (budget : ℕ) → is_p_res g.setup.plugin ≡ false → lacks_of g o budget ≡ false
-never-lacks g None budget h = refl
-never-lacks g (Some t) budget h = lacks-none g.setup.plugin budget h
-
 module _ (g : Group) (played : IsPlayed g) (q : ℕ) (inside : IsProcessorOf g q) (past : Past) (s : GroupState) (at : IsAt g past s) where
   pub cpu-kept : q < length s.jobs.kept.cpus
   cpu-kept = at.jobs_are.cpus_room q inside
@@ -56,7 +48,17 @@ module _ (g : Group) (played : IsPlayed g) (q : ℕ) (inside : IsProcessorOf g q
           let few = task.bounded.counts in
           omega arith
 
-  pub situation-read : (link : Option ℕ) → link ≡ linked g q past → situation_of g q link 0 s.jobs.kept ≡ situation g q past
+  -- whether the reservation of what runs lacks budget
+  pub lacks-read : lacks_running s.resvs (cpu_of s.jobs.kept q).runs ≡ lacks_of g (cpu_of s.jobs.kept q).runs (budget_by g past (runs q past))
+  lacks-read = by_run (cpu_of s.jobs.kept q).runs (ap (λ (c : CpuFacts). c.runs) (at.jobs_are.cpus_are q inside))
+    where
+      by_run : (o : Option ℕ) → o ≡ runs q past → lacks_running s.resvs o ≡ lacks_of g o (budget_by g past (runs q past))
+      by_run None e = refl
+      by_run (Some t) e =
+          (resvs_are_read g t past s.resvs played.valid at.resvs_are (runs-member g played q t past at.reachable (sym e))).lacks
+          ∙ sym (lacks-same g t (budget_by g past (runs q past)) past (λ res. ap (budget_by g past) (sym e)))
+
+  pub situation-read : (link : Option ℕ) → link ≡ linked g q past → situation_of g q link (budget_by g past (runs q past)) s.jobs.kept ≡ situation g q past
   situation-read link same =
-      ap (λ o. situation_of g q o 0 s.jobs.kept) same
-      ∙ situation_is_read g past played.valid at.reachable q 0 s.jobs.kept inside (λ t h p. let none = played.unreserved in cc) at.jobs_are
+      ap (λ o. situation_of g q o (budget_by g past (runs q past)) s.jobs.kept) same
+      ∙ situation_is_read g past played.valid at.reachable q (budget_by g past (runs q past)) s.jobs.kept inside (λ t h p. rw h refl) at.jobs_are

@@ -1,4 +1,5 @@
 -- The state after an Unlock.
+use Rattle.group_engine.specs.Ending.{IsEnding}
 use Rattle.std.proofs.Common.{◌≡◌, ℕ, Bool, true, false, not, List, ◌∷◌, ◌&&◌, refl, sym, ap, ◌∙◌, subst}
 use Rattle.std.specs.Prelude.{Option, None, Some, if◌then◌else◌}
 use Rattle.rt_base.specs.declared.SemNo.{SemNo}
@@ -27,7 +28,7 @@ use Rattle.rt_changes.proofs.SemActs.{unlock_frees}
 use Rattle.group_facts.specs.Facts.{job_facts}
 use Rattle.group_facts.specs.FactMoves.{with_act}
 use Rattle.group_facts.specs.Timers.{timer}
-use Rattle.group_facts.specs.Words.{is_ready}
+use Rattle.group_facts.specs.Words.{release_of, is_ready}
 use Rattle.sem_table.specs.Released.{after_release}
 use Rattle.sem_table.specs.Told.{owner_of}
 use Rattle.group_sems.specs.Locking.{CanUnlock}
@@ -150,10 +151,10 @@ module _ (g : Group) (q t : ℕ) (sem : SemNo) (past : Past) (s : GroupState) (c
         let left : IsLeft g u event past = unlock_leaves g event past can.played.valid made t sem.0 u frees out.0 (record { before = rw before-is at out.1; after = rw after-is at out.2 }) unserved in
         record {
           timer_same = ap (timer (now past) _) job;
-          standing = same-standing g can.played u past after (ap (is_ready (now past) _) job) left.awaited left.key;
+          standing = same-standing g u past after (ap (is_ready (now past) _) job) (ap (release_of _) job) left.awaited left.key;
         }
 
-    pub unlocked-at : IsAt g after (after_sem g.setup q t (ops.Unlock sem) replies.Done sem.0 (owner_of s.sems.table sem.0) served freed)
+    pub unlocked-at : IsEnding g after (after_sem g.setup q t (ops.Unlock sem) replies.Done sem.0 (owner_of s.sems.table sem.0) served freed)
     unlocked-at = followed-at g q t (ops.Unlock sem) past s can replies.Done (holds_none freed t) answered freed.sems locks same_bases touched inside others
 
     -- as the code tells it
@@ -163,5 +164,5 @@ module _ (g : Group) (q t : ℕ) (sem : SemNo) (past : Past) (s : GroupState) (c
           → CanBringUp p u (operated p q t (ops.Unlock sem) replies.Done (holds_none freed1 t) freed1)
       looks-told = rw (served1_is, freed1_is, before_is, parts_are) can-look-touched
 
-      pub unlocked-told : (s1 : GroupState) → s1 ≡ after_sem p q t (ops.Unlock sem) replies.Done sem.0 before served1 freed1 → IsAt g after s1
+      pub unlocked-told : (s1 : GroupState) → s1 ≡ after_sem p q t (ops.Unlock sem) replies.Done sem.0 before served1 freed1 → IsEnding g after s1
       unlocked-told s1 e = rw (e, served1_is, freed1_is, before_is, parts_are) unlocked-at

@@ -1,5 +1,5 @@
 -- Asking for a semaphore.
-use Rattle.std.specs.Prelude.{◌≡◌, ◌≤◌, ◌+◌, ℕ, Option, Some, length, if◌then◌else◌}
+use Rattle.std.specs.Prelude.{◌≡◌, ◌≤◌, ◌+◌, ℕ, [], Option, None, Some, length, replicate, if◌then◌else◌}
 use Rattle.rt_task.specs.declared.Parts.{Parts}
 use Rattle.rt_history.specs.declared.Reply.{Reply}
 use Rattle.rt_history.specs.declared.Reply.TheVariants as replies
@@ -8,6 +8,8 @@ use Rattle.sem_table.specs.Asked.{is_granted}
 use Rattle.sem_table.specs.Opened.{IsOpened}
 use Rattle.mpcp_ceilings.specs.Ceilings.{AreCeilings}
 use Rattle.group_facts.specs.Kept.{job_of}
+use Rattle.group_resvs.specs.GroupResvs.{GroupResvs}
+use Rattle.resv_core.specs.Served.{opened}
 use Rattle.group_sems.specs.GroupSems.{GroupSems}
 use Rattle.group_sems.specs.Locking.{after_lock, after_unlock}
 use Rattle.group_sem_laws.specs.Keeping.{untold}
@@ -38,6 +40,14 @@ pub record CanAskFor (p : Parts) (t sem : ℕ) (s : GroupState) : Type 0 where
   pub sem_low : 1 ≤ sem
   pub sem_high : sem ≤ length p.sems
   pub uses : AreSemsOf p t
+
+-- the reservations of a group of which nothing was told
+abbrev pub untold_resvs : Group → GroupResvs
+untold_resvs g = record {
+  resvs = opened g.setup g.number;
+  serves = replicate (length g.setup.resvs) None;
+  changed = [];
+}
 
 -- the semaphores of a group of which nothing was told
 pub record IsUntold (g : Group) (v : GroupSems) : Type 0 where

@@ -6,7 +6,6 @@ use Rattle.rt_task.specs.declared.Act.TheVariants as acts
 use Rattle.rt_task.specs.declared.Op.{Op}
 use Rattle.rt_task.specs.declared.Parts.{Parts}
 use Rattle.rt_task.specs.declared.Step.{Step}
-use Rattle.rt_task.specs.RuleWords.{is_p_res}
 use Rattle.rt_task.specs.Validity.{IsValid}
 use Rattle.rt_history.specs.declared.Reply.{Reply}
 use Rattle.rt_model.specs.Answers.{answer}
@@ -21,12 +20,12 @@ use Rattle.rt_plays.specs.Homes.{IsProcessorOf}
 use Rattle.rt_groups.specs.Groups.{GroupHistory, IsGroupOf, group_of, past}
 use Rattle.waiting_list.specs.Listing.{Moment}
 use Rattle.group_engine.specs.declared.state.GroupState.{GroupState}
+use Rattle.group_engine.specs.Ending.{IsEnding}
 use Rattle.group_engine.specs.State.{IsAt}
 
--- a group of a valid set that is played: one without reservations
+-- a group of a valid set
 pub record IsPlayed (g : Group) : Type 0 where
   pub valid : IsValid g.setup
-  pub unreserved : is_p_res g.setup.plugin ≡ false
   pub is_there : IsGroupOf g.setup g.number
 
 -- the moment between the two moves of a step that follows a history
@@ -56,6 +55,17 @@ pub record CanActOn (at : Moment) (cpu : ℕ) (act : Act) (parts : Parts) (s : G
 pub record CanOperate (at : Moment) (cpu t : ℕ) (op : Op) (parts : Parts) (s : GroupState) : Type 0 where
   pub can : CanActOn at cpu (acts.Do op) parts s
   pub runs_it : runs cpu at.past ≡ Some t
+
+-- the act was answered, and the state is of the past with it once its move is ended
+pub record IsActing (at : Moment) (cpu : ℕ) (act : Act) (reply : Reply) (s : GroupState) : Type 0 where
+  pub reply_is : reply ≡ answer at.group cpu act at.past
+  pub ending : IsEnding at.group (Acted (past_act at.group cpu act at.past) ∷ at.past) s
+
+-- a move of a group that is played is to be ended
+pub record CanEnd (at : Moment) (parts : Parts) (s : GroupState) : Type 0 where
+  pub played : IsPlayed at.group
+  pub ending : IsEnding at.group at.past s
+  pub parts_are : parts ≡ at.group.setup
 
 -- the act was answered, and the state is of the past with it
 pub record HasActed (at : Moment) (cpu : ℕ) (act : Act) (reply : Reply) (s : GroupState) : Type 0 where

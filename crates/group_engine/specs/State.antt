@@ -13,6 +13,7 @@ use Rattle.group_facts.specs.Kept.{IsKept}
 use Rattle.group_facts.specs.Timers.{TimersAreKept}
 use Rattle.cluster_table.specs.Clusters.{KeptCluster}
 use Rattle.cluster_table.specs.Table.{Table, cluster_at}
+use Rattle.group_resvs.specs.Kept.{KeepsResvs}
 use Rattle.group_sem_laws.specs.Kept.{KeepsGroupSems}
 use Rattle.group_engine.specs.declared.state.GroupState.{GroupState}
 
@@ -49,5 +50,6 @@ pub record IsAt (g : Group) (past : Past) (s : GroupState) : Type 0 where
   pub jobs_are : IsKept g past s.jobs.kept
   pub sems_are : KeepsGroupSems g past s.sems
   pub timers_are : TimersAreKept g past s.timers
+  pub resvs_are : KeepsResvs g past s.resvs
   pub homes_are : AreHomes g s.clusters.homes
   pub clusters_are : (c : ℕ) → has c (clusters g) ≡ true → HasClusterAt g c past s.clusters

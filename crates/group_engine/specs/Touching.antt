@@ -1,5 +1,5 @@
--- Looking at tasks anew: their timers, and whether their jobs are eligible and with which keys.
-use Rattle.std.specs.Prelude.{◌≡◌, ℕ, ◌<◌, Bool, true, false, not, ◌&&◌, is_some, List, [], ◌∷◌, length, map, ◌==◌, ◌||◌, Option, None, Some, if◌then◌else◌, option_map, slice_index, slice_set}
+-- Looking at tasks anew: their timers, whether their jobs are eligible and with which keys, and what their reservations are told.
+use Rattle.std.specs.Prelude.{◌≡◌, ℕ, ◌<◌, Bool, true, false, not, ◌&&◌, is_some, List, [], ◌∷◌, length, map, ◌==◌, ◌||◌, Option, None, Some, if◌then◌else◌, option_map, slice_index, slice_set, unwrap_or}
 use Rattle.rt_base.specs.declared.TheConstants.{TICK_END}
 use Rattle.rt_order.specs.declared.Key.{Key}
 use Rattle.rt_task.specs.declared.Act.TheVariants as acts
@@ -7,22 +7,26 @@ use Rattle.rt_task.specs.declared.Op.{Op}
 use Rattle.rt_task.specs.declared.Parts.{Parts}
 use Rattle.rt_history.specs.declared.Reply.{Reply}
 use Rattle.rt_history.specs.declared.Reply.TheVariants as replies
-use Rattle.rt_task.specs.RuleWords.{is_p_res}
 use Rattle.rt_rules.specs.Numbers.{has}
 use Rattle.rt_rules.specs.Placing.{tasks_in}
+use Rattle.rt_model.specs.Past.{is_work}
 use Rattle.rt_model.specs.Runs.{leaves}
+use Rattle.resv_core.specs.Served.{charged}
+use Rattle.resv_laws.specs.Kept.{told_now}
+use Rattle.resv_laws.specs.Serving.{for_task}
 use Rattle.rt_plays.specs.Plays.{group_with}
 use Rattle.release_queue.specs.Timers.{tick_at}
 use Rattle.group_facts.specs.Kept.{Kept, has_operated, job_of}
 use Rattle.group_facts.specs.Moves.{is_end}
 use Rattle.group_facts.specs.Timers.{timer}
-use Rattle.group_facts.specs.Words.{is_ready, key_of}
+use Rattle.group_facts.specs.Words.{is_ready, key_of, release_of}
 use Rattle.group_jobs.specs.GroupJobs.{IsTaskOf, is_op_reply, task_in}
 use Rattle.group_jobs.specs.States.{SleepIsShort}
 use Rattle.cluster_table.specs.Clusters.{left_by, relinked, with_key}
 use Rattle.cluster_table.specs.Table.{HasProcessor, HasTask, changed_at}
 use Rattle.prio_inherit.specs.Waits.{effective_key}
 use Rattle.sem_table.specs.Told.{awaits_of, held_of, owner_of}
+use Rattle.group_resvs.specs.GroupResvs.{GroupResvs, HasUnit, is_served, lacks_budget}
 use Rattle.group_sems.specs.GroupSems.{GroupSems}
 use Rattle.group_sems.specs.Telling.{HasBase}
 use Rattle.group_engine.specs.declared.state.GroupState.{GroupState}
@@ -39,16 +43,35 @@ abbrev pub in_turn : (ℕ → GroupState → GroupState) → List ℕ → GroupS
 in_turn step [] s = s
 in_turn step (t ∷ ts) s = in_turn step ts (step t s)
 
--- its effective key, where its job is eligible: without reservations where it is ready and the task waits for no semaphore
-abbrev pub key_now : Parts → Kept → GroupSems → ℕ → Option Key
-key_now p k v t =
-    if is_ready k.clock (task_in p.tasks t) (job_of k t) && not (is_some (awaits_of v.table t)) then Some (effective_key v.waits t) else None
+-- whether its job is ready and the task waits for no semaphore
+abbrev pub stands_now : Parts → Kept → GroupSems → ℕ → Bool
+stands_now p k v t = is_ready k.clock (task_in p.tasks t) (job_of k t) && not (is_some (awaits_of v.table t))
+
+-- its effective key, where its job is eligible: where it stands so, and its reservation, if it has one, serves it
+abbrev pub key_now : Parts → Kept → GroupSems → GroupResvs → ℕ → Option Key
+key_now p k v w t = if stands_now p k v t && is_served w t then Some (effective_key v.waits t) else None
+
+-- the release of its job, where that is ready
+abbrev pub ready_now : Parts → Kept → ℕ → Option ℕ
+ready_now p k t =
+    if is_ready k.clock (task_in p.tasks t) (job_of k t) then Some (unwrap_or (release_of (task_in p.tasks t) (job_of k t)) 0) else None
+
+-- it stands among the tasks of its cluster where it is eligible
+abbrev pub offered : Parts → ℕ → GroupState → GroupState
+offered p t s =
+    record s { clusters = changed_at (home_in p t) (with_key t (key_now p s.jobs.kept s.sems s.resvs t)) s.clusters }
+
+abbrev pub all_offered : Parts → List ℕ → GroupState → GroupState
+all_offered p ts s = in_turn (offered p) ts s
+
+-- its reservation, if it has one, is told
+abbrev pub resv_told : Parts → ℕ → GroupState → GroupState
+resv_told p t s =
+    record s { resvs = record s.resvs { resvs = for_task t (told_now (ready_now p s.jobs.kept t) t) s.resvs.resvs } }
 
 abbrev pub brought_up : Parts → ℕ → GroupState → GroupState
-brought_up p t s = record s {
-  timers = slice_set s.timers t (timer_now p s.jobs.kept t);
-  clusters = changed_at (home_in p t) (with_key t (key_now p s.jobs.kept s.sems t)) s.clusters;
-}
+brought_up p t s =
+    let next = offered p t s in resv_told p t (record next { timers = slice_set s.timers t (timer_now p s.jobs.kept t) })
 
 -- the base key of the task's job is told
 abbrev pub base_now : Parts → Kept → ℕ → Key
@@ -87,7 +110,12 @@ is_over p t op reply none s = is_end (task_in p.tasks t) s.jobs.kept.clock op no
 
 -- then its task is looked at, and these others
 abbrev pub followed : Bool → Parts → ℕ → ℕ → List ℕ → GroupState → GroupState
-followed over p q t us s = placed_all (all_brought_up p (t ∷ us) (quitted_if over p q t s))
+followed over p q t us s = all_brought_up p (t ∷ us) (quitted_if over p q t s)
+
+-- a Work of the task is charged to its reservation, if it has one
+abbrev pub charged_for : Op → ℕ → GroupState → GroupState
+charged_for op t s =
+    record s { resvs = record s.resvs { resvs = if is_work (Some op) then for_task t charged s.resvs.resvs else s.resvs.resvs } }
 
 -- an operation at no semaphore: where it is over its task is looked at
 abbrev pub left_if : Bool → Parts → ℕ → ℕ → GroupState → GroupState
@@ -95,7 +123,8 @@ left_if true p q t s = followed true p q t [] s
 left_if false p q t s = s
 
 abbrev pub counted : Parts → ℕ → ℕ → Op → Bool → GroupState → GroupState
-counted p q t op none s = left_if (is_over p t op replies.Done none s) p q t (operated p q t op replies.Done none s)
+counted p q t op none s =
+    left_if (is_over p t op replies.Done none s) p q t (charged_for op t (operated p q t op replies.Done none s))
 
 -- whether the task holds no semaphore
 abbrev pub holds_none : GroupState → ℕ → Bool
@@ -109,16 +138,29 @@ abbrev pub after_sem : Parts → ℕ → ℕ → Op → Reply → ℕ → Option
 after_sem p q t op reply sem before served s =
     followed (is_over p t op reply (holds_none s t) s) p q t (touched_at s sem before served) (operated p q t op reply (holds_none s t) s)
 
+-- whether the reservation of what runs lacks budget
+abbrev pub lacks_running : GroupResvs → Option ℕ → Bool
+lacks_running w None = false
+lacks_running w (Some t) = lacks_budget w.resvs t
+
 -- what telling a base key rests on
 pub record CanBase (p : Parts) (t : ℕ) (s : GroupState) : Type 0 where
   pub task : IsTaskOf s.jobs.kept p.tasks t
   pub number_is : (task_in p.tasks t).number.0 ≡ t
   pub deadline_low : (task_in p.tasks t).rel_deadline < TICK_END
-  pub unreserved : is_p_res p.plugin ≡ false
   pub room : t < length s.sems.waits.bases
 
 abbrev pub CanBaseAll : Parts → List ℕ → GroupState → Type 0
 CanBaseAll p ts s = (t : ℕ) → has t ts ≡ true → CanBase p t s
+
+-- what putting a task where it stands rests on
+pub record CanOffer (p : Parts) (t : ℕ) (s : GroupState) : Type 0 where
+  pub task : IsTaskOf s.jobs.kept p.tasks t
+  pub has_base : HasBase s.sems.waits.bases t
+  pub at_home : HasTask s.clusters (home_in p t) t
+
+abbrev pub CanOfferAll : Parts → List ℕ → GroupState → Type 0
+CanOfferAll p ts s = (t : ℕ) → has t ts ≡ true → CanOffer p t s
 
 -- what looking at a task rests on
 pub record CanBringUp (p : Parts) (t : ℕ) (s : GroupState) : Type 0 where
@@ -152,3 +194,4 @@ pub record CanCount (p : Parts) (q t : ℕ) (op : Op) (reply : Reply) (none : Bo
   pub reply_done : is_op_reply reply ≡ true
   pub quits : CanQuit p q t (operated p q t op reply none s)
   pub looks : CanBringUp p t (operated p q t op reply none s)
+  pub unit : is_work (Some op) ≡ true → HasUnit s.resvs.resvs t

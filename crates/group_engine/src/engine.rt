@@ -10,7 +10,6 @@ ghost use Rattle.rt_model.specs.Links.{linked};
 ghost use Rattle.rt_model.specs.Situations.{situation};
 ghost use Rattle.rt_model.specs.Histories.{past_of, reply_to};
 ghost use Rattle.rt_model.specs.Holders.{holder};
-ghost use Rattle.rt_task.specs.RuleWords.{is_p_res};
 ghost use Rattle.count_laws.specs.Tallies.{waiter_tasks};
 ghost use Rattle.waiting_list.specs.Listing.{AreWaitersAt};
 ghost use Rattle.group_engine.specs.Keys.{HoldsKeys};
@@ -69,7 +68,6 @@ impl Engine {
     pub fn open(alloc: Global, setup: &Setup, group: GroupNo, room: u32) -> Result<Engine, NoMemory>
         requires group { IsGroupOf setup.now group.0 }
         requires room { room ≤ MOST_STEPS }
-        requires unreserved { is_p_res setup.now.plugin ≡ false }
         ensures { IfOk result (λ e. e
             ≡ record { setup = setup.now; group = group.0; entries = []; spare = room }) }
     {

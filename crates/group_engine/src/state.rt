@@ -1,5 +1,5 @@
 //! What the engine keeps of its group, and what each move makes of it.
-ghost use Rattle.std.specs.Prelude.{◌≡◌, ◌||◌, false, ℕ, List, ◌+◌, ◌<◌, ◌≤◌, ◌∷◌, [], All, IfOk, length, slice_set, true};
+ghost use Rattle.std.specs.Prelude.{◌≡◌, ◌||◌, false, ℕ, List, Some, ◌+◌, ◌<◌, ◌≤◌, ◌∷◌, [], All, IfOk, length, slice_set, true};
 ghost use Rattle.rt_base.specs.TaskNos.{number_of_task};
 ghost use Rattle.rt_base.specs.declared.TheConstants.{MOST_STEPS};
 ghost use Rattle.rt_task.specs.declared.Task.{Task};
@@ -13,23 +13,30 @@ ghost use Rattle.rt_plays.specs.Homes.{IsProcessorOf};
 ghost use Rattle.rt_plays.specs.Plays.{group_with};
 ghost use Rattle.rank_changes.specs.Clusters.{HoldsEligible};
 ghost use Rattle.rt_groups.specs.Groups.{IsGroupOf};
-ghost use Rattle.rt_task.specs.RuleWords.{is_p_res};
 ghost use Rattle.rt_model.specs.Holders.{holder};
 ghost use Rattle.rt_rules.specs.Placing.{tasks_in};
 ghost use Rattle.rt_changes.specs.SemActs.{is_at_sem};
 ghost use Rattle.group_facts.specs.Timers.{AreDue};
 ghost use Rattle.group_sems.specs.Locking.{CanLock};
-ghost use Rattle.group_engine.specs.Moments.{CanAct, CanActOn, CanLend, CanLook, CanMove, CanOperate, CanTell, HasActed, IsDeclared, IsPlayed};
+ghost use Rattle.group_engine.specs.Moments.{CanAct, CanActOn, CanLend, CanLook, CanEnd, CanMove, CanOperate, CanTell, HasActed, IsActing, IsDeclared, IsPlayed};
 ghost use Rattle.count_laws.specs.Tallies.{waiter_tasks};
 ghost use Rattle.rt_rules.specs.Distinct.{IsDistinct};
 ghost use Rattle.waiting_list.specs.Listing.{AreWaitersAt, Moment};
-ghost use Rattle.group_engine.specs.Asking.{asked_for, asked_reply, lock_refused, CanAskFor, IsUntold};
+ghost use Rattle.group_engine.specs.Asking.{asked_for, asked_reply, lock_refused, untold_resvs, CanAskFor, IsUntold};
 ghost use Rattle.group_engine.specs.State.{IsAt};
-ghost use Rattle.group_engine.specs.Touching.{AreArmedOnly, AreNumbered, CanBase, CanBaseAll, CanBringUp, CanBringUpAll, CanCount, CanQuit, after_sem, all_based, all_brought_up, base_now, based, brought_up, counted, holds_none, key_now, left_if, operated, quitted, quitted_if, timer_now, touched_at};
+ghost use Rattle.group_engine.specs.Touching.{AreArmedOnly, AreNumbered, CanBase, CanBaseAll, CanBringUp, CanBringUpAll, CanCount, CanQuit};
+ghost use Rattle.group_engine.specs.Touching.{after_sem, all_based, all_brought_up, all_offered, base_now, based, brought_up, charged_for};
+ghost use Rattle.group_engine.specs.Touching.{counted, holds_none, key_now, lacks_running, left_if, offered, operated, quitted, quitted_if, ready_now};
+ghost use Rattle.group_engine.specs.Touching.{resv_told, stands_now, timer_now, touched_at, CanOffer, CanOfferAll};
+ghost use Rattle.group_facts.specs.Kept.{cpu_of};
+ghost use Rattle.group_jobs.specs.GroupJobs.{IsTaskOf};
+ghost use Rattle.group_resvs.specs.GroupResvs.{HasUnit, tick_of};
+ghost use Rattle.rt_model.specs.Past.{is_work};
 
 use crate::situations::situation_of;
 use cluster_table::ClusterTable;
 use group_jobs::GroupJobs;
+use group_resvs::GroupResvs;
 use group_sems::GroupSems;
 use prio_inherit::Inherit;
 use ready_heap::ReadyHeap;
@@ -42,12 +49,13 @@ use std::alloc::Global;
 use waiting_list::WaitingList;
 
 /// The jobs of a group's tasks and what its processors run; the semaphores, and the keys of the tasks; the moments that
-/// tasks wait for; and of each cluster the eligible tasks by key, and the links.
+/// tasks wait for; the reservations; and of each cluster the eligible tasks by key, and the links.
 #[derive(Drop)]
 pub(crate) struct GroupState {
     jobs: GroupJobs,
     sems: GroupSems,
     timers: ReleaseQueue,
+    resvs: GroupResvs,
     clusters: ClusterTable,
 }
 
@@ -60,25 +68,27 @@ impl GroupState {
         room: u32,
     ) -> Result<GroupState, NoMemory>
         requires group { IsGroupOf setup.now group.0 }
-        requires unreserved { is_p_res setup.now.plugin ≡ false }
         ensures played { IfOk result (λ _. IsPlayed (group_with setup.now group.0)) }
         ensures at { IfOk result (λ s. IsAt (group_with setup.now group.0) [] s) }
         ensures room { IfOk result (λ s. s.jobs.room ≡ room) }
     {
         let sems = GroupSems::open(alloc, setup, group)?;
-        GroupState::with_sems(alloc, setup.parts(), sems, group, room)
+        let resvs = GroupResvs::open(alloc, setup, group)?;
+        GroupState::with_parts(alloc, setup.parts(), sems, resvs, group, room)
     }
 
-    /// The same with these semaphores, of which nothing was told.
-    fn with_sems(
+    /// The same with these semaphores and reservations, of which nothing was told.
+    fn with_parts(
         alloc: Global,
         parts: &Parts,
         sems: GroupSems,
+        resvs: GroupResvs,
         group: GroupNo,
         room: u32,
     ) -> Result<GroupState, NoMemory>
         requires played { IsPlayed (group_with parts.now group.0) }
         requires untold { IsUntold (group_with parts.now group.0) sems }
+        requires resvs { resvs ≡ untold_resvs (group_with parts.now group.0) }
         ensures at { IfOk result (λ s. IsAt (group_with parts.now group.0) [] s) }
         ensures room { IfOk result (λ s. s.jobs.room ≡ room) }
     {
@@ -87,11 +97,12 @@ impl GroupState {
             jobs: GroupJobs::open(alloc, count, MOST_CPUS, room)?,
             sems,
             timers: ReleaseQueue::new(alloc, count + 1)?,
+            resvs,
             clusters: ClusterTable::open(alloc, parts.clusters.as_slice(), group, count + 1)?,
         };
         state.tell_bases(parts, group);
         state.bring_up_group(parts, group);
-        state.clusters.place_changed();
+        state.end_move(parts);
         Ok(state)
     }
 
@@ -152,7 +163,19 @@ impl GroupState {
             → IsProcessorOf at.group cpu.0 → result ≡ situation at.group cpu.0 at.past }
     {
         let link = self.linked(cpu);
-        situation_of(&self.jobs, cpu, link)
+        situation_of(&self.jobs, cpu, link, self.lacks_budget(cpu))
+    }
+
+    /// Whether the reservation of the task that the processor runs lacks budget.
+    fn lacks_budget(&self, cpu: CpuNo) -> bool
+        requires { cpu.0 < length self.now.jobs.kept.cpus }
+        ensures { result
+            ≡ lacks_running self.now.resvs (cpu_of self.now.jobs.kept cpu.0).runs }
+    {
+        match self.jobs.runs(cpu) {
+            None => false,
+            Some(task) => self.resvs.lacks_budget(task),
+        }
     }
 
     /// The heap of a cluster's eligible tasks.
@@ -183,13 +206,35 @@ impl GroupState {
         self.sems.keys()
     }
 
+    /// Whether the task's job is ready and waits for no semaphore.
+    fn stands(&self, parts: &Parts, task: TaskNo) -> bool
+        requires { IsTaskOf self.now.jobs.kept parts.now.tasks task.0 }
+        ensures { result ≡ stands_now parts.now self.now.jobs.kept self.now.sems task.0 }
+    {
+        self.jobs.is_ready(parts.tasks.as_slice(), task) && !self.sems.waits(task)
+    }
+
     /// The key of the task's job, where that is eligible.
     fn key(&self, parts: &Parts, task: TaskNo) -> Option<Key>
-        requires { CanBringUp parts.now task.0 self.now }
-        ensures { result ≡ key_now parts.now self.now.jobs.kept self.now.sems task.0 }
+        requires { CanOffer parts.now task.0 self.now }
+        ensures { result
+            ≡ key_now parts.now self.now.jobs.kept self.now.sems self.now.resvs task.0 }
     {
-        if self.jobs.is_ready(parts.tasks.as_slice(), task) && !self.sems.waits(task) {
+        if self.stands(parts, task) && self.resvs.is_served(task) {
             Some(self.sems.key(task))
+        } else {
+            None
+        }
+    }
+
+    /// The release of the task's job, where that is ready.
+    fn ready_release(&self, parts: &Parts, task: TaskNo) -> Option<Tick>
+        requires { IsTaskOf self.now.jobs.kept parts.now.tasks task.0 }
+        ensures { tick_of result ≡ ready_now parts.now self.now.jobs.kept task.0 }
+    {
+        let tasks = parts.tasks.as_slice();
+        if self.jobs.is_ready(tasks, task) {
+            Some(Tick(self.jobs.release(tasks, task).unwrap_or(0)))
         } else {
             None
         }
@@ -216,15 +261,57 @@ impl GroupState {
         }
     }
 
-    /// Arms the task's timer anew, and looks at whether its job is eligible, and at its key.
+    /// Puts the task where it stands among those of its cluster: with its key where its job is eligible, and else out.
+    fn offer(&mut self, parts: &Parts, task: TaskNo)
+        requires { CanOffer parts.now task.0 self.old }
+        ensures { self.new ≡ offered parts.now task.0 self.old }
+    {
+        let key = self.key(parts, task);
+        let home = parts.tasks.as_slice()[task.0 as usize - 1].cluster;
+        self.clusters.set(home, task, key);
+    }
+
+    /// Tells its reservation, if it has one, whether the task has a ready job, and of which release.
+    fn tell_resv(&mut self, parts: &Parts, task: TaskNo)
+        requires { IsTaskOf self.old.jobs.kept parts.now.tasks task.0 }
+        ensures { self.new ≡ resv_told parts.now task.0 self.old }
+    {
+        if self.resvs.is_client(task) {
+            let release = self.ready_release(parts, task);
+            self.resvs.tell(task, release);
+        }
+    }
+
+    /// Arms the task's timer anew, looks at whether its job is eligible, and at its key, and tells its reservation.
     fn bring_up(&mut self, parts: &Parts, task: TaskNo)
         requires { CanBringUp parts.now task.0 self.old }
         ensures { self.new ≡ brought_up parts.now task.0 self.old }
     {
-        let key = self.key(parts, task);
+        self.offer(parts, task);
         self.arm_anew(parts, task);
-        let home = parts.tasks.as_slice()[task.0 as usize - 1].cluster;
-        self.clusters.set(home, task, key);
+        self.tell_resv(parts, task);
+    }
+
+    /// Puts the tasks that the end of the move made or unmade served clients of their reservations where they stand.
+    fn offer_changed(&mut self, parts: &Parts)
+        requires { CanOfferAll parts.now self.old.resvs.changed self.old }
+        ensures { self.new ≡ all_offered parts.now self.old.resvs.changed self.old }
+    {
+        for i in 0..self.resvs.changed().len() {
+            let task = self.resvs.changed()[i];
+            self.offer(parts, task);
+        }
+    }
+
+    /// Ends a move, or the opening: the reservations are settled, and the links follow.
+    fn end_move(&mut self, parts: &Parts)
+        requires { (at : Moment) × CanEnd at parts.now self.old }
+        ensures at { (at : Moment) → CanEnd at parts.now self.old → IsAt at.group at.past self.new }
+        ensures room { self.new.jobs.room ≡ self.old.jobs.room }
+    {
+        self.resvs.settle();
+        self.offer_changed(parts);
+        self.clusters.place_changed();
     }
 
     /// Looks at each task whose moment has come, the earliest first.
@@ -260,15 +347,16 @@ impl GroupState {
         ensures room { self.new.jobs.room ≡ self.old.jobs.room }
     {
         self.jobs.move_clock(tick);
+        self.resvs.move_clock(Tick(self.jobs.clock()));
         self.bring_up_due(parts);
-        self.clusters.place_changed();
+        self.end_move(parts);
     }
 
     /// Takes an interrupt at the processor: it runs its link from now on, unless what it runs is non-preemptive.
     fn take_irq(&mut self, cpu: CpuNo) -> Reply
         requires { (at : Moment) × CanAct at cpu.0 Act.Irq self.old }
         ensures acted { (at : Moment) → CanAct at cpu.0 Act.Irq self.old
-            → HasActed at cpu.0 Act.Irq result self.new }
+            → IsActing at cpu.0 Act.Irq result self.new }
         ensures room { self.new.jobs.room ≡ self.old.jobs.room }
     {
         let home = self.clusters.home(cpu);
@@ -277,7 +365,6 @@ impl GroupState {
         if is_accepted(reply) {
             let running = self.clusters.runs(home, cpu);
             self.jobs.run(cpu, running);
-            self.clusters.place_changed();
         }
         reply
     }
@@ -287,7 +374,7 @@ impl GroupState {
         requires at { (at : Moment) × CanActOn at cpu.0 (Act.Arrive task) parts.now self.old }
         requires room { 0 < self.old.jobs.room }
         ensures acted { (at : Moment) → CanActOn at cpu.0 (Act.Arrive task) parts.now self.old
-            → HasActed at cpu.0 (Act.Arrive task) result self.new }
+            → IsActing at cpu.0 (Act.Arrive task) result self.new }
         ensures room { self.old.jobs.room ≤ self.new.jobs.room + 1 }
     {
         let reply = self.jobs.arrival_reply(parts.tasks.as_slice(), task);
@@ -295,7 +382,6 @@ impl GroupState {
             self.jobs.arrive(task);
             self.tell_base(parts, task);
             self.bring_up(parts, task);
-            self.clusters.place_changed();
         }
         reply
     }
@@ -349,7 +435,7 @@ impl GroupState {
         self.bring_up_any(parts, c);
     }
 
-    /// Where the operation is over, the processor runs nothing, its task is looked at, and the links follow.
+    /// Where the operation is over, the processor runs nothing, and its task is looked at.
     fn leave_if(&mut self, over: bool, parts: &Parts, cpu: CpuNo, task: TaskNo)
         requires quits { CanQuit parts.now cpu.0 task.0 self.old }
         requires looks { CanBringUp parts.now task.0 self.old }
@@ -358,7 +444,16 @@ impl GroupState {
         if over {
             self.quit(parts, cpu, task);
             self.bring_up(parts, task);
-            self.clusters.place_changed();
+        }
+    }
+
+    /// A Work is charged to the task's reservation, if it has one.
+    fn charge(&mut self, task: TaskNo, op: Op)
+        requires { is_work (Some op) ≡ true → HasUnit self.old.resvs.resvs task.0 }
+        ensures { self.new ≡ charged_for op task.0 self.old }
+    {
+        if op == Op::Work {
+            self.resvs.charge(task);
         }
     }
 
@@ -371,6 +466,7 @@ impl GroupState {
         let none = self.sems.holds_none(task);
         let tasks = parts.tasks.as_slice();
         let ends = self.jobs.operate(tasks, cpu, task, op, Reply::Done, none);
+        self.charge(task, op);
         self.leave_if(leaves_processor(op, Reply::Done, ends), parts, cpu, task);
     }
 
@@ -379,11 +475,12 @@ impl GroupState {
         requires plain { is_at_sem (Act.Do op) ≡ false }
         requires at { (at : Moment) × CanOperate at cpu.0 task.0 op parts.now self.old }
         ensures acted { (at : Moment) → CanOperate at cpu.0 task.0 op parts.now self.old
-            → HasActed at cpu.0 (Act.Do op) result self.new }
+            → IsActing at cpu.0 (Act.Do op) result self.new }
         ensures room { self.new.jobs.room ≡ self.old.jobs.room }
     {
         let none = self.sems.holds_none(task);
-        let reply = self.jobs.op_reply(cpu, task, op, false, none);
+        let lacks = self.resvs.lacks_budget(task);
+        let reply = self.jobs.op_reply(cpu, task, op, lacks, none);
         if is_accepted(reply) {
             self.count(parts, cpu, task, op);
         }
@@ -417,7 +514,6 @@ impl GroupState {
         self.quit_if(leaves_processor(op, reply, ends), parts, cpu, task);
         self.bring_up(parts, task);
         self.bring_up_three(parts, before, after, served);
-        self.clusters.place_changed();
     }
 
     /// Why the task's Lock is refused: its job is non-preemptive, or the semaphores refuse it.
@@ -452,7 +548,7 @@ impl GroupState {
     fn lock(&mut self, parts: &Parts, cpu: CpuNo, task: TaskNo, sem: SemNo) -> Reply
         requires at { (at : Moment) × CanOperate at cpu.0 task.0 (Op.Lock sem) parts.now self.old }
         ensures acted { (at : Moment) → CanOperate at cpu.0 task.0 (Op.Lock sem) parts.now self.old
-            → HasActed at cpu.0 (Act.Do (Op.Lock sem)) result self.new }
+            → IsActing at cpu.0 (Act.Do (Op.Lock sem)) result self.new }
         ensures room { self.new.jobs.room ≡ self.old.jobs.room }
     {
         if let Some(refusal) = self.lock_refusal(parts, task, sem) {
@@ -468,7 +564,7 @@ impl GroupState {
     fn unlock(&mut self, parts: &Parts, cpu: CpuNo, task: TaskNo, sem: SemNo) -> Reply
         requires at { (at : Moment) × CanOperate at cpu.0 task.0 (Op.Unlock sem) parts.now self.old }
         ensures acted { (at : Moment) → CanOperate at cpu.0 task.0 (Op.Unlock sem) parts.now self.old
-            → HasActed at cpu.0 (Act.Do (Op.Unlock sem)) result self.new }
+            → IsActing at cpu.0 (Act.Do (Op.Unlock sem)) result self.new }
         ensures room { self.new.jobs.room ≡ self.old.jobs.room }
     {
         if let Some(refusal) = self.sems.unlock_refusal(parts, task, sem) {
@@ -494,7 +590,7 @@ impl GroupState {
     fn act_of(&mut self, parts: &Parts, cpu: CpuNo, task: TaskNo, op: Op) -> Reply
         requires at { (at : Moment) × CanOperate at cpu.0 task.0 op parts.now self.old }
         ensures acted { (at : Moment) → CanOperate at cpu.0 task.0 op parts.now self.old
-            → HasActed at cpu.0 (Act.Do op) result self.new }
+            → IsActing at cpu.0 (Act.Do op) result self.new }
         ensures room { self.new.jobs.room ≡ self.old.jobs.room }
     {
         match op {
@@ -510,6 +606,19 @@ impl GroupState {
         requires room { 0 < self.old.jobs.room }
         ensures acted { (at : Moment) → CanActOn at cpu.0 act parts.now self.old
             → HasActed at cpu.0 act result self.new }
+        ensures room { self.old.jobs.room ≤ self.new.jobs.room + 1 }
+    {
+        let reply = self.answer(parts, cpu, act);
+        self.end_move(parts);
+        reply
+    }
+
+    /// An act of the processor, up to the end of its move.
+    fn answer(&mut self, parts: &Parts, cpu: CpuNo, act: Act) -> Reply
+        requires at { (at : Moment) × CanActOn at cpu.0 act parts.now self.old }
+        requires room { 0 < self.old.jobs.room }
+        ensures acted { (at : Moment) → CanActOn at cpu.0 act parts.now self.old
+            → IsActing at cpu.0 act result self.new }
         ensures room { self.old.jobs.room ≤ self.new.jobs.room + 1 }
     {
         match act {

@@ -1,22 +1,29 @@
 -- The key that a plugin gives is the one that is read off what is kept.
-use Rattle.std.proofs.Common.{◌≡◌, ℕ, false, refl}
-use Rattle.std.specs.Prelude.{unwrap_or}
+use Rattle.std.proofs.Common.{◌≡◌, ℕ, refl}
+use Rattle.std.specs.Prelude.{Option, None, Some, unwrap_or}
+use Rattle.rt_base.specs.declared.ResvNo.{ResvNo}
 use Rattle.rt_task.specs.declared.Parts.{Parts}
 use Rattle.rt_task.specs.declared.PluginKind.{PluginKind}
 use Rattle.rt_task.specs.declared.PluginKind.TheVariants as plugins
-use Rattle.rt_task.specs.RuleWords.{is_p_res}
-use Rattle.rt_model.specs.Group.{task}
+use Rattle.rt_model.specs.Group.{Group, resv, served_by, task}
 use Rattle.rt_plays.specs.Plays.{group_with}
+use Rattle.partitioned.specs.ReservationKeys.{resv_number}
+use Rattle.partitioned.proofs.KeyLaws.{resv-number}
 use Rattle.group_facts.specs.Facts.{JobFacts}
 use Rattle.group_facts.specs.Words.{key_of, release_of}
 use Rattle.group_jobs.specs.GroupJobs.{task_in}
-use Rattle.group_jobs.specs.Keys.{key_under}
+use Rattle.group_jobs.specs.Keys.{key_under, resv_prio}
 
-pub key-under : (p : Parts) (t : ℕ) (job : JobFacts) (plugin : PluginKind) → is_p_res plugin ≡ false → (task_in p.tasks t).number.0 ≡ t
-    → key_under plugin (task_in p.tasks t) (unwrap_or (release_of (task_in p.tasks t) job) 0) ≡ key_of (group_with p 0) plugin t job
+resv-prio : (p : Parts) (t : ℕ) → resv_prio p.resvs (task_in p.tasks t) ≡ (resv (group_with p 0) (served_by (group_with p 0) t)).prio
+unfolding task resv served_by
+resv-prio p t = refl
+
+pub key-under : (p : Parts) (t : ℕ) (job : JobFacts) (plugin : PluginKind) → (task_in p.tasks t).number.0 ≡ t
+    → key_under plugin (task_in p.tasks t) (unwrap_or (release_of (task_in p.tasks t) job) 0) (resv_prio p.resvs (task_in p.tasks t))
+    ≡ key_of (group_with p 0) plugin t job
 unfolding task
-key-under p t job plugins.GsnEdf h number = rw number refl
-key-under p t job plugins.CEdf h number = rw number refl
-key-under p t job plugins.PsnEdf h number = rw number refl
-key-under p t job plugins.PFp h number = rw number refl
-key-under p t job plugins.PRes h number = cc
+key-under p t job plugins.GsnEdf number = rw number refl
+key-under p t job plugins.CEdf number = rw number refl
+key-under p t job plugins.PsnEdf number = rw number refl
+key-under p t job plugins.PFp number = rw number refl
+key-under p t job plugins.PRes number = rw (resv-prio p t, resv-number (group_with p 0) t) refl

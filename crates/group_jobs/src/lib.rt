@@ -8,7 +8,6 @@ ghost use Rattle.rt_base.specs.declared.TheConstants.{MOST_STEPS, MOST_TASKS, TI
 ghost use Rattle.rt_rules.specs.Numbers.{first, rest, same};
 ghost use Rattle.rt_model.specs.Releases as come;
 ghost use Rattle.rt_plays.specs.Plays.{group_with};
-ghost use Rattle.rt_task.specs.RuleWords.{is_p_res};
 ghost use Rattle.group_facts.specs.Bounds.{AreBounded};
 ghost use Rattle.group_facts.specs.Kept.{cpu_of, has_arrived, has_operated, job_of, opened, with_clock, with_cpu, with_job};
 ghost use Rattle.group_facts.specs.Moves.{after_op, is_end};
@@ -24,7 +23,7 @@ mod states;
 
 use arrival_queue::ArrivalQueue;
 use cpus::{CpuState, leaves_nothing};
-use keys::key_under;
+use keys::{key_under, resv_prio};
 use rt_base::{CpuNo, NoMemory, TaskNo, Tick};
 use rt_history::Reply;
 use rt_order::Key;
@@ -170,10 +169,9 @@ impl GroupJobs {
         }
     }
 
-    /// The base key of the task's current job under the set's plugin, which has no reservations.
+    /// The base key of the task's current job under the set's plugin.
     pub fn base_key(&self, parts: &Parts, task: TaskNo) -> Key
         requires task { IsTaskOf self.now.kept parts.now.tasks task.0 }
-        requires plugin { is_p_res parts.now.plugin ≡ false }
         requires deadline { (task_in parts.now.tasks task.0).rel_deadline < TICK_END }
         requires number { (task_in parts.now.tasks task.0).number.0 ≡ task.0 }
         ensures { let g = group_with parts.now 0 in
@@ -181,7 +179,8 @@ impl GroupJobs {
     {
         let tasks = parts.tasks.as_slice();
         let release = self.release(tasks, task).unwrap_or(0);
-        key_under(parts.plugin, &tasks[task.0 as usize - 1], Tick(release))
+        let row = &tasks[task.0 as usize - 1];
+        key_under(parts.plugin, row, Tick(release), resv_prio(parts, row))
     }
 
     /// Whether the task's current job is there, by its release or early.

@@ -1,6 +1,7 @@
 -- The keys of the plugins are those of the model.
 use Rattle.std.proofs.Common.{ap, refl, sym, true, ℕ, ◌∙◌, ◌≡◌}
-use Rattle.std.specs.Prelude.{Option, Some}
+use Rattle.std.specs.Prelude.{Option, None, Some}
+use Rattle.rt_base.specs.declared.ResvNo.{ResvNo}
 use Rattle.rt_order.specs.declared.Key.{Key}
 use Rattle.rt_task.specs.declared.PluginKind.TheVariants as plugins
 use Rattle.rt_task.specs.declared.PluginKind.{PluginKind}
@@ -8,14 +9,16 @@ use Rattle.rt_task.specs.declared.Protocol.TheVariants as protocols
 use Rattle.rt_task.specs.declared.Protocol.{Protocol}
 use Rattle.rt_model.specs.BaseKeys.{base_key, key_by}
 use Rattle.rt_model.specs.Boosts.{boost_by, boosts_fmlp, granted_at, mpcp_ceiling}
-use Rattle.rt_model.specs.Group.{Group, protocol, task}
+use Rattle.rt_model.specs.Group.{Group, protocol, resv, served_by, task}
 use Rattle.rt_model.specs.Past.{Past}
 use Rattle.rt_groups.proofs.TaskNumbers.{task-number}
-use Rattle.global_edf.proofs.KeyLaws.{deadline_keys_are_bases}
+use Rattle.global_edf.proofs.KeyLaws.{deadline_keys_are_bases, global_boosts}
+use Rattle.global_edf.specs.Boosts.{global_boost}
 use Rattle.global_edf.specs.DeadlineKeys.{deadline_key}
 use Rattle.rt_groups.specs.PluginKeys.{AreBaseKeys, AreBoosts}
 use Rattle.partitioned.specs.Boosts.{partitioned_boost}
 use Rattle.partitioned.specs.PriorityKeys.{priority_key}
+use Rattle.partitioned.specs.ReservationKeys.{reservation_key, resv_number}
 
 -- ---- base keys
 
@@ -29,8 +32,26 @@ priority-key g t past number = ap (λ n. record { band = 2; major = (task g t).p
 
 pub p_fp_has_base_keys : AreBaseKeys plugins.PFp (λ t released resv_prio. priority_key t)
 unfolding base_key
-p_fp_has_base_keys g t resv_prio past valid under h =
+p_fp_has_base_keys g t resv_prio past valid under h prio =
     priority-key g t past (task-number g t valid h) ∙ ap (λ (k : PluginKind). key_by g k t past) (sym under)
+
+-- the number of the task's reservation
+pub resv-number : (g : Group) (t : ℕ) → resv_number (task g t).resv ≡ served_by g t
+unfolding served_by
+resv-number g t = by_resv (task g t).resv refl
+  where
+    by_resv : (r : Option ResvNo) → (task g t).resv ≡ r → resv_number r ≡ served_by g t
+    by_resv None is = rw is refl
+    by_resv (Some r) is = rw is refl
+
+reservation-key : (g : Group) (t prio : ℕ) (past : Past) → prio ≡ (resv g (served_by g t)).prio → reservation_key (task g t) prio ≡ key_by g plugins.PRes t past
+unfolding key_by
+reservation-key g t prio past is = rw (is, resv-number g t) refl
+
+pub p_res_has_base_keys : AreBaseKeys plugins.PRes (λ t released resv_prio. reservation_key t resv_prio)
+unfolding base_key
+p_res_has_base_keys g t resv_prio past valid under h prio =
+    reservation-key g t resv_prio past (prio refl) ∙ ap (λ (k : PluginKind). key_by g k t past) (sym under)
 
 -- ---- boosts
 
@@ -48,6 +69,9 @@ partitioned_boosts kind fmlp g s t past valid under h = partitioned-boost g s t 
 
 pub psn_edf_has_boosts : AreBoosts plugins.PsnEdf partitioned_boost
 psn_edf_has_boosts = partitioned_boosts plugins.PsnEdf refl
+
+pub p_res_has_boosts : AreBoosts plugins.PRes global_boost
+p_res_has_boosts = global_boosts plugins.PRes refl
 
 pub p_fp_has_boosts : AreBoosts plugins.PFp partitioned_boost
 p_fp_has_boosts = partitioned_boosts plugins.PFp refl

@@ -2,6 +2,7 @@
 ghost use Rattle.std.specs.Prelude.{◌≡◌};
 ghost use Rattle.partitioned.specs.Boosts as boosts;
 ghost use Rattle.partitioned.specs.PriorityKeys as priorities;
+ghost use Rattle.partitioned.specs.ReservationKeys as reservations;
 
 use global_edf::{BASE_BAND, ceiling_key};
 use rt_base::Tick;
@@ -22,6 +23,23 @@ pub fn priority_key(t: &Task) -> Key
         band: BASE_BAND,
         major: u64::from(t.prio),
         minor: t.number.0,
+    }
+}
+
+/// The key of each job of the task under reservations, where the task's reservation has this priority: the smaller
+/// priority number first, ties to the lower number of the reservation.
+///
+/// Example: a client of reservation 2, whose priority number is 7, has the key (2, 7, 2).
+pub fn reservation_key(t: &Task, resv_prio: u32) -> Key
+    ensures { result ≡ reservations.reservation_key t.now resv_prio }
+{
+    Key {
+        band: BASE_BAND,
+        major: u64::from(resv_prio),
+        minor: match t.resv {
+            None => 0,
+            Some(resv) => resv.0,
+        },
     }
 }
 

@@ -1,12 +1,12 @@
 ghost use Rattle.std.specs.Prelude.{◌≡◌};
 
 use super::*;
-use rt_base::{ClusterNo, TaskNo, Tick};
+use rt_base::{ClusterNo, ResvNo, TaskNo, Tick};
 use rt_order::Key;
 use rt_task::{Kind, Name, Ops, Protocol, SemNos, Task};
 use std::alloc::Global;
 
-/// Task 3, of priority number 7, whose jobs have 5 ticks to their deadlines.
+/// Task 3, of priority number 7 and a client of reservation 2, whose jobs have 5 ticks to their deadlines.
 fn task(alloc: Global) -> Task
     ensures { result.rel_deadline ≡ 5 }
 {
@@ -22,7 +22,7 @@ fn task(alloc: Global) -> Task
         prio: 7,
         enforce: false,
         uses: SemNos::from_vec(Vec::new(alloc)),
-        resv: None,
+        resv: Some(ResvNo(2)),
         body: Ops::from_vec(Vec::new(alloc)),
         early: false,
     }
@@ -37,6 +37,7 @@ fn keys_by_deadline_and_priority(rt: HostRuntime) {
     let t = task(rt.alloc());
     assert_eq!(rt; PsnEdf.base_key(&t, Tick(20), 0), key(2, 25, 3));
     assert_eq!(rt; PFp.base_key(&t, Tick(20), 0), key(2, 7, 3));
+    assert_eq!(rt; PRes.base_key(&t, Tick(20), 5), key(2, 5, 2));
     let boosts = [
         (Protocol::Fmlp, Some(key(0, 21, 3))),
         (Protocol::Omlp, None),

@@ -1,7 +1,7 @@
 //! Reservations of a group, polling or sporadic as in LITMUS-RT's P-RES: the ready clients and the budget of each.
 #![tactic(auto)]
 
-ghost use Rattle.std.specs.Prelude.{◌≡◌, ◌≤◌, IfNone, IfOk, IfSome, IsSome, false, option_map};
+ghost use Rattle.std.specs.Prelude.{◌≡◌, ◌≤◌, IfNone, IfOk, IfSome, IsSome, None, false, length, option_map, slice_index_or};
 ghost use Rattle.rt_base.specs.declared.Tick.{Tick};
 ghost use Rattle.resv_core.specs.Served.{charged, gone, has_ready, last_of, left_of, opened, readied, settled, ticked};
 ghost use Rattle.resv_core.specs.Served.{server, server_of, with_each, with_server, IsFront, IsResv};
@@ -67,6 +67,25 @@ impl Resvs {
             servers,
             served_by,
         })
+    }
+
+    /// How many reservations the set has.
+    ///
+    /// Example: `resvs.count()` is 0 under a plugin without reservations.
+    pub fn count(&self) -> usize
+        ensures { result ≡ length self.now.servers }
+    {
+        self.servers.len()
+    }
+
+    /// The reservation of the group that serves the task; none where it is a client of none.
+    ///
+    /// Example: `resvs.server_of(TaskNo(2))` is the reservation that task 2 names in the set.
+    pub fn server_of(&self, task: TaskNo) -> Option<ResvNo>
+        ensures server { result ≡ server_of self.now task.0 }
+        ensures resv { IfSome result (λ r. IsResv self.now r.0) }
+    {
+        resv_at(self.served_by.as_slice(), task)
     }
 
     /// The client is ready, with a job of this release. It may have been ready with another.
@@ -160,6 +179,13 @@ impl Resvs {
     {
         self.servers[r.0 as usize - 1].front()
     }
+}
+
+/// The reservation at the task's number.
+fn resv_at(served_by: &[Option<ResvNo>], task: TaskNo) -> Option<ResvNo>
+    ensures { result ≡ slice_index_or served_by.now task.0 None }
+{
+    served_by.get(task.0 as usize).copied().flatten()
 }
 
 #[cfg(test)]

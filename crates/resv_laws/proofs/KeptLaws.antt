@@ -32,7 +32,7 @@ unfolding clients tasks
 distinct-clients g r = distinct-filter _ (tasks g) (distinct-filter _ _ (distinct-numbers_from 1 (length g.setup.tasks)))
 
 -- a client's number is that of a task of the set
-client-numbered : (g : Group) (r t : ℕ) → has t (clients g r) ≡ true → t < length g.setup.tasks + 1
+pub client-numbered : (g : Group) (r t : ℕ) → has t (clients g r) ≡ true → t < length g.setup.tasks + 1
 unfolding clients tasks
 client-numbered g r t h =
     let in_tasks : has t (filter (λ u. in_group g (home g u)) (numbers_from 1 (length g.setup.tasks))) ≡ true = (both _ _ (rw has-filter at h)).0 in
@@ -144,7 +144,7 @@ module _ (g : Group) (r : ℕ) (past : Past) (b : ℕ) (rs rs' : List (Option �
 abbrev standing : (g : Group) → ℕ → Past → List (Option ℕ) → ServerState
 standing g r past rs = state (resv g r).kind (resv g r).budget (resv g r).period rs (refilled g r past) (spent g r past) (is_lost g r past)
 
-state-standing : (g : Group) (r : ℕ) (past : Past) (s : ServerState) → IsStateOf g r past s → s ≡ standing g r past s.releases
+pub state-standing : (g : Group) (r : ℕ) (past : Past) (s : ServerState) → IsStateOf g r past s → s ≡ standing g r past s.releases
 state-standing g r past s is =
     ap (λ k. state k s.budget s.period s.releases s.refilled s.spent s.lost) is.kind
     ∙ ap (λ b. state (resv g r).kind b s.period s.releases s.refilled s.spent s.lost) is.budget
@@ -153,10 +153,10 @@ state-standing g r past s is =
     ∙ ap (λ n. state (resv g r).kind (resv g r).budget (resv g r).period s.releases (refilled g r past) n s.lost) is.spent
     ∙ ap (λ l. state (resv g r).kind (resv g r).budget (resv g r).period s.releases (refilled g r past) (spent g r past) l) is.lost
 
-standing-state : (g : Group) (r : ℕ) (past : Past) (rs : List (Option ℕ)) → AreClientsOf g r past rs → IsStateOf g r past (standing g r past rs)
+pub standing-state : (g : Group) (r : ℕ) (past : Past) (rs : List (Option ℕ)) → AreClientsOf g r past rs → IsStateOf g r past (standing g r past rs)
 standing-state g r past rs are = record { kind = refl; budget = refl; period = refl; refilled = refl; spent = refl; lost = refl; clients_of = are }
 
-begun-releases : (g : Group) (r : ℕ) (e : Event) (past : Past) (s : ServerState) → (begun g r e past s).releases ≡ s.releases
+pub begun-releases : (g : Group) (r : ℕ) (e : Event) (past : Past) (s : ServerState) → (begun g r e past s).releases ≡ s.releases
 begun-releases g r (Clock tick) past s = by_kind s.kind
   where
     by_refill : (x : Bool) → (if x then refilled_at (now (Clock tick ∷ past)) s else s).releases ≡ s.releases
@@ -218,14 +218,21 @@ opened-settled g r Sporadic b p rs h = sporadic-settled 0 b p rs None 0 false (a
     by_case true = refl
     by_case false = refl
 
-none_there : (n u : ℕ) → release_at (replicate n None) u ≡ None
+pub none_there : (n u : ℕ) → release_at (replicate n None) u ≡ None
 none_there zero u = refl
 none_there (suc n) zero = refl
 none_there (suc n) (suc u) = none_there n u
 
-standing-opened : (g : Group) (r : ℕ) (rs : List (Option ℕ)) → has_ready rs ≡ any_ready g r [] → settled 0 (state (resv g r).kind (resv g r).budget (resv g r).period rs (words.first_refill (resv g r).kind) 0 false) ≡ standing g r [] rs
+pub standing-opened : (g : Group) (r : ℕ) (rs : List (Option ℕ)) → has_ready rs ≡ any_ready g r [] → settled 0 (state (resv g r).kind (resv g r).budget (resv g r).period rs (words.first_refill (resv g r).kind) 0 false) ≡ standing g r [] rs
 unfolding refilled spent is_lost
 standing-opened g r rs h = opened-settled g r (resv g r).kind (resv g r).budget (resv g r).period rs h
+
+-- in whatever order the clients are told
+pub opening_in_any_order : (g : Group) (r : ℕ) (rs : List (Option ℕ)) → AreClientsOf g r [] rs → IsStateOf g r [] (settled 0 (record (opened_server g.setup g.number (resv g r)) { releases = rs }))
+opening_in_any_order g r rs are = subst (IsStateOf g r []) (sym (standing-opened g r rs (table-ready g r [] rs are.ready_at))) (standing-state g r [] rs are)
+
+pub opened-releases : (g : Group) (r : ℕ) → is_here g.setup g.number (resv g r) ≡ true → length (opened_server g.setup g.number (resv g r)).releases ≡ length g.setup.tasks + 1
+opened-releases g r here = length-replicate _ _ ∙ ap (λ b. if b then length g.setup.tasks + 1 else 0) here
 
 pub opening_is_kept : OpeningIsKept
 opening_is_kept g r low high here =
@@ -233,7 +240,7 @@ opening_is_kept g r low high here =
     let before : ℕ → Option ℕ = λ t. None in
     let after : ℕ → Option ℕ = λ t. ready_release g t [] in
     let last : ServerState = told before after (clients g r) first in
-    let wide : length first.releases ≡ length g.setup.tasks + 1 = length-replicate _ _ ∙ ap (λ b. if b then length g.setup.tasks + 1 else 0) here in
+    let wide : length first.releases ≡ length g.setup.tasks + 1 = opened-releases g r here in
     let inside : (t : ℕ) → has t (clients g r) ≡ true → t < length first.releases = (λ t h. let small = client-numbered g r t h in omega (arith, small, wide)) in
     let had : (u : ℕ) → release_at first.releases u ≡ (if has u (clients g r) then before u else None) = (λ u. none_there _ u ∙ sym (either_none (has u (clients g r)))) in
     let are : AreClientsOf g r [] last.releases = record {

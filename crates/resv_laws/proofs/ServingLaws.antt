@@ -29,7 +29,7 @@ use Rattle.resv_laws.proofs.ValidClients.{IsTied, resv-there, tied}
 
 -- ---- one reservation among the others
 
-server-set : (v : Served) (k r : ℕ) (x : ServerState) → 1 ≤ k → IsResv v r → server (with_server v k x) r ≡ (if k == r then x else server v r)
+pub server-set : (v : Served) (k r : ℕ) (x : ServerState) → 1 ≤ k → IsResv v r → server (with_server v k x) r ≡ (if k == r then x else server v r)
 server-set v k r x low is = by_case (k == r) refl
   where
     inside : r - 1 < length v.servers
@@ -44,7 +44,7 @@ server-set v k r x low is = by_case (k == r) refl
         get_or-set_other v.servers (k - 1) (r - 1) x no_server ne
 
 -- a call for a task changes the reservation that serves it
-for_task-server : (v : Served) (t k r : ℕ) (change : ServerState → ServerState) → server_of v t ≡ Some (record { 0 = k }) → 1 ≤ k → IsResv v r → server (for_task t change v) r ≡ (if k == r then change (server v r) else server v r)
+pub for_task-server : (v : Served) (t k r : ℕ) (change : ServerState → ServerState) → server_of v t ≡ Some (record { 0 = k }) → 1 ≤ k → IsResv v r → server (for_task t change v) r ≡ (if k == r then change (server v r) else server v r)
 for_task-server v t k r change serves low is = ap (λ o. server (at_server o change v) r) serves ∙ server-set v k r (change (server v k)) low is ∙ by_case (k == r) refl
   where
     by_case : (b : Bool) → k == r ≡ b → (if b then change (server v k) else server v r) ≡ (if b then change (server v r) else server v r)
@@ -52,25 +52,25 @@ for_task-server v t k r change serves low is = ap (λ o. server (at_server o cha
     by_case false e = refl
 
 -- and nothing else
-record Keeps (old new : Served) : Type 0 where
-  clock : new.clock ≡ old.clock
-  numbers : length new.servers ≡ length old.servers
-  served_by : new.served_by ≡ old.served_by
+pub record Keeps (old new : Served) : Type 0 where
+  pub clock : new.clock ≡ old.clock
+  pub numbers : length new.servers ≡ length old.servers
+  pub served_by : new.served_by ≡ old.served_by
 
-keeps-self : (v : Served) → Keeps v v
+pub keeps-self : (v : Served) → Keeps v v
 keeps-self v = record { clock = refl; numbers = refl; served_by = refl }
 
-keeps-then : (u v w : Served) → Keeps u v → Keeps v w → Keeps u w
+pub keeps-then : (u v w : Served) → Keeps u v → Keeps v w → Keeps u w
 keeps-then u v w h k = record { clock = k.clock ∙ h.clock; numbers = k.numbers ∙ h.numbers; served_by = k.served_by ∙ h.served_by }
 
-for_task-keeps : (v : Served) (t : ℕ) (change : ServerState → ServerState) → Keeps v (for_task t change v)
+pub for_task-keeps : (v : Served) (t : ℕ) (change : ServerState → ServerState) → Keeps v (for_task t change v)
 for_task-keeps v t change = by_case (server_of v t)
   where
     by_case : (o : Option ResvNo) → Keeps v (at_server o change v)
     by_case None = keeps-self v
     by_case (Some r) = record { clock = refl; numbers = length-set v.servers (r.0 - 1) (change (server v r.0)); served_by = refl }
 
-resv-kept : (old new : Served) (r : ℕ) → Keeps old new → IsResv old r → IsResv new r
+pub resv-kept : (old new : Served) (r : ℕ) → Keeps old new → IsResv old r → IsResv new r
 resv-kept old new r k is = let h = is.high in let e = k.numbers in record { low = is.low; high = omega (arith, h, e) }
 
 -- ---- what is told
@@ -126,7 +126,7 @@ module _ (g : Group) (before after : ℕ → Option ℕ) where
 
 -- ---- what is changed for each
 
-each-server : (v : Served) (r : ℕ) (change : ServerState → ServerState) → IsResv v r → server (with_each change v) r ≡ change (server v r)
+pub each-server : (v : Served) (r : ℕ) (change : ServerState → ServerState) → IsResv v r → server (with_each change v) r ≡ change (server v r)
 each-server v r change is = let l = is.low in let h = is.high in get_or-map change v.servers (r - 1) no_server no_server (omega (arith, l, h))
 
 -- ---- a move
@@ -169,11 +169,11 @@ module _ (g : Group) (past : Past) (v : Served) (serving : IsServing g past v) w
       idle = unless (works g r (Acted d)) (λ h. let q = any-has (λ u. is_work (did u (Acted d))) (clients g r) h in let clash : true ≡ false = sym q.2 ∙ nothing q.0 in cc)
 
 -- how a move begins
-record IsBegun (g : Group) (e : Event) (past : Past) (v : Served) : Type 0 where
-  clock : (all_begun e past v).clock ≡ now (e ∷ past)
-  numbers : length (all_begun e past v).servers ≡ length v.servers
-  served_by : (all_begun e past v).served_by ≡ v.served_by
-  each : (r : ℕ) → IsResv v r → server (all_begun e past v) r ≡ begun g r e past (server v r)
+pub record IsBegun (g : Group) (e : Event) (past : Past) (v : Served) : Type 0 where
+  pub clock : (all_begun e past v).clock ≡ now (e ∷ past)
+  pub numbers : length (all_begun e past v).servers ≡ length v.servers
+  pub served_by : (all_begun e past v).served_by ≡ v.served_by
+  pub each : (r : ℕ) → IsResv v r → server (all_begun e past v) r ≡ begun g r e past (server v r)
 
 begun-act : (g : Group) → IsValid g.setup → g.setup.plugin ≡ PRes → (past : Past) (v : Served) → IsReachable g past → IsServing g past v → (q : ℕ) (d : PastAct) → d.task ≡ runs q past → IsBegun g (Acted d) past v
 begun-act g valid plugin past v reachable serving q d runs_it = record {
@@ -205,7 +205,7 @@ begun-clock g past v serving tick = record {
   each = λ r there. each-server v r (ticked v.clock (now (Clock tick ∷ past))) there ∙ ap (λ c. ticked c (now (Clock tick ∷ past)) (server v r)) serving.clock;
 }
 
-all-begun : (g : Group) → IsValid g.setup → g.setup.plugin ≡ PRes → {past : Past} {e : Event} → (v : Served) → IsReachable g past → IsMove g past e → IsServing g past v → IsBegun g e past v
+pub all-begun : (g : Group) → IsValid g.setup → g.setup.plugin ≡ PRes → {past : Past} {e : Event} → (v : Served) → IsReachable g past → IsMove g past e → IsServing g past v → IsBegun g e past v
 all-begun g valid plugin {past} v reachable (clock_moves tick) serving = begun-clock g past v serving tick
 all-begun g valid plugin {past} v reachable (cpu_acts q a) serving = begun-act g valid plugin past v reachable serving q (past_act g q a past) (past_act-task g q a past)
 
@@ -277,7 +277,7 @@ read-task : (ts : List Task) (f : Task → Option ResvNo) (t : ℕ) → 1 ≤ t 
 read-task ts f zero low inside = absurd (omega arith)
 read-task ts f (suc n) low inside = let e : suc n - 1 ≡ n = omega arith in let place : n < length ts = omega (arith, inside) in rw e (get_or-map f ts n no_task None place)
 
-opened-serves : (g : Group) (t : ℕ) → IsTied g t → server_of (opened g.setup g.number) t ≡ Some (record { 0 = served_by g t })
+pub opened-serves : (g : Group) (t : ℕ) → IsTied g t → server_of (opened g.setup g.number) t ≡ Some (record { 0 = served_by g t })
 unfolding opened task resv
 opened-serves g t tie =
     let k : ℕ = served_by g t in
@@ -291,15 +291,15 @@ opened-serves g t tie =
     ∙ ap (λ b. if b && is_resv_here g.setup g.number (slice_get g.setup.resvs (k - 1)) then Some (record { 0 = k }) else None) some
     ∙ ap (λ b. if b then Some (record { 0 = k }) else None) here
 
-opened-server : (g : Group) (r : ℕ) → IsResv (opened g.setup g.number) r → server (opened g.setup g.number) r ≡ opened_server g.setup g.number (resv g r)
+pub opened-server : (g : Group) (r : ℕ) → IsResv (opened g.setup g.number) r → server (opened g.setup g.number) r ≡ opened_server g.setup g.number (resv g r)
 unfolding opened resv
 opened-server g r there = let l = there.low in let h = there.high in get_or-map (opened_server g.setup g.number) g.setup.resvs (r - 1) no_resv no_server (omega (arith, l, h, length-map g.setup.resvs (opened_server g.setup g.number)))
 
-opened-numbers : (g : Group) → length (opened g.setup g.number).servers ≡ length g.setup.resvs
+pub opened-numbers : (g : Group) → length (opened g.setup g.number).servers ≡ length g.setup.resvs
 unfolding opened
 opened-numbers g = length-map g.setup.resvs (opened_server g.setup g.number)
 
-opened-clock : (g : Group) → (opened g.setup g.number).clock ≡ 0
+pub opened-clock : (g : Group) → (opened g.setup g.number).clock ≡ 0
 unfolding opened
 opened-clock g = refl
 

@@ -4,7 +4,8 @@
 
 ghost use Rattle.resv_laws.specs.Kept.{MoveIsKept, MoveIsKeptInAnyOrder, OpeningIsKept, StateIsShown, WorkFindsBudget};
 ghost use Rattle.resv_laws.specs.Serving.{AllMovedAreServing, AllMovedInAnyOrder, AllOpenedAreServing};
-ghost use Rattle.resv_laws.specs.Serving.{WorkMayBeCharged};
+ghost use Rattle.resv_laws.specs.Serving.{AllOpenedInAnyOrder, ClientsAreListed, EachIsTold};
+ghost use Rattle.resv_laws.specs.Serving.{NobodyIsListed, WorkMayBeCharged};
 
 /// At the opening, once the ready clients are told and it is settled, the state is that of the empty past.
 pub fn opening_is_kept()
@@ -46,6 +47,26 @@ pub fn all_moved_are_serving()
 /// So they do in whatever order the clients are told.
 pub fn all_moved_in_any_order()
     ensures { AllMovedInAnyOrder }
+{}
+
+/// The opening makes it so too in whatever order the clients are told.
+pub fn all_opened_in_any_order()
+    ensures { AllOpenedInAnyOrder }
+{}
+
+/// The clients are told where each is whose readiness or release changed.
+pub fn each_is_told()
+    ensures { EachIsTold }
+{}
+
+/// At the opening no client is listed as ready.
+pub fn nobody_is_listed()
+    ensures { NobodyIsListed }
+{}
+
+/// As a move begins the ready clients are listed with their releases in the past before it.
+pub fn clients_are_listed()
+    ensures { ClientsAreListed }
 {}
 
 /// A task that does an accepted Work has a reservation that may be charged.

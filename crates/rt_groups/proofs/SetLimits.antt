@@ -3,8 +3,8 @@ use Rattle.std.proofs.Common.{List, [], arith, eqb-true, leb-true, length, ltb-t
 use Rattle.std.proofs.lemmas.List.{length-map}
 use Rattle.std.proofs.lemmas.List.Sums.{sum_by-cons}
 use Rattle.std.specs.Prelude.{nat_le, nat_lt, slice_index_or, sum_by}
-use Rattle.rt_base.specs.declared.TheConstants.{MOST_CLUSTERS, MOST_CPUS, MOST_TASKS, TICK_END}
-use Rattle.rt_task.specs.Draft.{draft_cluster, draft_of}
+use Rattle.rt_base.specs.declared.TheConstants.{MOST_CLUSTERS, MOST_CPUS, MOST_RESVS, MOST_SEMS, MOST_TASKS, TICK_END}
+use Rattle.rt_task.specs.Draft.{draft_cluster, draft_of, draft_resv}
 use Rattle.rt_task.specs.Lookups as lookups
 use Rattle.rt_task.specs.NameRules.{task_name}
 use Rattle.rt_task.specs.RangeRules.{task_range}
@@ -33,6 +33,7 @@ record IsFew (p : Parts) : Type 0 where
   clusters : length p.clusters ≤ MOST_CLUSTERS
   cpus : processor_count p ≤ MOST_CPUS
   tasks : length p.tasks ≤ MOST_TASKS
+  resvs : length p.resvs ≤ MOST_RESVS
 
 is_few : (p : Parts) → IsValid p → IsFew p
 unfolding whole_size lookups.cpus
@@ -41,10 +42,12 @@ is_few p valid =
     let by_clusters = both (nat_le (length d.clusters) MOST_CLUSTERS) _ (passes_rows p valid).size in
     let by_cpus = both (nat_le (lookups.cpus d) MOST_CPUS) _ by_clusters.1 in
     let by_tasks = both (nat_le (length d.tasks) MOST_TASKS) _ by_cpus.1 in
+    let by_resvs = both (nat_le (length d.resvs) MOST_RESVS) _ (both (nat_le (length d.sems) MOST_SEMS) _ by_tasks.1).1 in
     record {
       clusters = rw (length-map p.clusters draft_cluster) at (leb-true (length d.clusters) MOST_CLUSTERS by_clusters.0);
       cpus = rw (cpus-drafted p.clusters) at (leb-true (lookups.cpus d) MOST_CPUS by_cpus.0);
       tasks = rw (length-map p.tasks drafted) at (leb-true (length d.tasks) MOST_TASKS by_tasks.0);
+      resvs = rw (length-map p.resvs draft_resv) at (leb-true (length d.resvs) MOST_RESVS by_resvs.0);
     }
 
 has_cpus : (p : Parts) → IsValid p → (c : ℕ) → c < length p.clusters → 1 ≤ (slice_index_or p.clusters c no_cluster).cpus
@@ -109,6 +112,7 @@ sets_are_in_limits p valid =
       few_clusters = few.clusters;
       few_cpus = few.cpus;
       few_tasks = few.tasks;
+      few_resvs = few.resvs;
       has_cpus = has_cpus p valid;
       tasks_in = task-in p valid;
     }

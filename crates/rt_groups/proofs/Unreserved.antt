@@ -1,8 +1,16 @@
--- A set that is played has no reservations.
-use Rattle.std.proofs.Common.{◌≡◌, Bool, true, false, not, refl, sym}
+-- A set has reservations under P-RES alone, and one that is played has none.
+use Rattle.std.proofs.Common.{◌≡◌, Bool, true, false, not, List, [], ◌∷◌, ◌++◌, length, refl, sym}
+use Rattle.std.specs.Prelude.{None, Some, map, if◌then◌else◌}
+use Rattle.rt_task.specs.Draft.{draft_of, draft_resv}
+use Rattle.rt_task.specs.Refusals.{first_failing}
+use Rattle.rt_task.specs.SharingRules.{resv_sharing}
+use Rattle.rt_task.specs.Validity.{IsValid}
 use Rattle.rt_task.specs.declared.Parts.{Parts}
+use Rattle.rt_task.specs.declared.Resv.{Resv}
+use Rattle.rt_task.specs.declared.draft.DraftResv.{DraftResv}
 use Rattle.rt_task.specs.RuleWords.{is_p_res}
 use Rattle.rt_groups.specs.Built.{is_built}
+use Rattle.rt_groups.proofs.ValidRows.{passes_rows}
 
 not-true : (b : Bool) → not b ≡ true → b ≡ false
 not-true true h = sym h
@@ -10,3 +18,15 @@ not-true false h = refl
 
 pub built-unreserved : (p : Parts) → is_built p ≡ true → is_p_res p.plugin ≡ false
 built-unreserved p built = not-true (is_p_res p.plugin) built
+
+pub no_resvs : (p : Parts) → IsValid p → is_p_res p.plugin ≡ false → p.resvs ≡ []
+unfolding resv_sharing
+no_resvs p valid plain = by_resvs p.resvs (passes_rows p valid).resvs
+  where
+    by_resvs : (rs : List Resv) → first_failing (resv_sharing (draft_of p)) [] (map draft_resv rs) ≡ None → rs ≡ []
+    by_resvs [] h = refl
+    by_resvs (r ∷ rs) h = absurd (clash (is_p_res (draft_of p).plugin) plain h)
+      where
+        clash : (b : Bool) → b ≡ false → (if b then first_failing (resv_sharing (draft_of p)) ([] ++ draft_resv r ∷ []) (map draft_resv rs) else Some (length {A = DraftResv} [])) ≡ None → ⊥
+        clash true e k = cc
+        clash false e k = cc

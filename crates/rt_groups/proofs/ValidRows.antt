@@ -1,9 +1,11 @@
--- Rows of the table of rules that a valid set passes: that of sizes, and that of clusters with the clusters before each.
+-- Rows of the table of rules that a valid set passes: that of sizes, that of clusters with the clusters before each, and that of
+-- reservations and what they share.
 use Rattle.std.proofs.Common.{Bool, List, [], false, length, refl, true, ℕ, ◌++◌, ◌∷◌, ◌≡◌}
 use Rattle.std.specs.Prelude.{None, Option, Some, if◌then◌else◌, option_map}
 use Rattle.rt_task.specs.Draft.{draft_of}
 use Rattle.rt_task.specs.RangeRules.{cluster_range}
 use Rattle.rt_task.specs.Refusals.{bad, each, first, first_failing}
+use Rattle.rt_task.specs.SharingRules.{resv_sharing}
 use Rattle.rt_task.specs.SizeRules.{whole_size}
 use Rattle.rt_task.specs.Validity.{IsValid, name_rows, range_rows, refusal, refusal_of, sharing_rows, size_rows, task_shape, whole_refusal}
 use Rattle.rt_task.specs.declared.Parts.{Parts}
@@ -21,6 +23,7 @@ none-fails kind part (Some n) h = cc
 pub record PassesRows (p : Parts) : Type 0 where
   pub clusters : first_failing (cluster_range (draft_of p)) [] (draft_of p).clusters ≡ None
   pub size : whole_size (draft_of p) ≡ true
+  pub resvs : first_failing (resv_sharing (draft_of p)) [] (draft_of p).resvs ≡ None
 
 pub passes_rows : (p : Parts) → IsValid p → PassesRows p
 unfolding refusal_of whole_refusal refusal
@@ -29,10 +32,12 @@ passes_rows p valid =
     let all = all-none (each kinds.Shape parts.Task (task_shape d) d.tasks ∷ refusal d ∷ []) valid in
     let table = all-none (first (range_rows d) ∷ first (name_rows d) ∷ first (sharing_rows d) ∷ first (size_rows d) ∷ []) all.1.0 in
     let range = all-none (range_rows d) table.0 in
+    let sharing = all-none (sharing_rows d) table.1.1.0 in
     let size = all-none (size_rows d) table.1.1.1.0 in
     record {
       clusters = none-fails kinds.Range parts.Cluster (first_failing (cluster_range d) [] d.clusters) range.1.0;
       size = whole-none kinds.Size (whole_size d) size.0;
+      resvs = none-fails kinds.Sharing parts.Resv (first_failing (resv_sharing d) [] d.resvs) sharing.1.0;
     }
 
 -- the first element passes, and so do those after it

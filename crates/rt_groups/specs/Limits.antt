@@ -1,6 +1,6 @@
 -- The numbers of a valid setup are within the limits.
 use Rattle.std.specs.Prelude.{◌≡◌, ℕ, ◌+◌, ◌<◌, ◌≤◌, length, slice_index_or}
-use Rattle.rt_base.specs.declared.TheConstants.{MOST_CLUSTERS, MOST_CPUS, MOST_TASKS, TICK_END}
+use Rattle.rt_base.specs.declared.TheConstants.{MOST_CLUSTERS, MOST_CPUS, MOST_RESVS, MOST_TASKS, TICK_END}
 use Rattle.rt_task.specs.declared.Parts.{Parts}
 use Rattle.rt_task.specs.declared.Task.{Task}
 use Rattle.rt_task.specs.Validity.{IsValid}
@@ -20,6 +20,7 @@ pub record IsInLimits (p : Parts) : Type 0 where
   pub few_clusters : length p.clusters ≤ MOST_CLUSTERS
   pub few_cpus : processor_count p ≤ MOST_CPUS
   pub few_tasks : length p.tasks ≤ MOST_TASKS
+  pub few_resvs : length p.resvs ≤ MOST_RESVS
   pub has_cpus : (c : ℕ) → c < length p.clusters → 1 ≤ (slice_index_or p.clusters c no_cluster).cpus
   pub tasks_in : (i : ℕ) → i < length p.tasks → IsTaskInLimits (i + 1) (length p.clusters) (slice_index_or p.tasks i no_task)
 

@@ -1,7 +1,6 @@
 //! An engine whose requests are counted.
 ghost use Rattle.std.specs.Prelude.{◌≡◌, ◌<◌, ◌≤◌, [], true, false, IfOk};
 ghost use Rattle.rt_base.specs.declared.TheConstants.{MOST_STEPS};
-ghost use Rattle.rt_task.specs.RuleWords.{is_p_res};
 ghost use Rattle.rt_model.specs.Steps.{IsStepOf};
 ghost use Rattle.rt_model.specs.Histories.{reply_to};
 ghost use Rattle.rt_groups.specs.Groups.{IsGroupOf, group_of, past, with_entry};
@@ -47,7 +46,6 @@ impl Counted {
     ) -> Result<Counted, NoMemory>
         requires group { IsGroupOf setup.now group.0 }
         requires room { room ≤ MOST_STEPS }
-        requires unreserved { is_p_res setup.now.plugin ≡ false }
         ensures { IfOk result (λ r. r
             ≡ record { setup = setup.now; group = group.0; entries = []; spare = room }) }
     {

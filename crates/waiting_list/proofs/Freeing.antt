@@ -108,7 +108,7 @@ module _ (at : Moment) (p : Parts) (k : Kept) (v : GroupSems) (q : ℕ) (act : A
         ∙ ap (λ (x : SemState). map (waiter at.group at.past) x.waiting) state-is
 
     pub listed-can : CanRankAll p k (state_of v.table s).waiting
-    listed-can = λ t h. subst (λ (x : Parts). CanRankTask x k t) (sym can.parts_are) (can-rank-task at.group can.valid can.unreserved at.past k can.jobs_are can.few can.clock_low t (few-tasks.of_group t h))
+    listed-can = λ t h. subst (λ (x : Parts). CanRankTask x k t) (sym can.parts_are) (can-rank-task at.group can.valid at.past k can.jobs_are can.few can.clock_low t (few-tasks.of_group t h))
 
     pub listed-few : length (state_of v.table s).waiting ≤ room
     listed-few = omega (arith, few-tasks.few, tasks-few at.group, can.has_room)

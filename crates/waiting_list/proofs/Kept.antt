@@ -1,7 +1,6 @@
 -- What is kept of a group's tasks is within the limits.
 use Rattle.std.proofs.Common.{◌≡◌, ℕ, ◌+◌, ◌-◌, ◌<◌, ◌≤◌, true, false, length, refl, sym, ap, subst, ◌∙◌, arith}
 use Rattle.rt_base.specs.declared.TheConstants.{MOST_STEPS, TICK_END}
-use Rattle.rt_task.specs.RuleWords.{is_p_res}
 use Rattle.rt_task.specs.Validity.{IsValid}
 use Rattle.rt_rules.specs.Numbers.{has}
 use Rattle.rt_model.specs.Group.{Group, home, in_group, task, tasks}
@@ -59,10 +58,9 @@ module _ (g : Group) (valid : IsValid g.setup) where
   unfolding home task
   home-read t = refl
 
-  module _ (unreserved : is_p_res g.setup.plugin ≡ false) (past : Past) (k : Kept) (kept : IsKept g past k) (few : entries_in past ≤ MOST_STEPS) (clock_low : now past < TICK_END) where
+  module _ (past : Past) (k : Kept) (kept : IsKept g past k) (few : entries_in past ≤ MOST_STEPS) (clock_low : now past < TICK_END) where
     can-rank : (c : ℕ) → in_group g c ≡ true → c < length g.setup.clusters → CanRank g.setup k c
     can-rank c inside there = record {
-      unreserved = unreserved;
       limits = sets_are_in_limits g.setup valid;
       there = there;
       tasks = λ t low high home_is.

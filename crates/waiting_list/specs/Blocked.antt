@@ -2,7 +2,6 @@
 use Rattle.std.specs.Prelude.{◌≡◌, ℕ, ◌≤◌, ◌<◌, Bool, true, false, ◌&&◌, ◌==◌, nat_lt, List, length, map, count_by, slice_index_or}
 use Rattle.rt_task.specs.declared.Parts.{Parts}
 use Rattle.rt_task.specs.declared.Task.{Task}
-use Rattle.rt_task.specs.RuleWords.{is_p_res}
 use Rattle.rt_order.specs.declared.Key.{Key}
 use Rattle.rt_order.specs.KeyOrder.{higher}
 use Rattle.rt_rules.specs.Numbers.{has}
@@ -42,7 +41,6 @@ module _ (p : Parts) (k : Kept) where
 
   -- the tasks of a cluster are kept, within the limits
   pub record CanRank (c : ℕ) : Type 0 where
-    pub unreserved : is_p_res p.plugin ≡ false
     pub limits : IsInLimits p
     pub there : c < length p.clusters
     pub tasks : (t : ℕ) → 1 ≤ t → t ≤ length p.tasks → home_in p t ≡ c → IsTaskOf k p.tasks t

@@ -6,7 +6,6 @@ use Rattle.rt_task.specs.declared.Act.{Act}
 use Rattle.rt_task.specs.declared.Act.TheVariants as acts
 use Rattle.rt_task.specs.declared.Op.TheVariants as ops
 use Rattle.rt_task.specs.declared.Parts.{Parts}
-use Rattle.rt_task.specs.RuleWords.{is_p_res}
 use Rattle.rt_task.specs.Validity.{IsValid}
 use Rattle.rt_rules.specs.Numbers.{is}
 use Rattle.rt_rules.specs.SemState.{Frees}
@@ -43,10 +42,9 @@ abbrev pub AreWaitersAt : Moment → ℕ → Act → List Waiter → Type 0
 AreWaitersAt at q act ws =
     (t s : ℕ) → act_by act (answer at.group q act at.past) (runs q at.past) ≡ Frees t s → AreWaiters at.group s at.past ws
 
--- what is kept of jobs and semaphores is of this moment of a group, which has no reservations, and the act is one of its processors'
+-- what is kept of jobs and semaphores is of this moment of a group, and the act is one of its processors'
 pub record CanList (at : Moment) (p : Parts) (k : Kept) (v : GroupSems) (q : ℕ) (act : Act) (room : ℕ) : Type 0 where
   pub valid : IsValid at.group.setup
-  pub unreserved : is_p_res at.group.setup.plugin ≡ false
   pub reachable : IsReachable at.group at.past
   pub few : entries_in at.past ≤ MOST_STEPS
   pub clock_low : now at.past < TICK_END

@@ -7,7 +7,6 @@ use Rattle.rt_plays.specs.Room.{room}
 use Rattle.rtsim.specs.Groups.{opened}
 use Rattle.rt_groups.specs.Groups.{GroupHistory}
 use Rattle.rt_groups.proofs.GroupCount.{groups_are_counted}
-use Rattle.rt_groups.proofs.Unreserved.{built-unreserved}
 use Rattle.trace_text.proofs.GroupLaws.{groups-few}
 use Rattle.trace_laws.proofs.Plays.{room-few}
 use Rattle.rtsim.proofs.Numbered.{length-numbered, numbered-push, pushed}
@@ -34,9 +33,6 @@ open-requires-clause-room c =
     let count : length c.args.rooms.now ≡ group_count p = ap length c.requires.rooms ∙ length-numbered (λ n. room (group_with p n)) 0 (group_count p) in
     let here : get_or c.args.rooms.now c.loop-n.n 0 ≡ room (group_with p c.loop-n.n) = at-group (λ n. room (group_with p n)) c.args.rooms.now (group_count p) c.loop-n.n 0 c.requires.rooms (omega (arith, count, c.loop-n-test.true)) in
     omega (arith, here, room-few (group_with p c.loop-n.n) c.requires.valid)
-
-pub open-requires-clause-unreserved : goal.open-requires-clause-unreserved
-open-requires-clause-unreserved c = built-unreserved c.args.setup.now c.requires.built
 
 pub returns : goal.returns
 returns c =

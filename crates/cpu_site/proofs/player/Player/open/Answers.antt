@@ -7,7 +7,6 @@ use Rattle.rt_task.specs.declared.Step.{Step}
 use Rattle.rt_rules.specs.Numbers.{has}
 use Rattle.rt_model.specs.Group.{group_processors}
 use Rattle.rt_groups.specs.Groups.{GroupHistory}
-use Rattle.rt_groups.proofs.Unreserved.{built-unreserved}
 use Rattle.rt_plays.specs.Drives.{steps_given}
 use Rattle.rt_plays.specs.Order.{steps_in_group}
 use Rattle.rt_plays.specs.Plays.{group_with}
@@ -35,9 +34,6 @@ overflow_cast-len c =
     let few = group-steps_few (group_with c.args.setup.now c.args.group.0) c.parts.ensures.valid in
     let low : c.len.result ≤ MOST_STEPS = omega (arith, few, ap length are, c.in_ok-steps.steps.ok.0, c.len.ensures) in
     search (arith, low)
-
-pub open-requires-clause-unreserved : goal.open-requires-clause-unreserved
-open-requires-clause-unreserved c = built-unreserved c.args.setup.now c.requires.built
 
 pub open-requires-clause-room : goal.open-requires-clause-room
 open-requires-clause-room c =

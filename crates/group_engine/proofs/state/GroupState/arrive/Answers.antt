@@ -67,9 +67,9 @@ returns-then-is_accepted-clause-acted c = λ at on.
     let done : answer at.group c.args.cpu.0 (acts.Arrive c.args.task) at.past ≡ replies.Done = sym answer_is ∙ reply_done in
     record {
       reply_is = answer_is;
-      kept =
+      ending =
           let at_end = has_arrived-at at.group c.args.cpu.0 c.args.task at.past c.args.self.now be done c.arrive.new.self c.arrive.ensures.kept in
-          rw (c.place_changed.ensures, c.bring_up.ensures, c.tell_base.ensures, on.parts_are) at_end;
+          rw (c.bring_up.ensures, c.tell_base.ensures, on.parts_are) at_end;
     }
 
 pub returns-else-is_accepted-clause-acted : goal.returns-else-is_accepted-clause-acted
@@ -81,5 +81,5 @@ returns-else-is_accepted-clause-acted c = λ at on.
     let out : accepted c.arrival_reply-reply.result ≡ false = sym c.is_accepted.ensures ∙ c.if-is_accepted.false in
     record {
       reply_is = answer_is;
-      kept = refused at.group c.args.cpu.0 (acts.Arrive c.args.task) at.past c.args.self.now be (ap accepted (sym answer_is) ∙ out);
+      ending = refused at.group c.args.cpu.0 (acts.Arrive c.args.task) at.past c.args.self.now be (ap accepted (sym answer_is) ∙ out);
     }

@@ -19,6 +19,6 @@ bring_up_three-requires c = λ t h.
 pub returns : goal.returns
 returns c =
     follow-told c.args.parts.now c.args.cpu.0 c.args.task.0 c.args.op c.args.reply c.args.sem.0 (number_of_task c.args.before) (number_of_task c.owner-after.result) (number_of_task c.args.served)
-    c.args.self.now c.holds_none-none.result c.leaves_processor.result c.operate-ends.result c.operate-ends.new.self c.quit_if.new.self c.bring_up.new.self c.bring_up_three.new.self c.place_changed.new.self
+    c.args.self.now c.holds_none-none.result c.leaves_processor.result c.operate-ends.result c.operate-ends.new.self c.quit_if.new.self c.bring_up.new.self c.bring_up_three.new.self
     c.holds_none-none.ensures c.owner-after.ensures (rw c.as_slice-tasks.ensures at c.operate-ends.ensures.kept) (rw c.as_slice-tasks.ensures at c.operate-ends.ensures.ends)
-    c.leaves_processor.ensures c.quit_if.ensures c.bring_up.ensures c.bring_up_three.ensures c.place_changed.ensures
+    c.leaves_processor.ensures c.quit_if.ensures c.bring_up.ensures c.bring_up_three.ensures

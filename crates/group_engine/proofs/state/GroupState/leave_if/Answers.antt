@@ -6,4 +6,4 @@ pub bring_up-requires : goal.bring_up-requires
 bring_up-requires c = rw c.quit.ensures (can-quitted c.args.parts.now c.args.cpu.0 c.args.task.0 c.args.task.0 c.args.self.now c.requires.looks)
 
 pub returns-then-over : goal.returns-then-over
-returns-then-over c = rw (c.place_changed.ensures, c.bring_up.ensures, c.quit.ensures, c.if-over.true) refl
+returns-then-over c = rw (c.bring_up.ensures, c.quit.ensures, c.if-over.true) refl

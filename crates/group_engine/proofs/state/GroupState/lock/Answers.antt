@@ -24,7 +24,7 @@ returns-in-Some-clause-acted c = λ at can.
     let be : CanBe at.group c.args.cpu.0 (acts.Do (ops.Lock c.args.sem)) at.past c.args.self.now = can-be at c.args.cpu.0 (acts.Do (ops.Lock c.args.sem)) c.args.self.now can.can.can in
     let told : lock_refused at.group.setup c.args.task.0 c.args.sem.0 c.args.self.now ≡ Some c.in-Some.refusal = rw can.can.parts_are at (sym c.lock_refusal.ensures ∙ c.in-Some.is) in
     let out = refused-of at.group c.args.cpu.0 c.args.task.0 c.args.sem at.past c.args.self.now be can.runs_it c.in-Some.refusal told in
-    record { reply_is = out.0; kept = refused at.group c.args.cpu.0 (acts.Do (ops.Lock c.args.sem)) at.past c.args.self.now be out.1 }
+    record { reply_is = out.0; ending = refused at.group c.args.cpu.0 (acts.Do (ops.Lock c.args.sem)) at.past c.args.self.now be out.1 }
 
 pub ask-reply-requires-clause-base : goal.ask-reply-requires-clause-base
 ask-reply-requires-clause-base c =
@@ -63,7 +63,7 @@ returns-clause-acted c = λ at can.
     let goes : lock_refused at.group.setup c.args.task.0 c.args.sem.0 c.args.self.now ≡ None = rw can.can.parts_are at (sym c.lock_refusal.ensures ∙ c.in_default.is) in
     record {
       reply_is = rw (c.ask-reply.ensures.reply, can.can.parts_are) (reply-is at.group c.args.cpu.0 c.args.task.0 c.args.sem at.past c.args.self.now be can.runs_it goes);
-      kept = locked-told at.group c.args.cpu.0 c.args.task.0 c.args.sem at.past c.args.self.now be can.runs_it goes c.args.parts.now (number_of_task c.owner-before.result) c.ask-reply.result c.ask-reply.new.self can.can.parts_are c.owner-before.ensures c.ask-reply.ensures.reply c.ask-reply.ensures.asked c.follow.new.self c.follow.ensures;
+      ending = locked-told at.group c.args.cpu.0 c.args.task.0 c.args.sem at.past c.args.self.now be can.runs_it goes c.args.parts.now (number_of_task c.owner-before.result) c.ask-reply.result c.ask-reply.new.self can.can.parts_are c.owner-before.ensures c.ask-reply.ensures.reply c.ask-reply.ensures.asked c.follow.new.self c.follow.ensures;
     }
 
 pub returns-clause-room : goal.returns-clause-room

@@ -10,8 +10,7 @@ use Rattle.waiting_list.specs.Listing.{Moment}
 use Rattle.group_engine.proofs.Bases.{has-base}
 use Rattle.group_engine.proofs.Bounding.{can-look}
 use Rattle.group_engine.proofs.Bringing.{jobs-brought}
-use Rattle.group_engine.proofs.ClockMoves.{armed-member, between-clock, clock-within, clocked_state}
-use Rattle.group_engine.proofs.Settling.{settled}
+use Rattle.group_engine.proofs.ClockMoves.{armed-member, clock-ends, clock-within, clocked_state}
 use Rattle.group_engine.proofs.state.GroupState.move_clock.Goals as goal
 
 pub bring_up_due-requires : goal.bring_up_due-requires
@@ -20,23 +19,28 @@ bring_up_due-requires c =
     let can = c.requires.1 in
     let past1 : Past = Clock c.args.tick.0 ∷ at.past in
     let kept : IsKept at.group past1 c.move_clock.new.self.kept = rw c.move_clock.ensures (kept_after_clock at.group at.past can.played.valid can.kept.reachable c.args.tick.0 c.args.self.now.jobs.kept can.kept.jobs_are) in
-    let s1 : GroupState = record c.args.self.now { jobs = c.move_clock.new.self } in (
+    let s1 : GroupState = record c.args.self.now { jobs = c.move_clock.new.self; resvs = c.move_clock-2.new.self } in (
       tasks at.group,
       rw can.parts_are (λ t h. can-look at.group can.played at.past c.args.self.now can.kept past1 s1 kept (clock-within c.args.tick.0 at.past can.tick_low can.kept.within) (λ u m. has-base at.group at.past c.args.self.now.sems.waits.bases can.kept.sems_are.bases u m) refl refl t h),
       λ t tick h. armed-member at.group at.past c.args.self.now.timers can.kept.timers_are t tick h,
     )
 
+pub end_move-requires : goal.end_move-requires
+end_move-requires c =
+    let s1 : GroupState = record c.args.self.now { jobs = c.move_clock.new.self; resvs = c.move_clock-2.new.self } in
+    let clocked : s1 ≡ clocked_state c.args.tick.0 c.args.self.now = rw (c.move_clock-2.ensures, c.clock.ensures, c.move_clock.ensures) refl in
+    let at : Moment = c.requires.0 in
+    (record { group = at.group; past = Clock c.args.tick.0 ∷ at.past },
+    clock-ends at c.args.tick.0 c.args.parts.now c.args.self.now s1 c.bring_up_due.new.self c.bring_up_due.ensures.0 c.requires.1 clocked c.bring_up_due.ensures.1 c.bring_up_due.ensures.2)
+
 pub returns-clause-moved : goal.returns-clause-moved
 returns-clause-moved c = λ at can.
-    let us : List ℕ = c.bring_up_due.ensures.0 in
-    let clock : c.move_clock.new.self.kept.clock ≡ max (now at.past) c.args.tick.0 = ap (λ (j : GroupJobs). j.kept.clock) c.move_clock.ensures ∙ ap (λ n. max n c.args.tick.0) can.kept.jobs_are.clock_is in
-    let due : AreDue (max (now at.past) c.args.tick.0) c.args.self.now.timers us = subst (λ n. AreDue n c.args.self.now.timers us) clock c.bring_up_due.ensures.1 in
-    let s1 : GroupState = record c.args.self.now { jobs = c.move_clock.new.self } in
-    let same : s1 ≡ clocked_state c.args.tick.0 c.args.self.now = ap (λ (j : GroupJobs). let x : GroupState = record c.args.self.now { jobs = j } in x) c.move_clock.ensures in
-    let at_end = settled at.group can.played (Clock c.args.tick.0) at.past us (clocked_state c.args.tick.0 c.args.self.now) (between-clock at.group can.played at.past c.args.self.now can.kept c.args.tick.0 can.tick_low us due) in
-    rw (c.place_changed.ensures, c.bring_up_due.ensures.2, can.parts_are, same) at_end
+    let s1 : GroupState = record c.args.self.now { jobs = c.move_clock.new.self; resvs = c.move_clock-2.new.self } in
+    let clocked : s1 ≡ clocked_state c.args.tick.0 c.args.self.now = rw (c.move_clock-2.ensures, c.clock.ensures, c.move_clock.ensures) refl in
+    c.end_move.ensures.at (record { group = at.group; past = Clock c.args.tick.0 ∷ at.past })
+    (clock-ends at c.args.tick.0 c.args.parts.now c.args.self.now s1 c.bring_up_due.new.self c.bring_up_due.ensures.0 can clocked c.bring_up_due.ensures.1 c.bring_up_due.ensures.2)
 
 pub returns-clause-room : goal.returns-clause-room
 returns-clause-room c =
-    let s1 : GroupState = record c.args.self.now { jobs = c.move_clock.new.self } in
-    ap (λ (s : GroupState). s.jobs.room) c.bring_up_due.ensures.2 ∙ ap (λ (j : GroupJobs). j.room) (jobs-brought c.args.parts.now c.bring_up_due.ensures.0 s1) ∙ ap (λ (j : GroupJobs). j.room) c.move_clock.ensures
+    let s1 : GroupState = record c.args.self.now { jobs = c.move_clock.new.self; resvs = c.move_clock-2.new.self } in
+    c.end_move.ensures.room ∙ ap (λ (s : GroupState). s.jobs.room) c.bring_up_due.ensures.2 ∙ ap (λ (j : GroupJobs). j.room) (jobs-brought c.args.parts.now c.bring_up_due.ensures.0 s1) ∙ ap (λ (j : GroupJobs). j.room) c.move_clock.ensures

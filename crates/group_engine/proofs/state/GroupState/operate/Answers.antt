@@ -5,6 +5,7 @@ use Rattle.rt_model.specs.Answers.{answer}
 use Rattle.rt_model.specs.Past.{accepted}
 use Rattle.group_facts.specs.Kept.{cpu_of, job_of}
 use Rattle.group_jobs.specs.GroupJobs.{GroupJobs, IsTaskOf, plain_reply}
+use Rattle.group_engine.specs.Touching.{holds_none}
 use Rattle.group_engine.specs.declared.state.GroupState.{GroupState}
 use Rattle.waiting_list.specs.Listing.{Moment}
 use Rattle.group_engine.proofs.ActMoves.{CanBe, can-be}
@@ -36,22 +37,22 @@ count-requires c =
     let at : Moment = c.requires.at.0 in
     let can = c.requires.at.1 in
     let be : CanBe at.group c.args.cpu.0 (acts.Do c.args.op) at.past c.args.self.now = can-be at c.args.cpu.0 (acts.Do c.args.op) c.args.self.now can.can.can in
-    let answer_is : c.op_reply-reply.result ≡ answer at.group c.args.cpu.0 (acts.Do c.args.op) at.past = c.op_reply-reply.ensures ∙ ap (λ b. plain_reply c.args.op c.args.self.now.jobs.kept.clock (cpu_of c.args.self.now.jobs.kept c.args.cpu.0).worked (job_of c.args.self.now.jobs.kept c.args.task.0).np false b) c.holds_none-none.ensures ∙ op-answer at.group c.args.cpu.0 c.args.task.0 c.args.op at.past c.args.self.now be can.runs_it c.requires.plain in
+    let answer_is : c.op_reply-reply.result ≡ answer at.group c.args.cpu.0 (acts.Do c.args.op) at.past = c.op_reply-reply.ensures ∙ ap (λ b. plain_reply c.args.op c.args.self.now.jobs.kept.clock (cpu_of c.args.self.now.jobs.kept c.args.cpu.0).worked (job_of c.args.self.now.jobs.kept c.args.task.0).np c.lacks_budget-lacks.result b) c.holds_none-none.ensures ∙ ap (λ b. plain_reply c.args.op c.args.self.now.jobs.kept.clock (cpu_of c.args.self.now.jobs.kept c.args.cpu.0).worked (job_of c.args.self.now.jobs.kept c.args.task.0).np b (holds_none c.args.self.now c.args.task.0)) c.lacks_budget-lacks.ensures ∙ op-answer at.group c.args.cpu.0 c.args.task.0 c.args.op at.past c.args.self.now be can.runs_it c.requires.plain in
     let inside : accepted c.op_reply-reply.result ≡ true = sym c.is_accepted.ensures ∙ c.if-is_accepted.true in
-    let reply_done : c.op_reply-reply.result ≡ replies.Done = c.op_reply-reply.ensures ∙ op-done c.args.op c.args.self.now.jobs.kept.clock (cpu_of c.args.self.now.jobs.kept c.args.cpu.0).worked (job_of c.args.self.now.jobs.kept c.args.task.0).np c.holds_none-none.result (ap accepted (sym c.op_reply-reply.ensures) ∙ inside) in
+    let reply_done : c.op_reply-reply.result ≡ replies.Done = c.op_reply-reply.ensures ∙ op-done c.args.op c.args.self.now.jobs.kept.clock (cpu_of c.args.self.now.jobs.kept c.args.cpu.0).worked (job_of c.args.self.now.jobs.kept c.args.task.0).np c.lacks_budget-lacks.result c.holds_none-none.result (ap accepted (sym c.op_reply-reply.ensures) ∙ inside) in
     let done : answer at.group c.args.cpu.0 (acts.Do c.args.op) at.past ≡ replies.Done = sym answer_is ∙ reply_done in
     rw can.can.parts_are (can-count-it at.group c.args.cpu.0 c.args.task.0 c.args.op at.past c.args.self.now be can.runs_it c.requires.plain done)
 
 pub returns-then-is_accepted-clause-acted : goal.returns-then-is_accepted-clause-acted
 returns-then-is_accepted-clause-acted c = λ at can.
     let be : CanBe at.group c.args.cpu.0 (acts.Do c.args.op) at.past c.args.self.now = can-be at c.args.cpu.0 (acts.Do c.args.op) c.args.self.now can.can.can in
-    let answer_is : c.op_reply-reply.result ≡ answer at.group c.args.cpu.0 (acts.Do c.args.op) at.past = c.op_reply-reply.ensures ∙ ap (λ b. plain_reply c.args.op c.args.self.now.jobs.kept.clock (cpu_of c.args.self.now.jobs.kept c.args.cpu.0).worked (job_of c.args.self.now.jobs.kept c.args.task.0).np false b) c.holds_none-none.ensures ∙ op-answer at.group c.args.cpu.0 c.args.task.0 c.args.op at.past c.args.self.now be can.runs_it c.requires.plain in
+    let answer_is : c.op_reply-reply.result ≡ answer at.group c.args.cpu.0 (acts.Do c.args.op) at.past = c.op_reply-reply.ensures ∙ ap (λ b. plain_reply c.args.op c.args.self.now.jobs.kept.clock (cpu_of c.args.self.now.jobs.kept c.args.cpu.0).worked (job_of c.args.self.now.jobs.kept c.args.task.0).np c.lacks_budget-lacks.result b) c.holds_none-none.ensures ∙ ap (λ b. plain_reply c.args.op c.args.self.now.jobs.kept.clock (cpu_of c.args.self.now.jobs.kept c.args.cpu.0).worked (job_of c.args.self.now.jobs.kept c.args.task.0).np b (holds_none c.args.self.now c.args.task.0)) c.lacks_budget-lacks.ensures ∙ op-answer at.group c.args.cpu.0 c.args.task.0 c.args.op at.past c.args.self.now be can.runs_it c.requires.plain in
     let inside : accepted c.op_reply-reply.result ≡ true = sym c.is_accepted.ensures ∙ c.if-is_accepted.true in
-    let reply_done : c.op_reply-reply.result ≡ replies.Done = c.op_reply-reply.ensures ∙ op-done c.args.op c.args.self.now.jobs.kept.clock (cpu_of c.args.self.now.jobs.kept c.args.cpu.0).worked (job_of c.args.self.now.jobs.kept c.args.task.0).np c.holds_none-none.result (ap accepted (sym c.op_reply-reply.ensures) ∙ inside) in
+    let reply_done : c.op_reply-reply.result ≡ replies.Done = c.op_reply-reply.ensures ∙ op-done c.args.op c.args.self.now.jobs.kept.clock (cpu_of c.args.self.now.jobs.kept c.args.cpu.0).worked (job_of c.args.self.now.jobs.kept c.args.task.0).np c.lacks_budget-lacks.result c.holds_none-none.result (ap accepted (sym c.op_reply-reply.ensures) ∙ inside) in
     let done : answer at.group c.args.cpu.0 (acts.Do c.args.op) at.past ≡ replies.Done = sym answer_is ∙ reply_done in
     record {
       reply_is = answer_is;
-      kept = rw (c.count.ensures, can.can.parts_are) (counted-at at.group c.args.cpu.0 c.args.task.0 c.args.op at.past c.args.self.now be can.runs_it c.requires.plain done);
+      ending = rw (c.count.ensures, can.can.parts_are) (counted-at at.group c.args.cpu.0 c.args.task.0 c.args.op at.past c.args.self.now be can.runs_it c.requires.plain done);
     }
 
 pub returns-then-is_accepted-clause-room : goal.returns-then-is_accepted-clause-room
@@ -61,9 +62,9 @@ returns-then-is_accepted-clause-room c =
 pub returns-else-is_accepted-clause-acted : goal.returns-else-is_accepted-clause-acted
 returns-else-is_accepted-clause-acted c = λ at can.
     let be : CanBe at.group c.args.cpu.0 (acts.Do c.args.op) at.past c.args.self.now = can-be at c.args.cpu.0 (acts.Do c.args.op) c.args.self.now can.can.can in
-    let answer_is : c.op_reply-reply.result ≡ answer at.group c.args.cpu.0 (acts.Do c.args.op) at.past = c.op_reply-reply.ensures ∙ ap (λ b. plain_reply c.args.op c.args.self.now.jobs.kept.clock (cpu_of c.args.self.now.jobs.kept c.args.cpu.0).worked (job_of c.args.self.now.jobs.kept c.args.task.0).np false b) c.holds_none-none.ensures ∙ op-answer at.group c.args.cpu.0 c.args.task.0 c.args.op at.past c.args.self.now be can.runs_it c.requires.plain in
+    let answer_is : c.op_reply-reply.result ≡ answer at.group c.args.cpu.0 (acts.Do c.args.op) at.past = c.op_reply-reply.ensures ∙ ap (λ b. plain_reply c.args.op c.args.self.now.jobs.kept.clock (cpu_of c.args.self.now.jobs.kept c.args.cpu.0).worked (job_of c.args.self.now.jobs.kept c.args.task.0).np c.lacks_budget-lacks.result b) c.holds_none-none.ensures ∙ ap (λ b. plain_reply c.args.op c.args.self.now.jobs.kept.clock (cpu_of c.args.self.now.jobs.kept c.args.cpu.0).worked (job_of c.args.self.now.jobs.kept c.args.task.0).np b (holds_none c.args.self.now c.args.task.0)) c.lacks_budget-lacks.ensures ∙ op-answer at.group c.args.cpu.0 c.args.task.0 c.args.op at.past c.args.self.now be can.runs_it c.requires.plain in
     let out : accepted c.op_reply-reply.result ≡ false = sym c.is_accepted.ensures ∙ c.if-is_accepted.false in
     record {
       reply_is = answer_is;
-      kept = refused at.group c.args.cpu.0 (acts.Do c.args.op) at.past c.args.self.now be (ap accepted (sym answer_is) ∙ out);
+      ending = refused at.group c.args.cpu.0 (acts.Do c.args.op) at.past c.args.self.now be (ap accepted (sym answer_is) ∙ out);
     }

@@ -33,8 +33,8 @@ returns-then-is_accepted-clause-acted c = λ at can.
     let inside : accepted c.take_irq-reply.result ≡ true = sym c.is_accepted.ensures ∙ c.if-is_accepted.true in
     record {
       reply_is = irq-told at.group c.args.cpu.0 at.past c.args.self.now be c.home-home.result.0 c.home-home.ensures c.runs_non_preemptive-np.result c.runs_non_preemptive-np.ensures c.take_irq-reply.result c.take_irq-reply.ensures.reply;
-      kept =
-          rw (c.run.ensures, c.place_changed.ensures, c.take_irq-reply.ensures.changed)
+      ending =
+          rw (c.run.ensures, c.take_irq-reply.ensures.changed)
           (irq-taken at.group c.args.cpu.0 at.past c.args.self.now be c.home-home.result.0 c.home-home.ensures c.runs_non_preemptive-np.result c.runs_non_preemptive-np.ensures c.take_irq-reply.result c.take_irq-reply.ensures.reply
           inside (number_of_task c.runs-running.result) (λ k h. c.runs-running.ensures k (ap (λ t. cluster_at t c.home-home.result.0) c.take_irq-reply.ensures.changed ∙ h)));
     }
@@ -45,7 +45,7 @@ returns-else-is_accepted-clause-acted c = λ at can.
     let out : accepted c.take_irq-reply.result ≡ false = sym c.is_accepted.ensures ∙ c.if-is_accepted.false in
     record {
       reply_is = irq-told at.group c.args.cpu.0 at.past c.args.self.now be c.home-home.result.0 c.home-home.ensures c.runs_non_preemptive-np.result c.runs_non_preemptive-np.ensures c.take_irq-reply.result c.take_irq-reply.ensures.reply;
-      kept =
+      ending =
           rw c.take_irq-reply.ensures.changed
           (irq-waited at.group c.args.cpu.0 at.past c.args.self.now be c.home-home.result.0 c.home-home.ensures c.runs_non_preemptive-np.result c.runs_non_preemptive-np.ensures c.take_irq-reply.result c.take_irq-reply.ensures.reply out);
     }

@@ -28,7 +28,7 @@ returns-in-Some-clause-acted c = λ at can.
     let be : CanBe at.group c.args.cpu.0 (acts.Do (ops.Unlock c.args.sem)) at.past c.args.self.now = can-be at c.args.cpu.0 (acts.Do (ops.Unlock c.args.sem)) c.args.self.now can.can.can in
     let told : unlock_refusal at.group.setup c.args.self.now.sems.table c.args.task.0 c.args.sem.0 ≡ Some c.in-Some.refusal = rw can.can.parts_are at (sym c.unlock_refusal.ensures ∙ c.in-Some.is) in
     let out = refused-of at.group c.args.cpu.0 c.args.task.0 c.args.sem at.past c.args.self.now be can.runs_it c.in-Some.refusal told in
-    record { reply_is = out.0; kept = refused at.group c.args.cpu.0 (acts.Do (ops.Unlock c.args.sem)) at.past c.args.self.now be out.1 }
+    record { reply_is = out.0; ending = refused at.group c.args.cpu.0 (acts.Do (ops.Unlock c.args.sem)) at.past c.args.self.now be out.1 }
 
 pub unlock-served-requires : goal.unlock-served-requires
 unlock-served-requires c =
@@ -64,7 +64,7 @@ returns-clause-acted c = λ at can.
     let freed1_is : freed1 ≡ freed_it c.args.parts.now c.args.task.0 c.args.sem.0 c.args.self.now = ap (λ v. let x : GroupState = record c.args.self.now { sems = v } in x) (c.unlock-served.ensures.after ∙ ap (λ n. after_unlock c.args.parts.now n c.args.task.0 c.args.sem.0 c.args.self.now.sems) c.clock.ensures) in
     record {
       reply_is = sym (answer-goes at.group c.args.cpu.0 c.args.task.0 c.args.sem at.past c.args.self.now be can.runs_it goes);
-      kept = unlocked-told at.group c.args.cpu.0 c.args.task.0 c.args.sem at.past c.args.self.now be can.runs_it goes c.args.parts.now (number_of_task c.owner-before.result) (number_of_task c.unlock-served.result) freed1 can.can.parts_are c.owner-before.ensures freed1_is c.unlock-served.ensures.served c.follow.new.self c.follow.ensures;
+      ending = unlocked-told at.group c.args.cpu.0 c.args.task.0 c.args.sem at.past c.args.self.now be can.runs_it goes c.args.parts.now (number_of_task c.owner-before.result) (number_of_task c.unlock-served.result) freed1 can.can.parts_are c.owner-before.ensures freed1_is c.unlock-served.ensures.served c.follow.new.self c.follow.ensures;
     }
 
 pub returns-clause-room : goal.returns-clause-room

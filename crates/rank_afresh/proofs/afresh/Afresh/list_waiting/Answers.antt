@@ -7,7 +7,6 @@ use Rattle.rt_plays.specs.Homes.{IsProcessorOf}
 use Rattle.waiting_list.specs.Listing.{AreWaitersAt, CanList}
 use Rattle.rank_afresh.specs.contracts.afresh.Afresh.{the_view}
 use Rattle.rank_afresh.specs.Standing.{IsAt, IsFit, Standing, group_of}
-use Rattle.rank_afresh.proofs.Standings.{unreserved}
 use Rattle.rank_afresh.proofs.afresh.Afresh.list_waiting.Goals as goal
 
 -- at a past that the value stands at, its facts can be listed from
@@ -15,7 +14,6 @@ can-list : (v : Standing) (room : ℕ) → IsFit (group_of v) v.facts room v.spa
     → IsActOf (group_of v) act → (space : ℕ) → length v.setup.tasks ≤ space → CanList (record { group = group_of v; past = past }) p v.facts.kept v.facts.sems q act space
 can-list v room fit past at p same q act inside of space enough = record {
   valid = fit.valid;
-  unreserved = unreserved v room fit;
   reachable = at.reachable;
   few = let n = at.few in omega (arith, n);
   clock_low = let l = fit.read.clock_low in let n = at.kept.clock_is in omega (arith, l, n);

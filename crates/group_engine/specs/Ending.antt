@@ -1,0 +1,57 @@
+-- The state as a move is written down, before it is ended: before the reservations are settled and the links placed.
+use Rattle.std.specs.Prelude.{◌≡◌, ℕ, ◌+◌, ◌&&◌, Bool, true, List, length, Option, Some, is_none}
+use Rattle.rt_order.specs.declared.Key.{Key}
+use Rattle.rt_rules.specs.Numbers.{has}
+use Rattle.rt_rules.specs.Placing.{placed}
+use Rattle.rt_model.specs.EffectiveKeys.{effective_key}
+use Rattle.rt_model.specs.Group.{Group, clusters, cpus, first_cpu, tasks_of}
+use Rattle.rt_model.specs.Holders.{awaits}
+use Rattle.rt_model.specs.Links.{links, runs_of}
+use Rattle.rt_model.specs.Past.{Past}
+use Rattle.rt_model.specs.Reachable.{IsReachable}
+use Rattle.rt_model.specs.Releases.{ready}
+use Rattle.rt_model.specs.Tops.{top}
+use Rattle.ready_queue.specs.ReadySet.{HoldsJust}
+use Rattle.group_facts.specs.Kept.{IsKept}
+use Rattle.group_facts.specs.Timers.{TimersAreKept}
+use Rattle.cluster_table.specs.Clusters.{KeptCluster}
+use Rattle.cluster_table.specs.Table.{Table, cluster_at}
+use Rattle.group_resvs.specs.GroupResvs.{GroupResvs, IsSettled, is_served}
+use Rattle.group_resvs.specs.Kept.{KeepsResvs}
+use Rattle.group_resvs.specs.Laws.{AreChanged}
+use Rattle.group_sem_laws.specs.Kept.{KeepsGroupSems}
+use Rattle.group_engine.specs.declared.state.GroupState.{GroupState}
+use Rattle.group_engine.specs.State.{AreHomes, IsWithin}
+
+-- a task's job is there and does not sleep, and the task waits for no semaphore
+abbrev pub stands : Group → ℕ → Past → Bool
+stands g t past = ready g t past && is_none (awaits g t past)
+
+-- the tasks of a cluster that stand so and that these reservations serve, with their keys
+abbrev pub HoldsStanding : Group → ℕ → Past → GroupResvs → List (Option Key) → Type 0
+HoldsStanding g c past w keys = HoldsJust (tasks_of g c) (λ t. effective_key g t past) (λ t. stands g t past && is_served w t) keys
+
+-- of a cluster these tasks, what its processors run, and links that become those of the past once they are placed
+pub record IsClusterEnding (g : Group) (c : ℕ) (past : Past) (w : GroupResvs) (k : KeptCluster) : Type 0 where
+  pub cpus_are : k.cpus ≡ cpus g c
+  pub first_is : k.linked.first ≡ first_cpu g c
+  pub room : length k.keys ≡ length g.setup.tasks + 1
+  pub keys_are : HoldsStanding g c past w k.keys
+  pub runs_are : k.linked.runs ≡ runs_of g c past
+  pub links_become : placed (top g c past) (runs_of g c past) k.linked.links ≡ links g c past
+
+pub record HasClusterEnding (g : Group) (c : ℕ) (past : Past) (w : GroupResvs) (t : Table) : Type 0 where
+  pub cluster : KeptCluster
+  pub there : cluster_at t c ≡ Some cluster
+  pub is_ending : IsClusterEnding g c past w cluster
+
+-- the state is of this past of the group, once the move is ended
+pub record IsEnding (g : Group) (past : Past) (s : GroupState) : Type 0 where
+  pub reachable : IsReachable g past
+  pub within : IsWithin past
+  pub jobs_are : IsKept g past s.jobs.kept
+  pub sems_are : KeepsGroupSems g past s.sems
+  pub timers_are : TimersAreKept g past s.timers
+  pub homes_are : AreHomes g s.clusters.homes
+  pub clusters_are : (c : ℕ) → has c (clusters g) ≡ true → HasClusterEnding g c past s.resvs s.clusters
+  pub resvs_become : (z : GroupResvs) → IsSettled s.resvs z → KeepsResvs g past z × AreChanged g s.resvs z

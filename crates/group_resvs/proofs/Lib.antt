@@ -1,0 +1,3 @@
+mod ChangedLists
+pub mod KeptLaws
+mod NobodyServed

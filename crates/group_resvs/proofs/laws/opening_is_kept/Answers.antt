@@ -1,0 +1,5 @@
+use Rattle.group_resvs.proofs.KeptLaws as laws
+use Rattle.group_resvs.proofs.laws.opening_is_kept.Goals as goal
+
+pub returns : goal.returns
+returns c = laws.opening_is_kept

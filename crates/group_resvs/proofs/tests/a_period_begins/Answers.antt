@@ -1,0 +1,11 @@
+use Rattle.std.proofs.Common.{◌≡◌, ap, ◌∙◌, arith}
+use Rattle.resv_core.specs.Served.{Served}
+use Rattle.resv_laws.proofs.ServingLaws.{opened-clock}
+use Rattle.group_resvs.specs.GroupResvs.{GroupResvs}
+use Rattle.group_resvs.proofs.tests.a_period_begins.Goals as goal
+
+pub move_clock-requires : goal.move_clock-requires
+move_clock-requires c =
+    let first : c.in-Ok.resvs.resvs.clock ≡ 0 = ap (λ (v : GroupResvs). v.resvs.clock) c.in-Ok.ensures ∙ opened-clock (record { setup = c.make.result.now; number = 0 }) in
+    let after : c.settle.new.self.resvs.clock ≡ c.in-Ok.resvs.resvs.clock = ap (λ (v : Served). v.clock) c.settle.ensures.resvs in
+    omega (arith, first, after)

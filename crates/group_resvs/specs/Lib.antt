@@ -1,0 +1,3 @@
+pub mod GroupResvs
+pub mod Kept
+pub mod Laws
