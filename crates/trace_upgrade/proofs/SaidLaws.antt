@@ -10,18 +10,14 @@ use Rattle.rt_model.specs.Blocking.{Asked, requests}
 use Rattle.rt_model.specs.Group.{Group}
 use Rattle.rt_model.specs.Histories.{after, past_of}
 use Rattle.rt_model.specs.Past.{Past}
-use Rattle.rt_plays.specs.Plays.{group_count, group_with}
-use Rattle.rt_plays.specs.ScriptPlays.{IsScriptPlay}
-use Rattle.rt_plays.proofs.ScriptParts.{begun-whole}
-use Rattle.rt_groups.specs.Built.{is_built}
+use Rattle.rt_plays.specs.Plays.{IsPlay, group_count, group_with}
 use Rattle.rt_groups.specs.Groups.{GroupHistory}
 use Rattle.rt_groups.proofs.GroupCount.{groups_are_counted}
-use Rattle.rt_groups.proofs.Unreserved.{built-unreserved}
 use Rattle.trace_lines.specs.Lines.{Line}
 use Rattle.trace_text.specs.Groups.{AreGroupsOf, histories}
 use Rattle.trace_text.specs.TraceText.{block_lines, block_of, entry_lines, group_lines, lines_from}
 use Rattle.trace_text.proofs.GroupLaws.{all-groups}
-use Rattle.trace_laws.proofs.Plays.{few-entries, play-steps, script-plays}
+use Rattle.trace_laws.proofs.Plays.{begun-legal, begun-steps, begun-whole, few-entries}
 use Rattle.trace_laws.proofs.ReadBack.{trace-is-read}
 use Rattle.trace_read.specs.Lines.{lines_of}
 use Rattle.trace_read.specs.declared.Trace.{Trace}
@@ -119,32 +115,31 @@ module _ (t : Trace) (hs : List (List Entry)) (says : SaysPlays t hs) (groups : 
 
 -- ---- and can be replayed
 
-module _ (p : Parts) (valid : IsValid p) (built : is_built p ≡ true) where
-  play-replays : (n : ℕ) (es : List Entry) → n < group_count p → IsScriptPlay (group_with p n) es → CanReplay (record { setup = p; group = n; entries = es; spare = 0 })
+module _ (p : Parts) (valid : IsValid p) where
+  play-replays : (n : ℕ) (es : List Entry) → n < group_count p → IsPlay (group_with p n) es → CanReplay (record { setup = p; group = n; entries = es; spare = 0 })
   play-replays n es low play = record {
     there = (groups_are_counted p n valid).1 low;
-    unreserved = built-unreserved p built;
     few = few-entries (group_with p n) es valid (begun-whole (group_with p n) es play);
-    steps = play-steps (group_with p n) es valid play;
-    legal = play.legal;
+    steps = begun-steps (group_with p n) es valid (begun-whole (group_with p n) es play);
+    legal = begun-legal (group_with p n) es (begun-whole (group_with p n) es play);
   }
 
-  with-replays : (n : ℕ) (hs : List (List Entry)) → n + length hs ≤ group_count p → ((i : ℕ) → i < length hs → IsScriptPlay (group_with p (n + i)) (get_or hs i [])) → All CanReplay (groups_with p n hs)
+  with-replays : (n : ℕ) (hs : List (List Entry)) → n + length hs ≤ group_count p → ((i : ℕ) → i < length hs → IsPlay (group_with p (n + i)) (get_or hs i [])) → All CanReplay (groups_with p n hs)
   with-replays n [] few plays = All-nil CanReplay
   with-replays n (es ∷ hs) few plays =
       let here : n + 0 ≡ n = omega arith in
-      let play : IsScriptPlay (group_with p n) es = subst (λ (m : ℕ). IsScriptPlay (group_with p m) es) here (plays 0 (omega arith)) in
+      let play : IsPlay (group_with p n) es = subst (λ (m : ℕ). IsPlay (group_with p m) es) here (plays 0 (omega arith)) in
       All-cons CanReplay _ (groups_with p (n + 1) hs) (play-replays n es (omega arith) play) (with-replays (n + 1) hs (omega arith) later)
     where
-      later : (i : ℕ) → i < length hs → IsScriptPlay (group_with p (n + 1 + i)) (get_or hs i [])
-      later i low = let next : n + suc i ≡ n + 1 + i = omega arith in subst (λ (m : ℕ). IsScriptPlay (group_with p m) (get_or hs i [])) next (plays (suc i) (omega arith))
+      later : (i : ℕ) → i < length hs → IsPlay (group_with p (n + 1 + i)) (get_or hs i [])
+      later i low = let next : n + suc i ≡ n + 1 + i = omega arith in subst (λ (m : ℕ). IsPlay (group_with p m) (get_or hs i [])) next (plays (suc i) (omega arith))
 
 pub said-replays : (t : Trace) (hs : List (List Entry)) → SaysPlays t hs → All CanReplay (groups_said t.setup (lines_of t.lines))
 said-replays t hs says =
     subst (All CanReplay) (sym (said-groups t hs says))
-    (with-replays t.setup says.played.valid says.played.built 0 hs (omega (arith, says.played.plays.count)) at_number)
+    (with-replays t.setup says.played.valid 0 hs (omega (arith, says.played.plays.count)) at_number)
   where
-    at_number : (i : ℕ) → i < length hs → IsScriptPlay (group_with t.setup (0 + i)) (get_or hs i [])
+    at_number : (i : ℕ) → i < length hs → IsPlay (group_with t.setup (0 + i)) (get_or hs i [])
     at_number i low =
         let same : i ≡ 0 + i = omega arith in
-        subst (λ (m : ℕ). IsScriptPlay (group_with t.setup m) (get_or hs i [])) same (script-plays t.setup hs i says.played.built says.played.plays low)
+        subst (λ (m : ℕ). IsPlay (group_with t.setup m) (get_or hs i [])) same (says.played.plays.plays i low)

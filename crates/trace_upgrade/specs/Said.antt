@@ -2,7 +2,6 @@
 use Rattle.std.specs.Prelude.{◌≡◌, ℕ, ◌-◌, ◌≤◌, false, List, [], ◌∷◌, ◌++◌, length}
 use Rattle.rt_base.specs.declared.TheConstants.{MOST_STEPS}
 use Rattle.rt_task.specs.declared.Parts.{Parts}
-use Rattle.rt_task.specs.RuleWords.{is_p_res}
 use Rattle.rt_history.specs.declared.Entry.{Entry}
 use Rattle.rt_model.specs.Histories.{IsLegalFrom}
 use Rattle.rt_groups.specs.Groups.{AreStepsOf, GroupHistory, IsGroupOf, IsLegalNow, group_of, past}
@@ -46,7 +45,6 @@ pub record CanTake (h : GroupHistory) (es : List Entry) : Type 0 where
 -- a group of a setup without reservations, whose entries can be taken from opening on
 pub record CanReplay (h : GroupHistory) : Type 0 where
   pub there : IsGroupOf h.setup h.group
-  pub unreserved : is_p_res h.setup.plugin ≡ false
   pub few : length h.entries ≤ MOST_STEPS
   pub steps : AreStepsOf (group_of h) h.entries
   pub legal : IsLegalNow h

@@ -29,9 +29,10 @@ pub end_move-requires : goal.end_move-requires
 end_move-requires c =
     let s1 : GroupState = record c.args.self.now { jobs = c.move_clock.new.self; resvs = c.move_clock-2.new.self } in
     let clocked : s1 ≡ clocked_state c.args.tick.0 c.args.self.now = rw (c.move_clock-2.ensures, c.clock.ensures, c.move_clock.ensures) refl in
-    let at : Moment = c.requires.0 in
-    (record { group = at.group; past = Clock c.args.tick.0 ∷ at.past },
-    clock-ends at c.args.tick.0 c.args.parts.now c.args.self.now s1 c.bring_up_due.new.self c.bring_up_due.ensures.0 c.requires.1 clocked c.bring_up_due.ensures.1 c.bring_up_due.ensures.2)
+    let at : Moment = c.requires.0 in (
+      record { group = at.group; past = Clock c.args.tick.0 ∷ at.past },
+      clock-ends at c.args.tick.0 c.args.parts.now c.args.self.now s1 c.bring_up_due.new.self c.bring_up_due.ensures.0 c.requires.1 clocked c.bring_up_due.ensures.1 c.bring_up_due.ensures.2,
+    )
 
 pub returns-clause-moved : goal.returns-clause-moved
 returns-clause-moved c = λ at can.
