@@ -1,4 +1,4 @@
-use Rattle.std.proofs.Common.{◌≡◌, ℕ, max, List, ◌∷◌, refl, ap, ◌∙◌, subst}
+use Rattle.std.proofs.Common.{◌≡◌, ℕ, max, List, ◌∷◌, refl, ap, ◌∙◌, subst, arith}
 use Rattle.rt_model.specs.Group.{tasks}
 use Rattle.rt_model.specs.Past.{Clock, Past, now}
 use Rattle.group_facts.specs.Kept.{IsKept}
@@ -25,13 +25,21 @@ bring_up_due-requires c =
       λ t tick h. armed-member at.group at.past c.args.self.now.timers can.kept.timers_are t tick h,
     )
 
+pub move_clock-requires-2 : goal.move_clock-requires-2
+move_clock-requires-2 c =
+    let can = c.requires.1 in
+    let kept : c.args.self.now.resvs.resvs.clock ≡ now c.requires.0.past = can.kept.resvs_are.clock in
+    let clock : c.clock.result ≡ max (now c.requires.0.past) c.args.tick.0 = c.clock.ensures ∙ ap (λ (j : GroupJobs). j.kept.clock) c.move_clock.ensures ∙ ap (λ n. max n c.args.tick.0) can.kept.jobs_are.clock_is in
+    omega (arith, kept, clock)
+
 pub end_move-requires : goal.end_move-requires
 end_move-requires c =
     let s1 : GroupState = record c.args.self.now { jobs = c.move_clock.new.self; resvs = c.move_clock-2.new.self } in
     let clocked : s1 ≡ clocked_state c.args.tick.0 c.args.self.now = rw (c.move_clock-2.ensures, c.clock.ensures, c.move_clock.ensures) refl in
-    let at : Moment = c.requires.0 in
-    (record { group = at.group; past = Clock c.args.tick.0 ∷ at.past },
-    clock-ends at c.args.tick.0 c.args.parts.now c.args.self.now s1 c.bring_up_due.new.self c.bring_up_due.ensures.0 c.requires.1 clocked c.bring_up_due.ensures.1 c.bring_up_due.ensures.2)
+    let at : Moment = c.requires.0 in (
+      record { group = at.group; past = Clock c.args.tick.0 ∷ at.past },
+      clock-ends at c.args.tick.0 c.args.parts.now c.args.self.now s1 c.bring_up_due.new.self c.bring_up_due.ensures.0 c.requires.1 clocked c.bring_up_due.ensures.1 c.bring_up_due.ensures.2,
+    )
 
 pub returns-clause-moved : goal.returns-clause-moved
 returns-clause-moved c = λ at can.

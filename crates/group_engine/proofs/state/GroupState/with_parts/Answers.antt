@@ -67,13 +67,15 @@ bring_up_group-requires-clause-can c =
 
 pub end_move-requires : goal.end_move-requires
 end_move-requires c =
-    let g : Group = group_with c.args.parts.now c.args.group.0 in
-    (record { group = g; past = [] }, record {
-      played = c.requires.played;
-      ending = rw (c.bring_up_group.ensures, c.tell_bases.ensures, c.in_ok-open.ensures, c.in_ok-new.ensures, c.in_ok-open-2.ensures, c.as_slice.ensures, c.as_slice-2.ensures, c.sems.view_is, c.resvs.view_is, c.requires.resvs)
-          (opened-at g c.requires.played c.args.room c.args.sems c.requires.untold);
-      parts_are = refl;
-    })
+    let g : Group = group_with c.args.parts.now c.args.group.0 in (
+      record { group = g; past = [] },
+      record {
+        played = c.requires.played;
+        ending = rw (c.bring_up_group.ensures, c.tell_bases.ensures, c.in_ok-open.ensures, c.in_ok-new.ensures, c.in_ok-open-2.ensures, c.as_slice.ensures, c.as_slice-2.ensures, c.sems.view_is, c.resvs.view_is, c.requires.resvs)
+            (opened-at g c.requires.played c.args.room c.args.sems c.requires.untold);
+        parts_are = refl;
+      },
+    )
 
 pub returns-clause-at : goal.returns-clause-at
 returns-clause-at c =
