@@ -33,7 +33,7 @@ use Rattle.resv_laws.specs.Kept.{IsShown, IsStateOf, begun, ready_release, told_
 use Rattle.resv_laws.specs.Serving.{AreListed, AreTold, IsServing, all_begun, all_settled, at_server, charged_for, for_task, told_each}
 use Rattle.resv_laws.proofs.KeptLaws.{begun-releases}
 use Rattle.rt_task.specs.declared.Task.{Task}
-use Rattle.resv_laws.proofs.ServingLaws.{all-begun, all_moved_in_any_order, each-server, for_task-keeps, for_task-server, opened-numbers, opened-server, resv-kept, work_may_be_charged}
+use Rattle.resv_laws.proofs.ServingLaws.{all-begun, all_moved_in_any_order, each-server, for_task-keeps, for_task-server, opened-clock, opened-numbers, opened-server, resv-kept, work_may_be_charged}
 use Rattle.resv_laws.proofs.ShownLaws.{state_is_shown}
 use Rattle.resv_laws.proofs.TellingLaws.{all_opened_in_any_order, clients_are_listed, each_is_told, nobody_is_listed}
 use Rattle.resv_laws.proofs.ValidClients.{tied}
@@ -374,6 +374,24 @@ module _ (g : Group) (valid : IsValid g.setup) (plugin : g.setup.plugin ≡ plug
       nobody : (t n : ℕ) → StandsIn t (replicate n None) → ⊥
       nobody t n k = let no : None ≡ Some t = sym (nothing-at n k.place) ∙ k.at in cc
 
+-- ---- the clock
+
+told-clock : (f : ℕ → Option ℕ) (ts : List ℕ) (v : Served) → (told_each f ts v).clock ≡ v.clock
+told-clock f [] v = refl
+told-clock f (t ∷ ts) v = told-clock f ts (for_task t (told_now (f t) t) v) ∙ (for_task-keeps v t (told_now (f t) t)).clock
+
+clock-begun : (e : Event) (past : Past) (v : Served) → v.clock ≡ now past → (all_begun e past v).clock ≡ now (e ∷ past)
+clock-begun (Clock tick) past v h = refl
+clock-begun (Acted d) past v h = by_task d.task ∙ h
+  where
+    by_work : (t : ℕ) (b : Bool) → (if b then for_task t charged v else v).clock ≡ v.clock
+    by_work t true = (for_task-keeps v t charged).clock
+    by_work t false = refl
+
+    by_task : (o : Option ℕ) → (charged_for o (Acted d) v).clock ≡ v.clock
+    by_task None = refl
+    by_task (Some t) = by_work t (is_work (did t (Acted d)))
+
 -- ---- the laws
 
 yes-no : (b : Bool) → b ≡ true → b ≡ false → ⊥
@@ -383,30 +401,38 @@ yes-no false h k = cc
 pub opening_is_kept : OpeningIsKept
 opening_is_kept g ts new valid told_of end = by_plugin (is_p_res g.setup.plugin) refl
   where
+    clock : new.resvs.clock ≡ 0
+    clock = ap (λ (v : Served). v.clock) end.resvs ∙ told-clock (λ t. ready_release g t []) ts (opened g.setup g.number) ∙ opened-clock g
+
     by_plugin : (b : Bool) → is_p_res g.setup.plugin ≡ b → KeepsResvs g [] new × AreChanged g (at_opening g ts) new
     by_plugin true res =
         let k = first g valid (p_res-is g.setup.plugin res) ts new told_of end in
-        (record { reserved = λ h. k.0; unreserved = λ h. absurd (yes-no _ res h) }, k.1)
+        (record { clock = clock; reserved = λ h. k.0; unreserved = λ h. absurd (yes-no _ res h) }, k.1)
     by_plugin false res =
         let none = none-opened g valid res in
         let told : AreNone (at_opening g ts).resvs = subst AreNone (sym (none-told (λ t. ready_release g t []) ts (opened g.setup g.number) none)) none in
         let k = none-ended (at_opening g ts) new told end in
         let no : replicate (length g.setup.resvs) None ≡ [] = ap (λ rs. replicate {A = Option ℕ} (length rs) None) (no_resvs g.setup valid res) in
-        (record { reserved = λ h. absurd (yes-no _ h res); unreserved = λ h. k }, none-changed g (at_opening g ts) new told no k.0 end.changed)
+        (record { clock = clock; reserved = λ h. absurd (yes-no _ h res); unreserved = λ h. k }, none-changed g (at_opening g ts) new told no k.0 end.changed)
 
 pub move_is_kept : MoveIsKept
 move_is_kept g e past ts old new valid made kept told_of end = by_plugin (is_p_res g.setup.plugin) refl
   where
+    clock : new.resvs.clock ≡ now (e ∷ past)
+    clock =
+        ap (λ (v : Served). v.clock) end.resvs ∙ told-clock (λ t. ready_release g t (e ∷ past)) ts (all_begun e past old.resvs)
+        ∙ clock-begun e past old.resvs kept.clock
+
     by_plugin : (b : Bool) → is_p_res g.setup.plugin ≡ b → KeepsResvs g (e ∷ past) new × AreChanged g old new
     by_plugin true res =
         let k = moved g valid (p_res-is g.setup.plugin res) e past ts old new made (kept.reserved res) told_of end in
-        (record { reserved = λ h. k.0; unreserved = λ h. absurd (yes-no _ res h) }, k.1)
+        (record { clock = clock; reserved = λ h. k.0; unreserved = λ h. absurd (yes-no _ res h) }, k.1)
     by_plugin false res =
         let was = kept.unreserved res in
         let begun_none = none-begun e past old.resvs was.0 in
         let told : AreNone (told_of_move g e past ts old).resvs = subst AreNone (sym (none-told (λ t. ready_release g t (e ∷ past)) ts (all_begun e past old.resvs) begun_none)) begun_none in
         let k = none-ended (told_of_move g e past ts old) new told end in
-        (record { reserved = λ h. absurd (yes-no _ h res); unreserved = λ h. k }, none-changed g old new was.0 was.1 k.0 end.changed)
+        (record { clock = clock; reserved = λ h. absurd (yes-no _ h res); unreserved = λ h. k }, none-changed g old new was.0 was.1 k.0 end.changed)
 
 pub resvs_are_read : ResvsAreRead
 unfolding model.is_served no_budget

@@ -2,7 +2,7 @@
 use Rattle.std.specs.Prelude.{◌≡◌, ℕ, true, false, List, [], length, None}
 use Rattle.rt_task.specs.RuleWords.{is_p_res}
 use Rattle.rt_model.specs.Group.{Group, resv}
-use Rattle.rt_model.specs.Past.{Past}
+use Rattle.rt_model.specs.Past.{Past, now}
 use Rattle.rank_changes.specs.Served.{serves}
 use Rattle.resv_core.specs.Served.{IsResv, Served, is_here, server, server_of}
 use Rattle.resv_laws.specs.Serving.{IsServing}
@@ -26,5 +26,6 @@ pub record AreNone (v : Served) : Type 0 where
   pub no_client : (t : ℕ) → server_of v t ≡ None
 
 pub record KeepsResvs (g : Group) (past : Past) (v : GroupResvs) : Type 0 where
+  pub clock : v.resvs.clock ≡ now past
   pub reserved : is_p_res g.setup.plugin ≡ true → AreServing g past v
   pub unreserved : is_p_res g.setup.plugin ≡ false → AreNone v.resvs × (v.serves ≡ [])

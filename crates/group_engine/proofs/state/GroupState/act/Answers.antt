@@ -8,14 +8,14 @@ pub end_move-requires : goal.end_move-requires
 end_move-requires c =
     let at : Moment = c.requires.at.0 in
     let on = c.requires.at.1 in
-    let acting = c.answer.ensures.acted at on in (
+    let acting = c.answer-reply.ensures.acted at on in (
       record { group = at.group; past = Acted (past_act at.group c.args.cpu.0 c.args.act at.past) ∷ at.past },
       record { played = on.can.played; ending = acting.ending; parts_are = on.parts_are },
     )
 
 pub returns-clause-acted : goal.returns-clause-acted
 returns-clause-acted c = λ at on.
-    let acting = c.answer.ensures.acted at on in
+    let acting = c.answer-reply.ensures.acted at on in
     record {
       reply_is = acting.reply_is;
       kept = c.end_move.ensures.at (record { group = at.group; past = Acted (past_act at.group c.args.cpu.0 c.args.act at.past) ∷ at.past })
@@ -23,4 +23,4 @@ returns-clause-acted c = λ at on.
     }
 
 pub returns-clause-room : goal.returns-clause-room
-returns-clause-room c = omega (arith, c.answer.ensures.room, c.end_move.ensures.room)
+returns-clause-room c = omega (arith, c.answer-reply.ensures.room, c.end_move.ensures.room)

@@ -1,4 +1,4 @@
-use Rattle.std.proofs.Common.{◌≡◌, ℕ, max, List, ◌∷◌, refl, ap, ◌∙◌, subst}
+use Rattle.std.proofs.Common.{◌≡◌, ℕ, max, List, ◌∷◌, refl, ap, ◌∙◌, subst, arith}
 use Rattle.rt_model.specs.Group.{tasks}
 use Rattle.rt_model.specs.Past.{Clock, Past, now}
 use Rattle.group_facts.specs.Kept.{IsKept}
@@ -24,6 +24,13 @@ bring_up_due-requires c =
       rw can.parts_are (λ t h. can-look at.group can.played at.past c.args.self.now can.kept past1 s1 kept (clock-within c.args.tick.0 at.past can.tick_low can.kept.within) (λ u m. has-base at.group at.past c.args.self.now.sems.waits.bases can.kept.sems_are.bases u m) refl refl t h),
       λ t tick h. armed-member at.group at.past c.args.self.now.timers can.kept.timers_are t tick h,
     )
+
+pub move_clock-requires-2 : goal.move_clock-requires-2
+move_clock-requires-2 c =
+    let can = c.requires.1 in
+    let kept : c.args.self.now.resvs.resvs.clock ≡ now c.requires.0.past = can.kept.resvs_are.clock in
+    let clock : c.clock.result ≡ max (now c.requires.0.past) c.args.tick.0 = c.clock.ensures ∙ ap (λ (j : GroupJobs). j.kept.clock) c.move_clock.ensures ∙ ap (λ n. max n c.args.tick.0) can.kept.jobs_are.clock_is in
+    omega (arith, kept, clock)
 
 pub end_move-requires : goal.end_move-requires
 end_move-requires c =
