@@ -1,24 +1,19 @@
 -- The lines of a group's history, entry by entry.
-use Rattle.std.proofs.Common.{◌≡◌, ◌≢◌, ℕ, ◌+◌, ◌<◌, List, [], ◌∷◌, ◌++◌, All, length, refl, sym, ap, ◌∙◌, subst, arith, length-append}
-use Rattle.std.proofs.lemmas.List.{map-append}
+use Rattle.std.proofs.Common.{◌≡◌, ◌≢◌, ℕ, ◌+◌, List, [], ◌∷◌, ◌++◌, All, length, refl, sym, ap, ◌∙◌, subst, arith, append_assoc}
 use Rattle.std.proofs.lemmas.List.Elements.{All-append, All-cons, All-map, All-nil}
-use Rattle.std.proofs.Math.Seq.{get_or-append_seam}
-use Rattle.rt_task.specs.declared.Step.{Step}
 use Rattle.rt_history.specs.declared.Entry.{Entry}
-use Rattle.rt_rules.proofs.MemberLaws.{equal_self}
 use Rattle.rt_model.specs.Blocking.{requests}
 use Rattle.rt_model.specs.Group.{Group}
 use Rattle.rt_model.specs.Past.{Past}
 use Rattle.rt_model.specs.Histories.{after, changed, past_from, past_of, reply_to, IsLegalFrom}
-use Rattle.rt_plays.proofs.ScriptParts.{script-append}
-use Rattle.rt_plays.specs.Homes.{IsProcessorOf}
-use Rattle.rt_plays.specs.ScriptPlays.{IsScriptPlay}
-use Rattle.rt_plays.specs.Scripts.{script, steps_of}
+use Rattle.rt_plays.proofs.PlayLaws.{part-is_begun}
+use Rattle.rt_plays.specs.Plays.{IsBegunPlay, IsPlay}
 use Rattle.trace_lines.specs.Lines.{Line, entry_line, end_line}
 use Rattle.trace_text.specs.TraceText.{block_lines, block_of, entry_lines, group_lines, links_at}
+use Rattle.trace_laws.proofs.Plays.{begun-legal, begun-whole}
 use Rattle.trace_laws.proofs.ReadBack.{entries_first, histories_said, first-entries, said-entries}
-use Rattle.trace_check.specs.Following.{IsNextStep}
-use Rattle.trace_check.specs.GroupLines.{lines_so_far, opening_line}
+use Rattle.trace_check.specs.GroupLines.{IsOtherLine, lines_so_far, opening_line}
+use Rattle.trace_check.specs.Places.{IsNextStep, entry_by}
 
 -- the line of an entry that comes after others
 abbrev pub next_line : Group → List Entry → Entry → Line
@@ -90,11 +85,6 @@ blocks-no_end g past = All-map IsNoEnd (block_of g past) (requests past) (λ k d
 pub group-no_end : (g : Group) (es : List Entry) → All IsNoEnd (group_lines g es)
 group-no_end g es = subst (All IsNoEnd) (sym (group_lines-parts g es)) (All-append IsNoEnd (lines_so_far g es) (block_lines g (past_of g es)) (so_far-no_end g es) (blocks-no_end g (past_of g es)))
 
--- a line of another kind than an entry's
-abbrev pub IsOtherLine : Line → Type 0
-IsOtherLine (entry_line n e links) = ⊥
-IsOtherLine _ = Unit {0}
-
 pub blocks-other : (g : Group) (past : Past) → All IsOtherLine (block_lines g past)
 unfolding block_lines
 blocks-other g past = All-map IsOtherLine (block_of g past) (requests past) (λ k d low. tt)
@@ -107,20 +97,14 @@ unfolding past_from
 legal-next g past [] e more legal = legal.0
 legal-next g past (x ∷ es) e more legal = legal-next g (after g x.step past) es e more legal.1
 
-pub next-told : (g : Group) (es : List Entry) (e : Entry) (more : List Entry) → IsScriptPlay g (es ++ e ∷ more) → e.reply ≡ reply_to g e.step (past_of g es)
+pub next-told : (g : Group) (es : List Entry) (e : Entry) (more : List Entry) → IsPlay g (es ++ e ∷ more) → e.reply ≡ reply_to g e.step (past_of g es)
 unfolding past_of
-next-told g es e more play = legal-next g [] es e more play.legal
+next-told g es e more play = legal-next g [] es e more (begun-legal g (es ++ e ∷ more) (begun-whole g (es ++ e ∷ more) play))
 
--- its step is the next of its processor's script
-pub next-step : (g : Group) (es : List Entry) (e : Entry) (more : List Entry) → IsScriptPlay g (es ++ e ∷ more) → IsNextStep g es e.step
+-- and its step is one that may come next
+pub next-step : (g : Group) (es : List Entry) (e : Entry) (more : List Entry) → IsPlay g (es ++ e ∷ more) → IsNextStep g es e.step
 next-step g es e more play =
-    let inside : length es < length (es ++ e ∷ more) = omega (arith, length-append es (e ∷ more)) in
-    let there : IsProcessorOf g e.step.cpu.0 = subst (λ (x : Entry). IsProcessorOf g x.step.cpu.0) (get_or-append_seam es e more e) (play.at_home (length es) e inside) in
-    let parts : script (steps_of (es ++ e ∷ more)) e.step.cpu.0 ≡ script (steps_of es) e.step.cpu.0 ++ script (steps_of (e ∷ more)) e.step.cpu.0 =
-    ap (λ (ss : List Step). script ss e.step.cpu.0) (map-append (λ (x : Entry). x.step) es (e ∷ more)) ∙ script-append (steps_of es) (steps_of (e ∷ more)) e.step.cpu.0 in
-    let own : script (steps_of (e ∷ more)) e.step.cpu.0 ≡ e.step ∷ script (steps_of more) e.step.cpu.0 = rw (equal_self e.step.cpu.0) refl in
-    record {
-      home = there;
-      more = script (steps_of more) e.step.cpu.0;
-      next = sym (play.scripts e.step.cpu.0 there) ∙ parts ∙ ap (λ (ss : List Step). script (steps_of es) e.step.cpu.0 ++ ss) own;
-    }
+    subst (λ (x : Entry). IsBegunPlay g (es ++ x ∷ [])) (same e (next-told g es e more play)) (part-is_begun g (es ++ e ∷ []) more (subst (IsPlay g) (sym (append_assoc es (e ∷ []) more)) play))
+  where
+    same : (x : Entry) → x.reply ≡ reply_to g x.step (past_of g es) → x ≡ entry_by g es x.step
+    same x told = λ i. record { step = x.step; reply = told i }

@@ -7,7 +7,6 @@ use Rattle.std.proofs.Math.Seq.{take-append-add, take-append_seam}
 use Rattle.rt_task.specs.declared.Parts.{Parts}
 use Rattle.rt_task.specs.Validity.{IsValid}
 use Rattle.rt_history.specs.declared.Entry.{Entry}
-use Rattle.rt_groups.specs.Built.{is_built}
 use Rattle.rt_plays.specs.Plays.{ArePlays}
 use Rattle.set_canonical.specs.Canonical.{canonical}
 use Rattle.trace_lines.specs.declared.format.Version.{Version}
@@ -67,7 +66,7 @@ agree-next front (l ∷ rest) ls vs e h =
       vs_are = sym (take-append-drop (length front + 1) vs) ∙ ap (λ (xs : List Line). xs ++ more) first ∙ append_assoc front (l ∷ []) more;
     }
 
-module _ (v : Version) (p : Parts) (valid : IsValid p) (built : is_built p ≡ true) where
+module _ (v : Version) (p : Parts) (valid : IsValid p) where
   abbrev one_line : All (λ (c : ℕ). c ≢ 10) (canonical p)
   one_line = canonical-one_line p valid
 
@@ -99,7 +98,7 @@ module _ (v : Version) (p : Parts) (valid : IsValid p) (built : is_built p ≡ t
         subst (λ (t : List ℕ). HasHead v t (canonical p) (lines_of v p hs)) (sym is.text_is) (trace-head v p hs one_line) in
         let heads = head-unique v v bytes r.set_text r.rest (canonical p) (lines_of v p hs) r.head head in
         let others : AreLines k r.rest (lines_from p 0 hs) [] =
-        subst (λ (t : List ℕ). AreLines k t (lines_from p 0 hs) []) (sym heads.rest) (are-lines k (lines_from p 0 hs) (known-lines v p valid built hs is.plays)) in
+        subst (λ (t : List ℕ). AreLines k t (lines_from p 0 hs) []) (sym heads.rest) (are-lines k (lines_from p 0 hs) (known-lines v p valid hs is.plays)) in
         let both = lines-unique k r.rest lines (lines_from p 0 hs) r.left [] tells r.lines_are others in
         (hs, is.plays, heads.set_text, both.0, stop-none both.1)
 
@@ -112,7 +111,7 @@ module _ (v : Version) (p : Parts) (valid : IsValid p) (built : is_built p ≡ t
         subst (λ (t : List ℕ). HasHead v t (canonical p) (lines_of v p hs)) (sym is.text_is) (trace-head v p hs one_line) in
         let same = alike-head v v n bytes begun.whole r.set_text r.rest (canonical p) (lines_of v p hs) begun.alike many r.head head in
         let agree = alike-take k v v n bytes begun.whole r.set_text r.rest (canonical p) (lines_of v p hs) r.left lines (lines_from p 0 hs) tells r.head head r.lines_are
-        (known-lines v p valid built hs is.plays) refl begun.alike many in
+        (known-lines v p valid hs is.plays) refl begun.alike many in
         (hs, is.plays, same, agree)
 
     -- the same the other way round
@@ -173,7 +172,7 @@ module _ (v : Version) (p : Parts) (valid : IsValid p) (built : is_built p ≡ t
     -- the set's text is not the canonical one
     pub not-canonical : (r.set_text ≡ canonical p → ⊥) → IsInvalid v p bytes 2
     not-canonical other =
-        let all = completed-between p built [] tt (omega arith) in
+        let all = completed-between p [] tt (omega arith) in
         record {
           not_valid = λ n is. (let said = valid-lines n is in other said.2);
           right = 1;

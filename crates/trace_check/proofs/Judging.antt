@@ -9,19 +9,14 @@ use Rattle.std.proofs.Math.ListN.{drop_of_length-le}
 use Rattle.std.proofs.Math.Seq.{drop-cons, get_or-append_seam}
 use Rattle.rt_base.specs.declared.TheConstants.{MOST_STEPS}
 use Rattle.rt_task.specs.declared.Parts.{Parts}
-use Rattle.rt_task.specs.declared.Step.{Step}
 use Rattle.rt_task.specs.Validity.{IsValid}
 use Rattle.rt_history.specs.declared.Entry.{Entry}
 use Rattle.rt_rules.proofs.MemberLaws.{equal_self}
 use Rattle.rt_model.specs.Group.{Group, group_processors}
 use Rattle.rt_model.specs.Histories.{past_of}
-use Rattle.rt_groups.specs.Built.{is_built}
 use Rattle.rt_groups.specs.Groups.{IsGroupOf}
 use Rattle.rt_groups.proofs.GroupCount.{groups_are_counted}
-use Rattle.rt_plays.proofs.ScriptParts.{begun-whole, play-of-part}
-use Rattle.rt_plays.specs.Drives.{steps_given}
-use Rattle.rt_plays.specs.Plays.{ArePlays, group_count, group_with}
-use Rattle.rt_plays.specs.ScriptPlays.{IsScriptPlay}
+use Rattle.rt_plays.specs.Plays.{ArePlays, IsPlay, group_count, group_with}
 use Rattle.trace_lines.specs.Lines.{Link, Line, group_line, entry_line, block_line, end_line, count_line, links_of}
 use Rattle.trace_text.specs.TraceText.{lines_from, links_at}
 use Rattle.trace_text.proofs.GroupLaws.{groups-few}
@@ -30,7 +25,7 @@ use Rattle.trace_read.specs.Lines.{line_of}
 use Rattle.trace_read.specs.declared.lines.Line.TheVariants as read
 use Rattle.trace_read.specs.declared.lines.Line as kinds
 use Rattle.trace_laws.specs.ValidTexts.{IsValidText, entry_count}
-use Rattle.trace_laws.proofs.Plays.{few-entries}
+use Rattle.trace_laws.proofs.Plays.{begun-whole, few-entries}
 use Rattle.trace_lines.specs.declared.links.CpuLink.{CpuLink}
 use Rattle.trace_check.specs.declared.follow.Follow.{Follow}
 use Rattle.trace_check.specs.declared.progress.Progress.{Progress}
@@ -38,14 +33,15 @@ use Rattle.trace_check.specs.declared.progress.Followed.{Followed}
 use Rattle.trace_check.specs.declared.verdict.Verdict.TheVariants.{Valid, Invalid}
 use Rattle.trace_check.specs.Verdicts.{IsInvalid}
 use Rattle.trace_check.specs.SameLinks.{same_links}
-use Rattle.trace_check.specs.Following.{IsAccepted, IsFollowing, IsFollowingWith, IsNextEntry, IsOver, Place}
-use Rattle.trace_check.specs.GroupLines.{ArePlaysFrom, lines_of_groups, lines_so_far, opening_line}
+use Rattle.trace_check.specs.Following.{IsAccepted, IsFollowing, IsFollowingWith, IsNextEntry}
+use Rattle.trace_check.specs.Places.{Place}
+use Rattle.trace_check.specs.GroupLines.{ArePlaysFrom, IsOtherLine, NoEntryFirst, lines_of_groups, lines_so_far, opening_line}
 use Rattle.trace_check.specs.Judging.{IsJudged, begins_with, begins_with_end}
 use Rattle.trace_check.specs.Progress.{AreAllRight, AreRight, IsEndedAt, IsFollowedTo, finished, missing, unfinished}
 use Rattle.trace_check.specs.RequestLines.{AllStandFirst, StopAt}
 use Rattle.trace_check.proofs.LinkLists.{same_links-self, same_links-true}
-use Rattle.trace_check.proofs.GroupLines.{IsNoEnd, IsOtherLine, blocks-no_end, lines_so_far-last, lines_so_far-none, next-step, next-told, next_line, so_far-no_end}
-use Rattle.trace_check.proofs.SetLines.{IsEntryNext, IsNextAfter, completed-between, completed-within, from-all, goes-on, groups-no_end, lines-last, lines_behind, lines_through, next-between, next-within, plays-append, whole-lines}
+use Rattle.trace_check.proofs.GroupLines.{IsNoEnd, blocks-no_end, lines_so_far-last, lines_so_far-none, next-step, next-told, next_line, so_far-no_end}
+use Rattle.trace_check.proofs.SetLines.{AreClosed, GoesOn, IsEntryNext, IsNextAfter, completed-between, completed-whole, completed-within, from-all, goes-on, groups-no_end, lines-last, lines_behind, lines_through, next-between, next-within, plays-append, whole-lines}
 use Rattle.trace_check.proofs.Judged.{ended-valid, stopped}
 use Rattle.trace_check.proofs.LinePlaces.{StandBefore, drop-further, heads, rest-at, rest-cons, stand-further, stand-more, stand-within, tails}
 
@@ -75,6 +71,22 @@ last-end : (ls front : List Line) → All IsNoEnd front → ls ++ end_line ∷ [
 last-end ls front none e =
     let inside : length ls < length front = omega (arith, ap length e, length-append ls (end_line ∷ [])) in
     All-get_or IsNoEnd front (length ls) end_line inside none (ap (λ (xs : List Line). get_or xs (length ls) end_line) (sym e) ∙ get_or-append_seam ls end_line [] end_line)
+
+-- two lists with one element more that are the same
+last-same : {A : Type 0} (xs ys : List A) (x y : A) → xs ++ x ∷ [] ≡ ys ++ y ∷ [] → (xs ≡ ys) × (x ≡ y)
+last-same [] [] x y e = (refl, cc)
+last-same [] (b ∷ ys) x y e = absurd (omega (arith, ap length e, length-append ys (y ∷ [])))
+last-same (a ∷ xs) [] x y e = absurd (omega (arith, ap length e, length-append xs (x ∷ [])))
+last-same {A = A} (a ∷ xs) (b ∷ ys) x y e =
+    let heads_same : a ≡ b = first-same (xs ++ x ∷ []) (ys ++ y ∷ []) e in
+    let rest = last-same xs ys x y (rest-same (xs ++ x ∷ []) (ys ++ y ∷ []) e) in
+    ((λ i. heads_same i ∷ rest.0 i), rest.1)
+  where
+    first-same : (us vs : List A) → a ∷ us ≡ b ∷ vs → a ≡ b
+    first-same us vs k = cc
+
+    rest-same : (us vs : List A) → a ∷ us ≡ b ∷ vs → us ≡ vs
+    rest-same us vs k = cc
 
 -- the first line behind a place
 begins-true : (n : ℕ) (ks : List Link) (ls : List Line) → begins_with n ks ls ≡ true → (others : List Line) × (ls ≡ group_line n ks ∷ others)
@@ -144,9 +156,18 @@ module _ (p : Parts) (lines : List Line) where
   pub right-within : (n : ℕ) (r : Progress) → AreRight p lines n r → r.lines ≤ length lines
   right-within n r right = stand-within (lines_of_groups p 0 right.histories) lines r.lines (stands-before right)
 
+  -- what stands behind whole groups is of no entry behind those of the last
+  closed-by : {n : ℕ} → {r : Progress} → (right : AreRight p lines n r) (l : Line) (others ls : List Line) → drop r.lines lines ≡ l ∷ others → AreClosed p right.histories (l ∷ ls)
+  closed-by right l others ls here front es last =
+      same-first (lines_behind p (length front) es) (subst (λ (rest : List Line). NoEntryFirst (lines_behind p (length front) es ++ rest)) here (right.closed front es last))
+    where
+      same-first : (bs : List Line) → NoEntryFirst (bs ++ l ∷ others) → NoEntryFirst (bs ++ l ∷ ls)
+      same-first [] h = h
+      same-first (b ∷ bs) h = h
+
   -- before all groups
   pub right-first : AreRight p lines 0 (record { lines = 0; entries = 0 })
-  right-first = record { histories = []; plays = tt; count = refl; place_is = refl; lines_are = refl; entries_are = refl }
+  right-first = record { histories = []; plays = tt; count = refl; place_is = refl; lines_are = refl; entries_are = refl; closed = λ front es none. absurd (omega (arith, ap length none, length-append front (es ∷ []))) }
 
   -- plays have a line `end`
   ended : (hs : List (List Entry)) (front : List Line) → All IsNoEnd front → lines_from p 0 hs ≡ front → ⊥
@@ -154,16 +175,16 @@ module _ (p : Parts) (lines : List Line) where
 
   -- ---- the line of a group
 
-  module _ (n : ℕ) (r : Progress) (right : AreRight p lines n r) (valid : IsValid p) (built : is_built p ≡ true) (low : n < group_count p) where
+  module _ (n : ℕ) (r : Progress) (right : AreRight p lines n r) (valid : IsValid p) (low : n < group_count p) where
     -- it is not there
     pub opened-wrong : (links : List Link) → group_line n links ≡ opening_line (group_with p n) → begins_with n links (drop r.lines lines) ≡ false → (stop : Option ℕ) → IsJudged p lines stop (Invalid (r.lines + 3))
-    opened-wrong links shown other stop version bytes t same = subst (λ (m : ℕ). IsInvalid version p bytes (m + 3)) (sym right.place_is) (stopped version p valid built bytes lines stop t front rest same (record {
+    opened-wrong links shown other stop version bytes t same = subst (λ (m : ℕ). IsInvalid version p bytes (m + 3)) (sym right.place_is) (stopped version p valid bytes lines stop t front rest same (record {
       lines_are = right.lines_are;
       plays = all.0;
       are_plays = all.1;
       later = all.2.0;
       plays_begin = all.2.1;
-      no_more = λ hs l others ls plays here begin. none_next l others here (next-between p built hs right.histories l ls plays right.plays begin);
+      no_more = λ hs l others ls plays here begin. none_next l others here (next-between p hs right.histories l ls plays (closed-by right l others ls here) begin);
       not_whole = λ hs plays none begin stops. ended hs front (groups-no_end p 0 right.histories) begin;
     }))
       where
@@ -174,7 +195,7 @@ module _ (p : Parts) (lines : List Line) where
         rest = drop r.lines lines
 
         all : (hs : List (List Entry)) × ArePlays p hs × ((ls : List Line) × (lines_from p 0 hs ≡ front ++ ls))
-        all = completed-between p built right.histories right.plays (omega (arith, low, right.count))
+        all = completed-between p right.histories right.plays (omega (arith, low, right.count))
 
         none_next : (l : Line) (others : List Line) → rest ≡ l ∷ others → IsNextAfter p (length right.histories) l → ⊥
         none_next l others here (inl next) =
@@ -198,9 +219,9 @@ module _ (p : Parts) (lines : List Line) where
 
   -- ---- lines of entries
 
-  -- they were followed by the set's steps
-  pub followed-with : {n : ℕ} → {from : Progress} → {place : ℕ} → {f : Follow} → (right : IsRight p lines n from place f) (steps : List Step) → steps ≡ steps_given p.drive → IsFollowingWith (place_at right) steps f
-  followed-with right steps given = record { following = right.following; steps_are = given }
+  -- they were followed by the set
+  pub followed-with : {n : ℕ} → {from : Progress} → {place : ℕ} → {f : Follow} → (right : IsRight p lines n from place f) → IsFollowingWith (place_at right) p f
+  followed-with right = record { following = right.following; setup_is = refl }
 
   module _ (n : ℕ) (from : Progress) (place : ℕ) (f : Follow) (right : IsRight p lines n from place f) where
     abbrev g : Group
@@ -217,9 +238,6 @@ module _ (p : Parts) (lines : List Line) where
 
     valid : IsValid p
     valid = right.following.valid
-
-    built : is_built p ≡ true
-    built = right.following.built
 
     low : n < group_count p
     low = group-low p n valid right.following.is_there
@@ -241,25 +259,25 @@ module _ (p : Parts) (lines : List Line) where
         more = append_assoc (lines_of_groups p 0 done) (lines_so_far g es) (next_line g es e ∷ []) ∙ ap (λ (xs : List Line). lines_of_groups p 0 done ++ xs) (sym (lines_so_far-last g es e))
 
     -- the line behind them is wrong where none that may come there is it
-    wrong-there : ((l : Line) (others : List Line) → drop place lines ≡ l ∷ others → IsEntryNext g es l ⊎ (IsScriptPlay g es × IsOtherLine l) → ⊥) → (stop : Option ℕ) → IsJudged p lines stop (Invalid (place + 3))
-    wrong-there none stop version bytes t same = subst (λ (m : ℕ). IsInvalid version p bytes (m + 3)) (sym right.stands.place_is) (stopped version p valid built bytes lines stop t front (drop place lines) same (record {
+    wrong-there : ((l : Line) (others : List Line) → drop place lines ≡ l ∷ others → IsEntryNext g es l ⊎ (IsPlay g es × IsOtherLine l) → ⊥) → (stop : Option ℕ) → IsJudged p lines stop (Invalid (place + 3))
+    wrong-there none stop version bytes t same = subst (λ (m : ℕ). IsInvalid version p bytes (m + 3)) (sym right.stands.place_is) (stopped version p valid bytes lines stop t front (drop place lines) same (record {
       lines_are = right.stands.lines_are;
       plays = all.0;
       are_plays = all.1;
       later = all.2.0;
       plays_begin = all.2.1;
-      no_more = λ hs l others ls plays here begin. none l others here (next-within p built hs done n es l ls plays right.before.count begin);
+      no_more = λ hs l others ls plays here begin. none l others here (next-within p hs done n es l ls plays right.before.count begin);
       not_whole = λ hs plays rest begin stops. ended hs front (All-append IsNoEnd (lines_of_groups p 0 done) (lines_so_far g es) (groups-no_end p 0 done) (so_far-no_end g es)) begin;
     }))
       where
         all : (hs : List (List Entry)) × ArePlays p hs × ((ls : List Line) × (lines_from p 0 hs ≡ front ++ ls))
-        all = completed-within p built done n es right.before.plays right.before.count low right.following.begun
+        all = completed-within p done n es right.before.plays right.before.count low right.following.begun
 
     -- an entry that is not the next one
     pub refused-there : (i : ℕ) (e : Entry) (links : List Link) (d : Line) → place < length lines → get_or lines place d ≡ entry_line i e links → (IsNextEntry g es i e links → ⊥) → (stop : Option ℕ) → IsJudged p lines stop (Invalid (place + 3))
     refused-there i e links d inside here refused = wrong-there none
       where
-        same_entry : (l : Line) → l ≡ entry_line i e links → IsEntryNext g es l ⊎ (IsScriptPlay g es × IsOtherLine l) → ⊥
+        same_entry : (l : Line) → l ≡ entry_line i e links → IsEntryNext g es l ⊎ (IsPlay g es × IsOtherLine l) → ⊥
         same_entry l is (inl next) =
             let line : next_line g es next.entry ≡ entry_line i e links = sym next.line_is ∙ is in
             refused (subst IsNextLine line (record { number = refl; next = next-step g es next.entry next.more next.play; reply_is = next-told g es next.entry next.more next.play; links_are = refl }))
@@ -269,7 +287,7 @@ module _ (p : Parts) (lines : List Line) where
             IsNextLine _ = ⊥
         same_entry l is (inr (play, other)) = subst IsOtherLine is other
 
-        none : (l : Line) (others : List Line) → drop place lines ≡ l ∷ others → IsEntryNext g es l ⊎ (IsScriptPlay g es × IsOtherLine l) → ⊥
+        none : (l : Line) (others : List Line) → drop place lines ≡ l ∷ others → IsEntryNext g es l ⊎ (IsPlay g es × IsOtherLine l) → ⊥
         none l others is = same_entry l (heads _ _ _ _ (sym is ∙ rest-at lines place d inside) ∙ here)
 
     -- no entry line is there
@@ -283,12 +301,12 @@ module _ (p : Parts) (lines : List Line) where
     none-there all l others is = absurd (omega (arith, all, ap length is, length-drop place lines))
 
     -- and a step is left
-    unfinished-there : NoEntryThere → (IsOver g es → ⊥) → (stop : Option ℕ) → IsJudged p lines stop (Invalid (place + 3))
+    unfinished-there : NoEntryThere → (IsPlay g es → ⊥) → (stop : Option ℕ) → IsJudged p lines stop (Invalid (place + 3))
     unfinished-there other left = wrong-there none
       where
-        none : (l : Line) (others : List Line) → drop place lines ≡ l ∷ others → IsEntryNext g es l ⊎ (IsScriptPlay g es × IsOtherLine l) → ⊥
+        none : (l : Line) (others : List Line) → drop place lines ≡ l ∷ others → IsEntryNext g es l ⊎ (IsPlay g es × IsOtherLine l) → ⊥
         none l others is (inl next) = subst IsOtherLine next.line_is (other l others is)
-        none l others is (inr next) = left (λ q there. sym (next.0.scripts q there))
+        none l others is (inr next) = left next.0
 
     pub place-within : place ≤ length lines
     place-within = stand-within front lines place right.stands
@@ -296,25 +314,41 @@ module _ (p : Parts) (lines : List Line) where
     abbrev blocks : List Line
     blocks = lines_behind p n es
 
+    -- no line of an entry stands behind the entries
+    first-other : NoEntryThere → NoEntryFirst (drop place lines)
+    first-other other = by_rest (drop place lines) refl
+      where
+        by_rest : (rest : List Line) → drop place lines ≡ rest → NoEntryFirst rest
+        by_rest [] is = tt
+        by_rest (l ∷ others) is = other l others is
+
     -- what comes behind the first lines of requests
-    behind : (k : ℕ) → IsOver g es → (hs : List (List Entry)) (ls : List Line) → ArePlays p hs → lines_from p 0 hs ≡ (front ++ take k blocks) ++ ls → (later : List Line) × (ls ≡ drop k blocks ++ later)
-    behind k over hs ls plays begin =
-        let on = goes-on p built hs done n es (take k blocks ++ ls) plays right.before.count over (begin ∙ append_assoc front (take k blocks) ls) in
-        let later : List Line = lines_of_groups p (n + 1) on.more ++ end_line ∷ [] in (
-          later,
-          append_cancel_left (take k blocks) ls (drop k blocks ++ later)
-              (on.lines_are ∙ ap (λ (bs : List Line). bs ++ later) (sym (take-append-drop k blocks)) ∙ append_assoc (take k blocks) (drop k blocks) later),
-        )
+    behind : (k : ℕ) → NoEntryThere → (hs : List (List Entry)) (l : Line) (others ls : List Line) → ArePlays p hs → drop place lines ≡ take k blocks ++ l ∷ others → lines_from p 0 hs ≡ (front ++ take k blocks) ++ l ∷ ls
+        → (later : List Line) × (l ∷ ls ≡ drop k blocks ++ later)
+    behind k other hs l others ls plays is begin = by_first (take k blocks) (drop k blocks) (take-append-drop k blocks) (subst NoEntryFirst is (first-other other)) begin
+      where
+        by_first : (first more : List Line) → first ++ more ≡ blocks → NoEntryFirst (first ++ l ∷ others) → lines_from p 0 hs ≡ (front ++ first) ++ l ∷ ls → (later : List Line) × (l ∷ ls ≡ more ++ later)
+        by_first first more parts no_entry begun = (later, append_cancel_left first (l ∷ ls) (more ++ later) (on.lines_are ∙ ap (λ (bs : List Line). bs ++ later) (sym parts) ∙ append_assoc first more later))
+          where
+            on : GoesOn p n es (first ++ l ∷ ls)
+            on = whole first (begun ∙ append_assoc front first (l ∷ ls)) no_entry
+              where
+                whole : (bs : List Line) → lines_from p 0 hs ≡ front ++ (bs ++ l ∷ ls) → NoEntryFirst (bs ++ l ∷ others) → GoesOn p n es (bs ++ l ∷ ls)
+                whole [] lines_are o = goes-on p hs done n es l ls plays right.before.count o lines_are
+                whole (b ∷ bs) lines_are o = goes-on p hs done n es b (bs ++ l ∷ ls) plays right.before.count o lines_are
+
+            later : List Line
+            later = lines_of_groups p (n + 1) on.more ++ end_line ∷ []
 
     -- the line of a request is missing
-    missing-there : (k : ℕ) → IsOver g es → StopAt blocks (drop place lines) k → (stop : Option ℕ) → IsJudged p lines stop (Invalid (place + k + 3))
-    missing-there k over cut stop version bytes t same = subst (λ (m : ℕ). IsInvalid version p bytes (m + 3)) (sym stands.place_is) (stopped version p valid built bytes lines stop t here (drop (place + k) lines) same (record {
+    missing-there : (k : ℕ) → NoEntryThere → IsPlay g es → StopAt blocks (drop place lines) k → (stop : Option ℕ) → IsJudged p lines stop (Invalid (place + k + 3))
+    missing-there k other over cut stop version bytes t same = subst (λ (m : ℕ). IsInvalid version p bytes (m + 3)) (sym stands.place_is) (stopped version p valid bytes lines stop t here (drop (place + k) lines) same (record {
       lines_are = stands.lines_are;
       plays = all.0;
       are_plays = all.1;
       later = all.2.0;
       plays_begin = all.2.1;
-      no_more = λ hs l others ls plays rest begin. no_more l others ls rest (behind k over hs (l ∷ ls) plays begin);
+      no_more = λ hs l others ls plays rest begin. no_more l others ls rest (behind k other hs l others ls plays (cut.begin ∙ ap (λ (xs : List Line). take k blocks ++ xs) (sym (drop-further front lines place k right.stands) ∙ rest)) begin);
       not_whole = λ hs plays rest begin stops. ended hs here none begin;
     }))
       where
@@ -340,32 +374,39 @@ module _ (p : Parts) (lines : List Line) where
         -- plays of all groups
         all : (hs : List (List Entry)) × ArePlays p hs × ((ls : List Line) × (lines_from p 0 hs ≡ here ++ ls))
         all =
-            let begun = completed-within p built done n es right.before.plays right.before.count low right.following.begun in
-            let on = goes-on p built begun.0 done n es begun.2.0 begun.1 right.before.count over begun.2.1 in
-            let later : List Line = lines_of_groups p (n + 1) on.more ++ end_line ∷ [] in (
-              begun.0,
-              begun.1,
+            let whole = completed-whole p done n es right.before.plays right.before.count low over in
+            let later : List Line = whole.2.0 in (
+              whole.0,
+              whole.1,
               (
                 drop k blocks ++ later,
-                begun.2.1 ∙ ap (λ (xs : List Line). front ++ xs) (on.lines_are ∙ ap (λ (bs : List Line). bs ++ later) (sym (take-append-drop k blocks)) ∙ append_assoc (take k blocks) (drop k blocks) later)
+                whole.2.1 ∙ ap (λ (xs : List Line). front ++ xs) (ap (λ (bs : List Line). bs ++ later) (sym (take-append-drop k blocks)) ∙ append_assoc (take k blocks) (drop k blocks) later)
                     ∙ sym (append_assoc front (take k blocks) (drop k blocks ++ later)),
               ),
             )
 
-    -- all the steps of the group were followed, and the lines of its requests are there
-    group-right : IsOver g es → AllStandFirst blocks (drop place lines) → AreRight p lines (n + 1) (record { lines = place + length blocks; entries = from.entries + f.count })
-    group-right over there =
+    -- the play of the group is whole, and the lines of its requests are there
+    group-right : NoEntryThere → IsPlay g es → AllStandFirst blocks (drop place lines) → AreRight p lines (n + 1) (record { lines = place + length blocks; entries = from.entries + f.count })
+    group-right other over there =
         let all : lines_of_groups p 0 (done ++ es ∷ []) ≡ front ++ blocks = lines-last p done n es right.before.count in
         let here : n ≡ 0 + length done = omega (arith, right.before.count) in
         let stands : StandBefore (front ++ blocks) lines (place + length blocks) = stand-further front blocks lines place (length blocks) right.stands refl there in
         record {
           histories = done ++ es ∷ [];
-          plays = plays-append p 0 done (es ∷ []) right.before.plays (subst (λ (m : ℕ). IsScriptPlay (group_with p m) es) here (play-of-part g es right.following.begun over), tt);
+          plays = plays-append p 0 done (es ∷ []) right.before.plays (subst (λ (m : ℕ). IsPlay (group_with p m) es) here over, tt);
           count = omega (arith, right.before.count, length-append done (es ∷ []));
           place_is = stands.place_is ∙ ap length (sym all);
           lines_are = stands.lines_are ∙ ap (λ (xs : List Line). xs ++ drop (place + length blocks) lines) (sym all);
           entries_are = omega (arith, right.before.entries_are, right.following.count_is, count-more done es);
+          closed = λ before last same. closed-last before last (last-same done before es last same);
         }
+      where
+        closed-last : (before : List (List Entry)) (last : List Entry) → (done ≡ before) × (es ≡ last) → NoEntryFirst (lines_behind p (length before) last ++ drop (place + length blocks) lines)
+        closed-last before last same =
+            let count : n ≡ length before = sym right.before.count ∙ ap length same.0 in
+            let here : drop place lines ≡ blocks ++ drop (place + length blocks) lines = there ∙ ap (λ (xs : List Line). blocks ++ xs) (sym (drop-further front lines place (length blocks) right.stands)) in
+            subst (λ (m : ℕ). NoEntryFirst (lines_behind p m last ++ drop (place + length blocks) lines)) count
+            (subst (λ (xs : List Entry). NoEntryFirst (lines_behind p n xs ++ drop (place + length blocks) lines)) same.1 (subst NoEntryFirst here (first-other other)))
 
     pub entries-few : from.entries + f.count < 2 ^ 32
     entries-few =
@@ -377,8 +418,8 @@ module _ (p : Parts) (lines : List Line) where
     -- what comes of it
     pub ended-there : (fd : Followed) → NoEntryThere → IsEndedAt (place_at right) lines from f.count place fd → IsFollowedTo p lines n fd
     ended-there fd other (unfinished left) = unfinished-there other left
-    ended-there fd other (missing k over cut) = missing-there k over cut
-    ended-there fd other (finished over there) = group-right over there
+    ended-there fd other (missing k over cut) = missing-there k other over cut
+    ended-there fd other (finished over there) = group-right other over there
 
   -- ---- the line `end`
 
@@ -390,20 +431,20 @@ module _ (p : Parts) (lines : List Line) where
     groups = lines_of_groups p 0 hs
 
     plays_all : ArePlays p hs
-    plays_all = from-all p hs all.built all.right.plays all.right.count
+    plays_all = from-all p hs all.right.plays all.right.count
 
     lines_all : lines_from p 0 hs ≡ groups ++ end_line ∷ []
     lines_all = whole-lines p 0 hs
 
     -- it is not there
     pub end-wrong : begins_with_end (drop r.lines lines) ≡ false → (stop : Option ℕ) → IsJudged p lines stop (Invalid (r.lines + 3))
-    end-wrong other stop version bytes t same = subst (λ (m : ℕ). IsInvalid version p bytes (m + 3)) (sym all.right.place_is) (stopped version p all.valid all.built bytes lines stop t groups (drop r.lines lines) same (record {
+    end-wrong other stop version bytes t same = subst (λ (m : ℕ). IsInvalid version p bytes (m + 3)) (sym all.right.place_is) (stopped version p all.valid bytes lines stop t groups (drop r.lines lines) same (record {
       lines_are = all.right.lines_are;
       plays = hs;
       are_plays = plays_all;
       later = end_line ∷ [];
       plays_begin = lines_all;
-      no_more = λ ps l others ls plays here begin. none_next l others here (next-between p all.built ps hs l ls plays all.right.plays begin);
+      no_more = λ ps l others ls plays here begin. none_next l others here (next-between p ps hs l ls plays (closed-by all.right l others ls here) begin);
       not_whole = λ ps plays none begin stops. ended ps groups (groups-no_end p 0 hs) begin;
     }))
       where
@@ -425,7 +466,7 @@ module _ (p : Parts) (lines : List Line) where
 
       -- more is behind it
       pub end-more : (stop : Option ℕ) → (r.lines + 1 ≡ length lines → stop ≡ None → ⊥) → IsJudged p lines stop (Invalid (r.lines + 1 + 3))
-      end-more stop more version bytes t same = subst (λ (m : ℕ). IsInvalid version p bytes (m + 3)) (sym stands.place_is) (stopped version p all.valid all.built bytes lines stop t whole (drop (r.lines + 1) lines) same (record {
+      end-more stop more version bytes t same = subst (λ (m : ℕ). IsInvalid version p bytes (m + 3)) (sym stands.place_is) (stopped version p all.valid bytes lines stop t whole (drop (r.lines + 1) lines) same (record {
         lines_are = stands.lines_are;
         plays = hs;
         are_plays = plays_all;
@@ -440,4 +481,4 @@ module _ (p : Parts) (lines : List Line) where
       end-valid stop last none version bytes t same =
           let rest : drop (r.lines + 1) lines ≡ [] = drop_of_length-le lines (omega (arith, last)) in
           let is : lines ≡ lines_from p 0 hs = stands.lines_are ∙ ap (λ (xs : List Line). whole ++ xs) rest ∙ append-nil whole ∙ sym lines_all in
-          subst (IsValidText version p bytes) (sym all.right.entries_are) (ended-valid version p all.valid all.built bytes lines stop t hs same plays_all is none)
+          subst (IsValidText version p bytes) (sym all.right.entries_are) (ended-valid version p all.valid bytes lines stop t hs same plays_all is none)

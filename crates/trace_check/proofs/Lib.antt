@@ -1,6 +1,7 @@
 pub mod LinkLists
 pub mod HeadText
 pub mod Places
+pub mod Courses
 pub mod Opening
 pub mod Accepting
 pub mod GroupLines

@@ -1,17 +1,12 @@
 -- A group at opening.
-use Rattle.std.proofs.Common.{◌≡◌, ℕ, ◌<◌, ◌≤◌, true, List, [], length, sym, ap, ◌∙◌, subst, arith}
-use Rattle.std.specs.Prelude.{None, Some, All, count_by, if◌then◌else◌}
+use Rattle.std.proofs.Common.{◌≡◌, ℕ, ◌<◌, ◌≤◌, List, [], length, sym, ap, ◌∙◌, subst, arith}
+use Rattle.std.specs.Prelude.{All}
 use Rattle.rt_base.specs.declared.CpuNo.{CpuNo}
 use Rattle.rt_task.specs.declared.Parts.{Parts}
-use Rattle.rt_task.specs.declared.Step.{Step}
 use Rattle.rt_task.specs.Validity.{IsValid}
-use Rattle.rt_rules.specs.Numbers.{has}
 use Rattle.rt_model.specs.Group.{Group, group_processors}
 use Rattle.rt_model.specs.Past.{Past}
-use Rattle.rt_groups.specs.Built.{is_built}
 use Rattle.rt_groups.specs.Groups.{IsGroupOf}
-use Rattle.rt_plays.proofs.ScriptParts.{part-first}
-use Rattle.rt_plays.specs.Drives.{steps_given}
 use Rattle.rt_plays.specs.Plays.{group_with}
 use Rattle.block_counts.specs.GroupRequests as counts
 use Rattle.rank_afresh.specs.Standing.{Standing, IsAt, group_of}
@@ -20,10 +15,12 @@ use Rattle.trace_text.specs.Groups.{cpu_numbers}
 use Rattle.trace_text.specs.TraceText.{links_at}
 use Rattle.trace_text.proofs.LineLaws.{past_none}
 use Rattle.trace_text.proofs.ReplayLaws.{cpus_there}
+use Rattle.trace_laws.proofs.Plays.{begun-none}
 use Rattle.trace_laws.proofs.Processors.{processor-low}
 use Rattle.trace_check.specs.declared.follow.Follow.{Follow}
-use Rattle.trace_check.specs.Following.{IsFollowing, has_place, place_in}
-use Rattle.trace_check.proofs.Places.{places-counted, places-first}
+use Rattle.trace_check.specs.Courses.{IsOpened, room_in}
+use Rattle.trace_check.specs.Following.{IsFollowing}
+use Rattle.trace_check.proofs.Courses.{course-first, room-first}
 
 -- the processors of a group have low numbers
 pub cpus-low : (g : Group) (qs : List CpuNo) → IsValid g.setup → cpu_numbers qs ≡ group_processors g → All (λ (q : CpuNo). q.0 < 64) qs
@@ -32,7 +29,6 @@ cpus-low g qs valid are k d low = processor-low g _ valid (cpus_there g qs are k
 -- what was made at opening
 pub record IsMadeOf (p : Parts) (n : ℕ) (f : Follow) : Type 0 where
   pub valid : IsValid p
-  pub built : is_built p ≡ true
   pub there : IsGroupOf p n
   pub setup_is : f.afresh.setup ≡ p
   pub group_is : f.afresh.group ≡ n
@@ -43,8 +39,8 @@ pub record IsMadeOf (p : Parts) (n : ℕ) (f : Follow) : Type 0 where
   pub blocks_spare : f.blocks.spare ≡ f.afresh.spare
   pub waiting_room : length p.tasks ≤ f.waiting.room
   pub cpus_are : cpu_numbers f.cpus.items ≡ group_processors (group_with p n)
-  pub places_are : (q : ℕ) → place_in f.scripts.places.items q ≡ (if has q (cpu_numbers f.cpus.items) then Some 0 else None)
-  pub spare_is : f.afresh.spare ≡ count_by (λ (s : Step). has_place f.scripts.places.items s.cpu.0) (steps_given p.drive)
+  pub opened : IsOpened p.drive f.cpus.items f.course
+  pub spare_is : f.afresh.spare ≡ room_in p.drive (length f.cpus.items) f.course
   pub links_are : (past : Past) → IsAt f.afresh past → links_of f.links.items ≡ links_at (group_of f.afresh) past (cpu_numbers f.cpus.items)
   pub count_is : f.count ≡ 0
 
@@ -60,13 +56,12 @@ following-first p n f m =
     let same : group_of f.afresh ≡ g = group-made p n f.afresh m.setup_is m.group_is in
     record {
       valid = m.valid;
-      built = m.built;
       is_there = m.there;
-      begun = part-first g;
+      begun = begun-none g;
       at = subst (λ past. IsAt f.afresh past) (sym (past_none g)) m.at;
       group_is = same;
       count_is = m.count_is;
-      spare_is = omega (arith, m.spare_is, places-counted g (cpu_numbers f.cpus.items) f.scripts.places.items (steps_given p.drive) m.cpus_are m.places_are);
+      spare_is = omega (arith, m.spare_is, room-first g f.cpus.items m.cpus_are f.course m.opened);
       blocks_are = subst (counts.IsAt f.blocks) (sym (past_none g)) m.blocks_at;
       blocks_group = requests-made p n f.blocks m.blocks_setup m.blocks_group;
       blocks_spare = m.blocks_spare;
@@ -75,5 +70,5 @@ following-first p n f m =
       links_are =
           m.links_are [] m.at ∙ ap (λ (x : Group). links_at x [] (cpu_numbers f.cpus.items)) same ∙ ap (links_at g []) m.cpus_are
           ∙ ap (λ past. links_at g past (group_processors g)) (sym (past_none g));
-      places_are = places-first g (cpu_numbers f.cpus.items) f.scripts.places.items m.cpus_are m.places_are;
+      course_is = course-first g f.cpus.items m.cpus_are f.course m.opened;
     }

@@ -21,7 +21,7 @@ use Rattle.rt_plays.specs.Scripts.{script, steps_of}
 use Rattle.trace_text.specs.Groups.{cpu_numbers}
 use Rattle.trace_check.specs.declared.scripts.Scripts.{Scripts}
 use Rattle.trace_check.specs.Next.{IsNextAt}
-use Rattle.trace_check.specs.Following.{ArePassed, ArePlaces, IsNextPlace, IsNextStep, IsOver, IsPassed, IsPlaceOf, Place, has_place, place_in}
+use Rattle.trace_check.specs.Places.{ArePassed, ArePlaces, IsNextOfScript, IsNextPlace, IsPassed, IsPlaceOf, Place, has_place, place_in}
 
 longer : {A : Type 0} (xs ys : List A) (y : A) → xs ≡ xs ++ y ∷ ys → ⊥
 longer xs ys y e = omega (arith, ap length e, length-append xs (y ∷ ys))
@@ -38,10 +38,6 @@ first-same {A = A} (x ∷ xs) ys zs y z e = first-same xs ys zs y z (tail (xs ++
 pub some-next : (steps : List Step) (from q : ℕ) (o : Option ℕ) → MatchOption o (script steps q ≡ script (take from steps) q) (λ j. IsNextAt steps from q j) → is_some o ≡ true → (j : ℕ) × IsNextAt steps from q j
 some-next steps from q None m t = cc
 some-next steps from q (Some j) m t = (j, m)
-
--- no step comes next where all were followed
-pub over-none : (g : Group) (es : List Entry) (step : Step) → IsOver g es → IsNextStep g es step → ⊥
-over-none g es step over next = longer (script (steps_of es) step.cpu.0) next.more step (sym (over step.cpu.0 next.home) ∙ next.next)
 
 module _ (at : Place) (steps : List Step) (s : Scripts) (ps : ArePassed at steps s) where
   abbrev g : Group
@@ -70,7 +66,7 @@ module _ (at : Place) (steps : List Step) (s : Scripts) (ps : ArePassed at steps
   none-left q from is same = ap (λ (ss : List Step). script ss q) (sym ps.steps_are) ∙ same ∙ taken q from is
 
   -- where no step was found, none is next
-  pub none-found : (step : Step) (from : ℕ) → place_in places step.cpu.0 ≡ Some from → script steps step.cpu.0 ≡ script (take from steps) step.cpu.0 → IsNextStep g es step → ⊥
+  pub none-found : (step : Step) (from : ℕ) → place_in places step.cpu.0 ≡ Some from → script steps step.cpu.0 ≡ script (take from steps) step.cpu.0 → IsNextOfScript g es step → ⊥
   none-found step from is same n = longer (script (steps_of es) step.cpu.0) n.more step (sym (none-left step.cpu.0 from is same) ∙ n.next)
 
   -- the script, from the next step on
@@ -96,7 +92,7 @@ module _ (at : Place) (steps : List Step) (s : Scripts) (ps : ArePassed at steps
   }
 
   -- and no other one is
-  pub not-found : (step : Step) (from j : ℕ) → place_in places step.cpu.0 ≡ Some from → IsNextAt steps from step.cpu.0 j → (get_or steps j step ≡ step → ⊥) → IsNextStep g es step → ⊥
+  pub not-found : (step : Step) (from j : ℕ) → place_in places step.cpu.0 ≡ Some from → IsNextAt steps from step.cpu.0 j → (get_or steps j step ≡ step → ⊥) → IsNextOfScript g es step → ⊥
   not-found step from j at_it n other k =
       let x : Step = get_or steps j step in
       let is : x ≡ get_or steps j x = get_or_default steps j step x n.there in

@@ -6,35 +6,30 @@ use Rattle.rt_task.specs.declared.Parts.{Parts}
 use Rattle.rt_history.specs.declared.Entry.{Entry}
 use Rattle.rt_model.specs.Group.{Group}
 use Rattle.rt_model.specs.Histories.{after, past_of}
-use Rattle.rt_groups.specs.Built.{is_built}
-use Rattle.rt_plays.proofs.ScriptCompletion.{script-completed}
-use Rattle.rt_plays.proofs.ScriptParts.{part-first}
-use Rattle.rt_plays.specs.Plays.{ArePlays, group_count, group_with}
-use Rattle.rt_plays.specs.ScriptPlays.{IsBegunScriptPlay, IsScriptPlay}
+use Rattle.rt_plays.proofs.PlayLaws.{begun-is_completed}
+use Rattle.rt_plays.specs.Plays.{ArePlays, IsBegunPlay, IsPlay, group_count, group_with}
 use Rattle.trace_lines.specs.Lines.{Line, end_line}
 use Rattle.trace_text.specs.TraceText.{block_lines, entry_lines, group_lines, lines_from}
-use Rattle.trace_laws.proofs.Plays.{built-steps, play-by, script-plays}
+use Rattle.trace_laws.proofs.Plays.{begun-none}
 use Rattle.trace_laws.proofs.ReadBack.{entries_first, histories_said, said-group, said-lines}
-use Rattle.trace_check.specs.Following.{IsOver}
-use Rattle.trace_check.specs.GroupLines.{ArePlaysFrom, lines_of_groups, lines_so_far, opening_line}
-use Rattle.trace_check.proofs.Places.{over-none}
-use Rattle.trace_check.proofs.GroupLines.{IsNoEnd, IsOtherLine, blocks-other, group-no_end, group_lines-parts, lines_so_far-more, lines_so_far-next, next-step, next_line, said-so_far}
+use Rattle.trace_check.specs.GroupLines.{ArePlaysFrom, IsOtherLine, NoEntryFirst, lines_of_groups, lines_so_far, opening_line}
+use Rattle.trace_check.proofs.GroupLines.{IsNoEnd, blocks-other, group-no_end, group_lines-parts, lines_so_far-more, lines_so_far-next, next_line, said-so_far}
 
 -- ---- plays of the groups from a number on
 
-plays-at : (p : Parts) (n : ℕ) (hs : List (List Entry)) (i : ℕ) → ArePlaysFrom p n hs → i < length hs → IsScriptPlay (group_with p (n + i)) (get_or hs i [])
+plays-at : (p : Parts) (n : ℕ) (hs : List (List Entry)) (i : ℕ) → ArePlaysFrom p n hs → i < length hs → IsPlay (group_with p (n + i)) (get_or hs i [])
 plays-at p n [] i plays low = absurd (omega arith)
-plays-at p n (es ∷ hs) zero plays low = let here : n ≡ n + 0 = omega arith in subst (λ (m : ℕ). IsScriptPlay (group_with p m) es) here plays.0
-plays-at p n (es ∷ hs) (suc i) plays low = let next : n + 1 + i ≡ n + suc i = omega arith in subst (λ (m : ℕ). IsScriptPlay (group_with p m) (get_or hs i [])) next (plays-at p (n + 1) hs i plays.1 (omega arith))
+plays-at p n (es ∷ hs) zero plays low = let here : n ≡ n + 0 = omega arith in subst (λ (m : ℕ). IsPlay (group_with p m) es) here plays.0
+plays-at p n (es ∷ hs) (suc i) plays low = let next : n + 1 + i ≡ n + suc i = omega arith in subst (λ (m : ℕ). IsPlay (group_with p m) (get_or hs i [])) next (plays-at p (n + 1) hs i plays.1 (omega arith))
 
-plays-from : (p : Parts) (n : ℕ) (hs : List (List Entry)) → ((i : ℕ) → i < length hs → IsScriptPlay (group_with p (n + i)) (get_or hs i [])) → ArePlaysFrom p n hs
+plays-from : (p : Parts) (n : ℕ) (hs : List (List Entry)) → ((i : ℕ) → i < length hs → IsPlay (group_with p (n + i)) (get_or hs i [])) → ArePlaysFrom p n hs
 plays-from p n [] plays = tt
 plays-from p n (es ∷ hs) plays =
     let here : n + 0 ≡ n = omega arith in
-    (subst (λ (m : ℕ). IsScriptPlay (group_with p m) es) here (plays 0 (omega arith)), plays-from p (n + 1) hs later)
+    (subst (λ (m : ℕ). IsPlay (group_with p m) es) here (plays 0 (omega arith)), plays-from p (n + 1) hs later)
   where
-    later : (i : ℕ) → i < length hs → IsScriptPlay (group_with p (n + 1 + i)) (get_or hs i [])
-    later i low = let next : n + suc i ≡ n + 1 + i = omega arith in subst (λ (m : ℕ). IsScriptPlay (group_with p m) (get_or hs i [])) next (plays (suc i) (omega arith))
+    later : (i : ℕ) → i < length hs → IsPlay (group_with p (n + 1 + i)) (get_or hs i [])
+    later i low = let next : n + suc i ≡ n + 1 + i = omega arith in subst (λ (m : ℕ). IsPlay (group_with p m) (get_or hs i [])) next (plays (suc i) (omega arith))
 
 pub plays-append : (p : Parts) (n : ℕ) (hs more : List (List Entry)) → ArePlaysFrom p n hs → ArePlaysFrom p (n + length hs) more → ArePlaysFrom p n (hs ++ more)
 plays-append p n [] more plays others = let here : n + 0 ≡ n = omega arith in subst (λ (m : ℕ). ArePlaysFrom p m more) here others
@@ -50,20 +45,20 @@ plays-split p n (es ∷ hs) more plays =
     let rest = plays-split p (n + 1) hs more plays.1 in
     ((plays.0, rest.0), subst (λ (m : ℕ). ArePlaysFrom p m more) next rest.1)
 
-pub all-from : (p : Parts) (hs : List (List Entry)) → is_built p ≡ true → ArePlays p hs → ArePlaysFrom p 0 hs
-all-from p hs built are = plays-from p 0 hs (λ i low. let same : i ≡ 0 + i = omega arith in subst (λ (m : ℕ). IsScriptPlay (group_with p m) (get_or hs i [])) same (script-plays p hs i built are low))
+pub all-from : (p : Parts) (hs : List (List Entry)) → ArePlays p hs → ArePlaysFrom p 0 hs
+all-from p hs are = plays-from p 0 hs (λ i low. let same : i ≡ 0 + i = omega arith in subst (λ (m : ℕ). IsPlay (group_with p m) (get_or hs i [])) same (are.plays i low))
 
-pub from-all : (p : Parts) (hs : List (List Entry)) → is_built p ≡ true → ArePlaysFrom p 0 hs → length hs ≡ group_count p → ArePlays p hs
-from-all p hs built plays count = record {
+pub from-all : (p : Parts) (hs : List (List Entry)) → ArePlaysFrom p 0 hs → length hs ≡ group_count p → ArePlays p hs
+from-all p hs plays count = record {
   count = count;
-  plays = λ n low. play-by p.drive (group_with p n) (get_or hs n []) (built-steps p built) (let same : 0 + n ≡ n = omega arith in subst (λ (m : ℕ). IsScriptPlay (group_with p m) (get_or hs n [])) same (plays-at p 0 hs n plays low));
+  plays = λ n low. let same : 0 + n ≡ n = omega arith in subst (λ (m : ℕ). IsPlay (group_with p m) (get_or hs n [])) same (plays-at p 0 hs n plays low);
 }
 
 -- a play of each of so many groups more
 plays-further : (p : Parts) (k n : ℕ) → (hs : List (List Entry)) × (length hs ≡ k) × ArePlaysFrom p n hs
 plays-further p zero n = ([], refl, tt)
 plays-further p (suc k) n =
-    let one = script-completed (group_with p n) [] (part-first (group_with p n)) in
+    let one = begun-is_completed (group_with p n) [] (begun-none (group_with p n)) in
     let rest = plays-further p k (n + 1) in
     (one.0 ∷ rest.0, omega (arith, rest.1), (one.1, rest.2))
 
@@ -144,7 +139,7 @@ last-of {A = A} (x ∷ xs) =
 pub record IsEntryNext (g : Group) (es : List Entry) (l : Line) : Type 0 where
   pub entry : Entry
   pub more : List Entry
-  pub play : IsScriptPlay g (es ++ entry ∷ more)
+  pub play : IsPlay g (es ++ entry ∷ more)
   pub line_is : l ≡ next_line g es entry
 
 -- that of the next group, or the line `end`
@@ -161,7 +156,7 @@ IsNextAfter p n l = IsGroupNext p n l ⊎ IsEndNext p n l
 
 -- behind the entries of a whole group: the lines of its requests, further groups, and the line `end`
 pub record GoesOn (p : Parts) (n : ℕ) (es : List Entry) (ls : List Line) : Type 0 where
-  pub play : IsScriptPlay (group_with p n) es
+  pub play : IsPlay (group_with p n) es
   pub more : List (List Entry)
   pub count : n + 1 + length more ≡ group_count p
   pub lines_are : ls ≡ lines_behind p n es ++ (lines_of_groups p (n + 1) more ++ end_line ∷ [])
@@ -200,12 +195,12 @@ parted p done more n es count =
     ∙ ap (λ (ls : List Line). lines_of_groups p 0 done ++ (ls ++ lines_of_groups p (n + 1) more)) (group_lines-parts (group_with p n) es))
     ∙ regrouped (lines_of_groups p 0 done) (lines_so_far (group_with p n) es) (lines_behind p n es) (lines_of_groups p (n + 1) more) (end_line ∷ [])
 
-module _ (p : Parts) (built : is_built p ≡ true) where
+module _ (p : Parts) where
   -- of histories that begin with some plays, the next one
-  play-of : (hs done more : List (List Entry)) (n : ℕ) (xs : List Entry) → ArePlays p hs → length done ≡ n → hs ≡ done ++ xs ∷ more → IsScriptPlay (group_with p n) xs
+  play-of : (hs done more : List (List Entry)) (n : ℕ) (xs : List Entry) → ArePlays p hs → length done ≡ n → hs ≡ done ++ xs ∷ more → IsPlay (group_with p n) xs
   play-of hs done more n xs are count is =
       let same : 0 + length done ≡ n = omega (arith, count) in
-      subst (λ (m : ℕ). IsScriptPlay (group_with p m) xs) same (plays-split p 0 done (xs ∷ more) (subst (ArePlaysFrom p 0) is (all-from p hs built are))).1.0
+      subst (λ (m : ℕ). IsPlay (group_with p m) xs) same (plays-split p 0 done (xs ∷ more) (subst (ArePlaysFrom p 0) is (all-from p hs are))).1.0
 
   -- what comes behind these entries where they are all of the group's
   whole-within : (hs done more : List (List Entry)) (n : ℕ) (es : List Entry) (ls : List Line) → ArePlays p hs → length done ≡ n → hs ≡ done ++ es ∷ more → lines_from p 0 hs ≡ lines_through p done n es ++ ls → GoesOn p n es ls
@@ -218,39 +213,56 @@ module _ (p : Parts) (built : is_built p ≡ true) where
         (sym same ∙ ap (lines_from p 0) is ∙ parted p done more n es count);
   }
 
+  -- the line of a further entry of the group is the first one behind those of its entries so far
+  entry-within : (hs done more : List (List Entry)) (n : ℕ) (es : List Entry) (e : Entry) (rest : List Entry) (l : Line) (ls : List Line) → length done ≡ n → hs ≡ done ++ (es ++ e ∷ rest) ∷ more
+      → lines_from p 0 hs ≡ lines_through p done n es ++ l ∷ ls → l ≡ next_line (group_with p n) es e
+  entry-within hs done more n es e rest l ls count is same =
+      let g : Group = group_with p n in
+      let others : List Line = entry_lines g (length es + 1) (after g e.step (past_of g es)) rest in
+      let after_those : List Line = lines_behind p n (es ++ e ∷ rest) ++ (lines_of_groups p (n + 1) more ++ end_line ∷ []) in
+      let lines : lines_from p 0 hs ≡ lines_through p done n es ++ next_line g es e ∷ (others ++ after_those) =
+      ap (lines_from p 0) is ∙ parted p done more n (es ++ e ∷ rest) count
+      ∙ append_assoc (lines_of_groups p 0 done) (lines_so_far g (es ++ e ∷ rest)) after_those
+      ∙ ap (λ (xs : List Line). lines_of_groups p 0 done ++ (xs ++ after_those)) (lines_so_far-next g es e rest)
+      ∙ ap (λ (xs : List Line). lines_of_groups p 0 done ++ xs) (append_assoc (lines_so_far g es) (next_line g es e ∷ others) after_those)
+      ∙ sym (append_assoc (lines_of_groups p 0 done) (lines_so_far g es) (next_line g es e ∷ (others ++ after_those))) in
+      first-of (lines_through p done n es) ls (others ++ after_those) l (next_line g es e) (sym same ∙ lines)
+
   -- what comes behind some entries of a group: the line of an entry, or else all the entries are there
   pub next-within : (hs done : List (List Entry)) (n : ℕ) (es : List Entry) (l : Line) (ls : List Line) → ArePlays p hs → length done ≡ n → lines_from p 0 hs ≡ lines_through p done n es ++ l ∷ ls
-      → IsEntryNext (group_with p n) es l ⊎ (IsScriptPlay (group_with p n) es × IsOtherLine l)
+      → IsEntryNext (group_with p n) es l ⊎ (IsPlay (group_with p n) es × IsOtherLine l)
   next-within hs done n es l ls are count same = by_rest (entries_first (l ∷ ls)) (histories_said (l ∷ ls)) (begin-so p hs done n es (l ∷ ls) same)
     where
-      by_rest : (rest : List Entry) (more : List (List Entry)) → hs ≡ done ++ (es ++ rest) ∷ more → IsEntryNext (group_with p n) es l ⊎ (IsScriptPlay (group_with p n) es × IsOtherLine l)
+      by_rest : (rest : List Entry) (more : List (List Entry)) → hs ≡ done ++ (es ++ rest) ∷ more → IsEntryNext (group_with p n) es l ⊎ (IsPlay (group_with p n) es × IsOtherLine l)
       by_rest [] more is =
           let on = whole-within hs done more n es (l ∷ ls) are count (is ∙ ap (λ (xs : List Entry). done ++ xs ∷ more) (append-nil es)) same in
           inr (on.play, first-other p (n + 1) (lines_behind p n es) on.more l ls (blocks-other (group_with p n) (past_of (group_with p n) es)) on.lines_are)
       by_rest (e ∷ rest) more is =
-          let g : Group = group_with p n in
-          let others : List Line = entry_lines g (length es + 1) (after g e.step (past_of g es)) rest in
-          let after_those : List Line = lines_behind p n (es ++ e ∷ rest) ++ (lines_of_groups p (n + 1) more ++ end_line ∷ []) in
-          let lines : lines_from p 0 hs ≡ lines_through p done n es ++ next_line g es e ∷ (others ++ after_those) =
-          ap (lines_from p 0) is ∙ parted p done more n (es ++ e ∷ rest) count
-          ∙ append_assoc (lines_of_groups p 0 done) (lines_so_far g (es ++ e ∷ rest)) after_those
-          ∙ ap (λ (xs : List Line). lines_of_groups p 0 done ++ (xs ++ after_those)) (lines_so_far-next g es e rest)
-          ∙ ap (λ (xs : List Line). lines_of_groups p 0 done ++ xs) (append_assoc (lines_so_far g es) (next_line g es e ∷ others) after_those)
-          ∙ sym (append_assoc (lines_of_groups p 0 done) (lines_so_far g es) (next_line g es e ∷ (others ++ after_those))) in
-          inl (record { entry = e; more = rest; play = play-of hs done more n (es ++ e ∷ rest) are count is; line_is = first-of (lines_through p done n es) ls (others ++ after_those) l (next_line g es e) (sym same ∙ lines) })
+          inl (record { entry = e; more = rest; play = play-of hs done more n (es ++ e ∷ rest) are count is; line_is = entry-within hs done more n es e rest l ls count is same })
 
-  -- and what comes behind all its steps
-  pub goes-on : (hs done : List (List Entry)) (n : ℕ) (es : List Entry) (ls : List Line) → ArePlays p hs → length done ≡ n → IsOver (group_with p n) es → lines_from p 0 hs ≡ lines_through p done n es ++ ls → GoesOn p n es ls
-  goes-on hs done n es ls are count over same = by_rest (entries_first ls) (histories_said ls) (begin-so p hs done n es ls same)
+  -- and what comes behind them where it is of no entry
+  pub goes-on : (hs done : List (List Entry)) (n : ℕ) (es : List Entry) (l : Line) (ls : List Line) → ArePlays p hs → length done ≡ n → IsOtherLine l → lines_from p 0 hs ≡ lines_through p done n es ++ l ∷ ls → GoesOn p n es (l ∷ ls)
+  goes-on hs done n es l ls are count other same = by_rest (entries_first (l ∷ ls)) (histories_said (l ∷ ls)) (begin-so p hs done n es (l ∷ ls) same)
     where
-      by_rest : (rest : List Entry) (more : List (List Entry)) → hs ≡ done ++ (es ++ rest) ∷ more → GoesOn p n es ls
-      by_rest [] more is = whole-within hs done more n es ls are count (is ∙ ap (λ (xs : List Entry). done ++ xs ∷ more) (append-nil es)) same
-      by_rest (e ∷ rest) more is = absurd (over-none (group_with p n) es e.step over (next-step (group_with p n) es e rest (play-of hs done more n (es ++ e ∷ rest) are count is)))
+      by_rest : (rest : List Entry) (more : List (List Entry)) → hs ≡ done ++ (es ++ rest) ∷ more → GoesOn p n es (l ∷ ls)
+      by_rest [] more is = whole-within hs done more n es (l ∷ ls) are count (is ∙ ap (λ (xs : List Entry). done ++ xs ∷ more) (append-nil es)) same
+      by_rest (e ∷ rest) more is = absurd (subst IsOtherLine (entry-within hs done more n es e rest l ls count is same) other)
 
-  -- what comes behind plays of the first groups
-  pub next-between : (hs done : List (List Entry)) (l : Line) (ls : List Line) → ArePlays p hs → ArePlaysFrom p 0 done → lines_from p 0 hs ≡ lines_of_groups p 0 done ++ l ∷ ls → IsNextAfter p (length done) l
-  next-between hs done l ls are plays same = by_view (last-of done)
+  -- what comes behind plays of the first groups, where that is of no entry behind those of the last
+  abbrev pub AreClosed : List (List Entry) → List Line → Type 0
+  AreClosed done rest = (front : List (List Entry)) (es : List Entry) → done ≡ front ++ es ∷ [] → NoEntryFirst (lines_behind p (length front) es ++ rest)
+
+  -- the same, where those lines are given as a list
+  behind : (hs done : List (List Entry)) (n : ℕ) (es : List Entry) (ls : List Line) → ArePlays p hs → length done ≡ n → NoEntryFirst ls → 0 < length ls → lines_from p 0 hs ≡ lines_through p done n es ++ ls → GoesOn p n es ls
+  behind hs done n es [] are count other some same = absurd (omega (arith, some))
+  behind hs done n es (l ∷ ls) are count other some same = goes-on hs done n es l ls are count other same
+
+  pub next-between : (hs done : List (List Entry)) (l : Line) (ls : List Line) → ArePlays p hs → AreClosed done (l ∷ ls) → lines_from p 0 hs ≡ lines_of_groups p 0 done ++ l ∷ ls → IsNextAfter p (length done) l
+  next-between hs done l ls are closed same = by_view (last-of done)
     where
+      some : (bs : List Line) → 0 < length (bs ++ l ∷ ls)
+      some bs = omega (arith, length-append bs (l ∷ ls))
+
       by_view : (done ≡ []) ⊎ ((front : List (List Entry)) × (es : List Entry) × (done ≡ front ++ es ∷ [])) → IsNextAfter p (length done) l
       by_view (inl none) =
           let counted : length done + length hs ≡ group_count p = omega (arith, are.count, ap length none) in
@@ -263,13 +275,10 @@ module _ (p : Parts) (built : is_built p ≡ true) where
           let es : List Entry = last.1 in
           let n : ℕ = length front in
           let counted : n + 1 ≡ length done = omega (arith, ap length last.2, length-append front (es ∷ [])) in
-          let here : 0 + n ≡ n = omega arith in
-          let play : IsScriptPlay (group_with p n) es =
-          subst (λ (m : ℕ). IsScriptPlay (group_with p m) es) here (plays-split p 0 front (es ∷ []) (subst (ArePlaysFrom p 0) last.2 plays)).1.0 in
           let lines : lines_from p 0 hs ≡ lines_through p front n es ++ (lines_behind p n es ++ l ∷ ls) =
           same ∙ ap (λ (ds : List (List Entry)). lines_of_groups p 0 ds ++ l ∷ ls) last.2 ∙ ap (λ (xs : List Line). xs ++ l ∷ ls) (lines-last p front n es refl)
           ∙ append_assoc (lines_through p front n es) (lines_behind p n es) (l ∷ ls) in
-          let on = goes-on hs front n es (lines_behind p n es ++ l ∷ ls) are refl (λ q there. sym (play.scripts q there)) lines in
+          let on = behind hs front n es (lines_behind p n es ++ l ∷ ls) are refl (closed front es last.2) (some (lines_behind p n es)) lines in
           subst (λ (m : ℕ). IsNextAfter p m l) counted
           (next-after p (n + 1) on.more ls l on.count (append_cancel_left (lines_behind p n es) (l ∷ ls) (lines_of_groups p (n + 1) on.more ++ end_line ∷ []) on.lines_are))
 
@@ -283,7 +292,7 @@ module _ (p : Parts) (built : is_built p ≡ true) where
       let counted : length (done ++ others.0) ≡ group_count p = omega (arith, few, others.1, length-append done others.0) in
       let later : List Line = lines_of_groups p (0 + length done) others.0 in (
         done ++ others.0,
-        from-all p (done ++ others.0) built all counted,
+        from-all p (done ++ others.0) all counted,
         (
           later ++ end_line ∷ [],
           whole-lines p 0 (done ++ others.0) ∙ ap (λ (xs : List Line). xs ++ end_line ∷ []) (lines-append p 0 done others.0)
@@ -291,13 +300,28 @@ module _ (p : Parts) (built : is_built p ≡ true) where
         ),
       )
 
-  pub completed-within : (done : List (List Entry)) (n : ℕ) (es : List Entry) → ArePlaysFrom p 0 done → length done ≡ n → n < group_count p → IsBegunScriptPlay (group_with p n) es
+  -- and so do those with a whole play more, and the lines of its requests
+  pub completed-whole : (done : List (List Entry)) (n : ℕ) (es : List Entry) → ArePlaysFrom p 0 done → length done ≡ n → n < group_count p → IsPlay (group_with p n) es
+      → (hs : List (List Entry)) × ArePlays p hs × ((ls : List Line) × (lines_from p 0 hs ≡ lines_through p done n es ++ (lines_behind p n es ++ ls)))
+  completed-whole done n es plays count few play =
+      let here : n ≡ 0 + length done = omega (arith, count) in
+      let so_far : ArePlaysFrom p 0 (done ++ es ∷ []) = plays-append p 0 done (es ∷ []) plays (subst (λ (m : ℕ). IsPlay (group_with p m) es) here play, tt) in
+      let all = completed-between (done ++ es ∷ []) so_far (omega (arith, few, count, length-append done (es ∷ []))) in (
+        all.0,
+        all.1,
+        (
+          all.2.0,
+          all.2.1 ∙ ap (λ (xs : List Line). xs ++ all.2.0) (lines-last p done n es count) ∙ append_assoc (lines_through p done n es) (lines_behind p n es) all.2.0,
+        ),
+      )
+
+  pub completed-within : (done : List (List Entry)) (n : ℕ) (es : List Entry) → ArePlaysFrom p 0 done → length done ≡ n → n < group_count p → IsBegunPlay (group_with p n) es
       → (hs : List (List Entry)) × ArePlays p hs × ((ls : List Line) × (lines_from p 0 hs ≡ lines_through p done n es ++ ls))
   completed-within done n es plays count few begun =
       let g : Group = group_with p n in
-      let whole = script-completed g es begun in
+      let whole = begun-is_completed g es begun in
       let here : n ≡ 0 + length done = omega (arith, count) in
-      let so_far : ArePlaysFrom p 0 (done ++ (es ++ whole.0) ∷ []) = plays-append p 0 done ((es ++ whole.0) ∷ []) plays (subst (λ (m : ℕ). IsScriptPlay (group_with p m) (es ++ whole.0)) here whole.1, tt) in
+      let so_far : ArePlaysFrom p 0 (done ++ (es ++ whole.0) ∷ []) = plays-append p 0 done ((es ++ whole.0) ∷ []) plays (subst (λ (m : ℕ). IsPlay (group_with p m) (es ++ whole.0)) here whole.1, tt) in
       let all = completed-between (done ++ (es ++ whole.0) ∷ []) so_far (omega (arith, few, count, length-append done ((es ++ whole.0) ∷ []))) in
       let others : List Line = entry_lines g (length es) (past_of g es) whole.0 in
       let behind : List Line = lines_behind p n (es ++ whole.0) in (

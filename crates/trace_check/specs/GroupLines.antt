@@ -3,9 +3,8 @@ use Rattle.std.specs.Prelude.{ℕ, ◌+◌, List, [], ◌∷◌, ◌++◌}
 use Rattle.rt_task.specs.declared.Parts.{Parts}
 use Rattle.rt_history.specs.declared.Entry.{Entry}
 use Rattle.rt_model.specs.Group.{Group, group_processors}
-use Rattle.rt_plays.specs.Plays.{group_with}
-use Rattle.rt_plays.specs.ScriptPlays.{IsScriptPlay}
-use Rattle.trace_lines.specs.Lines.{Line, group_line}
+use Rattle.rt_plays.specs.Plays.{IsPlay, group_with}
+use Rattle.trace_lines.specs.Lines.{Line, entry_line, group_line}
 use Rattle.trace_text.specs.TraceText.{entry_lines, group_lines, links_at}
 
 -- the line of a group, with the links at opening
@@ -24,4 +23,14 @@ lines_of_groups p n (es ∷ more) = group_lines (group_with p n) es ++ lines_of_
 -- plays of the groups from a number on
 abbrev pub ArePlaysFrom : Parts → ℕ → List (List Entry) → Type 0
 ArePlaysFrom p n [] = Unit {0}
-ArePlaysFrom p n (es ∷ more) = IsScriptPlay (group_with p n) es × ArePlaysFrom p (n + 1) more
+ArePlaysFrom p n (es ∷ more) = IsPlay (group_with p n) es × ArePlaysFrom p (n + 1) more
+
+-- a line of another kind than an entry's
+abbrev pub IsOtherLine : Line → Type 0
+IsOtherLine (entry_line n e links) = ⊥
+IsOtherLine _ = Unit {0}
+
+-- no line of an entry stands first
+abbrev pub NoEntryFirst : List Line → Type 0
+NoEntryFirst [] = Unit {0}
+NoEntryFirst (l ∷ ls) = IsOtherLine l

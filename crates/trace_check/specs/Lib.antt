@@ -1,6 +1,8 @@
 pub mod Verdicts
 pub mod Next
 pub mod SameLinks
+pub mod Places
+pub mod Courses
 pub mod Following
 pub mod GroupLines
 pub mod RequestLines

@@ -1,11 +1,10 @@
 -- How far the lines of a trace are right.
-use Rattle.std.specs.Prelude.{◌≡◌, ℕ, ◌+◌, true, List, ◌++◌, length, drop, Option}
+use Rattle.std.specs.Prelude.{◌≡◌, ℕ, ◌+◌, List, [], ◌∷◌, ◌++◌, length, drop, Option}
 use Rattle.rt_task.specs.declared.Parts.{Parts}
 use Rattle.rt_task.specs.Validity.{IsValid}
 use Rattle.rt_history.specs.declared.Entry.{Entry}
 use Rattle.rt_model.specs.Histories.{past_of}
-use Rattle.rt_groups.specs.Built.{is_built}
-use Rattle.rt_plays.specs.Plays.{group_count}
+use Rattle.rt_plays.specs.Plays.{IsPlay, group_count, group_with}
 use Rattle.trace_lines.specs.Lines.{Line}
 use Rattle.trace_text.specs.TraceText.{block_lines}
 use Rattle.trace_laws.specs.ValidTexts.{entry_count}
@@ -13,10 +12,14 @@ use Rattle.trace_check.specs.declared.progress.Progress.{Progress}
 use Rattle.trace_check.specs.declared.progress.Followed.{Followed}
 use Rattle.trace_check.specs.declared.progress.Followed.TheVariants.{Whole, Wrong}
 use Rattle.trace_check.specs.declared.verdict.Verdict.TheVariants.{Invalid}
-use Rattle.trace_check.specs.Following.{IsOver, Place}
-use Rattle.trace_check.specs.GroupLines.{ArePlaysFrom, lines_of_groups}
+use Rattle.trace_check.specs.Places.{Place}
+use Rattle.trace_check.specs.GroupLines.{ArePlaysFrom, NoEntryFirst, lines_of_groups}
 use Rattle.trace_check.specs.Judging.{IsJudged}
 use Rattle.trace_check.specs.RequestLines.{AllStandFirst, StopAt}
+
+-- the lines of the requests of the entries that were followed
+abbrev pub wanted : Place → List Line
+wanted at = block_lines at.group (past_of at.group at.entries)
 
 -- so many of the lines are those of plays of the first n groups
 pub record AreRight (p : Parts) (lines : List Line) (n : ℕ) (r : Progress) : Type 0 where
@@ -26,11 +29,13 @@ pub record AreRight (p : Parts) (lines : List Line) (n : ℕ) (r : Progress) : T
   pub place_is : r.lines ≡ length (lines_of_groups p 0 histories)
   pub lines_are : lines ≡ lines_of_groups p 0 histories ++ drop r.lines lines
   pub entries_are : r.entries ≡ entry_count histories
+  -- no line of an entry stands right behind the entries of the last of them
+  pub closed : (front : List (List Entry)) (es : List Entry) → histories ≡ front ++ es ∷ []
+      → NoEntryFirst (wanted (record { group = group_with p (length front); entries = es }) ++ drop r.lines lines)
 
 -- those of plays of all the groups of a set that is played
 pub record AreAllRight (p : Parts) (lines : List Line) (r : Progress) : Type 0 where
   pub valid : IsValid p
-  pub built : is_built p ≡ true
   pub right : AreRight p lines (group_count p) r
 
 -- what comes of following the lines of group n, behind those of the groups before it
@@ -38,19 +43,15 @@ abbrev pub IsFollowedTo : Parts → List Line → ℕ → Followed → Type 0
 IsFollowedTo p lines n (Whole r) = AreRight p lines (n + 1) r
 IsFollowedTo p lines n (Wrong place) = (stop : Option ℕ) → IsJudged p lines stop (Invalid (place + 3))
 
--- the lines of the requests of the entries that were followed
-abbrev pub wanted : Place → List Line
-wanted at = block_lines at.group (past_of at.group at.entries)
-
 -- what comes of it where no entry line stands in a place
 pub data IsEndedAt (at : Place) (lines : List Line) (from : Progress) (count place : ℕ) : Followed → Type 0 where
-  -- a step is missing
-  unfinished : (IsOver at.group at.entries → ⊥) → IsEndedAt at lines from count place (Wrong place)
-  -- all the steps were followed, and the line of a request is missing
+  -- the play is not whole
+  unfinished : (IsPlay at.group at.entries → ⊥) → IsEndedAt at lines from count place (Wrong place)
+  -- it is, and the line of a request is missing
   missing :
-      (k : ℕ) → IsOver at.group at.entries → StopAt (wanted at) (drop place lines) k
+      (k : ℕ) → IsPlay at.group at.entries → StopAt (wanted at) (drop place lines) k
       → IsEndedAt at lines from count place (Wrong (place + k))
   -- none is
   finished :
-      IsOver at.group at.entries → AllStandFirst (wanted at) (drop place lines)
+      IsPlay at.group at.entries → AllStandFirst (wanted at) (drop place lines)
       → IsEndedAt at lines from count place (Whole (record { lines = place + length (wanted at); entries = from.entries + count }))

@@ -7,22 +7,22 @@ ghost use Rattle.rt_groups.specs.Built.{is_built};
 ghost use Rattle.rt_groups.specs.Groups.{IsGroupOf};
 ghost use Rattle.block_counts.specs.GroupRequests as counts;
 ghost use Rattle.block_counts.specs.SeenWords.{tallies_of};
-ghost use Rattle.rt_plays.specs.Plays.{group_with};
+ghost use Rattle.rt_plays.specs.Plays.{IsPlay, group_with};
 ghost use Rattle.rank_afresh.specs.Standing.{IsAt, group_of};
 ghost use Rattle.trace_lines.specs.Lines.{links_of};
 ghost use Rattle.trace_text.specs.TraceText.{block_lines};
 ghost use Rattle.trace_check.specs.Following.{CanStep, IsAccepted, IsFollowing};
-ghost use Rattle.trace_check.specs.Following.{IsFollowingWith, IsNextEntry, IsOver, Place};
+ghost use Rattle.trace_check.specs.Following.{IsFollowingWith, IsNextEntry};
+ghost use Rattle.trace_check.specs.Places.{Place};
 ghost use Rattle.trace_check.specs.RequestLines.{request_lines};
 
+use crate::course::Course;
 use crate::links::{are_same, read_links};
 use crate::same::is_same_reply;
-use crate::scripts::Scripts;
 use block_counts::{Blocks, Seen};
 use rank_afresh::Afresh;
 use rt_base::{CpuNo, GroupNo, NoMemory};
 use rt_history::{Entry, Reply};
-use rt_plays::steps_given;
 use rt_task::{Setup, Step};
 use std::alloc::Global;
 use std::mem;
@@ -32,8 +32,8 @@ use waiting_list::WaitingList;
 
 /// A group whose entries are followed: the ranker that replays them, the requests so far with their
 /// counts, the tasks that waited as the last entry freed a semaphore, the group's processors, their
-/// links now and before the last entry, those that this entry changed, how far the scripts of the
-/// processors were followed, and the number of entries.
+/// links now and before the last entry, those that this entry changed, how far the scripts or the
+/// turns of the processors were followed, and the number of entries.
 #[derive(Drop)]
 pub(crate) struct Follow {
     afresh: Afresh,
@@ -43,21 +43,22 @@ pub(crate) struct Follow {
     links: Vec<CpuLink>,
     before: Vec<CpuLink>,
     changed: Vec<CpuLink>,
-    scripts: Scripts,
+    course: Course,
     count: u32,
 }
 
 impl Follow {
-    /// A group of a setup at opening. There is room for as many entries as the group has steps.
+    /// A group of a setup at opening. There is room for as many entries as the group can have.
     pub(crate) fn open(alloc: Global, setup: &Setup, group: GroupNo) -> Result<Follow, NoMemory>
         requires group { IsGroupOf setup.now group.0 }
         requires built { is_built setup.now ≡ true }
         ensures { IfOk result (λ f. IsFollowing (group_with setup.now group.0) [] f) }
     {
-        let steps = steps_given(&setup.parts().drive);
+        let drive = &setup.parts().drive;
         let cpus = cpus_of(alloc, setup, group)?;
-        let scripts = Scripts::open(alloc, cpus.as_slice())?;
-        let room = scripts.count(steps);
+        let listed = cpus.as_slice();
+        let course = Course::open(alloc, drive, listed)?;
+        let room = course.room(drive, listed.len());
         let afresh = Afresh::open(alloc, setup, group, room)?;
         let blocks = Blocks::open(alloc, setup, group, room)?;
         let tasks = setup.parts().tasks.as_slice().len();
@@ -72,20 +73,20 @@ impl Follow {
             links,
             before: Vec::new(alloc),
             changed: Vec::new(alloc),
-            scripts,
+            course,
             count: 0,
         })
     }
 
     /// Whether no processor has a step left.
-    pub(crate) fn is_over(&self, steps: &[Step]) -> bool
-        requires { (at : Place) × IsFollowingWith at steps.now self.now }
-        ensures over { (at : Place) → IsFollowingWith at steps.now self.now
-            → result ≡ true → IsOver at.group at.entries }
-        ensures not_over { (at : Place) → IsFollowingWith at steps.now self.now
-            → result ≡ false → IsOver at.group at.entries → ⊥ }
+    pub(crate) fn is_over(&self, setup: &Setup) -> bool
+        requires { (at : Place) × IsFollowingWith at setup.now self.now }
+        ensures over { (at : Place) → IsFollowingWith at setup.now self.now
+            → result ≡ true → IsPlay at.group at.entries }
+        ensures not_over { (at : Place) → IsFollowingWith at setup.now self.now
+            → result ≡ false → IsPlay at.group at.entries → ⊥ }
     {
-        self.scripts.are_over(steps)
+        self.course.is_over(setup)
     }
 
     /// Takes a step of the group's: the clock moves, and the act is answered. Where it frees a
@@ -123,24 +124,24 @@ impl Follow {
     /// right. Where it is, its step was taken.
     pub(crate) fn accepts(
         &mut self,
-        steps: &[Step],
+        setup: &Setup,
         no: u32,
         entry: &Entry,
         links: &[CpuLink],
     ) -> Result<bool, NoMemory>
-        requires { (at : Place) × IsFollowingWith at steps.now self.old }
-        ensures accepted { IfOk result (λ b. (at : Place) → IsFollowingWith at steps.now self.old
+        requires { (at : Place) × IsFollowingWith at setup.now self.old }
+        ensures accepted { IfOk result (λ b. (at : Place) → IsFollowingWith at setup.now self.old
             → b ≡ true → IsAccepted at no entry.now (links_of links.now) self.new) }
-        ensures refused { IfOk result (λ b. (at : Place) → IsFollowingWith at steps.now self.old
+        ensures refused { IfOk result (λ b. (at : Place) → IsFollowingWith at setup.now self.old
             → b ≡ false
             → IsNextEntry at.group at.entries no entry.now (links_of links.now) → ⊥) }
     {
         if no != self.count {
             return Ok(false);
         }
-        let Some(j) = self.scripts.next(steps, entry.step) else {
+        if !self.course.take(setup, &self.afresh, entry.step) {
             return Ok(false);
-        };
+        }
         if !is_same_reply(self.step(entry.step), entry.reply) {
             return Ok(false);
         }
@@ -154,7 +155,7 @@ impl Follow {
         if !are_same(self.changed.as_slice(), links) {
             return Ok(false);
         }
-        self.scripts.pass(entry.step.cpu, j + 1);
+        self.course.look(setup, &self.afresh, self.cpus.as_slice());
         self.count += 1;
         Ok(true)
     }

@@ -2,11 +2,11 @@
 ghost use Rattle.std.specs.Prelude.{◌≡◌, ◌+◌, ◌^◌, ◌<◌, ◌≤◌, IfOk, length, true};
 ghost use Rattle.rt_groups.specs.Built.{is_built};
 ghost use Rattle.rt_groups.specs.Groups.{IsGroupOf};
-ghost use Rattle.rt_plays.specs.Drives.{steps_given};
 ghost use Rattle.trace_lines.specs.Lines.{links_of};
 ghost use Rattle.trace_read.specs.Lines.{lines_of};
 ghost use Rattle.trace_check.specs.Judging.{begins_with};
-ghost use Rattle.trace_check.specs.Following.{IsFollowingWith, Place};
+ghost use Rattle.trace_check.specs.Following.{IsFollowingWith};
+ghost use Rattle.trace_check.specs.Places.{Place};
 ghost use Rattle.trace_check.specs.Progress.{AreRight, IsEndedAt, IsFollowedTo};
 
 use crate::follow::Follow;
@@ -14,7 +14,7 @@ use crate::links::are_same;
 use crate::progress::{Followed, Progress};
 use crate::requests::first_missing;
 use rt_base::{GroupNo, NoMemory};
-use rt_task::{Setup, Step};
+use rt_task::Setup;
 use std::alloc::Global;
 use trace_read::Line;
 
@@ -35,18 +35,18 @@ fn begins(follow: &Follow, number: GroupNo, lines: &[Line]) -> bool
 /// have been followed, and the lines of its requests stand there.
 fn ended_at(
     follow: &Follow,
-    steps: &[Step],
+    setup: &Setup,
     lines: &[Line],
     from: Progress,
     place: usize,
 ) -> Followed
-    requires steps { (at : Place) × IsFollowingWith at steps.now follow.now }
+    requires follows { (at : Place) × IsFollowingWith at setup.now follow.now }
     requires few { from.entries + follow.now.count < 2 ^ 32 }
     requires place { place ≤ length lines.now }
-    ensures { (at : Place) → IsFollowingWith at steps.now follow.now
+    ensures { (at : Place) → IsFollowingWith at setup.now follow.now
         → IsEndedAt at (lines_of lines.now) from follow.now.count place result }
 {
-    if !follow.is_over(steps) {
+    if !follow.is_over(setup) {
         return Followed::Wrong(place);
     }
     let requests = follow.requests();
@@ -59,17 +59,15 @@ fn ended_at(
     }
 }
 
-/// Follows the lines of a group, behind those of the groups before it. `steps` are the set's.
+/// Follows the lines of a group, behind those of the groups before it.
 pub(crate) fn follow_group(
     alloc: Global,
     setup: &Setup,
-    steps: &[Step],
     group: GroupNo,
     lines: &[Line],
     from: Progress,
 ) -> Result<Followed, NoMemory>
     requires built { is_built setup.now ≡ true }
-    requires steps { steps.now ≡ steps_given setup.now.drive }
     requires group { IsGroupOf setup.now group.0 }
     requires before { AreRight setup.now (lines_of lines.now) group.0 from }
     ensures { IfOk result (IsFollowedTo setup.now (lines_of lines.now) group.0) }
@@ -81,12 +79,12 @@ pub(crate) fn follow_group(
     for i in from.lines + 1..lines.len() {
         match &lines[i] {
             Line::EntryLine { no, entry, links } => {
-                if !follow.accepts(steps, *no, entry, links.as_slice())? {
+                if !follow.accepts(setup, *no, entry, links.as_slice())? {
                     return Ok(Followed::Wrong(i));
                 }
             }
-            _ => return Ok(ended_at(&follow, steps, lines, from, i)),
+            _ => return Ok(ended_at(&follow, setup, lines, from, i)),
         }
     }
-    Ok(ended_at(&follow, steps, lines, from, lines.len()))
+    Ok(ended_at(&follow, setup, lines, from, lines.len()))
 }

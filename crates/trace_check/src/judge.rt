@@ -1,5 +1,6 @@
 //! The lines of a trace after its first two, judged one by one.
 ghost use Rattle.std.specs.Prelude.{◌≡◌, ◌+◌, ◌≤◌, IfOk, length, true};
+ghost use Rattle.rt_task.specs.Validity.{IsValid};
 ghost use Rattle.rt_task.specs.declared.Parts.{Parts};
 ghost use Rattle.rt_groups.specs.Built.{is_built};
 ghost use Rattle.trace_read.specs.Lines.{lines_of};
@@ -10,7 +11,6 @@ use crate::Verdict;
 use crate::group::follow_group;
 use crate::progress::{Followed, Progress};
 use rt_base::{GroupNo, NoMemory};
-use rt_plays::steps_given;
 use rt_task::Setup;
 use std::alloc::Global;
 use trace_read::Line;
@@ -66,15 +66,15 @@ pub(crate) fn judge_lines(
     stop: Option<u32>,
 ) -> Result<Verdict, NoMemory>
     requires built { is_built setup.now ≡ true }
+    requires valid { IsValid setup.now }
     ensures { IfOk result (λ v. IsJudged setup.now (lines_of lines.now) stop v) }
 {
-    let steps = steps_given(&setup.parts().drive);
     let mut right = Progress {
         lines: 0,
         entries: 0,
     };
     for n in 0..count_groups(setup) {
-        match follow_group(alloc, setup, steps, GroupNo(n), lines, right)? {
+        match follow_group(alloc, setup, GroupNo(n), lines, right)? {
             Followed::Whole(further) => right = further,
             Followed::Wrong(place) => return wrong_at(place),
         }

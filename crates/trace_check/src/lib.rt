@@ -1,5 +1,5 @@
 //! Checks a trace: whether its lines are the ones that its set gives, in some order of its
-//! processors' steps.
+//! processors' steps or turns.
 #![tactic(auto)]
 
 ghost use Rattle.std.specs.Prelude.{◌≡◌, IfOk, true};
@@ -8,6 +8,7 @@ ghost use Rattle.trace_read.specs.Lines.{lines_of};
 ghost use Rattle.trace_read.specs.Reads.{IsTraceOf};
 ghost use Rattle.trace_check.specs.Verdicts.{IsVerdict};
 
+mod course;
 mod follow;
 mod group;
 mod head;
@@ -17,6 +18,7 @@ mod progress;
 mod requests;
 mod same;
 mod scripts;
+mod turns;
 mod verdict;
 
 use head::has_head;

@@ -7,8 +7,8 @@ ghost use Rattle.rt_rules.specs.Numbers.{has};
 ghost use Rattle.rt_plays.specs.Homes.{IsProcessorOf};
 ghost use Rattle.rt_plays.specs.Scripts.{script};
 ghost use Rattle.trace_text.specs.Groups.{cpu_numbers};
-ghost use Rattle.trace_check.specs.Following.{IsNextPlace, IsNextStep, IsOver, Place};
-ghost use Rattle.trace_check.specs.Following.{ArePassed, IsDone, has_place, place_in};
+ghost use Rattle.trace_check.specs.Places.{AreDone, ArePassed, HasPassed, IsDone, IsNextOfScript};
+ghost use Rattle.trace_check.specs.Places.{IsNextPlace, Place, has_place, place_in};
 ghost use Rattle.trace_check.specs.Next.{IsNextAt};
 
 use crate::same::is_same_step;
@@ -93,10 +93,10 @@ impl Scripts {
     }
 
     /// The place of a step among the set's steps, where it is the next one of its processor.
-    pub(crate) fn next(&self, steps: &[Step], step: Step) -> Option<usize>
+    fn next(&self, steps: &[Step], step: Step) -> Option<usize>
         requires { (at : Place) × ArePassed at steps.now self.now }
         ensures { (at : Place) → ArePassed at steps.now self.now → MatchOption result
-            (IsNextStep at.group at.entries step → ⊥)
+            (IsNextOfScript at.group at.entries step → ⊥)
             (λ j. IsNextPlace at.group at.entries step j) }
     {
         let Some(from) = self.place(step.cpu) else {
@@ -132,9 +132,9 @@ impl Scripts {
     pub(crate) fn are_over(&self, steps: &[Step]) -> bool
         requires { (at : Place) × ArePassed at steps.now self.now }
         ensures over { (at : Place) → ArePassed at steps.now self.now
-            → result ≡ true → IsOver at.group at.entries }
+            → result ≡ true → AreDone at.group at.entries }
         ensures not_over { (at : Place) → ArePassed at steps.now self.now
-            → result ≡ false → IsOver at.group at.entries → ⊥ }
+            → result ≡ false → AreDone at.group at.entries → ⊥ }
     {
         for q in 0..MOST_CPUS {
             if self.has_next(steps, CpuNo(q)) {
@@ -145,10 +145,27 @@ impl Scripts {
     }
 
     /// Takes it that the processor's steps before this place were followed.
-    pub(crate) fn pass(&mut self, cpu: CpuNo, place: usize)
+    fn pass(&mut self, cpu: CpuNo, place: usize)
         requires { cpu.0 < length self.old.places.items }
         ensures { self.new.places.items ≡ slice_set self.old.places.items cpu.0 (Some place) }
     {
         self.places[cpu.0 as usize] = Some(place);
+    }
+
+    /// Takes a step, where it is the next one of its processor.
+    pub(crate) fn take(&mut self, steps: &[Step], step: Step) -> bool
+        requires { (at : Place) × ArePassed at steps.now self.old }
+        ensures taken { (at : Place) → ArePassed at steps.now self.old → result ≡ true
+            → HasPassed at step self.new }
+        ensures refused { (at : Place) → ArePassed at steps.now self.old → result ≡ false
+            → IsNextOfScript at.group at.entries step → ⊥ }
+    {
+        match self.next(steps, step) {
+            Some(j) => {
+                self.pass(step.cpu, j + 1);
+                true
+            }
+            None => false,
+        }
     }
 }

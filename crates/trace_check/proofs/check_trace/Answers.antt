@@ -13,7 +13,7 @@ use Rattle.trace_check.proofs.check_trace.Goals as goal
 
 pub returns-then-not-branch : goal.returns-then-not-branch
 returns-then-not-branch c =
-    not-canonical c.args.trace.now.version c.args.trace.now.setup c.parts.ensures.valid c.requires.built c.args.bytes.now (lines_of c.args.trace.now.lines) c.args.trace.now.stop c.requires.read
+    not-canonical c.args.trace.now.version c.args.trace.now.setup c.parts.ensures.valid c.args.bytes.now (lines_of c.args.trace.now.lines) c.args.trace.now.stop c.requires.read
     (λ same.
     let begins = canonical-begins c.args.trace.now.version c.args.trace.now.setup c.args.bytes.now c.requires.read.set_text c.requires.read.rest c.requires.read.head same in
     clash _ ((c.in_ok-has_head.ensures).1 (c.requires.read.rest, begins ∙ ap (λ (p : Parts). head_text c.args.trace.now.version p ++ c.requires.read.rest) (sym c.parts.ensures.parts))) c.if-not-branch.true)

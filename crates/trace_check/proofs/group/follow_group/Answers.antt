@@ -2,10 +2,11 @@ use Rattle.std.proofs.Common.{ℕ, ◌≡◌, ◌<◌, ◌≤◌, List, length, 
 use Rattle.trace_lines.specs.Lines.{links_of}
 use Rattle.trace_lines.specs.declared.links.CpuLink.{CpuLink}
 use Rattle.trace_read.specs.Lines.{line_of, lines_of}
-use Rattle.trace_check.specs.Following.{IsAccepted, IsFollowingWith, IsNextEntry, Place}
+use Rattle.trace_check.specs.Following.{IsAccepted, IsFollowingWith, IsNextEntry}
+use Rattle.trace_check.specs.Places.{Place}
 use Rattle.trace_check.specs.Judging.{begins_with}
 use Rattle.trace_check.specs.Progress.{IsEndedAt}
-use Rattle.trace_check.proofs.GroupLines.{IsOtherLine}
+use Rattle.trace_check.specs.GroupLines.{IsOtherLine}
 use Rattle.trace_check.proofs.Judging.{accepted-right, ended-there, entries-few, followed-with, group-low, none-there, opened-line, opened-right, opened-wrong, other-line, other-there, place-within, place_at, refused-there}
 use Rattle.trace_check.proofs.LinePlaces.{length-read, line-there, rest-read}
 use Rattle.trace_check.proofs.group.follow_group.Goals as goal
@@ -14,24 +15,24 @@ pub returns-then-not-begins : goal.returns-then-not-begins
 returns-then-not-begins c =
     let n = c.args.group.0 in
     let links = links_of c.in_ok-follow.follow.links.items in
-    opened-wrong c.args.setup.now (lines_of c.args.lines.now) n c.args.from c.requires.before c.in_ok-follow.ensures.valid c.requires.built (group-low c.args.setup.now n c.in_ok-follow.ensures.valid c.requires.group) links (opened-line n c.in_ok-follow.follow c.in_ok-follow.ensures)
+    opened-wrong c.args.setup.now (lines_of c.args.lines.now) n c.args.from c.requires.before c.in_ok-follow.ensures.valid (group-low c.args.setup.now n c.in_ok-follow.ensures.valid c.requires.group) links (opened-line n c.in_ok-follow.follow c.in_ok-follow.ensures)
     (ap (begins_with n links) (sym (rest-read c.args.lines.now c.args.from.lines)) ∙ sym c.begins.ensures ∙ c.if-not-begins.true)
 
 pub loop-i-init : goal.loop-i-init
 loop-i-init c =
     let n = c.args.group.0 in
     let links = links_of c.in_ok-follow.follow.links.items in
-    opened-right c.args.setup.now (lines_of c.args.lines.now) n c.args.from c.requires.before c.in_ok-follow.ensures.valid c.requires.built (group-low c.args.setup.now n c.in_ok-follow.ensures.valid c.requires.group) c.in_ok-follow.follow c.in_ok-follow.ensures
+    opened-right c.args.setup.now (lines_of c.args.lines.now) n c.args.from c.requires.before c.in_ok-follow.ensures.valid (group-low c.args.setup.now n c.in_ok-follow.ensures.valid c.requires.group) c.in_ok-follow.follow c.in_ok-follow.ensures
     (ap (begins_with n links) (sym (rest-read c.args.lines.now c.args.from.lines)) ∙ sym c.begins.ensures ∙ c.if-not-begins.false)
 
 pub accepts-requires : goal.accepts-requires
 accepts-requires c =
-    (place_at c.loop-i.invariant, followed-with c.args.setup.now (lines_of c.args.lines.now) c.loop-i.invariant c.args.steps.now c.requires.steps)
+    (place_at c.loop-i.invariant, followed-with c.args.setup.now (lines_of c.args.lines.now) c.loop-i.invariant)
 
 pub returns-then-not-branch : goal.returns-then-not-branch
 returns-then-not-branch c =
     let at : Place = place_at c.loop-i.invariant in
-    let fw : IsFollowingWith at c.args.steps.now c.loop-i.follow = followed-with c.args.setup.now (lines_of c.args.lines.now) c.loop-i.invariant c.args.steps.now c.requires.steps in
+    let fw : IsFollowingWith at c.args.setup.now c.loop-i.follow = followed-with c.args.setup.now (lines_of c.args.lines.now) c.loop-i.invariant in
     let here = line-there c.args.lines.now c.loop-i.i c.index-lines-i.result c.loop-i-test.true c.index-lines-i.is ∙ ap line_of c.in-EntryLine.is in
     let inside : c.loop-i.i < length (lines_of c.args.lines.now) = omega (arith, length-read c.args.lines.now, c.loop-i-test.true) in
     refused-there c.args.setup.now (lines_of c.args.lines.now) c.args.group.0 c.args.from c.loop-i.i c.loop-i.follow c.loop-i.invariant c.in-EntryLine.no c.in-EntryLine.entry (links_of c.in-EntryLine.links) (line_of c.index-lines-i.result) inside here
@@ -40,7 +41,7 @@ returns-then-not-branch c =
 pub ended_at-requires : goal.ended_at-requires
 ended_at-requires c =
     record {
-      steps = (place_at c.loop-i.invariant, followed-with c.args.setup.now (lines_of c.args.lines.now) c.loop-i.invariant c.args.steps.now c.requires.steps);
+      follows = (place_at c.loop-i.invariant, followed-with c.args.setup.now (lines_of c.args.lines.now) c.loop-i.invariant);
       few = entries-few c.args.setup.now (lines_of c.args.lines.now) c.args.group.0 c.args.from c.loop-i.i c.loop-i.follow c.loop-i.invariant;
       place = omega (arith, c.loop-i-test.true);
     }
@@ -50,7 +51,7 @@ returns-in_default c =
     let p = c.args.setup.now in
     let ls = lines_of c.args.lines.now in
     let at : Place = place_at c.loop-i.invariant in
-    let fw : IsFollowingWith at c.args.steps.now c.loop-i.follow = followed-with p ls c.loop-i.invariant c.args.steps.now c.requires.steps in
+    let fw : IsFollowingWith at c.args.setup.now c.loop-i.follow = followed-with p ls c.loop-i.invariant in
     let here = line-there c.args.lines.now c.loop-i.i c.index-lines-i.result c.loop-i-test.true c.index-lines-i.is in
     let inside : c.loop-i.i < length ls = omega (arith, length-read c.args.lines.now, c.loop-i-test.true) in
     ended-there p ls c.args.group.0 c.args.from c.loop-i.i c.loop-i.follow c.loop-i.invariant c.ended_at.result
@@ -59,7 +60,7 @@ returns-in_default c =
 pub loop-i-preserved : goal.loop-i-preserved
 loop-i-preserved c =
     let at : Place = place_at c.loop-i.invariant in
-    let fw : IsFollowingWith at c.args.steps.now c.loop-i.follow = followed-with c.args.setup.now (lines_of c.args.lines.now) c.loop-i.invariant c.args.steps.now c.requires.steps in
+    let fw : IsFollowingWith at c.args.setup.now c.loop-i.follow = followed-with c.args.setup.now (lines_of c.args.lines.now) c.loop-i.invariant in
     let here = line-there c.args.lines.now c.loop-i.i c.index-lines-i.result c.loop-i-test.true c.index-lines-i.is ∙ ap line_of c.in-EntryLine.is in
     let inside : c.loop-i.i < length (lines_of c.args.lines.now) = omega (arith, length-read c.args.lines.now, c.loop-i-test.true) in
     accepted-right c.args.setup.now (lines_of c.args.lines.now) c.args.group.0 c.args.from c.loop-i.i c.loop-i.follow c.loop-i.invariant c.in-EntryLine.no c.in-EntryLine.entry (links_of c.in-EntryLine.links) (line_of c.index-lines-i.result) c.accepts.new.self inside here
@@ -68,7 +69,7 @@ loop-i-preserved c =
 pub ended_at-requires-2 : goal.ended_at-requires-2
 ended_at-requires-2 c =
     record {
-      steps = (place_at c.loop-i.invariant, followed-with c.args.setup.now (lines_of c.args.lines.now) c.loop-i.invariant c.args.steps.now c.requires.steps);
+      follows = (place_at c.loop-i.invariant, followed-with c.args.setup.now (lines_of c.args.lines.now) c.loop-i.invariant);
       few = entries-few c.args.setup.now (lines_of c.args.lines.now) c.args.group.0 c.args.from c.loop-i.i c.loop-i.follow c.loop-i.invariant;
       place = omega arith;
     }
@@ -78,7 +79,7 @@ returns c =
     let p = c.args.setup.now in
     let ls = lines_of c.args.lines.now in
     let at : Place = place_at c.loop-i.invariant in
-    let fw : IsFollowingWith at c.args.steps.now c.loop-i.follow = followed-with p ls c.loop-i.invariant c.args.steps.now c.requires.steps in
+    let fw : IsFollowingWith at c.args.setup.now c.loop-i.follow = followed-with p ls c.loop-i.invariant in
     let within : c.loop-i.i ≤ length ls = place-within p ls c.args.group.0 c.args.from c.loop-i.i c.loop-i.follow c.loop-i.invariant in
     let is : length c.args.lines.now ≡ c.loop-i.i = omega (arith, within, length-read c.args.lines.now, c.loop-i-test.false) in
     ended-there p ls c.args.group.0 c.args.from c.loop-i.i c.loop-i.follow c.loop-i.invariant c.ended_at-2.result

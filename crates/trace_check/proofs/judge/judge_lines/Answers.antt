@@ -1,7 +1,6 @@
 use Rattle.std.proofs.Common.{◌≡◌, ◌+◌, sym, ap, ◌∙◌, subst, arith}
 use Rattle.std.proofs.lemmas.Result.{IfOk-weaker}
 use Rattle.rt_task.specs.declared.Parts.{Parts}
-use Rattle.rt_plays.specs.Drives.{steps_given}
 use Rattle.rt_plays.specs.Plays.{group_count}
 use Rattle.rt_groups.proofs.GroupCount.{groups_are_counted}
 use Rattle.trace_read.specs.Lines.{lines_of}
@@ -19,8 +18,7 @@ loop-n-init c = right-first c.args.setup.now (lines_of c.args.lines.now)
 pub follow_group-requires : goal.follow_group-requires
 follow_group-requires c = record {
   built = c.requires.built;
-  steps = c.steps_given-steps.ensures ∙ ap (λ (p : Parts). steps_given p.drive) c.parts.ensures.parts;
-  group = (groups_are_counted c.args.setup.now c.loop-n.n c.parts.ensures.valid).1 (omega (arith, c.loop-n-test.true, c.count_groups-n-end.ensures));
+  group = (groups_are_counted c.args.setup.now c.loop-n.n c.requires.valid).1 (omega (arith, c.loop-n-test.true, c.count_groups-n-end.ensures));
   before = c.loop-n.invariant;
 }
 
@@ -45,4 +43,4 @@ returns c =
     let ls = lines_of c.args.lines.now in
     let n : c.loop-n.n ≡ group_count p = omega (arith, c.loop-n-test.false, c.loop-n.auto.n-end, c.count_groups-n-end.ensures) in
     IfOk-weaker c.end_at.result (λ (v : Verdict). (q : Parts) → AreAllRight q ls c.loop-n.right → IsJudged q ls c.args.stop v) (IsJudged p ls c.args.stop)
-    (λ v judged. judged p (record { valid = c.parts.ensures.valid; built = c.requires.built; right = subst (λ m. AreRight p ls m c.loop-n.right) n c.loop-n.invariant })) c.end_at.ensures
+    (λ v judged. judged p (record { valid = c.requires.valid; right = subst (λ m. AreRight p ls m c.loop-n.right) n c.loop-n.invariant })) c.end_at.ensures

@@ -1,8 +1,8 @@
-use Rattle.std.proofs.Common.{◌≡◌, ◌+◌, ◌<◌, ◌≤◌, rules, true, false, List, length, refl, sym, ap, ◌∙◌, set, subst, arith}
-use Rattle.std.specs.Prelude.{All, Some}
+use Rattle.std.proofs.Common.{◌≡◌, ◌+◌, ◌≤◌, rules, true, false, List, refl, sym, ap, ◌∙◌, subst, arith}
+use Rattle.std.specs.Prelude.{All}
 use Rattle.rt_base.specs.declared.CpuNo.{CpuNo}
 use Rattle.rt_base.specs.declared.TheConstants.{MOST_STEPS}
-use Rattle.rt_model.specs.Group.{Group}
+use Rattle.rt_model.specs.Group.{Group, group_processors}
 use Rattle.rt_model.specs.Histories.{after, past_of, reply_to}
 use Rattle.rt_plays.specs.Homes.{IsProcessorOf}
 use Rattle.rank_afresh.specs.Standing.{group_of}
@@ -10,28 +10,31 @@ use Rattle.trace_lines.specs.Lines.{Link, links_of}
 use Rattle.trace_text.specs.Groups.{cpu_numbers}
 use Rattle.trace_text.specs.TraceText.{links_at}
 use Rattle.trace_text.proofs.ReplayLaws.{as_many, changed_by, cpus_there}
+use Rattle.trace_check.specs.declared.course.Course.{Course}
 use Rattle.trace_check.specs.declared.follow.Follow.{Follow}
+use Rattle.trace_check.specs.Courses.{HasGone}
 use Rattle.trace_check.specs.SameLinks.{same_links}
 use Rattle.trace_check.proofs.LinkLists.{same_links-true, same_links-self}
-use Rattle.trace_check.proofs.Accepting.{passed, can_step, count-low, cpu-inside, read-now, following-next}
+use Rattle.trace_check.proofs.Accepting.{can-take, can_step, count-low, following-next, read-now}
 use Rattle.trace_check.proofs.follow.Follow.accepts.Goals as goal
 
-pub next-requires : goal.next-requires
-next-requires c = (c.requires.0, passed c.requires.0 c.args.steps.now c.args.self.now c.requires.1)
+pub take-requires : goal.take-requires
+take-requires c = (c.requires.0, can-take c.requires.0 c.args.setup.now c.args.self.now c.requires.1)
+
+pub returns-then-not-take-clause-refused : goal.returns-then-not-take-clause-refused
+returns-then-not-take-clause-refused c = λ at fw t n. c.take.ensures.refused at (can-take at c.args.setup.now c.args.self.now fw) c.if-not-take.true n.next
 
 pub step-requires : goal.step-requires
 step-requires c =
     let at = c.requires.0 in
     let fw = c.requires.1 in
-    (at, can_step at c.args.steps.now c.args.self.now fw c.args.entry.now.step c.in-Some.j (c.in-Some.ensures at (passed at c.args.steps.now c.args.self.now fw)))
-
-pub returns-in_default-clause-refused : goal.returns-in_default-clause-refused
-returns-in_default-clause-refused c = λ at fw t n. c.in_default.ensures at (passed at c.args.steps.now c.args.self.now fw) n.next
+    let gone = c.take.ensures.taken at (can-take at c.args.setup.now c.args.self.now fw) c.if-not-take.false in
+    (at, can_step at c.args.setup.now c.args.self.now fw c.args.entry.now.step gone.next c.take.new.self)
 
 pub returns-then-not-is_same_reply-clause-refused : goal.returns-then-not-is_same_reply-clause-refused
 returns-then-not-is_same_reply-clause-refused c = λ at fw t n.
-    let np = c.in-Some.ensures at (passed at c.args.steps.now c.args.self.now fw) in
-    let told : c.step.result ≡ reply_to at.group c.args.entry.now.step (past_of at.group at.entries) = c.step.ensures.reply at (can_step at c.args.steps.now c.args.self.now fw c.args.entry.now.step c.in-Some.j np) in
+    let gone = c.take.ensures.taken at (can-take at c.args.setup.now c.args.self.now fw) c.if-not-take.false in
+    let told : c.step.result ≡ reply_to at.group c.args.entry.now.step (past_of at.group at.entries) = c.step.ensures.reply at (can_step at c.args.setup.now c.args.self.now fw c.args.entry.now.step gone.next c.take.new.self) in
     c.is_same_reply.ensures.other c.if-not-is_same_reply.true (told ∙ sym n.reply_is)
 
 pub read_links-requires : goal.read_links-requires
@@ -47,22 +50,22 @@ put_changed-requires c =
     let at = c.requires.0 in
     let fw = c.requires.1 in
     let step = c.args.entry.now.step in
-    let np = c.in-Some.ensures at (passed at c.args.steps.now c.args.self.now fw) in
-    let can = can_step at c.args.steps.now c.args.self.now fw step c.in-Some.j np in
+    let gone = c.take.ensures.taken at (can-take at c.args.setup.now c.args.self.now fw) c.if-not-take.false in
+    let can = can_step at c.args.setup.now c.args.self.now fw step gone.next c.take.new.self in
     let before : c.as_slice-2.result.now ≡ c.args.self.now.links.items = cc (c.as_slice-2.ensures.value, c.swap.ensures.x_after, ap (λ (f : Follow). f.links.items) c.step.ensures.others) in
     let read =
-    read-now at c.args.steps.now c.args.self.now fw step c.in-Some.j np (group_of c.step.new.self.afresh) c.step.new.self.cpus.items c.as_slice-2.result.now c.as_slice-3.result.now (c.step.ensures.group ∙ fw.following.group_is) (ap (λ (f : Follow). f.cpus.items) c.step.ensures.others) before
+    read-now at c.args.setup.now c.args.self.now fw step gone.next (group_of c.step.new.self.afresh) c.step.new.self.cpus.items c.as_slice-2.result.now c.as_slice-3.result.now (c.step.ensures.group ∙ fw.following.group_is) (ap (λ (f : Follow). f.cpus.items) c.step.ensures.others) before
     (ap links_of c.as_slice-3.ensures.value ∙ c.in_ok-read_links.ensures _ (c.step.ensures.at at can) ∙ ap (λ (qs : List CpuNo). links_at (group_of c.step.new.self.afresh) (after at.group step (past_of at.group at.entries)) (cpu_numbers qs)) c.as_slice.ensures.value) in
     as_many at.group (past_of at.group at.entries) (after at.group step (past_of at.group at.entries)) c.as_slice-2.result.now c.as_slice-3.result.now read
 
 pub returns-then-not-are_same-clause-refused : goal.returns-then-not-are_same-clause-refused
 returns-then-not-are_same-clause-refused c = λ at fw t n.
     let step = c.args.entry.now.step in
-    let np = c.in-Some.ensures at (passed at c.args.steps.now c.args.self.now fw) in
-    let can = can_step at c.args.steps.now c.args.self.now fw step c.in-Some.j np in
+    let gone = c.take.ensures.taken at (can-take at c.args.setup.now c.args.self.now fw) c.if-not-take.false in
+    let can = can_step at c.args.setup.now c.args.self.now fw step gone.next c.take.new.self in
     let before : c.as_slice-2.result.now ≡ c.args.self.now.links.items = cc (c.as_slice-2.ensures.value, c.swap.ensures.x_after, ap (λ (f : Follow). f.links.items) c.step.ensures.others) in
     let read =
-    read-now at c.args.steps.now c.args.self.now fw step c.in-Some.j np (group_of c.step.new.self.afresh) c.step.new.self.cpus.items c.as_slice-2.result.now c.as_slice-3.result.now (c.step.ensures.group ∙ fw.following.group_is) (ap (λ (f : Follow). f.cpus.items) c.step.ensures.others) before
+    read-now at c.args.setup.now c.args.self.now fw step gone.next (group_of c.step.new.self.afresh) c.step.new.self.cpus.items c.as_slice-2.result.now c.as_slice-3.result.now (c.step.ensures.group ∙ fw.following.group_is) (ap (λ (f : Follow). f.cpus.items) c.step.ensures.others) before
     (ap links_of c.as_slice-3.ensures.value ∙ c.in_ok-read_links.ensures _ (c.step.ensures.at at can) ∙ ap (λ (qs : List CpuNo). links_at (group_of c.step.new.self.afresh) (after at.group step (past_of at.group at.entries)) (cpu_numbers qs)) c.as_slice.ensures.value) in
     let told = c.in_ok-put_changed.ensures ∙ changed_by at.group (past_of at.group at.entries) (after at.group step (past_of at.group at.entries)) c.as_slice-2.result.now c.as_slice-3.result.now read in
     let both : links_of c.as_slice-4.result.now ≡ links_of c.args.links.now = ap links_of c.as_slice-4.ensures.value ∙ told ∙ sym n.links_are in
@@ -70,37 +73,49 @@ returns-then-not-are_same-clause-refused c = λ at fw t n.
     let no : c.are_same.result ≡ false = c.if-not-are_same.true in
     cc
 
-pub pass-requires : goal.pass-requires
-pass-requires c =
+pub look-requires : goal.look-requires
+look-requires c =
     let at = c.requires.0 in
     let fw = c.requires.1 in
-    let inside : c.args.entry.now.step.cpu.0 < length c.args.self.now.scripts.places.items = cpu-inside at c.args.steps.now c.args.self.now fw c.args.entry.now.step c.in-Some.j (c.in-Some.ensures at (passed at c.args.steps.now c.args.self.now fw)) in
-    omega (arith, inside, ap (λ (f : Follow). length f.scripts.places.items) c.step.ensures.others)
+    let step = c.args.entry.now.step in
+    let gone = c.take.ensures.taken at (can-take at c.args.setup.now c.args.self.now fw) c.if-not-take.false in
+    let can = can_step at c.args.setup.now c.args.self.now fw step gone.next c.take.new.self in (
+      at,
+      step,
+      record {
+        setup_is = fw.setup_is;
+        group_is = c.step.ensures.group ∙ fw.following.group_is;
+        stands = c.step.ensures.at at can;
+        cpus_are = ap cpu_numbers (c.as_slice-5.ensures.value ∙ ap (λ (f : Follow). f.cpus.items) c.step.ensures.others) ∙ fw.following.cpus_are;
+      },
+    )
 
 pub overflow_add-self : goal.overflow_add-self
 overflow_add-self c =
     let at = c.requires.0 in
     let fw = c.requires.1 in
-    let low : c.args.self.now.count + 1 ≤ MOST_STEPS = count-low at c.args.steps.now c.args.self.now fw c.args.entry.now.step c.in-Some.j (c.in-Some.ensures at (passed at c.args.steps.now c.args.self.now fw)) in
+    let gone = c.take.ensures.taken at (can-take at c.args.setup.now c.args.self.now fw) c.if-not-take.false in
+    let low : c.args.self.now.count + 1 ≤ MOST_STEPS = count-low at c.args.setup.now c.args.self.now fw c.args.entry.now.step gone.next in
     let same : c.step.new.self.count ≡ c.args.self.now.count = ap (λ (f : Follow). f.count) c.step.ensures.others in
     search rules
 
 pub returns-clause-accepted : goal.returns-clause-accepted
 returns-clause-accepted c = λ at fw t.
     let step = c.args.entry.now.step in
-    let np = c.in-Some.ensures at (passed at c.args.steps.now c.args.self.now fw) in
-    let can = can_step at c.args.steps.now c.args.self.now fw step c.in-Some.j np in
+    let gone = c.take.ensures.taken at (can-take at c.args.setup.now c.args.self.now fw) c.if-not-take.false in
+    let can = can_step at c.args.setup.now c.args.self.now fw step gone.next c.take.new.self in
     let before : c.as_slice-2.result.now ≡ c.args.self.now.links.items = cc (c.as_slice-2.ensures.value, c.swap.ensures.x_after, ap (λ (f : Follow). f.links.items) c.step.ensures.others) in
     let read =
-    read-now at c.args.steps.now c.args.self.now fw step c.in-Some.j np (group_of c.step.new.self.afresh) c.step.new.self.cpus.items c.as_slice-2.result.now c.as_slice-3.result.now (c.step.ensures.group ∙ fw.following.group_is) (ap (λ (f : Follow). f.cpus.items) c.step.ensures.others) before
+    read-now at c.args.setup.now c.args.self.now fw step gone.next (group_of c.step.new.self.afresh) c.step.new.self.cpus.items c.as_slice-2.result.now c.as_slice-3.result.now (c.step.ensures.group ∙ fw.following.group_is) (ap (λ (f : Follow). f.cpus.items) c.step.ensures.others) before
     (ap links_of c.as_slice-3.ensures.value ∙ c.in_ok-read_links.ensures _ (c.step.ensures.at at can) ∙ ap (λ (qs : List CpuNo). links_at (group_of c.step.new.self.afresh) (after at.group step (past_of at.group at.entries)) (cpu_numbers qs)) c.as_slice.ensures.value) in
     let told = c.in_ok-put_changed.ensures ∙ changed_by at.group (past_of at.group at.entries) (after at.group step (past_of at.group at.entries)) c.as_slice-2.result.now c.as_slice-3.result.now read in
     let yes : same_links (links_of c.as_slice-4.result.now) (links_of c.args.links.now) ≡ true = sym c.are_same.ensures ∙ c.if-not-are_same.false in
     let shown = sym (same_links-true (links_of c.as_slice-4.result.now) (links_of c.args.links.now) yes) ∙ ap links_of c.as_slice-4.ensures.value ∙ told in
     let reply : c.args.entry.now.reply ≡ reply_to at.group step (past_of at.group at.entries) = sym (c.is_same_reply.ensures.same c.if-not-is_same_reply.false) ∙ c.step.ensures.reply at can in
+    let kept : c.step.new.self.course ≡ c.take.new.self = ap (λ (f : Follow). f.course) c.step.ensures.others in
     record {
-      next = record { number = omega (arith, c.if-no-self.false, fw.following.count_is); next = np.next; reply_is = reply; links_are = shown };
-      following = following-next at c.args.steps.now c.args.self.now fw step c.in-Some.j np c.args.entry.now _ refl reply (record {
+      next = record { number = omega (arith, c.if-no-self.false, fw.following.count_is); next = gone.next; reply_is = reply; links_are = shown };
+      following = following-next at c.args.setup.now c.args.self.now fw step gone.next c.args.entry.now _ refl reply (record {
         group_same = c.step.ensures.group;
         spare_less = c.step.ensures.spare;
         at_after = c.step.ensures.at at can;
@@ -111,6 +126,11 @@ returns-clause-accepted c = λ at fw t.
         blocks_same = c.step.ensures.same;
         blocks_less = c.step.ensures.room;
         room_same = c.step.ensures.waiting;
-        places_set = c.pass.ensures ∙ ap (λ (f : Follow). set f.scripts.places.items step.cpu.0 (Some (c.in-Some.j + 1))) c.step.ensures.others;
+        course_after = c.look.ensures at step (record {
+          setup_is = fw.setup_is;
+          group_is = c.step.ensures.group ∙ fw.following.group_is;
+          stands = c.step.ensures.at at can;
+          cpus_are = ap cpu_numbers (c.as_slice-5.ensures.value ∙ ap (λ (f : Follow). f.cpus.items) c.step.ensures.others) ∙ fw.following.cpus_are;
+        }) (subst (HasGone at step) (sym kept) gone);
       });
     }

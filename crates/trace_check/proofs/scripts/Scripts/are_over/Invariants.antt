@@ -1,6 +1,6 @@
 use Rattle.std.proofs.Common.{ℕ, ◌<◌}
 use Rattle.rt_plays.specs.Homes.{IsProcessorOf}
-use Rattle.trace_check.specs.Following.{ArePassed, IsDone, Place}
+use Rattle.trace_check.specs.Places.{ArePassed, IsDone, Place}
 use Rattle.trace_check.proofs.scripts.Scripts.are_over.Given as goal
 
 -- the processors that were passed have no step left

@@ -1,6 +1,6 @@
 use Rattle.std.proofs.Common.{◌≡◌, count_by, take}
 use Rattle.rt_task.specs.declared.Step.{Step}
-use Rattle.trace_check.specs.Following.{has_place}
+use Rattle.trace_check.specs.Places.{has_place}
 use Rattle.trace_check.proofs.scripts.Scripts.count.Given as goal
 
 abbrev pub invariant-loop-step : goal.invariant-loop-step

@@ -2,7 +2,7 @@ use Rattle.std.proofs.Common.{◌<◌, List, ℕ, length, get_or, ap, refl, ◌�
 use Rattle.std.specs.Prelude.{Option, None, Some}
 use Rattle.std.proofs.lemmas.List.{length-replicate}
 use Rattle.rt_base.specs.declared.CpuNo.{CpuNo}
-use Rattle.trace_check.specs.Following.{place_in}
+use Rattle.trace_check.specs.Places.{place_in}
 use Rattle.trace_check.proofs.Places.{opened-none, opened-more}
 use Rattle.trace_check.proofs.scripts.Scripts.open.Goals as goal
 

@@ -2,7 +2,7 @@ use Rattle.std.proofs.Common.{◌≡◌, ℕ, length, take}
 use Rattle.std.specs.Prelude.{None, Some, if◌then◌else◌}
 use Rattle.rt_rules.specs.Numbers.{has}
 use Rattle.trace_text.specs.Groups.{cpu_numbers}
-use Rattle.trace_check.specs.Following.{place_in}
+use Rattle.trace_check.specs.Places.{place_in}
 use Rattle.trace_check.proofs.scripts.Scripts.open.Given as goal
 
 abbrev pub invariant-loop-cpu : goal.invariant-loop-cpu
