@@ -1,10 +1,9 @@
 -- The steps that a set gives: what each group plays of them, and that their processors are there.
-use Rattle.std.proofs.Common.{◌≡◌, ℕ, ◌<◌, ◌≤◌, true, not, List, [], ◌∷◌, length, map, get_or, ltb-true, refl, ap, ◌∙◌, subst, arith}
+use Rattle.std.proofs.Common.{◌≡◌, ℕ, ◌<◌, true, List, [], ◌∷◌, length, map, get_or, ltb-true, refl, ap, ◌∙◌, subst, arith}
 use Rattle.std.specs.Prelude.{All, nat_lt, slice_index_or, sum_by, ◌&&◌}
 use Rattle.std.proofs.lemmas.List.{get_or-map, length-map}
-use Rattle.std.proofs.lemmas.List.Filters.{length-filter_both}
 use Rattle.std.proofs.lemmas.List.Sums.{sum_by-cons}
-use Rattle.rt_base.specs.declared.TheConstants.{MOST_STEPS, TICK_END}
+use Rattle.rt_base.specs.declared.TheConstants.{TICK_END}
 use Rattle.rt_task.specs.declared.Cluster.{Cluster}
 use Rattle.rt_task.specs.declared.Drive.{Drive}
 use Rattle.rt_task.specs.declared.Drive.TheVariants.{Steps, Horizon}
@@ -16,9 +15,7 @@ use Rattle.rt_task.specs.Lookups as lookups
 use Rattle.rt_task.specs.RangeRules.{step_range}
 use Rattle.rt_task.specs.RuleWords.{act_in_range}
 use Rattle.rt_task.specs.Validity.{IsValid}
-use Rattle.rt_rules.specs.Numbers.{has}
 use Rattle.rt_rules.proofs.BoolLaws.{both}
-use Rattle.rt_model.specs.Group.{group_processors}
 use Rattle.rt_laws.proofs.ValidSets.{KeepsRule, step_rows}
 use Rattle.rt_plays.specs.Drives.{steps_given}
 use Rattle.rt_plays.specs.Order.{order, order_by, steps_in_group}
@@ -26,7 +23,6 @@ use Rattle.rt_plays.specs.Plays.{group_with}
 use Rattle.rt_plays.specs.Room.{room, room_by}
 use Rattle.rt_plays.proofs.ProcessorLaws.{cpu_count}
 use Rattle.rt_groups.specs.Built.{gives_steps}
-use Rattle.trace_laws.proofs.StepsGiven.{steps-few}
 
 given : (drive : Drive) → gives_steps drive ≡ true → drive ≡ Steps (steps_given drive)
 given (Steps steps) h = refl

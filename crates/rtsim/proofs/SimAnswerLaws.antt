@@ -1,5 +1,5 @@
 -- The answers of `sim`, by how its reading and its writing ended.
-use Rattle.std.proofs.Common.{◌≡◌, ℕ, List, ap, subst, inl, inr}
+use Rattle.std.proofs.Common.{◌≡◌, List, ap, subst, inl, inr}
 use Rattle.std.specs.Prelude.{Result, Err}
 use Rattle.rt_base.specs.declared.TheConstants.{MOST_SET_BYTES}
 use Rattle.rt_task.specs.declared.Parts.{Parts}

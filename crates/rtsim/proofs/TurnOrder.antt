@@ -1,6 +1,5 @@
 -- A group that was opened and has played all its turns has the history of the order of one thread.
 use Rattle.std.proofs.Common.{◌≡◌, ℕ, ◌-◌, List, [], length, refl, sym, ap, ◌∙◌}
-use Rattle.rt_task.specs.declared.Drive.{Drive}
 use Rattle.rt_task.specs.declared.Drive.TheVariants.{Horizon}
 use Rattle.rt_task.specs.declared.Parts.{Parts}
 use Rattle.rt_task.specs.declared.Step.{Step}
@@ -9,7 +8,7 @@ use Rattle.rt_model.specs.Histories.{past_from, past_of}
 use Rattle.rt_plays.specs.Order.{history, order, order_by, rounds}
 use Rattle.rt_plays.specs.Plays.{group_with}
 use Rattle.rt_plays.specs.Room.{room, room_by}
-use Rattle.rt_groups.specs.Groups.{GroupHistory, group_of, past}
+use Rattle.rt_groups.specs.Groups.{GroupHistory, past}
 use Rattle.turn_play.specs.Played.{with_steps}
 use Rattle.rtsim.specs.Groups.{opened, played}
 use Rattle.rtsim.proofs.OrderLaws.{length-history}

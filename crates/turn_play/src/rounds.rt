@@ -16,7 +16,8 @@ fn play_round(setup: &Setup, engine: &mut Engine, cpus: &[CpuNo], tick: Tick)
     requires room { HasRoom setup.now (length cpus.now * MOST_TURN_STEPS) engine.old }
     requires cpus { AreProcessorsOf engine.old cpus.now }
     requires tick { IsInTime tick.0 }
-    ensures { let steps = round (group_of engine.old) (cpu_numbers cpus.now) tick.0 (past engine.old) in
+    ensures { let g = group_of engine.old in
+        let steps = round g (cpu_numbers cpus.now) tick.0 (past engine.old) in
         engine.new ≡ with_steps steps engine.old }
 {
     for cpu in cpus {

@@ -29,7 +29,8 @@ fn play_acts(setup: &Setup, engine: &mut Engine, cpu: CpuNo, tick: Tick)
     requires room { HasRoom setup.now MOST_TURN_ACTS engine.old }
     requires cpu { IsProcessorOf (group_of engine.old) cpu.0 }
     requires tick { IsInTime tick.0 }
-    ensures { let acts = acts_played (group_of engine.old) MOST_TURN_ACTS cpu.0 tick.0 (past engine.old) in
+    ensures { let g = group_of engine.old in
+        let acts = acts_played g MOST_TURN_ACTS cpu.0 tick.0 (past engine.old) in
         engine.new ≡ with_steps acts engine.old }
 {
     // A proof knows that a setup is valid once its parts are read.

@@ -1,5 +1,4 @@
-use Rattle.std.proofs.Common.{[], ◌∷◌, ◌++◌, ◌+◌, List, ℕ, false, refl, sym, Ok, Err, Result, ◌≡◌, ◌<◌, ◌≤◌, length, get_or, ap, ◌∙◌, arith, rules, map}
-use Rattle.std.specs.Prelude.{if◌then◌else◌, is_err, is_ok}
+use Rattle.std.proofs.Common.{[], ◌∷◌, ◌++◌, ◌+◌, List, ℕ, sym, ◌≡◌, ◌<◌, ◌≤◌, length, get_or, ap, ◌∙◌, arith, rules, map}
 use Rattle.rt_task.specs.declared.Parts.{Parts}
 use Rattle.rt_rules.specs.Numbers.{numbers_from}
 use Rattle.rt_plays.specs.Plays.{group_count, group_with}
