@@ -10,7 +10,6 @@ use Rattle.trace_lines.specs.declared.format.Version.TheVariants.{Two}
 use Rattle.trace_read.specs.declared.Trace.{Trace}
 use Rattle.trace_read.specs.Lines.{lines_of}
 use Rattle.trace_read.specs.Reads.{IsTraceOf}
-use Rattle.trace_text.specs.Groups.{histories}
 use Rattle.trace_text.specs.TraceText.{trace_text}
 use Rattle.trace_laws.specs.TraceLaws.{ArePlayed}
 use Rattle.trace_laws.specs.Upgrades.{IsUpgradeOf}

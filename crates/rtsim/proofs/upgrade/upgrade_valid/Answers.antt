@@ -1,8 +1,3 @@
-use Rattle.std.proofs.Common.{◌≡◌, ℕ, List, sym, subst}
-use Rattle.rt_task.specs.declared.Parts.{Parts}
-use Rattle.rt_history.specs.declared.Entry.{Entry}
-use Rattle.trace_check.specs.Verdicts.{IsVerdict}
-use Rattle.trace_check.specs.declared.verdict.Verdict.{Verdict}
 use Rattle.rtsim.proofs.UpgradeLaws.{valid-says, valid-upgrade, written-read, written-right, written-upgraded}
 use Rattle.rtsim.proofs.upgrade.upgrade_valid.Goals as goal
 
