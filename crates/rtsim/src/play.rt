@@ -15,7 +15,6 @@ use std::alloc::Global;
 /// An engine for each group, by rising number, with this room.
 fn open_groups(alloc: Global, setup: &Setup, rooms: &[u32]) -> Result<Vec<Engine>, NoMemory>
     requires valid { IsValid setup.now }
-    requires built { is_built setup.now ≡ true }
     requires rooms { rooms.now ≡ group_rooms setup.now }
     ensures { IfOk result (λ v. v.items ≡ all_opened setup.now) }
 {
@@ -45,7 +44,6 @@ fn take_steps(setup: &Setup, groups: &[GroupNo], engines: &mut [Engine])
 
 /// The engines of the set's groups, once each has taken its steps in the given order.
 fn play_steps(alloc: Global, setup: &Setup) -> Result<Vec<Engine>, NoMemory>
-    requires built { is_built setup.now ≡ true }
     requires steps { gives_steps setup.now.drive ≡ true }
     ensures { IfOk result (λ v. v.items ≡ all_played setup.now) }
 {
@@ -58,7 +56,6 @@ fn play_steps(alloc: Global, setup: &Setup) -> Result<Vec<Engine>, NoMemory>
 
 /// The engines of the set's groups, once each has been played: its steps in the given order, or its turns.
 pub(crate) fn play(alloc: Global, setup: &Setup) -> Result<Vec<Engine>, NoMemory>
-    requires { is_built setup.now ≡ true }
     ensures { IfOk result (λ v. v.items ≡ all_played setup.now) }
 {
     match &setup.parts().drive {

@@ -112,6 +112,19 @@ end
 const WITH_A_RESERVATION: &str =
     r#"{"plugin":"P-RES","clusters":[{"cpus":1}],"resvs":[{"name":"R","kind":"polling","budget":1,"period":10,"prio":1}],"steps":[]}"#;
 
+const POLLING: &str =
+    r#"{"clusters":[{"cpus":1,"group":0}],"plugin":"P-RES","resvs":[{"budget":2,"cluster":0,"kind":"polling","name":"r1","period":10,"prio":1}],"sems":[],"steps":[[0,3,"arrive","A"],[0,10,"tick"],[0,10,"irq"],[0,10,"end"],[0,12,"arrive","A"],[0,20,"tick"]],"tasks":[{"body":[],"cluster":0,"cost":1,"deadline":5,"enforce":false,"kind":"sporadic","name":"A","period":5,"phase":0,"prio":511,"resv":"r1","uses":[]}]}"#;
+
+const POLLING_REST: &str = "group 0 0:-
+0 3 0 arrive @A done
+1 10 0 tick done 0:@A
+2 10 0 irq runs @A
+3 10 0 end done 0:-
+4 12 0 arrive @A done
+5 20 0 tick done 0:@A
+end
+";
+
 const BODY_RUN: &str =
     r#"{"clusters":[{"cpus":1,"group":0}],"horizon":3,"plugin":"GSN-EDF","resvs":[],"sems":[],"tasks":[{"body":[["work",2],["end"]],"cluster":0,"cost":2,"deadline":3,"enforce":false,"kind":"periodic","name":"A","period":3,"phase":0,"prio":511,"resv":null,"uses":[]}]}"#;
 
@@ -220,6 +233,13 @@ fn plays_turns(rt: HostRuntime) -> Result<(), Fail> {
 }
 
 #[test]
+fn plays_reservations(rt: HostRuntime) -> Result<(), Fail> {
+    let head = "rtsched trace 2\nset ";
+    assert!(rt; plays(rt.alloc(), POLLING, &[head, POLLING, "\n", POLLING_REST])?);
+    Ok(())
+}
+
+#[test]
 fn refuses_what_is_no_json(rt: HostRuntime) -> Result<(), Fail> {
     let wanted = refused(SetKind::NotJson, Part::Whole, 0);
     assert_eq!(rt; answer(rt.alloc(), "{\"plugin\"")?, wanted);
@@ -249,13 +269,6 @@ fn refuses_by_the_first_rule_that_is_broken(rt: HostRuntime) -> Result<(), Fail>
         answer(alloc, sharing)?,
         refused(SetKind::Sharing, Part::Sem, 0)
     );
-    Ok(())
-}
-
-#[test]
-fn refuses_what_is_not_played_yet(rt: HostRuntime) -> Result<(), Fail> {
-    let unbuilt = refused(SetKind::Unbuilt, Part::Whole, 0);
-    assert_eq!(rt; answer(rt.alloc(), WITH_A_RESERVATION)?, unbuilt);
     Ok(())
 }
 

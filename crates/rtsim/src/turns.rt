@@ -2,7 +2,6 @@
 ghost use Rattle.std.specs.Prelude.{◌≡◌, ◌*◌, ◌≤◌, IfOk, true};
 ghost use Rattle.rt_base.specs.declared.TheConstants.{MOST_STEPS, MOST_TURN_STEPS};
 ghost use Rattle.rt_task.specs.declared.Drive.TheVariants.{Horizon};
-ghost use Rattle.rt_groups.specs.Built.{is_built};
 ghost use Rattle.rt_groups.specs.Groups.{IsGroupOf};
 ghost use Rattle.rtsim.specs.Groups.{all_played, played};
 
@@ -29,7 +28,6 @@ fn play_group(
     horizon: u64,
 ) -> Result<Engine, NoMemory>
     requires group { IsGroupOf setup.now group.0 }
-    requires built { is_built setup.now ≡ true }
     requires horizon { setup.now.drive ≡ Horizon horizon }
     ensures { IfOk result (λ e. e ≡ played setup.now group.0) }
 {
@@ -49,7 +47,6 @@ pub(crate) fn play_groups(
     setup: &Setup,
     horizon: u64,
 ) -> Result<Vec<Engine>, NoMemory>
-    requires built { is_built setup.now ≡ true }
     requires horizon { setup.now.drive ≡ Horizon horizon }
     ensures { IfOk result (λ v. v.items ≡ all_played setup.now) }
 {

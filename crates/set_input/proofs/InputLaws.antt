@@ -15,7 +15,7 @@ use Rattle.set_input.specs.Ends.{Reading}
 use Rattle.set_input.specs.Inputs.{playable, if_played, WasRefused, CanPlay}
 use Rattle.set_input.specs.Players.{is_played}
 use Rattle.set_input.specs.declared.player.Player.{Player}
-use Rattle.set_input.specs.declared.player.Player.TheVariants.{OneThread, Threads}
+use Rattle.set_input.specs.declared.player.Player.TheVariants.{Threads}
 use Rattle.set_input.proofs.EndLaws.{IsToldWithin}
 
 -- a set that was read is one that the player plays
@@ -31,12 +31,11 @@ playable-is_played player bytes p h = by_set (set bytes) h
     by_set (Ok q) k = by_test q (is_played player q) refl k
     by_set (Err e) k = cc
 
--- it is built, whoever plays it
-pub playable-is_built : (player : Player) (bytes : List ℕ) (p : Parts) → playable player bytes ≡ Ok p → is_built p ≡ true
-playable-is_built OneThread bytes p h = playable-is_played OneThread bytes p h
-playable-is_built Threads bytes p h = (both (is_built p) (gives_steps p.drive) (playable-is_played Threads bytes p h)).0
+-- it is built, where threads play it
+pub playable-is_built : (bytes : List ℕ) (p : Parts) → playable Threads bytes ≡ Ok p → is_built p ≡ true
+playable-is_built bytes p h = (both (is_built p) (gives_steps p.drive) (playable-is_played Threads bytes p h)).0
 
--- and gives steps, where threads play it
+-- and gives steps
 pub playable-gives_steps : (bytes : List ℕ) (p : Parts) → playable Threads bytes ≡ Ok p → gives_steps p.drive ≡ true
 playable-gives_steps bytes p h = (both (is_built p) (gives_steps p.drive) (playable-is_played Threads bytes p h)).1
 

@@ -6,5 +6,5 @@ use Rattle.set_input.specs.declared.player.Player.{Player}
 use Rattle.set_input.specs.declared.player.Player.TheVariants.{OneThread, Threads}
 
 abbrev pub is_played : Player → Parts → Bool
-is_played OneThread p = is_built p
+is_played OneThread p = true
 is_played Threads p = is_built p && gives_steps p.drive

@@ -8,9 +8,10 @@ use rt_task::Setup;
 /// By whom a set is played.
 #[derive(Clone, Copy, Debug, PartialEq, Eq)]
 pub enum Player {
-    /// One thread, which plays the steps or the turns of all processors.
+    /// One thread, which plays the steps or the turns of all processors. It plays every valid set.
     OneThread,
-    /// Threads, each of which plays the steps of one processor. They play no set with a horizon.
+    /// Threads, each of which plays the steps of one processor. They play no set with a horizon or
+    /// with reservations.
     Threads,
 }
 
@@ -20,7 +21,7 @@ impl Player {
         ensures { result ≡ is_played self setup.now }
     {
         match self {
-            Player::OneThread => is_built(setup),
+            Player::OneThread => true,
             Player::Threads => is_built(setup) && gives_steps(&setup.parts().drive),
         }
     }

@@ -1,7 +1,6 @@
 //! The groups of a trace.
 ghost use Rattle.std.specs.Prelude.{◌≡◌, ◌≤◌, true, flat_map, length, map, OnOk};
 ghost use Rattle.rt_base.specs.declared.TheConstants.{MOST_STEPS};
-ghost use Rattle.rt_groups.specs.Built.{is_built};
 ghost use Rattle.rt_groups.specs.Groups.{group_of, past, AreStepsOf, IsGroupOf};
 ghost use Rattle.trace_lines.specs.Grammar.{line_text};
 ghost use Rattle.block_counts.specs.SeenWords.{tallies_of};
@@ -79,7 +78,6 @@ fn write_group<K: Sink>(
     out: &mut K,
 ) -> Result<(), WriteStop>
     requires there { IsGroupOf setup.now number.0 }
-    requires built { is_built setup.now ≡ true }
     requires setup { group.now.setup ≡ setup.now }
     requires number { group.now.group ≡ number.0 }
     ensures { Came result (K.held out.old) (K.held out.new) (K.faults out.old) (K.faults out.new)
@@ -103,7 +101,6 @@ fn write_groups<K: Sink>(
 ) -> Result<(), WriteStop>
     requires groups { AreGroupsOf setup.now groups.now }
     requires few { length groups.now ≤ 64 }
-    requires built { is_built setup.now ≡ true }
     ensures { Came result (K.held out.old) (K.held out.new) (K.faults out.old) (K.faults out.new)
         (flat_map (line_text (known_in format.now))
         (lines_from setup.now 0 (histories groups.now))) }
@@ -147,7 +144,6 @@ pub fn write_all<K: Sink>(
     out: &mut K,
 ) -> Result<(), WriteStop>
     requires groups { AreGroupsOf setup.now groups.now }
-    requires built { is_built setup.now ≡ true }
     ensures { Came result (K.held out.old) (K.held out.new) (K.faults out.old) (K.faults out.new)
         (trace_text version setup.now (histories groups.now)) }
 {

@@ -4,7 +4,6 @@
 ghost use Rattle.std.specs.Prelude.{◌≡◌, ◌≢◌, ◌≤◌, true, OnOk, OnErr, IfErr};
 ghost use Rattle.rt_fault.specs.Faults.{HasRisen};
 ghost use Rattle.rt_fault.specs.Held.{Extends, ExtendsByPrefix};
-ghost use Rattle.rt_groups.specs.Built.{is_built};
 ghost use Rattle.trace_text.specs.TraceText.{trace_text};
 ghost use Rattle.trace_text.specs.Groups.{AreGroupsOf, histories};
 ghost use Rattle.trace_text.specs.declared.stop.WriteStop.TheVariants as stops;
@@ -42,7 +41,6 @@ pub fn write_trace<K: Sink>(
     out: &mut K,
 ) -> Result<(), WriteStop>
     requires groups { AreGroupsOf setup.now groups.now }
-    requires built { is_built setup.now ≡ true }
     ensures ok { let text = trace_text version setup.now (histories groups.now) in
         OnOk result (Extends (K.held out.old) (K.held out.new) text) }
     ensures stopped { let text = trace_text version setup.now (histories groups.now) in

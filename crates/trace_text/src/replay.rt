@@ -3,7 +3,6 @@ ghost use Rattle.std.specs.Prelude.{◌≡◌, ◌-◌, ◌<◌, ◌≤◌, [], 
 ghost use Rattle.rt_base.specs.declared.TheConstants.{MOST_STEPS};
 ghost use Rattle.rt_model.specs.Histories.{after, changed};
 ghost use Rattle.rt_model.specs.Steps.{IsStepOf};
-ghost use Rattle.rt_groups.specs.Built.{is_built};
 ghost use Rattle.rt_groups.specs.Groups.{group_of, past, IsGroupOf};
 ghost use Rattle.count_laws.specs.Tallies.{tallies};
 ghost use Rattle.block_counts.specs.SeenWords.{tallies_of};
@@ -37,7 +36,6 @@ impl Replay {
     pub fn open(alloc: Global, setup: &Setup, group: GroupNo, room: u32) -> Result<Replay, NoMemory>
         requires group { IsGroupOf setup.now group.0 }
         requires room { room ≤ MOST_STEPS }
-        requires built { is_built setup.now ≡ true }
         ensures opened { IfOk result (λ r.
             r.engine ≡
             record { setup = setup.now; group = group.0; entries = []; spare = room }) }

@@ -12,11 +12,8 @@ returns-in-Err-clause-answers g c = run-unread _ _ c.in-Err.status c.in-Err.ensu
 
 pub run_set-requires : goal.run_set-requires
 run_set-requires g c =
-    let built : is_built c.in-Ok.setup ≡ true = playable-is_built Threads _ _ c.in-Ok.ensures.ok.reads in
+    let built : is_built c.in-Ok.setup ≡ true = playable-is_built _ _ c.in-Ok.ensures.ok.reads in
     search (built, rules)
-
-pub write_trace-requires-clause-built : goal.write_trace-requires-clause-built
-write_trace-requires-clause-built g c = playable-is_built Threads _ _ c.in-Ok.ensures.ok.reads
 
 pub write_trace-requires-clause-groups : goal.write_trace-requires-clause-groups
 write_trace-requires-clause-groups g c = subst (AreGroupsOf c.in-Ok.setup) (sym c.as_slice.ensures.value) c.in-Ok-run_set.ensures.groups

@@ -1,18 +1,10 @@
 use Rattle.std.proofs.Common.{◌∙◌, inr, refl}
-use Rattle.set_input.proofs.InputLaws.{playable-is_built}
-use Rattle.set_input.specs.declared.player.Player.TheVariants.{OneThread}
 use Rattle.rtsim.proofs.SimLaws.{played-groups}
 use Rattle.rtsim.proofs.SimAnswerLaws.{sim-unread, sim-read}
 use Rattle.rtsim.proofs.play_set.play_set.Goals as goal
 
 pub returns-in-Err-clause-answers : goal.returns-in-Err-clause-answers
 returns-in-Err-clause-answers g c = sim-unread _ _ c.in-Err.status c.in-Err.ensures.ends refl
-
-pub play-requires : goal.play-requires
-play-requires g c = playable-is_built OneThread _ _ c.in-Ok.ensures.ok.reads
-
-pub write_trace-requires-clause-built : goal.write_trace-requires-clause-built
-write_trace-requires-clause-built g c = playable-is_built OneThread _ _ c.in-Ok.ensures.ok.reads
 
 pub write_trace-requires-clause-groups : goal.write_trace-requires-clause-groups
 write_trace-requires-clause-groups g c = played-groups c.in-Ok.setup c.as_slice.result.now c.in-Ok.ensures.ok.valid (c.as_slice.ensures.value ∙ c.in-Ok-play.ensures)
