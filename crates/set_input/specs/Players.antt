@@ -1,5 +1,5 @@
 -- Which sets are played, by one thread or by threads.
-use Rattle.std.specs.Prelude.{Bool, ◌&&◌}
+use Rattle.std.specs.Prelude.{Bool, true, ◌&&◌}
 use Rattle.rt_task.specs.declared.Parts.{Parts}
 use Rattle.rt_groups.specs.Built.{gives_steps, is_built}
 use Rattle.set_input.specs.declared.player.Player.{Player}
