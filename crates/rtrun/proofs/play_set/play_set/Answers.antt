@@ -15,8 +15,8 @@ run_set-requires g c =
     let built : is_built c.in-Ok.setup ≡ true = playable-is_built _ _ c.in-Ok.ensures.ok.reads in
     search (built, rules)
 
-pub write_trace-requires-clause-groups : goal.write_trace-requires-clause-groups
-write_trace-requires-clause-groups g c = subst (AreGroupsOf c.in-Ok.setup) (sym c.as_slice.ensures.value) c.in-Ok-run_set.ensures.groups
+pub write_trace-requires : goal.write_trace-requires
+write_trace-requires g c = record { groups = subst (AreGroupsOf c.in-Ok.setup) (sym c.as_slice.ensures.value) c.in-Ok-run_set.ensures.groups }
 
 pub returns-in-Ok-write_trace-clause-answers : goal.returns-in-Ok-write_trace-clause-answers
 returns-in-Ok-write_trace-clause-answers g c =

@@ -6,8 +6,8 @@ use Rattle.rtsim.proofs.play_set.play_set.Goals as goal
 pub returns-in-Err-clause-answers : goal.returns-in-Err-clause-answers
 returns-in-Err-clause-answers g c = sim-unread _ _ c.in-Err.status c.in-Err.ensures.ends refl
 
-pub write_trace-requires-clause-groups : goal.write_trace-requires-clause-groups
-write_trace-requires-clause-groups g c = played-groups c.in-Ok.setup c.as_slice.result.now c.in-Ok.ensures.ok.valid (c.as_slice.ensures.value ∙ c.in-Ok-play.ensures)
+pub write_trace-requires : goal.write_trace-requires
+write_trace-requires g c = record { groups = played-groups c.in-Ok.setup c.as_slice.result.now c.in-Ok.ensures.ok.valid (c.as_slice.ensures.value ∙ c.in-Ok-play.ensures) }
 
 pub returns-in-Ok-write_trace-clause-answers : goal.returns-in-Ok-write_trace-clause-answers
 returns-in-Ok-write_trace-clause-answers g c =
