@@ -1,7 +1,7 @@
 -- What the code that counts a bound rests on.
-use Rattle.std.specs.Prelude.{ℕ, ◌<◌, ◌≤◌, length, slice_index_or}
+use Rattle.std.specs.Prelude.{◌≡◌, ℕ, ◌+◌, ◌<◌, ◌≤◌, List, length, Option, None, Some, slice_index_or}
 use Rattle.rt_task.specs.declared.Parts.{Parts}
-use Rattle.rt_model.specs.Group.{no_cluster, no_task}
+use Rattle.rt_model.specs.Group.{Group, no_cluster, no_task, users}
 
 -- a set whose bounds can be counted
 pub record CanBound (p : Parts) : Type 0 where
@@ -16,3 +16,8 @@ IsTaskOf p t = (1 ≤ t) × (t ≤ length p.tasks)
 -- the number of a semaphore of the set
 abbrev pub IsSemOf : Parts → ℕ → Type 0
 IsSemOf p s = (1 ≤ s) × (s ≤ length p.sems)
+
+-- at the numbers of semaphores how many tasks of the group declare them, where that was counted
+pub record AreUserCounts (g : Group) (counts : List (Option ℕ)) : Type 0 where
+  pub room : length counts ≡ length g.setup.sems + 1
+  pub users_are : (s n : ℕ) → slice_index_or counts s None ≡ Some n → n ≡ length (users g s)

@@ -13,7 +13,7 @@ ghost use Rattle.block_counts.specs.GroupRequests.{IsAt, IsBetween, NamesKnown, 
 ghost use Rattle.block_counts.specs.SeenWords.{tallies_of, waiters_of};
 
 use crate::at_sem::{AtSem, at_sem};
-use crate::bounds::bound_of;
+use crate::bounds::{bound_of, no_user_counts};
 use crate::requests::{ask, count_end, no_places, no_requests};
 use crate::seen::{Seen, Waiting};
 use rt_base::{GroupNo, NoMemory, TaskNo};
@@ -31,12 +31,15 @@ pub struct Blocks {
     group: GroupNo,
     seen: Vec<Seen>,
     places: Vec<Option<u32>>,
+    // At the number of a semaphore how many tasks declare it, once it was asked for.
+    users: Vec<Option<u32>>,
     entries: u32,
     spare: u32,
 }
 
 impl Model for Blocks {
     ghost use Rattle.std.specs.Prelude.{vec_capacity};
+    ghost use Rattle.block_counts.specs.Bounding.{AreUserCounts};
     ghost use Rattle.block_counts.specs.GroupRequests.{GroupRequests, IsFit};
     ghost use Rattle.block_counts.specs.SeenWords.{tallies_of};
 
@@ -52,7 +55,8 @@ impl Model for Blocks {
 
     ghost invariant = { λ a.
         IsFit a.setup (tallies_of a.seen.items) a.places.items (vec_capacity a.seen)
-        a.entries a.spare };
+        a.entries a.spare
+        × AreUserCounts (record { setup = a.setup; number = a.group.0 }) a.users.items };
 }
 
 impl Blocks {
@@ -70,11 +74,13 @@ impl Blocks {
         let tasks = setup.parts().tasks.as_slice().len();
         let places = no_places(alloc, tasks + 1)?;
         let seen = no_requests(alloc, room as usize)?;
+        let users = no_user_counts(alloc, setup.parts().sems.as_slice().len())?;
         Ok(Blocks {
             setup,
             group,
             seen,
             places,
+            users,
             entries: 0,
             spare: room,
         })
@@ -106,7 +112,9 @@ impl Blocks {
         self.spare -= 1;
         match at_sem(entry, runs) {
             AtSem::Asks(task, sem) => {
-                let bound = bound_of(self.setup.parts(), self.group, task, sem);
+                let parts = self.setup.parts();
+                let users = self.users.as_mut_slice();
+                let bound = bound_of(users, parts, self.group, task, sem);
                 let new = Seen {
                     no,
                     task,

@@ -1,13 +1,14 @@
 //! The bound of a request.
-ghost use Rattle.std.specs.Prelude.{◌≡◌, ◌&&◌, ◌==◌, ◌<◌, ◌≤◌, length, map, slice_index_or};
+ghost use Rattle.std.specs.Prelude.{◌≡◌, ◌+◌, ◌&&◌, ◌==◌, ◌^◌, ◌<◌, ◌≤◌, IfOk, None, length, map, replicate, slice_index_or};
 ghost use Rattle.rt_base.specs.declared.SemNo.{SemNo};
 ghost use Rattle.rt_rules.specs.Numbers.{has};
 ghost use Rattle.rt_model.specs.Blocking.{bound};
 ghost use Rattle.rt_model.specs.Group.{cpus, home, no_cluster, users};
-ghost use Rattle.block_counts.specs.Bounding.{CanBound, IsSemOf, IsTaskOf};
+ghost use Rattle.block_counts.specs.Bounding.{AreUserCounts, CanBound, IsSemOf, IsTaskOf};
 
-use rt_base::{ClusterNo, GroupNo, SemNo, TaskNo};
+use rt_base::{ClusterNo, GroupNo, NoMemory, SemNo, TaskNo};
 use rt_task::{Cluster, Parts, Protocol, Task};
+use std::alloc::Global;
 
 fn is_in_group(clusters: &[Cluster], cluster: ClusterNo, group: GroupNo) -> bool
     requires { cluster.0 < length clusters.now }
@@ -51,6 +52,31 @@ fn count_users(parts: &Parts, group: GroupNo, sem: SemNo) -> u32
     count
 }
 
+/// The counts of users of so many semaphores, numbered from 1, of which none was counted.
+pub(crate) fn no_user_counts(alloc: Global, sems: usize) -> Result<Vec<Option<u32>>, NoMemory>
+    requires { sems < 2 ^ 63 }
+    ensures { IfOk result (λ v. v.items ≡ replicate (sems + 1) None) }
+{
+    vec![in alloc; None; sems + 1].map_err(|_| NoMemory)
+}
+
+/// How many tasks of the group declare the semaphore, which is counted at the first call for it alone.
+fn users_of(counts: &mut [Option<u32>], parts: &Parts, group: GroupNo, sem: SemNo) -> u32
+    requires can { CanBound parts.now }
+    requires sem { IsSemOf parts.now sem.0 }
+    requires counts { AreUserCounts (record { setup = parts.now; number = group.0 }) counts.old }
+    ensures users { result
+        ≡ length (users (record { setup = parts.now; number = group.0 }) sem.0) }
+    ensures counts { AreUserCounts (record { setup = parts.now; number = group.0 }) counts.new }
+{
+    if let Some(count) = counts[sem.0 as usize] {
+        return count;
+    }
+    let count = count_users(parts, group, sem);
+    counts[sem.0 as usize] = Some(count);
+    count
+}
+
 /// How many processors the task's cluster has.
 fn count_cpus(parts: &Parts, group: GroupNo, task: TaskNo) -> u32
     requires can { CanBound parts.now }
@@ -64,12 +90,20 @@ fn count_cpus(parts: &Parts, group: GroupNo, task: TaskNo) -> u32
     parts.clusters.as_slice()[cluster.0 as usize].cpus
 }
 
-/// The bound of a request of the task for the semaphore.
-pub(crate) fn bound_of(parts: &Parts, group: GroupNo, task: TaskNo, sem: SemNo) -> Option<u32>
+/// The bound of a request of the task for the semaphore, by the users that were counted before.
+pub(crate) fn bound_of(
+    counts: &mut [Option<u32>],
+    parts: &Parts,
+    group: GroupNo,
+    task: TaskNo,
+    sem: SemNo,
+) -> Option<u32>
     requires can { CanBound parts.now }
     requires task { IsTaskOf parts.now task.0 }
     requires sem { IsSemOf parts.now sem.0 }
-    ensures { result ≡ bound (record { setup = parts.now; number = group.0 }) task.0 sem.0 }
+    requires counts { AreUserCounts (record { setup = parts.now; number = group.0 }) counts.old }
+    ensures bound { result ≡ bound (record { setup = parts.now; number = group.0 }) task.0 sem.0 }
+    ensures counts { AreUserCounts (record { setup = parts.now; number = group.0 }) counts.new }
 {
     let place = sem.0 as usize - 1;
     match parts.sems.as_slice()[place].protocol {
@@ -78,7 +112,7 @@ pub(crate) fn bound_of(parts: &Parts, group: GroupNo, task: TaskNo, sem: SemNo) 
             Some((2 * cpus).saturating_sub(1))
         }
         Protocol::Fmlp => {
-            let users = count_users(parts, group, sem);
+            let users = users_of(counts, parts, group, sem);
             Some(users.saturating_sub(1))
         }
         _ => None,

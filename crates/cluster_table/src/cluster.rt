@@ -14,6 +14,13 @@ use rt_order::{ByKey, Key};
 use std::alloc::Global;
 use std::marker::Model;
 
+/// Whether both are none, or the same key.
+fn is_same(a: Option<Key>, b: Option<Key>) -> bool
+    ensures { result ≡ true → a ≡ b }
+{
+    a == b
+}
+
 /// The eligible tasks of a cluster, and the links and runs of its processors.
 #[derive(Drop)]
 pub(crate) struct ClusterState {
@@ -92,12 +99,15 @@ impl ClusterState {
     }
 
     /// Gives the task this key, or says that it is not eligible. The links stay placed where the first of the eligible
-    /// tasks are the same ones.
+    /// tasks are the same ones. Where it has this key, nothing is moved.
     pub(crate) fn set(&mut self, task: TaskNo, key: Option<Key>)
         requires { task.0 < length self.old.cluster.keys }
         ensures cluster { self.new.cluster ≡ with_key task.0 key self.old.cluster }
         ensures placed { self.new.is_placed ≡ true → self.old.is_placed ≡ true }
     {
+        if is_same(self.queue.heap().key(task), key) {
+            return;
+        }
         if self.queue.set(task, key) {
             self.is_placed = false;
         }

@@ -9,25 +9,26 @@ use Rattle.rt_base.specs.declared.TheConstants.{MOST_CPUS, MOST_STEPS}
 use Rattle.rt_task.specs.declared.Step.{Step}
 use Rattle.rt_task.specs.declared.Parts.{Parts}
 use Rattle.rt_history.specs.declared.Entry.{Entry}
-use Rattle.rt_rules.specs.Numbers.{has}
-use Rattle.rt_model.specs.Group.{Group, group_processors}
+use Rattle.rt_model.specs.Group.{Group}
 use Rattle.rt_model.specs.Histories.{reply_to}
 use Rattle.rt_model.specs.Steps.{IsStepOf}
+use Rattle.rt_groups.specs.Drives.{gives_steps}
 use Rattle.rt_groups.specs.Groups.{GroupHistory, group_of, past, with_entry}
 use Rattle.rt_plays.specs.Drives.{steps_given}
 use Rattle.rt_plays.specs.Homes.{IsProcessorOf}
 use Rattle.rt_plays.specs.Order.{steps_in_group}
-use Rattle.rt_plays.specs.Plays.{group_with}
-use Rattle.rt_plays.specs.Scripts.{script, steps_of}
-use Rattle.rt_plays.specs.ScriptPlays.{IsBegunScriptPlay}
+use Rattle.rt_plays.specs.Plays.{group_with, IsBegunPlay}
+use Rattle.rt_plays.specs.Room.{room}
+use Rattle.rt_plays.specs.Scripts.{script}
 use Rattle.rt_task.specs.Validity.{IsValid}
-use Rattle.rt_plays.proofs.RoomLaws.{script-room}
-use Rattle.rt_plays.proofs.ScriptParts.{script-take-drop, script-take-next, script-steps_of-next, script-steps_of-skip, part-first, part-next}
+use Rattle.rt_plays.proofs.PlayLaws.{play-fits}
+use Rattle.rt_plays.proofs.ScriptParts.{script-take-drop, script-take-next, script-steps_of-next, script-steps_of-skip}
 use Rattle.cpu_site.specs.Chains.{IsNextFrom, IsChained}
-use Rattle.cpu_site.specs.Playing.{IsPlayable, IsPlayedTo, IsPlaying, IsNextStep, IsNextEntry, IsOver, unplayed}
-use Rattle.cpu_site.proofs.SetFacts.{group-steps, group-steps_few, in_group-home, own-script, processor-low}
+use Rattle.cpu_site.specs.Playing.{IsPlayable, IsPlayedTo, IsPlaying, IsNextStep, IsNextEntry, IsOver}
+use Rattle.cpu_site.proofs.Drives.{begun-few, begun-first, begun-next, next-script, over-script}
+use Rattle.cpu_site.proofs.SetFacts.{group-steps, in_group-home, own-script, processor-low}
 
-module _ (h : GroupHistory) (steps : List Step) (places nexts : List ℕ) (playing : IsPlaying h steps places nexts) (q : ℕ) (of_g : IsProcessorOf (group_of h) q) where
+module _ (h : GroupHistory) (p : Parts) (steps : List Step) (places nexts : List ℕ) (playing : IsPlaying h p steps places nexts) (q : ℕ) (of_g : IsProcessorOf (group_of h) q) (gives : gives_steps h.setup.drive ≡ true) where
   low : q < MOST_CPUS
   low = processor-low (group_of h) q playing.playable.valid of_g
 
@@ -38,21 +39,21 @@ module _ (h : GroupHistory) (steps : List Step) (places nexts : List ℕ) (playi
   own_given = ap (λ (ss : List Step). script ss q) playing.steps_are ∙ own-script (group_of h) q of_g
 
   played-to : IsPlayedTo steps h.entries q (get_or places q 0)
-  played-to = playing.at q low
+  played-to = playing.at gives q low
 
   -- at the end of the list no step is left
-  over : length steps ≤ get_or places q 0 → IsOver h.setup q h.entries
-  over end = played-to.played ∙ ap (λ (ss : List Step). script ss q) (take_all (get_or places q 0) steps end) ∙ own_given
+  over : length steps ≤ get_or places q 0 → IsOver (group_of h) q h.entries
+  over end = over-script (group_of h) q h.entries gives (played-to.played ∙ ap (λ (ss : List Step). script ss q) (take_all (get_or places q 0) steps end) ∙ own_given)
 
   module _ (d : Step) (left : get_or places q 0 < length steps) where
     own-step : (get_or steps (get_or places q 0) d).cpu.0 ≡ q
     own-step = played-to.place.own d left
 
-    next-step : IsNextStep h.setup q h.entries (get_or steps (get_or places q 0) d)
-    next-step =
+    next-step : (turns : ℕ) → IsNextStep (group_of h) turns q h.entries (get_or steps (get_or places q 0) d)
+    next-step turns =
         let j : ℕ = get_or places q 0 in
         let more : List Step = script (drop (j + 1) steps) q in
-        let here : (get_or steps j d).cpu.0 == q ≡ true = let o = own-step in grind (arith, nat_tests, o) in (
+        let here : (get_or steps j d).cpu.0 == q ≡ true = let o = own-step in grind (arith, nat_tests, o) in next-script (group_of h) turns q h.entries (get_or steps j d) gives (
           more,
           sym own_given
               ∙ script-take-drop steps q (j + 1)
@@ -71,20 +72,17 @@ module _ (h : GroupHistory) (steps : List Step) (places nexts : List ℕ) (playi
       own : e.step.cpu.0 ≡ q
       own = ap (λ (s : Step). s.cpu.0) step_is ∙ own-step
 
-      next-entry : IsNextEntry h q e
-      next-entry = record { own = own; next = subst (λ (s : Step). IsNextStep h.setup q h.entries s) (sym step_is) next-step; reply = reply_is }
+      next-entry : (turns : ℕ) → IsNextEntry h turns q e
+      next-entry turns = record { own = own; next = subst (λ (s : Step). IsNextStep (group_of h) turns q h.entries s) (sym step_is) (next-step turns); reply = reply_is }
 
-      begun-more : IsBegunScriptPlay (group_of h) (h.entries ++ e ∷ [])
-      begun-more =
-          let next = next-entry.next in
-          part-next (group_of h) h.entries e next.0 playing.begun reply_is (subst (λ (x : ℕ). IsProcessorOf (group_of h) x) (sym own) of_g)
-          (subst (λ (x : ℕ). script (steps_given h.setup.drive) x ≡ script (steps_of h.entries) x ++ e.step ∷ next.0) (sym own) next.1)
+      begun-more : IsBegunPlay (group_of h) (h.entries ++ e ∷ [])
+      begun-more = begun-next (group_of h) 0 q h.entries e playing.begun own of_g (next-entry 0).next reply_is
 
       -- so there was room for it
-      has-room : length h.entries < length steps
+      has-room : length h.entries < room (group_of h)
       has-room =
-          let few = script-room (group_of h) (h.entries ++ e ∷ []) begun-more in
-          omega (arith, few, ap length playing.steps_are, length-append h.entries (e ∷ []))
+          let few = play-fits (group_of h) (h.entries ++ e ∷ []) begun-more in
+          omega (arith, few, length-append h.entries (e ∷ []))
 
       at-own : IsPlayedTo steps (h.entries ++ e ∷ []) q (get_or nexts (get_or places q 0) 0)
       at-own =
@@ -103,7 +101,7 @@ module _ (h : GroupHistory) (steps : List Step) (places nexts : List ℕ) (playi
 
       at-other : (x : ℕ) → x ≢ q → x < MOST_CPUS → IsPlayedTo steps (h.entries ++ e ∷ []) x (get_or places x 0)
       at-other x other lt =
-          let before = playing.at x lt in
+          let before = playing.at gives x lt in
           let no : e.step.cpu.0 == x ≡ false = let o = own in grind (arith, nat_tests, other, o) in
           record { place = before.place; played = script-steps_of-skip h.entries e x no ∙ before.played }
 
@@ -116,54 +114,55 @@ module _ (h : GroupHistory) (steps : List Step) (places nexts : List ℕ) (playi
           let other : x ≢ q = grind (arith, nat_tests, is) in
           rw (get_or-set_other places q x (get_or nexts (get_or places q 0) 0) 0 other) (at-other x other lt)
 
-      playing-more : IsPlaying (with_entry e h) steps (set places q (get_or nexts (get_or places q 0) 0)) nexts
+      playing-more : IsPlaying (with_entry e h) p steps (set places q (get_or nexts (get_or places q 0) 0)) nexts
       playing-more = record {
         playable = playing.playable;
+        setup_is = playing.setup_is;
         steps_are = playing.steps_are;
         begun = begun-more;
-        room = let room = has-room in omega (arith, room, playing.room, length-append h.entries (e ∷ []));
+        room_is = let low = has-room in omega (arith, low, playing.room_is, length-append h.entries (e ∷ []));
         all_cpus = length-set places q _ ∙ playing.all_cpus;
         all_steps = playing.all_steps;
-        at = λ x lt. at-each x lt _ refl;
+        at = λ _ x lt. at-each x lt _ refl;
         next = playing.next;
       }
 
 -- what the step at a processor's place comes to
-pub record IsTaking (h : GroupHistory) (steps : List Step) (places nexts : List ℕ) (q : ℕ) (s : Step) : Type 0 where
+pub record IsTaking (h : GroupHistory) (p : Parts) (steps : List Step) (places nexts : List ℕ) (q : ℕ) (s : Step) : Type 0 where
   pub own : s.cpu.0 ≡ q
   pub step_of : IsStepOf (group_of h) s
   pub room : 0 < h.spare
-  pub entry : (e : Entry) → e.step ≡ s → e.reply ≡ reply_to (group_of h) e.step (past h) → IsNextEntry h q e
+  pub entry : (turns : ℕ) (e : Entry) → e.step ≡ s → e.reply ≡ reply_to (group_of h) e.step (past h) → IsNextEntry h turns q e
   pub after : (e : Entry) → e.step ≡ s → e.reply ≡ reply_to (group_of h) e.step (past h) → (place next : ℕ) → place ≡ get_or places q place → next ≡ get_or nexts place next
-      → IsPlaying (with_entry e h) steps (set places q next) nexts
+      → IsPlaying (with_entry e h) p steps (set places q next) nexts
 
-module _ (h : GroupHistory) (steps : List Step) (places nexts : List ℕ) (playing : IsPlaying h steps places nexts) (q : ℕ) (of_g : IsProcessorOf (group_of h) q) (place : ℕ) (place_is : place ≡ get_or places q place) where
+module _ (h : GroupHistory) (p : Parts) (steps : List Step) (places nexts : List ℕ) (playing : IsPlaying h p steps places nexts) (q : ℕ) (of_g : IsProcessorOf (group_of h) q) (gives : gives_steps h.setup.drive ≡ true) (place : ℕ) (place_is : place ≡ get_or places q place) where
   here : place ≡ get_or places q 0
-  here = place_is ∙ get_or_default_zero places q place (place-there h steps places nexts playing q of_g)
+  here = place_is ∙ get_or_default_zero places q place (place-there h p steps places nexts playing q of_g gives)
 
-  pub over-read : length steps ≤ place → IsOver h.setup q h.entries
-  over-read end = over h steps places nexts playing q of_g (rw here at end)
+  pub over-read : length steps ≤ place → IsOver (group_of h) q h.entries
+  over-read end = over h p steps places nexts playing q of_g gives (rw here at end)
 
-  taking : (d : Step) → place < length steps → IsTaking h steps places nexts q (get_or steps place d)
+  taking : (d : Step) → place < length steps → IsTaking h p steps places nexts q (get_or steps place d)
   taking d low =
       let left : get_or places q 0 < length steps = rw here at low in
       let s_is : get_or steps place d ≡ get_or steps (get_or places q 0) d = rw here refl in
       let reply : Entry = record { step = get_or steps (get_or places q 0) d; reply = reply_to (group_of h) (get_or steps (get_or places q 0) d) (past h) } in
-      let few = has-room h steps places nexts playing q of_g d left reply refl refl in
-      subst (λ (s : Step). IsTaking h steps places nexts q s) (sym s_is) (record {
-        own = own-step h steps places nexts playing q of_g d left;
-        step_of = step-of h steps places nexts playing q of_g d left;
-        room = omega (arith, few, playing.room);
-        entry = λ e step_is reply_is. next-entry h steps places nexts playing q of_g d left e step_is reply_is;
+      let few = has-room h p steps places nexts playing q of_g gives d left reply refl refl in
+      subst (λ (s : Step). IsTaking h p steps places nexts q s) (sym s_is) (record {
+        own = own-step h p steps places nexts playing q of_g gives d left;
+        step_of = step-of h p steps places nexts playing q of_g gives d left;
+        room = omega (arith, few, playing.room_is);
+        entry = λ turns e step_is reply_is. next-entry h p steps places nexts playing q of_g gives d left e step_is reply_is turns;
         after = λ e step_is reply_is at next at_is next_is.
-            let at_zero : at ≡ get_or places q 0 = at_is ∙ get_or_default_zero places q at (place-there h steps places nexts playing q of_g) in
+            let at_zero : at ≡ get_or places q 0 = at_is ∙ get_or_default_zero places q at (place-there h p steps places nexts playing q of_g gives) in
             let next_zero : next ≡ get_or nexts (get_or places q 0) 0 = next_is ∙ ap (λ (i : ℕ). get_or nexts i next) at_zero ∙ get_or_default_zero nexts (get_or places q 0) next (rw playing.all_steps left) in
-            rw next_zero (playing-more h steps places nexts playing q of_g d left e step_is reply_is);
+            rw next_zero (playing-more h p steps places nexts playing q of_g gives d left e step_is reply_is);
       })
 
   -- the same of the step that is read there
-  pub taking-read : (s : Step) → s ≡ get_or steps place s → place < length steps → IsTaking h steps places nexts q s
-  taking-read s is low = subst (λ (x : Step). IsTaking h steps places nexts q x) (sym is) (taking s low)
+  pub taking-read : (s : Step) → s ≡ get_or steps place s → place < length steps → IsTaking h p steps places nexts q s
+  taking-read s is low = subst (λ (x : Step). IsTaking h p steps places nexts q x) (sym is) (taking s low)
 
 -- the steps of a group name few processors
 pub steps-low : (g : Group) (steps : List Step) → IsValid g.setup → steps ≡ steps_in_group g (steps_given g.setup.drive) → All (λ (s : Step). s.cpu.0 < MOST_CPUS) steps
@@ -173,19 +172,18 @@ steps-low g steps valid are =
 
 -- before the first step
 pub playing-opened : (p : Parts) (n : ℕ) (steps : List Step) (places nexts : List ℕ) (h : GroupHistory) → IsPlayable p n → steps ≡ steps_in_group (group_with p n) (steps_given p.drive) → IsChained steps MOST_CPUS places nexts
-    → h ≡ record { setup = p; group = n; entries = []; spare = length steps } → IsPlaying h steps places nexts
-playing-opened p n steps places nexts h ok steps_are chain is = subst (λ (x : GroupHistory). IsPlaying x steps places nexts) (sym is) (record {
+    → h ≡ record { setup = p; group = n; entries = []; spare = room (group_with p n) } → (p' : Parts) → p' ≡ p → IsPlaying h p' steps places nexts
+playing-opened p n steps places nexts h ok steps_are chain is p' same = subst (λ (x : GroupHistory). IsPlaying x p' steps places nexts) (sym is) (record {
   playable = ok;
+  setup_is = same;
   steps_are = steps_are;
-  begun = part-first (record { setup = p; number = n });
-  room = omega arith;
+  begun = begun-first (group_with p n);
+  room_is = omega arith;
   all_cpus = chain.all_cpus;
   all_steps = chain.all_steps;
-  at = λ q lt. record { place = (chain.first q lt).place; played = sym (chain.first q lt).same };
+  at = λ _ q lt. record { place = (chain.first q lt).place; played = sym (chain.first q lt).same };
   next = λ i d lt. chain.next i (omega arith) d lt;
 })
 
-pub playing-few : (h : GroupHistory) (steps : List Step) (places nexts : List ℕ) → IsPlaying h steps places nexts → length h.entries ≤ MOST_STEPS
-playing-few h steps places nexts playing =
-    let few = group-steps_few (group_of h) playing.playable.valid in
-    omega (arith, few, playing.room, ap length playing.steps_are)
+pub playing-few : (h : GroupHistory) (p : Parts) (steps : List Step) (places nexts : List ℕ) → IsPlaying h p steps places nexts → length h.entries ≤ MOST_STEPS
+playing-few h p steps places nexts playing = begun-few (group_of h) playing.playable.valid h.entries playing.begun

@@ -2,9 +2,12 @@ pub mod CpuLaws
 pub mod SetFacts
 pub mod Chaining
 pub mod Advancing
+pub mod TurnTaking
 pub mod Sighting
 pub mod Marking
 pub mod Words
+pub mod Turning
+pub mod Drives
 pub mod Numbering
 pub mod Seating
 pub mod Returning

@@ -11,7 +11,7 @@ use Rattle.rt_model.specs.Group.{Group, group_processors}
 use Rattle.rt_model.specs.Histories.{raises, raises_from}
 use Rattle.rt_groups.specs.Groups.{GroupHistory, group_of}
 use Rattle.rt_plays.specs.Homes.{IsProcessorOf}
-use Rattle.rt_plays.specs.ScriptPlays.{IsBegunScriptPlay}
+use Rattle.rt_plays.specs.Plays.{IsBegunPlay}
 use Rattle.cpu_site.specs.Cpus.{cpu_numbers}
 use Rattle.turn_cell.specs.Places.{Cell, Place, TurnOf, fresh, fresh_places}
 use Rattle.turn_cell.specs.Words.{AgreeOn, StartsWith}
@@ -19,6 +19,8 @@ use Rattle.turn_cell.proofs.Tools.{one_some}
 use Rattle.cpu_site.specs.declared.story.GroupOf.{GroupOf}
 use Rattle.cpu_site.specs.Raises.{cpu_at, cpu_count, raises_of}
 use Rattle.cpu_site.specs.Seats.{about, cpu_of, cpu_place, group_at, place_of_cpu, unused_seat, unused_seats, About, CpuPlace, IsSite}
+use Rattle.cpu_site.specs.declared.progress.Progress.{Progress}
+use Rattle.cpu_site.proofs.Drives.{begun-home}
 use Rattle.cpu_site.proofs.Numbering.{agree-same, cpu-of_group, cpu-place, cpu-read, cpus-read}
 use Rattle.cpu_site.proofs.Seating.{Keeps}
 use Rattle.cpu_site.proofs.Sighting.{raises_of-at}
@@ -27,7 +29,7 @@ use Rattle.cpu_site.proofs.Sighting.{raises_of-at}
 
 -- the seat at a place of the group, as that of its processor
 abbrev pub numbered : Group → Place Entry GroupOf → CpuPlace
-numbered g p = cpu_place (cpu_at g p.cpu) p
+numbered g p = cpu_place (cpu_at g p.cpu) 0 p
 
 pub taken-more : {A : Type 0} (all left new gone : List A) (x : A) → all ≡ left ++ gone → left ≡ new ++ x ∷ [] → all ≡ new ++ x ∷ gone
 taken-more all left new gone x is popped = is ∙ ap (λ l. l ++ gone) popped ∙ append_assoc new (x ∷ []) gone
@@ -65,11 +67,11 @@ module _ (cell : Cell GroupOf) where
       let low : length new < n = omega (arith, long, total, same) in
       (low, sym (get_or-append_seam new p gone p) ∙ ap (λ (l : List (Place Entry GroupOf)). get_or l (length new) p) (sym split ∙ is) ∙ get-fresh n (length new) p low)
 
-  all-numbered : (qs : List ℕ) (n : ℕ) → n ≤ length qs → map (λ (p : Place Entry GroupOf). cpu_place (get_or qs p.cpu 0) p) (fresh_places cell n) ≡ unused_seats cell (take n qs)
+  all-numbered : (qs : List ℕ) (n : ℕ) → n ≤ length qs → map (λ (p : Place Entry GroupOf). cpu_place (get_or qs p.cpu 0) 0 p) (fresh_places cell n) ≡ unused_seats cell (take n qs)
   all-numbered qs zero low = refl
   all-numbered qs (suc n) low =
       let next : take (suc n) qs ≡ take n qs ++ get_or qs n 0 ∷ [] = (let e : suc n ≡ n + 1 = omega arith in ap (λ k. take k qs) e ∙ take_more qs n 0 (omega (arith, low))) in
-      map-append (λ (p : Place Entry GroupOf). cpu_place (get_or qs p.cpu 0) p) (fresh_places cell n) (fresh cell n ∷ [])
+      map-append (λ (p : Place Entry GroupOf). cpu_place (get_or qs p.cpu 0) 0 p) (fresh_places cell n) (fresh cell n ∷ [])
       ∙ ap (λ (l : List CpuPlace). l ++ unused_seat cell (get_or qs n 0) ∷ []) (all-numbered qs n (omega (arith, low)))
       ∙ sym (ap (unused_seats cell) next ∙ map-append (unused_seat cell) (take n qs) (get_or qs n 0 ∷ []))
 
@@ -109,8 +111,8 @@ raises-opened h n i none all lt = raises_of-at h i (omega (arith, lt, all)) ∙ 
 pub record IsBack (c : CpuPlace) (back : List (Place Entry GroupOf)) : Type 0 where
   pub place : Place Entry GroupOf
   pub there : Contains back place
-  pub same : cpu_place c.cpu place ≡ c
-  pub own : About place.cell (λ s. (place.cpu < cpu_count (group_at s)) × (cpu_at (group_at s) place.cpu ≡ c.cpu) × IsBegunScriptPlay (group_at s) place.seen)
+  pub same : cpu_place c.cpu c.turns place ≡ c
+  pub own : About place.cell (λ s. (place.cpu < cpu_count (group_at s)) × (cpu_at (group_at s) place.cpu ≡ c.cpu) × IsBegunPlay (group_at s) place.seen)
 
 pub record AreBack (cell : Cell GroupOf) (gone : List CpuPlace) (back : List (Place Entry GroupOf)) : Type 0 where
   pub rest : All (λ p. (p.cell ≡ cell) × (p.holds ≡ false)) back
@@ -119,10 +121,10 @@ pub record AreBack (cell : Cell GroupOf) (gone : List CpuPlace) (back : List (Pl
 pub back-none : (cell : Cell GroupOf) (back : List (Place Entry GroupOf)) → back ≡ [] → AreBack cell [] back
 back-none cell back is = record { rest = λ k d lt. absurd (omega (arith, lt, ap length is)); each = λ k d lt. absurd (omega (arith, lt)) }
 
-pub back-more : (cell : Cell GroupOf) (gone : List CpuPlace) (back back' : List (Place Entry GroupOf)) (p : Place Entry GroupOf) (c : CpuPlace) (q place taken : ℕ) (counts : List ℕ) (room : ℕ) → AreBack cell gone back → back' ≡ back ++ p ∷ [] → cpu_place q p ≡ c → c.cell ≡ cell
-    → Keeps p q place taken counts room → AreBack cell (c ∷ gone) back'
-back-more cell gone back back' p c q place taken counts room are added view at keeps = subst (λ (b : List (Place Entry GroupOf)). AreBack cell (c ∷ gone) b) (sym added) (record {
-  rest = All-push (λ (x : Place Entry GroupOf). (x.cell ≡ cell) × (x.holds ≡ false)) back p are.rest (ap (λ (x : CpuPlace). x.cell) view ∙ at, keeps.0);
+pub back-more : (cell : Cell GroupOf) (gone : List CpuPlace) (back back' : List (Place Entry GroupOf)) (p : Place Entry GroupOf) (c : CpuPlace) (q : ℕ) (at : Progress) (place taken : ℕ) (counts : List ℕ) (room : ℕ) → AreBack cell gone back → back' ≡ back ++ p ∷ [] → cpu_place q at.turns p ≡ c → c.cell ≡ cell
+    → Keeps p q at place taken counts room → AreBack cell (c ∷ gone) back'
+back-more cell gone back back' p c q at place taken counts room are added view in_cell keeps = subst (λ (b : List (Place Entry GroupOf)). AreBack cell (c ∷ gone) b) (sym added) (record {
+  rest = All-push (λ (x : Place Entry GroupOf). (x.cell ≡ cell) × (x.holds ≡ false)) back p are.rest (ap (λ (x : CpuPlace). x.cell) view ∙ in_cell, keeps.0);
   each = All-cons (λ (x : CpuPlace). IsBack x (back ++ p ∷ [])) c gone this (All-weaker (λ (x : CpuPlace). IsBack x back) (λ (x : CpuPlace). IsBack x (back ++ p ∷ [])) (λ x b. record { place = b.place; there = Contains-append_left back (p ∷ []) b.place b.there; same = b.same; own = b.own }) gone are.each);
 })
   where
@@ -133,7 +135,7 @@ back-more cell gone back back' p c q place taken counts room are added view at k
     this = record {
       place = p;
       there = Contains-push back p;
-      same = ap (λ k. cpu_place k p) (sym cpu_is) ∙ view;
+      same = ap (λ (x : CpuPlace). cpu_place x.cpu x.turns p) (sym view) ∙ view;
       own = λ s is. let seat = keeps.2 s is in (seat.low, seat.own ∙ cpu_is, seat.begun);
     }
 
@@ -174,7 +176,7 @@ module _ (t : TurnOf GroupOf) (known : (s : GroupOf) × (t.cell.subject ≡ Some
       let here : b.place.cpu ≡ i = sym (cpu-place s b.place.cpu q own.0 (own.1 ∙ found.2)) ∙ cpu-place s i q low refl in
       subst (λ k. Contains (map (λ (p : Place Entry GroupOf). p.cpu) back) k) here (contains-map (λ (p : Place Entry GroupOf). p.cpu) back b.place b.there)
 
-  module _ (h : GroupHistory) (subject : t.cell.subject ≡ Some (about h)) (begun : IsBegunScriptPlay (group_of h) h.entries) where
+  module _ (h : GroupHistory) (subject : t.cell.subject ≡ Some (about h)) (begun : IsBegunPlay (group_of h) h.entries) where
     -- what the turn says of the seats that came back, it says of the processors
     pub later-all : All (λ (p : Place Entry GroupOf). StartsWith h.entries p.seen) back → All (λ (x : CpuPlace). StartsWith h.entries x.seen) seats
     later-all later k d lt =
@@ -189,4 +191,4 @@ module _ (t : TurnOf GroupOf) (known : (s : GroupOf) × (t.cell.subject ≡ Some
         let cell : b.place.cell ≡ t.cell = (all-at (λ (p : Place Entry GroupOf). (p.cell ≡ t.cell) × (p.holds ≡ false)) back b.place are.rest b.there).0 in
         let own = b.own (about h) (ap (λ (x : Cell GroupOf). x.subject) cell ∙ subject) in
         let agree = all-at (λ (p : Place Entry GroupOf). AgreeOn (place_of_cpu (about h)) p.cpu h.entries p.seen) back b.place whole b.there in
-        subst (λ (x : CpuPlace). AgreeOn cpu_of c.cpu h.entries x.seen) b.same (agree-same (about h) b.place.cpu c.cpu own.0 own.1 h.entries b.place.seen begun.at_home own.2.at_home agree)
+        subst (λ (x : CpuPlace). AgreeOn cpu_of c.cpu h.entries x.seen) b.same (agree-same (about h) b.place.cpu c.cpu own.0 own.1 h.entries b.place.seen (begun-home (group_of h) h.entries begun) (begun-home (group_of h) b.place.seen own.2) agree)

@@ -3,21 +3,24 @@ use Rattle.std.proofs.Common.{◌≡◌, ◌⊎◌, ℕ, ◌+◌, ◌<◌, ◌�
 use Rattle.std.specs.Prelude.{All, if◌then◌else◌, nat_lt, replicate}
 use Rattle.std.proofs.lemmas.List.{length-replicate}
 use Rattle.rt_base.specs.declared.TheConstants.{MOST_STEPS}
-use Rattle.rt_plays.proofs.ScriptParts.{part-first}
 use Rattle.rt_history.specs.declared.Entry.{Entry}
 use Rattle.rt_model.specs.Histories.{reply_to, past_of, raises, raises_from, is_raise, after}
 use Rattle.rt_groups.specs.Groups.{GroupHistory, group_of, past, with_entry}
 use Rattle.rt_plays.specs.Homes.{IsProcessorOf}
-use Rattle.rt_plays.specs.ScriptPlays.{IsBegunScriptPlay}
+use Rattle.rt_plays.specs.Drives.{horizon}
+use Rattle.rt_plays.specs.Plays.{IsBegunPlay}
 use Rattle.turn_cell.specs.Words.{entries_of, times, AgreeOn, StartsWith}
 use Rattle.turn_cell.specs.Places.{Cell, TurnOf, Place, IsGift}
 use Rattle.turn_cell.specs.Places as places
 use Rattle.turn_cell.proofs.Tools.{one_some}
 use Rattle.turn_cell.proofs.Views.{entries_here}
 use Rattle.cpu_site.specs.declared.story.GroupOf.{GroupOf}
-use Rattle.cpu_site.specs.Playing.{IsNextEntry, IsNextStep, IsOver}
+use Rattle.cpu_site.specs.declared.progress.Progress.{Progress}
+use Rattle.cpu_site.specs.Playing.{IsFar, IsNextEntry, IsNextStep, IsOver}
 use Rattle.cpu_site.specs.Raises.{cpu_at, cpu_count, raises_of, AreRaises}
-use Rattle.cpu_site.specs.Seats.{about, group_at, cpu_of, cpu_place, is_irq, looked_up, place_of_cpu, word_taken, About, CpuPlace, IsEnd, IsPlay, IsSeat, IsSite}
+use Rattle.cpu_site.specs.Seats.{about, group_at, cpu_of, cpu_place, is_irq, looked_up, place_of_cpu, word_taken, About, CpuPlace, IsEnd, IsPlay, IsQuiet, IsSeat, IsSite, IsTurnEnd}
+use Rattle.cpu_site.specs.Turning.{IsTurnDone}
+use Rattle.cpu_site.proofs.Drives.{begun-first, begun-home, far-first, far-later}
 use Rattle.cpu_site.proofs.Numbering.{agree-same, cpu-of_group, cpu-place}
 use Rattle.cpu_site.proofs.Sighting.{group-same, raises-append, raises_of-at}
 use Rattle.cpu_site.proofs.Words.{word-own, word-others}
@@ -40,35 +43,48 @@ raises-each h h' e before counts is was now i lt =
     by_case true same more = inr (more ∙ ap (λ k. k + 1) same)
     by_case false same more = inl (omega (arith, same, more))
 
-module _ (p : Place Entry GroupOf) (q : ℕ) (got : GroupHistory) (taken : ℕ) (counts : List ℕ) (room : ℕ) (seat : IsSeat (about got) p q taken counts room) (begun : IsBegunScriptPlay (group_of got) got.entries) (later : StartsWith got.entries p.seen)
+module _ (p : Place Entry GroupOf) (q : ℕ) (got : GroupHistory) (at : Progress) (taken : ℕ) (counts : List ℕ) (room : ℕ) (seat : IsSeat (about got) p q at taken counts room) (begun : IsBegunPlay (group_of got) got.entries) (later : StartsWith got.entries p.seen)
     (mine : AgreeOn (place_of_cpu (about got)) p.cpu got.entries p.seen) where
   own : AgreeOn cpu_of q got.entries p.seen
-  own = agree-same (about got) p.cpu q seat.low seat.own got.entries p.seen begun.at_home seat.begun.at_home mine
+  own = agree-same (about got) p.cpu q seat.low seat.own got.entries p.seen (begun-home (group_of got) got.entries begun) (begun-home (group_of got) p.seen seat.begun) mine
 
   pub in-group : IsProcessorOf (group_of got) q
   in-group = cpu-of_group (about got) p.cpu q seat.low seat.own
+
+  pub far-found : IsFar (group_of got) q got.entries at
+  far-found = far-later (group_of got) q p.seen got.entries later own at seat.far
 
   -- the word that was taken is that of the list that was found
   word-found : taken ≡ word_taken (group_of got) q got.entries
   word-found = seat.word ∙ sym (word-others (group_of got) q p.seen got.entries later.0 later.1 own)
 
-  -- nothing was left
+  -- nothing was added
   module _ (h' : GroupHistory) (p' : Place Entry GroupOf) (seen : p'.seen ≡ h'.entries) (same : h' ≡ got) where
     seen_is : p'.seen ≡ got.entries
     seen_is = seen ∙ ap (λ (x : GroupHistory). x.entries) same
 
-    ended : IsOver got.setup q got.entries → IsEnd (about got) (cpu_place q p) (cpu_place q p')
-    ended over = record {
-      later = (later.0, seen_is ∙ later.1);
-      mine = ap (entries_of cpu_of q) seen_is ∙ own;
-      over = subst (λ (es : List Entry). IsOver got.setup q es) (sym seen_is) over;
+    quiet : (turns turns' : ℕ) → IsQuiet (cpu_place q turns p) (cpu_place q turns' p')
+    quiet turns turns' = record { later = (later.0, seen_is ∙ later.1); mine = ap (entries_of cpu_of q) seen_is ∙ own }
+
+    turn-ended : (at' : Progress) → IsTurnDone (group_of got) q at.turns (past got) → IsTurnEnd (about got) (cpu_place q at.turns p) (cpu_place q at'.turns p')
+    turn-ended at' over = record {
+      quiet = quiet at.turns at'.turns;
+      over = subst (λ (es : List Entry). IsTurnDone (group_of got) q at.turns (past_of (group_of got) es)) (sym seen_is) over;
     }
 
-    ended-seat : (counts' : List ℕ) → length counts' ≡ length counts → p'.cpu ≡ p.cpu → p'.raises ≡ raises_of h' → IsSeat (about got) p' q taken counts' room
-    ended-seat counts' long cpu raises_are = record {
+    ended : (at' : Progress) → IsOver (group_of got) q got.entries → at.turns ≡ horizon got.setup.drive → IsEnd (about got) (cpu_place q at.turns p) (cpu_place q at'.turns p')
+    ended at' over all = record {
+      quiet = quiet at.turns at'.turns;
+      over = subst (λ (es : List Entry). IsOver (group_of got) q es) (sym seen_is) over;
+      all = all;
+    }
+
+    quiet-seat : (at' : Progress) (counts' : List ℕ) → IsFar (group_of h') q h'.entries at' → length counts' ≡ length counts → p'.cpu ≡ p.cpu → p'.raises ≡ raises_of h' → IsSeat (about got) p' q at' taken counts' room
+    quiet-seat at' counts' far long cpu raises_are = record {
       low = rw cpu seat.low;
       own = rw cpu seat.own;
       begun = rw seen_is begun;
+      far = rw seen_is (subst (λ (x : GroupHistory). IsFar (group_of x) q x.entries at') same far);
       recorded = rw (cpu, seen_is) (ap (λ (rs : List ℕ). get_or rs p.cpu 0) (raises_are ∙ ap raises_of same) ∙ raises_of-at got p.cpu seat.low ∙ ap (λ (x : ℕ). raises (group_of got) x got.entries) seat.own);
       word = rw seen_is word-found;
       all = long ∙ seat.all;
@@ -76,33 +92,34 @@ module _ (p : Place Entry GroupOf) (q : ℕ) (got : GroupHistory) (taken : ℕ) 
     }
 
   -- a step was taken
-  module _ (e : Entry) (next : IsNextEntry got q e) (h' : GroupHistory) (more : h' ≡ with_entry e got) where
+  module _ (e : Entry) (next : IsNextEntry got at.turns q e) (h' : GroupHistory) (more : h' ≡ with_entry e got) where
     entries_are : h'.entries ≡ got.entries ++ e ∷ []
     entries_are = ap (λ (x : GroupHistory). x.entries) more
 
-    played : (p' : Place Entry GroupOf) → p'.seen ≡ h'.entries → IsPlay (about got) (cpu_place q p) e (cpu_place q p')
-    played p' seen = record {
+    played : (p' : Place Entry GroupOf) (at' : Progress) → p'.seen ≡ h'.entries → IsPlay (about got) (cpu_place q at.turns p) e (cpu_place q at'.turns p')
+    played p' at' seen = record {
       own = next.own;
       between = later.0;
       ends = seen ∙ entries_are ∙ ap (λ (es : List Entry). es ++ e ∷ []) later.1;
       mine = ap (entries_of cpu_of q) (seen ∙ entries_are) ∙ entries_here cpu_of q got.entries e next.own ∙ ap (λ (es : List Entry). es ++ e ∷ []) own;
-      next = subst (λ (es : List Entry). IsNextStep got.setup q es e.step) later.1 next.next;
+      next = subst (λ (es : List Entry). IsNextStep (group_of got) at.turns q es e.step) later.1 next.next;
       reply = subst (λ (es : List Entry). e.reply ≡ reply_to (group_of got) e.step (past_of (group_of got) es)) later.1 next.reply;
     }
 
-    played-seat : (p' : Place Entry GroupOf) (counts' now : List ℕ) (taken' room' : ℕ) → p'.seen ≡ h'.entries → length counts' ≡ length counts → p'.cpu ≡ p.cpu → p'.raises ≡ raises_of h' → IsBegunScriptPlay (group_of h') h'.entries → AreRaises h' now
-        → taken' ≡ (if is_irq e.step.act then get_or now p.cpu 0 else taken) → room ≤ room' → IsSeat (about got) p' q taken' counts' room'
-    played-seat p' counts' now taken' room' seen long cpu raises_are begun' are word wide =
-        let at : p'.seen ≡ got.entries ++ e ∷ [] = seen ∙ entries_are in
+    played-seat : (p' : Place Entry GroupOf) (at' : Progress) (counts' now : List ℕ) (taken' room' : ℕ) → p'.seen ≡ h'.entries → length counts' ≡ length counts → p'.cpu ≡ p.cpu → p'.raises ≡ raises_of h' → IsBegunPlay (group_of h') h'.entries → IsFar (group_of h') q h'.entries at' → AreRaises h' now
+        → taken' ≡ (if is_irq e.step.act then get_or now p.cpu 0 else taken) → room ≤ room' → IsSeat (about got) p' q at' taken' counts' room'
+    played-seat p' at' counts' now taken' room' seen long cpu raises_are begun' far are word wide =
+        let seen_at : p'.seen ≡ got.entries ++ e ∷ [] = seen ∙ entries_are in
         let told : raises (group_of h') (cpu_at (group_of h') p.cpu) h'.entries ≡ raises (group_of got) q (got.entries ++ e ∷ []) = ap (λ (x : GroupHistory). raises (group_of x) (cpu_at (group_of x) p.cpu) x.entries) more ∙ ap (λ (x : ℕ). raises (group_of got) x (got.entries ++ e ∷ [])) seat.own in
         let low = seat.low in
         let low' : p.cpu < cpu_count (group_of h') = omega (arith, low, count-same got h' e more) in
         record {
           low = rw cpu seat.low;
           own = rw cpu seat.own;
-          begun = rw at (subst (λ (x : GroupHistory). IsBegunScriptPlay (group_of x) x.entries) more begun');
-          recorded = rw (cpu, at) (ap (λ (rs : List ℕ). get_or rs p.cpu 0) raises_are ∙ raises_of-at h' p.cpu low' ∙ told);
-          word = rw at (word ∙ by_case (is_irq e.step.act) (are.each p.cpu low' ∙ told) word-found ∙ sym (word-own (group_of got) q got.entries e next.own));
+          begun = rw seen_at (subst (λ (x : GroupHistory). IsBegunPlay (group_of x) x.entries) more begun');
+          far = rw seen_at (subst (λ (x : GroupHistory). IsFar (group_of x) q x.entries at') more far);
+          recorded = rw (cpu, seen_at) (ap (λ (rs : List ℕ). get_or rs p.cpu 0) raises_are ∙ raises_of-at h' p.cpu low' ∙ told);
+          word = rw seen_at (word ∙ by_case (is_irq e.step.act) (are.each p.cpu low' ∙ told) word-found ∙ sym (word-own (group_of got) q got.entries e next.own));
           all = long ∙ seat.all;
           room_is = let r = seat.room_is in omega (arith, r, wide);
         }
@@ -133,9 +150,9 @@ module _ (p : Place Entry GroupOf) (q : ℕ) (got : GroupHistory) (taken : ℕ) 
 
 -- ---- which setup and group it is
 
-pub seat-of : (p : Place Entry GroupOf) (q : ℕ) (p0 : CpuPlace) (t u : TurnOf GroupOf) (h : GroupHistory) (taken : ℕ) (counts : List ℕ) (room : ℕ) → cpu_place q p ≡ p0 → t ≡ u → p0.cell ≡ u.cell → t.cell.subject ≡ Some (about h) → About p.cell (λ s. IsSeat s p q taken counts room)
-    → IsSeat (about h) p q taken counts room
-seat-of p q p0 t u h taken counts room same site cell subject seat =
+pub seat-of : (p : Place Entry GroupOf) (q : ℕ) (p0 : CpuPlace) (t u : TurnOf GroupOf) (h : GroupHistory) (at : Progress) (taken : ℕ) (counts : List ℕ) (room : ℕ) → cpu_place q at.turns p ≡ p0 → t ≡ u → p0.cell ≡ u.cell → t.cell.subject ≡ Some (about h) → About p.cell (λ s. IsSeat s p q at taken counts room)
+    → IsSeat (about h) p q at taken counts room
+seat-of p q p0 t u h at taken counts room same site cell subject seat =
     let cells : p.cell ≡ t.cell = ap (λ (x : CpuPlace). x.cell) same ∙ cell ∙ sym (ap (λ (x : TurnOf GroupOf). x.cell) site) in
     seat (about h) (ap (λ (x : Cell GroupOf). x.subject) cells ∙ subject)
 
@@ -145,14 +162,14 @@ site-of t h subject site = subst (λ (s : GroupOf). IsSite s t.cpus) (one_some t
 -- ---- a play, from what the seat knew to what it knows
 
 -- what a seat keeps
-abbrev pub Keeps : Place Entry GroupOf → ℕ → ℕ → ℕ → List ℕ → ℕ → Type 0
-Keeps p q place taken counts room = (p.holds ≡ false) × (p.cpu ≡ place) × About p.cell (λ s. IsSeat s p q taken counts room)
+abbrev pub Keeps : Place Entry GroupOf → ℕ → Progress → ℕ → ℕ → List ℕ → ℕ → Type 0
+Keeps p q at place taken counts room = (p.holds ≡ false) × (p.cpu ≡ place) × About p.cell (λ s. IsSeat s p q at taken counts room)
 
-module _ (p p1 p' : Place Entry GroupOf) (p0 : CpuPlace) (t u : TurnOf GroupOf) (got h' : GroupHistory) (q place taken : ℕ) (counts : List ℕ) (room : ℕ) (view : cpu_place q p ≡ p0) (site : t ≡ u) (cell : p0.cell ≡ u.cell) (subject : t.cell.subject ≡ Some (about got))
-    (keeps : Keeps p q place taken counts room) (begun : IsBegunScriptPlay (group_of got) got.entries) (later : StartsWith got.entries p.seen) (mine : AgreeOn (place_of_cpu (about got)) p.cpu got.entries p.seen)
+module _ (p p1 p' : Place Entry GroupOf) (p0 : CpuPlace) (t u : TurnOf GroupOf) (got h' : GroupHistory) (q : ℕ) (at : Progress) (place taken : ℕ) (counts : List ℕ) (room : ℕ) (view : cpu_place q at.turns p ≡ p0) (site : t ≡ u) (cell : p0.cell ≡ u.cell) (subject : t.cell.subject ≡ Some (about got))
+    (keeps : Keeps p q at place taken counts room) (begun : IsBegunPlay (group_of got) got.entries) (later : StartsWith got.entries p.seen) (mine : AgreeOn (place_of_cpu (about got)) p.cpu got.entries p.seen)
     (took : p1 ≡ places.taken got.entries (raises_of got) p) (gave : p' ≡ places.given_back h'.entries (raises_of h') p1) where
-  seat : IsSeat (about got) p q taken counts room
-  seat = seat-of p q p0 t u got taken counts room view site cell subject keeps.2
+  seat : IsSeat (about got) p q at taken counts room
+  seat = seat-of p q p0 t u got at taken counts room view site cell subject keeps.2
 
   now_is : p' ≡ places.given_back h'.entries (raises_of h') (places.taken got.entries (raises_of got) p)
   now_is = gave ∙ ap (places.given_back h'.entries (raises_of h')) took
@@ -172,27 +189,35 @@ module _ (p p1 p' : Place Entry GroupOf) (p0 : CpuPlace) (t u : TurnOf GroupOf) 
   about_is : (s : GroupOf) → u.cell.subject ≡ Some s → about got ≡ s
   about_is s is = one_some u.cell.subject (about got) s (sym (ap (λ (x : TurnOf GroupOf). x.cell.subject) site) ∙ subject) is
 
-  pub ended-keeps : (counts' : List ℕ) → h' ≡ got → length counts' ≡ length counts → Keeps p' q place taken counts' room
-  ended-keeps counts' same long = (
+  pub quiet-keeps : (at' : Progress) (counts' : List ℕ) → h' ≡ got → IsFar (group_of h') q h'.entries at' → length counts' ≡ length counts → Keeps p' q at' place taken counts' room
+  quiet-keeps at' counts' same far long = (
     ap (λ (x : Place Entry GroupOf). x.holds) now_is,
     cpu_is ∙ keeps.1,
-    λ s is. subst (λ (x : GroupOf). IsSeat x p' q taken counts' room) (one_some p'.cell.subject (about got) s subject_is is)
-        (ended-seat p q got taken counts room seat begun later mine h' p' seen_are same counts' long cpu_is raises_are),
+    λ s is. subst (λ (x : GroupOf). IsSeat x p' q at' taken counts' room) (one_some p'.cell.subject (about got) s subject_is is)
+        (quiet-seat p q got at taken counts room seat begun later mine h' p' seen_are same at' counts' far long cpu_is raises_are),
   )
 
-  pub ended-tells : h' ≡ got → IsOver got.setup q got.entries → About u.cell (λ s. IsEnd s p0 (cpu_place q p'))
-  ended-tells same over s is =
-      subst (λ (x : GroupOf). IsEnd x p0 (cpu_place q p')) (about_is s is)
-      (subst (λ (x : CpuPlace). IsEnd (about got) x (cpu_place q p')) view (ended p q got taken counts room seat begun later mine h' p' seen_are same over))
+  pub turn-tells : (at' : Progress) → h' ≡ got → IsTurnDone (group_of got) q at.turns (past got) → About u.cell (λ s. IsTurnEnd s p0 (cpu_place q at'.turns p'))
+  turn-tells at' same over s is =
+      subst (λ (x : GroupOf). IsTurnEnd x p0 (cpu_place q at'.turns p')) (about_is s is)
+      (subst (λ (x : CpuPlace). IsTurnEnd (about got) x (cpu_place q at'.turns p')) view (turn-ended p q got at taken counts room seat begun later mine h' p' seen_are same at' over))
 
-  module _ (e : Entry) (next : IsNextEntry got q e) (more : h' ≡ with_entry e got) where
-    pub played-keeps : (counts' now : List ℕ) (taken' room' : ℕ) → IsBegunScriptPlay (group_of h') h'.entries → length counts' ≡ length counts → AreRaises h' now → taken' ≡ (if is_irq e.step.act then get_or now place 0 else taken) → room ≤ room'
-        → Keeps p' q place taken' counts' room'
-    played-keeps counts' now taken' room' begun' long are word wide = (
+  pub ended-tells : (at' : Progress) → h' ≡ got → IsOver (group_of got) q got.entries → at.turns ≡ horizon got.setup.drive → About u.cell (λ s. IsEnd s p0 (cpu_place q at'.turns p'))
+  ended-tells at' same over all s is =
+      subst (λ (x : GroupOf). IsEnd x p0 (cpu_place q at'.turns p')) (about_is s is)
+      (subst (λ (x : CpuPlace). IsEnd (about got) x (cpu_place q at'.turns p')) view (ended p q got at taken counts room seat begun later mine h' p' seen_are same at' over all))
+
+  pub quiet-later : h' ≡ got → StartsWith p'.seen p0.seen
+  quiet-later same = subst (λ (x : CpuPlace). StartsWith p'.seen x.seen) view (later.0, seen_are ∙ ap (λ (x : GroupHistory). x.entries) same ∙ later.1)
+
+  module _ (e : Entry) (next : IsNextEntry got at.turns q e) (more : h' ≡ with_entry e got) where
+    pub played-keeps : (at' : Progress) (counts' now : List ℕ) (taken' room' : ℕ) → IsBegunPlay (group_of h') h'.entries → IsFar (group_of h') q h'.entries at' → length counts' ≡ length counts → AreRaises h' now → taken' ≡ (if is_irq e.step.act then get_or now place 0 else taken) → room ≤ room'
+        → Keeps p' q at' place taken' counts' room'
+    played-keeps at' counts' now taken' room' begun' far long are word wide = (
       ap (λ (x : Place Entry GroupOf). x.holds) now_is,
       cpu_is ∙ keeps.1,
-      λ s is. subst (λ (x : GroupOf). IsSeat x p' q taken' counts' room') (one_some p'.cell.subject (about got) s subject_is is)
-          (played-seat p q got taken counts room seat begun later mine e next h' more p' counts' now taken' room' seen_are long cpu_is raises_are begun' are
+      λ s is. subst (λ (x : GroupOf). IsSeat x p' q at' taken' counts' room') (one_some p'.cell.subject (about got) s subject_is is)
+          (played-seat p q got at taken counts room seat begun later mine e next h' more p' at' counts' now taken' room' seen_are long cpu_is raises_are begun' far are
           (word ∙ ap (λ i. if is_irq e.step.act then get_or now i 0 else taken) (sym keeps.1)) wide),
     )
 
@@ -201,27 +226,27 @@ module _ (p p1 p' : Place Entry GroupOf) (p0 : CpuPlace) (t u : TurnOf GroupOf) 
         let own : StartsWith p'.seen p.seen = (later.0 ++ e ∷ [], seen_are ∙ ap (λ (x : GroupHistory). x.entries) more ∙ ap (λ (es : List Entry). es ++ e ∷ []) later.1 ∙ append_assoc p.seen later.0 (e ∷ [])) in
         subst (λ (x : CpuPlace). StartsWith p'.seen x.seen) view own
 
-    pub played-tells : About u.cell (λ s. IsPlay s p0 e (cpu_place q p'))
-    played-tells s is =
-        subst (λ (x : GroupOf). IsPlay x p0 e (cpu_place q p')) (about_is s is)
-        (subst (λ (x : CpuPlace). IsPlay (about got) x e (cpu_place q p')) view (played p q got taken counts room seat begun later mine e next h' more p' seen_are))
+    pub played-tells : (at' : Progress) → About u.cell (λ s. IsPlay s p0 e (cpu_place q at'.turns p'))
+    played-tells at' s is =
+        subst (λ (x : GroupOf). IsPlay x p0 e (cpu_place q at'.turns p')) (about_is s is)
+        (subst (λ (x : CpuPlace). IsPlay (about got) x e (cpu_place q at'.turns p')) view (played p q got at taken counts room seat begun later mine e next h' more p' at' seen_are))
 
 -- what is given, where the seat has what was taken
-pub gift-at : (p p1 : Place Entry GroupOf) (q : ℕ) (got h' : GroupHistory) (taken room n : ℕ) (counts before now raised : List ℕ) (seat : IsSeat (about got) p q taken counts room) (begun : IsBegunScriptPlay (group_of got) got.entries) (later : StartsWith got.entries p.seen)
-    (mine : AgreeOn (place_of_cpu (about got)) p.cpu got.entries p.seen) → p1 ≡ places.taken got.entries (raises_of got) p → (e : Entry) → IsNextEntry got q e → h' ≡ with_entry e got → n ≡ cpu_count (group_of got) → AreRaises got before → AreRaises h' now
+pub gift-at : (p p1 : Place Entry GroupOf) (q : ℕ) (got h' : GroupHistory) (at : Progress) (taken room n : ℕ) (counts before now raised : List ℕ) (seat : IsSeat (about got) p q at taken counts room) (begun : IsBegunPlay (group_of got) got.entries) (later : StartsWith got.entries p.seen)
+    (mine : AgreeOn (place_of_cpu (about got)) p.cpu got.entries p.seen) → p1 ≡ places.taken got.entries (raises_of got) p → (e : Entry) → IsNextEntry got at.turns q e → h' ≡ with_entry e got → n ≡ cpu_count (group_of got) → AreRaises got before → AreRaises h' now
     → length h'.entries ≤ MOST_STEPS → All (λ i. i < length before) raised → ((i : ℕ) → times i raised ≤ 1) → ((i : ℕ) → i < length before → get_or now i 0 ≡ get_or before i 0 + times i raised)
     → IsGift (λ (x : GroupHistory). x.entries) (place_of_cpu (about h')) raises_of n p1.cpu p1.seen p1.raises raised h'
-gift-at p p1 q got h' taken room n counts before now raised seat begun later mine took e next more all was are few named once counted =
+gift-at p p1 q got h' at taken room n counts before now raised seat begun later mine took e next more all was are few named once counted =
     subst (λ (x : Place Entry GroupOf). IsGift (λ (y : GroupHistory). y.entries) (place_of_cpu (about h')) raises_of n x.cpu x.seen x.raises raised h') (sym took)
-    (gift p q got taken counts room seat begun later mine e next h' more n before now raised all was are few named once counted)
+    (gift p q got at taken counts room seat begun later mine e next h' more n before now raised all was are few named once counted)
 
 -- ---- a look at the processor's word
 
-module _ (p p' : Place Entry GroupOf) (p0 : CpuPlace) (t u : TurnOf GroupOf) (q place taken : ℕ) (counts : List ℕ) (room : ℕ) (view : cpu_place q p ≡ p0) (site : t ≡ u) (cell : p0.cell ≡ u.cell) (keeps : Keeps p q place taken counts room) where
+module _ (p p' : Place Entry GroupOf) (p0 : CpuPlace) (t u : TurnOf GroupOf) (q : ℕ) (at : Progress) (place taken : ℕ) (counts : List ℕ) (room : ℕ) (view : cpu_place q at.turns p ≡ p0) (site : t ≡ u) (cell : p0.cell ≡ u.cell) (keeps : Keeps p q at place taken counts room) where
   cells : p.cell ≡ t.cell
   cells = ap (λ (x : CpuPlace). x.cell) view ∙ cell ∙ sym (ap (λ (x : TurnOf GroupOf). x.cell) site)
 
-  seat-in : (s : GroupOf) → t.cell.subject ≡ Some s → IsSeat s p q taken counts room
+  seat-in : (s : GroupOf) → t.cell.subject ≡ Some s → IsSeat s p q at taken counts room
   seat-in s is = keeps.2 s (ap (λ (x : Cell GroupOf). x.subject) cells ∙ is)
 
   pub looked-low : (s : GroupOf) × (t.cell.subject ≡ Some s) × IsSite s t.cpus → place < t.cpus
@@ -232,42 +257,43 @@ module _ (p p' : Place Entry GroupOf) (p0 : CpuPlace) (t u : TurnOf GroupOf) (q 
     found_is = ap (λ (x : Place Entry GroupOf). x.found) is
 
     pub looked-word : get_or p.raises place 0 ≤ word → About u.cell (λ s. raises (group_at s) p0.cpu p0.seen ≤ p'.found)
-    looked-word found s at =
-        let seat : IsSeat s p q taken counts room = seat-in s (ap (λ (x : TurnOf GroupOf). x.cell.subject) site ∙ at) in
+    looked-word found s is_at =
+        let seat : IsSeat s p q at taken counts room = seat-in s (ap (λ (x : TurnOf GroupOf). x.cell.subject) site ∙ is_at) in
         let told : raises (group_at s) q p.seen ≤ p'.found = let r = seat.recorded in let f = rw (sym keeps.1) at found in omega (arith, r, f, found_is) in
         subst (λ (x : CpuPlace). raises (group_at s) x.cpu x.seen ≤ p'.found) view told
 
     pub looked-pending : About u.cell (λ s. nat_lt taken word ≡ nat_lt (word_taken (group_at s) p0.cpu p0.seen) p'.found)
-    looked-pending s at =
-        let seat : IsSeat s p q taken counts room = seat-in s (ap (λ (x : TurnOf GroupOf). x.cell.subject) site ∙ at) in
+    looked-pending s is_at =
+        let seat : IsSeat s p q at taken counts room = seat-in s (ap (λ (x : TurnOf GroupOf). x.cell.subject) site ∙ is_at) in
         subst (λ (x : CpuPlace). nat_lt taken word ≡ nat_lt (word_taken (group_at s) x.cpu x.seen) p'.found) view (ap (λ k. nat_lt k word) seat.word ∙ ap (nat_lt (word_taken (group_at s) q p.seen)) (sym found_is))
 
-    pub looked-is : cpu_place q p' ≡ looked_up p'.found p0
+    pub looked-is : cpu_place q at.turns p' ≡ looked_up p'.found p0
     looked-is =
-        let own : cpu_place q p' ≡ looked_up p'.found (cpu_place q p) = ap (cpu_place q) is ∙ ap (λ k. looked_up k (cpu_place q p)) (sym found_is) in
+        let own : cpu_place q at.turns p' ≡ looked_up p'.found (cpu_place q at.turns p) = ap (cpu_place q at.turns) is ∙ ap (λ k. looked_up k (cpu_place q at.turns p)) (sym found_is) in
         own ∙ ap (looked_up p'.found) view
 
-    pub looked-keeps : Keeps p' q place taken counts room
-    looked-keeps = subst (λ (x : Place Entry GroupOf). Keeps x q place taken counts room) (sym is) (
+    pub looked-keeps : Keeps p' q at place taken counts room
+    looked-keeps = subst (λ (x : Place Entry GroupOf). Keeps x q at place taken counts room) (sym is) (
       keeps.0,
       keeps.1,
-      λ s at. let seat : IsSeat s p q taken counts room = keeps.2 s at in record { low = seat.low; own = seat.own; begun = seat.begun; recorded = seat.recorded; word = seat.word; all = seat.all; room_is = seat.room_is },
+      λ s is_at. let seat : IsSeat s p q at taken counts room = keeps.2 s is_at in record { low = seat.low; own = seat.own; begun = seat.begun; far = seat.far; recorded = seat.recorded; word = seat.word; all = seat.all; room_is = seat.room_is },
     )
 
 -- ---- the seats of a site that is opened
 
 pub seated : (p : Place Entry GroupOf) (q place count : ℕ) (counts : List ℕ) (room : ℕ) → p ≡ places.fresh p.cell place → About p.cell (λ s. (place < count) × (count ≡ cpu_count (group_at s)) × (cpu_at (group_at s) place ≡ q)) → counts ≡ replicate count 0 → count ≤ room
-    → Keeps p q place 0 counts room
+    → (at : Progress) → at ≡ record { turns = 0; steps = 0 } → Keeps p q at place 0 counts room
 unfolding raises raises_from
-seated p q place count counts room is known zeros wide = (
+seated p q place count counts room is known zeros wide at start = (
   ap (λ (x : Place Entry GroupOf). x.holds) is,
   ap (λ (x : Place Entry GroupOf). x.cpu) is,
-  λ s at.
-      let k = known s at in
-      subst (λ (x : Place Entry GroupOf). IsSeat s x q 0 counts room) (sym is) (record {
+  λ s is_at.
+      let k = known s is_at in
+      subst (λ (x : Place Entry GroupOf). IsSeat s x q at 0 counts room) (sym is) (record {
         low = let a = k.0 in let b = k.1 in omega (arith, a, b);
         own = k.2;
-        begun = part-first (group_at s);
+        begun = begun-first (group_at s);
+        far = subst (λ (x : Progress). IsFar (group_at s) q [] x) (sym start) (far-first (group_at s) q);
         recorded = refl;
         word = refl;
         all = ap length zeros ∙ length-replicate count 0 ∙ k.1;

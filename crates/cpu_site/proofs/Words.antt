@@ -54,11 +54,11 @@ word-own g q es e own = by_case (is_irq e.step.act) refl
     by_case false is =
         ap (λ (xs : List Entry). raises g q xs) (through-same q es e (last_irq_from-append q 0 0 es e ∙ ap (λ b. if b && is_irq e.step.act then 0 + length es + 1 else last_irq q es) yes ∙ ap (λ b. if b then 0 + length es + 1 else last_irq q es) is))
 
-no-more : {A : Type 0} (xs ys : List A) → xs ++ ys ≡ xs → ys ≡ []
+pub no-more : {A : Type 0} (xs ys : List A) → xs ++ ys ≡ xs → ys ≡ []
 no-more xs [] is = refl
 no-more xs (y ∷ ys) is = let long = length-append xs (y ∷ ys) in let same = ap length is in absurd (omega (arith, long, same))
 
-none-of : (q : ℕ) (b : Entry) (bs : List Entry) → entries_of cpu_of q (b ∷ bs) ≡ [] → (cpu_of b ≢ q) × (entries_of cpu_of q bs ≡ [])
+pub none-of : (q : ℕ) (b : Entry) (bs : List Entry) → entries_of cpu_of q (b ∷ bs) ≡ [] → (cpu_of b ≢ q) × (entries_of cpu_of q bs ≡ [])
 none-of q b bs none = by_case (cpu_of b == q) refl none
   where
     by_case : (t : Bool) → (cpu_of b == q) ≡ t → (if t then b ∷ entries_of cpu_of q bs else entries_of cpu_of q bs) ≡ [] → (cpu_of b ≢ q) × (entries_of cpu_of q bs ≡ [])

@@ -4,3 +4,4 @@ pub mod Played
 pub mod Playing
 pub mod Raises
 pub mod Seats
+pub mod Turning

@@ -5,13 +5,16 @@ use Rattle.rt_task.specs.declared.Act.TheVariants as acts
 use Rattle.rt_history.specs.declared.Entry.{Entry}
 use Rattle.rt_model.specs.Group.{Group, group_processors}
 use Rattle.rt_model.specs.Histories.{reply_to, past_of, raises}
-use Rattle.rt_plays.specs.ScriptPlays.{IsBegunScriptPlay}
+use Rattle.rt_plays.specs.Drives.{horizon}
+use Rattle.rt_plays.specs.Plays.{IsBegunPlay}
 use Rattle.rt_groups.specs.Groups.{GroupHistory}
 use Rattle.turn_cell.specs.Words.{entries_of, AgreeOn, StartsWith}
 use Rattle.turn_cell.specs.Places.{Cell, Place}
 use Rattle.cpu_site.specs.declared.story.GroupOf.{GroupOf}
-use Rattle.cpu_site.specs.Playing.{IsPlayable, IsNextStep, IsOver}
+use Rattle.cpu_site.specs.declared.progress.Progress.{Progress}
+use Rattle.cpu_site.specs.Playing.{IsFar, IsPlayable, IsNextStep, IsOver}
 use Rattle.cpu_site.specs.Raises.{cpu_at, cpu_count}
+use Rattle.cpu_site.specs.Turning.{IsTurnDone}
 
 -- the setup and the group of a history
 abbrev pub about : GroupHistory → GroupOf
@@ -32,21 +35,22 @@ place_in (x ∷ xs) q = if x == q then 0 else place_in xs q + 1
 abbrev pub place_of_cpu : GroupOf → Entry → ℕ
 place_of_cpu s e = place_in (group_processors (group_at s)) (cpu_of e)
 
--- the seat of a processor: of which site, of which processor, the entries that it has seen, and how often it looked at its interrupt word and
--- what it found there the last time
+-- the seat of a processor: of which site, of which processor, how many of its turns it gave as over, the entries that it has seen, and how
+-- often it looked at its interrupt word and what it found there the last time
 pub record CpuPlace : Type 0 where
   pub cell : Cell GroupOf
   pub cpu : ℕ
+  pub turns : ℕ
   pub seen : List Entry
   pub looks : ℕ
   pub found : ℕ
 
-abbrev pub cpu_place : ℕ → Place Entry GroupOf → CpuPlace
-cpu_place q p = record { cell = p.cell; cpu = q; seen = p.seen; looks = p.looks; found = p.found }
+abbrev pub cpu_place : ℕ → ℕ → Place Entry GroupOf → CpuPlace
+cpu_place q turns p = record { cell = p.cell; cpu = q; turns = turns; seen = p.seen; looks = p.looks; found = p.found }
 
 -- the seat of a processor that has seen nothing, and those of all of these processors
 abbrev pub unused_seat : Cell GroupOf → ℕ → CpuPlace
-unused_seat cell q = record { cell = cell; cpu = q; seen = []; looks = 0; found = 0 }
+unused_seat cell q = record { cell = cell; cpu = q; turns = 0; seen = []; looks = 0; found = 0 }
 
 abbrev pub unused_seats : Cell GroupOf → List ℕ → List CpuPlace
 unused_seats cell qs = map (unused_seat cell) qs
@@ -81,25 +85,37 @@ pub record IsPlay (s : GroupOf) (p : CpuPlace) (e : Entry) (p' : CpuPlace) : Typ
   pub between : List Entry
   pub ends : p'.seen ≡ (p.seen ++ between) ++ e ∷ []
   pub mine : entries_of cpu_of p.cpu p'.seen ≡ entries_of cpu_of p.cpu p.seen ++ e ∷ []
-  pub next : IsNextStep s.setup p.cpu (p.seen ++ between) e.step
+  pub next : IsNextStep (group_at s) p.turns p.cpu (p.seen ++ between) e.step
   pub reply : e.reply ≡ reply_to (group_at s) e.step (past_of (group_at s) (p.seen ++ between))
 
--- the new list begins with the old one and has no further entry of the processor, of which no step is left
-pub record IsEnd (s : GroupOf) (p p' : CpuPlace) : Type 0 where
+-- the new list begins with the old one and has no further entry of the processor
+pub record IsQuiet (p p' : CpuPlace) : Type 0 where
   pub later : StartsWith p'.seen p.seen
   pub mine : AgreeOn cpu_of p.cpu p'.seen p.seen
-  pub over : IsOver s.setup p.cpu p'.seen
+
+-- in the new list the turn of the processor is over, after those that it gave as over
+pub record IsTurnEnd (s : GroupOf) (p p' : CpuPlace) : Type 0 where
+  pub quiet : IsQuiet p p'
+  pub over : IsTurnDone (group_at s) p.cpu p.turns (past_of (group_at s) p'.seen)
+
+-- in the new list no step of the processor is left, and each of its turns was given as over
+pub record IsEnd (s : GroupOf) (p p' : CpuPlace) : Type 0 where
+  pub quiet : IsQuiet p p'
+  pub over : IsOver (group_at s) p.cpu p'.seen
+  pub all : p.turns ≡ horizon s.setup.drive
 
 -- what a site keeps
 pub record IsSite (s : GroupOf) (count : ℕ) : Type 0 where
   pub playable : IsPlayable s.setup s.number
   pub all : count ≡ cpu_count (group_at s)
 
--- what a seat keeps: it is that of the processor at its place of the group, with the word that this took last, and room for what it plays
-pub record IsSeat (s : GroupOf) (p : Place Entry GroupOf) (q taken : ℕ) (counts : List ℕ) (room : ℕ) : Type 0 where
+-- what a seat keeps: it is that of the processor at its place of the group, which is so far, with the word that this took last, and room
+-- for what it plays
+pub record IsSeat (s : GroupOf) (p : Place Entry GroupOf) (q : ℕ) (at : Progress) (taken : ℕ) (counts : List ℕ) (room : ℕ) : Type 0 where
   pub low : p.cpu < cpu_count (group_at s)
   pub own : cpu_at (group_at s) p.cpu ≡ q
-  pub begun : IsBegunScriptPlay (group_at s) p.seen
+  pub begun : IsBegunPlay (group_at s) p.seen
+  pub far : IsFar (group_at s) q p.seen at
   pub recorded : slice_index p.raises p.cpu ≡ raises (group_at s) q p.seen
   pub word : taken ≡ word_taken (group_at s) q p.seen
   pub all : length counts ≡ cpu_count (group_at s)

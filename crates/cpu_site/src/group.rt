@@ -1,18 +1,17 @@
-//! A group whose processors play their scripts, with the interrupts that were raised at each of them.
-ghost use Rattle.std.specs.Prelude.{◌≡◌, ◌≤◌, true, IfOk, length};
+//! A group whose processors play their scripts or their turns, with the interrupts that were raised at each of them.
+ghost use Rattle.std.specs.Prelude.{◌≡◌, ◌≤◌, IfOk, length};
 ghost use Rattle.rt_base.specs.declared.TheConstants.{MOST_STEPS};
-ghost use Rattle.rt_groups.specs.Built.{is_built};
-ghost use Rattle.rt_groups.specs.Groups.{group_of, with_entry, IsGroupOf};
+ghost use Rattle.rt_groups.specs.Groups.{group_of, IsGroupOf};
 ghost use Rattle.rt_plays.specs.Homes.{IsProcessorOf};
-ghost use Rattle.rt_plays.specs.ScriptPlays.{IsBegunScriptPlay};
-ghost use Rattle.cpu_site.specs.Played.{IfDid, IfEnded};
-ghost use Rattle.cpu_site.specs.Playing.{IsNextEntry, IsOver, IsPlayable, unplayed};
+ghost use Rattle.rt_plays.specs.Plays.{IsBegunPlay};
+ghost use Rattle.cpu_site.specs.Playing.{unplayed, IsFar, IsOutcome, IsPlayable};
 ghost use Rattle.cpu_site.specs.Raises.{AreRaises};
 
 use crate::cpus::cpus_of;
 use crate::marks::no_counts;
 use crate::played::Played;
 use crate::player::Player;
+use crate::progress::Progress;
 use crate::sights::{Sight, count_raises, look};
 use group_engine::Engine;
 use rt_base::{CpuNo, GroupNo, NoMemory};
@@ -20,8 +19,8 @@ use rt_task::Setup;
 use std::alloc::Global;
 use std::marker::Model;
 
-/// A group of a setup whose processors play their scripts, in any order. Contracts see its history: it is legal, and each
-/// processor's steps in it are a first part of its script.
+/// A group of a setup whose processors play their scripts or their turns, in any order. Contracts see its history: it is
+/// legal, and each processor's steps in it are a first part of its script, or are its turns as far as they go.
 ///
 /// After `open` no call takes memory.
 #[derive(Drop)]
@@ -37,7 +36,7 @@ impl Model for Group {
     ghost use Rattle.std.specs.Prelude.{◌≡◌};
     ghost use Rattle.rt_model.specs.Group.{group_processors};
     ghost use Rattle.rt_groups.specs.Groups.{GroupHistory, group_of, past};
-    ghost use Rattle.rt_plays.specs.ScriptPlays.{IsBegunScriptPlay};
+    ghost use Rattle.rt_plays.specs.Plays.{IsBegunPlay};
     ghost use Rattle.cpu_site.specs.Cpus.{cpu_numbers};
     ghost use Rattle.cpu_site.specs.Raises.{AreRaises, AreSights};
 
@@ -49,14 +48,13 @@ impl Model for Group {
         (cpu_numbers a.cpus.items ≡ group_processors (group_of a.player))
         × AreSights (group_of a.player) (past a.player) a.sights.items
         × AreRaises a.player a.raises.items
-        × IsBegunScriptPlay (group_of a.player) a.player.entries };
+        × IsBegunPlay (group_of a.player) a.player.entries };
 }
 
 impl Group {
     /// A group of a setup, before its first step. It takes all the memory that the group ever has.
     pub fn open(alloc: Global, setup: &Setup, group: GroupNo) -> Result<Group, NoMemory>
         requires group { IsGroupOf setup.now group.0 }
-        requires built { is_built setup.now ≡ true }
         ensures group { IfOk result (λ g. g ≡ unplayed setup.now group.0) }
         ensures playable { IfOk result (λ _. IsPlayable setup.now group.0) }
     {
@@ -76,7 +74,7 @@ impl Group {
     pub fn len(&self) -> u64
         ensures count { result ≡ length self.now.entries }
         ensures few { result ≤ MOST_STEPS }
-        ensures begun { IsBegunScriptPlay (group_of self.now) self.now.entries }
+        ensures begun { IsBegunPlay (group_of self.now) self.now.entries }
         ensures playable { IsPlayable self.now.setup self.now.group }
     {
         self.player.count()
@@ -85,37 +83,40 @@ impl Group {
     /// How many interrupts were raised at each processor of the group, by rising number.
     pub fn raises(&self) -> &[u64]
         ensures raises { AreRaises self.now result.now }
-        ensures begun { IsBegunScriptPlay (group_of self.now) self.now.entries }
+        ensures begun { IsBegunPlay (group_of self.now) self.now.entries }
     {
         self.raises.as_slice()
     }
 
-    /// Takes the processor's next step. It is `Ended` exactly where none is left, and then nothing changes.
-    pub fn advance(&mut self, cpu: CpuNo) -> Played
-        requires { IsProcessorOf (group_of self.old) cpu.0 }
-        ensures did { IfDid result
-            (λ e. IsNextEntry self.old cpu.0 e × (self.new ≡ with_entry e self.old)) }
-        ensures ended { IfEnded result
-            (IsOver self.old.setup cpu.0 self.old.entries × (self.new ≡ self.old)) }
-        ensures begun { IsBegunScriptPlay (group_of self.new) self.new.entries }
+    /// Takes the processor's next step, of its script or of its turns, in which it is so far. On `TurnOver` and `Ended`
+    /// nothing is added.
+    pub fn advance(&mut self, cpu: CpuNo, at: &mut Progress) -> Played
+        requires cpu { IsProcessorOf (group_of self.old) cpu.0 }
+        requires far { IsFar (group_of self.old) cpu.0 self.old.entries at.old }
+        ensures outcome { IsOutcome self.old cpu.0 at.old result self.new at.new }
+        ensures far { IsFar (group_of self.new) cpu.0 self.new.entries at.new }
+        ensures begun { IsBegunPlay (group_of self.new) self.new.entries }
         ensures few { length self.new.entries ≤ MOST_STEPS }
     {
-        let Played::Did(entry) = self.player.advance(cpu) else {
-            return Played::Ended;
-        };
-        count_raises(
-            &self.player,
-            self.cpus.as_slice(),
-            &mut self.sights,
-            &mut self.raises,
-        );
-        Played::Did(entry)
+        match self.player.advance(cpu, at) {
+            Played::Did(entry) => {
+                count_raises(
+                    &self.player,
+                    self.cpus.as_slice(),
+                    &mut self.sights,
+                    &mut self.raises,
+                );
+                Played::Did(entry)
+            }
+            Played::TurnOver => Played::TurnOver,
+            Played::Ended => Played::Ended,
+        }
     }
 
     /// The engine, with the same history.
     pub fn into_engine(self) -> Engine
         ensures same { result ≡ self }
-        ensures begun { IsBegunScriptPlay (group_of result) result.entries }
+        ensures begun { IsBegunPlay (group_of result) result.entries }
     {
         let Group { player, .. } = self;
         player.into_engine()

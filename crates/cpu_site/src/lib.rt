@@ -3,18 +3,22 @@
 
 mod chains;
 mod cpus;
+mod driving;
 mod gate;
 mod group;
 mod marks;
 mod own_steps;
 mod played;
 mod player;
+mod progress;
 mod sights;
 mod site;
 mod story;
 
+pub use driving::{drive, drive_turns, play_turn};
 pub use gate::{Gate, OpenGate};
 pub use group::Group;
 pub use played::Played;
-pub use site::{CpuSeat, Site, drive};
+pub use progress::Progress;
+pub use site::{CpuSeat, Site};
 pub use story::GroupOf;

@@ -1,25 +1,23 @@
 //! A group whose processors play in turns, each by a seat of its own.
 ghost use Rattle.std.specs.Prelude.{◌≡◌, ℕ, ◌+◌, ◌<◌, ◌≤◌, ◌++◌, ◌∷◌, [], true, nat_lt, length, map, reverse, slice_index, vec_capacity, if◌then◌else◌, All, Contains, IfOk, Some};
-ghost use Rattle.rt_base.specs.declared.TheConstants.{MOST_CPUS};
+ghost use Rattle.rt_base.specs.declared.TheConstants.{MOST_CPUS, MOST_STEPS};
 ghost use Rattle.rt_model.specs.Group.{group_processors};
 ghost use Rattle.rt_model.specs.Histories.{raises};
-ghost use Rattle.rt_groups.specs.Built.{is_built};
 ghost use Rattle.rt_groups.specs.Groups.{group_of, IsGroupOf};
 ghost use Rattle.rt_plays.specs.Homes.{IsProcessorOf};
-ghost use Rattle.rt_plays.specs.Plays.{group_with};
-ghost use Rattle.rt_plays.specs.ScriptPlays.{IsBegunScriptPlay};
+ghost use Rattle.rt_plays.specs.Plays.{group_with, IsBegunPlay};
 ghost use Rattle.turn_cell.specs.Words.{AgreeOn, StartsWith};
 ghost use Rattle.turn_cell.specs.Places.{fresh};
-ghost use Rattle.cpu_site.specs.Playing.{IsOver};
-ghost use Rattle.cpu_site.specs.Played.{IfDid, IfEnded};
+ghost use Rattle.cpu_site.specs.Played.{turns_after, IfDid, IfEnded, IfTurnOver};
 ghost use Rattle.cpu_site.specs.Raises.{cpu_at, cpu_count};
-ghost use Rattle.cpu_site.specs.Seats.{about, cpu_of, cpu_place, group_at, is_irq, looked_up, unused_seat, unused_seats, word_taken, About, IsEnd, IsPlay};
+ghost use Rattle.cpu_site.specs.Seats.{about, cpu_of, cpu_place, group_at, is_irq, looked_up, unused_seat, unused_seats, word_taken, About, IsEnd, IsPlay, IsTurnEnd};
 
 use crate::cpus::cpus_of;
 use crate::gate::Gate;
 use crate::group::Group;
 use crate::marks::{changed, copy, no_counts, no_places};
 use crate::played::Played;
+use crate::progress::Progress;
 use group_engine::Engine;
 use rt_base::{CpuNo, GroupNo, MOST_CPUS, NoMemory};
 use rt_task::{Act, Setup};
@@ -63,6 +61,10 @@ pub struct CpuSeat {
     cpu: CpuNo,
     // The processor's place among those of the group.
     place: u32,
+    // How far it is in its turns.
+    at: Progress,
+    // How often a gate was asked before a play of it.
+    plays: u32,
     // The interrupt word that it took last.
     taken: u64,
     // Room for what a play compares and tells.
@@ -76,11 +78,11 @@ impl Model for CpuSeat {
 
     ghost Value = { CpuPlace };
 
-    ghost view = { λ a. cpu_place a.cpu.0 a.seat };
+    ghost view = { λ a. cpu_place a.cpu.0 a.at.turns a.seat };
 
     ghost invariant = { λ a. (a.seat.holds ≡ false) × (a.seat.cpu ≡ a.place)
         × About a.seat.cell
-        (λ s. IsSeat s a.seat a.cpu.0 a.taken a.counts.items (vec_capacity a.raised)) };
+        (λ s. IsSeat s a.seat a.cpu.0 a.at a.taken a.counts.items (vec_capacity a.raised)) };
 }
 
 /// The word that is taken by an act: that of the processor at an interrupt, and else the one that was taken before.
@@ -113,6 +115,8 @@ fn seated(
         seat,
         cpu,
         place,
+        at: Progress::start(),
+        plays: 0,
         taken: 0,
         counts,
         raised,
@@ -158,6 +162,21 @@ impl CpuSeat {
     {
         self.cpu
     }
+
+    /// How many of its turns it gave as over.
+    pub fn turns(&self) -> u64
+        ensures { result ≡ self.now.turns }
+    {
+        self.at.turns
+    }
+
+    /// Asks the gate before a play.
+    pub(crate) fn ask<R: Wait, G: Gate>(&mut self, rt: &R, gate: &G)
+        ensures { self.new ≡ self.old }
+    {
+        gate.before(rt, self.cpu, self.plays);
+        self.plays = self.plays.saturating_add(1);
+    }
 }
 
 impl Site {
@@ -168,7 +187,6 @@ impl Site {
         group: GroupNo,
     ) -> Result<(Site, Vec<CpuSeat>), NoMemory>
         requires group { IsGroupOf setup.now group.0 }
-        requires built { is_built setup.now ≡ true }
         ensures about { IfOk result (λ r.
             r.0.cell.subject ≡ Some (record { setup = setup.now; number = group.0 })) }
         ensures seats { let g = group_with setup.now group.0 in
@@ -200,7 +218,7 @@ impl Site {
         ensures about { self.cell.subject ≡ Some (about result) }
         ensures later { All (λ p. StartsWith result.entries p.seen) seats.items }
         ensures whole { All (λ p. AgreeOn cpu_of p.cpu result.entries p.seen) seats.items }
-        ensures begun { IsBegunScriptPlay (group_of result) result.entries }
+        ensures begun { IsBegunPlay (group_of result) result.entries }
     {
         let Site { turn, back } = self;
         let Back { seats: mut back } = back.into_inner();
@@ -211,15 +229,22 @@ impl Site {
         turn.close(back).into_engine()
     }
 
-    /// Waits for the turn, and takes the processor's next step. It is `Ended` exactly where none is left.
+    /// Waits for the turn, and takes the processor's next step, of its script or of its turns. In a body run it is
+    /// `TurnOver` exactly where the turn after those that the seat gave as over is over in what it then knows: its Tick and
+    /// its Irq were played, and after them the most acts that a turn has, or the processor has no next act. It is `Ended`
+    /// exactly where no step is left and each turn was given as over.
     ///
     /// The call takes no memory, and waits for nothing but the turn.
     pub fn play<R: Wait>(&self, rt: &R, seat: &mut CpuSeat) -> Played
         requires { seat.old.cell ≡ self.now.cell }
         ensures did { About self.now.cell (λ s.
             IfDid result (λ e. IsPlay s seat.old e seat.new)) }
+        ensures turn_over { About self.now.cell (λ s.
+            IfTurnOver result (IsTurnEnd s seat.old seat.new)) }
         ensures ended { About self.now.cell (λ s. IfEnded result (IsEnd s seat.old seat.new)) }
-        ensures begun { About self.now.cell (λ s. IsBegunScriptPlay (group_at s) seat.new.seen) }
+        ensures begun { About self.now.cell (λ s. IsBegunPlay (group_at s) seat.new.seen) }
+        ensures turns { seat.new.turns ≡ turns_after result seat.old.turns }
+        ensures few { seat.new.turns ≤ MOST_STEPS }
         ensures later { StartsWith seat.new.seen seat.old.seen }
         ensures same { (seat.new.cell ≡ seat.old.cell)
             × (seat.new.cpu ≡ seat.old.cpu)
@@ -227,15 +252,23 @@ impl Site {
     {
         let mut group = self.turn.take(rt, &mut seat.seat);
         copy(group.raises(), &mut seat.counts);
-        let Played::Did(entry) = group.advance(seat.cpu) else {
-            self.turn.give(&mut seat.seat, group, &[]);
-            return Played::Ended;
-        };
-        changed(seat.counts.as_slice(), group.raises(), &mut seat.raised);
-        seat.taken = word_after(entry.step.act, group.raises(), seat.place, seat.taken);
-        self.turn
-            .give(&mut seat.seat, group, seat.raised.as_slice());
-        Played::Did(entry)
+        match group.advance(seat.cpu, &mut seat.at) {
+            Played::Did(entry) => {
+                changed(seat.counts.as_slice(), group.raises(), &mut seat.raised);
+                seat.taken = word_after(entry.step.act, group.raises(), seat.place, seat.taken);
+                self.turn
+                    .give(&mut seat.seat, group, seat.raised.as_slice());
+                Played::Did(entry)
+            }
+            Played::TurnOver => {
+                self.turn.give(&mut seat.seat, group, &[]);
+                Played::TurnOver
+            }
+            Played::Ended => {
+                self.turn.give(&mut seat.seat, group, &[]);
+                Played::Ended
+            }
+        }
     }
 
     /// Whether an interrupt was raised at the processor since it took one last, by one look at its word.
@@ -251,25 +284,4 @@ impl Site {
     {
         self.turn.irq_word(&mut seat.seat, seat.place) > seat.taken
     }
-}
-
-/// Plays a processor's steps until none is left, and asks the gate before each play.
-pub fn drive<R: Wait, G: Gate>(rt: &R, site: &Site, seat: &mut CpuSeat, gate: &G)
-    requires { seat.old.cell ≡ site.now.cell }
-    ensures over { About site.now.cell (λ s. IsOver s.setup seat.old.cpu seat.new.seen) }
-    ensures begun { About site.now.cell (λ s. IsBegunScriptPlay (group_at s) seat.new.seen) }
-    ensures later { StartsWith seat.new.seen seat.old.seen }
-    ensures same { (seat.new.cell ≡ seat.old.cell)
-        × (seat.new.cpu ≡ seat.old.cpu)
-        × (seat.new.looks ≡ seat.old.looks) }
-{
-    let mut n: u32 = 0;
-    for _ in rt.forever() {
-        gate.before(rt, seat.cpu(), n);
-        let Played::Did(_entry) = site.play(rt, seat) else {
-            return;
-        };
-        n = n.saturating_add(1);
-    }
-    unreachable!()
 }

@@ -11,8 +11,6 @@ use Rattle.rt_task.specs.declared.Kind.{Kind}
 use Rattle.rt_task.specs.declared.Kind.TheVariants.{Periodic, Sporadic}
 use Rattle.rt_task.specs.declared.Op.{Op}
 use Rattle.rt_task.specs.declared.Op.TheVariants as ops
-use Rattle.rt_task.specs.declared.PluginKind.{PluginKind}
-use Rattle.rt_task.specs.declared.PluginKind.TheVariants as plugins
 use Rattle.rt_task.specs.declared.Task.{Task}
 use Rattle.rt_history.specs.declared.Reply.TheVariants as replies
 use Rattle.rt_rules.specs.Distinct.{IsDistinct}
@@ -29,7 +27,6 @@ use Rattle.group_facts.specs.Replies.{IsSeen, SemFacts, arrival_reply, arrival_r
 use Rattle.group_facts.proofs.ReadReplies.{reply_is_read}
 use Rattle.group_jobs.specs.GroupJobs.{plain_reply}
 use Rattle.group_engine.specs.declared.state.GroupState.{GroupState}
-use Rattle.group_engine.specs.Moments.{IsPlayed}
 use Rattle.group_engine.proofs.ActMoves.{CanBe, of_group}
 
 -- what the semaphores say of a processor that runs this, and of the semaphores of its act

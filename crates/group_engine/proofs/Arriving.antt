@@ -24,8 +24,8 @@ use Rattle.group_facts.proofs.CpuSteps.{cpu_is_counted}
 use Rattle.group_facts.proofs.JobSteps.{arrival_is_counted}
 use Rattle.group_jobs.specs.GroupJobs.{GroupJobs, task_in}
 use Rattle.group_engine.specs.declared.state.GroupState.{GroupState}
-use Rattle.group_engine.specs.State.{IsAt, IsWithin}
-use Rattle.group_engine.specs.Touching.{CanBase, CanBringUp, based, base_now, brought_up, placed_all}
+use Rattle.group_engine.specs.State.{IsWithin}
+use Rattle.group_engine.specs.Touching.{CanBase, CanBringUp, based, base_now, brought_up}
 use Rattle.group_sem_laws.specs.Kept.{KeepsGroupSems, KeepsLocks}
 use Rattle.group_engine.proofs.Bases.{base-told, bases-told, has-base}
 use Rattle.group_engine.proofs.Bounding.{can-look, can_base, in-bases}

@@ -11,7 +11,7 @@ use Rattle.rt_model.specs.Group.{Group}
 use Rattle.rt_model.specs.Outcomes.{past_act}
 use Rattle.rt_model.specs.Past.{Acted, Past, accepted, did, is_work, operation}
 use Rattle.rt_model.specs.Runs.{runs}
-use Rattle.resv_core.specs.Served.{Served, charged}
+use Rattle.resv_core.specs.Served.{charged}
 use Rattle.resv_laws.specs.Serving.{charged_for, for_task}
 use Rattle.group_resvs.specs.GroupResvs.{GroupResvs}
 use Rattle.group_engine.proofs.Settling.{begun_resvs}

@@ -8,7 +8,6 @@ use Rattle.rt_rules.proofs.MemberLaws.{equal_self}
 use Rattle.rt_model.specs.Group.{Group, tasks}
 use Rattle.rt_model.specs.Past.{Clock, Past, now}
 use Rattle.rt_model.specs.Reachable.{clocked}
-use Rattle.rt_laws.proofs.GroupLaws.{tasks_of-home}
 use Rattle.release_queue.specs.Timers.{tick_at}
 use Rattle.rank_changes.specs.Touched.{comes_due}
 use Rattle.rank_changes.proofs.QuietMoves.{base_key-same, key-quiet}
@@ -29,10 +28,7 @@ use Rattle.group_engine.specs.State.{HasClusterAt, IsAt, IsWithin}
 use Rattle.group_engine.proofs.Reading.{IsAlike}
 use Rattle.rank_changes.proofs.SameEligibility.{awaits-quiet}
 use Rattle.resv_laws.specs.Serving.{clock_to}
-use Rattle.group_resvs.specs.Kept.{KeepsResvs}
 use Rattle.rt_model.specs.Holders.{awaits}
-use Rattle.rt_model.specs.Releases.{ready}
-use Rattle.std.specs.Prelude.{is_none, unwrap_or}
 use Rattle.waiting_list.specs.Listing.{Moment}
 use Rattle.rt_task.specs.declared.Parts.{Parts}
 use Rattle.group_engine.specs.Touching.{all_brought_up}

@@ -45,7 +45,7 @@ use Rattle.group_jobs.specs.States.{SleepIsShort}
 use Rattle.group_sems.specs.GroupSems.{GroupSems}
 use Rattle.group_sem_laws.specs.Kept.{KeepsBases, KeepsGroupSems, KeepsLocks}
 use Rattle.group_engine.specs.declared.state.GroupState.{GroupState}
-use Rattle.group_engine.specs.State.{IsAt, IsClusterAt, IsWithin}
+use Rattle.group_engine.specs.State.{IsClusterAt, IsWithin}
 use Rattle.group_engine.specs.Touching.{charged_for, CanBringUp, CanCount, base_now, followed, is_over, operated, quitted}
 use Rattle.group_engine.proofs.ActMoves.{CanBe, act-within, base-same, between-act, between-still, kept-after}
 use Rattle.group_engine.proofs.Bases.{base-told, bases-stay, bases-told, has-base}

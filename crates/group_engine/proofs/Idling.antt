@@ -13,7 +13,6 @@ use Rattle.group_facts.specs.FactMoves.{with_act}
 use Rattle.group_facts.specs.Kept.{cpu_of}
 use Rattle.group_facts.specs.Replies.{do_reply}
 use Rattle.group_engine.specs.declared.state.GroupState.{GroupState}
-use Rattle.group_engine.specs.State.{IsAt}
 use Rattle.group_engine.proofs.ActMoves.{CanBe}
 use Rattle.group_engine.proofs.Answering.{budget_by, answer-read, sem_facts}
 use Rattle.group_engine.proofs.Refusing.{refused}

@@ -26,8 +26,7 @@ use Rattle.group_facts.proofs.JobSteps.{others_count_nothing}
 use Rattle.cluster_table.specs.Clusters.{KeptCluster, after_take}
 use Rattle.cluster_table.specs.Table.{Table, changed_at, cluster_at}
 use Rattle.group_engine.specs.declared.state.GroupState.{GroupState}
-use Rattle.group_engine.specs.State.{HasClusterAt, IsAt, IsClusterAt}
-use Rattle.group_engine.specs.Touching.{placed_all}
+use Rattle.group_engine.specs.State.{HasClusterAt, IsClusterAt}
 use Rattle.group_engine.proofs.ActMoves.{CanBe, base-same, between-act, held-none, held_none, kept-after, look-same, quiet-sems}
 use Rattle.group_sem_laws.specs.Kept.{KeepsGroupSems}
 use Rattle.rt_changes.proofs.SemActs.{other_act_is_quiet}

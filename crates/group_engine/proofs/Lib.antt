@@ -27,3 +27,4 @@ mod Unlocking
 mod Following
 mod Charging
 mod Offering
+mod Ends

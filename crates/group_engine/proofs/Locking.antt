@@ -35,7 +35,6 @@ use Rattle.group_sem_laws.specs.Kept.{KeepsLocks}
 use Rattle.group_sem_laws.specs.Leaving.{IsLeft}
 use Rattle.group_engine.specs.declared.state.GroupState.{GroupState}
 use Rattle.group_engine.specs.Asking.{CanAskFor, asked_for, asked_reply, lock_refused}
-use Rattle.group_engine.specs.State.{IsAt}
 use Rattle.group_engine.specs.Touching.{CanBase, CanBringUp, CanCount, after_sem, base_now, holds_none, operated, touched_at}
 use Rattle.group_engine.proofs.ActMoves.{CanBe, made-after}
 use Rattle.rt_task.specs.declared.Parts.{Parts}

@@ -8,7 +8,7 @@ use Rattle.resv_laws.specs.Kept.{ready_release}
 use Rattle.group_engine.specs.Asking.{untold_resvs}
 use Rattle.group_engine.specs.Ending.{HasClusterEnding, HoldsStanding, IsEnding, stands}
 use Rattle.std.proofs.Common.{◌≡◌, ℕ, zero, suc, ◌+◌, ◌<◌, Bool, true, false, ◌&&◌, List, [], ◌∷◌, length, map, replicate, set, refl, sym, ap, ◌∙◌, subst, arith}
-use Rattle.std.specs.Prelude.{◌==◌, Option, None, Some, if◌then◌else◌, option_map}
+use Rattle.std.specs.Prelude.{◌==◌, Option, None, Some, if◌then◌else◌}
 use Rattle.rt_base.specs.declared.TheConstants.{MOST_CPUS}
 use Rattle.rt_order.specs.declared.Key.{Key}
 use Rattle.rt_rules.specs.Numbers.{has, numbers_from}
@@ -23,7 +23,7 @@ use Rattle.rt_model.specs.Group.{Group, clusters, cpus, first_cpu, home, in_grou
 use Rattle.rt_model.specs.Links.{links, runs_of}
 use Rattle.rt_model.specs.Reachable.{opened}
 use Rattle.rt_model.specs.Runs.{runs}
-use Rattle.rt_model.specs.Tops.{eligible, top}
+use Rattle.rt_model.specs.Tops.{top}
 use Rattle.rt_plays.specs.Homes.{IsProcessorOf}
 use Rattle.rt_laws.proofs.GroupLaws.{tasks_of-home}
 use Rattle.rt_groups.specs.Limits.{IsInLimits}
@@ -34,14 +34,13 @@ use Rattle.ready_queue.specs.ReadySet.{HoldsJust, set_refreshed}
 use Rattle.ready_queue.specs.Refreshed.{AgreeBut}
 use Rattle.ready_queue.proofs.ReadySets.{set_is_refreshed}
 use Rattle.rank_changes.specs.ClusterMoves.{of_cluster}
-use Rattle.rank_changes.specs.Clusters.{HoldsEligible}
 use Rattle.group_facts.specs.Kept.{IsKept, Kept, opened as no_jobs}
 use Rattle.group_facts.specs.Timers.{TimersAreKept, timer_at}
 use Rattle.group_facts.proofs.KeptMoves.{kept_at_opening, length-replicated, replicated}
 use Rattle.group_facts.proofs.TimerMoves.{timers_at_opening}
-use Rattle.cluster_table.specs.Clusters.{KeptCluster, fresh, homes_from, relinked, rows_from}
+use Rattle.cluster_table.specs.Clusters.{KeptCluster, fresh, homes_from, rows_from}
 use Rattle.cluster_table.specs.Table.{HasTask, cluster_at}
-use Rattle.cluster_table.proofs.RowLaws.{at-relinked, home-at, length-homes, processor-low, row-at}
+use Rattle.cluster_table.proofs.RowLaws.{home-at, length-homes, processor-low, row-at}
 use Rattle.prio_inherit.specs.Waits.{Waits}
 use Rattle.group_sems.specs.GroupSems.{GroupSems}
 use Rattle.group_sem_laws.specs.Kept.{KeepsGroupSems, KeepsLocks}
@@ -50,7 +49,7 @@ use Rattle.group_engine.proofs.SemLaws.{bases_are_told, opening_is_kept}
 use Rattle.group_engine.specs.declared.state.GroupState.{GroupState}
 use Rattle.group_engine.specs.Asking.{IsUntold}
 use Rattle.group_engine.specs.Moments.{IsPlayed}
-use Rattle.group_engine.specs.State.{HasClusterAt, IsAt, IsWithin}
+use Rattle.group_engine.specs.State.{IsWithin}
 use Rattle.group_engine.specs.Touching.{AreNumbered, CanBaseAll, CanBringUp, all_based, all_brought_up, base_now, based, ready_now, timer_now}
 use Rattle.group_engine.proofs.Bases.{base-told, has-base}
 use Rattle.group_engine.proofs.Bounding.{can_base, can_bring_up}

@@ -33,7 +33,6 @@ use Rattle.group_jobs.specs.GroupJobs.{plain_reply, task_in}
 use Rattle.group_facts.specs.Moves.{is_end}
 use Rattle.group_sem_laws.specs.Kept.{KeepsLocks}
 use Rattle.group_engine.specs.declared.state.GroupState.{GroupState}
-use Rattle.group_engine.specs.State.{IsAt}
 use Rattle.group_engine.specs.Touching.{charged_for, CanCount, counted, followed, holds_none, is_over, left_if, operated}
 use Rattle.group_engine.proofs.ActMoves.{CanBe, look-same, made-after, stays}
 use Rattle.group_engine.proofs.Answering.{budget_by, answer-read, plain-op, sem_facts}

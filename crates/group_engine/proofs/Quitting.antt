@@ -1,6 +1,6 @@
 -- What tasks can be looked at still can be once a processor was left and other tasks were looked at.
-use Rattle.std.proofs.Common.{◌≡◌, ℕ, Bool, true, false, ◌||◌, zero, suc, List, [], ◌∷◌, map, set, eqb-true, refl, sym, ap, ◌∙◌, get_or-set_other, subst}
-use Rattle.std.specs.Prelude.{◌==◌, Option, None, Some, IsSome, option_map, slice_index}
+use Rattle.std.proofs.Common.{◌≡◌, ℕ, Bool, true, false, ◌||◌, zero, suc, List, [], ◌∷◌, set, eqb-true, refl, sym, ap, ◌∙◌, get_or-set_other, subst}
+use Rattle.std.specs.Prelude.{◌==◌, Option, None, Some, IsSome, slice_index}
 use Rattle.std.proofs.lemmas.Bool.{eqb-false}
 use Rattle.rt_order.specs.declared.Key.{Key}
 use Rattle.rt_task.specs.declared.Op.{Op}
@@ -15,8 +15,8 @@ use Rattle.rt_model.specs.Runs.{leaves}
 use Rattle.sem_table.specs.Told.{owner_of}
 use Rattle.group_facts.specs.Kept.{has_operated, job_of}
 use Rattle.group_facts.specs.Moves.{is_end}
-use Rattle.cluster_table.specs.Clusters.{left_by, relinked}
-use Rattle.cluster_table.specs.Table.{Table, changed_at}
+use Rattle.cluster_table.specs.Clusters.{left_by}
+use Rattle.cluster_table.specs.Table.{changed_at}
 use Rattle.group_sems.specs.Telling.{HasBase}
 use Rattle.group_engine.specs.declared.state.GroupState.{GroupState}
 use Rattle.group_engine.specs.Touching.{CanBringUp, after_sem, all_brought_up, base_now, based, brought_up, followed, holds_none, is_over, left_if, operated, quitted, quitted_if, touched_at}

@@ -1,6 +1,6 @@
 -- What is read off the jobs in a group that is played.
-use Rattle.std.proofs.Common.{◌≡◌, ℕ, Bool, ◌&&◌, ◌∷◌, refl, sym, ap, ◌∙◌}
-use Rattle.std.specs.Prelude.{Option, None, Some, if◌then◌else◌, unwrap_or}
+use Rattle.std.proofs.Common.{◌≡◌, ℕ, ◌&&◌, ◌∷◌, refl, sym, ap, ◌∙◌}
+use Rattle.std.specs.Prelude.{None, Some, if◌then◌else◌, unwrap_or}
 use Rattle.std.specs.Prelude.{is_none}
 use Rattle.rt_rules.specs.SemState.{Neither}
 use Rattle.rt_model.specs.BaseKeys.{base_key}

@@ -15,7 +15,6 @@ use Rattle.group_facts.specs.FactMoves.{AllStay, CountsNothing, with_act}
 use Rattle.group_facts.proofs.CpuSteps.{cpu_is_counted, refused_stays}
 use Rattle.group_facts.proofs.JobSteps.{others_count_nothing}
 use Rattle.group_engine.specs.declared.state.GroupState.{GroupState}
-use Rattle.group_engine.specs.State.{IsAt}
 use Rattle.group_engine.proofs.ActMoves.{CanBe, all-stays}
 
 pub refused : (g : Group) (q : ℕ) (act : Act) (past : Past) (s : GroupState) → CanBe g q act past s → accepted (answer g q act past) ≡ false → IsEnding g (with_act g q act past) s

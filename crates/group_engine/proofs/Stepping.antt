@@ -1,6 +1,7 @@
 -- One step of the engine: what its moves rest on, and that what is kept stays sound.
-use Rattle.std.proofs.Common.{◌≡◌, ℕ, ◌+◌, ◌<◌, ◌≤◌, false, List, [], ◌∷◌, ◌++◌, length, sym, ◌∙◌, subst, arith, length-append}
+use Rattle.std.proofs.Common.{◌≡◌, ℕ, ◌+◌, ◌<◌, ◌≤◌, List, [], ◌∷◌, ◌++◌, length, refl, sym, ◌∙◌, subst, arith, length-append}
 use Rattle.std.proofs.lemmas.List.Elements.{All-push}
+use Rattle.std.specs.Prelude.{None}
 use Rattle.rt_base.specs.declared.TheConstants.{MOST_STEPS}
 use Rattle.rt_task.specs.declared.Parts.{Parts}
 use Rattle.rt_task.specs.declared.Step.{Step}
@@ -14,11 +15,14 @@ use Rattle.rt_model.specs.Steps.{IsStepOf}
 use Rattle.rt_model.proofs.Steps.{IsLegal-append, after-acted, past_of-append, reply_to-lem}
 use Rattle.rt_plays.specs.Homes.{IsProcessorOf}
 use Rattle.rt_groups.specs.Groups.{GroupHistory, IsGroupOf, group_of}
+use Rattle.rt_groups.specs.Endings.{ended_last}
 use Rattle.group_engine.specs.declared.state.GroupState.{GroupState}
+use Rattle.group_engine.specs.Ended.{IsOfJobs, at_stake, ended_of}
 use Rattle.group_engine.specs.Moments.{CanActOn, CanMove, HasActed, IsPlayed}
 use Rattle.waiting_list.specs.Listing.{Moment}
 use Rattle.group_engine.specs.Sound.{Extent, IsMoved, IsSound}
 use Rattle.group_engine.specs.State.{IsAt}
+use Rattle.group_engine.proofs.Ends.{ended-read, stake-there}
 
 pub entries_in-from : (g : Group) (es : List Entry) (past : Past) → entries_in (past_from g past es) ≡ length es + entries_in past
 unfolding past_from after
@@ -48,6 +52,11 @@ sound-open g room capacity s plays limit reserved arrivals kept = record {
   legal = tt;
   steps = λ k d low. absurd (omega (arith, low));
 }
+
+-- before the first entry no job has ended
+pub ended-first : (g : Group) → None ≡ ended_last g (past_of g [])
+unfolding past_of past_from
+ended-first g = refl
 
 -- what holds of the group that contracts see holds of the group inside
 pub at_home : (h h' : GroupHistory) (q : ℕ) → h ≡ h' → IsProcessorOf (group_of h') q → IsProcessorOf (group_of h) q
@@ -115,3 +124,14 @@ module _ (at : Extent) (step : Step) (parts : Parts) (es : List Entry) (capacity
     legal = IsLegal-append at.group es _ m.sound.legal (reply-is reply s acted);
     steps = All-push (λ (e : Entry). IsStepOf at.group e.step) es _ m.sound.steps m.step_is_of;
   }
+
+  -- the task whose job it ended
+  pub ended-there : (reply : Reply) (s : GroupState) → HasActed at_tick step.cpu.0 step.act reply s → IsOfJobs s.jobs.kept (at_stake parts step.cpu.0 step.act moved.jobs.kept)
+  ended-there reply s acted =
+      rw m.parts_are (stake-there at.group m.sound.played.valid step.cpu.0 at_tick.past m.kept.reachable moved.jobs.kept m.kept.jobs_are m.step_is_of.processor step.act s.jobs.kept acted.kept.jobs_are.jobs_length)
+
+  pub ended-is : (reply : Reply) (s : GroupState) → HasActed at_tick step.cpu.0 step.act reply s
+      → ended_of reply (at_stake parts step.cpu.0 step.act moved.jobs.kept) s.jobs.kept ≡ ended_last at.group (past_of at.group (es ++ record { step = step; reply = reply } ∷ []))
+  ended-is reply s acted =
+      rw (past_of-append, after-acted, m.parts_are, acted.reply_is)
+      (ended-read at.group m.sound.played.valid step.cpu.0 at_tick.past m.kept.reachable moved.jobs.kept m.kept.jobs_are m.step_is_of.processor step.act s.jobs.kept acted.kept.jobs_are)

@@ -3,7 +3,7 @@ use Rattle.group_facts.proofs.ReadReplies.{lacks-same}
 use Rattle.group_resvs.proofs.KeptLaws.{resvs_are_read}
 use Rattle.group_engine.specs.Touching.{lacks_running}
 use Rattle.group_engine.proofs.Answering.{budget_by}
-use Rattle.std.proofs.Common.{◌≡◌, ℕ, ◌^◌, ◌<◌, false, length, refl, sym, ap, ◌∙◌, arith}
+use Rattle.std.proofs.Common.{◌≡◌, ℕ, ◌^◌, ◌<◌, length, refl, sym, ap, ◌∙◌, arith}
 use Rattle.std.specs.Prelude.{Option, None, Some, option_map}
 use Rattle.rt_base.specs.TaskNos.{number_of_task}
 use Rattle.rt_base.specs.declared.TaskNo.{TaskNo}
@@ -13,12 +13,8 @@ use Rattle.rt_model.specs.Past.{Past}
 use Rattle.rt_model.specs.Runs.{runs}
 use Rattle.rt_model.specs.Situations.{situation, task_no}
 use Rattle.rt_plays.specs.Homes.{IsProcessorOf}
-use Rattle.rt_task.specs.RuleWords.{is_p_res}
-use Rattle.rt_task.specs.declared.PluginKind.{PluginKind}
-use Rattle.rt_task.specs.declared.PluginKind.TheVariants as plugins
 use Rattle.group_facts.specs.Facts.{CpuFacts}
 use Rattle.group_facts.specs.Kept.{cpu_of}
-use Rattle.group_facts.specs.Replies.{lacks}
 use Rattle.group_facts.specs.Situations.{lacks_of, place_of, situation_of}
 use Rattle.group_facts.proofs.ReadSituations.{situation_is_read}
 use Rattle.group_jobs.specs.GroupJobs.{IsTaskOf}

@@ -36,7 +36,6 @@ use Rattle.group_sem_laws.specs.Kept.{KeepsLocks}
 use Rattle.group_sem_laws.specs.Leaving.{IsLeft}
 use Rattle.group_engine.specs.declared.state.GroupState.{GroupState}
 use Rattle.group_engine.specs.Asking.{freed_it}
-use Rattle.group_engine.specs.State.{IsAt}
 use Rattle.group_engine.specs.Touching.{CanBringUp, CanCount, after_sem, holds_none, operated, touched_at}
 use Rattle.group_engine.proofs.ActMoves.{CanBe, made-after}
 use Rattle.group_engine.proofs.Following.{IsAnswered, can-count, can-looks, followed-at, others-jobs}

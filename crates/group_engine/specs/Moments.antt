@@ -1,5 +1,5 @@
 -- The moments between moves of a group, and what moves rest on.
-use Rattle.std.specs.Prelude.{◌≡◌, ℕ, ◌<◌, ◌∷◌, true, false, Some}
+use Rattle.std.specs.Prelude.{◌≡◌, ℕ, ◌<◌, ◌∷◌, true, Some}
 use Rattle.rt_base.specs.declared.TheConstants.{MOST_STEPS, TICK_END}
 use Rattle.rt_task.specs.declared.Act.{Act}
 use Rattle.rt_task.specs.declared.Act.TheVariants as acts

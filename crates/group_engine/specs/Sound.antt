@@ -1,5 +1,6 @@
 -- What holds of an engine at all times.
-use Rattle.std.specs.Prelude.{◌≡◌, ℕ, ◌+◌, ◌<◌, ◌≤◌, List, ◌∷◌, length}
+use Rattle.std.specs.Prelude.{◌≡◌, ℕ, ◌+◌, ◌<◌, ◌≤◌, Bool, List, ◌∷◌, length, Option}
+use Rattle.rt_base.specs.declared.TaskNo.{TaskNo}
 use Rattle.rt_base.specs.declared.TheConstants.{MOST_STEPS}
 use Rattle.rt_task.specs.declared.Parts.{Parts}
 use Rattle.rt_task.specs.declared.Step.{Step}
@@ -8,6 +9,7 @@ use Rattle.rt_model.specs.Group.{Group}
 use Rattle.rt_model.specs.Histories.{IsLegal, past_of}
 use Rattle.rt_model.specs.Past.{Clock}
 use Rattle.rt_model.specs.Steps.{IsStepOf}
+use Rattle.rt_groups.specs.Endings.{ended_last}
 use Rattle.rt_groups.specs.Groups.{AreStepsOf}
 use Rattle.group_engine.specs.declared.state.GroupState.{GroupState}
 use Rattle.group_engine.specs.Moments.{IsPlayed}
@@ -23,6 +25,11 @@ pub record IsSound (g : Group) (entries : List Entry) (room capacity : ℕ) (s :
   pub kept : IsAt g (past_of g entries) s
   pub legal : IsLegal g entries
   pub steps : AreStepsOf g entries
+
+-- and this is the task whose job the last of the entries ended, with whether that was late
+pub record IsEngine (g : Group) (entries : List Entry) (room capacity : ℕ) (s : GroupState) (ended : Option (TaskNo × Bool)) : Type 0 where
+  pub sound : IsSound g entries room capacity s
+  pub ended_is : ended ≡ ended_last g (past_of g entries)
 
 -- a group, and the room for its entries
 pub record Extent : Type 0 where

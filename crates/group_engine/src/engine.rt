@@ -19,6 +19,7 @@ ghost use Rattle.rt_model.specs.Steps.{IsStepOf};
 ghost use Rattle.rt_plays.specs.Homes.{IsProcessorOf};
 ghost use Rattle.rank_changes.specs.Clusters.{HoldsEligible};
 ghost use Rattle.rt_groups.specs.Groups.{GroupHistory, group_of, past, with_entry, AreStepsOf, IsGroupOf, IsLegalNow};
+ghost use Rattle.rt_groups.specs.Endings.{ended_last};
 
 use crate::room::put;
 use crate::state::GroupState;
@@ -42,12 +43,13 @@ pub struct Engine {
     room: usize,
     entries: Vec<Entry>,
     state: GroupState,
+    ended: Option<(TaskNo, bool)>,
 }
 
 impl Model for Engine {
     ghost use Rattle.std.specs.Prelude.{◌-◌, vec_len, vec_capacity};
     ghost use Rattle.rt_groups.specs.Groups.{GroupHistory};
-    ghost use Rattle.group_engine.specs.Sound.{IsSound};
+    ghost use Rattle.group_engine.specs.Sound.{IsEngine};
 
     ghost Value = { GroupHistory };
 
@@ -59,8 +61,15 @@ impl Model for Engine {
     } };
 
     ghost invariant = { λ a.
-        IsSound (record { setup = a.setup; number = a.group.0 })
-        a.entries.items a.room (vec_capacity a.entries) a.state };
+        IsEngine (record { setup = a.setup; number = a.group.0 })
+        a.entries.items a.room (vec_capacity a.entries) a.state a.ended };
+}
+
+/// What a step is answered, and the task whose job it ended, with whether the clock was past that job's deadline.
+#[derive(Clone, Copy)]
+struct Settled {
+    reply: Reply,
+    ended: Option<(TaskNo, bool)>,
 }
 
 impl Engine {
@@ -82,6 +91,7 @@ impl Engine {
             room: room as usize,
             entries,
             state,
+            ended: None,
         })
     }
 
@@ -126,6 +136,14 @@ impl Engine {
         self.state.situation(cpu)
     }
 
+    /// The task whose job the last step ended, and whether the clock was past that job's deadline; `None` where it ended no
+    /// job, and before the first step.
+    pub fn ended(&self) -> Option<(TaskNo, bool)>
+        ensures { result ≡ ended_last (group_of self.now) (past self.now) }
+    {
+        self.ended
+    }
+
     /// The eligible tasks of a cluster of the group, each with its effective key.
     pub fn ready(&self, cluster: ClusterNo) -> &ReadyHeap<ByKey>
         requires { has cluster.0 (clusters (group_of self.now)) ≡ true }
@@ -160,7 +178,9 @@ impl Engine {
     {
         let parts = self.setup.parts();
         self.state.move_clock(parts, step.tick);
-        settle(parts, &mut self.state, &mut self.entries, step)
+        let settled = settle(parts, &mut self.state, &mut self.entries, step);
+        self.ended = settled.ended;
+        settled.reply
     }
 
     /// Takes a step, as `step` does, and lists the tasks that wait for the semaphore that it frees, each with whether it is
@@ -179,24 +199,33 @@ impl Engine {
         let parts = self.setup.parts();
         self.state.move_clock(parts, step.tick);
         self.state.list_waiting(parts, step.cpu, step.act, list);
-        settle(parts, &mut self.state, &mut self.entries, step)
+        let settled = settle(parts, &mut self.state, &mut self.entries, step);
+        self.ended = settled.ended;
+        settled.reply
     }
 }
 
 /// Answers the act of a step, to whose tick the clock has moved, and adds the entry.
-fn settle(parts: &Parts, state: &mut GroupState, entries: &mut Vec<Entry>, step: Step) -> Reply
+fn settle(parts: &Parts, state: &mut GroupState, entries: &mut Vec<Entry>, step: Step) -> Settled
     requires { (at : Extent)
         × IsMoved at step parts.now entries.old.items (vec_capacity entries.old) state.old }
     ensures reply { (at : Extent)
         → IsMoved at step parts.now entries.old.items (vec_capacity entries.old) state.old
-        → result ≡ reply_to at.group step (past_of at.group entries.old.items) }
+        → result.reply ≡ reply_to at.group step (past_of at.group entries.old.items) }
     ensures entry { entries.new.items
-        ≡ entries.old.items ++ record { step = step; reply = result } ∷ [] }
+        ≡ entries.old.items ++ record { step = step; reply = result.reply } ∷ [] }
+    ensures ended { (at : Extent)
+        → IsMoved at step parts.now entries.old.items (vec_capacity entries.old) state.old
+        → result.ended ≡ ended_last at.group (past_of at.group entries.new.items) }
     ensures sound { (at : Extent)
         → IsMoved at step parts.now entries.old.items (vec_capacity entries.old) state.old
         → IsSound at.group entries.new.items at.room (vec_capacity entries.new) state.new }
 {
+    let stake = state.at_stake(parts, step.cpu, step.act);
     let reply = state.act(parts, step.cpu, step.act);
     put(entries, Entry { step, reply });
-    reply
+    Settled {
+        reply,
+        ended: state.ended_of(reply, stake),
+    }
 }

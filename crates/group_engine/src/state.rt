@@ -22,6 +22,7 @@ ghost use Rattle.group_engine.specs.Moments.{CanAct, CanActOn, CanLend, CanLook,
 ghost use Rattle.count_laws.specs.Tallies.{waiter_tasks};
 ghost use Rattle.rt_rules.specs.Distinct.{IsDistinct};
 ghost use Rattle.waiting_list.specs.Listing.{AreWaitersAt, Moment};
+ghost use Rattle.group_engine.specs.Ended.{at_stake, ended_of, late_now, IsOfJobs};
 ghost use Rattle.group_engine.specs.Asking.{asked_for, asked_reply, lock_refused, untold_resvs, CanAskFor, IsUntold};
 ghost use Rattle.group_engine.specs.State.{IsAt};
 ghost use Rattle.group_engine.specs.Touching.{AreArmedOnly, AreNumbered, CanBase, CanBaseAll, CanBringUp, CanBringUpAll, CanCount, CanQuit};
@@ -175,6 +176,45 @@ impl GroupState {
         match self.jobs.runs(cpu) {
             None => false,
             Some(task) => self.resvs.lacks_budget(task),
+        }
+    }
+
+    /// Whether the clock is past the deadline of the task's current job.
+    fn is_late(&self, parts: &Parts, task: TaskNo) -> bool
+        requires { CanBase parts.now task.0 self.now }
+        ensures { result ≡ late_now parts.now self.now.jobs.kept task.0 }
+    {
+        let tasks = parts.tasks.as_slice();
+        let release = self.jobs.release(tasks, task).unwrap_or(0);
+        release + tasks[task.0 as usize - 1].rel_deadline < self.jobs.clock()
+    }
+
+    /// The task whose job the act may end, and whether the clock is past that job's deadline.
+    pub(crate) fn at_stake(&self, parts: &Parts, cpu: CpuNo, act: Act) -> Option<(TaskNo, bool)>
+        requires { (at : Moment) × CanActOn at cpu.0 act parts.now self.now }
+        ensures { result ≡ at_stake parts.now cpu.0 act self.now.jobs.kept }
+    {
+        let Act::Do(_) = act else {
+            return None;
+        };
+        let task = self.jobs.runs(cpu)?;
+        Some((task, self.is_late(parts, task)))
+    }
+
+    /// The task whose job an act has ended that was answered so, of which this was at stake.
+    pub(crate) fn ended_of(
+        &self,
+        reply: Reply,
+        stake: Option<(TaskNo, bool)>,
+    ) -> Option<(TaskNo, bool)>
+        requires { IsOfJobs self.now.jobs.kept stake }
+        ensures { result ≡ ended_of reply stake self.now.jobs.kept }
+    {
+        let (task, _) = stake?;
+        if is_accepted(reply) && self.jobs.place(task) == 0 {
+            stake
+        } else {
+            None
         }
     }
 

@@ -1,1 +1,4 @@
 pub mod TaskLaws
+pub mod LoadDraft
+pub mod TaskRules
+pub mod LoadRules

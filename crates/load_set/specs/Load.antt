@@ -1,5 +1,5 @@
 -- The set that is generated for a number: C-EDF, two clusters of four processors, six OMLP semaphores, and forty tasks.
-use Rattle.std.specs.Prelude.{ℕ, zero, suc, ◌+◌, ◌-◌, ◌*◌, ◌/◌, ◌%◌, Bool, true, false, ◌==◌, List, [], ◌∷◌, ◌++◌, map, replicate, None, decimal}
+use Rattle.std.specs.Prelude.{ℕ, zero, suc, ◌+◌, ◌-◌, ◌*◌, ◌%◌, Bool, true, false, ◌==◌, List, [], ◌∷◌, ◌++◌, map, replicate, None, decimal}
 use Rattle.rt_base.specs.declared.SemNo.{SemNo}
 use Rattle.rt_base.specs.declared.TheConstants.{MOST_PRIO}
 use Rattle.rt_task.specs.declared.Cluster.{Cluster}

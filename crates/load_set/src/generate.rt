@@ -1,12 +1,11 @@
 //! The set of a load.
 ghost use Rattle.std.specs.Prelude.{◌≡◌, IfOk, map};
 ghost use Rattle.rt_rules.specs.Numbers.{numbers_from};
-ghost use Rattle.rt_task.specs.Answers.{Gives, kept};
-ghost use Rattle.rt_task.specs.Validity.{refusal_of};
+ghost use Rattle.rt_task.specs.Validity.{IsValid};
 ghost use Rattle.load_set.specs.Load as load;
 
 use crate::tasks::{name_of, tasks_of};
-use rt_base::GroupNo;
+use rt_base::{GroupNo, NoMemory};
 use rt_task::{
     Cluster, ClusterList, Drive, Parts, PluginKind, Protocol, ResvList, Sem, SemList, SetStop,
     Setup, TaskList,
@@ -67,12 +66,19 @@ fn parts_of(alloc: Global, n: u64) -> Result<Parts, AllocError>
 }
 
 /// The set of a load: forty periodic tasks under C-EDF in two clusters of four processors, of which about half lock one of
-/// their cluster's three OMLP semaphores for all their work, through 1,000 ticks.
+/// their cluster's three OMLP semaphores for all their work, through 1,000 ticks. The set of each number is valid.
 ///
 /// Example: task 1 of `load_set(alloc, 1)` has period 490.
-pub fn load_set(alloc: Global, n: u64) -> Result<Setup, SetStop>
-    ensures { Gives (λ s. s) result (kept (load.load_of n) (refusal_of (load.load_of n))) }
+pub fn load_set(alloc: Global, n: u64) -> Result<Setup, NoMemory>
+    ensures set { IfOk result (λ s. s ≡ load.load_of n) }
+    ensures valid { IsValid (load.load_of n) }
 {
-    let parts = parts_of(alloc, n)?;
-    Setup::make(alloc, parts)
+    let Ok(parts) = parts_of(alloc, n) else {
+        return Err(NoMemory);
+    };
+    match Setup::make(alloc, parts) {
+        Ok(setup) => Ok(setup),
+        Err(SetStop::NoMemory) => Err(NoMemory),
+        Err(SetStop::Bad(_)) => unreachable!(),
+    }
 }

@@ -8,22 +8,20 @@ use Rattle.rt_task.specs.declared.Act.{Act}
 use Rattle.rt_task.specs.declared.Act.TheVariants as acts
 use Rattle.rt_task.specs.declared.Op.{Op}
 use Rattle.rt_task.specs.declared.Op.TheVariants as ops
-use Rattle.rt_task.specs.declared.PluginKind.{PluginKind}
-use Rattle.rt_task.specs.declared.PluginKind.TheVariants as plugins
-use Rattle.rt_task.specs.RuleWords.{is_p_res}
 use Rattle.rt_history.specs.declared.Reply.{Reply}
 use Rattle.rt_history.specs.declared.Reply.TheVariants as replies
 use Rattle.rt_rules.specs.Distinct.{IsDistinct}
 use Rattle.rt_rules.specs.Numbers.{has, is, is_empty, numbers_from, same}
 use Rattle.rt_rules.proofs.BoolLaws.{clash}
 use Rattle.rt_model.specs.Answers.{answer, do_answer, is_granted}
-use Rattle.rt_model.specs.Group.{Group, group_processors, protocol, sems, task, tasks}
+use Rattle.rt_model.specs.Group.{Group, group_processors, protocol, sems, served_by, task, tasks}
 use Rattle.rt_model.specs.Holders.{holder, holds, last_granted}
 use Rattle.rt_model.specs.Links.{linked}
 use Rattle.rt_model.specs.Outcomes.{ended, past_act}
 use Rattle.rt_model.specs.Past.{Acted, Past, PastAct, accepted, now}
 use Rattle.rt_model.specs.Reachable.{IsReachable, acted}
 use Rattle.rt_model.specs.Releases.{deadline}
+use Rattle.rt_model.specs.Reservations.{left}
 use Rattle.rt_model.specs.Runs.{runs}
 use Rattle.rt_model.specs.Steps.{IsActOf}
 use Rattle.rt_laws.proofs.Running.{running}
@@ -38,13 +36,15 @@ use Rattle.group_facts.specs.Replies.{IsSeen, SemFacts, asked_by as sem_asked, f
 use Rattle.group_facts.specs.Words.{AreRead, is_late}
 use Rattle.group_facts.proofs.JobSteps.{arrival_is_counted, operation_is_counted, others_count_nothing}
 use Rattle.group_facts.proofs.KeptMoves.{task-range, words_of_kept}
-use Rattle.group_facts.proofs.ReadReplies.{reply_is_read}
+use Rattle.group_facts.proofs.ReadReplies.{lacks-same, reply_is_read}
 use Rattle.group_jobs.specs.GroupJobs.{plain_reply, task_in}
+use Rattle.group_resvs.specs.GroupResvs.{lacks_budget}
 use Rattle.group_sem_laws.specs.Kept.{KeepsGroupSems, KeepsLocks}
 use Rattle.group_sem_laws.proofs.Quiet.{quiet_is_kept}
 use Rattle.group_sem_laws.proofs.Reading.{holding_is_read}
 use Rattle.rank_afresh.specs.Facts.{Facts, IsPlainAct, MayAct, MayDo, asked, asked_by, ended_by, ended_now, ends_in, holds_none, late_in, link_in, none_after, none_by, op_reply_in, reply_in, task_reply}
-use Rattle.rank_afresh.specs.Standing.{ended_in}
+use Rattle.rt_groups.specs.Endings.{ended_in}
+use Rattle.rank_afresh.proofs.ModelWords.{AreResvsRead}
 use Rattle.rank_afresh.proofs.AtSems.{lock-kept, lock-reply, may-lock, may-unlock, unlock-kept, unlock-reply}
 
 pub plain-act : (g : Group) (act : Act) → IsActOf g act → IsPlainAct g.setup act
@@ -73,23 +73,24 @@ rest-done : (np none : Bool) → accepted (if np then replies.InNp else (if none
     → (if np then replies.InNp else (if none then replies.Done else replies.Holding)) ≡ replies.Done
 rest-done np none h = done-if np replies.InNp (if none then replies.Done else replies.Holding) refl (done-unless none replies.Holding refl) h
 
-plain-done : (op : Op) (clock : ℕ) (worked : Option ℕ) (np none : Bool) → accepted (plain_reply op clock worked np false none) ≡ true → plain_reply op clock worked np false none ≡ replies.Done
-plain-done ops.Work clock worked np none h = done-if (same worked (Some clock)) replies.Spent replies.Done refl (λ k. refl) h
-plain-done (ops.Lock s) clock worked np none h = rest-done np none h
-plain-done (ops.Unlock s) clock worked np none h = rest-done np none h
-plain-done (ops.Sleep n) clock worked np none h = rest-done np none h
-plain-done ops.NpOn clock worked np none h = done-if np replies.InNp replies.Done refl (λ k. refl) h
-plain-done ops.NpOff clock worked np none h = done-unless np replies.NotInNp refl h
-plain-done ops.End clock worked np none h = rest-done np none h
+plain-done : (op : Op) (clock : ℕ) (worked : Option ℕ) (np lack none : Bool) → accepted (plain_reply op clock worked np lack none) ≡ true → plain_reply op clock worked np lack none ≡ replies.Done
+plain-done ops.Work clock worked np lack none h =
+    done-if (same worked (Some clock)) replies.Spent (if lack then replies.NoBudget else replies.Done) refl (λ k. done-if lack replies.NoBudget replies.Done refl (λ l. refl) k) h
+plain-done (ops.Lock s) clock worked np lack none h = rest-done np none h
+plain-done (ops.Unlock s) clock worked np lack none h = rest-done np none h
+plain-done (ops.Sleep n) clock worked np lack none h = rest-done np none h
+plain-done ops.NpOn clock worked np lack none h = done-if np replies.InNp replies.Done refl (λ k. refl) h
+plain-done ops.NpOff clock worked np lack none h = done-unless np replies.NotInNp refl h
+plain-done ops.End clock worked np lack none h = rest-done np none h
 
 task-done : (q t : ℕ) (g : Group) (op : Op) (f : Facts) → is_at_sem (acts.Do op) ≡ false → accepted (task_reply g.setup q t op f) ≡ true → task_reply g.setup q t op f ≡ replies.Done
-task-done q t g ops.Work f plain h = plain-done ops.Work f.kept.clock (cpu_of f.kept q).worked (job_of f.kept t).np (holds_none t f.sems) h
+task-done q t g ops.Work f plain h = plain-done ops.Work f.kept.clock (cpu_of f.kept q).worked (job_of f.kept t).np (lacks_budget f.resvs.resvs t) (holds_none t f.sems) h
 task-done q t g (ops.Lock s) f plain h = cc
 task-done q t g (ops.Unlock s) f plain h = cc
-task-done q t g (ops.Sleep n) f plain h = plain-done (ops.Sleep n) f.kept.clock (cpu_of f.kept q).worked (job_of f.kept t).np (holds_none t f.sems) h
-task-done q t g ops.NpOn f plain h = plain-done ops.NpOn f.kept.clock (cpu_of f.kept q).worked (job_of f.kept t).np (holds_none t f.sems) h
-task-done q t g ops.NpOff f plain h = plain-done ops.NpOff f.kept.clock (cpu_of f.kept q).worked (job_of f.kept t).np (holds_none t f.sems) h
-task-done q t g ops.End f plain h = plain-done ops.End f.kept.clock (cpu_of f.kept q).worked (job_of f.kept t).np (holds_none t f.sems) h
+task-done q t g (ops.Sleep n) f plain h = plain-done (ops.Sleep n) f.kept.clock (cpu_of f.kept q).worked (job_of f.kept t).np (lacks_budget f.resvs.resvs t) (holds_none t f.sems) h
+task-done q t g ops.NpOn f plain h = plain-done ops.NpOn f.kept.clock (cpu_of f.kept q).worked (job_of f.kept t).np (lacks_budget f.resvs.resvs t) (holds_none t f.sems) h
+task-done q t g ops.NpOff f plain h = plain-done ops.NpOff f.kept.clock (cpu_of f.kept q).worked (job_of f.kept t).np (lacks_budget f.resvs.resvs t) (holds_none t f.sems) h
+task-done q t g ops.End f plain h = plain-done ops.End f.kept.clock (cpu_of f.kept q).worked (job_of f.kept t).np (lacks_budget f.resvs.resvs t) (holds_none t f.sems) h
 
 pub op-done : (g : Group) (q : ℕ) (op : Op) (o : Option ℕ) (f : Facts) → is_at_sem (acts.Do op) ≡ false → accepted (op_reply_in g.setup q op o f) ≡ true → op_reply_in g.setup q op o f ≡ replies.Done
 op-done g q op None f plain h = cc
@@ -149,29 +150,27 @@ holds-once : (g : Group) (t : ℕ) (past : Past) → IsDistinct (holds g t past)
 unfolding holds sems
 holds-once g t past = distinct-filter (λ s. is t (holder g s past)) (numbers_from 1 _) (distinct-numbers_from 1 _)
 
-lacks-none : (x : PluginKind) → is_p_res x ≡ false → lacks x 0 ≡ false
-lacks-none plugins.GsnEdf h = refl
-lacks-none plugins.CEdf h = refl
-lacks-none plugins.PsnEdf h = refl
-lacks-none plugins.PFp h = refl
-lacks-none plugins.PRes h = cc
+-- what is left of the reservation of the task that runs
+abbrev pub budget_by : Group → Past → Option ℕ → ℕ
+budget_by g past None = 0
+budget_by g past (Some t) = left g (served_by g t) past
 
 -- ---- at a past
 
-module _ (g : Group) (unreserved : is_p_res g.setup.plugin ≡ false) (past : Past) (made : IsReachable g past) (valid : IsValid g.setup) (q : ℕ) (f : Facts) (kept : IsKept g past f.kept)
-    (kept_sems : KeepsGroupSems g past f.sems) where
-  seen : (act : Act) → IsSeen g q act past (linked g q past) 0 (sem_facts g q act past)
+module _ (g : Group) (past : Past) (made : IsReachable g past) (valid : IsValid g.setup) (q : ℕ) (f : Facts) (kept : IsKept g past f.kept)
+    (kept_sems : KeepsGroupSems g past f.sems) (resvs : AreResvsRead g past f.resvs) where
+  seen : (act : Act) → IsSeen g q act past (linked g q past) (budget_by g past (runs q past)) (sem_facts g q act past)
   seen act = record {
     link_is = refl;
-    budget_is = λ t h res. absurd (clash _ res unreserved);
+    budget_is = λ t h res. rw h refl;
     held_are = λ t h. rw h (record { once = holds-once g t past; members = λ r. refl });
     granted_is = λ t r h asks. rw (h, asks) refl;
     holder_is = λ r frees. rw frees refl;
     last_is = λ t r h frees. rw h refl;
   }
 
-  answer-read : (act : Act) → IsOfGroup g q act → reply_of g q act (linked g q past) 0 (sem_facts g q act past) f.kept ≡ answer g q act past
-  answer-read act inside = reply_is_read g past valid made q act (linked g q past) 0 (sem_facts g q act past) f.kept inside kept (seen act)
+  answer-read : (act : Act) → IsOfGroup g q act → reply_of g q act (linked g q past) (budget_by g past (runs q past)) (sem_facts g q act past) f.kept ≡ answer g q act past
+  answer-read act inside = reply_is_read g past valid made q act (linked g q past) (budget_by g past (runs q past)) (sem_facts g q act past) f.kept inside kept (seen act)
 
   none-now : (t : ℕ) → runs q past ≡ Some t → holds_none t f.sems ≡ is_empty (holds g t past)
   none-now t r = (holding_is_read g past valid made f.sems t (running g (rules_of g valid) made q t r).member kept_sems.locks).0
@@ -181,26 +180,33 @@ module _ (g : Group) (unreserved : is_p_res g.setup.plugin ≡ false) (past : Pa
     runs-is = ap (λ (x : CpuFacts). x.runs) (kept.cpus_are q inside)
 
     -- an operation of the task that runs
-    plain-op : (op : Op) → is_at_sem (acts.Do op) ≡ false → (t clock : ℕ) (worked : Option ℕ) (np none : Bool) (facts : SemFacts) → none ≡ is_empty facts.held
-        → plain_reply op clock worked np false none ≡ op_reply g op t clock worked np 0 facts
-    plain-op ops.Work plain t clock worked np none facts h = rw (lacks-none g.setup.plugin unreserved) refl
-    plain-op (ops.Lock r) plain t clock worked np none facts h = cc
-    plain-op (ops.Unlock r) plain t clock worked np none facts h = cc
-    plain-op (ops.Sleep n) plain t clock worked np none facts h = rw h refl
-    plain-op ops.NpOn plain t clock worked np none facts h = refl
-    plain-op ops.NpOff plain t clock worked np none facts h = refl
-    plain-op ops.End plain t clock worked np none facts h = rw h refl
+    plain-op : (op : Op) → is_at_sem (acts.Do op) ≡ false → (t clock : ℕ) (worked : Option ℕ) (np lack none : Bool) (budget : ℕ) (facts : SemFacts)
+        → lack ≡ lacks g.setup.plugin budget → none ≡ is_empty facts.held → plain_reply op clock worked np lack none ≡ op_reply g op t clock worked np budget facts
+    plain-op ops.Work plain t clock worked np lack none budget facts l h = rw l refl
+    plain-op (ops.Lock r) plain t clock worked np lack none budget facts l h = cc
+    plain-op (ops.Unlock r) plain t clock worked np lack none budget facts l h = cc
+    plain-op (ops.Sleep n) plain t clock worked np lack none budget facts l h = rw h refl
+    plain-op ops.NpOn plain t clock worked np lack none budget facts l h = refl
+    plain-op ops.NpOff plain t clock worked np lack none budget facts l h = refl
+    plain-op ops.End plain t clock worked np lack none budget facts l h = rw h refl
+
+    -- whether its reservation lacks budget
+    lacks-now : (t : ℕ) → runs q past ≡ Some t → lacks_budget f.resvs.resvs t ≡ lacks g.setup.plugin (budget_by g past (runs q past))
+    lacks-now t r =
+        (resvs t (running g (rules_of g valid) made q t r).member).lacks
+        ∙ sym (lacks-same g t (budget_by g past (runs q past)) past (λ res. rw r refl))
 
     op-read : (op : Op) (t : ℕ) → runs q past ≡ Some t → is_at_sem (acts.Do op) ≡ false → IsOfGroup g q (acts.Do op)
-        → plain_reply op f.kept.clock (cpu_of f.kept q).worked (job_of f.kept t).np false (holds_none t f.sems) ≡ answer g q (acts.Do op) past
+        → plain_reply op f.kept.clock (cpu_of f.kept q).worked (job_of f.kept t).np (lacks_budget f.resvs.resvs t) (holds_none t f.sems) ≡ answer g q (acts.Do op) past
     op-read op t r plain of =
-        plain-op op plain t f.kept.clock (cpu_of f.kept q).worked (job_of f.kept t).np (holds_none t f.sems) (sem_facts g q (acts.Do op) past) (none-now t r ∙ rw r refl)
+        plain-op op plain t f.kept.clock (cpu_of f.kept q).worked (job_of f.kept t).np (lacks_budget f.resvs.resvs t) (holds_none t f.sems) (budget_by g past (runs q past)) (sem_facts g q (acts.Do op) past)
+        (lacks-now t r) (none-now t r ∙ rw r refl)
         ∙ (rw (runs-is ∙ r) at (answer-read (acts.Do op) of))
 
     task-read : (op : Op) (t : ℕ) → runs q past ≡ Some t → IsActOf g (acts.Do op) → IsOfGroup g q (acts.Do op) → task_reply g.setup q t op f ≡ answer g q (acts.Do op) past
     task-read ops.Work t r i of = op-read ops.Work t r refl of
-    task-read (ops.Lock s) t r i of = lock-reply g valid unreserved past made f kept kept_sems q t s r i
-    task-read (ops.Unlock s) t r i of = unlock-reply g valid unreserved past made f kept kept_sems q t s r i
+    task-read (ops.Lock s) t r i of = lock-reply g valid past made f kept kept_sems q t s r i
+    task-read (ops.Unlock s) t r i of = unlock-reply g valid past made f kept kept_sems q t s r i
     task-read (ops.Sleep n) t r i of = op-read (ops.Sleep n) t r refl of
     task-read ops.NpOn t r i of = op-read ops.NpOn t r refl of
     task-read ops.NpOff t r i of = op-read ops.NpOff t r refl of
@@ -220,8 +226,8 @@ module _ (g : Group) (unreserved : is_p_res g.setup.plugin ≡ false) (past : Pa
     -- what the act rests on
     may-do : (op : Op) (t : ℕ) → runs q past ≡ Some t → IsActOf g (acts.Do op) → MayDo g.setup t op f
     may-do ops.Work t r i = tt
-    may-do (ops.Lock s) t r i = may-lock g valid unreserved past made f kept kept_sems q t s r i
-    may-do (ops.Unlock s) t r i = may-unlock g valid unreserved past made f kept kept_sems q t s r i
+    may-do (ops.Lock s) t r i = may-lock g valid past made f kept kept_sems q t s r i
+    may-do (ops.Unlock s) t r i = may-unlock g valid past made f kept kept_sems q t s r i
     may-do (ops.Sleep n) t r i = tt
     may-do ops.NpOn t r i = tt
     may-do ops.NpOff t r i = tt
@@ -241,8 +247,8 @@ module _ (g : Group) (unreserved : is_p_res g.setup.plugin ≡ false) (past : Pa
     op-kept : (op : Op) (t : ℕ) → runs q past ≡ Some t → IsActOf g (acts.Do op) → accepted (answer g q (acts.Do op) past) ≡ true
         → KeepsLocks g (with_act g q (acts.Do op) past) (asked_by g.setup (acts.Do op) (Some t) f)
     op-kept ops.Work t r i a = quiet-kept (acts.Do ops.Work) refl
-    op-kept (ops.Lock s) t r i a = lock-kept g valid unreserved past made f kept kept_sems q t s r i a
-    op-kept (ops.Unlock s) t r i a = unlock-kept g valid unreserved past made f kept kept_sems q t s r i a
+    op-kept (ops.Lock s) t r i a = lock-kept g valid past made f kept kept_sems q t s r i a
+    op-kept (ops.Unlock s) t r i a = unlock-kept g valid past made f kept kept_sems q t s r i a
     op-kept (ops.Sleep n) t r i a = quiet-kept (acts.Do (ops.Sleep n)) refl
     op-kept ops.NpOn t r i a = quiet-kept (acts.Do ops.NpOn) refl
     op-kept ops.NpOff t r i a = quiet-kept (acts.Do ops.NpOff) refl

@@ -2,7 +2,6 @@
 use Rattle.std.proofs.Common.{◌≡◌, ℕ, ◌+◌, ◌<◌, ◌≤◌, length, Bool, true, false, not, ◌&&◌, refl, sym, ap, ◌∙◌, arith}
 use Rattle.std.specs.Prelude.{Option, None, Some, if◌then◌else◌, unwrap_or}
 use Rattle.rt_base.specs.declared.SemNo.{SemNo}
-use Rattle.rt_task.specs.RuleWords.{is_p_res}
 use Rattle.rt_task.specs.Validity.{IsValid}
 use Rattle.rt_task.specs.declared.Act.TheVariants as acts
 use Rattle.rt_task.specs.declared.Op.TheVariants as ops
@@ -78,13 +77,13 @@ granted-accepted : (b : Bool) → accepted (if b then replies.Granted else repli
 granted-accepted true = refl
 granted-accepted false = refl
 
-module _ (g : Group) (valid : IsValid g.setup) (plain : is_p_res g.setup.plugin ≡ false) (past : Past) (made : IsReachable g past) (f : Facts) (kept : IsKept g past f.kept)
+module _ (g : Group) (valid : IsValid g.setup) (past : Past) (made : IsReachable g past) (f : Facts) (kept : IsKept g past f.kept)
     (kept_sems : KeepsGroupSems g past f.sems) (q t : ℕ) (sem : SemNo) (runs_it : runs q past ≡ Some t) (there : has sem.0 (sems g) ≡ true) where
   member : has t (tasks g) ≡ true
   member = (running g (rules_of g valid) made q t runs_it).member
 
   base-is : base_in g.setup f.kept t ≡ base_key g t past
-  base-is = sym (base-read g plain past f.kept kept t member)
+  base-is = sym (base-read g past f.kept kept t member)
 
   -- ---- a Lock
 

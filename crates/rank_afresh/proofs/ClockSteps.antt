@@ -13,6 +13,7 @@ use Rattle.group_facts.specs.Words.{is_ready, release_of}
 use Rattle.group_jobs.specs.GroupJobs.{task_in}
 use Rattle.sem_table.specs.Told.{awaits_of}
 use Rattle.group_sems.specs.GroupSems.{GroupSems}
+use Rattle.group_resvs.specs.GroupResvs.{GroupResvs, is_served}
 use Rattle.rank_afresh.specs.Ranks.{earlier, is_candidate, next_in, timer_in}
 
 -- ---- one moment
@@ -89,10 +90,10 @@ next-least p k (u ∷ ts) t n h e = by_case (t == u) refl h (λ m. next-least p 
     by_case false s m rest = less (timer_in p k u) (rest m)
 
 -- none of these tasks is due by then
-module _ (p : Parts) (k : Kept) (v : GroupSems) (tick next : ℕ) (before : max k.clock tick < next) (t : ℕ)
+module _ (p : Parts) (k : Kept) (v : GroupSems) (w : GroupResvs) (tick next : ℕ) (before : max k.clock tick < next) (t : ℕ)
     (least : (n : ℕ) → timer_in p k t ≡ Some n → next ≤ n) where
-  pub candidate-later : is_candidate p (with_clock tick k) v t ≡ is_candidate p k v t
-  candidate-later = ap (λ b. b && not (is_some (awaits_of v.table t))) (ready-later k.clock (max k.clock tick) next (task_in p.tasks t) (job_of k t) (omega arith) before least)
+  pub candidate-later : is_candidate p (with_clock tick k) v w t ≡ is_candidate p k v w t
+  candidate-later = ap (λ b. b && (not (is_some (awaits_of v.table t)) && is_served w t)) (ready-later k.clock (max k.clock tick) next (task_in p.tasks t) (job_of k t) (omega arith) before least)
 
   pub timer-stays : timer_in p (with_clock tick k) t ≡ timer_in p k t
   timer-stays = timer-later k.clock (max k.clock tick) next (task_in p.tasks t) (job_of k t) (omega arith) before least

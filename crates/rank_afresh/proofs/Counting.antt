@@ -102,7 +102,6 @@ module _ (n m clock : ℕ) (job : JobFacts) (more : n < m) (b : AreBounded n clo
 module _ (n m : ℕ) (p : Parts) (k : Kept) (few : n ≤ m) (can : CanRead n p k) where
   pub read-more : CanRead m p k
   read-more = record {
-    plugin = can.plugin;
     limits = can.limits;
     all = can.all;
     few_cpus = can.few_cpus;
@@ -112,7 +111,6 @@ module _ (n m : ℕ) (p : Parts) (k : Kept) (few : n ≤ m) (can : CanRead n p k
 
   pub read-clock : (tick : ℕ) → tick < TICK_END → CanRead m p (with_clock tick k)
   read-clock tick low = record {
-    plugin = can.plugin;
     limits = can.limits;
     all = can.all;
     few_cpus = can.few_cpus;
@@ -123,7 +121,6 @@ module _ (n m : ℕ) (p : Parts) (k : Kept) (few : n ≤ m) (can : CanRead n p k
   -- the job of one task is new
   pub read-job : (t : ℕ) (job : JobFacts) → 1 ≤ t → t ≤ length p.tasks → AreBounded m k.clock job → CanRead m p (with_job t job k)
   read-job t job low high b = record {
-    plugin = can.plugin;
     limits = can.limits;
     all = can.all ∙ sym (length-set k.jobs (t - 1) job);
     few_cpus = can.few_cpus;
@@ -147,7 +144,6 @@ module _ (n m : ℕ) (p : Parts) (k : Kept) (few : n ≤ m) (can : CanRead n p k
 
   pub read-cpu : (q : ℕ) (cpu : CpuFacts) → CanRead m p (with_cpu q cpu k)
   read-cpu q cpu = record {
-    plugin = can.plugin;
     limits = can.limits;
     all = can.all;
     few_cpus = let c = can.few_cpus in let l = length-set k.cpus q cpu in omega (arith, c, l);
@@ -189,3 +185,15 @@ cpus-acted p q act reply none k = by_case (accepted reply) act (cpu_of k q).runs
     by_case true (acts.Arrive t) o = refl
     by_case true (acts.Do op) None = refl
     by_case true (acts.Do op) (Some t) = length-set k.cpus q _
+
+-- nor does it move the clock
+pub clock-acted : (p : Parts) (q : ℕ) (act : Act) (reply : Reply) (none : Bool) (k : Kept) → (has_acted p.tasks q act reply none k).clock ≡ k.clock
+clock-acted p q act reply none k = by_case (accepted reply) act (cpu_of k q).runs
+  where
+    by_case : (b : Bool) (a : Act) (o : Option ℕ) → (if b then after_act p.tasks q a o reply none k else k).clock ≡ k.clock
+    by_case false a o = refl
+    by_case true acts.Tick o = refl
+    by_case true acts.Irq o = refl
+    by_case true (acts.Arrive t) o = refl
+    by_case true (acts.Do op) None = refl
+    by_case true (acts.Do op) (Some t) = refl

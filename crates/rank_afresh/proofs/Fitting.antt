@@ -4,7 +4,6 @@ use Rattle.std.specs.Prelude.{All, None, if◌then◌else◌, nat_lt}
 use Rattle.std.proofs.lemmas.List.{get_or-map, get_or_default, length-map, length-replicate}
 use Rattle.rt_base.specs.declared.TheConstants.{MOST_STEPS}
 use Rattle.rt_task.specs.declared.Parts.{Parts}
-use Rattle.rt_task.specs.RuleWords.{is_p_res}
 use Rattle.rt_rules.specs.Numbers.{has, numbers_from}
 use Rattle.rt_rules.proofs.LinkLaws.{length-placed}
 use Rattle.rt_rules.proofs.NumberLaws.{length-numbers_from}
@@ -18,6 +17,7 @@ use Rattle.group_facts.specs.Facts.{idle_cpu, no_job}
 use Rattle.group_facts.specs.Kept.{Kept, with_clock}
 use Rattle.group_facts.proofs.KeptMoves.{length-replicated, replicated, task-range}
 use Rattle.group_sems.specs.GroupSems.{GroupSems}
+use Rattle.group_resvs.specs.GroupResvs.{GroupResvs}
 use Rattle.rank_afresh.specs.Clusters.{CanPlace, ClusterFacts, followed, no_facts, relinked, runs_in}
 use Rattle.rank_afresh.specs.Facts.{CanFollow, cluster_at, kept_at_opening, unlinked_cluster, unlinked_clusters}
 use Rattle.rank_afresh.specs.Ranks.{CanRead, HaveBases, timer_in, top_in}
@@ -41,20 +41,20 @@ module _ (g : Group) (c : ℕ) (x : ClusterFacts) where
     next_is = λ t n h e. is.next_is t n h (sym (same t h) ∙ e);
   }
 
-  pub fit-relinked : (k k' : Kept) (v : GroupSems) → IsClusterOf g k c x → IsClusterOf g k' c (relinked g.setup k' v x)
-  fit-relinked k k' v is = record {
+  pub fit-relinked : (k k' : Kept) (v : GroupSems) (w : GroupResvs) → IsClusterOf g k c x → IsClusterOf g k' c (relinked g.setup k' v w x)
+  fit-relinked k k' v w is = record {
     first_is = is.first_is;
     tasks_are = is.tasks_are;
-    links_length = length-placed (top_in (length x.links) g.setup k' v x.tasks) (runs_in k' x.first (length x.links)) x.links (length-runs_in k' x.first (length x.links)) ∙ length-runs_in k' x.first (length x.links) ∙ is.links_length;
+    links_length = length-placed (top_in (length x.links) g.setup k' v w x.tasks) (runs_in k' x.first (length x.links)) x.links (length-runs_in k' x.first (length x.links)) ∙ length-runs_in k' x.first (length x.links) ∙ is.links_length;
     next_is = λ t n h e. next-least g.setup k' x.tasks t n h e;
   }
 
-  pub fit-followed : (k : Kept) (v : GroupSems) (tick : ℕ) → IsClusterOf g k c x → IsClusterOf g (with_clock tick k) c (followed g.setup (with_clock tick k) v x)
-  fit-followed k v tick is = by_case (nat_lt (max k.clock tick) x.next) refl
+  pub fit-followed : (k : Kept) (v : GroupSems) (w : GroupResvs) (tick : ℕ) → IsClusterOf g k c x → IsClusterOf g (with_clock tick k) c (followed g.setup (with_clock tick k) v w x)
+  fit-followed k v w tick is = by_case (nat_lt (max k.clock tick) x.next) refl
     where
-      by_case : (b : Bool) → nat_lt (max k.clock tick) x.next ≡ b → IsClusterOf g (with_clock tick k) c (if b then x else relinked g.setup (with_clock tick k) v x)
-      by_case true e = fit-stays k (with_clock tick k) is (λ t h. timer-stays g.setup k v tick x.next (ltb-true _ _ e) t (λ n f. is.next_is t n h f))
-      by_case false e = fit-relinked k (with_clock tick k) v is
+      by_case : (b : Bool) → nat_lt (max k.clock tick) x.next ≡ b → IsClusterOf g (with_clock tick k) c (if b then x else relinked g.setup (with_clock tick k) v w x)
+      by_case true e = fit-stays k (with_clock tick k) is (λ t h. timer-stays g.setup k v w tick x.next (ltb-true _ _ e) t (λ n f. is.next_is t n h f))
+      by_case false e = fit-relinked k (with_clock tick k) v w is
 
 -- ---- all clusters
 
@@ -80,9 +80,8 @@ no-job-bounded acts clock = record {
   all_come = λ n h. cc;
 }
 
-pub read-opened : (acts : ℕ) (p : Parts) → is_p_res p.plugin ≡ false → IsInLimits p → CanRead acts p (kept_at_opening p)
-read-opened acts p plugin limits = record {
-  plugin = plugin;
+pub read-opened : (acts : ℕ) (p : Parts) → IsInLimits p → CanRead acts p (kept_at_opening p)
+read-opened acts p limits = record {
   limits = limits;
   all = sym (length-replicated (length p.tasks) no_job);
   few_cpus = let n = length-replicated (processor_count p) idle_cpu in let f = limits.few_cpus in omega (arith, n, f);
@@ -96,13 +95,13 @@ fit-unlinked g k c = record { first_is = refl; tasks_are = refl; links_length = 
 pub length-unlinked : (g : Group) → length (unlinked_clusters g) ≡ length g.setup.clusters
 length-unlinked g = length-map (numbers_from 0 (length g.setup.clusters)) (unlinked_cluster g) ∙ length-numbers_from 0 (length g.setup.clusters)
 
-at-unlinked : (g : Group) (k : Kept) (c : ℕ) → c < length g.setup.clusters → IsClusterOf g k c (cluster_at (unlinked_clusters g) c)
+pub at-unlinked : (g : Group) (k : Kept) (c : ℕ) → c < length g.setup.clusters → IsClusterOf g k c (cluster_at (unlinked_clusters g) c)
 at-unlinked g k c inside = rw (at-mapped (unlinked_cluster g) (length g.setup.clusters) c no_facts inside) (fit-unlinked g k c)
 
-pub follow-opened : (g : Group) (v : GroupSems) → is_p_res g.setup.plugin ≡ false → IsInLimits g.setup → HaveBases g.setup v
-    → CanFollow g.setup (record { kept = kept_at_opening g.setup; sems = v; clusters = unlinked_clusters g })
-follow-opened g v plugin limits keys = record {
-  read = read-opened MOST_STEPS g.setup plugin limits;
+pub follow-opened : (g : Group) (v : GroupSems) (w : GroupResvs) → IsInLimits g.setup → HaveBases g.setup v
+    → CanFollow g.setup (record { kept = kept_at_opening g.setup; sems = v; resvs = w; clusters = unlinked_clusters g })
+follow-opened g v w limits keys = record {
+  read = read-opened MOST_STEPS g.setup limits;
   keys = keys;
   places = places-of g (kept_at_opening g.setup) (unlinked_clusters g) (length-unlinked g) (length-replicated (processor_count g.setup) idle_cpu) (at-unlinked g (kept_at_opening g.setup));
 }

@@ -11,6 +11,10 @@ pub mod Moving
 pub mod ModelWords
 pub mod ClockSteps
 pub mod Fitting
+pub mod Placed
+pub mod ToldClients
+pub mod Ending
+pub mod Charging
 pub mod Standings
 pub mod Touching
 pub mod Telling
@@ -18,3 +22,4 @@ pub mod AtSems
 pub mod Answering
 pub mod StandingActs
 pub mod Looking
+pub mod Asking

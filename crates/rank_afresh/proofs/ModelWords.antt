@@ -1,4 +1,4 @@
--- The top of a cluster, what runs there and its links, read off what is kept of a group without reservations.
+-- The top of a cluster, what runs there and its links, read off what is kept of a group.
 use Rattle.std.proofs.Common.{◌≡◌, ℕ, Bool, true, false, ◌&&◌, ◌||◌, List, [], ◌∷◌, map, eqb-true, refl, sym, ap, ◌∙◌}
 use Rattle.std.specs.Prelude.{flat_map, is_none, is_some, not, ◌==◌, None, Option, Some}
 use Rattle.rt_task.specs.declared.PluginKind.{PluginKind}
@@ -13,15 +13,17 @@ use Rattle.rt_model.specs.BaseKeys.{base_key}
 use Rattle.rt_model.specs.EffectiveKeys.{effective_key}
 use Rattle.rt_model.specs.Holders.{awaits}
 use Rattle.rt_model.specs.Reachable.{IsReachable}
+use Rattle.rt_base.specs.declared.ResvNo.{ResvNo}
+use Rattle.rt_model.specs.Answers.{no_budget}
 use Rattle.rt_model.specs.Group.{Group, clusters, cpus, first_cpu, group_processors, processors, task, tasks, tasks_of}
 use Rattle.rt_model.specs.Links.{runs_of}
 use Rattle.rt_model.specs.Past.{Past}
 use Rattle.rt_model.specs.Runs.{runs}
 use Rattle.rt_model.specs.Tops.{eligible, is_served, ranking, top}
 use Rattle.rt_laws.proofs.GroupLaws.{tasks_of-home}
-use Rattle.group_facts.specs.Facts.{CpuFacts, JobFacts}
+use Rattle.group_facts.specs.Facts.{CpuFacts}
 use Rattle.group_facts.specs.Kept.{IsKept, Kept, cpu_of, job_of}
-use Rattle.group_facts.specs.Words.{AreRead, is_ready, key_of}
+use Rattle.group_facts.specs.Words.{AreRead, is_ready}
 use Rattle.group_jobs.specs.GroupJobs.{task_in}
 use Rattle.group_facts.proofs.KeptMoves.{task-range, words_of_kept}
 use Rattle.sem_table.specs.Told.{awaits_of}
@@ -29,10 +31,20 @@ use Rattle.group_sems.specs.GroupSems.{GroupSems}
 use Rattle.group_sem_laws.specs.Kept.{KeepsBases, KeepsGroupSems, KeepsLocks}
 use Rattle.group_sem_laws.proofs.Keys.{key_is_read}
 use Rattle.group_sem_laws.proofs.Reading.{holding_is_read}
+use Rattle.resv_laws.specs.Kept.{ready_release}
+use Rattle.group_resvs.specs.GroupResvs as group_resvs
+use Rattle.group_resvs.specs.GroupResvs.{GroupResvs, is_served_by, lacks_budget_of}
+use Rattle.group_resvs.specs.Kept.{AreNone, KeepsResvs}
+use Rattle.group_resvs.specs.Laws.{IsRead}
+use Rattle.group_resvs.proofs.KeptLaws.{resvs_are_read}
+use Rattle.rank_afresh.specs.Facts.{ready_now}
+use Rattle.waiting_list.proofs.Reading.{key_of-any}
 use Rattle.rank_afresh.specs.Clusters.{runs_in}
 use Rattle.rank_afresh.specs.Ranks.{AreBased, base_in, is_candidate, key_in, ranking_in, top_in}
 
-served : (g : Group) (x : PluginKind) (t : ℕ) (past : Past) → is_p_res x ≡ false → is_served g x t past ≡ true
+-- ---- reservations
+
+served : (g : Group) (x : PluginKind) (t : ℕ) (past : Past) → is_p_res x ≡ false → true ≡ is_served g x t past
 unfolding is_served
 served g plugins.GsnEdf t past h = refl
 served g plugins.CEdf t past h = refl
@@ -40,13 +52,32 @@ served g plugins.PsnEdf t past h = refl
 served g plugins.PFp t past h = refl
 served g plugins.PRes t past h = cc
 
-key-by_setup : (g : Group) (x : PluginKind) (t : ℕ) (job : JobFacts) → is_p_res x ≡ false → key_of g x t job ≡ key_of (record { setup = g.setup; number = 0 }) x t job
-unfolding task
-key-by_setup g plugins.GsnEdf t job h = refl
-key-by_setup g plugins.CEdf t job h = refl
-key-by_setup g plugins.PsnEdf t job h = refl
-key-by_setup g plugins.PFp t job h = refl
-key-by_setup g plugins.PRes t job h = cc
+budgeted : (g : Group) (x : PluginKind) (t : ℕ) (past : Past) → is_p_res x ≡ false → false ≡ no_budget g x t past
+unfolding no_budget
+budgeted g plugins.GsnEdf t past h = refl
+budgeted g plugins.CEdf t past h = refl
+budgeted g plugins.PsnEdf t past h = refl
+budgeted g plugins.PFp t past h = refl
+budgeted g plugins.PRes t past h = cc
+
+-- what is read off the reservations of each task of the group
+abbrev pub AreResvsRead : Group → Past → GroupResvs → Type 0
+AreResvsRead g past w = (t : ℕ) → has t (tasks g) ≡ true → IsRead g t past w
+
+none-read : (g : Group) (past : Past) (w : GroupResvs) → is_p_res g.setup.plugin ≡ false → AreNone w.resvs → AreResvsRead g past w
+none-read g past w plain none t there = record {
+  client = ap is_some (none.no_client t) ∙ sym plain;
+  served = ap (λ (o : Option ResvNo). is_served_by o w.serves t) (none.no_client t) ∙ served g g.setup.plugin t past plain;
+  lacks = ap (λ (o : Option ResvNo). lacks_budget_of o w.resvs) (none.no_client t) ∙ budgeted g g.setup.plugin t past plain;
+}
+
+pub resvs-read : (g : Group) (past : Past) (w : GroupResvs) → IsValid g.setup → (is_p_res g.setup.plugin ≡ true → KeepsResvs g past w)
+    → (is_p_res g.setup.plugin ≡ false → AreNone w.resvs) → AreResvsRead g past w
+resvs-read g past w valid keeps none = by_plugin (is_p_res g.setup.plugin) refl
+  where
+    by_plugin : (b : Bool) → is_p_res g.setup.plugin ≡ b → AreResvsRead g past w
+    by_plugin true e = λ t there. resvs_are_read g t past w valid (keeps e) there
+    by_plugin false e = none-read g past w e (none e)
 
 -- ---- processors of the group
 
@@ -74,12 +105,12 @@ none-not : {A : Type 0} (o : Option A) → is_none o ≡ not (is_some o)
 none-not None = refl
 none-not (Some x) = refl
 
-module _ (g : Group) (plain : is_p_res g.setup.plugin ≡ false) (past : Past) (k : Kept) (kept : IsKept g past k) where
+module _ (g : Group) (past : Past) (k : Kept) (kept : IsKept g past k) where
   -- the base key of a task's current job
   pub base-read : (t : ℕ) → has t (tasks g) ≡ true → base_key g t past ≡ base_in g.setup k t
   base-read t there =
       let words : AreRead g t past k.clock (job_of k t) = words_of_kept g past k kept t there in
-      words.key_is ∙ key-by_setup g g.setup.plugin t (job_of k t) plain
+      words.key_is ∙ sym (key_of-any g g.setup.plugin t (job_of k t))
 
   pub keeps-bases : (v : GroupSems) → AreBased g.setup k v → KeepsBases g past v.waits.bases
   keeps-bases v based = record {
@@ -87,12 +118,20 @@ module _ (g : Group) (plain : is_p_res g.setup.plugin ≡ false) (past : Past) (
     are = λ t there. let r = task-range g t there in based.are t r.0 r.1 ∙ ap Some (sym (base-read t there));
   }
 
-  -- whether a task is eligible, but for what it waits for
-  pub ready-read : (t : ℕ) → has t (tasks g) ≡ true → eligible g t past ≡ is_ready k.clock (task_in g.setup.tasks t) (job_of k t) && is_none (awaits g t past)
+  -- whether a task is eligible, but for what it waits for, in a group without reservations
+  pub ready-read : is_p_res g.setup.plugin ≡ false → (t : ℕ) → has t (tasks g) ≡ true
+      → eligible g t past ≡ is_ready k.clock (task_in g.setup.tasks t) (job_of k t) && is_none (awaits g t past)
   unfolding task
-  ready-read t there =
+  ready-read plain t there =
       let words : AreRead g t past k.clock (job_of k t) = words_of_kept g past k kept t there in
-      words.eligible_is ∙ rw (served g g.setup.plugin t past plain, and_true (is_none (awaits g t past))) refl
+      words.eligible_is ∙ rw (sym (served g g.setup.plugin t past plain), and_true (is_none (awaits g t past))) refl
+
+  -- the release of its job, where that is ready
+  pub release-read : (t : ℕ) → has t (tasks g) ≡ true → ready_now g.setup.tasks k t ≡ ready_release g t past
+  unfolding task
+  release-read t there =
+      let words : AreRead g t past k.clock (job_of k t) = words_of_kept g past k kept t there in
+      rw (words.ready_is, words.release_is) refl
 
   -- of locks that are kept, with base keys that were told
   pub keeps-sems : (v w : GroupSems) → KeepsLocks g past w → v.table ≡ w.table → v.ceilings ≡ w.ceilings → v.waits.nexts ≡ w.waits.nexts → v.waits.boosts ≡ w.waits.boosts
@@ -117,20 +156,23 @@ module _ (g : Group) (plain : is_p_res g.setup.plugin ≡ false) (past : Past) (
       in-there : (q : ℕ) → has q (numbers_from (first_cpu g c) (cpus g c)) ≡ true → has q (group_processors g) ≡ true
       in-there q h = processor-there g c q there h
 
-  module _ (valid : IsValid g.setup) (made : IsReachable g past) (v : GroupSems) (sems : KeepsGroupSems g past v) where
-    eligible-read : (t : ℕ) → has t (tasks g) ≡ true → eligible g t past ≡ is_candidate g.setup k v t
+  module _ (valid : IsValid g.setup) (made : IsReachable g past) (v : GroupSems) (sems : KeepsGroupSems g past v) (w : GroupResvs) (resvs : AreResvsRead g past w) where
+    eligible-read : (t : ℕ) → has t (tasks g) ≡ true → eligible g t past ≡ is_candidate g.setup k v w t
+    unfolding task
     eligible-read t there =
         let waits : is_some (awaits_of v.table t) ≡ is_some (awaits g t past) = (holding_is_read g past valid made v t there sems.locks).1 in
-        ready-read t there ∙ rw (none-not (awaits g t past), waits) refl
+        let words : AreRead g t past k.clock (job_of k t) = words_of_kept g past k kept t there in
+        let served_is : group_resvs.is_served w t ≡ is_served g g.setup.plugin t past = (resvs t there).served in
+        words.eligible_is ∙ rw (none-not (awaits g t past), waits, served_is) refl
 
     key-read : (t : ℕ) → has t (tasks g) ≡ true → effective_key g t past ≡ key_in v t
     key-read t there = sym (key_is_read g past valid made v.waits t there (record { bases_are = sems.bases; nexts_are = sems.locks.nexts_are; boosts_are = sems.locks.boosts_are }))
 
-    ranking-read : (c : ℕ) → ranking g c past ≡ ranking_in g.setup k v (tasks_of g c)
+    ranking-read : (c : ℕ) → ranking g c past ≡ ranking_in g.setup k v w (tasks_of g c)
     unfolding ranking
-    ranking-read c = ranked_by-same (λ t. effective_key g t past) (key_in v) (λ t. eligible g t past) (is_candidate g.setup k v) (tasks_of g c)
+    ranking-read c = ranked_by-same (λ t. effective_key g t past) (key_in v) (λ t. eligible g t past) (is_candidate g.setup k v w) (tasks_of g c)
         (λ t h. eligible-read t (tasks_of-home g c t h).0) (λ t h e. key-read t (tasks_of-home g c t h).0)
 
-    pub top-read : (c : ℕ) → top g c past ≡ top_in (cpus g c) g.setup k v (tasks_of g c)
+    pub top-read : (c : ℕ) → top g c past ≡ top_in (cpus g c) g.setup k v w (tasks_of g c)
     unfolding top
     top-read c = rw (ranking-read c) refl

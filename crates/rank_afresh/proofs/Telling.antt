@@ -8,7 +8,6 @@ use Rattle.rt_task.specs.declared.Parts.{Parts}
 use Rattle.rt_history.specs.declared.Reply.{Reply}
 use Rattle.rt_model.specs.Group.{Group}
 use Rattle.rt_model.specs.Past.{Past, accepted}
-use Rattle.rt_task.specs.RuleWords.{is_p_res}
 use Rattle.group_facts.specs.Facts.{JobFacts}
 use Rattle.group_facts.specs.Kept.{IsKept, Kept, after_act, cpu_of, with_job}
 use Rattle.group_facts.specs.Words.{key_of}
@@ -45,7 +44,7 @@ based-after p q f based act reply plain low = by_case (none_after p q act reply 
     by_case none false = based
 
 -- the semaphores and keys are kept then
-pub sems-retold : (g : Group) (plain : is_p_res g.setup.plugin ≡ false) (past : Past) (k : Kept) → IsKept g past k → (o : Option ℕ) (w : GroupSems) → KeepsLocks g past w
+pub sems-retold : (g : Group) (past : Past) (k : Kept) → IsKept g past k → (o : Option ℕ) (w : GroupSems) → KeepsLocks g past w
     → AreBased g.setup k (retold g.setup k o w) → KeepsGroupSems g past (retold g.setup k o w)
-sems-retold g plain past k kept None w locks based = keeps-sems g plain past k kept w w locks refl refl refl refl based
-sems-retold g plain past k kept (Some t) w locks based = keeps-sems g plain past k kept (retold g.setup k (Some t) w) w locks refl refl refl refl based
+sems-retold g past k kept None w locks based = keeps-sems g past k kept w w locks refl refl refl refl based
+sems-retold g past k kept (Some t) w locks based = keeps-sems g past k kept (retold g.setup k (Some t) w) w locks refl refl refl refl based

@@ -6,6 +6,7 @@ use Rattle.rt_rules.specs.Numbers.{numbers_from}
 use Rattle.rt_rules.specs.Placing.{at_place, placed}
 use Rattle.group_facts.specs.Kept.{Kept, cpu_of}
 use Rattle.group_sems.specs.GroupSems.{GroupSems}
+use Rattle.group_resvs.specs.GroupResvs.{GroupResvs}
 use Rattle.rank_afresh.specs.Ranks.{AreTasks, next_in, top_in}
 
 -- the first processor, the tasks, the link of each processor, and a moment before which no task's readiness changes
@@ -36,15 +37,15 @@ abbrev pub runs_in : Kept → ℕ → ℕ → List (Option ℕ)
 runs_in k first n = map (λ q. (cpu_of k q).runs) (numbers_from first n)
 
 -- the cluster, ranked and placed afresh
-abbrev pub relinked : Parts → Kept → GroupSems → ClusterFacts → ClusterFacts
-relinked p k v c = record c {
-  links = placed (top_in (length c.links) p k v c.tasks) (runs_in k c.first (length c.links)) c.links;
+abbrev pub relinked : Parts → Kept → GroupSems → GroupResvs → ClusterFacts → ClusterFacts
+relinked p k v w c = record c {
+  links = placed (top_in (length c.links) p k v w c.tasks) (runs_in k c.first (length c.links)) c.links;
   next = next_in p k c.tasks;
 }
 
 -- after a move of the clock: it is placed afresh where one of its tasks may be due
-abbrev pub followed : Parts → Kept → GroupSems → ClusterFacts → ClusterFacts
-followed p k v c = if nat_lt k.clock c.next then c else relinked p k v c
+abbrev pub followed : Parts → Kept → GroupSems → GroupResvs → ClusterFacts → ClusterFacts
+followed p k v w c = if nat_lt k.clock c.next then c else relinked p k v w c
 
 -- it can be placed: its tasks and processors are of the set
 pub record CanPlace (p : Parts) (k : Kept) (c : ClusterFacts) : Type 0 where

@@ -1,6 +1,6 @@
 -- The plain facts of a group, and what each move makes of them.
 use Rattle.std.specs.Prelude.{◌≡◌, ℕ, ◌+◌, ◌-◌, ◌<◌, ◌≤◌, Bool, true, false, ◌||◌, ◌==◌, List, All, length, map, Option, None, Some}
-use Rattle.std.specs.Prelude.{if◌then◌else◌, slice_index_or, slice_set, unwrap_or, ⊤}
+use Rattle.std.specs.Prelude.{[], flat_map, if◌then◌else◌, replicate, slice_index_or, slice_set, unwrap_or, ⊤}
 use Rattle.rt_base.specs.declared.TaskNo.{TaskNo}
 use Rattle.rt_base.specs.declared.TheConstants.{MOST_STEPS, TICK_END}
 use Rattle.rt_task.specs.declared.Act.{Act}
@@ -8,6 +8,8 @@ use Rattle.rt_task.specs.declared.Act.TheVariants as acts
 use Rattle.rt_task.specs.declared.Op.{Op}
 use Rattle.rt_task.specs.declared.Op.TheVariants as ops
 use Rattle.rt_task.specs.declared.Parts.{Parts}
+use Rattle.rt_task.specs.declared.Task.{Task}
+use Rattle.rt_task.specs.RuleWords.{is_p_res}
 use Rattle.rt_history.specs.declared.Reply.{Reply}
 use Rattle.rt_history.specs.declared.Reply.TheVariants as replies
 use Rattle.rt_rules.specs.Numbers.{numbers_from}
@@ -19,7 +21,7 @@ use Rattle.group_facts.specs.Kept.{Kept, cpu_of, has_acted, has_operated, job_of
 use Rattle.group_facts.specs.Moves.{is_end}
 use Rattle.group_facts.specs.Replies.{arrival_reply, irq_reply, np_of}
 use Rattle.group_facts.specs.Timers.{is_sleep}
-use Rattle.group_facts.specs.Words.{is_late}
+use Rattle.group_facts.specs.Words.{is_late, is_ready, release_of}
 use Rattle.group_jobs.specs.GroupJobs.{RunsTask, plain_reply, task_in}
 use Rattle.sem_table.specs.Asked.{is_granted}
 use Rattle.sem_table.specs.Opened.{IsOpened}
@@ -29,14 +31,18 @@ use Rattle.group_sems.specs.GroupSems.{GroupSems}
 use Rattle.group_sems.specs.Locking.{CanLock, CanUnlock, after_lock, after_unlock}
 use Rattle.group_sems.specs.Refusing.{AreSemsOf, lock_refusal, unlock_refusal}
 use Rattle.group_sem_laws.specs.Keeping.{rebased, untold}
+use Rattle.resv_core.specs.Served.{charged, opened as opened_resvs}
+use Rattle.resv_laws.specs.Serving.{clock_to, for_task, told_each}
+use Rattle.group_resvs.specs.GroupResvs.{GroupResvs, IsSettled, lacks_budget}
 use Rattle.rank_afresh.specs.Clusters.{CanPlace, ClusterFacts, HasCpu, followed, link_at, no_facts, relinked, unlinked}
 use Rattle.rank_afresh.specs.Ranks.{CanRead, HaveBases, base_in}
 
--- what is kept of jobs and processors, and of the semaphores and keys; and the clusters of the set, of which those of other
--- groups have no tasks
+-- what is kept of jobs and processors, of the semaphores and keys, and of the reservations; and the clusters of the set, of which
+-- those of other groups have no tasks
 pub record Facts : Type 0 where
   pub kept : Kept
   pub sems : GroupSems
+  pub resvs : GroupResvs
   pub clusters : List ClusterFacts
 
 -- with room for how many more arrivals
@@ -59,10 +65,34 @@ all_based p k n v = record v { waits = record v.waits { bases = rebased (base_in
 
 -- every cluster is placed afresh, or follows the clock
 abbrev pub all_placed : Parts → Facts → Facts
-all_placed p f = record f { clusters = map (relinked p f.kept f.sems) f.clusters }
+all_placed p f = record f { clusters = map (relinked p f.kept f.sems f.resvs) f.clusters }
 
 abbrev pub all_followed : Parts → Facts → Facts
-all_followed p f = record f { clusters = map (followed p f.kept f.sems) f.clusters }
+all_followed p f = record f { clusters = map (followed p f.kept f.sems f.resvs) f.clusters }
+
+-- ---- the end of a move of a group with reservations, and that of the opening
+
+-- the release of a task's job, where that is ready
+abbrev pub ready_now : List Task → Kept → ℕ → Option ℕ
+ready_now rows k t = if is_ready k.clock (task_in rows t) (job_of k t) then Some (unwrap_or (release_of (task_in rows t) (job_of k t)) 0) else None
+
+-- all tasks of the group
+abbrev pub all_tasks : List ClusterFacts → List ℕ
+all_tasks cs = flat_map (λ (c : ClusterFacts). c.tasks) cs
+
+-- the reservations are told which of their clients are ready
+abbrev pub all_told : Parts → Facts → GroupResvs
+all_told p f = record f.resvs { resvs = told_each (ready_now p.tasks f.kept) (all_tasks f.clusters) f.resvs.resvs }
+
+-- they are settled then, and every cluster is placed afresh
+pub record IsEnded (p : Parts) (old new : Facts) : Type 0 where
+  pub settled : IsSettled (all_told p old) new.resvs
+  pub facts_are : new ≡ all_placed p (record old { resvs = new.resvs })
+
+-- no other move has an end of its own
+pub record HasEnded (p : Parts) (old new : Facts) : Type 0 where
+  pub reserved : is_p_res p.plugin ≡ true → IsEnded p old new
+  pub unreserved : is_p_res p.plugin ≡ false → new ≡ old
 
 -- the clusters of the set before they are placed, with the tasks of the group
 abbrev pub unlinked_cluster : Group → ℕ → ClusterFacts
@@ -74,13 +104,17 @@ unlinked_clusters g = map (unlinked_cluster g) (numbers_from 0 (length g.setup.c
 abbrev pub kept_at_opening : Parts → Kept
 kept_at_opening p = opened (length p.tasks) (processor_count p)
 
--- with these semaphores, of which nothing was told
+abbrev pub resvs_at_opening : Group → GroupResvs
+resvs_at_opening g = record { resvs = opened_resvs g.setup g.number; serves = replicate (length g.setup.resvs) None; changed = [] }
+
+-- with these semaphores, of which nothing was told; before the clients of the reservations are told and the clusters placed
 abbrev pub at_opening : Group → GroupSems → Facts
-at_opening g v = all_placed g.setup (record {
+at_opening g v = record {
   kept = kept_at_opening g.setup;
   sems = all_based g.setup (kept_at_opening g.setup) (length g.setup.tasks) v;
+  resvs = resvs_at_opening g;
   clusters = unlinked_clusters g;
-})
+}
 
 pub record IsUntold (g : Group) (v : GroupSems) : Type 0 where
   pub table : IsOpened g v.table
@@ -90,10 +124,16 @@ pub record IsUntold (g : Group) (v : GroupSems) : Type 0 where
 pub record AreOpened (g : Group) (room : ℕ) (f : WithRoom) : Type 0 where
   pub sems : GroupSems
   pub untold : IsUntold g sems
-  pub facts_are : f ≡ record { facts = at_opening g sems; room = room }
+  pub ended : IsEnded g.setup (at_opening g sems) f.facts
+  pub room_is : f.room ≡ room
 
+-- with reservations, the clusters are placed as the move ends
 abbrev pub clocked : Parts → ℕ → Facts → Facts
-clocked p tick f = all_followed p (record f { kept = with_clock tick f.kept })
+clocked p tick f =
+    let k = with_clock tick f.kept in
+    if is_p_res p.plugin
+    then record f { kept = k; resvs = record f.resvs { resvs = clock_to k.clock f.resvs.resvs } }
+    else all_followed p (record f { kept = k })
 
 -- ---- what an act is answered
 
@@ -119,7 +159,8 @@ holds_none t v = held_of v.table t == 0
 abbrev pub task_reply : Parts → ℕ → ℕ → Op → Facts → Reply
 task_reply p q t (ops.Lock s) f = unwrap_or (lock_refused p t s.0 f) (asked_reply p t s.0 f)
 task_reply p q t (ops.Unlock s) f = unwrap_or (unlock_refusal p f.sems.table t s.0) replies.Done
-task_reply p q t op f = plain_reply op f.kept.clock (cpu_of f.kept q).worked (job_of f.kept t).np false (holds_none t f.sems)
+task_reply p q t op f =
+    plain_reply op f.kept.clock (cpu_of f.kept q).worked (job_of f.kept t).np (lacks_budget f.resvs.resvs t) (holds_none t f.sems)
 
 abbrev pub op_reply_in : Parts → ℕ → Op → Option ℕ → Facts → Reply
 op_reply_in p q op None f = replies.Idle
@@ -170,16 +211,29 @@ abbrev pub retold : Parts → Kept → Option ℕ → GroupSems → GroupSems
 retold p k None v = v
 retold p k (Some t) v = based p k t v
 
+-- a Work of the task is charged to its reservation, if it has one
+abbrev pub charged_for : ℕ → Op → GroupResvs → GroupResvs
+charged_for t ops.Work w = record w { resvs = for_task t charged w.resvs }
+charged_for t op w = w
+
+abbrev pub charged_by : Act → Option ℕ → GroupResvs → GroupResvs
+charged_by (acts.Do op) (Some t) w = charged_for t op w
+charged_by _ o w = w
+
 -- the clusters that are placed afresh
 pub data Placing : Type 0 where
   NoCluster : Placing
   OneCluster : ℕ → Placing
   AllClusters : Placing
 
-abbrev pub placed_afresh : Parts → Kept → GroupSems → Placing → List ClusterFacts → List ClusterFacts
-placed_afresh p k v NoCluster cs = cs
-placed_afresh p k v (OneCluster c) cs = slice_set cs c (relinked p k v (cluster_at cs c))
-placed_afresh p k v AllClusters cs = map (relinked p k v) cs
+abbrev pub placed_afresh : Parts → Kept → GroupSems → GroupResvs → Placing → List ClusterFacts → List ClusterFacts
+placed_afresh p k v w NoCluster cs = cs
+placed_afresh p k v w (OneCluster c) cs = slice_set cs c (relinked p k v w (cluster_at cs c))
+placed_afresh p k v w AllClusters cs = map (relinked p k v w) cs
+
+-- with reservations, they are placed as the move ends
+abbrev pub unless_reserved : Parts → Placing → Placing
+unless_reserved p which = if is_p_res p.plugin then NoCluster else which
 
 abbrev pub placing_after : Parts → ℕ → Op → Bool → Placing
 placing_after p q op ends =
@@ -197,7 +251,8 @@ counted p q t op reply f =
     let none = holds_none t f.sems in
     let k = has_operated p.tasks q t op reply none f.kept in
     let v = based p k t f.sems in
-    record { kept = k; sems = v; clusters = placed_afresh p k v (placing_after p q op (ends_in p op t f.kept none)) f.clusters }
+    let which = unless_reserved p (placing_after p q op (ends_in p op t f.kept none)) in
+    record f { kept = k; sems = v; clusters = placed_afresh p k v f.resvs which f.clusters }
 
 -- ---- an act of a processor, answered so
 
@@ -215,6 +270,9 @@ sems_after p q act reply f =
     let told = if accepted reply then told_by act (cpu_of f.kept q).runs else None in
     retold p (kept_after p q act reply f) told (asked p q act reply f)
 
+abbrev pub resvs_after : ℕ → Act → Reply → Facts → GroupResvs
+resvs_after q act reply f = if accepted reply then charged_by act (cpu_of f.kept q).runs f.resvs else f.resvs
+
 abbrev pub placing : Parts → ℕ → Act → Reply → Facts → Placing
 placing p q act reply f =
     if accepted reply then placing_by p q act (cpu_of f.kept q).runs (none_after p q act reply f) f.kept else NoCluster
@@ -223,7 +281,8 @@ abbrev pub acted : Parts → ℕ → Act → Reply → Facts → Facts
 acted p q act reply f =
     let k = kept_after p q act reply f in
     let v = sems_after p q act reply f in
-    record { kept = k; sems = v; clusters = placed_afresh p k v (placing p q act reply f) f.clusters }
+    let w = resvs_after q act reply f in
+    record { kept = k; sems = v; resvs = w; clusters = placed_afresh p k v w (unless_reserved p (placing p q act reply f)) f.clusters }
 
 abbrev pub ended_now : Parts → ℕ → Act → Reply → Facts → Option (TaskNo × Bool)
 ended_now p q act reply f =

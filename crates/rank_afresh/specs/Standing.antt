@@ -1,32 +1,23 @@
 -- One group at a past, as contracts see it.
-use Rattle.std.specs.Prelude.{◌≡◌, ℕ, ◌+◌, ◌-◌, ◌<◌, ◌≤◌, Bool, true, nat_lt, [], ◌∷◌, length, Option, None, Some, option_map}
+use Rattle.std.specs.Prelude.{◌≡◌, ℕ, ◌+◌, ◌-◌, ◌<◌, ◌≤◌, Bool, true, false, length, Option, Some}
 use Rattle.rt_base.specs.declared.TaskNo.{TaskNo}
 use Rattle.rt_base.specs.declared.TheConstants.{MOST_STEPS}
+use Rattle.rt_task.specs.RuleWords.{is_p_res}
 use Rattle.rt_task.specs.Validity.{IsValid}
 use Rattle.rt_task.specs.declared.Parts.{Parts}
 use Rattle.rt_rules.specs.Numbers.{has}
 use Rattle.rt_model.specs.Group.{Group, clusters, cpus, first_cpu, tasks_of}
 use Rattle.rt_model.specs.Links.{links}
-use Rattle.rt_model.specs.Past.{Past, PastAct, Clock, Acted, entries_in, now}
+use Rattle.rt_model.specs.Past.{Past, entries_in}
 use Rattle.rt_model.specs.Reachable.{IsReachable}
-use Rattle.rt_model.specs.Releases.{deadline}
 use Rattle.rt_plays.specs.Room.{processor_count}
-use Rattle.rt_groups.specs.Built.{is_built}
+use Rattle.rt_groups.specs.Endings.{ended_last}
 use Rattle.group_facts.specs.Kept.{IsKept, Kept}
 use Rattle.group_sem_laws.specs.Kept.{KeepsGroupSems}
+use Rattle.group_resvs.specs.Kept.{AreNone, KeepsResvs}
 use Rattle.rank_afresh.specs.Clusters.{ClusterFacts}
 use Rattle.rank_afresh.specs.Facts.{Facts, cluster_at}
 use Rattle.rank_afresh.specs.Ranks.{AreBased, CanRead, timer_in}
-
--- the task whose job an act ended, and whether the clock was past that job's deadline
-abbrev pub ended_in : Group → PastAct → Past → Option (TaskNo × Bool)
-ended_in g d past = option_map (λ t. (record { 0 = t }, nat_lt (deadline g t past) (now past))) d.ended
-
--- of the last move; a move of the clock ends no job
-abbrev pub ended_last : Group → Past → Option (TaskNo × Bool)
-ended_last g [] = None
-ended_last g (Clock tick ∷ past) = None
-ended_last g (Acted d ∷ past) = ended_in g d past
 
 -- a group of a setup, its facts, room for how many more acts, and the task whose job the last move ended, with whether it was late
 pub record Standing : Type 0 where
@@ -45,6 +36,7 @@ pub record IsAt (v : Standing) (past : Past) : Type 0 where
   pub few : entries_in past + v.spare ≤ MOST_STEPS
   pub kept : IsKept (group_of v) past v.facts.kept
   pub sems_are : KeepsGroupSems (group_of v) past v.facts.sems
+  pub resvs_are : is_p_res v.setup.plugin ≡ true → KeepsResvs (group_of v) past v.facts.resvs
   pub links_are : (c : ℕ) → has c (clusters (group_of v)) ≡ true → (cluster_at v.facts.clusters c).links ≡ links (group_of v) c past
   pub ended_is : v.ended ≡ ended_last (group_of v) past
 
@@ -60,10 +52,11 @@ pub record IsClusterOf (g : Group) (k : Kept) (c : ℕ) (x : ClusterFacts) : Typ
   pub links_length : length x.links ≡ cpus g c
   pub next_is : (t n : ℕ) → has t x.tasks ≡ true → timer_in g.setup k t ≡ Some n → x.next ≤ n
 
--- what holds at all times: a group that is played, of which nothing is counted more often than there were acts
+-- what holds at all times: nothing is counted more often than there were acts
 pub record IsFit (g : Group) (f : Facts) (room spare : ℕ) : Type 0 where
   pub valid : IsValid g.setup
-  pub built : is_built g.setup ≡ true
+  pub unreserved : is_p_res g.setup.plugin ≡ false → AreNone f.resvs.resvs
+  pub resvs_clock : f.resvs.resvs.clock ≤ f.kept.clock
   pub limit : spare ≤ MOST_STEPS
   pub room_left : spare ≤ room
   pub read : CanRead (MOST_STEPS - spare) g.setup f.kept

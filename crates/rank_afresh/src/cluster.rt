@@ -9,6 +9,7 @@ use crate::placing;
 use crate::ranks::{Candidate, rank, write_tasks};
 use crate::room::{no_tasks, put, with_room};
 use group_jobs::GroupJobs;
+use group_resvs::GroupResvs;
 use group_sems::GroupSems;
 use rt_base::{CpuNo, NoMemory, TaskNo};
 use rt_task::Parts;
@@ -91,18 +92,32 @@ impl RankedCluster {
         self.links[(cpu.0 - self.first) as usize]
     }
 
+    /// Its tasks.
+    pub(crate) fn tasks(&self) -> &[TaskNo]
+        ensures { numbers result.now ≡ self.now.tasks }
+    {
+        self.tasks.as_slice()
+    }
+
     /// Ranks the tasks afresh, and links the first of them.
-    pub(crate) fn place(&mut self, parts: &Parts, jobs: &GroupJobs, sems: &GroupSems)
+    pub(crate) fn place(
+        &mut self,
+        parts: &Parts,
+        jobs: &GroupJobs,
+        sems: &GroupSems,
+        resvs: &GroupResvs,
+    )
         requires read { CanRead MOST_STEPS parts.now jobs.now.kept }
         requires keys { HaveBases parts.now sems.now }
         requires place { CanPlace parts.now jobs.now.kept self.old }
-        ensures { self.new ≡ relinked parts.now jobs.now.kept sems.now self.old }
+        ensures { self.new ≡ relinked parts.now jobs.now.kept sems.now resvs.now self.old }
     {
         let cpus = self.links.len();
         self.next = rank(
             parts,
             jobs,
             sems,
+            resvs,
             self.tasks.as_slice(),
             cpus,
             &mut self.best,
@@ -117,14 +132,20 @@ impl RankedCluster {
     }
 
     /// Once the clock has moved: the links follow, where a task may be due.
-    pub(crate) fn follow(&mut self, parts: &Parts, jobs: &GroupJobs, sems: &GroupSems)
+    pub(crate) fn follow(
+        &mut self,
+        parts: &Parts,
+        jobs: &GroupJobs,
+        sems: &GroupSems,
+        resvs: &GroupResvs,
+    )
         requires read { CanRead MOST_STEPS parts.now jobs.now.kept }
         requires keys { HaveBases parts.now sems.now }
         requires place { CanPlace parts.now jobs.now.kept self.old }
-        ensures { self.new ≡ followed parts.now jobs.now.kept sems.now self.old }
+        ensures { self.new ≡ followed parts.now jobs.now.kept sems.now resvs.now self.old }
     {
         if jobs.clock() >= self.next {
-            self.place(parts, jobs, sems);
+            self.place(parts, jobs, sems, resvs);
         }
     }
 }

@@ -1,41 +1,47 @@
-//! The plain facts of one group: what is kept of its jobs and processors and of its semaphores, and its clusters.
+//! The plain facts of one group: what is kept of its jobs and processors, of its semaphores and of its reservations, and its
+//! clusters.
 ghost use Rattle.std.specs.Prelude.{◌≡◌, ◌+◌, ◌<◌, ◌≤◌, ◌==◌, ℕ, IfOk, length, false, true, None, Some, if◌then◌else◌, unwrap_or};
 ghost use Rattle.rt_base.specs.TaskNos.{number_of_task};
 ghost use Rattle.rt_base.specs.declared.TheConstants.{MOST_STEPS, TICK_END};
 ghost use Rattle.rt_task.specs.RuleWords.{is_p_res};
 ghost use Rattle.rt_task.specs.declared.Act.TheVariants as acts;
 ghost use Rattle.rt_task.specs.declared.Op.TheVariants as ops;
+ghost use Rattle.rt_model.specs.Blocking as definitions;
 ghost use Rattle.rt_model.specs.Group.{Group};
+ghost use Rattle.sem_table.specs.Told.{awaits_of};
 ghost use Rattle.rt_model.specs.Past.{accepted};
 ghost use Rattle.rt_groups.specs.Limits.{IsInLimits};
 ghost use Rattle.rt_changes.specs.SemActs.{is_at_sem};
 ghost use Rattle.group_facts.specs.Kept.{cpu_of};
-ghost use Rattle.group_facts.specs.Situations.{situation_of};
+ghost use Rattle.group_facts.specs.Situations.{lacks_of, situation_of};
 ghost use Rattle.group_facts.specs.Timers as timers;
 ghost use Rattle.group_jobs.specs.GroupJobs.{IsTaskOf, is_op_reply};
 ghost use Rattle.group_jobs.specs.States.{SleepIsShort};
+ghost use Rattle.group_resvs.specs.GroupResvs.{HasUnit};
 ghost use Rattle.group_sems.specs.Locking.{CanLock};
 ghost use Rattle.group_sems.specs.Refusing.{unlock_refusal};
 ghost use Rattle.rt_rules.specs.Distinct.{IsDistinct};
 ghost use Rattle.count_laws.specs.Tallies.{waiter_tasks};
-ghost use Rattle.waiting_list.specs.Listing.{AreWaitersAt, CanList, Moment};
+ghost use Rattle.waiting_list.specs.Listing.{AreWaitersAt, CanAsk, CanList, Moment};
 ghost use Rattle.rank_afresh.specs.Clusters.{HasCpu};
-ghost use Rattle.rank_afresh.specs.Looking.{CanLook};
+ghost use Rattle.rank_afresh.specs.Looking.{CanLook, lacks_running};
 ghost use Rattle.rank_afresh.specs.Ranks.{CanRead, base_in};
-ghost use Rattle.rank_afresh.specs.Facts.{AreOpened, CanAct, CanFollow, IsPlainAct, MayAct, MayDo, MayLock, MayUnlock, acted, all_based, all_followed, all_placed, asked_reply, at_opening, based, clocked, cluster_at, counted, ended_now, ends_in, home_of, late_in, link_in, lock_refused, placed_afresh, placing_after, reply_in, sems_by, task_reply};
+ghost use Rattle.rank_afresh.specs.Facts.{AreOpened, CanAct, CanFollow, HasEnded, IsEnded, IsPlainAct, MayAct, MayDo, MayLock, MayUnlock, acted, all_based, all_followed, all_placed, all_told, asked_reply, at_opening, based, charged_for, clocked, cluster_at, counted, ended_now, ends_in, home_of, late_in, link_in, lock_refused, placed_afresh, placing_after, reply_in, resvs_at_opening, sems_by, task_reply, unless_reserved};
 ghost use Rattle.rank_afresh.specs.Facts as seen;
 
+use crate::clients::tell_clients;
 use crate::cluster::RankedCluster;
 use crate::rows::{cluster_of, clusters_of, cpu_count};
 use crate::situations;
 use group_jobs::GroupJobs;
+use group_resvs::GroupResvs;
 use group_sems::GroupSems;
 use rt_base::{Ask, CpuNo, GroupNo, NoMemory, SemNo, TaskNo, Tick};
 use rt_history::{Reply, Situation};
-use rt_task::{Act, Op, Parts, Setup};
+use rt_task::{Act, Op, Parts, PluginKind, Setup};
 use std::alloc::Global;
 use std::marker::Model;
-use waiting_list::WaitingList;
+use waiting_list::{WaitingList, is_blocked};
 
 /// What an act is answered, and the task whose job it ended, with whether the clock was past that job's deadline.
 #[derive(Clone, Copy)]
@@ -44,11 +50,12 @@ pub(crate) struct Answer {
     pub(crate) ended: Option<(TaskNo, bool)>,
 }
 
-/// What is kept of jobs and processors and of semaphores, and the clusters of the set by their numbers.
+/// What is kept of jobs and processors, of semaphores and of reservations, and the clusters of the set by their numbers.
 #[derive(Drop)]
 pub(crate) struct Facts {
     jobs: GroupJobs,
     sems: GroupSems,
+    resvs: GroupResvs,
     clusters: Vec<RankedCluster>,
 }
 
@@ -58,7 +65,12 @@ impl Model for Facts {
     ghost Value = { seen.WithRoom };
 
     ghost view = { λ a. record {
-      facts = record { kept = a.jobs.kept; sems = a.sems; clusters = a.clusters.items };
+      facts = record {
+        kept = a.jobs.kept;
+        sems = a.sems;
+        resvs = a.resvs;
+        clusters = a.clusters.items;
+      };
       room = a.jobs.room;
     } };
 }
@@ -86,6 +98,13 @@ fn is_accepted(reply: Reply) -> bool
     )
 }
 
+/// Whether the set's tasks run in reservations.
+fn is_reserved(parts: &Parts) -> bool
+    ensures { result ≡ is_p_res parts.now.plugin }
+{
+    matches!(parts.plugin, PluginKind::PRes)
+}
+
 impl Facts {
     /// The facts at opening of a group of the set, with room for so many arrivals.
     pub(crate) fn open(
@@ -94,40 +113,42 @@ impl Facts {
         group: GroupNo,
         room: u32,
     ) -> Result<Facts, NoMemory>
-        requires plugin { is_p_res setup.now.plugin ≡ false }
-        requires limits { IsInLimits setup.now }
+        requires { IsInLimits setup.now }
         ensures { IfOk result
             (λ f. AreOpened (record { setup = setup.now; number = group.0 }) room f) }
     {
         let sems = GroupSems::open(alloc, setup, group)?;
-        Facts::with_sems(alloc, setup.parts(), sems, group, room)
+        let resvs = GroupResvs::open(alloc, setup, group)?;
+        Facts::with_parts(alloc, setup.parts(), sems, resvs, group, room)
     }
 
-    /// The same with these semaphores, of which nothing was told.
-    fn with_sems(
+    /// The same with these semaphores and reservations, of which nothing was told.
+    fn with_parts(
         alloc: Global,
         parts: &Parts,
         sems: GroupSems,
+        resvs: GroupResvs,
         group: GroupNo,
         room: u32,
     ) -> Result<Facts, NoMemory>
-        requires plugin { is_p_res parts.now.plugin ≡ false }
         requires limits { IsInLimits parts.now }
         requires bases { length sems.waits.bases ≡ length parts.now.tasks + 1 }
-        ensures { IfOk result (λ f. f ≡ record {
-          facts = at_opening (record { setup = parts.now; number = group.0 }) sems;
-          room = room;
-        }) }
+        requires resvs { resvs
+            ≡ resvs_at_opening (record { setup = parts.now; number = group.0 }) }
+        ensures ended { IfOk result (λ f. IsEnded parts.now
+            (at_opening (record { setup = parts.now; number = group.0 }) sems) f.facts) }
+        ensures room { IfOk result (λ f. f.room ≡ room) }
     {
         let tasks = parts.tasks.as_slice().len() as u32;
         let cpus = cpu_count(parts.clusters.as_slice());
         let mut facts = Facts {
             jobs: GroupJobs::open(alloc, tasks, cpus, room)?,
             sems,
+            resvs,
             clusters: clusters_of(alloc, parts, group)?,
         };
         facts.tell_bases(parts);
-        facts.place_all(parts);
+        facts.end(parts);
         Ok(facts)
     }
 
@@ -180,14 +201,28 @@ impl Facts {
         self.clusters[home].linked(cpu)
     }
 
-    /// What the processor's next act depends on, in a group without reservations.
+    /// What the processor's next act depends on.
     pub(crate) fn situation(&self, parts: &Parts, cpu: CpuNo) -> Situation
         requires { CanLook parts.now cpu.0 self.now.facts }
-        ensures { (g : Group) (budget : ℕ) → is_p_res g.setup.plugin ≡ false → result
+        ensures { (g : Group) (budget : ℕ)
+            → lacks_running cpu.0 self.now.facts ≡ lacks_of g (cpu_of self.now.facts.kept cpu.0).runs budget
+            → result
             ≡ situation_of g cpu.0 (link_in parts.now cpu.0 self.now.facts) budget self.now.facts.kept }
     {
         let link = self.linked(parts, cpu);
-        situations::situation_of(&self.jobs, cpu, link)
+        let lacks_budget = self.lacks_budget(cpu);
+        situations::situation_of(&self.jobs, cpu, link, lacks_budget)
+    }
+
+    /// Whether the reservation of the task that the processor runs has no budget left.
+    fn lacks_budget(&self, cpu: CpuNo) -> bool
+        requires { cpu.0 < length self.now.facts.kept.cpus }
+        ensures { result ≡ lacks_running cpu.0 self.now.facts }
+    {
+        match self.jobs.runs(cpu) {
+            None => false,
+            Some(task) => self.resvs.lacks_budget(task),
+        }
     }
 
     /// Lists the tasks that wait for the semaphore that the act of the processor frees.
@@ -203,18 +238,37 @@ impl Facts {
         list.list(parts, &self.jobs, &self.sems, cpu, act);
     }
 
-    /// Places the cluster afresh.
+    /// The semaphore that the task waits for.
+    pub(crate) fn waits(&self, task: TaskNo) -> Option<SemNo>
+        ensures { result ≡ awaits_of self.now.facts.sems.table task.0 }
+    {
+        self.sems.table().awaits(task)
+    }
+
+    /// Whether the task is priority-blocked.
+    pub(crate) fn is_blocked(&self, parts: &Parts, task: TaskNo) -> bool
+        requires { (at : Moment)
+            × CanAsk at parts.now self.now.facts.kept self.now.facts.sems task.0 }
+        ensures { (at : Moment)
+            → CanAsk at parts.now self.now.facts.kept self.now.facts.sems task.0
+            → result ≡ definitions.is_blocked at.group task.0 at.past }
+    {
+        is_blocked(parts, &self.jobs, &self.sems, task)
+    }
+
+    /// Places the cluster afresh, in a group without reservations.
     fn place(&mut self, parts: &Parts, c: usize)
         requires follow { CanFollow parts.now self.old.facts }
         requires cluster { c < length self.old.facts.clusters }
-        ensures { self.new ≡ record self.old {
-          facts = record self.old.facts {
-            clusters = placed_afresh parts.now self.old.facts.kept self.old.facts.sems
-                (seen.OneCluster c) self.old.facts.clusters;
-          };
-        } }
+        ensures { let f = self.old.facts in
+            let which = unless_reserved parts.now (seen.OneCluster c) in
+            self.new ≡ record self.old {
+              facts = record f { clusters = placed_afresh parts.now f.kept f.sems f.resvs which f.clusters };
+            } }
     {
-        self.clusters[c].place(parts, &self.jobs, &self.sems);
+        if !is_reserved(parts) {
+            self.clusters[c].place(parts, &self.jobs, &self.sems, &self.resvs);
+        }
     }
 
     /// Places every cluster afresh.
@@ -224,41 +278,28 @@ impl Facts {
             ≡ record self.old { facts = all_placed parts.now self.old.facts } }
     {
         for c in 0..self.clusters.len() {
-            self.clusters[c].place(parts, &self.jobs, &self.sems);
+            self.clusters[c].place(parts, &self.jobs, &self.sems, &self.resvs);
         }
     }
 
-    /// Places the processor's cluster afresh, where it is touched.
-    fn place_touched(&mut self, parts: &Parts, cpu: CpuNo, is_touched: bool)
-        requires follow { CanFollow parts.now self.old.facts }
-        requires cluster { home_of parts.now cpu.0 < length self.old.facts.clusters }
-        ensures { let f = self.old.facts in
-            let one = seen.OneCluster (home_of parts.now cpu.0) in
-            let which = if is_touched then one else seen.NoCluster in
-            self.new ≡ record self.old {
-              facts = record f { clusters = placed_afresh parts.now f.kept f.sems which f.clusters };
-            } }
-    {
-        if is_touched {
-            self.place(parts, cluster_of(parts.clusters.as_slice(), cpu));
-        }
-    }
-
-    /// Once the operation of the processor is counted: the links follow. One at a semaphore can change keys in any cluster;
-    /// another one that of its processor alone, where it has ended its job or is a Sleep.
+    /// Once the operation of the processor is counted, in a group without reservations: the links follow. One at a semaphore can
+    /// change keys in any cluster; another one that of its processor alone, where it has ended its job or is a Sleep.
     fn place_after(&mut self, parts: &Parts, cpu: CpuNo, op: Op, ends: bool)
         requires follow { CanFollow parts.now self.old.facts }
         requires cluster { home_of parts.now cpu.0 < length self.old.facts.clusters }
         ensures { let f = self.old.facts in
-            let which = placing_after parts.now cpu.0 op ends in
+            let which = unless_reserved parts.now (placing_after parts.now cpu.0 op ends) in
             self.new ≡ record self.old {
-              facts = record f { clusters = placed_afresh parts.now f.kept f.sems which f.clusters };
+              facts = record f { clusters = placed_afresh parts.now f.kept f.sems f.resvs which f.clusters };
             } }
     {
+        if is_reserved(parts) {
+            return;
+        }
         if is_of_sem(op) {
             self.place_all(parts);
-        } else {
-            self.place_touched(parts, cpu, ends || is_sleep(op));
+        } else if ends || is_sleep(op) {
+            self.place(parts, cluster_of(parts.clusters.as_slice(), cpu));
         }
     }
 
@@ -269,7 +310,45 @@ impl Facts {
             ≡ record self.old { facts = all_followed parts.now self.old.facts } }
     {
         for c in 0..self.clusters.len() {
-            self.clusters[c].follow(parts, &self.jobs, &self.sems);
+            self.clusters[c].follow(parts, &self.jobs, &self.sems, &self.resvs);
+        }
+    }
+
+    /// Tells the reservations which of their clients are ready.
+    fn tell_all(&mut self, parts: &Parts)
+        requires { CanFollow parts.now self.old.facts }
+        ensures { let f = self.old.facts in
+            self.new ≡ record self.old { facts = record f { resvs = all_told parts.now f } } }
+    {
+        for c in 0..self.clusters.len() {
+            tell_clients(
+                &mut self.resvs,
+                &self.jobs,
+                parts.tasks.as_slice(),
+                self.clusters[c].tasks(),
+            );
+        }
+    }
+
+    /// Settles the reservations, and places every cluster afresh.
+    fn end(&mut self, parts: &Parts)
+        requires { CanFollow parts.now self.old.facts }
+        ensures ended { IsEnded parts.now self.old.facts self.new.facts }
+        ensures room { self.new.room ≡ self.old.room }
+    {
+        self.tell_all(parts);
+        self.resvs.settle();
+        self.place_all(parts);
+    }
+
+    /// Ends a move, where the group has reservations.
+    fn end_move(&mut self, parts: &Parts)
+        requires { is_p_res parts.now.plugin ≡ true → CanFollow parts.now self.old.facts }
+        ensures ended { HasEnded parts.now self.old.facts self.new.facts }
+        ensures room { self.new.room ≡ self.old.room }
+    {
+        if is_reserved(parts) {
+            self.end(parts);
         }
     }
 
@@ -277,11 +356,17 @@ impl Facts {
     pub(crate) fn move_clock(&mut self, parts: &Parts, tick: Tick)
         requires follow { CanFollow parts.now self.old.facts }
         requires tick { tick.0 < TICK_END }
-        ensures { self.new
-            ≡ record self.old { facts = clocked parts.now tick.0 self.old.facts } }
+        requires resvs { self.old.facts.resvs.resvs.clock ≤ self.old.facts.kept.clock }
+        ensures moved { HasEnded parts.now (clocked parts.now tick.0 self.old.facts) self.new.facts }
+        ensures room { self.new.room ≡ self.old.room }
     {
         self.jobs.move_clock(tick);
-        self.follow(parts);
+        if is_reserved(parts) {
+            self.resvs.move_clock(Tick(self.jobs.clock()));
+            self.end(parts);
+        } else {
+            self.follow(parts);
+        }
     }
 
     /// Takes an interrupt at the processor, and the links follow.
@@ -415,9 +500,24 @@ impl Facts {
         match op {
             Op::Lock(sem) => self.lock(parts, task, sem),
             Op::Unlock(sem) => self.unlock(parts, task, sem),
-            _ => self
-                .jobs
-                .op_reply(cpu, task, op, false, self.sems.holds_none(task)),
+            _ => self.jobs.op_reply(
+                cpu,
+                task,
+                op,
+                self.resvs.lacks_budget(task),
+                self.sems.holds_none(task),
+            ),
+        }
+    }
+
+    /// A Work of the task is charged to its reservation, if it has one.
+    fn charge(&mut self, task: TaskNo, op: Op)
+        requires { op ≡ ops.Work → HasUnit self.old.facts.resvs.resvs task.0 }
+        ensures { let f = self.old.facts in
+            self.new ≡ record self.old { facts = record f { resvs = charged_for task.0 op f.resvs } } }
+    {
+        if matches!(op, Op::Work) {
+            self.resvs.charge(task);
         }
     }
 
@@ -465,6 +565,7 @@ impl Facts {
         if !is_accepted(reply) {
             return Answer { reply, ended: None };
         }
+        self.charge(task, op);
         let ends = self.count(parts, cpu, task, op, reply);
         Answer {
             reply,
@@ -483,8 +584,8 @@ impl Facts {
         release + tasks[task.0 as usize - 1].rel_deadline < self.jobs.clock()
     }
 
-    /// An act of the processor, once the clock has moved.
-    pub(crate) fn act(&mut self, parts: &Parts, cpu: CpuNo, act: Act) -> Answer
+    /// An act of the processor before it is ended.
+    fn play(&mut self, parts: &Parts, cpu: CpuNo, act: Act) -> Answer
         requires act { CanAct parts.now cpu.0 self.old.facts }
         requires plain { IsPlainAct parts.now act }
         requires sems { MayAct parts.now cpu.0 act self.old.facts }
@@ -503,5 +604,23 @@ impl Facts {
             Act::Arrive(task) => self.arrive(parts, cpu, task),
         };
         Answer { reply, ended: None }
+    }
+
+    /// An act of the processor, once the clock has moved.
+    pub(crate) fn act(&mut self, parts: &Parts, cpu: CpuNo, act: Act) -> Answer
+        requires act { CanAct parts.now cpu.0 self.old.facts }
+        requires plain { IsPlainAct parts.now act }
+        requires sems { MayAct parts.now cpu.0 act self.old.facts }
+        requires room { 0 < self.old.room }
+        ensures reply { result.reply ≡ reply_in parts.now cpu.0 act self.old.facts }
+        ensures ended { result.ended
+            ≡ ended_now parts.now cpu.0 act result.reply self.old.facts }
+        ensures acted { HasEnded parts.now
+            (acted parts.now cpu.0 act result.reply self.old.facts) self.new.facts }
+        ensures room { self.old.room ≤ self.new.room + 1 }
+    {
+        let answer = self.play(parts, cpu, act);
+        self.end_move(parts);
+        answer
     }
 }

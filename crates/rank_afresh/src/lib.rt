@@ -2,6 +2,7 @@
 #![tactic(auto)]
 
 mod afresh;
+mod clients;
 mod cluster;
 mod facts;
 mod placing;

@@ -1,8 +1,7 @@
 //! What a processor's next act depends on, read off what is kept.
-ghost use Rattle.std.specs.Prelude.{◌≡◌, ◌^◌, ◌<◌, ℕ, false, length};
+ghost use Rattle.std.specs.Prelude.{◌≡◌, ◌^◌, ◌<◌, ℕ, length};
 ghost use Rattle.rt_base.specs.TaskNos.{number_of_task};
 ghost use Rattle.rt_model.specs.Group.{Group};
-ghost use Rattle.rt_task.specs.RuleWords.{is_p_res};
 ghost use Rattle.group_facts.specs.Kept.{cpu_of};
 ghost use Rattle.group_facts.specs.Situations as kept;
 ghost use Rattle.group_jobs.specs.GroupJobs.{RunsTask};
@@ -24,12 +23,18 @@ fn place_of(jobs: &GroupJobs, cpu: CpuNo) -> u32
     }
 }
 
-/// The situation of a processor with this link, in a group without reservations.
-pub(crate) fn situation_of(jobs: &GroupJobs, cpu: CpuNo, link: Option<TaskNo>) -> Situation
+/// The situation of a processor with this link, where the reservation of what it runs lacks budget or not.
+pub(crate) fn situation_of(
+    jobs: &GroupJobs,
+    cpu: CpuNo,
+    link: Option<TaskNo>,
+    lacks_budget: bool,
+) -> Situation
     requires cpu { cpu.0 < length jobs.now.kept.cpus }
     requires task { RunsTask jobs.now.kept cpu.0 }
     requires few { kept.place_of jobs.now.kept (cpu_of jobs.now.kept cpu.0).runs < 2 ^ 32 }
-    ensures { (g : Group) (budget : ℕ) → is_p_res g.setup.plugin ≡ false
+    ensures { (g : Group) (budget : ℕ)
+        → lacks_budget ≡ kept.lacks_of g (cpu_of jobs.now.kept cpu.0).runs budget
         → result ≡ kept.situation_of g cpu.0 (number_of_task link) budget jobs.now.kept }
 {
     let runs = jobs.runs(cpu);
@@ -39,6 +44,6 @@ pub(crate) fn situation_of(jobs: &GroupJobs, cpu: CpuNo, link: Option<TaskNo>) -
         np: jobs.runs_non_preemptive(cpu),
         pending: link != runs,
         worked: jobs.has_worked(cpu),
-        budget: true,
+        budget: !lacks_budget,
     }
 }

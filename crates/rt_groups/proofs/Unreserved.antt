@@ -1,5 +1,5 @@
--- A set has reservations under P-RES alone, and one that is played has none.
-use Rattle.std.proofs.Common.{◌≡◌, Bool, true, false, not, List, [], ◌∷◌, ◌++◌, length, refl, sym}
+-- A set has reservations under P-RES alone.
+use Rattle.std.proofs.Common.{◌≡◌, Bool, true, false, List, [], ◌∷◌, ◌++◌, length, refl}
 use Rattle.std.specs.Prelude.{None, Some, map, if◌then◌else◌}
 use Rattle.rt_task.specs.Draft.{draft_of, draft_resv}
 use Rattle.rt_task.specs.Refusals.{first_failing}
@@ -9,15 +9,7 @@ use Rattle.rt_task.specs.declared.Parts.{Parts}
 use Rattle.rt_task.specs.declared.Resv.{Resv}
 use Rattle.rt_task.specs.declared.draft.DraftResv.{DraftResv}
 use Rattle.rt_task.specs.RuleWords.{is_p_res}
-use Rattle.rt_groups.specs.Built.{is_built}
 use Rattle.rt_groups.proofs.ValidRows.{passes_rows}
-
-not-true : (b : Bool) → not b ≡ true → b ≡ false
-not-true true h = sym h
-not-true false h = refl
-
-pub built-unreserved : (p : Parts) → is_built p ≡ true → is_p_res p.plugin ≡ false
-built-unreserved p built = not-true (is_p_res p.plugin) built
 
 pub no_resvs : (p : Parts) → IsValid p → is_p_res p.plugin ≡ false → p.resvs ≡ []
 unfolding resv_sharing

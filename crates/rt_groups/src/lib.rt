@@ -1,29 +1,22 @@
-//! A group of a setup and its history, as contracts see them; what is played so far; and what a valid setup says of its
-//! groups and of its numbers. The functions but `gives_steps` and `is_built` have a law as their contract, and do nothing.
+//! A group of a setup and its history, as contracts see them, and what a valid setup says of its groups and of its numbers.
+//! The functions but `gives_steps` have a law as their contract, and do nothing.
 #![tactic(auto)]
 
 ghost use Rattle.std.specs.Prelude.{◌≡◌};
-ghost use Rattle.rt_groups.specs.Built as built;
+ghost use Rattle.rt_groups.specs.Drives as drives;
 ghost use Rattle.rt_groups.specs.Limits.{SetsAreInLimits};
 ghost use Rattle.rt_groups.specs.Places.{GroupsAreCounted, ProcessorsAreAtHome, TasksAreAtHome};
 
-use rt_task::{Drive, PluginKind, Setup};
+use rt_task::Drive;
 
 /// Whether the set gives steps; else it has a horizon.
 pub fn gives_steps(drive: &Drive) -> bool
-    ensures { result ≡ built.gives_steps drive.now }
+    ensures { result ≡ drives.gives_steps drive.now }
 {
     match drive {
         Drive::Steps(_) => true,
         Drive::Horizon(_) => false,
     }
-}
-
-/// Whether the set is one that is played so far: it has no reservations.
-pub fn is_built(setup: &Setup) -> bool
-    ensures { result ≡ built.is_built setup.now }
-{
-    setup.parts().plugin != PluginKind::PRes
 }
 
 /// The numbers of a valid setup are within the limits.

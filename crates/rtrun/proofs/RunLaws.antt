@@ -1,23 +1,17 @@
--- The histories of a set that was run: they are plays of it, and their text is a valid one.
-use Rattle.std.proofs.Common.{◌≡◌, ℕ, ◌<◌, List, [], length, get_or, refl, sym, ap, ◌∙◌, subst, arith, true}
+-- The histories of a set that was run: they are plays of it.
+use Rattle.std.proofs.Common.{◌≡◌, ℕ, ◌<◌, List, [], length, get_or, sym, ap, ◌∙◌, subst, arith}
 use Rattle.std.proofs.lemmas.List.{get_or-map, length-map}
 use Rattle.rt_task.specs.declared.Parts.{Parts}
 use Rattle.rt_task.specs.Validity.{IsValid}
 use Rattle.rt_history.specs.declared.Entry.{Entry}
 use Rattle.rt_model.specs.Group.{Group}
-use Rattle.rt_groups.specs.Built.{gives_steps}
 use Rattle.rt_groups.specs.Groups.{GroupHistory, group_of}
 use Rattle.rt_plays.specs.Plays.{ArePlays, IsPlay, group_with}
-use Rattle.rt_plays.specs.ScriptPlays.{IsScriptPlay}
-use Rattle.trace_lines.specs.declared.format.Version.TheVariants.{Two}
 use Rattle.trace_text.specs.Groups.{histories}
-use Rattle.trace_text.specs.TraceText.{trace_text}
 use Rattle.trace_text.proofs.GroupLaws.{groups-counted}
-use Rattle.trace_laws.specs.ValidTexts.{IsValidText, entry_count}
-use Rattle.trace_laws.proofs.Plays.{play-by}
 use Rattle.set_runs.specs.Runs.{AreRunsOf}
 
-module _ (p : Parts) (hs : List GroupHistory) (valid : IsValid p) (gives : gives_steps p.drive ≡ true) (are : AreRunsOf p hs) where
+module _ (p : Parts) (hs : List GroupHistory) (valid : IsValid p) (are : AreRunsOf p hs) where
   long : length (histories hs) ≡ length hs
   long = length-map hs (λ (h : GroupHistory). h.entries)
 
@@ -29,11 +23,7 @@ module _ (p : Parts) (hs : List GroupHistory) (valid : IsValid p) (gives : gives
       let run = are.each n d inside in
       let group : group_of h ≡ group_with p n = ap (λ (q : Parts). group_with q h.group) run.setup_is ∙ ap (group_with p) run.group_is in
       let entries : h.entries ≡ get_or (histories hs) n [] = sym (get_or-map (λ (x : GroupHistory). x.entries) hs n d [] inside) in
-      play-by p.drive (group_with p n) (get_or (histories hs) n []) gives
-      (subst (λ (es : List Entry). IsScriptPlay (group_with p n) es) entries (subst (λ (g : Group). IsScriptPlay g h.entries) group run.play))
+      subst (λ (es : List Entry). IsPlay (group_with p n) es) entries (subst (λ (g : Group). IsPlay g h.entries) group run.play)
 
   pub run-plays : ArePlays p (histories hs)
   run-plays = record { count = long ∙ groups-counted p hs valid are.groups; plays = play-at }
-
-  pub run-valid : IsValidText Two p (trace_text Two p (histories hs)) (entry_count (histories hs))
-  run-valid = record { histories = histories hs; plays = run-plays; text_is = refl; count = refl }

@@ -2,12 +2,14 @@
 use Rattle.std.specs.Prelude.{ℕ, Bool, false, List, [], ◌∷◌, codes, bytes_eq, string_bytes, String}
 use Rattle.std.specs.declared.alloc.Global.{Global}
 use Rattle.rt_task.specs.declared.Parts.{Parts}
+use Rattle.rt_history.specs.declared.Entry.{Entry}
 use Rattle.rt_fault.specs.Held.{Extends, ExtendsByPrefix}
+use Rattle.rt_plays.specs.Plays.{ArePlays}
 use Rattle.trace_lines.specs.declared.format.Version.TheVariants.{Two}
-use Rattle.trace_laws.specs.ValidTexts.{IsValidText}
+use Rattle.trace_tools.specs.Tools.{Tool}
+use Rattle.trace_text.specs.CountLines.{counted_text}
 use Rattle.set_input.specs.Ends.{Reading, Writing}
 use Rattle.set_input.specs.Inputs.{WasRead}
-use Rattle.set_input.specs.declared.player.Player.TheVariants.{Threads}
 use Rattle.set_input.specs.Throughout.{HoldsThroughout}
 
 -- the command `run`
@@ -16,21 +18,19 @@ is_run (word ∷ []) = bytes_eq (string_bytes word) (codes "run")
 is_run _ = false
 
 -- a set was read, and a whole trace of it came: the text in format 2 of its canonical set and of plays of its groups, in
--- some order of the processors' steps; what that shows holds after each entry
-pub record WasRun (source : Reading) (sink : Writing) : Type 0 where
+-- some order of the processors' steps, and what tools count of these; what that shows holds after each entry
+pub record WasRun (tools : List Tool) (source : Reading) (sink : Writing) : Type 0 where
   pub setup : Parts
-  pub text : List ℕ
-  pub entries : ℕ
-  pub read : WasRead Threads source setup
-  pub valid : IsValidText Two setup text entries
-  pub written : Extends sink.old.held sink.new.held text
-  pub holds : HoldsThroughout setup valid.histories
+  pub histories : List (List Entry)
+  pub read : WasRead source setup
+  pub plays : ArePlays setup histories
+  pub written : Extends sink.old.held sink.new.held (counted_text Two tools setup histories)
+  pub holds : HoldsThroughout setup histories
 
 -- a set was read, and a first part of such a trace came
-pub record WasCut (source : Reading) (sink : Writing) : Type 0 where
+pub record WasCut (tools : List Tool) (source : Reading) (sink : Writing) : Type 0 where
   pub setup : Parts
-  pub text : List ℕ
-  pub entries : ℕ
-  pub read : WasRead Threads source setup
-  pub valid : IsValidText Two setup text entries
-  pub written : ExtendsByPrefix sink.old.held sink.new.held text
+  pub histories : List (List Entry)
+  pub read : WasRead source setup
+  pub plays : ArePlays setup histories
+  pub written : ExtendsByPrefix sink.old.held sink.new.held (counted_text Two tools setup histories)

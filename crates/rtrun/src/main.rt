@@ -1,4 +1,4 @@
-//! `rtrun`: plays the steps of modelled processors, each processor by a thread of its own, and prints the trace.
+//! `rtrun`: plays the steps or the turns of modelled processors, each processor by a thread of its own, and prints the trace.
 #![tactic(auto)]
 
 mod play_set;
@@ -17,6 +17,7 @@ use std::process::ExitCode;
 use std::rt::Env;
 use std::sync::Wait;
 use std::thread::Threads;
+use trace_tools::shipped_tools;
 
 /// The words that are a command, as they are said.
 const USAGE: &str = "usage: rtrun run";
@@ -30,9 +31,12 @@ fn run_words<R: AllocGlobal + Input + Print + Threads + Wait + Sync>(
     let Ok(mut buffer) = BufWriter::new(alloc, io::writer(rt)) else {
         return Status::NoMemory;
     };
+    let Ok(tools) = shipped_tools(alloc) else {
+        return Status::NoMemory;
+    };
     let mut src = StdSource::new(rt.reader());
     let mut out = StdSink::new(&mut buffer);
-    let status = run(rt, alloc, words, &mut src, &mut out, &OpenGate);
+    let status = run(rt, alloc, words, &mut src, &mut out, tools, &OpenGate);
     match buffer.flush() {
         Err(_) if status == Status::Ok => Status::WriteFault,
         _ => status,

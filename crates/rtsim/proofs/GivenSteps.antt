@@ -22,7 +22,7 @@ use Rattle.rt_plays.specs.Order.{order, order_by, steps_in_group}
 use Rattle.rt_plays.specs.Plays.{group_with}
 use Rattle.rt_plays.specs.Room.{room, room_by}
 use Rattle.rt_plays.proofs.ProcessorLaws.{cpu_count}
-use Rattle.rt_groups.specs.Built.{gives_steps}
+use Rattle.rt_groups.specs.Drives.{gives_steps}
 
 given : (drive : Drive) → gives_steps drive ≡ true → drive ≡ Steps (steps_given drive)
 given (Steps steps) h = refl

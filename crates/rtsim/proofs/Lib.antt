@@ -11,3 +11,4 @@ pub mod SimAnswerLaws
 pub mod CheckAnswerLaws
 pub mod UpgradeLaws
 pub mod UpgradeAnswerLaws
+pub mod LoadLaws

@@ -7,6 +7,7 @@ use Rattle.rt_fault.specs.Reading.{TakesAtMost}
 use Rattle.rt_fault.specs.declared.status.Status.{Status}
 use Rattle.rt_fault.specs.declared.status.Status.TheVariants as ends
 use Rattle.trace_lines.specs.declared.format.Version.{Version}
+use Rattle.trace_tools.specs.Tools.{Tool}
 use Rattle.set_input.specs.Ends.{Reading, Writing}
 use Rattle.set_input.specs.Stopped.{EndsReading}
 use Rattle.set_input.proofs.EndLaws.{ended-well}
@@ -17,9 +18,9 @@ use Rattle.rtsim.proofs.CheckLaws.{can_check-told, can_check-unrefused, can_chec
 
 -- no trace was read
 pub upgrade-unread :
-    {T : Type 0} (source : Reading) (sink : Writing) (answer : Status) → EndsReading {T = T} source MOST_TRACE_BYTES (WasNoTrace source) (Err answer)
-    → sink.new ≡ sink.old → UpgradeAnswers source sink answer
-upgrade-unread {T} source sink answer e same =
+    {T : Type 0} (tools : List Tool) (source : Reading) (sink : Writing) (answer : Status) → EndsReading {T = T} source MOST_TRACE_BYTES (WasNoTrace source) (Err answer)
+    → sink.new ≡ sink.old → UpgradeAnswers tools source sink answer
+upgrade-unread {T} tools source sink answer e same =
     let err = λ (s : Status) (is : answer ≡ s). ap (λ (x : Status). let r : Result T Status = Err x in r) is in
     record {
       ok = λ is. absurd (e.not_ok (err _ is));
@@ -29,14 +30,14 @@ upgrade-unread {T} source sink answer e same =
       not_too_long = λ other. e.not_too_long (λ is. other cc);
       cut_by_fault = λ is. absurd (e.not_write_fault (err _ is));
       no_memory = λ _. inl same;
-      complete = λ can sure. ended-well source MOST_TRACE_BYTES (WasNoTrace source) answer e (can_check-told _ can) sure.read (λ b. can_check-unrefused source b can);
+      complete = λ can sure. ended-well source MOST_TRACE_BYTES (WasNoTrace source) answer e (can_check-told tools _ can) sure.read (λ b. can_check-unrefused tools source b can);
     }
 
 -- a trace was read, and this came of its bytes
 by-answer :
-    (source : Reading) (sink : Writing) (bytes : List ℕ) (v : Version) (p : Parts) (answer : Status) → WasTrace source bytes v p
-    → TakesAtMost MOST_TRACE_BYTES source.old.left source.new.left → HasUpgraded v p bytes sink answer → UpgradeAnswers source sink answer
-by-answer source sink bytes v p ends.Ok read few h = record {
+    (tools : List Tool) (source : Reading) (sink : Writing) (bytes : List ℕ) (v : Version) (p : Parts) (answer : Status) → WasTrace source bytes v p
+    → TakesAtMost MOST_TRACE_BYTES source.old.left source.new.left → HasUpgraded tools v p bytes sink answer → UpgradeAnswers tools source sink answer
+by-answer tools source sink bytes v p ends.Ok read few h = record {
   ok = λ _. record { bytes = bytes; version = v; setup = p; upgraded = h.upgraded; read = read; is_upgrade = h.is_upgrade; written = h.written };
   invalid = λ line is. cc;
   bad_input = λ b is. cc;
@@ -46,17 +47,17 @@ by-answer source sink bytes v p ends.Ok read few h = record {
   no_memory = λ is. cc;
   complete = λ _ _. tt;
 }
-by-answer source sink bytes v p (ends.Invalid line) read few h = record {
+by-answer tools source sink bytes v p (ends.Invalid line) read few h = record {
   ok = λ is. cc;
-  invalid = λ other is. let same : line ≡ other = cc in subst (WasWrong source sink) same (record { bytes = bytes; version = v; setup = p; read = read; wrong = h.0; unwritten = h.1 });
+  invalid = λ other is. let same : line ≡ other = cc in subst (WasWrong tools source sink) same (record { bytes = bytes; version = v; setup = p; read = read; wrong = h.0; unwritten = h.1 });
   bad_input = λ b is. cc;
   too_long = λ is. cc;
   not_too_long = λ _. few;
   cut_by_fault = λ is. cc;
   no_memory = λ is. cc;
-  complete = λ can _. absurd (can_check-valid source bytes v p line can read h.0);
+  complete = λ can _. absurd (can_check-valid tools source bytes v p line can read h.0);
 }
-by-answer source sink bytes v p ends.WriteFault read few h = record {
+by-answer tools source sink bytes v p ends.WriteFault read few h = record {
   ok = λ is. cc;
   invalid = λ line is. cc;
   bad_input = λ b is. cc;
@@ -66,7 +67,7 @@ by-answer source sink bytes v p ends.WriteFault read few h = record {
   no_memory = λ is. cc;
   complete = λ _ sure. absurd (sure.write h.written.1);
 }
-by-answer source sink bytes v p ends.NoMemory read few (inl same) = record {
+by-answer tools source sink bytes v p ends.NoMemory read few (inl same) = record {
   ok = λ is. cc;
   invalid = λ line is. cc;
   bad_input = λ b is. cc;
@@ -76,7 +77,7 @@ by-answer source sink bytes v p ends.NoMemory read few (inl same) = record {
   no_memory = λ _. inl same;
   complete = λ _ _. tt;
 }
-by-answer source sink bytes v p ends.NoMemory read few (inr h) = record {
+by-answer tools source sink bytes v p ends.NoMemory read few (inr h) = record {
   ok = λ is. cc;
   invalid = λ line is. cc;
   bad_input = λ b is. cc;
@@ -89,13 +90,13 @@ by-answer source sink bytes v p ends.NoMemory read few (inr h) = record {
   ];
   complete = λ _ _. tt;
 }
-by-answer source sink bytes v p ends.Usage read few h = absurd h.written
-by-answer source sink bytes v p (ends.BadInput b) read few h = absurd h.written
-by-answer source sink bytes v p ends.ReadFault read few h = absurd h.written
-by-answer source sink bytes v p ends.TooLong read few h = absurd h.written
+by-answer tools source sink bytes v p ends.Usage read few h = absurd h.written
+by-answer tools source sink bytes v p (ends.BadInput b) read few h = absurd h.written
+by-answer tools source sink bytes v p ends.ReadFault read few h = absurd h.written
+by-answer tools source sink bytes v p ends.TooLong read few h = absurd h.written
 
 pub upgrade-read :
-    (source : Reading) (sink : Writing) (bytes shown : List ℕ) (v : Version) (p : Parts) (answer : Status) → WasTrace source bytes v p
-    → TakesAtMost MOST_TRACE_BYTES source.old.left source.new.left → shown ≡ bytes → HasUpgraded v p shown sink answer → UpgradeAnswers source sink answer
-upgrade-read source sink bytes shown v p answer read few same h =
-    by-answer source sink bytes v p answer read few (subst (λ (text : List ℕ). HasUpgraded v p text sink answer) same h)
+    (tools : List Tool) (source : Reading) (sink : Writing) (bytes shown : List ℕ) (v : Version) (p : Parts) (answer : Status) → WasTrace source bytes v p
+    → TakesAtMost MOST_TRACE_BYTES source.old.left source.new.left → shown ≡ bytes → HasUpgraded tools v p shown sink answer → UpgradeAnswers tools source sink answer
+upgrade-read tools source sink bytes shown v p answer read few same h =
+    by-answer tools source sink bytes v p answer read few (subst (λ (text : List ℕ). HasUpgraded tools v p text sink answer) same h)

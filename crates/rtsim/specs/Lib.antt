@@ -5,3 +5,6 @@ pub mod SimAnswers
 pub mod CheckAnswers
 pub mod Upgrade
 pub mod UpgradeAnswers
+pub mod Load
+pub mod LoadAnswers
+pub mod Tests

@@ -1,6 +1,6 @@
 //! The groups of a set: whose the processors are, and the room that each group needs.
 ghost use Rattle.std.specs.Prelude.{◌≡◌, ◌++◌, IfOk, OnOk, replicate, true};
-ghost use Rattle.rt_groups.specs.Built.{gives_steps};
+ghost use Rattle.rt_groups.specs.Drives.{gives_steps};
 ghost use Rattle.rtsim.specs.Groups.{cpu_groups, group_rooms};
 
 use rt_base::{GroupNo, NoMemory};

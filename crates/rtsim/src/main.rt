@@ -1,9 +1,10 @@
-//! `rtsim`: plays the steps of modelled processors in a given order and prints the trace, checks a trace, and
-//! upgrades a trace to format 2.
+//! `rtsim`: plays the steps of modelled processors in a given order and prints the trace, checks a trace, upgrades a trace
+//! to format 2, and sums up what a generated set comes to.
 #![tactic(auto)]
 
 mod check;
 mod groups;
+mod load;
 mod play;
 mod play_set;
 mod sim;
@@ -21,9 +22,10 @@ pub use sim::sim;
 use std::env;
 use std::io::{self, BufWriter, ErrorKind, Write};
 use std::process::ExitCode;
+use trace_tools::shipped_tools;
 
 /// The words that are commands, as they are said.
-const USAGE: &str = "usage: rtsim sim, rtsim check, rtsim upgrade";
+const USAGE: &str = "usage: rtsim sim, rtsim check, rtsim load N, rtsim upgrade";
 
 /// Runs the command between standard input and standard output. What a failed flush keeps back is a failed write.
 fn run(rt: &HostRuntime, words: &[String]) -> Status {
@@ -31,9 +33,12 @@ fn run(rt: &HostRuntime, words: &[String]) -> Status {
     let Ok(mut buffer) = BufWriter::new(alloc, io::writer(rt)) else {
         return Status::NoMemory;
     };
+    let Ok(tools) = shipped_tools(alloc) else {
+        return Status::NoMemory;
+    };
     let mut src = StdSource::new(rt.reader());
     let mut out = StdSink::new(&mut buffer);
-    let status = sim(alloc, words, &mut src, &mut out);
+    let status = sim(alloc, words, &mut src, &mut out, tools);
     match buffer.flush() {
         Err(_) if matches!(status, Status::Ok | Status::Invalid(_)) => Status::WriteFault,
         _ => status,

@@ -1,7 +1,7 @@
 //! Playing a set: its steps in their order, or its turns.
 ghost use Rattle.std.specs.Prelude.{◌≡◌, IfOk, true};
 ghost use Rattle.rt_task.specs.Validity.{IsValid};
-ghost use Rattle.rt_groups.specs.Built.{gives_steps, is_built};
+ghost use Rattle.rt_groups.specs.Drives.{gives_steps};
 ghost use Rattle.rtsim.specs.Groups.{all_opened, all_played, cpu_groups, group_rooms};
 
 use crate::groups::{groups_of_cpus, rooms_of_groups};

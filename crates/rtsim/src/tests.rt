@@ -1,13 +1,15 @@
-//! The smallest worked examples, a set of two groups, whose texts are the published ones, and each answer of the
-//! commands with its cause.
+//! The smallest worked examples, a set of two groups, whose texts are the published ones, tools of a stranger, and each
+//! answer of the commands with its cause.
+ghost use Rattle.rtsim.specs.Tests.{strange};
 
 use crate::{USAGE, sim};
 use rt_base::MOST_SET_BYTES;
-use rt_fault::{MemSink, MemSource, Source, Status, SureSink, SureSource};
+use rt_fault::{MemSink, MemSource, Sink, Source, Status, SureSink, SureSource};
 use rt_task::{BadSet, Part, Place, SetKind};
 use set_input::FaultLine;
 use std::alloc::Global;
 use std::test::Fail;
+use trace_tools::{Shown, TraceTool, shipped_tools};
 
 const NO_TASKS: &str = r#"{"plugin":"GSN-EDF","clusters":[{"cpus":1}],"steps":[]}"#;
 
@@ -15,6 +17,11 @@ const NO_TASKS_TRACE: &str = "rtsched trace 2
 set {\"clusters\":[{\"cpus\":1,\"group\":0}],\"plugin\":\"GSN-EDF\",\"resvs\":[],\"sems\":[],\"steps\":[],\"tasks\":[]}
 group 0 0:-
 end
+count M 0
+count S 0
+count G 0
+count O
+count F
 ";
 
 const FIRST_PATH: &str =
@@ -29,6 +36,13 @@ const FIRST_PATH_REST: &str = "group 0 0:@A 1:@B
 1 0 0 irq runs @A
 2 0 0 irq quiet
 end
+";
+
+const FIRST_PATH_COUNTS: &str = "count M 0
+count S 1
+count G 0
+count O 0
+count F
 ";
 
 const FORMAT_1_HEAD: &str = "rtsched trace 1
@@ -69,6 +83,11 @@ set {\"clusters\":[{\"cpus\":2,\"group\":0}],\"plugin\":\"GSN-EDF\",\"resvs\":[]
 const ONE_STEP_REST: &str = "group 0 0:@A 1:@B
 0 0 0 tick done
 end
+count M 0
+count S 0
+count G 0
+count O 0
+count F
 ";
 
 const TWO_GROUPS: &str =
@@ -109,8 +128,12 @@ group 1 2:@t3
 end
 ";
 
-const WITH_A_RESERVATION: &str =
-    r#"{"plugin":"P-RES","clusters":[{"cpus":1}],"resvs":[{"name":"R","kind":"polling","budget":1,"period":10,"prio":1}],"steps":[]}"#;
+const TWO_GROUPS_COUNTS: &str = "count M 0
+count S 6
+count G 0
+count O 0 0 1
+count F
+";
 
 const POLLING: &str =
     r#"{"clusters":[{"cpus":1,"group":0}],"plugin":"P-RES","resvs":[{"budget":2,"cluster":0,"kind":"polling","name":"r1","period":10,"prio":1}],"sems":[],"steps":[[0,3,"arrive","A"],[0,10,"tick"],[0,10,"irq"],[0,10,"end"],[0,12,"arrive","A"],[0,20,"tick"]],"tasks":[{"body":[],"cluster":0,"cost":1,"deadline":5,"enforce":false,"kind":"sporadic","name":"A","period":5,"phase":0,"prio":511,"resv":"r1","uses":[]}]}"#;
@@ -123,6 +146,11 @@ const POLLING_REST: &str = "group 0 0:-
 4 12 0 arrive @A done
 5 20 0 tick done 0:@A
 end
+count M 1
+count S 1
+count G 0
+count O 0
+count F 3 1
 ";
 
 const BODY_RUN: &str =
@@ -139,7 +167,84 @@ const BODY_RUN_REST: &str = "group 0 0:@A
 7 2 0 tick done
 8 2 0 irq quiet
 end
+count M 0
+count S 1
+count G 0
+count O 2
+count F
 ";
+
+const BOUND_REACHED: &str =
+    r#"{"clusters":[{"cpus":2,"group":0}],"plugin":"GSN-EDF","resvs":[],"sems":[{"name":"s1","protocol":"OMLP"}],"steps":[[0,0,"irq"],[1,0,"irq"],[0,0,"lock","s1"],[1,0,"lock","s1"],[1,1,"arrive","C"],[1,1,"irq"],[1,1,"lock","s1"],[1,2,"arrive","D"],[1,2,"irq"],[1,2,"lock","s1"],[0,2,"unlock","s1"],[1,2,"irq"],[1,2,"unlock","s1"],[1,2,"irq"],[1,2,"unlock","s1"],[0,2,"irq"],[0,2,"unlock","s1"]],"tasks":[{"body":[],"cluster":0,"cost":1,"deadline":100,"enforce":false,"kind":"periodic","name":"A","period":1000,"phase":0,"prio":511,"resv":null,"uses":["s1"]},{"body":[],"cluster":0,"cost":1,"deadline":100,"enforce":false,"kind":"periodic","name":"B","period":1000,"phase":0,"prio":511,"resv":null,"uses":["s1"]},{"body":[],"cluster":0,"cost":1,"deadline":50,"enforce":false,"kind":"sporadic","name":"C","period":1000,"phase":0,"prio":511,"resv":null,"uses":["s1"]},{"body":[],"cluster":0,"cost":1,"deadline":20,"enforce":false,"kind":"sporadic","name":"D","period":1000,"phase":0,"prio":511,"resv":null,"uses":["s1"]}]}"#;
+
+const BOUND_REACHED_REST: &str = "group 0 0:@A 1:@B
+0 0 0 irq runs @A
+1 0 1 irq runs @B
+2 0 0 lock 1 granted
+3 0 1 lock 1 queued 1:-
+4 1 1 arrive @C done 1:@C
+5 1 1 irq runs @C
+6 1 1 lock 1 queued 1:-
+7 2 1 arrive @D done 1:@D
+8 2 1 irq runs @D
+9 2 1 lock 1 queued 1:-
+10 2 0 unlock 1 done 1:@B
+11 2 1 irq runs @B
+12 2 1 unlock 1 done 1:@D
+13 2 1 irq runs @D
+14 2 1 unlock 1 done 0:@C
+15 2 0 irq runs @C
+16 2 0 unlock 1 done
+block 2 @A 1 0 0 3
+block 3 @B 1 0 1 3
+block 6 @C 1 3 3 3
+block 9 @D 1 2 2 3
+end
+";
+
+const LOAD: &str = "load 0
+entries 19432
+requests 154
+most 3 of 7
+count M 10
+count S 401
+count G 121
+count O 314 441 353 253 338 289 436 263
+count F 654 20
+";
+
+/// Two tools: `Y` has every total; `X` ends after its third entry, and its total is how many it was fed.
+#[derive(Drop)]
+struct Strange {
+    is_endless: bool,
+    fed: u64,
+}
+
+impl TraceTool for Strange {
+    ghost tool = { λ t. strange t.is_endless t.fed };
+
+    fn feed(&mut self, _e: &Shown) {
+        if self.is_endless {
+            return;
+        }
+        self.fed = self.fed.saturating_add(1);
+    }
+
+    fn total(&self, i: u32) -> Option<u64> {
+        if self.is_endless {
+            return Some(u64::from(i));
+        }
+        if i == 0 { Some(self.fed) } else { None }
+    }
+
+    fn ended(&self) -> bool {
+        !self.is_endless && self.fed >= 3
+    }
+
+    fn name(&self) -> u8 {
+        if self.is_endless { b'Y' } else { b'X' }
+    }
+}
 
 fn words(alloc: Global, texts: &[&str]) -> Result<Vec<String>, Fail> {
     let mut words = Vec::new(alloc);
@@ -147,6 +252,18 @@ fn words(alloc: Global, texts: &[&str]) -> Result<Vec<String>, Fail> {
         words.push(String::from_str(alloc, text)?)?;
     }
     Ok(words)
+}
+
+/// Runs the command with the tools of the program.
+fn run<S: Source, K: Sink>(
+    alloc: Global,
+    texts: &[&str],
+    src: &mut S,
+    out: &mut K,
+) -> Result<Status, Fail> {
+    let words = words(alloc, texts)?;
+    let tools = shipped_tools(alloc)?;
+    Ok(sim(alloc, words.as_slice(), src, out, tools))
 }
 
 fn sink(alloc: Global, fails: &[u32]) -> Result<MemSink, Fail> {
@@ -161,12 +278,7 @@ fn source(alloc: Global, text: &str, fails: &[u32]) -> Result<MemSource, Fail> {
 fn answer(alloc: Global, text: &str) -> Result<Status, Fail> {
     let mut src = source(alloc, text, &[])?;
     let mut out = sink(alloc, &[])?;
-    let status = sim(
-        alloc,
-        words(alloc, &["sim"])?.as_slice(),
-        &mut src,
-        &mut out,
-    );
+    let status = run(alloc, &["sim"], &mut src, &mut out)?;
     Ok(status)
 }
 
@@ -181,12 +293,7 @@ fn refused(kind: SetKind, part: Part, index: u32) -> Status {
 fn plays(alloc: Global, text: &str, parts: &[&str]) -> Result<bool, Fail> {
     let mut src = SureSource::new(text.as_bytes().to_vec(alloc)?);
     let mut out = SureSink::new(alloc, 4096)?;
-    let status = sim(
-        alloc,
-        words(alloc, &["sim"])?.as_slice(),
-        &mut src,
-        &mut out,
-    );
+    let status = run(alloc, &["sim"], &mut src, &mut out)?;
     let mut wanted = String::new(alloc);
     for part in parts {
         wanted.push_str(part)?;
@@ -208,7 +315,13 @@ fn plays_one_step(rt: HostRuntime) -> Result<(), Fail> {
 
 #[test]
 fn plays_the_first_path(rt: HostRuntime) -> Result<(), Fail> {
-    assert!(rt; plays(rt.alloc(), FIRST_PATH, &[FIRST_PATH_HEAD, FIRST_PATH_REST])?);
+    assert!(rt;
+        plays(
+            rt.alloc(),
+            FIRST_PATH,
+            &[FIRST_PATH_HEAD, FIRST_PATH_REST, FIRST_PATH_COUNTS]
+        )?
+    );
     Ok(())
 }
 
@@ -219,7 +332,7 @@ fn plays_each_group(rt: HostRuntime) -> Result<(), Fail> {
         plays(
             rt.alloc(),
             TWO_GROUPS,
-            &[head, TWO_GROUPS, "\n", TWO_GROUPS_REST]
+            &[head, TWO_GROUPS, "\n", TWO_GROUPS_REST, TWO_GROUPS_COUNTS]
         )?
     );
     Ok(())
@@ -236,6 +349,63 @@ fn plays_turns(rt: HostRuntime) -> Result<(), Fail> {
 fn plays_reservations(rt: HostRuntime) -> Result<(), Fail> {
     let head = "rtsched trace 2\nset ";
     assert!(rt; plays(rt.alloc(), POLLING, &[head, POLLING, "\n", POLLING_REST])?);
+    Ok(())
+}
+
+#[test]
+fn plays_with_tools_of_a_stranger(rt: HostRuntime) -> Result<(), Fail> {
+    let alloc = rt.alloc();
+    let mut src = SureSource::new(BOUND_REACHED.as_bytes().to_vec(alloc)?);
+    let mut out = SureSink::new(alloc, 8192)?;
+    let three = Strange {
+        is_endless: false,
+        fed: 0,
+    };
+    let endless = Strange {
+        is_endless: true,
+        fed: 0,
+    };
+    let tools = vec![in alloc; three, endless]?;
+    let words = words(alloc, &["sim"])?;
+    let status = sim(alloc, words.as_slice(), &mut src, &mut out, tools);
+    assert_eq!(rt; status, Status::Ok);
+    let head = "rtsched trace 2\nset ";
+    let mut wanted = format!(in alloc;
+        "{head}{BOUND_REACHED}\n{BOUND_REACHED_REST}count X 3\ncount Y"
+    )?;
+    for i in 0..64u32 {
+        let word = format!(in alloc; " {i}")?;
+        wanted.push_str(&word)?;
+    }
+    wanted.push('\n')?;
+    assert_eq!(rt; out.as_slice(), wanted.as_bytes());
+    Ok(())
+}
+
+#[test]
+fn plays_with_no_tools(rt: HostRuntime) -> Result<(), Fail> {
+    let alloc = rt.alloc();
+    let mut src = SureSource::new(FIRST_PATH.as_bytes().to_vec(alloc)?);
+    let mut out = SureSink::new(alloc, 4096)?;
+    let words = words(alloc, &["sim"])?;
+    let none = Vec::<Strange>::new(alloc);
+    let status = sim(alloc, words.as_slice(), &mut src, &mut out, none);
+    assert_eq!(rt; status, Status::Ok);
+    let wanted = format!(in alloc; "{FIRST_PATH_HEAD}{FIRST_PATH_REST}")?;
+    assert_eq!(rt; out.as_slice(), wanted.as_bytes());
+    Ok(())
+}
+
+#[test]
+fn loads_a_generated_set(rt: HostRuntime) -> Result<(), Fail> {
+    let alloc = rt.alloc();
+    let mut src = source(alloc, "x", &[])?;
+    let mut out = SureSink::new(alloc, 4096)?;
+    let status = run(alloc, &["load", "0"], &mut src, &mut out)?;
+    assert_eq!(rt; status, Status::Ok);
+    assert_eq!(rt; out.as_slice(), LOAD.as_bytes());
+    let mut buf = [0u8; 2];
+    assert_eq!(rt; src.read(&mut buf), Ok(1));
     Ok(())
 }
 
@@ -278,12 +448,7 @@ fn refuses_more_bytes_than_the_limit(rt: HostRuntime) -> Result<(), Fail> {
     let spaces = vec![in alloc; b' '; MOST_SET_BYTES as usize + 1]?;
     let mut src = SureSource::new(spaces);
     let mut out = sink(alloc, &[])?;
-    let status = sim(
-        alloc,
-        words(alloc, &["sim"])?.as_slice(),
-        &mut src,
-        &mut out,
-    );
+    let status = run(alloc, &["sim"], &mut src, &mut out)?;
     assert_eq!(rt; status, Status::TooLong);
     assert_eq!(rt; out.as_slice(), b"".as_slice());
     Ok(())
@@ -295,12 +460,7 @@ fn a_failing_read_is_a_read_fault(rt: HostRuntime) -> Result<(), Fail> {
     let bytes = vec![in alloc; b'x'; 200]?;
     let mut src = MemSource::new(bytes, 100, [1u32].to_vec(alloc)?);
     let mut out = sink(alloc, &[])?;
-    let status = sim(
-        alloc,
-        words(alloc, &["sim"])?.as_slice(),
-        &mut src,
-        &mut out,
-    );
+    let status = run(alloc, &["sim"], &mut src, &mut out)?;
     assert_eq!(rt; status, Status::ReadFault);
     assert_eq!(rt; out.as_slice(), b"".as_slice());
     Ok(())
@@ -311,12 +471,7 @@ fn a_failing_write_leaves_the_lines_before_it(rt: HostRuntime) -> Result<(), Fai
     let alloc = rt.alloc();
     let mut src = source(alloc, FIRST_PATH, &[])?;
     let mut out = sink(alloc, &[2])?;
-    let status = sim(
-        alloc,
-        words(alloc, &["sim"])?.as_slice(),
-        &mut src,
-        &mut out,
-    );
+    let status = run(alloc, &["sim"], &mut src, &mut out)?;
     assert_eq!(rt; status, Status::WriteFault);
     assert_eq!(rt; out.as_slice(), FIRST_PATH_HEAD.as_bytes());
     Ok(())
@@ -330,12 +485,7 @@ fn checks(alloc: Global, parts: &[&str], ends: Status, line: &str) -> Result<boo
     }
     let mut src = SureSource::new(text);
     let mut out = SureSink::new(alloc, 4096)?;
-    let status = sim(
-        alloc,
-        words(alloc, &["check"])?.as_slice(),
-        &mut src,
-        &mut out,
-    );
+    let status = run(alloc, &["check"], &mut src, &mut out)?;
     Ok(status == ends && out.as_slice() == line.as_bytes())
 }
 
@@ -395,9 +545,16 @@ fn checks_each_group(rt: HostRuntime) -> Result<(), Fail> {
 }
 
 #[test]
+fn checks_a_reservation(rt: HostRuntime) -> Result<(), Fail> {
+    let trace: [&str; 4] = ["rtsched trace 2\nset ", POLLING, "\n", POLLING_REST];
+    assert!(rt; checks(rt.alloc(), trace.as_slice(), Status::Ok, "valid 6\n")?);
+    Ok(())
+}
+
+#[test]
 fn refuses_what_is_no_trace(rt: HostRuntime) -> Result<(), Fail> {
     let alloc = rt.alloc();
-    let all: [(&[&str], Status); 5] = [
+    let all: [(&[&str], Status); 4] = [
         (
             &["rtsched trace 9\n"],
             refused(SetKind::NotTrace, Part::Line, 1),
@@ -410,10 +567,6 @@ fn refuses_what_is_no_trace(rt: HostRuntime) -> Result<(), Fail> {
         (
             &["rtsched trace 2\n", "set {\n"],
             refused(SetKind::NotJson, Part::Whole, 0),
-        ),
-        (
-            &["rtsched trace 2\nset ", WITH_A_RESERVATION, "\n"],
-            refused(SetKind::Unbuilt, Part::Whole, 0),
         ),
     ];
     for (parts, ends) in all {
@@ -429,12 +582,7 @@ fn a_write_fault_goes_before_an_invalid_trace(rt: HostRuntime) -> Result<(), Fai
     text.extend_from_slice(NO_END_REST.as_bytes())?;
     let mut src = SureSource::new(text);
     let mut out = sink(alloc, &[0])?;
-    let status = sim(
-        alloc,
-        words(alloc, &["check"])?.as_slice(),
-        &mut src,
-        &mut out,
-    );
+    let status = run(alloc, &["check"], &mut src, &mut out)?;
     assert_eq!(rt; status, Status::WriteFault);
     assert_eq!(rt; out.as_slice(), b"".as_slice());
     Ok(())
@@ -452,12 +600,7 @@ fn upgrades(alloc: Global, parts: &[&str], ends: Status, wanted: &[&str]) -> Res
     }
     let mut src = SureSource::new(text);
     let mut out = SureSink::new(alloc, 4096)?;
-    let status = sim(
-        alloc,
-        words(alloc, &["upgrade"])?.as_slice(),
-        &mut src,
-        &mut out,
-    );
+    let status = run(alloc, &["upgrade"], &mut src, &mut out)?;
     Ok(status == ends && out.as_slice() == upgraded.as_bytes())
 }
 
@@ -488,7 +631,7 @@ fn other_words_are_no_command(rt: HostRuntime) -> Result<(), Fail> {
     let alloc = rt.alloc();
     let mut src = source(alloc, "x", &[])?;
     let mut out = sink(alloc, &[])?;
-    let all: [&[&str]; 7] = [
+    let all: [&[&str]; 12] = [
         &[],
         &["sim", "x"],
         &["Sim"],
@@ -496,9 +639,14 @@ fn other_words_are_no_command(rt: HostRuntime) -> Result<(), Fail> {
         &["Check"],
         &["upgrade", "x"],
         &["Upgrade"],
+        &["load"],
+        &["load", "01"],
+        &["load", "+1"],
+        &["load", "18446744073709551616"],
+        &["load", "1", "1"],
     ];
     for texts in all {
-        let status = sim(alloc, words(alloc, texts)?.as_slice(), &mut src, &mut out);
+        let status = run(alloc, texts, &mut src, &mut out)?;
         assert_eq!(rt; status, Status::Usage);
     }
     let mut buf = [0u8; 2];
@@ -514,7 +662,7 @@ fn says_each_fault(rt: HostRuntime) -> Result<(), Fail> {
         (Status::Invalid(7), "invalid at line 7"),
         (
             Status::Usage,
-            "usage: rtsim sim, rtsim check, rtsim upgrade",
+            "usage: rtsim sim, rtsim check, rtsim load N, rtsim upgrade",
         ),
         (
             refused(SetKind::NotJson, Part::Whole, 0),
@@ -543,10 +691,6 @@ fn says_each_fault(rt: HostRuntime) -> Result<(), Fail> {
         (
             refused(SetKind::NotTrace, Part::Line, 1),
             "bad input: not a trace at line 1",
-        ),
-        (
-            refused(SetKind::Unbuilt, Part::Whole, 0),
-            "bad input: unbuilt at whole",
         ),
         (Status::ReadFault, "reading failed"),
         (Status::WriteFault, "writing failed"),

@@ -10,13 +10,12 @@ ghost use Rattle.set_input.specs.Stopped.{EndsReading};
 
 use rt_base::MOST_TRACE_BYTES;
 use rt_fault::{Source, Status, read_all};
-use rt_groups::is_built;
 use rt_task::{Part, SetKind};
-use set_input::{refused, unbuilt};
+use set_input::refused;
 use std::alloc::Global;
 use trace_read::{Trace, TraceFault, read_trace};
 
-/// Reads a trace of either format to its end: one whose set is valid and is played so far.
+/// Reads a trace of either format to its end: one whose set is valid.
 pub(crate) fn read_trace_input<S: Source>(
     alloc: Global,
     src: &mut S,
@@ -38,8 +37,5 @@ pub(crate) fn read_trace_input<S: Source>(
         Err(TraceFault::BadSet(bad)) => return Err(Status::BadInput(bad)),
         Err(TraceFault::NoMemory) => return Err(Status::NoMemory),
     };
-    if !is_built(&trace.setup) {
-        return Err(unbuilt());
-    }
     Ok((bytes, trace))
 }

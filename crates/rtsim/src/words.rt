@@ -1,6 +1,8 @@
 //! The words of a command line, after the program's name.
-ghost use Rattle.std.specs.Prelude.{◌≡◌};
+ghost use Rattle.std.specs.Prelude.{◌≡◌, ℕ, MatchOption};
 ghost use Rattle.rtsim.specs.Sim as commands;
+
+use load_set::number_of;
 
 /// Whether the words are those of the command `sim`.
 pub(crate) fn is_sim(words: &[String]) -> bool
@@ -9,6 +11,17 @@ pub(crate) fn is_sim(words: &[String]) -> bool
     match words {
         [word] => word.as_str() == "sim",
         _ => false,
+    }
+}
+
+/// The number of a load, where the words are those of the command `load`.
+pub(crate) fn load_number(words: &[String]) -> Option<u64>
+    ensures { MatchOption result ((n : ℕ) → ¬ (commands.IsLoad words.now n))
+        (λ n. commands.IsLoad words.now n) }
+{
+    match words {
+        [word, number] if word.as_str() == "load" => number_of(number.as_str()),
+        _ => None,
     }
 }
 

@@ -1,4 +1,3 @@
-pub mod PlayableLaws
 pub mod EndLaws
 pub mod InputLaws
 pub mod Promises

@@ -1,7 +1,6 @@
 pub mod Ends
 pub mod LinksOf
 pub mod Throughout
-pub mod Players
 pub mod Inputs
 pub mod Answers
 pub mod Stopped

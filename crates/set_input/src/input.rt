@@ -5,24 +5,21 @@ ghost use Rattle.set_input.specs.Ends.{reading};
 ghost use Rattle.set_input.specs.Inputs.{WasRead, WasRefused};
 ghost use Rattle.set_input.specs.Stopped.{EndsReading};
 
-use crate::player::Player;
-use crate::refusal::unbuilt;
 use rt_base::MOST_SET_BYTES;
 use rt_fault::{Source, Status, read_all};
 use rt_task::Setup;
 use set_read::read_set;
 use std::alloc::Global;
 
-/// Reads a set to its end: one that is valid, and that the player plays.
-pub fn read_input<S: Source>(alloc: Global, player: Player, src: &mut S) -> Result<Setup, Status>
-    ensures ok { IfOk result (λ s. WasRead player (reading S.left S.faults src.old src.new) s) }
+/// Reads a valid set to its end.
+pub fn read_input<S: Source>(alloc: Global, src: &mut S) -> Result<Setup, Status>
+    ensures ok { IfOk result (λ s. WasRead (reading S.left S.faults src.old src.new) s) }
     ensures ends { let source = reading S.left S.faults src.old src.new in
-        EndsReading source MOST_SET_BYTES (WasRefused player source) result }
+        EndsReading source MOST_SET_BYTES (WasRefused source) result }
 {
     let bytes = read_all(alloc, src, MOST_SET_BYTES)?;
     let setup = read_set(alloc, bytes.as_slice())?;
-    if !player.plays(&setup) {
-        return Err(unbuilt());
-    }
+    // A proof knows that a setup is valid once its parts are read.
+    let _parts = setup.parts();
     Ok(setup)
 }

@@ -3,10 +3,8 @@
 
 mod fault_line;
 mod input;
-mod player;
 mod refusal;
 
 pub use fault_line::FaultLine;
 pub use input::read_input;
-pub use player::Player;
-pub use refusal::{refused, unbuilt};
+pub use refusal::refused;

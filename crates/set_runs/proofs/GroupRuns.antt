@@ -3,23 +3,18 @@ use Rattle.std.proofs.Common.{◌≡◌, ℕ, suc, ◌<◌, Bool, true, false, L
 use Rattle.std.specs.Prelude.{◌==◌, ◌||◌, All, Contains}
 use Rattle.std.proofs.lemmas.List.{get_or-map, length-map}
 use Rattle.rt_task.specs.declared.Parts.{Parts}
-use Rattle.rt_history.specs.declared.Entry.{Entry}
 use Rattle.rt_rules.specs.Numbers.{has}
 use Rattle.rt_model.specs.Group.{group_processors}
 use Rattle.rt_groups.specs.Groups.{GroupHistory, group_of}
-use Rattle.rt_plays.specs.Drives.{steps_given}
 use Rattle.rt_plays.specs.Homes.{IsProcessorOf}
-use Rattle.rt_plays.specs.Plays.{group_with}
-use Rattle.rt_plays.specs.Scripts.{script, steps_of}
-use Rattle.rt_plays.specs.ScriptPlays.{IsBegunScriptPlay}
-use Rattle.rt_plays.proofs.ScriptParts.{play-of-part}
+use Rattle.rt_plays.specs.Plays.{group_with, IsBegunPlay}
 use Rattle.turn_cell.specs.Places.{Cell}
-use Rattle.turn_cell.specs.Words.{AgreeOn}
+use Rattle.turn_cell.specs.Words.{AgreeOn, StartsWith}
 use Rattle.turn_cell.proofs.Tools.{one_some}
 use Rattle.cpu_site.specs.declared.story.GroupOf.{GroupOf}
 use Rattle.cpu_site.specs.Playing.{IsOver}
 use Rattle.cpu_site.specs.Seats.{about, cpu_of, group_at, unused_seat, unused_seats, About, CpuPlace}
-use Rattle.cpu_site.proofs.Words.{script-of}
+use Rattle.cpu_site.proofs.Drives.{over-later, play-whole}
 use Rattle.set_runs.specs.Runs.{AreDriven, IsRunOf}
 
 -- the place of a number in a list
@@ -31,14 +26,22 @@ has-at (x ∷ xs) q h = by_case (q == x) refl h (has-at xs q)
     by_case true is m rest = (0, omega arith, sym (eqb-true q x is))
     by_case false is m rest = let r = rest m in let low = r.1 in (suc r.0, omega (arith, low), r.2)
 
--- seats that were not used are all of one site
-pub unused-cells : (cell : Cell GroupOf) (qs : List ℕ) (seats : List CpuPlace) → seats ≡ unused_seats cell qs → All (λ (p : CpuPlace). p.cell ≡ cell) seats
-unused-cells cell qs seats is k d lt =
+-- seats that were not used are all of one site, and gave no turn as over
+pub unused-seats : (cell : Cell GroupOf) (qs : List ℕ) (seats : List CpuPlace) → seats ≡ unused_seats cell qs → All (λ (p : CpuPlace). (p.cell ≡ cell) × (p.turns ≡ 0)) seats
+unused-seats cell qs seats is k d lt =
     let low : k < length qs = omega (arith, lt, ap length is, length-map qs (unused_seat cell)) in
-    ap (λ (ps : List CpuPlace). (get_or ps k d).cell) is ∙ ap (λ (p : CpuPlace). p.cell) (get_or-map (unused_seat cell) qs k 0 d low)
+    let seat : get_or seats k d ≡ unused_seat cell (get_or qs k 0) = ap (λ (ps : List CpuPlace). get_or ps k d) is ∙ get_or-map (unused_seat cell) qs k 0 d low in
+    (ap (λ (p : CpuPlace). p.cell) seat, ap (λ (p : CpuPlace). p.turns) seat)
+
+pub unused-cells : (cell : Cell GroupOf) (qs : List ℕ) (seats : List CpuPlace) → seats ≡ unused_seats cell qs → All (λ (p : CpuPlace). p.cell ≡ cell) seats
+unused-cells cell qs seats is k d lt = (unused-seats cell qs seats is k d lt).0
+
+-- there are as many as processors
+pub unused-count : (cell : Cell GroupOf) (qs : List ℕ) (seats : List CpuPlace) → seats ≡ unused_seats cell qs → length seats ≡ length qs
+unused-count cell qs seats is = ap length is ∙ length-map qs (unused_seat cell)
 
 pub driven-cells : (cell : Cell GroupOf) (before after : List CpuPlace) → AreDriven cell before after → All (λ (p : CpuPlace). p.cell ≡ cell) after
-driven-cells cell before after are k d lt = (are.each k d (let all = are.all in omega (arith, lt, all))).cell_is
+driven-cells cell before after are k d lt = (are.each k d d (let all = are.all in omega (arith, lt, all))).cell_is
 
 -- each processor of a group has its seat
 module _ (cell : Cell GroupOf) (p : Parts) (n : ℕ) (before after : List CpuPlace) (unused : before ≡ unused_seats cell (group_processors (group_with p n))) (are : AreDriven cell before after) where
@@ -64,7 +67,7 @@ module _ (cell : Cell GroupOf) (p : Parts) (n : ℕ) (before after : List CpuPla
         before_there = low_before;
         after_there = low_after;
         own = own;
-        kept = λ d. (are.each k d low_before).cpu_is ∙ own d;
+        kept = λ d. (are.each k d d low_before).cpu_is ∙ own d;
       }
 
   pub all-seated : cell.subject ≡ Some (record { setup = p; number = n }) → About cell (λ s. (q : ℕ) → IsProcessorOf (group_at s) q → Contains (map (λ (x : CpuPlace). x.cpu) after) q)
@@ -78,24 +81,24 @@ module _ (cell : Cell GroupOf) (p : Parts) (n : ℕ) (before after : List CpuPla
         get_or-map (λ (x : CpuPlace). x.cpu) after seat.place d q low ∙ seat.kept d,
       )
 
-  module _ (h : GroupHistory) (subject : cell.subject ≡ Some (record { setup = p; number = n })) (told : cell.subject ≡ Some (about h)) (begun : IsBegunScriptPlay (group_of h) h.entries)
-      (whole : All (λ (x : CpuPlace). AgreeOn cpu_of x.cpu h.entries x.seen) after) where
+  module _ (h : GroupHistory) (subject : cell.subject ≡ Some (record { setup = p; number = n })) (told : cell.subject ≡ Some (about h)) (begun : IsBegunPlay (group_of h) h.entries)
+      (later : All (λ (x : CpuPlace). StartsWith h.entries x.seen) after) (whole : All (λ (x : CpuPlace). AgreeOn cpu_of x.cpu h.entries x.seen) after) where
     about_is : about h ≡ record { setup = p; number = n }
     about_is = one_some cell.subject _ _ told subject
 
-    -- what a processor's seat has seen of its script, the history has
-    over-whole : (q : ℕ) → IsProcessorOf (group_of h) q → script (steps_given h.setup.drive) q ≡ script (steps_of h.entries) q
+    -- where no step of a processor is left in what its seat has seen, none is in the history
+    over-whole : (q : ℕ) → IsProcessorOf (group_of h) q → IsOver (group_of h) q h.entries
     over-whole q there =
         let seat = seat-of q (subst (λ (x : GroupOf). IsProcessorOf (group_at x) q) about_is there) in
         let d : CpuPlace = unused_seat cell q in
         let last : CpuPlace = get_or after seat.place d in
-        let over : IsOver h.setup q last.seen = subst (λ k. IsOver h.setup k last.seen) (seat.own d) ((are.each seat.place d seat.before_there).over (about h) told) in
+        let over : IsOver (group_of h) q last.seen = subst (λ k. IsOver (group_of h) k last.seen) (seat.own d) ((are.each seat.place d d seat.before_there).over (about h) told) in
         let agree : AgreeOn cpu_of q h.entries last.seen = subst (λ k. AgreeOn cpu_of k h.entries last.seen) (seat.kept d) (whole seat.place d seat.after_there) in
-        sym over ∙ script-of q last.seen ∙ ap (map (λ (e : Entry). e.step)) (sym agree) ∙ sym (script-of q h.entries)
+        over-later (group_of h) q last.seen h.entries (later seat.place d seat.after_there) agree over
 
     pub group-run : IsRunOf p n h
     group-run = record {
       setup_is = ap (λ (s : GroupOf). s.setup) about_is;
       group_is = ap (λ (s : GroupOf). s.number) about_is;
-      play = play-of-part (group_of h) h.entries begun over-whole;
+      play = play-whole (group_of h) h.entries begun over-whole;
     }

@@ -1,2 +1,4 @@
+pub mod Drivers
 pub mod GroupRuns
+pub mod Lists
 pub mod SetRuns

@@ -1,13 +1,14 @@
 //! A group whose processors play in threads, each in one of its own.
-ghost use Rattle.std.specs.Prelude.{◌≡◌, true, All, IfOk};
-ghost use Rattle.rt_groups.specs.Built.{is_built};
+ghost use Rattle.std.specs.Prelude.{◌≡◌, ◌<◌, ◌≤◌, length, All, IfOk};
+ghost use Rattle.rt_base.specs.declared.TheConstants.{MOST_CPUS};
 ghost use Rattle.rt_groups.specs.Groups.{IsGroupOf};
 ghost use Rattle.set_runs.specs.Runs.{AreDriven, IsDriven, IsRunOf};
 
+use crate::turn_run::drive_all_turns;
 use cpu_site::{CpuSeat, Gate, Site, drive};
 use group_engine::Engine;
 use rt_base::{GroupNo, NoMemory};
-use rt_task::Setup;
+use rt_task::{Drive, Setup};
 use std::alloc::Global;
 use std::sync::Wait;
 use std::thread::{self, Threads};
@@ -42,7 +43,27 @@ fn drive_all<R: Threads + Wait + Sync, G: Gate + Sync>(
     }
 }
 
-/// The engine of a group, once each of its processors has played its whole script.
+/// Plays the steps or the turns of all seats' processors.
+fn play_all<R: Threads + Wait + Sync, G: Gate + Sync>(
+    rt: &R,
+    alloc: Global,
+    drive: &Drive,
+    site: &Site,
+    seats: Vec<CpuSeat>,
+    gate: &G,
+) -> Result<Vec<CpuSeat>, NoMemory>
+    requires seats { All (λ p. (p.cell ≡ site.now.cell) × (p.turns ≡ 0)) seats.items }
+    requires some { 0 < length seats.items }
+    requires few { length seats.items ≤ MOST_CPUS }
+    ensures { IfOk result (λ v. AreDriven site.now.cell seats.items v.items) }
+{
+    match drive {
+        Drive::Steps(_) => drive_all(rt, site, seats, gate),
+        Drive::Horizon(_) => drive_all_turns(rt, alloc, site, seats, gate),
+    }
+}
+
+/// The engine of a group, once each of its processors has played its whole script, or all its turns.
 pub(crate) fn run_group<R: Threads + Wait + Sync, G: Gate + Sync>(
     rt: &R,
     alloc: Global,
@@ -50,11 +71,10 @@ pub(crate) fn run_group<R: Threads + Wait + Sync, G: Gate + Sync>(
     group: GroupNo,
     gate: &G,
 ) -> Result<Engine, NoMemory>
-    requires group { IsGroupOf setup.now group.0 }
-    requires built { is_built setup.now ≡ true }
+    requires { IsGroupOf setup.now group.0 }
     ensures { IfOk result (λ engine. IsRunOf setup.now group.0 engine) }
 {
     let (site, seats) = Site::open(alloc, setup, group)?;
-    let seats = drive_all(rt, &site, seats, gate)?;
+    let seats = play_all(rt, alloc, &setup.parts().drive, &site, seats, gate)?;
     Ok(site.close(seats))
 }

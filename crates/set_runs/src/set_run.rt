@@ -1,6 +1,5 @@
 //! All groups of a set, beside each other.
-ghost use Rattle.std.specs.Prelude.{◌≡◌, ◌<◌, ◌^◌, true, map, IfOk, Ok};
-ghost use Rattle.rt_groups.specs.Built.{is_built};
+ghost use Rattle.std.specs.Prelude.{◌≡◌, ◌<◌, ◌^◌, map, IfOk, Ok};
 ghost use Rattle.rt_groups.specs.Groups.{IsGroupOf};
 ghost use Rattle.set_runs.specs.Runs.{AreRunsOf, IsRunOf};
 
@@ -28,22 +27,21 @@ fn all_run(alloc: Global, runs: Vec<Result<Engine, NoMemory>>) -> Result<Vec<Eng
     Ok(engines)
 }
 
-/// The engines of the set's groups, by rising number, once each processor has played its whole script in a thread of its
-/// own. The gate is asked before each play, also before the one that finds no step left.
+/// The engines of the set's groups, by rising number, once each processor has played its whole script, or all its turns, in
+/// a thread of its own. The gate is asked before each play, also before the one that finds no step left.
 ///
-/// A processor whose thread cannot be started is played by the caller. Memory is taken to open the groups and to start
-/// and join threads, and by no play.
+/// Where a thread cannot be started, the caller plays: that processor's script, or the turns of its group, each turn of all
+/// processors before the next of any. Memory is taken to open the groups and to start and join threads, and by no play.
 pub fn run_set<R: Threads + Wait + Sync, G: Gate + Sync>(
     rt: &R,
     alloc: Global,
     setup: &Setup,
     gate: &G,
 ) -> Result<Vec<Engine>, NoMemory>
-    requires { is_built setup.now ≡ true }
     ensures { IfOk result (λ engines. AreRunsOf setup.now engines.items) }
 {
     let run = |n: usize| -> Result<Engine, NoMemory>
-        requires { (n < 2 ^ 32) × IsGroupOf setup.now n × (is_built setup.now ≡ true) }
+        requires { (n < 2 ^ 32) × IsGroupOf setup.now n }
         ensures { IfOk result (λ engine. IsRunOf setup.entry.now n engine) }
     { run_group(rt, alloc, setup, GroupNo(n as u32), gate) };
     // A proof knows that a setup is valid once its parts are read.

@@ -26,7 +26,7 @@ use Rattle.rt_plays.specs.Scripts.{script, steps_of}
 use Rattle.rt_plays.proofs.PlayLaws.{begun-grows}
 use Rattle.rt_plays.proofs.ScriptParts.{part-next, play-of-part, script-steps_of-next}
 use Rattle.rt_plays.proofs.Sentence.{opening-past}
-use Rattle.rt_groups.specs.Built.{gives_steps}
+use Rattle.rt_groups.specs.Drives.{gives_steps}
 use Rattle.rank_afresh.specs.Standing.{Standing, group_of}
 use Rattle.trace_text.specs.Groups.{cpu_numbers}
 use Rattle.turn_follow.specs.Turns as turns

@@ -1,7 +1,6 @@
 -- Lines that were judged right so far, and what the next one comes to.
-use Rattle.std.proofs.Common.{◌≡◌, ◌≢◌, ℕ, suc, ◌+◌, ◌*◌, ◌<◌, ◌≤◌, ◌^◌, inl, inr, ◌⊎◌, Bool, true, false, ◌&&◌, ◌==◌, List, [], ◌∷◌, ◌++◌, length, take, drop, get_or, Option, None, refl, sym, ap, ◌∙◌, subst, arith, eqb-true, append-nil, append_assoc, length-append}
-use Rattle.std.specs.Prelude.{All, Some, sum_by}
-use Rattle.std.specs.Option.{is_some}
+use Rattle.std.proofs.Common.{◌≡◌, ◌≢◌, ℕ, suc, ◌+◌, ◌*◌, ◌<◌, ◌≤◌, ◌^◌, inl, inr, ◌⊎◌, Bool, true, false, ◌&&◌, ◌==◌, List, [], ◌∷◌, ◌++◌, length, map, take, drop, get_or, refl, sym, ap, ◌∙◌, subst, arith, eqb-true, append-nil, append_assoc, length-append}
+use Rattle.std.specs.Prelude.{All, flat_map, sum_by, Option}
 use Rattle.std.proofs.lemmas.List.Sums.{sum-map, sum_by-cons, sum_by_push}
 use Rattle.std.proofs.lemmas.List.{append_cancel_left, length-drop, length-take-le, take-append-drop}
 use Rattle.std.proofs.lemmas.List.Elements.{All-append, All-get_or, All-head, All-tail, All-take}
@@ -18,31 +17,40 @@ use Rattle.rt_groups.specs.Groups.{IsGroupOf}
 use Rattle.rt_groups.proofs.GroupCount.{groups_are_counted}
 use Rattle.rt_plays.specs.Plays.{ArePlays, IsPlay, group_count, group_with}
 use Rattle.trace_lines.specs.Lines.{Link, Line, group_line, entry_line, block_line, end_line, count_line, links_of}
+use Rattle.trace_lines.specs.declared.format.Version.{Version}
+use Rattle.trace_lines.specs.Grammar.{line_text}
+use Rattle.trace_lines.specs.Known.{Known, known_of}
+use Rattle.trace_tools.specs.Seats.{Seat, seat_after, seat_line, seat_of, seats_after}
+use Rattle.trace_tools.specs.Tools.{Tool}
+use Rattle.trace_text.specs.CountLines.{shown_as, shown_entries, shown_from}
 use Rattle.trace_text.specs.TraceText.{lines_from, links_at}
 use Rattle.trace_text.proofs.GroupLaws.{groups-few}
 use Rattle.trace_text.proofs.LineLaws.{past_none}
 use Rattle.trace_read.specs.Lines.{line_of}
 use Rattle.trace_read.specs.declared.lines.Line.TheVariants as read
 use Rattle.trace_read.specs.declared.lines.Line as kinds
-use Rattle.trace_laws.specs.ValidTexts.{IsValidText, entry_count}
+use Rattle.trace_laws.specs.ValidTexts.{entry_count}
 use Rattle.trace_laws.proofs.Plays.{begun-whole, few-entries}
 use Rattle.trace_lines.specs.declared.links.CpuLink.{CpuLink}
 use Rattle.trace_check.specs.declared.follow.Follow.{Follow}
 use Rattle.trace_check.specs.declared.progress.Progress.{Progress}
 use Rattle.trace_check.specs.declared.progress.Followed.{Followed}
-use Rattle.trace_check.specs.declared.verdict.Verdict.TheVariants.{Valid, Invalid}
+use Rattle.trace_check.specs.declared.verdict.Verdict.{Verdict}
+use Rattle.trace_check.specs.declared.verdict.Verdict.TheVariants.{Invalid, Valid}
 use Rattle.trace_check.specs.Verdicts.{IsInvalid}
 use Rattle.trace_check.specs.SameLinks.{same_links}
 use Rattle.trace_check.specs.Following.{IsAccepted, IsFollowing, IsFollowingWith, IsNextEntry}
 use Rattle.trace_check.specs.Places.{Place}
 use Rattle.trace_check.specs.GroupLines.{ArePlaysFrom, IsOtherLine, NoEntryFirst, lines_of_groups, lines_so_far, opening_line}
-use Rattle.trace_check.specs.Judging.{IsJudged, begins_with, begins_with_end}
+use Rattle.trace_check.specs.Judging.{IsJudged, IsJudgedText, IsShownText, begins_with, begins_with_end, verdict_behind}
+use Rattle.trace_check.specs.LinesAlike.{behind_lines}
 use Rattle.trace_check.specs.Progress.{AreAllRight, AreRight, IsEndedAt, IsFollowedTo, finished, missing, unfinished}
 use Rattle.trace_check.specs.RequestLines.{AllStandFirst, StopAt}
 use Rattle.trace_check.proofs.LinkLists.{same_links-self, same_links-true}
 use Rattle.trace_check.proofs.GroupLines.{IsNoEnd, blocks-no_end, lines_so_far-last, lines_so_far-none, next-step, next-told, next_line, so_far-no_end}
 use Rattle.trace_check.proofs.SetLines.{AreClosed, GoesOn, IsEntryNext, IsNextAfter, completed-between, completed-whole, completed-within, from-all, goes-on, groups-no_end, lines-last, lines_behind, lines_through, next-between, next-within, plays-append, whole-lines}
-use Rattle.trace_check.proofs.Judged.{ended-valid, stopped}
+use Rattle.trace_check.proofs.Judged.{behind-is, behind-judged, same-histories, stopped}
+use Rattle.trace_check.proofs.Shown.{lines-shown, shown-group, shown-more, shown-none}
 use Rattle.trace_check.proofs.LinePlaces.{StandBefore, drop-further, heads, rest-at, rest-cons, stand-further, stand-more, stand-within, tails}
 
 -- ---- lines
@@ -54,23 +62,6 @@ other-line (read.EntryLine n e links) other = other n e links refl
 other-line (read.BlockLine i t s n m b) other = tt
 other-line read.EndLine other = tt
 other-line (read.CountLine n totals) other = tt
-
--- nothing stops the lines
-pub no-stop : (o : Option ℕ) → is_some o ≡ false → o ≡ None
-no-stop None h = refl
-no-stop (Some n) h = cc
-
--- no line but the last of plays is `end`
-inner-end : (ls front : List Line) (l : Line) (more : List Line) → All IsNoEnd ls → ls ++ end_line ∷ [] ≡ (front ++ end_line ∷ []) ++ l ∷ more → ⊥
-inner-end [] [] l more none e = cc
-inner-end [] (x ∷ front) l more none e = omega (arith, ap length e, length-append (front ++ end_line ∷ []) (l ∷ more), length-append front (end_line ∷ []))
-inner-end (y ∷ ls) [] l more none e = All-head IsNoEnd y ls none (heads _ _ _ _ e)
-inner-end (y ∷ ls) (x ∷ front) l more none e = inner-end ls front l more (All-tail IsNoEnd y ls none) (tails _ _ _ _ e)
-
-last-end : (ls front : List Line) → All IsNoEnd front → ls ++ end_line ∷ [] ≡ front → ⊥
-last-end ls front none e =
-    let inside : length ls < length front = omega (arith, ap length e, length-append ls (end_line ∷ [])) in
-    All-get_or IsNoEnd front (length ls) end_line inside none (ap (λ (xs : List Line). get_or xs (length ls) end_line) (sym e) ∙ get_or-append_seam ls end_line [] end_line)
 
 -- two lists with one element more that are the same
 last-same : {A : Type 0} (xs ys : List A) (x y : A) → xs ++ x ∷ [] ≡ ys ++ y ∷ [] → (xs ≡ ys) × (x ≡ y)
@@ -132,15 +123,16 @@ count-few p n (es ∷ hs) valid plays =
 pub group-low : (p : Parts) (n : ℕ) → IsValid p → IsGroupOf p n → n < group_count p
 group-low p n valid there = (groups_are_counted p n valid).0 there
 
--- so many of the lines are those of whole groups and of the entries of group n that were followed
-pub record IsRight (p : Parts) (lines : List Line) (n : ℕ) (from : Progress) (place : ℕ) (f : Follow) : Type 0 where
-  pub before : AreRight p lines n from
+-- so many of the lines are those of whole groups and of the entries of group n that were followed, which were shown too
+pub record IsRight (p : Parts) (lines : List Line) (n : ℕ) (from : Progress) (place : ℕ) (f : Follow) (opened was seats : List Seat) : Type 0 where
+  pub before : AreRight p lines n from opened was
   pub entries : List Entry
+  pub shown : seats ≡ seats_after (shown_entries (group_with p n) 0 [] entries) was
   pub following : IsFollowing (group_with p n) entries f
   pub stands : StandBefore (lines_through p before.histories n entries) lines place
 
 -- where they were followed to
-abbrev pub place_at : {p : Parts} → {lines : List Line} → {n : ℕ} → {from : Progress} → {place : ℕ} → {f : Follow} → IsRight p lines n from place f → Place
+abbrev pub place_at : {p : Parts} → {lines : List Line} → {n : ℕ} → {from : Progress} → {place : ℕ} → {f : Follow} → {opened was seats : List Seat} → IsRight p lines n from place f opened was seats → Place
 place_at {p = p} {n = n} right = record { group = group_with p n; entries = right.entries }
 
 -- the line that shows the links of a group at opening
@@ -150,14 +142,14 @@ opened-line {p = p} n f following =
     ap (group_line n) (following.links_are ∙ ap (λ past. links_at g past (group_processors g)) (past_none g))
 
 module _ (p : Parts) (lines : List Line) where
-  stands-before : {n : ℕ} → {r : Progress} → (right : AreRight p lines n r) → StandBefore (lines_of_groups p 0 right.histories) lines r.lines
+  stands-before : {n : ℕ} → {r : Progress} → {opened seats : List Seat} → (right : AreRight p lines n r opened seats) → StandBefore (lines_of_groups p 0 right.histories) lines r.lines
   stands-before right = record { place_is = right.place_is; lines_are = right.lines_are }
 
-  pub right-within : (n : ℕ) (r : Progress) → AreRight p lines n r → r.lines ≤ length lines
-  right-within n r right = stand-within (lines_of_groups p 0 right.histories) lines r.lines (stands-before right)
+  pub right-within : (n : ℕ) (r : Progress) (opened seats : List Seat) → AreRight p lines n r opened seats → r.lines ≤ length lines
+  right-within n r opened seats right = stand-within (lines_of_groups p 0 right.histories) lines r.lines (stands-before right)
 
   -- what stands behind whole groups is of no entry behind those of the last
-  closed-by : {n : ℕ} → {r : Progress} → (right : AreRight p lines n r) (l : Line) (others ls : List Line) → drop r.lines lines ≡ l ∷ others → AreClosed p right.histories (l ∷ ls)
+  closed-by : {n : ℕ} → {r : Progress} → {opened seats : List Seat} → (right : AreRight p lines n r opened seats) (l : Line) (others ls : List Line) → drop r.lines lines ≡ l ∷ others → AreClosed p right.histories (l ∷ ls)
   closed-by right l others ls here front es last =
       same-first (lines_behind p (length front) es) (subst (λ (rest : List Line). NoEntryFirst (lines_behind p (length front) es ++ rest)) here (right.closed front es last))
     where
@@ -166,26 +158,31 @@ module _ (p : Parts) (lines : List Line) where
       same-first (b ∷ bs) h = h
 
   -- before all groups
-  pub right-first : AreRight p lines 0 (record { lines = 0; entries = 0 })
-  right-first = record { histories = []; plays = tt; count = refl; place_is = refl; lines_are = refl; entries_are = refl; closed = λ front es none. absurd (omega (arith, ap length none, length-append front (es ∷ []))) }
-
-  -- plays have a line `end`
-  ended : (hs : List (List Entry)) (front : List Line) → All IsNoEnd front → lines_from p 0 hs ≡ front → ⊥
-  ended hs front none is = last-end (lines_of_groups p 0 hs) front none (sym (whole-lines p 0 hs) ∙ is)
+  pub right-first : (opened : List Seat) → AreRight p lines 0 (record { lines = 0; entries = 0 }) opened opened
+  right-first opened = record {
+    histories = [];
+    plays = tt;
+    count = refl;
+    place_is = refl;
+    lines_are = refl;
+    entries_are = refl;
+    shown = refl;
+    closed = λ front es none. absurd (omega (arith, ap length none, length-append front (es ∷ [])));
+  }
 
   -- ---- the line of a group
 
-  module _ (n : ℕ) (r : Progress) (right : AreRight p lines n r) (valid : IsValid p) (low : n < group_count p) where
+  module _ (n : ℕ) (r : Progress) (opened was : List Seat) (right : AreRight p lines n r opened was) (valid : IsValid p) (low : n < group_count p) where
     -- it is not there
-    pub opened-wrong : (links : List Link) → group_line n links ≡ opening_line (group_with p n) → begins_with n links (drop r.lines lines) ≡ false → (stop : Option ℕ) → IsJudged p lines stop (Invalid (r.lines + 3))
-    opened-wrong links shown other stop version bytes t same = subst (λ (m : ℕ). IsInvalid version p bytes (m + 3)) (sym right.place_is) (stopped version p valid bytes lines stop t front rest same (record {
+    pub opened-wrong : (links : List Link) → group_line n links ≡ opening_line (group_with p n) → begins_with n links (drop r.lines lines) ≡ false → IsJudged p lines (Invalid (r.lines + 3))
+    opened-wrong links shown other tools version bytes stop t same = subst (λ (m : ℕ). IsInvalid tools version p bytes (m + 3)) (sym right.place_is) (stopped tools version p valid bytes lines stop t front rest same (record {
       lines_are = right.lines_are;
       plays = all.0;
       are_plays = all.1;
       later = all.2.0;
       plays_begin = all.2.1;
       no_more = λ hs l others ls plays here begin. none_next l others here (next-between p hs right.histories l ls plays (closed-by right l others ls here) begin);
-      not_whole = λ hs plays none begin stops. ended hs front (groups-no_end p 0 right.histories) begin;
+      no_end = groups-no_end p 0 right.histories;
     }))
       where
         front : List Line
@@ -205,7 +202,7 @@ module _ (p : Parts) (lines : List Line) where
         none_next l others here (inr next) = omega (arith, next.all, low, right.count)
 
     -- it is
-    pub opened-right : (f : Follow) → IsFollowing (group_with p n) [] f → begins_with n (links_of f.links.items) (drop r.lines lines) ≡ true → IsRight p lines n r (r.lines + 1) f
+    pub opened-right : (f : Follow) → IsFollowing (group_with p n) [] f → begins_with n (links_of f.links.items) (drop r.lines lines) ≡ true → IsRight p lines n r (r.lines + 1) f opened was was
     opened-right f following begins =
         let line = begins-true n (links_of f.links.items) (drop r.lines lines) begins in
         let g : Group = group_with p n in
@@ -213,6 +210,7 @@ module _ (p : Parts) (lines : List Line) where
         record {
           before = right;
           entries = [];
+          shown = shown-none g was;
           following = following;
           stands = subst (λ (xs : List Line). StandBefore (lines_of_groups p 0 right.histories ++ xs) lines (r.lines + 1)) (ap (λ (l : Line). l ∷ []) (opened-line n f following) ∙ sym (lines_so_far-none g)) more;
         }
@@ -220,10 +218,10 @@ module _ (p : Parts) (lines : List Line) where
   -- ---- lines of entries
 
   -- they were followed by the set
-  pub followed-with : {n : ℕ} → {from : Progress} → {place : ℕ} → {f : Follow} → (right : IsRight p lines n from place f) → IsFollowingWith (place_at right) p f
+  pub followed-with : {n : ℕ} → {from : Progress} → {place : ℕ} → {f : Follow} → {opened was seats : List Seat} → (right : IsRight p lines n from place f opened was seats) → IsFollowingWith (place_at right) p f
   followed-with right = record { following = right.following; setup_is = refl }
 
-  module _ (n : ℕ) (from : Progress) (place : ℕ) (f : Follow) (right : IsRight p lines n from place f) where
+  module _ (n : ℕ) (from : Progress) (place : ℕ) (f : Follow) (opened was seats : List Seat) (right : IsRight p lines n from place f opened was seats) where
     abbrev g : Group
     g = group_with p n
 
@@ -243,14 +241,16 @@ module _ (p : Parts) (lines : List Line) where
     low = group-low p n valid right.following.is_there
 
     -- the next entry is followed
-    pub accepted-right : (i : ℕ) (e : Entry) (links : List Link) (d : Line) (f' : Follow) → place < length lines → get_or lines place d ≡ entry_line i e links → IsAccepted (place_at right) i e links f' → IsRight p lines n from (place + 1) f'
-    accepted-right i e links d f' inside here a =
+    pub accepted-right : (i : ℕ) (e : Entry) (links : List Link) (d : Line) (f' : Follow) (seats' : List Seat) → place < length lines → get_or lines place d ≡ entry_line i e links → IsAccepted (place_at right) i e links f'
+        → seats' ≡ map (seat_after (shown_as g i e (past_of g (es ++ e ∷ [])))) seats → IsRight p lines n from (place + 1) f' opened was seats'
+    accepted-right i e links d f' seats' inside here a fed =
         let is : drop place lines ≡ next_line g es e ∷ drop (place + 1) lines =
         rest-at lines place d inside
         ∙ ap (λ (l : Line). l ∷ drop (place + 1) lines) (here ∙ ap (λ (m : ℕ). entry_line m e links) a.next.number ∙ ap (entry_line (length es) e) a.next.links_are) in
         record {
           before = right.before;
           entries = es ++ e ∷ [];
+          shown = shown-more g es e was seats seats' right.shown (fed ∙ ap (λ (m : ℕ). map (seat_after (shown_as g m e (past_of g (es ++ e ∷ [])))) seats) a.next.number);
           following = a.following;
           stands = subst (λ (xs : List Line). StandBefore xs lines (place + 1)) more (stand-more front lines place (next_line g es e) (drop (place + 1) lines) right.stands is);
         }
@@ -259,22 +259,22 @@ module _ (p : Parts) (lines : List Line) where
         more = append_assoc (lines_of_groups p 0 done) (lines_so_far g es) (next_line g es e ∷ []) ∙ ap (λ (xs : List Line). lines_of_groups p 0 done ++ xs) (sym (lines_so_far-last g es e))
 
     -- the line behind them is wrong where none that may come there is it
-    wrong-there : ((l : Line) (others : List Line) → drop place lines ≡ l ∷ others → IsEntryNext g es l ⊎ (IsPlay g es × IsOtherLine l) → ⊥) → (stop : Option ℕ) → IsJudged p lines stop (Invalid (place + 3))
-    wrong-there none stop version bytes t same = subst (λ (m : ℕ). IsInvalid version p bytes (m + 3)) (sym right.stands.place_is) (stopped version p valid bytes lines stop t front (drop place lines) same (record {
+    wrong-there : ((l : Line) (others : List Line) → drop place lines ≡ l ∷ others → IsEntryNext g es l ⊎ (IsPlay g es × IsOtherLine l) → ⊥) → IsJudged p lines (Invalid (place + 3))
+    wrong-there none tools version bytes stop t same = subst (λ (m : ℕ). IsInvalid tools version p bytes (m + 3)) (sym right.stands.place_is) (stopped tools version p valid bytes lines stop t front (drop place lines) same (record {
       lines_are = right.stands.lines_are;
       plays = all.0;
       are_plays = all.1;
       later = all.2.0;
       plays_begin = all.2.1;
       no_more = λ hs l others ls plays here begin. none l others here (next-within p hs done n es l ls plays right.before.count begin);
-      not_whole = λ hs plays rest begin stops. ended hs front (All-append IsNoEnd (lines_of_groups p 0 done) (lines_so_far g es) (groups-no_end p 0 done) (so_far-no_end g es)) begin;
+      no_end = All-append IsNoEnd (lines_of_groups p 0 done) (lines_so_far g es) (groups-no_end p 0 done) (so_far-no_end g es);
     }))
       where
         all : (hs : List (List Entry)) × ArePlays p hs × ((ls : List Line) × (lines_from p 0 hs ≡ front ++ ls))
         all = completed-within p done n es right.before.plays right.before.count low right.following.begun
 
     -- an entry that is not the next one
-    pub refused-there : (i : ℕ) (e : Entry) (links : List Link) (d : Line) → place < length lines → get_or lines place d ≡ entry_line i e links → (IsNextEntry g es i e links → ⊥) → (stop : Option ℕ) → IsJudged p lines stop (Invalid (place + 3))
+    pub refused-there : (i : ℕ) (e : Entry) (links : List Link) (d : Line) → place < length lines → get_or lines place d ≡ entry_line i e links → (IsNextEntry g es i e links → ⊥) → IsJudged p lines (Invalid (place + 3))
     refused-there i e links d inside here refused = wrong-there none
       where
         same_entry : (l : Line) → l ≡ entry_line i e links → IsEntryNext g es l ⊎ (IsPlay g es × IsOtherLine l) → ⊥
@@ -301,7 +301,7 @@ module _ (p : Parts) (lines : List Line) where
     none-there all l others is = absurd (omega (arith, all, ap length is, length-drop place lines))
 
     -- and a step is left
-    unfinished-there : NoEntryThere → (IsPlay g es → ⊥) → (stop : Option ℕ) → IsJudged p lines stop (Invalid (place + 3))
+    unfinished-there : NoEntryThere → (IsPlay g es → ⊥) → IsJudged p lines (Invalid (place + 3))
     unfinished-there other left = wrong-there none
       where
         none : (l : Line) (others : List Line) → drop place lines ≡ l ∷ others → IsEntryNext g es l ⊎ (IsPlay g es × IsOtherLine l) → ⊥
@@ -341,15 +341,15 @@ module _ (p : Parts) (lines : List Line) where
             later = lines_of_groups p (n + 1) on.more ++ end_line ∷ []
 
     -- the line of a request is missing
-    missing-there : (k : ℕ) → NoEntryThere → IsPlay g es → StopAt blocks (drop place lines) k → (stop : Option ℕ) → IsJudged p lines stop (Invalid (place + k + 3))
-    missing-there k other over cut stop version bytes t same = subst (λ (m : ℕ). IsInvalid version p bytes (m + 3)) (sym stands.place_is) (stopped version p valid bytes lines stop t here (drop (place + k) lines) same (record {
+    missing-there : (k : ℕ) → NoEntryThere → IsPlay g es → StopAt blocks (drop place lines) k → IsJudged p lines (Invalid (place + k + 3))
+    missing-there k other over cut tools version bytes stop t same = subst (λ (m : ℕ). IsInvalid tools version p bytes (m + 3)) (sym stands.place_is) (stopped tools version p valid bytes lines stop t here (drop (place + k) lines) same (record {
       lines_are = stands.lines_are;
       plays = all.0;
       are_plays = all.1;
       later = all.2.0;
       plays_begin = all.2.1;
       no_more = λ hs l others ls plays rest begin. no_more l others ls rest (behind k other hs l others ls plays (cut.begin ∙ ap (λ (xs : List Line). take k blocks ++ xs) (sym (drop-further front lines place k right.stands) ∙ rest)) begin);
-      not_whole = λ hs plays rest begin stops. ended hs here none begin;
+      no_end = none;
     }))
       where
         here : List Line
@@ -386,7 +386,7 @@ module _ (p : Parts) (lines : List Line) where
             )
 
     -- the play of the group is whole, and the lines of its requests are there
-    group-right : NoEntryThere → IsPlay g es → AllStandFirst blocks (drop place lines) → AreRight p lines (n + 1) (record { lines = place + length blocks; entries = from.entries + f.count })
+    group-right : NoEntryThere → IsPlay g es → AllStandFirst blocks (drop place lines) → AreRight p lines (n + 1) (record { lines = place + length blocks; entries = from.entries + f.count }) opened seats
     group-right other over there =
         let all : lines_of_groups p 0 (done ++ es ∷ []) ≡ front ++ blocks = lines-last p done n es right.before.count in
         let here : n ≡ 0 + length done = omega (arith, right.before.count) in
@@ -398,6 +398,7 @@ module _ (p : Parts) (lines : List Line) where
           place_is = stands.place_is ∙ ap length (sym all);
           lines_are = stands.lines_are ∙ ap (λ (xs : List Line). xs ++ drop (place + length blocks) lines) (sym all);
           entries_are = omega (arith, right.before.entries_are, right.following.count_is, count-more done es);
+          shown = shown-group p n done es opened was seats right.before.count right.before.shown right.shown;
           closed = λ before last same. closed-last before last (last-same done before es last same);
         }
       where
@@ -416,14 +417,14 @@ module _ (p : Parts) (lines : List Line) where
         omega (arith, before, here, groups, low, right.before.count, right.before.entries_are, right.following.count_is)
 
     -- what comes of it
-    pub ended-there : (fd : Followed) → NoEntryThere → IsEndedAt (place_at right) lines from f.count place fd → IsFollowedTo p lines n fd
+    pub ended-there : (fd : Followed) → NoEntryThere → IsEndedAt (place_at right) lines from f.count place fd → IsFollowedTo p lines n opened seats fd
     ended-there fd other (unfinished left) = unfinished-there other left
     ended-there fd other (missing k over cut) = missing-there k other over cut
     ended-there fd other (finished over there) = group-right other over there
 
   -- ---- the line `end`
 
-  module _ (r : Progress) (all : AreAllRight p lines r) where
+  module _ (r : Progress) (opened seats : List Seat) (all : AreAllRight p lines r opened seats) where
     abbrev hs : List (List Entry)
     hs = all.right.histories
 
@@ -437,15 +438,15 @@ module _ (p : Parts) (lines : List Line) where
     lines_all = whole-lines p 0 hs
 
     -- it is not there
-    pub end-wrong : begins_with_end (drop r.lines lines) ≡ false → (stop : Option ℕ) → IsJudged p lines stop (Invalid (r.lines + 3))
-    end-wrong other stop version bytes t same = subst (λ (m : ℕ). IsInvalid version p bytes (m + 3)) (sym all.right.place_is) (stopped version p all.valid bytes lines stop t groups (drop r.lines lines) same (record {
+    pub end-wrong : begins_with_end (drop r.lines lines) ≡ false → IsJudged p lines (Invalid (r.lines + 3))
+    end-wrong other tools version bytes stop t same = subst (λ (m : ℕ). IsInvalid tools version p bytes (m + 3)) (sym all.right.place_is) (stopped tools version p all.valid bytes lines stop t groups (drop r.lines lines) same (record {
       lines_are = all.right.lines_are;
       plays = hs;
       are_plays = plays_all;
       later = end_line ∷ [];
       plays_begin = lines_all;
       no_more = λ ps l others ls plays here begin. none_next l others here (next-between p ps hs l ls plays (closed-by all.right l others ls here) begin);
-      not_whole = λ ps plays none begin stops. ended ps groups (groups-no_end p 0 hs) begin;
+      no_end = groups-no_end p 0 hs;
     }))
       where
         none_next : (l : Line) (others : List Line) → drop r.lines lines ≡ l ∷ others → IsNextAfter p (length hs) l → ⊥
@@ -464,21 +465,23 @@ module _ (p : Parts) (lines : List Line) where
       pub end-inside : r.lines < length lines
       end-inside = let e = ends-true (drop r.lines lines) there in (rest-cons lines r.lines end_line e.0 e.1).0
 
-      -- more is behind it
-      pub end-more : (stop : Option ℕ) → (r.lines + 1 ≡ length lines → stop ≡ None → ⊥) → IsJudged p lines stop (Invalid (r.lines + 1 + 3))
-      end-more stop more version bytes t same = subst (λ (m : ℕ). IsInvalid version p bytes (m + 3)) (sym stands.place_is) (stopped version p all.valid bytes lines stop t whole (drop (r.lines + 1) lines) same (record {
-        lines_are = stands.lines_are;
-        plays = hs;
-        are_plays = plays_all;
-        later = [];
-        plays_begin = lines_all ∙ sym (append-nil whole);
-        no_more = λ ps l others ls plays here begin. inner-end (lines_of_groups p 0 ps) groups l ls (groups-no_end p 0 ps) (sym (whole-lines p 0 ps) ∙ begin);
-        not_whole = λ ps plays none begin stops. more (let m = stand-within whole lines (r.lines + 1) stands in omega (arith, m, ap length none, length-drop (r.lines + 1) lines)) stops;
-      }))
+      -- what stands behind it is judged
+      pub end-judged : (tools : List Tool) (version : Version) (bytes rest wanted : List ℕ) (stop : Option ℕ) → opened ≡ map seat_of tools → rest ≡ behind_lines (r.lines + 3) bytes
+          → ((k : Known) → wanted ≡ flat_map (line_text k) (map seat_line seats)) → IsJudgedText tools version p bytes lines stop (verdict_behind rest wanted (r.lines + 1 + 2) r.entries)
+      end-judged tools version bytes rest wanted stop opened_is rest_is wanted_is t same =
+          let later : List Line = drop (r.lines + 1) lines in
+          let begin : lines ≡ lines_from p 0 hs ++ later = stands.lines_are ∙ ap (λ (xs : List Line). xs ++ later) (sym lines_all) in
+          let number : r.lines + 3 ≡ length (lines_from p 0 hs) + 2 = omega (arith, stands.place_is, ap length lines_all) in
+          let shown : seats ≡ seats_after (shown_from p 0 hs) (map seat_of tools) = all.right.shown ∙ ap (seats_after (shown_from p 0 hs)) opened_is in
+          behind-judged tools version p all.valid bytes lines stop t hs same plays_all later begin rest wanted (r.lines + 1 + 2) r.entries
+          (rest_is ∙ ap (λ (n : ℕ). behind_lines n bytes) number ∙ behind-is tools version p all.valid bytes lines stop t hs same plays_all later begin)
+          (wanted_is (known_of version p) ∙ ap (flat_map (line_text (known_of version p))) (lines-shown tools p hs seats shown)) (omega (arith, number)) all.right.entries_are
 
-      -- nothing is
-      pub end-valid : (stop : Option ℕ) → r.lines + 1 ≡ length lines → stop ≡ None → IsJudged p lines stop (Valid r.entries)
-      end-valid stop last none version bytes t same =
-          let rest : drop (r.lines + 1) lines ≡ [] = drop_of_length-le lines (omega (arith, last)) in
-          let is : lines ≡ lines_from p 0 hs = stands.lines_are ∙ ap (λ (xs : List Line). whole ++ xs) rest ∙ append-nil whole ∙ sym lines_all in
-          subst (IsValidText version p bytes) (sym all.right.entries_are) (ended-valid version p all.valid bytes lines stop t hs same plays_all is none)
+      -- the bus was shown the entries of the text, where it is valid
+      pub end-shown : (tools : List Tool) (version : Version) (bytes : List ℕ) (stop : Option ℕ) (v : Verdict) → opened ≡ map seat_of tools → IsShownText tools version p bytes lines stop seats v
+      end-shown tools version bytes stop (Invalid line) opened_is t same = tt
+      end-shown tools version bytes stop (Valid n) opened_is t same = λ is.
+          let later : List Line = drop (r.lines + 1) lines in
+          let begin : lines ≡ lines_from p 0 hs ++ later = stands.lines_are ∙ ap (λ (xs : List Line). xs ++ later) (sym lines_all) in
+          all.right.shown ∙ ap (seats_after (shown_from p 0 hs)) opened_is
+          ∙ ap (λ (es : List (List Entry)). seats_after (shown_from p 0 es) (map seat_of tools)) (same-histories tools version p all.valid bytes lines stop t hs same plays_all later begin n is)

@@ -6,6 +6,8 @@ pub mod Opening
 pub mod Accepting
 pub mod GroupLines
 pub mod SetLines
+pub mod LinesAlike
+pub mod Shown
 pub mod Judged
 pub mod Judging
 pub mod LinePlaces

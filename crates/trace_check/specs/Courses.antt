@@ -13,7 +13,7 @@ use Rattle.rt_model.specs.Group.{Group, group_processors}
 use Rattle.rt_model.specs.Histories.{after, past_of}
 use Rattle.rt_plays.specs.Drives.{horizon, steps_given}
 use Rattle.rt_plays.specs.Plays.{IsBegunPlay}
-use Rattle.rt_groups.specs.Built.{gives_steps}
+use Rattle.rt_groups.specs.Drives.{gives_steps}
 use Rattle.rank_afresh.specs.Standing.{IsAt, Standing, group_of}
 use Rattle.trace_text.specs.Groups.{cpu_numbers}
 use Rattle.turn_follow.specs.Turns.{AreAt, AreLooked}

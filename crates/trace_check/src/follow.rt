@@ -3,13 +3,13 @@ ghost use Rattle.std.specs.Prelude.{◌≡◌, ◌+◌, ◌<◌, ◌≤◌, ◌�
 ghost use Rattle.std.specs.Prelude.{IfOk, length, MatchOption};
 ghost use Rattle.rt_history.specs.declared.Entry.{Entry};
 ghost use Rattle.rt_model.specs.Histories.{after, past_of, reply_to};
-ghost use Rattle.rt_groups.specs.Built.{is_built};
 ghost use Rattle.rt_groups.specs.Groups.{IsGroupOf};
 ghost use Rattle.block_counts.specs.GroupRequests as counts;
 ghost use Rattle.block_counts.specs.SeenWords.{tallies_of};
 ghost use Rattle.rt_plays.specs.Plays.{IsPlay, group_with};
 ghost use Rattle.rank_afresh.specs.Standing.{IsAt, group_of};
 ghost use Rattle.trace_lines.specs.Lines.{links_of};
+ghost use Rattle.trace_text.specs.CountLines.{shown_as};
 ghost use Rattle.trace_text.specs.TraceText.{block_lines};
 ghost use Rattle.trace_check.specs.Following.{CanStep, IsAccepted, IsFollowing};
 ghost use Rattle.trace_check.specs.Following.{IsFollowingWith, IsNextEntry};
@@ -27,7 +27,8 @@ use rt_task::{Setup, Step};
 use std::alloc::Global;
 use std::mem;
 use trace_lines::CpuLink;
-use trace_text::{cpus_of, put_changed};
+use trace_text::{cpus_of, put_changed, shown_by};
+use trace_tools::Shown;
 use waiting_list::WaitingList;
 
 /// A group whose entries are followed: the ranker that replays them, the requests so far with their
@@ -51,7 +52,6 @@ impl Follow {
     /// A group of a setup at opening. There is room for as many entries as the group can have.
     pub(crate) fn open(alloc: Global, setup: &Setup, group: GroupNo) -> Result<Follow, NoMemory>
         requires group { IsGroupOf setup.now group.0 }
-        requires built { is_built setup.now ≡ true }
         ensures { IfOk result (λ f. IsFollowing (group_with setup.now group.0) [] f) }
     {
         let drive = &setup.parts().drive;
@@ -158,6 +158,15 @@ impl Follow {
         self.course.look(setup, &self.afresh, self.cpus.as_slice());
         self.count += 1;
         Ok(true)
+    }
+
+    /// The entry that was followed last, with its number, as tools are shown it.
+    pub(crate) fn shown(&self, group: GroupNo, no: u32, entry: Entry) -> Shown
+        ensures { (at : Place) → IsFollowing at.group at.entries self.now
+            → at.group.number ≡ group.0
+            → result ≡ shown_as at.group no entry (past_of at.group at.entries) }
+    {
+        shown_by(group, no, entry, self.afresh.ended())
     }
 
     /// The links now.

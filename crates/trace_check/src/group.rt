@@ -1,8 +1,9 @@
 //! The lines of a group.
-ghost use Rattle.std.specs.Prelude.{◌≡◌, ◌+◌, ◌^◌, ◌<◌, ◌≤◌, IfOk, length, true};
-ghost use Rattle.rt_groups.specs.Built.{is_built};
+ghost use Rattle.std.specs.Prelude.{◌≡◌, ◌+◌, ◌^◌, ◌<◌, ◌≤◌, List, IfOk, length, true};
 ghost use Rattle.rt_groups.specs.Groups.{IsGroupOf};
 ghost use Rattle.trace_lines.specs.Lines.{links_of};
+ghost use Rattle.trace_tools.specs.Places.{seats};
+ghost use Rattle.trace_tools.specs.Seats.{Seat};
 ghost use Rattle.trace_read.specs.Lines.{lines_of};
 ghost use Rattle.trace_check.specs.Judging.{begins_with};
 ghost use Rattle.trace_check.specs.Following.{IsFollowingWith};
@@ -17,6 +18,7 @@ use rt_base::{GroupNo, NoMemory};
 use rt_task::Setup;
 use std::alloc::Global;
 use trace_read::Line;
+use trace_tools::{Bus, TraceTool};
 
 /// Whether the first of the lines is that of the group, with its links at opening.
 fn begins(follow: &Follow, number: GroupNo, lines: &[Line]) -> bool
@@ -59,18 +61,22 @@ fn ended_at(
     }
 }
 
-/// Follows the lines of a group, behind those of the groups before it.
-pub(crate) fn follow_group(
+/// Follows the lines of a group, behind those of the groups before it. The bus is shown each entry that is right.
+pub(crate) fn follow_group<T: TraceTool>(
     alloc: Global,
     setup: &Setup,
     group: GroupNo,
     lines: &[Line],
     from: Progress,
+    bus: &mut Bus<T>,
 ) -> Result<Followed, NoMemory>
-    requires built { is_built setup.now ≡ true }
     requires group { IsGroupOf setup.now group.0 }
-    requires before { AreRight setup.now (lines_of lines.now) group.0 from }
-    ensures { IfOk result (IsFollowedTo setup.now (lines_of lines.now) group.0) }
+    requires before { (opened : List Seat)
+        × AreRight setup.now (lines_of lines.now) group.0 from opened (seats T.tool bus.old) }
+    ensures { IfOk result (λ followed. (opened : List Seat)
+        → AreRight setup.now (lines_of lines.now) group.0 from opened (seats T.tool bus.old)
+        → IsFollowedTo setup.now (lines_of lines.now) group.0 opened (seats T.tool bus.new)
+        followed) }
 {
     let mut follow = Follow::open(alloc, setup, group)?;
     if !begins(&follow, group, &lines[from.lines..]) {
@@ -82,6 +88,7 @@ pub(crate) fn follow_group(
                 if !follow.accepts(setup, *no, entry, links.as_slice())? {
                     return Ok(Followed::Wrong(i));
                 }
+                bus.feed(&follow.shown(group, *no, *entry));
             }
             _ => return Ok(ended_at(&follow, setup, lines, from, i)),
         }

@@ -1,20 +1,25 @@
 //! The lines of a trace after its first two, judged one by one.
-ghost use Rattle.std.specs.Prelude.{◌≡◌, ◌+◌, ◌≤◌, IfOk, length, true};
+ghost use Rattle.std.specs.Prelude.{◌≡◌, ◌+◌, ◌≤◌, ℕ, List, map, IfOk, Option, length, true};
 ghost use Rattle.rt_task.specs.Validity.{IsValid};
 ghost use Rattle.rt_task.specs.declared.Parts.{Parts};
-ghost use Rattle.rt_groups.specs.Built.{is_built};
+ghost use Rattle.trace_lines.specs.declared.format.Version.{Version};
+ghost use Rattle.trace_tools.specs.Places.{seats};
+ghost use Rattle.trace_tools.specs.Seats.{seat_of};
+ghost use Rattle.trace_tools.specs.Tools.{Tool};
 ghost use Rattle.trace_read.specs.Lines.{lines_of};
-ghost use Rattle.trace_check.specs.Judging.{IsJudged, begins_with_end};
+ghost use Rattle.trace_check.specs.Judging.{IsJudgedText, IsShownText, begins_with_end, verdict_behind};
 ghost use Rattle.trace_check.specs.Progress.{AreAllRight};
 
 use crate::Verdict;
+use crate::behind::{behind, lines_alike};
+use crate::counts::count_text;
 use crate::group::follow_group;
 use crate::progress::{Followed, Progress};
 use rt_base::{GroupNo, NoMemory};
-use rt_task::Setup;
 use std::alloc::Global;
-use trace_read::Line;
+use trace_read::{Line, Trace};
 use trace_text::count_groups;
+use trace_tools::{Bus, TraceTool};
 
 /// The number of a line from 1, by its place after the two lines of the head.
 fn line_at(place: usize) -> Result<u32, NoMemory>
@@ -42,42 +47,81 @@ fn is_end(lines: &[Line]) -> bool
     }
 }
 
+/// The verdict that so many lines behind this place are right and the next is not.
+fn wrong_behind(place: usize, further: usize) -> Result<Verdict, NoMemory>
+    ensures { IfOk result (λ v. v ≡ Verdict.Invalid (place + further + 3)) }
+{
+    match place.checked_add(further) {
+        Some(n) => wrong_at(n),
+        None => Err(NoMemory),
+    }
+}
+
+/// What the text behind the line `end` comes to, where the lines before this place are right: nothing is to stand there, or
+/// the count lines.
+fn judge_behind(rest: &[u8], counts: &[u8], place: usize, entries: u32) -> Result<Verdict, NoMemory>
+    ensures { IfOk result (λ v. v ≡ verdict_behind rest.now counts.now (place + 2) entries) }
+{
+    if rest.is_empty() || rest == counts {
+        return Ok(Verdict::Valid(entries));
+    }
+    wrong_behind(place, lines_alike(rest, counts))
+}
+
 /// What the lines come to behind those of all groups.
-fn end_at(lines: &[Line], right: Progress, stop: Option<u32>) -> Result<Verdict, NoMemory>
+fn end_at<T: TraceTool>(
+    alloc: Global,
+    bytes: &[u8],
+    lines: &[Line],
+    right: Progress,
+    bus: &Bus<T>,
+) -> Result<Verdict, NoMemory>
     requires { right.lines ≤ length lines.now }
-    ensures { IfOk result (λ v. (p : Parts) → AreAllRight p (lines_of lines.now) right
-        → IsJudged p (lines_of lines.now) stop v) }
+    ensures judged { IfOk result (λ v. (p : Parts) (tools : List Tool)
+        → AreAllRight p (lines_of lines.now) right (map seat_of tools) (seats T.tool bus.now)
+        → (version : Version) (stop : Option ℕ)
+        → IsJudgedText tools version p bytes.now (lines_of lines.now) stop v) }
+    ensures shown { IfOk result (λ v. (p : Parts) (tools : List Tool)
+        → AreAllRight p (lines_of lines.now) right (map seat_of tools) (seats T.tool bus.now)
+        → (version : Version) (stop : Option ℕ) → IsShownText tools version p
+        bytes.now (lines_of lines.now) stop (seats T.tool bus.now) v) }
 {
     let place = right.lines;
     if !is_end(&lines[place..]) {
         return wrong_at(place);
     }
-    if place + 1 < lines.len() || stop.is_some() {
-        return wrong_at(place + 1);
-    }
-    Ok(Verdict::Valid(right.entries))
+    let counts = count_text(alloc, bus)?;
+    let rest = behind(bytes, line_at(place)?);
+    judge_behind(rest, counts.as_slice(), place + 1, right.entries)
 }
 
-/// What the lines come to, which stand after a head whose set is canonical.
-pub(crate) fn judge_lines(
+/// What the text of a trace comes to, whose head has a canonical set.
+pub(crate) fn judge_lines<T: TraceTool>(
     alloc: Global,
-    setup: &Setup,
-    lines: &[Line],
-    stop: Option<u32>,
+    bytes: &[u8],
+    trace: &Trace,
+    bus: &mut Bus<T>,
 ) -> Result<Verdict, NoMemory>
-    requires built { is_built setup.now ≡ true }
-    requires valid { IsValid setup.now }
-    ensures { IfOk result (λ v. IsJudged setup.now (lines_of lines.now) stop v) }
+    requires valid { IsValid trace.now.setup }
+    ensures judged { IfOk result (λ v. (tools : List Tool)
+        → seats T.tool bus.old ≡ map seat_of tools
+        → IsJudgedText tools trace.now.version trace.now.setup bytes.now
+        (lines_of trace.now.lines) trace.now.stop v) }
+    ensures shown { IfOk result (λ v. (tools : List Tool)
+        → seats T.tool bus.old ≡ map seat_of tools
+        → IsShownText tools trace.now.version trace.now.setup bytes.now
+        (lines_of trace.now.lines) trace.now.stop (seats T.tool bus.new) v) }
 {
+    let lines = trace.lines.as_slice();
     let mut right = Progress {
         lines: 0,
         entries: 0,
     };
-    for n in 0..count_groups(setup) {
-        match follow_group(alloc, setup, GroupNo(n), lines, right)? {
+    for n in 0..count_groups(&trace.setup) {
+        match follow_group(alloc, &trace.setup, GroupNo(n), lines, right, bus)? {
             Followed::Whole(further) => right = further,
             Followed::Wrong(place) => return wrong_at(place),
         }
     }
-    end_at(lines, right, stop)
+    end_at(alloc, bytes, lines, right, bus)
 }

@@ -64,3 +64,16 @@ trace-begins v p hs =
 
 pub trace-head : (v : Version) (p : Parts) (hs : List (List Entry)) → All (λ (c : ℕ). c ≢ 10) (canonical p) → HasHead v (trace_text v p hs) (canonical p) (lines_of v p hs)
 trace-head v p hs one = record { bytes_are = trace-begins v p hs; on_one_line = one }
+
+-- the same of a text with more behind it
+head-longer : (first words set rest more : List ℕ) → (first ++ (words ++ (set ++ 10 ∷ rest))) ++ more ≡ first ++ (words ++ (set ++ 10 ∷ (rest ++ more)))
+head-longer first words set rest more =
+    append_assoc first (words ++ (set ++ 10 ∷ rest)) more
+    ∙ ap (λ (xs : List ℕ). first ++ xs) (append_assoc words (set ++ 10 ∷ rest) more ∙ ap (λ (xs : List ℕ). words ++ xs) (append_assoc set (10 ∷ rest) more))
+
+pub longer-begins : (v : Version) (p : Parts) (hs : List (List Entry)) (more text : List ℕ) → text ≡ trace_text v p hs ++ more → text ≡ first_line v ++ (codes "set " ++ (canonical p ++ 10 ∷ (lines_of v p hs ++ more)))
+longer-begins v p hs more text is =
+    is ∙ ap (λ (xs : List ℕ). xs ++ more) (trace-begins v p hs) ∙ head-longer (first_line v) (codes "set ") (canonical p) (lines_of v p hs) more
+
+pub longer-head : (v : Version) (p : Parts) (hs : List (List Entry)) (more text : List ℕ) → text ≡ trace_text v p hs ++ more → All (λ (c : ℕ). c ≢ 10) (canonical p) → HasHead v text (canonical p) (lines_of v p hs ++ more)
+longer-head v p hs more text is one = record { bytes_are = longer-begins v p hs more text is; on_one_line = one }

@@ -30,7 +30,7 @@ use Rattle.rt_plays.specs.ScriptPlays.{IsScriptPlay}
 use Rattle.rt_plays.specs.Scripts.{script, steps_of}
 use Rattle.rt_plays.proofs.PlayLaws.{begun-is_completed, part-is_begun, play-fits}
 use Rattle.rt_plays.proofs.Sentence.{history-of_play}
-use Rattle.rt_groups.specs.Built.{gives_steps}
+use Rattle.rt_groups.specs.Drives.{gives_steps}
 use Rattle.rt_groups.specs.Groups.{AreStepsOf}
 use Rattle.trace_laws.proofs.NextActs.{act-fits}
 use Rattle.trace_laws.proofs.ScriptLaws.{all-by_script}

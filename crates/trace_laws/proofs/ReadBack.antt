@@ -1,15 +1,17 @@
--- The text of a valid set's histories is read back, and no other histories have it.
-use Rattle.std.proofs.Common.{◌≡◌, ◌≢◌, ℕ, ◌+◌, List, [], ◌∷◌, ◌++◌, map, All, Option, None, Ok, Err, codes, length, refl, sym, ap, subst, ◌∙◌, arith, append_assoc, append-nil, length-append, inl, inr}
+-- The text of a valid set's histories is read back, and no other histories have it, whatever stands behind it.
+use Rattle.std.proofs.Common.{◌≡◌, ◌≢◌, ℕ, ◌+◌, List, [], ◌∷◌, ◌++◌, map, All, Option, None, Ok, Err, codes, length, refl, sym, ap, subst, ◌∙◌, arith, append_assoc, append-nil, length-append, inl, inr, ◌⊎◌}
 use Rattle.std.specs.Prelude.{flat_map}
+use Rattle.std.proofs.lemmas.List.Concat.{flat_map-append}
+use Rattle.std.proofs.lemmas.List.Elements.{All-append, All-head, All-tail}
 use Rattle.rt_task.specs.declared.bad_set.BadSet.{BadSet}
 use Rattle.rt_task.specs.declared.Parts.{Parts}
 use Rattle.rt_task.specs.Validity.{IsValid}
 use Rattle.rt_history.specs.declared.Entry.{Entry}
-use Rattle.rt_model.specs.Group.{Group}
+use Rattle.rt_model.specs.Group.{Group, group_processors}
 use Rattle.rt_model.specs.Past.{Past}
-use Rattle.rt_model.specs.Histories.{after, past_of}
+use Rattle.rt_model.specs.Histories.{after, changed, past_of}
 use Rattle.rt_model.specs.Blocking.{requests}
-use Rattle.rt_plays.specs.Plays.{group_with}
+use Rattle.rt_plays.specs.Plays.{ArePlays, group_with}
 use Rattle.set_canonical.specs.Canonical.{canonical}
 use Rattle.set_read.specs.Sets.{set}
 use Rattle.set_laws.proofs.CanonicalLaws.{set-of-canonical}
@@ -18,15 +20,19 @@ use Rattle.trace_lines.specs.FirstLine.{first_line}
 use Rattle.trace_lines.specs.Grammar.{line_text}
 use Rattle.trace_lines.specs.Known.{Known, known_of, IsLine}
 use Rattle.trace_lines.specs.Lines.{Line, group_line, entry_line, block_line, end_line, count_line}
-use Rattle.trace_text.specs.TraceText.{lines_from, trace_text, entry_lines, block_lines, group_lines}
-use Rattle.trace_read.specs.Reads.{HasHead, AreLines, stop_at}
+use Rattle.trace_tools.specs.Tools.{Tool}
+use Rattle.trace_text.specs.TraceText.{lines_from, trace_text, entry_lines, block_lines, group_lines, links_at}
+use Rattle.trace_text.specs.CountLines.{count_lines}
+use Rattle.trace_read.specs.Reads.{HasHead, AreLines, IsRefused, IsTraceOf, stop_at}
+use Rattle.trace_read.specs.declared.fault.TraceFault.{TraceFault}
 use Rattle.trace_read.specs.declared.fault.TraceFault.TheVariants as faults
 use Rattle.trace_read.specs.Seen.{Tells}
-use Rattle.trace_read.proofs.LineLaws.{line_body, line_text-ends, lines-unique}
+use Rattle.trace_read.proofs.LineLaws.{line_body, line_text-ends, line-unique, lines-unique}
 use Rattle.trace_read.proofs.TellLaws.{valid-tells}
-use Rattle.trace_laws.specs.TraceLaws.{ArePlayed, TraceIsRead, TraceIsNotRefused, TracesTellApart, VersionsTellApart}
+use Rattle.trace_laws.specs.ValidTexts.{IsTextOf}
+use Rattle.trace_laws.specs.TraceLaws.{ArePlayed, CountedTraceIsRead, TraceIsRead, TraceIsNotRefused, TracesTellApart, VersionsTellApart}
 use Rattle.trace_laws.proofs.OneLine.{canonical-one_line}
-use Rattle.trace_laws.proofs.Heads.{head-unique, lines_of, trace-begins, trace-head, version-unique}
+use Rattle.trace_laws.proofs.Heads.{head-unique, lines_of, longer-begins, longer-head, trace-head, version-unique}
 use Rattle.trace_laws.proofs.KnownLines.{known-lines}
 
 -- ---- the lines
@@ -41,6 +47,11 @@ are-lines k ls known = record { lines_known = known; text_is = sym (append-nil (
 
 pub all_known : (v : Version) (p : Parts) (hs : List (List Entry)) → ArePlayed p hs → All (IsLine (known_of v p)) (lines_from p 0 hs)
 all_known v p hs played = known-lines v p played.valid hs played.plays
+
+-- a text of histories has their lines, and more behind them where tools counted
+pub text-begins : (tools : List Tool) (v : Version) (p : Parts) (hs : List (List Entry)) (text : List ℕ) → IsTextOf tools v p hs text → (more : List ℕ) × (text ≡ trace_text v p hs ++ more)
+text-begins tools v p hs text (inl is) = ([], is ∙ sym (append-nil (trace_text v p hs)))
+text-begins tools v p hs text (inr is) = (flat_map (line_text (known_of v p)) (count_lines tools p hs), is)
 
 -- ---- it is read
 
@@ -61,25 +72,44 @@ trace-is-read v w p q hs lines stop played t =
     (subst (λ (u : Version). AreLines (known_of u p) t.rest lines t.left) heads.version (subst (λ (x : Parts). AreLines (known_of w x) t.rest lines t.left) same t.lines_are)) t.stop_is in
     (heads.version, same, read.0, read.1)
 
+pub counted-trace-is-read : CountedTraceIsRead
+counted-trace-is-read tools v w p q hs lines stop played counts t =
+    let valid = played.valid in
+    let k : Known = known_of v p in
+    let ls : List Line = lines_from p 0 hs ++ count_lines tools p hs in
+    let known : All (IsLine k) ls = All-append (IsLine k) (lines_from p 0 hs) (count_lines tools p hs) (all_known v p hs played) counts in
+    let more : List ℕ = flat_map (line_text k) (count_lines tools p hs) in
+    let text : List ℕ = trace_text v p hs ++ more in
+    let heads = head-unique w v text t.set_text t.rest (canonical p) (lines_of v p hs ++ more) t.head (longer-head v p hs more text refl (canonical-one_line p valid)) in
+    let same : q ≡ p = same_set t.set_text (canonical p) p q heads.set_text t.set_is (set-of-canonical p valid) in
+    let read = lines_read k t.rest t.left lines ls stop (valid-tells v p valid) known (heads.rest ∙ sym (flat_map-append (line_text k) (lines_from p 0 hs) (count_lines tools p hs)))
+    (subst (λ (u : Version). AreLines (known_of u p) t.rest lines t.left) heads.version (subst (λ (x : Parts). AreLines (known_of w x) t.rest lines t.left) same t.lines_are)) t.stop_is in
+    (heads.version, same, read.0, read.1)
+
 -- ---- it is not refused
 
 no_bad_set : (s t : List ℕ) (p : Parts) (b : BadSet) → s ≡ t → set s ≡ Err b → set t ≡ Ok p → ⊥
 no_bad_set s t p b same g h = let both = sym g ∙ ap set same ∙ h in cc
 
 -- the text has a head in the format of its first line
-head_at : (v w : Version) (p : Parts) (hs : List (List Entry)) (rest : List ℕ) → IsValid p → trace_text v p hs ≡ first_line w ++ rest → HasHead w (trace_text v p hs) (canonical p) (lines_of v p hs)
-head_at v w p hs rest valid begins =
-    let same : v ≡ w = version-unique v w (codes "set " ++ (canonical p ++ 10 ∷ lines_of v p hs)) rest (sym (trace-begins v p hs) ∙ begins) in
-    subst (λ (u : Version). HasHead u (trace_text v p hs) (canonical p) (lines_of v p hs)) same (trace-head v p hs (canonical-one_line p valid))
+head_at : (v w : Version) (p : Parts) (hs : List (List Entry)) (more text rest : List ℕ) → IsValid p → text ≡ trace_text v p hs ++ more → text ≡ first_line w ++ rest → HasHead w text (canonical p) (lines_of v p hs ++ more)
+head_at v w p hs more text rest valid is begins =
+    let same : v ≡ w = version-unique v w (codes "set " ++ (canonical p ++ 10 ∷ (lines_of v p hs ++ more))) rest (sym (longer-begins v p hs more text is) ∙ begins) in
+    subst (λ (u : Version). HasHead u text (canonical p) (lines_of v p hs ++ more)) same (longer-head v p hs more text is (canonical-one_line p valid))
+
+not_refused : (v : Version) (p : Parts) (hs : List (List Entry)) (more text : List ℕ) (fault : TraceFault) → ArePlayed p hs → text ≡ trace_text v p hs ++ more → IsRefused text fault → fault ≡ faults.NoMemory
+not_refused v p hs more text (faults.NotTrace n) played is (inl h) = absurd (h.1 v _ (longer-begins v p hs more text is))
+not_refused v p hs more text (faults.NotTrace n) played is (inr h) =
+    absurd (h.1.no_set (canonical p) (lines_of v p hs ++ more) (head_at v h.1.version p hs more text h.1.rest played.valid is h.1.begins))
+not_refused v p hs more text (faults.BadSet b) played is h =
+    let heads = head-unique h.version v text h.set_text h.rest (canonical p) (lines_of v p hs ++ more) h.head (longer-head v p hs more text is (canonical-one_line p played.valid)) in
+    absurd (no_bad_set h.set_text (canonical p) p b heads.set_text h.refused (set-of-canonical p played.valid))
+not_refused v p hs more text faults.NoMemory played is h = refl
 
 pub trace-is-not-refused : TraceIsNotRefused
-trace-is-not-refused v p hs (faults.NotTrace n) played (inl h) = absurd (h.1 v _ (trace-begins v p hs))
-trace-is-not-refused v p hs (faults.NotTrace n) played (inr h) =
-    absurd (h.1.no_set (canonical p) (lines_of v p hs) (head_at v h.1.version p hs h.1.rest played.valid h.1.begins))
-trace-is-not-refused v p hs (faults.BadSet b) played h =
-    let heads = head-unique h.version v (trace_text v p hs) h.set_text h.rest (canonical p) (lines_of v p hs) h.head (trace-head v p hs (canonical-one_line p played.valid)) in
-    absurd (no_bad_set h.set_text (canonical p) p b heads.set_text h.refused (set-of-canonical p played.valid))
-trace-is-not-refused v p hs faults.NoMemory played h = refl
+trace-is-not-refused tools v p hs text fault played is refused =
+    let begins = text-begins tools v p hs text is in
+    not_refused v p hs begins.0 text fault played begins.1 refused
 
 -- ---- lines hold their histories
 
@@ -146,21 +176,137 @@ said-lines p n (es ∷ hs) =
     said-group (group_with p n) es (lines_from p (n + 1) hs)
     ∙ rw (first-lines p (n + 1) hs, append-nil es, said-lines p (n + 1) hs) refl
 
+-- ---- one of two lists of lines begins the other where their texts do
+
+-- the one list has more lines, and they stand in the text behind those of the other
+pub record HasMore (k : Known) (ls vs : List Line) (x y : List ℕ) : Type 0 where
+  pub more : List Line
+  pub lines_are : vs ≡ ls ++ more
+  pub rest_is : x ≡ flat_map (line_text k) more ++ y
+
+more-cons : (k : Known) (l v : Line) (ls vs : List Line) (x y : List ℕ) → l ≡ v → HasMore k ls vs x y → HasMore k (l ∷ ls) (v ∷ vs) x y
+more-cons k l v ls vs x y same h = record { more = h.more; lines_are = rw (same, h.lines_are) refl; rest_is = h.rest_is }
+
+pub lines-begin : (k : Known) (ls vs : List Line) (x y : List ℕ) → Tells k → All (IsLine k) ls → All (IsLine k) vs → flat_map (line_text k) ls ++ x ≡ flat_map (line_text k) vs ++ y → HasMore k ls vs x y ⊎ HasMore k vs ls y x
+lines-begin k [] vs x y tell g h e = inl (record { more = vs; lines_are = refl; rest_is = e })
+lines-begin k (l ∷ ls) [] x y tell g h e = inr (record { more = l ∷ ls; lines_are = refl; rest_is = sym e })
+lines-begin k (l ∷ ls) (v ∷ vs) x y tell g h e =
+    let first = line-unique k l v (flat_map (line_text k) ls ++ x) (flat_map (line_text k) vs ++ y) tell (All-head (IsLine k) l ls g) (All-head (IsLine k) v vs h)
+    (sym (append_assoc (line_text k l) (flat_map (line_text k) ls) x) ∙ e ∙ append_assoc (line_text k v) (flat_map (line_text k) vs) y) in
+    elim (lines-begin k ls vs x y tell (All-tail (IsLine k) l ls g) (All-tail (IsLine k) v vs h) first.1) [
+      | inl m ↦ inl (more-cons k l v ls vs x y first.0 m)
+      | inr m ↦ inr (more-cons k v l vs ls y x (sym first.0) m)
+    ]
+
+-- ---- lines of plays begin those of no others
+
+-- the lines up to the first `end`
+abbrev through_end : List Line → List Line
+through_end [] = []
+through_end (group_line g links ∷ ls) = group_line g links ∷ through_end ls
+through_end (entry_line i e links ∷ ls) = entry_line i e links ∷ through_end ls
+through_end (block_line i t s ends all bound ∷ ls) = block_line i t s ends all bound ∷ through_end ls
+through_end (end_line ∷ ls) = end_line ∷ []
+through_end (count_line name totals ∷ ls) = count_line name totals ∷ through_end ls
+
+through-entries : (g : Group) (i : ℕ) (past : Past) (es : List Entry) (ls : List Line) → through_end (entry_lines g i past es ++ ls) ≡ entry_lines g i past es ++ through_end ls
+unfolding entry_lines
+through-entries g i past [] ls = refl
+through-entries g i past (e ∷ es) ls =
+    let now : Past = after g e.step past in
+    ap (λ (xs : List Line). entry_line i e (links_at g now (changed g past now)) ∷ xs) (through-entries g (i + 1) now es ls)
+
+through-each : {A : Type 0} (f : A → Line) → ((x : A) (ls : List Line) → through_end (f x ∷ ls) ≡ f x ∷ through_end ls) → (xs : List A) (ls : List Line) → through_end (map f xs ++ ls) ≡ map f xs ++ through_end ls
+through-each f h [] ls = refl
+through-each f h (x ∷ xs) ls = h x (map f xs ++ ls) ∙ ap (λ (ms : List Line). f x ∷ ms) (through-each f h xs ls)
+
+through-blocks : (g : Group) (past : Past) (ls : List Line) → through_end (block_lines g past ++ ls) ≡ block_lines g past ++ through_end ls
+unfolding block_lines
+through-blocks g past ls = through-each _ (λ r ms. refl) (requests past) ls
+
+through-group : (g : Group) (es : List Entry) (ls : List Line) → through_end (group_lines g es ++ ls) ≡ group_lines g es ++ through_end ls
+unfolding group_lines
+through-group g es ls =
+    let entries : List Line = entry_lines g 0 [] es in
+    let blocks : List Line = block_lines g (past_of g es) in
+    ap (λ (ms : List Line). group_line g.number (links_at g [] (group_processors g)) ∷ ms)
+    (ap through_end (append_assoc entries blocks ls) ∙ through-entries g 0 [] es (blocks ++ ls) ∙ ap (λ (ms : List Line). entries ++ ms) (through-blocks g (past_of g es) ls)
+    ∙ sym (append_assoc entries blocks (through_end ls)))
+
+through-lines : (p : Parts) (n : ℕ) (hs : List (List Entry)) (more : List Line) → through_end (lines_from p n hs ++ more) ≡ lines_from p n hs
+through-lines p n [] more = refl
+through-lines p n (es ∷ hs) more =
+    let g : Group = group_with p n in
+    ap through_end (append_assoc (group_lines g es) (lines_from p (n + 1) hs) more) ∙ through-group g es (lines_from p (n + 1) hs ++ more)
+    ∙ ap (λ (ls : List Line). group_lines g es ++ ls) (through-lines p (n + 1) hs more)
+
+pub begin-same : (p : Parts) (hs hs' : List (List Entry)) (more : List Line) → lines_from p 0 hs' ≡ lines_from p 0 hs ++ more → hs ≡ hs'
+begin-same p hs hs' more e =
+    let lines : lines_from p 0 hs ≡ lines_from p 0 hs' =
+    sym (through-lines p 0 hs more) ∙ ap through_end (sym e ∙ sym (append-nil (lines_from p 0 hs'))) ∙ through-lines p 0 hs' [] in
+    sym (said-lines p 0 hs) ∙ ap histories_said lines ∙ said-lines p 0 hs'
+
 -- ---- different histories have different texts
 
-same_lines : (v : Version) (p : Parts) (hs hs' : List (List Entry)) → ArePlayed p hs → ArePlayed p hs' → trace_text v p hs ≡ trace_text v p hs' → lines_from p 0 hs ≡ lines_from p 0 hs'
-same_lines v p hs hs' played played' same =
-    let one = canonical-one_line p played.valid in
-    let rests = head-unique v v (trace_text v p hs) (canonical p) (lines_of v p hs) (canonical p) (lines_of v p hs')
-    (trace-head v p hs one) (subst (λ (t : List ℕ). HasHead v t (canonical p) (lines_of v p hs')) (sym same) (trace-head v p hs' one)) in
-    (lines_read (known_of v p) (lines_of v p hs) [] (lines_from p 0 hs) (lines_from p 0 hs') None (valid-tells v p played.valid) (all_known v p hs' played') rests.rest
-    (are-lines (known_of v p) (lines_from p 0 hs) (all_known v p hs played)) refl).0
+rests-apart : (v : Version) (p : Parts) (hs hs' : List (List Entry)) (x y : List ℕ) → IsValid p → ArePlays p hs → ArePlays p hs' → lines_of v p hs ++ x ≡ lines_of v p hs' ++ y → hs ≡ hs'
+rests-apart v p hs hs' x y valid plays plays' e =
+    elim (lines-begin (known_of v p) (lines_from p 0 hs) (lines_from p 0 hs') x y (valid-tells v p valid) (known-lines v p valid hs plays) (known-lines v p valid hs' plays') e) [
+      | inl m ↦ begin-same p hs hs' m.more m.lines_are
+      | inr m ↦ sym (begin-same p hs' hs m.more m.lines_are)
+    ]
+
+-- whatever stands behind them
+pub texts-apart : (v : Version) (p : Parts) (hs hs' : List (List Entry)) (x y text : List ℕ) → IsValid p → ArePlays p hs → ArePlays p hs' → text ≡ trace_text v p hs ++ x → text ≡ trace_text v p hs' ++ y → hs ≡ hs'
+texts-apart v p hs hs' x y text valid plays plays' e f =
+    let one = canonical-one_line p valid in
+    let heads = head-unique v v text (canonical p) (lines_of v p hs ++ x) (canonical p) (lines_of v p hs' ++ y) (longer-head v p hs x text e one) (longer-head v p hs' y text f one) in
+    rests-apart v p hs hs' x y valid plays plays' heads.rest
 
 pub traces-tell-apart : TracesTellApart
-traces-tell-apart v p hs hs' played played' same = sym (said-lines p 0 hs) ∙ ap histories_said (same_lines v p hs hs' played played' same) ∙ said-lines p 0 hs'
+traces-tell-apart tools others v p hs hs' text played played' is is' =
+    let begins = text-begins tools v p hs text is in
+    let begins' = text-begins others v p hs' text is' in
+    texts-apart v p hs hs' begins.0 begins'.0 text played.valid played.plays played'.plays begins.1 begins'.1
+
+-- ---- what is read begins with the lines of the plays, whatever stands behind them
+
+pub record IsReadFirst (v w : Version) (p q : Parts) (hs : List (List Entry)) (lines : List Line) : Type 0 where
+  pub version : w ≡ v
+  pub setup : q ≡ p
+  pub later : List Line
+  pub lines_are : lines ≡ lines_from p 0 hs ++ later
+
+All-behind : (P : Line → Type 0) (xs ys : List Line) → All P (xs ++ ys) → All P ys
+All-behind P [] ys all = all
+All-behind P (x ∷ xs) ys all = All-behind P xs ys (All-tail P x (xs ++ ys) all)
+
+pub first-read : (k : Known) (rest left more : List ℕ) (lines ls : List Line) → Tells k → All (IsLine k) ls → rest ≡ flat_map (line_text k) ls ++ more → AreLines k rest lines left → (later : List Line) × (lines ≡ ls ++ later)
+first-read k rest left more lines ls tell known same are =
+    elim (lines-begin k lines ls left more tell are.lines_known known (sym are.text_is ∙ same)) [
+      | inl m ↦ by_more m.more (subst (All (IsLine k)) m.lines_are known) m.lines_are m.rest_is
+      | inr m ↦ (m.more, m.lines_are)
+    ]
+  where
+    by_more : (further : List Line) → All (IsLine k) (lines ++ further) → ls ≡ lines ++ further → left ≡ flat_map (line_text k) further ++ more → (later : List Line) × (lines ≡ ls ++ later)
+    by_more [] all is rest_is = ([], sym (append-nil lines) ∙ sym is ∙ sym (append-nil ls))
+    by_more (l ∷ further) all is rest_is =
+        let l_is : IsLine k l = All-head (IsLine k) l further (All-behind (IsLine k) lines (l ∷ further) all) in
+        absurd (are.none_further l (flat_map (line_text k) further ++ more) l_is (rest_is ∙ append_assoc (line_text k l) (flat_map (line_text k) further) more))
+
+pub read-first : (v w : Version) (p q : Parts) (hs : List (List Entry)) (more text : List ℕ) (lines : List Line) (stop : Option ℕ) → ArePlayed p hs → text ≡ trace_text v p hs ++ more → IsTraceOf text w q lines stop → IsReadFirst v w p q hs lines
+read-first v w p q hs more text lines stop played is t =
+    let valid = played.valid in
+    let heads = head-unique w v text t.set_text t.rest (canonical p) (lines_of v p hs ++ more) t.head (longer-head v p hs more text is (canonical-one_line p valid)) in
+    let same : q ≡ p = same_set t.set_text (canonical p) p q heads.set_text t.set_is (set-of-canonical p valid) in
+    let read = first-read (known_of v p) t.rest t.left more lines (lines_from p 0 hs) (valid-tells v p valid) (all_known v p hs played) heads.rest
+    (subst (λ (u : Version). AreLines (known_of u p) t.rest lines t.left) heads.version (subst (λ (x : Parts). AreLines (known_of w x) t.rest lines t.left) same t.lines_are)) in
+    record { version = heads.version; setup = same; later = read.0; lines_are = read.1 }
 
 -- ---- different formats
 
 pub versions-tell-apart : VersionsTellApart
-versions-tell-apart v w p q hs hs' same =
-    version-unique v w (codes "set " ++ (canonical p ++ 10 ∷ lines_of v p hs)) (codes "set " ++ (canonical q ++ 10 ∷ lines_of w q hs')) (sym (trace-begins v p hs) ∙ same ∙ trace-begins w q hs')
+versions-tell-apart tools others v w p q hs hs' text is is' =
+    let begins = text-begins tools v p hs text is in
+    let begins' = text-begins others w q hs' text is' in
+    version-unique v w (codes "set " ++ (canonical p ++ 10 ∷ (lines_of v p hs ++ begins.0))) (codes "set " ++ (canonical q ++ 10 ∷ (lines_of w q hs' ++ begins'.0)))
+    (sym (longer-begins v p hs begins.0 text begins.1) ∙ longer-begins w q hs' begins'.0 text begins'.1)

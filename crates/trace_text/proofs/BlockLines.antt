@@ -139,7 +139,7 @@ requests-known g valid made = by_moves g (λ past. All (IsKnownRequest g (entrie
 
 -- ---- their lines
 
-entries-few : (g : Group) (es : List Entry) → length es ≤ MOST_STEPS → entries_in (past_of g es) ≤ 2 * MOST_STEPS
+pub entries-few : (g : Group) (es : List Entry) → length es ≤ MOST_STEPS → entries_in (past_of g es) ≤ 2 * MOST_STEPS
 unfolding past_of
 entries-few g es few = omega (arith, number_of-le is_act (past_of g es), length-past_from g es [], few)
 

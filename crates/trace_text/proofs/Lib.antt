@@ -2,5 +2,8 @@ pub mod CameLaws
 pub mod CpuLaws
 pub mod ReplayLaws
 pub mod LineLaws
+pub mod ShownLaws
 pub mod GroupLaws
 pub mod BlockLines
+pub mod SummaryLaws
+pub mod BusText

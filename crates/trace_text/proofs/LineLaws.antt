@@ -1,7 +1,6 @@
 -- The lines of a group, part by part as they are written.
-use Rattle.std.proofs.Common.{◌≡◌, ℕ, zero, suc, ◌+◌, ◌<◌, ◌≤◌, Bool, true, false, not, List, [], ◌∷◌, ◌++◌, length, map, drop, get_or, refl, sym, ap, subst, ◌∙◌, arith, append-nil}
-use Rattle.std.specs.Prelude.{flat_map, Option, if◌then◌else◌}
-use Rattle.std.proofs.lemmas.List.Elements.{All-head, All-tail}
+use Rattle.std.proofs.Common.{◌≡◌, ℕ, zero, suc, ◌+◌, ◌<◌, ◌≤◌, List, [], ◌∷◌, ◌++◌, length, map, drop, get_or, refl, sym, ap, subst, ◌∙◌, arith, append-nil}
+use Rattle.std.specs.Prelude.{flat_map}
 use Rattle.std.proofs.lemmas.Grind.{flat_map-append}
 use Rattle.std.proofs.lemmas.Simd.{map-map}
 use Rattle.std.proofs.Math.Seq.{drop-cons}
@@ -97,17 +96,20 @@ pub opened_links : (g : Group) (r : GroupHistory) (qs : List CpuNo) (links : Lis
 opened_links g r qs links same none f = f.links_are ∙ ap (λ (p : Past). links_at (group_of r) p (group_processors (group_of r))) (opened_past g r none) ∙ ap (λ (x : Group). links_at x [] (group_processors x)) same
 
 -- the requests that were counted as the entries were taken again
-pub written_blocks : (k : Known) (h old new : GroupHistory) (es : List Entry) (seen : List Seen) → group_of old ≡ group_of h → old.entries ≡ [] → es ≡ h.entries
-    → HasPlayed old new es → tallies_of seen ≡ tallies (group_of new) (past new)
-    → texts k (map request_line (tallies_of seen)) ≡ texts k (block_lines (group_of h) (past_of (group_of h) h.entries))
+pub played_tallies : (h old new : GroupHistory) (es : List Entry) (seen : List Seen) → group_of old ≡ group_of h → old.entries ≡ [] → es ≡ h.entries
+    → HasPlayed old new es → tallies_of seen ≡ tallies (group_of new) (past new) → tallies_of seen ≡ tallies (group_of h) (past_of (group_of h) h.entries)
 unfolding past_of
-written_blocks k h old new es seen same none all played are =
+played_tallies h old new es seen same none all played are =
     let past_is : past new ≡ past_of (group_of h) h.entries =
     played.past_is ∙ ap (past_from (group_of old) (past old)) all
     ∙ ap (λ (p : Past). past_from (group_of old) p h.entries) (opened_past (group_of h) old none) ∙ ap (λ (g : Group). past_from g [] h.entries) same in
-    let group_is : group_of new ≡ group_of h = played.group_is ∙ same in
-    let told : tallies_of seen ≡ tallies (group_of h) (past_of (group_of h) h.entries) = are ∙ ap (λ (g : Group). tallies g (past new)) group_is ∙ ap (tallies (group_of h)) past_is in
-    ap (texts k) (ap (map request_line) told ∙ sym (request_lines (group_of h) (past_of (group_of h) h.entries)))
+    are ∙ ap (λ (g : Group). tallies g (past new)) (played.group_is ∙ same) ∙ ap (tallies (group_of h)) past_is
+
+pub written_blocks : (k : Known) (h old new : GroupHistory) (es : List Entry) (seen : List Seen) → group_of old ≡ group_of h → old.entries ≡ [] → es ≡ h.entries
+    → HasPlayed old new es → tallies_of seen ≡ tallies (group_of new) (past new)
+    → texts k (map request_line (tallies_of seen)) ≡ texts k (block_lines (group_of h) (past_of (group_of h) h.entries))
+written_blocks k h old new es seen same none all played are =
+    ap (texts k) (ap (map request_line) (played_tallies h old new es seen same none all played are) ∙ sym (request_lines (group_of h) (past_of (group_of h) h.entries)))
 
 -- ---- groups
 

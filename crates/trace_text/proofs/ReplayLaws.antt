@@ -121,11 +121,14 @@ unfolding past_from
 past_next g g' p p' es i d low same is = let next : i + 1 ≡ suc i = omega arith in rw (next, drop-cons es i d low, is, same) refl
 
 -- all of them
-pub has_played : (old now : GroupHistory) (qs : List CpuNo) (links : List CpuLink) (es : List Entry) (i : ℕ) → length es ≤ i → Playing old now qs links es i → HasPlayed old now es
+pub all_taken : (g : Group) (now was : Past) (es : List Entry) (i : ℕ) → length es ≤ i → past_from g now (drop i es) ≡ past_from g was es → now ≡ past_from g was es
 unfolding past_from
+all_taken g now was es i all is = ap (past_from g now) (sym (drop_end es i all)) ∙ is
+
+pub has_played : (old now : GroupHistory) (qs : List CpuNo) (links : List CpuLink) (es : List Entry) (i : ℕ) → length es ≤ i → Playing old now qs links es i → HasPlayed old now es
 has_played old now qs links es i all p = record {
   group_is = p.same_group;
-  past_is = ap (past_from (group_of old) (past now)) (sym (drop_end es i all)) ∙ p.past_is;
+  past_is = all_taken (group_of old) (past now) (past old) es i all p.past_is;
 }
 
 -- at opening there are no requests

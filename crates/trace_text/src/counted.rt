@@ -3,13 +3,14 @@ ghost use Rattle.std.specs.Prelude.{◌≡◌, ◌<◌, ◌≤◌, [], true, fal
 ghost use Rattle.rt_base.specs.declared.TheConstants.{MOST_STEPS};
 ghost use Rattle.rt_model.specs.Steps.{IsStepOf};
 ghost use Rattle.rt_model.specs.Histories.{reply_to};
+ghost use Rattle.rt_groups.specs.Endings.{ended_last};
 ghost use Rattle.rt_groups.specs.Groups.{IsGroupOf, group_of, past, with_entry};
 ghost use Rattle.count_laws.specs.Tallies.{tallies};
 ghost use Rattle.block_counts.specs.SeenWords.{tallies_of};
 
 use block_counts::{Blocks, Seen};
 use group_engine::Engine;
-use rt_base::{GroupNo, NoMemory};
+use rt_base::{GroupNo, NoMemory, TaskNo};
 use rt_history::{Entry, Reply};
 use rt_task::{Setup, Step};
 use std::alloc::Global;
@@ -72,6 +73,13 @@ impl Counted {
         ensures { tallies_of result.now ≡ tallies (group_of self.now) (past self.now) }
     {
         self.asked.requests()
+    }
+
+    /// The task whose job the last step ended, and whether it ended late.
+    pub fn ended(&self) -> Option<(TaskNo, bool)>
+        ensures { result ≡ ended_last (group_of self.now) (past self.now) }
+    {
+        self.engine.ended()
     }
 
     /// Takes a step of the group, and counts its entry.

@@ -1,16 +1,19 @@
 //! The groups of a trace.
-ghost use Rattle.std.specs.Prelude.{◌≡◌, ◌≤◌, true, flat_map, length, map, OnOk};
+ghost use Rattle.std.specs.Prelude.{◌≡◌, ◌≤◌, [], true, flat_map, length, map, OnOk};
 ghost use Rattle.rt_base.specs.declared.TheConstants.{MOST_STEPS};
 ghost use Rattle.rt_groups.specs.Groups.{group_of, past, AreStepsOf, IsGroupOf};
 ghost use Rattle.trace_lines.specs.Grammar.{line_text};
 ghost use Rattle.block_counts.specs.SeenWords.{tallies_of};
 ghost use Rattle.trace_text.specs.Groups.{AreGroupsOf, Follows, HasPlayed, histories, request_line};
 ghost use Rattle.trace_lines.specs.Known.{known_in};
-ghost use Rattle.trace_text.specs.TraceText.{entry_lines, group_lines, head_text};
-ghost use Rattle.trace_text.specs.TraceText.{lines_from, trace_text};
+ghost use Rattle.trace_tools.specs.Places.{seats};
+ghost use Rattle.trace_tools.specs.Seats.{seats_after};
+ghost use Rattle.trace_text.specs.CountLines.{bus_text, shown_entries, shown_from};
+ghost use Rattle.trace_text.specs.TraceText.{entry_lines, group_lines, head_text, lines_from};
 ghost use Rattle.trace_text.specs.Writing.{Came};
 
 use crate::WriteStop;
+use crate::counts::{show, write_counts};
 use crate::head::set_line_of;
 use crate::lines::{
     write_block_line, write_bytes, write_end_line, write_entry_line, write_group_line,
@@ -24,28 +27,37 @@ use rt_history::Entry;
 use rt_task::{Parts, Setup};
 use std::alloc::Global;
 use trace_lines::{Format, Version, first_line};
+use trace_tools::{Bus, TraceTool};
 
-/// The lines of entries, whose steps are taken again.
-fn write_entries<K: Sink>(
+/// The lines of entries of a group, whose steps are taken again. The bus is shown each entry.
+fn write_entries<T: TraceTool, K: Sink>(
     replay: &mut Replay,
+    number: GroupNo,
     entries: &[Entry],
     format: &Format,
+    bus: &mut Bus<T>,
     line: &mut Vec<u8>,
     out: &mut K,
 ) -> Result<(), WriteStop>
+    requires number { replay.old.engine.group ≡ number.0 }
     requires follows { Follows replay.old.engine replay.old.cpus.items replay.old.links.items }
     requires room { length entries.now ≤ replay.old.engine.spare }
     requires few { length entries.now ≤ MOST_STEPS }
     requires steps { AreStepsOf (group_of replay.old.engine) entries.now }
-    ensures lines { Came result (K.held out.old) (K.held out.new) (K.faults out.old) (K.faults out.new)
+    ensures lines { Came result
+        (K.held out.old) (K.held out.new) (K.faults out.old) (K.faults out.new)
         (flat_map (line_text (known_in format.now))
         (entry_lines (group_of replay.old.engine) 0 (past replay.old.engine) entries.now)) }
     ensures played { OnOk result
         (HasPlayed replay.old.engine replay.new.engine entries.now) }
+    ensures shown { let g = group_of replay.old.engine in
+        let es = shown_entries g 0 (past replay.old.engine) entries.now in
+        OnOk result (seats T.tool bus.new ≡ seats_after es (seats T.tool bus.old)) }
 {
     for (i, entry) in entries.iter().enumerate() {
         replay.step(entry.step)?;
         write_entry_line(out, line, format, i as u32, entry, replay.changed())?;
+        show(bus, replay.engine(), number, i as u32, entry);
     }
     Ok(())
 }
@@ -67,43 +79,51 @@ fn write_blocks<K: Sink>(
     Ok(())
 }
 
-/// The lines of a group.
-fn write_group<K: Sink>(
+/// The lines of a group. The bus is shown its entries.
+fn write_group<T: TraceTool, K: Sink>(
     alloc: Global,
     setup: &Setup,
     format: &Format,
     number: GroupNo,
     group: &Engine,
+    bus: &mut Bus<T>,
     line: &mut Vec<u8>,
     out: &mut K,
 ) -> Result<(), WriteStop>
     requires there { IsGroupOf setup.now number.0 }
     requires setup { group.now.setup ≡ setup.now }
     requires number { group.now.group ≡ number.0 }
-    ensures { Came result (K.held out.old) (K.held out.new) (K.faults out.old) (K.faults out.new)
+    ensures lines { Came result
+        (K.held out.old) (K.held out.new) (K.faults out.old) (K.faults out.new)
         (flat_map (line_text (known_in format.now))
         (group_lines (group_of group.now) group.now.entries)) }
+    ensures shown { let es = shown_entries (group_of group.now) 0 [] group.now.entries in
+        OnOk result (seats T.tool bus.new ≡ seats_after es (seats T.tool bus.old)) }
 {
     let entries = group.entries();
     let mut replay = Replay::open(alloc, setup, number, entries.len() as u32)?;
     write_group_line(out, line, format, number, replay.links())?;
-    write_entries(&mut replay, entries, format, line, out)?;
+    write_entries(&mut replay, number, entries, format, bus, line, out)?;
     write_blocks(replay.requests(), format, line, out)
 }
 
-/// The lines of the groups, and the line `end`.
-fn write_groups<K: Sink>(
+/// The lines of the groups, and the line `end`. The bus is shown all entries.
+fn write_groups<T: TraceTool, K: Sink>(
     alloc: Global,
     setup: &Setup,
     format: &Format,
     groups: &[Engine],
+    bus: &mut Bus<T>,
     out: &mut K,
 ) -> Result<(), WriteStop>
     requires groups { AreGroupsOf setup.now groups.now }
     requires few { length groups.now ≤ 64 }
-    ensures { Came result (K.held out.old) (K.held out.new) (K.faults out.old) (K.faults out.new)
+    ensures lines { Came result
+        (K.held out.old) (K.held out.new) (K.faults out.old) (K.faults out.new)
         (flat_map (line_text (known_in format.now))
         (lines_from setup.now 0 (histories groups.now))) }
+    ensures shown { let es = shown_from setup.now 0 (histories groups.now) in
+        OnOk result (seats T.tool bus.new ≡ seats_after es (seats T.tool bus.old)) }
 {
     let mut line = Vec::new(alloc);
     for (i, group) in groups.iter().enumerate() {
@@ -113,6 +133,7 @@ fn write_groups<K: Sink>(
             format,
             GroupNo(i as u32),
             group,
+            bus,
             &mut line,
             out,
         )?;
@@ -135,19 +156,24 @@ fn write_head<K: Sink>(
     write_bytes(out, line.as_slice())
 }
 
-/// The whole trace.
-pub fn write_all<K: Sink>(
+/// The whole trace, and the count lines of a bus that is shown its entries.
+pub fn write_all<T: TraceTool, K: Sink>(
     alloc: Global,
     version: Version,
     setup: &Setup,
     groups: &[Engine],
+    bus: &mut Bus<T>,
     out: &mut K,
 ) -> Result<(), WriteStop>
     requires groups { AreGroupsOf setup.now groups.now }
-    ensures { Came result (K.held out.old) (K.held out.new) (K.faults out.old) (K.faults out.new)
-        (trace_text version setup.now (histories groups.now)) }
+    ensures lines { Came result
+        (K.held out.old) (K.held out.new) (K.faults out.old) (K.faults out.new)
+        (bus_text version (seats T.tool bus.old) setup.now (histories groups.now)) }
+    ensures shown { let es = shown_from setup.now 0 (histories groups.now) in
+        OnOk result (seats T.tool bus.new ≡ seats_after es (seats T.tool bus.old)) }
 {
     let parts = setup.parts();
     write_head(alloc, version, parts, out)?;
-    write_groups(alloc, setup, &Format { version, parts }, groups, out)
+    write_groups(alloc, setup, &Format { version, parts }, groups, bus, out)?;
+    write_counts(alloc, bus, out)
 }

@@ -54,6 +54,13 @@ impl Replay {
         })
     }
 
+    /// The engine.
+    pub fn engine(&self) -> &Counted
+        ensures { result.now ≡ self.now.engine }
+    {
+        &self.engine
+    }
+
     /// The links now.
     pub fn links(&self) -> &[CpuLink]
         ensures { result.now ≡ self.now.links.items }

@@ -15,10 +15,10 @@ use Rattle.rt_groups.specs.Groups.{GroupHistory}
 use Rattle.rt_groups.proofs.GroupCount.{groups_are_counted}
 use Rattle.trace_lines.specs.Lines.{Line}
 use Rattle.trace_text.specs.Groups.{AreGroupsOf, histories}
-use Rattle.trace_text.specs.TraceText.{block_lines, block_of, entry_lines, group_lines, lines_from}
+use Rattle.trace_text.specs.TraceText.{block_lines, block_of, entry_lines, group_lines, lines_from, trace_text}
 use Rattle.trace_text.proofs.GroupLaws.{all-groups}
 use Rattle.trace_laws.proofs.Plays.{begun-legal, begun-steps, begun-whole, few-entries}
-use Rattle.trace_laws.proofs.ReadBack.{trace-is-read}
+use Rattle.trace_laws.proofs.ReadBack.{read-first}
 use Rattle.trace_read.specs.Lines.{lines_of}
 use Rattle.trace_read.specs.declared.Trace.{Trace}
 use Rattle.trace_upgrade.specs.Said.{CanReplay, SaysPlays, entries_first, groups_said}
@@ -35,10 +35,10 @@ unfolding entry_lines
 first-entries g i past [] ls = refl
 first-entries g i past (e ∷ es) ls = ap (λ (xs : List Entry). e ∷ xs) (first-entries g (i + 1) (after g e.step past) es ls)
 
-first-lines : (p : Parts) (n : ℕ) (hs : List (List Entry)) → entries_first (lines_from p n hs) ≡ []
+first-lines : (p : Parts) (n : ℕ) (hs : List (List Entry)) (later : List Line) → entries_first (lines_from p n hs ++ later) ≡ []
 unfolding group_lines
-first-lines p n [] = refl
-first-lines p n (es ∷ hs) = refl
+first-lines p n [] later = refl
+first-lines p n (es ∷ hs) later = refl
 
 first-requests : (g : Group) (past : Past) (rs : List Asked) (ls : List Line) → entries_first ls ≡ [] → entries_first (map (block_of g past) rs ++ ls) ≡ []
 first-requests g past [] ls none = none
@@ -69,16 +69,17 @@ said-group p n es ls none =
 
 -- ---- those of all
 
-said-lines : (p : Parts) (n : ℕ) (hs : List (List Entry)) → groups_said p (lines_from p n hs) ≡ groups_with p n hs
-said-lines p n [] = refl
-said-lines p n (es ∷ hs) =
-    said-group p n es (lines_from p (n + 1) hs) (first-lines p (n + 1) hs)
-    ∙ ap (λ (xs : List GroupHistory). let h : GroupHistory = record { setup = p; group = n; entries = es; spare = 0 } in h ∷ xs) (said-lines p (n + 1) hs)
+said-lines : (p : Parts) (n : ℕ) (hs : List (List Entry)) (later : List Line) → groups_said p (lines_from p n hs ++ later) ≡ groups_with p n hs
+said-lines p n [] later = refl
+said-lines p n (es ∷ hs) later =
+    ap (groups_said p) (append_assoc (group_lines (group_with p n) es) (lines_from p (n + 1) hs) later)
+    ∙ said-group p n es (lines_from p (n + 1) hs ++ later) (first-lines p (n + 1) hs later)
+    ∙ ap (λ (xs : List GroupHistory). let h : GroupHistory = record { setup = p; group = n; entries = es; spare = 0 } in h ∷ xs) (said-lines p (n + 1) hs later)
 
 pub said-groups : (t : Trace) (hs : List (List Entry)) → SaysPlays t hs → groups_said t.setup (lines_of t.lines) ≡ groups_with t.setup 0 hs
 said-groups t hs says =
-    let read = trace-is-read t.version t.version t.setup t.setup hs (lines_of t.lines) t.stop says.played says.read in
-    ap (groups_said t.setup) read.2 ∙ said-lines t.setup 0 hs
+    let read = read-first t.version t.version t.setup t.setup hs says.more (trace_text t.version t.setup hs ++ says.more) (lines_of t.lines) t.stop says.played refl says.read in
+    ap (groups_said t.setup) read.lines_are ∙ said-lines t.setup 0 hs read.later
 
 -- ---- they are the groups of the setup, with the histories
 

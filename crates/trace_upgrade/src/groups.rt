@@ -10,7 +10,7 @@ use rt_task::Setup;
 use std::alloc::Global;
 use trace_read::Line;
 
-/// An engine for each group line, with the entries of the lines behind it.
+/// An engine for each group line before the line `end`, with the entries of the lines behind it.
 pub(crate) fn engines_said(
     alloc: Global,
     setup: &Setup,
@@ -21,11 +21,15 @@ pub(crate) fn engines_said(
 {
     let mut engines = Vec::new(alloc);
     for (i, line) in lines.iter().enumerate() {
-        if let Line::GroupLine { group, .. } = line {
-            let engine = engine_of(alloc, setup, *group, &lines[i + 1..])?;
-            if engines.push(engine).is_err() {
-                return Err(NoMemory);
+        match line {
+            Line::GroupLine { group, .. } => {
+                let engine = engine_of(alloc, setup, *group, &lines[i + 1..])?;
+                if engines.push(engine).is_err() {
+                    return Err(NoMemory);
+                }
             }
+            Line::EndLine => return Ok(engines),
+            _ => {}
         }
     }
     Ok(engines)

@@ -16,8 +16,8 @@ use rt_base::NoMemory;
 use std::alloc::Global;
 use trace_read::Trace;
 
-/// The engines of the groups of a trace that was read of the text of plays, by rising number: each with the entries
-/// that the trace says of its group, and with no room for more. Each step is taken again.
+/// The engines of the groups of a trace that was read of the text of plays, with count lines or without, by rising number:
+/// each with the entries that the trace says of its group, and with no room for more. Each step is taken again.
 pub fn engines_of(alloc: Global, trace: &Trace) -> Result<Vec<Engine>, NoMemory>
     requires { (hs : List (List Entry)) × SaysPlays trace.now hs }
     ensures groups { IfOk result (λ v. AreGroupsOf trace.now.setup v.items) }

@@ -88,6 +88,13 @@ module _ (g : Group) (past : Past) (valid : IsValid g.setup) (k : Kept) (kept : 
       ap (λ x. count_by (is_above g.setup k (home_in g.setup t) x) g.setup.tasks) (key-read t h)
       ∙ counted-rows g (home_in g.setup t) inside (λ u. exists g u past && higher (base_key g u past) (base_key g t past)) (is_above g.setup k (home_in g.setup t) (base_key g t past)) g.setup.tasks 1 (λ i low. above-read (home_in g.setup t) i (base_key g t past) inside low)
 
+  -- a task of which it is known whether it waits
+  pub blocked-as : (t : ℕ) → has t (tasks g) ≡ true → (waits : Bool) → waits ≡ is_some (awaits g t past) → waits && is_among_first g.setup k t ≡ is_blocked g t past
+  unfolding is_blocked cpus cluster home task
+  blocked-as t h waits same =
+      ap (λ b. b && is_among_first g.setup k t) same
+      ∙ ap (λ n. is_some (awaits g t past) && nat_lt n (cpus g (home g t))) (counted t h (member-home g t h))
+
   module _ (made : IsReachable g past) (s : ℕ) (known : has s (sems g) ≡ true) where
     blocked-read : (t : ℕ) → has t (tasks g) ≡ true → in_group g (home g t) ≡ true → has t (sem_state g s past).waiting ≡ true → is_among_first g.setup k t ≡ is_blocked g t past
     unfolding is_blocked cpus cluster home task

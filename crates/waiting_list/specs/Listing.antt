@@ -1,5 +1,5 @@
 -- Listing the tasks that wait for the semaphore that an act frees.
-use Rattle.std.specs.Prelude.{◌≡◌, ℕ, ◌≤◌, ◌<◌, Bool, false, List, length, Option, None, Some, if◌then◌else◌}
+use Rattle.std.specs.Prelude.{◌≡◌, ℕ, ◌≤◌, ◌<◌, Bool, true, false, List, length, Option, None, Some, if◌then◌else◌}
 use Rattle.rt_base.specs.declared.TheConstants.{MOST_STEPS, TICK_END}
 use Rattle.rt_base.specs.declared.SemNo.{SemNo}
 use Rattle.rt_task.specs.declared.Act.{Act}
@@ -7,10 +7,10 @@ use Rattle.rt_task.specs.declared.Act.TheVariants as acts
 use Rattle.rt_task.specs.declared.Op.TheVariants as ops
 use Rattle.rt_task.specs.declared.Parts.{Parts}
 use Rattle.rt_task.specs.Validity.{IsValid}
-use Rattle.rt_rules.specs.Numbers.{is}
+use Rattle.rt_rules.specs.Numbers.{has, is}
 use Rattle.rt_rules.specs.SemState.{Frees}
 use Rattle.rt_model.specs.Answers.{answer}
-use Rattle.rt_model.specs.Group.{Group}
+use Rattle.rt_model.specs.Group.{Group, tasks}
 use Rattle.rt_model.specs.Past.{Past, entries_in, now}
 use Rattle.rt_model.specs.Reachable.{IsReachable}
 use Rattle.rt_model.specs.Runs.{runs}
@@ -54,3 +54,14 @@ pub record CanList (at : Moment) (p : Parts) (k : Kept) (v : GroupSems) (q : ℕ
   pub inside : IsProcessorOf at.group q
   pub act_is_of : IsActOf at.group act
   pub has_room : length at.group.setup.tasks ≤ room
+
+-- what is kept of jobs and semaphores is of this moment of a group, and the task is one of its tasks
+pub record CanAsk (at : Moment) (p : Parts) (k : Kept) (v : GroupSems) (t : ℕ) : Type 0 where
+  pub valid : IsValid at.group.setup
+  pub reachable : IsReachable at.group at.past
+  pub few : entries_in at.past ≤ MOST_STEPS
+  pub clock_low : now at.past < TICK_END
+  pub parts_are : p ≡ at.group.setup
+  pub jobs_are : IsKept at.group at.past k
+  pub sems_are : KeepsGroupSems at.group at.past v
+  pub member : has t (tasks at.group) ≡ true

@@ -5,12 +5,13 @@
 ghost use Rattle.std.specs.Prelude.{◌≡◌, ◌+◌, ◌≤◌, ◌<◌, ◌++◌, ◌∷◌, [], IfOk, length, vec_len, vec_capacity};
 ghost use Rattle.rt_base.specs.TaskNos.{numbers};
 ghost use Rattle.rt_rules.specs.Distinct.{IsDistinct};
+ghost use Rattle.rt_model.specs.Blocking as definitions;
 ghost use Rattle.count_laws.specs.Tallies.{waiter_tasks};
 ghost use Rattle.block_counts.specs.SeenWords.{waiters_of};
 ghost use Rattle.group_facts.specs.Kept.{cpu_of};
 ghost use Rattle.sem_table.specs.Told.{state_of};
 ghost use Rattle.waiting_list.specs.Blocked.{CanRankAll, waiters_now};
-ghost use Rattle.waiting_list.specs.Listing.{AreWaitersAt, CanList, Moment, freed_at};
+ghost use Rattle.waiting_list.specs.Listing.{AreWaitersAt, CanAsk, CanList, Moment, freed_at};
 
 mod blocked;
 
@@ -104,6 +105,16 @@ impl WaitingList {
         tell(parts, jobs, self.tasks.as_slice(), &mut self.waiting);
         self.tasks.clear();
     }
+}
+
+/// Whether the task is priority-blocked, by what is kept of jobs and of semaphores: it waits, and fewer tasks of its cluster
+/// than this has processors have a current job with a higher base key.
+pub fn is_blocked(parts: &Parts, jobs: &GroupJobs, sems: &GroupSems, task: TaskNo) -> bool
+    requires { (at : Moment) × CanAsk at parts.now jobs.now.kept sems.now task.0 }
+    ensures { (at : Moment) → CanAsk at parts.now jobs.now.kept sems.now task.0
+        → result ≡ definitions.is_blocked at.group task.0 at.past }
+{
+    sems.waits(task) && is_among_first(parts, jobs, task)
 }
 
 /// Adds a task, for which there is room.

@@ -1,5 +1,5 @@
-use Rattle.std.proofs.Common.{◌≡◌, ◌∙◌, ℕ, false, true, ap, sym}
-use Rattle.std.specs.Prelude.{Err, Ok, bytes_eq, decimal}
+use Rattle.std.proofs.Common.{◌≡◌, ◌∙◌, false, true, ap, sym}
+use Rattle.std.specs.Prelude.{Ok, bytes_eq, decimal}
 use Rattle.std.proofs.lemmas.Bool.{false≢true}
 use Rattle.std.proofs.lemmas.Fmt.{parse-decimal}
 use Rattle.std.proofs.lemmas.Slice.Eq.{bytes_eq-Decides}

@@ -1,6 +1,5 @@
-use Rattle.std.proofs.Common.{◌≡◌, ◌∙◌, ◌+◌, ◌-◌, ◌++◌, ap}
-use Rattle.load_set.specs.declared.draws.Drawn.{Drawn}
-use Rattle.load_set.specs.Draws.{after_four, draw_from}
+use Rattle.std.proofs.Common.{◌≡◌, ◌∙◌, ◌+◌, ap}
+use Rattle.load_set.specs.Draws.{draw_from}
 use Rattle.load_set.specs.Load.{task_of, tasks_from}
 use Rattle.load_set.proofs.TaskLaws.{all-there, one-more}
 use Rattle.load_set.proofs.tasks.tasks_of.Goals as goal

@@ -1,10 +1,8 @@
-use Rattle.std.proofs.Common.{◌≡◌, ◌≤◌, length, true, false, sym, ap, ◌∙◌, subst, arith, Ok}
+use Rattle.std.proofs.Common.{◌≡◌, ◌≤◌, length, sym, ap, ◌∙◌, arith, Ok}
 use Rattle.rt_base.specs.declared.TheConstants.{MOST_SET_BYTES}
-use Rattle.rt_task.specs.Validity.{IsValid}
 use Rattle.set_read.specs.Sets.{set}
-use Rattle.set_input.specs.Players.{is_played}
-use Rattle.set_input.proofs.EndLaws.{ends-ok, ends-with, ends-handed, unread-cause, unmade-cause}
-use Rattle.set_input.proofs.PlayableLaws.{playable-played, playable-unplayed, playable-refused, stop-refused}
+use Rattle.set_input.proofs.EndLaws.{ends-ok, ends-handed, unread-cause, unmade-cause}
+use Rattle.set_input.proofs.InputLaws.{stop-refused}
 use Rattle.set_input.proofs.input.read_input.Goals as goal
 
 pub returns-in_err-bytes-clause-ends : goal.returns-in_err-bytes-clause-ends
@@ -22,25 +20,9 @@ returns-in_err-setup-clause-ends g c =
       bytes = c.in_ok-bytes.bytes.items;
       all = c.in_ok-bytes.ensures.ok;
       within = within;
-      refused = playable-refused _ _ b (rw (sym c.as_slice.ensures.value) (stop-refused _ b _ c.in_err-setup.ensures said));
+      refused = rw (sym c.as_slice.ensures.value) (stop-refused _ b _ c.in_err-setup.ensures said);
     })
     (c.in_ok-bytes.ensures.unfailed (λ is. cc)) (c.in_ok-bytes.ensures.not_too_long (λ is. cc)))
-
-pub returns-then-not-plays-clause-ends : goal.returns-then-not-plays-clause-ends
-returns-then-not-plays-clause-ends g c =
-    let within : length c.in_ok-bytes.bytes.items ≤ MOST_SET_BYTES = omega (arith, c.in_ok-bytes.ensures.within, c.in_ok-bytes.bytes.ok.0) in
-    let reads : set c.in_ok-bytes.bytes.items ≡ Ok c.in_ok-setup.setup = ap set (sym c.as_slice.ensures.value) ∙ c.in_ok-setup.ensures in
-    let unplayed : is_played c.args.player c.in_ok-setup.setup ≡ false = sym c.plays.ensures ∙ c.if-not-plays.true in
-    ends-with _ _ _ _ _ c.unbuilt.ensures (
-      record {
-        bytes = c.in_ok-bytes.bytes.items;
-        all = c.in_ok-bytes.ensures.ok;
-        within = within;
-        refused = playable-unplayed _ _ _ reads unplayed;
-      },
-      c.in_ok-bytes.ensures.unfailed (λ is. cc),
-      c.in_ok-bytes.ensures.not_too_long (λ is. cc),
-    )
 
 pub returns-clause-ends : goal.returns-clause-ends
 returns-clause-ends g c =
@@ -50,11 +32,10 @@ pub returns-clause-ok : goal.returns-clause-ok
 returns-clause-ok g c =
     let within : length c.in_ok-bytes.bytes.items ≤ MOST_SET_BYTES = omega (arith, c.in_ok-bytes.ensures.within, c.in_ok-bytes.bytes.ok.0) in
     let reads : set c.in_ok-bytes.bytes.items ≡ Ok c.in_ok-setup.setup = ap set (sym c.as_slice.ensures.value) ∙ c.in_ok-setup.ensures in
-    let played : is_played c.args.player c.in_ok-setup.setup ≡ true = sym c.plays.ensures ∙ c.if-not-plays.false in
     record {
       bytes = c.in_ok-bytes.bytes.items;
       all = c.in_ok-bytes.ensures.ok;
       within = within;
-      reads = playable-played _ _ _ reads played;
-      valid = subst IsValid c.setup.view_is c.setup.invariant;
+      reads = reads;
+      valid = c.parts-parts.ensures.valid;
     }

@@ -5,7 +5,7 @@ use Rattle.set_runs.proofs.set_run.run_set.Goals as goal
 pub map_indices-requires-after_bounds : goal.map_indices-requires-after_bounds
 map_indices-requires-after_bounds g c κs within = λ i low.
     let there = group-there c.args.setup.now c.count_groups.result i c.parts-parts.ensures.valid c.count_groups.ensures low in
-    ((there.0, there.1, c.requires), search rules)
+    ((there.0, there.1), search rules)
 
 pub returns-in-Ok : goal.returns-in-Ok
 returns-in-Ok g c =

@@ -6,14 +6,19 @@ use Rattle.rt_groups.specs.Groups.{GroupHistory, group_of, past}
 use Rattle.trace_lines.specs.Grammar.{line_text}
 use Rattle.trace_lines.specs.Lines.{links_of, group_line}
 use Rattle.trace_lines.specs.Known.{Known, known_in}
+use Rattle.trace_tools.specs.declared.shown.Shown.{Shown}
+use Rattle.trace_tools.specs.Places.{seats}
+use Rattle.trace_tools.specs.Seats.{seats_after}
+use Rattle.trace_text.specs.CountLines.{shown_entries}
 use Rattle.trace_text.specs.TraceText.{entry_lines, links_at}
 use Rattle.trace_text.specs.Writing.{Came}
 use Rattle.trace_text.proofs.CameLaws.{Coming, came-err, coming-last, coming-next, coming-stop}
 use Rattle.trace_text.proofs.LineLaws.{blocks_of, coming-group, entries_of, line_of, opened_links, opened_past, text_of, texts, written_blocks}
+use Rattle.trace_text.proofs.ReplayLaws.{on_ok}
 use Rattle.trace_text.proofs.groups.write_group.Goals as goal
 
-pub returns-in_err-write_group_line : goal.returns-in_err-write_group_line
-returns-in_err-write_group_line g c =
+pub returns-in_err-write_group_line-clause-lines : goal.returns-in_err-write_group_line-clause-lines
+returns-in_err-write_group_line-clause-lines g c =
     let h : GroupHistory = c.args.group.now in
     let k : Known = known_in c.args.format.now in
     let same : group_of c.in_ok-replay.replay.engine ≡ group_of h = ap group_of c.in_ok-replay.ensures.opened ∙ rw (c.requires.setup, c.requires.number) refl in
@@ -26,8 +31,8 @@ returns-in_err-write_group_line g c =
     (coming-group k h (g.K.Sink.held c.args.out.now) (g.K.Sink.faults c.args.out.now))
     (subst (λ xs. Came (Err c.in_err-write_group_line.field-0.0) (g.K.Sink.held c.args.out.now) (g.K.Sink.held c.write_group_line.new.out) (g.K.Sink.faults c.args.out.now) (g.K.Sink.faults c.write_group_line.new.out) xs) line c.in_err-write_group_line.ensures))
 
-pub returns-in_err-write_entries : goal.returns-in_err-write_entries
-returns-in_err-write_entries g c =
+pub returns-in_err-write_entries-clause-lines : goal.returns-in_err-write_entries-clause-lines
+returns-in_err-write_entries-clause-lines g c =
     let h : GroupHistory = c.args.group.now in
     let k : Known = known_in c.args.format.now in
     let same : group_of c.in_ok-replay.replay.engine ≡ group_of h = ap group_of c.in_ok-replay.ensures.opened ∙ rw (c.requires.setup, c.requires.number) refl in
@@ -47,8 +52,8 @@ returns-in_err-write_entries g c =
     (text_of k h) (entries_of k h) (blocks_of k h) first
     (subst (λ xs. Came (Err c.in_err-write_entries.field-0.0) (g.K.Sink.held c.write_group_line.new.out) (g.K.Sink.held c.write_entries.new.out) (g.K.Sink.faults c.write_group_line.new.out) (g.K.Sink.faults c.write_entries.new.out) xs) lines c.in_err-write_entries.ensures.lines))
 
-pub returns : goal.returns
-returns g c =
+pub returns-clause-lines : goal.returns-clause-lines
+returns-clause-lines g c =
     let h : GroupHistory = c.args.group.now in
     let k : Known = known_in c.args.format.now in
     let same : group_of c.in_ok-replay.replay.engine ≡ group_of h = ap group_of c.in_ok-replay.ensures.opened ∙ rw (c.requires.setup, c.requires.number) refl in
@@ -70,3 +75,17 @@ returns g c =
     (text_of k h) (entries_of k h) (blocks_of k h) first
     (subst (λ xs. Came (Ok tt) (g.K.Sink.held c.write_group_line.new.out) (g.K.Sink.held c.write_entries.new.out) (g.K.Sink.faults c.write_group_line.new.out) (g.K.Sink.faults c.write_entries.new.out) xs) lines c.in_ok-write_entries.ensures.lines))
     (subst (λ xs. Came c.write_blocks.result (g.K.Sink.held c.write_entries.new.out) (g.K.Sink.held c.write_blocks.new.out) (g.K.Sink.faults c.write_entries.new.out) (g.K.Sink.faults c.write_blocks.new.out) xs) blocks c.write_blocks.ensures)
+
+pub write_entries-requires-clause-number : goal.write_entries-requires-clause-number
+write_entries-requires-clause-number g c = ap (λ (x : GroupHistory). x.group) c.in_ok-replay.ensures.opened
+
+pub returns-clause-shown : goal.returns-clause-shown
+returns-clause-shown g c =
+    let h : GroupHistory = c.args.group.now in
+    let same : group_of c.in_ok-replay.replay.engine ≡ group_of h = ap group_of c.in_ok-replay.ensures.opened ∙ rw (c.requires.setup, c.requires.number) refl in
+    let none : c.in_ok-replay.replay.engine.entries ≡ [] = ap (λ (x : GroupHistory). x.entries) c.in_ok-replay.ensures.opened in
+    let shown : shown_entries (group_of c.in_ok-replay.replay.engine) 0 (past c.in_ok-replay.replay.engine) c.entries-entries.result.now ≡ shown_entries (group_of h) 0 [] h.entries =
+    ap (λ (x : Group). shown_entries x 0 (past c.in_ok-replay.replay.engine) c.entries-entries.result.now) same
+    ∙ ap (λ (p : Past). shown_entries (group_of h) 0 p c.entries-entries.result.now) (opened_past (group_of h) c.in_ok-replay.replay.engine none)
+    ∙ ap (λ (es : List Entry). shown_entries (group_of h) 0 [] es) c.entries-entries.ensures.entries in
+    on_ok c.write_blocks.result (c.in_ok-write_entries.ensures.shown ∙ ap (λ (es : List Shown). seats_after es (seats g.T.TraceTool.tool c.args.bus.now)) shown)

@@ -1,4 +1,4 @@
-use Rattle.std.proofs.Common.{◌≡◌, ◌+◌, List, [], ◌∷◌, ◌++◌, drop, refl, sym, ap, ◌∙◌, subst, append_assoc}
+use Rattle.std.proofs.Common.{◌≡◌, ◌+◌, List, [], ◌∷◌, ◌++◌, drop, refl, sym, ap, ◌∙◌, subst, append_assoc, append-nil}
 use Rattle.std.proofs.lemmas.List.Elements.{All-head, All-tail}
 use Rattle.std.specs.Prelude.{All, Result, Ok, Err, false, is_err, is_ok, if◌then◌else◌}
 use Rattle.rt_task.specs.declared.Parts.{Parts}
@@ -6,9 +6,9 @@ use Rattle.rt_groups.specs.Groups.{GroupHistory}
 use Rattle.trace_lines.specs.Lines.{Line}
 use Rattle.trace_read.specs.Lines.{lines_of}
 use Rattle.trace_upgrade.specs.Said.{CanReplay, group_said, groups_said}
-use Rattle.trace_upgrade.proofs.LineSteps.{group-next, other-next, rest-lines}
+use Rattle.trace_upgrade.proofs.LineSteps.{end-next, group-next, other-next, rest-lines}
 use Rattle.trace_upgrade.proofs.groups.engines_said.Goals as goal
-use Rattle.trace_upgrade.proofs.groups.engines_said.Goals.{in-GroupLine+in_ok-engine+else-is_err, in_default}
+use Rattle.trace_upgrade.proofs.groups.engines_said.Goals.{in-GroupLine+in_ok-engine-in-GroupLine+else-is_err, in_default}
 
 -- what was not refused was put behind the others
 pushed : {A E : Type 0} (r : Result A E) (xs ys : List GroupHistory) → is_err r ≡ false → (if is_ok r then xs else ys) ≡ xs
@@ -28,11 +28,11 @@ loop-i-preserved c =
     let p : Parts = c.args.setup.now in
     let later : List Line = lines_of (drop (c.loop-i.i + 1) c.args.lines.now) in
     elim c.match-line.branch [
-      | in-GroupLine+in_ok-engine+else-is_err w ↦
+      | in-GroupLine+in_ok-engine-in-GroupLine+else-is_err w ↦
           let g : GroupHistory = group_said p w.in-GroupLine.group.0 later in
           let here : groups_said p (lines_of (drop c.loop-i.i c.args.lines.now)) ≡ g ∷ groups_said p later =
           group-next c.args.lines.now c.loop-i.i c.index-lines-i.result c.loop-i-test.true c.index-lines-i.is p w.in-GroupLine.group w.in-GroupLine.links w.in-GroupLine.is in
-          let engine : w.in_ok-engine.engine ≡ g = w.in_ok-engine.ensures ∙ ap (group_said p w.in-GroupLine.group.0) (rest-lines c.args.lines.now (c.loop-i.i + 1)) in
+          let engine : w.in_ok-engine-in-GroupLine.engine ≡ g = w.in_ok-engine-in-GroupLine.ensures ∙ ap (group_said p w.in-GroupLine.group.0) (rest-lines c.args.lines.now (c.loop-i.i + 1)) in
           let items : c.match-line.engines.items ≡ c.loop-i.engines.items ++ g ∷ [] =
           ap (λ v. v.items) w.engines-is ∙ w.push.ensures.items ∙ pushed w.push.result _ _ (sym w.is_err.ensures.value ∙ w.if-is_err.false) ∙ ap (λ (x : GroupHistory). c.loop-i.engines.items ++ x ∷ []) engine in
           record {
@@ -42,9 +42,15 @@ loop-i-preserved c =
           }
       | in_default w ↦
           let here : groups_said p (lines_of (drop c.loop-i.i c.args.lines.now)) ≡ groups_said p later =
-          other-next c.args.lines.now c.loop-i.i c.index-lines-i.result c.loop-i-test.true c.index-lines-i.is p w.in_default.not-GroupLine in
+          other-next c.args.lines.now c.loop-i.i c.index-lines-i.result c.loop-i-test.true c.index-lines-i.is p w.in_default.not-GroupLine w.in_default.not-EndLine in
           record {
             can = subst (All CanReplay) here c.loop-i.invariant.can;
             same = ap (λ v. v.items ++ groups_said p later) w.engines-is ∙ ap (λ (xs : List GroupHistory). c.loop-i.engines.items ++ xs) (sym here) ∙ c.loop-i.invariant.same;
           }
     ]
+
+pub returns-in-EndLine : goal.returns-in-EndLine
+returns-in-EndLine c =
+    let p : Parts = c.args.setup.now in
+    let none = end-next c.args.lines.now c.loop-i.i c.index-lines-i.result c.loop-i-test.true c.index-lines-i.is p c.in-EndLine.is in
+    sym (append-nil c.loop-i.engines.items) ∙ ap (λ (xs : List GroupHistory). c.loop-i.engines.items ++ xs) (sym none) ∙ c.loop-i.invariant.same

@@ -13,5 +13,5 @@ returns-clause-exact c = λ past at. ap tallies_of c.as_slice.ensures.value ∙ 
 pub returns-clause-bounds : goal.returns-clause-bounds
 returns-clause-bounds c = λ past made at.
     let same : tallies_of c.as_slice.result.now ≡ tallies (group_of c.args.self.now) past = ap tallies_of c.as_slice.ensures.value ∙ ap (λ (b : GroupRequests). b.tallies) c.self.view_is ∙ at.tallies_are in
-    let valid = subst (λ (b : GroupRequests). IsValid b.setup) c.self.view_is c.self.invariant.valid in
+    let valid = subst (λ (b : GroupRequests). IsValid b.setup) c.self.view_is c.self.invariant.0.valid in
     subst (All (IsWithin (group_of c.args.self.now))) (sym same) (seen_within_bound (group_of c.args.self.now) past valid made)

@@ -1,4 +1,8 @@
+use Rattle.std.proofs.Common.{◌≡◌, get_or, set, sym, ap, ◌∙◌}
+use Rattle.std.proofs.lemmas.List.{set-get_or}
+use Rattle.std.specs.Prelude.{None}
 use Rattle.cluster_table.specs.Clusters.{KeptCluster}
+use Rattle.cluster_table.specs.Placed.{PlacedCluster}
 use Rattle.cluster_table.proofs.Settled.{settled-with_key}
 use Rattle.cluster_table.proofs.cluster.ClusterState.set.Goals as goal
 
@@ -12,3 +16,10 @@ invariant_of-self-else-set c =
       c.self.invariant.2,
       λ h. rw c.set.ensures.keys (settled-with_key k c.args.task.0 c.args.key c.self.invariant.2 c.self.invariant.0 same (c.self.invariant.3 h)),
     )
+
+pub returns-then-is_same-clause-cluster : goal.returns-then-is_same-clause-cluster
+returns-then-is_same-clause-cluster c =
+    let k : KeptCluster = c.args.self.now.cluster in
+    let keys : c.heap.result.now.keys ≡ k.keys = c.heap.ensures ∙ ap (λ (p : PlacedCluster). p.cluster.keys) c.self.view_is in
+    let own : get_or k.keys c.args.task.0 None ≡ c.args.key = ap (λ ks. get_or ks c.args.task.0 None) (sym keys) ∙ sym c.key.ensures ∙ c.is_same.ensures c.if-is_same.true in
+    ap (λ ks. let x : KeptCluster = record k { keys = ks } in x) (sym (set-get_or k.keys c.args.task.0 None) ∙ ap (set k.keys c.args.task.0) own)

@@ -1,8 +1,6 @@
-use Rattle.std.proofs.Common.{◌≡◌, length, sym, ap, ◌∙◌, subst, arith}
-use Rattle.std.proofs.lemmas.List.{length-map}
-use Rattle.rt_base.specs.declared.CpuNo.{CpuNo}
+use Rattle.std.proofs.Common.{◌≡◌, sym, ap, ◌∙◌, subst, arith}
 use Rattle.rt_model.specs.Group.{group_processors}
-use Rattle.rt_plays.specs.ScriptPlays.{IsBegunScriptPlay}
+use Rattle.rt_plays.specs.Plays.{IsBegunPlay}
 use Rattle.rt_groups.specs.Groups.{GroupHistory, group_of}
 use Rattle.cpu_site.specs.Cpus.{cpu_numbers}
 use Rattle.cpu_site.proofs.Numbering.{cpus-read}
@@ -15,5 +13,5 @@ invariant_of-result c =
       cpus,
       c.in_ok-sights.ensures,
       raises-none c.in_ok-player.player c.in_ok-raises.raises.items c.len.result (ap (λ (h : GroupHistory). h.entries) c.in_ok-player.ensures.group) (omega (arith, c.len.ensures, c.in_ok-cpus.cpus.ok.0, cpus-read (group_of c.in_ok-player.player) c.in_ok-cpus.cpus.items cpus)) c.in_ok-raises.ensures,
-      subst (λ (h : GroupHistory). IsBegunScriptPlay (group_of h) h.entries) c.player.view_is c.player.invariant.begun,
+      subst (λ (h : GroupHistory). IsBegunPlay (group_of h) h.entries) c.player.view_is c.player.invariant.begun,
     )

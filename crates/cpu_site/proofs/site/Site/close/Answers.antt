@@ -1,7 +1,7 @@
-use Rattle.std.proofs.Common.{◌≡◌, ◌<◌, ℕ, List, sym, subst, arith, ◌∷◌, [], length, map, ap, ◌∙◌, vec_capacity, length-append}
+use Rattle.std.proofs.Common.{ℕ, sym, subst, arith, ◌∷◌, [], length, map, ap, ◌∙◌, vec_capacity, length-append}
 use Rattle.std.specs.Prelude.{All, Contains}
 use Rattle.rt_plays.specs.Homes.{IsProcessorOf}
-use Rattle.rt_plays.specs.ScriptPlays.{IsBegunScriptPlay}
+use Rattle.rt_plays.specs.Plays.{IsBegunPlay}
 use Rattle.turn_cell.specs.Places.{TurnOf}
 use Rattle.turn_cell.specs.Words.{AgreeOn, StartsWith}
 use Rattle.rt_groups.specs.Groups.{GroupHistory, group_of}
@@ -18,7 +18,7 @@ loop-seat-preserved c =
       (
         c.in-Some.seat ∷ i.0,
         split,
-        back-more c.self.inside.turn.cell i.0 c.loop-seat.back.items c.put_back.new.back.items c.seat.inside.seat c.in-Some.seat c.seat.inside.cpu.0 c.seat.inside.place c.seat.inside.taken c.seat.inside.counts.items (vec_capacity c.seat.inside.raised) i.2 c.put_back.ensures.items c.seat.view_is cell c.seat.invariant,
+        back-more c.self.inside.turn.cell i.0 c.loop-seat.back.items c.put_back.new.back.items c.seat.inside.seat c.in-Some.seat c.seat.inside.cpu.0 c.seat.inside.at c.seat.inside.place c.seat.inside.taken c.seat.inside.counts.items (vec_capacity c.seat.inside.raised) i.2 c.put_back.ensures.items c.seat.view_is cell c.seat.invariant,
       ),
       omega (arith, c.loop-seat.invariant.1, ap length c.put_back.ensures.items, length-append c.loop-seat.back.items (c.seat.inside.seat ∷ []), ap length c.in-Some.ensures.items, length-append c.pop.new.self.items (c.in-Some.seat ∷ [])),
       omega (arith, c.loop-seat.invariant.2, c.put_back.ensures.capacity),
@@ -35,7 +35,7 @@ pub returns-clause-later : goal.returns-clause-later
 returns-clause-later c =
     let i = c.loop-seat.invariant.0 in
     let are = back-end c.self.inside.turn.cell c.args.seats.items c.loop-seat.seats.items i.0 c.loop-seat.back.items (omega (arith, c.in_default.ensures.cases.0, c.loop-seat.seats.ok.0)) i.1 i.2 in
-    let begun = subst (λ (h : GroupHistory). IsBegunScriptPlay (group_of h) h.entries) c.into_engine.ensures.same c.into_engine.ensures.begun in
+    let begun = subst (λ (h : GroupHistory). IsBegunPlay (group_of h) h.entries) c.into_engine.ensures.same c.into_engine.ensures.begun in
     subst (λ (h : GroupHistory). All (λ (p : CpuPlace). StartsWith h.entries p.seen) c.args.seats.items) (sym c.into_engine.ensures.same)
     (later-all c.self.inside.turn c.self.invariant c.args.seats.items c.loop-seat.back.items are c.close.result c.close.ensures.subject begun c.close.ensures.later)
 
@@ -43,6 +43,6 @@ pub returns-clause-whole : goal.returns-clause-whole
 returns-clause-whole c =
     let i = c.loop-seat.invariant.0 in
     let are = back-end c.self.inside.turn.cell c.args.seats.items c.loop-seat.seats.items i.0 c.loop-seat.back.items (omega (arith, c.in_default.ensures.cases.0, c.loop-seat.seats.ok.0)) i.1 i.2 in
-    let begun = subst (λ (h : GroupHistory). IsBegunScriptPlay (group_of h) h.entries) c.into_engine.ensures.same c.into_engine.ensures.begun in
+    let begun = subst (λ (h : GroupHistory). IsBegunPlay (group_of h) h.entries) c.into_engine.ensures.same c.into_engine.ensures.begun in
     subst (λ (h : GroupHistory). All (λ (p : CpuPlace). AgreeOn cpu_of p.cpu h.entries p.seen) c.args.seats.items) (sym c.into_engine.ensures.same)
     (whole-all c.self.inside.turn c.self.invariant c.args.seats.items c.loop-seat.back.items are c.close.result c.close.ensures.subject begun c.close.ensures.whole)

@@ -1,5 +1,5 @@
 use Rattle.std.proofs.Common.{◌≤◌, arith, vec_capacity}
-use Rattle.group_engine.proofs.Stepping.{sound-open}
+use Rattle.group_engine.proofs.Stepping.{ended-first, sound-open}
 use Rattle.group_engine.proofs.engine.Engine.open.Goals as goal
 
 pub invariant_of-result : goal.invariant_of-result
@@ -7,4 +7,4 @@ invariant_of-result c =
     let p = c.in_ok-state.ensures.played in
     let reserved : c.args.room ≤ vec_capacity c.in-Ok.entries = omega (arith, c.in-Ok.ensures.exact) in
     let kept = c.in_ok-state.ensures.at in
-    rw c.in-Ok.ensures.items (sound-open _ c.args.room _ _ p c.requires.room reserved c.in_ok-state.ensures.room kept)
+    rw c.in-Ok.ensures.items (record { sound = sound-open _ c.args.room _ _ p c.requires.room reserved c.in_ok-state.ensures.room kept; ended_is = ended-first _ })

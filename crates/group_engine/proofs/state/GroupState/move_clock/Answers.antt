@@ -1,8 +1,7 @@
-use Rattle.std.proofs.Common.{◌≡◌, ℕ, max, List, ◌∷◌, refl, ap, ◌∙◌, subst, arith}
+use Rattle.std.proofs.Common.{◌≡◌, max, ◌∷◌, refl, ap, ◌∙◌, arith}
 use Rattle.rt_model.specs.Group.{tasks}
 use Rattle.rt_model.specs.Past.{Clock, Past, now}
 use Rattle.group_facts.specs.Kept.{IsKept}
-use Rattle.group_facts.specs.Timers.{AreDue}
 use Rattle.group_facts.proofs.KeptMoves.{kept_after_clock}
 use Rattle.group_jobs.specs.GroupJobs.{GroupJobs}
 use Rattle.group_engine.specs.declared.state.GroupState.{GroupState}

@@ -9,9 +9,9 @@ use Rattle.rt_model.specs.Past.{Clock}
 use Rattle.rt_model.specs.Steps.{IsStepOf}
 use Rattle.rt_model.proofs.Steps.{after-acted, reply_to-lem}
 use Rattle.rank_afresh.specs.contracts.afresh.Afresh.{the_view}
-use Rattle.rank_afresh.specs.Facts.{CanAct, Facts, IsPlainAct, MayAct, acted, ended_now, reply_in}
+use Rattle.rank_afresh.specs.Facts.{CanAct, Facts, HasEnded, IsPlainAct, MayAct, acted, ended_now, reply_in}
 use Rattle.rank_afresh.specs.Standing.{IsAt, Standing, group_of}
-use Rattle.rank_afresh.proofs.StandingActs.{at-acted, can_act, fit-acted, may_act, plain, reply-is, step-inside}
+use Rattle.rank_afresh.proofs.StandingActs.{at-acts, can_act, fit-acts, may_act, plain, reply-is, step-inside}
 use Rattle.rank_afresh.proofs.afresh.Afresh.act.Goals as goal
 
 pub act-answer-requires-clause-act : goal.act-answer-requires-clause-act
@@ -37,9 +37,9 @@ act-answer-requires-clause-sems c =
     (may_act (the_view c.self.inside) _ c.self.invariant _ at c.args.step.cpu.0 c.args.step.act (step-inside _ _ _ step.processor step.act) step.act)
 
 -- what came of the act, by the group's own setup and the reply that is read off its facts
-acted_here : (p' p : Parts) (q : ℕ) (act : Act) (reply : Reply) (f f' : Facts) → p' ≡ p → reply ≡ reply_in p' q act f → f' ≡ acted p' q act reply f → f' ≡ acted p q act (reply_in p q act f) f
-acted_here p' p q act reply f f' same read is =
-    is ∙ ap (λ (x : Parts). acted x q act reply f) same ∙ ap (λ (r : Reply). acted p q act r f) (read ∙ ap (λ (x : Parts). reply_in x q act f) same)
+acted_here : (p' p : Parts) (q : ℕ) (act : Act) (reply : Reply) (f f' : Facts) → p' ≡ p → reply ≡ reply_in p' q act f → HasEnded p' (acted p' q act reply f) f' → HasEnded p (acted p q act (reply_in p q act f) f) f'
+acted_here p' p q act reply f f' same read ended =
+    subst (λ (r : Reply). HasEnded p (acted p q act r f) f') (read ∙ ap (λ (x : Parts). reply_in x q act f) same) (subst (λ (x : Parts). HasEnded x (acted x q act reply f) f') same ended)
 
 ended_here : (p' p : Parts) (q : ℕ) (act : Act) (reply : Reply) (f : Facts) (ended : Option (TaskNo × Bool)) → p' ≡ p → reply ≡ reply_in p' q act f → ended ≡ ended_now p' q act reply f
     → ended ≡ ended_now p q act (reply_in p q act f) f
@@ -52,7 +52,7 @@ invariant_of-self c =
     let at = subst (λ (v : Standing). IsAt v (Clock c.args.step.tick.0 ∷ c.requires.clocked.0)) (sym c.self.view_is) c.requires.clocked.1 in
     let room = subst (λ (v : Standing). 0 < v.spare) (sym c.self.view_is) c.requires.room in
     let facts = acted_here _ _ c.args.step.cpu.0 c.args.step.act _ _ _ c.parts-parts.ensures.parts c.act-answer.ensures.reply c.act-answer.ensures.acted in
-    rw facts (fit-acted (the_view c.self.inside) c.self.inside.facts.room c.self.invariant _ at c.args.step.cpu.0 c.args.step.act (step-inside _ _ _ step.processor step.act) step.act c.act-answer.new.self.room room c.act-answer.ensures.room)
+    fit-acts (the_view c.self.inside) c.self.inside.facts.room c.self.invariant _ at c.args.step.cpu.0 c.args.step.act (step-inside _ _ _ step.processor step.act) step.act c.act-answer.new.self.facts facts c.act-answer.new.self.room room c.act-answer.ensures.room
 
 pub returns-clause-reply : goal.returns-clause-reply
 returns-clause-reply c = λ past given.
@@ -69,4 +69,4 @@ returns-clause-acted c = λ past given.
     let room = subst (λ (v : Standing). 0 < v.spare) (sym c.self.view_is) c.requires.room in
     let facts = acted_here _ _ c.args.step.cpu.0 c.args.step.act _ _ _ c.parts-parts.ensures.parts c.act-answer.ensures.reply c.act-answer.ensures.acted in
     let ended = ended_here _ _ c.args.step.cpu.0 c.args.step.act _ _ _ c.parts-parts.ensures.parts c.act-answer.ensures.reply c.act-answer.ensures.ended in
-    rw (← c.self.view_is, after-acted, facts, ended) (at-acted (the_view c.self.inside) _ c.self.invariant _ at c.args.step.cpu.0 c.args.step.act (step-inside _ _ _ step.processor step.act) step.act (c.self.inside.spare - 1) room refl)
+    rw (← c.self.view_is, after-acted, ended) (at-acts (the_view c.self.inside) _ c.self.invariant _ at c.args.step.cpu.0 c.args.step.act (step-inside _ _ _ step.processor step.act) step.act c.act-answer.new.self.facts facts (c.self.inside.spare - 1) room refl)

@@ -1,4 +1,4 @@
-use Rattle.std.proofs.Common.{◌≡◌, sym, ap, ◌∙◌, subst}
+use Rattle.std.proofs.Common.{sym, ap, ◌∙◌, subst}
 use Rattle.rt_task.specs.declared.Parts.{Parts}
 use Rattle.rt_model.specs.Situations.{situation}
 use Rattle.rt_plays.specs.Homes.{IsProcessorOf}
@@ -23,5 +23,5 @@ returns c = λ past given.
     let at = subst (λ (v : Standing). IsAt v past) (sym c.self.view_is) given in
     let inside = the_view c.self.inside in
     situation-there inside _ c.self.invariant c.args.cpu.0 of past at c.situation.result
-    (λ h budget free. c.situation.ensures h budget free ∙ ap (λ (p : Parts). situation_of h c.args.cpu.0 (link_in p c.args.cpu.0 inside.facts) budget inside.facts.kept) c.parts.ensures.parts)
+    (λ h budget lacks. c.situation.ensures h budget lacks ∙ ap (λ (p : Parts). situation_of h c.args.cpu.0 (link_in p c.args.cpu.0 inside.facts) budget inside.facts.kept) c.parts.ensures.parts)
     ∙ ap (λ (v : Standing). situation (group_of v) c.args.cpu.0 past) c.self.view_is

@@ -14,11 +14,11 @@ use Rattle.rank_afresh.proofs.Moving.{arrived-facts, follow-arrival}
 use Rattle.rank_afresh.proofs.facts.Facts.arrive.Goals as goal
 use Rattle.rank_afresh.proofs.facts.Facts.arrive.Goals.{After-arrive}
 
-can-here : (c : After-arrive) → CanAct c.args.parts.now c.args.cpu.0 (record { kept = c.self.inside.jobs.kept; sems = c.self.inside.sems; clusters = c.self.inside.clusters.items })
+can-here : (c : After-arrive) → CanAct c.args.parts.now c.args.cpu.0 (record { kept = c.self.inside.jobs.kept; sems = c.self.inside.sems; resvs = c.self.inside.resvs; clusters = c.self.inside.clusters.items })
 can-here c = subst (λ (w : WithRoom). CanAct c.args.parts.now c.args.cpu.0 w.facts) (sym c.self.view_is) c.requires.act
 
 -- what placing rests on, once the arrival is counted and the base key told
-follow-then : (c : After-arrive) → CanFollow c.args.parts.now (record { kept = c.arrive.new.self.kept; sems = based c.args.parts.now c.arrive.new.self.kept c.args.task.0 c.self.inside.sems; clusters = c.self.inside.clusters.items })
+follow-then : (c : After-arrive) → CanFollow c.args.parts.now (record { kept = c.arrive.new.self.kept; sems = based c.args.parts.now c.arrive.new.self.kept c.args.task.0 c.self.inside.sems; resvs = c.self.inside.resvs; clusters = c.self.inside.clusters.items })
 follow-then c = rw c.arrive.ensures.kept (follow-arrival c.args.parts.now c.args.cpu.0 _ (can-here c) c.args.task.0 c.requires.task.0 c.requires.task.1)
 
 pub tell_base-requires-clause-read : goal.tell_base-requires-clause-read
@@ -34,7 +34,7 @@ pub returns-then-eq-clause-acted : goal.returns-then-eq-clause-acted
 returns-then-eq-clause-acted c =
     let p : Parts = c.args.parts.now in
     let t : TaskNo = c.args.task in
-    let here : Facts = record { kept = c.self.inside.jobs.kept; sems = c.self.inside.sems; clusters = c.self.inside.clusters.items } in
+    let here : Facts = record { kept = c.self.inside.jobs.kept; sems = c.self.inside.sems; resvs = c.self.inside.resvs; clusters = c.self.inside.clusters.items } in
     let shown : here ≡ c.args.self.now.facts = ap (λ (w : WithRoom). w.facts) c.self.view_is in
     let done : c.arrival_reply-reply.result ≡ replies.Done = search rules in
     let all : c.as_slice-tasks.result.now ≡ p.tasks = c.as_slice-tasks.ensures in

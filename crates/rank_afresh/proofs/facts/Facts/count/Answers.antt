@@ -12,10 +12,10 @@ use Rattle.rank_afresh.proofs.facts.Facts.count.Goals.{After-operate-ends}
 kept-then : (c : After-operate-ends) → c.operate-ends.new.self.kept ≡ has_operated c.args.parts.now.tasks c.args.cpu.0 c.args.task.0 c.args.op c.args.reply c.holds_none-none.result c.self.inside.jobs.kept
 kept-then c = ap (λ (j : GroupJobs). j.kept) c.operate-ends.ensures.kept ∙ ap (λ (us : List Task). has_operated us c.args.cpu.0 c.args.task.0 c.args.op c.args.reply c.holds_none-none.result c.self.inside.jobs.kept) c.as_slice-tasks.ensures
 
-can-here : (c : After-operate-ends) → CanAct c.args.parts.now c.args.cpu.0 (record { kept = c.self.inside.jobs.kept; sems = c.self.inside.sems; clusters = c.self.inside.clusters.items })
+can-here : (c : After-operate-ends) → CanAct c.args.parts.now c.args.cpu.0 (record { kept = c.self.inside.jobs.kept; sems = c.self.inside.sems; resvs = c.self.inside.resvs; clusters = c.self.inside.clusters.items })
 can-here c = subst (λ (w : WithRoom). CanAct c.args.parts.now c.args.cpu.0 w.facts) (sym c.self.view_is) c.requires.act
 
-follow-then : (c : After-operate-ends) → CanFollow c.args.parts.now (record { kept = c.operate-ends.new.self.kept; sems = based c.args.parts.now c.operate-ends.new.self.kept c.args.task.0 c.self.inside.sems; clusters = c.self.inside.clusters.items })
+follow-then : (c : After-operate-ends) → CanFollow c.args.parts.now (record { kept = c.operate-ends.new.self.kept; sems = based c.args.parts.now c.operate-ends.new.self.kept c.args.task.0 c.self.inside.sems; resvs = c.self.inside.resvs; clusters = c.self.inside.clusters.items })
 follow-then c =
     let can = can-here c in
     let few : length c.args.parts.now.tasks ≡ length c.args.self.now.facts.kept.jobs = c.requires.task.all in

@@ -7,6 +7,7 @@ abbrev pub invariant-loop-c : goal.invariant-loop-c
 invariant-loop-c l = record {
   jobs : l.self-inside.jobs ≡ l.initial.self-inside.jobs;
   sems : l.self-inside.sems ≡ l.initial.self-inside.sems;
+  resvs : l.self-inside.resvs ≡ l.initial.self-inside.resvs;
   count : vec_len l.self-inside.clusters ≡ vec_len l.initial.self-inside.clusters;
-  so_far : l.self-inside.clusters.items ≡ map (followed l.parts l.initial.self-inside.jobs.kept l.initial.self-inside.sems) (take l.c l.initial.self-inside.clusters.items) ++ drop l.c l.initial.self-inside.clusters.items;
+  so_far : l.self-inside.clusters.items ≡ map (followed l.parts l.initial.self-inside.jobs.kept l.initial.self-inside.sems l.initial.self-inside.resvs) (take l.c l.initial.self-inside.clusters.items) ++ drop l.c l.initial.self-inside.clusters.items;
 }

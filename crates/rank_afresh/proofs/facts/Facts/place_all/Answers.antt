@@ -3,6 +3,7 @@ use Rattle.std.proofs.lemmas.List.Edits.{map_over_more}
 use Rattle.group_facts.specs.Kept.{Kept}
 use Rattle.group_jobs.specs.GroupJobs.{GroupJobs}
 use Rattle.group_sems.specs.GroupSems.{GroupSems}
+use Rattle.group_resvs.specs.GroupResvs.{GroupResvs}
 use Rattle.rank_afresh.specs.Clusters.{CanPlace, ClusterFacts, relinked}
 use Rattle.rank_afresh.specs.Facts.{CanFollow, WithRoom}
 use Rattle.rank_afresh.specs.Ranks.{CanRead, HaveBases}
@@ -28,19 +29,21 @@ pub loop-c-preserved : goal.loop-c-preserved
 loop-c-preserved c =
     let inside : c.loop-c.c < length c.self.inside.clusters.items = omega (arith, c.loop-c-test.true, c.len-c-end.ensures, c.self.inside.clusters.ok.0) in
     let same : c.loop-c.self-inside.jobs.kept ≡ c.self.inside.jobs.kept = ap (λ (j : GroupJobs). j.kept) c.loop-c.invariant.jobs in
-    let new : c.place.new.self ≡ relinked c.args.parts.now c.self.inside.jobs.kept c.self.inside.sems c.index_mut.result.now =
-    c.place.ensures ∙ ap (λ (k : Kept). relinked c.args.parts.now k c.loop-c.self-inside.sems c.index_mut.result.now) same
-    ∙ ap (λ (v : GroupSems). relinked c.args.parts.now c.self.inside.jobs.kept v c.index_mut.result.now) c.loop-c.invariant.sems in
+    let new : c.place.new.self ≡ relinked c.args.parts.now c.self.inside.jobs.kept c.self.inside.sems c.self.inside.resvs c.index_mut.result.now =
+    c.place.ensures ∙ ap (λ (k : Kept). relinked c.args.parts.now k c.loop-c.self-inside.sems c.loop-c.self-inside.resvs c.index_mut.result.now) same
+    ∙ ap (λ (v : GroupSems). relinked c.args.parts.now c.self.inside.jobs.kept v c.loop-c.self-inside.resvs c.index_mut.result.now) c.loop-c.invariant.sems
+    ∙ ap (λ (w : GroupResvs). relinked c.args.parts.now c.self.inside.jobs.kept c.self.inside.sems w c.index_mut.result.now) c.loop-c.invariant.resvs in
     record {
       jobs = c.loop-c.invariant.jobs;
       sems = c.loop-c.invariant.sems;
+      resvs = c.loop-c.invariant.resvs;
       count = c.loop-c.invariant.count;
-      so_far = rw new (map_over_more (relinked c.args.parts.now c.self.inside.jobs.kept c.self.inside.sems) c.self.inside.clusters.items c.loop-c.self-inside.clusters.items c.loop-c.c c.index_mut.result.now inside c.loop-c.invariant.so_far c.index_mut.ensures.value);
+      so_far = rw new (map_over_more (relinked c.args.parts.now c.self.inside.jobs.kept c.self.inside.sems c.self.inside.resvs) c.self.inside.clusters.items c.loop-c.self-inside.clusters.items c.loop-c.c c.index_mut.result.now inside c.loop-c.invariant.so_far c.index_mut.ensures.value);
     }
 
 pub returns : goal.returns
 returns c =
     let xs : List ClusterFacts = c.self.inside.clusters.items in
     let all : length xs ≤ c.loop-c.c = omega (arith, c.loop-c-test.false, c.len-c-end.ensures, c.self.inside.clusters.ok.0) in
-    let items = all-over (relinked c.args.parts.now c.self.inside.jobs.kept c.self.inside.sems) xs c.loop-c.self-inside.clusters.items c.loop-c.c all c.loop-c.invariant.so_far in
-    rw (← c.self.view_is, items, c.loop-c.invariant.jobs, c.loop-c.invariant.sems)
+    let items = all-over (relinked c.args.parts.now c.self.inside.jobs.kept c.self.inside.sems c.self.inside.resvs) xs c.loop-c.self-inside.clusters.items c.loop-c.c all c.loop-c.invariant.so_far in
+    rw (← c.self.view_is, items, c.loop-c.invariant.jobs, c.loop-c.invariant.sems, c.loop-c.invariant.resvs)

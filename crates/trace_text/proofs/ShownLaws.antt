@@ -1,0 +1,113 @@
+-- What a bus was shown of the entries so far, and the lines that it gives.
+use Rattle.std.proofs.Common.{◌≡◌, ℕ, zero, suc, ◌+◌, ◌<◌, ◌≤◌, List, [], ◌∷◌, ◌++◌, length, map, drop, get_or, refl, sym, ap, subst, ◌∙◌, arith, append_assoc}
+use Rattle.std.specs.Prelude.{Bool, IfSome, Option, slice_get}
+use Rattle.std.proofs.Math.Seq.{drop-cons}
+use Rattle.rt_base.specs.declared.GroupNo.{GroupNo}
+use Rattle.rt_base.specs.declared.TaskNo.{TaskNo}
+use Rattle.rt_task.specs.declared.Parts.{Parts}
+use Rattle.rt_history.specs.declared.Entry.{Entry}
+use Rattle.rt_model.specs.Group.{Group}
+use Rattle.rt_model.specs.Histories.{after}
+use Rattle.rt_model.specs.Past.{Past}
+use Rattle.rt_groups.specs.Endings.{ended_last}
+use Rattle.rt_groups.specs.Groups.{GroupHistory, group_of, past}
+use Rattle.rt_fault.specs.Held.{Held}
+use Rattle.trace_lines.specs.declared.format.Version.{Version}
+use Rattle.trace_lines.specs.Grammar.{line_text}
+use Rattle.trace_lines.specs.Known.{Known, known_of}
+use Rattle.trace_tools.specs.declared.shown.Shown.{Shown}
+use Rattle.trace_tools.specs.Seats.{Seat, seat_after, seat_line, seats_after}
+use Rattle.trace_text.specs.CountLines.{bus_lines, bus_text, ended_late, ended_task, shown_as, shown_entries, shown_from}
+use Rattle.trace_text.specs.Groups.{AreGroupsOf, histories}
+use Rattle.trace_text.specs.TraceText.{head_text, lines_from}
+use Rattle.trace_text.proofs.CameLaws.{Coming, coming-start}
+use Rattle.trace_text.proofs.LineLaws.{history_group, texts, trace_parts}
+use Rattle.trace_text.proofs.ReplayLaws.{drop_end}
+
+-- ---- the entries that are shown
+
+-- an entry as it is shown, by the task whose job it ended
+pub shown-is : (h : GroupHistory) (group : GroupNo) (i : ℕ) (e : Entry) (ended : Option (TaskNo × Bool)) (s : Shown) → h.group ≡ group.0 → ended ≡ ended_last (group_of h) (past h)
+    → s ≡ record { group = group; no = i; entry = e; ended = ended_task ended; late = ended_late ended } → s ≡ shown_as (group_of h) i e (past h)
+shown-is h group i e ended s number_is ended_is is = rw (is, ended_is, number_is) refl
+
+-- the next entry, by what is lent of an engine that has taken its step, and those after it
+pub shown-next : (g : Group) (old new lent : GroupHistory) (i : ℕ) (es : List Entry) (d : Entry) (before shown : List Seat) → i < length es → group_of old ≡ g → group_of new ≡ group_of old
+    → past new ≡ after (group_of old) (get_or es i d).step (past old) → lent ≡ new → shown ≡ map (seat_after (shown_as (group_of lent) i (get_or es i d) (past lent))) before
+    → seats_after (shown_entries g (i + 1) (past new) (drop (i + 1) es)) shown ≡ seats_after (shown_entries g i (past old) (drop i es)) before
+unfolding shown_entries
+shown-next g old new lent i es d before shown low same group_is past_is lent_is fed =
+    let next : i + 1 ≡ suc i = omega arith in
+    let number_is : new.group ≡ g.number = ap (λ (x : Group). x.number) (group_is ∙ same) in
+    rw (fed, lent_is, past_is, group_is, same, number_is, drop-cons es i d low, next) refl
+
+pub shown-end : (g : Group) (i : ℕ) (p : Past) (es : List Entry) (seats : List Seat) → length es ≤ i → seats_after (shown_entries g i p (drop i es)) seats ≡ seats
+unfolding shown_entries
+shown-end g i p es seats past_all = rw (drop_end es i past_all) refl
+
+-- lists of entries that are shown one after the other
+pub seats_after-append : (xs ys : List Shown) (seats : List Seat) → seats_after (xs ++ ys) seats ≡ seats_after ys (seats_after xs seats)
+seats_after-append [] ys seats = refl
+seats_after-append (x ∷ xs) ys seats = seats_after-append xs ys (map (seat_after x) seats)
+
+-- the entries of the next group, and those of the groups after it
+pub shown-group : (p : Parts) (hs : List GroupHistory) (i : ℕ) (h : GroupHistory) (before after_it : List Seat) → AreGroupsOf p hs → i < length hs → h ≡ get_or hs i h
+    → after_it ≡ seats_after (shown_entries (group_of h) 0 [] h.entries) before
+    → seats_after (shown_from p (i + 1) (histories (drop (i + 1) hs))) after_it ≡ seats_after (shown_from p i (histories (drop i hs))) before
+shown-group p hs i h before after_it are low is fed =
+    let next : i + 1 ≡ suc i = omega arith in
+    let g : Group = record { setup = p; number = i } in
+    let group_is : group_of h ≡ g = ap group_of is ∙ history_group p hs i h are low in
+    let own : List Shown = shown_entries (group_of h) 0 [] h.entries in
+    let others : List Shown = shown_from p (i + 1) (histories (drop (suc i) hs)) in
+    let here : shown_from p i (histories (drop i hs)) ≡ shown_entries g 0 [] (get_or hs i h).entries ++ others = ap (λ (xs : List GroupHistory). shown_from p i (histories xs)) (drop-cons hs i h low) in
+    let same : shown_entries g 0 [] (get_or hs i h).entries ≡ own = ap (λ (x : GroupHistory). shown_entries g 0 [] x.entries) (sym is) ∙ ap (λ (x : Group). shown_entries x 0 [] h.entries) (sym group_is) in
+    ap (λ (n : ℕ). seats_after (shown_from p (i + 1) (histories (drop n hs))) after_it) next
+    ∙ ap (seats_after others) fed ∙ sym (seats_after-append own others before)
+    ∙ ap (λ (xs : List Shown). seats_after xs before) (sym (here ∙ ap (λ (xs : List Shown). xs ++ others) same))
+
+pub shown-all : (p : Parts) (hs : List GroupHistory) (i : ℕ) (seats : List Seat) → length hs ≤ i → seats_after (shown_from p i (histories (drop i hs))) seats ≡ seats
+shown-all p hs i seats past_all = rw (drop_end hs i past_all) refl
+
+-- ---- the count lines
+
+-- the line of the next place, and those after it
+counts-suc : (k : Known) (seats : List Seat) (i : ℕ) (text : List ℕ) → i < length seats → IfSome (slice_get seats i) (λ s. text ≡ line_text k (seat_line s))
+    → texts k (map seat_line (drop i seats)) ≡ text ++ texts k (map seat_line (drop (suc i) seats))
+counts-suc k [] i text low is = absurd (omega arith)
+counts-suc k (s ∷ seats) zero text low is = ap (λ xs. xs ++ texts k (map seat_line seats)) (sym is)
+counts-suc k (s ∷ seats) (suc i) text low is = counts-suc k seats i text (omega arith) is
+
+pub counts-next : (k : Known) (seats : List Seat) (i : ℕ) (text : List ℕ) → i < length seats → IfSome (slice_get seats i) (λ s. text ≡ line_text k (seat_line s))
+    → texts k (map seat_line (drop i seats)) ≡ text ++ texts k (map seat_line (drop (i + 1) seats))
+counts-next k seats i text low is =
+    let next : suc i ≡ i + 1 = omega arith in
+    counts-suc k seats i text low is ∙ ap (λ (n : ℕ). text ++ texts k (map seat_line (drop n seats))) next
+
+pub counts-end : (k : Known) (seats : List Seat) (i : ℕ) → length seats ≤ i → texts k (map seat_line (drop i seats)) ≡ []
+counts-end k seats i past_all = rw (drop_end seats i past_all) refl
+
+-- ---- the text of a bus, part by part: the head, the lines of the groups, and the count lines
+
+-- the lines of the groups, with the names of a setup
+abbrev pub lines_of_parts : Version → Parts → Parts → List GroupHistory → List ℕ
+lines_of_parts version names p hs = texts (known_of version names) (lines_from p 0 (histories hs))
+
+abbrev pub lines_of : Version → Parts → List GroupHistory → List ℕ
+lines_of version p hs = lines_of_parts version p p hs
+
+abbrev pub counts_of : Version → Parts → List GroupHistory → List Seat → List ℕ
+counts_of version p hs seats = texts (known_of version p) (bus_lines seats p (histories hs))
+
+bus_parts : (version : Version) (p : Parts) (hs : List GroupHistory) (seats : List Seat)
+    → bus_text version seats p (histories hs) ≡ head_text version p ++ (lines_of version p hs ++ counts_of version p hs seats)
+bus_parts version p hs seats =
+    ap (λ (xs : List ℕ). xs ++ counts_of version p hs seats) (trace_parts version p hs)
+    ∙ append_assoc (head_text version p) (lines_of version p hs) (counts_of version p hs seats)
+
+-- none of them came yet
+pub coming-bus : (version : Version) (p : Parts) (hs : List GroupHistory) (seats : List Seat) (held : Held) (faults : ℕ)
+    → Coming held held faults faults (bus_text version seats p (histories hs)) (head_text version p ++ (lines_of version p hs ++ counts_of version p hs seats))
+coming-bus version p hs seats held faults =
+    subst (λ (xs : List ℕ). Coming held held faults faults (bus_text version seats p (histories hs)) xs) (bus_parts version p hs seats)
+    (coming-start held faults (bus_text version seats p (histories hs)))
