@@ -607,11 +607,25 @@ fn upgrades(alloc: Global, parts: &[&str], ends: Status, wanted: &[&str]) -> Res
 #[test]
 fn upgrades_a_valid_trace(rt: HostRuntime) -> Result<(), Fail> {
     let alloc = rt.alloc();
-    let wanted: [&str; 2] = [FIRST_PATH_HEAD, FIRST_PATH_REST];
     let first: [&str; 2] = [FORMAT_1_HEAD, FORMAT_1_REST];
+    let wanted: [&str; 3] = [FIRST_PATH_HEAD, FIRST_PATH_REST, FIRST_PATH_COUNTS];
     assert!(rt; upgrades(alloc, first.as_slice(), Status::Ok, wanted.as_slice())?);
+    assert!(rt;
+        upgrades(
+            alloc,
+            &wanted.as_slice()[..2],
+            Status::Ok,
+            wanted.as_slice()
+        )?
+    );
     assert!(rt; upgrades(alloc, wanted.as_slice(), Status::Ok, wanted.as_slice())?);
-    let groups: [&str; 4] = ["rtsched trace 2\nset ", TWO_GROUPS, "\n", TWO_GROUPS_REST];
+    let groups: [&str; 5] = [
+        "rtsched trace 2\nset ",
+        TWO_GROUPS,
+        "\n",
+        TWO_GROUPS_REST,
+        TWO_GROUPS_COUNTS,
+    ];
     assert!(rt; upgrades(alloc, groups.as_slice(), Status::Ok, groups.as_slice())?);
     Ok(())
 }
