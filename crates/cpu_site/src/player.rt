@@ -5,7 +5,7 @@ ghost use Rattle.rt_base.specs.declared.TheConstants.{MOST_STEPS, MOST_TURN_STEP
 ghost use Rattle.rt_model.specs.Group.{group_processors};
 ghost use Rattle.rt_model.specs.Links.{linked};
 ghost use Rattle.rt_model.specs.Runs.{runs};
-ghost use Rattle.rt_groups.specs.Drives as drives;
+ghost use Rattle.rt_groups.specs.Drives as group_drives;
 ghost use Rattle.rt_groups.specs.Groups.{group_of, past, IsGroupOf};
 ghost use Rattle.rt_plays.specs.Drives as drives;
 ghost use Rattle.rt_plays.specs.Homes.{IsProcessorOf};
@@ -130,7 +130,7 @@ impl Player {
     /// Takes the next step of the processor's script.
     fn next_of_script(&mut self, cpu: CpuNo, at: Progress) -> Played
         requires cpu { IsProcessorOf (group_of self.old) cpu.0 }
-        requires steps { drives.gives_steps self.old.setup.drive ≡ true }
+        requires steps { group_drives.gives_steps self.old.setup.drive ≡ true }
         requires far { IsFar (group_of self.old) cpu.0 self.old.entries at }
         ensures outcome { IsOutcome self.old cpu.0 at result self.new at }
         ensures far { IsFar (group_of self.new) cpu.0 self.new.entries at }
@@ -166,7 +166,7 @@ impl Player {
     /// Takes a step of the processor's turn, or gives the turn as over.
     fn next_of_turn(&mut self, cpu: CpuNo, at: &mut Progress) -> Played
         requires cpu { IsProcessorOf (group_of self.old) cpu.0 }
-        requires turns { drives.gives_steps self.old.setup.drive ≡ false }
+        requires turns { group_drives.gives_steps self.old.setup.drive ≡ false }
         requires far { IsFar (group_of self.old) cpu.0 self.old.entries at.old }
         ensures outcome { IsOutcome self.old cpu.0 at.old result self.new at.new }
         ensures far { IsFar (group_of self.new) cpu.0 self.new.entries at.new }
