@@ -13,11 +13,10 @@ use Rattle.rt_model.specs.Outcomes.{past_act}
 use Rattle.rt_model.specs.Past.{Acted, Past, accepted, did, is_work, operation}
 use Rattle.rt_model.specs.Runs.{runs}
 use Rattle.resv_core.specs.Served.{charged}
-use Rattle.resv_laws.specs.Serving.{all_begun, at_server, charged_for, for_task}
+use Rattle.resv_laws.specs.Serving.{all_begun, charged_for, for_task}
 use Rattle.resv_laws.proofs.ServingLaws.{for_task-keeps}
 use Rattle.group_facts.specs.Kept.{cpu_of}
 use Rattle.group_resvs.specs.GroupResvs.{GroupResvs}
-use Rattle.group_resvs.specs.Kept.{AreNone}
 use Rattle.rank_afresh.specs.Facts.{Facts, charged_by, resvs_after}
 
 -- what a task does in an act
@@ -71,16 +70,3 @@ clock-charged q act reply f = by_case (accepted reply) (cpu_of f.kept q).runs
     by_case false o = refl
     by_case true None = ap (λ (w : GroupResvs). w.resvs.clock) (charged-as act None f.resvs)
     by_case true (Some t) = ap (λ (w : GroupResvs). w.resvs.clock) (charged-as act (Some t) f.resvs) ∙ by_work t (is_work (operation act))
-
--- nothing is charged where there are no reservations
-pub uncharged : (q : ℕ) (act : Act) (reply : Reply) (f : Facts) → AreNone f.resvs.resvs → resvs_after q act reply f ≡ f.resvs
-uncharged q act reply f none = by_case (accepted reply) (cpu_of f.kept q).runs
-  where
-    by_work : (t : ℕ) (b : Bool) → (if b then for_task t charged f.resvs.resvs else f.resvs.resvs) ≡ f.resvs.resvs
-    by_work t true = ap (λ o. at_server o charged f.resvs.resvs) (none.no_client t)
-    by_work t false = refl
-
-    by_case : (b : Bool) (o : Option ℕ) → (if b then charged_by act o f.resvs else f.resvs) ≡ f.resvs
-    by_case false o = refl
-    by_case true None = charged-as act None f.resvs
-    by_case true (Some t) = charged-as act (Some t) f.resvs ∙ ap (λ v. let x : GroupResvs = record f.resvs { resvs = v } in x) (by_work t (is_work (operation act)))

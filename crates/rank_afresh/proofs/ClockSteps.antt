@@ -1,6 +1,6 @@
 -- As the clock moves, a job stays ready or not until the moment comes that it waits for.
 use Rattle.std.proofs.Common.{◌≡◌, ℕ, ◌<◌, ◌≤◌, max, min, Bool, true, false, not, ◌&&◌, ◌||◌, List, [], ◌∷◌, refl, sym, ap, ◌∙◌, arith, eqb-true}
-use Rattle.std.specs.Prelude.{is_some, None, Option, Some, nat_le, nat_lt, ◌==◌}
+use Rattle.std.specs.Prelude.{None, Option, Some, if◌then◌else◌, nat_le, nat_lt, unwrap_or, ◌==◌}
 use Rattle.std.proofs.lemmas.Bool.Decides.{nat_tests}
 use Rattle.rt_task.specs.declared.Parts.{Parts}
 use Rattle.rt_task.specs.declared.Task.{Task}
@@ -11,10 +11,9 @@ use Rattle.group_facts.specs.Kept.{Kept, job_of, with_clock}
 use Rattle.group_facts.specs.Timers.{first_of_two, if_later, timer}
 use Rattle.group_facts.specs.Words.{is_ready, release_of}
 use Rattle.group_jobs.specs.GroupJobs.{task_in}
-use Rattle.sem_table.specs.Told.{awaits_of}
-use Rattle.group_sems.specs.GroupSems.{GroupSems}
-use Rattle.group_resvs.specs.GroupResvs.{GroupResvs, is_served}
-use Rattle.rank_afresh.specs.Ranks.{earlier, is_candidate, next_in, timer_in}
+use Rattle.rank_afresh.specs.Facts.{ready_now}
+use Rattle.rank_afresh.specs.Ranks.{earlier, next_in, timer_in}
+use Rattle.rank_afresh.proofs.Staying.{ready_in}
 
 -- ---- one moment
 
@@ -89,11 +88,13 @@ next-least p k (u ∷ ts) t n h e = by_case (t == u) refl h (λ m. next-least p 
     by_case true s m rest = let same : t ≡ u = eqb-true t u s in here (timer_in p k u) (rw (← same) e)
     by_case false s m rest = less (timer_in p k u) (rest m)
 
--- none of these tasks is due by then
-module _ (p : Parts) (k : Kept) (v : GroupSems) (w : GroupResvs) (tick next : ℕ) (before : max k.clock tick < next) (t : ℕ)
-    (least : (n : ℕ) → timer_in p k t ≡ Some n → next ≤ n) where
-  pub candidate-later : is_candidate p (with_clock tick k) v w t ≡ is_candidate p k v w t
-  candidate-later = ap (λ b. b && (not (is_some (awaits_of v.table t)) && is_served w t)) (ready-later k.clock (max k.clock tick) next (task_in p.tasks t) (job_of k t) (omega arith) before least)
+-- a task that is not due by then
+module _ (p : Parts) (k : Kept) (tick next : ℕ) (before : max k.clock tick < next) (t : ℕ) (least : (n : ℕ) → timer_in p k t ≡ Some n → next ≤ n) where
+  pub ready-stays : ready_in p (with_clock tick k) t ≡ ready_in p k t
+  ready-stays = ready-later k.clock (max k.clock tick) next (task_in p.tasks t) (job_of k t) (omega arith) before least
+
+  pub told-stays : ready_now p.tasks (with_clock tick k) t ≡ ready_now p.tasks k t
+  told-stays = ap (λ b. if b then Some (unwrap_or (release_of (task_in p.tasks t) (job_of k t)) 0) else None) ready-stays
 
   pub timer-stays : timer_in p (with_clock tick k) t ≡ timer_in p k t
   timer-stays = timer-later k.clock (max k.clock tick) next (task_in p.tasks t) (job_of k t) (omega arith) before least

@@ -1,6 +1,6 @@
 -- The clusters of the facts are those of the group: they can be placed, and stay so.
-use Rattle.std.proofs.Common.{◌≡◌, ℕ, ◌-◌, ◌<◌, ◌≤◌, max, Bool, true, false, List, length, map, get_or, refl, sym, ◌∙◌, subst, arith, ltb-true}
-use Rattle.std.specs.Prelude.{All, None, if◌then◌else◌, nat_lt}
+use Rattle.std.proofs.Common.{◌≡◌, ℕ, ◌-◌, ◌<◌, ◌≤◌, Bool, true, false, List, length, map, get_or, refl, sym, ◌∙◌, subst, arith}
+use Rattle.std.specs.Prelude.{All, None, if◌then◌else◌, ◌||◌}
 use Rattle.std.proofs.lemmas.List.{get_or-map, get_or_default, length-map, length-replicate}
 use Rattle.rt_base.specs.declared.TheConstants.{MOST_STEPS}
 use Rattle.rt_task.specs.declared.Parts.{Parts}
@@ -14,15 +14,15 @@ use Rattle.rt_plays.specs.Room.{processor_count}
 use Rattle.rt_groups.specs.Limits.{IsInLimits}
 use Rattle.group_facts.specs.Bounds.{AreBounded}
 use Rattle.group_facts.specs.Facts.{idle_cpu, no_job}
-use Rattle.group_facts.specs.Kept.{Kept, with_clock}
+use Rattle.group_facts.specs.Kept.{Kept}
 use Rattle.group_facts.proofs.KeptMoves.{length-replicated, replicated, task-range}
 use Rattle.group_sems.specs.GroupSems.{GroupSems}
 use Rattle.group_resvs.specs.GroupResvs.{GroupResvs}
-use Rattle.rank_afresh.specs.Clusters.{CanPlace, ClusterFacts, followed, no_facts, relinked, runs_in}
+use Rattle.rank_afresh.specs.Clusters.{CanPlace, ClusterFacts, has_any, no_facts, relinked, renewed, runs_in}
 use Rattle.rank_afresh.specs.Facts.{CanFollow, cluster_at, kept_at_opening, unlinked_cluster, unlinked_clusters}
 use Rattle.rank_afresh.specs.Ranks.{CanRead, HaveBases, timer_in, top_in}
 use Rattle.rank_afresh.specs.Standing.{IsClusterOf}
-use Rattle.rank_afresh.proofs.ClockSteps.{next-least, timer-stays}
+use Rattle.rank_afresh.proofs.ClockSteps.{next-least}
 use Rattle.rank_afresh.proofs.SetLists.{at-mapped, cluster-within, length-runs_in}
 
 module _ (g : Group) (c : ℕ) (x : ClusterFacts) where
@@ -49,12 +49,15 @@ module _ (g : Group) (c : ℕ) (x : ClusterFacts) where
     next_is = λ t n h e. next-least g.setup k' x.tasks t n h e;
   }
 
-  pub fit-followed : (k : Kept) (v : GroupSems) (w : GroupResvs) (tick : ℕ) → IsClusterOf g k c x → IsClusterOf g (with_clock tick k) c (followed g.setup (with_clock tick k) v w x)
-  fit-followed k v w tick is = by_case (nat_lt (max k.clock tick) x.next) refl
+  -- placed afresh, or with the same timers
+  pub fit-renewed : (k k' : Kept) (v : GroupSems) (w : GroupResvs) (touched : Bool) → IsClusterOf g k c x
+      → (touched ≡ false → (t : ℕ) → has t x.tasks ≡ true → timer_in g.setup k' t ≡ timer_in g.setup k t) → IsClusterOf g k' c (renewed g.setup k' v w touched x)
+  fit-renewed k k' v w touched is same = by_case touched (has_any w.changed x) refl
     where
-      by_case : (b : Bool) → nat_lt (max k.clock tick) x.next ≡ b → IsClusterOf g (with_clock tick k) c (if b then x else relinked g.setup (with_clock tick k) v w x)
-      by_case true e = fit-stays k (with_clock tick k) is (λ t h. timer-stays g.setup k v w tick x.next (ltb-true _ _ e) t (λ n f. is.next_is t n h f))
-      by_case false e = fit-relinked k (with_clock tick k) v w is
+      by_case : (b d : Bool) → touched ≡ b → IsClusterOf g k' c (if b || d then relinked g.setup k' v w x else x)
+      by_case true d e = fit-relinked k k' v w is
+      by_case false true e = fit-relinked k k' v w is
+      by_case false false e = fit-stays k k' is (same e)
 
 -- ---- all clusters
 

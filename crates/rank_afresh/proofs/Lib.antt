@@ -9,6 +9,7 @@ pub mod Bases
 pub mod Counting
 pub mod Moving
 pub mod ModelWords
+pub mod Staying
 pub mod ClockSteps
 pub mod Fitting
 pub mod Placed

@@ -44,40 +44,12 @@ use Rattle.rank_afresh.specs.Ranks.{AreBased, base_in, is_candidate, key_in, ran
 
 -- ---- reservations
 
-served : (g : Group) (x : PluginKind) (t : ℕ) (past : Past) → is_p_res x ≡ false → true ≡ is_served g x t past
-unfolding is_served
-served g plugins.GsnEdf t past h = refl
-served g plugins.CEdf t past h = refl
-served g plugins.PsnEdf t past h = refl
-served g plugins.PFp t past h = refl
-served g plugins.PRes t past h = cc
-
-budgeted : (g : Group) (x : PluginKind) (t : ℕ) (past : Past) → is_p_res x ≡ false → false ≡ no_budget g x t past
-unfolding no_budget
-budgeted g plugins.GsnEdf t past h = refl
-budgeted g plugins.CEdf t past h = refl
-budgeted g plugins.PsnEdf t past h = refl
-budgeted g plugins.PFp t past h = refl
-budgeted g plugins.PRes t past h = cc
-
 -- what is read off the reservations of each task of the group
 abbrev pub AreResvsRead : Group → Past → GroupResvs → Type 0
 AreResvsRead g past w = (t : ℕ) → has t (tasks g) ≡ true → IsRead g t past w
 
-none-read : (g : Group) (past : Past) (w : GroupResvs) → is_p_res g.setup.plugin ≡ false → AreNone w.resvs → AreResvsRead g past w
-none-read g past w plain none t there = record {
-  client = ap is_some (none.no_client t) ∙ sym plain;
-  served = ap (λ (o : Option ResvNo). is_served_by o w.serves t) (none.no_client t) ∙ served g g.setup.plugin t past plain;
-  lacks = ap (λ (o : Option ResvNo). lacks_budget_of o w.resvs) (none.no_client t) ∙ budgeted g g.setup.plugin t past plain;
-}
-
-pub resvs-read : (g : Group) (past : Past) (w : GroupResvs) → IsValid g.setup → (is_p_res g.setup.plugin ≡ true → KeepsResvs g past w)
-    → (is_p_res g.setup.plugin ≡ false → AreNone w.resvs) → AreResvsRead g past w
-resvs-read g past w valid keeps none = by_plugin (is_p_res g.setup.plugin) refl
-  where
-    by_plugin : (b : Bool) → is_p_res g.setup.plugin ≡ b → AreResvsRead g past w
-    by_plugin true e = λ t there. resvs_are_read g t past w valid (keeps e) there
-    by_plugin false e = none-read g past w e (none e)
+pub resvs-read : (g : Group) (past : Past) (w : GroupResvs) → IsValid g.setup → KeepsResvs g past w → AreResvsRead g past w
+resvs-read g past w valid keeps = λ t there. resvs_are_read g t past w valid keeps there
 
 -- ---- processors of the group
 
@@ -118,14 +90,6 @@ module _ (g : Group) (past : Past) (k : Kept) (kept : IsKept g past k) where
     are = λ t there. let r = task-range g t there in based.are t r.0 r.1 ∙ ap Some (sym (base-read t there));
   }
 
-  -- whether a task is eligible, but for what it waits for, in a group without reservations
-  pub ready-read : is_p_res g.setup.plugin ≡ false → (t : ℕ) → has t (tasks g) ≡ true
-      → eligible g t past ≡ is_ready k.clock (task_in g.setup.tasks t) (job_of k t) && is_none (awaits g t past)
-  unfolding task
-  ready-read plain t there =
-      let words : AreRead g t past k.clock (job_of k t) = words_of_kept g past k kept t there in
-      words.eligible_is ∙ rw (sym (served g g.setup.plugin t past plain), and_true (is_none (awaits g t past))) refl
-
   -- the release of its job, where that is ready
   pub release-read : (t : ℕ) → has t (tasks g) ≡ true → ready_now g.setup.tasks k t ≡ ready_release g t past
   unfolding task
@@ -156,23 +120,27 @@ module _ (g : Group) (past : Past) (k : Kept) (kept : IsKept g past k) where
       in-there : (q : ℕ) → has q (numbers_from (first_cpu g c) (cpus g c)) ≡ true → has q (group_processors g) ≡ true
       in-there q h = processor-there g c q there h
 
-  module _ (valid : IsValid g.setup) (made : IsReachable g past) (v : GroupSems) (sems : KeepsGroupSems g past v) (w : GroupResvs) (resvs : AreResvsRead g past w) where
-    eligible-read : (t : ℕ) → has t (tasks g) ≡ true → eligible g t past ≡ is_candidate g.setup k v w t
-    unfolding task
-    eligible-read t there =
-        let waits : is_some (awaits_of v.table t) ≡ is_some (awaits g t past) = (holding_is_read g past valid made v t there sems.locks).1 in
-        let words : AreRead g t past k.clock (job_of k t) = words_of_kept g past k kept t there in
-        let served_is : group_resvs.is_served w t ≡ is_served g g.setup.plugin t past = (resvs t there).served in
-        words.eligible_is ∙ rw (none-not (awaits g t past), waits, served_is) refl
+  module _ (valid : IsValid g.setup) (made : IsReachable g past) (v : GroupSems) (sems : KeepsGroupSems g past v) where
+    pub waits-read : (t : ℕ) → has t (tasks g) ≡ true → is_some (awaits_of v.table t) ≡ is_some (awaits g t past)
+    waits-read t there = (holding_is_read g past valid made v t there sems.locks).1
 
-    key-read : (t : ℕ) → has t (tasks g) ≡ true → effective_key g t past ≡ key_in v t
+    pub key-read : (t : ℕ) → has t (tasks g) ≡ true → effective_key g t past ≡ key_in v t
     key-read t there = sym (key_is_read g past valid made v.waits t there (record { bases_are = sems.bases; nexts_are = sems.locks.nexts_are; boosts_are = sems.locks.boosts_are }))
 
-    ranking-read : (c : ℕ) → ranking g c past ≡ ranking_in g.setup k v w (tasks_of g c)
-    unfolding ranking
-    ranking-read c = ranked_by-same (λ t. effective_key g t past) (key_in v) (λ t. eligible g t past) (is_candidate g.setup k v w) (tasks_of g c)
-        (λ t h. eligible-read t (tasks_of-home g c t h).0) (λ t h e. key-read t (tasks_of-home g c t h).0)
+    module _ (w : GroupResvs) (resvs : AreResvsRead g past w) where
+      eligible-read : (t : ℕ) → has t (tasks g) ≡ true → eligible g t past ≡ is_candidate g.setup k v w t
+      unfolding task
+      eligible-read t there =
+          let waits : is_some (awaits_of v.table t) ≡ is_some (awaits g t past) = waits-read t there in
+          let words : AreRead g t past k.clock (job_of k t) = words_of_kept g past k kept t there in
+          let served_is : group_resvs.is_served w t ≡ is_served g g.setup.plugin t past = (resvs t there).served in
+          words.eligible_is ∙ rw (none-not (awaits g t past), waits, served_is) refl
 
-    pub top-read : (c : ℕ) → top g c past ≡ top_in (cpus g c) g.setup k v w (tasks_of g c)
-    unfolding top
-    top-read c = rw (ranking-read c) refl
+      ranking-read : (c : ℕ) → ranking g c past ≡ ranking_in g.setup k v w (tasks_of g c)
+      unfolding ranking
+      ranking-read c = ranked_by-same (λ t. effective_key g t past) (key_in v) (λ t. eligible g t past) (is_candidate g.setup k v w) (tasks_of g c)
+          (λ t h. eligible-read t (tasks_of-home g c t h).0) (λ t h e. key-read t (tasks_of-home g c t h).0)
+
+      pub top-read : (c : ℕ) → top g c past ≡ top_in (cpus g c) g.setup k v w (tasks_of g c)
+      unfolding top
+      top-read c = rw (ranking-read c) refl

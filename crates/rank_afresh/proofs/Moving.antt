@@ -6,9 +6,7 @@ use Rattle.rt_task.specs.declared.Act.{Act}
 use Rattle.rt_task.specs.declared.Act.TheVariants as acts
 use Rattle.rt_task.specs.declared.Op.{Op}
 use Rattle.rt_task.specs.declared.Parts.{Parts}
-use Rattle.rt_task.specs.declared.Task.{Task}
 use Rattle.rt_model.specs.Past.{accepted}
-use Rattle.rt_task.specs.RuleWords.{is_p_res}
 use Rattle.std.specs.Prelude.{All, Option, None, Some, if◌then◌else◌}
 use Rattle.rt_history.specs.declared.Reply.{Reply}
 use Rattle.rt_history.specs.declared.Reply.TheVariants as replies
@@ -17,7 +15,7 @@ use Rattle.group_jobs.specs.GroupJobs.{task_in}
 use Rattle.group_sems.specs.GroupSems.{GroupSems}
 use Rattle.rank_afresh.specs.Clusters.{CanPlace}
 use Rattle.rank_afresh.specs.Ranks.{HaveBases}
-use Rattle.rank_afresh.specs.Facts.{CanAct, CanFollow, Facts, IsPlainAct, NoCluster, OneCluster, acted, asked_by, based, kept_after, none_after, placed_afresh, placing, resvs_after, retold, sems_after, told_by, unless_reserved}
+use Rattle.rank_afresh.specs.Facts.{CanAct, CanFollow, Facts, IsPlainAct, acted, asked_by, based, kept_after, none_after, retold, told_by}
 use Rattle.rank_afresh.proofs.Bases.{have-based, have-by}
 use Rattle.rank_afresh.proofs.Counting.{bounded-after_op, bounded-arrived, cpus-acted, places-stay, read-acted, read-cpu, read-job}
 
@@ -45,9 +43,9 @@ module _ (p : Parts) (q : ℕ) (f : Facts) (can : CanAct p q f) where
 
 -- what an accepted arrival makes of the facts
 
-pub arrived-facts : (p : Parts) (q : ℕ) (t : TaskNo) (f : Facts) (k : Kept) (v : GroupSems) (row : Task) → k ≡ has_arrived t.0 f.kept → v ≡ based p k t.0 f.sems → row ≡ task_in p.tasks t.0
-    → record { kept = k; sems = v; resvs = f.resvs; clusters = placed_afresh p k v f.resvs (unless_reserved p (OneCluster row.cluster.0)) f.clusters } ≡ acted p q (acts.Arrive t) replies.Done f
-arrived-facts p q t f k v row same told is = rw (told, same, is) refl
+pub arrived-facts : (p : Parts) (q : ℕ) (t : TaskNo) (f : Facts) (k : Kept) (v : GroupSems) → k ≡ has_arrived t.0 f.kept → v ≡ based p k t.0 f.sems
+    → record { kept = k; sems = v; resvs = f.resvs; clusters = f.clusters } ≡ acted p q (acts.Arrive t) replies.Done f
+arrived-facts p q t f k v same told = rw (told, same) refl
 
 -- ---- what the end of an act rests on
 
@@ -62,15 +60,13 @@ have-asked p (acts.Arrive t) o f have = have
 have-asked p (acts.Do op) None f have = have
 have-asked p (acts.Do op) (Some t) f have = have-by p t op f.kept f.sems have
 
-pub follow-acted : (p : Parts) (q : ℕ) (act : Act) (reply : Reply) (f : Facts) → CanAct p q f → IsPlainAct p act → is_p_res p.plugin ≡ true → CanFollow p (acted p q act reply f)
-follow-acted p q act reply f can plain reserved =
+pub follow-acted : (p : Parts) (q : ℕ) (act : Act) (reply : Reply) (f : Facts) → CanAct p q f → IsPlainAct p act → CanFollow p (acted p q act reply f)
+follow-acted p q act reply f can plain =
     let none : Bool = none_after p q act reply f in
-    let cs : (acted p q act reply f).clusters ≡ f.clusters =
-    ap (λ (b : Bool). placed_afresh p (kept_after p q act reply f) (sems_after p q act reply f) (resvs_after q act reply f) (if b then NoCluster else placing p q act reply f) f.clusters) reserved in
     record {
       read = read-acted (MOST_STEPS - 1) MOST_STEPS p f.kept (omega arith) can.read q act reply none plain range;
       keys = by_case (accepted reply);
-      places = subst (λ xs. All (CanPlace p (kept_after p q act reply f)) xs) (sym cs) (places-stay p f.kept (kept_after p q act reply f) f.clusters (cpus-acted p q act reply none f.kept) can.places);
+      places = places-stay p f.kept (kept_after p q act reply f) f.clusters (cpus-acted p q act reply none f.kept) can.places;
     }
   where
     range : (t : ℕ) → (cpu_of f.kept q).runs ≡ Some t → (1 ≤ t) × (t ≤ length p.tasks)

@@ -28,7 +28,7 @@ links-placed g c e past x before k s w is was tops running =
     here ∙ rw (← tops, ← running, was) (sym (links-step g c e past))
 
 -- the same tasks are ranked by the same keys
-pub top-same : (m : ℕ) (p : Parts) (k k' : Kept) (s s' : GroupSems) (w : GroupResvs) (ts : List ℕ) → ((t : ℕ) → has t ts ≡ true → is_candidate p k' s' w t ≡ is_candidate p k s w t)
-    → ((t : ℕ) → has t ts ≡ true → key_in s' t ≡ key_in s t) → top_in m p k' s' w ts ≡ top_in m p k s w ts
-top-same m p k k' s s' w ts tests keys =
-    ap (λ rs. take m (tasks_of rs)) (ranked_by-same (key_in s') (key_in s) (is_candidate p k' s' w) (is_candidate p k s w) ts tests (λ t h e. keys t h))
+pub top-same : (m : ℕ) (p : Parts) (k k' : Kept) (s s' : GroupSems) (w w' : GroupResvs) (ts : List ℕ) → ((t : ℕ) → has t ts ≡ true → is_candidate p k' s' w' t ≡ is_candidate p k s w t)
+    → ((t : ℕ) → has t ts ≡ true → key_in s' t ≡ key_in s t) → top_in m p k' s' w' ts ≡ top_in m p k s w ts
+top-same m p k k' s s' w w' ts tests keys =
+    ap (λ rs. take m (tasks_of rs)) (ranked_by-same (key_in s') (key_in s) (is_candidate p k' s' w') (is_candidate p k s w) ts tests (λ t h e. keys t h))

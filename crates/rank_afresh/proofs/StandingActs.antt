@@ -1,10 +1,9 @@
 -- A group that stands at a past: its opening, and where an act leads it.
 use Rattle.std.proofs.Common.{◌≡◌, ◌≢◌, ℕ, ◌+◌, ◌-◌, ◌<◌, ◌≤◌, Bool, true, false, List, [], ◌∷◌, length, map, replicate, eqb-true, refl, sym, ap, ◌∙◌, subst, arith, length-set, get_or-set_same, get_or-set_other}
-use Rattle.std.specs.Prelude.{None, Option, Some, ◌==◌, ◌||◌, if◌then◌else◌}
+use Rattle.std.specs.Prelude.{None, Option, Some, ◌==◌, ◌||◌, if◌then◌else◌, is_some}
 use Rattle.std.proofs.lemmas.List.{length-map, length-replicate}
 use Rattle.rt_base.specs.declared.TaskNo.{TaskNo}
 use Rattle.rt_base.specs.declared.TheConstants.{MOST_STEPS}
-use Rattle.rt_task.specs.RuleWords.{is_p_res}
 use Rattle.rt_task.specs.Validity.{IsValid}
 use Rattle.rt_task.specs.declared.Act.{Act}
 use Rattle.rt_task.specs.declared.Act.TheVariants as acts
@@ -38,9 +37,7 @@ use Rattle.rt_groups.proofs.SetLimits.{sets_are_in_limits}
 use Rattle.rank_changes.specs.Touched.{arriving}
 use Rattle.rt_changes.specs.SemActs.{is_at_sem}
 use Rattle.rt_changes.proofs.SemActs.{other_act_is_quiet, refused_act_is_quiet}
-use Rattle.rank_changes.specs.Clusters.{SameCluster, SameStanding}
 use Rattle.rank_changes.proofs.QuietMoves.{key-quiet}
-use Rattle.rank_changes.proofs.SameClusters.{cluster-stays}
 use Rattle.rank_changes.proofs.SameEligibility.{awaits-quiet}
 use Rattle.group_facts.specs.Kept.{HasRoom, IsKept, IsOfGroup, Kept, cpu_of}
 use Rattle.group_facts.specs.Timers.{is_sleep}
@@ -56,42 +53,27 @@ use Rattle.group_resvs.specs.Kept.{KeepsResvs}
 use Rattle.group_resvs.specs.Laws as laws
 use Rattle.group_resvs.proofs.KeptLaws.{opening_is_kept as opening_resvs}
 use Rattle.group_sem_laws.proofs.Opening.{opening_is_kept}
-use Rattle.rank_afresh.specs.Clusters.{ClusterFacts, no_facts, relinked, runs_in}
+use Rattle.rank_afresh.specs.declared.touched.Touched.{Touched}
+use Rattle.rank_afresh.specs.declared.touched.Touched.TheVariants.{AllClusters, NoCluster, OneCluster}
+use Rattle.rank_afresh.specs.Clusters.{ClusterFacts, is_touched, no_facts, relinked, runs_in}
 use Rattle.rank_afresh.specs.Facts as moves
-use Rattle.rank_afresh.specs.Facts.{AllClusters, CanAct, Facts, HasEnded, IsEnded, IsPlainAct, IsUntold, MayAct, NoCluster, OneCluster, Placing, all_based, all_tasks, all_told, asked, at_opening, charged_by, cluster_at, ended_now, ends_in, home_of, kept_after, kept_at_opening, link_in, none_after, placed_afresh, placing, placing_by, ready_now, reply_in, resvs_after, resvs_at_opening, sems_after, told_by, unlinked_cluster, unlinked_clusters}
-use Rattle.rank_afresh.specs.Ranks.{AreBased, CanRead, top_in}
+use Rattle.rank_afresh.specs.Facts.{CanAct, Facts, HasEnded, IsPlainAct, IsUntold, MayAct, all_based, asked, at_opening, charged_by, cluster_at, ended_now, ends_in, home_of, kept_after, kept_at_opening, link_in, none_after, ready_now, reply_in, resvs_after, resvs_at_opening, sems_after, told_by, told_in, touched_by, touched_in, touched_tasks, unlinked_cluster, unlinked_clusters}
+use Rattle.rank_afresh.specs.Ranks.{AreBased, CanRead, timer_in, top_in}
 use Rattle.rt_groups.specs.Endings.{ended_in}
 use Rattle.rank_afresh.specs.Standing.{IsAt, IsClusterOf, IsFit, Standing, group_of}
 use Rattle.rank_afresh.proofs.Answering.{ended-read, idle-refused, locks-kept, may-act, none-held, op-done, plain-act, reply-read}
 use Rattle.rank_afresh.proofs.Bases.{based-first, have-bases}
-use Rattle.rank_afresh.proofs.Charging.{charged-begun, clock-charged, uncharged}
+use Rattle.rank_afresh.proofs.Charging.{charged-begun, clock-charged}
 use Rattle.rank_afresh.proofs.Counting.{clock-acted, cpus-acted, read-acted, read-more}
-use Rattle.rank_afresh.proofs.ToldClients.{told-same}
-use Rattle.rank_afresh.proofs.Ending.{all-inside, fit-ended, move-ended, told-of}
-use Rattle.rank_afresh.proofs.Fitting.{at-each, at-unlinked, fit-relinked, fit-stays, fit-unlinked, length-unlinked, read-opened}
-use Rattle.rank_afresh.proofs.ModelWords.{AreResvsRead, base-read, keeps-sems, ready-read, release-read, resvs-read, runs-read, top-read}
-use Rattle.rank_afresh.proofs.Placed.{links-placed}
+use Rattle.rank_afresh.proofs.Ending.{fit-ended, home-untouched, move-ended, touched-inside}
+use Rattle.rank_afresh.proofs.Fitting.{at-unlinked, fit-relinked, fit-unlinked, length-unlinked, read-opened}
+use Rattle.rank_afresh.proofs.ModelWords.{AreResvsRead, base-read, key-read, keeps-sems, release-read, resvs-read, runs-read, top-read, waits-read}
 use Rattle.rank_afresh.proofs.SetLists.{at-mapped, cluster-inside, cluster-within}
 use Rattle.rank_afresh.proofs.Standings.{all-places, cpu-there, has-cpu, home-there, linked-there, resvs-there, runs-there}
+use Rattle.rank_afresh.proofs.Staying.{IsStill, IsUntouched}
 use Rattle.rank_afresh.proofs.Telling.{based-after, sems-retold}
-use Rattle.rank_afresh.proofs.Touching.{IsStill, is_placed, still-after}
-
--- ---- a cluster among those of which one is placed afresh
-
-at-placed : (p : Parts) (k : Kept) (v : GroupSems) (w : GroupResvs) (which : Placing) (cs : List ClusterFacts) (c : ℕ) → c < length cs → is_placed c which ≡ true → cluster_at (placed_afresh p k v w which cs) c ≡ relinked p k v w (cluster_at cs c)
-at-placed p k v w NoCluster cs c inside h = cc
-at-placed p k v w (OneCluster d) cs c inside h = let s : c ≡ d = eqb-true c d h in rw (← s) (get_or-set_same cs c _ no_facts inside)
-at-placed p k v w AllClusters cs c inside h = at-each (relinked p k v w) cs c inside
-
-at-others : (p : Parts) (k : Kept) (v : GroupSems) (w : GroupResvs) (which : Placing) (cs : List ClusterFacts) (c : ℕ) → is_placed c which ≡ false → cluster_at (placed_afresh p k v w which cs) c ≡ cluster_at cs c
-at-others p k v w NoCluster cs c h = refl
-at-others p k v w (OneCluster d) cs c h = let apart : c ≢ d = λ s. (let m : d == d ≡ false = rw s at h in clash _ (equal_self d) m) in get_or-set_other cs d c _ no_facts apart
-at-others p k v w AllClusters cs c h = cc
-
-length-placed_afresh : (p : Parts) (k : Kept) (v : GroupSems) (w : GroupResvs) (which : Placing) (cs : List ClusterFacts) → length (placed_afresh p k v w which cs) ≡ length cs
-length-placed_afresh p k v w NoCluster cs = refl
-length-placed_afresh p k v w (OneCluster d) cs = length-set cs d _
-length-placed_afresh p k v w AllClusters cs = length-map cs (relinked p k v w)
+use Rattle.rank_afresh.proofs.ToldClients.{told-same}
+use Rattle.rank_afresh.proofs.Touching.{still-after}
 
 -- a task of the group is one of the cluster that its row names
 home-read : (g : Group) (t : ℕ) → has t (tasks g) ≡ true → has t (tasks_of g (task_in g.setup.tasks t).cluster.0) ≡ true
@@ -105,7 +87,7 @@ unfolding runs
 none-mapped [] = refl
 none-mapped (n ∷ ns) = ap (λ os. None ∷ os) (none-mapped ns)
 
-module _ (g : Group) (valid : IsValid g.setup) (v : GroupSems) (new : IsUntold g v) (f : Facts) (ended : IsEnded g.setup (at_opening g v) f) where
+module _ (g : Group) (valid : IsValid g.setup) (v : GroupSems) (new : IsUntold g v) (f : Facts) (ended : HasEnded g.setup AllClusters (at_opening g v) f) where
   abbrev first_kept : Kept
   first_kept = kept_at_opening g.setup
 
@@ -133,23 +115,28 @@ module _ (g : Group) (valid : IsValid g.setup) (v : GroupSems) (new : IsUntold g
   first-are : (c : ℕ) → c < length g.setup.clusters → IsClusterOf g first_kept c (cluster_at (unlinked_clusters g) c)
   first-are c inside = at-unlinked g first_kept c inside
 
+  -- every task was told
+  told_first : laws.AreToldOf g (λ t. None) [] (touched_tasks AllClusters first_kept.clock 0 (unlinked_clusters g))
+  told_first = record {
+    inside = touched-inside g valid first_kept (unlinked_clusters g) (length-unlinked g) first-are AllClusters first_kept.clock;
+    others = λ t h out. absurd (let e = home-untouched g valid first_kept (unlinked_clusters g) (length-unlinked g) first-are AllClusters first_kept.clock t h out in cc);
+  }
+
   -- the reservations, once their clients were told and they were settled
   resvs_first : KeepsResvs g [] f.resvs
   resvs_first =
-      let ts : List ℕ = all_tasks (unlinked_clusters g) in
+      let ts : List ℕ = touched_tasks AllClusters first_kept.clock 0 (unlinked_clusters g) in
       let told = told-same (ready_now g.setup.tasks first_kept) (λ t. ready_release g t []) ts (resvs_at_opening g).resvs
-      (λ t h. release-read g [] first_kept kept_first t (all-inside g valid first_kept (unlinked_clusters g) (length-unlinked g) first-are t h)) in
-      let opens : all_told g.setup (at_opening g v) ≡ laws.at_opening g ts = ap (λ x. let z : GroupResvs = record (resvs_at_opening g) { resvs = x } in z) told in
-      (opening_resvs g ts f.resvs valid (told-of g valid first_kept (unlinked_clusters g) (length-unlinked g) first-are (λ t. None) [])
-      (subst (λ w. IsSettled w f.resvs) opens ended.settled)).0
+      (λ t h. release-read g [] first_kept kept_first t (told_first.inside t h)) in
+      let opens : told_in g.setup AllClusters (at_opening g v) ≡ laws.at_opening g ts = ap (λ x. let z : GroupResvs = record (resvs_at_opening g) { resvs = x } in z) told in
+      (opening_resvs g ts f.resvs valid told_first (subst (λ w. IsSettled w f.resvs) opens ended.settled)).0
 
   reads_first : AreResvsRead g [] f.resvs
-  reads_first = resvs-read g [] f.resvs valid (λ h. resvs_first) (λ h. (resvs_first.unreserved h).0)
+  reads_first = resvs-read g [] f.resvs valid resvs_first
 
   first-cluster : (c : ℕ) → c < length g.setup.clusters → cluster_at f.clusters c ≡ relinked g.setup first_kept first_sems f.resvs (unlinked_cluster g c)
   first-cluster c inside =
-      ap (λ (x : Facts). cluster_at x.clusters c) ended.facts_are
-      ∙ at-each (relinked g.setup first_kept first_sems f.resvs) (unlinked_clusters g) c (let n = length-unlinked g in omega (arith, inside, n))
+      ended.placed c (let n = length-unlinked g in omega (arith, inside, n))
       ∙ ap (relinked g.setup first_kept first_sems f.resvs) (at-mapped (unlinked_cluster g) (length g.setup.clusters) c no_facts inside)
 
   none-run : (c : ℕ) → runs_of g c [] ≡ replicate (cpus g c) None
@@ -170,19 +157,13 @@ module _ (g : Group) (valid : IsValid g.setup) (v : GroupSems) (new : IsUntold g
       ∙ rw (← top-read g [] first_kept kept_first valid opened first_sems sems_first f.resvs reads_first c, ← runs-read g [] first_kept kept_first c there, ← none-run c)
       (sym (links-first c))
 
-  kept-is : f.kept ≡ first_kept
-  kept-is = ap (λ (x : Facts). x.kept) ended.facts_are
-
-  sems-is : f.sems ≡ first_sems
-  sems-is = ap (λ (x : Facts). x.sems) ended.facts_are
-
   pub at-first : (room : ℕ) → room ≤ MOST_STEPS → IsAt (record { setup = g.setup; group = g.number; facts = f; spare = room; ended = None }) []
   at-first room low = record {
     reachable = opened;
     few = omega (arith, low);
-    kept = rw kept-is kept_first;
-    sems_are = rw sems-is sems_first;
-    resvs_are = λ h. resvs_first;
+    kept = rw ended.kept_same kept_first;
+    sems_are = rw ended.sems_same sems_first;
+    resvs_are = resvs_first;
     links_are = λ c there. rw (first-cluster c (cluster-inside g c there)) (links-opened c there);
     ended_is = refl;
   }
@@ -190,15 +171,14 @@ module _ (g : Group) (valid : IsValid g.setup) (v : GroupSems) (new : IsUntold g
   pub fit-first : (room : ℕ) → room ≤ MOST_STEPS → IsFit g f room room
   fit-first room low = record {
     valid = valid;
-    unreserved = λ h. (resvs_first.unreserved h).0;
     resvs_clock = rw resvs_first.clock (omega arith);
     limit = low;
     room_left = omega arith;
-    read = rw kept-is (read-opened (MOST_STEPS - room) g.setup (sets_are_in_limits g.setup valid));
-    based = rw (kept-is, sems-is) based_first;
-    all_cpus = rw kept-is (length-replicated (processor_count g.setup) _);
-    all_clusters = ap (λ (x : Facts). length x.clusters) ended.facts_are ∙ length-map (unlinked_clusters g) (relinked g.setup first_kept first_sems f.resvs) ∙ length-unlinked g;
-    clusters_are = λ c inside. rw (kept-is, first-cluster c inside) (fit-relinked g c (unlinked_cluster g c) first_kept first_kept first_sems f.resvs (fit-unlinked g first_kept c));
+    read = rw ended.kept_same (read-opened (MOST_STEPS - room) g.setup (sets_are_in_limits g.setup valid));
+    based = rw (ended.kept_same, ended.sems_same) based_first;
+    all_cpus = rw ended.kept_same (length-replicated (processor_count g.setup) _);
+    all_clusters = ended.count_same ∙ length-unlinked g;
+    clusters_are = λ c inside. rw (ended.kept_same, first-cluster c inside) (fit-relinked g c (unlinked_cluster g c) first_kept first_kept first_sems f.resvs (fit-unlinked g first_kept c));
   }
 
 -- ---- an act, where the clock was moved to its tick
@@ -314,163 +294,94 @@ module _ (v : Standing) (room : ℕ) (fit : IsFit (group_of v) v.facts room v.sp
   abbrev acted_facts : Facts
   acted_facts = moves.acted p q act reply v.facts
 
-  -- ---- without reservations
+  abbrev which : Touched
+  which = touched_in p q act reply v.facts
 
-  module _ (free : is_p_res g.setup.plugin ≡ false) where
-    abbrev which : Placing
-    which = placing p q act reply v.facts
+  abbrev hit : ℕ → Bool
+  hit c = is_touched which k'.clock c (cluster_at cs c)
 
-    -- ---- clusters that are not placed afresh
+  -- ---- clusters that the act does not touch
 
-    still : (c : ℕ) → is_placed c which ≡ false → IsStill p k k' (tasks_of g c) (first_cpu g c) (cpus g c)
-    still c out = still-after g q k (none_after p q act reply v.facts) (cpu-there v room fit q of.inside) fit.read.all runs-home c act reply (λ t e. arrives t e) (λ op e n a. done op e n a) out
-      where
-        arrives : (t : TaskNo) → act ≡ acts.Arrive t → has t.0 (tasks_of g (task_in p.tasks t.0).cluster.0) ≡ true
-        arrives t e = home-read g t.0 (of.arrives_in t.0 (ap arriving e))
+  still : (c : ℕ) → hit c ≡ false → IsStill p k k' (tasks_of g c) (first_cpu g c) (cpus g c)
+  still c out =
+      still-after g q k (none_after p q act reply v.facts) (cpu-there v room fit q of.inside) fit.read.all runs-home c k'.clock (cluster_at cs c) act reply
+      (λ t e. arrives t e) (λ op e n a. done op e n a) out
+    where
+      arrives : (t : TaskNo) → act ≡ acts.Arrive t → has t.0 (tasks_of g (task_in p.tasks t.0).cluster.0) ≡ true
+      arrives t e = home-read g t.0 (of.arrives_in t.0 (ap arriving e))
 
-        done : (op : Op) → act ≡ acts.Do op → is_at_sem (acts.Do op) ≡ false → accepted reply ≡ true → reply ≡ replies.Done
-        done op e n a = ap (λ (x : Act). reply_in p q x v.facts) e ∙ op-done g q op (cpu_of k q).runs v.facts n (sym (ap (λ (x : Act). accepted (reply_in p q x v.facts)) e) ∙ a)
+      done : (op : Op) → act ≡ acts.Do op → is_at_sem (acts.Do op) ≡ false → accepted reply ≡ true → reply ≡ replies.Done
+      done op e n a = ap (λ (x : Act). reply_in p q x v.facts) e ∙ op-done g q op (cpu_of k q).runs v.facts n (sym (ap (λ (x : Act). accepted (reply_in p q x v.facts)) e) ∙ a)
 
-    -- then the act does nothing at a semaphore
-    quiet : (c : ℕ) → is_placed c which ≡ false → sem_act (Acted (past_act g q act past)) ≡ Neither
-    quiet c out = by_sem (is_at_sem act) refl
-      where
-        by_act : (a : Act) → is_at_sem a ≡ true → (o : Option ℕ) → runs q past ≡ o → is_placed c (placing_by p q a o (none_after p q act reply v.facts) k) ≡ false → accepted (answer g q a past) ≡ false
-        by_act acts.Tick n o r h = cc
-        by_act acts.Irq n o r h = cc
-        by_act (acts.Arrive t) n o r h = cc
-        by_act (acts.Do op) n None r h = idle-refused g q op past r
-        by_act (acts.Do op) n (Some t) r h = let all : is_placed c (if is_at_sem (acts.Do op) then AllClusters else (if ends_in p op t k (none_after p q act reply v.facts) || is_sleep op then OneCluster (home_of p q) else NoCluster)) ≡ false = h in let m : true ≡ false = rw n at all in cc
+  abbrev touches : ℕ → Touched → Bool
+  touches c x = is_touched x k'.clock c (cluster_at cs c)
 
-        refused : (b : Bool) → accepted (answer g q act past) ≡ b → is_at_sem act ≡ true → is_placed c (if b then placing_by p q act (cpu_of k q).runs (none_after p q act reply v.facts) k else NoCluster) ≡ false
-            → accepted (answer g q act past) ≡ false
-        refused true e n h = by_act act n (cpu_of k q).runs (sym (runs-there v room fit q of.inside past at)) h
-        refused false e n h = e
+  -- then it does nothing at a semaphore
+  quiet : (c : ℕ) → hit c ≡ false → sem_act (Acted (past_act g q act past)) ≡ Neither
+  quiet c out = by_sem (is_at_sem act) refl
+    where
+      by_act : (a : Act) → is_at_sem a ≡ true → (o : Option ℕ) → runs q past ≡ o → touches c (touched_by p q a o (none_after p q act reply v.facts) k) ≡ false → accepted (answer g q a past) ≡ false
+      by_act acts.Tick n o r h = cc
+      by_act acts.Irq n o r h = cc
+      by_act (acts.Arrive t) n o r h = cc
+      by_act (acts.Do op) n None r h = idle-refused g q op past r
+      by_act (acts.Do op) n (Some t) r h = let all : touches c (if is_at_sem (acts.Do op) then AllClusters else (if ends_in p op t k (none_after p q act reply v.facts) || is_sleep op then OneCluster (home_of p q) else NoCluster)) ≡ false = h in let m : true ≡ false = rw n at all in cc
 
-        by_sem : (b : Bool) → is_at_sem act ≡ b → sem_act (Acted (past_act g q act past)) ≡ Neither
-        by_sem true n =
-            let none : Bool = none_after p q act reply v.facts in
-            refused_act_is_quiet g q act past
-            (refused (accepted (answer g q act past)) refl n (subst (λ (r : Reply). is_placed c (if accepted r then placing_by p q act (cpu_of k q).runs none k else NoCluster) ≡ false) reply-is out))
-        by_sem false n = other_act_is_quiet g q act past n
+      refused : (b : Bool) → accepted (answer g q act past) ≡ b → is_at_sem act ≡ true → touches c (if b then touched_by p q act (cpu_of k q).runs (none_after p q act reply v.facts) k else NoCluster) ≡ false
+          → accepted (answer g q act past) ≡ false
+      refused true e n h = by_act act n (cpu_of k q).runs (sym (runs-there v room fit q of.inside past at)) h
+      refused false e n h = e
 
-    standing : (c : ℕ) → is_placed c which ≡ false → (t : ℕ) → has t (tasks_of g c) ≡ true → SameStanding g t past past'
-    standing c out t h =
-        let st = still c out in
-        let member : has t (tasks g) ≡ true = (tasks_of-home g c t h).0 in
-        let base : base_key g t past' ≡ base_key g t past = base-read g past' k' kept' t member ∙ st.bases t h ∙ sym (base-read g past k at.kept t member) in
-        let calm : sem_act (Acted (past_act g q act past)) ≡ Neither = quiet c out in
-        record {
-          eligible_same = ready-read g past' k' kept' free t member
-              ∙ rw (st.ready t h, awaits-quiet g t (Acted (past_act g q act past)) past calm) (sym (ready-read g past k at.kept free t member));
-          key_same = λ _. key-quiet g fit.valid (Acted (past_act g q act past)) past made' calm t base;
-        }
+      by_sem : (b : Bool) → is_at_sem act ≡ b → sem_act (Acted (past_act g q act past)) ≡ Neither
+      by_sem true n =
+          let none : Bool = none_after p q act reply v.facts in
+          refused_act_is_quiet g q act past
+          (refused (accepted (answer g q act past)) refl n (subst (λ (r : Reply). touches c (if accepted r then touched_by p q act (cpu_of k q).runs none k else NoCluster) ≡ false) reply-is out))
+      by_sem false n = other_act_is_quiet g q act past n
 
-    -- ---- the links
+  untouched : (c : ℕ) → has c (clusters g) ≡ true → hit c ≡ false → IsUntouched g k k' s s' c
+  untouched c there out =
+      let st = still c out in
+      let calm : sem_act (Acted (past_act g q act past)) ≡ Neither = quiet c out in
+      record {
+        still = st;
+        waits = λ t h.
+            let member : has t (tasks g) ≡ true = (tasks_of-home g c t h).0 in
+            waits-read g past' k' kept' fit.valid made' s' sems' t member
+            ∙ ap is_some (awaits-quiet g t (Acted (past_act g q act past)) past calm)
+            ∙ sym (waits-read g past k at.kept fit.valid at.reachable s at.sems_are t member);
+        keys = λ t h.
+            let member : has t (tasks g) ≡ true = (tasks_of-home g c t h).0 in
+            let base : base_key g t past' ≡ base_key g t past = base-read g past' k' kept' t member ∙ st.bases t h ∙ sym (base-read g past k at.kept t member) in
+            sym (key-read g past' k' kept' fit.valid made' s' sems' t member)
+            ∙ key-quiet g fit.valid (Acted (past_act g q act past)) past made' calm t base
+            ∙ key-read g past k at.kept fit.valid at.reachable s at.sems_are t member;
+      }
 
-    -- nothing is charged
-    w-same : w' ≡ w
-    w-same = uncharged q act reply v.facts (fit.unreserved free)
+  -- ---- once it is ended
 
-    abbrev f' : Facts
-    f' = record { kept = k'; sems = s'; resvs = w; clusters = placed_afresh p k' s' w which cs }
+  module _ (new : Facts) (ended : HasEnded p which acted_facts new) where
+    timers-acted : (c : ℕ) → c < length p.clusters → hit c ≡ false → (t : ℕ) → has t (cluster_at cs c).tasks ≡ true → timer_in p k' t ≡ timer_in p k t
+    timers-acted c inside out t h = (still c out).timers t (rw (fit.clusters_are c inside).tasks_are at h)
 
-    f'-is : acted_facts ≡ f'
-    f'-is =
-        ap (λ (b : Bool). let x : Facts = record { kept = k'; sems = s'; resvs = w'; clusters = placed_afresh p k' s' w' (if b then NoCluster else which) cs } in x) free
-        ∙ ap (λ z. let x : Facts = record { kept = k'; sems = s'; resvs = z; clusters = placed_afresh p k' s' z which cs } in x) w-same
-
-    reads' : AreResvsRead g past' w
-    reads' = resvs-read g past' w fit.valid (λ e. absurd (clash _ e free)) fit.unreserved
-
-    links-acted : (c : ℕ) → has c (clusters g) ≡ true → c < length p.clusters → (b : Bool) → is_placed c which ≡ b → (cluster_at f'.clusters c).links ≡ links g c past'
-    links-acted c there inside true e =
-        rw (at-placed p k' s' w which cs c (let n = fit.all_clusters in omega (arith, n, inside)) e)
-        (links-placed g c (Acted (past_act g q act past)) past (cluster_at cs c) k k' s' w (fit.clusters_are c inside) (at.links_are c there)
-        (top-read g past' k' kept' fit.valid made' s' sems' w reads' c) (runs-read g past' k' kept' c there))
-    links-acted c there inside false e =
-        let running_same : runs_of g c past' ≡ runs_of g c past = runs-read g past' k' kept' c there ∙ (still c e).runs ∙ sym (runs-read g past k at.kept c there) in
-        let same : SameCluster g c past past' = cluster-stays g c (Acted (past_act g q act past)) past at.reachable (standing c e) running_same in
-        rw (at-others p k' s' w which cs c e) (at.links_are c there ∙ sym same.links_same)
-
-    pub at-acted : (spare : ℕ) → 0 < v.spare → spare ≡ v.spare - 1 → IsAt (record v { facts = acted_facts; spare = spare; ended = ended_now p q act reply v.facts }) past'
-    at-acted spare some e = subst (λ (x : Facts). IsAt (record v { facts = x; spare = spare; ended = ended_now p q act reply v.facts }) past') (sym f'-is) (record {
-      reachable = made';
-      few = few' spare some e;
-      kept = kept';
-      sems_are = sems';
-      resvs_are = λ h. absurd (clash _ h free);
-      links_are = λ c there. links-acted c there (cluster-inside g c there) (is_placed c which) refl;
-      ended_is = ended-is;
-    })
-
-    cluster-acted : (c : ℕ) → c < length p.clusters → (b : Bool) → is_placed c which ≡ b → IsClusterOf g k' c (cluster_at f'.clusters c)
-    cluster-acted c inside true e = rw (at-placed p k' s' w which cs c (let n = fit.all_clusters in omega (arith, n, inside)) e) (fit-relinked g c (cluster_at cs c) k k' s' w (fit.clusters_are c inside))
-    cluster-acted c inside false e =
-        let is = fit.clusters_are c inside in
-        rw (at-others p k' s' w which cs c e) (fit-stays g c (cluster_at cs c) k k' is (λ t h. (still c e).timers t (rw is.tasks_are at h)))
-
-    pub fit-acted : (room' : ℕ) → 0 < v.spare → room ≤ room' + 1 → IsFit g acted_facts room' (v.spare - 1)
-    fit-acted room' some left = subst (λ (x : Facts). IsFit g x room' (v.spare - 1)) (sym f'-is) (record {
-      valid = fit.valid;
-      unreserved = fit.unreserved;
-      resvs_clock = subst (λ (x : GroupResvs). x.resvs.clock ≤ k'.clock) w-same clock';
-      limit = let l = fit.limit in omega (arith, l);
-      room_left = let l = fit.room_left in omega (arith, l, left, some);
-      read = read' some;
-      based = based';
-      all_cpus = cpus';
-      all_clusters = length-placed_afresh p k' s' w which cs ∙ fit.all_clusters;
-      clusters_are = λ c inside. cluster-acted c inside (is_placed c which) refl;
-    })
-
-  -- ---- with reservations
-
-  module _ (reserved : is_p_res g.setup.plugin ≡ true) (new : Facts) (ended : IsEnded p acted_facts new) where
-    clusters-same : acted_facts.clusters ≡ cs
-    clusters-same = ap (λ (b : Bool). placed_afresh p k' s' w' (if b then NoCluster else placing p q act reply v.facts) cs) reserved
-
-    count' : length acted_facts.clusters ≡ length p.clusters
-    count' = ap length clusters-same ∙ fit.all_clusters
-
-    are' : (c : ℕ) → c < length p.clusters → IsClusterOf g k c (cluster_at acted_facts.clusters c)
-    are' c inside = rw clusters-same (fit.clusters_are c inside)
-
-    pub fit-acted_ended : (room' : ℕ) → 0 < v.spare → room ≤ room' + 1 → IsFit g new room' (v.spare - 1)
-    fit-acted_ended room' some left =
-        fit-ended g fit.valid reserved acted_facts new k count' are' ended room' (v.spare - 1) (let l = fit.limit in omega (arith, l))
+    pub fit-acts : (room' : ℕ) → 0 < v.spare → room ≤ room' + 1 → IsFit g new room' (v.spare - 1)
+    fit-acts room' some left =
+        fit-ended g fit.valid which acted_facts new k fit.all_clusters fit.clusters_are ended timers-acted room' (v.spare - 1) (let l = fit.limit in omega (arith, l))
         (let l = fit.room_left in omega (arith, l, left, some)) (read' some) based' cpus' clock'
 
-    pub at-acted_ended : (spare : ℕ) → 0 < v.spare → spare ≡ v.spare - 1 → IsAt (record v { facts = new; spare = spare; ended = ended_now p q act reply v.facts }) past'
-    at-acted_ended spare some e =
-        let moved = move-ended g fit.valid reserved acted_facts new k count' are' ended (Acted (past_act g q act past)) past made' kept' sems' w (at.resvs_are reserved) w-begun
-        (λ c there. ap (λ xs. (cluster_at xs c).links) clusters-same ∙ at.links_are c there) in
+    pub at-acts : (spare : ℕ) → 0 < v.spare → spare ≡ v.spare - 1 → IsAt (record v { facts = new; spare = spare; ended = ended_now p q act reply v.facts }) past'
+    at-acts spare some e =
+        let moved = move-ended g fit.valid which acted_facts new k fit.all_clusters fit.clusters_are ended (Acted (past_act g q act past)) past at.reachable made' at.kept s at.sems_are w at.resvs_are
+        kept' sems' w-begun untouched at.links_are in
         record {
           reachable = made';
           few = few' spare some e;
           kept = moved.kept;
           sems_are = moved.sems_are;
-          resvs_are = λ h. moved.resvs_are;
+          resvs_are = moved.resvs_are;
           links_are = moved.links_are;
           ended_is = ended-is;
         }
-
-  -- ---- either way
-
-  module _ (new : Facts) (ended : HasEnded p acted_facts new) where
-    pub fit-acts : (room' : ℕ) → 0 < v.spare → room ≤ room' + 1 → IsFit g new room' (v.spare - 1)
-    fit-acts room' some left = by_plugin (is_p_res g.setup.plugin) refl
-      where
-        by_plugin : (b : Bool) → is_p_res g.setup.plugin ≡ b → IsFit g new room' (v.spare - 1)
-        by_plugin true e = fit-acted_ended e new (ended.reserved e) room' some left
-        by_plugin false e = subst (λ (x : Facts). IsFit g x room' (v.spare - 1)) (sym (ended.unreserved e)) (fit-acted e room' some left)
-
-    pub at-acts : (spare : ℕ) → 0 < v.spare → spare ≡ v.spare - 1 → IsAt (record v { facts = new; spare = spare; ended = ended_now p q act reply v.facts }) past'
-    at-acts spare some h = by_plugin (is_p_res g.setup.plugin) refl
-      where
-        by_plugin : (b : Bool) → is_p_res g.setup.plugin ≡ b → IsAt (record v { facts = new; spare = spare; ended = ended_now p q act reply v.facts }) past'
-        by_plugin true e = at-acted_ended e new (ended.reserved e) spare some h
-        by_plugin false e = subst (λ (x : Facts). IsAt (record v { facts = x; spare = spare; ended = ended_now p q act reply v.facts }) past') (sym (ended.unreserved e)) (at-acted e spare some h)
 
 pub step-inside : (g : Group) (q : ℕ) (act : Act) → has q (group_processors g) ≡ true → IsActOf g act → IsOfGroup g q act
 step-inside g q act inside of = record { inside = inside; arrives_in = λ t e. by_act act of t e }

@@ -32,36 +32,25 @@ use Rattle.group_facts.specs.Words.{deadline_of, is_ready, key_of, release_by_ki
 use Rattle.group_facts.proofs.KeptMoves.{task-range}
 use Rattle.group_facts.proofs.TimerMoves.{timer_stays}
 use Rattle.group_jobs.specs.GroupJobs.{task_in}
-use Rattle.rank_afresh.specs.Clusters.{runs_in}
-use Rattle.rank_afresh.specs.Facts.{AllClusters, NoCluster, OneCluster, Placing, ends_in, home_of, placing_by}
-use Rattle.rank_afresh.specs.Ranks.{base_in, timer_in}
+use Rattle.rank_afresh.specs.declared.touched.Touched.TheVariants.{AllClusters, NoCluster, OneCluster}
+use Rattle.rank_afresh.specs.Clusters.{ClusterFacts, is_touched, runs_in}
+use Rattle.rank_afresh.specs.Facts.{ends_in, home_of, touched_by}
 use Rattle.rank_afresh.proofs.ModelWords.{map-same}
-
--- whether the current job of a task is ready
-abbrev pub ready_in : Parts → Kept → ℕ → Bool
-ready_in p k t = is_ready k.clock (task_in p.tasks t) (job_of k t)
-
--- whether a cluster is placed afresh
-abbrev pub is_placed : ℕ → Placing → Bool
-is_placed c NoCluster = false
-is_placed c (OneCluster d) = c == d
-is_placed c AllClusters = true
-
--- of a cluster with these tasks, and n processors from the first on
-pub record IsStill (p : Parts) (k k' : Kept) (ts : List ℕ) (first n : ℕ) : Type 0 where
-  pub ready : (t : ℕ) → has t ts ≡ true → ready_in p k' t ≡ ready_in p k t
-  pub bases : (t : ℕ) → has t ts ≡ true → base_in p k' t ≡ base_in p k t
-  pub timers : (t : ℕ) → has t ts ≡ true → timer_in p k' t ≡ timer_in p k t
-  pub runs : runs_in k' first n ≡ runs_in k first n
+use Rattle.rank_afresh.proofs.Staying.{IsStill}
 
 still-same : (p : Parts) (k : Kept) (ts : List ℕ) (first n : ℕ) → IsStill p k k ts first n
-still-same p k ts first n = record { ready = λ t h. refl; bases = λ t h. refl; timers = λ t h. refl; runs = refl }
+still-same p k ts first n = record { ready = λ t h. refl; told = λ t h. refl; bases = λ t h. refl; timers = λ t h. refl; runs = refl }
+
+-- the release of a job of the task, where that is ready
+abbrev told_of : ℕ → Task → JobFacts → Option ℕ
+told_of clock u job = if is_ready clock u job then Some (unwrap_or (release_of u job) 0) else None
 
 -- the jobs of its tasks are the same
 still-jobs : (p : Parts) (k k' : Kept) (ts : List ℕ) (first n : ℕ) → k'.clock ≡ k.clock → ((t : ℕ) → has t ts ≡ true → job_of k' t ≡ job_of k t)
     → runs_in k' first n ≡ runs_in k first n → IsStill p k k' ts first n
 still-jobs p k k' ts first n clock jobs running = record {
   ready = λ t h. ap (λ x. is_ready x (task_in p.tasks t) (job_of k' t)) clock ∙ ap (λ j. is_ready k.clock (task_in p.tasks t) j) (jobs t h);
+  told = λ t h. ap (λ x. told_of x (task_in p.tasks t) (job_of k' t)) clock ∙ ap (λ j. told_of k.clock (task_in p.tasks t) j) (jobs t h);
   bases = λ t h. ap (λ j. key_of (record { setup = p; number = 0 }) p.plugin t j) (jobs t h);
   timers = λ t h. ap (λ x. timer x (task_in p.tasks t) (job_of k' t)) clock ∙ ap (λ j. timer k.clock (task_in p.tasks t) j) (jobs t h);
   runs = running;
@@ -115,6 +104,11 @@ ready-same clock given op job h =
     ap (λ o. ready_by clock given job.done o (op_done clock op job).wakes) (release-same given.kind given clock op job)
     ∙ ap (λ n. ready_by clock given job.done (release_of given job) n) (wakes-same clock op job h)
 
+told-same : (clock : ℕ) (given : Task) (op : Op) (job : JobFacts) → is_sleep op ≡ false → told_of clock given (op_done clock op job) ≡ told_of clock given job
+told-same clock given op job h =
+    ap (λ b. if b then Some (unwrap_or (release_of given (op_done clock op job)) 0) else None) (ready-same clock given op job h)
+    ∙ ap (λ o. if is_ready clock given job then Some (unwrap_or o 0) else None) (release-same given.kind given clock op job)
+
 edf-same : (given : Task) (t clock : ℕ) (op : Op) (job : JobFacts) → ◌≡◌ {A = Key} (record { band = 2; major = deadline_of given (op_done clock op job); minor = t }) (record { band = 2; major = deadline_of given job; minor = t })
 edf-same given t clock op job = ap (λ o. let k : Key = record { band = 2; major = unwrap_or o 0 + given.rel_deadline; minor = t } in k) (release-same given.kind given clock op job)
 
@@ -137,7 +131,7 @@ runs-on clock ops.End cpu h = refl
 -- ---- a processor's acts, and a cluster
 
 module _ (g : Group) (q : ℕ) (k : Kept) (none : Bool) (inside : q < length k.cpus) (count : length g.setup.tasks ≡ length k.jobs)
-    (at_home : (u : ℕ) → (cpu_of k q).runs ≡ Some u → (has u (tasks_of g (cluster_with g q)) ≡ true)) (c : ℕ) where
+    (at_home : (u : ℕ) → (cpu_of k q).runs ≡ Some u → (has u (tasks_of g (cluster_with g q)) ≡ true)) (c clk : ℕ) (x : ClusterFacts) where
   abbrev p : Parts
   p = g.setup
 
@@ -197,6 +191,7 @@ module _ (g : Group) (q : ℕ) (k : Kept) (none : Bool) (inside : q < length k.c
       still-here : Still k'
       still-here = record {
         ready = λ t h. read-same (is_ready k.clock (task_in p.tasks t)) t h (λ s. ready-same k.clock (task_in p.tasks t) op (job_of k u) awake ∙ ap (λ n. is_ready k.clock (task_in p.tasks t) (job_of k n)) (sym s));
+        told = λ t h. read-same (told_of k.clock (task_in p.tasks t)) t h (λ s. told-same k.clock (task_in p.tasks t) op (job_of k u) awake ∙ ap (λ n. told_of k.clock (task_in p.tasks t) (job_of k n)) (sym s));
         bases = λ t h. read-same (key_of (record { setup = p; number = 0 }) p.plugin t) t h (λ s. key-same (record { setup = p; number = 0 }) p.plugin t k.clock op (job_of k u) ∙ ap (λ n. key_of (record { setup = p; number = 0 }) p.plugin t (job_of k n)) (sym s));
         timers = λ t h. read-same (timer k.clock (task_in p.tasks t)) t h (λ s. timer_stays k.clock (task_in p.tasks t) op (job_of k u) awake ∙ ap (λ n. timer k.clock (task_in p.tasks t) (job_of k n)) (sym s));
         runs =
@@ -214,24 +209,24 @@ module _ (g : Group) (q : ℕ) (k : Kept) (none : Bool) (inside : q < length k.c
   StillAfter act reply o = Still (after_act p.tasks q act o reply none k)
 
   still-operated : (op : Op) (o : Option ℕ) (reply : Reply) → (cpu_of k q).runs ≡ o → (is_at_sem (acts.Do op) ≡ false → reply ≡ replies.Done)
-      → is_placed c (placing_by p q (acts.Do op) o none k) ≡ false → StillAfter (acts.Do op) reply o
+      → is_touched (touched_by p q (acts.Do op) o none k) clk c x ≡ false → StillAfter (acts.Do op) reply o
   unfolding cluster_with
   still-operated op None reply r done out = still-same p k (tasks_of g c) (first_cpu g c) (cpus g c)
   still-operated op (Some u) reply r done out = by_sem (is_at_sem (acts.Do op)) refl out
     where
-      by_case : (b : Bool) → ends_in p op u k none || is_sleep op ≡ b → reply ≡ replies.Done → is_placed c (if b then OneCluster (home_of p q) else NoCluster) ≡ false
+      by_case : (b : Bool) → ends_in p op u k none || is_sleep op ≡ b → reply ≡ replies.Done → is_touched (if b then OneCluster (home_of p q) else NoCluster) clk c x ≡ false
           → Still (has_operated p.tasks q u op reply none k)
       by_case true e d h = still-elsewhere u op r reply (not-it (home_of p q) h)
       by_case false e d h = let n = neither (ends_in p op u k none) (is_sleep op) e in subst (λ x. Still (has_operated p.tasks q u op x none k)) (sym d) (still-here u op r n.0 n.1)
 
-      by_sem : (b : Bool) → is_at_sem (acts.Do op) ≡ b → is_placed c (if b then AllClusters else (if ends_in p op u k none || is_sleep op then OneCluster (home_of p q) else NoCluster)) ≡ false
+      by_sem : (b : Bool) → is_at_sem (acts.Do op) ≡ b → is_touched (if b then AllClusters else (if ends_in p op u k none || is_sleep op then OneCluster (home_of p q) else NoCluster)) clk c x ≡ false
           → Still (has_operated p.tasks q u op reply none k)
       by_sem true e h = cc
       by_sem false e h = by_case (ends_in p op u k none || is_sleep op) refl (done e) h
 
   still-accepted : (act : Act) (reply : Reply) → ((t : TaskNo) → act ≡ acts.Arrive t → has t.0 (tasks_of g (task_in p.tasks t.0).cluster.0) ≡ true)
       → ((op : Op) → act ≡ acts.Do op → is_at_sem (acts.Do op) ≡ false → reply ≡ replies.Done)
-      → is_placed c (placing_by p q act (cpu_of k q).runs none k) ≡ false → StillAfter act reply (cpu_of k q).runs
+      → is_touched (touched_by p q act (cpu_of k q).runs none k) clk c x ≡ false → StillAfter act reply (cpu_of k q).runs
   unfolding cluster_with
   still-accepted acts.Tick reply arrives done out = still-same p k (tasks_of g c) (first_cpu g c) (cpus g c)
   still-accepted acts.Irq reply arrives done out = still-irq reply (not-it (home_of p q) out)
@@ -240,10 +235,10 @@ module _ (g : Group) (q : ℕ) (k : Kept) (none : Bool) (inside : q < length k.c
 
   pub still-after : (act : Act) (reply : Reply) → ((t : TaskNo) → act ≡ acts.Arrive t → has t.0 (tasks_of g (task_in p.tasks t.0).cluster.0) ≡ true)
       → ((op : Op) → act ≡ acts.Do op → is_at_sem (acts.Do op) ≡ false → accepted reply ≡ true → reply ≡ replies.Done)
-      → is_placed c (if accepted reply then placing_by p q act (cpu_of k q).runs none k else NoCluster) ≡ false → Still (has_acted p.tasks q act reply none k)
+      → is_touched (if accepted reply then touched_by p q act (cpu_of k q).runs none k else NoCluster) clk c x ≡ false → Still (has_acted p.tasks q act reply none k)
   still-after act reply arrives done out = by_case (accepted reply) refl out
     where
-      by_case : (b : Bool) → accepted reply ≡ b → is_placed c (if b then placing_by p q act (cpu_of k q).runs none k else NoCluster) ≡ false
+      by_case : (b : Bool) → accepted reply ≡ b → is_touched (if b then touched_by p q act (cpu_of k q).runs none k else NoCluster) clk c x ≡ false
           → Still (if b then after_act p.tasks q act (cpu_of k q).runs reply none k else k)
       by_case true e h = still-accepted act reply arrives (λ op s plain. done op s plain e) h
       by_case false e h = still-same p k (tasks_of g c) (first_cpu g c) (cpus g c)

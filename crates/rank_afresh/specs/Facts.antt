@@ -1,6 +1,6 @@
 -- The plain facts of a group, and what each move makes of them.
 use Rattle.std.specs.Prelude.{◌≡◌, ℕ, ◌+◌, ◌-◌, ◌<◌, ◌≤◌, Bool, true, false, ◌||◌, ◌==◌, List, All, length, map, Option, None, Some}
-use Rattle.std.specs.Prelude.{[], flat_map, if◌then◌else◌, replicate, slice_index_or, slice_set, unwrap_or, ⊤}
+use Rattle.std.specs.Prelude.{[], ◌∷◌, ◌++◌, if◌then◌else◌, replicate, slice_index_or, slice_set, unwrap_or, ⊤}
 use Rattle.rt_base.specs.declared.TaskNo.{TaskNo}
 use Rattle.rt_base.specs.declared.TheConstants.{MOST_STEPS, TICK_END}
 use Rattle.rt_task.specs.declared.Act.{Act}
@@ -9,7 +9,6 @@ use Rattle.rt_task.specs.declared.Op.{Op}
 use Rattle.rt_task.specs.declared.Op.TheVariants as ops
 use Rattle.rt_task.specs.declared.Parts.{Parts}
 use Rattle.rt_task.specs.declared.Task.{Task}
-use Rattle.rt_task.specs.RuleWords.{is_p_res}
 use Rattle.rt_history.specs.declared.Reply.{Reply}
 use Rattle.rt_history.specs.declared.Reply.TheVariants as replies
 use Rattle.rt_rules.specs.Numbers.{numbers_from}
@@ -34,7 +33,9 @@ use Rattle.group_sem_laws.specs.Keeping.{rebased, untold}
 use Rattle.resv_core.specs.Served.{charged, opened as opened_resvs}
 use Rattle.resv_laws.specs.Serving.{clock_to, for_task, told_each}
 use Rattle.group_resvs.specs.GroupResvs.{GroupResvs, IsSettled, lacks_budget}
-use Rattle.rank_afresh.specs.Clusters.{CanPlace, ClusterFacts, HasCpu, followed, link_at, no_facts, relinked, unlinked}
+use Rattle.rank_afresh.specs.declared.touched.Touched.{Touched}
+use Rattle.rank_afresh.specs.declared.touched.Touched.TheVariants.{NoCluster, OneCluster, AllClusters}
+use Rattle.rank_afresh.specs.Clusters.{CanPlace, ClusterFacts, HasCpu, is_touched, link_at, no_facts, renewed, unlinked}
 use Rattle.rank_afresh.specs.Ranks.{CanRead, HaveBases, base_in}
 
 -- what is kept of jobs and processors, of the semaphores and keys, and of the reservations; and the clusters of the set, of which
@@ -61,38 +62,36 @@ based p k t v = record v { waits = record v.waits { bases = slice_set v.waits.ba
 abbrev pub all_based : Parts → Kept → ℕ → GroupSems → GroupSems
 all_based p k n v = record v { waits = record v.waits { bases = rebased (base_in p k) (numbers_from 1 n) v.waits.bases } }
 
--- ---- the opening and the clock
-
--- every cluster is placed afresh, or follows the clock
-abbrev pub all_placed : Parts → Facts → Facts
-all_placed p f = record f { clusters = map (relinked p f.kept f.sems f.resvs) f.clusters }
-
-abbrev pub all_followed : Parts → Facts → Facts
-all_followed p f = record f { clusters = map (followed p f.kept f.sems f.resvs) f.clusters }
-
--- ---- the end of a move of a group with reservations, and that of the opening
+-- ---- the end of a move, and of the opening
 
 -- the release of a task's job, where that is ready
 abbrev pub ready_now : List Task → Kept → ℕ → Option ℕ
 ready_now rows k t = if is_ready k.clock (task_in rows t) (job_of k t) then Some (unwrap_or (release_of (task_in rows t) (job_of k t)) 0) else None
 
--- all tasks of the group
-abbrev pub all_tasks : List ClusterFacts → List ℕ
-all_tasks cs = flat_map (λ (c : ClusterFacts). c.tasks) cs
+-- the tasks of the clusters that are touched, of those from a number on
+abbrev pub touched_tasks : Touched → ℕ → ℕ → List ClusterFacts → List ℕ
+touched_tasks which clock n [] = []
+touched_tasks which clock n (c ∷ cs) = (if is_touched which clock n c then c.tasks else []) ++ touched_tasks which clock (n + 1) cs
 
--- the reservations are told which of their clients are ready
-abbrev pub all_told : Parts → Facts → GroupResvs
-all_told p f = record f.resvs { resvs = told_each (ready_now p.tasks f.kept) (all_tasks f.clusters) f.resvs.resvs }
+-- the reservations are told which of these are ready
+abbrev pub told_in : Parts → Touched → Facts → GroupResvs
+told_in p which f = record f.resvs { resvs = told_each (ready_now p.tasks f.kept) (touched_tasks which f.kept.clock 0 f.clusters) f.resvs.resvs }
 
--- they are settled then, and every cluster is placed afresh
-pub record IsEnded (p : Parts) (old new : Facts) : Type 0 where
-  pub settled : IsSettled (all_told p old) new.resvs
-  pub facts_are : new ≡ all_placed p (record old { resvs = new.resvs })
+-- the clusters are placed afresh that the move touches, or in which others are served now
+abbrev pub ArePlaced : Parts → Touched → Facts → List ClusterFacts → Type 0
+ArePlaced p which f cs =
+    (n : ℕ) → n < length f.clusters → cluster_at cs n
+    ≡ renewed p f.kept f.sems f.resvs (is_touched which f.kept.clock n (cluster_at f.clusters n)) (cluster_at f.clusters n)
 
--- no other move has an end of its own
-pub record HasEnded (p : Parts) (old new : Facts) : Type 0 where
-  pub reserved : is_p_res p.plugin ≡ true → IsEnded p old new
-  pub unreserved : is_p_res p.plugin ≡ false → new ≡ old
+-- the reservations are told of the tasks that the move touches, and settled; then the links follow
+pub record HasEnded (p : Parts) (which : Touched) (old new : Facts) : Type 0 where
+  pub kept_same : new.kept ≡ old.kept
+  pub sems_same : new.sems ≡ old.sems
+  pub settled : IsSettled (told_in p which old) new.resvs
+  pub count_same : length new.clusters ≡ length old.clusters
+  pub placed : ArePlaced p which (record old { resvs = new.resvs }) new.clusters
+
+-- ---- the opening and the clock
 
 -- the clusters of the set before they are placed, with the tasks of the group
 abbrev pub unlinked_cluster : Group → ℕ → ClusterFacts
@@ -124,16 +123,14 @@ pub record IsUntold (g : Group) (v : GroupSems) : Type 0 where
 pub record AreOpened (g : Group) (room : ℕ) (f : WithRoom) : Type 0 where
   pub sems : GroupSems
   pub untold : IsUntold g sems
-  pub ended : IsEnded g.setup (at_opening g sems) f.facts
+  pub ended : HasEnded g.setup AllClusters (at_opening g sems) f.facts
   pub room_is : f.room ≡ room
 
--- with reservations, the clusters are placed as the move ends
-abbrev pub clocked : Parts → ℕ → Facts → Facts
-clocked p tick f =
+-- the clock is moved
+abbrev pub clocked : ℕ → Facts → Facts
+clocked tick f =
     let k = with_clock tick f.kept in
-    if is_p_res p.plugin
-    then record f { kept = k; resvs = record f.resvs { resvs = clock_to k.clock f.resvs.resvs } }
-    else all_followed p (record f { kept = k })
+    record f { kept = k; resvs = record f.resvs { resvs = clock_to k.clock f.resvs.resvs } }
 
 -- ---- what an act is answered
 
@@ -220,39 +217,23 @@ abbrev pub charged_by : Act → Option ℕ → GroupResvs → GroupResvs
 charged_by (acts.Do op) (Some t) w = charged_for t op w
 charged_by _ o w = w
 
--- the clusters that are placed afresh
-pub data Placing : Type 0 where
-  NoCluster : Placing
-  OneCluster : ℕ → Placing
-  AllClusters : Placing
-
-abbrev pub placed_afresh : Parts → Kept → GroupSems → GroupResvs → Placing → List ClusterFacts → List ClusterFacts
-placed_afresh p k v w NoCluster cs = cs
-placed_afresh p k v w (OneCluster c) cs = slice_set cs c (relinked p k v w (cluster_at cs c))
-placed_afresh p k v w AllClusters cs = map (relinked p k v w) cs
-
--- with reservations, they are placed as the move ends
-abbrev pub unless_reserved : Parts → Placing → Placing
-unless_reserved p which = if is_p_res p.plugin then NoCluster else which
-
-abbrev pub placing_after : Parts → ℕ → Op → Bool → Placing
-placing_after p q op ends =
+-- the clusters that an act touches. One at a semaphore can change keys in any cluster; another operation touches that of its processor
+-- alone, where it ends its job or is a Sleep
+abbrev pub touched_after : Parts → ℕ → Op → Bool → Touched
+touched_after p q op ends =
     if is_at_sem (acts.Do op) then AllClusters else (if ends || is_sleep op then OneCluster (home_of p q) else NoCluster)
 
-abbrev pub placing_by : Parts → ℕ → Act → Option ℕ → Bool → Kept → Placing
-placing_by p q acts.Irq o none k = OneCluster (home_of p q)
-placing_by p q (acts.Arrive t) o none k = OneCluster (task_in p.tasks t.0).cluster.0
-placing_by p q (acts.Do op) (Some t) none k = placing_after p q op (ends_in p op t k none)
-placing_by p q _ o none k = NoCluster
+abbrev pub touched_by : Parts → ℕ → Act → Option ℕ → Bool → Kept → Touched
+touched_by p q acts.Irq o none k = OneCluster (home_of p q)
+touched_by p q (acts.Arrive t) o none k = OneCluster (task_in p.tasks t.0).cluster.0
+touched_by p q (acts.Do op) (Some t) none k = touched_after p q op (ends_in p op t k none)
+touched_by p q _ o none k = NoCluster
 
 -- once the semaphores have changed, an accepted operation of the task that the processor runs is counted
 abbrev pub counted : Parts → ℕ → ℕ → Op → Reply → Facts → Facts
 counted p q t op reply f =
-    let none = holds_none t f.sems in
-    let k = has_operated p.tasks q t op reply none f.kept in
-    let v = based p k t f.sems in
-    let which = unless_reserved p (placing_after p q op (ends_in p op t f.kept none)) in
-    record f { kept = k; sems = v; clusters = placed_afresh p k v f.resvs which f.clusters }
+    let k = has_operated p.tasks q t op reply (holds_none t f.sems) f.kept in
+    record f { kept = k; sems = based p k t f.sems }
 
 -- ---- an act of a processor, answered so
 
@@ -273,16 +254,13 @@ sems_after p q act reply f =
 abbrev pub resvs_after : ℕ → Act → Reply → Facts → GroupResvs
 resvs_after q act reply f = if accepted reply then charged_by act (cpu_of f.kept q).runs f.resvs else f.resvs
 
-abbrev pub placing : Parts → ℕ → Act → Reply → Facts → Placing
-placing p q act reply f =
-    if accepted reply then placing_by p q act (cpu_of f.kept q).runs (none_after p q act reply f) f.kept else NoCluster
+abbrev pub touched_in : Parts → ℕ → Act → Reply → Facts → Touched
+touched_in p q act reply f =
+    if accepted reply then touched_by p q act (cpu_of f.kept q).runs (none_after p q act reply f) f.kept else NoCluster
 
+-- before the act is ended
 abbrev pub acted : Parts → ℕ → Act → Reply → Facts → Facts
-acted p q act reply f =
-    let k = kept_after p q act reply f in
-    let v = sems_after p q act reply f in
-    let w = resvs_after q act reply f in
-    record { kept = k; sems = v; resvs = w; clusters = placed_afresh p k v w (unless_reserved p (placing p q act reply f)) f.clusters }
+acted p q act reply f = record f { kept = kept_after p q act reply f; sems = sems_after p q act reply f; resvs = resvs_after q act reply f }
 
 abbrev pub ended_now : Parts → ℕ → Act → Reply → Facts → Option (TaskNo × Bool)
 ended_now p q act reply f =

@@ -1,8 +1,7 @@
 -- One group at a past, as contracts see it.
-use Rattle.std.specs.Prelude.{◌≡◌, ℕ, ◌+◌, ◌-◌, ◌<◌, ◌≤◌, Bool, true, false, length, Option, Some}
+use Rattle.std.specs.Prelude.{◌≡◌, ℕ, ◌+◌, ◌-◌, ◌<◌, ◌≤◌, Bool, true, length, Option, Some}
 use Rattle.rt_base.specs.declared.TaskNo.{TaskNo}
 use Rattle.rt_base.specs.declared.TheConstants.{MOST_STEPS}
-use Rattle.rt_task.specs.RuleWords.{is_p_res}
 use Rattle.rt_task.specs.Validity.{IsValid}
 use Rattle.rt_task.specs.declared.Parts.{Parts}
 use Rattle.rt_rules.specs.Numbers.{has}
@@ -14,7 +13,7 @@ use Rattle.rt_plays.specs.Room.{processor_count}
 use Rattle.rt_groups.specs.Endings.{ended_last}
 use Rattle.group_facts.specs.Kept.{IsKept, Kept}
 use Rattle.group_sem_laws.specs.Kept.{KeepsGroupSems}
-use Rattle.group_resvs.specs.Kept.{AreNone, KeepsResvs}
+use Rattle.group_resvs.specs.Kept.{KeepsResvs}
 use Rattle.rank_afresh.specs.Clusters.{ClusterFacts}
 use Rattle.rank_afresh.specs.Facts.{Facts, cluster_at}
 use Rattle.rank_afresh.specs.Ranks.{AreBased, CanRead, timer_in}
@@ -36,7 +35,7 @@ pub record IsAt (v : Standing) (past : Past) : Type 0 where
   pub few : entries_in past + v.spare ≤ MOST_STEPS
   pub kept : IsKept (group_of v) past v.facts.kept
   pub sems_are : KeepsGroupSems (group_of v) past v.facts.sems
-  pub resvs_are : is_p_res v.setup.plugin ≡ true → KeepsResvs (group_of v) past v.facts.resvs
+  pub resvs_are : KeepsResvs (group_of v) past v.facts.resvs
   pub links_are : (c : ℕ) → has c (clusters (group_of v)) ≡ true → (cluster_at v.facts.clusters c).links ≡ links (group_of v) c past
   pub ended_is : v.ended ≡ ended_last (group_of v) past
 
@@ -55,7 +54,6 @@ pub record IsClusterOf (g : Group) (k : Kept) (c : ℕ) (x : ClusterFacts) : Typ
 -- what holds at all times: nothing is counted more often than there were acts
 pub record IsFit (g : Group) (f : Facts) (room spare : ℕ) : Type 0 where
   pub valid : IsValid g.setup
-  pub unreserved : is_p_res g.setup.plugin ≡ false → AreNone f.resvs.resvs
   pub resvs_clock : f.resvs.resvs.clock ≤ f.kept.clock
   pub limit : spare ≤ MOST_STEPS
   pub room_left : spare ≤ room

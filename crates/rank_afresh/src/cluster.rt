@@ -2,12 +2,14 @@
 ghost use Rattle.std.specs.Prelude.{◌≡◌, ◌+◌, ◌≤◌, [], IfOk, length, vec_capacity};
 ghost use Rattle.rt_base.specs.TaskNos.{number_of_task, numbers, numbers_of_tasks};
 ghost use Rattle.rt_base.specs.declared.TheConstants.{MOST_CPUS, MOST_STEPS};
-ghost use Rattle.rank_afresh.specs.Clusters.{CanPlace, HasCpu, followed, link_at, relinked, runs_in, unlinked};
+ghost use Rattle.rank_afresh.specs.Clusters as seen;
+ghost use Rattle.rank_afresh.specs.Clusters.{CanPlace, HasCpu, link_at, relinked, renewed, runs_in, unlinked};
 ghost use Rattle.rank_afresh.specs.Ranks.{CanRead, HaveBases};
 
 use crate::placing;
 use crate::ranks::{Candidate, rank, write_tasks};
 use crate::room::{no_tasks, put, with_room};
+use crate::touched::Touched;
 use group_jobs::GroupJobs;
 use group_resvs::GroupResvs;
 use group_sems::GroupSems;
@@ -100,13 +102,7 @@ impl RankedCluster {
     }
 
     /// Ranks the tasks afresh, and links the first of them.
-    pub(crate) fn place(
-        &mut self,
-        parts: &Parts,
-        jobs: &GroupJobs,
-        sems: &GroupSems,
-        resvs: &GroupResvs,
-    )
+    fn place(&mut self, parts: &Parts, jobs: &GroupJobs, sems: &GroupSems, resvs: &GroupResvs)
         requires read { CanRead MOST_STEPS parts.now jobs.now.kept }
         requires keys { HaveBases parts.now sems.now }
         requires place { CanPlace parts.now jobs.now.kept self.old }
@@ -131,9 +127,34 @@ impl RankedCluster {
         );
     }
 
-    /// Once the clock has moved: the links follow, where a task may be due.
-    pub(crate) fn follow(
+    /// Whether a move touches the cluster, which has this number, once the clock is there.
+    pub(crate) fn is_touched(&self, which: Touched, clock: u64, number: usize) -> bool
+        ensures { result ≡ seen.is_touched which clock number self.now }
+    {
+        match which {
+            Touched::NoCluster => false,
+            Touched::OneCluster(touched) => number == touched,
+            Touched::AllClusters => true,
+            Touched::DueClusters => clock >= self.next,
+        }
+    }
+
+    /// Whether one of these tasks is of the cluster.
+    fn has_any(&self, tasks: &[TaskNo]) -> bool
+        ensures { result ≡ seen.has_any (numbers tasks.now) self.now }
+    {
+        for task in tasks {
+            if placing::is_among(self.tasks.as_slice(), *task) {
+                return true;
+            }
+        }
+        false
+    }
+
+    /// After a move, which touched the cluster or not: the links follow, where they may change.
+    pub(crate) fn renew(
         &mut self,
+        touched: bool,
         parts: &Parts,
         jobs: &GroupJobs,
         sems: &GroupSems,
@@ -142,9 +163,10 @@ impl RankedCluster {
         requires read { CanRead MOST_STEPS parts.now jobs.now.kept }
         requires keys { HaveBases parts.now sems.now }
         requires place { CanPlace parts.now jobs.now.kept self.old }
-        ensures { self.new ≡ followed parts.now jobs.now.kept sems.now resvs.now self.old }
+        ensures { self.new
+            ≡ renewed parts.now jobs.now.kept sems.now resvs.now touched self.old }
     {
-        if jobs.clock() >= self.next {
+        if touched || self.has_any(resvs.changed()) {
             self.place(parts, jobs, sems, resvs);
         }
     }

@@ -1,9 +1,8 @@
 //! The plain facts of one group: what is kept of its jobs and processors, of its semaphores and of its reservations, and its
 //! clusters.
-ghost use Rattle.std.specs.Prelude.{◌≡◌, ◌+◌, ◌<◌, ◌≤◌, ◌==◌, ℕ, IfOk, length, false, true, None, Some, if◌then◌else◌, unwrap_or};
+ghost use Rattle.std.specs.Prelude.{◌≡◌, ◌+◌, ◌-◌, ◌<◌, ◌≤◌, [], ℕ, IfOk, length, true, false, None, Some, if◌then◌else◌, unwrap_or};
 ghost use Rattle.rt_base.specs.TaskNos.{number_of_task};
 ghost use Rattle.rt_base.specs.declared.TheConstants.{MOST_STEPS, TICK_END};
-ghost use Rattle.rt_task.specs.RuleWords.{is_p_res};
 ghost use Rattle.rt_task.specs.declared.Act.TheVariants as acts;
 ghost use Rattle.rt_task.specs.declared.Op.TheVariants as ops;
 ghost use Rattle.rt_model.specs.Blocking as definitions;
@@ -23,31 +22,49 @@ ghost use Rattle.group_sems.specs.Refusing.{unlock_refusal};
 ghost use Rattle.rt_rules.specs.Distinct.{IsDistinct};
 ghost use Rattle.count_laws.specs.Tallies.{waiter_tasks};
 ghost use Rattle.waiting_list.specs.Listing.{AreWaitersAt, CanAsk, CanList, Moment};
-ghost use Rattle.rank_afresh.specs.Clusters.{HasCpu};
+ghost use Rattle.resv_laws.specs.Serving.{told_each};
+ghost use Rattle.rank_afresh.specs.declared.touched.Touched.TheVariants as touched;
+ghost use Rattle.rank_afresh.specs.Clusters.{HasCpu, is_touched};
 ghost use Rattle.rank_afresh.specs.Looking.{CanLook, lacks_running};
 ghost use Rattle.rank_afresh.specs.Ranks.{CanRead, base_in};
-ghost use Rattle.rank_afresh.specs.Facts.{AreOpened, CanAct, CanFollow, HasEnded, IsEnded, IsPlainAct, MayAct, MayDo, MayLock, MayUnlock, acted, all_based, all_followed, all_placed, all_told, asked_reply, at_opening, based, charged_for, clocked, cluster_at, counted, ended_now, ends_in, home_of, late_in, link_in, lock_refused, placed_afresh, placing_after, reply_in, resvs_at_opening, sems_by, task_reply, unless_reserved};
+ghost use Rattle.rank_afresh.specs.Facts.{AreOpened, ArePlaced, CanAct, CanFollow, HasEnded, IsPlainAct, MayAct, MayDo, MayLock, MayUnlock, acted, all_based, asked_reply, at_opening, based, charged_for, clocked, cluster_at, counted, ended_now, ends_in, home_of, late_in, link_in, lock_refused, ready_now, reply_in, resvs_at_opening, sems_by, task_reply, told_in, touched_in};
 ghost use Rattle.rank_afresh.specs.Facts as seen;
 
 use crate::clients::tell_clients;
 use crate::cluster::RankedCluster;
 use crate::rows::{cluster_of, clusters_of, cpu_count};
 use crate::situations;
+use crate::touched::Touched;
 use group_jobs::GroupJobs;
 use group_resvs::GroupResvs;
 use group_sems::GroupSems;
 use rt_base::{Ask, CpuNo, GroupNo, NoMemory, SemNo, TaskNo, Tick};
 use rt_history::{Reply, Situation};
-use rt_task::{Act, Op, Parts, PluginKind, Setup};
+use rt_task::{Act, Op, Parts, Setup};
 use std::alloc::Global;
 use std::marker::Model;
 use waiting_list::{WaitingList, is_blocked};
 
-/// What an act is answered, and the task whose job it ended, with whether the clock was past that job's deadline.
+/// What an act is answered, the task whose job it ended, with whether the clock was past that job's deadline, and the clusters
+/// that it touches.
 #[derive(Clone, Copy)]
 pub(crate) struct Answer {
     pub(crate) reply: Reply,
     pub(crate) ended: Option<(TaskNo, bool)>,
+    touched: Touched,
+}
+
+impl Answer {
+    /// A reply to an act that ends no job.
+    fn of(reply: Reply, touched: Touched) -> Answer
+        ensures { result ≡ record { reply = reply; ended = None; touched = touched } }
+    {
+        Answer {
+            reply,
+            ended: None,
+            touched,
+        }
+    }
 }
 
 /// What is kept of jobs and processors, of semaphores and of reservations, and the clusters of the set by their numbers.
@@ -98,11 +115,18 @@ fn is_accepted(reply: Reply) -> bool
     )
 }
 
-/// Whether the set's tasks run in reservations.
-fn is_reserved(parts: &Parts) -> bool
-    ensures { result ≡ is_p_res parts.now.plugin }
+/// The clusters that an operation of the processor touches, where it has ended its job or not. One at a semaphore can change
+/// keys in any cluster; another one touches that of its processor alone, where it ends its job or is a Sleep.
+fn touched_after(parts: &Parts, cpu: CpuNo, op: Op, ends: bool) -> Touched
+    ensures { result ≡ seen.touched_after parts.now cpu.0 op ends }
 {
-    matches!(parts.plugin, PluginKind::PRes)
+    if is_of_sem(op) {
+        Touched::AllClusters
+    } else if ends || is_sleep(op) {
+        Touched::OneCluster(cluster_of(parts.clusters.as_slice(), cpu))
+    } else {
+        Touched::NoCluster
+    }
 }
 
 impl Facts {
@@ -135,7 +159,7 @@ impl Facts {
         requires bases { length sems.waits.bases ≡ length parts.now.tasks + 1 }
         requires resvs { resvs
             ≡ resvs_at_opening (record { setup = parts.now; number = group.0 }) }
-        ensures ended { IfOk result (λ f. IsEnded parts.now
+        ensures ended { IfOk result (λ f. HasEnded parts.now touched.AllClusters
             (at_opening (record { setup = parts.now; number = group.0 }) sems) f.facts) }
         ensures room { IfOk result (λ f. f.room ≡ room) }
     {
@@ -148,7 +172,7 @@ impl Facts {
             clusters: clusters_of(alloc, parts, group)?,
         };
         facts.tell_bases(parts);
-        facts.end(parts);
+        facts.end(parts, Touched::AllClusters);
         Ok(facts)
     }
 
@@ -256,100 +280,64 @@ impl Facts {
         is_blocked(parts, &self.jobs, &self.sems, task)
     }
 
-    /// Places the cluster afresh, in a group without reservations.
-    fn place(&mut self, parts: &Parts, c: usize)
+    /// Tells the reservations which tasks of the cluster of this number are ready, if the move touches it.
+    fn tell_cluster(&mut self, parts: &Parts, which: Touched, n: usize)
         requires follow { CanFollow parts.now self.old.facts }
-        requires cluster { c < length self.old.facts.clusters }
+        requires cluster { n < length self.old.facts.clusters }
         ensures { let f = self.old.facts in
-            let which = unless_reserved parts.now (seen.OneCluster c) in
-            self.new ≡ record self.old {
-              facts = record f { clusters = placed_afresh parts.now f.kept f.sems f.resvs which f.clusters };
-            } }
+            let c = cluster_at f.clusters n in
+            let ts = if is_touched which f.kept.clock n c then c.tasks else [] in
+            let told = told_each (ready_now parts.now.tasks f.kept) ts f.resvs.resvs in
+            self.new ≡ record self.old { facts = record f { resvs = record f.resvs { resvs = told } } } }
     {
-        if !is_reserved(parts) {
-            self.clusters[c].place(parts, &self.jobs, &self.sems, &self.resvs);
-        }
-    }
-
-    /// Places every cluster afresh.
-    fn place_all(&mut self, parts: &Parts)
-        requires { CanFollow parts.now self.old.facts }
-        ensures { self.new
-            ≡ record self.old { facts = all_placed parts.now self.old.facts } }
-    {
-        for c in 0..self.clusters.len() {
-            self.clusters[c].place(parts, &self.jobs, &self.sems, &self.resvs);
-        }
-    }
-
-    /// Once the operation of the processor is counted, in a group without reservations: the links follow. One at a semaphore can
-    /// change keys in any cluster; another one that of its processor alone, where it has ended its job or is a Sleep.
-    fn place_after(&mut self, parts: &Parts, cpu: CpuNo, op: Op, ends: bool)
-        requires follow { CanFollow parts.now self.old.facts }
-        requires cluster { home_of parts.now cpu.0 < length self.old.facts.clusters }
-        ensures { let f = self.old.facts in
-            let which = unless_reserved parts.now (placing_after parts.now cpu.0 op ends) in
-            self.new ≡ record self.old {
-              facts = record f { clusters = placed_afresh parts.now f.kept f.sems f.resvs which f.clusters };
-            } }
-    {
-        if is_reserved(parts) {
-            return;
-        }
-        if is_of_sem(op) {
-            self.place_all(parts);
-        } else if ends || is_sleep(op) {
-            self.place(parts, cluster_of(parts.clusters.as_slice(), cpu));
-        }
-    }
-
-    /// Every cluster follows the clock.
-    fn follow(&mut self, parts: &Parts)
-        requires { CanFollow parts.now self.old.facts }
-        ensures { self.new
-            ≡ record self.old { facts = all_followed parts.now self.old.facts } }
-    {
-        for c in 0..self.clusters.len() {
-            self.clusters[c].follow(parts, &self.jobs, &self.sems, &self.resvs);
-        }
-    }
-
-    /// Tells the reservations which of their clients are ready.
-    fn tell_all(&mut self, parts: &Parts)
-        requires { CanFollow parts.now self.old.facts }
-        ensures { let f = self.old.facts in
-            self.new ≡ record self.old { facts = record f { resvs = all_told parts.now f } } }
-    {
-        for c in 0..self.clusters.len() {
+        let cluster = &self.clusters[n];
+        if cluster.is_touched(which, self.jobs.clock(), n) {
             tell_clients(
                 &mut self.resvs,
                 &self.jobs,
                 parts.tasks.as_slice(),
-                self.clusters[c].tasks(),
+                cluster.tasks(),
             );
         }
     }
 
-    /// Settles the reservations, and places every cluster afresh.
-    fn end(&mut self, parts: &Parts)
+    /// Tells the reservations which tasks of the clusters are ready that the move touches.
+    fn tell(&mut self, parts: &Parts, which: Touched)
         requires { CanFollow parts.now self.old.facts }
-        ensures ended { IsEnded parts.now self.old.facts self.new.facts }
-        ensures room { self.new.room ≡ self.old.room }
+        ensures { let f = self.old.facts in
+            self.new ≡ record self.old { facts = record f { resvs = told_in parts.now which f } } }
     {
-        self.tell_all(parts);
-        self.resvs.settle();
-        self.place_all(parts);
+        for n in 0..self.clusters.len() {
+            self.tell_cluster(parts, which, n);
+        }
     }
 
-    /// Ends a move, where the group has reservations.
-    fn end_move(&mut self, parts: &Parts)
-        requires { is_p_res parts.now.plugin ≡ true → CanFollow parts.now self.old.facts }
-        ensures ended { HasEnded parts.now self.old.facts self.new.facts }
+    /// Places the clusters afresh whose links may change.
+    fn place(&mut self, parts: &Parts, which: Touched)
+        requires { CanFollow parts.now self.old.facts }
+        ensures kept { self.new.facts.kept ≡ self.old.facts.kept }
+        ensures sems { self.new.facts.sems ≡ self.old.facts.sems }
+        ensures resvs { self.new.facts.resvs ≡ self.old.facts.resvs }
+        ensures room { self.new.room ≡ self.old.room }
+        ensures count { length self.new.facts.clusters ≡ length self.old.facts.clusters }
+        ensures clusters { ArePlaced parts.now which self.old.facts self.new.facts.clusters }
+    {
+        let clock = self.jobs.clock();
+        for n in 0..self.clusters.len() {
+            let touched = self.clusters[n].is_touched(which, clock, n);
+            self.clusters[n].renew(touched, parts, &self.jobs, &self.sems, &self.resvs);
+        }
+    }
+
+    /// Ends a move, or the opening: the reservations are told and settled, and the links follow.
+    fn end(&mut self, parts: &Parts, which: Touched)
+        requires { CanFollow parts.now self.old.facts }
+        ensures ended { HasEnded parts.now which self.old.facts self.new.facts }
         ensures room { self.new.room ≡ self.old.room }
     {
-        if is_reserved(parts) {
-            self.end(parts);
-        }
+        self.tell(parts, which);
+        self.resvs.settle();
+        self.place(parts, which);
     }
 
     /// Moves the clock, if the tick is later; where tasks are due by then, the links follow.
@@ -357,59 +345,64 @@ impl Facts {
         requires follow { CanFollow parts.now self.old.facts }
         requires tick { tick.0 < TICK_END }
         requires resvs { self.old.facts.resvs.resvs.clock ≤ self.old.facts.kept.clock }
-        ensures moved { HasEnded parts.now (clocked parts.now tick.0 self.old.facts) self.new.facts }
+        ensures moved { HasEnded parts.now touched.DueClusters
+            (clocked tick.0 self.old.facts) self.new.facts }
         ensures room { self.new.room ≡ self.old.room }
     {
         self.jobs.move_clock(tick);
-        if is_reserved(parts) {
-            self.resvs.move_clock(Tick(self.jobs.clock()));
-            self.end(parts);
-        } else {
-            self.follow(parts);
-        }
+        self.resvs.move_clock(Tick(self.jobs.clock()));
+        self.end(parts, Touched::DueClusters);
     }
 
-    /// Takes an interrupt at the processor, and the links follow.
-    fn take_irq(&mut self, parts: &Parts, cpu: CpuNo) -> Reply
+    /// Takes an interrupt at the processor.
+    fn take_irq(&mut self, parts: &Parts, cpu: CpuNo) -> Answer
         requires { CanAct parts.now cpu.0 self.old.facts }
-        ensures reply { result ≡ reply_in parts.now cpu.0 acts.Irq self.old.facts }
+        ensures reply { result.reply ≡ reply_in parts.now cpu.0 acts.Irq self.old.facts }
+        ensures ended { result.ended ≡ None }
+        ensures touched { result.touched
+            ≡ touched_in parts.now cpu.0 acts.Irq result.reply self.old.facts }
         ensures acted { self.new ≡ record self.old {
-          facts = acted parts.now cpu.0 acts.Irq result self.old.facts;
+          facts = acted parts.now cpu.0 acts.Irq result.reply self.old.facts;
         } }
     {
         let link = self.linked(parts, cpu);
         if link == self.jobs.runs(cpu) {
-            return Reply::Quiet;
+            return Answer::of(Reply::Quiet, Touched::NoCluster);
         }
         if self.jobs.runs_non_preemptive(cpu) {
-            return Reply::Deferred;
+            return Answer::of(Reply::Deferred, Touched::NoCluster);
         }
         self.jobs.run(cpu, link);
-        self.place(parts, cluster_of(parts.clusters.as_slice(), cpu));
+        let home = Touched::OneCluster(cluster_of(parts.clusters.as_slice(), cpu));
         match link {
-            None => Reply::Idles,
-            Some(task) => Reply::Runs(task),
+            None => Answer::of(Reply::Idles, home),
+            Some(task) => Answer::of(Reply::Runs(task), home),
         }
     }
 
-    /// A job of the task arrives, and the links follow.
-    fn arrive(&mut self, parts: &Parts, cpu: CpuNo, task: TaskNo) -> Reply
+    /// A job of the task arrives.
+    fn arrive(&mut self, parts: &Parts, cpu: CpuNo, task: TaskNo) -> Answer
         requires act { CanAct parts.now cpu.0 self.old.facts }
         requires task { IsPlainAct parts.now (acts.Arrive task) }
         requires room { 0 < self.old.room }
-        ensures reply { result ≡ reply_in parts.now cpu.0 (acts.Arrive task) self.old.facts }
+        ensures reply { result.reply
+            ≡ reply_in parts.now cpu.0 (acts.Arrive task) self.old.facts }
+        ensures ended { result.ended ≡ None }
+        ensures touched { result.touched
+            ≡ touched_in parts.now cpu.0 (acts.Arrive task) result.reply self.old.facts }
         ensures acted { self.new.facts
-            ≡ acted parts.now cpu.0 (acts.Arrive task) result self.old.facts }
+            ≡ acted parts.now cpu.0 (acts.Arrive task) result.reply self.old.facts }
         ensures room { self.old.room ≤ self.new.room + 1 }
     {
         let tasks = parts.tasks.as_slice();
         let reply = self.jobs.arrival_reply(tasks, task);
-        if reply == Reply::Done {
-            self.jobs.arrive(task);
-            self.tell_base(parts, task);
-            self.place(parts, tasks[task.0 as usize - 1].cluster.0 as usize);
+        if reply != Reply::Done {
+            return Answer::of(reply, Touched::NoCluster);
         }
-        reply
+        self.jobs.arrive(task);
+        self.tell_base(parts, task);
+        let cluster = tasks[task.0 as usize - 1].cluster;
+        Answer::of(reply, Touched::OneCluster(cluster.0 as usize))
     }
 
     /// Why the task's Lock is refused: its job is non-preemptive, or the semaphores refuse it.
@@ -521,8 +514,8 @@ impl Facts {
         }
     }
 
-    /// Counts an accepted operation of the task that the processor runs, and the links follow. It says whether the job
-    /// has ended. The base key of the task's job is told, which may be a new one.
+    /// Counts an accepted operation of the task that the processor runs, and says whether the job has ended. The base key of
+    /// the task's job is told, which may be a new one.
     fn count(&mut self, parts: &Parts, cpu: CpuNo, task: TaskNo, op: Op, reply: Reply) -> bool
         requires act { CanAct parts.now cpu.0 self.old.facts }
         requires task { IsTaskOf self.old.facts.kept parts.now.tasks task.0 }
@@ -538,11 +531,10 @@ impl Facts {
         let tasks = parts.tasks.as_slice();
         let ends = self.jobs.operate(tasks, cpu, task, op, reply, none);
         self.tell_base(parts, task);
-        self.place_after(parts, cpu, op, ends);
         ends
     }
 
-    /// The task that the processor runs does an operation, and the links follow.
+    /// The task that the processor runs does an operation.
     fn operate(&mut self, parts: &Parts, cpu: CpuNo, op: Op) -> Answer
         requires act { CanAct parts.now cpu.0 self.old.facts }
         requires op { IsPlainAct parts.now (acts.Do op) }
@@ -550,26 +542,26 @@ impl Facts {
         ensures reply { result.reply ≡ reply_in parts.now cpu.0 (acts.Do op) self.old.facts }
         ensures ended { result.ended
             ≡ ended_now parts.now cpu.0 (acts.Do op) result.reply self.old.facts }
+        ensures touched { result.touched
+            ≡ touched_in parts.now cpu.0 (acts.Do op) result.reply self.old.facts }
         ensures acted { self.new ≡ record self.old {
           facts = acted parts.now cpu.0 (acts.Do op) result.reply self.old.facts;
         } }
     {
         let Some(task) = self.jobs.runs(cpu) else {
-            return Answer {
-                reply: Reply::Idle,
-                ended: None,
-            };
+            return Answer::of(Reply::Idle, Touched::NoCluster);
         };
         let is_late = self.is_late(parts, task);
         let reply = self.reply(parts, cpu, task, op);
         if !is_accepted(reply) {
-            return Answer { reply, ended: None };
+            return Answer::of(reply, Touched::NoCluster);
         }
         self.charge(task, op);
         let ends = self.count(parts, cpu, task, op, reply);
         Answer {
             reply,
             ended: ends.then_some((task, is_late)),
+            touched: touched_after(parts, cpu, op, ends),
         }
     }
 
@@ -593,17 +585,18 @@ impl Facts {
         ensures reply { result.reply ≡ reply_in parts.now cpu.0 act self.old.facts }
         ensures ended { result.ended
             ≡ ended_now parts.now cpu.0 act result.reply self.old.facts }
+        ensures touched { result.touched
+            ≡ touched_in parts.now cpu.0 act result.reply self.old.facts }
         ensures acted { self.new.facts
             ≡ acted parts.now cpu.0 act result.reply self.old.facts }
         ensures room { self.old.room ≤ self.new.room + 1 }
     {
-        let reply = match act {
-            Act::Do(op) => return self.operate(parts, cpu, op),
-            Act::Tick => Reply::Done,
+        match act {
+            Act::Do(op) => self.operate(parts, cpu, op),
+            Act::Tick => Answer::of(Reply::Done, Touched::NoCluster),
             Act::Irq => self.take_irq(parts, cpu),
             Act::Arrive(task) => self.arrive(parts, cpu, task),
-        };
-        Answer { reply, ended: None }
+        }
     }
 
     /// An act of the processor, once the clock has moved.
@@ -616,11 +609,12 @@ impl Facts {
         ensures ended { result.ended
             ≡ ended_now parts.now cpu.0 act result.reply self.old.facts }
         ensures acted { HasEnded parts.now
+            (touched_in parts.now cpu.0 act result.reply self.old.facts)
             (acted parts.now cpu.0 act result.reply self.old.facts) self.new.facts }
         ensures room { self.old.room ≤ self.new.room + 1 }
     {
         let answer = self.play(parts, cpu, act);
-        self.end_move(parts);
+        self.end(parts, answer.touched);
         answer
     }
 }

@@ -10,6 +10,7 @@ mod ranks;
 mod room;
 mod rows;
 mod situations;
+mod touched;
 
 pub use afresh::Afresh;
 

@@ -9,7 +9,7 @@ use Rattle.rt_model.specs.Past.{Clock}
 use Rattle.rt_model.specs.Steps.{IsStepOf}
 use Rattle.rt_model.proofs.Steps.{after-acted, reply_to-lem}
 use Rattle.rank_afresh.specs.contracts.afresh.Afresh.{the_view}
-use Rattle.rank_afresh.specs.Facts.{CanAct, Facts, HasEnded, IsPlainAct, MayAct, acted, ended_now, reply_in}
+use Rattle.rank_afresh.specs.Facts.{CanAct, Facts, HasEnded, IsPlainAct, MayAct, acted, ended_now, reply_in, touched_in}
 use Rattle.rank_afresh.specs.Standing.{IsAt, Standing, group_of}
 use Rattle.rank_afresh.proofs.StandingActs.{at-acts, can_act, fit-acts, may_act, plain, reply-is, step-inside}
 use Rattle.rank_afresh.proofs.afresh.Afresh.act.Goals as goal
@@ -37,9 +37,10 @@ act-answer-requires-clause-sems c =
     (may_act (the_view c.self.inside) _ c.self.invariant _ at c.args.step.cpu.0 c.args.step.act (step-inside _ _ _ step.processor step.act) step.act)
 
 -- what came of the act, by the group's own setup and the reply that is read off its facts
-acted_here : (p' p : Parts) (q : ℕ) (act : Act) (reply : Reply) (f f' : Facts) → p' ≡ p → reply ≡ reply_in p' q act f → HasEnded p' (acted p' q act reply f) f' → HasEnded p (acted p q act (reply_in p q act f) f) f'
+acted_here : (p' p : Parts) (q : ℕ) (act : Act) (reply : Reply) (f f' : Facts) → p' ≡ p → reply ≡ reply_in p' q act f → HasEnded p' (touched_in p' q act reply f) (acted p' q act reply f) f'
+    → HasEnded p (touched_in p q act (reply_in p q act f) f) (acted p q act (reply_in p q act f) f) f'
 acted_here p' p q act reply f f' same read ended =
-    subst (λ (r : Reply). HasEnded p (acted p q act r f) f') (read ∙ ap (λ (x : Parts). reply_in x q act f) same) (subst (λ (x : Parts). HasEnded x (acted x q act reply f) f') same ended)
+    subst (λ (r : Reply). HasEnded p (touched_in p q act r f) (acted p q act r f) f') (read ∙ ap (λ (x : Parts). reply_in x q act f) same) (subst (λ (x : Parts). HasEnded x (touched_in x q act reply f) (acted x q act reply f) f') same ended)
 
 ended_here : (p' p : Parts) (q : ℕ) (act : Act) (reply : Reply) (f : Facts) (ended : Option (TaskNo × Bool)) → p' ≡ p → reply ≡ reply_in p' q act f → ended ≡ ended_now p' q act reply f
     → ended ≡ ended_now p q act (reply_in p q act f) f

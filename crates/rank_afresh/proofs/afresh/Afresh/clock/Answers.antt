@@ -1,6 +1,7 @@
 use Rattle.std.proofs.Common.{◌≡◌, ℕ, subst, sym}
 use Rattle.rt_task.specs.declared.Parts.{Parts}
 use Rattle.rank_afresh.specs.contracts.afresh.Afresh.{the_view}
+use Rattle.rank_afresh.specs.declared.touched.Touched.TheVariants.{DueClusters}
 use Rattle.rank_afresh.specs.Facts.{CanFollow, Facts, HasEnded, clocked}
 use Rattle.rank_afresh.specs.Standing.{IsAt, IsFit, Standing, group_of}
 use Rattle.rank_afresh.proofs.Standings.{at-moved, can_follow, fit-moved}
@@ -13,8 +14,8 @@ pub move_clock-requires-clause-resvs : goal.move_clock-requires-clause-resvs
 move_clock-requires-clause-resvs c = c.self.invariant.resvs_clock
 
 -- by the group's own setup
-ended-here : (p p' : Parts) (tick : ℕ) (f new : Facts) → p' ≡ p → HasEnded p' (clocked p' tick f) new → HasEnded p (clocked p tick f) new
-ended-here p p' tick f new same ended = subst (λ (x : Parts). HasEnded x (clocked x tick f) new) same ended
+ended-here : (p p' : Parts) (tick : ℕ) (f new : Facts) → p' ≡ p → HasEnded p' DueClusters (clocked tick f) new → HasEnded p DueClusters (clocked tick f) new
+ended-here p p' tick f new same ended = subst (λ (x : Parts). HasEnded x DueClusters (clocked tick f) new) same ended
 
 pub invariant_of-self : goal.invariant_of-self
 invariant_of-self c =

@@ -3,7 +3,7 @@ use Rattle.rank_afresh.specs.Facts.{CanFollow}
 use Rattle.rank_afresh.proofs.Moving.{follow-acted}
 use Rattle.rank_afresh.proofs.facts.Facts.act.Goals as goal
 
-pub end_move-requires : goal.end_move-requires
-end_move-requires c = λ reserved.
+pub end-requires : goal.end-requires
+end-requires c =
     subst (CanFollow c.args.parts.now) (sym c.play-answer.ensures.acted)
-    (follow-acted c.args.parts.now c.args.cpu.0 c.args.act c.play-answer.result.reply c.args.self.now.facts c.requires.act c.requires.plain reserved)
+    (follow-acted c.args.parts.now c.args.cpu.0 c.args.act c.play-answer.result.reply c.args.self.now.facts c.requires.act c.requires.plain)

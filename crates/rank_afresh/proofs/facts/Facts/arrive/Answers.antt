@@ -8,6 +8,7 @@ use Rattle.rt_history.specs.declared.Reply.{Reply}
 use Rattle.rt_history.specs.declared.Reply.TheVariants as replies
 use Rattle.rt_model.specs.Group.{no_task}
 use Rattle.group_jobs.specs.GroupJobs.{task_in}
+use Rattle.rank_afresh.specs.declared.facts.Answer.{Answer}
 use Rattle.rank_afresh.specs.Facts.{CanAct, CanFollow, Facts, WithRoom, acted, based}
 use Rattle.rank_afresh.proofs.Bases.{base-inside}
 use Rattle.rank_afresh.proofs.Moving.{arrived-facts, follow-arrival}
@@ -27,18 +28,13 @@ tell_base-requires-clause-read c = (follow-then ((goal.at.tell_base-requires-cla
 pub tell_base-requires-clause-room : goal.tell_base-requires-clause-room
 tell_base-requires-clause-room c = base-inside _ c.args.task.0 ((can-here ((goal.at.tell_base-requires-clause-room c).After-arrive)).keys c.args.task.0 c.requires.task.0 c.requires.task.1)
 
-pub place-requires-clause-follow : goal.place-requires-clause-follow
-place-requires-clause-follow c = subst (λ (w : WithRoom). CanFollow c.args.parts.now w.facts) (sym c.tell_base.ensures) (follow-then ((goal.at.place-requires-clause-follow c).After-arrive))
-
-pub returns-then-eq-clause-acted : goal.returns-then-eq-clause-acted
-returns-then-eq-clause-acted c =
+pub returns-clause-acted : goal.returns-clause-acted
+returns-clause-acted c =
     let p : Parts = c.args.parts.now in
     let t : TaskNo = c.args.task in
     let here : Facts = record { kept = c.self.inside.jobs.kept; sems = c.self.inside.sems; resvs = c.self.inside.resvs; clusters = c.self.inside.clusters.items } in
     let shown : here ≡ c.args.self.now.facts = ap (λ (w : WithRoom). w.facts) c.self.view_is in
     let done : c.arrival_reply-reply.result ≡ replies.Done = search rules in
-    let all : c.as_slice-tasks.result.now ≡ p.tasks = c.as_slice-tasks.ensures in
-    let row : get_or c.as_slice-tasks.result.now (t.0 - 1) c.index-tasks-task.result ≡ task_in p.tasks t.0 = get_or_default c.as_slice-tasks.result.now (t.0 - 1) c.index-tasks-task.result no_task (omega (arith, c.requires.task.0, c.requires.task.1, ap length all)) ∙ ap (λ (us : List Task). task_in us t.0) all in
-    rw (c.place.ensures, c.tell_base.ensures) (arrived-facts p c.args.cpu.0 t here c.arrive.new.self.kept _ _ c.arrive.ensures.kept refl row)
+    rw c.tell_base.ensures (arrived-facts p c.args.cpu.0 t here c.arrive.new.self.kept _ c.arrive.ensures.kept refl)
     ∙ ap (λ (f : Facts). acted p c.args.cpu.0 (acts.Arrive t) replies.Done f) shown
-    ∙ ap (λ (r : Reply). acted p c.args.cpu.0 (acts.Arrive t) r c.args.self.now.facts) (sym done)
+    ∙ ap (λ (r : Reply). acted p c.args.cpu.0 (acts.Arrive t) r c.args.self.now.facts) (sym (ap (λ (a : Answer). a.reply) c.of-2.ensures ∙ done))

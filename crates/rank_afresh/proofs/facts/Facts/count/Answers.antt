@@ -8,7 +8,7 @@ use Rattle.rank_afresh.proofs.Moving.{follow-operation}
 use Rattle.rank_afresh.proofs.facts.Facts.count.Goals as goal
 use Rattle.rank_afresh.proofs.facts.Facts.count.Goals.{After-operate-ends}
 
--- what is kept once the operation is counted, and what placing rests on then
+-- what is kept once the operation is counted, and what placing rests on from then on
 kept-then : (c : After-operate-ends) → c.operate-ends.new.self.kept ≡ has_operated c.args.parts.now.tasks c.args.cpu.0 c.args.task.0 c.args.op c.args.reply c.holds_none-none.result c.self.inside.jobs.kept
 kept-then c = ap (λ (j : GroupJobs). j.kept) c.operate-ends.ensures.kept ∙ ap (λ (us : List Task). has_operated us c.args.cpu.0 c.args.task.0 c.args.op c.args.reply c.holds_none-none.result c.self.inside.jobs.kept) c.as_slice-tasks.ensures
 
@@ -28,7 +28,3 @@ pub tell_base-requires-clause-room : goal.tell_base-requires-clause-room
 tell_base-requires-clause-room c =
     let few : length c.args.parts.now.tasks ≡ length c.args.self.now.facts.kept.jobs = c.requires.task.all in
     base-inside _ c.args.task.0 ((can-here ((goal.at.tell_base-requires-clause-room c).After-operate-ends)).keys c.args.task.0 c.requires.task.low (omega (arith, c.requires.task.high, few)))
-
-pub place_after-requires-clause-follow : goal.place_after-requires-clause-follow
-place_after-requires-clause-follow c =
-    subst (λ (w : WithRoom). CanFollow c.args.parts.now w.facts) (sym c.tell_base.ensures) (follow-then ((goal.at.place_after-requires-clause-follow c).After-operate-ends))

@@ -10,10 +10,11 @@ use Rattle.rt_groups.specs.Limits.{IsInLimits}
 use Rattle.group_facts.specs.Kept.{Kept}
 use Rattle.group_sems.specs.GroupSems.{GroupSems}
 use Rattle.group_sems.specs.contracts.GroupSems.{the_view}
+use Rattle.rank_afresh.specs.declared.touched.Touched.TheVariants.{AllClusters}
 use Rattle.rank_afresh.specs.Clusters.{ClusterFacts}
 use Rattle.group_resvs.specs.GroupResvs.{GroupResvs}
 use Rattle.group_resvs.specs.contracts.GroupResvs.{the_view as resvs_view}
-use Rattle.rank_afresh.specs.Facts.{CanFollow, Facts, IsEnded, WithRoom, all_based, at_opening, kept_at_opening, resvs_at_opening}
+use Rattle.rank_afresh.specs.Facts.{CanFollow, Facts, HasEnded, WithRoom, all_based, at_opening, kept_at_opening, resvs_at_opening}
 use Rattle.rank_afresh.proofs.Bases.{based-first, have-bases}
 use Rattle.rank_afresh.proofs.Fitting.{follow-opened, read-opened}
 use Rattle.rank_afresh.proofs.facts.Facts.with_parts.Goals as goal
@@ -58,4 +59,4 @@ end-requires c =
 pub returns-clause-ended : goal.returns-clause-ended
 returns-clause-ended c =
     let g : Group = record { setup = c.args.parts.now; number = c.args.group.0 } in
-    subst (λ (f : Facts). IsEnded c.args.parts.now f c.end.new.self.facts) (told-first ((goal.at.returns-clause-ended c).After-tell_bases) ∙ ap (at_opening g) c.sems.view_is) c.end.ensures.ended
+    subst (λ (f : Facts). HasEnded c.args.parts.now AllClusters f c.end.new.self.facts) (told-first ((goal.at.returns-clause-ended c).After-tell_bases) ∙ ap (at_opening g) c.sems.view_is) c.end.ensures.ended
