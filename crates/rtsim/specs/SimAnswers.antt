@@ -26,5 +26,5 @@ pub record SimAnswers (tools : List Tool) (source : Reading) (sink : Writing) (a
   pub no_memory : answer ≡ NoMemory → (sink.new ≡ sink.old) ⊎ WasCut tools source sink
   -- a line of a trace is never wrong
   pub not_invalid : (line : ℕ) → answer ≢ Invalid line
-  -- a set that is played, from a source and to a sink without fault, is played to its end, unless memory runs out
+  -- a valid set, from a source and to a sink without fault, is played to its end, unless memory runs out
   pub complete : CanPlay source.old.left → IsFaultless source sink → IsWell answer

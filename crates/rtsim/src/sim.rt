@@ -24,8 +24,8 @@ use trace_tools::TraceTool;
 /// `sim` reads a set, plays its steps in the given order or its turns, and writes the trace of the histories that come about, in
 /// format 2, with the count lines of the tools behind the line `end`. `check` reads a trace of either format, and writes one line:
 /// `valid` with the number of its entries, or `invalid` with the number of the first line that is wrong. `upgrade` reads a trace of
-/// either format too, and where it is valid writes the text in format 2 of its set and histories, through the line `end`. `load` with a
-/// number reads nothing, plays the set that is generated for the number, and writes what its histories come to and the tools' count
+/// either format too, and where it is valid writes the text in format 2 of its set and histories, with the count lines of the tools.
+/// `load` with a number reads nothing, plays the set that is generated for the number, and writes what its histories come to and the tools' count
 /// lines.
 ///
 /// Nothing is written before all input was read, nor where it is refused.

@@ -1,4 +1,4 @@
--- The lines of the groups of a set that is played, without the line `end`.
+-- The lines of the groups of a set, without the line `end`.
 use Rattle.std.specs.Prelude.{ℕ, ◌+◌, List, [], ◌∷◌, ◌++◌}
 use Rattle.rt_task.specs.declared.Parts.{Parts}
 use Rattle.rt_history.specs.declared.Entry.{Entry}

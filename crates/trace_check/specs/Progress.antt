@@ -36,7 +36,7 @@ pub record AreRight (p : Parts) (lines : List Line) (n : ℕ) (r : Progress) (op
   pub closed : (front : List (List Entry)) (es : List Entry) → histories ≡ front ++ es ∷ []
       → NoEntryFirst (wanted (record { group = group_with p (length front); entries = es }) ++ drop r.lines lines)
 
--- those of plays of all the groups of a set that is played
+-- those of plays of all the groups of a valid set
 pub record AreAllRight (p : Parts) (lines : List Line) (r : Progress) (opened seats : List Seat) : Type 0 where
   pub valid : IsValid p
   pub right : AreRight p lines (group_count p) r opened seats

@@ -17,7 +17,7 @@ use Rattle.trace_read.specs.declared.fault.TraceFault.{TraceFault}
 use Rattle.trace_read.specs.declared.fault.TraceFault.TheVariants as faults
 use Rattle.trace_laws.specs.ValidTexts.{IsTextOf, IsValidText, entry_count}
 
--- a valid set that is played so far, and plays of it
+-- a valid set, and plays of all its groups
 pub record ArePlayed (p : Parts) (hs : List (List Entry)) : Type 0 where
   pub valid : IsValid p
   pub plays : ArePlays p hs

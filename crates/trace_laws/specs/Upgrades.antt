@@ -19,7 +19,7 @@ pub record IsUpgradeOf (tools : List Tool) (text upgraded : List ℕ) : Type 0 w
   pub text_is : IsTextOf tools version setup histories text
   pub upgraded_is : upgraded ≡ counted_text Two tools setup histories
 
--- the text is a valid one of a valid set that is played so far
+-- the text is a valid one of a valid set
 pub record IsValidOf (tools : List Tool) (version : Version) (p : Parts) (text : List ℕ) (entries : ℕ) : Type 0 where
   pub valid : IsValid p
   pub is_text : IsValidText tools version p text entries
