@@ -1,5 +1,5 @@
 //! A processor that plays until no step of it is left.
-ghost use Rattle.std.specs.Prelude.{◌≡◌, false};
+ghost use Rattle.std.specs.Prelude.{◌≡◌, ◌+◌, false, if◌then◌else◌};
 ghost use Rattle.rt_plays.specs.Drives.{horizon};
 ghost use Rattle.rt_plays.specs.Plays.{IsBegunPlay};
 ghost use Rattle.tick_clock.specs.Clocks.{last_turn};
@@ -49,8 +49,8 @@ fn await_turn<R: Wait>(rt: &R, clock: &TickClock, turns: &mut ClockSeat, turn: u
     unreachable!()
 }
 
-/// Plays the processor's next turn: waits until the clock shows it, plays until it is over, and passes. It is `false`
-/// where no step is left: then there is no such turn.
+/// Plays the processor's next turn: waits until the clock shows it, plays until it is over, and passes. It is `true` where
+/// the seat then gave one turn more as over, and `false` where no step is left: then there is no such turn.
 pub fn play_turn<R: Wait, G: Gate>(
     rt: &R,
     site: &Site,
@@ -64,6 +64,7 @@ pub fn play_turn<R: Wait, G: Gate>(
     requires passes { turns.old.passes ≡ seat.old.turns }
     ensures over { result ≡ false → About site.now.cell (λ s.
         IsOver (group_at s) seat.old.cpu seat.new.seen × (seat.new.turns ≡ horizon s.setup.drive)) }
+    ensures turns { seat.new.turns ≡ (if result then seat.old.turns + 1 else seat.old.turns) }
     ensures passes { turns.new.passes ≡ seat.new.turns }
     ensures clock { turns.new.clock ≡ turns.old.clock }
     ensures later { StartsWith seat.new.seen seat.old.seen }

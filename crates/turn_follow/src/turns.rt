@@ -121,6 +121,7 @@ impl Turns {
         ensures refused { (g : Group) (past : Past) → AreAt g past self.old
             → next ≡ next_act g (situation g step.cpu.0 past) → result ≡ false
             → IsProcessorOf g step.cpu.0 → MayComeNext g past step → ⊥ }
+        ensures stays { result ≡ false → self.new ≡ self.old }
     {
         let Some(turn) = self.row(step.cpu) else {
             return false;

@@ -8,4 +8,4 @@ abbrev pub invariant-loop : goal.invariant-loop
 invariant-loop g l =
     (goal.iterator-loop g).can_next l.iterator' × (goal.iterator-loop g).is_finite l.iterator'
     × (l.seat.cell ≡ l.fn.seat.cell) × (l.seat.cpu ≡ l.fn.seat.cpu) × (l.seat.looks ≡ l.fn.seat.looks) × StartsWith l.seat.seen l.fn.seat.seen
-    × (l.turns.clock ≡ l.fn.turns.clock) × (l.turns.passes ≡ l.seat.turns) × (last_turn l.turns ≡ l.turns.passes)
+    × (l.turns.clock ≡ l.fn.turns.clock) × (l.turns.passes ≡ l.seat.turns) × (last_turn l.turns ≡ l.turns.passes) × (l.seat.turns ≡ l.fn.seat.turns)

@@ -13,6 +13,6 @@ invariant-loop-n l = record {
   room : length l.self-inside.clusters.items ≡ length l.initial.self-inside.clusters.items;
   done : (i : ℕ) → i < l.n → cluster_at l.self-inside.clusters.items i
       ≡ renewed l.parts l.initial.self-inside.jobs.kept l.initial.self-inside.sems l.initial.self-inside.resvs
-          (is_touched l.which l.initial.self-inside.jobs.kept.clock i (cluster_at l.initial.self-inside.clusters.items i)) (cluster_at l.initial.self-inside.clusters.items i);
+      (is_touched l.which l.initial.self-inside.jobs.kept.clock i (cluster_at l.initial.self-inside.clusters.items i)) (cluster_at l.initial.self-inside.clusters.items i);
   rest : (i : ℕ) → l.n ≤ i → cluster_at l.self-inside.clusters.items i ≡ cluster_at l.initial.self-inside.clusters.items i;
 }
