@@ -1,4 +1,4 @@
-//! Sets at each limit, which are played, and one beyond it, which are refused.
+//! Sets at their limits, which are played, and one beyond, which are refused.
 use super::{refused, run};
 use rt_fault::{Status, SureSink, SureSource};
 use rt_task::{Part, SetKind};
@@ -36,17 +36,20 @@ const ONE_CPU: &str = "{\"cpus\":1}";
 
 const NO_STEPS: &str = "\"steps\":[]";
 
-const SIZE: (SetKind, Part) = (SetKind::Size, Part::Whole);
+/// The kind and the part of a refusal.
+type Refusal = (SetKind, Part);
 
-/// A measure, those that are at a limit, those that are beyond it, and the refusal of these, at index 0.
-const LIMITS: [(Measure, &[u64], &[u64], (SetKind, Part)); 12] = [
-    (Measure::Clusters, &[64], &[65], SIZE),
-    (Measure::Cpus, &[32], &[33], SIZE),
-    (Measure::Tasks, &[1_024], &[1_025], SIZE),
-    (Measure::Sems, &[256], &[257], SIZE),
-    (Measure::Resvs, &[64], &[65], SIZE),
-    (Measure::Steps, &[1_000_000], &[1_000_001], SIZE),
-    (Measure::Horizon, &[55_555], &[55_556], SIZE),
+/// A measure, how much of it is at a limit and how much beyond, and how the latter is refused, at index 0.
+type Limit = (Measure, &'static [u64], &'static [u64], Refusal);
+
+const WHOLE_SIZE: Refusal = (SetKind::Size, Part::Whole);
+
+const LIMITS: [Limit; 10] = [
+    (Measure::Clusters, &[64], &[65], WHOLE_SIZE),
+    (Measure::Cpus, &[32], &[33], WHOLE_SIZE),
+    (Measure::Tasks, &[1_024], &[1_025], WHOLE_SIZE),
+    (Measure::Sems, &[256], &[257], WHOLE_SIZE),
+    (Measure::Resvs, &[64], &[65], WHOLE_SIZE),
     (Measure::Work, &[999], &[1_000], (SetKind::Size, Part::Task)),
     (
         Measure::Tick,
@@ -72,6 +75,12 @@ const LIMITS: [(Measure, &[u64], &[u64], (SetKind, Part)); 12] = [
         &[128],
         (SetKind::NotJson, Part::Whole),
     ),
+];
+
+/// Those of long runs.
+const LONG_LIMITS: [Limit; 2] = [
+    (Measure::Steps, &[1_000_000], &[1_000_001], WHOLE_SIZE),
+    (Measure::Horizon, &[55_555], &[55_556], WHOLE_SIZE),
 ];
 
 /// So many copies of a text, one after another.
@@ -216,7 +225,7 @@ fn set_with(alloc: Global, measure: Measure, count: u64) -> Result<String, Fail>
     }
 }
 
-/// What `sim` answers to such a set, and whether it writes.
+/// What `sim` answers to the set with so much of a measure, and whether it writes.
 fn answer_with(alloc: Global, measure: Measure, count: u64) -> Result<(Status, bool), Fail> {
     let text = set_with(alloc, measure, count)?;
     let mut src = SureSource::new(text.into_bytes());
@@ -225,22 +234,38 @@ fn answer_with(alloc: Global, measure: Measure, count: u64) -> Result<(Status, b
     Ok((status, out.beyond() > 0))
 }
 
-#[test]
-fn plays_sets_at_each_limit_and_none_beyond(rt: HostRuntime) -> Result<(), Fail> {
+/// Plays a set at a limit, and has one beyond it refused.
+fn try_limit(rt: &HostRuntime, limit: Limit) -> Result<(), Fail> {
     let alloc = rt.alloc();
-    for (measure, most, beyond, (kind, part)) in LIMITS {
-        for count in most {
-            let answer = answer_with(alloc, measure, *count)?;
-            assert_eq!(rt; answer, (Status::Ok, true), "{measure:?} {count}");
-        }
-        for count in beyond {
-            let answer = answer_with(alloc, measure, *count)?;
-            assert_eq!(rt;
-                answer,
-                (refused(kind, part, 0), false),
-                "{measure:?} {count}"
-            );
-        }
+    let (measure, most, beyond, (kind, part)) = limit;
+    for count in most {
+        let answer = answer_with(alloc, measure, *count)?;
+        assert_eq!(rt; answer, (Status::Ok, true), "{measure:?} {count}");
+    }
+    for count in beyond {
+        let answer = answer_with(alloc, measure, *count)?;
+        assert_eq!(rt;
+            answer,
+            (refused(kind, part, 0), false),
+            "{measure:?} {count}"
+        );
+    }
+    Ok(())
+}
+
+#[test]
+fn plays_sets_at_their_limits_and_none_beyond(rt: HostRuntime) -> Result<(), Fail> {
+    for limit in LIMITS {
+        try_limit(&rt, limit)?;
+    }
+    Ok(())
+}
+
+/// It takes some seconds. `rt try --test` needs `--seconds 900` for it.
+#[test]
+fn plays_the_longest_sets_and_none_beyond(rt: HostRuntime) -> Result<(), Fail> {
+    for limit in LONG_LIMITS {
+        try_limit(&rt, limit)?;
     }
     Ok(())
 }
