@@ -7,10 +7,7 @@ use std::test::Fail;
 /// The write calls of a run over the set: one for each line.
 const WRITES: u32 = 12;
 
-/// The bytes that a read gives at most.
-const PIECE: u32 = 16;
-
-/// The read calls of a run over the set: its 242 bytes come in 16 pieces, and one more call finds the end.
+/// The read calls of a run over the set, 16 bytes a call: 16 of them give its 242 bytes, and one more finds the end.
 const READS: u32 = 17;
 
 fn whole_output(alloc: Global) -> Result<String, Fail> {
@@ -45,7 +42,7 @@ fn stops_at_write(alloc: Global, call: u32, ends: Status) -> Result<bool, Fail> 
 /// Whether `sim` ends so where this read call fails, and writes this text.
 fn stops_at_read(alloc: Global, call: u32, ends: Status, wanted: &str) -> Result<bool, Fail> {
     let bytes = FIRST_PATH.as_bytes().to_vec(alloc)?;
-    let mut src = MemSource::new(bytes, PIECE, [call].to_vec(alloc)?);
+    let mut src = MemSource::new(bytes, 16, [call].to_vec(alloc)?);
     let mut out = SureSink::new(alloc, 4096)?;
     let status = run(alloc, &["sim"], &mut src, &mut out)?;
     Ok(status == ends && out.as_slice() == wanted.as_bytes())

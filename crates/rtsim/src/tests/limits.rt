@@ -3,6 +3,7 @@ use super::{refused, run};
 use rt_fault::{Status, SureSink, SureSource};
 use rt_task::{Part, SetKind};
 use std::alloc::Global;
+use std::process::Abort;
 use std::test::Fail;
 
 /// What a set has so much of. Else it has one cluster of one processor, no task and no steps.
@@ -235,8 +236,7 @@ fn answer_with(alloc: Global, measure: Measure, count: u64) -> Result<(Status, b
 }
 
 /// Plays a set at a limit, and has one beyond it refused.
-fn try_limit(rt: &HostRuntime, limit: Limit) -> Result<(), Fail> {
-    let alloc = rt.alloc();
+fn try_limit(rt: &impl Abort, alloc: Global, limit: Limit) -> Result<(), Fail> {
     let (measure, most, beyond, (kind, part)) = limit;
     for count in most {
         let answer = answer_with(alloc, measure, *count)?;
@@ -256,7 +256,7 @@ fn try_limit(rt: &HostRuntime, limit: Limit) -> Result<(), Fail> {
 #[test]
 fn plays_sets_at_their_limits_and_none_beyond(rt: HostRuntime) -> Result<(), Fail> {
     for limit in LIMITS {
-        try_limit(&rt, limit)?;
+        try_limit(&rt, rt.alloc(), limit)?;
     }
     Ok(())
 }
@@ -265,7 +265,7 @@ fn plays_sets_at_their_limits_and_none_beyond(rt: HostRuntime) -> Result<(), Fai
 #[test]
 fn plays_the_longest_sets_and_none_beyond(rt: HostRuntime) -> Result<(), Fail> {
     for limit in LONG_LIMITS {
-        try_limit(&rt, limit)?;
+        try_limit(&rt, rt.alloc(), limit)?;
     }
     Ok(())
 }
