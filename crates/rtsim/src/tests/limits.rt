@@ -261,7 +261,7 @@ fn plays_sets_at_their_limits_and_none_beyond(rt: HostRuntime) -> Result<(), Fai
     Ok(())
 }
 
-/// It takes some seconds. `rt try --test` needs `--seconds 900` for it.
+/// Under `rt try --test` this takes minutes, and needs more than its 60 seconds: `--seconds` raises them.
 #[test]
 fn plays_the_longest_sets_and_none_beyond(rt: HostRuntime) -> Result<(), Fail> {
     for limit in LONG_LIMITS {
