@@ -1,6 +1,10 @@
 //! The smallest worked examples, a set of two groups, whose texts are the published ones, tools of a stranger, and each
-//! answer of the commands with its cause.
+//! answer of the commands with its cause. Below it calls that fail, damaged traces, and sets at their limits.
 ghost use Rattle.rtsim.specs.Tests.{strange};
+
+mod faults;
+mod limits;
+mod traces;
 
 use crate::{USAGE, sim};
 use rt_base::MOST_SET_BYTES;
@@ -385,13 +389,14 @@ fn plays_with_tools_of_a_stranger(rt: HostRuntime) -> Result<(), Fail> {
 #[test]
 fn plays_with_no_tools(rt: HostRuntime) -> Result<(), Fail> {
     let alloc = rt.alloc();
-    let mut src = SureSource::new(FIRST_PATH.as_bytes().to_vec(alloc)?);
-    let mut out = SureSink::new(alloc, 4096)?;
+    let mut src = SureSource::new(BOUND_REACHED.as_bytes().to_vec(alloc)?);
+    let mut out = SureSink::new(alloc, 8192)?;
     let words = words(alloc, &["sim"])?;
     let none = Vec::<Strange>::new(alloc);
     let status = sim(alloc, words.as_slice(), &mut src, &mut out, none);
     assert_eq!(rt; status, Status::Ok);
-    let wanted = format!(in alloc; "{FIRST_PATH_HEAD}{FIRST_PATH_REST}")?;
+    let head = "rtsched trace 2\nset ";
+    let wanted = format!(in alloc; "{head}{BOUND_REACHED}\n{BOUND_REACHED_REST}")?;
     assert_eq!(rt; out.as_slice(), wanted.as_bytes());
     Ok(())
 }
