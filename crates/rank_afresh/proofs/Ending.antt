@@ -1,6 +1,6 @@
 -- The end of a move: the clients that it touches are told, the reservations are settled, and the links follow.
-use Rattle.std.proofs.Common.{◌≡◌, inl, inr, ℕ, zero, suc, ◌+◌, ◌-◌, ◌<◌, ◌≤◌, Bool, true, false, not, ◌&&◌, ◌||◌, ◌==◌, List, [], ◌∷◌, length, refl, sym, ap, ◌∙◌, subst, arith, eqb-true}
-use Rattle.std.specs.Prelude.{if◌then◌else◌, is_some, Option}
+use Rattle.std.proofs.Common.{◌≡◌, inl, inr, ℕ, zero, suc, ◌+◌, ◌-◌, ◌<◌, ◌≤◌, Bool, true, false, ◌||◌, ◌==◌, List, [], ◌∷◌, length, refl, sym, ap, ◌∙◌, subst, arith, eqb-true}
+use Rattle.std.specs.Prelude.{if◌then◌else◌}
 use Rattle.std.specs.List.{list_any}
 use Rattle.rt_base.specs.declared.TheConstants.{MOST_STEPS}
 use Rattle.rt_plays.specs.Room.{processor_count}
@@ -8,8 +8,8 @@ use Rattle.rt_task.specs.Validity.{IsValid}
 use Rattle.rt_task.specs.declared.Parts.{Parts}
 use Rattle.rt_rules.specs.Numbers.{has}
 use Rattle.rt_rules.proofs.BoolLaws.{clash, or_true}
-use Rattle.rt_rules.proofs.MemberLaws.{equal_self, has-append, has-appended}
-use Rattle.rt_model.specs.Group.{Group, clusters, cpus, first_cpu, home, tasks, tasks_of}
+use Rattle.rt_rules.proofs.MemberLaws.{has-append, has-appended}
+use Rattle.rt_model.specs.Group.{Group, clusters, cpus, home, tasks, tasks_of}
 use Rattle.rt_model.specs.Links.{links, runs_of}
 use Rattle.rt_model.specs.Past.{Event, Past}
 use Rattle.rt_model.specs.Reachable.{IsReachable}

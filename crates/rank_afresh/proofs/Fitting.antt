@@ -1,7 +1,7 @@
 -- The clusters of the facts are those of the group: they can be placed, and stay so.
 use Rattle.std.proofs.Common.{◌≡◌, ℕ, ◌-◌, ◌<◌, ◌≤◌, Bool, true, false, List, length, map, get_or, refl, sym, ◌∙◌, subst, arith}
 use Rattle.std.specs.Prelude.{All, None, if◌then◌else◌, ◌||◌}
-use Rattle.std.proofs.lemmas.List.{get_or-map, get_or_default, length-map, length-replicate}
+use Rattle.std.proofs.lemmas.List.{get_or_default, length-map, length-replicate}
 use Rattle.rt_base.specs.declared.TheConstants.{MOST_STEPS}
 use Rattle.rt_task.specs.declared.Parts.{Parts}
 use Rattle.rt_rules.specs.Numbers.{has, numbers_from}
@@ -67,9 +67,6 @@ places-of g k cs count room are = λ i d inside.
     let low : i < length g.setup.clusters = omega (arith, inside, count) in
     let same : get_or cs i no_facts ≡ get_or cs i d = get_or_default cs i no_facts d inside in
     subst (CanPlace g.setup k) same (fits-place g i (get_or cs i no_facts) k k (are i low) low (omega (arith, room)))
-
-pub at-each : (f : ClusterFacts → ClusterFacts) (cs : List ClusterFacts) (c : ℕ) → c < length cs → cluster_at (map f cs) c ≡ f (cluster_at cs c)
-at-each f cs c inside = get_or-map f cs c no_facts no_facts inside
 
 -- ---- the opening
 

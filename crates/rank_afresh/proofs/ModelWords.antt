@@ -1,20 +1,15 @@
 -- The top of a cluster, what runs there and its links, read off what is kept of a group.
-use Rattle.std.proofs.Common.{◌≡◌, ℕ, Bool, true, false, ◌&&◌, ◌||◌, List, [], ◌∷◌, map, eqb-true, refl, sym, ap, ◌∙◌}
+use Rattle.std.proofs.Common.{◌≡◌, ℕ, Bool, true, false, ◌||◌, List, [], ◌∷◌, map, eqb-true, refl, sym, ap, ◌∙◌}
 use Rattle.std.specs.Prelude.{flat_map, is_none, is_some, not, ◌==◌, None, Option, Some}
-use Rattle.rt_task.specs.declared.PluginKind.{PluginKind}
-use Rattle.rt_task.specs.declared.PluginKind.TheVariants as plugins
-use Rattle.rt_task.specs.RuleWords.{is_p_res}
 use Rattle.rt_task.specs.Validity.{IsValid}
 use Rattle.rt_rules.specs.Numbers.{has, numbers_from}
-use Rattle.rt_rules.proofs.BoolLaws.{and_true, or_true}
+use Rattle.rt_rules.proofs.BoolLaws.{or_true}
 use Rattle.rt_rules.proofs.MemberLaws.{equal_self, has-append}
 use Rattle.rt_rules.proofs.RankedByLaws.{ranked_by-same}
 use Rattle.rt_model.specs.BaseKeys.{base_key}
 use Rattle.rt_model.specs.EffectiveKeys.{effective_key}
 use Rattle.rt_model.specs.Holders.{awaits}
 use Rattle.rt_model.specs.Reachable.{IsReachable}
-use Rattle.rt_base.specs.declared.ResvNo.{ResvNo}
-use Rattle.rt_model.specs.Answers.{no_budget}
 use Rattle.rt_model.specs.Group.{Group, clusters, cpus, first_cpu, group_processors, processors, task, tasks, tasks_of}
 use Rattle.rt_model.specs.Links.{runs_of}
 use Rattle.rt_model.specs.Past.{Past}
@@ -23,8 +18,7 @@ use Rattle.rt_model.specs.Tops.{eligible, is_served, ranking, top}
 use Rattle.rt_laws.proofs.GroupLaws.{tasks_of-home}
 use Rattle.group_facts.specs.Facts.{CpuFacts}
 use Rattle.group_facts.specs.Kept.{IsKept, Kept, cpu_of, job_of}
-use Rattle.group_facts.specs.Words.{AreRead, is_ready}
-use Rattle.group_jobs.specs.GroupJobs.{task_in}
+use Rattle.group_facts.specs.Words.{AreRead}
 use Rattle.group_facts.proofs.KeptMoves.{task-range, words_of_kept}
 use Rattle.sem_table.specs.Told.{awaits_of}
 use Rattle.group_sems.specs.GroupSems.{GroupSems}
@@ -34,7 +28,7 @@ use Rattle.group_sem_laws.proofs.Reading.{holding_is_read}
 use Rattle.resv_laws.specs.Kept.{ready_release}
 use Rattle.group_resvs.specs.GroupResvs as group_resvs
 use Rattle.group_resvs.specs.GroupResvs.{GroupResvs, is_served_by, lacks_budget_of}
-use Rattle.group_resvs.specs.Kept.{AreNone, KeepsResvs}
+use Rattle.group_resvs.specs.Kept.{KeepsResvs}
 use Rattle.group_resvs.specs.Laws.{IsRead}
 use Rattle.group_resvs.proofs.KeptLaws.{resvs_are_read}
 use Rattle.rank_afresh.specs.Facts.{ready_now}

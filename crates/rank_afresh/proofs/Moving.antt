@@ -1,5 +1,5 @@
 -- What placing afresh rests on after an arrival or an operation.
-use Rattle.std.proofs.Common.{◌≡◌, ℕ, ◌-◌, ◌≤◌, Bool, true, false, length, refl, sym, ap, subst, arith, length-set}
+use Rattle.std.proofs.Common.{◌≡◌, ℕ, ◌-◌, ◌≤◌, Bool, true, false, length, refl, arith, length-set}
 use Rattle.rt_base.specs.declared.TaskNo.{TaskNo}
 use Rattle.rt_base.specs.declared.TheConstants.{MOST_STEPS}
 use Rattle.rt_task.specs.declared.Act.{Act}
@@ -7,13 +7,12 @@ use Rattle.rt_task.specs.declared.Act.TheVariants as acts
 use Rattle.rt_task.specs.declared.Op.{Op}
 use Rattle.rt_task.specs.declared.Parts.{Parts}
 use Rattle.rt_model.specs.Past.{accepted}
-use Rattle.std.specs.Prelude.{All, Option, None, Some, if◌then◌else◌}
+use Rattle.std.specs.Prelude.{Option, None, Some, if◌then◌else◌}
 use Rattle.rt_history.specs.declared.Reply.{Reply}
 use Rattle.rt_history.specs.declared.Reply.TheVariants as replies
 use Rattle.group_facts.specs.Kept.{Kept, cpu_of, has_arrived, has_operated, job_of}
 use Rattle.group_jobs.specs.GroupJobs.{task_in}
 use Rattle.group_sems.specs.GroupSems.{GroupSems}
-use Rattle.rank_afresh.specs.Clusters.{CanPlace}
 use Rattle.rank_afresh.specs.Ranks.{HaveBases}
 use Rattle.rank_afresh.specs.Facts.{CanAct, CanFollow, Facts, IsPlainAct, acted, asked_by, based, kept_after, none_after, retold, told_by}
 use Rattle.rank_afresh.proofs.Bases.{have-based, have-by}

@@ -3,7 +3,7 @@ use std::sync::atomic::{AtomicU64, Ordering};
 use std::thread;
 
 /// How often a thread looks whether the others have come.
-const MOST_LOOKS: u32 = 1_000_000;
+const MOST_LOOKS: u32 = 20_000;
 
 /// More than the number of threads that can meet.
 const CALLED_OFF: u64 = 1 << 32;

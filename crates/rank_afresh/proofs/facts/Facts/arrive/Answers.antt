@@ -1,13 +1,9 @@
-use Rattle.std.proofs.Common.{◌≡◌, ◌-◌, List, length, get_or, refl, sym, ap, ◌∙◌, subst, arith, rules}
-use Rattle.std.proofs.lemmas.List.{get_or_default}
+use Rattle.std.proofs.Common.{◌≡◌, refl, sym, ap, ◌∙◌, subst, rules}
 use Rattle.rt_base.specs.declared.TaskNo.{TaskNo}
 use Rattle.rt_task.specs.declared.Act.TheVariants as acts
 use Rattle.rt_task.specs.declared.Parts.{Parts}
-use Rattle.rt_task.specs.declared.Task.{Task}
 use Rattle.rt_history.specs.declared.Reply.{Reply}
 use Rattle.rt_history.specs.declared.Reply.TheVariants as replies
-use Rattle.rt_model.specs.Group.{no_task}
-use Rattle.group_jobs.specs.GroupJobs.{task_in}
 use Rattle.rank_afresh.specs.declared.facts.Answer.{Answer}
 use Rattle.rank_afresh.specs.Facts.{CanAct, CanFollow, Facts, WithRoom, acted, based}
 use Rattle.rank_afresh.proofs.Bases.{base-inside}
