@@ -45,12 +45,14 @@ type Limit = (Measure, &'static [u64], &'static [u64], Refusal);
 
 const WHOLE_SIZE: Refusal = (SetKind::Size, Part::Whole);
 
-const LIMITS: [Limit; 10] = [
+const LIMITS: [Limit; 12] = [
     (Measure::Clusters, &[64], &[65], WHOLE_SIZE),
     (Measure::Cpus, &[32], &[33], WHOLE_SIZE),
     (Measure::Tasks, &[1_024], &[1_025], WHOLE_SIZE),
     (Measure::Sems, &[256], &[257], WHOLE_SIZE),
     (Measure::Resvs, &[64], &[65], WHOLE_SIZE),
+    (Measure::Steps, &[1_000_000], &[1_000_001], WHOLE_SIZE),
+    (Measure::Horizon, &[55_555], &[55_556], WHOLE_SIZE),
     (Measure::Work, &[999], &[1_000], (SetKind::Size, Part::Task)),
     (
         Measure::Tick,
@@ -76,12 +78,6 @@ const LIMITS: [Limit; 10] = [
         &[128],
         (SetKind::NotJson, Part::Whole),
     ),
-];
-
-/// Those of long runs.
-const LONG_LIMITS: [Limit; 2] = [
-    (Measure::Steps, &[1_000_000], &[1_000_001], WHOLE_SIZE),
-    (Measure::Horizon, &[55_555], &[55_556], WHOLE_SIZE),
 ];
 
 /// So many copies of a text, one after another.
@@ -256,15 +252,6 @@ fn try_limit(rt: &impl Abort, alloc: Global, limit: Limit) -> Result<(), Fail> {
 #[test]
 fn plays_sets_at_their_limits_and_none_beyond(rt: HostRuntime) -> Result<(), Fail> {
     for limit in LIMITS {
-        try_limit(&rt, rt.alloc(), limit)?;
-    }
-    Ok(())
-}
-
-/// Under `rt try --test` this takes minutes, and needs more than its 60 seconds: `--seconds` raises them.
-#[test]
-fn plays_the_longest_sets_and_none_beyond(rt: HostRuntime) -> Result<(), Fail> {
-    for limit in LONG_LIMITS {
         try_limit(&rt, rt.alloc(), limit)?;
     }
     Ok(())
