@@ -1,5 +1,6 @@
 pub mod ArenaLaws
 pub mod RowLaws
+pub mod KeyedLaws
 pub mod HeapLaws
 pub mod AheadLaws
 pub mod SiftLaws

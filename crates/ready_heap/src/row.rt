@@ -13,18 +13,21 @@ use std::marker::Model;
 pub(crate) struct TaskRow {
     arena: Arena,
     tasks: Vec<TaskNo>,
+    // Beside each task its key, so that a comparison looks at no node.
+    keys: Vec<Key>,
 }
 
 impl Model for TaskRow {
     ghost use Rattle.std.specs.Prelude.{vec_capacity};
     ghost use Rattle.rt_base.specs.TaskNos.{numbers};
-    ghost use Rattle.ready_heap.specs.Row.{keys_in, IsPlaced, Row};
+    ghost use Rattle.ready_heap.specs.Row.{keys_in, IsKeyed, IsPlaced, Row};
 
     ghost Value = { Row };
 
     ghost view = { λ a. record { keys = keys_in a.arena; tasks = numbers a.tasks.items } };
 
-    ghost invariant = { λ a. IsPlaced a.arena (numbers a.tasks.items) (vec_capacity a.tasks) };
+    ghost invariant = { λ a. IsPlaced a.arena (numbers a.tasks.items) (vec_capacity a.tasks)
+        × IsKeyed a.arena (numbers a.tasks.items) a.keys.items (vec_capacity a.keys) };
 }
 
 impl TaskRow {
@@ -35,7 +38,10 @@ impl TaskRow {
         let Ok(tasks) = Vec::with_capacity(alloc, room as usize) else {
             return Err(NoMemory);
         };
-        Ok(TaskRow { arena, tasks })
+        let Ok(keys) = Vec::with_capacity(alloc, room as usize) else {
+            return Err(NoMemory);
+        };
+        Ok(TaskRow { arena, tasks, keys })
     }
 
     pub(crate) fn len(&self) -> usize
@@ -59,10 +65,7 @@ impl TaskRow {
         requires { place < length self.now.tasks }
         ensures { key_at self.now.keys (task_at self.now place) ≡ Some result }
     {
-        match self.arena.get(self.tasks[place]) {
-            Some(node) => node.key,
-            None => unreachable!(),
-        }
+        self.keys[place]
     }
 
     /// The place of a task, if it is in the row.
@@ -89,6 +92,7 @@ impl TaskRow {
         let place = self.tasks.len();
         self.arena.insert(task, Node { key, place });
         self.tasks.push_reserved(task);
+        self.keys.push_reserved(key);
     }
 
     /// Swaps the tasks of two places.
@@ -102,6 +106,10 @@ impl TaskRow {
         let b = self.tasks[j];
         self.tasks[i] = b;
         self.tasks[j] = a;
+        let x = self.keys[i];
+        let y = self.keys[j];
+        self.keys[i] = y;
+        self.keys[j] = x;
         self.arena.move_to(a, j);
         self.arena.move_to(b, i);
     }
@@ -112,18 +120,22 @@ impl TaskRow {
         ensures popped { IsPopped self.old self.new }
         ensures sound { IsRow self.new }
     {
-        if let Some(task) = self.tasks.pop() {
-            self.arena.remove(task);
-        }
+        let (Some(task), Some(_)) = (self.tasks.pop(), self.keys.pop()) else {
+            unreachable!();
+        };
+        self.arena.remove(task);
     }
 
-    /// Gives a task that is in another key.
-    pub(crate) fn rekey(&mut self, task: TaskNo, key: Key)
-        requires { IsSome (key_at self.old.keys task.0) }
-        ensures rekeyed { self.new ≡
-            record self.old { keys = slice_set self.old.keys task.0 (Some key) } }
+    /// Gives the task at a place another key.
+    pub(crate) fn rekey(&mut self, place: usize, key: Key)
+        requires { place < length self.old.tasks }
+        ensures rekeyed { self.new ≡ record self.old {
+          keys = slice_set self.old.keys (task_at self.old place) (Some key);
+        } }
         ensures sound { IsRow self.new }
     {
+        let task = self.tasks[place];
+        self.keys[place] = key;
         self.arena.rekey(task, key);
     }
 }

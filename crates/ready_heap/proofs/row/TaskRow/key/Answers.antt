@@ -1,22 +1,15 @@
-use Rattle.std.proofs.Common.{◌≡◌, ◌<◌, None, Some, length, ap, ◌∙◌}
-use Rattle.std.specs.Prelude.{option_map}
+use Rattle.std.proofs.Common.{◌<◌, Some, length, ap, ◌∙◌, arith}
 use Rattle.rt_base.specs.TaskNos.{numbers}
-use Rattle.ready_heap.specs.declared.arena.Node.{Node}
-use Rattle.ready_heap.specs.Row.{place_in}
-use Rattle.ready_heap.proofs.RowLaws.{in_list, read_number, length-numbers}
+use Rattle.ready_heap.proofs.KeyedLaws.{read_key}
 use Rattle.ready_heap.proofs.row.TaskRow.key.Goals as goal
 
--- the node of the task at the place tells the place
-told : (c : goal.After-get-arg-1) → place_in c.self.inside.arena c.index.result.now.0 ≡ Some c.args.place
-told c =
+pub index-requires : goal.index-requires
+index-requires c =
     let at : c.args.place < length (numbers c.self.inside.tasks.items) = rw (← c.self.view_is) at c.requires in
-    ap (place_in c.self.inside.arena) (read_number _ _ _ (rw length-numbers at at) c.index.ensures) ∙ c.self.invariant.tells.told c.args.place at
+    omega (arith, at, c.self.invariant.1.same_length, c.self.inside.keys.ok.0)
 
-pub get-requires : goal.get-requires
-get-requires c = in_list c.self.inside.arena c.index.result.now.0 c.args.place (told c)
-
-pub unreachable-requires : goal.unreachable-requires
-unreachable-requires c =
+pub returns : goal.returns
+returns c =
     let at : c.args.place < length (numbers c.self.inside.tasks.items) = rw (← c.self.view_is) at c.requires in
-    let told : place_in c.self.inside.arena c.index.result.now.0 ≡ Some c.args.place = ap (place_in c.self.inside.arena) (read_number _ _ _ (rw length-numbers at at) c.index.ensures) ∙ c.self.invariant.tells.told c.args.place at in
-    let clash : None ≡ Some c.args.place = ap (option_map (λ (n : Node). n.place)) c.in-None.ensures ∙ told in cc
+    let beside = read_key c.self.inside.keys.items c.args.place c.index.result.now (omega (arith, at, c.self.invariant.1.same_length)) c.index.ensures in
+    rw (← c.self.view_is) (c.self.invariant.1.each c.args.place at ∙ ap (λ k. Some k) beside)

@@ -1,17 +1,32 @@
-use Rattle.std.proofs.Common.{◌≡◌, ◌∙◌, ap, [], ◌∷◌, ◌++◌}
+use Rattle.std.proofs.Common.{◌≡◌, ◌∙◌, ap, subst, [], ◌∷◌, ◌++◌}
+use Rattle.std.specs.Prelude.{vec_capacity}
 use Rattle.rt_base.specs.TaskNos.{numbers}
-use Rattle.ready_heap.proofs.RowLaws.{row-placed, placed-pop, popped-lists, numbers-append}
+use Rattle.ready_heap.specs.Row.{IsKeyed}
+use Rattle.ready_heap.proofs.KeyedLaws.{keyed-pop}
+use Rattle.ready_heap.proofs.RowLaws.{row-placed, placed-pop, last_inside, popped-lists, numbers-append}
 use Rattle.ready_heap.proofs.row.TaskRow.pop.Goals as goal
+use Rattle.ready_heap.proofs.row.TaskRow.pop.Goals.{In-Some-Some}
 
 -- the tasks before, and the last
-items : (c : goal.After-remove) → numbers c.self.inside.tasks.items ≡ numbers c.pop.new.self.items ++ c.in-Some.task.0 ∷ []
-items c = ap numbers c.in-Some.ensures.items ∙ numbers-append _ _
+items : (c : In-Some-Some) → numbers c.self.inside.tasks.items ≡ numbers c.pop.new.self.items ++ c.in-Some-Some.task.0 ∷ []
+items c = ap numbers c.in-Some-Some.ensures.items ∙ numbers-append _ _
+
+pub remove-requires : goal.remove-requires
+remove-requires c =
+    let placed = rw (items (goal.at.remove-requires c).In-Some-Some) at c.self.invariant.0 in
+    last_inside _ _ _ _ placed
 
 pub invariant_of-self : goal.invariant_of-self
-invariant_of-self c = rw (c.remove.ensures, c.in-Some.ensures.capacity) (placed-pop _ _ _ _ (rw (items c) at c.self.invariant))
+invariant_of-self c =
+    let is = items (goal.at.invariant_of-self c).In-Some-Some in
+    let placed = rw is at c.self.invariant.0 in
+    let keyed = subst (λ ks. IsKeyed c.self.inside.arena (numbers c.pop.new.self.items ++ c.in-Some-Some.task.0 ∷ []) ks (vec_capacity c.self.inside.keys)) c.in-Some-Some.ensures'.items (rw is at c.self.invariant.1) in (
+      rw (c.remove.ensures, c.in-Some-Some.ensures.capacity) (placed-pop _ _ _ _ placed),
+      rw (c.remove.ensures, c.in-Some-Some.ensures'.capacity) (keyed-pop _ _ _ _ _ _ _ placed keyed),
+    )
 
-pub returns-in-Some-clause-popped : goal.returns-in-Some-clause-popped
-returns-in-Some-clause-popped c = rw (← c.self.view_is, items c, c.remove.ensures) (popped-lists _ _ _)
+pub returns-clause-popped : goal.returns-clause-popped
+returns-clause-popped c = rw (← c.self.view_is, items (goal.at.returns-clause-popped c).In-Some-Some, c.remove.ensures) (popped-lists _ _ _)
 
-pub returns-in-Some-clause-sound : goal.returns-in-Some-clause-sound
-returns-in-Some-clause-sound c = row-placed _ _ _ (invariant_of-self c)
+pub returns-clause-sound : goal.returns-clause-sound
+returns-clause-sound c = row-placed _ _ _ (invariant_of-self c).0
