@@ -4,3 +4,5 @@ pub mod PlaceLaws
 pub mod SoundLaws
 pub mod AmongLaws
 pub mod StayLaws
+pub mod Exchanging
+pub mod ExchangeLaws

@@ -14,11 +14,11 @@ use Rattle.link_table.proofs.PlaceLaws.{at_place-set_other, at_place-set_same, p
 use Rattle.link_table.proofs.SoundLaws.{sound-set}
 
 -- a task of the top that runs is linked where it runs, and the tasks of the top alone are linked
-record AreLinked (top : List ℕ) (runs links : List (Option ℕ)) : Type 0 where
-  where_it_runs : (t k : ℕ) → is t (at_place runs k) ≡ true → has t top ≡ true → is t (at_place links k) ≡ true
-  top_alone : (t : ℕ) → has t (tasks_in links) ≡ has t top
+pub record AreLinked (top : List ℕ) (runs links : List (Option ℕ)) : Type 0 where
+  pub where_it_runs : (t k : ℕ) → is t (at_place runs k) ≡ true → has t top ≡ true → is t (at_place links k) ≡ true
+  pub top_alone : (t : ℕ) → has t (tasks_in links) ≡ has t top
 
-placed-linked : (top : List ℕ) (l : Linked) → IsSound l → IsDistinct top → length top ≤ length l.runs → IsPlaced top l → AreLinked top l.runs l.links
+pub placed-linked : (top : List ℕ) (l : Linked) → IsSound l → IsDistinct top → length top ≤ length l.runs → IsPlaced top l → AreLinked top l.runs l.links
 placed-linked top l sound once fits stay = record { where_it_runs = there; top_alone = alone }
   where
     alone : (t : ℕ) → has t (tasks_in l.links) ≡ has t top
@@ -47,7 +47,7 @@ module _ (top running : List ℕ) where
       let idle : has u running ≡ false = unless (has u running) (λ h. clash (has u top) here (out u (home u (equal_self u) h))) in
       rw (here, idle) refl
 
-  kept-here : (r l : Option ℕ) → ((t : ℕ) → is t r ≡ true → has t top ≡ true → is t l ≡ true) → ((t : ℕ) → is t l ≡ true → has t top ≡ true)
+  pub kept-here : (r l : Option ℕ) → ((t : ℕ) → is t r ≡ true → has t top ≡ true → is t l ≡ true) → ((t : ℕ) → is t l ≡ true → has t top ≡ true)
       → ((t : ℕ) → is t l ≡ true → has t running ≡ true → is t r ≡ true) → kept_link top running r l ≡ l
   kept-here None l there of_top home = kept-link None l (λ t h. cc) of_top home
   kept-here (Some v) l there of_top home = by_case (has v top) refl
@@ -59,7 +59,7 @@ module _ (top running : List ℕ) where
       by_case true e = some_is v l (there v (equal_self v) e)
       by_case false e = kept-link (Some v) l (only e) of_top home
 
-  kept-all : (rs ls : List (Option ℕ)) → length rs ≡ length ls → ((t k : ℕ) → is t (at_place rs k) ≡ true → has t top ≡ true → is t (at_place ls k) ≡ true)
+  pub kept-all : (rs ls : List (Option ℕ)) → length rs ≡ length ls → ((t k : ℕ) → is t (at_place rs k) ≡ true → has t top ≡ true → is t (at_place ls k) ≡ true)
       → ((t k : ℕ) → is t (at_place ls k) ≡ true → has t top ≡ true) → ((t k : ℕ) → is t (at_place ls k) ≡ true → has t running ≡ true → is t (at_place rs k) ≡ true)
       → kept top running rs ls ≡ ls
   kept-all [] [] same there of_top home = refl
@@ -74,14 +74,15 @@ none-left : (p : ℕ → Bool) (ts : List ℕ) → ((t : ℕ) → has t ts ≡ t
 none-left p [] none = refl
 none-left p (t ∷ ts) none = rw (none t (rw (equal_self t))) (none-left p ts (λ u h. none u (rw h (or_true (u == t)))))
 
+-- a task that is linked and runs does so at one place
+pub runs_where_linked : (l : Linked) → IsSound l → (t k : ℕ) → is t (at_place l.links k) ≡ true → has t (tasks_in l.runs) ≡ true → is t (at_place l.runs k) ≡ true
+runs_where_linked l sound t k h running = let p = place_of t l.runs running in subst (λ j. is t (at_place l.runs j) ≡ true) (sym (sound.one_place t k p.0 h p.1)) p.1
+
 linked-placed : (top : List ℕ) (l : Linked) → IsSound l → AreLinked top l.runs l.links → IsPlaced top l
 linked-placed top l sound are = ap (λ ls. filled_with top ls) all ∙ rw none (filled-none l.links)
   where
-    home : (t k : ℕ) → is t (at_place l.links k) ≡ true → has t (tasks_in l.runs) ≡ true → is t (at_place l.runs k) ≡ true
-    home t k h running = let p = place_of t l.runs running in subst (λ j. is t (at_place l.runs j) ≡ true) (sym (sound.one_place t k p.0 h p.1)) p.1
-
     all : kept top (tasks_in l.runs) l.runs l.links ≡ l.links
-    all = kept-all top (tasks_in l.runs) l.runs l.links sound.same_length are.where_it_runs (λ t k h. sym (are.top_alone t) ∙ has-at_place t l.links k h) home
+    all = kept-all top (tasks_in l.runs) l.runs l.links sound.same_length are.where_it_runs (λ t k h. sym (are.top_alone t) ∙ has-at_place t l.links k h) (runs_where_linked l sound)
 
     none : filter (λ t. not (has t (tasks_in l.links))) top ≡ []
     none = none-left (λ t. not (has t (tasks_in l.links))) top (λ t h. let linked : has t (tasks_in l.links) ≡ true = are.top_alone t ∙ h in rw linked)

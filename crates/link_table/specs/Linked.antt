@@ -1,11 +1,12 @@
 -- Links and runs of one cluster, and what an interrupt does.
-use Rattle.std.specs.Prelude.{◌≡◌, ◌↔◌, ℕ, ◌+◌, ◌-◌, ◌<◌, ◌≤◌, Bool, true, not, ◌&&◌, List, [], ◌∷◌, Option, None, Some, is_some}
+use Rattle.std.specs.Prelude.{◌≡◌, ◌↔◌, ℕ, ◌+◌, ◌-◌, ◌<◌, ◌≤◌, ◌==◌, Bool, true, false, not, ◌&&◌, List, [], ◌∷◌, Option, None, Some, is_some}
 use Rattle.std.specs.Prelude.{if◌then◌else◌, length, slice_set, replicate}
 use Rattle.rt_history.specs.declared.Reply.{Reply}
 use Rattle.rt_history.specs.declared.Reply.TheVariants.{Quiet, Deferred, Runs, Idles}
 use Rattle.rt_rules.specs.Numbers.{has, is, same}
 use Rattle.rt_rules.specs.Distinct.{IsDistinct}
 use Rattle.rt_rules.specs.Placing.{tasks_in, at_place, placed}
+use Rattle.link_table.specs.Exchanges.{IsExchanged}
 
 -- the first processor of a cluster, what each one runs, and the task that each one is linked to
 pub record Linked : Type 0 where
@@ -99,3 +100,35 @@ abbrev pub first_taken : ℕ → List (Option ℕ) → List (Option ℕ)
 first_taken t [] = []
 first_taken t (None ∷ ls) = Some t ∷ ls
 first_taken t (Some u ∷ ls) = Some u ∷ first_taken t ls
+
+-- the first processor that is left takes the task, if there is one
+abbrev pub first_taken_by : Option ℕ → List (Option ℕ) → List (Option ℕ)
+first_taken_by None ls = ls
+first_taken_by (Some t) ls = first_taken t ls
+
+-- the processor that is linked to the task, if any, is linked to none
+abbrev pub without_link : Option ℕ → List (Option ℕ) → List (Option ℕ)
+without_link None ls = ls
+without_link (Some t) [] = []
+without_link (Some t) (None ∷ ls) = None ∷ without_link (Some t) ls
+without_link (Some t) (Some u ∷ ls) = if t == u then None ∷ ls else (Some u ∷ without_link (Some t) ls)
+
+-- the task that left loses its link, and the one that came takes the first processor that is left then
+abbrev pub exchanged : Option ℕ → Option ℕ → List (Option ℕ) → List (Option ℕ)
+exchanged left came ls = first_taken_by came (without_link left ls)
+
+-- the links are placed for this top, which has each task once and no more than there are processors
+pub record IsPlacedFor (top : List ℕ) (l : Linked) : Type 0 where
+  pub once : IsDistinct top
+  pub fits : length top ≤ length l.runs
+  pub placed : IsPlaced top l
+
+-- the links are placed for some top, and there is one for it without the task that left and with the one that came, which runs nowhere
+pub record CanExchange (l : Linked) (left came : Option ℕ) : Type 0 where
+  pub old : List ℕ
+  pub new : List ℕ
+  pub exchanged : IsExchanged old new left came
+  pub placed : IsPlacedFor old l
+  pub once : IsDistinct new
+  pub fits : length new ≤ length l.runs
+  pub idle : (t : ℕ) → is t came ≡ true → has t (tasks_in l.runs) ≡ false

@@ -5,9 +5,10 @@
 ghost use Rattle.std.specs.Prelude.{◌≡◌, ℕ, ◌-◌, ◌<◌, ◌≤◌, IfOk, List, length, true};
 ghost use Rattle.rt_base.specs.TaskNos.{number_of_task, numbers};
 ghost use Rattle.rt_rules.specs.Distinct.{IsDistinct};
-ghost use Rattle.rt_rules.specs.Numbers.{is};
-ghost use Rattle.rt_rules.specs.Placing.{placed};
-ghost use Rattle.link_table.specs.Linked.{after_irq, irq_reply, is_pending, link_of, runs_on, unlinked, with_run, IsAmong, IsOfCluster, IsSound, LinkedTopStays, LinksAreOfProcessors, PlacedLinksStay, RunsAreOfProcessors, StaysAmong, StaysAmongWith};
+ghost use Rattle.rt_rules.specs.Numbers.{has, is};
+ghost use Rattle.rt_rules.specs.Placing.{placed, tasks_in};
+ghost use Rattle.link_table.specs.Exchanges.{IsExchanged};
+ghost use Rattle.link_table.specs.Linked.{after_irq, irq_reply, is_pending, link_of, runs_on, unlinked, with_run, CanExchange, IsAmong, IsOfCluster, IsPlacedFor, IsSound, LinkedTopStays, LinksAreOfProcessors, PlacedLinksStay, RunsAreOfProcessors, StaysAmong, StaysAmongWith};
 
 mod marks;
 mod places;
@@ -137,6 +138,37 @@ impl Links {
             &mut self.top_marks,
             &self.run_marks,
         );
+    }
+
+    /// Links the task that came into the top in place of the one that left it, where the links were placed for the
+    /// old top. What came runs nowhere.
+    ///
+    /// It looks once at each processor, at most, and takes no memory. The links are then those that placing the new
+    /// top would give.
+    ///
+    /// Example: after the placing above, `links.exchange(Some(TaskNo(3)), Some(TaskNo(7)))` links task 7 where task 3
+    /// was.
+    pub fn exchange(&mut self, left: Option<TaskNo>, came: Option<TaskNo>)
+        requires placed { CanExchange self.old (number_of_task left) (number_of_task came) }
+        ensures placed { (old new : List ℕ) →
+            IsExchanged old new (number_of_task left) (number_of_task came) →
+            IsPlacedFor old self.old → length new ≤ length self.old.runs → IsDistinct new →
+            self.new ≡ record self.old { links = placed new self.old.runs self.old.links } }
+        ensures among { (ts : List ℕ) →
+            ((t : ℕ) → is t (number_of_task came) ≡ true → has t ts ≡ true) →
+            IsAmong ts self.old → IsAmong ts self.new }
+        ensures sound { IsSound self.new }
+    {
+        places::exchange(self.links.as_mut_slice(), left, came);
+    }
+
+    /// Whether a processor of the cluster runs the task.
+    ///
+    /// Example: `links.is_running(TaskNo(3))` is true from the interrupt that is answered `Reply::Runs(TaskNo(3))` on.
+    pub fn is_running(&self, task: TaskNo) -> bool
+        ensures { result ≡ has task.0 (tasks_in self.now.runs) }
+    {
+        self.run_marks.is_linked(self.runs.as_slice(), task)
     }
 
     /// Takes an interrupt at the processor, where `np` says whether what it runs is non-preemptive.

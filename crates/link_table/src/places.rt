@@ -4,7 +4,7 @@ ghost use Rattle.rt_base.specs.TaskNos.{number_of_task, numbers, numbers_of_task
 ghost use Rattle.rt_rules.specs.Distinct.{IsDistinct};
 ghost use Rattle.rt_rules.specs.Numbers.{has, is};
 ghost use Rattle.rt_rules.specs.Placing.{filled_with, kept, kept_link, placed, tasks_in};
-ghost use Rattle.link_table.specs.Linked.{first_taken};
+ghost use Rattle.link_table.specs.Linked.{exchanged, first_taken};
 ghost use Rattle.link_table.specs.Marks.{AreMarks, Says};
 
 use crate::marks::TaskMarks;
@@ -34,6 +34,26 @@ pub(crate) fn place(
     top_marks.mark_tasks(top);
     keep(top, runs, links, top_marks, run_marks);
     fill(top, links, top_marks);
+}
+
+/// Takes the link from the task that left, and links the first processor that is left then to the one that came.
+///
+/// It goes once over the processors, as far as the later of the two places.
+pub(crate) fn exchange(links: &mut [Option<TaskNo>], left: Option<TaskNo>, came: Option<TaskNo>)
+    ensures { numbers_of_tasks links.new ≡
+        exchanged (number_of_task left) (number_of_task came) (numbers_of_tasks links.old) }
+{
+    let mut waiting = came;
+    for q in 0..links.len() {
+        if links[q] == left {
+            links[q] = waiting;
+            return;
+        }
+        if links[q].is_none() {
+            links[q] = waiting;
+            waiting = None;
+        }
+    }
 }
 
 // The link that a processor keeps, where the marks tell of its run and of its link.
