@@ -1,5 +1,5 @@
 -- Which tasks are the first ones, as one task is given a key or taken out.
-use Rattle.std.proofs.Common.{◌≡◌, ℕ, zero, suc, ◌<◌, Bool, true, false, not, ◌||◌, cond, eqb-true, List, [], ◌∷◌, ◌++◌, length, set, take, refl, sym, ap, ◌∙◌, subst}
+use Rattle.std.proofs.Common.{◌≡◌, ℕ, zero, suc, ◌<◌, Bool, true, false, ◌||◌, cond, List, [], ◌∷◌, length, set, take, refl, sym, ap, ◌∙◌, subst}
 use Rattle.std.proofs.lemmas.List.{set-get_or, take-map}
 use Rattle.std.specs.Prelude.{◌==◌, Option, None, Some, is_some, unwrap_or}
 use Rattle.rt_order.specs.declared.Key.{Key}
@@ -7,15 +7,15 @@ use Rattle.rt_order.specs.KeyOrder.{lowest_key}
 use Rattle.rt_rules.specs.Keys.{Ranked, ahead, inserted}
 use Rattle.rt_rules.specs.Numbers.{has, numbers_from}
 use Rattle.rt_rules.specs.Rankings.{tasks_of, without_task}
-use Rattle.rt_rules.proofs.BoolLaws.{clash, neither, or_else, or_middle, unless}
-use Rattle.rt_rules.proofs.MemberLaws.{equal_self, turned}
+use Rattle.rt_rules.proofs.BoolLaws.{clash, neither, or_else, or_middle}
+use Rattle.rt_rules.proofs.MemberLaws.{equal_self}
 use Rattle.rt_rules.proofs.NumberLaws.{distinct-numbers_from}
 use Rattle.rt_rules.proofs.RankedByLaws.{distinct-ranked_by}
-use Rattle.rt_rules.proofs.RankedLaws.{has-inserted, has-take}
+use Rattle.rt_rules.proofs.RankedLaws.{has-take}
 use Rattle.ready_heap.specs.Row.{key_at}
-use Rattle.ready_queue.specs.Queue.{HaveSameFirst, IsSplit, Queue, first_tasks, in_order, is_first, is_in, key_in, moves}
+use Rattle.ready_queue.specs.Queue.{IsSplit, Queue, first_tasks, in_order, is_first, is_in, key_in}
 use Rattle.ready_queue.proofs.ReadySets.{at_set}
-use Rattle.ready_queue.proofs.SplitLaws.{has-without, in-front, in_order-set, last-apart}
+use Rattle.ready_queue.proofs.SplitLaws.{has-without, in_order-set}
 
 -- ---- one task put in among others
 
@@ -97,17 +97,12 @@ module _ (keys : List (Option Key)) (t : ℕ) (low : t < length keys) where
           subst (λ j. has u (firsts j o) ≡ has u (firsts j x)) (sym is) (within n o here u ∙ sym (within n x there u))
 
 -- where a task stays one of the first ones, or none of them, they are the same ones
-pub same-first : (q : Queue) (t : ℕ) (o : Option Key) → t < length q.keys → moves (is_first q t) (is_first (record q { keys = set q.keys t o }) t) ≡ false
-    → HaveSameFirst q (record q { keys = set q.keys t o })
-same-first q t o low stays u = as_with old u ∙ same-with q.keys t low q.most old o (sym (as_with old t) ∙ alike _ _ stays ∙ now t) u ∙ sym (now u)
+pub same-first : (q : Queue) (t : ℕ) (o : Option Key) → t < length q.keys → is_first q t ≡ is_first (record q { keys = set q.keys t o }) t
+    → (u : ℕ) → is_first q u ≡ is_first (record q { keys = set q.keys t o }) u
+same-first q t o low stays u = as_with old u ∙ same-with q.keys t low q.most old o (sym (as_with old t) ∙ stays ∙ now t) u ∙ sym (now u)
   where
     old : Option Key
     old = key_at q.keys t
-
-    alike : (a b : Bool) → moves a b ≡ false → a ≡ b
-    alike true true h = refl
-    alike true false h = cc
-    alike false b h = sym h
 
     now : (v : ℕ) → is_first (record q { keys = set q.keys t o }) v ≡ has v (firsts q.keys t low q.most o)
     now v = ap (λ rs. has v (take q.most (tasks_of rs))) (in_order-with q.keys t low o)
@@ -115,32 +110,7 @@ same-first q t o low stays u = as_with old u ∙ same-with q.keys t low q.most o
     as_with : (x : Option Key) (v : ℕ) → is_first q v ≡ has v (firsts q.keys t low q.most old)
     as_with x v = ap (λ ks. has v (first_tasks q.most ks)) (sym (set-get_or q.keys t None)) ∙ ap (λ rs. has v (take q.most (tasks_of rs))) (in_order-with q.keys t low old)
 
--- one that is taken out is none of them
-pub taken-first : (q : Queue) (t : ℕ) → t < length q.keys → is_first (record q { keys = set q.keys t None }) t ≡ false
-taken-first q t low =
-    ap (λ rs. has t (take q.most (tasks_of rs))) (in_order-with q.keys t low None)
-    ∙ unless (has t (take q.most (tasks_of (others q.keys t low)))) (λ h. clash (has t (tasks_of (others q.keys t low))) (has-take t q.most (tasks_of (others q.keys t low)) h) (absent q.keys t low))
-
 -- ---- what the queue keeps as the first ones
 
 pub first-top : (q : Queue) (top : List Ranked) (rest : List (Option Key)) → IsSplit q top rest → (t : ℕ) → has t (tasks_of top) ≡ is_first q t
 first-top q top rest s t = ap (λ rs. has t (tasks_of rs)) s.top_is ∙ ap (has t) (sym (take-map (λ (r : Ranked). r.task) q.most (in_order q.keys)))
-
--- one that is put in beside no more than there are to be is one of them
-pub first-put : (t : ℕ) (k : Key) (top : List Ranked) → has t (tasks_of (inserted (record { key = k; task = t }) top)) ≡ true
-first-put t k top = has-inserted t (record { key = k; task = t }) top ∙ rw (equal_self t) refl
-
--- or it is one of them unless it is the last, which makes room
-pub first-put_over : (q : Queue) (top : List Ranked) (rest : List (Option Key)) (s : IsSplit q top rest) (t : ℕ) (k : Key) → t < length q.keys → key_at q.keys t ≡ None
-    → (front : List Ranked) (l : Ranked) → inserted (record { key = k; task = t }) top ≡ front ++ l ∷ [] → length front ≡ q.most
-    → not (l.task == t) ≡ has t (tasks_of front)
-first-put_over q top rest s t k low none front l is full = by_case (l.task == t) refl
-  where
-    by_case : (b : Bool) → l.task == t ≡ b → not b ≡ has t (tasks_of front)
-    by_case true e = sym (rw (sym (eqb-true l.task t e)) (last-apart q top rest s t k low none front l is full))
-    by_case false e = sym (in-front q top rest s t k low none front l is full t (turned t l.task ∙ e) ∙ rw (equal_self t) refl)
-
--- what was found of a task before and after
-pub moves-none : (was is : Bool) → is ≡ false → was ≡ moves was is
-moves-none true is h = rw h refl
-moves-none false is h = sym h

@@ -183,13 +183,31 @@ has-without t u (r ∷ rs) d = by_case (r.task == t) refl (u == t) refl (has-wit
     by_case false e true k rest = let other : u == r.task ≡ false = rw (eqb-true u t k) (turned t r.task ∙ e) in rw other (rest ∙ rw k)
     by_case false e false k rest = ap (λ b. u == r.task || b) (rest ∙ rw k)
 
-has-append : (u : ℕ) (xs ys : List Ranked) → has u (tasks_of (xs ++ ys)) ≡ has u (tasks_of xs) || has u (tasks_of ys)
+pub has-append : (u : ℕ) (xs ys : List Ranked) → has u (tasks_of (xs ++ ys)) ≡ has u (tasks_of xs) || has u (tasks_of ys)
 has-append u [] ys = refl
 has-append u (x ∷ xs) ys = ap (λ b. u == x.task || b) (has-append u xs ys) ∙ grouped (u == x.task)
   where
     grouped : (b : Bool) → b || (has u (tasks_of xs) || has u (tasks_of ys)) ≡ (b || has u (tasks_of xs)) || has u (tasks_of ys)
     grouped true = refl
     grouped false = refl
+
+-- the last of a list in which each task stands once, and the others
+pub has-last : (l : Ranked) (front : List Ranked) → has l.task (tasks_of (front ++ l ∷ [])) ≡ true
+has-last l front = has-append l.task front (l ∷ []) ∙ rw (equal_self l.task) (or_true (has l.task (tasks_of front)))
+
+pub has-front : (u : ℕ) (l : Ranked) (front : List Ranked) → u == l.task ≡ false → has u (tasks_of (front ++ l ∷ [])) ≡ has u (tasks_of front)
+has-front u l front other = has-append u front (l ∷ []) ∙ rw other (beside (has u (tasks_of front)))
+  where
+    beside : (b : Bool) → b || (false || false) ≡ b
+    beside true = refl
+    beside false = refl
+
+pub last-alone : (l : Ranked) (front : List Ranked) → IsDistinct (tasks_of (front ++ l ∷ [])) → has l.task (tasks_of front) ≡ false
+last-alone l [] d = refl
+last-alone l (r ∷ front) d =
+    let q = neither (has r.task (tasks_of front)) (r.task == l.task || false) (sym (has-append r.task front (l ∷ [])) ∙ d.0) in
+    let other : l.task == r.task ≡ false = turned l.task r.task ∙ (neither (r.task == l.task) false q.1).0 in
+    rw other (last-alone l front d.1)
 
 -- each task of a list has in the set the key that it has in the list
 abbrev pub AllIn : List (Option Key) → List Ranked → Type 0
@@ -262,7 +280,7 @@ module _ (q : Queue) (top : List Ranked) (rest : List (Option Key)) (s : IsSplit
   rest-follows =
       rest-in_order top (drop q.most (in_order q.keys)) q.keys rest s.same_room (rw s.top_is (sym (take-append-drop q.most (in_order q.keys)))) s.rest_are
 
-  distinct-top : IsDistinct (tasks_of top)
+  pub distinct-top : IsDistinct (tasks_of top)
   distinct-top =
       let all : IsDistinct (tasks_of (in_order q.keys)) = distinct-ranked_by (key_in q.keys) (is_in q.keys) (numbers_from 0 (length q.keys)) (distinct-numbers_from 0 (length q.keys)) in
       rw s.top_is (subst IsDistinct (take-map (λ (r : Ranked). r.task) q.most (in_order q.keys)) (distinct-take q.most (tasks_of (in_order q.keys)) all))
@@ -306,6 +324,10 @@ module _ (q : Queue) (top : List Ranked) (rest : List (Option Key)) (s : IsSplit
           by_case true c h = refl
           by_case false c h = h
 
+  -- a task of the rest is none of the first ones
+  pub rest-apart : (u : ℕ) (k : Key) → key_at rest u ≡ Some k → has u (tasks_of top) ≡ false
+  rest-apart u k is = unless (has u (tasks_of top)) (λ h. let none : key_at rest u ≡ None = s.rest_are u ∙ rw h in cc)
+
   -- one of the first ones is taken out, and the first of the rest follows
   pub split-followed : (t u : ℕ) (k : Key) → has t (tasks_of top) ≡ true → IsFirst higher rest u → key_at rest u ≡ Some k
       → IsSplit (record q { keys = set q.keys t None }) (without_task t top ++ record { key = k; task = u } ∷ []) (set rest u None)
@@ -321,13 +343,9 @@ module _ (q : Queue) (top : List Ranked) (rest : List (Option Key)) (s : IsSplit
       inside : u < length rest
       inside = let low = numbers_from-below u 0 (length rest) next.0 in omega (arith, low)
 
-      -- at the one that follows something is kept in the rest, so that it is none of the first ones
-      apart : has u (tasks_of top) ≡ true → ⊥
-      apart h = let none : key_at rest u ≡ None = s.rest_are u ∙ rw h in cc
-
       by_case : (v : ℕ) (a : Bool) → v == u ≡ a → (b : Bool) → v == t ≡ b → (c : Bool) → has v (tasks_of top) ≡ c
           → cond (cond b false c || (a || false)) None (cond b None (key_at q.keys v)) ≡ cond a None (key_at rest v)
-      by_case v true e true f c g = absurd (apart (let same : u ≡ t = sym (eqb-true v u e) ∙ eqb-true v t f in rw same there))
+      by_case v true e true f c g = let same : u ≡ t = sym (eqb-true v u e) ∙ eqb-true v t f in absurd (clash _ (rw same there) (rest-apart u k is))
       by_case v true e false f true g = refl
       by_case v true e false f false g = refl
       by_case v false e true f c g = let here : has v (tasks_of top) ≡ true = rw (eqb-true v t f) there in sym (s.rest_are v ∙ rw here)
@@ -335,7 +353,7 @@ module _ (q : Queue) (top : List Ranked) (rest : List (Option Key)) (s : IsSplit
       by_case v false e false f false g = sym (s.rest_are v ∙ rw g)
 
   -- a task that is not in is none of the first ones
-  absent-top : (t : ℕ) → key_at q.keys t ≡ None → has t (tasks_of top) ≡ false
+  pub absent-top : (t : ℕ) → key_at q.keys t ≡ None → has t (tasks_of top) ≡ false
   absent-top t none = unless (has t (tasks_of top)) (λ h. out (top-in t h))
     where
       top-in : (u : ℕ) → has u (tasks_of top) ≡ true → is_in q.keys u ≡ true
@@ -393,31 +411,17 @@ module _ (q : Queue) (top : List Ranked) (rest : List (Option Key)) (s : IsSplit
           within (x ∷ ks) zero j h = omega arith
           within (x ∷ ks) (suc u) j h = omega (arith, within ks u j h)
 
-      pub last-apart : has l.task (tasks_of front) ≡ false
-      last-apart = alone front (subst (λ rs. IsDistinct (tasks_of rs)) is (distinct-inserted (record { key = k; task = t }) top (absent-top t none) distinct-top))
-        where
-          alone : (rs : List Ranked) → IsDistinct (tasks_of (rs ++ l ∷ [])) → has l.task (tasks_of rs) ≡ false
-          alone [] d = refl
-          alone (r ∷ rs) d =
-              let q = neither (has r.task (tasks_of rs)) (r.task == l.task || false) (sym (has-append r.task rs (l ∷ [])) ∙ d.0) in
-              let other : l.task == r.task ≡ false = turned l.task r.task ∙ (neither (r.task == l.task) false q.1).0 in
-              rw other (alone rs d.1)
+      last-apart : has l.task (tasks_of front) ≡ false
+      last-apart = last-alone l front (subst (λ rs. IsDistinct (tasks_of rs)) is (distinct-inserted (record { key = k; task = t }) top (absent-top t none) distinct-top))
 
-      pub in-front : (u : ℕ) → u == l.task ≡ false → has u (tasks_of front) ≡ u == t || has u (tasks_of top)
-      in-front u other =
-          let whole : has u (tasks_of (front ++ l ∷ [])) ≡ u == t || has u (tasks_of top) = ap (λ rs. has u (tasks_of rs)) (sym is) ∙ has-inserted u (record { key = k; task = t }) top in
-          let parts : has u (tasks_of (front ++ l ∷ [])) ≡ has u (tasks_of front) || (u == l.task || false) = has-append u front (l ∷ []) in
-          sym (parts ∙ rw other (beside (has u (tasks_of front)))) ∙ whole
-        where
-          beside : (b : Bool) → b || (false || false) ≡ b
-          beside true = refl
-          beside false = refl
+      in-front : (u : ℕ) → u == l.task ≡ false → has u (tasks_of front) ≡ u == t || has u (tasks_of top)
+      in-front u other = sym (has-front u l front other) ∙ ap (λ rs. has u (tasks_of rs)) (sym is) ∙ has-inserted u (record { key = k; task = t }) top
 
       pub last-absent : key_at rest l.task ≡ None
       last-absent = s.rest_are l.task ∙ by_task (l.task == t) refl (has l.task (tasks_of top)) refl
         where
           all-of : has l.task (tasks_of with-it) ≡ true
-          all-of = rw (is, has-append l.task front (l ∷ []), equal_self l.task) (or_true (has l.task (tasks_of front)))
+          all-of = rw is (has-last l front)
 
           by_task : (b : Bool) → l.task == t ≡ b → (c : Bool) → has l.task (tasks_of top) ≡ c → cond c None (key_at q.keys l.task) ≡ None
           by_task b e true h = refl

@@ -1,4 +1,5 @@
 pub mod Refreshed
 pub mod ReadySet
 pub mod Queue
+pub mod Exchanges
 pub mod RankedTasks

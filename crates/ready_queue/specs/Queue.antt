@@ -1,5 +1,5 @@
 -- The tasks that are in, in the order of their keys, and the first of them.
-use Rattle.std.specs.Prelude.{◌≡◌, ℕ, Bool, List, length, map, take, Option, None, if◌then◌else◌, is_some, not, unwrap_or, slice_index_or}
+use Rattle.std.specs.Prelude.{◌≡◌, ℕ, Bool, List, length, map, take, Option, None, if◌then◌else◌, is_some, unwrap_or, slice_index_or}
 use Rattle.rt_order.specs.declared.Key.{Key}
 use Rattle.rt_order.specs.KeyOrder.{lowest_key}
 use Rattle.rt_rules.specs.Keys.{Ranked}
@@ -27,14 +27,6 @@ first_tasks most keys = take most (tasks_of (in_order keys))
 -- the task is one of the first ones
 abbrev pub is_first : Queue → ℕ → Bool
 is_first q t = has t (first_tasks q.most q.keys)
-
--- the same tasks are the first ones, in whatever order
-abbrev pub HaveSameFirst : Queue → Queue → Type 0
-HaveSameFirst q r = (t : ℕ) → is_first q t ≡ is_first r t
-
--- what was so no longer is, or what was not comes to be
-abbrev pub moves : Bool → Bool → Bool
-moves was is = if was then not is else is
 
 -- ---- how the queue keeps them
 

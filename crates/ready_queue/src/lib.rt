@@ -1,10 +1,11 @@
 //! The ready tasks of a cluster by key, with the first of them kept in order beside the rest.
 #![tactic(auto)]
 
-ghost use Rattle.std.specs.Prelude.{◌≡◌, ◌<◌, ◌≤◌, IfOk, Some, None, false, [], length, map, replicate, slice_set, vec_capacity};
-ghost use Rattle.rt_base.specs.TaskNos.{numbers};
+ghost use Rattle.std.specs.Prelude.{◌≡◌, ◌<◌, ◌≤◌, ◌&&◌, not, IfOk, Some, None, is_none, [], length, map, replicate, slice_set, vec_capacity};
+ghost use Rattle.rt_base.specs.TaskNos.{number_of_task, numbers};
 ghost use Rattle.ready_heap.specs.Row.{key_at};
-ghost use Rattle.ready_queue.specs.Queue.{HaveSameFirst, first_tasks, is_first, moves};
+ghost use Rattle.ready_queue.specs.Exchanges.{IsExchanged};
+ghost use Rattle.ready_queue.specs.Queue.{first_tasks, is_first};
 
 mod ranked_list;
 
@@ -14,6 +15,22 @@ use rt_base::{NoMemory, TaskNo};
 use rt_order::{ByKey, Key};
 use std::alloc::Global;
 use std::marker::Model;
+
+/// Which task a change took from the first ones, and which it brought to them, if any.
+#[derive(Clone, Copy, Debug, PartialEq, Eq)]
+pub struct Exchange {
+    pub left: Option<TaskNo>,
+    pub came: Option<TaskNo>,
+}
+
+impl Exchange {
+    /// Whether neither is there, so that the first ones stay the same tasks.
+    pub fn is_none(self) -> bool
+        ensures { result ≡ (is_none self.left && is_none self.came) }
+    {
+        self.left.is_none() && self.came.is_none()
+    }
+}
 
 /// A set of tasks, each with one key, whose first ones are at hand: the tasks of the highest keys, ties to the lower
 /// number, up to a number that is fixed at making.
@@ -77,58 +94,101 @@ impl ReadyQueue {
         ranked_list::copy_tasks(self.first.as_slice(), into);
     }
 
-    /// Gives the task this key, or takes it out, whether it is in or not. Whether it comes to be one of the first tasks
-    /// or no longer is one; where it says false, the first tasks are the same ones, in whatever order.
+    /// Gives the task this key, or takes it out, whether it is in or not. Which task is no longer one of the first ones,
+    /// and which one comes to be one, if any; the others among them are the same, in whatever order.
     ///
     /// Example: `queue.set(TaskNo(3), Some(key))` makes task 3 ready, and `queue.set(TaskNo(3), None)` takes it out.
-    pub fn set(&mut self, task: TaskNo, key: Option<Key>) -> bool
+    pub fn set(&mut self, task: TaskNo, key: Option<Key>) -> Exchange
         requires { task.0 < length self.old.keys }
         ensures keys { self.new ≡ record self.old { keys = slice_set self.old.keys task.0 key } }
-        ensures moves { result ≡ moves (is_first self.old task.0) (is_first self.new task.0) }
-        ensures same { result ≡ false → HaveSameFirst self.old self.new }
+        ensures exchanged { IsExchanged (first_tasks self.old.most self.old.keys)
+            (first_tasks self.new.most self.new.keys)
+            (number_of_task result.left) (number_of_task result.came) }
     {
-        let was_first = self.take_out(task);
+        let taken = self.take_out(task);
         let Some(key) = key else {
-            return was_first;
+            return taken;
         };
-        let is_first = self.put_in(task, key);
-        was_first != is_first
+        let put = self.put_in(task, key);
+        if put.is_none() {
+            return taken;
+        }
+        if taken.is_none() {
+            return put;
+        }
+        // The task is still one of the first ones, and what came in its place has left again.
+        Exchange {
+            left: None,
+            came: None,
+        }
     }
 
-    // Whether the task was one of the first ones.
-    fn take_out(&mut self, task: TaskNo) -> bool
+    // Whether the task was one of the first ones, and which task came in its place.
+    fn take_out(&mut self, task: TaskNo) -> Exchange
         requires { task.0 < length self.old.keys }
         ensures keys { self.new ≡ record self.old { keys = slice_set self.old.keys task.0 None } }
-        ensures was_first { result ≡ is_first self.old task.0 }
+        ensures exchanged { IsExchanged (first_tasks self.old.most self.old.keys)
+            (first_tasks self.new.most self.new.keys)
+            (number_of_task result.left) (number_of_task result.came) }
+        ensures was_first { (is_none result.left && is_none result.came)
+            ≡ not (is_first self.old task.0) }
     {
         uncounted::take_out(&mut self.all, task);
         if !self.first.remove(task) {
             uncounted::take_out(&mut self.rest, task);
-            return false;
+            return Exchange {
+                left: None,
+                came: None,
+            };
         }
-        if let Some((next, key)) = uncounted::take_first(&mut self.rest) {
-            self.first.push(key, next);
+        let Some((next, key)) = uncounted::take_first(&mut self.rest) else {
+            return Exchange {
+                left: Some(task),
+                came: None,
+            };
+        };
+        self.first.push(key, next);
+        Exchange {
+            left: Some(task),
+            came: Some(next),
         }
-        true
     }
 
-    // Whether the task is one of the first ones.
-    fn put_in(&mut self, task: TaskNo, key: Key) -> bool
+    // Whether the task is one of the first ones, and which task it pushed out.
+    fn put_in(&mut self, task: TaskNo, key: Key) -> Exchange
         requires room { task.0 < length self.old.keys }
         requires absent { key_at self.old.keys task.0 ≡ None }
         ensures keys { self.new
             ≡ record self.old { keys = slice_set self.old.keys task.0 (Some key) } }
-        ensures is_first { result ≡ is_first self.new task.0 }
+        ensures exchanged { IsExchanged (first_tasks self.old.most self.old.keys)
+            (first_tasks self.new.most self.new.keys)
+            (number_of_task result.left) (number_of_task result.came) }
+        ensures is_first { (is_none result.left && is_none result.came)
+            ≡ not (is_first self.new task.0) }
     {
         uncounted::put_in(&mut self.all, task, key);
         self.first.insert(key, task);
+        let came = Exchange {
+            left: None,
+            came: Some(task),
+        };
         if self.first.as_slice().len() <= self.most {
-            return true;
+            return came;
         }
         let Some(last) = self.first.pop() else {
-            return true;
+            return came;
         };
         uncounted::put_in(&mut self.rest, last.task, last.key);
-        last.task.0 != task.0
+        if last.task.0 == task.0 {
+            Exchange {
+                left: None,
+                came: None,
+            }
+        } else {
+            Exchange {
+                left: Some(last.task),
+                came: Some(task),
+            }
+        }
     }
 }

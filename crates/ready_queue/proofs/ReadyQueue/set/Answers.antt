@@ -1,27 +1,29 @@
-use Rattle.std.proofs.Common.{◌≡◌, List, Option, None, ap, false, rules, set-set, sym, ◌∙◌}
+use Rattle.std.proofs.Common.{◌≡◌, List, Option, ap, set-set, sym, true, ◌∙◌}
 use Rattle.rt_order.specs.declared.Key.{Key}
-use Rattle.ready_queue.specs.Queue.{Queue, is_first, moves}
-use Rattle.ready_queue.proofs.FirstLaws.{moves-none, same-first, taken-first}
+use Rattle.rt_rules.proofs.BoolLaws.{not_false}
+use Rattle.ready_queue.specs.Queue.{Queue, is_first}
+use Rattle.ready_queue.proofs.ExchangeLaws.{none-exchanged}
+use Rattle.ready_queue.proofs.FirstLaws.{same-first}
 use Rattle.ready_queue.proofs.ReadyQueue.set.Goals as goal
 
 pub returns-clause-keys : goal.returns-clause-keys
 returns-clause-keys c =
     let kept : List (Option Key) → Queue = λ ks. record { most = c.args.self.now.most; keys = ks } in
-    rw (c.put_in-is_first.ensures.keys, c.take_out-was_first.ensures.keys, c.in-Some.is) (ap kept (set-set _ _ _ _))
+    rw (c.put_in-put.ensures.keys, c.take_out-taken.ensures.keys, c.in-Some.is) (ap kept (set-set _ _ _ _))
 
-pub returns-in_default-clause-moves : goal.returns-in_default-clause-moves
-returns-in_default-clause-moves c =
-    let gone = ap (λ (q : Queue). is_first q c.args.task.0) c.take_out-was_first.ensures.keys ∙ taken-first c.args.self.now c.args.task.0 c.requires in
-    c.take_out-was_first.ensures.was_first ∙ moves-none _ _ gone
+pub returns-then-is_none-clause-keys : goal.returns-then-is_none-clause-keys
+returns-then-is_none-clause-keys c =
+    let kept : List (Option Key) → Queue = λ ks. record { most = c.args.self.now.most; keys = ks } in
+    rw (c.put_in-put.ensures.keys, c.take_out-taken.ensures.keys, c.in-Some.is) (ap kept (set-set _ _ _ _))
 
-pub returns-in_default-clause-same : goal.returns-in_default-clause-same
-returns-in_default-clause-same c =
-    λ h.
-    let moved = rw c.take_out-was_first.ensures.keys at (sym (returns-in_default-clause-moves c) ∙ h) in
-    rw c.take_out-was_first.ensures.keys (same-first c.args.self.now c.args.task.0 None c.requires moved)
+pub returns-then-is_none-2-clause-keys : goal.returns-then-is_none-2-clause-keys
+returns-then-is_none-2-clause-keys c =
+    let kept : List (Option Key) → Queue = λ ks. record { most = c.args.self.now.most; keys = ks } in
+    rw (c.put_in-put.ensures.keys, c.take_out-taken.ensures.keys, c.in-Some.is) (ap kept (set-set _ _ _ _))
 
-pub returns-clause-same : goal.returns-clause-same
-returns-clause-same c =
-    λ h.
-    let moved : moves (is_first c.args.self.now c.args.task.0) (is_first c.put_in-is_first.new.self c.args.task.0) ≡ false = search rules in
-    rw (returns-clause-keys c) (same-first c.args.self.now c.args.task.0 c.args.key c.requires (rw (returns-clause-keys c) at moved))
+pub returns-clause-exchanged : goal.returns-clause-exchanged
+returns-clause-exchanged c =
+    let was : is_first c.args.self.now c.args.task.0 ≡ true = not_false _ (sym c.take_out-taken.ensures.was_first ∙ sym c.is_none-2.ensures ∙ c.if-is_none-2.false) in
+    let now : is_first c.put_in-put.new.self c.args.task.0 ≡ true = not_false _ (sym c.put_in-put.ensures.is_first ∙ sym c.is_none.ensures ∙ c.if-is_none.false) in
+    rw (returns-clause-keys c)
+    (none-exchanged _ _ (λ u. sym (same-first c.args.self.now c.args.task.0 c.args.key c.requires (was ∙ sym (rw (returns-clause-keys c) at now)) u)))
