@@ -4,3 +4,4 @@ pub mod Stays
 pub mod Settled
 pub mod Listed
 pub mod Seen
+pub mod PendingLaws

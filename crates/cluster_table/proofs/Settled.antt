@@ -1,19 +1,18 @@
 -- Placing the first tasks of a cluster once settles its links, until others are the first tasks.
-use Rattle.std.proofs.Common.{◌≡◌, ℕ, zero, suc, ◌≤◌, Bool, List, [], ◌∷◌, length, replicate, set, refl, sym, ap, ◌∙◌, arith}
-use Rattle.std.specs.Prelude.{Option, None}
+use Rattle.std.proofs.Common.{◌≡◌, ℕ, zero, suc, ◌≤◌, Bool, List, [], ◌∷◌, length, replicate, refl, sym, ap, ◌∙◌, arith}
+use Rattle.std.specs.Prelude.{None}
 use Rattle.std.proofs.lemmas.List.{take-map}
-use Rattle.rt_order.specs.declared.Key.{Key}
 use Rattle.rt_rules.specs.Keys.{Ranked}
 use Rattle.rt_rules.specs.Placing.{kept, tasks_in}
 use Rattle.rt_rules.specs.Rankings.{tasks_of}
 use Rattle.rt_laws.proofs.PlacedAgain.{placed-again}
-use Rattle.ready_queue.specs.Queue.{HaveSameFirst, first_tasks, in_order}
+use Rattle.ready_queue.specs.Queue.{first_tasks, in_order}
 use Rattle.ready_queue.proofs.SplitLaws.{split-none}
 use Rattle.link_table.specs.Linked.{IsOfCluster, IsSound}
 use Rattle.link_table.proofs.Filling.{filled-none}
-use Rattle.link_table.proofs.StayLaws.{linked_top-stays, placed_links-stay}
+use Rattle.link_table.proofs.StayLaws.{placed_links-stay}
 use Rattle.cluster_table.proofs.FirstTasks.{distinct-first_tasks, few-first_tasks}
-use Rattle.cluster_table.specs.Clusters.{KeptCluster, IsSettled, after_take, fresh, left_by, relinked, with_key}
+use Rattle.cluster_table.specs.Clusters.{KeptCluster, IsSettled, after_take, fresh, left_by, relinked}
 
 pub settled-relinked : (k : KeptCluster) → IsSound k.linked → k.cpus ≡ length k.linked.runs → IsSettled (relinked k)
 settled-relinked k sound all =
@@ -43,10 +42,3 @@ pub settled-run : (k : KeptCluster) (q : ℕ) (np : Bool) → IsSound k.linked �
 settled-run k q np sound all of_cluster settled =
     let few = few-first_tasks k.cpus k.keys in
     placed_links-stay k.linked (first_tasks k.cpus k.keys) q np sound of_cluster (distinct-first_tasks k.cpus k.keys) (omega (arith, few, all)) settled
-
--- and as a task is given a key, where the first of the eligible tasks are the same ones
-pub settled-with_key : (k : KeptCluster) (t : ℕ) (key : Option Key) → IsSound k.linked → k.cpus ≡ length k.linked.runs
-    → HaveSameFirst (record { most = k.cpus; keys = k.keys }) (record { most = k.cpus; keys = set k.keys t key }) → IsSettled k → IsSettled (with_key t key k)
-settled-with_key k t key sound all same settled =
-    let few = few-first_tasks k.cpus k.keys in
-    linked_top-stays k.linked (first_tasks k.cpus k.keys) (first_tasks k.cpus (set k.keys t key)) sound (distinct-first_tasks k.cpus k.keys) (omega (arith, few, all)) same settled

@@ -1,3 +1,4 @@
 pub mod Clusters
 pub mod Placed
 pub mod Table
+pub mod Pending

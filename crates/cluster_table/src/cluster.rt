@@ -5,6 +5,8 @@ ghost use Rattle.link_table.specs.Linked.{IsOfCluster, irq_reply, link_of, runs_
 ghost use Rattle.cluster_table.specs.Clusters.{IsSettled, after_take, fresh, left_by, relinked, with_key};
 ghost use Rattle.cluster_table.specs.Placed.{as_placed};
 
+use crate::pending::Pending;
+use crate::placing;
 use link_table::Links;
 use ready_heap::ReadyHeap;
 use ready_queue::ReadyQueue;
@@ -26,29 +28,28 @@ fn is_same(a: Option<Key>, b: Option<Key>) -> bool
 pub(crate) struct ClusterState {
     queue: ReadyQueue,
     links: Links,
-    // The first of the eligible tasks, while they are placed.
+    // The first of the eligible tasks, while all of them are placed.
     top: Vec<TaskNo>,
-    is_placed: bool,
+    pending: Pending,
 }
 
 impl Model for ClusterState {
-    ghost use Rattle.std.specs.Prelude.{◌≡◌, ◌≤◌, true, length, vec_capacity};
+    ghost use Rattle.std.specs.Prelude.{◌≡◌, ◌≤◌, length, vec_capacity};
     ghost use Rattle.link_table.specs.Linked.{IsSound};
-    ghost use Rattle.cluster_table.specs.Clusters.{IsSettled};
+    ghost use Rattle.cluster_table.specs.Pending.{IsPending, cluster_of, is_nothing};
     ghost use Rattle.cluster_table.specs.Placed as seen;
 
     ghost Value = { seen.PlacedCluster };
 
     ghost view = { λ a. record {
-      cluster = record { cpus = a.queue.most; keys = a.queue.keys; linked = a.links };
-      is_placed = a.is_placed;
+      cluster = cluster_of a.queue a.links;
+      is_placed = is_nothing a.pending;
     } };
 
     ghost invariant = { λ a. (a.queue.most ≡ length a.links.runs)
         × (a.queue.most ≤ vec_capacity a.top)
         × IsSound a.links
-        × (a.is_placed ≡ true
-        → IsSettled (record { cpus = a.queue.most; keys = a.queue.keys; linked = a.links })) };
+        × IsPending a.pending (cluster_of a.queue a.links) };
 }
 
 impl ClusterState {
@@ -71,7 +72,7 @@ impl ClusterState {
             queue,
             links,
             top,
-            is_placed: true,
+            pending: Pending::Nothing,
         })
     }
 
@@ -108,9 +109,8 @@ impl ClusterState {
         if is_same(self.queue.heap().key(task), key) {
             return;
         }
-        if self.queue.set(task, key) {
-            self.is_placed = false;
-        }
+        let exchange = self.queue.set(task, key);
+        self.pending = self.pending.after(exchange);
     }
 
     /// Takes an interrupt at the processor, where `np` says whether what it runs is non-preemptive. Where the reply is
@@ -140,7 +140,7 @@ impl ClusterState {
         ensures flag { result ≡ self.now.is_placed }
         ensures settled { self.now.is_placed ≡ true → IsSettled self.now.cluster }
     {
-        self.is_placed
+        self.pending.is_nothing()
     }
 
     /// Links the first of the eligible tasks.
@@ -151,10 +151,7 @@ impl ClusterState {
         } }
         ensures settled { IsSettled self.new.cluster }
     {
-        if !self.is_placed {
-            self.queue.copy_first(&mut self.top);
-            self.links.place(self.top.as_slice());
-            self.is_placed = true;
-        }
+        placing::place(&self.queue, &mut self.links, &mut self.top, self.pending);
+        self.pending = Pending::Nothing;
     }
 }

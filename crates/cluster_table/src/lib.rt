@@ -11,6 +11,8 @@ ghost use Rattle.cluster_table.specs.Clusters.{KeptCluster, after_take, homes_fr
 ghost use Rattle.cluster_table.specs.Table.{HasProcessor, HasTask, IsThere, changed_at, cluster_at, cluster_numbers};
 
 mod cluster;
+mod pending;
+mod placing;
 mod rows;
 
 use cluster::ClusterState;

@@ -7,7 +7,7 @@ use Rattle.rt_rules.specs.Placing.{at_place, filled, kept, kept_link, placed, ta
 use Rattle.rt_rules.proofs.BoolLaws.{and_false, and_true, clash, neither, or_true, unless}
 use Rattle.rt_rules.proofs.LinkLaws.{has-at_place}
 use Rattle.rt_rules.proofs.PlacingLaws.{distinct-filter, distinct-head, equal_self, has-filter}
-use Rattle.link_table.specs.Exchanges.{IsExchanged}
+use Rattle.ready_queue.specs.Exchanges.{IsExchanged}
 use Rattle.link_table.specs.Linked.{Linked, exchanged, first_taken, first_taken_by, without_link, CanExchange, IsAmong, IsPlacedFor, IsSound}
 use Rattle.link_table.proofs.AmongLaws.{among-placed}
 use Rattle.link_table.proofs.Filling.{filled-first, filled-none}

@@ -6,7 +6,7 @@ use Rattle.rt_history.specs.declared.Reply.TheVariants.{Quiet, Deferred, Runs, I
 use Rattle.rt_rules.specs.Numbers.{has, is, same}
 use Rattle.rt_rules.specs.Distinct.{IsDistinct}
 use Rattle.rt_rules.specs.Placing.{tasks_in, at_place, placed}
-use Rattle.link_table.specs.Exchanges.{IsExchanged}
+use Rattle.ready_queue.specs.Exchanges.{IsExchanged}
 
 -- the first processor of a cluster, what each one runs, and the task that each one is linked to
 pub record Linked : Type 0 where

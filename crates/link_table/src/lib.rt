@@ -7,7 +7,7 @@ ghost use Rattle.rt_base.specs.TaskNos.{number_of_task, numbers};
 ghost use Rattle.rt_rules.specs.Distinct.{IsDistinct};
 ghost use Rattle.rt_rules.specs.Numbers.{has, is};
 ghost use Rattle.rt_rules.specs.Placing.{placed, tasks_in};
-ghost use Rattle.link_table.specs.Exchanges.{IsExchanged};
+ghost use Rattle.ready_queue.specs.Exchanges.{IsExchanged};
 ghost use Rattle.link_table.specs.Linked.{after_irq, irq_reply, is_pending, link_of, runs_on, unlinked, with_run, CanExchange, IsAmong, IsOfCluster, IsPlacedFor, IsSound, LinkedTopStays, LinksAreOfProcessors, PlacedLinksStay, RunsAreOfProcessors, StaysAmong, StaysAmongWith};
 
 mod marks;

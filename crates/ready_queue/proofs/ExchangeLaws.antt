@@ -11,7 +11,7 @@ use Rattle.rt_rules.proofs.RankedLaws.{distinct-inserted, has-inserted}
 use Rattle.ready_queue.specs.Exchanges.{IsExchanged}
 use Rattle.ready_queue.specs.Queue.{IsSplit, Queue, first_tasks}
 use Rattle.ready_queue.proofs.FirstLaws.{first-top}
-use Rattle.ready_queue.proofs.SplitLaws.{has-append, has-front, has-last, has-without, last-alone}
+use Rattle.ready_queue.proofs.SplitLaws.{has-front, has-last, has-without, last-alone}
 
 kept : (b : Bool) → (b && true) || false ≡ b
 kept true = refl
@@ -60,19 +60,20 @@ exchanged-taken t top d there = record {
 
 -- or another follows it
 pub exchanged-followed : (t : ℕ) (r : Ranked) (top : List Ranked) → IsDistinct (tasks_of top) → has t (tasks_of top) ≡ true → has r.task (tasks_of top) ≡ false
-    → IsExchanged (tasks_of top) (tasks_of (without_task t top ++ r ∷ [])) (Some t) (Some r.task)
+    → IsExchanged (tasks_of top) (tasks_of (inserted r (without_task t top))) (Some t) (Some r.task)
 exchanged-followed t r top d there apart = record {
   was = λ u h. rw (eqb-true u t h) there;
   was_not = λ u h. rw (eqb-true u r.task h) apart;
-  first = λ u. has-append u (without_task t top) (r ∷ []) ∙ rw (has-without t u top d) (by_case (u == t) (has u (tasks_of top)) (u == r.task));
+  first = λ u. has-inserted u r (without_task t top) ∙ rw (has-without t u top d) (by_case (u == t) (has u (tasks_of top)) (u == r.task));
 }
   where
-    by_case : (b c a : Bool) → cond b false c || (a || false) ≡ (c && not b) || a
+    by_case : (b c a : Bool) → a || cond b false c ≡ (c && not b) || a
     by_case true true true = refl
     by_case true true false = refl
     by_case true false true = refl
     by_case true false false = refl
-    by_case false true a = refl
+    by_case false true true = refl
+    by_case false true false = refl
     by_case false false true = refl
     by_case false false false = refl
 

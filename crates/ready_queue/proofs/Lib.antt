@@ -1,5 +1,6 @@
 pub mod Refreshing
 pub mod ReadySets
+pub mod OrderedLaws
 pub mod SplitLaws
 pub mod FirstLaws
 pub mod ExchangeLaws

@@ -1,7 +1,7 @@
 -- The first tasks and the rest, as a task is put in or taken out.
 use Rattle.std.proofs.Common.{◌≡◌, ℕ, zero, suc, ◌+◌, ◌<◌, ◌≤◌, Bool, true, false, ◌&&◌, ◌||◌, cond, eqb-true, List, [], ◌∷◌, ◌++◌, length, map, set, take, drop, refl, sym, ap, ◌∙◌, subst, arith, length-set, append-nil}
 use Rattle.std.proofs.lemmas.Bool.Decides.{nat_tests}
-use Rattle.std.proofs.lemmas.List.{length-append, take-append-drop, take-map, take_all, get_or_past}
+use Rattle.std.proofs.lemmas.List.{length-append, take-append-drop, take-map, take_all, get_or_past, set-get_or}
 use Rattle.std.proofs.Math.Seq.{take-append_seam}
 use Rattle.std.proofs.lemmas.List.Sums.{sum_by-cons}
 use Rattle.std.specs.Prelude.{◌==◌, filter, replicate, nat_lt, Option, None, Some, is_some, unwrap_or}
@@ -19,8 +19,10 @@ use Rattle.rt_rules.proofs.RankedLaws.{distinct-inserted, distinct-take, has-ins
 use Rattle.ready_heap.specs.Row.{key_at}
 use Rattle.ready_heap.specs.Ready.{size, IsFirst}
 use Rattle.ready_queue.specs.Queue.{Queue, key_in, is_in, in_order, IsSplit}
+use Rattle.ready_queue.specs.RankedTasks.{IsInOrder}
 use Rattle.ready_queue.specs.ReadySet.{HoldsJust}
 use Rattle.ready_queue.specs.Refreshed.{AgreeBut, put_back}
+use Rattle.ready_queue.proofs.OrderedLaws.{in_order-sorted, in_order-take, inserted-last}
 use Rattle.ready_queue.proofs.Refreshing.{others, ranking_is_refreshed, without-absent}
 use Rattle.ready_queue.proofs.ReadySets.{at_set, first-ranked, none-at, none-ranked}
 
@@ -139,6 +141,10 @@ put-in_order keys t k low out =
     let absent : has t (tasks_of (in_order keys)) ≡ false = has-ranked_by (key_in keys) (is_in keys) t (numbers_from 0 (length keys)) ∙ rw out (and_false (has t (numbers_from 0 (length keys)))) in
     in_order-set keys t (Some k) low ∙ rw (here, without-absent t (in_order keys) absent)
 
+-- all of the list stand in order
+all-in_order : (keys : List (Option Key)) → IsInOrder (in_order keys)
+all-in_order keys = in_order-sorted (map (λ t. record { key = key_in keys t; task = t }) (filter (is_in keys) (numbers_from 0 (length keys))))
+
 -- one of the list is within the room
 pub room-in_order : (keys : List (Option Key)) (t : ℕ) → has t (tasks_of (in_order keys)) ≡ true → t < length keys
 room-in_order keys t h =
@@ -183,7 +189,7 @@ has-without t u (r ∷ rs) d = by_case (r.task == t) refl (u == t) refl (has-wit
     by_case false e true k rest = let other : u == r.task ≡ false = rw (eqb-true u t k) (turned t r.task ∙ e) in rw other (rest ∙ rw k)
     by_case false e false k rest = ap (λ b. u == r.task || b) (rest ∙ rw k)
 
-pub has-append : (u : ℕ) (xs ys : List Ranked) → has u (tasks_of (xs ++ ys)) ≡ has u (tasks_of xs) || has u (tasks_of ys)
+has-append : (u : ℕ) (xs ys : List Ranked) → has u (tasks_of (xs ++ ys)) ≡ has u (tasks_of xs) || has u (tasks_of ys)
 has-append u [] ys = refl
 has-append u (x ∷ xs) ys = ap (λ b. u == x.task || b) (has-append u xs ys) ∙ grouped (u == x.task)
   where
@@ -325,17 +331,19 @@ module _ (q : Queue) (top : List Ranked) (rest : List (Option Key)) (s : IsSplit
           by_case false c h = h
 
   -- a task of the rest is none of the first ones
-  pub rest-apart : (u : ℕ) (k : Key) → key_at rest u ≡ Some k → has u (tasks_of top) ≡ false
-  rest-apart u k is = unless (has u (tasks_of top)) (λ h. let none : key_at rest u ≡ None = s.rest_are u ∙ rw h in cc)
+  pub rest-apart : (u : ℕ) → is_in rest u ≡ true → has u (tasks_of top) ≡ false
+  rest-apart u there = unless (has u (tasks_of top)) (λ h. let none : key_at rest u ≡ None = s.rest_are u ∙ rw h in clash _ there (ap is_some none))
+
+  -- and taking one of these out of the rest changes nothing
+  pub split-behind : (t : ℕ) → has t (tasks_of top) ≡ true → IsSplit q top (set rest t None)
+  split-behind t there =
+      let none : key_at rest t ≡ None = s.rest_are t ∙ rw there in
+      subst (IsSplit q top) (sym (ap (λ (o : Option Key). set rest t o) (sym none) ∙ set-get_or rest t None)) s
 
   -- one of the first ones is taken out, and the first of the rest follows
   pub split-followed : (t u : ℕ) (k : Key) → has t (tasks_of top) ≡ true → IsFirst higher rest u → key_at rest u ≡ Some k
-      → IsSplit (record q { keys = set q.keys t None }) (without_task t top ++ record { key = k; task = u } ∷ []) (set rest u None)
-  split-followed t u k there first is = record {
-    same_room = length-set rest u None ∙ s.same_room ∙ sym (length-set q.keys t None);
-    top_is = sym (first_without t there ∙ rw (next.1, is) refl);
-    rest_are = λ v. at_set rest u v None inside ∙ sym (rw (has-append v (without_task t top) (record { key = k; task = u } ∷ []), has-without t v top distinct-top, at_set q.keys t v None (top-inside t there)) (by_case v (v == u) refl (v == t) refl (has v (tasks_of top)) refl));
-  }
+      → IsSplit (record q { keys = set q.keys t None }) (inserted (record { key = k; task = u }) (without_task t top)) (set rest u None)
+  split-followed t u k there first is = subst (λ rs. IsSplit (record q { keys = set q.keys t None }) rs (set rest u None)) (sym last) at_end
     where
       next : (has u (numbers_from 0 (length rest)) ≡ true) × (in_order rest ≡ record { key = key_in rest u; task = u } ∷ ranked_by (key_in rest) (others u (is_in rest)) (numbers_from 0 (length rest)))
       next = first-ranked (numbers_from 0 (length rest)) (key_in rest) (is_in rest) rest u (distinct-numbers_from 0 (length rest)) (holds-all rest) first
@@ -345,16 +353,26 @@ module _ (q : Queue) (top : List Ranked) (rest : List (Option Key)) (s : IsSplit
 
       by_case : (v : ℕ) (a : Bool) → v == u ≡ a → (b : Bool) → v == t ≡ b → (c : Bool) → has v (tasks_of top) ≡ c
           → cond (cond b false c || (a || false)) None (cond b None (key_at q.keys v)) ≡ cond a None (key_at rest v)
-      by_case v true e true f c g = let same : u ≡ t = sym (eqb-true v u e) ∙ eqb-true v t f in absurd (clash _ (rw same there) (rest-apart u k is))
+      by_case v true e true f c g = let same : u ≡ t = sym (eqb-true v u e) ∙ eqb-true v t f in absurd (clash _ (rw same there) (rest-apart u (ap is_some is)))
       by_case v true e false f true g = refl
       by_case v true e false f false g = refl
       by_case v false e true f c g = let here : has v (tasks_of top) ≡ true = rw (eqb-true v t f) there in sym (s.rest_are v ∙ rw here)
       by_case v false e false f true g = sym (s.rest_are v ∙ rw g)
       by_case v false e false f false g = sym (s.rest_are v ∙ rw g)
 
+      at_end : IsSplit (record q { keys = set q.keys t None }) (without_task t top ++ record { key = k; task = u } ∷ []) (set rest u None)
+      at_end = record {
+        same_room = length-set rest u None ∙ s.same_room ∙ sym (length-set q.keys t None);
+        top_is = sym (first_without t there ∙ rw (next.1, is) refl);
+        rest_are = λ v. at_set rest u v None inside ∙ sym (rw (has-append v (without_task t top) (record { key = k; task = u } ∷ []), has-without t v top distinct-top, at_set q.keys t v None (top-inside t there)) (by_case v (v == u) refl (v == t) refl (has v (tasks_of top)) refl));
+      }
+
+      last : inserted (record { key = k; task = u }) (without_task t top) ≡ without_task t top ++ record { key = k; task = u } ∷ []
+      last = inserted-last (record { key = k; task = u }) (without_task t top) (rw at_end.top_is (in_order-take q.most (in_order (set q.keys t None)) (all-in_order (set q.keys t None))))
+
   -- a task that is not in is none of the first ones
-  pub absent-top : (t : ℕ) → key_at q.keys t ≡ None → has t (tasks_of top) ≡ false
-  absent-top t none = unless (has t (tasks_of top)) (λ h. out (top-in t h))
+  pub absent-top : (t : ℕ) → is_in q.keys t ≡ false → has t (tasks_of top) ≡ false
+  absent-top t out = unless (has t (tasks_of top)) (λ h. clash _ (top-in t h) out)
     where
       top-in : (u : ℕ) → has u (tasks_of top) ≡ true → is_in q.keys u ≡ true
       top-in u h =
@@ -362,11 +380,19 @@ module _ (q : Queue) (top : List Ranked) (rest : List (Option Key)) (s : IsSplit
           let listed : has u (tasks_of (in_order q.keys)) ≡ true = has-take u q.most (tasks_of (in_order q.keys)) there in
           (both (has u (numbers_from 0 (length q.keys))) (is_in q.keys u) (sym (has-ranked_by (key_in q.keys) (is_in q.keys) u (numbers_from 0 (length q.keys))) ∙ listed)).1
 
-      out : is_in q.keys t ≡ true → ⊥
-      out h = let no : is_in q.keys t ≡ false = rw none in clash _ h no
+  -- one that is in and is none of the rest is one of them
+  pub in-top : (t : ℕ) → is_in q.keys t ≡ true → is_in rest t ≡ false → has t (tasks_of top) ≡ true
+  in-top t there apart = by_case (has t (tasks_of top)) refl
+    where
+      by_case : (b : Bool) → has t (tasks_of top) ≡ b → b ≡ true
+      by_case true e = refl
+      by_case false e = let same : key_at rest t ≡ key_at q.keys t = s.rest_are t ∙ rw e in absurd (clash _ (ap is_some same ∙ there) apart)
 
   -- one more is put in
   module _ (t : ℕ) (k : Key) (low : t < length q.keys) (none : key_at q.keys t ≡ None) where
+    none-top : has t (tasks_of top) ≡ false
+    none-top = absent-top t (ap is_some none)
+
     first-with : take q.most (in_order (set q.keys t (Some k))) ≡ take q.most (inserted (record { key = k; task = t }) top)
     first-with =
         ap (take q.most) (put-in_order q.keys t k low none) ∙ sym (take-inserted q.most (record { key = k; task = t }) (in_order q.keys))
@@ -396,7 +422,7 @@ module _ (q : Queue) (top : List Ranked) (rest : List (Option Key)) (s : IsSplit
       all-in-with : AllIn (set q.keys t (Some k)) with-it
       all-in-with =
           let old : AllIn q.keys top = rw s.top_is (all_in-take q.keys q.most (in_order q.keys) (all_in-order q.keys)) in
-          all_in-inserted (set q.keys t (Some k)) (record { key = k; task = t }) top (at_set q.keys t t (Some k) low ∙ rw (equal_self t)) (all_in-set q.keys t (Some k) top low (absent-top t none) old)
+          all_in-inserted (set q.keys t (Some k)) (record { key = k; task = t }) top (at_set q.keys t t (Some k) low ∙ rw (equal_self t)) (all_in-set q.keys t (Some k) top low none-top old)
 
       last-in : key_at (set q.keys t (Some k)) l.task ≡ Some l.key
       last-in = all_in-last (set q.keys t (Some k)) front l (subst (AllIn (set q.keys t (Some k))) is all-in-with)
@@ -412,7 +438,7 @@ module _ (q : Queue) (top : List Ranked) (rest : List (Option Key)) (s : IsSplit
           within (x ∷ ks) (suc u) j h = omega (arith, within ks u j h)
 
       last-apart : has l.task (tasks_of front) ≡ false
-      last-apart = last-alone l front (subst (λ rs. IsDistinct (tasks_of rs)) is (distinct-inserted (record { key = k; task = t }) top (absent-top t none) distinct-top))
+      last-apart = last-alone l front (subst (λ rs. IsDistinct (tasks_of rs)) is (distinct-inserted (record { key = k; task = t }) top none-top distinct-top))
 
       in-front : (u : ℕ) → u == l.task ≡ false → has u (tasks_of front) ≡ u == t || has u (tasks_of top)
       in-front u other = sym (has-front u l front other) ∙ ap (λ rs. has u (tasks_of rs)) (sym is) ∙ has-inserted u (record { key = k; task = t }) top
@@ -436,7 +462,7 @@ module _ (q : Queue) (top : List Ranked) (rest : List (Option Key)) (s : IsSplit
       }
         where
           later : (u : ℕ) (b : Bool) → u == t ≡ b → key_at rest u ≡ cond (b || has u (tasks_of top)) None (cond b (Some k) (key_at q.keys u))
-          later u true e = rw (eqb-true u t e) (s.rest_are t ∙ rw (absent-top t none) none)
+          later u true e = rw (eqb-true u t e) (s.rest_are t ∙ rw (none-top, none))
           later u false e = s.rest_are u
 
           by_case : (u : ℕ) (b : Bool) → u == l.task ≡ b → cond b (Some l.key) (key_at rest u) ≡ cond (has u (tasks_of front)) None (key_at (set q.keys t (Some k)) u)

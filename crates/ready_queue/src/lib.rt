@@ -133,21 +133,23 @@ impl ReadyQueue {
         ensures was_first { (is_none result.left && is_none result.came)
             ≡ not (is_first self.old task.0) }
     {
-        uncounted::take_out(&mut self.all, task);
-        if !self.first.remove(task) {
-            uncounted::take_out(&mut self.rest, task);
+        // The list is searched only for a task that is in and not one of the rest.
+        let was_in = uncounted::take_out(&mut self.all, task);
+        let was_behind = uncounted::take_out(&mut self.rest, task);
+        if !was_in || was_behind {
             return Exchange {
                 left: None,
                 came: None,
             };
         }
+        self.first.remove(task);
         let Some((next, key)) = uncounted::take_first(&mut self.rest) else {
             return Exchange {
                 left: Some(task),
                 came: None,
             };
         };
-        self.first.push(key, next);
+        self.first.insert(key, next);
         Exchange {
             left: Some(task),
             came: Some(next),

@@ -1,6 +1,6 @@
 use Rattle.std.proofs.Common.{◌≡◌, ◌≤◌, ◌&&◌, not, [], ◌∷◌, ◌++◌, length, sym, ap, ◌∙◌, arith, eqb-true}
 use Rattle.std.proofs.lemmas.List.{length-map}
-use Rattle.std.specs.Prelude.{None, Some, is_none}
+use Rattle.std.specs.Prelude.{None, Some, is_none, is_some}
 use Rattle.rt_base.specs.TaskNos.{number_of_task}
 use Rattle.rt_rules.specs.Keys.{inserted}
 use Rattle.rt_rules.specs.Numbers.{is}
@@ -53,14 +53,14 @@ invariant_of-self-2 c =
 
 pub returns-then-as_slice-self-clause-exchanged : goal.returns-then-as_slice-self-clause-exchanged
 returns-then-as_slice-self-clause-exchanged c =
-    let absent = absent-top _ _ _ c.self.invariant.0 c.args.task.0 (rw (← c.self.view_is) at c.requires.absent) in
+    let absent = absent-top _ _ _ c.self.invariant.0 c.args.task.0 (ap is_some (rw (← c.self.view_is) at c.requires.absent)) in
     rw (← c.self.view_is)
     (first-exchanged _ _ _ _ _ _ None (Some c.args.task.0) c.self.invariant.0 (invariant_of-self c).0
     (rw c.insert.ensures.tasks (exchanged-put (record { key = c.args.key; task = c.args.task.0 }) c.self.inside.first.tasks absent)))
 
 pub returns-clause-exchanged : goal.returns-clause-exchanged
 returns-clause-exchanged c =
-    let absent = absent-top _ _ _ c.self.invariant.0 c.args.task.0 (rw (← c.self.view_is) at c.requires.absent) in
+    let absent = absent-top _ _ _ c.self.invariant.0 c.args.task.0 (ap is_some (rw (← c.self.view_is) at c.requires.absent)) in
     let once = distinct-top _ _ _ c.self.invariant.0 in
     let split : inserted (record { key = c.args.key; task = c.args.task.0 }) c.self.inside.first.tasks ≡ c.pop.new.self.tasks ++ ranked c.in-Some.last ∷ [] = sym c.insert.ensures.tasks ∙ c.in-Some.ensures.taken in
     rw (← c.self.view_is)
@@ -72,13 +72,13 @@ returns-clause-exchanged c =
 
 pub returns-then-as_slice-self-clause-is_first : goal.returns-then-as_slice-self-clause-is_first
 returns-then-as_slice-self-clause-is_first c =
-    let absent = absent-top _ _ _ c.self.invariant.0 c.args.task.0 (rw (← c.self.view_is) at c.requires.absent) in
+    let absent = absent-top _ _ _ c.self.invariant.0 c.args.task.0 (ap is_some (rw (← c.self.view_is) at c.requires.absent)) in
     let was_not = sym (first-top _ _ _ c.self.invariant.0 c.args.task.0) ∙ absent in
     sym (ap not (comes c.args.task.0 _ _ _ _ (returns-then-as_slice-self-clause-exchanged c) (rw (← c.self.view_is) was_not) ∙ equal_self c.args.task.0))
 
 pub returns-clause-is_first : goal.returns-clause-is_first
 returns-clause-is_first c =
-    let absent = absent-top _ _ _ c.self.invariant.0 c.args.task.0 (rw (← c.self.view_is) at c.requires.absent) in
+    let absent = absent-top _ _ _ c.self.invariant.0 c.args.task.0 (ap is_some (rw (← c.self.view_is) at c.requires.absent)) in
     let was_not = sym (first-top _ _ _ c.self.invariant.0 c.args.task.0) ∙ absent in
     let told : is_none c.if-last-task.result.left && is_none c.if-last-task.result.came ≡ not (is c.args.task.0 (number_of_task c.if-last-task.result.came)) = elim c.if-last-task.branch [
       | then-last-task w ↦ rw w.result-is

@@ -1,6 +1,6 @@
 use Rattle.std.proofs.Common.{◌∙◌, sym, false}
 use Rattle.cluster_table.specs.Clusters.{KeptCluster}
-use Rattle.cluster_table.proofs.Settled.{settled-run}
+use Rattle.cluster_table.proofs.PendingLaws.{pending-run, settled-pending}
 use Rattle.cluster_table.proofs.Stays.{stays-left_by}
 use Rattle.cluster_table.proofs.cluster.ClusterState.leave.Goals as goal
 
@@ -12,8 +12,8 @@ invariant_of-self c =
       rw c.leave.ensures.runs (c.self.invariant.0 ∙ sym ((stays-left_by c.args.q.0).cpus k)),
       c.self.invariant.1,
       c.leave.ensures.sound,
-      λ h. rw c.leave.ensures.runs (settled-run k c.args.q.0 false c.self.invariant.2 c.self.invariant.0 of_cluster (c.self.invariant.3 h)).1,
+      rw c.leave.ensures.runs (pending-run c.self.inside.pending k c.args.q.0 false c.self.invariant.2 c.self.invariant.0 of_cluster c.self.invariant.3).1,
     )
 
 pub returns-clause-settled : goal.returns-clause-settled
-returns-clause-settled c = λ h. (invariant_of-self c).3 h
+returns-clause-settled c = λ h. settled-pending c.self.inside.pending _ (invariant_of-self c).3 h

@@ -22,5 +22,5 @@ invariant_of-result c =
       rw (queue, links, length-replicate),
       rw queue (omega (arith, c.in-Ok.ensures.capacity)),
       c.in_ok-links.ensures.sound,
-      λ h. rw (queue, links) (settled-fresh c.args.first.0 c.args.cpus c.args.room),
+      rw (queue, links) (settled-fresh c.args.first.0 c.args.cpus c.args.room),
     )

@@ -1,6 +1,6 @@
 use Rattle.std.proofs.Common.{◌∙◌, sym}
 use Rattle.cluster_table.specs.Clusters.{KeptCluster}
-use Rattle.cluster_table.proofs.Settled.{settled-run}
+use Rattle.cluster_table.proofs.PendingLaws.{pending-run, settled-pending}
 use Rattle.cluster_table.proofs.Stays.{stays-after_take}
 use Rattle.cluster_table.proofs.cluster.ClusterState.take_irq.Goals as goal
 
@@ -12,8 +12,8 @@ invariant_of-self c =
       rw c.take_irq.ensures.runs (c.self.invariant.0 ∙ sym ((stays-after_take c.args.q.0 c.args.np).cpus k)),
       c.self.invariant.1,
       c.take_irq.ensures.sound,
-      λ h. rw c.take_irq.ensures.runs (settled-run k c.args.q.0 c.args.np c.self.invariant.2 c.self.invariant.0 of_cluster (c.self.invariant.3 h)).0,
+      rw c.take_irq.ensures.runs (pending-run c.self.inside.pending k c.args.q.0 c.args.np c.self.invariant.2 c.self.invariant.0 of_cluster c.self.invariant.3).0,
     )
 
 pub returns-clause-settled : goal.returns-clause-settled
-returns-clause-settled c = λ h. (invariant_of-self c).3 h
+returns-clause-settled c = λ h. settled-pending c.self.inside.pending _ (invariant_of-self c).3 h
