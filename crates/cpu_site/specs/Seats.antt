@@ -79,7 +79,8 @@ through_irq q es = take (last_irq q es) es
 abbrev pub word_taken : Group → ℕ → List Entry → ℕ
 word_taken g q es = raises g q (through_irq q es)
 
--- the new list begins with the old one and ends with e, which is the processor's one new entry: its next step, with the reply that one thread gives there
+-- the new list begins with the old one and ends with e, which is the processor's one new entry: its next step, with the reply that one
+-- thread gives there
 pub record IsPlay (s : GroupOf) (p : CpuPlace) (e : Entry) (p' : CpuPlace) : Type 0 where
   pub own : cpu_of e ≡ p.cpu
   pub between : List Entry

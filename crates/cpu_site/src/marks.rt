@@ -47,10 +47,13 @@ pub(crate) fn changed(before: &[u64], after: &[u64], places: &mut Vec<u32>)
     requires same { length before.now ≡ length after.now }
     requires few { length before.now < 2 ^ 32 }
     requires room { length before.now ≤ vec_capacity places.old }
-    requires each { (p : ℕ) → p < length before.now → (slice_index after.now p ≡ slice_index before.now p) ⊎ (slice_index after.now p ≡ slice_index before.now p + 1) }
+    requires each { (p : ℕ) → p < length before.now →
+        (slice_index after.now p ≡ slice_index before.now p)
+        ⊎ (slice_index after.now p ≡ slice_index before.now p + 1) }
     ensures named { All (λ p. p < length before.now) places.new.items }
     ensures once { (p : ℕ) → times p places.new.items ≤ 1 }
-    ensures counted { (p : ℕ) → p < length before.now → slice_index after.now p ≡ slice_index before.now p + times p places.new.items }
+    ensures counted { (p : ℕ) → p < length before.now →
+        slice_index after.now p ≡ slice_index before.now p + times p places.new.items }
     ensures capacity { vec_capacity places.old ≤ vec_capacity places.new }
 {
     places.clear();

@@ -48,7 +48,8 @@ impl Model for Player {
 
     ghost view = { λ a. a.engine };
 
-    ghost invariant = { λ a. IsPlaying a.engine a.setup a.steps.items a.places.items a.nexts.items };
+    ghost invariant = { λ a.
+        IsPlaying a.engine a.setup a.steps.items a.places.items a.nexts.items };
 }
 
 /// How many turns each processor has; a set with steps has none.

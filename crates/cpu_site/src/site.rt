@@ -51,7 +51,8 @@ impl Model for Site {
 
     ghost view = { λ a. a.turn };
 
-    ghost invariant = { λ a. (s : GroupOf) × (a.turn.cell.subject ≡ Some s) × IsSite s a.turn.cpus };
+    ghost invariant = { λ a.
+        (s : GroupOf) × (a.turn.cell.subject ≡ Some s) × IsSite s a.turn.cpus };
 }
 
 /// A processor's place at a site. Contracts see what it has seen.

@@ -500,8 +500,10 @@ impl GroupState {
     /// Counts an accepted operation but Lock and Unlock of the task that the processor runs. Where that ends its job, or
     /// is a Sleep, the processor runs nothing, and the task is looked at.
     fn count(&mut self, parts: &Parts, cpu: CpuNo, task: TaskNo, op: Op)
-        requires { CanCount parts.now cpu.0 task.0 op Reply.Done (holds_none self.old task.0) self.old }
-        ensures { self.new ≡ counted parts.now cpu.0 task.0 op (holds_none self.old task.0) self.old }
+        requires {
+            CanCount parts.now cpu.0 task.0 op Reply.Done (holds_none self.old task.0) self.old }
+        ensures { self.new
+            ≡ counted parts.now cpu.0 task.0 op (holds_none self.old task.0) self.old }
     {
         let none = self.sems.holds_none(task);
         let tasks = parts.tasks.as_slice();
@@ -540,12 +542,15 @@ impl GroupState {
         before: Option<TaskNo>,
         served: Option<TaskNo>,
     )
-        requires count { CanCount parts.now cpu.0 task.0 op reply (holds_none self.old task.0) self.old }
-        requires looks { let us = touched_at self.old sem.0 (number_of_task before) (number_of_task served) in
+        requires count {
+            CanCount parts.now cpu.0 task.0 op reply (holds_none self.old task.0) self.old }
+        requires looks {
+            let us = touched_at self.old sem.0 (number_of_task before) (number_of_task served) in
             let next = operated parts.now cpu.0 task.0 op reply (holds_none self.old task.0) self.old in
             CanBringUpAll parts.now us next }
         ensures { self.new
-            ≡ after_sem parts.now cpu.0 task.0 op reply sem.0 (number_of_task before) (number_of_task served) self.old }
+            ≡ after_sem parts.now cpu.0 task.0 op reply sem.0 (number_of_task before)
+            (number_of_task served) self.old }
     {
         let after = self.sems.owner(sem);
         let none = self.sems.holds_none(task);
@@ -602,8 +607,10 @@ impl GroupState {
 
     /// An Unlock of the task that the processor runs.
     fn unlock(&mut self, parts: &Parts, cpu: CpuNo, task: TaskNo, sem: SemNo) -> Reply
-        requires at { (at : Moment) × CanOperate at cpu.0 task.0 (Op.Unlock sem) parts.now self.old }
-        ensures acted { (at : Moment) → CanOperate at cpu.0 task.0 (Op.Unlock sem) parts.now self.old
+        requires at { (at : Moment)
+            × CanOperate at cpu.0 task.0 (Op.Unlock sem) parts.now self.old }
+        ensures acted { (at : Moment)
+            → CanOperate at cpu.0 task.0 (Op.Unlock sem) parts.now self.old
             → IsActing at cpu.0 (Act.Do (Op.Unlock sem)) result self.new }
         ensures room { self.new.jobs.room ≡ self.old.jobs.room }
     {

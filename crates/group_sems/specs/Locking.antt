@@ -27,7 +27,8 @@ asked_waits false boost t s before table w = with_next t (owner_of table s) w
 abbrev pub after_lock : Parts → ℕ → ℕ → Key → ℕ → GroupSems → GroupSems
 after_lock p clock t key s v = record v {
   table = after_ask t key s v.table;
-  waits = asked_waits (is_granted t key s v.table) (boost_now p v.ceilings clock s t) t s (owner_of v.table s) (after_ask t key s v.table) v.waits;
+  waits = asked_waits (is_granted t key s v.table) (boost_now p v.ceilings clock s t) t s (owner_of v.table s)
+      (after_ask t key s v.table) v.waits;
 }
 
 -- a task that is served waits no longer, and may be boosted

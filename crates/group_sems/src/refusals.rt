@@ -102,7 +102,8 @@ fn is_nested(sems: &Sems, parts: &Parts, task: TaskNo, sem: SemNo) -> bool
     requires task { (1 ≤ task.0) × (task.0 ≤ length parts.now.tasks) }
     requires sem { (1 ≤ sem.0) × (sem.0 ≤ length parts.now.sems) }
     requires uses { AreSemsOf parts.now task.0 }
-    ensures { result ≡ refusing.is_nested_by (protocol (group_with parts.now 0) sem.0) parts.now sems.now task.0 sem.0 }
+    ensures { result ≡ refusing.is_nested_by (protocol (group_with parts.now 0) sem.0) parts.now
+        sems.now task.0 sem.0 }
 {
     let held = sems.held_by(task);
     match parts.sems.as_slice()[sem.0 as usize - 1].protocol {

@@ -78,13 +78,13 @@ IsPlaced top l = placed top l.runs l.links ≡ l.links
 
 -- that stays so as a processor takes an interrupt, and as it comes to run nothing
 abbrev pub PlacedLinksStay : Type 0
-PlacedLinksStay = (l : Linked) (top : List ℕ) (q : ℕ) (np : Bool) → IsSound l → IsOfCluster l q → IsDistinct top → length top ≤ length l.runs
-    → IsPlaced top l → IsPlaced top (after_irq l q np) × IsPlaced top (with_run l q None)
+PlacedLinksStay = (l : Linked) (top : List ℕ) (q : ℕ) (np : Bool) → IsSound l → IsOfCluster l q → IsDistinct top
+    → length top ≤ length l.runs → IsPlaced top l → IsPlaced top (after_irq l q np) × IsPlaced top (with_run l q None)
 
 -- and it is so of each other top of the same tasks
 abbrev pub LinkedTopStays : Type 0
-LinkedTopStays = (l : Linked) (top other : List ℕ) → IsSound l → IsDistinct top → length top ≤ length l.runs → ((t : ℕ) → has t top ≡ has t other)
-    → IsPlaced top l → IsPlaced other l
+LinkedTopStays = (l : Linked) (top other : List ℕ) → IsSound l → IsDistinct top → length top ≤ length l.runs
+    → ((t : ℕ) → has t top ≡ has t other) → IsPlaced top l → IsPlaced other l
 
 -- a task stands among the links exactly where some processor of the cluster is linked to it
 abbrev pub LinksAreOfProcessors : Type 0

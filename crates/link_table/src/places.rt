@@ -108,7 +108,8 @@ fn keep(
         kept (numbers top.now) (tasks_in (numbers_of_tasks runs.now)) (numbers_of_tasks runs.now)
         (numbers_of_tasks links.old) }
     ensures left { AreMarks top_marks.new
-        (filter (λ (t : ℕ). not (has t (tasks_in (numbers_of_tasks links.new)))) (numbers top.now)) }
+        (filter (λ (t : ℕ). not (has t (tasks_in (numbers_of_tasks links.new))))
+        (numbers top.now)) }
 {
     for q in 0..links.len() {
         let link = kept_at(top, runs, runs[q], links[q], top_marks, run_marks);
@@ -137,7 +138,8 @@ fn put(links: &mut [Option<TaskNo>], t: TaskNo, from: usize) -> usize
 fn fill(top: &[TaskNo], links: &mut [Option<TaskNo>], top_marks: &mut TaskMarks)
     requires distinct { IsDistinct (numbers top.now) }
     requires left { AreMarks top_marks.old
-        (filter (λ (t : ℕ). not (has t (tasks_in (numbers_of_tasks links.old)))) (numbers top.now)) }
+        (filter (λ (t : ℕ). not (has t (tasks_in (numbers_of_tasks links.old))))
+        (numbers top.now)) }
     ensures filled { numbers_of_tasks links.new ≡
         filled_with (numbers top.now) (numbers_of_tasks links.old) }
     ensures clear { AreMarks top_marks.new [] }

@@ -25,8 +25,10 @@ ceiling_in p c s t =
 pub record AreCeilings (g : Group) (c : CeilingTable) : Type 0 where
   pub count : length c.rows ≡ length g.setup.sems + 1
   pub smallest : (s k : ℕ) → has s (sems g) ≡ true →
-      smallest_outside k (slice_index_or c.rows s None) ≡ foremost nat_lt (map (λ u. (task g u).prio) (filter (λ u. not (home g u == k)) (users g s)))
+      smallest_outside k (slice_index_or c.rows s None)
+      ≡ foremost nat_lt (map (λ u. (task g u).prio) (filter (λ u. not (home g u == k)) (users g s)))
 
 -- the ceilings of the table are MPCP's
 abbrev pub CeilingsAreTold : Type 0
-CeilingsAreTold = (g : Group) (c : CeilingTable) (s t : ℕ) → AreCeilings g c → has s (sems g) ≡ true → ceiling_in g.setup c s t ≡ mpcp_ceiling g s t
+CeilingsAreTold = (g : Group) (c : CeilingTable) (s t : ℕ) → AreCeilings g c → has s (sems g) ≡ true
+    → ceiling_in g.setup c s t ≡ mpcp_ceiling g s t

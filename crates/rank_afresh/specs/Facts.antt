@@ -66,7 +66,8 @@ all_based p k n v = record v { waits = record v.waits { bases = rebased (base_in
 
 -- the release of a task's job, where that is ready
 abbrev pub ready_now : List Task → Kept → ℕ → Option ℕ
-ready_now rows k t = if is_ready k.clock (task_in rows t) (job_of k t) then Some (unwrap_or (release_of (task_in rows t) (job_of k t)) 0) else None
+ready_now rows k t =
+    if is_ready k.clock (task_in rows t) (job_of k t) then Some (unwrap_or (release_of (task_in rows t) (job_of k t)) 0) else None
 
 -- the tasks of the clusters that are touched, of those from a number on
 abbrev pub touched_tasks : Touched → ℕ → ℕ → List ClusterFacts → List ℕ
@@ -75,7 +76,9 @@ touched_tasks which clock n (c ∷ cs) = (if is_touched which clock n c then c.t
 
 -- the reservations are told which of these are ready
 abbrev pub told_in : Parts → Touched → Facts → GroupResvs
-told_in p which f = record f.resvs { resvs = told_each (ready_now p.tasks f.kept) (touched_tasks which f.kept.clock 0 f.clusters) f.resvs.resvs }
+told_in p which f = record f.resvs {
+  resvs = told_each (ready_now p.tasks f.kept) (touched_tasks which f.kept.clock 0 f.clusters) f.resvs.resvs;
+}
 
 -- the clusters are placed afresh that the move touches, or in which others are served now
 abbrev pub ArePlaced : Parts → Touched → Facts → List ClusterFacts → Type 0

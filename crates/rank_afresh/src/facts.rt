@@ -229,9 +229,11 @@ impl Facts {
     pub(crate) fn situation(&self, parts: &Parts, cpu: CpuNo) -> Situation
         requires { CanLook parts.now cpu.0 self.now.facts }
         ensures { (g : Group) (budget : ℕ)
-            → lacks_running cpu.0 self.now.facts ≡ lacks_of g (cpu_of self.now.facts.kept cpu.0).runs budget
+            → lacks_running cpu.0 self.now.facts
+            ≡ lacks_of g (cpu_of self.now.facts.kept cpu.0).runs budget
             → result
-            ≡ situation_of g cpu.0 (link_in parts.now cpu.0 self.now.facts) budget self.now.facts.kept }
+            ≡ situation_of g cpu.0 (link_in parts.now cpu.0 self.now.facts) budget
+            self.now.facts.kept }
     {
         let link = self.linked(parts, cpu);
         let lacks_budget = self.lacks_budget(cpu);

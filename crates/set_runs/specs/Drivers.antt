@@ -8,8 +8,8 @@ use Rattle.cpu_site.specs.Seats.{group_at, About, CpuPlace}
 use Rattle.set_runs.specs.declared.driver.Driver.{Driver}
 use Rattle.set_runs.specs.Lists.{AreEach}
 
--- the driver of processor q: its seats are those of the site and of the clock, it has passed each turn that it gave as over, and where it is
--- known to be over no step of it is left
+-- the driver of processor q: its seats are those of the site and of the clock, it has passed each turn that it gave as over, and where it
+-- is known to be over no step of it is left
 pub record IsAtWork (cell : Cell GroupOf) (clock : Clock) (q : ℕ) (d : Driver) : Type 0 where
   pub cell_is : d.seat.cell ≡ cell
   pub clock_is : d.turns.clock ≡ clock

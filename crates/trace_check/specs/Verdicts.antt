@@ -9,7 +9,8 @@ use Rattle.trace_laws.specs.ValidTexts.{IsValidText, IsBegun}
 use Rattle.trace_check.specs.declared.verdict.Verdict.{Verdict}
 use Rattle.trace_check.specs.declared.verdict.Verdict.TheVariants.{Valid, Invalid}
 
--- the text is not valid in its format, and line k + 1 is wrong, where k is the greatest number of lines with which a valid text begins as it does
+-- the text is not valid in its format, and line k + 1 is wrong, where k is the greatest number of lines with which a valid text begins
+-- as it does
 pub record IsInvalid (tools : List Tool) (version : Version) (p : Parts) (text : List ℕ) (line : ℕ) : Type 0 where
   pub not_valid : (entries : ℕ) → IsValidText tools version p text entries → ⊥
   pub right : ℕ

@@ -85,8 +85,10 @@ impl Course {
 
     /// Looks at the processors of the group after a step that was taken.
     pub(crate) fn look(&mut self, setup: &Setup, afresh: &Afresh, cpus: &[CpuNo])
-        requires { (at : Place) × (step : given.Step) × CanLook at step setup.now afresh.now cpus.now }
-        ensures { (at : Place) (step : given.Step) → CanLook at step setup.now afresh.now cpus.now
+        requires { (at : Place) × (step : given.Step)
+            × CanLook at step setup.now afresh.now cpus.now }
+        ensures { (at : Place) (step : given.Step)
+            → CanLook at step setup.now afresh.now cpus.now
             → HasGone at step self.old
             → IsCourse at.group (longer at step) self.new }
     {

@@ -29,12 +29,15 @@ fn next_of(setup: &Setup, afresh: &Afresh, cpu: CpuNo) -> Option<Act>
 
 /// Takes a step, where it goes on with the turn of its processor or begins the next one.
 pub(crate) fn take_turn(turns: &mut Turns, setup: &Setup, afresh: &Afresh, step: Step) -> bool
-    requires at { (past : Past) × IsAt afresh.now past × AreAt (group_of afresh.now) past turns.old }
+    requires at { (past : Past) × IsAt afresh.now past
+        × AreAt (group_of afresh.now) past turns.old }
     requires setup { setup.now ≡ afresh.now.setup }
-    ensures taken { (past : Past) → IsAt afresh.now past → AreAt (group_of afresh.now) past turns.old
-        → result ≡ true → HasTaken (group_of afresh.now) past step turns.new }
-    ensures refused { (past : Past) → IsAt afresh.now past → AreAt (group_of afresh.now) past turns.old
-        → result ≡ false → IsProcessorOf (group_of afresh.now) step.cpu.0
+    ensures taken { (past : Past) → IsAt afresh.now past
+        → AreAt (group_of afresh.now) past turns.old → result ≡ true
+        → HasTaken (group_of afresh.now) past step turns.new }
+    ensures refused { (past : Past) → IsAt afresh.now past
+        → AreAt (group_of afresh.now) past turns.old → result ≡ false
+        → IsProcessorOf (group_of afresh.now) step.cpu.0
         → MayComeNext (group_of afresh.now) past step → ⊥ }
 {
     if !turns.has(step.cpu) {

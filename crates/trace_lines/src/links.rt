@@ -32,7 +32,8 @@ fn put_link(out: &mut Vec<u8>, format: &Format, link: CpuLink) -> Result<(), All
 #[tactic(auto, using(std::proofs::Common::append_assoc))]
 pub fn put_links(out: &mut Vec<u8>, format: &Format, links: &[CpuLink]) -> Result<(), AllocError>
     ensures { OnOk result (out.new.items
-        ≡ out.old.items ++ further 32 (map (link_word (known_in format.now)) (links_of links.now))) }
+        ≡ out.old.items
+        ++ further 32 (map (link_word (known_in format.now)) (links_of links.now))) }
 {
     for link in links {
         put_link(out, format, *link)?;

@@ -29,7 +29,8 @@ abbrev pub stop_at : List Line → List ℕ → Option ℕ
 stop_at lines [] = None
 stop_at lines (c ∷ cs) = Some (length lines + 3)
 
--- the bytes are a trace, in this format, of this set with these lines, and `stop` is the number of the first line that is none of the grammar
+-- the bytes are a trace, in this format, of this set with these lines, and `stop` is the number of the first line that is none of the
+-- grammar
 pub record IsTraceOf (bytes : List ℕ) (version : Version) (p : Parts) (lines : List Line) (stop : Option ℕ) : Type 0 where
   pub set_text : List ℕ
   pub rest : List ℕ

@@ -9,7 +9,8 @@ use Rattle.trace_tools.specs.declared.shipped.ShippedTool.TheVariants as kinds
 use Rattle.trace_tools.specs.Tools.{Tool}
 
 -- what it is to contracts, by what each of the five is
-abbrev pub tool_by : (Misses → Tool) → (Switches → Tool) → (Migrations → Tool) → (Occupancy → Tool) → (FirstMiss → Tool) → ShippedTool → Tool
+abbrev pub tool_by : (Misses → Tool) → (Switches → Tool) → (Migrations → Tool) → (Occupancy → Tool) → (FirstMiss → Tool)
+    → ShippedTool → Tool
 tool_by m s g o f (kinds.Misses t) = m t
 tool_by m s g o f (kinds.Switches t) = s t
 tool_by m s g o f (kinds.Migrations t) = g t

@@ -6,7 +6,12 @@ use Rattle.std.specs.Prelude.{true}
 
 -- ends after its third entry; its total is how many it was fed
 abbrev pub three_rules : Rules
-three_rules = record { next = λ state e. raise_first true state; total = each_number; ended = λ state. nat_le 3 (slice_index state 0); name = 88 }
+three_rules = record {
+  next = λ state e. raise_first true state;
+  total = each_number;
+  ended = λ state. nat_le 3 (slice_index state 0);
+  name = 88;
+}
 
 -- has every total, each its own number
 abbrev pub endless_rules : Rules

@@ -79,7 +79,8 @@ impl WaitingList {
     /// Lists the tasks that wait for the semaphore that the act of the processor frees, by what is kept of jobs and of
     /// semaphores between the two moves of a step; none where it frees none. Each task stands once.
     pub fn list(&mut self, parts: &Parts, jobs: &GroupJobs, sems: &GroupSems, cpu: CpuNo, act: Act)
-        requires { (at : Moment) × CanList at parts.now jobs.now.kept sems.now cpu.0 act self.old.room }
+        requires { (at : Moment)
+            × CanList at parts.now jobs.now.kept sems.now cpu.0 act self.old.room }
         ensures waiting { (at : Moment)
             → CanList at parts.now jobs.now.kept sems.now cpu.0 act self.old.room
             → AreWaitersAt at cpu.0 act self.new.waiting }
