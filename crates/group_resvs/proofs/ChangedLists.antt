@@ -1,6 +1,8 @@
--- The list of changed clients grows reservation by reservation.
-use Rattle.std.proofs.Common.{◌≡◌, ℕ, zero, suc, ◌+◌, ◌<◌, List, [], ◌∷◌, ◌++◌, length, get_or, take, map, refl, sym, ap, ◌∙◌, arith}
-use Rattle.std.specs.Prelude.{Option, None}
+-- The list of changed clients: it grows reservation by reservation, and where one alone changes it is that of the one.
+use Rattle.std.proofs.Common.{◌≡◌, ℕ, true, zero, suc, ◌+◌, ◌<◌, List, [], ◌∷◌, ◌++◌, length, get_or, set, take, refl, sym, ap, ◌∙◌, arith}
+use Rattle.std.specs.Prelude.{Option, None, Some}
+use Rattle.rt_rules.proofs.MemberLaws.{equal_self}
+use Rattle.rt_rules.specs.Numbers.{same}
 use Rattle.group_resvs.specs.GroupResvs.{all_changed, changed_of}
 
 append-nil : (xs : List ℕ) → xs ≡ xs ++ []
@@ -25,3 +27,21 @@ pub all_changed-more : (os ns : List (Option ℕ)) (i : ℕ) → i < length os �
 all_changed-more os ns i low low' =
     let on : i + 1 ≡ suc i = omega arith in
     ap (λ n. all_changed (take n os) (take n ns)) on ∙ more os ns i low low'
+
+-- ---- where nothing changes, and where one does
+
+same-self : (o : Option ℕ) → same o o ≡ true
+same-self None = refl
+same-self (Some t) = equal_self t
+
+changed_of-self : (o : Option ℕ) → changed_of o o ≡ []
+changed_of-self o = rw (same-self o) refl
+
+pub all_changed-self : (os : List (Option ℕ)) → all_changed os os ≡ []
+all_changed-self [] = refl
+all_changed-self (o ∷ os) = rw (changed_of-self o) (all_changed-self os)
+
+pub all_changed-set : (os : List (Option ℕ)) (i : ℕ) (n : Option ℕ) → i < length os → all_changed os (set os i n) ≡ changed_of (get_or os i None) n
+all_changed-set [] i n low = absurd (omega arith)
+all_changed-set (o ∷ os) zero n low = rw (all_changed-self os) (sym (append-nil (changed_of o n)))
+all_changed-set (o ∷ os) (suc i) n low = rw (changed_of-self o) (all_changed-set os i n (omega (arith, low)))

@@ -1,3 +1,4 @@
 mod ChangedLists
 pub mod KeptLaws
 mod NobodyServed
+mod TouchedLaws

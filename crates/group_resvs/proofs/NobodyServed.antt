@@ -1,5 +1,5 @@
 -- Reservations at the opening serve nobody.
-use Rattle.std.proofs.Common.{◌≡◌, ℕ, zero, suc, length, map, refl, ap, List, ◌∷◌}
+use Rattle.std.proofs.Common.{◌≡◌, ℕ, zero, suc, length, refl, ap, List, ◌∷◌}
 use Rattle.std.proofs.lemmas.List.{length-map}
 use Rattle.std.specs.Prelude.{Option, None, replicate}
 use Rattle.rt_base.specs.TaskNos.{numbers_of_tasks}
@@ -10,6 +10,10 @@ use Rattle.resv_core.specs.Served.{opened, opened_server}
 pub opened-count : (p : Parts) (n : ℕ) → length (opened p n).servers ≡ length p.resvs
 unfolding opened
 opened-count p n = length-map p.resvs (opened_server p n)
+
+pub opened-clock : (p : Parts) (n : ℕ) → (opened p n).clock ≡ 0
+unfolding opened
+opened-clock p n = refl
 
 pub numbers-nobody : (n : ℕ) → numbers_of_tasks (replicate n None) ≡ replicate n None
 numbers-nobody zero = refl

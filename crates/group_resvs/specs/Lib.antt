@@ -1,3 +1,4 @@
 pub mod GroupResvs
 pub mod Kept
 pub mod Laws
+pub mod Touched

@@ -21,7 +21,7 @@ fn put_any(into: &mut Vec<TaskNo>, task: Option<TaskNo>)
 }
 
 /// Adds the client that a reservation served before and the one that it serves now, where they differ.
-fn put_changed(into: &mut Vec<TaskNo>, before: Option<TaskNo>, now: Option<TaskNo>)
+pub(crate) fn put_changed(into: &mut Vec<TaskNo>, before: Option<TaskNo>, now: Option<TaskNo>)
     requires room { vec_len into.old + 2 ≤ vec_capacity into.old }
     ensures items { numbers into.new.items
         ≡ numbers into.old.items ++ changed_of (number_of_task before) (number_of_task now) }

@@ -12,6 +12,8 @@ mod changes;
 mod laws;
 mod room;
 mod serving;
+mod settling;
+mod touched;
 
 use changes::list_changed;
 pub use laws::{move_is_kept, opening_is_kept, resvs_are_read, work_has_unit};
@@ -19,9 +21,11 @@ use resv_core::Resvs;
 use rt_base::{GroupNo, NoMemory, ResvNo, TaskNo, Tick};
 use rt_task::Setup;
 use serving::list_served;
+use settling::settle_one;
 use std::alloc::Global;
 use std::marker::Model;
 use std::mem;
+use touched::Touched;
 
 /// The reservations of one group, the client that each of them serves since the last move ended, and the tasks that the end
 /// of that move made or unmade such clients. A reservation serves its front client as long as it has budget.
@@ -32,6 +36,9 @@ use std::mem;
 #[derive(Drop)]
 pub struct GroupResvs {
     resvs: Resvs,
+    // Of the reservations; and which of them may have changed since the last move ended.
+    clock: u64,
+    touched: Touched,
     // By the numbers of the reservations, less 1: as the last move ended, and as the one before it ended.
     serves: Vec<Option<TaskNo>>,
     before: Vec<Option<TaskNo>>,
@@ -43,6 +50,7 @@ impl Model for GroupResvs {
     ghost use Rattle.rt_base.specs.declared.TheConstants.{MOST_RESVS};
     ghost use Rattle.rt_base.specs.TaskNos.{numbers, numbers_of_tasks};
     ghost use Rattle.group_resvs.specs.GroupResvs as seen;
+    ghost use Rattle.group_resvs.specs.Touched.{IsSettledBut};
 
     ghost Value = { seen.GroupResvs };
 
@@ -56,7 +64,9 @@ impl Model for GroupResvs {
         × (vec_len a.serves ≡ length a.resvs.servers)
         × (length a.resvs.servers ≤ vec_capacity a.serves)
         × (length a.resvs.servers ≤ vec_capacity a.before)
-        × (length a.resvs.servers + length a.resvs.servers ≤ vec_capacity a.changed) };
+        × (length a.resvs.servers + length a.resvs.servers ≤ vec_capacity a.changed)
+        × (a.clock ≡ a.resvs.clock)
+        × IsSettledBut a.touched a.resvs (numbers_of_tasks a.serves.items) };
 }
 
 impl GroupResvs {
@@ -77,6 +87,8 @@ impl GroupResvs {
         };
         Ok(GroupResvs {
             resvs,
+            clock: 0,
+            touched: Touched::Many,
             serves,
             before,
             changed,
@@ -122,7 +134,11 @@ impl GroupResvs {
         requires { self.old.resvs.clock ≤ tick.0 }
         ensures { self.new ≡ record self.old { resvs = clock_to tick.0 self.old.resvs } }
     {
-        self.resvs.tick(tick);
+        if self.clock < tick.0 {
+            self.touched = Touched::Many;
+            self.clock = tick.0;
+            self.resvs.tick(tick);
+        }
     }
 
     /// The client has a ready job of this release, or none.
@@ -131,9 +147,12 @@ impl GroupResvs {
         ensures { let told = told_now (tick_of release) task.0 in
             self.new ≡ record self.old { resvs = for_task task.0 told self.old.resvs } }
     {
-        match release {
-            None => self.resvs.client_gone(task),
-            Some(release) => self.resvs.client_ready(task, release),
+        if let Some(resv) = self.resvs.server_of(task) {
+            self.touched = self.touched.also(resv);
+            match release {
+                None => self.resvs.client_gone(task),
+                Some(release) => self.resvs.client_ready(task, release),
+            }
         }
     }
 
@@ -143,6 +162,7 @@ impl GroupResvs {
         ensures { self.new ≡ record self.old { resvs = for_task task.0 charged self.old.resvs } }
     {
         if let Some(resv) = self.resvs.server_of(task) {
+            self.touched = self.touched.also(resv);
             self.resvs.charge(resv);
         }
     }
@@ -151,14 +171,24 @@ impl GroupResvs {
     pub fn settle(&mut self)
         ensures { IsSettled self.old self.new }
     {
-        self.resvs.settle();
-        mem::swap(&mut self.serves, &mut self.before);
-        list_served(&self.resvs, &mut self.serves);
-        list_changed(
-            self.before.as_slice(),
-            self.serves.as_slice(),
-            &mut self.changed,
-        );
+        let touched = self.touched;
+        self.touched = Touched::Nothing;
+        match touched {
+            Touched::Nothing => self.changed.clear(),
+            Touched::One(resv) => {
+                settle_one(&mut self.resvs, &mut self.serves, &mut self.changed, resv);
+            }
+            Touched::Many => {
+                self.resvs.settle();
+                mem::swap(&mut self.serves, &mut self.before);
+                list_served(&self.resvs, &mut self.serves);
+                list_changed(
+                    self.before.as_slice(),
+                    self.serves.as_slice(),
+                    &mut self.changed,
+                );
+            }
+        }
     }
 }
 

@@ -10,7 +10,7 @@ use resv_core::Resvs;
 use rt_base::{ResvNo, TaskNo};
 
 /// The client that the reservation serves: its front client, as long as it has budget.
-fn served_by(resvs: &Resvs, resv: ResvNo) -> Option<TaskNo>
+pub(crate) fn served_by(resvs: &Resvs, resv: ResvNo) -> Option<TaskNo>
     requires { IsResv resvs.now resv.0 }
     ensures { Serves (server resvs.now resv.0) (number_of_task result) }
 {

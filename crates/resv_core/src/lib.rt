@@ -123,8 +123,10 @@ impl Resvs {
         ensures { self.new ≡
             record (with_each (ticked self.old.clock now.0) self.old) { clock = now.0 } }
     {
-        server::tick_each(&mut self.servers, self.clock, now.0);
-        self.clock = now.0;
+        if self.clock < now.0 {
+            server::tick_each(&mut self.servers, self.clock, now.0);
+            self.clock = now.0;
+        }
     }
 
     /// A client of the reservation worked one unit. It counts before what its move replenishes or loses.
@@ -146,6 +148,17 @@ impl Resvs {
         ensures { self.new ≡ with_each (settled self.old.clock) self.old }
     {
         server::settle_each(&mut self.servers, self.clock);
+    }
+
+    /// Ends a move for one reservation alone, as `settle` does for all.
+    ///
+    /// Example: `resvs.settle_one(r)` where `r` alone changed since the last `settle`.
+    pub fn settle_one(&mut self, r: ResvNo)
+        requires { IsResv self.old r.0 }
+        ensures { self.new ≡
+            with_server self.old r.0 (settled self.old.clock (server self.old r.0)) }
+    {
+        self.servers[r.0 as usize - 1].settle(self.clock);
     }
 
     /// The units of work that are left of the reservation's budget.
