@@ -1,5 +1,5 @@
 -- What is kept of reservations is what the definitions say of the past.
-use Rattle.std.proofs.Common.{◌≡◌, ℕ, zero, suc, ◌+◌, ◌-◌, ◌<◌, ◌≤◌, Bool, true, false, ◌&&◌, ◌||◌, ◌⊎◌, inl, inr, List, [], ◌∷◌, ◌++◌, length, map, get_or, eqb-true, refl, sym, ap, ◌∙◌, subst, arith}
+use Rattle.std.proofs.Common.{◌≡◌, ℕ, zero, suc, ◌+◌, ◌-◌, ◌<◌, ◌≤◌, Bool, true, false, ◌&&◌, ◌||◌, ◌⊎◌, inl, inr, List, [], ◌∷◌, length, map, get_or, eqb-true, refl, sym, ap, ◌∙◌, subst, arith}
 use Rattle.std.proofs.lemmas.Bool.Decides.{nat_tests}
 use Rattle.std.proofs.lemmas.List.{length-map, length-replicate}
 use Rattle.std.specs.Prelude.{Option, None, Some, ◌==◌, filter, is_some, nat_lt, replicate, if◌then◌else◌}
@@ -17,7 +17,7 @@ use Rattle.rt_rules.proofs.KeyLaws.{foremost-some}
 use Rattle.rt_rules.proofs.MemberLaws.{equal_self, has-append, has-filter, is-some}
 use Rattle.rt_model.specs.Answers.{no_budget}
 use Rattle.rt_model.specs.Group.{Group, clients, resv, served_by, tasks}
-use Rattle.rt_model.specs.Past.{Event, Clock, Acted, Past, PastAct, did, is_work, now}
+use Rattle.rt_model.specs.Past.{Event, Clock, Acted, Past, did, is_work, now}
 use Rattle.rt_model.specs.Reachable.{IsReachable}
 use Rattle.rt_model.specs.Releases.{ready}
 use Rattle.rt_model.specs.Reservations.{earlier, front, left}
@@ -28,16 +28,16 @@ use Rattle.rt_laws.proofs.ValidSets.{rules_of}
 use Rattle.rt_groups.proofs.Unreserved.{no_resvs}
 use Rattle.rank_changes.specs.Served.{serves}
 use Rattle.rank_changes.proofs.ServedClients.{p_res-is, same-is}
-use Rattle.resv_core.specs.Served.{Served, ServerState, IsFront, IsResv, charged, has_ready, is_here, is_over, is_resv_here, left_of, no_server, opened, refilled_at, release_at, server, server_for, server_here, server_of, settled, settled_by, ticked}
-use Rattle.resv_laws.specs.Kept.{IsShown, IsStateOf, begun, ready_release, told_now}
-use Rattle.resv_laws.specs.Serving.{AreListed, AreTold, IsServing, all_begun, all_settled, at_server, charged_for, for_task, told_each}
+use Rattle.resv_core.specs.Served.{Served, ServerState, IsFront, IsResv, charged, has_ready, is_here, is_over, left_of, opened, refilled_at, server, server_for, server_here, server_of, settled, settled_by, ticked}
+use Rattle.resv_laws.specs.Kept.{IsShown, IsStateOf, ready_release, told_now}
+use Rattle.resv_laws.specs.Serving.{IsServing, all_begun, all_settled, at_server, charged_for, for_task, told_each}
 use Rattle.resv_laws.proofs.KeptLaws.{begun-releases}
 use Rattle.rt_task.specs.declared.Task.{Task}
-use Rattle.resv_laws.proofs.ServingLaws.{all-begun, all_moved_in_any_order, each-server, for_task-keeps, for_task-server, opened-clock, opened-numbers, opened-server, resv-kept, work_may_be_charged}
+use Rattle.resv_laws.proofs.ServingLaws.{all-begun, all_moved_in_any_order, each-server, for_task-keeps, for_task-server, opened-clock, opened-server, resv-kept, work_may_be_charged}
 use Rattle.resv_laws.proofs.ShownLaws.{state_is_shown}
 use Rattle.resv_laws.proofs.TellingLaws.{all_opened_in_any_order, clients_are_listed, each_is_told, nobody_is_listed}
 use Rattle.resv_laws.proofs.ValidClients.{tied}
-use Rattle.group_resvs.specs.GroupResvs.{AllServe, GroupResvs, HasUnit, IsSettled, Serves, all_changed, changed_of, is_served, is_served_by, lacks_budget, lacks_budget_of, served_at}
+use Rattle.group_resvs.specs.GroupResvs.{GroupResvs, IsSettled, Serves, all_changed, changed_of, is_served_by, lacks_budget_of, served_at}
 use Rattle.group_resvs.specs.Kept.{AreEmptyElsewhere, AreNone, AreServing, KeepsResvs}
 use Rattle.group_resvs.specs.Laws.{AreChanged, AreToldOf, IsRead, MoveIsKept, OpeningIsKept, ResvsAreRead, WorkHasUnit, at_opening, told_of_move}
 

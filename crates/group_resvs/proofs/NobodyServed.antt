@@ -11,10 +11,6 @@ pub opened-count : (p : Parts) (n : ℕ) → length (opened p n).servers ≡ len
 unfolding opened
 opened-count p n = length-map p.resvs (opened_server p n)
 
-pub opened-clock : (p : Parts) (n : ℕ) → (opened p n).clock ≡ 0
-unfolding opened
-opened-clock p n = refl
-
 pub numbers-nobody : (n : ℕ) → numbers_of_tasks (replicate n None) ≡ replicate n None
 numbers-nobody zero = refl
 numbers-nobody (suc n) = ap (λ (xs : List (Option ℕ)). None ∷ xs) (numbers-nobody n)

@@ -1,5 +1,5 @@
 -- What is kept of the reservations of a group against its past.
-use Rattle.std.specs.Prelude.{◌≡◌, ℕ, true, false, List, [], length, None}
+use Rattle.std.specs.Prelude.{◌≡◌, ℕ, true, false, [], length, None}
 use Rattle.rt_task.specs.RuleWords.{is_p_res}
 use Rattle.rt_model.specs.Group.{Group, resv}
 use Rattle.rt_model.specs.Past.{Past, now}

@@ -36,8 +36,7 @@ use touched::Touched;
 #[derive(Drop)]
 pub struct GroupResvs {
     resvs: Resvs,
-    // Of the reservations; and which of them may have changed since the last move ended.
-    clock: u64,
+    // Which of them may have changed since the last move ended.
     touched: Touched,
     // By the numbers of the reservations, less 1: as the last move ended, and as the one before it ended.
     serves: Vec<Option<TaskNo>>,
@@ -65,7 +64,6 @@ impl Model for GroupResvs {
         × (length a.resvs.servers ≤ vec_capacity a.serves)
         × (length a.resvs.servers ≤ vec_capacity a.before)
         × (length a.resvs.servers + length a.resvs.servers ≤ vec_capacity a.changed)
-        × (a.clock ≡ a.resvs.clock)
         × IsSettledBut a.touched a.resvs (numbers_of_tasks a.serves.items) };
 }
 
@@ -87,7 +85,6 @@ impl GroupResvs {
         };
         Ok(GroupResvs {
             resvs,
-            clock: 0,
             touched: Touched::Many,
             serves,
             before,
@@ -134,9 +131,8 @@ impl GroupResvs {
         requires { self.old.resvs.clock ≤ tick.0 }
         ensures { self.new ≡ record self.old { resvs = clock_to tick.0 self.old.resvs } }
     {
-        if self.clock < tick.0 {
+        if self.resvs.clock() < tick.0 {
             self.touched = Touched::Many;
-            self.clock = tick.0;
             self.resvs.tick(tick);
         }
     }

@@ -69,6 +69,15 @@ impl Resvs {
         })
     }
 
+    /// The clock of the last move.
+    ///
+    /// Example: `resvs.clock()` is 0 until `tick` moves it.
+    pub fn clock(&self) -> u64
+        ensures { result ≡ self.now.clock }
+    {
+        self.clock
+    }
+
     /// How many reservations the set has.
     ///
     /// Example: `resvs.count()` is 0 under a plugin without reservations.

@@ -1,11 +1,11 @@
-use Rattle.std.proofs.Common.{◌≡◌, ℕ, ◌≤◌, length, ap, ◌∙◌, refl, sym, arith}
+use Rattle.std.proofs.Common.{◌≡◌, ℕ, ◌≤◌, length, ap, ◌∙◌, refl, arith}
 use Rattle.std.specs.Prelude.{Option, None, replicate}
 use Rattle.rt_base.specs.TaskNos.{numbers_of_tasks}
 use Rattle.rt_base.specs.declared.TheConstants.{MOST_RESVS}
 use Rattle.rt_task.specs.declared.Parts.{Parts}
 use Rattle.rt_groups.proofs.SetLimits.{sets_are_in_limits}
 use Rattle.resv_core.specs.Served.{Served}
-use Rattle.group_resvs.proofs.NobodyServed.{numbers-nobody, opened-clock, opened-count}
+use Rattle.group_resvs.proofs.NobodyServed.{numbers-nobody, opened-count}
 use Rattle.group_resvs.proofs.TouchedLaws.{settled_but-many}
 use Rattle.group_resvs.proofs.GroupResvs.open.Goals as goal
 
@@ -19,7 +19,6 @@ invariant_of-result c =
       omega (arith, servers, count, c.in_ok-serves.ensures.capacity),
       omega (arith, servers, count, c.in_ok-before.ensures.capacity),
       omega (arith, servers, count, c.in-Ok.ensures.capacity),
-      sym (ap (λ (v : Served). v.clock) c.in_ok-resvs.ensures ∙ opened-clock c.args.setup.now c.args.group.0),
       settled_but-many c.in_ok-resvs.resvs (numbers_of_tasks c.in_ok-serves.serves.items),
     )
 

@@ -11,7 +11,7 @@ use Rattle.group_resvs.proofs.GroupResvs.settle.Goals as goal
 
 pub returns-in-Nothing : goal.returns-in-Nothing
 returns-in-Nothing c =
-    let but : IsSettledBut Nothing c.self.inside.resvs (numbers_of_tasks c.self.inside.serves.items) = subst (λ t. IsSettledBut t c.self.inside.resvs (numbers_of_tasks c.self.inside.serves.items)) c.in-Nothing.is c.self.invariant.6 in
+    let but : IsSettledBut Nothing c.self.inside.resvs (numbers_of_tasks c.self.inside.serves.items) = subst (λ t. IsSettledBut t c.self.inside.resvs (numbers_of_tasks c.self.inside.serves.items)) c.in-Nothing.is c.self.invariant.5 in
     subst (λ (a : GroupResvs). IsSettled a (record { resvs = c.self.inside.resvs; serves = numbers_of_tasks c.self.inside.serves.items; changed = numbers c.clear.new.self.items })) c.self.view_is (record {
       resvs = all_settled-nothing c.self.inside.resvs (numbers_of_tasks c.self.inside.serves.items) but;
       serves = λ r there. but.serves_at r there refl;

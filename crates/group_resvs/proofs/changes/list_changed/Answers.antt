@@ -1,8 +1,8 @@
-use Rattle.std.proofs.Common.{◌≡◌, ℕ, ◌<◌, ◌++◌, List, length, map, ap, ◌∙◌, sym, arith, get_or, refl, take}
+use Rattle.std.proofs.Common.{◌≡◌, ℕ, ◌<◌, List, length, ◌∙◌, sym, arith, get_or, refl, take}
 use Rattle.std.specs.Prelude.{Option, None}
 use Rattle.std.proofs.lemmas.List.{get_or-map, length-map}
 use Rattle.rt_base.specs.TaskNos.{number_of_task, numbers, numbers_of_tasks}
-use Rattle.group_resvs.specs.GroupResvs.{all_changed, changed_of}
+use Rattle.group_resvs.specs.GroupResvs.{all_changed}
 use Rattle.group_resvs.proofs.ChangedLists.{all_changed-more}
 use Rattle.group_resvs.proofs.changes.list_changed.Goals as goal
 
