@@ -24,7 +24,8 @@ use Rattle.resv_laws.specs.Kept.{told_now}
 use Rattle.resv_laws.specs.Serving.{for_task, told_each}
 use Rattle.resv_laws.proofs.ServingLaws.{for_task-keeps}
 use Rattle.prio_inherit.specs.Waits.{effective_key}
-use Rattle.group_engine.specs.Touching.{all_brought_up, all_offered, brought_up, home_in, key_now, offered, ready_now, stands_now, timer_now}
+use Rattle.group_engine.specs.Touching.{all_brought_up, all_offered, brought_up, home_in, key_now, offered, stands_now, timer_now}
+use Rattle.group_jobs.specs.GroupJobs.{ready_now}
 
 -- ---- what stays
 
@@ -61,16 +62,9 @@ timers-brought p [] s = refl
 timers-brought p (u ∷ us) s = timers-brought p us (brought_up p u s)
 
 pub resvs-brought : (p : Parts) (us : List ℕ) (s : GroupState)
-    → (all_brought_up p us s).resvs ≡ record s.resvs { resvs = told_each (ready_now p s.jobs.kept) us s.resvs.resvs }
+    → (all_brought_up p us s).resvs ≡ record s.resvs { resvs = told_each (ready_now p.tasks s.jobs.kept) us s.resvs.resvs }
 resvs-brought p [] s = refl
 resvs-brought p (u ∷ us) s = resvs-brought p us (brought_up p u s)
-
--- what these tasks are told alone matters
-pub told-same : (f f' : ℕ → Option ℕ) (us : List ℕ) (v : Served) → ((u : ℕ) → has u us ≡ true → f u ≡ f' u) → told_each f us v ≡ told_each f' us v
-told-same f f' [] v same = refl
-told-same f f' (u ∷ us) v same =
-    ap (λ o. told_each f us (for_task u (told_now o u) v)) (same u (rw (equal_self u)))
-    ∙ told-same f f' us (for_task u (told_now (f' u) u) v) (λ w h. same w (rw h (or_true (w == u))))
 
 -- a call for a task leaves who is served
 pub served-told : (w : GroupResvs) (t : ℕ) (change : ServerState → ServerState) (u : ℕ)
@@ -129,7 +123,7 @@ pub cluster-brought : (p : Parts) (us : List ℕ) (s : GroupState) (served : ℕ
 cluster-brought p [] s served same c k there = there
 cluster-brought p (u ∷ us) s served same c k there =
     let key : Option Key = key_where p s.jobs.kept s.sems served u in
-    let told : (v : ℕ) → is_served (brought_up p u s).resvs v ≡ served v = λ v. served-told s.resvs u (told_now (ready_now p s.jobs.kept u) u) v ∙ same v in
+    let told : (v : ℕ) → is_served (brought_up p u s).resvs v ≡ served v = λ v. served-told s.resvs u (told_now (ready_now p.tasks s.jobs.kept u) u) v ∙ same v in
     let there_still = one-cluster p u (key_now p s.jobs.kept s.sems s.resvs u) s.clusters c k there ∙ ap (λ b. let x : Option Key = if stands_now p s.jobs.kept s.sems u && b then Some (effective_key s.sems.waits u) else None in let j : KeptCluster = record k { keys = if home_in p u == c then slice_set k.keys u x else k.keys } in Some j) (same u) in
     cluster-brought p us (brought_up p u s) served told c (record k { keys = if home_in p u == c then slice_set k.keys u key else k.keys }) there_still
 

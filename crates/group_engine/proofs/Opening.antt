@@ -50,11 +50,13 @@ use Rattle.group_engine.specs.declared.state.GroupState.{GroupState}
 use Rattle.group_engine.specs.Asking.{IsUntold}
 use Rattle.group_engine.specs.Moments.{IsPlayed}
 use Rattle.group_engine.specs.State.{IsWithin}
-use Rattle.group_engine.specs.Touching.{AreNumbered, CanBaseAll, CanBringUp, all_based, all_brought_up, base_now, based, ready_now, timer_now}
+use Rattle.group_engine.specs.Touching.{AreNumbered, CanBaseAll, CanBringUp, all_based, all_brought_up, base_now, based, timer_now}
 use Rattle.group_engine.proofs.Bases.{base-told, has-base}
 use Rattle.group_engine.proofs.Bounding.{can_base, can_bring_up}
-use Rattle.group_engine.proofs.Bringing.{cluster-brought, homes-brought, jobs-brought, keys-refreshed, renewed-same, resvs-brought, sems-brought, served-told_each, timers-brought, told-same}
+use Rattle.group_engine.proofs.Bringing.{cluster-brought, homes-brought, jobs-brought, keys-refreshed, renewed-same, resvs-brought, sems-brought, served-told_each, timers-brought}
 use Rattle.group_engine.proofs.Settling.{holds-same, key-kept, length-refreshed, timer-kept, told-kept}
+use Rattle.group_jobs.specs.GroupJobs.{ready_now}
+use Rattle.resv_laws.proofs.ToldEach.{told-same}
 
 -- telling base keys changes the semaphores alone, and of them the base keys
 pub state-based : (p : Parts) (us : List ℕ) (s : GroupState) → all_based p us s ≡ record s { sems = (all_based p us s).sems }
@@ -191,10 +193,10 @@ module _ (g : Group) (played : IsPlayed g) (room : ℕ) (v : GroupSems) (new : I
   resvs-told : opened_state.resvs ≡ at_opening g (tasks g)
   resvs-told =
       resvs-brought g.setup (tasks g) s2
-      ∙ ap (λ v. let x : GroupResvs = record (untold_resvs g) { resvs = v } in x) (told-same (ready_now g.setup s0.jobs.kept) (λ t. ready_release g t []) (tasks g) (opened_resvs g.setup g.number) (λ u h. told-kept g [] s0 kept u h))
+      ∙ ap (λ v. let x : GroupResvs = record (untold_resvs g) { resvs = v } in x) (told-same (ready_now g.setup.tasks s0.jobs.kept) (λ t. ready_release g t []) (tasks g) (opened_resvs g.setup g.number) (λ u h. told-kept g [] s0 kept u h))
 
   served-told : (t : ℕ) → is_served opened_state.resvs t ≡ is_served (untold_resvs g) t
-  served-told t = ap (λ w. is_served w t) (resvs-brought g.setup (tasks g) s2) ∙ served-told_each (ready_now g.setup s0.jobs.kept) (tasks g) (untold_resvs g) t
+  served-told t = ap (λ w. is_served w t) (resvs-brought g.setup (tasks g) s2) ∙ served-told_each (ready_now g.setup.tasks s0.jobs.kept) (tasks g) (untold_resvs g) t
 
   cluster-opened : (c : ℕ) → has c (clusters g) ≡ true → HasClusterEnding g c [] opened_state.resvs opened_state.clusters
   cluster-opened c h =

@@ -30,7 +30,7 @@ use Rattle.cluster_table.specs.Clusters.{KeptCluster, relinked}
 use Rattle.cluster_table.specs.Table.{Table, cluster_at}
 use Rattle.cluster_table.proofs.FirstTasks.{first_tasks-holds}
 use Rattle.cluster_table.proofs.RowLaws.{at-relinked}
-use Rattle.group_jobs.specs.GroupJobs.{task_in}
+use Rattle.group_jobs.specs.GroupJobs.{ready_now, task_in}
 use Rattle.prio_inherit.specs.Waits as kept_keys
 use Rattle.sem_table.specs.Told.{awaits_of}
 use Rattle.group_sems.specs.GroupSems.{GroupSems}
@@ -41,11 +41,11 @@ use Rattle.group_engine.specs.Keys.{HoldsKeys}
 use Rattle.group_engine.specs.Ending.{HasClusterEnding, HoldsStanding, IsEnding, stands}
 use Rattle.group_engine.specs.Moments.{IsPlayed}
 use Rattle.group_engine.specs.State.{AreHomes, HasClusterAt, IsAt, IsWithin}
-use Rattle.group_engine.specs.Touching.{CanOfferAll, all_brought_up, all_offered, placed_all, ready_now, timer_now}
+use Rattle.group_engine.specs.Touching.{CanOfferAll, all_brought_up, all_offered, placed_all, timer_now}
 use Rattle.group_engine.proofs.Bases.{has-base}
 use Rattle.waiting_list.proofs.Kept.{at_home}
 use Rattle.group_engine.proofs.Bounding.{task-of}
-use Rattle.group_engine.proofs.Bringing.{OnlyClusters, cluster-brought, cluster-offered, home-in, homes-brought, jobs-brought, key_where, keys-refreshed, others-offered, renewed-same, resvs-brought, sems-brought, served-told_each, timers-brought, told-same}
+use Rattle.group_engine.proofs.Bringing.{OnlyClusters, cluster-brought, cluster-offered, home-in, homes-brought, jobs-brought, key_where, keys-refreshed, others-offered, renewed-same, resvs-brought, sems-brought, served-told_each, timers-brought}
 use Rattle.group_engine.proofs.Reading.{IsAlike, ready-release, stands-ready}
 use Rattle.group_resvs.specs.GroupResvs.{GroupResvs, IsSettled, is_served, is_served_by}
 use Rattle.group_resvs.specs.Kept.{KeepsResvs}
@@ -59,6 +59,7 @@ use Rattle.resv_laws.proofs.ServingLaws.{for_task-keeps}
 use Rattle.rt_laws.proofs.GroupLaws.{tasks_of-home}
 use Rattle.cluster_table.specs.Table.{HasTask}
 use Rattle.rt_groups.specs.Places.{IsHomeTask}
+use Rattle.resv_laws.proofs.ToldEach.{told-same}
 
 -- ---- the top of a cluster is the first of the tasks that its set holds
 
@@ -141,7 +142,7 @@ key-kept g played past made s kept sems served t h =
 
 -- the release of its ready job is read off
 pub told-kept : (g : Group) (past : Past) (s : GroupState) → IsKept g past s.jobs.kept → (t : ℕ) → has t (tasks g) ≡ true
-    → ready_now g.setup s.jobs.kept t ≡ ready_release g t past
+    → ready_now g.setup.tasks s.jobs.kept t ≡ ready_release g t past
 unfolding task
 told-kept g past s kept t h =
     let job = kept.jobs_are t h in
@@ -206,13 +207,13 @@ module _ (g : Group) (played : IsPlayed g) (e : Event) (past : Past) (us : List 
   resvs-told : brought_state.resvs ≡ told_of_move g e past us between.before
   resvs-told =
       resvs-brought g.setup us s
-      ∙ ap (λ v. let x : GroupResvs = record s.resvs { resvs = v } in x) (told-same (ready_now g.setup s.jobs.kept) (λ t. ready_release g t (e ∷ past)) us s.resvs.resvs (λ u h. told-kept g (e ∷ past) s between.jobs_are u (between.inside u h)))
+      ∙ ap (λ v. let x : GroupResvs = record s.resvs { resvs = v } in x) (told-same (ready_now g.setup.tasks s.jobs.kept) (λ t. ready_release g t (e ∷ past)) us s.resvs.resvs (λ u h. told-kept g (e ∷ past) s between.jobs_are u (between.inside u h)))
       ∙ ap (λ w. let x : GroupResvs = record w { resvs = told_each (λ t. ready_release g t (e ∷ past)) us w.resvs } in x) between.resvs_are
 
   served-told : (t : ℕ) → is_served brought_state.resvs t ≡ is_served between.before t
   served-told t =
       ap (λ w. is_served w t) (resvs-brought g.setup us s)
-      ∙ served-told_each (ready_now g.setup s.jobs.kept) us s.resvs t ∙ served-before t
+      ∙ served-told_each (ready_now g.setup.tasks s.jobs.kept) us s.resvs t ∙ served-before t
 
   cluster-ending : (c : ℕ) → HasClusterBetween g c e past s.clusters → HasClusterEnding g c (e ∷ past) brought_state.resvs brought_state.clusters
   cluster-ending c was =

@@ -20,7 +20,7 @@ use Rattle.group_facts.specs.Kept.{Kept, has_operated, job_of}
 use Rattle.group_facts.specs.Moves.{is_end}
 use Rattle.group_facts.specs.Timers.{timer}
 use Rattle.group_facts.specs.Words.{is_ready, key_of, release_of}
-use Rattle.group_jobs.specs.GroupJobs.{IsTaskOf, is_op_reply, task_in}
+use Rattle.group_jobs.specs.GroupJobs.{IsTaskOf, is_op_reply, ready_now, task_in}
 use Rattle.group_jobs.specs.States.{SleepIsShort}
 use Rattle.cluster_table.specs.Clusters.{left_by, relinked, with_key}
 use Rattle.cluster_table.specs.Table.{HasProcessor, HasTask, changed_at}
@@ -51,11 +51,6 @@ stands_now p k v t = is_ready k.clock (task_in p.tasks t) (job_of k t) && not (i
 abbrev pub key_now : Parts → Kept → GroupSems → GroupResvs → ℕ → Option Key
 key_now p k v w t = if stands_now p k v t && is_served w t then Some (effective_key v.waits t) else None
 
--- the release of its job, where that is ready
-abbrev pub ready_now : Parts → Kept → ℕ → Option ℕ
-ready_now p k t =
-    if is_ready k.clock (task_in p.tasks t) (job_of k t) then Some (unwrap_or (release_of (task_in p.tasks t) (job_of k t)) 0) else None
-
 -- it stands among the tasks of its cluster where it is eligible
 abbrev pub offered : Parts → ℕ → GroupState → GroupState
 offered p t s =
@@ -67,7 +62,7 @@ all_offered p ts s = in_turn (offered p) ts s
 -- its reservation, if it has one, is told
 abbrev pub resv_told : Parts → ℕ → GroupState → GroupState
 resv_told p t s =
-    record s { resvs = record s.resvs { resvs = for_task t (told_now (ready_now p s.jobs.kept t) t) s.resvs.resvs } }
+    record s { resvs = record s.resvs { resvs = for_task t (told_now (ready_now p.tasks s.jobs.kept t) t) s.resvs.resvs } }
 
 abbrev pub brought_up : Parts → ℕ → GroupState → GroupState
 brought_up p t s =

@@ -3,7 +3,6 @@
 
 mod engine;
 mod room;
-mod situations;
 mod state;
 
 pub use engine::Engine;

@@ -27,14 +27,13 @@ ghost use Rattle.group_engine.specs.Asking.{asked_for, asked_reply, lock_refused
 ghost use Rattle.group_engine.specs.State.{IsAt};
 ghost use Rattle.group_engine.specs.Touching.{AreArmedOnly, AreNumbered, CanBase, CanBaseAll, CanBringUp, CanBringUpAll, CanCount, CanQuit};
 ghost use Rattle.group_engine.specs.Touching.{after_sem, all_based, all_brought_up, all_offered, base_now, based, brought_up, charged_for};
-ghost use Rattle.group_engine.specs.Touching.{counted, holds_none, key_now, lacks_running, left_if, offered, operated, quitted, quitted_if, ready_now};
+ghost use Rattle.group_engine.specs.Touching.{counted, holds_none, key_now, lacks_running, left_if, offered, operated, quitted, quitted_if};
 ghost use Rattle.group_engine.specs.Touching.{resv_told, stands_now, timer_now, touched_at, CanOffer, CanOfferAll};
 ghost use Rattle.group_facts.specs.Kept.{cpu_of};
 ghost use Rattle.group_jobs.specs.GroupJobs.{IsTaskOf};
-ghost use Rattle.group_resvs.specs.GroupResvs.{HasUnit, tick_of};
+ghost use Rattle.group_resvs.specs.GroupResvs.{HasUnit};
 ghost use Rattle.rt_model.specs.Past.{is_work};
 
-use crate::situations::situation_of;
 use cluster_table::ClusterTable;
 use group_jobs::GroupJobs;
 use group_resvs::GroupResvs;
@@ -164,7 +163,7 @@ impl GroupState {
             → IsProcessorOf at.group cpu.0 → result ≡ situation at.group cpu.0 at.past }
     {
         let link = self.linked(cpu);
-        situation_of(&self.jobs, cpu, link, self.lacks_budget(cpu))
+        self.jobs.situation(cpu, link, self.lacks_budget(cpu))
     }
 
     /// Whether the reservation of the task that the processor runs lacks budget.
@@ -267,19 +266,6 @@ impl GroupState {
         }
     }
 
-    /// The release of the task's job, where that is ready.
-    fn ready_release(&self, parts: &Parts, task: TaskNo) -> Option<Tick>
-        requires { IsTaskOf self.now.jobs.kept parts.now.tasks task.0 }
-        ensures { tick_of result ≡ ready_now parts.now self.now.jobs.kept task.0 }
-    {
-        let tasks = parts.tasks.as_slice();
-        if self.jobs.is_ready(tasks, task) {
-            Some(Tick(self.jobs.release(tasks, task).unwrap_or(0)))
-        } else {
-            None
-        }
-    }
-
     /// Tells the base key of the task's job.
     fn tell_base(&mut self, parts: &Parts, task: TaskNo)
         requires { CanBase parts.now task.0 self.old }
@@ -317,7 +303,7 @@ impl GroupState {
         ensures { self.new ≡ resv_told parts.now task.0 self.old }
     {
         if self.resvs.is_client(task) {
-            let release = self.ready_release(parts, task);
+            let release = self.jobs.ready_release(parts.tasks.as_slice(), task);
             self.resvs.tell(task, release);
         }
     }

@@ -1,5 +1,5 @@
 -- What is kept of a group's past, as contracts see it.
-use Rattle.std.specs.Prelude.{◌≡◌, ℕ, ◌-◌, ◌<◌, ◌≤◌, Bool, true, false, List, length, Option, None, Some, if◌then◌else◌, slice_index_or}
+use Rattle.std.specs.Prelude.{◌≡◌, ℕ, ◌-◌, ◌<◌, ◌≤◌, Bool, true, false, List, length, Option, None, Some, if◌then◌else◌, slice_index_or, unwrap_or}
 use Rattle.rt_base.specs.declared.TheConstants.{MOST_STEPS, TICK_END}
 use Rattle.rt_task.specs.declared.Op.{Op}
 use Rattle.rt_task.specs.declared.Op.TheVariants as ops
@@ -11,6 +11,7 @@ use Rattle.rt_model.specs.Past.{is_work}
 use Rattle.group_facts.specs.Bounds.{AreBounded}
 use Rattle.group_facts.specs.Facts.{CpuFacts}
 use Rattle.group_facts.specs.Kept.{Kept, cpu_of, job_of}
+use Rattle.group_facts.specs.Words.{is_ready, release_of}
 use Rattle.group_facts.specs.Replies.{np_off_reply, np_on_reply, work_reply}
 
 -- what is kept, and room for how many more arrivals
@@ -21,6 +22,11 @@ pub record GroupJobs : Type 0 where
 -- the data of a task in the setup
 abbrev pub task_in : List Task → ℕ → Task
 task_in tasks t = slice_index_or tasks (t - 1) no_task
+
+-- the release of a task's job, where that is ready
+abbrev pub ready_now : List Task → Kept → ℕ → Option ℕ
+ready_now rows k t =
+    if is_ready k.clock (task_in rows t) (job_of k t) then Some (unwrap_or (release_of (task_in rows t) (job_of k t)) 0) else None
 
 -- a task of these, whose numbers and counts are within the limits
 pub record IsTaskOf (k : Kept) (tasks : List Task) (t : ℕ) : Type 0 where

@@ -2,9 +2,10 @@
 //! last. The engine and the slow ranker both keep it.
 #![tactic(auto)]
 
-ghost use Rattle.std.specs.Prelude.{◌≡◌, ◌+◌, ◌-◌, ◌<◌, ◌≤◌, ◌∷◌, ◌++◌, [], false, true, IfOk, length};
+ghost use Rattle.std.specs.Prelude.{◌≡◌, ◌+◌, ◌-◌, ◌<◌, ◌≤◌, ◌∷◌, ◌++◌, [], false, true, IfOk, length, option_map};
 ghost use Rattle.rt_base.specs.TaskNos.{number_of_task};
 ghost use Rattle.rt_base.specs.declared.TheConstants.{MOST_STEPS, MOST_TASKS, TICK_END};
+ghost use Rattle.rt_base.specs.declared.Tick.{Tick};
 ghost use Rattle.rt_rules.specs.Numbers.{first, rest, same};
 ghost use Rattle.rt_model.specs.Releases as come;
 ghost use Rattle.rt_plays.specs.Plays.{group_with};
@@ -14,11 +15,12 @@ ghost use Rattle.group_facts.specs.Moves.{after_op, is_end};
 ghost use Rattle.group_facts.specs.Replies as told;
 ghost use Rattle.group_facts.specs.Timers as timers;
 ghost use Rattle.group_facts.specs.Words as words;
-ghost use Rattle.group_jobs.specs.GroupJobs.{IsTaskOf, RunsTask, is_op_reply, plain_reply, task_in};
+ghost use Rattle.group_jobs.specs.GroupJobs.{IsTaskOf, RunsTask, is_op_reply, plain_reply, ready_now, task_in};
 ghost use Rattle.group_jobs.specs.States.{SleepIsShort, cpu_seen, job_with};
 
 mod cpus;
 mod keys;
+mod situations;
 mod states;
 
 use arrival_queue::ArrivalQueue;
@@ -201,6 +203,19 @@ impl GroupJobs {
             result ≡ words.is_ready self.now.kept.clock (task_in tasks.now task.0) job }
     {
         self.is_there(tasks, task) && self.state(task).wakes <= self.clock
+    }
+
+    /// The release of the task's job, where that is ready.
+    pub fn ready_release(&self, tasks: &[Task], task: TaskNo) -> Option<Tick>
+        requires { IsTaskOf self.now.kept tasks.now task.0 }
+        ensures { option_map (λ (t : Tick). t.0) result
+            ≡ ready_now tasks.now self.now.kept task.0 }
+    {
+        if self.is_ready(tasks, task) {
+            Some(Tick(self.release(tasks, task).unwrap_or(0)))
+        } else {
+            None
+        }
     }
 
     /// The next moment that the task's current job waits for: its release or the end of its sleep, whichever is ahead

@@ -10,8 +10,7 @@ use Rattle.group_facts.specs.Facts.{JobFacts}
 use Rattle.group_facts.specs.Kept.{Kept, job_of, with_clock}
 use Rattle.group_facts.specs.Timers.{first_of_two, if_later, timer}
 use Rattle.group_facts.specs.Words.{is_ready, release_of}
-use Rattle.group_jobs.specs.GroupJobs.{task_in}
-use Rattle.rank_afresh.specs.Facts.{ready_now}
+use Rattle.group_jobs.specs.GroupJobs.{ready_now, task_in}
 use Rattle.rank_afresh.specs.Ranks.{earlier, next_in, timer_in}
 use Rattle.rank_afresh.proofs.Staying.{ready_in}
 

@@ -30,15 +30,16 @@ use Rattle.group_resvs.specs.Laws.{AreChanged, AreToldOf, told_of_move}
 use Rattle.group_resvs.proofs.KeptLaws.{move_is_kept}
 use Rattle.rank_afresh.specs.declared.touched.Touched.{Touched}
 use Rattle.rank_afresh.specs.Clusters.{ClusterFacts, has_any, is_touched, relinked, renewed}
-use Rattle.rank_afresh.specs.Facts.{Facts, HasEnded, cluster_at, ready_now, told_in, touched_tasks}
+use Rattle.rank_afresh.specs.Facts.{Facts, HasEnded, cluster_at, told_in, touched_tasks}
 use Rattle.rank_afresh.specs.Ranks.{AreBased, CanRead, is_candidate, timer_in}
 use Rattle.rank_afresh.specs.Standing.{IsClusterOf, IsFit}
 use Rattle.rank_afresh.proofs.Staying.{IsUntouched}
-use Rattle.rank_afresh.proofs.ToldClients.{told-clock, told-same}
 use Rattle.rank_afresh.proofs.Fitting.{fit-renewed}
 use Rattle.rank_afresh.proofs.ModelWords.{AreResvsRead, release-read, resvs-read, runs-read, top-read}
 use Rattle.rank_afresh.proofs.SetLists.{cluster-inside}
 use Rattle.rank_afresh.proofs.Placed.{links-placed, top-same}
+use Rattle.group_jobs.specs.GroupJobs.{ready_now}
+use Rattle.resv_laws.proofs.ToldEach.{told-clock, told-same}
 
 -- telling and settling leave the clock
 pub clock-ended : (p : Parts) (which : Touched) (old new : Facts) → HasEnded p which old new → new.resvs.resvs.clock ≡ old.resvs.resvs.clock

@@ -8,9 +8,10 @@ use Rattle.group_resvs.specs.GroupResvs.{GroupResvs}
 use Rattle.resv_laws.specs.Serving.{told_each}
 use Rattle.rank_afresh.specs.declared.touched.Touched.{Touched}
 use Rattle.rank_afresh.specs.Clusters.{ClusterFacts, is_touched, no_facts}
-use Rattle.rank_afresh.specs.Facts.{WithRoom, cluster_at, ready_now, told_in, touched_tasks}
+use Rattle.rank_afresh.specs.Facts.{WithRoom, cluster_at, told_in, touched_tasks}
 use Rattle.rank_afresh.proofs.SetLists.{cut, cut-all}
 use Rattle.rank_afresh.proofs.ToldClients.{ToldAlike, alike-all, alike-some, with_told}
+use Rattle.group_jobs.specs.GroupJobs.{ready_now}
 
 abbrev all : Kept → GroupSems → List ClusterFacts → ℕ → GroupResvs → WithRoom
 all k v cs n r = record { facts = record { kept = k; sems = v; resvs = r; clusters = cs }; room = n }

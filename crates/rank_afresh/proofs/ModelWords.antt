@@ -31,10 +31,10 @@ use Rattle.group_resvs.specs.GroupResvs.{GroupResvs, is_served_by, lacks_budget_
 use Rattle.group_resvs.specs.Kept.{KeepsResvs}
 use Rattle.group_resvs.specs.Laws.{IsRead}
 use Rattle.group_resvs.proofs.KeptLaws.{resvs_are_read}
-use Rattle.rank_afresh.specs.Facts.{ready_now}
 use Rattle.waiting_list.proofs.Reading.{key_of-any}
 use Rattle.rank_afresh.specs.Clusters.{runs_in}
 use Rattle.rank_afresh.specs.Ranks.{AreBased, base_in, is_candidate, key_in, ranking_in, top_in}
+use Rattle.group_jobs.specs.GroupJobs.{ready_now}
 
 -- ---- reservations
 

@@ -40,7 +40,7 @@ use Rattle.rank_changes.proofs.SameEligibility.{awaits-quiet}
 use Rattle.group_facts.specs.Kept.{HasRoom, IsKept, IsOfGroup, Kept, cpu_of}
 use Rattle.group_facts.specs.Timers.{is_sleep}
 use Rattle.group_facts.proofs.KeptMoves.{kept_after_act, kept_at_opening as facts_at_opening, length-replicated, task-range}
-use Rattle.group_jobs.specs.GroupJobs.{task_in}
+use Rattle.group_jobs.specs.GroupJobs.{ready_now, task_in}
 use Rattle.prio_inherit.specs.Waits.{Waits}
 use Rattle.group_sems.specs.GroupSems.{GroupSems}
 use Rattle.group_sem_laws.specs.Kept.{KeepsGroupSems, KeepsLocks}
@@ -55,7 +55,7 @@ use Rattle.rank_afresh.specs.declared.touched.Touched.{Touched}
 use Rattle.rank_afresh.specs.declared.touched.Touched.TheVariants.{AllClusters, NoCluster, OneCluster}
 use Rattle.rank_afresh.specs.Clusters.{ClusterFacts, is_touched, no_facts, relinked, runs_in}
 use Rattle.rank_afresh.specs.Facts as moves
-use Rattle.rank_afresh.specs.Facts.{CanAct, Facts, HasEnded, IsPlainAct, IsUntold, MayAct, all_based, asked, at_opening, charged_by, cluster_at, ended_now, ends_in, home_of, kept_after, kept_at_opening, link_in, none_after, ready_now, reply_in, resvs_after, resvs_at_opening, sems_after, told_by, told_in, touched_by, touched_in, touched_tasks, unlinked_cluster, unlinked_clusters}
+use Rattle.rank_afresh.specs.Facts.{CanAct, Facts, HasEnded, IsPlainAct, IsUntold, MayAct, all_based, asked, at_opening, charged_by, cluster_at, ended_now, ends_in, home_of, kept_after, kept_at_opening, link_in, none_after, reply_in, resvs_after, resvs_at_opening, sems_after, told_by, told_in, touched_by, touched_in, touched_tasks, unlinked_cluster, unlinked_clusters}
 use Rattle.rank_afresh.specs.Ranks.{AreBased, CanRead, timer_in, top_in}
 use Rattle.rt_groups.specs.Endings.{ended_in}
 use Rattle.rank_afresh.specs.Standing.{IsAt, IsClusterOf, IsFit, Standing, group_of}
@@ -70,8 +70,8 @@ use Rattle.rank_afresh.proofs.SetLists.{at-mapped, cluster-inside, cluster-withi
 use Rattle.rank_afresh.proofs.Standings.{all-places, cpu-there, has-cpu, home-there, linked-there, resvs-there, runs-there}
 use Rattle.rank_afresh.proofs.Staying.{IsStill, IsUntouched}
 use Rattle.rank_afresh.proofs.Telling.{based-after, sems-retold}
-use Rattle.rank_afresh.proofs.ToldClients.{told-same}
 use Rattle.rank_afresh.proofs.Touching.{still-after}
+use Rattle.resv_laws.proofs.ToldEach.{told-same}
 
 -- a task of the group is one of the cluster that its row names
 home-read : (g : Group) (t : ℕ) → has t (tasks g) ≡ true → has t (tasks_of g (task_in g.setup.tasks t).cluster.0) ≡ true

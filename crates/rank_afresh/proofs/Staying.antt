@@ -6,11 +6,10 @@ use Rattle.rt_rules.specs.Numbers.{has}
 use Rattle.rt_model.specs.Group.{Group, cpus, first_cpu, tasks_of}
 use Rattle.group_facts.specs.Kept.{Kept, job_of}
 use Rattle.group_facts.specs.Words.{is_ready}
-use Rattle.group_jobs.specs.GroupJobs.{task_in}
+use Rattle.group_jobs.specs.GroupJobs.{ready_now, task_in}
 use Rattle.sem_table.specs.Told.{awaits_of}
 use Rattle.group_sems.specs.GroupSems.{GroupSems}
 use Rattle.rank_afresh.specs.Clusters.{runs_in}
-use Rattle.rank_afresh.specs.Facts.{ready_now}
 use Rattle.rank_afresh.specs.Ranks.{base_in, key_in, timer_in}
 
 -- whether the current job of a task is ready

@@ -21,7 +21,7 @@ use Rattle.group_facts.specs.Moves.{is_end}
 use Rattle.group_facts.specs.Replies.{arrival_reply, irq_reply, np_of}
 use Rattle.group_facts.specs.Timers.{is_sleep}
 use Rattle.group_facts.specs.Words.{is_late, is_ready, release_of}
-use Rattle.group_jobs.specs.GroupJobs.{RunsTask, plain_reply, task_in}
+use Rattle.group_jobs.specs.GroupJobs.{RunsTask, plain_reply, ready_now, task_in}
 use Rattle.sem_table.specs.Asked.{is_granted}
 use Rattle.sem_table.specs.Opened.{IsOpened}
 use Rattle.sem_table.specs.Told.{held_of}
@@ -63,11 +63,6 @@ abbrev pub all_based : Parts → Kept → ℕ → GroupSems → GroupSems
 all_based p k n v = record v { waits = record v.waits { bases = rebased (base_in p k) (numbers_from 1 n) v.waits.bases } }
 
 -- ---- the end of a move, and of the opening
-
--- the release of a task's job, where that is ready
-abbrev pub ready_now : List Task → Kept → ℕ → Option ℕ
-ready_now rows k t =
-    if is_ready k.clock (task_in rows t) (job_of k t) then Some (unwrap_or (release_of (task_in rows t) (job_of k t)) 0) else None
 
 -- the tasks of the clusters that are touched, of those from a number on
 abbrev pub touched_tasks : Touched → ℕ → ℕ → List ClusterFacts → List ℕ

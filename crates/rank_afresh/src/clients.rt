@@ -4,26 +4,12 @@ ghost use Rattle.rt_base.specs.TaskNos.{numbers};
 ghost use Rattle.rt_rules.specs.Numbers.{has};
 ghost use Rattle.resv_laws.specs.Kept.{told_now};
 ghost use Rattle.resv_laws.specs.Serving.{for_task, told_each};
-ghost use Rattle.group_jobs.specs.GroupJobs.{IsTaskOf};
-ghost use Rattle.group_resvs.specs.GroupResvs.{tick_of};
-ghost use Rattle.rank_afresh.specs.Facts.{ready_now};
+ghost use Rattle.group_jobs.specs.GroupJobs.{IsTaskOf, ready_now};
 
 use group_jobs::GroupJobs;
 use group_resvs::GroupResvs;
-use rt_base::{TaskNo, Tick};
+use rt_base::TaskNo;
 use rt_task::Task;
-
-/// The release of the task's job, where that is ready.
-fn ready_release(jobs: &GroupJobs, rows: &[Task], task: TaskNo) -> Option<Tick>
-    requires { IsTaskOf jobs.now.kept rows.now task.0 }
-    ensures { tick_of result ≡ ready_now rows.now jobs.now.kept task.0 }
-{
-    if jobs.is_ready(rows, task) {
-        Some(Tick(jobs.release(rows, task).unwrap_or(0)))
-    } else {
-        None
-    }
-}
 
 /// Tells the task's reservation, if it has one.
 fn tell_client(resvs: &mut GroupResvs, jobs: &GroupJobs, rows: &[Task], task: TaskNo)
@@ -32,7 +18,7 @@ fn tell_client(resvs: &mut GroupResvs, jobs: &GroupJobs, rows: &[Task], task: Ta
         resvs.new ≡ record resvs.old { resvs = for_task task.0 told resvs.old.resvs } }
 {
     if resvs.is_client(task) {
-        resvs.tell(task, ready_release(jobs, rows, task));
+        resvs.tell(task, jobs.ready_release(rows, task));
     }
 }
 

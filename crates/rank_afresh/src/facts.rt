@@ -14,7 +14,7 @@ ghost use Rattle.rt_changes.specs.SemActs.{is_at_sem};
 ghost use Rattle.group_facts.specs.Kept.{cpu_of};
 ghost use Rattle.group_facts.specs.Situations.{lacks_of, situation_of};
 ghost use Rattle.group_facts.specs.Timers as timers;
-ghost use Rattle.group_jobs.specs.GroupJobs.{IsTaskOf, is_op_reply};
+ghost use Rattle.group_jobs.specs.GroupJobs.{IsTaskOf, is_op_reply, ready_now};
 ghost use Rattle.group_jobs.specs.States.{SleepIsShort};
 ghost use Rattle.group_resvs.specs.GroupResvs.{HasUnit};
 ghost use Rattle.group_sems.specs.Locking.{CanLock};
@@ -27,13 +27,12 @@ ghost use Rattle.rank_afresh.specs.declared.touched.Touched.TheVariants as touch
 ghost use Rattle.rank_afresh.specs.Clusters.{HasCpu, is_touched};
 ghost use Rattle.rank_afresh.specs.Looking.{CanLook, lacks_running};
 ghost use Rattle.rank_afresh.specs.Ranks.{CanRead, base_in};
-ghost use Rattle.rank_afresh.specs.Facts.{AreOpened, ArePlaced, CanAct, CanFollow, HasEnded, IsPlainAct, MayAct, MayDo, MayLock, MayUnlock, acted, all_based, asked_reply, at_opening, based, charged_for, clocked, cluster_at, counted, ended_now, ends_in, home_of, late_in, link_in, lock_refused, ready_now, reply_in, resvs_at_opening, sems_by, task_reply, told_in, touched_in};
+ghost use Rattle.rank_afresh.specs.Facts.{AreOpened, ArePlaced, CanAct, CanFollow, HasEnded, IsPlainAct, MayAct, MayDo, MayLock, MayUnlock, acted, all_based, asked_reply, at_opening, based, charged_for, clocked, cluster_at, counted, ended_now, ends_in, home_of, late_in, link_in, lock_refused, reply_in, resvs_at_opening, sems_by, task_reply, told_in, touched_in};
 ghost use Rattle.rank_afresh.specs.Facts as seen;
 
 use crate::clients::tell_clients;
 use crate::cluster::RankedCluster;
 use crate::rows::{cluster_of, clusters_of, cpu_count};
-use crate::situations;
 use crate::touched::Touched;
 use group_jobs::GroupJobs;
 use group_resvs::GroupResvs;
@@ -237,7 +236,7 @@ impl Facts {
     {
         let link = self.linked(parts, cpu);
         let lacks_budget = self.lacks_budget(cpu);
-        situations::situation_of(&self.jobs, cpu, link, lacks_budget)
+        self.jobs.situation(cpu, link, lacks_budget)
     }
 
     /// Whether the reservation of the task that the processor runs has no budget left.

@@ -9,7 +9,6 @@ mod placing;
 mod ranks;
 mod room;
 mod rows;
-mod situations;
 mod touched;
 
 pub use afresh::Afresh;

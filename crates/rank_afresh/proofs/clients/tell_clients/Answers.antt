@@ -4,10 +4,10 @@ use Rattle.rt_base.specs.declared.TaskNo.{TaskNo}
 use Rattle.rt_rules.specs.Numbers.{has}
 use Rattle.rt_rules.proofs.BoolLaws.{or_true}
 use Rattle.rt_rules.proofs.MemberLaws.{equal_self}
-use Rattle.rank_afresh.specs.Facts.{ready_now}
 use Rattle.rank_afresh.proofs.ToldClients.{alike-all, alike-next}
 use Rattle.rank_afresh.proofs.SetLists.{cut, cut-all}
 use Rattle.rank_afresh.proofs.clients.tell_clients.Goals as goal
+use Rattle.group_jobs.specs.GroupJobs.{ready_now}
 
 there : (ts : List TaskNo) (i : ℕ) (d : TaskNo) → i < length ts → has (get_or ts i d).0 (numbers ts) ≡ true
 there [] i d h = absurd (omega arith)
