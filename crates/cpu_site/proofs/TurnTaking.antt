@@ -25,7 +25,7 @@ use Rattle.rt_plays.specs.Room.{room}
 use Rattle.rt_plays.proofs.PlayLaws.{play-fits}
 use Rattle.rt_groups.specs.Drives.{gives_steps}
 use Rattle.rt_groups.specs.Groups.{GroupHistory, group_of, past, with_entry, IsGroupOf}
-use Rattle.turn_play.proofs.ValidBodies.{next-fits}
+use Rattle.body_play.proofs.ValidBodies.{next-fits}
 use Rattle.cpu_site.specs.declared.progress.Progress.{Progress}
 use Rattle.cpu_site.specs.Playing.{IsFar, IsFarBy, IsNextEntry, IsNextStep, IsOver, IsPlaying}
 use Rattle.cpu_site.specs.Turning.{act_after, IsAtTurn, IsTurnDone}

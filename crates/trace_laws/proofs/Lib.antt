@@ -1,6 +1,5 @@
 pub mod ScriptLaws
 pub mod StepsGiven
-pub mod ValidBodies
 pub mod NextActs
 pub mod Plays
 pub mod Processors

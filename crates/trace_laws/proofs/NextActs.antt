@@ -12,7 +12,7 @@ use Rattle.rt_model.specs.Steps.{IsActOf}
 use Rattle.rt_plays.specs.NextSteps.{MayComeNext, act_going_on}
 use Rattle.rt_plays.specs.Turns.{steps_since}
 use Rattle.rt_plays.proofs.StepLaws.{begins, goes-on}
-use Rattle.trace_laws.proofs.ValidBodies.{next-fits}
+use Rattle.body_play.proofs.ValidBodies.{next-fits}
 
 going-fits : (g : Group) → IsValid g.setup → (q : ℕ) (past : Past) (act : Act) → act_going_on g q past ≡ Some act → IsActOf g act
 unfolding act_going_on

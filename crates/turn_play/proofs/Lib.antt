@@ -1,4 +1,3 @@
 pub mod StepsTaken
 pub mod TurnSteps
 pub mod TurnsAhead
-pub mod ValidBodies

@@ -3,9 +3,9 @@ use Rattle.rt_task.specs.Validity.{IsValid}
 use Rattle.rt_model.specs.Group.{Group}
 use Rattle.rt_model.specs.Situations.{next_act, situation}
 use Rattle.rt_groups.specs.Groups.{GroupHistory, group_of, past}
+use Rattle.body_play.proofs.ValidBodies.{next-fits}
 use Rattle.turn_play.proofs.TurnSteps.{asked, with_acts}
 use Rattle.turn_play.proofs.TurnsAhead.{acts-end, acts-step, acts-stop}
-use Rattle.turn_play.proofs.ValidBodies.{next-fits}
 use Rattle.turn_play.proofs.turn.play_acts.Goals as goal
 
 pub returns-in_default : goal.returns-in_default
