@@ -192,8 +192,7 @@ impl Engine {
         ensures reply { result ≡ reply_to (group_of self.old) step (past self.old) }
         ensures entry { self.new ≡ with_entry (record { step = step; reply = result }) self.old }
         ensures legal { IsLegalNow self.new }
-        ensures waiting {
-            AreWaitersAt (between self.old step) step.cpu.0 step.act list.new.waiting }
+        ensures waiting { AreWaitersAt (between self.old step) step.cpu.0 step.act list.new.waiting }
         ensures once { IsDistinct (waiter_tasks list.new.waiting) }
         ensures same_room { list.new.room ≡ list.old.room }
     {

@@ -486,8 +486,7 @@ impl GroupState {
     /// Counts an accepted operation but Lock and Unlock of the task that the processor runs. Where that ends its job, or
     /// is a Sleep, the processor runs nothing, and the task is looked at.
     fn count(&mut self, parts: &Parts, cpu: CpuNo, task: TaskNo, op: Op)
-        requires {
-            CanCount parts.now cpu.0 task.0 op Reply.Done (holds_none self.old task.0) self.old }
+        requires { CanCount parts.now cpu.0 task.0 op Reply.Done (holds_none self.old task.0) self.old }
         ensures { self.new
             ≡ counted parts.now cpu.0 task.0 op (holds_none self.old task.0) self.old }
     {
@@ -528,10 +527,8 @@ impl GroupState {
         before: Option<TaskNo>,
         served: Option<TaskNo>,
     )
-        requires count {
-            CanCount parts.now cpu.0 task.0 op reply (holds_none self.old task.0) self.old }
-        requires looks {
-            let us = touched_at self.old sem.0 (number_of_task before) (number_of_task served) in
+        requires count { CanCount parts.now cpu.0 task.0 op reply (holds_none self.old task.0) self.old }
+        requires looks { let us = touched_at self.old sem.0 (number_of_task before) (number_of_task served) in
             let next = operated parts.now cpu.0 task.0 op reply (holds_none self.old task.0) self.old in
             CanBringUpAll parts.now us next }
         ensures { self.new
