@@ -22,11 +22,13 @@ use Rattle.rt_plays.specs.Room.{room}
 use Rattle.rt_plays.specs.Scripts.{script}
 use Rattle.rt_task.specs.Validity.{IsValid}
 use Rattle.rt_plays.proofs.PlayLaws.{play-fits}
+use Rattle.rt_plays.proofs.ScriptOrder.{in_group-home, in_group-script}
 use Rattle.rt_plays.proofs.ScriptParts.{script-take-drop, script-take-next, script-steps_of-next, script-steps_of-skip}
+use Rattle.rt_groups.proofs.GroupLimits.{processor-low}
 use Rattle.cpu_site.specs.Chains.{IsNextFrom, IsChained}
 use Rattle.cpu_site.specs.Playing.{IsPlayable, IsPlayedTo, IsPlaying, IsNextStep, IsNextEntry, IsOver}
 use Rattle.cpu_site.proofs.Drives.{begun-few, begun-first, begun-next, next-script, over-script}
-use Rattle.cpu_site.proofs.SetFacts.{group-steps, in_group-home, own-script, processor-low}
+use Rattle.cpu_site.proofs.SetFacts.{group-steps}
 
 module _ (h : GroupHistory) (p : Parts) (steps : List Step) (places nexts : List ℕ) (playing : IsPlaying h p steps places nexts) (q : ℕ) (of_g : IsProcessorOf (group_of h) q) (gives : gives_steps h.setup.drive ≡ true) where
   low : q < MOST_CPUS
@@ -36,7 +38,7 @@ module _ (h : GroupHistory) (p : Parts) (steps : List Step) (places nexts : List
   place-there = rw playing.all_cpus low
 
   own_given : script steps q ≡ script (steps_given h.setup.drive) q
-  own_given = ap (λ (ss : List Step). script ss q) playing.steps_are ∙ own-script (group_of h) q of_g
+  own_given = ap (λ (ss : List Step). script ss q) playing.steps_are ∙ in_group-script (group_of h) (steps_given h.setup.drive) q of_g
 
   played-to : IsPlayedTo steps h.entries q (get_or places q 0)
   played-to = playing.at gives q low

@@ -27,7 +27,8 @@ use Rattle.turn_cell.proofs.Tools.{entries-append}
 use Rattle.cpu_site.specs.declared.progress.Progress.{Progress}
 use Rattle.cpu_site.specs.Playing.{IsFar, IsFarBy, IsNextBy, IsNextStep, IsOver, IsOverBy, room_in}
 use Rattle.cpu_site.specs.Seats.{cpu_of}
-use Rattle.cpu_site.proofs.SetFacts.{group-steps_few, turns-few}
+use Rattle.rt_groups.proofs.GroupLimits.{turns-few}
+use Rattle.cpu_site.proofs.SetFacts.{group-steps_few}
 use Rattle.cpu_site.specs.Turning.{IsAtTurn}
 use Rattle.cpu_site.proofs.Turning.{at-first, at-others, ended-others}
 use Rattle.cpu_site.proofs.Words.{no-more, script-of}

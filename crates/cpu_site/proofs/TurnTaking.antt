@@ -30,7 +30,7 @@ use Rattle.cpu_site.specs.declared.progress.Progress.{Progress}
 use Rattle.cpu_site.specs.Playing.{IsFar, IsFarBy, IsNextEntry, IsNextStep, IsOver, IsPlaying}
 use Rattle.cpu_site.specs.Turning.{act_after, IsAtTurn, IsTurnDone}
 use Rattle.cpu_site.proofs.Drives.{begun-next, far-turns, next-turn, over-turns}
-use Rattle.cpu_site.proofs.SetFacts.{processor-some, turns-few}
+use Rattle.rt_groups.proofs.GroupLimits.{processor-some, turns-few}
 use Rattle.cpu_site.proofs.Turning.{comes, turn-done, turn-given, turns-ended, Comes}
 
 -- the act that comes is one of the group

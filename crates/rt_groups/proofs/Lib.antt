@@ -1,5 +1,6 @@
 pub mod ValidRows
 pub mod SetLimits
+pub mod GroupLimits
 pub mod GroupCount
 pub mod GroupPlaces
 pub mod TaskNumbers

@@ -4,12 +4,12 @@ use Rattle.std.proofs.lemmas.List.{length-map}
 use Rattle.std.proofs.lemmas.List.Sums.{sum_by-cons}
 use Rattle.std.specs.Prelude.{nat_le, nat_lt, slice_index_or, sum_by}
 use Rattle.rt_base.specs.declared.TheConstants.{MOST_CLUSTERS, MOST_CPUS, MOST_RESVS, MOST_SEMS, MOST_TASKS, TICK_END}
-use Rattle.rt_task.specs.Draft.{draft_cluster, draft_of, draft_resv}
+use Rattle.rt_task.specs.Draft.{draft_cluster, draft_drive, draft_of, draft_resv}
 use Rattle.rt_task.specs.Lookups as lookups
 use Rattle.rt_task.specs.NameRules.{task_name}
 use Rattle.rt_task.specs.RangeRules.{task_range}
 use Rattle.rt_task.specs.RuleWords.{is_prio, is_span}
-use Rattle.rt_task.specs.SizeRules.{whole_size}
+use Rattle.rt_task.specs.SizeRules.{horizon_fits, whole_size}
 use Rattle.rt_task.specs.Validity.{IsValid}
 use Rattle.rt_task.specs.declared.Cluster.{Cluster}
 use Rattle.rt_task.specs.declared.Parts.{Parts}
@@ -24,7 +24,7 @@ use Rattle.rt_laws.proofs.ValidSets.{drafted, keeps_rows, rules_of, task-keeps, 
 use Rattle.rt_groups.specs.Limits.{IsTaskInLimits, SetsAreInLimits}
 use Rattle.rt_groups.proofs.ValidRows.{passes_rows}
 
-cpus-drafted : (ks : List Cluster) → sum_by (λ (c : DraftCluster). c.cpus) (map draft_cluster ks) ≡ sum_by (λ (k : Cluster). k.cpus) ks
+pub cpus-drafted : (ks : List Cluster) → sum_by (λ (c : DraftCluster). c.cpus) (map draft_cluster ks) ≡ sum_by (λ (k : Cluster). k.cpus) ks
 cpus-drafted [] = refl
 cpus-drafted (k ∷ ks) = omega (arith, cpus-drafted ks, sum_by-cons (λ (c : DraftCluster). c.cpus) (draft_cluster k) (map draft_cluster ks), sum_by-cons (λ (c : Cluster). c.cpus) k ks)
 
@@ -34,6 +34,7 @@ record IsFew (p : Parts) : Type 0 where
   cpus : processor_count p ≤ MOST_CPUS
   tasks : length p.tasks ≤ MOST_TASKS
   resvs : length p.resvs ≤ MOST_RESVS
+  drive : horizon_fits (draft_of p) (draft_drive p.drive) ≡ true
 
 is_few : (p : Parts) → IsValid p → IsFew p
 unfolding whole_size lookups.cpus
@@ -48,7 +49,12 @@ is_few p valid =
       cpus = rw (cpus-drafted p.clusters) at (leb-true (lookups.cpus d) MOST_CPUS by_cpus.0);
       tasks = rw (length-map p.tasks drafted) at (leb-true (length d.tasks) MOST_TASKS by_tasks.0);
       resvs = rw (length-map p.resvs draft_resv) at (leb-true (length d.resvs) MOST_RESVS by_resvs.0);
+      drive = by_resvs.1;
     }
+
+-- what drives a valid set is within the limit
+pub drive-fits : (p : Parts) → IsValid p → horizon_fits (draft_of p) (draft_drive p.drive) ≡ true
+drive-fits p valid = (is_few p valid).drive
 
 has_cpus : (p : Parts) → IsValid p → (c : ℕ) → c < length p.clusters → 1 ≤ (slice_index_or p.clusters c no_cluster).cpus
 unfolding cpus cluster

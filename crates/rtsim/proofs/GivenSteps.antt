@@ -1,16 +1,13 @@
 -- The steps that a set gives: what each group plays of them, and that their processors are there.
-use Rattle.std.proofs.Common.{◌≡◌, ℕ, ◌<◌, true, List, [], ◌∷◌, length, map, get_or, ltb-true, refl, ap, ◌∙◌, subst, arith}
-use Rattle.std.specs.Prelude.{All, nat_lt, slice_index_or, sum_by, ◌&&◌}
+use Rattle.std.proofs.Common.{◌≡◌, ℕ, ◌<◌, true, length, map, get_or, ltb-true, refl, ap, ◌∙◌, subst, arith}
+use Rattle.std.specs.Prelude.{All, nat_lt, slice_index_or, ◌&&◌}
 use Rattle.std.proofs.lemmas.List.{get_or-map, length-map}
-use Rattle.std.proofs.lemmas.List.Sums.{sum_by-cons}
 use Rattle.rt_base.specs.declared.TheConstants.{TICK_END}
-use Rattle.rt_task.specs.declared.Cluster.{Cluster}
 use Rattle.rt_task.specs.declared.Drive.{Drive}
 use Rattle.rt_task.specs.declared.Drive.TheVariants.{Steps, Horizon}
 use Rattle.rt_task.specs.declared.Parts.{Parts}
 use Rattle.rt_task.specs.declared.Step.{Step}
-use Rattle.rt_task.specs.declared.draft.DraftCluster.{DraftCluster}
-use Rattle.rt_task.specs.Draft.{draft_cluster, draft_drive, draft_of, draft_step, steps_of}
+use Rattle.rt_task.specs.Draft.{draft_drive, draft_of, draft_step, steps_of}
 use Rattle.rt_task.specs.Lookups as lookups
 use Rattle.rt_task.specs.RangeRules.{step_range}
 use Rattle.rt_task.specs.RuleWords.{act_in_range}
@@ -23,6 +20,7 @@ use Rattle.rt_plays.specs.Plays.{group_with}
 use Rattle.rt_plays.specs.Room.{room, room_by}
 use Rattle.rt_plays.proofs.ProcessorLaws.{cpu_count}
 use Rattle.rt_groups.specs.Drives.{gives_steps}
+use Rattle.rt_groups.proofs.SetLimits.{cpus-drafted}
 
 given : (drive : Drive) → gives_steps drive ≡ true → drive ≡ Steps (steps_given drive)
 given (Steps steps) h = refl
@@ -35,10 +33,6 @@ pub room-given : (p : Parts) (n : ℕ) → gives_steps p.drive ≡ true → room
 room-given p n gives = ap (room_by (group_with p n)) (given p.drive gives)
 
 -- ---- their processors
-
-cpus-drafted : (ks : List Cluster) → sum_by (λ (c : DraftCluster). c.cpus) (map draft_cluster ks) ≡ cpu_count ks
-cpus-drafted [] = refl
-cpus-drafted (k ∷ ks) = omega (arith, cpus-drafted ks, sum_by-cons (λ (c : DraftCluster). c.cpus) (draft_cluster k) (map draft_cluster ks), sum_by-cons (λ (c : Cluster). c.cpus) k ks)
 
 pub steps-inside : (p : Parts) → IsValid p → All (λ (s : Step). s.cpu.0 < cpu_count p.clusters) (steps_given p.drive)
 unfolding step_range lookups.cpus

@@ -9,14 +9,13 @@ use Rattle.rt_model.specs.Group.{group_processors}
 use Rattle.rt_plays.specs.Drives.{horizon}
 use Rattle.rt_plays.specs.Plays.{group_with}
 use Rattle.rt_groups.specs.Groups.{IsGroupOf}
-use Rattle.trace_laws.proofs.Processors.{processor-some}
-use Rattle.trace_laws.proofs.StepsGiven as given
+use Rattle.rt_groups.proofs.GroupLimits as limits
 
 pub turns-few : (p : Parts) (n h : ℕ) → IsValid p → p.drive ≡ Horizon h → h * length (group_processors (group_with p n)) * 18 ≤ MOST_STEPS
 turns-few p n h valid drive =
-    subst (λ (k : ℕ). k * length (group_processors (group_with p n)) * 18 ≤ MOST_STEPS) (ap horizon drive) (given.turns-few (group_with p n) valid)
+    subst (λ (k : ℕ). k * length (group_processors (group_with p n)) * 18 ≤ MOST_STEPS) (ap horizon drive) (limits.turns-few (group_with p n) valid)
 
 -- a group of the set has a processor
 pub horizon-few : (p : Parts) (n h : ℕ) → IsValid p → IsGroupOf p n → p.drive ≡ Horizon h → h ≤ MOST_STEPS
 horizon-few p n h valid there drive =
-    omega (arith, turns-few p n h valid drive, mul-le-mul_left h (processor-some (group_with p n) valid there))
+    omega (arith, turns-few p n h valid drive, mul-le-mul_left h (limits.processor-some (group_with p n) valid there))

@@ -16,7 +16,7 @@ use Rattle.trace_text.specs.TraceText.{links_at}
 use Rattle.trace_text.proofs.LineLaws.{past_none}
 use Rattle.trace_text.proofs.ReplayLaws.{cpus_there}
 use Rattle.trace_laws.proofs.Plays.{begun-none}
-use Rattle.trace_laws.proofs.Processors.{processor-low}
+use Rattle.rt_groups.proofs.GroupLimits.{processor-low}
 use Rattle.trace_check.specs.declared.follow.Follow.{Follow}
 use Rattle.trace_check.specs.Courses.{IsOpened, room_in}
 use Rattle.trace_check.specs.Following.{IsFollowing}

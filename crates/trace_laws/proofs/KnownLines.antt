@@ -30,6 +30,7 @@ use Rattle.rt_plays.specs.Homes.{IsProcessorOf}
 use Rattle.rt_plays.specs.Plays.{ArePlays, IsBegunPlay, IsPlay, group_count, group_with}
 use Rattle.rt_groups.specs.Groups.{AreStepsOf, IsGroupOf}
 use Rattle.rt_groups.proofs.GroupCount.{groups_are_counted}
+use Rattle.rt_groups.proofs.GroupLimits.{processor-low, processor-some}
 use Rattle.trace_lines.specs.Known.{ActIsKnown, IsLine, IsNumberOf, Known, LinkIsKnown, OpIsKnown, ReplyIsKnown, TargetIsKnown, known_of}
 use Rattle.trace_lines.specs.declared.format.Version.{Version}
 use Rattle.trace_lines.specs.Lines.{Link, end_line, entry_line, group_line}
@@ -37,7 +38,6 @@ use Rattle.trace_text.specs.TraceText.{block_lines, entry_lines, group_lines, li
 use Rattle.trace_text.proofs.BlockLines.{block_lines-known, sem-numbered, task-numbered}
 use Rattle.trace_text.proofs.GroupLaws.{groups-few}
 use Rattle.trace_laws.proofs.Plays.{begun-legal, begun-steps, begun-whole, few-entries}
-use Rattle.trace_laws.proofs.Processors.{processor-low, processor-some}
 
 -- a link that is missing, or is one of the tasks
 target-known : (k : Known) (o : Option ℕ) → ((t : ℕ) → is t o ≡ true → IsNumberOf (length k.names) t) → TargetIsKnown k o

@@ -1,8 +1,6 @@
 pub mod ScriptLaws
-pub mod StepsGiven
 pub mod NextActs
 pub mod Plays
-pub mod Processors
 pub mod KnownLines
 pub mod OneLine
 pub mod Heads

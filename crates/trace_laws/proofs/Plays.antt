@@ -30,16 +30,10 @@ use Rattle.rt_plays.specs.ScriptPlays.{IsScriptPlay}
 use Rattle.rt_plays.specs.Scripts.{script, steps_of}
 use Rattle.rt_plays.proofs.PlayLaws.{begun-is_completed, part-is_begun, play-fits}
 use Rattle.rt_plays.proofs.Sentence.{history-of_play}
-use Rattle.rt_groups.specs.Drives.{gives_steps}
 use Rattle.rt_groups.specs.Groups.{AreStepsOf}
+use Rattle.rt_groups.proofs.GroupLimits.{steps-few, steps-of_groups, turns-few}
 use Rattle.trace_laws.proofs.NextActs.{act-fits}
 use Rattle.trace_laws.proofs.ScriptLaws.{all-by_script}
-use Rattle.trace_laws.proofs.StepsGiven.{steps-few, steps-of_groups, turns-few}
-
--- a play by scripts is a play of a set that gives steps
-pub play-by : (drive : Drive) (g : Group) (es : List Entry) → gives_steps drive ≡ true → IsScriptPlay g es → IsPlayBy drive g es
-play-by (Steps steps) g es given play = play
-play-by (Horizon h) g es given play = cc
 
 -- ---- plays of either drive
 

@@ -4,7 +4,7 @@ use Rattle.rt_task.specs.declared.Parts.{Parts}
 use Rattle.rt_task.specs.declared.Step.{Step}
 use Rattle.rt_plays.specs.Drives.{steps_given}
 use Rattle.rt_plays.specs.Plays.{group_count}
-use Rattle.trace_laws.proofs.StepsGiven.{steps-few}
+use Rattle.rt_groups.proofs.GroupLimits.{steps-few}
 use Rattle.rtsim.proofs.Numbered.{length-numbered, replicate-numbered}
 use Rattle.rtsim.proofs.OneStep.{IsNext, at-group, cpu-there, is-next, no_group, no_step}
 use Rattle.rtsim.proofs.OrderLaws.{all_counted, counted, counted-all, counted-few, counted-next, counted-none}

@@ -18,7 +18,8 @@ use Rattle.cpu_site.specs.Playing.{room_in}
 use Rattle.cpu_site.proofs.Advancing.{playing-opened, steps-low}
 use Rattle.cpu_site.proofs.Drives.{room-few, room-is}
 use Rattle.cpu_site.proofs.Numbering.{cpus-read}
-use Rattle.cpu_site.proofs.SetFacts.{group-steps_few, turns-few}
+use Rattle.rt_groups.proofs.GroupLimits.{turns-few}
+use Rattle.cpu_site.proofs.SetFacts.{group-steps_few}
 use Rattle.cpu_site.proofs.player.Player.open.Goals as goal
 
 -- the steps that are read are those of the group

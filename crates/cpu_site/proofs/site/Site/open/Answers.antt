@@ -7,7 +7,8 @@ use Rattle.cpu_site.specs.Cpus.{cpu_numbers}
 use Rattle.cpu_site.specs.Seats.{unused_seat}
 use Rattle.cpu_site.proofs.Numbering.{cpus-read}
 use Rattle.cpu_site.proofs.Returning.{all-put, fresh-about, fresh-last, fresh-self, put-more, raises-opened, seat-numbered, taken-more}
-use Rattle.cpu_site.proofs.SetFacts.{cpus-few, processor-some}
+use Rattle.rt_groups.proofs.GroupLimits.{processor-some}
+use Rattle.cpu_site.proofs.SetFacts.{cpus-few}
 use Rattle.cpu_site.proofs.site.Site.open.Goals as goal
 
 pub overflow_cast-count : goal.overflow_cast-count
