@@ -1,6 +1,8 @@
 //! Numbers of tasks, semaphores, reservations, processors, clusters and groups, ticks, and the limits of a set.
 #![tactic(auto)]
 
+use std::alloc::{AllocError, AllocFailed};
+
 /// A task, by its position in the set, from 1.
 #[derive(Clone, Copy, Debug, PartialEq, Eq, PartialOrd, Ord)]
 pub struct TaskNo(pub u32);
@@ -42,6 +44,18 @@ pub enum Ask {
 #[derive(Clone, Copy, Debug, PartialEq, Eq)]
 pub struct NoMemory;
 
+impl From<AllocError> for NoMemory {
+    fn from(_e: AllocError) -> NoMemory {
+        NoMemory
+    }
+}
+
+impl<T: Drop> From<AllocFailed<T>> for NoMemory {
+    fn from(_e: AllocFailed<T>) -> NoMemory {
+        NoMemory
+    }
+}
+
 /// The most clusters of a set.
 pub const MOST_CLUSTERS: u32 = 64;
 
@@ -56,6 +70,9 @@ pub const MOST_SEMS: u32 = 256;
 
 /// The most reservations of a set.
 pub const MOST_RESVS: u32 = 64;
+
+/// The most slots of a table reservation.
+pub const MOST_SLOTS: u32 = 64;
 
 /// The most steps of a set, in all its groups together.
 pub const MOST_STEPS: u32 = 1_000_000;

@@ -45,7 +45,15 @@ abbrev pub draft_cluster : Cluster → DraftCluster
 draft_cluster c = record { cpus = c.cpus; group = c.group.0 }
 
 abbrev pub draft_resv : Resv → DraftResv
-draft_resv r = record { name = r.name; cluster = r.cluster.0; kind = r.kind; budget = r.budget; period = r.period; prio = r.prio }
+draft_resv r = record {
+  name = r.name;
+  cluster = r.cluster.0;
+  kind = r.kind;
+  budget = r.budget;
+  period = r.period;
+  prio = r.prio;
+  slots = r.slots;
+}
 
 -- a task with these pieces
 abbrev pub draft_task : Task → List Piece → DraftTask
@@ -89,7 +97,15 @@ abbrev pub cluster_of : DraftCluster → Cluster
 cluster_of c = record { cpus = c.cpus; group = record { 0 = c.group } }
 
 abbrev pub resv_of : DraftResv → Resv
-resv_of r = record { name = r.name; cluster = record { 0 = r.cluster }; kind = r.kind; budget = r.budget; period = r.period; prio = r.prio }
+resv_of r = record {
+  name = r.name;
+  cluster = record { 0 = r.cluster };
+  kind = r.kind;
+  budget = r.budget;
+  period = r.period;
+  prio = r.prio;
+  slots = r.slots;
+}
 
 abbrev pub task_of : DraftTask → Task
 task_of t = record {

@@ -3,12 +3,11 @@ pub mod Draft
 pub mod RuleWords
 pub mod Bodies
 pub mod Lookups
+pub mod SlotRules
+pub mod Played
 pub mod RangeRules
 pub mod NameRules
 pub mod SharingRules
 pub mod SizeRules
 pub mod Validity
 pub mod Answers
-pub mod NamesSeen
-pub mod Spreads
-pub mod Ends

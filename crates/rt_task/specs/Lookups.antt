@@ -5,7 +5,7 @@ use Rattle.rt_task.specs.declared.draft.Draft.{Draft}
 use Rattle.rt_task.specs.declared.draft.DraftCluster.{DraftCluster}
 use Rattle.rt_task.specs.declared.draft.DraftResv.{DraftResv}
 use Rattle.rt_task.specs.declared.draft.DraftTask.{DraftTask}
-use Rattle.rt_task.specs.RuleWords.{is_pcp}
+use Rattle.rt_task.specs.RuleWords.{is_stacked, is_fmlp}
 
 -- the cluster of a processor, which are numbered through the clusters in order
 abbrev pub cluster_among : List DraftCluster → ℕ → ℕ
@@ -22,8 +22,11 @@ module _ (d : Draft) where
   unfoldable pub cluster_with : ℕ → ℕ
   cluster_with q = cluster_among d.clusters q
 
-  unfoldable pub is_pcp_sem : ℕ → Bool
-  is_pcp_sem s = unwrap_or (option_map (λ (x : Sem). is_pcp x.protocol) (slice_get d.sems (s - 1))) false
+  unfoldable pub is_stacked_sem : ℕ → Bool
+  is_stacked_sem s = unwrap_or (option_map (λ (x : Sem). is_stacked x.protocol) (slice_get d.sems (s - 1))) false
+
+  unfoldable pub is_fmlp_sem : ℕ → Bool
+  is_fmlp_sem s = unwrap_or (option_map (λ (x : Sem). is_fmlp x.protocol) (slice_get d.sems (s - 1))) false
 
   unfoldable pub cluster_of_task : ℕ → ℕ
   cluster_of_task t = unwrap_or (option_map (λ (p : DraftTask). p.cluster) (slice_get d.tasks (t - 1))) 0

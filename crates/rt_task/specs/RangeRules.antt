@@ -10,6 +10,7 @@ use Rattle.rt_task.specs.declared.draft.DraftResv.{DraftResv}
 use Rattle.rt_task.specs.declared.draft.DraftStep.{DraftStep}
 use Rattle.rt_task.specs.declared.draft.DraftTask.{DraftTask}
 use Rattle.rt_task.specs.Lookups.{cpus}
+use Rattle.rt_task.specs.SlotRules.{slots_in_range}
 use Rattle.rt_task.specs.RuleWords.{within, greatest, is_span, is_prio, is_partitioned, allows_clusters, piece_in_range, act_in_range}
 
 -- the greatest group of these clusters
@@ -33,7 +34,9 @@ module _ (d : Draft) where
   cluster_range earlier c = within 1 MOST_CPUS c.cpus && ((not (is_partitioned d.plugin) || c.cpus == 1) && group_follows earlier c.group)
 
   unfoldable pub resv_range : List DraftResv → DraftResv → Bool
-  resv_range earlier r = is_span r.period && (within 1 r.period r.budget && (is_prio r.prio && nat_lt r.cluster (length d.clusters)))
+  resv_range earlier r =
+      is_span r.period && (within 1 r.period r.budget && (is_prio r.prio
+      && (nat_lt r.cluster (length d.clusters) && slots_in_range r.kind r.period r.budget r.slots)))
 
   unfoldable pub task_range : List DraftTask → DraftTask → Bool
   task_range earlier p =

@@ -1,6 +1,6 @@
 -- The words that the rules of a set are said in.
 use Rattle.std.specs.List.{list_any, list_all}
-use Rattle.std.specs.Prelude.{ℕ, ◌-◌, Bool, true, false, not, ◌&&◌, ◌||◌, ◌==◌, nat_lt, nat_le, max, List, [], ◌∷◌, length, map, sum_by}
+use Rattle.std.specs.Prelude.{ℕ, ◌-◌, Bool, true, false, not, ◌&&◌, ◌||◌, ◌==◌, nat_lt, nat_le, max, List, [], ◌∷◌, length, map, sum_by, Option, None, Some}
 use Rattle.rt_base.specs.declared.SemNo.{SemNo}
 use Rattle.rt_base.specs.declared.TheConstants.{MOST_NAME_BYTES, MOST_OPERATIONS, MOST_PRIO, TICK_END}
 use Rattle.rt_task.specs.declared.Act.{Act}
@@ -8,9 +8,9 @@ use Rattle.rt_task.specs.declared.Kind.{Kind}
 use Rattle.rt_task.specs.declared.Kind.TheVariants.{Periodic, Sporadic}
 use Rattle.rt_task.specs.declared.Op.{Op}
 use Rattle.rt_task.specs.declared.PluginKind.{PluginKind}
-use Rattle.rt_task.specs.declared.PluginKind.TheVariants.{GsnEdf, CEdf, PFp, PRes}
+use Rattle.rt_task.specs.declared.PluginKind.TheVariants.{GsnEdf, CEdf, PsnEdf, PFp, PRes}
 use Rattle.rt_task.specs.declared.Protocol.{Protocol}
-use Rattle.rt_task.specs.declared.Protocol.TheVariants.{Fmlp, Omlp, Pcp, Mpcp}
+use Rattle.rt_task.specs.declared.Protocol.TheVariants.{Fmlp, Omlp, Pcp, Mpcp, Srp}
 use Rattle.rt_task.specs.declared.draft.DraftDrive.{DraftDrive}
 use Rattle.rt_task.specs.declared.draft.DraftDrive.TheVariants.{Steps, Horizon}
 use Rattle.rt_task.specs.declared.draft.DraftTask.{DraftTask}
@@ -36,6 +36,10 @@ is_known xs n = within 1 (length xs) n
 abbrev pub all_same : List ℕ → Bool
 all_same [] = true
 all_same (x ∷ xs) = list_all (λ y. y == x) xs
+
+abbrev pub first_of : List ℕ → Option ℕ
+first_of [] = None
+first_of (x ∷ xs) = Some x
 
 abbrev pub greatest : List ℕ → ℕ
 greatest [] = 0
@@ -84,18 +88,27 @@ stands_under Pcp PFp = true
 stands_under Pcp _ = false
 stands_under Mpcp PFp = true
 stands_under Mpcp _ = false
+stands_under Srp PsnEdf = true
+stands_under Srp _ = false
 
 -- whether the tasks that declare a semaphore are of one cluster, and not only of one group
 abbrev pub is_of_one_cluster : Protocol → PluginKind → Bool
 is_of_one_cluster Omlp plugin = true
 is_of_one_cluster Pcp plugin = true
+is_of_one_cluster Srp plugin = true
 is_of_one_cluster Fmlp GsnEdf = true
 is_of_one_cluster Fmlp CEdf = true
 is_of_one_cluster _ plugin = false
 
-abbrev pub is_pcp : Protocol → Bool
-is_pcp Pcp = true
-is_pcp _ = false
+-- whether requests nest, and unlocks are last in, first out
+abbrev pub is_stacked : Protocol → Bool
+is_stacked Pcp = true
+is_stacked Srp = true
+is_stacked _ = false
+
+abbrev pub is_fmlp : Protocol → Bool
+is_fmlp Fmlp = true
+is_fmlp _ = false
 
 abbrev pub is_periodic : Kind → Bool
 is_periodic Periodic = true

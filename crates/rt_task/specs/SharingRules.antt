@@ -1,15 +1,21 @@
 -- What stands under which plugin, and which tasks may share what.
-use Rattle.std.specs.Prelude.{ℕ, ◌+◌, Bool, true, false, not, ◌&&◌, ◌||◌, ◌==◌, List, [], length, map, filter, Option, None, Some, if◌then◌else◌}
+use Rattle.std.specs.List.{list_all, list_any}
+use Rattle.std.specs.Prelude.{ℕ, ◌+◌, Bool, true, false, not, ◌&&◌, ◌||◌, ◌==◌, List, length, map, filter, Option, None, Some, if◌then◌else◌}
 use Rattle.rt_base.specs.declared.ResvNo.{ResvNo}
+use Rattle.rt_base.specs.declared.SemNo.{SemNo}
 use Rattle.rt_task.specs.declared.Act.{Act}
+use Rattle.rt_task.specs.declared.Protocol.{Protocol}
+use Rattle.rt_task.specs.declared.Protocol.TheVariants.{Srp}
 use Rattle.rt_task.specs.declared.Sem.{Sem}
 use Rattle.rt_task.specs.declared.draft.Draft.{Draft}
 use Rattle.rt_task.specs.declared.draft.DraftResv.{DraftResv}
 use Rattle.rt_task.specs.declared.draft.DraftStep.{DraftStep}
 use Rattle.rt_task.specs.declared.draft.DraftTask.{DraftTask}
 use Rattle.rt_task.specs.Bodies.{at_release, goes_on}
-use Rattle.rt_task.specs.Lookups.{group_of, cluster_with, is_pcp_sem, cluster_of_task, cluster_of_resv}
-use Rattle.rt_task.specs.RuleWords.{is_empty, has, all_same, is_p_res, stands_under, is_of_one_cluster, is_periodic, sem_numbers}
+use Rattle.rt_task.specs.Lookups.{group_of, cluster_with, is_stacked_sem, is_fmlp_sem, cluster_of_task, cluster_of_resv}
+use Rattle.rt_task.specs.Played.{is_played_protocol}
+use Rattle.rt_task.specs.RuleWords.{is_empty, has, all_same, first_of, is_p_res, stands_under, is_of_one_cluster, is_periodic, sem_numbers}
+use Rattle.rt_task.specs.SlotRules.{fit_together}
 use Rattle.rt_task.specs.declared.Act.TheVariants as acts
 
 module _ (d : Draft) where
@@ -17,14 +23,24 @@ module _ (d : Draft) where
   unfoldable pub clusters_sharing : ℕ → List ℕ
   clusters_sharing s = map (λ (p : DraftTask). p.cluster) (filter (λ p. has s (sem_numbers p)) d.tasks)
 
+  -- whether a task of a cluster declares an FMLP semaphore
+  unfoldable pub has_fmlp_users : ℕ → Bool
+  has_fmlp_users c = list_any (λ (p : DraftTask). p.cluster == c && list_any (λ (s : SemNo). is_fmlp_sem d s.0) p.uses) d.tasks
+
+  -- SRP and FMLP do not stand in one cluster; this is a semaphore and the cluster of its users
+  abbrev pub stands_apart : Protocol → Option ℕ → Bool
+  stands_apart Srp (Some c) = not (has_fmlp_users c)
+  stands_apart _ _ = true
+
   unfoldable pub sem_sharing : List Sem → Sem → Bool
   sem_sharing earlier s =
       let sharing = clusters_sharing (length earlier + 1) in
-      stands_under s.protocol d.plugin
-      && (if is_of_one_cluster s.protocol d.plugin then all_same sharing else all_same (map (group_of d) sharing))
+      (stands_under s.protocol d.plugin && is_played_protocol s.protocol)
+      && ((if is_of_one_cluster s.protocol d.plugin then all_same sharing else all_same (map (group_of d) sharing))
+      && stands_apart s.protocol (first_of sharing))
 
   unfoldable pub resv_sharing : List DraftResv → DraftResv → Bool
-  resv_sharing earlier r = is_p_res d.plugin
+  resv_sharing earlier r = is_p_res d.plugin && list_all (λ q. fit_together q r) earlier
 
   abbrev pub resv_fits : Bool → ℕ → Option ResvNo → Bool
   resv_fits true c None = false
@@ -35,7 +51,7 @@ module _ (d : Draft) where
   unfoldable pub task_sharing : List DraftTask → DraftTask → Bool
   task_sharing earlier p =
       resv_fits (is_p_res d.plugin) p.cluster p.resv
-      && ((is_empty p.pieces || goes_on (sem_numbers p) (is_pcp_sem d) p.pieces (Some at_release))
+      && ((is_empty p.pieces || goes_on (sem_numbers p) (is_stacked_sem d) p.pieces (Some at_release))
       && (not p.early || is_periodic p.kind))
 
   abbrev pub act_is_in_group : ℕ → Act → Bool

@@ -3,6 +3,7 @@ use Rattle.std.specs.Prelude.{Bool, not, ◌&&◌, ◌||◌, List, [], ◌∷◌
 use Rattle.rt_task.specs.declared.bad_set.BadSet.{BadSet}
 use Rattle.rt_task.specs.declared.Parts.{Parts}
 use Rattle.rt_task.specs.declared.draft.Draft.{Draft}
+use Rattle.rt_task.specs.declared.draft.DraftResv.{DraftResv}
 use Rattle.rt_task.specs.declared.draft.DraftTask.{DraftTask}
 use Rattle.rt_task.specs.Draft.{draft_of, steps_of}
 use Rattle.rt_task.specs.NameRules.{sem_name, resv_name, task_name, step_name}
@@ -11,15 +12,25 @@ use Rattle.rt_task.specs.Refusals.{first, whole, each}
 use Rattle.rt_task.specs.RuleWords.{is_empty, is_periodic, has_horizon}
 use Rattle.rt_task.specs.SharingRules.{sem_sharing, resv_sharing, task_sharing, step_sharing}
 use Rattle.rt_task.specs.SizeRules.{whole_size, task_size}
+use Rattle.rt_task.specs.SlotRules.{may_have}
 use Rattle.rt_task.specs.declared.bad_set.SetKind.TheVariants as kinds
 use Rattle.rt_task.specs.declared.bad_set.Part.TheVariants as parts
 
 module _ (d : Draft) where
+  unfoldable pub resv_shape : List DraftResv → DraftResv → Bool
+  resv_shape earlier r = may_have r.kind r.slots
+
   -- in a set with a horizon each task is periodic and has a body
   unfoldable pub task_shape : List DraftTask → DraftTask → Bool
   task_shape earlier p = not (has_horizon d.drive) || (is_periodic p.kind && not (is_empty p.pieces))
 
-  -- the table, in the order in which the rules are tried
+  -- the table, in the order in which the rules are tried; of the rules on forms the two that are not met by being a draft
+  abbrev pub shape_rows : List (Option BadSet)
+  shape_rows =
+      each kinds.Shape parts.Resv resv_shape d.resvs
+      ∷ each kinds.Shape parts.Task task_shape d.tasks
+      ∷ []
+
   abbrev pub range_rows : List (Option BadSet)
   range_rows =
       whole kinds.Range (whole_range d)
@@ -54,9 +65,8 @@ module _ (d : Draft) where
   unfoldable pub refusal : Option BadSet
   refusal = first (first range_rows ∷ first name_rows ∷ first sharing_rows ∷ first size_rows ∷ [])
 
-  -- with the one rule on forms that is not met by being a draft
   unfoldable pub whole_refusal : Option BadSet
-  whole_refusal = first (each kinds.Shape parts.Task task_shape d.tasks ∷ refusal ∷ [])
+  whole_refusal = first (first shape_rows ∷ refusal ∷ [])
 
 -- the first rule that parts break
 unfoldable pub refusal_of : Parts → Option BadSet

@@ -1,10 +1,10 @@
 //! A set before its rules are tried: numbers have 64 bits, bodies stand in pieces, a name that is
 //! unknown stands as number 0.
-use crate::{Act, Items, Kind, Name, Op, PluginKind, ResvKind, SemList, SemNos};
+use crate::{Act, Items, Kind, Name, Op, PluginKind, ResvKind, SemList, SemNos, Slots};
 use rt_base::{ResvNo, TaskNo};
 
 /// A part of a body.
-#[derive(Clone, Copy, Debug, PartialEq, Eq)]
+#[derive(Clone, Copy, PartialEq, Eq)]
 pub enum Piece {
     /// So many units of work.
     Works(u64),
@@ -16,7 +16,7 @@ pub enum Piece {
 pub type Pieces = Items<Piece>;
 
 /// A cluster; its group is a number from 0.
-#[derive(Clone, Copy, Debug, PartialEq, Eq)]
+#[derive(Clone, Copy, PartialEq, Eq)]
 pub struct DraftCluster {
     pub cpus: u64,
     pub group: u64,
@@ -31,6 +31,7 @@ pub struct DraftResv {
     pub budget: u64,
     pub period: u64,
     pub prio: u64,
+    pub slots: Slots,
 }
 
 /// A task with its body in pieces; its cluster is a number from 0, durations are in ticks.
@@ -53,7 +54,7 @@ pub struct DraftTask {
 }
 
 /// A step of a processor, which is a number from 0, at a tick.
-#[derive(Clone, Copy, Debug, PartialEq, Eq)]
+#[derive(Clone, Copy, PartialEq, Eq)]
 pub struct DraftStep {
     pub cpu: u64,
     pub tick: u64,

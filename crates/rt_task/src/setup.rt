@@ -38,13 +38,12 @@ impl Setup {
     pub fn share(&self) -> Result<Setup, NoMemory>
         ensures { IfOk result (λ s. s ≡ self.now) }
     {
-        match Arc::try_clone(&self.parts) {
-            Ok(parts) => Ok(Setup { parts }),
-            Err(_) => Err(NoMemory),
-        }
+        let parts = Arc::try_clone(&self.parts)?;
+        Ok(Setup { parts })
     }
 
-    pub(crate) fn of_valid(alloc: Global, parts: Parts) -> Result<Setup, SetStop>
+    /// A setup of parts that break no rule.
+    pub fn of_valid(alloc: Global, parts: Parts) -> Result<Setup, SetStop>
         requires { IsValid parts }
         ensures setup { IfOk result (λ s. s ≡ parts) }
         ensures memory { IfErr result (λ e. e ≡ SetStop.NoMemory) }

@@ -1,8 +1,0 @@
-pub mod RefusalLaws
-pub mod RangeLaws
-pub mod NameLaws
-pub mod BodyLaws
-pub mod SpreadLaws
-pub mod EndLaws
-pub mod CutLaws
-pub mod AcceptLaws

@@ -1,0 +1,10 @@
+pub mod RefusalLaws
+pub mod RangeLaws
+pub mod NameLaws
+pub mod BodyLaws
+pub mod SpreadLaws
+pub mod LineLaws
+pub mod TableLaws
+pub mod EndLaws
+pub mod CutLaws
+pub mod AcceptLaws

@@ -1,0 +1,4 @@
+pub mod NamesSeen
+pub mod Spreads
+pub mod Ends
+pub mod Tables
