@@ -69,3 +69,11 @@ answer-runs_link g q t acts.Tick past h = cc
 answer-runs_link g q t acts.Irq past h = irq-runs_link g q t past h
 answer-runs_link g q t (acts.Arrive u) past h = let n = arrival-runs_none g (task g u.0).kind u.0 past in let m : false ≡ true = rw n at h in cc
 answer-runs_link g q t (acts.Do op) past h = let n = do-runs_none g op q (runs q past) past in let m : false ≡ true = rw n at h in cc
+
+-- it is an interrupt that is answered so
+pub answer-runs_irq : (g : Group) (q t : ℕ) (act : Act) (past : Past) → is t (to_run (answer g q act past)) ≡ true → act ≡ acts.Irq
+unfolding answer
+answer-runs_irq g q t acts.Tick past h = cc
+answer-runs_irq g q t acts.Irq past h = refl
+answer-runs_irq g q t (acts.Arrive u) past h = let n = arrival-runs_none g (task g u.0).kind u.0 past in let m : false ≡ true = rw n at h in cc
+answer-runs_irq g q t (acts.Do op) past h = let n = do-runs_none g op q (runs q past) past in let m : false ≡ true = rw n at h in cc

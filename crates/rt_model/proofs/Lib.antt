@@ -3,3 +3,4 @@ pub mod TopLaws
 pub mod AnswerLaws
 pub mod PastLaws
 pub mod Steps
+pub mod Unplayed

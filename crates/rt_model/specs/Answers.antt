@@ -1,14 +1,16 @@
 -- What each act of a processor is answered.
 use Rattle.std.specs.List.{list_any}
-use Rattle.std.specs.Prelude.{ℕ, ◌+◌, Bool, false, not, ◌&&◌, ◌||◌, ◌==◌, nat_le, List, [], ◌∷◌, length, Option, None, Some}
+use Rattle.std.specs.Prelude.{ℕ, ◌+◌, Bool, true, false, not, ◌&&◌, ◌||◌, ◌==◌, nat_le, List, [], ◌∷◌, length, Option, None, Some}
 use Rattle.std.specs.Prelude.{if◌then◌else◌, is_none}
+use Rattle.rt_base.specs.declared.TheConstants.{MOST_HELD}
+use Rattle.rt_task.specs.RuleWords.{is_stacked}
 use Rattle.rt_task.specs.declared.Act.{Act}
 use Rattle.rt_task.specs.declared.Kind.{Kind}
 use Rattle.rt_task.specs.declared.Kind.TheVariants.{Periodic, Sporadic}
 use Rattle.rt_task.specs.declared.Op.{Op}
 use Rattle.rt_task.specs.declared.PluginKind.{PluginKind}
 use Rattle.rt_task.specs.declared.Protocol.{Protocol}
-use Rattle.rt_task.specs.declared.Protocol.TheVariants.{Pcp}
+use Rattle.rt_task.specs.declared.Protocol.TheVariants.{Pcp, Srp}
 use Rattle.rt_task.specs.declared.Act.TheVariants as acts
 use Rattle.rt_task.specs.declared.Op.TheVariants as ops
 use Rattle.rt_task.specs.declared.PluginKind.TheVariants as plugins
@@ -80,14 +82,16 @@ module _ (g : Group) where
       then replies.Spent
       else (if no_budget g.setup.plugin t past then replies.NoBudget else replies.Done)
 
-  -- requests do not nest, but for PCP
+  -- requests do not nest, but for PCP and SRP
   unfoldable pub nests : Protocol → ℕ → ℕ → Past → Bool
   nests Pcp s t past =
-      list_any (λ r. not (is_pcp (protocol g r))) (holds g t past) || (has s (holds g t past) || nat_le 8 (length (holds g t past)))
+      list_any (λ r. not (is_pcp (protocol g r))) (holds g t past) || (has s (holds g t past) || nat_le MOST_HELD (length (holds g t past)))
+  nests Srp s t past = has s (holds g t past) || nat_le MOST_HELD (length (holds g t past))
   nests _ s t past = not (is_empty (holds g t past))
 
   unfoldable pub is_granted : Protocol → ℕ → ℕ → Past → Bool
   is_granted Pcp s t past = passes (above_ceiling g) (pcp g (home g t) past).held t
+  is_granted Srp s t past = true
   is_granted _ s t past = is_none (holder g s past)
 
   unfoldable pub lock_answer : ℕ → ℕ → Past → Reply
@@ -102,7 +106,7 @@ module _ (g : Group) where
   unlock_answer s t past =
       if not (is t (holder g s past))
       then replies.NotHeld
-      else (if is_pcp (protocol g s) && not (is s (last_granted g t past)) then replies.NotLast else replies.Done)
+      else (if is_stacked (protocol g s) && not (is s (last_granted g t past)) then replies.NotLast else replies.Done)
 
   unfoldable pub unless_holding : ℕ → Past → Reply
   unless_holding t past = if is_empty (holds g t past) then replies.Done else replies.Holding

@@ -45,7 +45,7 @@ abbrev pub no_sem : Sem
 no_sem = record { name = []; protocol = Fmlp }
 
 abbrev pub no_resv : Resv
-no_resv = record { name = []; cluster = record { 0 = 0 }; kind = Polling; budget = 0; period = 0; prio = 0 }
+no_resv = record { name = []; cluster = record { 0 = 0 }; kind = Polling; budget = 0; period = 0; prio = 0; slots = [] }
 
 -- processors are numbered through the clusters in order: the first of a cluster, and the cluster of a processor
 abbrev pub first_in : List Cluster → ℕ → ℕ

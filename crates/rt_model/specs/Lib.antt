@@ -7,6 +7,8 @@ pub mod Releases
 pub mod BaseKeys
 pub mod Semaphores
 pub mod Ceilings
+pub mod StackPolicy
+pub mod UnderWay
 pub mod Holders
 pub mod Blockers
 pub mod Boosts
@@ -30,8 +32,10 @@ pub mod WorkedLocks
 pub mod WorkedOmlp
 pub mod WorkedBoosts
 pub mod WorkedPcp
+pub mod WorkedSrp
 pub mod WorkedMpcp
 pub mod WorkedClusters
 pub mod WorkedReservations
 pub mod WorkedReplenishment
+pub mod WorkedTables
 pub mod WorkedBody

@@ -1,5 +1,5 @@
 -- Short forms for worked examples.
-use Rattle.std.specs.Prelude.{◌≡◌, ℕ, Bool, true, false, List, [], map, Option, None, Some, option_map}
+use Rattle.std.specs.Prelude.{◌≡◌, ℕ, ◌-◌, sum_by, Bool, true, false, List, [], map, Option, None, Some, option_map}
 use Rattle.rt_base.specs.declared.SemNo.{SemNo}
 use Rattle.rt_base.specs.declared.ResvNo.{ResvNo}
 use Rattle.rt_task.specs.declared.Op.{Op}
@@ -10,7 +10,9 @@ use Rattle.rt_task.specs.declared.Protocol.{Protocol}
 use Rattle.rt_task.specs.declared.PluginKind.{PluginKind}
 use Rattle.rt_task.specs.declared.Resv.{Resv}
 use Rattle.rt_task.specs.declared.ResvKind.{ResvKind}
+use Rattle.rt_task.specs.declared.ResvKind.TheVariants.{Table}
 use Rattle.rt_task.specs.declared.Sem.{Sem}
+use Rattle.rt_task.specs.declared.Slot.{Slot}
 use Rattle.rt_task.specs.declared.Task.{Task}
 use Rattle.rt_task.specs.declared.Step.{Step}
 use Rattle.rt_task.specs.declared.Act.{Act}
@@ -94,7 +96,15 @@ sem_under p = record { name = []; protocol = p }
 -- a reservation of cluster 0 by its kind, budget, period and priority
 abbrev pub reservation : ResvKind → ℕ → ℕ → ℕ → Resv
 reservation kind budget period prio =
-    record { name = []; cluster = record { 0 = 0 }; kind = kind; budget = budget; period = period; prio = prio }
+    record { name = []; cluster = record { 0 = 0 }; kind = kind; budget = budget; period = period; prio = prio; slots = [] }
+
+-- a slot from one tick of the cycle up to another, and a table reservation of cluster 0 by its period, priority and slots
+abbrev pub slot : ℕ → ℕ → Slot
+slot from to = record { from = from; to = to }
+
+abbrev pub table : ℕ → ℕ → List Slot → Resv
+table period prio slots =
+    record (reservation Table (sum_by (λ (s : Slot). s.to - s.from) slots) period prio) { slots = slots }
 
 -- group 0 of a set
 abbrev pub group_of : PluginKind → List Cluster → List Sem → List Resv → List Task → Group
@@ -166,9 +176,12 @@ entries_of ls = map (λ (l : Line). record { step = l.step; reply = l.reply }) l
 abbrev pub held_by : ℕ → ℕ → TaskSem
 held_by t s = record { task = t; sem = s }
 
--- what is left of the budget of reservation 1, and the clock of its last replenishment
+-- what is left of the budget of a reservation, and the clock of its last replenishment; of reservation 1
+abbrev pub budget_at : ℕ → Group → Past → ℕ × Option ℕ
+budget_at r g past = (left g r past, last g r past)
+
 abbrev pub budget_of : Group → Past → ℕ × Option ℕ
-budget_of g past = (left g 1 past, last g 1 past)
+budget_of g past = budget_at 1 g past
 
 abbrev pub opening : Group → List (ℕ × Option ℕ)
 opening g = map (λ q. (q, linked g q [])) (group_processors g)

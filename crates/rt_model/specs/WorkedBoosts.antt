@@ -110,3 +110,28 @@ pub boosts_under_p_fp_blocks : blocks boosts_under_p_fp (past_by boosts_under_p_
     []
 unfolding computed
 boosts_under_p_fp_blocks = refl
+
+-- two boosted FMLP holders of one cluster that were granted at one clock: the lower task number goes first
+abbrev pub fmlp_ties : Group
+fmlp_ties =
+    group_of plugins.PsnEdf (cluster_with 1 0 ∷ cluster_with 1 0 ∷ []) (sem_under Fmlp ∷ sem_under Fmlp ∷ []) [] (
+    using (2 ∷ []) (periodic 1 1 1000 10) ∷
+    using (1 ∷ []) (periodic 2 1 1000 20) ∷
+    using (2 ∷ []) (in_cluster 1 (periodic 3 1 1000 30)) ∷
+    [])
+
+abbrev pub fmlp_ties_lines : List Line
+fmlp_ties_lines =
+    line 1 0 irq (runs_task 3) [] ∷
+    line 1 0 (lock 2) Granted [] ∷
+    line 0 0 irq (runs_task 1) [] ∷
+    line 0 0 (lock 2) Queued (to 0 (Some 2) ∷ []) ∷
+    line 0 1 irq (runs_task 2) [] ∷
+    line 0 2 (lock 1) Granted [] ∷
+    line 1 2 (unlock 2) Done (to 0 (Some 1) ∷ []) ∷
+    line 0 2 irq (runs_task 1) [] ∷
+    []
+
+pub fmlp_ties_played : IsTrace fmlp_ties (to 0 (Some 1) ∷ to 1 (Some 3) ∷ []) fmlp_ties_lines
+unfolding computed
+fmlp_ties_played = (refl, refl)

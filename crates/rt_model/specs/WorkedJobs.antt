@@ -223,3 +223,25 @@ enforced_jobs_lines =
 pub enforced_jobs_played : IsTrace enforced_jobs (to 0 (Some 1) ∷ []) enforced_jobs_lines
 unfolding computed
 enforced_jobs_played = (refl, refl)
+
+-- two arrivals wait: the current job has the release and the deadline of its own, the first one
+abbrev pub two_arrivals_wait : Group
+two_arrivals_wait =
+    group_of plugins.GsnEdf (cluster_with 1 0 ∷ []) [] [] (
+    sporadic 1 1 5 10 ∷
+    periodic 2 1 1000 12 ∷
+    [])
+
+abbrev pub two_arrivals_wait_lines : List Line
+two_arrivals_wait_lines =
+    line 0 0 (arrive 1) Done (to 0 (Some 1) ∷ []) ∷
+    line 0 0 irq (runs_task 1) [] ∷
+    line 0 5 (arrive 1) Done [] ∷
+    line 0 5 end Done (to 0 (Some 2) ∷ []) ∷
+    line 0 6 irq (runs_task 2) [] ∷
+    line 0 6 end Done (to 0 (Some 1) ∷ []) ∷
+    []
+
+pub two_arrivals_wait_played : IsTrace two_arrivals_wait (to 0 (Some 2) ∷ []) two_arrivals_wait_lines
+unfolding computed
+two_arrivals_wait_played = (refl, refl)

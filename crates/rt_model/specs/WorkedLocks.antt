@@ -3,7 +3,7 @@ use Rattle.std.specs.Prelude.{◌≡◌, List, [], ◌∷◌, None, Some, refl}
 use Rattle.rt_task.specs.declared.PluginKind.TheVariants as plugins
 use Rattle.rt_task.specs.declared.Protocol.{Protocol}
 use Rattle.rt_task.specs.declared.Protocol.TheVariants.{Fmlp, Omlp}
-use Rattle.rt_history.specs.declared.Reply.TheVariants.{Done, Granted, Queued, Idle, NotDeclared, Nested, NotHeld, Holding, InNp}
+use Rattle.rt_history.specs.declared.Reply.TheVariants.{Done, Granted, Queued, Quiet, Idle, NotDeclared, Nested, NotHeld, Holding, InNp}
 use Rattle.rt_model.specs.Computed.{computed}
 use Rattle.rt_model.specs.Group.{Group}
 use Rattle.rt_model.specs.Histories.{past_by}
@@ -203,3 +203,23 @@ fmlp_holder_inherits_played = (refl, refl)
 pub omlp_holder_inherits_played : IsTrace (holder_inherits Omlp) (to 0 (Some 1) ∷ []) holder_inherits_lines
 unfolding computed
 omlp_holder_inherits_played = (refl, refl)
+
+-- a Lock in a non-preemptive section is refused for that, before it is asked whether the task declares the semaphore
+abbrev pub undeclared_while_non_preemptive : Group
+undeclared_while_non_preemptive =
+    group_of plugins.GsnEdf (cluster_with 1 0 ∷ []) (sem_under Fmlp ∷ []) [] (
+    periodic 1 9 1000 30 ∷
+    [])
+
+abbrev pub undeclared_while_non_preemptive_lines : List Line
+undeclared_while_non_preemptive_lines =
+    line 0 0 irq (runs_task 1) [] ∷
+    line 0 0 np_on Done [] ∷
+    line 0 0 (lock 1) InNp [] ∷
+    line 0 0 irq Quiet [] ∷
+    line 0 0 np_off Done [] ∷
+    []
+
+pub undeclared_while_non_preemptive_played : IsTrace undeclared_while_non_preemptive (to 0 (Some 1) ∷ []) undeclared_while_non_preemptive_lines
+unfolding computed
+undeclared_while_non_preemptive_played = (refl, refl)

@@ -200,3 +200,60 @@ pub mpcp_ties_blocks : blocks mpcp_ties (past_by mpcp_ties [] (steps_of mpcp_tie
     []
 unfolding computed
 mpcp_ties_blocks = refl
+
+-- MPCP: of several users in other clusters, of priorities 9 and 2, the ceiling is the smallest number; so the holder of semaphore 1
+-- goes before the holder of semaphore 2, whose ceiling is 4
+abbrev pub mpcp_by_smallest : Group
+mpcp_by_smallest =
+    group_of plugins.PFp (cluster_with 1 0 ∷ cluster_with 1 0 ∷ cluster_with 1 0 ∷ []) (sem_under Mpcp ∷ sem_under Mpcp ∷ []) [] (
+    using (1 ∷ []) (with_prio 6 (periodic 1 1 1000 1000)) ∷
+    using (2 ∷ []) (with_prio 5 (periodic 2 1 1000 1000)) ∷
+    using (1 ∷ []) (with_prio 9 (in_cluster 1 (sporadic 3 1 1000 1000))) ∷
+    using (1 ∷ []) (with_prio 2 (in_cluster 2 (sporadic 4 1 1000 1000))) ∷
+    using (2 ∷ []) (with_prio 4 (in_cluster 1 (periodic 5 1 1000 1000))) ∷
+    [])
+
+abbrev pub mpcp_by_smallest_lines : List Line
+mpcp_by_smallest_lines =
+    line 1 0 irq (runs_task 5) [] ∷
+    line 1 0 (lock 2) Granted [] ∷
+    line 0 0 irq (runs_task 2) [] ∷
+    line 0 0 (lock 2) Queued (to 0 (Some 1) ∷ []) ∷
+    line 0 0 irq (runs_task 1) [] ∷
+    line 0 0 (lock 1) Granted [] ∷
+    line 1 1 (unlock 2) Done [] ∷
+    line 0 1 irq Quiet [] ∷
+    line 0 1 (unlock 1) Done (to 0 (Some 2) ∷ []) ∷
+    []
+
+pub mpcp_by_smallest_played : IsTrace mpcp_by_smallest (to 0 (Some 2) ∷ to 1 (Some 5) ∷ to 2 None ∷ []) mpcp_by_smallest_lines
+unfolding computed
+mpcp_by_smallest_played = (refl, refl)
+
+-- MPCP: where there are users in other clusters, the holder's own priority counts for nothing, though it is higher: task 1 of
+-- priority 3 has the ceiling 7, and task 2 of priority 4 has the ceiling 5
+abbrev pub mpcp_without_own : Group
+mpcp_without_own =
+    group_of plugins.PFp (cluster_with 1 0 ∷ cluster_with 1 0 ∷ []) (sem_under Mpcp ∷ sem_under Mpcp ∷ []) [] (
+    using (1 ∷ []) (with_prio 3 (sporadic 1 1 1000 1000)) ∷
+    using (2 ∷ []) (with_prio 4 (periodic 2 1 1000 1000)) ∷
+    using (1 ∷ []) (with_prio 7 (in_cluster 1 (sporadic 3 1 1000 1000))) ∷
+    using (2 ∷ []) (with_prio 5 (in_cluster 1 (periodic 4 1 1000 1000))) ∷
+    [])
+
+abbrev pub mpcp_without_own_lines : List Line
+mpcp_without_own_lines =
+    line 1 0 irq (runs_task 4) [] ∷
+    line 1 0 (lock 2) Granted [] ∷
+    line 0 0 irq (runs_task 2) [] ∷
+    line 0 0 (lock 2) Queued (to 0 None ∷ []) ∷
+    line 0 1 (arrive 1) Done (to 0 (Some 1) ∷ []) ∷
+    line 0 1 irq (runs_task 1) [] ∷
+    line 0 1 (lock 1) Granted [] ∷
+    line 1 2 (unlock 2) Done (to 0 (Some 2) ∷ []) ∷
+    line 0 2 irq (runs_task 2) [] ∷
+    []
+
+pub mpcp_without_own_played : IsTrace mpcp_without_own (to 0 (Some 2) ∷ to 1 (Some 4) ∷ []) mpcp_without_own_lines
+unfolding computed
+mpcp_without_own_played = (refl, refl)

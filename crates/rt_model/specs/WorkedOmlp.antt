@@ -1,14 +1,14 @@
 -- Worked examples: OMLP, and its counts of blocking.
 use Rattle.std.specs.Prelude.{◌≡◌, false, List, [], ◌∷◌, None, Some, refl}
 use Rattle.rt_task.specs.declared.PluginKind.TheVariants as plugins
-use Rattle.rt_task.specs.declared.Protocol.TheVariants.{Omlp}
+use Rattle.rt_task.specs.declared.Protocol.TheVariants.{Fmlp, Omlp}
 use Rattle.rt_history.specs.declared.Reply.TheVariants.{Done, Granted, Queued}
 use Rattle.rt_model.specs.Computed.{computed}
 use Rattle.rt_model.specs.Group.{Group}
 use Rattle.rt_model.specs.Histories.{past_by}
 use Rattle.rt_model.specs.Blocking.{is_blocked}
 use Rattle.rt_model.specs.Samples.{Line, line, steps_of, IsTrace, group_of, cluster_with, sem_under, periodic, sporadic, in_cluster}
-use Rattle.rt_model.specs.Samples.{using, irq, arrive, lock, unlock, sleep, end, runs_task, to, block, blocks}
+use Rattle.rt_model.specs.Samples.{early, using, irq, arrive, lock, unlock, sleep, end, runs_task, to, block, blocks}
 
 -- OMLP: the third request, number 6, sees 2 * 2 - 1 = 3 critical sections end while blocked
 abbrev pub omlp_bound_reached : Group
@@ -177,3 +177,38 @@ omlp_of_cluster_blocks = refl
 pub free_is_not_blocked : is_blocked omlp_of_cluster 1 [] ≡ false
 unfolding computed
 free_is_not_blocked = refl
+
+-- priority-blocked: the job of task 1 that is open early and sleeps is counted, so that task 3 is not priority-blocked
+abbrev pub early_job_counts : Group
+early_job_counts =
+    group_of plugins.GsnEdf (cluster_with 1 0 ∷ []) (sem_under Fmlp ∷ []) [] (
+    early (periodic 1 1 10 1) ∷
+    using (1 ∷ []) (periodic 2 1 1000 100) ∷
+    using (1 ∷ []) (sporadic 3 1 1000 50) ∷
+    [])
+
+abbrev pub early_job_counts_lines : List Line
+early_job_counts_lines =
+    line 0 0 irq (runs_task 1) [] ∷
+    line 0 0 end Done [] ∷
+    line 0 0 irq (runs_task 1) [] ∷
+    line 0 0 (sleep 900) Done (to 0 (Some 2) ∷ []) ∷
+    line 0 0 irq (runs_task 2) [] ∷
+    line 0 0 (lock 1) Granted [] ∷
+    line 0 1 (arrive 3) Done (to 0 (Some 3) ∷ []) ∷
+    line 0 1 irq (runs_task 3) [] ∷
+    line 0 1 (lock 1) Queued (to 0 (Some 2) ∷ []) ∷
+    line 0 1 irq (runs_task 2) [] ∷
+    line 0 1 (unlock 1) Done (to 0 (Some 3) ∷ []) ∷
+    []
+
+pub early_job_counts_played : IsTrace early_job_counts (to 0 (Some 1) ∷ []) early_job_counts_lines
+unfolding computed
+early_job_counts_played = (refl, refl)
+
+pub early_job_counts_blocks : blocks early_job_counts (past_by early_job_counts [] (steps_of early_job_counts_lines)) ≡
+    block 5 2 1 0 0 (Some 1) ∷
+    block 8 3 1 0 1 (Some 1) ∷
+    []
+unfolding computed
+early_job_counts_blocks = refl

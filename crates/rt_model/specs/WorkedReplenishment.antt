@@ -5,7 +5,8 @@ use Rattle.rt_task.specs.declared.ResvKind.TheVariants as resv_kinds
 use Rattle.rt_history.specs.declared.Reply.TheVariants.{Done, Idles}
 use Rattle.rt_model.specs.Computed.{computed}
 use Rattle.rt_model.specs.Group.{Group}
-use Rattle.rt_model.specs.Samples.{Line, line, IsTrace, group_of, cluster_with, reservation, sporadic, client_of, tick, irq, arrive, work}
+use Rattle.rt_model.specs.Histories.{past_by}
+use Rattle.rt_model.specs.Samples.{Line, line, step_of, IsTrace, group_of, cluster_with, reservation, sporadic, client_of, tick, irq, arrive, work}
 use Rattle.rt_model.specs.Samples.{end, runs_task, to, budget_of}
 
 -- the budget that a new period brings is lost at once, before the job arrives
@@ -89,3 +90,14 @@ pub replenished_when_ready_at_opening :
     budget_of replenished_when_ready [] ≡ (0, None)
 unfolding computed
 replenished_when_ready_at_opening = refl
+
+-- a new period replenishes a polling reservation also where no client is ready: the budget is lost, the replenishment counts
+abbrev pub replenished_unready : Group
+replenished_unready =
+    group_of plugins.PRes (cluster_with 1 0 ∷ []) [] (reservation resv_kinds.Polling 2 10 1 ∷ []) (
+    client_of 1 (sporadic 1 5 5 100) ∷
+    [])
+
+pub replenished_unready_state : budget_of replenished_unready (past_by replenished_unready [] (step_of 0 10 tick ∷ [])) ≡ (0, Some 10)
+unfolding computed
+replenished_unready_state = refl

@@ -188,3 +188,22 @@ released_before_early_lines =
 pub released_before_early_played : IsTrace released_before_early (to 0 (Some 1) ∷ []) released_before_early_lines
 unfolding computed
 released_before_early_played = (refl, refl)
+
+-- of two clients the one of the earlier release is in front, though its deadline is later
+abbrev pub release_before_deadline : Group
+release_before_deadline =
+    group_of plugins.PRes (cluster_with 1 0 ∷ []) [] (reservation resv_kinds.Polling 3 10 1 ∷ []) (
+    client_of 1 (periodic 1 5 100 100) ∷
+    client_of 1 (with_phase 5 (periodic 2 5 100 5)) ∷
+    [])
+
+abbrev pub release_before_deadline_lines : List Line
+release_before_deadline_lines =
+    line 0 0 irq (runs_task 1) [] ∷
+    line 0 5 tick Done [] ∷
+    line 0 5 end Done (to 0 (Some 2) ∷ []) ∷
+    []
+
+pub release_before_deadline_played : IsTrace release_before_deadline (to 0 (Some 1) ∷ []) release_before_deadline_lines
+unfolding computed
+release_before_deadline_played = (refl, refl)

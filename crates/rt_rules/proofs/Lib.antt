@@ -1,4 +1,5 @@
 pub mod BoolLaws
+pub mod PlayedLaws
 pub mod MemberLaws
 pub mod PlacingLaws
 pub mod LinkLaws
@@ -14,5 +15,6 @@ pub mod OmlpLaws
 pub mod MpcpLaws
 pub mod PairLaws
 pub mod PcpLaws
+pub mod SrpLaws
 pub mod PcpGrantLaws
 pub mod BlockerLaws

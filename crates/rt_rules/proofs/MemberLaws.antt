@@ -155,6 +155,10 @@ any-none p (y ∷ ys) x a h = let q = neither (p y) (list_any p ys) a in split (
     split (inl m) k r = rw (eqb-true x y m) k
     split (inr m) k r = r m
 
+pub none-any : (p : ℕ → Bool) (xs : List ℕ) → ((x : ℕ) → has x xs ≡ true → p x ≡ false) → list_any p xs ≡ false
+none-any p [] h = refl
+none-any p (x ∷ xs) h = rw (h x (rw (equal_self x) refl)) (none-any p xs (λ y m. h y (rw m (or_true (y == x)))))
+
 pub first-append : (t : ℕ) (xs ys : List ℕ) → is t (first xs) ≡ true → is t (first (xs ++ ys)) ≡ true
 first-append t [] ys h = cc
 first-append t (x ∷ xs) ys h = h

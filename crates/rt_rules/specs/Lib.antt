@@ -6,7 +6,9 @@ pub mod Fmlp
 pub mod Omlp
 pub mod Mpcp
 pub mod Pcp
+pub mod Srp
 pub mod Walks
 pub mod Placing
+pub mod Slots
 pub mod Rankings
 pub mod Worked

@@ -1,5 +1,5 @@
 -- Worked examples on lists, computed from the definitions. Tasks are above one another by their numbers here, the lower the higher.
-use Rattle.std.specs.Prelude.{◌≡◌, ℕ, ◌+◌, Bool, nat_lt, [], ◌∷◌, Option, None, Some, if◌then◌else◌, refl}
+use Rattle.std.specs.Prelude.{◌≡◌, ℕ, ◌+◌, Bool, true, false, nat_lt, [], ◌∷◌, Option, None, Some, if◌then◌else◌, refl}
 use Rattle.rt_order.specs.declared.Key.{Key}
 use Rattle.rt_rules.specs.Keys.{Ranked, sorted}
 use Rattle.rt_rules.specs.Mpcp.{mpcp_after}
@@ -7,6 +7,7 @@ use Rattle.rt_rules.specs.Omlp.{omlp_after}
 use Rattle.rt_rules.specs.Pcp.{TaskSem, pcp_after}
 use Rattle.rt_rules.specs.Placing.{placed}
 use Rattle.rt_rules.specs.SemState.{Asks, Frees}
+use Rattle.rt_rules.specs.Srp.{least, srp_after, srp_passes, srp_sem_state, newest_held}
 use Rattle.rt_rules.specs.Walks.{followers, inherited}
 
 abbrev pub above : ℕ → ℕ → Bool
@@ -71,3 +72,30 @@ pub pcp_freed :
     pcp_after above above_ceiling (Frees 4 1) (record { held = pair 4 1 ∷ []; waiting = pair 3 2 ∷ pair 1 2 ∷ [] })
     ≡ record { held = pair 1 2 ∷ []; waiting = pair 3 2 ∷ [] }
 pcp_freed = refl
+
+-- SRP: what is held stands in the order of locking, the newest first, and it is freed from that end
+pub srp_asked : srp_after (Asks 3 2) (pair 3 1 ∷ []) ≡ pair 3 2 ∷ pair 3 1 ∷ []
+srp_asked = refl
+
+pub srp_freed : srp_after (Frees 3 2) (pair 3 2 ∷ pair 3 1 ∷ []) ≡ pair 3 1 ∷ []
+srp_freed = refl
+
+pub srp_newest : newest_held (pair 2 3 ∷ pair 3 2 ∷ pair 3 1 ∷ []) 3 ≡ Some 2
+srp_newest = refl
+
+pub srp_held : srp_sem_state 1 (pair 3 2 ∷ pair 3 1 ∷ []) ≡ record { holder = Some 3; waiting = [] }
+srp_held = refl
+
+-- the users of a semaphore have the relative deadlines 100 and 50, so that of other tasks those below 50 pass while it is held
+pub srp_ceiling : least 1000 (100 ∷ 50 ∷ []) ≡ 50
+srp_ceiling = refl
+
+pub below_passes : srp_passes (λ s. 50) (pair 1 1 ∷ []) 3 20 ≡ true
+below_passes = refl
+
+pub equal_passes_not : srp_passes (λ s. 50) (pair 1 1 ∷ []) 2 50 ≡ false
+equal_passes_not = refl
+
+-- what a task holds itself does not keep it
+pub own_passes : srp_passes (λ s. 50) (pair 1 1 ∷ []) 1 100 ≡ true
+own_passes = refl

@@ -1,0 +1,4 @@
+pub mod SlotLaws
+pub mod CycleLaws
+pub mod ValidRows
+pub mod ValidTables
