@@ -1,7 +1,7 @@
 -- Each task stands once on a waiting list.
 use Rattle.std.proofs.Common.{Bool, List, [], ap, cond, false, inl, inr, map, refl, true, ℕ, ◌∷◌, ◌≡◌, ◌||◌, ◌⊎◌}
 use Rattle.std.specs.Prelude.{filter, ◌==◌}
-use Rattle.rt_task.specs.declared.Protocol.TheVariants.{Fmlp, Mpcp, Omlp, Pcp}
+use Rattle.rt_task.specs.declared.Protocol.TheVariants.{Fmlp, Mpcp, Omlp, Pcp, Srp}
 use Rattle.rt_task.specs.declared.Protocol.{Protocol}
 use Rattle.rt_rules.specs.Distinct.{IsDistinct}
 use Rattle.rt_rules.specs.Numbers.{has, rest}
@@ -21,6 +21,7 @@ use Rattle.rt_laws.proofs.OmlpState.{omlp-sem_state, queued}
 use Rattle.rt_laws.proofs.PcpGrants as pcp_grants
 use Rattle.rt_laws.proofs.Rules.{MeetsRules}
 use Rattle.rt_laws.proofs.ValidSets.{rules_of}
+use Rattle.rt_laws.proofs.Waiting.{srp-waiting}
 use Rattle.count_laws.specs.OpenLaws.{WaitingOnce}
 use Rattle.count_laws.specs.Tallies.{waiter, waiter_tasks}
 
@@ -74,4 +75,5 @@ waiting_once g past valid made s there = rw (tasks-waiting g past (sem_state g s
     by_protocol Fmlp e = rw ((fmlp-sem_state g s past e).0) (distinct-rest (fmlp g s past) (fmlp-line g rules s e made).once)
     by_protocol Omlp e = of_omlp e
     by_protocol Mpcp e = rw (mpcp-is g s past e) ((mpcp_once g rules s e made).once)
+    by_protocol Srp e = rw (srp-waiting g s past e) tt
     by_protocol Pcp e = pcp-list g s past e (pcp_grants.waiting_once g rules (cluster_of g s) made)

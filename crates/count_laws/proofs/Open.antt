@@ -15,7 +15,7 @@ use Rattle.rt_rules.proofs.BoolLaws.{both, clash, unless}
 use Rattle.rt_rules.proofs.MemberLaws.{equal_self, is-some, some-is}
 use Rattle.rt_laws.proofs.Asked.{freed}
 use Rattle.rt_laws.proofs.Engaged.{engaged, engaged-cases, waiting-engaged}
-use Rattle.rt_laws.proofs.PcpState.{pcp_kept}
+use Rattle.rt_laws.proofs.SrpState.{kept}
 use Rattle.rt_laws.proofs.Moves.{IsMove, by_moves, clock_moves, cpu_acts, last_move, moved}
 use Rattle.rt_laws.proofs.Next.{IsNext, next}
 use Rattle.rt_laws.proofs.OneWait.{awaits-is, waits_once}
@@ -116,7 +116,7 @@ waiting-goes g rules t s {e} {past} made move there w = split (engaged-stays g t
     sides (inr k) = inl k
 
     split : (engaged g t s (e ∷ past) ≡ true) ⊎ (sem_act e ≡ Frees t s) → (has t (sem_state g s (e ∷ past)).waiting ≡ true) ⊎ (is t (holder g s (e ∷ past)) ≡ true)
-    split (inl k) = sides (engaged-cases g t s (e ∷ past) (pcp_kept g rules (cluster_of g s) (moved g made move)) k)
+    split (inl k) = sides (engaged-cases g t s (e ∷ past) (kept g rules (cluster_of g s) (moved g made move)) k)
     split (inr act) = absurd (clash _ w (apart g rules made t s there (freed g move t s act)))
 
 pub closes_by_grant : ClosesByGrant

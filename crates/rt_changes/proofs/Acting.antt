@@ -1,6 +1,10 @@
 -- Who asks for a semaphore or frees it: a user, and under PCP one of the semaphore's cluster.
 use Rattle.std.proofs.Common.{inl, inr, refl, true, ℕ, ◌∷◌, ◌≡◌, ◌⊎◌}
 use Rattle.std.specs.Prelude.{Some}
+use Rattle.rt_task.specs.RuleWords.{is_of_one_cluster, is_stacked}
+use Rattle.rt_task.specs.declared.PluginKind.{PluginKind}
+use Rattle.rt_task.specs.declared.Protocol.TheVariants.{Fmlp, Mpcp, Omlp, Pcp, Srp}
+use Rattle.rt_task.specs.declared.Protocol.{Protocol}
 use Rattle.rt_rules.specs.Numbers.{has}
 use Rattle.rt_rules.specs.SemState.{Asks, Frees, Neither, SemAct}
 use Rattle.rt_model.specs.Ceilings.{is_pcp}
@@ -39,6 +43,17 @@ all_parties g rules made = by_moves g (AllParties g) (λ t s h. absurd (clash _ 
 -- users of a PCP semaphore are of its cluster
 pub party-home : (g : Group) → MeetsRules g → (t s : ℕ) → IsParty g t s → is_pcp (protocol g s) ≡ true → home g t ≡ cluster_of g s
 party-home g rules t s p k = user-home g rules s t (pcp-shares g.setup.plugin (protocol g s) k) p.user
+
+-- users of a PCP or SRP semaphore are of its cluster
+pub stack-home : (g : Group) → MeetsRules g → (t s : ℕ) → IsParty g t s → is_stacked (protocol g s) ≡ true → home g t ≡ cluster_of g s
+stack-home g rules t s p k = user-home g rules s t (stacked-shares g.setup.plugin (protocol g s) k) p.user
+  where
+    stacked-shares : (p : PluginKind) (x : Protocol) → is_stacked x ≡ true → is_of_one_cluster x p ≡ true
+    stacked-shares p Pcp h = refl
+    stacked-shares p Srp h = refl
+    stacked-shares p Fmlp h = cc
+    stacked-shares p Omlp h = cc
+    stacked-shares p Mpcp h = cc
 
 -- the act of a task at a semaphore
 pub data IsAct (t s : ℕ) : SemAct → Type 0 where

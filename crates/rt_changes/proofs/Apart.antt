@@ -2,7 +2,9 @@
 use Rattle.std.proofs.Common.{Bool, List, [], cond, eqb-true, false, not, refl, subst, sym, true, ℕ, ◌&&◌, ◌++◌, ◌||◌, ◌∙◌, ◌∷◌, ◌≡◌}
 use Rattle.std.specs.List.{list_any}
 use Rattle.std.specs.Prelude.{length, nat_le, ◌==◌, if◌then◌else◌}
-use Rattle.rt_task.specs.declared.Protocol.TheVariants.{Fmlp, Mpcp, Omlp, Pcp}
+use Rattle.rt_base.specs.declared.TheConstants.{MOST_HELD}
+use Rattle.rt_task.specs.RuleWords.{is_stacked}
+use Rattle.rt_task.specs.declared.Protocol.TheVariants.{Fmlp, Mpcp, Omlp, Pcp, Srp}
 use Rattle.rt_task.specs.declared.Protocol.{Protocol}
 use Rattle.rt_rules.specs.Numbers.{first, has, is}
 use Rattle.rt_rules.specs.Pcp.{PcpState, TaskSem, granted, in_order, of_sem, passes, pcp_after, tested, without_pair}
@@ -33,10 +35,10 @@ pub asks-holds_not : (g : Group) (t s : ℕ) (past : Past) → IsAsked g t s pas
 unfolding nests
 asks-holds_not g t s past a = by_protocol (protocol g s) refl a.unnested
   where
-    of_pcp : list_any (λ r. not (is_pcp (protocol g r))) (holds g t past) || (has s (holds g t past) || nat_le 8 (length (holds g t past))) ≡ false → is t (holder g s past) ≡ false
+    of_pcp : list_any (λ r. not (is_pcp (protocol g r))) (holds g t past) || (has s (holds g t past) || nat_le MOST_HELD (length (holds g t past))) ≡ false → is t (holder g s past) ≡ false
     of_pcp n = unless _ (λ h. clash _ (holds-one g t s past a.known h) (neither (has s (holds g t past)) _ (neither (list_any (λ r. not (is_pcp (protocol g r))) (holds g t past)) _ n).1).0)
 
-    empty : (p : Protocol) → is_pcp p ≡ false → nests g p s t past ≡ false → is t (holder g s past) ≡ false
+    empty : (p : Protocol) → is_stacked p ≡ false → nests g p s t past ≡ false → is t (holder g s past) ≡ false
     empty p k n = holds-none g t s past (asks_empty g p t s past k n) a.known
 
     by_protocol : (p : Protocol) → protocol g s ≡ p → nests g p s t past ≡ false → is t (holder g s past) ≡ false
@@ -44,6 +46,7 @@ asks-holds_not g t s past a = by_protocol (protocol g s) refl a.unnested
     by_protocol Omlp e n = empty Omlp refl n
     by_protocol Mpcp e n = empty Mpcp refl n
     by_protocol Pcp e n = of_pcp n
+    by_protocol Srp e n = unless _ (λ h. clash _ (holds-one g t s past a.known h) (neither (has s (holds g t past)) (nat_le MOST_HELD (length (holds g t past))) n).0)
 
 -- ---- PCP
 

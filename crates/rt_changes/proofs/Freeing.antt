@@ -1,7 +1,7 @@
 -- Who frees a semaphore waits for none, and does not hold that one any longer.
 use Rattle.std.proofs.Common.{List, [], false, inl, inr, refl, sym, true, ℕ, ◌&&◌, ◌∙◌, ◌∷◌, ◌≡◌, ◌⊎◌, eqb-true}
 use Rattle.std.specs.Prelude.{None, Option, Some, ◌==◌}
-use Rattle.rt_task.specs.declared.Protocol.TheVariants.{Fmlp, Mpcp, Omlp, Pcp}
+use Rattle.rt_task.specs.declared.Protocol.TheVariants.{Fmlp, Mpcp, Omlp, Pcp, Srp}
 use Rattle.rt_task.specs.declared.Protocol.{Protocol}
 use Rattle.rt_rules.specs.Mpcp.{passed_on}
 use Rattle.rt_rules.specs.Numbers.{first, foremost, has, is, rest, without}
@@ -9,11 +9,15 @@ use Rattle.rt_rules.specs.Omlp.{handed_over}
 use Rattle.rt_rules.specs.SemState.{Frees}
 use Rattle.rt_model.specs.BaseKeys.{above}
 use Rattle.rt_model.specs.Ceilings.{is_pcp, pcp}
-use Rattle.rt_model.specs.Group.{Group, cpus, protocol, sems}
+use Rattle.rt_model.specs.Group.{Group, cpus, home, protocol, sems}
 use Rattle.rt_model.specs.Holders.{holder, sem_state}
 use Rattle.rt_model.specs.Reachable.{IsReachable}
 use Rattle.rt_model.specs.Past.{Event, Past, sem_act}
 use Rattle.rt_model.specs.Semaphores.{cluster_of, fmlp, mpcp, omlp}
+use Rattle.rt_model.specs.StackPolicy.{srp, srp_at}
+use Rattle.rt_rules.specs.Pcp.{without_pair}
+use Rattle.rt_rules.proofs.SrpLaws.{first-srp}
+use Rattle.rt_laws.proofs.SrpState.{srp-holder}
 use Rattle.rt_model.proofs.Steps.{omlp-step}
 use Rattle.rt_rules.proofs.BoolLaws.{clash, either, unless}
 use Rattle.rt_rules.proofs.DistinctLaws.{first-absent, without-gone}
@@ -29,7 +33,7 @@ use Rattle.rt_laws.proofs.PcpState.{first-pcp, pcp-holder, pcp-waiting}
 use Rattle.rt_laws.proofs.Requests.{frees}
 use Rattle.rt_laws.proofs.Rules.{MeetsRules}
 use Rattle.rt_laws.proofs.Running.{running}
-use Rattle.rt_changes.proofs.Acting.{IsParty}
+use Rattle.rt_changes.proofs.Acting.{IsParty, stack-home}
 use Rattle.rt_changes.proofs.Lists.{other-pair}
 use Rattle.rt_changes.proofs.PcpForms.{IsFreed, freed-form, freed_state}
 
@@ -47,6 +51,10 @@ handed-first : (t : ℕ) (o : Option ℕ) (f q : List ℕ) → ((v : ℕ) → o 
 handed-first t None f q other h = not_first t f h
 handed-first t (Some v) [] q other h = other v refl
 handed-first t (Some v) (x ∷ xs) q other h = not_first t (x ∷ xs) h
+
+pub srp-freed : (g : Group) (c t s : ℕ) (e : Event) (past : Past) → sem_act e ≡ Frees t s → home g t ≡ c → protocol g s ≡ Srp → srp g c (e ∷ past) ≡ without_pair (record { task = t; sem = s }) (srp g c past)
+unfolding srp srp_at
+srp-freed g c t s e past h at p = rw (h, at, p, equal_self c)
 
 -- who frees a semaphore holds it no longer
 pub freed-gone : (g : Group) → MeetsRules g → (t s : ℕ) (e : Event) (past : Past) → IsReachable g past → IsParty g t s → is t (holder g s past) ≡ true → has t (sem_state g s past).waiting ≡ false → sem_act e ≡ Frees t s → is t (holder g s (e ∷ past)) ≡ false
@@ -95,8 +103,15 @@ freed-gone g rules t s e past made party held free h = by_protocol (protocol g s
             split (inl n) = clash _ n (other-pair t s k.0 (pcp g (cluster_of g s) past).waiting waits_not k.1)
             split (inr n) = clash _ n gone
 
+    of_srp : protocol g s ≡ Srp → is t (holder g s (e ∷ past)) ≡ false
+    of_srp p = rw (srp-holder g s (e ∷ past) p) (unless _ (λ m. clash _ (rw gone_is at (first-srp t s (srp g (cluster_of g s) (e ∷ past)) m)) (without_pair-gone (record { task = t; sem = s }) (srp g (cluster_of g s) past))))
+      where
+        gone_is : srp g (cluster_of g s) (e ∷ past) ≡ without_pair (record { task = t; sem = s }) (srp g (cluster_of g s) past)
+        gone_is = srp-freed g (cluster_of g s) t s e past h (stack-home g rules t s party (rw p)) p
+
     by_protocol : (p : Protocol) → protocol g s ≡ p → is t (holder g s (e ∷ past)) ≡ false
     by_protocol Fmlp p = of_fmlp p
     by_protocol Omlp p = of_omlp p
     by_protocol Mpcp p = of_mpcp p
     by_protocol Pcp p = of_pcp (rw p)
+    by_protocol Srp p = of_srp p

@@ -29,7 +29,7 @@ use Rattle.rt_laws.proofs.ValidSets.{rules_of}
 use Rattle.rt_laws.proofs.Waiting.{awaits-waits, none-waits, waiting-step, waits-none}
 use Rattle.rt_changes.specs.HoldChanges.{IsGrant, IsQueueing, IsRelease, IsServed, KeepsHolds, LockGrants, LockIsAnswered, LockQueues, UnlockReleases}
 use Rattle.rt_changes.specs.Owners.{is_beside}
-use Rattle.rt_changes.proofs.Acting.{IsParty, all_parties, freeing, party-home}
+use Rattle.rt_changes.proofs.Acting.{IsParty, all_parties, freeing, party-home, stack-home}
 use Rattle.rt_changes.proofs.Apart.{apart, asks-holds_not}
 use Rattle.rt_changes.proofs.Freeing.{freed-gone, freer-waits_not}
 use Rattle.rt_changes.proofs.Left.{awaits-left, holder-left, holds-left}
@@ -99,7 +99,7 @@ module _ (g : Group) (rules : MeetsRules g) (e : Event) (past : Past) (made : Is
       by_sem r false k = rw (other_state r k)
 
   stands : (is t (holder g s (e ∷ past)) ≡ true) ⊎ (has t (sem_state g s (e ∷ past)).waiting ≡ true)
-  stands = stands-after g rules e past made move t s (engaged-asks g t s e past (party-home g rules t s party) h)
+  stands = stands-after g rules e past made move t s (engaged-asks g t s e past (stack-home g rules t s party) h)
 
   pub grant : is_granted g (protocol g s) s t past ≡ true → IsGrant g t s e past
   grant may = record {

@@ -1,7 +1,7 @@
 -- Who holds and who waits before a move and after it.
 use Rattle.std.proofs.Common.{Bool, List, [], false, inl, inr, refl, true, ℕ, ◌&&◌, ◌∷◌, ◌≡◌, ◌⊎◌}
 use Rattle.std.specs.Prelude.{None, Option, Some, is_none, nat_lt, length, ◌++◌, if◌then◌else◌}
-use Rattle.rt_task.specs.declared.Protocol.TheVariants.{Fmlp, Mpcp, Omlp, Pcp}
+use Rattle.rt_task.specs.declared.Protocol.TheVariants.{Fmlp, Mpcp, Omlp, Pcp, Srp}
 use Rattle.rt_task.specs.declared.Protocol.{Protocol}
 use Rattle.rt_rules.specs.Mpcp.{after_ask}
 use Rattle.rt_rules.specs.Numbers.{first, has, is}
@@ -19,8 +19,8 @@ use Rattle.rt_rules.proofs.MemberLaws.{equal_self, has-filter}
 use Rattle.rt_laws.proofs.Engaged.{engaged, engaged-cases, engaged-step, holder-engaged, holder-stays, waiting-engaged}
 use Rattle.rt_laws.proofs.Moves.{IsMove, moved}
 use Rattle.rt_laws.proofs.Next.{IsNext, next}
-use Rattle.rt_laws.proofs.PcpState.{pcp_kept}
 use Rattle.rt_laws.proofs.Rules.{MeetsRules}
+use Rattle.rt_laws.proofs.SrpState.{kept}
 use Rattle.rt_changes.proofs.Stays.{engaged-stays}
 
 -- what a task holds
@@ -41,16 +41,16 @@ module _ (g : Group) (rules : MeetsRules g) (e : Event) (past : Past) (made : Is
       deeper (inr k) = inr (inl k)
 
       split : (engaged g t s past ≡ true) ⊎ (sem_act e ≡ Asks t s) → (is t (holder g s past) ≡ true) ⊎ ((has t (sem_state g s past).waiting ≡ true) ⊎ (sem_act e ≡ Asks t s))
-      split (inl k) = deeper (engaged-cases g t s past (pcp_kept g rules (cluster_of g s) made) k)
+      split (inl k) = deeper (engaged-cases g t s past (kept g rules (cluster_of g s) made) k)
       split (inr k) = inr (inr k)
 
   -- who holds goes on until it frees
   pub holds-on : (t s : ℕ) → is t (holder g s past) ≡ true → (is t (holder g s (e ∷ past)) ≡ true) ⊎ (sem_act e ≡ Frees t s)
-  holds-on t s h = holder-stays g t s e past what_next.freed (pcp_kept g rules (cluster_of g s) (moved g made move)) h
+  holds-on t s h = holder-stays g t s e past what_next.freed (kept g rules (cluster_of g s) (moved g made move)) h
 
   -- who is engaged after a move holds or waits
   pub stands-after : (t s : ℕ) → engaged g t s (e ∷ past) ≡ true → (is t (holder g s (e ∷ past)) ≡ true) ⊎ (has t (sem_state g s (e ∷ past)).waiting ≡ true)
-  stands-after t s h = engaged-cases g t s (e ∷ past) (pcp_kept g rules (cluster_of g s) (moved g made move)) h
+  stands-after t s h = engaged-cases g t s (e ∷ past) (kept g rules (cluster_of g s) (moved g made move)) h
 
   -- who waits goes on, or holds then
   pub waits-on : (t s : ℕ) → has t (sem_state g s past).waiting ≡ true → ((is t (holder g s (e ∷ past)) ≡ true) ⊎ (has t (sem_state g s (e ∷ past)).waiting ≡ true)) ⊎ (sem_act e ≡ Frees t s)
@@ -88,4 +88,5 @@ queued-holder g t s e past at_home a = by_protocol (protocol g s) refl
     by_protocol Fmlp k h = rw act_is (first-kept t (fmlp g s past) (none_of Fmlp k h))
     by_protocol Omlp k h = rw act_is (omlp_asks (nat_lt (length (omlp g s past).fifo) (cpus g (cluster_of g s))) (omlp g s past) (none_of Omlp k h))
     by_protocol Mpcp k h = rw act_is (mpcp_asks (mpcp g s past).holder (mpcp g s past) refl (none_of Mpcp k h))
+    by_protocol Srp k h = cc
     by_protocol Pcp k h = let there : home g t ≡ cluster_of g s = at_home (rw k) in let stops : passes (above_ceiling g) (pcp g (cluster_of g s) past).held t ≡ false = rw there at h in rw (a, k, there, equal_self (cluster_of g s), stops)

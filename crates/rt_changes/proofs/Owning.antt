@@ -1,7 +1,7 @@
 -- Whoever waits waits for the owner of the semaphore, who holds one.
 use Rattle.std.proofs.Common.{Bool, List, [], false, map, refl, subst, sym, true, ℕ, ◌∙◌, ◌∷◌, ◌≡◌}
 use Rattle.std.specs.Prelude.{Some, if◌then◌else◌}
-use Rattle.rt_task.specs.declared.Protocol.TheVariants.{Fmlp, Mpcp, Omlp, Pcp}
+use Rattle.rt_task.specs.declared.Protocol.TheVariants.{Fmlp, Mpcp, Omlp, Pcp, Srp}
 use Rattle.rt_task.specs.declared.Protocol.{Protocol}
 use Rattle.rt_rules.specs.Numbers.{first, has, is, is_empty}
 use Rattle.rt_rules.specs.Pcp.{TaskSem, of_others, of_sem, passes}
@@ -74,12 +74,14 @@ module _ (g : Group) (rules : MeetsRules g) (past : Past) (made : IsReachable g 
       of_pcp Fmlp e = cc
       of_pcp Omlp e = cc
       of_pcp Mpcp e = cc
+      of_pcp Srp e = cc
 
       of_others_kind : (x : Protocol) → is_pcp x ≡ false → next_by g x s t past ≡ holder g s past
       of_others_kind Pcp e = cc
       of_others_kind Fmlp e = refl
       of_others_kind Omlp e = refl
       of_others_kind Mpcp e = refl
+      of_others_kind Srp e = refl
 
       by_kind : (b : Bool) → is_pcp (protocol g s) ≡ b → waits_for g t past ≡ owner g s past
       by_kind true k =

@@ -2,6 +2,11 @@
 use Rattle.std.proofs.Common.{Bool, List, [], false, map, refl, subst, sym, true, ℕ, ◌&&◌, ◌||◌, ◌∙◌, ◌∷◌, ◌≡◌}
 use Rattle.std.specs.Prelude.{None, Option, Some, if◌then◌else◌, ◌==◌}
 use Rattle.rt_task.specs.Validity.{IsValid}
+use Rattle.rt_task.specs.RuleWords.{is_stacked, stands_under}
+use Rattle.rt_task.specs.declared.PluginKind.TheVariants as plugins
+use Rattle.rt_task.specs.declared.PluginKind.{PluginKind}
+use Rattle.rt_task.specs.declared.Protocol.TheVariants.{Fmlp, Mpcp, Omlp, Pcp, Srp}
+use Rattle.rt_task.specs.declared.Protocol.{Protocol}
 use Rattle.rt_rules.specs.Numbers.{first, has, is}
 use Rattle.rt_rules.specs.Pcp.{TaskSem, of_sem}
 use Rattle.rt_model.specs.Ceilings.{is_pcp, pcp}
@@ -12,17 +17,18 @@ use Rattle.rt_model.specs.Reachable.{IsReachable}
 use Rattle.rt_model.specs.Past.{Past}
 use Rattle.rt_model.specs.Semaphores.{cluster_of}
 use Rattle.rt_rules.proofs.BoolLaws.{both, clash}
-use Rattle.rt_rules.proofs.MemberLaws.{equal_self, has-filter, is-some}
+use Rattle.rt_rules.proofs.MemberLaws.{equal_self, has-filter, is-some, some-is}
 use Rattle.rt_rules.proofs.PairLaws.{has_pair, pair-of, tasks_of_pairs}
 use Rattle.rt_laws.proofs.SemaphoreLaws.{holder_holds_one}
-use Rattle.rt_laws.proofs.Engaged.{waiting-engaged}
+use Rattle.rt_laws.proofs.Engaged.{holder-engaged, waiting-engaged}
 use Rattle.rt_laws.proofs.GroupLaws.{user-task}
 use Rattle.rt_laws.proofs.OneWait.{awaits-is, waits_once}
 use Rattle.rt_laws.proofs.PcpState.{IsUser, pcp-first, pcp-holder, pcp-waiting, pcp_kept, sem-home}
 use Rattle.rt_laws.proofs.PcpWalks.{walk-stops}
 use Rattle.rt_laws.proofs.Rules.{MeetsRules}
+use Rattle.rt_laws.proofs.SrpUsers.{all_users, srp_cluster}
 use Rattle.rt_laws.proofs.ValidSets.{rules_of}
-use Rattle.rt_laws.proofs.Waiting.{awaits-waits}
+use Rattle.rt_laws.proofs.Waiting.{awaits-waits, srp-waiting}
 use Rattle.rt_changes.specs.KeysOfWaiters.{waiters}
 use Rattle.rt_changes.specs.OwnerKeys.{WaitersOfHolder, WaitersOfNewestOwner}
 use Rattle.rt_changes.specs.Owners.{newest_owner, owner}
@@ -91,8 +97,32 @@ owns-one_kind g past valid made c s v h there holds_it = by_kind (is_pcp (protoc
     by_kind true k = refl
     by_kind false k =
         let n : IsNewest g c v past = newest g (rules_of g valid) c v past made h in
-        let same : s ≡ n.sem = holder_holds_one g past valid made v s n.sem there n.known k holds_it n.holder_is in
-        absurd (clash _ n.of_pcp (rw same at k))
+        by_stack (is_stacked (protocol g s)) refl n k
+      where
+        rules : MeetsRules g
+        rules = rules_of g valid
+
+        apart_at : (p : PluginKind) → stands_under Pcp p ≡ true → stands_under Srp p ≡ true → ⊥
+        apart_at plugins.GsnEdf i j = cc
+        apart_at plugins.CEdf i j = cc
+        apart_at plugins.PsnEdf i j = cc
+        apart_at plugins.PFp i j = cc
+        apart_at plugins.PRes i j = cc
+
+        no_plugin : (p : PluginKind) (x y : Protocol) → is_pcp x ≡ true → is_pcp y ≡ false → is_stacked y ≡ true → stands_under x p ≡ true → stands_under y p ≡ true → ⊥
+        no_plugin p Pcp Srp a b m i j = apart_at p i j
+        no_plugin p Pcp Pcp a b m i j = cc
+        no_plugin p Pcp Fmlp a b m i j = cc
+        no_plugin p Pcp Omlp a b m i j = cc
+        no_plugin p Pcp Mpcp a b m i j = cc
+        no_plugin p Fmlp y a b m i j = cc
+        no_plugin p Omlp y a b m i j = cc
+        no_plugin p Mpcp y a b m i j = cc
+        no_plugin p Srp y a b m i j = cc
+
+        by_stack : (b : Bool) → is_stacked (protocol g s) ≡ b → IsNewest g c v past → is_pcp (protocol g s) ≡ false → false ≡ true
+        by_stack false m n k = let same : s ≡ n.sem = holder_holds_one g past valid made v s n.sem there n.known m holds_it n.holder_is in absurd (clash _ n.of_pcp (rw same at k))
+        by_stack true m n k = absurd (no_plugin g.setup.plugin (protocol g n.sem) (protocol g s) n.of_pcp k m (rules.is_allowed n.sem n.known) (rules.is_allowed s there))
 
 pub waiters_of_holder : WaitersOfHolder
 waiters_of_holder g past valid made s v w there plain h = agree _ _ (λ k. at_own (waits-at g rules v w past made k)) (λ k. waits-there g rules s v w past made there (rw plain h) k)
@@ -105,7 +135,22 @@ waiters_of_holder g past valid made s v w there plain h = agree _ _ (λ k. at_ow
       where
         by_kind : (b : Bool) → is_pcp (protocol g q.sem) ≡ b → (if b then newest_owner g (cluster_of g q.sem) past else holder g q.sem past) ≡ Some v → has w (sem_state g s past).waiting ≡ true
         by_kind true k m = absurd (clash _ (owns-one_kind g past valid made (cluster_of g q.sem) s v m there h) plain)
-        by_kind false k m = let same : s ≡ q.sem = holder_holds_one g past valid made v s q.sem there q.known plain h m in subst (λ n. has w (sem_state g n past).waiting ≡ true) (sym same) q.waits
+        by_kind false k m = by_stack (is_stacked (protocol g s)) refl m
+          where
+            at_srp : (x : Protocol) → protocol g s ≡ x → is_pcp x ≡ false → is_stacked x ≡ true → holder g q.sem past ≡ Some v → ⊥
+            at_srp Srp e a b i =
+                let cluster = srp_cluster g rules (home g v) v s e (all_users g rules made v s (holder-engaged g v s past (some-is v (holder g s past) h))) refl in
+                let p : protocol g q.sem ≡ Srp = cluster.uses_srp v q.sem (all_users g rules made v q.sem (holder-engaged g v q.sem past (some-is v (holder g q.sem past) i))) refl in
+                let z : has w [] ≡ true = rw (srp-waiting g q.sem past p) at q.waits in
+                cc
+            at_srp Pcp e a b i = cc
+            at_srp Fmlp e a b i = cc
+            at_srp Omlp e a b i = cc
+            at_srp Mpcp e a b i = cc
+
+            by_stack : (b : Bool) → is_stacked (protocol g s) ≡ b → holder g q.sem past ≡ Some v → has w (sem_state g s past).waiting ≡ true
+            by_stack false n i = let same : s ≡ q.sem = holder_holds_one g past valid made v s q.sem there q.known n h i in subst (λ o. has w (sem_state g o past).waiting ≡ true) (sym same) q.waits
+            by_stack true n i = absurd (at_srp (protocol g s) refl plain n i)
 
 has-task : (t s : ℕ) (ps : List TaskSem) → has_pair t s ps ≡ true → has t (tasks_of_pairs ps) ≡ true
 has-task t s [] h = cc

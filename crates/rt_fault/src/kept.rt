@@ -30,14 +30,12 @@ impl Kept {
         ensures { IfOk result (λ k. k ≡ record { bytes = []; room = room; beyond = 0 }) }
     {
         let room = room as usize;
-        match Vec::with_capacity(alloc, room) {
-            Ok(bytes) => Ok(Kept {
-                bytes,
-                room,
-                beyond: 0,
-            }),
-            Err(_) => Err(NoMemory),
-        }
+        let bytes = Vec::with_capacity(alloc, room)?;
+        Ok(Kept {
+            bytes,
+            room,
+            beyond: 0,
+        })
     }
 
     /// Keeps what there is room for, and counts what there is not. Takes no memory.

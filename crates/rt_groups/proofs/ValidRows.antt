@@ -7,7 +7,7 @@ use Rattle.rt_task.specs.RangeRules.{cluster_range}
 use Rattle.rt_task.specs.Refusals.{bad, each, first, first_failing}
 use Rattle.rt_task.specs.SharingRules.{resv_sharing}
 use Rattle.rt_task.specs.SizeRules.{whole_size}
-use Rattle.rt_task.specs.Validity.{IsValid, name_rows, range_rows, refusal, refusal_of, sharing_rows, size_rows, task_shape, whole_refusal}
+use Rattle.rt_task.specs.Validity.{IsValid, name_rows, range_rows, refusal, refusal_of, sharing_rows, size_rows, shape_rows, whole_refusal}
 use Rattle.rt_task.specs.declared.Parts.{Parts}
 use Rattle.rt_task.specs.declared.bad_set.Part.TheVariants as parts
 use Rattle.rt_task.specs.declared.bad_set.Part.{Part}
@@ -29,7 +29,7 @@ pub passes_rows : (p : Parts) → IsValid p → PassesRows p
 unfolding refusal_of whole_refusal refusal
 passes_rows p valid =
     let d : Draft = draft_of p in
-    let all = all-none (each kinds.Shape parts.Task (task_shape d) d.tasks ∷ refusal d ∷ []) valid in
+    let all = all-none (first (shape_rows d) ∷ refusal d ∷ []) valid in
     let table = all-none (first (range_rows d) ∷ first (name_rows d) ∷ first (sharing_rows d) ∷ first (size_rows d) ∷ []) all.1.0 in
     let range = all-none (range_rows d) table.0 in
     let sharing = all-none (sharing_rows d) table.1.1.0 in

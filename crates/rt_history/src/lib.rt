@@ -48,14 +48,14 @@ pub enum Reply {
 }
 
 /// One entry of a history: a step, and what it was answered.
-#[derive(Clone, Copy, Debug, PartialEq, Eq)]
+#[derive(Clone, Copy, PartialEq, Eq)]
 pub struct Entry {
     pub step: Step,
     pub reply: Reply,
 }
 
 /// What a processor's next act depends on.
-#[derive(Clone, Copy, Debug, PartialEq, Eq)]
+#[derive(Clone, Copy, PartialEq, Eq)]
 pub struct Situation {
     /// What the processor runs.
     pub runs: Option<TaskNo>,

@@ -1,11 +1,11 @@
 -- Who asks and who frees in the next event: what the past before it says of them.
 use Rattle.std.proofs.Common.{false, true, ℕ, ◌≡◌}
-use Rattle.rt_task.specs.declared.Protocol.TheVariants.{Fmlp, Mpcp, Omlp, Pcp}
+use Rattle.rt_task.specs.RuleWords.{is_stacked}
+use Rattle.rt_task.specs.declared.Protocol.TheVariants.{Fmlp, Mpcp, Omlp, Pcp, Srp}
 use Rattle.rt_task.specs.declared.Protocol.{Protocol}
 use Rattle.rt_rules.specs.Numbers.{has, is, is_empty}
 use Rattle.rt_rules.specs.SemState.{Asks, Frees}
 use Rattle.rt_model.specs.Answers.{nests}
-use Rattle.rt_model.specs.Ceilings.{is_pcp}
 use Rattle.rt_model.specs.Group.{Group, protocol, sems, tasks, users}
 use Rattle.rt_model.specs.Holders.{holder, holds, sem_state}
 use Rattle.rt_model.specs.Reachable.{IsReachable}
@@ -58,10 +58,11 @@ pub freed : (g : Group) {past : Past} {e : Event} → IsMove g past e → Freed 
 freed g (clock_moves tick) t s h = cc
 freed g {past} (cpu_acts q a) t s h = (frees g q a past t s h).held
 
--- a request that is none for PCP comes from a task that holds nothing
-pub asks_empty : (g : Group) (p : Protocol) (t s : ℕ) (past : Past) → is_pcp p ≡ false → nests g p s t past ≡ false → is_empty (holds g t past) ≡ true
+-- a request that is none for PCP or SRP comes from a task that holds nothing
+pub asks_empty : (g : Group) (p : Protocol) (t s : ℕ) (past : Past) → is_stacked p ≡ false → nests g p s t past ≡ false → is_empty (holds g t past) ≡ true
 unfolding nests
 asks_empty g Fmlp t s past e h = not_false _ h
 asks_empty g Omlp t s past e h = not_false _ h
 asks_empty g Mpcp t s past e h = not_false _ h
 asks_empty g Pcp t s past e h = cc
+asks_empty g Srp t s past e h = cc

@@ -5,6 +5,7 @@ use Rattle.rt_rules.specs.SemState.{Asks, Frees, Neither, SemAct}
 use Rattle.rt_model.specs.Ceilings.{at_cluster, is_pcp}
 use Rattle.rt_model.specs.Group.{Group, home, protocol}
 use Rattle.rt_model.specs.Semaphores.{at_sem}
+use Rattle.rt_model.specs.StackPolicy.{is_srp, srp_at}
 use Rattle.rt_rules.proofs.BoolLaws.{both}
 
 -- an act at a semaphore that asks is one that asks for that semaphore
@@ -64,3 +65,33 @@ at_cluster-frees g c t s (Frees u r) h = by_case (home g u == c && is_pcp (proto
     by_case true k = k
     by_case false k = cc
 at_cluster-frees g c t s Neither h = cc
+
+-- an act of a cluster that asks is one of a task of the cluster at an SRP semaphore
+pub srp_at-asks : (g : Group) (c t s : ℕ) (x : SemAct) → srp_at g c x ≡ Asks t s → (x ≡ Asks t s) × (home g t ≡ c) × (is_srp (protocol g s) ≡ true)
+unfolding srp_at
+srp_at-asks g c t s (Asks u r) h = by_case (home g u == c && is_srp (protocol g r)) refl h
+  where
+    by_case : (b : Bool) → home g u == c && is_srp (protocol g r) ≡ b → cond b (Asks u r) Neither ≡ Asks t s → (Asks u r ≡ Asks t s) × (home g t ≡ c) × (is_srp (protocol g s) ≡ true)
+    by_case true e k = let q = both (home g u == c) (is_srp (protocol g r)) e in let same : u ≡ t = cc in let same_sem : r ≡ s = cc in (k, eqb-true (home g t) c (rw same at q.0), rw same_sem at q.1)
+    by_case false e k = cc
+srp_at-asks g c t s (Frees u r) h = by_case (home g u == c && is_srp (protocol g r)) h
+  where
+    by_case : (b : Bool) → cond b (Frees u r) Neither ≡ Asks t s → (Frees u r ≡ Asks t s) × (home g t ≡ c) × (is_srp (protocol g s) ≡ true)
+    by_case true k = cc
+    by_case false k = cc
+srp_at-asks g c t s Neither h = cc
+
+-- and so of SRP
+pub srp_at-frees : (g : Group) (c t s : ℕ) (x : SemAct) → srp_at g c x ≡ Frees t s → x ≡ Frees t s
+unfolding srp_at
+srp_at-frees g c t s (Asks u r) h = by_case (home g u == c && is_srp (protocol g r)) h
+  where
+    by_case : (b : Bool) → cond b (Asks u r) Neither ≡ Frees t s → Asks u r ≡ Frees t s
+    by_case true k = cc
+    by_case false k = cc
+srp_at-frees g c t s (Frees u r) h = by_case (home g u == c && is_srp (protocol g r)) h
+  where
+    by_case : (b : Bool) → cond b (Frees u r) Neither ≡ Frees t s → Frees u r ≡ Frees t s
+    by_case true k = k
+    by_case false k = cc
+srp_at-frees g c t s Neither h = cc

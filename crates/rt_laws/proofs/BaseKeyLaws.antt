@@ -4,7 +4,7 @@ use Rattle.rt_order.specs.declared.Key.{Key}
 use Rattle.rt_task.specs.RuleWords.{is_p_res, stands_under}
 use Rattle.rt_task.specs.declared.PluginKind.TheVariants as plugins
 use Rattle.rt_task.specs.declared.PluginKind.{PluginKind}
-use Rattle.rt_task.specs.declared.Protocol.TheVariants.{Fmlp, Mpcp, Omlp, Pcp}
+use Rattle.rt_task.specs.declared.Protocol.TheVariants.{Fmlp, Mpcp, Omlp, Pcp, Srp}
 use Rattle.rt_task.specs.declared.Protocol.{Protocol}
 use Rattle.rt_model.specs.BaseKeys.{above, base_key, key_by}
 use Rattle.rt_model.specs.Group.{Group}
@@ -27,6 +27,7 @@ minor-is g t past x h = by_plugin g.setup.plugin x h
     by_plugin plugins.PRes Fmlp k = cc
     by_plugin plugins.PRes Omlp k = cc
     by_plugin plugins.PRes Pcp k = cc
+    by_plugin plugins.PRes Srp k = cc
     by_plugin plugins.PRes Mpcp k = cc
 
 -- under a plugin with semaphores base keys are in a total order by task

@@ -42,7 +42,7 @@ none-ended g rules r t s none made = by_moves g (λ past. ends g r t s past ≡ 
     by_case true h = h
     by_case false h = h
 
-omlp_shares : (plugin : PluginKind) → is_of_one_cluster Omlp plugin ≡ true
+pub omlp_shares : (plugin : PluginKind) → is_of_one_cluster Omlp plugin ≡ true
 omlp_shares plugins.GsnEdf = refl
 omlp_shares plugins.CEdf = refl
 omlp_shares plugins.PsnEdf = refl

@@ -25,7 +25,7 @@ use Rattle.rt_laws.proofs.OpenRequests.{entries-grow, frees-is, newest-below, op
 use Rattle.rt_laws.proofs.Rules.{MeetsRules}
 
 -- nothing ended before the request was asked
-none-ended : (g : Group) (r t s : ℕ) (past : Past) → entries_in past ≤ r → ends_all g r t s past ≡ 0
+pub none-ended : (g : Group) (r t s : ℕ) (past : Past) → entries_in past ≤ r → ends_all g r t s past ≡ 0
 unfolding ends_all is_open
 none-ended g r t s [] h = refl
 none-ended g r t s (e ∷ past) h = rw (shut) (by_case (frees s (sem_act e)) (none-ended g r t s past (omega (arith, h, entries-grow e past))))
@@ -43,7 +43,7 @@ pub record IsCounted (g : Group) (r t s : ℕ) (past : Past) : Type 0 where
   pub still : is_open g r t s past ≡ true → ends_all g r t s past + ahead t (fmlp g s past) ≤ length (users g s) - 1
 
 -- one more event, by whether it frees the semaphore and whether the request is open
-ends_all-cases : (g : Group) (r t s : ℕ) (e : Event) (past : Past) → ((frees s (sem_act e) ≡ true) × (is_open g r t s past ≡ true) × (ends_all g r t s (e ∷ past) ≡ ends_all g r t s past + 1)) ⊎ ((frees s (sem_act e) ≡ false) ⊎ (is_open g r t s past ≡ false)) × (ends_all g r t s (e ∷ past) ≡ ends_all g r t s past)
+pub ends_all-cases : (g : Group) (r t s : ℕ) (e : Event) (past : Past) → ((frees s (sem_act e) ≡ true) × (is_open g r t s past ≡ true) × (ends_all g r t s (e ∷ past) ≡ ends_all g r t s past + 1)) ⊎ ((frees s (sem_act e) ≡ false) ⊎ (is_open g r t s past ≡ false)) × (ends_all g r t s (e ∷ past) ≡ ends_all g r t s past)
 unfolding ends_all
 ends_all-cases g r t s e past = by_cases (frees s (sem_act e)) (is_open g r t s past)
   where

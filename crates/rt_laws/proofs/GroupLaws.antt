@@ -3,7 +3,7 @@ use Rattle.std.proofs.Common.{List, [], eqb-true, length, refl, true, ℕ, ◌�
 use Rattle.std.specs.Prelude.{None, Option, Some, option_map, unwrap_or, ◌==◌}
 use Rattle.rt_task.specs.RuleWords.{is_of_one_cluster}
 use Rattle.rt_task.specs.declared.PluginKind.{PluginKind}
-use Rattle.rt_task.specs.declared.Protocol.TheVariants.{Fmlp, Mpcp, Omlp, Pcp}
+use Rattle.rt_task.specs.declared.Protocol.TheVariants.{Fmlp, Mpcp, Omlp, Pcp, Srp}
 use Rattle.rt_task.specs.declared.Protocol.{Protocol}
 use Rattle.rt_rules.specs.Distinct.{IsDistinct}
 use Rattle.rt_rules.specs.Numbers.{first, has}
@@ -74,3 +74,4 @@ pcp-shares p Pcp h = refl
 pcp-shares p Fmlp h = cc
 pcp-shares p Omlp h = cc
 pcp-shares p Mpcp h = cc
+pcp-shares p Srp h = cc

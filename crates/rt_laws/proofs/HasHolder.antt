@@ -1,7 +1,7 @@
 -- A semaphore that a task waits for has a holder: FMLP, OMLP, MPCP.
 use Rattle.std.proofs.Common.{List, [], arith, false, inl, inr, length, refl, true, ℕ, ◌∷◌, ◌≡◌, ◌≤◌, ◌⊎◌}
 use Rattle.std.specs.Prelude.{is_none}
-use Rattle.rt_task.specs.declared.Protocol.TheVariants.{Fmlp, Mpcp, Omlp, Pcp}
+use Rattle.rt_task.specs.declared.Protocol.TheVariants.{Fmlp, Mpcp, Omlp, Pcp, Srp}
 use Rattle.rt_task.specs.declared.Protocol.{Protocol}
 use Rattle.rt_rules.specs.Numbers.{first, has, rest}
 use Rattle.rt_model.specs.Ceilings.{is_pcp}
@@ -17,6 +17,7 @@ use Rattle.rt_laws.proofs.GroupLaws.{has_room}
 use Rattle.rt_laws.proofs.MpcpState.{mpcp-holder, mpcp-is, mpcp_busy}
 use Rattle.rt_laws.proofs.OmlpState.{omlp-sem_state, queued}
 use Rattle.rt_laws.proofs.Rules.{MeetsRules}
+use Rattle.rt_laws.proofs.Waiting.{srp-waiting}
 
 first-there : (xs : List ℕ) → 1 ≤ length xs → is_none (first xs) ≡ false
 first-there [] h = absurd (omega arith)
@@ -44,4 +45,5 @@ has_holder g rules {past} made t s there n w = by_protocol (protocol g s) refl
     by_protocol Fmlp e = rw (fmlp-sem_state g s past e).1 (rest-there t (fmlp g s past) (rw (fmlp-sem_state g s past e).0 at w))
     by_protocol Omlp e = of_omlp e
     by_protocol Mpcp e = rw (mpcp-holder g s past e) (mpcp_busy g s (rw e at (rules.is_allowed s there)) past t (rw (mpcp-is g s past e) at w))
+    by_protocol Srp e = let m : has t [] ≡ true = rw (srp-waiting g s past e) at w in cc
     by_protocol Pcp e = let m : true ≡ false = rw e at n in cc

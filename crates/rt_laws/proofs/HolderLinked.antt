@@ -4,7 +4,7 @@ use Rattle.std.specs.Prelude.{None, Option, Some, filter, is_none, ◌==◌}
 use Rattle.rt_task.specs.RuleWords.{is_of_one_cluster, stands_under}
 use Rattle.rt_task.specs.declared.PluginKind.TheVariants as plugins
 use Rattle.rt_task.specs.declared.PluginKind.{PluginKind}
-use Rattle.rt_task.specs.declared.Protocol.TheVariants.{Fmlp, Mpcp, Omlp, Pcp}
+use Rattle.rt_task.specs.declared.Protocol.TheVariants.{Fmlp, Mpcp, Omlp, Pcp, Srp}
 use Rattle.rt_task.specs.declared.Protocol.{Protocol}
 use Rattle.rt_order.specs.KeyOrder.{higher}
 use Rattle.rt_order.specs.declared.Key.{Key}
@@ -22,7 +22,7 @@ use Rattle.rt_model.specs.Reachable.{IsReachable}
 use Rattle.rt_model.specs.Past.{Past}
 use Rattle.rt_model.specs.Releases.{exists, ready}
 use Rattle.rt_model.specs.Sleep.{sleeps}
-use Rattle.rt_model.specs.Tops.{eligible, is_served, ranking, top}
+use Rattle.rt_model.specs.Tops.{eligible, is_admitted, is_served, ranking, top}
 use Rattle.rt_rules.proofs.BoolLaws.{both, clash, either, unless}
 use Rattle.rt_rules.proofs.DistinctLaws.{distinct-map}
 use Rattle.rt_rules.proofs.KeyLaws.{higher-mixed, higher-total, highest-of, highest-owner}
@@ -65,6 +65,12 @@ global-served g t past plugins.GsnEdf h = refl
 global-served g t past plugins.CEdf h = refl
 global-served g t past p h = cc
 
+global-admitted : (g : Group) (t : ℕ) (past : Past) (p : PluginKind) → is_global p ≡ true → is_admitted g p t past ≡ true
+unfolding is_admitted
+global-admitted g t past plugins.GsnEdf h = refl
+global-admitted g t past plugins.CEdf h = refl
+global-admitted g t past p h = cc
+
 global-boosts : (g : Group) (p : PluginKind) → is_global p ≡ true → boosts_fmlp p ≡ false
 global-boosts g plugins.GsnEdf h = refl
 global-boosts g plugins.CEdf h = refl
@@ -80,6 +86,7 @@ unfolding boost_by
 global-unboosted g Fmlp s t past h k = rw (global-boosts g g.setup.plugin h)
 global-unboosted g Omlp s t past h k = refl
 global-unboosted g Pcp s t past h k = refl
+global-unboosted g Srp s t past h k = refl
 global-unboosted g Mpcp s t past h k = absurd (clash _ k (no_mpcp g.setup.plugin h))
 
 module _ (g : Group) (rules : MeetsRules g) (past : Past) (made : IsReachable g past) (global : is_global g.setup.plugin ≡ true) where
@@ -102,6 +109,7 @@ module _ (g : Group) (rules : MeetsRules g) (past : Past) (made : IsReachable g 
       by_protocol Omlp k = refl
       by_protocol Mpcp k = refl
       by_protocol Pcp k = cc
+      by_protocol Srp k = refl
 
   next-none : (t : ℕ) → awaits g t past ≡ None → waits_for g t past ≡ None
   unfolding waits_for next_at
@@ -174,12 +182,12 @@ module _ (g : Group) (rules : MeetsRules g) (past : Past) (made : IsReachable g 
   eligible-facts : (x : ℕ) → eligible g x past ≡ true → (exists g x past ≡ true) × (awaits g x past ≡ None)
   unfolding eligible ready
   eligible-facts x h =
-      let a = both (exists g x past && not (sleeps x past)) (is_none (awaits g x past) && is_served g g.setup.plugin x past) h in
-      ((both (exists g x past) (not (sleeps x past)) a.0).0, none-is (awaits g x past) (both (is_none (awaits g x past)) (is_served g g.setup.plugin x past) a.1).0)
+      let a = both (exists g x past && not (sleeps x past)) (is_none (awaits g x past) && (is_served g g.setup.plugin x past && is_admitted g g.setup.plugin x past)) h in
+      ((both (exists g x past) (not (sleeps x past)) a.0).0, none-is (awaits g x past) (both (is_none (awaits g x past)) (is_served g g.setup.plugin x past && is_admitted g g.setup.plugin x past) a.1).0)
 
   is-eligible : (x : ℕ) → exists g x past ≡ true → sleeps x past ≡ false → awaits g x past ≡ None → eligible g x past ≡ true
   unfolding eligible ready
-  is-eligible x a b w = rw (a, b, w, global-served g x past g.setup.plugin global)
+  is-eligible x a b w = rw (a, b, w, global-served g x past g.setup.plugin global, global-admitted g x past g.setup.plugin global)
 
   -- a follower is of the cluster of the one that it follows
   follower-home : (y x : ℕ) → IsFollower y x → home g y ≡ home g x

@@ -6,7 +6,7 @@ use Rattle.rt_task.specs.declared.Act.TheVariants as acts
 use Rattle.rt_task.specs.declared.Act.{Act}
 use Rattle.rt_task.specs.declared.Op.TheVariants as ops
 use Rattle.rt_task.specs.declared.Op.{Op}
-use Rattle.rt_task.specs.declared.Protocol.TheVariants.{Fmlp, Mpcp, Omlp, Pcp}
+use Rattle.rt_task.specs.declared.Protocol.TheVariants.{Fmlp, Mpcp, Omlp, Pcp, Srp}
 use Rattle.rt_task.specs.declared.Protocol.{Protocol}
 use Rattle.rt_history.specs.declared.Reply.TheVariants as replies
 use Rattle.rt_rules.specs.Fmlp.{fmlp_after}
@@ -31,12 +31,13 @@ use Rattle.rt_rules.proofs.BoolLaws.{clash}
 use Rattle.rt_rules.proofs.MemberLaws.{equal_self, is-some, none-empty}
 use Rattle.rt_model.proofs.Steps.{used-step}
 use Rattle.rt_laws.proofs.Asked.{Freed, freed}
-use Rattle.rt_laws.proofs.Engaged.{engaged, engaged-cases, engaged-step, holder-stays}
+use Rattle.rt_laws.proofs.Endings.{IsSpent, end-holds_nothing, ended-how, holder-sem_act, same_request, spent-facts}
+use Rattle.rt_laws.proofs.Engaged.{IsKept, engaged, engaged-cases, engaged-step, holder-stays}
 use Rattle.rt_laws.proofs.Holding.{holds-none, one-holds}
 use Rattle.rt_laws.proofs.Moves.{IsMove, by_moves, clock_moves, cpu_acts, moved}
-use Rattle.rt_laws.proofs.PcpState.{IsPcpKept, pcp_kept}
 use Rattle.rt_laws.proofs.Requests.{IsAsk, IsUnlock, asks, unlock-of}
 use Rattle.rt_laws.proofs.Rules.{MeetsRules}
+use Rattle.rt_laws.proofs.SrpState.{kept}
 use Rattle.rt_laws.proofs.Running.{IsRunning, ended-runs, running}
 use Rattle.rt_laws.proofs.Waiting.{waiting-step}
 
@@ -57,7 +58,7 @@ frees-did t s (Acted d) h k = by_case (accepted d.reply) h k
 -- ---- what a task holds
 
 -- who frees nothing and holds nothing after a move held nothing before it
-held-nothing : (g : Group) → (t : ℕ) (e : Event) (past : Past) → Freed g e past → ((c : ℕ) → IsPcpKept g c (pcp g c (e ∷ past))) → ((s : ℕ) → sem_act e ≡ Frees t s → ⊥) → is_empty (holds g t (e ∷ past)) ≡ true → is_empty (holds g t past) ≡ true
+held-nothing : (g : Group) → (t : ℕ) (e : Event) (past : Past) → Freed g e past → ((c : ℕ) → IsKept g c (e ∷ past)) → ((s : ℕ) → sem_act e ≡ Frees t s → ⊥) → is_empty (holds g t (e ∷ past)) ≡ true → is_empty (holds g t past) ≡ true
 held-nothing g t e past frees kept quiet h = none-empty (holds g t past) (λ s k. held s (one-holds g t s past k))
   where
     held : (s : ℕ) → (has s (sems g) ≡ true) × (is t (holder g s past) ≡ true) → ⊥
@@ -67,45 +68,7 @@ held-nothing g t e past frees kept quiet h = none-empty (holds g t past) (λ s k
         split (inl m) = clash _ m (holds-none g t s (e ∷ past) h k.0)
         split (inr m) = quiet s m
 
--- the state of a semaphore depends on the request of an event alone
-sem_state-sem_act : (g : Group) (s : ℕ) (e f : Event) (past : Past) → sem_act e ≡ sem_act f → sem_state g s (e ∷ past) ≡ sem_state g s (f ∷ past)
-unfolding sem_state sem_state_by fmlp omlp mpcp pcp
-sem_state-sem_act g s e f past h = by_protocol (protocol g s)
-  where
-    by_protocol : (p : Protocol) → sem_state_by g p s (e ∷ past) ≡ sem_state_by g p s (f ∷ past)
-    by_protocol Fmlp = ap (λ x. in_line (fmlp_after (at_sem s x) (fmlp g s past))) h
-    by_protocol Omlp = ap (λ x. omlp_sem_state (omlp_after (cpus g (cluster_of g s)) (above g past) (at_sem s x) (omlp g s past))) h
-    by_protocol Mpcp = ap (λ x. mpcp_after (above g past) (at_sem s x) (mpcp g s past)) h
-    by_protocol Pcp = ap (λ x. pcp_sem_state s (pcp_after (above g []) (above_ceiling g) (at_cluster g (cluster_of g s) x) (pcp g (cluster_of g s) past))) h
-
-holder-sem_act : (g : Group) (s : ℕ) (e f : Event) (past : Past) → sem_act e ≡ sem_act f → holder g s (e ∷ past) ≡ holder g s (f ∷ past)
-unfolding holder
-holder-sem_act g s e f past h = ap (λ (x : SemState). x.holder) (sem_state-sem_act g s e f past h)
-
 -- ---- how a job ends
-
-ended-how : (g : Group) (q t : ℕ) (act : Act) (past : Past) → is t (past_act g q act past).ended ≡ true → (accepted (answer g q act past) ≡ true) × ((act ≡ acts.Do ops.End) ⊎ (is_spent g t (Acted (attempt g q act past) ∷ past) ≡ true))
-unfolding past_act ended ended_by
-ended-how g q t act past h = by_case (accepted (answer g q act past)) h
-  where
-    by_force : (u : ℕ) (b : Bool) → is_spent g u (Acted (attempt g q act past) ∷ past) ≡ b → is t (if b then Some u else None) ≡ true → is_spent g t (Acted (attempt g q act past) ∷ past) ≡ true
-    by_force u true e k = rw (eqb-true t u k) e
-    by_force u false e k = cc
-
-    by_op : (op : Op) (o : Option ℕ) → is t (ended_by g (acts.Do op) o (attempt g q act past) past) ≡ true → (acts.Do op ≡ acts.Do ops.End) ⊎ (is_spent g t (Acted (attempt g q act past) ∷ past) ≡ true)
-    by_op ops.End o k = inl refl
-    by_op op None k = cc
-    by_op op (Some u) k = inr (by_force u _ refl k)
-
-    by_act : (a : Act) → is t (ended_by g a (runs q past) (attempt g q act past) past) ≡ true → (a ≡ acts.Do ops.End) ⊎ (is_spent g t (Acted (attempt g q act past) ∷ past) ≡ true)
-    by_act acts.Tick k = cc
-    by_act acts.Irq k = cc
-    by_act (acts.Arrive u) k = cc
-    by_act (acts.Do op) k = by_op op (runs q past) k
-
-    by_case : (b : Bool) → is t (if b then ended_by g act (runs q past) (attempt g q act past) past else None) ≡ true → (b ≡ true) × ((act ≡ acts.Do ops.End) ⊎ (is_spent g t (Acted (attempt g q act past) ∷ past) ≡ true))
-    by_case true k = (refl, by_act act k)
-    by_case false k = cc
 
 -- an operation that ends no job leaves its task unspent
 own-unspent : (g : Group) (q t : ℕ) (act : Act) (op : Op) (past : Past) → did t (Acted (past_act g q act past)) ≡ Some op → ends_job t (Acted (past_act g q act past)) ≡ false → is_spent g t (Acted (past_act g q act past) ∷ past) ≡ false
@@ -141,13 +104,6 @@ own-unspent g q t act op past h k = by_case (accepted (answer g q act past)) ref
 abbrev IsUnspent : Group → Past → Type 0
 IsUnspent g past = (t : ℕ) → has t (tasks g) ≡ true → (task g t).enforce ≡ true → is_empty (holds g t past) ≡ true → non_preemptive t past ≡ false → used t past < (task g t).cost
 
-spent-parts : (enforce le empty np : Bool) → enforce && (le && (empty && not np)) ≡ true → (enforce ≡ true) × (le ≡ true) × (empty ≡ true) × (np ≡ false)
-spent-parts true true true false h = (refl, refl, refl, refl)
-spent-parts true true true true h = cc
-spent-parts true true false np h = cc
-spent-parts true false empty np h = cc
-spent-parts false le empty np h = cc
-
 unspent-parts : (enforce le empty np : Bool) → enforce && (le && (empty && not np)) ≡ false → enforce ≡ true → empty ≡ true → np ≡ false → le ≡ false
 unspent-parts enforce le empty np h a b c = by_case le (rw (a, b, c) at h)
   where
@@ -155,7 +111,7 @@ unspent-parts enforce le empty np h a b c = by_case le (rw (a, b, c) at h)
     by_case true k = k
     by_case false k = refl
 
-unspent-step : (g : Group) → MeetsRules g → (e : Event) (past : Past) → Freed g e past → ((c : ℕ) → IsPcpKept g c (pcp g c (e ∷ past))) → ((t : ℕ) (op : Op) → did t e ≡ Some op → ends_job t e ≡ false → is_spent g t (e ∷ past) ≡ false) → IsUnspent g past → IsUnspent g (e ∷ past)
+unspent-step : (g : Group) → MeetsRules g → (e : Event) (past : Past) → Freed g e past → ((c : ℕ) → IsKept g c (e ∷ past)) → ((t : ℕ) (op : Op) → did t e ≡ Some op → ends_job t e ≡ false → is_spent g t (e ∷ past) ≡ false) → IsUnspent g past → IsUnspent g (e ∷ past)
 unfolding non_preemptive is_spent
 unspent-step g rules e past frees kept own before t there en empty np = by_case (ends_job t e) refl (did t e) refl (used-step t e past) np
   where
@@ -171,31 +127,9 @@ unspent-move g {past} (cpu_acts q a) t op d k = own-unspent g q t a op past d k
 -- so it is after every move
 unspent : (g : Group) → MeetsRules g → {past : Past} → IsReachable g past → IsUnspent g past
 unfolding used this_job
-unspent g rules made = by_moves g (IsUnspent g) (λ t there en empty np. let cost : 1 ≤ (task g t).cost = rules.has_cost t there in cost) (λ past e made move before. unspent-step g rules e past (freed g move) (λ c. pcp_kept g rules c (moved g made move)) (unspent-move g move) before) made
+unspent g rules made = by_moves g (IsUnspent g) (λ t there en empty np. let cost : 1 ≤ (task g t).cost = rules.has_cost t there in cost) (λ past e made move before. unspent-step g rules e past (freed g move) (λ c. kept g rules c (moved g made move)) (unspent-move g move) before) made
 
 -- ---- a job that ends holds nothing and waits for nothing
-
-end-holds_nothing : (g : Group) (q t : ℕ) (past : Past) → runs q past ≡ Some t → accepted (answer g q (acts.Do ops.End) past) ≡ true → is_empty (holds g t past) ≡ true
-unfolding answer do_answer op_answer unless_holding
-end-holds_nothing g q t past r a = by_cases (non_preemptive t past) (is_empty (holds g t past)) (rw r at a)
-  where
-    by_cases : (np b : Bool) → accepted (if np then replies.InNp else (if b then replies.Done else replies.Holding)) ≡ true → b ≡ true
-    by_cases true b k = cc
-    by_cases false true k = refl
-    by_cases false false k = cc
-
--- a job that is ended by force
-pub record IsSpent (g : Group) (t : ℕ) (past : Past) : Type 0 where
-  pub enforced : (task g t).enforce ≡ true
-  pub used_up : (task g t).cost ≤ used t past
-  pub empty : is_empty (holds g t past) ≡ true
-  pub preemptive : non_preemptive t past ≡ false
-
-spent-facts : (g : Group) (t : ℕ) (past : Past) → is_spent g t past ≡ true → IsSpent g t past
-unfolding is_spent
-spent-facts g t past h =
-    let q = spent-parts (task g t).enforce (nat_le (task g t).cost (used t past)) (is_empty (holds g t past)) (non_preemptive t past) h in
-    record { enforced = q.0; used_up = leb-true (task g t).cost (used t past) q.1; empty = q.2; preemptive = q.3 }
 
 lock_works_not : (t : ℕ) (d : PastAct) (n : SemNo) → d.act ≡ acts.Do (ops.Lock n) → is_work (did t (Acted d)) ≡ false
 lock_works_not t d n h = rw h (by_case (is t d.task && accepted d.reply))
@@ -207,10 +141,6 @@ lock_works_not t d n h = rw h (by_case (is t d.task && accepted d.reply))
 used-lock : (g : Group) (q t : ℕ) (act : Act) (past : Past) (n : SemNo) → act ≡ acts.Do (ops.Lock n) → used t (Acted (attempt g q act past) ∷ past) ≡ used t past
 unfolding attempt
 used-lock g q t act past n h = used-step t (Acted (attempt g q act past)) past ∙ rw (lock_works_not t (attempt g q act past) n h)
-
-same_request : (g : Group) (q : ℕ) (act : Act) (past : Past) → sem_act (Acted (past_act g q act past)) ≡ sem_act (Acted (attempt g q act past))
-unfolding past_act attempt
-same_request g q act past = refl
 
 -- whose job ends in an event is engaged nowhere after it
 pub ended-free : (g : Group) → MeetsRules g → {past : Past} → IsReachable g past → (q t s : ℕ) (act : Act) → has s (sems g) ≡ true → is t (past_act g q act past).ended ≡ true → engaged g t s (Acted (past_act g q act past) ∷ past) ≡ true → ⊥
@@ -230,7 +160,7 @@ ended-free g rules {past} made q t s act there h engaged_after = by_how how.1
 
     at_end : act ≡ acts.Do ops.End → (engaged g t s past ≡ true) ⊎ (sem_act e ≡ Asks t s) → ⊥
     at_end k (inr m) = let a : IsAsk g q act past t s = asks g q act past t s m in let b : act ≡ acts.Do (ops.Lock a.number) = a.is_lock in cc
-    at_end k (inl m) = split (engaged-cases g t s past (pcp_kept g rules (cluster_of g s) made) m)
+    at_end k (inl m) = split (engaged-cases g t s past (kept g rules (cluster_of g s) made) m)
       where
         empty : is_empty (holds g t past) ≡ true
         empty = end-holds_nothing g q t past r (rw k at how.0)
@@ -251,11 +181,11 @@ ended-free g rules {past} made q t s act there h engaged_after = by_how how.1
         split (inr m) =
             let a : IsAsk g q act past t s = asks g q act past t s m.0 in
             let asks_it : sem_act e ≡ Asks t s = m.0 in
-            let empty : is_empty (holds g t past) ≡ true = held-nothing g t e past (freed g {past = past} (cpu_acts q act)) (λ c. pcp_kept g rules c (acted q act made)) (λ o k. cc) empty_after in
+            let empty : is_empty (holds g t past) ≡ true = held-nothing g t e past (freed g {past = past} (cpu_acts q act)) (λ c. kept g rules c (acted q act made)) (λ o k. cc) empty_after in
             let less : used t past < (task g t).cost = unspent g rules made t run.member spent.enforced empty a.preemptive in
             let same : used t (Acted (attempt g q act past) ∷ past) ≡ used t past = used-lock g q t act past a.number a.is_lock in
             absurd (omega (arith, less, same, spent.used_up))
 
     by_how : (act ≡ acts.Do ops.End) ⊎ (is_spent g t (Acted (attempt g q act past) ∷ past) ≡ true) → ⊥
     by_how (inl k) = at_end k (engaged-step g t s e past engaged_after)
-    by_how (inr k) = by_force (spent-facts g t _ k) (engaged-cases g t s (e ∷ past) (pcp_kept g rules (cluster_of g s) (acted q act made)) engaged_after)
+    by_how (inr k) = by_force (spent-facts g t _ k) (engaged-cases g t s (e ∷ past) (kept g rules (cluster_of g s) (acted q act made)) engaged_after)

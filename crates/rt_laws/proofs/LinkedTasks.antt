@@ -44,6 +44,7 @@ pub record IsLinked (g : Group) (q t : ℕ) (past : Past) : Type 0 where
   pub placed : has q (processors g (home g t)) ≡ true
   pub member : has t (tasks g) ≡ true
   pub was_eligible : eligible g t past ≡ true
+  pub of_top : has t (top g (home g t) past) ≡ true
 
 -- a task that is linked to a processor is of its cluster and was eligible
 pub linked-eligible : (g : Group) {past : Past} → IsReachable g past → (q t : ℕ) → is t (linked g q past) ≡ true → IsLinked g q t past
@@ -62,4 +63,5 @@ linked-eligible g {past} made q t h =
       placed = rw at.1 (numbers_from-has (first_in g.setup.clusters c) (cpus g c) q low (omega arith));
       member = at.0;
       was_eligible = facts.1;
+      of_top = rw at.1 among;
     }

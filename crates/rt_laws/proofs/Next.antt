@@ -21,49 +21,15 @@ use Rattle.rt_model.specs.Sleep.{sleep_end}
 use Rattle.rt_rules.proofs.BoolLaws.{clash, unless}
 use Rattle.rt_rules.proofs.MemberLaws.{is-some}
 use Rattle.rt_laws.proofs.Asked.{Asked, Freed, asked, freed}
+use Rattle.rt_laws.proofs.Endings.{sleep-holds_nothing, sleep-is}
 use Rattle.rt_laws.proofs.Engaged.{engaged, engaged-cases, engaged-step}
 use Rattle.rt_laws.proofs.Holding.{holds-none}
 use Rattle.rt_laws.proofs.JobEnds.{ended-free}
 use Rattle.rt_laws.proofs.Moves.{IsMove, clock_moves, cpu_acts}
-use Rattle.rt_laws.proofs.PcpState.{pcp_kept}
+use Rattle.rt_laws.proofs.SrpState.{kept}
 use Rattle.rt_laws.proofs.Requests.{asks}
 use Rattle.rt_laws.proofs.Rules.{MeetsRules}
 use Rattle.rt_laws.proofs.Running.{running}
-
--- an accepted Sleep comes from a task that holds nothing
-sleep-holds_nothing : (g : Group) (q t n : ℕ) (past : Past) → runs q past ≡ Some t → accepted (answer g q (acts.Do (ops.Sleep n)) past) ≡ true → is_empty (holds g t past) ≡ true
-unfolding answer do_answer op_answer unless_holding
-sleep-holds_nothing g q t n past r a = by_cases (non_preemptive t past) (is_empty (holds g t past)) (rw r at a)
-  where
-    by_cases : (np b : Bool) → accepted (if np then replies.InNp else (if b then replies.Done else replies.Holding)) ≡ true → b ≡ true
-    by_cases true b k = cc
-    by_cases false true k = refl
-    by_cases false false k = cc
-
--- an act that takes a task's sleep further is an accepted Sleep of that task
-sleep-is : (g : Group) (q t clock : ℕ) (act : Act) (past : Past) → (sleep_end clock (did t (Acted (past_act g q act past))) ≡ 0) ⊎ ((n : ℕ) × (act ≡ acts.Do (ops.Sleep n)) × (accepted (answer g q act past) ≡ true) × (runs q past ≡ Some t))
-unfolding past_act
-sleep-is g q t clock act past = by_case (is t (runs q past)) refl (accepted (answer g q act past))
-  where
-    by_op : (op : Op) → runs q past ≡ Some t → (sleep_end clock (Some op) ≡ 0) ⊎ ((n : ℕ) × (acts.Do op ≡ acts.Do (ops.Sleep n)) × (true ≡ true) × (runs q past ≡ Some t))
-    by_op ops.Work r = inl refl
-    by_op (ops.Lock n) r = inl refl
-    by_op (ops.Unlock n) r = inl refl
-    by_op (ops.Sleep n) r = inr (n, refl, refl, r)
-    by_op ops.NpOn r = inl refl
-    by_op ops.NpOff r = inl refl
-    by_op ops.End r = inl refl
-
-    by_act : (a : Act) → runs q past ≡ Some t → (sleep_end clock (operation a) ≡ 0) ⊎ ((n : ℕ) × (a ≡ acts.Do (ops.Sleep n)) × (true ≡ true) × (runs q past ≡ Some t))
-    by_act acts.Tick r = inl refl
-    by_act acts.Irq r = inl refl
-    by_act (acts.Arrive u) r = inl refl
-    by_act (acts.Do op) r = by_op op r
-
-    by_case : (b : Bool) → is t (runs q past) ≡ b → (c : Bool) → (sleep_end clock (if b && c then operation act else None) ≡ 0) ⊎ ((n : ℕ) × (act ≡ acts.Do (ops.Sleep n)) × (c ≡ true) × (runs q past ≡ Some t))
-    by_case true e true = by_act act (is-some t (runs q past) e)
-    by_case true e false = inl refl
-    by_case false e c = inl refl
 
 -- a task that holds or waits after an event does not fall asleep in it
 awake-act : (g : Group) → MeetsRules g → {past : Past} → IsReachable g past → (q t s : ℕ) (act : Act) → has s (sems g) ≡ true → engaged g t s (Acted (past_act g q act past) ∷ past) ≡ true → sleep_end (now past) (did t (Acted (past_act g q act past))) ≡ 0
@@ -71,7 +37,7 @@ awake-act g rules {past} made q t s act there h = split (sleep-is g q t (now pas
   where
     asleep : (n : ℕ) → act ≡ acts.Do (ops.Sleep n) → accepted (answer g q act past) ≡ true → runs q past ≡ Some t → (engaged g t s past ≡ true) ⊎ (sem_act (Acted (past_act g q act past)) ≡ Asks t s) → ⊥
     asleep n k a r (inr m) = let b : act ≡ acts.Do (ops.Lock (asks g q act past t s m).number) = (asks g q act past t s m).is_lock in cc
-    asleep n k a r (inl m) = further (engaged-cases g t s past (pcp_kept g rules (cluster_of g s) made) m)
+    asleep n k a r (inl m) = further (engaged-cases g t s past (kept g rules (cluster_of g s) made) m)
       where
         further : (is t (holder g s past) ≡ true) ⊎ (has t (sem_state g s past).waiting ≡ true) → ⊥
         further (inl o) = clash _ o (holds-none g t s past (sleep-holds_nothing g q t n past r (rw k at a)) there)

@@ -38,7 +38,7 @@ use Rattle.rt_laws.proofs.OpenRequests.{entries-grow, newest-below, open-before,
 use Rattle.rt_laws.proofs.Rules.{MeetsRules}
 
 -- nothing ended before the request was asked
-ends-none : (g : Group) (r t s : ℕ) (past : Past) → entries_in past ≤ r → ends g r t s past ≡ 0
+pub ends-none : (g : Group) (r t s : ℕ) (past : Past) → entries_in past ≤ r → ends g r t s past ≡ 0
 unfolding ends is_open
 ends-none g r t s [] h = refl
 ends-none g r t s (e ∷ past) h = rw (shut) (by_case (frees s (sem_act e)) (ends-none g r t s past (omega (arith, h, entries-grow e past))))
@@ -94,7 +94,7 @@ pub record HasTail (g : Group) (t : ℕ) (past : Past) (fifo : List ℕ) (n : �
   pub long : n ≤ length back
 
 -- what an event does at a semaphore
-at-cases : (s : ℕ) (x : SemAct) → (at_sem s x ≡ Neither) ⊎ (((u : ℕ) × (x ≡ Asks u s)) ⊎ ((u : ℕ) × (x ≡ Frees u s)))
+pub at-cases : (s : ℕ) (x : SemAct) → (at_sem s x ≡ Neither) ⊎ (((u : ℕ) × (x ≡ Asks u s)) ⊎ ((u : ℕ) × (x ≡ Frees u s)))
 at-cases s (Asks u r) = by_case (s == r) refl
   where
     by_case : (b : Bool) → s == r ≡ b → ((if b then Asks u r else Neither) ≡ Neither) ⊎ (((v : ℕ) × (Asks u r ≡ Asks v s)) ⊎ ((v : ℕ) × (Asks u r ≡ Frees v s)))
@@ -107,7 +107,7 @@ at-cases s (Frees u r) = by_case (s == r) refl
     by_case false e = inl refl
 at-cases s Neither = inl refl
 
-omlp-next : (g : Group) (s : ℕ) (e : Event) (past : Past) → omlp g s (e ∷ past) ≡ omlp_after (cpus g (cluster_of g s)) (above g past) (at_sem s (sem_act e)) (omlp g s past)
+pub omlp-next : (g : Group) (s : ℕ) (e : Event) (past : Past) → omlp g s (e ∷ past) ≡ omlp_after (cpus g (cluster_of g s)) (above g past) (at_sem s (sem_act e)) (omlp g s past)
 unfolding omlp
 omlp-next g s e past = refl
 
@@ -131,7 +131,7 @@ module _ (g : Group) (rules : MeetsRules g) (r t s : ℕ) (p : protocol g s ≡ 
   engaged-fifo u past h = engaged-omlp g u s past p ∙ rw (has-append, h)
 
   -- one that is open waits in one of the two lists
-  waits-where : (past : Past) → is_open g r t s past ≡ true → (has t (rest (omlp g s past).fifo) ≡ true) ⊎ (has t (omlp g s past).queue ≡ true)
+  pub waits-where : (past : Past) → is_open g r t s past ≡ true → (has t (rest (omlp g s past).fifo) ≡ true) ⊎ (has t (omlp g s past).queue ≡ true)
   waits-where past o = has-appended t (rest (omlp g s past).fifo) (omlp g s past).queue (rw (omlp-sem_state g s past p).0 at (open-waits g r t s past o).1)
 
   -- while the task is blocked in the priority queue, not all members are above it
@@ -178,7 +178,7 @@ module _ (g : Group) (rules : MeetsRules g) (r t s : ℕ) (p : protocol g s ≡ 
       split (inl c) = inr (front_there past active q h _ tail c.2, c.3)
       split (inr c) = inl c
 
-  queue_bound : (e : Event) (past : Past) → AllActive g past → IsQueued (cpus g (cluster_of g s)) (omlp g s past) → has t (omlp g s past).queue ≡ true → HasTail g t past (omlp g s past).fifo (ends g r t s past) → ends g r t s (e ∷ past) ≤ cpus g (cluster_of g s)
+  pub queue_bound : (e : Event) (past : Past) → AllActive g past → IsQueued (cpus g (cluster_of g s)) (omlp g s past) → has t (omlp g s past).queue ≡ true → HasTail g t past (omlp g s past).fifo (ends g r t s past) → ends g r t s (e ∷ past) ≤ cpus g (cluster_of g s)
   queue_bound e past active q h tail = split (room_left e past active q h tail)
     where
       size : length (omlp g s past).fifo ≡ length tail.front + length tail.back

@@ -8,7 +8,7 @@ use Rattle.rt_model.specs.Blocking.{asks, frees, is_open, newest_request}
 use Rattle.rt_model.specs.Group.{Group, protocol, sems}
 use Rattle.rt_model.specs.Holders.{awaits, sem_state}
 use Rattle.rt_model.specs.Past.{Acted, Clock, Event, Past, entries_in, is_act, sem_act}
-use Rattle.rt_rules.proofs.BoolLaws.{both, clash}
+use Rattle.rt_rules.proofs.BoolLaws.{both, clash, unless}
 use Rattle.rt_rules.proofs.MemberLaws.{equal_self, is-some}
 use Rattle.rt_laws.proofs.Next.{IsNext, next}
 use Rattle.rt_laws.proofs.OneWait.{WaitsOnce, awaits-is}
@@ -23,7 +23,7 @@ entries-grow e past = by_case (is_act e)
     by_case true = omega arith
     by_case false = omega arith
 
-asks-acts : (t : ℕ) (e : Event) → asks t (sem_act e) ≡ true → is_act e ≡ true
+pub asks-acts : (t : ℕ) (e : Event) → asks t (sem_act e) ≡ true → is_act e ≡ true
 asks-acts t (Clock tick) h = cc
 asks-acts t (Acted d) h = refl
 
@@ -73,3 +73,14 @@ open-before g rules r t s e past once next h = split (waiting-step g rules t s e
     split (inl w) false a k = inl (rw (awaits-is g t s past once waits.0 w, equal_self s) k)
     split (inr w) true a k = inr (w.0, eqb-true r (entries_in past) k)
     split (inr w) false a k = let m : asks t (Asks t s) ≡ false = rw w.0 at a in absurd (clash _ (equal_self t) m)
+
+-- who waits on after a move keeps its open request
+pub waits-open : (g : Group) (r t s : ℕ) (e : Event) (past : Past) → WaitsOnce g (e ∷ past) → IsNext g e past → is_open g r t s past ≡ true → has t (sem_state g s (e ∷ past)).waiting ≡ true → is_open g r t s (e ∷ past) ≡ true
+unfolding is_open newest_request
+waits-open g r t s e past once next o h = rw (awaits-is g t s (e ∷ past) once w.0 h, equal_self s, quiet) (both (is s (awaits g t past)) (is r (newest_request t past)) o).1
+  where
+    w : (has s (sems g) ≡ true) × (has t (sem_state g s past).waiting ≡ true)
+    w = open-waits g r t s past o
+
+    quiet : asks t (sem_act e) ≡ false
+    quiet = unless _ (λ a. let q = asks-is t (sem_act e) a in clash _ w.1 ((next.asked t q.0 q.1).waits_none s w.0))

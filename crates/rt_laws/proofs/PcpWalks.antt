@@ -1,7 +1,7 @@
 -- Every waiting PCP task of a cluster has the same blocker, the owner of the newest grant, and that one does not wait: each walk is one step long.
 use Rattle.std.proofs.Common.{Bool, List, [], ap, false, refl, subst, suc, sym, true, zero, ℕ, ◌∙◌, ◌∷◌, ◌≡◌}
 use Rattle.std.specs.Prelude.{None, Option, Some, is_none}
-use Rattle.rt_task.specs.declared.Protocol.TheVariants.{Fmlp, Mpcp, Omlp, Pcp}
+use Rattle.rt_task.specs.declared.Protocol.TheVariants.{Fmlp, Mpcp, Omlp, Pcp, Srp}
 use Rattle.rt_task.specs.declared.Protocol.{Protocol}
 use Rattle.rt_rules.specs.Numbers.{first, has, is}
 use Rattle.rt_rules.specs.Pcp.{TaskSem, of_others, of_sem, passes}
@@ -115,12 +115,14 @@ module _ (g : Group) (rules : MeetsRules g) (past : Past) (made : IsReachable g 
       of_pcp Fmlp e = cc
       of_pcp Omlp e = cc
       of_pcp Mpcp e = cc
+      of_pcp Srp e = cc
 
       of_others_kind : (x : Protocol) → is_pcp x ≡ false → next_by g x s t past ≡ holder g s past
       of_others_kind Pcp e = cc
       of_others_kind Fmlp e = refl
       of_others_kind Omlp e = refl
       of_others_kind Mpcp e = refl
+      of_others_kind Srp e = refl
 
       next_is : waits_for g t past ≡ next_by g (protocol g s) s t past
       next_is = rw a

@@ -12,7 +12,7 @@ use Rattle.rt_task.specs.declared.Op.TheVariants as ops
 use Rattle.rt_task.specs.declared.PluginKind.{PluginKind}
 use Rattle.rt_task.specs.declared.PluginKind.TheVariants as plugins
 use Rattle.rt_task.specs.declared.Protocol.{Protocol}
-use Rattle.rt_task.specs.declared.Protocol.TheVariants.{Fmlp, Mpcp, Omlp, Pcp}
+use Rattle.rt_task.specs.declared.Protocol.TheVariants.{Fmlp, Mpcp, Omlp, Pcp, Srp}
 use Rattle.rt_rules.specs.Numbers.{has, is}
 use Rattle.rt_rules.specs.SemState.{Neither}
 use Rattle.rt_rules.proofs.BoolLaws.{and_false}
@@ -29,6 +29,8 @@ use Rattle.rt_model.specs.Releases.{arrives, arrivals, deadline, exists, has_com
 use Rattle.rt_model.specs.Runs.{leaves, runs, runs_after, runs_by}
 use Rattle.rt_model.specs.Semaphores.{fmlp, omlp, mpcp}
 use Rattle.rt_model.specs.Sleep.{sleeps, wakes}
+use Rattle.rt_model.specs.StackPolicy.{srp, srp_at}
+use Rattle.rt_model.specs.UnderWay.{is_run, under_way}
 use Rattle.rt_model.proofs.Steps.{done-step, runs-acted, used-step}
 
 -- an act that is refused ends no job
@@ -78,6 +80,14 @@ module _ (d : PastAct) (past : Past) (r : IsRefused d) where
   unfolding arrivals
   arrivals-refused t = rw (r.refused, and_false (arrives t d.act))
 
+  is_run-refused : (t : ℕ) (x : Reply) → accepted x ≡ false → is_run t x ≡ false
+  is_run-refused t (replies.Runs u) h = cc
+  is_run-refused t x h = refl
+
+  pub under_way-refused : (t : ℕ) → under_way t after ≡ under_way t past
+  unfolding under_way
+  under_way-refused t = rw (goes_on-refused t, did-refused t, is_run-refused t d.reply r.refused)
+
   -- ---- semaphores
 
   pub sem_act-refused : sem_act (Acted d) ≡ Neither
@@ -86,6 +96,10 @@ module _ (d : PastAct) (past : Past) (r : IsRefused d) where
   pub pcp-refused : (g : Group) (c : ℕ) → pcp g c after ≡ pcp g c past
   unfolding pcp at_cluster
   pcp-refused g c = rw sem_act-refused
+
+  pub srp-refused : (g : Group) (c : ℕ) → srp g c after ≡ srp g c past
+  unfolding srp srp_at
+  srp-refused g c = rw sem_act-refused
 
   pub sem_state-refused : (g : Group) (s : ℕ) → sem_state g s after ≡ sem_state g s past
   unfolding sem_state sem_state_by fmlp omlp mpcp
@@ -96,6 +110,7 @@ module _ (d : PastAct) (past : Past) (r : IsRefused d) where
       by_protocol Omlp = rw sem_act-refused
       by_protocol Mpcp = rw sem_act-refused
       by_protocol Pcp = rw (pcp-refused g _)
+      by_protocol Srp = rw (srp-refused g _)
 
   pub holder-refused : (g : Group) (s : ℕ) → holder g s after ≡ holder g s past
   unfolding holder

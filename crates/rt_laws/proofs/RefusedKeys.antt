@@ -8,9 +8,9 @@ use Rattle.rt_order.specs.KeyOrder.{higher}
 use Rattle.rt_task.specs.declared.PluginKind.{PluginKind}
 use Rattle.rt_task.specs.declared.PluginKind.TheVariants as plugins
 use Rattle.rt_task.specs.declared.Protocol.{Protocol}
-use Rattle.rt_task.specs.declared.Protocol.TheVariants.{Fmlp, Mpcp, Omlp, Pcp}
+use Rattle.rt_task.specs.declared.Protocol.TheVariants.{Fmlp, Mpcp, Omlp, Pcp, Srp}
 use Rattle.rt_task.specs.declared.ResvKind.{ResvKind}
-use Rattle.rt_task.specs.declared.ResvKind.TheVariants.{Polling, Sporadic}
+use Rattle.rt_task.specs.declared.ResvKind.TheVariants.{Polling, Sporadic, Table}
 use Rattle.rt_rules.specs.Keys.{Ranked, sorted}
 use Rattle.rt_rules.specs.Numbers.{first, foremost, same}
 use Rattle.rt_rules.specs.Placing.{at_place, placed}
@@ -28,8 +28,9 @@ use Rattle.rt_model.specs.Reachable.{IsReachable, clocked}
 use Rattle.rt_model.specs.Outcomes.{past_act}
 use Rattle.rt_model.specs.Past.{PastAct, Event, Acted, Past, is_work, now}
 use Rattle.rt_model.specs.Histories.{after as after_step, clock_moved, reply_to}
-use Rattle.rt_model.specs.Reservations.{any_ready, begins_period, earlier, first_refill, front, is_due, is_loss, is_lost, is_refill, last, left, refilled, spent, works_for}
-use Rattle.rt_model.specs.Tops.{eligible, is_served, ranking, top}
+use Rattle.rt_model.specs.Reservations.{any_ready, begins_period, earlier, first_refill, front, is_due, is_loss, is_lost, is_refill, last, last_of, left, left_by, refilled, slot_now, spent, works_for}
+use Rattle.rt_model.specs.StackPolicy.{passes_srp}
+use Rattle.rt_model.specs.Tops.{eligible, is_admitted, is_served, ranking, top}
 use Rattle.rt_model.proofs.PastLaws.{IsSingle, length-runs_of, processor-home, single}
 use Rattle.rt_model.proofs.Steps.{links-step}
 use Rattle.rt_model.proofs.TopLaws.{distinct-top, length-top}
@@ -111,6 +112,7 @@ module _ (g : Group) (rules : MeetsRules g) (d : PastAct) (past : Past) (x : IsR
       by_protocol s Fmlp = rw (granted_at-refused s)
       by_protocol s Omlp = refl
       by_protocol s Pcp = refl
+      by_protocol s Srp = refl
       by_protocol s Mpcp = refl
 
       by_sem : (o : Option ℕ) → boost_of g t o after ≡ boost_of g t o past
@@ -126,6 +128,7 @@ module _ (g : Group) (rules : MeetsRules g) (d : PastAct) (past : Past) (x : IsR
       by_protocol s Fmlp = jobs.holder-refused d past x g s
       by_protocol s Omlp = jobs.holder-refused d past x g s
       by_protocol s Mpcp = jobs.holder-refused d past x g s
+      by_protocol s Srp = jobs.holder-refused d past x g s
 
       by_sem : (o : Option ℕ) → next_at g t o after ≡ next_at g t o past
       by_sem None = refl
@@ -162,6 +165,7 @@ module _ (g : Group) (rules : MeetsRules g) (d : PastAct) (past : Past) (x : IsR
       by_kind : (k : ResvKind) → (resv g r).kind ≡ k → is_refill g k r (Acted d) past (refilled g r past) ≡ false
       by_kind Polling e = refl
       by_kind Sporadic e = rw (any_ready-refused r) (settled g r (rules.has_period r e) e past)
+      by_kind Table e = refl
 
   refilled-refused : (r : ℕ) → refilled g r after ≡ refilled g r past
   unfolding refilled
@@ -171,6 +175,7 @@ module _ (g : Group) (rules : MeetsRules g) (d : PastAct) (past : Past) (x : IsR
   unfolding is_loss
   is_loss-refused Polling r = rw (any_ready-refused r)
   is_loss-refused Sporadic r = refl
+  is_loss-refused Table r = refl
 
   is_lost-refused : (r : ℕ) → is_lost g r after ≡ is_lost g r past
   unfolding is_lost
@@ -185,12 +190,22 @@ module _ (g : Group) (rules : MeetsRules g) (d : PastAct) (past : Past) (x : IsR
   spent-refused r = rw (no_refill r, works_for-refused r) (omega arith)
 
   left-refused : (r : ℕ) → left g r after ≡ left g r past
-  unfolding left
-  left-refused r = rw (refilled-refused r, is_lost-refused r, spent-refused r)
+  unfolding left left_by slot_now
+  left-refused r = by_kind (resv g r).kind
+    where
+      by_kind : (k : ResvKind) → left_by g k r after ≡ left_by g k r past
+      by_kind Polling = rw (refilled-refused r, is_lost-refused r, spent-refused r)
+      by_kind Sporadic = rw (refilled-refused r, is_lost-refused r, spent-refused r)
+      by_kind Table = refl
 
   last-refused : (r : ℕ) → last g r after ≡ last g r past
-  unfolding last
-  last-refused r = rw (refilled-refused r)
+  unfolding last last_of slot_now
+  last-refused r = by_kind (resv g r).kind
+    where
+      by_kind : (k : ResvKind) → last_of g k r after ≡ last_of g k r past
+      by_kind Polling = rw (refilled-refused r)
+      by_kind Sporadic = rw (refilled-refused r)
+      by_kind Table = refl
 
   -- ---- tops and links
 
@@ -202,9 +217,17 @@ module _ (g : Group) (rules : MeetsRules g) (d : PastAct) (past : Past) (x : IsR
   served-refused plugins.PsnEdf t = refl
   served-refused plugins.PFp t = refl
 
+  admitted-refused : (p : PluginKind) (t : ℕ) → is_admitted g p t after ≡ is_admitted g p t past
+  unfolding is_admitted passes_srp
+  admitted-refused plugins.PsnEdf t = rw (jobs.under_way-refused d past x t, jobs.srp-refused d past x g (home g t))
+  admitted-refused plugins.GsnEdf t = refl
+  admitted-refused plugins.CEdf t = refl
+  admitted-refused plugins.PFp t = refl
+  admitted-refused plugins.PRes t = refl
+
   eligible-refused : (t : ℕ) → eligible g t after ≡ eligible g t past
   unfolding eligible
-  eligible-refused t = rw (jobs.ready-refused d past x g t, jobs.awaits-refused d past x g t, served-refused g.setup.plugin t)
+  eligible-refused t = rw (jobs.ready-refused d past x g t, jobs.awaits-refused d past x g t, served-refused g.setup.plugin t, admitted-refused g.setup.plugin t)
 
   top-refused : (c : ℕ) → top g c after ≡ top g c past
   unfolding top ranking
@@ -261,6 +284,8 @@ module _ (g : Group) (rules : MeetsRules g) (d : PastAct) (past : Past) (x : IsR
     eligible_same = eligible-refused;
     sem_state_same = jobs.sem_state-refused d past x g;
     pcp_same = jobs.pcp-refused d past x g;
+    srp_same = jobs.srp-refused d past x g;
+    under_way_same = jobs.under_way-refused d past x;
     top_same = top-refused;
     links_same = links-refused made;
     linked_same = linked-refused made;

@@ -2,6 +2,7 @@
 use Rattle.std.proofs.Common.{Bool, false, not, refl, true, ℕ, ◌&&◌, ◌≡◌}
 use Rattle.std.specs.Prelude.{Option, Some, if◌then◌else◌}
 use Rattle.rt_base.specs.declared.SemNo.{SemNo}
+use Rattle.rt_task.specs.RuleWords.{is_stacked}
 use Rattle.rt_task.specs.declared.Act.TheVariants as acts
 use Rattle.rt_task.specs.declared.Act.{Act}
 use Rattle.rt_task.specs.declared.Op.TheVariants as ops
@@ -9,7 +10,6 @@ use Rattle.rt_history.specs.declared.Reply.TheVariants as replies
 use Rattle.rt_rules.specs.Numbers.{is}
 use Rattle.rt_rules.specs.SemState.{Asks, Frees, Neither}
 use Rattle.rt_model.specs.Answers.{answer, do_answer, is_granted, lock_answer, nests, op_answer, unlock_answer}
-use Rattle.rt_model.specs.Ceilings.{is_pcp}
 use Rattle.rt_model.specs.Group.{Group, declares, protocol}
 use Rattle.rt_model.specs.Holders.{holder, last_granted}
 use Rattle.rt_model.specs.NonPreemptive.{non_preemptive}
@@ -35,7 +35,7 @@ pub record IsFree (g : Group) (q : ℕ) (act : Act) (past : Past) (t s : ℕ) : 
   pub is_unlock : act ≡ acts.Do (ops.Unlock number)
   pub is_sem : number.0 ≡ s
   pub held : is t (holder g s past) ≡ true
-  pub newest : is_pcp (protocol g s) ≡ true → is s (last_granted g t past) ≡ true
+  pub newest : is_stacked (protocol g s) ≡ true → is s (last_granted g t past) ≡ true
 
 lock-cases : (np d n gr : Bool) → accepted (if np then replies.InNp else (if not d then replies.NotDeclared else (if n then replies.Nested else (if gr then replies.Granted else replies.Queued)))) ≡ true → (np ≡ false) × (d ≡ true) × (n ≡ false)
 lock-cases true d n gr h = cc
@@ -67,7 +67,7 @@ unlock-cases true false l k = (refl, λ e. cc)
 frees-unlock : (g : Group) (q : ℕ) (n : SemNo) (past : Past) (t : ℕ) → runs q past ≡ Some t → accepted (answer g q (acts.Do (ops.Unlock n)) past) ≡ true → IsFree g q (acts.Do (ops.Unlock n)) past t n.0
 unfolding answer do_answer op_answer unlock_answer
 frees-unlock g q n past t r a =
-    let facts = unlock-cases (is t (holder g n.0 past)) (is_pcp (protocol g n.0)) (is n.0 (last_granted g t past)) (rw r at a) in
+    let facts = unlock-cases (is t (holder g n.0 past)) (is_stacked (protocol g n.0)) (is n.0 (last_granted g t past)) (rw r at a) in
     record {
       runs_it = r;
       number = n;

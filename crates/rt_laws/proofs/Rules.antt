@@ -1,7 +1,8 @@
 -- What the laws use of a valid setup.
-use Rattle.std.specs.Prelude.{length, true, ℕ, ◌<◌, ◌≡◌, ◌≤◌}
-use Rattle.rt_task.specs.RuleWords.{is_of_one_cluster, stands_under}
+use Rattle.std.specs.Prelude.{length, false, true, ℕ, ◌<◌, ◌≡◌, ◌≤◌}
+use Rattle.rt_task.specs.RuleWords.{is_fmlp, is_of_one_cluster, is_partitioned, stands_under}
 use Rattle.rt_task.specs.declared.Kind.TheVariants.{Periodic}
+use Rattle.rt_task.specs.declared.Protocol.TheVariants.{Srp}
 use Rattle.rt_task.specs.declared.ResvKind.TheVariants.{Sporadic}
 use Rattle.rt_rules.specs.Numbers.{has}
 use Rattle.rt_model.specs.Group.{Group, cpus, declares, home, protocol, resv, sems, task, tasks, users}
@@ -20,4 +21,7 @@ pub record MeetsRules (g : Group) : Type 0 where
   pub has_period : (r : ℕ) → (resv g r).kind ≡ Sporadic → 1 ≤ (resv g r).period
   -- each protocol stands under its plugins, and where its users share a cluster they do
   pub is_allowed : (s : ℕ) → has s (sems g) ≡ true → stands_under (protocol g s) g.setup.plugin ≡ true
+  pub is_single : (c : ℕ) → is_partitioned g.setup.plugin ≡ true → c < length g.setup.clusters → cpus g c ≡ 1
+  -- where a task declares an SRP semaphore, no task of its cluster declares an FMLP semaphore
+  pub apart : (s r t u : ℕ) → protocol g s ≡ Srp → has t (users g s) ≡ true → has u (tasks g) ≡ true → home g u ≡ home g t → declares g u r ≡ true → is_fmlp (protocol g r) ≡ false
   pub shares : (s t u : ℕ) → is_of_one_cluster (protocol g s) g.setup.plugin ≡ true → has t (users g s) ≡ true → has u (users g s) ≡ true → home g t ≡ home g u

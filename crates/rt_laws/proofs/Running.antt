@@ -19,7 +19,7 @@ use Rattle.rt_model.specs.Past.{Acted, Clock, Event, Past, PastAct, accepted, di
 use Rattle.rt_model.specs.Releases.{exists, ready}
 use Rattle.rt_model.specs.Runs.{leaves, runs, runs_after, runs_by}
 use Rattle.rt_model.specs.Sleep.{sleep_end, sleeps}
-use Rattle.rt_model.specs.Tops.{eligible, is_served}
+use Rattle.rt_model.specs.Tops.{eligible, is_admitted, is_served}
 use Rattle.rt_rules.proofs.BoolLaws.{both, clash, neither, not_true, unless}
 use Rattle.rt_rules.proofs.MemberLaws.{equal_self, is-some, some-is, none-is}
 use Rattle.rt_model.proofs.AnswerLaws.{answer-runs_link, to_run}
@@ -83,9 +83,9 @@ running-keeps g rules q t e past r stays awake passes = record {
 eligible-running : (g : Group) (q t : ℕ) (past : Past) → IsLinked g q t past → IsRunning g q t past
 unfolding eligible ready
 eligible-running g q t past l =
-    let parts = both (ready g t past) (is_none (awaits g t past) && is_served g g.setup.plugin t past) l.was_eligible in
+    let parts = both (ready g t past) (is_none (awaits g t past) && (is_served g g.setup.plugin t past && is_admitted g g.setup.plugin t past)) l.was_eligible in
     let there = both (exists g t past) (not (sleeps t past)) parts.0 in
-    let free = both (is_none (awaits g t past)) (is_served g g.setup.plugin t past) parts.1 in
+    let free = both (is_none (awaits g t past)) (is_served g g.setup.plugin t past && is_admitted g g.setup.plugin t past) parts.1 in
     record {
       at_home = l.at_home;
       placed = l.placed;
@@ -138,7 +138,7 @@ not_queued g q t s act past h a = by_case (is_granted g (protocol g s) s t past)
     by_case : (b : Bool) → is_granted g (protocol g s) s t past ≡ b → b ≡ true
     by_case b e = queued b (rw (a.reply, a.is_lock, e) at h)
 
-runs_after-cases : (t : ℕ) (d : PastAct) (before : Option ℕ) → runs_after d before ≡ Some t → (is_some d.ended ≡ false) × (leaves d.act d.reply ≡ false) × ((before ≡ Some t) ⊎ (is t (to_run d.reply) ≡ true))
+pub runs_after-cases : (t : ℕ) (d : PastAct) (before : Option ℕ) → runs_after d before ≡ Some t → (is_some d.ended ≡ false) × (leaves d.act d.reply ≡ false) × ((before ≡ Some t) ⊎ (is t (to_run d.reply) ≡ true))
 runs_after-cases t d before h = by_case (is_some d.ended || leaves d.act d.reply) refl h
   where
     of_reply : (r : Reply) → runs_by r before ≡ Some t → (before ≡ Some t) ⊎ (is t (to_run r) ≡ true)

@@ -2,22 +2,26 @@
 use Rattle.std.proofs.Common.{Bool, List, [], ap, arith, cond, eqb-true, false, inl, inr, leb-true, length, length-append, ltb-false, ltb-true, map, not, refl, subst, suc, sym, true, zero, ℕ, ◌&&◌, ◌++◌, ◌+◌, ◌-◌, ◌<◌, ◌||◌, ◌∙◌, ◌∷◌, ◌≡◌, ◌≤◌, ◌⊎◌}
 use Rattle.std.proofs.lemmas.List.{get_or-map, length-map}
 use Rattle.std.specs.List.{list_all, list_any}
-use Rattle.std.specs.Prelude.{None, Option, Some, bytes_eq, filter, if◌then◌else◌, nat_le, nat_lt, option_map, slice_index_or, ⊤, ◌==◌}
+use Rattle.std.specs.Prelude.{None, Option, Some, bytes_eq, filter, if◌then◌else◌, nat_le, nat_lt, option_map, slice_get, slice_index_or, unwrap_or, ⊤, ◌==◌}
+use Rattle.std.proofs.lemmas.List.Folds.{list_any_at}
+use Rattle.rt_base.specs.declared.SemNo.{SemNo}
 use Rattle.rt_base.specs.declared.TheConstants.{MOST_CPUS, TICK_END}
 use Rattle.rt_task.specs.Draft.{draft_cluster, draft_drive, draft_of, draft_resv, draft_task, runs, steps_of}
-use Rattle.rt_task.specs.Lookups.{group_of}
+use Rattle.rt_task.specs.Lookups.{group_of, is_fmlp_sem}
 use Rattle.rt_task.specs.NameRules.{piece_is_known, resv_is_known, step_name, task_name}
 use Rattle.rt_task.specs.RangeRules.{cluster_range, resv_range, step_range, task_range, whole_range}
 use Rattle.rt_task.specs.Refusals.{bad, each, first, first_failing, whole}
+use Rattle.rt_task.specs.Played.{is_played_protocol}
 use Rattle.rt_task.specs.RuleWords as words
-use Rattle.rt_task.specs.RuleWords.{all_same, allows_clusters, is_known, is_name, is_of_one_cluster, is_periodic, is_prio, is_span, no_repeat, piece_in_range, sem_numbers, stands_under, within}
-use Rattle.rt_task.specs.SharingRules.{clusters_sharing, sem_sharing, step_sharing, task_sharing}
-use Rattle.rt_task.specs.Validity.{IsValid, name_rows, range_rows, refusal, refusal_of, whole_refusal, sharing_rows, size_rows, task_shape}
+use Rattle.rt_task.specs.RuleWords.{all_same, first_of, is_fmlp, is_partitioned, allows_clusters, is_known, is_name, is_of_one_cluster, is_periodic, is_prio, is_span, no_repeat, piece_in_range, sem_numbers, stands_under, within}
+use Rattle.rt_task.specs.SharingRules.{clusters_sharing, has_fmlp_users, stands_apart, resv_sharing, sem_sharing, step_sharing, task_sharing}
+use Rattle.rt_task.specs.Validity.{IsValid, name_rows, range_rows, refusal, refusal_of, whole_refusal, sharing_rows, size_rows, shape_rows}
 use Rattle.rt_task.specs.declared.Kind.TheVariants.{Periodic, Sporadic}
 use Rattle.rt_task.specs.declared.Kind.{Kind}
 use Rattle.rt_task.specs.declared.Parts.{Parts}
 use Rattle.rt_task.specs.declared.PluginKind.TheVariants as plugins
 use Rattle.rt_task.specs.declared.PluginKind.{PluginKind}
+use Rattle.rt_task.specs.declared.Protocol.TheVariants.{Srp}
 use Rattle.rt_task.specs.declared.ResvKind.TheVariants as resv_kinds
 use Rattle.rt_task.specs.declared.Sem.{Sem}
 use Rattle.rt_task.specs.declared.Task.{Task}
@@ -33,7 +37,7 @@ use Rattle.rt_task.specs.declared.draft.DraftStep.{DraftStep}
 use Rattle.rt_task.specs.declared.draft.DraftTask.{DraftTask}
 use Rattle.rt_rules.specs.Numbers.{has, numbers_from}
 use Rattle.rt_model.specs.Group.{Group, cluster, cpus, declares, home, no_cluster, no_resv, no_sem, no_task, protocol, resv, sem, sems, task, tasks, users}
-use Rattle.rt_rules.proofs.BoolLaws.{both, either, or_true}
+use Rattle.rt_rules.proofs.BoolLaws.{both, clash, either, not_true, or_else, or_true, unless}
 use Rattle.rt_rules.proofs.MemberLaws.{equal_self, has-filter, list_all-has, turned}
 use Rattle.rt_rules.proofs.NumberLaws.{has-numbers_from, numbers_from-has, numbers_from-below}
 use Rattle.rt_laws.proofs.GroupLaws.{user-task}
@@ -83,6 +87,10 @@ each-keeps kind part rule xs i d h low = let e : 0 + i ≡ i = omega arith in su
     none None k = refl
     none (Some n) k = cc
 
+each-none : (kind : SetKind) (part : Part) (o : Option ℕ) → option_map (bad kind part) o ≡ None → o ≡ None
+each-none kind part None h = refl
+each-none kind part (Some n) h = cc
+
 -- ---- the rows of the table
 
 pub record KeepsRows (p : Parts) : Type 0 where
@@ -91,6 +99,7 @@ pub record KeepsRows (p : Parts) : Type 0 where
   pub range : (i : ℕ) (d : DraftTask) → i < length (draft_of p).tasks → KeepsRule (task_range (draft_of p)) i (slice_index_or (draft_of p).tasks i d)
   pub name : (i : ℕ) (d : DraftTask) → i < length (draft_of p).tasks → KeepsRule (task_name (draft_of p)) i (slice_index_or (draft_of p).tasks i d)
   pub resv : (i : ℕ) (d : DraftResv) → i < length (draft_of p).resvs → KeepsRule (resv_range (draft_of p)) i (slice_index_or (draft_of p).resvs i d)
+  pub resvs : first_failing (resv_sharing (draft_of p)) [] (draft_of p).resvs ≡ None
   pub sem : (i : ℕ) (d : Sem) → i < length p.sems → KeepsRule (sem_sharing (draft_of p)) i (slice_index_or p.sems i d)
   pub task : (i : ℕ) (d : DraftTask) → i < length (draft_of p).tasks → KeepsRule (task_sharing (draft_of p)) i (slice_index_or (draft_of p).tasks i d)
 
@@ -98,7 +107,7 @@ pub keeps_rows : (p : Parts) → IsValid p → KeepsRows p
 unfolding refusal_of whole_refusal refusal
 keeps_rows p valid =
     let d : Draft = draft_of p in
-    let all = all-none (each kinds.Shape parts.Task (task_shape d) d.tasks ∷ refusal d ∷ []) valid in
+    let all = all-none (first (shape_rows d) ∷ refusal d ∷ []) valid in
     let table = all-none (first (range_rows d) ∷ first (name_rows d) ∷ first (sharing_rows d) ∷ first (size_rows d) ∷ []) all.1.0 in
     let range = all-none (range_rows d) table.0 in
     let name = all-none (name_rows d) table.1.0 in
@@ -108,6 +117,7 @@ keeps_rows p valid =
       cluster = λ i x low. each-keeps kinds.Range parts.Cluster (cluster_range d) d.clusters i x range.1.0 low;
       resv = λ i x low. each-keeps kinds.Range parts.Resv (resv_range d) d.resvs i x range.1.1.0 low;
       range = λ i x low. each-keeps kinds.Range parts.Task (task_range d) d.tasks i x range.1.1.1.0 low;
+      resvs = each-none kinds.Sharing parts.Resv (first_failing (resv_sharing d) [] d.resvs) sharing.1.0;
       name = λ i x low. each-keeps kinds.Name parts.Task (task_name d) d.tasks i x name.1.1.0 low;
       sem = λ i x low. each-keeps kinds.Sharing parts.Sem (sem_sharing d) d.sems i x sharing.0 low;
       task = λ i x low. each-keeps kinds.Sharing parts.Task (task_sharing d) d.tasks i x sharing.1.1.0 low;
@@ -123,7 +133,7 @@ pub step_rows : (p : Parts) → IsValid p → KeepsSteps p
 unfolding refusal_of whole_refusal refusal
 step_rows p valid =
     let d : Draft = draft_of p in
-    let all = all-none (each kinds.Shape parts.Task (task_shape d) d.tasks ∷ refusal d ∷ []) valid in
+    let all = all-none (first (shape_rows d) ∷ refusal d ∷ []) valid in
     let table = all-none (first (range_rows d) ∷ first (name_rows d) ∷ first (sharing_rows d) ∷ first (size_rows d) ∷ []) all.1.0 in
     let range = all-none (range_rows d) table.0 in
     let name = all-none (name_rows d) table.1.0 in
@@ -218,6 +228,25 @@ all_same-equal : (xs : List ℕ) (a b : ℕ) → all_same xs ≡ true → has a 
 all_same-equal [] a b h k m = cc
 all_same-equal (x ∷ xs) a b h k m = same_as-first x xs a h k ∙ sym (same_as-first x xs b h m)
 
+-- the first of such a list
+first-same : (xs : List ℕ) (a : ℕ) → all_same xs ≡ true → has a xs ≡ true → first_of xs ≡ Some a
+first-same [] a h k = cc
+first-same (x ∷ xs) a h k = ap Some (sym (same_as-first x xs a h k))
+
+-- a test that a number passes is passed by one that stands for it
+any-mapped : (test : ℕ → Bool) (r : ℕ) (ns : List SemNo) → has r (map (λ (n : SemNo). n.0) ns) ≡ true → test r ≡ true → list_any (λ (n : SemNo). test n.0) ns ≡ true
+any-mapped test r [] h k = cc
+any-mapped test r (n ∷ ns) h k = split (either (r == n.0) _ h) (λ m. any-mapped test r ns m k)
+  where
+    split : (r == n.0 ≡ true) ⊎ (has r (map (λ (m : SemNo). m.0) ns) ≡ true) → (has r (map (λ (m : SemNo). m.0) ns) ≡ true → list_any (λ (m : SemNo). test m.0) ns ≡ true) → test n.0 || list_any (λ (m : SemNo). test m.0) ns ≡ true
+    split (inl m) rec = let e : test n.0 ≡ true = rw (eqb-true r n.0 m) at k in rw e
+    split (inr m) rec = rw (rec m) (or_true (test n.0))
+
+sem-got : (xs : List Sem) (i : ℕ) → i < length xs → slice_get xs i ≡ Some (slice_index_or xs i no_sem)
+sem-got [] i low = absurd (omega arith)
+sem-got (x ∷ xs) zero low = refl
+sem-got (x ∷ xs) (suc i) low = sem-got xs i (omega arith)
+
 home-shared : (g : Group) (s t : ℕ) → has t (users g s) ≡ true → has (home g t) (clusters_sharing (draft_of g.setup) s) ≡ true
 unfolding clusters_sharing home task declares
 home-shared g s t h =
@@ -248,6 +277,16 @@ module _ (g : Group) (valid : IsValid g.setup) where
       let n : ℕ = (slice_index_or (draft_of g.setup).clusters c (draft_cluster no_cluster)).cpus in
       let is : n ≡ (slice_index_or g.setup.clusters c no_cluster).cpus = ap (λ (x : DraftCluster). x.cpus) (get_or-map draft_cluster g.setup.clusters c no_cluster (draft_cluster no_cluster) low) in
       rw is at (within-bounds 1 MOST_CPUS n (both _ _ k.keeps).0).0
+
+  -- under a partitioned plugin a cluster has one processor
+  pub one_cpu : (c : ℕ) → is_partitioned g.setup.plugin ≡ true → c < length g.setup.clusters → cpus g c ≡ 1
+  unfolding cpus cluster cluster_range
+  one_cpu c parts low =
+      let k = rows.cluster c (draft_cluster no_cluster) (rw (length-map g.setup.clusters draft_cluster) low) in
+      let n : ℕ = (slice_index_or (draft_of g.setup).clusters c (draft_cluster no_cluster)).cpus in
+      let is : n ≡ (slice_index_or g.setup.clusters c no_cluster).cpus = ap (λ (x : DraftCluster). x.cpus) (get_or-map draft_cluster g.setup.clusters c no_cluster (draft_cluster no_cluster) low) in
+      let one : n == 1 ≡ true = or_else (not (is_partitioned g.setup.plugin)) (n == 1) (both _ _ (both _ _ k.keeps).1).0 (rw parts) in
+      rw is at (eqb-true n 1 one)
 
   task_at : (t : ℕ) → t - 1 < length g.setup.tasks → KeepsRule (task_range (draft_of g.setup)) (t - 1) (drafted (task g t))
   unfolding task
@@ -303,7 +342,7 @@ module _ (g : Group) (valid : IsValid g.setup) where
 
   allowed : (s : ℕ) → has s (sems g) ≡ true → stands_under (protocol g s) g.setup.plugin ≡ true
   unfolding sem_sharing protocol
-  allowed s h = (both _ _ (sem_at s h).keeps).0
+  allowed s h = (both _ _ (both _ _ (sem_at s h).keeps).0).0
 
   one_cluster : (s : ℕ) → has s (sems g) ≡ true → is_of_one_cluster (protocol g s) g.setup.plugin ≡ true → all_same (clusters_sharing (draft_of g.setup) s) ≡ true
   unfolding sem_sharing protocol
@@ -311,8 +350,43 @@ module _ (g : Group) (valid : IsValid g.setup) where
       let r = sem_at s h in
       let at : length r.earlier + 1 ≡ s = omega (arith, r.number, (sem-numbered g s h).0) in
       let sharing : List ℕ = clusters_sharing (draft_of g.setup) (length r.earlier + 1) in
-      let test = (both (stands_under (protocol g s) g.setup.plugin) (if is_of_one_cluster (protocol g s) g.setup.plugin then all_same sharing else all_same (map (group_of (draft_of g.setup)) sharing)) r.keeps).1 in
+      let tests = (both (stands_under (protocol g s) g.setup.plugin && is_played_protocol (protocol g s)) ((if is_of_one_cluster (protocol g s) g.setup.plugin then all_same sharing else all_same (map (group_of (draft_of g.setup)) sharing)) && stands_apart (draft_of g.setup) (protocol g s) (first_of sharing)) r.keeps).1 in
+      let test = (both (if is_of_one_cluster (protocol g s) g.setup.plugin then all_same sharing else all_same (map (group_of (draft_of g.setup)) sharing)) (stands_apart (draft_of g.setup) (protocol g s) (first_of sharing)) tests).0 in
       subst (λ n. all_same (clusters_sharing (draft_of g.setup) n) ≡ true) at (shared (is_of_one_cluster (protocol g s) g.setup.plugin) (all_same sharing) (all_same (map (group_of (draft_of g.setup)) sharing)) test one)
+
+  keeps_apart : (s : ℕ) → has s (sems g) ≡ true → stands_apart (draft_of g.setup) (protocol g s) (first_of (clusters_sharing (draft_of g.setup) s)) ≡ true
+  unfolding sem_sharing protocol
+  keeps_apart s h =
+      let r = sem_at s h in
+      let at : length r.earlier + 1 ≡ s = omega (arith, r.number, (sem-numbered g s h).0) in
+      let sharing : List ℕ = clusters_sharing (draft_of g.setup) (length r.earlier + 1) in
+      let tests = (both (stands_under (protocol g s) g.setup.plugin && is_played_protocol (protocol g s)) ((if is_of_one_cluster (protocol g s) g.setup.plugin then all_same sharing else all_same (map (group_of (draft_of g.setup)) sharing)) && stands_apart (draft_of g.setup) (protocol g s) (first_of sharing)) r.keeps).1 in
+      let test = (both (if is_of_one_cluster (protocol g s) g.setup.plugin then all_same sharing else all_same (map (group_of (draft_of g.setup)) sharing)) (stands_apart (draft_of g.setup) (protocol g s) (first_of sharing)) tests).1 in
+      subst (λ n. stands_apart (draft_of g.setup) (protocol g s) (first_of (clusters_sharing (draft_of g.setup) n)) ≡ true) at test
+
+  -- a cluster with a user of an FMLP semaphore has one
+  fmlp-users : (u r : ℕ) → has u (tasks g) ≡ true → declares g u r ≡ true → is_fmlp (protocol g r) ≡ true → has_fmlp_users (draft_of g.setup) (home g u) ≡ true
+  unfolding has_fmlp_users is_fmlp_sem home task declares protocol sem
+  fmlp-users u r h d k =
+      let low : u - 1 < length g.setup.tasks = task-numbered g u h in
+      let known : r - 1 < length g.setup.sems = (sem-numbered g r (declared_sem u r h d)).1 in
+      let x : Task = slice_index_or g.setup.tasks (u - 1) no_task in
+      let is : slice_index_or (draft_of g.setup).tasks (u - 1) (drafted no_task) ≡ drafted x = get_or-map drafted g.setup.tasks (u - 1) no_task (drafted no_task) low in
+      let of_sem : unwrap_or (option_map (λ (y : Sem). is_fmlp y.protocol) (slice_get g.setup.sems (r - 1))) false ≡ true = rw (sem-got g.setup.sems (r - 1) known) k in
+      let any : list_any (λ (n : SemNo). unwrap_or (option_map (λ (y : Sem). is_fmlp y.protocol) (slice_get g.setup.sems (n.0 - 1))) false) x.uses ≡ true = any-mapped (λ (n : ℕ). unwrap_or (option_map (λ (y : Sem). is_fmlp y.protocol) (slice_get g.setup.sems (n - 1))) false) r x.uses d of_sem in
+      list_any_at (λ (p : DraftTask). p.cluster == x.cluster.0 && list_any (λ (n : SemNo). unwrap_or (option_map (λ (y : Sem). is_fmlp y.protocol) (slice_get g.setup.sems (n.0 - 1))) false) p.uses) (draft_of g.setup).tasks (u - 1) (drafted no_task) (rw (length-map g.setup.tasks drafted) low) (rw is (rw (equal_self x.cluster.0, any)))
+
+  stay_apart : (s r t u : ℕ) → protocol g s ≡ Srp → has t (users g s) ≡ true → has u (tasks g) ≡ true → home g u ≡ home g t → declares g u r ≡ true → is_fmlp (protocol g r) ≡ false
+  stay_apart s r t u p h k same d = unless _ (λ m. clash _ (fmlp-users u r k d m) (rw same none))
+    where
+      there : has s (sems g) ≡ true
+      there = let w = user-task g s t h in declared_sem t s w.0 w.1
+
+      one : all_same (clusters_sharing (draft_of g.setup) s) ≡ true
+      one = one_cluster s there (rw p)
+
+      none : has_fmlp_users (draft_of g.setup) (home g t) ≡ false
+      none = not_true _ (rw (p, first-same (clusters_sharing (draft_of g.setup) s) (home g t) one (home-shared g s t h)) at (keeps_apart s there))
 
   users_share : (s t u : ℕ) → is_of_one_cluster (protocol g s) g.setup.plugin ≡ true → has t (users g s) ≡ true → has u (users g s) ≡ true → home g t ≡ home g u
   users_share s t u one h k =
@@ -329,5 +403,7 @@ module _ (g : Group) (valid : IsValid g.setup) where
     is_known = declared_sem;
     has_period = a_period;
     is_allowed = allowed;
+    is_single = one_cpu;
+    apart = stay_apart;
     shares = users_share;
   }

@@ -1,7 +1,7 @@
 -- A task that waits after a move waited before it, or asks in it and is not granted: for the semaphores of a setup.
 use Rattle.std.proofs.Common.{[], false, inl, inr, refl, true, ℕ, ◌∷◌, ◌≡◌, ◌⊎◌}
 use Rattle.std.specs.Prelude.{None, Option, Some, is_none}
-use Rattle.rt_task.specs.declared.Protocol.TheVariants.{Fmlp, Mpcp, Omlp, Pcp}
+use Rattle.rt_task.specs.declared.Protocol.TheVariants.{Fmlp, Mpcp, Omlp, Pcp, Srp}
 use Rattle.rt_task.specs.declared.Protocol.{Protocol}
 use Rattle.rt_rules.specs.Numbers.{has}
 use Rattle.rt_rules.specs.Pcp.{of_sem, passes}
@@ -44,6 +44,7 @@ waiting-step g rules t s e past h = by_protocol (protocol g s) refl h
     by_protocol Fmlp r k = asked Fmlp r _ refl (fmlp-waits t act (fmlp g s past) k)
     by_protocol Omlp r k = asked Omlp r _ refl (omlp-waits (cpus g (cluster_of g s)) (above g past) t act (omlp g s past) (has_room g rules s) k)
     by_protocol Mpcp r k = asked Mpcp r _ refl (mpcp-waits (above g past) t act (mpcp g s past) k)
+    by_protocol Srp r k = cc
     by_protocol Pcp r k = join (pcp-waits (above g []) (above_ceiling g) t s (at_cluster g (cluster_of g s) (sem_act e)) (pcp g (cluster_of g s) past) (rw has-of_sem at k))
       where
         join : (has_pair t s (pcp g (cluster_of g s) past).waiting ≡ true) ⊎ (at_cluster g (cluster_of g s) (sem_act e) ≡ Asks t s) × (passes (above_ceiling g) (pcp g (cluster_of g s) past).held t ≡ false) → (has t (of_sem s (pcp g (cluster_of g s) past).waiting) ≡ true) ⊎ (sem_act e ≡ Asks t s) × (passes (above_ceiling g) (pcp g (home g t) past).held t ≡ false)
@@ -75,3 +76,9 @@ nobody-waits g t s = by_protocol (protocol g s)
     by_protocol Omlp = refl
     by_protocol Mpcp = refl
     by_protocol Pcp = refl
+    by_protocol Srp = refl
+
+-- nobody waits for an SRP semaphore
+pub srp-waiting : (g : Group) (s : ℕ) (past : Past) → protocol g s ≡ Srp → (sem_state g s past).waiting ≡ []
+unfolding sem_state sem_state_by
+srp-waiting g s past p = rw p

@@ -1,6 +1,6 @@
 -- A task that holds a semaphore waits for none, but for PCP semaphores.
-use Rattle.std.proofs.Common.{false, inl, inr, not, refl, true, ℕ, ◌∷◌, ◌≡◌, ◌⊎◌}
-use Rattle.rt_task.specs.declared.Protocol.TheVariants.{Fmlp, Mpcp, Omlp, Pcp}
+use Rattle.std.proofs.Common.{[], false, inl, inr, not, refl, true, ℕ, ◌∷◌, ◌≡◌, ◌⊎◌}
+use Rattle.rt_task.specs.declared.Protocol.TheVariants.{Fmlp, Mpcp, Omlp, Pcp, Srp}
 use Rattle.rt_task.specs.declared.Protocol.{Protocol}
 use Rattle.rt_rules.specs.Numbers.{first, has, is, rest}
 use Rattle.rt_rules.specs.SemState.{Asks}
@@ -23,9 +23,9 @@ use Rattle.rt_laws.proofs.Moves.{by_moves, moved}
 use Rattle.rt_laws.proofs.MpcpState.{mpcp-holder, mpcp-is, mpcp_once}
 use Rattle.rt_laws.proofs.OmlpState.{omlp-sem_state, queued}
 use Rattle.rt_laws.proofs.OneWait.{waits_once}
-use Rattle.rt_laws.proofs.PcpState.{pcp_kept}
+use Rattle.rt_laws.proofs.SrpState.{kept}
 use Rattle.rt_laws.proofs.Rules.{MeetsRules}
-use Rattle.rt_laws.proofs.Waiting.{nobody-waits, waiting-step}
+use Rattle.rt_laws.proofs.Waiting.{nobody-waits, srp-waiting, waiting-step}
 
 -- ---- who holds a semaphore does not wait for it, but perhaps under PCP
 
@@ -57,6 +57,7 @@ waits_not_at_own g rules {past} made t s there h w = by_protocol (protocol g s) 
     by_protocol Omlp e = absurd (of_omlp e)
     by_protocol Mpcp e = absurd (of_mpcp e)
     by_protocol Pcp e = refl
+    by_protocol Srp e = let m : has t [] ≡ true = rw (srp-waiting g s past e) at w in cc
 
 -- ---- two semaphores
 
@@ -64,20 +65,26 @@ waits_not_at_own g rules {past} made t s there h w = by_protocol (protocol g s) 
 abbrev WaitsUnderPcp : Group → Past → Type 0
 WaitsUnderPcp g past = (t s r : ℕ) → has s (sems g) ≡ true → has r (sems g) ≡ true → is t (holder g s past) ≡ true → has t (sem_state g r past).waiting ≡ true → (is_pcp (protocol g s) ≡ true) × (is_pcp (protocol g r) ≡ true)
 
--- who asks holds PCP semaphores alone, and only where it asks for one
-pub asks_pcp : (g : Group) (t s r : ℕ) (past : Past) (p : Protocol) → nests g p r t past ≡ false → has s (sems g) ≡ true → is t (holder g s past) ≡ true → (is_pcp (protocol g s) ≡ true) × (is_pcp p ≡ true)
+-- who asks for a PCP semaphore holds PCP semaphores alone
+pub asks-holds_pcp : (g : Group) (t s r : ℕ) (past : Past) → nests g Pcp r t past ≡ false → has s (sems g) ≡ true → is t (holder g s past) ≡ true → is_pcp (protocol g s) ≡ true
 unfolding nests
-asks_pcp g t s r past Pcp n there h = (not_false _ (any-none (λ o. not (is_pcp (protocol g o))) (holds g t past) s (neither _ _ n).0 (holds-one g t s past there h)), refl)
-asks_pcp g t s r past Fmlp n there h = absurd (clash _ h (holds-none g t s past (not_false _ n) there))
-asks_pcp g t s r past Omlp n there h = absurd (clash _ h (holds-none g t s past (not_false _ n) there))
-asks_pcp g t s r past Mpcp n there h = absurd (clash _ h (holds-none g t s past (not_false _ n) there))
+asks-holds_pcp g t s r past n there h = not_false _ (any-none (λ o. not (is_pcp (protocol g o))) (holds g t past) s (neither _ _ n).0 (holds-one g t s past there h))
+
+-- who asks and is not granted holds PCP semaphores alone, and only where it asks for one
+asks_pcp : (g : Group) (t s r : ℕ) (past : Past) (p : Protocol) → nests g p r t past ≡ false → is_granted g p r t past ≡ false → has s (sems g) ≡ true → is t (holder g s past) ≡ true → (is_pcp (protocol g s) ≡ true) × (is_pcp p ≡ true)
+unfolding nests is_granted
+asks_pcp g t s r past Pcp n q there h = (asks-holds_pcp g t s r past n there h, refl)
+asks_pcp g t s r past Fmlp n q there h = absurd (clash _ h (holds-none g t s past (not_false _ n) there))
+asks_pcp g t s r past Omlp n q there h = absurd (clash _ h (holds-none g t s past (not_false _ n) there))
+asks_pcp g t s r past Mpcp n q there h = absurd (clash _ h (holds-none g t s past (not_false _ n) there))
+asks_pcp g t s r past Srp n q there h = cc
 
 waits_under_pcp-step : (g : Group) → MeetsRules g → (e : Event) (past : Past) → IsReachable g past → IsReachable g (e ∷ past) → Asked g e past → WaitsUnderPcp g past → WaitsUnderPcp g (e ∷ past)
 waits_under_pcp-step g rules e past made made_after asks before t s r hs hr h w = split (was (engaged-step g t s e past (holder-engaged g t s (e ∷ past) h))) (waiting-step g rules t r e past w)
   where
     was : (engaged g t s past ≡ true) ⊎ (sem_act e ≡ Asks t s) → (is t (holder g s past) ≡ true) ⊎ ((has t (sem_state g s past).waiting ≡ true) ⊎ (sem_act e ≡ Asks t s))
     was (inr k) = inr (inr k)
-    was (inl k) = deeper (engaged-cases g t s past (pcp_kept g rules (cluster_of g s) made) k)
+    was (inl k) = deeper (engaged-cases g t s past (kept g rules (cluster_of g s) made) k)
       where
         deeper : (is t (holder g s past) ≡ true) ⊎ (has t (sem_state g s past).waiting ≡ true) → (is t (holder g s past) ≡ true) ⊎ ((has t (sem_state g s past).waiting ≡ true) ⊎ (sem_act e ≡ Asks t s))
         deeper (inl n) = inl n
@@ -91,7 +98,7 @@ waits_under_pcp-step g rules e past made made_after asks before t s r hs hr h w 
 
     split : (is t (holder g s past) ≡ true) ⊎ ((has t (sem_state g s past).waiting ≡ true) ⊎ (sem_act e ≡ Asks t s)) → (has t (sem_state g r past).waiting ≡ true) ⊎ (sem_act e ≡ Asks t r) × (is_granted g (protocol g r) r t past ≡ false) → (is_pcp (protocol g s) ≡ true) × (is_pcp (protocol g r) ≡ true)
     split (inl a) (inl b) = before t s r hs hr a b
-    split (inl a) (inr b) = asks_pcp g t s r past (protocol g r) (asks t r b.0).unnested hs a
+    split (inl a) (inr b) = asks_pcp g t s r past (protocol g r) (asks t r b.0).unnested b.1 hs a
     split (inr (inl a)) (inl b) = one_sem (waits_once g rules made t s r hs hr a b)
     split (inr (inl a)) (inr b) = absurd (clash _ a ((asks t r b.0).waits_none s hs))
     split (inr (inr a)) (inl b) = absurd (clash _ b ((asks t s a).waits_none r hr))

@@ -1,21 +1,24 @@
 -- Worked sets at the edges of the laws: two that reach the bounds, and sets that break one rule each, with a history in which a law fails.
-use Rattle.std.specs.Prelude.{◌≡◌, ℕ, List, [], ◌∷◌, ◌++◌, Some, refl}
+use Rattle.std.specs.Prelude.{◌≡◌, ℕ, true, false, List, [], ◌∷◌, ◌++◌, Some, refl}
 use Rattle.rt_task.specs.declared.Protocol.{Protocol}
-use Rattle.rt_task.specs.declared.Protocol.TheVariants.{Fmlp, Omlp}
+use Rattle.rt_task.specs.declared.Protocol.TheVariants.{Fmlp, Omlp, Pcp, Srp}
+use Rattle.rt_task.specs.declared.Resv.{Resv}
+use Rattle.rt_task.specs.declared.ResvKind.TheVariants as resv_kinds
 use Rattle.rt_task.specs.declared.Sem.{Sem}
+use Rattle.rt_task.specs.declared.Slot.{Slot}
 use Rattle.rt_task.specs.declared.PluginKind.TheVariants as plugins
 use Rattle.rt_task.specs.declared.Step.{Step}
 use Rattle.rt_task.specs.declared.Task.{Task}
 use Rattle.rt_task.specs.Bodies.{nests, after_op, goes_on}
 use Rattle.rt_task.specs.Draft.{runs}
-use Rattle.rt_task.specs.Lookups.{cpus as total_cpus, group_of as group_in, cluster_with as cluster_in, is_pcp_sem, cluster_of_task}
+use Rattle.rt_task.specs.Lookups.{cpus as total_cpus, group_of as group_in, cluster_with as cluster_in, is_stacked_sem, is_fmlp_sem, cluster_of_task}
 use Rattle.rt_task.specs.Lookups.{cluster_of_resv}
 use Rattle.rt_task.specs.NameRules.{sem_name, resv_name, task_name, step_name}
 use Rattle.rt_task.specs.RangeRules.{whole_range, cluster_range, resv_range, task_range, step_range}
 use Rattle.rt_task.specs.Refusals.{bad}
-use Rattle.rt_task.specs.SharingRules.{clusters_sharing, sem_sharing, resv_sharing, task_sharing, step_sharing}
+use Rattle.rt_task.specs.SharingRules.{clusters_sharing, has_fmlp_users, sem_sharing, resv_sharing, task_sharing, step_sharing}
 use Rattle.rt_task.specs.SizeRules.{whole_size, task_size}
-use Rattle.rt_task.specs.Validity.{IsValid, task_shape, refusal, refusal_of, whole_refusal}
+use Rattle.rt_task.specs.Validity.{IsValid, resv_shape, task_shape, refusal, refusal_of, whole_refusal}
 use Rattle.rt_task.specs.declared.bad_set.Part.TheVariants as parts
 use Rattle.rt_task.specs.declared.bad_set.SetKind.TheVariants as kinds
 use Rattle.rt_model.specs.Blocking.{ends, ends_all, bound}
@@ -25,16 +28,25 @@ use Rattle.rt_model.specs.Histories.{past_by}
 use Rattle.rt_model.specs.BaseKeys.{base_key}
 use Rattle.rt_model.specs.Holders.{holder, awaits}
 use Rattle.rt_model.specs.Jobs.{done}
-use Rattle.rt_model.specs.Samples.{step_of, steps_of, group_of, cluster_with, sem_under, periodic, sporadic, in_cluster, using}
-use Rattle.rt_model.specs.Samples.{enforced, early, irq, arrive, lock, unlock, end}
+use Rattle.rt_model.specs.Reservations.{left}
+use Rattle.rt_model.specs.Samples.{step_of, steps_of, group_of, cluster_with, sem_under, periodic, sporadic, in_cluster, using, with_prio}
+use Rattle.rt_model.specs.Samples.{enforced, early, irq, arrive, lock, unlock, end, sleep, tick, reservation, table, slot, client_of}
 use Rattle.rt_model.specs.WorkedOmlp.{omlp_bound_reached_lines}
+use Rattle.rt_laws.specs.BlockedOnce.{is_of_pcp, stays_ready, is_lower, is_inside, entered, reaches, is_linked, blocks, was_blocked, asks_linked, is_prompt}
+use Rattle.rt_laws.specs.BlockedOnce.{lower_waiting, waiting_at_first, is_blocked_anew, sections_seen}
 
 -- a proof that computes with the rules of a set says `unfolding rules_computed`
 unfoldable pub rules_computed : Unit {0}
-unfolding refusal_of whole_refusal refusal task_shape whole_range cluster_range resv_range task_range step_range sem_name resv_name
-    task_name step_name sem_sharing resv_sharing task_sharing step_sharing clusters_sharing whole_size task_size total_cpus group_in
-    cluster_in is_pcp_sem cluster_of_task cluster_of_resv runs nests after_op goes_on
+unfolding refusal_of whole_refusal refusal resv_shape task_shape whole_range cluster_range resv_range task_range step_range sem_name resv_name
+    task_name step_name sem_sharing resv_sharing task_sharing step_sharing clusters_sharing has_fmlp_users is_fmlp_sem whole_size task_size total_cpus group_in
+    cluster_in is_stacked_sem cluster_of_task cluster_of_resv runs nests after_op goes_on
 rules_computed = tt
+
+-- a proof that computes with the critical sections that block a job says `unfolding blocks_computed`
+unfoldable pub blocks_computed : Unit {0}
+unfolding is_of_pcp stays_ready is_lower is_inside entered reaches is_linked blocks was_blocked asks_linked is_prompt lower_waiting
+    waiting_at_first is_blocked_anew sections_seen
+blocks_computed = tt
 
 -- a task with a name of one letter
 abbrev pub named : ℕ → Task → Task
@@ -199,3 +211,196 @@ pub early_sporadic-later_key :
     ≡ record { band = 2; major = 110; minor = 1 }
 unfolding computed
 early_sporadic-later_key = refl
+
+-- two reservations of a cluster under P-RES, each with a client
+abbrev pub reserved : Resv → Group
+reserved r =
+    group_of plugins.PRes (cluster_with 1 0 ∷ []) [] (
+    record (table 10 1 (slot 0 3 ∷ [])) { name = 114 ∷ [] } ∷
+    record r { name = 115 ∷ [] } ∷
+    []) (
+    named 97 (client_of 1 (periodic 1 5 100 100)) ∷
+    named 98 (client_of 2 (periodic 2 1 100 100)) ∷
+    [])
+
+pub apart-valid : IsValid (reserved (table 10 1 (slot 5 6 ∷ []))).setup
+unfolding rules_computed
+apart-valid = refl
+
+-- tables with a tick in common: at it both have something left
+pub overlapping-refused : refusal_of (reserved (table 10 1 (slot 2 4 ∷ []))).setup ≡ Some (bad kinds.Sharing parts.Resv 1)
+unfolding rules_computed
+overlapping-refused = refl
+
+pub overlapping-left-1 : left (reserved (table 10 1 (slot 2 4 ∷ []))) 1 (past_by (reserved (table 10 1 (slot 2 4 ∷ []))) [] (step_of 0 2 tick ∷ [])) ≡ 1
+unfolding computed
+overlapping-left-1 = refl
+
+pub overlapping-left-2 : left (reserved (table 10 1 (slot 2 4 ∷ []))) 2 (past_by (reserved (table 10 1 (slot 2 4 ∷ []))) [] (step_of 0 2 tick ∷ [])) ≡ 2
+unfolding computed
+overlapping-left-2 = refl
+
+-- tables of two cycles, and another kind beside a table
+pub other_cycle-refused : refusal_of (reserved (table 20 1 (slot 5 6 ∷ []))).setup ≡ Some (bad kinds.Sharing parts.Resv 1)
+unfolding rules_computed
+other_cycle-refused = refl
+
+pub polling_beside-refused : refusal_of (reserved (reservation resv_kinds.Polling 1 10 1)).setup ≡ Some (bad kinds.Sharing parts.Resv 1)
+unfolding rules_computed
+polling_beside-refused = refl
+
+-- a semaphore whose protocol is not played
+abbrev pub srp_shared : Group
+srp_shared = group_of plugins.PsnEdf (cluster_with 1 0 ∷ []) (shared Srp ∷ []) [] (named 97 (using (1 ∷ []) (periodic 1 1 1000 100)) ∷ [])
+
+pub srp-refused : refusal_of srp_shared.setup ≡ Some (bad kinds.Sharing parts.Sem 0)
+unfolding rules_computed
+srp-refused = refl
+
+-- slots out of order, a slot beyond the cycle, no slot, a budget that is not their sum, and slots of another kind
+pub out_of_order-refused : refusal_of (reserved (table 10 1 (slot 6 8 ∷ slot 4 5 ∷ []))).setup ≡ Some (bad kinds.Range parts.Resv 1)
+unfolding rules_computed
+out_of_order-refused = refl
+
+pub beyond-refused : refusal_of (reserved (table 10 1 (slot 8 11 ∷ []))).setup ≡ Some (bad kinds.Range parts.Resv 1)
+unfolding rules_computed
+beyond-refused = refl
+
+pub no_slot-refused : refusal_of (reserved (record (table 10 1 []) { budget = 1 })).setup ≡ Some (bad kinds.Range parts.Resv 1)
+unfolding rules_computed
+no_slot-refused = refl
+
+pub other_budget-refused : refusal_of (reserved (record (table 10 1 (slot 5 6 ∷ [])) { budget = 2 })).setup ≡ Some (bad kinds.Range parts.Resv 1)
+unfolding rules_computed
+other_budget-refused = refl
+
+pub slots_of_polling-refused : refusal_of (reserved (record (reservation resv_kinds.Polling 1 10 1) { slots = slot 5 6 ∷ [] })).setup ≡ Some (bad kinds.Shape parts.Resv 1)
+unfolding rules_computed
+slots_of_polling-refused = refl
+
+-- two tasks under PCP: the first is blocked by the one section of the second
+abbrev pub pcp_pair : Group
+pcp_pair =
+    group_of plugins.PFp (cluster_with 1 0 ∷ []) (shared Pcp ∷ []) [] (
+    named 97 (using (1 ∷ []) (with_prio 1 (sporadic 1 1 1000 1000))) ∷
+    named 98 (using (1 ∷ []) (with_prio 2 (periodic 2 1 1000 1000))) ∷
+    [])
+
+abbrev pub pcp_pair_steps : List Step
+pcp_pair_steps =
+    step_of 0 0 irq ∷
+    step_of 0 0 (lock 1) ∷
+    step_of 0 1 (arrive 1) ∷
+    step_of 0 1 irq ∷
+    step_of 0 1 (lock 1) ∷
+    step_of 0 1 irq ∷
+    step_of 0 2 (unlock 1) ∷
+    []
+
+pub pcp_pair-valid : IsValid pcp_pair.setup
+unfolding rules_computed
+pcp_pair-valid = refl
+
+pub pcp_pair-seen : sections_seen pcp_pair 1 (past_by pcp_pair [] pcp_pair_steps) ≡ 1
+unfolding computed blocks_computed
+pcp_pair-seen = refl
+
+pub pcp_pair-section : was_blocked pcp_pair 1 2 1 (past_by pcp_pair [] pcp_pair_steps) ≡ true
+unfolding computed blocks_computed
+pcp_pair-section = refl
+
+pub pcp_pair-prompt : is_prompt pcp_pair 1 (past_by pcp_pair [] pcp_pair_steps) ≡ true
+unfolding computed blocks_computed
+pcp_pair-prompt = refl
+
+-- the interrupt is taken late: once task 1 is granted the semaphore, task 2 goes on where it should not, asks again and waits; so it is
+-- granted the semaphore when task 1 gives it back, and blocks task 1 a second time
+abbrev pub pcp_late_steps : List Step
+pcp_late_steps =
+    pcp_pair_steps ++
+    step_of 0 2 (lock 1) ∷
+    step_of 0 2 irq ∷
+    step_of 0 3 (unlock 1) ∷
+    step_of 0 3 (lock 1) ∷
+    []
+
+pub pcp_late-prompt : is_prompt pcp_pair 1 (past_by pcp_pair [] pcp_late_steps) ≡ false
+unfolding computed blocks_computed
+pcp_late-prompt = refl
+
+pub pcp_late-waiting : waiting_at_first pcp_pair 1 (past_by pcp_pair [] pcp_late_steps) ≡ 0
+unfolding computed blocks_computed
+pcp_late-waiting = refl
+
+pub pcp_late-seen : sections_seen pcp_pair 1 (past_by pcp_pair [] pcp_late_steps) ≡ 2
+unfolding computed blocks_computed
+pcp_late-seen = refl
+
+-- the same job sleeps, and then begins anew to go on: it is blocked by another section of task 2
+abbrev pub pcp_sleeper_steps : List Step
+pcp_sleeper_steps =
+    pcp_pair_steps ++
+    step_of 0 2 irq ∷
+    step_of 0 2 (unlock 1) ∷
+    step_of 0 2 (sleep 2) ∷
+    step_of 0 2 irq ∷
+    step_of 0 2 (lock 1) ∷
+    step_of 0 4 irq ∷
+    step_of 0 4 (lock 1) ∷
+    []
+
+pub pcp_sleeper-job : done 1 (past_by pcp_pair [] pcp_sleeper_steps) ≡ 0
+unfolding computed blocks_computed
+pcp_sleeper-job = refl
+
+pub pcp_sleeper-section : was_blocked pcp_pair 1 2 11 (past_by pcp_pair [] pcp_sleeper_steps) ≡ true
+unfolding computed blocks_computed
+pcp_sleeper-section = refl
+
+pub pcp_sleeper-seen : sections_seen pcp_pair 1 (past_by pcp_pair [] pcp_sleeper_steps) ≡ 1
+unfolding computed blocks_computed
+pcp_sleeper-seen = refl
+
+-- task 2 waits when task 1 begins, kept by a section of task 3: when task 1 gives its semaphore back task 2 is granted what it waits
+-- for, though task 1 is ready and of higher base key, and its section blocks task 1 too
+abbrev pub pcp_waiting : Group
+pcp_waiting =
+    group_of plugins.PFp (cluster_with 1 0 ∷ []) (shared Pcp ∷ record (shared Pcp) { name = 116 ∷ [] } ∷ []) [] (
+    named 97 (using (1 ∷ 2 ∷ []) (with_prio 1 (sporadic 1 1 1000 1000))) ∷
+    named 98 (using (2 ∷ []) (with_prio 2 (sporadic 2 1 1000 1000))) ∷
+    named 99 (using (1 ∷ []) (with_prio 3 (periodic 3 1 1000 1000))) ∷
+    [])
+
+abbrev pub pcp_waiting_steps : List Step
+pcp_waiting_steps =
+    step_of 0 0 irq ∷
+    step_of 0 0 (lock 1) ∷
+    step_of 0 1 (arrive 2) ∷
+    step_of 0 1 irq ∷
+    step_of 0 1 (lock 2) ∷
+    step_of 0 1 irq ∷
+    step_of 0 2 (arrive 1) ∷
+    step_of 0 2 irq ∷
+    step_of 0 2 (lock 1) ∷
+    step_of 0 2 irq ∷
+    step_of 0 3 (unlock 1) ∷
+    step_of 0 3 irq ∷
+    step_of 0 3 (unlock 1) ∷
+    step_of 0 3 (lock 2) ∷
+    []
+
+pub pcp_waiting-valid : IsValid pcp_waiting.setup
+unfolding rules_computed
+pcp_waiting-valid = refl
+
+pub pcp_waiting-prompt : is_prompt pcp_waiting 1 (past_by pcp_waiting [] pcp_waiting_steps) ≡ true
+unfolding computed blocks_computed
+pcp_waiting-prompt = refl
+
+pub pcp_waiting-first : waiting_at_first pcp_waiting 1 (past_by pcp_waiting [] pcp_waiting_steps) ≡ 1
+unfolding computed blocks_computed
+pcp_waiting-first = refl
+
+pub pcp_waiting-seen : sections_seen pcp_waiting 1 (past_by pcp_waiting [] pcp_waiting_steps) ≡ 2
+unfolding computed blocks_computed
+pcp_waiting-seen = refl

@@ -17,7 +17,9 @@ use Rattle.rt_model.specs.Releases.{arrivals, release, exists}
 use Rattle.rt_model.specs.Reservations.{front, left, last}
 use Rattle.rt_model.specs.Runs.{runs}
 use Rattle.rt_model.specs.Sleep.{sleeps}
+use Rattle.rt_model.specs.StackPolicy.{srp}
 use Rattle.rt_model.specs.Tops.{eligible, top}
+use Rattle.rt_model.specs.UnderWay.{under_way}
 use Rattle.rt_laws.specs.EveryPast.{EveryPast}
 
 -- all that the definitions give is the same in two pasts: of each task, semaphore, cluster, processor, reservation and request
@@ -38,6 +40,8 @@ pub record IsSame (g : Group) (past past' : Past) : Type 0 where
   pub eligible_same : (t : ℕ) → eligible g t past' ≡ eligible g t past
   pub sem_state_same : (s : ℕ) → sem_state g s past' ≡ sem_state g s past
   pub pcp_same : (c : ℕ) → pcp g c past' ≡ pcp g c past
+  pub srp_same : (c : ℕ) → srp g c past' ≡ srp g c past
+  pub under_way_same : (t : ℕ) → under_way t past' ≡ under_way t past
   pub top_same : (c : ℕ) → top g c past' ≡ top g c past
   pub links_same : (c : ℕ) → links g c past' ≡ links g c past
   pub linked_same : (q : ℕ) → linked g q past' ≡ linked g q past

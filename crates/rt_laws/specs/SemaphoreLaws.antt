@@ -1,7 +1,8 @@
 -- Tasks and semaphores: what each task that runs, holds or waits may rely on.
-use Rattle.std.specs.Prelude.{◌≡◌, ℕ, ◌≤◌, length, Bool, true, false, not, ◌||◌, ◌∷◌, None, Some, is_some}
+use Rattle.std.specs.Prelude.{◌≡◌, ℕ, ◌≤◌, List, length, Bool, true, false, not, ◌||◌, ◌∷◌, None, Some, is_some}
+use Rattle.rt_task.specs.RuleWords.{is_stacked}
 use Rattle.rt_rules.specs.Numbers.{has, is_empty}
-use Rattle.rt_rules.specs.Pcp.{of_sem}
+use Rattle.rt_rules.specs.Pcp.{TaskSem, of_sem}
 use Rattle.rt_rules.specs.SemState.{Asks}
 use Rattle.rt_model.specs.BaseKeys.{base_key}
 use Rattle.rt_model.specs.Ceilings.{is_pcp, pcp}
@@ -11,6 +12,7 @@ use Rattle.rt_model.specs.Past.{Event, Past, ends_job, sem_act}
 use Rattle.rt_model.specs.Releases.{exists}
 use Rattle.rt_model.specs.Runs.{runs}
 use Rattle.rt_model.specs.Sleep.{sleeps}
+use Rattle.rt_model.specs.StackPolicy.{srp}
 use Rattle.rt_laws.specs.EveryPast.{EveryPast, EveryMove}
 
 -- the current job of a task is there, and it neither sleeps nor waits
@@ -49,10 +51,10 @@ pub record KeepsJob (g : Group) (t : ℕ) (e : Event) (past : Past) : Type 0 whe
 abbrev pub EngagedKeepsJob : Type 0
 EngagedKeepsJob = EveryMove (λ g e past. (t : ℕ) → is_engaged g t (e ∷ past) ≡ true → KeepsJob g t e past)
 
--- a task asks for a semaphore: it holds PCP semaphores alone, and none where it asks for another kind
+-- a task asks for a semaphore: it holds PCP and SRP semaphores alone, and none where it asks for another kind
 pub record IsUnnested (g : Group) (t s : ℕ) (past : Past) : Type 0 where
-  pub holds_none : is_pcp (protocol g s) ≡ false → is_empty (holds g t past) ≡ true
-  pub holds_pcp : (r : ℕ) → has r (holds g t past) ≡ true → is_pcp (protocol g r) ≡ true
+  pub holds_none : is_stacked (protocol g s) ≡ false → is_empty (holds g t past) ≡ true
+  pub holds_stacked : (r : ℕ) → has r (holds g t past) ≡ true → is_stacked (protocol g r) ≡ true
 
 -- Requests of FMLP, OMLP and MPCP do not nest: their task holds nothing when it asks, and asks for nothing while it holds.
 abbrev pub RequestsDoNotNest : Type 0
@@ -61,21 +63,25 @@ RequestsDoNotNest = EveryMove (λ g e past. (t s : ℕ) → sem_act e ≡ Asks t
 -- The holder of an FMLP, OMLP or MPCP semaphore holds no other.
 abbrev pub HolderHoldsOne : Type 0
 HolderHoldsOne =
-    EveryPast (λ g past. (t s r : ℕ) → has s (sems g) ≡ true → has r (sems g) ≡ true → is_pcp (protocol g s) ≡ false →
+    EveryPast (λ g past. (t s r : ℕ) → has s (sems g) ≡ true → has r (sems g) ≡ true → is_stacked (protocol g s) ≡ false →
     holder g s past ≡ Some t → holder g r past ≡ Some t → s ≡ r)
 
--- The holder of an FMLP, OMLP or MPCP semaphore never waits.
+-- The holder of a semaphore never waits, but for PCP.
 abbrev pub HolderWaitsNot : Type 0
 HolderWaitsNot =
     EveryPast (λ g past. (t s : ℕ) → has s (sems g) ≡ true → is_pcp (protocol g s) ≡ false →
     holder g s past ≡ Some t → awaits g t past ≡ None)
 
--- a semaphore stands once among the PCP grants of all clusters
-pub record HasOneGrant (g : Group) (s : ℕ) (past : Past) : Type 0 where
-  pub once : (c : ℕ) → length (of_sem s (pcp g c past).held) ≤ 1
-  pub one_cluster : (b c t u : ℕ) → has t (of_sem s (pcp g b past).held) ≡ true → has u (of_sem s (pcp g c past).held) ≡ true → b ≡ c
+-- a semaphore stands once among what is held in all clusters
+pub record StandsOnce (s : ℕ) (held : ℕ → List TaskSem) : Type 0 where
+  pub once : (c : ℕ) → length (of_sem s (held c)) ≤ 1
+  pub one_cluster : (b c t u : ℕ) → has t (of_sem s (held b)) ≡ true → has u (of_sem s (held c)) ≡ true → b ≡ c
 
--- Each semaphore has at most one holder: under PCP it is granted once at most, in one cluster; under the other protocols the
+pub record HasOneGrant (g : Group) (s : ℕ) (past : Past) : Type 0 where
+  pub of_pcp : StandsOnce s (λ c. (pcp g c past).held)
+  pub of_srp : StandsOnce s (λ c. srp g c past)
+
+-- Each semaphore has at most one holder: under PCP and SRP it is granted once at most, in one cluster; under the other protocols the
 -- holder is one by its form.
 abbrev pub OneHolder : Type 0
 OneHolder = EveryPast (λ g past. (s : ℕ) → HasOneGrant g s past)

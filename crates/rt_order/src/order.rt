@@ -32,7 +32,7 @@ pub trait Order<L: Ledger>: Ordered {
 }
 
 /// The order of the keys themselves: band, then major, then minor, the smaller being the higher.
-#[derive(Clone, Copy, Debug)]
+#[derive(Clone, Copy)]
 pub struct ByKey;
 
 impl Ordered for ByKey {

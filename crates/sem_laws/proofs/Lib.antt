@@ -1,2 +1,1 @@
 pub mod TaskNumbers
-pub mod PlainLists

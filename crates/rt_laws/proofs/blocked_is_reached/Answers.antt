@@ -1,0 +1,5 @@
+use Rattle.rt_laws.proofs.Witness as laws
+use Rattle.rt_laws.proofs.blocked_is_reached.Goals as goal
+
+pub returns : goal.returns
+returns c = laws.blocked_is_reached

@@ -1,0 +1,5 @@
+use Rattle.rt_laws.proofs.BoostedHolders as laws
+use Rattle.rt_laws.proofs.boosted_is_linked.Goals as goal
+
+pub returns : goal.returns
+returns c = laws.boosted_is_linked

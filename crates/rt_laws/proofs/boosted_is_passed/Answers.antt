@@ -1,0 +1,5 @@
+use Rattle.rt_laws.proofs.Reached as laws
+use Rattle.rt_laws.proofs.boosted_is_passed.Goals as goal
+
+pub returns : goal.returns
+returns c = laws.boosted_is_passed

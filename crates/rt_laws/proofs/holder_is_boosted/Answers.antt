@@ -1,0 +1,5 @@
+use Rattle.rt_laws.proofs.BoostedHolders as laws
+use Rattle.rt_laws.proofs.holder_is_boosted.Goals as goal
+
+pub returns : goal.returns
+returns c = laws.holder_is_boosted

@@ -1,0 +1,5 @@
+use Rattle.rt_laws.proofs.InOrder as laws
+use Rattle.rt_laws.proofs.later_requests_wait.Goals as goal
+
+pub returns : goal.returns
+returns c = laws.later_requests_wait

@@ -1,0 +1,5 @@
+use Rattle.rt_laws.proofs.Reached as laws
+use Rattle.rt_laws.proofs.mpcp_exceeds_fmlp_bound.Goals as goal
+
+pub returns : goal.returns
+returns c = laws.mpcp_exceeds_fmlp_bound

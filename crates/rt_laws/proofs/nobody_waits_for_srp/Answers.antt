@@ -1,0 +1,5 @@
+use Rattle.rt_laws.proofs.SrpOnce as laws
+use Rattle.rt_laws.proofs.nobody_waits_for_srp.Goals as goal
+
+pub returns : goal.returns
+returns c = laws.nobody_waits_for_srp

@@ -1,0 +1,5 @@
+use Rattle.rt_laws.proofs.Reached as laws
+use Rattle.rt_laws.proofs.requests_stand_in_line.Goals as goal
+
+pub returns : goal.returns
+returns c = laws.requests_stand_in_line

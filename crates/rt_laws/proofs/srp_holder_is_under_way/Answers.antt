@@ -1,0 +1,5 @@
+use Rattle.rt_laws.proofs.SrpOnce as laws
+use Rattle.rt_laws.proofs.srp_holder_is_under_way.Goals as goal
+
+pub returns : goal.returns
+returns c = laws.srp_holder_is_under_way

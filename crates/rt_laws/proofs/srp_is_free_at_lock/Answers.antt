@@ -1,0 +1,5 @@
+use Rattle.rt_laws.proofs.SrpOnce as laws
+use Rattle.rt_laws.proofs.srp_is_free_at_lock.Goals as goal
+
+pub returns : goal.returns
+returns c = laws.srp_is_free_at_lock

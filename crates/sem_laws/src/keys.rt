@@ -1,0 +1,16 @@
+//! The keys with which tasks asked.
+ghost use Rattle.std.specs.Prelude.{◌≡◌};
+ghost use Rattle.sem_laws.specs.KeptKeys.{key_at};
+
+use rt_order::Key;
+
+/// The key at a place, or the highest of all past the end.
+pub fn key_in(keys: &[Key], place: u32) -> Key
+    ensures { result ≡ key_at keys.now place }
+{
+    keys.get(place as usize).copied().unwrap_or(Key {
+        band: 0,
+        major: 0,
+        minor: 0,
+    })
+}
