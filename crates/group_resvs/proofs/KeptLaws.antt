@@ -8,7 +8,7 @@ use Rattle.rt_task.specs.RuleWords.{is_p_res}
 use Rattle.rt_task.specs.Validity.{IsValid}
 use Rattle.rt_task.specs.declared.PluginKind.{PluginKind}
 use Rattle.rt_task.specs.declared.ResvKind.{ResvKind}
-use Rattle.rt_task.specs.declared.ResvKind.TheVariants.{Polling, Sporadic}
+use Rattle.rt_task.specs.declared.ResvKind.TheVariants.{Polling, Sporadic, Table}
 use Rattle.rt_task.specs.declared.PluginKind.TheVariants as plugins
 use Rattle.rt_rules.specs.Numbers.{foremost, has, is, same}
 use Rattle.rt_rules.specs.Placing.{tasks_in}
@@ -148,6 +148,7 @@ module _ (g : Group) (valid : IsValid g.setup) (plugin : g.setup.plugin ≡ plug
       by_kind : (k : ResvKind) → (settled_by k n s).releases ≡ s.releases
       by_kind Polling = by_polling (has_ready s.releases)
       by_kind Sporadic = by_sporadic (has_ready s.releases && is_over n s.period s.refilled)
+      by_kind Table = refl
 
   -- what the end of a move makes of all servers
   ended-server : (w z : Served) (r : ℕ) → z ≡ all_settled w → IsResv z r → IsResv w r × (server z r ≡ settled w.clock (server w r))

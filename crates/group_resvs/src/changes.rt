@@ -4,7 +4,6 @@ ghost use Rattle.rt_base.specs.TaskNos.{number_of_task, numbers, numbers_of_task
 ghost use Rattle.group_resvs.specs.GroupResvs.{all_changed, changed_of};
 ghost use Rattle.rt_rules.specs.Placing.{tasks_in};
 
-use crate::room::put;
 use rt_base::TaskNo;
 
 /// Adds the task, if there is one, in room that was taken before.
@@ -16,7 +15,7 @@ fn put_any(into: &mut Vec<TaskNo>, task: Option<TaskNo>)
     ensures capacity { vec_capacity into.old ≤ vec_capacity into.new }
 {
     if let Some(task) = task {
-        put(into, task);
+        into.push_reserved(task);
     }
 }
 

@@ -10,7 +10,6 @@ ghost use Rattle.group_resvs.specs.GroupResvs.{IsSettled, HasUnit, is_served, la
 
 mod changes;
 mod laws;
-mod room;
 mod serving;
 mod settling;
 mod touched;
@@ -80,9 +79,7 @@ impl GroupResvs {
         let resvs = Resvs::new(alloc, setup, group)?;
         let serves = nobody(alloc, count)?;
         let before = nobody(alloc, count)?;
-        let Ok(changed) = Vec::with_capacity(alloc, count + count) else {
-            return Err(NoMemory);
-        };
+        let changed = Vec::with_capacity(alloc, count + count)?;
         Ok(GroupResvs {
             resvs,
             touched: Touched::Many,
@@ -194,8 +191,5 @@ fn nobody(alloc: Global, count: usize) -> Result<Vec<Option<TaskNo>>, NoMemory>
     ensures len { IfOk result (λ v. vec_len v ≡ count) }
     ensures capacity { IfOk result (λ v. count ≤ vec_capacity v) }
 {
-    vec![in alloc; None; count].map_err(|_| NoMemory)
+    Ok(vec![in alloc; None; count]?)
 }
-
-#[cfg(test)]
-mod tests;

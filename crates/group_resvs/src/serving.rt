@@ -5,7 +5,6 @@ ghost use Rattle.rt_base.specs.TaskNos.{number_of_task, numbers_of_tasks};
 ghost use Rattle.resv_core.specs.Served.{server, IsResv};
 ghost use Rattle.group_resvs.specs.GroupResvs.{AllServe, Serves};
 
-use crate::room::put;
 use resv_core::Resvs;
 use rt_base::{ResvNo, TaskNo};
 
@@ -31,6 +30,6 @@ pub(crate) fn list_served(resvs: &Resvs, into: &mut Vec<Option<TaskNo>>)
 {
     into.clear();
     for i in 0..resvs.count() {
-        put(into, served_by(resvs, ResvNo(i as u32 + 1)));
+        into.push_reserved(served_by(resvs, ResvNo(i as u32 + 1)));
     }
 }

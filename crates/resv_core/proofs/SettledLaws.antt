@@ -3,7 +3,7 @@ use Rattle.std.proofs.Common.{◌≡◌, ℕ, ◌/◌, Bool, true, false, ◌&&�
 use Rattle.std.specs.Prelude.{Some, nat_lt, if◌then◌else◌}
 use Rattle.std.proofs.lemmas.Bool.Decides.{nat_tests}
 use Rattle.rt_task.specs.declared.ResvKind.{ResvKind}
-use Rattle.rt_task.specs.declared.ResvKind.TheVariants.{Polling, Sporadic}
+use Rattle.rt_task.specs.declared.ResvKind.TheVariants.{Polling, Sporadic, Table}
 use Rattle.resv_core.specs.Served.{Served, ServerState, has_ready, is_over, refilled_at, settled, ticked, ticked_by, with_each}
 
 either : (b : Bool) (s : ServerState) → (if b then s else s) ≡ s
@@ -29,6 +29,7 @@ settled-twice clock s = by_kind s.kind
         by_due : (b : Bool) → has_ready s.releases && is_over clock s.period s.refilled ≡ b → settled clock (settled clock (of_kind Sporadic s)) ≡ settled clock (of_kind Sporadic s)
         by_due true e = rw e (either (has_ready s.releases && is_over clock s.period (Some clock)) (refilled_at clock (of_kind Sporadic s)))
         by_due false e = rw (e, e) refl
+    by_kind Table = refl
 
 -- ---- a clock that stands
 
@@ -38,6 +39,7 @@ ticked-standing clock s = by_kind s.kind
     by_kind : (kind : ResvKind) → ticked_by kind clock clock s ≡ s
     by_kind Polling = let none : nat_lt (clock / s.period) (clock / s.period) ≡ false = grind (arith, nat_tests) in rw none refl
     by_kind Sporadic = refl
+    by_kind Table = let still : nat_lt clock clock ≡ false = grind (arith, nat_tests) in rw still refl
 
 pub all-standing : (v : Served) (clock : ℕ) → v.clock ≡ clock → record (with_each (ticked v.clock clock) v) { clock = clock } ≡ v
 all-standing v clock e = rw (← e) (ap (λ xs. record v { servers = xs }) (each v.servers))

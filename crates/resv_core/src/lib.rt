@@ -1,4 +1,5 @@
-//! Reservations of a group, polling or sporadic as in LITMUS-RT's P-RES: the ready clients and the budget of each.
+//! Reservations of a group, polling, sporadic or table-driven as in LITMUS-RT's P-RES: the ready clients and the budget of
+//! each.
 #![tactic(auto)]
 
 ghost use Rattle.std.specs.Prelude.{◌≡◌, ◌≤◌, IfNone, IfOk, IfSome, IsSome, None, false, length, option_map, slice_index_or};
@@ -9,7 +10,8 @@ ghost use Rattle.resv_core.specs.Served.{server, server_of, with_each, with_serv
 mod opening;
 mod server;
 
-use rt_base::{GroupNo, NoMemory, ResvNo, TaskNo, Tick};
+use resv_table::Table;
+use rt_base::{ClusterNo, GroupNo, NoMemory, ResvNo, TaskNo, Tick};
 use rt_task::Setup;
 use server::Server;
 use std::alloc::Global;
@@ -18,13 +20,15 @@ use std::marker::Model;
 /// What is shown of a reservation between two moves.
 #[derive(Clone, Copy, Debug, PartialEq, Eq)]
 pub struct ResvState {
-    /// The tick of the last replenishment; of a polling reservation, the tick at which the period of that one began.
+    /// The tick of the last replenishment; of a polling reservation, the tick at which the period of that one began; of a
+    /// table reservation, the tick at which the slot that holds the clock began.
     pub last: Option<Tick>,
-    /// The units of work that are left of the budget.
+    /// The units of work that are left of the budget; of a table reservation, the ticks that are left of the slot.
     pub left: u64,
 }
 
-/// The reservations of one group, polling or sporadic as in LITMUS-RT's P-RES, with their ready clients and budgets.
+/// The reservations of one group, polling, sporadic or table-driven as in LITMUS-RT's P-RES, with their ready clients and
+/// budgets.
 ///
 /// A move of the group is told by `tick` where it moves the clock, `charge` where a client worked, `client_ready` and
 /// `client_gone` for the clients that it made so, and `settle` at its end. So is the opening, with no `tick`. Each
@@ -36,10 +40,15 @@ pub struct Resvs {
     servers: Vec<Server>,
     // By the number of the task.
     served_by: Vec<Option<ResvNo>>,
+    // By the numbers of the reservations, less 1.
+    homes: Vec<ClusterNo>,
+    // By the numbers of the clusters; of each that has table reservations.
+    tables: Vec<Option<Table>>,
 }
 
 impl Model for Resvs {
     ghost use Rattle.resv_core.specs.Served.{Served, IsPlaced};
+    ghost use Rattle.resv_core.specs.Known.{AreKnown};
 
     ghost Value = { Served };
 
@@ -49,7 +58,8 @@ impl Model for Resvs {
       served_by = a.served_by.items;
     } };
 
-    ghost invariant = { λ a. IsPlaced a.servers.items a.served_by.items };
+    ghost invariant = { λ a. IsPlaced a.servers.items a.served_by.items
+        × AreKnown a.tables.items a.homes.items a.servers.items };
 }
 
 impl Resvs {
@@ -62,10 +72,14 @@ impl Resvs {
         let parts = setup.parts();
         let servers = opening::servers(alloc, parts, group)?;
         let served_by = opening::served_by(alloc, parts, group)?;
+        let homes = opening::homes(alloc, parts)?;
+        let tables = opening::tables(alloc, setup)?;
         Ok(Resvs {
             clock: 0,
             servers,
             served_by,
+            homes,
+            tables,
         })
     }
 
@@ -124,7 +138,7 @@ impl Resvs {
     }
 
     /// Moves the clock, which never falls. Several periods that begin in one move are one replenishment of a polling
-    /// reservation.
+    /// reservation. A table reservation has what is left of its slot that holds the clock, and else nothing.
     ///
     /// Example: `resvs.tick(Tick(25))` from tick 0 replenishes a polling reservation of period 10 once.
     pub fn tick(&mut self, now: Tick)
@@ -133,12 +147,15 @@ impl Resvs {
             record (with_each (ticked self.old.clock now.0) self.old) { clock = now.0 } }
     {
         if self.clock < now.0 {
-            server::tick_each(&mut self.servers, self.clock, now.0);
+            let homes = self.homes.as_slice();
+            let tables = self.tables.as_slice();
+            server::tick_each(&mut self.servers, homes, tables, self.clock, now.0);
             self.clock = now.0;
         }
     }
 
-    /// A client of the reservation worked one unit. It counts before what its move replenishes or loses.
+    /// A client of the reservation worked one unit. It counts before what its move replenishes or loses. A table reservation
+    /// stays as it is.
     ///
     /// Example: `resvs.charge(r)` where a client's work was accepted, which needs a budget of at least 1.
     pub fn charge(&mut self, r: ResvNo)
@@ -209,6 +226,3 @@ fn resv_at(served_by: &[Option<ResvNo>], task: TaskNo) -> Option<ResvNo>
 {
     served_by.get(task.0 as usize).copied().flatten()
 }
-
-#[cfg(test)]
-mod tests;

@@ -1,17 +1,28 @@
 //! One reservation as it stands.
 ghost use Rattle.std.specs.Prelude.{◌≡◌, ◌≤◌, ◌<◌, IfNone, IfOk, IfSome, false, length, map, option_map};
+ghost use Rattle.resv_core.specs.Known.{place_in, AreKnown};
 ghost use Rattle.rt_base.specs.declared.Tick.{Tick};
 ghost use Rattle.resv_core.specs.Releases.{key_of_release};
-ghost use Rattle.resv_core.specs.Served.{charged, fresh, gone, has_ready, is_over, last_of, left_of, readied};
-ghost use Rattle.resv_core.specs.Served.{refilled_at, settled, ticked, IsFront};
+ghost use Rattle.resv_core.specs.Served.{charged, first_refill, fresh, gone, has_ready, is_over, last_of, left_of, place_at, place_by};
+ghost use Rattle.resv_core.specs.Served.{readied, refilled_at, settled, ticked, ticked_to, unspent, IsFront};
 
 use crate::ResvState;
 use ready_heap::{ReadyHeap, uncounted};
-use rt_base::{NoMemory, TaskNo, Tick};
+use resv_table::Table;
+use rt_base::{ClusterNo, NoMemory, ResvNo, TaskNo, Tick};
 use rt_order::{ByKey, Key};
-use rt_task::{Resv, ResvKind};
+use rt_task::{Resv, ResvKind, Slot, Slots};
 use std::alloc::Global;
 use std::marker::Model;
+
+/// Where a clock stands in a slot of a table.
+#[derive(Clone, Copy, PartialEq, Eq)]
+pub(crate) struct InSlot {
+    /// The clock at which the slot began.
+    pub(crate) began: u64,
+    /// The ticks up to its end.
+    pub(crate) left: u64,
+}
 
 /// A reservation, with its ready clients in a heap by release.
 #[derive(Drop)]
@@ -19,6 +30,7 @@ pub(crate) struct Server {
     kind: ResvKind,
     budget: u64,
     period: u64,
+    slots: Slots,
     clients: ReadyHeap<ByKey>,
     // The clock of the last replenishment.
     refilled: Option<u64>,
@@ -26,6 +38,8 @@ pub(crate) struct Server {
     spent: u64,
     // Whether what was left was lost since.
     lost: bool,
+    // Of a table reservation, where the clock stands in its slots.
+    in_slot: Option<InSlot>,
 }
 
 impl Model for Server {
@@ -39,10 +53,12 @@ impl Model for Server {
       kind = s.kind;
       budget = s.budget;
       period = s.period;
+      slots = s.slots;
       releases = releases_in s.clients.keys;
       refilled = s.refilled;
       spent = s.spent;
       lost = s.lost;
+      in_slot = s.in_slot;
     } };
 
     ghost invariant = { λ s. (1 ≤ s.period) × AreReleases s.clients.keys };
@@ -59,26 +75,71 @@ fn key_of(release: u64) -> Key
     }
 }
 
+fn copied(alloc: Global, slots: &[Slot]) -> Result<Slots, NoMemory>
+    ensures { IfOk result (λ copy. copy ≡ slots.now) }
+{
+    let copy = Vec::from_slice(alloc, slots)?;
+    Ok(Slots::from_vec(copy))
+}
+
+/// Where the clock stands in the slots of a cycle.
+fn place_at(cycle: u64, slots: &[Slot], clock: u64) -> Option<InSlot>
+    requires { 1 ≤ cycle }
+    ensures { result ≡ place_at cycle slots.now clock }
+{
+    let t = clock % cycle;
+    for slot in slots {
+        if slot.from <= t && t < slot.to {
+            return Some(InSlot {
+                began: clock - (t - slot.from),
+                left: slot.to - t,
+            });
+        }
+    }
+    None
+}
+
+/// The last replenishment at the opening, before it is settled.
+fn first_refill(kind: ResvKind) -> Option<u64>
+    ensures { result ≡ first_refill kind }
+{
+    match kind {
+        ResvKind::Polling => Some(0),
+        ResvKind::Sporadic | ResvKind::Table => None,
+    }
+}
+
+/// Where clock 0 stands in the slots of a table.
+fn first_slot(kind: ResvKind, period: u64, slots: &[Slot]) -> Option<InSlot>
+    requires { 1 ≤ period }
+    ensures { result ≡ place_by kind period slots.now 0 }
+{
+    match kind {
+        ResvKind::Polling | ResvKind::Sporadic => None,
+        ResvKind::Table => place_at(period, slots, 0),
+    }
+}
+
 impl Server {
     /// A reservation at the opening, for clients whose numbers are below the room, none of them ready.
     pub(crate) fn new(alloc: Global, resv: &Resv, room: u32) -> Result<Server, NoMemory>
         requires { 1 ≤ resv.now.period }
         ensures { IfOk result (λ s. s ≡
-            fresh resv.now.kind resv.now.budget resv.now.period room) }
+            fresh resv.now.kind resv.now.budget resv.now.period resv.now.slots room) }
     {
         let clients = ReadyHeap::new(alloc, ByKey, room)?;
-        let refilled = match resv.kind {
-            ResvKind::Polling => Some(0),
-            ResvKind::Sporadic => None,
-        };
+        let slots = copied(alloc, resv.slots.as_slice())?;
+        let in_slot = first_slot(resv.kind, resv.period, slots.as_slice());
         Ok(Server {
             kind: resv.kind,
             budget: resv.budget,
             period: resv.period,
+            slots,
             clients,
-            refilled,
+            refilled: first_refill(resv.kind),
             spent: 0,
             lost: false,
+            in_slot,
         })
     }
 
@@ -99,9 +160,9 @@ impl Server {
         uncounted::take_out(&mut self.clients, task);
     }
 
-    /// The clock goes from `old` to `new`.
-    pub(crate) fn tick(&mut self, old: u64, new: u64)
-        ensures { self.new ≡ ticked old new self.old }
+    /// The clock goes from `old` to `new`, which stands at this place in the slots of a table.
+    pub(crate) fn tick(&mut self, old: u64, new: u64, place: Option<InSlot>)
+        ensures { self.new ≡ ticked_to place old new self.old }
     {
         match self.kind {
             ResvKind::Polling => {
@@ -110,6 +171,11 @@ impl Server {
                 }
             }
             ResvKind::Sporadic => {}
+            ResvKind::Table => {
+                if old < new {
+                    self.in_slot = place;
+                }
+            }
         }
     }
 
@@ -118,7 +184,10 @@ impl Server {
         requires { 1 ≤ left_of self.old }
         ensures { self.new ≡ charged self.old }
     {
-        self.spent += 1;
+        match self.kind {
+            ResvKind::Polling | ResvKind::Sporadic => self.spent += 1,
+            ResvKind::Table => {}
+        }
     }
 
     /// Ends a move at this clock.
@@ -136,12 +205,25 @@ impl Server {
                     self.refill(clock);
                 }
             }
+            ResvKind::Table => {}
         }
     }
 
-    /// What is left of the budget.
+    /// What is left of the budget, or of the slot.
     pub(crate) fn left(&self) -> u64
         ensures { result ≡ left_of self.now }
+    {
+        match self.kind {
+            ResvKind::Polling | ResvKind::Sporadic => self.unspent(),
+            ResvKind::Table => match self.in_slot {
+                Some(place) => place.left,
+                None => 0,
+            },
+        }
+    }
+
+    fn unspent(&self) -> u64
+        ensures { result ≡ unspent self.now }
     {
         if self.refilled.is_some() && !self.lost {
             self.budget.saturating_sub(self.spent)
@@ -173,6 +255,7 @@ impl Server {
         ensures { option_map (λ (t : Tick). t.0) result ≡ last_of self.now }
     {
         match (self.kind, self.refilled) {
+            (ResvKind::Table, _) => self.in_slot.map(|place| Tick(place.began)),
             (ResvKind::Polling, Some(clock)) => Some(Tick(clock / self.period * self.period)),
             (ResvKind::Sporadic, Some(clock)) => Some(Tick(clock)),
             (_, None) => None,
@@ -204,12 +287,37 @@ impl Server {
     }
 }
 
+// Where the table of the cluster has the clock in the slots of the reservation.
+fn place_in(tables: &[Option<Table>], home: ClusterNo, resv: ResvNo, clock: u64) -> Option<InSlot>
+    ensures { result ≡ place_in tables.now home resv.0 clock }
+{
+    let Some(Some(table)) = tables.get(home.0 as usize) else {
+        return None;
+    };
+    let served = table.served(Tick(clock))?;
+    if served.resv != resv {
+        return None;
+    }
+    Some(InSlot {
+        began: served.from.0,
+        left: served.left,
+    })
+}
+
 /// Moves the clock of each reservation from `old` to `new`.
-pub(crate) fn tick_each(servers: &mut [Server], old: u64, new: u64)
+pub(crate) fn tick_each(
+    servers: &mut [Server],
+    homes: &[ClusterNo],
+    tables: &[Option<Table>],
+    old: u64,
+    new: u64,
+)
+    requires { AreKnown tables.now homes.now servers.old }
     ensures { servers.new ≡ map (ticked old new) servers.old }
 {
-    for server in servers.iter_mut() {
-        server.tick(old, new);
+    for (i, home) in homes.iter().enumerate() {
+        let place = place_in(tables, *home, ResvNo(i as u32 + 1), new);
+        servers[i].tick(old, new, place);
     }
 }
 

@@ -1,5 +1,5 @@
 -- Clients that are told one after the other.
-use Rattle.std.proofs.Common.{◌≡◌, ◌≢◌, ℕ, ◌<◌, ◌≤◌, Bool, true, false, ◌||◌, List, [], ◌∷◌, length, get_or, set, length-set, get_or-set_same, get_or-set_other, eqb-true, refl, sym, ap, ◌∙◌, subst, arith}
+use Rattle.std.proofs.Common.{◌≡◌, ◌≢◌, ℕ, Bool, true, false, ◌||◌, List, [], ◌∷◌, length, get_or, set, length-set, get_or-set_same, get_or-set_other, eqb-true, refl, sym, ap, ◌∙◌, subst, arith}
 use Rattle.std.proofs.lemmas.List.{length-map}
 use Rattle.std.specs.Prelude.{Option, None, Some, ◌==◌, if◌then◌else◌}
 use Rattle.rt_task.specs.Validity.{IsValid}
@@ -8,11 +8,10 @@ use Rattle.rt_rules.specs.Numbers.{has}
 use Rattle.rt_rules.proofs.BoolLaws.{both}
 use Rattle.rt_rules.proofs.MemberLaws.{equal_self, has-filter}
 use Rattle.rt_model.specs.Group.{Group, clients, resv, served_by, tasks}
-use Rattle.rt_model.specs.Past.{Event, Past, now}
 use Rattle.rt_laws.proofs.Moves.{last_move}
-use Rattle.resv_core.specs.Served.{Served, ServerState, IsResv, is_here, no_server, opened, opened_server, release_at, server, server_of, settled}
-use Rattle.resv_laws.specs.Kept.{AreClientsOf, IsStateOf, ready_release, told_now}
-use Rattle.resv_laws.specs.Serving.{AllOpenedInAnyOrder, AreListed, AreTold, ClientsAreListed, EachIsTold, IsServing, NobodyIsListed, all_begun, all_settled, for_task, told_each}
+use Rattle.resv_core.specs.Served.{Served, ServerState, IsResv, is_here, opened, opened_server, release_at, server, server_of, settled}
+use Rattle.resv_laws.specs.Kept.{IsStateOf, ready_release, told_now}
+use Rattle.resv_laws.specs.Serving.{AllOpenedInAnyOrder, AreListed, ClientsAreListed, EachIsTold, NobodyIsListed, all_settled, for_task, told_each}
 use Rattle.resv_laws.proofs.KeptLaws.{begun-releases, client-numbered, none_there, opened-releases, opening_in_any_order}
 use Rattle.resv_laws.proofs.ServingLaws.{Keeps, all-begun, each-server, for_task-keeps, for_task-server, keeps-self, keeps-then, opened-clock, opened-numbers, opened-server, opened-serves, resv-kept}
 use Rattle.resv_laws.proofs.ValidClients.{tied}

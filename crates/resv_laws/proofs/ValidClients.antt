@@ -86,6 +86,7 @@ pub record IsTied (g : Group) (t : ℕ) : Type 0 where
   pub low : 1 ≤ served_by g t
   pub high : served_by g t ≤ length g.setup.resvs
   pub here : is_here g.setup g.number (resv g (served_by g t)) ≡ true
+  pub at_home : (resv g (served_by g t)).cluster.0 ≡ home g t
 
 served-some : (g : Group) (t : ℕ) (r : ResvNo) → (task g t).resv ≡ Some r → served_by g t ≡ r.0
 unfolding served_by
@@ -131,4 +132,5 @@ tied g valid plugin t h = by_case (get_or g.setup.tasks (t - 1) no_task).resv re
           low = subst (λ n. 1 ≤ n) (sym is) least;
           high = subst (λ n. n ≤ length g.setup.resvs) (sym is) high;
           here = subst (λ n. is_here g.setup g.number (get_or g.setup.resvs (n - 1) no_resv) ≡ true) (sym is) here;
+          at_home = ap (λ n. (get_or g.setup.resvs (n - 1) no_resv).cluster.0) is ∙ at_home;
         }

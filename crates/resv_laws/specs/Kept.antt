@@ -3,13 +3,15 @@ use Rattle.std.specs.Prelude.{◌≡◌, ℕ, ◌<◌, ◌≤◌, Bool, true, fa
 use Rattle.std.specs.List.{list_any}
 use Rattle.rt_task.specs.declared.Act.{Act}
 use Rattle.rt_task.specs.declared.PluginKind.TheVariants.{PRes}
+use Rattle.rt_task.specs.declared.ResvKind.{ResvKind}
+use Rattle.rt_task.specs.declared.ResvKind.TheVariants.{Table}
 use Rattle.rt_rules.specs.Numbers.{has, same}
 use Rattle.rt_model.specs.Group.{Group, clients, resv}
 use Rattle.rt_model.specs.Outcomes.{past_act}
 use Rattle.rt_model.specs.Past.{Event, Clock, Acted, Past, now, did, is_work}
 use Rattle.rt_model.specs.Releases.{ready, release}
 use Rattle.rt_model.specs.Reservations.{any_ready, front, is_lost, last, left, refilled, spent}
-use Rattle.resv_core.specs.Served.{ServerState, IsFront, charged, gone, has_ready, is_here, last_of, left_of, opened_server, readied}
+use Rattle.resv_core.specs.Served.{ServerState, IsFront, charged, gone, has_ready, is_here, last_of, left_of, opened_server, place_by, readied}
 use Rattle.resv_core.specs.Served.{release_at, settled, ticked}
 
 -- each client whose readiness or release changed is told
@@ -20,6 +22,11 @@ told_now (Some d) t s = readied t d s
 abbrev pub told : (ℕ → Option ℕ) → (ℕ → Option ℕ) → List ℕ → ServerState → ServerState
 told before after [] s = s
 told before after (t ∷ ts) s = told before after ts (if same (before t) (after t) then s else told_now (after t) t s)
+
+-- the work that is counted of a reservation: none of a table
+abbrev pub counted : ResvKind → ℕ → ℕ
+counted Table works = 0
+counted _ works = works
 
 module _ (g : Group) where
   -- the release of a task's current job, where it is there and does not sleep
@@ -36,9 +43,11 @@ module _ (g : Group) where
     pub kind : s.kind ≡ (resv g r).kind
     pub budget : s.budget ≡ (resv g r).budget
     pub period : s.period ≡ (resv g r).period
+    pub slots : s.slots ≡ (resv g r).slots
     pub refilled : s.refilled ≡ refilled g r past
-    pub spent : s.spent ≡ spent g r past
+    pub spent : s.spent ≡ counted (resv g r).kind (spent g r past)
     pub lost : s.lost ≡ is_lost g r past
+    pub in_slot : s.in_slot ≡ place_by (resv g r).kind (resv g r).period (resv g r).slots (now past)
     pub clients_of : AreClientsOf r past s.releases
 
   -- ---- the calls of a move

@@ -6,6 +6,7 @@ ghost use Rattle.resv_laws.specs.Kept.{MoveIsKept, MoveIsKeptInAnyOrder, Opening
 ghost use Rattle.resv_laws.specs.Serving.{AllMovedAreServing, AllMovedInAnyOrder, AllOpenedAreServing};
 ghost use Rattle.resv_laws.specs.Serving.{AllOpenedInAnyOrder, ClientsAreListed, EachIsTold};
 ghost use Rattle.resv_laws.specs.Serving.{NobodyIsListed, WorkMayBeCharged};
+ghost use Rattle.resv_laws.specs.Tables.{LinkedInSlot, OneHasClock, OneHasLeft, TablesAreFollowed};
 
 /// At the opening, once the ready clients are told and it is settled, the state is that of the empty past.
 pub fn opening_is_kept()
@@ -72,4 +73,25 @@ pub fn clients_are_listed()
 /// A task that does an accepted Work has a reservation that may be charged.
 pub fn work_may_be_charged()
     ensures { WorkMayBeCharged }
+{}
+
+/// In a cluster with table reservations each linked task is a client of the one whose slot holds the clock, modulo the
+/// cycle.
+pub fn linked_in_slot()
+    ensures { LinkedInSlot }
+{}
+
+/// No other reservation of the cluster has a slot that holds it.
+pub fn one_has_clock()
+    ensures { OneHasClock }
+{}
+
+/// At most one reservation of the cluster has anything left.
+pub fn one_has_left()
+    ensures { OneHasLeft }
+{}
+
+/// So tables are followed throughout: by the links, and by what is left.
+pub fn tables_are_followed()
+    ensures { TablesAreFollowed }
 {}

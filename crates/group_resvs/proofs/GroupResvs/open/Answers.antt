@@ -18,7 +18,7 @@ invariant_of-result c =
       omega (arith, servers, count, c.in_ok-serves.ensures.len),
       omega (arith, servers, count, c.in_ok-serves.ensures.capacity),
       omega (arith, servers, count, c.in_ok-before.ensures.capacity),
-      omega (arith, servers, count, c.in-Ok.ensures.capacity),
+      omega (arith, servers, count, c.in_ok-changed.ensures.capacity),
       settled_but-many c.in_ok-resvs.resvs (numbers_of_tasks c.in_ok-serves.serves.items),
     )
 
@@ -27,4 +27,4 @@ returns c =
     let count : length c.as_slice-count.result.now ≡ length c.args.setup.now.resvs = ap length c.as_slice-count.ensures ∙ ap (λ (p : Parts). length p.resvs) c.parts.ensures.parts in
     let serves : numbers_of_tasks c.in_ok-serves.serves.items ≡ replicate (length c.args.setup.now.resvs) None =
     ap numbers_of_tasks c.in_ok-serves.ensures.items ∙ numbers-nobody (length c.as_slice-count.result.now) ∙ ap (λ n. replicate {A = Option ℕ} n None) count in
-    rw (c.in_ok-resvs.ensures, serves, c.in-Ok.ensures.items) refl
+    rw (c.in_ok-resvs.ensures, serves, c.in_ok-changed.ensures.items) refl

@@ -11,5 +11,5 @@ returns-clause-resv c =
     by_result : (o : Option ResvNo) → o ≡ get_or c.self.inside.served_by.items c.args.task.0 None → IfSome o (λ r. IsResv c.args.self.now r.0)
     by_result None e = tt
     by_result (Some r) e =
-        let placed = c.self.invariant c.args.task.0 r (sym e) in
+        let placed = c.self.invariant.0 c.args.task.0 r (sym e) in
         subst (λ (v : Served). IsResv v r.0) c.self.view_is (record { low = placed.0; high = placed.1 })
