@@ -23,8 +23,8 @@ use Rattle.rt_task.specs.SharingRules.{clusters_sharing, sem_sharing, task_shari
 use Rattle.rt_task.specs.SizeRules.{whole_size, task_size}
 use Rattle.rt_task.specs.Answers.{kept}
 use Rattle.rt_task.specs.declared.Parts.{Parts}
-use Rattle.rt_task.specs.Validity.{task_shape, range_rows, name_rows, sharing_rows, size_rows, refusal, whole_refusal, refusal_of, IsValid}
-use Rattle.rt_task.proofs.AcceptLaws.{valid_parts_of}
+use Rattle.rt_task.specs.Validity.{task_shape, shape_rows, range_rows, name_rows, sharing_rows, size_rows, refusal, whole_refusal, refusal_of, IsValid}
+use Rattle.set_rules.proofs.AcceptLaws.{valid_parts_of}
 use Rattle.load_set.specs.declared.draws.Drawn.{Drawn}
 use Rattle.load_set.specs.Draws.{draw_from, after_four}
 use Rattle.load_set.specs.Load.{name_of, cluster_of, has_lock, sem_of, uses_of, sem_named, load_of}
@@ -71,7 +71,7 @@ unfolding sem_sharing clusters_sharing clusters_with
 sems-share x [] earlier = refl
 sems-share x (n ∷ ns) earlier =
     let s = length earlier + 1 in
-    ap (λ b. cond b (first_failing (sem_sharing (draft_with (drafts_from 40 1 x))) (earlier ++ sem_named n ∷ []) (map sem_named ns)) (Some (length earlier))) (all_same-from ((s - 1) / 3) (clusters_with s (drafts_from 40 1 x)) (one-cluster s 40 1 x))
+    ap (λ b. cond b (first_failing (sem_sharing (draft_with (drafts_from 40 1 x))) (earlier ++ sem_named n ∷ []) (map sem_named ns)) (Some (length earlier))) (and_from (all_same (clusters_with s (drafts_from 40 1 x))) true (all_same-from ((s - 1) / 3) (clusters_with s (drafts_from 40 1 x)) (one-cluster s 40 1 x)) refl)
     ∙ sems-share x ns (earlier ++ sem_named n ∷ [])
 
 -- ---- their names
@@ -104,8 +104,8 @@ module _ (x : ℕ) where
   tasks-row : (kind : SetKind) (rule : List DraftTask → DraftTask → Bool) → ((earlier : List DraftTask) (i : ℕ) (t : Drawn) → IsBefore i earlier → i ≤ 40 → rule earlier (drafted i t) ≡ true) → each kind parts.Task rule (drafts_from 40 1 x) ≡ None
   tasks-row kind rule passes = row kind parts.Task (first_failing rule [] (drafts_from 40 1 x)) (tasks-pass rule passes 40 1 x [] (record { count = refl; names = λ j lo hi. refl }) (omega arith))
 
-  shapes : each kinds.Shape parts.Task (task_shape d) (drafts_from 40 1 x) ≡ None
-  shapes = tasks-row kinds.Shape (task_shape d) (λ e i t b le. shape-passes (drafts_from 40 1 x) e i t)
+  shapes : first (shape_rows d) ≡ None
+  shapes = next (each kinds.Shape parts.Task (task_shape d) (drafts_from 40 1 x)) [] (tasks-row kinds.Shape (task_shape d) (λ e i t b le. shape-passes (drafts_from 40 1 x) e i t)) refl
 
   ranges : first (range_rows d) ≡ None
   unfolding whole_range cluster_range
@@ -136,7 +136,7 @@ module _ (x : ℕ) where
   unfolding whole_refusal refusal
   no-refusal =
       let later = next (first (name_rows d)) (first (sharing_rows d) ∷ first (size_rows d) ∷ []) names (next (first (sharing_rows d)) (first (size_rows d) ∷ []) sharing (next (first (size_rows d)) [] sizes refl)) in
-      next (each kinds.Shape parts.Task (task_shape d) (drafts_from 40 1 x)) (first (first (range_rows d) ∷ first (name_rows d) ∷ first (sharing_rows d) ∷ first (size_rows d) ∷ []) ∷ []) shapes
+      next (first (shape_rows d)) (first (first (range_rows d) ∷ first (name_rows d) ∷ first (sharing_rows d) ∷ first (size_rows d) ∷ []) ∷ []) shapes
       (next (first (first (range_rows d) ∷ first (name_rows d) ∷ first (sharing_rows d) ∷ first (size_rows d) ∷ [])) [] (next (first (range_rows d)) (first (name_rows d) ∷ first (sharing_rows d) ∷ first (size_rows d) ∷ []) ranges later) refl)
 
   -- the set that is generated for a number breaks no rule

@@ -11,7 +11,7 @@ use Rattle.rt_base.specs.declared.TheConstants.{MOST_NAME_BYTES, MOST_OPERATIONS
 use Rattle.rt_base.specs.declared.SemNo.{SemNo}
 use Rattle.rt_task.specs.declared.Op.TheVariants as ops
 use Rattle.rt_task.specs.declared.draft.Piece.TheVariants.{Works, Once}
-use Rattle.rt_task.specs.Lookups.{is_pcp_sem}
+use Rattle.rt_task.specs.Lookups.{is_stacked_sem}
 use Rattle.rt_task.specs.declared.draft.DraftTask.{DraftTask}
 use Rattle.rt_task.specs.Bodies.{at_release, goes_on, after_op, nests}
 use Rattle.rt_task.specs.NameRules.{task_name, piece_is_known}
@@ -149,7 +149,7 @@ module _ (ts earlier : List DraftTask) (i : ℕ) (d : Drawn) where
   pub sharing-passes : task_sharing (draft_with ts) earlier (drafted i d) ≡ true
   unfolding task_sharing drafted
   sharing-passes =
-      let goes = pieces-go_on (is_pcp_sem (draft_with ts)) (has_lock d) (sem_of i d) (cost_of d) in
+      let goes = pieces-go_on (is_stacked_sem (draft_with ts)) (has_lock d) (sem_of i d) (cost_of d) in
       ap (λ b. b && true) (or_right (is_empty (pieces_of (has_lock d) (sem_of i d) (cost_of d))) _ goes)
 
   known : is_known (draft_with ts).sems (sem_of i d) ≡ true

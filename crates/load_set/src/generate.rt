@@ -10,6 +10,7 @@ use rt_task::{
     Cluster, ClusterList, Drive, Parts, PluginKind, Protocol, ResvList, Sem, SemList, SetStop,
     Setup, TaskList,
 };
+use set_rules::setup_of_parts;
 use std::alloc::{AllocError, Global};
 
 const TASKS: u32 = 40;
@@ -73,10 +74,8 @@ pub fn load_set(alloc: Global, n: u64) -> Result<Setup, NoMemory>
     ensures set { IfOk result (λ s. s ≡ load.load_of n) }
     ensures valid { IsValid (load.load_of n) }
 {
-    let Ok(parts) = parts_of(alloc, n) else {
-        return Err(NoMemory);
-    };
-    match Setup::make(alloc, parts) {
+    let parts = parts_of(alloc, n)?;
+    match setup_of_parts(alloc, parts) {
         Ok(setup) => Ok(setup),
         Err(SetStop::NoMemory) => Err(NoMemory),
         Err(SetStop::Bad(_)) => unreachable!(),

@@ -5,8 +5,6 @@ mod draws;
 mod generate;
 mod numbers;
 mod tasks;
-#[cfg(test)]
-mod tests;
 
 pub use generate::load_set;
 pub use numbers::number_of;

@@ -1,10 +1,13 @@
 -- The compact texts of a set's parts, as they are written.
-use Rattle.std.proofs.Common.{◌≡◌, ℕ, List, [], ◌++◌, Bool, true, false, codes, decimal, refl, ◌∙◌, append_assoc, append-nil}
+use Rattle.std.proofs.Common.{◌≡◌, ℕ, List, [], ◌++◌, Bool, true, false, codes, decimal, refl, ap, sym, ◌∙◌, append_assoc, append-nil}
 use Rattle.rt_task.specs.declared.Cluster.{Cluster}
 use Rattle.rt_task.specs.declared.Drive.{Drive}
 use Rattle.rt_task.specs.declared.Drive.TheVariants.{Steps, Horizon}
 use Rattle.rt_task.specs.declared.Parts.{Parts}
 use Rattle.rt_task.specs.declared.Resv.{Resv}
+use Rattle.rt_task.specs.declared.ResvKind.{ResvKind}
+use Rattle.rt_task.specs.declared.ResvKind.TheVariants.{Polling, Sporadic, Table}
+use Rattle.rt_task.specs.declared.Slot.{Slot}
 use Rattle.rt_task.specs.declared.Sem.{Sem}
 use Rattle.rt_task.specs.declared.Step.{Step}
 use Rattle.rt_task.specs.declared.Task.{Task}
@@ -14,8 +17,8 @@ use Rattle.serde_json.specs.Data.{boolean}
 use Rattle.serde_json.specs.View.{items_of}
 use Rattle.serde_json.specs.Written.{compact_text, items_text}
 use Rattle.set_canonical.specs.Canonical.{set_data}
-use Rattle.set_canonical.specs.Members.{early_text, horizon_text, steps_text, setting_text, elements_text}
-use Rattle.set_canonical.specs.Values.{array_data, sem_names, resv_names, task_names, cluster_data, sem_data, resv_data, step_data, act_items, piece_data, resv_or_null, uses_data, task_data}
+use Rattle.set_canonical.specs.Members.{early_text, slots_text, horizon_text, steps_text, setting_text, elements_text}
+use Rattle.set_canonical.specs.Values.{array_data, sem_names, resv_names, task_names, cluster_data, sem_data, slot_data, resv_data, step_data, act_items, piece_data, resv_or_null, uses_data, task_data}
 use Rattle.set_canonical.specs.Words.{plugin_word, protocol_word, resv_kind_word, kind_word}
 
 pub cluster_text : (c : Cluster) → compact_text (cluster_data c) ≡ codes "{\"cpus\":" ++ (decimal c.cpus ++ (codes ",\"group\":" ++ (decimal c.group.0 ++ codes "}")))
@@ -26,9 +29,62 @@ pub sem_text : (s : Sem) → compact_text (sem_data s) ≡ codes "{\"name\":" ++
 unfolding sem_data escape_byte
 sem_text s = refl
 
-pub resv_text : (r : Resv) → compact_text (resv_data r) ≡ codes "{\"budget\":" ++ (decimal r.budget ++ (codes ",\"cluster\":" ++ (decimal r.cluster.0 ++ (codes ",\"kind\":" ++ (quoted (resv_kind_word r.kind) ++ (codes ",\"name\":" ++ (quoted r.name ++ (codes ",\"period\":" ++ (decimal r.period ++ (codes ",\"prio\":" ++ (decimal r.prio ++ codes "}")))))))))))
+abbrev resv_parts : Resv → List ℕ
+resv_parts r = codes "{\"budget\":" ++ (decimal r.budget ++ (codes ",\"cluster\":" ++ (decimal r.cluster.0 ++ (codes ",\"kind\":" ++ (quoted (resv_kind_word r.kind) ++ (codes ",\"name\":" ++ (quoted r.name ++ (codes ",\"period\":" ++ (decimal r.period ++ (codes ",\"prio\":" ++ (decimal r.prio ++ (slots_text r.kind r.slots ++ codes "}"))))))))))))
+
+pub resv_text : (r : Resv) → compact_text (resv_data r) ≡ codes "{\"budget\":" ++ (decimal r.budget ++ (codes ",\"cluster\":" ++ (decimal r.cluster.0 ++ (codes ",\"kind\":" ++ (quoted (resv_kind_word r.kind) ++ (codes ",\"name\":" ++ (quoted r.name ++ (codes ",\"period\":" ++ (decimal r.period ++ (codes ",\"prio\":" ++ (decimal r.prio ++ (slots_text r.kind r.slots ++ codes "}"))))))))))))
 unfolding resv_data escape_byte
-resv_text r = refl
+resv_text r = by_kind r.kind
+  where
+    by_kind : (k : ResvKind) → compact_text (resv_data (record r { kind = k })) ≡ resv_parts (record r { kind = k })
+    by_kind Polling = simp append_assoc
+    by_kind Sporadic = simp append_assoc
+    by_kind Table = simp append_assoc
+
+joined : (o a b c d e f g h i j k l m z : List ℕ) → (((((((o ++ (a ++ b)) ++ (c ++ d)) ++ (e ++ f)) ++ (g ++ h)) ++ (i ++ j)) ++ (k ++ l)) ++ m) ++ z ≡ o ++ (a ++ (b ++ (c ++ (d ++ (e ++ (f ++ (g ++ (h ++ (i ++ (j ++ (k ++ (l ++ (m ++ z)))))))))))))
+joined o a b c d e f g h i j k l m z = simp append_assoc
+
+-- a reservation, written member by member
+pub resv_put : (r : Resv) (o o1 o2 o3 o4 o5 o6 o7 o8 : List ℕ)
+    → o1 ≡ o ++ (codes "{\"budget\":" ++ decimal r.budget)
+    → o2 ≡ o1 ++ (codes ",\"cluster\":" ++ decimal r.cluster.0)
+    → o3 ≡ o2 ++ (codes ",\"kind\":" ++ quoted (resv_kind_word r.kind))
+    → o4 ≡ o3 ++ (codes ",\"name\":" ++ quoted r.name)
+    → o5 ≡ o4 ++ (codes ",\"period\":" ++ decimal r.period)
+    → o6 ≡ o5 ++ (codes ",\"prio\":" ++ decimal r.prio)
+    → o7 ≡ o6 ++ slots_text r.kind r.slots
+    → o8 ≡ o7 ++ codes "}"
+    → o8 ≡ o ++ compact_text (resv_data r)
+resv_put r o o1 o2 o3 o4 o5 o6 o7 o8 e1 e2 e3 e4 e5 e6 e7 e8 =
+    e8
+    ∙ ap (λ (x : List ℕ). x ++ codes "}") (
+    e7 ∙ ap (λ (x : List ℕ). x ++ slots_text r.kind r.slots) (
+    e6 ∙ ap (λ (x : List ℕ). x ++ (codes ",\"prio\":" ++ decimal r.prio)) (
+    e5 ∙ ap (λ (x : List ℕ). x ++ (codes ",\"period\":" ++ decimal r.period)) (
+    e4 ∙ ap (λ (x : List ℕ). x ++ (codes ",\"name\":" ++ quoted r.name)) (
+    e3 ∙ ap (λ (x : List ℕ). x ++ (codes ",\"kind\":" ++ quoted (resv_kind_word r.kind))) (
+    e2 ∙ ap (λ (x : List ℕ). x ++ (codes ",\"cluster\":" ++ decimal r.cluster.0)) e1))))))
+    ∙ joined
+    o
+    (codes "{\"budget\":")
+    (decimal r.budget)
+    (codes ",\"cluster\":")
+    (decimal r.cluster.0)
+    (codes ",\"kind\":")
+    (quoted (resv_kind_word r.kind))
+    (codes ",\"name\":")
+    (quoted r.name)
+    (codes ",\"period\":")
+    (decimal r.period)
+    (codes ",\"prio\":")
+    (decimal r.prio)
+    (slots_text r.kind r.slots)
+    (codes "}")
+    ∙ ap (λ (x : List ℕ). o ++ x) (sym (resv_text r))
+
+pub slot_text : (s : Slot) → compact_text (slot_data s) ≡ codes "[" ++ (decimal s.from ++ (codes "," ++ (decimal s.to ++ codes "]")))
+unfolding slot_data
+slot_text s = refl
 
 pub step_text : (sems tasks : List (List ℕ)) (s : Step) → compact_text (step_data sems tasks s) ≡ codes "[" ++ (decimal s.cpu.0 ++ (codes "," ++ (decimal s.tick.0 ++ items_text true (items_of (act_items sems tasks s.act)))))
 unfolding step_data

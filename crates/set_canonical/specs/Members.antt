@@ -4,15 +4,22 @@ use Rattle.rt_task.specs.declared.Drive.{Drive}
 use Rattle.rt_task.specs.declared.Drive.TheVariants.{Steps, Horizon}
 use Rattle.rt_task.specs.declared.Parts.{Parts}
 use Rattle.rt_task.specs.declared.Resv.{Resv}
+use Rattle.rt_task.specs.declared.ResvKind.{ResvKind}
+use Rattle.rt_task.specs.declared.ResvKind.TheVariants.{Table}
+use Rattle.rt_task.specs.declared.Slot.{Slot}
 use Rattle.rt_task.specs.declared.Sem.{Sem}
 use Rattle.rt_task.specs.declared.Task.{Task}
 use Rattle.json.specs.Print.{quoted}
 use Rattle.serde_json.specs.Written.{compact_text}
-use Rattle.set_canonical.specs.Values.{array_data, sem_names, resv_names, task_names, cluster_data, sem_data, resv_data, step_data, task_data}
+use Rattle.set_canonical.specs.Values.{array_data, sem_names, resv_names, task_names, cluster_data, sem_data, slot_data, resv_data, step_data, task_data}
 use Rattle.set_canonical.specs.Words.{plugin_word}
 
 abbrev pub early_text : Bool → List ℕ
 early_text early = if early then codes ",\"early\":true" else []
+
+abbrev pub slots_text : ResvKind → List Slot → List ℕ
+slots_text Table slots = codes ",\"slots\":" ++ compact_text (array_data slot_data slots)
+slots_text _ slots = []
 
 abbrev pub horizon_text : Drive → List ℕ
 horizon_text (Steps ss) = []

@@ -10,6 +10,9 @@ use Rattle.rt_task.specs.declared.Task.{Task}
 use Rattle.rt_task.specs.declared.Cluster.{Cluster}
 use Rattle.rt_task.specs.declared.Sem.{Sem}
 use Rattle.rt_task.specs.declared.Resv.{Resv}
+use Rattle.rt_task.specs.declared.ResvKind.{ResvKind}
+use Rattle.rt_task.specs.declared.ResvKind.TheVariants.{Table}
+use Rattle.rt_task.specs.declared.Slot.{Slot}
 use Rattle.rt_task.specs.declared.Step.{Step}
 use Rattle.rt_task.specs.declared.draft.Piece.{Piece}
 use Rattle.rt_task.specs.declared.draft.Piece.TheVariants.{Works, Once}
@@ -54,6 +57,14 @@ sem_data s = object (
     member (codes "name") (string s.name) (
     member (codes "protocol") (string (protocol_word s.protocol)) no_members))
 
+unfoldable pub slot_data : Slot → Data
+slot_data s = tuple_data (natural_data s.from ∷ natural_data s.to ∷ [])
+
+-- shown only of a table
+abbrev pub shown_slots : ResvKind → List Slot → Members → Members
+shown_slots Table slots rest = member (codes "slots") (array_data slot_data slots) rest
+shown_slots _ slots rest = rest
+
 unfoldable pub resv_data : Resv → Data
 resv_data r = object (
     member (codes "budget") (natural_data r.budget) (
@@ -61,7 +72,8 @@ resv_data r = object (
     member (codes "kind") (string (resv_kind_word r.kind)) (
     member (codes "name") (string r.name) (
     member (codes "period") (natural_data r.period) (
-    member (codes "prio") (natural_data r.prio) no_members))))))
+    member (codes "prio") (natural_data r.prio) (
+    shown_slots r.kind r.slots no_members)))))))
 
 -- the word of an operation and its argument, over the names of the semaphores
 abbrev pub op_items : List (List ℕ) → Op → List Data

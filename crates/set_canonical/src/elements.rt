@@ -1,11 +1,12 @@
 //! Clusters, semaphores and reservations.
-ghost use Rattle.std.specs.Prelude.{◌≡◌, ◌++◌, OnOk};
+ghost use Rattle.std.specs.Prelude.{◌≡◌, ◌++◌, codes, OnOk};
 ghost use Rattle.serde_json.specs.Written.{compact_text};
-ghost use Rattle.set_canonical.specs.Values.{array_data, cluster_data, sem_data, resv_data};
+ghost use Rattle.set_canonical.specs.Members.{slots_text};
+ghost use Rattle.set_canonical.specs.Values.{array_data, cluster_data, sem_data, slot_data, resv_data};
 
 use crate::put::{put, put_comma, put_number, put_string};
 use crate::words::{protocol_word, resv_kind_word};
-use rt_task::{Cluster, Resv, Sem};
+use rt_task::{Cluster, Resv, ResvKind, Sem, Slot};
 use std::alloc::AllocError;
 
 #[tactic(auto, using(crate::proofs::Texts::cluster_text, std::proofs::Common::append_assoc))]
@@ -62,6 +63,41 @@ pub fn put_sems(out: &mut Vec<u8>, before: &[u8], sems: &[Sem]) -> Result<(), Al
     Ok(())
 }
 
+#[tactic(auto, using(crate::proofs::Texts::slot_text, std::proofs::Common::append_assoc))]
+fn put_slot(out: &mut Vec<u8>, s: Slot) -> Result<(), AllocError>
+    ensures { OnOk result (out.new.items ≡ out.old.items ++ compact_text (slot_data s)) }
+{
+    put_number(out, b"[", s.from)?;
+    put_number(out, b",", s.to)?;
+    put(out, b"]")?;
+    Ok(())
+}
+
+#[tactic(auto, using(std::proofs::Common::append_assoc))]
+fn put_table(out: &mut Vec<u8>, slots: &[Slot]) -> Result<(), AllocError>
+    ensures { OnOk result (out.new.items ≡ out.old.items ++
+        (codes ",\"slots\":" ++ compact_text (array_data slot_data slots.now))) }
+{
+    put(out, b",\"slots\":[")?;
+    for (i, s) in slots.iter().enumerate() {
+        put_comma(out, i > 0)?;
+        put_slot(out, *s)?;
+    }
+    put(out, b"]")?;
+    Ok(())
+}
+
+/// The slots, of a table.
+#[tactic(auto, using(crate::proofs::Texts::append_nothing))]
+fn put_slots(out: &mut Vec<u8>, kind: ResvKind, slots: &[Slot]) -> Result<(), AllocError>
+    ensures { OnOk result (out.new.items ≡ out.old.items ++ slots_text kind slots.now) }
+{
+    match kind {
+        ResvKind::Table => put_table(out, slots),
+        ResvKind::Polling | ResvKind::Sporadic => Ok(()),
+    }
+}
+
 #[tactic(auto, using(crate::proofs::Texts::resv_text, std::proofs::Common::append_assoc))]
 fn put_resv(out: &mut Vec<u8>, r: &Resv) -> Result<(), AllocError>
     ensures { OnOk result (out.new.items ≡ out.old.items ++ compact_text (resv_data r.now)) }
@@ -72,6 +108,7 @@ fn put_resv(out: &mut Vec<u8>, r: &Resv) -> Result<(), AllocError>
     put_string(out, b",\"name\":", r.name.as_slice())?;
     put_number(out, b",\"period\":", r.period)?;
     put_number(out, b",\"prio\":", u64::from(r.prio))?;
+    put_slots(out, r.kind, r.slots.as_slice())?;
     put(out, b"}")?;
     Ok(())
 }

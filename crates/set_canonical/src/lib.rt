@@ -32,8 +32,6 @@ pub fn canonical_of_parts(alloc: Global, parts: &Parts) -> Result<Vec<u8>, NoMem
     ensures { IfOk result (λ v. v.items ≡ spec.canonical parts.now) }
 {
     let mut out = Vec::new(alloc);
-    match sets::put_set(alloc, &mut out, parts) {
-        Ok(()) => Ok(out),
-        Err(_) => Err(NoMemory),
-    }
+    sets::put_set(alloc, &mut out, parts)?;
+    Ok(out)
 }

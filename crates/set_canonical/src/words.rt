@@ -24,6 +24,7 @@ pub fn protocol_word(protocol: Protocol) -> &'static [u8]
         Protocol::Omlp => b"OMLP",
         Protocol::Pcp => b"PCP",
         Protocol::Mpcp => b"MPCP",
+        Protocol::Srp => b"SRP",
     }
 }
 
@@ -33,6 +34,7 @@ pub fn resv_kind_word(kind: ResvKind) -> &'static [u8]
     match kind {
         ResvKind::Polling => b"polling",
         ResvKind::Sporadic => b"sporadic",
+        ResvKind::Table => b"table",
     }
 }
 

@@ -10,6 +10,7 @@ use Rattle.rt_laws.specs.EveryPast.{EveryPast}
 use Rattle.rt_laws.proofs.HolderLinked.{holder_is_linked}
 use Rattle.rt_laws.proofs.PriorityCeiling.{later_is_above_ceiling, waiting_does_not_pass, walks_end}
 use Rattle.rt_laws.proofs.SemaphoreLaws.{histories_are_made, one_holder}
+use Rattle.resv_laws.proofs.TableLaws.{tables_are_followed}
 use Rattle.count_laws.proofs.Bounds.{seen_within_bound}
 use Rattle.set_input.specs.LinksOf.{LinksAreTheTopOf}
 use Rattle.set_input.specs.Throughout.{AfterEach, HoldsThroughout}
@@ -30,4 +31,5 @@ holds-throughout p hs valid = record {
   waiters_stay = law-after _ waiting_does_not_pass p hs valid;
   later_above = law-after _ later_is_above_ceiling p hs valid;
   bounds = law-after _ seen_within_bound p hs valid;
+  tables = law-after _ tables_are_followed p hs valid;
 }

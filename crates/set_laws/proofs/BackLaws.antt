@@ -16,7 +16,7 @@ use Rattle.rt_task.specs.declared.Kind.TheVariants as task_kinds
 use Rattle.rt_task.specs.declared.ResvKind.{ResvKind}
 use Rattle.rt_task.specs.declared.ResvKind.TheVariants as resv_kinds
 use Rattle.rt_task.specs.declared.Protocol.{Protocol}
-use Rattle.rt_task.specs.declared.Protocol.TheVariants.{Fmlp, Omlp, Pcp, Mpcp}
+use Rattle.rt_task.specs.declared.Protocol.TheVariants.{Fmlp, Omlp, Pcp, Mpcp, Srp}
 use Rattle.rt_task.specs.declared.PluginKind.{PluginKind}
 use Rattle.rt_task.specs.declared.PluginKind.TheVariants.{GsnEdf, CEdf, PsnEdf, PFp, PRes}
 use Rattle.rt_task.specs.declared.bad_set.Part.{Part}
@@ -25,12 +25,14 @@ use Rattle.serde_json.specs.View.{items_of}
 use Rattle.rt_task.specs.declared.draft.Piece.{Piece}
 use Rattle.rt_task.specs.declared.draft.Piece.TheVariants.{Works, Once}
 use Rattle.rt_task.specs.Refusals.{first_failing}
+use Rattle.rt_task.specs.SlotRules.{may_have}
+use Rattle.rt_task.specs.declared.Slot.{Slot}
 use Rattle.set_read.specs.Forms as forms
-use Rattle.set_read.specs.Document.{Names, plugins, protocols, reservation_kinds, release_kinds, position_from, sem_form, cluster_form, semaphore_form, reservation_form, step_form, piece_form}
+use Rattle.set_read.specs.Document.{Names, plugins, protocols, reservation_kinds, release_kinds, position_from, sem_form, cluster_form, semaphore_form, slot_form, reservation_form, step_form, piece_form}
 use Rattle.set_read.specs.Sets.{elements, has_form, same}
 use Rattle.rt_task.specs.Draft.{operations, runs, one_more_work, draft_cluster, draft_resv, draft_step}
 use Rattle.set_canonical.specs.Words.{plugin_word, protocol_word, resv_kind_word, kind_word}
-use Rattle.set_canonical.specs.Values.{cluster_data, sem_data, resv_data, step_data, piece_data, name_at, array_data}
+use Rattle.set_canonical.specs.Values.{cluster_data, sem_data, slot_data, resv_data, step_data, piece_data, name_at, array_data}
 
 -- ---- words
 
@@ -39,6 +41,7 @@ protocol-again Fmlp = refl
 protocol-again Omlp = refl
 protocol-again Pcp = refl
 protocol-again Mpcp = refl
+protocol-again Srp = refl
 
 pub plugin-again : (x : PluginKind) → forms.word_in plugins (plugin_word x) ≡ Some x
 plugin-again GsnEdf = refl
@@ -50,6 +53,7 @@ plugin-again PRes = refl
 resv_kind-again : (x : ResvKind) → forms.word_in reservation_kinds (resv_kind_word x) ≡ Some x
 resv_kind-again resv_kinds.Polling = refl
 resv_kind-again resv_kinds.Sporadic = refl
+resv_kind-again resv_kinds.Table = refl
 
 pub kind-again : (x : Kind) → forms.word_in release_kinds (kind_word x) ≡ Some x
 kind-again task_kinds.Periodic = refl
@@ -64,10 +68,6 @@ cluster-again c = refl
 pub sem-again : (s : Sem) → semaphore_form (sem_data s) ≡ Some s
 unfolding semaphore_form sem_data
 sem-again s = rw (protocol-again s.protocol) refl
-
-pub resv-again : (r : Resv) → reservation_form (resv_data r) ≡ Some (draft_resv r)
-unfolding reservation_form resv_data
-resv-again r = rw (resv_kind-again r.kind) refl
 
 -- ---- names
 
@@ -152,8 +152,33 @@ clusters-again cs = all_by cluster_form cluster_data draft_cluster cs cluster-ag
 pub sems-again : (ss : List Sem) → AllSeen semaphore_form sem_data (λ (s : Sem). s) ss
 sems-again ss = all_by semaphore_form sem_data (λ (s : Sem). s) ss sem-again
 
-pub resvs-again : (rs : List Resv) → AllSeen reservation_form resv_data draft_resv rs
-resvs-again rs = all_by reservation_form resv_data draft_resv rs resv-again
+slot-again : (s : Slot) → slot_form (slot_data s) ≡ Some s
+unfolding slot_form slot_data
+slot-again s = refl
+
+slots-again : (ss : List Slot) → AllAgain slot_form slot_data ss
+slots-again [] = tt
+slots-again (s ∷ ss) = (slot-again s, slots-again ss)
+
+-- only a table has slots to be read back
+resv_by_kind-again : (r : Resv) (k : ResvKind) (ss : List Slot) → may_have k ss ≡ true → reservation_form (resv_data (record r { kind = k; slots = ss })) ≡ Some (draft_resv (record r { kind = k; slots = ss }))
+unfolding reservation_form resv_data
+resv_by_kind-again r resv_kinds.Polling [] h = refl
+resv_by_kind-again r resv_kinds.Polling (s ∷ ss) h = cc
+resv_by_kind-again r resv_kinds.Sporadic [] h = refl
+resv_by_kind-again r resv_kinds.Sporadic (s ∷ ss) h = cc
+resv_by_kind-again r resv_kinds.Table ss h = rw (every-again slot_form slot_data ss (slots-again ss)) refl
+
+pub resv-again : (r : Resv) → may_have r.kind r.slots ≡ true → reservation_form (resv_data r) ≡ Some (draft_resv r)
+resv-again r h = resv_by_kind-again r r.kind r.slots h
+
+abbrev pub AllMayHave : List Resv → Type 0
+AllMayHave [] = Unit {0}
+AllMayHave (r ∷ rs) = (may_have r.kind r.slots ≡ true) × AllMayHave rs
+
+pub resvs-again : (rs : List Resv) → AllMayHave rs → AllSeen reservation_form resv_data draft_resv rs
+resvs-again [] h = tt
+resvs-again (r ∷ rs) h = (resv-again r h.0, resvs-again rs h.1)
 
 pub map-same : {A : Type 0} (xs : List A) → map (λ x. x) xs ≡ xs
 map-same [] = refl

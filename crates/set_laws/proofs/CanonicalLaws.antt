@@ -7,6 +7,10 @@ use Rattle.rt_task.specs.declared.Op.{Op}
 use Rattle.rt_task.specs.declared.Op.TheVariants as ops
 use Rattle.rt_task.specs.declared.Act.{Act}
 use Rattle.rt_task.specs.declared.Act.TheVariants as acts
+use Rattle.rt_task.specs.declared.Resv.{Resv}
+use Rattle.rt_task.specs.declared.ResvKind.{ResvKind}
+use Rattle.rt_task.specs.declared.ResvKind.TheVariants.{Polling, Sporadic, Table}
+use Rattle.rt_task.specs.declared.Slot.{Slot}
 use Rattle.rt_task.specs.declared.Task.{Task}
 use Rattle.rt_task.specs.declared.Step.{Step}
 use Rattle.rt_task.specs.declared.Drive.{Drive}
@@ -19,12 +23,12 @@ use Rattle.rt_task.specs.declared.draft.Draft.{Draft}
 use Rattle.rt_task.specs.Answers.{accepted}
 use Rattle.rt_task.specs.Draft.{runs, draft_of, parts_of}
 use Rattle.rt_task.specs.Validity.{refusal, whole_refusal, refusal_of, IsValid}
-use Rattle.rt_task.proofs.AcceptLaws.{valid_parts_of}
+use Rattle.set_rules.proofs.AcceptLaws.{valid_parts_of}
 use Rattle.serde_json.specs.Data.{Data, string, depth, items_depth}
 use Rattle.serde_json.specs.Read.{max_depth}
 use Rattle.serde_json.specs.View.{items_of}
 use Rattle.set_canonical.specs.Canonical.{canonical, set_data}
-use Rattle.set_canonical.specs.Values.{cluster_data, sem_data, resv_data, task_data, step_data, piece_data, op_items, act_items, name_at, sem_names, resv_names, task_names}
+use Rattle.set_canonical.specs.Values.{cluster_data, sem_data, slot_data, resv_data, task_data, step_data, piece_data, op_items, act_items, name_at, sem_names, resv_names, task_names}
 use Rattle.set_read.specs.Sets.{◌>>=◌, set, value_of, draft_in_bytes}
 use Rattle.set_read.proofs.ShapeLaws.{set-read}
 use Rattle.set_laws.proofs.CompactLaws.{IsStored, IsUtf8-compact_text, read-compact_text}
@@ -79,8 +83,24 @@ task_data-depth sems resvs t = by_early t.early t.resv
     by_early true (Some r) = omega (arith, body, uses)
     by_early false (Some r) = omega (arith, body, uses)
 
+slot_data-depth : (s : Slot) → depth (slot_data s) ≤ 1
+unfolding slot_data
+slot_data-depth s = omega arith
+
+resv_data-depth : (r : Resv) → depth (resv_data r) ≤ 3
+unfolding resv_data
+resv_data-depth r = by_kind r.kind
+  where
+    slots : items_depth (items_of (map slot_data r.slots)) ≤ 1
+    slots = items_depth-by slot_data 1 r.slots slot_data-depth
+
+    by_kind : (k : ResvKind) → depth (resv_data (record r { kind = k })) ≤ 3
+    by_kind Polling = omega arith
+    by_kind Sporadic = omega arith
+    by_kind Table = omega (arith, slots)
+
 set_data-depth : (p : Parts) → depth (set_data p) ≤ 5
-unfolding set_data cluster_data sem_data resv_data
+unfolding set_data cluster_data sem_data
 set_data-depth p = by_drive p.drive
   where
     clusters : items_depth (items_of (map cluster_data p.clusters)) ≤ 1
@@ -89,8 +109,8 @@ set_data-depth p = by_drive p.drive
     sems : items_depth (items_of (map sem_data p.sems)) ≤ 1
     sems = items_depth-by sem_data 1 p.sems (λ c. omega arith)
 
-    resvs : items_depth (items_of (map resv_data p.resvs)) ≤ 1
-    resvs = items_depth-by resv_data 1 p.resvs (λ c. omega arith)
+    resvs : items_depth (items_of (map resv_data p.resvs)) ≤ 3
+    resvs = items_depth-by resv_data 3 p.resvs resv_data-depth
 
     tasks : items_depth (items_of (map (task_data (sem_names p.sems) (resv_names p.resvs)) p.tasks)) ≤ 3
     tasks = items_depth-by (task_data (sem_names p.sems) (resv_names p.resvs)) 3 p.tasks (task_data-depth (sem_names p.sems) (resv_names p.resvs))

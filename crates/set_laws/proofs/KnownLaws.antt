@@ -28,9 +28,9 @@ use Rattle.rt_task.specs.NameRules.{sem_name, resv_name, task_name, step_name, o
 use Rattle.rt_task.specs.Refusals.{first_failing}
 use Rattle.rt_task.specs.RuleWords.{is_known, is_name, sem_numbers, no_repeat}
 use Rattle.rt_task.specs.RuleWords as words
-use Rattle.rt_task.specs.Validity.{task_shape}
+use Rattle.rt_task.specs.Validity.{resv_shape, task_shape}
 use Rattle.set_canonical.specs.Values.{sem_names, resv_names, task_names}
-use Rattle.set_laws.proofs.BackLaws.{KnowsOp, KnowsOps, KnowsAct}
+use Rattle.set_laws.proofs.BackLaws.{KnowsOp, KnowsOps, KnowsAct, AllMayHave}
 use Rattle.set_laws.proofs.Passing.{Rows, passed, not_true}
 use Rattle.set_laws.proofs.PositionLaws.{Fresh, fresh-by, known_position, known-mapped, map-map}
 use Rattle.set_laws.proofs.WholeLaws.{KnowsUses, KnowsResv, KnowsActs, KnowsDrive, AreRead, IsReadable, names_in, canonical_plan}
@@ -153,8 +153,14 @@ module _ (p : Parts) (fresh : HasFresh p) where
         are_read (e ++ canonical_plan t ∷ []) ts (n + 1) (omega arith) a.1 b.1,
       )
 
+  all_may_have : (e : List DraftResv) (rs : List Resv) → first_failing (resv_shape (draft_of p)) e (map draft_resv rs) ≡ None → AllMayHave rs
+  unfolding resv_shape
+  all_may_have e [] h = tt
+  all_may_have e (r ∷ rs) h = let a = passed (resv_shape (draft_of p)) e (draft_resv r) (map draft_resv rs) h in (a.0, all_may_have (e ++ draft_resv r ∷ []) rs a.1)
+
   pub is_readable : Rows (draft_of p) → IsReadable p
   is_readable h = record {
+    resvs = all_may_have [] p.resvs h.resv_shapes;
     tasks = are_read [] p.tasks 1 refl h.tasks_named h.shapes;
     drive = knows_drive p.drive h.steps_named;
   }

@@ -14,7 +14,7 @@ use Rattle.rt_task.specs.RangeRules.{whole_range, cluster_range, resv_range, tas
 use Rattle.rt_task.specs.Refusals.{bad, first, whole, each, first_failing}
 use Rattle.rt_task.specs.RuleWords.{within}
 use Rattle.rt_task.specs.SizeRules.{whole_size}
-use Rattle.rt_task.specs.Validity.{task_shape, range_rows, name_rows, sharing_rows, size_rows, refusal, whole_refusal}
+use Rattle.rt_task.specs.Validity.{resv_shape, task_shape, shape_rows, range_rows, name_rows, sharing_rows, size_rows, refusal, whole_refusal}
 
 -- ---- rows
 
@@ -37,6 +37,7 @@ whole_passes kind false h = absurd cc
 
 -- the rows that say what numbers and names are
 pub record Rows (d : Draft) : Type 0 where
+  pub resv_shapes : first_failing (resv_shape d) [] d.resvs ≡ None
   pub shapes : first_failing (task_shape d) [] d.tasks ≡ None
   pub whole_in_range : whole_range d ≡ true
   pub clusters_in_range : first_failing (cluster_range d) [] d.clusters ≡ None
@@ -53,13 +54,15 @@ pub record Rows (d : Draft) : Type 0 where
 pub rows : (d : Draft) → whole_refusal d ≡ None → Rows d
 unfolding whole_refusal refusal
 rows d h =
-    let both = all_none (each kinds.Shape parts.Task (task_shape d) d.tasks ∷ refusal d ∷ []) h in
+    let both = all_none (first (shape_rows d) ∷ refusal d ∷ []) h in
+    let shape = all_none (shape_rows d) both.0 in
     let kinds_none = all_none (first (range_rows d) ∷ first (name_rows d) ∷ first (sharing_rows d) ∷ first (size_rows d) ∷ []) both.1.0 in
     let range = all_none (range_rows d) kinds_none.0 in
     let name = all_none (name_rows d) kinds_none.1.0 in
     let size = all_none (size_rows d) kinds_none.1.1.1.0 in
     record {
-      shapes = each_passes kinds.Shape parts.Task (first_failing (task_shape d) [] d.tasks) both.0;
+      resv_shapes = each_passes kinds.Shape parts.Resv (first_failing (resv_shape d) [] d.resvs) shape.0;
+      shapes = each_passes kinds.Shape parts.Task (first_failing (task_shape d) [] d.tasks) shape.1.0;
       whole_in_range = whole_passes kinds.Range (whole_range d) range.0;
       clusters_in_range = each_passes kinds.Range parts.Cluster (first_failing (cluster_range d) [] d.clusters) range.1.0;
       resvs_in_range = each_passes kinds.Range parts.Resv (first_failing (resv_range d) [] d.resvs) range.1.1.0;

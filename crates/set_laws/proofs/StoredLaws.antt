@@ -9,7 +9,7 @@ use Rattle.std.proofs.lemmas.Option.{unwrap_or-slice_get}
 use Rattle.std.specs.Prelude.{slice_get, unwrap_or}
 use Rattle.rt_base.specs.declared.ResvNo.{ResvNo}
 use Rattle.rt_base.specs.declared.SemNo.{SemNo}
-use Rattle.rt_base.specs.declared.TheConstants.{MOST_CLUSTERS, MOST_CPUS, MOST_OPERATIONS, MOST_PRIO, MOST_RESVS, MOST_SEMS, MOST_STEPS, MOST_TASKS, MOST_TURN_STEPS, TICK_END}
+use Rattle.rt_base.specs.declared.TheConstants.{MOST_CLUSTERS, MOST_CPUS, MOST_OPERATIONS, MOST_PRIO, MOST_RESVS, MOST_SEMS, MOST_SLOTS, MOST_STEPS, MOST_TASKS, MOST_TURN_STEPS, TICK_END}
 use Rattle.rt_task.specs.declared.Act.{Act}
 use Rattle.rt_task.specs.declared.Act.TheVariants as acts
 use Rattle.rt_task.specs.declared.Cluster.{Cluster}
@@ -23,7 +23,7 @@ use Rattle.rt_task.specs.declared.Parts.{Parts}
 use Rattle.rt_task.specs.declared.PluginKind.{PluginKind}
 use Rattle.rt_task.specs.declared.PluginKind.TheVariants.{GsnEdf, CEdf, PsnEdf, PFp, PRes}
 use Rattle.rt_task.specs.declared.Protocol.{Protocol}
-use Rattle.rt_task.specs.declared.Protocol.TheVariants.{Fmlp, Omlp, Pcp, Mpcp}
+use Rattle.rt_task.specs.declared.Protocol.TheVariants.{Fmlp, Omlp, Pcp, Mpcp, Srp}
 use Rattle.rt_task.specs.declared.Resv.{Resv}
 use Rattle.rt_task.specs.declared.ResvKind.{ResvKind}
 use Rattle.rt_task.specs.declared.ResvKind.TheVariants as resv_kinds
@@ -44,11 +44,13 @@ use Rattle.rt_task.specs.RangeRules.{groups_top, group_follows, whole_range, clu
 use Rattle.rt_task.specs.Refusals.{first_failing}
 use Rattle.rt_task.specs.RuleWords.{within, is_span, is_prio, is_name, is_name_byte, allows_clusters, piece_in_range, op_in_range, act_in_range}
 use Rattle.rt_task.specs.SizeRules.{horizon_fits, whole_size}
+use Rattle.rt_task.specs.SlotRules.{slots_follow, slots_in_range, slots_length}
+use Rattle.rt_task.specs.declared.Slot.{Slot}
 use Rattle.json.proofs.Printed.Utf8.{are_ascii, IsUtf8-are_ascii}
 use Rattle.serde_json.specs.Data.{Data, boolean, string, Members, no_members, member}
 use Rattle.serde_json.specs.View.{items_of}
 use Rattle.set_canonical.specs.Canonical.{set_data}
-use Rattle.set_canonical.specs.Values.{cluster_data, sem_data, resv_data, task_data, step_data, piece_data, op_items, act_items, resv_or_null, uses_data, natural_data, array_data, name_at, sem_names, resv_names, task_names}
+use Rattle.set_canonical.specs.Values.{cluster_data, sem_data, slot_data, resv_data, task_data, step_data, piece_data, op_items, act_items, resv_or_null, uses_data, natural_data, array_data, name_at, sem_names, resv_names, task_names}
 use Rattle.set_canonical.specs.Words.{plugin_word, protocol_word, resv_kind_word, kind_word}
 use Rattle.set_laws.proofs.CompactLaws.{IsStored, AreStored, MembersStored}
 use Rattle.set_laws.proofs.BackLaws.{map-same}
@@ -73,10 +75,12 @@ protocol_text Fmlp = key (codes "FMLP") refl
 protocol_text Omlp = key (codes "OMLP") refl
 protocol_text Pcp = key (codes "PCP") refl
 protocol_text Mpcp = key (codes "MPCP") refl
+protocol_text Srp = key (codes "SRP") refl
 
 resv_kind_text : (x : ResvKind) → IsUtf8 (resv_kind_word x)
 resv_kind_text resv_kinds.Polling = key (codes "polling") refl
 resv_kind_text resv_kinds.Sporadic = key (codes "sporadic") refl
+resv_kind_text resv_kinds.Table = key (codes "table") refl
 
 kind_text : (x : Kind) → IsUtf8 (kind_word x)
 kind_text task_kinds.Periodic = key (codes "periodic") refl
@@ -301,33 +305,106 @@ module _ (p : Parts) where
       let count = length-map p.clusters draft_cluster in
       fits n MOST_CLUSTERS (omega arith) (omega arith)
 
-  resv_is_stored : FewClusters → (e : List DraftResv) (r : Resv) → resv_range (draft_of p) e (draft_resv r) ≡ true → resv_name (draft_of p) e (draft_resv r) ≡ true → IsStored (resv_data r)
-  unfolding resv_data resv_range resv_name
-  resv_is_stored few e r h k =
-      let a = and_parts _ _ h in
-      let b = and_parts _ _ a.1 in
-      let c = and_parts _ _ b.1 in
-      let span = within_parts 1 (TICK_END - 1) r.period a.0 in
-      let budget = within_parts 1 r.period r.budget b.0 in (
+  table_stored : (start cycle : ℕ) (ss : List Slot) → cycle < TICK_END → slots_follow start cycle ss ≡ true → AreStored (items_of (map slot_data ss))
+  unfolding slot_data
+  table_stored start cycle [] few h = tt
+  table_stored start cycle (s ∷ ss) few h =
+      let a = and_parts (nat_le start s.from) (nat_lt s.from s.to && (nat_le s.to cycle && slots_follow s.to cycle ss)) h in
+      let b = and_parts (nat_lt s.from s.to) (nat_le s.to cycle && slots_follow s.to cycle ss) a.1 in
+      let c = and_parts (nat_le s.to cycle) (slots_follow s.to cycle ss) b.1 in
+      let low = ltb-true s.from s.to b.0 in
+      let high = leb-true s.to cycle c.0 in (
+        (fits s.from (TICK_END - 1) (omega arith) (omega arith), (fits s.to (TICK_END - 1) (omega arith) (omega arith), tt)),
+        table_stored s.to cycle ss few c.1,
+      )
+
+  -- what the rules say of a reservation's members
+  record FitsResv (r : Resv) : Type 0 where
+    budget : r.budget < 2 ^ 64
+    cluster : r.cluster.0 < 2 ^ 64
+    name : IsUtf8 r.name
+    period : r.period < 2 ^ 64
+    prio : r.prio < 2 ^ 64
+    short : r.period < TICK_END
+
+  resv_by_kind : (r : Resv) (k : ResvKind) → FitsResv r → slots_in_range k r.period r.budget r.slots ≡ true → IsStored (resv_data (record r { kind = k }))
+  unfolding resv_data
+  resv_by_kind r resv_kinds.Polling f h = (
+    refl,
+    (
+      key (codes "budget") refl,
+      f.budget,
+      (
+        key (codes "cluster") refl,
+        f.cluster,
+        (
+          key (codes "kind") refl,
+          resv_kind_text resv_kinds.Polling,
+          (key (codes "name") refl, f.name, (key (codes "period") refl, f.period, (key (codes "prio") refl, f.prio, tt))),
+        ),
+      ),
+    ),
+  )
+  resv_by_kind r resv_kinds.Sporadic f h = (
+    refl,
+    (
+      key (codes "budget") refl,
+      f.budget,
+      (
+        key (codes "cluster") refl,
+        f.cluster,
+        (
+          key (codes "kind") refl,
+          resv_kind_text resv_kinds.Sporadic,
+          (key (codes "name") refl, f.name, (key (codes "period") refl, f.period, (key (codes "prio") refl, f.prio, tt))),
+        ),
+      ),
+    ),
+  )
+  resv_by_kind r resv_kinds.Table f h =
+      let a = and_parts (within 1 MOST_SLOTS (length r.slots)) (slots_follow 0 r.period r.slots && r.budget == slots_length r.slots) h in
+      let b = and_parts (slots_follow 0 r.period r.slots) (r.budget == slots_length r.slots) a.1 in (
         refl,
         (
           key (codes "budget") refl,
-          fits r.budget (TICK_END - 1) (omega arith) (omega arith),
+          f.budget,
           (
             key (codes "cluster") refl,
-            cluster_fits few r.cluster.0 c.1,
+            f.cluster,
             (
               key (codes "kind") refl,
-              resv_kind_text r.kind,
+              resv_kind_text resv_kinds.Table,
               (
                 key (codes "name") refl,
-                name_text r.name (and_parts _ _ k).0,
-                (key (codes "period") refl, span_fits r.period a.0, (key (codes "prio") refl, prio_fits r.prio c.0, tt)),
+                f.name,
+                (
+                  key (codes "period") refl,
+                  f.period,
+                  (key (codes "prio") refl, f.prio, (key (codes "slots") refl, table_stored 0 r.period r.slots f.short b.0, tt)),
+                ),
               ),
             ),
           ),
         ),
       )
+
+  resv_is_stored : FewClusters → (e : List DraftResv) (r : Resv) → resv_range (draft_of p) e (draft_resv r) ≡ true → resv_name (draft_of p) e (draft_resv r) ≡ true → IsStored (resv_data r)
+  unfolding resv_range resv_name
+  resv_is_stored few e r h k =
+      let a = and_parts (is_span r.period) (within 1 r.period r.budget && (is_prio r.prio && (nat_lt r.cluster.0 (length (draft_of p).clusters) && slots_in_range r.kind r.period r.budget r.slots))) h in
+      let b = and_parts (within 1 r.period r.budget) (is_prio r.prio && (nat_lt r.cluster.0 (length (draft_of p).clusters) && slots_in_range r.kind r.period r.budget r.slots)) a.1 in
+      let c = and_parts (is_prio r.prio) (nat_lt r.cluster.0 (length (draft_of p).clusters) && slots_in_range r.kind r.period r.budget r.slots) b.1 in
+      let d = and_parts (nat_lt r.cluster.0 (length (draft_of p).clusters)) (slots_in_range r.kind r.period r.budget r.slots) c.1 in
+      let span = within_parts 1 (TICK_END - 1) r.period a.0 in
+      let budget = within_parts 1 r.period r.budget b.0 in
+      resv_by_kind r r.kind (record {
+        budget = fits r.budget (TICK_END - 1) (omega arith) (omega arith);
+        cluster = cluster_fits few r.cluster.0 d.0;
+        name = name_text r.name (and_parts _ _ k).0;
+        period = span_fits r.period a.0;
+        prio = prio_fits r.prio c.0;
+        short = omega arith;
+      }) d.1
 
   fits_task : FewClusters → (e : List DraftTask) (t : Task) → task_range (draft_of p) e (canonical_plan t) ≡ true → task_name (draft_of p) e (canonical_plan t) ≡ true → FitsTask t
   unfolding task_range

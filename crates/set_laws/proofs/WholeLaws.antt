@@ -17,13 +17,15 @@ use Rattle.set_read.specs.Forms as forms
 use Rattle.rt_task.specs.RuleWords.{is_empty, is_periodic}
 use Rattle.rt_task.specs.RuleWords as words
 use Rattle.rt_task.specs.declared.Resv.{Resv}
+use Rattle.rt_task.specs.declared.ResvKind.{ResvKind}
+use Rattle.rt_task.specs.declared.ResvKind.TheVariants.{Polling, Sporadic, Table}
 use Rattle.set_read.specs.Document.{Names, Whole, Play, steps, horizon, position_from, sem_form, step_form, piece_form, task_form, whole_of, names_of, name_in, has_horizon, tasks_from, cluster_form, semaphore_form, reservation_form}
 use Rattle.set_read.specs.Sets.{elements, drive_of, draft_of_value}
 use Rattle.rt_task.specs.Draft.{runs, draft_of, parts_of, draft_cluster, draft_resv, draft_task, draft_step, draft_drive, cluster_of, resv_of, step_of, task_of}
 use Rattle.rt_task.specs.Draft as draft
 use Rattle.set_canonical.specs.Values.{cluster_data, sem_data, resv_data, step_data, piece_data, task_data, name_at, sem_names, resv_names, task_names, array_data}
 use Rattle.set_canonical.specs.Canonical.{set_data}
-use Rattle.set_laws.proofs.BackLaws.{KnowsSem, KnowsOps, KnowsAct, AllAgain, list_of-array_data, pieces-again, sem_no-again, kind-again, plugin-again, elements-again, clusters-again, sems-again, resvs-again, step-again, operations-runs, none-fail, all-kept, AllSeen, map-same}
+use Rattle.set_laws.proofs.BackLaws.{KnowsSem, KnowsOps, KnowsAct, AllAgain, list_of-array_data, pieces-again, sem_no-again, kind-again, plugin-again, elements-again, clusters-again, sems-again, resvs-again, step-again, operations-runs, none-fail, all-kept, AllSeen, map-same, AllMayHave}
 
 abbrev pub KnowsUses : Names → List SemNo → Type 0
 KnowsUses names [] = Unit {0}
@@ -118,7 +120,12 @@ sem_name-again s = refl
 
 resv_name-again : (r : Resv) → name_in (resv_data r) ≡ r.name
 unfolding resv_data
-resv_name-again r = refl
+resv_name-again r = by_kind r.kind
+  where
+    by_kind : (k : ResvKind) → name_in (resv_data (record r { kind = k })) ≡ r.name
+    by_kind Polling = refl
+    by_kind Sporadic = refl
+    by_kind Table = refl
 
 task_name-again : (sems resvs : List (List ℕ)) (t : Task) → name_in (task_data sems resvs t) ≡ t.name
 unfolding task_data
@@ -160,6 +167,7 @@ horizon-again names (Horizon h) = refl
 
 -- what a setup's value needs to be read back
 pub record IsReadable (p : Parts) : Type 0 where
+  pub resvs : AllMayHave p.resvs
   pub tasks : AreRead (names_in p) (words.has_horizon (draft_drive p.drive)) 1 p.tasks
   pub drive : KnowsDrive (names_in p) p.drive
 
@@ -171,7 +179,7 @@ draft-again p h =
       elements-again parts.Cluster cluster_form cluster_data draft_cluster p.clusters (clusters-again p.clusters),
       elements-again parts.Sem semaphore_form sem_data (λ (s : Sem). s) p.sems (sems-again p.sems),
       map-same p.sems,
-      elements-again parts.Resv reservation_form resv_data draft_resv p.resvs (resvs-again p.resvs),
+      elements-again parts.Resv reservation_form resv_data draft_resv p.resvs (resvs-again p.resvs h.resvs),
       names_of-again p,
       horizon-again (names_in p) p.drive,
       tasks-again (names_in p) (words.has_horizon (draft_drive p.drive)) 1 p.tasks h.tasks,

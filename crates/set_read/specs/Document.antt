@@ -10,6 +10,7 @@ use Rattle.rt_task.specs.declared.Act.{Act}
 use Rattle.rt_task.specs.declared.Act.TheVariants as acts
 use Rattle.rt_task.specs.declared.draft.DraftCluster.{DraftCluster}
 use Rattle.rt_task.specs.declared.Sem.{Sem}
+use Rattle.rt_task.specs.declared.Slot.{Slot}
 use Rattle.rt_task.specs.declared.draft.DraftResv.{DraftResv}
 use Rattle.rt_task.specs.declared.draft.DraftStep.{DraftStep}
 use Rattle.rt_task.specs.declared.Kind.{Kind}
@@ -17,7 +18,7 @@ use Rattle.rt_task.specs.declared.Kind.TheVariants as task_kinds
 use Rattle.rt_task.specs.declared.ResvKind.{ResvKind}
 use Rattle.rt_task.specs.declared.ResvKind.TheVariants as resv_kinds
 use Rattle.rt_task.specs.declared.Protocol.{Protocol}
-use Rattle.rt_task.specs.declared.Protocol.TheVariants.{Fmlp, Omlp, Pcp, Mpcp}
+use Rattle.rt_task.specs.declared.Protocol.TheVariants.{Fmlp, Omlp, Pcp, Mpcp, Srp}
 use Rattle.rt_task.specs.declared.PluginKind.{PluginKind}
 use Rattle.rt_task.specs.declared.PluginKind.TheVariants.{GsnEdf, CEdf, PsnEdf, PFp, PRes}
 use Rattle.serde_json.specs.Data.{Data}
@@ -34,10 +35,10 @@ abbrev pub plugins : List (List ℕ × PluginKind)
 plugins = (codes "GSN-EDF", GsnEdf) ∷ (codes "C-EDF", CEdf) ∷ (codes "PSN-EDF", PsnEdf) ∷ (codes "P-FP", PFp) ∷ (codes "P-RES", PRes) ∷ []
 
 abbrev pub protocols : List (List ℕ × Protocol)
-protocols = (codes "FMLP", Fmlp) ∷ (codes "OMLP", Omlp) ∷ (codes "PCP", Pcp) ∷ (codes "MPCP", Mpcp) ∷ []
+protocols = (codes "FMLP", Fmlp) ∷ (codes "OMLP", Omlp) ∷ (codes "PCP", Pcp) ∷ (codes "MPCP", Mpcp) ∷ (codes "SRP", Srp) ∷ []
 
 abbrev pub reservation_kinds : List (List ℕ × ResvKind)
-reservation_kinds = (codes "polling", resv_kinds.Polling) ∷ (codes "sporadic", resv_kinds.Sporadic) ∷ []
+reservation_kinds = (codes "polling", resv_kinds.Polling) ∷ (codes "sporadic", resv_kinds.Sporadic) ∷ (codes "table", resv_kinds.Table) ∷ []
 
 abbrev pub release_kinds : List (List ℕ × Kind)
 release_kinds = (codes "periodic", task_kinds.Periodic) ∷ (codes "sporadic", task_kinds.Sporadic) ∷ []
@@ -129,16 +130,39 @@ semaphore_form d = do
   protocol ← required (one_of protocols) (codes "protocol") d
   Some (record { name = name; protocol = protocol })
 
+abbrev pub slot_items : List Data → Option Slot
+slot_items (a ∷ b ∷ []) = do
+  from ← natural a
+  to ← natural b
+  Some (record { from = from; to = to })
+slot_items _ = None
+
+unfoldable pub slot_form : Data → Option Slot
+slot_form d = items d >>= slot_items
+
+abbrev pub no_form : Data → Option (List Slot)
+no_form d = None
+
+-- the slots stand exactly where the kind is a table
+abbrev pub slots_form : ResvKind → Data → Option (List Slot)
+slots_form resv_kinds.Table d = required (list_of slot_form) (codes "slots") d
+slots_form _ d = optional no_form [] (codes "slots") d
+
+abbrev pub reservation_members : List (List ℕ)
+reservation_members =
+    codes "name" ∷ codes "cluster" ∷ codes "kind" ∷ codes "budget" ∷ codes "period" ∷ codes "prio" ∷ codes "slots" ∷ []
+
 unfoldable pub reservation_form : Data → Option DraftResv
 reservation_form d = do
-  _ ← object_of (codes "name" ∷ codes "cluster" ∷ codes "kind" ∷ codes "budget" ∷ codes "period" ∷ codes "prio" ∷ []) d
+  _ ← object_of reservation_members d
   name ← required text (codes "name") d
   cluster ← optional natural 0 (codes "cluster") d
   kind ← required (one_of reservation_kinds) (codes "kind") d
   budget ← required natural (codes "budget") d
   period ← required natural (codes "period") d
   prio ← optional natural MOST_PRIO (codes "prio") d
-  Some (record { name = name; cluster = cluster; kind = kind; budget = budget; period = period; prio = prio })
+  slots ← slots_form kind d
+  Some (record { name = name; cluster = cluster; kind = kind; budget = budget; period = period; prio = prio; slots = slots })
 
 abbrev pub task_members : List (List ℕ)
 task_members =

@@ -47,6 +47,7 @@ pub(crate) fn protocol_in(word: &str) -> Option<Protocol>
         "OMLP" => Some(Protocol::Omlp),
         "PCP" => Some(Protocol::Pcp),
         "MPCP" => Some(Protocol::Mpcp),
+        "SRP" => Some(Protocol::Srp),
         _ => None,
     }
 }

@@ -20,6 +20,7 @@ use rt_task::{
     SemList, SetKind, SetStop, Setup,
 };
 use serde_json::Value;
+use set_rules::setup_of_draft;
 use std::alloc::{AllocError, Global};
 
 fn name_in(v: &Value) -> &str
@@ -89,13 +90,20 @@ fn whole_place() -> Place
     }
 }
 
+fn names_among<'a>(alloc: Global, items: &'a [Value]) -> Result<Names<'a>, AllocError>
+    requires { length items.now + 1 < 2 ^ 32 }
+    ensures { IfOk result (λ n. n ≡ map document.name_in (map view items.now)) }
+{
+    Names::of(alloc, names_in(alloc, items)?)
+}
+
 fn name_lists<'a>(alloc: Global, whole: &Whole<'a>) -> Result<NameLists<'a>, AllocError>
     requires { IsFew whole.now }
     ensures { IfOk result (λ n. names_seen n ≡ document.names_of (whole_seen whole.now)) }
 {
-    let sems = Names::of(alloc, names_in(alloc, whole.sems)?)?;
-    let resvs = Names::of(alloc, names_in(alloc, whole.resvs)?)?;
-    let tasks = Names::of(alloc, names_in(alloc, whole.tasks)?)?;
+    let sems = names_among(alloc, whole.sems)?;
+    let resvs = names_among(alloc, whole.resvs)?;
+    let tasks = names_among(alloc, whole.tasks)?;
     Ok(NameLists { sems, resvs, tasks })
 }
 
@@ -163,5 +171,5 @@ pub fn read_set(alloc: Global, bytes: &[u8]) -> Result<Setup, SetStop>
     ensures { Gives (λ s. s) result (set bytes.now) }
 {
     let draft = draft_in(alloc, bytes)?;
-    draft.accept(alloc)
+    setup_of_draft(alloc, draft)
 }

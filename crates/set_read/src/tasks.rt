@@ -8,7 +8,9 @@ ghost use Rattle.set_read.specs.Names.{names_seen};
 use crate::acts::{NameLists, op_with};
 use crate::forms::{has_only, natural_at, natural_or, protocol_in, text_at, truth_or};
 use rt_base::{MOST_PRIO, ResvNo, SemNo, TaskNo};
-use rt_task::{DraftResv, DraftTask, Kind, Name, Op, Piece, Pieces, ResvKind, Sem, SemNos};
+use rt_task::{
+    DraftResv, DraftTask, Kind, Name, Op, Piece, Pieces, ResvKind, Sem, SemNos, Slot, Slots,
+};
 use serde_json::Value;
 use std::alloc::{AllocError, Global};
 
@@ -45,7 +47,79 @@ fn resv_kind_in(word: &str) -> Option<ResvKind>
     match word {
         "polling" => Some(ResvKind::Polling),
         "sporadic" => Some(ResvKind::Sporadic),
+        "table" => Some(ResvKind::Table),
         _ => None,
+    }
+}
+
+fn slot_in(items: &[Value]) -> Option<Slot>
+    ensures { result ≡ document.slot_items (map view items.now) }
+{
+    match items {
+        [a, b] => {
+            let from = a.as_u64()?;
+            let to = b.as_u64()?;
+            Some(Slot { from, to })
+        }
+        _ => None,
+    }
+}
+
+#[tactic(auto, using(crate::proofs::FormLaws::listed_items), unfolding(crate::specs::Document::slot_form))]
+fn slot_of(v: &Value) -> Option<Slot>
+    ensures { result ≡ document.slot_form (view v.now) }
+{
+    let items = v.as_array()?;
+    slot_in(items.as_slice())
+}
+
+fn slots_in(alloc: Global, items: &[Value]) -> Result<Option<Vec<Slot>>, AllocError>
+    ensures { IfOk result (λ r. option_map (λ v. v.items) r
+        ≡ forms.every document.slot_form (map view items.now)) }
+{
+    let mut found = Vec::new(alloc);
+    for item in items {
+        let Some(slot) = slot_of(item) else {
+            return Ok(None);
+        };
+        found.push(slot)?;
+    }
+    Ok(Some(found))
+}
+
+#[tactic(auto, using(crate::proofs::FormLaws::listed_items))]
+fn table_of(alloc: Global, v: &Value) -> Result<Option<Slots>, AllocError>
+    ensures { IfOk result (λ r. r
+        ≡ forms.required (forms.list_of document.slot_form) (codes "slots") (view v.now)) }
+{
+    let Some(member) = v.get("slots") else {
+        return Ok(None);
+    };
+    let Some(items) = member.as_array() else {
+        return Ok(None);
+    };
+    let Some(found) = slots_in(alloc, items.as_slice())? else {
+        return Ok(None);
+    };
+    Ok(Some(Slots::from_vec(found)))
+}
+
+// No slots, where the member is not there.
+fn no_slots(alloc: Global, v: &Value) -> Option<Slots>
+    ensures { result ≡ forms.optional document.no_form [] (codes "slots") (view v.now) }
+{
+    match v.get("slots") {
+        None => Some(Slots::from_vec(Vec::new(alloc))),
+        Some(_) => None,
+    }
+}
+
+fn slots_of(alloc: Global, kind: ResvKind, v: &Value) -> Result<Option<Slots>, AllocError>
+    ensures { IfOk result (λ r. r ≡ document.slots_form kind (view v.now)) }
+{
+    match kind {
+        ResvKind::Table => table_of(alloc, v),
+        ResvKind::Polling | ResvKind::Sporadic => Ok(no_slots(alloc, v)),
     }
 }
 
@@ -53,7 +127,12 @@ fn resv_kind_in(word: &str) -> Option<ResvKind>
 pub(crate) fn reservation_of(alloc: Global, v: &Value) -> Result<Option<DraftResv>, AllocError>
     ensures { IfOk result (λ r. r ≡ document.reservation_form (view v.now)) }
 {
-    if !has_only(v, &["name", "cluster", "kind", "budget", "period", "prio"]) {
+    if !has_only(
+        v,
+        &[
+            "name", "cluster", "kind", "budget", "period", "prio", "slots",
+        ],
+    ) {
         return Ok(None);
     }
     let Some(name) = text_at(v, "name") else {
@@ -77,6 +156,9 @@ pub(crate) fn reservation_of(alloc: Global, v: &Value) -> Result<Option<DraftRes
     let Some(prio) = natural_or(v, u64::from(MOST_PRIO), "prio") else {
         return Ok(None);
     };
+    let Some(slots) = slots_of(alloc, kind, v)? else {
+        return Ok(None);
+    };
     let name = named(alloc, name)?;
     Ok(Some(DraftResv {
         name,
@@ -85,6 +167,7 @@ pub(crate) fn reservation_of(alloc: Global, v: &Value) -> Result<Option<DraftRes
         budget,
         period,
         prio,
+        slots,
     }))
 }
 
