@@ -1,3 +1,1 @@
 mod InheritLaws
-mod MpcpLaws
-mod OmlpLaws

@@ -6,8 +6,9 @@ use rt_base::{ClusterNo, CpuNo, GroupNo, SemNo, TaskNo, Tick};
 use rt_history::{Entry, Reply};
 use rt_task::{
     Act, Cluster, ClusterList, Drive, Kind, Name, Op, Ops, Parts, PluginKind, Protocol, ResvList,
-    Sem, SemList, SemNos, Setup, Step, StepList, Task, TaskList,
+    Sem, SemList, SemNos, Step, StepList, Task, TaskList,
 };
+use set_rules::setup_of_parts;
 use std::alloc::{AllocError, Global};
 use std::test::Fail;
 
@@ -73,7 +74,7 @@ fn after_unlock(
     unlocked: SemNo,
     blocked: bool,
 ) -> Result<Option<Seen>, Fail> {
-    let setup = Setup::make(alloc, two_users(alloc, protocol)?)?;
+    let setup = setup_of_parts(alloc, two_users(alloc, protocol)?)?;
     let mut blocks = Blocks::open(alloc, &setup, GroupNo(0), 10)?;
     let lock = Op::Lock(SemNo(1));
     blocks.feed(entry(0, lock, Reply::Granted), Some(TaskNo(1)), &[]);
@@ -98,30 +99,21 @@ fn seen(ends: u32, ends_all: u32, bound: u32) -> Option<Seen> {
     })
 }
 
-#[test]
-fn counts_an_end(rt: HostRuntime) -> Result<(), Fail> {
-    let request = after_unlock(rt.alloc(), Protocol::Fmlp, SemNo(1), true)?;
-    assert!(rt; request == seen(1, 1, 1));
-    Ok(())
-}
+/// A protocol, the semaphore that is unlocked, whether the waiting task is blocked, and what its request then has.
+type Case = (Protocol, SemNo, bool, Option<Seen>);
 
+/// An end counts as one of the semaphore that was asked for alone, and as a blocking one where the task is blocked.
 #[test]
-fn unblocked_end_is_counted_in_all(rt: HostRuntime) -> Result<(), Fail> {
-    let request = after_unlock(rt.alloc(), Protocol::Fmlp, SemNo(1), false)?;
-    assert!(rt; request == seen(0, 1, 1));
-    Ok(())
-}
-
-#[test]
-fn other_end_is_not_counted(rt: HostRuntime) -> Result<(), Fail> {
-    let request = after_unlock(rt.alloc(), Protocol::Fmlp, SemNo(2), true)?;
-    assert!(rt; request == seen(0, 0, 1));
-    Ok(())
-}
-
-#[test]
-fn omlp_bound_is_of_the_cluster(rt: HostRuntime) -> Result<(), Fail> {
-    let request = after_unlock(rt.alloc(), Protocol::Omlp, SemNo(1), true)?;
-    assert!(rt; request == seen(1, 1, 3));
+fn counts_the_ends_that_a_request_sees(rt: HostRuntime) -> Result<(), Fail> {
+    let cases: [Case; 4] = [
+        (Protocol::Fmlp, SemNo(1), true, seen(1, 1, 1)),
+        (Protocol::Fmlp, SemNo(1), false, seen(0, 1, 1)),
+        (Protocol::Fmlp, SemNo(2), true, seen(0, 0, 1)),
+        (Protocol::Omlp, SemNo(1), true, seen(1, 1, 3)),
+    ];
+    for (protocol, unlocked, blocked, wanted) in cases {
+        let request = after_unlock(rt.alloc(), protocol, unlocked, blocked)?;
+        assert!(rt; request == wanted);
+    }
     Ok(())
 }

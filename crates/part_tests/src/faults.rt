@@ -69,43 +69,67 @@ fn refuses_one_byte_too_many(rt: HostRuntime) -> Result<(), Fail> {
     Ok(())
 }
 
-#[test]
-fn a_failing_read_is_a_fault(rt: HostRuntime) -> Result<(), Fail> {
-    for number in 0..4 {
-        let mut src = source(rt.alloc(), b"eight by", &[number])?;
-        assert!(rt; matches!(&read_all(rt.alloc(), &mut src, 8), Err(ReadStop::Fault)));
+/// Whether a reading of 8 bytes ends so where this read fails: with a fault, or with so many bytes.
+fn reads_with(alloc: Global, fails: u32, ends: Option<usize>) -> Result<bool, Fail> {
+    let mut src = source(alloc, b"eight by", &[fails])?;
+    match read_all(alloc, &mut src, 8) {
+        Ok(bytes) => Ok(ends == Some(bytes.len())),
+        Err(ReadStop::Fault) => Ok(ends.is_none()),
+        Err(_) => Ok(false),
     }
-    let mut src = source(rt.alloc(), b"eight by", &[4])?;
-    assert_eq!(rt; read_all(rt.alloc(), &mut src, 8)?.len(), 8);
+}
+
+/// Whether the read after the bytes fails where it is to, and the one after that finds the end.
+fn ends_after_fault(alloc: Global) -> Result<bool, Fail> {
+    let mut src = source(alloc, b"", &[0])?;
     let mut buf = [0u8; 4];
-    assert!(rt; src.read(&mut buf).is_err());
-    assert_eq!(rt; src.read(&mut buf), Ok(0));
-    Ok(())
+    let fails = src.read(&mut buf).is_err();
+    Ok(fails && src.read(&mut buf) == Ok(0))
 }
 
 #[test]
-fn a_failing_write_leaves_a_first_part(rt: HostRuntime) -> Result<(), Fail> {
-    let mut out = MemSink::new(rt.alloc(), 8, numbers(rt.alloc(), &[2])?)?;
-    assert!(rt; put_all(&mut out, b"one").is_ok());
-    assert!(rt; put_all(&mut out, b"").is_ok());
-    assert!(rt; put_all(&mut out, b"two").is_ok());
-    assert!(rt; put_all(&mut out, b"six").is_err());
-    assert_eq!(rt; out.as_slice(), b"onetwo".as_slice());
-    assert!(rt; put_all(&mut out, b"six").is_ok());
-    assert_eq!(rt; out.as_slice(), b"onetwosi".as_slice());
-    assert_eq!(rt; out.beyond(), 1);
+fn a_failing_read_is_a_fault(rt: HostRuntime) -> Result<(), Fail> {
+    for number in 0..4 {
+        assert!(rt; reads_with(rt.alloc(), number, None)?);
+    }
+    assert!(rt; reads_with(rt.alloc(), 4, Some(8))?);
+    assert!(rt; ends_after_fault(rt.alloc())?);
     Ok(())
+}
+
+/// Whether each text is written, or fails, as it says, and this is then held, with so many bytes beyond.
+fn writes(out: &mut MemSink, calls: &[(&[u8], bool)], holds: &[u8], beyond: u64) -> bool {
+    for (text, is_written) in calls {
+        if put_all(out, text).is_ok() != *is_written {
+            return false;
+        }
+    }
+    out.as_slice() == holds && out.beyond() == beyond
+}
+
+const TEXTS: [(&[u8], bool); 4] = [(b"one", true), (b"", true), (b"two", true), (b"six", false)];
+
+#[test]
+fn a_failing_write_leaves_a_first_part(rt: HostRuntime) -> Result<(), Fail> {
+    let fails = numbers(rt.alloc(), &[2])?;
+    let mut out = MemSink::new(rt.alloc(), 8, fails)?;
+    assert!(rt; writes(&mut out, &TEXTS, b"onetwo", 0));
+    assert!(rt; writes(&mut out, &[(b"six", true)], b"onetwosi", 1));
+    Ok(())
+}
+
+/// Whether a text is passed on.
+fn passes(alloc: Global, text: &[u8], out: &mut SureSink) -> Result<bool, Fail> {
+    let mut src = SureSource::new(text.to_vec(alloc)?);
+    Ok(pass_on_surely(alloc, &mut src, out) == Status::Ok)
 }
 
 #[test]
 fn passes_on_between_sure_ends(rt: HostRuntime) -> Result<(), Fail> {
     let mut out = SureSink::new(rt.alloc(), 8)?;
-    let mut src = SureSource::new(b"a text".to_vec(rt.alloc())?);
-    assert_eq!(rt; pass_on_surely(rt.alloc(), &mut src, &mut out), Status::Ok);
-    let mut next = SureSource::new(b"more".to_vec(rt.alloc())?);
-    assert_eq!(rt; pass_on_surely(rt.alloc(), &mut next, &mut out), Status::Ok);
-    assert_eq!(rt; out.as_slice(), b"a textmo".as_slice());
-    assert_eq!(rt; out.beyond(), 2);
+    assert!(rt; passes(rt.alloc(), b"a text", &mut out)?);
+    assert!(rt; passes(rt.alloc(), b"more", &mut out)?);
+    assert!(rt; out.as_slice() == b"a textmo".as_slice() && out.beyond() == 2);
     Ok(())
 }
 

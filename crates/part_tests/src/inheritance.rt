@@ -15,26 +15,6 @@ fn base_key(prio: u64, task: u32) -> Key {
     }
 }
 
-/// Task 2 holds what task 1 waits for: it has the key of task 1 until task 1 waits no longer.
-#[test]
-fn a_holder_inherits_while_it_is_waited_for(rt: HostRuntime) -> Result<(), Fail> {
-    let mut keys = Inherit::new(rt.alloc(), 3)?;
-    keys.base(TaskNo(1), base_key(1, 1));
-    keys.base(TaskNo(2), base_key(5, 2));
-    assert_eq!(rt; keys.key(TaskNo(2)), base_key(5, 2));
-    keys.boost(TaskNo(2), base_key(0, 2));
-    assert_eq!(rt; keys.key(TaskNo(2)), base_key(0, 2));
-    keys.drop_boost(TaskNo(2));
-    assert_eq!(rt; keys.key(TaskNo(2)), base_key(5, 2));
-    keys.stops(TaskNo(1));
-    keys.waits(TaskNo(1), TaskNo(2));
-    assert_eq!(rt; keys.key(TaskNo(2)), base_key(1, 1));
-    keys.stops(TaskNo(1));
-    assert_eq!(rt; keys.key(TaskNo(2)), base_key(5, 2));
-    assert_eq!(rt; keys.key(TaskNo(1)), base_key(1, 1));
-    Ok(())
-}
-
 // Twelve tasks, each with its base key, the task that it waits for and its boost.
 #[derive(Drop)]
 struct Plain {

@@ -1,8 +1,9 @@
 use rt_base::{ClusterNo, GroupNo, MOST_PRIO, TaskNo};
 use rt_task::{
     BadSet, Cluster, ClusterList, Drive, Kind, Name, Op, Ops, Part, Parts, Place, PluginKind,
-    ResvList, SemList, SemNos, SetKind, SetStop, Setup, StepList, Task, TaskList,
+    ResvList, SemList, SemNos, SetKind, SetStop, StepList, Task, TaskList,
 };
+use set_rules::setup_of_parts;
 use std::alloc::{AllocError, Global};
 use std::test::Fail;
 
@@ -42,7 +43,7 @@ fn one_task(alloc: Global, name: &[u8]) -> Result<Parts, AllocError> {
 
 #[test]
 fn makes_a_setup(rt: HostRuntime) -> Result<(), Fail> {
-    let setup = Setup::make(rt.alloc(), one_task(rt.alloc(), b"A")?)?;
+    let setup = setup_of_parts(rt.alloc(), one_task(rt.alloc(), b"A")?)?;
     let shared = setup.share()?;
     assert_eq!(rt; shared.parts().tasks.as_slice().len(), 1);
     Ok(())
@@ -58,7 +59,7 @@ fn refuses_a_name(rt: HostRuntime) -> Result<(), Fail> {
         kind: SetKind::Name,
         place,
     };
-    match Setup::make(rt.alloc(), one_task(rt.alloc(), b"A B")?) {
+    match setup_of_parts(rt.alloc(), one_task(rt.alloc(), b"A B")?) {
         Err(stop) => assert_eq!(rt; stop, SetStop::Bad(bad)),
         Ok(_) => panic!(rt; "not refused"),
     }

@@ -2,9 +2,10 @@
 use rt_base::{ClusterNo, CpuNo, GroupNo, ResvNo, SemNo, TaskNo, Tick};
 use rt_task::{
     Act, Cluster, ClusterList, Drive, Kind, Name, Op, Ops, Parts, PluginKind, Protocol, Resv,
-    ResvKind, ResvList, Sem, SemList, SemNos, Setup, Step, StepList, Task, TaskList,
+    ResvKind, ResvList, Sem, SemList, SemNos, Slots, Step, StepList, Task, TaskList,
 };
 use set_canonical::{canonical, canonical_of_parts};
+use set_rules::setup_of_parts;
 use std::alloc::{AllocError, Global};
 use std::test::Fail;
 
@@ -86,6 +87,7 @@ fn full(alloc: Global, drive: Drive) -> Result<Parts, AllocError> {
         (b"s2", Protocol::Omlp),
         (b"s3", Protocol::Pcp),
         (b"s4", Protocol::Mpcp),
+        (b"s5", Protocol::Srp),
     ] {
         sems.push(Sem {
             name: name(alloc, text)?,
@@ -104,6 +106,7 @@ fn full(alloc: Global, drive: Drive) -> Result<Parts, AllocError> {
             budget,
             period: 999_999_999_999,
             prio: 7,
+            slots: Slots::from_vec(Vec::new(alloc)),
         })?;
     }
     let body = [
@@ -152,7 +155,7 @@ fn full(alloc: Global, drive: Drive) -> Result<Parts, AllocError> {
 const FULL_START: &[u8] = b"{\"clusters\":[{\"cpus\":1,\"group\":0},{\"cpus\":64,\"group\":1}]";
 
 const FULL_MIDDLE: &[u8] =
-    b",\"plugin\":\"P-RES\",\"resvs\":[{\"budget\":5,\"cluster\":1,\"kind\":\"polling\",\"name\":\"r-\",\"period\":999999999999,\"prio\":7},{\"budget\":999999999999,\"cluster\":1,\"kind\":\"sporadic\",\"name\":\"r_\",\"period\":999999999999,\"prio\":7}],\"sems\":[{\"name\":\"s1\",\"protocol\":\"FMLP\"},{\"name\":\"s2\",\"protocol\":\"OMLP\"},{\"name\":\"s3\",\"protocol\":\"PCP\"},{\"name\":\"s4\",\"protocol\":\"MPCP\"}]";
+    b",\"plugin\":\"P-RES\",\"resvs\":[{\"budget\":5,\"cluster\":1,\"kind\":\"polling\",\"name\":\"r-\",\"period\":999999999999,\"prio\":7},{\"budget\":999999999999,\"cluster\":1,\"kind\":\"sporadic\",\"name\":\"r_\",\"period\":999999999999,\"prio\":7}],\"sems\":[{\"name\":\"s1\",\"protocol\":\"FMLP\"},{\"name\":\"s2\",\"protocol\":\"OMLP\"},{\"name\":\"s3\",\"protocol\":\"PCP\"},{\"name\":\"s4\",\"protocol\":\"MPCP\"},{\"name\":\"s5\",\"protocol\":\"SRP\"}]";
 
 const FULL_STEPS: &[u8] =
     b",\"steps\":[[0,0,\"tick\"],[1,3,\"irq\"],[0,4,\"arrive\",\"B\"],[0,4,\"work\"],[0,4,\"lock\",\"s1\"],[0,4,\"unlock\",\"s4\"],[0,5,\"sleep\",70],[0,6,\"npon\"],[0,6,\"npoff\"],[64,999999999999,\"end\"]]";
@@ -171,7 +174,7 @@ fn joined(alloc: Global, texts: &[&[u8]]) -> Result<Vec<u8>, AllocError> {
 #[test]
 fn worked_example(rt: HostRuntime) -> Result<(), Fail> {
     let alloc = rt.alloc();
-    let setup = Setup::make(alloc, worked(alloc)?)?;
+    let setup = setup_of_parts(alloc, worked(alloc)?)?;
     let text = canonical(alloc, &setup)?;
     assert_eq!(rt; text.as_slice(), WORKED_TEXT);
     Ok(())

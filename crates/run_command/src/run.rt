@@ -1,0 +1,57 @@
+//! The top call: the command `run`.
+ghost use Rattle.std.specs.Prelude.{◌≡◌, ◌≢◌, true, false, map};
+ghost use Rattle.rt_fault.specs.Faults.{HasRisen};
+ghost use Rattle.set_input.specs.Ends.{reading, writing};
+ghost use Rattle.set_input.specs.Answers.{IsUnwritten};
+ghost use Rattle.run_command.specs.Run as commands;
+ghost use Rattle.run_command.specs.RunAnswers.{RunAnswers};
+
+use crate::play_set::play_set;
+use crate::words::is_run;
+use cpu_site::Gate;
+use rt_fault::{Sink, Source, Status};
+use std::alloc::Global;
+use std::sync::Wait;
+use std::thread::Threads;
+use trace_tools::TraceTool;
+
+/// Runs the command that the words name, those after the program's name.
+///
+/// `run` reads a set, plays each processor's steps or turns in a thread of its own, the groups beside each other, and writes
+/// the trace of the histories that come about, in format 2, with the count lines of the tools behind the line `end`. The gate
+/// is asked before each play.
+///
+/// Nothing is written before all input was read, nor where it is refused. The call may wait, and what it promises holds
+/// if it returns.
+pub fn run<R: Threads + Wait + Sync, S: Source, K: Sink, T: TraceTool, G: Gate + Sync>(
+    rt: &R,
+    alloc: Global,
+    words: &[String],
+    src: &mut S,
+    out: &mut K,
+    tools: Vec<T>,
+    gate: &G,
+) -> Status
+    // Usage is the answer exactly where the words are no command, and then nothing is read or written.
+    ensures usage { commands.is_run words.now ≡ false → result ≡ Status.Usage }
+    ensures no_command { result ≡ Status.Usage → commands.is_run words.now ≡ false }
+    ensures unread { result ≡ Status.Usage → src.new ≡ src.old }
+    ensures unwritten { IsUnwritten result → out.new ≡ out.old }
+
+    // A fault is answered exactly where a read or a write of this call failed.
+    ensures read_fault { result ≡ Status.ReadFault →
+        HasRisen (S.faults src.old) (S.faults src.new) }
+    ensures no_read_fault { result ≢ Status.ReadFault → S.faults src.new ≡ S.faults src.old }
+    ensures write_fault { result ≡ Status.WriteFault →
+        HasRisen (K.faults out.old) (K.faults out.new) }
+    ensures no_write_fault { result ≢ Status.WriteFault → K.faults out.new ≡ K.faults out.old }
+
+    // What the command answers, and what it read and wrote.
+    ensures run { commands.is_run words.now ≡ true → RunAnswers (map T.tool tools.items)
+        (reading S.left S.faults src.old src.new) (writing K.held K.faults out.old out.new) result }
+{
+    if is_run(words) {
+        return play_set(rt, alloc, src, out, tools, gate);
+    }
+    Status::Usage
+}

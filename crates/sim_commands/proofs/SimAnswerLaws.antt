@@ -1,0 +1,92 @@
+-- The answers of `sim`, by how its reading and its writing ended.
+use Rattle.std.proofs.Common.{◌≡◌, ◌∙◌, List, map, ap, subst, inl, inr}
+use Rattle.std.specs.Prelude.{ℕ, Result, Err}
+use Rattle.rt_base.specs.declared.TheConstants.{MOST_SET_BYTES}
+use Rattle.rt_task.specs.declared.Parts.{Parts}
+use Rattle.rt_fault.specs.Reading.{TakesAtMost}
+use Rattle.rt_fault.specs.declared.status.Status.{Status}
+use Rattle.rt_fault.specs.declared.status.Status.TheVariants as ends
+use Rattle.set_input.specs.Ends.{Reading, Writing}
+use Rattle.sim_commands.specs.Groups.{all_played}
+use Rattle.rt_plays.specs.Order.{histories}
+use Rattle.rt_groups.specs.Groups.{GroupHistory}
+use Rattle.trace_lines.specs.declared.format.Version.TheVariants.{Two}
+use Rattle.trace_text.specs.Groups as groups
+use Rattle.trace_text.specs.CountLines.{bus_text, counted_text}
+use Rattle.trace_tools.specs.Seats.{Seat, seat_of}
+use Rattle.trace_tools.specs.Tools.{Tool}
+use Rattle.trace_text.proofs.BusText.{text-of_tools}
+use Rattle.sim_commands.specs.Sim.{set_trace}
+use Rattle.set_input.specs.Inputs.{WasRead, WasRefused}
+use Rattle.sim_commands.specs.SimAnswers.{SimAnswers}
+use Rattle.set_input.specs.Stopped.{EndsReading}
+use Rattle.set_input.proofs.EndLaws.{ended-well, Wrote}
+use Rattle.set_input.proofs.InputLaws.{can_play-told, can_play-unrefused}
+use Rattle.set_input.proofs.Promises.{holds-throughout}
+use Rattle.sim_commands.proofs.SimLaws.{played-histories}
+
+-- no set was read
+pub sim-unread :
+    {T : Type 0} (tools : List Tool) (source : Reading) (sink : Writing) (answer : Status) → EndsReading {T = T} source MOST_SET_BYTES (WasRefused source) (Err answer)
+    → sink.new ≡ sink.old → SimAnswers tools source sink answer
+sim-unread {T} tools source sink answer e same =
+    let err = λ (s : Status) (is : answer ≡ s). ap (λ (x : Status). let r : Result T Status = Err x in r) is in
+    record {
+      ok = λ is. absurd (e.not_ok (err _ is));
+      bad_input = λ b is. e.bad_input b (err _ is);
+      too_long = λ is. e.too_long (err _ is);
+      not_too_long = λ other. e.not_too_long (λ is. other cc);
+      cut_by_fault = λ is. absurd (e.not_write_fault (err _ is));
+      no_memory = λ _. inl same;
+      not_invalid = λ line is. e.not_invalid line (err _ is);
+      complete = λ can sure. ended-well source MOST_SET_BYTES (WasRefused source) answer e (can_play-told _ can) sure.read (λ b. can_play-unrefused source b can);
+    }
+
+wrote-answers :
+    (tools : List Tool) (source : Reading) (sink : Writing) (p : Parts) (answer : Status) → WasRead source p
+    → TakesAtMost MOST_SET_BYTES source.old.left source.new.left → Wrote sink (set_trace tools p) answer → SimAnswers tools source sink answer
+wrote-answers tools source sink p ends.Ok read few all = record {
+  ok = λ _. record { setup = p; read = read; written = all; holds = holds-throughout p (histories p) read.valid };
+  bad_input = λ b is. cc;
+  too_long = λ is. cc;
+  not_too_long = λ _. few;
+  cut_by_fault = λ is. cc;
+  no_memory = λ is. cc;
+  not_invalid = λ line is. cc;
+  complete = λ _ _. tt;
+}
+wrote-answers tools source sink p ends.WriteFault read few (part, risen) = record {
+  ok = λ is. cc;
+  bad_input = λ b is. cc;
+  too_long = λ is. cc;
+  not_too_long = λ _. few;
+  cut_by_fault = λ _. record { setup = p; read = read; written = part };
+  no_memory = λ is. cc;
+  not_invalid = λ line is. cc;
+  complete = λ _ sure. absurd (sure.write risen);
+}
+wrote-answers tools source sink p ends.NoMemory read few short = record {
+  ok = λ is. cc;
+  bad_input = λ b is. cc;
+  too_long = λ is. cc;
+  not_too_long = λ _. few;
+  cut_by_fault = λ is. cc;
+  no_memory = λ _. elim short [ inl same ↦ inl same | inr part ↦ inr (record { setup = p; read = read; written = part }) ];
+  not_invalid = λ line is. cc;
+  complete = λ _ _. tt;
+}
+wrote-answers tools source sink p (ends.Invalid line) read few h = absurd h
+wrote-answers tools source sink p ends.Usage read few h = absurd h
+wrote-answers tools source sink p (ends.BadInput b) read few h = absurd h
+wrote-answers tools source sink p ends.ReadFault read few h = absurd h
+wrote-answers tools source sink p ends.TooLong read few h = absurd h
+
+-- a set was read, and the trace of its groups written with the count lines of its tools, or a first part of it
+pub sim-read :
+    {T : Type 0} (tool : T → Tool) (ts : List T) (seats : List Seat) (source : Reading) (sink : Writing) (p : Parts) (hs : List GroupHistory) (answer : Status) → WasRead source p
+    → TakesAtMost MOST_SET_BYTES source.old.left source.new.left → hs ≡ all_played p → seats ≡ map (λ t. seat_of (tool t)) ts
+    → Wrote sink (bus_text Two seats p (groups.histories hs)) answer → SimAnswers (map tool ts) source sink answer
+sim-read tool ts seats source sink p hs answer read few all are wrote =
+    let text : bus_text Two seats p (groups.histories hs) ≡ set_trace (map tool ts) p =
+    text-of_tools Two tool ts p (groups.histories hs) seats are ∙ ap (counted_text Two (map tool ts) p) (played-histories p hs all) in
+    wrote-answers (map tool ts) source sink p answer read few (subst (λ (xs : List ℕ). Wrote sink xs answer) text wrote)

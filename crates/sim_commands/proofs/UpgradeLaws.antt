@@ -1,0 +1,73 @@
+-- A valid trace was read of the text of plays, and its upgrade is the text in format 2 of these.
+use Rattle.std.proofs.Common.{◌≡◌, ℕ, List, ◌++◌, map, refl, ap, ◌∙◌, subst, inr}
+use Rattle.std.specs.Prelude.{flat_map}
+use Rattle.rt_task.specs.Validity.{IsValid}
+use Rattle.rt_task.specs.declared.Parts.{Parts}
+use Rattle.rt_history.specs.declared.Entry.{Entry}
+use Rattle.rt_fault.specs.declared.status.Status.{Status}
+use Rattle.rt_fault.specs.declared.status.Status.TheVariants as ends
+use Rattle.trace_lines.specs.declared.format.Version.{Version}
+use Rattle.trace_lines.specs.declared.format.Version.TheVariants.{Two}
+use Rattle.trace_lines.specs.Grammar.{line_text}
+use Rattle.trace_lines.specs.Known.{known_of}
+use Rattle.trace_lines.specs.Lines.{Line}
+use Rattle.trace_read.specs.declared.Trace.{Trace}
+use Rattle.trace_read.specs.Lines.{lines_of}
+use Rattle.trace_read.specs.Reads.{IsTraceOf}
+use Rattle.trace_tools.specs.Seats.{Seat, seat_line, seat_of, seats_after}
+use Rattle.trace_tools.specs.Tools.{Tool}
+use Rattle.trace_text.specs.CountLines.{counted_text, shown_from}
+use Rattle.trace_text.specs.TraceText.{trace_text}
+use Rattle.trace_laws.specs.TraceLaws.{ArePlayed}
+use Rattle.trace_laws.specs.Upgrades.{IsUpgradeOf}
+use Rattle.trace_laws.specs.ValidTexts.{IsValidText}
+use Rattle.trace_laws.proofs.ReadBack.{text-begins}
+use Rattle.trace_check.proofs.Shown.{lines-shown}
+use Rattle.trace_upgrade.specs.Said.{SaysPlays}
+use Rattle.set_input.specs.Answers.{IsUnwritten}
+use Rattle.set_input.specs.Ends.{Writing}
+use Rattle.sim_commands.specs.Upgrade.{HasUpgraded, HasWritten}
+
+module _ (tools : List Tool) (bytes : List ℕ) (t : Trace) (entries : ℕ) (valid : IsValid t.setup) (is : IsValidText tools t.version t.setup bytes entries) where
+  played : ArePlayed t.setup is.histories
+  played = record { valid = valid; plays = is.plays }
+
+  pub valid-says : IsTraceOf bytes t.version t.setup (lines_of t.lines) t.stop → SaysPlays t is.histories
+  valid-says read =
+      let begins = text-begins tools t.version t.setup is.histories bytes is.text_is in
+      record { played = played; more = begins.0; read = subst (λ (text : List ℕ). IsTraceOf text t.version t.setup (lines_of t.lines) t.stop) begins.1 read }
+
+  pub valid-upgrade : IsUpgradeOf tools bytes (counted_text Two tools t.setup is.histories)
+  valid-upgrade = record { version = t.version; setup = t.setup; histories = is.histories; played = played; text_is = is.text_is; upgraded_is = refl }
+
+-- the trace of the same plays, and behind it the lines of a bus that was shown these, is the text with count lines
+pub shown-text : (tools : List Tool) (p : Parts) (hs got : List (List Entry)) (seats : List Seat) → got ≡ hs → seats ≡ seats_after (shown_from p 0 hs) (map seat_of tools)
+    → trace_text Two p got ++ flat_map (line_text (known_of Two p)) (map seat_line seats) ≡ counted_text Two tools p hs
+shown-text tools p hs got seats same shown =
+    ap (λ (es : List (List Entry)). trace_text Two p es ++ flat_map (line_text (known_of Two p)) (map seat_line seats)) same
+    ∙ ap (λ (ls : List Line). trace_text Two p hs ++ flat_map (line_text (known_of Two p)) ls) (lines-shown tools p hs seats shown)
+
+-- the text that was written is the upgrade
+pub written-upgraded : (tools : List Tool) (v : Version) (p : Parts) (bytes text : List ℕ) (sink : Writing) (answer : Status) → IsUpgradeOf tools bytes text → HasWritten text sink answer → HasUpgraded tools v p bytes sink answer
+written-upgraded tools v p bytes text sink ends.Ok is h = record { upgraded = text; is_upgrade = is; written = h }
+written-upgraded tools v p bytes text sink ends.WriteFault is h = record { upgraded = text; is_upgrade = is; written = h }
+written-upgraded tools v p bytes text sink ends.NoMemory is h = inr (record { upgraded = text; is_upgrade = is; written = h })
+written-upgraded tools v p bytes text sink (ends.Invalid line) is h = absurd h
+written-upgraded tools v p bytes text sink ends.Usage is h = absurd h
+written-upgraded tools v p bytes text sink (ends.BadInput b) is h = absurd h
+written-upgraded tools v p bytes text sink ends.ReadFault is h = absurd h
+written-upgraded tools v p bytes text sink ends.TooLong is h = absurd h
+
+-- no answer of a writer is one of those before it, nor that a line is wrong
+pub written-read : (text : List ℕ) (sink : Writing) (answer : Status) → HasWritten text sink answer → IsUnwritten answer → ⊥
+written-read text sink ends.Ok h none = none
+written-read text sink ends.WriteFault h none = none
+written-read text sink ends.NoMemory h none = none
+written-read text sink (ends.Invalid line) h none = none
+written-read text sink ends.Usage h none = h
+written-read text sink (ends.BadInput b) h none = h
+written-read text sink ends.ReadFault h none = h
+written-read text sink ends.TooLong h none = h
+
+pub written-right : (text : List ℕ) (sink : Writing) (answer : Status) (line : ℕ) → HasWritten text sink answer → answer ≡ ends.Invalid line → ⊥
+written-right text sink answer line h is = subst (HasWritten text sink) is h

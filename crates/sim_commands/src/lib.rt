@@ -1,0 +1,20 @@
+//! The commands of `rtsim`: playing the steps of modelled processors in a given order and printing the trace, checking a trace,
+//! upgrading a trace to format 2, and summing up what a generated set comes to.
+#![tactic(auto)]
+
+mod check;
+mod groups;
+mod load;
+mod play;
+mod play_set;
+mod sim;
+mod trace_input;
+mod turns;
+mod upgrade;
+mod verdict_line;
+mod words;
+
+pub use sim::sim;
+
+/// The words that are commands, as they are said.
+pub const USAGE: &str = "usage: rtsim sim, rtsim check, rtsim load N, rtsim upgrade";

@@ -1,0 +1,41 @@
+//! The trace that a run checks.
+ghost use Rattle.std.specs.Prelude.{IfOk};
+ghost use Rattle.rt_base.specs.declared.TheConstants.{MOST_TRACE_BYTES};
+ghost use Rattle.rt_task.specs.Validity.{IsValid};
+ghost use Rattle.trace_read.specs.Lines.{lines_of};
+ghost use Rattle.trace_read.specs.Reads.{IsTraceOf};
+ghost use Rattle.set_input.specs.Ends.{reading};
+ghost use Rattle.sim_commands.specs.Check.{WasTrace, WasNoTrace};
+ghost use Rattle.set_input.specs.Stopped.{EndsReading};
+
+use rt_base::MOST_TRACE_BYTES;
+use rt_fault::{Source, Status, read_all};
+use rt_task::{Part, SetKind};
+use set_input::refused;
+use std::alloc::Global;
+use trace_read::{Trace, TraceFault, read_trace};
+
+/// Reads a trace of either format to its end: one whose set is valid.
+pub(crate) fn read_trace_input<S: Source>(
+    alloc: Global,
+    src: &mut S,
+) -> Result<(Vec<u8>, Trace), Status>
+    ensures ok { let source = reading S.left S.faults src.old src.new in
+        IfOk result (λ x. WasTrace source x.0.items x.1.version x.1.setup) }
+    ensures trace { IfOk result (λ x.
+        IsTraceOf x.0.items x.1.version x.1.setup (lines_of x.1.lines) x.1.stop) }
+    ensures valid { IfOk result (λ x. IsValid x.1.setup) }
+    ensures ends { let source = reading S.left S.faults src.old src.new in
+        EndsReading source MOST_TRACE_BYTES (WasNoTrace source) result }
+{
+    let bytes = read_all(alloc, src, MOST_TRACE_BYTES)?;
+    let trace = match read_trace(alloc, bytes.as_slice()) {
+        Ok(trace) => trace,
+        Err(TraceFault::NotTrace(line)) => {
+            return Err(refused(SetKind::NotTrace, Part::Line, line));
+        }
+        Err(TraceFault::BadSet(bad)) => return Err(Status::BadInput(bad)),
+        Err(TraceFault::NoMemory) => return Err(Status::NoMemory),
+    };
+    Ok((bytes, trace))
+}

@@ -1,0 +1,116 @@
+//! The command `upgrade`: from the bytes of a trace to the text in format 2 of its set and histories, with count lines.
+ghost use Rattle.std.specs.Prelude.{◌≡◌, ◌≢◌, ℕ, List, map, true};
+ghost use Rattle.rt_task.specs.Validity.{IsValid};
+ghost use Rattle.rt_history.specs.declared.Entry.{Entry};
+ghost use Rattle.rt_fault.specs.Faults.{HasRisen};
+ghost use Rattle.trace_lines.specs.declared.format.Version.TheVariants.{Two};
+ghost use Rattle.trace_tools.specs.Places.{seats};
+ghost use Rattle.trace_tools.specs.Seats.{seat_of, seats_after};
+ghost use Rattle.trace_tools.specs.Tools.{Tool};
+ghost use Rattle.trace_text.specs.CountLines.{counted_text, shown_from};
+ghost use Rattle.trace_read.specs.Lines.{lines_of};
+ghost use Rattle.trace_read.specs.Reads.{IsTraceOf};
+ghost use Rattle.trace_upgrade.specs.Said.{SaysPlays};
+ghost use Rattle.set_input.specs.Ends.{reading, writing};
+ghost use Rattle.set_input.specs.Answers.{IsUnwritten};
+ghost use Rattle.sim_commands.specs.Upgrade.{HasUpgraded, HasWritten};
+ghost use Rattle.sim_commands.specs.UpgradeAnswers.{UpgradeAnswers};
+
+use crate::trace_input::read_trace_input;
+use rt_fault::{Sink, Source, Status};
+use std::alloc::Global;
+use trace_check::{Verdict, check_trace};
+use trace_lines::Version;
+use trace_read::Trace;
+use trace_text::{WriteStop, write_shown_trace};
+use trace_tools::{Bus, TraceTool};
+use trace_upgrade::engines_of;
+
+/// Writes, in format 2, a trace that was read of the text of plays, and the count lines of a bus that was shown these.
+fn write_upgrade<T: TraceTool, K: Sink>(
+    alloc: Global,
+    trace: &Trace,
+    bus: &Bus<T>,
+    out: &mut K,
+) -> Status
+    requires { (hs : List (List Entry)) × SaysPlays trace.now hs }
+    ensures written { (hs : List (List Entry)) (tools : List Tool) → SaysPlays trace.now hs
+        → seats T.tool bus.now
+        ≡ seats_after (shown_from trace.now.setup 0 hs) (map seat_of tools) → HasWritten
+        (counted_text Two tools trace.now.setup hs)
+        (writing K.held K.faults out.old out.new) result }
+    ensures write_fault { result ≡ Status.WriteFault →
+        HasRisen (K.faults out.old) (K.faults out.new) }
+    ensures no_write_fault { result ≢ Status.WriteFault → K.faults out.new ≡ K.faults out.old }
+{
+    let Ok(engines) = engines_of(alloc, trace) else {
+        return Status::NoMemory;
+    };
+    match write_shown_trace(
+        alloc,
+        Version::Two,
+        &trace.setup,
+        engines.as_slice(),
+        bus,
+        out,
+    ) {
+        Ok(()) => Status::Ok,
+        Err(WriteStop::Fault) => Status::WriteFault,
+        Err(WriteStop::NoMemory) => Status::NoMemory,
+    }
+}
+
+/// Writes, in format 2, the trace that was read of these bytes, where it is valid.
+fn upgrade_valid<T: TraceTool, K: Sink>(
+    alloc: Global,
+    bytes: &[u8],
+    trace: &Trace,
+    tools: Vec<T>,
+    out: &mut K,
+) -> Status
+    requires trace { IsTraceOf bytes.now trace.now.version trace.now.setup
+        (lines_of trace.now.lines) trace.now.stop }
+    requires valid { IsValid trace.now.setup }
+    ensures upgraded { HasUpgraded (map T.tool tools.items) trace.now.version trace.now.setup
+        bytes.now (writing K.held K.faults out.old out.new) result }
+    ensures wrong_unwritten { (line : ℕ) → result ≡ Status.Invalid line → out.new ≡ out.old }
+    ensures read { IsUnwritten result → ⊥ }
+    ensures write_fault { result ≡ Status.WriteFault →
+        HasRisen (K.faults out.old) (K.faults out.new) }
+    ensures no_write_fault { result ≢ Status.WriteFault → K.faults out.new ≡ K.faults out.old }
+{
+    let Ok(mut bus) = Bus::open(alloc, tools) else {
+        return Status::NoMemory;
+    };
+    match check_trace(alloc, bytes, trace, &mut bus) {
+        Ok(Verdict::Valid(_)) => write_upgrade(alloc, trace, &bus, out),
+        Ok(Verdict::Invalid(line)) => Status::Invalid(line),
+        Err(_) => Status::NoMemory,
+    }
+}
+
+/// Reads a trace, and where it is valid for its set, writes it in format 2 with the count line of each of these tools.
+pub(crate) fn upgrade<T: TraceTool, S: Source, K: Sink>(
+    alloc: Global,
+    src: &mut S,
+    out: &mut K,
+    tools: Vec<T>,
+) -> Status
+    ensures answers { UpgradeAnswers (map T.tool tools.items)
+        (reading S.left S.faults src.old src.new) (writing K.held K.faults out.old out.new) result }
+    ensures unwritten { IsUnwritten result → out.new ≡ out.old }
+    ensures wrong_unwritten { (line : ℕ) → result ≡ Status.Invalid line → out.new ≡ out.old }
+    ensures read_fault { result ≡ Status.ReadFault →
+        HasRisen (S.faults src.old) (S.faults src.new) }
+    ensures no_read_fault { result ≢ Status.ReadFault → S.faults src.new ≡ S.faults src.old }
+    ensures write_fault { result ≡ Status.WriteFault →
+        HasRisen (K.faults out.old) (K.faults out.new) }
+    ensures no_write_fault { result ≢ Status.WriteFault → K.faults out.new ≡ K.faults out.old }
+    ensures not_usage { result ≢ Status.Usage }
+{
+    let (bytes, trace) = match read_trace_input(alloc, src) {
+        Ok(input) => input,
+        Err(status) => return status,
+    };
+    upgrade_valid(alloc, bytes.as_slice(), &trace, tools, out)
+}
