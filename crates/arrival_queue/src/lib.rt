@@ -10,7 +10,7 @@ use std::alloc::Global;
 use std::marker::Model;
 
 /// An arrival: its task, its clock, and the place of the task's next arrival.
-#[derive(Clone, Copy, Debug, PartialEq, Eq)]
+#[derive(Clone, Copy, PartialEq, Eq)]
 struct Arrival {
     task: u32,
     clock: u64,
@@ -18,7 +18,7 @@ struct Arrival {
 }
 
 /// Of a task the places of its first arrival that waits, and of its newest one.
-#[derive(Clone, Copy, Debug, PartialEq, Eq)]
+#[derive(Clone, Copy, PartialEq, Eq)]
 struct Ends {
     first: Option<usize>,
     newest: Option<usize>,
@@ -70,16 +70,12 @@ impl ArrivalQueue {
     pub fn new(alloc: Global, tasks: u32, room: u32) -> Result<ArrivalQueue, NoMemory>
         ensures { IfOk result (λ q. q ≡ record { queues = replicate tasks []; room = room }) }
     {
-        let Ok(arrivals) = Vec::with_capacity(alloc, room as usize) else {
-            return Err(NoMemory);
-        };
+        let arrivals = Vec::with_capacity(alloc, room as usize)?;
         let none = Ends {
             first: None,
             newest: None,
         };
-        let Ok(ends) = vec![in alloc; none; tasks as usize] else {
-            return Err(NoMemory);
-        };
+        let ends = vec![in alloc; none; tasks as usize]?;
         Ok(ArrivalQueue {
             arrivals,
             ends,

@@ -1,12 +1,13 @@
 -- What the code that counts a bound rests on.
 use Rattle.std.specs.Prelude.{◌≡◌, ℕ, ◌+◌, ◌<◌, ◌≤◌, List, length, Option, None, Some, slice_index_or}
+use Rattle.rt_base.specs.declared.TheConstants.{MOST_CPUS, MOST_TASKS}
 use Rattle.rt_task.specs.declared.Parts.{Parts}
 use Rattle.rt_model.specs.Group.{Group, no_cluster, no_task, users}
 
 -- a set whose bounds can be counted
 pub record CanBound (p : Parts) : Type 0 where
-  pub few_tasks : length p.tasks ≤ 1024
-  pub few_cpus : (c : ℕ) → c < length p.clusters → (slice_index_or p.clusters c no_cluster).cpus ≤ 64
+  pub few_tasks : length p.tasks ≤ MOST_TASKS
+  pub few_cpus : (c : ℕ) → c < length p.clusters → (slice_index_or p.clusters c no_cluster).cpus ≤ MOST_CPUS
   pub homes : (i : ℕ) → i < length p.tasks → (slice_index_or p.tasks i no_task).cluster.0 < length p.clusters
 
 -- the number of a task of the set

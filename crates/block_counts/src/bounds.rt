@@ -1,6 +1,7 @@
 //! The bound of a request.
 ghost use Rattle.std.specs.Prelude.{◌≡◌, ◌+◌, ◌&&◌, ◌==◌, ◌^◌, ◌<◌, ◌≤◌, IfOk, None, length, map, replicate, slice_index_or};
 ghost use Rattle.rt_base.specs.declared.SemNo.{SemNo};
+ghost use Rattle.rt_base.specs.declared.TheConstants.{MOST_CPUS};
 ghost use Rattle.rt_rules.specs.Numbers.{has};
 ghost use Rattle.rt_model.specs.Blocking.{bound};
 ghost use Rattle.rt_model.specs.Group.{cpus, home, no_cluster, users};
@@ -57,7 +58,7 @@ pub(crate) fn no_user_counts(alloc: Global, sems: usize) -> Result<Vec<Option<u3
     requires { sems < 2 ^ 63 }
     ensures { IfOk result (λ v. v.items ≡ replicate (sems + 1) None) }
 {
-    vec![in alloc; None; sems + 1].map_err(|_| NoMemory)
+    Ok(vec![in alloc; None; sems + 1]?)
 }
 
 /// How many tasks of the group declare the semaphore, which is counted at the first call for it alone.
@@ -83,7 +84,7 @@ fn count_cpus(parts: &Parts, group: GroupNo, task: TaskNo) -> u32
     requires task { IsTaskOf parts.now task.0 }
     ensures cpus { result ≡ cpus (record { setup = parts.now; number = group.0 })
         (home (record { setup = parts.now; number = group.0 }) task.0) }
-    ensures few { result ≤ 64 }
+    ensures few { result ≤ MOST_CPUS }
 {
     let place = task.0 as usize - 1;
     let cluster = parts.tasks.as_slice()[place].cluster;

@@ -14,7 +14,7 @@ use std::alloc::Global;
 pub(crate) fn no_places(alloc: Global, tasks: usize) -> Result<Vec<Option<u32>>, NoMemory>
     ensures { IfOk result (λ v. v.items ≡ replicate tasks None) }
 {
-    vec![in alloc; None; tasks].map_err(|_| NoMemory)
+    Ok(vec![in alloc; None; tasks]?)
 }
 
 /// No requests, with room for so many.
@@ -22,7 +22,7 @@ pub(crate) fn no_requests(alloc: Global, room: usize) -> Result<Vec<Seen>, NoMem
     ensures items { IfOk result (λ v. v.items ≡ []) }
     ensures room { IfOk result (λ v. room ≤ vec_capacity v) }
 {
-    Vec::with_capacity(alloc, room).map_err(|_| NoMemory)
+    Ok(Vec::with_capacity(alloc, room)?)
 }
 
 /// Adds a request, for which there is room: the newest of its task.
@@ -35,7 +35,7 @@ pub(crate) fn ask(seen: &mut Vec<Seen>, places: &mut [Option<u32>], new: Seen)
     ensures capacity { vec_capacity seen.old ≤ vec_capacity seen.new }
 {
     places[new.task.0 as usize] = Some(seen.len() as u32);
-    let _ = seen.push(new);
+    seen.push_reserved(new);
 }
 
 // The place of a task's newest request.

@@ -65,9 +65,7 @@ impl ClusterState {
     {
         let queue = ReadyQueue::new(alloc, cpus, room)?;
         let links = Links::new(alloc, first, cpus)?;
-        let Ok(top) = Vec::with_capacity(alloc, cpus as usize) else {
-            return Err(NoMemory);
-        };
+        let top = Vec::with_capacity(alloc, cpus as usize)?;
         Ok(ClusterState {
             queue,
             links,

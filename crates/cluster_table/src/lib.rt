@@ -71,9 +71,7 @@ impl ClusterTable {
     {
         let clusters = states_of(alloc, rows, group, room)?;
         let homes = homes_of(alloc, rows)?;
-        let Ok(changed) = Vec::with_capacity(alloc, rows.len()) else {
-            return Err(NoMemory);
-        };
+        let changed = Vec::with_capacity(alloc, rows.len())?;
         Ok(ClusterTable {
             clusters,
             homes,

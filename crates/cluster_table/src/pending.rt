@@ -5,7 +5,7 @@ ghost use Rattle.cluster_table.specs.Pending.{after_exchange, is_nothing};
 use ready_queue::Exchange;
 
 /// What has become of the first of a cluster's eligible tasks since its links were placed.
-#[derive(Clone, Copy, Debug)]
+#[derive(Clone, Copy)]
 pub(crate) enum Pending {
     /// They are the same ones, in whatever order.
     Nothing,

@@ -30,9 +30,7 @@ pub(crate) fn states_of(
         } else {
             None
         };
-        if states.push(state).is_err() {
-            return Err(NoMemory);
-        }
+        states.push(state)?;
         first += row.cpus;
     }
     Ok(states)
@@ -44,9 +42,7 @@ fn put_homes(homes: &mut Vec<ClusterNo>, c: ClusterNo, cpus: u32) -> Result<(), 
         ≡ cluster_numbers homes.old.items ++ replicate cpus c.0) }
 {
     for _ in 0..cpus {
-        if homes.push(c).is_err() {
-            return Err(NoMemory);
-        }
+        homes.push(c)?;
     }
     Ok(())
 }

@@ -17,9 +17,7 @@ fn put_cpus(cpus: &mut Vec<CpuNo>, first: u32, count: u32) -> Result<(), NoMemor
         (cpu_numbers cpus.new.items ≡ cpu_numbers cpus.old.items ++ numbers_from first count) }
 {
     for q in first..first + count {
-        if cpus.push(CpuNo(q)).is_err() {
-            return Err(NoMemory);
-        }
+        cpus.push(CpuNo(q))?;
     }
     Ok(())
 }

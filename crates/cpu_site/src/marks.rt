@@ -1,5 +1,5 @@
 //! Which counts have changed.
-ghost use Rattle.std.specs.Prelude.{◌≡◌, ℕ, ◌+◌, ◌<◌, ◌≤◌, ◌^◌, ◌⊎◌, ◌++◌, ◌∷◌, [], All, IfOk, replicate, length, slice_index, vec_capacity};
+ghost use Rattle.std.specs.Prelude.{◌≡◌, ℕ, ◌+◌, ◌<◌, ◌≤◌, ◌^◌, ◌⊎◌, [], All, IfOk, replicate, length, slice_index, vec_capacity};
 ghost use Rattle.turn_cell.specs.Words.{times};
 
 use rt_base::NoMemory;
@@ -9,20 +9,14 @@ use std::alloc::Global;
 pub(crate) fn no_counts(alloc: Global, cpus: usize) -> Result<Vec<u64>, NoMemory>
     ensures { IfOk result (λ v. v.items ≡ replicate cpus 0) }
 {
-    match Vec::from_elem(alloc, 0, cpus) {
-        Ok(counts) => Ok(counts),
-        Err(_) => Err(NoMemory),
-    }
+    Ok(Vec::from_elem(alloc, 0, cpus)?)
 }
 
 /// No places, with room for one of each processor.
 pub(crate) fn no_places(alloc: Global, cpus: usize) -> Result<Vec<u32>, NoMemory>
     ensures { IfOk result (λ v. (v.items ≡ []) × (cpus ≤ vec_capacity v)) }
 {
-    match Vec::with_capacity(alloc, cpus) {
-        Ok(places) => Ok(places),
-        Err(_) => Err(NoMemory),
-    }
+    Ok(Vec::with_capacity(alloc, cpus)?)
 }
 
 /// Copies the counts.
@@ -31,15 +25,6 @@ pub(crate) fn copy(from: &[u64], to: &mut Vec<u64>)
     ensures { to.new.items ≡ from.now }
 {
     to.as_mut_slice().copy_from_slice(from);
-}
-
-/// Adds a number, for which there is room.
-fn put(items: &mut Vec<u32>, item: u32)
-    requires { length items.old.items < vec_capacity items.old }
-    ensures items { items.new.items ≡ items.old.items ++ item ∷ [] }
-    ensures capacity { vec_capacity items.old ≤ vec_capacity items.new }
-{
-    let _ = items.push(item);
 }
 
 /// The places of the counts that have changed, where each is as it was or one more.
@@ -59,7 +44,7 @@ pub(crate) fn changed(before: &[u64], after: &[u64], places: &mut Vec<u32>)
     places.clear();
     for i in 0..before.len() as u32 {
         if before[i as usize] != after[i as usize] {
-            put(places, i);
+            places.push_reserved(i);
         }
     }
 }

@@ -31,8 +31,8 @@ pub(crate) fn steps_of_cpus(
 {
     let mut own = Vec::new(alloc);
     for step in steps {
-        if is_one_of(cpus, step.cpu) && own.push(*step).is_err() {
-            return Err(NoMemory);
+        if is_one_of(cpus, step.cpu) {
+            own.push(*step)?;
         }
     }
     Ok(own)

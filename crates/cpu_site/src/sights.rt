@@ -54,9 +54,7 @@ pub(crate) fn look(alloc: Global, player: &Player, cpus: &[CpuNo]) -> Result<Vec
 {
     let mut sights = Vec::new(alloc);
     for cpu in cpus {
-        if sights.push(sight_of(player, *cpu)).is_err() {
-            return Err(NoMemory);
-        }
+        sights.push(sight_of(player, *cpu))?;
     }
     Ok(sights)
 }

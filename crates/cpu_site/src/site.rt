@@ -1,5 +1,5 @@
 //! A group whose processors play in turns, each by a seat of its own.
-ghost use Rattle.std.specs.Prelude.{◌≡◌, ℕ, ◌+◌, ◌<◌, ◌≤◌, ◌++◌, ◌∷◌, [], true, nat_lt, length, map, reverse, slice_index, vec_capacity, if◌then◌else◌, All, Contains, IfOk, Some};
+ghost use Rattle.std.specs.Prelude.{◌≡◌, ℕ, ◌+◌, ◌<◌, ◌≤◌, [], true, nat_lt, length, map, reverse, slice_index, vec_capacity, if◌then◌else◌, All, Contains, IfOk, Some};
 ghost use Rattle.rt_base.specs.declared.TheConstants.{MOST_CPUS, MOST_STEPS};
 ghost use Rattle.rt_model.specs.Group.{group_processors};
 ghost use Rattle.rt_model.specs.Histories.{raises};
@@ -125,19 +125,8 @@ fn seated(
 }
 
 fn room(alloc: Global) -> Result<Back, NoMemory> {
-    match Vec::with_capacity(alloc, MOST_CPUS as usize) {
-        Ok(seats) => Ok(Back { seats }),
-        Err(_) => Err(NoMemory),
-    }
-}
-
-fn add(all: &mut Vec<CpuSeat>, seat: CpuSeat) -> Result<(), NoMemory>
-    ensures { IfOk result (λ _. all.new.items ≡ all.old.items ++ seat ∷ []) }
-{
-    match all.push(seat) {
-        Ok(()) => Ok(()),
-        Err(_) => Err(NoMemory),
-    }
+    let seats = Vec::with_capacity(alloc, MOST_CPUS as usize)?;
+    Ok(Back { seats })
 }
 
 /// The same items from the last to the first.
@@ -145,15 +134,6 @@ fn turn_round<T>(items: &mut Vec<T>)
     ensures { items.new.items ≡ reverse items.old.items }
 {
     items.as_mut_slice().reverse();
-}
-
-/// Puts a seat back, for which there is room.
-fn put_back(back: &mut Vec<TurnSeat<Group>>, seat: TurnSeat<Group>)
-    requires { length back.old.items < vec_capacity back.old }
-    ensures items { back.new.items ≡ back.old.items ++ seat ∷ [] }
-    ensures capacity { vec_capacity back.old ≤ vec_capacity back.new }
-{
-    let _ = back.push(seat);
 }
 
 impl CpuSeat {
@@ -204,7 +184,7 @@ impl Site {
             let place = seats.len();
             let cpu = cpus[place];
             let seat = seated(alloc, seat, cpu, place as u32, count)?;
-            add(&mut all, seat)?;
+            all.push(seat)?;
         }
         turn_round(&mut all);
         Ok((Site { turn, back }, all))
@@ -225,7 +205,7 @@ impl Site {
         let Back { seats: mut back } = back.into_inner();
         while let Some(seat) = seats.pop() {
             let CpuSeat { seat, .. } = seat;
-            put_back(&mut back, seat);
+            back.push_reserved(seat);
         }
         turn.close(back).into_engine()
     }

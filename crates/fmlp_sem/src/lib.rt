@@ -43,7 +43,7 @@ impl FmlpSem {
     pub fn new(alloc: Global, room: u32) -> Result<FmlpSem, NoMemory>
         ensures { IfOk result (λ s. s ≡ record { room = room; line = [] }) }
     {
-        let line = VecDeque::with_capacity(alloc, room as usize).map_err(|_| NoMemory)?;
+        let line = VecDeque::with_capacity(alloc, room as usize)?;
         Ok(FmlpSem { line, room })
     }
 

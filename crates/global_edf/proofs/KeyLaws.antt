@@ -49,6 +49,7 @@ unfolding boost_by
 global-boost g s t protocols.Fmlp past none number = rw none refl
 global-boost g s t protocols.Omlp past none number = refl
 global-boost g s t protocols.Pcp past none number = refl
+global-boost g s t protocols.Srp past none number = refl
 global-boost g s t protocols.Mpcp past none number = ap {B = Option Key} (λ n. Some (record { band = 1; major = mpcp_ceiling g s t; minor = n })) number
 
 pub global_boosts : (kind : PluginKind) → boosts_fmlp kind ≡ false → AreBoosts kind global_boost

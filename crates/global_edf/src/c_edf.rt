@@ -6,7 +6,7 @@ use rt_task::{Protocol, Task};
 
 /// C-EDF, LITMUS-RT's clustered EDF: jobs by deadline within each of one or more clusters (Brandenburg, dissertation,
 /// University of North Carolina, 2011).
-#[derive(Clone, Copy, Debug)]
+#[derive(Clone, Copy)]
 pub struct CEdf;
 
 impl Plugin for CEdf {

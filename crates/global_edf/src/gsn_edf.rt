@@ -6,7 +6,7 @@ use rt_task::{Protocol, Task};
 
 /// GSN-EDF, LITMUS-RT's global EDF: jobs by deadline in one cluster of all processors (Brandenburg, dissertation,
 /// University of North Carolina, 2011).
-#[derive(Clone, Copy, Debug)]
+#[derive(Clone, Copy)]
 pub struct GsnEdf;
 
 impl Plugin for GsnEdf {

@@ -47,6 +47,6 @@ pub fn global_boost(t: &Task, p: Protocol, ceiling: u32) -> Option<Key>
 {
     match p {
         Protocol::Mpcp => Some(ceiling_key(t, ceiling)),
-        Protocol::Fmlp | Protocol::Omlp | Protocol::Pcp => None,
+        Protocol::Fmlp | Protocol::Omlp | Protocol::Pcp | Protocol::Srp => None,
     }
 }

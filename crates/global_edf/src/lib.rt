@@ -33,6 +33,3 @@ pub fn c_edf_has_base_keys()
 pub fn c_edf_has_boosts()
     ensures { AreBoosts PluginKind.CEdf ⟦<CEdf as Plugin>⟧.boost }
 {}
-
-#[cfg(test)]
-mod tests;

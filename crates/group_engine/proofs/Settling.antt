@@ -15,6 +15,7 @@ use Rattle.rt_model.specs.Releases.{ready}
 use Rattle.rt_model.specs.Tops.{eligible, ranking, top}
 use Rattle.rt_model.proofs.Steps.{links-step}
 use Rattle.rt_model.proofs.TopLaws.{distinct-tasks_of}
+use Rattle.rt_model.proofs.Unplayed.{plainly-eligible}
 use Rattle.ready_queue.specs.Queue.{first_tasks}
 use Rattle.ready_queue.specs.ReadySet.{HoldsJust, kept_key, set_refreshed}
 use Rattle.ready_queue.specs.Refreshed.{AgreeBut}
@@ -171,10 +172,9 @@ holds-same ts key test test' keys same holds = record { room = holds.room; is_in
 -- a task is eligible where it stands and is served by what is kept
 pub eligible-served : (g : Group) → IsPlayed g → (past : Past) (w : GroupResvs) → KeepsResvs g past w → (t : ℕ) → has t (tasks g) ≡ true
     → eligible g t past ≡ stands g t past && is_served w t
-unfolding eligible
 eligible-served g played past w kept t h =
     let read = resvs_are_read g t past w played.valid kept h in
-    ap (λ b. ready g t past && (is_none (awaits g t past) && b)) (sym read.served) ∙ and-three (ready g t past) (is_none (awaits g t past)) (is_served w t)
+    plainly-eligible g played.valid t past ∙ ap (λ b. ready g t past && (is_none (awaits g t past) && b)) (sym read.served) ∙ and-three (ready g t past) (is_none (awaits g t past)) (is_served w t)
   where
     and-three : (a b c : Bool) → a && (b && c) ≡ (a && b) && c
     and-three true b c = refl

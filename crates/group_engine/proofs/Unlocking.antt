@@ -4,6 +4,7 @@ use Rattle.std.proofs.Common.{◌≡◌, ℕ, Bool, true, false, not, List, ◌�
 use Rattle.std.specs.Prelude.{Option, None, Some, if◌then◌else◌}
 use Rattle.rt_base.specs.declared.SemNo.{SemNo}
 use Rattle.rt_task.specs.declared.Parts.{Parts}
+use Rattle.rt_task.specs.RuleWords.{is_stacked}
 use Rattle.rt_task.specs.declared.Act.TheVariants as acts
 use Rattle.rt_task.specs.declared.Op.TheVariants as ops
 use Rattle.rt_history.specs.declared.Reply.{Reply}
@@ -13,7 +14,6 @@ use Rattle.rt_rules.proofs.MemberLaws.{equal_self}
 use Rattle.rt_rules.specs.Numbers.{has, is}
 use Rattle.rt_rules.specs.SemState.{Frees}
 use Rattle.rt_model.specs.Answers.{answer, do_answer, op_answer, unlock_answer}
-use Rattle.rt_model.specs.Ceilings.{is_pcp}
 use Rattle.rt_model.specs.Group.{Group, protocol, tasks, users}
 use Rattle.rt_model.specs.Holders.{holder, last_granted}
 use Rattle.rt_model.specs.Outcomes.{past_act}
@@ -69,14 +69,14 @@ module _ (g : Group) (q t : ℕ) (sem : SemNo) (past : Past) (s : GroupState) (c
   member = (running g (rules_of g can.played.valid) can.at.reachable q t runs_it).member
 
   answer-is : answer g q (acts.Do (ops.Unlock sem)) past
-      ≡ (if not (is t (holder g sem.0 past)) then replies.NotHeld else (if is_pcp (protocol g sem.0) && not (is sem.0 (last_granted g t past)) then replies.NotLast else replies.Done))
+      ≡ (if not (is t (holder g sem.0 past)) then replies.NotHeld else (if is_stacked (protocol g sem.0) && not (is sem.0 (last_granted g t past)) then replies.NotLast else replies.Done))
   unfolding answer do_answer op_answer unlock_answer
   answer-is = rw runs_it refl
 
   case : IsCase (unlock_refusal g.setup s.sems.table t sem.0) (answer g q (acts.Do (ops.Unlock sem)) past)
   case =
       rw (unlock_refusal_is_read g past can.played.valid can.at.reachable s.sems t sem.0 member can.act_is_of can.at.sems_are.locks, answer-is)
-      (unlock-case (is t (holder g sem.0 past)) (is_pcp (protocol g sem.0) && not (is sem.0 (last_granted g t past))))
+      (unlock-case (is t (holder g sem.0 past)) (is_stacked (protocol g sem.0) && not (is sem.0 (last_granted g t past))))
 
   pub refused-of : (r : Reply) → unlock_refusal g.setup s.sems.table t sem.0 ≡ Some r
       → (r ≡ answer g q (acts.Do (ops.Unlock sem)) past) × (accepted (answer g q (acts.Do (ops.Unlock sem)) past) ≡ false)

@@ -18,10 +18,10 @@ ghost use Rattle.group_engine.specs.Sound.{Extent, IsMoved, IsSound};
 ghost use Rattle.rt_model.specs.Steps.{IsStepOf};
 ghost use Rattle.rt_plays.specs.Homes.{IsProcessorOf};
 ghost use Rattle.rank_changes.specs.Clusters.{HoldsEligible};
+ghost use Rattle.resv_laws.specs.Tables.{FollowsTables};
 ghost use Rattle.rt_groups.specs.Groups.{GroupHistory, group_of, past, with_entry, AreStepsOf, IsGroupOf, IsLegalNow};
 ghost use Rattle.rt_groups.specs.Endings.{ended_last};
 
-use crate::room::put;
 use crate::state::GroupState;
 use prio_inherit::Inherit;
 use ready_heap::ReadyHeap;
@@ -82,9 +82,7 @@ impl Engine {
     {
         let setup = setup.share()?;
         let state = GroupState::open(alloc, &setup, group, room)?;
-        let Ok(entries) = Vec::with_capacity(alloc, room as usize) else {
-            return Err(NoMemory);
-        };
+        let entries = Vec::with_capacity(alloc, room as usize)?;
         Ok(Engine {
             setup,
             group,
@@ -175,6 +173,7 @@ impl Engine {
         ensures reply { result ≡ reply_to (group_of self.old) step (past self.old) }
         ensures entry { self.new ≡ with_entry (record { step = step; reply = result }) self.old }
         ensures legal { IsLegalNow self.new }
+        ensures tables { FollowsTables (group_of self.new) (past self.new) }
     {
         let parts = self.setup.parts();
         self.state.move_clock(parts, step.tick);
@@ -192,6 +191,7 @@ impl Engine {
         ensures reply { result ≡ reply_to (group_of self.old) step (past self.old) }
         ensures entry { self.new ≡ with_entry (record { step = step; reply = result }) self.old }
         ensures legal { IsLegalNow self.new }
+        ensures tables { FollowsTables (group_of self.new) (past self.new) }
         ensures waiting { AreWaitersAt (between self.old step) step.cpu.0 step.act list.new.waiting }
         ensures once { IsDistinct (waiter_tasks list.new.waiting) }
         ensures same_room { list.new.room ≡ list.old.room }
@@ -223,7 +223,7 @@ fn settle(parts: &Parts, state: &mut GroupState, entries: &mut Vec<Entry>, step:
 {
     let stake = state.at_stake(parts, step.cpu, step.act);
     let reply = state.act(parts, step.cpu, step.act);
-    put(entries, Entry { step, reply });
+    entries.push_reserved(Entry { step, reply });
     Settled {
         reply,
         ended: state.ended_of(reply, stake),

@@ -2,7 +2,6 @@
 #![tactic(auto)]
 
 mod engine;
-mod room;
 mod state;
 
 pub use engine::Engine;

@@ -14,7 +14,7 @@ use Rattle.rt_task.specs.declared.Op.TheVariants as ops
 use Rattle.rt_task.specs.declared.PluginKind.{PluginKind}
 use Rattle.rt_task.specs.declared.PluginKind.TheVariants as plugins
 use Rattle.rt_task.specs.declared.Protocol.{Protocol}
-use Rattle.rt_task.specs.declared.Protocol.TheVariants.{Fmlp, Omlp, Mpcp, Pcp}
+use Rattle.rt_task.specs.declared.Protocol.TheVariants.{Fmlp, Omlp, Mpcp, Pcp, Srp}
 use Rattle.rt_history.specs.declared.Reply.TheVariants as replies
 use Rattle.rt_rules.specs.Distinct.{IsDistinct}
 use Rattle.rt_rules.specs.Numbers.{has, is, is_empty, numbers_from}
@@ -135,6 +135,7 @@ nested-same : (g : Group) (p : Protocol) (s t : ℕ) (past : Past) (held : List 
 unfolding nests
 nested-same g Pcp s t past held h =
     rw (same-any (λ r. not (is_pcp (protocol g r))) held (holds g t past) h.members, h.members s, (held_is_read g t past held h).1)
+nested-same g Srp s t past held h = rw (h.members s, (held_is_read g t past held h).1)
 nested-same g Fmlp s t past held h = rw (held_is_read g t past held h).0
 nested-same g Omlp s t past held h = rw (held_is_read g t past held h).0
 nested-same g Mpcp s t past held h = rw (held_is_read g t past held h).0

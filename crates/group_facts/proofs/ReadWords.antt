@@ -14,7 +14,7 @@ use Rattle.rt_model.specs.Outcomes.{is_spent}
 use Rattle.rt_model.specs.Past.{Past, now}
 use Rattle.rt_model.specs.Releases.{arrivals, has_come, release, release_by, deadline, is_released, opens_early, exists, ready}
 use Rattle.rt_model.specs.Sleep.{sleeps}
-use Rattle.rt_model.specs.Tops.{eligible, is_served}
+use Rattle.rt_model.specs.Tops.{eligible, is_admitted, is_served}
 use Rattle.group_facts.specs.Facts.{job_facts}
 use Rattle.group_facts.specs.Words.{release_by_kind, release_of, deadline_of, is_early, is_there, is_asleep, is_ready, is_used_up, key_of}
 use Rattle.group_facts.specs.Words.{WordsAreRead}
@@ -76,7 +76,7 @@ spent-read g t past = refl
 
 eligible-read : (g : Group) (t : ℕ) (past : Past)
     → eligible g t past ≡ is_ready (now past) (task g t) (job_facts t past) &&
-    (is_none (awaits g t past) && is_served g g.setup.plugin t past)
+    (is_none (awaits g t past) && (is_served g g.setup.plugin t past && is_admitted g g.setup.plugin t past))
 unfolding eligible
 eligible-read g t past = rw ready-read
 

@@ -15,7 +15,7 @@ use Rattle.rt_laws.specs.EveryPast.{EveryPast}
 use Rattle.rank_changes.specs.ClusterMoves.{of_cluster}
 use Rattle.rank_changes.specs.Clusters.{HoldsEligible}
 use Rattle.ready_queue.specs.ReadySet.{set_refreshed}
-use Rattle.rank_changes.specs.Served.{SameReservation}
+use Rattle.rank_changes.specs.Served.{SameReservation, StaysInSlot}
 use Rattle.rank_changes.specs.Touched.{touched_by}
 use Rattle.group_facts.specs.FactMoves.{with_act}
 use Rattle.group_facts.specs.Timers.{AreDue, TimersAreKept}
@@ -37,8 +37,9 @@ SetAfterQuiet = EveryPast (λ g past. is_p_res g.setup.plugin ≡ false → (c q
     → sem_act (Acted (past_act g q act past)) ≡ Neither → HoldsEligible g c past keys
     → HoldsEligible g c (with_act g q act past) (looked_at g c (with_act g q act past) (touched_by g q act past) keys))
 
--- As the clock moves each reservation stays of which no client is due and that is not refilled.
+-- As the clock moves each reservation stays of which no client is due and that is neither refilled nor moved in its slots.
 abbrev pub ReservationsAfterDue : Type 0
 ReservationsAfterDue = EveryPast (λ g past. (tick r : ℕ) (ticks : List (Option ℕ)) (us : List ℕ) → TimersAreKept g past ticks
     → AreDue (max (now past) tick) ticks us → ((t : ℕ) → has t (clients g r) ≡ true → has t us ≡ false)
-    → is_refill g (resv g r).kind r (Clock tick) past (refilled g r past) ≡ false → SameReservation g r past (Clock tick ∷ past))
+    → is_refill g (resv g r).kind r (Clock tick) past (refilled g r past) ≡ false → StaysInSlot g tick r past
+    → SameReservation g r past (Clock tick ∷ past))

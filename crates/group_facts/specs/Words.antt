@@ -14,7 +14,7 @@ use Rattle.rt_model.specs.Outcomes.{is_spent}
 use Rattle.rt_model.specs.Past.{Past, now}
 use Rattle.rt_model.specs.Releases.{has_come, release, deadline, is_released, opens_early, exists, ready}
 use Rattle.rt_model.specs.Sleep.{sleeps}
-use Rattle.rt_model.specs.Tops.{eligible, is_served}
+use Rattle.rt_model.specs.Tops.{eligible, is_admitted, is_served}
 use Rattle.group_facts.specs.Facts.{JobFacts, job_facts}
 
 -- the release of the current job
@@ -65,7 +65,8 @@ pub record AreRead (g : Group) (t : ℕ) (past : Past) (clock : ℕ) (job : JobF
   pub there_is : exists g t past ≡ is_there clock (task g t) job
   pub asleep_is : sleeps t past ≡ is_asleep clock job
   pub ready_is : ready g t past ≡ is_ready clock (task g t) job
-  pub eligible_is : eligible g t past ≡ is_ready clock (task g t) job && (is_none (awaits g t past) && is_served g g.setup.plugin t past)
+  pub eligible_is : eligible g t past ≡ is_ready clock (task g t) job
+      && (is_none (awaits g t past) && (is_served g g.setup.plugin t past && is_admitted g g.setup.plugin t past))
   pub key_is : base_key g t past ≡ key_of g g.setup.plugin t job
   pub spent_is : is_spent g t past ≡ is_used_up (task g t) (is_empty (holds g t past)) job
 

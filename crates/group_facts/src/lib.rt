@@ -5,6 +5,7 @@
 ghost use Rattle.group_facts.specs.Words.{WordsAreRead};
 ghost use Rattle.group_facts.specs.FactMoves.{OperationIsCounted, ArrivalIsCounted, OthersCountNothing, OtherJobsStay};
 ghost use Rattle.group_facts.specs.FactMoves.{CpuIsCounted, RefusedStays, ClockStays};
+ghost use Rattle.group_facts.specs.Ways.{WaysAfterAct, WaysAfterClock, WaysAtOpening};
 ghost use Rattle.group_facts.specs.Kept.{KeptAtOpening, KeptAfterClock, KeptAfterAct, KeptAfterStep, KeptIsThere, WordsOfKept};
 ghost use Rattle.group_facts.specs.Replies.{ReplyIsRead, HeldIsRead};
 ghost use Rattle.group_facts.specs.Timers.{TimersAreRenewed, DueAreTakenOut, TimersAtOpening, TimersAfterAct, TimerStays, DueOneByOne};
@@ -61,6 +62,22 @@ pub fn kept_at_opening()
 /// What is kept after a move of the clock is of the past with that move.
 pub fn kept_after_clock()
     ensures { KeptAfterClock }
+{}
+
+/// At the opening no task is under way.
+pub fn ways_at_opening()
+    ensures { WaysAtOpening }
+{}
+
+/// A move of the clock leaves which tasks are under way.
+pub fn ways_after_clock()
+    ensures { WaysAfterClock }
+{}
+
+/// Which tasks are under way after an act: an interrupt starts the task that its processor then runs, and an operation that
+/// ends the job or puts it to sleep ends it.
+pub fn ways_after_act()
+    ensures { WaysAfterAct }
 {}
 
 /// What is kept after an act is of the past with that act.

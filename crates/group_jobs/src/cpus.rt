@@ -9,7 +9,7 @@ use rt_history::Reply;
 use rt_task::{Act, Op};
 
 /// The task that the processor runs, and the clock of its last Work.
-#[derive(Clone, Copy, Debug, PartialEq, Eq)]
+#[derive(Clone, Copy, PartialEq, Eq)]
 pub(crate) struct CpuState {
     pub(crate) runs: Option<TaskNo>,
     pub(crate) worked: Option<u64>,

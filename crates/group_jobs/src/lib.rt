@@ -71,12 +71,8 @@ impl GroupJobs {
         requires { tasks ≤ MOST_TASKS }
         ensures { IfOk result (λ j. j ≡ record { kept = opened tasks cpus; room = room }) }
     {
-        let Ok(states) = vec![in alloc; TaskState::NEW; tasks as usize] else {
-            return Err(NoMemory);
-        };
-        let Ok(cpus) = vec![in alloc; CpuState::IDLE; cpus as usize] else {
-            return Err(NoMemory);
-        };
+        let states = vec![in alloc; TaskState::NEW; tasks as usize]?;
+        let cpus = vec![in alloc; CpuState::IDLE; cpus as usize]?;
         let arrivals = ArrivalQueue::new(alloc, tasks + 1, room)?;
         Ok(GroupJobs {
             clock: 0,

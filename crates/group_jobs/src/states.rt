@@ -12,7 +12,7 @@ use rt_task::{Op, Task};
 
 /// The jobs of a task that have ended; of its current job the budget used, the number of operations done, the end of its
 /// sleep and whether it is non-preemptive; of its arrivals their number and the clock of the newest.
-#[derive(Clone, Copy, Debug, PartialEq, Eq)]
+#[derive(Clone, Copy, PartialEq, Eq)]
 pub(crate) struct TaskState {
     pub(crate) done: u64,
     pub(crate) used: u64,

@@ -4,7 +4,7 @@ use Rattle.std.specs.Prelude.{None, Option, Some, ◌==◌, slice_set}
 use Rattle.rt_task.specs.Validity.{IsValid}
 use Rattle.rt_task.specs.declared.PluginKind.TheVariants as plugins
 use Rattle.rt_task.specs.declared.PluginKind.{PluginKind}
-use Rattle.rt_task.specs.declared.Protocol.TheVariants.{Fmlp, Mpcp, Omlp, Pcp}
+use Rattle.rt_task.specs.declared.Protocol.TheVariants.{Fmlp, Mpcp, Omlp, Pcp, Srp}
 use Rattle.rt_task.specs.declared.Protocol.{Protocol}
 use Rattle.rt_task.specs.declared.Task.{Task}
 use Rattle.rt_order.specs.declared.Key.{Key}
@@ -87,6 +87,7 @@ boost-now-none g ceilings clock s t h = by_protocol g.setup.plugin (task (group_
     by_protocol k r Fmlp m c q = cc
     by_protocol k r Omlp m c q = cc
     by_protocol k r Mpcp m c q = cc
+    by_protocol k r Srp m c q = cc
 
 -- the clock moves at no Lock and no Unlock
 pub now-stays : (e : Event) (past : Past) (s : ℕ) → sem_of (sem_act e) ≡ Some s → now (e ∷ past) ≡ now past

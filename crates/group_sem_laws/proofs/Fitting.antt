@@ -4,7 +4,7 @@ use Rattle.std.specs.Prelude.{◌==◌, Option, None, Some, IsSome, slice_index_
 use Rattle.rt_task.specs.Validity.{IsValid}
 use Rattle.rt_task.specs.declared.Parts.{Parts}
 use Rattle.rt_task.specs.declared.Protocol.{Protocol}
-use Rattle.rt_task.specs.declared.Protocol.TheVariants.{Fmlp, Mpcp, Omlp, Pcp}
+use Rattle.rt_task.specs.declared.Protocol.TheVariants.{Fmlp, Mpcp, Omlp, Pcp, Srp}
 use Rattle.rt_order.specs.declared.Key.{Key}
 use Rattle.rt_rules.specs.Numbers.{has, numbers_from}
 use Rattle.rt_rules.specs.Pcp.{passes, pcp_after}
@@ -204,6 +204,7 @@ queued-held g c t s e past a may_not = rw a (by_case (home g t == c && is_pcp (p
     stops Fmlp k m = cc
     stops Omlp k m = cc
     stops Mpcp k m = cc
+    stops Srp k m = cc
 
     by_case : (b : Bool) → home g t == c && is_pcp (protocol g s) ≡ b → (pcp_after (above g []) (above_ceiling g) (if b then Asks t s else Neither) (pcp g c past)).held ≡ (pcp g c past).held
     by_case false k = refl

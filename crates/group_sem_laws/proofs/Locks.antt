@@ -21,6 +21,7 @@ use Rattle.rt_laws.proofs.Moves.{last_move}
 use Rattle.rt_laws.proofs.Next.{next}
 use Rattle.rt_laws.proofs.PcpWalks.{walk-stops}
 use Rattle.rt_laws.proofs.Rules.{MeetsRules}
+use Rattle.rt_model.proofs.Unplayed.{stacked_is}
 use Rattle.rt_laws.proofs.SemaphoreLaws.{requests_do_not_nest}
 use Rattle.rt_laws.proofs.ValidSets.{rules_of}
 use Rattle.rt_laws.proofs.Waiting.{none-waits}
@@ -147,7 +148,7 @@ module _ (g : Group) (e : Event) (past : Past) (valid : IsValid g.setup) (made_a
       where
         is-held : (r : ℕ) → (r == s ≡ true) ⊎ (has r (holds g t past) ≡ true) → is_pcp (protocol g r) ≡ true
         is-held r (inl m) = subst (λ (n : ℕ). is_pcp (protocol g n) ≡ true) (sym (eqb-true r s m)) pcp
-        is-held r (inr m) = (requests_do_not_nest g e past valid made_after t s a).holds_pcp r m
+        is-held r (inr m) = sym (stacked_is g valid r) ∙ (requests_do_not_nest g e past valid made_after t s a).holds_stacked r m
 
     own-boost : now-key ≡ boost g t (e ∷ past)
     own-boost = by_kind (is_pcp (protocol g s)) refl

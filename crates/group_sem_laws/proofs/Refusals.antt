@@ -3,7 +3,7 @@ use Rattle.std.proofs.Common.{◌≡◌, ◌∙◌, ℕ, Bool, true, false, not,
 use Rattle.std.specs.List.{list_any}
 use Rattle.std.specs.Prelude.{◌==◌, Option, None, Some}
 use Rattle.rt_task.specs.declared.Protocol.{Protocol}
-use Rattle.rt_task.specs.declared.Protocol.TheVariants.{Fmlp, Mpcp, Omlp, Pcp}
+use Rattle.rt_task.specs.declared.Protocol.TheVariants.{Fmlp, Mpcp, Omlp, Pcp, Srp}
 use Rattle.rt_task.specs.Validity.{IsValid}
 use Rattle.rt_rules.specs.Numbers.{first, has, is}
 use Rattle.rt_rules.specs.Omlp.{omlp_sem_state}
@@ -18,7 +18,8 @@ use Rattle.rt_model.specs.Reachable.{IsReachable}
 use Rattle.rt_model.specs.Semaphores.{cluster_of}
 use Rattle.rt_plays.specs.Plays.{group_with}
 use Rattle.rt_rules.proofs.BoolLaws.{and_false, clash, or_true}
-use Rattle.rt_rules.proofs.MemberLaws.{any-none, equal_self}
+use Rattle.rt_rules.proofs.MemberLaws.{any-none, equal_self, none-any}
+use Rattle.rt_model.proofs.Unplayed.{stacked_is}
 use Rattle.rt_laws.proofs.Engaged.{holder-engaged}
 use Rattle.rt_laws.proofs.GroupLaws.{user-task}
 use Rattle.rt_laws.proofs.Holding.{holds-one, one-holds}
@@ -113,13 +114,9 @@ uses-declared g t s = refl
 -- ---- an Unlock
 
 pub unlock_refusal_is_read : UnlockRefusalIsRead
-unlock_refusal_is_read g past valid made v t s there known k = rw (same-protocol g s, holder_is_read g past valid made v s known k, tells_last g past valid made v.table t there k.sems_are k.rows_are) refl
+unlock_refusal_is_read g past valid made v t s there known k = rw (same-protocol g s, stacked_is g valid s, holder_is_read g past valid made v s known k, tells_last g past valid made v.table t there k.sems_are k.rows_are) refl
 
 -- ---- a Lock
-
-none-any : (p : ℕ → Bool) (xs : List ℕ) → ((x : ℕ) → has x xs ≡ true → p x ≡ false) → list_any p xs ≡ false
-none-any p [] h = refl
-none-any p (x ∷ xs) h = rw (h x (rw (equal_self x) refl)) (none-any p xs (λ y m. h y (rw m (or_true (y == x)))))
 
 -- two tests that fail together
 fail-together : (a b : Bool) → (a ≡ false → b ≡ false) → (b ≡ false → a ≡ false) → a ≡ b
@@ -169,6 +166,7 @@ module _ (g : Group) (valid : IsValid g.setup) (past : Past) (made : IsReachable
   nested-is : (s : ℕ) → has s (sems g) ≡ true → (p : Protocol) → is_nested_by p g.setup v.table t s ≡ nests g p s t past
   unfolding nests
   nested-is s known Pcp = rw (other-is, holds-it s known, held-is, has-holds g t s past, known) refl
+  nested-is s known Srp = rw (holds-it s known, held-is, has-holds g t s past, known) refl
   nested-is s known Fmlp = ap (λ (n : ℕ). not (n == 0)) held-is ∙ ap not (none-counted (holds g t past))
   nested-is s known Omlp = ap (λ (n : ℕ). not (n == 0)) held-is ∙ ap not (none-counted (holds g t past))
   nested-is s known Mpcp = ap (λ (n : ℕ). not (n == 0)) held-is ∙ ap not (none-counted (holds g t past))

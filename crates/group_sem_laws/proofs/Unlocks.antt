@@ -19,6 +19,7 @@ use Rattle.rt_laws.proofs.Holding.{holds-one, one-holds}
 use Rattle.rt_laws.proofs.Moves.{last_move}
 use Rattle.rt_laws.proofs.Next.{next}
 use Rattle.rt_laws.proofs.Rules.{MeetsRules}
+use Rattle.rt_model.proofs.Unplayed.{stacked_is}
 use Rattle.rt_laws.proofs.SemaphoreLaws.{holder_holds_one}
 use Rattle.rt_laws.proofs.ValidSets.{rules_of}
 use Rattle.rt_laws.proofs.Waiting.{awaits-waits, none-waits, waits-none}
@@ -121,7 +122,7 @@ module _ (g : Group) (e : Event) (past : Past) (valid : IsValid g.setup) (made_a
     where
       held-two : (r : ℕ) → has r (sems g) ≡ true → is_pcp (protocol g r) ≡ false → (not (r == s) ≡ true) × (has r (holds g t past) ≡ true) → ⊥
       held-two r there plain q =
-          let same : r ≡ s = holder_holds_one g past valid made t r s there party.known plain (is-some t (holder g r past) (one-holds g t r past q.1).1) (is-some t (holder g s past) holds_it) in
+          let same : r ≡ s = holder_holds_one g past valid made t r s there party.known (stacked_is g valid r ∙ plain) (is-some t (holder g r past) (one-holds g t r past q.1).1) (is-some t (holder g s past) holds_it) in
           clash _ (equal_self s) (subst (λ (n : ℕ). n == s ≡ false) same (not_true _ q.0))
 
   served-plain : (u r : ℕ) → IsServed g u r e past → is_pcp (protocol g s) ≡ false → boost_now g.setup v.ceilings (now past) s u ≡ boost g u (e ∷ past)

@@ -1,12 +1,12 @@
 -- What is read off the semaphores and keys that are kept is what the rules say.
 use Rattle.std.specs.Prelude.{◌≡◌, ℕ, true, not, ◌&&◌, ◌==◌, Option, None, Some, is_some, if◌then◌else◌}
+use Rattle.rt_task.specs.RuleWords.{is_stacked}
 use Rattle.rt_history.specs.declared.Reply.{Reply}
 use Rattle.rt_history.specs.declared.Reply.TheVariants as replies
 use Rattle.rt_rules.specs.Numbers.{has, is, is_empty}
 use Rattle.rt_rules.specs.SemState.{Asks, Frees}
 use Rattle.rt_model.specs.Answers.{is_granted as is_granted_by_rules, nests}
 use Rattle.rt_model.specs.BaseKeys.{base_key}
-use Rattle.rt_model.specs.Ceilings.{is_pcp}
 use Rattle.rt_model.specs.EffectiveKeys.{effective_key}
 use Rattle.rt_model.specs.Group.{Group, declares, protocol, sems, tasks, users}
 use Rattle.rt_model.specs.Holders.{awaits, holder, holds, last_granted}
@@ -35,7 +35,7 @@ lock_refused g s t past =
 abbrev pub unlock_refused : Group → ℕ → ℕ → Past → Option Reply
 unlock_refused g s t past =
     if not (is t (holder g s past)) then Some replies.NotHeld else
-    (if is_pcp (protocol g s) && not (is s (last_granted g t past)) then Some replies.NotLast else None)
+    (if is_stacked (protocol g s) && not (is s (last_granted g t past)) then Some replies.NotLast else None)
 
 abbrev pub LockRefusalIsRead : Type 0
 LockRefusalIsRead = EveryPast (λ g past. (v : GroupSems) (t s : ℕ) → has t (tasks g) ≡ true → has s (sems g) ≡ true → KeepsLocks g past v

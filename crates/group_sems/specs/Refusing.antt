@@ -1,10 +1,11 @@
 -- When a Lock and an Unlock are refused, read off what is kept.
 use Rattle.std.specs.List.{list_any}
 use Rattle.std.specs.Prelude.{◌≡◌, ◌≤◌, ℕ, Bool, true, length, not, ◌&&◌, ◌||◌, ◌==◌, nat_le, List, map, Option, None, Some, if◌then◌else◌}
+use Rattle.rt_base.specs.declared.TheConstants.{MOST_HELD}
 use Rattle.rt_base.specs.declared.SemNo.{SemNo}
 use Rattle.rt_task.specs.declared.Parts.{Parts}
 use Rattle.rt_task.specs.declared.Protocol.{Protocol}
-use Rattle.rt_task.specs.declared.Protocol.TheVariants.{Pcp}
+use Rattle.rt_task.specs.declared.Protocol.TheVariants.{Pcp, Srp}
 use Rattle.rt_history.specs.declared.Reply.{Reply}
 use Rattle.rt_history.specs.declared.Reply.TheVariants as replies
 use Rattle.rt_rules.specs.Numbers.{has, is}
@@ -28,9 +29,10 @@ holds_other p table t ss = list_any (holds_other_one p table t) ss
 abbrev pub uses_of : Parts → ℕ → List ℕ
 uses_of p t = map (λ (n : SemNo). n.0) (task (group_with p 0) t).uses
 
--- requests do not nest, but PCP ones among themselves, up to eight
+-- requests do not nest, but PCP ones among themselves and SRP ones, up to eight
 abbrev pub is_nested_by : Protocol → Parts → SemTable → ℕ → ℕ → Bool
-is_nested_by Pcp p table t s = holds_other p table t (uses_of p t) || (holds_it table t s || nat_le 8 (held_of table t))
+is_nested_by Pcp p table t s = holds_other p table t (uses_of p t) || (holds_it table t s || nat_le MOST_HELD (held_of table t))
+is_nested_by Srp p table t s = holds_it table t s || nat_le MOST_HELD (held_of table t)
 is_nested_by _ p table t s = not (held_of table t == 0)
 
 abbrev pub lock_refusal : Parts → SemTable → ℕ → ℕ → Option Reply

@@ -80,9 +80,7 @@ impl GroupSems {
         if tasks == u32::MAX {
             return Err(NoMemory);
         }
-        let Ok(waiters) = Vec::with_capacity(alloc, tasks as usize + 1) else {
-            return Err(NoMemory);
-        };
+        let waiters = Vec::with_capacity(alloc, tasks as usize + 1)?;
         Ok(GroupSems {
             sems: Sems::new(alloc, setup, group)?,
             keys: Inherit::new(alloc, tasks + 1)?,

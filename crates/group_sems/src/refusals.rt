@@ -8,7 +8,7 @@ ghost use Rattle.rt_plays.specs.Plays.{group_with};
 ghost use Rattle.group_sems.specs.Refusing as refusing;
 ghost use Rattle.group_sems.specs.Refusing.{AreSems, AreSemsOf};
 
-use rt_base::{SemNo, TaskNo};
+use rt_base::{MOST_HELD, SemNo, TaskNo};
 use rt_history::Reply;
 use rt_task::{Parts, Protocol};
 use sem_table::Sems;
@@ -108,8 +108,9 @@ fn is_nested(sems: &Sems, parts: &Parts, task: TaskNo, sem: SemNo) -> bool
     let held = sems.held_by(task);
     match parts.sems.as_slice()[sem.0 as usize - 1].protocol {
         Protocol::Pcp => {
-            holds_any_other(sems, parts, task) || holds_it(sems, task, sem) || held >= 8
+            holds_any_other(sems, parts, task) || holds_it(sems, task, sem) || held >= MOST_HELD
         }
+        Protocol::Srp => holds_it(sems, task, sem) || held >= MOST_HELD,
         Protocol::Fmlp | Protocol::Omlp | Protocol::Mpcp => held != 0,
     }
 }

@@ -14,7 +14,7 @@ use std::collections::BTreeMap;
 use std::marker::Model;
 
 /// What the running job of a task may use, and has used.
-#[derive(Clone, Copy, Debug, PartialEq, Eq)]
+#[derive(Clone, Copy, PartialEq, Eq)]
 pub struct Account {
     /// The task's cost, in units of work.
     pub cost: u64,
@@ -72,9 +72,7 @@ impl Budgets {
                 enforced: task.enforce,
                 used: 0,
             };
-            let Ok(_) = accounts.insert(task.number.0, account) else {
-                return Err(NoMemory);
-            };
+            accounts.insert(task.number.0, account)?;
         }
         Ok(Budgets { accounts })
     }

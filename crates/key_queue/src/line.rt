@@ -32,7 +32,7 @@ impl Model for TaskLine {
 fn empty_ring(alloc: Global, room: u32) -> Result<Vec<u32>, NoMemory>
     ensures { IfOk result (λ v. v.items ≡ replicate (room + 1) room) }
 {
-    vec![in alloc; room; room as usize + 1].map_err(|_| NoMemory)
+    Ok(vec![in alloc; room; room as usize + 1]?)
 }
 
 // Adds the numbers of a ring behind what `into` holds, which has room for them.

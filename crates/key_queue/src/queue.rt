@@ -69,8 +69,8 @@ impl KeyQueue {
         ensures room { IfOk result (λ q. length q.keys ≡ room) }
     {
         let line = TaskLine::new(alloc, room)?;
-        let heap = BinaryHeap::with_capacity(alloc, room as usize).map_err(|_| NoMemory)?;
-        let keys = vec![in alloc; Key::LOWEST; room as usize].map_err(|_| NoMemory)?;
+        let heap = BinaryHeap::with_capacity(alloc, room as usize)?;
+        let keys = vec![in alloc; Key::LOWEST; room as usize]?;
         Ok(KeyQueue { line, heap, keys })
     }
 

@@ -64,12 +64,8 @@ impl Links {
         ensures among { IfOk result (λ links. (ts : List ℕ) → IsAmong ts links) }
         ensures sound { IfOk result IsSound }
     {
-        let Ok(runs) = vec![in alloc; None; cpus as usize] else {
-            return Err(NoMemory);
-        };
-        let Ok(links) = vec![in alloc; None; cpus as usize] else {
-            return Err(NoMemory);
-        };
+        let runs = vec![in alloc; None; cpus as usize]?;
+        let links = vec![in alloc; None; cpus as usize]?;
         let run_marks = TaskMarks::new(alloc)?;
         let top_marks = TaskMarks::new(alloc)?;
         Ok(Links {

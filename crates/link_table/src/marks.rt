@@ -33,10 +33,8 @@ impl TaskMarks {
     pub(crate) fn new(alloc: Global) -> Result<TaskMarks, NoMemory>
         ensures { IfOk result (λ marks. AreMarks marks []) }
     {
-        match vec![in alloc; false; MOST_TASKS as usize + 1] {
-            Ok(marks) => Ok(TaskMarks { marks }),
-            Err(_) => Err(NoMemory),
-        }
+        let marks = vec![in alloc; false; MOST_TASKS as usize + 1]?;
+        Ok(TaskMarks { marks })
     }
 
     // Whether the task is marked, if it has a mark.

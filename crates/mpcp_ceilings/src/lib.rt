@@ -61,6 +61,3 @@ impl MpcpCeilings {
 pub fn ceilings_are_told()
     ensures { CeilingsAreTold }
 {}
-
-#[cfg(test)]
-mod tests;

@@ -46,9 +46,7 @@ pub(crate) fn noted_rows(
         (record { rows = r.items })) }
 {
     let count = parts.sems.as_slice().len() + 1;
-    let Ok(mut rows) = vec![in alloc; None; count] else {
-        return Err(NoMemory);
-    };
+    let mut rows = vec![in alloc; None; count]?;
     let clusters = parts.clusters.as_slice();
     for task in parts.tasks.as_slice() {
         note_task(rows.as_mut_slice(), clusters, task, group);

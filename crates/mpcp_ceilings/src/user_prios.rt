@@ -6,7 +6,7 @@ ghost use Rattle.mpcp_ceilings.specs.Noting as noted;
 use rt_base::ClusterNo;
 
 /// Two priority numbers of a semaphore's users, 1 being the highest.
-#[derive(Clone, Copy, Debug, PartialEq, Eq)]
+#[derive(Clone, Copy, PartialEq, Eq)]
 pub(crate) struct UserPrios {
     // The smallest of all, and the cluster of a user that has it.
     smallest: u32,

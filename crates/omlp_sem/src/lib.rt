@@ -57,7 +57,7 @@ impl OmlpSem {
         ensures cap { IfOk result (λ s. s.cap ≡ cap) }
         ensures room { IfOk result (λ s. length s.keys ≡ room) }
     {
-        let fifo = VecDeque::with_capacity(alloc, cap.min(room) as usize).map_err(|_| NoMemory)?;
+        let fifo = VecDeque::with_capacity(alloc, cap.min(room) as usize)?;
         let queue = KeyQueue::new(alloc, room)?;
         Ok(OmlpSem { cap, fifo, queue })
     }

@@ -62,6 +62,7 @@ unfolding boost_by
 partitioned-boost g s t protocols.Fmlp past fmlp number = rw fmlp (ap {B = Option Key} (λ n. Some (record { band = 0; major = granted_at g s past; minor = n })) number)
 partitioned-boost g s t protocols.Omlp past fmlp number = refl
 partitioned-boost g s t protocols.Pcp past fmlp number = refl
+partitioned-boost g s t protocols.Srp past fmlp number = refl
 partitioned-boost g s t protocols.Mpcp past fmlp number = ap {B = Option Key} (λ n. Some (record { band = 1; major = mpcp_ceiling g s t; minor = n })) number
 
 pub partitioned_boosts : (kind : PluginKind) → boosts_fmlp kind ≡ true → AreBoosts kind partitioned_boost

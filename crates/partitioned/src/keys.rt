@@ -65,6 +65,6 @@ pub(crate) fn partitioned_boost(t: &Task, p: Protocol, now: Tick, ceiling: u32) 
     match p {
         Protocol::Fmlp => Some(grant_key(t, now)),
         Protocol::Mpcp => Some(ceiling_key(t, ceiling)),
-        Protocol::Omlp | Protocol::Pcp => None,
+        Protocol::Omlp | Protocol::Pcp | Protocol::Srp => None,
     }
 }

@@ -45,6 +45,3 @@ pub fn p_res_has_base_keys()
 pub fn p_res_has_boosts()
     ensures { AreBoosts PluginKind.PRes ⟦<PRes as Plugin>⟧.boost }
 {}
-
-#[cfg(test)]
-mod tests;

@@ -6,7 +6,7 @@ use rt_task::{Protocol, Task};
 
 /// P-FP, LITMUS-RT's partitioned fixed priorities: jobs by the priority of their task on each processor (Brandenburg,
 /// dissertation, University of North Carolina, 2011).
-#[derive(Clone, Copy, Debug)]
+#[derive(Clone, Copy)]
 pub struct PFp;
 
 impl Plugin for PFp {

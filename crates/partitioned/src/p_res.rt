@@ -7,7 +7,7 @@ use rt_task::{Protocol, Task};
 
 /// P-RES, LITMUS-RT's partitioned reservations: jobs by the priority of the reservation that serves their task on each
 /// processor. It has no semaphores.
-#[derive(Clone, Copy, Debug)]
+#[derive(Clone, Copy)]
 pub struct PRes;
 
 impl Plugin for PRes {

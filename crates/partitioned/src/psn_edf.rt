@@ -7,7 +7,7 @@ use rt_task::{Protocol, Task};
 
 /// PSN-EDF, LITMUS-RT's partitioned EDF: jobs by deadline on each processor (Brandenburg, dissertation, University of North
 /// Carolina, 2011).
-#[derive(Clone, Copy, Debug)]
+#[derive(Clone, Copy)]
 pub struct PsnEdf;
 
 impl Plugin for PsnEdf {

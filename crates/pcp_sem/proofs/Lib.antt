@@ -3,5 +3,4 @@ pub mod Sound
 pub mod KeptOrder
 pub mod Blockers
 pub mod Acts
-pub mod PlainLists
 pub mod Listing

@@ -75,7 +75,7 @@ impl PcpSet {
         let room = room as usize;
         let most = ceilings.len().checked_add(room).ok_or(NoMemory)?;
         Ok(PcpSet {
-            ceilings: Vec::from_slice(alloc, ceilings).map_err(|_| NoMemory)?,
+            ceilings: Vec::from_slice(alloc, ceilings)?,
             keys: pairs::lowest_keys(alloc, room)?,
             held: pairs::reserved(alloc, most)?,
             waiting: pairs::reserved(alloc, room)?,
@@ -255,6 +255,3 @@ impl PcpSet {
         pairs::list_tasks(self.waiting.as_slice(), into);
     }
 }
-
-#[cfg(test)]
-mod tests;

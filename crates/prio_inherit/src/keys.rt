@@ -17,28 +17,28 @@ use std::alloc::Global;
 pub fn no_keys(alloc: Global, room: usize) -> Result<Vec<Option<Key>>, NoMemory>
     ensures { IfOk result (λ v. v.items ≡ replicate room None) }
 {
-    vec![in alloc; None; room].map_err(|_| NoMemory)
+    Ok(vec![in alloc; None; room]?)
 }
 
 /// As many places with no task.
 pub fn no_tasks(alloc: Global, room: usize) -> Result<Vec<Option<TaskNo>>, NoMemory>
     ensures { IfOk result (λ v. v.items ≡ replicate room None) }
 {
-    vec![in alloc; None; room].map_err(|_| NoMemory)
+    Ok(vec![in alloc; None; room]?)
 }
 
 /// As many counts of none.
 pub fn no_counts(alloc: Global, room: usize) -> Result<Vec<u32>, NoMemory>
     ensures { IfOk result (λ v. v.items ≡ replicate room 0) }
 {
-    vec![in alloc; 0; room].map_err(|_| NoMemory)
+    Ok(vec![in alloc; 0; room]?)
 }
 
 /// As many of the lowest key.
 pub fn lowest_keys(alloc: Global, room: usize) -> Result<Vec<Key>, NoMemory>
     ensures { IfOk result (λ v. v.items ≡ replicate room lowest_key) }
 {
-    vec![in alloc; Key::LOWEST; room].map_err(|_| NoMemory)
+    Ok(vec![in alloc; Key::LOWEST; room]?)
 }
 
 // The base key of a task, or the lowest key where none was told.

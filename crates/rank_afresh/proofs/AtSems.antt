@@ -3,6 +3,7 @@ use Rattle.std.proofs.Common.{◌≡◌, ℕ, ◌+◌, ◌<◌, ◌≤◌, lengt
 use Rattle.std.specs.Prelude.{Option, None, Some, if◌then◌else◌, unwrap_or}
 use Rattle.rt_base.specs.declared.SemNo.{SemNo}
 use Rattle.rt_task.specs.Validity.{IsValid}
+use Rattle.rt_task.specs.RuleWords.{is_stacked}
 use Rattle.rt_task.specs.declared.Act.TheVariants as acts
 use Rattle.rt_task.specs.declared.Op.TheVariants as ops
 use Rattle.rt_history.specs.declared.Reply.{Reply}
@@ -12,7 +13,6 @@ use Rattle.rt_rules.specs.SemState.{Asks}
 use Rattle.rt_rules.proofs.NumberLaws.{has-numbers_from, numbers_from-below}
 use Rattle.rt_model.specs.Answers.{answer, do_answer, is_granted as granted_by_rules, lock_answer, nests, op_answer, unlock_answer}
 use Rattle.rt_model.specs.BaseKeys.{base_key}
-use Rattle.rt_model.specs.Ceilings.{is_pcp}
 use Rattle.rt_model.specs.Group.{Group, declares, protocol, sems, task, tasks}
 use Rattle.rt_model.specs.Holders.{holder, last_granted}
 use Rattle.rt_model.specs.NonPreemptive.{non_preemptive}
@@ -142,14 +142,14 @@ module _ (g : Group) (valid : IsValid g.setup) (past : Past) (made : IsReachable
   unlock_event = Acted (past_act g q (acts.Do (ops.Unlock sem)) past)
 
   unlock-answer : answer g q (acts.Do (ops.Unlock sem)) past
-      ≡ (if not (is t (holder g sem.0 past)) then replies.NotHeld else (if is_pcp (protocol g sem.0) && not (is sem.0 (last_granted g t past)) then replies.NotLast else replies.Done))
+      ≡ (if not (is t (holder g sem.0 past)) then replies.NotHeld else (if is_stacked (protocol g sem.0) && not (is sem.0 (last_granted g t past)) then replies.NotLast else replies.Done))
   unfolding answer do_answer op_answer unlock_answer
   unlock-answer = rw runs_it refl
 
   unlock-cases : IsCase (unlock_refusal g.setup f.sems.table t sem.0) (answer g q (acts.Do (ops.Unlock sem)) past) replies.Done
   unlock-cases =
       rw (unlock_refusal_is_read g past valid made f.sems t sem.0 member there kept_sems.locks, unlock-answer)
-      (unlock-case (is t (holder g sem.0 past)) (is_pcp (protocol g sem.0) && not (is sem.0 (last_granted g t past))))
+      (unlock-case (is t (holder g sem.0 past)) (is_stacked (protocol g sem.0) && not (is sem.0 (last_granted g t past))))
 
   made-unlocked : IsReachable g unlocked
   made-unlocked = acted q (acts.Do (ops.Unlock sem)) made

@@ -3,9 +3,10 @@ use Rattle.std.proofs.Common.{◌≡◌, ℕ, Bool, true, false, ◌||◌, List,
 use Rattle.std.specs.Prelude.{flat_map, is_none, is_some, not, ◌==◌, None, Option, Some}
 use Rattle.rt_task.specs.Validity.{IsValid}
 use Rattle.rt_rules.specs.Numbers.{has, numbers_from}
-use Rattle.rt_rules.proofs.BoolLaws.{or_true}
+use Rattle.rt_rules.proofs.BoolLaws.{and_true, or_true}
 use Rattle.rt_rules.proofs.MemberLaws.{equal_self, has-append}
 use Rattle.rt_rules.proofs.RankedByLaws.{ranked_by-same}
+use Rattle.rt_model.proofs.Unplayed.{admits-each}
 use Rattle.rt_model.specs.BaseKeys.{base_key}
 use Rattle.rt_model.specs.EffectiveKeys.{effective_key}
 use Rattle.rt_model.specs.Holders.{awaits}
@@ -128,7 +129,7 @@ module _ (g : Group) (past : Past) (k : Kept) (kept : IsKept g past k) where
           let waits : is_some (awaits_of v.table t) ≡ is_some (awaits g t past) = waits-read t there in
           let words : AreRead g t past k.clock (job_of k t) = words_of_kept g past k kept t there in
           let served_is : group_resvs.is_served w t ≡ is_served g g.setup.plugin t past = (resvs t there).served in
-          words.eligible_is ∙ rw (none-not (awaits g t past), waits, served_is) refl
+          words.eligible_is ∙ rw (admits-each g valid t past, and_true (is_served g g.setup.plugin t past), none-not (awaits g t past), waits, served_is) refl
 
       ranking-read : (c : ℕ) → ranking g c past ≡ ranking_in g.setup k v w (tasks_of g c)
       unfolding ranking

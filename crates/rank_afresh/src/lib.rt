@@ -12,6 +12,3 @@ mod rows;
 mod touched;
 
 pub use afresh::Afresh;
-
-#[cfg(test)]
-mod tests;

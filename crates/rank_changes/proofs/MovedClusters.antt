@@ -95,5 +95,5 @@ reserved_after_act g past valid made res c q act b =
 pub reserved_after_clock : ReservedAfterClock
 reserved_after_clock g past valid made res c tick still =
     cluster-stays g c (Clock tick) past made
-    (λ t h. let s = still t h in standing_is_served g valid res t past (Clock tick ∷ past) (reservations_after_clock g past valid made tick (served_by g t) s.clients_still s.no_refill))
+    (λ t h. let s = still t h in standing_is_served g valid res t past (Clock tick ∷ past) (reservations_after_clock g past valid made tick (served_by g t) s.clients_still s.no_refill s.same_slot))
     (runs-clock g c tick past)

@@ -5,7 +5,7 @@ use Rattle.rt_order.specs.declared.Key.{Key}
 use Rattle.rt_task.specs.declared.PluginKind.{PluginKind}
 use Rattle.rt_task.specs.declared.PluginKind.TheVariants as plugins
 use Rattle.rt_task.specs.declared.Protocol.{Protocol}
-use Rattle.rt_task.specs.declared.Protocol.TheVariants.{Fmlp, Mpcp, Omlp, Pcp}
+use Rattle.rt_task.specs.declared.Protocol.TheVariants.{Fmlp, Mpcp, Omlp, Pcp, Srp}
 use Rattle.rt_task.specs.Validity.{IsValid}
 use Rattle.rt_rules.specs.Keys.{highest}
 use Rattle.rt_rules.specs.Numbers.{has, is, is_empty, same, first}
@@ -17,7 +17,7 @@ use Rattle.rt_model.specs.BaseKeys.{base_key, key_by}
 use Rattle.rt_model.specs.Blockers.{blocker}
 use Rattle.rt_model.specs.Boosts.{boost, boost_by, boost_of, granted_at}
 use Rattle.rt_model.specs.EffectiveKeys.{effective_key, next_at, next_by, waits_for}
-use Rattle.rt_model.specs.Group.{Group, protocol, sems, tasks}
+use Rattle.rt_model.specs.Group.{Group, home, protocol, sems, tasks}
 use Rattle.rt_model.specs.Holders.{awaits, holder, holds}
 use Rattle.rt_model.specs.Reachable.{IsReachable, acted, clocked}
 use Rattle.rt_model.specs.Outcomes.{past_act}
@@ -26,7 +26,7 @@ use Rattle.rt_laws.specs.SemaphoreLaws.{is_engaged}
 use Rattle.rt_laws.proofs.SemaphoreLaws.{engaged_keeps_job}
 use Rattle.rank_changes.specs.Quiet.{KeysAfterQuiet, StandingAfterAct, StandingAfterClock}
 use Rattle.rank_changes.specs.Touched.{SameJob, SameFacts}
-use Rattle.rank_changes.proofs.SameEligibility.{pcp-quiet, sem_state-quiet, awaits-quiet, eligible_after_act, eligible_after_clock}
+use Rattle.rank_changes.proofs.SameEligibility.{pcp-quiet, srp-quiet, sem_state-quiet, awaits-quiet, eligible_after_act, eligible_after_clock}
 use Rattle.rank_changes.proofs.TouchedTasks.{acts_touch_few, clock_keeps_jobs}
 
 -- ---- semaphores
@@ -56,6 +56,7 @@ boost-quiet g t e past h = rw (holds-quiet g t e past h) (by_sem (first (holds g
     by_protocol s Omlp = refl
     by_protocol s Pcp = refl
     by_protocol s Mpcp = refl
+    by_protocol s Srp = refl
 
     by_sem : (o : Option ℕ) → boost_of g t o (e ∷ past) ≡ boost_of g t o past
     by_sem None = refl
@@ -70,6 +71,7 @@ waits_for-quiet g t e past h = rw (awaits-quiet g t e past h) (by_sem (awaits g 
     by_protocol s Fmlp = holder-quiet g s e past h
     by_protocol s Omlp = holder-quiet g s e past h
     by_protocol s Mpcp = holder-quiet g s e past h
+    by_protocol s Srp = holder-quiet g s e past h
 
     by_sem : (o : Option ℕ) → next_at g t o (e ∷ past) ≡ next_at g t o past
     by_sem None = refl
@@ -132,7 +134,7 @@ standing_after_act g past valid made none q act quiet t h =
     let e : Event = Acted (past_act g q act past) in
     let f : SameFacts g t past (e ∷ past) = acts_touch_few g past valid made q act t h in
     record {
-      eligible_same = eligible_after_act g past valid made none q act t h (awaits-quiet g t e past quiet);
+      eligible_same = eligible_after_act g past valid made none q act t h (awaits-quiet g t e past quiet) (srp-quiet g (home g t) e past quiet);
       key_same = λ k. key-quiet g valid e past (acted q act made) quiet t (base_key-same g t past (e ∷ past) f.same_job);
     }
 

@@ -105,4 +105,4 @@ other_clusters_stay g past valid made none c q act e = cluster-stays g c (Acted 
     out t h false = refl
 
     standing : (t : ℕ) → has t (tasks_of g c) ≡ true → SameStanding g t past (Acted (past_act g q act past) ∷ past)
-    standing t h = record { eligible_same = eligible_after_act g past valid made none q act t (out t h (accepted (answer g q act past))) (e.waits_same t h); key_same = e.key_same t h }
+    standing t h = record { eligible_same = eligible_after_act g past valid made none q act t (out t h (accepted (answer g q act past))) (e.waits_same t h) (rw (tasks_of-home g c t h).1 e.srp_same); key_same = e.key_same t h }

@@ -5,15 +5,16 @@ use Rattle.std.specs.List.{list_any, list_all}
 use Rattle.std.proofs.lemmas.Bool.Decides.{nat_tests}
 use Rattle.std.proofs.lemmas.List.Sums.{sum_by-cons}
 use Rattle.rt_task.specs.declared.ResvKind.{ResvKind}
-use Rattle.rt_task.specs.declared.ResvKind.TheVariants.{Polling, Sporadic}
+use Rattle.rt_task.specs.declared.ResvKind.TheVariants.{Polling, Sporadic, Table}
 use Rattle.rt_rules.specs.Numbers.{foremost, has}
+use Rattle.rt_rules.specs.Slots.{left_in, slot_at}
 use Rattle.rt_rules.proofs.BoolLaws.{both, or_true}
 use Rattle.rt_rules.proofs.MemberLaws.{equal_self, has-filter}
 use Rattle.rt_model.specs.Group.{Group, clients, resv}
 use Rattle.rt_model.specs.Outcomes.{past_act}
 use Rattle.rt_model.specs.Past.{PastAct, Event, Clock, Acted, Past, now, did, is_work}
 use Rattle.rt_model.specs.Releases.{ready, release}
-use Rattle.rt_model.specs.Reservations.{any_ready, begins_period, earlier, first_refill, front, is_due, is_loss, is_lost, is_refill, left, refilled, spent, works_for}
+use Rattle.rt_model.specs.Reservations.{any_ready, begins_period, earlier, first_refill, front, is_due, is_loss, is_lost, is_refill, left, left_by, refilled, slot_now, spent, works_for}
 use Rattle.rt_task.specs.Validity.{IsValid}
 use Rattle.rank_changes.specs.Served.{SameReservation, ReservationsAfterAct, ReservationsAfterClock}
 use Rattle.rank_changes.specs.Touched.{SameFacts}
@@ -95,6 +96,7 @@ is_loss-same : (g : Group) (k : ResvKind) (r : ℕ) (past past' : Past) → any_
 unfolding is_loss
 is_loss-same g Polling r past past' h = rw h
 is_loss-same g Sporadic r past past' h = refl
+is_loss-same g Table r past past' h = refl
 
 lost-same : (g : Group) (r : ℕ) (e : Event) (past : Past) → any_ready g r (e ∷ past) ≡ any_ready g r past → is_refill g (resv g r).kind r e past (refilled g r past) ≡ false → is_lost g r (e ∷ past) ≡ is_lost g r past
 unfolding is_lost
@@ -112,20 +114,25 @@ spent-same : (g : Group) (r : ℕ) (e : Event) (past : Past) → works_for g r e
 unfolding spent
 spent-same g r e past idle none = rw (none, idle) (omega arith)
 
-reservation-same : (g : Group) (r : ℕ) (e : Event) (past : Past) → AllQuiet g (clients g r) e past → is_refill g (resv g r).kind r e past (refilled g r past) ≡ false → SameReservation g r past (e ∷ past)
-unfolding left
-reservation-same g r e past quiet none =
+reservation-same : (g : Group) (r : ℕ) (e : Event) (past : Past) → AllQuiet g (clients g r) e past → is_refill g (resv g r).kind r e past (refilled g r past) ≡ false → ((resv g r).kind ≡ Table → now (e ∷ past) ≡ now past) → SameReservation g r past (e ∷ past)
+unfolding left left_by slot_now
+reservation-same g r e past quiet none slot =
     let same : any_ready g r (e ∷ past) ≡ any_ready g r past = any_ready-same g r e past quiet in
     record {
       front_same = front-same g r e past quiet;
-      left_same = rw (refilled-same g r e past none, lost-same g r e past same none, spent-same g r e past (works_for-none g r e past quiet) none);
+      left_same = by_kind (resv g r).kind refl same;
       refilled_same = refilled-same g r e past none;
     }
+  where
+    by_kind : (k : ResvKind) → (resv g r).kind ≡ k → any_ready g r (e ∷ past) ≡ any_ready g r past → left_by g k r (e ∷ past) ≡ left_by g k r past
+    by_kind Polling is same = rw (refilled-same g r e past none, lost-same g r e past same none, spent-same g r e past (works_for-none g r e past quiet) none)
+    by_kind Sporadic is same = rw (refilled-same g r e past none, lost-same g r e past same none, spent-same g r e past (works_for-none g r e past quiet) none)
+    by_kind Table is same = ap (λ n. left_in (resv g r).period n (slot_at (resv g r).period (resv g r).slots n)) (slot is)
 
 -- ---- the clock
 
 pub reservations_after_clock : ReservationsAfterClock
-reservations_after_clock g past valid made tick r still none = reservation-same g r (Clock tick) past (λ t h. record { none = clock-none tick t past; ready_same = (clock_touches_due g past valid made tick t (still t h)).ready_same; release_same = (clock_keeps_jobs g past valid made tick t).release_same }) none
+reservations_after_clock g past valid made tick r still none slot = reservation-same g r (Clock tick) past (λ t h. record { none = clock-none tick t past; ready_same = (clock_touches_due g past valid made tick t (still t h)).ready_same; release_same = (clock_keeps_jobs g past valid made tick t).release_same }) none slot
 
 -- ---- an act
 
@@ -173,9 +180,10 @@ no-refill g valid r d past same = by_kind (resv g r).kind refl
     by_kind : (k : ResvKind) → (resv g r).kind ≡ k → is_refill g k r (Acted d) past (refilled g r past) ≡ false
     by_kind Polling e = refl
     by_kind Sporadic e = rw same (is-refilled g valid r e past)
+    by_kind Table e = refl
 
 pub reservations_after_act : ReservationsAfterAct
-reservations_after_act g past valid made q act r untouched = reservation-same g r (Acted (past_act g q act past)) past quiet (no-refill g valid r (past_act g q act past) past (any_ready-same g r (Acted (past_act g q act past)) past quiet))
+reservations_after_act g past valid made q act r untouched = reservation-same g r (Acted (past_act g q act past)) past quiet (no-refill g valid r (past_act g q act past) past (any_ready-same g r (Acted (past_act g q act past)) past quiet)) (λ is. refl)
   where
     quiet : AllQuiet g (clients g r) (Acted (past_act g q act past)) past
     quiet t h =

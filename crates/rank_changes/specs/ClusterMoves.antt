@@ -11,6 +11,7 @@ use Rattle.rt_model.specs.Group.{Group, clients, cluster_with, home, resv, serve
 use Rattle.rt_model.specs.Outcomes.{past_act}
 use Rattle.rt_model.specs.Past.{Clock, Acted, Past, sem_act}
 use Rattle.rt_model.specs.Reservations.{is_refill, refilled}
+use Rattle.rank_changes.specs.Served.{StaysInSlot}
 use Rattle.rt_model.specs.Tops.{eligible, ranking}
 use Rattle.rt_laws.specs.EveryPast.{EveryPast}
 use Rattle.rank_changes.specs.Clusters.{HoldsEligible, SameCluster, SameStanding}
@@ -78,10 +79,11 @@ ReservedAfterAct =
     EveryPast (λ g past. is_p_res g.setup.plugin ≡ true → (c q : ℕ) (act : Act) → IsBeside g c q act
     → SameCluster g c past (Acted (past_act g q act past) ∷ past))
 
--- no client of a task's reservation comes due, and the reservation is not refilled
+-- no client of a task's reservation comes due, and the reservation is neither refilled nor moved in its slots
 pub record IsUndisturbed (g : Group) (tick t : ℕ) (past : Past) : Type 0 where
   pub clients_still : (u : ℕ) → has u (clients g (served_by g t)) ≡ true → comes_due g tick u past ≡ false
   pub no_refill : is_refill g (resv g (served_by g t)).kind (served_by g t) (Clock tick) past (refilled g (served_by g t) past) ≡ false
+  pub same_slot : StaysInSlot g tick (served_by g t) past
 
 -- A move of the clock leaves a cluster of which it disturbs no reservation.
 abbrev pub ReservedAfterClock : Type 0

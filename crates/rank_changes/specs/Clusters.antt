@@ -11,6 +11,7 @@ use Rattle.rt_model.specs.Holders.{awaits}
 use Rattle.rt_model.specs.Links.{runs_of, links, linked}
 use Rattle.rt_model.specs.Outcomes.{past_act}
 use Rattle.rt_model.specs.Past.{Clock, Acted, Past}
+use Rattle.rt_model.specs.StackPolicy.{srp}
 use Rattle.rt_model.specs.Tops.{eligible, ranking, top}
 use Rattle.rt_laws.specs.EveryPast.{EveryPast, EveryMove}
 use Rattle.ready_queue.specs.Refreshed.{AgreeBut, refreshed}
@@ -74,11 +75,13 @@ RunsStay =
     EveryPast (λ g past. (c : ℕ) → ((tick : ℕ) → runs_of g c (Clock tick ∷ past) ≡ runs_of g c past) × ((q : ℕ) (act : Act)
     → cluster_with g q == c ≡ false → runs_of g c (Acted (past_act g q act past) ∷ past) ≡ runs_of g c past))
 
--- an act leaves what each task of a cluster waits for, and the keys of the eligible ones, and none of them arrives
+-- an act leaves what each task of a cluster waits for, what is held there of SRP, and the keys of the eligible ones, and none of them
+-- arrives
 pub record IsElsewhere (g : Group) (c q : ℕ) (act : Act) (past : Past) : Type 0 where
   pub other_cluster : cluster_with g q == c ≡ false
   pub arrives_not : (t : ℕ) → has t (tasks_of g c) ≡ true → is t (arriving act) ≡ false
   pub waits_same : (t : ℕ) → has t (tasks_of g c) ≡ true → awaits g t (Acted (past_act g q act past) ∷ past) ≡ awaits g t past
+  pub srp_same : srp g c (Acted (past_act g q act past) ∷ past) ≡ srp g c past
   pub key_same : (t : ℕ) → has t (tasks_of g c) ≡ true → eligible g t past ≡ true
       → effective_key g t (Acted (past_act g q act past) ∷ past) ≡ effective_key g t past
 

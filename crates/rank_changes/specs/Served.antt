@@ -3,13 +3,14 @@ use Rattle.std.specs.Prelude.{◌≡◌, ℕ, ◌≤◌, true, false, nat_lt, Li
 use Rattle.rt_task.specs.declared.Act.{Act}
 use Rattle.rt_task.specs.RuleWords.{is_p_res}
 use Rattle.rt_task.specs.Validity.{IsValid}
+use Rattle.rt_task.specs.declared.ResvKind.TheVariants.{Table}
 use Rattle.rt_rules.specs.Numbers.{has, is, same}
 use Rattle.rt_rules.specs.Placing.{tasks_in}
 use Rattle.rt_model.specs.BaseKeys.{base_key}
 use Rattle.rt_model.specs.EffectiveKeys.{effective_key}
 use Rattle.rt_model.specs.Group.{Group, clients, resv, served_by}
 use Rattle.rt_model.specs.Outcomes.{past_act}
-use Rattle.rt_model.specs.Past.{Clock, Acted, Past}
+use Rattle.rt_model.specs.Past.{Clock, Acted, Past, now}
 use Rattle.rt_model.specs.Reservations.{front, is_refill, left, refilled}
 use Rattle.rt_model.specs.Tops.{eligible}
 use Rattle.rt_laws.specs.EveryPast.{EveryPast}
@@ -51,8 +52,13 @@ ReservationsAfterAct =
     EveryPast (λ g past. (q : ℕ) (act : Act) (r : ℕ) → ((t : ℕ) → has t (clients g r) ≡ true
     → has t (touched_by g q act past) ≡ false) → SameReservation g r past (Acted (past_act g q act past) ∷ past))
 
--- A move of the clock leaves each reservation that it does not refill and of which no client comes due.
+-- a move of the clock that leaves it at its tick, where the reservation is a table: what is left of a slot falls with each tick
+abbrev pub StaysInSlot : Group → ℕ → ℕ → Past → Type 0
+StaysInSlot g tick r past = (resv g r).kind ≡ Table → now (Clock tick ∷ past) ≡ now past
+
+-- A move of the clock leaves each reservation that it neither refills nor moves in its slots, and of which no client comes due.
 abbrev pub ReservationsAfterClock : Type 0
 ReservationsAfterClock =
     EveryPast (λ g past. (tick r : ℕ) → ((t : ℕ) → has t (clients g r) ≡ true → comes_due g tick t past ≡ false)
-    → is_refill g (resv g r).kind r (Clock tick) past (refilled g r past) ≡ false → SameReservation g r past (Clock tick ∷ past))
+    → is_refill g (resv g r).kind r (Clock tick) past (refilled g r past) ≡ false → StaysInSlot g tick r past
+    → SameReservation g r past (Clock tick ∷ past))

@@ -9,7 +9,7 @@ use std::alloc::Global;
 use std::marker::Model;
 
 /// What a heap has of a task: its key, and its place in the heap.
-#[derive(Clone, Copy, Debug)]
+#[derive(Clone, Copy)]
 pub(crate) struct Node {
     pub(crate) key: Key,
     pub(crate) place: usize,
@@ -39,12 +39,8 @@ impl Arena {
     pub(crate) fn new(alloc: Global, room: u32) -> Result<Arena, NoMemory>
         ensures { IfOk result (λ arena. arena ≡ replicate room None) }
     {
-        let Ok(nodes) = Slab::with_capacity(alloc, room as usize) else {
-            return Err(NoMemory);
-        };
-        let Ok(kept) = vec![in alloc; None; room as usize] else {
-            return Err(NoMemory);
-        };
+        let nodes = Slab::with_capacity(alloc, room as usize)?;
+        let kept = vec![in alloc; None; room as usize]?;
         Ok(Arena { nodes, kept })
     }
 

@@ -35,12 +35,8 @@ impl TaskRow {
         ensures { IfOk result (λ row. row ≡ record { keys = replicate room None; tasks = [] }) }
     {
         let arena = Arena::new(alloc, room)?;
-        let Ok(tasks) = Vec::with_capacity(alloc, room as usize) else {
-            return Err(NoMemory);
-        };
-        let Ok(keys) = Vec::with_capacity(alloc, room as usize) else {
-            return Err(NoMemory);
-        };
+        let tasks = Vec::with_capacity(alloc, room as usize)?;
+        let keys = Vec::with_capacity(alloc, room as usize)?;
         Ok(TaskRow { arena, tasks, keys })
     }
 

@@ -17,7 +17,7 @@ use std::alloc::Global;
 use std::marker::Model;
 
 /// Which task a change took from the first ones, and which it brought to them, if any.
-#[derive(Clone, Copy, Debug, PartialEq, Eq)]
+#[derive(Clone, Copy, PartialEq, Eq)]
 pub struct Exchange {
     pub left: Option<TaskNo>,
     pub came: Option<TaskNo>,

@@ -51,9 +51,7 @@ impl ReleaseQueue {
         ensures { IfOk result (λ queue. queue ≡ replicate room None) }
     {
         let heap = ReadyHeap::new(alloc, ByKey, room)?;
-        let Ok(ticks) = vec![in alloc; 0; room as usize] else {
-            return Err(NoMemory);
-        };
+        let ticks = vec![in alloc; 0; room as usize]?;
         Ok(ReleaseQueue { heap, ticks })
     }
 

@@ -1,15 +1,14 @@
 //! The semaphores of a group as they are at first.
-ghost use Rattle.std.specs.Prelude.{◌≡◌, ◌+◌, ◌<◌, ◌∷◌, ℕ, length, map, IfOk};
+ghost use Rattle.std.specs.Prelude.{◌≡◌, ◌+◌, ◌<◌, ◌∷◌, ℕ, true, length, map, IfOk};
 ghost use Rattle.std.specs.List.{list_any};
 ghost use Rattle.rt_rules.specs.Numbers.{is, numbers_from};
-ghost use Rattle.rt_model.specs.Group.{sems};
+ghost use Rattle.rt_model.specs.Group.{protocol, sems};
+ghost use Rattle.rt_task.specs.Played.{is_played_protocol};
 ghost use Rattle.sem_table.specs.SemTable.{no_row, sem_at};
 ghost use Rattle.sem_table.specs.Opened.{group_in, ceilings, pcp_home, new_set, new_row, IsNew, IsNewAt};
 
 use crate::any_sem::AnySem;
-use crate::parts::{
-    add, ceiling, cpus_of, home_of, is_of_group, pcp_home_of, protocol_of, users_of,
-};
+use crate::parts::{ceiling, cpus_of, home_of, is_of_group, pcp_home_of, protocol_of, users_of};
 use crate::row::Row;
 use fmlp_sem::FmlpSem;
 use mpcp_sem::MpcpSem;
@@ -32,6 +31,7 @@ fn new_sem(
 ) -> Result<AnySem, NoMemory>
     requires count { count ≡ length parts.now.tasks }
     requires small { count < 4294967295 }
+    requires played { is_played_protocol protocol ≡ true }
     ensures { IfOk result (λ k. IsNew (group_in parts.now group.0) sem protocol k) }
 {
     let users = users_of(alloc, parts, group, count, sem)?;
@@ -45,6 +45,7 @@ fn new_sem(
         }
         Protocol::Mpcp => Ok(AnySem::Mpcp(MpcpSem::new(alloc, room)?)),
         Protocol::Pcp => Ok(AnySem::Pcp(home)),
+        Protocol::Srp => unreachable!(),
     }
 }
 
@@ -59,17 +60,18 @@ pub fn all_sems(
     requires count { count ≡ length parts.now.tasks }
     requires small { count < 4294967295 }
     requires sems { sems ≡ length parts.now.sems }
+    requires played { (s : ℕ) → is_played_protocol (protocol (group_in parts.now group.0) s) ≡ true }
     ensures count { IfOk result (λ v. length v.items ≡ sems + 1) }
     ensures each { IfOk result (λ v. (s : ℕ) → s < length v.items →
         IsNewAt (group_in parts.now group.0) s (sem_at v.items s)) }
 {
     let mut all = Vec::new(alloc);
     let none = AnySem::Fmlp(FmlpSem::new(alloc, 0)?);
-    add(&mut all, none)?;
+    all.push(none)?;
     for i in 0..sems {
         let protocol = protocol_of(parts, group, i + 1);
         let one = new_sem(alloc, parts, group, count, i + 1, protocol)?;
-        add(&mut all, one)?;
+        all.push(one)?;
     }
     Ok(all)
 }
@@ -88,10 +90,10 @@ fn ceilings_of(
     ensures { IfOk result (λ v. v.items ≡ ceilings (group_in parts.now group.0)) }
 {
     let mut keys = Vec::new(alloc);
-    add(&mut keys, Key::LOWEST)?;
+    keys.push(Key::LOWEST)?;
     for i in 0..sems {
         let users = users_of(alloc, parts, group, count, i + 1)?;
-        add(&mut keys, ceiling(parts, group, users.as_slice()))?;
+        keys.push(ceiling(parts, group, users.as_slice()))?;
     }
     Ok(keys)
 }
@@ -113,7 +115,7 @@ fn pcp_homes(
     let mut homes = Vec::new(alloc);
     for i in 0..semaphores {
         let home = pcp_home_of(alloc, parts, group, count, i + 1)?;
-        add(&mut homes, home)?;
+        homes.push(home)?;
     }
     Ok(homes)
 }
@@ -183,7 +185,7 @@ pub fn all_sets(
             count,
             i,
         )?;
-        add(&mut sets, set)?;
+        sets.push(set)?;
     }
     Ok(sets)
 }
@@ -193,9 +195,9 @@ pub fn all_rows(alloc: Global, tasks: &[Task]) -> Result<Vec<Row>, NoMemory>
     ensures { IfOk result (λ v. v.items ≡ no_row ∷ map new_row tasks.now) }
 {
     let mut rows = Vec::new(alloc);
-    add(&mut rows, Row::new(ClusterNo(0)))?;
+    rows.push(Row::new(ClusterNo(0)))?;
     for task in tasks {
-        add(&mut rows, Row::new(task.cluster))?;
+        rows.push(Row::new(task.cluster))?;
     }
     Ok(rows)
 }

@@ -47,13 +47,6 @@ fn is_user(parts: &Parts, group: GroupNo, task: u32, sem: u32) -> bool
     is_of_group(parts, group, row.cluster) && has_sem(row.uses.as_slice(), sem)
 }
 
-/// Adds an item behind all others.
-pub fn add<T: Drop>(items: &mut Vec<T>, item: T) -> Result<(), NoMemory>
-    ensures { IfOk result (λ _. items.new.items ≡ items.old.items ++ item ∷ []) }
-{
-    items.push(item).map_err(|_| NoMemory)
-}
-
 // Adds the task of that number where it is a user.
 fn add_user(
     users: &mut Vec<TaskNo>,
@@ -69,10 +62,9 @@ fn add_user(
         (if in_group g (home g task) && declares g task sem then task ∷ [] else [])) }
 {
     if is_user(parts, group, task, sem) {
-        add(users, TaskNo(task))
-    } else {
-        Ok(())
+        users.push(TaskNo(task))?;
     }
+    Ok(())
 }
 
 /// The tasks of the group that declare the semaphore; `count` is the number of tasks.

@@ -1,10 +1,11 @@
 -- What is told of a semaphore, and when a request or a release is allowed.
 use Rattle.std.proofs.Common.{◌≡◌, ◌∙◌, ◌<◌, ◌≤◌, ◌&&◌, ◌||◌, ◌++◌, ℕ, Bool, true, false, List, [], ◌∷◌, refl, sym, ap, eqb-true, arith, length, subst, inl, inr, ◌⊎◌}
-use Rattle.std.specs.Prelude.{◌==◌, Some, nat_le, if◌then◌else◌, filter, not}
+use Rattle.std.specs.Prelude.{Option, ◌==◌, Some, nat_le, if◌then◌else◌, filter, not}
 use Rattle.std.specs.List.{list_any}
 use Rattle.std.proofs.lemmas.Bool.{leb-false}
 use Rattle.std.proofs.lemmas.List.{length-map}
-use Rattle.rt_task.specs.RuleWords.{stands_under}
+use Rattle.rt_base.specs.declared.TheConstants.{MOST_HELD}
+use Rattle.rt_task.specs.RuleWords.{is_stacked, stands_under}
 use Rattle.rt_task.specs.declared.Protocol.{Protocol}
 use Rattle.rt_task.specs.declared.Protocol.TheVariants.{Fmlp, Mpcp, Omlp, Pcp}
 use Rattle.rt_order.specs.declared.Key.{Key}
@@ -18,6 +19,7 @@ use Rattle.rt_model.specs.Answers.{nests}
 use Rattle.rt_model.specs.BaseKeys.{base_key}
 use Rattle.rt_model.specs.Ceilings.{is_pcp, pcp}
 use Rattle.rt_model.specs.Group.{Group, home, in_group, protocol, sems, tasks, users}
+use Rattle.rt_rules.specs.Srp.{newest_held}
 use Rattle.rt_model.specs.Holders.{holder, holds, last_granted, sem_state, sem_state_by}
 use Rattle.rt_model.specs.Reachable.{IsReachable}
 use Rattle.rt_model.specs.Past.{Event, Past, sem_act}
@@ -39,6 +41,8 @@ use Rattle.rt_laws.proofs.Next.{next}
 use Rattle.rt_laws.proofs.PcpState.{IsPcpKept, IsUser, pcp_kept, pcp-first, pcp-holder, sem-home}
 use Rattle.rt_laws.proofs.Requests.{frees}
 use Rattle.rt_laws.proofs.Rules.{MeetsRules}
+use Rattle.rt_model.proofs.Unplayed.{stacked_is}
+use Rattle.rt_laws.proofs.Unplayed.{last_granted-is}
 use Rattle.rt_laws.proofs.ValidSets.{rules_of}
 use Rattle.rt_changes.proofs.Acting.{IsParty, all_parties}
 use Rattle.rt_changes.proofs.Apart.{asks-holds_not}
@@ -125,7 +129,7 @@ distinct-holds g t past = distinct-filter (λ r. is t (holder g r past)) _ (dist
 
 few-of : (g : Group) (s t : ℕ) (past : Past) → nests g Pcp s t past ≡ false → length (holds g t past) < 8
 unfolding nests
-few-of g s t past h = let q = neither (list_any (λ r. not (is_pcp (protocol g r))) (holds g t past)) _ h in let n = neither (has s (holds g t past)) (nat_le 8 (length (holds g t past))) q.1 in leb-false 8 (length (holds g t past)) n.1
+few-of g s t past h = let q = neither (list_any (λ r. not (is_pcp (protocol g r))) (holds g t past)) _ h in let n = neither (has s (holds g t past)) (nat_le MOST_HELD (length (holds g t past))) q.1 in leb-false MOST_HELD (length (holds g t past)) n.1
 
 -- ---- keys of different tasks
 
@@ -228,11 +232,10 @@ module _ (g : Group) (rules : MeetsRules g) (past : Past) (w : SemTable) (k : Ke
   unfolding holder
   holder-is l same = ap (λ (y : SemState). y.holder) same ∙ is-some t (holder g s past) held
 
-  newest-is : (is s (last_granted g t past) ≡ true) → (p : words.PcpKept) → p.state ≡ pcp g (home g t) past → words.last_granted p.state.held t ≡ Some s
-  unfolding last_granted
-  newest-is m p same = rw same (is-some s (last_granted g t past) m)
+  newest-is : (is s (newest_held (pcp g (home g t) past).held t) ≡ true) → (p : words.PcpKept) → p.state ≡ pcp g (home g t) past → words.last_granted p.state.held t ≡ Some s
+  newest-is m p same = rw same (is-some s (newest_held (pcp g (home g t) past).held t) m)
 
-  pub release-fits : (is_pcp (protocol g s) ≡ true → is s (last_granted g t past) ≡ true) → (p : Protocol) (x : AnySem) → protocol g s ≡ p → KeepsSem g s past p x → MayReleaseBy t s w.sets x
+  pub release-fits : (is_pcp (protocol g s) ≡ true → is s (newest_held (pcp g (home g t) past).held t) ≡ true) → (p : Protocol) (x : AnySem) → protocol g s ≡ p → KeepsSem g s past p x → MayReleaseBy t s w.sets x
   release-fits m Fmlp (any.Fmlp l) q v = holder-is (in_line l.line) (tells g rules past w k s t owns.known owns.user Fmlp (any.Fmlp l) q v)
   release-fits m Omlp (any.Omlp l) q v = holder-is (omlp_sem_state l.state) (tells g rules past w k s t owns.known owns.user Omlp (any.Omlp l) q v)
   release-fits m Mpcp (any.Mpcp l) q v = holder-is l.state (tells g rules past w k s t owns.known owns.user Mpcp (any.Mpcp l) q v)
@@ -242,7 +245,7 @@ module _ (g : Group) (rules : MeetsRules g) (past : Past) (w : SemTable) (k : Ke
       record { known = set.known s (record { known = owns.known; of_pcp = rw q refl; home_is = refl }); last = newest-is (m (rw q refl)) (set_at w.sets c.0) (set.state ∙ ap (λ (n : ℕ). pcp g n past) (sym at-home)) }
   release-fits m p x q v = absurd v
 
-newest-of : (g : Group) (past : Past) (e : Event) → IsMove g past e → (t s : ℕ) → sem_act e ≡ Frees t s → is_pcp (protocol g s) ≡ true → is s (last_granted g t past) ≡ true
+newest-of : (g : Group) (past : Past) (e : Event) → IsMove g past e → (t s : ℕ) → sem_act e ≡ Frees t s → is_stacked (protocol g s) ≡ true → is s (last_granted g t past) ≡ true
 newest-of g past e (clock_moves tick) t s h q = cc
 newest-of g past e (cpu_acts cpu act) t s h q = (frees g cpu act past t s h).newest q
 
@@ -251,4 +254,5 @@ release_fits g e past valid made w t s h k =
     let last = last_move g made in
     let held : is t (holder g s past) ≡ true = (next g (rules_of g valid) last.0 last.1).freed t s h in
     let owns : IsParty g t s = all_parties g (rules_of g valid) last.0 t s (holder-engaged g t s past held) in
-    release-fits g (rules_of g valid) past w k t s owns held (newest-of g past e last.1 t s h) (protocol g s) (sem_at w.sems s) refl (k.kept s owns.known)
+    let newest : is_pcp (protocol g s) ≡ true → is s (newest_held (pcp g (home g t) past).held t) ≡ true = λ q. subst (λ (o : Option ℕ). is s o ≡ true) (last_granted-is g valid past last.0 t) (newest-of g past e last.1 t s h (stacked_is g valid s ∙ q)) in
+    release-fits g (rules_of g valid) past w k t s owns held newest (protocol g s) (sem_at w.sems s) refl (k.kept s owns.known)

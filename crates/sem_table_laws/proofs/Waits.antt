@@ -12,6 +12,7 @@ use Rattle.rt_model.specs.Blockers.{blocker, blocker_among, has_higher_ceiling}
 use Rattle.rt_model.specs.Ceilings.{ceiling, pcp}
 use Rattle.rt_model.specs.EffectiveKeys.{next_by, next_at, waits_for}
 use Rattle.rt_model.specs.Group.{Group, home, protocol, sems, users}
+use Rattle.rt_rules.specs.Srp.{newest_held}
 use Rattle.rt_model.specs.Holders.{awaits, holder, last_granted}
 use Rattle.rt_model.specs.Reachable.{IsReachable}
 use Rattle.rt_model.specs.Past.{Past}
@@ -21,6 +22,7 @@ use Rattle.rt_laws.proofs.Engaged.{holder-engaged, waiting-engaged}
 use Rattle.rt_laws.proofs.GroupLaws.{user-home, user-task, pcp-shares}
 use Rattle.rt_laws.proofs.PcpState.{IsUser, pcp_kept, sem-home}
 use Rattle.rt_laws.proofs.Rules.{MeetsRules}
+use Rattle.rt_laws.proofs.Unplayed.{last_granted-is}
 use Rattle.rt_laws.proofs.ValidSets.{rules_of}
 use Rattle.rt_laws.proofs.Waiting.{awaits-waits, none-waits}
 use Rattle.rt_laws.proofs.Asked.{IsAsked}
@@ -82,12 +84,11 @@ row-there [] t h = absurd (omega arith)
 row-there (r ∷ rows) zero h = refl
 row-there (r ∷ rows) (suc t) h = row-there rows t (omega arith)
 
-last-is : (g : Group) (past : Past) (w : SemTable) (t : ℕ) (r : Row) → r.home.0 ≡ home g t → KeepsSet g (home g t) past (set_at w.sets (home g t)) → last_in w.sets t (Some r) ≡ last_granted g t past
-unfolding last_granted
+last-is : (g : Group) (past : Past) (w : SemTable) (t : ℕ) (r : Row) → r.home.0 ≡ home g t → KeepsSet g (home g t) past (set_at w.sets (home g t)) → last_in w.sets t (Some r) ≡ newest_held (pcp g (home g t) past).held t
 last-is g past w t r e v = ap (λ (c : ℕ). words.last_granted (set_at w.sets c).state.held t) e ∙ ap (λ (l : PcpState). words.last_granted l.held t) v.state
 
 pub tells_last : TellsLast
-tells_last g past valid made w t there k rows = ap (last_in w.sets t) (row-there w.rows t (rows.row_room t there)) ∙ last-is g past w t (row_at w.rows t) (rows.rows t there).home_is (k.sets (home g t) ((rules_of g valid).has_home t there) (group-of g t there))
+tells_last g past valid made w t there k rows = ap (last_in w.sets t) (row-there w.rows t (rows.row_room t there)) ∙ last-is g past w t (row_at w.rows t) (rows.rows t there).home_is (k.sets (home g t) ((rules_of g valid).has_home t there) (group-of g t there)) ∙ sym (last_granted-is g valid past made t)
 
 none-mapped : (o : Option SemNo) → option_map (λ (n : SemNo). n.0) o ≡ None → o ≡ None
 none-mapped None h = refl

@@ -1,5 +1,5 @@
 //! The processors of a group that plays by turns.
-ghost use Rattle.std.specs.Prelude.{◌≡◌, ◌++◌, ◌∷◌, [], length, map, All, IfOk};
+ghost use Rattle.std.specs.Prelude.{◌≡◌, length, map, All, IfOk};
 ghost use Rattle.tick_clock.specs.Clocks.{fresh};
 ghost use Rattle.set_runs.specs.Drivers.{AreAtWork, IsAtWork};
 
@@ -15,15 +15,6 @@ pub(crate) struct Driver {
     pub(crate) seat: CpuSeat,
     pub(crate) turns: ClockSeat,
     pub(crate) is_over: bool,
-}
-
-fn add(drivers: &mut Vec<Driver>, driver: Driver) -> Result<(), NoMemory>
-    ensures { IfOk result (λ _. drivers.new.items ≡ drivers.old.items ++ driver ∷ []) }
-{
-    match drivers.push(driver) {
-        Ok(()) => Ok(()),
-        Err(_) => Err(NoMemory),
-    }
 }
 
 /// The drivers of these seats, which have given no turn as over, each with a seat of the clock.
@@ -49,7 +40,7 @@ pub(crate) fn drivers_of(
             turns,
             is_over: false,
         };
-        add(&mut drivers, driver)?;
+        drivers.push(driver)?;
     }
     Ok(drivers)
 }
@@ -61,9 +52,7 @@ pub(crate) fn seats_of(alloc: Global, drivers: Vec<Driver>) -> Result<Vec<CpuSea
     let mut seats = Vec::new(alloc);
     for driver in drivers {
         let Driver { seat, .. } = driver;
-        if seats.push(seat).is_err() {
-            return Err(NoMemory);
-        }
+        seats.push(seat)?;
     }
     Ok(seats)
 }

@@ -37,10 +37,7 @@ fn drive_all<R: Threads + Wait + Sync, G: Gate + Sync>(
         requires { seat.cell ≡ site.now.cell }
         ensures { IsDriven site.entry.now.cell seat result }
     { driven(rt, site, seat, gate) };
-    match thread::map_vec(rt, seats, &play) {
-        Ok(seats) => Ok(seats),
-        Err(_) => Err(NoMemory),
-    }
+    Ok(thread::map_vec(rt, seats, &play)?)
 }
 
 /// Plays the steps or the turns of all seats' processors.

@@ -20,9 +20,7 @@ fn all_run(alloc: Global, runs: Vec<Result<Engine, NoMemory>>) -> Result<Vec<Eng
     let mut engines = Vec::new(alloc);
     for run in runs {
         let engine = run?;
-        if engines.push(engine).is_err() {
-            return Err(NoMemory);
-        }
+        engines.push(engine)?;
     }
     Ok(engines)
 }
@@ -46,8 +44,6 @@ pub fn run_set<R: Threads + Wait + Sync, G: Gate + Sync>(
     { run_group(rt, alloc, setup, GroupNo(n as u32), gate) };
     // A proof knows that a setup is valid once its parts are read.
     let _parts = setup.parts();
-    match thread::map_indices(rt, alloc, count_groups(setup) as usize, &run) {
-        Ok(runs) => all_run(alloc, runs),
-        Err(_) => Err(NoMemory),
-    }
+    let runs = thread::map_indices(rt, alloc, count_groups(setup) as usize, &run)?;
+    all_run(alloc, runs)
 }

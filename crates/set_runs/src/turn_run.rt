@@ -47,10 +47,7 @@ fn drive_apart<R: Threads + Wait + Sync, G: Gate + Sync>(
         requires { IsAtWork site.now.cell clock.now driver.seat.cpu driver }
         ensures { IsAtWork site.entry.now.cell clock.entry.now driver.seat.cpu result }
     { driven(rt, site, clock, meeting, driver, gate) };
-    match thread::map_vec(rt, drivers, &play) {
-        Ok(drivers) => Ok(drivers),
-        Err(_) => Err(NoMemory),
-    }
+    Ok(thread::map_vec(rt, drivers, &play)?)
 }
 
 /// Whether no step is left of any.

@@ -14,7 +14,7 @@ use Rattle.rt_model.proofs.Steps.{reply_to-lem}
 use Rattle.count_laws.specs.CountLaws.{act_of}
 use Rattle.count_laws.specs.Tallies.{AreWaiters, Waiter, act_by}
 use Rattle.block_counts.specs.GroupRequests.{IsBetween, NamesKnown}
-use Rattle.waiting_list.specs.Listing.{AreWaitersAt, Moment}
+use Rattle.waiting_list.specs.Listing.{AreListed, AreWaitersAt, Moment}
 use Rattle.rank_afresh.specs.Standing.{IsOfSame, Standing, group_of}
 use Rattle.trace_text.proofs.BlockLines.{names-known, reachable-past_of}
 use Rattle.trace_check.specs.declared.follow.Follow.{Follow}
@@ -52,4 +52,6 @@ module _ (at : Place) (f : Follow) (step : Step) (can : CanStep at f step) where
   }
     where
       own : (t s : ℕ) → act_of g step past ≡ Frees t s → AreWaiters g s (clock_moved step past) ws
-      own t s frees = wait t s (ap (λ (r : Reply). act_by step.act r (runs step.cpu.0 (clock_moved step past))) (sym (reply_to-lem g step past)) ∙ frees)
+      own t s frees =
+          let freed = ap (λ (r : Reply). act_by step.act r (runs step.cpu.0 (clock_moved step past))) (sym (reply_to-lem g step past)) ∙ frees in
+          subst (λ a. AreListed g (clock_moved step past) a ws) freed wait

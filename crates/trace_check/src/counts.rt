@@ -1,5 +1,5 @@
 //! The count lines of the tools of a bus.
-ghost use Rattle.std.specs.Prelude.{◌≡◌, ◌++◌, flat_map, map, IfOk, OnOk};
+ghost use Rattle.std.specs.Prelude.{◌≡◌, flat_map, map, IfOk};
 ghost use Rattle.trace_lines.specs.Grammar.{line_text};
 ghost use Rattle.trace_lines.specs.Known.{Known};
 ghost use Rattle.trace_tools.specs.Places.{seats};
@@ -8,15 +8,6 @@ ghost use Rattle.trace_tools.specs.Seats.{seat_line};
 use rt_base::NoMemory;
 use std::alloc::Global;
 use trace_tools::{Bus, TraceTool};
-
-fn put_line(text: &mut Vec<u8>, line: &[u8]) -> Result<(), NoMemory>
-    ensures { OnOk result (text.new.items ≡ text.old.items ++ line.now) }
-{
-    match text.extend_from_slice(line) {
-        Ok(()) => Ok(()),
-        Err(_) => Err(NoMemory),
-    }
-}
 
 /// The count lines of a bus: one for each tool, in the order in which they were handed in.
 pub(crate) fn count_text<T: TraceTool>(alloc: Global, bus: &Bus<T>) -> Result<Vec<u8>, NoMemory>
@@ -30,7 +21,7 @@ pub(crate) fn count_text<T: TraceTool>(alloc: Global, bus: &Bus<T>) -> Result<Ve
     let mut text = Vec::new(alloc);
     for i in 0..count {
         let line = bus.line(alloc, i)?;
-        put_line(&mut text, line.as_slice())?;
+        text.extend_from_slice(line.as_slice())?;
     }
     Ok(text)
 }

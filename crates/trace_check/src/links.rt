@@ -31,9 +31,7 @@ pub(crate) fn read_links(
             cpu: *cpu,
             task: afresh.linked(*cpu),
         };
-        if links.push(link).is_err() {
-            return Err(NoMemory);
-        }
+        links.push(link)?;
     }
     Ok(())
 }

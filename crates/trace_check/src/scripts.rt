@@ -37,9 +37,7 @@ fn no_places(alloc: Global) -> Result<Vec<Option<usize>>, NoMemory>
 {
     let mut places = Vec::new(alloc);
     for _ in 0..MOST_CPUS {
-        if places.push(None).is_err() {
-            return Err(NoMemory);
-        }
+        places.push(None)?;
     }
     Ok(places)
 }

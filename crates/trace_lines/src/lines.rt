@@ -101,10 +101,7 @@ pub fn put_group_line(
     ensures { let text = line_text (known_in format.now) in OnOk result (out.new.items
         ≡ out.old.items ++ text (group_line group.0 (links_of links.now))) }
 {
-    match append_group_line(out, format, group, links) {
-        Ok(()) => Ok(()),
-        Err(_) => Err(NoMemory),
-    }
+    Ok(append_group_line(out, format, group, links)?)
 }
 
 /// The line of an entry: `<number> <tick> <cpu> <act> <reply> <cpu>:<link> ..`, with the entry's number in its group from
@@ -119,10 +116,7 @@ pub fn put_entry_line(
     ensures { let text = line_text (known_in format.now) in OnOk result (out.new.items
         ≡ out.old.items ++ text (entry_line number entry.now (links_of links.now))) }
 {
-    match append_entry_line(out, format, number, entry, links) {
-        Ok(()) => Ok(()),
-        Err(_) => Err(NoMemory),
-    }
+    Ok(append_entry_line(out, format, number, entry, links)?)
 }
 
 /// The line of a request: `block <number> <task> <sem> <ends> <all> <bound>`, with the number of its entry, the critical
@@ -140,10 +134,7 @@ pub fn put_block_line(
     ensures { let text = line_text (known_in format.now) in OnOk result (out.new.items
         ≡ out.old.items ++ text (block_line number task.0 sem.0 ends ends_all bound)) }
 {
-    match append_block_line(out, format, number, task, sem, ends, ends_all, bound) {
-        Ok(()) => Ok(()),
-        Err(_) => Err(NoMemory),
-    }
+    Ok(append_block_line(out, format, number, task, sem, ends, ends_all, bound)?)
 }
 
 /// The line of what a tool counted: `count <letter> <total> ..`.
@@ -151,10 +142,7 @@ pub fn put_count_line(out: &mut Vec<u8>, name: u8, totals: &[u64]) -> Result<(),
     ensures { (k : Known)
         → OnOk result (out.new.items ≡ out.old.items ++ line_text k (count_line name totals.now)) }
 {
-    match append_count_line(out, name, totals) {
-        Ok(()) => Ok(()),
-        Err(_) => Err(NoMemory),
-    }
+    Ok(append_count_line(out, name, totals)?)
 }
 
 /// The line `end`, after the last group.
@@ -163,8 +151,5 @@ pub fn put_end_line(out: &mut Vec<u8>) -> Result<(), NoMemory>
     ensures { (k : Known)
         → OnOk result (out.new.items ≡ out.old.items ++ line_text k end_line) }
 {
-    match put(out, b"end\n") {
-        Ok(()) => Ok(()),
-        Err(_) => Err(NoMemory),
-    }
+    Ok(put(out, b"end\n")?)
 }

@@ -12,7 +12,7 @@ use rt_base::{CpuNo, TaskNo};
 use std::alloc::AllocError;
 
 /// A processor and the task that it is linked to, if it is linked to one.
-#[derive(Clone, Copy, Debug, PartialEq, Eq)]
+#[derive(Clone, Copy, PartialEq, Eq)]
 pub struct CpuLink {
     pub cpu: CpuNo,
     pub task: Option<TaskNo>,

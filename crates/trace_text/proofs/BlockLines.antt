@@ -12,7 +12,7 @@ use Rattle.rt_task.specs.declared.Cluster.{Cluster}
 use Rattle.rt_task.specs.declared.Op.TheVariants as ops
 use Rattle.rt_task.specs.declared.Parts.{Parts}
 use Rattle.rt_task.specs.declared.Protocol.{Protocol}
-use Rattle.rt_task.specs.declared.Protocol.TheVariants.{Fmlp, Mpcp, Omlp, Pcp}
+use Rattle.rt_task.specs.declared.Protocol.TheVariants.{Fmlp, Mpcp, Omlp, Pcp, Srp}
 use Rattle.rt_task.specs.declared.draft.Draft.{Draft}
 use Rattle.rt_task.specs.Draft.{draft_of}
 use Rattle.rt_task.specs.Lookups as lookups
@@ -111,6 +111,7 @@ bound-known g t s valid = by_protocol (protocol g s)
     by_protocol Fmlp = omega (arith, users-few g s (length g.setup.tasks), ap (λ (us : List ℕ). length us) (users-all g s), (sets_are_in_limits g.setup valid).few_tasks)
     by_protocol Pcp = tt
     by_protocol Mpcp = tt
+    by_protocol Srp = tt
 
 -- ---- requests
 

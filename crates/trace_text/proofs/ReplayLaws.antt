@@ -12,6 +12,7 @@ use Rattle.rt_history.specs.declared.Reply.{Reply}
 use Rattle.rt_rules.specs.Numbers.{has, same}
 use Rattle.rt_rules.proofs.BoolLaws.{or_true}
 use Rattle.rt_rules.proofs.MemberLaws.{equal_self}
+use Rattle.rt_rules.specs.SemState.{Frees}
 use Rattle.rt_model.specs.Group.{Group, group_processors}
 use Rattle.rt_model.specs.Histories.{after, changed, clock_moved, past_from, past_of, reply_to}
 use Rattle.rt_model.specs.Links.{linked}
@@ -23,7 +24,7 @@ use Rattle.rt_groups.specs.Groups.{GroupHistory, group_of, past, with_entry}
 use Rattle.count_laws.specs.CountLaws.{act_of}
 use Rattle.count_laws.specs.Tallies.{AreWaiters, Waiter}
 use Rattle.block_counts.specs.GroupRequests.{GroupRequests, IsAt, IsBetween, group_of as requests_group}
-use Rattle.waiting_list.specs.Listing.{AreWaitersAt}
+use Rattle.waiting_list.specs.Listing.{AreListed, AreWaitersAt}
 use Rattle.group_engine.specs.Moments.{between}
 use Rattle.trace_lines.specs.declared.links.CpuLink.{CpuLink}
 use Rattle.trace_lines.specs.Lines.{Link, link_of, links_of}
@@ -156,8 +157,9 @@ module _ (h h' : GroupHistory) (b b' : GroupRequests) (room room' : ℕ) (step :
     reply_is = reply_is ∙ ap (λ (g : Group). reply_to g step (past h)) (sym own);
     runs_is = runs_is ∙ sym (runs-clock step.cpu.0 step.tick.0 (past h));
     waiting = λ t s frees.
+        let freed : act_of (group_of h) step (past h) ≡ Frees t s = ap (λ (g : Group). act_of g step (past h)) (sym own) ∙ frees in
         subst (λ (g : Group). AreWaiters g s (clock_moved step (past h)) ws) (sym own)
-        (waiting t s (ap (λ (g : Group). act_of g step (past h)) (sym own) ∙ frees));
+        (subst (λ a. AreListed (group_of h) (clock_moved step (past h)) a ws) freed waiting);
   }
 
   pub counts-next : b'.setup ≡ b.setup → b'.group ≡ b.group → b'.spare + 1 ≡ b.spare → room' ≡ room → IsAt b' (after (requests_group b) step (past h)) → Counts h' b' room'

@@ -1,5 +1,6 @@
 //! The groups of a set and the processors of each.
 ghost use Rattle.std.specs.Prelude.{◌≡◌, ◌+◌, ◌^◌, ◌<◌, ◌≤◌, ◌++◌, IfOk, OnOk};
+ghost use Rattle.rt_base.specs.declared.TheConstants.{MOST_CLUSTERS};
 ghost use Rattle.rt_rules.specs.Numbers.{numbers_from};
 ghost use Rattle.rt_model.specs.Group.{group_processors};
 ghost use Rattle.rt_plays.specs.Plays.{group_count, group_with};
@@ -10,7 +11,7 @@ use rt_task::{Parts, Setup};
 use std::alloc::Global;
 
 fn count_in(parts: &Parts) -> u32
-    requires { group_count parts.now ≤ 64 }
+    requires { group_count parts.now ≤ MOST_CLUSTERS }
     ensures { result ≡ group_count parts.now }
 {
     let mut greatest = 0;
@@ -35,9 +36,7 @@ fn put_cpus(cpus: &mut Vec<CpuNo>, first: u32, count: u32) -> Result<(), NoMemor
         (cpu_numbers cpus.new.items ≡ cpu_numbers cpus.old.items ++ numbers_from first count) }
 {
     for q in first..first + count {
-        if cpus.push(CpuNo(q)).is_err() {
-            return Err(NoMemory);
-        }
+        cpus.push(CpuNo(q))?;
     }
     Ok(())
 }

@@ -1,6 +1,6 @@
 //! The groups of a trace.
 ghost use Rattle.std.specs.Prelude.{◌≡◌, ◌≤◌, [], true, flat_map, length, map, OnOk};
-ghost use Rattle.rt_base.specs.declared.TheConstants.{MOST_STEPS};
+ghost use Rattle.rt_base.specs.declared.TheConstants.{MOST_CLUSTERS, MOST_STEPS};
 ghost use Rattle.rt_groups.specs.Groups.{group_of, past, AreStepsOf, IsGroupOf};
 ghost use Rattle.trace_lines.specs.Grammar.{line_text};
 ghost use Rattle.block_counts.specs.SeenWords.{tallies_of};
@@ -117,7 +117,7 @@ fn write_groups<T: TraceTool, K: Sink>(
     out: &mut K,
 ) -> Result<(), WriteStop>
     requires groups { AreGroupsOf setup.now groups.now }
-    requires few { length groups.now ≤ 64 }
+    requires few { length groups.now ≤ MOST_CLUSTERS }
     ensures lines { Came result
         (K.held out.old) (K.held out.new) (K.faults out.old) (K.faults out.new)
         (flat_map (line_text (known_in format.now))

@@ -25,9 +25,7 @@ pub fn read_links(engine: &Engine, cpus: &[CpuNo], links: &mut Vec<CpuLink>) -> 
             cpu: *cpu,
             task: engine.linked(*cpu),
         };
-        if links.push(link).is_err() {
-            return Err(NoMemory);
-        }
+        links.push(link)?;
     }
     Ok(())
 }
@@ -60,9 +58,7 @@ pub fn put_changed(
         if is_same_task(before[i].task, link.task) {
             continue;
         }
-        if changed.push(*link).is_err() {
-            return Err(NoMemory);
-        }
+        changed.push(*link)?;
     }
     Ok(())
 }

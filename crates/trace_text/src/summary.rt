@@ -22,7 +22,7 @@ use trace_tools::{Bus, TraceTool};
 
 /// How many entries and requests histories have, and the most critical sections that ended while a request was open and
 /// its task priority-blocked, 0 where there is no request.
-#[derive(Clone, Copy, Debug, PartialEq, Eq)]
+#[derive(Clone, Copy, PartialEq, Eq)]
 pub struct Summary {
     pub entries: u32,
     pub requests: u32,

@@ -5,6 +5,5 @@ pub mod Rules
 pub mod Places
 pub mod Shipped
 pub mod Laws
-pub mod Tests
 pub mod Choice
 pub mod Found

@@ -27,9 +27,7 @@ impl<T: TraceTool> Bus<T> {
     {
         let mut places = Vec::new(alloc);
         for tool in tools {
-            let Ok(()) = places.push(Place::of(tool)) else {
-                return Err(NoMemory);
-            };
+            places.push(Place::of(tool))?;
         }
         Ok(Bus { places })
     }

@@ -15,8 +15,6 @@ mod place;
 mod shipped;
 mod shown;
 mod switches;
-#[cfg(test)]
-mod tests;
 mod tool;
 mod totals;
 

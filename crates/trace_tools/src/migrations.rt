@@ -47,10 +47,8 @@ impl Migrations {
         ensures tool { IfOk result (λ m. ⟦<Migrations as TraceTool>⟧.tool m ≡ new_migrations) }
         ensures counts { MigrationsAreCounted }
     {
-        match vec![in alloc; 0; MOST_TASKS as usize + 1] {
-            Ok(places) => Ok(Migrations { count: 0, places }),
-            Err(_) => Err(NoMemory),
-        }
+        let places = vec![in alloc; 0; MOST_TASKS as usize + 1]?;
+        Ok(Migrations { count: 0, places })
     }
 }
 

@@ -82,8 +82,5 @@ pub fn shipped_tools(alloc: Global) -> Result<Vec<ShippedTool>, NoMemory>
         ShippedTool::Occupancy(Occupancy::new()),
         ShippedTool::FirstMiss(FirstMiss::new()),
     ];
-    match tools {
-        Ok(tools) => Ok(tools),
-        Err(_) => Err(NoMemory),
-    }
+    Ok(tools?)
 }

@@ -3,7 +3,7 @@ use rt_base::{GroupNo, TaskNo};
 use rt_history::Entry;
 
 /// An entry of a trace, as a tool is shown it.
-#[derive(Clone, Copy, Debug, PartialEq, Eq)]
+#[derive(Clone, Copy, PartialEq, Eq)]
 pub struct Shown {
     /// The group whose entry it is.
     pub group: GroupNo,

@@ -8,7 +8,7 @@ use rt_task::{Act, Step};
 
 /// How many turns a processor has begun, how many steps it took since its newest Tick, and whether
 /// its next act was none after its last step, or after a later entry of its group.
-#[derive(Clone, Copy, Debug, PartialEq, Eq)]
+#[derive(Clone, Copy, PartialEq, Eq)]
 pub(crate) struct Turn {
     begun: u64,
     since: u32,

@@ -45,9 +45,7 @@ fn no_rows(alloc: Global) -> Result<Vec<Option<Turn>>, NoMemory>
 {
     let mut rows = Vec::new(alloc);
     for _ in 0..MOST_CPUS {
-        if rows.push(None).is_err() {
-            return Err(NoMemory);
-        }
+        rows.push(None)?;
     }
     Ok(rows)
 }

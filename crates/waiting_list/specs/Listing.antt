@@ -1,5 +1,5 @@
 -- Listing the tasks that wait for the semaphore that an act frees.
-use Rattle.std.specs.Prelude.{◌≡◌, ℕ, ◌≤◌, ◌<◌, Bool, true, false, List, length, Option, None, Some, if◌then◌else◌}
+use Rattle.std.specs.Prelude.{◌≡◌, ℕ, ◌≤◌, ◌<◌, Bool, true, false, List, [], length, Option, None, Some, is_none, if◌then◌else◌, ⊤}
 use Rattle.rt_base.specs.declared.TheConstants.{MOST_STEPS, TICK_END}
 use Rattle.rt_base.specs.declared.SemNo.{SemNo}
 use Rattle.rt_task.specs.declared.Act.{Act}
@@ -7,8 +7,8 @@ use Rattle.rt_task.specs.declared.Act.TheVariants as acts
 use Rattle.rt_task.specs.declared.Op.TheVariants as ops
 use Rattle.rt_task.specs.declared.Parts.{Parts}
 use Rattle.rt_task.specs.Validity.{IsValid}
-use Rattle.rt_rules.specs.Numbers.{has, is}
-use Rattle.rt_rules.specs.SemState.{Frees}
+use Rattle.rt_rules.specs.Numbers.{has}
+use Rattle.rt_rules.specs.SemState.{Frees, SemAct}
 use Rattle.rt_model.specs.Answers.{answer}
 use Rattle.rt_model.specs.Group.{Group, tasks}
 use Rattle.rt_model.specs.Past.{Past, entries_in, now}
@@ -18,29 +18,38 @@ use Rattle.rt_model.specs.Steps.{IsActOf}
 use Rattle.rt_plays.specs.Homes.{IsProcessorOf}
 use Rattle.count_laws.specs.Tallies.{AreWaiters, Waiter, act_by}
 use Rattle.sem_table.specs.SemTable.{SemTable}
-use Rattle.sem_table.specs.Told.{state_of}
 use Rattle.group_facts.specs.Kept.{IsKept, Kept}
 use Rattle.group_sems.specs.GroupSems.{GroupSems}
+use Rattle.group_sems.specs.Refusing.{unlock_refusal}
 use Rattle.group_sem_laws.specs.Kept.{KeepsGroupSems}
 
--- the semaphore that an act frees where this task runs, which must hold it
-abbrev pub held_by : SemTable → Option ℕ → SemNo → Bool
-held_by w None s = false
-held_by w (Some t) s = is t (state_of w s.0).holder
+-- the semaphore that an act frees where this task runs: an Unlock that is not refused
+abbrev pub goes : Parts → SemTable → Option ℕ → SemNo → Bool
+goes p w None s = false
+goes p w (Some t) s = is_none (unlock_refusal p w t s.0)
 
-abbrev pub freed_at : SemTable → Option ℕ → Act → Option SemNo
-freed_at w runs (acts.Do (ops.Unlock s)) = if held_by w runs s then Some s else None
-freed_at w runs _ = None
+abbrev pub freed_at : Parts → SemTable → Option ℕ → Act → Option SemNo
+freed_at p w runs (acts.Do (ops.Unlock s)) = if goes p w runs s then Some s else None
+freed_at p w runs _ = None
+
+-- the semaphore that an Unlock names is one of the set
+abbrev pub NamesSem : Parts → Act → Type 0
+NamesSem p (acts.Do (ops.Unlock s)) = (1 ≤ s.0) × (s.0 ≤ length p.sems)
+NamesSem p _ = ⊤
 
 -- a group after a past
 pub record Moment : Type 0 where
   pub group : Group
   pub past : Past
 
--- these are the tasks that wait, at this moment, for the semaphore that an act of the processor is to free, if it is to free one
+-- these are the tasks that wait for the semaphore that is freed, and none where none is
+abbrev pub AreListed : Group → Past → SemAct → List Waiter → Type 0
+AreListed g past (Frees t s) ws = AreWaiters g s past ws
+AreListed g past _ ws = ws ≡ []
+
+-- at this moment, and for an act of the processor
 abbrev pub AreWaitersAt : Moment → ℕ → Act → List Waiter → Type 0
-AreWaitersAt at q act ws =
-    (t s : ℕ) → act_by act (answer at.group q act at.past) (runs q at.past) ≡ Frees t s → AreWaiters at.group s at.past ws
+AreWaitersAt at q act ws = AreListed at.group at.past (act_by act (answer at.group q act at.past) (runs q at.past)) ws
 
 -- what is kept of jobs and semaphores is of this moment of a group, and the act is one of its processors'
 pub record CanList (at : Moment) (p : Parts) (k : Kept) (v : GroupSems) (q : ℕ) (act : Act) (room : ℕ) : Type 0 where

@@ -2,7 +2,7 @@
 //! critical sections are made of.
 #![tactic(auto)]
 
-ghost use Rattle.std.specs.Prelude.{◌≡◌, ◌+◌, ◌≤◌, ◌<◌, ◌++◌, ◌∷◌, [], IfOk, length, vec_len, vec_capacity};
+ghost use Rattle.std.specs.Prelude.{◌≡◌, ◌+◌, ◌≤◌, ◌<◌, ◌++◌, [], IfOk, length, vec_len, vec_capacity};
 ghost use Rattle.rt_base.specs.TaskNos.{numbers};
 ghost use Rattle.rt_rules.specs.Distinct.{IsDistinct};
 ghost use Rattle.rt_model.specs.Blocking as definitions;
@@ -11,7 +11,7 @@ ghost use Rattle.block_counts.specs.SeenWords.{waiters_of};
 ghost use Rattle.group_facts.specs.Kept.{cpu_of};
 ghost use Rattle.sem_table.specs.Told.{state_of};
 ghost use Rattle.waiting_list.specs.Blocked.{CanRankAll, waiters_now};
-ghost use Rattle.waiting_list.specs.Listing.{AreWaitersAt, CanAsk, CanList, Moment, freed_at};
+ghost use Rattle.waiting_list.specs.Listing.{AreWaitersAt, CanAsk, CanList, Moment, NamesSem, freed_at};
 
 mod blocked;
 
@@ -56,12 +56,8 @@ impl WaitingList {
     pub fn open(alloc: Global, room: u32) -> Result<WaitingList, NoMemory>
         ensures { IfOk result (λ l. l ≡ record { room = room; waiting = [] }) }
     {
-        let Ok(tasks) = Vec::with_capacity(alloc, room as usize) else {
-            return Err(NoMemory);
-        };
-        let Ok(waiting) = Vec::with_capacity(alloc, room as usize) else {
-            return Err(NoMemory);
-        };
+        let tasks = Vec::with_capacity(alloc, room as usize)?;
+        let waiting = Vec::with_capacity(alloc, room as usize)?;
         Ok(WaitingList {
             room,
             tasks,
@@ -88,7 +84,7 @@ impl WaitingList {
         ensures room { self.new.room ≡ self.old.room }
     {
         self.waiting.clear();
-        if let Some(sem) = freed_by(jobs, sems, cpu, act) {
+        if let Some(sem) = freed_by(parts, jobs, sems, cpu, act) {
             self.list_for(parts, jobs, sems, sem);
         }
     }
@@ -118,15 +114,6 @@ pub fn is_blocked(parts: &Parts, jobs: &GroupJobs, sems: &GroupSems, task: TaskN
     sems.waits(task) && is_among_first(parts, jobs, task)
 }
 
-/// Adds a task, for which there is room.
-fn put(into: &mut Vec<Waiting>, one: Waiting)
-    requires { vec_len into.old < vec_capacity into.old }
-    ensures items { into.new.items ≡ into.old.items ++ one ∷ [] }
-    ensures capacity { vec_capacity into.old ≤ vec_capacity into.new }
-{
-    let _ = into.push(one);
-}
-
 /// Adds these tasks, each with whether it is priority-blocked, for which there is room.
 fn tell(parts: &Parts, jobs: &GroupJobs, tasks: &[TaskNo], into: &mut Vec<Waiting>)
     requires can { CanRankAll parts.now jobs.now.kept (numbers tasks.now) }
@@ -137,28 +124,31 @@ fn tell(parts: &Parts, jobs: &GroupJobs, tasks: &[TaskNo], into: &mut Vec<Waitin
 {
     for task in tasks {
         let blocked = is_among_first(parts, jobs, *task);
-        put(
-            into,
-            Waiting {
-                task: *task,
-                blocked,
-            },
-        );
+        into.push_reserved(Waiting {
+            task: *task,
+            blocked,
+        });
     }
 }
 
-/// The semaphore that the act of the processor frees: it is an Unlock of what the task that runs there holds.
-fn freed_by(jobs: &GroupJobs, sems: &GroupSems, cpu: CpuNo, act: Act) -> Option<SemNo>
-    requires { cpu.0 < length jobs.now.kept.cpus }
-    ensures { result ≡ freed_at sems.now.table (cpu_of jobs.now.kept cpu.0).runs act }
+/// The semaphore that the act of the processor frees: it is an Unlock by the task that runs there, and not refused.
+fn freed_by(
+    parts: &Parts,
+    jobs: &GroupJobs,
+    sems: &GroupSems,
+    cpu: CpuNo,
+    act: Act,
+) -> Option<SemNo>
+    requires cpu { cpu.0 < length jobs.now.kept.cpus }
+    requires sem { NamesSem parts.now act }
+    ensures { result ≡ freed_at parts.now sems.now.table (cpu_of jobs.now.kept cpu.0).runs act }
 {
     match act {
         Act::Do(Op::Unlock(sem)) => {
             let task = jobs.runs(cpu)?;
-            if sems.holder(sem) == Some(task) {
-                Some(sem)
-            } else {
-                None
+            match sems.unlock_refusal(parts, task, sem) {
+                None => Some(sem),
+                Some(_) => None,
             }
         }
         _ => None,

@@ -5,4 +5,4 @@ use Rattle.arrival_queue.proofs.ArrivalQueue.new.Goals as goal
 pub returns : goal.returns
 returns c =
     let same : c.args.room - 0 ≡ c.args.room = omega arith in
-    rw (c.in-Ok.ensures.items, c.in-Ok-vec.ensures.items_if_clones_equal (search rules), waiting-none c.args.tasks, same)
+    rw (c.in_ok-arrivals.ensures.items, c.in_ok-ends.ensures.items_if_clones_equal (search rules), waiting-none c.args.tasks, same)

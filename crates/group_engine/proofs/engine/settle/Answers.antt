@@ -1,4 +1,4 @@
-use Rattle.std.proofs.Common.{arith}
+use Rattle.std.proofs.Common.{◌≤◌, arith, vec_capacity}
 use Rattle.group_engine.proofs.Stepping.{at_tick, can_act, ended-is, ended-there, entry_fits, has_room, reply-is, sound-step}
 use Rattle.group_engine.proofs.engine.settle.Goals as goal
 
@@ -11,16 +11,17 @@ act-reply-requires-clause-at c = (at_tick _ _ _ _ _ _ c.requires.1, can_act _ _ 
 pub act-reply-requires-clause-room : goal.act-reply-requires-clause-room
 act-reply-requires-clause-room c = has_room _ _ _ _ _ _ c.requires.1
 
-pub put-requires : goal.put-requires
-put-requires c = let fits = entry_fits _ _ _ _ _ _ c.requires.1 in omega (arith, fits, c.args.entries.now.ok.0)
+pub push_reserved-requires : goal.push_reserved-requires
+push_reserved-requires c = let fits = entry_fits _ _ _ _ _ _ c.requires.1 in omega (arith, fits, c.args.entries.now.ok.0)
 
 pub returns-clause-reply : goal.returns-clause-reply
 returns-clause-reply c = λ at m. reply-is _ _ _ _ _ _ m c.act-reply.result c.act-reply.new.self (c.act-reply.ensures.acted (at_tick _ _ _ _ _ _ m) (can_act _ _ _ _ _ _ m))
 
 pub returns-clause-sound : goal.returns-clause-sound
 returns-clause-sound c = λ at m.
-    rw c.put.ensures.items
-    (sound-step _ _ _ _ _ _ m c.act-reply.result c.act-reply.new.self _ c.put.ensures.capacity c.act-reply.ensures.room (c.act-reply.ensures.acted (at_tick _ _ _ _ _ _ m) (can_act _ _ _ _ _ _ m)))
+    let kept : vec_capacity c.args.entries.now ≤ vec_capacity c.push_reserved.new.self = omega (arith, c.push_reserved.ensures.capacity) in
+    rw c.push_reserved.ensures.items
+    (sound-step _ _ _ _ _ _ m c.act-reply.result c.act-reply.new.self _ kept c.act-reply.ensures.room (c.act-reply.ensures.acted (at_tick _ _ _ _ _ _ m) (can_act _ _ _ _ _ _ m)))
 
 pub ended_of-requires : goal.ended_of-requires
 ended_of-requires c =
@@ -30,5 +31,5 @@ ended_of-requires c =
 
 pub returns-clause-ended : goal.returns-clause-ended
 returns-clause-ended c = λ at m.
-    rw (c.put.ensures.items, c.ended_of.ensures, c.at_stake-stake.ensures)
+    rw (c.push_reserved.ensures.items, c.ended_of.ensures, c.at_stake-stake.ensures)
     (ended-is _ _ _ _ _ _ m c.act-reply.result c.act-reply.new.self (c.act-reply.ensures.acted (at_tick _ _ _ _ _ _ m) (can_act _ _ _ _ _ _ m)))

@@ -7,7 +7,7 @@ use Rattle.job_budget.proofs.AccountLaws.{from_entries-with_next, contains_key-f
 use Rattle.job_budget.proofs.Budgets.new.Goals as goal
 
 pub loop-task-preserved : goal.loop-task-preserved
-loop-task-preserved c = from_entries-with_next (λ (t : Task). t.number.0) opened c.args.tasks.now c.loop-task.task-index c.task-item.result _ _ c.loop-task-test.true c.requires c.task-item.is c.loop-task.invariant c.in-Ok.ensures.updates.0
+loop-task-preserved c = from_entries-with_next (λ (t : Task). t.number.0) opened c.args.tasks.now c.loop-task.task-index c.task-item.result _ _ c.loop-task-test.true c.requires c.task-item.is c.loop-task.invariant c.in_ok-insert.ensures.updates.0
 
 pub returns : goal.returns
 returns c =

@@ -5,7 +5,7 @@ use Rattle.link_table.proofs.SoundLaws.{none_in, sound-unlinked}
 use Rattle.link_table.proofs.Links.new.Goals as goal
 
 pub returns-clause-unlinked : goal.returns-clause-unlinked
-returns-clause-unlinked c = rw (c.in-Ok.ensures.items_if_clones_equal (search rules), c.in-Ok-vec.ensures.items_if_clones_equal (search rules), numbers_of_tasks-replicate)
+returns-clause-unlinked c = rw (c.in_ok-runs.ensures.items_if_clones_equal (search rules), c.in_ok-links.ensures.items_if_clones_equal (search rules), numbers_of_tasks-replicate)
 
 pub returns-clause-sound : goal.returns-clause-sound
 returns-clause-sound c = rw (returns-clause-unlinked c) (sound-unlinked _ _)
@@ -17,5 +17,5 @@ pub invariant_of-result : goal.invariant_of-result
 invariant_of-result c = (
   returns-clause-sound c,
   c.in_ok-top_marks.ensures,
-  rw (c.in-Ok.ensures.items_if_clones_equal (search rules), numbers_of_tasks-replicate, none_in) c.in_ok-run_marks.ensures,
+  rw (c.in_ok-runs.ensures.items_if_clones_equal (search rules), numbers_of_tasks-replicate, none_in) c.in_ok-run_marks.ensures,
 )

@@ -9,5 +9,5 @@ loop-seat-init c =
 
 pub loop-seat-preserved : goal.loop-seat-preserved
 loop-seat-preserved c =
-    made-more c.args.site.now.cell c.args.clock.now c.args.seats.items c.loop-seat.seat-iterator.rest.items c.next.new.self.rest.items c.loop-seat.turns.items c.pop.new.self.items c.loop-seat.drivers.items c.add.new.drivers.items c.in-Some.seat c.in-Some-pop.turns _
-    c.loop-seat.invariant c.in-Some.ensures.steps.0 c.in-Some-pop.ensures.items c.in_ok-add.ensures refl refl (λ yes. cc)
+    made-more c.args.site.now.cell c.args.clock.now c.args.seats.items c.loop-seat.seat-iterator.rest.items c.next.new.self.rest.items c.loop-seat.turns.items c.pop.new.self.items c.loop-seat.drivers.items c.push.new.self.items c.in-Some.seat c.in-Some-pop.turns _
+    c.loop-seat.invariant c.in-Some.ensures.steps.0 c.in-Some-pop.ensures.items c.in_ok-push.ensures.items refl refl (λ yes. cc)

@@ -1,5 +1,5 @@
 use Rattle.std.proofs.Common.{◌++◌, map, Ok, sym, ap, ◌∙◌, arith}
-use Rattle.set_runs.proofs.SetRuns.{all-pushed, all-taken, pushed}
+use Rattle.set_runs.proofs.SetRuns.{all-pushed, all-taken}
 use Rattle.set_runs.proofs.set_run.all_run.Goals as goal
 
 pub loop-run-init : goal.loop-run-init
@@ -9,7 +9,7 @@ pub loop-run-preserved : goal.loop-run-preserved
 loop-run-preserved c =
     all-pushed c.args.runs.items c.loop-run.engines.items c.push.new.self.items c.loop-run.run-iterator.rest.items c.next.new.self.rest.items c.in-Some.run' c.in_ok-engine.engine
     c.loop-run.invariant c.in-Some.ensures.steps.0 c.in_ok-engine.was
-    (c.push.ensures.items ∙ pushed c.push.result _ _ (sym c.is_err.ensures.value ∙ c.if-is_err.false))
+    (c.in_ok-push.ensures.items)
 
 pub returns : goal.returns
 returns c =

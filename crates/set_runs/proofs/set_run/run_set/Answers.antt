@@ -7,8 +7,8 @@ map_indices-requires-after_bounds g c κs within = λ i low.
     let there = group-there c.args.setup.now c.count_groups.result i c.parts-parts.ensures.valid c.count_groups.ensures low in
     ((there.0, there.1), search rules)
 
-pub returns-in-Ok : goal.returns-in-Ok
-returns-in-Ok g c =
-    all-runs (λ v. v.items) c.args.setup.now c.count_groups.result c.in-Ok.runs.items c.all_run.result c.parts-parts.ensures.valid c.count_groups.ensures
-    (omega (arith, c.in-Ok.ensures.len, c.in-Ok.runs.ok.0))
-    (λ i d low. (c.in-Ok.ensures.each i d low).1.met) c.all_run.ensures
+pub returns : goal.returns
+returns g c =
+    all-runs (λ v. v.items) c.args.setup.now c.count_groups.result c.in_ok-runs.runs.items c.all_run.result c.parts-parts.ensures.valid c.count_groups.ensures
+    (omega (arith, c.in_ok-runs.ensures.len, c.in_ok-runs.runs.ok.0))
+    (λ i d low. (c.in_ok-runs.ensures.each i d low).1.met) c.all_run.ensures

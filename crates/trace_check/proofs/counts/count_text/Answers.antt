@@ -11,7 +11,7 @@ loop-i-preserved g c k =
     let ss : List Seat = seats g.T.TraceTool.tool c.args.bus.now in
     let here = counts-next k ss c.loop-i.i c.in_ok-line.line.items (omega (arith, c.loop-i-test.true, c.in-Ok.ensures.1, c.count.ensures)) (c.in_ok-line.ensures k) in
     let others : List ℕ = flat_map (line_text k) (map seat_line (drop (c.loop-i.i + 1) ss)) in
-    ap (λ (t : List ℕ). t ++ others) (c.in_ok-put_line.ensures ∙ ap (λ (t : List ℕ). c.loop-i.text.items ++ t) c.as_slice.ensures.value)
+    ap (λ (t : List ℕ). t ++ others) (c.in_ok-extend_from_slice.ensures.items ∙ ap (λ (t : List ℕ). c.loop-i.text.items ++ t) c.as_slice.ensures.value)
     ∙ append_assoc c.loop-i.text.items c.in_ok-line.line.items others ∙ ap (λ (t : List ℕ). c.loop-i.text.items ++ t) (sym here) ∙ c.loop-i.invariant k
 
 pub returns : goal.returns

@@ -9,8 +9,8 @@ returns-in_err-queue-clause-settled c = settled-fresh c.args.first.0 c.args.cpus
 pub returns-in_err-links-clause-settled : goal.returns-in_err-links-clause-settled
 returns-in_err-links-clause-settled c = settled-fresh c.args.first.0 c.args.cpus c.args.room
 
-pub returns-in_default-clause-settled : goal.returns-in_default-clause-settled
-returns-in_default-clause-settled c = settled-fresh c.args.first.0 c.args.cpus c.args.room
+pub returns-in_err-top-clause-settled : goal.returns-in_err-top-clause-settled
+returns-in_err-top-clause-settled c = settled-fresh c.args.first.0 c.args.cpus c.args.room
 
 pub returns-clause-settled : goal.returns-clause-settled
 returns-clause-settled c = settled-fresh c.args.first.0 c.args.cpus c.args.room
@@ -20,7 +20,7 @@ invariant_of-result c =
     let queue = c.in_ok-queue.ensures in
     let links = c.in_ok-links.ensures.unlinked in (
       rw (queue, links, length-replicate),
-      rw queue (omega (arith, c.in-Ok.ensures.capacity)),
+      rw queue (omega (arith, c.in_ok-top.ensures.capacity)),
       c.in_ok-links.ensures.sound,
       rw (queue, links) (settled-fresh c.args.first.0 c.args.cpus c.args.room),
     )

@@ -67,7 +67,7 @@ loop-seat-preserved c =
     let low : c.len-place.result < length c.in_ok-cpus.cpus.items = omega (arith, last.0, here, c.len-count.ensures, c.in_ok-cpus.cpus.ok.0) in (
       c.in-Some.seat ∷ i.0,
       split,
-      put-more g c.loop-seat.all.items c.add.new.all.items i.0 c.in-Some.seat c.in_ok-seat.seat i.2 c.in_ok-add.ensures
+      put-more g c.loop-seat.all.items c.push.new.self.items i.0 c.in-Some.seat c.in_ok-seat.seat i.2 c.in_ok-push.ensures.items
           (seat-numbered c.in_ok-turn.turn.cell g c.in_ok-cpus.cpus.items c.index-cpu.result.now (length c.pop.new.self.items) c.len-place.result c.in-Some.seat c.in_ok-seat.seat c.in_ok-cpus.ensures last.1 here low c.index-cpu.ensures c.in_ok-seat.ensures),
     )
 

@@ -5,6 +5,6 @@ use Rattle.group_engine.proofs.engine.Engine.open.Goals as goal
 pub invariant_of-result : goal.invariant_of-result
 invariant_of-result c =
     let p = c.in_ok-state.ensures.played in
-    let reserved : c.args.room ≤ vec_capacity c.in-Ok.entries = omega (arith, c.in-Ok.ensures.exact) in
+    let reserved : c.args.room ≤ vec_capacity c.in_ok-entries.entries = omega (arith, c.in_ok-entries.ensures.exact) in
     let kept = c.in_ok-state.ensures.at in
-    rw c.in-Ok.ensures.items (record { sound = sound-open _ c.args.room _ _ p c.requires.room reserved c.in_ok-state.ensures.room kept; ended_is = ended-first _ })
+    rw c.in_ok-entries.ensures.items (record { sound = sound-open _ c.args.room _ _ p c.requires.room reserved c.in_ok-state.ensures.room kept; ended_is = ended-first _ })

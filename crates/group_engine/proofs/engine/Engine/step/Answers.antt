@@ -2,6 +2,8 @@ use Rattle.std.proofs.Common.{◌≡◌, ◌-◌, ◌<◌, length, ap, ◌∙◌
 use Rattle.rt_model.specs.Histories.{reply_to}
 use Rattle.rt_groups.specs.Groups.{GroupHistory, group_of, past}
 use Rattle.rt_plays.specs.Plays.{group_with}
+use Rattle.resv_laws.proofs.TableLaws.{tables_are_followed}
+use Rattle.rt_laws.proofs.SemaphoreLaws.{histories_are_made}
 use Rattle.group_engine.specs.Sound.{IsMoved}
 use Rattle.group_engine.proofs.Stepping.{can_move, has_moved, moment, of_group}
 use Rattle.group_engine.proofs.engine.Engine.step.Goals as goal
@@ -35,3 +37,6 @@ returns-clause-reply c = c.settle-settled.ensures.reply _ (moved (goal.at.return
 
 pub returns-clause-legal : goal.returns-clause-legal
 returns-clause-legal c = (c.settle-settled.ensures.sound _ (moved (goal.at.returns-clause-legal c).After-settle-settled)).legal
+
+pub returns-clause-tables : goal.returns-clause-tables
+returns-clause-tables c = tables_are_followed _ _ c.parts-parts.ensures.valid (histories_are_made _ _)

@@ -8,4 +8,4 @@ keys_in-replicate zero = refl
 keys_in-replicate (suc n) = ap (λ ks. None ∷ ks) (keys_in-replicate n)
 
 pub returns : goal.returns
-returns c = rw (c.in_ok-arena.ensures, c.in-Ok.ensures.items, keys_in-replicate)
+returns c = rw (c.in_ok-arena.ensures, c.in_ok-tasks.ensures.items, keys_in-replicate)

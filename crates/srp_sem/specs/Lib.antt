@@ -1,0 +1,4 @@
+pub mod Pairs
+pub mod SrpKept
+pub mod Listed
+pub mod IsSrp
