@@ -1,16 +1,13 @@
-use Rattle.std.proofs.Common.{subst, sym}
+use Rattle.std.proofs.Common.{◌≡◌, ◌<◌, [], length, refl, sym, ap, ◌∙◌, subst, arith}
+use Rattle.std.proofs.lemmas.List.Elements.{All-from_get_or}
 use Rattle.rt_task.specs.declared.Parts.{Parts}
+use Rattle.rt_task.specs.declared.Task.{Task}
+use Rattle.rt_model.specs.Group.{Group, no_task, tasks}
 use Rattle.rt_plays.specs.Plays.{group_with}
-use Rattle.group_engine.specs.Asking.{IsUntold}
-use Rattle.group_engine.specs.Moments.{IsPlayed}
+use Rattle.rt_groups.specs.Limits.{IsInLimits}
+use Rattle.rt_groups.proofs.SetLimits.{sets_are_in_limits}
+use Rattle.group_core.specs.Facts.{WithRoom}
+use Rattle.group_engine.specs.declared.state.GroupState.{GroupState}
+use Rattle.group_engine.proofs.Bringing.{core-brought}
+use Rattle.group_engine.proofs.Opening.{can-all, opened-at}
 use Rattle.group_engine.proofs.state.GroupState.open.Goals as goal
-
-pub with_parts-requires-clause-played : goal.with_parts-requires-clause-played
-with_parts-requires-clause-played c =
-    subst (λ (p : Parts). IsPlayed (group_with p c.args.group.0)) (sym c.parts.ensures.parts)
-    (record { valid = c.parts.ensures.valid; is_there = c.requires.group })
-
-pub with_parts-requires-clause-untold : goal.with_parts-requires-clause-untold
-with_parts-requires-clause-untold c =
-    subst (λ (p : Parts). IsUntold (group_with p c.args.group.0) c.in_ok-sems.sems) (sym c.parts.ensures.parts)
-    (record { table = c.in_ok-sems.ensures.table; ceilings = c.in_ok-sems.ensures.ceilings; waits = c.in_ok-sems.ensures.waits })
