@@ -2,7 +2,6 @@
 #![tactic(auto)]
 
 mod afresh;
-mod clients;
 mod cluster;
 mod facts;
 mod placing;
