@@ -45,6 +45,13 @@ can-list at q act p s space can roomy =
     let enough : length at.group.setup.tasks ≤ space = omega (arith, roomy, ap (λ (x : Parts). length x.tasks) can.parts_are) in
     core-can-list at.group s.core.facts _ _ can.can.kept.core_fit at.past can.can.kept.core_at can.can.kept.few p can.parts_are q act can.can.inside can.can.act_is_of space enough
 
+-- an act was answered so, and made the facts these
+pub record IsAnswered (at : Moment) (q : ℕ) (act : Act) (s : GroupState) (reply : Reply) (x : WithRoom) : Type 0 where
+  pub link : Option ℕ
+  pub link_is : link ≡ linked at.group q at.past
+  pub reply_is : reply ≡ reply_in at.group.setup q link act s.core.facts
+  pub facts_are : x.facts ≡ acted at.group.setup q act reply s.core.facts
+
 module _ (at : Moment) (q : ℕ) (act : Act) (s : GroupState) (can : CanAct at q act s) where
   abbrev g : Group
   g = at.group
@@ -76,7 +83,7 @@ module _ (at : Moment) (q : ℕ) (act : Act) (s : GroupState) (can : CanAct at q
   core-may-act = may_act g f left left can.kept.core_fit past can.kept.core_at q act of can.act_is_of
 
   -- ---- answered so, with these facts after it
-  module _ (link : Option ℕ) (same : link ≡ linked g q past) (reply : Reply) (reply_is : reply ≡ reply_in g.setup q link act f) (x : WithRoom) (acted_is : x.facts ≡ acted g.setup q act reply f) where
+  module _ (reply : Reply) (x : WithRoom) (told : IsAnswered at q act s reply x) where
     abbrev event : Event
     event = Acted (past_act g q act past)
 
@@ -87,32 +94,32 @@ module _ (at : Moment) (q : ℕ) (act : Act) (s : GroupState) (can : CanAct at q
     us = looked_in g.setup q act reply f
 
     pub told-is : reply ≡ answer g q act past
-    told-is = reply_is ∙ reply-is g f left left can.kept.core_fit past can.kept.core_at q act of can.act_is_of link same
+    told-is = told.reply_is ∙ reply-is g f left left can.kept.core_fit past can.kept.core_at q act of can.act_is_of told.link told.link_is
 
     pub ended-told : ended_now g.setup q act reply f ≡ ended_in g (past_act g q act past) past
-    ended-told = ap (λ (r : Reply). ended_now g.setup q act r f) reply_is ∙ ended-is g f left left can.kept.core_fit past can.kept.core_at q act of can.act_is_of link same
+    ended-told = ap (λ (r : Reply). ended_now g.setup q act r f) told.reply_is ∙ ended-is g f left left can.kept.core_fit past can.kept.core_at q act of can.act_is_of told.link told.link_is
 
-    facts-are : x.facts ≡ acted g.setup q act (reply_in g.setup q link act f) f
-    facts-are = acted_is ∙ ap (λ (r : Reply). acted g.setup q act r f) reply_is
+    facts-are : x.facts ≡ acted g.setup q act (reply_in g.setup q told.link act f) f
+    facts-are = told.facts_are ∙ ap (λ (r : Reply). acted g.setup q act r f) told.reply_is
 
     moved : core.IsMoved g event past f.resvs x.facts
-    moved = subst (core.IsMoved g event past f.resvs) (sym facts-are) (at-acted g f left left can.kept.core_fit past can.kept.core_at q act of can.act_is_of link same)
+    moved = subst (core.IsMoved g event past f.resvs) (sym facts-are) (at-acted g f left left can.kept.core_fit past can.kept.core_at q act of can.act_is_of told.link told.link_is)
 
     fit : IsFitAt g past' x.facts
     fit =
         let less : left - 1 ≡ acts_left past' = let few = can.few in omega (arith, few) in
         let few : left ≤ acts_left past' + 1 = omega (arith, less) in
-        let all = fit-acted g f left left can.kept.core_fit past can.kept.core_at q act of can.act_is_of link same (acts_left past') some few in
+        let all = fit-acted g f left left can.kept.core_fit past can.kept.core_at q act of can.act_is_of told.link told.link_is (acts_left past') some few in
         subst (λ n. core.IsFit g x.facts (acts_left past') n) less (subst (λ (y : Facts). core.IsFit g y (acts_left past') (left - 1)) (sym facts-are) all)
 
     runs-now : (cpu_of x.facts.kept q).runs ≡ runs q past'
     runs-now = ap (λ (c : CpuFacts). c.runs) (moved.kept.cpus_are q can.inside)
 
     inside : (u : ℕ) → has u us ≡ true → has u (tasks g) ≡ true
-    inside u h = looked-are g f left left can.kept.core_fit past can.kept.core_at q act of can.act_is_of link same u (rw (← reply_is) h)
+    inside u h = looked-are g f left left can.kept.core_fit past can.kept.core_at q act of can.act_is_of told.link told.link_is u (subst (λ (r : Reply). has u (looked_in g.setup q act r f) ≡ true) told.reply_is h)
 
     others : (u : ℕ) → has u us ≡ false → LooksSame g u past past'
-    others u h = others-look g f left left can.kept.core_fit past can.kept.core_at q act of can.act_is_of link same u (rw (← reply_is) h)
+    others u h = others-look g f left left can.kept.core_fit past can.kept.core_at q act of can.act_is_of told.link told.link_is u (subst (λ (r : Reply). has u (looked_in g.setup q act r f) ≡ false) told.reply_is h)
 
     -- ---- the clusters follow what the processor runs, and the tasks are looked at
 
