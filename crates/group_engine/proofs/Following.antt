@@ -1,5 +1,5 @@
 -- The clusters follow what an act makes its processor run.
-use Rattle.std.proofs.Common.{◌≡◌, ℕ, Bool, true, false, ◌||◌, ◌∷◌, refl, sym, ap, ◌∙◌, subst}
+use Rattle.std.proofs.Common.{◌≡◌, ℕ, Bool, true, false, not, ◌||◌, ◌&&◌, ◌∷◌, refl, sym, ap, ◌∙◌, subst}
 use Rattle.std.specs.Prelude.{Option, None, Some, if◌then◌else◌, is_some, slice_index}
 use Rattle.rt_base.specs.declared.TaskNo.{TaskNo}
 use Rattle.rt_task.specs.declared.Act.{Act}
@@ -8,15 +8,18 @@ use Rattle.rt_task.specs.declared.Kind.{Kind}
 use Rattle.rt_task.specs.declared.Kind.TheVariants.{Periodic, Sporadic}
 use Rattle.rt_task.specs.declared.Op.{Op}
 use Rattle.rt_task.specs.declared.Op.TheVariants as ops
+use Rattle.rt_task.specs.RuleWords.{is_stacked}
 use Rattle.rt_task.specs.Validity.{IsValid}
 use Rattle.rt_history.specs.declared.Reply.{Reply}
 use Rattle.rt_history.specs.declared.Reply.TheVariants as replies
-use Rattle.rt_rules.specs.Numbers.{has}
-use Rattle.rt_model.specs.Answers.{answer, arrival_answer, do_answer, lock_answer, op_answer, unless_holding, unlock_answer, work_answer}
-use Rattle.rt_model.specs.Group.{Group, cluster_with, clusters}
+use Rattle.rt_rules.specs.Numbers.{has, is, is_empty, same}
+use Rattle.rt_model.specs.Answers.{answer, arrival_answer, do_answer, is_granted, last_work, lock_answer, nests, no_budget, op_answer, unless_holding, unlock_answer, work_answer}
+use Rattle.rt_model.specs.Group.{Group, cluster_with, clusters, declares, protocol}
+use Rattle.rt_model.specs.Holders.{holder, holds, last_granted}
 use Rattle.rt_model.specs.Links.{linked}
+use Rattle.rt_model.specs.NonPreemptive.{non_preemptive}
 use Rattle.rt_model.specs.Outcomes.{past_act}
-use Rattle.rt_model.specs.Past.{Acted, Past, accepted}
+use Rattle.rt_model.specs.Past.{Acted, Past, accepted, now}
 use Rattle.rt_model.specs.Reachable.{IsReachable}
 use Rattle.rt_model.specs.Runs.{leaves, runs, runs_by}
 use Rattle.rt_model.specs.Steps.{IsActOf}
@@ -49,30 +52,40 @@ keeps-if : (b : Bool) (r r' : Reply) → Keeps r → Keeps r' → Keeps (if b th
 keeps-if true r r' h k = h
 keeps-if false r r' h k = k
 
+keeps-two : (a b : Bool) (x y z : Reply) → Keeps x → Keeps y → Keeps z → Keeps (if a then x else (if b then y else z))
+keeps-two a b x y z h k l = keeps-if a x (if b then y else z) h (keeps-if b y z k l)
+
 keeps-rest : (g : Group) (t : ℕ) (np : Bool) (past : Past) → Keeps (if np then replies.InNp else unless_holding g t past)
 unfolding unless_holding
-keeps-rest g t np past = keeps-if np replies.InNp _ (λ o. refl) (keeps-if _ replies.Done replies.Holding (λ o. refl) (λ o. refl))
+keeps-rest g t np past = keeps-two np (is_empty (holds g t past)) replies.InNp replies.Done replies.Holding (λ o. refl) (λ o. refl) (λ o. refl)
+
+keeps-lock : (g : Group) (s t : ℕ) (np : Bool) (past : Past) → Keeps (if np then replies.InNp else lock_answer g s t past)
+unfolding lock_answer
+keeps-lock g s t np past =
+    let granted : Reply = if is_granted g (protocol g s) s t past then replies.Granted else replies.Queued in
+    let nested : Bool = nests g (protocol g s) s t past in
+    keeps-two np (not (declares g t s)) replies.InNp replies.NotDeclared (if nested then replies.Nested else granted) (λ o. refl) (λ o. refl)
+    (keeps-two nested (is_granted g (protocol g s) s t past) replies.Nested replies.Granted replies.Queued (λ o. refl) (λ o. refl) (λ o. refl))
 
 op-keeps : (g : Group) (op : Op) (q t : ℕ) (np : Bool) (past : Past) → Keeps (op_answer g op q t np past)
-unfolding op_answer work_answer lock_answer unlock_answer
-op-keeps g ops.Work q t np past = keeps-if _ replies.Spent _ (λ o. refl) (keeps-if _ replies.NoBudget replies.Done (λ o. refl) (λ o. refl))
-op-keeps g (ops.Lock s) q t np past =
-    keeps-if np replies.InNp _ (λ o. refl) (keeps-if _ replies.NotDeclared _ (λ o. refl)
-    (keeps-if _ replies.Nested _ (λ o. refl) (keeps-if _ replies.Granted replies.Queued (λ o. refl) (λ o. refl))))
-op-keeps g (ops.Unlock s) q t np past = keeps-if _ replies.NotHeld _ (λ o. refl) (keeps-if _ replies.NotLast replies.Done (λ o. refl) (λ o. refl))
+unfolding op_answer work_answer unlock_answer
+op-keeps g ops.Work q t np past =
+    keeps-two (same (last_work q past) (Some (now past))) (no_budget g g.setup.plugin t past) replies.Spent replies.NoBudget replies.Done (λ o. refl) (λ o. refl) (λ o. refl)
+op-keeps g (ops.Lock s) q t np past = keeps-lock g s.0 t np past
+op-keeps g (ops.Unlock s) q t np past =
+    keeps-two (not (is t (holder g s.0 past))) (is_stacked (protocol g s.0) && not (is s.0 (last_granted g t past))) replies.NotHeld replies.NotLast replies.Done (λ o. refl) (λ o. refl) (λ o. refl)
 op-keeps g (ops.Sleep n) q t np past = keeps-rest g t np past
 op-keeps g ops.NpOn q t np past = keeps-if np replies.InNp replies.Done (λ o. refl) (λ o. refl)
 op-keeps g ops.NpOff q t np past = keeps-if np replies.Done replies.NotInNp (λ o. refl) (λ o. refl)
 op-keeps g ops.End q t np past = keeps-rest g t np past
 
 do-keeps : (g : Group) (op : Op) (q : ℕ) (past : Past) → Keeps (answer g q (acts.Do op) past)
-unfolding answer
+unfolding answer do_answer
 do-keeps g op q past = by_run (runs q past)
   where
     by_run : (o : Option ℕ) → Keeps (do_answer g op q o past)
-    unfolding do_answer
     by_run None = λ o. refl
-    by_run (Some t) = op-keeps g op q t _ past
+    by_run (Some t) = op-keeps g op q t (non_preemptive t past) past
 
 -- ---- what a processor runs after an act of it
 

@@ -267,14 +267,14 @@ module _ (g : Group) (played : IsPlayed g) (past : Past) (s : GroupState) (endin
   abbrev settled_state : GroupState
   settled_state = record s { core = z }
 
-  abbrev w : GroupResvs
-  w = z.facts.resvs
+  abbrev settled_resvs : GroupResvs
+  settled_resvs = z.facts.resvs
 
   ended-core : HaveEnded g past ending.before z.facts
   ended-core = ending.core_ends z.facts kept sems settled
 
   -- what putting the changed clients where they stand rests on
-  pub can-offer : CanOfferAll g.setup w.changed settled_state
+  pub can-offer : CanOfferAll g.setup settled_resvs.changed settled_state
   can-offer t k =
       let h : has t (tasks g) ≡ true = ended-core.changed.inside t k in
       let fit = ended-core.fit in
@@ -287,31 +287,31 @@ module _ (g : Group) (played : IsPlayed g) (past : Past) (s : GroupState) (endin
         at_home = at-home-in g played.valid t h s there;
       }
 
-  cluster-ended : (c : ℕ) → HasClusterEnding g c past ending.before s.clusters → HasClusterAt g c past (placed_all (all_offered g.setup w.changed settled_state)).clusters
+  cluster-ended : (c : ℕ) → HasClusterEnding g c past ending.before s.clusters → HasClusterAt g c past (placed_all (all_offered g.setup settled_resvs.changed settled_state)).clusters
   cluster-ended c was =
       let k : KeptCluster = was.cluster in
       let key : ℕ → Key = λ u. effective_key g u past in
-      let test : ℕ → Bool = λ u. stands g u past && is_served w u in
-      let keys : List (Option Key) = set_refreshed key test (of_cluster g c w.changed) k.keys in
-      let keys_same = keys-refreshed g c z.facts.kept z.facts.sems (is_served w) key test w.changed k.keys
+      let test : ℕ → Bool = λ u. stands g u past && is_served settled_resvs u in
+      let keys : List (Option Key) = set_refreshed key test (of_cluster g c settled_resvs.changed) k.keys in
+      let keys_same = keys-refreshed g c z.facts.kept z.facts.sems (is_served settled_resvs) key test settled_resvs.changed k.keys
       (λ u h. let m : has u (tasks g) ≡ true = ended-core.changed.inside u h in
-      (m, key-kept g past z.facts ended-core.at.reachable ended-core.at.kept ended-core.at.sems_are played (is_served w) u m)) in
+      (m, key-kept g past z.facts ended-core.at.reachable ended-core.at.kept ended-core.at.sems_are played (is_served settled_resvs) u m)) in
       let next : KeptCluster = record k { keys = keys } in
-      let offered_row : cluster_at (all_offered g.setup w.changed settled_state).clusters c ≡ Some next = cluster-offered g.setup w.changed settled_state c k was.there ∙ ap (λ ks. let x : KeptCluster = record k { keys = ks } in Some x) keys_same in
-      let agree : AgreeBut (of_cluster g c w.changed) (tasks_of g c) key key (λ u. stands g u past && is_served ending.before u) test = record {
-        inside = of_cluster-inside g c w.changed;
-        tests = λ t h m. ap (λ b. stands g t past && b) (sym (ended-core.changed.others t (tasks_of-home g c t h).0 (of_cluster-outside g c w.changed t h m)));
+      let offered_row : cluster_at (all_offered g.setup settled_resvs.changed settled_state).clusters c ≡ Some next = cluster-offered g.setup settled_resvs.changed settled_state c k was.there ∙ ap (λ ks. let x : KeptCluster = record k { keys = ks } in Some x) keys_same in
+      let agree : AgreeBut (of_cluster g c settled_resvs.changed) (tasks_of g c) key key (λ u. stands g u past && is_served ending.before u) test = record {
+        inside = of_cluster-inside g c settled_resvs.changed;
+        tests = λ t h m. ap (λ b. stands g t past && b) (sym (ended-core.changed.others t (tasks_of-home g c t h).0 (of_cluster-outside g c settled_resvs.changed t h m)));
         keys = λ t h m x. refl;
       } in
-      let stand : HoldsStanding g c past w keys = set_is_refreshed (of_cluster g c w.changed) (tasks_of g c) key key (λ u. stands g u past && is_served ending.before u) test k.keys agree was.is_ending.keys_are in
-      let holds : HoldsEligible g c past keys = holds-same (tasks_of g c) key test (λ u. eligible g u past) keys (λ t h. sym (eligible-served g played past w ended-core.at.resvs_are t (tasks_of-home g c t h).0)) stand in
+      let stand : HoldsStanding g c past settled_resvs keys = set_is_refreshed (of_cluster g c settled_resvs.changed) (tasks_of g c) key key (λ u. stands g u past && is_served ending.before u) test k.keys agree was.is_ending.keys_are in
+      let holds : HoldsEligible g c past keys = holds-same (tasks_of g c) key test (λ u. eligible g u past) keys (λ t h. sym (eligible-served g played past settled_resvs ended-core.at.resvs_are t (tasks_of-home g c t h).0)) stand in
       record {
         cluster = relinked next;
-        there = at-relinked (all_offered g.setup w.changed settled_state).clusters c ∙ ap (option_map relinked) offered_row;
+        there = at-relinked (all_offered g.setup settled_resvs.changed settled_state).clusters c ∙ ap (option_map relinked) offered_row;
         is_at = record {
           cpus_are = was.is_ending.cpus_are;
           first_is = was.is_ending.first_is;
-          room = length-refreshed key test (of_cluster g c w.changed) k.keys ∙ was.is_ending.room;
+          room = length-refreshed key test (of_cluster g c settled_resvs.changed) k.keys ∙ was.is_ending.room;
           keys_are = holds;
           runs_are = was.is_ending.runs_are;
           links_are =
@@ -321,9 +321,9 @@ module _ (g : Group) (played : IsPlayed g) (past : Past) (s : GroupState) (endin
       }
 
   -- once the changed clients are where they stand, and the links placed
-  pub ended : IsAt g past (placed_all (all_offered g.setup w.changed settled_state))
+  pub ended : IsAt g past (placed_all (all_offered g.setup settled_resvs.changed settled_state))
   ended =
-      let only : OnlyClusters settled_state (all_offered g.setup w.changed settled_state) = others-offered g.setup w.changed settled_state in
+      let only : OnlyClusters settled_state (all_offered g.setup settled_resvs.changed settled_state) = others-offered g.setup settled_resvs.changed settled_state in
       record {
         few = ending.few;
         core_at = rw only.core_same ended-core.at;

@@ -49,40 +49,43 @@ pub bring_up_looked-requires : goal.bring_up_looked-requires
 bring_up_looked-requires c =
     let at : Moment = c.requires.at.0 in
     let on = c.requires.at.1 in
-    let then = (goal.at.bring_up_looked-requires c).After-act-answer in
+    let done = (goal.at.bring_up_looked-requires c).After-act-answer in
     let s1 : GroupState = record c.args.self.now { core = c.act-answer.new.self } in
-    let can = can-looks at c.args.cpu.0 c.args.act c.args.self.now on.can c.act-answer.result.reply c.act-answer.new.self (answered then at on) in
+    let can = can-looks at c.args.cpu.0 c.args.act c.args.self.now on.can c.act-answer.result.reply c.act-answer.new.self (answered done at on) in
     rw (c.follow_run.ensures, on.parts_are)
-    (subst (λ us. CanBringUpAll at.group.setup us (followed c.args.cpu.0 c.args.act c.act-answer.result.reply s1)) (sym (looks-are then at on)) can)
+    (subst (λ us. CanBringUpAll at.group.setup us (followed c.args.cpu.0 c.args.act c.act-answer.result.reply s1)) (sym (looks-are done at on)) can)
 
 -- the move is to be ended
 ending : (c : After-bring_up_looked) (at : Moment) → CanActOn at c.args.cpu.0 c.args.act c.args.parts.now c.args.self.now
+    → IsAnswered at c.args.cpu.0 c.args.act c.args.self.now c.act-answer.result.reply c.act-answer.new.self
+    → looked c.act-answer.result.looks ≡ looked_in at.group.setup c.args.cpu.0 c.args.act c.act-answer.result.reply c.args.self.now.core.facts
     → IsEnding at.group (Acted (past_act at.group c.args.cpu.0 c.args.act at.past) ∷ at.past) c.bring_up_looked.new.self
-ending c at on =
+ending c at on told looks =
     let s1 : GroupState = record c.args.self.now { core = c.act-answer.new.self } in
-    let all = ending-act at c.args.cpu.0 c.args.act c.args.self.now on.can c.act-answer.result.reply c.act-answer.new.self (answered c.After-act-answer at on) in
+    let past = Acted (past_act at.group c.args.cpu.0 c.args.act at.past) ∷ at.past in
     rw (c.bring_up_looked.ensures, c.follow_run.ensures, on.parts_are)
-    (subst (λ us. IsEnding at.group (Acted (past_act at.group c.args.cpu.0 c.args.act at.past) ∷ at.past) (all_brought_up at.group.setup us (followed c.args.cpu.0 c.args.act c.act-answer.result.reply s1)))
-    (sym (looks-are c.After-act-answer at on)) all)
+    (subst (λ us. IsEnding at.group past (all_brought_up at.group.setup us (followed c.args.cpu.0 c.args.act c.act-answer.result.reply s1))) (sym looks)
+    (ending-act at c.args.cpu.0 c.args.act c.args.self.now on.can c.act-answer.result.reply c.act-answer.new.self told))
 
 pub end_move-requires : goal.end_move-requires
 end_move-requires c =
     let at : Moment = c.requires.at.0 in
-    let on = c.requires.at.1 in (
+    let on = c.requires.at.1 in
+    let done = (goal.at.end_move-requires c).After-act-answer in (
       record { group = at.group; past = Acted (past_act at.group c.args.cpu.0 c.args.act at.past) ∷ at.past },
-      record { played = on.can.played; ending = ending (goal.at.end_move-requires c).After-bring_up_looked at on; parts_are = on.parts_are },
+      record { played = on.can.played; ending = ending (goal.at.end_move-requires c).After-bring_up_looked at on (answered done at on) (looks-are done at on); parts_are = on.parts_are },
     )
 
 pub returns-clause-acted : goal.returns-clause-acted
 returns-clause-acted c = λ at on.
-    let then = (goal.at.returns-clause-acted c).After-act-answer in
+    let done = (goal.at.returns-clause-acted c).After-act-answer in
     record {
-      reply_is = told-is at c.args.cpu.0 c.args.act c.args.self.now on.can c.act-answer.result.reply c.act-answer.new.self (answered then at on);
+      reply_is = told-is at c.args.cpu.0 c.args.act c.args.self.now on.can c.act-answer.result.reply c.act-answer.new.self (answered done at on);
       ended_is =
           (rw on.parts_are at c.act-answer.ensures.ended)
-          ∙ ended-told at c.args.cpu.0 c.args.act c.args.self.now on.can c.act-answer.result.reply c.act-answer.new.self (answered then at on);
+          ∙ ended-told at c.args.cpu.0 c.args.act c.args.self.now on.can c.act-answer.result.reply c.act-answer.new.self (answered done at on);
       kept = c.end_move.ensures.at (record { group = at.group; past = Acted (past_act at.group c.args.cpu.0 c.args.act at.past) ∷ at.past })
-          (record { played = on.can.played; ending = ending (goal.at.returns-clause-acted c).After-bring_up_looked at on; parts_are = on.parts_are });
+          (record { played = on.can.played; ending = ending (goal.at.returns-clause-acted c).After-bring_up_looked at on (answered done at on) (looks-are done at on); parts_are = on.parts_are });
     }
 
 pub returns-clause-room : goal.returns-clause-room

@@ -26,22 +26,23 @@ bring_up_any-requires-2 c =
     (after-one (goal.at.bring_up_any-requires-2 c).After-bring_up_any)
 
 after-two : (c : After-bring_up_any-2)
+    → CanBringUpAll c.args.parts.now (tasks_in (number_of_task c.args.looks.before ∷ number_of_task c.args.looks.after ∷ number_of_task c.args.looks.served ∷ [])) c.bring_up_any.new.self
     → CanBringUpAll c.args.parts.now (tasks_in (number_of_task c.args.looks.after ∷ number_of_task c.args.looks.served ∷ [])) c.bring_up_any-2.new.self
-after-two c =
+after-two c can =
     let l = c.args.looks in
     rw c.bring_up_any-2.ensures
-    (can-rest c.args.parts.now (number_of_task l.before) (number_of_task l.after ∷ number_of_task l.served ∷ []) c.bring_up_any.new.self (after-one c.After-bring_up_any))
+    (can-rest c.args.parts.now (number_of_task l.before) (number_of_task l.after ∷ number_of_task l.served ∷ []) c.bring_up_any.new.self can)
 
 pub bring_up_any-requires-3 : goal.bring_up_any-requires-3
 bring_up_any-requires-3 c =
     let l = c.args.looks in
-    can-first c.args.parts.now (number_of_task l.after) (number_of_task l.served ∷ []) c.bring_up_any-2.new.self (after-two (goal.at.bring_up_any-requires-3 c).After-bring_up_any-2)
+    can-first c.args.parts.now (number_of_task l.after) (number_of_task l.served ∷ []) c.bring_up_any-2.new.self (after-two (goal.at.bring_up_any-requires-3 c).After-bring_up_any-2 (after-one (goal.at.bring_up_any-requires-3 c).After-bring_up_any))
 
 pub bring_up_any-requires-4 : goal.bring_up_any-requires-4
 bring_up_any-requires-4 c =
     let l = c.args.looks in
     rw c.bring_up_any-3.ensures
-    (can-rest c.args.parts.now (number_of_task l.after) (number_of_task l.served ∷ []) c.bring_up_any-2.new.self (after-two (goal.at.bring_up_any-requires-4 c).After-bring_up_any-2))
+    (can-rest c.args.parts.now (number_of_task l.after) (number_of_task l.served ∷ []) c.bring_up_any-2.new.self (after-two (goal.at.bring_up_any-requires-4 c).After-bring_up_any-2 (after-one (goal.at.bring_up_any-requires-4 c).After-bring_up_any)))
 
 pub returns : goal.returns
 returns c =

@@ -22,16 +22,16 @@ few : (c : After-as_slice) → length c.as_slice.result.now ≡ length c.args.se
 few c = ap length c.as_slice.ensures ∙ ap (λ (p : Parts). length p.tasks) c.parts-parts.ensures.parts
 
 pub overflow_cast-count : goal.overflow_cast-count
-overflow_cast-count c = let then = (goal.at.overflow_cast-count c).After-as_slice in omega (arith, (limits then).few_tasks, few then)
+overflow_cast-count c = let done = (goal.at.overflow_cast-count c).After-as_slice in omega (arith, (limits done).few_tasks, few done)
 
 pub open-requires : goal.open-requires
 open-requires c = limits (goal.at.open-requires c).After-as_slice
 
 pub overflow_add-count : goal.overflow_add-count
-overflow_add-count c = let then = (goal.at.overflow_add-count c).After-as_slice in omega (arith, (limits then).few_tasks, few then)
+overflow_add-count c = let done = (goal.at.overflow_add-count c).After-as_slice in omega (arith, (limits done).few_tasks, few done)
 
 pub overflow_add-count-2 : goal.overflow_add-count-2
-overflow_add-count-2 c = let then = (goal.at.overflow_add-count-2 c).After-as_slice in omega (arith, (limits then).few_tasks, few then)
+overflow_add-count-2 c = let done = (goal.at.overflow_add-count-2 c).After-as_slice in omega (arith, (limits done).few_tasks, few done)
 
 pub open-requires-2-clause-few : goal.open-requires-2-clause-few
 open-requires-2-clause-few c = rw (c.as_slice-2.ensures, c.parts-parts.ensures.parts) (limits (goal.at.open-requires-2-clause-few c).After-as_slice).few_clusters
