@@ -1,8 +1,6 @@
 -- The state after an act: what its calls rest on, and where it leads once the tasks that it touched are looked at.
-use Rattle.std.proofs.Common.{◌≡◌, ℕ, ◌+◌, ◌-◌, ◌<◌, ◌≤◌, true, false, List, ◌∷◌, length, refl, sym, ap, ◌∙◌, subst, arith}
+use Rattle.std.proofs.Common.{◌≡◌, ℕ, ◌+◌, ◌-◌, ◌<◌, ◌≤◌, true, false, List, length, sym, ap, ◌∙◌, subst, arith}
 use Rattle.std.specs.Prelude.{Option}
-use Rattle.rt_base.specs.declared.TaskNo.{TaskNo}
-use Rattle.rt_base.specs.declared.TheConstants.{MOST_STEPS}
 use Rattle.rt_task.specs.declared.Act.{Act}
 use Rattle.rt_task.specs.declared.Parts.{Parts}
 use Rattle.rt_history.specs.declared.Reply.{Reply}
@@ -17,7 +15,7 @@ use Rattle.rt_groups.specs.Endings.{ended_in}
 use Rattle.group_facts.specs.Facts.{CpuFacts}
 use Rattle.group_facts.specs.FactMoves.{with_act}
 use Rattle.group_facts.specs.Kept.{IsOfGroup, cpu_of}
-use Rattle.group_facts.specs.Timers.{TimersAreKept, renewed, timer_at}
+use Rattle.group_facts.specs.Timers.{timer_at}
 use Rattle.group_facts.proofs.TimerSets.{timers_are_renewed}
 use Rattle.waiting_list.specs.Listing.{CanList, Moment}
 use Rattle.group_core.specs.Facts.{Facts, IsPlainAct, MayAct, WithRoom, acted, ended_now, looked_in, reply_in}

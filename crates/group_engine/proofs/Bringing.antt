@@ -20,7 +20,7 @@ use Rattle.cluster_table.proofs.RowLaws.{at-changed, at-changed_other}
 use Rattle.group_sems.specs.GroupSems.{GroupSems}
 use Rattle.group_engine.specs.declared.state.GroupState.{GroupState}
 use Rattle.group_resvs.specs.GroupResvs.{GroupResvs, is_served, is_served_by}
-use Rattle.resv_core.specs.Served.{Served, ServerState}
+use Rattle.resv_core.specs.Served.{ServerState}
 use Rattle.resv_laws.specs.Kept.{told_now}
 use Rattle.resv_laws.specs.Serving.{for_task, told_each}
 use Rattle.resv_laws.proofs.ServingLaws.{for_task-keeps}

@@ -1,8 +1,7 @@
 -- The clusters after an interrupt that is accepted.
-use Rattle.std.proofs.Common.{◌≡◌, ℕ, Bool, true, false, not, ◌&&◌, ◌∷◌, refl, sym, ap, ◌∙◌, subst}
+use Rattle.std.proofs.Common.{◌≡◌, ℕ, Bool, true, false, not, ◌&&◌, refl, sym, ap, ◌∙◌}
 use Rattle.std.specs.Prelude.{Option, None, Some, if◌then◌else◌, is_some}
 use Rattle.rt_task.specs.declared.Act.TheVariants as acts
-use Rattle.rt_history.specs.declared.Reply.{Reply}
 use Rattle.rt_history.specs.declared.Reply.TheVariants as replies
 use Rattle.rt_rules.specs.Numbers.{has, same}
 use Rattle.rt_model.specs.Answers.{answer}
@@ -20,7 +19,7 @@ use Rattle.group_facts.specs.Replies.{irq_reply, run_reply}
 use Rattle.group_facts.proofs.CpuSteps.{cpu_is_counted}
 use Rattle.group_facts.proofs.JobSteps.{others_count_nothing}
 use Rattle.cluster_table.specs.Clusters.{KeptCluster, after_take}
-use Rattle.cluster_table.specs.Table.{changed_at, cluster_at}
+use Rattle.cluster_table.specs.Table.{changed_at}
 use Rattle.group_engine.specs.declared.state.GroupState.{GroupState}
 use Rattle.group_engine.specs.State.{IsAt, IsClusterAt}
 use Rattle.group_engine.proofs.Running.{between-run, link-read, runs-read}
