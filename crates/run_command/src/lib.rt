@@ -2,11 +2,11 @@
 //! printing the trace.
 #![tactic(auto)]
 
+mod dispatch;
 mod play_set;
-mod run;
 mod words;
 
-pub use run::run;
+pub use dispatch::run;
 
 /// The words that are a command, as they are said.
 pub const USAGE: &str = "usage: rtrun run";

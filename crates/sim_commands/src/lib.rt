@@ -3,18 +3,18 @@
 #![tactic(auto)]
 
 mod check;
+mod dispatch;
 mod groups;
 mod load;
 mod play;
 mod play_set;
-mod sim;
 mod trace_input;
 mod turns;
 mod upgrade;
 mod verdict_line;
 mod words;
 
-pub use sim::sim;
+pub use dispatch::sim;
 
 /// The words that are commands, as they are said.
 pub const USAGE: &str = "usage: rtsim sim, rtsim check, rtsim load N, rtsim upgrade";

@@ -43,14 +43,15 @@ impl<T: TraceTool> Place<T> {
     fn settle(&mut self)
         ensures { seat T.tool self.new ≡ settled (seat T.tool self.old) }
     {
-        if let Some(tool) = self.tool.take() {
-            if tool.ended() {
-                self.name = tool.name();
-                self.count = put_totals(&tool, &mut self.totals);
-            } else {
-                self.tool = Some(tool);
-            }
+        let Some(tool) = &self.tool else {
+            return;
+        };
+        if !tool.ended() {
+            return;
         }
+        self.name = tool.name();
+        self.count = put_totals(tool, &mut self.totals);
+        self.tool = None;
     }
 
     fn pass_on(&mut self, e: &Shown)

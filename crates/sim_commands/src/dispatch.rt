@@ -25,8 +25,8 @@ use trace_tools::TraceTool;
 /// format 2, with the count lines of the tools behind the line `end`. `check` reads a trace of either format, and writes one line:
 /// `valid` with the number of its entries, or `invalid` with the number of the first line that is wrong. `upgrade` reads a trace of
 /// either format too, and where it is valid writes the text in format 2 of its set and histories, with the count lines of the tools.
-/// `load` with a number reads nothing, plays the set that is generated for the number, and writes what its histories come to and the tools' count
-/// lines.
+/// `load` with a number reads nothing, plays the set that is generated for the number, and writes what its histories come to and
+/// the tools' count lines.
 ///
 /// Nothing is written before all input was read, nor where it is refused.
 pub fn sim<S: Source, K: Sink, T: TraceTool>(

@@ -2,7 +2,7 @@ use Rattle.std.proofs.Common.{map, subst}
 use Rattle.set_input.specs.Ends.{writing}
 use Rattle.sim_commands.specs.LoadAnswers.{LoadAnswers}
 use Rattle.sim_commands.proofs.LoadLaws.{one_number}
-use Rattle.sim_commands.proofs.sim.sim.Goals as goal
+use Rattle.sim_commands.proofs.dispatch.sim.Goals as goal
 
 pub returns-in-Some-clause-load : goal.returns-in-Some-clause-load
 returns-in-Some-clause-load g c m is =
