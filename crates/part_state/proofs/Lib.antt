@@ -1,0 +1,5 @@
+pub mod KeptLaws
+pub mod Linking
+pub mod ReadLaws
+pub mod ReplyLaws
+pub mod CanReadLaws
