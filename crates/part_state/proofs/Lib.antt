@@ -3,3 +3,4 @@ pub mod Linking
 pub mod ReadLaws
 pub mod ReplyLaws
 pub mod CanReadLaws
+pub mod EntryLaws

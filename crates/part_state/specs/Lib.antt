@@ -5,3 +5,4 @@ pub mod Reads
 pub mod Reading
 pub mod Uses
 pub mod Replies
+pub mod Entries

@@ -2,6 +2,7 @@
 //! holds and waits for.
 #![tactic(auto)]
 
+ghost use Rattle.part_state.specs.Entries.{HeldIsKnown, KeptAfterEntry};
 ghost use Rattle.part_state.specs.Keeping.{KeptAfterAct, KeptAfterClock, KeptAfterTake, KeptAtOpening};
 ghost use Rattle.part_state.specs.Reading.{CanBeRead, LinkIsRead, TasksAreRead};
 ghost use Rattle.part_state.specs.Replies.{ReplyIsRead};
@@ -53,4 +54,14 @@ pub fn reply_is_read()
 /// Of each task of the group all can be read, within the limits of steps and of ticks.
 pub fn can_be_read()
     ensures { CanBeRead }
+{}
+
+/// What is kept after an entry of a legal history is of the past with that entry.
+pub fn kept_after_entry()
+    ensures { KeptAfterEntry }
+{}
+
+/// What is held in a legal history are semaphores of the set.
+pub fn held_is_known()
+    ensures { HeldIsKnown }
 {}
