@@ -12,7 +12,7 @@ use Rattle.rt_rules.specs.Numbers.{has}
 use Rattle.rt_rules.proofs.BoolLaws.{clash}
 use Rattle.rt_rules.proofs.MemberLaws.{equal_self}
 use Rattle.rt_model.specs.Group.{Group, tasks}
-use Rattle.rt_model.specs.Past.{Acted, Clock, now}
+use Rattle.rt_model.specs.Past.{Acted, Clock, accepted, now}
 use Rattle.rt_model.specs.Runs.{runs}
 use Rattle.group_facts.specs.Kept.{cpu_of}
 use Rattle.group_facts.proofs.KeptMoves.{length-replicated, replicated, task-range}
@@ -21,8 +21,8 @@ use Rattle.split_rules.specs.PartAnswers.{part_act}
 use Rattle.split_rules.specs.PartPast.{Asks, Deed, Frees, Gets, Moved, PartEvent, PartPast, TaskDeed, Took, deed_in, deed_of, moves}
 use Rattle.split_rules.specs.PartSems.{awaited_after, awaited_by, awaiting, begins, begins_to_hold, held_after, held_by, held_since, holding}
 use Rattle.split_facts.proofs.PartSteps.{part_kept_after_act, part_kept_after_clock}
-use Rattle.part_state.specs.Keeping.{KeptAfterAct, KeptAfterClock, KeptAfterTake, KeptAtOpening}
-use Rattle.part_state.specs.States.{IsLockAt, PartState, after_deed, lock_after, lock_in, lock_of, locks_after, no_lock, sem_number}
+use Rattle.part_state.specs.Keeping.{KeptAfterAct, KeptAfterClock, KeptAfterTake, KeptAtOpening, StateStays}
+use Rattle.part_state.specs.States.{IsLockAt, PartState, after_deed, lock_after, lock_in, lock_of, locks_after, no_lock, sem_number, after_act}
 use Rattle.part_state.specs.declared.locks.TaskLock.{TaskLock}
 
 -- a task after a deed of its own
@@ -149,3 +149,20 @@ kept_after_act g q act a reply past p plain is_answer kept =
       locks = locks-kept g past e (now (moves past)) refl p kept.kept.clock_is kept.count kept.locks o (rw runs_is refl)
           (λ d m. plain.runs_in d.task (sym runs_is ∙ deed-task act reply (cpu_of p.kept q).runs d m));
     }
+
+-- a refused act is no deed
+refused-deed : (act : Act) (reply : Reply) (o : Option ℕ) → accepted reply ≡ false → deed_of act reply o ≡ None
+refused-deed (acts.Do (ops.Lock s)) replies.Granted o h = absurd (clash _ refl h)
+refused-deed (acts.Do (ops.Lock s)) replies.Queued o h = absurd (clash _ refl h)
+refused-deed (acts.Do (ops.Unlock s)) replies.Done o h = absurd (clash _ refl h)
+refused-deed _ _ o h = refl
+
+pub state_stays : StateStays
+state_stays all q act reply p = record {
+  refused = λ h. rw (h, refused-deed act reply (cpu_of p.kept q).runs h) refl;
+  tick = λ e. subst (λ a. after_act all q a reply p ≡ p) (sym e) (tick-stays (accepted reply));
+}
+  where
+    tick-stays : (b : Bool) → record { kept = if b then p.kept else p.kept; locks = p.locks } ≡ p
+    tick-stays true = refl
+    tick-stays false = refl

@@ -3,7 +3,7 @@
 #![tactic(auto)]
 
 ghost use Rattle.part_state.specs.Entries.{HeldIsKnown, KeptAfterEntry};
-ghost use Rattle.part_state.specs.Keeping.{KeptAfterAct, KeptAfterClock, KeptAfterTake, KeptAtOpening};
+ghost use Rattle.part_state.specs.Keeping.{KeptAfterAct, KeptAfterClock, KeptAfterTake, KeptAtOpening, StateStays};
 ghost use Rattle.part_state.specs.Reading.{CanBeRead, LinkIsRead, TasksAreRead};
 ghost use Rattle.part_state.specs.Replies.{ReplyIsRead};
 
@@ -64,4 +64,9 @@ pub fn kept_after_entry()
 /// What is held in a legal history are semaphores of the set.
 pub fn held_is_known()
     ensures { HeldIsKnown }
+{}
+
+/// An act that is refused leaves what is kept, and so does a tick.
+pub fn state_stays()
+    ensures { StateStays }
 {}
