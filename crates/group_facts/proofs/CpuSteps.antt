@@ -38,12 +38,12 @@ works-here q d c = by_act d.act refl
     by_act acts.Irq e = rw e (and_false (d.cpu == q))
     by_act (acts.Arrive t) e = rw e (and_false (d.cpu == q))
 
-cpu-here : (q : ℕ) (d : PastAct) (past : Past) → d.cpu ≡ q
+pub cpu-here : (q : ℕ) (d : PastAct) (past : Past) → d.cpu ≡ q
     → cpu_facts q (Acted d ∷ past) ≡ cpu_after (now past) d.act d.reply (is_some d.ended) (cpu_facts q past)
 unfolding last_work
 cpu-here q d past c = rw (runs-acted q d past, works-here q d c, c, equal_self q)
 
-cpu-there : (p : ℕ) (d : PastAct) (past : Past) → d.cpu == p ≡ false → cpu_facts p (Acted d ∷ past) ≡ cpu_facts p past
+pub cpu-there : (p : ℕ) (d : PastAct) (past : Past) → d.cpu == p ≡ false → cpu_facts p (Acted d ∷ past) ≡ cpu_facts p past
 unfolding last_work
 cpu-there p d past c = rw (runs-acted p d past, c)
 

@@ -138,7 +138,7 @@ kept_after_clock g past valid made tick k kept =
 -- ---- an act
 
 -- where no processor's facts change
-stay-kept : (g : Group) (past past' : Past) (k : Kept) → IsKept g past k → now past' ≡ now past
+pub stay-kept : (g : Group) (past past' : Past) (k : Kept) → IsKept g past k → now past' ≡ now past
     → ((t : ℕ) → job_facts t past' ≡ job_facts t past) → ((p : ℕ) → cpu_facts p past' ≡ cpu_facts p past) → IsKept g past' k
 stay-kept g past past' k kept clock jobs cpus = record {
   clock_is = kept.clock_is ∙ sym clock;
@@ -159,7 +159,7 @@ job-kept g past past' k t job kept clock there new others cpus = record {
   cpus_are = λ q h. kept.cpus_are q h ∙ sym (cpus q);
 }
 
-cpu-kept : (g : Group) (past past' : Past) (k : Kept) (q : ℕ) (cpu : CpuFacts) → IsKept g past k → now past' ≡ now past
+pub cpu-kept : (g : Group) (past past' : Past) (k : Kept) (q : ℕ) (cpu : CpuFacts) → IsKept g past k → now past' ≡ now past
     → has q (group_processors g) ≡ true → cpu ≡ cpu_facts q past' → ((p : ℕ) → q == p ≡ false → cpu_facts p past' ≡ cpu_facts p past)
     → ((t : ℕ) → job_facts t past' ≡ job_facts t past) → IsKept g past' (with_cpu q cpu k)
 cpu-kept g past past' k q cpu kept clock there new others jobs = record {
@@ -170,7 +170,7 @@ cpu-kept g past past' k q cpu kept clock there new others jobs = record {
   cpus_are = cpus-set g past past' k q cpu kept there new others;
 }
 
-both-kept : (g : Group) (past past' : Past) (k : Kept) (t : ℕ) (job : JobFacts) (q : ℕ) (cpu : CpuFacts) → IsKept g past k
+pub both-kept : (g : Group) (past past' : Past) (k : Kept) (t : ℕ) (job : JobFacts) (q : ℕ) (cpu : CpuFacts) → IsKept g past k
     → now past' ≡ now past → has t (tasks g) ≡ true → job ≡ job_facts t past'
     → ((u : ℕ) → u == t ≡ false → job_facts u past' ≡ job_facts u past)
     → has q (group_processors g) ≡ true → cpu ≡ cpu_facts q past' → ((p : ℕ) → q == p ≡ false → cpu_facts p past' ≡ cpu_facts p past)

@@ -1,5 +1,6 @@
 ghost use Rattle.std.specs.Prelude.{◌≡◌, ◌+◌, ◌++◌, ◌∷◌, [], IfOk, Some, false, true, length, ◌≤◌, ◌^◌};
 
+use rt_base::NoMemory;
 use std::alloc::{AllocError, Global};
 use std::process::Abort;
 use std::rt::Clock;
@@ -187,5 +188,39 @@ fn a_thread_that_sleeps_is_woken(rt: HostRuntime) -> Result<(), Fail> {
     );
     let all = writers(rt.alloc(), turn, first, second)?;
     assert_eq!(rt; all.as_slice(), &[1, 1, 1][..]);
+    Ok(())
+}
+
+// Hands what the first seat has seen to the second one.
+fn hand_over(
+    turn: &Turn<Diary>,
+    first: &mut TurnSeat<Diary>,
+    second: &mut TurnSeat<Diary>,
+) -> Result<(), NoMemory>
+    requires cells { (first.old.cell ≡ turn.now.cell) × (second.old.cell ≡ turn.now.cell) }
+    requires free { (first.old.holds ≡ false) × (second.old.holds ≡ false) }
+    ensures first { first.new ≡ first.old }
+    ensures second { (second.new.cell ≡ second.old.cell)
+        × (second.new.holds ≡ false)
+        × (second.new.cpu ≡ second.old.cpu) }
+{
+    let copy = turn.split(first)?;
+    turn.join(second, copy);
+    Ok(())
+}
+
+/// A seat that was split off is joined into another one, before that has seen anything and once it has seen more.
+#[test]
+fn a_seat_is_split_off_and_joined(rt: HostRuntime) -> Result<(), Fail> {
+    let (turn, mut seats) = Turn::open(rt.alloc(), blank(rt.alloc()), 2)?;
+    let mut second = seats.pop().expect(&rt, "a second seat");
+    let mut first = seats.pop().expect(&rt, "a first seat");
+    write_one(&rt, &turn, &mut first, 0);
+    write_one(&rt, &turn, &mut first, 0);
+    hand_over(&turn, &mut first, &mut second)?;
+    write_one(&rt, &turn, &mut second, 1);
+    hand_over(&turn, &mut first, &mut second)?;
+    let all = writers(rt.alloc(), turn, first, second)?;
+    assert_eq!(rt; all.as_slice(), &[0, 0, 1][..]);
     Ok(())
 }

@@ -1,0 +1,6 @@
+pub mod KeptLaws
+pub mod Linking
+pub mod ReadLaws
+pub mod ReplyLaws
+pub mod CanReadLaws
+pub mod EntryLaws
