@@ -1,8 +1,10 @@
 -- The answers of `run`, by how its reading and its writing ended.
 use Rattle.std.proofs.Common.{◌≡◌, ℕ, List, map, ap, subst, inl, inr}
-use Rattle.std.specs.Prelude.{Result, Err}
+use Rattle.std.specs.Prelude.{◌⊎◌, Result, Err}
 use Rattle.rt_base.specs.declared.TheConstants.{MOST_SET_BYTES}
 use Rattle.rt_task.specs.declared.Parts.{Parts}
+use Rattle.rt_fault.specs.Faults.{HasRisen}
+use Rattle.rt_fault.specs.Held.{Extends, ExtendsByPrefix}
 use Rattle.rt_fault.specs.Reading.{TakesAtMost}
 use Rattle.rt_fault.specs.declared.status.Status.{Status}
 use Rattle.rt_fault.specs.declared.status.Status.TheVariants as ends
@@ -42,10 +44,11 @@ run-unread {T} tools source sink answer e same =
       complete = λ can sure. ended-well source MOST_SET_BYTES (WasRefused source) answer e (can_play-told _ can) sure.read (λ b. can_play-unrefused source b can);
     }
 
-wrote-answers :
-    (tools : List Tool) (source : Reading) (sink : Writing) (p : Parts) (hs : List (List Entry)) (answer : Status) → WasRead source p → ArePlays p hs
-    → TakesAtMost MOST_SET_BYTES source.old.left source.new.left → Wrote sink (counted_text Two tools p hs) answer → RunAnswers tools source sink answer
-wrote-answers tools source sink p hs ends.Ok read plays few all = record {
+-- all of it was written
+run-whole :
+    (tools : List Tool) (source : Reading) (sink : Writing) (p : Parts) (hs : List (List Entry)) → WasRead source p → ArePlays p hs → TakesAtMost MOST_SET_BYTES source.old.left source.new.left
+    → Extends sink.old.held sink.new.held (counted_text Two tools p hs) → RunAnswers tools source sink ends.Ok
+run-whole tools source sink p hs read plays few all = record {
   ok = λ _. record { setup = p; histories = hs; read = read; plays = plays; written = all; holds = holds-throughout p hs read.valid };
   bad_input = λ b is. cc;
   too_long = λ is. cc;
@@ -55,7 +58,12 @@ wrote-answers tools source sink p hs ends.Ok read plays few all = record {
   not_invalid = λ line is. cc;
   complete = λ _ _. tt;
 }
-wrote-answers tools source sink p hs ends.WriteFault read plays few (part, risen) = record {
+
+-- a write failed
+run-cut :
+    (tools : List Tool) (source : Reading) (sink : Writing) (p : Parts) (hs : List (List Entry)) → WasRead source p → ArePlays p hs → TakesAtMost MOST_SET_BYTES source.old.left source.new.left
+    → ExtendsByPrefix sink.old.held sink.new.held (counted_text Two tools p hs) → HasRisen sink.old.faults sink.new.faults → RunAnswers tools source sink ends.WriteFault
+run-cut tools source sink p hs read plays few part risen = record {
   ok = λ is. cc;
   bad_input = λ b is. cc;
   too_long = λ is. cc;
@@ -65,7 +73,12 @@ wrote-answers tools source sink p hs ends.WriteFault read plays few (part, risen
   not_invalid = λ line is. cc;
   complete = λ _ sure. absurd (sure.write risen);
 }
-wrote-answers tools source sink p hs ends.NoMemory read plays few short = record {
+
+-- memory ran out
+run-short :
+    (tools : List Tool) (source : Reading) (sink : Writing) (p : Parts) (hs : List (List Entry)) → WasRead source p → ArePlays p hs → TakesAtMost MOST_SET_BYTES source.old.left source.new.left
+    → (sink.new ≡ sink.old) ⊎ ExtendsByPrefix sink.old.held sink.new.held (counted_text Two tools p hs) → RunAnswers tools source sink ends.NoMemory
+run-short tools source sink p hs read plays few short = record {
   ok = λ is. cc;
   bad_input = λ b is. cc;
   too_long = λ is. cc;
@@ -75,6 +88,13 @@ wrote-answers tools source sink p hs ends.NoMemory read plays few short = record
   not_invalid = λ line is. cc;
   complete = λ _ _. tt;
 }
+
+wrote-answers :
+    (tools : List Tool) (source : Reading) (sink : Writing) (p : Parts) (hs : List (List Entry)) (answer : Status) → WasRead source p → ArePlays p hs → TakesAtMost MOST_SET_BYTES source.old.left source.new.left
+    → Wrote sink (counted_text Two tools p hs) answer → RunAnswers tools source sink answer
+wrote-answers tools source sink p hs ends.Ok read plays few all = run-whole tools source sink p hs read plays few all
+wrote-answers tools source sink p hs ends.WriteFault read plays few (part, risen) = run-cut tools source sink p hs read plays few part risen
+wrote-answers tools source sink p hs ends.NoMemory read plays few short = run-short tools source sink p hs read plays few short
 wrote-answers tools source sink p hs (ends.Invalid line) read plays few h = absurd h
 wrote-answers tools source sink p hs ends.Usage read plays few h = absurd h
 wrote-answers tools source sink p hs (ends.BadInput b) read plays few h = absurd h

@@ -1,8 +1,10 @@
 -- The answers of `sim`, by how its reading and its writing ended.
 use Rattle.std.proofs.Common.{◌≡◌, ◌∙◌, List, map, ap, subst, inl, inr}
-use Rattle.std.specs.Prelude.{ℕ, Result, Err}
+use Rattle.std.specs.Prelude.{◌⊎◌, ℕ, Result, Err}
 use Rattle.rt_base.specs.declared.TheConstants.{MOST_SET_BYTES}
 use Rattle.rt_task.specs.declared.Parts.{Parts}
+use Rattle.rt_fault.specs.Faults.{HasRisen}
+use Rattle.rt_fault.specs.Held.{Extends, ExtendsByPrefix}
 use Rattle.rt_fault.specs.Reading.{TakesAtMost}
 use Rattle.rt_fault.specs.declared.status.Status.{Status}
 use Rattle.rt_fault.specs.declared.status.Status.TheVariants as ends
@@ -42,10 +44,11 @@ sim-unread {T} tools source sink answer e same =
       complete = λ can sure. ended-well source MOST_SET_BYTES (WasRefused source) answer e (can_play-told _ can) sure.read (λ b. can_play-unrefused source b can);
     }
 
-wrote-answers :
-    (tools : List Tool) (source : Reading) (sink : Writing) (p : Parts) (answer : Status) → WasRead source p
-    → TakesAtMost MOST_SET_BYTES source.old.left source.new.left → Wrote sink (set_trace tools p) answer → SimAnswers tools source sink answer
-wrote-answers tools source sink p ends.Ok read few all = record {
+-- all of it was written
+sim-whole :
+    (tools : List Tool) (source : Reading) (sink : Writing) (p : Parts) → WasRead source p → TakesAtMost MOST_SET_BYTES source.old.left source.new.left
+    → Extends sink.old.held sink.new.held (set_trace tools p) → SimAnswers tools source sink ends.Ok
+sim-whole tools source sink p read few all = record {
   ok = λ _. record { setup = p; read = read; written = all; holds = holds-throughout p (histories p) read.valid };
   bad_input = λ b is. cc;
   too_long = λ is. cc;
@@ -55,7 +58,12 @@ wrote-answers tools source sink p ends.Ok read few all = record {
   not_invalid = λ line is. cc;
   complete = λ _ _. tt;
 }
-wrote-answers tools source sink p ends.WriteFault read few (part, risen) = record {
+
+-- a write failed
+sim-cut :
+    (tools : List Tool) (source : Reading) (sink : Writing) (p : Parts) → WasRead source p → TakesAtMost MOST_SET_BYTES source.old.left source.new.left
+    → ExtendsByPrefix sink.old.held sink.new.held (set_trace tools p) → HasRisen sink.old.faults sink.new.faults → SimAnswers tools source sink ends.WriteFault
+sim-cut tools source sink p read few part risen = record {
   ok = λ is. cc;
   bad_input = λ b is. cc;
   too_long = λ is. cc;
@@ -65,7 +73,12 @@ wrote-answers tools source sink p ends.WriteFault read few (part, risen) = recor
   not_invalid = λ line is. cc;
   complete = λ _ sure. absurd (sure.write risen);
 }
-wrote-answers tools source sink p ends.NoMemory read few short = record {
+
+-- memory ran out
+sim-short :
+    (tools : List Tool) (source : Reading) (sink : Writing) (p : Parts) → WasRead source p → TakesAtMost MOST_SET_BYTES source.old.left source.new.left
+    → (sink.new ≡ sink.old) ⊎ ExtendsByPrefix sink.old.held sink.new.held (set_trace tools p) → SimAnswers tools source sink ends.NoMemory
+sim-short tools source sink p read few short = record {
   ok = λ is. cc;
   bad_input = λ b is. cc;
   too_long = λ is. cc;
@@ -75,6 +88,13 @@ wrote-answers tools source sink p ends.NoMemory read few short = record {
   not_invalid = λ line is. cc;
   complete = λ _ _. tt;
 }
+
+wrote-answers :
+    (tools : List Tool) (source : Reading) (sink : Writing) (p : Parts) (answer : Status) → WasRead source p → TakesAtMost MOST_SET_BYTES source.old.left source.new.left
+    → Wrote sink (set_trace tools p) answer → SimAnswers tools source sink answer
+wrote-answers tools source sink p ends.Ok read few all = sim-whole tools source sink p read few all
+wrote-answers tools source sink p ends.WriteFault read few (part, risen) = sim-cut tools source sink p read few part risen
+wrote-answers tools source sink p ends.NoMemory read few short = sim-short tools source sink p read few short
 wrote-answers tools source sink p (ends.Invalid line) read few h = absurd h
 wrote-answers tools source sink p ends.Usage read few h = absurd h
 wrote-answers tools source sink p (ends.BadInput b) read few h = absurd h
