@@ -1,6 +1,6 @@
 -- What looking at tasks one after the other makes of the state.
 use Rattle.std.proofs.Common.{◌≡◌, ◌≢◌, ℕ, Bool, true, false, List, [], ◌∷◌, eqb-true, get_or, refl, set, sym, ap, ◌∙◌}
-use Rattle.std.specs.Prelude.{◌==◌, ◌&&◌, Option, None, Some, if◌then◌else◌, option_map, slice_set}
+use Rattle.std.specs.Prelude.{◌==◌, ◌&&◌, not, is_some, Option, None, Some, if◌then◌else◌, option_map, slice_set}
 use Rattle.std.proofs.lemmas.Bool.{eqb-false}
 use Rattle.rt_order.specs.declared.Key.{Key}
 use Rattle.rt_task.specs.declared.Parts.{Parts}
@@ -11,31 +11,31 @@ use Rattle.rt_model.specs.Group.{Group, home, task, tasks, tasks_of}
 use Rattle.rt_laws.proofs.GroupLaws.{home-tasks_of, tasks_of-home}
 use Rattle.rank_changes.specs.ClusterMoves.{of_cluster}
 use Rattle.ready_queue.specs.ReadySet.{kept_key, set_refreshed}
-use Rattle.group_facts.specs.Kept.{Kept}
+use Rattle.group_facts.specs.Kept.{Kept, job_of}
 use Rattle.group_facts.specs.Timers.{renewed}
+use Rattle.group_facts.specs.Words.{is_ready}
 use Rattle.cluster_table.specs.Clusters.{KeptCluster, with_key}
 use Rattle.cluster_table.specs.Table.{Table, cluster_at, changed_at}
 use Rattle.cluster_table.proofs.RowLaws.{at-changed, at-changed_other}
 use Rattle.group_sems.specs.GroupSems.{GroupSems}
 use Rattle.group_engine.specs.declared.state.GroupState.{GroupState}
 use Rattle.group_resvs.specs.GroupResvs.{GroupResvs, is_served, is_served_by}
-use Rattle.resv_core.specs.Served.{Served, ServerState}
+use Rattle.resv_core.specs.Served.{ServerState}
 use Rattle.resv_laws.specs.Kept.{told_now}
 use Rattle.resv_laws.specs.Serving.{for_task, told_each}
 use Rattle.resv_laws.proofs.ServingLaws.{for_task-keeps}
-use Rattle.prio_inherit.specs.Waits.{effective_key}
-use Rattle.group_engine.specs.Touching.{all_brought_up, all_offered, brought_up, home_in, key_now, offered, stands_now, timer_now}
-use Rattle.group_jobs.specs.GroupJobs.{ready_now}
+use Rattle.sem_table.specs.Told.{awaits_of}
+use Rattle.group_core.specs.Facts.{Facts, told_all}
+use Rattle.group_core.specs.Reads.{key_in, timer_in}
+use Rattle.group_engine.specs.Touching.{all_brought_up, all_offered, brought_up, home_in, key_now, offered}
+use Rattle.group_jobs.specs.GroupJobs.{ready_now, task_in}
 
 -- ---- what stays
 
-pub jobs-brought : (p : Parts) (us : List ℕ) (s : GroupState) → (all_brought_up p us s).jobs ≡ s.jobs
-jobs-brought p [] s = refl
-jobs-brought p (u ∷ us) s = jobs-brought p us (brought_up p u s)
-
-pub sems-brought : (p : Parts) (us : List ℕ) (s : GroupState) → (all_brought_up p us s).sems ≡ s.sems
-sems-brought p [] s = refl
-sems-brought p (u ∷ us) s = sems-brought p us (brought_up p u s)
+-- of what is shared with the ranker the reservations alone change: they are told of these tasks
+pub core-brought : (p : Parts) (us : List ℕ) (s : GroupState) → (all_brought_up p us s).core ≡ record s.core { facts = told_all p us s.core.facts }
+core-brought p [] s = refl
+core-brought p (u ∷ us) s = core-brought p us (brought_up p u s)
 
 pub homes-brought : (p : Parts) (us : List ℕ) (s : GroupState) → (all_brought_up p us s).clusters.homes ≡ s.clusters.homes
 homes-brought p [] s = refl
@@ -43,28 +43,21 @@ homes-brought p (u ∷ us) s = homes-brought p us (brought_up p u s)
 
 -- putting tasks where they stand changes the clusters alone
 pub record OnlyClusters (s s' : GroupState) : Type 0 where
-  pub jobs_same : s'.jobs ≡ s.jobs
-  pub sems_same : s'.sems ≡ s.sems
+  pub core_same : s'.core ≡ s.core
   pub timers_same : s'.timers ≡ s.timers
-  pub resvs_same : s'.resvs ≡ s.resvs
   pub homes_same : s'.clusters.homes ≡ s.clusters.homes
 
 pub others-offered : (p : Parts) (us : List ℕ) (s : GroupState) → OnlyClusters s (all_offered p us s)
-others-offered p [] s = record { jobs_same = refl; sems_same = refl; timers_same = refl; resvs_same = refl; homes_same = refl }
+others-offered p [] s = record { core_same = refl; timers_same = refl; homes_same = refl }
 others-offered p (u ∷ us) s =
     let rest = others-offered p us (offered p u s) in
-    record { jobs_same = rest.jobs_same; sems_same = rest.sems_same; timers_same = rest.timers_same; resvs_same = rest.resvs_same; homes_same = rest.homes_same }
+    record { core_same = rest.core_same; timers_same = rest.timers_same; homes_same = rest.homes_same }
 
 -- ---- the timers and the reservations
 
-pub timers-brought : (p : Parts) (us : List ℕ) (s : GroupState) → (all_brought_up p us s).timers ≡ renewed (timer_now p s.jobs.kept) us s.timers
+pub timers-brought : (p : Parts) (us : List ℕ) (s : GroupState) → (all_brought_up p us s).timers ≡ renewed (timer_in p s.core.facts.kept) us s.timers
 timers-brought p [] s = refl
 timers-brought p (u ∷ us) s = timers-brought p us (brought_up p u s)
-
-pub resvs-brought : (p : Parts) (us : List ℕ) (s : GroupState)
-    → (all_brought_up p us s).resvs ≡ record s.resvs { resvs = told_each (ready_now p.tasks s.jobs.kept) us s.resvs.resvs }
-resvs-brought p [] s = refl
-resvs-brought p (u ∷ us) s = resvs-brought p us (brought_up p u s)
 
 -- a call for a task leaves who is served
 pub served-told : (w : GroupResvs) (t : ℕ) (change : ServerState → ServerState) (u : ℕ)
@@ -86,8 +79,12 @@ renewed-same f f' (u ∷ us) ticks same =
 -- ---- a cluster
 
 -- the key of a task, where it stands and is served
+abbrev key_if : Parts → Kept → GroupSems → Bool → ℕ → Option Key
+key_if p k v served t =
+    if is_ready k.clock (task_in p.tasks t) (job_of k t) && (not (is_some (awaits_of v.table t)) && served) then Some (key_in v t) else None
+
 abbrev pub key_where : Parts → Kept → GroupSems → (ℕ → Bool) → ℕ → Option Key
-key_where p k v served t = if stands_now p k v t && served t then Some (effective_key v.waits t) else None
+key_where p k v served t = key_if p k v (served t) t
 
 -- the keys of cluster c once these tasks were looked at
 abbrev pub keys_after : Parts → Kept → GroupSems → (ℕ → Bool) → ℕ → List ℕ → List (Option Key) → List (Option Key)
@@ -111,20 +108,22 @@ one-cluster p u key t c k there = by_case (home_in p u == c) refl
         at-changed_other (home_in p u) c (with_key u key) t apart ∙ there
 
 pub cluster-offered : (p : Parts) (us : List ℕ) (s : GroupState) (c : ℕ) (k : KeptCluster) → cluster_at s.clusters c ≡ Some k
-    → cluster_at (all_offered p us s).clusters c ≡ Some (record k { keys = keys_after p s.jobs.kept s.sems (is_served s.resvs) c us k.keys })
+    → cluster_at (all_offered p us s).clusters c ≡ Some (record k { keys = keys_after p s.core.facts.kept s.core.facts.sems (is_served s.core.facts.resvs) c us k.keys })
 cluster-offered p [] s c k there = there
 cluster-offered p (u ∷ us) s c k there =
-    let key : Option Key = key_now p s.jobs.kept s.sems s.resvs u in
+    let key : Option Key = key_now p s.core.facts u in
     cluster-offered p us (offered p u s) c (record k { keys = if home_in p u == c then slice_set k.keys u key else k.keys }) (one-cluster p u key s.clusters c k there)
 
-pub cluster-brought : (p : Parts) (us : List ℕ) (s : GroupState) (served : ℕ → Bool) → ((u : ℕ) → is_served s.resvs u ≡ served u)
+pub cluster-brought : (p : Parts) (us : List ℕ) (s : GroupState) (served : ℕ → Bool) → ((u : ℕ) → is_served s.core.facts.resvs u ≡ served u)
     → (c : ℕ) (k : KeptCluster) → cluster_at s.clusters c ≡ Some k
-    → cluster_at (all_brought_up p us s).clusters c ≡ Some (record k { keys = keys_after p s.jobs.kept s.sems served c us k.keys })
+    → cluster_at (all_brought_up p us s).clusters c ≡ Some (record k { keys = keys_after p s.core.facts.kept s.core.facts.sems served c us k.keys })
 cluster-brought p [] s served same c k there = there
 cluster-brought p (u ∷ us) s served same c k there =
-    let key : Option Key = key_where p s.jobs.kept s.sems served u in
-    let told : (v : ℕ) → is_served (brought_up p u s).resvs v ≡ served v = λ v. served-told s.resvs u (told_now (ready_now p.tasks s.jobs.kept u) u) v ∙ same v in
-    let there_still = one-cluster p u (key_now p s.jobs.kept s.sems s.resvs u) s.clusters c k there ∙ ap (λ b. let x : Option Key = if stands_now p s.jobs.kept s.sems u && b then Some (effective_key s.sems.waits u) else None in let j : KeptCluster = record k { keys = if home_in p u == c then slice_set k.keys u x else k.keys } in Some j) (same u) in
+    let f : Facts = s.core.facts in
+    let key : Option Key = key_where p f.kept f.sems served u in
+    let told : (v : ℕ) → is_served (brought_up p u s).core.facts.resvs v ≡ served v = λ v. served-told f.resvs u (told_now (ready_now p.tasks f.kept u) u) v ∙ same v in
+    let there_still = one-cluster p u (key_now p f u) s.clusters c k there
+    ∙ ap (λ b. let j : KeptCluster = record k { keys = if home_in p u == c then slice_set k.keys u (key_if p f.kept f.sems b u) else k.keys } in Some j) (same u) in
     cluster-brought p us (brought_up p u s) served told c (record k { keys = if home_in p u == c then slice_set k.keys u key else k.keys }) there_still
 
 pub home-in : (g : Group) (t : ℕ) → home_in g.setup t ≡ home g t

@@ -1,15 +1,19 @@
 -- What can be brought up stays so while tasks are brought up and processors left.
 use Rattle.std.proofs.Common.{◌≡◌, ℕ, Bool, true, false, List, [], ◌∷◌, ◌++◌, length, set, eqb-true, length-set, refl, ap, ◌∙◌}
-use Rattle.std.specs.Prelude.{◌==◌, Option, None, option_map}
+use Rattle.std.specs.Prelude.{◌==◌, Option, None, Some, if◌then◌else◌, option_map, slice_index}
 use Rattle.std.proofs.lemmas.Bool.{eqb-false}
 use Rattle.std.proofs.lemmas.List.{set-set}
+use Rattle.rt_task.specs.declared.Act.{Act}
+use Rattle.rt_task.specs.declared.Act.TheVariants as acts
 use Rattle.rt_task.specs.declared.Parts.{Parts}
-use Rattle.cluster_table.specs.Clusters.{KeptCluster, left_by, with_key}
+use Rattle.rt_history.specs.declared.Reply.{Reply}
+use Rattle.rt_model.specs.Past.{accepted}
+use Rattle.group_facts.specs.Kept.{cpu_of}
+use Rattle.cluster_table.specs.Clusters.{KeptCluster, after_take, left_by, with_key}
 use Rattle.cluster_table.specs.Table.{Table, HasTask, changed_at}
 use Rattle.cluster_table.proofs.RowLaws.{at-changed, at-changed_other}
 use Rattle.group_engine.specs.declared.state.GroupState.{GroupState}
-use Rattle.group_resvs.specs.GroupResvs.{GroupResvs}
-use Rattle.group_engine.specs.Touching.{CanBringUp, CanOffer, all_brought_up, all_offered, brought_up, home_in, key_now, offered}
+use Rattle.group_engine.specs.Touching.{CanBringUp, CanOffer, all_brought_up, all_offered, brought_up, followed, home_in, key_now, offered, run_followed}
 
 -- a change that leaves room for as many keys
 has-task-changed : (c d t : ℕ) (change : KeptCluster → KeptCluster) (table : Table)
@@ -22,28 +26,39 @@ has-task-changed c d t change table same h = by_place (d == c) refl
         rw here (change h.0, at-changed c change table ∙ ap (option_map change) (rw here at h.1), rw (same h.0) h.2)
     by_place false e = (h.0, at-changed_other c d change table (eqb-false d c e) ∙ h.1, h.2)
 
-can-still : (p : Parts) (t : ℕ) (s : GroupState) (ticks : List (Option ℕ)) (table : Table) (resvs : GroupResvs) → length ticks ≡ length s.timers
-    → HasTask table (home_in p t) t → CanBringUp p t s → CanBringUp p t (record s { timers = ticks; clusters = table; resvs = resvs })
-can-still p t s ticks table resvs same there h = record {
-  task = h.task;
-  has_base = h.has_base;
-  timer_room = rw same h.timer_room;
-  at_home = there;
-}
-
 -- after another task is brought up
 pub can-after : (p : Parts) (t u : ℕ) (s : GroupState) → CanBringUp p t s → CanBringUp p t (brought_up p u s)
-can-after p t u s h =
-    let change : KeptCluster → KeptCluster = with_key u (key_now p s.jobs.kept s.sems s.resvs u) in
-    let there = has-task-changed (home_in p u) (home_in p t) t change s.clusters (λ k. length-set _ _ _) h.at_home in
-    can-still p t s (brought_up p u s).timers (brought_up p u s).clusters (brought_up p u s).resvs (length-set _ _ _) there h
+can-after p t u s h = record {
+  task = h.task;
+  has_base = h.has_base;
+  timer_room = let same : length (brought_up p u s).timers ≡ length s.timers = length-set _ _ _ in rw same h.timer_room;
+  at_home = has-task-changed (home_in p u) (home_in p t) t (with_key u (key_now p s.core.facts u)) s.clusters (λ k. length-set _ _ _) h.at_home;
+}
 
--- once a processor of some cluster is left
-pub can-left : (p : Parts) (t c q : ℕ) (s : GroupState) → CanBringUp p t s
-    → CanBringUp p t (record s { clusters = changed_at c (left_by q) s.clusters })
-can-left p t c q s h =
-    let there = has-task-changed c (home_in p t) t (left_by q) s.clusters (λ k. refl) h.at_home in
-    can-still p t s s.timers (changed_at c (left_by q) s.clusters) s.resvs refl there h
+-- and after others
+pub can-after-all : (p : Parts) (t : ℕ) (us : List ℕ) (s : GroupState) → CanBringUp p t s → CanBringUp p t (all_brought_up p us s)
+can-after-all p t [] s h = h
+can-after-all p t (u ∷ us) s h = can-after-all p t us (brought_up p u s) (can-after p t u s h)
+
+-- once its cluster has what a processor runs
+pub has-task-followed : (q : ℕ) (act : Act) (reply : Reply) (o : Option ℕ) (d t : ℕ) (table : Table) → HasTask table d t → HasTask (run_followed q act reply o table) d t
+has-task-followed q acts.Tick reply o d t table h = h
+has-task-followed q acts.Irq reply o d t table h = by_reply (accepted reply)
+  where
+    by_reply : (b : Bool) → HasTask (if b then changed_at (slice_index table.homes q) (after_take q false) table else table) d t
+    by_reply true = has-task-changed (slice_index table.homes q) d t (after_take q false) table (λ k. refl) h
+    by_reply false = h
+has-task-followed q (acts.Arrive u) reply o d t table h = h
+has-task-followed q (acts.Do op) reply None d t table h = has-task-changed (slice_index table.homes q) d t (left_by q) table (λ k. refl) h
+has-task-followed q (acts.Do op) reply (Some u) d t table h = h
+
+pub can-followed : (p : Parts) (q : ℕ) (act : Act) (reply : Reply) (t : ℕ) (s : GroupState) → CanBringUp p t s → CanBringUp p t (followed q act reply s)
+can-followed p q act reply t s h = record {
+  task = h.task;
+  has_base = h.has_base;
+  timer_room = h.timer_room;
+  at_home = has-task-followed q act reply (cpu_of s.core.facts.kept q).runs (home_in p t) t s.clusters h.at_home;
+}
 
 -- what can be brought up can be put where it stands
 pub can-offer-of : (p : Parts) (t : ℕ) (s : GroupState) → CanBringUp p t s → CanOffer p t s
@@ -55,7 +70,7 @@ can-offered p t u s h = record {
   task = h.task;
   has_base = h.has_base;
   timer_room = h.timer_room;
-  at_home = has-task-changed (home_in p u) (home_in p t) t (with_key u (key_now p s.jobs.kept s.sems s.resvs u)) s.clusters (λ k. length-set _ _ _) h.at_home;
+  at_home = has-task-changed (home_in p u) (home_in p t) t (with_key u (key_now p s.core.facts u)) s.clusters (λ k. length-set _ _ _) h.at_home;
 }
 
 -- after another task is put where it stands
@@ -63,7 +78,7 @@ pub can-offer-after : (p : Parts) (t u : ℕ) (s : GroupState) → CanOffer p t 
 can-offer-after p t u s h = record {
   task = h.task;
   has_base = h.has_base;
-  at_home = has-task-changed (home_in p u) (home_in p t) t (with_key u (key_now p s.jobs.kept s.sems s.resvs u)) s.clusters (λ k. length-set _ _ _) h.at_home;
+  at_home = has-task-changed (home_in p u) (home_in p t) t (with_key u (key_now p s.core.facts u)) s.clusters (λ k. length-set _ _ _) h.at_home;
 }
 
 -- one more is the last

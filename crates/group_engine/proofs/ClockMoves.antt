@@ -2,36 +2,34 @@
 use Rattle.std.proofs.Common.{◌≡◌, ℕ, ◌<◌, max, Bool, true, false, ◌&&◌, ◌||◌, List, [], ◌∷◌, length, length-set, set, eqb-true, refl, sym, ap, ◌∙◌, subst, arith}
 use Rattle.std.specs.Prelude.{◌==◌, Option, None, Some, if◌then◌else◌}
 use Rattle.rt_base.specs.declared.TheConstants.{TICK_END}
+use Rattle.rt_task.specs.Validity.{IsValid}
+use Rattle.rt_task.specs.declared.Parts.{Parts}
 use Rattle.rt_rules.specs.Numbers.{has}
 use Rattle.rt_rules.proofs.BoolLaws.{both, or_true}
 use Rattle.rt_rules.proofs.MemberLaws.{equal_self}
 use Rattle.rt_model.specs.Group.{Group, tasks}
+use Rattle.rt_model.specs.Holders.{awaits}
 use Rattle.rt_model.specs.Past.{Clock, Past, now}
-use Rattle.rt_model.specs.Reachable.{clocked}
+use Rattle.rt_model.specs.Reachable.{clocked as clocked-too}
 use Rattle.release_queue.specs.Timers.{tick_at}
 use Rattle.rank_changes.specs.Touched.{comes_due}
 use Rattle.rank_changes.proofs.QuietMoves.{base_key-same, key-quiet}
-use Rattle.rank_changes.proofs.TouchedTasks.{clock_keeps_jobs, clock_touches_due}
-use Rattle.group_engine.proofs.Bases.{bases-stay}
-use Rattle.group_engine.proofs.SemLaws.{quiet_is_kept}
 use Rattle.rank_changes.proofs.SameClusters.{runs-clock}
-use Rattle.group_facts.specs.Kept.{with_clock}
+use Rattle.rank_changes.proofs.SameEligibility.{awaits-quiet}
+use Rattle.rank_changes.proofs.TouchedTasks.{clock_keeps_jobs, clock_touches_due}
 use Rattle.group_facts.specs.Timers.{AreDue, AreMoved, TimersAreKept, renewed, ticks_without, timer_at}
-use Rattle.group_facts.proofs.KeptMoves.{kept_after_clock}
 use Rattle.group_facts.proofs.TimerMoves.{timers_after_clock}
 use Rattle.group_facts.proofs.TimerSets.{length-without, tick-set, tick-without}
-use Rattle.group_jobs.specs.GroupJobs.{GroupJobs}
-use Rattle.group_resvs.specs.GroupResvs.{GroupResvs}
-use Rattle.group_engine.specs.declared.state.GroupState.{GroupState}
-use Rattle.group_engine.specs.Moments.{CanEnd, CanMove, IsPlayed}
-use Rattle.group_engine.specs.State.{HasClusterAt, IsAt, IsWithin}
-use Rattle.group_engine.proofs.Reading.{IsAlike}
-use Rattle.rank_changes.proofs.SameEligibility.{awaits-quiet}
-use Rattle.resv_laws.specs.Serving.{clock_to}
-use Rattle.rt_model.specs.Holders.{awaits}
 use Rattle.waiting_list.specs.Listing.{Moment}
-use Rattle.rt_task.specs.declared.Parts.{Parts}
-use Rattle.group_engine.specs.Touching.{all_brought_up}
+use Rattle.group_core.specs.Facts.{clocked}
+use Rattle.group_core.specs.Standing as core
+use Rattle.group_core.proofs.Moves.{at-clocked, fit-clocked}
+use Rattle.group_engine.specs.declared.state.GroupState.{GroupState}
+use Rattle.group_engine.specs.Moments.{CanEnd, CanMove}
+use Rattle.group_engine.specs.State.{HasClusterAt, IsAt, IsFitAt, acts_left}
+use Rattle.group_engine.specs.Touching.{CanBringUpAll, all_brought_up}
+use Rattle.group_engine.proofs.Bounding.{can-look}
+use Rattle.group_engine.proofs.Reading.{IsAlike}
 use Rattle.group_engine.proofs.Settling.{HasClusterBetween, IsBetween, brought}
 
 -- ---- timers that are set again need not be taken out
@@ -79,9 +77,6 @@ rest-false : (a b c : Bool) → c ≡ a && b → a ≡ true → c ≡ false → 
 rest-false true b c h k m = sym h ∙ m
 rest-false false b c h k m = cc
 
-pub clock-within : (tick : ℕ) (past : Past) → tick < TICK_END → IsWithin past → IsWithin (Clock tick ∷ past)
-clock-within tick past low within = record { few = within.few; clock_low = omega (arith, within.clock_low, low); sleeps_low = within.sleeps_low }
-
 -- whoever waits for a moment is a task of the group
 pub armed-member : (g : Group) (past : Past) (ticks : List (Option ℕ)) → TimersAreKept g past ticks → (t tick : ℕ) → tick_at ticks t ≡ Some tick → has t (tasks g) ≡ true
 armed-member g past ticks kept t tick h = by_case (has t (tasks g)) refl
@@ -92,45 +87,38 @@ armed-member g past ticks kept t tick h = by_case (has t (tasks g)) refl
 
 -- the state whose clock has moved, before the tasks that are due are looked at
 abbrev pub clocked_state : ℕ → GroupState → GroupState
-clocked_state tick s =
-    let jobs : GroupJobs = record s.jobs { kept = with_clock tick s.jobs.kept } in
-    record s { jobs = jobs; resvs = record s.resvs { resvs = clock_to jobs.kept.clock s.resvs.resvs } }
+clocked_state tick s = record s { core = record s.core { facts = clocked tick s.core.facts } }
 
-pub between-clock : (g : Group) → IsPlayed g → (past : Past) (s : GroupState) → IsAt g past s → (tick : ℕ) → tick < TICK_END → (us : List ℕ)
-    → AreDue (max (now past) tick) s.timers us → IsBetween g (Clock tick) past us (clocked_state tick s)
-between-clock g played past s at tick low us due = record {
-  reachable = clocked tick at.reachable;
-  within = clock-within tick past low at.within;
-  jobs_are = kept_after_clock g past played.valid at.reachable tick s.jobs.kept at.jobs_are;
-  sems_are = record {
-    locks = quiet_is_kept g (Clock tick) past played.valid (clocked tick at.reachable) s.sems refl at.sems_are.locks;
-    bases = bases-stay g past (Clock tick ∷ past) s.sems.waits.bases (λ t h. base_key-same g t past (Clock tick ∷ past) (clock_keeps_jobs g past played.valid at.reachable tick t)) at.sems_are.bases;
-  };
-  timers_are = timers-again g (Clock tick ∷ past) us s.timers (λ u h. at.timers_are.room u (inside u h)) moved.kept;
-  before = s.resvs;
-  kept_before = at.resvs_are;
-  resvs_are = ap (λ n. let x : GroupResvs = record s.resvs { resvs = clock_to (max n tick) s.resvs.resvs } in x) at.jobs_are.clock_is;
-  homes_are = at.homes_are;
-  clusters_are = λ c h. between (at.clusters_are c h);
-  inside = inside;
-  others = λ t h k. alike t (rest-false (has t (tasks g)) (comes_due g tick t past) (has t us) (moved.due t) h k);
-}
-  where
-    moved : AreMoved g tick past s.timers us
-    moved = timers_after_clock g past played.valid at.reachable tick s.timers us at.timers_are due
+module _ (g : Group) (past : Past) (s : GroupState) (at : IsAt g past s) (tick : ℕ) (low : tick < TICK_END) where
+  valid : IsValid g.setup
+  valid = at.core_fit.valid
+
+  moved : core.IsMoved g (Clock tick) past s.core.facts.resvs (clocked tick s.core.facts)
+  moved = at-clocked g s.core.facts (acts_left past) (acts_left past) at.core_fit tick past at.core_at
+
+  fit : IsFitAt g (Clock tick ∷ past) (clocked tick s.core.facts)
+  fit = fit-clocked g s.core.facts (acts_left past) (acts_left past) at.core_fit tick low
+
+  -- each task of the group can be looked at then
+  pub can-clocked : CanBringUpAll g.setup (tasks g) (clocked_state tick s)
+  can-clocked t h = can-look g past s at (record s.core { facts = clocked tick s.core.facts }) (acts_left past) (acts_left past) fit t h
+
+  module _ (us : List ℕ) (due : AreDue (max (now past) tick) s.timers us) where
+    ticks : AreMoved g tick past s.timers us
+    ticks = timers_after_clock g past valid at.core_at.reachable tick s.timers us at.timers_are due
 
     inside : (t : ℕ) → has t us ≡ true → has t (tasks g) ≡ true
-    inside t h = (both (has t (tasks g)) (comes_due g tick t past) (sym (moved.due t) ∙ h)).0
+    inside t h = (both (has t (tasks g)) (comes_due g tick t past) (sym (ticks.due t) ∙ h)).0
 
     -- a task that does not come due is as before
     alike : (t : ℕ) → comes_due g tick t past ≡ false → IsAlike g t past (Clock tick ∷ past)
     alike t out =
-        let still = clock_touches_due g past played.valid at.reachable tick t out in
-        let job = clock_keeps_jobs g past played.valid at.reachable tick t in
+        let still = clock_touches_due g past valid at.core_at.reachable tick t out in
+        let job = clock_keeps_jobs g past valid at.core_at.reachable tick t in
         let waits : awaits g t (Clock tick ∷ past) ≡ awaits g t past = awaits-quiet g t (Clock tick) past refl in
         record {
           stands_same = rw (still.ready_same, waits) refl;
-          key_same = key-quiet g played.valid (Clock tick) past (clocked tick at.reachable) refl t (base_key-same g t past (Clock tick ∷ past) job);
+          key_same = key-quiet g valid (Clock tick) past (clocked-too tick at.core_at.reachable) refl t (base_key-same g t past (Clock tick ∷ past) job);
           told_same = rw (still.ready_same, job.release_same) refl;
         }
 
@@ -148,11 +136,24 @@ between-clock g played past s at tick low us due = record {
       };
     }
 
+    between-clock : IsBetween g (Clock tick) past us (clocked_state tick s)
+    between-clock = record {
+      few = at.few;
+      before = s.core.facts.resvs;
+      moved = moved;
+      fit = fit;
+      timers_are = timers-again g (Clock tick ∷ past) us s.timers (λ u h. at.timers_are.room u (inside u h)) ticks.kept;
+      homes_are = at.homes_are;
+      clusters_are = λ c h. between (at.clusters_are c h);
+      inside = inside;
+      others = λ t h k. alike t (rest-false (has t (tasks g)) (comes_due g tick t past) (has t us) (ticks.due t) h k);
+    }
+
 -- once those that are due were looked at, the move is to be ended
 pub clock-ends : (at : Moment) (tick : ℕ) (p : Parts) (s : GroupState) (s1 s2 : GroupState) (us : List ℕ) → CanMove at tick p s → s1 ≡ clocked_state tick s
-    → AreDue s1.jobs.kept.clock s.timers us → s2 ≡ all_brought_up p us s1 → CanEnd (record { group = at.group; past = Clock tick ∷ at.past }) p s2
+    → AreDue s1.core.facts.kept.clock s.timers us → s2 ≡ all_brought_up p us s1 → CanEnd (record { group = at.group; past = Clock tick ∷ at.past }) p s2
 clock-ends at tick p s s1 s2 us can clocked_is due is =
-    let clock : s1.jobs.kept.clock ≡ max (now at.past) tick = ap (λ (x : GroupState). x.jobs.kept.clock) clocked_is ∙ ap (λ n. max n tick) can.kept.jobs_are.clock_is in
+    let clock : s1.core.facts.kept.clock ≡ max (now at.past) tick = ap (λ (x : GroupState). x.core.facts.kept.clock) clocked_is ∙ ap (λ n. max n tick) can.kept.core_at.kept.clock_is in
     let due_then : AreDue (max (now at.past) tick) s.timers us = subst (λ n. AreDue n s.timers us) clock due in
-    let all = brought at.group can.played (Clock tick) at.past us (clocked_state tick s) (between-clock at.group can.played at.past s can.kept tick can.tick_low us due_then) in
+    let all = brought at.group can.played (Clock tick) at.past us (clocked_state tick s) (between-clock at.group at.past s can.kept tick can.tick_low us due_then) in
     record { played = can.played; ending = rw (is, clocked_is, can.parts_are) all; parts_are = can.parts_are }

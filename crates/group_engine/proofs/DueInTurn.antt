@@ -9,20 +9,21 @@ use Rattle.release_queue.specs.Timers.{IsNextDue, NothingDue, tick_at}
 use Rattle.group_facts.specs.Kept.{job_of}
 use Rattle.group_facts.specs.Timers.{AreDue}
 use Rattle.group_jobs.specs.GroupJobs.{task_in}
+use Rattle.group_core.specs.Reads.{timer_in}
 use Rattle.group_engine.specs.declared.state.GroupState.{GroupState}
-use Rattle.group_engine.specs.Touching.{AreArmedOnly, CanBringUp, CanBringUpAll, all_brought_up, brought_up, timer_now}
+use Rattle.group_engine.specs.Touching.{AreArmedOnly, CanBringUp, CanBringUpAll, all_brought_up, brought_up}
 use Rattle.group_engine.proofs.BringingUp.{all_brought_up-push, can-after}
 use Rattle.group_engine.proofs.DueAgain.{IsLater, due-again, due_count, fewer-due, later-timer}
 
 -- some tasks that were due have been brought up, and those that are due now are the others
 pub record AreInTurn (p : Parts) (start s : GroupState) : Type 0 where
-  pub clock_is : s.jobs.kept.clock ≡ start.jobs.kept.clock
+  pub clock_is : s.core.facts.kept.clock ≡ start.core.facts.kept.clock
   pub tasks : List ℕ
   pub can : CanBringUpAll p tasks s
   pub armed : AreArmedOnly tasks s
   pub us : List ℕ
   pub state_is : s ≡ all_brought_up p us start
-  pub goes_on : (vs : List ℕ) → AreDue start.jobs.kept.clock s.timers vs → AreDue start.jobs.kept.clock start.timers (us ++ vs)
+  pub goes_on : (vs : List ℕ) → AreDue start.core.facts.kept.clock s.timers vs → AreDue start.core.facts.kept.clock start.timers (us ++ vs)
 
 pub in-turn-none : (p : Parts) (s : GroupState) → (ts : List ℕ) × CanBringUpAll p ts s × AreArmedOnly ts s → AreInTurn p s s
 in-turn-none p s h = record {
@@ -36,13 +37,13 @@ in-turn-none p s h = record {
 }
 
 -- the next that is due
-module _ (p : Parts) (start s : GroupState) (u : ℕ) (h : AreInTurn p start s) (next : IsNextDue s.timers start.jobs.kept.clock u) where
+module _ (p : Parts) (start s : GroupState) (u : ℕ) (h : AreInTurn p start s) (next : IsNextDue s.timers start.core.facts.kept.clock u) where
   next-can : CanBringUp p u s
   next-can = h.can u (h.armed u next.tick next.armed)
 
   -- it waits for a moment after the clock then
-  later-now : IsLater start.jobs.kept.clock (timer_now p s.jobs.kept u)
-  later-now = rw (← h.clock_is) (later-timer s.jobs.kept.clock (task_in p.tasks u) (job_of s.jobs.kept u))
+  later-now : IsLater start.core.facts.kept.clock (timer_in p s.core.facts.kept u)
+  later-now = rw (← h.clock_is) (later-timer s.core.facts.kept.clock (task_in p.tasks u) (job_of s.core.facts.kept u))
 
   pub in-turn-more : AreInTurn p start (brought_up p u s)
   in-turn-more = record {
@@ -55,25 +56,25 @@ module _ (p : Parts) (start s : GroupState) (u : ℕ) (h : AreInTurn p start s) 
     goes_on = goes_on;
   }
     where
-      armed : (t n : ℕ) → tick_at (set s.timers u (timer_now p s.jobs.kept u)) t ≡ Some n → has t h.tasks ≡ true
+      armed : (t n : ℕ) → tick_at (set s.timers u (timer_in p s.core.facts.kept u)) t ≡ Some n → has t h.tasks ≡ true
       armed t n e = by_place (t == u) refl
         where
           by_place : (b : Bool) → t == u ≡ b → has t h.tasks ≡ true
           by_place true same = rw (eqb-true t u same) (h.armed u next.tick next.armed)
           by_place false other =
-              h.armed t n (sym (get_or-set_other s.timers u t (timer_now p s.jobs.kept u) None (eqb-false t u other)) ∙ e)
+              h.armed t n (sym (get_or-set_other s.timers u t (timer_in p s.core.facts.kept u) None (eqb-false t u other)) ∙ e)
 
-      goes_on : (vs : List ℕ) → AreDue start.jobs.kept.clock (set s.timers u (timer_now p s.jobs.kept u)) vs
-          → AreDue start.jobs.kept.clock start.timers ((h.us ++ u ∷ []) ++ vs)
+      goes_on : (vs : List ℕ) → AreDue start.core.facts.kept.clock (set s.timers u (timer_in p s.core.facts.kept u)) vs
+          → AreDue start.core.facts.kept.clock start.timers ((h.us ++ u ∷ []) ++ vs)
       goes_on vs due =
-          let others = due-again start.jobs.kept.clock vs s.timers u (timer_now p s.jobs.kept u) later-now due in
+          let others = due-again start.core.facts.kept.clock vs s.timers u (timer_in p s.core.facts.kept u) later-now due in
           rw append_assoc (h.goes_on (u ∷ vs) (next, others))
 
   -- each turn leaves fewer that are due
-  pub in-turn-fewer : due_count start.jobs.kept.clock (brought_up p u s).timers < due_count start.jobs.kept.clock s.timers
-  in-turn-fewer = fewer-due start.jobs.kept.clock s.timers u (timer_now p s.jobs.kept u) next-can.timer_room next later-now
+  pub in-turn-fewer : due_count start.core.facts.kept.clock (brought_up p u s).timers < due_count start.core.facts.kept.clock s.timers
+  in-turn-fewer = fewer-due start.core.facts.kept.clock s.timers u (timer_in p s.core.facts.kept u) next-can.timer_room next later-now
 
-pub in-turn-all : (p : Parts) (start s : GroupState) → AreInTurn p start s → NothingDue s.timers start.jobs.kept.clock
-    → (us : List ℕ) × AreDue start.jobs.kept.clock start.timers us × (s ≡ all_brought_up p us start)
+pub in-turn-all : (p : Parts) (start s : GroupState) → AreInTurn p start s → NothingDue s.timers start.core.facts.kept.clock
+    → (us : List ℕ) × AreDue start.core.facts.kept.clock start.timers us × (s ≡ all_brought_up p us start)
 in-turn-all p start s h none =
-    (h.us, subst (AreDue start.jobs.kept.clock start.timers) (append-nil h.us) (h.goes_on [] none), h.state_is)
+    (h.us, subst (AreDue start.core.facts.kept.clock start.timers) (append-nil h.us) (h.goes_on [] none), h.state_is)

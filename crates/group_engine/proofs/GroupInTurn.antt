@@ -1,6 +1,6 @@
 -- The loop that brings up the tasks of a group, by rising number.
-use Rattle.std.proofs.Common.{◌≡◌, ◌≢◌, ℕ, suc, ◌-◌, ◌<◌, Bool, true, false, cond, List, ◌∷◌, length, length-set, set, get_or, eq-eqb, refl, ◌∙◌, arith}
-use Rattle.std.specs.Prelude.{◌==◌, Some}
+use Rattle.std.proofs.Common.{◌≡◌, ◌≢◌, ℕ, suc, ◌-◌, ◌<◌, Bool, true, false, cond, List, ◌∷◌, length, get_or, eq-eqb, refl, ◌∙◌, arith}
+use Rattle.std.specs.Prelude.{◌==◌}
 use Rattle.std.specs.List.{filter}
 use Rattle.std.proofs.lemmas.Bool.{ne_eqb}
 use Rattle.rt_task.specs.declared.Parts.{Parts}
@@ -11,7 +11,7 @@ use Rattle.rt_model.specs.Group.{Group, cluster, home, in_group, no_cluster, no_
 use Rattle.rt_plays.specs.Plays.{group_with}
 use Rattle.group_engine.specs.declared.state.GroupState.{GroupState}
 use Rattle.group_jobs.specs.GroupJobs.{task_in}
-use Rattle.group_engine.specs.Touching.{CanBase, CanBringUp, base_now, based, brought_up, in_turn}
+use Rattle.group_engine.specs.Touching.{AreNumbered, CanBringUp, all_brought_up, brought_up}
 use Rattle.group_engine.proofs.BringingUp.{can-after}
 
 -- the tasks of the group but those among the first i of the set
@@ -22,20 +22,18 @@ behind-one : (g : Group) (i : ℕ) → i < length g.setup.tasks
     → tasks_behind g i ≡ cond (in_group g (home g (suc i))) (suc i ∷ tasks_behind g (suc i)) (tasks_behind g (suc i))
 behind-one g i low = let left : length g.setup.tasks - i ≡ suc (length g.setup.tasks - suc i) = omega arith in rw left refl
 
--- what is done at each task of a group in turn, what that rests on, and that it is so still once another was done
-pub record IsTurn (p : Parts) : Type 1 where
-  pub step : ℕ → GroupState → GroupState
-  pub Can : ℕ → GroupState → Type 0
-  pub keeps : (t u : ℕ) (s : GroupState) → Can t s → Can t (step u s)
+-- a task can be looked at, and has its number
+abbrev IsNumbered : Parts → ℕ → GroupState → Type 0
+IsNumbered p t s = CanBringUp p t s × ((task_in p.tasks t).number.0 ≡ t)
 
--- the first i tasks of the set have been done
-pub record AreToCome (p : Parts) (turn : IsTurn p) (n i : ℕ) (start s : GroupState) : Type 0 where
-  pub can : (t : ℕ) → has t (tasks (group_with p n)) ≡ true → turn.Can t s
-  pub rest : in_turn turn.step (tasks_behind (group_with p n) i) s ≡ in_turn turn.step (tasks (group_with p n)) start
+-- those of the group among the first i tasks of the set have been looked at
+pub record AreToCome (p : Parts) (n i : ℕ) (start s : GroupState) : Type 0 where
+  pub can : AreNumbered p (tasks (group_with p n)) s
+  pub rest : all_brought_up p (tasks_behind (group_with p n) i) s ≡ all_brought_up p (tasks (group_with p n)) start
 
-pub to-come-first : (p : Parts) (turn : IsTurn p) (n : ℕ) (s : GroupState) → ((t : ℕ) → has t (tasks (group_with p n)) ≡ true → turn.Can t s) → AreToCome p turn n 0 s s
+pub to-come-first : (p : Parts) (n : ℕ) (s : GroupState) → AreNumbered p (tasks (group_with p n)) s → AreToCome p n 0 s s
 unfolding tasks
-to-come-first p turn n s h = record {
+to-come-first p n s h = record {
   can = h;
   rest = let all : length p.tasks - 0 ≡ length p.tasks = omega arith in rw all refl;
 }
@@ -55,36 +53,20 @@ next-has p n i low e =
     let inside : has (suc i) all ≡ true = numbers_from-has 1 (length p.tasks) (suc i) (omega arith) (omega arith) in
     has-filter (λ t. in_group (group_with p n) (home (group_with p n) t)) (suc i) all ∙ rw (inside, next-in p n i true e)
 
-module _ (p : Parts) (turn : IsTurn p) (n i : ℕ) (start s : GroupState) (h : AreToCome p turn n i start s) where
+module _ (p : Parts) (n i : ℕ) (start s : GroupState) (h : AreToCome p n i start s) where
   -- the next task is of the group
-  pub next-can : i < length p.tasks → next_group p i ≡ n → turn.Can (suc i) s
+  pub next-can : i < length p.tasks → next_group p i ≡ n → IsNumbered p (suc i) s
   next-can low is = h.can (suc i) (next-has p n i low (eq-eqb (next_group p i) n is))
 
-  pub to-come-in : i < length p.tasks → next_group p i ≡ n → AreToCome p turn n (suc i) start (turn.step (suc i) s)
+  pub to-come-in : i < length p.tasks → next_group p i ≡ n → AreToCome p n (suc i) start (brought_up p (suc i) s)
   to-come-in low is = record {
-    can = λ t k. turn.keeps t (suc i) s (h.can t k);
+    can = λ t k. (can-after p t (suc i) s (h.can t k).0, (h.can t k).1);
     rest = rw (behind-one (group_with p n) i low, next-in p n i true (eq-eqb (next_group p i) n is)) at h.rest;
   }
 
   -- the next task is of another group
-  pub to-come-out : i < length p.tasks → next_group p i ≢ n → AreToCome p turn n (suc i) start s
+  pub to-come-out : i < length p.tasks → next_group p i ≢ n → AreToCome p n (suc i) start s
   to-come-out low other = record {
     can = h.can;
     rest = rw (behind-one (group_with p n) i low, next-in p n i false (ne_eqb (next_group p i) n other)) at h.rest;
   }
-
--- ---- telling base keys, and looking at tasks
-
-pub base-keeps : (p : Parts) (t u : ℕ) (s : GroupState) → CanBase p t s → CanBase p t (based p u s)
-base-keeps p t u s h = record {
-  task = h.task;
-  number_is = h.number_is;
-  deadline_low = h.deadline_low;
-  room = let same : length (set s.sems.waits.bases u (Some (base_now p s.jobs.kept u))) ≡ length s.sems.waits.bases = length-set _ _ _ in omega (arith, h.room, same);
-}
-
-abbrev pub base_turn : (p : Parts) → IsTurn p
-base_turn p = record { step = based p; Can = CanBase p; keeps = base-keeps p }
-
-abbrev pub look_turn : (p : Parts) → IsTurn p
-look_turn p = record { step = brought_up p; Can = λ t s. CanBringUp p t s × ((task_in p.tasks t).number.0 ≡ t); keeps = λ t u s h. (can-after p t u s h.0, h.1) }

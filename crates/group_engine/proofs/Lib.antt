@@ -1,30 +1,17 @@
 pub mod Reading
 pub mod Bringing
-pub mod Settling
-pub mod ClockMoves
-pub mod ActMoves
+pub mod BringingUp
 pub mod Bounding
-pub mod Answering
-pub mod Refusing
+pub mod Settling
 pub mod Running
 pub mod Interrupting
-pub mod Arriving
-pub mod Operating
-pub mod BringingUp
+pub mod Following
+pub mod ClockMoves
+pub mod ActMoves
 pub mod DueAgain
 pub mod DueInTurn
 pub mod GroupInTurn
-pub mod Idling
 pub mod Opening
 pub mod Stepping
-pub mod Telling
-mod SemLaws
-mod Bases
-mod Touched
-mod Quitting
-mod Locking
-mod Unlocking
-mod Following
-mod Charging
+mod Looked
 mod Offering
-mod Ends

@@ -5,6 +5,7 @@ use Rattle.rt_base.specs.TaskNos.{numbers}
 use Rattle.rt_base.specs.declared.TaskNo.{TaskNo}
 use Rattle.rt_rules.specs.Numbers.{has}
 use Rattle.rt_task.specs.declared.Parts.{Parts}
+use Rattle.group_core.specs.Facts.{WithRoom}
 use Rattle.group_engine.specs.declared.state.GroupState.{GroupState}
 use Rattle.group_engine.specs.Touching.{CanOffer, CanOfferAll, all_offered, offered}
 use Rattle.group_engine.proofs.Bringing.{others-offered}
@@ -12,27 +13,27 @@ use Rattle.group_engine.proofs.BringingUp.{all_offered-push, can-offer-all}
 use Rattle.waiting_list.proofs.Rows.{item-has}
 
 -- some of the changed clients stand where they should
-module _ (p : Parts) (start s : GroupState) (i : ℕ) (state_is : s ≡ all_offered p (take i start.resvs.changed) start) (ts : List TaskNo) (are : numbers ts ≡ s.resvs.changed) where
-  changed-same : numbers ts ≡ start.resvs.changed
-  changed-same = are ∙ ap (λ (x : GroupState). x.resvs.changed) state_is ∙ ap (λ w. w.changed) (others-offered p (take i start.resvs.changed) start).resvs_same
+module _ (p : Parts) (start s : GroupState) (i : ℕ) (state_is : s ≡ all_offered p (take i start.core.facts.resvs.changed) start) (ts : List TaskNo) (are : numbers ts ≡ s.core.facts.resvs.changed) where
+  changed-same : numbers ts ≡ start.core.facts.resvs.changed
+  changed-same = are ∙ ap (λ (x : GroupState). x.core.facts.resvs.changed) state_is ∙ ap (λ (c : WithRoom). c.facts.resvs.changed) (others-offered p (take i start.core.facts.resvs.changed) start).core_same
 
-  pub as-long : length ts ≡ length start.resvs.changed
+  pub as-long : length ts ≡ length start.core.facts.resvs.changed
   as-long = sym (length-map ts (λ (t : TaskNo). t.0)) ∙ ap length changed-same
 
   module _ (low : i < length ts) where
     abbrev next : TaskNo
     next = get_or ts i (record { 0 = 0 })
 
-    pub next-can : CanOfferAll p start.resvs.changed start → CanOffer p next.0 s
+    pub next-can : CanOfferAll p start.core.facts.resvs.changed start → CanOffer p next.0 s
     next-can can =
-        let among : has next.0 start.resvs.changed ≡ true = ap (has next.0) (sym changed-same) ∙ item-has ts i (record { 0 = 0 }) low in
-        rw state_is (can-offer-all p next.0 (take i start.resvs.changed) start (can next.0 among))
+        let among : has next.0 start.core.facts.resvs.changed ≡ true = ap (has next.0) (sym changed-same) ∙ item-has ts i (record { 0 = 0 }) low in
+        rw state_is (can-offer-all p next.0 (take i start.core.facts.resvs.changed) start (can next.0 among))
 
-    pub next-offered : offered p next.0 s ≡ all_offered p (take (i + 1) start.resvs.changed) start
+    pub next-offered : offered p next.0 s ≡ all_offered p (take (i + 1) start.core.facts.resvs.changed) start
     next-offered =
-        let number : next.0 ≡ get_or start.resvs.changed i 0 = sym (get_or-map (λ (t : TaskNo). t.0) ts i (record { 0 = 0 }) 0 low) ∙ ap (λ xs. get_or xs i 0) changed-same in
-        let more : take (i + 1) start.resvs.changed ≡ take i start.resvs.changed ++ get_or start.resvs.changed i 0 ∷ [] = take_more start.resvs.changed i 0 (omega (arith, low, as-long)) in
+        let number : next.0 ≡ get_or start.core.facts.resvs.changed i 0 = sym (get_or-map (λ (t : TaskNo). t.0) ts i (record { 0 = 0 }) 0 low) ∙ ap (λ xs. get_or xs i 0) changed-same in
+        let more : take (i + 1) start.core.facts.resvs.changed ≡ take i start.core.facts.resvs.changed ++ get_or start.core.facts.resvs.changed i 0 ∷ [] = take_more start.core.facts.resvs.changed i 0 (omega (arith, low, as-long)) in
         ap (offered p next.0) state_is
-        ∙ sym (all_offered-push p (take i start.resvs.changed) next.0 start)
-        ∙ ap (λ n. all_offered p (take i start.resvs.changed ++ n ∷ []) start) number
+        ∙ sym (all_offered-push p (take i start.core.facts.resvs.changed) next.0 start)
+        ∙ ap (λ n. all_offered p (take i start.core.facts.resvs.changed ++ n ∷ []) start) number
         ∙ ap (λ xs. all_offered p xs start) (sym more)

@@ -1,36 +1,28 @@
--- The clusters after an act by which its processor runs something else.
+-- A processor in its cluster, and the clusters after an act of it.
 use Rattle.std.proofs.Common.{◌≡◌, ◌≢◌, ℕ, Bool, true, false, length, eqb-true, refl, sym, ap, ◌∙◌, subst, arith}
 use Rattle.std.specs.Prelude.{◌==◌, Some, option_map, slice_index}
 use Rattle.std.proofs.lemmas.Bool.{eqb-false}
 use Rattle.rt_task.specs.declared.Act.{Act}
 use Rattle.rt_rules.specs.Numbers.{has}
 use Rattle.rt_rules.proofs.NumberLaws.{numbers_from-has}
-use Rattle.rt_model.specs.Group.{Group, cluster_with, clusters, cpus, first_cpu, processors, tasks}
+use Rattle.rt_model.specs.Group.{Group, cluster_with, clusters, cpus, first_cpu, processors}
 use Rattle.rt_model.specs.Links.{linked, runs_of}
 use Rattle.rt_model.specs.Outcomes.{past_act}
 use Rattle.rt_model.specs.Past.{Acted, Past}
-use Rattle.rt_model.specs.Reachable.{IsReachable}
 use Rattle.rt_model.specs.Runs.{runs}
-use Rattle.rt_laws.proofs.Running.{running}
-use Rattle.rt_laws.proofs.ValidSets.{rules_of}
 use Rattle.rt_model.proofs.PastLaws.{at_place-numbers, length-runs_of}
 use Rattle.rt_plays.specs.Homes.{IsProcessorOf}
 use Rattle.rt_groups.specs.Places.{IsAtHome}
 use Rattle.rt_groups.proofs.GroupPlaces.{processors_are_at_home}
-use Rattle.rt_groups.proofs.RunsAfter.{runs_of-changed}
+use Rattle.rt_groups.proofs.RunsAfter.{runs_of-changed, runs_of-still}
 use Rattle.rank_changes.proofs.SameClusters.{runs-elsewhere}
 use Rattle.link_table.specs.Linked.{IsOfCluster, link_of, runs_on, with_run}
-use Rattle.group_facts.specs.Facts.{CpuFacts}
 use Rattle.group_facts.specs.FactMoves.{with_act}
-use Rattle.group_facts.proofs.KeptMoves.{task-range}
-use Rattle.group_jobs.specs.GroupJobs.{RunsTask}
 use Rattle.cluster_table.specs.Clusters.{KeptCluster}
 use Rattle.cluster_table.specs.Table.{HasProcessor, Table, changed_at, cluster_at}
 use Rattle.cluster_table.proofs.RowLaws.{at-changed, at-changed_other}
 use Rattle.group_engine.specs.declared.state.GroupState.{GroupState}
-use Rattle.group_engine.specs.Moments.{IsPlayed}
 use Rattle.group_engine.specs.State.{HasClusterAt, IsAt, IsClusterAt}
-use Rattle.group_engine.proofs.ActMoves.{CanBe}
 use Rattle.group_engine.proofs.Settling.{HasClusterBetween}
 
 -- ---- a processor in its cluster
@@ -65,17 +57,36 @@ module _ (g : Group) (q : ℕ) (inside : IsProcessorOf g q) (past : Past) (s : G
   unfolding linked
   link-read k is = rw (is.first_is, is.links_are) refl
 
--- ---- the change
+-- ---- a cluster after an act of the processor
 
-module _ (g : Group) (q : ℕ) (act : Act) (past : Past) (s : GroupState) (can : CanBe g q act past s) (t : Table) (change : KeptCluster → KeptCluster) where
+module _ (g : Group) (q : ℕ) (act : Act) (past : Past) (s : GroupState) (at : IsAt g past s) where
+  -- where the processor runs what it ran, each cluster is between
+  pub between-still : runs q (with_act g q act past) ≡ runs q past → (c : ℕ) → has c (clusters g) ≡ true → HasClusterBetween g c (Acted (past_act g q act past)) past s.clusters
+  between-still same c h = was (at.clusters_are c h)
+    where
+      was : HasClusterAt g c past s.clusters → HasClusterBetween g c (Acted (past_act g q act past)) past s.clusters
+      was k = record {
+        cluster = k.cluster;
+        there = k.there;
+        is_between = record {
+          cpus_are = k.is_at.cpus_are;
+          first_is = k.is_at.first_is;
+          room = k.is_at.room;
+          keys_are = k.is_at.keys_are;
+          runs_are = k.is_at.runs_are ∙ sym (runs_of-still g c q act past same);
+          links_are = k.is_at.links_are;
+        };
+      }
+
+module _ (g : Group) (q : ℕ) (inside : IsProcessorOf g q) (act : Act) (past : Past) (s : GroupState) (at : IsAt g past s) (t : Table) (change : KeptCluster → KeptCluster) where
   own : IsAtHome g q (cluster_with g q)
-  own = processors_are_at_home g q can.inside
+  own = processors_are_at_home g q inside
 
   -- what the processor runs now is written down in its cluster, and the others stay
   pub between-run : t ≡ changed_at (cluster_with g q) change s.clusters
       → ((k : KeptCluster) → cluster_at s.clusters (cluster_with g q) ≡ Some k → IsClusterAt g (cluster_with g q) past k → change k ≡ record k { linked = with_run k.linked q (runs q (with_act g q act past)) })
       → (c : ℕ) → has c (clusters g) ≡ true → HasClusterBetween g c (Acted (past_act g q act past)) past t
-  between-run same run c h = by_case (cluster_with g q == c) refl (can.at.clusters_are c h)
+  between-run same run c h = by_case (cluster_with g q == c) refl (at.clusters_are c h)
     where
       by_case : (b : Bool) → cluster_with g q == c ≡ b → HasClusterAt g c past s.clusters → HasClusterBetween g c (Acted (past_act g q act past)) past t
       by_case true e was =
@@ -112,13 +123,3 @@ module _ (g : Group) (q : ℕ) (act : Act) (past : Past) (s : GroupState) (can :
               links_are = was.is_at.links_are;
             };
           }
-
--- what a processor of the group runs is a task of it
-pub runs-member : (g : Group) → IsPlayed g → (q t : ℕ) (past : Past) → IsReachable g past → runs q past ≡ Some t → has t (tasks g) ≡ true
-runs-member g played q t past made h = (running g (rules_of g played.valid) made q t h).member
-
-pub runs-task : (g : Group) → IsPlayed g → (q : ℕ) → IsProcessorOf g q → (past : Past) (s : GroupState) → IsAt g past s → RunsTask s.jobs.kept q
-runs-task g played q inside past s at = λ t h.
-    let r : runs q past ≡ Some t = sym (ap (λ (c : CpuFacts). c.runs) (at.jobs_are.cpus_are q inside)) ∙ h in
-    let range = task-range g t (runs-member g played q t past at.reachable r) in
-    (range.0, omega (arith, range.1, at.jobs_are.jobs_length))

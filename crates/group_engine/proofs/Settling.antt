@@ -1,6 +1,7 @@
 -- The state after a move: the tasks that it touched are looked at, and the links are placed anew.
-use Rattle.std.proofs.Common.{◌≡◌, ℕ, ◌+◌, Bool, true, false, not, ◌&&◌, List, [], ◌∷◌, length, get_or, refl, set, length-set, sym, ap, ◌∙◌, subst, arith}
+use Rattle.std.proofs.Common.{◌≡◌, ℕ, ◌+◌, ◌-◌, ◌≤◌, Bool, true, false, not, ◌&&◌, List, [], ◌∷◌, length, get_or, refl, set, length-set, sym, ap, ◌∙◌, subst, arith}
 use Rattle.std.specs.Prelude.{Option, None, Some, if◌then◌else◌, is_none, is_some, option_map}
+use Rattle.rt_base.specs.declared.TheConstants.{MOST_STEPS}
 use Rattle.rt_order.specs.declared.Key.{Key}
 use Rattle.rt_rules.specs.Numbers.{has}
 use Rattle.rt_rules.proofs.BoolLaws.{both}
@@ -9,58 +10,56 @@ use Rattle.rt_model.specs.EffectiveKeys.{effective_key}
 use Rattle.rt_model.specs.Group.{Group, clusters, cpus, first_cpu, home, task, tasks, tasks_of}
 use Rattle.rt_model.specs.Holders.{awaits}
 use Rattle.rt_model.specs.Links.{links, runs_of}
-use Rattle.rt_model.specs.Past.{Event, Clock, Acted, Past, did, is_work, now}
+use Rattle.rt_model.specs.Past.{Event, Clock, Acted, Past, did, entries_in, is_work}
 use Rattle.rt_model.specs.Reachable.{IsReachable}
 use Rattle.rt_model.specs.Releases.{ready}
 use Rattle.rt_model.specs.Tops.{eligible, ranking, top}
 use Rattle.rt_model.proofs.Steps.{links-step}
 use Rattle.rt_model.proofs.TopLaws.{distinct-tasks_of}
 use Rattle.rt_model.proofs.Unplayed.{plainly-eligible}
+use Rattle.rt_laws.proofs.GroupLaws.{tasks_of-home}
+use Rattle.rt_groups.specs.Places.{IsHomeTask}
 use Rattle.ready_queue.specs.Queue.{first_tasks}
 use Rattle.ready_queue.specs.ReadySet.{HoldsJust, kept_key, set_refreshed}
 use Rattle.ready_queue.specs.Refreshed.{AgreeBut}
 use Rattle.ready_queue.proofs.ReadySets.{set_is_refreshed}
 use Rattle.rank_changes.specs.ClusterMoves.{of_cluster}
 use Rattle.rank_changes.specs.Clusters.{HoldsEligible}
-use Rattle.group_facts.specs.Facts.{job_facts}
-use Rattle.group_facts.specs.Kept.{IsKept}
+use Rattle.group_facts.specs.Kept.{IsKept, Kept, job_of}
 use Rattle.group_facts.specs.Timers.{TimersAreKept, renewed, timer_at}
 use Rattle.group_facts.specs.Words.{is_ready}
 use Rattle.group_facts.proofs.TimerMoves.{timer_is_read}
+use Rattle.group_jobs.specs.GroupJobs.{task_in}
 use Rattle.cluster_table.specs.Clusters.{KeptCluster, relinked}
-use Rattle.cluster_table.specs.Table.{Table, cluster_at}
+use Rattle.cluster_table.specs.Table.{HasTask, Table, cluster_at}
 use Rattle.cluster_table.proofs.FirstTasks.{first_tasks-holds}
 use Rattle.cluster_table.proofs.RowLaws.{at-relinked}
-use Rattle.group_jobs.specs.GroupJobs.{ready_now, task_in}
-use Rattle.prio_inherit.specs.Waits as kept_keys
 use Rattle.sem_table.specs.Told.{awaits_of}
-use Rattle.group_sems.specs.GroupSems.{GroupSems}
-use Rattle.group_sem_laws.specs.Kept.{KeepsGroupSems, KeepsWaits}
-use Rattle.group_engine.proofs.SemLaws.{holding_is_read, key_is_read}
-use Rattle.group_engine.specs.declared.state.GroupState.{GroupState}
-use Rattle.group_engine.specs.Keys.{HoldsKeys}
-use Rattle.group_engine.specs.Ending.{HasClusterEnding, HoldsStanding, IsEnding, stands}
-use Rattle.group_engine.specs.Moments.{IsPlayed}
-use Rattle.group_engine.specs.State.{AreHomes, HasClusterAt, IsAt, IsWithin}
-use Rattle.group_engine.specs.Touching.{CanOfferAll, all_brought_up, all_offered, placed_all, timer_now}
-use Rattle.group_engine.proofs.Bases.{has-base}
-use Rattle.waiting_list.proofs.Kept.{at_home}
-use Rattle.group_engine.proofs.Bounding.{task-of}
-use Rattle.group_engine.proofs.Bringing.{OnlyClusters, cluster-brought, cluster-offered, home-in, homes-brought, jobs-brought, key_where, keys-refreshed, others-offered, renewed-same, resvs-brought, sems-brought, served-told_each, timers-brought}
-use Rattle.group_engine.proofs.Reading.{IsAlike, ready-release, stands-ready}
+use Rattle.group_sem_laws.specs.Kept.{KeepsGroupSems}
 use Rattle.group_resvs.specs.GroupResvs.{GroupResvs, IsSettled, is_served, is_served_by}
 use Rattle.group_resvs.specs.Kept.{KeepsResvs}
-use Rattle.group_resvs.specs.Laws.{AreChanged, AreToldOf, told_of_move}
-use Rattle.group_resvs.proofs.KeptLaws.{move_is_kept, resvs_are_read}
+use Rattle.group_resvs.specs.Laws.{AreToldOf}
+use Rattle.group_resvs.proofs.KeptLaws.{resvs_are_read}
 use Rattle.resv_core.specs.Served.{Served, charged}
 use Rattle.resv_laws.specs.Kept.{ready_release}
 use Rattle.resv_laws.specs.Serving as serving
-use Rattle.resv_laws.specs.Serving.{all_begun, for_task, told_each}
+use Rattle.resv_laws.specs.Serving.{all_begun, for_task}
 use Rattle.resv_laws.proofs.ServingLaws.{for_task-keeps}
-use Rattle.rt_laws.proofs.GroupLaws.{tasks_of-home}
-use Rattle.cluster_table.specs.Table.{HasTask}
-use Rattle.rt_groups.specs.Places.{IsHomeTask}
-use Rattle.resv_laws.proofs.ToldEach.{told-same}
+use Rattle.waiting_list.proofs.Kept.{at_home}
+use Rattle.group_core.specs.Facts.{Facts, WithRoom, told_all}
+use Rattle.group_core.specs.Reads.{key_in, timer_in}
+use Rattle.group_core.specs.Standing as core
+use Rattle.group_core.proofs.ModelWords.{key-read, waits-read}
+use Rattle.group_core.proofs.Moves.{at-ended, changed-ended, fit-ended}
+use Rattle.group_engine.specs.declared.state.GroupState.{GroupState}
+use Rattle.group_engine.specs.Keys.{HoldsKeys}
+use Rattle.group_engine.specs.Ending.{HasClusterEnding, HaveEnded, HoldsStanding, IsEnding, stands}
+use Rattle.group_engine.specs.Moments.{IsPlayed}
+use Rattle.group_engine.specs.State.{AreHomes, HasClusterAt, IsAt, IsFitAt, acts_left}
+use Rattle.group_engine.specs.Touching.{CanOfferAll, all_brought_up, all_offered, placed_all}
+use Rattle.group_engine.proofs.Bounding.{at-home-in, has-base, task-of}
+use Rattle.group_engine.proofs.Bringing.{OnlyClusters, cluster-brought, cluster-offered, core-brought, homes-brought, key_where, keys-refreshed, others-offered, renewed-same, timers-brought}
+use Rattle.group_engine.proofs.Reading.{IsAlike, stands-ready}
 
 -- ---- the top of a cluster is the first of the tasks that its set holds
 
@@ -84,20 +83,13 @@ pub record HasClusterBetween (g : Group) (c : ℕ) (e : Event) (past : Past) (t 
   pub there : cluster_at t c ≡ Some cluster
   pub is_between : IsClusterBetween g c e past cluster
 
--- of the reservations: the move is begun, and no client is told yet
-abbrev pub begun_resvs : Event → Past → GroupResvs → GroupResvs
-begun_resvs e past w = record w { resvs = all_begun e past w.resvs }
-
 -- of the state, where all tasks but those of a list look as before
 pub record IsBetween (g : Group) (e : Event) (past : Past) (us : List ℕ) (s : GroupState) : Type 0 where
-  pub reachable : IsReachable g (e ∷ past)
-  pub within : IsWithin (e ∷ past)
-  pub jobs_are : IsKept g (e ∷ past) s.jobs.kept
-  pub sems_are : KeepsGroupSems g (e ∷ past) s.sems
-  pub timers_are : TimersAreKept g (e ∷ past) (renewed (timer_at g (e ∷ past)) us s.timers)
+  pub few : entries_in (e ∷ past) ≤ MOST_STEPS
   pub before : GroupResvs
-  pub kept_before : KeepsResvs g past before
-  pub resvs_are : s.resvs ≡ begun_resvs e past before
+  pub moved : core.IsMoved g e past before s.core.facts
+  pub fit : IsFitAt g (e ∷ past) s.core.facts
+  pub timers_are : TimersAreKept g (e ∷ past) (renewed (timer_at g (e ∷ past)) us s.timers)
   pub homes_are : AreHomes g s.clusters.homes
   pub clusters_are : (c : ℕ) → has c (clusters g) ≡ true → HasClusterBetween g c e past s.clusters
   pub inside : (t : ℕ) → has t us ≡ true → has t (tasks g) ≡ true
@@ -117,42 +109,43 @@ begun-by (Acted d) past v = by_task d.task
     by_task None = refl
     by_task (Some t) = by_work t (is_work (did t (Acted d)))
 
-served-begun : (e : Event) (past : Past) (w : GroupResvs) (t : ℕ) → is_served (begun_resvs e past w) t ≡ is_served w t
+served-begun : (e : Event) (past : Past) (w : GroupResvs) (t : ℕ) → is_served (record w { resvs = all_begun e past w.resvs }) t ≡ is_served w t
 served-begun e past w t = ap (λ xs. is_served_by (get_or xs t None) w.serves t) (begun-by e past w.resvs)
+
+-- ---- what is kept of a task
 
 not-some : (o : Option ℕ) → not (is_some o) ≡ is_none o
 not-some None = refl
 not-some (Some x) = refl
 
--- the keys that are kept
-pub waits-kept : (g : Group) (past : Past) (v : GroupSems) → KeepsGroupSems g past v → KeepsWaits g past v.waits
-waits-kept g past v kept = record { bases_are = kept.bases; nexts_are = kept.locks.nexts_are; boosts_are = kept.locks.boosts_are }
+and-three : (a b c : Bool) → a && (b && c) ≡ (a && b) && c
+and-three true b c = refl
+and-three false b c = refl
 
--- what is kept of a task is its key at the past, where it stands and is served
-pub key-kept : (g : Group) → IsPlayed g → (past : Past) → IsReachable g past → (s : GroupState) → IsKept g past s.jobs.kept → KeepsGroupSems g past s.sems
+-- whether it stands
+stands-kept : (g : Group) (past : Past) (f : Facts) → IsReachable g past → IsKept g past f.kept → KeepsGroupSems g past f.sems → IsPlayed g
+    → (t : ℕ) → has t (tasks g) ≡ true
+    → is_ready f.kept.clock (task_in g.setup.tasks t) (job_of f.kept t) && not (is_some (awaits_of f.sems.table t)) ≡ stands g t past
+unfolding task
+stands-kept g past f made kept sems played t h =
+    let job = kept.jobs_are t h in
+    let clock = kept.clock_is in
+    let waits : not (is_some (awaits_of f.sems.table t)) ≡ is_none (awaits g t past) = ap not (waits-read g past f.kept kept played.valid made f.sems sems t h) ∙ not-some (awaits g t past) in
+    rw (clock, job, waits) (sym (stands-ready g past t))
+
+-- its key, where it stands and is served
+pub key-kept : (g : Group) (past : Past) (f : Facts) → IsReachable g past → IsKept g past f.kept → KeepsGroupSems g past f.sems → IsPlayed g
     → (served : ℕ → Bool) (t : ℕ) → has t (tasks g) ≡ true
-    → key_where g.setup s.jobs.kept s.sems served t ≡ kept_key (λ u. effective_key g u past) (λ u. stands g u past && served u) t
-unfolding task
-key-kept g played past made s kept sems served t h =
-    let job = kept.jobs_are t h in
-    let clock = kept.clock_is in
-    let key : kept_keys.effective_key s.sems.waits t ≡ effective_key g t past = key_is_read g past played.valid made s.sems.waits t h (waits-kept g past s.sems sems) in
-    let waits : not (is_some (awaits_of s.sems.table t)) ≡ is_none (awaits g t past) = ap not (holding_is_read g past played.valid made s.sems t h sems.locks).1 ∙ not-some (awaits g t past) in
-    let test : is_ready (now past) (task_in g.setup.tasks t) (job_facts t past) && is_none (awaits g t past) ≡ stands g t past = sym (stands-ready g past t) in
-    rw (clock, job, waits, key, test) refl
+    → key_where g.setup f.kept f.sems served t ≡ kept_key (λ u. effective_key g u past) (λ u. stands g u past && served u) t
+key-kept g past f made kept sems played served t h =
+    let r : Bool = is_ready f.kept.clock (task_in g.setup.tasks t) (job_of f.kept t) in
+    let n : Bool = not (is_some (awaits_of f.sems.table t)) in
+    ap (λ b. if b then Some (key_in f.sems t) else None) (and-three r n (served t) ∙ ap (λ b. b && served t) (stands-kept g past f made kept sems played t h))
+    ∙ ap (λ k. if stands g t past && served t then Some k else None) (sym (key-read g past f.kept kept played.valid made f.sems sems t h))
 
--- the release of its ready job is read off
-pub told-kept : (g : Group) (past : Past) (s : GroupState) → IsKept g past s.jobs.kept → (t : ℕ) → has t (tasks g) ≡ true
-    → ready_now g.setup.tasks s.jobs.kept t ≡ ready_release g t past
+pub timer-kept : (g : Group) (past : Past) (k : Kept) → IsKept g past k → (t : ℕ) → has t (tasks g) ≡ true → timer_in g.setup k t ≡ timer_at g past t
 unfolding task
-told-kept g past s kept t h =
-    let job = kept.jobs_are t h in
-    let clock = kept.clock_is in
-    rw (clock, job) (sym (ready-release g past t))
-
-pub timer-kept : (g : Group) (past : Past) (s : GroupState) → IsKept g past s.jobs.kept → (t : ℕ) → has t (tasks g) ≡ true → timer_now g.setup s.jobs.kept t ≡ timer_at g past t
-unfolding task
-timer-kept g past s kept t h = sym (timer_is_read g past s.jobs.kept kept t h)
+timer-kept g past k kept t h = sym (timer_is_read g past k kept t h)
 
 pub length-refreshed : (key : ℕ → Key) (test : ℕ → Bool) (us : List ℕ) (keys : List (Option Key)) → length (set_refreshed key test us keys) ≡ length keys
 length-refreshed key test [] keys = refl
@@ -175,10 +168,6 @@ pub eligible-served : (g : Group) → IsPlayed g → (past : Past) (w : GroupRes
 eligible-served g played past w kept t h =
     let read = resvs_are_read g t past w played.valid kept h in
     plainly-eligible g played.valid t past ∙ ap (λ b. ready g t past && (is_none (awaits g t past) && b)) (sym read.served) ∙ and-three (ready g t past) (is_none (awaits g t past)) (is_served w t)
-  where
-    and-three : (a b c : Bool) → a && (b && c) ≡ (a && b) && c
-    and-three true b c = refl
-    and-three false b c = refl
 
 of_cluster-inside : (g : Group) (c : ℕ) (us : List ℕ) (t : ℕ) → has t (of_cluster g c us) ≡ true → has t (tasks_of g c) ≡ true
 of_cluster-inside g c us t h = (both (has t us) (has t (tasks_of g c)) (sym (has-filter (λ u. has u (tasks_of g c)) t us) ∙ h)).1
@@ -194,44 +183,37 @@ module _ (g : Group) (played : IsPlayed g) (e : Event) (past : Past) (us : List 
   abbrev brought_state : GroupState
   brought_state = all_brought_up g.setup us s
 
+  abbrev f : Facts
+  f = s.core.facts
+
+  abbrev w : GroupResvs
+  w = between.before
+
   timers-settled : TimersAreKept g (e ∷ past) brought_state.timers
   timers-settled =
       subst (TimersAreKept g (e ∷ past))
-      (sym (timers-brought g.setup us s ∙ renewed-same (timer_now g.setup s.jobs.kept) (timer_at g (e ∷ past)) us s.timers (λ u h. timer-kept g (e ∷ past) s between.jobs_are u (between.inside u h))))
+      (sym (timers-brought g.setup us s ∙ renewed-same (timer_in g.setup f.kept) (timer_at g (e ∷ past)) us s.timers (λ u h. timer-kept g (e ∷ past) f.kept between.moved.kept u (between.inside u h))))
       between.timers_are
 
   -- who is served is who was before
-  served-before : (t : ℕ) → is_served s.resvs t ≡ is_served between.before t
-  served-before t = ap (λ w. is_served w t) between.resvs_are ∙ served-begun e past between.before t
+  served-before : (t : ℕ) → is_served f.resvs t ≡ is_served w t
+  served-before t = ap (λ v. is_served v t) between.moved.resvs_are ∙ served-begun e past w t
 
-  resvs-told : brought_state.resvs ≡ told_of_move g e past us between.before
-  resvs-told =
-      resvs-brought g.setup us s
-      ∙ ap (λ v. let x : GroupResvs = record s.resvs { resvs = v } in x) (told-same (ready_now g.setup.tasks s.jobs.kept) (λ t. ready_release g t (e ∷ past)) us s.resvs.resvs (λ u h. told-kept g (e ∷ past) s between.jobs_are u (between.inside u h)))
-      ∙ ap (λ w. let x : GroupResvs = record w { resvs = told_each (λ t. ready_release g t (e ∷ past)) us w.resvs } in x) between.resvs_are
-
-  served-told : (t : ℕ) → is_served brought_state.resvs t ≡ is_served between.before t
-  served-told t =
-      ap (λ w. is_served w t) (resvs-brought g.setup us s)
-      ∙ served-told_each (ready_now g.setup.tasks s.jobs.kept) us s.resvs t ∙ served-before t
-
-  cluster-ending : (c : ℕ) → HasClusterBetween g c e past s.clusters → HasClusterEnding g c (e ∷ past) brought_state.resvs brought_state.clusters
+  cluster-ending : (c : ℕ) → HasClusterBetween g c e past s.clusters → HasClusterEnding g c (e ∷ past) w brought_state.clusters
   cluster-ending c was =
       let k : KeptCluster = was.cluster in
-      let w : GroupResvs = between.before in
       let key : ℕ → Key = λ u. effective_key g u (e ∷ past) in
       let test : ℕ → Bool = λ u. stands g u (e ∷ past) && is_served w u in
       let keys : List (Option Key) = set_refreshed key test (of_cluster g c us) k.keys in
-      let keys_same = keys-refreshed g c s.jobs.kept s.sems (is_served w) key test us k.keys (λ u h. (between.inside u h, key-kept g played (e ∷ past) between.reachable s between.jobs_are between.sems_are (is_served w) u (between.inside u h))) in
+      let keys_same = keys-refreshed g c f.kept f.sems (is_served w) key test us k.keys (λ u h. (between.inside u h, key-between u (between.inside u h))) in
       let next : KeptCluster = record k { keys = keys } in
       let brought : cluster_at brought_state.clusters c ≡ Some next = cluster-brought g.setup us s (is_served w) served-before c k was.there ∙ ap (λ ks. let x : KeptCluster = record k { keys = ks } in Some x) keys_same in
-      let were : HoldsStanding g c past w k.keys = holds-same (tasks_of g c) (λ u. effective_key g u past) (λ u. eligible g u past) (λ u. stands g u past && is_served w u) k.keys (λ t h. eligible-served g played past w between.kept_before t (tasks_of-home g c t h).0) was.is_between.keys_are in
+      let were : HoldsStanding g c past w k.keys = holds-same (tasks_of g c) (λ u. effective_key g u past) (λ u. eligible g u past) (λ u. stands g u past && is_served w u) k.keys (λ t h. eligible-served g played past w between.moved.resvs_were t (tasks_of-home g c t h).0) was.is_between.keys_are in
       let agree : AgreeBut (of_cluster g c us) (tasks_of g c) (λ u. effective_key g u past) key (λ u. stands g u past && is_served w u) test = record {
         inside = of_cluster-inside g c us;
         tests = λ t h m. ap (λ b. b && is_served w t) (sym (alike c t h m).stands_same);
         keys = λ t h m x. sym (alike c t h m).key_same;
       } in
-      let holds : HoldsStanding g c (e ∷ past) w keys = set_is_refreshed (of_cluster g c us) (tasks_of g c) (λ u. effective_key g u past) key (λ u. stands g u past && is_served w u) test k.keys agree were in
       record {
         cluster = next;
         there = brought;
@@ -239,7 +221,7 @@ module _ (g : Group) (played : IsPlayed g) (e : Event) (past : Past) (us : List 
           cpus_are = was.is_between.cpus_are;
           first_is = was.is_between.first_is;
           room = length-refreshed key test (of_cluster g c us) k.keys ∙ was.is_between.room;
-          keys_are = holds-same (tasks_of g c) key test (λ u. stands g u (e ∷ past) && is_served brought_state.resvs u) keys (λ t h. ap (λ b. stands g t (e ∷ past) && b) (sym (served-told t))) holds;
+          keys_are = set_is_refreshed (of_cluster g c us) (tasks_of g c) (λ u. effective_key g u past) key (λ u. stands g u past && is_served w u) test k.keys agree were;
           runs_are = was.is_between.runs_are;
           links_become = rw was.is_between.links_are (sym (links-step g c e past));
         };
@@ -248,75 +230,88 @@ module _ (g : Group) (played : IsPlayed g) (e : Event) (past : Past) (us : List 
       alike : (c t : ℕ) → has t (tasks_of g c) ≡ true → has t (of_cluster g c us) ≡ false → IsAlike g t past (e ∷ past)
       alike c t h m = between.others t (tasks_of-home g c t h).0 (of_cluster-outside g c us t h m)
 
+      key-between : (u : ℕ) → has u (tasks g) ≡ true → key_where g.setup f.kept f.sems (is_served w) u ≡ kept_key (λ v. effective_key g v (e ∷ past)) (λ v. stands g v (e ∷ past) && is_served w v) u
+      key-between u h = key-kept g (e ∷ past) f between.moved.reachable between.moved.kept between.moved.sems_are played (is_served w) u h
+
   told-of : AreToldOf g (λ t. ready_release g t past) (e ∷ past) us
   told-of = record { inside = between.inside; others = λ t h k. (between.others t h k).told_same }
 
-  become : (z : GroupResvs) → IsSettled brought_state.resvs z → KeepsResvs g (e ∷ past) z × AreChanged g brought_state.resvs z
-  become z end =
-      let m = move_is_kept g e past us between.before z played.valid between.reachable between.kept_before told-of (subst (λ w. IsSettled w z) resvs-told end) in
-      (m.0, record { inside = m.1.inside; others = λ t h k. m.1.others t h k ∙ sym (served-told t) })
+  ends : (z : Facts) → z.kept ≡ brought_state.core.facts.kept → z.sems ≡ brought_state.core.facts.sems → IsSettled brought_state.core.facts.resvs z.resvs
+      → HaveEnded g (e ∷ past) w z
+  ends z kept sems settled =
+      let all : brought_state.core.facts ≡ told_all g.setup us f = ap (λ (x : WithRoom). x.facts) (core-brought g.setup us s) in
+      let k : z.kept ≡ f.kept = kept ∙ ap (λ (x : Facts). x.kept) all in
+      let v : z.sems ≡ f.sems = sems ∙ ap (λ (x : Facts). x.sems) all in
+      let end : IsSettled (told_all g.setup us f).resvs z.resvs = subst (λ (x : Facts). IsSettled x.resvs z.resvs) all settled in
+      record {
+        at = at-ended g played.valid e past w f between.moved us told-of z k v end;
+        fit = fit-ended g played.valid e past w f between.moved us told-of z k v end (acts_left (e ∷ past)) (acts_left (e ∷ past)) between.fit;
+        changed = changed-ended g played.valid e past w f between.moved us told-of z k v end;
+      }
 
   -- once they were looked at
   pub brought : IsEnding g (e ∷ past) brought_state
   brought = record {
-    reachable = between.reachable;
-    within = between.within;
-    jobs_are = rw (jobs-brought g.setup us s) between.jobs_are;
-    sems_are = rw (sems-brought g.setup us s) between.sems_are;
+    few = between.few;
+    before = w;
+    core_ends = ends;
     timers_are = timers-settled;
     homes_are = rw (homes-brought g.setup us s) between.homes_are;
     clusters_are = λ c h. cluster-ending c (between.clusters_are c h);
-    resvs_become = become;
   }
 
 -- ---- the end
 
-module _ (g : Group) (played : IsPlayed g) (past : Past) (s : GroupState) (ending : IsEnding g past s) (z : GroupResvs) (end : IsSettled s.resvs z) where
+module _ (g : Group) (played : IsPlayed g) (past : Past) (s : GroupState) (ending : IsEnding g past s) (z : WithRoom) (kept : z.facts.kept ≡ s.core.facts.kept) (sems : z.facts.sems ≡ s.core.facts.sems)
+    (settled : IsSettled s.core.facts.resvs z.facts.resvs) where
   abbrev settled_state : GroupState
-  settled_state = record s { resvs = z }
+  settled_state = record s { core = z }
 
-  kept-z : KeepsResvs g past z
-  kept-z = (ending.resvs_become z end).0
+  abbrev settled_resvs : GroupResvs
+  settled_resvs = z.facts.resvs
 
-  changed-z : AreChanged g s.resvs z
-  changed-z = (ending.resvs_become z end).1
+  ended-core : HaveEnded g past ending.before z.facts
+  ended-core = ending.core_ends z.facts kept sems settled
 
   -- what putting the changed clients where they stand rests on
-  pub can-offer : CanOfferAll g.setup z.changed settled_state
+  pub can-offer : CanOfferAll g.setup settled_resvs.changed settled_state
   can-offer t k =
-      let h : has t (tasks g) ≡ true = changed-z.inside t k in
+      let h : has t (tasks g) ≡ true = ended-core.changed.inside t k in
+      let fit = ended-core.fit in
       let home_of : IsHomeTask g t = at_home g played.valid t h in
-      let was : HasClusterEnding g (home g t) past s.resvs s.clusters = ending.clusters_are (home g t) home_of.cluster_there in
+      let was : HasClusterEnding g (home g t) past ending.before s.clusters = ending.clusters_are (home g t) home_of.cluster_there in
       let there : HasTask s.clusters (home g t) t = (was.cluster, was.there, omega (arith, was.is_ending.room, home_of.high)) in
       record {
-        task = task-of g played t h past s.jobs.kept ending.jobs_are ending.within;
-        has_base = has-base g past s.sems.waits.bases ending.sems_are.bases t h;
-        at_home = subst (λ c. HasTask s.clusters c t) (sym (home-in g t)) there;
+        task = task-of g played.valid t h (MOST_STEPS - acts_left past) z.facts.kept (omega arith) fit.read;
+        has_base = has-base g played.valid t h z.facts.kept z.facts.sems fit.based;
+        at_home = at-home-in g played.valid t h s there;
       }
 
-  cluster-ended : (c : ℕ) → HasClusterEnding g c past s.resvs s.clusters → HasClusterAt g c past (placed_all (all_offered g.setup z.changed settled_state)).clusters
+  cluster-ended : (c : ℕ) → HasClusterEnding g c past ending.before s.clusters → HasClusterAt g c past (placed_all (all_offered g.setup settled_resvs.changed settled_state)).clusters
   cluster-ended c was =
       let k : KeptCluster = was.cluster in
       let key : ℕ → Key = λ u. effective_key g u past in
-      let test : ℕ → Bool = λ u. stands g u past && is_served z u in
-      let keys : List (Option Key) = set_refreshed key test (of_cluster g c z.changed) k.keys in
-      let keys_same = keys-refreshed g c s.jobs.kept s.sems (is_served z) key test z.changed k.keys (λ u h. (changed-z.inside u h, key-kept g played past ending.reachable s ending.jobs_are ending.sems_are (is_served z) u (changed-z.inside u h))) in
+      let test : ℕ → Bool = λ u. stands g u past && is_served settled_resvs u in
+      let keys : List (Option Key) = set_refreshed key test (of_cluster g c settled_resvs.changed) k.keys in
+      let keys_same = keys-refreshed g c z.facts.kept z.facts.sems (is_served settled_resvs) key test settled_resvs.changed k.keys
+      (λ u h. let m : has u (tasks g) ≡ true = ended-core.changed.inside u h in
+      (m, key-kept g past z.facts ended-core.at.reachable ended-core.at.kept ended-core.at.sems_are played (is_served settled_resvs) u m)) in
       let next : KeptCluster = record k { keys = keys } in
-      let offered_row : cluster_at (all_offered g.setup z.changed settled_state).clusters c ≡ Some next = cluster-offered g.setup z.changed settled_state c k was.there ∙ ap (λ ks. let x : KeptCluster = record k { keys = ks } in Some x) keys_same in
-      let agree : AgreeBut (of_cluster g c z.changed) (tasks_of g c) key key (λ u. stands g u past && is_served s.resvs u) test = record {
-        inside = of_cluster-inside g c z.changed;
-        tests = λ t h m. ap (λ b. stands g t past && b) (sym (changed-z.others t (tasks_of-home g c t h).0 (of_cluster-outside g c z.changed t h m)));
+      let offered_row : cluster_at (all_offered g.setup settled_resvs.changed settled_state).clusters c ≡ Some next = cluster-offered g.setup settled_resvs.changed settled_state c k was.there ∙ ap (λ ks. let x : KeptCluster = record k { keys = ks } in Some x) keys_same in
+      let agree : AgreeBut (of_cluster g c settled_resvs.changed) (tasks_of g c) key key (λ u. stands g u past && is_served ending.before u) test = record {
+        inside = of_cluster-inside g c settled_resvs.changed;
+        tests = λ t h m. ap (λ b. stands g t past && b) (sym (ended-core.changed.others t (tasks_of-home g c t h).0 (of_cluster-outside g c settled_resvs.changed t h m)));
         keys = λ t h m x. refl;
       } in
-      let stand : HoldsStanding g c past z keys = set_is_refreshed (of_cluster g c z.changed) (tasks_of g c) key key (λ u. stands g u past && is_served s.resvs u) test k.keys agree was.is_ending.keys_are in
-      let holds : HoldsEligible g c past keys = holds-same (tasks_of g c) key test (λ u. eligible g u past) keys (λ t h. sym (eligible-served g played past z kept-z t (tasks_of-home g c t h).0)) stand in
+      let stand : HoldsStanding g c past settled_resvs keys = set_is_refreshed (of_cluster g c settled_resvs.changed) (tasks_of g c) key key (λ u. stands g u past && is_served ending.before u) test k.keys agree was.is_ending.keys_are in
+      let holds : HoldsEligible g c past keys = holds-same (tasks_of g c) key test (λ u. eligible g u past) keys (λ t h. sym (eligible-served g played past settled_resvs ended-core.at.resvs_are t (tasks_of-home g c t h).0)) stand in
       record {
         cluster = relinked next;
-        there = at-relinked (all_offered g.setup z.changed settled_state).clusters c ∙ ap (option_map relinked) offered_row;
+        there = at-relinked (all_offered g.setup settled_resvs.changed settled_state).clusters c ∙ ap (option_map relinked) offered_row;
         is_at = record {
           cpus_are = was.is_ending.cpus_are;
           first_is = was.is_ending.first_is;
-          room = length-refreshed key test (of_cluster g c z.changed) k.keys ∙ was.is_ending.room;
+          room = length-refreshed key test (of_cluster g c settled_resvs.changed) k.keys ∙ was.is_ending.room;
           keys_are = holds;
           runs_are = was.is_ending.runs_are;
           links_are =
@@ -326,23 +321,21 @@ module _ (g : Group) (played : IsPlayed g) (past : Past) (s : GroupState) (endin
       }
 
   -- once the changed clients are where they stand, and the links placed
-  pub ended : IsAt g past (placed_all (all_offered g.setup z.changed settled_state))
+  pub ended : IsAt g past (placed_all (all_offered g.setup settled_resvs.changed settled_state))
   ended =
-      let only : OnlyClusters settled_state (all_offered g.setup z.changed settled_state) = others-offered g.setup z.changed settled_state in
+      let only : OnlyClusters settled_state (all_offered g.setup settled_resvs.changed settled_state) = others-offered g.setup settled_resvs.changed settled_state in
       record {
-        reachable = ending.reachable;
-        within = ending.within;
-        jobs_are = rw only.jobs_same ending.jobs_are;
-        sems_are = rw only.sems_same ending.sems_are;
+        few = ending.few;
+        core_at = rw only.core_same ended-core.at;
+        core_fit = rw only.core_same ended-core.fit;
         timers_are = rw only.timers_same ending.timers_are;
-        resvs_are = rw only.resvs_same kept-z;
         homes_are = rw only.homes_same ending.homes_are;
         clusters_are = λ c h. cluster-ended c (ending.clusters_are c h);
       }
 
 -- the table of keys holds those of the group's tasks
-pub keys-held : (g : Group) → IsPlayed g → (past : Past) (s : GroupState) → IsAt g past s → HoldsKeys g past s.sems.waits
+pub keys-held : (g : Group) → IsPlayed g → (past : Past) (s : GroupState) → IsAt g past s → HoldsKeys g past s.core.facts.sems.waits
 keys-held g played past s at = record {
-  told = λ t h. has-base g past s.sems.waits.bases at.sems_are.bases t h;
-  keys = λ t h. key_is_read g past played.valid at.reachable s.sems.waits t h (waits-kept g past s.sems at.sems_are);
+  told = λ t h. has-base g played.valid t h s.core.facts.kept s.core.facts.sems at.core_fit.based;
+  keys = λ t h. sym (key-read g past s.core.facts.kept at.core_at.kept played.valid at.core_at.reachable s.core.facts.sems at.core_at.sems_are t h);
 }

@@ -7,7 +7,6 @@ use Rattle.rt_task.specs.declared.Parts.{Parts}
 use Rattle.rt_task.specs.declared.Step.{Step}
 use Rattle.rt_task.specs.Validity.{IsValid}
 use Rattle.rt_history.specs.declared.Entry.{Entry}
-use Rattle.rt_history.specs.declared.Reply.{Reply}
 use Rattle.rt_model.specs.Group.{Group}
 use Rattle.rt_model.specs.Histories.{after, past_from, past_of, reply_to}
 use Rattle.rt_model.specs.Past.{Clock, Past, entries_in}
@@ -16,13 +15,12 @@ use Rattle.rt_model.proofs.Steps.{IsLegal-append, after-acted, past_of-append, r
 use Rattle.rt_plays.specs.Homes.{IsProcessorOf}
 use Rattle.rt_groups.specs.Groups.{GroupHistory, IsGroupOf, group_of}
 use Rattle.rt_groups.specs.Endings.{ended_last}
+use Rattle.group_core.specs.declared.looks.Answer.{Answer}
 use Rattle.group_engine.specs.declared.state.GroupState.{GroupState}
-use Rattle.group_engine.specs.Ended.{IsOfJobs, at_stake, ended_of}
 use Rattle.group_engine.specs.Moments.{CanActOn, CanMove, HasActed, IsPlayed}
 use Rattle.waiting_list.specs.Listing.{Moment}
 use Rattle.group_engine.specs.Sound.{Extent, IsMoved, IsSound}
 use Rattle.group_engine.specs.State.{IsAt}
-use Rattle.group_engine.proofs.Ends.{ended-read, stake-there}
 
 pub entries_in-from : (g : Group) (es : List Entry) (past : Past) → entries_in (past_from g past es) ≡ length es + entries_in past
 unfolding past_from after
@@ -40,7 +38,7 @@ played p q n same valid there = record {
   is_there = subst (λ (r : Parts). IsGroupOf r n) (sym same) there;
 }
 
-pub sound-open : (g : Group) (room capacity : ℕ) (s : GroupState) → IsPlayed g → room ≤ MOST_STEPS → room ≤ capacity → s.jobs.room ≡ room → IsAt g [] s → IsSound g [] room capacity s
+pub sound-open : (g : Group) (room capacity : ℕ) (s : GroupState) → IsPlayed g → room ≤ MOST_STEPS → room ≤ capacity → s.core.room ≡ room → IsAt g [] s → IsSound g [] room capacity s
 unfolding past_of past_from
 sound-open g room capacity s plays limit reserved arrivals kept = record {
   played = plays;
@@ -74,7 +72,7 @@ module _ (g : Group) (es : List Entry) (room capacity : ℕ) (state : GroupState
 
   -- the clock has moved
   pub has_moved : (step : Step) (parts : Parts) (moved : GroupState) → IsStepOf g step → parts ≡ g.setup → length es < room
-      → IsAt g (Clock step.tick.0 ∷ past_of g es) moved → moved.jobs.room ≡ state.jobs.room
+      → IsAt g (Clock step.tick.0 ∷ past_of g es) moved → moved.core.room ≡ state.core.room
       → IsMoved (record { group = g; room = room }) step parts es capacity moved
   has_moved step parts moved of same spare kept arrivals = record {
     before = state;
@@ -103,35 +101,29 @@ module _ (at : Extent) (step : Step) (parts : Parts) (es : List Entry) (capacity
     parts_are = m.parts_are;
   }
 
-  pub has_room : 0 < moved.jobs.room
+  pub has_room : 0 < moved.core.room
   has_room = omega (arith, m.arrivals, m.sound.arrivals, m.spare)
 
   pub entry_fits : length es < capacity
   entry_fits = omega (arith, m.spare, m.sound.reserved)
 
-  pub reply-is : (reply : Reply) (s : GroupState) → HasActed at_tick step.cpu.0 step.act reply s → reply ≡ reply_to at.group step (past_of at.group es)
-  reply-is reply s acted = acted.reply_is ∙ sym (reply_to-lem at.group step (past_of at.group es))
+  pub reply-is : (told : Answer) (s : GroupState) → HasActed at_tick step.cpu.0 step.act told s → told.reply ≡ reply_to at.group step (past_of at.group es)
+  reply-is told s acted = acted.reply_is ∙ sym (reply_to-lem at.group step (past_of at.group es))
 
-  pub sound-step : (reply : Reply) (s : GroupState) (capacity' : ℕ) → capacity ≤ capacity' → moved.jobs.room ≤ s.jobs.room + 1
-      → HasActed at_tick step.cpu.0 step.act reply s → IsSound at.group (es ++ record { step = step; reply = reply } ∷ []) at.room capacity' s
-  sound-step reply s capacity' grows arrivals acted = record {
+  pub sound-step : (told : Answer) (s : GroupState) (capacity' : ℕ) → capacity ≤ capacity' → moved.core.room ≤ s.core.room + 1
+      → HasActed at_tick step.cpu.0 step.act told s → IsSound at.group (es ++ record { step = step; reply = told.reply } ∷ []) at.room capacity' s
+  sound-step told s capacity' grows arrivals acted = record {
     played = m.sound.played;
     limit = m.sound.limit;
     within = omega (arith, m.spare, length-append {A = Entry});
     reserved = omega (arith, m.sound.reserved);
     arrivals = omega (arith, m.sound.arrivals, m.arrivals, arrivals, length-append {A = Entry});
     kept = rw (past_of-append, after-acted) acted.kept;
-    legal = IsLegal-append at.group es _ m.sound.legal (reply-is reply s acted);
+    legal = IsLegal-append at.group es _ m.sound.legal (reply-is told s acted);
     steps = All-push (λ (e : Entry). IsStepOf at.group e.step) es _ m.sound.steps m.step_is_of;
   }
 
   -- the task whose job it ended
-  pub ended-there : (reply : Reply) (s : GroupState) → HasActed at_tick step.cpu.0 step.act reply s → IsOfJobs s.jobs.kept (at_stake parts step.cpu.0 step.act moved.jobs.kept)
-  ended-there reply s acted =
-      rw m.parts_are (stake-there at.group m.sound.played.valid step.cpu.0 at_tick.past m.kept.reachable moved.jobs.kept m.kept.jobs_are m.step_is_of.processor step.act s.jobs.kept acted.kept.jobs_are.jobs_length)
-
-  pub ended-is : (reply : Reply) (s : GroupState) → HasActed at_tick step.cpu.0 step.act reply s
-      → ended_of reply (at_stake parts step.cpu.0 step.act moved.jobs.kept) s.jobs.kept ≡ ended_last at.group (past_of at.group (es ++ record { step = step; reply = reply } ∷ []))
-  ended-is reply s acted =
-      rw (past_of-append, after-acted, m.parts_are, acted.reply_is)
-      (ended-read at.group m.sound.played.valid step.cpu.0 at_tick.past m.kept.reachable moved.jobs.kept m.kept.jobs_are m.step_is_of.processor step.act s.jobs.kept acted.kept.jobs_are)
+  pub ended-is : (told : Answer) (s : GroupState) → HasActed at_tick step.cpu.0 step.act told s
+      → told.ended ≡ ended_last at.group (past_of at.group (es ++ record { step = step; reply = told.reply } ∷ []))
+  ended-is told s acted = rw (past_of-append, after-acted) acted.ended_is

@@ -1,5 +1,6 @@
 -- The state as a move is written down, before it is ended: before the reservations are settled and the links placed.
-use Rattle.std.specs.Prelude.{◌≡◌, ℕ, ◌+◌, ◌&&◌, Bool, true, List, length, Option, Some, is_none}
+use Rattle.std.specs.Prelude.{◌≡◌, ℕ, ◌+◌, ◌≤◌, ◌&&◌, Bool, true, List, length, Option, Some, is_none}
+use Rattle.rt_base.specs.declared.TheConstants.{MOST_STEPS}
 use Rattle.rt_order.specs.declared.Key.{Key}
 use Rattle.rt_rules.specs.Numbers.{has}
 use Rattle.rt_rules.specs.Placing.{placed}
@@ -7,21 +8,19 @@ use Rattle.rt_model.specs.EffectiveKeys.{effective_key}
 use Rattle.rt_model.specs.Group.{Group, clusters, cpus, first_cpu, tasks_of}
 use Rattle.rt_model.specs.Holders.{awaits}
 use Rattle.rt_model.specs.Links.{links, runs_of}
-use Rattle.rt_model.specs.Past.{Past}
-use Rattle.rt_model.specs.Reachable.{IsReachable}
+use Rattle.rt_model.specs.Past.{Past, entries_in}
 use Rattle.rt_model.specs.Releases.{ready}
 use Rattle.rt_model.specs.Tops.{top}
 use Rattle.ready_queue.specs.ReadySet.{HoldsJust}
-use Rattle.group_facts.specs.Kept.{IsKept}
 use Rattle.group_facts.specs.Timers.{TimersAreKept}
 use Rattle.cluster_table.specs.Clusters.{KeptCluster}
 use Rattle.cluster_table.specs.Table.{Table, cluster_at}
 use Rattle.group_resvs.specs.GroupResvs.{GroupResvs, IsSettled, is_served}
-use Rattle.group_resvs.specs.Kept.{KeepsResvs}
 use Rattle.group_resvs.specs.Laws.{AreChanged}
-use Rattle.group_sem_laws.specs.Kept.{KeepsGroupSems}
+use Rattle.group_core.specs.Facts.{Facts}
+use Rattle.group_core.specs.Standing as core
 use Rattle.group_engine.specs.declared.state.GroupState.{GroupState}
-use Rattle.group_engine.specs.State.{AreHomes, IsWithin}
+use Rattle.group_engine.specs.State.{AreHomes, IsFitAt}
 
 -- a task's job is there and does not sleep, and the task waits for no semaphore
 abbrev pub stands : Group → ℕ → Past → Bool
@@ -45,13 +44,18 @@ pub record HasClusterEnding (g : Group) (c : ℕ) (past : Past) (w : GroupResvs)
   pub there : cluster_at t c ≡ Some cluster
   pub is_ending : IsClusterEnding g c past w cluster
 
+-- the facts are of this past, and their reservations serve each task that is not listed as changed as these did
+pub record HaveEnded (g : Group) (past : Past) (w : GroupResvs) (f : Facts) : Type 0 where
+  pub at : core.IsAt g past f
+  pub fit : IsFitAt g past f
+  pub changed : AreChanged g w f.resvs
+
 -- the state is of this past of the group, once the move is ended
 pub record IsEnding (g : Group) (past : Past) (s : GroupState) : Type 0 where
-  pub reachable : IsReachable g past
-  pub within : IsWithin past
-  pub jobs_are : IsKept g past s.jobs.kept
-  pub sems_are : KeepsGroupSems g past s.sems
+  pub few : entries_in past ≤ MOST_STEPS
+  pub before : GroupResvs
+  pub core_ends : (f : Facts) → f.kept ≡ s.core.facts.kept → f.sems ≡ s.core.facts.sems → IsSettled s.core.facts.resvs f.resvs
+      → HaveEnded g past before f
   pub timers_are : TimersAreKept g past s.timers
   pub homes_are : AreHomes g s.clusters.homes
-  pub clusters_are : (c : ℕ) → has c (clusters g) ≡ true → HasClusterEnding g c past s.resvs s.clusters
-  pub resvs_become : (z : GroupResvs) → IsSettled s.resvs z → KeepsResvs g past z × AreChanged g s.resvs z
+  pub clusters_are : (c : ℕ) → has c (clusters g) ≡ true → HasClusterEnding g c past before s.clusters

@@ -1,24 +1,22 @@
 -- The moments between moves of a group, and what moves rest on.
-use Rattle.std.specs.Prelude.{◌≡◌, ℕ, ◌<◌, ◌∷◌, true, Some}
+use Rattle.std.specs.Prelude.{◌≡◌, ℕ, ◌<◌, ◌∷◌, true}
 use Rattle.rt_base.specs.declared.TheConstants.{MOST_STEPS, TICK_END}
 use Rattle.rt_task.specs.declared.Act.{Act}
-use Rattle.rt_task.specs.declared.Act.TheVariants as acts
-use Rattle.rt_task.specs.declared.Op.{Op}
 use Rattle.rt_task.specs.declared.Parts.{Parts}
 use Rattle.rt_task.specs.declared.Step.{Step}
 use Rattle.rt_task.specs.Validity.{IsValid}
-use Rattle.rt_history.specs.declared.Reply.{Reply}
 use Rattle.rt_model.specs.Answers.{answer}
 use Rattle.rt_rules.specs.Numbers.{has}
 use Rattle.rt_model.specs.Group.{Group, clusters, sems, users}
 use Rattle.rt_model.specs.Outcomes.{past_act}
 use Rattle.rt_model.specs.Histories.{clock_moved}
 use Rattle.rt_model.specs.Past.{Acted, entries_in}
-use Rattle.rt_model.specs.Runs.{runs}
 use Rattle.rt_model.specs.Steps.{IsActOf}
 use Rattle.rt_plays.specs.Homes.{IsProcessorOf}
+use Rattle.rt_groups.specs.Endings.{ended_in}
 use Rattle.rt_groups.specs.Groups.{GroupHistory, IsGroupOf, group_of, past}
 use Rattle.waiting_list.specs.Listing.{Moment}
+use Rattle.group_core.specs.declared.looks.Answer.{Answer}
 use Rattle.group_engine.specs.declared.state.GroupState.{GroupState}
 use Rattle.group_engine.specs.Ending.{IsEnding}
 use Rattle.group_engine.specs.State.{IsAt}
@@ -51,25 +49,16 @@ pub record CanActOn (at : Moment) (cpu : ℕ) (act : Act) (parts : Parts) (s : G
   pub can : CanAct at cpu act s
   pub parts_are : parts ≡ at.group.setup
 
--- and the processor runs the task
-pub record CanOperate (at : Moment) (cpu t : ℕ) (op : Op) (parts : Parts) (s : GroupState) : Type 0 where
-  pub can : CanActOn at cpu (acts.Do op) parts s
-  pub runs_it : runs cpu at.past ≡ Some t
-
--- the act was answered, and the state is of the past with it once its move is ended
-pub record IsActing (at : Moment) (cpu : ℕ) (act : Act) (reply : Reply) (s : GroupState) : Type 0 where
-  pub reply_is : reply ≡ answer at.group cpu act at.past
-  pub ending : IsEnding at.group (Acted (past_act at.group cpu act at.past) ∷ at.past) s
-
 -- a move of a group that is played is to be ended
 pub record CanEnd (at : Moment) (parts : Parts) (s : GroupState) : Type 0 where
   pub played : IsPlayed at.group
   pub ending : IsEnding at.group at.past s
   pub parts_are : parts ≡ at.group.setup
 
--- the act was answered, and the state is of the past with it
-pub record HasActed (at : Moment) (cpu : ℕ) (act : Act) (reply : Reply) (s : GroupState) : Type 0 where
-  pub reply_is : reply ≡ answer at.group cpu act at.past
+-- the act was answered and ended the job that is told, and the state is of the past with it
+pub record HasActed (at : Moment) (cpu : ℕ) (act : Act) (told : Answer) (s : GroupState) : Type 0 where
+  pub reply_is : told.reply ≡ answer at.group cpu act at.past
+  pub ended_is : told.ended ≡ ended_in at.group (past_act at.group cpu act at.past) at.past
   pub kept : IsAt at.group (Acted (past_act at.group cpu act at.past) ∷ at.past) s
 
 -- the processor is one of a moment's group

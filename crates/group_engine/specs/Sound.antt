@@ -21,7 +21,7 @@ pub record IsSound (g : Group) (entries : List Entry) (room capacity : ℕ) (s :
   pub limit : room ≤ MOST_STEPS
   pub within : length entries ≤ room
   pub reserved : room ≤ capacity
-  pub arrivals : room ≤ length entries + s.jobs.room
+  pub arrivals : room ≤ length entries + s.core.room
   pub kept : IsAt g (past_of g entries) s
   pub legal : IsLegal g entries
   pub steps : AreStepsOf g entries
@@ -44,4 +44,4 @@ pub record IsMoved (at : Extent) (step : Step) (parts : Parts) (entries : List E
   pub step_is_of : IsStepOf at.group step
   pub spare : length entries < at.room
   pub kept : IsAt at.group (Clock step.tick.0 ∷ past_of at.group entries) s
-  pub arrivals : s.jobs.room ≡ before.jobs.room
+  pub arrivals : s.core.room ≡ before.core.room

@@ -23,6 +23,7 @@ ghost use Rattle.rt_groups.specs.Groups.{GroupHistory, group_of, past, with_entr
 ghost use Rattle.rt_groups.specs.Endings.{ended_last};
 
 use crate::state::GroupState;
+use group_core::Answer;
 use prio_inherit::Inherit;
 use ready_heap::ReadyHeap;
 use rt_base::{ClusterNo, CpuNo, GroupNo, NoMemory, SemNo, TaskNo};
@@ -63,13 +64,6 @@ impl Model for Engine {
     ghost invariant = { λ a.
         IsEngine (record { setup = a.setup; number = a.group.0 })
         a.entries.items a.room (vec_capacity a.entries) a.state a.ended };
-}
-
-/// What a step is answered, and the task whose job it ended, with whether the clock was past that job's deadline.
-#[derive(Clone, Copy)]
-struct Settled {
-    reply: Reply,
-    ended: Option<(TaskNo, bool)>,
 }
 
 impl Engine {
@@ -206,7 +200,7 @@ impl Engine {
 }
 
 /// Answers the act of a step, to whose tick the clock has moved, and adds the entry.
-fn settle(parts: &Parts, state: &mut GroupState, entries: &mut Vec<Entry>, step: Step) -> Settled
+fn settle(parts: &Parts, state: &mut GroupState, entries: &mut Vec<Entry>, step: Step) -> Answer
     requires { (at : Extent)
         × IsMoved at step parts.now entries.old.items (vec_capacity entries.old) state.old }
     ensures reply { (at : Extent)
@@ -221,11 +215,10 @@ fn settle(parts: &Parts, state: &mut GroupState, entries: &mut Vec<Entry>, step:
         → IsMoved at step parts.now entries.old.items (vec_capacity entries.old) state.old
         → IsSound at.group entries.new.items at.room (vec_capacity entries.new) state.new }
 {
-    let stake = state.at_stake(parts, step.cpu, step.act);
-    let reply = state.act(parts, step.cpu, step.act);
-    entries.push_reserved(Entry { step, reply });
-    Settled {
-        reply,
-        ended: state.ended_of(reply, stake),
-    }
+    let answer = state.act(parts, step.cpu, step.act);
+    entries.push_reserved(Entry {
+        step,
+        reply: answer.reply,
+    });
+    answer
 }

@@ -2,6 +2,4 @@ use Rattle.std.proofs.lemmas.List.{set-set}
 use Rattle.group_engine.proofs.state.GroupState.arm_anew.Goals as goal
 
 pub returns-in-Some : goal.returns-in-Some
-returns-in-Some c =
-    let moment = rw c.as_slice.ensures at c.in-Some.ensures in
-    rw (c.arm.ensures, c.cancel.ensures.cancelled, set-set, moment)
+returns-in-Some c = rw (c.arm.ensures, c.cancel.ensures.cancelled, set-set, c.in-Some.ensures)

@@ -1,7 +1,7 @@
 use Rattle.std.proofs.Common.{◌≡◌, ◌<◌, ◌-◌, suc, length, get_or, add-one, arith}
 use Rattle.std.proofs.lemmas.List.{get_or_read}
 use Rattle.rt_model.specs.Group.{no_task}
-use Rattle.group_engine.proofs.GroupInTurn.{next_group, next-can, look_turn, to-come-first, to-come-in, to-come-out}
+use Rattle.group_engine.proofs.GroupInTurn.{next_group, next-can, to-come-first, to-come-in, to-come-out}
 use Rattle.group_engine.proofs.state.GroupState.bring_up_group.Goals as goal
 use Rattle.group_engine.proofs.state.GroupState.bring_up_group.Goals.{After-as_slice, then-as_slice-home, else-as_slice-home}
 
@@ -20,11 +20,11 @@ bring_up-requires c =
     let p = c.args.parts.now in
     let i = c.loop-task.task-index in
     let is : next_group p i ≡ c.args.group.0 = rw (c.as_slice.ensures, row looked) at c.if-as_slice-home.true in
-    let can = next-can p (look_turn p) c.args.group.0 i c.args.self.now c.loop-task.self c.loop-task.invariant (within looked) is in
+    let can = next-can p c.args.group.0 i c.args.self.now c.loop-task.self c.loop-task.invariant (within looked) is in
     rw (row looked, (let place : suc i - 1 ≡ i = omega arith in rw place at can.1)) can.0
 
 pub loop-task-init : goal.loop-task-init
-loop-task-init c = to-come-first c.args.parts.now (look_turn c.args.parts.now) c.args.group.0 c.args.self.now c.requires.can
+loop-task-init c = to-come-first c.args.parts.now c.args.group.0 c.args.self.now c.requires.can
 
 pub loop-task-preserved : goal.loop-task-preserved
 loop-task-preserved c =
@@ -35,10 +35,10 @@ loop-task-preserved c =
     (elim c.if-as_slice-home.branch [
       | then-as_slice-home w ↦
           let is : next_group p i ≡ c.args.group.0 = rw (c.as_slice.ensures, row looked) at w.if-as_slice-home.true in
-          let can = next-can p (look_turn p) c.args.group.0 i c.args.self.now c.loop-task.self c.loop-task.invariant (within looked) is in
+          let can = next-can p c.args.group.0 i c.args.self.now c.loop-task.self c.loop-task.invariant (within looked) is in
           rw (w.self-is, w.bring_up.ensures, row looked, (let place : suc i - 1 ≡ i = omega arith in rw place at can.1))
-          (to-come-in p (look_turn p) c.args.group.0 i c.args.self.now c.loop-task.self c.loop-task.invariant (within looked) is)
+          (to-come-in p c.args.group.0 i c.args.self.now c.loop-task.self c.loop-task.invariant (within looked) is)
       | else-as_slice-home w ↦
           let other = rw (c.as_slice.ensures, row looked) at w.if-as_slice-home.false in
-          rw w.self-is (to-come-out p (look_turn p) c.args.group.0 i c.args.self.now c.loop-task.self c.loop-task.invariant (within looked) other)
+          rw w.self-is (to-come-out p c.args.group.0 i c.args.self.now c.loop-task.self c.loop-task.invariant (within looked) other)
     ])

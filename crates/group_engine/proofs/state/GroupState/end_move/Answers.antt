@@ -1,5 +1,5 @@
 use Rattle.std.proofs.Common.{ap, ◌∙◌}
-use Rattle.group_jobs.specs.GroupJobs.{GroupJobs}
+use Rattle.group_core.specs.Facts.{WithRoom}
 use Rattle.group_engine.specs.declared.state.GroupState.{GroupState}
 use Rattle.group_engine.proofs.Bringing.{others-offered}
 use Rattle.group_engine.proofs.Settling.{can-offer, ended}
@@ -8,13 +8,14 @@ use Rattle.group_engine.proofs.state.GroupState.end_move.Goals as goal
 pub offer_changed-requires : goal.offer_changed-requires
 offer_changed-requires c =
     let can = c.requires.1 in
-    rw can.parts_are (can-offer c.requires.0.group can.played c.requires.0.past c.args.self.now can.ending c.settle.new.self c.settle.ensures)
+    rw can.parts_are (can-offer c.requires.0.group can.played c.requires.0.past c.args.self.now can.ending c.settle.new.self c.settle.ensures.kept c.settle.ensures.sems c.settle.ensures.settled)
 
 pub returns-clause-at : goal.returns-clause-at
 returns-clause-at c = λ at can.
-    rw (c.place_changed.ensures, c.offer_changed.ensures, can.parts_are) (ended at.group can.played at.past c.args.self.now can.ending c.settle.new.self c.settle.ensures)
+    rw (c.place_changed.ensures, c.offer_changed.ensures, can.parts_are)
+    (ended at.group can.played at.past c.args.self.now can.ending c.settle.new.self c.settle.ensures.kept c.settle.ensures.sems c.settle.ensures.settled)
 
 pub returns-clause-room : goal.returns-clause-room
 returns-clause-room c =
-    let s : GroupState = record c.args.self.now { resvs = c.settle.new.self } in
-    ap (λ (x : GroupState). x.jobs.room) c.offer_changed.ensures ∙ ap (λ (j : GroupJobs). j.room) (others-offered c.args.parts.now c.settle.new.self.changed s).jobs_same
+    let s : GroupState = record c.args.self.now { core = c.settle.new.self } in
+    ap (λ (x : GroupState). x.core.room) c.offer_changed.ensures ∙ ap (λ (x : WithRoom). x.room) (others-offered c.args.parts.now c.settle.new.self.facts.resvs.changed s).core_same ∙ c.settle.ensures.room

@@ -4,4 +4,4 @@ use Rattle.group_engine.proofs.state.GroupState.offer_changed.Given as goal
 
 -- the tasks so far are put where they stand
 abbrev pub invariant-loop-i : goal.invariant-loop-i
-invariant-loop-i l = l.self ≡ all_offered l.parts (take l.i l.fn.self.resvs.changed) l.fn.self
+invariant-loop-i l = l.self ≡ all_offered l.parts (take l.i l.fn.self.core.facts.resvs.changed) l.fn.self
