@@ -1,5 +1,5 @@
 -- What a run of `run` reads and writes.
-use Rattle.std.specs.Prelude.{ℕ, Bool, false, List, [], ◌∷◌, codes, bytes_eq, string_bytes, String}
+use Rattle.std.specs.Prelude.{Bool, false, List, [], ◌∷◌, codes, bytes_eq, string_bytes, String}
 use Rattle.std.specs.declared.alloc.Global.{Global}
 use Rattle.rt_task.specs.declared.Parts.{Parts}
 use Rattle.rt_history.specs.declared.Entry.{Entry}
