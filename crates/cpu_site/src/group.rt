@@ -1,4 +1,4 @@
-//! A group whose processors play their scripts or their turns, with the interrupts that were raised at each of them.
+//! A group whose processors play their scripts or their turns, as a pointer to it.
 ghost use Rattle.std.specs.Prelude.{◌≡◌, ◌≤◌, IfOk, length};
 ghost use Rattle.rt_base.specs.declared.TheConstants.{MOST_STEPS};
 ghost use Rattle.rt_groups.specs.Groups.{group_of, IsGroupOf};
@@ -7,12 +7,9 @@ ghost use Rattle.rt_plays.specs.Plays.{IsBegunPlay};
 ghost use Rattle.cpu_site.specs.Playing.{unplayed, IsFar, IsOutcome, IsPlayable};
 ghost use Rattle.cpu_site.specs.Raises.{AreRaises};
 
-use crate::cpus::cpus_of;
-use crate::marks::no_counts;
 use crate::played::Played;
-use crate::player::Player;
+use crate::playing_group::PlayingGroup;
 use crate::progress::Progress;
-use crate::sights::{Sight, count_raises, look};
 use group_engine::Engine;
 use rt_base::{CpuNo, GroupNo, NoMemory};
 use rt_task::Setup;
@@ -22,33 +19,18 @@ use std::marker::Model;
 /// A group of a setup whose processors play their scripts or their turns, in any order. Contracts see its history: it is
 /// legal, and each processor's steps in it are a first part of its script, or are its turns as far as they go.
 ///
-/// After `open` no call takes memory.
+/// It is in a box, so that who takes the group moves a pointer, and not the engine. After `open` no call takes memory.
 #[derive(Drop)]
 pub struct Group {
-    player: Player,
-    // The group's processors, what each is linked to and runs, and how many interrupts were raised at it.
-    cpus: Vec<CpuNo>,
-    sights: Vec<Sight>,
-    raises: Vec<u64>,
+    playing: Box<PlayingGroup>,
 }
 
 impl Model for Group {
-    ghost use Rattle.std.specs.Prelude.{◌≡◌};
-    ghost use Rattle.rt_model.specs.Group.{group_processors};
-    ghost use Rattle.rt_groups.specs.Groups.{GroupHistory, group_of, past};
-    ghost use Rattle.rt_plays.specs.Plays.{IsBegunPlay};
-    ghost use Rattle.cpu_site.specs.Cpus.{cpu_numbers};
-    ghost use Rattle.cpu_site.specs.Raises.{AreRaises, AreSights};
+    ghost use Rattle.rt_groups.specs.Groups.{GroupHistory};
 
     ghost Value = { GroupHistory };
 
-    ghost view = { λ a. a.player };
-
-    ghost invariant = { λ a.
-        (cpu_numbers a.cpus.items ≡ group_processors (group_of a.player))
-        × AreSights (group_of a.player) (past a.player) a.sights.items
-        × AreRaises a.player a.raises.items
-        × IsBegunPlay (group_of a.player) a.player.entries };
+    ghost view = { λ a. a.playing.value };
 }
 
 impl Group {
@@ -58,16 +40,8 @@ impl Group {
         ensures group { IfOk result (λ g. g ≡ unplayed setup.now group.0) }
         ensures playable { IfOk result (λ _. IsPlayable setup.now group.0) }
     {
-        let cpus = cpus_of(alloc, setup, group)?;
-        let player = Player::open(alloc, setup, group, cpus.as_slice())?;
-        let sights = look(alloc, &player, cpus.as_slice())?;
-        let raises = no_counts(alloc, cpus.len())?;
-        Ok(Group {
-            player,
-            cpus,
-            sights,
-            raises,
-        })
+        let playing = Box::new(alloc, PlayingGroup::open(alloc, setup, group)?)?;
+        Ok(Group { playing })
     }
 
     /// How many steps were taken.
@@ -77,7 +51,7 @@ impl Group {
         ensures begun { IsBegunPlay (group_of self.now) self.now.entries }
         ensures playable { IsPlayable self.now.setup self.now.group }
     {
-        self.player.count()
+        self.playing.len()
     }
 
     /// How many interrupts were raised at each processor of the group, by rising number.
@@ -85,7 +59,7 @@ impl Group {
         ensures raises { AreRaises self.now result.now }
         ensures begun { IsBegunPlay (group_of self.now) self.now.entries }
     {
-        self.raises.as_slice()
+        self.playing.raises()
     }
 
     /// Takes the processor's next step, of its script or of its turns, in which it is so far. On `TurnOver` and `Ended`
@@ -98,19 +72,7 @@ impl Group {
         ensures begun { IsBegunPlay (group_of self.new) self.new.entries }
         ensures few { length self.new.entries ≤ MOST_STEPS }
     {
-        match self.player.advance(cpu, at) {
-            Played::Did(entry) => {
-                count_raises(
-                    &self.player,
-                    self.cpus.as_slice(),
-                    &mut self.sights,
-                    &mut self.raises,
-                );
-                Played::Did(entry)
-            }
-            Played::TurnOver => Played::TurnOver,
-            Played::Ended => Played::Ended,
-        }
+        self.playing.advance(cpu, at)
     }
 
     /// The engine, with the same history.
@@ -118,7 +80,7 @@ impl Group {
         ensures same { result ≡ self }
         ensures begun { IsBegunPlay (group_of result) result.entries }
     {
-        let Group { player, .. } = self;
-        player.into_engine()
+        let Group { playing } = self;
+        Box::into_inner(playing).into_engine()
     }
 }

@@ -10,6 +10,7 @@ mod marks;
 mod own_steps;
 mod played;
 mod player;
+mod playing_group;
 mod progress;
 mod sights;
 mod site;

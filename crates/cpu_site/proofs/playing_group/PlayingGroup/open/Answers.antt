@@ -5,7 +5,7 @@ use Rattle.rt_groups.specs.Groups.{GroupHistory, group_of}
 use Rattle.cpu_site.specs.Cpus.{cpu_numbers}
 use Rattle.cpu_site.proofs.Numbering.{cpus-read}
 use Rattle.cpu_site.proofs.Sighting.{raises-none}
-use Rattle.cpu_site.proofs.group.Group.open.Goals as goal
+use Rattle.cpu_site.proofs.playing_group.PlayingGroup.open.Goals as goal
 
 pub invariant_of-result : goal.invariant_of-result
 invariant_of-result c =
