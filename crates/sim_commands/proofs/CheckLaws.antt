@@ -1,5 +1,5 @@
 -- Why a text is refused as a trace, and what a run of `check` cannot answer where a valid trace is to come.
-use Rattle.std.proofs.Common.{◌≡◌, ℕ, true, false, List, refl, sym, ap, ◌∙◌, subst, inl, inr}
+use Rattle.std.proofs.Common.{◌≡◌, ℕ, List, refl, sym, ap, ◌∙◌, subst, inl, inr}
 use Rattle.std.specs.Prelude.{Option, None, Some, Ok, Err}
 use Rattle.rt_base.specs.declared.TheConstants.{MOST_TRACE_BYTES}
 use Rattle.rt_task.specs.declared.Parts.{Parts}
