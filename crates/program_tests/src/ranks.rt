@@ -198,9 +198,10 @@ fn wanted(alloc: Global) -> Result<Vec<Outcome>, AllocError> {
     Vec::from_slice(alloc, &wanted)
 }
 
-/// Whether the processor is one of these.
+/// Whether the processor is found to be one of these.
+#[tactic(auto, using(crate::proofs::Among::has_here))]
 fn is_among(cpus: &[CpuNo], cpu: CpuNo) -> bool
-    ensures { result ≡ has cpu.0 (cpu_numbers cpus.now) }
+    ensures { result ≡ true → has cpu.0 (cpu_numbers cpus.now) ≡ true }
 {
     for other in cpus {
         if cpu.0 == other.0 {

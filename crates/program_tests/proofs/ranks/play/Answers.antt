@@ -11,12 +11,11 @@ use Rattle.program_tests.proofs.ranks.play.Goals as goal
 
 -- a step of the set, whose processor is of the group
 step-of : (p s : Parts) (v : Group) (steps all : List Step) (i : ℕ) (d : Step) → p ≡ s → IsValid s → p.drive ≡ Steps steps → all ≡ steps → i < length all
-    → v ≡ record { setup = p; number = 0 } → IsProcessorOf (record { setup = s; number = 0 }) (get_or all i d).cpu.0 → IsStepOf v (get_or all i d)
+    → v ≡ record { setup = s; number = 0 } → IsProcessorOf (record { setup = s; number = 0 }) (get_or all i d).cpu.0 → IsStepOf v (get_or all i d)
 step-of p s v steps all i d same valid drive listed inside group there =
-    let g : Group = record { setup = p; number = 0 } in
-    let valid' : IsValid g.setup = subst IsValid (sym same) valid in
-    let there' : IsProcessorOf g (get_or all i d).cpu.0 = subst (λ (x : Parts). IsProcessorOf (record { setup = x; number = 0 }) (get_or all i d).cpu.0) (sym same) there in
-    subst (λ (x : Group). IsStepOf x (get_or all i d)) (sym group) (steps_are_of_groups g valid' all (drive ∙ ap Steps (sym listed)) i d inside there')
+    let g : Group = record { setup = s; number = 0 } in
+    let drives = sym (ap (λ (x : Parts). x.drive) same) ∙ drive ∙ ap Steps (sym listed) in
+    subst (λ (x : Group). IsStepOf x (get_or all i d)) (sym group) (steps_are_of_groups g valid all drives i d inside there)
 
 pub take-requires-clause-step : goal.take-requires-clause-step
 take-requires-clause-step g c = step-of c.parts-parts.result.now _ _ c.in-Steps.steps _ c.loop-i.i-counter _ c.parts-parts.ensures.parts c.parts-parts.ensures.valid c.in-Steps.is c.as_slice-step-items.ensures c.loop-i-test.true c.loop-i.invariant.group (c.is_of_group.ensures (search rules))
