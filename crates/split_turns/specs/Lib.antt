@@ -1,0 +1,2 @@
+pub mod SplitTurns
+pub mod Histories
