@@ -45,7 +45,7 @@ there-runs g rules q t act past made h =
     let r : IsRunning g q t past = running g rules made q t (is-some t (runs q past) task_is) in
     r.exists_now
 
-did-task : (t : ℕ) (d : PastAct) → is_work (did t (Acted d)) ≡ true → is t d.task ≡ true
+pub did-task : (t : ℕ) (d : PastAct) → is_work (did t (Acted d)) ≡ true → is t d.task ≡ true
 did-task t d h = by_case (is t d.task) h
   where
     by_case : (b : Bool) → is_work (if b && accepted d.reply then operation d.act else None) ≡ true → b ≡ true

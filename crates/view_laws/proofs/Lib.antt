@@ -1,0 +1,4 @@
+pub mod Sums
+pub mod Shown
+pub mod Totals
+pub mod Sets
