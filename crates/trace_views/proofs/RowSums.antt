@@ -61,7 +61,7 @@ preempts-there g rules t past e made (clock_moves tick) h = cc
 preempts-there g rules t past e made (cpu_acts q a) h = there-runs g rules q t a past made (both _ _ h).0
 
 -- what an interrupt takes up is linked, and so is there
-taken-run : (r : Reply) → taken_up r ≡ to_run r
+pub taken-run : (r : Reply) → taken_up r ≡ to_run r
 taken-run (replies.Runs t) = refl
 taken-run _ = refl
 

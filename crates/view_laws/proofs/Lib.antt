@@ -2,3 +2,4 @@ pub mod Sums
 pub mod Shown
 pub mod Totals
 pub mod Sets
+pub mod Moves

@@ -162,7 +162,7 @@ units-same g = record {
 
 -- ---- so the totals are the counts
 
-distinct-tasks : (g : Group) → IsDistinct (tasks g)
+pub distinct-tasks : (g : Group) → IsDistinct (tasks g)
 unfolding tasks
 distinct-tasks g = distinct-filter (λ t. in_group g (home g t)) _ (distinct-numbers_from 1 _)
 
