@@ -13,4 +13,5 @@ pub mod TaskRows
 pub mod TableLaws
 pub mod Computed
 pub mod WorkedTables
+pub mod WorkedSharing
 pub mod WorkedColumns
