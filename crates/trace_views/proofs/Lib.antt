@@ -1,0 +1,5 @@
+pub mod Spans
+pub mod Sums
+pub mod JobSums
+pub mod RowSums
+pub mod Lateness

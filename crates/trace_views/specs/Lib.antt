@@ -1,0 +1,17 @@
+pub mod Spans
+pub mod SpanLaws
+pub mod Moments
+pub mod Columns
+pub mod Cells
+pub mod Due
+pub mod JobMoves
+pub mod JobTimes
+pub mod Marks
+pub mod JobCounts
+pub mod JobRows
+pub mod TaskRows
+pub mod TableLaws
+pub mod Computed
+pub mod WorkedTables
+pub mod WorkedSharing
+pub mod WorkedColumns

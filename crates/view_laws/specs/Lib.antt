@@ -1,0 +1,3 @@
+pub mod Totals
+pub mod Sets
+pub mod Moves
