@@ -24,8 +24,8 @@ struct Ends {
     newest: Option<usize>,
 }
 
-/// For each task below a number the clocks of its arrivals that wait, the earliest first, and room for so many more
-/// arrivals of all tasks.
+/// For each task the clocks of its arrivals that wait, the earliest first, with room for a number of arrivals of all
+/// tasks together.
 ///
 /// Each call takes a constant time. An arrival that was taken keeps its place: the room is for all arrivals together.
 #[derive(Drop)]
@@ -63,7 +63,7 @@ fn follow(arrivals: &mut Vec<Arrival>, newest: Option<usize>, place: usize)
 }
 
 impl ArrivalQueue {
-    /// Empty queues for the tasks whose numbers are below `tasks`, with room for so many arrivals. No later call takes
+    /// Empty queues for the tasks whose numbers are below `tasks`, with room for `room` arrivals. No later call takes
     /// memory.
     ///
     /// Example: `ArrivalQueue::new(alloc, 4, 100)` takes the tasks 0 to 3, and 100 arrivals of them together.

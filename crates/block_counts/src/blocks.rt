@@ -24,7 +24,7 @@ use std::marker::Model;
 
 /// The requests of one group of a setup, each with how many critical sections of its semaphore ended while it was open.
 ///
-/// Contracts say what each call gives at every past that the value stands at. After `open` no call takes memory.
+/// Contracts say what each call gives for every past of which the value keeps the counts. After `open` no call takes memory.
 #[derive(Drop)]
 pub struct Blocks {
     setup: Setup,
@@ -60,7 +60,7 @@ impl Model for Blocks {
 }
 
 impl Blocks {
-    /// No requests of a group of a setup, with room for so many entries. It takes all the memory that the value ever has.
+    /// The counts of a group before its first entry, with room for `room` entries. All memory is taken here.
     ///
     /// Example: `Blocks::open(alloc, &setup, GroupNo(0), 1000)?`.
     pub fn open(alloc: Global, setup: &Setup, group: GroupNo, room: u32) -> Result<Blocks, NoMemory>

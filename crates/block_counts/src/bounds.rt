@@ -53,7 +53,7 @@ fn count_users(parts: &Parts, group: GroupNo, sem: SemNo) -> u32
     count
 }
 
-/// The counts of users of so many semaphores, numbered from 1, of which none was counted.
+/// A count of users for each of `sems` semaphores, which are numbered from 1; none is counted yet.
 pub(crate) fn no_user_counts(alloc: Global, sems: usize) -> Result<Vec<Option<u32>>, NoMemory>
     requires { sems < 2 ^ 63 }
     ensures { IfOk result (λ v. v.items ≡ replicate (sems + 1) None) }

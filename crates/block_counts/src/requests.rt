@@ -17,7 +17,7 @@ pub(crate) fn no_places(alloc: Global, tasks: usize) -> Result<Vec<Option<u32>>,
     Ok(vec![in alloc; None; tasks]?)
 }
 
-/// No requests, with room for so many.
+/// An empty list of requests, with room for `room` of them.
 pub(crate) fn no_requests(alloc: Global, room: usize) -> Result<Vec<Seen>, NoMemory>
     ensures items { IfOk result (λ v. v.items ≡ []) }
     ensures room { IfOk result (λ v. room ≤ vec_capacity v) }

@@ -81,7 +81,7 @@ impl ClusterState {
         self.queue.heap()
     }
 
-    /// What the processor is linked to.
+    /// The task that the processor is linked to, `None` where there is none.
     pub(crate) fn linked(&self, q: CpuNo) -> Option<TaskNo>
         requires { IsOfCluster self.now.cluster.linked q.0 }
         ensures { number_of_task result ≡ link_of self.now.cluster.linked q.0 }
@@ -112,7 +112,7 @@ impl ClusterState {
     }
 
     /// Takes an interrupt at the processor, where `np` says whether what it runs is non-preemptive. Where the reply is
-    /// `Runs` or `Idles`, the processor runs its link from now on.
+    /// `Runs` or `Idles`, the processor then runs its link.
     pub(crate) fn take_irq(&mut self, q: CpuNo, np: bool) -> Reply
         requires { IsOfCluster self.old.cluster.linked q.0 }
         ensures reply { result ≡ irq_reply self.old.cluster.linked q.0 np }
@@ -123,7 +123,7 @@ impl ClusterState {
         self.links.take_irq(q, np)
     }
 
-    /// The processor runs nothing from now on.
+    /// Has the processor run nothing.
     pub(crate) fn leave(&mut self, q: CpuNo)
         requires { IsOfCluster self.old.cluster.linked q.0 }
         ensures cluster { self.new.cluster ≡ left_by q.0 self.old.cluster }

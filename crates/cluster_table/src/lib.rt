@@ -97,7 +97,7 @@ impl ClusterTable {
         Some(cluster.heap())
     }
 
-    /// What the processor is linked to.
+    /// The task that the processor is linked to, `None` where there is none.
     pub fn linked(&self, c: ClusterNo, q: CpuNo) -> Option<TaskNo>
         requires { HasProcessor self.now c.0 q.0 }
         ensures { (k : KeptCluster) → cluster_at self.now c.0 ≡ Some k
@@ -144,7 +144,7 @@ impl ClusterTable {
         cluster.take_irq(q, np)
     }
 
-    /// A processor of the cluster runs nothing from now on.
+    /// Has a processor of the cluster run nothing.
     pub fn leave(&mut self, c: ClusterNo, q: CpuNo)
         requires { HasProcessor self.old c.0 q.0 }
         ensures { self.new ≡ changed_at c.0 (left_by q.0) self.old }

@@ -36,7 +36,7 @@ pub(crate) fn states_of(
     Ok(states)
 }
 
-/// Writes the cluster behind the others, once for each of so many processors.
+/// Adds the cluster at the end, once for each of its `cpus` processors.
 fn put_homes(homes: &mut Vec<ClusterNo>, c: ClusterNo, cpus: u32) -> Result<(), NoMemory>
     ensures { OnOk result (cluster_numbers homes.new.items
         ≡ cluster_numbers homes.old.items ++ replicate cpus c.0) }

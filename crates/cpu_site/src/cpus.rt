@@ -9,7 +9,7 @@ use rt_base::{CpuNo, GroupNo, NoMemory};
 use rt_task::Setup;
 use std::alloc::Global;
 
-/// So many processors, numbered from `first` on.
+/// Adds `count` processors, numbered from `first` on.
 #[tactic(auto, using(crate::proofs::CpuLaws::numbers_more, crate::proofs::CpuLaws::numbers_start))]
 fn put_cpus(cpus: &mut Vec<CpuNo>, first: u32, count: u32) -> Result<(), NoMemory>
     requires { first + count < 2 ^ 32 }

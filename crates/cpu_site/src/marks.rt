@@ -12,7 +12,7 @@ pub(crate) fn no_counts(alloc: Global, cpus: usize) -> Result<Vec<u64>, NoMemory
     Ok(Vec::from_elem(alloc, 0, cpus)?)
 }
 
-/// No places, with room for one of each processor.
+/// An empty list of places, with room for one place a processor.
 pub(crate) fn no_places(alloc: Global, cpus: usize) -> Result<Vec<u32>, NoMemory>
     ensures { IfOk result (λ v. (v.items ≡ []) × (cpus ≤ vec_capacity v)) }
 {

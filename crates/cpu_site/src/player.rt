@@ -62,7 +62,7 @@ fn horizon_of(drive: &Drive) -> u64
     }
 }
 
-/// How many entries a group of so many processors can have at most, where so many of the steps are its own.
+/// How many entries a group of `cpus` processors can have at most, where `steps` of the given steps are its own.
 fn room_in(drive: &Drive, steps: usize, cpus: usize) -> u32
     requires steps { steps ≤ MOST_STEPS }
     requires turns { drives.horizon drive.now * cpus * MOST_TURN_STEPS ≤ MOST_STEPS }
@@ -102,7 +102,7 @@ impl Player {
         })
     }
 
-    /// What the processor is linked to.
+    /// The task that the processor is linked to, `None` where there is none.
     pub(crate) fn linked(&self, cpu: CpuNo) -> Option<TaskNo>
         requires { IsProcessorOf (group_of self.now) cpu.0 }
         ensures { number_of_task result ≡ linked (group_of self.now) cpu.0 (past self.now) }
@@ -148,7 +148,8 @@ impl Player {
         Played::Did(Entry { step, reply })
     }
 
-    /// The act that the processor comes to after so many steps of a turn; none where the turn is over.
+    /// The act of the processor after `steps` steps of its turn: a tick, an interrupt, then what its job does next. `None`
+    /// where the turn is over.
     fn act_after(&self, cpu: CpuNo, steps: u32) -> Option<Act>
         requires { IsProcessorOf (group_of self.now) cpu.0 }
         ensures { result ≡ turning.act_after (group_of self.now) cpu.0 steps (past self.now) }

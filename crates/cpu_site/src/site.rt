@@ -97,7 +97,7 @@ fn word_after(act: Act, counts: &[u64], place: u32, taken: u64) -> u64
     }
 }
 
-/// The seat of a processor that has seen nothing, at this place of so many.
+/// The seat of a processor that has seen nothing. `place` is its place among the processors of its group.
 fn seated(
     alloc: Global,
     seat: TurnSeat<Group>,

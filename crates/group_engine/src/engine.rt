@@ -67,7 +67,7 @@ impl Model for Engine {
 }
 
 impl Engine {
-    /// A group of a setup, with room for so many steps. It takes all the memory that the engine ever has.
+    /// A group of a setup before its first step, with room for `room` steps. All memory is taken here.
     pub fn open(alloc: Global, setup: &Setup, group: GroupNo, room: u32) -> Result<Engine, NoMemory>
         requires group { IsGroupOf setup.now group.0 }
         requires room { room ≤ MOST_STEPS }
@@ -104,7 +104,7 @@ impl Engine {
         self.entries.as_slice()
     }
 
-    /// What the processor is linked to.
+    /// The task that the processor is linked to, `None` where there is none.
     pub fn linked(&self, cpu: CpuNo) -> Option<TaskNo>
         requires { IsProcessorOf (group_of self.now) cpu.0 }
         ensures { number_of_task result ≡ linked (group_of self.now) cpu.0 (past self.now) }
@@ -152,7 +152,7 @@ impl Engine {
         self.state.holder(sem)
     }
 
-    /// The keys of the tasks of the group: of each the base key was told, and `Inherit::key` is its effective key.
+    /// The keys of the tasks of the group. The base key of each is known, and `Inherit::key` is its effective key.
     pub fn keys(&self) -> &Inherit
         ensures { HoldsKeys (group_of self.now) (past self.now) result.now }
     {

@@ -46,7 +46,7 @@ pub(crate) struct GroupState {
 }
 
 impl GroupState {
-    /// The state at opening, with room for so many arrivals.
+    /// The state before the first move, with room for `room` arrivals.
     pub(crate) fn open(
         alloc: Global,
         setup: &Setup,
@@ -86,7 +86,7 @@ impl GroupState {
         }
     }
 
-    /// What the processor is linked to.
+    /// The task that the processor is linked to, `None` where there is none.
     pub(crate) fn linked(&self, cpu: CpuNo) -> Option<TaskNo>
         requires { CanLook cpu.0 self.now }
         ensures { (at : Moment) → IsAt at.group at.past self.now → IsProcessorOf at.group cpu.0

@@ -1,5 +1,18 @@
 //! What is kept of a group's past: the clock, the jobs of each task, and of each processor what it runs and when it worked
 //! last. The engine and the slow ranker both keep it.
+//!
+//! The life of a task, of which this crate keeps when its job is ready and what runs; the semaphores, the reservations and
+//! the links tell the rest:
+//!
+//! ```text
+//! not there  -- release, arrival, the end of a sleep -->  ready
+//! ready      -- waits for nothing, its reservation serves it -->  eligible
+//! eligible   -- among the first of its cluster, by keys -->  linked
+//! linked     -- interrupt -->  running
+//! running    -- a lock that is queued -->  ready, and waiting until it is granted
+//! running    -- end, or a forced end -->  its next job, not there before its release
+//! running    -- sleep -->  not there until the sleep is over
+//! ```
 #![tactic(auto)]
 
 ghost use Rattle.std.specs.Prelude.{◌≡◌, ◌+◌, ◌-◌, ◌<◌, ◌≤◌, ◌∷◌, ◌++◌, [], false, true, IfOk, length, option_map};
@@ -66,7 +79,8 @@ impl Model for GroupJobs {
 }
 
 impl GroupJobs {
-    /// So many tasks that have done nothing, and processors that run nothing, with room for so many arrivals.
+    /// Tasks 1 to `tasks`, which have done nothing, and processors 0 to `cpus` less 1, which run nothing, with room for
+    /// `room` arrivals.
     pub fn open(alloc: Global, tasks: u32, cpus: u32, room: u32) -> Result<GroupJobs, NoMemory>
         requires { tasks ≤ MOST_TASKS }
         ensures { IfOk result (λ j. j ≡ record { kept = opened tasks cpus; room = room }) }
@@ -301,7 +315,7 @@ impl GroupJobs {
         self.clock = self.clock.max(tick.0);
     }
 
-    /// The processor runs this from now on.
+    /// Has the processor run the task, or nothing.
     pub fn run(&mut self, cpu: CpuNo, task: Option<TaskNo>)
         requires { cpu.0 < length self.old.kept.cpus }
         ensures { let now = record (cpu_of self.old.kept cpu.0) { runs = number_of_task task } in
@@ -311,7 +325,7 @@ impl GroupJobs {
         self.put_cpu(cpu, CpuState { runs: task, worked });
     }
 
-    /// The task has these counts from now on.
+    /// Writes the counts of the task.
     fn put(&mut self, task: TaskNo, state: TaskState)
         requires low { 1 ≤ task.0 }
         requires high { task.0 ≤ length self.old.kept.jobs }
@@ -321,7 +335,7 @@ impl GroupJobs {
         self.states[task.0 as usize - 1] = state;
     }
 
-    /// The task has these counts from now on, and the clock joins its arrivals that wait.
+    /// Writes the counts of the task, and adds an arrival at the clock to those of its arrivals that wait.
     fn put_arrival(&mut self, task: TaskNo, state: TaskState)
         requires low { 1 ≤ task.0 }
         requires high { task.0 ≤ length self.old.kept.jobs }
@@ -337,7 +351,7 @@ impl GroupJobs {
         self.arrivals.push(task, Tick(self.clock));
     }
 
-    /// The task has these counts from now on, and leaves the first of its arrivals behind.
+    /// Writes the counts of the task, and removes the first of its arrivals.
     fn put_next(&mut self, task: TaskNo, state: TaskState)
         requires low { 1 ≤ task.0 }
         requires high { task.0 ≤ length self.old.kept.jobs }
@@ -426,7 +440,7 @@ impl GroupJobs {
         self.cpus[cpu.0 as usize]
     }
 
-    /// The processor is this from now on.
+    /// Writes the state of the processor.
     fn put_cpu(&mut self, cpu: CpuNo, state: CpuState)
         requires { cpu.0 < length self.old.kept.cpus }
         ensures { self.new

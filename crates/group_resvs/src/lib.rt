@@ -160,7 +160,7 @@ impl GroupResvs {
         }
     }
 
-    /// Ends a move, or the opening, once its clients are told.
+    /// Ends a move, or the opening, once it knows the clients that the move made ready or not.
     pub fn settle(&mut self)
         ensures { IsSettled self.old self.new }
     {
@@ -185,7 +185,7 @@ impl GroupResvs {
     }
 }
 
-/// So many reservations that serve nobody.
+/// A list of `count` reservations, none of which serves a client.
 fn nobody(alloc: Global, count: usize) -> Result<Vec<Option<TaskNo>>, NoMemory>
     ensures items { IfOk result (λ v. v.items ≡ replicate count None) }
     ensures len { IfOk result (λ v. vec_len v ≡ count) }

@@ -59,7 +59,7 @@ impl Model for GroupSems {
 }
 
 impl GroupSems {
-    /// The semaphores of the group; nobody holds one or waits, and no base key was told.
+    /// The semaphores of the group. Nobody holds one or waits, and no base key is known.
     ///
     /// Example: `GroupSems::open(alloc, &setup, GroupNo(0))` has all semaphores of a set with one group.
     pub fn open(alloc: Global, setup: &Setup, group: GroupNo) -> Result<GroupSems, NoMemory>
@@ -89,7 +89,7 @@ impl GroupSems {
         })
     }
 
-    /// The base key of the task is this from now on.
+    /// Sets the base key of the task.
     pub fn base(&mut self, task: TaskNo, key: Key)
         requires { task.0 < length self.old.waits.bases }
         ensures { self.new ≡ record self.old {
@@ -101,7 +101,7 @@ impl GroupSems {
         self.keys.base(task, key);
     }
 
-    /// The effective key of the task, whose base key was told: its boost, or the highest base key among its own and those
+    /// The effective key of the task, whose base key has to be known: its boost, or the highest base key among its own and those
     /// of the tasks that wait for it.
     pub fn key(&self, task: TaskNo) -> Key
         requires { HasBase self.now.waits.bases task.0 }

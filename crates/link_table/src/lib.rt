@@ -170,7 +170,7 @@ impl Links {
     /// Takes an interrupt at the processor, where `np` says whether what it runs is non-preemptive.
     ///
     /// It is `Quiet` where none is pending, `Deferred` where what runs is non-preemptive, and else `Runs` or `Idles`:
-    /// the processor runs its link from now on.
+    /// the processor then runs its link.
     ///
     /// Example: after that, `links.take_irq(first, false)` is `Reply::Runs(TaskNo(3))`.
     pub fn take_irq(&mut self, q: CpuNo, np: bool) -> Reply
@@ -195,7 +195,7 @@ impl Links {
         }
     }
 
-    /// The processor runs nothing from now on.
+    /// Has the processor run nothing.
     ///
     /// Example: `links.leave(first)` at the end of a job: `links.runs(first)` is then `None`.
     pub fn leave(&mut self, q: CpuNo)

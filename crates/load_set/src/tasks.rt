@@ -107,7 +107,7 @@ fn task_of(alloc: Global, i: u32, d: Drawn) -> Result<Task, AllocError>
     })
 }
 
-/// So many tasks, numbered from 1, with numbers that are drawn from a state.
+/// `count` tasks, numbered from 1, whose numbers are drawn from the generator in this state.
 pub(crate) fn tasks_of(alloc: Global, count: u32, state: u64) -> Result<Vec<Task>, AllocError>
     requires { count ≤ MOST_TASKS }
     ensures { IfOk result (λ v. v.items ≡ load.tasks_from count 1 state) }

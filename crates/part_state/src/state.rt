@@ -40,7 +40,7 @@ impl Model for PartState {
 }
 
 impl PartState {
-    /// The state at the opening, of so many tasks and processors.
+    /// The state before the first entry, of `tasks` tasks and `cpus` processors.
     pub fn open(alloc: Global, tasks: u32, cpus: u32) -> Result<PartState, NoMemory>
         requires { tasks ≤ MOST_TASKS }
         ensures { IfOk result (λ p. p ≡ opened tasks cpus) }
@@ -57,7 +57,7 @@ impl PartState {
         self.jobs.move_clock(tick);
     }
 
-    /// The processor takes its interrupt, and runs its link from now on.
+    /// The processor takes its interrupt and runs its link.
     pub fn interrupt(&mut self, cpu: CpuNo, link: Option<TaskNo>)
         requires { cpu.0 < length self.old.kept.cpus }
         ensures { (all : _)
@@ -130,7 +130,7 @@ impl PartState {
         self.locks[task.0 as usize - 1]
     }
 
-    /// The task stands so from now on.
+    /// Writes what the task holds and waits for.
     fn put(&mut self, task: TaskNo, lock: TaskLock)
         requires low { 1 ≤ task.0 }
         requires high { task.0 ≤ length self.old.kept.jobs }

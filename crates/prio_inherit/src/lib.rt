@@ -42,8 +42,8 @@ impl Model for Inherit {
 }
 
 impl Inherit {
-    /// A table for tasks whose numbers are below `room`, of which no base key was told and none waits or is boosted.
-    /// No later call takes memory.
+    /// A table for tasks whose numbers are below `room`: no base key is known, and no task waits or is boosted. No later
+    /// call takes memory.
     ///
     /// Example: `Inherit::new(alloc, 64)` takes the tasks 0 to 63.
     pub fn new(alloc: Global, room: u32) -> Result<Inherit, NoMemory>
@@ -63,7 +63,7 @@ impl Inherit {
         })
     }
 
-    /// The base key of the task is this from now on.
+    /// Sets the base key of the task.
     ///
     /// Example: `table.base(TaskNo(1), key)` before the first call for task 1, and at each new job under EDF.
     pub fn base(&mut self, task: TaskNo, key: Key)

@@ -82,7 +82,7 @@ const LIMITS: [Limit; 12] = [
     ),
 ];
 
-/// So many copies of a text, one after another.
+/// Copies of a text, one after another.
 fn copies(alloc: Global, text: &str, count: u64) -> Result<String, Fail> {
     let mut all = String::new(alloc);
     for _ in 0..count {
@@ -91,7 +91,7 @@ fn copies(alloc: Global, text: &str, count: u64) -> Result<String, Fail> {
     Ok(all)
 }
 
-/// A list of so many times one element.
+/// A list that has one element `count` times.
 fn list_of(alloc: Global, element: &str, count: u64) -> Result<String, Fail> {
     let mut list = String::new(alloc);
     for n in 0..count {
@@ -103,7 +103,7 @@ fn list_of(alloc: Global, element: &str, count: u64) -> Result<String, Fail> {
     Ok(list)
 }
 
-/// A list of so many elements, each with its number between two parts.
+/// A list of elements, each with its number between two parts.
 fn numbered(alloc: Global, before: &str, after: &str, count: u64) -> Result<String, Fail> {
     let mut list = String::new(alloc);
     for n in 0..count {

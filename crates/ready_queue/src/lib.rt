@@ -59,7 +59,8 @@ impl Model for ReadyQueue {
 }
 
 impl ReadyQueue {
-    /// An empty set for tasks whose numbers are below the room, with so many first ones. No later call takes memory.
+    /// An empty set for tasks whose numbers are below `room`, of which the first `most` are at hand. No later call takes
+    /// memory.
     ///
     /// Example: `ReadyQueue::new(alloc, 2, 64)` takes the tasks 0 to 63, for a cluster of two processors.
     pub fn new(alloc: Global, most: u32, room: u32) -> Result<ReadyQueue, NoMemory>

@@ -166,7 +166,7 @@ impl Resvs {
         self.servers[r.0 as usize - 1].charge();
     }
 
-    /// Ends a move, or the opening, once its clients are told. A polling reservation with no ready client loses what
+    /// Ends a move, or the opening, once it knows the clients that the move made ready or not. A polling reservation with no ready client loses what
     /// is left; a sporadic one with a ready client is replenished where it never was or its period is over.
     ///
     /// Example: `resvs.settle()` after `tick`, `charge` and the clients of the same move.

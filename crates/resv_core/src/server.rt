@@ -160,7 +160,7 @@ impl Server {
         uncounted::take_out(&mut self.clients, task);
     }
 
-    /// The clock goes from `old` to `new`, which stands at this place in the slots of a table.
+    /// Moves the clock from `old` to `new`. Where the reservation is a table, `place` is the slot that holds `new`.
     pub(crate) fn tick(&mut self, old: u64, new: u64, place: Option<InSlot>)
         ensures { self.new ≡ ticked_to place old new self.old }
     {

@@ -34,7 +34,7 @@ pub struct Tick(pub u64);
 /// What a request for a semaphore is answered.
 #[derive(Clone, Copy, Debug, PartialEq, Eq)]
 pub enum Ask {
-    /// The task holds the semaphore from now on.
+    /// The task now holds the semaphore.
     Granted,
     /// The task waits.
     Queued,

@@ -6,7 +6,7 @@ use rt_base::{ResvNo, TaskNo};
 /// A part of a body.
 #[derive(Clone, Copy, PartialEq, Eq)]
 pub enum Piece {
-    /// So many units of work.
+    /// This number of units of work, one a tick.
     Works(u64),
     /// One operation.
     Once(Op),
@@ -78,7 +78,7 @@ pub type DraftSteps = Items<DraftStep>;
 pub enum DraftDrive {
     /// These steps.
     Steps(DraftSteps),
-    /// The bodies of the tasks, through so many ticks.
+    /// The bodies of the tasks, played for this number of ticks.
     Horizon(u64),
 }
 

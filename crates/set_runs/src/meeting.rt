@@ -8,7 +8,8 @@ const MOST_LOOKS: u32 = 20_000;
 /// More than the number of threads that can meet.
 const CALLED_OFF: u64 = 1 << 32;
 
-/// A meeting of so many threads, and how many have come so far; many more once it is called off.
+/// A point at which `all` threads meet. `there` counts those that have come; once the meeting is called off it is
+/// `CALLED_OFF`, which is far more.
 #[derive(Drop)]
 pub(crate) struct Meeting {
     all: u64,
@@ -41,7 +42,7 @@ impl Meeting {
         false
     }
 
-    /// Calls the meeting off, where just so many have come.
+    /// Calls the meeting off, where exactly `there` threads have come.
     fn calls_off(&self, there: u64) -> bool {
         self.there
             .compare_exchange(there, CALLED_OFF, Ordering::SeqCst, Ordering::SeqCst)

@@ -9,7 +9,7 @@ use rt_task::{Cluster, Setup};
 use std::alloc::Global;
 use trace_text::count_groups;
 
-/// The group of so many processors more.
+/// Adds the group, once for each of `count` processors.
 fn put_group(groups: &mut Vec<GroupNo>, group: GroupNo, count: u32) -> Result<(), NoMemory>
     ensures { OnOk result (groups.new.items ≡ groups.old.items ++ replicate count group) }
 {
@@ -30,7 +30,7 @@ pub(crate) fn groups_of_cpus(alloc: Global, clusters: &[Cluster]) -> Result<Vec<
     Ok(groups)
 }
 
-/// So many zeros.
+/// A list of `count` zeros.
 fn zeros(alloc: Global, count: u32) -> Result<Vec<u32>, NoMemory>
     ensures { IfOk result (λ v. v.items ≡ replicate count 0) }
 {

@@ -12,7 +12,7 @@ use std::alloc::Global;
 use trace_text::{count_groups, cpus_of};
 use turn_play::play_turns;
 
-/// The room for so many turns of so many processors.
+/// The most steps that `horizon` turns of `cpus` processors have.
 fn turn_room(horizon: u64, cpus: u64) -> u32
     requires { horizon * cpus * MOST_TURN_STEPS ≤ MOST_STEPS }
     ensures { result ≡ horizon * cpus * MOST_TURN_STEPS }

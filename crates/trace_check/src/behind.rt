@@ -15,7 +15,7 @@ fn behind_line(bytes: &[u8]) -> &[u8]
     &bytes[bytes.len()..]
 }
 
-/// What stands behind so many line feeds.
+/// What follows the first `lines` line feeds.
 pub(crate) fn behind(bytes: &[u8], lines: u32) -> &[u8]
     ensures { result.now ≡ behind_lines lines bytes.now }
 {

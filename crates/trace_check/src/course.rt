@@ -37,7 +37,7 @@ fn horizon_of(drive: &Drive) -> u64
     }
 }
 
-/// Room for so many turns of so many processors.
+/// The most steps that `horizon` turns of `cpus` processors have.
 fn room_for_turns(horizon: u64, cpus: usize) -> u32
     requires { horizon * cpus * MOST_TURN_STEPS ≤ MOST_STEPS }
     ensures { result ≡ horizon * cpus * MOST_TURN_STEPS }
@@ -57,7 +57,7 @@ impl Course {
         }
     }
 
-    /// How many entries so many processors can have at most.
+    /// How many entries `cpus` processors can have at most.
     pub(crate) fn room(&self, drive: &Drive, cpus: usize) -> u32
         requires steps { length (drives.steps_given drive.now) ≤ MOST_STEPS }
         requires turns { drives.horizon drive.now * cpus * MOST_TURN_STEPS ≤ MOST_STEPS }

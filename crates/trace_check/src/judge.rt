@@ -47,7 +47,7 @@ fn is_end(lines: &[Line]) -> bool
     }
 }
 
-/// The verdict that so many lines behind this place are right and the next is not.
+/// The verdict that `further` lines after line `place` are right, and the next is wrong.
 fn wrong_behind(place: usize, further: usize) -> Result<Verdict, NoMemory>
     ensures { IfOk result (λ v. v ≡ Verdict.Invalid (place + further + 3)) }
 {

@@ -1,6 +1,6 @@
 //! How far the lines of a trace are right.
 
-/// So many lines after the first two, those of whole groups, with so many entries among them.
+/// The lines of whole groups that were checked after the first two, and the entries among them.
 #[derive(Clone, Copy, PartialEq, Eq)]
 pub(crate) struct Progress {
     pub(crate) lines: usize,

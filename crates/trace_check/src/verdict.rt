@@ -3,8 +3,8 @@
 /// Whether a text is a valid trace of the set that it says.
 #[derive(Clone, Copy, Debug, PartialEq, Eq)]
 pub enum Verdict {
-    /// It is, with so many entries.
+    /// The text is a valid trace with this number of entries.
     Valid(u32),
-    /// It is not: this line, from 1, is the first that is wrong.
+    /// The text is no valid trace: this line, numbered from 1, is the first wrong one.
     Invalid(u32),
 }

@@ -12,7 +12,7 @@ use rt_history::{Entry, Reply};
 use rt_task::{Act, Op};
 use trace_lines::CpuLink;
 
-/// Whether this is the number of one of so many, which are numbered from 1.
+/// Whether `n` numbers one of `most` things, which are numbered from 1.
 fn is_number_of(most: usize, n: u32) -> bool
     ensures { IsTrue result ↔ known.IsNumberOf most n }
 {

@@ -150,7 +150,7 @@ fn read_head(bytes: &[u8]) -> Result<(Version, &[u8], &[u8]), TraceFault>
     }
 }
 
-/// The number of the line after so many, and the two of the head, where anything is left.
+/// The number of the line that follows the two of the head and these, from 1, where anything is left.
 fn stop_after(lines: &[Line], left: &[u8]) -> Result<Option<u32>, TraceFault>
     ensures stop { IfOk result (λ o. o ≡ stop_at (lines_of lines.now) left.now) }
     ensures memory { IfErr result (λ e. e ≡ faults.NoMemory) }

@@ -38,7 +38,7 @@ impl Model for Counted {
 }
 
 impl Counted {
-    /// A group at opening, with room for so many steps.
+    /// A group before its first step, with room for `room` steps.
     pub fn open(
         alloc: Global,
         setup: &Setup,

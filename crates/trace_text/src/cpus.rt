@@ -28,7 +28,7 @@ pub fn count_groups(setup: &Setup) -> u32
     count_in(setup.parts())
 }
 
-/// So many processors, numbered from `first` on.
+/// Adds `count` processors, numbered from `first` on.
 #[tactic(auto, using(crate::proofs::CpuLaws::numbers_more, crate::proofs::CpuLaws::numbers_start))]
 fn put_cpus(cpus: &mut Vec<CpuNo>, first: u32, count: u32) -> Result<(), NoMemory>
     requires { first + count < 2 ^ 32 }

@@ -32,7 +32,7 @@ pub struct Replay {
 }
 
 impl Replay {
-    /// A group at opening, with room for so many steps.
+    /// A group before its first step, with room for `room` steps.
     pub fn open(alloc: Global, setup: &Setup, group: GroupNo, room: u32) -> Result<Replay, NoMemory>
         requires group { IsGroupOf setup.now group.0 }
         requires room { room ≤ MOST_STEPS }

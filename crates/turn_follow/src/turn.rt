@@ -70,7 +70,7 @@ impl Turn {
         self.begun == 0 || (self.since > 0 && (is_full || self.had_none))
     }
 
-    /// Whether the step begins the next turn, of so many.
+    /// Whether the step begins the next of `horizon` turns.
     fn begins(self, step: Step, horizon: u64) -> bool
         ensures on { result ≡ true → Begins self horizon step }
         ensures other { result ≡ false → Begins self horizon step → ⊥ }
@@ -106,7 +106,7 @@ impl Turn {
         }
     }
 
-    /// Whether all turns, so many, were played.
+    /// Whether all `horizon` turns were played.
     pub(crate) fn has_ended(self, horizon: u64) -> bool
         ensures { result ≡ words.has_ended self horizon }
     {

@@ -69,7 +69,7 @@ fn seen(row: Option<Turn>, is_none: bool) -> Option<Turn>
 }
 
 impl Turns {
-    /// Before the first turn of these processors, those of a group, where each has so many turns.
+    /// Before the first turn of the processors of a group, each of which has `horizon` turns.
     pub fn open(alloc: Global, cpus: &[CpuNo], horizon: u64) -> Result<Turns, NoMemory>
         requires { All (λ q. q.0 < MOST_CPUS) cpus.now }
         ensures { IfOk result (λ v. (g : Group)

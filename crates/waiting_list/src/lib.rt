@@ -52,7 +52,7 @@ impl Model for WaitingList {
 }
 
 impl WaitingList {
-    /// No tasks, with room for so many. It takes all the memory that the value ever has.
+    /// An empty list, with room for `room` tasks. All memory is taken here.
     pub fn open(alloc: Global, room: u32) -> Result<WaitingList, NoMemory>
         ensures { IfOk result (λ l. l ≡ record { room = room; waiting = [] }) }
     {

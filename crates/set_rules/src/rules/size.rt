@@ -19,7 +19,7 @@ use rt_base::{
 };
 use rt_task::{Draft, DraftDrive, DraftTask, Part, Piece, SetKind, SetStop};
 
-/// Whether a horizon times so many processors, each with all steps of a turn, is within the limit of steps.
+/// Whether `horizon` turns of `cpus` processors, each with the most steps of a turn, are within the limit of steps.
 fn product_fits(horizon: u64, cpus: u64) -> bool
     ensures { result ≡ nat_le (horizon * cpus * MOST_TURN_STEPS) MOST_STEPS }
 {
