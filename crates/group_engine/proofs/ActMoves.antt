@@ -17,7 +17,7 @@ use Rattle.group_facts.specs.FactMoves.{with_act}
 use Rattle.group_facts.specs.Kept.{IsOfGroup, cpu_of}
 use Rattle.group_facts.specs.Timers.{timer_at}
 use Rattle.group_facts.proofs.TimerSets.{timers_are_renewed}
-use Rattle.waiting_list.specs.Listing.{CanList, Moment}
+use Rattle.group_core.specs.Words.{CanList, Moment}
 use Rattle.group_core.specs.Facts.{Facts, IsPlainAct, MayAct, WithRoom, acted, ended_now, looked_in, reply_in}
 use Rattle.group_core.specs.Facts as moves
 use Rattle.group_core.specs.Standing as core

@@ -12,7 +12,7 @@ use Rattle.group_jobs.specs.GroupJobs.{IsTaskOf, task_in}
 use Rattle.group_sems.specs.GroupSems.{GroupSems}
 use Rattle.group_sems.specs.Telling.{HasBase}
 use Rattle.cluster_table.specs.Table.{HasTask}
-use Rattle.waiting_list.proofs.Kept.{at_home, limits-of}
+use Rattle.group_core.proofs.Words.{at_home, limits-of}
 use Rattle.group_core.specs.Facts.{WithRoom}
 use Rattle.group_core.specs.Reads.{AreBased, CanRead}
 use Rattle.group_core.specs.Standing as core

@@ -20,7 +20,7 @@ use Rattle.rank_changes.proofs.TouchedTasks.{clock_keeps_jobs, clock_touches_due
 use Rattle.group_facts.specs.Timers.{AreDue, AreMoved, TimersAreKept, renewed, ticks_without, timer_at}
 use Rattle.group_facts.proofs.TimerMoves.{timers_after_clock}
 use Rattle.group_facts.proofs.TimerSets.{length-without, tick-set, tick-without}
-use Rattle.waiting_list.specs.Listing.{Moment}
+use Rattle.group_core.specs.Words.{Moment}
 use Rattle.group_core.specs.Facts.{clocked}
 use Rattle.group_core.specs.Standing as core
 use Rattle.group_core.proofs.Moves.{at-clocked, fit-clocked}

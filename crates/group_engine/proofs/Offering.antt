@@ -10,7 +10,7 @@ use Rattle.group_engine.specs.declared.state.GroupState.{GroupState}
 use Rattle.group_engine.specs.Touching.{CanOffer, CanOfferAll, all_offered, offered}
 use Rattle.group_engine.proofs.Bringing.{others-offered}
 use Rattle.group_engine.proofs.BringingUp.{all_offered-push, can-offer-all}
-use Rattle.waiting_list.proofs.Rows.{item-has}
+use Rattle.group_core.proofs.Words.{item-has}
 
 -- some of the changed clients stand where they should
 module _ (p : Parts) (start s : GroupState) (i : ℕ) (state_is : s ≡ all_offered p (take i start.core.facts.resvs.changed) start) (ts : List TaskNo) (are : numbers ts ≡ s.core.facts.resvs.changed) where

@@ -35,7 +35,7 @@ use Rattle.cluster_table.specs.Table.{HasTask, Table, cluster_at}
 use Rattle.cluster_table.proofs.FirstTasks.{first_tasks-holds}
 use Rattle.cluster_table.proofs.RowLaws.{at-relinked}
 use Rattle.sem_table.specs.Told.{awaits_of}
-use Rattle.group_sem_laws.specs.Kept.{KeepsGroupSems}
+use Rattle.group_core.specs.Words.{KeepsGroupSems}
 use Rattle.group_resvs.specs.GroupResvs.{GroupResvs, IsSettled, is_served, is_served_by}
 use Rattle.group_resvs.specs.Kept.{KeepsResvs}
 use Rattle.group_resvs.specs.Laws.{AreToldOf}
@@ -45,7 +45,7 @@ use Rattle.resv_laws.specs.Kept.{ready_release}
 use Rattle.resv_laws.specs.Serving as serving
 use Rattle.resv_laws.specs.Serving.{all_begun, for_task}
 use Rattle.resv_laws.proofs.ServingLaws.{for_task-keeps}
-use Rattle.waiting_list.proofs.Kept.{at_home}
+use Rattle.group_core.proofs.Words.{at_home}
 use Rattle.group_core.specs.Facts.{Facts, WithRoom, told_all}
 use Rattle.group_core.specs.Reads.{key_in, timer_in}
 use Rattle.group_core.specs.Standing as core

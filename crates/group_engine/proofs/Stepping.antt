@@ -18,7 +18,7 @@ use Rattle.rt_groups.specs.Endings.{ended_last}
 use Rattle.group_core.specs.declared.looks.Answer.{Answer}
 use Rattle.group_engine.specs.declared.state.GroupState.{GroupState}
 use Rattle.group_engine.specs.Moments.{CanActOn, CanMove, HasActed, IsPlayed}
-use Rattle.waiting_list.specs.Listing.{Moment}
+use Rattle.group_core.specs.Words.{Moment}
 use Rattle.group_engine.specs.Sound.{Extent, IsMoved, IsSound}
 use Rattle.group_engine.specs.State.{IsAt}
 

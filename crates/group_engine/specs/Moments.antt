@@ -15,7 +15,7 @@ use Rattle.rt_model.specs.Steps.{IsActOf}
 use Rattle.rt_plays.specs.Homes.{IsProcessorOf}
 use Rattle.rt_groups.specs.Endings.{ended_in}
 use Rattle.rt_groups.specs.Groups.{GroupHistory, IsGroupOf, group_of, past}
-use Rattle.waiting_list.specs.Listing.{Moment}
+use Rattle.group_core.specs.Words.{Moment}
 use Rattle.group_core.specs.declared.looks.Answer.{Answer}
 use Rattle.group_engine.specs.declared.state.GroupState.{GroupState}
 use Rattle.group_engine.specs.Ending.{IsEnding}

@@ -11,7 +11,7 @@ ghost use Rattle.rt_model.specs.Situations.{situation};
 ghost use Rattle.rt_model.specs.Histories.{past_of, reply_to};
 ghost use Rattle.rt_model.specs.Holders.{holder};
 ghost use Rattle.count_laws.specs.Tallies.{waiter_tasks};
-ghost use Rattle.waiting_list.specs.Listing.{AreWaitersAt};
+ghost use Rattle.group_core.specs.Words.{AreWaitersAt};
 ghost use Rattle.group_engine.specs.Keys.{HoldsKeys};
 ghost use Rattle.group_engine.specs.Moments.{IsDeclared, between};
 ghost use Rattle.group_engine.specs.Sound.{Extent, IsMoved, IsSound};

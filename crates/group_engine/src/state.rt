@@ -16,7 +16,7 @@ ghost use Rattle.rt_plays.specs.Plays.{group_with};
 ghost use Rattle.rt_groups.specs.Groups.{IsGroupOf};
 ghost use Rattle.rank_changes.specs.Clusters.{HoldsEligible};
 ghost use Rattle.count_laws.specs.Tallies.{waiter_tasks};
-ghost use Rattle.waiting_list.specs.Listing.{AreWaitersAt, Moment};
+ghost use Rattle.group_core.specs.Words.{AreWaitersAt, Moment};
 ghost use Rattle.group_facts.specs.Timers.{AreDue};
 ghost use Rattle.group_core.specs.Looked.{looked};
 ghost use Rattle.group_engine.specs.Moments.{CanActOn, CanEnd, CanLend, CanLook, CanMove, CanTell, HasActed, IsDeclared, IsPlayed};

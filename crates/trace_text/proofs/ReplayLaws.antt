@@ -24,7 +24,7 @@ use Rattle.rt_groups.specs.Groups.{GroupHistory, group_of, past, with_entry}
 use Rattle.count_laws.specs.CountLaws.{act_of}
 use Rattle.count_laws.specs.Tallies.{AreWaiters, Waiter}
 use Rattle.block_counts.specs.GroupRequests.{GroupRequests, IsAt, IsBetween, group_of as requests_group}
-use Rattle.waiting_list.specs.Listing.{AreListed, AreWaitersAt}
+use Rattle.group_engine.specs.Words.{AreListed, AreWaitersAt}
 use Rattle.group_engine.specs.Moments.{between}
 use Rattle.trace_lines.specs.declared.links.CpuLink.{CpuLink}
 use Rattle.trace_lines.specs.Lines.{Link, link_of, links_of}

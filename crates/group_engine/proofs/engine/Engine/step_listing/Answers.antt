@@ -3,7 +3,7 @@ use Rattle.rt_task.specs.declared.Parts.{Parts}
 use Rattle.rt_model.specs.Histories.{reply_to}
 use Rattle.rt_groups.specs.Groups.{GroupHistory, group_of, past}
 use Rattle.rt_plays.specs.Plays.{group_with}
-use Rattle.waiting_list.specs.Listing.{AreWaitersAt}
+use Rattle.group_core.specs.Words.{AreWaitersAt}
 use Rattle.resv_laws.proofs.TableLaws.{tables_are_followed}
 use Rattle.rt_laws.proofs.SemaphoreLaws.{histories_are_made}
 use Rattle.group_engine.specs.Moments.{between}

@@ -2,7 +2,7 @@ use Rattle.std.proofs.Common.{◌≡◌, ◌∷◌, sym, ap, ◌∙◌, subst, a
 use Rattle.rt_base.specs.TaskNos.{number_of_task}
 use Rattle.rt_model.specs.Outcomes.{past_act}
 use Rattle.rt_model.specs.Past.{Acted}
-use Rattle.waiting_list.specs.Listing.{Moment}
+use Rattle.group_core.specs.Words.{Moment}
 use Rattle.group_core.specs.Facts.{WithRoom, looked_in}
 use Rattle.group_core.specs.Looked.{looked}
 use Rattle.group_engine.specs.declared.state.GroupState.{GroupState}

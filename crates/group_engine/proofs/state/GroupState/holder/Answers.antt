@@ -1,5 +1,5 @@
 use Rattle.std.proofs.Common.{◌∙◌}
-use Rattle.group_sem_laws.proofs.Refusals.{holder_is_read}
+use Rattle.group_core.proofs.Words.{holder_is_read}
 use Rattle.group_engine.proofs.state.GroupState.holder.Goals as goal
 
 pub returns : goal.returns

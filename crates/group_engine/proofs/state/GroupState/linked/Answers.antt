@@ -2,7 +2,7 @@ use Rattle.std.proofs.Common.{◌≡◌, ap, ◌∙◌}
 use Rattle.std.specs.Prelude.{Some}
 use Rattle.rt_model.specs.Group.{cluster_with}
 use Rattle.cluster_table.specs.Table.{cluster_at}
-use Rattle.waiting_list.specs.Listing.{Moment}
+use Rattle.group_core.specs.Words.{Moment}
 use Rattle.group_engine.specs.State.{HasClusterAt}
 use Rattle.group_engine.proofs.Running.{has_processor, link-read, own_cluster}
 use Rattle.group_engine.proofs.state.GroupState.linked.Goals as goal

@@ -1,7 +1,7 @@
 use Rattle.std.proofs.Common.{◌∷◌, ap, ◌∙◌}
 use Rattle.rt_model.specs.Group.{tasks}
 use Rattle.rt_model.specs.Past.{Clock}
-use Rattle.waiting_list.specs.Listing.{Moment}
+use Rattle.group_core.specs.Words.{Moment}
 use Rattle.group_core.specs.Facts.{WithRoom}
 use Rattle.group_engine.specs.declared.state.GroupState.{GroupState}
 use Rattle.group_engine.specs.Touching.{CanBringUpAll}

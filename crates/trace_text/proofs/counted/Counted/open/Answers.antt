@@ -1,6 +1,6 @@
 use Rattle.std.proofs.Common.{◌≡◌, ◌≤◌, length, ap, arith}
 use Rattle.rt_task.specs.declared.Parts.{Parts}
-use Rattle.waiting_list.specs.WaitingList.{WaitingList}
+use Rattle.group_engine.specs.Words.{WaitingList}
 use Rattle.trace_text.proofs.ReplayLaws.{counts-open}
 use Rattle.trace_text.proofs.counted.Counted.open.Goals as goal
 

@@ -3,7 +3,7 @@ use Rattle.rt_base.specs.TaskNos.{number_of_task}
 use Rattle.rt_model.specs.Steps.{IsStepOf}
 use Rattle.rt_groups.specs.Groups.{GroupHistory, group_of, past}
 use Rattle.block_counts.specs.SeenWords.{waiters_of}
-use Rattle.waiting_list.specs.Listing.{AreWaitersAt}
+use Rattle.group_engine.specs.Words.{AreWaitersAt}
 use Rattle.group_engine.specs.Moments.{between}
 use Rattle.trace_text.proofs.BlockLines.{names-known, reachable-past_of}
 use Rattle.trace_text.proofs.ReplayLaws.{counts-next, is_between}

@@ -1,0 +1,3 @@
+pub mod TourSet
+pub mod TourGroup
+pub mod RefusedActs
