@@ -18,7 +18,7 @@ fn put_word(out: &mut Vec<u8>, later: bool, word: &[u8]) -> Result<(), AllocErro
 {
     put_comma(out, later)?;
     put_string(out, b"", word)?;
-    put(out, b"]")?;
+    out.push(b']')?;
     Ok(())
 }
 
@@ -36,7 +36,7 @@ fn put_word_and_name(
     put_comma(out, later)?;
     put_string(out, b"", word)?;
     put_string(out, b",", name)?;
-    put(out, b"]")?;
+    out.push(b']')?;
     Ok(())
 }
 
@@ -54,7 +54,7 @@ pub fn put_word_and_number(
     put_comma(out, later)?;
     put_string(out, b"", word)?;
     put_number(out, b",", n)?;
-    put(out, b"]")?;
+    out.push(b']')?;
     Ok(())
 }
 
@@ -113,11 +113,11 @@ pub fn put_steps(
         (sem_names sems.now) (task_names tasks.now)) steps.now))) }
 {
     put(out, before)?;
-    put(out, b"[")?;
+    out.push(b'[')?;
     for (i, s) in steps.iter().enumerate() {
         put_comma(out, i > 0)?;
         put_step(out, sems, tasks, s)?;
     }
-    put(out, b"]")?;
+    out.push(b']')?;
     Ok(())
 }

@@ -21,18 +21,21 @@ pub fn put_comma(out: &mut Vec<u8>, later: bool) -> Result<(), AllocError>
     ensures { OnOk result (out.new.items ≡ out.old.items ++ comma_if later) }
 {
     if later {
-        put(out, b",")?;
+        out.push(b',')?;
     }
     Ok(())
 }
 
-/// The number in decimal, after the text before it.
-#[tactic(auto, using(std::proofs::Common::append_assoc))]
+/// The number in decimal, after the text before it; most numbers of a set have one digit.
+#[tactic(auto, using(std::proofs::Common::append_assoc, std::proofs::lemmas::Fmt::decimal_digit))]
 pub fn put_number(out: &mut Vec<u8>, before: &[u8], n: u64) -> Result<(), AllocError>
     ensures { OnOk result (out.new.items ≡ out.old.items ++ (before.now ++ decimal n)) }
 {
-    let mut buffer = Buffer::new();
     put(out, before)?;
+    if n < 10 {
+        return Ok(out.push(b'0' + n as u8)?);
+    }
+    let mut buffer = Buffer::new();
     put(out, buffer.format(n).as_bytes())?;
     Ok(())
 }
@@ -97,7 +100,7 @@ fn put_byte(out: &mut Vec<u8>, byte: u8) -> Result<(), AllocError>
             ],
         );
     }
-    put(out, &[byte])
+    Ok(out.push(byte)?)
 }
 
 /// A string's bytes, with their escapes.
@@ -117,8 +120,8 @@ pub fn put_string(out: &mut Vec<u8>, before: &[u8], text: &[u8]) -> Result<(), A
     ensures { OnOk result (out.new.items ≡ out.old.items ++ (before.now ++ print.quoted text.now)) }
 {
     put(out, before)?;
-    put(out, b"\"")?;
+    out.push(b'"')?;
     put_escaped(out, text)?;
-    put(out, b"\"")?;
+    out.push(b'"')?;
     Ok(())
 }

@@ -29,7 +29,7 @@ fn append_group_line(
     put(out, b"group")?;
     put_next_number(out, u64::from(group.0))?;
     put_links(out, format, links)?;
-    put(out, b"\n")?;
+    out.push(b'\n')?;
     Ok(())
 }
 
@@ -50,7 +50,7 @@ fn append_entry_line(
     put_act(out, format, entry.step.act)?;
     put_reply(out, format, entry.reply)?;
     put_links(out, format, links)?;
-    put(out, b"\n")?;
+    out.push(b'\n')?;
     Ok(())
 }
 
@@ -75,7 +75,7 @@ fn append_block_line(
     put_next_number(out, u64::from(ends))?;
     put_next_number(out, u64::from(ends_all))?;
     put_next_number_or_dash(out, bound)?;
-    put(out, b"\n")?;
+    out.push(b'\n')?;
     Ok(())
 }
 
@@ -87,7 +87,7 @@ fn append_count_line(out: &mut Vec<u8>, name: u8, totals: &[u64]) -> Result<(), 
     put(out, b"count")?;
     put_next_word(out, &[name])?;
     put_next_numbers(out, totals)?;
-    put(out, b"\n")?;
+    out.push(b'\n')?;
     Ok(())
 }
 

@@ -6,7 +6,7 @@ ghost use Rattle.trace_lines.specs.Known.{known_in};
 ghost use Rattle.trace_lines.specs.Grammar.{link_word};
 
 use crate::Format;
-use crate::put::{put, put_next_number};
+use crate::put::put_next_number;
 use crate::tasks::put_target;
 use rt_base::{CpuNo, TaskNo};
 use std::alloc::AllocError;
@@ -24,7 +24,7 @@ fn put_link(out: &mut Vec<u8>, format: &Format, link: CpuLink) -> Result<(), All
         ≡ out.old.items ++ 32 ∷ link_word (known_in format.now) (link_of link)) }
 {
     put_next_number(out, u64::from(link.cpu.0))?;
-    put(out, b":")?;
+    out.push(b':')?;
     put_target(out, format, link.task)
 }
 

@@ -12,9 +12,14 @@ pub fn put(out: &mut Vec<u8>, bytes: &[u8]) -> Result<(), AllocError>
     out.extend_from_slice(bytes)
 }
 
+/// A number; most numbers of a line have one digit.
+#[tactic(auto, using(std::proofs::lemmas::Fmt::decimal_digit))]
 pub fn put_number(out: &mut Vec<u8>, n: u64) -> Result<(), AllocError>
     ensures { OnOk result (out.new.items ≡ out.old.items ++ decimal n) }
 {
+    if n < 10 {
+        return Ok(out.push(b'0' + n as u8)?);
+    }
     let mut buffer = Buffer::new();
     put(out, buffer.format(n).as_bytes())
 }
@@ -24,7 +29,7 @@ pub fn put_number(out: &mut Vec<u8>, n: u64) -> Result<(), AllocError>
 pub fn put_next_word(out: &mut Vec<u8>, word: &[u8]) -> Result<(), AllocError>
     ensures { OnOk result (out.new.items ≡ out.old.items ++ 32 ∷ word.now) }
 {
-    put(out, b" ")?;
+    out.push(b' ')?;
     put(out, word)
 }
 
@@ -33,7 +38,7 @@ pub fn put_next_word(out: &mut Vec<u8>, word: &[u8]) -> Result<(), AllocError>
 pub fn put_next_number(out: &mut Vec<u8>, n: u64) -> Result<(), AllocError>
     ensures { OnOk result (out.new.items ≡ out.old.items ++ 32 ∷ decimal n) }
 {
-    put(out, b" ")?;
+    out.push(b' ')?;
     put_number(out, n)
 }
 

@@ -5,7 +5,7 @@ ghost use Rattle.trace_lines.specs.Known.{known_in};
 ghost use Rattle.trace_lines.specs.Grammar.{reply_words};
 
 use crate::Format;
-use crate::put::put_next_word;
+use crate::put::put;
 use crate::tasks::put_word_and_task;
 use rt_history::Reply;
 use std::alloc::AllocError;
@@ -16,24 +16,24 @@ pub fn put_reply(out: &mut Vec<u8>, format: &Format, reply: Reply) -> Result<(),
         ≡ out.old.items ++ further 32 (reply_words (known_in format.now) reply)) }
 {
     match reply {
-        Reply::Done => put_next_word(out, b"done"),
+        Reply::Done => put(out, b" done"),
         Reply::Runs(t) => put_word_and_task(out, format, b"runs", t),
-        Reply::Idles => put_next_word(out, b"idles"),
-        Reply::Granted => put_next_word(out, b"granted"),
-        Reply::Queued => put_next_word(out, b"queued"),
-        Reply::Quiet => put_next_word(out, b"quiet"),
-        Reply::Deferred => put_next_word(out, b"deferred"),
-        Reply::Idle => put_next_word(out, b"idle"),
-        Reply::Spent => put_next_word(out, b"spent"),
-        Reply::NoBudget => put_next_word(out, b"nobudget"),
-        Reply::NotDeclared => put_next_word(out, b"notdeclared"),
-        Reply::Nested => put_next_word(out, b"nested"),
-        Reply::NotHeld => put_next_word(out, b"notheld"),
-        Reply::NotLast => put_next_word(out, b"notlast"),
-        Reply::Holding => put_next_word(out, b"holding"),
-        Reply::InNp => put_next_word(out, b"innp"),
-        Reply::NotInNp => put_next_word(out, b"notinnp"),
-        Reply::TooEarly => put_next_word(out, b"tooearly"),
-        Reply::NotSporadic => put_next_word(out, b"notsporadic"),
+        Reply::Idles => put(out, b" idles"),
+        Reply::Granted => put(out, b" granted"),
+        Reply::Queued => put(out, b" queued"),
+        Reply::Quiet => put(out, b" quiet"),
+        Reply::Deferred => put(out, b" deferred"),
+        Reply::Idle => put(out, b" idle"),
+        Reply::Spent => put(out, b" spent"),
+        Reply::NoBudget => put(out, b" nobudget"),
+        Reply::NotDeclared => put(out, b" notdeclared"),
+        Reply::Nested => put(out, b" nested"),
+        Reply::NotHeld => put(out, b" notheld"),
+        Reply::NotLast => put(out, b" notlast"),
+        Reply::Holding => put(out, b" holding"),
+        Reply::InNp => put(out, b" innp"),
+        Reply::NotInNp => put(out, b" notinnp"),
+        Reply::TooEarly => put(out, b" tooearly"),
+        Reply::NotSporadic => put(out, b" notsporadic"),
     }
 }

@@ -20,7 +20,7 @@ pub fn put_task(out: &mut Vec<u8>, format: &Format, task: TaskNo) -> Result<(), 
     match format.version {
         Version::One => put_number(out, u64::from(task.0)),
         Version::Two => {
-            put(out, b"@")?;
+            out.push(b'@')?;
             put(out, name_of(format.parts.tasks.as_slice(), task))
         }
     }
@@ -47,7 +47,7 @@ pub fn put_next_task(out: &mut Vec<u8>, format: &Format, task: TaskNo) -> Result
     ensures { OnOk result (out.new.items
         ≡ out.old.items ++ 32 ∷ task_word (known_in format.now) task.0) }
 {
-    put(out, b" ")?;
+    out.push(b' ')?;
     put_task(out, format, task)
 }
 
