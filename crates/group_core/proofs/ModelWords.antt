@@ -1,18 +1,17 @@
 -- Whether a task is eligible, its keys and what its reservation is told, read off what is kept of a group.
-use Rattle.std.proofs.Common.{◌≡◌, ℕ, true, refl, sym, ap, ◌∙◌}
+use Rattle.std.proofs.Common.{◌≡◌, ◌&&◌, ℕ, Bool, true, false, refl, sym, ap, ◌∙◌}
 use Rattle.std.specs.Prelude.{is_none, is_some, not, None, Option, Some}
 use Rattle.rt_task.specs.Validity.{IsValid}
 use Rattle.rt_rules.specs.Numbers.{has}
-use Rattle.rt_rules.proofs.BoolLaws.{and_true}
-use Rattle.rt_model.proofs.Unplayed.{admits-each}
 use Rattle.rt_model.specs.BaseKeys.{base_key}
 use Rattle.rt_model.specs.EffectiveKeys.{effective_key}
 use Rattle.rt_model.specs.Holders.{awaits}
 use Rattle.rt_model.specs.Reachable.{IsReachable}
 use Rattle.rt_model.specs.Group.{Group, task, tasks}
 use Rattle.rt_model.specs.Past.{Past}
-use Rattle.rt_model.specs.Tops.{eligible, is_served}
+use Rattle.rt_model.specs.Tops.{eligible, is_admitted, is_served}
 use Rattle.group_facts.specs.Kept.{IsKept, Kept, job_of}
+use Rattle.group_facts.specs.Ways.{AreWays}
 use Rattle.group_facts.specs.Words.{AreRead}
 use Rattle.group_facts.proofs.KeptMoves.{task-range, words_of_kept}
 use Rattle.sem_table.specs.Told.{awaits_of}
@@ -28,6 +27,7 @@ use Rattle.group_resvs.specs.Laws.{IsRead}
 use Rattle.group_resvs.proofs.KeptLaws.{resvs_are_read}
 use Rattle.waiting_list.proofs.Reading.{key_of-any}
 use Rattle.group_core.specs.Reads.{AreBased, base_in, is_candidate, key_in}
+use Rattle.group_core.proofs.Admitting.{admitted-read}
 use Rattle.group_jobs.specs.GroupJobs.{ready_now}
 
 -- ---- reservations
@@ -40,6 +40,12 @@ pub resvs-read : (g : Group) (past : Past) (w : GroupResvs) → IsValid g.setup 
 resvs-read g past w valid keeps = λ t there. resvs_are_read g t past w valid keeps there
 
 -- ---- at a past
+
+and-turned : (a b : Bool) → a && b ≡ b && a
+and-turned true true = refl
+and-turned true false = refl
+and-turned false true = refl
+and-turned false false = refl
 
 none-not : {A : Type 0} (o : Option A) → is_none o ≡ not (is_some o)
 none-not None = refl
@@ -87,11 +93,11 @@ module _ (g : Group) (past : Past) (k : Kept) (kept : IsKept g past k) where
     pub key-read : (t : ℕ) → has t (tasks g) ≡ true → effective_key g t past ≡ key_in v t
     key-read t there = sym (key_is_read g past valid made v.waits t there (record { bases_are = sems.bases; nexts_are = sems.locks.nexts_are; boosts_are = sems.locks.boosts_are }))
 
-    module _ (w : GroupResvs) (resvs : AreResvsRead g past w) where
+    module _ (ways : AreWays g past v.ways) (w : GroupResvs) (resvs : AreResvsRead g past w) where
       pub eligible-read : (t : ℕ) → has t (tasks g) ≡ true → eligible g t past ≡ is_candidate g.setup k v w t
       unfolding task
       eligible-read t there =
           let waits : is_some (awaits_of v.table t) ≡ is_some (awaits g t past) = waits-read t there in
           let words : AreRead g t past k.clock (job_of k t) = words_of_kept g past k kept t there in
           let served_is : group_resvs.is_served w t ≡ is_served g g.setup.plugin t past = (resvs t there).served in
-          words.eligible_is ∙ rw (admits-each g valid t past, and_true (is_served g g.setup.plugin t past), none-not (awaits g t past), waits, served_is) refl
+          words.eligible_is ∙ rw (none-not (awaits g t past), waits, served_is, admitted-read g valid past made v sems.locks ways t there, and-turned (is_served g g.setup.plugin t past) (is_admitted g g.setup.plugin t past)) refl

@@ -92,5 +92,6 @@ module _ (g : Group) (f : Facts) (room spare : ℕ) (fit : IsFit g f room spare)
     reachable = clocked_too tick at.reachable;
     kept = kept-stays;
     sems_are = (at-clocked g f room spare fit tick past at).sems_are;
+    ways_are = (at-clocked g f room spare fit tick past at).ways_are;
     resvs_are = resvs-stay g past tick f.resvs fit.valid at.reachable at.resvs_are settled told-none (let c = at.kept.clock_is in omega (arith, c, low));
   }

@@ -1,6 +1,7 @@
 -- What holders are boosted to.
 use Rattle.std.proofs.Common.{false, length, refl, subst, sym, true, ℕ, ◌<◌, ◌∙◌, ◌∷◌, ◌≡◌, List}
 use Rattle.std.specs.Prelude.{None, Option, Some, ◌==◌, slice_set}
+use Rattle.rt_task.specs.RuleWords.{is_stacked}
 use Rattle.rt_task.specs.Validity.{IsValid}
 use Rattle.rt_task.specs.declared.PluginKind.TheVariants as plugins
 use Rattle.rt_task.specs.declared.PluginKind.{PluginKind}
@@ -8,7 +9,7 @@ use Rattle.rt_task.specs.declared.Protocol.TheVariants.{Fmlp, Mpcp, Omlp, Pcp, S
 use Rattle.rt_task.specs.declared.Protocol.{Protocol}
 use Rattle.rt_task.specs.declared.Task.{Task}
 use Rattle.rt_order.specs.declared.Key.{Key}
-use Rattle.rt_rules.specs.Numbers.{first, has}
+use Rattle.rt_rules.specs.Numbers.{first, has, is}
 use Rattle.rt_rules.proofs.MemberLaws.{has-first, is-some, some-is, turned}
 use Rattle.rt_model.specs.Boosts.{boost, boost_by, boost_of, granted_at, mpcp_ceiling}
 use Rattle.rt_model.specs.Ceilings.{is_pcp}
@@ -41,6 +42,30 @@ boost-kept g u e past h = rw h (by_first (first (holds g u past)) refl)
         let before : holder g r past ≡ Some u = is-some u (holder g r past) (one-holds g u r past there).1 in
         let after : holder g r (e ∷ past) ≡ Some u = is-some u (holder g r (e ∷ past)) (one-holds g u r (e ∷ past) (subst (λ (l : List ℕ). has r l ≡ true) (sym h) there)).1 in
         boost_by-left g (protocol g r) r u e past (granted_at-left g r e past (after ∙ sym before))
+
+-- ---- who holds semaphores of PCP or SRP alone is not boosted
+
+pub pcp-stacked : (p : Protocol) → is_pcp p ≡ true → is_stacked p ≡ true
+pcp-stacked Pcp h = refl
+pcp-stacked Fmlp h = cc
+pcp-stacked Omlp h = cc
+pcp-stacked Mpcp h = cc
+pcp-stacked Srp h = cc
+
+pub boost-stacked : (g : Group) (u : ℕ) (past : Past) → ((r : ℕ) → has r (sems g) ≡ true → is u (holder g r past) ≡ true → is_stacked (protocol g r) ≡ true) → boost g u past ≡ None
+unfolding boost boost_of boost_by
+boost-stacked g u past stacked = by_first (first (holds g u past)) refl
+  where
+    by_protocol : (p : Protocol) (r : ℕ) → is_stacked p ≡ true → boost_by g p r u past ≡ None
+    by_protocol Pcp r k = refl
+    by_protocol Srp r k = refl
+    by_protocol Fmlp r k = cc
+    by_protocol Omlp r k = cc
+    by_protocol Mpcp r k = cc
+
+    by_first : (o : Option ℕ) → first (holds g u past) ≡ o → boost_of g u o past ≡ None
+    by_first None k = refl
+    by_first (Some r) k = let q = one-holds g u r past (has-first r (holds g u past) (some-is r (first (holds g u past)) k)) in by_protocol (protocol g r) r (stacked r q.0 q.1)
 
 -- ---- the boost of a grant
 

@@ -1,6 +1,7 @@
 -- A lock makes of what is kept what an accepted Lock does.
 use Rattle.std.proofs.Common.{Bool, eqb-true, false, inl, inr, length, length-set, refl, subst, sym, ap, true, ℕ, ◌<◌, ◌∙◌, ◌∷◌, ◌≡◌, ◌⊎◌}
 use Rattle.std.specs.Prelude.{None, Option, Some, ◌==◌, slice_set}
+use Rattle.rt_task.specs.RuleWords.{is_stacked}
 use Rattle.rt_task.specs.Validity.{IsValid}
 use Rattle.rt_order.specs.declared.Key.{Key}
 use Rattle.rt_rules.specs.Numbers.{has}
@@ -21,14 +22,13 @@ use Rattle.rt_laws.proofs.Moves.{last_move}
 use Rattle.rt_laws.proofs.Next.{next}
 use Rattle.rt_laws.proofs.PcpWalks.{walk-stops}
 use Rattle.rt_laws.proofs.Rules.{MeetsRules}
-use Rattle.rt_model.proofs.Unplayed.{stacked_is}
 use Rattle.rt_laws.proofs.SemaphoreLaws.{requests_do_not_nest}
 use Rattle.rt_laws.proofs.ValidSets.{rules_of}
 use Rattle.rt_laws.proofs.Waiting.{none-waits}
 use Rattle.rt_changes.specs.HoldChanges.{IsGrant, IsQueueing}
 use Rattle.rt_changes.specs.Owners.{owner, sem_of}
 use Rattle.rt_changes.proofs.Apart.{asks-holds_not}
-use Rattle.rt_changes.proofs.Boosts.{boost-none, boost_of_holder, grant_is_now}
+use Rattle.rt_changes.proofs.Boosts.{boost_of_holder, grant_is_now}
 use Rattle.rt_changes.proofs.HoldChanges.{lock_grants, lock_queues}
 use Rattle.rt_changes.proofs.Owning.{waits-owner}
 use Rattle.prio_inherit.specs.Waits as kept_keys
@@ -47,7 +47,7 @@ use Rattle.group_sems.specs.Telling.{retold}
 use Rattle.group_sem_laws.specs.Keeping.{LockIsKept}
 use Rattle.group_sem_laws.specs.Kept.{KeepsBoosts, KeepsLocks, KeepsNexts}
 use Rattle.group_sem_laws.proofs.Bases.{task-place}
-use Rattle.group_sem_laws.proofs.Boosting.{boost-kept, boost-now-is, boost-now-none, boost-set, boost-unset, next-set, next-unset, now-stays}
+use Rattle.group_sem_laws.proofs.Boosting.{boost-kept, boost-stacked, pcp-stacked, boost-now-is, boost-now-none, boost-set, boost-unset, next-set, next-unset, now-stays}
 use Rattle.group_sem_laws.proofs.Outside.{asked-empty}
 use Rattle.group_sem_laws.proofs.Owners.{queued-owner}
 use Rattle.group_sem_laws.proofs.Retelling.{IsBefore, retold-boosts, retold-keeps}
@@ -144,11 +144,11 @@ module _ (g : Group) (e : Event) (past : Past) (valid : IsValid g.setup) (made_a
         ∙ sym (boost_of_holder g (e ∷ past) valid made_after s t asks.known plain grant.holder_is)
 
     pcp-boost : is_pcp (protocol g s) ≡ true → boost g t (e ∷ past) ≡ None
-    pcp-boost pcp = boost-none g t (e ∷ past) (λ r there plain. unless _ (λ m. clash _ (is-held r (either _ _ (sym (grant.gains r) ∙ holds-one g t r (e ∷ past) there m))) plain))
+    pcp-boost pcp = boost-stacked g t (e ∷ past) (λ r there m. is-held r (either _ _ (sym (grant.gains r) ∙ holds-one g t r (e ∷ past) there m)))
       where
-        is-held : (r : ℕ) → (r == s ≡ true) ⊎ (has r (holds g t past) ≡ true) → is_pcp (protocol g r) ≡ true
-        is-held r (inl m) = subst (λ (n : ℕ). is_pcp (protocol g n) ≡ true) (sym (eqb-true r s m)) pcp
-        is-held r (inr m) = sym (stacked_is g valid r) ∙ (requests_do_not_nest g e past valid made_after t s a).holds_stacked r m
+        is-held : (r : ℕ) → (r == s ≡ true) ⊎ (has r (holds g t past) ≡ true) → is_stacked (protocol g r) ≡ true
+        is-held r (inl m) = subst (λ (n : ℕ). is_stacked (protocol g n) ≡ true) (sym (eqb-true r s m)) (pcp-stacked (protocol g s) pcp)
+        is-held r (inr m) = (requests_do_not_nest g e past valid made_after t s a).holds_stacked r m
 
     own-boost : now-key ≡ boost g t (e ∷ past)
     own-boost = by_kind (is_pcp (protocol g s)) refl

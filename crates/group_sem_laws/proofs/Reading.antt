@@ -11,7 +11,8 @@ use Rattle.sem_table_laws.specs.KeptRows.{KeepsRow}
 use Rattle.sem_table_laws.proofs.Owner.{tells_owner}
 use Rattle.sem_table_laws.proofs.Rows.{grants_as_rules}
 use Rattle.sem_table_laws.proofs.Served.{tells_served}
-use Rattle.group_sem_laws.specs.Reading.{GrantIsRead, HoldingIsRead, OwnerIsRead, ServedIsRead}
+use Rattle.sem_table_laws.proofs.SrpSets.{tells_passing}
+use Rattle.group_sem_laws.specs.Reading.{GrantIsRead, HoldingIsRead, OwnerIsRead, PassingIsRead, ServedIsRead}
 
 pub owner_is_read : OwnerIsRead
 owner_is_read g past valid made v s u known user k = tells_owner g past valid made v.table s u known user k.sems_are
@@ -21,6 +22,9 @@ grant_is_read g e past valid made v t s h k = grants_as_rules g e past valid mad
 
 pub served_is_read : ServedIsRead
 served_is_read g e past valid made v t s h k = tells_served g e past valid made v.table t s h k.sems_are
+
+pub passing_is_read : PassingIsRead
+passing_is_read g past valid made v t there k = tells_passing g past valid made v.table t there k.sems_are k.rows_are
 
 -- ---- what a task holds and whether it waits
 

@@ -16,21 +16,22 @@ use Rattle.rt_model.specs.Holders.{holder, holds, sem_state, sem_state_by}
 use Rattle.rt_model.specs.Past.{Past}
 use Rattle.rt_model.specs.Reachable.{IsReachable}
 use Rattle.rt_model.specs.Semaphores.{cluster_of}
+use Rattle.rt_model.specs.StackPolicy.{srp}
 use Rattle.rt_plays.specs.Plays.{group_with}
-use Rattle.rt_rules.proofs.BoolLaws.{and_false, clash, or_true}
+use Rattle.rt_rules.proofs.BoolLaws.{and_false, clash}
 use Rattle.rt_rules.proofs.MemberLaws.{any-none, equal_self, none-any}
-use Rattle.rt_model.proofs.Unplayed.{stacked_is}
 use Rattle.rt_laws.proofs.Engaged.{holder-engaged}
 use Rattle.rt_laws.proofs.GroupLaws.{user-task}
 use Rattle.rt_laws.proofs.Holding.{holds-one, one-holds}
 use Rattle.rt_laws.proofs.PcpState.{pcp-holder}
 use Rattle.rt_laws.proofs.Rules.{MeetsRules}
+use Rattle.rt_laws.proofs.SrpState.{srp-holder}
 use Rattle.rt_laws.proofs.ValidSets.{rules_of}
 use Rattle.rt_changes.proofs.Acting.{IsParty, all_parties}
 use Rattle.rt_changes.proofs.Moving.{has-holds}
 use Rattle.sem_table.specs.declared.any_sem.AnySem.{AnySem}
 use Rattle.sem_table.specs.declared.any_sem.AnySem.TheVariants as any
-use Rattle.sem_table.specs.SemTable.{SemTable, sem_at, set_at}
+use Rattle.sem_table.specs.SemTable.{SemTable, sem_at, set_at, srp_set_at}
 use Rattle.sem_table.specs.Told.{held_of, state_by, state_of}
 use Rattle.sem_table_laws.specs.KeptSems.{KeepsSem, KeepsSems}
 use Rattle.sem_table_laws.proofs.Conditions.{tells_state}
@@ -73,7 +74,14 @@ module _ (g : Group) (valid : IsValid g.setup) (past : Past) (made : IsReachable
     where
       by_group : (b : Bool) → in_group g 0 ≡ b → first (of_sem s (set_at w.sets 0).state.held) ≡ holder g s past
       by_group true m = ap (λ (l : PcpState). first (of_sem s l.held)) (k.sets 0 (omega (arith, rules.has_cluster)) m).state ∙ ap (λ (n : ℕ). first (of_sem s (pcp g n past).held)) (sym zero) ∙ sym (pcp-holder g s past q)
-      by_group false m = rw (empty 0 m) (sym (unheld g rules past made s none))
+      by_group false m = rw (empty 0 m).0 (sym (unheld g rules past made s none))
+
+  in-srp_set : (c : ℕ) → c ≡ 0 → cluster_of g s ≡ 0 → first (users g s) ≡ None → protocol g s ≡ Srp → first (of_sem s (srp_set_at w.sets c).held) ≡ holder g s past
+  in-srp_set c e zero none q = rw e (by_group (in_group g 0) refl)
+    where
+      by_group : (b : Bool) → in_group g 0 ≡ b → first (of_sem s (srp_set_at w.sets 0).held) ≡ holder g s past
+      by_group true m = ap (λ held. first (of_sem s held)) (k.srp_sets 0 (omega (arith, rules.has_cluster)) m).held ∙ ap (λ (n : ℕ). first (of_sem s (srp g n past))) (sym zero) ∙ sym (srp-holder g s past q)
+      by_group false m = rw (empty 0 m).1 (sym (unheld g rules past made s none))
 
   undeclared : first (users g s) ≡ None → (p : Protocol) (x : AnySem) → protocol g s ≡ p → KeepsSem g s past p x → (state_by w.sets s x).holder ≡ holder g s past
   unfolding sem_state_by
@@ -81,6 +89,7 @@ module _ (g : Group) (valid : IsValid g.setup) (past : Past) (made : IsReachable
   undeclared none Omlp (any.Omlp l) q v = ap (λ y. (omlp_sem_state y).holder) v.state ∙ sym (holder-by Omlp q)
   undeclared none Mpcp (any.Mpcp l) q v = ap (λ (y : SemState). y.holder) v.state ∙ sym (holder-by Mpcp q)
   undeclared none Pcp (any.Pcp c) q v = let zero : cluster_of g s ≡ 0 = cluster-zero g s none in in-set c.0 (v ∙ zero) zero none (rw q refl)
+  undeclared none Srp (any.Srp c) q v = let zero : cluster_of g s ≡ 0 = cluster-zero g s none in in-srp_set c.0 (v ∙ zero) zero none q
   undeclared none p x q v = absurd v
 
   declared-holder : (u : ℕ) → has u (users g s) ≡ true → (state_of w s).holder ≡ holder g s past
@@ -114,7 +123,7 @@ uses-declared g t s = refl
 -- ---- an Unlock
 
 pub unlock_refusal_is_read : UnlockRefusalIsRead
-unlock_refusal_is_read g past valid made v t s there known k = rw (same-protocol g s, stacked_is g valid s, holder_is_read g past valid made v s known k, tells_last g past valid made v.table t there k.sems_are k.rows_are) refl
+unlock_refusal_is_read g past valid made v t s there known k = rw (same-protocol g s, holder_is_read g past valid made v s known k, tells_last g past valid made v.table t there k.sems_are k.rows_are) refl
 
 -- ---- a Lock
 

@@ -1,11 +1,12 @@
 -- An unlock makes of what is kept what an accepted Unlock does.
 use Rattle.std.proofs.Common.{Bool, eqb-true, false, inl, inr, length, length-set, not, refl, subst, sym, ap, true, ℕ, ◌+◌, ◌<◌, ◌∙◌, ◌∷◌, ◌≡◌, ◌⊎◌, List}
 use Rattle.std.specs.Prelude.{None, Option, Some, ◌==◌, slice_set}
+use Rattle.rt_task.specs.RuleWords.{is_stacked}
 use Rattle.rt_task.specs.Validity.{IsValid}
 use Rattle.rt_order.specs.declared.Key.{Key}
 use Rattle.rt_rules.specs.Numbers.{has, is}
 use Rattle.rt_rules.specs.SemState.{Frees, SemState}
-use Rattle.rt_rules.proofs.BoolLaws.{both, clash, either, not_true, unless}
+use Rattle.rt_rules.proofs.BoolLaws.{both, clash, either, not_false, not_true, unless}
 use Rattle.rt_rules.proofs.MemberLaws.{equal_self, is-some}
 use Rattle.rt_model.specs.Boosts.{boost}
 use Rattle.rt_model.specs.Ceilings.{is_pcp}
@@ -19,7 +20,6 @@ use Rattle.rt_laws.proofs.Holding.{holds-one, one-holds}
 use Rattle.rt_laws.proofs.Moves.{last_move}
 use Rattle.rt_laws.proofs.Next.{next}
 use Rattle.rt_laws.proofs.Rules.{MeetsRules}
-use Rattle.rt_model.proofs.Unplayed.{stacked_is}
 use Rattle.rt_laws.proofs.SemaphoreLaws.{holder_holds_one}
 use Rattle.rt_laws.proofs.ValidSets.{rules_of}
 use Rattle.rt_laws.proofs.Waiting.{awaits-waits, none-waits, waits-none}
@@ -49,7 +49,7 @@ use Rattle.group_sems.specs.Telling.{retold}
 use Rattle.group_sem_laws.specs.Keeping.{UnlockIsKept}
 use Rattle.group_sem_laws.specs.Kept.{KeepsBoosts, KeepsLocks, KeepsNexts}
 use Rattle.group_sem_laws.proofs.Bases.{task-place}
-use Rattle.group_sem_laws.proofs.Boosting.{boost-kept, boost-now-is, boost-now-none, boost-set, boost-unset, next-set, next-unset, now-stays}
+use Rattle.group_sem_laws.proofs.Boosting.{boost-kept, boost-stacked, boost-now-is, boost-now-none, boost-set, boost-unset, next-set, next-unset, now-stays}
 use Rattle.group_sem_laws.proofs.Outside.{freed-empty}
 use Rattle.group_sem_laws.proofs.Retelling.{IsBefore, retold-boosts, retold-keeps}
 
@@ -118,11 +118,11 @@ module _ (g : Group) (e : Event) (past : Past) (valid : IsValid g.setup) (made_a
   -- ---- boosts
 
   freer-boost : boost g t (e ∷ past) ≡ None
-  freer-boost = boost-none g t (e ∷ past) (λ r there plain. unless _ (λ m. held-two r there plain (both _ _ (sym (release.loses r) ∙ holds-one g t r (e ∷ past) there m))))
+  freer-boost = boost-stacked g t (e ∷ past) (λ r there m. not_false _ (unless _ (λ plain. held-two r there (not_true _ plain) (both _ _ (sym (release.loses r) ∙ holds-one g t r (e ∷ past) there m)))))
     where
-      held-two : (r : ℕ) → has r (sems g) ≡ true → is_pcp (protocol g r) ≡ false → (not (r == s) ≡ true) × (has r (holds g t past) ≡ true) → ⊥
+      held-two : (r : ℕ) → has r (sems g) ≡ true → is_stacked (protocol g r) ≡ false → (not (r == s) ≡ true) × (has r (holds g t past) ≡ true) → ⊥
       held-two r there plain q =
-          let same : r ≡ s = holder_holds_one g past valid made t r s there party.known (stacked_is g valid r ∙ plain) (is-some t (holder g r past) (one-holds g t r past q.1).1) (is-some t (holder g s past) holds_it) in
+          let same : r ≡ s = holder_holds_one g past valid made t r s there party.known plain (is-some t (holder g r past) (one-holds g t r past q.1).1) (is-some t (holder g s past) holds_it) in
           clash _ (equal_self s) (subst (λ (n : ℕ). n == s ≡ false) same (not_true _ q.0))
 
   served-plain : (u r : ℕ) → IsServed g u r e past → is_pcp (protocol g s) ≡ false → boost_now g.setup v.ceilings (now past) s u ≡ boost g u (e ∷ past)

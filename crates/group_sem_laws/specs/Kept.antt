@@ -8,7 +8,7 @@ use Rattle.rt_model.specs.EffectiveKeys.{waits_for}
 use Rattle.rt_model.specs.Group.{Group, in_group, tasks}
 use Rattle.rt_model.specs.Past.{Past}
 use Rattle.prio_inherit.specs.Waits.{Waits, boost_of, next_of}
-use Rattle.sem_table.specs.SemTable.{SemTable, set_at}
+use Rattle.sem_table.specs.SemTable.{SemTable, set_at, srp_set_at}
 use Rattle.sem_table_laws.specs.KeptRows.{KeepsRows}
 use Rattle.sem_table_laws.specs.KeptSems.{KeepsSems}
 use Rattle.mpcp_ceilings.specs.Ceilings.{AreCeilings}
@@ -35,9 +35,9 @@ pub record KeepsWaits (g : Group) (past : Past) (w : Waits) : Type 0 where
   pub nexts_are : KeepsNexts g past w.nexts
   pub boosts_are : KeepsBoosts g past w.boosts
 
--- in a cluster outside the group no PCP semaphore is held
+-- in a cluster outside the group no PCP and no SRP semaphore is held
 abbrev pub IsEmptyOutside : Group → SemTable → Type 0
-IsEmptyOutside g w = (c : ℕ) → in_group g c ≡ false → (set_at w.sets c).state.held ≡ []
+IsEmptyOutside g w = (c : ℕ) → in_group g c ≡ false → ((set_at w.sets c).state.held ≡ []) × ((srp_set_at w.sets c).held ≡ [])
 
 -- all but the base keys
 pub record KeepsLocks (g : Group) (past : Past) (v : GroupSems) : Type 0 where

@@ -8,15 +8,16 @@ use Rattle.rt_rules.specs.SemState.{Asks, Frees}
 use Rattle.rt_model.specs.Answers.{is_granted as is_granted_by_rules, nests}
 use Rattle.rt_model.specs.BaseKeys.{base_key}
 use Rattle.rt_model.specs.EffectiveKeys.{effective_key}
-use Rattle.rt_model.specs.Group.{Group, declares, protocol, sems, tasks, users}
+use Rattle.rt_model.specs.Group.{Group, declares, protocol, sems, task, tasks, users}
 use Rattle.rt_model.specs.Holders.{awaits, holder, holds, last_granted}
 use Rattle.rt_model.specs.Past.{Past, sem_act}
+use Rattle.rt_model.specs.StackPolicy.{passes_srp}
 use Rattle.rt_laws.specs.EveryPast.{EveryMove, EveryPast}
 use Rattle.rt_changes.specs.Owners.{owner}
 use Rattle.prio_inherit.specs.Waits as kept_keys
 use Rattle.sem_table.specs.Asked.{is_granted}
 use Rattle.sem_table.specs.Released.{after_release}
-use Rattle.sem_table.specs.Told.{awaits_of, held_of, owner_of, state_of}
+use Rattle.sem_table.specs.Told.{awaits_of, held_of, owner_of, passes_of, state_of}
 use Rattle.sem_table_laws.specs.Telling.{IsServedBy}
 use Rattle.group_sems.specs.GroupSems.{GroupSems}
 use Rattle.group_sems.specs.Refusing.{lock_refusal, unlock_refusal}
@@ -50,6 +51,11 @@ UnlockRefusalIsRead = EveryPast (λ g past. (v : GroupSems) (t s : ℕ) → has 
 abbrev pub HoldingIsRead : Type 0
 HoldingIsRead = EveryPast (λ g past. (v : GroupSems) (t : ℕ) → has t (tasks g) ≡ true → KeepsLocks g past v
     → ((held_of v.table t == 0) ≡ is_empty (holds g t past)) × (is_some (awaits_of v.table t) ≡ is_some (awaits g t past)))
+
+-- Whether a task passes the test of SRP, with its relative deadline.
+abbrev pub PassingIsRead : Type 0
+PassingIsRead = EveryPast (λ g past. (v : GroupSems) (t : ℕ) → has t (tasks g) ≡ true → KeepsLocks g past v
+    → passes_of v.table t (task g t).rel_deadline ≡ passes_srp g t past)
 
 -- Who holds a semaphore.
 abbrev pub HolderIsRead : Type 0

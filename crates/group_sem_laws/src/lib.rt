@@ -5,7 +5,7 @@
 ghost use Rattle.group_sem_laws.specs.Fitting.{LockFits, UnlockFits};
 ghost use Rattle.group_sem_laws.specs.Keeping.{BasesAreKept, BasesAreTold, LockIsKept, OpeningIsKept, QuietIsKept, UnlockIsKept};
 ghost use Rattle.group_sem_laws.specs.Leaving.{LockLeaves, QuietLeaves, UnlockLeaves};
-ghost use Rattle.group_sem_laws.specs.Reading.{GrantIsRead, HolderIsRead, HoldingIsRead, KeyIsRead, LockRefusalIsRead, OwnerIsRead, ServedIsRead, UnlockRefusalIsRead};
+ghost use Rattle.group_sem_laws.specs.Reading.{GrantIsRead, HolderIsRead, HoldingIsRead, KeyIsRead, LockRefusalIsRead, OwnerIsRead, PassingIsRead, ServedIsRead, UnlockRefusalIsRead};
 
 /// At first nobody holds, waits or is boosted.
 pub fn opening_is_kept()
@@ -65,6 +65,11 @@ pub fn unlock_refusal_is_read()
 /// So is whether it holds nothing, and whether it waits.
 pub fn holding_is_read()
     ensures { HoldingIsRead }
+{}
+
+/// So is whether it passes the test of SRP.
+pub fn passing_is_read()
+    ensures { PassingIsRead }
 {}
 
 /// So is who holds a semaphore.

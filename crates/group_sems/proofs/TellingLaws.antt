@@ -1,9 +1,9 @@
 -- Telling tasks whom they wait for keeps walks of one step.
-use Rattle.std.proofs.Common.{◌≡◌, ◌≢◌, ℕ, zero, suc, Bool, true, false, List, [], ◌∷◌, ◌||◌, length, set, eqb-true, refl, sym, ap, ◌∙◌, subst, get_or, get_or-set_other, drop, ◌+◌, ◌<◌}
+use Rattle.std.proofs.Common.{◌≡◌, ℕ, zero, suc, Bool, true, false, List, [], ◌∷◌, ◌||◌, length, eqb-true, refl, sym, ap, ◌∙◌, subst, get_or, get_or-set_other, drop, ◌+◌, ◌<◌}
 use Rattle.std.proofs.lemmas.List.{drop_more}
 use Rattle.rt_base.specs.declared.TaskNo.{TaskNo}
 use Rattle.rt_base.specs.TaskNos.{numbers}
-use Rattle.std.specs.Prelude.{◌==◌, Option, None, Some, slice_index_or, slice_set}
+use Rattle.std.specs.Prelude.{◌==◌, Option, None, Some, slice_set}
 use Rattle.std.proofs.lemmas.Bool.{eqb-false}
 use Rattle.rt_order.specs.declared.Key.{Key}
 use Rattle.rt_rules.specs.Numbers.{has}

@@ -1,5 +1,5 @@
 -- What an accepted Lock and an accepted Unlock make of the semaphores and the keys, and what they rest on.
-use Rattle.std.specs.Prelude.{◌≡◌, ◌<◌, ◌≤◌, ℕ, Bool, true, false, List, [], ◌∷◌, length, Option, None, Some, if◌then◌else◌, slice_set}
+use Rattle.std.specs.Prelude.{◌≡◌, ◌<◌, ◌≤◌, ℕ, Bool, true, false, List, [], ◌∷◌, length, Option, None, Some, slice_set}
 use Rattle.rt_order.specs.declared.Key.{Key}
 use Rattle.rt_task.specs.declared.Parts.{Parts}
 use Rattle.prio_inherit.specs.Waits.{Waits}

@@ -3,6 +3,7 @@ use Rattle.std.specs.List.{list_any}
 use Rattle.std.specs.Prelude.{◌≡◌, ◌≤◌, ℕ, Bool, true, length, not, ◌&&◌, ◌||◌, ◌==◌, nat_le, List, map, Option, None, Some, if◌then◌else◌}
 use Rattle.rt_base.specs.declared.TheConstants.{MOST_HELD}
 use Rattle.rt_base.specs.declared.SemNo.{SemNo}
+use Rattle.rt_task.specs.RuleWords.{is_stacked}
 use Rattle.rt_task.specs.declared.Parts.{Parts}
 use Rattle.rt_task.specs.declared.Protocol.{Protocol}
 use Rattle.rt_task.specs.declared.Protocol.TheVariants.{Pcp, Srp}
@@ -43,7 +44,7 @@ lock_refusal p table t s =
 abbrev pub unlock_refusal : Parts → SemTable → ℕ → ℕ → Option Reply
 unlock_refusal p table t s =
     if not (holds_it table t s) then Some replies.NotHeld else
-    (if is_pcp (protocol (group_with p 0) s) && not (is s (last_of table t)) then Some replies.NotLast else None)
+    (if is_stacked (protocol (group_with p 0) s) && not (is s (last_of table t)) then Some replies.NotLast else None)
 
 -- these are semaphores of the set, and so are those that the task declares
 abbrev pub AreSems : Parts → List ℕ → Type 0

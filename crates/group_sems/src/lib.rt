@@ -2,12 +2,12 @@
 //! make of both, and when they are refused.
 #![tactic(auto)]
 
-ghost use Rattle.std.specs.Prelude.{◌≡◌, ◌<◌, ◌≤◌, ◌+◌, ◌==◌, ◌↔◌, [], ◌∷◌, ℕ, true, false, IfOk, None, Some, is_some, length, replicate, slice_set};
+ghost use Rattle.std.specs.Prelude.{◌≡◌, ◌<◌, ◌≤◌, ◌+◌, ◌-◌, ◌==◌, ◌↔◌, [], ◌∷◌, ℕ, true, false, IfOk, None, Some, is_some, length, replicate, slice_index_or, slice_set};
 ghost use Rattle.rt_base.specs.TaskNos.{number_of_task};
 ghost use Rattle.prio_inherit.specs.Waits.{effective_key};
 ghost use Rattle.sem_table.specs.Asked.{is_granted};
 ghost use Rattle.sem_table.specs.Opened.{IsOpened};
-ghost use Rattle.sem_table.specs.Told.{awaits_of, held_of, owner_of, state_of, waiters_of};
+ghost use Rattle.sem_table.specs.Told.{awaits_of, held_of, owner_of, passes_of, state_of, waiters_of};
 ghost use Rattle.mpcp_ceilings.specs.Ceilings.{AreCeilings};
 ghost use Rattle.rt_plays.specs.Plays.{group_with};
 ghost use Rattle.group_sems.specs.Locking.{after_lock, after_unlock, served_waits, with_boost, with_next, CanLock, CanRetell, CanServe, CanUnlock};
@@ -32,8 +32,9 @@ use sem_table::Sems;
 use std::alloc::Global;
 use std::marker::Model;
 
-/// The semaphores of a group under FMLP, OMLP, MPCP and PCP, and of each of its tasks the base key, whom it waits for and
-/// its boost, from which its effective key follows.
+/// The semaphores of a group under FMLP, OMLP, MPCP, PCP and SRP, and of each of its tasks the base key, whom it waits for and
+/// its boost, from which its effective key follows. With them is kept which tasks are under way: these need not pass the test
+/// of SRP.
 ///
 /// After `open` no call takes memory. A Lock or an Unlock can change the effective keys of two tasks alone: of the owner
 /// of the semaphore before it and of the owner after it.
@@ -42,6 +43,7 @@ pub struct GroupSems {
     sems: Sems,
     keys: Inherit,
     ceilings: MpcpCeilings,
+    ways: Vec<bool>,
     // Empty between calls.
     waiters: Vec<TaskNo>,
 }
@@ -52,14 +54,19 @@ impl Model for GroupSems {
 
     ghost Value = { seen.GroupSems };
 
-    ghost view = { λ a. record { table = a.sems; waits = a.keys; ceilings = a.ceilings } };
+    ghost view = { λ a. record {
+      table = a.sems;
+      waits = a.keys;
+      ceilings = a.ceilings;
+      ways = a.ways.items;
+    } };
 
     ghost invariant = { λ a. (a.waiters.items ≡ [])
         × (length a.keys.bases ≤ vec_capacity a.waiters) };
 }
 
 impl GroupSems {
-    /// The semaphores of the group. Nobody holds one or waits, and no base key is known.
+    /// The semaphores of the group. Nobody holds one or waits, no base key is known, and no task is under way.
     ///
     /// Example: `GroupSems::open(alloc, &setup, GroupNo(0))` has all semaphores of a set with one group.
     pub fn open(alloc: Global, setup: &Setup, group: GroupNo) -> Result<GroupSems, NoMemory>
@@ -72,6 +79,7 @@ impl GroupSems {
               nexts = replicate room None;
               boosts = replicate room None;
             }) }
+        ensures ways { IfOk result (λ v. v.ways ≡ replicate (length setup.now.tasks) false) }
     {
         let parts = setup.parts();
         let Ok(tasks) = u32::try_from(parts.tasks.as_slice().len()) else {
@@ -85,6 +93,7 @@ impl GroupSems {
             sems: Sems::new(alloc, setup, group)?,
             keys: Inherit::new(alloc, tasks + 1)?,
             ceilings: MpcpCeilings::open(alloc, parts, group)?,
+            ways: vec![in alloc; false; tasks as usize]?,
             waiters,
         })
     }
@@ -153,6 +162,40 @@ impl GroupSems {
         self.sems.held_by(task) == 0
     }
 
+    /// Whether the task is under way.
+    ///
+    /// Example: no task is right after `open`.
+    pub fn is_under_way(&self, task: TaskNo) -> bool
+        ensures { result ≡ slice_index_or self.now.ways (task.0 - 1) false }
+    {
+        let place = (task.0 as usize).saturating_sub(1);
+        match self.ways.as_slice().get(place) {
+            Some(way) => *way,
+            None => false,
+        }
+    }
+
+    /// The task is under way from now on, or no longer.
+    #[tactic(auto, using(std::proofs::lemmas::List::set_past))]
+    pub fn put_way(&mut self, task: TaskNo, way: bool)
+        ensures { self.new ≡ record self.old {
+          ways = slice_set self.old.ways (task.0 - 1) way;
+        } }
+    {
+        let place = (task.0 as usize).saturating_sub(1);
+        if place < self.ways.len() {
+            self.ways[place] = way;
+        }
+    }
+
+    /// Whether the number, the relative deadline of the task, is below the ceilings of all SRP semaphores of its cluster
+    /// that other tasks hold.
+    pub fn passes(&self, task: TaskNo, rel_deadline: u64) -> bool
+        ensures { result ≡ passes_of self.now.table task.0 rel_deadline }
+    {
+        self.sems.passes(task, rel_deadline)
+    }
+
     /// Why the task may not ask for the semaphore: it does not declare it, or the request would nest where it must not.
     pub fn lock_refusal(&self, parts: &Parts, task: TaskNo, sem: SemNo) -> Option<Reply>
         requires task { (1 ≤ task.0) × (task.0 ≤ length parts.now.tasks) }
@@ -163,7 +206,7 @@ impl GroupSems {
         refusals::lock_refusal(&self.sems, parts, task, sem)
     }
 
-    /// Why the task may not free the semaphore: it does not hold it, or under PCP it was granted another one since.
+    /// Why the task may not free the semaphore: it does not hold it, or under PCP and SRP it was granted another one since.
     pub fn unlock_refusal(&self, parts: &Parts, task: TaskNo, sem: SemNo) -> Option<Reply>
         requires sem { (1 ≤ sem.0) × (sem.0 ≤ length parts.now.sems) }
         ensures { result ≡ refusing.unlock_refusal parts.now self.now.table task.0 sem.0 }
@@ -193,8 +236,8 @@ impl GroupSems {
         answer
     }
 
-    /// The task frees the semaphore that it holds, under PCP the last that it was granted, at this clock. The answer is the
-    /// task, if any, that is granted one: it waits no longer, and may be boosted.
+    /// The task frees the semaphore that it holds, under PCP and SRP the last that it was granted, at this clock. The answer
+    /// is the task, if any, that is granted one: it waits no longer, and may be boosted.
     pub fn unlock(&mut self, parts: &Parts, clock: Tick, task: TaskNo, sem: SemNo) -> Option<TaskNo>
         requires { CanUnlock parts.now clock.0 task.0 sem.0 self.old }
         ensures after { self.new ≡ after_unlock parts.now clock.0 task.0 sem.0 self.old }

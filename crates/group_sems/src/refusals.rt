@@ -2,6 +2,7 @@
 ghost use Rattle.std.specs.Prelude.{◌≡◌, ◌≤◌, ℕ, length, map, true};
 ghost use Rattle.rt_rules.specs.Numbers.{has, is};
 ghost use Rattle.sem_table.specs.Told.{last_of};
+ghost use Rattle.rt_task.specs.RuleWords as words;
 ghost use Rattle.rt_model.specs.Ceilings as ceilings;
 ghost use Rattle.rt_model.specs.Group.{declares, protocol};
 ghost use Rattle.rt_plays.specs.Plays.{group_with};
@@ -22,6 +23,18 @@ fn is_pcp(parts: &Parts, sem: SemNo) -> bool
     matches!(
         parts.sems.as_slice()[sem.0 as usize - 1].protocol,
         Protocol::Pcp
+    )
+}
+
+/// Whether the unlocks of the semaphore are last in, first out.
+#[tactic(auto, unfolding(rt_model::specs::Group::protocol, rt_model::specs::Group::sem))]
+fn is_stacked(parts: &Parts, sem: SemNo) -> bool
+    requires { (1 ≤ sem.0) × (sem.0 ≤ length parts.now.sems) }
+    ensures { result ≡ words.is_stacked (protocol (group_with parts.now 0) sem.0) }
+{
+    matches!(
+        parts.sems.as_slice()[sem.0 as usize - 1].protocol,
+        Protocol::Pcp | Protocol::Srp
     )
 }
 
@@ -131,7 +144,7 @@ pub(crate) fn lock_refusal(sems: &Sems, parts: &Parts, task: TaskNo, sem: SemNo)
     }
 }
 
-/// Whether the semaphore is the last of PCP that the task was granted among those that it holds.
+/// Whether the semaphore is the last of PCP or SRP that the task was granted among those that it holds.
 fn is_last(sems: &Sems, task: TaskNo, sem: SemNo) -> bool
     ensures { result ≡ is sem.0 (last_of sems.now task.0) }
 {
@@ -148,7 +161,7 @@ pub(crate) fn unlock_refusal(sems: &Sems, parts: &Parts, task: TaskNo, sem: SemN
 {
     if !holds_it(sems, task, sem) {
         Some(Reply::NotHeld)
-    } else if is_pcp(parts, sem) && !is_last(sems, task, sem) {
+    } else if is_stacked(parts, sem) && !is_last(sems, task, sem) {
         Some(Reply::NotLast)
     } else {
         None

@@ -1,9 +1,8 @@
 //! The semaphores of a group as they are at first.
-ghost use Rattle.std.specs.Prelude.{◌≡◌, ◌+◌, ◌<◌, ◌∷◌, ℕ, true, length, map, IfOk};
+ghost use Rattle.std.specs.Prelude.{◌≡◌, ◌+◌, ◌<◌, ◌∷◌, ℕ, length, map, IfOk};
 ghost use Rattle.std.specs.List.{list_any};
 ghost use Rattle.rt_rules.specs.Numbers.{is, numbers_from};
-ghost use Rattle.rt_model.specs.Group.{protocol, sems};
-ghost use Rattle.rt_task.specs.Played.{is_played_protocol};
+ghost use Rattle.rt_model.specs.Group.{sems};
 ghost use Rattle.sem_table.specs.SemTable.{no_row, sem_at};
 ghost use Rattle.sem_table.specs.Opened.{group_in, ceilings, pcp_home, new_set, new_row, IsNew, IsNewAt};
 
@@ -31,7 +30,6 @@ fn new_sem(
 ) -> Result<AnySem, NoMemory>
     requires count { count ≡ length parts.now.tasks }
     requires small { count < 4294967295 }
-    requires played { is_played_protocol protocol ≡ true }
     ensures { IfOk result (λ k. IsNew (group_in parts.now group.0) sem protocol k) }
 {
     let users = users_of(alloc, parts, group, count, sem)?;
@@ -45,7 +43,7 @@ fn new_sem(
         }
         Protocol::Mpcp => Ok(AnySem::Mpcp(MpcpSem::new(alloc, room)?)),
         Protocol::Pcp => Ok(AnySem::Pcp(home)),
-        Protocol::Srp => unreachable!(),
+        Protocol::Srp => Ok(AnySem::Srp(home)),
     }
 }
 
@@ -60,7 +58,6 @@ pub fn all_sems(
     requires count { count ≡ length parts.now.tasks }
     requires small { count < 4294967295 }
     requires sems { sems ≡ length parts.now.sems }
-    requires played { (s : ℕ) → is_played_protocol (protocol (group_in parts.now group.0) s) ≡ true }
     ensures count { IfOk result (λ v. length v.items ≡ sems + 1) }
     ensures each { IfOk result (λ v. (s : ℕ) → s < length v.items →
         IsNewAt (group_in parts.now group.0) s (sem_at v.items s)) }
@@ -120,8 +117,8 @@ fn pcp_homes(
     Ok(homes)
 }
 
-// Whether one of them is that cluster.
-fn has_home(homes: &[Option<u32>], c: u32) -> bool
+/// Whether one of them is that cluster.
+pub fn has_home(homes: &[Option<u32>], c: u32) -> bool
     ensures { result ≡ list_any (is c) homes.now }
 {
     for home in homes {

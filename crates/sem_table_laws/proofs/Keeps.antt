@@ -2,7 +2,7 @@
 use Rattle.std.proofs.Common.{◌≡◌, ◌∙◌, ◌<◌, ℕ, Bool, true, false, ◌∷◌, refl, sym, eqb-true, length, subst}
 use Rattle.std.specs.Prelude.{◌==◌, slice_set}
 use Rattle.rt_task.specs.declared.Protocol.{Protocol}
-use Rattle.rt_task.specs.declared.Protocol.TheVariants.{Fmlp, Mpcp, Omlp, Pcp}
+use Rattle.rt_task.specs.declared.Protocol.TheVariants.{Fmlp, Mpcp, Omlp, Pcp, Srp}
 use Rattle.rt_rules.specs.Numbers.{has}
 use Rattle.rt_rules.specs.SemState.{SemAct, Asks, Frees, Neither}
 use Rattle.rt_model.specs.BaseKeys.{base_key}
@@ -24,11 +24,12 @@ use Rattle.sem_table.specs.declared.any_sem.AnySem.{AnySem}
 use Rattle.sem_table.specs.declared.any_sem.AnySem.TheVariants as any
 use Rattle.sem_table.specs.Asked.{after_ask, asked, set_asked, sets_asked}
 use Rattle.sem_table.specs.Released.{after_release, freed, set_freed, sets_freed}
-use Rattle.sem_table.specs.SemTable.{SemTable, sem_at, set_at}
+use Rattle.sem_table.specs.SemTable.{SemTable, sem_at, set_at, srp_set_at}
 use Rattle.sem_table_laws.specs.Keeping.{AskKeeps, QuietKeeps, ReleaseKeeps}
 use Rattle.sem_table_laws.specs.KeptSems.{KeepsSem, KeepsSems, KeepsSet}
 use Rattle.sem_table_laws.proofs.Lists.{at-other, at-same, still-below}
 use Rattle.sem_table_laws.proofs.Sems.{sem-quiet, sem-asks, sem-frees}
+use Rattle.sem_table_laws.proofs.SrpSets.{srp-neither, srp-quiet, srp-sets_asked, srp-sets_freed}
 use Rattle.sem_table_laws.proofs.Sets.{set-quiet, set-asks, set-frees, away-ask, away-free, other-ask, other-free}
 
 sem-away-ask : (r t s : ℕ) → s == r ≡ false → at_sem r (Asks t s) ≡ Neither
@@ -49,8 +50,10 @@ module _ (g : Group) (rules : MeetsRules g) (e : Event) (past : Past) (made : Is
   quiet h = record {
     sem_room = k.sem_room;
     set_room = k.set_room;
+    srp_room = k.srp_room;
     kept = λ s there. sem-quiet g rules e past made move s (protocol g s) (sem_at w.sems s) there (quiet-sem s (sem_act e) h) (k.kept s there);
     sets = λ c low mine. set-quiet g rules e past made move c (set_at w.sets c) (k.sets c low mine) (quiet-set g c (sem_act e) h);
+    srp_sets = λ c low mine. srp-quiet g rules e past made move c (srp_set_at w.sets c) (k.srp_sets c low mine) (srp-neither g c (sem_act e) h);
   }
 
   module _ (t s : ℕ) (user : has t (users g s) ≡ true) (known : has s (sems g) ≡ true) where
@@ -59,11 +62,19 @@ module _ (g : Group) (rules : MeetsRules g) (e : Event) (past : Past) (made : Is
 
     -- a request
     module _ (h : sem_act e ≡ Asks t s) where
-      ask-room : (x : AnySem) (c : ℕ) → c < length w.sets → c < length (sets_asked t (base_key g t past) s x w.sets)
+      ask-room : (x : AnySem) (c : ℕ) → c < length w.sets.pcp → c < length (sets_asked t (base_key g t past) s x w.sets).pcp
       ask-room (any.Fmlp l) c m = m
       ask-room (any.Omlp l) c m = m
       ask-room (any.Mpcp l) c m = m
-      ask-room (any.Pcp d) c m = still-below w.sets d.0 c _ m
+      ask-room (any.Pcp d) c m = still-below w.sets.pcp d.0 c _ m
+      ask-room (any.Srp d) c m = m
+
+      ask-srp_room : (x : AnySem) (c : ℕ) → c < length w.sets.srp → c < length (sets_asked t (base_key g t past) s x w.sets).srp
+      ask-srp_room (any.Fmlp l) c m = m
+      ask-srp_room (any.Omlp l) c m = m
+      ask-srp_room (any.Mpcp l) c m = m
+      ask-srp_room (any.Pcp d) c m = m
+      ask-srp_room (any.Srp d) c m = still-below w.sets.srp d.0 c _ m
 
       ask-kept : (r : ℕ) → has r (sems g) ≡ true → (b : Bool) → s == r ≡ b → KeepsSem g r (e ∷ past) (protocol g r) (sem_at (slice_set w.sems s (asked t (base_key g t past) (sem_at w.sems s))) r)
       ask-kept r there true m =
@@ -82,31 +93,42 @@ module _ (g : Group) (rules : MeetsRules g) (e : Event) (past : Past) (made : Is
           home_is : home g t ≡ d.0
           home_is = at_home (rw q refl) ∙ sym v
 
-          by_case : (b : Bool) → d.0 == c ≡ b → KeepsSet g c (e ∷ past) (set_at (slice_set w.sets d.0 (set_asked t (base_key g t past) s (set_at w.sets d.0))) c)
+          by_case : (b : Bool) → d.0 == c ≡ b → KeepsSet g c (e ∷ past) (set_at (record w.sets { pcp = slice_set w.sets.pcp d.0 (set_asked t (base_key g t past) s (set_at w.sets d.0)) }) c)
           by_case true m =
               let same : d.0 ≡ c = eqb-true d.0 c m in
               let here : KeepsSet g c (e ∷ past) (set_asked t (base_key g t past) s (set_at w.sets c)) = set-asks g rules e past made move c (set_at w.sets c) (k.sets c low mine) t s h (home_is ∙ same) (rw q refl) in
-              subst (λ x. KeepsSet g c (e ∷ past) x) (sym (at-same w.sets d.0 c (set_asked t (base_key g t past) s (set_at w.sets d.0)) _ m (k.set_room d.0 (subst (λ (n : ℕ). n < length g.setup.clusters) (sym same) low)))) (subst (λ (n : ℕ). KeepsSet g c (e ∷ past) (set_asked t (base_key g t past) s (set_at w.sets n))) (sym same) here)
+              subst (λ x. KeepsSet g c (e ∷ past) x) (sym (at-same w.sets.pcp d.0 c (set_asked t (base_key g t past) s (set_at w.sets d.0)) _ m (k.set_room d.0 (subst (λ (n : ℕ). n < length g.setup.clusters) (sym same) low)))) (subst (λ (n : ℕ). KeepsSet g c (e ∷ past) (set_asked t (base_key g t past) s (set_at w.sets n))) (sym same) here)
           by_case false m =
               let quiet_here : at_cluster g c (sem_act e) ≡ Neither = rw h (away-ask g c t s (rw home_is m)) in
-              subst (λ x. KeepsSet g c (e ∷ past) x) (sym (at-other w.sets d.0 c (set_asked t (base_key g t past) s (set_at w.sets d.0)) _ m)) (set-quiet g rules e past made move c (set_at w.sets c) (k.sets c low mine) quiet_here)
+              subst (λ x. KeepsSet g c (e ∷ past) x) (sym (at-other w.sets.pcp d.0 c (set_asked t (base_key g t past) s (set_at w.sets d.0)) _ m)) (set-quiet g rules e past made move c (set_at w.sets c) (k.sets c low mine) quiet_here)
+      ask-sets Srp (any.Srp d) q v c low mine = set-quiet g rules e past made move c (set_at w.sets c) (k.sets c low mine) (rw h (other-ask g c t s (rw q refl)))
       ask-sets p x q v c low mine = absurd v
 
       pub ask : KeepsSems g (e ∷ past) (after_ask t (base_key g t past) s w)
       ask = record {
         sem_room = λ r there. still-below w.sems s r _ (k.sem_room r there);
         set_room = λ c low. ask-room (sem_at w.sems s) c (k.set_room c low);
+        srp_room = λ c low. ask-srp_room (sem_at w.sems s) c (k.srp_room c low);
         kept = λ r there. ask-kept r there (s == r) refl;
         sets = λ c low mine. ask-sets (protocol g s) (sem_at w.sems s) refl (k.kept s known) c low mine;
+        srp_sets = λ c low mine. srp-sets_asked g rules e past made move w.sets k.srp_room k.srp_sets t s user c low mine h (protocol g s) (sem_at w.sems s) refl (k.kept s known);
       }
 
     -- a release
     module _ (h : sem_act e ≡ Frees t s) where
-      free-room : (x : AnySem) (c : ℕ) → c < length w.sets → c < length (sets_freed t s x w.sets)
+      free-room : (x : AnySem) (c : ℕ) → c < length w.sets.pcp → c < length (sets_freed t s x w.sets).pcp
       free-room (any.Fmlp l) c m = m
       free-room (any.Omlp l) c m = m
       free-room (any.Mpcp l) c m = m
-      free-room (any.Pcp d) c m = still-below w.sets d.0 c _ m
+      free-room (any.Pcp d) c m = still-below w.sets.pcp d.0 c _ m
+      free-room (any.Srp d) c m = m
+
+      free-srp_room : (x : AnySem) (c : ℕ) → c < length w.sets.srp → c < length (sets_freed t s x w.sets).srp
+      free-srp_room (any.Fmlp l) c m = m
+      free-srp_room (any.Omlp l) c m = m
+      free-srp_room (any.Mpcp l) c m = m
+      free-srp_room (any.Pcp d) c m = m
+      free-srp_room (any.Srp d) c m = still-below w.sets.srp d.0 c _ m
 
       free-kept : (r : ℕ) → has r (sems g) ≡ true → (b : Bool) → s == r ≡ b → KeepsSem g r (e ∷ past) (protocol g r) (sem_at (slice_set w.sems s (freed t (sem_at w.sems s))) r)
       free-kept r there true m =
@@ -125,22 +147,25 @@ module _ (g : Group) (rules : MeetsRules g) (e : Event) (past : Past) (made : Is
           home_is : home g t ≡ d.0
           home_is = at_home (rw q refl) ∙ sym v
 
-          by_case : (b : Bool) → d.0 == c ≡ b → KeepsSet g c (e ∷ past) (set_at (slice_set w.sets d.0 (set_freed t s (set_at w.sets d.0))) c)
+          by_case : (b : Bool) → d.0 == c ≡ b → KeepsSet g c (e ∷ past) (set_at (record w.sets { pcp = slice_set w.sets.pcp d.0 (set_freed t s (set_at w.sets d.0)) }) c)
           by_case true m =
               let same : d.0 ≡ c = eqb-true d.0 c m in
               let here : KeepsSet g c (e ∷ past) (set_freed t s (set_at w.sets c)) = set-frees g rules e past made move c (set_at w.sets c) (k.sets c low mine) t s h (home_is ∙ same) (rw q refl) in
-              subst (λ x. KeepsSet g c (e ∷ past) x) (sym (at-same w.sets d.0 c (set_freed t s (set_at w.sets d.0)) _ m (k.set_room d.0 (subst (λ (n : ℕ). n < length g.setup.clusters) (sym same) low)))) (subst (λ (n : ℕ). KeepsSet g c (e ∷ past) (set_freed t s (set_at w.sets n))) (sym same) here)
+              subst (λ x. KeepsSet g c (e ∷ past) x) (sym (at-same w.sets.pcp d.0 c (set_freed t s (set_at w.sets d.0)) _ m (k.set_room d.0 (subst (λ (n : ℕ). n < length g.setup.clusters) (sym same) low)))) (subst (λ (n : ℕ). KeepsSet g c (e ∷ past) (set_freed t s (set_at w.sets n))) (sym same) here)
           by_case false m =
               let quiet_here : at_cluster g c (sem_act e) ≡ Neither = rw h (away-free g c t s (rw home_is m)) in
-              subst (λ x. KeepsSet g c (e ∷ past) x) (sym (at-other w.sets d.0 c (set_freed t s (set_at w.sets d.0)) _ m)) (set-quiet g rules e past made move c (set_at w.sets c) (k.sets c low mine) quiet_here)
+              subst (λ x. KeepsSet g c (e ∷ past) x) (sym (at-other w.sets.pcp d.0 c (set_freed t s (set_at w.sets d.0)) _ m)) (set-quiet g rules e past made move c (set_at w.sets c) (k.sets c low mine) quiet_here)
+      free-sets Srp (any.Srp d) q v c low mine = set-quiet g rules e past made move c (set_at w.sets c) (k.sets c low mine) (rw h (other-free g c t s (rw q refl)))
       free-sets p x q v c low mine = absurd v
 
       pub release : KeepsSems g (e ∷ past) (after_release t s w)
       release = record {
         sem_room = λ r there. still-below w.sems s r _ (k.sem_room r there);
         set_room = λ c low. free-room (sem_at w.sems s) c (k.set_room c low);
+        srp_room = λ c low. free-srp_room (sem_at w.sems s) c (k.srp_room c low);
         kept = λ r there. free-kept r there (s == r) refl;
         sets = λ c low mine. free-sets (protocol g s) (sem_at w.sems s) refl (k.kept s known) c low mine;
+        srp_sets = λ c low mine. srp-sets_freed g rules e past made move w.sets k.srp_room k.srp_sets t s user c low mine h (protocol g s) (sem_at w.sems s) refl (k.kept s known);
       }
 
 pub quiet_keeps : QuietKeeps

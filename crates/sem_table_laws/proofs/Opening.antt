@@ -7,7 +7,7 @@ use Rattle.rt_task.specs.RuleWords.{stands_under}
 use Rattle.rt_task.specs.declared.PluginKind.{PluginKind}
 use Rattle.rt_task.specs.declared.PluginKind.TheVariants as plugins
 use Rattle.rt_task.specs.declared.Protocol.{Protocol}
-use Rattle.rt_task.specs.declared.Protocol.TheVariants.{Fmlp, Mpcp, Omlp, Pcp}
+use Rattle.rt_task.specs.declared.Protocol.TheVariants.{Fmlp, Mpcp, Omlp, Pcp, Srp}
 use Rattle.rt_order.specs.declared.Key.{Key}
 use Rattle.rt_rules.specs.Keys.{highest}
 use Rattle.rt_rules.specs.Numbers.{has, is, numbers_from}
@@ -16,6 +16,7 @@ use Rattle.rt_model.specs.Ceilings.{ceiling, pcp}
 use Rattle.rt_order.specs.KeyOrder.{lowest_key}
 use Rattle.rt_model.specs.Group.{Group, cpus, in_group, protocol, sems, tasks, users}
 use Rattle.rt_model.specs.Semaphores.{cluster_of, fmlp, omlp, mpcp}
+use Rattle.rt_model.specs.StackPolicy.{srp, srp_ceiling}
 use Rattle.rt_rules.proofs.MemberLaws.{equal_self, has-filter}
 use Rattle.rt_rules.proofs.BoolLaws.{both, clash, either, or_true}
 use Rattle.rt_laws.proofs.GroupLaws.{user-task, has_room}
@@ -26,12 +27,13 @@ use Rattle.rt_rules.proofs.NumberLaws.{has-numbers_from, length-numbers_from, nu
 use Rattle.sem_laws.specs.KeptKeys.{key_at}
 use Rattle.sem_table_laws.proofs.Sets.{is-pcp}
 use Rattle.pcp_sem.specs.PcpKept.{PcpKept}
+use Rattle.srp_sem.specs.SrpKept.{SrpKept, ceiling_at}
 use Rattle.sem_table.specs.declared.any_sem.AnySem.{AnySem}
 use Rattle.sem_table.specs.declared.any_sem.AnySem.TheVariants as any
-use Rattle.sem_table.specs.Opened.{IsNew, room, room_for, has_pcp, new_set, new_set_if, pcp_home, prio_key, prio_ceiling, ceilings}
-use Rattle.sem_table.specs.SemTable.{sem_at, set_at}
+use Rattle.sem_table.specs.Opened.{IsNew, room, room_for, has_pcp, is_srp_home, new_set, new_set_if, new_srp, new_srp_if, pcp_home, prio_key, prio_ceiling, ceilings, srp_home, srp_row, srp_rows}
+use Rattle.sem_table.specs.SemTable.{no_set, no_srp_set, sem_at}
 use Rattle.sem_table_laws.specs.Keeping.{NewKeeps}
-use Rattle.sem_table_laws.specs.KeptSems.{HasRoom, IsPcpOf, KeepsSem, KeepsSet}
+use Rattle.sem_table_laws.specs.KeptSems.{HasRoom, IsPcpOf, IsSrpOf, KeepsSem, KeepsSet, KeepsSrp}
 
 pub between : (t a n : ℕ) → has t (numbers_from a n) ≡ true → (a ≤ t) × (t < a + n)
 between t a n h = (has-numbers_from t a n h, numbers_from-below t a n h)
@@ -71,6 +73,7 @@ kept-new g rules s Mpcp (any.Mpcp k) h = record {
   keys = λ u m. absurd (clash _ m (nobody-waits g u s));
 }
 kept-new g rules s Pcp (any.Pcp c) h = h
+kept-new g rules s Srp (any.Srp c) h = h
 kept-new g rules s p k h = absurd h
 
 prio-base : (g : Group) (t : ℕ) → stands_under Pcp g.setup.plugin ≡ true → prio_key g t ≡ base_key g t []
@@ -134,10 +137,50 @@ set-new g rules c mine = by_case (has_pcp g c) refl
       sound = record { held_by = λ t s m. cc; awaited_by = λ t s m. cc; one_holder = tt; waits_once = tt; unheld = λ t s m. cc };
     }
 
+-- ---- SRP
+
+rows-at : (g : Group) (s : ℕ) → IsSrpOf g (cluster_of g s) s → ceiling_at (srp_rows g) s ≡ srp_ceiling g s
+unfolding sems
+rows-at g s o = let b = sem-range g s o.known in read s b.0 b.1 ∙ rw o.of_srp
+  where
+    read : (r : ℕ) → 1 ≤ r → r < 1 + length g.setup.sems → ceiling_at (0 ∷ map (srp_row g) (numbers_from 1 (length g.setup.sems))) r ≡ srp_row g r
+    read zero a b = absurd (omega arith)
+    read (suc r) a b = read-mapped (srp_row g) _ 1 (length g.setup.sems) r (omega arith) ∙ ap (srp_row g) (omega arith)
+
+rows-length : (g : Group) → length (srp_rows g) ≡ length g.setup.sems + 1
+unfolding sems
+rows-length g = let m : length (map (srp_row g) (numbers_from 1 (length g.setup.sems))) ≡ length (numbers_from 1 (length g.setup.sems)) = length-map _ _ in let n : length (numbers_from 1 (length g.setup.sems)) ≡ length g.setup.sems = length-numbers_from 1 _ in omega arith
+
+-- a cluster of the group that has an SRP semaphore is seen to have one
+finds-srp : (g : Group) (c s : ℕ) → in_group g c ≡ true → IsSrpOf g c s → is_srp_home g c ≡ true
+finds-srp g c s mine o = rw (mine, any-mapped (is c) (srp_home g) (sems g) s o.known (rw (o.of_srp, o.home_is) (equal_self c))) refl
+
+srp-new : (g : Group) (c : ℕ) → in_group g c ≡ true → KeepsSrp g c [] (new_srp g c)
+unfolding srp
+srp-new g c mine = by_case (is_srp_home g c) refl
+  where
+    by_case : (b : Bool) → is_srp_home g c ≡ b → KeepsSrp g c [] (new_srp_if b (srp_rows g) (length g.setup.tasks))
+    by_case true h = record {
+      held = refl;
+      known = λ s o. let b = sem-range g s o.known in omega (arith, rows-length g);
+      ceilings = λ s o. rows-at g s (record { known = o.known; of_srp = o.of_srp; home_is = refl });
+      room = λ s t o there. let b = task-range g t there in omega arith;
+      once = tt;
+    }
+    by_case false h = record {
+      held = refl;
+      known = λ s o. absurd (clash _ (finds-srp g c s mine o) h);
+      ceilings = λ s o. absurd (clash _ (finds-srp g c s mine o) h);
+      room = λ s t o there. absurd (clash _ (finds-srp g c s mine o) h);
+      once = tt;
+    }
+
 pub new_keeps : NewKeeps
 new_keeps g w valid o = record {
   sem_room = λ s there. let b = sem-range g s there in omega (arith, o.count);
   set_room = λ c low. let m : length (map (new_set g) (numbers_from 0 (length g.setup.clusters))) ≡ length (numbers_from 0 (length g.setup.clusters)) = length-map _ _ in omega (arith, ap length o.sets, m, length-numbers_from 0 (length g.setup.clusters));
+  srp_room = λ c low. let m : length (map (new_srp g) (numbers_from 0 (length g.setup.clusters))) ≡ length (numbers_from 0 (length g.setup.clusters)) = length-map _ _ in omega (arith, ap length o.srp_sets, m, length-numbers_from 0 (length g.setup.clusters));
   kept = λ s there. let b = sem-range g s there in kept-new g (rules_of g valid) s (protocol g s) (sem_at w.sems s) (o.sems s (omega (arith, o.count)) b.0);
-  sets = λ c low mine. subst (λ (p : PcpKept). KeepsSet g c [] p) (sym (ap (λ (ps : List PcpKept). set_at ps c) o.sets ∙ read-mapped (new_set g) _ 0 (length g.setup.clusters) c low ∙ ap (new_set g) (omega arith))) (set-new g (rules_of g valid) c mine);
+  srp_sets = λ c low mine. subst (λ (p : SrpKept). KeepsSrp g c [] p) (sym (ap (λ (ps : List SrpKept). slice_index_or ps c no_srp_set) o.srp_sets ∙ read-mapped (new_srp g) _ 0 (length g.setup.clusters) c low ∙ ap (new_srp g) (omega arith))) (srp-new g c mine);
+  sets = λ c low mine. subst (λ (p : PcpKept). KeepsSet g c [] p) (sym (ap (λ (ps : List PcpKept). slice_index_or ps c no_set) o.sets ∙ read-mapped (new_set g) _ 0 (length g.setup.clusters) c low ∙ ap (new_set g) (omega arith))) (set-new g (rules_of g valid) c mine);
 }

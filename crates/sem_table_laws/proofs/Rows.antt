@@ -4,7 +4,7 @@ use Rattle.std.specs.Prelude.{◌==◌, Option, None, Some, is_none, slice_set, 
 use Rattle.std.proofs.lemmas.List.{length-map}
 use Rattle.rt_task.specs.declared.Task.{Task}
 use Rattle.rt_task.specs.declared.Protocol.{Protocol}
-use Rattle.rt_task.specs.declared.Protocol.TheVariants.{Fmlp, Mpcp, Omlp, Pcp}
+use Rattle.rt_task.specs.declared.Protocol.TheVariants.{Fmlp, Mpcp, Omlp, Pcp, Srp}
 use Rattle.rt_rules.specs.Distinct.{IsDistinct}
 use Rattle.rt_rules.specs.Numbers.{has, same}
 use Rattle.rt_rules.specs.SemState.{Asks}
@@ -91,6 +91,7 @@ module _ (g : Group) (rules : MeetsRules g) (e : Event) (past : Past) (made : Is
   granted-is Pcp (any.Pcp c) q v =
       let at-home : home g t ≡ cluster_of g s = user-home g rules s t (pcp-shares g.setup.plugin (protocol g s) (rw q refl)) a.user in
       rw at-home (passes-as-rules g rules e past made move (cluster_of g s) (set_at w.sets c.0) (set-here g rules past w k s t a.known a.user (rw q refl) c.0 v) t s h at-home (rw q refl))
+  granted-is Srp (any.Srp c) q v = refl
   granted-is p x q v = absurd v
 
 pub grants_as_rules : GrantsAsRules

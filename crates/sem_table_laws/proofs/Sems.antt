@@ -2,7 +2,7 @@
 use Rattle.std.proofs.Common.{◌≡◌, ◌∙◌, ℕ, true, false, List, ◌∷◌, refl, sym, ap, eqb-true, length, subst, inl, inr, ◌⊎◌}
 use Rattle.std.specs.Prelude.{◌==◌, slice_set}
 use Rattle.rt_task.specs.declared.Protocol.{Protocol}
-use Rattle.rt_task.specs.declared.Protocol.TheVariants.{Fmlp, Mpcp, Omlp, Pcp}
+use Rattle.rt_task.specs.declared.Protocol.TheVariants.{Fmlp, Mpcp, Omlp, Pcp, Srp}
 use Rattle.rt_order.specs.declared.Key.{Key}
 use Rattle.rt_order.specs.KeyOrder.{higher}
 use Rattle.rt_rules.specs.Numbers.{has, foremost, rest}
@@ -78,6 +78,7 @@ module _ (g : Group) (rules : MeetsRules g) (e : Event) (past : Past) (made : Is
   sem-quiet s Omlp (any.Omlp k) there h w = record { state = w.state ∙ sym (omlp-is s Neither h); cap = w.cap; room = w.room; keys = keys-step s k.keys k.keys there w.keys (λ u m. refl) (λ u m. absurd (no_ask s u h m)) }
   sem-quiet s Mpcp (any.Mpcp k) there h w = record { state = w.state ∙ sym (mpcp-after s Neither h); room = w.room; keys = keys-step s k.keys k.keys there w.keys (λ u m. refl) (λ u m. absurd (no_ask s u h m)) }
   sem-quiet s Pcp (any.Pcp c) there h w = w
+  sem-quiet s Srp (any.Srp c) there h w = w
   sem-quiet s p k there h w = absurd w
 
   -- a request
@@ -111,6 +112,7 @@ module _ (g : Group) (rules : MeetsRules g) (e : Event) (past : Past) (made : Is
       keys = asked-keys k.keys w.keys w.room;
     }
     sem-asks Pcp (any.Pcp c) q w = w
+    sem-asks Srp (any.Srp c) q w = w
     sem-asks p k q w = absurd w
 
   -- a release
@@ -141,4 +143,5 @@ module _ (g : Group) (rules : MeetsRules g) (e : Event) (past : Past) (made : Is
       keys = freed-keys k.keys w.keys;
     }
     sem-frees Pcp (any.Pcp c) q w = w
+    sem-frees Srp (any.Srp c) q w = w
     sem-frees p k q w = absurd w

@@ -2,7 +2,7 @@
 use Rattle.std.proofs.Common.{◌≡◌, ◌∙◌, ◌<◌, ◌+◌, ◌&&◌, ◌||◌, ℕ, Bool, true, false, List, ◌∷◌, refl, sym, ap, eqb-true, arith, length, not, subst, inl, inr, ◌⊎◌}
 use Rattle.std.specs.Prelude.{◌==◌, Option, None, Some, nat_lt, slice_set}
 use Rattle.rt_task.specs.declared.Protocol.{Protocol}
-use Rattle.rt_task.specs.declared.Protocol.TheVariants.{Fmlp, Mpcp, Omlp, Pcp}
+use Rattle.rt_task.specs.declared.Protocol.TheVariants.{Fmlp, Mpcp, Omlp, Pcp, Srp}
 use Rattle.rt_rules.specs.Numbers.{has, is}
 use Rattle.rt_rules.specs.Pcp.{TaskSem, PcpState, granted, without_pair}
 use Rattle.rt_rules.specs.SemState.{SemState, Frees}
@@ -12,9 +12,11 @@ use Rattle.rt_model.specs.Holders.{holder, holds, sem_state}
 use Rattle.rt_model.specs.Reachable.{IsReachable}
 use Rattle.rt_model.specs.Past.{Event, Past, sem_act}
 use Rattle.rt_model.specs.Semaphores.{cluster_of}
+use Rattle.rt_model.specs.StackPolicy.{srp}
 use Rattle.rt_rules.proofs.BoolLaws.{both, clash, unless}
 use Rattle.rt_rules.proofs.MemberLaws.{equal_self, is_one, some-is, turned}
 use Rattle.rt_rules.proofs.PairLaws.{has_pair-without_pair}
+use Rattle.rt_rules.proofs.SrpLaws.{first-srp}
 use Rattle.rt_laws.proofs.Engaged.{holder-engaged}
 use Rattle.rt_laws.proofs.GroupLaws.{user-home, user-task, pcp-shares}
 use Rattle.rt_laws.proofs.Holding.{holds-one, one-holds}
@@ -22,13 +24,14 @@ use Rattle.rt_laws.proofs.Moves.{IsMove, last_move, moved}
 use Rattle.rt_laws.proofs.Next.{next}
 use Rattle.rt_laws.proofs.PcpState.{IsUser, pcp_kept, pcp-first, first-pcp, pcp-holder, pcp-waiting, sem-home}
 use Rattle.rt_laws.proofs.Rules.{MeetsRules}
+use Rattle.rt_laws.proofs.SrpState.{held_once, srp-holder}
 use Rattle.rt_laws.proofs.ValidSets.{rules_of}
 use Rattle.rt_laws.proofs.Waiting.{awaits-waits, none-waits}
 use Rattle.rt_changes.specs.HoldChanges.{IsRelease, IsServed, KeepsHolds}
 use Rattle.rt_changes.specs.Owners.{is_beside}
-use Rattle.rt_changes.proofs.Acting.{IsParty, all_parties, freeing}
+use Rattle.rt_changes.proofs.Acting.{IsParty, all_parties, freeing, stack-home}
 use Rattle.rt_changes.proofs.Apart.{apart}
-use Rattle.rt_changes.proofs.Freeing.{freer-waits_not}
+use Rattle.rt_changes.proofs.Freeing.{freer-waits_not, srp-freed}
 use Rattle.rt_changes.proofs.HoldChanges as changes
 use Rattle.rt_changes.proofs.Left.{holder-left}
 use Rattle.rt_changes.proofs.PcpForms.{IsFreed, freed-form, freed_state}
@@ -148,6 +151,22 @@ module _ (g : Group) (rules : MeetsRules g) (e : Event) (past : Past) (made : Is
             takes = λ u r v. one ∙ ap {B = Option ℕ} (λ (x : ℕ). Some x) (q.one p.0.task u p.0.sem r served v);
           }
 
+  -- ---- SRP: nobody holds what is freed
+
+  srp-nobody : protocol g s ≡ Srp → holder g s (e ∷ past) ≡ None
+  srp-nobody m = by_case (holder g s (e ∷ past)) refl
+    where
+      before : (u : ℕ) → has_pair u s (srp g (cluster_of g s) (e ∷ past)) ≡ true → u ≡ t
+      before u z =
+          let old : has_pair u s (srp g (cluster_of g s) past) ≡ true = has_pair-without_pair u s (record { task = t; sem = s }) (srp g (cluster_of g s) past) (rw (srp-freed g (cluster_of g s) t s e past h (stack-home g rules t s owns (rw m)) m) at z) in
+          held_once g rules (cluster_of g s) made u t s old (first-srp t s (srp g (cluster_of g s) past) (rw (srp-holder g s past m) at held))
+
+      by_case : (o : Option ℕ) → holder g s (e ∷ past) ≡ o → o ≡ None
+      by_case None z = refl
+      by_case (Some u) z =
+          let there : has_pair u s (srp g (cluster_of g s) (e ∷ past)) ≡ true = first-srp u s (srp g (cluster_of g s) (e ∷ past)) (rw (srp-holder g s (e ∷ past) m) at (some-is u (holder g s (e ∷ past)) z)) in
+          absurd (clash _ (subst (λ (v : ℕ). is v (holder g s (e ∷ past)) ≡ true) (before u there) (some-is u (holder g s (e ∷ past)) z)) q.freed)
+
   serves : (p : Protocol) (x : AnySem) → protocol g s ≡ p → KeepsSem g s past p x → IsServedBy g e past (served_by t s w.sets x)
   serves Fmlp (any.Fmlp l) m v = plain (rw m refl) _ (holder-after Fmlp (any.Fmlp l) m v _ _ (tells g rules (e ∷ past) (after_release t s w) after s t owns.known owns.user Fmlp (freed t (any.Fmlp l)) m (sem-frees g rules e past made move t s owns.known h Fmlp (any.Fmlp l) m v)) refl)
   serves Omlp (any.Omlp l) m v = plain (rw m refl) _ (holder-after Omlp (any.Omlp l) m v _ _ (tells g rules (e ∷ past) (after_release t s w) after s t owns.known owns.user Omlp (freed t (any.Omlp l)) m (sem-frees g rules e past made move t s owns.known h Omlp (any.Omlp l) m v)) refl)
@@ -158,6 +177,7 @@ module _ (g : Group) (rules : MeetsRules g) (e : Event) (past : Past) (made : Is
       let at-home : home g t ≡ cluster_of g s = user-home g rules s t (pcp-shares g.setup.plugin (protocol g s) n) owns.user in
       let new : pcp_freed t s (set_at w.sets c.0) ≡ pcp g (cluster_of g s) (e ∷ past) = (set-frees g rules e past made move (cluster_of g s) (set_at w.sets c.0) set t s h at-home n).state in
       pcp-serves n _ (ap (λ (l : PcpState). newcomer (without_pair (record { task = t; sem = s }) l.held) (pcp_freed t s (set_at w.sets c.0)).held) set.state ∙ ap (λ (l : PcpState). newcomer (without_pair (record { task = t; sem = s }) (pcp g (cluster_of g s) past).held) l.held) new)
+  serves Srp (any.Srp c) m v = plain (rw m refl) None (sym (srp-nobody m))
   serves p x m v = absurd v
 
   -- ---- rows

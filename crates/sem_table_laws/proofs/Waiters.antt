@@ -2,7 +2,7 @@
 use Rattle.std.proofs.Common.{◌≡◌, ℕ, Bool, true, false, List, [], ◌∷◌, length, map, refl, sym, ap, subst}
 use Rattle.std.specs.Prelude.{if◌then◌else◌}
 use Rattle.rt_task.specs.declared.Protocol.{Protocol}
-use Rattle.rt_task.specs.declared.Protocol.TheVariants.{Fmlp, Mpcp, Omlp, Pcp}
+use Rattle.rt_task.specs.declared.Protocol.TheVariants.{Fmlp, Mpcp, Omlp, Pcp, Srp}
 use Rattle.rt_rules.specs.Distinct.{IsDistinct}
 use Rattle.rt_rules.specs.Numbers.{has}
 use Rattle.rt_rules.specs.Pcp.{PcpState}
@@ -24,6 +24,7 @@ use Rattle.rt_laws.proofs.PcpGrants as pcp_grants
 use Rattle.rt_laws.proofs.PcpState.{pcp_kept}
 use Rattle.rt_laws.proofs.Rules.{MeetsRules}
 use Rattle.rt_laws.proofs.ValidSets.{rules_of}
+use Rattle.rt_laws.proofs.Waiting.{srp-waiting}
 use Rattle.rt_changes.proofs.Acting.{all_parties}
 use Rattle.count_laws.specs.Tallies.{waiter, waiter_tasks}
 use Rattle.count_laws.proofs.Once.{waiting_once}
@@ -41,6 +42,7 @@ waiters-is g rules past w k s u known user Fmlp (any.Fmlp l) q v = rw q (ap (λ 
 waiters-is g rules past w k s u known user Omlp (any.Omlp l) q v = rw q (ap (λ (y : SemState). y.waiting) (tells g rules past w k s u known user Omlp (any.Omlp l) q v))
 waiters-is g rules past w k s u known user Mpcp (any.Mpcp l) q v = rw q (ap (λ (y : SemState). y.waiting) (tells g rules past w k s u known user Mpcp (any.Mpcp l) q v))
 waiters-is g rules past w k s u known user Pcp (any.Pcp c) q v = rw q (ap (λ (l : PcpState). tasks_of l.waiting) (set-here g rules past w k s u known user (rw q refl) c.0 v).state)
+waiters-is g rules past w k s u known user Srp (any.Srp c) q v = rw q (sym (srp-waiting g s past q))
 waiters-is g rules past w k s u known user p x q v = absurd v
 
 pub tells_waiters : TellsWaiters

@@ -3,7 +3,7 @@ use Rattle.std.proofs.Common.{◌≡◌, ◌∙◌, ◌<◌, ◌||◌, ◌&&◌,
 use Rattle.std.specs.Prelude.{Option, None, Some, option_map, slice_get, nat_lt}
 use Rattle.rt_base.specs.declared.SemNo.{SemNo}
 use Rattle.rt_task.specs.declared.Protocol.{Protocol}
-use Rattle.rt_task.specs.declared.Protocol.TheVariants.{Fmlp, Mpcp, Omlp, Pcp}
+use Rattle.rt_task.specs.declared.Protocol.TheVariants.{Fmlp, Mpcp, Omlp, Pcp, Srp}
 use Rattle.rt_order.specs.KeyOrder.{higher}
 use Rattle.rt_rules.specs.Numbers.{has}
 use Rattle.rt_rules.specs.Pcp.{PcpState, holder_among, of_others}
@@ -11,8 +11,7 @@ use Rattle.rt_rules.specs.SemState.{SemState}
 use Rattle.rt_model.specs.Blockers.{blocker, blocker_among, has_higher_ceiling}
 use Rattle.rt_model.specs.Ceilings.{ceiling, pcp}
 use Rattle.rt_model.specs.EffectiveKeys.{next_by, next_at, waits_for}
-use Rattle.rt_model.specs.Group.{Group, home, protocol, sems, users}
-use Rattle.rt_rules.specs.Srp.{newest_held}
+use Rattle.rt_model.specs.Group.{Group, home, in_group, protocol, sems, users}
 use Rattle.rt_model.specs.Holders.{awaits, holder, last_granted}
 use Rattle.rt_model.specs.Reachable.{IsReachable}
 use Rattle.rt_model.specs.Past.{Past}
@@ -22,7 +21,6 @@ use Rattle.rt_laws.proofs.Engaged.{holder-engaged, waiting-engaged}
 use Rattle.rt_laws.proofs.GroupLaws.{user-home, user-task, pcp-shares}
 use Rattle.rt_laws.proofs.PcpState.{IsUser, pcp_kept, sem-home}
 use Rattle.rt_laws.proofs.Rules.{MeetsRules}
-use Rattle.rt_laws.proofs.Unplayed.{last_granted-is}
 use Rattle.rt_laws.proofs.ValidSets.{rules_of}
 use Rattle.rt_laws.proofs.Waiting.{awaits-waits, none-waits}
 use Rattle.rt_laws.proofs.Asked.{IsAsked}
@@ -38,12 +36,13 @@ use Rattle.sem_table.specs.declared.any_sem.AnySem.TheVariants as any
 use Rattle.sem_table.specs.declared.row.Row.{Row}
 use Rattle.sem_table.specs.Told as table
 use Rattle.sem_table.specs.SemTable.{SemTable, row_at, sem_at, set_at}
-use Rattle.sem_table.specs.Told.{last_in}
+use Rattle.sem_table.specs.Told.{last_at, last_in}
 use Rattle.sem_table_laws.specs.Fitting.{AskIsKnown, ReleaseIsKnown}
 use Rattle.sem_table_laws.specs.KeptSems.{KeepsSem, KeepsSems, KeepsSet}
 use Rattle.sem_table_laws.specs.Telling.{TellsLast, TellsWaits}
 use Rattle.sem_table_laws.proofs.Agree.{foremost-same}
 use Rattle.sem_table_laws.proofs.Conditions.{group-of, set-here, tells}
+use Rattle.sem_table_laws.proofs.Stacks.{last-is}
 
 module _ (g : Group) (rules : MeetsRules g) (past : Past) (made : IsReachable g past) (t c : ℕ) (p : words.PcpKept) (v : KeepsSet g c past p) where
   at-ceiling : (r : ℕ) → has r (sems_of (of_others t (pcp g c past).held)) ≡ true → key_at p.ceilings r ≡ ceiling g r
@@ -58,7 +57,7 @@ module _ (g : Group) (rules : MeetsRules g) (past : Past) (made : IsReachable g 
   blocks = ap (λ (l : PcpState). words.blocker_of p.ceilings l.held t) v.state ∙ ap (holder_among (of_others t (pcp g c past).held)) (foremost-same (words.has_higher_ceiling p.ceilings) (λ s r. higher (ceiling g s) (ceiling g r) || not (higher (ceiling g r) (ceiling g s)) && nat_lt s r) (sems_of (of_others t (pcp g c past).held)) (λ x y a b. rw (at-ceiling x a, at-ceiling y b) refl))
 
 module _ (g : Group) (rules : MeetsRules g) (past : Past) (made : IsReachable g past) (w : SemTable) (k : KeepsSems g past w) (t s : ℕ) (known : has s (sems g) ≡ true) (user : has t (users g s) ≡ true) where
-  next-is : (p : Protocol) (x : AnySem) → protocol g s ≡ p → KeepsSem g s past p x → table.next_by w.sets t x ≡ next_by g p s t past
+  next-is : (p : Protocol) (x : AnySem) → protocol g s ≡ p → KeepsSem g s past p x → table.next_by w.sets s t x ≡ next_by g p s t past
   unfolding next_by holder blocker
   next-is Fmlp (any.Fmlp l) q v = ap (λ (y : SemState). y.holder) (tells g rules past w k s t known user Fmlp (any.Fmlp l) q v)
   next-is Omlp (any.Omlp l) q v = ap (λ (y : SemState). y.holder) (tells g rules past w k s t known user Omlp (any.Omlp l) q v)
@@ -66,6 +65,7 @@ module _ (g : Group) (rules : MeetsRules g) (past : Past) (made : IsReachable g 
   next-is Pcp (any.Pcp c) q v =
       let at-home : home g t ≡ cluster_of g s = user-home g rules s t (pcp-shares g.setup.plugin (protocol g s) (rw q refl)) user in
       blocks g rules past made t (cluster_of g s) (set_at w.sets c.0) (set-here g rules past w k s t known user (rw q refl) c.0 v) ∙ ap (λ (n : ℕ). blocker_among g (of_others t (pcp g n past).held)) (sym at-home)
+  next-is Srp (any.Srp c) q v = ap (λ (y : SemState). y.holder) (tells g rules past w k s t known user Srp (any.Srp c) q v)
   next-is p x q v = absurd v
 
 waits-is : (g : Group) → MeetsRules g → (past : Past) → IsReachable g past → (w : SemTable) → KeepsSems g past w → (t : ℕ) (o : Option SemNo) → option_map (λ (n : SemNo). n.0) o ≡ awaits g t past → table.next_at w t o ≡ waits_for g t past
@@ -79,16 +79,17 @@ waits-is g rules past made w k t (Some n) e =
 pub tells_waits : TellsWaits
 tells_waits g past valid made w t there k rows = waits-is g (rules_of g valid) past made w k t (row_at w.rows t).awaits (rows.rows t there).awaited
 
-row-there : (rows : List Row) (t : ℕ) → t < length rows → slice_get rows t ≡ Some (row_at rows t)
+pub row-there : (rows : List Row) (t : ℕ) → t < length rows → slice_get rows t ≡ Some (row_at rows t)
 row-there [] t h = absurd (omega arith)
 row-there (r ∷ rows) zero h = refl
 row-there (r ∷ rows) (suc t) h = row-there rows t (omega arith)
 
-last-is : (g : Group) (past : Past) (w : SemTable) (t : ℕ) (r : Row) → r.home.0 ≡ home g t → KeepsSet g (home g t) past (set_at w.sets (home g t)) → last_in w.sets t (Some r) ≡ newest_held (pcp g (home g t) past).held t
-last-is g past w t r e v = ap (λ (c : ℕ). words.last_granted (set_at w.sets c).state.held t) e ∙ ap (λ (l : PcpState). words.last_granted l.held t) v.state
-
 pub tells_last : TellsLast
-tells_last g past valid made w t there k rows = ap (last_in w.sets t) (row-there w.rows t (rows.row_room t there)) ∙ last-is g past w t (row_at w.rows t) (rows.rows t there).home_is (k.sets (home g t) ((rules_of g valid).has_home t there) (group-of g t there)) ∙ sym (last_granted-is g valid past made t)
+unfolding last_granted
+tells_last g past valid made w t there k rows =
+    let low : home g t < length g.setup.clusters = (rules_of g valid).has_home t there in
+    let mine : in_group g (home g t) ≡ true = group-of g t there in
+    ap (last_in w.sets t) (row-there w.rows t (rows.row_room t there)) ∙ ap (λ (c : ℕ). last_at w.sets c t) (rows.rows t there).home_is ∙ last-is g (rules_of g valid) (home g t) past made w.sets t (k.sets (home g t) low mine) (k.srp_sets (home g t) low mine)
 
 none-mapped : (o : Option SemNo) → option_map (λ (n : SemNo). n.0) o ≡ None → o ≡ None
 none-mapped None h = refl

@@ -7,10 +7,11 @@ use Rattle.rt_model.specs.Answers.{is_granted as is_granted_by_rules}
 use Rattle.rt_model.specs.BaseKeys.{base_key}
 use Rattle.rt_model.specs.Ceilings.{is_pcp, pcp}
 use Rattle.rt_model.specs.EffectiveKeys.{waits_for}
-use Rattle.rt_model.specs.Group.{Group, protocol, sems, tasks, users}
+use Rattle.rt_model.specs.Group.{Group, protocol, sems, task, tasks, users}
 use Rattle.rt_model.specs.Holders.{sem_state, last_granted}
 use Rattle.rt_model.specs.Past.{Event, Past, sem_act}
 use Rattle.rt_model.specs.Semaphores.{cluster_of}
+use Rattle.rt_model.specs.StackPolicy.{passes_srp}
 use Rattle.rt_laws.specs.EveryPast.{EveryMove, EveryPast}
 use Rattle.rt_changes.specs.HoldChanges.{IsServed}
 use Rattle.rt_changes.specs.Owners.{owner}
@@ -18,7 +19,7 @@ use Rattle.pcp_sem.specs.Pairs.{tasks_of}
 use Rattle.sem_table.specs.Asked.{is_granted}
 use Rattle.sem_table.specs.Released.{after_release}
 use Rattle.sem_table.specs.SemTable.{SemTable}
-use Rattle.sem_table.specs.Told.{last_of, owner_of, state_of, waiters_of, waits_for_of}
+use Rattle.sem_table.specs.Told.{last_of, owner_of, passes_of, state_of, waiters_of, waits_for_of}
 use Rattle.sem_table_laws.specs.KeptSems.{KeepsSems}
 use Rattle.sem_table_laws.specs.KeptRows.{KeepsRows}
 
@@ -57,10 +58,15 @@ abbrev pub TellsWaits : Type 0
 TellsWaits = EveryPast (λ g past. (w : SemTable) (t : ℕ) → has t (tasks g) ≡ true → KeepsSems g past w → KeepsRows g past w →
     waits_for_of w t ≡ waits_for g t past)
 
--- The PCP semaphore that it was granted last.
+-- The PCP or SRP semaphore that it was granted last.
 abbrev pub TellsLast : Type 0
 TellsLast = EveryPast (λ g past. (w : SemTable) (t : ℕ) → has t (tasks g) ≡ true → KeepsSems g past w → KeepsRows g past w →
     last_of w t ≡ last_granted g t past)
+
+-- Whether it passes the test of SRP, with its relative deadline.
+abbrev pub TellsPassing : Type 0
+TellsPassing = EveryPast (λ g past. (w : SemTable) (t : ℕ) → has t (tasks g) ≡ true → KeepsSems g past w → KeepsRows g past w →
+    passes_of w t (task g t).rel_deadline ≡ passes_srp g t past)
 
 -- A request is granted where the rules grant it.
 abbrev pub GrantsAsRules : Type 0

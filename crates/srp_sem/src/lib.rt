@@ -79,7 +79,6 @@ impl SrpSet {
     ///
     /// Example: after `set.release(TaskNo(1), 0)` nobody holds semaphore 0.
     pub fn release(&mut self, task: TaskNo, sem: u32)
-        requires below { task.0 < self.old.room }
         requires known { sem < length self.old.ceilings }
         requires last { newest_held self.old.held task.0 ≡ Some sem }
         ensures after { self.new ≡
@@ -94,7 +93,6 @@ impl SrpSet {
     ///
     /// Example: where another task holds a semaphore whose ceiling is 50, `set.passes(task, 50)` is false.
     pub fn passes(&self, task: TaskNo, rel_deadline: u64) -> bool
-        requires below { task.0 < self.now.room }
         ensures { result ≡
             srp_passes (ceiling_at self.now.ceilings) self.now.held task.0 rel_deadline }
     {
@@ -110,7 +108,6 @@ impl SrpSet {
     ///
     /// Example: `set.holder(0)` is `None` in a new set.
     pub fn holder(&self, sem: u32) -> Option<TaskNo>
-        requires known { sem < length self.now.ceilings }
         ensures holder { number_of_task result ≡ (srp_sem_state sem self.now.held).holder }
         ensures nobody { IsNone result ↔ (has sem (sems_of self.now.held) ≡ false) }
     {
@@ -121,7 +118,6 @@ impl SrpSet {
     ///
     /// Example: only what `set.last_of(task)` names may be released by the task.
     pub fn last_of(&self, task: TaskNo) -> Option<u32>
-        requires below { task.0 < self.now.room }
         ensures last { result ≡ newest_held self.now.held task.0 }
         ensures nothing { IsNone result ↔ (has task.0 (tasks_of self.now.held) ≡ false) }
     {
