@@ -23,7 +23,7 @@ ghost use Rattle.rt_groups.specs.Groups.{GroupHistory, group_of, past, with_entr
 ghost use Rattle.rt_groups.specs.Endings.{ended_last};
 
 use crate::state::GroupState;
-use group_core::Answer;
+use group_core::{Answer, WaitingList};
 use prio_inherit::Inherit;
 use ready_heap::ReadyHeap;
 use rt_base::{ClusterNo, CpuNo, GroupNo, NoMemory, SemNo, TaskNo};
@@ -32,7 +32,6 @@ use rt_order::ByKey;
 use rt_task::{Parts, Setup, Step};
 use std::alloc::Global;
 use std::marker::Model;
-use waiting_list::WaitingList;
 
 /// One group of a setup and its history. Contracts see the setup, the group's number, the entries, and room for how many more.
 ///

@@ -5,3 +5,4 @@ mod engine;
 mod state;
 
 pub use engine::Engine;
+pub use group_core::WaitingList;

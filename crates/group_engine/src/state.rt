@@ -25,7 +25,7 @@ ghost use Rattle.group_engine.specs.Touching.{AreArmedOnly, AreNumbered, CanBrin
 ghost use Rattle.group_engine.specs.Touching.{all_brought_up, all_offered, armed, brought_up, followed, key_now, offered};
 
 use cluster_table::ClusterTable;
-use group_core::{Answer, GroupCore, Looks};
+use group_core::{Answer, GroupCore, Looks, WaitingList};
 use prio_inherit::Inherit;
 use ready_heap::ReadyHeap;
 use release_queue::ReleaseQueue;
@@ -34,7 +34,6 @@ use rt_history::{Reply, Situation};
 use rt_order::{ByKey, Key};
 use rt_task::{Act, Parts, Setup};
 use std::alloc::Global;
-use waiting_list::WaitingList;
 
 /// What the engine shares with the slow ranker; the moments that tasks wait for; and of each cluster the eligible tasks by
 /// key, what its processors run, and the links.

@@ -9,13 +9,12 @@ ghost use Rattle.count_laws.specs.Tallies.{tallies};
 ghost use Rattle.block_counts.specs.SeenWords.{tallies_of};
 
 use block_counts::{Blocks, Seen};
-use group_engine::Engine;
+use group_engine::{Engine, WaitingList};
 use rt_base::{GroupNo, NoMemory, TaskNo};
 use rt_history::{Entry, Reply};
 use rt_task::{Setup, Step};
 use std::alloc::Global;
 use std::marker::Model;
-use waiting_list::WaitingList;
 
 /// An engine with the requests of its history, and room for the tasks that wait as a semaphore is freed. Contracts see the
 /// engine.
