@@ -2,6 +2,7 @@
 use Rattle.std.proofs.Common.{◌≡◌, ℕ, suc, ◌+◌, ◌<◌, ◌≤◌, Bool, true, false, List, [], ◌∷◌, ◌++◌, length, take, drop, refl, sym, ap, ◌∙◌, subst, arith, eqb-true, length-append, get_or}
 use Rattle.std.proofs.Math.Seq.{drop-cons}
 use Rattle.std.proofs.lemmas.List.{take-append-drop}
+use Rattle.std.proofs.lemmas.List.Elements.{filter_map-append}
 use Rattle.std.specs.Prelude.{◌==◌, All, ⊤}
 use Rattle.rt_base.specs.declared.TheConstants.{MOST_STEPS, TICK_END}
 use Rattle.rt_task.specs.declared.Parts.{Parts}
@@ -13,7 +14,7 @@ use Rattle.rt_groups.proofs.GroupLimits.{steps-few, steps-of_groups}
 use Rattle.rt_plays.specs.Drives.{steps_given}
 use Rattle.rt_plays.specs.Homes.{IsProcessorOf}
 use Rattle.rt_plays.specs.Scripts.{script}
-use Rattle.split_rules.specs.PartHistories.{IsEntryAt, IsLegalFrom, after, past_from, past_of, steps_of}
+use Rattle.split_rules.specs.PartHistories.{IsEntryAt, IsLegalFrom, after, past_from, past_of, step_by, steps_of}
 use Rattle.split_rules.specs.PartPast.{PartPast, moves}
 use Rattle.split_rules.specs.Partitions.{part_group}
 use Rattle.split_rules.specs.declared.SplitAct.{SplitAct}
@@ -51,12 +52,7 @@ script-few (x ∷ xs) q = by_case (script-few xs q) (x.cpu.0 == q) refl
     by_case r false e = rw e (omega (arith, r))
 
 steps-joined : (q : ℕ) (xs ys : List SplitEntry) → steps_of q (xs ++ ys) ≡ steps_of q xs ++ steps_of q ys
-steps-joined q [] ys = refl
-steps-joined q (x ∷ xs) ys = by_act (steps-joined q xs ys) x.act refl
-  where
-    by_act : steps_of q (xs ++ ys) ≡ steps_of q xs ++ steps_of q ys → (a : SplitAct) → x.act ≡ a → steps_of q (x ∷ (xs ++ ys)) ≡ steps_of q (x ∷ xs) ++ steps_of q ys
-    by_act r (Plain act) e = rw e (ap (λ (zs : List Step). record { cpu = record { 0 = q }; tick = x.tick; act = act } ∷ zs) r)
-    by_act r (Take s n t) e = rw e r
+steps-joined q xs ys = filter_map-append (λ (e : SplitEntry). step_by q e.act e) xs ys
 
 module _ (g : Group) (q : ℕ) where
   legal-front : (xs ys : List SplitEntry) (past : PartPast) → IsLegalFrom g q past (xs ++ ys) → IsLegalFrom g q past xs
