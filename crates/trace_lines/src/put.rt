@@ -6,13 +6,14 @@ ghost use Rattle.trace_lines.specs.Grammar.{number_word};
 use itoa::Buffer;
 use std::alloc::AllocError;
 
+/// Bytes at the end of a text.
 pub fn put(out: &mut Vec<u8>, bytes: &[u8]) -> Result<(), AllocError>
     ensures { OnOk result (out.new.items ≡ out.old.items ++ bytes.now) }
 {
     out.extend_from_slice(bytes)
 }
 
-/// A number; most numbers of a line have one digit.
+/// A number in decimal digits; most numbers of a line have one.
 #[tactic(auto, using(std::proofs::lemmas::Fmt::decimal_digit))]
 pub fn put_number(out: &mut Vec<u8>, n: u64) -> Result<(), AllocError>
     ensures { OnOk result (out.new.items ≡ out.old.items ++ decimal n) }

@@ -1,0 +1,3 @@
+pub mod PartPlays
+pub mod Replays
+pub mod Texts
