@@ -1,0 +1,25 @@
+-- The lines of a processor, what it plays and its link, and of a reservation, what is left of its budget.
+use Rattle.std.specs.Prelude.{ℕ, List, [], ◌∷◌, ◌++◌, flat_map, Option, None, Some, codes, decimal}
+use Rattle.rt_task.specs.declared.Resv.{Resv}
+use Rattle.trace_views.specs.Cells.{CpuCell, Playing}
+use Rattle.trace_views.specs.Cells as cells
+use Rattle.chart_texts.specs.Charts.{CpuRow, ResvRow}
+use Rattle.chart_texts.specs.Letters.{number_letter, task_letter}
+use Rattle.chart_texts.specs.Rows.{row}
+
+abbrev pub playing_signs : Playing → List ℕ
+playing_signs (cells.works_for t) = task_letter t ∷ 32 ∷ []
+playing_signs (cells.runs_task t) = task_letter t ∷ 61 ∷ []
+playing_signs cells.idle = 32 ∷ 32 ∷ []
+
+abbrev pub link_sign : Option ℕ → ℕ
+link_sign None = 32
+link_sign (Some t) = task_letter t
+
+unfoldable pub cpu_lines : ℕ → CpuRow → List ℕ
+cpu_lines width r =
+    row width (codes "processor " ++ decimal r.cpu) (flat_map (λ (c : CpuCell). playing_signs c.playing) r.cells)
+    ++ row width (codes "  link") (flat_map (λ (c : CpuCell). link_sign c.link ∷ 32 ∷ []) r.cells)
+
+unfoldable pub resv_line : Resv → ℕ → ResvRow → List ℕ
+resv_line resv width r = row width resv.name (flat_map (λ n. number_letter n ∷ 32 ∷ []) r.left)
