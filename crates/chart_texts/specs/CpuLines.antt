@@ -16,10 +16,20 @@ abbrev pub link_sign : Option ℕ → ℕ
 link_sign None = 32
 link_sign (Some t) = task_letter t
 
+abbrev pub cpu_signs : CpuCell → List ℕ
+cpu_signs c = playing_signs c.playing
+
+abbrev pub link_signs : CpuCell → List ℕ
+link_signs c = link_sign c.link ∷ 32 ∷ []
+
+abbrev pub budget_signs : ℕ → List ℕ
+budget_signs left = number_letter left ∷ 32 ∷ []
+
+abbrev pub cpu_label : ℕ → List ℕ
+cpu_label q = codes "processor " ++ decimal q
+
 unfoldable pub cpu_lines : ℕ → CpuRow → List ℕ
-cpu_lines width r =
-    row width (codes "processor " ++ decimal r.cpu) (flat_map (λ (c : CpuCell). playing_signs c.playing) r.cells)
-    ++ row width (codes "  link") (flat_map (λ (c : CpuCell). link_sign c.link ∷ 32 ∷ []) r.cells)
+cpu_lines width r = row width (cpu_label r.cpu) (flat_map cpu_signs r.cells) ++ row width (codes "  link") (flat_map link_signs r.cells)
 
 unfoldable pub resv_line : Resv → ℕ → ResvRow → List ℕ
-resv_line resv width r = row width resv.name (flat_map (λ n. number_letter n ∷ 32 ∷ []) r.left)
+resv_line resv width r = row width resv.name (flat_map budget_signs r.left)

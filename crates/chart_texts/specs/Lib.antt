@@ -7,6 +7,8 @@ pub mod TaskLines
 pub mod CpuLines
 pub mod ChartText
 pub mod Computed
+pub mod BarLaws
+pub mod WidthLaws
 pub mod Named
 pub mod WorkedSharing
 pub mod WorkedJobs
