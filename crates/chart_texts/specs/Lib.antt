@@ -13,3 +13,4 @@ pub mod Named
 pub mod WorkedSharing
 pub mod WorkedJobs
 pub mod WorkedGroups
+pub mod WorkedNested
