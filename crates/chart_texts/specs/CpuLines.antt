@@ -1,6 +1,5 @@
 -- The lines of a processor, what it plays and its link, and of a reservation, what is left of its budget.
 use Rattle.std.specs.Prelude.{ℕ, List, [], ◌∷◌, ◌++◌, flat_map, Option, None, Some, codes, decimal}
-use Rattle.rt_task.specs.declared.Resv.{Resv}
 use Rattle.trace_views.specs.Cells.{CpuCell, Playing}
 use Rattle.trace_views.specs.Cells as cells
 use Rattle.chart_texts.specs.Charts.{CpuRow, ResvRow}
@@ -31,5 +30,5 @@ cpu_label q = codes "processor " ++ decimal q
 unfoldable pub cpu_lines : ℕ → CpuRow → List ℕ
 cpu_lines width r = row width (cpu_label r.cpu) (flat_map cpu_signs r.cells) ++ row width (codes "  link") (flat_map link_signs r.cells)
 
-unfoldable pub resv_line : Resv → ℕ → ResvRow → List ℕ
-resv_line resv width r = row width resv.name (flat_map budget_signs r.left)
+unfoldable pub resv_line : List ℕ → ℕ → ResvRow → List ℕ
+resv_line name width r = row width name (flat_map budget_signs r.left)

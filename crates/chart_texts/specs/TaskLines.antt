@@ -1,6 +1,5 @@
 -- The lines of a task: its marks, what it does, and where it declares a semaphore what it holds.
-use Rattle.std.specs.Prelude.{ℕ, List, [], ◌∷◌, ◌++◌, flat_map, codes, if◌then◌else◌}
-use Rattle.rt_task.specs.declared.Task.{Task}
+use Rattle.std.specs.Prelude.{ℕ, Bool, List, [], ◌∷◌, ◌++◌, flat_map, codes, if◌then◌else◌}
 use Rattle.trace_views.specs.Cells.{Doing}
 use Rattle.trace_views.specs.Cells as cells
 use Rattle.trace_views.specs.Marks.{Marks}
@@ -42,18 +41,12 @@ held_sign (s ∷ r ∷ ss) = 43
 abbrev pub held_signs : Marked → List ℕ
 held_signs c = held_sign c.cell.held ∷ 32 ∷ []
 
-abbrev pub task_label : Task → ℕ → List ℕ
-task_label task t = task_letter t ∷ 32 ∷ task.name
+abbrev pub task_label : List ℕ → ℕ → List ℕ
+task_label name t = task_letter t ∷ 32 ∷ name
 
-abbrev pub declares_some : Task → List ℕ → List ℕ
-declares_some task line = by_uses task.uses
-  where
-    by_uses : {A : Type 0} → List A → List ℕ
-    by_uses [] = []
-    by_uses (s ∷ ss) = line
-
-unfoldable pub task_lines : Task → ℕ → TaskRow → List ℕ
-task_lines task width r =
+-- the task has a name, and declares a semaphore or none
+unfoldable pub task_lines : List ℕ → Bool → ℕ → TaskRow → List ℕ
+task_lines name declares width r =
     row width [] (flat_map mark_signs r.cells)
-    ++ (row width (task_label task r.task) (flat_map cell_signs r.cells)
-    ++ declares_some task (row width (codes "  holds") (flat_map held_signs r.cells)))
+    ++ (row width (task_label name r.task) (flat_map cell_signs r.cells)
+    ++ (if declares then row width (codes "  holds") (flat_map held_signs r.cells) else []))
