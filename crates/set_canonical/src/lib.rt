@@ -17,6 +17,8 @@ use rt_base::NoMemory;
 use rt_task::{Parts, Setup};
 use std::alloc::Global;
 
+pub use words::{plugin_word, protocol_word};
+
 /// The canonical text of a setup, without a newline: the compact text of the JSON value that has all members, with defaults
 /// filled in, members in rising order of their names' bytes, and each run of Work as one piece. A task has `early` only
 /// where it is true, and of `steps` and `horizon` the set has the one that was given.

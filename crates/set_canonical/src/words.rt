@@ -4,6 +4,7 @@ ghost use Rattle.set_canonical.specs.Words as spec;
 
 use rt_task::{Kind, PluginKind, Protocol, ResvKind};
 
+/// The name of a scheduler.
 pub fn plugin_word(plugin: PluginKind) -> &'static [u8]
     ensures { result.now ≡ spec.plugin_word plugin }
 {
@@ -16,6 +17,7 @@ pub fn plugin_word(plugin: PluginKind) -> &'static [u8]
     }
 }
 
+/// The name of a protocol.
 pub fn protocol_word(protocol: Protocol) -> &'static [u8]
     ensures { result.now ≡ spec.protocol_word protocol }
 {

@@ -1,0 +1,16 @@
+pub mod Windows
+pub mod Charts
+pub mod Letters
+pub mod Rows
+pub mod Rulers
+pub mod TaskLines
+pub mod CpuLines
+pub mod ChartText
+pub mod Computed
+pub mod BarLaws
+pub mod WidthLaws
+pub mod Named
+pub mod WorkedSharing
+pub mod WorkedJobs
+pub mod WorkedGroups
+pub mod WorkedNested
