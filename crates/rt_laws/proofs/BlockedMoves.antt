@@ -416,7 +416,7 @@ blocked_at_most g past valid made t there prompt = at-most g valid made t there 
 -- ---- interrupts that are taken before a Lock
 
 -- what runs where no interrupt is pending is linked
-runs-linked : (g : Group) {past : Past} → IsReachable g past → (q u : ℕ) → pending g q past ≡ false → runs q past ≡ Some u → is_linked g (home g u) u past ≡ true
+pub runs-linked : (g : Group) {past : Past} → IsReachable g past → (q u : ℕ) → pending g q past ≡ false → runs q past ≡ Some u → is_linked g (home g u) u past ≡ true
 unfolding pending is_linked linked
 runs-linked g {past} made q u none r = rw (← at) (has-at_place u (links g (cluster_with g q) past) (q - first_cpu g (cluster_with g q)) link)
   where
@@ -439,7 +439,7 @@ taken-asks g {past} made (cpu_acts q a) h t u s k =
     let free : not (pending g q past) ≡ true = (both (not (pending g q past)) (takes_interrupts g past) (rw w.0 at h)).0 in
     rw (← w.1) (runs-linked g made q u (not_true _ free) ask.runs_it)
 
-taken-before : (g : Group) (e : Event) (past : Past) → takes_interrupts g (e ∷ past) ≡ true → takes_interrupts g past ≡ true
+pub taken-before : (g : Group) (e : Event) (past : Past) → takes_interrupts g (e ∷ past) ≡ true → takes_interrupts g past ≡ true
 unfolding takes_interrupts
 taken-before g (Clock tick) past h = h
 taken-before g (Acted d) past h = (both (not (is_asking (sem_act (Acted d))) || not (pending g d.cpu past)) _ h).1

@@ -325,12 +325,12 @@ admitted-psn g plugins.PsnEdf t past e h = rw h (or_true (not (has_srp g (home g
 admitted-psn g p t past e h = cc
 
 -- who is admitted and is not under way passes
-passes-psn : (g : Group) (p : PluginKind) (t : ℕ) (past : Past) → p ≡ plugins.PsnEdf → has_srp g (home g t) ≡ true → under_way t past ≡ false → is_admitted g p t past ≡ true → passes_srp g t past ≡ true
+pub passes-psn : (g : Group) (p : PluginKind) (t : ℕ) (past : Past) → p ≡ plugins.PsnEdf → has_srp g (home g t) ≡ true → under_way t past ≡ false → is_admitted g p t past ≡ true → passes_srp g t past ≡ true
 unfolding is_admitted
 passes-psn g plugins.PsnEdf t past e h n k = rw (h, n) at k
 passes-psn g p t past e h n k = cc
 
-way-eligible : (g : Group) → MeetsRules g → (c : ℕ) → IsSrpCluster g c → {past : Past} → IsReachable g past → (t : ℕ) → home g t ≡ c → under_way t past ≡ true → IsStarted g t past → eligible g t past ≡ true
+pub way-eligible : (g : Group) → MeetsRules g → (c : ℕ) → IsSrpCluster g c → {past : Past} → IsReachable g past → (t : ℕ) → home g t ≡ c → under_way t past ≡ true → IsStarted g t past → eligible g t past ≡ true
 unfolding eligible ready
 way-eligible g rules c cluster {past} made t at h s = rw (s.exists_now, s.awake, awaits-none g rules c cluster past made t at, served-psn g g.setup.plugin t past cluster.plugin, admitted-psn g g.setup.plugin t past cluster.plugin h)
 
