@@ -49,7 +49,7 @@ use Rattle.rt_laws.proofs.Waiting.{awaits-waits}
 -- ---- pairs of a task and a semaphore
 
 -- a pair of the task that passes a test
-any-pair : (u : ℕ) (test : ℕ → Bool) (ps : List TaskSem) → list_any (λ (p : TaskSem). p.task == u && test p.sem) ps ≡ true → (s : ℕ) × (has_pair u s ps ≡ true) × (test s ≡ true)
+pub any-pair : (u : ℕ) (test : ℕ → Bool) (ps : List TaskSem) → list_any (λ (p : TaskSem). p.task == u && test p.sem) ps ≡ true → (s : ℕ) × (has_pair u s ps ≡ true) × (test s ≡ true)
 any-pair u test [] h = cc
 any-pair u test (p ∷ ps) h = split (either (p.task == u && test p.sem) _ h) (any-pair u test ps)
   where
@@ -57,7 +57,7 @@ any-pair u test (p ∷ ps) h = split (either (p.task == u && test p.sem) _ h) (a
     split (inl m) r = let q = both (p.task == u) (test p.sem) m in let same : p.task ≡ u = eqb-true p.task u q.0 in (p.sem, rw (← same, equal_self p.task, equal_self p.sem), q.1)
     split (inr m) r = let q = r m in (q.0, rw q.1 (or_true (u == p.task && q.0 == p.sem)), q.2)
 
-pair-any : (u s : ℕ) (test : ℕ → Bool) (ps : List TaskSem) → has_pair u s ps ≡ true → test s ≡ true → list_any (λ (p : TaskSem). p.task == u && test p.sem) ps ≡ true
+pub pair-any : (u s : ℕ) (test : ℕ → Bool) (ps : List TaskSem) → has_pair u s ps ≡ true → test s ≡ true → list_any (λ (p : TaskSem). p.task == u && test p.sem) ps ≡ true
 pair-any u s test [] h k = cc
 pair-any u s test (p ∷ ps) h k = split (either (u == p.task && s == p.sem) _ h) (pair-any u s test ps)
   where
@@ -170,7 +170,7 @@ pair-task u s (p ∷ ps) h = split (either (u == p.task && s == p.sem) _ h) (pai
     split (inr m) r = rw (r m) (or_true (u == p.task))
 
 -- who does not pass is stopped by a pair
-stopped-by : (over : ℕ → ℕ → Bool) (t : ℕ) (ps : List TaskSem) → passes over ps t ≡ false → (y : ℕ) × (r : ℕ) × (has_pair y r ps ≡ true) × (over t r ≡ false)
+pub stopped-by : (over : ℕ → ℕ → Bool) (t : ℕ) (ps : List TaskSem) → passes over ps t ≡ false → (y : ℕ) × (r : ℕ) × (has_pair y r ps ≡ true) × (over t r ≡ false)
 stopped-by over t [] h = cc
 stopped-by over t (p ∷ ps) h = by_case (p.task == t || over t p.sem) refl (passes over ps t) refl (rw passes-cons at h) (stopped-by over t ps)
   where
