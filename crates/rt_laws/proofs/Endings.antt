@@ -1,5 +1,5 @@
 -- How a job ends or falls asleep: by an End, by force or by a Sleep, each of a task that holds nothing.
-use Rattle.std.proofs.Common.{Bool, [], ap, eqb-true, false, inl, inr, leb-true, not, refl, true, ℕ, ◌&&◌, ◌∙◌, ◌∷◌, ◌≡◌, ◌≤◌, ◌⊎◌}
+use Rattle.std.proofs.Common.{Bool, [], ap, eqb-true, false, inl, inr, leb-true, not, refl, true, ℕ, ◌&&◌, ◌∷◌, ◌≡◌, ◌≤◌, ◌⊎◌}
 use Rattle.std.specs.Prelude.{None, Option, Some, if◌then◌else◌, nat_le}
 use Rattle.rt_task.specs.declared.Act.TheVariants as acts
 use Rattle.rt_task.specs.declared.Act.{Act}

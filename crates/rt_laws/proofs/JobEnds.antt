@@ -1,32 +1,23 @@
 -- A job that holds or waits does not end: it ends by an End, or by force, and then it holds nothing and waits for nothing.
-use Rattle.std.proofs.Common.{Bool, [], ap, arith, eqb-true, false, inl, inr, leb-false, leb-true, not, refl, true, ℕ, ◌&&◌, ◌+◌, ◌<◌, ◌∙◌, ◌∷◌, ◌≡◌, ◌≤◌, ◌⊎◌}
+use Rattle.std.proofs.Common.{Bool, arith, false, inl, inr, leb-false, not, refl, true, ℕ, ◌&&◌, ◌+◌, ◌<◌, ◌∙◌, ◌∷◌, ◌≡◌, ◌≤◌, ◌⊎◌}
 use Rattle.std.specs.Prelude.{None, Option, Some, if◌then◌else◌, nat_le}
 use Rattle.rt_base.specs.declared.SemNo.{SemNo}
 use Rattle.rt_task.specs.declared.Act.TheVariants as acts
 use Rattle.rt_task.specs.declared.Act.{Act}
 use Rattle.rt_task.specs.declared.Op.TheVariants as ops
 use Rattle.rt_task.specs.declared.Op.{Op}
-use Rattle.rt_task.specs.declared.Protocol.TheVariants.{Fmlp, Mpcp, Omlp, Pcp, Srp}
-use Rattle.rt_task.specs.declared.Protocol.{Protocol}
-use Rattle.rt_history.specs.declared.Reply.TheVariants as replies
-use Rattle.rt_rules.specs.Fmlp.{fmlp_after}
-use Rattle.rt_rules.specs.Mpcp.{mpcp_after}
 use Rattle.rt_rules.specs.Numbers.{has, is, is_empty}
-use Rattle.rt_rules.specs.Omlp.{omlp_after, omlp_sem_state}
-use Rattle.rt_rules.specs.Pcp.{pcp_after, pcp_sem_state}
-use Rattle.rt_rules.specs.SemState.{Asks, Frees, Neither, SemState, in_line}
-use Rattle.rt_model.specs.Answers.{answer, do_answer, is_granted, op_answer, unless_holding}
-use Rattle.rt_model.specs.BaseKeys.{above}
-use Rattle.rt_model.specs.Ceilings.{above_ceiling, at_cluster, pcp}
-use Rattle.rt_model.specs.Group.{Group, cpus, protocol, sems, task, tasks}
-use Rattle.rt_model.specs.Holders.{holder, holds, sem_state, sem_state_by}
+use Rattle.rt_rules.specs.SemState.{Asks, Frees, Neither}
+use Rattle.rt_model.specs.Answers.{answer, is_granted}
+use Rattle.rt_model.specs.Group.{Group, protocol, sems, task, tasks}
+use Rattle.rt_model.specs.Holders.{holder, holds, sem_state}
 use Rattle.rt_model.specs.Jobs.{this_job, used}
 use Rattle.rt_model.specs.Reachable.{IsReachable, acted}
 use Rattle.rt_model.specs.NonPreemptive.{non_preemptive, np_after}
 use Rattle.rt_model.specs.Outcomes.{attempt, ended, ended_by, is_spent, past_act}
 use Rattle.rt_model.specs.Past.{Acted, Clock, Event, Past, PastAct, accepted, did, ends_job, is_work, operation, sem_act, sem_act_of}
 use Rattle.rt_model.specs.Runs.{runs}
-use Rattle.rt_model.specs.Semaphores.{at_sem, cluster_of, fmlp, mpcp, omlp}
+use Rattle.rt_model.specs.Semaphores.{cluster_of}
 use Rattle.rt_rules.proofs.BoolLaws.{clash}
 use Rattle.rt_rules.proofs.MemberLaws.{equal_self, is-some, none-empty}
 use Rattle.rt_model.proofs.Steps.{used-step}

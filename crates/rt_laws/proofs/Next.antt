@@ -1,25 +1,21 @@
 -- What the next event of a past does: who asks and who frees, and that a task which holds or waits goes on.
-use Rattle.std.proofs.Common.{Bool, false, inl, inr, refl, true, ℕ, ◌&&◌, ◌∷◌, ◌≡◌, ◌⊎◌}
-use Rattle.std.specs.Prelude.{None, Some, if◌then◌else◌}
+use Rattle.std.proofs.Common.{false, inl, inr, refl, true, ℕ, ◌∷◌, ◌≡◌, ◌⊎◌}
+use Rattle.std.specs.Prelude.{Some}
 use Rattle.rt_task.specs.declared.Act.TheVariants as acts
 use Rattle.rt_task.specs.declared.Act.{Act}
 use Rattle.rt_task.specs.declared.Op.TheVariants as ops
-use Rattle.rt_task.specs.declared.Op.{Op}
-use Rattle.rt_history.specs.declared.Reply.TheVariants as replies
-use Rattle.rt_rules.specs.Numbers.{has, is, is_empty}
+use Rattle.rt_rules.specs.Numbers.{has, is}
 use Rattle.rt_rules.specs.SemState.{Asks}
-use Rattle.rt_model.specs.Answers.{answer, do_answer, op_answer, unless_holding}
+use Rattle.rt_model.specs.Answers.{answer}
 use Rattle.rt_model.specs.Group.{Group, sems}
-use Rattle.rt_model.specs.Holders.{holder, holds, sem_state}
+use Rattle.rt_model.specs.Holders.{holder, sem_state}
 use Rattle.rt_model.specs.Reachable.{IsReachable}
-use Rattle.rt_model.specs.NonPreemptive.{non_preemptive}
 use Rattle.rt_model.specs.Outcomes.{past_act}
-use Rattle.rt_model.specs.Past.{Acted, Event, Past, accepted, did, ends_job, now, operation, sem_act}
+use Rattle.rt_model.specs.Past.{Acted, Event, Past, accepted, did, ends_job, now, sem_act}
 use Rattle.rt_model.specs.Runs.{runs}
 use Rattle.rt_model.specs.Semaphores.{cluster_of}
 use Rattle.rt_model.specs.Sleep.{sleep_end}
 use Rattle.rt_rules.proofs.BoolLaws.{clash, unless}
-use Rattle.rt_rules.proofs.MemberLaws.{is-some}
 use Rattle.rt_laws.proofs.Asked.{Asked, Freed, asked, freed}
 use Rattle.rt_laws.proofs.Endings.{sleep-holds_nothing, sleep-is}
 use Rattle.rt_laws.proofs.Engaged.{engaged, engaged-cases, engaged-step}

@@ -1,17 +1,14 @@
 -- SRP: each semaphore is free when it is asked for, so that it is held once at most.
-use Rattle.std.proofs.Common.{List, [], arith, length, refl, subst, sym, true, ℕ, ◌∙◌, ◌∷◌, ◌≡◌, ◌≤◌}
-use Rattle.std.specs.Prelude.{None, Some}
+use Rattle.std.proofs.Common.{[], arith, length, sym, true, ℕ, ◌∙◌, ◌∷◌, ◌≡◌, ◌≤◌}
 use Rattle.rt_task.specs.declared.Protocol.TheVariants.{Srp}
-use Rattle.rt_task.specs.declared.Protocol.{Protocol}
-use Rattle.rt_rules.specs.Numbers.{first, has}
+use Rattle.rt_rules.specs.Numbers.{first}
 use Rattle.rt_rules.specs.Pcp.{of_sem}
 use Rattle.rt_rules.specs.SemState.{Asks}
 use Rattle.rt_model.specs.Group.{Group, protocol}
-use Rattle.rt_model.specs.Holders.{holder}
 use Rattle.rt_model.specs.Past.{Event, Past, sem_act}
 use Rattle.rt_model.specs.Reachable.{IsReachable}
 use Rattle.rt_model.specs.Semaphores.{cluster_of}
-use Rattle.rt_model.specs.StackPolicy.{is_srp, srp, srp_at}
+use Rattle.rt_model.specs.StackPolicy.{srp, srp_at}
 use Rattle.rt_rules.proofs.MemberLaws.{some-is}
 use Rattle.rt_rules.proofs.PairLaws.{has-of_sem, has_pair}
 use Rattle.rt_rules.proofs.SrpLaws.{first-srp, nothing-there, srp-once}

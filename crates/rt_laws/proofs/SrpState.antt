@@ -2,7 +2,7 @@
 --
 -- While a task holds, it is under way and its key stays, so that no task of a lower key is linked. A task that is under way was so when
 -- another took a semaphore, and then the other has the higher key; or it started later, and passed the test.
-use Rattle.std.proofs.Common.{Bool, List, [], ap, arith, false, inl, inr, not, refl, subst, sym, true, ℕ, ◌&&◌, ◌||◌, ◌∙◌, ◌∷◌, ◌≡◌, ◌⊎◌, eqb-true}
+use Rattle.std.proofs.Common.{Bool, [], ap, arith, false, inl, inr, not, refl, subst, sym, true, ℕ, ◌&&◌, ◌||◌, ◌∙◌, ◌∷◌, ◌≡◌, ◌⊎◌, eqb-true}
 use Rattle.std.specs.List.{list_all}
 use Rattle.std.specs.Prelude.{None, Option, Some, if◌then◌else◌, is_none, is_some, nat_le, nat_lt, length, ◌==◌}
 use Rattle.rt_base.specs.declared.TheConstants.{MOST_HELD, TICK_END}
@@ -12,7 +12,7 @@ use Rattle.rt_task.specs.declared.Op.TheVariants as ops
 use Rattle.rt_task.specs.declared.Op.{Op}
 use Rattle.rt_task.specs.declared.PluginKind.TheVariants as plugins
 use Rattle.rt_task.specs.declared.PluginKind.{PluginKind}
-use Rattle.rt_task.specs.declared.Protocol.TheVariants.{Fmlp, Mpcp, Omlp, Pcp, Srp}
+use Rattle.rt_task.specs.declared.Protocol.TheVariants.{Srp}
 use Rattle.rt_task.specs.declared.Protocol.{Protocol}
 use Rattle.rt_history.specs.declared.Reply.TheVariants as replies
 use Rattle.rt_history.specs.declared.Reply.{Reply}
@@ -21,12 +21,11 @@ use Rattle.rt_rules.specs.Pcp.{TaskSem, of_others, of_sem}
 use Rattle.rt_rules.specs.SemState.{Asks, Neither, SemState}
 use Rattle.rt_rules.specs.Srp.{srp_sem_state}
 use Rattle.rt_model.specs.Answers.{answer, nests}
-use Rattle.rt_model.specs.BaseKeys.{above, base_key}
+use Rattle.rt_model.specs.BaseKeys.{above}
 use Rattle.rt_model.specs.Group.{Group, home, processors, protocol, sems, task, tasks, tasks_of, users, first_cpu, cpus}
 use Rattle.rt_model.specs.Holders.{awaits, holder, holds, sem_state, sem_state_by}
-use Rattle.rt_model.specs.Links.{linked}
 use Rattle.rt_model.specs.Outcomes.{attempt, is_spent, past_act}
-use Rattle.rt_model.specs.Past.{Acted, Clock, Event, Past, PastAct, accepted, did, ends_job, now, operation, sem_act}
+use Rattle.rt_model.specs.Past.{Acted, Event, Past, PastAct, accepted, did, ends_job, now, operation, sem_act}
 use Rattle.rt_model.specs.Reachable.{IsReachable}
 use Rattle.rt_model.specs.Releases.{exists, ready}
 use Rattle.rt_model.specs.Runs.{leaves, runs, runs_after, runs_by}
@@ -36,10 +35,9 @@ use Rattle.rt_model.specs.StackPolicy.{has_srp, is_srp, passes_srp, srp, srp_at,
 use Rattle.rt_model.specs.Tops.{eligible, is_admitted, is_served, top}
 use Rattle.rt_model.specs.UnderWay.{is_run, is_sleep, starts, under_way}
 use Rattle.rt_rules.proofs.BoolLaws.{both, clash, either, neither, not_true, or_true, unless}
-use Rattle.rt_rules.proofs.MemberLaws.{equal_self, is-some, none-is, some-is, turned}
+use Rattle.rt_rules.proofs.MemberLaws.{equal_self, is-some, turned}
 use Rattle.rt_rules.proofs.NumberLaws.{has-numbers_from, numbers_from-below}
 use Rattle.rt_rules.proofs.PairLaws.{has_pair}
-use Rattle.rt_rules.proofs.PcpGrantLaws.{IsStrict}
 use Rattle.rt_rules.proofs.PcpLaws.{passes-above_ceiling}
 use Rattle.rt_rules.proofs.SrpLaws.{IsHeldOnce, least-of, srp-first, srp-held}
 use Rattle.rt_model.proofs.AnswerLaws.{answer-runs_irq, answer-runs_link, to_run}
@@ -57,7 +55,7 @@ use Rattle.rt_laws.proofs.Moves.{IsMove, by_moves, clock_moves, cpu_acts, moved}
 use Rattle.rt_laws.proofs.PcpState.{pcp_kept}
 use Rattle.rt_laws.proofs.Requests.{IsAsk, asks}
 use Rattle.rt_laws.proofs.Rules.{MeetsRules}
-use Rattle.rt_laws.proofs.Running.{IsRunning, ended-runs, running, runs_after-cases}
+use Rattle.rt_laws.proofs.Running.{ended-runs, running, runs_after-cases}
 use Rattle.rt_laws.proofs.SrpUsers.{IsSrpCluster, awaits-none, srp_cluster, top-above}
 
 -- ---- who holds is a user, at home in the cluster

@@ -22,7 +22,6 @@ use Rattle.rt_model.specs.StackPolicy.{has_srp, is_srp}
 use Rattle.rt_model.specs.Tops.{eligible, ranking, top}
 use Rattle.rt_rules.specs.SemState.{Asks}
 use Rattle.rt_rules.proofs.BoolLaws.{clash, either, or_true, unless}
-use Rattle.rt_rules.proofs.KeyLaws.{IsOrder}
 use Rattle.rt_rules.proofs.MemberLaws.{equal_self, has-filter, has-first, some-is}
 use Rattle.rt_rules.proofs.RankedLaws.{has-sorted, tasks_ranked}
 use Rattle.rt_rules.proofs.RankingLaws.{cut-off, keys-map, keys-sorted, ranked-sorted}

@@ -5,7 +5,6 @@ use Rattle.rt_task.specs.declared.Protocol.TheVariants.{Fmlp, Omlp, Pcp, Srp}
 use Rattle.rt_task.specs.declared.Resv.{Resv}
 use Rattle.rt_task.specs.declared.ResvKind.TheVariants as resv_kinds
 use Rattle.rt_task.specs.declared.Sem.{Sem}
-use Rattle.rt_task.specs.declared.Slot.{Slot}
 use Rattle.rt_task.specs.declared.PluginKind.TheVariants as plugins
 use Rattle.rt_task.specs.declared.Step.{Step}
 use Rattle.rt_task.specs.declared.Task.{Task}
@@ -249,13 +248,43 @@ pub polling_beside-refused : refusal_of (reserved (reservation resv_kinds.Pollin
 unfolding rules_computed
 polling_beside-refused = refl
 
--- a semaphore whose protocol is not played
+-- SRP stands under PSN-EDF alone, among tasks of one cluster, and beside no FMLP semaphore of a task there
 abbrev pub srp_shared : Group
 srp_shared = group_of plugins.PsnEdf (cluster_with 1 0 ∷ []) (shared Srp ∷ []) [] (named 97 (using (1 ∷ []) (periodic 1 1 1000 100)) ∷ [])
 
-pub srp-refused : refusal_of srp_shared.setup ≡ Some (bad kinds.Sharing parts.Sem 0)
+pub srp-valid : IsValid srp_shared.setup
 unfolding rules_computed
-srp-refused = refl
+srp-valid = refl
+
+pub srp_under_fp-refused : refusal_of (record srp_shared.setup { plugin = plugins.PFp }) ≡ Some (bad kinds.Sharing parts.Sem 0)
+unfolding rules_computed
+srp_under_fp-refused = refl
+
+abbrev pub srp_over_clusters : Group
+srp_over_clusters =
+    group_of plugins.PsnEdf (cluster_with 1 0 ∷ cluster_with 1 0 ∷ []) (shared Srp ∷ []) [] (
+    named 97 (using (1 ∷ []) (periodic 1 1 1000 100)) ∷
+    named 98 (in_cluster 1 (using (1 ∷ []) (periodic 2 1 1000 100))) ∷
+    [])
+
+pub srp_over_clusters-refused : refusal_of srp_over_clusters.setup ≡ Some (bad kinds.Sharing parts.Sem 0)
+unfolding rules_computed
+srp_over_clusters-refused = refl
+
+abbrev pub srp_beside_fmlp : ℕ → Group
+srp_beside_fmlp c =
+    group_of plugins.PsnEdf (cluster_with 1 0 ∷ cluster_with 1 0 ∷ []) (shared Srp ∷ record (shared Fmlp) { name = 116 ∷ [] } ∷ []) [] (
+    named 97 (using (1 ∷ []) (periodic 1 1 1000 100)) ∷
+    named 98 (in_cluster c (using (2 ∷ []) (periodic 2 1 1000 100))) ∷
+    [])
+
+pub srp_beside_fmlp-refused : refusal_of (srp_beside_fmlp 0).setup ≡ Some (bad kinds.Sharing parts.Sem 0)
+unfolding rules_computed
+srp_beside_fmlp-refused = refl
+
+pub fmlp_elsewhere-valid : IsValid (srp_beside_fmlp 1).setup
+unfolding rules_computed
+fmlp_elsewhere-valid = refl
 
 -- slots out of order, a slot beyond the cycle, no slot, a budget that is not their sum, and slots of another kind
 pub out_of_order-refused : refusal_of (reserved (table 10 1 (slot 6 8 ∷ slot 4 5 ∷ []))).setup ≡ Some (bad kinds.Range parts.Resv 1)

@@ -1,0 +1,2 @@
+pub mod AtMoments
+pub mod Stretches
