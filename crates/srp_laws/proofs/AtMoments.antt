@@ -1,12 +1,14 @@
 -- What SRP says at each moment: a job that has begun stays eligible and is not overtaken, and one task keeps another from beginning.
-use Rattle.std.proofs.Common.{Bool, List, [], arith, eqb-true, false, inl, inr, not, refl, subst, sym, true, ℕ, ◌&&◌, ◌||◌, ◌∙◌, ◌∷◌, ◌≡◌, ◌⊎◌}
+use Rattle.std.proofs.Common.{Bool, List, [], arith, eqb-true, false, inl, inr, not, refl, true, ℕ, ◌&&◌, ◌||◌, ◌∙◌, ◌∷◌, ◌≡◌, ◌⊎◌}
 use Rattle.std.proofs.lemmas.Bool.Decides.{nat_tests}
 use Rattle.std.specs.List.{list_any}
 use Rattle.std.specs.Prelude.{nat_le, nat_lt, ◌==◌}
 use Rattle.rt_task.specs.Validity.{IsValid}
+use Rattle.rt_task.specs.declared.PluginKind.TheVariants as plugins
+use Rattle.rt_task.specs.declared.PluginKind.{PluginKind}
 use Rattle.rt_rules.specs.Numbers.{has}
 use Rattle.rt_model.specs.BaseKeys.{above}
-use Rattle.rt_model.specs.Group.{Group, home, protocol, sems, task, tasks, users}
+use Rattle.rt_model.specs.Group.{Group, home, protocol, sems, task, users}
 use Rattle.rt_model.specs.Past.{Past}
 use Rattle.rt_model.specs.Reachable.{IsReachable}
 use Rattle.rt_model.specs.Releases.{ready}
@@ -106,9 +108,19 @@ module _ (g : Group) (valid : IsValid g.setup) where
 
   -- ---- who is kept back
 
+  served-psn : (p : PluginKind) (t : ℕ) (past : Past) → p ≡ plugins.PsnEdf → is_served g p t past ≡ true
+  unfolding is_served
+  served-psn plugins.PsnEdf t past e = refl
+  served-psn p t past e = cc
+
+  passing-admitted : (p : PluginKind) (t : ℕ) (past : Past) → p ≡ plugins.PsnEdf → has_srp g (home g t) ≡ true → passes_srp g t past ≡ true → is_admitted g p t past ≡ true
+  unfolding is_admitted
+  passing-admitted plugins.PsnEdf t past e h k = rw (h, k, or_true (under_way t past))
+  passing-admitted p t past e h k = cc
+
   passing-eligible : {past : Past} → IsReachable g past → (t : ℕ) → IsSrpCluster g (home g t) → ready g t past ≡ true → passes_srp g t past ≡ true → eligible g t past ≡ true
-  unfolding eligible is_served is_admitted
-  passing-eligible {past} made t cluster h k = rw (h, awaits-none g rules (home g t) cluster past made t refl, cluster.plugin, cluster.has_it, k, or_true (under_way t past))
+  unfolding eligible
+  passing-eligible {past} made t cluster h k = rw (h, awaits-none g rules (home g t) cluster past made t refl, served-psn g.setup.plugin t past cluster.plugin, passing-admitted g.setup.plugin t past cluster.plugin cluster.has_it k)
 
   pub kept-back : {past : Past} → IsReachable g past → (t : ℕ) → IsSrpCluster g (home g t) → awaits_start g t past ≡ true → eligible g t past ≡ false → (u : ℕ) × (reaches g t u past ≡ true) × (u == t ≡ false)
   unfolding awaits_start passes_srp

@@ -1,2 +1,3 @@
 pub mod AtMoments
 pub mod Stretches
+pub mod Reached

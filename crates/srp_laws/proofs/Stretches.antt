@@ -1,41 +1,51 @@
 -- Through a stretch one critical section delays a job before it begins.
-use Rattle.std.proofs.Common.{Bool, List, [], arith, eqb-true, false, inl, inr, not, refl, subst, sym, true, ℕ, ◌&&◌, ◌||◌, ◌∙◌, ◌∷◌, ◌≡◌, ◌⊎◌}
+use Rattle.std.proofs.Common.{Bool, [], eqb-true, false, inl, inr, not, refl, subst, sym, true, ℕ, ◌&&◌, ◌∙◌, ◌∷◌, ◌≡◌, ◌⊎◌}
 use Rattle.std.specs.Prelude.{None, Option, Some, ◌==◌}
 use Rattle.rt_task.specs.Validity.{IsValid}
 use Rattle.rt_task.specs.declared.Protocol.TheVariants.{Srp}
 use Rattle.rt_rules.specs.Numbers.{has, is, same}
-use Rattle.rt_rules.specs.SemState.{Asks, Neither}
+use Rattle.rt_rules.specs.SemState.{Asks}
 use Rattle.rt_model.specs.BaseKeys.{above}
-use Rattle.rt_model.specs.Group.{Group, home, protocol, tasks, tasks_of}
+use Rattle.rt_model.specs.Group.{Group, home, protocol, tasks}
 use Rattle.rt_model.specs.Links.{linked, pending}
 use Rattle.rt_model.specs.Outcomes.{past_act}
-use Rattle.rt_model.specs.Past.{Acted, Clock, Event, Past, ends_job, sem_act}
+use Rattle.rt_model.specs.Past.{Event, Past, ends_job, sem_act}
 use Rattle.rt_model.specs.Reachable.{IsReachable}
 use Rattle.rt_model.specs.Releases.{exists, ready}
 use Rattle.rt_model.specs.Runs.{runs}
 use Rattle.rt_model.specs.Sleep.{sleeps}
-use Rattle.rt_model.specs.StackPolicy.{srp}
+use Rattle.rt_model.specs.StackPolicy.{srp, srp_at}
 use Rattle.rt_model.specs.Tops.{eligible, top}
 use Rattle.rt_model.specs.UnderWay.{under_way}
 use Rattle.rt_rules.proofs.BoolLaws.{both, clash, either, not_false, not_true, unless}
 use Rattle.rt_rules.proofs.MemberLaws.{equal_self, turned}
 use Rattle.rt_rules.proofs.PairLaws.{has_pair}
-use Rattle.rt_laws.specs.BlockedOnce.{is_asking, takes_interrupts}
+use Rattle.rt_rules.proofs.SrpLaws.{srp-held}
+use Rattle.rt_laws.specs.BlockedOnce.{takes_interrupts}
+use Rattle.rt_laws.proofs.AtSem.{srp_at-asks}
 use Rattle.rt_laws.proofs.BlockedMoves.{taken-before}
 use Rattle.rt_laws.proofs.BlockedOnce.{pair-task}
-use Rattle.rt_laws.proofs.Endings.{ended-how}
 use Rattle.rt_laws.proofs.GroupLaws.{home-tasks_of}
 use Rattle.rt_laws.proofs.JobLaws.{base_key-keeps}
 use Rattle.rt_laws.proofs.LinkedTasks.{IsLinked, linked-eligible}
 use Rattle.rt_laws.proofs.Moves.{IsMove, by_moves, clock_moves, cpu_acts, moved}
 use Rattle.rt_laws.proofs.Requests.{asks}
-use Rattle.rt_laws.proofs.Rules.{MeetsRules}
 use Rattle.rt_laws.proofs.Running.{ended-runs}
-use Rattle.rt_laws.proofs.SrpState.{IsSrpState, srp-back, srp_state, under_way-back}
+use Rattle.rt_laws.proofs.SrpState.{IsSrpState, is_srp-is, srp_state, under_way-back}
 use Rattle.rt_laws.proofs.SrpUsers.{IsSrpCluster, top-above}
+use Rattle.rt_laws.proofs.ValidSets.{rules_of}
 use Rattle.srp_laws.specs.Sections.{awaits_start, delays, entered, is_inside, is_lower, is_no_higher, reaches, was_delayed}
 use Rattle.srp_laws.specs.StackLaws.{DelayedOnce}
-use Rattle.srp_laws.proofs.AtMoments.{IsReacher, kept-back, not-both, one-reacher, pair-reaches, reacher, reacher-above, rules}
+use Rattle.srp_laws.proofs.AtMoments.{IsReacher, kept-back, not-both, one-reacher, pair-reaches, reacher, reacher-above}
+
+-- who holds after a move held before it, or asks in it
+srp-back : (g : Group) (c t s : ℕ) (e : Event) (past : Past) → has_pair t s (srp g c (e ∷ past)) ≡ true → (has_pair t s (srp g c past) ≡ true) ⊎ (sem_act e ≡ Asks t s) × (home g t ≡ c) × (protocol g s ≡ Srp)
+unfolding srp
+srp-back g c t s e past h = split (srp-held t s (srp_at g c (sem_act e)) (srp g c past) h)
+  where
+    split : (has_pair t s (srp g c past) ≡ true) ⊎ (srp_at g c (sem_act e) ≡ Asks t s) → (has_pair t s (srp g c past) ≡ true) ⊎ (sem_act e ≡ Asks t s) × (home g t ≡ c) × (protocol g s ≡ Srp)
+    split (inl k) = inl k
+    split (inr k) = let q = srp_at-asks g c t s (sem_act e) k in inr (q.0, q.1, is_srp-is (protocol g s) q.2)
 
 module _ (g : Group) (valid : IsValid g.setup) where
   -- what runs where no interrupt is pending is linked
@@ -94,7 +104,7 @@ module _ (g : Group) (valid : IsValid g.setup) where
         overtaken : eligible g t past ≡ true → ⊥
         overtaken k =
             not-both g valid past t u over
-            (top-above g (rules g valid) (home g t) cluster past made u t at (subst (λ n. has u (top g n past) ≡ true) at ask.links_it.of_top) refl (home-tasks_of g t there) k (turned t u ∙ apart u way))
+            (top-above g (rules_of g valid) (home g t) cluster past made u t at (subst (λ n. has u (top g n past) ≡ true) at ask.links_it.of_top) refl (home-tasks_of g t there) k (turned t u ∙ apart u way))
 
         by_other : (v : ℕ) → reaches g t v past ≡ true → (b : Bool) → v == u ≡ b → reaches g t u past ≡ true
         by_other v h true k = subst (λ n. reaches g t n past ≡ true) (eqb-true v u k) h
@@ -110,7 +120,7 @@ module _ (g : Group) (valid : IsValid g.setup) where
 
     module _ (prompt : takes_interrupts g (e ∷ past) ≡ true) (r : IsReacher g valid t u (e ∷ past)) where
       state : IsSrpState g (home g t) past
-      state = srp_state g (rules g valid) (home g t) r.cluster made
+      state = srp_state g (rules_of g valid) (home g t) r.cluster made
 
       way-before : under_way u past ≡ true
       way-before = split (srp-back g (home g t) u r.sem e past r.pair)
@@ -121,7 +131,7 @@ module _ (g : Group) (valid : IsValid g.setup) where
 
       above-before : above g (e ∷ past) t u ≡ true → above g past t u ≡ true
       unfolding above
-      above-before h = rw (base_key-keeps g (rules g valid) t e past t_exists (goes_on state), base_key-keeps g (rules g valid) u e past (state.started u r.at_home way-before).exists_now (under_way-back u e past r.way).0) at h
+      above-before h = rw (base_key-keeps g (rules_of g valid) t e past t_exists (goes_on state), base_key-keeps g (rules_of g valid) u e past (state.started u r.at_home way-before).exists_now (under_way-back u e past r.way).0) at h
 
       reached-before : above g past t u ≡ true → is_no_higher g t u ≡ true → reaches g t u past ≡ true
       reached-before over level = split (srp-back g (home g t) u r.sem e past r.pair)
@@ -170,7 +180,7 @@ module _ (g : Group) (valid : IsValid g.setup) where
   was-here t u [] w h = let k = both (is_lower g t u []) false h in cc
   was-here t u (e ∷ past) w h = rw (w, h, equal_self (entered g u (e ∷ past)))
 
-  IsOnce : Past → Type 0
+  abbrev pub IsOnce : Past → Type 0
   IsOnce past = (t u v n m : ℕ) → has t (tasks g) ≡ true → takes_interrupts g past ≡ true → was_delayed g t u n past ≡ true → was_delayed g t v m past ≡ true → (u ≡ v) × (n ≡ m)
 
   once-step : (past : Past) (e : Event) → IsReachable g past → IsMove g past e → IsOnce past → IsOnce (e ∷ past)

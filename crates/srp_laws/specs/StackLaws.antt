@@ -1,5 +1,5 @@
 -- The theorem of the stack resource policy (Baker, Real-Time Systems, 1991), in two parts: after a job has begun, and before.
-use Rattle.std.specs.Prelude.{◌≡◌, ℕ, true, false, ◌==◌, Some, None}
+use Rattle.std.specs.Prelude.{◌≡◌, ℕ, true, false, ◌==◌, Some}
 use Rattle.rt_task.specs.Validity.{IsValid}
 use Rattle.rt_rules.specs.Numbers.{has}
 use Rattle.rt_model.specs.BaseKeys.{above}

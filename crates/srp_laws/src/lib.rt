@@ -3,7 +3,7 @@
 //! it. Each function has a law as its contract, and does nothing.
 #![tactic(auto)]
 
-ghost use Rattle.srp_laws.specs.StackLaws.{BegunIsEligible, BegunIsNotOvertaken, DelayedOnce, DelayedReaches, OneReaches};
+ghost use Rattle.srp_laws.specs.StackLaws.{BegunIsEligible, BegunIsNotOvertaken, DelayedOnce, DelayedReaches, OneReaches, ReachesDelayed, ReachesOvertaken};
 
 /// A job that has begun, and did not sleep since, is eligible: it waits for nothing, and no test keeps it back.
 pub fn begun_is_eligible()
@@ -30,4 +30,15 @@ pub fn delayed_once()
 /// A job that is released and not linked, though no job of higher base key is eligible, is kept back by a held semaphore.
 pub fn delayed_reaches()
     ensures { DelayedReaches }
+{}
+
+/// There is a valid set in which a critical section delays a job.
+pub fn delayed_is_reached()
+    ensures { ReachesDelayed }
+{}
+
+/// There is a valid set in which a job of lower base key, and of a higher preemption level, begins and runs while a job
+/// is kept back: the test is of each job by itself.
+pub fn overtaken_is_reached()
+    ensures { ReachesOvertaken }
 {}
