@@ -41,7 +41,7 @@ resvs-read g past w valid keeps = λ t there. resvs_are_read g t past w valid ke
 
 -- ---- at a past
 
-and-turned : (a b : Bool) → a && b ≡ b && a
+pub and-turned : (a b : Bool) → a && b ≡ b && a
 and-turned true true = refl
 and-turned true false = refl
 and-turned false true = refl

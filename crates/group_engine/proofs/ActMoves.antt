@@ -28,8 +28,8 @@ use Rattle.group_engine.specs.declared.state.GroupState.{GroupState}
 use Rattle.group_engine.specs.Ending.{IsEnding}
 use Rattle.group_engine.specs.Moments.{CanAct, CanActOn}
 use Rattle.group_engine.specs.State.{IsFitAt, acts_left}
-use Rattle.group_engine.specs.Touching.{CanBringUpAll, CanFollow, all_brought_up, followed}
-use Rattle.group_engine.proofs.Bounding.{can-look}
+use Rattle.group_engine.specs.Touching.{AreNumbered, CanFollow, all_brought_up, followed}
+use Rattle.group_engine.proofs.Bounding.{can-look, number-is}
 use Rattle.group_engine.proofs.BringingUp.{can-followed}
 use Rattle.group_engine.proofs.Following.{between-followed, homes-followed}
 use Rattle.group_engine.proofs.Reading.{looks-alike}
@@ -131,8 +131,8 @@ module _ (at : Moment) (q : ℕ) (act : Act) (s : GroupState) (can : CanAct at q
       there = has_processor g q can.inside past s can.kept;
     }
 
-    pub can-looks : CanBringUpAll g.setup us (followed q act reply s1)
-    can-looks t h = can-followed g.setup q act reply t s1 (can-look g past s can.kept x (acts_left past') (acts_left past') fit t (inside t h))
+    pub can-looks : AreNumbered g.setup us (followed q act reply s1)
+    can-looks t h = (can-followed g.setup q act reply t s1 (can-look g past s can.kept x (acts_left past') (acts_left past') fit t (inside t h)), number-is g can.played.valid t (inside t h))
 
     between : IsBetween g event past us (followed q act reply s1)
     between = record {
@@ -144,7 +144,7 @@ module _ (at : Moment) (q : ℕ) (act : Act) (s : GroupState) (can : CanAct at q
       homes_are = rw (homes-followed q act reply (cpu_of x.facts.kept q).runs s.clusters) can.kept.homes_are;
       clusters_are = between-followed g q can.inside past s can.kept act can.act_is_of reply told-is (cpu_of x.facts.kept q).runs runs-now;
       inside = inside;
-      others = λ t h k. looks-alike g t past past' (others t k);
+      others = λ t h k. looks-alike g t past past' h (others t k);
     }
 
     pub ending-act : IsEnding g past' (all_brought_up g.setup us (followed q act reply s1))

@@ -26,7 +26,7 @@ use Rattle.resv_laws.specs.Serving.{for_task, told_each}
 use Rattle.resv_laws.proofs.ServingLaws.{for_task-keeps}
 use Rattle.sem_table.specs.Told.{awaits_of}
 use Rattle.group_core.specs.Facts.{Facts, told_all}
-use Rattle.group_core.specs.Reads.{key_in, timer_in}
+use Rattle.group_core.specs.Reads.{admits_in, key_in, timer_in}
 use Rattle.group_engine.specs.Touching.{all_brought_up, all_offered, brought_up, home_in, key_now, offered}
 use Rattle.group_jobs.specs.GroupJobs.{ready_now, task_in}
 
@@ -81,7 +81,8 @@ renewed-same f f' (u ∷ us) ticks same =
 -- the key of a task, where it stands and is served
 abbrev key_if : Parts → Kept → GroupSems → Bool → ℕ → Option Key
 key_if p k v served t =
-    if is_ready k.clock (task_in p.tasks t) (job_of k t) && (not (is_some (awaits_of v.table t)) && served) then Some (key_in v t) else None
+    if is_ready k.clock (task_in p.tasks t) (job_of k t) && (not (is_some (awaits_of v.table t)) && (admits_in p v t && served))
+    then Some (key_in v t) else None
 
 abbrev pub key_where : Parts → Kept → GroupSems → (ℕ → Bool) → ℕ → Option Key
 key_where p k v served t = key_if p k v (served t) t

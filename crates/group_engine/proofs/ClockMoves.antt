@@ -7,15 +7,17 @@ use Rattle.rt_task.specs.declared.Parts.{Parts}
 use Rattle.rt_rules.specs.Numbers.{has}
 use Rattle.rt_rules.proofs.BoolLaws.{both, or_true}
 use Rattle.rt_rules.proofs.MemberLaws.{equal_self}
-use Rattle.rt_model.specs.Group.{Group, tasks}
+use Rattle.rt_model.specs.Group.{Group, home, tasks}
 use Rattle.rt_model.specs.Holders.{awaits}
 use Rattle.rt_model.specs.Past.{Clock, Past, now}
 use Rattle.rt_model.specs.Reachable.{clocked as clocked-too}
+use Rattle.rt_laws.proofs.Moves.{clock_moves}
+use Rattle.rt_laws.proofs.ValidSets.{rules_of}
 use Rattle.release_queue.specs.Timers.{tick_at}
 use Rattle.rank_changes.specs.Touched.{comes_due}
 use Rattle.rank_changes.proofs.QuietMoves.{base_key-same, key-quiet}
 use Rattle.rank_changes.proofs.SameClusters.{runs-clock}
-use Rattle.rank_changes.proofs.SameEligibility.{awaits-quiet}
+use Rattle.rank_changes.proofs.SameEligibility.{awaits-quiet, srp-quiet}
 use Rattle.rank_changes.proofs.TouchedTasks.{clock_keeps_jobs, clock_touches_due}
 use Rattle.group_facts.specs.Timers.{AreDue, AreMoved, TimersAreKept, renewed, ticks_without, timer_at}
 use Rattle.group_facts.proofs.TimerMoves.{timers_after_clock}
@@ -23,6 +25,7 @@ use Rattle.group_facts.proofs.TimerSets.{length-without, tick-set, tick-without}
 use Rattle.group_core.specs.Words.{Moment}
 use Rattle.group_core.specs.Facts.{clocked}
 use Rattle.group_core.specs.Standing as core
+use Rattle.group_core.proofs.Admitting.{admitted-over}
 use Rattle.group_core.proofs.Moves.{at-clocked, fit-clocked}
 use Rattle.group_engine.specs.declared.state.GroupState.{GroupState}
 use Rattle.group_engine.specs.Moments.{CanEnd, CanMove}
@@ -116,8 +119,9 @@ module _ (g : Group) (past : Past) (s : GroupState) (at : IsAt g past s) (tick :
         let still = clock_touches_due g past valid at.core_at.reachable tick t out in
         let job = clock_keeps_jobs g past valid at.core_at.reachable tick t in
         let waits : awaits g t (Clock tick ∷ past) ≡ awaits g t past = awaits-quiet g t (Clock tick) past refl in
+        let admitted = admitted-over g (rules_of g valid) at.core_at.reachable (clock_moves tick) t (refl, refl) (srp-quiet g (home g t) (Clock tick) past refl) in
         record {
-          stands_same = rw (still.ready_same, waits) refl;
+          stands_same = rw (still.ready_same, waits, admitted) refl;
           key_same = key-quiet g valid (Clock tick) past (clocked-too tick at.core_at.reachable) refl t (base_key-same g t past (Clock tick ∷ past) job);
           told_same = rw (still.ready_same, job.release_same) refl;
         }

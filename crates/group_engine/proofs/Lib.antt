@@ -11,6 +11,7 @@ pub mod ActMoves
 pub mod DueAgain
 pub mod DueInTurn
 pub mod GroupInTurn
+pub mod ClusterInTurn
 pub mod Opening
 pub mod Stepping
 mod Looked

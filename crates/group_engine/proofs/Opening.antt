@@ -26,6 +26,7 @@ use Rattle.rank_changes.specs.ClusterMoves.{of_cluster}
 use Rattle.group_facts.specs.Timers.{TimersAreKept, timer_at}
 use Rattle.group_facts.proofs.KeptMoves.{length-replicated, replicated}
 use Rattle.group_facts.proofs.TimerMoves.{timers_at_opening}
+use Rattle.group_facts.proofs.WayMoves.{ways_at_opening}
 use Rattle.cluster_table.specs.Clusters.{KeptCluster, fresh, homes_from, rows_from}
 use Rattle.cluster_table.specs.Table.{HasTask, cluster_at}
 use Rattle.cluster_table.proofs.RowLaws.{home-at, length-homes, processor-low, row-at}
@@ -138,7 +139,7 @@ module _ (g : Group) (played : IsPlayed g) (room : ℕ) (v : GroupSems) (new : I
       let k : KeptCluster = fresh (first_cpu g c) (cpus g c) (length g.setup.tasks + 1) in
       let keys : List (Option Key) = set_refreshed (λ u. effective_key g u []) test (of_cluster g c (tasks g)) k.keys in
       let keys_same = keys-refreshed g c f.kept f.sems (is_served f.resvs) (λ u. effective_key g u []) test (tasks g) k.keys
-      (λ u m. (m, key-kept g [] f opened (kept_first g played.valid v new) (sems_first g played.valid v new) played (is_served f.resvs) u m)) in
+      (λ u m. (m, key-kept g [] f opened (kept_first g played.valid v new) (sems_first g played.valid v new) (rw new.ways (ways_at_opening g)) played (is_served f.resvs) u m)) in
       let next : KeptCluster = record k { keys = keys } in
       let brought : cluster_at opened_state.clusters c ≡ Some next = cluster-brought g.setup (tasks g) s0 (is_served f.resvs) (λ u. refl) c k (row c h) ∙ ap (λ ks. let x : KeptCluster = record k { keys = ks } in Some x) keys_same in
       let m : length (replicate {A = Option Key} (length g.setup.tasks + 1) None) ≡ length g.setup.tasks + 1 = length-replicated (length g.setup.tasks + 1) None in

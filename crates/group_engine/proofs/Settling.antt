@@ -13,10 +13,9 @@ use Rattle.rt_model.specs.Links.{links, runs_of}
 use Rattle.rt_model.specs.Past.{Event, Clock, Acted, Past, did, entries_in, is_work}
 use Rattle.rt_model.specs.Reachable.{IsReachable}
 use Rattle.rt_model.specs.Releases.{ready}
-use Rattle.rt_model.specs.Tops.{eligible, ranking, top}
+use Rattle.rt_model.specs.Tops.{eligible, is_admitted, is_served as is_served_by_rules, ranking, top}
 use Rattle.rt_model.proofs.Steps.{links-step}
 use Rattle.rt_model.proofs.TopLaws.{distinct-tasks_of}
-use Rattle.rt_model.proofs.Unplayed.{plainly-eligible}
 use Rattle.rt_laws.proofs.GroupLaws.{tasks_of-home}
 use Rattle.rt_groups.specs.Places.{IsHomeTask}
 use Rattle.ready_queue.specs.Queue.{first_tasks}
@@ -27,6 +26,7 @@ use Rattle.rank_changes.specs.ClusterMoves.{of_cluster}
 use Rattle.rank_changes.specs.Clusters.{HoldsEligible}
 use Rattle.group_facts.specs.Kept.{IsKept, Kept, job_of}
 use Rattle.group_facts.specs.Timers.{TimersAreKept, renewed, timer_at}
+use Rattle.group_facts.specs.Ways.{AreWays}
 use Rattle.group_facts.specs.Words.{is_ready}
 use Rattle.group_facts.proofs.TimerMoves.{timer_is_read}
 use Rattle.group_jobs.specs.GroupJobs.{task_in}
@@ -47,9 +47,10 @@ use Rattle.resv_laws.specs.Serving.{all_begun, for_task}
 use Rattle.resv_laws.proofs.ServingLaws.{for_task-keeps}
 use Rattle.group_core.proofs.Words.{at_home}
 use Rattle.group_core.specs.Facts.{Facts, WithRoom, told_all}
-use Rattle.group_core.specs.Reads.{key_in, timer_in}
+use Rattle.group_core.specs.Reads.{admits_in, key_in, timer_in}
 use Rattle.group_core.specs.Standing as core
-use Rattle.group_core.proofs.ModelWords.{key-read, waits-read}
+use Rattle.group_core.proofs.Admitting.{admitted-read}
+use Rattle.group_core.proofs.ModelWords.{and-turned, key-read, waits-read}
 use Rattle.group_core.proofs.Moves.{at-ended, changed-ended, fit-ended}
 use Rattle.group_engine.specs.declared.state.GroupState.{GroupState}
 use Rattle.group_engine.specs.Keys.{HoldsKeys}
@@ -118,29 +119,31 @@ not-some : (o : Option ℕ) → not (is_some o) ≡ is_none o
 not-some None = refl
 not-some (Some x) = refl
 
-and-three : (a b c : Bool) → a && (b && c) ≡ (a && b) && c
-and-three true b c = refl
-and-three false b c = refl
+and-four : (a b c d : Bool) → a && (b && (c && d)) ≡ (a && (b && c)) && d
+and-four true true c d = refl
+and-four true false c d = refl
+and-four false b c d = refl
 
 -- whether it stands
-stands-kept : (g : Group) (past : Past) (f : Facts) → IsReachable g past → IsKept g past f.kept → KeepsGroupSems g past f.sems → IsPlayed g
+stands-kept : (g : Group) (past : Past) (f : Facts) → IsReachable g past → IsKept g past f.kept → KeepsGroupSems g past f.sems → AreWays g past f.sems.ways → IsPlayed g
     → (t : ℕ) → has t (tasks g) ≡ true
-    → is_ready f.kept.clock (task_in g.setup.tasks t) (job_of f.kept t) && not (is_some (awaits_of f.sems.table t)) ≡ stands g t past
+    → is_ready f.kept.clock (task_in g.setup.tasks t) (job_of f.kept t) && (not (is_some (awaits_of f.sems.table t)) && admits_in g.setup f.sems t) ≡ stands g t past
 unfolding task
-stands-kept g past f made kept sems played t h =
+stands-kept g past f made kept sems ways played t h =
     let job = kept.jobs_are t h in
     let clock = kept.clock_is in
     let waits : not (is_some (awaits_of f.sems.table t)) ≡ is_none (awaits g t past) = ap not (waits-read g past f.kept kept played.valid made f.sems sems t h) ∙ not-some (awaits g t past) in
-    rw (clock, job, waits) (sym (stands-ready g past t))
+    let admitted = admitted-read g played.valid past made f.sems sems.locks ways t h in
+    rw (clock, job, waits, admitted) (sym (stands-ready g past t))
 
 -- its key, where it stands and is served
-pub key-kept : (g : Group) (past : Past) (f : Facts) → IsReachable g past → IsKept g past f.kept → KeepsGroupSems g past f.sems → IsPlayed g
+pub key-kept : (g : Group) (past : Past) (f : Facts) → IsReachable g past → IsKept g past f.kept → KeepsGroupSems g past f.sems → AreWays g past f.sems.ways → IsPlayed g
     → (served : ℕ → Bool) (t : ℕ) → has t (tasks g) ≡ true
     → key_where g.setup f.kept f.sems served t ≡ kept_key (λ u. effective_key g u past) (λ u. stands g u past && served u) t
-key-kept g past f made kept sems played served t h =
+key-kept g past f made kept sems ways played served t h =
     let r : Bool = is_ready f.kept.clock (task_in g.setup.tasks t) (job_of f.kept t) in
     let n : Bool = not (is_some (awaits_of f.sems.table t)) in
-    ap (λ b. if b then Some (key_in f.sems t) else None) (and-three r n (served t) ∙ ap (λ b. b && served t) (stands-kept g past f made kept sems played t h))
+    ap (λ b. if b then Some (key_in f.sems t) else None) (and-four r n (admits_in g.setup f.sems t) (served t) ∙ ap (λ b. b && served t) (stands-kept g past f made kept sems ways played t h))
     ∙ ap (λ k. if stands g t past && served t then Some k else None) (sym (key-read g past f.kept kept played.valid made f.sems sems t h))
 
 pub timer-kept : (g : Group) (past : Past) (k : Kept) → IsKept g past k → (t : ℕ) → has t (tasks g) ≡ true → timer_in g.setup k t ≡ timer_at g past t
@@ -165,9 +168,11 @@ holds-same ts key test test' keys same holds = record { room = holds.room; is_in
 -- a task is eligible where it stands and is served by what is kept
 pub eligible-served : (g : Group) → IsPlayed g → (past : Past) (w : GroupResvs) → KeepsResvs g past w → (t : ℕ) → has t (tasks g) ≡ true
     → eligible g t past ≡ stands g t past && is_served w t
+unfolding eligible
 eligible-served g played past w kept t h =
     let read = resvs_are_read g t past w played.valid kept h in
-    plainly-eligible g played.valid t past ∙ ap (λ b. ready g t past && (is_none (awaits g t past) && b)) (sym read.served) ∙ and-three (ready g t past) (is_none (awaits g t past)) (is_served w t)
+    ap (λ b. ready g t past && (is_none (awaits g t past) && b)) (and-turned (is_served_by_rules g g.setup.plugin t past) (is_admitted g g.setup.plugin t past) ∙ ap (λ b. is_admitted g g.setup.plugin t past && b) (sym read.served))
+    ∙ and-four (ready g t past) (is_none (awaits g t past)) (is_admitted g g.setup.plugin t past) (is_served w t)
 
 of_cluster-inside : (g : Group) (c : ℕ) (us : List ℕ) (t : ℕ) → has t (of_cluster g c us) ≡ true → has t (tasks_of g c) ≡ true
 of_cluster-inside g c us t h = (both (has t us) (has t (tasks_of g c)) (sym (has-filter (λ u. has u (tasks_of g c)) t us) ∙ h)).1
@@ -231,7 +236,7 @@ module _ (g : Group) (played : IsPlayed g) (e : Event) (past : Past) (us : List 
       alike c t h m = between.others t (tasks_of-home g c t h).0 (of_cluster-outside g c us t h m)
 
       key-between : (u : ℕ) → has u (tasks g) ≡ true → key_where g.setup f.kept f.sems (is_served w) u ≡ kept_key (λ v. effective_key g v (e ∷ past)) (λ v. stands g v (e ∷ past) && is_served w v) u
-      key-between u h = key-kept g (e ∷ past) f between.moved.reachable between.moved.kept between.moved.sems_are played (is_served w) u h
+      key-between u h = key-kept g (e ∷ past) f between.moved.reachable between.moved.kept between.moved.sems_are between.moved.ways_are played (is_served w) u h
 
   told-of : AreToldOf g (λ t. ready_release g t past) (e ∷ past) us
   told-of = record { inside = between.inside; others = λ t h k. (between.others t h k).told_same }
@@ -295,7 +300,7 @@ module _ (g : Group) (played : IsPlayed g) (past : Past) (s : GroupState) (endin
       let keys : List (Option Key) = set_refreshed key test (of_cluster g c settled_resvs.changed) k.keys in
       let keys_same = keys-refreshed g c z.facts.kept z.facts.sems (is_served settled_resvs) key test settled_resvs.changed k.keys
       (λ u h. let m : has u (tasks g) ≡ true = ended-core.changed.inside u h in
-      (m, key-kept g past z.facts ended-core.at.reachable ended-core.at.kept ended-core.at.sems_are played (is_served settled_resvs) u m)) in
+      (m, key-kept g past z.facts ended-core.at.reachable ended-core.at.kept ended-core.at.sems_are ended-core.at.ways_are played (is_served settled_resvs) u m)) in
       let next : KeptCluster = record k { keys = keys } in
       let offered_row : cluster_at (all_offered g.setup settled_resvs.changed settled_state).clusters c ≡ Some next = cluster-offered g.setup settled_resvs.changed settled_state c k was.there ∙ ap (λ ks. let x : KeptCluster = record k { keys = ks } in Some x) keys_same in
       let agree : AgreeBut (of_cluster g c settled_resvs.changed) (tasks_of g c) key key (λ u. stands g u past && is_served ending.before u) test = record {

@@ -10,7 +10,7 @@ use Rattle.rt_model.specs.Holders.{awaits}
 use Rattle.rt_model.specs.Links.{links, runs_of}
 use Rattle.rt_model.specs.Past.{Past, entries_in}
 use Rattle.rt_model.specs.Releases.{ready}
-use Rattle.rt_model.specs.Tops.{top}
+use Rattle.rt_model.specs.Tops.{is_admitted, top}
 use Rattle.ready_queue.specs.ReadySet.{HoldsJust}
 use Rattle.group_facts.specs.Timers.{TimersAreKept}
 use Rattle.cluster_table.specs.Clusters.{KeptCluster}
@@ -22,9 +22,9 @@ use Rattle.group_core.specs.Standing as core
 use Rattle.group_engine.specs.declared.state.GroupState.{GroupState}
 use Rattle.group_engine.specs.State.{AreHomes, IsFitAt}
 
--- a task's job is there and does not sleep, and the task waits for no semaphore
+-- a task's job is there and does not sleep, the task waits for no semaphore, and SRP admits it
 abbrev pub stands : Group → ℕ → Past → Bool
-stands g t past = ready g t past && is_none (awaits g t past)
+stands g t past = ready g t past && (is_none (awaits g t past) && is_admitted g g.setup.plugin t past)
 
 -- the tasks of a cluster that stand so and that these reservations serve, with their keys
 abbrev pub HoldsStanding : Group → ℕ → Past → GroupResvs → List (Option Key) → Type 0

@@ -1,6 +1,7 @@
 //! What the engine keeps of its group, and what each move makes of it.
-ghost use Rattle.std.specs.Prelude.{◌≡◌, ℕ, List, ◌+◌, ◌<◌, ◌≤◌, ◌∷◌, [], All, IfOk, length, true};
+ghost use Rattle.std.specs.Prelude.{◌≡◌, ℕ, List, ◌+◌, ◌<◌, ◌≤◌, ◌∷◌, [], All, IfOk, length, option_map, true};
 ghost use Rattle.rt_base.specs.TaskNos.{number_of_task};
+ghost use Rattle.rt_base.specs.declared.ClusterNo as ids;
 ghost use Rattle.rt_task.specs.declared.Task.{Task};
 ghost use Rattle.rt_rules.specs.Distinct.{IsDistinct};
 ghost use Rattle.rt_rules.specs.Numbers.{has};
@@ -18,7 +19,8 @@ ghost use Rattle.rank_changes.specs.Clusters.{HoldsEligible};
 ghost use Rattle.count_laws.specs.Tallies.{waiter_tasks};
 ghost use Rattle.group_core.specs.Words.{AreWaitersAt, Moment};
 ghost use Rattle.group_facts.specs.Timers.{AreDue};
-ghost use Rattle.group_core.specs.Looked.{looked};
+ghost use Rattle.group_core.specs.Facts.{tasks_of_some};
+ghost use Rattle.group_core.specs.Looked.{looked, named};
 ghost use Rattle.group_engine.specs.Moments.{CanActOn, CanEnd, CanLend, CanLook, CanMove, CanTell, HasActed, IsDeclared, IsPlayed};
 ghost use Rattle.group_engine.specs.State.{IsAt};
 ghost use Rattle.group_engine.specs.Touching.{AreArmedOnly, AreNumbered, CanBringUp, CanBringUpAll, CanFollow, CanOffer, CanOfferAll};
@@ -255,15 +257,41 @@ impl GroupState {
         }
     }
 
-    /// Looks at the tasks that an act has touched.
-    fn bring_up_looked(&mut self, parts: &Parts, looks: Looks)
-        requires { CanBringUpAll parts.now (looked looks) self.old }
-        ensures { self.new ≡ all_brought_up parts.now (looked looks) self.old }
+    /// Looks at the tasks that an act has touched and named one by one.
+    fn bring_up_named(&mut self, parts: &Parts, looks: Looks)
+        requires { CanBringUpAll parts.now (named looks) self.old }
+        ensures { self.new ≡ all_brought_up parts.now (named looks) self.old }
     {
         self.bring_up_any(parts, looks.task);
         self.bring_up_any(parts, looks.before);
         self.bring_up_any(parts, looks.after);
         self.bring_up_any(parts, looks.served);
+    }
+
+    /// Looks at all tasks of the cluster, if there is one.
+    fn bring_up_cluster(&mut self, parts: &Parts, cluster: Option<ClusterNo>)
+        requires { let c = option_map (λ (x : ids.ClusterNo). x.0) cluster in
+            AreNumbered parts.now (tasks_of_some parts.now c) self.old }
+        ensures { let c = option_map (λ (x : ids.ClusterNo). x.0) cluster in
+            self.new ≡ all_brought_up parts.now (tasks_of_some parts.now c) self.old }
+    {
+        let Some(home) = cluster else {
+            return;
+        };
+        for task in parts.tasks.as_slice() {
+            if task.cluster.0 == home.0 {
+                self.bring_up(parts, task.number);
+            }
+        }
+    }
+
+    /// Looks at the tasks that an act has touched.
+    fn bring_up_looked(&mut self, parts: &Parts, looks: Looks)
+        requires { AreNumbered parts.now (looked parts.now looks) self.old }
+        ensures { self.new ≡ all_brought_up parts.now (looked parts.now looks) self.old }
+    {
+        self.bring_up_named(parts, looks);
+        self.bring_up_cluster(parts, looks.cluster);
     }
 
     /// Writes down in its cluster what the processor runs after an act that was answered so: its link after an interrupt that

@@ -8,7 +8,7 @@ use Rattle.group_core.specs.Looked.{looked}
 use Rattle.group_engine.specs.declared.state.GroupState.{GroupState}
 use Rattle.group_engine.specs.Ending.{IsEnding}
 use Rattle.group_engine.specs.Moments.{CanActOn}
-use Rattle.group_engine.specs.Touching.{CanBringUpAll, all_brought_up, followed}
+use Rattle.group_engine.specs.Touching.{AreNumbered, all_brought_up, followed}
 use Rattle.group_engine.proofs.ActMoves.{IsAnswered, can-follow, can-looks, core-can-act, core-may-act, ended-told, ending-act, is-plain, told-is}
 use Rattle.group_engine.proofs.Bringing.{core-brought}
 use Rattle.group_engine.proofs.state.GroupState.act.Goals as goal
@@ -36,7 +36,7 @@ answered c at on = record {
 }
 
 looks-are : (c : After-act-answer) (at : Moment) → CanActOn at c.args.cpu.0 c.args.act c.args.parts.now c.args.self.now
-    → looked c.act-answer.result.looks ≡ looked_in at.group.setup c.args.cpu.0 c.args.act c.act-answer.result.reply c.args.self.now.core.facts
+    → looked at.group.setup c.act-answer.result.looks ≡ looked_in at.group.setup c.args.cpu.0 c.args.act c.act-answer.result.reply c.args.self.now.core.facts
 looks-are c at on = rw on.parts_are at c.act-answer.ensures.looks
 
 pub follow_run-requires : goal.follow_run-requires
@@ -53,12 +53,12 @@ bring_up_looked-requires c =
     let s1 : GroupState = record c.args.self.now { core = c.act-answer.new.self } in
     let can = can-looks at c.args.cpu.0 c.args.act c.args.self.now on.can c.act-answer.result.reply c.act-answer.new.self (answered done at on) in
     rw (c.follow_run.ensures, on.parts_are)
-    (subst (λ us. CanBringUpAll at.group.setup us (followed c.args.cpu.0 c.args.act c.act-answer.result.reply s1)) (sym (looks-are done at on)) can)
+    (subst (λ us. AreNumbered at.group.setup us (followed c.args.cpu.0 c.args.act c.act-answer.result.reply s1)) (sym (looks-are done at on)) can)
 
 -- the move is to be ended
 ending : (c : After-bring_up_looked) (at : Moment) → CanActOn at c.args.cpu.0 c.args.act c.args.parts.now c.args.self.now
     → IsAnswered at c.args.cpu.0 c.args.act c.args.self.now c.act-answer.result.reply c.act-answer.new.self
-    → looked c.act-answer.result.looks ≡ looked_in at.group.setup c.args.cpu.0 c.args.act c.act-answer.result.reply c.args.self.now.core.facts
+    → looked at.group.setup c.act-answer.result.looks ≡ looked_in at.group.setup c.args.cpu.0 c.args.act c.act-answer.result.reply c.args.self.now.core.facts
     → IsEnding at.group (Acted (past_act at.group c.args.cpu.0 c.args.act at.past) ∷ at.past) c.bring_up_looked.new.self
 ending c at on told looks =
     let s1 : GroupState = record c.args.self.now { core = c.act-answer.new.self } in
@@ -92,5 +92,5 @@ pub returns-clause-room : goal.returns-clause-room
 returns-clause-room c =
     let same =
     c.end_move.ensures.room ∙ ap (λ (s : GroupState). s.core.room) c.bring_up_looked.ensures
-    ∙ ap (λ (x : WithRoom). x.room) (core-brought c.args.parts.now (looked c.act-answer.result.looks) c.follow_run.new.self) ∙ ap (λ (s : GroupState). s.core.room) c.follow_run.ensures in
+    ∙ ap (λ (x : WithRoom). x.room) (core-brought c.args.parts.now (looked c.args.parts.now c.act-answer.result.looks) c.follow_run.new.self) ∙ ap (λ (s : GroupState). s.core.room) c.follow_run.ensures in
     omega (arith, same, c.act-answer.ensures.room)
