@@ -175,7 +175,7 @@ impl GroupSems {
         }
     }
 
-    /// The task is under way from now on, or no longer.
+    /// Writes whether the task is under way.
     #[tactic(auto, using(std::proofs::lemmas::List::set_past))]
     pub fn put_way(&mut self, task: TaskNo, way: bool)
         ensures { self.new ≡ record self.old {
