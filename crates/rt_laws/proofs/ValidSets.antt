@@ -11,7 +11,6 @@ use Rattle.rt_task.specs.Lookups.{group_of, is_fmlp_sem}
 use Rattle.rt_task.specs.NameRules.{piece_is_known, resv_is_known, step_name, task_name}
 use Rattle.rt_task.specs.RangeRules.{cluster_range, resv_range, step_range, task_range, whole_range}
 use Rattle.rt_task.specs.Refusals.{bad, each, first, first_failing, whole}
-use Rattle.rt_task.specs.Played.{is_played_protocol}
 use Rattle.rt_task.specs.RuleWords as words
 use Rattle.rt_task.specs.RuleWords.{all_same, first_of, is_fmlp, is_partitioned, allows_clusters, is_known, is_name, is_of_one_cluster, is_periodic, is_prio, is_span, no_repeat, piece_in_range, sem_numbers, stands_under, within}
 use Rattle.rt_task.specs.SharingRules.{clusters_sharing, has_fmlp_users, stands_apart, resv_sharing, sem_sharing, step_sharing, task_sharing}
@@ -342,7 +341,7 @@ module _ (g : Group) (valid : IsValid g.setup) where
 
   allowed : (s : ℕ) → has s (sems g) ≡ true → stands_under (protocol g s) g.setup.plugin ≡ true
   unfolding sem_sharing protocol
-  allowed s h = (both _ _ (both _ _ (sem_at s h).keeps).0).0
+  allowed s h = (both _ _ (sem_at s h).keeps).0
 
   one_cluster : (s : ℕ) → has s (sems g) ≡ true → is_of_one_cluster (protocol g s) g.setup.plugin ≡ true → all_same (clusters_sharing (draft_of g.setup) s) ≡ true
   unfolding sem_sharing protocol
@@ -350,7 +349,7 @@ module _ (g : Group) (valid : IsValid g.setup) where
       let r = sem_at s h in
       let at : length r.earlier + 1 ≡ s = omega (arith, r.number, (sem-numbered g s h).0) in
       let sharing : List ℕ = clusters_sharing (draft_of g.setup) (length r.earlier + 1) in
-      let tests = (both (stands_under (protocol g s) g.setup.plugin && is_played_protocol (protocol g s)) ((if is_of_one_cluster (protocol g s) g.setup.plugin then all_same sharing else all_same (map (group_of (draft_of g.setup)) sharing)) && stands_apart (draft_of g.setup) (protocol g s) (first_of sharing)) r.keeps).1 in
+      let tests = (both (stands_under (protocol g s) g.setup.plugin) ((if is_of_one_cluster (protocol g s) g.setup.plugin then all_same sharing else all_same (map (group_of (draft_of g.setup)) sharing)) && stands_apart (draft_of g.setup) (protocol g s) (first_of sharing)) r.keeps).1 in
       let test = (both (if is_of_one_cluster (protocol g s) g.setup.plugin then all_same sharing else all_same (map (group_of (draft_of g.setup)) sharing)) (stands_apart (draft_of g.setup) (protocol g s) (first_of sharing)) tests).0 in
       subst (λ n. all_same (clusters_sharing (draft_of g.setup) n) ≡ true) at (shared (is_of_one_cluster (protocol g s) g.setup.plugin) (all_same sharing) (all_same (map (group_of (draft_of g.setup)) sharing)) test one)
 
@@ -360,7 +359,7 @@ module _ (g : Group) (valid : IsValid g.setup) where
       let r = sem_at s h in
       let at : length r.earlier + 1 ≡ s = omega (arith, r.number, (sem-numbered g s h).0) in
       let sharing : List ℕ = clusters_sharing (draft_of g.setup) (length r.earlier + 1) in
-      let tests = (both (stands_under (protocol g s) g.setup.plugin && is_played_protocol (protocol g s)) ((if is_of_one_cluster (protocol g s) g.setup.plugin then all_same sharing else all_same (map (group_of (draft_of g.setup)) sharing)) && stands_apart (draft_of g.setup) (protocol g s) (first_of sharing)) r.keeps).1 in
+      let tests = (both (stands_under (protocol g s) g.setup.plugin) ((if is_of_one_cluster (protocol g s) g.setup.plugin then all_same sharing else all_same (map (group_of (draft_of g.setup)) sharing)) && stands_apart (draft_of g.setup) (protocol g s) (first_of sharing)) r.keeps).1 in
       let test = (both (if is_of_one_cluster (protocol g s) g.setup.plugin then all_same sharing else all_same (map (group_of (draft_of g.setup)) sharing)) (stands_apart (draft_of g.setup) (protocol g s) (first_of sharing)) tests).1 in
       subst (λ n. stands_apart (draft_of g.setup) (protocol g s) (first_of (clusters_sharing (draft_of g.setup) n)) ≡ true) at test
 

@@ -1,5 +1,5 @@
 -- Worked sets at the edges of the laws: two that reach the bounds, and sets that break one rule each, with a history in which a law fails.
-use Rattle.std.specs.Prelude.{◌≡◌, ℕ, true, false, List, [], ◌∷◌, ◌++◌, Some, refl}
+use Rattle.std.specs.Prelude.{◌≡◌, ℕ, true, false, List, [], ◌∷◌, ◌++◌, None, Some, refl}
 use Rattle.rt_task.specs.declared.Protocol.{Protocol}
 use Rattle.rt_task.specs.declared.Protocol.TheVariants.{Fmlp, Omlp, Pcp, Srp}
 use Rattle.rt_task.specs.declared.Resv.{Resv}
@@ -249,13 +249,13 @@ pub polling_beside-refused : refusal_of (reserved (reservation resv_kinds.Pollin
 unfolding rules_computed
 polling_beside-refused = refl
 
--- a semaphore whose protocol is not played
+-- a semaphore of SRP
 abbrev pub srp_shared : Group
 srp_shared = group_of plugins.PsnEdf (cluster_with 1 0 ∷ []) (shared Srp ∷ []) [] (named 97 (using (1 ∷ []) (periodic 1 1 1000 100)) ∷ [])
 
-pub srp-refused : refusal_of srp_shared.setup ≡ Some (bad kinds.Sharing parts.Sem 0)
+pub srp-accepted : refusal_of srp_shared.setup ≡ None
 unfolding rules_computed
-srp-refused = refl
+srp-accepted = refl
 
 -- slots out of order, a slot beyond the cycle, no slot, a budget that is not their sum, and slots of another kind
 pub out_of_order-refused : refusal_of (reserved (table 10 1 (slot 6 8 ∷ slot 4 5 ∷ []))).setup ≡ Some (bad kinds.Range parts.Resv 1)

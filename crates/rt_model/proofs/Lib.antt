@@ -3,4 +3,3 @@ pub mod TopLaws
 pub mod AnswerLaws
 pub mod PastLaws
 pub mod Steps
-pub mod Unplayed

@@ -1,5 +1,4 @@
 pub mod BoolLaws
-pub mod PlayedLaws
 pub mod MemberLaws
 pub mod PlacingLaws
 pub mod LinkLaws

@@ -4,7 +4,6 @@ pub mod RuleWords
 pub mod Bodies
 pub mod Lookups
 pub mod SlotRules
-pub mod Played
 pub mod RangeRules
 pub mod NameRules
 pub mod SharingRules

@@ -13,7 +13,6 @@ use Rattle.rt_task.specs.declared.draft.DraftStep.{DraftStep}
 use Rattle.rt_task.specs.declared.draft.DraftTask.{DraftTask}
 use Rattle.rt_task.specs.Bodies.{at_release, goes_on}
 use Rattle.rt_task.specs.Lookups.{group_of, cluster_with, is_stacked_sem, is_fmlp_sem, cluster_of_task, cluster_of_resv}
-use Rattle.rt_task.specs.Played.{is_played_protocol}
 use Rattle.rt_task.specs.RuleWords.{is_empty, has, all_same, first_of, is_p_res, stands_under, is_of_one_cluster, is_periodic, sem_numbers}
 use Rattle.rt_task.specs.SlotRules.{fit_together}
 use Rattle.rt_task.specs.declared.Act.TheVariants as acts
@@ -35,7 +34,7 @@ module _ (d : Draft) where
   unfoldable pub sem_sharing : List Sem → Sem → Bool
   sem_sharing earlier s =
       let sharing = clusters_sharing (length earlier + 1) in
-      (stands_under s.protocol d.plugin && is_played_protocol s.protocol)
+      stands_under s.protocol d.plugin
       && ((if is_of_one_cluster s.protocol d.plugin then all_same sharing else all_same (map (group_of d) sharing))
       && stands_apart s.protocol (first_of sharing))
 

@@ -33,7 +33,6 @@ use Rattle.rt_task.specs.Lookups.{cpus, group_of, cluster_with, is_stacked_sem, 
 use Rattle.rt_task.specs.NameRules.{sem_name, resv_name, task_name, step_name, act_is_known, op_is_known, piece_is_known, resv_is_known}
 use Rattle.rt_task.specs.RangeRules.{whole_range, cluster_range, resv_range, task_range, step_range}
 use Rattle.rt_task.specs.Refusals.{bad, first, whole, each, first_failing}
-use Rattle.rt_task.specs.Played.{is_played_protocol}
 use Rattle.rt_task.specs.RuleWords.{is_empty, is_known, is_name, is_span, is_prio, is_periodic, is_p_res, has, has_horizon, no_repeat, all_same, first_of, stands_under, is_of_one_cluster, piece_in_range, sem_numbers}
 use Rattle.rt_task.specs.SharingRules.{clusters_sharing, has_fmlp_users, stands_apart, sem_sharing, resv_sharing, resv_fits, task_sharing, act_is_in_group, step_sharing}
 use Rattle.rt_task.specs.SizeRules.{horizon_fits, whole_size, task_size}
@@ -217,8 +216,8 @@ module _ (d : Draft) where
   sem_again : (e : List Sem) (s : Sem) → sem_sharing (recut_draft d) e s ≡ sem_sharing d e s
   unfolding sem_sharing clusters_sharing group_of recut_draft
   sem_again e s =
-      ap (λ cs. (stands_under s.protocol d.plugin && is_played_protocol s.protocol) && (cond (is_of_one_cluster s.protocol d.plugin) (all_same cs) (all_same (map (group_of d) cs)) && stands_apart (recut_draft d) s.protocol (first_of cs))) (sharing_alike (length e + 1) d.tasks)
-      ∙ ap (λ b. (stands_under s.protocol d.plugin && is_played_protocol s.protocol) && (cond (is_of_one_cluster s.protocol d.plugin) (all_same (clusters_sharing d (length e + 1))) (all_same (map (group_of d) (clusters_sharing d (length e + 1)))) && b)) (apart_again s.protocol (first_of (clusters_sharing d (length e + 1))))
+      ap (λ cs. stands_under s.protocol d.plugin && (cond (is_of_one_cluster s.protocol d.plugin) (all_same cs) (all_same (map (group_of d) cs)) && stands_apart (recut_draft d) s.protocol (first_of cs))) (sharing_alike (length e + 1) d.tasks)
+      ∙ ap (λ b. stands_under s.protocol d.plugin && (cond (is_of_one_cluster s.protocol d.plugin) (all_same (clusters_sharing d (length e + 1))) (all_same (map (group_of d) (clusters_sharing d (length e + 1)))) && b)) (apart_again s.protocol (first_of (clusters_sharing d (length e + 1))))
 
   fits_again : (r : Bool) (c : ℕ) (o : Option ResvNo) → resv_fits (recut_draft d) r c o ≡ resv_fits d r c o
   unfolding cluster_of_resv recut_draft

@@ -8,7 +8,6 @@ mod bodies;
 mod ends;
 mod fmlp;
 mod name;
-mod played;
 mod range;
 mod seen;
 mod shape;

@@ -23,7 +23,6 @@ ghost use Rattle.rt_task.specs.Validity.{sharing_rows};
 use super::bodies::is_well_formed;
 use super::ends::{cluster_with, ends_of};
 use super::fmlp::fmlp_clusters;
-use super::played::is_played_protocol;
 use super::spread::{Spread, group_of, spreads_of};
 use super::stop;
 use super::tables::Tables;
@@ -90,7 +89,6 @@ fn sem_sharing(d: &Draft, spread: Spread, fmlp: &HashSet<u64>, s: &Sem) -> bool
         spread.one_group
     };
     stands_under(s.protocol, d.plugin)
-        && is_played_protocol(s.protocol)
         && is_near
         && stands_apart(s.protocol, spread.first, fmlp)
 }
