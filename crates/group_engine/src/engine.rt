@@ -19,6 +19,7 @@ ghost use Rattle.rt_model.specs.Steps.{IsStepOf};
 ghost use Rattle.rt_plays.specs.Homes.{IsProcessorOf};
 ghost use Rattle.rank_changes.specs.Clusters.{HoldsEligible};
 ghost use Rattle.resv_laws.specs.Tables.{FollowsTables};
+ghost use Rattle.rt_laws.specs.StackPolicy.{FollowsStack};
 ghost use Rattle.rt_groups.specs.Groups.{GroupHistory, group_of, past, with_entry, AreStepsOf, IsGroupOf, IsLegalNow};
 ghost use Rattle.rt_groups.specs.Endings.{ended_last};
 
@@ -167,6 +168,7 @@ impl Engine {
         ensures entry { self.new ≡ with_entry (record { step = step; reply = result }) self.old }
         ensures legal { IsLegalNow self.new }
         ensures tables { FollowsTables (group_of self.new) (past self.new) }
+        ensures stack { FollowsStack (group_of self.new) (past self.new) }
     {
         let parts = self.setup.parts();
         self.state.move_clock(parts, step.tick);
@@ -185,6 +187,7 @@ impl Engine {
         ensures entry { self.new ≡ with_entry (record { step = step; reply = result }) self.old }
         ensures legal { IsLegalNow self.new }
         ensures tables { FollowsTables (group_of self.new) (past self.new) }
+        ensures stack { FollowsStack (group_of self.new) (past self.new) }
         ensures waiting { AreWaitersAt (between self.old step) step.cpu.0 step.act list.new.waiting }
         ensures once { IsDistinct (waiter_tasks list.new.waiting) }
         ensures same_room { list.new.room ≡ list.old.room }

@@ -1,19 +1,23 @@
 -- SRP: each semaphore is free when it is asked for, so that it is held once at most.
-use Rattle.std.proofs.Common.{[], arith, length, sym, true, ℕ, ◌∙◌, ◌∷◌, ◌≡◌, ◌≤◌}
+use Rattle.std.proofs.Common.{List, [], arith, length, refl, subst, sym, true, ℕ, ◌∙◌, ◌∷◌, ◌≡◌, ◌≤◌}
+use Rattle.std.specs.Prelude.{None, Some}
+use Rattle.rt_task.specs.Validity.{IsValid}
 use Rattle.rt_task.specs.declared.Protocol.TheVariants.{Srp}
-use Rattle.rt_rules.specs.Numbers.{first}
+use Rattle.rt_task.specs.declared.Protocol.{Protocol}
+use Rattle.rt_rules.specs.Numbers.{first, has}
 use Rattle.rt_rules.specs.Pcp.{of_sem}
 use Rattle.rt_rules.specs.SemState.{Asks}
 use Rattle.rt_model.specs.Group.{Group, protocol}
+use Rattle.rt_model.specs.Holders.{holder}
 use Rattle.rt_model.specs.Past.{Event, Past, sem_act}
 use Rattle.rt_model.specs.Reachable.{IsReachable}
 use Rattle.rt_model.specs.Semaphores.{cluster_of}
-use Rattle.rt_model.specs.StackPolicy.{srp, srp_at}
+use Rattle.rt_model.specs.StackPolicy.{is_srp, srp, srp_at}
 use Rattle.rt_rules.proofs.MemberLaws.{some-is}
 use Rattle.rt_rules.proofs.PairLaws.{has-of_sem, has_pair}
 use Rattle.rt_rules.proofs.SrpLaws.{first-srp, nothing-there, srp-once}
 use Rattle.rt_laws.specs.SemaphoreLaws.{StandsOnce}
-use Rattle.rt_laws.specs.StackPolicy.{NobodyWaitsForSrp, SrpHolderIsUnderWay, SrpIsFreeAtLock}
+use Rattle.rt_laws.specs.StackPolicy.{NobodyWaitsForSrp, SrpHolderIsUnderWay, SrpIsFreeAtLock, StackIsFollowed, WereFree}
 use Rattle.rt_laws.proofs.AtSem.{srp_at-asks}
 use Rattle.rt_laws.proofs.Moves.{IsMove, by_moves, last_move}
 use Rattle.rt_laws.proofs.Rules.{MeetsRules}
@@ -55,3 +59,14 @@ srp_holder_is_under_way g past valid made t s p h =
     let pair : has_pair t s (srp g (cluster_of g s) past) ≡ true = first-srp t s (srp g (cluster_of g s) past) (some-is t (first (of_sem s (srp g (cluster_of g s) past))) (sym (srp-holder g s past q) ∙ h)) in
     let u : IsSrpUser g (cluster_of g s) t s = srp_users g (rules_of g valid) (cluster_of g s) made t s pair in
     (srp_state g (rules_of g valid) (cluster_of g s) (srp_cluster g (rules_of g valid) (cluster_of g s) t s u.of_srp u.user u.at_home) made).holds_way t s pair
+
+were_free : (g : Group) (past : Past) → IsValid g.setup → IsReachable g past → WereFree g past
+were_free g [] valid made = tt
+were_free g (e ∷ past) valid made = (λ t s p h. srp_is_free_at_lock g e past valid made t s p h, were_free g past valid (last_move g made).0)
+
+pub stack_is_followed : StackIsFollowed
+stack_is_followed g past valid made = record {
+  were_free = were_free g past valid made;
+  nobody_waits = nobody_waits_for_srp g past valid made;
+  on_the_way = srp_holder_is_under_way g past valid made;
+}

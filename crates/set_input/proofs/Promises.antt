@@ -11,6 +11,7 @@ use Rattle.rt_laws.proofs.HolderLinked.{holder_is_linked}
 use Rattle.rt_laws.proofs.PriorityCeiling.{later_is_above_ceiling, waiting_does_not_pass, walks_end}
 use Rattle.rt_laws.proofs.SemaphoreLaws.{histories_are_made, one_holder}
 use Rattle.resv_laws.proofs.TableLaws.{tables_are_followed}
+use Rattle.rt_laws.proofs.SrpOnce.{stack_is_followed}
 use Rattle.count_laws.proofs.Bounds.{seen_within_bound}
 use Rattle.set_input.specs.LinksOf.{LinksAreTheTopOf}
 use Rattle.set_input.specs.Throughout.{AfterEach, HoldsThroughout}
@@ -32,4 +33,5 @@ holds-throughout p hs valid = record {
   later_above = law-after _ later_is_above_ceiling p hs valid;
   bounds = law-after _ seen_within_bound p hs valid;
   tables = law-after _ tables_are_followed p hs valid;
+  stack = law-after _ stack_is_followed p hs valid;
 }

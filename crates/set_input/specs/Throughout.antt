@@ -12,6 +12,7 @@ use Rattle.rt_model.specs.Past.{Past}
 use Rattle.rt_laws.specs.HolderIsLinked.{HasLinkedHolder, is_global}
 use Rattle.rt_laws.specs.PriorityCeiling.{WalkEnds}
 use Rattle.rt_laws.specs.SemaphoreLaws.{HasOneGrant}
+use Rattle.rt_laws.specs.StackPolicy.{FollowsStack}
 use Rattle.resv_laws.specs.Tables.{FollowsTables}
 use Rattle.count_laws.specs.OpenLaws.{IsWithin}
 use Rattle.count_laws.specs.Tallies.{tallies}
@@ -63,3 +64,4 @@ pub record HoldsThroughout (p : Parts) (hs : List (List Entry)) : Type 0 where
   pub later_above : AfterEach LaterIsAbove p hs
   pub bounds : AfterEach RequestsAreBounded p hs
   pub tables : AfterEach FollowsTables p hs
+  pub stack : AfterEach FollowsStack p hs

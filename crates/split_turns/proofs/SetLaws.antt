@@ -77,7 +77,7 @@ mpcp-plugin p s valid is = by_case (nat_lt (s - 1) (length p.sems)) refl
     by_case : (b : Bool) → nat_lt (s - 1) (length p.sems) ≡ b → p.plugin ≡ plugins.PFp
     by_case true h =
         let k = (keeps_rows p valid).sem (s - 1) no_sem (ltb-true _ _ h) in
-        let under : stands_under (slice_index_or p.sems (s - 1) no_sem).protocol p.plugin ≡ true = (both _ _ (both _ _ k.keeps).0).0 in
+        let under : stands_under (slice_index_or p.sems (s - 1) no_sem).protocol p.plugin ≡ true = (both _ _ k.keeps).0 in
         plugin-is p.plugin (ap (λ x. stands_under x p.plugin) (sym is) ∙ under)
     by_case false h =
         let none = ap (λ (x : Sem). x.protocol) (beyond p.sems (s - 1) (ltb-false _ _ h)) in

@@ -4,6 +4,7 @@ use Rattle.rt_groups.specs.Groups.{GroupHistory, group_of, past}
 use Rattle.rt_plays.specs.Plays.{group_with}
 use Rattle.resv_laws.proofs.TableLaws.{tables_are_followed}
 use Rattle.rt_laws.proofs.SemaphoreLaws.{histories_are_made}
+use Rattle.rt_laws.proofs.SrpOnce.{stack_is_followed}
 use Rattle.group_engine.specs.Sound.{IsMoved}
 use Rattle.group_engine.proofs.Stepping.{can_move, has_moved, moment, of_group}
 use Rattle.group_engine.proofs.engine.Engine.step.Goals as goal
@@ -37,6 +38,9 @@ returns-clause-reply c = c.settle-settled.ensures.reply _ (moved (goal.at.return
 
 pub returns-clause-legal : goal.returns-clause-legal
 returns-clause-legal c = (c.settle-settled.ensures.sound _ (moved (goal.at.returns-clause-legal c).After-settle-settled)).legal
+
+pub returns-clause-stack : goal.returns-clause-stack
+returns-clause-stack c = stack_is_followed _ _ c.parts-parts.ensures.valid (histories_are_made _ _)
 
 pub returns-clause-tables : goal.returns-clause-tables
 returns-clause-tables c = tables_are_followed _ _ c.parts-parts.ensures.valid (histories_are_made _ _)

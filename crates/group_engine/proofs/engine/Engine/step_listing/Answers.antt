@@ -6,6 +6,7 @@ use Rattle.rt_plays.specs.Plays.{group_with}
 use Rattle.group_core.specs.Words.{AreWaitersAt}
 use Rattle.resv_laws.proofs.TableLaws.{tables_are_followed}
 use Rattle.rt_laws.proofs.SemaphoreLaws.{histories_are_made}
+use Rattle.rt_laws.proofs.SrpOnce.{stack_is_followed}
 use Rattle.group_engine.specs.Moments.{between}
 use Rattle.group_engine.specs.Sound.{IsMoved}
 use Rattle.group_engine.proofs.Stepping.{at_tick, can_act, can_move, has_moved, moment, of_group}
@@ -58,6 +59,9 @@ pub returns-clause-waiting : goal.returns-clause-waiting
 returns-clause-waiting c =
     subst (λ (h : GroupHistory). AreWaitersAt (between h c.args.step) c.args.step.cpu.0 c.args.step.act c.list_waiting.new.list.waiting) c.self.view_is
     (c.list_waiting.ensures.waiting (at_tick _ _ _ _ _ _ (moved (goal.at.returns-clause-waiting c).After-settle-settled)) (can_act _ _ _ _ _ _ (moved (goal.at.returns-clause-waiting c).After-settle-settled)))
+
+pub returns-clause-stack : goal.returns-clause-stack
+returns-clause-stack c = stack_is_followed _ _ c.parts-parts.ensures.valid (histories_are_made _ _)
 
 pub returns-clause-tables : goal.returns-clause-tables
 returns-clause-tables c = tables_are_followed _ _ c.parts-parts.ensures.valid (histories_are_made _ _)

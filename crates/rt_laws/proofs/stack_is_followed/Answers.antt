@@ -1,0 +1,5 @@
+use Rattle.rt_laws.proofs.SrpOnce as laws
+use Rattle.rt_laws.proofs.stack_is_followed.Goals as goal
+
+pub returns : goal.returns
+returns c = laws.stack_is_followed
