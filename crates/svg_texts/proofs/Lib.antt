@@ -1,1 +1,1 @@
-mod Lanes
+pub mod Lanes

@@ -1,5 +1,5 @@
 -- The legend: fifteen drawings, each with its words, three in a row. A drawing at x stands over z.
-use Rattle.std.specs.Prelude.{ℕ, ◌+◌, ◌-◌, true, false, List, ◌++◌, codes}
+use Rattle.std.specs.Prelude.{ℕ, ◌+◌, ◌-◌, Bool, true, false, List, ◌++◌, codes}
 use Rattle.svg_texts.specs.Bars.{bar}
 use Rattle.svg_texts.specs.Shapes.{deadline, end, rect, release, words}
 
@@ -19,11 +19,14 @@ mark_items z =
     ++ (deadline (codes "d") 365 z ++ (says 350 z (codes "deadline, at the end of its tick")
     ++ (deadline (codes "M") 695 z ++ says 680 z (codes "deadline missed")))))
 
+abbrev pub sample : Bool → ℕ → ℕ → List ℕ
+sample full x z = bar full 1 x (z - 24) 30 22 (codes "0")
+
 unfoldable pub bar_items : ℕ → List ℕ
 bar_items z =
     end 35 z ++ (says 20 z (codes "end of a job")
-    ++ (bar true 1 350 (z - 24) 30 22 (codes "0") ++ (says 350 z (codes "units of work, on processor 0")
-    ++ (bar false 1 680 (z - 24) 30 22 (codes "0") ++ says 680 z (codes "runs on 0, and does no unit")))))
+    ++ (sample true 350 z ++ (says 350 z (codes "units of work, on processor 0")
+    ++ (sample false 680 z ++ says 680 z (codes "runs on 0, and does no unit")))))
 
 unfoldable pub still_items : ℕ → List ℕ
 still_items z =

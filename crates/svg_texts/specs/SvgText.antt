@@ -20,18 +20,19 @@ use Rattle.svg_texts.specs.Shapes.{number, rect, words}
 use Rattle.svg_texts.specs.Style.{style}
 use Rattle.svg_texts.specs.TaskRows.{task_rows}
 
+abbrev pub task_label_length : Task → ℕ
+task_label_length t = length (decimal t.number.0) + 1 + length t.name
+
 -- the length of the longest label, or 12
 abbrev pub label_length : List Task → List Resv → ℕ
-label_length tasks resvs =
-    fold max 12
-    (map (λ (t : Task). length (decimal t.number.0) + 1 + length t.name) tasks ++ map (λ (r : Resv). length r.name) resvs)
+label_length tasks resvs = fold max 12 (map task_label_length tasks ++ map (λ (r : Resv). length r.name) resvs)
 
 -- where the columns begin
 unfoldable pub left_edge : Parts → ℕ
 left_edge p = 7 * label_length p.tasks p.resvs + 24
 
 abbrev pub wide : ℕ → ℕ → ℕ
-wide left n = max (left + 20 * n + 30) 1010
+wide edge n = max (edge + 20 * n + 30) 1010
 
 -- the heights of a group's rows, of the group with its head, and of the semaphores
 abbrev pub rows_height : Panel → ℕ
@@ -60,39 +61,40 @@ head w h =
     ++ (style
     ++ rect (codes "o") 0 0 w h)))))))
 
+abbrev pub axis_words : Axis → ℕ → ℕ → List ℕ
+axis_words Ticks edge y = words (codes "n e") (edge - 12) (y + 50) (codes "tick")
+axis_words Entries edge y =
+    words (codes "n e") (edge - 12) (y + 36) (codes "clock") ++ words (codes "n e") (edge - 12) (y + 50) (codes "entry")
+
 unfoldable pub group_words : Axis → ℕ → ℕ → ℕ → List ℕ
-group_words axis left y g = words (codes "h") 20 (y + 16) (codes "group " ++ decimal g) ++ by_axis axis
-  where
-    by_axis : Axis → List ℕ
-    by_axis Ticks = words (codes "n e") (left - 12) (y + 50) (codes "tick")
-    by_axis Entries =
-        words (codes "n e") (left - 12) (y + 36) (codes "clock") ++ words (codes "n e") (left - 12) (y + 50) (codes "entry")
+group_words axis edge y g = words (codes "h") 20 (y + 16) (codes "group " ++ decimal g) ++ axis_words axis edge y
 
-module _ (p : Parts) (axis : Axis) (w : Window) (step : ℕ) where
-  abbrev pub shown : ℕ
-  shown = w.to - w.from
+-- the rows of a group whose head begins at y: of tasks, processors and reservations
+unfoldable pub rows_text : Parts → ℕ → ℕ → ℕ → Panel → List ℕ
+rows_text p edge n y c =
+    let tasks = y + 56 in
+    let cpus = tasks + 52 * length c.tasks + 8 in
+    let resvs = cpus + 36 * length c.cpus in
+    task_rows p edge n tasks 0 c.tasks ++ (cpu_rows p edge n cpus 0 c.cpus ++ resv_rows p edge n resvs 0 c.resvs)
 
-  -- a group whose head begins at y: its words, the grid, and the rows of tasks, processors and reservations
-  unfoldable pub panel_text : ℕ → ℕ → Panel → List ℕ
-  panel_text left y c =
-      let tasks = y + 56 in
-      let cpus = tasks + 52 * length c.tasks + 8 in
-      let resvs = cpus + 36 * length c.cpus in
-      group_words axis left y c.group
-      ++ (grid axis step left y c (rows_height c) w.from shown
-      ++ (task_rows p left shown tasks c.tasks
-      ++ (cpu_rows p left shown cpus c.cpus
-      ++ resv_rows p left shown resvs c.resvs)))
+module _ (p : Parts) (axis : Axis) (w : Window) (step : ℕ) (edge : ℕ) where
+  -- a group: its words, the grid, and the rows
+  unfoldable pub panel_text : ℕ → Panel → List ℕ
+  panel_text y c =
+      group_words axis edge y c.group
+      ++ (grid axis step edge y c (rows_height c) w.from (w.to - w.from)
+      ++ rows_text p edge (w.to - w.from) y c)
 
-  unfoldable pub panel_texts : ℕ → ℕ → List Panel → List ℕ
-  panel_texts left y [] = []
-  panel_texts left y (c ∷ cs) = panel_text left y c ++ panel_texts left (y + panel_height c) cs
+  unfoldable pub panel_texts : ℕ → List Panel → List ℕ
+  panel_texts y [] = []
+  panel_texts y (c ∷ cs) = panel_text y c ++ panel_texts (y + panel_height c) cs
 
--- semaphore s by number, three in a row; i is its number from 0
+abbrev pub sem_says : ℕ → Sem → List ℕ
+sem_says number s = short_name number ++ (codes " is " ++ (s.name ++ (codes ", " ++ protocol_word s.protocol)))
+
+-- semaphore i, counted from 0; three stand in a row
 unfoldable pub sem_words : ℕ → ℕ → Sem → List ℕ
-sem_words y i s =
-    words (codes "t") (20 + 330 * (i % 3)) (y + 12 + 16 * (i / 3))
-    (short_name (i + 1) ++ (codes " is " ++ (s.name ++ (codes ", " ++ protocol_word s.protocol))))
+sem_words y i s = words (codes "t") (20 + 330 * (i % 3)) (y + 12 + 16 * (i / 3)) (sem_says (i + 1) s)
 
 unfoldable pub sems_from : ℕ → ℕ → List Sem → List ℕ
 sems_from y i [] = []
@@ -105,11 +107,11 @@ foot y sems = sems_from y 0 sems ++ (legend (y + sems_height (length sems)) ++ c
 -- the text of what a chart shows; the groups begin at 40, and the legend is 252 high
 unfoldable pub svg_of : Parts → Axis → Window → Chart → List ℕ
 svg_of p axis w chart =
-    let left = left_edge p in
+    let edge = left_edge p in
     let y = below 40 chart.panels in
-    head (wide left (w.to - w.from)) (y + sems_height (length p.sems) + 252)
+    head (wide edge (w.to - w.from)) (y + sems_height (length p.sems) + 252)
     ++ (words (codes "h") 20 26 (title p axis w chart.length)
-    ++ (panel_texts p axis w (step_of axis w chart.panels) left 40 chart.panels
+    ++ (panel_texts p axis w (step_of axis w chart.panels) edge 40 chart.panels
     ++ foot y p.sems))
 
 -- the picture of a set and its histories, in a window, and in the one that is taken where none is asked for

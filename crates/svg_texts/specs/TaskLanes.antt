@@ -12,14 +12,17 @@ use Rattle.svg_texts.specs.Lanes.{lane}
 use Rattle.svg_texts.specs.Parts.{Part, held, job, raised, section}
 use Rattle.svg_texts.specs.Shapes.{rect, words}
 
+-- the processors on which a task works or runs
+abbrev pub places : List ℕ → List ℕ
+places qs = join_with_byte 43 (map decimal qs)
+
+abbrev pub draw_if : List ℕ → ℕ → ℕ → ℕ → ℕ → Bool → List ℕ
+draw_if c y h x w so = if so then rect c x y w h else []
+
 module _ (p : Parts) where
   -- a box with the semaphore that the task waits for
   abbrev pub box : List ℕ → ℕ → ℕ → ℕ → ℕ → List ℕ
   box c s y x w = rect c x (y + 16) w 22 ++ words_if (codes "m") (x + w / 2) (y + 28) (fit (sem_at p s).name (short_name s) w)
-
-  -- the processors on which it works or runs
-  abbrev pub places : List ℕ → List ℕ
-  places qs = join_with_byte 43 (map decimal qs)
 
   unfoldable pub draw_doing : ℕ → ℕ → ℕ → ℕ → Doing → List ℕ
   draw_doing t y x w (cells.works qs) = bar true t x (y + 16) w 22 (places qs)
@@ -40,9 +43,6 @@ module _ (p : Parts) where
   unfoldable pub draw_held : ℕ → ℕ → ℕ → List ℕ → List ℕ
   draw_held y x w [] = []
   draw_held y x w (s ∷ ss) = rect (codes "s") x (y + 32) w 6 ++ words (codes "n") (x + 1) (y + 47) (held_words w (s ∷ ss))
-
-  abbrev pub draw_if : List ℕ → ℕ → ℕ → ℕ → ℕ → Bool → List ℕ
-  draw_if c y h x w so = if so then rect c x y w h else []
 
   unfoldable pub draw_task_part : ℕ → ℕ → ℕ → ℕ → Part → List ℕ
   draw_task_part t y x w (job d k) = draw_doing t y x w d

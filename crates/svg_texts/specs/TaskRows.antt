@@ -1,5 +1,5 @@
 -- The row of a task, 52 pixels high: its name, its lanes, its line, and its marks.
-use Rattle.std.specs.Prelude.{ℕ, ◌+◌, ◌-◌, ◌*◌, List, [], ◌∷◌, ◌++◌, codes, decimal, if◌then◌else◌}
+use Rattle.std.specs.Prelude.{ℕ, suc, ◌+◌, ◌-◌, ◌*◌, List, [], ◌∷◌, ◌++◌, codes, decimal, if◌then◌else◌}
 use Rattle.rt_task.specs.declared.Parts.{Parts}
 use Rattle.trace_views.specs.Marks.{Marks}
 use Rattle.chart_texts.specs.Charts.{Marked, TaskRow}
@@ -14,21 +14,23 @@ draw_marks x y m =
     ++ ((if m.deadline then deadline (if m.missed then codes "M" else codes "d") (x + 20) y else [])
     ++ (if m.end then end (x + 20) y else []))
 
-unfoldable pub marks_from : ℕ → ℕ → List Marked → List ℕ
-marks_from x y [] = []
-marks_from x y (c ∷ cs) = draw_marks x y c.marks ++ marks_from (x + 20) y cs
+-- the marks of the columns from i on
+unfoldable pub marks_from : ℕ → ℕ → ℕ → List Marked → List ℕ
+marks_from edge y i [] = []
+marks_from edge y i (c ∷ cs) = draw_marks (edge + 20 * i) y c.marks ++ marks_from edge y (suc i) cs
 
-module _ (p : Parts) (left : ℕ) (n : ℕ) where
-  abbrev pub task_words : ℕ → List ℕ
-  task_words t = decimal t ++ (32 ∷ (task_at p t).name)
+abbrev pub task_words : Parts → ℕ → List ℕ
+task_words p t = decimal t ++ (32 ∷ (task_at p t).name)
 
+module _ (p : Parts) (edge : ℕ) (n : ℕ) where
   unfoldable pub task_row : ℕ → TaskRow → List ℕ
   task_row y r =
-      words (codes "e") (left - 8) (y + 32) (task_words r.task)
-      ++ (task_lanes p left r.task y r.cells
-      ++ (line (codes "b") left (y + 38) (20 * n) 0
-      ++ marks_from left (y + 38) r.cells))
+      words (codes "e") (edge - 8) (y + 32) (task_words p r.task)
+      ++ (task_lanes p edge r.task y r.cells
+      ++ (line (codes "b") edge (y + 38) (20 * n) 0
+      ++ marks_from edge (y + 38) 0 r.cells))
 
-  unfoldable pub task_rows : ℕ → List TaskRow → List ℕ
-  task_rows y [] = []
-  task_rows y (r ∷ rs) = task_row y r ++ task_rows (y + 52) rs
+  -- the rows from number i on
+  unfoldable pub task_rows : ℕ → ℕ → List TaskRow → List ℕ
+  task_rows y i [] = []
+  task_rows y i (r ∷ rs) = task_row (y + 52 * i) r ++ task_rows y (suc i) rs
