@@ -1,2 +1,4 @@
 pub mod Cells
 pub mod Charts
+pub mod Kept
+pub mod KeptLaws

@@ -1,8 +1,16 @@
 //! What a chart shows, as data: of each group what its tasks, processors and reservations do in the columns of a window.
 #![tactic(auto)]
 
+ghost use Rattle.chart_cells.specs.KeptLaws.{KeptCellsFollow};
+
 mod cells;
 mod chart;
+mod kept;
 
 pub use cells::{Cell, CpuCell, Doing, Marked, Marks, Playing};
 pub use chart::{Chart, CpuRow, Panel, ResvRow, TaskRow};
+
+/// A cell that is kept of a column changes by each state and each unit of the column alone, and finished it is the task's cell.
+pub fn kept_cells_follow()
+    ensures { KeptCellsFollow }
+{}

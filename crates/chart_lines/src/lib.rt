@@ -9,4 +9,4 @@ mod rows;
 mod rulers;
 mod tasks;
 
-pub use page::chart_text;
+pub use page::{chart_text, put_title};

@@ -31,7 +31,7 @@ fn axis_word(axis: Axis) -> &'static [u8]
 
 /// The scheduler, and which part of how much is shown.
 #[tactic(auto, using(std::proofs::Common::append_assoc), unfolding(chart_texts::specs::ChartText::title))]
-fn put_title(
+pub fn put_title(
     out: &mut Vec<u8>,
     parts: &Parts,
     axis: Axis,

@@ -1,0 +1,17 @@
+pub mod Shapes
+pub mod Elements
+pub mod Bars
+pub mod Parts
+pub mod Lanes
+pub mod TaskLanes
+pub mod TaskRows
+pub mod CpuRows
+pub mod Grids
+pub mod Style
+pub mod Legend
+pub mod SvgText
+pub mod Computed
+pub mod LaneLaws
+pub mod WorkedShapes
+pub mod WorkedPictures
+pub mod WorkedBudgets
