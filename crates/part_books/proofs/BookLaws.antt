@@ -95,6 +95,7 @@ module _ (p : Parts) (q s t : ℕ) (books : Books) (es : List SplitEntry) (x : S
       let places = index-mapped (quota p s) (processor_count p) q at.there in
       let here : t < length p.tasks + 1 = omega (arith, low) in
       record {
+        low = at.low;
         known = omega (arith, homes, low);
         at_home = sym (index-mapped (λ u. seat_of (group_with p 0) u) (length p.tasks + 1) t here ∙ same-seat p 0 (group_no p q) t ∙ at.at_home);
         room = omega (arith, room, made, places);

@@ -48,6 +48,7 @@ pub record StandsAt (p : Parts) (q s t : ℕ) (books : Books) (es : List SplitEn
   pub kept : book.IsLegalSem (book_of p s) (books s)
   pub next : ComesNext (script (steps_given p.drive) q) q es x
   pub names : names_sem s x.act ≡ true
+  pub low : 1 ≤ t
   pub known : t ≤ length p.tasks
   pub at_home : seat_of (part_group p q) t ≡ q
 

@@ -56,7 +56,7 @@ module _ (sem : SemNo) (queue : Queue) (homes prios quotas : List ℕ) (es : Lis
       (λ is. subst (λ k. made_by k es' ≤ slice_index quotas k) (sym is) (let a = made_here q es e cpu in let b = may.room in omega arith))
       (λ ne. let a = made_else p es e (λ is. ne (sym is ∙ cpu)) in let b = kept.history.within p in omega arith) in
       let few : length es' ≤ sum_of quotas = let a = sum_within (λ p. made_by p es') quotas within in omega arith in
-      let at : IsEntryAt s (sem_state s es) e = record { known = rw task may.known; at_home = cpu ∙ may.at_home ∙ ap (slice_index homes) (sym task); act = rw task act } in
+      let at : IsEntryAt s (sem_state s es) e = record { low = rw task may.low; known = rw task may.known; at_home = cpu ∙ may.at_home ∙ ap (slice_index homes) (sym task); act = rw task act } in
       let history : IsHistory s es' = record { legal = legal_push s nobody es e kept.history.legal at; within = within; few = few } in
       let after : state_of queue' ≡ sem_state s es' = state ∙ ap (after_act s t e.act) kept.state ∙ ap (λ k. after_act s k e.act (sem_state s es)) (sym task) ∙ sym (state_push s nobody es e) in
       record {

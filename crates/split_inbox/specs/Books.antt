@@ -77,6 +77,7 @@ module _ (s : SemOf) where
 
   -- an entry is one of its task's processor, with the outcome that it comes to
   pub record IsEntryAt (l : SemState) (e : SemEntry) : Type 0 where
+    pub low : 1 ≤ e.task.0
     pub known : e.task.0 < length s.homes
     pub at_home : e.cpu.0 ≡ slice_index s.homes e.task.0
     pub act : IsActAt e.task.0 e.act l
@@ -91,6 +92,7 @@ module _ (s : SemOf) where
 
   -- a processor may add an entry of a task
   pub record MayAdd (es : List SemEntry) (q t : ℕ) : Type 0 where
+    pub low : 1 ≤ t
     pub known : t < length s.homes
     pub at_home : q ≡ slice_index s.homes t
     pub room : made_by q es < slice_index s.quotas q

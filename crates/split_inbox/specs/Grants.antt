@@ -1,5 +1,5 @@
 -- Grants.
-use Rattle.std.specs.Prelude.{◌≡◌, ℕ, ◌-◌, false, List, Some, slice_get}
+use Rattle.std.specs.Prelude.{◌≡◌, ℕ, ◌-◌, ◌≤◌, false, List, Some, slice_get}
 use Rattle.rt_base.specs.declared.TaskNo.{TaskNo}
 use Rattle.turn_cell.specs.Places.{Cell, Place, IsSplitOff}
 use Rattle.split_inbox.specs.Books.{IsLegalSem}
@@ -31,6 +31,7 @@ IsGrantedIn c es = (t : TaskNo) × (slice_get es c.no ≡ Some (record {
 pub record IsGrant (turns : List (Cell SemOf)) (g : GrantOf) : Type 0 where
   pub split_off : IsSplitOff g.seen
   pub rests : g.seen.holds ≡ false
+  pub low : 1 ≤ g.claim.sem
   pub turn : slice_get turns (g.claim.sem - 1) ≡ Some g.seen.cell
   pub granted : IsGrantedIn g.claim g.seen.seen
   pub legal : (s : SemOf) → g.seen.cell.subject ≡ Some s → IsLegalSem s g.seen.seen

@@ -1,0 +1,4 @@
+pub mod Players
+pub mod Replies
+pub mod Openings
+pub mod Kept

@@ -1,0 +1,13 @@
+pub mod BookLists
+pub mod TurnLaws
+pub mod WaiterLaws
+pub mod MeetingLaws
+pub mod PlaceLaws
+pub mod PassLaws
+pub mod PlayLaws
+pub mod OpenLaws
+pub mod TakeLaws
+pub mod SendLaws
+pub mod StepLaws
+pub mod RisingLaws
+pub mod SeatLaws

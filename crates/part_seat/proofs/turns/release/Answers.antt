@@ -1,0 +1,16 @@
+use Rattle.std.proofs.Common.{refl, ap, ◌∙◌}
+use Rattle.part_seat.proofs.TurnLaws.{about-is, has-given, is-found}
+use Rattle.part_seat.proofs.turns.release.Goals as goal
+
+pub release-next-requires-clause-add : goal.release-next-requires-clause-add
+release-next-requires-clause-add g c =
+    let t = c.take-book.ensures in
+    let found = is-found _ c.args.cpu.0 _ c.args.seat.now.seen c.take-book.result refl c.requires.seat.0 c.entries-found.ensures.kept t.later t.mine in
+    (c.requires.may c.take-book.result.about (ap (λ k. k.subject) c.requires.cell ∙ t.subject) c.take-book.result.entries found).add
+
+pub returns-clause-given : goal.returns-clause-given
+returns-clause-given g c s here =
+    let t = c.take-book.ensures in
+    let about = about-is _ _ s _ c.requires.cell here t.subject in
+    let found = is-found s c.args.cpu.0 _ c.args.seat.now.seen c.take-book.result about c.requires.seat.0 c.entries-found.ensures.kept t.later t.mine in
+    has-given s c.args.cpu.0 _ c.args.seat.now _ _ c.take-book.result _ about found c.requires.seat.1 t.seat c.release-next.ensures.entry c.entries-given.ensures.kept c.give.ensures

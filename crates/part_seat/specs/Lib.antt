@@ -1,0 +1,4 @@
+pub mod Partitions
+pub mod AtTurns
+pub mod PartSeats
+pub mod Steps
