@@ -1,5 +1,6 @@
 -- Rulers: numbers over the columns.
-use Rattle.std.specs.Prelude.{ℕ, suc, ◌*◌, ◌%◌, ◌==◌, ◌||◌, nat_lt, List, [], ◌∷◌, ◌++◌, length, map, Option, None, Some, codes, decimal, if◌then◌else◌}
+use Rattle.std.specs.Prelude.{ℕ, suc, ◌*◌, ◌%◌, ◌==◌, ◌||◌, nat_lt, List, [], ◌∷◌}
+use Rattle.std.specs.Prelude.{◌++◌, length, map, Option, None, Some, codes, decimal, if◌then◌else◌}
 use Rattle.rt_rules.specs.Numbers.{is, is_empty}
 use Rattle.chart_texts.specs.declared.window.Axis.{Axis}
 use Rattle.chart_texts.specs.declared.window.Axis.TheVariants.{Ticks, Entries}

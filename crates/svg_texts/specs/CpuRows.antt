@@ -1,5 +1,6 @@
 -- The rows of processors and reservations, 36 pixels high.
-use Rattle.std.specs.Prelude.{ℕ, suc, ◌+◌, ◌-◌, ◌*◌, ◌/◌, Bool, true, false, ◌==◌, max, List, [], ◌∷◌, ◌++◌, map, codes, decimal, Option, None, Some}
+use Rattle.std.specs.Prelude.{ℕ, suc, ◌+◌, ◌-◌, ◌*◌, ◌/◌, Bool, true, false, ◌==◌, max}
+use Rattle.std.specs.Prelude.{List, [], ◌∷◌, ◌++◌, map, codes, decimal, Option, None, Some}
 use Rattle.std.specs.Prelude.{if◌then◌else◌}
 use Rattle.rt_task.specs.declared.Parts.{Parts}
 use Rattle.trace_views.specs.Cells.{CpuCell, Playing}

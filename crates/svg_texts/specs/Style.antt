@@ -18,4 +18,5 @@ style =
     ++ (codes "<defs><pattern id=\"hatch\" width=\"4\" height=\"4\" patternUnits=\"userSpaceOnUse\"><rect width=\"4\" height=\"4\" fill"
     ++ (codes "=\"#fff\"/><path d=\"M-1 1l2-2M0 4l4-4M3 5l2-2\" stroke=\"#222\"/></pattern><pattern id=\"dots\" width=\"5\" height=\"4"
     ++ (codes "\" patternUnits=\"userSpaceOnUse\"><rect width=\"2\" height=\"4\" fill=\"#555\"/></pattern><pattern id=\"teeth\" width="
-    ++ codes "\"6\" height=\"4\" patternUnits=\"userSpaceOnUse\"><path d=\"M0 4l3-4l3 4z\" fill=\"#0050b0\"/></pattern></defs>\n"))))))))))))))
+    ++ codes "\"6\" height=\"4\" patternUnits=\"userSpaceOnUse\"><path d=\"M0 4l3-4l3 4z\" fill=\"#0050b0\"/></pattern></defs>\n"
+    ))))))))))))))

@@ -49,17 +49,14 @@ abbrev pub sems_height : ℕ → ℕ
 sems_height n = 16 * ((n + 2) / 3)
 
 -- the document begins with its size, the style, and a white ground
+unfoldable pub size : ℕ → ℕ → List ℕ
+size w h = codes "<svg xmlns=\"http://www.w3.org/2000/svg\"" ++ (number (codes "width") w ++ number (codes "height") h)
+
+unfoldable pub view_box : ℕ → ℕ → List ℕ
+view_box w h = codes " viewBox=\"0 0 " ++ (decimal w ++ (32 ∷ decimal h ++ codes "\">\n"))
+
 unfoldable pub head : ℕ → ℕ → List ℕ
-head w h =
-    codes "<svg xmlns=\"http://www.w3.org/2000/svg\""
-    ++ (number (codes "width") w
-    ++ (number (codes "height") h
-    ++ (codes " viewBox=\"0 0 "
-    ++ (decimal w
-    ++ (32 ∷ decimal h
-    ++ (codes "\">\n"
-    ++ (style
-    ++ rect (codes "o") 0 0 w h)))))))
+head w h = size w h ++ (view_box w h ++ (style ++ rect (codes "o") 0 0 w h))
 
 abbrev pub axis_words : Axis → ℕ → ℕ → List ℕ
 axis_words Ticks edge y = words (codes "n e") (edge - 12) (y + 50) (codes "tick")

@@ -227,6 +227,7 @@ pub apart_entries : whole_svg Entries apart.setup (entries_of land_lines ∷ ent
     words (codes "m") 178 428 (codes "3") ++ (
     rect (codes "c2") 148 436 40 4 ++ (
     line (codes "b") 108 434 140 0 ++ (
-    legend 464 ++ codes "</svg>\n")))))))))))))))))))))))))))))))))))))))))))))))))))))))))))))))))))))))))))))))))))))))))))))))))))))))))))))))
+    legend 464 ++ codes "</svg>\n"
+    )))))))))))))))))))))))))))))))))))))))))))))))))))))))))))))))))))))))))))))))))))))))))))))))))))))))))))))))
 unfolding computed shown charted pictured digits
 apart_entries = refl

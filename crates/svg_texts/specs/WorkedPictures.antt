@@ -193,6 +193,7 @@ pub remote_entries : whole_svg Entries remote.setup (entries_of remote_lines ∷
     rect (codes "c2") 248 320 120 4 ++ (
     line (codes "b") 108 318 320 0 ++ (
     words (codes "t") 20 360 (codes "s1 is buffer, MPCP") ++ (
-    legend 364 ++ codes "</svg>\n"))))))))))))))))))))))))))))))))))))))))))))))))))))))))))))))))))))))))))))))))))))))))))))))))))))))))))))))))))))))))))
+    legend 364 ++ codes "</svg>\n"
+    ))))))))))))))))))))))))))))))))))))))))))))))))))))))))))))))))))))))))))))))))))))))))))))))))))))))))))))))))))))))))))
 unfolding computed shown charted pictured digits
 remote_entries = refl

@@ -1,0 +1,6 @@
+mod Paths
+mod Equal
+mod Joins
+mod Numbers
+mod Runs
+mod Chains

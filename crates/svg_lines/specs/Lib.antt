@@ -1,0 +1,4 @@
+pub mod Paths
+pub mod Hollow
+pub mod Shown
+pub mod Words

@@ -1,0 +1,179 @@
+//! The lanes of rows: the spans of their parts, each drawn.
+ghost use Rattle.std.specs.Prelude.{◌≡◌, ◌+◌, ◌-◌, ◌*◌, ◌<◌, ◌^◌, ◌++◌, map, OnOk};
+ghost use Rattle.chart_cells.specs.Cells.{cpu_cell_shown, marked_shown};
+ghost use Rattle.svg_texts.specs.CpuRows as cpu_rows;
+ghost use Rattle.svg_texts.specs.Lanes.{lane};
+ghost use Rattle.svg_texts.specs.Parts as spec;
+ghost use Rattle.svg_texts.specs.TaskLanes as task_lanes;
+ghost use Rattle.svg_lines.specs.Shown.{cpu_part_of, part_shown, task_part_of};
+
+use crate::bars::Area;
+use crate::cpu_draws::{put_cpu_part, put_resv_part};
+use crate::parts::{CpuLane, Part, TaskLane, cpu_parts, left_parts, run_end, task_parts};
+use crate::put::Pixels;
+use crate::task_draws::put_task_part;
+use chart_cells::{CpuCell, Marked};
+use rt_base::NoMemory;
+use rt_task::Parts;
+use std::alloc::Global;
+
+/// Where a column begins, and how wide so many are.
+pub fn column_x(edge: Pixels, column: usize) -> Pixels
+    requires { edge < 2 ^ 90 }
+    ensures place { result ≡ edge + 20 * column }
+    ensures small { result < 2 ^ 91 }
+{
+    edge + 20 * column as u128
+}
+
+fn columns_width(columns: usize) -> Pixels
+    ensures width { result ≡ 20 * columns }
+    ensures small { result < 2 ^ 91 }
+{
+    20 * columns as u128
+}
+
+/// The area of a span of a row at y; spans have heights of their own.
+fn area(edge: Pixels, y: Pixels, from: usize, to: usize) -> Area
+    requires { edge < 2 ^ 90 }
+    ensures x { result.x ≡ edge + 20 * from }
+    ensures y { result.y ≡ y }
+    ensures w { result.w ≡ 20 * (to - from) }
+    ensures small_x { result.x < 2 ^ 91 }
+    ensures small_w { result.w < 2 ^ 91 }
+{
+    Area {
+        x: column_x(edge, from),
+        y,
+        w: columns_width(to.saturating_sub(from)),
+        h: 0,
+    }
+}
+
+#[tactic(auto, unfolding(svg_texts::specs::Lanes::lane))]
+fn put_task_spans(
+    alloc: Global,
+    out: &mut Vec<u8>,
+    set: &Parts,
+    edge: Pixels,
+    task: u64,
+    y: Pixels,
+    parts: &[Part],
+) -> Result<(), NoMemory>
+    requires edge { edge < 2 ^ 90 }
+    requires y { y < 2 ^ 90 }
+    ensures { OnOk result (out.new.items ≡ out.old.items
+        ++ lane (task_lanes.draw_task_part set.now task y) edge (map part_shown parts.now)) }
+{
+    let mut from = 0;
+    while from < parts.len() {
+        let to = run_end(parts, from);
+        put_task_part(alloc, out, set, task, area(edge, y, from, to), &parts[from])?;
+        from = to;
+    }
+    Ok(())
+}
+
+#[tactic(auto, unfolding(svg_texts::specs::Lanes::lane))]
+fn put_cpu_spans(
+    alloc: Global,
+    out: &mut Vec<u8>,
+    set: &Parts,
+    edge: Pixels,
+    y: Pixels,
+    parts: &[Part],
+) -> Result<(), NoMemory>
+    requires edge { edge < 2 ^ 90 }
+    requires y { y < 2 ^ 90 }
+    ensures { OnOk result (out.new.items ≡ out.old.items
+        ++ lane (cpu_rows.draw_cpu_part set.now y) edge (map part_shown parts.now)) }
+{
+    let mut from = 0;
+    while from < parts.len() {
+        let to = run_end(parts, from);
+        put_cpu_part(alloc, out, set, area(edge, y, from, to), &parts[from])?;
+        from = to;
+    }
+    Ok(())
+}
+
+#[tactic(auto, unfolding(svg_texts::specs::Lanes::lane))]
+fn put_resv_spans(
+    alloc: Global,
+    out: &mut Vec<u8>,
+    edge: Pixels,
+    budget: u64,
+    y: Pixels,
+    parts: &[Part],
+) -> Result<(), NoMemory>
+    requires edge { edge < 2 ^ 90 }
+    requires y { y < 2 ^ 90 }
+    ensures { OnOk result (out.new.items ≡ out.old.items
+        ++ lane (cpu_rows.draw_resv_part budget y) edge (map part_shown parts.now)) }
+{
+    let mut from = 0;
+    while from < parts.len() {
+        let to = run_end(parts, from);
+        put_resv_part(alloc, out, budget, area(edge, y, from, to), &parts[from])?;
+        from = to;
+    }
+    Ok(())
+}
+
+/// A lane of a task.
+pub fn put_task_lane(
+    alloc: Global,
+    out: &mut Vec<u8>,
+    set: &Parts,
+    edge: Pixels,
+    task: u64,
+    y: Pixels,
+    shown: TaskLane,
+    cells: &[Marked],
+) -> Result<(), NoMemory>
+    requires edge { edge < 2 ^ 90 }
+    requires y { y < 2 ^ 90 }
+    ensures { OnOk result (out.new.items ≡ out.old.items ++ task_lanes.task_lane set.now edge task y
+        (task_part_of shown) (map marked_shown cells.now)) }
+{
+    let parts = task_parts(alloc, shown, cells)?;
+    put_task_spans(alloc, out, set, edge, task, y, &parts)
+}
+
+/// A lane of a processor.
+pub fn put_cpu_lane(
+    alloc: Global,
+    out: &mut Vec<u8>,
+    set: &Parts,
+    edge: Pixels,
+    y: Pixels,
+    shown: CpuLane,
+    cells: &[CpuCell],
+) -> Result<(), NoMemory>
+    requires edge { edge < 2 ^ 90 }
+    requires y { y < 2 ^ 90 }
+    ensures { OnOk result (out.new.items
+        ≡ out.old.items ++ lane (cpu_rows.draw_cpu_part set.now y) edge
+        (map (cpu_part_of shown) (map cpu_cell_shown cells.now))) }
+{
+    let parts = cpu_parts(alloc, shown, cells)?;
+    put_cpu_spans(alloc, out, set, edge, y, &parts)
+}
+
+/// The lane of a reservation with this budget.
+pub fn put_resv_lane(
+    alloc: Global,
+    out: &mut Vec<u8>,
+    edge: Pixels,
+    budget: u64,
+    y: Pixels,
+    left: &[u64],
+) -> Result<(), NoMemory>
+    requires edge { edge < 2 ^ 90 }
+    requires y { y < 2 ^ 90 }
+    ensures { OnOk result (out.new.items ≡ out.old.items
+        ++ lane (cpu_rows.draw_resv_part budget y) edge (map spec.left left.now)) }
+{
+    let parts = left_parts(alloc, left)?;
+    put_resv_spans(alloc, out, edge, budget, y, &parts)
+}
