@@ -73,7 +73,7 @@ abbrev AllSrpUsers : Group → ℕ → Past → Type 0
 AllSrpUsers g c past = (t s : ℕ) → has_pair t s (srp g c past) ≡ true → IsSrpUser g c t s
 
 -- who holds after an event held before it, or asks in it
-srp-back : (g : Group) (c t s : ℕ) (e : Event) (past : Past) → has_pair t s (srp g c (e ∷ past)) ≡ true → (has_pair t s (srp g c past) ≡ true) ⊎ (sem_act e ≡ Asks t s) × (home g t ≡ c) × (protocol g s ≡ Srp)
+pub srp-back : (g : Group) (c t s : ℕ) (e : Event) (past : Past) → has_pair t s (srp g c (e ∷ past)) ≡ true → (has_pair t s (srp g c past) ≡ true) ⊎ (sem_act e ≡ Asks t s) × (home g t ≡ c) × (protocol g s ≡ Srp)
 unfolding srp
 srp-back g c t s e past h = split (srp-held t s (srp_at g c (sem_act e)) (srp g c past) h)
   where

@@ -14,15 +14,13 @@ use Rattle.rt_model.specs.Reachable.{IsReachable}
 use Rattle.rt_model.specs.Releases.{exists, ready}
 use Rattle.rt_model.specs.Runs.{runs}
 use Rattle.rt_model.specs.Sleep.{sleeps}
-use Rattle.rt_model.specs.StackPolicy.{srp, srp_at}
+use Rattle.rt_model.specs.StackPolicy.{srp}
 use Rattle.rt_model.specs.Tops.{eligible, top}
 use Rattle.rt_model.specs.UnderWay.{under_way}
 use Rattle.rt_rules.proofs.BoolLaws.{both, clash, either, not_false, not_true, unless}
 use Rattle.rt_rules.proofs.MemberLaws.{equal_self, turned}
 use Rattle.rt_rules.proofs.PairLaws.{has_pair}
-use Rattle.rt_rules.proofs.SrpLaws.{srp-held}
 use Rattle.rt_laws.specs.BlockedOnce.{takes_interrupts}
-use Rattle.rt_laws.proofs.AtSem.{srp_at-asks}
 use Rattle.rt_laws.proofs.BlockedMoves.{taken-before}
 use Rattle.rt_laws.proofs.BlockedOnce.{pair-task}
 use Rattle.rt_laws.proofs.GroupLaws.{home-tasks_of}
@@ -31,21 +29,12 @@ use Rattle.rt_laws.proofs.LinkedTasks.{IsLinked, linked-eligible}
 use Rattle.rt_laws.proofs.Moves.{IsMove, by_moves, clock_moves, cpu_acts, moved}
 use Rattle.rt_laws.proofs.Requests.{asks}
 use Rattle.rt_laws.proofs.Running.{ended-runs}
-use Rattle.rt_laws.proofs.SrpState.{IsSrpState, is_srp-is, srp_state, under_way-back}
+use Rattle.rt_laws.proofs.SrpState.{IsSrpState, srp-back, srp_state, under_way-back}
 use Rattle.rt_laws.proofs.SrpUsers.{IsSrpCluster, top-above}
 use Rattle.rt_laws.proofs.ValidSets.{rules_of}
 use Rattle.srp_laws.specs.Sections.{awaits_start, delays, entered, is_inside, is_lower, is_no_higher, reaches, was_delayed}
 use Rattle.srp_laws.specs.StackLaws.{DelayedOnce}
 use Rattle.srp_laws.proofs.AtMoments.{IsReacher, kept-back, not-both, one-reacher, pair-reaches, reacher, reacher-above}
-
--- who holds after a move held before it, or asks in it
-srp-back : (g : Group) (c t s : ℕ) (e : Event) (past : Past) → has_pair t s (srp g c (e ∷ past)) ≡ true → (has_pair t s (srp g c past) ≡ true) ⊎ (sem_act e ≡ Asks t s) × (home g t ≡ c) × (protocol g s ≡ Srp)
-unfolding srp
-srp-back g c t s e past h = split (srp-held t s (srp_at g c (sem_act e)) (srp g c past) h)
-  where
-    split : (has_pair t s (srp g c past) ≡ true) ⊎ (srp_at g c (sem_act e) ≡ Asks t s) → (has_pair t s (srp g c past) ≡ true) ⊎ (sem_act e ≡ Asks t s) × (home g t ≡ c) × (protocol g s ≡ Srp)
-    split (inl k) = inl k
-    split (inr k) = let q = srp_at-asks g c t s (sem_act e) k in inr (q.0, q.1, is_srp-is (protocol g s) q.2)
 
 module _ (g : Group) (valid : IsValid g.setup) where
   -- what runs where no interrupt is pending is linked

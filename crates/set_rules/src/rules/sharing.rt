@@ -88,9 +88,7 @@ fn sem_sharing(d: &Draft, spread: Spread, fmlp: &HashSet<u64>, s: &Sem) -> bool
     } else {
         spread.one_group
     };
-    stands_under(s.protocol, d.plugin)
-        && is_near
-        && stands_apart(s.protocol, spread.first, fmlp)
+    stands_under(s.protocol, d.plugin) && is_near && stands_apart(s.protocol, spread.first, fmlp)
 }
 
 fn sems_sharing(alloc: Global, d: &Draft) -> Result<(), SetStop>
