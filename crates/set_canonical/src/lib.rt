@@ -16,7 +16,6 @@ mod words;
 use rt_base::NoMemory;
 use rt_task::{Parts, Setup};
 use std::alloc::Global;
-
 pub use words::{plugin_word, protocol_word};
 
 /// The canonical text of a setup, without a newline: the compact text of the JSON value that has all members, with defaults
