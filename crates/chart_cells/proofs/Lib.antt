@@ -1,1 +1,2 @@
 mod KeptCells
+mod FirstUnits

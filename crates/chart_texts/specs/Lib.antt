@@ -10,6 +10,7 @@ pub mod Computed
 pub mod BarLaws
 pub mod WidthLaws
 pub mod Named
+pub mod WorkedRulers
 pub mod WorkedSharing
 pub mod WorkedJobs
 pub mod WorkedGroups
