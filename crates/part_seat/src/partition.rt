@@ -1,6 +1,8 @@
 //! A partition with its seats at the turns of the semaphores.
 ghost use Rattle.std.specs.Prelude.{◌≡◌, ◌-◌, ◌<◌, ◌≤◌, true, length, map, slice_get, IfNone, IfOk, IfSome, Some};
+ghost use Rattle.rt_base.specs.TaskNos.{numbers};
 ghost use Rattle.rt_plays.specs.Room.{processor_count};
+ghost use Rattle.split_rules.specs.PartLinks.{tasks};
 ghost use Rattle.split_rules.specs.PartHistories.{steps_of};
 ghost use Rattle.split_rules.specs.SemHistories.{seat_of};
 ghost use Rattle.split_set.specs.SplitSets.{is_split_set};
@@ -15,7 +17,7 @@ use crate::passed::PlayedStep;
 use crate::turns::spare;
 use part_player::{Begun, Player};
 use part_state::PartReply;
-use rt_base::{CpuNo, NoMemory, SemNo};
+use rt_base::{CpuNo, NoMemory, SemNo, TaskNo};
 use rt_task::Setup;
 use split_inbox::{Grant, Names, SemBook};
 use split_rules::SplitEntry;
@@ -157,6 +159,13 @@ impl Partition {
         ensures { result.0 ≡ self.now.cpu }
     {
         self.player.cpu()
+    }
+
+    /// The tasks of the partition, by rising number.
+    pub fn tasks(&self) -> &[TaskNo]
+        ensures { numbers result.now ≡ tasks (group_of self.now) self.now.cpu }
+    {
+        self.player.tasks()
     }
 
     /// The set.
