@@ -1,0 +1,6 @@
+pub mod Steps
+pub mod Workers
+pub mod Jobs
+pub mod Few
+pub mod Rows
+pub mod RowSums

@@ -1,0 +1,12 @@
+-- The places of requests among all requests.
+use Rattle.std.specs.Prelude.{ℕ, List, [], ◌∷◌, ◌++◌, length, if◌then◌else◌}
+use Rattle.rt_model.specs.Blocking.{requests}
+use Rattle.rt_model.specs.Past.{Past}
+use Rattle.trace_views.specs.JobCounts.{asks_now}
+use Rattle.trace_views.specs.JobMoves.{in_job}
+
+-- the places of the requests of a task's job k among all requests, from 0, in order of asking
+unfoldable pub request_places : ℕ → ℕ → Past → List ℕ
+request_places t k [] = []
+request_places t k (e ∷ past) =
+    if in_job t k (asks_now t) e past then request_places t k past ++ length (requests past) ∷ [] else request_places t k past

@@ -1,0 +1,6 @@
+//! A group of a set whose steps are taken again, move by move, for what is shown of its history.
+#![tactic(auto)]
+
+mod replay;
+
+pub use replay::Replay;
