@@ -1,0 +1,4 @@
+pub mod Deals
+pub mod Ends
+pub mod Openings
+pub mod Splits

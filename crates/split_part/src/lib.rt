@@ -1,0 +1,10 @@
+//! Split runs: the processors of a set play their partitions beside each other, and share nothing but a turn for each
+//! semaphore and an inbox for each processor.
+#![tactic(auto)]
+
+mod deal;
+mod end;
+mod opening;
+mod senders;
+
+pub use end::{PartHistories, SemHistories, SplitEnd};
