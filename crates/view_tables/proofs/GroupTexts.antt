@@ -131,13 +131,13 @@ pub jobs-next : (g : Group) (t i : ℕ) (past : Past) (r : JobRow) (old text new
     → new ≡ old ++ flat_map (λ (x : JobRow). line_of (job_fields g x)) (map (job_row g t past) (numbers_from 1 (i + 1)))
 jobs-next g t i past r old text new is before put =
     let line : JobRow → List ℕ = λ x. line_of (job_fields g x) in
-    let row : ℕ → JobRow = job_row g t past in
-    let rows : List JobRow = map row (numbers_from 1 i) in
+    let nth : ℕ → JobRow = job_row g t past in
+    let rows : List JobRow = map nth (numbers_from 1 i) in
     let at : 1 + i ≡ i + 1 = omega arith in
     put ∙ ap (λ xs. xs ++ line r) before ∙ append_assoc old (flat_map line rows) (line r) ∙ ap (λ x. old ++ (flat_map line rows ++ line x)) is
-    ∙ ap (λ ys. old ++ (flat_map line rows ++ ys)) (sym (flat_map-cons line (row (i + 1)) [] ∙ append-nil (line (row (i + 1)))))
-    ∙ ap (λ ys. old ++ ys) (sym (flat_map-append line rows (row (i + 1) ∷ [])))
-    ∙ ap (λ rs. old ++ flat_map line rs) (sym (map-last row 1 i ∙ ap (λ n. rows ++ row n ∷ []) at))
+    ∙ ap (λ ys. old ++ (flat_map line rows ++ ys)) (sym (flat_map-cons line (nth (i + 1)) [] ∙ append-nil (line (nth (i + 1)))))
+    ∙ ap (λ ys. old ++ ys) (sym (flat_map-append line rows (nth (i + 1) ∷ [])))
+    ∙ ap (λ rs. old ++ flat_map line rs) (sym (map-last nth 1 i ∙ ap (λ n. rows ++ nth n ∷ []) at))
 
 pub jobs-all : (g : Group) (t : ℕ) (past : Past) (n : ℕ) → n ≡ listed g t past
     → flat_map (λ (x : JobRow). line_of (job_fields g x)) (map (job_row g t past) (numbers_from 1 n)) ≡ task_text Jobs g past t
