@@ -1,0 +1,2 @@
+pub mod ShownActs
+pub mod Replays
