@@ -1,0 +1,4 @@
+pub mod Steps
+pub mod Workers
+pub mod Jobs
+pub mod Few

@@ -1,0 +1,21 @@
+-- The laws by which what is kept of jobs is kept, move by move.
+use Rattle.std.specs.Prelude.{◌≡◌, ℕ, [], ◌∷◌}
+use Rattle.rt_task.specs.declared.Act.{Act}
+use Rattle.rt_model.specs.Group.{Group}
+use Rattle.rt_model.specs.Outcomes.{past_act}
+use Rattle.rt_model.specs.Past.{Acted, Clock, Past, entries_in}
+use Rattle.rt_model.specs.Reachable.{IsReachable}
+use Rattle.job_facts.specs.Deeds.{jobs_fed}
+use Rattle.job_facts.specs.Kept.{IsFew, scene_at}
+use Rattle.job_facts.specs.Tallies.{jobs_at, no_jobs, tally_at}
+
+-- At opening nothing is kept, a move of the clock changes nothing, and an act changes what its deeds are.
+pub record JobsAreKept : Type 0 where
+  pub opening : (t : ℕ) → jobs_at t [] ≡ no_jobs
+  pub clocked : (t tick : ℕ) (past : Past) → jobs_at t (Clock tick ∷ past) ≡ jobs_at t past
+  pub acted : (g : Group) (q : ℕ) (act : Act) (t : ℕ) (past : Past) → IsReachable g past
+      → jobs_at t (Acted (past_act g q act past) ∷ past) ≡ jobs_fed (scene_at q past) t (past_act g q act past) (jobs_at t past)
+
+-- No count of a job is above the number of entries.
+abbrev pub TalliesAreFew : Type 0
+TalliesAreFew = (t k : ℕ) (past : Past) → IsFew (entries_in past) (tally_at t k past)

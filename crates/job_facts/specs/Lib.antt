@@ -1,0 +1,5 @@
+pub mod Tallies
+pub mod Places
+pub mod Deeds
+pub mod Kept
+pub mod JobLaws
