@@ -2,7 +2,9 @@
 use Rattle.std.proofs.Common.{◌≡◌, ◌∙◌, ℕ, suc, zero, ◌+◌, ◌<◌, ◌≤◌, Bool, true, false, List, [], ◌∷◌, ◌++◌, ◌&&◌, length, map, refl, sym, ap, arith}
 use Rattle.std.specs.Prelude.{Option, None, Some, if◌then◌else◌, ◌==◌}
 use Rattle.rt_task.specs.declared.Act.{Act}
+use Rattle.rt_task.specs.declared.Act.TheVariants as acts
 use Rattle.rt_rules.specs.Numbers.{is, numbers_from}
+use Rattle.rt_rules.proofs.BoolLaws.{and_false, and_true}
 use Rattle.rt_model.specs.Blocking.{requests}
 use Rattle.rt_model.specs.Group.{Group}
 use Rattle.rt_model.specs.Jobs.{done}
@@ -14,10 +16,10 @@ use Rattle.rt_model.proofs.Steps.{done-step, past_act-cpu}
 use Rattle.trace_views.specs.JobCounts.{asks_now, has_worked, is_elsewhere, is_queued_reply, is_switch_reply, last_place, moves_now, preempts, takes_up}
 use Rattle.trace_views.specs.JobTimes as times
 use Rattle.trace_views.proofs.Sums.{above_differs, below_differs}
-use Rattle.job_facts.specs.Deeds.{Scene, asked, ended, jobs_arrived, jobs_ended, jobs_fed, jobs_run, jobs_taken, locks, moved, preempted, ran, worked, works}
+use Rattle.job_facts.specs.Deeds.{Scene, arrived_by, arrived_task, asked, closed, ended, jobs_arrived, jobs_ended, jobs_fed, jobs_run, jobs_taken, locks, moved, preempted, ran, worked, works}
 use Rattle.job_facts.specs.JobLaws.{JobsAreKept}
 use Rattle.job_facts.specs.Kept.{scene_at}
-use Rattle.job_facts.specs.Places.{worker}
+use Rattle.job_facts.specs.Workers.{worker}
 use Rattle.job_facts.specs.Tallies.{Jobs, Tally, jobs_at, no_jobs, nothing, tally_at}
 use Rattle.job_facts.proofs.Steps.{asks-shown, tally-clock, tally-current, tally-none, tally-opening, tally-others, tally_after, works-shown}
 use Rattle.job_facts.proofs.Workers.{worked-worker}
@@ -65,7 +67,7 @@ module _ (g : Group) (q : ℕ) (act : Act) (t : ℕ) (past : Past) (made : IsRea
   before = tally_at t (done t past + 1) past
 
   abbrev deeds_shown : Tally
-  deeds_shown = ran (scene_at q past) t d (moved (moves_now t (Acted d) past) before)
+  deeds_shown = ran (is t d.task) (is t (worker q past)) (now past) (length (requests past)) d (moved (moves_now t (Acted d) past) before)
 
   preempts-shown : preempts t (Acted d) past ≡ is t d.task && (is_switch_reply d.reply && is t (worker q past))
   preempts-shown =
@@ -78,9 +80,22 @@ module _ (g : Group) (q : ℕ) (act : Act) (t : ℕ) (past : Past) (made : IsRea
       ∙ ap (λ a. shown_by (is t d.task && works d.act d.reply) a (preempts t (Acted d) past) t d past before) (asks-shown t d past)
       ∙ ap (λ p. shown_by (is t d.task && works d.act d.reply) (is t d.task && locks d.act d.reply) p t d past before) preempts-shown
 
-  arrivals-shown : arrivals t (Acted d ∷ past) ≡ (if arrives t d.act && accepted d.reply then arrivals t past ++ now past ∷ [] else arrivals t past)
+  arrives-shown : arrives t d.act && accepted d.reply ≡ is t (arrived_task d.act d.reply)
+  arrives-shown = by_act d.act (accepted d.reply)
+    where
+      by_act : (a : Act) (b : Bool) → arrives t a && b ≡ is t (if b then arrived_by a else None)
+      by_act (acts.Arrive u) true = and_true (t == u.0)
+      by_act (acts.Arrive u) false = and_false (t == u.0)
+      by_act acts.Tick true = refl
+      by_act acts.Tick false = refl
+      by_act acts.Irq true = refl
+      by_act acts.Irq false = refl
+      by_act (acts.Do op) true = refl
+      by_act (acts.Do op) false = refl
+
+  arrivals-shown : arrivals t (Acted d ∷ past) ≡ (if is t (arrived_task d.act d.reply) then arrivals t past ++ now past ∷ [] else arrivals t past)
   unfolding arrivals
-  arrivals-shown = refl
+  arrivals-shown = ap (λ b. if b then arrivals t past ++ now past ∷ [] else arrivals t past) arrives-shown
 
   place-shown : last_place t (Acted d ∷ past) ≡ (if takes_up t d.reply then Some d.cpu else last_place t past)
   unfolding last_place
@@ -101,10 +116,7 @@ module _ (g : Group) (q : ℕ) (act : Act) (t : ℕ) (past : Past) (made : IsRea
       let same_current = ap (λ n. tally_now (n + 1)) number ∙ current-shown ∙ ap (λ b. ended b (now past) deeds_shown) h in
       λ i. record { ended = same_ended i; current = same_current i; place = place-shown i; arrivals = arrivals-shown i }
 
-  abbrev closed : Jobs
-  closed = record { ended = still.ended ++ ended true (now past) still.current ∷ []; current = nothing; place = still.place; arrivals = still.arrivals }
-
-  one-ends : is t d.ended ≡ true → jobs_at t (Acted d ∷ past) ≡ closed
+  one-ends : is t d.ended ≡ true → jobs_at t (Acted d ∷ past) ≡ closed (now past) still
   unfolding jobs_at
   one-ends h =
       let number : done t (Acted d ∷ past) ≡ done t past + 1 = done-step t (Acted d) past ∙ rw h refl in
@@ -119,7 +131,7 @@ module _ (g : Group) (q : ℕ) (act : Act) (t : ℕ) (past : Past) (made : IsRea
   jobs-act : jobs_at t (Acted d ∷ past) ≡ jobs_fed (scene_at q past) t d (jobs_at t past)
   jobs-act = by_case (is t d.ended) refl
     where
-      by_case : (b : Bool) → is t d.ended ≡ b → jobs_at t (Acted d ∷ past) ≡ (if b then closed else still)
+      by_case : (b : Bool) → is t d.ended ≡ b → jobs_at t (Acted d ∷ past) ≡ (if b then closed (now past) still else still)
       by_case true h = one-ends h
       by_case false h = none-ends h
 

@@ -18,7 +18,7 @@ use Rattle.rt_laws.proofs.Moves.{IsMove, by_moves, clock_moves, cpu_acts}
 use Rattle.trace_views.specs.JobCounts.{has_worked, is_on, is_switch_reply, switches}
 use Rattle.trace_views.specs.JobMoves.{or_else}
 use Rattle.job_facts.specs.Deeds as deeds
-use Rattle.job_facts.specs.Places.{worker, worker_by}
+use Rattle.job_facts.specs.Workers.{worker}
 use Rattle.job_facts.proofs.Steps.{works-shown}
 
 -- whether a task has worked, after one more event
@@ -55,7 +55,7 @@ worker-worked t q (Acted d ∷ past) h = by_cpu (worker-worked t q past) (d.cpu 
     by_deed before false false None k = before k
     by_deed before false false (Some u) k = rw (and_false (t == u)) (before k)
 
-    by_cpu : (is t (worker q past) ≡ true → has_worked t q past ≡ true) → (b : Bool) → d.cpu == q ≡ b → is t (if b then worker_by d (worker q past) else worker q past) ≡ true → has_worked t q (Acted d ∷ past) ≡ true
+    by_cpu : (is t (worker q past) ≡ true → has_worked t q past ≡ true) → (b : Bool) → d.cpu == q ≡ b → is t (if b then deeds.worker_after d.act d.reply d.task (worker q past) else worker q past) ≡ true → has_worked t q (Acted d ∷ past) ≡ true
     by_cpu before true m k = worked-here t q d past m ∙ by_deed before (is_switch_reply d.reply) (deeds.works d.act d.reply) d.task k
     by_cpu before false m k = worked-other t q d past m ∙ before k
 

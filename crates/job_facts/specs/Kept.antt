@@ -3,7 +3,7 @@ use Rattle.std.specs.Prelude.{◌≡◌, ℕ, ◌≤◌, length}
 use Rattle.rt_model.specs.Blocking.{requests}
 use Rattle.rt_model.specs.Past.{Past, now}
 use Rattle.job_facts.specs.Deeds.{Scene}
-use Rattle.job_facts.specs.Places.{worker}
+use Rattle.job_facts.specs.Workers.{worker}
 use Rattle.job_facts.specs.Tallies.{Tally}
 
 -- the scene of an act of a processor after a past

@@ -1,5 +1,6 @@
 pub mod Tallies
 pub mod Places
 pub mod Deeds
+pub mod Workers
 pub mod Kept
 pub mod JobLaws

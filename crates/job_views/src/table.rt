@@ -1,0 +1,68 @@
+//! The jobs of a group.
+ghost use Rattle.std.specs.Prelude.{◌≡◌, ◌<◌, ◌≤◌, ◌∷◌, [], ℕ, IfOk, OnOk, length};
+ghost use Rattle.rt_base.specs.declared.TheConstants.{MOST_CPUS, MOST_STEPS};
+ghost use Rattle.rt_model.specs.Past.{Acted, Past};
+ghost use Rattle.view_replay.specs.ShownActs.{act_shown};
+ghost use Rattle.job_views.specs.Tables.{CanFeed, Keeps, task_count};
+
+use crate::deeds::{locks, worker_after};
+use crate::moves::{arrive, end, run, take_up};
+use crate::task_jobs::TaskJobs;
+use rt_base::{MOST_CPUS, NoMemory, TaskNo, Tick};
+use std::alloc::Global;
+use view_replay::ShownAct;
+
+const CPUS: usize = MOST_CPUS as usize;
+
+/// The jobs of the tasks of a group, fed by each act of its history; who worked on each processor since that switched last; and the
+/// number of requests.
+///
+/// Memory grows with the jobs that end, with arrivals and with requests.
+#[derive(Drop)]
+pub struct JobTable {
+    // at the number of a task; there is no task 0
+    tasks: Vec<TaskJobs>,
+    workers: [Option<TaskNo>; CPUS],
+    asked: u32,
+}
+
+impl JobTable {
+    /// Before the first move, for so many tasks.
+    pub fn open(alloc: Global, tasks: u32) -> Result<JobTable, NoMemory>
+        ensures opened { IfOk result (λ v. Keeps v []) }
+        ensures count { IfOk result (λ v. task_count v ≡ tasks) }
+    {
+        let mut all = Vec::new(alloc);
+        all.push(TaskJobs::new(alloc))?;
+        for _ in 0..tasks {
+            all.push(TaskJobs::new(alloc))?;
+        }
+        Ok(JobTable {
+            tasks: all,
+            workers: [None; CPUS],
+            asked: 0,
+        })
+    }
+
+    /// Takes an act of the group, at the clock. Where memory runs out, the table is not to be used any more.
+    pub fn feed(&mut self, alloc: Global, clock: Tick, act: &ShownAct) -> Result<(), NoMemory>
+        requires { (past : Past) × CanFeed self.old past clock.0 (act_shown act.now) }
+        ensures kept { OnOk result ((past : Past)
+            → CanFeed self.old past clock.0 (act_shown act.now)
+            → Keeps self.new (Acted (act_shown act.now) ∷ past)) }
+        ensures count { task_count self.new ≡ task_count self.old }
+    {
+        let cpu = act.cpu.0 as usize;
+        let worker = self.workers[cpu];
+        let tasks = self.tasks.as_mut_slice();
+        take_up(tasks, act);
+        run(tasks, worker, clock, self.asked, act)?;
+        arrive(tasks, clock, act)?;
+        end(alloc, tasks, clock, act)?;
+        self.workers[cpu] = worker_after(act.act, act.reply, act.task, worker);
+        if act.task.is_some() && locks(act.act, act.reply) {
+            self.asked += 1;
+        }
+        Ok(())
+    }
+}
