@@ -1,15 +1,22 @@
 -- No count of a job is above the number of entries.
 use Rattle.std.proofs.Common.{◌≡◌, ◌∙◌, ℕ, ◌+◌, ◌≤◌, Bool, true, false, List, [], ◌∷◌, ◌++◌, ◌&&◌, length, refl, sym, ap, arith, length-append}
-use Rattle.std.specs.Prelude.{if◌then◌else◌, ◌==◌}
-use Rattle.rt_model.specs.Blocking.{asks, requests}
+use Rattle.std.specs.Prelude.{Option, None, Some, is_some, if◌then◌else◌, ◌==◌}
+use Rattle.rt_task.specs.declared.Act.{Act}
+use Rattle.rt_task.specs.declared.Act.TheVariants as acts
+use Rattle.rt_task.specs.declared.Op.TheVariants as ops
+use Rattle.rt_rules.specs.SemState.{Neither}
+use Rattle.rt_rules.proofs.BoolLaws.{and_false}
+use Rattle.rt_model.specs.Blocking.{asked_by, asks, requests}
 use Rattle.rt_model.specs.Jobs.{done}
-use Rattle.rt_model.specs.Past.{Acted, Clock, Event, Past, entries_in, sem_act}
+use Rattle.rt_model.specs.Past.{Acted, Clock, Event, Past, PastAct, accepted, entries_in, sem_act, sem_act_of}
 use Rattle.trace_views.specs.JobCounts.{asks_now, changes, migrations, moves, moves_now, preemptions, preempts, queued, queues_now, unit_places, units}
 use Rattle.trace_views.specs.JobMoves.{Test, count_moves, in_job}
 use Rattle.trace_views.specs.JobTimes.{works}
+use Rattle.job_facts.specs.Deeds.{is_lock, locks}
 use Rattle.job_facts.specs.JobLaws.{TalliesAreFew}
+use Rattle.job_facts.specs.Kept.{IsFew}
 use Rattle.job_facts.specs.Places.{request_places}
-use Rattle.job_facts.specs.Tallies.{tally_at}
+use Rattle.job_facts.specs.Tallies.{jobs_at, tally_at}
 
 -- a test that no move of the clock passes
 abbrev PassesNoClock : Test → Type 0
@@ -69,3 +76,49 @@ tallies_are_few t k past = record {
   requests_few = omega (arith, request_places-length t k past, count-few t k (asks_now t) (λ tick p. refl) past);
   queued_few = count-few t k (queues_now t) (λ tick p. refl) past;
 }
+
+-- nor is any of the current job
+pub current-few : (t : ℕ) (past : Past) → IsFew (entries_in past) (jobs_at t past).current
+unfolding jobs_at
+current-few t past = tallies_are_few t (done t past + 1) past
+
+-- the requests so far, and how an act adds to them
+pub requests-by : (d : PastAct) (past : Past) → length (requests (Acted d ∷ past)) ≡ (if is_some d.task && locks d.act d.reply then length (requests past) + 1 else length (requests past))
+unfolding requests
+requests-by d past = by_reply (accepted d.reply)
+  where
+    by_task : (a : Act) (o : Option ℕ) → length (asked_by (sem_act_of a o) (entries_in past) (requests past)) ≡ (if is_some o && is_lock a then length (requests past) + 1 else length (requests past))
+    by_task (acts.Do (ops.Lock s)) (Some u) = length-append (requests past) (record { no = entries_in past; task = u; sem = s.0 } ∷ [])
+    by_task (acts.Do (ops.Lock s)) None = refl
+    by_task (acts.Do (ops.Unlock s)) (Some u) = refl
+    by_task (acts.Do (ops.Unlock s)) None = refl
+    by_task (acts.Do ops.Work) (Some u) = refl
+    by_task (acts.Do ops.Work) None = refl
+    by_task (acts.Do (ops.Sleep n)) (Some u) = refl
+    by_task (acts.Do (ops.Sleep n)) None = refl
+    by_task (acts.Do ops.NpOn) (Some u) = refl
+    by_task (acts.Do ops.NpOn) None = refl
+    by_task (acts.Do ops.NpOff) (Some u) = refl
+    by_task (acts.Do ops.NpOff) None = refl
+    by_task (acts.Do ops.End) (Some u) = refl
+    by_task (acts.Do ops.End) None = refl
+    by_task acts.Tick (Some u) = refl
+    by_task acts.Tick None = refl
+    by_task acts.Irq (Some u) = refl
+    by_task acts.Irq None = refl
+    by_task (acts.Arrive v) (Some u) = refl
+    by_task (acts.Arrive v) None = refl
+
+    by_reply : (b : Bool) → length (asked_by (if b then sem_act_of d.act d.task else Neither) (entries_in past) (requests past)) ≡ (if is_some d.task && (b && is_lock d.act) then length (requests past) + 1 else length (requests past))
+    by_reply true = by_task d.act d.task
+    by_reply false = rw (and_false (is_some d.task)) refl
+
+pub requests-few : (past : Past) → length (requests past) ≤ entries_in past
+unfolding requests
+requests-few [] = omega arith
+requests-few (Clock tick ∷ past) = requests-few past
+requests-few (Acted d ∷ past) = rw (requests-by d past) (by_case (is_some d.task && locks d.act d.reply) (requests-few past))
+  where
+    by_case : (b : Bool) → length (requests past) ≤ entries_in past → (if b then length (requests past) + 1 else length (requests past)) ≤ entries_in past + 1
+    by_case true h = omega (arith, h)
+    by_case false h = omega (arith, h)

@@ -1,13 +1,15 @@
 //! What an act does, read off its step and its reply.
-ghost use Rattle.std.specs.Prelude.{◌≡◌};
+ghost use Rattle.std.specs.Prelude.{◌≡◌, ◌&&◌, is_some};
 ghost use Rattle.rt_base.specs.TaskNos.{number_of_task};
 ghost use Rattle.rt_model.specs.Past.{accepted};
 ghost use Rattle.trace_views.specs.JobCounts.{is_queued_reply, is_switch_reply, taken_up};
 ghost use Rattle.job_facts.specs.Deeds as deeds;
+ghost use Rattle.view_acts.specs.ShownActs.{act_shown};
 
 use rt_base::TaskNo;
 use rt_history::Reply;
 use rt_task::{Act, Op};
+use view_acts::ShownAct;
 
 fn is_accepted(reply: Reply) -> bool
     ensures { result ≡ accepted reply }
@@ -25,11 +27,18 @@ pub(crate) fn works(act: Act, reply: Reply) -> bool
     matches!(act, Act::Do(Op::Work)) && is_accepted(reply)
 }
 
-/// A request.
+/// An accepted Lock.
 pub(crate) fn locks(act: Act, reply: Reply) -> bool
     ensures { result ≡ deeds.locks act reply }
 {
     matches!(act, Act::Do(Op::Lock(_))) && is_accepted(reply)
+}
+
+/// Whether an act is a request, of whatever task its processor ran.
+pub(crate) fn asks(act: &ShownAct) -> bool
+    ensures { let d = act_shown act.now in result ≡ is_some d.task && deeds.locks d.act d.reply }
+{
+    act.task.is_some() && locks(act.act, act.reply)
 }
 
 /// An interrupt after which the processor runs something else, or nothing.

@@ -4,14 +4,14 @@ ghost use Rattle.rt_base.specs.TaskNos.{number_of_task};
 ghost use Rattle.rt_base.specs.declared.TheConstants.{MOST_STEPS};
 ghost use Rattle.job_facts.specs.Deeds.{Scene, jobs_arrived, jobs_ended, jobs_run, jobs_taken};
 ghost use Rattle.rt_rules.specs.Numbers.{is};
-ghost use Rattle.view_replay.specs.ShownActs.{act_shown};
+ghost use Rattle.view_acts.specs.ShownActs.{act_shown};
 ghost use Rattle.job_views.specs.Told.{HasRoom, jobs_in};
 
 use crate::deeds::{arrived, taken_up};
 use crate::task_jobs::TaskJobs;
 use rt_base::{NoMemory, TaskNo, Tick};
 use std::alloc::Global;
-use view_replay::ShownAct;
+use view_acts::ShownAct;
 
 /// A processor takes a task up. The tasks are listed by number, from 0.
 pub(crate) fn take_up(tasks: &mut [TaskJobs], act: &ShownAct)

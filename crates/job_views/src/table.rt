@@ -1,16 +1,18 @@
 //! The jobs of a group.
-ghost use Rattle.std.specs.Prelude.{◌≡◌, ◌<◌, ◌≤◌, ◌∷◌, [], ℕ, IfOk, OnOk, length};
-ghost use Rattle.rt_base.specs.declared.TheConstants.{MOST_CPUS, MOST_STEPS};
+ghost use Rattle.std.specs.Prelude.{◌≡◌, ◌<◌, ◌≤◌, ◌∷◌, [], ℕ, IfOk, OnOk, length, vec_len};
+ghost use Rattle.rt_base.specs.declared.TheConstants.{MOST_TASKS};
 ghost use Rattle.rt_model.specs.Past.{Acted, Past};
-ghost use Rattle.view_replay.specs.ShownActs.{act_shown};
-ghost use Rattle.job_views.specs.Tables.{CanFeed, Keeps, task_count};
+ghost use Rattle.view_acts.specs.ShownActs.{act_shown};
+ghost use Rattle.job_facts.specs.Tallies.{no_jobs};
+ghost use Rattle.job_views.specs.Tables.{CanFeed, Keeps, task_count, worker_in};
+ghost use Rattle.job_views.specs.Told.{jobs_in};
 
-use crate::deeds::{locks, worker_after};
+use crate::deeds::{asks, worker_after};
 use crate::moves::{arrive, end, run, take_up};
 use crate::task_jobs::TaskJobs;
 use rt_base::{MOST_CPUS, NoMemory, TaskNo, Tick};
 use std::alloc::Global;
-use view_replay::ShownAct;
+use view_acts::ShownAct;
 
 const CPUS: usize = MOST_CPUS as usize;
 
@@ -26,20 +28,36 @@ pub struct JobTable {
     asked: u32,
 }
 
+/// The jobs of so many tasks before the first move.
+fn unbegun(alloc: Global, count: u32) -> Result<Vec<TaskJobs>, NoMemory>
+    ensures count { IfOk result (λ v. vec_len v ≡ count) }
+    ensures unbegun { IfOk result
+        (λ v. (t : ℕ) → t < length v.items → jobs_in v.items t ≡ no_jobs) }
+{
+    let mut tasks = Vec::new(alloc);
+    for _ in 0..count {
+        tasks.push(TaskJobs::new(alloc))?;
+    }
+    Ok(tasks)
+}
+
+fn nobody() -> [Option<TaskNo>; CPUS]
+    ensures { (q : ℕ) → worker_in result q ≡ None }
+{
+    [None; CPUS]
+}
+
 impl JobTable {
     /// Before the first move, for so many tasks.
     pub fn open(alloc: Global, tasks: u32) -> Result<JobTable, NoMemory>
+        requires { tasks ≤ MOST_TASKS }
         ensures opened { IfOk result (λ v. Keeps v []) }
         ensures count { IfOk result (λ v. task_count v ≡ tasks) }
     {
-        let mut all = Vec::new(alloc);
-        all.push(TaskJobs::new(alloc))?;
-        for _ in 0..tasks {
-            all.push(TaskJobs::new(alloc))?;
-        }
+        let tasks = unbegun(alloc, tasks + 1)?;
         Ok(JobTable {
-            tasks: all,
-            workers: [None; CPUS],
+            tasks,
+            workers: nobody(),
             asked: 0,
         })
     }
@@ -60,7 +78,7 @@ impl JobTable {
         arrive(tasks, clock, act)?;
         end(alloc, tasks, clock, act)?;
         self.workers[cpu] = worker_after(act.act, act.reply, act.task, worker);
-        if act.task.is_some() && locks(act.act, act.reply) {
+        if asks(act) {
             self.asked += 1;
         }
         Ok(())

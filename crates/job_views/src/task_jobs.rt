@@ -3,7 +3,7 @@ ghost use Rattle.std.specs.Prelude.{◌≡◌, ◌≤◌, OnOk, true};
 ghost use Rattle.rt_base.specs.declared.TheConstants.{MOST_STEPS};
 ghost use Rattle.job_facts.specs.Deeds as deeds;
 ghost use Rattle.job_facts.specs.Tallies.{no_jobs};
-ghost use Rattle.view_replay.specs.ShownActs.{act_shown};
+ghost use Rattle.view_acts.specs.ShownActs.{act_shown};
 ghost use Rattle.job_views.specs.Told.{HasRoom, jobs_of, tally_of};
 
 use crate::deeds::{is_queued, is_switch, locks, works};
@@ -11,7 +11,7 @@ use crate::tally::{JobTally, is_elsewhere};
 use rt_base::{NoMemory, Tick};
 use std::alloc::Global;
 use std::mem;
-use view_replay::ShownAct;
+use view_acts::ShownAct;
 
 /// The jobs of a task: those that ended, in order, and the job after them; the processor that took the task up last; and its
 /// arrivals.

@@ -1,2 +1,1 @@
-pub mod ShownActs
 pub mod Replays

@@ -2,7 +2,5 @@
 #![tactic(auto)]
 
 mod replay;
-mod shown_act;
 
 pub use replay::Replay;
-pub use shown_act::ShownAct;

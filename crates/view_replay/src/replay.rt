@@ -10,16 +10,16 @@ ghost use Rattle.rt_plays.specs.Plays.{group_with};
 ghost use Rattle.count_laws.specs.Tallies.{tallies};
 ghost use Rattle.block_counts.specs.SeenWords.{tallies_of};
 ghost use Rattle.rank_afresh.specs.Standing as ranker;
-ghost use Rattle.view_replay.specs.ShownActs.{act_shown};
+ghost use Rattle.view_acts.specs.ShownActs.{act_shown};
 ghost use Rattle.view_replay.specs.Replays.{IsAt, IsMoved, group_of, spare};
 
-use crate::shown_act::ShownAct;
 use block_counts::{Blocks, Seen};
 use rank_afresh::Afresh;
 use rt_base::{GroupNo, NoMemory, TaskNo, Tick};
 use rt_history::Entry;
 use rt_task::{Setup, Step};
 use std::alloc::Global;
+use view_acts::ShownAct;
 use waiting_list::WaitingList;
 
 /// A group whose steps are taken again. A step is two moves: `clock` and then `act`; between them, and after each, a view reads
