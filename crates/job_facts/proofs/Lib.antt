@@ -2,3 +2,4 @@ pub mod Steps
 pub mod Workers
 pub mod Jobs
 pub mod Few
+pub mod Rows

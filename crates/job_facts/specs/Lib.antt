@@ -3,4 +3,5 @@ pub mod Places
 pub mod Deeds
 pub mod Workers
 pub mod Kept
+pub mod Rows
 pub mod JobLaws

@@ -2,7 +2,7 @@
 //! has a law as its contract, and does nothing.
 #![tactic(auto)]
 
-ghost use Rattle.job_facts.specs.JobLaws.{JobsAreKept, TalliesAreFew};
+ghost use Rattle.job_facts.specs.JobLaws.{JobsAreKept, RowsAreKept, TalliesAreFew};
 
 /// What is kept of the jobs of a task goes by its deeds, move by move.
 pub fn jobs_are_kept()
@@ -12,4 +12,9 @@ pub fn jobs_are_kept()
 /// No count of a job is above the number of entries.
 pub fn tallies_are_few()
     ensures { TalliesAreFew }
+{}
+
+/// The lines of the table of jobs are read off what is kept.
+pub fn rows_are_kept()
+    ensures { RowsAreKept }
 {}

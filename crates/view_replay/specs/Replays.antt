@@ -1,5 +1,6 @@
 -- A group whose steps are taken again, as contracts see it.
-use Rattle.std.specs.Prelude.{◌≡◌, ℕ, ◌≤◌, ◌∷◌, length}
+use Rattle.std.specs.Prelude.{◌≡◌, ℕ, ◌≤◌, Bool, ◌∷◌, length, Option, option_map}
+use Rattle.rt_base.specs.declared.TaskNo.{TaskNo}
 use Rattle.rt_task.specs.Validity.{IsValid}
 use Rattle.rt_model.specs.Group.{Group}
 use Rattle.rt_model.specs.Past.{Clock, Past, now}
@@ -34,3 +35,7 @@ pub record IsMoved (r : Replay) (tick : ℕ) (past : Past) : Type 0 where
   pub ranked : ranker.IsAt r.afresh (Clock tick ∷ past)
   pub counted : requests.IsAt r.blocks past
   pub clock_is : r.clock.0 ≡ now (Clock tick ∷ past)
+
+-- the task whose job a move ended
+abbrev pub ended_number : Option (TaskNo × Bool) → Option ℕ
+ended_number o = option_map (λ (x : TaskNo × Bool). x.0.0) o

@@ -1,5 +1,6 @@
 //! A group's steps taken again, one move after the other.
-ghost use Rattle.std.specs.Prelude.{◌≡◌, ◌+◌, ◌<◌, ◌≤◌, ◌∷◌, [], IfOk};
+ghost use Rattle.std.specs.Prelude.{◌≡◌, ◌+◌, ◌<◌, ◌≤◌, ◌∷◌, [], ℕ, IfOk};
+ghost use Rattle.rt_base.specs.TaskNos.{number_of_task};
 ghost use Rattle.rt_base.specs.declared.TheConstants.{MOST_STEPS, TICK_END};
 ghost use Rattle.rt_model.specs.Histories.{after};
 ghost use Rattle.rt_model.specs.Outcomes.{past_act};
@@ -11,7 +12,7 @@ ghost use Rattle.count_laws.specs.Tallies.{tallies};
 ghost use Rattle.block_counts.specs.SeenWords.{tallies_of};
 ghost use Rattle.rank_afresh.specs.Standing as ranker;
 ghost use Rattle.view_acts.specs.ShownActs.{act_shown};
-ghost use Rattle.view_replay.specs.Replays.{IsAt, IsMoved, group_of, spare};
+ghost use Rattle.view_replay.specs.Replays.{IsAt, IsMoved, ended_number, group_of, spare};
 
 use block_counts::{Blocks, Seen};
 use rank_afresh::Afresh;
@@ -32,7 +33,9 @@ pub struct Replay {
     clock: Tick,
 }
 
-fn task_of(ended: Option<(TaskNo, bool)>) -> Option<TaskNo> {
+fn task_of(ended: Option<(TaskNo, bool)>) -> Option<TaskNo>
+    ensures { number_of_task result ≡ ended_number ended }
+{
     match ended {
         Some((task, _)) => Some(task),
         None => None,

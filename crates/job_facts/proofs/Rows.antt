@@ -1,0 +1,161 @@
+-- The line of a job is read off what is kept of it.
+use Rattle.std.proofs.Common.{◌≡◌, ◌∙◌, ℕ, ◌+◌, ◌-◌, ◌<◌, ◌≤◌, append-nil, Bool, true, false, List, [], ◌∷◌, ◌++◌, ◌&&◌, length, map, get_or, refl, sym, ap, arith, subst, length-append}
+use Rattle.std.specs.Prelude.{All, Option, if◌then◌else◌, ◌==◌, sum_by, slice_get, unwrap_or}
+use Rattle.std.proofs.Math.ListN.{get_or-append}
+use Rattle.std.proofs.Math.Seq.{get_or-append_seam}
+use Rattle.std.proofs.lemmas.List.{get_or-map, map-append}
+use Rattle.std.proofs.lemmas.List.Sums.{sum_by-cons}
+use Rattle.std.proofs.lemmas.List.Elements.{All-head, All-nil, All-push, All-tail, All-weaker}
+use Rattle.rt_task.specs.declared.Kind.{Kind}
+use Rattle.rt_task.specs.declared.Kind.TheVariants.{Periodic, Sporadic}
+use Rattle.count_laws.specs.Tallies as seen
+use Rattle.count_laws.specs.Tallies.{tallies, tally}
+use Rattle.rt_rules.proofs.BoolLaws.{both}
+use Rattle.rt_rules.specs.SemState.{Asks, Frees, Neither, SemAct}
+use Rattle.rt_model.specs.Blocking.{Asked, asked_by, asks, ends, ends_all, requests}
+use Rattle.rt_model.specs.Group.{Group, task}
+use Rattle.rt_model.specs.Jobs.{done}
+use Rattle.rt_model.specs.Past.{Event, Past, entries_in, now, sem_act}
+use Rattle.rt_model.specs.Releases.{arrivals, release_by}
+use Rattle.trace_views.specs.JobCounts.{asks_now, ends_all_seen, ends_seen, migrations, moves, preemptions, queued, requests_made, requests_of, units}
+use Rattle.trace_views.specs.JobMoves.{in_job}
+use Rattle.trace_views.specs.JobRows.{job_row}
+use Rattle.trace_views.specs.JobTimes as times
+use Rattle.job_facts.specs.JobLaws.{RowsAreKept}
+use Rattle.job_facts.specs.Places.{request_places}
+use Rattle.job_facts.specs.Rows.{ends_all_in, ends_in, no_request, release_in, row_from}
+use Rattle.job_facts.specs.Tallies.{tally_at}
+use Rattle.job_facts.proofs.Few.{request_places-length}
+
+abbrev none_asked : Asked
+none_asked = record { no = 0; task = 0; sem = 0 }
+
+abbrev AreBelow : ℕ → List ℕ → Type 0
+AreBelow n is = All (λ i. i < n) is
+
+-- the requests in these places
+abbrev in_places : List Asked → List ℕ → List Asked
+in_places rs is = map (λ i. get_or rs i none_asked) is
+
+stays-in : (rs more : List Asked) (is : List ℕ) → AreBelow (length rs) is → in_places (rs ++ more) is ≡ in_places rs is
+stays-in rs more [] low = refl
+stays-in rs more (i ∷ is) low = let first : i < length rs = All-head (λ j. j < length rs) i is low in rw (get_or-append rs more none_asked i first, stays-in rs more is (All-tail (λ j. j < length rs) i is low)) refl
+
+-- a further request stands behind the others
+requests-grow : (e : Event) (past : Past) → (more : List Asked) × (requests (e ∷ past) ≡ requests past ++ more)
+unfolding requests
+requests-grow e past = by_act (sem_act e)
+  where
+    by_act : (x : SemAct) → (more : List Asked) × (asked_by x (entries_in past) (requests past) ≡ requests past ++ more)
+    by_act (Asks t s) = (record { no = entries_in past; task = t; sem = s } ∷ [], refl)
+    by_act (Frees t s) = ([], sym (append-nil (requests past)))
+    by_act Neither = ([], sym (append-nil (requests past)))
+
+below-more : (n m : ℕ) (is : List ℕ) → n ≤ m → AreBelow n is → AreBelow m is
+below-more n m is h low = All-weaker (λ i. i < n) (λ i. i < m) (λ i k. omega (arith, h, k)) is low
+
+-- one more where a request is made
+asked-length : (t : ℕ) (x : SemAct) (n : ℕ) (rs : List Asked) → asks t x ≡ true → length (asked_by x n rs) ≡ length rs + 1
+asked-length t (Asks u s) n rs h = length-append rs (record { no = n; task = u; sem = s } ∷ [])
+asked-length t (Frees u s) n rs h = cc
+asked-length t Neither n rs h = cc
+
+pub placed : (t k : ℕ) (past : Past) → AreBelow (length (requests past)) (request_places t k past)
+unfolding request_places requests
+placed t k [] = All-nil (λ i. i < 0)
+placed t k (e ∷ past) = by_case (in_job t k (asks_now t) e past) refl (placed t k past)
+  where
+    grown : length (requests past) ≤ length (requests (e ∷ past))
+    grown = let more = requests-grow e past in omega (arith, ap length more.1, length-append (requests past) more.0)
+
+    by_case : (b : Bool) → in_job t k (asks_now t) e past ≡ b → AreBelow (length (requests past)) (request_places t k past)
+        → AreBelow (length (requests (e ∷ past))) (if b then (request_places t k past ++ length (requests past) ∷ []) else request_places t k past)
+    by_case true m low =
+        let one : length (requests (e ∷ past)) ≡ length (requests past) + 1 = asked-length t (sem_act e) (entries_in past) (requests past) (both (done t past + 1 == k) (asks t (sem_act e)) m).1 in
+        All-push (λ i. i < length (requests (e ∷ past))) (request_places t k past) (length (requests past)) (below-more (length (requests past)) (length (requests (e ∷ past))) (request_places t k past) grown low) (omega (arith, one))
+    by_case false m low = below-more (length (requests past)) (length (requests (e ∷ past))) (request_places t k past) grown low
+
+-- in these places are the requests of the job
+asked-last : (t : ℕ) (x : SemAct) (n : ℕ) (rs own : List Asked) → asks t x ≡ true → asked_by x n own ≡ own ++ get_or (asked_by x n rs) (length rs) none_asked ∷ []
+asked-last t (Asks u s) n rs own h =
+    let r : Asked = record { no = n; task = u; sem = s } in
+    ap (λ (y : Asked). own ++ y ∷ []) (sym (get_or-append_seam rs r [] none_asked))
+asked-last t (Frees u s) n rs own h = cc
+asked-last t Neither n rs own h = cc
+
+pub requests-placed : (t k : ℕ) (past : Past) → requests_of t k past ≡ in_places (requests past) (request_places t k past)
+unfolding requests_of request_places requests
+requests-placed t k [] = refl
+requests-placed t k (e ∷ past) = by_case (in_job t k (asks_now t) e past) refl (requests-placed t k past)
+  where
+    kept : in_places (requests (e ∷ past)) (request_places t k past) ≡ in_places (requests past) (request_places t k past)
+    kept = let more = requests-grow e past in ap (λ rs. in_places rs (request_places t k past)) more.1 ∙ stays-in (requests past) more.0 (request_places t k past) (placed t k past)
+
+    by_case : (b : Bool) → in_job t k (asks_now t) e past ≡ b → requests_of t k past ≡ in_places (requests past) (request_places t k past)
+        → (if b then asked_by (sem_act e) (entries_in past) (requests_of t k past) else requests_of t k past) ≡ in_places (requests (e ∷ past)) (if b then (request_places t k past ++ length (requests past) ∷ []) else request_places t k past)
+    by_case true m before =
+        let is : asks t (sem_act e) ≡ true = (both (done t past + 1 == k) (asks t (sem_act e)) m).1 in
+        asked-last t (sem_act e) (entries_in past) (requests past) (requests_of t k past) is
+        ∙ ap (λ rs. rs ++ get_or (requests (e ∷ past)) (length (requests past)) none_asked ∷ []) (before ∙ sym kept)
+        ∙ sym (map-append (λ i. get_or (requests (e ∷ past)) i none_asked) (request_places t k past) (length (requests past) ∷ []))
+    by_case false m before = before ∙ sym kept
+
+-- so what they saw end is told by the list of requests
+told-at : (g : Group) (past : Past) (f : seen.Tally → ℕ) (is : List ℕ) → AreBelow (length (requests past)) is
+    → sum_by (λ r. f (tally g past r)) (in_places (requests past) is) ≡ sum_by (λ i. f (get_or (tallies g past) i no_request)) is
+told-at g past f [] low = refl
+told-at g past f (i ∷ is) low =
+    let first : i < length (requests past) = All-head (λ j. j < length (requests past)) i is low in
+    let rest = told-at g past f is (All-tail (λ j. j < length (requests past)) i is low) in
+    let here : get_or (tallies g past) i no_request ≡ tally g past (get_or (requests past) i none_asked) = get_or-map (tally g past) (requests past) i none_asked no_request first in
+    let seen_by : Asked → ℕ = λ r. f (tally g past r) in
+    let told : ℕ → ℕ = λ j. f (get_or (tallies g past) j no_request) in
+    sum_by-cons seen_by (get_or (requests past) i none_asked) (in_places (requests past) is)
+    ∙ ap (λ (x : seen.Tally). f x + sum_by seen_by (in_places (requests past) is)) (sym here)
+    ∙ ap (λ n. told i + n) rest
+    ∙ sym (sum_by-cons told i is)
+
+ends-told : (g : Group) (t k : ℕ) (past : Past) → ends_seen g t k past ≡ ends_in (tallies g past) (request_places t k past)
+unfolding ends_seen
+ends-told g t k past =
+    ap (λ rs. sum_by (λ (r : Asked). ends g r.no r.task r.sem past) rs) (requests-placed t k past) ∙ told-at g past (λ (x : seen.Tally). x.ends) (request_places t k past) (placed t k past)
+
+ends_all-told : (g : Group) (t k : ℕ) (past : Past) → ends_all_seen g t k past ≡ ends_all_in (tallies g past) (request_places t k past)
+unfolding ends_all_seen
+ends_all-told g t k past =
+    ap (λ rs. sum_by (λ (r : Asked). ends_all g r.no r.task r.sem past) rs) (requests-placed t k past) ∙ told-at g past (λ (x : seen.Tally). x.ends_all) (request_places t k past) (placed t k past)
+
+-- the release
+released : (g : Group) (kind : Kind) (t k : ℕ) (past : Past) → unwrap_or (release_by g kind t (k - 1) past) 0 ≡ release_in kind (task g t) (arrivals t past) k
+unfolding release_by
+released g Periodic t k past = refl
+released g Sporadic t k past = refl
+
+read : (g : Group) (t k : ℕ) (past : Past) → job_row g t past k ≡ row_from (task g t) (arrivals t past) (tallies g past) (now past) t k (tally_at t k past)
+unfolding tally_at job_row times.release_of times.deadline_of times.finish times.outcome times.response times.lateness requests_made
+read g t k past =
+    let release = released g (task g t).kind t k past in
+    let finish : Option ℕ = times.finish_by (times.last_unit t k past) (times.end t k past) in
+    λ i. record {
+      task = t;
+      job = k;
+      release = release i;
+      deadline = release i + (task g t).rel_deadline;
+      start = times.start t k past;
+      finish = finish;
+      end = times.end t k past;
+      outcome = times.outcome_by (times.end t k past) (release i + (task g t).rel_deadline) (now past);
+      units = units t k past;
+      response = times.time_to (release i) finish;
+      lateness = times.time_to (release i + (task g t).rel_deadline) finish;
+      preemptions = preemptions t k past;
+      migrations = migrations t k past;
+      moves = moves t k past;
+      requests = sym (request_places-length t k past) i;
+      queued = queued t k past;
+      ends = ends-told g t k past i;
+      ends_all = ends_all-told g t k past i;
+    }
+
+pub rows_are_kept : RowsAreKept
+rows_are_kept = record { read = read; placed = placed }
