@@ -1,30 +1,33 @@
 -- The line of a job is read off what is kept of it.
-use Rattle.std.proofs.Common.{◌≡◌, ◌∙◌, ℕ, ◌+◌, ◌-◌, ◌<◌, ◌≤◌, append-nil, Bool, true, false, List, [], ◌∷◌, ◌++◌, ◌&&◌, length, map, get_or, refl, sym, ap, arith, subst, length-append}
-use Rattle.std.specs.Prelude.{All, Option, if◌then◌else◌, ◌==◌, sum_by, slice_get, unwrap_or}
+use Rattle.std.proofs.Common.{◌≡◌, ◌∙◌, ◌||◌, inl, inr, ℕ, zero, suc, ◌+◌, ◌-◌, ◌<◌, ◌≤◌, append-nil, Bool, true, false, List, [], ◌∷◌, ◌++◌, ◌&&◌, length, map, get_or, refl, sym, ap, arith, subst, length-append}
+use Rattle.std.specs.Prelude.{All, Option, nat_lt, not, if◌then◌else◌, ◌==◌, sum_by, slice_get, unwrap_or}
+use Rattle.std.proofs.lemmas.Bool.{cases_lt}
 use Rattle.std.proofs.Math.ListN.{get_or-append}
 use Rattle.std.proofs.Math.Seq.{get_or-append_seam}
-use Rattle.std.proofs.lemmas.List.{get_or-map, map-append}
+use Rattle.std.proofs.lemmas.List.{get_or-map, get_or_past, length-map, map-append}
 use Rattle.std.proofs.lemmas.List.Sums.{sum_by-cons}
 use Rattle.std.proofs.lemmas.List.Elements.{All-head, All-nil, All-push, All-tail, All-weaker}
 use Rattle.rt_task.specs.declared.Kind.{Kind}
 use Rattle.rt_task.specs.declared.Kind.TheVariants.{Periodic, Sporadic}
 use Rattle.count_laws.specs.Tallies as seen
 use Rattle.count_laws.specs.Tallies.{tallies, tally}
+use Rattle.rt_rules.specs.Numbers.{numbers_from}
 use Rattle.rt_rules.proofs.BoolLaws.{both}
+use Rattle.rt_rules.proofs.NumberLaws.{length-numbers_from}
 use Rattle.rt_rules.specs.SemState.{Asks, Frees, Neither, SemAct}
 use Rattle.rt_model.specs.Blocking.{Asked, asked_by, asks, ends, ends_all, requests}
 use Rattle.rt_model.specs.Group.{Group, task}
 use Rattle.rt_model.specs.Jobs.{done}
 use Rattle.rt_model.specs.Past.{Event, Past, entries_in, now, sem_act}
-use Rattle.rt_model.specs.Releases.{arrivals, release_by}
+use Rattle.rt_model.specs.Releases.{arrivals, exists, has_come, is_released, opens_early, release, release_by}
 use Rattle.trace_views.specs.JobCounts.{asks_now, ends_all_seen, ends_seen, migrations, moves, preemptions, queued, requests_made, requests_of, units}
 use Rattle.trace_views.specs.JobMoves.{in_job}
-use Rattle.trace_views.specs.JobRows.{job_row}
+use Rattle.trace_views.specs.JobRows.{job_row, listed}
 use Rattle.trace_views.specs.JobTimes as times
 use Rattle.job_facts.specs.JobLaws.{RowsAreKept}
 use Rattle.job_facts.specs.Places.{request_places}
-use Rattle.job_facts.specs.Rows.{ends_all_in, ends_in, no_request, release_in, row_from}
-use Rattle.job_facts.specs.Tallies.{tally_at}
+use Rattle.job_facts.specs.Rows.{ends_all_in, ends_in, job_in, listed_in, no_request, release_at, row_from}
+use Rattle.job_facts.specs.Tallies.{Tally, jobs_at, tally_at}
 use Rattle.job_facts.proofs.Few.{request_places-length}
 
 abbrev none_asked : Asked
@@ -126,7 +129,12 @@ ends_all-told g t k past =
     ap (λ rs. sum_by (λ (r : Asked). ends_all g r.no r.task r.sem past) rs) (requests-placed t k past) ∙ told-at g past (λ (x : seen.Tally). x.ends_all) (request_places t k past) (placed t k past)
 
 -- the release
-released : (g : Group) (kind : Kind) (t k : ℕ) (past : Past) → unwrap_or (release_by g kind t (k - 1) past) 0 ≡ release_in kind (task g t) (arrivals t past) k
+at-numbers_from : (i n k : ℕ) → k < n → get_or (numbers_from i n) k 0 ≡ i + k
+at-numbers_from i zero k h = absurd (omega (arith, h))
+at-numbers_from i (suc n) zero h = omega arith
+at-numbers_from i (suc n) (suc k) h = at-numbers_from (suc i) n k (omega (arith, h)) ∙ omega arith
+
+released : (g : Group) (kind : Kind) (t k : ℕ) (past : Past) → release_by g kind t k past ≡ release_at kind (task g t) (arrivals t past) k
 unfolding release_by
 released g Periodic t k past = refl
 released g Sporadic t k past = refl
@@ -134,7 +142,7 @@ released g Sporadic t k past = refl
 read : (g : Group) (t k : ℕ) (past : Past) → job_row g t past k ≡ row_from (task g t) (arrivals t past) (tallies g past) (now past) t k (tally_at t k past)
 unfolding tally_at job_row times.release_of times.deadline_of times.finish times.outcome times.response times.lateness requests_made
 read g t k past =
-    let release = released g (task g t).kind t k past in
+    let release = ap (λ o. unwrap_or o 0) (released g (task g t).kind t (k - 1) past) in
     let finish : Option ℕ = times.finish_by (times.last_unit t k past) (times.end t k past) in
     λ i. record {
       task = t;
@@ -157,5 +165,33 @@ read g t k past =
       ends_all = ends_all-told g t k past i;
     }
 
+listed-told : (g : Group) (t : ℕ) (past : Past) → listed g t past ≡ listed_in (task g t) (arrivals t past) (done t past) (now past)
+unfolding listed exists is_released opens_early release
+listed-told g t past =
+    let early : Bool = (task g t).early in
+    let n : ℕ = done t past in
+    ap (λ o. if has_come (now past) o || (early && (nat_lt 0 n && not (has_come (now past) o))) then n + 1 else n) (released g (task g t).kind t n past)
+
+current-told : (t k : ℕ) (past : Past) → 1 ≤ k → k ≤ done t past + 1 → job_in (jobs_at t past) k ≡ tally_at t k past
+unfolding jobs_at
+current-told t k past low high = elim (cases_lt (k - 1) (done t past)) [ inl m ↦ ended m | inr m ↦ last m ]
+  where
+    row : ℕ → Tally
+    row j = tally_at t j past
+
+    long : length (map row (numbers_from 1 (done t past))) ≡ done t past
+    long = length-map (numbers_from 1 (done t past)) row ∙ length-numbers_from 1 (done t past)
+
+    ended : k - 1 < done t past → get_or (map row (numbers_from 1 (done t past))) (k - 1) (row (done t past + 1)) ≡ row k
+    ended m =
+        let within : k - 1 < length (numbers_from 1 (done t past)) = omega (arith, m, length-numbers_from 1 (done t past)) in
+        let number : 1 + (k - 1) ≡ k = omega (arith, low) in
+        get_or-map row (numbers_from 1 (done t past)) (k - 1) 0 (row (done t past + 1)) within ∙ ap row (at-numbers_from 1 (done t past) (k - 1) m ∙ number)
+
+    last : done t past ≤ k - 1 → get_or (map row (numbers_from 1 (done t past))) (k - 1) (row (done t past + 1)) ≡ row k
+    last m =
+        let number : done t past + 1 ≡ k = omega (arith, m, low, high) in
+        get_or_past (map row (numbers_from 1 (done t past))) (k - 1) (row (done t past + 1)) (omega (arith, m, long)) ∙ ap row number
+
 pub rows_are_kept : RowsAreKept
-rows_are_kept = record { read = read; placed = placed }
+rows_are_kept = record { read = read; listed = listed-told; current = current-told; placed = placed }

@@ -1,18 +1,19 @@
 -- The laws by which what is kept of jobs is kept, move by move.
-use Rattle.std.specs.Prelude.{◌≡◌, ℕ, ◌<◌, All, [], ◌∷◌, length}
+use Rattle.std.specs.Prelude.{◌≡◌, ℕ, ◌+◌, ◌<◌, ◌≤◌, All, [], ◌∷◌, length}
 use Rattle.rt_task.specs.declared.Act.{Act}
 use Rattle.count_laws.specs.Tallies.{tallies}
 use Rattle.rt_model.specs.Blocking.{requests}
 use Rattle.rt_model.specs.Group.{Group, task}
+use Rattle.rt_model.specs.Jobs.{done}
 use Rattle.rt_model.specs.Outcomes.{past_act}
 use Rattle.rt_model.specs.Past.{Acted, Clock, Past, entries_in, now}
 use Rattle.rt_model.specs.Reachable.{IsReachable}
 use Rattle.rt_model.specs.Releases.{arrivals}
-use Rattle.trace_views.specs.JobRows.{job_row}
+use Rattle.trace_views.specs.JobRows.{job_row, listed}
 use Rattle.job_facts.specs.Deeds.{jobs_fed}
 use Rattle.job_facts.specs.Kept.{IsFew, scene_at}
 use Rattle.job_facts.specs.Places.{request_places}
-use Rattle.job_facts.specs.Rows.{row_from}
+use Rattle.job_facts.specs.Rows.{job_in, listed_in, row_from}
 use Rattle.job_facts.specs.Tallies.{jobs_at, no_jobs, tally_at}
 
 -- At opening nothing is kept, a move of the clock changes nothing, and an act changes what its deeds are.
@@ -26,9 +27,11 @@ pub record JobsAreKept : Type 0 where
 abbrev pub TalliesAreFew : Type 0
 TalliesAreFew = (t k : ℕ) (past : Past) → IsFew (entries_in past) (tally_at t k past)
 
--- The line of a job is read off what is kept of it, and off its task's arrivals and the requests; the places of its requests are among
--- these.
+-- The line of a job is read off what is kept of it, and off its task's arrivals and the requests, and so is how many are listed; the
+-- places of a job's requests are among these.
 pub record RowsAreKept : Type 0 where
   pub read : (g : Group) (t k : ℕ) (past : Past)
       → job_row g t past k ≡ row_from (task g t) (arrivals t past) (tallies g past) (now past) t k (tally_at t k past)
+  pub listed : (g : Group) (t : ℕ) (past : Past) → listed g t past ≡ listed_in (task g t) (arrivals t past) (done t past) (now past)
+  pub current : (t k : ℕ) (past : Past) → 1 ≤ k → k ≤ done t past + 1 → job_in (jobs_at t past) k ≡ tally_at t k past
   pub placed : (t k : ℕ) (past : Past) → All (λ i. i < length (requests past)) (request_places t k past)

@@ -1,17 +1,33 @@
 -- The line of a job, from what is kept of it.
-use Rattle.std.specs.Prelude.{ℕ, ◌+◌, ◌-◌, ◌*◌, List, length, slice_get, slice_index_or, sum_by, unwrap_or, None}
+use Rattle.std.specs.Prelude.{ℕ, ◌+◌, ◌-◌, ◌*◌, nat_lt, Bool, not, ◌&&◌, ◌||◌, List, length, slice_get, slice_index_or, sum_by}
+use Rattle.std.specs.Prelude.{Option, None, Some, unwrap_or, if◌then◌else◌}
 use Rattle.rt_task.specs.declared.Kind.{Kind}
 use Rattle.rt_task.specs.declared.Kind.TheVariants.{Periodic, Sporadic}
 use Rattle.rt_task.specs.declared.Task.{Task}
 use Rattle.count_laws.specs.Tallies as seen
+use Rattle.rt_model.specs.Releases.{has_come}
 use Rattle.trace_views.specs.JobRows.{JobRow}
 use Rattle.trace_views.specs.JobTimes.{finish_by, outcome_by, time_to}
-use Rattle.job_facts.specs.Tallies.{Tally}
+use Rattle.job_facts.specs.Tallies.{Jobs, Tally}
 
--- the release of job k of a task with these arrivals
-abbrev pub release_in : Kind → Task → List ℕ → ℕ → ℕ
-release_in Periodic t arrivals k = t.phase + (k - 1) * t.period
-release_in Sporadic t arrivals k = unwrap_or (slice_get arrivals (k - 1)) 0
+-- the release of the job behind so many others, of a task with these arrivals, where it is known
+abbrev pub release_at : Kind → Task → List ℕ → ℕ → Option ℕ
+release_at Periodic t arrivals before = Some (t.phase + before * t.period)
+release_at Sporadic t arrivals before = slice_get arrivals before
+
+-- whether the job behind so many that ended is there, at a clock
+abbrev pub is_there : Task → List ℕ → ℕ → ℕ → Bool
+is_there t arrivals ended clock =
+    let come : Bool = has_come clock (release_at t.kind t arrivals ended) in
+    come || (t.early && (nat_lt 0 ended && not come))
+
+-- how many jobs are listed
+abbrev pub listed_in : Task → List ℕ → ℕ → ℕ → ℕ
+listed_in t arrivals ended clock = if is_there t arrivals ended clock then ended + 1 else ended
+
+-- job k of those that are kept
+abbrev pub job_in : Jobs → ℕ → Tally
+job_in r k = slice_index_or r.ended (k - 1) r.current
 
 -- what the requests in these places saw end
 abbrev pub no_request : seen.Tally
@@ -26,7 +42,7 @@ ends_all_in requests places = sum_by (λ i. (slice_index_or requests i no_reques
 -- job k, at a clock
 abbrev pub row_from : Task → List ℕ → List seen.Tally → ℕ → ℕ → ℕ → Tally → JobRow
 row_from task arrivals requests clock t k x =
-    let release : ℕ = release_in task.kind task arrivals k in
+    let release : ℕ = unwrap_or (release_at task.kind task arrivals (k - 1)) 0 in
     let deadline : ℕ = release + task.rel_deadline in
     record {
       task = t;

@@ -1,2 +1,4 @@
 pub mod Told
+pub mod Times
+pub mod RowsShown
 pub mod Tables

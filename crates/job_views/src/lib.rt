@@ -2,10 +2,14 @@
 #![tactic(auto)]
 
 mod deeds;
+mod ends;
 mod moves;
+mod row;
 mod table;
 mod tally;
 mod task_jobs;
+mod times;
 
+pub use row::{JobRow, Outcome};
 pub use table::JobTable;
 

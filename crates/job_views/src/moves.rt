@@ -1,7 +1,7 @@
 //! What an act makes of the jobs of all tasks, of each kind of deed.
 ghost use Rattle.std.specs.Prelude.{◌≡◌, ◌<◌, ◌≤◌, ℕ, OnOk, length};
 ghost use Rattle.rt_base.specs.TaskNos.{number_of_task};
-ghost use Rattle.rt_base.specs.declared.TheConstants.{MOST_STEPS};
+ghost use Rattle.rt_base.specs.declared.TheConstants.{MOST_STEPS, TICK_END};
 ghost use Rattle.job_facts.specs.Deeds.{Scene, jobs_arrived, jobs_ended, jobs_run, jobs_taken};
 ghost use Rattle.rt_rules.specs.Numbers.{is};
 ghost use Rattle.view_acts.specs.ShownActs.{act_shown};
@@ -44,7 +44,8 @@ pub(crate) fn run(
     asked: u32,
     act: &ShownAct,
 ) -> Result<(), NoMemory>
-    requires { (t : ℕ) → t < length tasks.old → HasRoom (jobs_in tasks.old t).current }
+    requires clock { clock.0 < TICK_END }
+    requires room { (t : ℕ) → t < length tasks.old → HasRoom (jobs_in tasks.old t).current }
     ensures { let at : Scene =
             record { clock = clock.0; asked = asked; worker = number_of_task worker } in
         OnOk result ((t : ℕ) → t < length tasks.old
@@ -60,6 +61,7 @@ pub(crate) fn run(
 
 /// A job of a task arrives.
 pub(crate) fn arrive(tasks: &mut [TaskJobs], clock: Tick, act: &ShownAct) -> Result<(), NoMemory>
+    requires { clock.0 < TICK_END }
     ensures { OnOk result ((t : ℕ) → t < length tasks.old
         → jobs_in tasks.new t ≡ jobs_arrived clock.0 t (act_shown act.now) (jobs_in tasks.old t)) }
 {
@@ -76,6 +78,7 @@ pub(crate) fn end(
     clock: Tick,
     act: &ShownAct,
 ) -> Result<(), NoMemory>
+    requires { clock.0 < TICK_END }
     ensures { OnOk result ((t : ℕ) → t < length tasks.old
         → jobs_in tasks.new t ≡ jobs_ended clock.0 t (act_shown act.now) (jobs_in tasks.old t)) }
 {

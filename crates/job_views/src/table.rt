@@ -1,6 +1,6 @@
 //! The jobs of a group.
 ghost use Rattle.std.specs.Prelude.{◌≡◌, ◌<◌, ◌≤◌, ◌∷◌, [], ℕ, IfOk, OnOk, length, vec_len};
-ghost use Rattle.rt_base.specs.declared.TheConstants.{MOST_TASKS};
+ghost use Rattle.rt_base.specs.declared.TheConstants.{MOST_TASKS, TICK_END};
 ghost use Rattle.rt_model.specs.Past.{Acted, Past};
 ghost use Rattle.view_acts.specs.ShownActs.{act_shown};
 ghost use Rattle.job_facts.specs.Tallies.{no_jobs};
@@ -64,7 +64,8 @@ impl JobTable {
 
     /// Takes an act of the group, at the clock. Where memory runs out, the table is not to be used any more.
     pub fn feed(&mut self, alloc: Global, clock: Tick, act: &ShownAct) -> Result<(), NoMemory>
-        requires { (past : Past) × CanFeed self.old past clock.0 (act_shown act.now) }
+        requires clock { clock.0 < TICK_END }
+        requires next { (past : Past) × CanFeed self.old past clock.0 (act_shown act.now) }
         ensures kept { OnOk result ((past : Past)
             → CanFeed self.old past clock.0 (act_shown act.now)
             → Keeps self.new (Acted (act_shown act.now) ∷ past)) }

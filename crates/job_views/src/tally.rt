@@ -1,10 +1,10 @@
 //! What one job has come to.
-ghost use Rattle.std.specs.Prelude.{◌≡◌, ◌≤◌, OnOk, true};
-ghost use Rattle.rt_base.specs.declared.TheConstants.{MOST_STEPS};
+ghost use Rattle.std.specs.Prelude.{◌≡◌, ◌<◌, ◌≤◌, OnOk, true};
+ghost use Rattle.rt_base.specs.declared.TheConstants.{MOST_STEPS, TICK_END};
 ghost use Rattle.trace_views.specs.JobCounts.{is_elsewhere};
 ghost use Rattle.job_facts.specs.Deeds as deeds;
 ghost use Rattle.job_facts.specs.Tallies.{nothing};
-ghost use Rattle.job_views.specs.Told.{tally_of};
+ghost use Rattle.job_views.specs.Times.{IsLow};
 
 use rt_base::NoMemory;
 use std::alloc::Global;
@@ -23,6 +23,8 @@ pub(crate) struct JobTally {
     pub(crate) moves: u32,
     pub(crate) requests: Vec<u32>,
     pub(crate) queued: u32,
+    ghost unit_in_time: { IsLow unit },
+    ghost end_in_time: { IsLow end },
 }
 
 /// Whether a place is another processor than this.
@@ -36,6 +38,8 @@ pub(crate) fn is_elsewhere(cpu: u32, place: Option<u32>) -> bool
 }
 
 impl JobTally {
+    ghost use Rattle.job_views.specs.Told.{tally_of};
+
     /// A job that has not begun.
     pub(crate) fn new(alloc: Global) -> JobTally
         ensures { tally_of result ≡ nothing }
@@ -64,6 +68,7 @@ impl JobTally {
 
     /// The job does a unit.
     pub(crate) fn work(&mut self, clock: u64, cpu: u32)
+        requires clock { clock < TICK_END }
         requires units { self.old.units ≤ MOST_STEPS }
         requires migrations { self.old.migrations ≤ MOST_STEPS }
         ensures { tally_of self.new ≡ deeds.worked true clock cpu (tally_of self.old) }
@@ -102,6 +107,7 @@ impl JobTally {
 
     /// The job ends.
     pub(crate) fn end(&mut self, clock: u64)
+        requires { clock < TICK_END }
         ensures { tally_of self.new ≡ deeds.ended true clock (tally_of self.old) }
     {
         self.end = Some(clock);

@@ -10,10 +10,10 @@ use Rattle.job_views.specs.Told.{HasRoom, jobs_in, jobs_of}
 use Rattle.job_views.proofs.Updates.{jobs_in-at, run-worker, updated}
 use Rattle.job_views.proofs.moves.run.Goals as goal
 
-pub run-requires : goal.run-requires
-run-requires c =
+pub run-requires-clause-room : goal.run-requires-clause-room
+run-requires-clause-room c =
     let here = jobs_in-at c.args.tasks.now c.in-Some.task.0 c.index-tasks-task.result c.if-task-tasks.true in
-    subst (λ (r : Jobs). HasRoom r.current) here (c.requires c.in-Some.task.0 c.if-task-tasks.true)
+    subst (λ (r : Jobs). HasRoom r.current) here (c.requires.room c.in-Some.task.0 c.if-task-tasks.true)
 
 pub returns-in-Some : goal.returns-in-Some
 returns-in-Some c =

@@ -9,14 +9,14 @@ use Rattle.job_views.proofs.table.JobTable.feed.Goals as goal
 
 pub take_up-requires : goal.take_up-requires
 take_up-requires c =
-    let r = moves-room c.args.self.now c.requires.0 c.args.clock.0 _ c.requires.1 in
+    let r = moves-room c.args.self.now c.requires.next.0 c.args.clock.0 _ c.requires.next.1 in
     subst (λ xs. (t : ℕ) → t < length xs → (jobs_in xs t).current.moves ≤ MOST_STEPS) (sym c.as_mut_slice-tasks.ensures.value) r
 
-pub run-requires : goal.run-requires
-run-requires c = run-room c.args.self.now c.requires.0 c.args.clock.0 _ c.requires.1 c.as_mut_slice-tasks.result.now c.take_up.new.tasks c.as_mut_slice-tasks.ensures.value c.take_up.auto.tasks c.take_up.ensures
+pub run-requires-clause-room : goal.run-requires-clause-room
+run-requires-clause-room c = run-room c.args.self.now c.requires.next.0 c.args.clock.0 _ c.requires.next.1 c.as_mut_slice-tasks.result.now c.take_up.new.tasks c.as_mut_slice-tasks.ensures.value c.take_up.auto.tasks c.take_up.ensures
 
 pub overflow_add-self : goal.overflow_add-self
-overflow_add-self c = let low = asked-low c.args.self.now c.requires.0 c.args.clock.0 _ c.requires.1 in omega (arith, low)
+overflow_add-self c = let low = asked-low c.args.self.now c.requires.next.0 c.args.clock.0 _ c.requires.next.1 in omega (arith, low)
 
 pub returns-then-asks-clause-kept : goal.returns-then-asks-clause-kept
 returns-then-asks-clause-kept c = λ past can.

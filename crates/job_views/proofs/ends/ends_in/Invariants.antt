@@ -1,0 +1,7 @@
+use Rattle.std.proofs.Common.{◌≡◌, ◌*◌, ◌^◌, ◌≤◌, take}
+use Rattle.block_counts.specs.SeenWords.{tallies_of}
+use Rattle.job_facts.specs.Rows.{ends_in}
+use Rattle.job_views.proofs.ends.ends_in.Given as goal
+
+abbrev pub invariant-loop-place : goal.invariant-loop-place
+invariant-loop-place l = (l.ends ≡ ends_in (tallies_of l.requests) (take l.place-index l.places)) × (l.ends ≤ 2 ^ 32 * l.place-index)
