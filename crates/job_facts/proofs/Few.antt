@@ -4,6 +4,10 @@ use Rattle.std.specs.Prelude.{Option, None, Some, is_some, if◌then◌else◌, 
 use Rattle.rt_task.specs.declared.Act.{Act}
 use Rattle.rt_task.specs.declared.Act.TheVariants as acts
 use Rattle.rt_task.specs.declared.Op.TheVariants as ops
+use Rattle.std.proofs.lemmas.List.{length-map}
+use Rattle.rt_rules.specs.Numbers.{is, numbers_from}
+use Rattle.rt_rules.proofs.NumberLaws.{length-numbers_from}
+use Rattle.rt_model.specs.Releases.{arrivals}
 use Rattle.rt_rules.specs.SemState.{Neither}
 use Rattle.rt_rules.proofs.BoolLaws.{and_false}
 use Rattle.rt_model.specs.Blocking.{asked_by, asks, requests}
@@ -122,3 +126,28 @@ requests-few (Acted d ∷ past) = rw (requests-by d past) (by_case (is_some d.ta
     by_case : (b : Bool) → length (requests past) ≤ entries_in past → (if b then length (requests past) + 1 else length (requests past)) ≤ entries_in past + 1
     by_case true h = omega (arith, h)
     by_case false h = omega (arith, h)
+
+-- nor do more jobs end than there are entries
+pub done-few : (t : ℕ) (past : Past) → done t past ≤ entries_in past
+unfolding done
+done-few t [] = omega arith
+done-few t (Clock tick ∷ past) = done-few t past
+done-few t (Acted d ∷ past) = by_case (is t d.ended) (done-few t past)
+  where
+    by_case : (b : Bool) → done t past ≤ entries_in past → (if b then done t past + 1 else done t past) ≤ entries_in past + 1
+    by_case true h = omega (arith, h)
+    by_case false h = omega (arith, h)
+
+-- the places of a job's requests
+pub places-kept : (t k : ℕ) (past : Past) → (tally_at t k past).requests ≡ request_places t k past
+unfolding tally_at
+places-kept t k past = refl
+
+-- what is kept of a task's arrivals, and how many of its jobs have ended
+pub arrivals-kept : (t : ℕ) (past : Past) → (jobs_at t past).arrivals ≡ arrivals t past
+unfolding jobs_at
+arrivals-kept t past = refl
+
+pub ended-kept : (t : ℕ) (past : Past) → length (jobs_at t past).ended ≡ done t past
+unfolding jobs_at
+ended-kept t past = length-map (numbers_from 1 (done t past)) (λ k. tally_at t k past) ∙ length-numbers_from 1 (done t past)

@@ -1,3 +1,4 @@
 pub mod Updates
 pub mod Feeding
 pub mod SeenEnds
+pub mod Lines

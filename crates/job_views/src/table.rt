@@ -1,16 +1,22 @@
 //! The jobs of a group.
 ghost use Rattle.std.specs.Prelude.{◌≡◌, ◌<◌, ◌≤◌, ◌∷◌, [], ℕ, IfOk, OnOk, length, vec_len};
 ghost use Rattle.rt_base.specs.declared.TheConstants.{MOST_TASKS, TICK_END};
+ghost use Rattle.rt_model.specs.Group.{Group};
 ghost use Rattle.rt_model.specs.Past.{Acted, Past};
+ghost use Rattle.trace_views.specs.JobRows.{job_row, listed};
 ghost use Rattle.view_acts.specs.ShownActs.{act_shown};
 ghost use Rattle.job_facts.specs.Tallies.{no_jobs};
-ghost use Rattle.job_views.specs.Tables.{CanFeed, Keeps, task_count, worker_in};
+ghost use Rattle.job_views.specs.Tables.{CanFeed, IsLineOf, IsTableOf, Keeps, task_count, worker_in};
+ghost use Rattle.job_views.specs.RowsShown.{row_shown};
 ghost use Rattle.job_views.specs.Told.{jobs_in};
 
 use crate::deeds::{asks, worker_after};
 use crate::moves::{arrive, end, run, take_up};
+use crate::row::JobRow;
 use crate::task_jobs::TaskJobs;
+use block_counts::Seen;
 use rt_base::{MOST_CPUS, NoMemory, TaskNo, Tick};
+use rt_task::Task;
 use std::alloc::Global;
 use view_acts::ShownAct;
 
@@ -83,5 +89,27 @@ impl JobTable {
             self.asked += 1;
         }
         Ok(())
+    }
+
+    /// How many jobs of a task are listed at the clock: those that ended, and the current one where it is there.
+    pub fn listed(&self, task: &Task, clock: Tick) -> u32
+        requires { (g : Group) × (past : Past) × IsTableOf g past self.now task.now clock.0 }
+        ensures { (g : Group) (past : Past) → IsTableOf g past self.now task.now clock.0
+            → result ≡ listed g task.now.number.0 past }
+    {
+        let jobs = &self.tasks[task.number.0 as usize];
+        jobs.listed(task, clock)
+    }
+
+    /// The line of a job of a task at the clock, by its number, from 1. `requests` are those of the group so far.
+    pub fn row(&self, task: &Task, job: u32, clock: Tick, requests: &[Seen]) -> JobRow
+        requires { (g : Group) × (past : Past)
+            × IsLineOf g past self.now task.now clock.0 job requests.now }
+        ensures { (g : Group) (past : Past)
+            → IsLineOf g past self.now task.now clock.0 job requests.now
+            → row_shown result ≡ job_row g task.now.number.0 past job }
+    {
+        let jobs = &self.tasks[task.number.0 as usize];
+        jobs.row(task, job, clock, requests)
     }
 }
