@@ -3,3 +3,4 @@ pub mod Workers
 pub mod Jobs
 pub mod Few
 pub mod Rows
+pub mod RowSums

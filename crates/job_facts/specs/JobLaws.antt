@@ -1,5 +1,5 @@
 -- The laws by which what is kept of jobs is kept, move by move.
-use Rattle.std.specs.Prelude.{◌≡◌, ℕ, ◌+◌, ◌<◌, ◌≤◌, All, [], ◌∷◌, length}
+use Rattle.std.specs.Prelude.{◌≡◌, ℕ, ◌+◌, ◌<◌, ◌≤◌, All, List, [], ◌∷◌, ◌++◌, length}
 use Rattle.rt_task.specs.declared.Act.{Act}
 use Rattle.count_laws.specs.Tallies.{tallies}
 use Rattle.rt_model.specs.Blocking.{requests}
@@ -9,11 +9,13 @@ use Rattle.rt_model.specs.Outcomes.{past_act}
 use Rattle.rt_model.specs.Past.{Acted, Clock, Past, entries_in, now}
 use Rattle.rt_model.specs.Reachable.{IsReachable}
 use Rattle.rt_model.specs.Releases.{arrivals}
-use Rattle.trace_views.specs.JobRows.{job_row, listed}
+use Rattle.trace_views.specs.JobRows.{JobRow, job_row, listed, rows_of}
+use Rattle.trace_views.specs.TaskRows.{task_row}
 use Rattle.job_facts.specs.Deeds.{jobs_fed}
 use Rattle.job_facts.specs.Kept.{IsFew, scene_at}
 use Rattle.job_facts.specs.Places.{request_places}
 use Rattle.job_facts.specs.Rows.{job_in, listed_in, row_from}
+use Rattle.job_facts.specs.Sums.{added, sums_of, task_row_from}
 use Rattle.job_facts.specs.Tallies.{jobs_at, no_jobs, tally_at}
 
 -- At opening nothing is kept, a move of the clock changes nothing, and an act changes what its deeds are.
@@ -35,3 +37,9 @@ pub record RowsAreKept : Type 0 where
   pub listed : (g : Group) (t : ℕ) (past : Past) → listed g t past ≡ listed_in (task g t) (arrivals t past) (done t past) (now past)
   pub current : (t k : ℕ) (past : Past) → 1 ≤ k → k ≤ done t past + 1 → job_in (jobs_at t past) k ≡ tally_at t k past
   pub placed : (t k : ℕ) (past : Past) → All (λ i. i < length (requests past)) (request_places t k past)
+
+-- The line of a task is read off what the lines of its jobs come to, which is added up line by line.
+pub record SumsAreKept : Type 0 where
+  pub read : (g : Group) (t : ℕ) (past : Past)
+      → task_row g past t ≡ task_row_from (task g t) (arrivals t past) (tallies g past) (now past) t (done t past) (sums_of (rows_of g t past))
+  pub added_up : (rows : List JobRow) (r : JobRow) → sums_of (rows ++ r ∷ []) ≡ added r (sums_of rows)

@@ -4,4 +4,5 @@ pub mod Deeds
 pub mod Workers
 pub mod Kept
 pub mod Rows
+pub mod Sums
 pub mod JobLaws

@@ -2,7 +2,7 @@
 //! has a law as its contract, and does nothing.
 #![tactic(auto)]
 
-ghost use Rattle.job_facts.specs.JobLaws.{JobsAreKept, RowsAreKept, TalliesAreFew};
+ghost use Rattle.job_facts.specs.JobLaws.{JobsAreKept, RowsAreKept, SumsAreKept, TalliesAreFew};
 
 /// What is kept of the jobs of a task goes by its deeds, move by move.
 pub fn jobs_are_kept()
@@ -17,4 +17,9 @@ pub fn tallies_are_few()
 /// The lines of the table of jobs are read off what is kept.
 pub fn rows_are_kept()
     ensures { RowsAreKept }
+{}
+
+/// The lines of the table of tasks are read off what the lines of jobs come to.
+pub fn sums_are_kept()
+    ensures { SumsAreKept }
 {}
