@@ -7,7 +7,9 @@ use Rattle.rt_task.specs.declared.Op.TheVariants as ops
 use Rattle.std.proofs.lemmas.List.{length-map}
 use Rattle.rt_rules.specs.Numbers.{is, numbers_from}
 use Rattle.rt_rules.proofs.NumberLaws.{length-numbers_from}
-use Rattle.rt_model.specs.Releases.{arrivals}
+use Rattle.rt_model.specs.Group.{Group}
+use Rattle.rt_model.specs.Releases.{arrivals, exists}
+use Rattle.trace_views.specs.JobRows.{listed}
 use Rattle.rt_rules.specs.SemState.{Neither}
 use Rattle.rt_rules.proofs.BoolLaws.{and_false}
 use Rattle.rt_model.specs.Blocking.{asked_by, asks, requests}
@@ -151,3 +153,12 @@ arrivals-kept t past = refl
 pub ended-kept : (t : ℕ) (past : Past) → length (jobs_at t past).ended ≡ done t past
 unfolding jobs_at
 ended-kept t past = length-map (numbers_from 1 (done t past)) (λ k. tally_at t k past) ∙ length-numbers_from 1 (done t past)
+
+-- nor are more jobs listed than have begun
+pub listed-few : (g : Group) (t : ℕ) (past : Past) → listed g t past ≤ done t past + 1
+unfolding listed
+listed-few g t past = by_case (exists g t past)
+  where
+    by_case : (b : Bool) → (if b then done t past + 1 else done t past) ≤ done t past + 1
+    by_case true = omega arith
+    by_case false = omega arith

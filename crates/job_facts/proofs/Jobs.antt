@@ -24,12 +24,12 @@ use Rattle.job_facts.specs.Tallies.{Jobs, Tally, jobs_at, no_jobs, nothing, tall
 use Rattle.job_facts.proofs.Steps.{asks-shown, tally-clock, tally-current, tally-none, tally-opening, tally-others, tally_after, works-shown}
 use Rattle.job_facts.proofs.Workers.{worked-worker}
 
-map-same : {X : Type 0} (f h : ℕ → X) (i n : ℕ) → ((k : ℕ) → i ≤ k → k < i + n → f k ≡ h k) → map f (numbers_from i n) ≡ map h (numbers_from i n)
+pub map-same : {X : Type 0} (f h : ℕ → X) (i n : ℕ) → ((k : ℕ) → i ≤ k → k < i + n → f k ≡ h k) → map f (numbers_from i n) ≡ map h (numbers_from i n)
 map-same f h i zero same = refl
 map-same f h i (suc n) same =
     rw (same i (omega arith) (omega arith), map-same f h (suc i) n (λ k low high. same k (omega (arith, low)) (omega (arith, high)))) refl
 
-map-last : {X : Type 0} (f : ℕ → X) (i n : ℕ) → map f (numbers_from i (n + 1)) ≡ map f (numbers_from i n) ++ f (i + n) ∷ []
+pub map-last : {X : Type 0} (f : ℕ → X) (i n : ℕ) → map f (numbers_from i (n + 1)) ≡ map f (numbers_from i n) ++ f (i + n) ∷ []
 map-last f i zero = let at : i ≡ i + 0 = omega arith in ap (λ j. f j ∷ []) at
 map-last f i (suc n) =
     let size : suc n + 1 ≡ suc (n + 1) = omega arith in

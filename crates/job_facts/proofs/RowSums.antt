@@ -16,7 +16,7 @@ use Rattle.trace_views.specs.Due.{due_before, released_at, released_by}
 use Rattle.trace_views.specs.JobRows.{JobRow, rows_of}
 use Rattle.trace_views.specs.TaskRows.{asked, greater, greatest_of, is_late, task_row, with_other}
 use Rattle.job_facts.specs.JobLaws.{SumsAreKept}
-use Rattle.job_facts.specs.Sums.{Sums, added, due_in, most_ends, most_ends_all, plus, released_in, sums_of, task_row_from, with_number}
+use Rattle.job_facts.specs.Sums.{Sums, added, due_in, most_ends, most_ends_all, no_sums, plus, released_in, sums_of, task_row_from, with_number}
 
 -- ---- one line more
 
@@ -55,6 +55,10 @@ added-up rows r = λ i. record {
   requests = sum-more (λ (x : JobRow). x.requests) rows r i;
   queued = sum-more (λ (x : JobRow). x.queued) rows r i;
 }
+
+pub sums-none : sums_of [] ≡ no_sums
+unfolding sums_of
+sums-none = refl
 
 -- ---- the rest of the line
 

@@ -55,9 +55,13 @@ pub record IsTableOf (g : Group) (past : Past) (v : JobTable) (task : Task) (clo
   pub within : task.number.0 ≤ length g.setup.tasks
   pub there : task.number.0 ≤ task_count v
 
--- and this a listed or later job of it, and these the requests of the group
-pub record IsLineOf (g : Group) (past : Past) (v : JobTable) (task : Task) (clock job : ℕ) (requests : List Seen) : Type 0 where
+-- and these are the requests of the group
+pub record IsTableWith (g : Group) (past : Past) (v : JobTable) (task : Task) (clock : ℕ) (requests : List Seen) : Type 0 where
   pub table : IsTableOf g past v task clock
+  pub requests_are : tallies_of requests ≡ tallies g past
+
+-- and this is one of its jobs so far
+pub record IsLineOf (g : Group) (past : Past) (v : JobTable) (task : Task) (clock job : ℕ) (requests : List Seen) : Type 0 where
+  pub with_requests : IsTableWith g past v task clock requests
   pub first : 1 ≤ job
   pub begun : job ≤ done task.number.0 past + 1
-  pub requests_are : tallies_of requests ≡ tallies g past

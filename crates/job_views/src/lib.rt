@@ -2,14 +2,19 @@
 #![tactic(auto)]
 
 mod deeds;
+mod due;
 mod ends;
+mod most;
 mod moves;
 mod row;
+mod sums;
 mod table;
 mod tally;
 mod task_jobs;
+mod task_row;
 mod times;
 
 pub use row::{JobRow, Outcome};
 pub use table::JobTable;
+pub use task_row::TaskRow;
 

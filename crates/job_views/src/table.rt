@@ -1,17 +1,27 @@
 //! The jobs of a group.
-ghost use Rattle.std.specs.Prelude.{◌≡◌, ◌<◌, ◌≤◌, ◌∷◌, [], ℕ, IfOk, OnOk, length, vec_len};
+ghost use Rattle.std.specs.Prelude.{◌≡◌, ◌+◌, ◌<◌, ◌≤◌, ◌∷◌, [], ℕ, IfOk, OnOk, length, map, vec_len};
 ghost use Rattle.rt_base.specs.declared.TheConstants.{MOST_TASKS, TICK_END};
+ghost use Rattle.rt_rules.specs.Numbers.{numbers_from};
 ghost use Rattle.rt_model.specs.Group.{Group};
+ghost use Rattle.rt_model.specs.Jobs.{done};
 ghost use Rattle.rt_model.specs.Past.{Acted, Past};
 ghost use Rattle.trace_views.specs.JobRows.{job_row, listed};
+ghost use Rattle.trace_views.specs.TaskRows.{task_row};
 ghost use Rattle.view_acts.specs.ShownActs.{act_shown};
+ghost use Rattle.job_facts.specs.Sums.{sums_of};
 ghost use Rattle.job_facts.specs.Tallies.{no_jobs};
-ghost use Rattle.job_views.specs.Tables.{CanFeed, IsLineOf, IsTableOf, Keeps, task_count, worker_in};
+ghost use Rattle.job_views.specs.Tables.{CanFeed, IsLineOf, IsTableOf, IsTableWith, Keeps, task_count, worker_in};
 ghost use Rattle.job_views.specs.RowsShown.{row_shown};
+ghost use Rattle.job_views.specs.SumsShown.{sums_shown};
+ghost use Rattle.job_views.specs.TaskRowsShown.{task_row_shown};
 ghost use Rattle.job_views.specs.Told.{jobs_in};
 
 use crate::deeds::{asks, worker_after};
+use crate::due::{due_in, released_in};
+use crate::most::{most_ends, most_ends_all};
 use crate::moves::{arrive, end, run, take_up};
+use crate::sums::Sums;
+use crate::task_row::TaskRow;
 use crate::row::JobRow;
 use crate::task_jobs::TaskJobs;
 use block_counts::Seen;
@@ -111,5 +121,55 @@ impl JobTable {
     {
         let jobs = &self.tasks[task.number.0 as usize];
         jobs.row(task, job, clock, requests)
+    }
+
+    /// What the lines of so many jobs of a task come to, from the first on.
+    fn sums(&self, task: &Task, jobs: u32, clock: Tick, requests: &[Seen]) -> Sums
+        requires { (g : Group) × (past : Past)
+            × IsTableWith g past self.now task.now clock.0 requests.now
+            × (jobs ≤ done task.now.number.0 past + 1) }
+        ensures { (g : Group) (past : Past)
+            → IsTableWith g past self.now task.now clock.0 requests.now
+            → jobs ≤ done task.now.number.0 past + 1 → sums_shown result
+            ≡ sums_of (map (job_row g task.now.number.0 past) (numbers_from 1 jobs)) }
+    {
+        let mut sums = Sums::new();
+        for i in 0..jobs {
+            sums.add(&self.row(task, i + 1, clock, requests));
+        }
+        sums
+    }
+
+    /// The line of a task at the clock. `requests` are those of the group so far.
+    pub fn task_row(&self, task: &Task, clock: Tick, requests: &[Seen]) -> TaskRow
+        requires clock { clock.0 < TICK_END }
+        requires table { (g : Group) × (past : Past)
+            × IsTableWith g past self.now task.now clock.0 requests.now }
+        ensures { (g : Group) (past : Past)
+            → IsTableWith g past self.now task.now clock.0 requests.now
+            → task_row_shown result ≡ task_row g past task.now.number.0 }
+    {
+        let jobs = &self.tasks[task.number.0 as usize];
+        let arrivals = jobs.arrivals.as_slice();
+        let ended = jobs.ended.len() as u32;
+        let sums = self.sums(task, self.listed(task, clock), clock, requests);
+        TaskRow {
+            task: task.number,
+            released: released_in(task, arrivals, clock.0),
+            ended,
+            late: sums.late,
+            missed: due_in(task, arrivals, clock.0).saturating_sub(u64::from(ended)),
+            units: sums.units,
+            response_max: sums.response_max,
+            response_sum: sums.response_sum,
+            lateness_max: sums.lateness_max,
+            preemptions: sums.preemptions,
+            migrations: sums.migrations,
+            moves: sums.moves,
+            requests: sums.requests,
+            queued: sums.queued,
+            ends_max: most_ends(task.number, requests),
+            ends_all_max: most_ends_all(task.number, requests),
+        }
     }
 }

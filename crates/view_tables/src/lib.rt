@@ -1,0 +1,5 @@
+//! The texts of the tables of jobs and tasks of a set and its histories.
+#![tactic(auto)]
+
+mod fields;
+mod lines;
