@@ -3,19 +3,20 @@ ghost use Rattle.std.specs.Prelude.{◌≡◌, ◌∷◌, ◌++◌, [], OnOk, de
 ghost use Rattle.table_texts.specs.Fields.{integer_or_none, number_or_none};
 
 use itoa::Buffer;
-use std::alloc::AllocError;
+use rt_base::NoMemory;
 
 /// A text and a byte.
 #[tactic(auto, using(std::proofs::Common::append_assoc))]
-pub(crate) fn put_text(text: &mut Vec<u8>, field: &[u8], behind: u8) -> Result<(), AllocError>
+pub(crate) fn put_text(text: &mut Vec<u8>, field: &[u8], behind: u8) -> Result<(), NoMemory>
     ensures { OnOk result (text.new.items ≡ text.old.items ++ (field.now ++ behind ∷ [])) }
 {
     text.extend_from_slice(field)?;
-    text.push(behind)
+    text.push(behind)?;
+    Ok(())
 }
 
 /// A number and a byte.
-pub(crate) fn put_number(text: &mut Vec<u8>, number: u64, behind: u8) -> Result<(), AllocError>
+pub(crate) fn put_number(text: &mut Vec<u8>, number: u64, behind: u8) -> Result<(), NoMemory>
     ensures { OnOk result (text.new.items ≡ text.old.items ++ (decimal number ++ behind ∷ [])) }
 {
     let mut buffer = Buffer::new();
@@ -23,7 +24,7 @@ pub(crate) fn put_number(text: &mut Vec<u8>, number: u64, behind: u8) -> Result<
 }
 
 /// A number, where there is one, and a comma.
-pub(crate) fn put_number_or_none(text: &mut Vec<u8>, number: Option<u64>) -> Result<(), AllocError>
+pub(crate) fn put_number_or_none(text: &mut Vec<u8>, number: Option<u64>) -> Result<(), NoMemory>
     ensures { OnOk result
         (text.new.items ≡ text.old.items ++ (number_or_none number ++ 44 ∷ [])) }
 {
@@ -34,7 +35,7 @@ pub(crate) fn put_number_or_none(text: &mut Vec<u8>, number: Option<u64>) -> Res
 }
 
 /// A number that may be below 0, where there is one, and a comma.
-pub(crate) fn put_integer_or_none(text: &mut Vec<u8>, number: Option<i64>) -> Result<(), AllocError>
+pub(crate) fn put_integer_or_none(text: &mut Vec<u8>, number: Option<i64>) -> Result<(), NoMemory>
     ensures { OnOk result
         (text.new.items ≡ text.old.items ++ (integer_or_none number ++ 44 ∷ [])) }
 {
@@ -46,7 +47,7 @@ pub(crate) fn put_integer_or_none(text: &mut Vec<u8>, number: Option<i64>) -> Re
 }
 
 /// A sum of such numbers, where there is one, and a comma.
-pub(crate) fn put_sum_or_none(text: &mut Vec<u8>, sum: Option<i128>) -> Result<(), AllocError>
+pub(crate) fn put_sum_or_none(text: &mut Vec<u8>, sum: Option<i128>) -> Result<(), NoMemory>
     ensures { OnOk result
         (text.new.items ≡ text.old.items ++ (integer_or_none sum ++ 44 ∷ [])) }
 {

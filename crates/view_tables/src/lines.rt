@@ -12,7 +12,7 @@ use crate::fields::{
     put_integer_or_none, put_number, put_number_or_none, put_sum_or_none, put_text,
 };
 use job_views::{JobRow, Outcome, TaskRow};
-use std::alloc::AllocError;
+use rt_base::NoMemory;
 
 fn word_of(outcome: Outcome) -> &'static [u8]
     ensures { result.now ≡ outcome_word (outcome_shown outcome) }
@@ -26,7 +26,7 @@ fn word_of(outcome: Outcome) -> &'static [u8]
 }
 
 /// The line of a job of the task with this name.
-pub(crate) fn put_job(text: &mut Vec<u8>, name: &[u8], row: &JobRow) -> Result<(), AllocError>
+pub(crate) fn put_job(text: &mut Vec<u8>, name: &[u8], row: &JobRow) -> Result<(), NoMemory>
     ensures { OnOk result ((g : Group) → (groups.task g row.now.task.0).name ≡ name.now
         → text.new.items ≡ text.old.items ++ line_of (job_fields g (row_shown row.now))) }
 {
@@ -51,7 +51,7 @@ pub(crate) fn put_job(text: &mut Vec<u8>, name: &[u8], row: &JobRow) -> Result<(
 }
 
 /// The line of a task with this name.
-pub(crate) fn put_task(text: &mut Vec<u8>, name: &[u8], row: &TaskRow) -> Result<(), AllocError>
+pub(crate) fn put_task(text: &mut Vec<u8>, name: &[u8], row: &TaskRow) -> Result<(), NoMemory>
     ensures { OnOk result ((g : Group) → (groups.task g row.now.task.0).name ≡ name.now
         → text.new.items ≡ text.old.items ++ line_of (task_fields g (task_row_shown row.now))) }
 {
