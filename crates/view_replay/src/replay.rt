@@ -109,6 +109,7 @@ impl Replay {
         ensures at { (past : Past) → IsAt self.now past → result.0 ≡ now past }
         ensures moved { (past : Past) (tick : ℕ) → IsMoved self.now tick past
             → result.0 ≡ now (Clock tick ∷ past) }
+        ensures low { (past : Past) → IsAt self.now past → result.0 < TICK_END }
     {
         self.clock
     }

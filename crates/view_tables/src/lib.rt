@@ -3,3 +3,4 @@
 
 mod fields;
 mod lines;
+mod played;

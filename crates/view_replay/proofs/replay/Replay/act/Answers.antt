@@ -48,6 +48,7 @@ returns-clause-at c = λ past moved.
         valid = subst (λ (x : Group). IsValid x.setup) (sym same) moved.whole.valid;
         group_is = counted_same ∙ moved.whole.group_is ∙ sym same;
         spare_is = omega (arith, c.feed.ensures.room, c.act-reply.ensures.room, moved.whole.spare_is);
+        clock_low = moved.whole.clock_low;
         waiting_room = subst (λ (x : Group). length x.setup.tasks ≤ c.list_waiting.new.list.room) (sym same) room;
       };
       ranked = c.act-reply.ensures.acted past moved.ranked;
