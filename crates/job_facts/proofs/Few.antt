@@ -1,5 +1,5 @@
 -- No count of a job is above the number of entries.
-use Rattle.std.proofs.Common.{◌≡◌, ◌∙◌, ℕ, ◌+◌, ◌≤◌, Bool, true, false, List, [], ◌∷◌, ◌++◌, ◌&&◌, length, refl, sym, ap, arith, length-append}
+use Rattle.std.proofs.Common.{◌≡◌, ◌∙◌, ℕ, ◌+◌, ◌≤◌, Bool, true, false, List, [], ◌∷◌, ◌++◌, ◌&&◌, length, refl, ap, arith, length-append}
 use Rattle.std.specs.Prelude.{Option, None, Some, is_some, if◌then◌else◌, ◌==◌}
 use Rattle.rt_task.specs.declared.Act.{Act}
 use Rattle.rt_task.specs.declared.Act.TheVariants as acts
@@ -12,9 +12,9 @@ use Rattle.rt_model.specs.Releases.{arrivals, exists}
 use Rattle.trace_views.specs.JobRows.{listed}
 use Rattle.rt_rules.specs.SemState.{Neither}
 use Rattle.rt_rules.proofs.BoolLaws.{and_false}
-use Rattle.rt_model.specs.Blocking.{asked_by, asks, requests}
+use Rattle.rt_model.specs.Blocking.{asked_by, requests}
 use Rattle.rt_model.specs.Jobs.{done}
-use Rattle.rt_model.specs.Past.{Acted, Clock, Event, Past, PastAct, accepted, entries_in, sem_act, sem_act_of}
+use Rattle.rt_model.specs.Past.{Acted, Clock, Past, PastAct, accepted, entries_in, sem_act_of}
 use Rattle.trace_views.specs.JobCounts.{asks_now, changes, migrations, moves, moves_now, preemptions, preempts, queued, queues_now, unit_places, units}
 use Rattle.trace_views.specs.JobMoves.{Test, count_moves, in_job}
 use Rattle.trace_views.specs.JobTimes.{works}

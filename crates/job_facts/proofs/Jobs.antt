@@ -1,6 +1,6 @@
 -- What is kept of the jobs of a task, move by move.
-use Rattle.std.proofs.Common.{◌≡◌, ◌∙◌, ℕ, suc, zero, ◌+◌, ◌<◌, ◌≤◌, Bool, true, false, List, [], ◌∷◌, ◌++◌, ◌&&◌, length, map, refl, sym, ap, arith}
-use Rattle.std.specs.Prelude.{Option, None, Some, if◌then◌else◌, ◌==◌}
+use Rattle.std.proofs.Common.{◌≡◌, ◌∙◌, ℕ, suc, zero, ◌+◌, ◌<◌, ◌≤◌, Bool, true, false, [], ◌∷◌, ◌++◌, ◌&&◌, length, map, refl, ap, arith}
+use Rattle.std.specs.Prelude.{None, Some, if◌then◌else◌, ◌==◌}
 use Rattle.rt_task.specs.declared.Act.{Act}
 use Rattle.rt_task.specs.declared.Act.TheVariants as acts
 use Rattle.rt_rules.specs.Numbers.{is, numbers_from}
@@ -9,19 +9,18 @@ use Rattle.rt_model.specs.Blocking.{requests}
 use Rattle.rt_model.specs.Group.{Group}
 use Rattle.rt_model.specs.Jobs.{done}
 use Rattle.rt_model.specs.Outcomes.{past_act}
-use Rattle.rt_model.specs.Past.{Acted, Clock, Event, Past, PastAct, accepted, ends_job, now}
+use Rattle.rt_model.specs.Past.{Acted, Clock, Event, Past, PastAct, accepted, now}
 use Rattle.rt_model.specs.Reachable.{IsReachable}
 use Rattle.rt_model.specs.Releases.{arrivals, arrives}
 use Rattle.rt_model.proofs.Steps.{done-step, past_act-cpu}
-use Rattle.trace_views.specs.JobCounts.{asks_now, has_worked, is_elsewhere, is_queued_reply, is_switch_reply, last_place, moves_now, preempts, takes_up}
-use Rattle.trace_views.specs.JobTimes as times
+use Rattle.trace_views.specs.JobCounts.{asks_now, has_worked, is_queued_reply, is_switch_reply, last_place, moves_now, preempts, takes_up}
 use Rattle.trace_views.proofs.Sums.{above_differs, below_differs}
-use Rattle.job_facts.specs.Deeds.{Scene, arrived_by, arrived_task, asked, closed, ended, jobs_arrived, jobs_ended, jobs_fed, jobs_run, jobs_taken, locks, moved, preempted, ran, worked, works}
+use Rattle.job_facts.specs.Deeds.{arrived_by, arrived_task, asked, closed, ended, jobs_arrived, jobs_fed, jobs_run, jobs_taken, locks, moved, preempted, ran, worked, works}
 use Rattle.job_facts.specs.JobLaws.{JobsAreKept}
 use Rattle.job_facts.specs.Kept.{scene_at}
 use Rattle.job_facts.specs.Workers.{worker}
-use Rattle.job_facts.specs.Tallies.{Jobs, Tally, jobs_at, no_jobs, nothing, tally_at}
-use Rattle.job_facts.proofs.Steps.{asks-shown, tally-clock, tally-current, tally-none, tally-opening, tally-others, tally_after, works-shown}
+use Rattle.job_facts.specs.Tallies.{Jobs, Tally, jobs_at, tally_at}
+use Rattle.job_facts.proofs.Steps.{asks-shown, tally-clock, tally-current, tally-none, tally-opening, tally-others, works-shown}
 use Rattle.job_facts.proofs.Workers.{worked-worker}
 
 pub map-same : {X : Type 0} (f h : ℕ → X) (i n : ℕ) → ((k : ℕ) → i ≤ k → k < i + n → f k ≡ h k) → map f (numbers_from i n) ≡ map h (numbers_from i n)

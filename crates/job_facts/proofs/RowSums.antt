@@ -1,5 +1,5 @@
 -- The line of a task is read off what the lines of its jobs come to.
-use Rattle.std.proofs.Common.{◌≡◌, ◌∙◌, ℕ, ◌+◌, ◌-◌, Bool, true, false, List, [], ◌∷◌, ◌++◌, map, refl, sym, ap, arith, cond}
+use Rattle.std.proofs.Common.{◌≡◌, ◌∙◌, ℕ, ◌+◌, ◌-◌, Bool, true, false, List, [], ◌∷◌, ◌++◌, map, refl, ap, arith, cond}
 use Rattle.std.specs.Prelude.{Option, None, Some, ℤ, filter, filter_map, fold, count_by, sum_by, min, nat_lt, if◌then◌else◌, ◌==◌}
 use Rattle.std.proofs.lemmas.List.Elements.{filter_map-append}
 use Rattle.std.proofs.lemmas.List.Sums.{fold-append, sum_by-append}
@@ -7,7 +7,7 @@ use Rattle.rt_task.specs.declared.Kind.{Kind}
 use Rattle.rt_task.specs.declared.Kind.TheVariants.{Periodic, Sporadic}
 use Rattle.count_laws.specs.Tallies as seen
 use Rattle.count_laws.specs.Tallies.{tallies, tally}
-use Rattle.rt_model.specs.Blocking.{Asked, ends, ends_all, requests}
+use Rattle.rt_model.specs.Blocking.{Asked, requests}
 use Rattle.rt_model.specs.Group.{Group, task}
 use Rattle.rt_model.specs.Jobs.{done}
 use Rattle.rt_model.specs.Past.{Past, now}
@@ -16,7 +16,7 @@ use Rattle.trace_views.specs.Due.{due_before, released_at, released_by}
 use Rattle.trace_views.specs.JobRows.{JobRow, rows_of}
 use Rattle.trace_views.specs.TaskRows.{asked, greater, greatest_of, is_late, task_row, with_other}
 use Rattle.job_facts.specs.JobLaws.{SumsAreKept}
-use Rattle.job_facts.specs.Sums.{Sums, added, due_in, most_ends, most_ends_all, no_sums, plus, released_in, sums_of, task_row_from, with_number}
+use Rattle.job_facts.specs.Sums.{Sums, added, due_in, no_sums, plus, released_in, sums_of, task_row_from, with_number}
 
 -- ---- one line more
 

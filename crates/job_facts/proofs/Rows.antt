@@ -1,6 +1,6 @@
 -- The line of a job is read off what is kept of it.
-use Rattle.std.proofs.Common.{◌≡◌, ◌∙◌, ◌||◌, inl, inr, ℕ, zero, suc, ◌+◌, ◌-◌, ◌<◌, ◌≤◌, append-nil, Bool, true, false, List, [], ◌∷◌, ◌++◌, ◌&&◌, length, map, get_or, refl, sym, ap, arith, subst, length-append}
-use Rattle.std.specs.Prelude.{All, Option, nat_lt, not, if◌then◌else◌, ◌==◌, sum_by, slice_get, unwrap_or}
+use Rattle.std.proofs.Common.{◌≡◌, ◌∙◌, ◌||◌, inl, inr, ℕ, zero, suc, ◌+◌, ◌-◌, ◌<◌, ◌≤◌, append-nil, Bool, true, false, List, [], ◌∷◌, ◌++◌, ◌&&◌, length, map, get_or, refl, sym, ap, arith, length-append}
+use Rattle.std.specs.Prelude.{All, Option, nat_lt, not, if◌then◌else◌, ◌==◌, sum_by, unwrap_or}
 use Rattle.std.proofs.lemmas.Bool.{cases_lt}
 use Rattle.std.proofs.Math.ListN.{get_or-append}
 use Rattle.std.proofs.Math.Seq.{get_or-append_seam}

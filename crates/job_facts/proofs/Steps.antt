@@ -1,24 +1,21 @@
 -- What one act makes of what is kept of a job, job by job.
-use Rattle.std.proofs.Common.{◌≡◌, ◌∙◌, ℕ, suc, zero, ◌+◌, ◌<◌, ◌≤◌, Bool, true, false, List, [], ◌∷◌, ◌++◌, ◌&&◌, length, map, refl, sym, ap, arith, cond}
+use Rattle.std.proofs.Common.{◌≡◌, ◌∙◌, ℕ, ◌+◌, ◌<◌, Bool, true, false, List, [], ◌∷◌, ◌++◌, ◌&&◌, length, refl, sym, ap, arith}
 use Rattle.std.specs.Prelude.{not, Option, None, Some, if◌then◌else◌, ◌==◌}
 use Rattle.rt_task.specs.declared.Act.{Act}
 use Rattle.rt_task.specs.declared.Act.TheVariants as acts
-use Rattle.rt_task.specs.declared.Op.{Op}
 use Rattle.rt_task.specs.declared.Op.TheVariants as ops
-use Rattle.rt_rules.specs.Numbers.{first, is, numbers_from}
+use Rattle.rt_rules.specs.Numbers.{first, is}
 use Rattle.rt_rules.proofs.BoolLaws.{and_false, and_true}
 use Rattle.rt_rules.specs.SemState.{Neither}
 use Rattle.rt_rules.proofs.MemberLaws.{equal_self, turned}
 use Rattle.rt_model.specs.Blocking.{asks, requests}
 use Rattle.rt_model.specs.Jobs.{done}
-use Rattle.rt_model.specs.Past.{Acted, Clock, Event, Past, PastAct, accepted, did, ends_job, is_work, now, operation, sem_act, sem_act_of}
-use Rattle.rt_model.specs.Releases.{arrivals}
-use Rattle.rt_model.proofs.Steps.{done-step}
-use Rattle.trace_views.specs.JobCounts.{asks_now, changes, has_worked, is_elsewhere, is_queued_reply, is_switch_reply, last_place, migrations, moves, moves_now, preemptions, preempts, queued, queues_now, takes_up, unit_places, units}
-use Rattle.trace_views.specs.JobMoves.{Test, clock_if, count_moves, first_clock, in_job, last_clock, or_else}
-use Rattle.trace_views.specs.JobTimes.{end, ends_now, last_unit, start, works}
+use Rattle.rt_model.specs.Past.{Acted, Clock, Event, Past, PastAct, accepted, is_work, now, operation, sem_act_of}
+use Rattle.trace_views.specs.JobCounts.{asks_now, changes, is_elsewhere, is_queued_reply, migrations, moves, moves_now, preemptions, preempts, queued, unit_places, units}
+use Rattle.trace_views.specs.JobMoves.{clock_if, count_moves, first_clock, last_clock, or_else}
+use Rattle.trace_views.specs.JobTimes.{end, last_unit, start, works}
 use Rattle.trace_views.proofs.JobSums.{done-grows}
-use Rattle.trace_views.proofs.Sums.{below_differs, above_differs}
+use Rattle.trace_views.proofs.Sums.{below_differs}
 use Rattle.job_facts.specs.Deeds as deeds
 use Rattle.job_facts.specs.Deeds.{asked, ended, is_lock, locks, moved, preempted, worked}
 use Rattle.job_facts.specs.Places.{request_places}

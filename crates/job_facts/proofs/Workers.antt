@@ -1,8 +1,7 @@
 -- Who worked on a processor last, since it switched.
-use Rattle.std.proofs.Common.{◌≡◌, ◌∙◌, ◌⊎◌, inl, inr, ℕ, ◌+◌, ◌<◌, eqb-true, Bool, true, false, [], ◌∷◌, ◌&&◌, ◌||◌, refl, sym, ap, arith, subst}
-use Rattle.std.specs.Prelude.{Option, None, Some, if◌then◌else◌, ◌==◌, nat_lt, is_some}
+use Rattle.std.proofs.Common.{◌≡◌, ◌∙◌, ◌⊎◌, inl, inr, ℕ, eqb-true, Bool, true, false, [], ◌∷◌, ◌&&◌, ◌||◌, refl, sym, ap, arith, subst}
+use Rattle.std.specs.Prelude.{Option, None, Some, if◌then◌else◌, ◌==◌, is_some}
 use Rattle.std.proofs.lemmas.Bool.Decides.{nat_tests}
-use Rattle.rt_task.specs.declared.Act.{Act}
 use Rattle.rt_history.specs.declared.Reply.{Reply}
 use Rattle.rt_history.specs.declared.Reply.TheVariants as replies
 use Rattle.rt_rules.specs.Numbers.{is}
@@ -10,7 +9,7 @@ use Rattle.rt_rules.proofs.BoolLaws.{and_false, both, clash, unless}
 use Rattle.rt_rules.proofs.MemberLaws.{is-some, some-is}
 use Rattle.rt_model.specs.Group.{Group}
 use Rattle.rt_model.specs.Outcomes.{past_act}
-use Rattle.rt_model.specs.Past.{Acted, Clock, Event, Past, PastAct, accepted, did, is_work, number_of, operation, since}
+use Rattle.rt_model.specs.Past.{Acted, Clock, Event, Past, PastAct, did, is_work}
 use Rattle.rt_model.specs.Reachable.{IsReachable}
 use Rattle.rt_model.specs.Runs.{leaves, runs, runs_after, runs_by}
 use Rattle.rt_model.proofs.Steps.{past_act-cpu, past_act-task, runs-acted, runs-clock}

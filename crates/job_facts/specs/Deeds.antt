@@ -1,5 +1,5 @@
 -- What an act makes of what is kept of a job and of a task's jobs.
-use Rattle.std.specs.Prelude.{ℕ, ◌+◌, Bool, true, false, ◌&&◌, List, [], ◌∷◌, ◌++◌, Option, None, Some, if◌then◌else◌}
+use Rattle.std.specs.Prelude.{ℕ, ◌+◌, Bool, true, false, ◌&&◌, [], ◌∷◌, ◌++◌, Option, None, Some, if◌then◌else◌}
 use Rattle.rt_task.specs.declared.Act.{Act}
 use Rattle.rt_task.specs.declared.Act.TheVariants.{Arrive, Do}
 use Rattle.rt_task.specs.declared.Op.TheVariants.{Lock}

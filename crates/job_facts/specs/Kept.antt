@@ -1,5 +1,5 @@
 -- What is kept of a group's jobs, beside what each task's jobs come to.
-use Rattle.std.specs.Prelude.{◌≡◌, ℕ, ◌≤◌, length}
+use Rattle.std.specs.Prelude.{ℕ, ◌≤◌, length}
 use Rattle.rt_model.specs.Blocking.{requests}
 use Rattle.rt_model.specs.Past.{Past, now}
 use Rattle.job_facts.specs.Deeds.{Scene}

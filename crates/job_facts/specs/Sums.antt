@@ -1,5 +1,5 @@
 -- The line of a task, from the lines of its jobs.
-use Rattle.std.specs.Prelude.{ℕ, ◌+◌, ◌-◌, ◌/◌, nat_le, nat_lt, min, List, [], map, filter, filter_map, count_by, sum_by, ◌==◌}
+use Rattle.std.specs.Prelude.{ℕ, ◌+◌, ◌-◌, ◌/◌, nat_le, nat_lt, min, List, map, filter, filter_map, count_by, sum_by, ◌==◌}
 use Rattle.std.specs.Prelude.{Option, None, Some, ℤ, ◌+ℤ◌, if◌then◌else◌}
 use Rattle.rt_task.specs.declared.Kind.{Kind}
 use Rattle.rt_task.specs.declared.Kind.TheVariants.{Periodic, Sporadic}

@@ -8,12 +8,9 @@ use Rattle.std.proofs.lemmas.Bool.{false≢true}
 use Rattle.rt_base.specs.TaskNos.{number_of_task}
 use Rattle.rt_base.specs.declared.TaskNo.{TaskNo}
 use Rattle.rt_base.specs.declared.TheConstants.{MOST_CPUS, MOST_STEPS}
-use Rattle.rt_task.specs.declared.Act.{Act}
-use Rattle.rt_rules.proofs.MemberLaws.{equal_self, turned}
+use Rattle.rt_rules.proofs.MemberLaws.{equal_self}
 use Rattle.rt_model.specs.Blocking.{requests}
-use Rattle.rt_model.specs.Group.{Group}
-use Rattle.rt_model.specs.Outcomes.{past_act}
-use Rattle.rt_model.specs.Past.{Acted, Past, PastAct, entries_in, now}
+use Rattle.rt_model.specs.Past.{Acted, Past, PastAct}
 use Rattle.job_facts.specs.Deeds.{Scene, jobs_arrived, jobs_ended, jobs_fed, jobs_run, jobs_taken, locks, worker_after}
 use Rattle.job_facts.specs.Kept.{scene_at}
 use Rattle.job_facts.specs.Tallies.{Jobs, jobs_at, no_jobs}
@@ -118,7 +115,7 @@ module _ (v v' : JobTable) (clock : ℕ) (d : PastAct) (w w' : Option TaskNo) (x
       let then_is : number_of_task w' ≡ worker_after d.act d.reply d.task (worker d.cpu past) = fed.worker_then ∙ ap (worker_after d.act d.reply d.task) is in
       record {
         tasks_are = λ t within. ap (λ xs. jobs_in xs t) tasks
-        ∙ fed-tasks v past clock d can w is xs0 xs1 xs2 xs3 xs4 fed.same fed.long1 fed.long2 fed.long3 fed.taken fed.ran fed.arrived fed.ended t (omega (arith, within, ap length tasks, fed.long4, fed.long3, fed.long2, fed.long1, ap length fed.same));
+            ∙ fed-tasks v past clock d can w is xs0 xs1 xs2 xs3 xs4 fed.same fed.long1 fed.long2 fed.long3 fed.taken fed.ran fed.arrived fed.ended t (omega (arith, within, ap length tasks, fed.long4, fed.long3, fed.long2, fed.long1, ap length fed.same));
         workers_are = λ q low. ap (λ ws. worker_in ws q) workers ∙ fed-workers v past clock d can w' then_is fed.workers_long q low;
         asked_is = asked ∙ fed-asked v past clock d can b asks;
       }

@@ -2,7 +2,7 @@
 use Rattle.std.proofs.Common.{◌≡◌, ◌∙◌, [], ◌∷◌, ◌++◌, map, ℕ, ◌+◌, ◌-◌, ◌<◌, ◌≤◌, List, length, get_or, sym, ap, subst, arith}
 use Rattle.std.specs.Prelude.{All, slice_index_or}
 use Rattle.std.proofs.lemmas.List.{length-map}
-use Rattle.rt_base.specs.declared.TheConstants.{MOST_STEPS, TICK_END}
+use Rattle.rt_base.specs.declared.TheConstants.{MOST_STEPS}
 use Rattle.rt_task.specs.Draft.{draft_of}
 use Rattle.rt_task.specs.RangeRules.{task_range}
 use Rattle.rt_task.specs.RuleWords.{is_span}
@@ -20,7 +20,7 @@ use Rattle.rt_model.specs.Past.{Past, now}
 use Rattle.rt_model.specs.Releases.{arrivals}
 use Rattle.rt_groups.specs.Limits.{IsTaskInLimits}
 use Rattle.rt_groups.proofs.SetLimits.{sets_are_in_limits}
-use Rattle.count_laws.specs.Tallies.{Tally, tallies, tally}
+use Rattle.count_laws.specs.Tallies.{tallies, tally}
 use Rattle.block_counts.specs.declared.seen.Seen.{Seen}
 use Rattle.block_counts.specs.SeenWords.{tallies_of, tally_of}
 use Rattle.trace_views.specs.JobRows.{JobRow, job_row, listed, rows_of}
@@ -36,7 +36,7 @@ use Rattle.job_facts.proofs.Few.{arrivals-kept, done-few, ended-kept, places-kep
 use Rattle.job_facts.proofs.Rows.{placed, rows_are_kept}
 use Rattle.job_views.specs.declared.table.JobTable.{JobTable}
 use Rattle.job_views.specs.declared.task_jobs.TaskJobs.{TaskJobs}
-use Rattle.job_views.specs.Tables.{IsLineOf, IsTableOf, IsTableWith, task_count}
+use Rattle.job_views.specs.Tables.{IsLineOf, IsTableOf, IsTableWith}
 use Rattle.job_views.specs.Times.{IsEarly}
 use Rattle.job_views.specs.Told as told
 use Rattle.job_views.specs.Told.{jobs_of}

@@ -1,6 +1,6 @@
 -- The jobs of one task of a list are changed.
-use Rattle.std.proofs.Common.{◌≡◌, ◌∙◌, ℕ, ◌<◌, ◌≢◌, Bool, true, false, List, length, map, get_or, refl, sym, ap, arith, eqb-true, subst}
-use Rattle.std.specs.Prelude.{Option, if◌then◌else◌, ◌==◌}
+use Rattle.std.proofs.Common.{◌≡◌, ◌∙◌, ℕ, ◌<◌, ◌≢◌, Bool, true, false, List, length, get_or, refl, sym, ap, arith, eqb-true}
+use Rattle.std.specs.Prelude.{Option, ◌==◌}
 use Rattle.std.proofs.Math.ListN.{set}
 use Rattle.std.proofs.lemmas.Bool.{false≢true}
 use Rattle.std.proofs.lemmas.List.{get_or-map, get_or-set_other, get_or-set_same, length-set}

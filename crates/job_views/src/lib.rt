@@ -17,4 +17,3 @@ mod times;
 pub use row::{JobRow, Outcome};
 pub use table::JobTable;
 pub use task_row::TaskRow;
-

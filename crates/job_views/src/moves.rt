@@ -47,7 +47,7 @@ pub(crate) fn run(
     requires clock { clock.0 < TICK_END }
     requires room { (t : ℕ) → t < length tasks.old → HasRoom (jobs_in tasks.old t).current }
     ensures { let at : Scene =
-            record { clock = clock.0; asked = asked; worker = number_of_task worker } in
+        record { clock = clock.0; asked = asked; worker = number_of_task worker } in
         OnOk result ((t : ℕ) → t < length tasks.old
         → jobs_in tasks.new t ≡ jobs_run at t (act_shown act.now) (jobs_in tasks.old t)) }
 {

@@ -1,10 +1,9 @@
 -- The act of a step, between whose two moves a group stands.
 use Rattle.std.proofs.Common.{◌≡◌, ◌∙◌, ℕ, ◌∷◌, refl, sym, ap, subst}
-use Rattle.std.specs.Prelude.{Bool, List, Option, None, Some}
+use Rattle.std.specs.Prelude.{List, Option, None, Some}
 use Rattle.rt_task.specs.declared.Act.{Act}
 use Rattle.rt_task.specs.declared.Parts.{Parts}
 use Rattle.rt_task.specs.declared.Step.{Step}
-use Rattle.rt_base.specs.declared.TaskNo.{TaskNo}
 use Rattle.rt_history.specs.declared.Reply.{Reply}
 use Rattle.rt_rules.specs.SemState.{Frees}
 use Rattle.rt_model.specs.Answers.{answer}
@@ -14,7 +13,7 @@ use Rattle.rt_model.specs.Outcomes.{ended, past_act}
 use Rattle.rt_model.specs.Past.{Acted, Past, PastAct}
 use Rattle.rt_model.specs.Runs.{runs}
 use Rattle.rt_model.specs.Steps.{IsStepOf}
-use Rattle.rt_model.proofs.Steps.{after-acted, reply_to-lem}
+use Rattle.rt_model.proofs.Steps.{reply_to-lem}
 use Rattle.rt_groups.specs.Endings.{ended_last}
 use Rattle.count_laws.specs.CountLaws.{act_of}
 use Rattle.count_laws.specs.Tallies.{AreWaiters, Waiter, act_by}

@@ -1,5 +1,7 @@
 -- A group whose history was played again.
-use Rattle.std.specs.Prelude.{◌≡◌, ℕ, length}
+use Rattle.std.specs.Prelude.{◌≡◌, ℕ, ◌≤◌, length}
+use Rattle.rt_task.specs.declared.Task.{Task}
+use Rattle.rt_model.specs.Group as groups
 use Rattle.rt_model.specs.Group.{Group}
 use Rattle.rt_model.specs.Past.{Past}
 use Rattle.view_replay.specs.Replays as replays
@@ -17,3 +19,9 @@ pub record IsPlayed (past : Past) (p : Played) : Type 0 where
   pub at : replays.IsAt p.replay past
   pub kept : Keeps p.table past
   pub tasks : task_count p.table ≡ length (group_of p).setup.tasks
+
+-- the task is one of the group's setup
+pub record HasTask (p : Played) (task : Task) : Type 0 where
+  pub task_is : task ≡ groups.task (group_of p) task.number.0
+  pub from_one : 1 ≤ task.number.0
+  pub within : task.number.0 ≤ length (group_of p).setup.tasks

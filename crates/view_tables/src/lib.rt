@@ -4,3 +4,8 @@
 mod fields;
 mod lines;
 mod played;
+mod tables;
+mod texts;
+
+pub use tables::Table;
+pub use texts::table_text;

@@ -1,12 +1,12 @@
-use Rattle.std.proofs.Common.{◌≡◌, ◌∙◌, ℕ, Bool, refl, sym, ap, subst}
-use Rattle.std.specs.Prelude.{◌==◌, if◌then◌else◌}
+use Rattle.std.proofs.Common.{◌∙◌, refl, sym, ap, subst}
+use Rattle.std.specs.Prelude.{◌==◌}
 use Rattle.std.proofs.lemmas.Result.{on_ok_weaker}
 use Rattle.rt_base.specs.TaskNos.{number_of_task}
 use Rattle.rt_rules.specs.Numbers.{is}
 use Rattle.job_facts.specs.Deeds.{run}
 use Rattle.job_facts.specs.Tallies.{Jobs}
 use Rattle.view_acts.specs.ShownActs.{act_shown}
-use Rattle.job_views.specs.Told.{HasRoom, jobs_in, jobs_of}
+use Rattle.job_views.specs.Told.{HasRoom, jobs_in}
 use Rattle.job_views.proofs.Updates.{jobs_in-at, run-worker, updated}
 use Rattle.job_views.proofs.moves.run.Goals as goal
 

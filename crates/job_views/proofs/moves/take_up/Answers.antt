@@ -1,10 +1,10 @@
-use Rattle.std.proofs.Common.{◌≡◌, ◌∙◌, ◌≤◌, refl, sym, ap, subst}
+use Rattle.std.proofs.Common.{◌∙◌, ◌≤◌, refl, sym, ap, subst}
 use Rattle.rt_base.specs.TaskNos.{number_of_task}
 use Rattle.rt_base.specs.declared.TheConstants.{MOST_STEPS}
 use Rattle.rt_rules.specs.Numbers.{is}
 use Rattle.job_facts.specs.Deeds.{taken}
 use Rattle.job_facts.specs.Tallies.{Jobs}
-use Rattle.job_views.specs.Told.{jobs_in, jobs_of}
+use Rattle.job_views.specs.Told.{jobs_in}
 use Rattle.job_views.proofs.Updates.{jobs_in-at, updated}
 use Rattle.job_views.proofs.moves.take_up.Goals as goal
 

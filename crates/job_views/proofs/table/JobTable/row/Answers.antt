@@ -1,4 +1,4 @@
-use Rattle.std.proofs.Common.{◌∙◌, length, ap, arith}
+use Rattle.std.proofs.Common.{◌∙◌, arith}
 use Rattle.job_views.proofs.Lines.{job-few, places-low, places-there, row-is, task-early, task-within}
 use Rattle.job_views.proofs.table.JobTable.row.Goals as goal
 

@@ -1,4 +1,4 @@
-use Rattle.std.proofs.Common.{◌≡◌, ◌∙◌, ◌+◌, ◌<◌, ◌^◌, ◌≤◌, sym, arith}
+use Rattle.std.proofs.Common.{◌∙◌, ◌+◌, sym, arith}
 use Rattle.job_facts.proofs.RowSums.{sums-none}
 use Rattle.job_views.specs.RowsShown.{row_shown}
 use Rattle.job_views.specs.SumsShown.{sums_shown}
@@ -17,7 +17,7 @@ pub loop-i-preserved : goal.loop-i-preserved
 loop-i-preserved c = (
   c.add.ensures.fits c.loop-i.i c.loop-i.invariant.0,
   λ g past is few.
-  sums-next g c.args.task.now.number.0 past c.loop-i.i (sums_shown c.loop-i.sums) (sums_shown c.add.new.self) (row_shown c.row.result) c.add.ensures.added
-  (c.row.ensures g past (line-of g past c.args.self.now c.args.task.now c.args.clock.0 c.args.requests.now is (c.loop-i.i + 1) (omega arith) (omega (arith, few, c.loop-i-test.true))))
-  (c.loop-i.invariant.1 g past is few),
+      sums-next g c.args.task.now.number.0 past c.loop-i.i (sums_shown c.loop-i.sums) (sums_shown c.add.new.self) (row_shown c.row.result) c.add.ensures.added
+      (c.row.ensures g past (line-of g past c.args.self.now c.args.task.now c.args.clock.0 c.args.requests.now is (c.loop-i.i + 1) (omega arith) (omega (arith, few, c.loop-i-test.true))))
+      (c.loop-i.invariant.1 g past is few),
 )
