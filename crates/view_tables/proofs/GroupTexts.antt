@@ -1,6 +1,7 @@
 -- The lines of a group, task by task.
-use Rattle.std.proofs.Common.{◌≡◌, ◌∙◌, ℕ, zero, suc, ◌+◌, ◌-◌, ◌<◌, ◌≤◌, ◌==◌, Bool, true, false, List, [], ◌∷◌, ◌++◌, length, map, get_or, refl, sym, ap, subst, arith, append_assoc, append-nil}
+use Rattle.std.proofs.Common.{◌≡◌, ◌∙◌, ℕ, zero, suc, ◌+◌, ◌-◌, ◌<◌, ◌≤◌, ◌==◌, Bool, true, false, List, [], ◌∷◌, ◌++◌, length, map, drop, get_or, refl, sym, ap, subst, arith, append_assoc, append-nil}
 use Rattle.std.specs.Prelude.{filter, flat_map, if◌then◌else◌, slice_index_or}
+use Rattle.std.proofs.Math.Seq.{drop-cons}
 use Rattle.std.proofs.lemmas.Grind.{flat_map-append}
 use Rattle.std.proofs.lemmas.List.{get_or_default}
 use Rattle.std.proofs.lemmas.List.Concat.{flat_map-cons}
@@ -8,25 +9,32 @@ use Rattle.std.proofs.lemmas.List.Elements.{filter-append}
 use Rattle.rt_task.specs.Validity.{IsValid}
 use Rattle.rt_task.specs.declared.Parts.{Parts}
 use Rattle.rt_task.specs.declared.Task.{Task}
+use Rattle.rt_history.specs.declared.Entry.{Entry}
 use Rattle.rt_rules.specs.Numbers.{numbers_from}
 use Rattle.rt_model.specs.Group.{Group, cluster, home, in_group, no_cluster, no_task, tasks}
 use Rattle.rt_model.specs.Group as groups
 use Rattle.rt_model.specs.Past.{Past, now}
+use Rattle.rt_model.specs.Histories.{past_of}
+use Rattle.rt_groups.specs.Groups.{GroupHistory, past}
+use Rattle.rt_groups.specs.Groups as made
 use Rattle.rt_groups.specs.Limits.{IsTaskInLimits}
 use Rattle.rt_groups.proofs.SetLimits.{sets_are_in_limits}
 use Rattle.rt_plays.specs.Plays.{group_with}
 use Rattle.trace_views.specs.JobRows.{JobRow, job_row, job_rows, listed, rows_of}
 use Rattle.trace_views.specs.TaskRows.{TaskRow, task_row, task_rows}
-use Rattle.table_texts.specs.Fields.{line_of}
-use Rattle.table_texts.specs.JobText.{group_jobs, job_fields}
-use Rattle.table_texts.specs.TaskText.{group_tasks, task_fields}
+use Rattle.table_texts.specs.Fields.{line_of, of_groups}
+use Rattle.table_texts.specs.JobText.{group_jobs, job_fields, jobs_text}
+use Rattle.table_texts.specs.TaskText.{group_tasks, task_fields, tasks_text}
+use Rattle.trace_text.specs.Groups.{AreGroupsOf, histories}
+use Rattle.trace_text.proofs.LineLaws.{history_group}
+use Rattle.trace_text.proofs.ReplayLaws.{drop_end}
 use Rattle.job_facts.proofs.Jobs.{map-last}
 use Rattle.job_views.specs.Tables.{IsTableOf}
 use Rattle.view_tables.specs.declared.played.Played.{Played}
 use Rattle.view_tables.specs.declared.tables.Table.{Table}
 use Rattle.view_tables.specs.declared.tables.Table.TheVariants.{Jobs, Tasks}
 use Rattle.view_tables.specs.Playing.{HasTask, IsPlayed, group_of}
-use Rattle.view_tables.specs.Texts.{group_text, is_of, task_text}
+use Rattle.view_tables.specs.Texts.{columns, group_text, is_of, table_text, task_text}
 
 -- ---- the tasks so far
 
@@ -136,3 +144,38 @@ pub jobs-all : (g : Group) (t : ℕ) (past : Past) (n : ℕ) → n ≡ listed g 
     → flat_map (λ (x : JobRow). line_of (job_fields g x)) (map (job_row g t past) (numbers_from 1 n)) ≡ task_text Jobs g past t
 unfolding rows_of
 jobs-all g t past n is = ap (λ m. flat_map (λ (x : JobRow). line_of (job_fields g x)) (map (job_row g t past) (numbers_from 1 m))) is
+
+-- one more task
+pub group-next : (table : Table) (g : Group) (past : Past) (i : ℕ) (b : Bool) (old text new : List ℕ) → in_this g (i + 1) ≡ b → text ≡ old ++ so_far table g past i
+    → new ≡ text ++ (if b then task_text table g past (i + 1) else []) → new ≡ old ++ so_far table g past (i + 1)
+group-next table g past i b old text new is before put =
+    let line : List ℕ = if b then task_text table g past (i + 1) else [] in
+    put ∙ ap (λ xs. xs ++ line) before ∙ append_assoc old (so_far table g past i) line ∙ ap (λ xs. old ++ xs) (sym (so_far-next table g past i b is))
+
+-- ---- the groups so far
+
+pub groups-next : (f : Group → Past → List ℕ) (p : Parts) (hs : List GroupHistory) (i : ℕ) (h : GroupHistory) → AreGroupsOf p hs → i < length hs → h ≡ get_or hs i h
+    → of_groups f p i (histories (drop i hs)) ≡ f (made.group_of h) (past h) ++ of_groups f p (i + 1) (histories (drop (i + 1) hs))
+groups-next f p hs i h are low is =
+    let g : Group = record { setup = p; number = i } in
+    let next : i + 1 ≡ suc i = omega arith in
+    let same : made.group_of h ≡ g = ap made.group_of is ∙ history_group p hs i h are low in
+    ap (λ (xs : List GroupHistory). of_groups f p i (histories xs)) (drop-cons hs i h low)
+    ∙ ap (λ (y : GroupHistory). f g (past_of g y.entries) ++ of_groups f p (i + 1) (histories (drop (suc i) hs))) (sym is)
+    ∙ ap (λ (x : Group). f x (past_of x h.entries) ++ of_groups f p (i + 1) (histories (drop (suc i) hs))) (sym same)
+    ∙ ap (λ n. f (made.group_of h) (past h) ++ of_groups f p (i + 1) (histories (drop n hs))) (sym next)
+
+pub groups-more : (f : Group → Past → List ℕ) (p : Parts) (hs : List GroupHistory) (i : ℕ) (h : GroupHistory) (text new all : List ℕ) → AreGroupsOf p hs → i < length hs → h ≡ get_or hs i h
+    → new ≡ text ++ f (made.group_of h) (past h) → text ++ of_groups f p i (histories (drop i hs)) ≡ all → new ++ of_groups f p (i + 1) (histories (drop (i + 1) hs)) ≡ all
+groups-more f p hs i h text new all are low is put before =
+    let rest : List ℕ = of_groups f p (i + 1) (histories (drop (i + 1) hs)) in
+    ap (λ xs. xs ++ rest) put ∙ append_assoc text (f (made.group_of h) (past h)) rest ∙ ap (λ xs. text ++ xs) (sym (groups-next f p hs i h are low is)) ∙ before
+
+pub groups-end : (f : Group → Past → List ℕ) (p : Parts) (hs : List GroupHistory) (i : ℕ) (text all : List ℕ) → length hs ≤ i → text ++ of_groups f p i (histories (drop i hs)) ≡ all → text ≡ all
+groups-end f p hs i text all past_all before =
+    sym (append-nil text) ∙ ap (λ (xs : List GroupHistory). text ++ of_groups f p i (histories xs)) (sym (drop_end hs i past_all)) ∙ before
+
+pub text-is : (table : Table) (p : Parts) (hs : List (List Entry)) → columns table ++ of_groups (group_text table) p 0 hs ≡ table_text table p hs
+unfolding jobs_text tasks_text
+text-is Jobs p hs = refl
+text-is Tasks p hs = refl
