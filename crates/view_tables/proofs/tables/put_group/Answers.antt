@@ -6,7 +6,7 @@ use Rattle.view_tables.specs.Playing.{group_of}
 use Rattle.view_tables.specs.Texts.{is_of, task_text}
 use Rattle.view_tables.proofs.GroupTexts.{group-next, has-task, is_of-this, limits, so_far, so_far-all}
 use Rattle.view_tables.proofs.tables.put_group.Goals as goal
-use Rattle.view_tables.proofs.tables.put_group.Goals.{then-is_in_group, else-is_in_group}
+use Rattle.view_tables.proofs.tables.put_group.Goals.{then-is_in_group+in_ok-put_lines, else-is_in_group}
 
 pub is_in_group-requires : goal.is_in_group-requires
 is_in_group-requires c =
@@ -43,8 +43,8 @@ loop-task-preserved c = λ past is.
     let number = (limits g valid i x low here).number_is in
     let before = c.loop-task.invariant past is in
     elim c.if-is_in_group.branch [
-      | then-is_in_group w ↦ ?
-      | else-is_in_group w ↦ ?
+      | then-is_in_group+in_ok-put_lines w ↦ group-next c.args.table g past i true c.args.text.now.items c.loop-task.text.items c.if-is_in_group.text.items (sym told ∙ w.if-is_in_group.true) before (ap (λ v. v.items) w.text-is ∙ w.in_ok-put_lines.ensures past is (has-task c.args.played.now i x valid low here) ∙ ap (λ n. c.loop-task.text.items ++ task_text c.args.table g past n) number)
+      | else-is_in_group w ↦ group-next c.args.table g past i false c.args.text.now.items c.loop-task.text.items c.if-is_in_group.text.items (sym told ∙ w.if-is_in_group.false) before (ap (λ v. v.items) w.text-is ∙ sym (append-nil c.loop-task.text.items))
     ]
 
 pub returns : goal.returns

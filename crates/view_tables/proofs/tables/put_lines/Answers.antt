@@ -6,7 +6,9 @@ use Rattle.table_texts.specs.Fields.{line_of}
 use Rattle.table_texts.specs.TaskText.{task_fields}
 use Rattle.job_views.specs.Tables.{IsTableWith}
 use Rattle.job_views.specs.TaskRowsShown.{task_row_shown}
+use Rattle.view_tables.specs.declared.tables.Table.{Table}
 use Rattle.view_tables.specs.Playing.{group_of}
+use Rattle.view_tables.specs.Texts.{task_text}
 use Rattle.view_tables.proofs.GroupTexts.{table-of, task_row-task}
 use Rattle.view_tables.proofs.tables.put_lines.Goals as goal
 
@@ -21,4 +23,4 @@ returns-in-Tasks c =
     let row = c.task_row-row.ensures g past with_requests in
     let named : (groups.task g c.task_row-row.result.task.0).name ≡ c.as_slice.result.now =
     ap (λ n. (groups.task g n).name) (task_row-task g t past (task_row_shown c.task_row-row.result) row) ∙ sym (ap (λ (k : Task). k.name) has.task_is) ∙ sym c.as_slice.ensures in
-    put g named ∙ ap (λ r. c.args.text.now.items ++ line_of (task_fields g r)) row) c.put_task.ensures
+    put g named ∙ ap (λ r. c.args.text.now.items ++ line_of (task_fields g r)) row ∙ ap (λ (tb : Table). c.args.text.now.items ++ task_text tb g past t) (sym c.in-Tasks.is)) c.put_task.ensures
