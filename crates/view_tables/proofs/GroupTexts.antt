@@ -1,6 +1,6 @@
 -- The lines of a group, task by task.
-use Rattle.std.proofs.Common.{◌≡◌, ◌∙◌, ℕ, zero, suc, ◌+◌, ◌-◌, ◌<◌, ◌≤◌, ◌==◌, Bool, true, false, List, [], ◌∷◌, ◌++◌, length, map, drop, get_or, refl, sym, ap, subst, arith, append_assoc, append-nil}
-use Rattle.std.specs.Prelude.{filter, flat_map, if◌then◌else◌, slice_index_or}
+use Rattle.std.proofs.Common.{◌≡◌, ◌∙◌, ℕ, zero, suc, ◌+◌, ◌-◌, ◌<◌, ◌≤◌, Bool, true, false, List, [], ◌∷◌, ◌++◌, length, map, drop, get_or, refl, sym, ap, subst, arith, append_assoc, append-nil}
+use Rattle.std.specs.Prelude.{filter, flat_map, if◌then◌else◌}
 use Rattle.std.proofs.Math.Seq.{drop-cons}
 use Rattle.std.proofs.lemmas.Grind.{flat_map-append}
 use Rattle.std.proofs.lemmas.List.{get_or_default}
@@ -19,12 +19,11 @@ use Rattle.rt_groups.specs.Groups.{GroupHistory, past}
 use Rattle.rt_groups.specs.Groups as made
 use Rattle.rt_groups.specs.Limits.{IsTaskInLimits}
 use Rattle.rt_groups.proofs.SetLimits.{sets_are_in_limits}
-use Rattle.rt_plays.specs.Plays.{group_with}
 use Rattle.trace_views.specs.JobRows.{JobRow, job_row, job_rows, listed, rows_of}
 use Rattle.trace_views.specs.TaskRows.{TaskRow, task_row, task_rows}
 use Rattle.table_texts.specs.Fields.{line_of, of_groups}
-use Rattle.table_texts.specs.JobText.{group_jobs, job_fields, jobs_text}
-use Rattle.table_texts.specs.TaskText.{group_tasks, task_fields, tasks_text}
+use Rattle.table_texts.specs.JobText.{job_fields, jobs_text}
+use Rattle.table_texts.specs.TaskText.{task_fields, tasks_text}
 use Rattle.trace_text.specs.Groups.{AreGroupsOf, histories}
 use Rattle.trace_text.proofs.LineLaws.{history_group}
 use Rattle.trace_text.proofs.ReplayLaws.{drop_end}

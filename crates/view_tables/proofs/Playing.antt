@@ -1,9 +1,7 @@
 -- A step that was taken, and the table of jobs that is fed its act.
-use Rattle.std.proofs.Common.{◌≡◌, ◌∙◌, ℕ, ◌+◌, ◌<◌, ◌≤◌, [], ◌∷◌, sym, ap, subst, arith}
-use Rattle.rt_base.specs.declared.TheConstants.{MOST_CPUS, MOST_STEPS}
+use Rattle.std.proofs.Common.{◌≡◌, ◌∙◌, ℕ, ◌∷◌, sym, ap, subst, arith}
 use Rattle.rt_task.specs.declared.Step.{Step}
 use Rattle.rt_model.specs.Blocking.{requests}
-use Rattle.rt_model.specs.Group.{Group}
 use Rattle.rt_model.specs.Histories.{after}
 use Rattle.rt_model.specs.Outcomes.{past_act}
 use Rattle.rt_model.specs.Past.{Acted, Clock, Past, PastAct, now}
@@ -15,7 +13,7 @@ use Rattle.job_facts.proofs.Jobs.{jobs_are_kept}
 use Rattle.job_views.specs.declared.table.JobTable.{JobTable}
 use Rattle.job_views.specs.Tables.{CanFeed, Keeps}
 use Rattle.view_replay.specs.declared.replay.Replay.{Replay}
-use Rattle.view_replay.specs.Replays.{IsAt, IsMoved, group_of}
+use Rattle.view_replay.specs.Replays.{IsMoved, group_of}
 
 -- a move of the clock leaves the table as it is
 pub kept-clock : (v : JobTable) (tick : ℕ) (past : Past) → Keeps v past → Keeps v (Clock tick ∷ past)

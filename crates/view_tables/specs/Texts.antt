@@ -1,5 +1,5 @@
 -- The texts of both tables.
-use Rattle.std.specs.Prelude.{ℕ, ◌==◌, Bool, List, ◌++◌, flat_map, slice_index_or}
+use Rattle.std.specs.Prelude.{ℕ, ◌==◌, Bool, List, flat_map, slice_index_or}
 use Rattle.rt_task.specs.declared.Parts.{Parts}
 use Rattle.rt_task.specs.declared.Task.{Task}
 use Rattle.rt_history.specs.declared.Entry.{Entry}
@@ -7,7 +7,7 @@ use Rattle.rt_model.specs.Group.{Group, no_cluster}
 use Rattle.rt_model.specs.Past.{Past}
 use Rattle.trace_views.specs.JobRows.{JobRow, rows_of}
 use Rattle.trace_views.specs.TaskRows.{task_row}
-use Rattle.table_texts.specs.Fields.{line_of, of_groups}
+use Rattle.table_texts.specs.Fields.{line_of}
 use Rattle.table_texts.specs.JobText.{group_jobs, job_columns, job_fields, jobs_text}
 use Rattle.table_texts.specs.TaskText.{group_tasks, task_columns, task_fields, tasks_text}
 use Rattle.view_tables.specs.declared.tables.Table.{Table}

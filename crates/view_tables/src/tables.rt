@@ -37,12 +37,7 @@ fn put_jobs(text: &mut Vec<u8>, played: &Played, task: &Task) -> Result<(), NoMe
 }
 
 /// The lines of a task in a table.
-fn put_lines(
-    text: &mut Vec<u8>,
-    table: Table,
-    played: &Played,
-    task: &Task,
-) -> Result<(), NoMemory>
+fn put_lines(text: &mut Vec<u8>, table: Table, played: &Played, task: &Task) -> Result<(), NoMemory>
     requires { (past : Past) × IsPlayed past played.now × HasTask played.now task.now }
     ensures { OnOk result ((past : Past) → IsPlayed past played.now
         → HasTask played.now task.now → text.new.items
@@ -52,9 +47,7 @@ fn put_lines(
         Table::Jobs => put_jobs(text, played, task),
         Table::Tasks => {
             let clock = played.replay.now();
-            let row = played
-                .table
-                .task_row(task, clock, played.replay.requests());
+            let row = played.table.task_row(task, clock, played.replay.requests());
             put_task(text, task.name.as_slice(), &row)
         }
     }

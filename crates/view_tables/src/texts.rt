@@ -12,9 +12,11 @@ use rt_base::{GroupNo, NoMemory};
 use rt_task::Setup;
 use std::alloc::Global;
 
-const JOB_COLUMNS: &[u8] = b"task,job,release,deadline,start,finish,end,outcome,units,response,lateness,preemptions,migrations,moves,requests,queued,ends,ends_all\n";
+const JOB_COLUMNS: &[u8] =
+    b"task,job,release,deadline,start,finish,end,outcome,units,response,lateness,preemptions,migrations,moves,requests,queued,ends,ends_all\n";
 
-const TASK_COLUMNS: &[u8] = b"task,released,ended,late,missed,units,response_max,response_sum,lateness_max,preemptions,migrations,moves,requests,queued,ends_max,ends_all_max\n";
+const TASK_COLUMNS: &[u8] =
+    b"task,released,ended,late,missed,units,response_max,response_sum,lateness_max,preemptions,migrations,moves,requests,queued,ends_max,ends_all_max\n";
 
 /// The names of the columns, with a line feed.
 fn columns_of(table: Table) -> &'static [u8]

@@ -1,4 +1,4 @@
-use Rattle.std.proofs.Common.{◌≡◌, ◌∙◌, [], ◌∷◌, ◌++◌, decimal, sym, ap}
+use Rattle.std.proofs.Common.{◌∙◌, [], ◌∷◌, ◌++◌, decimal, sym, ap}
 use Rattle.std.proofs.lemmas.Result.{on_ok_weaker}
 use Rattle.table_texts.specs.Fields.{integer_or_none, line_of, number_or_none}
 use Rattle.view_tables.proofs.Joining.{chain, line-18}

@@ -1,6 +1,6 @@
-use Rattle.std.proofs.Common.{◌≡◌, ◌∙◌, [], ◌∷◌, ◌++◌, decimal, sym, ap}
+use Rattle.std.proofs.Common.{◌∙◌, [], ◌∷◌, ◌++◌, decimal, sym, ap}
 use Rattle.std.proofs.lemmas.Result.{on_ok_weaker}
-use Rattle.table_texts.specs.Fields.{integer_or_none, line_of, number_or_none}
+use Rattle.table_texts.specs.Fields.{integer_or_none, line_of}
 use Rattle.view_tables.proofs.Joining.{chain, line-16}
 use Rattle.view_tables.proofs.lines.put_task.Goals as goal
 

@@ -1,6 +1,5 @@
-use Rattle.std.proofs.Common.{◌≡◌, ◌∙◌, ◌+◌, ◌≤◌, ◌++◌, sym, ap, arith}
+use Rattle.std.proofs.Common.{◌≡◌, ◌∙◌, ◌+◌, ◌++◌, sym, ap, arith}
 use Rattle.rt_model.specs.Group as groups
-use Rattle.rt_model.specs.Jobs.{done}
 use Rattle.rt_task.specs.declared.Task.{Task}
 use Rattle.trace_views.specs.JobRows.{listed}
 use Rattle.job_facts.proofs.Few.{listed-few}

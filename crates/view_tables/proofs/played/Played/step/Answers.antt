@@ -1,11 +1,10 @@
-use Rattle.std.proofs.Common.{◌≡◌, ◌∙◌, length, sym, ap, subst}
+use Rattle.std.proofs.Common.{◌∙◌, length, sym, ap, subst}
 use Rattle.std.proofs.lemmas.Result.{on_ok_weaker}
 use Rattle.rt_model.specs.Group.{Group}
 use Rattle.rt_model.specs.Histories.{after}
 use Rattle.rt_model.specs.Steps.{IsStepOf}
 use Rattle.view_acts.specs.ShownActs.{act_shown}
 use Rattle.view_replay.specs.Replays.{IsAt}
-use Rattle.view_tables.specs.Playing.{group_of}
 use Rattle.job_views.specs.Tables.{Keeps}
 use Rattle.view_tables.proofs.Playing.{can-feed, kept-after}
 use Rattle.view_tables.proofs.played.Played.step.Goals as goal

@@ -1,5 +1,4 @@
-use Rattle.std.proofs.Common.{◌≡◌, ◌∙◌, refl, sym, ap, subst, arith}
-use Rattle.rt_model.specs.Histories.{after}
+use Rattle.std.proofs.Common.{◌∙◌, refl, subst, arith}
 use Rattle.trace_text.proofs.ReplayLaws.{all_taken, past_next}
 use Rattle.view_tables.specs.Playing.{IsPlayed, group_of}
 use Rattle.view_tables.proofs.played.Played.take.Goals as goal
