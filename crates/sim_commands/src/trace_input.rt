@@ -16,7 +16,7 @@ use std::alloc::Global;
 use trace_read::{Trace, TraceFault, read_trace};
 
 /// Reads a trace of either format to its end: one whose set is valid.
-pub(crate) fn read_trace_input<S: Source>(
+pub fn read_trace_input<S: Source>(
     alloc: Global,
     src: &mut S,
 ) -> Result<(Vec<u8>, Trace), Status>
