@@ -3,10 +3,10 @@
 
 use rt_fault::{Status, StdSink, StdSource};
 use set_input::Program;
-use view_command::{USAGE, view};
 use std::io::{self, BufWriter, Write};
 use std::process::ExitCode;
 use trace_tools::shipped_tools;
+use view_command::{USAGE, view};
 
 /// Runs the command between standard input and standard output. What a failed flush keeps back is a failed write.
 fn run(rt: &HostRuntime, words: &[String]) -> Status {

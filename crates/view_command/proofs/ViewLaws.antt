@@ -1,6 +1,7 @@
 -- The answers of `rtview`, by how its reading and its writing ended.
-use Rattle.std.proofs.Common.{◌≡◌, ◌∙◌, ℕ, List, true, false, ap, sym, subst, refl}
-use Rattle.std.specs.Prelude.{Result, Ok, Err, MatchResult, Vec}
+use Rattle.std.proofs.Common.{◌≡◌, ◌∙◌, ℕ, List, [], ◌∷◌, ap, sym, subst, refl}
+use Rattle.std.specs.Prelude.{Result, Ok, Err, MatchResult, String, Vec, codes, string_bytes}
+use Rattle.std.proofs.lemmas.Slice.Eq.{bytes_eq-Decides}
 use Rattle.std.specs.declared.alloc.Global.{Global}
 use Rattle.rt_base.specs.declared.TheConstants.{MOST_TRACE_BYTES}
 use Rattle.rt_task.specs.Validity.{IsValid}
@@ -13,18 +14,30 @@ use Rattle.rt_fault.specs.declared.status.Status.TheVariants as ends
 use Rattle.trace_lines.specs.declared.format.Version.{Version}
 use Rattle.trace_tools.specs.Tools.{Tool}
 use Rattle.trace_laws.specs.ValidTexts.{IsValidText}
-use Rattle.trace_check.specs.Verdicts.{IsInvalid}
 use Rattle.view_laws.proofs.Sets.{set_totals_are_counts}
 use Rattle.view_tables.specs.declared.tables.Table.{Table}
+use Rattle.view_tables.specs.declared.tables.Table.TheVariants.{Jobs, Tasks}
 use Rattle.view_tables.specs.Texts.{table_text}
 use Rattle.set_input.specs.Ends.{Reading, Writing}
 use Rattle.set_input.specs.Stopped.{EndsReading}
 use Rattle.set_input.proofs.EndLaws.{ended-well}
 use Rattle.sim_commands.specs.Check.{WasNoTrace, WasTrace}
 use Rattle.sim_commands.proofs.CheckLaws.{can_check-told, can_check-unrefused, can_check-valid}
-use Rattle.view_command.specs.View.{IsViewOf, ViewWasCut, WasViewed, WasWrong}
+use Rattle.view_command.specs.View.{IsViewOf, Names, WasWrong}
 use Rattle.view_command.specs.ViewAnswers.{ViewAnswers}
 use Rattle.view_command.specs.Viewing.{IsViewed}
+
+-- the words name one table at most
+apart : (word : List ℕ) → word ≡ codes "jobs" → word ≡ codes "tasks" → ⊥
+apart word jobs tasks = let same : codes "jobs" ≡ codes "tasks" = sym jobs ∙ tasks in cc
+
+pub one_table : (words : List (String Global)) (a b : Table) → Names words a → Names words b → a ≡ b
+one_table [] a b is other = cc
+one_table (word ∷ []) Jobs Jobs is other = refl
+one_table (word ∷ []) Tasks Tasks is other = refl
+one_table (word ∷ []) Jobs Tasks is other = absurd (apart (string_bytes word) ((bytes_eq-Decides (string_bytes word) (codes "jobs")).0 is) ((bytes_eq-Decides (string_bytes word) (codes "tasks")).0 other))
+one_table (word ∷ []) Tasks Jobs is other = absurd (apart (string_bytes word) ((bytes_eq-Decides (string_bytes word) (codes "jobs")).0 other) ((bytes_eq-Decides (string_bytes word) (codes "tasks")).0 is))
+one_table (word ∷ next ∷ words) a b is other = cc
 
 -- the text of the plays of a valid trace is a view of it
 pub view-said : (tools : List Tool) (v : Version) (p : Parts) (bytes : List ℕ) (table : Table) (entries : ℕ) (r : Result (Vec ℕ Global) Status) → IsValid p → (is : IsValidText tools v p bytes entries)

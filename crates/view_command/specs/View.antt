@@ -1,5 +1,5 @@
 -- What a run of `rtview` reads and writes, where these tools count.
-use Rattle.std.specs.Prelude.{◌≡◌, ◌≢◌, ℕ, Bool, true, false, List, [], ◌∷◌, bytes_eq, codes, string_bytes, String}
+use Rattle.std.specs.Prelude.{◌≡◌, ℕ, Bool, true, false, List, [], ◌∷◌, bytes_eq, codes, string_bytes, String}
 use Rattle.std.specs.declared.alloc.Global.{Global}
 use Rattle.rt_task.specs.declared.Parts.{Parts}
 use Rattle.rt_fault.specs.Held.{Extends, ExtendsByPrefix}

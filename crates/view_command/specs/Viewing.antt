@@ -1,5 +1,5 @@
 -- What comes of the bytes of a trace: the text of a table, or why there is none.
-use Rattle.std.specs.Prelude.{◌≡◌, ℕ, List, Result, Ok, Err, Vec}
+use Rattle.std.specs.Prelude.{ℕ, List, Result, Ok, Err, Vec}
 use Rattle.std.specs.declared.alloc.Global.{Global}
 use Rattle.rt_task.specs.declared.Parts.{Parts}
 use Rattle.rt_fault.specs.declared.status.Status.{Status}
