@@ -15,6 +15,7 @@ mod verdict_line;
 mod words;
 
 pub use dispatch::sim;
+pub use trace_input::read_trace_input;
 
 /// The words that are commands, as they are said.
 pub const USAGE: &str = "usage: rtsim sim, rtsim check, rtsim load N, rtsim upgrade";

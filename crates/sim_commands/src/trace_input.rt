@@ -16,10 +16,7 @@ use std::alloc::Global;
 use trace_read::{Trace, TraceFault, read_trace};
 
 /// Reads a trace of either format to its end: one whose set is valid.
-pub(crate) fn read_trace_input<S: Source>(
-    alloc: Global,
-    src: &mut S,
-) -> Result<(Vec<u8>, Trace), Status>
+pub fn read_trace_input<S: Source>(alloc: Global, src: &mut S) -> Result<(Vec<u8>, Trace), Status>
     ensures ok { let source = reading S.left S.faults src.old src.new in
         IfOk result (λ x. WasTrace source x.0.items x.1.version x.1.setup) }
     ensures trace { IfOk result (λ x.
