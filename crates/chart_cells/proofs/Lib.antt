@@ -1,2 +1,2 @@
-mod KeptCells
-mod FirstUnits
+pub mod KeptCells
+pub mod FirstUnits

@@ -33,6 +33,7 @@ ghost use Rattle.group_jobs.specs.States.{SleepIsShort, cpu_seen, job_with};
 
 mod cpus;
 mod keys;
+mod shown;
 mod situations;
 mod states;
 

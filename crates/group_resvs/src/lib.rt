@@ -12,6 +12,7 @@ mod changes;
 mod laws;
 mod serving;
 mod settling;
+mod shown;
 mod touched;
 
 use changes::list_changed;

@@ -8,7 +8,11 @@ use std::test::Fail;
 type Case = (&'static str, Status, &'static str);
 
 const CASES: [Case; 5] = [
-    (run_command::USAGE, Status::Usage, "usage: rtrun run"),
+    (
+        run_command::USAGE,
+        Status::Usage,
+        "usage: rtrun run, rtrun split",
+    ),
     (sim_commands::USAGE, Status::ReadFault, "reading failed"),
     (sim_commands::USAGE, Status::WriteFault, "writing failed"),
     (sim_commands::USAGE, Status::TooLong, "input too long"),

@@ -1,4 +1,5 @@
-//! `rtrun`: plays the steps or the turns of modelled processors, each processor by a thread of its own, and prints the trace.
+//! `rtrun`: plays the steps or the turns of modelled processors, each processor by a thread of its own, and prints the trace;
+//! or plays the partitions of a split set so, and prints their histories.
 #![tactic(auto)]
 
 use cpu_site::OpenGate;

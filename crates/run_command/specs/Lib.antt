@@ -1,2 +1,4 @@
 pub mod Run
 pub mod RunAnswers
+pub mod Split
+pub mod SplitAnswers

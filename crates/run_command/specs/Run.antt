@@ -1,5 +1,5 @@
 -- What a run of `run` reads and writes.
-use Rattle.std.specs.Prelude.{Bool, false, List, [], ◌∷◌, codes, bytes_eq, string_bytes, String}
+use Rattle.std.specs.Prelude.{◌≡◌, Bool, false, List, [], ◌∷◌, codes, bytes_eq, string_bytes, String}
 use Rattle.std.specs.declared.alloc.Global.{Global}
 use Rattle.rt_task.specs.declared.Parts.{Parts}
 use Rattle.rt_history.specs.declared.Entry.{Entry}
@@ -16,6 +16,15 @@ use Rattle.set_input.specs.Throughout.{HoldsThroughout}
 abbrev pub is_run : List (String Global) → Bool
 is_run (word ∷ []) = bytes_eq (string_bytes word) (codes "run")
 is_run _ = false
+
+-- the command `split`
+abbrev pub is_split : List (String Global) → Bool
+is_split (word ∷ []) = bytes_eq (string_bytes word) (codes "split")
+is_split _ = false
+
+-- the words are neither
+abbrev pub IsNoCommand : List (String Global) → Type 0
+IsNoCommand words = (is_run words ≡ false) × (is_split words ≡ false)
 
 -- a set was read, and a whole trace of it came: the text in format 2 of its canonical set and of plays of its groups, in
 -- some order of the processors' steps, and what tools count of these; what that shows holds after each entry

@@ -1,13 +1,15 @@
-//! The top call: the command `run`.
-ghost use Rattle.std.specs.Prelude.{◌≡◌, ◌≢◌, true, false, map};
+//! The top call: the commands `run` and `split`.
+ghost use Rattle.std.specs.Prelude.{◌≡◌, ◌≢◌, true, map};
 ghost use Rattle.rt_fault.specs.Faults.{HasRisen};
 ghost use Rattle.set_input.specs.Ends.{reading, writing};
 ghost use Rattle.set_input.specs.Answers.{IsUnwritten};
 ghost use Rattle.run_command.specs.Run as commands;
 ghost use Rattle.run_command.specs.RunAnswers.{RunAnswers};
+ghost use Rattle.run_command.specs.SplitAnswers.{SplitAnswers};
 
 use crate::play_set::play_set;
-use crate::words::is_run;
+use crate::play_split::play_split;
+use crate::words::{is_run, is_split};
 use cpu_site::Gate;
 use rt_fault::{Sink, Source, Status};
 use std::alloc::Global;
@@ -21,6 +23,9 @@ use trace_tools::TraceTool;
 /// the trace of the histories that come about, in format 2, with the count lines of the tools behind the line `end`. The gate
 /// is asked before each play.
 ///
+/// `split` reads a set, and where it can be run split, plays each processor's partition in a thread of its own and writes the
+/// text of what comes about. The tools are shown nothing. The gate is asked before each step.
+///
 /// Nothing is written before all input was read, nor where it is refused. The call may wait, and what it promises holds
 /// if it returns.
 pub fn run<R: Threads + Wait + Sync, S: Source, K: Sink, T: TraceTool, G: Gate + Sync>(
@@ -33,8 +38,8 @@ pub fn run<R: Threads + Wait + Sync, S: Source, K: Sink, T: TraceTool, G: Gate +
     gate: &G,
 ) -> Status
     // Usage is the answer exactly where the words are no command, and then nothing is read or written.
-    ensures usage { commands.is_run words.now ≡ false → result ≡ Status.Usage }
-    ensures no_command { result ≡ Status.Usage → commands.is_run words.now ≡ false }
+    ensures usage { commands.IsNoCommand words.now → result ≡ Status.Usage }
+    ensures no_command { result ≡ Status.Usage → commands.IsNoCommand words.now }
     ensures unread { result ≡ Status.Usage → src.new ≡ src.old }
     ensures unwritten { IsUnwritten result → out.new ≡ out.old }
 
@@ -46,12 +51,17 @@ pub fn run<R: Threads + Wait + Sync, S: Source, K: Sink, T: TraceTool, G: Gate +
         HasRisen (K.faults out.old) (K.faults out.new) }
     ensures no_write_fault { result ≢ Status.WriteFault → K.faults out.new ≡ K.faults out.old }
 
-    // What the command answers, and what it read and wrote.
+    // What each command answers, and what it read and wrote.
     ensures run { commands.is_run words.now ≡ true → RunAnswers (map T.tool tools.items)
+        (reading S.left S.faults src.old src.new) (writing K.held K.faults out.old out.new) result }
+    ensures split { commands.is_split words.now ≡ true → SplitAnswers
         (reading S.left S.faults src.old src.new) (writing K.held K.faults out.old out.new) result }
 {
     if is_run(words) {
         return play_set(rt, alloc, src, out, tools, gate);
+    }
+    if is_split(words) {
+        return play_split(rt, alloc, src, out, gate);
     }
     Status::Usage
 }

@@ -11,3 +11,13 @@ pub(crate) fn is_run(words: &[String]) -> bool
         _ => false,
     }
 }
+
+/// Whether the words are those of the command `split`.
+pub(crate) fn is_split(words: &[String]) -> bool
+    ensures { result ≡ commands.is_split words.now }
+{
+    match words {
+        [word] => word.as_str() == "split",
+        _ => false,
+    }
+}

@@ -4,3 +4,4 @@ pub mod Throughout
 pub mod Inputs
 pub mod Answers
 pub mod Stopped
+pub mod OwnWords

@@ -60,13 +60,13 @@ draft-read d = by_whole (whole_of d)
 
 -- ---- from bytes
 
-pub draft_in-read : (bytes : List ℕ) (d : Data) → IsUtf8 bytes → read bytes ≡ Some d → draft_in_bytes bytes ≡ draft_read d
+pub read_draft-read : (bytes : List ℕ) (d : Data) → IsUtf8 bytes → read bytes ≡ Some d → draft_in_bytes bytes ≡ draft_read d
 unfolding draft_in_bytes value_of
-draft_in-read bytes d utf8 e = rw (is_utf8-from_IsUtf8 bytes utf8, e) (sym (draft-read d))
+read_draft-read bytes d utf8 e = rw (is_utf8-from_IsUtf8 bytes utf8, e) (sym (draft-read d))
 
-pub draft_in-refused : (bytes : List ℕ) → (IsUtf8 bytes → read bytes ≡ None) → draft_in_bytes bytes ≡ Err (bad kinds.NotJson parts.Whole 0)
+pub read_draft-refused : (bytes : List ℕ) → (IsUtf8 bytes → read bytes ≡ None) → draft_in_bytes bytes ≡ Err (bad kinds.NotJson parts.Whole 0)
 unfolding draft_in_bytes value_of
-draft_in-refused bytes h = by_test (is_utf8 bytes) refl
+read_draft-refused bytes h = by_test (is_utf8 bytes) refl
   where
     by_test : (b : Bool) → is_utf8 bytes ≡ b → draft_in_bytes bytes ≡ Err (bad kinds.NotJson parts.Whole 0)
     by_test true e = rw (e, h (IsUtf8-from_is_utf8 bytes e)) refl

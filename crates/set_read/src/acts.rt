@@ -12,10 +12,10 @@ use serde_json::Value;
 
 /// The names of a document.
 #[derive(Drop)]
-pub(crate) struct NameLists<'a> {
-    pub(crate) sems: Names<'a>,
-    pub(crate) resvs: Names<'a>,
-    pub(crate) tasks: Names<'a>,
+pub struct NameLists<'a> {
+    pub sems: Names<'a>,
+    pub resvs: Names<'a>,
+    pub tasks: Names<'a>,
 }
 
 pub(crate) fn op_with(names: &NameLists, word: &str, x: &Value) -> Option<Op>
@@ -88,8 +88,9 @@ fn step_in(names: &NameLists, items: &[Value]) -> Option<DraftStep>
     }
 }
 
+/// A step, if the value has its form.
 #[tactic(auto, using(crate::proofs::FormLaws::listed_items), unfolding(crate::specs::Document::step_form))]
-pub(crate) fn step_of(names: &NameLists, v: &Value) -> Option<DraftStep>
+pub fn step_of(names: &NameLists, v: &Value) -> Option<DraftStep>
     ensures { result ≡ document.step_form (names_seen names.now) (view v.now) }
 {
     let items = v.as_array()?;

@@ -11,23 +11,24 @@ use serde_json::Value;
 
 /// What a document runs by.
 #[derive(Clone, Copy)]
-pub(crate) enum Play<'a> {
+pub enum Play<'a> {
     Steps(&'a [Value]),
     Horizon(u64),
 }
 
 /// A document whose elements are not read yet.
 #[derive(Clone, Copy)]
-pub(crate) struct Whole<'a> {
-    pub(crate) plugin: PluginKind,
-    pub(crate) clusters: &'a [Value],
-    pub(crate) sems: &'a [Value],
-    pub(crate) resvs: &'a [Value],
-    pub(crate) tasks: &'a [Value],
-    pub(crate) play: Play<'a>,
+pub struct Whole<'a> {
+    pub plugin: PluginKind,
+    pub clusters: &'a [Value],
+    pub sems: &'a [Value],
+    pub resvs: &'a [Value],
+    pub tasks: &'a [Value],
+    pub play: Play<'a>,
 }
 
-fn plugin_in(word: &str) -> Option<PluginKind>
+/// The plugin of a word.
+pub fn plugin_in(word: &str) -> Option<PluginKind>
     ensures { result ≡ forms.word_in document.plugins word.now }
 {
     match word {
@@ -48,14 +49,16 @@ fn items_in(v: &Value) -> Option<&[Value]>
     Some(items.as_slice())
 }
 
-fn items_at<'a>(v: &'a Value, key: &str) -> Option<&'a [Value]>
+/// The elements of an array that is required.
+pub fn items_at<'a>(v: &'a Value, key: &str) -> Option<&'a [Value]>
     ensures { option_map values_seen result ≡ forms.required forms.items key.now (view v.now) }
 {
     let member = v.get(key)?;
     items_in(member)
 }
 
-fn items_or_none<'a>(v: &'a Value, key: &str) -> Option<&'a [Value]>
+/// The elements of an array, none where the member is not there.
+pub fn items_or_none<'a>(v: &'a Value, key: &str) -> Option<&'a [Value]>
     ensures { option_map values_seen result ≡ forms.optional forms.items [] key.now (view v.now) }
 {
     match v.get(key) {
@@ -64,7 +67,8 @@ fn items_or_none<'a>(v: &'a Value, key: &str) -> Option<&'a [Value]>
     }
 }
 
-fn play_of<'a>(steps: Option<&'a Value>, horizon: Option<&'a Value>) -> Option<Play<'a>>
+/// What the document runs by, where exactly one of the two members is there and has its form.
+pub fn play_of<'a>(steps: Option<&'a Value>, horizon: Option<&'a Value>) -> Option<Play<'a>>
     ensures { option_map play_seen result
         ≡ document.play_of (option_map
         (λ v. view v.now) steps.entry) (option_map (λ v. view v.now) horizon.entry) }
@@ -82,8 +86,9 @@ fn play_of<'a>(steps: Option<&'a Value>, horizon: Option<&'a Value>) -> Option<P
     }
 }
 
+/// The document as a whole, if its members have their forms; its elements are not looked at.
 #[tactic(auto, unfolding(crate::specs::Document::whole_of))]
-pub(crate) fn whole_of(v: &Value) -> Option<Whole<'_>>
+pub fn whole_of(v: &Value) -> Option<Whole<'_>>
     ensures { option_map whole_seen result ≡ document.whole_of (view v.now) }
 {
     if !has_only(

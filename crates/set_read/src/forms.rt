@@ -9,13 +9,15 @@ ghost use Rattle.set_read.specs.Document.{protocols, plugins, cluster_form};
 use rt_task::{DraftCluster, Protocol};
 use serde_json::{Map, Value};
 
-pub(crate) fn natural_at(v: &Value, key: &str) -> Option<u64>
+/// The number of a member that is required, if it is a whole number below 2^64.
+pub fn natural_at(v: &Value, key: &str) -> Option<u64>
     ensures { result ≡ forms.required forms.natural key.now (view v.now) }
 {
     v.get(key).and_then(Value::as_u64)
 }
 
-pub(crate) fn natural_or(v: &Value, default: u64, key: &str) -> Option<u64>
+/// The number of a member, or the default where the member is not there.
+pub fn natural_or(v: &Value, default: u64, key: &str) -> Option<u64>
     ensures { result ≡ forms.optional forms.natural default key.now (view v.now) }
 {
     match v.get(key) {
@@ -24,7 +26,8 @@ pub(crate) fn natural_or(v: &Value, default: u64, key: &str) -> Option<u64>
     }
 }
 
-pub(crate) fn truth_or(v: &Value, default: bool, key: &str) -> Option<bool>
+/// The truth value of a member, or the default where the member is not there.
+pub fn truth_or(v: &Value, default: bool, key: &str) -> Option<bool>
     ensures { result ≡ forms.optional forms.truth default key.now (view v.now) }
 {
     match v.get(key) {
@@ -33,13 +36,15 @@ pub(crate) fn truth_or(v: &Value, default: bool, key: &str) -> Option<bool>
     }
 }
 
-pub(crate) fn text_at<'a>(v: &'a Value, key: &str) -> Option<&'a str>
+/// The text of a member that is required.
+pub fn text_at<'a>(v: &'a Value, key: &str) -> Option<&'a str>
     ensures { option_map (λ s. s.now) result ≡ forms.required forms.text key.now (view v.now) }
 {
     v.get(key).and_then(Value::as_str)
 }
 
-pub(crate) fn protocol_in(word: &str) -> Option<Protocol>
+/// The protocol of a word.
+pub fn protocol_in(word: &str) -> Option<Protocol>
     ensures { result ≡ forms.word_in protocols word.now }
 {
     match word {
@@ -52,7 +57,7 @@ pub(crate) fn protocol_in(word: &str) -> Option<Protocol>
     }
 }
 
-pub(crate) fn is_among(words: &[&str], word: &str) -> bool
+pub fn is_among(words: &[&str], word: &str) -> bool
     ensures { result ≡ forms.is_among (map (λ w. w.now) words.now) word.now }
 {
     for w in words {
@@ -71,7 +76,8 @@ fn keys_among(members: &Map<String, Value>, words: &[&str]) -> bool
     members.keys().all(|k| is_among(words, k.as_str()))
 }
 
-pub(crate) fn has_only(v: &Value, words: &[&str]) -> bool
+/// Whether the value is an object whose members are all among the words.
+pub fn has_only(v: &Value, words: &[&str]) -> bool
     ensures { forms.when result ≡ forms.object_of (map (λ w. w.now) words.now) (view v.now) }
 {
     match v.as_object() {
@@ -80,8 +86,9 @@ pub(crate) fn has_only(v: &Value, words: &[&str]) -> bool
     }
 }
 
+/// A cluster, if the value has its form.
 #[tactic(auto, unfolding(crate::specs::Document::cluster_form))]
-pub(crate) fn cluster_of(v: &Value) -> Option<DraftCluster>
+pub fn cluster_of(v: &Value) -> Option<DraftCluster>
     ensures { result ≡ cluster_form (view v.now) }
 {
     if !has_only(v, &["cpus", "group"]) {

@@ -7,7 +7,8 @@ mod elements;
 mod forms;
 mod names;
 mod read;
+pub mod single;
 mod tasks;
 
 pub use names::Names;
-pub use read::read_set;
+pub use read::{read_draft, read_set};

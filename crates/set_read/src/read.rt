@@ -1,5 +1,5 @@
 //! Reading a set.
-ghost use Rattle.std.specs.Prelude.{◌≡◌, ◌+◌, ◌<◌, ◌^◌, map, length, vec_len, IfOk, IsTrue};
+ghost use Rattle.std.specs.Prelude.{◌≡◌, ◌+◌, ◌<◌, ◌^◌, map, length, vec_len, IfErr, IfOk, IsTrue};
 ghost use Rattle.rt_task.specs.declared.bad_set.Part.TheVariants as parts;
 ghost use Rattle.serde_json.specs.View.{view};
 ghost use Rattle.set_read.specs.Document as document;
@@ -107,6 +107,18 @@ fn name_lists<'a>(alloc: Global, whole: &Whole<'a>) -> Result<NameLists<'a>, All
     Ok(NameLists { sems, resvs, tasks })
 }
 
+/// The names of a document's elements.
+pub fn names_of<'a>(alloc: Global, whole: &Whole<'a>) -> Result<NameLists<'a>, SetStop>
+    ensures names { IfOk result
+        (λ n. names_seen n ≡ document.names_of (whole_seen whole.now)) }
+    ensures memory { IfErr result (λ e. e ≡ SetStop.NoMemory) }
+{
+    if !is_few(whole) {
+        return Err(SetStop::NoMemory);
+    }
+    Ok(name_lists(alloc, whole)?)
+}
+
 #[tactic(auto, unfolding(crate::specs::Stepwise::whole_read))]
 fn draft_of_whole(alloc: Global, whole: &Whole, names: &NameLists) -> Result<Draft, SetStop>
     requires few { IsFew whole.now }
@@ -145,8 +157,8 @@ fn draft_of_value(alloc: Global, v: &Value) -> Result<Draft, SetStop>
     draft_of_whole(alloc, &whole, &names)
 }
 
-/// The set that bytes say, before its rules are tried.
-fn draft_in(alloc: Global, bytes: &[u8]) -> Result<Draft, SetStop>
+/// The set that a document says, before its rules are tried, or the first fault of form.
+pub fn read_draft(alloc: Global, bytes: &[u8]) -> Result<Draft, SetStop>
     ensures { Gives same result (draft_in_bytes bytes.now) }
 {
     match Value::from_slice(alloc, bytes) {
@@ -170,6 +182,6 @@ fn draft_in(alloc: Global, bytes: &[u8]) -> Result<Draft, SetStop>
 pub fn read_set(alloc: Global, bytes: &[u8]) -> Result<Setup, SetStop>
     ensures { Gives (λ s. s) result (set bytes.now) }
 {
-    let draft = draft_in(alloc, bytes)?;
+    let draft = read_draft(alloc, bytes)?;
     setup_of_draft(alloc, draft)
 }

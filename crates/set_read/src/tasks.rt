@@ -21,8 +21,9 @@ fn named(alloc: Global, text: &str) -> Result<Name, AllocError>
     Ok(Name::from_vec(bytes))
 }
 
+/// A semaphore, if the value has its form.
 #[tactic(auto, unfolding(crate::specs::Document::semaphore_form))]
-pub(crate) fn semaphore_of(alloc: Global, v: &Value) -> Result<Option<Sem>, AllocError>
+pub fn semaphore_of(alloc: Global, v: &Value) -> Result<Option<Sem>, AllocError>
     ensures { IfOk result (λ r. r ≡ document.semaphore_form (view v.now)) }
 {
     if !has_only(v, &["name", "protocol"]) {
@@ -41,7 +42,8 @@ pub(crate) fn semaphore_of(alloc: Global, v: &Value) -> Result<Option<Sem>, Allo
     Ok(Some(Sem { name, protocol }))
 }
 
-fn resv_kind_in(word: &str) -> Option<ResvKind>
+/// The kind of reservation of a word.
+pub fn resv_kind_in(word: &str) -> Option<ResvKind>
     ensures { result ≡ forms.word_in document.reservation_kinds word.now }
 {
     match word {
@@ -114,7 +116,8 @@ fn no_slots(alloc: Global, v: &Value) -> Option<Slots>
     }
 }
 
-fn slots_of(alloc: Global, kind: ResvKind, v: &Value) -> Result<Option<Slots>, AllocError>
+/// The slots of a reservation: a table has them, and no other kind.
+pub fn slots_of(alloc: Global, kind: ResvKind, v: &Value) -> Result<Option<Slots>, AllocError>
     ensures { IfOk result (λ r. r ≡ document.slots_form kind (view v.now)) }
 {
     match kind {
@@ -123,8 +126,9 @@ fn slots_of(alloc: Global, kind: ResvKind, v: &Value) -> Result<Option<Slots>, A
     }
 }
 
+/// A reservation, if the value has its form.
 #[tactic(auto, unfolding(crate::specs::Document::reservation_form))]
-pub(crate) fn reservation_of(alloc: Global, v: &Value) -> Result<Option<DraftResv>, AllocError>
+pub fn reservation_of(alloc: Global, v: &Value) -> Result<Option<DraftResv>, AllocError>
     ensures { IfOk result (λ r. r ≡ document.reservation_form (view v.now)) }
 {
     if !has_only(
@@ -189,8 +193,9 @@ fn uses_in(
     Ok(Some(found))
 }
 
+/// The semaphores that a task declares, if the member has its form; none where it is not there.
 #[tactic(auto, using(crate::proofs::FormLaws::listed_items))]
-fn uses_of(alloc: Global, names: &NameLists, v: &Value) -> Result<Option<SemNos>, AllocError>
+pub fn uses_of(alloc: Global, names: &NameLists, v: &Value) -> Result<Option<SemNos>, AllocError>
     ensures { IfOk result (λ r. r
         ≡ forms.optional (forms.list_of (document.sem_form
         (names_seen names.now))) [] (codes "uses") (view v.now)) }
@@ -272,8 +277,9 @@ fn pieces_in(
     Ok(Some(found))
 }
 
+/// The body of a task, if the member has its form; empty where it is not there.
 #[tactic(auto, using(crate::proofs::FormLaws::listed_items))]
-fn body_of(alloc: Global, names: &NameLists, v: &Value) -> Result<Option<Pieces>, AllocError>
+pub fn body_of(alloc: Global, names: &NameLists, v: &Value) -> Result<Option<Pieces>, AllocError>
     ensures { IfOk result (λ r. r
         ≡ forms.optional (forms.list_of (document.piece_form
         (names_seen names.now))) [] (codes "body") (view v.now)) }
@@ -302,7 +308,8 @@ fn resv_or_null(names: &NameLists, v: &Value) -> Option<Option<ResvNo>>
     }
 }
 
-fn resv_of(names: &NameLists, v: &Value) -> Option<Option<ResvNo>>
+/// The reservation that a task names, if the member has its form; none where it is not there or null.
+pub fn resv_of(names: &NameLists, v: &Value) -> Option<Option<ResvNo>>
     ensures { result
         ≡ forms.optional (forms.or_null (document.resv_form
         (names_seen names.now))) None (codes "resv") (view v.now) }
@@ -323,7 +330,8 @@ fn kind_in(word: &str) -> Option<Kind>
     }
 }
 
-fn kind_of(v: &Value) -> Option<Kind>
+/// Whether the task is periodic or sporadic, if the member has its form; periodic where it is not there.
+pub fn kind_of(v: &Value) -> Option<Kind>
     ensures { result
         ≡ forms.optional
         (forms.one_of document.release_kinds) Kind.Periodic (codes "kind") (view v.now) }
@@ -337,8 +345,9 @@ fn kind_of(v: &Value) -> Option<Kind>
     }
 }
 
+/// The task of this number, from 1, if the value has its form.
 #[tactic(auto, unfolding(crate::specs::Document::task_form))]
-pub(crate) fn task_of(
+pub fn task_of(
     alloc: Global,
     names: &NameLists,
     number: u32,

@@ -4,6 +4,7 @@
 mod accept;
 mod make;
 mod rules;
+pub mod single;
 
 pub use accept::setup_of_draft;
 pub use make::setup_of_parts;

@@ -17,7 +17,21 @@ mod slots;
 mod spread;
 mod tables;
 
+pub use bodies::is_well_formed;
+pub use ends::ends_of;
+pub use name::{
+    act_is_known, are_without_repeat, is_known, is_name, pieces_are_known, resv_is_known,
+    uses_are_known,
+};
+pub use range::{
+    act_in_range, allows_clusters, horizon_in_range, is_partitioned, is_prio, is_span,
+    pieces_in_range,
+};
 use rt_task::{BadSet, Draft, Part, Place, SetKind, SetStop};
+pub use shape::has_horizon;
+pub use sharing::{act_is_in_group, is_of_one_cluster, is_p_res, resv_fits, stands_under};
+pub use size::{body_fits, horizon_fits};
+pub use slots::{may_have, slots_in_range};
 use std::alloc::Global;
 
 /// The refusal at an element, or of memory where its index has no 32 bits.

@@ -1,4 +1,5 @@
 //! Which turns the semaphores have.
+use std::marker::Brand;
 
 /// The turns of the semaphores of a set. A program picks them once, when they are made.
 pub trait Names {
@@ -8,4 +9,11 @@ pub trait Names {
 
     /// The turn of each semaphore, by rising number from 1.
     ghost turns: { List (Cell SemOf) };
+}
+
+/// The turns that a call picks: its proof says which they are.
+impl Names for Brand {
+    ghost use Rattle.std.specs.Prelude.{[]};
+
+    ghost turns = { [] };
 }

@@ -1,2 +1,9 @@
-mod Dealing
-mod Unlocks
+pub mod Dealing
+pub mod ColumnLaws
+pub mod OpeningLaws
+pub mod RestLaws
+pub mod GrantLaws
+pub mod ClosingLaws
+pub mod EndLaws
+pub mod StepLaws
+pub mod Unlocks

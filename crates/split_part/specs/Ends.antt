@@ -15,11 +15,15 @@ use Rattle.split_laws.specs.Parts.{Among}
 use Rattle.part_player.specs.Players.{own_script}
 use Rattle.part_seat.specs.Partitions.{books_of}
 use Rattle.part_seat.specs.PartSeats.{PartPlace}
+use Rattle.split_part.specs.declared.end.SplitEnd.{SplitEnd}
 
 -- the semaphores' histories by rising number from 1, and the partitions' by the number of the processor
 pub record EndOf : Type 0 where
   pub sems : List (List SemEntry)
   pub parts : List (List SplitEntry)
+
+abbrev pub end_of : SplitEnd → EndOf
+end_of e = record { sems = e.sems; parts = e.parts }
 
 abbrev pub history_at : EndOf → ℕ → List SplitEntry
 history_at e q = slice_index_or e.parts q []
@@ -55,3 +59,7 @@ AllGoOn seats e = (q : ℕ) (d : PartPlace) → q < length seats → GoesOn (sli
 -- each partition has played its script
 abbrev pub AllPlayed : Parts → EndOf → Type 0
 AllPlayed p e = (q : ℕ) → q < processor_count p → steps_of q (history_at e q) ≡ own_script p q
+
+-- each seat has played its script
+abbrev pub HavePlayed : Parts → List PartPlace → Type 0
+HavePlayed p seats = (q : ℕ) (d : PartPlace) → q < length seats → steps_of q (slice_index_or seats q d).part.entries ≡ own_script p q

@@ -42,6 +42,12 @@ pub struct SplitEnd {
 }
 
 impl SemHistories {
+    pub(crate) fn new(lists: Vec<Vec<SemEntry>>) -> SemHistories
+        ensures { result ≡ map (λ es. es.items) lists.items }
+    {
+        SemHistories { lists }
+    }
+
     /// The histories.
     pub fn as_slice(&self) -> &[Vec<SemEntry>]
         ensures { map (λ es. es.items) result.now ≡ self.now }
@@ -51,6 +57,12 @@ impl SemHistories {
 }
 
 impl PartHistories {
+    pub(crate) fn new(lists: Vec<Vec<SplitEntry>>) -> PartHistories
+        ensures { result ≡ map (λ es. es.items) lists.items }
+    {
+        PartHistories { lists }
+    }
+
     /// The histories.
     pub fn as_slice(&self) -> &[Vec<SplitEntry>]
         ensures { map (λ es. es.items) result.now ≡ self.now }

@@ -2,9 +2,12 @@
 //! semaphore and an inbox for each processor.
 #![tactic(auto)]
 
+mod closing;
 mod deal;
 mod end;
 mod opening;
 mod senders;
+mod split;
 
 pub use end::{PartHistories, SemHistories, SplitEnd};
+pub use split::Split;

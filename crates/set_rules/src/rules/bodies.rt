@@ -161,7 +161,7 @@ fn numbers_of(alloc: Global, uses: &[SemNo]) -> Result<HashSet<u32>, AllocError>
 }
 
 /// Whether end is the last operation and stands nowhere else, and none is refused to a job that starts with nothing.
-pub(super) fn is_well_formed(
+pub fn is_well_formed(
     alloc: Global,
     d: &Draft,
     uses: &[SemNo],

@@ -7,7 +7,7 @@ use rt_task::{Draft, DraftCluster, SetStop};
 use std::alloc::Global;
 
 /// The number after each cluster's last processor.
-pub(super) fn ends_of(alloc: Global, clusters: &[DraftCluster]) -> Result<Vec<u64>, SetStop>
+pub fn ends_of(alloc: Global, clusters: &[DraftCluster]) -> Result<Vec<u64>, SetStop>
     ensures ends { IfOk result (λ v. v.items ≡ ends_from 0 clusters.now) }
     ensures memory { IfErr result (λ e. e ≡ SetStop.NoMemory) }
 {

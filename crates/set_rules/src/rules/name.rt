@@ -37,13 +37,15 @@ fn are_name_bytes(name: &[u8]) -> bool
     name.iter().all(|b| is_name_byte(*b))
 }
 
-fn is_name(name: &[u8]) -> bool
+/// A name has 1 to 32 bytes, each an ASCII letter, a digit, `_` or `-`.
+pub fn is_name(name: &[u8]) -> bool
     ensures { result ≡ words.is_name name.now }
 {
     name.len() >= 1 && name.len() <= MOST_NAME_BYTES as usize && are_name_bytes(name)
 }
 
-fn is_known(count: usize, n: u32) -> bool
+/// Whether a number from 1 is that of one of so many elements.
+pub fn is_known(count: usize, n: u32) -> bool
     ensures { result ≡ (words.within 1 count n) }
 {
     n >= 1 && n as usize <= count
@@ -67,13 +69,15 @@ fn piece_is_known(d: &Draft, piece: Piece) -> bool
     }
 }
 
-fn pieces_are_known(d: &Draft, pieces: &[Piece]) -> bool
+/// Whether each semaphore that a body names is declared.
+pub fn pieces_are_known(d: &Draft, pieces: &[Piece]) -> bool
     ensures { result ≡ list_all (rules.piece_is_known d.now) pieces.now }
 {
     pieces.iter().all(|piece| piece_is_known(d, *piece))
 }
 
-fn uses_are_known(d: &Draft, uses: &[SemNo]) -> bool
+/// Whether each of these semaphores is declared.
+pub fn uses_are_known(d: &Draft, uses: &[SemNo]) -> bool
     ensures { result ≡ list_all (words.is_known d.now.sems) (map (λ (s : SemNo). s.0) uses.now) }
 {
     let count = d.sems.as_slice().len();
@@ -85,7 +89,8 @@ fn uses_are_known(d: &Draft, uses: &[SemNo]) -> bool
     true
 }
 
-fn resv_is_known(d: &Draft, resv: Option<ResvNo>) -> bool
+/// Whether the reservation is declared, where there is one.
+pub fn resv_is_known(d: &Draft, resv: Option<ResvNo>) -> bool
     ensures { result ≡ rules.resv_is_known d.now resv }
 {
     match resv {
@@ -94,7 +99,8 @@ fn resv_is_known(d: &Draft, resv: Option<ResvNo>) -> bool
     }
 }
 
-fn act_is_known(d: &Draft, act: Act) -> bool
+/// Whether the task or the semaphore that an act names is declared.
+pub fn act_is_known(d: &Draft, act: Act) -> bool
     ensures { result ≡ rules.act_is_known d.now act }
 {
     match act {
@@ -172,7 +178,8 @@ fn resvs_named(alloc: Global, d: &Draft) -> Result<(), SetStop>
     Ok(())
 }
 
-fn are_without_repeat(alloc: Global, uses: &[SemNo]) -> Result<bool, AllocError>
+/// Whether none of the semaphores stands twice.
+pub fn are_without_repeat(alloc: Global, uses: &[SemNo]) -> Result<bool, AllocError>
     ensures { IfOk result (λ r. r ≡ words.no_repeat (map (λ (s : SemNo). s.0) uses.now)) }
 {
     let mut numbers = HashSet::new(alloc);

@@ -25,13 +25,15 @@ use rt_task::{
     PluginKind, SetKind, SetStop,
 };
 
-fn is_span(n: u64) -> bool
+/// A duration or a tick, in ticks, that is not 0 and below the limit of 10^12.
+pub fn is_span(n: u64) -> bool
     ensures { result ≡ words.is_span n }
 {
     n >= 1 && n < TICK_END
 }
 
-fn is_prio(n: u64) -> bool
+/// A priority number: from 1, the highest, to 511.
+pub fn is_prio(n: u64) -> bool
     ensures { result ≡ words.is_prio n }
 {
     n >= 1 && n <= u64::from(MOST_PRIO)
@@ -55,7 +57,8 @@ fn piece_in_range(piece: Piece) -> bool
     }
 }
 
-fn pieces_in_range(pieces: &[Piece]) -> bool
+/// Whether each Work is of 1 to 1,000 units, and each Sleep of a tick that `is_span` passes.
+pub fn pieces_in_range(pieces: &[Piece]) -> bool
     ensures { result ≡ list_all words.piece_in_range pieces.now }
 {
     pieces.iter().all(|piece| piece_in_range(*piece))
@@ -85,7 +88,8 @@ fn tasks_in_range(d: &Draft) -> Result<(), SetStop>
     Ok(())
 }
 
-fn is_partitioned(plugin: PluginKind) -> bool
+/// Whether a cluster has one processor under the plugin.
+pub fn is_partitioned(plugin: PluginKind) -> bool
     ensures { result ≡ words.is_partitioned plugin }
 {
     match plugin {
@@ -94,7 +98,8 @@ fn is_partitioned(plugin: PluginKind) -> bool
     }
 }
 
-fn allows_clusters(plugin: PluginKind, n: usize) -> bool
+/// Whether the plugin has so many clusters: GSN-EDF one, the others one or more.
+pub fn allows_clusters(plugin: PluginKind, n: usize) -> bool
     ensures { result ≡ words.allows_clusters plugin n }
 {
     match plugin {
@@ -103,7 +108,8 @@ fn allows_clusters(plugin: PluginKind, n: usize) -> bool
     }
 }
 
-fn horizon_in_range(drive: &DraftDrive) -> bool
+/// A horizon is 1 or more; steps have none.
+pub fn horizon_in_range(drive: &DraftDrive) -> bool
     ensures { result ≡ rules.horizon_in_range drive.now }
 {
     match drive {
@@ -194,7 +200,8 @@ pub(super) fn cpus_of(d: &Draft) -> Option<u64>
     Some(sum)
 }
 
-fn act_in_range(act: Act) -> bool
+/// Whether a Sleep of the act is of a tick that `is_span` passes.
+pub fn act_in_range(act: Act) -> bool
     ensures { result ≡ words.act_in_range act }
 {
     match act {

@@ -15,7 +15,8 @@ use super::slots::may_have;
 use super::stop;
 use rt_task::{Draft, DraftDrive, DraftResv, DraftTask, Kind, Part, SetKind, SetStop};
 
-fn has_horizon(d: &Draft) -> bool
+/// Whether the set has a horizon, and not steps.
+pub fn has_horizon(d: &Draft) -> bool
     ensures { result ≡ words.has_horizon d.now.drive }
 {
     match &d.drive {

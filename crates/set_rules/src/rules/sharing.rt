@@ -34,13 +34,15 @@ use rt_task::{
 use std::alloc::{AllocError, Global};
 use std::collections::HashSet;
 
-fn is_p_res(plugin: PluginKind) -> bool
+/// Whether the plugin is P-RES.
+pub fn is_p_res(plugin: PluginKind) -> bool
     ensures { result ≡ words.is_p_res plugin }
 {
     plugin == PluginKind::PRes
 }
 
-fn stands_under(protocol: Protocol, plugin: PluginKind) -> bool
+/// Whether the protocol stands under the plugin.
+pub fn stands_under(protocol: Protocol, plugin: PluginKind) -> bool
     ensures { result ≡ words.stands_under protocol plugin }
 {
     match (protocol, plugin) {
@@ -55,7 +57,8 @@ fn stands_under(protocol: Protocol, plugin: PluginKind) -> bool
     }
 }
 
-fn is_of_one_cluster(protocol: Protocol, plugin: PluginKind) -> bool
+/// Whether the tasks that declare a semaphore of the protocol have to be of one cluster.
+pub fn is_of_one_cluster(protocol: Protocol, plugin: PluginKind) -> bool
     ensures { result ≡ words.is_of_one_cluster protocol plugin }
 {
     match (protocol, plugin) {
@@ -139,7 +142,8 @@ fn cluster_of_resv(d: &Draft, r: ResvNo) -> u64
     }
 }
 
-fn resv_fits(d: &Draft, cluster: u64, resv: Option<ResvNo>) -> bool
+/// Whether a task of the cluster has the reservation that it needs: under P-RES one of the cluster, else none.
+pub fn resv_fits(d: &Draft, cluster: u64, resv: Option<ResvNo>) -> bool
     ensures { result ≡ rules.resv_fits d.now (words.is_p_res d.now.plugin) cluster resv }
 {
     match resv {
@@ -180,7 +184,8 @@ fn cluster_of_task(d: &Draft, t: TaskNo) -> u64
     }
 }
 
-fn act_is_in_group(d: &Draft, ends: &[u64], cpu: u64, act: Act) -> bool
+/// Whether an arrival is at a processor of the group of its task.
+pub fn act_is_in_group(d: &Draft, ends: &[u64], cpu: u64, act: Act) -> bool
     requires { ends.now ≡ ends_from 0 d.now.clusters }
     ensures { result ≡ rules.act_is_in_group d.now cpu act }
 {

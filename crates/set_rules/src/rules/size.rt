@@ -29,7 +29,9 @@ fn product_fits(horizon: u64, cpus: u64) -> bool
     }
 }
 
-fn horizon_fits(drive: &DraftDrive, cpus: u64) -> bool
+/// Whether the steps are at most 1,000,000: those that are given, or those that so many processors can take up to
+/// the horizon.
+pub fn horizon_fits(drive: &DraftDrive, cpus: u64) -> bool
     ensures { (d : Draft) → cpus ≡ lookups.cpus d → result ≡ rules.horizon_fits d drive.now }
 {
     match drive {
@@ -72,7 +74,8 @@ fn piece_len(piece: Piece) -> u64
     }
 }
 
-fn body_fits(pieces: &[Piece]) -> bool
+/// Whether a body has at most 1,000 operations, each unit of work counted.
+pub fn body_fits(pieces: &[Piece]) -> bool
     ensures { result ≡ nat_le (words.body_len pieces.now) MOST_OPERATIONS }
 {
     let mut left = u64::from(MOST_OPERATIONS);

@@ -6,7 +6,7 @@ use rt_base::MOST_SLOTS;
 use rt_task::{ResvKind, Slot};
 
 /// Whether a reservation of this kind may have these slots.
-pub(super) fn may_have(kind: ResvKind, slots: &[Slot]) -> bool
+pub fn may_have(kind: ResvKind, slots: &[Slot]) -> bool
     ensures { result ≡ rules.may_have kind slots.now }
 {
     match kind {
@@ -44,7 +44,8 @@ fn is_table(cycle: u64, budget: u64, slots: &[Slot]) -> bool
     }
 }
 
-pub(super) fn slots_in_range(kind: ResvKind, cycle: u64, budget: u64, slots: &[Slot]) -> bool
+/// Whether the slots of a reservation are those of a table of its period and budget; other kinds have none to ask for.
+pub fn slots_in_range(kind: ResvKind, cycle: u64, budget: u64, slots: &[Slot]) -> bool
     ensures { result ≡ rules.slots_in_range kind cycle budget slots.now }
 {
     match kind {

@@ -1,0 +1,9 @@
+pub mod Strips
+pub mod Rows
+pub mod Times
+pub mod Units
+pub mod Plays
+pub mod Looks
+pub mod Marked
+pub mod Clocks
+pub mod Finished

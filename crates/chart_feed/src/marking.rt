@@ -1,0 +1,77 @@
+//! The clocks of the columns of a window.
+ghost use Rattle.std.specs.Prelude.{◌≡◌, ◌+◌, ◌<◌, All, IfOk, drop, length, map};
+ghost use Rattle.rt_base.specs.declared.TheConstants.{TICK_END};
+ghost use Rattle.chart_feed.specs.declared.times.Edges as seen_edges;
+ghost use Rattle.chart_cells.specs.Cells.{marked_shown};
+ghost use Rattle.chart_feed.specs.Marked.{edges_shown, marked_in};
+ghost use Rattle.chart_feed.specs.Times as seen;
+
+use crate::times::{Edges, marks};
+use chart_cells::Marked;
+use rt_base::NoMemory;
+use rt_task::Task;
+use std::alloc::Global;
+
+/// Where the column behind one begins that has this last clock.
+fn next_of(high: u64, clocks: &[u64], i: usize, after: Option<u64>) -> u64
+    requires high { high < TICK_END }
+    requires inside { i < length clocks.now }
+    ensures { result ≡ seen.next_in high (drop (i + 1) clocks.now) after }
+{
+    match clocks.get(i + 1) {
+        Some(clock) => *clock,
+        None => match after {
+            Some(clock) => clock,
+            None => high + 1,
+        },
+    }
+}
+
+/// The clocks of columns with these last clocks, where the first begins at one, and behind the last this column follows, if any.
+pub(crate) fn edges_of(
+    alloc: Global,
+    first: u64,
+    clocks: &[u64],
+    after: Option<u64>,
+) -> Result<Vec<Edges>, NoMemory>
+    requires { All (λ c. c < TICK_END) clocks.now }
+    ensures { IfOk result
+        (λ v. map edges_shown v.items ≡ seen.edges_in first clocks.now after) }
+{
+    let mut edges = Vec::new(alloc);
+    let mut begins = first;
+    for i in 0..clocks.len() {
+        let high = clocks[i];
+        let next = next_of(high, clocks, i, after);
+        edges.push(Edges {
+            first: begins,
+            high,
+            next,
+        })?;
+        begins = high + 1;
+    }
+    Ok(edges)
+}
+
+/// Sets the marks of a task with these arrivals and ends of jobs in its cells.
+pub(crate) fn set_marks(
+    cells: &mut [Marked],
+    task: &Task,
+    arrivals: &[u64],
+    ends: &[u64],
+    now: u64,
+    edges: &[Edges],
+)
+    requires period { 0 < task.now.period }
+    requires deadline { task.now.rel_deadline < TICK_END }
+    requires now { now < TICK_END }
+    requires low { All (λ (e : seen_edges.Edges). (e.first < TICK_END + 1) × (e.high < TICK_END + 1)) edges.now }
+    requires size { length cells.old ≡ length edges.now }
+    ensures { map marked_shown cells.new
+        ≡ marked_in task.now arrivals.now ends.now now cells.old (map edges_shown edges.now) }
+{
+    for i in 0..cells.len() {
+        let end = cells[i].marks.end;
+        cells[i].marks = marks(task, arrivals, ends, now, edges[i], end);
+    }
+}

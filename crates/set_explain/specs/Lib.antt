@@ -1,0 +1,12 @@
+pub mod Words
+pub mod Rules
+pub mod ShapeRules
+pub mod RangeRules
+pub mod NameRules
+pub mod SharingRules
+pub mod SizeRules
+pub mod Broken
+pub mod Causes
+pub mod Shown
+pub mod Texts
+pub mod Laws

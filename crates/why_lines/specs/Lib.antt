@@ -1,0 +1,4 @@
+pub mod GroupSets
+pub mod SemNos
+pub mod Ceilings
+pub mod JobsShown

@@ -1,0 +1,14 @@
+pub mod Pieces
+pub mod Sentences
+pub mod ClusterLines
+pub mod SemLines
+pub mod ResvLines
+pub mod Standings
+pub mod TaskLines
+pub mod StateText
+pub mod WhyText
+pub mod Computed
+pub mod WorkedLocks
+pub mod WorkedJobs
+pub mod WorkedGroups
+pub mod WorkedLines
