@@ -80,8 +80,7 @@ fn resv_at(alloc: Global, items: &[Value], i: usize) -> Result<Option<Rule>, All
     }
 }
 
-fn task_at(alloc: Global, whole: &Whole, items: &[Value], i: usize)
-    -> Result<Option<Rule>, SetStop>
+fn task_at(alloc: Global, whole: &Whole, items: &[Value], i: usize) -> Result<Option<Rule>, SetStop>
     ensures rule { IfOk result (λ r. shown r ≡ broken (spec.tests_at (spec.alone
         (shape.task_shape (document.names_of (whole_seen whole.now))
         (document.has_horizon (play_seen whole.now.play)))) (map view items.now) i)) }
@@ -93,8 +92,7 @@ fn task_at(alloc: Global, whole: &Whole, items: &[Value], i: usize)
     }
 }
 
-fn step_at(alloc: Global, whole: &Whole, items: &[Value], i: usize)
-    -> Result<Option<Rule>, SetStop>
+fn step_at(alloc: Global, whole: &Whole, items: &[Value], i: usize) -> Result<Option<Rule>, SetStop>
     ensures rule { IfOk result (λ r. shown r ≡ broken (spec.tests_at (spec.alone
         (shape.step_shape (document.names_of (whole_seen whole.now)))) (map view items.now) i)) }
     ensures memory { IfErr result (λ e. e ≡ SetStop.NoMemory) }

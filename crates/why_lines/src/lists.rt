@@ -27,7 +27,12 @@ fn is_in_group(set: &GroupSet, cluster: ClusterNo) -> bool
 pub fn home_of(set: &GroupSet, task: TaskNo) -> ClusterNo
     ensures { result.0 ≡ groups.home (group_in set.now) task.0 }
 {
-    match set.parts.tasks.as_slice().get(task.0.saturating_sub(1) as usize) {
+    match set
+        .parts
+        .tasks
+        .as_slice()
+        .get(task.0.saturating_sub(1) as usize)
+    {
         Some(task) => task.cluster,
         None => ClusterNo(0),
     }
@@ -39,7 +44,12 @@ pub fn limits_of(set: &GroupSet, task: TaskNo) -> (u64, u64)
     ensures deadline { result.0 ≡ (groups.task (group_in set.now) task.0).rel_deadline }
     ensures cost { result.1 ≡ (groups.task (group_in set.now) task.0).cost }
 {
-    match set.parts.tasks.as_slice().get(task.0.saturating_sub(1) as usize) {
+    match set
+        .parts
+        .tasks
+        .as_slice()
+        .get(task.0.saturating_sub(1) as usize)
+    {
         Some(task) => (task.rel_deadline, task.cost),
         None => (0, 0),
     }
@@ -50,7 +60,12 @@ pub fn limits_of(set: &GroupSet, task: TaskNo) -> (u64, u64)
 pub fn server_of(set: &GroupSet, task: TaskNo) -> ResvNo
     ensures { result.0 ≡ groups.served_by (group_in set.now) task.0 }
 {
-    match set.parts.tasks.as_slice().get(task.0.saturating_sub(1) as usize) {
+    match set
+        .parts
+        .tasks
+        .as_slice()
+        .get(task.0.saturating_sub(1) as usize)
+    {
         Some(task) => match task.resv {
             Some(resv) => resv,
             None => ResvNo(0),
@@ -64,7 +79,12 @@ pub fn server_of(set: &GroupSet, task: TaskNo) -> ResvNo
 fn resv_home(set: &GroupSet, resv: ResvNo) -> ClusterNo
     ensures { result.0 ≡ (groups.resv (group_in set.now) resv.0).cluster.0 }
 {
-    match set.parts.resvs.as_slice().get(resv.0.saturating_sub(1) as usize) {
+    match set
+        .parts
+        .resvs
+        .as_slice()
+        .get(resv.0.saturating_sub(1) as usize)
+    {
         Some(resv) => resv.cluster,
         None => ClusterNo(0),
     }

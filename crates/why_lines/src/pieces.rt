@@ -36,7 +36,12 @@ pub fn put_number(out: &mut Vec<u8>, n: u64) -> Result<(), NoMemory>
 fn task_name<'a>(set: &GroupSet<'a>, task: TaskNo) -> &'a [u8]
     ensures { result.now ≡ texts.task_name (group_in set.now) task.0 }
 {
-    match set.parts.tasks.as_slice().get(task.0.saturating_sub(1) as usize) {
+    match set
+        .parts
+        .tasks
+        .as_slice()
+        .get(task.0.saturating_sub(1) as usize)
+    {
         Some(task) => task.name.as_slice(),
         None => &[],
     }
@@ -46,7 +51,12 @@ fn task_name<'a>(set: &GroupSet<'a>, task: TaskNo) -> &'a [u8]
 fn sem_name<'a>(set: &GroupSet<'a>, sem: SemNo) -> &'a [u8]
     ensures { result.now ≡ texts.sem_name (group_in set.now) sem.0 }
 {
-    match set.parts.sems.as_slice().get(sem.0.saturating_sub(1) as usize) {
+    match set
+        .parts
+        .sems
+        .as_slice()
+        .get(sem.0.saturating_sub(1) as usize)
+    {
         Some(sem) => sem.name.as_slice(),
         None => &[],
     }
@@ -57,7 +67,12 @@ fn sem_name<'a>(set: &GroupSet<'a>, sem: SemNo) -> &'a [u8]
 pub fn protocol_of(set: &GroupSet, sem: SemNo) -> Protocol
     ensures { result ≡ groups.protocol (group_in set.now) sem.0 }
 {
-    match set.parts.sems.as_slice().get(sem.0.saturating_sub(1) as usize) {
+    match set
+        .parts
+        .sems
+        .as_slice()
+        .get(sem.0.saturating_sub(1) as usize)
+    {
         Some(sem) => sem.protocol,
         None => Protocol::Fmlp,
     }

@@ -38,7 +38,12 @@ fn resv_row<'a>(set: &GroupSet<'a>, resv: ResvNo) -> (&'a [u8], ResvKind, u64)
     ensures kind { result.1 ≡ (groups.resv (group_in set.now) resv.0).kind }
     ensures budget { result.2 ≡ (groups.resv (group_in set.now) resv.0).budget }
 {
-    match set.parts.resvs.as_slice().get(resv.0.saturating_sub(1) as usize) {
+    match set
+        .parts
+        .resvs
+        .as_slice()
+        .get(resv.0.saturating_sub(1) as usize)
+    {
         Some(resv) => (resv.name.as_slice(), resv.kind, resv.budget),
         None => (&[], ResvKind::Polling, 0),
     }
