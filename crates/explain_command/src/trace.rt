@@ -1,0 +1,113 @@
+//! Why a trace is refused or invalid.
+ghost use Rattle.std.specs.Prelude.{◌≡◌, List, map, IfOk};
+ghost use Rattle.set_explain.specs.Shown.{rule_shown};
+ghost use Rattle.trace_tools.specs.Tools.{Tool};
+ghost use Rattle.trace_read.specs.Lines.{lines_of};
+ghost use Rattle.trace_read.specs.Reads.{HasBadSet, IsRefused, IsTraceOf};
+ghost use Rattle.trace_read.specs.declared.fault.TraceFault.TheVariants as faults;
+ghost use Rattle.explain_command.specs.Explaining.{TraceEnds};
+ghost use Rattle.explain_command.specs.Texts as texts;
+
+use crate::ended::Ended;
+use crate::lines::set_text;
+use crate::put::put;
+use crate::set::fine;
+use crate::verdict::wrong_line;
+use rt_base::NoMemory;
+use rt_fault::Status;
+use rt_task::{BadSet, Part, Place, SetKind};
+use set_explain::{Cause, Rule, cause_of, explanation};
+use std::alloc::Global;
+use trace_check::{Verdict, check_trace};
+use trace_read::{Trace, TraceFault, read_trace};
+use trace_tools::{Bus, TraceTool};
+
+/// The rule of a line of the head.
+fn head_rule(line: u32) -> Rule
+    ensures { rule_shown result ≡ texts.head_rule line }
+{
+    if line == 1 {
+        Rule {
+            member: "first line",
+            says: "rtsched trace 1 or rtsched trace 2",
+        }
+    } else {
+        Rule {
+            member: "second line",
+            says: "set, a space and the text of a set",
+        }
+    }
+}
+
+/// The text that explains that this line of the head is none.
+fn headless(alloc: Global, bytes: &[u8], line: u32) -> Result<Ended, NoMemory>
+    requires { IsRefused bytes.now (faults.NotTrace line) }
+    ensures { IfOk result (λ x. (tools : List Tool)
+        → TraceEnds tools bytes.now x.status x.text.items) }
+{
+    let place = Place {
+        part: Part::Line,
+        index: line,
+    };
+    let bad = BadSet {
+        kind: SetKind::NotTrace,
+        place,
+    };
+    let text = explanation(alloc, bad, Cause::Broken(head_rule(line)))?;
+    Ok(Ended {
+        status: Status::BadInput(bad),
+        text,
+    })
+}
+
+/// The text that explains why the set of a trace is refused.
+fn bad_set(alloc: Global, bytes: &[u8], bad: BadSet) -> Result<Ended, NoMemory>
+    requires { HasBadSet bytes.now bad }
+    ensures { IfOk result (λ x. (tools : List Tool)
+        → TraceEnds tools bytes.now x.status x.text.items) }
+{
+    let cause = cause_of(alloc, set_text(bytes), bad)?;
+    let mut text = explanation(alloc, bad, cause)?;
+    put(&mut text, "in: line 2 of the trace, where the text of the set begins at column 5\n")?;
+    Ok(Ended {
+        status: Status::BadInput(bad),
+        text,
+    })
+}
+
+/// The verdict on a trace whose set is valid, with the text that explains it.
+fn judged<T: TraceTool>(
+    alloc: Global,
+    bytes: &[u8],
+    trace: &Trace,
+    tools: Vec<T>,
+) -> Result<Ended, NoMemory>
+    requires { IsTraceOf bytes.now trace.now.version trace.now.setup
+        (lines_of trace.now.lines) trace.now.stop }
+    ensures { IfOk result (λ x. TraceEnds (map T.tool tools.items) bytes.now x.status x.text.items) }
+{
+    let mut bus = Bus::open(alloc, tools)?;
+    match check_trace(alloc, bytes, trace, &mut bus)? {
+        Verdict::Valid(_) => fine(alloc, "nothing is refused: a valid trace\n"),
+        Verdict::Invalid(line) => Ok(Ended {
+            status: Status::Invalid(line),
+            text: wrong_line(alloc, bytes, &trace.setup, line)?,
+        }),
+    }
+}
+
+/// What the bytes come to as a trace.
+pub(crate) fn trace_ended<T: TraceTool>(
+    alloc: Global,
+    bytes: &[u8],
+    tools: Vec<T>,
+) -> Result<Ended, NoMemory>
+    ensures { IfOk result (λ x. TraceEnds (map T.tool tools.items) bytes.now x.status x.text.items) }
+{
+    match read_trace(alloc, bytes) {
+        Ok(trace) => judged(alloc, bytes, &trace, tools),
+        Err(TraceFault::NotTrace(line)) => headless(alloc, bytes, line),
+        Err(TraceFault::BadSet(bad)) => bad_set(alloc, bytes, bad),
+        Err(TraceFault::NoMemory) => Err(NoMemory),
+    }
+}
