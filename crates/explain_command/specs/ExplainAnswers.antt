@@ -8,6 +8,8 @@ use Rattle.rt_fault.specs.declared.status.Status.{Status}
 use Rattle.rt_fault.specs.declared.status.Status.TheVariants as ends
 use Rattle.trace_tools.specs.Tools.{Tool}
 use Rattle.set_input.specs.Ends.{Reading, Writing, IsFaultless}
+use Rattle.explain_command.specs.declared.outcome.Outcome.{Outcome}
+use Rattle.explain_command.specs.declared.outcome.Outcome.TheVariants.{Fine, Wrong, Refused}
 use Rattle.explain_command.specs.Explaining.{IsExplained, begins_as_trace}
 
 -- what was read to its end is within the limit of a trace
@@ -19,21 +21,21 @@ pub record WasRead (source : Reading) (bytes : List ℕ) : Type 0 where
 abbrev pub IsNever : BadSet → Type 0
 IsNever b = ⊥
 
--- it comes to this end, and the sink got the whole text that explains it
-pub record WasExplained (tools : List Tool) (source : Reading) (sink : Writing) (end : Status) : Type 0 where
+-- it comes to this, and the sink got the whole text that explains it
+pub record WasExplained (tools : List Tool) (source : Reading) (sink : Writing) (outcome : Outcome) : Type 0 where
   pub bytes : List ℕ
   pub text : List ℕ
   pub read : WasRead source bytes
-  pub explained : IsExplained tools bytes end text
+  pub explained : IsExplained tools bytes outcome text
   pub written : Extends sink.old.held sink.new.held text
 
 -- or a first part of it
 pub record WasCut (tools : List Tool) (source : Reading) (sink : Writing) : Type 0 where
   pub bytes : List ℕ
-  pub end : Status
+  pub outcome : Outcome
   pub text : List ℕ
   pub read : WasRead source bytes
-  pub explained : IsExplained tools bytes end text
+  pub explained : IsExplained tools bytes outcome text
   pub written : ExtendsByPrefix sink.old.held sink.new.held text
 
 -- it begins as no trace, and is longer than a set may be
@@ -74,11 +76,11 @@ IsAnswered _ = ⊥
 
 pub record ExplainAnswers (tools : List Tool) (source : Reading) (sink : Writing) (answer : Status) : Type 0 where
   -- all input was read and nothing of it is refused, and the sink got the line that says so
-  pub ok : answer ≡ ends.Ok → WasExplained tools source sink ends.Ok
+  pub ok : answer ≡ ends.Ok → WasExplained tools source sink Fine
   -- all input was read and is a trace of which this line is the first that is wrong, and the sink got the text that explains it
-  pub invalid : (line : ℕ) → answer ≡ ends.Invalid line → WasExplained tools source sink (ends.Invalid line)
+  pub invalid : (line : ℕ) → answer ≡ ends.Invalid line → WasExplained tools source sink (Wrong line)
   -- all input was read and has this refusal, and the sink got the text that explains it
-  pub bad_input : (b : BadSet) → answer ≡ ends.BadInput b → WasExplained tools source sink (ends.BadInput b)
+  pub bad_input : (b : BadSet) → answer ≡ ends.BadInput b → WasExplained tools source sink (Refused b)
   -- one byte more than the limit of a trace was taken, or all of a set that is beyond its own
   pub too_long : answer ≡ ends.TooLong → TakesOneMoreThan MOST_TRACE_BYTES source.old.left source.new.left ⊎ WasLongSet source
   -- on any other answer at most the limit

@@ -7,8 +7,6 @@ use Rattle.rt_task.specs.declared.bad_set.BadSet.{BadSet}
 use Rattle.rt_task.specs.declared.bad_set.SetKind.TheVariants.{NotTrace}
 use Rattle.rt_task.specs.declared.bad_set.Part.TheVariants.{Line}
 use Rattle.rt_task.specs.Refusals.{bad}
-use Rattle.rt_fault.specs.declared.status.Status.{Status}
-use Rattle.rt_fault.specs.declared.status.Status.TheVariants as ends
 use Rattle.set_read.specs.Sets.{set}
 use Rattle.set_explain.specs.Causes.{Cause, IsCause, broken}
 use Rattle.set_explain.specs.Texts.{explanation}
@@ -19,6 +17,8 @@ use Rattle.trace_read.specs.declared.fault.TraceFault.TheVariants as faults
 use Rattle.trace_laws.specs.ValidTexts.{IsValidText}
 use Rattle.trace_check.specs.Verdicts.{IsInvalid}
 use Rattle.sim_commands.specs.Check.{SaysSet}
+use Rattle.explain_command.specs.declared.outcome.Outcome.{Outcome}
+use Rattle.explain_command.specs.declared.outcome.Outcome.TheVariants.{Fine, Wrong, Refused}
 use Rattle.explain_command.specs.Texts.{head_rule, in_trace, valid_set, valid_trace, wrong_line}
 
 -- the input is looked at as a trace where it begins with the first word of one
@@ -42,10 +42,10 @@ pub record SetIsRefused (bytes : List ℕ) (b : BadSet) (text : List ℕ) : Type
   pub is_cause : IsCause bytes b cause
   pub text_is : text ≡ explanation b cause
 
-abbrev pub SetEnds : List ℕ → Status → List ℕ → Type 0
-SetEnds bytes ends.Ok text = SetIsValid bytes text
-SetEnds bytes (ends.BadInput b) text = SetIsRefused bytes b text
-SetEnds bytes _ text = ⊥
+abbrev pub SetIsExplained : List ℕ → Outcome → List ℕ → Type 0
+SetIsExplained bytes Fine text = SetIsValid bytes text
+SetIsExplained bytes (Wrong line) text = ⊥
+SetIsExplained bytes (Refused b) text = SetIsRefused bytes b text
 
 -- ---- as a trace
 
@@ -79,19 +79,18 @@ pub record SaysBadSet (bytes : List ℕ) (b : BadSet) (text : List ℕ) : Type 0
   pub is_cause : IsCause bad_set.set_text b cause
   pub text_is : text ≡ explanation b cause ++ in_trace
 
-abbrev pub TraceEnds : List Tool → List ℕ → Status → List ℕ → Type 0
-TraceEnds tools bytes ends.Ok text = TraceIsValid tools bytes text
-TraceEnds tools bytes (ends.Invalid line) text = TraceIsInvalid tools bytes line text
-TraceEnds tools bytes (ends.BadInput b) text = HeadIsWrong bytes b text ⊎ SaysBadSet bytes b text
-TraceEnds tools bytes _ text = ⊥
+abbrev pub TraceIsExplained : List Tool → List ℕ → Outcome → List ℕ → Type 0
+TraceIsExplained tools bytes Fine text = TraceIsValid tools bytes text
+TraceIsExplained tools bytes (Wrong line) text = TraceIsInvalid tools bytes line text
+TraceIsExplained tools bytes (Refused b) text = HeadIsWrong bytes b text ⊎ SaysBadSet bytes b text
 
 -- ---- as either
 
 -- a set has the limit that it has for `sim`
-abbrev pub EndsBy : Bool → List Tool → List ℕ → Status → List ℕ → Type 0
-EndsBy true tools bytes end text = TraceEnds tools bytes end text
-EndsBy false tools bytes end text = (length bytes ≤ MOST_SET_BYTES) × SetEnds bytes end text
+abbrev pub IsExplainedAs : Bool → List Tool → List ℕ → Outcome → List ℕ → Type 0
+IsExplainedAs true tools bytes outcome text = TraceIsExplained tools bytes outcome text
+IsExplainedAs false tools bytes outcome text = (length bytes ≤ MOST_SET_BYTES) × SetIsExplained bytes outcome text
 
--- the input comes to this end, and the text explains that
-abbrev pub IsExplained : List Tool → List ℕ → Status → List ℕ → Type 0
-IsExplained tools bytes end text = EndsBy (begins_as_trace bytes) tools bytes end text
+-- the input comes to this, and the text explains it
+abbrev pub IsExplained : List Tool → List ℕ → Outcome → List ℕ → Type 0
+IsExplained tools bytes outcome text = IsExplainedAs (begins_as_trace bytes) tools bytes outcome text

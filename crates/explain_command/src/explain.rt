@@ -5,10 +5,10 @@ ghost use Rattle.set_input.specs.Ends.{reading, writing};
 ghost use Rattle.explain_command.specs.ExplainAnswers.{ExplainAnswers, IsUnlooked, IsUnwritten};
 ghost use Rattle.explain_command.specs.Explaining.{IsExplained};
 
-use crate::ended::Ended;
+use crate::outcome::{Explained, Outcome};
 use crate::reading::{begins_as_trace, read_bytes};
-use crate::set::set_ended;
-use crate::trace::trace_ended;
+use crate::set::set_explained;
+use crate::trace::trace_explained;
 use rt_base::MOST_SET_BYTES;
 use rt_fault::{Sink, Source, Status, put_all};
 use std::alloc::Global;
@@ -16,13 +16,13 @@ use trace_tools::TraceTool;
 
 /// What the bytes come to, as a trace where they begin as one does, else as a set. A set that is longer than one may be is
 /// answered with `TooLong`.
-fn ended<T: TraceTool>(alloc: Global, bytes: &[u8], tools: Vec<T>) -> Result<Ended, Status>
+fn explained<T: TraceTool>(alloc: Global, bytes: &[u8], tools: Vec<T>) -> Result<Explained, Status>
     ensures { MatchResult result
-        (λ x. IsExplained (map T.tool tools.items) bytes.now x.status x.text.items)
+        (λ x. IsExplained (map T.tool tools.items) bytes.now x.outcome x.text.items)
         (λ e. IsUnlooked bytes.now e) }
 {
     if begins_as_trace(bytes) {
-        return match trace_ended(alloc, bytes, tools) {
+        return match trace_explained(alloc, bytes, tools) {
             Ok(it) => Ok(it),
             Err(_) => Err(Status::NoMemory),
         };
@@ -30,7 +30,7 @@ fn ended<T: TraceTool>(alloc: Global, bytes: &[u8], tools: Vec<T>) -> Result<End
     if bytes.len() as u64 > MOST_SET_BYTES {
         return Err(Status::TooLong);
     }
-    match set_ended(alloc, bytes) {
+    match set_explained(alloc, bytes) {
         Ok(it) => Ok(it),
         Err(_) => Err(Status::NoMemory),
     }
@@ -61,12 +61,16 @@ pub fn explain<S: Source, K: Sink, T: TraceTool>(
         Ok(bytes) => bytes,
         Err(status) => return status,
     };
-    let it = match ended(alloc, bytes.as_slice(), tools) {
+    let it = match explained(alloc, bytes.as_slice(), tools) {
         Ok(it) => it,
         Err(status) => return status,
     };
     if put_all(out, it.text.as_slice()).is_err() {
         return Status::WriteFault;
     }
-    it.status
+    match it.outcome {
+        Outcome::Fine => Status::Ok,
+        Outcome::Wrong(line) => Status::Invalid(line),
+        Outcome::Refused(bad) => Status::BadInput(bad),
+    }
 }

@@ -1,9 +1,9 @@
 //! The command `explain`: why a set or a trace is refused, and where.
 #![tactic(auto)]
 
-mod ended;
 mod explain;
 mod lines;
+mod outcome;
 mod put;
 mod reading;
 mod set;
@@ -11,3 +11,4 @@ mod trace;
 mod verdict;
 
 pub use explain::explain;
+pub use outcome::Outcome;

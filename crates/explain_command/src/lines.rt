@@ -1,5 +1,5 @@
 //! The lines of a text.
-ghost use Rattle.std.specs.Prelude.{◌≡◌, List, ℕ};
+ghost use Rattle.std.specs.Prelude.{◌≡◌, ◌≢◌, ℕ, ◌++◌, List, MatchOption};
 ghost use Rattle.trace_check.specs.LinesAlike as alike;
 ghost use Rattle.trace_lines.specs.declared.format.Version.{Version};
 ghost use Rattle.trace_read.specs.Reads.{HasHead};
@@ -40,6 +40,14 @@ pub(crate) fn behind_lines(bytes: &[u8], lines: u32) -> &[u8]
     rest
 }
 
+/// What stands behind these first bytes.
+fn after<'a>(first: &[u8], bytes: &'a [u8]) -> Option<&'a [u8]>
+    ensures { MatchOption result ((rest : List ℕ)
+        → bytes.now ≢ first.now ++ rest) (λ x. bytes.now ≡ first.now ++ x.now) }
+{
+    bytes.strip_prefix(first)
+}
+
 /// The text of the set that a trace says on its second line.
 pub(crate) fn set_text(bytes: &[u8]) -> &[u8]
     ensures { (version : Version) (text rest : List ℕ)
@@ -47,7 +55,7 @@ pub(crate) fn set_text(bytes: &[u8]) -> &[u8]
 {
     let second = behind_line(bytes);
     let line = &second[..line_length(second)];
-    match line.strip_prefix(b"set ") {
+    match after(b"set ", line) {
         Some(text) => text,
         None => line,
     }

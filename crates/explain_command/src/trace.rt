@@ -5,16 +5,15 @@ ghost use Rattle.trace_tools.specs.Tools.{Tool};
 ghost use Rattle.trace_read.specs.Lines.{lines_of};
 ghost use Rattle.trace_read.specs.Reads.{HasBadSet, IsRefused, IsTraceOf};
 ghost use Rattle.trace_read.specs.declared.fault.TraceFault.TheVariants as faults;
-ghost use Rattle.explain_command.specs.Explaining.{TraceEnds};
+ghost use Rattle.explain_command.specs.Explaining.{TraceIsExplained};
 ghost use Rattle.explain_command.specs.Texts as texts;
 
-use crate::ended::Ended;
 use crate::lines::set_text;
+use crate::outcome::{Explained, Outcome};
 use crate::put::put;
 use crate::set::fine;
 use crate::verdict::wrong_line;
 use rt_base::NoMemory;
-use rt_fault::Status;
 use rt_task::{BadSet, Part, Place, SetKind};
 use set_explain::{Cause, Rule, cause_of, explanation};
 use std::alloc::Global;
@@ -40,10 +39,10 @@ fn head_rule(line: u32) -> Rule
 }
 
 /// The text that explains that this line of the head is none.
-fn headless(alloc: Global, bytes: &[u8], line: u32) -> Result<Ended, NoMemory>
+fn headless(alloc: Global, bytes: &[u8], line: u32) -> Result<Explained, NoMemory>
     requires { IsRefused bytes.now (faults.NotTrace line) }
     ensures { IfOk result (λ x. (tools : List Tool)
-        → TraceEnds tools bytes.now x.status x.text.items) }
+        → TraceIsExplained tools bytes.now x.outcome x.text.items) }
 {
     let place = Place {
         part: Part::Line,
@@ -54,23 +53,23 @@ fn headless(alloc: Global, bytes: &[u8], line: u32) -> Result<Ended, NoMemory>
         place,
     };
     let text = explanation(alloc, bad, Cause::Broken(head_rule(line)))?;
-    Ok(Ended {
-        status: Status::BadInput(bad),
+    Ok(Explained {
+        outcome: Outcome::Refused(bad),
         text,
     })
 }
 
 /// The text that explains why the set of a trace is refused.
-fn bad_set(alloc: Global, bytes: &[u8], bad: BadSet) -> Result<Ended, NoMemory>
+fn bad_set(alloc: Global, bytes: &[u8], bad: BadSet) -> Result<Explained, NoMemory>
     requires { HasBadSet bytes.now bad }
     ensures { IfOk result (λ x. (tools : List Tool)
-        → TraceEnds tools bytes.now x.status x.text.items) }
+        → TraceIsExplained tools bytes.now x.outcome x.text.items) }
 {
     let cause = cause_of(alloc, set_text(bytes), bad)?;
     let mut text = explanation(alloc, bad, cause)?;
     put(&mut text, "in: line 2 of the trace, where the text of the set begins at column 5\n")?;
-    Ok(Ended {
-        status: Status::BadInput(bad),
+    Ok(Explained {
+        outcome: Outcome::Refused(bad),
         text,
     })
 }
@@ -81,28 +80,28 @@ fn judged<T: TraceTool>(
     bytes: &[u8],
     trace: &Trace,
     tools: Vec<T>,
-) -> Result<Ended, NoMemory>
+) -> Result<Explained, NoMemory>
     requires { IsTraceOf bytes.now trace.now.version trace.now.setup
         (lines_of trace.now.lines) trace.now.stop }
-    ensures { IfOk result (λ x. TraceEnds (map T.tool tools.items) bytes.now x.status x.text.items) }
+    ensures { IfOk result (λ x. TraceIsExplained (map T.tool tools.items) bytes.now x.outcome x.text.items) }
 {
     let mut bus = Bus::open(alloc, tools)?;
     match check_trace(alloc, bytes, trace, &mut bus)? {
         Verdict::Valid(_) => fine(alloc, "nothing is refused: a valid trace\n"),
-        Verdict::Invalid(line) => Ok(Ended {
-            status: Status::Invalid(line),
+        Verdict::Invalid(line) => Ok(Explained {
+            outcome: Outcome::Wrong(line),
             text: wrong_line(alloc, bytes, &trace.setup, line)?,
         }),
     }
 }
 
 /// What the bytes come to as a trace.
-pub(crate) fn trace_ended<T: TraceTool>(
+pub(crate) fn trace_explained<T: TraceTool>(
     alloc: Global,
     bytes: &[u8],
     tools: Vec<T>,
-) -> Result<Ended, NoMemory>
-    ensures { IfOk result (λ x. TraceEnds (map T.tool tools.items) bytes.now x.status x.text.items) }
+) -> Result<Explained, NoMemory>
+    ensures { IfOk result (λ x. TraceIsExplained (map T.tool tools.items) bytes.now x.outcome x.text.items) }
 {
     match read_trace(alloc, bytes) {
         Ok(trace) => judged(alloc, bytes, &trace, tools),
