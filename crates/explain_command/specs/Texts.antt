@@ -40,9 +40,11 @@ here rest =
     else (if line_length rest == length rest then said (codes "here, without a line feed: ") rest
     else said (codes "here: ") (take (line_length rest) rest))
 
+unfoldable pub none_goes_on : List ℕ
+none_goes_on = codes ": a valid trace of this set has the lines before it, and none has this one behind them\n"
+
 unfoldable pub line_head : ℕ → List ℕ
-line_head line =
-    codes "line " ++ decimal line ++ codes ": a valid trace of this set has the lines before it, and none has this one behind them\n"
+line_head line = codes "line " ++ decimal line ++ none_goes_on
 
 -- the second line has to be that of the canonical set
 abbrev pub wanted : Parts → ℕ → List ℕ

@@ -1,5 +1,5 @@
 //! The lines of a text.
-ghost use Rattle.std.specs.Prelude.{◌≡◌, ◌≢◌, ℕ, ◌++◌, List, MatchOption};
+ghost use Rattle.std.specs.Prelude.{◌≡◌, ◌≢◌, ◌≤◌, ℕ, ◌++◌, List, length, MatchOption};
 ghost use Rattle.trace_check.specs.LinesAlike as alike;
 ghost use Rattle.trace_lines.specs.declared.format.Version.{Version};
 ghost use Rattle.trace_read.specs.Reads.{HasHead};
@@ -7,7 +7,8 @@ ghost use Rattle.explain_command.specs.Lines as spec;
 
 /// How many bytes stand before the first line feed, or in all where there is none.
 pub(crate) fn line_length(bytes: &[u8]) -> usize
-    ensures { result ≡ spec.line_length bytes.now }
+    ensures value { result ≡ spec.line_length bytes.now }
+    ensures within { result ≤ length bytes.now }
 {
     for (i, c) in bytes.iter().enumerate() {
         if *c == b'\n' {

@@ -1,5 +1,5 @@
 //! Putting texts behind one another.
-ghost use Rattle.std.specs.Prelude.{◌≡◌, ◌++◌, OnOk};
+ghost use Rattle.std.specs.Prelude.{◌≡◌, ◌++◌, [], ◌∷◌, OnOk};
 
 use std::alloc::AllocError;
 

@@ -25,13 +25,20 @@ fn put_here(out: &mut Vec<u8>, rest: &[u8]) -> Result<(), AllocError>
     put_said(out, "here: ", &rest[..length])
 }
 
+#[tactic(auto, unfolding(crate::specs::Texts::none_goes_on))]
+fn put_none_goes_on(out: &mut Vec<u8>) -> Result<(), AllocError>
+    ensures { OnOk result (out.new.items ≡ out.old.items ++ texts.none_goes_on) }
+{
+    put(out, ": a valid trace of this set has the lines before it, and none has this one behind them\n")
+}
+
 #[tactic(auto, using(std::proofs::Common::append_assoc), unfolding(crate::specs::Texts::line_head))]
 fn put_line_head(out: &mut Vec<u8>, line: u32) -> Result<(), AllocError>
     ensures { OnOk result (out.new.items ≡ out.old.items ++ texts.line_head line) }
 {
     put(out, "line ")?;
     put_number(out, u64::from(line))?;
-    put(out, ": a valid trace of this set has the lines before it, and none has this one behind them\n")
+    put_none_goes_on(out)
 }
 
 /// What line 2 has to be, where that is the line.
