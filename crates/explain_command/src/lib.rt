@@ -1,7 +1,7 @@
 //! The command `explain`: why a set or a trace is refused, and where.
 #![tactic(auto)]
 
-mod explain;
+mod answer;
 mod lines;
 mod outcome;
 mod put;
@@ -10,5 +10,5 @@ mod set;
 mod trace;
 mod verdict;
 
-pub use explain::explain;
+pub use answer::explain;
 pub use outcome::Outcome;
