@@ -1,2 +1,5 @@
 pub mod LineLaws
+pub mod TraceLaws
 pub mod AnswerLaws
+pub mod TraceFound
+pub mod AgreeLaws

@@ -2,3 +2,4 @@ pub mod Lines
 pub mod Texts
 pub mod Explaining
 pub mod ExplainAnswers
+pub mod Laws

@@ -1,5 +1,5 @@
 //! Why a trace is refused or invalid.
-ghost use Rattle.std.specs.Prelude.{◌≡◌, List, map, IfOk};
+ghost use Rattle.std.specs.Prelude.{◌≡◌, ◌++◌, List, map, IfOk, OnOk};
 ghost use Rattle.set_explain.specs.Shown.{rule_shown};
 ghost use Rattle.trace_tools.specs.Tools.{Tool};
 ghost use Rattle.trace_read.specs.Lines.{lines_of};
@@ -14,9 +14,9 @@ use crate::put::put;
 use crate::set::fine;
 use crate::verdict::wrong_line;
 use rt_base::NoMemory;
-use rt_task::{BadSet, Part, Place, SetKind};
+use rt_task::{BadSet, Part, Place, SetKind, Setup};
 use set_explain::{Cause, Rule, cause_of, explanation};
-use std::alloc::Global;
+use std::alloc::{AllocError, Global};
 use trace_check::{Verdict, check_trace};
 use trace_read::{Trace, TraceFault, read_trace};
 use trace_tools::{Bus, TraceTool};
@@ -59,6 +59,16 @@ fn headless(alloc: Global, bytes: &[u8], line: u32) -> Result<Explained, NoMemor
     })
 }
 
+#[tactic(auto, unfolding(crate::specs::Texts::in_trace))]
+fn put_in_trace(out: &mut Vec<u8>) -> Result<(), AllocError>
+    ensures { OnOk result (out.new.items ≡ out.old.items ++ texts.in_trace) }
+{
+    put(
+        out,
+        "in: line 2 of the trace, where the text of the set begins at column 5\n",
+    )
+}
+
 /// The text that explains why the set of a trace is refused.
 fn bad_set(alloc: Global, bytes: &[u8], bad: BadSet) -> Result<Explained, NoMemory>
     requires { HasBadSet bytes.now bad }
@@ -67,9 +77,21 @@ fn bad_set(alloc: Global, bytes: &[u8], bad: BadSet) -> Result<Explained, NoMemo
 {
     let cause = cause_of(alloc, set_text(bytes), bad)?;
     let mut text = explanation(alloc, bad, cause)?;
-    put(&mut text, "in: line 2 of the trace, where the text of the set begins at column 5\n")?;
+    put_in_trace(&mut text)?;
     Ok(Explained {
         outcome: Outcome::Refused(bad),
+        text,
+    })
+}
+
+/// What is said where this line is the first that is wrong.
+fn wrong(alloc: Global, bytes: &[u8], setup: &Setup, line: u32) -> Result<Explained, NoMemory>
+    ensures { IfOk result (λ x. (x.outcome ≡ Outcome.Wrong line)
+        × (x.text.items ≡ texts.wrong_line bytes.now setup.now line)) }
+{
+    let text = wrong_line(alloc, bytes, setup, line)?;
+    Ok(Explained {
+        outcome: Outcome::Wrong(line),
         text,
     })
 }
@@ -83,15 +105,16 @@ fn judged<T: TraceTool>(
 ) -> Result<Explained, NoMemory>
     requires { IsTraceOf bytes.now trace.now.version trace.now.setup
         (lines_of trace.now.lines) trace.now.stop }
-    ensures { IfOk result (λ x. TraceIsExplained (map T.tool tools.items) bytes.now x.outcome x.text.items) }
+    ensures { IfOk result (λ x.
+        TraceIsExplained (map T.tool tools.items) bytes.now x.outcome x.text.items) }
 {
-    let mut bus = Bus::open(alloc, tools)?;
-    match check_trace(alloc, bytes, trace, &mut bus)? {
-        Verdict::Valid(_) => fine(alloc, "nothing is refused: a valid trace\n"),
-        Verdict::Invalid(line) => Ok(Explained {
-            outcome: Outcome::Wrong(line),
-            text: wrong_line(alloc, bytes, &trace.setup, line)?,
-        }),
+    let Ok(mut bus) = Bus::open(alloc, tools) else {
+        return Err(NoMemory);
+    };
+    match check_trace(alloc, bytes, trace, &mut bus) {
+        Ok(Verdict::Valid(_)) => fine(alloc, "nothing is refused: a valid trace\n"),
+        Ok(Verdict::Invalid(line)) => wrong(alloc, bytes, &trace.setup, line),
+        Err(_) => Err(NoMemory),
     }
 }
 

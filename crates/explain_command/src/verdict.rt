@@ -29,7 +29,10 @@ fn put_here(out: &mut Vec<u8>, rest: &[u8]) -> Result<(), AllocError>
 fn put_none_goes_on(out: &mut Vec<u8>) -> Result<(), AllocError>
     ensures { OnOk result (out.new.items ≡ out.old.items ++ texts.none_goes_on) }
 {
-    put(out, ": a valid trace of this set has the lines before it, and none has this one behind them\n")
+    put(
+        out,
+        ": a valid trace of this set has the lines before it, and none has this one behind them\n",
+    )
 }
 
 #[tactic(auto, using(std::proofs::Common::append_assoc), unfolding(crate::specs::Texts::line_head))]
@@ -42,12 +45,7 @@ fn put_line_head(out: &mut Vec<u8>, line: u32) -> Result<(), AllocError>
 }
 
 /// What line 2 has to be, where that is the line.
-fn put_wanted(
-    alloc: Global,
-    out: &mut Vec<u8>,
-    setup: &Setup,
-    line: u32,
-) -> Result<(), NoMemory>
+fn put_wanted(alloc: Global, out: &mut Vec<u8>, setup: &Setup, line: u32) -> Result<(), NoMemory>
     ensures { OnOk result (out.new.items ≡ out.old.items ++ texts.wanted setup.now line) }
 {
     if line == 2 {
