@@ -1,0 +1,4 @@
+pub mod Lexing
+pub mod Outlines
+pub mod Lines
+pub mod Pieces
