@@ -18,7 +18,6 @@ use Rattle.serde_json.proofs.Texts.{print-outline}
 use Rattle.event_texts.specs.EventText.{event_lines}
 use Rattle.event_laws.specs.AsRead.{IsWhole, ItemsAreWhole, as_read}
 use Rattle.event_laws.specs.EventValues.{Field, items_of, members_of, object_of}
-use Rattle.event_laws.specs.GroupValues.{document_of}
 use Rattle.event_laws.proofs.Lexing.{tokens-line}
 use Rattle.event_laws.proofs.Outlines.{HasNumbers-outline, depth-outline, of_json-outline}
 
@@ -44,6 +43,11 @@ spaced_items (ms ∷ mss) qs = spaced_object ms (spaced_items mss qs)
 
 abbrev pub objects : List Members → List Data
 objects mss = map object mss
+
+-- the document of these objects
+abbrev pub document : List Members → Data
+document mss =
+    object_of ((codes "displayTimeUnit", string (codes "ms")) ∷ (codes "traceEvents", array (items_of (objects mss))) ∷ [])
 
 -- ---- their text
 
@@ -120,7 +124,7 @@ items-tokens (ms ∷ mss) qs =
     ap (λ l. begin_object ∷ l)
     (closed-tokens own (spaced_items mss qs) ∙ ap (λ l. own ++ l) (items-tokens mss qs) ∙ sym (append_assoc own (items_tokens (items_outline (items_of (objects mss)))) _))
 
-document-tokens : (mss : List Members) → map (λ p. p.1) (spaced_document mss) ≡ tokens_of (document_of (objects mss))
+document-tokens : (mss : List Members) → map (λ p. p.1) (spaced_document mss) ≡ tokens_of (document mss)
 document-tokens mss =
     ap (λ l. begin_object ∷ key (codes "displayTimeUnit") ∷ token.string (codes "ms") ∷ key (codes "traceEvents") ∷ begin_array ∷ l) (items-tokens mss (close_up end_object ∷ []))
 
@@ -135,15 +139,15 @@ items-gaps (ms ∷ mss) qs h = ((inr refl, tt), closed-gaps (members_tokens (mem
 document-gaps : (mss : List Members) → AreGaps (spaced_document mss)
 document-gaps mss = (tt, (tt, (tt, (tt, (tt, items-gaps mss (close_up end_object ∷ []) (tt, tt))))))
 
-pub document-read : (mss : List Members) → IsWhole (document_of (objects mss)) → depth (document_of (objects mss)) ≤ max_depth
-    → read (document_text (map compact_text (objects mss))) ≡ Some (as_read (document_of (objects mss)))
+pub document-read : (mss : List Members) → IsWhole (document mss) → depth (document mss) ≤ max_depth
+    → read (document_text (map compact_text (objects mss))) ≡ Some (as_read (document mss))
 document-read mss whole shallow =
     ap (λ ts. option_and_then of_json (option_and_then (λ p. json.if_last p.0 p.1) (json.value max_depth ts))) (all_tokens ∙ sym (append-nil _))
     ∙ ap (λ r. option_and_then of_json (option_and_then (λ p. json.if_last p.0 p.1) r)) (value-json_tokens (outline doc) max_depth [] (rw (depth-outline doc) shallow))
     ∙ of_json-outline doc whole
   where
     doc : Data
-    doc = document_of (objects mss)
+    doc = document mss
 
     printable : ArePrintable (map (λ p. p.1) (spaced_document mss))
     printable = subst ArePrintable (sym (document-tokens mss)) (ArePrintable-json_tokens (outline doc) (HasNumbers-outline doc whole))

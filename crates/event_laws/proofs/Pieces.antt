@@ -11,7 +11,11 @@ use Rattle.json.proofs.Printed.Strings.{escape_byte_plain}
 use Rattle.serde_json.specs.Data.{Data, array, object, string, boolean}
 use Rattle.serde_json.specs.Written.{compact_text, items_text, members_text}
 use Rattle.event_texts.specs.Records.{Piece, begun, count_event, instant_event, microseconds, named, on_thread, process_event, quoted, span_event, strings, thread_event, truth}
-use Rattle.event_laws.specs.EventValues.{Field, count_value, instant_value, items_of, members_of, process_value, span_value, strings_of, thread_value}
+use Rattle.event_laws.specs.EventValues.{Field, count_fields, instant_fields, items_of, members_of, object_of, process_fields, span_fields, strings_of, thread_fields}
+
+-- the text of an event
+abbrev pub text_of : List Field → Piece
+text_of fs = compact_text (object_of fs)
 
 -- ---- texts that need no escapes
 
@@ -45,11 +49,11 @@ plain-decimal n h = plain-digits (decimal n) (decimal_is_IsNumeral n h).0.1
 
 -- ---- pieces one after the other
 
-abbrev joined : List Piece → Piece → Piece
+abbrev pub joined : List Piece → Piece → Piece
 joined [] r = r
 joined (x ∷ xs) r = x ++ joined xs r
 
-concat-joined : (xs : List Piece) (r : Piece) → concat xs ++ r ≡ joined xs r
+pub concat-joined : (xs : List Piece) (r : Piece) → concat xs ++ r ≡ joined xs r
 concat-joined [] r = refl
 concat-joined (x ∷ xs) r = append_assoc x (concat xs) r ∙ ap (λ l. x ++ l) (concat-joined xs r)
 
@@ -69,7 +73,7 @@ named-text what name = concat-alone (codes ",\"name\":\"" ∷ what ∷ codes "\"
 
 -- ---- each kind of event
 
-pub process-text : (process : ℕ) (name : Piece) → IsPlain name → process_event process name ≡ compact_text (process_value process name)
+pub process-text : (process : ℕ) (name : Piece) → IsPlain name → process_event process name ≡ text_of (process_fields process name)
 unfolding escape_byte
 process-text process name plain =
     begun-behind (codes "M") process (named (codes "process_name") name)
@@ -77,7 +81,7 @@ process-text process name plain =
     ∙ ap (λ e. codes "{\"ph\":\"M\",\"pid\":" ++ (decimal process ++ (codes ",\"name\":\"process_name\",\"args\":{\"name\":\"" ++ (e ++ codes "\"}}")))) (sym plain)
     ∙ simp append_assoc refl
 
-pub thread-text : (process thread : ℕ) (name : Piece) → IsPlain name → thread_event process thread name ≡ compact_text (thread_value process thread name)
+pub thread-text : (process thread : ℕ) (name : Piece) → IsPlain name → thread_event process thread name ≡ text_of (thread_fields process thread name)
 unfolding escape_byte
 thread-text process thread name plain =
     threaded-behind (codes "M") process thread (named (codes "thread_name") name)
@@ -90,7 +94,7 @@ abbrev pub AreArguments : Piece → List Field → Type 0
 AreArguments text fields = (r : Piece) → text ++ (125 ∷ r) ≡ members_text false (members_of fields) ++ r
 
 pub span-text : (process thread from to : ℕ) (kind name arguments : Piece) (fields : List Field) → IsPlain kind → IsPlain name → AreArguments arguments fields
-    → span_event process thread from to kind name arguments ≡ compact_text (span_value process thread from to kind name fields)
+    → span_event process thread from to kind name arguments ≡ text_of (span_fields process thread from to kind name fields)
 unfolding escape_byte
 span-text process thread from to kind name arguments fields plain_kind plain_name are =
     threaded-behind (codes "X") process thread (concat rest)
@@ -102,7 +106,7 @@ span-text process thread from to kind name arguments fields plain_kind plain_nam
         codes ",\"ts\":" ∷ microseconds from ∷ codes ",\"dur\":" ∷ microseconds (to - from) ∷ codes ",\"cat\":\"" ∷ kind
         ∷ codes "\",\"name\":\"" ∷ name ∷ codes "\",\"args\":{" ∷ arguments ∷ codes "}}" ∷ []
 
-pub instant-text : (process thread tick : ℕ) (name : Piece) (job : ℕ) → IsPlain name → instant_event process thread tick name job ≡ compact_text (instant_value process thread tick name job)
+pub instant-text : (process thread tick : ℕ) (name : Piece) (job : ℕ) → IsPlain name → instant_event process thread tick name job ≡ text_of (instant_fields process thread tick name job)
 unfolding escape_byte
 instant-text process thread tick name job plain =
     threaded-behind (codes "i") process thread (concat rest)
@@ -114,7 +118,7 @@ instant-text process thread tick name job plain =
         codes ",\"ts\":" ∷ microseconds tick ∷ codes ",\"s\":\"t\",\"name\":\"" ∷ name ∷ codes "\",\"args\":{\"job\":" ∷ decimal job
         ∷ codes "}}" ∷ []
 
-pub count-text : (process tick : ℕ) (name : Piece) (left : ℕ) → IsPlain name → count_event process tick name left ≡ compact_text (count_value process tick name left)
+pub count-text : (process tick : ℕ) (name : Piece) (left : ℕ) → IsPlain name → count_event process tick name left ≡ text_of (count_fields process tick name left)
 unfolding escape_byte
 count-text process tick name left plain = simp (append_assoc, append-nil, plain) refl
 

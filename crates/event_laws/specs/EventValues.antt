@@ -1,4 +1,4 @@
--- Trace events as values of JSON, with their members in the order in which they are written. A tick is 1,000 microseconds.
+-- Trace events as the members of their objects, in the order in which they are written. A tick is 1,000 microseconds.
 use Rattle.std.specs.Prelude.{ℕ, ◌-◌, ◌*◌, Bool, List, [], ◌∷◌, ◌++◌, map, Option, None, Some, codes}
 use Rattle.serde_json.specs.Data.{Data, null, boolean, number, string, array, object, Items, no_items, item, Members, no_members, member, unsigned}
 use Rattle.event_texts.specs.Records.{Piece}
@@ -34,28 +34,28 @@ threaded_fields phase process thread fs = begun_fields phase process ((codes "ti
 abbrev pub named_fields : Piece → Piece → List Field
 named_fields what name = (codes "name", string what) ∷ (codes "args", object_of ((codes "name", string name) ∷ [])) ∷ []
 
-abbrev pub process_value : ℕ → Piece → Data
-process_value process name = object_of (begun_fields (codes "M") process (named_fields (codes "process_name") name))
+abbrev pub process_fields : ℕ → Piece → List Field
+process_fields process name = begun_fields (codes "M") process (named_fields (codes "process_name") name)
 
-abbrev pub thread_value : ℕ → ℕ → Piece → Data
-thread_value process thread name = object_of (threaded_fields (codes "M") process thread (named_fields (codes "thread_name") name))
+abbrev pub thread_fields : ℕ → ℕ → Piece → List Field
+thread_fields process thread name = threaded_fields (codes "M") process thread (named_fields (codes "thread_name") name)
 
 -- something that lasts from one tick up to another, which is not of it
-abbrev pub span_value : ℕ → ℕ → ℕ → ℕ → Piece → Piece → List Field → Data
-span_value process thread from to kind name arguments = object_of (
+abbrev pub span_fields : ℕ → ℕ → ℕ → ℕ → Piece → Piece → List Field → List Field
+span_fields process thread from to kind name arguments =
     threaded_fields (codes "X") process thread (
     (codes "ts", whole (1000 * from)) ∷ (codes "dur", whole (1000 * (to - from))) ∷ (codes "cat", string kind)
-    ∷ (codes "name", string name) ∷ (codes "args", object_of arguments) ∷ []))
+    ∷ (codes "name", string name) ∷ (codes "args", object_of arguments) ∷ [])
 
 -- something of a job at a tick
-abbrev pub instant_value : ℕ → ℕ → ℕ → Piece → ℕ → Data
-instant_value process thread tick name job = object_of (
+abbrev pub instant_fields : ℕ → ℕ → ℕ → Piece → ℕ → List Field
+instant_fields process thread tick name job =
     threaded_fields (codes "i") process thread (
     (codes "ts", whole (1000 * tick)) ∷ (codes "s", string (codes "t")) ∷ (codes "name", string name)
-    ∷ (codes "args", object_of ((codes "job", whole job) ∷ [])) ∷ []))
+    ∷ (codes "args", object_of ((codes "job", whole job) ∷ [])) ∷ [])
 
 -- what a count comes to from a tick on
-abbrev pub count_value : ℕ → ℕ → Piece → ℕ → Data
-count_value process tick name left = object_of (
+abbrev pub count_fields : ℕ → ℕ → Piece → ℕ → List Field
+count_fields process tick name left =
     begun_fields (codes "C") process (
-    (codes "ts", whole (1000 * tick)) ∷ (codes "name", string name) ∷ (codes "args", object_of ((codes "left", whole left) ∷ [])) ∷ []))
+    (codes "ts", whole (1000 * tick)) ∷ (codes "name", string name) ∷ (codes "args", object_of ((codes "left", whole left) ∷ [])) ∷ [])
