@@ -15,6 +15,7 @@ use Rattle.rt_plays.specs.Plays.{group_with}
 use Rattle.trace_text.specs.CountLines.{shown_as, shown_entries, shown_from}
 use Rattle.trace_tools.specs.Entries.{last_place, moves, moves_after}
 use Rattle.trace_tools.specs.declared.shown.Shown.{Shown}
+use Rattle.trace_views.specs.JobCounts as counts
 use Rattle.trace_views.specs.TaskRows.{TaskRow}
 use Rattle.view_laws.specs.Sets.{total_of}
 use Rattle.view_laws.specs.Totals.{table_of}
@@ -63,6 +64,7 @@ AreNew p n before = (m t : ℕ) → n ≤ m → has t (tasks (group_with p m)) �
 
 moves-from : (p : Parts) → IsValid p → (n : ℕ) (hs : List (List Entry)) (before : List Shown) → AreLegal p n hs → AreNew p n before
     → moves_after before (shown_from p n hs) ≡ total_of (λ (r : TaskRow). r.moves) p n hs
+unfolding counts.last_place
 moves-from p valid n [] before legal new = refl
 moves-from p valid n (es ∷ hs) before legal new =
     let g = group_with p n in
