@@ -5,3 +5,4 @@ pub mod Pieces
 pub mod Events
 pub mod Groups
 pub mod Whole
+pub mod Names
