@@ -335,10 +335,13 @@ module _ (g : Group) (plain : NamesArePlain g) (small : GroupIsSmall g) where
     unfolding budget_counts
     budget-events process r a =
         map-events (IsSpanOf IsLow TICK_END) _ _
-        (λ s k. (count-text process s.from (resv g r).name s.value (plain.resvs_are r), record {
-          whole = (tt, (omega arith, (omega (arith, k.order, k.within), (tt, ((omega (arith, k.value_is), tt), tt)))));
-          shallow = omega arith;
-        }))
+        (λ s k. (
+          count-text process s.from (resv g r).name s.value (plain.resvs_are r),
+          record {
+            whole = (tt, (omega arith, (omega (arith, k.order, k.within), (tt, ((omega (arith, k.value_is), tt), tt)))));
+            shallow = omega arith;
+          },
+        ))
         (spans same_count (map (resv_cell g r) (tick_columns past)))
         (spans-of IsLow same_count TICK_END (map (resv_cell g r) (tick_columns past)) (cells-few (resv_cell g r))
         (each-map (ColumnIsSmall g) IsLow (resv_cell g r) (λ c h. left-small r c h) (tick_columns past) (columns-small g past states)))
@@ -409,10 +412,13 @@ module _ (g : Group) (plain : NamesArePlain g) (small : GroupIsSmall g) where
 
     thread-is : (which thread : ℕ) (n : Piece) → which ≤ 3 → thread < 2 ^ 60 → IsPlain n
         → (thread_event (process_of g which) thread n ≡ text_of (thread_fields (process_of g which) thread n)) × IsEvent (thread_fields (process_of g which) thread n)
-    thread-is which thread n few low h = (thread-text (process_of g which) thread n h, record {
-      whole = (tt, (omega (arith, process-low which few), (omega (arith, low), (tt, ((tt, tt), tt)))));
-      shallow = omega arith;
-    })
+    thread-is which thread n few low h = (
+      thread-text (process_of g which) thread n h,
+      record {
+        whole = (tt, (omega (arith, process-low which few), (omega (arith, low), (tt, ((tt, tt), tt)))));
+        shallow = omega arith;
+      },
+    )
 
     tasks-named : AreEvents (text.task_names g) (task_names g)
     unfolding escape_byte

@@ -6,3 +6,4 @@ pub mod Events
 pub mod Groups
 pub mod Whole
 pub mod Names
+pub mod Sets

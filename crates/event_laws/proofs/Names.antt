@@ -98,7 +98,6 @@ names-plain g valid =
 
 -- ---- reservations
 
-
 abbrev SlotsAreSmall : ResvKind → List Slot → Type 0
 SlotsAreSmall Table ss = Each (λ (s : Slot). s.to < TICK_END) ss
 SlotsAreSmall _ ss = Unit {0}

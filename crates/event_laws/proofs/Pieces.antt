@@ -69,7 +69,7 @@ threaded-behind phase process thread r =
     concat-joined (begun phase process ∷ codes ",\"tid\":" ∷ decimal thread ∷ []) r ∙ begun-behind phase process (codes ",\"tid\":" ++ (decimal thread ++ r))
 
 named-text : (what name : Piece) → named what name ≡ codes ",\"name\":\"" ++ (what ++ (codes "\",\"args\":{\"name\":\"" ++ (name ++ codes "\"}}")))
-named-text what name = concat-alone (codes ",\"name\":\"" ∷ what ∷ codes "\",\"args\":{\"name\":\"" ∷ name ∷ codes "\"}}" ∷ []) 
+named-text what name = concat-alone (codes ",\"name\":\"" ∷ what ∷ codes "\",\"args\":{\"name\":\"" ∷ name ∷ codes "\"}}" ∷ [])
 
 -- ---- each kind of event
 
