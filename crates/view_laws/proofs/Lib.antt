@@ -1,5 +1,7 @@
 pub mod Sums
 pub mod Shown
 pub mod Totals
-pub mod Sets
+pub mod Legal
 pub mod Moves
+pub mod SetMoves
+pub mod Sets

@@ -1,6 +1,6 @@
 -- How often tasks move, beside what the tool for migrations counts.
 use Rattle.std.proofs.Common.{◌≡◌, ◌∙◌, ℕ, ◌+◌, ◌≤◌, Bool, true, false, List, [], ◌∷◌, ◌&&◌, refl, sym, ap, arith, eqb-true, le-leb}
-use Rattle.std.specs.Prelude.{Option, None, Some, if◌then◌else◌, is_some, not, ◌==◌}
+use Rattle.std.specs.Prelude.{Option, None, Some, if◌then◌else◌, is_some, not, ◌==◌, sum_by}
 use Rattle.rt_base.specs.declared.TheConstants.{MOST_TASKS}
 use Rattle.rt_task.specs.Validity.{IsValid}
 use Rattle.rt_task.specs.declared.Act.{Act}
@@ -12,7 +12,7 @@ use Rattle.rt_rules.proofs.BoolLaws.{both}
 use Rattle.rt_rules.proofs.MemberLaws.{equal_self}
 use Rattle.rt_model.specs.Answers.{answer}
 use Rattle.rt_model.specs.Group.{Group, tasks}
-use Rattle.rt_model.specs.Histories.{IsLegalFrom, after, clock_moved, past_from, past_of, reply_to}
+use Rattle.rt_model.specs.Histories.{IsLegal, IsLegalFrom, after, clock_moved, past_from, past_of, reply_to}
 use Rattle.rt_model.specs.Outcomes.{past_act}
 use Rattle.rt_model.specs.Past.{Acted, Clock, Event, Past}
 use Rattle.rt_model.specs.Reachable.{IsReachable, acted, clocked, opened}
@@ -31,15 +31,16 @@ use Rattle.trace_views.specs.TaskRows.{TaskRow, task_row, task_rows}
 use Rattle.trace_views.proofs.RowSums.{rows_count_all, taken-run}
 use Rattle.trace_views.proofs.Sums.{one_if, sum-map}
 use Rattle.view_laws.specs.Moves.{MovesAreCounted}
+use Rattle.view_laws.specs.Totals.{table_of}
 use Rattle.view_laws.proofs.Sums.{IsOfOne, sum-equal, tasks_have_all}
 use Rattle.view_laws.proofs.Totals.{distinct-tasks}
 
 -- the task that moved, by the task that was taken up
-abbrev mover : Option ℕ → ℕ → Past → Option ℕ
+abbrev pub mover : Option ℕ → ℕ → Past → Option ℕ
 mover None q past = None
 mover (Some u) q past = if is_elsewhere q (last_place u past) then Some u else None
 
-abbrev moves_of : Event → Past → Option ℕ
+abbrev pub moves_of : Event → Past → Option ℕ
 moves_of (Clock tick) past = None
 moves_of (Acted d) past = mover (taken_up d.reply) d.cpu past
 
@@ -84,7 +85,7 @@ begun-taken (replies.Runs t) h = rw (le-leb t.0 MOST_TASKS (h t.0 (equal_self t.
 begun-taken _ h = refl
 
 -- the entries so far, newest first, have the places of the past
-abbrev HasPlaces : Group → Past → List Shown → Type 0
+abbrev pub HasPlaces : Group → Past → List Shown → Type 0
 HasPlaces g past before = (t : ℕ) → has t (tasks g) ≡ true → tools.last_place t before ≡ last_place t past
 
 elsewhere-moves : (u q : ℕ) (o : Option ℕ) → is_some (if is_elsewhere q o then Some u else None) ≡ tools.moves_from o q
@@ -102,17 +103,20 @@ mover-moves g (Some u) q past before known places =
     elsewhere-moves u q (last_place u past) ∙ ap (λ o. tools.moves_from o q) (sym (places u (known u (equal_self u))))
 
 -- one entry
-record IsNext (g : Group) (i : ℕ) (e : Entry) (past : Past) (before : List Shown) : Type 0 where
-  counts : count_moves (λ x b. is_some (moves_of x b)) (after g e.step past) ≡ count_moves (λ x b. is_some (moves_of x b)) past + one_if (tools.moves before (shown_as g i e (after g e.step past)))
-  places : HasPlaces g (after g e.step past) (shown_as g i e (after g e.step past) ∷ before)
-  made : IsReachable g (after g e.step past)
+pub record IsNext (g : Group) (i : ℕ) (e : Entry) (past : Past) (before : List Shown) : Type 0 where
+  pub counts : count_moves (λ x b. is_some (moves_of x b)) (after g e.step past) ≡ count_moves (λ x b. is_some (moves_of x b)) past + one_if (tools.moves before (shown_as g i e (after g e.step past)))
+  pub places : HasPlaces g (after g e.step past) (shown_as g i e (after g e.step past) ∷ before)
+  pub made : IsReachable g (after g e.step past)
+  -- it takes up no task of another group
+  pub others : (t : ℕ) → has t (tasks g) ≡ false → tools.last_place t (shown_as g i e (after g e.step past) ∷ before) ≡ tools.last_place t before
 
-next-entry : (g : Group) → IsValid g.setup → (i : ℕ) (e : Entry) (past : Past) (before : List Shown) → IsReachable g past → e.reply ≡ reply_to g e.step past → HasPlaces g past before → IsNext g i e past before
+pub next-entry : (g : Group) → IsValid g.setup → (i : ℕ) (e : Entry) (past : Past) (before : List Shown) → IsReachable g past → e.reply ≡ reply_to g e.step past → HasPlaces g past before → IsNext g i e past before
 unfolding after count_moves last_place past_act reply_to
 next-entry g valid i e past before made legal places = record {
   counts = join (is_some (mover (taken_up said) q clk)) (count_moves (λ x b. is_some (moves_of x b)) past) ∙ ap (λ x. count_moves (λ y b. is_some (moves_of y b)) past + one_if x) same_move;
   places = λ t there. ap (λ o. if is t o then Some q else tools.last_place t before) begun ∙ ap (λ o. if is t (taken_up said) then Some q else o) (places t there);
   made = acted q e.step.act (clocked e.step.tick.0 made);
+  others = λ t out. ap (λ o. if is t o then Some q else tools.last_place t before) begun ∙ ap (λ b. if b then Some q else tools.last_place t before) (stranger t out (is t (taken_up said)) refl);
 }
   where
     q : ℕ
@@ -127,6 +131,10 @@ next-entry g valid i e past before made legal places = record {
     known : (t : ℕ) → is t (taken_up said) ≡ true → has t (tasks g) ≡ true
     known t h = taken-member g q t e.step.act clk (clocked e.step.tick.0 made) h
 
+    stranger : (t : ℕ) → has t (tasks g) ≡ false → (b : Bool) → is t (taken_up said) ≡ b → is t (taken_up said) ≡ false
+    stranger t out false h = h
+    stranger t out true h = let both_ways : true ≡ false = sym (known t h) ∙ out in cc
+
     few : (t : ℕ) → is t (taken_up said) ≡ true → t ≤ MOST_TASKS
     few t h = omega (arith, task-numbered g t (known t h), (sets_are_in_limits g.setup valid).few_tasks)
 
@@ -140,7 +148,7 @@ next-entry g valid i e past before made legal places = record {
     join true n = refl
     join false n = omega arith
 
-moves_are_shown : (g : Group) → IsValid g.setup → (i : ℕ) (past : Past) (es : List Entry) (before : List Shown) → IsReachable g past → IsLegalFrom g past es → HasPlaces g past before
+pub moves_are_shown : (g : Group) → IsValid g.setup → (i : ℕ) (past : Past) (es : List Entry) (before : List Shown) → IsReachable g past → IsLegalFrom g past es → HasPlaces g past before
     → count_moves (λ x b. is_some (moves_of x b)) (past_from g past es) ≡ count_moves (λ x b. is_some (moves_of x b)) past + tools.moves_after before (shown_entries g i past es)
 unfolding past_from shown_entries
 moves_are_shown g valid i past [] before made legal places = omega arith
@@ -151,15 +159,21 @@ moves_are_shown g valid i past (e ∷ es) before made legal places =
     let here = next.counts in
     omega (arith, rest, here)
 
-pub moves_are_counted : MovesAreCounted
+-- of a group, behind entries of other groups
+pub group_moves : (g : Group) → IsValid g.setup → (es : List Entry) (before : List Shown) → IsLegal g es → HasPlaces g [] before
+    → sum_by (λ (r : TaskRow). r.moves) (table_of g es) ≡ tools.moves_after before (shown_entries g 0 [] es)
 unfolding task_rows past_of count_moves last_place
-moves_are_counted g es valid legal =
+group_moves g valid es before legal places =
     let made : IsReachable g (past_of g es) = histories_are_made g es in
     sum-map (λ (r : TaskRow). r.moves) (task_row g (past_of g es)) (tasks g)
     ∙ sum-equal _ (λ t. count_moves (moves_now t) (past_of g es)) (tasks g) (λ t. (rows_count_all g (past_of g es) valid made t).all_moves)
     ∙ tasks_have_all g moves_now moves_of (distinct-tasks g) (moves-of_one g) made
-    ∙ moves_are_shown g valid 0 [] es [] opened legal (λ t there. refl)
-    ∙ from_zero (tools.moves_after [] (shown_entries g 0 [] es))
+    ∙ moves_are_shown g valid 0 [] es before opened legal places
+    ∙ from_zero (tools.moves_after before (shown_entries g 0 [] es))
   where
     from_zero : (n : ℕ) → 0 + n ≡ n
     from_zero n = omega arith
+
+pub moves_are_counted : MovesAreCounted
+unfolding last_place
+moves_are_counted g es valid legal = group_moves g valid es [] legal (λ t there. refl)

@@ -2,13 +2,11 @@
 use Rattle.std.proofs.Common.{◌≡◌, ◌∙◌, ℕ, suc, ◌+◌, ◌<◌, Bool, List, [], ◌∷◌, length, refl, sym, ap, arith, subst}
 use Rattle.std.specs.Prelude.{count_by, min, slice_index_or, sum_by, ⊤}
 use Rattle.std.proofs.lemmas.List.Sums.{sum_by-append}
-use Rattle.rt_task.specs.declared.Drive.{Drive}
-use Rattle.rt_task.specs.declared.Drive.TheVariants.{Steps, Horizon}
 use Rattle.rt_task.specs.declared.Parts.{Parts}
 use Rattle.rt_history.specs.declared.Entry.{Entry}
 use Rattle.rt_model.specs.Group.{Group}
 use Rattle.rt_model.specs.Histories.{IsLegal}
-use Rattle.rt_plays.specs.Plays.{IsPlayBy, group_with}
+use Rattle.rt_plays.specs.Plays.{group_with}
 use Rattle.trace_text.specs.CountLines.{shown_entries, shown_from}
 use Rattle.trace_tools.specs.Entries as tools
 use Rattle.trace_tools.specs.declared.shown.Shown.{Shown}
@@ -16,30 +14,9 @@ use Rattle.trace_views.specs.TaskRows.{TaskRow}
 use Rattle.trace_views.proofs.Sums.{one_if}
 use Rattle.view_laws.specs.Sets.{SetTotalsAreCounts, total_of}
 use Rattle.view_laws.specs.Totals.{is_unit, table_of}
+use Rattle.view_laws.proofs.Legal.{AreLegal, each-legal, legal-play}
+use Rattle.view_laws.proofs.SetMoves.{set-moves}
 use Rattle.view_laws.proofs.Totals.{totals_are_counts}
-
--- a play is legal
-legal-play : (drive : Drive) (g : Group) (es : List Entry) → IsPlayBy drive g es → IsLegal g es
-legal-play (Steps steps) g es h = h.legal
-legal-play (Horizon n) g es h = h.begun.legal
-
-abbrev AreLegal : Parts → ℕ → List (List Entry) → Type 0
-AreLegal p n [] = ⊤
-AreLegal p n (es ∷ hs) = IsLegal (group_with p n) es × AreLegal p (n + 1) hs
-
-each-legal : (p : Parts) (n : ℕ) (hs : List (List Entry)) → ((m : ℕ) → m < length hs → IsLegal (group_with p (n + m)) (slice_index_or hs m [])) → AreLegal p n hs
-each-legal p n [] h = tt
-each-legal p n (es ∷ hs) h = (first_one, each-legal p (n + 1) hs later_ones)
-  where
-    first_one : IsLegal (group_with p n) es
-    first_one =
-        let number : n + 0 ≡ n = omega arith in
-        subst (λ k. IsLegal (group_with p k) es) number (h 0 (omega arith))
-
-    later_ones : (m : ℕ) → m < length hs → IsLegal (group_with p (n + 1 + m)) (slice_index_or hs m [])
-    later_ones m low =
-        let number : n + suc m ≡ n + 1 + m = omega arith in
-        subst (λ k. IsLegal (group_with p k) (slice_index_or hs m [])) number (h (suc m) (omega (arith, low)))
 
 -- what a test counts of the entries of each group it counts of all
 counted-total : (p : Parts) (column : TaskRow → ℕ) (test : Shown → Bool) (n : ℕ) (hs : List (List Entry)) → AreLegal p n hs
@@ -54,6 +31,7 @@ counted-total p column test n (es ∷ hs) legal each =
 pub set_totals_are_counts : SetTotalsAreCounts
 set_totals_are_counts p hs valid played = record {
   late = ap (λ n. min n tools.most ∷ []) (counted-total p (λ (r : TaskRow). r.late) tools.ends_late 0 hs legal (λ k es h. (totals_are_counts (group_with p k) es valid h).late));
+  moves = ap (λ n. min n tools.most ∷ []) (set-moves p valid hs legal);
   units = counted-total p (λ (r : TaskRow). r.units) is_unit 0 hs legal (λ k es h. (totals_are_counts (group_with p k) es valid h).units);
 }
   where

@@ -5,7 +5,7 @@ use Rattle.rt_task.specs.declared.Parts.{Parts}
 use Rattle.rt_history.specs.declared.Entry.{Entry}
 use Rattle.rt_plays.specs.Plays.{ArePlays, group_with}
 use Rattle.trace_text.specs.CountLines.{shown_from}
-use Rattle.trace_tools.specs.Entries.{misses, most}
+use Rattle.trace_tools.specs.Entries.{migrations, misses, most}
 use Rattle.trace_views.specs.TaskRows.{TaskRow}
 use Rattle.view_laws.specs.Totals.{is_unit, table_of}
 
@@ -14,9 +14,10 @@ abbrev pub total_of : (TaskRow → ℕ) → Parts → ℕ → List (List Entry) 
 total_of column p n [] = 0
 total_of column p n (es ∷ hs) = sum_by column (table_of (group_with p n) es) + total_of column p (n + 1) hs
 
--- the total of the late jobs is what the tool for misses says, and the total of units all accepted Works
+-- the totals of late jobs and of moves are what the tools for misses and for migrations say, and the total of units all accepted Works
 pub record SetAgreesWithTools (p : Parts) (hs : List (List Entry)) : Type 0 where
   pub late : misses (shown_from p 0 hs) ≡ min (total_of (λ (r : TaskRow). r.late) p 0 hs) most ∷ []
+  pub moves : migrations (shown_from p 0 hs) ≡ min (total_of (λ (r : TaskRow). r.moves) p 0 hs) most ∷ []
   pub units : count_by is_unit (shown_from p 0 hs) ≡ total_of (λ (r : TaskRow). r.units) p 0 hs
 
 -- After plays of all groups of a valid set, whose trace has these entries.

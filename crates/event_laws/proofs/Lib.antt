@@ -1,0 +1,9 @@
+pub mod Lexing
+pub mod Outlines
+pub mod Lines
+pub mod Pieces
+pub mod Events
+pub mod Groups
+pub mod Whole
+pub mod Names
+pub mod Sets

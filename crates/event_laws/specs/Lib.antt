@@ -1,0 +1,4 @@
+pub mod AsRead
+pub mod EventValues
+pub mod GroupValues
+pub mod ReadBack

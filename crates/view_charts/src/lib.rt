@@ -1,0 +1,6 @@
+//! stub
+#![tactic(auto)]
+
+mod charts;
+
+pub use charts::{Form, chart_text};
