@@ -1,12 +1,28 @@
-//! `rtview`: writes the tables of jobs and tasks of a trace.
+//! `rtview`: writes the tables of jobs and tasks of a trace, and explains why a set or a trace is refused.
 #![tactic(auto)]
 
+use explain_command::explain;
 use rt_fault::{Status, StdSink, StdSource};
 use set_input::Program;
 use std::io::{self, BufWriter, Write};
 use std::process::ExitCode;
 use trace_tools::shipped_tools;
 use view_command::{USAGE, view};
+
+fn is_explain(words: &[String]) -> bool {
+    match words {
+        [word] => word.as_str() == "explain",
+        _ => false,
+    }
+}
+
+/// How a run ends whose last bytes could not be written. What is refused has been explained by then.
+fn cut(status: Status) -> Status {
+    match status {
+        Status::Ok | Status::BadInput(_) | Status::Invalid(_) => Status::WriteFault,
+        other => other,
+    }
+}
 
 /// Runs the command between standard input and standard output. What a failed flush keeps back is a failed write.
 fn run(rt: &HostRuntime, words: &[String]) -> Status {
@@ -19,10 +35,14 @@ fn run(rt: &HostRuntime, words: &[String]) -> Status {
     };
     let mut src = StdSource::new(rt.reader());
     let mut out = StdSink::new(&mut buffer);
-    let status = view(alloc, words, &mut src, &mut out, tools);
+    let status = if is_explain(words) {
+        explain(alloc, &mut src, &mut out, tools)
+    } else {
+        view(alloc, words, &mut src, &mut out, tools)
+    };
     match buffer.flush() {
-        Err(_) if status == Status::Ok => Status::WriteFault,
-        _ => status,
+        Err(_) => cut(status),
+        Ok(()) => status,
     }
 }
 

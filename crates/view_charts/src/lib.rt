@@ -1,6 +1,0 @@
-//! stub
-#![tactic(auto)]
-
-mod charts;
-
-pub use charts::{Form, chart_text};
