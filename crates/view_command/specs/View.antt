@@ -26,8 +26,8 @@ Names words table = is_named words table ≡ true
 abbrev pub IsNoCommand : List (String Global) → Type 0
 IsNoCommand words = (table : Table) → is_named words table ≡ false
 
--- the text is that of a table of the plays of which the bytes are a valid trace; the late jobs and the units of the table of tasks are
--- what the tools count of the trace
+-- the text is that of a table of the plays of which the bytes are a valid trace; the late jobs, the moves and the units of the table of
+-- tasks are what the tools count of the trace
 pub record IsViewOf (tools : List Tool) (version : Version) (p : Parts) (bytes : List ℕ) (table : Table) (text : List ℕ) : Type 0 where
   pub entries : ℕ
   pub valid : IsValidText tools version p bytes entries

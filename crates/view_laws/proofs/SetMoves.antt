@@ -71,7 +71,7 @@ moves-from p valid n (es ∷ hs) before legal new =
     let places : HasPlaces g [] before = λ t there. new n t (omega arith) there in
     let shown = shown_entries g 0 [] es in
     let later : AreNew p (n + 1) (shown_behind before shown) = λ m t above there.
-        others-stay g valid 0 [] es before opened legal.0 places t (other-group p m n t above there) ∙ new m t (omega (arith, above)) there in
+    others-stay g valid 0 [] es before opened legal.0 places t (other-group p m n t above there) ∙ new m t (omega (arith, above)) there in
     let here = group_moves g valid es before legal.0 places in
     let rest = moves-from p valid (n + 1) hs (shown_behind before shown) legal.1 later in
     moves-append before shown (shown_from p (n + 1) hs) ∙ omega (arith, here, rest)
