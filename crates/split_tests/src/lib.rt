@@ -5,6 +5,8 @@
 #[cfg(test)]
 mod commands;
 #[cfg(test)]
+mod inbox;
+#[cfg(test)]
 mod orders;
 #[cfg(test)]
 mod stepping;
