@@ -1,5 +1,6 @@
 //! A grant on its way through an inbox, on one thread.
-ghost use Rattle.std.specs.Prelude.{◌≡◌, ◌∷◌, [], IfOk};
+ghost use Rattle.std.specs.Prelude.{◌≡◌, ◌∷◌, [], true, IfOk, Some};
+ghost use Rattle.split_inbox.specs.Books.{entry};
 ghost use Rattle.split_inbox.specs.Grants.{claim};
 ghost use Rattle.split_tests.specs.OneBook.{one_book, IsAtTurn};
 
@@ -22,6 +23,29 @@ fn new_book(alloc: Global) -> Result<SemBook, NoMemory>
     let prios = vec![in alloc; 0, 1, 2]?;
     let quotas = vec![in alloc; 3]?;
     SemBook::open(alloc, SemNo(1), SemRule::Fmlp, &homes, prios, &quotas, 3)
+}
+
+/// Whether the entry is a request by a task of processor 0 that was answered so.
+fn is_ask(made: SemEntry, task: u32, answer: Ask) -> bool
+    ensures { result ≡ true
+        → made ≡ entry (record { 0 = 0 }) (record { 0 = task }) (SemAct.Ask answer) }
+{
+    match made.act {
+        SemAct::Ask(answered) => {
+            made.cpu.0 == 0 && made.task.0 == task && answered == answer
+        }
+        SemAct::Release(_) => false,
+    }
+}
+
+/// Task 2, where that is next.
+fn task_two(next: Option<TaskNo>) -> Result<TaskNo, Fail>
+    ensures { IfOk result (λ _. next ≡ Some (record { 0 = 2 })) }
+{
+    match next {
+        Some(TaskNo(2)) => Ok(TaskNo(2)),
+        _ => Err(Fail::new("another task is next")),
+    }
 }
 
 /// Task 1 asks for the semaphore, which is free.
@@ -52,14 +76,12 @@ fn ask_second<R: Wait>(
     ensures { IfOk result (λ _. IsAtTurn turn.now seat.new) }
 {
     let mut book = turn.take(rt, seat);
-    let [SemEntry {
-        cpu: CpuNo(0),
-        task: TaskNo(1),
-        act: SemAct::Ask(Ask::Granted),
-    }] = book.entries()
-    else {
-        return Err(Fail::new("the history has another entry"));
+    let [first] = book.entries() else {
+        return Err(Fail::new("the history has other entries"));
     };
+    if !is_ask(*first, 1, Ask::Granted) {
+        return Err(Fail::new("the first entry is another"));
+    }
     let _answer = book.ask(CpuNo(0), TaskNo(2));
     turn.give(seat, book, &[]);
     Ok(())
@@ -76,24 +98,14 @@ fn grant_of<N: Names, R: Wait>(
     ensures { IfOk result (λ g. g.claim ≡ claim 1 2 2 0 0) }
 {
     let mut book = turn.take(rt, seat);
-    let [
-        SemEntry {
-            cpu: CpuNo(0),
-            task: TaskNo(1),
-            act: SemAct::Ask(Ask::Granted),
-        },
-        SemEntry {
-            cpu: CpuNo(0),
-            task: TaskNo(2),
-            act: SemAct::Ask(Ask::Queued),
-        },
-    ] = book.entries()
-    else {
+    let [first, second] = book.entries() else {
         return Err(Fail::new("the history has other entries"));
     };
-    let Some(TaskNo(2)) = book.release(CpuNo(0), TaskNo(1)) else {
-        return Err(Fail::new("another task is next"));
-    };
+    if !is_ask(*first, 1, Ask::Granted) || !is_ask(*second, 2, Ask::Queued) {
+        return Err(Fail::new("an entry is another"));
+    }
+    let next = book.release(CpuNo(0), TaskNo(1));
+    let _task = task_two(next)?;
     let _history = book.entries();
     turn.give(seat, book, &[]);
     let seen = turn.split(seat)?;

@@ -1,14 +1,9 @@
-//! Tests of split runs, as calls: orders in which the processors step, threads that meet, sets at the limit, and refusals.
-//! They stand apart, so that each crate is proved once.
+//! Tests of split runs.
 #![tactic(auto)]
 
-#[cfg(test)]
-mod commands;
 #[cfg(test)]
 mod inbox;
 #[cfg(test)]
 mod orders;
 #[cfg(test)]
 mod stepping;
-#[cfg(test)]
-mod threads;
