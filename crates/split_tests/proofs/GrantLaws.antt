@@ -45,4 +45,4 @@ made turns t a a1 a2 s b b' at names took gave copied two freed-is about kept =
     same x here =
         inner b.about x
         (sym about ∙ sym (ap (λ (k : Cell SemOf). k.subject) (ap (λ (k : Place SemEntry SemOf). k.cell) (copied ∙ ap (λ (k : Place SemEntry SemOf). split_off k) (gave ∙ ap (λ (k : Place SemEntry SemOf). given_back b'.entries [] k) took)) ∙ at.cell))
-         ∙ here)
+        ∙ here)

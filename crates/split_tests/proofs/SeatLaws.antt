@@ -26,7 +26,7 @@ one-stepped x seats q a d are low is cpu = record {
         let k : q ≡ r = sym (eqb-true r q same) in
         subst (λ n. IsSeatOf x (get_or (set seats q a) n e) × ((get_or (set seats q a) n e).part.cpu ≡ n)) k
         (let here = get_or-set_same seats q a e low in
-         (subst (λ b. IsSeatOf x b) (sym here) is, ap (λ (b : PartPlace). b.part.cpu) here ∙ cpu ∙ (are.each q d low).1))
+        (subst (λ b. IsSeatOf x b) (sym here) is, ap (λ (b : PartPlace). b.part.cpu) here ∙ cpu ∙ (are.each q d low).1))
     at r e high false other =
         let there = get_or-set_other seats q r a e (apart r other) in
         (subst (λ b. IsSeatOf x b) (sym there) (are.each r e high).0, ap (λ (b : PartPlace). b.part.cpu) there ∙ (are.each r e high).1)

@@ -31,9 +31,7 @@ fn is_ask(made: SemEntry, task: u32, answer: Ask) -> bool
         → made ≡ entry (record { 0 = 0 }) (record { 0 = task }) (SemAct.Ask answer) }
 {
     match made.act {
-        SemAct::Ask(answered) => {
-            made.cpu.0 == 0 && made.task.0 == task && answered == answer
-        }
+        SemAct::Ask(answered) => { made.cpu.0 == 0 && made.task.0 == task && answered == answer }
         SemAct::Release(_) => false,
     }
 }
@@ -120,8 +118,13 @@ fn send<N: Names, R: Wait + Abort>(rt: &R, alloc: Global, grant: Grant<N>) -> Re
     let mut poster = posters.pop().expect(rt, "a poster");
     assert!(rt; inbox.take(rt, &mut taker).is_none(), "nothing was posted");
     inbox.post(rt, &mut poster, grant);
-    let taken = inbox.take(rt, &mut taker).expect(rt, "the grant that was posted");
-    assert_eq!(rt; (taken.sem(), taken.no(), taken.task()), (SemNo(1), 2, TaskNo(2)));
+    let taken = inbox
+        .take(rt, &mut taker)
+        .expect(rt, "the grant that was posted");
+    assert_eq!(rt;
+        (taken.sem(), taken.no(), taken.task()),
+        (SemNo(1), 2, TaskNo(2))
+    );
     assert_eq!(rt; (taken.from(), taken.seq()), (CpuNo(0), 0));
     assert!(rt; inbox.take(rt, &mut taker).is_none(), "it was taken once");
     Ok(())

@@ -50,7 +50,8 @@ end
 const CASE: &str =
     r#"{"plugin": "P-FP", "clusters": [{"cpus": 1}, {"cpus": 1}], "tasks": [{"name": "t1", "cost": 4, "period": 1000, "prio": 3, "cluster": 1, "uses": ["s1"]}, {"name": "t2", "cost": 3, "period": 10, "prio": 2, "cluster": 1, "uses": ["s1"]}, {"name": "t3", "cost": 3, "period": 10, "cluster": 0, "uses": ["s1"]}, {"name": "t4", "cost": 3, "period": 3, "cluster": 0, "uses": ["s1"]}], "sems": [{"name": "s1", "protocol": "FMLP"}], "steps": [[0, 0, "irq"], [1, 0, "irq"], [0, 1, "lock", "s1"], [1, 1, "lock", "s1"], [0, 3, "work"], [1, 3, "irq"], [1, 6, "lock", "s1"], [0, 6, "work"], [0, 7, "unlock", "s1"], [0, 7, "lock", "s1"], [1, 22, "irq"], [1, 24, "work"], [0, 25, "tick"], [1, 28, "end"], [1, 28, "unlock", "s1"], [1, 29, "irq"], [0, 29, "irq"], [0, 29, "lock", "s1"], [1, 30, "unlock", "s1"], [0, 37, "tick"], [1, 37, "irq"], [1, 37, "lock", "s1"], [1, 37, "irq"], [1, 37, "lock", "s1"], [0, 37, "tick"], [0, 37, "irq"], [0, 8, "work"], [0, 38, "unlock", "s1"], [0, 38, "irq"], [0, 39, "unlock", "s1"]]}"#;
 
-const CASE_ORDER: &str = "1011011001101111000111011100011110111110101100100010001101100101010101010101010101010101010101010101010101010101010101010101010101010101";
+const CASE_ORDER: &str =
+    "1011011001101111000111011100011110111110101100100010001101100101010101010101010101010101010101010101010101010101010101010101010101010101";
 
 const CASE_TEXT: &str = "rtsched split 1
 set {\"clusters\":[{\"cpus\":1,\"group\":0},{\"cpus\":1,\"group\":0}],\"plugin\":\"P-FP\",\"resvs\":[],\"sems\":[{\"name\":\"s1\",\"protocol\":\"FMLP\"}],\"steps\":[[0,0,\"irq\"],[1,0,\"irq\"],[0,1,\"lock\",\"s1\"],[1,1,\"lock\",\"s1\"],[0,3,\"work\"],[1,3,\"irq\"],[1,6,\"lock\",\"s1\"],[0,6,\"work\"],[0,7,\"unlock\",\"s1\"],[0,7,\"lock\",\"s1\"],[1,22,\"irq\"],[1,24,\"work\"],[0,25,\"tick\"],[1,28,\"end\"],[1,28,\"unlock\",\"s1\"],[1,29,\"irq\"],[0,29,\"irq\"],[0,29,\"lock\",\"s1\"],[1,30,\"unlock\",\"s1\"],[0,37,\"tick\"],[1,37,\"irq\"],[1,37,\"lock\",\"s1\"],[1,37,\"irq\"],[1,37,\"lock\",\"s1\"],[0,37,\"tick\"],[0,37,\"irq\"],[0,8,\"work\"],[0,38,\"unlock\",\"s1\"],[0,38,\"irq\"],[0,39,\"unlock\",\"s1\"]],\"tasks\":[{\"body\":[],\"cluster\":1,\"cost\":4,\"deadline\":1000,\"enforce\":false,\"kind\":\"periodic\",\"name\":\"t1\",\"period\":1000,\"phase\":0,\"prio\":3,\"resv\":null,\"uses\":[\"s1\"]},{\"body\":[],\"cluster\":1,\"cost\":3,\"deadline\":10,\"enforce\":false,\"kind\":\"periodic\",\"name\":\"t2\",\"period\":10,\"phase\":0,\"prio\":2,\"resv\":null,\"uses\":[\"s1\"]},{\"body\":[],\"cluster\":0,\"cost\":3,\"deadline\":10,\"enforce\":false,\"kind\":\"periodic\",\"name\":\"t3\",\"period\":10,\"phase\":0,\"prio\":511,\"resv\":null,\"uses\":[\"s1\"]},{\"body\":[],\"cluster\":0,\"cost\":3,\"deadline\":3,\"enforce\":false,\"kind\":\"periodic\",\"name\":\"t4\",\"period\":3,\"phase\":0,\"prio\":511,\"resv\":null,\"uses\":[\"s1\"]}]}
@@ -141,7 +142,10 @@ fn a_later_request_waits_for_no_grant(rt: HostRuntime) -> Result<(), Fail> {
 #[test]
 fn an_order_of_a_case_has_its_text(rt: HostRuntime) -> Result<(), Fail> {
     let (last, text) = text_in_order(&rt, rt.alloc(), CASE, CASE_ORDER)?;
-    assert!(rt; matches!(last, Some(Played2::Ended)), "all steps are played");
+    assert!(rt;
+        matches!(last, Some(Played2::Ended)),
+        "all steps are played"
+    );
     assert_eq!(rt; text.as_slice(), CASE_TEXT.as_bytes());
     Ok(())
 }

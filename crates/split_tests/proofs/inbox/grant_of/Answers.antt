@@ -13,4 +13,4 @@ new-requires-2 g c =
     let freed = c.release-next.ensures.entry
     ∙ ap (λ o. let x : BookOf = record b { entries = b.entries ++ entry (record { 0 = 0 }) (record { 0 = 1 }) (acts.Release o) ∷ [] } in x) c.in_ok-_task.ensures in
     made g.N.Names.turns c.args.turn.now c.args.seat.now c.take-book.new.seat c.give.new.seat c.in_ok-seen.seen c.take-book.result c.release-next.new.self
-        c.requires.turn c.requires.names t.seat c.give.ensures c.in_ok-seen.ensures.copy many freed t.subject c.entries-history.ensures.kept
+    c.requires.turn c.requires.names t.seat c.give.ensures c.in_ok-seen.ensures.copy many freed t.subject c.entries-history.ensures.kept

@@ -7,4 +7,4 @@ step-requires g c = (c.requires.seats.each c.args.cpu c.index-seats-cpu.result c
 pub returns-clause-seats : goal.returns-clause-seats
 returns-clause-seats g c =
     one-stepped c.args.split.now c.args.seats.now c.args.cpu c.step.new.seat c.index-seats-cpu.result c.requires.seats c.requires.there c.step.ensures.seat
-        (same-cpu c.step.result _ _ c.step.ensures.step c.step.ensures.memory)
+    (same-cpu c.step.result _ _ c.step.ensures.step c.step.ensures.memory)
