@@ -1,10 +1,9 @@
 -- The grant that a seat brings, which was split off once it had seen the release.
-use Rattle.std.proofs.Common.{◌≡◌, ℕ, List, [], ◌∷◌, ◌++◌, length, refl, sym, ap, ◌∙◌, subst, arith}
+use Rattle.std.proofs.Common.{◌≡◌, List, [], ◌∷◌, ◌++◌, length, sym, ap, ◌∙◌, subst, arith}
 use Rattle.std.specs.Prelude.{Some, slice_get}
 use Rattle.std.proofs.lemmas.List.{length-append}
 use Rattle.std.proofs.lemmas.Option.{slice_get-get_or}
 use Rattle.std.proofs.Math.Seq.{get_or-append_seam}
-use Rattle.rt_base.specs.declared.TaskNo.{TaskNo}
 use Rattle.turn_cell.specs.Places.{Cell, Place, TurnOf, given_back, split_off, taken}
 use Rattle.split_rules.specs.declared.SemAct.TheVariants as acts
 use Rattle.split_rules.specs.declared.SemEntry.{SemEntry}

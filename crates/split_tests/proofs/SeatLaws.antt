@@ -1,5 +1,5 @@
 -- The seats of a run, of which one was stepped.
-use Rattle.std.proofs.Common.{◌≡◌, ◌≢◌, ◌⊎◌, inl, inr, ℕ, ◌<◌, List, get_or, length, set, sym, ap, ◌∙◌, subst, arith, eqb-true, refl}
+use Rattle.std.proofs.Common.{◌≡◌, ◌≢◌, ℕ, ◌<◌, List, get_or, length, set, sym, ap, ◌∙◌, subst, arith, eqb-true, refl}
 use Rattle.std.specs.Prelude.{◌==◌, Bool, true, false, Result, Ok, Err, IfOk, IfErr}
 use Rattle.std.proofs.lemmas.List.{get_or-set_other, get_or-set_same, length-set}
 use Rattle.rt_rules.proofs.MemberLaws.{equal_self}

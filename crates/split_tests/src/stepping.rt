@@ -72,13 +72,13 @@ fn step_each<N: Names, R: Wait>(
     rt: &R,
     split: &Split<N>,
     seats: &mut [PartSeat<N>],
-    order: &str,
+    order: &[u8],
 ) -> Result<Option<Played2>, Fail>
     requires { AreSeatsOf split.now seats.old }
     ensures { AreSeatsOf split.now seats.new }
 {
     let mut last = None;
-    for digit in order.as_bytes() {
+    for digit in order {
         let cpu = usize::from(digit.saturating_sub(b'0'));
         if cpu >= seats.len() {
             return Err(Fail::new("there is no such processor"));
@@ -94,7 +94,7 @@ fn text_at<N: Names + Send + Sync, R: Threads + Wait + Sync>(
     alloc: Global,
     setup: &Setup,
     turns: SemTurns,
-    order: &str,
+    order: &[u8],
 ) -> Result<Stepped, Fail>
     requires split { is_split_set setup.now ≡ true }
     requires turns { AreTurns setup.now turns }
@@ -118,7 +118,7 @@ fn end_at<N: Names, R: Wait>(
     alloc: Global,
     setup: &Setup,
     turns: SemTurns,
-    order: &str,
+    order: &[u8],
 ) -> Result<SplitEnd, Fail>
     requires split { is_split_set setup.now ≡ true }
     requires turns { AreTurns setup.now turns }
@@ -138,7 +138,7 @@ pub fn text_in_order<R: Threads + Wait + Sync>(
 ) -> Result<Stepped, Fail> {
     let setup = split_set_of(alloc, set)?;
     let turns = SemTurns::open(alloc, &setup)?;
-    text_at::<Brand, R>(rt, alloc, &setup, turns, order)
+    text_at::<Brand, R>(rt, alloc, &setup, turns, order.as_bytes())
 }
 
 /// What a run comes to that is closed after the steps of an order.
@@ -150,5 +150,5 @@ pub fn end_in_order<R: Wait>(
 ) -> Result<SplitEnd, Fail> {
     let setup = split_set_of(alloc, set)?;
     let turns = SemTurns::open(alloc, &setup)?;
-    end_at::<Brand, R>(rt, alloc, &setup, turns, order)
+    end_at::<Brand, R>(rt, alloc, &setup, turns, order.as_bytes())
 }
