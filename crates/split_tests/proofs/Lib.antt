@@ -1,0 +1,2 @@
+mod GrantLaws
+mod SeatLaws
