@@ -14,13 +14,9 @@ use Rattle.chart_texts.specs.declared.window.Axis.{Axis}
 use Rattle.chart_texts.specs.declared.window.Axis.TheVariants.{Entries, Ticks}
 use Rattle.chart_texts.specs.declared.window.Window.{Window}
 use Rattle.chart_texts.specs.Windows.{columns_in, cut}
-use Rattle.chart_feed.specs.Strips.{Strip, blank, closed, column_of, done, entries_of, entry_strip, in_window, is_in, open_at, open_moved, open_turned, seen, strip_of, tick_strip, ticks_in}
+use Rattle.chart_feed.specs.Strips.{Strip, blank, closed, closed_below, column_of, done, entries_of, entry_strip, in_window, is_in, open_at, open_moved, open_turned, seen, strip_of, tick_strip, ticks_in}
 use Rattle.chart_feed.proofs.Entries.{cut-inside, cut-outside, entries-acted, entries-clocked, length-entries, strips-entries}
 use Rattle.chart_feed.proofs.Ticks.{closed-same, columns-ticks, newest-strip, strip-acted, strip-begun, strip-clocked, strip-gap, ticks-inside, ticks-outside}
-
--- the ticks of a window below one, as a past shows them
-abbrev pub closed_below : Window → Past → ℕ → List Strip
-closed_below w past n = map (tick_strip past) (ticks_in w n)
 
 -- ---- ticks, as the clock is to be moved
 

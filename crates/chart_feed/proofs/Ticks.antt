@@ -166,7 +166,7 @@ take-numbers zero a n = let none : zero ≡ min n zero = omega arith in ap (numb
 take-numbers (suc m) a zero = let none : zero ≡ min zero (suc m) = omega arith in ap (numbers_from a) none
 take-numbers (suc m) a (suc n) = let size : suc (min n m) ≡ min (suc n) (suc m) = omega arith in ap (λ ts. a ∷ ts) (take-numbers m (suc a) n) ∙ ap (numbers_from a) size
 
-cut-ticks : (w : Window) (n : ℕ) → cut w (numbers_from 0 n) ≡ ticks_in w n
+pub cut-ticks : (w : Window) (n : ℕ) → cut w (numbers_from 0 n) ≡ ticks_in w n
 cut-ticks w n =
     let at : 0 + w.from ≡ w.from = omega arith in
     let size : min (n - w.from) (w.to - w.from) ≡ min n w.to - w.from = omega arith in

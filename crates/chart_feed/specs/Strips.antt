@@ -52,6 +52,10 @@ is_in w i = nat_le w.from i && nat_lt i w.to
 abbrev pub ticks_in : Window → ℕ → List ℕ
 ticks_in w n = numbers_from w.from (min n w.to - w.from)
 
+-- the ticks of a window below one, as a past shows them
+abbrev pub closed_below : Window → Past → ℕ → List Strip
+closed_below w past n = map (tick_strip past) (ticks_in w n)
+
 -- the columns that are over: the clock is past their tick, or their entry has been
 abbrev pub closed : Axis → Window → Past → List Strip
 closed Ticks w past = map (tick_strip past) (ticks_in w (now past))

@@ -3,13 +3,18 @@
 
 mod acting;
 mod clocks;
+mod columns;
 mod cpus;
+mod entry_clocks;
 mod finish;
+mod foretell;
 mod look;
 mod loops;
 mod marking;
 mod opening;
 mod resvs;
+mod rows;
+mod seeing;
 mod tasks;
 mod times;
 mod units;
