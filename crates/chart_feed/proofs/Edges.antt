@@ -1,6 +1,6 @@
 -- The clocks of a window's columns.
 use Rattle.std.proofs.Common.{◌≡◌, ◌∙◌, ℕ, zero, suc, ◌+◌, ◌-◌, ◌<◌, ◌≤◌, ◌⊎◌, inl, inr, Bool, true, false, ◌||◌, List, [], ◌∷◌, ◌++◌, length, get_or, map, take, drop, refl, sym, ap, subst, arith, eqb-true, All}
-use Rattle.std.specs.Prelude.{nat_le, ◌==◌, ⊤, Option, None, Some, filter, slice_get, if◌then◌else◌}
+use Rattle.std.specs.Prelude.{nat_le, ◌==◌, ⊤, None, slice_get, if◌then◌else◌}
 use Rattle.std.proofs.Math.Seq.{get_or-append_seam}
 use Rattle.std.proofs.lemmas.Bool.Decides.{nat_tests}
 use Rattle.std.proofs.lemmas.List.{length-append, map-append}
@@ -11,8 +11,8 @@ use Rattle.rt_rules.specs.Numbers.{has, numbers_from}
 use Rattle.rt_rules.proofs.BoolLaws.{either, or_true}
 use Rattle.rt_rules.proofs.MemberLaws.{equal_self, has-one, has-push}
 use Rattle.rt_model.specs.Group.{Group, task}
-use Rattle.rt_model.specs.Past.{Acted, Clock, Event, Past, PastAct, ends_job, now}
-use Rattle.trace_views.specs.Columns.{Column, entry_columns, entry_columns_from, is_entry, next_clock, tick_column}
+use Rattle.rt_model.specs.Past.{Acted, Clock, Past, PastAct, ends_job, now}
+use Rattle.trace_views.specs.Columns.{Column, entry_columns, entry_columns_from, next_clock, tick_column}
 use Rattle.trace_views.specs.Moments.{moments}
 use Rattle.chart_texts.specs.declared.window.Axis.{Axis}
 use Rattle.chart_texts.specs.declared.window.Axis.TheVariants.{Entries, Ticks}
@@ -21,7 +21,7 @@ use Rattle.chart_texts.specs.Windows.{columns_in, columns_on, cut}
 use Rattle.chart_feed.specs.EntryClocks.{entry_clocks, first_at}
 use Rattle.chart_feed.specs.Finished.{AreTimed, EndsInAct, IsTimed}
 use Rattle.chart_feed.specs.Strips.{entries_of, ticks_in}
-use Rattle.chart_feed.specs.Times.{Edges, edges_in, edges_of, end_clocks, next_by, next_in, up_to}
+use Rattle.chart_feed.specs.Times.{Edges, edges_in, edges_of, end_clocks, next_in, up_to}
 use Rattle.chart_feed.proofs.Entries.{entries-acted, entries-clocked}
 use Rattle.chart_feed.proofs.MarkLaws.{IsRising, one_if, rest-rising, up_to-cons}
 use Rattle.chart_feed.proofs.Ticks.{columns-ticks, map-cut}

@@ -12,3 +12,4 @@ pub mod Finishing
 pub mod Foretelling
 pub mod Stepping
 pub mod Clocked
+pub mod Paneled

@@ -9,11 +9,11 @@ use Rattle.trace_views.specs.Moments.{Moment, at_tick, moments}
 use Rattle.chart_texts.specs.declared.window.Axis.{Axis}
 use Rattle.chart_texts.specs.declared.window.Axis.TheVariants.{Entries, Ticks}
 use Rattle.chart_texts.specs.declared.window.Window.{Window}
-use Rattle.chart_texts.specs.Windows.{columns_in, cut}
+use Rattle.chart_texts.specs.Windows.{columns_in}
 use Rattle.rank_afresh.specs.Standing.{Standing, group_of}
 use Rattle.chart_feed.specs.Stands.{HasRows}
 use Rattle.chart_feed.specs.Rows.{RowsKept, rows_acted, rows_closed, rows_of, rows_seen}
-use Rattle.chart_feed.specs.Strips.{Strip, blank, closed, closed_below, done, entry_strip, in_window, is_in, open_at, open_moved, open_turned, place, seen, strip_of, tick_strip, ticks_in}
+use Rattle.chart_feed.specs.Strips.{blank, closed, closed_below, done, entry_strip, is_in, open_at, open_moved, open_turned, place, seen, strip_of, tick_strip}
 use Rattle.chart_feed.proofs.Moves.{acted-entries, acted-open, acted-outside, acted-ticks, below-beyond, below-more, below-same, ended-entries, ended-ticks, gap-more, moved-ticks, turned-entries, turned-ticks}
 use Rattle.chart_feed.proofs.RowLaws.{acted-rows, closed-rows, seen-rows}
 use Rattle.chart_feed.proofs.Ticks.{newest-strip}

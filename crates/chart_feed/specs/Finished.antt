@@ -1,5 +1,5 @@
 -- A task's row whose columns are over, with what its marks are made of.
-use Rattle.std.specs.Prelude.{◌≡◌, ℕ, suc, ◌+◌, ◌<◌, ◌≤◌, ◌⊎◌, List, [], ◌∷◌, map, ⊤}
+use Rattle.std.specs.Prelude.{◌≡◌, ℕ, suc, ◌<◌, ◌≤◌, ◌⊎◌, List, [], ◌∷◌, map, ⊤}
 use Rattle.rt_task.specs.declared.Task.{Task}
 use Rattle.rt_model.specs.Group as groups
 use Rattle.rt_model.specs.Group.{Group}

@@ -11,3 +11,4 @@ pub mod Listed
 pub mod Foretold
 pub mod EntryClocks
 pub mod Stands
+pub mod Panels

@@ -1,7 +1,7 @@
 -- The states and acts of a column, of which its cells tell; and those of a window's columns while a group's history goes on.
 use Rattle.std.specs.Prelude.{ℕ, ◌-◌, min, Bool, ◌&&◌, nat_le, nat_lt, List, [], ◌∷◌, map, reverse, filter, if◌then◌else◌}
 use Rattle.rt_rules.specs.Numbers.{numbers_from}
-use Rattle.rt_model.specs.Past.{Clock, Past, entries_in, now}
+use Rattle.rt_model.specs.Past.{Past, entries_in, now}
 use Rattle.trace_views.specs.Columns.{Column, is_entry, states_of_entry}
 use Rattle.trace_views.specs.Moments.{Moment, acts_among, at_tick, moments, own}
 use Rattle.chart_texts.specs.declared.window.Axis.{Axis}

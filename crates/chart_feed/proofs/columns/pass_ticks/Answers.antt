@@ -1,7 +1,5 @@
-use Rattle.std.proofs.Common.{◌≡◌, ◌<◌, ◌+◌, ◌-◌, ◌≤◌, ℕ, ◌&&◌, true, min, max, arith}
-use Rattle.std.specs.Prelude.{nat_le, nat_lt}
+use Rattle.std.proofs.Common.{◌≡◌, ◌<◌, ◌-◌, true, min, arith}
 use Rattle.std.proofs.lemmas.Bool.Decides.{nat_tests}
-use Rattle.rank_afresh.specs.Standing.{group_of}
 use Rattle.chart_feed.specs.Strips.{is_in}
 use Rattle.chart_feed.proofs.Stepping.{skipped-rows}
 use Rattle.chart_feed.proofs.columns.pass_ticks.Goals as goal

@@ -1,4 +1,4 @@
-use Rattle.std.proofs.Common.{◌≡◌, ◌<◌, ◌≤◌, ℕ, max, min}
+use Rattle.std.proofs.Common.{◌<◌, ◌≤◌, ℕ, max, min}
 use Rattle.rt_model.specs.Past.{Past}
 use Rattle.chart_feed.specs.Stands.{HasRows}
 use Rattle.chart_feed.specs.Strips.{blank, closed_below}

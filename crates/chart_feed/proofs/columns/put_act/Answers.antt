@@ -1,13 +1,11 @@
-use Rattle.std.proofs.Common.{◌≡◌, ◌∙◌, ◌∷◌, refl, sym, ap, subst}
+use Rattle.std.proofs.Common.{◌∙◌, ◌∷◌, refl, sym, ap}
 use Rattle.std.proofs.lemmas.Result.{on_ok_weaker}
-use Rattle.rt_model.specs.Past.{Acted, Past}
+use Rattle.rt_model.specs.Past.{Acted}
 use Rattle.rank_afresh.specs.Standing.{group_of}
 use Rattle.trace_views.specs.Moments.{Moment}
 use Rattle.chart_texts.specs.declared.window.Axis.{Axis}
 use Rattle.view_acts.specs.ShownActs.{act_shown}
-use Rattle.chart_feed.specs.Rows.{RowsKept, rows_acted, rows_closed, rows_of, rows_seen}
-use Rattle.chart_feed.specs.Stands.{CanAct}
-use Rattle.chart_feed.specs.Strips.{closed, done, open_moved, seen}
+use Rattle.chart_feed.specs.Rows.{rows_acted, rows_closed, rows_seen}
 use Rattle.chart_feed.proofs.RowLaws.{acted-rows}
 use Rattle.chart_feed.proofs.RowParts.{rows-listed}
 use Rattle.chart_feed.proofs.Stepping.{acted-by, after_act, taken}

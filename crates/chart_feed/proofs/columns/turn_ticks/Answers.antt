@@ -1,4 +1,4 @@
-use Rattle.std.proofs.Common.{◌≡◌, ◌<◌, ◌≤◌, ◌+◌, arith}
+use Rattle.std.proofs.Common.{◌<◌, ◌≤◌, ◌+◌, arith}
 use Rattle.rank_afresh.specs.Standing.{group_of}
 use Rattle.chart_feed.proofs.Stepping.{turned-later, turned-same}
 use Rattle.chart_feed.proofs.columns.turn_ticks.Goals as goal

@@ -1,4 +1,4 @@
-use Rattle.std.proofs.Common.{◌≡◌, ◌∙◌, ap, refl, subst, sym}
+use Rattle.std.proofs.Common.{◌∙◌, ap, refl, subst, sym}
 use Rattle.rt_base.specs.TaskNos.{number_of_task}
 use Rattle.rt_task.specs.Validity.{IsValid}
 use Rattle.rt_model.specs.Outcomes.{past_act}

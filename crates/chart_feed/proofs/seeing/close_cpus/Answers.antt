@@ -1,4 +1,4 @@
-use Rattle.std.proofs.Common.{◌≡◌, ◌∙◌, true}
+use Rattle.std.proofs.Common.{◌∙◌}
 use Rattle.rt_plays.specs.Homes.{IsProcessorOf}
 use Rattle.rank_afresh.specs.Standing.{group_of}
 use Rattle.chart_feed.specs.Rows.{CpuKept, cpu_closed}

@@ -1,5 +1,4 @@
-use Rattle.std.proofs.Common.{◌≤◌, length, true, sym, subst, ap, ◌≡◌}
-use Rattle.rt_model.specs.Group.{in_group, resv}
+use Rattle.std.proofs.Common.{sym, subst}
 use Rattle.rank_afresh.specs.Standing.{group_of}
 use Rattle.chart_feed.proofs.RowParts.{IsResvOf, resv-of}
 use Rattle.chart_feed.proofs.seeing.close_resv.Goals as goal

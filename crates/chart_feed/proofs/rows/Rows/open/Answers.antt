@@ -1,4 +1,4 @@
-use Rattle.std.proofs.Common.{◌≡◌, ◌∙◌, [], ap, map}
+use Rattle.std.proofs.Common.{◌∙◌, [], ap, map}
 use Rattle.chart_feed.specs.Rows.{cpu_kept, resv_kept, rows_of, task_kept}
 use Rattle.chart_feed.specs.Strips.{blank}
 use Rattle.chart_feed.proofs.rows.Rows.open.Goals as goal
