@@ -1,6 +1,6 @@
 -- The clocks of a window's columns.
 use Rattle.std.proofs.Common.{◌≡◌, ◌∙◌, ℕ, zero, suc, ◌+◌, ◌-◌, ◌<◌, ◌≤◌, ◌⊎◌, inl, inr, Bool, true, false, ◌||◌, List, [], ◌∷◌, ◌++◌, length, get_or, map, take, drop, refl, sym, ap, subst, arith, eqb-true, All}
-use Rattle.std.specs.Prelude.{nat_le, ◌==◌, ⊤, Option, None, Some, filter, slice_get, if◌then◌else◌}
+use Rattle.std.specs.Prelude.{nat_le, ◌==◌, ⊤, None, slice_get, if◌then◌else◌}
 use Rattle.std.proofs.Math.Seq.{get_or-append_seam}
 use Rattle.std.proofs.lemmas.Bool.Decides.{nat_tests}
 use Rattle.std.proofs.lemmas.List.{length-append, map-append}
@@ -11,16 +11,17 @@ use Rattle.rt_rules.specs.Numbers.{has, numbers_from}
 use Rattle.rt_rules.proofs.BoolLaws.{either, or_true}
 use Rattle.rt_rules.proofs.MemberLaws.{equal_self, has-one, has-push}
 use Rattle.rt_model.specs.Group.{Group, task}
-use Rattle.rt_model.specs.Past.{Acted, Clock, Event, Past, PastAct, ends_job, now}
-use Rattle.trace_views.specs.Columns.{Column, entry_columns, entry_columns_from, is_entry, next_clock, tick_column}
+use Rattle.rt_model.specs.Past.{Acted, Clock, Past, PastAct, ends_job, now}
+use Rattle.trace_views.specs.Columns.{Column, entry_columns, entry_columns_from, next_clock, tick_column}
 use Rattle.trace_views.specs.Moments.{moments}
 use Rattle.chart_texts.specs.declared.window.Axis.{Axis}
 use Rattle.chart_texts.specs.declared.window.Axis.TheVariants.{Entries, Ticks}
 use Rattle.chart_texts.specs.declared.window.Window.{Window}
 use Rattle.chart_texts.specs.Windows.{columns_in, columns_on, cut}
-use Rattle.chart_feed.specs.Finished.{AreTimed, IsTimed}
+use Rattle.chart_feed.specs.EntryClocks.{entry_clocks, first_at}
+use Rattle.chart_feed.specs.Finished.{AreTimed, EndsInAct, IsTimed}
 use Rattle.chart_feed.specs.Strips.{entries_of, ticks_in}
-use Rattle.chart_feed.specs.Times.{Edges, edges_in, edges_of, end_clocks, next_by, next_in, up_to}
+use Rattle.chart_feed.specs.Times.{Edges, edges_in, edges_of, end_clocks, next_in, up_to}
 use Rattle.chart_feed.proofs.Entries.{entries-acted, entries-clocked}
 use Rattle.chart_feed.proofs.MarkLaws.{IsRising, one_if, rest-rising, up_to-cons}
 use Rattle.chart_feed.proofs.Ticks.{columns-ticks, map-cut}
@@ -94,12 +95,6 @@ edges-from i first (x ∷ xs) = by_rest xs (edges-from (suc i) (suc (now x)) xs)
     by_rest [] h = refl
     by_rest (y ∷ ys) h = ap (λ (es : List Edges). let e : Edges = record { first = first; high = now x; next = now y } in e ∷ es) h
 
--- where the columns behind some begin
-abbrev pub first_at : ℕ → ℕ → List ℕ → ℕ
-first_at first zero cs = first
-first_at first (suc n) [] = first
-first_at first (suc n) (c ∷ cs) = first_at (suc c) n cs
-
 drop-edges : (n first : ℕ) (cs : List ℕ) → drop n (edges_in first cs None) ≡ edges_in (first_at first n cs) (drop n cs) None
 drop-edges zero first cs = refl
 drop-edges (suc n) first [] = refl
@@ -117,29 +112,26 @@ take-edges (suc n) first (c ∷ cs) = by_rest n cs (take-edges n (suc c) cs)
     by_rest zero (d ∷ ds) h = refl
     by_rest (suc m) (d ∷ ds) h = ap (λ (es : List Edges). let e : Edges = record { first = first; high = c; next = d } in e ∷ es) h
 
-abbrev pub clocks_of : Past → List ℕ
-clocks_of past = map now (entries_of past)
-
-pub edges-entries : (w : Window) (past : Past) → map edges_of (columns_in Entries w past) ≡ edges_in (first_at 0 w.from (clocks_of past)) (cut w (clocks_of past)) (slice_get (drop w.from (clocks_of past)) (w.to - w.from))
+pub edges-entries : (w : Window) (past : Past) → map edges_of (columns_in Entries w past) ≡ edges_in (first_at 0 w.from (entry_clocks past)) (cut w (entry_clocks past)) (slice_get (drop w.from (entry_clocks past)) (w.to - w.from))
 unfolding columns_in columns_on entry_columns
 edges-entries w past =
     map-cut edges_of w (entry_columns_from 0 0 (entries_of past)) ∙ ap (cut w) (edges-from 0 0 (entries_of past))
-    ∙ ap (take (w.to - w.from)) (drop-edges w.from 0 (clocks_of past)) ∙ take-edges (w.to - w.from) (first_at 0 w.from (clocks_of past)) (drop w.from (clocks_of past))
+    ∙ ap (take (w.to - w.from)) (drop-edges w.from 0 (entry_clocks past)) ∙ take-edges (w.to - w.from) (first_at 0 w.from (entry_clocks past)) (drop w.from (entry_clocks past))
 
 -- jobs end at the clocks of entries
 carried : (a b : Bool) → a || b ≡ true → {c : Bool} → (b ≡ true → c ≡ true) → a || c ≡ true
 carried true b h f = refl
 carried false b h f = f h
 
-ends-there : (t r : ℕ) (past : Past) → has r (end_clocks t past) ≡ true → has r (clocks_of past) ≡ true
+ends-there : (t r : ℕ) (past : Past) → has r (end_clocks t past) ≡ true → has r (entry_clocks past) ≡ true
 unfolding end_clocks
 ends-there t r [] h = cc
 ends-there t r (Clock tick ∷ past) h = subst (λ (xs : List Past). has r (map now xs) ≡ true) (sym (entries-clocked tick past)) (ends-there t r past h)
 ends-there t r (Acted d ∷ past) h = subst (λ (xs : List Past). has r (map now xs) ≡ true) (sym (entries-acted d past)) (rw map-append (by_case (ends_job t (Acted d)) h (ends-there t r past)))
   where
-    by_case : (b : Bool) → has r (if b then (end_clocks t past ++ now past ∷ []) else end_clocks t past) ≡ true → (has r (end_clocks t past) ≡ true → has r (clocks_of past) ≡ true) → has r (clocks_of past ++ now past ∷ []) ≡ true
-    by_case true k before = has-push r (now past) (clocks_of past) ∙ carried (r == now past) (has r (end_clocks t past)) (sym (has-push r (now past) (end_clocks t past)) ∙ k) before
-    by_case false k before = has-push r (now past) (clocks_of past) ∙ rw (before k) (or_true (r == now past))
+    by_case : (b : Bool) → has r (if b then (end_clocks t past ++ now past ∷ []) else end_clocks t past) ≡ true → (has r (end_clocks t past) ≡ true → has r (entry_clocks past) ≡ true) → has r (entry_clocks past ++ now past ∷ []) ≡ true
+    by_case true k before = has-push r (now past) (entry_clocks past) ∙ carried (r == now past) (has r (end_clocks t past)) (sym (has-push r (now past) (end_clocks t past)) ∙ k) before
+    by_case false k before = has-push r (now past) (entry_clocks past) ∙ rw (before k) (or_true (r == now past))
 
 -- ---- at entries, clocks stand in order, and no job ends between one and the next
 
@@ -233,46 +225,40 @@ timed-from g t past positive i first front (x ∷ xs) a = (
     same-next [] = refl
     same-next (y ∷ ys) = refl
 
--- a past of whole steps ends in an act, and its newest entry has its clock
-abbrev pub IsWhole : Past → Type 0
-IsWhole [] = ⊤
-IsWhole (Clock tick ∷ past) = ⊥
-IsWhole (Acted d ∷ past) = ⊤
-
-clocks-clocked : (tick : ℕ) (past : Past) → clocks_of (Clock tick ∷ past) ≡ clocks_of past
+pub clocks-clocked : (tick : ℕ) (past : Past) → entry_clocks (Clock tick ∷ past) ≡ entry_clocks past
 clocks-clocked tick past = ap (map now) (entries-clocked tick past)
 
-pub clocks-acted : (d : PastAct) (past : Past) → clocks_of (Acted d ∷ past) ≡ clocks_of past ++ now past ∷ []
+pub clocks-acted : (d : PastAct) (past : Past) → entry_clocks (Acted d ∷ past) ≡ entry_clocks past ++ now past ∷ []
 clocks-acted d past = ap (map now) (entries-acted d past) ∙ map-append now (entries_of past) ((Acted d ∷ past) ∷ [])
 
-clocks-low : (past : Past) → All (λ r. r ≤ now past) (clocks_of past)
+pub clocks-low : (past : Past) → All (λ r. r ≤ now past) (entry_clocks past)
 unfolding moments
 clocks-low [] = λ k d low. absurd (no-entry k low)
   where
-    no-entry : (k : ℕ) → k < length (clocks_of []) → ⊥
+    no-entry : (k : ℕ) → k < length (entry_clocks []) → ⊥
     no-entry k low = omega arith
 clocks-low (Clock tick ∷ past) = λ k d low.
-    let same : length (clocks_of (Clock tick ∷ past)) ≡ length (clocks_of past) = ap length (clocks-clocked tick past) in
-    let before : get_or (clocks_of past) k d ≤ now past = clocks-low past k d (omega (arith, low, same)) in
+    let same : length (entry_clocks (Clock tick ∷ past)) ≡ length (entry_clocks past) = ap length (clocks-clocked tick past) in
+    let before : get_or (entry_clocks past) k d ≤ now past = clocks-low past k d (omega (arith, low, same)) in
     omega (arith, before, ap (λ xs. get_or xs k d) (clocks-clocked tick past))
-clocks-low (Acted x ∷ past) = subst (All (λ r. r ≤ now past)) (sym (clocks-acted x past)) (All-push (λ r. r ≤ now past) (clocks_of past) (now past) (clocks-low past) (omega arith))
+clocks-low (Acted x ∷ past) = subst (All (λ r. r ≤ now past)) (sym (clocks-acted x past)) (All-push (λ r. r ≤ now past) (entry_clocks past) (now past) (clocks-low past) (omega arith))
 
-clocks-rise : (past : Past) → IsRising (clocks_of past)
+clocks-rise : (past : Past) → IsRising (entry_clocks past)
 unfolding moments
 clocks-rise [] = λ i j d le low. absurd (no-entry j low)
   where
-    no-entry : (k : ℕ) → k < length (clocks_of []) → ⊥
+    no-entry : (k : ℕ) → k < length (entry_clocks []) → ⊥
     no-entry k low = omega arith
 clocks-rise (Clock tick ∷ past) = subst IsRising (sym (clocks-clocked tick past)) (clocks-rise past)
 clocks-rise (Acted x ∷ past) =
-    subst IsRising (sym (clocks-acted x past)) (IsNonDecreasingBy-push (λ n. n) (clocks_of past) (now past) (clocks-rise past) (λ d some. clocks-low past (length (clocks_of past) - 1) d (omega arith)))
+    subst IsRising (sym (clocks-acted x past)) (IsNonDecreasingBy-push (λ n. n) (entry_clocks past) (now past) (clocks-rise past) (λ d some. clocks-low past (length (entry_clocks past) - 1) d (omega arith)))
 
 last-pushed : (xs : List ℕ) (y d : ℕ) → get_or (xs ++ y ∷ []) (length (xs ++ y ∷ []) - 1) d ≡ y
 last-pushed xs y d =
     let at : length (xs ++ y ∷ []) - 1 ≡ length xs = omega (arith, length-append xs (y ∷ [])) in
     ap (λ n. get_or (xs ++ y ∷ []) n d) at ∙ get_or-append_seam xs y [] d
 
-all-around : (past : Past) → IsWhole past → AreAround past [] (clocks_of past)
+all-around : (past : Past) → EndsInAct past → AreAround past [] (entry_clocks past)
 unfolding moments
 all-around past whole = record {
   all = λ t r h. inr (ends-there t r past h);
@@ -281,12 +267,12 @@ all-around past whole = record {
   last = by_last past whole;
 }
   where
-    by_last : (p : Past) → IsWhole p → (d : ℕ) → 0 < length (clocks_of p) → get_or (clocks_of p) (length (clocks_of p) - 1) d ≡ now p
+    by_last : (p : Past) → EndsInAct p → (d : ℕ) → 0 < length (entry_clocks p) → get_or (entry_clocks p) (length (entry_clocks p) - 1) d ≡ now p
     by_last [] w d some = absurd (omega arith)
     by_last (Clock tick ∷ p) w d some = absurd w
-    by_last (Acted x ∷ p) w d some = ap (λ xs. get_or xs (length xs - 1) d) (clocks-acted x p) ∙ last-pushed (clocks_of p) (now p) d
+    by_last (Acted x ∷ p) w d some = ap (λ xs. get_or xs (length xs - 1) d) (clocks-acted x p) ∙ last-pushed (entry_clocks p) (now p) d
 
-pub timed-entries : (g : Group) (t : ℕ) (past : Past) (positive : 0 < (task g t).period) (w : Window) → IsWhole past → Each (λ c. IsTimed t past (edges_of c)) (columns_in Entries w past)
+pub timed-entries : (g : Group) (t : ℕ) (past : Past) (positive : 0 < (task g t).period) (w : Window) → EndsInAct past → Each (λ c. IsTimed t past (edges_of c)) (columns_in Entries w past)
 unfolding columns_in columns_on entry_columns
 timed-entries g t past positive w whole = each-take _ (w.to - w.from) (drop w.from (entry_columns_from 0 0 (entries_of past))) (each-drop _ w.from (entry_columns_from 0 0 (entries_of past)) (timed-from g t past positive 0 0 [] (entries_of past) (all-around past whole)))
 
@@ -295,6 +281,6 @@ timed-each : (t : ℕ) (past : Past) (cs : List Column) → Each (λ c. IsTimed 
 timed-each t past [] h = tt
 timed-each t past (c ∷ cs) h = (h.0, timed-each t past cs h.1)
 
-pub are-timed : (axis : Axis) (g : Group) (t : ℕ) (past : Past) (positive : 0 < (task g t).period) (w : Window) → IsWhole past → AreTimed t past (columns_in axis w past)
+pub are-timed : (axis : Axis) (g : Group) (t : ℕ) (past : Past) (positive : 0 < (task g t).period) (w : Window) → EndsInAct past → AreTimed t past (columns_in axis w past)
 are-timed Ticks g t past positive w whole = timed-each t past (columns_in Ticks w past) (timed-ticks g t past positive w)
 are-timed Entries g t past positive w whole = timed-each t past (columns_in Entries w past) (timed-entries g t past positive w whole)

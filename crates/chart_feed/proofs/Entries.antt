@@ -1,13 +1,12 @@
 -- The columns of entries as a past goes on: an act adds one.
-use Rattle.std.proofs.Common.{◌≡◌, ◌∙◌, ℕ, zero, suc, ◌+◌, ◌-◌, ◌<◌, ◌≤◌, Bool, true, false, List, [], ◌∷◌, ◌++◌, map, refl, sym, ap, subst, arith, take, drop, length, reverse, append-nil}
-use Rattle.std.specs.Prelude.{◌&&◌, filter, nat_le, nat_lt, if◌then◌else◌}
+use Rattle.std.proofs.Common.{◌≡◌, ◌∙◌, ℕ, zero, suc, ◌-◌, Bool, true, false, List, [], ◌∷◌, ◌++◌, map, refl, sym, ap, arith, take, drop, length, append-nil}
+use Rattle.std.specs.Prelude.{filter, nat_le, nat_lt, if◌then◌else◌}
 use Rattle.std.proofs.lemmas.Bool.Decides.{nat_tests}
 use Rattle.std.proofs.lemmas.Grind.{reverse_onto}
-use Rattle.std.proofs.lemmas.List.{length-append, map-append}
-use Rattle.rt_rules.specs.Numbers.{numbers_from}
-use Rattle.rt_model.specs.Past.{Acted, Clock, Event, Past, PastAct, entries_in, is_act, now, number_of}
-use Rattle.trace_views.specs.Columns.{Column, entry_columns, entry_columns_from, is_entry, states_of_entry}
-use Rattle.trace_views.specs.Moments.{acts_among, moments}
+use Rattle.std.proofs.lemmas.List.{length-append}
+use Rattle.rt_model.specs.Past.{Acted, Clock, Past, PastAct, entries_in, now}
+use Rattle.trace_views.specs.Columns.{entry_columns, entry_columns_from, is_entry}
+use Rattle.trace_views.specs.Moments.{moments}
 use Rattle.chart_texts.specs.declared.window.Axis.TheVariants.{Entries}
 use Rattle.chart_texts.specs.declared.window.Window.{Window}
 use Rattle.chart_texts.specs.Windows.{columns_in, columns_on, cut}

@@ -1,8 +1,6 @@
 -- The rows of a chart, once the columns are over, are those of the definitions.
-use Rattle.std.proofs.Common.{◌≡◌, ◌∙◌, ℕ, ◌+◌, ◌<◌, Bool, List, [], ◌∷◌, map, length, refl, sym, ap, subst, arith}
+use Rattle.std.proofs.Common.{◌≡◌, ◌∙◌, ℕ, ◌<◌, Bool, List, [], ◌∷◌, map, refl, sym, ap}
 use Rattle.std.specs.List.{list_any}
-use Rattle.std.proofs.lemmas.Simd.{map-map}
-use Rattle.rt_task.specs.declared.Task.{Task}
 use Rattle.rt_rules.specs.Numbers.{is}
 use Rattle.rt_model.specs.Group.{Group, task}
 use Rattle.rt_model.specs.Past.{Past, now}

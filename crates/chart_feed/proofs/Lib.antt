@@ -9,3 +9,7 @@ pub mod Moves
 pub mod Noted
 pub mod RowParts
 pub mod Finishing
+pub mod Foretelling
+pub mod Stepping
+pub mod Clocked
+pub mod Paneled

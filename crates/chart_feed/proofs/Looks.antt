@@ -10,7 +10,7 @@ use Rattle.rt_model.specs.Sleep.{sleeps}
 use Rattle.trace_views.specs.Cells.{TaskCell, cell_at, cell_away}
 use Rattle.trace_views.specs.Cells as cells
 use Rattle.chart_cells.specs.Kept.{seen_as, state_cell}
-use Rattle.chart_feed.specs.Looks.{cell_for, doing_by, is_away, state_doing, there_by, waiting_by}
+use Rattle.chart_feed.specs.Looks.{cell_for, doing_by, is_away, state_doing, there_by}
 
 module _ (g : Group) (t : ℕ) (x : Past) where
   by-wait : (o : Option ℕ) → seen_as g t x o ≡ cell_for g t (doing_by g t x o) x

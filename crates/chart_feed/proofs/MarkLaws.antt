@@ -1,8 +1,8 @@
 -- The marks are those of the definitions: the greatest job that is due decides whether one is missed.
-use Rattle.std.proofs.Common.{◌≡◌, ◌∙◌, ℕ, zero, suc, ◌+◌, ◌-◌, ◌*◌, ◌/◌, ◌<◌, ◌≤◌, ◌⊎◌, inl, inr, min, Bool, true, false, ◌&&◌, ◌||◌, List, [], ◌∷◌, ◌++◌, length, get_or, refl, sym, ap, subst, arith, leb-true, ltb-true, All}
+use Rattle.std.proofs.Common.{◌≡◌, ◌∙◌, ℕ, zero, suc, ◌+◌, ◌-◌, ◌*◌, ◌/◌, ◌<◌, ◌≤◌, ◌⊎◌, inl, inr, min, Bool, true, false, ◌&&◌, ◌||◌, List, [], ◌∷◌, ◌++◌, length, get_or, refl, sym, ap, arith, leb-true, ltb-true, All}
 use Rattle.std.specs.List.{list_any}
 use Rattle.std.specs.List.Sorted.{IsNonDecreasing}
-use Rattle.std.specs.Prelude.{count_by, nat_le, nat_lt, Option, None, Some, slice_get, unwrap_or, if◌then◌else◌}
+use Rattle.std.specs.Prelude.{nat_le, nat_lt, slice_get, unwrap_or, if◌then◌else◌}
 use Rattle.std.proofs.Math.Nat.{le-div_iff_mul-le}
 use Rattle.std.proofs.lemmas.Bool.{leb-false, ltb-false}
 use Rattle.std.proofs.lemmas.Bool.Decides.{nat_tests}
@@ -15,13 +15,13 @@ use Rattle.rt_task.specs.declared.Kind.{Kind}
 use Rattle.rt_task.specs.declared.Kind.TheVariants.{Periodic, Sporadic}
 use Rattle.rt_task.specs.declared.Task.{Task}
 use Rattle.rt_model.specs.Group.{Group, task}
-use Rattle.rt_model.specs.Past.{Acted, Clock, Event, Past, accepted, ends_job, now}
+use Rattle.rt_model.specs.Past.{Acted, Clock, Past, accepted, ends_job, now}
 use Rattle.rt_model.specs.Releases.{arrivals, arrives, release_by}
 use Rattle.trace_views.specs.Columns.{Column}
 use Rattle.trace_views.specs.Due.{due_before, released_at, released_by}
 use Rattle.trace_views.specs.JobMoves.{count_moves}
 use Rattle.trace_views.specs.JobTimes.{deadline_of, release_of}
-use Rattle.trace_views.specs.Marks.{Marks, ended_by, is_missed, marks, released_before}
+use Rattle.trace_views.specs.Marks.{ended_by, is_missed, marks, released_before}
 use Rattle.trace_views.specs.Moments.{Moment}
 use Rattle.chart_feed.specs.Finished.{IsTimed}
 use Rattle.chart_feed.specs.Times.{Edges, due_in, edges_of, end_clocks, marks_in, released_before_in, released_in, up_to}

@@ -1,26 +1,21 @@
 -- What each move makes of the columns of a window that are over, and of the one that goes on.
-use Rattle.std.proofs.Common.{◌≡◌, ◌∙◌, ℕ, zero, suc, ◌+◌, ◌-◌, ◌<◌, ◌≤◌, min, max, Bool, true, false, List, [], ◌∷◌, ◌++◌, map, refl, sym, ap, subst, arith, length}
-use Rattle.std.specs.Prelude.{◌&&◌, nat_le, nat_lt, if◌then◌else◌}
+use Rattle.std.proofs.Common.{◌≡◌, ◌∙◌, ℕ, suc, ◌+◌, ◌-◌, ◌<◌, ◌≤◌, min, max, Bool, true, false, List, [], ◌∷◌, ◌++◌, map, refl, sym, ap, subst, arith, length}
+use Rattle.std.specs.Prelude.{nat_le, if◌then◌else◌}
 use Rattle.std.proofs.lemmas.Bool.Decides.{nat_tests}
 use Rattle.std.proofs.lemmas.List.{map-append}
 use Rattle.std.proofs.lemmas.Simd.{map-map}
 use Rattle.rt_rules.specs.Numbers.{numbers_from}
 use Rattle.rt_model.specs.Group.{Group}
 use Rattle.rt_model.specs.Past.{Acted, Clock, Past, PastAct, entries_in, now}
-use Rattle.trace_views.specs.Cells.{cpu_cell, newest, resv_cell, running_on, task_cell}
+use Rattle.trace_views.specs.Cells.{cpu_cell, resv_cell, running_on, task_cell}
 use Rattle.trace_views.specs.Columns.{Column, tick_column}
 use Rattle.trace_views.specs.Moments.{Moment}
-use Rattle.chart_texts.specs.declared.window.Axis.{Axis}
 use Rattle.chart_texts.specs.declared.window.Axis.TheVariants.{Entries, Ticks}
 use Rattle.chart_texts.specs.declared.window.Window.{Window}
 use Rattle.chart_texts.specs.Windows.{columns_in, cut}
-use Rattle.chart_feed.specs.Strips.{Strip, blank, closed, column_of, done, entries_of, entry_strip, in_window, is_in, open_at, open_moved, open_turned, seen, strip_of, tick_strip, ticks_in}
+use Rattle.chart_feed.specs.Strips.{blank, closed, closed_below, column_of, done, entries_of, entry_strip, in_window, is_in, open_at, open_moved, open_turned, seen, strip_of, tick_strip, ticks_in}
 use Rattle.chart_feed.proofs.Entries.{cut-inside, cut-outside, entries-acted, entries-clocked, length-entries, strips-entries}
-use Rattle.chart_feed.proofs.Ticks.{closed-same, columns-ticks, newest-strip, strip-acted, strip-begun, strip-clocked, strip-gap, ticks-inside, ticks-outside}
-
--- the ticks of a window below one, as a past shows them
-abbrev pub closed_below : Window → Past → ℕ → List Strip
-closed_below w past n = map (tick_strip past) (ticks_in w n)
+use Rattle.chart_feed.proofs.Ticks.{closed-same, columns-ticks, strip-acted, strip-begun, strip-clocked, strip-gap, ticks-inside, ticks-outside}
 
 -- ---- ticks, as the clock is to be moved
 

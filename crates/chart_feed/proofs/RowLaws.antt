@@ -1,6 +1,6 @@
 -- What is kept of rows follows the states and acts of the column that goes on, and its end.
 use Rattle.std.proofs.Common.{◌≡◌, ◌∙◌, ℕ, Bool, true, false, List, [], ◌∷◌, ◌++◌, map, refl, sym, ap}
-use Rattle.std.specs.Prelude.{◌&&◌, ◌==◌, ◌||◌, filter, Option, None, Some, unwrap_or, if◌then◌else◌}
+use Rattle.std.specs.Prelude.{◌&&◌, ◌==◌, filter, None, unwrap_or, if◌then◌else◌}
 use Rattle.std.proofs.lemmas.List.{map-append}
 use Rattle.std.proofs.lemmas.Simd.{map-map}
 use Rattle.rt_rules.specs.Numbers.{is}
@@ -9,15 +9,14 @@ use Rattle.rt_model.specs.Past.{Past}
 use Rattle.rt_model.specs.Reservations.{left}
 use Rattle.trace_views.specs.Cells.{CpuCell, TaskCell, cell_at, cell_away, cpu_cell, is_client, newest, resv_cell, running_on, runs_no_unit, task_cell}
 use Rattle.trace_views.specs.Cells as cells
-use Rattle.trace_views.specs.Columns.{Column}
 use Rattle.trace_views.specs.Moments.{Moment, is_unit}
 use Rattle.chart_texts.specs.Charts.{group_resvs}
-use Rattle.chart_cells.specs.Kept.{cell_of_states, finished, kept_cell, later, state_cell, with_unit}
+use Rattle.chart_cells.specs.Kept.{cell_of_states, finished, kept_cell, with_unit}
 use Rattle.chart_cells.specs.KeptFirst.{cpu_at_end, cpu_at_unit, kept_cpu, kept_left}
 use Rattle.chart_cells.specs.KeptFirstLaws.{unless_kept}
 use Rattle.chart_cells.proofs.KeptCells.{kept_cells_follow_lem}
 use Rattle.chart_cells.proofs.FirstUnits.{first_units_are_kept_lem}
-use Rattle.chart_feed.specs.Rows.{CpuKept, Played, ResvKept, RowsKept, TaskKept, cpu_acted, cpu_closed, cpu_kept, ends_in, played, resv_acted, resv_closed, resv_kept, rows_acted, rows_closed, rows_of, rows_seen, running, task_acted, task_closed, task_kept, task_seen}
+use Rattle.chart_feed.specs.Rows.{Played, cpu_acted, cpu_closed, cpu_kept, ends_in, played, resv_acted, resv_closed, resv_kept, rows_acted, rows_closed, rows_of, rows_seen, running, task_acted, task_closed, task_kept, task_seen}
 use Rattle.chart_feed.specs.Strips.{Strip, blank, column_of, done, seen}
 
 module _ (g : Group) where

@@ -1,14 +1,16 @@
 -- The rows of a group are of its tasks, processors and reservations.
-use Rattle.std.proofs.Common.{◌≡◌, ◌∙◌, ℕ, zero, suc, ◌+◌, ◌-◌, ◌<◌, ◌≤◌, Bool, true, false, ◌&&◌, List, [], ◌∷◌, ◌++◌, length, map, take, get_or, refl, sym, ap, subst, arith, All}
-use Rattle.std.specs.Prelude.{◌==◌, filter}
+use Rattle.std.proofs.Common.{◌≡◌, ◌∙◌, ℕ, zero, suc, ◌+◌, ◌<◌, ◌≤◌, true, List, [], ◌∷◌, ◌++◌, length, map, take, get_or, refl, sym, ap, subst, arith, All}
+use Rattle.std.specs.Prelude.{◌==◌}
 use Rattle.std.proofs.lemmas.List.{map-append, take_more}
+use Rattle.std.proofs.lemmas.Simd.{map-map}
 use Rattle.rt_rules.specs.Numbers.{has, numbers_from}
 use Rattle.rt_rules.proofs.BoolLaws.{both, or_true}
 use Rattle.rt_rules.proofs.MemberLaws.{equal_self, has-filter}
 use Rattle.rt_rules.proofs.NumberLaws.{has-numbers_from, numbers_from-below}
 use Rattle.rt_model.specs.Group.{Group, group_processors, in_group, resv, tasks}
 use Rattle.chart_texts.specs.Charts.{group_resvs}
-use Rattle.chart_feed.specs.Rows.{CpuKept, ResvKept, RowsKept, TaskKept, cpu_kept, resv_kept, rows_of, task_kept}
+use Rattle.chart_feed.specs.Listed.{AreListed}
+use Rattle.chart_feed.specs.Rows.{CpuKept, ResvKept, RowsKept, TaskKept, cpu_kept, resv_kept, resvs_listed, rows_of, task_kept}
 use Rattle.chart_feed.specs.Strips.{Strip}
 
 all-of : {A : Type 0} (f : ℕ → A) (number : A → ℕ) → ((t : ℕ) → number (f t) ≡ t) → (us ts : List ℕ) → ((t : ℕ) → has t ts ≡ true → has t us ≡ true) → All (λ x. has (number x) us ≡ true) (map f ts)
@@ -47,3 +49,15 @@ pub mapped-more : {A B C : Type 0} (shown : B → C) (f : A → C) (xs : List A)
     → map shown new ≡ map f (take (i + 1) xs)
 mapped-more shown f xs i d old new p low before is made =
     ap (map shown) made ∙ map-append shown old (p ∷ []) ∙ (λ j. before j ++ is j ∷ []) ∙ sym (ap (map f) (take_more xs i d low) ∙ map-append f (take i xs) (get_or xs i d ∷ []))
+
+-- they are listed
+pub rows-listed : (g : Group) (ss : List Strip) (s : Strip) (v : RowsKept) → v ≡ rows_of g ss s → AreListed g v
+rows-listed g ss s v is = record { tasks_are = tasks-listed g ss s v is; cpus_are = cpus-listed g ss s v is; resvs_are = resvs-listed g ss s v is }
+
+pub resvs-of : (g : Group) (ss : List Strip) (s : Strip) (v : RowsKept) → v ≡ rows_of g ss s → resvs_listed v.resvs ≡ group_resvs g
+unfolding rows_of
+resvs-of g ss s v is = ap (λ (w : RowsKept). resvs_listed w.resvs) is ∙ map-map (λ (k : ResvKept). k.resv) (resv_kept g ss s) (group_resvs g) ∙ map-self (group_resvs g)
+  where
+    map-self : (rs : List ℕ) → map (λ r. r) rs ≡ rs
+    map-self [] = refl
+    map-self (r ∷ rs) = ap (λ xs. r ∷ xs) (map-self rs)

@@ -1,17 +1,17 @@
 -- The columns of ticks as a past goes on: the newest has one state more, or columns are added.
-use Rattle.std.proofs.Common.{◌≡◌, ◌≢◌, ◌∙◌, ℕ, zero, suc, ◌+◌, ◌-◌, ◌<◌, ◌≤◌, min, max, Bool, true, false, List, [], ◌∷◌, ◌++◌, map, refl, sym, ap, subst, arith, eqb, cond, take, drop, length}
-use Rattle.std.specs.Prelude.{◌==◌, ◌&&◌, filter, nat_le, nat_lt, if◌then◌else◌}
+use Rattle.std.proofs.Common.{◌≡◌, ◌≢◌, ◌∙◌, ℕ, zero, suc, ◌+◌, ◌-◌, ◌<◌, ◌≤◌, min, true, false, List, [], ◌∷◌, ◌++◌, map, refl, sym, ap, arith, eqb, take, drop}
+use Rattle.std.specs.Prelude.{filter, nat_lt}
 use Rattle.std.proofs.lemmas.Bool.Decides.{nat_tests}
 use Rattle.std.proofs.lemmas.List.{drop-map, take-map}
 use Rattle.rt_rules.specs.Numbers.{numbers_from}
 use Rattle.rt_model.specs.Past.{Acted, Clock, Event, Past, PastAct, now}
 use Rattle.trace_views.specs.Cells.{newest}
-use Rattle.trace_views.specs.Columns.{Column, tick_column, tick_columns}
-use Rattle.trace_views.specs.Moments.{Moment, act_of, acts_among, at_tick, moments, own}
+use Rattle.trace_views.specs.Columns.{tick_column, tick_columns}
+use Rattle.trace_views.specs.Moments.{acts_among, at_tick, moments, own}
 use Rattle.chart_texts.specs.declared.window.Axis.TheVariants.{Ticks}
 use Rattle.chart_texts.specs.declared.window.Window.{Window}
 use Rattle.chart_texts.specs.Windows.{columns_in, columns_on, cut}
-use Rattle.chart_feed.specs.Strips.{Strip, blank, done, in_window, is_in, seen, strip_of, tick_strip, ticks_in}
+use Rattle.chart_feed.specs.Strips.{blank, done, is_in, seen, tick_strip, ticks_in}
 
 -- ---- the clock never falls
 
@@ -166,7 +166,7 @@ take-numbers zero a n = let none : zero ≡ min n zero = omega arith in ap (numb
 take-numbers (suc m) a zero = let none : zero ≡ min zero (suc m) = omega arith in ap (numbers_from a) none
 take-numbers (suc m) a (suc n) = let size : suc (min n m) ≡ min (suc n) (suc m) = omega arith in ap (λ ts. a ∷ ts) (take-numbers m (suc a) n) ∙ ap (numbers_from a) size
 
-cut-ticks : (w : Window) (n : ℕ) → cut w (numbers_from 0 n) ≡ ticks_in w n
+pub cut-ticks : (w : Window) (n : ℕ) → cut w (numbers_from 0 n) ≡ ticks_in w n
 cut-ticks w n =
     let at : 0 + w.from ≡ w.from = omega arith in
     let size : min (n - w.from) (w.to - w.from) ≡ min n w.to - w.from = omega arith in

@@ -1,9 +1,9 @@
 -- A task's row whose columns are over, with what its marks are made of.
-use Rattle.std.specs.Prelude.{◌≡◌, ℕ, suc, ◌+◌, ◌<◌, ◌≤◌, ◌⊎◌, List, [], ◌∷◌, map, ⊤}
+use Rattle.std.specs.Prelude.{◌≡◌, ℕ, suc, ◌<◌, ◌≤◌, ◌⊎◌, List, [], ◌∷◌, map, ⊤}
 use Rattle.rt_task.specs.declared.Task.{Task}
 use Rattle.rt_model.specs.Group as groups
 use Rattle.rt_model.specs.Group.{Group}
-use Rattle.rt_model.specs.Past.{Past, now}
+use Rattle.rt_model.specs.Past.{Acted, Clock, Past, now}
 use Rattle.trace_views.specs.Columns.{Column}
 use Rattle.chart_feed.specs.Clocks.{ClocksKept, clocks_of}
 use Rattle.chart_feed.specs.Rows.{TaskKept, task_kept}
@@ -18,6 +18,12 @@ pub record IsTimed (t : ℕ) (past : Past) (e : Edges) : Type 0 where
 abbrev pub AreTimed : ℕ → Past → List Column → Type 0
 AreTimed t past [] = ⊤
 AreTimed t past (c ∷ cs) = IsTimed t past (edges_of c) × AreTimed t past cs
+
+-- a past of whole steps ends in an act
+abbrev pub EndsInAct : Past → Type 0
+EndsInAct [] = ⊤
+EndsInAct (Clock tick ∷ past) = ⊥
+EndsInAct (Acted d ∷ past) = ⊤
 
 pub record IsFinished (g : Group) (past : Past) (cs : List Column) (row : TaskKept) (task : Task) (clocks : ClocksKept) (clock : ℕ) (edges : List Edges) : Type 0 where
   pub row_is : row ≡ task_kept g (map strip_of cs) blank row.task

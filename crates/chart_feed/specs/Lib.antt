@@ -7,3 +7,8 @@ pub mod Looks
 pub mod Marked
 pub mod Clocks
 pub mod Finished
+pub mod Listed
+pub mod Foretold
+pub mod EntryClocks
+pub mod Stands
+pub mod Panels

@@ -37,6 +37,9 @@ pub record RowsKept : Type 0 where
   pub cpus : List CpuKept
   pub resvs : List ResvKept
 
+abbrev pub resvs_listed : List ResvKept → List ℕ
+resvs_listed ks = map (λ (k : ResvKept). k.resv) ks
+
 -- what a processor does in a column that is over
 pub record Played : Type 0 where
   pub cpu : ℕ

@@ -1,7 +1,7 @@
 -- The states and acts of a column, of which its cells tell; and those of a window's columns while a group's history goes on.
 use Rattle.std.specs.Prelude.{ℕ, ◌-◌, min, Bool, ◌&&◌, nat_le, nat_lt, List, [], ◌∷◌, map, reverse, filter, if◌then◌else◌}
 use Rattle.rt_rules.specs.Numbers.{numbers_from}
-use Rattle.rt_model.specs.Past.{Clock, Past, entries_in, now}
+use Rattle.rt_model.specs.Past.{Past, entries_in, now}
 use Rattle.trace_views.specs.Columns.{Column, is_entry, states_of_entry}
 use Rattle.trace_views.specs.Moments.{Moment, acts_among, at_tick, moments, own}
 use Rattle.chart_texts.specs.declared.window.Axis.{Axis}
@@ -51,6 +51,10 @@ is_in w i = nat_le w.from i && nat_lt i w.to
 -- the ticks of a window below one
 abbrev pub ticks_in : Window → ℕ → List ℕ
 ticks_in w n = numbers_from w.from (min n w.to - w.from)
+
+-- the ticks of a window below one, as a past shows them
+abbrev pub closed_below : Window → Past → ℕ → List Strip
+closed_below w past n = map (tick_strip past) (ticks_in w n)
 
 -- the columns that are over: the clock is past their tick, or their entry has been
 abbrev pub closed : Axis → Window → Past → List Strip

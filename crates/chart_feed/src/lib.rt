@@ -3,13 +3,20 @@
 
 mod acting;
 mod clocks;
+mod columns;
 mod cpus;
+mod entry_clocks;
 mod finish;
+mod foretell;
 mod look;
 mod loops;
 mod marking;
 mod opening;
+mod panel;
 mod resvs;
+mod rows;
+mod seeing;
 mod tasks;
 mod times;
 mod units;
+mod window_columns;

@@ -34,9 +34,12 @@ pub(crate) fn edges_of(
     clocks: &[u64],
     after: Option<u64>,
 ) -> Result<Vec<Edges>, NoMemory>
-    requires { All (λ c. c < TICK_END) clocks.now }
-    ensures { IfOk result
+    requires first { first < TICK_END + 1 }
+    requires clocks { All (λ c. c < TICK_END) clocks.now }
+    ensures edges { IfOk result
         (λ v. map edges_shown v.items ≡ seen.edges_in first clocks.now after) }
+    ensures low { IfOk result (λ v. All (λ (e : seen_edges.Edges).
+        (e.first < TICK_END + 1) × (e.high < TICK_END + 1)) v.items) }
 {
     let mut edges = Vec::new(alloc);
     let mut begins = first;

@@ -1,6 +1,5 @@
-use Rattle.std.proofs.Common.{◌≡◌, ◌∙◌, ◌<◌, length, ap, arith}
+use Rattle.std.proofs.Common.{◌∙◌, ◌<◌, length, ap, arith}
 use Rattle.std.proofs.lemmas.Result.{on_ok_weaker}
-use Rattle.rt_base.specs.TaskNos.{number_of_task}
 use Rattle.rt_rules.specs.Numbers.{is}
 use Rattle.view_acts.specs.ShownActs.{act_shown}
 use Rattle.chart_feed.specs.Clocks.{arrived, clocks_at, ended}

@@ -1,21 +1,16 @@
-use Rattle.std.proofs.Common.{◌≡◌, ◌∙◌, ◌<◌, ℕ, List, map, length, sym, ap, subst, arith}
+use Rattle.std.proofs.Common.{◌≡◌, ◌∙◌, ◌<◌, ℕ, map, length, ap, subst, arith}
 use Rattle.std.proofs.lemmas.List.{with_items_is}
 use Rattle.std.proofs.lemmas.Simd.{map-map}
 use Rattle.rt_task.specs.declared.Task.{Task}
-use Rattle.rt_model.specs.Group.{Group, task}
-use Rattle.rt_model.specs.Past.{Past, now}
+use Rattle.rt_model.specs.Group.{task}
 use Rattle.rt_model.specs.Releases.{arrivals}
-use Rattle.trace_views.specs.Columns.{Column}
 use Rattle.chart_texts.specs.Charts.{task_row_in}
 use Rattle.chart_cells.specs.Cells.{marked_shown}
-use Rattle.chart_cells.specs.declared.cells.Marked.{Marked}
 use Rattle.chart_feed.specs.Clocks.{ClocksKept}
-use Rattle.chart_feed.specs.Finished.{IsFinished}
-use Rattle.chart_feed.specs.Marked.{edges_shown, marked_in}
+use Rattle.chart_feed.specs.Marked.{marked_in}
 use Rattle.chart_feed.specs.Rows.{TaskKept, ends_in}
 use Rattle.chart_feed.specs.Strips.{strip_of}
-use Rattle.chart_feed.specs.Times as times
-use Rattle.chart_feed.specs.Times.{edges_of, end_clocks}
+use Rattle.chart_feed.specs.Times.{end_clocks}
 use Rattle.chart_feed.proofs.Finishing.{marked-is}
 use Rattle.chart_feed.proofs.Moves.{task-cells}
 use Rattle.chart_feed.proofs.finish.task_row.Goals as goal

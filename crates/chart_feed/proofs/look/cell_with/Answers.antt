@@ -1,4 +1,4 @@
-use Rattle.std.proofs.Common.{◌+◌, ◌∙◌, arith}
+use Rattle.std.proofs.Common.{◌+◌, ◌∙◌}
 use Rattle.std.specs.Prelude.{not}
 use Rattle.trace_views.specs.Cells.{cell_at, same_key}
 use Rattle.chart_cells.specs.Cells.{doing_shown}

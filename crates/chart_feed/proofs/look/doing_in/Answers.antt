@@ -1,4 +1,4 @@
-use Rattle.std.proofs.Common.{◌≡◌, ◌∙◌, ap}
+use Rattle.std.proofs.Common.{◌∙◌, ap}
 use Rattle.rank_afresh.specs.Standing.{group_of}
 use Rattle.chart_feed.specs.Looks.{doing_by, there_by, waiting_by}
 use Rattle.chart_feed.proofs.look.doing_in.Goals as goal

@@ -1,4 +1,4 @@
-use Rattle.std.proofs.Common.{◌≡◌, ◌∙◌, List, ℕ, [], ◌∷◌, ◌++◌, false, map, ap}
+use Rattle.std.proofs.Common.{◌∙◌, List, ℕ, [], ◌∷◌, ◌++◌, false, map, ap}
 use Rattle.trace_views.specs.Cells.{cell_away}
 use Rattle.chart_cells.specs.Kept.{finished}
 use Rattle.chart_feed.specs.Plays.{played_shown}

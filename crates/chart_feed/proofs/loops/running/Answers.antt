@@ -1,4 +1,4 @@
-use Rattle.std.proofs.Common.{◌∙◌, sym, ap, List}
+use Rattle.std.proofs.Common.{◌∙◌, sym, ap}
 use Rattle.rt_base.specs.declared.CpuNo.{CpuNo}
 use Rattle.std.proofs.Common.{Vec, Global}
 use Rattle.chart_feed.proofs.Changed.{running-no, running-yes}

@@ -1,4 +1,4 @@
-use Rattle.std.proofs.Common.{◌≡◌, ◌∙◌, List, [], ◌∷◌, ◌++◌, Bool, false, map, ap}
+use Rattle.std.proofs.Common.{◌≡◌, ◌∙◌, [], ◌∷◌, ◌++◌, Bool, false, map, ap}
 use Rattle.std.proofs.lemmas.List.{map-append}
 use Rattle.trace_views.specs.Cells.{TaskCell, cell_away}
 use Rattle.chart_cells.specs.Cells.{cell_shown, cpu_numbers}
