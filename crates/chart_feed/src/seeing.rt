@@ -35,8 +35,8 @@ pub(crate) fn see_tasks(
     alloc: Global,
     afresh: &Afresh,
 ) -> Result<(), NoMemory>
-    requires tasks { All (λ (k : rows.TaskKept). has k.task (groups.tasks (group_of afresh.now)) ≡ true)
-        tasks.old }
+    requires tasks { All (λ (k : rows.TaskKept).
+        has k.task (groups.tasks (group_of afresh.now)) ≡ true) tasks.old }
     requires at { (past : Past) × IsAt afresh.now past }
     ensures { OnOk result ((past : Past) → IsAt afresh.now past
         → tasks.new ≡ map (rows.task_seen (group_of afresh.now) past) tasks.old) }
