@@ -27,6 +27,11 @@ use Rattle.view_command.specs.declared.ending.ViewEnd.{ViewEnd}
 use Rattle.view_command.specs.declared.ending.ViewEnd.TheVariants.{Ended, NoSuchEntry}
 use Rattle.view_command.specs.declared.views.View.{View}
 
+-- a fact of what came, made another
+pub on-ok : {A E : Type 0} {P Q : A → Type 0} (r : Result A E) → IfOk r P → ((x : A) → P x → Q x) → IfOk r Q
+on-ok (Ok x) h step = step x h
+on-ok (Err e) h step = tt
+
 -- what the plays of a valid trace have of a view is what comes of it
 pub view-said : (tools : List Tool) (v : Version) (p : Parts) (bytes : List ℕ) (view : View) (entries : ℕ) (r : Result (Option (Vec ℕ Global)) NoMemory) → IsValid p
     → (is : IsValidText tools v p bytes entries) → IfOk r (IsTextOf view p is.histories) → IsViewed tools v p bytes view (comes r)
@@ -104,7 +109,7 @@ module _ (tools : List Tool) (view : View) (source : Reading) (sink : Writing) (
     -- all of it was written
     pub view-whole : Extends sink.old.held sink.new.held text → ViewAnswers tools view source sink (Ended ends.Ok)
     view-whole came = record {
-      ok = λ _. record { bytes = bytes; version = v; setup = p; text = text; read = read; view = is; written = came };
+      ok = λ _. record { bytes = bytes; version = v; setup = p; text = text; read = read; shown = is; written = came };
       no_such_entry = λ is. cc;
       invalid = λ line is. cc;
       bad_input = λ b is. cc;
@@ -124,7 +129,7 @@ module _ (tools : List Tool) (view : View) (source : Reading) (sink : Writing) (
       bad_input = λ b is. cc;
       too_long = λ is. cc;
       not_too_long = λ _. few;
-      cut_by_fault = λ _. record { bytes = bytes; version = v; setup = p; text = text; read = read; view = is; written = came };
+      cut_by_fault = λ _. record { bytes = bytes; version = v; setup = p; text = text; read = read; shown = is; written = came };
       no_memory = λ is. cc;
       complete = λ _ sure. absurd (sure.write risen);
     }

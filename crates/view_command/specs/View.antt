@@ -33,7 +33,7 @@ pub record WasViewed (tools : List Tool) (view : View) (source : Reading) (sink 
   pub setup : Parts
   pub text : List ℕ
   pub read : WasTrace source bytes version setup
-  pub view : IsViewOf tools version setup bytes view text
+  pub shown : IsViewOf tools version setup bytes view text
   pub written : Extends sink.old.held sink.new.held text
 
 -- a trace was read, and a first part of the text came
@@ -43,7 +43,7 @@ pub record ViewWasCut (tools : List Tool) (view : View) (source : Reading) (sink
   pub setup : Parts
   pub text : List ℕ
   pub read : WasTrace source bytes version setup
-  pub view : IsViewOf tools version setup bytes view text
+  pub shown : IsViewOf tools version setup bytes view text
   pub written : ExtendsByPrefix sink.old.held sink.new.held text
 
 -- a trace was read, and has no such entry

@@ -1,11 +1,15 @@
 -- The words of a command line, and which view they ask for.
-use Rattle.std.specs.Prelude.{◌≡◌, ℕ, ◌^◌, ◌&&◌, nat_lt, List, [], ◌∷◌, Option, None, Some, if◌then◌else◌}
+use Rattle.std.specs.Prelude.{◌≡◌, ℕ, ◌^◌, ◌<◌, ◌&&◌, nat_lt, List, [], ◌∷◌, Option, None, Some, if◌then◌else◌}
 use Rattle.std.specs.Prelude.{bytes_eq, codes, decimal, string_bytes, String}
 use Rattle.std.specs.Str.Parse.{digits_value}
 use Rattle.std.specs.declared.alloc.Global.{Global}
 use Rattle.view_tables.specs.declared.tables.Table.TheVariants.{Jobs, Tasks}
 use Rattle.view_command.specs.declared.views.View.{View}
 use Rattle.view_command.specs.declared.views.View.TheVariants.{Table, Entry}
+
+-- a word is the decimal text of a number below 2^64
+abbrev pub IsDecimal : List ℕ → ℕ → Type 0
+IsDecimal w n = (w ≡ decimal n) × (n < 2 ^ 64)
 
 -- the number below 2^64 that a word is in decimal, without sign and without leading zeros
 abbrev pub number_said : List ℕ → Option ℕ

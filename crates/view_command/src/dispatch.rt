@@ -54,7 +54,8 @@ fn text_said(alloc: Global, view: View, trace: &Trace) -> Result<Option<Vec<u8>>
     let Ok(engines) = engines_of(alloc, trace) else {
         return Err(NoMemory);
     };
-    text_of(alloc, view, &trace.setup, engines.as_slice())
+    let text = text_of(alloc, view, &trace.setup, engines.as_slice())?;
+    Ok(text)
 }
 
 /// What comes of a trace whose plays have this text of the view, if any.

@@ -1,15 +1,24 @@
 //! The words of a command line, after the program's name.
-ghost use Rattle.std.specs.Prelude.{◌≡◌};
+ghost use Rattle.std.specs.Prelude.{◌≡◌, ◌≢◌, ◌<◌, ◌^◌, ℕ, MatchOption, decimal};
+ghost use Rattle.view_command.specs.Words.{IsDecimal};
 ghost use Rattle.view_command.specs.Words as commands;
 
 use crate::views::View;
 use load_set::number_of;
 use view_tables::Table;
 
+/// The number that a word is in decimal, as it is found.
+fn decimal_in(word: &str) -> Option<u64>
+    ensures { MatchOption result ((n : ℕ) → n < 2 ^ 64 → word.now ≢ decimal n)
+        (λ n. IsDecimal word.now n) }
+{
+    number_of(word)
+}
+
 fn number_in(word: &str) -> Option<u64>
     ensures { result ≡ commands.number_said word.now }
 {
-    number_of(word)
+    decimal_in(word)
 }
 
 fn entry_of(group: Option<u64>, entry: Option<u64>) -> Option<View>

@@ -62,9 +62,11 @@ fn put_trace_line(
     requires group { replays.group_of replay.now ≡ group_of members.now }
     requires noted { (past : Past) × AreNotes (group_of members.now) entry.now.step past noted.now
         × replays.IsAt replay.now (after (group_of members.now) entry.now.step past) }
-    ensures { OnOk result ((past : Past) → AreNotes (group_of members.now) entry.now.step past noted.now
+    ensures { OnOk result ((past : Past)
+        → AreNotes (group_of members.now) entry.now.step past noted.now
         → replays.IsAt replay.now (after (group_of members.now) entry.now.step past)
-        → out.new.items ≡ out.old.items ++ trace_line (group_of members.now) number entry.now past) }
+        → out.new.items
+        ≡ out.old.items ++ trace_line (group_of members.now) number entry.now past) }
 {
     let changed = changed_links(alloc, members, replay, noted.links.as_slice())?;
     let format = Format {
@@ -86,7 +88,8 @@ fn put_ended(
     requires group { replays.group_of replay.now ≡ group_of members.now }
     requires noted { (past : Past) × AreNotes (group_of members.now) entry.now.step past noted.now
         × replays.IsAt replay.now (after (group_of members.now) entry.now.step past) }
-    ensures { OnOk result ((past : Past) → AreNotes (group_of members.now) entry.now.step past noted.now
+    ensures { OnOk result ((past : Past)
+        → AreNotes (group_of members.now) entry.now.step past noted.now
         → replays.IsAt replay.now (after (group_of members.now) entry.now.step past)
         → out.new.items ≡ out.old.items ++ ended_line (group_of members.now)
         (ended (group_of members.now) entry.now.step.cpu.0 entry.now.step.act
@@ -112,7 +115,8 @@ fn put_act_lines(
     requires group { replays.group_of replay.now ≡ group_of members.now }
     requires noted { (past : Past) × AreNotes (group_of members.now) entry.now.step past noted.now
         × replays.IsAt replay.now (after (group_of members.now) entry.now.step past) }
-    ensures { OnOk result ((past : Past) → AreNotes (group_of members.now) entry.now.step past noted.now
+    ensures { OnOk result ((past : Past)
+        → AreNotes (group_of members.now) entry.now.step past noted.now
         → replays.IsAt replay.now (after (group_of members.now) entry.now.step past)
         → out.new.items ≡ out.old.items ++ act_lines (group_of members.now) number entry.now past) }
 {
@@ -146,7 +150,8 @@ fn put_states(
     requires group { replays.group_of replay.now ≡ group_of members.now }
     requires noted { (past : Past) × AreNotes (group_of members.now) entry.now.step past noted.now
         × replays.IsAt replay.now (after (group_of members.now) entry.now.step past) }
-    ensures { OnOk result ((past : Past) → AreNotes (group_of members.now) entry.now.step past noted.now
+    ensures { OnOk result ((past : Past)
+        → AreNotes (group_of members.now) entry.now.step past noted.now
         → replays.IsAt replay.now (after (group_of members.now) entry.now.step past)
         → out.new.items
         ≡ out.old.items ++ states_lines (group_of members.now) entry.now.step past) }
