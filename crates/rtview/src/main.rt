@@ -1,4 +1,4 @@
-//! `rtview`: writes the tables of jobs and tasks of a trace, and explains why a set or a trace is refused.
+//! `rtview`: writes the tables of jobs and tasks of a trace, explains its entries, and says why a set or a trace is refused.
 #![tactic(auto)]
 
 use explain_command::explain;
@@ -7,7 +7,7 @@ use set_input::Program;
 use std::io::{self, BufWriter, Write};
 use std::process::ExitCode;
 use trace_tools::shipped_tools;
-use view_command::{USAGE, view};
+use view_command::{USAGE, ViewEnd, view};
 
 fn is_explain(words: &[String]) -> bool {
     match words {
@@ -17,32 +17,45 @@ fn is_explain(words: &[String]) -> bool {
 }
 
 /// How a run ends whose last bytes could not be written. What is refused has been explained by then.
-fn cut(status: Status) -> Status {
-    match status {
-        Status::Ok | Status::BadInput(_) | Status::Invalid(_) => Status::WriteFault,
+fn cut(end: ViewEnd) -> ViewEnd {
+    match end {
+        ViewEnd::Ended(Status::Ok | Status::BadInput(_) | Status::Invalid(_)) => {
+            ViewEnd::Ended(Status::WriteFault)
+        }
         other => other,
     }
 }
 
 /// Runs the command between standard input and standard output. What a failed flush keeps back is a failed write.
-fn run(rt: &HostRuntime, words: &[String]) -> Status {
+fn run(rt: &HostRuntime, words: &[String]) -> ViewEnd {
     let alloc = rt.alloc();
     let Ok(mut buffer) = BufWriter::new(alloc, io::writer(rt)) else {
-        return Status::NoMemory;
+        return ViewEnd::Ended(Status::NoMemory);
     };
     let Ok(tools) = shipped_tools(alloc) else {
-        return Status::NoMemory;
+        return ViewEnd::Ended(Status::NoMemory);
     };
     let mut src = StdSource::new(rt.reader());
     let mut out = StdSink::new(&mut buffer);
-    let status = if is_explain(words) {
-        explain(alloc, &mut src, &mut out, tools)
+    let end = if is_explain(words) {
+        ViewEnd::Ended(explain(alloc, &mut src, &mut out, tools))
     } else {
         view(alloc, words, &mut src, &mut out, tools)
     };
     match buffer.flush() {
-        Err(_) => cut(status),
-        Ok(()) => status,
+        Err(_) => cut(end),
+        Ok(()) => end,
+    }
+}
+
+/// Says on standard error why a view was not written, and gives the status to exit with.
+fn end_of(rt: &HostRuntime, program: &Program, end: ViewEnd) -> ExitCode {
+    match end {
+        ViewEnd::Ended(status) => program.end(rt, status),
+        ViewEnd::NoSuchEntry => {
+            let _ = eprintln!(rt; "{}: no such entry", program.name);
+            ExitCode::from(end.code())
+        }
     }
 }
 
@@ -52,9 +65,9 @@ fn main(rt: HostRuntime) -> ExitCode {
         version: "0.1.0",
         usage: USAGE,
     };
-    let status = match program.words(&rt) {
+    let end = match program.words(&rt) {
         Ok(words) => run(&rt, words.as_slice()),
-        Err(status) => status,
+        Err(status) => ViewEnd::Ended(status),
     };
-    program.end(&rt, status)
+    end_of(&rt, &program, end)
 }

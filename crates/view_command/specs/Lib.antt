@@ -1,3 +1,6 @@
+pub mod Words
+pub mod Texts
+pub mod Ends
 pub mod View
 pub mod ViewAnswers
 pub mod Viewing

@@ -1,131 +1,170 @@
-//! The top call: the tables of a trace.
-ghost use Rattle.std.specs.Prelude.{◌≡◌, ◌≢◌, List, map, MatchResult};
+//! The top call: a view of a trace.
+ghost use Rattle.std.specs.Prelude.{◌≡◌, ◌≢◌, List, map, IfOk, Some};
 ghost use Rattle.rt_history.specs.declared.Entry.{Entry};
 ghost use Rattle.rt_task.specs.Validity.{IsValid};
 ghost use Rattle.rt_fault.specs.Faults.{HasRisen};
 ghost use Rattle.trace_read.specs.Lines.{lines_of};
 ghost use Rattle.trace_read.specs.Reads.{IsTraceOf};
+ghost use Rattle.trace_text.specs.Groups.{AreGroupsOf, histories};
 ghost use Rattle.trace_upgrade.specs.Said.{SaysPlays};
-ghost use Rattle.view_tables.specs.Texts as texts;
 ghost use Rattle.set_input.specs.Ends.{reading, writing};
-ghost use Rattle.view_command.specs.View as commands;
 ghost use Rattle.view_command.specs.ViewAnswers.{ViewAnswers};
-ghost use Rattle.view_command.specs.Viewing.{IsViewed};
+ghost use Rattle.view_command.specs.Viewing.{IsTextOf, IsViewed, comes};
+ghost use Rattle.view_command.specs.Words as commands;
 
-use crate::words::table_of;
+use crate::ending::ViewEnd;
+use crate::views::View;
+use crate::words::view_of;
+use group_engine::Engine;
+use rt_base::NoMemory;
 use rt_fault::{Sink, Source, Status, put_all};
+use rt_task::Setup;
 use sim_commands::read_trace_input;
 use std::alloc::Global;
 use trace_check::{Verdict, check_trace};
 use trace_read::Trace;
 use trace_tools::{Bus, TraceTool};
 use trace_upgrade::engines_of;
-use view_tables::{Table, table_text};
+use view_tables::table_text;
+use view_why::why_text;
 
-/// The text of a table of a trace that was read of the text of plays.
-fn text_said(alloc: Global, table: Table, trace: &Trace) -> Result<Vec<u8>, Status>
+/// The text of a view of a setup and the histories of its groups; none where there is no such group or entry.
+fn text_of(
+    alloc: Global,
+    view: View,
+    setup: &Setup,
+    groups: &[Engine],
+) -> Result<Option<Vec<u8>>, NoMemory>
+    requires { AreGroupsOf setup.now groups.now }
+    ensures { IfOk result (IsTextOf view setup.now (histories groups.now)) }
+{
+    let text = match view {
+        View::Table(table) => table_text(alloc, table, setup, groups)?,
+        View::Entry(group, entry) => return why_text(alloc, group, entry, setup, groups),
+    };
+    Ok(Some(text))
+}
+
+/// The text of a view of a trace that was read of the text of plays.
+fn text_said(alloc: Global, view: View, trace: &Trace) -> Result<Option<Vec<u8>>, NoMemory>
     requires { (hs : List (List Entry)) × SaysPlays trace.now hs }
-    ensures { (hs : List (List Entry)) → SaysPlays trace.now hs → MatchResult result
-        (λ v. v.items ≡ texts.table_text table trace.now.setup hs) (λ e. e ≡ Status.NoMemory) }
+    ensures { IfOk result (λ o. (hs : List (List Entry)) → SaysPlays trace.now hs
+        → IsTextOf view trace.now.setup hs o) }
 {
     let Ok(engines) = engines_of(alloc, trace) else {
-        return Err(Status::NoMemory);
+        return Err(NoMemory);
     };
-    match table_text(alloc, table, &trace.setup, engines.as_slice()) {
-        Ok(text) => Ok(text),
-        Err(_) => Err(Status::NoMemory),
+    let text = text_of(alloc, view, &trace.setup, engines.as_slice())?;
+    Ok(text)
+}
+
+/// What comes of a trace whose plays have this text of the view, if any.
+fn there(text: Result<Option<Vec<u8>>, NoMemory>) -> Result<Vec<u8>, ViewEnd>
+    ensures { result ≡ comes text }
+{
+    match text {
+        Ok(Some(text)) => Ok(text),
+        Ok(None) => Err(ViewEnd::NoSuchEntry),
+        Err(_) => Err(ViewEnd::Ended(Status::NoMemory)),
     }
 }
 
-/// The text of a table of the trace that was read of these bytes, where it is valid.
-fn text_of<T: TraceTool>(
+/// The text of a view of the trace that was read of these bytes, where it is valid.
+fn text_in<T: TraceTool>(
     alloc: Global,
-    table: Table,
+    view: View,
     bytes: &[u8],
     trace: &Trace,
     tools: Vec<T>,
-) -> Result<Vec<u8>, Status>
+) -> Result<Vec<u8>, ViewEnd>
     requires trace { IsTraceOf bytes.now trace.now.version trace.now.setup
         (lines_of trace.now.lines) trace.now.stop }
     requires valid { IsValid trace.now.setup }
     ensures { IsViewed (map T.tool tools.items) trace.now.version trace.now.setup
-        bytes.now table result }
+        bytes.now view result }
 {
     let Ok(mut bus) = Bus::open(alloc, tools) else {
-        return Err(Status::NoMemory);
+        return Err(ViewEnd::Ended(Status::NoMemory));
     };
     match check_trace(alloc, bytes, trace, &mut bus) {
-        Ok(Verdict::Valid(_)) => text_said(alloc, table, trace),
-        Ok(Verdict::Invalid(line)) => Err(Status::Invalid(line)),
-        Err(_) => Err(Status::NoMemory),
+        Ok(Verdict::Valid(_)) => there(text_said(alloc, view, trace)),
+        Ok(Verdict::Invalid(line)) => Err(ViewEnd::Ended(Status::Invalid(line))),
+        Err(_) => Err(ViewEnd::Ended(Status::NoMemory)),
     }
 }
 
-/// Reads a trace, and where it is valid for its set, writes this table of it.
-fn view_table<T: TraceTool, S: Source, K: Sink>(
+/// Reads a trace, and where it is valid for its set, writes this view of it.
+fn write_view<T: TraceTool, S: Source, K: Sink>(
     alloc: Global,
-    table: Table,
+    view: View,
     src: &mut S,
     out: &mut K,
     tools: Vec<T>,
-) -> Status
-    ensures answers { ViewAnswers (map T.tool tools.items) table
+) -> ViewEnd
+    ensures answers { ViewAnswers (map T.tool tools.items) view
         (reading S.left S.faults src.old src.new) (writing K.held K.faults out.old out.new) result }
-    ensures unwritten { result ≢ Status.Ok → result ≢ Status.WriteFault → out.new ≡ out.old }
-    ensures read_fault { result ≡ Status.ReadFault →
+    ensures unwritten { result ≢ ViewEnd.Ended Status.Ok → result ≢ ViewEnd.Ended Status.WriteFault
+        → out.new ≡ out.old }
+    ensures read_fault { result ≡ ViewEnd.Ended Status.ReadFault →
         HasRisen (S.faults src.old) (S.faults src.new) }
-    ensures no_read_fault { result ≢ Status.ReadFault → S.faults src.new ≡ S.faults src.old }
-    ensures write_fault { result ≡ Status.WriteFault →
+    ensures no_read_fault { result ≢ ViewEnd.Ended Status.ReadFault
+        → S.faults src.new ≡ S.faults src.old }
+    ensures write_fault { result ≡ ViewEnd.Ended Status.WriteFault →
         HasRisen (K.faults out.old) (K.faults out.new) }
-    ensures no_write_fault { result ≢ Status.WriteFault → K.faults out.new ≡ K.faults out.old }
-    ensures not_usage { result ≢ Status.Usage }
+    ensures no_write_fault { result ≢ ViewEnd.Ended Status.WriteFault
+        → K.faults out.new ≡ K.faults out.old }
+    ensures not_usage { result ≢ ViewEnd.Ended Status.Usage }
 {
     let (bytes, trace) = match read_trace_input(alloc, src) {
         Ok(input) => input,
-        Err(status) => return status,
+        Err(status) => return ViewEnd::Ended(status),
     };
-    let text = match text_of(alloc, table, bytes.as_slice(), &trace, tools) {
+    let text = match text_in(alloc, view, bytes.as_slice(), &trace, tools) {
         Ok(text) => text,
-        Err(status) => return status,
+        Err(end) => return end,
     };
     if put_all(out, text.as_slice()).is_err() {
-        return Status::WriteFault;
+        return ViewEnd::Ended(Status::WriteFault);
     }
-    Status::Ok
+    ViewEnd::Ended(Status::Ok)
 }
 
 /// Runs the command that the words name, those after the program's name.
 ///
-/// `jobs` and `tasks` read a trace of either format, and where it is valid write the table of jobs or of tasks as lines of fields
-/// with commas. Whatever else is answered but that a write failed, nothing is written.
+/// Each reads a trace of either format, and where it is valid writes a view of it: `jobs` and `tasks` a table of jobs or of tasks
+/// as lines of fields with commas; `why N` and `why G N` entry N of group G, 0 where it is left out, explained. Whatever else is
+/// answered but that a write failed, nothing is written.
 pub fn view<S: Source, K: Sink, T: TraceTool>(
     alloc: Global,
     words: &[String],
     src: &mut S,
     out: &mut K,
     tools: Vec<T>,
-) -> Status
+) -> ViewEnd
     // Usage is the answer exactly where the words are no command, and then nothing is read or written.
-    ensures usage { commands.IsNoCommand words.now → result ≡ Status.Usage }
-    ensures no_command { result ≡ Status.Usage → commands.IsNoCommand words.now }
-    ensures unread { result ≡ Status.Usage → src.new ≡ src.old }
-    ensures unwritten { result ≢ Status.Ok → result ≢ Status.WriteFault → out.new ≡ out.old }
+    ensures usage { commands.IsNoCommand words.now → result ≡ ViewEnd.Ended Status.Usage }
+    ensures no_command { result ≡ ViewEnd.Ended Status.Usage → commands.IsNoCommand words.now }
+    ensures unread { result ≡ ViewEnd.Ended Status.Usage → src.new ≡ src.old }
+    ensures unwritten { result ≢ ViewEnd.Ended Status.Ok → result ≢ ViewEnd.Ended Status.WriteFault
+        → out.new ≡ out.old }
 
     // A fault is answered exactly where a read or a write of this call failed.
-    ensures read_fault { result ≡ Status.ReadFault →
+    ensures read_fault { result ≡ ViewEnd.Ended Status.ReadFault →
         HasRisen (S.faults src.old) (S.faults src.new) }
-    ensures no_read_fault { result ≢ Status.ReadFault → S.faults src.new ≡ S.faults src.old }
-    ensures write_fault { result ≡ Status.WriteFault →
+    ensures no_read_fault { result ≢ ViewEnd.Ended Status.ReadFault
+        → S.faults src.new ≡ S.faults src.old }
+    ensures write_fault { result ≡ ViewEnd.Ended Status.WriteFault →
         HasRisen (K.faults out.old) (K.faults out.new) }
-    ensures no_write_fault { result ≢ Status.WriteFault → K.faults out.new ≡ K.faults out.old }
+    ensures no_write_fault { result ≢ ViewEnd.Ended Status.WriteFault
+        → K.faults out.new ≡ K.faults out.old }
 
     // What each command answers, and what it read and wrote.
-    ensures view { (table : Table) → commands.Names words.now table
-        → ViewAnswers (map T.tool tools.items) table
+    ensures view { (view : View) → commands.Names words.now view
+        → ViewAnswers (map T.tool tools.items) view
         (reading S.left S.faults src.old src.new) (writing K.held K.faults out.old out.new) result }
 {
-    match table_of(words) {
-        Some(table) => view_table(alloc, table, src, out, tools),
-        None => Status::Usage,
+    match view_of(words) {
+        Some(view) => write_view(alloc, view, src, out, tools),
+        None => ViewEnd::Ended(Status::Usage),
     }
 }

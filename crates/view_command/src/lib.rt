@@ -1,10 +1,15 @@
-//! The commands of `rtview`: the tables of jobs and tasks of a trace.
+//! The commands of `rtview`: views of a trace.
 #![tactic(auto)]
 
 mod dispatch;
+mod ending;
+mod views;
 mod words;
 
 pub use dispatch::view;
+pub use ending::ViewEnd;
+pub use views::View;
 
 /// The words that are commands, as they are said.
-pub const USAGE: &str = "usage: rtview jobs, rtview tasks, rtview explain";
+pub const USAGE: &str =
+    "usage: rtview svg, rtview svg FROM TO, rtview svg entries, rtview svg entries FROM TO, the same of text, rtview events, rtview jobs, rtview tasks, rtview why N, rtview why G N";

@@ -1,0 +1,16 @@
+-- How views end.
+use Rattle.std.specs.Prelude.{ℕ, ⊤}
+use Rattle.rt_fault.specs.StatusCode.{code_of}
+use Rattle.set_input.specs.Answers as answers
+use Rattle.view_command.specs.declared.ending.ViewEnd.{ViewEnd}
+use Rattle.view_command.specs.declared.ending.ViewEnd.TheVariants.{Ended, NoSuchEntry}
+
+-- the exit status of the program
+abbrev pub exit_code_of : ViewEnd → ℕ
+exit_code_of (Ended status) = code_of status
+exit_code_of NoSuchEntry = 8
+
+-- the trace was viewed, or has no such entry, unless memory ran out
+abbrev pub IsWell : ViewEnd → Type 0
+IsWell (Ended status) = answers.IsWell status
+IsWell NoSuchEntry = ⊤
