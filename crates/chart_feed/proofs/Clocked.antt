@@ -7,7 +7,7 @@ use Rattle.rt_rules.specs.Numbers.{numbers_from}
 use Rattle.chart_texts.specs.declared.window.Window.{Window}
 use Rattle.chart_texts.specs.Windows.{cut}
 use Rattle.chart_feed.specs.EntryClocks.{EntriesKept, clocks_in, first_at}
-use Rattle.chart_feed.specs.Strips.{is_in}
+use Rattle.chart_feed.specs.WindowStrips.{is_in}
 use Rattle.chart_feed.proofs.Entries.{cut-inside, cut-outside}
 
 none-behind : (first n : ℕ) → first_at first n [] ≡ first

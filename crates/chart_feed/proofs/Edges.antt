@@ -20,7 +20,7 @@ use Rattle.chart_texts.specs.declared.window.Window.{Window}
 use Rattle.chart_texts.specs.Windows.{columns_in, columns_on, cut}
 use Rattle.chart_feed.specs.EntryClocks.{entry_clocks, first_at}
 use Rattle.chart_feed.specs.Finished.{AreTimed, EndsInAct, IsTimed}
-use Rattle.chart_feed.specs.Strips.{entries_of, ticks_in}
+use Rattle.chart_feed.specs.WindowStrips.{entries_of, ticks_in}
 use Rattle.chart_feed.specs.Times.{Edges, edges_in, edges_of, end_clocks, next_in, up_to}
 use Rattle.chart_feed.proofs.Entries.{entries-acted, entries-clocked}
 use Rattle.chart_feed.proofs.MarkLaws.{IsRising, one_if, rest-rising, up_to-cons}

@@ -10,7 +10,8 @@ use Rattle.trace_views.specs.Moments.{moments}
 use Rattle.chart_texts.specs.declared.window.Axis.TheVariants.{Entries}
 use Rattle.chart_texts.specs.declared.window.Window.{Window}
 use Rattle.chart_texts.specs.Windows.{columns_in, columns_on, cut}
-use Rattle.chart_feed.specs.Strips.{entries_of, entry_strip, is_in, strip_of}
+use Rattle.chart_rows.specs.Strips.{strip_of}
+use Rattle.chart_feed.specs.WindowStrips.{entries_of, entry_strip, is_in}
 use Rattle.chart_feed.proofs.Ticks.{map-cut}
 
 -- ---- the states after entries

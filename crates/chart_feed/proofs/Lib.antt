@@ -1,15 +1,10 @@
 pub mod Ticks
 pub mod Entries
-pub mod RowLaws
 pub mod MarkLaws
 pub mod Edges
-pub mod Changed
-pub mod Looks
 pub mod Moves
 pub mod Noted
-pub mod RowParts
 pub mod Finishing
-pub mod Foretelling
 pub mod Stepping
 pub mod Clocked
 pub mod Paneled

@@ -12,7 +12,7 @@ use Rattle.chart_texts.specs.declared.window.Axis.TheVariants.{Entries, Ticks}
 use Rattle.chart_texts.specs.declared.window.Window.{Window}
 use Rattle.chart_texts.specs.Windows.{columns_in, columns_on, cut}
 use Rattle.chart_feed.specs.EntryClocks.{entry_clocks}
-use Rattle.chart_feed.specs.Strips.{entries_of, ticks_in}
+use Rattle.chart_feed.specs.WindowStrips.{entries_of, ticks_in}
 use Rattle.chart_feed.proofs.Edges.{clocks-low}
 use Rattle.chart_feed.proofs.Ticks.{columns-ticks, cut-ticks, map-cut}
 

@@ -12,10 +12,11 @@ use Rattle.chart_texts.specs.declared.window.Window.{Window}
 use Rattle.chart_texts.specs.Windows.{columns_in}
 use Rattle.rank_afresh.specs.Standing.{Standing, group_of}
 use Rattle.chart_feed.specs.Stands.{HasRows}
-use Rattle.chart_feed.specs.Rows.{RowsKept, rows_acted, rows_closed, rows_of, rows_seen}
-use Rattle.chart_feed.specs.Strips.{blank, closed, closed_below, done, entry_strip, is_in, open_at, open_moved, open_turned, place, seen, strip_of, tick_strip}
+use Rattle.chart_rows.specs.Rows.{RowsKept, rows_acted, rows_closed, rows_of, rows_seen}
+use Rattle.chart_rows.specs.Strips.{blank, done, seen, strip_of}
+use Rattle.chart_feed.specs.WindowStrips.{closed, closed_below, entry_strip, is_in, open_at, open_moved, open_turned, place, tick_strip}
 use Rattle.chart_feed.proofs.Moves.{acted-entries, acted-open, acted-outside, acted-ticks, below-beyond, below-more, below-same, ended-entries, ended-ticks, gap-more, moved-ticks, turned-entries, turned-ticks}
-use Rattle.chart_feed.proofs.RowLaws.{acted-rows, closed-rows, seen-rows}
+use Rattle.chart_rows.proofs.RowLaws.{acted-rows, closed-rows, seen-rows}
 use Rattle.chart_feed.proofs.Ticks.{newest-strip}
 
 -- ---- at opening

@@ -11,7 +11,8 @@ use Rattle.trace_views.specs.Moments.{acts_among, at_tick, moments, own}
 use Rattle.chart_texts.specs.declared.window.Axis.TheVariants.{Ticks}
 use Rattle.chart_texts.specs.declared.window.Window.{Window}
 use Rattle.chart_texts.specs.Windows.{columns_in, columns_on, cut}
-use Rattle.chart_feed.specs.Strips.{blank, done, is_in, seen, tick_strip, ticks_in}
+use Rattle.chart_rows.specs.Strips.{blank, done, seen}
+use Rattle.chart_feed.specs.WindowStrips.{is_in, tick_strip, ticks_in}
 
 -- ---- the clock never falls
 

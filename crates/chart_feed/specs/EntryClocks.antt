@@ -3,7 +3,7 @@ use Rattle.std.specs.Prelude.{ℕ, zero, suc, List, [], ◌∷◌, length, map, 
 use Rattle.rt_model.specs.Past.{Past, now}
 use Rattle.chart_texts.specs.declared.window.Window.{Window}
 use Rattle.chart_texts.specs.Windows.{cut}
-use Rattle.chart_feed.specs.Strips.{entries_of}
+use Rattle.chart_feed.specs.WindowStrips.{entries_of}
 
 -- the oldest first
 abbrev pub entry_clocks : Past → List ℕ

@@ -6,8 +6,8 @@ use Rattle.rt_model.specs.Group.{Group}
 use Rattle.rt_model.specs.Past.{Acted, Clock, Past, now}
 use Rattle.trace_views.specs.Columns.{Column}
 use Rattle.chart_feed.specs.Clocks.{ClocksKept, clocks_of}
-use Rattle.chart_feed.specs.Rows.{TaskKept, task_kept}
-use Rattle.chart_feed.specs.Strips.{blank, strip_of}
+use Rattle.chart_rows.specs.Rows.{TaskKept, task_kept}
+use Rattle.chart_rows.specs.Strips.{blank, strip_of}
 use Rattle.chart_feed.specs.Times.{Edges, edges_of, end_clocks, up_to}
 
 -- no job ends at a clock after the column's last one and before the next column; and either that has begun, or the column is the last

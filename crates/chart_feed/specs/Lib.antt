@@ -1,14 +1,8 @@
-pub mod Strips
-pub mod Rows
+pub mod WindowStrips
 pub mod Times
-pub mod Units
-pub mod Plays
-pub mod Looks
 pub mod Marked
 pub mod Clocks
 pub mod Finished
-pub mod Listed
-pub mod Foretold
 pub mod EntryClocks
 pub mod Stands
 pub mod Panels

@@ -4,8 +4,8 @@ use Rattle.rt_base.specs.declared.TheConstants.{TICK_END}
 use Rattle.rt_model.specs.Group.{Group}
 use Rattle.trace_views.specs.Columns.{Column}
 use Rattle.chart_feed.specs.Marked.{edges_shown}
-use Rattle.chart_feed.specs.Rows.{CpuKept, ResvKept, cpu_kept, resv_kept}
-use Rattle.chart_feed.specs.Strips.{blank, strip_of}
+use Rattle.chart_rows.specs.Rows.{CpuKept, ResvKept, cpu_kept, resv_kept}
+use Rattle.chart_rows.specs.Strips.{blank, strip_of}
 use Rattle.chart_feed.specs.Times.{edges_of}
 use Rattle.chart_feed.specs.declared.window_columns.Columns.{Columns}
 use Rattle.chart_feed.specs.declared.times.Edges.{Edges}

@@ -4,10 +4,11 @@ use Rattle.rt_model.specs.Past.{Acted, Clock, Past, PastAct, now}
 use Rattle.rank_afresh.specs.Standing.{IsAt, Standing, group_of}
 use Rattle.chart_texts.specs.declared.window.Axis.{Axis}
 use Rattle.chart_texts.specs.declared.window.Window.{Window}
-use Rattle.chart_feed.specs.Rows.{RowsKept, rows_of}
-use Rattle.chart_feed.specs.Strips.{Strip, closed, is_in, open_moved, open_turned, place}
-use Rattle.chart_feed.specs.Units.{IsTold}
-use Rattle.chart_feed.specs.declared.units.Unit.{Unit}
+use Rattle.chart_rows.specs.Rows.{RowsKept, rows_of}
+use Rattle.chart_rows.specs.Strips.{Strip}
+use Rattle.chart_feed.specs.WindowStrips.{closed, is_in, open_moved, open_turned, place}
+use Rattle.chart_rows.specs.Units.{IsTold}
+use Rattle.chart_rows.specs.declared.units.Unit.{Unit}
 
 -- it stands at this past and clock, and the rows are of columns that are over and of one that goes on
 pub record HasRows (v : Standing) (past : Past) (clock : ℕ) (over : List Strip) (going : Strip) (rows : RowsKept) : Type 0 where

@@ -7,7 +7,7 @@ ghost use Rattle.view_acts.specs.ShownActs.{act_shown};
 ghost use Rattle.chart_feed.specs.Clocks as kept;
 ghost use Rattle.chart_feed.specs.Clocks.{Keeps, clocks_at};
 
-use crate::units::is_accepted;
+use chart_rows::is_accepted;
 use rt_base::{NoMemory, TaskNo};
 use rt_history::Reply;
 use rt_task::Act;

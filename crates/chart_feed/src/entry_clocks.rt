@@ -3,7 +3,7 @@ ghost use Rattle.std.specs.Prelude.{◌≡◌, ◌+◌, ◌-◌, ◌^◌, ◌<�
 ghost use Rattle.rt_base.specs.declared.TheConstants.{TICK_END};
 ghost use Rattle.rt_rules.specs.Numbers.{numbers_from};
 ghost use Rattle.chart_feed.specs.EntryClocks.{clocks_in};
-ghost use Rattle.chart_feed.specs.Strips.{is_in};
+ghost use Rattle.chart_feed.specs.WindowStrips.{is_in};
 
 use chart_texts::Window;
 use rt_base::NoMemory;

@@ -9,14 +9,14 @@ ghost use Rattle.chart_cells.specs.Charts.{cpu_row_shown, resv_row_shown, task_r
 ghost use Rattle.chart_feed.specs.declared.times.Edges as seen_edges;
 ghost use Rattle.chart_feed.specs.Finished.{IsFinished};
 ghost use Rattle.chart_feed.specs.Marked.{edges_shown};
-ghost use Rattle.chart_feed.specs.Rows.{cpu_kept, resv_kept, task_kept};
-ghost use Rattle.chart_feed.specs.Strips.{blank, strip_of};
+ghost use Rattle.chart_rows.specs.Rows.{cpu_kept, resv_kept, task_kept};
+ghost use Rattle.chart_rows.specs.Strips.{blank, strip_of};
 
 use crate::clocks::TaskClocks;
-use crate::cpus::CpuFeed;
+use chart_rows::CpuFeed;
 use crate::marking::set_marks;
-use crate::resvs::ResvFeed;
-use crate::tasks::TaskFeed;
+use chart_rows::ResvFeed;
+use chart_rows::TaskFeed;
 use crate::times::Edges;
 use chart_cells::{CpuRow, ResvRow, TaskRow};
 use rt_task::Task;

@@ -5,11 +5,11 @@ ghost use Rattle.trace_views.specs.Columns.{Column};
 ghost use Rattle.chart_cells.specs.Charts.{cpu_row_shown, resv_row_shown};
 ghost use Rattle.chart_texts.specs.Charts.{cpu_row_in, resv_row_in};
 ghost use Rattle.chart_feed.specs.Panels.{IsCpuRow, IsResvRow};
-ghost use Rattle.chart_feed.specs.Rows.{CpuKept, ResvKept};
+ghost use Rattle.chart_rows.specs.Rows.{CpuKept, ResvKept};
 
-use crate::cpus::CpuFeed;
+use chart_rows::CpuFeed;
 use crate::finish::{cpu_row, resv_row};
-use crate::resvs::ResvFeed;
+use chart_rows::ResvFeed;
 use chart_cells::{CpuRow, ResvRow};
 use rt_base::NoMemory;
 use std::alloc::Global;

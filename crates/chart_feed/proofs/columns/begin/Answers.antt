@@ -2,8 +2,8 @@ use Rattle.std.proofs.Common.{◌≡◌, ◌∙◌, [], ap, subst, sym}
 use Rattle.std.specs.Prelude.{OnOk}
 use Rattle.rank_afresh.specs.Standing.{group_of}
 use Rattle.chart_texts.specs.declared.window.Axis.{Axis}
-use Rattle.chart_feed.specs.Rows.{rows_of}
-use Rattle.chart_feed.specs.Strips.{closed, open_at}
+use Rattle.chart_rows.specs.Rows.{rows_of}
+use Rattle.chart_feed.specs.WindowStrips.{closed, open_at}
 use Rattle.chart_feed.proofs.Stepping.{begun-entries}
 use Rattle.chart_feed.proofs.columns.begin.Goals as goal
 

@@ -3,9 +3,10 @@ use Rattle.std.proofs.lemmas.Result.{on_ok_weaker}
 use Rattle.rank_afresh.specs.Standing.{group_of}
 use Rattle.chart_texts.specs.declared.window.Axis.{Axis}
 use Rattle.chart_texts.specs.Windows.{columns_in}
-use Rattle.chart_feed.specs.Rows.{rows_of}
+use Rattle.chart_rows.specs.Rows.{rows_of}
 use Rattle.chart_feed.specs.Stands.{HasRows}
-use Rattle.chart_feed.specs.Strips.{blank, closed, open_at, strip_of}
+use Rattle.chart_rows.specs.Strips.{blank, strip_of}
+use Rattle.chart_feed.specs.WindowStrips.{closed, open_at}
 use Rattle.chart_feed.proofs.Stepping.{finished-entries, finished-ticks}
 use Rattle.chart_feed.proofs.columns.end.Goals as goal
 

@@ -1,6 +1,6 @@
 use Rattle.std.proofs.Common.{◌∙◌, sym}
 use Rattle.rank_afresh.specs.Standing.{group_of}
-use Rattle.chart_feed.proofs.RowParts.{rows-listed}
+use Rattle.chart_rows.proofs.RowParts.{rows-listed}
 use Rattle.chart_feed.proofs.Stepping.{ended-inside, ended-outside}
 use Rattle.chart_feed.proofs.columns.end_tick.Goals as goal
 

@@ -1,10 +1,11 @@
 use Rattle.std.proofs.Common.{◌∙◌, ◌<◌, ap, subst}
 use Rattle.std.proofs.lemmas.Result.{on_ok_weaker}
 use Rattle.rank_afresh.specs.Standing.{group_of}
-use Rattle.chart_feed.specs.Rows.{rows_closed, rows_seen}
-use Rattle.chart_feed.specs.Strips.{blank, closed_below}
-use Rattle.chart_feed.proofs.RowLaws.{seen-rows}
-use Rattle.chart_feed.proofs.RowParts.{rows-listed}
+use Rattle.chart_rows.specs.Rows.{rows_closed, rows_seen}
+use Rattle.chart_rows.specs.Strips.{blank}
+use Rattle.chart_feed.specs.WindowStrips.{closed_below}
+use Rattle.chart_rows.proofs.RowLaws.{seen-rows}
+use Rattle.chart_rows.proofs.RowParts.{rows-listed}
 use Rattle.chart_feed.proofs.Stepping.{passed}
 use Rattle.chart_feed.proofs.columns.pass_tick.Goals as goal
 

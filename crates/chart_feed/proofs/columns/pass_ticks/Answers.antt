@@ -1,6 +1,6 @@
 use Rattle.std.proofs.Common.{◌≡◌, ◌<◌, ◌-◌, true, min, arith}
 use Rattle.std.proofs.lemmas.Bool.Decides.{nat_tests}
-use Rattle.chart_feed.specs.Strips.{is_in}
+use Rattle.chart_feed.specs.WindowStrips.{is_in}
 use Rattle.chart_feed.proofs.Stepping.{skipped-rows}
 use Rattle.chart_feed.proofs.columns.pass_ticks.Goals as goal
 

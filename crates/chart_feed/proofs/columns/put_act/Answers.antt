@@ -5,9 +5,9 @@ use Rattle.rank_afresh.specs.Standing.{group_of}
 use Rattle.trace_views.specs.Moments.{Moment}
 use Rattle.chart_texts.specs.declared.window.Axis.{Axis}
 use Rattle.view_acts.specs.ShownActs.{act_shown}
-use Rattle.chart_feed.specs.Rows.{rows_acted, rows_closed, rows_seen}
-use Rattle.chart_feed.proofs.RowLaws.{acted-rows}
-use Rattle.chart_feed.proofs.RowParts.{rows-listed}
+use Rattle.chart_rows.specs.Rows.{rows_acted, rows_closed, rows_seen}
+use Rattle.chart_rows.proofs.RowLaws.{acted-rows}
+use Rattle.chart_rows.proofs.RowParts.{rows-listed}
 use Rattle.chart_feed.proofs.Stepping.{acted-by, after_act, taken}
 use Rattle.chart_feed.proofs.columns.put_act.Goals as goal
 

@@ -1,7 +1,7 @@
 use Rattle.std.proofs.Common.{◌∙◌, ◌∷◌, sym}
 use Rattle.rt_model.specs.Past.{Clock}
 use Rattle.rank_afresh.specs.Standing.{group_of}
-use Rattle.chart_feed.proofs.RowParts.{rows-listed}
+use Rattle.chart_rows.proofs.RowParts.{rows-listed}
 use Rattle.chart_feed.proofs.Stepping.{moved-inside, moved-outside}
 use Rattle.chart_feed.proofs.columns.take_state.Goals as goal
 

@@ -1,6 +1,6 @@
 use Rattle.std.proofs.Common.{◌∙◌, ap}
 use Rattle.chart_texts.specs.Charts.{cpu_row_in}
-use Rattle.chart_feed.specs.Rows.{CpuKept}
+use Rattle.chart_rows.specs.Rows.{CpuKept}
 use Rattle.chart_feed.proofs.Moves.{cpu-cells}
 use Rattle.chart_feed.proofs.finish.cpu_row.Goals as goal
 

@@ -1,6 +1,6 @@
 use Rattle.std.proofs.Common.{◌∙◌, ap}
 use Rattle.chart_texts.specs.Charts.{resv_row_in}
-use Rattle.chart_feed.specs.Rows.{ResvKept}
+use Rattle.chart_rows.specs.Rows.{ResvKept}
 use Rattle.chart_feed.proofs.Moves.{resv-cells}
 use Rattle.chart_feed.proofs.finish.resv_row.Goals as goal
 

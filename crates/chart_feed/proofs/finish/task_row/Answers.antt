@@ -8,8 +8,8 @@ use Rattle.chart_texts.specs.Charts.{task_row_in}
 use Rattle.chart_cells.specs.Cells.{marked_shown}
 use Rattle.chart_feed.specs.Clocks.{ClocksKept}
 use Rattle.chart_feed.specs.Marked.{marked_in}
-use Rattle.chart_feed.specs.Rows.{TaskKept, ends_in}
-use Rattle.chart_feed.specs.Strips.{strip_of}
+use Rattle.chart_rows.specs.Rows.{TaskKept, ends_in}
+use Rattle.chart_rows.specs.Strips.{strip_of}
 use Rattle.chart_feed.specs.Times.{end_clocks}
 use Rattle.chart_feed.proofs.Finishing.{marked-is}
 use Rattle.chart_feed.proofs.Moves.{task-cells}

@@ -1,7 +1,7 @@
 use Rattle.std.proofs.Common.{◌∙◌, ◌<◌, ◌≤◌, All, ap, arith, subst, sym}
 use Rattle.rt_base.specs.declared.TheConstants.{TICK_END}
 use Rattle.chart_feed.specs.EntryClocks.{EntriesKept, entry_clocks, first_at}
-use Rattle.chart_feed.specs.Strips.{ticks_in}
+use Rattle.chart_feed.specs.WindowStrips.{ticks_in}
 use Rattle.chart_feed.specs.Times.{edges_in}
 use Rattle.chart_feed.proofs.Clocked.{after-window, first-low}
 use Rattle.chart_feed.proofs.Edges.{edges-entries}

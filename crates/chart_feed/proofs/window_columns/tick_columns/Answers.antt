@@ -1,7 +1,7 @@
 use Rattle.std.proofs.Common.{◌≡◌, ◌∙◌, ◌+◌, ◌<◌, ◌≤◌, All, None, ap, arith, subst, suc, sym}
 use Rattle.rt_base.specs.declared.TheConstants.{TICK_END}
 use Rattle.rt_model.specs.Past.{now}
-use Rattle.chart_feed.specs.Strips.{ticks_in}
+use Rattle.chart_feed.specs.WindowStrips.{ticks_in}
 use Rattle.chart_feed.specs.Times.{edges_in}
 use Rattle.chart_feed.proofs.Edges.{edges-ticks}
 use Rattle.chart_feed.proofs.Paneled.{tick-clocks, tick-labels, ticks-low}

@@ -1,0 +1,235 @@
+//! What a chart shows of a group, gathered while the group's steps are taken again.
+ghost use Rattle.std.specs.Prelude.{◌≡◌, ◌+◌, ◌<◌, ◌≤◌, ◌×◌, ◌∷◌, [], ℕ, IfOk, OnOk, length};
+ghost use Rattle.rt_base.specs.TaskNos.{numbers};
+ghost use Rattle.rt_base.specs.declared.TheConstants.{TICK_END};
+ghost use Rattle.rt_task.specs.Validity.{IsValid};
+ghost use Rattle.rt_model.specs.Group as groups;
+ghost use Rattle.rt_model.specs.Group.{Group};
+ghost use Rattle.rt_model.specs.Past.{Acted, Clock, Past};
+ghost use Rattle.rt_model.specs.Past as pasts;
+ghost use Rattle.rt_plays.specs.Homes.{IsProcessorOf};
+ghost use Rattle.rank_afresh.specs.Standing.{IsAt, group_of};
+ghost use Rattle.chart_cells.specs.Cells.{cpu_numbers};
+ghost use Rattle.chart_cells.specs.Charts.{panel_shown};
+ghost use Rattle.chart_texts.specs.declared.window.Axis as axes;
+ghost use Rattle.chart_texts.specs.declared.window.Window as windows;
+ghost use Rattle.chart_texts.specs.Charts.{group_resvs, panel_of};
+ghost use Rattle.chart_texts.specs.Windows.{columns_in};
+ghost use Rattle.view_acts.specs.ShownActs.{act_shown};
+ghost use Rattle.chart_rows.specs.Foretold.{moment_of};
+ghost use Rattle.chart_rows.specs.Units.{resv_numbers};
+ghost use Rattle.chart_feed.specs.Feeds.{IsExpected, IsFed, IsMoved, IsTurned};
+
+use crate::clocks::{TaskClocks, no_clocks, note_act};
+use crate::columns::{begin, end, take_act, take_state, turn};
+use crate::entry_clocks::{EntryClocks, is_in};
+use crate::panel::panel_with;
+use crate::window_columns::columns_of;
+use chart_cells::Panel;
+use chart_rows::{Rows, Unit, foretell, told};
+use chart_texts::{Axis, Window};
+use rank_afresh::Afresh;
+use rt_base::{CpuNo, GroupNo, NoMemory, ResvNo, TaskNo, Tick};
+use rt_task::{Act, Parts};
+use std::alloc::Global;
+use view_acts::ShownAct;
+
+/// What a group has, each by rising number.
+pub struct Members<'a> {
+    pub tasks: &'a [TaskNo],
+    pub cpus: &'a [CpuNo],
+    pub resvs: &'a [ResvNo],
+}
+
+/// A group in the columns of a window, while its steps are taken again. Each step is shown by four calls, in this order: `turn`
+/// before the clock is moved, `see` after that, `foretell` before the act, and `act` after it.
+#[derive(Drop)]
+pub struct Feed {
+    axis: Axis,
+    window: Window,
+    rows: Rows,
+    tasks: Vec<TaskClocks>,
+    entries: EntryClocks,
+}
+
+impl Feed {
+    /// A group at opening.
+    pub fn open(
+        alloc: Global,
+        axis: Axis,
+        window: Window,
+        members: &Members,
+        parts: &Parts,
+        afresh: &Afresh,
+    ) -> Result<Feed, NoMemory>
+        requires parts { parts.now ≡ afresh.now.setup }
+        requires tasks { numbers members.now.tasks.now ≡ groups.tasks (group_of afresh.now) }
+        requires cpus { cpu_numbers members.now.cpus.now ≡ groups.group_processors (group_of afresh.now) }
+        requires resvs { resv_numbers members.now.resvs.now ≡ group_resvs (group_of afresh.now) }
+        requires at { IsAt afresh.now [] }
+        ensures { IfOk result (IsFed axis window (group_of afresh.now) []) }
+    {
+        let mut rows = Rows::open(alloc, members.tasks, members.cpus, members.resvs)?;
+        begin(&mut rows, alloc, axis, window, afresh)?;
+        let tasks = no_clocks(alloc, parts.tasks.as_slice().len() as u32 + 1)?;
+        let entries = EntryClocks::new(alloc);
+        Ok(Feed {
+            axis,
+            window,
+            rows,
+            tasks,
+            entries,
+        })
+    }
+
+    /// Ends the columns before a tick to which the clock is to be moved from this one.
+    pub fn turn(
+        &mut self,
+        alloc: Global,
+        afresh: &Afresh,
+        now: Tick,
+        tick: Tick,
+    ) -> Result<(), NoMemory>
+        requires now { now.0 < TICK_END }
+        requires fed { (axis : axes.Axis) × (window : windows.Window) × (past : Past)
+            × (now.0 ≡ pasts.now past) × IsAt afresh.now past
+            × IsFed axis window (group_of afresh.now) past self.old }
+        ensures { OnOk result ((axis : axes.Axis) (window : windows.Window) (past : Past)
+            → now.0 ≡ pasts.now past → IsAt afresh.now past
+            → IsFed axis window (group_of afresh.now) past self.old
+            → IsTurned axis window (group_of afresh.now) tick.0 past self.new) }
+    {
+        turn(
+            &mut self.rows,
+            alloc,
+            self.axis,
+            self.window,
+            afresh,
+            now.0,
+            tick.0,
+        )
+    }
+
+    /// Whether the column that goes on is in the window, at the clock.
+    fn is_inside(&self, now: Tick) -> bool {
+        match self.axis {
+            Axis::Ticks => is_in(self.window, now.0),
+            Axis::Entries => is_in(self.window, self.entries.count),
+        }
+    }
+
+    /// Takes the state after the clock was moved, which stands at this one.
+    pub fn see(&mut self, alloc: Global, afresh: &Afresh, now: Tick) -> Result<(), NoMemory>
+        requires moved { (axis : axes.Axis) × (window : windows.Window) × (past : Past) × (tick : ℕ)
+            × (now.0 ≡ pasts.now (Clock tick ∷ past)) × IsAt afresh.now (Clock tick ∷ past)
+            × IsTurned axis window (group_of afresh.now) tick past self.old }
+        ensures { OnOk result ((axis : axes.Axis) (window : windows.Window) (past : Past) (tick : ℕ)
+            → now.0 ≡ pasts.now (Clock tick ∷ past) → IsAt afresh.now (Clock tick ∷ past)
+            → IsTurned axis window (group_of afresh.now) tick past self.old
+            → IsMoved axis window (group_of afresh.now) tick past self.new) }
+    {
+        let inside = self.is_inside(now);
+        take_state(&mut self.rows, alloc, afresh, inside)
+    }
+
+    /// The unit that an act of a processor would be; none where it can be none, or the column that goes on is not in the window.
+    pub fn foretell(
+        &self,
+        alloc: Global,
+        parts: &Parts,
+        afresh: &Afresh,
+        now: Tick,
+        cpu: CpuNo,
+        act: Act,
+    ) -> Result<Option<Unit>, NoMemory>
+        requires valid { IsValid parts.now }
+        requires parts { parts.now ≡ afresh.now.setup }
+        requires cpu { IsProcessorOf (group_of afresh.now) cpu.0 }
+        requires moved { (axis : axes.Axis) × (window : windows.Window) × (past : Past) × (tick : ℕ)
+            × IsAt afresh.now (Clock tick ∷ past)
+            × IsMoved axis window (group_of afresh.now) tick past self.now }
+        ensures { IfOk result (λ o. (axis : axes.Axis) (window : windows.Window) (past : Past) (tick : ℕ)
+            → now.0 ≡ pasts.now (Clock tick ∷ past) → IsAt afresh.now (Clock tick ∷ past)
+            → IsMoved axis window (group_of afresh.now) tick past self.now
+            → IsExpected axis window (group_of afresh.now)
+            (moment_of (group_of afresh.now) cpu.0 act (Clock tick ∷ past)) o) }
+    {
+        if !self.is_inside(now) {
+            return Ok(None);
+        }
+        foretell(alloc, parts, afresh, self.rows.resvs.as_slice(), cpu, act)
+    }
+
+    /// Takes an act, the unit that it was foretold to be, and the state after it, whose clock is this one.
+    pub fn act(
+        &mut self,
+        alloc: Global,
+        afresh: &Afresh,
+        now: Tick,
+        act: &ShownAct,
+        unit: Option<Unit>,
+    ) -> Result<(), NoMemory>
+        requires now { now.0 < TICK_END }
+        requires acted { (axis : axes.Axis) × (window : windows.Window) × (past : Past) × (tick : ℕ)
+            × (now.0 ≡ pasts.now (Clock tick ∷ past))
+            × IsAt afresh.now (Acted (act_shown act.now) ∷ Clock tick ∷ past)
+            × IsExpected axis window (group_of afresh.now)
+            (record { act = act_shown act.now; before = Clock tick ∷ past }) unit
+            × IsMoved axis window (group_of afresh.now) tick past self.old }
+        ensures { OnOk result ((axis : axes.Axis) (window : windows.Window) (past : Past) (tick : ℕ)
+            → now.0 ≡ pasts.now (Clock tick ∷ past)
+            → IsAt afresh.now (Acted (act_shown act.now) ∷ Clock tick ∷ past)
+            → IsExpected axis window (group_of afresh.now)
+            (record { act = act_shown act.now; before = Clock tick ∷ past }) unit
+            → IsMoved axis window (group_of afresh.now) tick past self.old
+            → IsFed axis window (group_of afresh.now) (Acted (act_shown act.now) ∷ Clock tick ∷ past) self.new) }
+    {
+        let inside = self.is_inside(now);
+        let unit = told(unit, act);
+        take_act(
+            &mut self.rows,
+            alloc,
+            self.axis,
+            afresh,
+            inside,
+            act,
+            &unit,
+        )?;
+        note_act(self.tasks.as_mut_slice(), now.0, act)?;
+        self.entries.note(self.window, now.0)
+    }
+
+    /// What the chart shows of the group, whose clock is this one.
+    pub fn close(
+        mut self,
+        alloc: Global,
+        parts: &Parts,
+        group: GroupNo,
+        afresh: &Afresh,
+        now: Tick,
+    ) -> Result<Panel, NoMemory>
+        requires valid { IsValid parts.now }
+        requires parts { parts.now ≡ afresh.now.setup }
+        requires group { group.0 ≡ afresh.now.group }
+        requires now { now.0 < TICK_END }
+        requires window { (self.old.window.from < TICK_END + 1) × (self.old.window.from ≤ self.old.window.to) }
+        requires fed { (axis : axes.Axis) × (window : windows.Window) × (past : Past)
+            × (now.0 ≡ pasts.now past) × IsAt afresh.now past
+            × IsFed axis window (group_of afresh.now) past self.old }
+        ensures { IfOk result (λ p. (axis : axes.Axis) (window : windows.Window) (past : Past)
+            → now.0 ≡ pasts.now past → IsAt afresh.now past
+            → IsFed axis window (group_of afresh.now) past self
+            → panel_shown p ≡ panel_of (group_of afresh.now) (columns_in axis window past) past) }
+    {
+        end(
+            &mut self.rows,
+            alloc,
+            self.axis,
+            self.window,
+            afresh,
+            now.0,
+        )?;
+        let columns = columns_of(alloc, self.axis, self.window, now.0, self.entries)?;
+        panel_with(alloc, parts, group, now, columns, self.rows, self.tasks.as_slice())
+    }
+}

@@ -1,0 +1,12 @@
+-- Rows of tasks, processors and reservations of a group.
+use Rattle.std.specs.Prelude.{◌≡◌, true, All}
+use Rattle.rt_rules.specs.Numbers.{has}
+use Rattle.rt_model.specs.Group.{Group, tasks}
+use Rattle.rt_plays.specs.Homes.{IsProcessorOf}
+use Rattle.chart_texts.specs.Charts.{group_resvs}
+use Rattle.chart_rows.specs.Rows.{CpuKept, ResvKept, RowsKept, TaskKept}
+
+pub record AreListed (g : Group) (v : RowsKept) : Type 0 where
+  pub tasks_are : All (λ (k : TaskKept). has k.task (tasks g) ≡ true) v.tasks
+  pub cpus_are : All (λ (k : CpuKept). IsProcessorOf g k.cpu) v.cpus
+  pub resvs_are : All (λ (k : ResvKept). has k.resv (group_resvs g) ≡ true) v.resvs

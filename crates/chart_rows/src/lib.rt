@@ -1,0 +1,22 @@
+//! The rows of a group's tasks, processors and reservations while a column goes on: what each state, each act and the end of the column
+//! make of them.
+#![tactic(auto)]
+
+mod acting;
+mod cpus;
+mod foretell;
+mod look;
+mod loops;
+mod opening;
+mod resvs;
+mod rows;
+mod seeing;
+mod tasks;
+mod units;
+
+pub use cpus::CpuFeed;
+pub use foretell::{foretell, told};
+pub use resvs::ResvFeed;
+pub use rows::Rows;
+pub use tasks::TaskFeed;
+pub use units::{Unit, is_accepted};

@@ -1,0 +1,126 @@
+//! What a state of a group shows.
+ghost use Rattle.std.specs.Prelude.{◌≡◌, [], IfOk, not, true};
+ghost use Rattle.rt_base.specs.TaskNos.{number_of_task};
+ghost use Rattle.rt_rules.specs.Numbers.{has};
+ghost use Rattle.rt_model.specs.Group.{Group, tasks};
+ghost use Rattle.rt_model.specs.Past.{Past};
+ghost use Rattle.rt_plays.specs.Homes.{IsProcessorOf};
+ghost use Rattle.rank_afresh.specs.Standing.{IsAt, group_of};
+ghost use Rattle.trace_views.specs.Cells as views;
+ghost use Rattle.trace_views.specs.Cells.{cell_at, same_key};
+ghost use Rattle.chart_cells.specs.Cells.{cell_shown, cpu_cell_shown, doing_shown, playing_shown};
+ghost use Rattle.chart_cells.specs.Kept.{state_cell};
+ghost use Rattle.chart_cells.specs.KeptFirst.{cpu_at_end};
+ghost use Rattle.chart_rows.specs.Looks as looks;
+ghost use Rattle.chart_rows.specs.Looks.{state_doing};
+
+use chart_cells::{Cell, CpuCell, Doing, Playing};
+use rank_afresh::Afresh;
+use rt_base::{CpuNo, NoMemory, SemNo, TaskNo};
+use rt_order::Key;
+use std::alloc::Global;
+
+fn waiting_by(blocked: bool, sem: SemNo) -> Doing
+    ensures { doing_shown result ≡ looks.waiting_by blocked sem.0 }
+{
+    if blocked {
+        Doing::Blocked(sem)
+    } else {
+        Doing::Waits(sem)
+    }
+}
+
+fn there_by(sleeping: bool, there: bool) -> Doing
+    ensures { doing_shown result ≡ looks.there_by sleeping there }
+{
+    if sleeping {
+        Doing::Sleeping
+    } else if there {
+        Doing::Ready
+    } else {
+        Doing::Away
+    }
+}
+
+fn is_away(doing: &Doing) -> bool
+    ensures { result ≡ looks.is_away (doing_shown doing.now) }
+{
+    matches!(doing, Doing::Away)
+}
+
+/// What the task does in a state, apart from units of work and from running.
+fn doing_in(afresh: &Afresh, task: TaskNo) -> Doing
+    requires task { has task.0 (tasks (group_of afresh.now)) ≡ true }
+    requires at { (past : Past) × IsAt afresh.now past }
+    ensures { (past : Past) → IsAt afresh.now past
+        → doing_shown result ≡ state_doing (group_of afresh.now) task.0 past }
+{
+    match afresh.waits(task) {
+        Some(sem) => waiting_by(afresh.blocked(task), sem),
+        None => there_by(afresh.sleeps(task), afresh.exists(task)),
+    }
+}
+
+fn is_raised(key: Key, base: Key) -> bool
+    ensures { result ≡ not (same_key key base) }
+{
+    key != base
+}
+
+/// The cell of a task that does this in a state.
+pub(crate) fn cell_with(
+    alloc: Global,
+    afresh: &Afresh,
+    task: TaskNo,
+    doing: Doing,
+) -> Result<Cell, NoMemory>
+    requires { has task.0 (tasks (group_of afresh.now)) ≡ true }
+    ensures { IfOk result (λ c. (past : Past) → IsAt afresh.now past → cell_shown c
+        ≡ cell_at (group_of afresh.now) (doing_shown doing) task.0 past) }
+{
+    let held = afresh.held(alloc, task)?;
+    let job = afresh.done(task) + 1;
+    Ok(Cell {
+        doing,
+        job,
+        held,
+        non_preemptive: afresh.non_preemptive(task),
+        raised: is_raised(afresh.effective_key(task), afresh.base_key(task)),
+    })
+}
+
+/// The cell that a state alone shows of a task.
+pub(crate) fn seen(alloc: Global, afresh: &Afresh, task: TaskNo) -> Result<Cell, NoMemory>
+    requires task { has task.0 (tasks (group_of afresh.now)) ≡ true }
+    requires at { (past : Past) × IsAt afresh.now past }
+    ensures { IfOk result (λ c. (past : Past) → IsAt afresh.now past
+        → cell_shown c ≡ state_cell (group_of afresh.now) task.0 past) }
+{
+    let doing = doing_in(afresh, task);
+    if is_away(&doing) {
+        return Ok(Cell::away(alloc));
+    }
+    let cell = cell_with(alloc, afresh, task, doing)?;
+    Ok(cell)
+}
+
+fn playing_by(task: Option<TaskNo>) -> Playing
+    ensures { (g : Group) → playing_shown result ≡ views.playing_by g [] (number_of_task task) }
+{
+    match task {
+        Some(task) => Playing::RunsTask(task),
+        None => Playing::Idle,
+    }
+}
+
+/// What a processor does in a column without a unit of its own, in the state in which that ends.
+pub(crate) fn cpu_at_end(afresh: &Afresh, cpu: CpuNo) -> CpuCell
+    requires { IsProcessorOf (group_of afresh.now) cpu.0 }
+    ensures { (past : Past) → IsAt afresh.now past
+        → cpu_cell_shown result ≡ cpu_at_end (group_of afresh.now) cpu.0 past }
+{
+    CpuCell {
+        playing: playing_by(afresh.runs(cpu)),
+        link: afresh.linked(cpu),
+    }
+}

@@ -1,0 +1,113 @@
+//! What an act, and the end of a column, makes of all rows.
+ghost use Rattle.std.specs.Prelude.{◌≡◌, All, IfOk, OnOk, map, true};
+ghost use Rattle.rt_rules.specs.Numbers.{has};
+ghost use Rattle.rt_model.specs.Group.{Group};
+ghost use Rattle.trace_views.specs.Cells.{runs_no_unit};
+ghost use Rattle.trace_views.specs.Moments.{Moment};
+ghost use Rattle.chart_texts.specs.Charts.{group_resvs};
+ghost use Rattle.view_acts.specs.ShownActs.{act_shown};
+ghost use Rattle.chart_cells.specs.Cells.{cpu_numbers, playing_shown};
+ghost use Rattle.chart_rows.specs.Plays.{played_shown};
+ghost use Rattle.chart_rows.specs.Rows as rows;
+ghost use Rattle.chart_rows.specs.Units.{IsTold};
+
+use crate::acting::{act_cpu, act_resv, act_task};
+use crate::cpus::CpuFeed;
+use crate::resvs::ResvFeed;
+use crate::tasks::TaskFeed;
+use crate::units::Unit;
+use chart_cells::Playing;
+use rt_base::{CpuNo, NoMemory, TaskNo};
+use std::alloc::Global;
+use view_acts::ShownAct;
+
+/// What a processor does in a column that is over.
+#[derive(Clone, Copy)]
+pub(crate) struct Played {
+    pub(crate) cpu: CpuNo,
+    pub(crate) playing: Playing,
+}
+
+/// An act for the rows of tasks, with its unit, if it is one.
+pub(crate) fn act_tasks(
+    tasks: &mut [TaskFeed],
+    alloc: Global,
+    act: &ShownAct,
+    unit: &Option<Unit>,
+) -> Result<(), NoMemory>
+    ensures { OnOk result ((g : Group) (m : Moment) → act_shown act.now ≡ m.act
+        → IsTold g m unit.now → tasks.new ≡ map (rows.task_acted g m) tasks.old) }
+{
+    for row in tasks.iter_mut() {
+        act_task(row, alloc, act, unit)?;
+    }
+    Ok(())
+}
+
+/// An act for the rows of processors.
+pub(crate) fn act_cpus(cpus: &mut [CpuFeed], cpu: CpuNo, unit: &Option<Unit>)
+    ensures { (g : Group) (m : Moment) → cpu.0 ≡ m.act.cpu → IsTold g m unit.now
+        → cpus.new ≡ map (rows.cpu_acted g m) cpus.old }
+{
+    for row in cpus.iter_mut() {
+        act_cpu(row, cpu, unit);
+    }
+}
+
+/// An act for the rows of reservations.
+pub(crate) fn act_resvs(resvs: &mut [ResvFeed], unit: &Option<Unit>)
+    ensures { (g : Group) (m : Moment)
+        → All (λ (k : rows.ResvKept). has k.resv (group_resvs g) ≡ true) resvs.old
+        → IsTold g m unit.now → resvs.new ≡ map (rows.resv_acted g m) resvs.old }
+{
+    for row in resvs.iter_mut() {
+        act_resv(row, unit);
+    }
+}
+
+fn runs(playing: Playing, task: TaskNo) -> bool
+    ensures { (g : Group) → result ≡ runs_no_unit g task.0 (playing_shown playing) }
+{
+    match playing {
+        Playing::RunsTask(other) => task == other,
+        _ => false,
+    }
+}
+
+/// The processors that run the task and do no unit.
+pub(crate) fn running(alloc: Global, plays: &[Played], task: TaskNo) -> Result<Vec<CpuNo>, NoMemory>
+    ensures { IfOk result (λ v. (g : Group) → cpu_numbers v.items
+        ≡ rows.running g task.0 (map played_shown plays.now)) }
+{
+    let mut cpus = Vec::new(alloc);
+    for played in plays {
+        if runs(played.playing, task) {
+            cpus.push(played.cpu)?;
+        }
+    }
+    Ok(cpus)
+}
+
+fn close_task(row: &mut TaskFeed, alloc: Global, plays: &[Played]) -> Result<(), NoMemory>
+    ensures { OnOk result ((g : Group)
+        → row.new ≡ rows.task_closed g (map played_shown plays.now) row.old) }
+{
+    let running = running(alloc, plays, row.task())?;
+    row.close(alloc, running)?;
+    Ok(())
+}
+
+/// Ends a column for the rows of tasks, in which the processors do this.
+pub(crate) fn close_tasks(
+    tasks: &mut [TaskFeed],
+    alloc: Global,
+    plays: &[Played],
+) -> Result<(), NoMemory>
+    ensures { OnOk result ((g : Group)
+        → tasks.new ≡ map (rows.task_closed g (map played_shown plays.now)) tasks.old) }
+{
+    for row in tasks.iter_mut() {
+        close_task(row, alloc, plays)?;
+    }
+    Ok(())
+}

@@ -1,0 +1,125 @@
+//! What a state of the group makes of the rows: a state more, or the last one of a column.
+ghost use Rattle.std.specs.Prelude.{◌≡◌, All, IfOk, OnOk, map, true};
+ghost use Rattle.rt_rules.specs.Numbers.{has};
+ghost use Rattle.rt_model.specs.Group as groups;
+ghost use Rattle.rt_model.specs.Past.{Past};
+ghost use Rattle.rt_plays.specs.Homes.{IsProcessorOf};
+ghost use Rattle.rank_afresh.specs.Standing.{IsAt, group_of};
+ghost use Rattle.chart_texts.specs.Charts.{group_resvs};
+ghost use Rattle.chart_rows.specs.Plays.{played_shown};
+ghost use Rattle.chart_rows.specs.Rows as rows;
+
+use crate::cpus::CpuFeed;
+use crate::look::{cpu_at_end, seen};
+use crate::loops::Played;
+use crate::resvs::ResvFeed;
+use crate::tasks::TaskFeed;
+use rank_afresh::Afresh;
+use rt_base::NoMemory;
+use std::alloc::Global;
+
+fn see_task(row: &mut TaskFeed, alloc: Global, afresh: &Afresh) -> Result<(), NoMemory>
+    requires task { has row.old.task (groups.tasks (group_of afresh.now)) ≡ true }
+    requires at { (past : Past) × IsAt afresh.now past }
+    ensures { OnOk result ((past : Past) → IsAt afresh.now past
+        → row.new ≡ rows.task_seen (group_of afresh.now) past row.old) }
+{
+    let cell = seen(alloc, afresh, row.task())?;
+    row.see(cell);
+    Ok(())
+}
+
+/// A state more for the rows of tasks.
+pub(crate) fn see_tasks(
+    tasks: &mut [TaskFeed],
+    alloc: Global,
+    afresh: &Afresh,
+) -> Result<(), NoMemory>
+    requires tasks { All (λ (k : rows.TaskKept).
+        has k.task (groups.tasks (group_of afresh.now)) ≡ true) tasks.old }
+    requires at { (past : Past) × IsAt afresh.now past }
+    ensures { OnOk result ((past : Past) → IsAt afresh.now past
+        → tasks.new ≡ map (rows.task_seen (group_of afresh.now) past) tasks.old) }
+{
+    for row in tasks.iter_mut() {
+        see_task(row, alloc, afresh)?;
+    }
+    Ok(())
+}
+
+fn play_of(row: &CpuFeed, afresh: &Afresh) -> Played
+    requires { IsProcessorOf (group_of afresh.now) row.now.cpu }
+    ensures { (past : Past) → IsAt afresh.now past
+        → played_shown result ≡ rows.played (group_of afresh.now) past row.now }
+{
+    let cell = row.ends(cpu_at_end(afresh, row.cpu()));
+    Played {
+        cpu: row.cpu(),
+        playing: cell.playing,
+    }
+}
+
+/// What the processors do in a column that ends in this state.
+pub(crate) fn plays(
+    alloc: Global,
+    cpus: &[CpuFeed],
+    afresh: &Afresh,
+) -> Result<Vec<Played>, NoMemory>
+    requires { All (λ (k : rows.CpuKept). IsProcessorOf (group_of afresh.now) k.cpu) cpus.now }
+    ensures { IfOk result (λ v. (past : Past) → IsAt afresh.now past
+        → map played_shown v.items ≡ map (rows.played (group_of afresh.now) past) cpus.now) }
+{
+    let mut plays = Vec::new(alloc);
+    for row in cpus {
+        plays.push(play_of(row, afresh))?;
+    }
+    Ok(plays)
+}
+
+fn close_cpu(row: &mut CpuFeed, afresh: &Afresh) -> Result<(), NoMemory>
+    requires { IsProcessorOf (group_of afresh.now) row.old.cpu }
+    ensures { OnOk result ((past : Past) → IsAt afresh.now past
+        → row.new ≡ rows.cpu_closed (group_of afresh.now) past row.old) }
+{
+    let cell = cpu_at_end(afresh, row.cpu());
+    row.close(cell)?;
+    Ok(())
+}
+
+/// Ends a column for the rows of processors, in this state.
+pub(crate) fn close_cpus(cpus: &mut [CpuFeed], afresh: &Afresh) -> Result<(), NoMemory>
+    requires cpus { All (λ (k : rows.CpuKept). IsProcessorOf (group_of afresh.now) k.cpu) cpus.old }
+    requires at { (past : Past) × IsAt afresh.now past }
+    ensures { OnOk result ((past : Past) → IsAt afresh.now past
+        → cpus.new ≡ map (rows.cpu_closed (group_of afresh.now) past) cpus.old) }
+{
+    for row in cpus.iter_mut() {
+        close_cpu(row, afresh)?;
+    }
+    Ok(())
+}
+
+fn close_resv(row: &mut ResvFeed, afresh: &Afresh) -> Result<(), NoMemory>
+    requires resv { has row.old.resv (group_resvs (group_of afresh.now)) ≡ true }
+    requires at { (past : Past) × IsAt afresh.now past }
+    ensures { OnOk result ((past : Past) → IsAt afresh.now past
+        → row.new ≡ rows.resv_closed (group_of afresh.now) past row.old) }
+{
+    let left = afresh.left(row.resv());
+    row.close(left)?;
+    Ok(())
+}
+
+/// Ends a column for the rows of reservations, in this state.
+pub(crate) fn close_resvs(resvs: &mut [ResvFeed], afresh: &Afresh) -> Result<(), NoMemory>
+    requires resvs { All (λ (k : rows.ResvKept).
+        has k.resv (group_resvs (group_of afresh.now)) ≡ true) resvs.old }
+    requires at { (past : Past) × IsAt afresh.now past }
+    ensures { OnOk result ((past : Past) → IsAt afresh.now past
+        → resvs.new ≡ map (rows.resv_closed (group_of afresh.now) past) resvs.old) }
+{
+    for row in resvs.iter_mut() {
+        close_resv(row, afresh)?;
+    }
+    Ok(())
+}
