@@ -2,6 +2,7 @@
 use Rattle.std.proofs.Common.{◌≡◌, ◌∙◌, ℕ, ◌-◌, ◌<◌, List, map, refl, sym, ap, subst, arith, All, length, true}
 use Rattle.std.proofs.lemmas.Simd.{map-map}
 use Rattle.rt_task.specs.Validity.{IsValid}
+use Rattle.rt_task.specs.declared.Task.{Task}
 use Rattle.rt_rules.specs.Numbers.{has}
 use Rattle.rt_model.specs.Group.{Group, group_processors, task, tasks}
 use Rattle.rt_model.specs.Past.{Past}
@@ -18,6 +19,7 @@ use Rattle.chart_rows.specs.Strips.{Strip, blank, strip_of}
 use Rattle.chart_feed.specs.Clocks.{ClocksKept}
 use Rattle.chart_feed.specs.Marked.{edges_shown}
 use Rattle.chart_feed.specs.Panels.{CanShow, IsCpuRow, IsResvRow, IsTaskRow}
+use Rattle.chart_feed.specs.declared.times.Edges.{Edges}
 use Rattle.chart_feed.specs.declared.window_columns.Columns.{Columns}
 use Rattle.chart_feed.proofs.Edges.{are-timed}
 use Rattle.chart_feed.proofs.Paneled.{all-made}
@@ -79,3 +81,10 @@ module _ (g : Group) (axis : Axis) (w : Window) (past : Past) (clock : ℕ) (c :
   pub resv-rows : map (λ (k : ResvKept). resv_row_in g cs k.resv) rows.resvs ≡ map (resv_row_in g cs) (group_resvs g)
   unfolding rows_of
   resv-rows = let f : ResvKept → ResvRow = λ k. resv_row_in g cs k.resv in ap (λ (v : RowsKept). map f v.resvs) shown.rows_are ∙ map-map f (resv_kept g over blank) (group_resvs g)
+
+-- the rows of equal tasks in equal columns
+pub same-rows : (g : Group) (past : Past) (cs : List Column) (ks : List ClocksKept) (clock : ℕ) (ts ts' : List Task) (es es' : List Edges) (rows rows' : List TaskKept) → ts' ≡ ts → es' ≡ es → rows' ≡ rows
+    → All (IsTaskRow g past cs ts ks clock (map edges_shown es)) rows → All (IsTaskRow g past cs ts' ks clock (map edges_shown es')) rows'
+same-rows g past cs ks clock ts ts' es es' rows rows' tasks edges kept h =
+    let P : List Task × List Edges × List TaskKept → Type 0 = λ x. All (IsTaskRow g past cs x.0 ks clock (map edges_shown x.1)) x.2 in
+    subst P (λ i. (sym tasks i, sym edges i, sym kept i)) h

@@ -25,7 +25,7 @@ use crate::entry_clocks::{EntryClocks, is_in};
 use crate::panel::panel_with;
 use crate::window_columns::columns_of;
 use chart_cells::Panel;
-use chart_rows::{Rows, Unit, foretell, told};
+use chart_rows::{ResvFeed, Rows, Unit, foretell, told};
 use chart_texts::{Axis, Window};
 use rank_afresh::Afresh;
 use rt_base::{CpuNo, GroupNo, NoMemory, ResvNo, TaskNo, Tick};
@@ -49,6 +49,12 @@ pub struct Feed {
     rows: Rows,
     tasks: Vec<TaskClocks>,
     entries: EntryClocks,
+}
+
+fn resvs_of(rows: &Rows) -> &[ResvFeed]
+    ensures { result.now ≡ rows.now.resvs }
+{
+    rows.resvs.as_slice()
 }
 
 impl Feed {
@@ -162,7 +168,7 @@ impl Feed {
         if !self.is_inside(clock) {
             return Ok(None);
         }
-        foretell(alloc, parts, afresh, self.rows.resvs.as_slice(), cpu, act)
+        foretell(alloc, parts, afresh, resvs_of(&self.rows), cpu, act)
     }
 
     /// Takes an act, the unit that it was foretold to be, and the state after it, whose clock is this one.
@@ -199,7 +205,7 @@ impl Feed {
 
     /// What the chart shows of the group, at the clock.
     pub fn close(
-        mut self,
+        self,
         alloc: Global,
         parts: &Parts,
         group: GroupNo,
@@ -220,16 +226,23 @@ impl Feed {
             → IsFed axis window (group_of afresh.now) past self
             → panel_shown p ≡ panel_of (group_of afresh.now) (columns_in axis window past) past) }
     {
-        end(
-            &mut self.rows,
+        let Feed {
+            axis,
+            window,
+            mut rows,
+            tasks,
+            entries,
+        } = self;
+        end(&mut rows, alloc, axis, window, afresh, clock.0)?;
+        let columns = columns_of(alloc, axis, window, clock.0, entries)?;
+        panel_with(
             alloc,
-            self.axis,
-            self.window,
-            afresh,
-            clock.0,
-        )?;
-        let columns = columns_of(alloc, self.axis, self.window, clock.0, self.entries)?;
-        let tasks = self.tasks.as_slice();
-        panel_with(alloc, parts, group, clock, columns, self.rows, tasks)
+            parts,
+            group,
+            clock,
+            columns,
+            rows,
+            tasks.as_slice(),
+        )
     }
 }
