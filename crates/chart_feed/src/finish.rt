@@ -31,8 +31,8 @@ pub(crate) fn task_row(
 ) -> TaskRow
     requires deadline { task.now.rel_deadline < TICK_END }
     requires now { now < TICK_END }
-    requires low { All (λ (e : seen_edges.Edges). (e.first < TICK_END + 1) × (e.high < TICK_END + 1))
-        edges.now }
+    requires low { All (λ (e : seen_edges.Edges).
+        (e.first < TICK_END + 1) × (e.high < TICK_END + 1)) edges.now }
     requires finished { (g : Group) × (past : Past) × (cs : List Column)
         × IsFinished g past cs row task.now clocks.now now (map edges_shown edges.now) }
     ensures { (g : Group) (past : Past) (cs : List Column)
