@@ -51,6 +51,7 @@ pub struct Feed {
     entries: EntryClocks,
 }
 
+/// The rows of reservations.
 fn resvs_of(rows: &Rows) -> &[ResvFeed]
     ensures { result.now ≡ rows.now.resvs }
 {
@@ -190,15 +191,7 @@ impl Feed {
     {
         let inside = self.is_inside(clock);
         let unit = told(unit, act);
-        take_act(
-            &mut self.rows,
-            alloc,
-            self.axis,
-            afresh,
-            inside,
-            act,
-            &unit,
-        )?;
+        take_act(&mut self.rows, alloc, self.axis, afresh, inside, act, &unit)?;
         note_act(self.tasks.as_mut_slice(), clock.0, act)?;
         self.entries.note(self.window, clock.0)
     }
@@ -235,14 +228,6 @@ impl Feed {
         } = self;
         end(&mut rows, alloc, axis, window, afresh, clock.0)?;
         let columns = columns_of(alloc, axis, window, clock.0, entries)?;
-        panel_with(
-            alloc,
-            parts,
-            group,
-            clock,
-            columns,
-            rows,
-            tasks.as_slice(),
-        )
+        panel_with(alloc, parts, group, clock, columns, rows, tasks.as_slice())
     }
 }

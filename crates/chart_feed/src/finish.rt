@@ -13,12 +13,10 @@ ghost use Rattle.chart_rows.specs.Rows.{cpu_kept, resv_kept, task_kept};
 ghost use Rattle.chart_rows.specs.Strips.{blank, strip_of};
 
 use crate::clocks::TaskClocks;
-use chart_rows::CpuFeed;
 use crate::marking::set_marks;
-use chart_rows::ResvFeed;
-use chart_rows::TaskFeed;
 use crate::times::Edges;
 use chart_cells::{CpuRow, ResvRow, TaskRow};
+use chart_rows::{CpuFeed, ResvFeed, TaskFeed};
 use rt_task::Task;
 
 /// The row of a task, whose columns are over, at the clock.

@@ -16,10 +16,13 @@ pub row_of-requires-clause-row : goal.row_of-requires-clause-row
 row_of-requires-clause-row c =
     let g = c.requires.rows.0 in
     let past = c.requires.rows.1 in
-    let cs = c.requires.rows.2 in
-    (g, past, cs,
-    made-next (IsTaskRow g past cs c.args.tasks.now c.args.clocks.now c.args.now (map edges_shown c.args.edges.now)) task_row_shown (λ (k : TaskKept). task_row_in g past cs k.task)
-    c.args.rows.items c.loop-row.row-iterator.rest.items c.loop-row.made.items c.in-Some.row c.next.new.self.rest.items c.in-Some.ensures.steps.0 (c.loop-row.invariant g past cs c.requires.rows.3))
+    let cs = c.requires.rows.2 in (
+      g,
+      past,
+      cs,
+      made-next (IsTaskRow g past cs c.args.tasks.now c.args.clocks.now c.args.now (map edges_shown c.args.edges.now)) task_row_shown (λ (k : TaskKept). task_row_in g past cs k.task)
+          c.args.rows.items c.loop-row.row-iterator.rest.items c.loop-row.made.items c.in-Some.row c.next.new.self.rest.items c.in-Some.ensures.steps.0 (c.loop-row.invariant g past cs c.requires.rows.3),
+    )
 
 pub loop-row-preserved : goal.loop-row-preserved
 loop-row-preserved c = λ g past cs h.

@@ -1,4 +1,4 @@
-use Rattle.std.proofs.Common.{◌≡◌, ◌∙◌, All, List, ap, map, refl, subst, sym}
+use Rattle.std.proofs.Common.{◌≡◌, ◌∙◌, All, List, ap, map, subst, sym}
 use Rattle.rt_model.specs.Group.{Group, group_processors, tasks}
 use Rattle.trace_views.specs.Columns.{Column}
 use Rattle.chart_cells.specs.Charts.{cpu_row_shown, resv_row_shown, task_row_shown}
@@ -15,11 +15,14 @@ finish_tasks-requires-clause-rows c =
     let axis = c.requires.shown.0 in
     let w = c.requires.shown.1 in
     let past = c.requires.shown.2 in
-    let ks = c.args.clocks.now in
-    (g, past, columns_in axis w past,
-    same-rows g past (columns_in axis w past) ks c.args.now.0 g.setup.tasks c.as_slice-listed.result.now c.args.columns.edges.items c.as_slice-edges.result.now c.args.rows.tasks c.rows.inside.tasks.items
-    c.as_slice-listed.ensures c.as_slice-edges.ensures.value (ap (λ (v : RowsKept). v.tasks) c.rows.view_is)
-    (tasks-shown g axis w past c.args.now.0 c.args.columns c.args.rows ks c.requires.shown.3 c.requires.valid))
+    let ks = c.args.clocks.now in (
+      g,
+      past,
+      columns_in axis w past,
+      same-rows g past (columns_in axis w past) ks c.args.now.0 g.setup.tasks c.as_slice-listed.result.now c.args.columns.edges.items c.as_slice-edges.result.now c.args.rows.tasks c.rows.inside.tasks.items
+          c.as_slice-listed.ensures c.as_slice-edges.ensures.value (ap (λ (v : RowsKept). v.tasks) c.rows.view_is)
+          (tasks-shown g axis w past c.args.now.0 c.args.columns c.args.rows ks c.requires.shown.3 c.requires.valid),
+    )
 
 pub returns : goal.returns
 unfolding panel_of

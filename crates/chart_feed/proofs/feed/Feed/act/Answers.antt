@@ -1,7 +1,7 @@
-use Rattle.std.proofs.Common.{◌≡◌, ◌∙◌, ℕ, ◌<◌, ◌∷◌, List, ap, arith, length, sym, subst}
+use Rattle.std.proofs.Common.{◌≡◌, ◌∙◌, ◌∷◌, List, ap, arith, length, sym, subst}
 use Rattle.std.proofs.lemmas.List.{with_items_is}
 use Rattle.std.proofs.lemmas.Result.{on_ok_weaker}
-use Rattle.rt_model.specs.Past.{Acted, Clock, Past, PastAct, entries_in}
+use Rattle.rt_model.specs.Past.{Acted, Clock, Past, PastAct}
 use Rattle.rank_afresh.specs.Standing.{group_of}
 use Rattle.view_acts.specs.ShownActs.{act_shown}
 use Rattle.chart_feed.specs.Clocks.{ClocksKept, Keeps}
@@ -17,10 +17,12 @@ take_act-requires c =
     let axis = c.requires.acted.0 in
     let w = c.requires.acted.1 in
     let past = c.requires.acted.2 in
-    let tick = c.requires.acted.3 in
-    (f.window, Clock tick ∷ past,
-    can-act f axis w c.args.afresh.now tick past c.args.clock.0 (act_shown c.args.act.now) c.is_inside-inside.result c.args.unit c.told-unit.result
-    c.is_inside-inside.ensures (c.told-unit.ensures (group_of c.args.afresh.now)) c.requires.acted.4)
+    let tick = c.requires.acted.3 in (
+      f.window,
+      Clock tick ∷ past,
+      can-act f axis w c.args.afresh.now tick past c.args.clock.0 (act_shown c.args.act.now) c.is_inside-inside.result c.args.unit c.told-unit.result
+          c.is_inside-inside.ensures (c.told-unit.ensures (group_of c.args.afresh.now)) c.requires.acted.4,
+    )
 
 pub note-requires-clause-count : goal.note-requires-clause-count
 note-requires-clause-count c =

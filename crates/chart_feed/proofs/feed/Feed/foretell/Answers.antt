@@ -1,6 +1,5 @@
-use Rattle.std.proofs.Common.{◌∙◌, ◌∷◌, ap, sym}
+use Rattle.std.proofs.Common.{◌∙◌, ap, sym}
 use Rattle.std.proofs.lemmas.Bool.{false≢true}
-use Rattle.rt_model.specs.Past.{Clock}
 use Rattle.rank_afresh.specs.Standing.{group_of}
 use Rattle.chart_rows.specs.Rows.{resvs_listed}
 use Rattle.chart_rows.proofs.RowParts.{resvs-of}

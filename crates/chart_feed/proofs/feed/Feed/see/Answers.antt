@@ -5,9 +5,13 @@ use Rattle.chart_feed.proofs.feed.Feed.see.Goals as goal
 
 pub take_state-requires : goal.take_state-requires
 take_state-requires c =
-    let f : Feed = c.args.self.now in
-    (f.axis, f.window, c.requires.3, c.requires.2,
-    can-see f c.requires.0 c.requires.1 c.args.afresh.now c.requires.3 c.requires.2 c.args.clock.0 c.is_inside-inside.result c.is_inside-inside.ensures c.requires.4 c.requires.5)
+    let f : Feed = c.args.self.now in (
+      f.axis,
+      f.window,
+      c.requires.3,
+      c.requires.2,
+      can-see f c.requires.0 c.requires.1 c.args.afresh.now c.requires.3 c.requires.2 c.args.clock.0 c.is_inside-inside.result c.is_inside-inside.ensures c.requires.4 c.requires.5,
+    )
 
 pub returns : goal.returns
 returns c =
