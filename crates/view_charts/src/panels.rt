@@ -51,14 +51,7 @@ pub(crate) fn panels_of(
     let _parts = setup.parts();
     let mut panels = Vec::new(alloc);
     for (i, group) in groups.iter().enumerate() {
-        panels.push(panel_again(
-            alloc,
-            axis,
-            window,
-            setup,
-            GroupNo(i as u32),
-            group,
-        )?)?;
+        panels.push(panel_again(alloc, axis, window, setup, GroupNo(i as u32), group)?)?;
     }
     Ok(panels)
 }
