@@ -11,8 +11,8 @@ use Rattle.view_command.specs.declared.ending.ViewEnd.{ViewEnd}
 use Rattle.view_command.proofs.ViewLaws.{on-ok, view-said}
 use Rattle.view_command.proofs.dispatch.text_in.Goals as goal
 
-pub text_said-requires : goal.text_said-requires
-text_said-requires g c =
+pub text_said-requires-clause-says : goal.text_said-requires-clause-says
+text_said-requires-clause-says g c =
     let t = c.args.trace.now in
     let tools : List Tool = map g.T.TraceTool.tool c.args.tools.items in
     let opened : seats g.T.TraceTool.tool c.in-Ok.bus ≡ map seat_of tools = c.in-Ok.ensures ∙ sym (map-map seat_of g.T.TraceTool.tool c.args.tools.items) in
