@@ -1,0 +1,4 @@
+use Rattle.span_feed.proofs.taking.take_tasks.Goals as goal
+
+pub loop-i-preserved : goal.loop-i-preserved
+loop-i-preserved c = ?
