@@ -1,6 +1,7 @@
 -- The spans of values behind which one is added so many times.
-use Rattle.std.proofs.Common.{◌≡◌, ◌∙◌, ℕ, zero, suc, ◌+◌, ◌-◌, ◌<◌, Bool, true, false, List, [], ◌∷◌, ◌++◌, length, map, get_or, set, refl, sym, ap, arith}
+use Rattle.std.proofs.Common.{◌≡◌, ◌∙◌, ℕ, zero, suc, ◌+◌, ◌-◌, ◌<◌, ◌≤◌, Bool, true, false, List, [], ◌∷◌, ◌++◌, length, map, get_or, set, refl, sym, ap, arith}
 use Rattle.std.specs.Prelude.{if◌then◌else◌, replicate}
+use Rattle.std.proofs.lemmas.List.{get_or-map, length-map, map-append, map-set}
 use Rattle.trace_views.specs.Spans.{Span, joined, spans, spans_from}
 use Rattle.span_feed.specs.Extended.{Decides, extended}
 
@@ -69,3 +70,26 @@ module _ {A : Type 0} (same : A → A → Bool) (from to : ℕ) (x : A) where
   pub first-one : (ss : List (Span A)) → length ss ≡ 0 → extended same from to x ss ≡ ss ++ record { from = from; to = to; value = x } ∷ []
   first-one [] h = refl
   first-one (s ∷ ss) h = absurd (omega arith)
+
+-- of values that are shown
+module _ {A B : Type 0} (same : A → A → Bool) (shown : B → Span A) (from to : ℕ) (x : A) (items : List B) (n : ℕ) (long : n ≡ length items) where
+  seen-last : (b : B) → 0 < n → b ≡ get_or items (n - 1) b → shown b ≡ get_or (map shown items) (n - 1) (shown b)
+  seen-last b some is = let low : n - 1 < length items = omega arith in ap shown is ∙ sym (get_or-map shown items (n - 1) b (shown b) low)
+
+  at-last : 0 < n → suc (n - 1) ≡ length (map shown items)
+  at-last some = omega (arith, length-map items shown, long, some)
+
+  pub shown-longer : (b new : B) → 0 < n → b ≡ get_or items (n - 1) b → same (shown b).value x ≡ true → shown new ≡ (let s : Span A = record (shown b) { to = to } in s)
+      → map shown (set items (n - 1) new) ≡ extended same from to x (map shown items)
+  shown-longer b new some is k made =
+      map-set shown items (n - 1) new ∙ ap (set (map shown items) (n - 1)) made ∙ sym (longer same from to x (n - 1) (map shown items) (shown b) (at-last some) (seen-last b some is) k)
+
+  module _ (new : B) (made : List B) (is_new : shown new ≡ (let s : Span A = record { from = from; to = to; value = x } in s)) (pushed : made ≡ items ++ new ∷ []) where
+    shown-made : map shown made ≡ map shown items ++ record { from = from; to = to; value = x } ∷ []
+    shown-made = ap (map shown) pushed ∙ map-append shown items (new ∷ []) ∙ ap (λ s. map shown items ++ s ∷ []) is_new
+
+    pub shown-one-more : (b : B) → 0 < n → b ≡ get_or items (n - 1) b → same (shown b).value x ≡ false → map shown made ≡ extended same from to x (map shown items)
+    shown-one-more b some is k = shown-made ∙ sym (one-more same from to x (n - 1) (map shown items) (shown b) (at-last some) (seen-last b some is) k)
+
+    pub shown-first : n ≤ 0 → map shown made ≡ extended same from to x (map shown items)
+    shown-first none = let empty : length (map shown items) ≡ 0 = omega (arith, length-map items shown, long, none) in shown-made ∙ sym (first-one same from to x (map shown items) empty)

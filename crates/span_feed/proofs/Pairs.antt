@@ -7,20 +7,20 @@ use Rattle.span_feed.specs.Spanned.{paired}
 module _ {A B : Type 0} (f : A → B → B) where
   next : (i : ℕ) (xs : List A) (ys : List B) (x : A) (y : B) → i < length xs → i < length ys → x ≡ get_or xs i x → y ≡ get_or ys i y → set (paired f (take i xs) ys) i (f x y) ≡ paired f (take (suc i) xs) ys
   next i [] ys x y h k is_x is_y = absurd (omega arith)
-  next i (a ∷ as) [] x y h k is_x is_y = absurd (omega arith)
-  next zero (a ∷ as) (b ∷ bs) x y h k is_x is_y = λ j. f (is_x j) (is_y j) ∷ nothing as bs j
+  next i (a ∷ us) [] x y h k is_x is_y = absurd (omega arith)
+  next zero (a ∷ us) (b ∷ bs) x y h k is_x is_y = λ j. f (is_x j) (is_y j) ∷ nothing us bs j
     where
       nothing : (us : List A) (zs : List B) → zs ≡ paired f (take zero us) zs
       nothing [] zs = refl
       nothing (u ∷ us) zs = refl
-  next (suc i) (a ∷ as) (b ∷ bs) x y h k is_x is_y = ap (λ zs. f a b ∷ zs) (next i as bs x y (omega arith) (omega arith) is_x is_y)
+  next (suc i) (a ∷ us) (b ∷ bs) x y h k is_x is_y = ap (λ zs. f a b ∷ zs) (next i us bs x y (omega arith) (omega arith) is_x is_y)
 
   behind : (i : ℕ) (xs : List A) (ys : List B) (d : B) → get_or (paired f (take i xs) ys) i d ≡ get_or ys i d
   behind zero [] ys d = refl
-  behind zero (a ∷ as) ys d = refl
+  behind zero (a ∷ us) ys d = refl
   behind (suc i) [] ys d = refl
-  behind (suc i) (a ∷ as) [] d = refl
-  behind (suc i) (a ∷ as) (b ∷ bs) d = behind i as bs d
+  behind (suc i) (a ∷ us) [] d = refl
+  behind (suc i) (a ∷ us) (b ∷ bs) d = behind i us bs d
 
   -- the next of values that are shown is changed
   pub paired-more : {C : Type 0} (shown : C → B) (i : ℕ) (xs : List A) (ys : List B) (cs : List C) (x : A) (c new : C) → i < length xs → i < length cs → length ys ≡ length cs

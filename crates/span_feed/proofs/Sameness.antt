@@ -36,7 +36,7 @@ numbers-know (x ∷ xs) = rw (equal_self x, numbers-know xs) refl
 module _ {A : Type 0} (number : A → ℕ) (xs ys : List A) where
   pub lengths-differ : length xs ≢ length ys → false ≡ same_numbers (map number xs) (map number ys)
   lengths-differ differ =
-      sym (unless (same_numbers (map number xs) (map number ys)) (λ h. differ (sym (length-map number xs) ∙ ap length (numbers-tell (map number xs) (map number ys) h) ∙ length-map number ys)))
+      sym (unless (same_numbers (map number xs) (map number ys)) (λ h. differ (sym (length-map xs number) ∙ ap length (numbers-tell (map number xs) (map number ys) h) ∙ length-map ys number)))
 
   module _ (long : length xs ≡ length ys) (i : ℕ) where
     pub items-differ : (d : A) → i < length xs → not (number (get_or xs i d) == number (get_or ys i d)) ≡ true → false ≡ same_numbers (map number xs) (map number ys)

@@ -134,7 +134,7 @@ below-acted d past =
     sym (map-below (tick_strip (Acted d ∷ past)) (tick_strip past) 0 (now past) (now past) (λ k low. omega (arith, low)) (λ t low. strip-earlier (Acted d) past t low))
 
 pub length-below : (past : Past) (n : ℕ) → length (ticks_below past n) ≡ n
-length-below past n = length-map (tick_strip past) (numbers_from 0 n) ∙ length-numbers_from 0 n
+length-below past n = length-map (numbers_from 0 n) (tick_strip past) ∙ length-numbers_from 0 n
 
 -- one more is over, and so many that no state has
 from-one : (past : Past) (a n : ℕ) → map (tick_strip past) (numbers_from a (n + 1)) ≡ map (tick_strip past) (numbers_from a n) ++ tick_strip past (a + n) ∷ []

@@ -30,7 +30,7 @@ spans-of : {A : Type 0} (same : A → A → Bool) → Decides A same → (shown 
 spans-of same d shown from to ss s at later =
     let n : ℕ = to - from in
     let some : 0 < n = omega arith in
-    let begin : length (map shown ss) ≡ from = length-map shown ss ∙ sym at in
+    let begin : length (map shown ss) ≡ from = length-map ss shown ∙ sym at in
     let end : from + n ≡ to = omega arith in
     sym (
     ap (spans same) (map-append shown ss (replicate n s) ∙ ap (λ ys. map shown ss ++ ys) (map-replicate shown n s))
@@ -64,20 +64,20 @@ module _ (g : Group) (ss : List Strip) (s : Strip) where
     pub tasks-beside : length tracks.tasks ≡ length rows.tasks
     unfolding rows_of spanned
     tasks-beside =
-        ap (λ (v : GroupTracks). length v.tasks) tracks_are ∙ length-map (task_spanned g ss) (groups.tasks g)
-        ∙ sym (ap (λ (v : RowsKept). length v.tasks) rows_are ∙ length-map (task_kept g (s ∷ []) blank) (groups.tasks g))
+        ap (λ (v : GroupTracks). length v.tasks) tracks_are ∙ length-map (groups.tasks g) (task_spanned g ss)
+        ∙ sym (ap (λ (v : RowsKept). length v.tasks) rows_are ∙ length-map (groups.tasks g) (task_kept g (s ∷ []) blank))
 
     pub cpus-beside : length tracks.cpus ≡ length rows.cpus
     unfolding rows_of spanned
     cpus-beside =
-        ap (λ (v : GroupTracks). length v.cpus) tracks_are ∙ length-map (cpu_spanned g ss) (group_processors g)
-        ∙ sym (ap (λ (v : RowsKept). length v.cpus) rows_are ∙ length-map (cpu_kept g (s ∷ []) blank) (group_processors g))
+        ap (λ (v : GroupTracks). length v.cpus) tracks_are ∙ length-map (group_processors g) (cpu_spanned g ss)
+        ∙ sym (ap (λ (v : RowsKept). length v.cpus) rows_are ∙ length-map (group_processors g) (cpu_kept g (s ∷ []) blank))
 
     pub resvs-beside : length tracks.resvs ≡ length rows.resvs
     unfolding rows_of spanned
     resvs-beside =
-        ap (λ (v : GroupTracks). length v.resvs) tracks_are ∙ length-map (resv_spanned g ss) (group_resvs g)
-        ∙ sym (ap (λ (v : RowsKept). length v.resvs) rows_are ∙ length-map (resv_kept g (s ∷ []) blank) (group_resvs g))
+        ap (λ (v : GroupTracks). length v.resvs) tracks_are ∙ length-map (group_resvs g) (resv_spanned g ss)
+        ∙ sym (ap (λ (v : RowsKept). length v.resvs) rows_are ∙ length-map (group_resvs g) (resv_kept g (s ∷ []) blank))
 
   -- ---- it is taken out of the rows
 

@@ -74,6 +74,7 @@ impl SpanFeed {
     fn end_tick(&mut self, alloc: Global, afresh: &Afresh, now: u64) -> Result<(), NoMemory>
         requires now { now < TICK_END }
         requires held { (past : Past) × (over : List Strip) × (going : Strip) × IsAt afresh.now past
+            × (newest going.states ≡ past)
             × Holds (group_of afresh.now) over going self.old }
         ensures { OnOk result ((past : Past) (over : List Strip) (going : Strip)
             → IsAt afresh.now past → newest going.states ≡ past → now ≡ length over

@@ -1,0 +1,10 @@
+use Rattle.span_feed.proofs.feed.SpanFeed.end_tick.Goals as goal
+
+pub close-requires-clause-listed : goal.close-requires-clause-listed
+close-requires-clause-listed c = ?
+
+pub take_column-requires : goal.take_column-requires
+take_column-requires c = ?
+
+pub returns : goal.returns
+returns c = ?
