@@ -42,6 +42,15 @@ module _ (g : Group) (tracks : GroupTracks) where
   spans-same over over' going going' rows is_over is_going has =
       record { rows_are = has.rows_are ∙ ap (rows_of g []) is_going; tracks_are = has.tracks_are ∙ ap (spanned g) is_over }
 
+-- at opening
+pub opened : (g : Group) (rows new : RowsKept) (tracks : GroupTracks) → rows ≡ rows_of g [] blank → new ≡ rows_seen g [] rows → tracks.group ≡ g.number
+    → tracks.tasks ≡ map (task_spanned g []) (groups.tasks g) → tracks.cpus ≡ map (cpu_spanned g []) (group_processors g) → tracks.resvs ≡ map (resv_spanned g []) (group_resvs g) → HasSpans g [] [] (tick_strip [] 0) new tracks
+unfolding spanned
+opened g rows new tracks rows_are made group tasks cpus resvs = record {
+  rows_are = made ∙ ap (rows_seen g []) rows_are ∙ seen-rows g [] blank [] ∙ ap (rows_of g []) first-strip;
+  tracks_are = λ i. record { group = group i; tasks = tasks i; cpus = cpus i; resvs = resvs i };
+}
+
 -- one tick
 pub one-tick : (n : ℕ) (over : List Strip) (going : Strip) → over ++ replicate (n + 1 - n) going ≡ over ++ going ∷ []
 one-tick n over going = let one : n + 1 - n ≡ 1 = omega arith in ap (λ k. over ++ replicate k going) one

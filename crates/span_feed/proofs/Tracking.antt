@@ -15,7 +15,7 @@ use Rattle.event_texts.specs.CpuSpans as cpu_texts
 use Rattle.event_texts.specs.TaskSpans as task_texts
 use Rattle.event_lines.specs.Tracks.{CpuTrack, GroupTracks, ResvTrack, TaskTrack}
 use Rattle.span_feed.specs.Extended.{Decides, extended}
-use Rattle.span_feed.specs.Spanned.{cpu_emptied, cpu_more, cpu_spanned, paired, resv_emptied, resv_more, resv_spanned, spanned, task_emptied, task_more, task_spanned}
+use Rattle.span_feed.specs.Spanned.{HasSpans, cpu_emptied, cpu_more, cpu_spanned, paired, resv_emptied, resv_more, resv_spanned, spanned, task_emptied, task_more, task_spanned}
 use Rattle.span_feed.proofs.Extending.{spans-more}
 use Rattle.span_feed.proofs.Pairs.{paired-maps}
 use Rattle.span_feed.proofs.Sameness.{counts, cpu_cells, task_cells}
@@ -118,4 +118,12 @@ module _ (g : Group) (ss : List Strip) (s : Strip) where
       tasks = ((λ j. paired (task_more from to) (rows_are j).tasks (tracks_are j).tasks) ∙ paired-maps (task_more from to) (task_kept g (s ∷ []) blank) (task_spanned g ss) (task_spanned g longer_by) task-longer (groups.tasks g)) i;
       cpus = ((λ j. paired (cpu_more from to) (rows_are j).cpus (tracks_are j).cpus) ∙ paired-maps (cpu_more from to) (cpu_kept g (s ∷ []) blank) (cpu_spanned g ss) (cpu_spanned g longer_by) cpu-longer (group_processors g)) i;
       resvs = ((λ j. paired (resv_more from to) (rows_are j).resvs (tracks_are j).resvs) ∙ paired-maps (resv_more from to) (resv_kept g (s ∷ []) blank) (resv_spanned g ss) (resv_spanned g longer_by) resv-longer (group_resvs g)) i;
+    }
+
+    pub column-taken : (rows new : RowsKept) (tracks made : GroupTracks) → new.tasks ≡ map task_emptied rows.tasks → new.cpus ≡ map cpu_emptied rows.cpus → new.resvs ≡ map resv_emptied rows.resvs → made.group ≡ tracks.group
+        → made.tasks ≡ paired (task_more from to) rows.tasks tracks.tasks → made.cpus ≡ paired (cpu_more from to) rows.cpus tracks.cpus → made.resvs ≡ paired (resv_more from to) rows.resvs tracks.resvs
+        → HasSpans g (s ∷ []) ss blank rows tracks → HasSpans g [] longer_by blank new made
+    column-taken rows new tracks made new_tasks new_cpus new_resvs made_group made_tasks made_cpus made_resvs has = record {
+      rows_are = (λ i. record { tasks = new_tasks i; cpus = new_cpus i; resvs = new_resvs i }) ∙ emptied-rows rows has.rows_are;
+      tracks_are = (λ i. record { group = made_group i; tasks = made_tasks i; cpus = made_cpus i; resvs = made_resvs i }) ∙ longer-tracks rows tracks has.rows_are has.tracks_are;
     }

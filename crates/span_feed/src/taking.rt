@@ -143,5 +143,6 @@ pub(crate) fn take_column(
         tracks.resvs.as_mut_slice(),
         from,
         to,
-    )
+    )?;
+    Ok(())
 }
