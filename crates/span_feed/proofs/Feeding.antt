@@ -1,11 +1,11 @@
 -- What each call makes of the spans of a group, tick by tick.
-use Rattle.std.proofs.Common.{◌≡◌, ◌∙◌, ℕ, suc, ◌+◌, ◌-◌, ◌<◌, ◌≤◌, max, List, [], ◌∷◌, ◌++◌, length, map, refl, sym, ap, arith, append-nil, length-append}
+use Rattle.std.proofs.Common.{◌≡◌, ◌∙◌, ℕ, suc, ◌+◌, ◌-◌, ◌<◌, ◌≤◌, max, List, [], ◌∷◌, ◌++◌, length, map, refl, sym, ap, arith, append-nil}
 use Rattle.std.specs.Prelude.{replicate}
 use Rattle.std.proofs.lemmas.Simd.{map-map}
 use Rattle.rt_rules.specs.Numbers.{numbers_from}
 use Rattle.rt_model.specs.Group as groups
 use Rattle.rt_model.specs.Group.{Group, group_processors}
-use Rattle.rt_model.specs.Past.{Acted, Clock, Past, PastAct, now}
+use Rattle.rt_model.specs.Past.{Past, now}
 use Rattle.trace_views.specs.Cells.{cpu_cell, newest, resv_cell, running_on, task_cell}
 use Rattle.trace_views.specs.Columns.{tick_column, tick_columns}
 use Rattle.trace_views.specs.Moments.{Moment}
@@ -17,11 +17,11 @@ use Rattle.chart_rows.proofs.RowLaws.{acted-rows, closed-rows, seen-rows}
 use Rattle.event_texts.specs.Budgets.{same_count}
 use Rattle.event_texts.specs.CpuSpans as cpu_texts
 use Rattle.event_texts.specs.TaskSpans as task_texts
-use Rattle.event_lines.specs.Tracks.{CpuTrack, GroupTracks, ResvTrack, TaskTrack}
+use Rattle.event_lines.specs.Tracks.{GroupTracks, TaskTrack}
 use Rattle.event_lines.specs.TracksOf.{cpu_track, resv_track, task_track, tracks_of}
 use Rattle.span_feed.specs.Spanned.{HasSpans, cpu_spanned, resv_spanned, spanned, task_spanned, unmarked}
-use Rattle.span_feed.specs.TickStrips.{tick_strip, ticks_below, turned_strip}
-use Rattle.span_feed.proofs.TickLaws.{below-acted, below-gap, below-one, below-same, first-strip, length-below, newest-strip, strip-acted, strip-moved, turned-later, turned-not}
+use Rattle.span_feed.specs.TickStrips.{tick_strip, ticks_below}
+use Rattle.span_feed.proofs.TickLaws.{below-gap, below-one, first-strip, length-below}
 
 module _ (g : Group) (tracks : GroupTracks) where
   -- ---- the column that goes on is over, and a column of the newest state alone

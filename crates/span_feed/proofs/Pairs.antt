@@ -1,6 +1,6 @@
 -- Lists of which each value is changed by the one beside it, from the first on.
-use Rattle.std.proofs.Common.{◌≡◌, ◌∙◌, ℕ, zero, suc, ◌+◌, ◌<◌, ◌≤◌, List, [], ◌∷◌, length, map, take, get_or, set, refl, sym, ap, arith, add-one}
-use Rattle.std.proofs.lemmas.List.{get_or-map, length-map, map-set}
+use Rattle.std.proofs.Common.{◌≡◌, ◌∙◌, ℕ, zero, suc, ◌+◌, ◌<◌, ◌≤◌, List, [], ◌∷◌, length, map, take, get_or, set, refl, sym, ap, arith}
+use Rattle.std.proofs.lemmas.List.{get_or-map, map-set}
 use Rattle.chart_rows.proofs.Changed.{made-all}
 use Rattle.span_feed.specs.Spanned.{paired}
 

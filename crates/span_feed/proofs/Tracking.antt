@@ -6,14 +6,14 @@ use Rattle.std.proofs.lemmas.Simd.{map-map}
 use Rattle.rt_model.specs.Group as groups
 use Rattle.rt_model.specs.Group.{Group, group_processors}
 use Rattle.trace_views.specs.Cells.{cpu_cell, resv_cell, task_cell}
-use Rattle.trace_views.specs.Spans.{Span, spans}
+use Rattle.trace_views.specs.Spans.{spans}
 use Rattle.chart_texts.specs.Charts.{group_resvs}
 use Rattle.chart_rows.specs.Rows.{CpuKept, ResvKept, RowsKept, TaskKept, cpu_kept, resv_kept, rows_of, task_kept}
 use Rattle.chart_rows.specs.Strips.{Strip, blank, column_of}
 use Rattle.event_texts.specs.Budgets.{same_count}
 use Rattle.event_texts.specs.CpuSpans as cpu_texts
 use Rattle.event_texts.specs.TaskSpans as task_texts
-use Rattle.event_lines.specs.Tracks.{CpuTrack, GroupTracks, ResvTrack, TaskTrack}
+use Rattle.event_lines.specs.Tracks.{GroupTracks}
 use Rattle.span_feed.specs.Extended.{Decides, extended}
 use Rattle.span_feed.specs.Spanned.{HasSpans, cpu_emptied, cpu_more, cpu_spanned, paired, resv_emptied, resv_more, resv_spanned, spanned, task_emptied, task_more, task_spanned}
 use Rattle.span_feed.proofs.Extending.{spans-more}
@@ -107,11 +107,11 @@ module _ (g : Group) (ss : List Strip) (s : Strip) where
 
     pub longer-tracks : (rows : RowsKept) (tracks : GroupTracks) → rows ≡ rows_of g (s ∷ []) blank → tracks ≡ spanned g ss
         → (let v : GroupTracks = record {
-             group = tracks.group;
-             tasks = paired (task_more from to) rows.tasks tracks.tasks;
-             cpus = paired (cpu_more from to) rows.cpus tracks.cpus;
-             resvs = paired (resv_more from to) rows.resvs tracks.resvs;
-           } in v) ≡ spanned g longer_by
+          group = tracks.group;
+          tasks = paired (task_more from to) rows.tasks tracks.tasks;
+          cpus = paired (cpu_more from to) rows.cpus tracks.cpus;
+          resvs = paired (resv_more from to) rows.resvs tracks.resvs;
+        } in v) ≡ spanned g longer_by
     unfolding rows_of spanned
     longer-tracks rows tracks rows_are tracks_are = λ i. record {
       group = ap (λ (v : GroupTracks). v.group) tracks_are i;

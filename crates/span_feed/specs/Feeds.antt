@@ -1,5 +1,5 @@
 -- What is kept of a group for its spans, as its moves go on.
-use Rattle.std.specs.Prelude.{◌≡◌, ℕ, max, List, []}
+use Rattle.std.specs.Prelude.{ℕ, max, List, []}
 use Rattle.rt_model.specs.Group.{Group}
 use Rattle.rt_model.specs.Past.{Past, now}
 use Rattle.chart_rows.specs.Strips.{Strip}

@@ -124,7 +124,7 @@ impl SpanFeed {
             → IsFed (group_of afresh.now) past self.old
             → IsTurned (group_of afresh.now) tick.0 past self.new) }
     {
-        if now < tick {
+        if now.0 < tick.0 {
             self.end_tick(alloc, afresh, now.0)?;
             self.pass_ticks(alloc, afresh, now.0 + 1, tick.0)?;
         }

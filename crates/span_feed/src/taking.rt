@@ -12,12 +12,7 @@ use chart_rows::{CpuFeed, ResvFeed, Rows, TaskFeed};
 use event_lines::{CpuTrack, GroupTracks, ResvTrack, TaskTrack};
 use rt_base::NoMemory;
 
-fn take_task(
-    row: &mut TaskFeed,
-    track: &mut TaskTrack,
-    from: u64,
-    to: u64,
-) -> Result<(), NoMemory>
+fn take_task(row: &mut TaskFeed, track: &mut TaskTrack, from: u64, to: u64) -> Result<(), NoMemory>
     requires { length row.old.cells ≡ 1 }
     ensures row { OnOk result (row.new ≡ task_emptied row.old) }
     ensures track { OnOk result (task_track_shown track.new
@@ -41,12 +36,7 @@ fn take_cpu(row: &mut CpuFeed, track: &mut CpuTrack, from: u64, to: u64) -> Resu
     }
 }
 
-fn take_resv(
-    row: &mut ResvFeed,
-    track: &mut ResvTrack,
-    from: u64,
-    to: u64,
-) -> Result<(), NoMemory>
+fn take_resv(row: &mut ResvFeed, track: &mut ResvTrack, from: u64, to: u64) -> Result<(), NoMemory>
     requires { length row.old.left ≡ 1 }
     ensures row { OnOk result (row.new ≡ resv_emptied row.old) }
     ensures track { OnOk result (resv_track_shown track.new

@@ -3,7 +3,6 @@ use Rattle.std.proofs.lemmas.List.{get_or_read}
 use Rattle.std.specs.Prelude.{◌==◌}
 use Rattle.std.proofs.lemmas.Bool.Decides.{nat_tests}
 use Rattle.event_texts.specs.Budgets.{same_count}
-use Rattle.event_lines.specs.declared.tracks.BudgetSpan.{BudgetSpan}
 use Rattle.event_lines.specs.Shown.{budget_span_shown}
 use Rattle.span_feed.proofs.Extending.{shown-first, shown-longer, shown-one-more}
 use Rattle.span_feed.proofs.spans.add_budget_span.Goals as goal

@@ -1,8 +1,7 @@
-use Rattle.std.proofs.Common.{◌≡◌, ◌∙◌, ◌-◌, ◌<◌, true, false, length, refl, sym, arith}
+use Rattle.std.proofs.Common.{◌≡◌, ◌∙◌, ◌-◌, ◌<◌, length, refl, sym, arith}
 use Rattle.std.proofs.lemmas.List.{get_or_read}
 use Rattle.chart_cells.specs.Cells.{cell_shown}
 use Rattle.event_texts.specs.TaskSpans as task_texts
-use Rattle.event_lines.specs.declared.tracks.TaskSpan.{TaskSpan}
 use Rattle.event_lines.specs.Shown.{task_span_shown}
 use Rattle.span_feed.proofs.Extending.{shown-first, shown-longer, shown-one-more}
 use Rattle.span_feed.proofs.spans.add_task_span.Goals as goal

@@ -1,4 +1,4 @@
-use Rattle.std.proofs.Common.{◌≡◌, ◌∙◌, ◌<◌, length, map, sym, ap, arith}
+use Rattle.std.proofs.Common.{◌≡◌, ◌∙◌, ◌<◌, length, map, sym, arith}
 use Rattle.std.proofs.lemmas.List.{length-map}
 use Rattle.chart_rows.proofs.Changed.{changed-all, changed-all-at, changed-at, changed-more}
 use Rattle.chart_rows.specs.Rows.{ResvKept}
@@ -16,10 +16,11 @@ loop-i-preserved c =
     let read = changed-at resv_emptied c.args.rows.now c.loop-i.rows c.loop-i.i c.index-rows-i.result c.loop-i-test.true c.loop-i.invariant.0 c.index-rows-i.is in
     let below : c.loop-i.i < length c.loop-i.tracks = omega (arith, c.loop-i-test.true, c.requires.beside, c.loop-i.auto.tracks) in
     let long : length (map resv_track_shown c.args.tracks.now) ≡ length c.loop-i.tracks = length-map c.args.tracks.now resv_track_shown ∙ sym c.loop-i.auto.tracks in
-    let made = c.in_ok-take_resv.ensures.track ∙ (λ j. resv_more c.args.from c.args.to (sym c.index-rows-i.is j) (resv_track_shown (sym c.index-tracks-i.is j))) in
-    (changed-more resv_emptied c.args.rows.now c.loop-i.rows c.loop-i.i c.index-rows-i.result c.take_resv.new.row c.loop-i-test.true c.loop-i.invariant.0 c.index-rows-i.is c.in_ok-take_resv.ensures.row,
-    paired-more (resv_more c.args.from c.args.to) resv_track_shown c.loop-i.i c.args.rows.now (map resv_track_shown c.args.tracks.now) c.loop-i.tracks c.index-rows-i.result c.index-tracks-i.result c.take_resv.new.track
-    c.loop-i-test.true below long c.loop-i.invariant.1 read c.index-tracks-i.is made)
+    let made = c.in_ok-take_resv.ensures.track ∙ (λ j. resv_more c.args.from c.args.to (sym c.index-rows-i.is j) (resv_track_shown (sym c.index-tracks-i.is j))) in (
+      changed-more resv_emptied c.args.rows.now c.loop-i.rows c.loop-i.i c.index-rows-i.result c.take_resv.new.row c.loop-i-test.true c.loop-i.invariant.0 c.index-rows-i.is c.in_ok-take_resv.ensures.row,
+      paired-more (resv_more c.args.from c.args.to) resv_track_shown c.loop-i.i c.args.rows.now (map resv_track_shown c.args.tracks.now) c.loop-i.tracks c.index-rows-i.result c.index-tracks-i.result c.take_resv.new.track
+          c.loop-i-test.true below long c.loop-i.invariant.1 read c.index-tracks-i.is made,
+    )
 
 pub returns-clause-rows : goal.returns-clause-rows
 returns-clause-rows c = c.loop-i.invariant.0 ∙ changed-all resv_emptied c.args.rows.now c.loop-i.i c.loop-i-test.false

@@ -25,6 +25,6 @@ returns c =
     let tracks = group_tracks_shown c.args.self.now.tracks in
     let d = act_shown c.args.act.now in
     on_ok_weaker c.see.result (λ made past at foretold fed.
-      let m : Moment = record { act = d; before = past } in
-      let taken = act-taken g tracks _ _ m _ c.act.new.self fed (c.in_ok-act.ensures g m (rows-listed g [] _ c.args.self.now.rows fed.rows_are) refl (c.told-unit.ensures g m refl foretold)) in
-      spans-same g tracks _ _ _ _ _ (below-acted d past) (sym (strip-acted d past)) (state-seen g tracks _ _ (Acted d ∷ past) _ _ taken (made (Acted d ∷ past) at))) c.see.ensures
+    let m : Moment = record { act = d; before = past } in
+    let taken = act-taken g tracks _ _ m _ c.act.new.self fed (c.in_ok-act.ensures g m (rows-listed g [] _ c.args.self.now.rows fed.rows_are) refl (c.told-unit.ensures g m refl foretold)) in
+    spans-same g tracks _ _ _ _ _ (below-acted d past) (sym (strip-acted d past)) (state-seen g tracks _ _ (Acted d ∷ past) _ _ taken (made (Acted d ∷ past) at))) c.see.ensures

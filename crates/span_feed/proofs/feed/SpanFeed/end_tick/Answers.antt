@@ -20,6 +20,6 @@ returns c =
     let g = group_of c.args.afresh.now in
     let later : c.args.now < c.args.now + 1 = omega arith in
     on_ok_weaker c.take_column.result (λ taken past over going at newest long has.
-      spans-same g (group_tracks_shown c.take_column.new.tracks) _ _ _ _ c.take_column.new.rows (one-tick c.args.now over going) refl
-      (taken g over going long later
-      (column-ended g (group_tracks_shown c.args.self.now.tracks) over going past c.args.self.now.rows c.close.new.self newest has (c.in_ok-close.ensures past at)))) c.take_column.ensures
+    spans-same g (group_tracks_shown c.take_column.new.tracks) _ _ _ _ c.take_column.new.rows (one-tick c.args.now over going) refl
+    (taken g over going long later
+    (column-ended g (group_tracks_shown c.args.self.now.tracks) over going past c.args.self.now.rows c.close.new.self newest has (c.in_ok-close.ensures past at)))) c.take_column.ensures

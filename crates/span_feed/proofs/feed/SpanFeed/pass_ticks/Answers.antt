@@ -32,5 +32,5 @@ returns c =
     let tracks = group_tracks_shown c.args.self.now.tracks in
     let later : c.args.from < c.args.to = omega (arith, c.if-to-from.false) in
     on_ok_weaker c.take_column.result (λ taken past over at long has.
-      let shown = state-seen g tracks over blank past c.args.self.now.rows c.see.new.self has (c.in_ok-see.ensures past at) in
-      taken g over (seen past blank) long later (column-ended g tracks over (seen past blank) past c.see.new.self c.close.new.self refl shown (c.in_ok-close.ensures past at))) c.take_column.ensures
+    let shown = state-seen g tracks over blank past c.args.self.now.rows c.see.new.self has (c.in_ok-see.ensures past at) in
+    taken g over (seen past blank) long later (column-ended g tracks over (seen past blank) past c.see.new.self c.close.new.self refl shown (c.in_ok-close.ensures past at))) c.take_column.ensures

@@ -19,4 +19,4 @@ returns c =
     let g = group_of c.args.afresh.now in
     let tracks = group_tracks_shown c.args.self.now.tracks in
     on_ok_weaker c.see.result (λ made past tick at turned.
-      spans-same g tracks _ _ _ _ _ (below-same tick past) (strip-moved tick past) (state-seen g tracks _ _ (Clock tick ∷ past) _ _ turned (made (Clock tick ∷ past) at))) c.see.ensures
+    spans-same g tracks _ _ _ _ _ (below-same tick past) (strip-moved tick past) (state-seen g tracks _ _ (Clock tick ∷ past) _ _ turned (made (Clock tick ∷ past) at))) c.see.ensures
