@@ -8,3 +8,5 @@ pub mod Finishing
 pub mod Stepping
 pub mod Clocked
 pub mod Paneled
+pub mod Shown
+pub mod Feeding

@@ -25,7 +25,8 @@ EndsInAct [] = ⊤
 EndsInAct (Clock tick ∷ past) = ⊥
 EndsInAct (Acted d ∷ past) = ⊤
 
-pub record IsFinished (g : Group) (past : Past) (cs : List Column) (row : TaskKept) (task : Task) (clocks : ClocksKept) (clock : ℕ) (edges : List Edges) : Type 0 where
+pub record IsFinished (g : Group) (past : Past) (cs : List Column) (row : TaskKept) (task : Task) (clocks : ClocksKept) (clock : ℕ)
+    (edges : List Edges) : Type 0 where
   pub row_is : row ≡ task_kept g (map strip_of cs) blank row.task
   pub task_is : task ≡ groups.task g row.task
   pub period : 0 < task.period

@@ -6,3 +6,4 @@ pub mod Finished
 pub mod EntryClocks
 pub mod Stands
 pub mod Panels
+pub mod Feeds

@@ -23,7 +23,8 @@ pub record CanSee (v : Standing) (axis : Axis) (w : Window) (tick : ℕ) (past :
   pub inside_is : inside ≡ is_in w (place axis (Clock tick ∷ past))
   pub rows_are : rows ≡ rows_of (group_of v) (closed axis w (Clock tick ∷ past)) (open_turned axis w tick past)
 
-pub record CanAct (v : Standing) (axis : Axis) (w : Window) (past : Past) (act : PastAct) (inside : Bool) (unit : Option Unit) (rows : RowsKept) : Type 0 where
+pub record CanAct (v : Standing) (axis : Axis) (w : Window) (past : Past) (act : PastAct) (inside : Bool) (unit : Option Unit)
+    (rows : RowsKept) : Type 0 where
   pub at : IsAt v (Acted act ∷ past)
   pub inside_is : inside ≡ is_in w (place axis past)
   pub told : inside ≡ true → IsTold (group_of v) (record { act = act; before = past }) unit

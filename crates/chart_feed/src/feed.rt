@@ -1,12 +1,10 @@
 //! What a chart shows of a group, gathered while the group's steps are taken again.
-ghost use Rattle.std.specs.Prelude.{◌≡◌, ◌+◌, ◌<◌, ◌≤◌, ◌×◌, ◌∷◌, [], ℕ, IfOk, OnOk, length};
+ghost use Rattle.std.specs.Prelude.{◌≡◌, ◌+◌, ◌<◌, ◌≤◌, ◌∷◌, [], ℕ, IfOk, OnOk};
 ghost use Rattle.rt_base.specs.TaskNos.{numbers};
 ghost use Rattle.rt_base.specs.declared.TheConstants.{TICK_END};
 ghost use Rattle.rt_task.specs.Validity.{IsValid};
 ghost use Rattle.rt_model.specs.Group as groups;
-ghost use Rattle.rt_model.specs.Group.{Group};
-ghost use Rattle.rt_model.specs.Past.{Acted, Clock, Past};
-ghost use Rattle.rt_model.specs.Past as pasts;
+ghost use Rattle.rt_model.specs.Past.{Acted, Clock, Past, entries_in, now};
 ghost use Rattle.rt_plays.specs.Homes.{IsProcessorOf};
 ghost use Rattle.rank_afresh.specs.Standing.{IsAt, group_of};
 ghost use Rattle.chart_cells.specs.Cells.{cpu_numbers};
@@ -18,7 +16,8 @@ ghost use Rattle.chart_texts.specs.Windows.{columns_in};
 ghost use Rattle.view_acts.specs.ShownActs.{act_shown};
 ghost use Rattle.chart_rows.specs.Foretold.{moment_of};
 ghost use Rattle.chart_rows.specs.Units.{resv_numbers};
-ghost use Rattle.chart_feed.specs.Feeds.{IsExpected, IsFed, IsMoved, IsTurned};
+ghost use Rattle.chart_feed.specs.Feeds.{IsActed, IsClocked, IsExpected, IsFed, IsMoved, IsTurned};
+ghost use Rattle.chart_feed.specs.WindowStrips.{is_in, place};
 
 use crate::clocks::{TaskClocks, no_clocks, note_act};
 use crate::columns::{begin, end, take_act, take_state, turn};
@@ -26,7 +25,7 @@ use crate::entry_clocks::{EntryClocks, is_in};
 use crate::panel::panel_with;
 use crate::window_columns::columns_of;
 use chart_cells::Panel;
-use chart_rows::{Rows, Unit, foretell, told};
+use chart_rows::{ResvFeed, Rows, Unit, foretell, told};
 use chart_texts::{Axis, Window};
 use rank_afresh::Afresh;
 use rt_base::{CpuNo, GroupNo, NoMemory, ResvNo, TaskNo, Tick};
@@ -52,6 +51,13 @@ pub struct Feed {
     entries: EntryClocks,
 }
 
+/// The rows of reservations.
+fn resvs_of(rows: &Rows) -> &[ResvFeed]
+    ensures { result.now ≡ rows.now.resvs }
+{
+    rows.resvs.as_slice()
+}
+
 impl Feed {
     /// A group at opening.
     pub fn open(
@@ -62,9 +68,11 @@ impl Feed {
         parts: &Parts,
         afresh: &Afresh,
     ) -> Result<Feed, NoMemory>
+        requires valid { IsValid parts.now }
         requires parts { parts.now ≡ afresh.now.setup }
         requires tasks { numbers members.now.tasks.now ≡ groups.tasks (group_of afresh.now) }
-        requires cpus { cpu_numbers members.now.cpus.now ≡ groups.group_processors (group_of afresh.now) }
+        requires cpus { cpu_numbers members.now.cpus.now
+            ≡ groups.group_processors (group_of afresh.now) }
         requires resvs { resv_numbers members.now.resvs.now ≡ group_resvs (group_of afresh.now) }
         requires at { IsAt afresh.now [] }
         ensures { IfOk result (IsFed axis window (group_of afresh.now) []) }
@@ -87,15 +95,15 @@ impl Feed {
         &mut self,
         alloc: Global,
         afresh: &Afresh,
-        now: Tick,
+        clock: Tick,
         tick: Tick,
     ) -> Result<(), NoMemory>
-        requires now { now.0 < TICK_END }
+        requires clock { clock.0 < TICK_END }
         requires fed { (axis : axes.Axis) × (window : windows.Window) × (past : Past)
-            × (now.0 ≡ pasts.now past) × IsAt afresh.now past
+            × IsClocked afresh.now clock.0 past
             × IsFed axis window (group_of afresh.now) past self.old }
         ensures { OnOk result ((axis : axes.Axis) (window : windows.Window) (past : Past)
-            → now.0 ≡ pasts.now past → IsAt afresh.now past
+            → IsClocked afresh.now clock.0 past
             → IsFed axis window (group_of afresh.now) past self.old
             → IsTurned axis window (group_of afresh.now) tick.0 past self.new) }
     {
@@ -105,40 +113,44 @@ impl Feed {
             self.axis,
             self.window,
             afresh,
-            now.0,
+            clock.0,
             tick.0,
         )
     }
 
     /// Whether the column that goes on is in the window, at the clock.
-    fn is_inside(&self, now: Tick) -> bool {
+    fn is_inside(&self, clock: Tick) -> bool
+        ensures { (past : Past) → clock.0 ≡ now past → self.now.entries.count ≡ entries_in past
+            → result ≡ is_in self.now.window (place self.now.axis past) }
+    {
         match self.axis {
-            Axis::Ticks => is_in(self.window, now.0),
+            Axis::Ticks => is_in(self.window, clock.0),
             Axis::Entries => is_in(self.window, self.entries.count),
         }
     }
 
-    /// Takes the state after the clock was moved, which stands at this one.
-    pub fn see(&mut self, alloc: Global, afresh: &Afresh, now: Tick) -> Result<(), NoMemory>
-        requires moved { (axis : axes.Axis) × (window : windows.Window) × (past : Past) × (tick : ℕ)
-            × (now.0 ≡ pasts.now (Clock tick ∷ past)) × IsAt afresh.now (Clock tick ∷ past)
+    /// Takes the state after the clock was moved, which is this one then.
+    pub fn see(&mut self, alloc: Global, afresh: &Afresh, clock: Tick) -> Result<(), NoMemory>
+        requires { (axis : axes.Axis) × (window : windows.Window) × (past : Past) × (tick : ℕ)
+            × IsClocked afresh.now clock.0 (Clock tick ∷ past)
             × IsTurned axis window (group_of afresh.now) tick past self.old }
         ensures { OnOk result ((axis : axes.Axis) (window : windows.Window) (past : Past) (tick : ℕ)
-            → now.0 ≡ pasts.now (Clock tick ∷ past) → IsAt afresh.now (Clock tick ∷ past)
+            → IsClocked afresh.now clock.0 (Clock tick ∷ past)
             → IsTurned axis window (group_of afresh.now) tick past self.old
             → IsMoved axis window (group_of afresh.now) tick past self.new) }
     {
-        let inside = self.is_inside(now);
+        let inside = self.is_inside(clock);
         take_state(&mut self.rows, alloc, afresh, inside)
     }
 
-    /// The unit that an act of a processor would be; none where it can be none, or the column that goes on is not in the window.
+    /// The unit that an act of a processor would be, at the clock; none where it can be none, or the column that goes on is not in the
+    /// window.
     pub fn foretell(
         &self,
         alloc: Global,
         parts: &Parts,
         afresh: &Afresh,
-        now: Tick,
+        clock: Tick,
         cpu: CpuNo,
         act: Act,
     ) -> Result<Option<Unit>, NoMemory>
@@ -146,18 +158,18 @@ impl Feed {
         requires parts { parts.now ≡ afresh.now.setup }
         requires cpu { IsProcessorOf (group_of afresh.now) cpu.0 }
         requires moved { (axis : axes.Axis) × (window : windows.Window) × (past : Past) × (tick : ℕ)
-            × IsAt afresh.now (Clock tick ∷ past)
+            × IsClocked afresh.now clock.0 (Clock tick ∷ past)
             × IsMoved axis window (group_of afresh.now) tick past self.now }
-        ensures { IfOk result (λ o. (axis : axes.Axis) (window : windows.Window) (past : Past) (tick : ℕ)
-            → now.0 ≡ pasts.now (Clock tick ∷ past) → IsAt afresh.now (Clock tick ∷ past)
+        ensures { IfOk result (λ o. (axis : axes.Axis) (window : windows.Window) (past : Past)
+            (tick : ℕ) → IsClocked afresh.now clock.0 (Clock tick ∷ past)
             → IsMoved axis window (group_of afresh.now) tick past self.now
             → IsExpected axis window (group_of afresh.now)
             (moment_of (group_of afresh.now) cpu.0 act (Clock tick ∷ past)) o) }
     {
-        if !self.is_inside(now) {
+        if !self.is_inside(clock) {
             return Ok(None);
         }
-        foretell(alloc, parts, afresh, self.rows.resvs.as_slice(), cpu, act)
+        foretell(alloc, parts, afresh, resvs_of(&self.rows), cpu, act)
     }
 
     /// Takes an act, the unit that it was foretold to be, and the state after it, whose clock is this one.
@@ -165,71 +177,57 @@ impl Feed {
         &mut self,
         alloc: Global,
         afresh: &Afresh,
-        now: Tick,
+        clock: Tick,
         act: &ShownAct,
         unit: Option<Unit>,
     ) -> Result<(), NoMemory>
-        requires now { now.0 < TICK_END }
+        requires clock { clock.0 < TICK_END }
         requires acted { (axis : axes.Axis) × (window : windows.Window) × (past : Past) × (tick : ℕ)
-            × (now.0 ≡ pasts.now (Clock tick ∷ past))
-            × IsAt afresh.now (Acted (act_shown act.now) ∷ Clock tick ∷ past)
-            × IsExpected axis window (group_of afresh.now)
-            (record { act = act_shown act.now; before = Clock tick ∷ past }) unit
-            × IsMoved axis window (group_of afresh.now) tick past self.old }
+            × IsActed axis window afresh.now clock.0 (act_shown act.now) tick past unit self.old }
         ensures { OnOk result ((axis : axes.Axis) (window : windows.Window) (past : Past) (tick : ℕ)
-            → now.0 ≡ pasts.now (Clock tick ∷ past)
-            → IsAt afresh.now (Acted (act_shown act.now) ∷ Clock tick ∷ past)
-            → IsExpected axis window (group_of afresh.now)
-            (record { act = act_shown act.now; before = Clock tick ∷ past }) unit
-            → IsMoved axis window (group_of afresh.now) tick past self.old
-            → IsFed axis window (group_of afresh.now) (Acted (act_shown act.now) ∷ Clock tick ∷ past) self.new) }
+            → IsActed axis window afresh.now clock.0 (act_shown act.now) tick past unit self.old
+            → IsFed axis window (group_of afresh.now)
+            (Acted (act_shown act.now) ∷ Clock tick ∷ past) self.new) }
     {
-        let inside = self.is_inside(now);
+        let inside = self.is_inside(clock);
         let unit = told(unit, act);
-        take_act(
-            &mut self.rows,
-            alloc,
-            self.axis,
-            afresh,
-            inside,
-            act,
-            &unit,
-        )?;
-        note_act(self.tasks.as_mut_slice(), now.0, act)?;
-        self.entries.note(self.window, now.0)
+        take_act(&mut self.rows, alloc, self.axis, afresh, inside, act, &unit)?;
+        note_act(self.tasks.as_mut_slice(), clock.0, act)?;
+        self.entries.note(self.window, clock.0)
     }
 
-    /// What the chart shows of the group, whose clock is this one.
+    /// What the chart shows of the group, at the clock.
     pub fn close(
-        mut self,
+        self,
         alloc: Global,
         parts: &Parts,
         group: GroupNo,
         afresh: &Afresh,
-        now: Tick,
+        clock: Tick,
     ) -> Result<Panel, NoMemory>
         requires valid { IsValid parts.now }
         requires parts { parts.now ≡ afresh.now.setup }
         requires group { group.0 ≡ afresh.now.group }
-        requires now { now.0 < TICK_END }
-        requires window { (self.old.window.from < TICK_END + 1) × (self.old.window.from ≤ self.old.window.to) }
+        requires clock { clock.0 < TICK_END }
+        requires from { self.window.from < TICK_END + 1 }
+        requires window { self.window.from ≤ self.window.to }
         requires fed { (axis : axes.Axis) × (window : windows.Window) × (past : Past)
-            × (now.0 ≡ pasts.now past) × IsAt afresh.now past
-            × IsFed axis window (group_of afresh.now) past self.old }
+            × IsClocked afresh.now clock.0 past
+            × IsFed axis window (group_of afresh.now) past self }
         ensures { IfOk result (λ p. (axis : axes.Axis) (window : windows.Window) (past : Past)
-            → now.0 ≡ pasts.now past → IsAt afresh.now past
+            → IsClocked afresh.now clock.0 past
             → IsFed axis window (group_of afresh.now) past self
             → panel_shown p ≡ panel_of (group_of afresh.now) (columns_in axis window past) past) }
     {
-        end(
-            &mut self.rows,
-            alloc,
-            self.axis,
-            self.window,
-            afresh,
-            now.0,
-        )?;
-        let columns = columns_of(alloc, self.axis, self.window, now.0, self.entries)?;
-        panel_with(alloc, parts, group, now, columns, self.rows, self.tasks.as_slice())
+        let Feed {
+            axis,
+            window,
+            mut rows,
+            tasks,
+            entries,
+        } = self;
+        end(&mut rows, alloc, axis, window, afresh, clock.0)?;
+        let columns = columns_of(alloc, axis, window, clock.0, entries)?;
+        panel_with(alloc, parts, group, clock, columns, rows, tasks.as_slice())
     }
 }

@@ -13,12 +13,10 @@ ghost use Rattle.chart_rows.specs.Rows.{cpu_kept, resv_kept, task_kept};
 ghost use Rattle.chart_rows.specs.Strips.{blank, strip_of};
 
 use crate::clocks::TaskClocks;
-use chart_rows::CpuFeed;
 use crate::marking::set_marks;
-use chart_rows::ResvFeed;
-use chart_rows::TaskFeed;
 use crate::times::Edges;
 use chart_cells::{CpuRow, ResvRow, TaskRow};
+use chart_rows::{CpuFeed, ResvFeed, TaskFeed};
 use rt_task::Task;
 
 /// The row of a task, whose columns are over, at the clock.
@@ -31,8 +29,8 @@ pub(crate) fn task_row(
 ) -> TaskRow
     requires deadline { task.now.rel_deadline < TICK_END }
     requires now { now < TICK_END }
-    requires low { All (λ (e : seen_edges.Edges). (e.first < TICK_END + 1) × (e.high < TICK_END + 1))
-        edges.now }
+    requires low { All (λ (e : seen_edges.Edges).
+        (e.first < TICK_END + 1) × (e.high < TICK_END + 1)) edges.now }
     requires finished { (g : Group) × (past : Past) × (cs : List Column)
         × IsFinished g past cs row task.now clocks.now now (map edges_shown edges.now) }
     ensures { (g : Group) (past : Past) (cs : List Column)

@@ -4,8 +4,11 @@
 mod clocks;
 mod columns;
 mod entry_clocks;
+mod feed;
 mod finish;
 mod marking;
 mod panel;
 mod times;
 mod window_columns;
+
+pub use feed::{Feed, Members};

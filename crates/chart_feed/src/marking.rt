@@ -68,7 +68,8 @@ pub(crate) fn set_marks(
     requires period { 0 < task.now.period }
     requires deadline { task.now.rel_deadline < TICK_END }
     requires now { now < TICK_END }
-    requires low { All (λ (e : seen_edges.Edges). (e.first < TICK_END + 1) × (e.high < TICK_END + 1)) edges.now }
+    requires low { All (λ (e : seen_edges.Edges).
+        (e.first < TICK_END + 1) × (e.high < TICK_END + 1)) edges.now }
     requires size { length cells.old ≡ length edges.now }
     ensures { map marked_shown cells.new
         ≡ marked_in task.now arrivals.now ends.now now cells.old (map edges_shown edges.now) }

@@ -4,7 +4,7 @@
 
 mod acting;
 mod cpus;
-mod foretell;
+mod foreseen;
 mod look;
 mod loops;
 mod opening;
@@ -15,7 +15,7 @@ mod tasks;
 mod units;
 
 pub use cpus::CpuFeed;
-pub use foretell::{foretell, told};
+pub use foreseen::{foretell, told};
 pub use resvs::ResvFeed;
 pub use rows::Rows;
 pub use tasks::TaskFeed;

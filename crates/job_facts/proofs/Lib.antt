@@ -4,3 +4,4 @@ pub mod Jobs
 pub mod Few
 pub mod Rows
 pub mod RowSums
+pub mod Periods

@@ -1,19 +1,12 @@
 -- What is read off a table of a task and its jobs.
 use Rattle.std.proofs.Common.{◌≡◌, ◌∙◌, [], ◌∷◌, ◌++◌, map, ℕ, ◌+◌, ◌-◌, ◌<◌, ◌≤◌, List, length, get_or, sym, ap, subst, arith}
-use Rattle.std.specs.Prelude.{All, slice_index_or}
+use Rattle.std.specs.Prelude.{All}
 use Rattle.std.proofs.lemmas.List.{length-map}
 use Rattle.rt_base.specs.declared.TheConstants.{MOST_STEPS}
-use Rattle.rt_task.specs.Draft.{draft_of}
-use Rattle.rt_task.specs.RangeRules.{task_range}
-use Rattle.rt_task.specs.RuleWords.{is_span}
-use Rattle.rt_task.specs.Validity.{IsValid}
-use Rattle.rt_task.specs.declared.Parts.{Parts}
 use Rattle.rt_task.specs.declared.Task.{Task}
 use Rattle.rt_rules.specs.Numbers.{numbers_from}
-use Rattle.rt_rules.proofs.BoolLaws.{both}
-use Rattle.rt_laws.proofs.ValidSets.{keeps_rows, task-keeps, within-bounds}
 use Rattle.rt_model.specs.Blocking.{requests}
-use Rattle.rt_model.specs.Group.{Group, no_task}
+use Rattle.rt_model.specs.Group.{Group}
 use Rattle.rt_model.specs.Group as groups
 use Rattle.rt_model.specs.Jobs.{done}
 use Rattle.rt_model.specs.Past.{Past, now}
@@ -27,6 +20,7 @@ use Rattle.trace_views.specs.JobRows.{JobRow, job_row, listed, rows_of}
 use Rattle.trace_views.specs.TaskRows.{task_row}
 use Rattle.job_facts.specs.Sums.{Sums, added, sums_of, task_row_from}
 use Rattle.job_facts.proofs.Jobs.{map-last}
+use Rattle.job_facts.proofs.Periods.{period-positive}
 use Rattle.job_facts.proofs.RowSums.{sums_are_kept}
 use Rattle.job_facts.specs.Places.{request_places}
 use Rattle.job_facts.specs.Rows.{job_in, listed_in, row_from}
@@ -106,14 +100,6 @@ module _ (g : Group) (past : Past) (v : JobTable) (task : Task) (clock job : ℕ
       ∙ sym (rows_are_kept.read g number job past)
 
 -- ---- the line of a task
-
-pub period-positive : (p : Parts) → IsValid p → (i : ℕ) → i < length p.tasks → 0 < (slice_index_or p.tasks i no_task).period
-unfolding task_range
-period-positive p valid i low =
-    let t : Task = slice_index_or p.tasks i no_task in
-    let kept = task-keeps p (task_range (draft_of p)) (keeps_rows p valid).range i low in
-    let by_period = both (is_span t.period) _ (both (is_span t.cost) _ kept.keeps).1 in
-    omega (arith, within-bounds 1 _ t.period by_period.0)
 
 module _ (g : Group) (past : Past) (v : JobTable) (task : Task) (clock : ℕ) (rs : List Seen) (is : IsTableWith g past v task clock rs) where
   pub task-period : 0 < task.period

@@ -8,7 +8,7 @@ use Rattle.trace_views.specs.Cells.{is_client}
 use Rattle.chart_rows.specs.Foretold.{server}
 use Rattle.chart_rows.specs.Units.{number_of_resv}
 use Rattle.chart_rows.proofs.Foretelling.{serves}
-use Rattle.chart_rows.proofs.foretell.unit_of.Goals as goal
+use Rattle.chart_rows.proofs.foreseen.unit_of.Goals as goal
 
 pub returns : goal.returns
 returns c = λ m at cpu task unit.

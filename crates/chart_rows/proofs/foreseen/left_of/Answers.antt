@@ -2,7 +2,7 @@ use Rattle.std.proofs.Common.{ap}
 use Rattle.rank_afresh.specs.Standing.{group_of}
 use Rattle.chart_rows.specs.Units.{number_of_resv}
 use Rattle.chart_rows.proofs.RowParts.{resv-of}
-use Rattle.chart_rows.proofs.foretell.left_of.Goals as goal
+use Rattle.chart_rows.proofs.foreseen.left_of.Goals as goal
 
 pub left-requires-clause-low : goal.left-requires-clause-low
 left-requires-clause-low c = (resv-of (group_of c.args.afresh.now) c.in-Some.resv.0 (c.requires.listed c.in-Some.resv.0 (ap number_of_resv c.in-Some.is))).low

@@ -7,7 +7,7 @@ use Rattle.rt_laws.proofs.ValidSets.{rules_of}
 use Rattle.rank_afresh.specs.Standing.{group_of}
 use Rattle.chart_rows.specs.Foretold.{moment_of}
 use Rattle.chart_rows.proofs.Foretelling.{idle-none, other-none}
-use Rattle.chart_rows.proofs.foretell.foretell.Goals as goal
+use Rattle.chart_rows.proofs.foreseen.foretell.Goals as goal
 
 pub returns-then-not-asks_work : goal.returns-then-not-asks_work
 returns-then-not-asks_work c = λ past at. other-none (group_of c.args.afresh.now) c.args.cpu.0 c.args.act past (sym c.asks_work.ensures ∙ c.if-not-asks_work.true)

@@ -1,7 +1,7 @@
 use Rattle.std.proofs.Common.{◌≡◌, drop, map}
 use Rattle.rt_rules.specs.Numbers.{has}
 use Rattle.chart_rows.specs.Rows.{ResvKept}
-use Rattle.chart_rows.proofs.foretell.is_one_of.Given as goal
+use Rattle.chart_rows.proofs.foreseen.is_one_of.Given as goal
 
 -- the rest answers as the whole
 abbrev pub invariant-loop-row : goal.invariant-loop-row
