@@ -1,0 +1,6 @@
+mod Joins
+mod Chains
+mod Pieces
+mod Spans
+mod Commas
+pub mod Told
