@@ -1,1 +1,5 @@
 pub mod Missing
+pub mod Marking
+pub mod Telling
+pub mod Stepping
+pub mod Grouping
