@@ -58,11 +58,11 @@ all-ends t d (e ∷ past) h =
 -- a job has ended by now
 end-past : (t k c : ℕ) (past : Past) → end t k past ≡ Some c → c ≤ now past
 end-past t k c [] h = let none : None ≡ Some c = sym (no-end t k) ∙ h in cc
-end-past t k c (e ∷ past) h = by_case (done t past + 1 == k && ends_job t e) (sym (end-more t k e past) ∙ h)
+end-past t k c (e ∷ past) h = by_case (done t past + 1 == k && ends_job t e) (sym (end-more t k e past) ∙ h) (λ is. end-past t k c past is)
   where
-    by_case : (b : Bool) → or_else (clock_if b past) (end t k past) ≡ Some c → c ≤ now (e ∷ past)
-    by_case true is = let at : now past ≡ c = grind arith in omega (arith, at, rises e past)
-    by_case false is = let low = end-past t k c past is in omega (arith, low, rises e past)
+    by_case : (b : Bool) → or_else (clock_if b past) (end t k past) ≡ Some c → (end t k past ≡ Some c → c ≤ now past) → c ≤ now (e ∷ past)
+    by_case true is before = let at : now past ≡ c = grind arith in omega (arith, at, rises e past)
+    by_case false is before = let low = before is in omega (arith, low, rises e past)
 
 -- ---- by a clock, fewer than k jobs have ended exactly where job k has not, or later
 
