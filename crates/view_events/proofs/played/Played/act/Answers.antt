@@ -40,8 +40,39 @@ feed-requires-clause-next c =
     (_,
     can-feed c.args.self.now.table c.args.self.now.replay c.args.step past is.moved (act_shown c.act-act.result) (c.act-act.ensures.act past is.moved) c.now.result.0 (c.now.ensures.at _ (c.act-act.ensures.at past is.moved)) c.requires.step is.kept)
 
-pub act-requires-clause-acted : goal.act-requires-clause-acted
-act-requires-clause-acted c = ?
+pub act-requires : goal.act-requires
+act-requires c =
+    let past = c.requires.moved.0 in
+    let is = c.requires.moved.1 in
+    let g = group_of c.args.self.now in
+    let step = c.args.step in
+    let d = act_shown c.act-act.result in
+    let told = c.act-act.ensures.act past is.moved in
+    let same = c.afresh.ensures.group ∙ c.act-act.ensures.group in
+    let at = at-shown g _ same step past d told c.afresh.result.now (c.afresh.ensures.at _ (c.act-act.ensures.at past is.moved)) in
+    let foreseen = c.in_ok-unit.ensures (Clock step.tick.0 ∷ past) (c.afresh-afresh.ensures.moved past step.tick.0 is.moved) in
+    let foretold = foretold-shown g _ same step past d told c.in_ok-unit.unit (subst (λ (x : Group). IsForetold x (moment_of x step.cpu.0 step.act (Clock step.tick.0 ∷ past)) c.in_ok-unit.unit) c.afresh-afresh.ensures.group foreseen) in
+    let fed = subst (λ (x : Group). IsFed x (Clock step.tick.0 ∷ past) c.args.self.now.spans) (sym same) is.fed in
+    record { acted = (Clock step.tick.0 ∷ past, at, foretold, fed) }
 
 pub returns-clause-played : goal.returns-clause-played
-returns-clause-played c = ?
+returns-clause-played c = λ past is.
+    let g = group_of c.args.self.now in
+    let step = c.args.step in
+    let d = act_shown c.act-act.result in
+    let told = c.act-act.ensures.act past is.moved in
+    let same = c.afresh.ensures.group ∙ c.act-act.ensures.group in
+    let at = at-shown g _ same step past d told c.afresh.result.now (c.afresh.ensures.at _ (c.act-act.ensures.at past is.moved)) in
+    let foreseen = c.in_ok-unit.ensures (Clock step.tick.0 ∷ past) (c.afresh-afresh.ensures.moved past step.tick.0 is.moved) in
+    let foretold = foretold-shown g _ same step past d told c.in_ok-unit.unit (subst (λ (x : Group). IsForetold x (moment_of x step.cpu.0 step.act (Clock step.tick.0 ∷ past)) c.in_ok-unit.unit) c.afresh-afresh.ensures.group foreseen) in
+    let fed = subst (λ (x : Group). IsFed x (Clock step.tick.0 ∷ past) c.args.self.now.spans) (sym same) is.fed in
+    let can = can-feed c.args.self.now.table c.args.self.now.replay step past is.moved d told c.now.result.0 (c.now.ensures.at _ (c.act-act.ensures.at past is.moved)) c.requires.step is.kept in
+    let taken = fed-after g _ same step past d told c.act.new.self (c.in_ok-act.ensures (Clock step.tick.0 ∷ past) at foretold fed) in
+    record {
+      told = record {
+        at = c.act-act.ensures.at past is.moved;
+        kept = kept-after c.args.self.now.table c.args.self.now.replay step past is.moved d told c.feed.new.self (c.in_ok-feed.ensures.kept _ can);
+        tasks = c.feed.ensures.count ∙ is.tasks ∙ sym (ap (λ (x : Group). length x.setup.tasks) c.act-act.ensures.group);
+      };
+      fed = subst (λ (x : Group). IsFed x (after g step past) c.act.new.self) (sym c.act-act.ensures.group) taken;
+    }

@@ -16,13 +16,13 @@ turn-requires-clause-fed c =
 pub clock-requires-clause-at : goal.clock-requires-clause-at
 clock-requires-clause-at c = (c.requires.played.0, c.requires.played.1.told.at)
 
-pub see-requires-clause-turned : goal.see-requires-clause-turned
-see-requires-clause-turned c =
+pub see-requires : goal.see-requires
+see-requires c =
     let past = c.requires.played.0 in
     let is = c.requires.played.1 in
     let same = c.afresh-2.ensures.group ∙ c.clock.ensures.group in
     let turned = c.in_ok-turn.ensures past (c.now-now.ensures.at past is.told.at) (c.afresh.ensures.at past is.told.at) (subst (λ (g : Group). IsFed g past c.args.self.now.spans) (sym c.afresh.ensures.group) is.fed) in
-    (past, c.args.tick.0, c.afresh-2.ensures.moved past c.args.tick.0 (c.clock.ensures.moved past is.told.at), subst (λ (g : Group). IsTurned g c.args.tick.0 past c.turn.new.self) (c.afresh.ensures.group ∙ sym same) turned)
+    record { turned = (past, c.args.tick.0, c.afresh-2.ensures.moved past c.args.tick.0 (c.clock.ensures.moved past is.told.at), subst (λ (g : Group). IsTurned g c.args.tick.0 past c.turn.new.self) (c.afresh.ensures.group ∙ sym same) turned) }
 
 pub returns-clause-moved : goal.returns-clause-moved
 returns-clause-moved c = λ past is.
