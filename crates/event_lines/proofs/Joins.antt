@@ -1,5 +1,5 @@
 -- Texts that are put one behind the other.
-use Rattle.std.proofs.Common.{◌≡◌, ℕ, List, [], ◌∷◌, ◌++◌, sym, ap, append_assoc, append-nil}
+use Rattle.std.proofs.Common.{◌≡◌, ◌∙◌, ℕ, ◌<◌, List, [], ◌∷◌, ◌++◌, length, drop, get_or, sym, ap, arith, append_assoc, append-nil}
 use Rattle.std.specs.List.{join_with_byte}
 use Rattle.std.specs.Prelude.{flat_map}
 use Rattle.std.proofs.lemmas.Grind.{flat_map-append}
@@ -8,6 +8,13 @@ use Rattle.std.proofs.lemmas.Grind.{flat_map-append}
 pub join_with_byte-cons : (c : ℕ) (x : List ℕ) (xs : List (List ℕ)) → join_with_byte c (x ∷ xs) ≡ x ++ flat_map (λ y. c ∷ y) xs
 join_with_byte-cons c x [] = sym (append-nil x)
 join_with_byte-cons c x (y ∷ xs) = ap (λ zs. x ++ c ∷ zs) (join_with_byte-cons c y xs)
+
+-- the same of what was made of elements, where the first is put and then the others
+pub join-first : {X : Type 0} (c : ℕ) (pieces : List X → List (List ℕ)) (p : X → List ℕ) → ((x : X) (xs : List X) → pieces (x ∷ xs) ≡ p x ∷ pieces xs)
+    → (xs : List X) (x : X) → 0 < length xs → x ≡ get_or xs 0 x → p x ++ flat_map (λ w. c ∷ w) (pieces (drop 1 xs)) ≡ join_with_byte c (pieces xs)
+join-first c pieces p split [] x some is = absurd (omega arith)
+join-first c pieces p split (y ∷ ys) x some is =
+    ap (λ z. p z ++ flat_map (λ w. c ∷ w) (pieces ys)) is ∙ sym (ap (join_with_byte c) (split y ys) ∙ join_with_byte-cons c (p y) (pieces ys))
 
 pub ruleset joins = (append_assoc, append-nil)
 
