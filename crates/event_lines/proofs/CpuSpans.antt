@@ -3,7 +3,6 @@ use Rattle.std.proofs.Common.{◌≡◌, ◌∙◌, ℕ, ◌+◌, List, [], ◌�
 use Rattle.rt_base.specs.TaskNos.{number_of_task}
 use Rattle.rt_base.specs.declared.TaskNo.{TaskNo}
 use Rattle.rt_model.specs.Group.{Group, task}
-use Rattle.trace_views.specs.Cells as views
 use Rattle.chart_cells.specs.Cells.{playing_shown}
 use Rattle.chart_cells.specs.declared.cells.Playing.{Playing}
 use Rattle.chart_cells.specs.declared.cells.Playing.TheVariants.{Idle, RunsTask, WorksFor}

@@ -4,5 +4,4 @@ mod Pieces
 mod Spans
 mod CpuSpans
 mod Commas
-mod CommaChains
 pub mod Told

@@ -4,7 +4,6 @@ use Rattle.std.specs.Prelude.{Option, None, Some, codes, decimal, flat_map, nat_
 use Rattle.rt_task.specs.declared.Parts.{Parts}
 use Rattle.rt_history.specs.declared.Entry.{Entry}
 use Rattle.rt_rules.specs.Numbers.{numbers_from}
-use Rattle.rt_model.specs.Group as groups
 use Rattle.rt_model.specs.Group.{Group, group_processors, resv, sem, task, tasks}
 use Rattle.rt_model.specs.Histories.{past_of}
 use Rattle.rt_model.specs.Past.{Past, now}
@@ -20,7 +19,7 @@ use Rattle.event_texts.specs.Records.{Piece, instant_event, process_event, threa
 use Rattle.event_texts.specs.TaskSpans.{task_spans}
 use Rattle.event_lines.specs.TrackEvents.{budget_event, cpu_events, cpu_names, cpu_span_events, cpu_thread, deadline_events, end_events, job_events, process_name, release_events, resv_events, resv_names, some_group, task_events, task_names, task_span_events, task_thread, tracks_events, tracks_text}
 use Rattle.event_lines.specs.TrackLaws.{TracksTellEvents, tracks_of_groups}
-use Rattle.event_lines.specs.Tracks.{CpuTrack, Due, GroupTracks, JobMarks, ResvTrack, TaskTrack}
+use Rattle.event_lines.specs.Tracks.{Due, GroupTracks}
 use Rattle.event_lines.specs.TracksOf.{cpu_track, due_of, job_marks, resv_track, task_track, tracks_of}
 
 -- ---- lists of what was made of each

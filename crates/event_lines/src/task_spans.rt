@@ -140,7 +140,7 @@ fn put_arguments(text: &mut Vec<u8>, set: &Parts, cell: &Cell) -> Result<(), All
     put_truth(text, cell.raised)
 }
 
-/// A span of this kind.
+/// A span of a task whose job is there: what it does, and what kind of event that is.
 fn put_there(
     text: &mut Vec<u8>,
     set: &Parts,

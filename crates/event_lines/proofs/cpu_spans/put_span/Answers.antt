@@ -1,4 +1,4 @@
-use Rattle.std.proofs.Common.{◌≡◌, ◌∙◌, ◌-◌, List, codes, get_or, ap}
+use Rattle.std.proofs.Common.{◌∙◌, ◌-◌, List, codes, get_or, ap}
 use Rattle.std.proofs.lemmas.Result.{on_ok_weaker}
 use Rattle.rt_task.specs.declared.Task.{Task}
 use Rattle.rt_model.specs.Group.{no_task, task}

@@ -1,4 +1,4 @@
-use Rattle.std.proofs.Common.{◌∙◌, List, codes}
+use Rattle.std.proofs.Common.{◌∙◌, codes}
 use Rattle.event_lines.proofs.Commas.{comma-dropped, no-comma}
 use Rattle.event_lines.proofs.texts.drop_last_comma.Goals as goal
 
