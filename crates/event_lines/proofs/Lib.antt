@@ -2,5 +2,6 @@ mod Joins
 mod Chains
 mod Pieces
 mod Spans
+mod CpuSpans
 mod Commas
 pub mod Told

@@ -1,12 +1,11 @@
 -- Parts of events that were put one behind the other are the events.
-use Rattle.std.proofs.Common.{◌≡◌, ◌∙◌, ℕ, ◌+◌, ◌-◌, ◌*◌, List, [], ◌∷◌, ◌++◌, map, refl, sym, ap, append_assoc, append-nil}
+use Rattle.std.proofs.Common.{◌≡◌, ◌∙◌, ℕ, ◌-◌, List, [], ◌∷◌, ◌++◌, map, refl, sym, ap, append_assoc, append-nil}
 use Rattle.std.specs.List.{concat}
-use Rattle.std.specs.Prelude.{codes, decimal, flat_map}
-use Rattle.rt_task.specs.declared.Sem.{Sem}
+use Rattle.std.specs.Prelude.{codes, decimal}
 use Rattle.rt_task.specs.declared.Parts.{Parts}
 use Rattle.rt_model.specs.Group.{sem}
 use Rattle.trace_views.specs.Cells.{TaskCell}
-use Rattle.event_texts.specs.Records.{Piece, begun, count_event, instant_event, microseconds, named, on_thread, process_event, span_event, strings, thread_event, truth}
+use Rattle.event_texts.specs.Records.{Piece, begun, count_event, instant_event, microseconds, named, on_thread, span_event, strings, thread_event, truth}
 use Rattle.event_texts.specs.TaskSpans.{cell_arguments}
 use Rattle.event_lines.specs.Commas.{with_comma, with_commas}
 use Rattle.event_lines.specs.Openings.{count_to, instant_to, job_arguments, name_in, named_to, span_to}

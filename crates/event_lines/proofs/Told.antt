@@ -1,10 +1,9 @@
 -- The tracks of a group tell its trace events.
 use Rattle.std.proofs.Common.{◌≡◌, ◌∙◌, ℕ, ◌+◌, Bool, true, false, List, [], ◌∷◌, ◌++◌, map, refl, sym, ap, ap₂}
-use Rattle.std.specs.Prelude.{None, Some, codes, decimal, flat_map, nat_le, if◌then◌else◌}
+use Rattle.std.specs.Prelude.{Option, None, Some, codes, decimal, flat_map, nat_le, if◌then◌else◌}
 use Rattle.rt_task.specs.declared.Parts.{Parts}
 use Rattle.rt_history.specs.declared.Entry.{Entry}
 use Rattle.rt_rules.specs.Numbers.{numbers_from}
-use Rattle.rt_model.specs.Group as groups
 use Rattle.rt_model.specs.Group.{Group, group_processors, resv, sem, task, tasks}
 use Rattle.rt_model.specs.Histories.{past_of}
 use Rattle.rt_model.specs.Past.{Past, now}
@@ -20,7 +19,7 @@ use Rattle.event_texts.specs.Records.{Piece, instant_event, process_event, threa
 use Rattle.event_texts.specs.TaskSpans.{task_spans}
 use Rattle.event_lines.specs.TrackEvents.{budget_event, cpu_events, cpu_names, cpu_span_events, cpu_thread, deadline_events, end_events, job_events, process_name, release_events, resv_events, resv_names, some_group, task_events, task_names, task_span_events, task_thread, tracks_events, tracks_text}
 use Rattle.event_lines.specs.TrackLaws.{TracksTellEvents, tracks_of_groups}
-use Rattle.event_lines.specs.Tracks.{CpuTrack, Due, GroupTracks, JobMarks, ResvTrack, TaskTrack}
+use Rattle.event_lines.specs.Tracks.{Due, GroupTracks}
 use Rattle.event_lines.specs.TracksOf.{cpu_track, due_of, job_marks, resv_track, task_track, tracks_of}
 
 -- ---- lists of what was made of each
@@ -47,13 +46,17 @@ unfolding deadline_events
 deadline-told true process t k d = refl
 deadline-told false process t k d = refl
 
+end-told : (process t k : ℕ) (ended : Option ℕ) → end_events process t k ended ≡ end_instant process t k ended
+unfolding end_events
+end-told process t k None = refl
+end-told process t k (Some tick) = refl
+
 module _ (g : Group) where
   job-told : (process t : ℕ) (past : Past) (k : ℕ) → job_events process t (job_marks g t past k) ≡ job_instants g process t past k
-  unfolding job_events end_events
+  unfolding job_events
   job-told process t past k =
-      ap₂ (λ a b. a ++ (b ++ end_instant process t k (end t k past)))
-      (release-told (nat_le (release_of g t k past) (now past)) process t k (release_of g t k past))
-      (deadline-told (nat_le (deadline_of g t k past) (now past)) process t k (due_of g t past k))
+      ap₂ (λ a b. a ++ b) (release-told (nat_le (release_of g t k past) (now past)) process t k (release_of g t k past))
+      (ap₂ (λ a b. a ++ b) (deadline-told (nat_le (deadline_of g t k past) (now past)) process t k (due_of g t k past)) (end-told process t k (end t k past)))
 
   -- ---- tasks, processors and reservations
 

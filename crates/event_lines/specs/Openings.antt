@@ -13,10 +13,12 @@ span_times from to = codes ",\"ts\":" ++ (microseconds from ++ (codes ",\"dur\":
 abbrev pub span_to : ℕ → ℕ → ℕ → ℕ → Piece → Piece
 span_to process thread from to kind =
     on_thread (codes "X") process thread
-    ++ (codes ",\"ts\":" ++ (microseconds from ++ (codes ",\"dur\":" ++ (microseconds (to - from) ++ (codes ",\"cat\":\"" ++ (kind ++ codes "\",\"name\":\""))))))
+    ++ (codes ",\"ts\":" ++ (microseconds from ++ (codes ",\"dur\":" ++ (microseconds (to - from)
+    ++ (codes ",\"cat\":\"" ++ (kind ++ codes "\",\"name\":\""))))))
 
 abbrev pub instant_to : ℕ → ℕ → ℕ → Piece
-instant_to process thread tick = on_thread (codes "i") process thread ++ (codes ",\"ts\":" ++ (microseconds tick ++ codes ",\"s\":\"t\",\"name\":\""))
+instant_to process thread tick =
+    on_thread (codes "i") process thread ++ (codes ",\"ts\":" ++ (microseconds tick ++ codes ",\"s\":\"t\",\"name\":\""))
 
 abbrev pub count_to : ℕ → ℕ → Piece
 count_to process tick = begun (codes "C") process ++ (codes ",\"ts\":" ++ (microseconds tick ++ codes ",\"name\":\""))

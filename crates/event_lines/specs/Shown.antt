@@ -1,5 +1,5 @@
 -- Tracks as the definitions have them.
-use Rattle.std.specs.Prelude.{ℕ, List, map, option_map}
+use Rattle.std.specs.Prelude.{ℕ, map, option_map}
 use Rattle.trace_views.specs.Cells.{CpuCell, TaskCell}
 use Rattle.trace_views.specs.Spans.{Span}
 use Rattle.chart_cells.specs.Cells.{cell_shown, cpu_cell_shown}

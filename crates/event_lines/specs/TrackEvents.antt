@@ -7,7 +7,7 @@ use Rattle.trace_views.specs.Cells.{CpuCell, TaskCell}
 use Rattle.trace_views.specs.Spans.{Span}
 use Rattle.event_texts.specs.CpuSpans as cpu_texts
 use Rattle.event_texts.specs.EventText.{event_lines}
-use Rattle.event_texts.specs.JobInstants.{deadline_name, end_instant}
+use Rattle.event_texts.specs.JobInstants.{deadline_name}
 use Rattle.event_texts.specs.Records.{Piece, count_event, instant_event, process_event, thread_event}
 use Rattle.event_texts.specs.TaskSpans as task_texts
 use Rattle.event_lines.specs.Tracks.{CpuTrack, Due, GroupTracks, JobMarks, ResvTrack, TaskTrack}
@@ -44,7 +44,8 @@ deadline_events process t k None = []
 deadline_events process t k (Some d) = instant_event process t (d.tick + 1) (deadline_name d.missed) k ∷ []
 
 unfoldable pub end_events : ℕ → ℕ → ℕ → Option ℕ → List Piece
-end_events process t k ended = end_instant process t k ended
+end_events process t k None = []
+end_events process t k (Some tick) = instant_event process t (tick + 1) (codes "end") k ∷ []
 
 unfoldable pub job_events : ℕ → ℕ → JobMarks → List Piece
 job_events process t j =

@@ -16,4 +16,5 @@ tracks_of_groups gs = map (λ (x : Group × Past). tracks_of x.0 x.1) gs
 
 -- Of the groups of any setup, after any histories.
 abbrev pub TracksTellEvents : Type 0
-TracksTellEvents = (p : Parts) (hs : List (List Entry)) → event_text (pasts_from p 0 hs) ≡ tracks_text p (tracks_of_groups (pasts_from p 0 hs))
+TracksTellEvents =
+    (p : Parts) (hs : List (List Entry)) → event_text (pasts_from p 0 hs) ≡ tracks_text p (tracks_of_groups (pasts_from p 0 hs))

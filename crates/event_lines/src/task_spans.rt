@@ -140,7 +140,7 @@ fn put_arguments(text: &mut Vec<u8>, set: &Parts, cell: &Cell) -> Result<(), All
     put_truth(text, cell.raised)
 }
 
-/// A span of this kind.
+/// A span of a task whose job is there: what it does, and what kind of event that is.
 fn put_there(
     text: &mut Vec<u8>,
     set: &Parts,
@@ -172,11 +172,10 @@ fn put_span(
     ensures { OnOk result (text.new.items ≡ text.old.items ++ with_commas
         (task_span_events (some_group set.now) process task.0 (task_span_shown span.now))) }
 {
-    let doing = &span.cell.doing;
-    if matches!(doing, Doing::Away) {
-        return Ok(());
+    match &span.cell.doing {
+        Doing::Away => Ok(()),
+        doing => put_there(text, set, process, u64::from(task.0), span, kind_of(doing)),
     }
-    put_there(text, set, process, u64::from(task.0), span, kind_of(doing))
 }
 
 /// The spans of a task.
