@@ -34,6 +34,7 @@ use std::alloc::Global;
 use view_acts::ShownAct;
 
 /// What a group has, each by rising number.
+#[derive(Clone, Copy)]
 pub struct Members<'a> {
     pub tasks: &'a [TaskNo],
     pub cpus: &'a [CpuNo],

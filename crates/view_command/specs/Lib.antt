@@ -1,4 +1,5 @@
 pub mod Words
+pub mod Windows
 pub mod Texts
 pub mod Ends
 pub mod View

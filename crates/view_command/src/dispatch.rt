@@ -8,6 +8,7 @@ ghost use Rattle.trace_read.specs.Reads.{IsTraceOf};
 ghost use Rattle.trace_text.specs.Groups.{AreGroupsOf, histories};
 ghost use Rattle.trace_upgrade.specs.Said.{SaysPlays};
 ghost use Rattle.set_input.specs.Ends.{reading, writing};
+ghost use Rattle.view_command.specs.Windows.{Fits};
 ghost use Rattle.view_command.specs.ViewAnswers.{ViewAnswers};
 ghost use Rattle.view_command.specs.Viewing.{IsTextOf, IsViewed, comes};
 ghost use Rattle.view_command.specs.Words as commands;
@@ -25,6 +26,7 @@ use trace_check::{Verdict, check_trace};
 use trace_read::Trace;
 use trace_tools::{Bus, TraceTool};
 use trace_upgrade::engines_of;
+use view_charts::chart_text;
 use view_tables::table_text;
 use view_why::why_text;
 
@@ -35,19 +37,24 @@ fn text_of(
     setup: &Setup,
     groups: &[Engine],
 ) -> Result<Option<Vec<u8>>, NoMemory>
-    requires { AreGroupsOf setup.now groups.now }
+    requires groups { AreGroupsOf setup.now groups.now }
+    requires fits { Fits view }
     ensures { IfOk result (IsTextOf view setup.now (histories groups.now)) }
 {
     let text = match view {
         View::Table(table) => table_text(alloc, table, setup, groups)?,
         View::Entry(group, entry) => return why_text(alloc, group, entry, setup, groups),
+        View::Chart(form, axis, window) => {
+            chart_text(alloc, form, axis, window, setup, groups)?
+        }
     };
     Ok(Some(text))
 }
 
 /// The text of a view of a trace that was read of the text of plays.
 fn text_said(alloc: Global, view: View, trace: &Trace) -> Result<Option<Vec<u8>>, NoMemory>
-    requires { (hs : List (List Entry)) × SaysPlays trace.now hs }
+    requires says { (hs : List (List Entry)) × SaysPlays trace.now hs }
+    requires fits { Fits view }
     ensures { IfOk result (λ o. (hs : List (List Entry)) → SaysPlays trace.now hs
         → IsTextOf view trace.now.setup hs o) }
 {
@@ -80,6 +87,7 @@ fn text_in<T: TraceTool>(
     requires trace { IsTraceOf bytes.now trace.now.version trace.now.setup
         (lines_of trace.now.lines) trace.now.stop }
     requires valid { IsValid trace.now.setup }
+    requires fits { Fits view }
     ensures { IsViewed (map T.tool tools.items) trace.now.version trace.now.setup
         bytes.now view result }
 {
@@ -101,6 +109,7 @@ fn write_view<T: TraceTool, S: Source, K: Sink>(
     out: &mut K,
     tools: Vec<T>,
 ) -> ViewEnd
+    requires fits { Fits view }
     ensures answers { ViewAnswers (map T.tool tools.items) view
         (reading S.left S.faults src.old src.new) (writing K.held K.faults out.old out.new) result }
     ensures unwritten { result ≢ ViewEnd.Ended Status.Ok → result ≢ ViewEnd.Ended Status.WriteFault
@@ -132,8 +141,10 @@ fn write_view<T: TraceTool, S: Source, K: Sink>(
 /// Runs the command that the words name, those after the program's name.
 ///
 /// Each reads a trace of either format, and where it is valid writes a view of it: `jobs` and `tasks` a table of jobs or of tasks
-/// as lines of fields with commas; `why N` and `why G N` entry N of group G, 0 where it is left out, explained. Whatever else is
-/// answered but that a write failed, nothing is written.
+/// as lines of fields with commas; `why N` and `why G N` entry N of group G, 0 where it is left out, explained; `text` and `svg` a
+/// chart in characters and as a picture, by ticks, or by entries with the word `entries` behind, and with two numbers FROM and TO
+/// behind in this window: FROM < TO <= 10^12, and TO - FROM <= 400. Whatever else is answered but that a write failed, nothing is
+/// written.
 pub fn view<S: Source, K: Sink, T: TraceTool>(
     alloc: Global,
     words: &[String],

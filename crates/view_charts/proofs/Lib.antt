@@ -1,0 +1,4 @@
+pub mod GroupPasts
+pub mod Longest
+pub mod Paneled
+pub mod Drawn

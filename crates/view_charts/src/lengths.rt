@@ -1,0 +1,48 @@
+//! How many columns there are.
+ghost use Rattle.std.specs.Prelude.{◌≡◌};
+ghost use Rattle.rt_model.specs.Group.{Group};
+ghost use Rattle.rt_model.specs.Histories.{past_of};
+ghost use Rattle.rt_model.specs.Past.{now};
+ghost use Rattle.rt_groups.specs.Groups.{past};
+ghost use Rattle.rt_task.specs.declared.Parts.{Parts};
+ghost use Rattle.chart_texts.specs.Charts.{longest_on, pasts_from};
+ghost use Rattle.chart_texts.specs.Windows.{length_on};
+ghost use Rattle.trace_text.specs.Groups.{AreGroupsOf, histories};
+
+use chart_texts::Axis;
+use group_engine::Engine;
+use rt_base::Tick;
+use rt_history::Entry;
+
+/// The clock after these entries.
+fn clock_after(entries: &[Entry]) -> Tick
+    ensures { (g : Group) → result.0 ≡ now (past_of g entries.now) }
+{
+    let mut clock = Tick(0);
+    for entry in entries {
+        clock = clock.max(entry.step.tick);
+    }
+    clock
+}
+
+/// How many columns a group has.
+fn length_of(axis: Axis, group: &Engine) -> u64
+    ensures { result ≡ length_on axis (past group.now) }
+{
+    match axis {
+        Axis::Ticks => clock_after(group.entries()).0 + 1,
+        Axis::Entries => group.entries().len() as u64,
+    }
+}
+
+/// How many columns the longest group has; 0 where there is none.
+pub(crate) fn longest(axis: Axis, groups: &[Engine]) -> u64
+    ensures { (p : Parts) → AreGroupsOf p groups.now
+        → result ≡ longest_on axis (pasts_from p 0 (histories groups.now)) }
+{
+    let mut longest = 0;
+    for group in groups {
+        longest = longest.max(length_of(axis, group));
+    }
+    longest
+}
