@@ -44,9 +44,7 @@ fn text_of(
     let text = match view {
         View::Table(table) => table_text(alloc, table, setup, groups)?,
         View::Entry(group, entry) => return why_text(alloc, group, entry, setup, groups),
-        View::Chart(form, axis, window) => {
-            chart_text(alloc, form, axis, window, setup, groups)?
-        }
+        View::Chart(form, axis, window) => { chart_text(alloc, form, axis, window, setup, groups)? }
     };
     Ok(Some(text))
 }
