@@ -1,0 +1,14 @@
+-- Texts that are put one behind the other.
+use Rattle.std.proofs.Common.{◌≡◌, ◌∙◌, ℕ, List, ◌++◌, ap, append_assoc}
+
+pub two_put : (o a b m n : List ℕ) → m ≡ o ++ a → n ≡ m ++ b → n ≡ o ++ (a ++ b)
+two_put o a b m n h k = k ∙ ap (λ z. z ++ b) h ∙ append_assoc o a b
+
+pub three_put : (o a b c m n r : List ℕ) → m ≡ o ++ a → n ≡ m ++ b → r ≡ n ++ c → r ≡ o ++ (a ++ (b ++ c))
+three_put o a b c m n r h k l = two_put o a (b ++ c) m r h (two_put m b c n r k l)
+
+pub four_put : (o a b c d m n r s : List ℕ) → m ≡ o ++ a → n ≡ m ++ b → r ≡ n ++ c → s ≡ r ++ d → s ≡ o ++ (a ++ (b ++ (c ++ d)))
+four_put o a b c d m n r s h k l j = two_put o a (b ++ (c ++ d)) m s h (three_put m b c d n r s k l j)
+
+pub five_put : (o a b c d e m n r s t : List ℕ) → m ≡ o ++ a → n ≡ m ++ b → r ≡ n ++ c → s ≡ r ++ d → t ≡ s ++ e → t ≡ o ++ (a ++ (b ++ (c ++ (d ++ e))))
+five_put o a b c d e m n r s t h k l j i = two_put o a (b ++ (c ++ (d ++ e))) m t h (four_put m b c d e n r s t k l j i)

@@ -1,0 +1,7 @@
+mod Joins
+mod Chains
+mod Pieces
+mod Spans
+mod CpuSpans
+mod Commas
+pub mod Told

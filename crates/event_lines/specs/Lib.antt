@@ -1,0 +1,7 @@
+pub mod Tracks
+pub mod TracksOf
+pub mod TrackEvents
+pub mod TrackLaws
+pub mod Shown
+pub mod Openings
+pub mod Commas

@@ -1,0 +1,112 @@
+//! What processors do, span by span.
+ghost use Rattle.std.specs.Prelude.{◌≡◌, ◌++◌, flat_map, map, OnOk};
+ghost use Rattle.rt_base.specs.TaskNos.{number_of_task};
+ghost use Rattle.event_texts.specs.CpuSpans as spec;
+ghost use Rattle.event_texts.specs.Records.{span_event};
+ghost use Rattle.event_lines.specs.Commas.{with_comma, with_commas};
+ghost use Rattle.event_lines.specs.Shown.{cpu_span_shown};
+ghost use Rattle.event_lines.specs.TrackEvents.{cpu_span_events, some_group};
+
+use crate::elements::task_name;
+use crate::put::{put, put_quoted};
+use crate::records::{ARGUMENTS, END, open_span};
+use crate::tracks::CpuSpan;
+use chart_cells::Playing;
+use rt_base::{CpuNo, TaskNo};
+use rt_task::Parts;
+use std::alloc::AllocError;
+
+/// The task that the processor is linked to.
+#[tactic(auto, using(crate::proofs::Joins::joins), unfolding(rt_model::specs::Group::task))]
+fn put_link(text: &mut Vec<u8>, set: &Parts, link: Option<TaskNo>) -> Result<(), AllocError>
+    ensures { OnOk result (text.new.items ≡ text.old.items
+        ++ spec.link_argument (some_group set.now) (number_of_task link)) }
+{
+    match link {
+        Some(task) => {
+            put(text, b"\"link\":")?;
+            put_quoted(text, task_name(set.tasks.as_slice(), task))
+        }
+        None => put(text, b"\"link\":null"),
+    }
+}
+
+/// A span of this kind, with the name of the task that the processor has.
+fn put_busy(
+    text: &mut Vec<u8>,
+    set: &Parts,
+    process: u64,
+    thread: u64,
+    span: CpuSpan,
+    kind: &[u8],
+    name: &[u8],
+) -> Result<(), AllocError>
+    ensures { let link = number_of_task span.cell.link in OnOk result (text.new.items
+        ≡ text.old.items ++ with_comma (span_event process thread span.from span.to kind.now
+        name.now (spec.link_argument (some_group set.now) link))) }
+{
+    open_span(text, process, thread, span.from, span.to, kind)?;
+    put(text, name)?;
+    put(text, ARGUMENTS)?;
+    put_link(text, set, span.cell.link)?;
+    put(text, END)
+}
+
+/// A span of a processor, where it has a task. Its thread has the number after its own.
+fn put_span(
+    text: &mut Vec<u8>,
+    set: &Parts,
+    process: u64,
+    cpu: CpuNo,
+    span: CpuSpan,
+) -> Result<(), AllocError>
+    ensures { OnOk result (text.new.items ≡ text.old.items ++ with_commas
+        (cpu_span_events (some_group set.now) process cpu.0 (cpu_span_shown span))) }
+{
+    let tasks = set.tasks.as_slice();
+    let thread = u64::from(cpu.0) + 1;
+    match span.cell.playing {
+        Playing::WorksFor(task) => {
+            put_busy(
+                text,
+                set,
+                process,
+                thread,
+                span,
+                b"work",
+                task_name(tasks, task),
+            )
+        }
+        Playing::RunsTask(task) => {
+            put_busy(
+                text,
+                set,
+                process,
+                thread,
+                span,
+                b"runs",
+                task_name(tasks, task),
+            )
+        }
+        Playing::Idle => Ok(()),
+    }
+}
+
+/// The spans of a processor.
+#[tactic(auto, using(crate::proofs::Joins::loops))]
+pub(crate) fn put_cpu_spans(
+    text: &mut Vec<u8>,
+    set: &Parts,
+    process: u64,
+    cpu: CpuNo,
+    spans: &[CpuSpan],
+) -> Result<(), AllocError>
+    ensures { OnOk result (text.new.items ≡ text.old.items
+        ++ with_commas (flat_map (cpu_span_events (some_group set.now) process cpu.0)
+        (map cpu_span_shown spans.now))) }
+{
+    for span in spans {
+        put_span(text, set, process, cpu, *span)?;
+    }
+    Ok(())
+}

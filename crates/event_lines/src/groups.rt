@@ -1,0 +1,111 @@
+//! The events of groups.
+ghost use Rattle.std.specs.Prelude.{◌≡◌, ◌++◌, flat_map, map, OnOk};
+ghost use Rattle.event_lines.specs.Commas.{with_commas};
+ghost use Rattle.event_lines.specs.Shown.{cpu_track_shown, group_tracks_shown, resv_track_shown, task_track_shown};
+ghost use Rattle.event_lines.specs.TrackEvents.{cpu_events, resv_events, some_group, task_events, tracks_events};
+
+use crate::budgets::put_budget_spans;
+use crate::cpu_spans::put_cpu_spans;
+use crate::elements::{cpu_process, resv_process, task_process};
+use crate::job_marks::put_job_marks;
+use crate::names::{put_cpu_names, put_resv_names, put_task_names};
+use crate::task_spans::put_task_spans;
+use crate::tracks::{CpuTrack, GroupTracks, ResvTrack, TaskTrack};
+use rt_task::Parts;
+use std::alloc::AllocError;
+
+#[tactic(auto, using(crate::proofs::Joins::loops))]
+fn put_task(
+    text: &mut Vec<u8>,
+    set: &Parts,
+    process: u64,
+    track: &TaskTrack,
+) -> Result<(), AllocError>
+    ensures { OnOk result (text.new.items ≡ text.old.items
+        ++ with_commas (task_events (some_group set.now) process (task_track_shown track.now))) }
+{
+    put_task_spans(text, set, process, track.task, &track.spans)?;
+    put_job_marks(text, process, track.task, &track.jobs)
+}
+
+#[tactic(auto, using(crate::proofs::Joins::loops))]
+fn put_tasks(
+    text: &mut Vec<u8>,
+    set: &Parts,
+    process: u64,
+    tracks: &[TaskTrack],
+) -> Result<(), AllocError>
+    ensures { OnOk result (text.new.items ≡ text.old.items
+        ++ with_commas (flat_map (task_events (some_group set.now) process)
+        (map task_track_shown tracks.now))) }
+{
+    for track in tracks {
+        put_task(text, set, process, track)?;
+    }
+    Ok(())
+}
+
+#[tactic(auto, using(crate::proofs::Joins::loops))]
+fn put_cpus(
+    text: &mut Vec<u8>,
+    set: &Parts,
+    process: u64,
+    tracks: &[CpuTrack],
+) -> Result<(), AllocError>
+    ensures { OnOk result (text.new.items ≡ text.old.items
+        ++ with_commas (flat_map (cpu_events (some_group set.now) process)
+        (map cpu_track_shown tracks.now))) }
+{
+    for track in tracks {
+        put_cpu_spans(text, set, process, track.cpu, &track.spans)?;
+    }
+    Ok(())
+}
+
+#[tactic(auto, using(crate::proofs::Joins::loops))]
+fn put_resvs(
+    text: &mut Vec<u8>,
+    set: &Parts,
+    process: u64,
+    tracks: &[ResvTrack],
+) -> Result<(), AllocError>
+    ensures { OnOk result (text.new.items ≡ text.old.items
+        ++ with_commas (flat_map (resv_events (some_group set.now) process)
+        (map resv_track_shown tracks.now))) }
+{
+    for track in tracks {
+        put_budget_spans(text, set, process, track.resv, &track.spans)?;
+    }
+    Ok(())
+}
+
+#[tactic(auto, using(crate::proofs::Joins::loops), unfolding(crate::specs::TrackEvents::tracks_events))]
+fn put_group(text: &mut Vec<u8>, set: &Parts, tracks: &GroupTracks) -> Result<(), AllocError>
+    ensures { OnOk result (text.new.items ≡ text.old.items
+        ++ with_commas (tracks_events (some_group set.now) (group_tracks_shown tracks.now))) }
+{
+    let group = tracks.group;
+    put_task_names(text, set, group, &tracks.tasks)?;
+    put_cpu_names(text, group, &tracks.cpus)?;
+    put_resv_names(text, group, &tracks.resvs)?;
+    put_tasks(text, set, task_process(group), &tracks.tasks)?;
+    put_cpus(text, set, cpu_process(group), &tracks.cpus)?;
+    put_resvs(text, set, resv_process(group), &tracks.resvs)
+}
+
+/// The events of groups, a comma behind each.
+#[tactic(auto, using(crate::proofs::Joins::loops))]
+pub(crate) fn put_groups(
+    text: &mut Vec<u8>,
+    set: &Parts,
+    groups: &[GroupTracks],
+) -> Result<(), AllocError>
+    ensures { OnOk result (text.new.items ≡ text.old.items
+        ++ with_commas (flat_map (tracks_events (some_group set.now))
+        (map group_tracks_shown groups.now))) }
+{
+    for tracks in groups {
+        put_group(text, set, tracks)?;
+    }
+    Ok(())
+}

@@ -1,0 +1,43 @@
+//! Bytes and numbers at the end of a text.
+ghost use Rattle.std.specs.Prelude.{◌≡◌, ◌≤◌, ◌^◌, ◌++◌, OnOk, decimal};
+ghost use Rattle.event_texts.specs.Records.{microseconds, quoted, truth};
+
+use itoa::Buffer;
+use std::alloc::AllocError;
+
+pub(crate) fn put(text: &mut Vec<u8>, bytes: &[u8]) -> Result<(), AllocError>
+    ensures { OnOk result (text.new.items ≡ text.old.items ++ bytes.now) }
+{
+    text.extend_from_slice(bytes)
+}
+
+pub(crate) fn put_number(text: &mut Vec<u8>, n: u64) -> Result<(), AllocError>
+    ensures { OnOk result (text.new.items ≡ text.old.items ++ decimal n) }
+{
+    let mut buffer = Buffer::new();
+    put(text, buffer.format(n).as_bytes())
+}
+
+/// Ticks in microseconds. No such number wraps.
+pub(crate) fn put_microseconds(text: &mut Vec<u8>, ticks: u128) -> Result<(), AllocError>
+    requires { ticks ≤ 2 ^ 64 }
+    ensures { OnOk result (text.new.items ≡ text.old.items ++ microseconds ticks) }
+{
+    let mut buffer = Buffer::new();
+    put(text, buffer.format(1000 * ticks).as_bytes())
+}
+
+#[tactic(auto, using(crate::proofs::Joins::joins))]
+pub(crate) fn put_quoted(text: &mut Vec<u8>, name: &[u8]) -> Result<(), AllocError>
+    ensures { OnOk result (text.new.items ≡ text.old.items ++ quoted name.now) }
+{
+    put(text, b"\"")?;
+    put(text, name)?;
+    put(text, b"\"")
+}
+
+pub(crate) fn put_truth(text: &mut Vec<u8>, holds: bool) -> Result<(), AllocError>
+    ensures { OnOk result (text.new.items ≡ text.old.items ++ truth holds) }
+{
+    put(text, if holds { b"true".as_slice() } else { b"false" })
+}

@@ -1,0 +1,10 @@
+use Rattle.std.proofs.Common.{◌∙◌, [], ap}
+use Rattle.rank_afresh.specs.Standing.{group_of}
+use Rattle.chart_rows.specs.Rows.{resvs_listed}
+use Rattle.chart_rows.proofs.RowParts.{resvs-of}
+use Rattle.span_feed.specs.declared.feed.SpanFeed.{SpanFeed}
+use Rattle.span_feed.proofs.feed.SpanFeed.foretell.Goals as goal
+
+pub foretell-requires-clause-rows : goal.foretell-requires-clause-rows
+foretell-requires-clause-rows c =
+    ap resvs_listed c.as_slice.ensures.value ∙ ap (λ (f : SpanFeed). resvs_listed f.rows.resvs) c.self.view_is ∙ resvs-of (group_of c.args.afresh.now) [] _ c.args.self.now.rows c.requires.fed.2.rows_are

@@ -1,0 +1,21 @@
+use Rattle.std.proofs.Common.{◌∙◌, [], map, ap}
+use Rattle.rank_afresh.specs.Standing.{group_of}
+use Rattle.chart_rows.specs.Strips.{blank}
+use Rattle.chart_rows.proofs.RowParts.{rows-listed}
+use Rattle.span_feed.specs.Spanned.{cpu_spanned, resv_spanned, task_spanned}
+use Rattle.span_feed.proofs.Feeding.{opened}
+use Rattle.span_feed.proofs.feed.SpanFeed.open.Goals as goal
+
+pub see-requires-clause-listed : goal.see-requires-clause-listed
+see-requires-clause-listed c =
+    let g = group_of c.args.afresh.now in
+    rows-listed g [] blank c.in_ok-rows.rows (c.in_ok-rows.ensures g c.requires.tasks c.requires.cpus c.requires.resvs)
+
+pub returns : goal.returns
+returns c =
+    let g = group_of c.args.afresh.now in
+    opened g c.in_ok-rows.rows c.see.new.self _ (c.in_ok-rows.ensures g c.requires.tasks c.requires.cpus c.requires.resvs) (c.in_ok-see.ensures [] c.requires.at)
+    c.requires.group
+    (c.in_ok-task_tracks.ensures g ∙ ap (map (task_spanned g [])) c.requires.tasks)
+    (c.in_ok-cpu_tracks.ensures g ∙ ap (map (cpu_spanned g [])) c.requires.cpus)
+    (c.in_ok-resv_tracks.ensures g ∙ ap (map (resv_spanned g [])) c.requires.resvs)

@@ -1,0 +1,20 @@
+-- What is kept of a group for its spans, as its moves go on.
+use Rattle.std.specs.Prelude.{ℕ, max, List, []}
+use Rattle.rt_model.specs.Group.{Group}
+use Rattle.rt_model.specs.Past.{Past, now}
+use Rattle.chart_rows.specs.Strips.{Strip}
+use Rattle.event_lines.specs.Shown.{group_tracks_shown}
+use Rattle.span_feed.specs.Spanned.{HasSpans}
+use Rattle.span_feed.specs.TickStrips.{tick_strip, ticks_below, turned_strip}
+use Rattle.span_feed.specs.declared.feed.SpanFeed.{SpanFeed}
+
+module _ (g : Group) where
+  abbrev pub Holds : List Strip → Strip → SpanFeed → Type 0
+  Holds over going f = HasSpans g [] over going f.rows (group_tracks_shown f.tracks)
+
+  -- the ticks before the newest are over, and that goes on; and the clock is about to be moved to a tick, before which all are over
+  abbrev pub IsFed : Past → SpanFeed → Type 0
+  IsFed past f = Holds (ticks_below past (now past)) (tick_strip past (now past)) f
+
+  abbrev pub IsTurned : ℕ → Past → SpanFeed → Type 0
+  IsTurned tick past f = Holds (ticks_below past (max (now past) tick)) (turned_strip tick past) f

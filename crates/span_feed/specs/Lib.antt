@@ -1,0 +1,4 @@
+pub mod Extended
+pub mod TickStrips
+pub mod Spanned
+pub mod Feeds

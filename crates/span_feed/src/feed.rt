@@ -1,0 +1,206 @@
+//! A group's spans over the ticks, while its steps are taken again.
+ghost use Rattle.std.specs.Prelude.{◌≡◌, ◌+◌, ◌-◌, ◌<◌, ◌∷◌, ◌++◌, [], ℕ, IfOk, List, OnOk, length, replicate};
+ghost use Rattle.rt_base.specs.TaskNos.{numbers};
+ghost use Rattle.rt_base.specs.declared.TheConstants.{TICK_END};
+ghost use Rattle.rt_task.specs.Validity.{IsValid};
+ghost use Rattle.rt_model.specs.Group as groups;
+ghost use Rattle.rt_model.specs.Group.{Group};
+ghost use Rattle.rt_model.specs.Past.{Acted, Clock, Past};
+ghost use Rattle.rt_model.specs.Past as pasts;
+ghost use Rattle.rt_plays.specs.Homes.{IsProcessorOf};
+ghost use Rattle.rank_afresh.specs.Standing.{IsAt, group_of};
+ghost use Rattle.trace_views.specs.Cells.{newest};
+ghost use Rattle.chart_cells.specs.Cells.{cpu_numbers};
+ghost use Rattle.chart_texts.specs.Charts.{group_resvs};
+ghost use Rattle.view_acts.specs.ShownActs.{act_shown};
+ghost use Rattle.chart_rows.specs.Foretold.{IsForetold, moment_of};
+ghost use Rattle.chart_rows.specs.Strips.{Strip, blank, seen};
+ghost use Rattle.chart_rows.specs.Units.{resv_numbers};
+ghost use Rattle.event_lines.specs.Shown.{group_tracks_shown};
+ghost use Rattle.event_lines.specs.TracksOf.{tracks_of};
+ghost use Rattle.span_feed.specs.Feeds.{Holds, IsFed, IsTurned};
+ghost use Rattle.span_feed.specs.Spanned.{unmarked};
+
+use crate::opening::{cpu_tracks, resv_tracks, task_tracks};
+use crate::taking::take_column;
+use chart_rows::{Rows, Unit, foretell, told};
+use event_lines::GroupTracks;
+use rank_afresh::Afresh;
+use rt_base::{CpuNo, GroupNo, NoMemory, ResvNo, TaskNo, Tick};
+use rt_task::{Act, Parts};
+use std::alloc::Global;
+use view_acts::ShownAct;
+
+/// What a group has, each by rising number.
+#[derive(Clone, Copy)]
+pub struct Members<'a> {
+    pub group: GroupNo,
+    pub tasks: &'a [TaskNo],
+    pub cpus: &'a [CpuNo],
+    pub resvs: &'a [ResvNo],
+}
+
+/// The spans of a group over the ticks that are over, and what there is of the newest tick, while its steps are taken again. Each
+/// step is shown by four calls, in this order: `turn` before the clock is moved, `see` after that, `foretell` before the act, and
+/// `act` after it. Memory is taken for the spans, and not for ticks.
+#[derive(Drop)]
+pub struct SpanFeed {
+    rows: Rows,
+    tracks: GroupTracks,
+}
+
+impl SpanFeed {
+    /// A group at opening.
+    pub fn open(alloc: Global, members: &Members, afresh: &Afresh) -> Result<SpanFeed, NoMemory>
+        requires group { members.now.group.0 ≡ afresh.now.group }
+        requires tasks { numbers members.now.tasks.now ≡ groups.tasks (group_of afresh.now) }
+        requires cpus { cpu_numbers members.now.cpus.now
+            ≡ groups.group_processors (group_of afresh.now) }
+        requires resvs { resv_numbers members.now.resvs.now ≡ group_resvs (group_of afresh.now) }
+        requires at { IsAt afresh.now [] }
+        ensures { IfOk result (IsFed (group_of afresh.now) []) }
+    {
+        let mut rows = Rows::open(alloc, members.tasks, members.cpus, members.resvs)?;
+        rows.see(alloc, afresh)?;
+        let tracks = GroupTracks {
+            group: members.group,
+            tasks: task_tracks(alloc, members.tasks)?,
+            cpus: cpu_tracks(alloc, members.cpus)?,
+            resvs: resv_tracks(alloc, members.resvs)?,
+        };
+        Ok(SpanFeed { rows, tracks })
+    }
+
+    /// Ends the tick that goes on, at this clock.
+    fn end_tick(&mut self, alloc: Global, afresh: &Afresh, now: u64) -> Result<(), NoMemory>
+        requires now { now < TICK_END }
+        requires held { (past : Past) × (over : List Strip) × (going : Strip) × IsAt afresh.now past
+            × (newest going.states ≡ past)
+            × Holds (group_of afresh.now) over going self.old }
+        ensures { OnOk result ((past : Past) (over : List Strip) (going : Strip)
+            → IsAt afresh.now past → newest going.states ≡ past → now ≡ length over
+            → Holds (group_of afresh.now) over going self.old
+            → Holds (group_of afresh.now) (over ++ going ∷ []) blank self.new) }
+    {
+        self.rows.close(alloc, afresh)?;
+        take_column(&mut self.rows, &mut self.tracks, now, now + 1)
+    }
+
+    /// The ticks from one on up to another, which show the newest state.
+    fn pass_ticks(
+        &mut self,
+        alloc: Global,
+        afresh: &Afresh,
+        from: u64,
+        to: u64,
+    ) -> Result<(), NoMemory>
+        requires { (past : Past) × (over : List Strip) × IsAt afresh.now past
+            × Holds (group_of afresh.now) over blank self.old }
+        ensures { OnOk result ((past : Past) (over : List Strip)
+            → IsAt afresh.now past → from ≡ length over
+            → Holds (group_of afresh.now) over blank self.old
+            → Holds (group_of afresh.now) (over ++ replicate (to - from) (seen past blank)) blank
+            self.new) }
+    {
+        if to <= from {
+            return Ok(());
+        }
+        self.rows.see(alloc, afresh)?;
+        self.rows.close(alloc, afresh)?;
+        take_column(&mut self.rows, &mut self.tracks, from, to)
+    }
+
+    /// Ends the ticks before one to which the clock is to be moved from this one.
+    pub fn turn(
+        &mut self,
+        alloc: Global,
+        afresh: &Afresh,
+        now: Tick,
+        tick: Tick,
+    ) -> Result<(), NoMemory>
+        requires now { now.0 < TICK_END }
+        requires fed { (past : Past) × (now.0 ≡ pasts.now past) × IsAt afresh.now past
+            × IsFed (group_of afresh.now) past self.old }
+        ensures { OnOk result ((past : Past) → now.0 ≡ pasts.now past → IsAt afresh.now past
+            → IsFed (group_of afresh.now) past self.old
+            → IsTurned (group_of afresh.now) tick.0 past self.new) }
+    {
+        if now.0 < tick.0 {
+            self.end_tick(alloc, afresh, now.0)?;
+            self.pass_ticks(alloc, afresh, now.0 + 1, tick.0)?;
+        }
+        Ok(())
+    }
+
+    /// Takes the state after the clock was moved.
+    pub fn see(&mut self, alloc: Global, afresh: &Afresh) -> Result<(), NoMemory>
+        requires turned { (past : Past) × (tick : ℕ) × IsAt afresh.now (Clock tick ∷ past)
+            × IsTurned (group_of afresh.now) tick past self.old }
+        ensures { OnOk result ((past : Past) (tick : ℕ) → IsAt afresh.now (Clock tick ∷ past)
+            → IsTurned (group_of afresh.now) tick past self.old
+            → IsFed (group_of afresh.now) (Clock tick ∷ past) self.new) }
+    {
+        self.rows.see(alloc, afresh)
+    }
+
+    /// The unit that an act of a processor would be; none where it can be none.
+    pub fn foretell(
+        &self,
+        alloc: Global,
+        parts: &Parts,
+        afresh: &Afresh,
+        cpu: CpuNo,
+        act: Act,
+    ) -> Result<Option<Unit>, NoMemory>
+        requires valid { IsValid parts.now }
+        requires parts { parts.now ≡ afresh.now.setup }
+        requires cpu { IsProcessorOf (group_of afresh.now) cpu.0 }
+        requires fed { (past : Past) × IsAt afresh.now past
+            × IsFed (group_of afresh.now) past self.now }
+        ensures { IfOk result (λ o. (past : Past) → IsAt afresh.now past
+            → IsForetold (group_of afresh.now) (moment_of (group_of afresh.now) cpu.0 act past) o) }
+    {
+        foretell(alloc, parts, afresh, self.rows.resvs.as_slice(), cpu, act)
+    }
+
+    /// Takes an act, the unit that it was foretold to be, and the state after it.
+    pub fn act(
+        &mut self,
+        alloc: Global,
+        afresh: &Afresh,
+        act: &ShownAct,
+        unit: Option<Unit>,
+    ) -> Result<(), NoMemory>
+        requires acted { (past : Past) × IsAt afresh.now (Acted (act_shown act.now) ∷ past)
+            × IsForetold (group_of afresh.now)
+            (record { act = act_shown act.now; before = past }) unit
+            × IsFed (group_of afresh.now) past self.old }
+        ensures { OnOk result ((past : Past) → IsAt afresh.now (Acted (act_shown act.now) ∷ past)
+            → IsForetold (group_of afresh.now)
+            (record { act = act_shown act.now; before = past }) unit
+            → IsFed (group_of afresh.now) past self.old
+            → IsFed (group_of afresh.now) (Acted (act_shown act.now) ∷ past) self.new) }
+    {
+        let unit = told(unit, act);
+        self.rows.act(alloc, act, &unit)?;
+        self.rows.see(alloc, afresh)
+    }
+
+    /// The tracks of the group, whose clock is this one, without the marks of jobs.
+    pub fn close(
+        mut self,
+        alloc: Global,
+        afresh: &Afresh,
+        now: Tick,
+    ) -> Result<GroupTracks, NoMemory>
+        requires now { now.0 < TICK_END }
+        requires fed { (past : Past) × (now.0 ≡ pasts.now past) × IsAt afresh.now past
+            × IsFed (group_of afresh.now) past self }
+        ensures { IfOk result (λ x. (past : Past) → now.0 ≡ pasts.now past → IsAt afresh.now past
+            → IsFed (group_of afresh.now) past self
+            → group_tracks_shown x ≡ unmarked (tracks_of (group_of afresh.now) past)) }
+    {
+        self.end_tick(alloc, afresh, now.0)?;
+        Ok(self.tracks)
+    }
+}

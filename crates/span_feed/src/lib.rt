@@ -1,0 +1,10 @@
+//! What a group's tasks, processors and reservations do, span by span over the ticks, gathered while the group's steps are taken again.
+#![tactic(auto)]
+
+mod feed;
+mod opening;
+mod same;
+mod spans;
+mod taking;
+
+pub use feed::{Members, SpanFeed};

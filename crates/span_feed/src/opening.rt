@@ -1,0 +1,58 @@
+//! The tracks of a group before its first tick.
+ghost use Rattle.std.specs.Prelude.{◌≡◌, [], IfOk, map};
+ghost use Rattle.rt_base.specs.TaskNos.{numbers};
+ghost use Rattle.rt_model.specs.Group.{Group};
+ghost use Rattle.chart_cells.specs.Cells.{cpu_numbers};
+ghost use Rattle.chart_rows.specs.Units.{resv_numbers};
+ghost use Rattle.event_lines.specs.Shown.{cpu_track_shown, resv_track_shown, task_track_shown};
+ghost use Rattle.span_feed.specs.Spanned.{cpu_spanned, resv_spanned, task_spanned};
+
+use event_lines::{CpuTrack, ResvTrack, TaskTrack};
+use rt_base::{CpuNo, NoMemory, ResvNo, TaskNo};
+use std::alloc::Global;
+
+/// The tracks of these tasks.
+pub(crate) fn task_tracks(alloc: Global, tasks: &[TaskNo]) -> Result<Vec<TaskTrack>, NoMemory>
+    ensures { IfOk result (λ v. (g : Group)
+        → map task_track_shown v.items ≡ map (task_spanned g []) (numbers tasks.now)) }
+{
+    let mut tracks = Vec::new(alloc);
+    for task in tasks {
+        tracks.push(TaskTrack {
+            task: *task,
+            spans: Vec::new(alloc),
+            jobs: Vec::new(alloc),
+        })?;
+    }
+    Ok(tracks)
+}
+
+/// The tracks of these processors.
+pub(crate) fn cpu_tracks(alloc: Global, cpus: &[CpuNo]) -> Result<Vec<CpuTrack>, NoMemory>
+    ensures { IfOk result (λ v. (g : Group)
+        → map cpu_track_shown v.items ≡ map (cpu_spanned g []) (cpu_numbers cpus.now)) }
+{
+    let mut tracks = Vec::new(alloc);
+    for cpu in cpus {
+        tracks.push(CpuTrack {
+            cpu: *cpu,
+            spans: Vec::new(alloc),
+        })?;
+    }
+    Ok(tracks)
+}
+
+/// The tracks of these reservations.
+pub(crate) fn resv_tracks(alloc: Global, resvs: &[ResvNo]) -> Result<Vec<ResvTrack>, NoMemory>
+    ensures { IfOk result (λ v. (g : Group)
+        → map resv_track_shown v.items ≡ map (resv_spanned g []) (resv_numbers resvs.now)) }
+{
+    let mut tracks = Vec::new(alloc);
+    for resv in resvs {
+        tracks.push(ResvTrack {
+            resv: *resv,
+            spans: Vec::new(alloc),
+        })?;
+    }
+    Ok(tracks)
+}
