@@ -1,6 +1,6 @@
 -- What is drawn of a chart is the text that is defined.
-use Rattle.std.proofs.Common.{◌≡◌, ◌∙◌, ℕ, suc, ◌+◌, List, [], ◌∷◌, length, map, refl, sym, ap}
-use Rattle.std.specs.Prelude.{None, Some, Option}
+use Rattle.std.proofs.Common.{◌≡◌, ◌∙◌, ℕ, suc, ◌+◌, List, [], ◌∷◌, length, refl, sym, ap}
+use Rattle.std.specs.Prelude.{None}
 use Rattle.std.proofs.lemmas.List.{length-map}
 use Rattle.rt_task.specs.declared.Parts.{Parts}
 use Rattle.rt_history.specs.declared.Entry.{Entry}
@@ -11,7 +11,7 @@ use Rattle.trace_text.specs.Groups.{histories}
 use Rattle.chart_texts.specs.declared.window.Axis.{Axis}
 use Rattle.chart_texts.specs.declared.window.Window.{Window}
 use Rattle.chart_texts.specs.ChartText.{chart_text, text_of, whole_text}
-use Rattle.chart_texts.specs.Charts.{Chart, Panel, chart_of, longest_on, pasts_from}
+use Rattle.chart_texts.specs.Charts.{Panel, chart_of, longest_on, pasts_from}
 use Rattle.chart_texts.specs.Windows.{whole}
 use Rattle.svg_texts.specs.SvgText.{svg_of, svg_text, whole_svg}
 use Rattle.view_charts.specs.declared.texts.Form.{Form}

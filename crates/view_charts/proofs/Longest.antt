@@ -9,13 +9,13 @@ use Rattle.rt_history.specs.declared.Entry.{Entry}
 use Rattle.rt_rules.specs.Numbers.{numbers_from}
 use Rattle.rt_model.specs.Group.{Group}
 use Rattle.rt_model.specs.Histories.{after, past_from, past_of}
-use Rattle.rt_model.specs.Past.{Past, entries_in, now}
+use Rattle.rt_model.specs.Past.{Past, now}
 use Rattle.rt_model.proofs.Steps.{after-acted}
-use Rattle.rt_groups.specs.Groups.{AreStepsOf, GroupHistory, group_of, past}
+use Rattle.rt_groups.specs.Groups.{AreStepsOf, GroupHistory, past}
 use Rattle.group_engine.proofs.Stepping.{entries_in-past_of}
 use Rattle.trace_text.specs.Groups.{AreGroupsOf, histories}
 use Rattle.trace_text.proofs.ReplayLaws.{drop_end}
-use Rattle.trace_views.specs.Columns.{Column, entry_columns, entry_columns_from, tick_column, tick_columns}
+use Rattle.trace_views.specs.Columns.{entry_columns, entry_columns_from, tick_column, tick_columns}
 use Rattle.chart_texts.specs.declared.window.Axis.{Axis}
 use Rattle.chart_texts.specs.declared.window.Axis.TheVariants.{Entries, Ticks}
 use Rattle.chart_texts.specs.Charts.{longest_on, pasts_from}

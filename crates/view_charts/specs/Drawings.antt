@@ -1,5 +1,5 @@
 -- A group whose steps are taken again while the columns of a window are gathered.
-use Rattle.std.specs.Prelude.{◌≡◌, ℕ}
+use Rattle.std.specs.Prelude.{ℕ}
 use Rattle.rt_model.specs.Group.{Group}
 use Rattle.rt_model.specs.Past.{Past}
 use Rattle.chart_texts.specs.declared.window.Axis.{Axis}

@@ -1,5 +1,5 @@
 -- The windows in which a chart can be drawn.
-use Rattle.std.specs.Prelude.{◌+◌, ◌-◌, ◌<◌, ◌≤◌, ℕ, Option, None, Some, ⊤}
+use Rattle.std.specs.Prelude.{◌-◌, ◌<◌, ◌≤◌, Option, None, Some, ⊤}
 use Rattle.rt_base.specs.declared.TheConstants.{TICK_END}
 use Rattle.chart_texts.specs.declared.window.Window.{Window}
 

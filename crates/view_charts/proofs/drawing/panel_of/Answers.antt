@@ -1,8 +1,7 @@
-use Rattle.std.proofs.Common.{[], ◌≡◌, ◌∙◌, ap, subst, sym, arith}
+use Rattle.std.proofs.Common.{[], ◌∙◌, ap, subst, sym, arith}
 use Rattle.std.proofs.lemmas.Result.{IfOk-weaker}
 use Rattle.rt_model.specs.Group.{Group}
 use Rattle.rt_model.specs.Histories.{past_from, past_of}
-use Rattle.rt_model.specs.Past.{Past}
 use Rattle.rt_plays.specs.Plays.{group_with}
 use Rattle.chart_feed.specs.Feeds.{IsFed}
 use Rattle.chart_texts.specs.Charts as charts

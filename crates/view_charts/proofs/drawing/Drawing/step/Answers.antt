@@ -9,7 +9,6 @@ use Rattle.rank_afresh.specs.Standing as ranker
 use Rattle.view_acts.specs.ShownActs.{act_shown}
 use Rattle.view_replay.specs.Replays as replays
 use Rattle.chart_feed.specs.Feeds.{IsExpected, IsFed, IsMoved, IsTurned}
-use Rattle.view_charts.specs.Drawings.{group_of}
 use Rattle.view_charts.proofs.drawing.Drawing.step.Goals as goal
 
 pub see-requires : goal.see-requires
