@@ -1,4 +1,4 @@
-//! `rtview`: writes the tables of jobs and tasks of a trace, explains its entries, and says why a set or a trace is refused.
+//! `rtview`: draws a trace, writes its tables and trace events, explains its entries, and says why a set or a trace is refused.
 #![tactic(auto)]
 
 use explain_command::explain;

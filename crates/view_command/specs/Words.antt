@@ -11,7 +11,7 @@ use Rattle.view_charts.specs.declared.texts.Form.{Form}
 use Rattle.view_charts.specs.declared.texts.Form.TheVariants.{Text, Svg}
 use Rattle.view_tables.specs.declared.tables.Table.TheVariants.{Jobs, Tasks}
 use Rattle.view_command.specs.declared.views.View.{View}
-use Rattle.view_command.specs.declared.views.View.TheVariants.{Table, Entry, Chart}
+use Rattle.view_command.specs.declared.views.View.TheVariants.{Table, Entry, Chart, Events}
 
 -- a word is the decimal text of a number below 2^64
 abbrev pub IsDecimal : List ℕ → ℕ → Type 0
@@ -54,7 +54,8 @@ chart_of None axis window = None
 abbrev pub one_said : List ℕ → Option View
 one_said w =
     if bytes_eq w (codes "jobs") then Some (Table Jobs)
-    else (if bytes_eq w (codes "tasks") then Some (Table Tasks) else whole_chart (form_said w) Ticks)
+    else (if bytes_eq w (codes "tasks") then Some (Table Tasks)
+    else (if bytes_eq w (codes "events") then Some Events else whole_chart (form_said w) Ticks))
 
 abbrev pub two_said : List ℕ → List ℕ → Option View
 two_said w x =

@@ -27,6 +27,7 @@ use trace_read::Trace;
 use trace_tools::{Bus, TraceTool};
 use trace_upgrade::engines_of;
 use view_charts::chart_text;
+use view_events::events_text;
 use view_tables::table_text;
 use view_why::why_text;
 
@@ -45,6 +46,7 @@ fn text_of(
         View::Table(table) => table_text(alloc, table, setup, groups)?,
         View::Entry(group, entry) => return why_text(alloc, group, entry, setup, groups),
         View::Chart(form, axis, window) => { chart_text(alloc, form, axis, window, setup, groups)? }
+        View::Events => events_text(alloc, setup, groups)?,
     };
     Ok(Some(text))
 }
@@ -141,8 +143,8 @@ fn write_view<T: TraceTool, S: Source, K: Sink>(
 /// Each reads a trace of either format, and where it is valid writes a view of it: `jobs` and `tasks` a table of jobs or of tasks
 /// as lines of fields with commas; `why N` and `why G N` entry N of group G, 0 where it is left out, explained; `text` and `svg` a
 /// chart in characters and as a picture, by ticks, or by entries with the word `entries` behind, and with two numbers FROM and TO
-/// behind in this window: FROM < TO <= 10^12, and TO - FROM <= 400. Whatever else is answered but that a write failed, nothing is
-/// written.
+/// behind in this window: FROM < TO <= 10^12, and TO - FROM <= 400; `events` its trace events as JSON, for viewers of such events.
+/// Whatever else is answered but that a write failed, nothing is written.
 pub fn view<S: Source, K: Sink, T: TraceTool>(
     alloc: Global,
     words: &[String],

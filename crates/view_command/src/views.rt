@@ -11,4 +11,6 @@ pub enum View {
     Entry(u64, u64),
     /// A chart, drawn in a form, by an axis, and in a window; where none is asked for, of all columns, but at most the first 400.
     Chart(Form, Axis, Option<Window>),
+    /// Its trace events, as JSON.
+    Events,
 }

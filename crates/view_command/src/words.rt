@@ -86,6 +86,8 @@ fn of_one(word: &str) -> Option<View>
         Some(View::Table(Table::Jobs))
     } else if word == "tasks" {
         Some(View::Table(Table::Tasks))
+    } else if word == "events" {
+        Some(View::Events)
     } else {
         whole_chart(form_of(word), Axis::Ticks)
     }
