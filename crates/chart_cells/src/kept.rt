@@ -1,9 +1,9 @@
 //! A task's cell while its column goes on.
-ghost use Rattle.std.specs.Prelude.{◌≡◌, [], ◌∷◌, IfOk, OnOk};
+ghost use Rattle.std.specs.Prelude.{◌≡◌, [], ◌∷◌, nat_lt, OnOk};
 ghost use Rattle.rt_model.specs.Group.{Group};
 ghost use Rattle.trace_views.specs.Cells as views;
 ghost use Rattle.chart_cells.specs.Cells.{cell_shown, cpu_numbers, doing_shown};
-ghost use Rattle.chart_cells.specs.Kept.{finished, later, rank, with_unit};
+ghost use Rattle.chart_cells.specs.Kept.{finished, rank, with_unit};
 
 use crate::cells::{Cell, Doing};
 use rt_base::{CpuNo, NoMemory};
@@ -36,13 +36,12 @@ impl Cell {
         }
     }
 
-    /// Takes what a state of the column shows, if that is more than what was so before.
-    pub fn see(&mut self, seen: Cell)
-        ensures { cell_shown self.new ≡ later (cell_shown self.old) (cell_shown seen) }
+    /// Whether a state of the column in which the task does this shows more than what was so before.
+    pub fn gives_way_to(&self, doing: &Doing) -> bool
+        ensures { result
+            ≡ nat_lt (rank (cell_shown self.now).doing) (rank (doing_shown doing.now)) }
     {
-        if rank_of(&self.doing) < rank_of(&seen.doing) {
-            *self = seen;
-        }
+        rank_of(&self.doing) < rank_of(doing)
     }
 
     /// Takes a unit that the task did on a processor, with what the state before it shows.

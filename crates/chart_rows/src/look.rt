@@ -1,5 +1,5 @@
 //! What a state of a group shows.
-ghost use Rattle.std.specs.Prelude.{◌≡◌, [], IfOk, not, true};
+ghost use Rattle.std.specs.Prelude.{◌≡◌, [], IfOk, OnOk, not, true};
 ghost use Rattle.rt_base.specs.TaskNos.{number_of_task};
 ghost use Rattle.rt_rules.specs.Numbers.{has};
 ghost use Rattle.rt_model.specs.Group.{Group, tasks};
@@ -9,7 +9,7 @@ ghost use Rattle.rank_afresh.specs.Standing.{IsAt, group_of};
 ghost use Rattle.trace_views.specs.Cells as views;
 ghost use Rattle.trace_views.specs.Cells.{cell_at, same_key};
 ghost use Rattle.chart_cells.specs.Cells.{cell_shown, cpu_cell_shown, doing_shown, playing_shown};
-ghost use Rattle.chart_cells.specs.Kept.{state_cell};
+ghost use Rattle.chart_cells.specs.Kept.{later, state_cell};
 ghost use Rattle.chart_cells.specs.KeptFirst.{cpu_at_end};
 ghost use Rattle.chart_rows.specs.Looks as looks;
 ghost use Rattle.chart_rows.specs.Looks.{state_doing};
@@ -40,12 +40,6 @@ fn there_by(sleeping: bool, there: bool) -> Doing
     } else {
         Doing::Away
     }
-}
-
-fn is_away(doing: &Doing) -> bool
-    ensures { result ≡ looks.is_away (doing_shown doing.now) }
-{
-    matches!(doing, Doing::Away)
 }
 
 /// What the task does in a state, apart from units of work and from running.
@@ -89,19 +83,23 @@ pub(crate) fn cell_with(
     })
 }
 
-/// The cell that a state alone shows of a task.
-pub(crate) fn seen(alloc: Global, afresh: &Afresh, task: TaskNo) -> Result<Cell, NoMemory>
+/// Takes what a state of the column shows of a task, if that is more than what was so before. The rest of its cell is read only then.
+pub(crate) fn see_state(
+    kept: &mut Cell,
+    alloc: Global,
+    afresh: &Afresh,
+    task: TaskNo,
+) -> Result<(), NoMemory>
     requires task { has task.0 (tasks (group_of afresh.now)) ≡ true }
     requires at { (past : Past) × IsAt afresh.now past }
-    ensures { IfOk result (λ c. (past : Past) → IsAt afresh.now past
-        → cell_shown c ≡ state_cell (group_of afresh.now) task.0 past) }
+    ensures { OnOk result ((past : Past) → IsAt afresh.now past → cell_shown kept.new
+        ≡ later (cell_shown kept.old) (state_cell (group_of afresh.now) task.0 past)) }
 {
     let doing = doing_in(afresh, task);
-    if is_away(&doing) {
-        return Ok(Cell::away(alloc));
+    if kept.gives_way_to(&doing) {
+        *kept = cell_with(alloc, afresh, task, doing)?;
     }
-    let cell = cell_with(alloc, afresh, task, doing)?;
-    Ok(cell)
+    Ok(())
 }
 
 fn playing_by(task: Option<TaskNo>) -> Playing

@@ -10,7 +10,7 @@ ghost use Rattle.chart_rows.specs.Plays.{played_shown};
 ghost use Rattle.chart_rows.specs.Rows as rows;
 
 use crate::cpus::CpuFeed;
-use crate::look::{cpu_at_end, seen};
+use crate::look::{cpu_at_end, see_state};
 use crate::loops::Played;
 use crate::resvs::ResvFeed;
 use crate::tasks::TaskFeed;
@@ -24,9 +24,8 @@ fn see_task(row: &mut TaskFeed, alloc: Global, afresh: &Afresh) -> Result<(), No
     ensures { OnOk result ((past : Past) → IsAt afresh.now past
         → row.new ≡ rows.task_seen (group_of afresh.now) past row.old) }
 {
-    let cell = seen(alloc, afresh, row.task())?;
-    row.see(cell);
-    Ok(())
+    let task = row.task();
+    see_state(&mut row.kept, alloc, afresh, task)
 }
 
 /// A state more for the rows of tasks.

@@ -3,7 +3,7 @@ ghost use Rattle.std.specs.Prelude.{◌≡◌, ◌||◌, [], ◌∷◌, ◌++◌
 ghost use Rattle.rt_model.specs.Group.{Group};
 ghost use Rattle.trace_views.specs.Cells.{cell_away};
 ghost use Rattle.chart_cells.specs.Cells.{cell_shown, cpu_numbers};
-ghost use Rattle.chart_cells.specs.Kept.{finished, later, with_unit};
+ghost use Rattle.chart_cells.specs.Kept.{finished, with_unit};
 
 use chart_cells::{Cell, Marked, Marks};
 use rt_base::{CpuNo, NoMemory, TaskNo};
@@ -62,13 +62,6 @@ impl TaskFeed {
         ensures { result.0 ≡ self.now.task }
     {
         self.task
-    }
-
-    /// Takes what a state of the column shows.
-    pub(crate) fn see(&mut self, seen: Cell)
-        ensures { self.new ≡ record self.old { kept = later self.old.kept (cell_shown seen) } }
-    {
-        self.kept.see(seen);
     }
 
     /// Takes a unit that the task did on a processor, with what the state before it shows.

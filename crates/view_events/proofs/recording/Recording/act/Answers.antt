@@ -1,0 +1,81 @@
+use Rattle.std.proofs.Common.{◌≡◌, ◌∙◌, ◌∷◌, ap, length, subst, sym}
+use Rattle.std.proofs.lemmas.Result.{on_ok_weaker}
+use Rattle.rt_model.specs.Group.{Group}
+use Rattle.rt_model.specs.Histories.{after}
+use Rattle.rt_model.specs.Outcomes.{past_act}
+use Rattle.rt_model.specs.Past.{Acted, Clock, Past, PastAct}
+use Rattle.rt_model.proofs.Steps.{after-acted}
+use Rattle.chart_rows.specs.Foretold.{IsForetold}
+use Rattle.job_views.specs.Tables.{Keeps}
+use Rattle.rank_afresh.specs.Standing as ranker
+use Rattle.span_feed.specs.Feeds.{IsFed}
+use Rattle.view_acts.specs.ShownActs.{act_shown}
+use Rattle.view_replay.specs.Replays as replays
+use Rattle.view_tables.proofs.Playing.{can-feed, kept-after}
+use Rattle.view_events.specs.Recordings.{group_of}
+use Rattle.view_events.proofs.recording.Recording.act.Goals as goal
+
+pub foretell-requires-clause-fed : goal.foretell-requires-clause-fed
+foretell-requires-clause-fed c =
+    let past = c.requires.moved.0 in
+    let is = c.requires.moved.1 in
+    let tick = c.args.step.tick.0 in (
+      Clock tick ∷ past,
+      c.afresh.ensures.moved past tick is.at,
+      subst (λ (g : Group). IsFed g (Clock tick ∷ past) c.args.self.now.feed) (sym c.afresh.ensures.group) is.fed,
+    )
+
+pub act-requires-clause-acted : goal.act-requires-clause-acted
+act-requires-clause-acted c =
+    let past = c.requires.moved.0 in
+    let is = c.requires.moved.1 in
+    let tick = c.args.step.tick.0 in
+    let fed = subst (λ (g : Group). IsFed g (Clock tick ∷ past) c.args.self.now.feed) (sym c.afresh.ensures.group) is.fed in
+    let told = c.in_ok-unit.ensures (Clock tick ∷ past) (c.afresh.ensures.moved past tick is.at) in
+    let d : PastAct = act_shown c.act-act.result in
+    let act_is = c.act-act.ensures.act past is.at in
+    let g = group_of c.args.self.now in
+    let then : after g c.args.step past ≡ Acted d ∷ Clock tick ∷ past = after-acted g c.args.step past ∙ ap (λ (x : PastAct). Acted x ∷ Clock tick ∷ past) (sym act_is) in
+    let at = subst (replays.IsAt c.act-act.new.self) then (c.act-act.ensures.at past is.at) in
+    let same = c.afresh.ensures.group ∙ sym c.act-act.ensures.group ∙ sym c.afresh-2.ensures.group in
+    let shown = act_is ∙ ap (λ (x : Group). past_act x c.args.step.cpu.0 c.args.step.act (Clock tick ∷ past)) (sym c.afresh.ensures.group) in (
+      Clock tick ∷ past,
+      c.afresh-2.ensures.at (Acted d ∷ Clock tick ∷ past) at,
+      subst (λ (x : Group). IsForetold x (record { act = d; before = Clock tick ∷ past }) c.in_ok-unit.unit) same
+      (subst (λ (x : PastAct). IsForetold (ranker.group_of c.afresh.result.now) (record { act = x; before = Clock tick ∷ past }) c.in_ok-unit.unit) (sym shown) told),
+      subst (λ (x : Group). IsFed x (Clock tick ∷ past) c.args.self.now.feed) same fed,
+    )
+
+pub feed-requires-clause-next : goal.feed-requires-clause-next
+feed-requires-clause-next c =
+    let past = c.requires.moved.0 in
+    let is = c.requires.moved.1 in (
+      _,
+      can-feed c.args.self.now.table c.args.self.now.replay c.args.step past is.at (act_shown c.act-act.result) (c.act-act.ensures.act past is.at) c.now.result.0 (c.now.ensures.at _ (c.act-act.ensures.at past is.at)) c.requires.step is.kept,
+    )
+
+pub returns-clause-recorded : goal.returns-clause-recorded
+returns-clause-recorded c =
+    on_ok_weaker c.feed.result (λ kept past is.
+    let step = c.args.step in
+    let tick = step.tick.0 in
+    let fed = subst (λ (g : Group). IsFed g (Clock tick ∷ past) c.args.self.now.feed) (sym c.afresh.ensures.group) is.fed in
+    let told = c.in_ok-unit.ensures (Clock tick ∷ past) (c.afresh.ensures.moved past tick is.at) in
+    let d : PastAct = act_shown c.act-act.result in
+    let act_is = c.act-act.ensures.act past is.at in
+    let g = group_of c.args.self.now in
+    let then : after g step past ≡ Acted d ∷ Clock tick ∷ past = after-acted g step past ∙ ap (λ (x : PastAct). Acted x ∷ Clock tick ∷ past) (sym act_is) in
+    let at = subst (replays.IsAt c.act-act.new.self) then (c.act-act.ensures.at past is.at) in
+    let same = c.afresh.ensures.group ∙ sym c.act-act.ensures.group ∙ sym c.afresh-2.ensures.group in
+    let shown = act_is ∙ ap (λ (x : Group). past_act x step.cpu.0 step.act (Clock tick ∷ past)) (sym c.afresh.ensures.group) in
+    let acted = c.in_ok-act.ensures (Clock tick ∷ past) (c.afresh-2.ensures.at (Acted d ∷ Clock tick ∷ past) at)
+    (subst (λ (x : Group). IsForetold x (record { act = d; before = Clock tick ∷ past }) c.in_ok-unit.unit) same
+    (subst (λ (x : PastAct). IsForetold (ranker.group_of c.afresh.result.now) (record { act = x; before = Clock tick ∷ past }) c.in_ok-unit.unit) (sym shown) told))
+    (subst (λ (x : Group). IsFed x (Clock tick ∷ past) c.args.self.now.feed) same fed) in
+    let can = can-feed c.args.self.now.table c.args.self.now.replay step past is.at d act_is c.now.result.0 (c.now.ensures.at _ (c.act-act.ensures.at past is.at)) c.requires.step is.kept in
+    record {
+      at = c.act-act.ensures.at past is.at;
+      fed = subst (λ (p : Past). IsFed (replays.group_of c.act-act.new.self) p c.act.new.self) (sym then) (subst (λ (x : Group). IsFed x (Acted d ∷ Clock tick ∷ past) c.act.new.self) c.afresh-2.ensures.group acted);
+      kept = kept-after c.args.self.now.table c.args.self.now.replay step past is.at d act_is c.feed.new.self (kept _ can);
+      tasks = c.feed.ensures.count ∙ is.tasks ∙ sym (ap (λ (x : Group). length x.setup.tasks) c.act-act.ensures.group);
+    }) c.feed.ensures.kept

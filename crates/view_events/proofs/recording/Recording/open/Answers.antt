@@ -1,0 +1,19 @@
+use Rattle.std.proofs.Common.{◌∙◌, ap, arith, length, map, sym}
+use Rattle.rt_base.specs.declared.ResvNo.{ResvNo}
+use Rattle.rt_task.specs.declared.Parts.{Parts}
+use Rattle.rt_groups.proofs.SetLimits.{sets_are_in_limits}
+use Rattle.rt_model.specs.Group.{Group}
+use Rattle.chart_texts.specs.Charts.{group_resvs}
+use Rattle.view_events.proofs.recording.Recording.open.Goals as goal
+
+pub tasks_of-requires : goal.tasks_of-requires
+tasks_of-requires c = omega (arith, (sets_are_in_limits c.args.setup.now c.parts-parts.ensures.valid).few_tasks, ap (λ (p : Parts). length p.tasks) c.parts-parts.ensures.parts)
+
+pub resvs_of-requires : goal.resvs_of-requires
+resvs_of-requires c = omega (arith, (sets_are_in_limits c.args.setup.now c.parts-parts.ensures.valid).few_resvs, ap (λ (p : Parts). length p.resvs) c.parts-parts.ensures.parts)
+
+pub open-requires-2-clause-resvs : goal.open-requires-2-clause-resvs
+open-requires-2-clause-resvs c =
+    ap (map (λ (r : ResvNo). r.0)) c.as_slice-3.ensures.value ∙ c.in_ok-resvs.ensures
+    ∙ ap (λ (p : Parts). let g : Group = record { setup = p; number = c.args.group.0 } in group_resvs g) c.parts-parts.ensures.parts
+    ∙ ap group_resvs (sym (c.afresh.ensures.group ∙ c.in_ok-replay.ensures.group))
