@@ -1,4 +1,3 @@
 pub mod GroupPasts
 pub mod Longest
-pub mod Paneled
 pub mod Drawn
