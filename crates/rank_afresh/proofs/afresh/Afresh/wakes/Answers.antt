@@ -1,0 +1,26 @@
+use Rattle.std.proofs.Common.{◌≡◌, true, sym, subst}
+use Rattle.rt_rules.specs.Numbers.{has}
+use Rattle.rt_model.specs.Sleep.{wakes}
+use Rattle.rt_model.specs.Group.{tasks}
+use Rattle.rt_model.specs.Past.{Past}
+use Rattle.rank_afresh.specs.contracts.afresh.Afresh.{the_view}
+use Rattle.rank_afresh.specs.Standing.{IsAt, Standing, group_of}
+use Rattle.rank_afresh.proofs.Explained.{wakes-shown}
+use Rattle.rank_afresh.proofs.Shown.{in-jobs, low}
+use Rattle.rank_afresh.proofs.afresh.Afresh.wakes.Goals as goal
+
+pub wakes-requires-clause-low : goal.wakes-requires-clause-low
+wakes-requires-clause-low c =
+    let there = subst (λ (v : Standing). has c.args.task.0 (tasks (group_of v)) ≡ true) (sym c.self.view_is) c.requires in
+    low (the_view c.self.inside) _ c.self.invariant c.core.result.now.facts c.core.ensures.facts c.args.task.0 there
+
+pub wakes-requires-clause-high : goal.wakes-requires-clause-high
+wakes-requires-clause-high c =
+    let there = subst (λ (v : Standing). has c.args.task.0 (tasks (group_of v)) ≡ true) (sym c.self.view_is) c.requires in
+    in-jobs (the_view c.self.inside) _ c.self.invariant c.core.result.now.facts c.core.ensures.facts c.args.task.0 there
+
+pub returns : goal.returns
+returns c =
+    let there = subst (λ (v : Standing). has c.args.task.0 (tasks (group_of v)) ≡ true) (sym c.self.view_is) c.requires in
+    subst (λ (v : Standing). (past : Past) → IsAt v past → c.wakes.result ≡ wakes c.args.task.0 past) c.self.view_is
+    (λ past at. wakes-shown (the_view c.self.inside) _ c.self.invariant c.core.result.now.facts c.core.ensures.facts c.args.task.0 there past at c.wakes.result c.wakes.ensures)
