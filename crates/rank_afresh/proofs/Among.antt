@@ -10,6 +10,7 @@ use Rattle.rt_rules.proofs.BoolLaws.{clash, either}
 use Rattle.rt_rules.proofs.DistinctLaws.{length-distinct}
 use Rattle.rt_rules.proofs.MemberLaws.{equal_self}
 use Rattle.rt_rules.proofs.RankedLaws.{distinct-inserted, has-inserted}
+use Rattle.ready_queue.proofs.OrderedLaws.{in_order-inserted, in_order-without}
 use Rattle.ready_queue.proofs.SplitLaws.{has-without}
 use Rattle.rank_afresh.specs.Ranks.{AreAmong}
 
@@ -40,6 +41,7 @@ module _ (ts : List ℕ) (t : ℕ) (rs : List Ranked) (are : AreAmong ts rs) whe
   among-without = record {
     once = distinct-without t rs are.once;
     inside = λ u h. are.inside u (still-there t u rs are.once h);
+    order = in_order-without t rs are.order;
   }
 
   module _ (there : has t ts ≡ true) where
@@ -61,4 +63,5 @@ module _ (ts : List ℕ) (t : ℕ) (rs : List Ranked) (are : AreAmong ts rs) whe
       once = distinct-inserted a (without_task t rs) (rw is (gone t rs are.once)) among-without.once;
       inside = λ u h. elim (either (u == a.task) (has u (tasks_of (without_task t rs))) (sym (has-inserted u a (without_task t rs)) ∙ h))
           [ inl e ↦ rw (eqb-true u a.task e, is) there | inr k ↦ among-without.inside u k ];
+      order = in_order-inserted a (without_task t rs) among-without.order;
     }

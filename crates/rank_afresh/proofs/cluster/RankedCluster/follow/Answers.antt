@@ -32,7 +32,7 @@ place-requires-clause-length c =
 pub place-requires-clause-distinct : goal.place-requires-clause-distinct
 place-requires-clause-distinct c =
     let top = top_is (goal.at.place-requires-clause-distinct c).After-write_tasks in
-    subst IsDistinct (sym (ap numbers c.as_slice-4.ensures.value ∙ top)) (distinct-take c.len-cpus.result (tasks_of (ranked_all c.self.inside.ranked.items)) c.self.invariant.1.once)
+    subst IsDistinct (sym (ap numbers c.as_slice-4.ensures.value ∙ top)) (distinct-take c.len-cpus.result (tasks_of (ranked_all c.self.inside.ranked.items)) c.self.invariant.2.once)
 
 pub returns : goal.returns
 returns c =
