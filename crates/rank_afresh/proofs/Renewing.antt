@@ -122,22 +122,21 @@ pub record IsAlike (g : Group) (t : ℕ) (past past' : Past) : Type 0 where
   pub admitted_same : is_admitted g g.setup.plugin t past' ≡ is_admitted g g.setup.plugin t past
   pub key_same : effective_key g t past' ≡ effective_key g t past
 
-module _ (g : Group) (past past' : Past) (w w' : GroupResvs) (before : AreResvsRead g past w) (after : AreResvsRead g past' w') (changed : AreChanged g w w') where
-  stands-same : (t : ℕ) → has t (tasks g) ≡ true → IsAlike g t past past' → has t w'.changed ≡ false → SameStanding g t past past'
+module _ (g : Group) (past past' : Past) (w w' : GroupResvs) (before : AreResvsRead g past w) (after : AreResvsRead g past' w') where
+  pub stands-same : (t : ℕ) → has t (tasks g) ≡ true → IsAlike g t past past' → is_served w' t ≡ is_served w t → SameStanding g t past past'
   unfolding eligible
-  stands-same t there alike out =
-      let served : is_served_by_rules g g.setup.plugin t past' ≡ is_served_by_rules g g.setup.plugin t past =
-      sym (after t there).served ∙ changed.others t there out ∙ (before t there).served in
+  stands-same t there alike same =
+      let served : is_served_by_rules g g.setup.plugin t past' ≡ is_served_by_rules g g.setup.plugin t past = sym (after t there).served ∙ same ∙ (before t there).served in
       record {
         eligible_same = rw (alike.ready_same, alike.awaits_same, alike.admitted_same, served) refl;
         key_same = λ h. alike.key_same;
       }
 
   -- the ranking, where all but these look alike
-  pub ranking-moved : (us : List ℕ) (c : ℕ) → ((t : ℕ) → has t (tasks g) ≡ true → has t us ≡ false → IsAlike g t past past')
+  pub ranking-moved : AreChanged g w w' → (us : List ℕ) (c : ℕ) → ((t : ℕ) → has t (tasks g) ≡ true → has t us ≡ false → IsAlike g t past past')
       → ranking g c past' ≡ refreshed (λ t. effective_key g t past') (λ t. eligible g t past') (of_cluster g c (us ++ w'.changed)) (ranking g c past)
-  ranking-moved us c alike =
+  ranking-moved changed us c alike =
       ranking_after_move g c (us ++ w'.changed) past past' (λ t h out.
       let there : has t (tasks g) ≡ true = (tasks_of-home g c t h).0 in
       let none = neither (has t us) (has t w'.changed) (sym (has-append t us w'.changed) ∙ out) in
-      stands-same t there (alike t there none.0) none.1)
+      stands-same t there (alike t there none.0) (changed.others t there none.1))
