@@ -41,28 +41,9 @@ use Rattle.group_core.specs.Facts as core
 use Rattle.group_core.specs.Reads.{is_candidate, key_in}
 use Rattle.group_core.proofs.ModelWords.{eligible-read, resvs-read}
 use Rattle.rank_afresh.specs.Facts.{cluster_at, core_of}
-use Rattle.rank_afresh.specs.Ranks.{ranking_in}
 use Rattle.rank_afresh.specs.Standing.{IsAt, IsFit, Standing, group_of}
-use Rattle.rank_afresh.proofs.ModelWords.{ranking-read}
 use Rattle.rank_afresh.proofs.SetLists.{cluster-inside}
 use Rattle.rank_afresh.proofs.Shown.{resv-here, task-of}
-
--- ---- the whole ranking of a cluster
-
-length-sorted : (rs : List Ranked) → length (sorted rs) ≡ length rs
-length-sorted [] = refl
-length-sorted (r ∷ rs) = let more = length-inserted r (sorted rs) in let rest = length-sorted rs in omega arith
-
-length-ranked_by : (key : ℕ → Key) (test : ℕ → Bool) (ts : List ℕ) → length (ranked_by key test ts) ≤ length ts
-length-ranked_by key test ts =
-    let all = length-sorted (map (λ t. record { key = key t; task = t }) (filter test ts)) in
-    let one = length-map (filter test ts) (λ t. let r : Ranked = record { key = key t; task = t } in r) in
-    let kept = length-filter test ts in
-    let few = count_by-le-length test ts in
-    omega arith
-
-pub all-ranked : (p : Parts) (k : Kept) (v : GroupSems) (w : GroupResvs) (n : ℕ) (ts : List ℕ) → n ≡ length ts → take n (ranking_in p k v w ts) ≡ ranking_in p k v w ts
-all-ranked p k v w n ts is = take_all n (ranking_in p k v w ts) (let few = length-ranked_by (key_in v) (is_candidate p k v w) ts in omega (arith, few, is))
 
 -- ---- at a past
 
@@ -114,12 +95,8 @@ module _ (v : Standing) (room : ℕ) (fit : IsFit (group_of v) v.facts room v.sp
   pub cluster-there : c < length v.facts.clusters
   cluster-there = let i = cluster-inside (group_of v) c there in let n = fit.all_clusters in omega (arith, i, n)
 
-  pub ranking-shown : (past : Past) → IsAt v past → (p : Parts) → p ≡ v.setup
-      → ranking_in p v.facts.kept v.facts.sems v.facts.resvs (cluster_at v.facts.clusters c).tasks ≡ ranking (group_of v) c past
-  ranking-shown past at p is =
-      ap (λ (x : Parts). ranking_in x v.facts.kept v.facts.sems v.facts.resvs (cluster_at v.facts.clusters c).tasks) is
-      ∙ ap (ranking_in v.setup v.facts.kept v.facts.sems v.facts.resvs) (fit.clusters_are c (cluster-inside (group_of v) c there)).tasks_are
-      ∙ sym (ranking-read (group_of v) past v.facts.kept at.core_at.kept fit.core_fit.valid at.core_at.reachable v.facts.sems at.core_at.sems_are at.core_at.ways_are v.facts.resvs (resvs-read (group_of v) past v.facts.resvs fit.core_fit.valid at.core_at.resvs_are) c)
+  pub ranking-shown : (past : Past) → IsAt v past → (cluster_at v.facts.clusters c).ranked ≡ ranking (group_of v) c past
+  ranking-shown past at = (at.ranked_are c there).ranked_are
 
 -- ---- of a reservation
 

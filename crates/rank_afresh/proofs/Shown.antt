@@ -144,23 +144,6 @@ few-sems p valid =
     (fourth (nat_le (length d.clusters) MOST_CLUSTERS) (nat_le (cpus_of_set d) MOST_CPUS) (nat_le (length d.tasks) MOST_TASKS) (nat_le (length p.sems) MOST_SEMS)
     (nat_le (length d.resvs) MOST_RESVS && horizon_fits d d.drive) (passes_rows p valid).size)
 
--- one semaphore more is looked at
-numbers-last : (a n : ℕ) → numbers_from a (n + 1) ≡ numbers_from a n ++ (a + n) ∷ []
-numbers-last a zero = let at : a ≡ a + 0 = omega arith in ap (λ j. j ∷ []) at
-numbers-last a (suc n) =
-    let size : suc n + 1 ≡ suc (n + 1) = omega arith in
-    let at : suc a + n ≡ a + suc n = omega arith in
-    ap (λ m. numbers_from a m) size ∙ ap (λ xs. a ∷ xs) (numbers-last (suc a) n) ∙ ap (λ j. a ∷ (numbers_from (suc a) n ++ j ∷ [])) at
-
-pub filter-next : (test : ℕ → Bool) (i : ℕ) (b : Bool) → test (i + 1) ≡ b → filter test (numbers_from 1 (i + 1)) ≡ filter test (numbers_from 1 i) ++ (if b then (i + 1) ∷ [] else [])
-filter-next test i b is =
-    let at : 1 + i ≡ i + 1 = omega arith in
-    ap (filter test) (numbers-last 1 i ∙ ap (λ n. numbers_from 1 i ++ n ∷ []) at) ∙ filter-append test (numbers_from 1 i) ((i + 1) ∷ []) ∙ ap (λ ys. filter test (numbers_from 1 i) ++ ys) (last b is)
-  where
-    last : (c : Bool) → test (i + 1) ≡ c → filter test ((i + 1) ∷ []) ≡ (if c then (i + 1) ∷ [] else [])
-    last true m = rw m refl
-    last false m = rw m refl
-
 -- ---- of a reservation
 
 cluster-low : (p : Parts) → IsValid p → (i : ℕ) → i < length p.resvs → (slice_index_or p.resvs i no_resv).cluster.0 < length p.clusters

@@ -1,13 +1,15 @@
-//! One group played from plain facts: the tasks of a cluster are ranked afresh at each move that changes any of them.
+//! One group played from plain facts: the eligible tasks of each cluster stay ranked in one list, and a move looks at the
+//! tasks alone that it touches.
 #![tactic(auto)]
 
 mod afresh;
 mod cluster;
 mod facts;
+mod listing;
+mod moments;
 mod placing;
 mod ranks;
 mod room;
 mod rows;
-mod touched;
 
 pub use afresh::Afresh;

@@ -35,7 +35,7 @@ impl Afresh {
         ensures { IfOk result (λ v. (past : Past) → IsAt self.now past
             → numbers v.items ≡ tasks_of (ranking (group_of self.now) cluster.0 past)) }
     {
-        self.facts.ranking(alloc, self.setup.parts(), cluster)
+        self.facts.ranking(alloc, cluster)
     }
 
     /// The release of the task's current job; none where a sporadic task's has not arrived.

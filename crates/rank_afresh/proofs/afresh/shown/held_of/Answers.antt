@@ -4,7 +4,7 @@ use Rattle.std.proofs.lemmas.List.{map-append}
 use Rattle.rt_base.specs.declared.SemNo.{SemNo}
 use Rattle.rt_rules.specs.Numbers.{is, numbers_from}
 use Rattle.sem_table.specs.Told.{state_of}
-use Rattle.rank_afresh.proofs.Shown.{filter-next}
+use Rattle.rank_afresh.proofs.SetLists.{filter-next}
 use Rattle.rank_afresh.proofs.afresh.shown.held_of.Goals as goal
 use Rattle.rank_afresh.proofs.afresh.shown.held_of.Goals.{then-is_held+in_ok-push, else-is_held}
 

@@ -1,0 +1,75 @@
+-- The end of a move, step by step: what its calls rest on, and what they come to.
+use Rattle.std.proofs.Common.{◌≡◌, ℕ, ◌+◌, ◌-◌, ◌<◌, ◌≤◌, true, List, length, refl, sym, ap, ◌∙◌, subst, arith}
+use Rattle.std.specs.Prelude.{Option}
+use Rattle.rt_base.specs.declared.TheConstants.{MOST_STEPS, TICK_END}
+use Rattle.rt_task.specs.declared.Parts.{Parts}
+use Rattle.rt_rules.specs.Numbers.{has, numbers_from}
+use Rattle.rt_rules.proofs.BoolLaws.{both}
+use Rattle.rt_rules.proofs.MemberLaws.{has-filter}
+use Rattle.rt_rules.proofs.NumberLaws.{has-numbers_from, numbers_from-below}
+use Rattle.rt_model.specs.Releases.{has_come}
+use Rattle.release_queue.specs.Timers.{tick_at}
+use Rattle.group_facts.specs.Kept.{Kept}
+use Rattle.group_facts.specs.Timers.{renewed}
+use Rattle.group_jobs.specs.GroupJobs.{IsTaskOf}
+use Rattle.group_resvs.specs.GroupResvs.{IsSettled}
+use Rattle.group_core.specs.Facts as core
+use Rattle.group_core.specs.Facts.{told_all}
+use Rattle.group_core.specs.Reads.{CanRead, timer_in}
+use Rattle.group_core.proofs.Counting.{read-clock}
+use Rattle.group_core.proofs.Reading.{is-task}
+use Rattle.rank_afresh.specs.Clusters.{ClusterFacts, HasRenewed}
+use Rattle.rank_afresh.specs.Facts.{CanEnd, CanFollow, Facts, HasEnded, HaveRenewed, WithRoom, core_of, with_core}
+use Rattle.rank_afresh.specs.Moments.{due_in}
+use Rattle.rank_afresh.specs.Ranks.{AreTasks}
+use Rattle.rank_afresh.proofs.Fitting.{places-stay}
+
+-- a task of the set can be read
+pub task-of : (p : Parts) (k : Kept) (t : ℕ) → CanRead MOST_STEPS p k → (1 ≤ t) × (t ≤ length p.tasks) → IsTaskOf k p.tasks t
+task-of p k t read range = is-task MOST_STEPS p k read t range.0 range.1 (omega arith) p.tasks refl
+
+-- those whose moment has come are tasks of the set
+pub due-are : (p : Parts) (clock : ℕ) (ticks : List (Option ℕ)) → length ticks ≡ length p.tasks + 1 → AreTasks p (due_in clock ticks)
+due-are p clock ticks count t h =
+    let there : has t (numbers_from 1 (length ticks - 1)) ≡ true = (both _ _ (sym (has-filter (λ u. has_come clock (tick_at ticks u)) t (numbers_from 1 (length ticks - 1))) ∙ h)).0 in
+    (has-numbers_from t 1 (length ticks - 1) there, let b = numbers_from-below t 1 (length ticks - 1) there in omega (arith, b, count))
+
+pub renewed-as : (p : Parts) (x x' : core.Facts) (ts ts' : List ℕ) (old old' new : ClusterFacts) → x ≡ x' → ts ≡ ts' → old ≡ old' → HasRenewed p x ts old new → HasRenewed p x' ts' old' new
+renewed-as p x x' ts ts' old old' new facts tasks before is =
+    subst (λ (y : core.Facts). HasRenewed p y ts' old' new) facts
+    (subst (λ (us : List ℕ). HasRenewed p x us old' new) tasks (subst (λ (c : ClusterFacts). HasRenewed p x ts c new) before is))
+
+pub ended-of : (p : Parts) (f : Facts) (x : core.Facts) (room : ℕ) (mid new : WithRoom) → x.kept ≡ f.kept → x.sems ≡ f.sems → IsSettled (told_all p f.looked (core_of f)).resvs x.resvs
+    → HaveRenewed p x f.looked f.clusters mid.facts.clusters → length mid.facts.clusters ≡ length f.clusters
+    → mid ≡ record { facts = record (with_core x f) { clusters = mid.facts.clusters }; room = room }
+    → new ≡ record mid { facts = record mid.facts { moments = renewed (timer_in p mid.facts.kept) mid.facts.looked mid.facts.moments } }
+    → HasEnded p f new.facts
+ended-of p f x room mid new kept sems settled clusters count rest moments =
+    let shared : core_of new.facts ≡ x = ap (λ (w : WithRoom). core_of w.facts) moments ∙ ap (λ (w : WithRoom). core_of w.facts) rest in
+    let same : new.facts.clusters ≡ mid.facts.clusters = ap (λ (w : WithRoom). w.facts.clusters) moments in
+    record {
+      kept_same = ap (λ (y : core.Facts). y.kept) shared ∙ kept;
+      sems_same = ap (λ (y : core.Facts). y.sems) shared ∙ sems;
+      settled = rw (ap (λ (y : core.Facts). y.resvs) shared) settled;
+      count_same = ap length same ∙ count;
+      renewed_are = subst (λ (y : core.Facts). HaveRenewed p y f.looked f.clusters new.facts.clusters) (sym shared) (subst (HaveRenewed p x f.looked f.clusters) (sym same) clusters);
+      moments_are =
+          ap (λ (w : WithRoom). w.facts.moments) moments
+          ∙ ap (λ (w : WithRoom). renewed (timer_in p w.facts.kept) w.facts.looked w.facts.moments) rest
+          ∙ ap (λ (k : Kept). renewed (timer_in p k) f.looked f.moments) kept;
+    }
+
+-- once the clock has moved, and the tasks that are due are listed
+pub end-clocked : (p : Parts) (tick clock : ℕ) (f : Facts) (x : core.Facts) (left : List (Option ℕ)) (due : List ℕ) → CanFollow p f → tick < TICK_END → x ≡ core.clocked tick (core_of f)
+    → length left ≡ length f.moments → due ≡ due_in clock f.moments → CanEnd p (record (with_core x f) { moments = left; looked = due })
+end-clocked p tick clock f x left due can low clocked count listed =
+    let moved : CanFollow p (record (with_core (core.clocked tick (core_of f)) f) { moments = left; looked = due }) = record {
+      read = read-clock MOST_STEPS MOST_STEPS p f.kept (omega arith) can.read tick low;
+      keys = can.keys;
+      places = places-stay p f.kept (core.clocked tick (core_of f)).kept f.clusters refl can.places;
+      moments = count ∙ can.moments;
+    } in
+    record {
+      follow = subst (λ (y : core.Facts). CanFollow p (record (with_core y f) { moments = left; looked = due })) (sym clocked) moved;
+      looked_are = rw listed (due-are p clock f.moments can.moments);
+    }

@@ -1,0 +1,44 @@
+use Rattle.std.proofs.Common.{◌≡◌, ◌+◌, ◌≤◌, ℕ, List, length, refl, sym, ap, ◌∙◌, subst, arith}
+use Rattle.rt_base.specs.TaskNos.{numbers}
+use Rattle.rt_base.specs.declared.TaskNo.{TaskNo}
+use Rattle.rt_base.specs.declared.TheConstants.{MOST_STEPS}
+use Rattle.rt_task.specs.declared.Parts.{Parts}
+use Rattle.group_resvs.specs.GroupResvs.{GroupResvs, IsSettled}
+use Rattle.group_core.specs.Facts as core
+use Rattle.group_core.specs.Facts.{told_all}
+use Rattle.group_core.specs.Reads.{CanRead}
+use Rattle.rank_afresh.specs.Facts.{CanEnd, Facts, HasEnded, WithRoom}
+use Rattle.rank_afresh.specs.Ranks.{AreTasks}
+use Rattle.rank_afresh.proofs.Moving.{ended-of, task-of}
+use Rattle.rank_afresh.proofs.facts.Facts.end.Goals as goal
+
+pub tell_all-requires : goal.tell_all-requires
+tell_all-requires c =
+    let can : CanEnd c.args.parts.now _ = subst (λ (w : WithRoom). CanEnd c.args.parts.now w.facts) (sym c.self.view_is) c.requires in
+    λ t h. task-of c.args.parts.now c.self.inside.core.facts.kept t can.follow.read (can.looked_are t (rw c.as_slice.ensures.value at h))
+
+pub keep_moments-requires-clause-looked : goal.keep_moments-requires-clause-looked
+keep_moments-requires-clause-looked c =
+    let can : CanEnd c.args.parts.now _ = subst (λ (w : WithRoom). CanEnd c.args.parts.now w.facts) (sym c.self.view_is) c.requires in
+    subst (AreTasks c.args.parts.now) (sym (ap (λ (w : WithRoom). w.facts.looked) c.renew_clusters.ensures.rest)) can.looked_are
+
+pub returns-clause-ended : goal.returns-clause-ended
+returns-clause-ended c =
+    let p : Parts = c.args.parts.now in
+    let x : core.Facts = c.self.inside.core.facts in
+    let f : Facts = record {
+      kept = x.kept;
+      sems = x.sems;
+      resvs = x.resvs;
+      clusters = c.self.inside.clusters.items;
+      moments = c.self.inside.moments;
+      looked = numbers c.self.inside.looked.items;
+    } in
+    let told : c.tell_all.new.self.facts.resvs ≡ (told_all p f.looked x).resvs = ap (λ (w : core.WithRoom). w.facts.resvs) c.tell_all.ensures ∙ ap (λ (us : List TaskNo). (told_all p (numbers us) x).resvs) c.as_slice.ensures.value in
+    let ended : HasEnded p f c.keep_moments.new.self.facts =
+    ended-of p f c.settle.new.self.facts c.settle.new.self.room c.renew_clusters.new.self c.keep_moments.new.self
+    (c.settle.ensures.kept ∙ ap (λ (w : core.WithRoom). w.facts.kept) c.tell_all.ensures)
+    (c.settle.ensures.sems ∙ ap (λ (w : core.WithRoom). w.facts.sems) c.tell_all.ensures)
+    (subst (λ (w : GroupResvs). IsSettled w c.settle.new.self.facts.resvs) told c.settle.ensures.settled)
+    c.renew_clusters.ensures.clusters c.renew_clusters.ensures.count c.renew_clusters.ensures.rest c.keep_moments.ensures in
+    subst (λ (w : WithRoom). HasEnded p w.facts c.keep_moments.new.self.facts) c.self.view_is ended

@@ -1,0 +1,40 @@
+use Rattle.std.proofs.Common.{◌≡◌, ◌≢◌, ◌+◌, ◌<◌, ◌≤◌, ℕ, List, length, length-set, set, get_or, below_more, get_or-set_same, get_or-set_other, refl, sym, ap, ◌∙◌, subst, arith}
+use Rattle.std.proofs.lemmas.List.{get_or_default}
+use Rattle.rt_base.specs.TaskNos.{numbers}
+use Rattle.rt_base.specs.declared.TaskNo.{TaskNo}
+use Rattle.rt_task.specs.declared.Parts.{Parts}
+use Rattle.group_core.specs.Facts as core
+use Rattle.rank_afresh.specs.Clusters.{ClusterFacts, HasRenewed, no_facts}
+use Rattle.rank_afresh.specs.Facts.{HaveRenewed, WithRoom, cluster_at, core_of}
+use Rattle.rank_afresh.proofs.Moving.{renewed-as}
+use Rattle.rank_afresh.proofs.facts.Facts.renew_clusters.Goals as goal
+
+pub loop-n-preserved : goal.loop-n-preserved
+loop-n-preserved c =
+    let n : ℕ = c.loop-n.n in
+    let cs : List ClusterFacts = c.loop-n.self-inside.clusters.items in
+    let olds : List ClusterFacts = c.self.inside.clusters.items in
+    let x : core.Facts = c.self.inside.core.facts in
+    let ts : List ℕ = numbers c.self.inside.looked.items in
+    let new : ClusterFacts = c.renew.new.self in
+    let looked : numbers c.loop-n.self-inside.looked.items ≡ ts = rw c.loop-n.invariant.looked refl in
+    let inside : n < length cs = omega (arith, c.loop-n-test.true, c.len-n-end.ensures, c.loop-n.invariant.count, c.loop-n.invariant.room, c.self.inside.clusters.ok.0) in
+    let was : c.index_mut.result.now ≡ cluster_at olds n = c.index_mut.ensures.value ∙ get_or_default cs n c.index_mut.result.now no_facts inside ∙ c.loop-n.invariant.rest n (omega arith) in
+    let now : HasRenewed c.args.parts.now x ts (cluster_at olds n) new =
+    renewed-as c.args.parts.now c.loop-n.self-inside.core.facts x (numbers c.as_slice.result.now) ts c.index_mut.result.now (cluster_at olds n) new
+    (ap (λ (w : core.WithRoom). w.facts) c.loop-n.invariant.core)
+    (ap numbers c.as_slice.ensures.value ∙ looked) was c.renew.ensures in
+    record {
+      core = c.loop-n.invariant.core;
+      moments = c.loop-n.invariant.moments;
+      looked = c.loop-n.invariant.looked;
+      count = c.loop-n.invariant.count;
+      room = length-set cs n new ∙ c.loop-n.invariant.room;
+      done = below_more _ _ (λ k h. let ne : k ≢ n = omega (arith, h) in rw (get_or-set_other cs n k new no_facts ne) (c.loop-n.invariant.done k h)) (rw (get_or-set_same cs n new no_facts inside) now);
+      rest = λ k h. let ne : k ≢ n = omega (arith, h) in get_or-set_other cs n k new no_facts ne ∙ c.loop-n.invariant.rest k (omega (arith, h));
+    }
+
+pub returns-clause-clusters : goal.returns-clause-clusters
+returns-clause-clusters c =
+    subst (λ (w : WithRoom). HaveRenewed c.args.parts.now (core_of w.facts) w.facts.looked w.facts.clusters c.loop-n.self-inside.clusters.items) c.self.view_is
+    (λ i h. c.loop-n.invariant.done i (omega (arith, h, c.loop-n-test.false, c.len-n-end.ensures, c.self.inside.clusters.ok.0)))
