@@ -1,5 +1,5 @@
 -- The tasks whose moment has come are taken out, one after the other.
-use Rattle.std.proofs.Common.{◌≡◌, ◌≢◌, ℕ, zero, suc, ◌+◌, ◌-◌, ◌<◌, ◌≤◌, Bool, true, false, ◌||◌, List, [], ◌∷◌, ◌++◌, length, length-set, set, get_or, eqb-true, refl, sym, ap, ◌∙◌, arith, get_or-set_same, get_or-set_other}
+use Rattle.std.proofs.Common.{◌≡◌, ◌≢◌, ℕ, zero, suc, ◌+◌, ◌-◌, ◌<◌, ◌≤◌, Bool, true, false, ◌||◌, List, [], ◌∷◌, ◌++◌, length, length-set, set, eqb-true, refl, sym, ap, ◌∙◌, arith, get_or-set_same, get_or-set_other}
 use Rattle.std.specs.Prelude.{◌==◌, Option, None, Some, filter, nat_lt, if◌then◌else◌}
 use Rattle.std.proofs.lemmas.Bool.Decides.{nat_tests}
 use Rattle.std.proofs.lemmas.Bool.{eqb-false}
@@ -8,7 +8,7 @@ use Rattle.rt_base.specs.TaskNos.{numbers}
 use Rattle.rt_base.specs.declared.TaskNo.{TaskNo}
 use Rattle.rt_rules.specs.Numbers.{has, numbers_from}
 use Rattle.rt_rules.proofs.BoolLaws.{or_true}
-use Rattle.rt_rules.proofs.MemberLaws.{equal_self, has-append}
+use Rattle.rt_rules.proofs.MemberLaws.{has-append}
 use Rattle.rt_model.specs.Releases.{has_come}
 use Rattle.release_queue.specs.Timers.{tick_at}
 use Rattle.rank_afresh.specs.Moments.{AreTakenOut, IsLeast, due_in}

@@ -1,20 +1,14 @@
 -- What explains a state is what the definitions say of the past.
-use Rattle.std.proofs.Common.{◌≡◌, ◌∙◌, ℕ, ◌+◌, ◌-◌, ◌^◌, ◌<◌, ◌≤◌, Bool, true, false, List, [], ◌∷◌, length, map, take, refl, sym, ap, subst, arith}
-use Rattle.std.specs.Prelude.{Option, None, Some, IfNone, IfSome, filter, unwrap_or}
-use Rattle.std.proofs.lemmas.List.{length-map, take_all}
-use Rattle.std.proofs.lemmas.List.Sums.{count_by-le-length, length-filter}
+use Rattle.std.proofs.Common.{◌≡◌, ◌∙◌, ℕ, ◌^◌, ◌<◌, ◌≤◌, Bool, true, false, length, refl, sym, ap, subst, arith}
+use Rattle.std.specs.Prelude.{Option, None, Some, IfNone, IfSome, unwrap_or}
 use Rattle.rt_base.specs.TaskNos.{number_of_task}
 use Rattle.rt_base.specs.declared.TaskNo.{TaskNo}
 use Rattle.rt_task.specs.RuleWords.{is_p_res}
 use Rattle.rt_task.specs.Validity.{IsValid}
 use Rattle.rt_task.specs.declared.Parts.{Parts}
-use Rattle.rt_order.specs.declared.Key.{Key}
-use Rattle.rt_rules.specs.Keys.{Ranked, sorted}
 use Rattle.rt_rules.specs.Numbers.{has}
-use Rattle.rt_rules.specs.Rankings.{ranked_by}
-use Rattle.rt_rules.proofs.RankedByLaws.{length-inserted}
 use Rattle.rt_model.specs.EffectiveKeys.{waits_for}
-use Rattle.rt_model.specs.Group.{Group, clusters, in_group, resv, sems, task, tasks, tasks_of}
+use Rattle.rt_model.specs.Group.{Group, clusters, in_group, resv, sems, task, tasks}
 use Rattle.rt_model.specs.Holders.{holder}
 use Rattle.rt_model.specs.Jobs.{used}
 use Rattle.rt_model.specs.Past.{Past}
@@ -29,16 +23,14 @@ use Rattle.resv_laws.proofs.ShownLaws.{state_is_shown}
 use Rattle.sem_table.specs.Told.{state_of, waits_for_of}
 use Rattle.sem_table_laws.proofs.Waits.{tells_waits}
 use Rattle.group_facts.specs.Facts.{JobFacts, job_facts}
-use Rattle.group_facts.specs.Kept.{Kept, job_of}
+use Rattle.group_facts.specs.Kept.{job_of}
 use Rattle.group_facts.specs.Words.{AreRead, release_of}
 use Rattle.group_facts.proofs.KeptMoves.{words_of_kept}
 use Rattle.group_jobs.specs.GroupJobs.{task_in}
 use Rattle.group_jobs.proofs.ReleaseBounds.{release-low}
-use Rattle.group_sems.specs.GroupSems.{GroupSems}
 use Rattle.group_sem_laws.proofs.Refusals.{holder_is_read}
-use Rattle.group_resvs.specs.GroupResvs.{GroupResvs}
 use Rattle.group_core.specs.Facts as core
-use Rattle.group_core.specs.Reads.{is_candidate, key_in}
+use Rattle.group_core.specs.Reads.{is_candidate}
 use Rattle.group_core.proofs.ModelWords.{eligible-read, resvs-read}
 use Rattle.rank_afresh.specs.Facts.{cluster_at, core_of}
 use Rattle.rank_afresh.specs.Standing.{IsAt, IsFit, Standing, group_of}

@@ -1,5 +1,5 @@
 -- A cluster that has looked at the tasks that a move touched: its ranking, its top and what runs there are those of the past.
-use Rattle.std.proofs.Common.{◌≡◌, ℕ, ◌<◌, Bool, true, false, List, [], ◌∷◌, ◌++◌, ◌⊎◌, inl, inr, length, take, refl, sym, ap, ◌∙◌, subst}
+use Rattle.std.proofs.Common.{◌≡◌, ℕ, Bool, true, false, List, [], ◌∷◌, ◌++◌, ◌⊎◌, inl, inr, length, take, refl, sym, ap, ◌∙◌}
 use Rattle.std.specs.Prelude.{filter, if◌then◌else◌, ◌==◌}
 use Rattle.std.proofs.lemmas.List.Elements.{filter-append}
 use Rattle.rt_task.specs.Validity.{IsValid}
@@ -9,7 +9,7 @@ use Rattle.rt_rules.specs.Keys.{Ranked, inserted}
 use Rattle.rt_rules.specs.Numbers.{has}
 use Rattle.rt_rules.specs.Placing.{placed}
 use Rattle.rt_rules.specs.Rankings.{tasks_of, without_task}
-use Rattle.rt_rules.proofs.BoolLaws.{both, clash, neither, or_true}
+use Rattle.rt_rules.proofs.BoolLaws.{both, neither, or_true}
 use Rattle.rt_rules.proofs.LinkLaws.{length-placed}
 use Rattle.rt_rules.proofs.MemberLaws.{equal_self, has-append, has-filter}
 use Rattle.rt_model.specs.EffectiveKeys.{effective_key}
@@ -25,7 +25,6 @@ use Rattle.ready_queue.specs.Refreshed.{put_back, refreshed}
 use Rattle.rank_changes.specs.ClusterMoves.{of_cluster}
 use Rattle.rank_changes.specs.Clusters.{SameStanding}
 use Rattle.rank_changes.proofs.MovedClusters.{ranking_after_move}
-use Rattle.group_facts.specs.Kept.{Kept}
 use Rattle.group_resvs.specs.GroupResvs.{GroupResvs, is_served}
 use Rattle.group_resvs.specs.Laws.{AreChanged}
 use Rattle.group_core.specs.Facts as core
@@ -90,9 +89,10 @@ module _ (g : Group) (valid : IsValid g.setup) (past : Past) (f : core.Facts) (a
       ∙ ap (λ ts. refreshed k b ts x.ranked) (sym (filter-append (λ t. has t x.tasks) us vs))
       ∙ ap (λ ts. refreshed k b (filter (λ t. has t ts) (us ++ vs)) x.ranked) same
       ∙ refreshed-same k key b test (of_cluster g c (us ++ vs)) x.ranked (λ u h.
-          let there : has u (tasks g) ≡ true = (tasks_of-home g c u (of_cluster-inside g c (us ++ vs) u h)).0 in
-          (sym (key-read g past f.kept at.kept valid at.reachable f.sems at.sems_are u there),
-           sym (eligible-read g past f.kept at.kept valid at.reachable f.sems at.sems_are at.ways_are f.resvs reads u there)))
+      let there : has u (tasks g) ≡ true = (tasks_of-home g c u (of_cluster-inside g c (us ++ vs) u h)).0 in (
+        sym (key-read g past f.kept at.kept valid at.reachable f.sems at.sems_are u there),
+        sym (eligible-read g past f.kept at.kept valid at.reachable f.sems at.sems_are at.ways_are f.resvs reads u there),
+      ))
 
   module _ (us : List ℕ) (old new : ClusterFacts) (is : IsClusterOf g c old) (renewed : HasRenewed g.setup f us old new) where
     module _ (there : has c (clusters g) ≡ true) (was : ranking g c past ≡ refreshed key test (of_cluster g c (us ++ f.resvs.changed)) old.ranked) where

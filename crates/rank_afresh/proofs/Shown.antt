@@ -1,8 +1,7 @@
 -- What is shown of tasks and reservations is what the definitions say of the past.
-use Rattle.std.proofs.Common.{◌≡◌, ◌∙◌, ℕ, zero, suc, ◌+◌, ◌-◌, ◌<◌, ◌≤◌, Bool, true, false, List, [], ◌∷◌, ◌++◌, ◌&&◌, length, map, refl, sym, ap, subst, arith, ltb-true, leb-true, get_or}
-use Rattle.std.specs.Prelude.{Option, None, Some, filter, nat_le, nat_lt, slice_get, slice_index_or, ◌==◌, if◌then◌else◌}
+use Rattle.std.proofs.Common.{◌≡◌, ◌∙◌, ℕ, zero, suc, ◌-◌, ◌<◌, ◌≤◌, Bool, true, false, List, [], ◌∷◌, ◌&&◌, length, refl, sym, ap, subst, arith, ltb-true, leb-true, get_or}
+use Rattle.std.specs.Prelude.{Some, filter, nat_le, nat_lt, slice_get, slice_index_or, ◌==◌}
 use Rattle.std.proofs.lemmas.List.{get_or-map, length-map}
-use Rattle.std.proofs.lemmas.List.Elements.{filter-append}
 use Rattle.rt_base.specs.declared.TheConstants.{MOST_CLUSTERS, MOST_CPUS, MOST_RESVS, MOST_SEMS, MOST_STEPS, MOST_TASKS}
 use Rattle.rt_task.specs.Draft.{draft_cluster, draft_of, draft_resv}
 use Rattle.rt_task.specs.Lookups.{cpus as cpus_of_set}
@@ -17,7 +16,6 @@ use Rattle.rt_task.specs.declared.draft.Draft.{Draft}
 use Rattle.rt_task.specs.declared.draft.DraftResv.{DraftResv}
 use Rattle.rt_order.specs.declared.Key.{Key}
 use Rattle.rt_rules.specs.Numbers.{has, is, is_empty, numbers_from}
-use Rattle.rt_rules.proofs.BoolLaws.{both}
 use Rattle.rt_model.specs.BaseKeys.{base_key}
 use Rattle.rt_model.specs.EffectiveKeys.{effective_key}
 use Rattle.rt_model.specs.Group.{Group, task, cluster, in_group, no_cluster, no_resv, resv, sems, tasks}

@@ -32,15 +32,15 @@ loop-i-preserved c =
     λ d. of-read p c.args.group.0 i items row c.as_slice-clusters.result.now d c.as_slice-task-items.ensures c.loop-i-test.true c.task-item.is c.as_slice-clusters.ensures there in
     elim c.if-clusters-task.branch [
       | then-clusters-task w ↦ record {
-          leads = rw (← same, w.list-is) (kept-one (is_of p c.args.group.0) _ c.loop-i.list.items w.push_reserved.new.self.items (record { 0 = i + 1 }) (n - i) some c.loop-i.invariant.leads (read _ ∙ same-test _ _ w.if-clusters-task.true) w.push_reserved.ensures.items);
-          few = rw w.list-is (omega (arith, w.push_reserved.ensures.len, c.loop-i.invariant.few));
-          room = rw w.list-is (w.push_reserved.ensures.capacity ∙ c.loop-i.invariant.room);
-        }
+        leads = rw (← same, w.list-is) (kept-one (is_of p c.args.group.0) _ c.loop-i.list.items w.push_reserved.new.self.items (record { 0 = i + 1 }) (n - i) some c.loop-i.invariant.leads (read _ ∙ same-test _ _ w.if-clusters-task.true) w.push_reserved.ensures.items);
+        few = rw w.list-is (omega (arith, w.push_reserved.ensures.len, c.loop-i.invariant.few));
+        room = rw w.list-is (w.push_reserved.ensures.capacity ∙ c.loop-i.invariant.room);
+      }
       | else-clusters-task w ↦ record {
-          leads = rw (← same, w.list-is) (left-one (is_of p c.args.group.0) _ c.loop-i.list.items c.loop-i.list.items (record { 0 = i + 1 }) (n - i) some c.loop-i.invariant.leads (read _ ∙ unless _ (λ h. w.if-clusters-task.false (eqb-true _ _ h))) refl);
-          few = rw w.list-is (omega (arith, c.loop-i.invariant.few));
-          room = rw w.list-is c.loop-i.invariant.room;
-        }
+        leads = rw (← same, w.list-is) (left-one (is_of p c.args.group.0) _ c.loop-i.list.items c.loop-i.list.items (record { 0 = i + 1 }) (n - i) some c.loop-i.invariant.leads (read _ ∙ unless _ (λ h. w.if-clusters-task.false (eqb-true _ _ h))) refl);
+        few = rw w.list-is (omega (arith, c.loop-i.invariant.few));
+        room = rw w.list-is c.loop-i.invariant.room;
+      }
     ]
 
 pub returns-clause-items : goal.returns-clause-items

@@ -1,19 +1,15 @@
-use Rattle.std.proofs.Common.{◌≡◌, ◌∙◌, ◌<◌, ℕ, List, length, true, sym, ap, subst}
+use Rattle.std.proofs.Common.{◌≡◌, ◌∙◌, true, sym, ap, subst}
 use Rattle.std.specs.Prelude.{IfOk}
 use Rattle.std.proofs.lemmas.Result.{IfOk-weaker}
 use Rattle.rt_base.specs.TaskNos.{numbers}
-use Rattle.rt_task.specs.declared.Parts.{Parts}
-use Rattle.rt_rules.specs.Keys.{Ranked}
 use Rattle.rt_rules.specs.Numbers.{has}
 use Rattle.rt_rules.specs.Rankings.{tasks_of}
 use Rattle.rt_model.specs.Group.{clusters}
 use Rattle.rt_model.specs.Past.{Past}
 use Rattle.rt_model.specs.Tops.{ranking}
 use Rattle.rank_afresh.specs.contracts.afresh.Afresh.{the_view}
-use Rattle.rank_afresh.specs.Facts.{CanFollow}
 use Rattle.rank_afresh.specs.Standing.{IsAt, Standing, group_of}
 use Rattle.rank_afresh.proofs.Explained.{cluster-there, ranking-shown}
-use Rattle.rank_afresh.proofs.Standings.{can_follow}
 use Rattle.rank_afresh.proofs.afresh.Afresh.ranking.Goals as goal
 
 pub ranking-requires : goal.ranking-requires

@@ -1,4 +1,4 @@
-use Rattle.std.proofs.Common.{◌≡◌, ◌∙◌, ℕ, ◌+◌, true, false, [], ◌∷◌, ◌++◌, map, ap, sym, append-nil}
+use Rattle.std.proofs.Common.{◌∙◌, ℕ, ◌+◌, true, false, [], ◌∷◌, ◌++◌, map, ap, sym, append-nil}
 use Rattle.std.specs.Prelude.{filter}
 use Rattle.std.proofs.lemmas.List.{map-append}
 use Rattle.rt_base.specs.declared.SemNo.{SemNo}

@@ -1,12 +1,10 @@
-use Rattle.std.proofs.Common.{◌≡◌, ◌+◌, ◌≤◌, ℕ, List, length, refl, sym, ap, ◌∙◌, subst, arith}
+use Rattle.std.proofs.Common.{◌≡◌, List, sym, ap, ◌∙◌, subst}
 use Rattle.rt_base.specs.TaskNos.{numbers}
 use Rattle.rt_base.specs.declared.TaskNo.{TaskNo}
-use Rattle.rt_base.specs.declared.TheConstants.{MOST_STEPS}
 use Rattle.rt_task.specs.declared.Parts.{Parts}
 use Rattle.group_resvs.specs.GroupResvs.{GroupResvs, IsSettled}
 use Rattle.group_core.specs.Facts as core
 use Rattle.group_core.specs.Facts.{told_all}
-use Rattle.group_core.specs.Reads.{CanRead}
 use Rattle.rank_afresh.specs.Facts.{CanEnd, Facts, HasEnded, WithRoom}
 use Rattle.rank_afresh.specs.Ranks.{AreTasks}
 use Rattle.rank_afresh.proofs.Moving.{ended-of, task-of}

@@ -1,11 +1,9 @@
-use Rattle.std.proofs.Common.{◌≡◌, ◌+◌, ◌<◌, ◌≤◌, ℕ, true, List, length, get_or, refl, sym, ap, ◌∙◌, subst, arith}
+use Rattle.std.proofs.Common.{◌≡◌, ◌<◌, ◌≤◌, ℕ, true, List, length, get_or, refl, sym, ap, ◌∙◌, subst, arith}
 use Rattle.rt_base.specs.TaskNos.{numbers}
 use Rattle.rt_base.specs.declared.TaskNo.{TaskNo}
 use Rattle.rt_base.specs.declared.TheConstants.{MOST_STEPS}
 use Rattle.rt_rules.specs.Numbers.{has}
-use Rattle.group_core.specs.Facts as core
 use Rattle.group_core.specs.Reads.{CanRead}
-use Rattle.group_jobs.specs.GroupJobs.{IsTaskOf}
 use Rattle.rank_afresh.specs.Facts.{WithRoom}
 use Rattle.rank_afresh.specs.Ranks.{AreTasks}
 use Rattle.rank_afresh.proofs.Moving.{task-of}

@@ -1,4 +1,4 @@
-use Rattle.std.proofs.Common.{◌≡◌, ap, refl, sym, subst}
+use Rattle.std.proofs.Common.{ap, sym, subst}
 use Rattle.rt_base.specs.TaskNos.{numbers}
 use Rattle.group_core.specs.Facts as core
 use Rattle.rank_afresh.specs.Facts.{CanFollow, Facts, WithRoom}

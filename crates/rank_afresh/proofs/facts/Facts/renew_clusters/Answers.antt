@@ -1,8 +1,6 @@
-use Rattle.std.proofs.Common.{◌≡◌, ◌≢◌, ◌+◌, ◌<◌, ◌≤◌, ℕ, List, length, length-set, set, get_or, below_more, get_or-set_same, get_or-set_other, refl, sym, ap, ◌∙◌, subst, arith}
+use Rattle.std.proofs.Common.{◌≡◌, ◌≢◌, ◌<◌, ℕ, List, length, length-set, below_more, get_or-set_same, get_or-set_other, refl, ap, ◌∙◌, subst, arith}
 use Rattle.std.proofs.lemmas.List.{get_or_default}
 use Rattle.rt_base.specs.TaskNos.{numbers}
-use Rattle.rt_base.specs.declared.TaskNo.{TaskNo}
-use Rattle.rt_task.specs.declared.Parts.{Parts}
 use Rattle.group_core.specs.Facts as core
 use Rattle.rank_afresh.specs.Clusters.{ClusterFacts, HasRenewed, no_facts}
 use Rattle.rank_afresh.specs.Facts.{HaveRenewed, WithRoom, cluster_at, core_of}

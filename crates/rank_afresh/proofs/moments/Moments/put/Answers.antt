@@ -1,4 +1,4 @@
-use Rattle.std.proofs.Common.{◌<◌, ◌≡◌, List, ℕ, ap, arith, length}
+use Rattle.std.proofs.Common.{◌<◌, List, ℕ, ap, arith, length}
 use Rattle.std.specs.Prelude.{Option}
 use Rattle.rank_afresh.proofs.Due.{least-put}
 use Rattle.rank_afresh.proofs.moments.Moments.put.Goals as goal

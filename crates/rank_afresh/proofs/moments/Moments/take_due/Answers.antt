@@ -1,10 +1,8 @@
-use Rattle.std.proofs.Common.{◌≡◌, ◌+◌, ◌<◌, ◌≤◌, ℕ, List, true, false, length, refl, sym, ap, ◌∙◌, subst, arith}
+use Rattle.std.proofs.Common.{◌≡◌, ◌<◌, ℕ, List, length, refl, sym, ap, ◌∙◌, arith}
 use Rattle.std.specs.Prelude.{None, Option}
 use Rattle.std.proofs.lemmas.List.{get_or_default}
 use Rattle.rt_model.specs.Releases.{has_come}
 use Rattle.release_queue.specs.Timers.{tick_at}
-use Rattle.rt_base.specs.TaskNos.{numbers}
-use Rattle.rank_afresh.specs.Moments.{AreTakenOut, IsLeast, due_in}
 use Rattle.rank_afresh.proofs.Due.{due-all, least-all, none-due, none-taken, taken-all, taken-first, taken-less, taken-more}
 use Rattle.rank_afresh.proofs.moments.Moments.take_due.Goals as goal
 use Rattle.rank_afresh.proofs.moments.Moments.take_due.Goals.{then-is_due, else-is_due}
@@ -38,15 +36,15 @@ loop-i-preserved c =
     let tested : has_come c.args.clock (tick_at now i) ≡ c.is_due.result = ap (has_come c.args.clock) (sym moment) ∙ sym c.is_due.ensures in
     elim c.if-is_due.branch [
       | then-is_due w ↦ record {
-          so_far = rw (w.due-is, w.self-inside-is, w.next-is) (taken-more c.args.clock old i c.loop-i.due.items now c.loop-i.next c.loop-i.auto.i inside so_far _ (record { 0 = i }) refl (tested ∙ w.if-is_due.true) w.push_reserved.ensures.items);
-          few = rw w.due-is (omega (arith, w.push_reserved.ensures.len, c.loop-i.invariant.few));
-          room = rw w.due-is (w.push_reserved.ensures.capacity ∙ c.loop-i.invariant.room);
-        }
+        so_far = rw (w.due-is, w.self-inside-is, w.next-is) (taken-more c.args.clock old i c.loop-i.due.items now c.loop-i.next c.loop-i.auto.i inside so_far _ (record { 0 = i }) refl (tested ∙ w.if-is_due.true) w.push_reserved.ensures.items);
+        few = rw w.due-is (omega (arith, w.push_reserved.ensures.len, c.loop-i.invariant.few));
+        room = rw w.due-is (w.push_reserved.ensures.capacity ∙ c.loop-i.invariant.room);
+      }
       | else-is_due w ↦ record {
-          so_far = rw (w.due-is, w.self-inside-is, w.next-is) (taken-less c.args.clock old i c.loop-i.due.items now c.loop-i.next c.loop-i.auto.i inside so_far w.earlier-next.result (tested ∙ w.if-is_due.false) w.earlier-next.ensures.low (λ n h. w.earlier-next.ensures.least n (moment ∙ h)));
-          few = rw w.due-is (omega (arith, c.loop-i.invariant.few));
-          room = rw w.due-is c.loop-i.invariant.room;
-        }
+        so_far = rw (w.due-is, w.self-inside-is, w.next-is) (taken-less c.args.clock old i c.loop-i.due.items now c.loop-i.next c.loop-i.auto.i inside so_far w.earlier-next.result (tested ∙ w.if-is_due.false) w.earlier-next.ensures.low (λ n h. w.earlier-next.ensures.least n (moment ∙ h)));
+        few = rw w.due-is (omega (arith, c.loop-i.invariant.few));
+        room = rw w.due-is c.loop-i.invariant.room;
+      }
     ]
 
 all-done : (c : goal.After-self-2-1) → c.loop-i.i ≡ length c.self.inside.ticks.items
