@@ -1,15 +1,23 @@
 -- The end of a move, step by step: what its calls rest on, and what they come to.
-use Rattle.std.proofs.Common.{◌≡◌, ℕ, ◌+◌, ◌-◌, ◌<◌, ◌≤◌, true, List, length, refl, sym, ap, ◌∙◌, subst, arith}
-use Rattle.std.specs.Prelude.{Option}
+use Rattle.std.proofs.Common.{◌≡◌, ℕ, ◌+◌, ◌-◌, ◌<◌, ◌≤◌, ◌⊎◌, inl, inr, Bool, true, false, List, [], length, set, get_or, get_or-set_other, eqb-true, refl, sym, ap, ◌∙◌, subst, arith}
+use Rattle.std.specs.Prelude.{None, Option, Some, if◌then◌else◌, ◌==◌}
+use Rattle.std.proofs.lemmas.Bool.{eqb-false}
 use Rattle.rt_base.specs.declared.TheConstants.{MOST_STEPS, TICK_END}
+use Rattle.rt_task.specs.declared.Act.{Act}
+use Rattle.rt_task.specs.declared.Act.TheVariants as acts
+use Rattle.rt_task.specs.declared.Op.{Op}
 use Rattle.rt_task.specs.declared.Parts.{Parts}
+use Rattle.rt_task.specs.declared.Task.{Task}
+use Rattle.rt_history.specs.declared.Reply.{Reply}
 use Rattle.rt_rules.specs.Numbers.{has, numbers_from}
 use Rattle.rt_rules.proofs.BoolLaws.{both}
 use Rattle.rt_rules.proofs.MemberLaws.{has-filter}
 use Rattle.rt_rules.proofs.NumberLaws.{has-numbers_from, numbers_from-below}
+use Rattle.rt_model.specs.Past.{accepted}
 use Rattle.rt_model.specs.Releases.{has_come}
 use Rattle.release_queue.specs.Timers.{tick_at}
-use Rattle.group_facts.specs.Kept.{Kept}
+use Rattle.group_facts.specs.Facts.{CpuFacts, idle_cpu}
+use Rattle.group_facts.specs.Kept.{Kept, after_act, cpu_of, has_acted}
 use Rattle.group_facts.specs.Timers.{renewed}
 use Rattle.group_jobs.specs.GroupJobs.{IsTaskOf}
 use Rattle.group_resvs.specs.GroupResvs.{IsSettled}
@@ -18,11 +26,12 @@ use Rattle.group_core.specs.Facts.{told_all}
 use Rattle.group_core.specs.Reads.{CanRead, timer_in}
 use Rattle.group_core.proofs.Counting.{read-clock}
 use Rattle.group_core.proofs.Reading.{is-task}
-use Rattle.rank_afresh.specs.Clusters.{ClusterFacts, HasRenewed}
-use Rattle.rank_afresh.specs.Facts.{CanEnd, CanFollow, Facts, HasEnded, HaveRenewed, WithRoom, core_of, with_core}
+use Rattle.rank_afresh.specs.Clusters.{ClusterFacts, HasRenewed, IsPlaced, runs_in}
+use Rattle.rank_afresh.specs.Facts.{ArePlaced, CanEnd, CanFollow, Facts, HasEnded, HaveRenewed, WithRoom, cluster_at, core_of, with_core}
 use Rattle.rank_afresh.specs.Moments.{due_in}
 use Rattle.rank_afresh.specs.Ranks.{AreTasks}
 use Rattle.rank_afresh.proofs.Fitting.{places-stay}
+use Rattle.rank_afresh.proofs.ModelWords.{map-same}
 
 -- a task of the set can be read
 pub task-of : (p : Parts) (k : Kept) (t : ℕ) → CanRead MOST_STEPS p k → (1 ≤ t) × (t ≤ length p.tasks) → IsTaskOf k p.tasks t
@@ -73,3 +82,47 @@ end-clocked p tick clock f x left due can low clocked count listed =
       follow = subst (λ (y : core.Facts). CanFollow p (record (with_core y f) { moments = left; looked = due })) (sym clocked) moved;
       looked_are = rw listed (due-are p clock f.moments can.moments);
     }
+
+-- ---- what runs after an act
+
+-- the processors are as before, or one of them is new
+abbrev IsOneNew : ℕ → Kept → Kept → Type 0
+IsOneNew q k k' = (k'.cpus ≡ k.cpus) ⊎ ((cpu : CpuFacts) × (k'.cpus ≡ set k.cpus q cpu))
+
+one-new : (all : List Task) (q : ℕ) (act : Act) (reply : Reply) (none : Bool) (k : Kept) → IsOneNew q k (has_acted all q act reply none k)
+one-new all q act reply none k = by_case (accepted reply)
+  where
+    by_runs : (op : Op) (o : Option ℕ) → IsOneNew q k (after_act all q (acts.Do op) o reply none k)
+    by_runs op None = inl refl
+    by_runs op (Some t) = inr (_, refl)
+
+    by_act : (a : Act) → IsOneNew q k (after_act all q a (cpu_of k q).runs reply none k)
+    by_act acts.Tick = inl refl
+    by_act acts.Irq = inr (_, refl)
+    by_act (acts.Arrive t) = inl refl
+    by_act (acts.Do op) = by_runs op (cpu_of k q).runs
+
+    by_case : (b : Bool) → IsOneNew q k (if b then after_act all q act (cpu_of k q).runs reply none k else k)
+    by_case true = by_act act
+    by_case false = inl refl
+
+pub runs-stay : (all : List Task) (q : ℕ) (act : Act) (reply : Reply) (none : Bool) (k : Kept) → (cpu_of (has_acted all q act reply none k) q).runs ≡ (cpu_of k q).runs
+    → (first n : ℕ) → runs_in (has_acted all q act reply none k) first n ≡ runs_in k first n
+runs-stay all q act reply none k same first n =
+    map-same (λ r. (cpu_of k r).runs) (λ r. (cpu_of (has_acted all q act reply none k) r).runs) (numbers_from first n) (λ r h. one r (one-new all q act reply none k))
+  where
+    one : (r : ℕ) → IsOneNew q k (has_acted all q act reply none k) → (cpu_of (has_acted all q act reply none k) r).runs ≡ (cpu_of k r).runs
+    one r (inl all_same) = ap (λ (cs : List CpuFacts). (get_or cs r idle_cpu).runs) all_same
+    one r (inr new) = by_case (r == q) refl
+      where
+        by_case : (b : Bool) → r == q ≡ b → (cpu_of (has_acted all q act reply none k) r).runs ≡ (cpu_of k r).runs
+        by_case true e = let here : r ≡ q = eqb-true r q e in ap (λ m. (cpu_of (has_acted all q act reply none k) m).runs) here ∙ same ∙ ap (λ m. (cpu_of k m).runs) (sym here)
+        by_case false e =
+            ap (λ (cs : List CpuFacts). (get_or cs r idle_cpu).runs) new.1
+            ∙ ap (λ (c : CpuFacts). c.runs) (get_or-set_other k.cpus q r new.0 idle_cpu (eqb-false r q e))
+
+pub placed-acted : (all : List Task) (q : ℕ) (act : Act) (reply : Reply) (none : Bool) (k : Kept) (cs : List ClusterFacts) → ArePlaced k cs
+    → (cpu_of (has_acted all q act reply none k) q).runs ≡ (cpu_of k q).runs → ArePlaced (has_acted all q act reply none k) cs
+placed-acted all q act reply none k cs placed same n inside =
+    let is : IsPlaced k (cluster_at cs n) = placed n inside in
+    record { top_is = is.top_is; runs_are = is.runs_are ∙ sym (runs-stay all q act reply none k same (cluster_at cs n).first (length (cluster_at cs n).links)) }

@@ -31,7 +31,7 @@ use Rattle.group_core.specs.Facts as core
 use Rattle.group_core.specs.Reads.{is_candidate, key_in}
 use Rattle.group_core.specs.Standing as standing
 use Rattle.group_core.proofs.ModelWords.{AreResvsRead, eligible-read, key-read, resvs-read}
-use Rattle.rank_afresh.specs.Clusters.{ClusterFacts, HasRenewed, IsAsBefore, looked_at, own, runs_in}
+use Rattle.rank_afresh.specs.Clusters.{ClusterFacts, HasRenewed, IsAsBefore, IsPlaced, looked_at, own, runs_in}
 use Rattle.rank_afresh.specs.Standing.{IsClusterOf, IsRankedAt}
 use Rattle.rank_afresh.proofs.ModelWords.{runs-read}
 use Rattle.rank_afresh.proofs.SetLists.{length-runs_in}
@@ -68,6 +68,13 @@ module _ (p : Parts) (f : core.Facts) (us : List ℕ) (old new : ClusterFacts) (
       by_case : (new.links ≡ placed new.top new.runs old.links) ⊎ IsAsBefore (looked_at p f f.resvs.changed (looked_at p f us old)) new → length new.links ≡ length old.links
       by_case (inl anew) = ap length anew ∙ length-placed new.top new.runs old.links length-runs ∙ length-runs
       by_case (inr before) = ap length before.links_same
+
+  -- and they follow the ranked tasks and what runs
+  pub placed-renewed : IsPlaced f.kept new
+  placed-renewed = record {
+    top_is = renewed.top_is ∙ ap (λ (rs : List Ranked). take (length old.links) (tasks_of rs)) (sym renewed.ranked_same) ∙ ap (λ n. take n (tasks_of new.ranked)) (sym length-links);
+    runs_are = renewed.runs_are ∙ ap (λ n. runs_in f.kept n (length old.links)) (sym renewed.first_same) ∙ ap (runs_in f.kept new.first) (sym length-links);
+  }
 
 module _ (g : Group) (valid : IsValid g.setup) (past : Past) (f : core.Facts) (at : standing.IsAt g past f) (c : ℕ) where
   abbrev key : ℕ → Key

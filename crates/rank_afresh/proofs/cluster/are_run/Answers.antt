@@ -8,18 +8,12 @@ use Rattle.rt_base.specs.contracts.TaskNoPartialEq.TheImpl.{eq-value}
 use Rattle.rt_rules.specs.Numbers.{numbers_from}
 use Rattle.group_facts.specs.Kept.{Kept, cpu_of}
 use Rattle.rank_afresh.specs.Clusters.{runs_in}
-use Rattle.rank_afresh.proofs.SetLists.{numbers-more}
+use Rattle.rank_afresh.proofs.SetLists.{numbers-more, same-task}
 use Rattle.rank_afresh.proofs.cluster.are_run.Goals as goal
 
-same-task : (x y : Option TaskNo) → false ≡ not (option_eq eq-value.it x y) → number_of_task x ≡ number_of_task y
-same-task None None h = refl
-same-task None (Some y) h = cc
-same-task (Some x) None h = cc
-same-task (Some x) (Some y) h = ap Some (eqb-true x.0 y.0 (not-false (eq-value.it x y) h))
-  where
-    not-false : (b : Bool) → false ≡ not b → b ≡ true
-    not-false true k = refl
-    not-false false k = cc
+not-false : (b : Bool) → false ≡ not b → b ≡ true
+not-false true k = refl
+not-false false k = cc
 
 -- one more runs what it is to
 one-more : (k : Kept) (first n : ℕ) (rs : List (Option TaskNo)) → n < length rs → numbers_of_tasks (take n rs) ≡ runs_in k first n → number_of_task (get_or rs n None) ≡ (cpu_of k (first + n)).runs
@@ -32,7 +26,7 @@ one-more k first n rs low so_far here =
 pub loop-place-preserved : goal.loop-place-preserved
 loop-place-preserved c =
     one-more c.args.core.now.facts.kept c.args.first c.loop-place.place c.args.runs.now c.loop-place-test.true c.loop-place.invariant
-    (same-task (get_or c.args.runs.now c.loop-place.place None) c.runs.result (sym c.if-ne.false ∙ c.ne.ensures) ∙ c.runs.ensures)
+    (same-task (get_or c.args.runs.now c.loop-place.place None) c.runs.result (not-false _ (sym c.if-ne.false ∙ c.ne.ensures)) ∙ c.runs.ensures)
 
 pub returns : goal.returns
 returns c = λ all.

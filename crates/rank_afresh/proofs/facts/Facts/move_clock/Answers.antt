@@ -5,8 +5,8 @@ use Rattle.rank_afresh.specs.Facts.{CanFollow, Facts, WithRoom}
 use Rattle.rank_afresh.proofs.Moving.{end-clocked}
 use Rattle.rank_afresh.proofs.facts.Facts.move_clock.Goals as goal
 
-pub end-requires : goal.end-requires
-end-requires c =
+pub end-requires-clause-can : goal.end-requires-clause-can
+end-requires-clause-can c =
     let x : core.Facts = c.self.inside.core.facts in
     let f : Facts = record {
       kept = x.kept;
