@@ -6,6 +6,7 @@ mod afresh;
 mod cluster;
 mod facts;
 mod listing;
+mod marks;
 mod moments;
 mod placing;
 mod ranks;

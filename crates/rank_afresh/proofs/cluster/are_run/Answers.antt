@@ -1,10 +1,8 @@
-use Rattle.std.proofs.Common.{◌≡◌, ◌+◌, ◌<◌, ◌++◌, ◌∷◌, [], ℕ, Bool, true, false, not, List, length, map, take, get_or, eqb-true, refl, sym, ap, ◌∙◌, arith}
-use Rattle.std.specs.Prelude.{None, Option, Some}
-use Rattle.std.specs.Option.{option_eq}
+use Rattle.std.proofs.Common.{◌≡◌, ◌+◌, ◌<◌, ◌++◌, ◌∷◌, [], ℕ, Bool, true, false, not, List, length, map, take, get_or, refl, sym, ap, ◌∙◌, arith}
+use Rattle.std.specs.Prelude.{None, Option}
 use Rattle.std.proofs.lemmas.List.{map-append, take_more, take_all}
 use Rattle.rt_base.specs.TaskNos.{number_of_task, numbers_of_tasks}
 use Rattle.rt_base.specs.declared.TaskNo.{TaskNo}
-use Rattle.rt_base.specs.contracts.TaskNoPartialEq.TheImpl.{eq-value}
 use Rattle.rt_rules.specs.Numbers.{numbers_from}
 use Rattle.group_facts.specs.Kept.{Kept, cpu_of}
 use Rattle.rank_afresh.specs.Clusters.{runs_in}

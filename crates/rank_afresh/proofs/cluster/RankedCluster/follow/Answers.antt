@@ -1,12 +1,13 @@
-use Rattle.std.proofs.Common.{◌≡◌, ℕ, min, List, length, take, inl, refl, sym, ap, ◌∙◌, subst, arith, rules}
+use Rattle.std.proofs.Common.{◌≡◌, ◌<◌, ℕ, zero, suc, min, Bool, true, false, List, [], ◌∷◌, length, get_or, take, inl, refl, sym, ap, ◌∙◌, subst, arith, rules}
 use Rattle.std.specs.Prelude.{Option}
 use Rattle.std.proofs.lemmas.List.{length-map, with_items_is}
 use Rattle.rt_base.specs.TaskNos.{number_of_task, numbers, numbers_of_tasks}
 use Rattle.rt_base.specs.declared.TaskNo.{TaskNo}
 use Rattle.rt_rules.specs.Distinct.{IsDistinct}
+use Rattle.rt_rules.specs.Numbers.{has}
 use Rattle.rt_rules.specs.Placing.{placed}
 use Rattle.rt_rules.specs.Rankings.{tasks_of}
-use Rattle.rt_rules.proofs.RankedLaws.{distinct-take}
+use Rattle.rt_rules.proofs.RankedLaws.{distinct-take, has-take}
 use Rattle.group_facts.specs.Kept.{Kept}
 use Rattle.rank_afresh.specs.declared.ranks.Candidate.{Candidate}
 use Rattle.rank_afresh.specs.Candidates.{ranked_all}
@@ -32,7 +33,22 @@ place-requires-clause-length c =
 pub place-requires-clause-distinct : goal.place-requires-clause-distinct
 place-requires-clause-distinct c =
     let top = top_is (goal.at.place-requires-clause-distinct c).After-write_tasks in
-    subst IsDistinct (sym (ap numbers c.as_slice-4.ensures.value ∙ top)) (distinct-take c.len-cpus.result (tasks_of (ranked_all c.self.inside.ranked.items)) c.self.invariant.2.once)
+    subst IsDistinct (sym (ap numbers c.as_slice-4.ensures.value ∙ top)) (distinct-take c.len-cpus.result (tasks_of (ranked_all c.self.inside.ranked.items)) c.self.invariant.4.once)
+
+-- a mark stands within the marks
+marked-inside : (marks : List Bool) (t : ℕ) → get_or marks t false ≡ true → t < length marks
+marked-inside [] t h = cc
+marked-inside (m ∷ ms) zero h = omega arith
+marked-inside (m ∷ ms) (suc t) h = let inside : t < length ms = marked-inside ms t h in omega (arith, inside)
+
+pub place-requires-clause-room : goal.place-requires-clause-room
+place-requires-clause-room c = λ t h.
+    let top = top_is (goal.at.place-requires-clause-room c).After-write_tasks in
+    let listed : has t (take c.len-cpus.result (tasks_of (ranked_all c.self.inside.ranked.items))) ≡ true =
+    subst (λ (ts : List ℕ). has t ts ≡ true) (ap numbers c.as_slice-4.ensures.value ∙ top) h in
+    let own : has t (numbers c.self.inside.tasks.items) ≡ true = c.self.invariant.4.inside t (has-take t c.len-cpus.result _ listed) in
+    let inside : t < length c.self.inside.own.items = marked-inside c.self.inside.own.items t (c.self.invariant.1 t ∙ own) in
+    omega (arith, inside, c.self.invariant.2, c.as_mut_slice-2.ensures.len, c.self.inside.in_top.ok.0)
 
 pub returns : goal.returns
 returns c =
