@@ -3,3 +3,6 @@ pub mod Changed
 pub mod Looks
 pub mod RowParts
 pub mod Foretelling
+pub mod Waits
+pub mod Ranks
+pub mod UpTo

@@ -27,7 +27,7 @@ module _ (g : Group) (t : ℕ) (x : Past) where
       by_case false true = refl
       by_case false false = refl
 
-  state-cell : state_cell g t x ≡ cell_for g t (state_doing g t x) x
+  pub state-cell : state_cell g t x ≡ cell_for g t (state_doing g t x) x
   state-cell = by-wait (awaits g t x)
 
   cell-there : (d : cells.Doing) → is_away d ≡ false → d ≡ state_doing g t x → cell_at g d t x ≡ state_cell g t x
@@ -35,7 +35,7 @@ module _ (g : Group) (t : ℕ) (x : Past) where
 
   -- ---- the cell that is kept
 
-  for-rank : (d : cells.Doing) → rank (cell_for g t d x).doing ≡ rank d
+  pub for-rank : (d : cells.Doing) → rank (cell_for g t d x).doing ≡ rank d
   unfolding cell_at
   for-rank (cells.works qs) = refl
   for-rank (cells.blocked s) = refl

@@ -5,3 +5,4 @@ pub mod Plays
 pub mod Looks
 pub mod Listed
 pub mod Foretold
+pub mod UpTo

@@ -1,9 +1,9 @@
 //! The rows of a group while columns go on.
-ghost use Rattle.std.specs.Prelude.{◌≡◌, [], IfOk, OnOk};
+ghost use Rattle.std.specs.Prelude.{◌≡◌, [], ◌∷◌, IfOk, OnOk};
 ghost use Rattle.rt_base.specs.TaskNos.{numbers};
 ghost use Rattle.rt_model.specs.Group as groups;
 ghost use Rattle.rt_model.specs.Group.{Group};
-ghost use Rattle.rt_model.specs.Past.{Past};
+ghost use Rattle.rt_model.specs.Past.{Acted, Past};
 ghost use Rattle.rank_afresh.specs.Standing.{IsAt, group_of};
 ghost use Rattle.trace_views.specs.Moments.{Moment};
 ghost use Rattle.chart_cells.specs.Cells.{cpu_numbers};
@@ -13,12 +13,13 @@ ghost use Rattle.chart_rows.specs.Listed.{AreListed};
 ghost use Rattle.chart_rows.specs.Rows.{rows_acted, rows_closed, rows_of, rows_seen};
 ghost use Rattle.chart_rows.specs.Strips.{blank};
 ghost use Rattle.chart_rows.specs.Units.{IsTold, resv_numbers};
+ghost use Rattle.chart_rows.specs.UpTo.{AreUpTo};
 
 use crate::cpus::CpuFeed;
 use crate::loops::{act_cpus, act_resvs, act_tasks, close_tasks};
 use crate::opening::{cpu_rows, resv_rows, task_rows};
 use crate::resvs::ResvFeed;
-use crate::seeing::{close_cpus, close_resvs, plays, see_tasks};
+use crate::seeing::{close_cpus, close_resvs, plays, see_tasks, see_tasks_after};
 use crate::tasks::TaskFeed;
 use crate::units::Unit;
 use rank_afresh::Afresh;
@@ -90,6 +91,25 @@ impl Rows {
         act_tasks(self.tasks.as_mut_slice(), alloc, act, unit)?;
         act_cpus(self.cpus.as_mut_slice(), act.cpu, unit);
         act_resvs(self.resvs.as_mut_slice(), unit);
+        Ok(())
+    }
+
+    /// Takes the state after an act of the column, once the state before the act was taken: only the tasks are looked at that the act
+    /// touches.
+    pub fn see_after(
+        &mut self,
+        alloc: Global,
+        afresh: &Afresh,
+        act: &ShownAct,
+    ) -> Result<(), NoMemory>
+        requires listed { AreListed (group_of afresh.now) self.old }
+        requires at { (past : Past) × IsAt afresh.now (Acted (act_shown act.now) ∷ past)
+            × AreUpTo (group_of afresh.now) past self.old }
+        ensures { OnOk result ((past : Past) → IsAt afresh.now (Acted (act_shown act.now) ∷ past)
+            → AreUpTo (group_of afresh.now) past self.old → self.new
+            ≡ rows_seen (group_of afresh.now) (Acted (act_shown act.now) ∷ past) self.old) }
+    {
+        see_tasks_after(self.tasks.as_mut_slice(), alloc, afresh, act)?;
         Ok(())
     }
 

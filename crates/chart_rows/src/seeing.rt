@@ -1,14 +1,17 @@
 //! What a state of the group makes of the rows: a state more, or the last one of a column.
-ghost use Rattle.std.specs.Prelude.{◌≡◌, All, IfOk, OnOk, map, true};
+ghost use Rattle.std.specs.Prelude.{◌≡◌, ◌∷◌, All, IfOk, OnOk, map, true};
 ghost use Rattle.rt_rules.specs.Numbers.{has};
 ghost use Rattle.rt_model.specs.Group as groups;
-ghost use Rattle.rt_model.specs.Past.{Past};
+ghost use Rattle.rt_model.specs.Past.{Acted, Past};
 ghost use Rattle.rt_plays.specs.Homes.{IsProcessorOf};
 ghost use Rattle.rank_afresh.specs.Standing.{IsAt, group_of};
 ghost use Rattle.chart_texts.specs.Charts.{group_resvs};
+ghost use Rattle.view_acts.specs.ShownActs.{act_shown};
 ghost use Rattle.chart_rows.specs.Plays.{played_shown};
 ghost use Rattle.chart_rows.specs.Rows as rows;
+ghost use Rattle.chart_rows.specs.UpTo.{IsUpTo};
 
+use crate::acting::touches;
 use crate::cpus::CpuFeed;
 use crate::look::{cpu_at_end, see_state};
 use crate::loops::Played;
@@ -17,6 +20,7 @@ use crate::tasks::TaskFeed;
 use rank_afresh::Afresh;
 use rt_base::NoMemory;
 use std::alloc::Global;
+use view_acts::ShownAct;
 
 fn see_task(row: &mut TaskFeed, alloc: Global, afresh: &Afresh) -> Result<(), NoMemory>
     requires task { has row.old.task (groups.tasks (group_of afresh.now)) ≡ true }
@@ -42,6 +46,47 @@ pub(crate) fn see_tasks(
 {
     for row in tasks.iter_mut() {
         see_task(row, alloc, afresh)?;
+    }
+    Ok(())
+}
+
+/// The state after an act, for the row of a task.
+fn see_task_after(
+    row: &mut TaskFeed,
+    alloc: Global,
+    afresh: &Afresh,
+    act: &ShownAct,
+) -> Result<(), NoMemory>
+    requires task { has row.old.task (groups.tasks (group_of afresh.now)) ≡ true }
+    requires at { (past : Past) × IsAt afresh.now past }
+    ensures { OnOk result ((past : Past) → IsAt afresh.now (Acted (act_shown act.now) ∷ past)
+        → IsUpTo (group_of afresh.now) past row.old → row.new
+        ≡ rows.task_seen (group_of afresh.now) (Acted (act_shown act.now) ∷ past) row.old) }
+{
+    if touches(act, row.task()) {
+        see_task(row, alloc, afresh)
+    } else {
+        Ok(())
+    }
+}
+
+/// The state after an act, for the rows of tasks: of those alone that the act touches it may show more.
+pub(crate) fn see_tasks_after(
+    tasks: &mut [TaskFeed],
+    alloc: Global,
+    afresh: &Afresh,
+    act: &ShownAct,
+) -> Result<(), NoMemory>
+    requires tasks { All (λ (k : rows.TaskKept).
+        has k.task (groups.tasks (group_of afresh.now)) ≡ true) tasks.old }
+    requires at { (past : Past) × IsAt afresh.now (Acted (act_shown act.now) ∷ past)
+        × All (IsUpTo (group_of afresh.now) past) tasks.old }
+    ensures { OnOk result ((past : Past) → IsAt afresh.now (Acted (act_shown act.now) ∷ past)
+        → All (IsUpTo (group_of afresh.now) past) tasks.old → tasks.new ≡ map
+        (rows.task_seen (group_of afresh.now) (Acted (act_shown act.now) ∷ past)) tasks.old) }
+{
+    for row in tasks.iter_mut() {
+        see_task_after(row, alloc, afresh, act)?;
     }
     Ok(())
 }

@@ -5,7 +5,7 @@ use Rattle.std.proofs.lemmas.Simd.{map-map}
 use Rattle.rt_rules.specs.Numbers.{numbers_from}
 use Rattle.rt_model.specs.Group as groups
 use Rattle.rt_model.specs.Group.{Group, group_processors}
-use Rattle.rt_model.specs.Past.{Past, now}
+use Rattle.rt_model.specs.Past.{Clock, Past, now}
 use Rattle.trace_views.specs.Cells.{cpu_cell, newest, resv_cell, running_on, task_cell}
 use Rattle.trace_views.specs.Columns.{tick_column, tick_columns}
 use Rattle.trace_views.specs.Moments.{Moment}
@@ -13,15 +13,17 @@ use Rattle.trace_views.specs.Spans as runs
 use Rattle.chart_texts.specs.Charts.{group_resvs}
 use Rattle.chart_rows.specs.Rows.{RowsKept, rows_acted, rows_closed, rows_of, rows_seen}
 use Rattle.chart_rows.specs.Strips.{Strip, blank, column_of, done, seen}
+use Rattle.chart_rows.specs.UpTo.{AreUpTo}
 use Rattle.chart_rows.proofs.RowLaws.{acted-rows, closed-rows, seen-rows}
+use Rattle.chart_rows.proofs.UpTo.{rows-still, rows-up-to}
 use Rattle.event_texts.specs.Budgets.{same_count}
 use Rattle.event_texts.specs.CpuSpans as cpu_texts
 use Rattle.event_texts.specs.TaskSpans as task_texts
 use Rattle.event_lines.specs.Tracks.{GroupTracks, TaskTrack}
 use Rattle.event_lines.specs.TracksOf.{cpu_track, resv_track, task_track, tracks_of}
 use Rattle.span_feed.specs.Spanned.{HasSpans, cpu_spanned, resv_spanned, spanned, task_spanned, unmarked}
-use Rattle.span_feed.specs.TickStrips.{tick_strip, ticks_below}
-use Rattle.span_feed.proofs.TickLaws.{below-gap, below-one, first-strip, length-below}
+use Rattle.span_feed.specs.TickStrips.{tick_strip, ticks_below, turned_strip}
+use Rattle.span_feed.proofs.TickLaws.{below-gap, below-one, first-strip, length-below, strip-seen, turned-not}
 
 module _ (g : Group) (tracks : GroupTracks) where
   -- ---- the column that goes on is over, and a column of the newest state alone
@@ -41,6 +43,15 @@ module _ (g : Group) (tracks : GroupTracks) where
   pub spans-same : (over over' : List Strip) (going going' : Strip) (rows : RowsKept) → over ≡ over' → going ≡ going' → HasSpans g [] over going rows tracks → HasSpans g [] over' going' rows tracks
   spans-same over over' going going' rows is_over is_going has =
       record { rows_are = has.rows_are ∙ ap (rows_of g []) is_going; tracks_are = has.tracks_are ∙ ap (spanned g) is_over }
+
+-- the rows are up to the newest state, and so they are once an act is taken; a move of the clock that is not later leaves them
+module _ (g : Group) (past : Past) (over : List Strip) (rows : RowsKept) (tracks : GroupTracks) where
+  pub acted-up-to : (m : Moment) → HasSpans g [] over (done m (tick_strip past (now past))) rows tracks → AreUpTo g past rows
+  acted-up-to m has = let s = strip-seen past in rows-up-to g [] (done m s.0) past rows (has.rows_are ∙ ap (λ x. rows_of g [] (done m x)) s.1)
+
+  pub moved-still : (tick : ℕ) → tick ≤ now past → HasSpans g [] over (turned_strip tick past) rows tracks → rows ≡ rows_seen g (Clock tick ∷ past) rows
+  moved-still tick low has =
+      let s = strip-seen past in rows-still g tick past rows low (rows-up-to g [] s.0 past rows (has.rows_are ∙ ap (rows_of g []) (turned-not tick past low ∙ s.1)))
 
 -- at opening
 pub opened : (g : Group) (rows new : RowsKept) (tracks : GroupTracks) → rows ≡ rows_of g [] blank → new ≡ rows_seen g [] rows → tracks.group ≡ g.number

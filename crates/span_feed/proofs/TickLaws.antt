@@ -8,7 +8,7 @@ use Rattle.rt_rules.proofs.NumberLaws.{length-numbers_from}
 use Rattle.rt_model.specs.Past.{Acted, Clock, Event, Past, PastAct, now}
 use Rattle.trace_views.specs.Cells.{newest}
 use Rattle.trace_views.specs.Moments.{acts_among, at_tick, moments, own}
-use Rattle.chart_rows.specs.Strips.{blank, done, seen}
+use Rattle.chart_rows.specs.Strips.{Strip, blank, done, seen}
 use Rattle.span_feed.specs.TickStrips.{tick_strip, ticks_below, turned_strip}
 
 -- ---- the clock never falls
@@ -183,6 +183,10 @@ turned-not tick past low = let yes : nat_le tick (now past) ≡ true = grind (ar
 pub first-strip : seen [] blank ≡ tick_strip [] 0
 unfolding at_tick moments
 first-strip = refl
+
+-- the newest tick has the newest state, and older ones
+pub strip-seen : (past : Past) → (s : Strip) × (tick_strip past (now past) ≡ seen past s)
+strip-seen past = let o = own-newest past in (record { states = o.0; acts = acts_among (own (now past) past) }, λ i. record { states = (at-own past ∙ o.1) i; acts = acts_among (own (now past) past) })
 
 -- the newest state of the newest tick
 pub newest-strip : (past : Past) → newest (tick_strip past (now past)).states ≡ past

@@ -1,5 +1,5 @@
 -- What is kept of a group for its spans, as its moves go on.
-use Rattle.std.specs.Prelude.{ℕ, max, List, []}
+use Rattle.std.specs.Prelude.{◌≡◌, ℕ, nat_le, max, List, []}
 use Rattle.rt_model.specs.Group.{Group}
 use Rattle.rt_model.specs.Past.{Past, now}
 use Rattle.chart_rows.specs.Strips.{Strip}
@@ -17,4 +17,4 @@ module _ (g : Group) where
   IsFed past f = Holds (ticks_below past (now past)) (tick_strip past (now past)) f
 
   abbrev pub IsTurned : ℕ → Past → SpanFeed → Type 0
-  IsTurned tick past f = Holds (ticks_below past (max (now past) tick)) (turned_strip tick past) f
+  IsTurned tick past f = Holds (ticks_below past (max (now past) tick)) (turned_strip tick past) f × (f.begun ≡ nat_le tick (now past))

@@ -42,11 +42,14 @@ pub struct Members<'a> {
 
 /// The spans of a group over the ticks that are over, and what there is of the newest tick, while its steps are taken again. Each
 /// step is shown by four calls, in this order: `turn` before the clock is moved, `see` after that, `foretell` before the act, and
-/// `act` after it. Memory is taken for the spans, and not for ticks.
+/// `act` after it. Memory is taken for the spans, and not for ticks. All tasks are looked at once a tick, and after an act those alone
+/// that it touches.
 #[derive(Drop)]
 pub struct SpanFeed {
     rows: Rows,
     tracks: GroupTracks,
+    /// After `turn`: whether the tick that goes on has states before the move of the clock.
+    begun: bool,
 }
 
 impl SpanFeed {
@@ -68,7 +71,11 @@ impl SpanFeed {
             cpus: cpu_tracks(alloc, members.cpus)?,
             resvs: resv_tracks(alloc, members.resvs)?,
         };
-        Ok(SpanFeed { rows, tracks })
+        Ok(SpanFeed {
+            rows,
+            tracks,
+            begun: true,
+        })
     }
 
     /// Ends the tick that goes on, at this clock.
@@ -125,10 +132,13 @@ impl SpanFeed {
             → IsFed (group_of afresh.now) past self.old
             → IsTurned (group_of afresh.now) tick.0 past self.new) }
     {
-        if now.0 < tick.0 {
-            self.end_tick(alloc, afresh, now.0)?;
-            self.pass_ticks(alloc, afresh, now.0 + 1, tick.0)?;
+        if tick.0 <= now.0 {
+            self.begun = true;
+            return Ok(());
         }
+        self.end_tick(alloc, afresh, now.0)?;
+        self.pass_ticks(alloc, afresh, now.0 + 1, tick.0)?;
+        self.begun = false;
         Ok(())
     }
 
@@ -140,6 +150,9 @@ impl SpanFeed {
             → IsTurned (group_of afresh.now) tick past self.old
             → IsFed (group_of afresh.now) (Clock tick ∷ past) self.new) }
     {
+        if self.begun {
+            return Ok(());
+        }
         self.rows.see(alloc, afresh)
     }
 
@@ -183,7 +196,7 @@ impl SpanFeed {
     {
         let unit = told(unit, act);
         self.rows.act(alloc, act, &unit)?;
-        self.rows.see(alloc, afresh)
+        self.rows.see_after(alloc, afresh, act)
     }
 
     /// The tracks of the group, whose clock is this one, without the marks of jobs.

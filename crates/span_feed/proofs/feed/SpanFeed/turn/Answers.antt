@@ -1,4 +1,6 @@
-use Rattle.std.proofs.Common.{◌∙◌, ◌<◌, ◌≤◌, ◌∷◌, ◌++◌, [], sym, arith}
+use Rattle.std.proofs.Common.{◌≡◌, ◌∙◌, ◌<◌, ◌≤◌, true, false, ◌∷◌, ◌++◌, [], sym, arith}
+use Rattle.std.proofs.lemmas.Bool.Decides.{nat_tests}
+use Rattle.std.specs.Prelude.{nat_le}
 use Rattle.rank_afresh.specs.Standing.{group_of}
 use Rattle.rt_model.specs.Past.{now}
 use Rattle.event_lines.specs.Shown.{group_tracks_shown}
@@ -19,19 +21,23 @@ pass_ticks-requires c =
     let going = tick_strip past (now past) in
     (past, over ++ going ∷ [], c.requires.fed.2, c.in_ok-end_tick.ensures past over going c.requires.fed.2 (newest-strip past) (c.requires.fed.1 ∙ sym (length-below past (now past))) c.requires.fed.3)
 
-pub returns-in_ok-pass_ticks : goal.returns-in_ok-pass_ticks
-returns-in_ok-pass_ticks c = λ past now_is at fed.
+pub returns : goal.returns
+returns c = λ past now_is at fed.
     let g = group_of c.args.afresh.now in
     let over = ticks_below past (now past) in
     let going = tick_strip past (now past) in
-    let later : c.args.now.0 < c.args.tick.0 = omega (arith, c.if-now-tick.true) in
+    let later : c.args.now.0 < c.args.tick.0 = omega (arith, c.if-tick-now.false) in
     let after : now past < c.args.tick.0 = omega (arith, later, now_is) in
     let ended = c.in_ok-end_tick.ensures past over going at (newest-strip past) (now_is ∙ sym (length-below past (now past))) fed in
-    let passed = c.in_ok-pass_ticks.ensures past (over ++ going ∷ []) at (next-long past c.args.now.0 now_is) ended in
-    spans-same g (group_tracks_shown c.pass_ticks.new.self.tracks) _ _ _ _ c.pass_ticks.new.self.rows (ticks-turned past c.args.now.0 c.args.tick.0 now_is later) (sym (turned-later c.args.tick.0 past after)) passed
+    let passed = c.in_ok-pass_ticks.ensures past (over ++ going ∷ []) at (next-long past c.args.now.0 now_is) ended in (
+      spans-same g (group_tracks_shown c.pass_ticks.new.self.tracks) _ _ _ _ c.pass_ticks.new.self.rows (ticks-turned past c.args.now.0 c.args.tick.0 now_is later) (sym (turned-later c.args.tick.0 past after)) passed,
+      (let no : nat_le c.args.tick.0 (now past) ≡ false = grind (arith, nat_tests, after) in sym no),
+    )
 
-pub returns-else-now-tick : goal.returns-else-now-tick
-returns-else-now-tick c = λ past now_is at fed.
-    let low : c.args.tick.0 ≤ c.args.now.0 = omega (arith, c.if-now-tick.false) in
-    let before : c.args.tick.0 ≤ now past = omega (arith, low, now_is) in
-    spans-same (group_of c.args.afresh.now) (group_tracks_shown c.args.self.now.tracks) _ _ _ _ c.args.self.now.rows (ticks-stay past c.args.now.0 c.args.tick.0 now_is low) (sym (turned-not c.args.tick.0 past before)) fed
+pub returns-then-tick-now : goal.returns-then-tick-now
+returns-then-tick-now c = λ past now_is at fed.
+    let low : c.args.tick.0 ≤ c.args.now.0 = omega (arith, c.if-tick-now.true) in
+    let before : c.args.tick.0 ≤ now past = omega (arith, low, now_is) in (
+      spans-same (group_of c.args.afresh.now) (group_tracks_shown c.args.self.now.tracks) _ _ _ _ c.args.self.now.rows (ticks-stay past c.args.now.0 c.args.tick.0 now_is low) (sym (turned-not c.args.tick.0 past before)) fed,
+      (let yes : nat_le c.args.tick.0 (now past) ≡ true = grind (arith, nat_tests, before) in sym yes),
+    )
