@@ -37,11 +37,12 @@ module _ (f : Feed) (axis : Axis) (w : Window) (v : Standing) (tick : ℕ) (past
   IsInside clock inside = (x : Past) → clock ≡ now x → f.entries.count ≡ entries_in x → inside ≡ is_in f.window (place f.axis x)
 
   pub can-see : (clock : ℕ) (inside : Bool) → IsInside clock inside → IsClocked v clock (Clock tick ∷ past) → IsTurned axis w (group_of v) tick past f
-      → CanSee v f.axis f.window tick past inside f.rows
+      → CanSee v f.axis f.window tick past inside f.begun f.rows
   can-see clock inside by_place clocked turned = record {
     at = clocked.at;
-    inside_is = by_place (Clock tick ∷ past) clocked.clock_is (counted f.window past f.entries turned.entries_are);
-    rows_are = turned.rows_are;
+    inside_is = by_place (Clock tick ∷ past) clocked.clock_is (counted f.window past f.entries turned.0.entries_are);
+    begun_is = turned.1;
+    rows_are = turned.0.rows_are;
   }
 
   -- the place of the column that goes on is as the axis and the window have it

@@ -1,5 +1,5 @@
 -- What is made of rows by the end of a tick, and by ticks that no state has.
-use Rattle.std.proofs.Common.{◌≡◌, ◌∙◌, ℕ, zero, suc, ◌+◌, ◌-◌, ◌<◌, ◌≤◌, min, max, Bool, true, false, List, [], ◌∷◌, ◌++◌, map, take, drop, refl, sym, ap, subst, arith}
+use Rattle.std.proofs.Common.{◌≡◌, ◌∙◌, ℕ, zero, suc, ◌+◌, ◌-◌, ◌<◌, ◌≤◌, min, max, Bool, true, false, List, [], ◌∷◌, ◌++◌, ◌⊎◌, inl, inr, map, take, drop, refl, sym, ap, subst, arith}
 use Rattle.std.specs.Prelude.{nat_le, if◌then◌else◌}
 use Rattle.std.proofs.lemmas.Bool.Decides.{nat_tests}
 use Rattle.rt_rules.specs.Numbers.{numbers_from}
@@ -13,11 +13,13 @@ use Rattle.chart_texts.specs.Windows.{columns_in}
 use Rattle.rank_afresh.specs.Standing.{Standing, group_of}
 use Rattle.chart_feed.specs.Stands.{HasRows}
 use Rattle.chart_rows.specs.Rows.{RowsKept, rows_acted, rows_closed, rows_of, rows_seen}
-use Rattle.chart_rows.specs.Strips.{blank, done, seen, strip_of}
-use Rattle.chart_feed.specs.WindowStrips.{closed, closed_below, entry_strip, is_in, open_at, open_moved, open_turned, place, tick_strip}
+use Rattle.chart_rows.specs.Strips.{Strip, blank, done, seen, strip_of}
+use Rattle.chart_rows.specs.UpTo.{AreUpTo}
+use Rattle.chart_feed.specs.WindowStrips.{closed, closed_below, entry_strip, has_begun, is_in, open_at, open_moved, open_turned, place, tick_strip}
 use Rattle.chart_feed.proofs.Moves.{acted-entries, acted-open, acted-outside, acted-ticks, below-beyond, below-more, below-same, ended-entries, ended-ticks, gap-more, moved-ticks, turned-entries, turned-ticks}
 use Rattle.chart_rows.proofs.RowLaws.{acted-rows, closed-rows, seen-rows}
-use Rattle.chart_feed.proofs.Ticks.{newest-strip}
+use Rattle.chart_rows.proofs.UpTo.{rows-still, rows-up-to}
+use Rattle.chart_feed.proofs.Ticks.{newest-strip, strip-seen}
 
 -- ---- at opening
 
@@ -131,11 +133,45 @@ module _ (g : Group) (w : Window) (past : Past) (rows : RowsKept) where
   moved-outside axis tick h is =
       is ∙ ap (rows_of g (closed axis w (Clock tick ∷ past))) (none-turned axis tick h ∙ sym (ap (λ (b : Bool). if b then seen (Clock tick ∷ past) (open_turned axis w tick past) else blank) h) ∙ moved-open axis tick)
 
+  -- the column that goes on in the window has the newest state
+  moved-seen : (axis : Axis) → is_in w (place axis past) ≡ true → (s : Strip) × (open_moved axis w past ≡ seen past s)
+  moved-seen Ticks h = let s = strip-seen past in (s.0, ap (λ (b : Bool). if b then tick_strip past (now past) else blank) h ∙ s.1)
+  moved-seen Entries h = (blank, ap (λ (b : Bool). if b then seen past blank else blank) h)
+
+  -- one that has begun shows no less than the state after the move
+  begun-still : (tick : ℕ) → tick ≤ now past → is_in w (now past) ≡ true → rows ≡ rows_of g (closed Ticks w (Clock tick ∷ past)) (open_turned Ticks w tick past) → rows ≡ rows_seen g (Clock tick ∷ past) rows
+  begun-still tick low h is =
+      let yes : nat_le tick (now past) ≡ true = grind (arith, nat_tests, low) in
+      let s = strip-seen past in
+      let going : open_turned Ticks w tick past ≡ seen past s.0 =
+      ap (λ (b : Bool). if b then open_at Ticks w past else blank) yes ∙ ap (λ (b : Bool). if b then tick_strip past (now past) else blank) h ∙ s.1 in
+      rows-still g tick past rows low (rows-up-to g (closed Ticks w (Clock tick ∷ past)) s.0 past rows (is ∙ ap (rows_of g (closed Ticks w (Clock tick ∷ past))) going))
+
+  pub moved-begun : (axis : Axis) (tick : ℕ) → has_begun axis tick past ≡ true → is_in w (place axis (Clock tick ∷ past)) ≡ true → rows ≡ rows_of g (closed axis w (Clock tick ∷ past)) (open_turned axis w tick past)
+      → rows ≡ rows_of g (closed axis w (Clock tick ∷ past)) (open_moved axis w (Clock tick ∷ past))
+  moved-begun Entries tick begun h is = cc
+  moved-begun Ticks tick begun h is =
+      let low : tick ≤ now past = grind (arith, nat_tests, begun) in
+      let same : max (now past) tick ≡ now past = omega arith in
+      begun-still tick low (subst (λ n. is_in w n ≡ true) same h) is ∙ moved-inside Ticks tick h is
+
+  pub moved-not : (axis : Axis) (tick : ℕ) (inside begun : Bool) → inside ≡ is_in w (place axis (Clock tick ∷ past)) → begun ≡ has_begun axis tick past → (inside ≡ true) × (begun ≡ true) ⊎ (inside ≡ false)
+      → rows ≡ rows_of g (closed axis w (Clock tick ∷ past)) (open_turned axis w tick past) → rows ≡ rows_of g (closed axis w (Clock tick ∷ past)) (open_moved axis w (Clock tick ∷ past))
+  moved-not axis tick inside begun h k (inl m) is = moved-begun axis tick (sym k ∙ m.1) (sym h ∙ m.0) is
+  moved-not axis tick inside begun h k (inr m) is = moved-outside axis tick (sym h ∙ m) is
+
   -- ---- an act
 
   module _ (d : PastAct) where
     abbrev m : Moment
     m = record { act = d; before = past }
+
+    -- the rows are up to the newest state also once the act is taken
+    pub acted-up-to : (axis : Axis) → is_in w (place axis past) ≡ true → rows ≡ rows_of g (closed axis w past) (open_moved axis w past) → AreUpTo g past (rows_acted g m rows)
+    acted-up-to axis h is =
+        let s = moved-seen axis h in
+        rows-up-to g (closed axis w past) (done m s.0) past (rows_acted g m rows)
+        (ap (rows_acted g m) is ∙ acted-rows g (closed axis w past) (open_moved axis w past) m ∙ ap (λ x. rows_of g (closed axis w past) (done m x)) s.1)
 
     pub taken : (axis : Axis) → rows ≡ rows_of g (closed axis w past) (open_moved axis w past)
         → rows_seen g (Acted d ∷ past) (rows_acted g m rows) ≡ rows_of g (closed axis w past) (seen (Acted d ∷ past) (done m (open_moved axis w past)))

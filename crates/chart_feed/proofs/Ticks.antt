@@ -11,7 +11,7 @@ use Rattle.trace_views.specs.Moments.{acts_among, at_tick, moments, own}
 use Rattle.chart_texts.specs.declared.window.Axis.TheVariants.{Ticks}
 use Rattle.chart_texts.specs.declared.window.Window.{Window}
 use Rattle.chart_texts.specs.Windows.{columns_in, columns_on, cut}
-use Rattle.chart_rows.specs.Strips.{blank, done, seen}
+use Rattle.chart_rows.specs.Strips.{Strip, blank, done, seen}
 use Rattle.chart_feed.specs.WindowStrips.{is_in, tick_strip, ticks_in}
 
 -- ---- the clock never falls
@@ -68,6 +68,10 @@ own-newest (e ∷ past) = (own (now (e ∷ past)) past, own-more e past (now (e 
 
 at-own : (past : Past) → at_tick (now past) past ≡ own (now past) past
 at-own past = let o = own-newest past in at-some (now past) past past o.0 o.1 ∙ sym o.1
+
+-- the newest tick has the newest state, and older ones
+pub strip-seen : (past : Past) → (s : Strip) × (tick_strip past (now past) ≡ seen past s)
+strip-seen past = let o = own-newest past in (record { states = o.0; acts = acts_among (own (now past) past) }, λ i. record { states = (at-own past ∙ o.1) i; acts = acts_among (own (now past) past) })
 
 -- ---- the strips of ticks
 

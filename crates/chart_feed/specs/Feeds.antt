@@ -13,7 +13,7 @@ use Rattle.chart_rows.specs.declared.units.Unit.{Unit}
 use Rattle.chart_feed.specs.Clocks.{Keeps}
 use Rattle.chart_feed.specs.EntryClocks.{clocks_in, entry_clocks}
 use Rattle.chart_feed.specs.Finished.{EndsInAct}
-use Rattle.chart_feed.specs.WindowStrips.{closed, is_in, open_at, open_moved, open_turned, place}
+use Rattle.chart_feed.specs.WindowStrips.{closed, has_begun, is_in, open_at, open_moved, open_turned, place}
 use Rattle.chart_feed.specs.declared.feed.Feed.{Feed}
 
 -- a group stands at a past, whose clock is this one
@@ -38,7 +38,8 @@ module _ (axis : Axis) (w : Window) (g : Group) where
   IsFed past f = Holds past (λ a x. closed a x past) (λ a x. open_at a x past) f
 
   abbrev pub IsTurned : ℕ → Past → Feed → Type 0
-  IsTurned tick past f = Holds past (λ a x. closed a x (Clock tick ∷ past)) (λ a x. open_turned a x tick past) f
+  IsTurned tick past f =
+      Holds past (λ a x. closed a x (Clock tick ∷ past)) (λ a x. open_turned a x tick past) f × (f.begun ≡ has_begun f.axis tick past)
 
   abbrev pub IsMoved : ℕ → Past → Feed → Type 0
   IsMoved tick past f = Holds past (λ a x. closed a x (Clock tick ∷ past)) (λ a x. open_moved a x (Clock tick ∷ past)) f

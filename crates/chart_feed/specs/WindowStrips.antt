@@ -1,5 +1,5 @@
 -- The states and acts of a window's columns while a group's history goes on.
-use Rattle.std.specs.Prelude.{ℕ, ◌-◌, min, Bool, ◌&&◌, nat_le, nat_lt, List, [], ◌∷◌, map, reverse, filter, if◌then◌else◌}
+use Rattle.std.specs.Prelude.{ℕ, ◌-◌, min, Bool, false, ◌&&◌, nat_le, nat_lt, List, [], ◌∷◌, map, reverse, filter, if◌then◌else◌}
 use Rattle.rt_rules.specs.Numbers.{numbers_from}
 use Rattle.rt_model.specs.Past.{Past, entries_in, now}
 use Rattle.trace_views.specs.Columns.{is_entry, states_of_entry}
@@ -60,3 +60,8 @@ open_turned Entries w tick past = blank
 abbrev pub open_moved : Axis → Window → Past → Strip
 open_moved Ticks w past = in_window w (now past) (tick_strip past (now past))
 open_moved Entries w past = in_window w (entries_in past) (seen past blank)
+
+-- whether it has states as the clock is to be moved: by ticks where the move is not to a later one, and by entries never
+abbrev pub has_begun : Axis → ℕ → Past → Bool
+has_begun Ticks tick past = nat_le tick (now past)
+has_begun Entries tick past = false

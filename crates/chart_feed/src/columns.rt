@@ -2,6 +2,7 @@
 ghost use Rattle.std.specs.Prelude.{◌≡◌, ◌+◌, ◌<◌, ◌≤◌, ◌∷◌, [], ℕ, OnOk, map, true};
 ghost use Rattle.rt_base.specs.declared.TheConstants.{TICK_END};
 ghost use Rattle.rt_model.specs.Past.{Acted, Clock, Past};
+ghost use Rattle.rt_model.specs.Past as pasts;
 ghost use Rattle.rank_afresh.specs.Standing.{IsAt, group_of};
 ghost use Rattle.chart_texts.specs.declared.window.Axis as axes;
 ghost use Rattle.chart_texts.specs.declared.window.Window as windows;
@@ -160,21 +161,33 @@ pub(crate) fn turn(
     }
 }
 
-/// Takes the state after a move of the clock, where the column that it is of is in the window.
+/// Whether the column that goes on has states, as the clock is to be moved from one tick to another.
+pub(crate) fn has_begun(axis: Axis, now: u64, tick: u64) -> bool
+    ensures { (past : Past) → now ≡ pasts.now past → result ≡ strips.has_begun axis tick past }
+{
+    match axis {
+        Axis::Ticks => tick <= now,
+        Axis::Entries => false,
+    }
+}
+
+/// Takes the state after a move of the clock, where the column that it is of is in the window. One that has begun shows no less
+/// already.
 pub(crate) fn take_state(
     rows: &mut Rows,
     alloc: Global,
     afresh: &Afresh,
     inside: bool,
+    begun: bool,
 ) -> Result<(), NoMemory>
     requires { (axis : axes.Axis) × (window : windows.Window) × (tick : ℕ) × (past : Past)
-        × CanSee afresh.now axis window tick past inside rows.old }
+        × CanSee afresh.now axis window tick past inside begun rows.old }
     ensures { OnOk result ((axis : axes.Axis) (window : windows.Window) (tick : ℕ) (past : Past)
-        → CanSee afresh.now axis window tick past inside rows.old
+        → CanSee afresh.now axis window tick past inside begun rows.old
         → rows.new ≡ rows_of (group_of afresh.now) (closed axis window (Clock tick ∷ past))
         (open_moved axis window (Clock tick ∷ past))) }
 {
-    if inside {
+    if inside && !begun {
         rows.see(alloc, afresh)?;
     }
     Ok(())
@@ -198,7 +211,7 @@ fn put_act(
         (open_at axis window (Acted (act_shown act.now) ∷ past))) }
 {
     rows.act(alloc, act, unit)?;
-    rows.see(alloc, afresh)?;
+    rows.see_after(alloc, afresh, act)?;
     match axis {
         Axis::Ticks => Ok(()),
         Axis::Entries => rows.close(alloc, afresh),

@@ -20,7 +20,7 @@ ghost use Rattle.chart_feed.specs.Feeds.{IsActed, IsClocked, IsExpected, IsFed, 
 ghost use Rattle.chart_feed.specs.WindowStrips.{is_in, place};
 
 use crate::clocks::{TaskClocks, no_clocks, note_act};
-use crate::columns::{begin, end, take_act, take_state, turn};
+use crate::columns::{begin, end, has_begun, take_act, take_state, turn};
 use crate::entry_clocks::{EntryClocks, is_in};
 use crate::panel::panel_with;
 use crate::window_columns::columns_of;
@@ -42,7 +42,8 @@ pub struct Members<'a> {
 }
 
 /// A group in the columns of a window, while its steps are taken again. Each step is shown by four calls, in this order: `turn`
-/// before the clock is moved, `see` after that, `foretell` before the act, and `act` after it.
+/// before the clock is moved, `see` after that, `foretell` before the act, and `act` after it. All tasks are looked at once a column,
+/// and after an act those alone that it touches.
 #[derive(Drop)]
 pub struct Feed {
     axis: Axis,
@@ -50,6 +51,8 @@ pub struct Feed {
     rows: Rows,
     tasks: Vec<TaskClocks>,
     entries: EntryClocks,
+    /// After `turn`: whether the column that goes on has states before the move of the clock.
+    begun: bool,
 }
 
 /// The rows of reservations.
@@ -88,6 +91,7 @@ impl Feed {
             rows,
             tasks,
             entries,
+            begun: true,
         })
     }
 
@@ -108,6 +112,7 @@ impl Feed {
             → IsFed axis window (group_of afresh.now) past self.old
             → IsTurned axis window (group_of afresh.now) tick.0 past self.new) }
     {
+        self.begun = has_begun(self.axis, clock.0, tick.0);
         turn(
             &mut self.rows,
             alloc,
@@ -141,7 +146,7 @@ impl Feed {
             → IsMoved axis window (group_of afresh.now) tick past self.new) }
     {
         let inside = self.is_inside(clock);
-        take_state(&mut self.rows, alloc, afresh, inside)
+        take_state(&mut self.rows, alloc, afresh, inside, self.begun)
     }
 
     /// The unit that an act of a processor would be, at the clock; none where it can be none, or the column that goes on is not in the
@@ -226,6 +231,7 @@ impl Feed {
             mut rows,
             tasks,
             entries,
+            ..
         } = self;
         end(&mut rows, alloc, axis, window, afresh, clock.0)?;
         let columns = columns_of(alloc, axis, window, clock.0, entries)?;

@@ -2,7 +2,7 @@ use Rattle.std.proofs.Common.{◌∙◌, ◌∷◌, sym}
 use Rattle.rt_model.specs.Past.{Clock}
 use Rattle.rank_afresh.specs.Standing.{group_of}
 use Rattle.chart_rows.proofs.RowParts.{rows-listed}
-use Rattle.chart_feed.proofs.Stepping.{moved-inside, moved-outside}
+use Rattle.chart_feed.proofs.Stepping.{moved-inside, moved-not}
 use Rattle.chart_feed.proofs.columns.take_state.Goals as goal
 
 pub see-requires-clause-listed : goal.see-requires-clause-listed
@@ -18,4 +18,4 @@ returns-in_ok-see c = λ axis window tick past can.
 
 pub returns-else-inside : goal.returns-else-inside
 returns-else-inside c = λ axis window tick past can.
-    moved-outside (group_of c.args.afresh.now) window past c.args.rows.now axis tick (sym can.inside_is ∙ c.if-inside.false) can.rows_are
+    moved-not (group_of c.args.afresh.now) window past c.args.rows.now axis tick c.args.inside c.args.begun can.inside_is can.begun_is c.else-inside.either can.rows_are

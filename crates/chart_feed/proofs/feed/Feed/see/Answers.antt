@@ -18,11 +18,11 @@ returns c =
     on_ok_weaker c.take_state.result (λ seen axis window past tick clocked turned.
     let f : Feed = c.args.self.now in
     record {
-      axis_is = turned.axis_is;
-      window_is = turned.window_is;
+      axis_is = turned.0.axis_is;
+      window_is = turned.0.window_is;
       rows_are = seen f.axis f.window tick past (can-see f axis window c.args.afresh.now tick past c.args.clock.0 c.is_inside-inside.result c.is_inside-inside.ensures clocked turned);
-      tasks_there = turned.tasks_there;
-      clocks_are = turned.clocks_are;
-      entries_are = turned.entries_are;
-      whole = turned.whole;
+      tasks_there = turned.0.tasks_there;
+      clocks_are = turned.0.clocks_are;
+      entries_are = turned.0.entries_are;
+      whole = turned.0.whole;
     }) c.take_state.ensures
