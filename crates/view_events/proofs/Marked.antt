@@ -1,8 +1,10 @@
 -- The marks of jobs, read off their lines; and tracks with these.
-use Rattle.std.proofs.Common.{◌≡◌, ◌∙◌, ℕ, zero, suc, ◌+◌, ◌<◌, ◌≤◌, List, [], ◌∷◌, ◌++◌, length, map, get_or, set, refl, sym, ap, subst, arith, All}
-use Rattle.std.specs.Prelude.{nat_le, None, Some, if◌then◌else◌}
+use Rattle.std.proofs.Common.{◌≡◌, ◌∙◌, ℕ, zero, suc, true, ◌+◌, ◌<◌, ◌≤◌, List, [], ◌∷◌, ◌++◌, length, map, get_or, set, refl, sym, ap, subst, arith, All}
+use Rattle.std.specs.Prelude.{◌==◌, nat_le, None, Some, if◌then◌else◌}
 use Rattle.std.proofs.lemmas.List.{get_or-map, length-map, map-append, map-set}
-use Rattle.rt_rules.specs.Numbers.{numbers_from}
+use Rattle.rt_rules.specs.Numbers.{has, numbers_from}
+use Rattle.rt_rules.proofs.BoolLaws.{or_true}
+use Rattle.rt_rules.proofs.MemberLaws.{equal_self}
 use Rattle.rt_model.specs.Group as groups
 use Rattle.rt_model.specs.Group.{Group}
 use Rattle.rt_model.specs.Past.{Past, now}
@@ -17,7 +19,7 @@ use Rattle.event_lines.specs.Shown.{job_marks_shown}
 use Rattle.event_lines.specs.Tracks.{GroupTracks, JobMarks, TaskTrack}
 use Rattle.event_lines.specs.TracksOf.{job_marks, task_track, tracks_of}
 use Rattle.span_feed.specs.Spanned.{unmarked}
-use Rattle.view_events.specs.JobMarks.{IsRowOf, is_missed_by, marks_listed, with_marks}
+use Rattle.view_events.specs.JobMarks.{HasTaskOf, IsRowOf, due_by, marks_listed, with_marks}
 use Rattle.view_events.proofs.Missed.{missed-is}
 
 -- what a line gives by a clock
@@ -25,7 +27,7 @@ abbrev pub given_by : ℕ → views.JobRow → JobMarks
 given_by clock r = record {
   job = r.job;
   release = if nat_le r.release clock then Some r.release else None;
-  deadline = if nat_le r.deadline clock then Some (record { tick = r.deadline; missed = is_missed_by r.outcome }) else None;
+  deadline = due_by clock r;
   end = r.end;
 }
 
@@ -73,16 +75,29 @@ changed-length f xs zero = refl
 changed-length f [] (suc n) = refl
 changed-length f (x ∷ xs) (suc n) = ap suc (changed-length f xs n)
 
-module _ {A B : Type 0} (shown : B → A) (f : A → A) (xs : List A) (ys : List B) (i : ℕ) (y new : B) (low : i < length ys) (so_far : map shown ys ≡ changed f i xs) (read : y ≡ get_or ys i y) where
+module _ {A B : Type 0} (shown : B → A) (f : A → A) (xs : List A) (ys : List B) (i : ℕ) (y new : B) (low : i < length ys) (so_far : map shown ys ≡ changed f i xs) where
   inside : i < length xs
   inside = omega (arith, low, sym (length-map ys shown) ∙ ap length so_far ∙ changed-length f xs i)
 
-  read-shown : shown y ≡ get_or (map shown ys) i (shown y)
-  read-shown = ap shown read ∙ sym (get_or-map shown ys i y (shown y) low)
+  read-shown : get_or (map shown ys) i (shown y) ≡ shown (get_or ys i y)
+  read-shown = get_or-map shown ys i y (shown y) low
 
-  pub marked-more : shown new ≡ f (shown y) → map shown (set ys i new) ≡ changed f (i + 1) xs
-  marked-more made =
-      map-set shown ys i new ∙ changed-more f xs (map shown ys) i (shown y) (shown new) inside so_far read-shown (made ∙ ap f read-shown)
+  pub marked-more : y ≡ get_or ys i y → shown new ≡ f (shown (get_or ys i y)) → map shown (set ys i new) ≡ changed f (i + 1) xs
+  marked-more read made =
+      map-set shown ys i new ∙ changed-more f xs (map shown ys) i (shown y) (shown new) inside so_far (ap shown read ∙ sym read-shown) (made ∙ ap f (sym read-shown))
 
-  pub marked-at : (P : A → Type 0) → All P xs → P (shown y)
-  marked-at P all = subst P (sym read-shown) (changed-all-at P f xs (map shown ys) i (shown y) all inside so_far read-shown)
+  pub marked-at : (P : A → Type 0) → y ≡ get_or ys i y → All P xs → P (shown (get_or ys i y))
+  marked-at P read all = subst P read-shown (changed-all-at P f xs (map shown ys) i (shown y) all inside so_far (ap shown read ∙ sym read-shown))
+
+-- ---- the tasks of tracks without marks
+
+all-have : (g : Group) (past : Past) (us ts : List ℕ) → ((t : ℕ) → has t ts ≡ true → has t us ≡ true)
+    → All (λ (x : TaskTrack). has x.task us ≡ true) (map (λ (x : TaskTrack). record x { jobs = [] }) (map (task_track g past) ts))
+unfolding task_track
+all-have g past us [] inside k d low = absurd (omega (arith, low))
+all-have g past us (t ∷ ts) inside zero d low = inside t (rw (equal_self t) refl)
+all-have g past us (t ∷ ts) inside (suc k) d low = all-have g past us ts (λ u h. inside u (rw h (or_true (u == t)))) k d (omega (arith, low))
+
+pub unmarked-tasks : (g : Group) (past : Past) → All (HasTaskOf g) (unmarked (tracks_of g past)).tasks
+unfolding tracks_of
+unmarked-tasks g past = all-have g past (groups.tasks g) (groups.tasks g) (λ t h. h)

@@ -1,5 +1,5 @@
 -- The marks of the jobs of tasks, read off the table of jobs.
-use Rattle.std.specs.Prelude.{◌≡◌, ℕ, ◌≤◌, Bool, true, false, List, length, map}
+use Rattle.std.specs.Prelude.{◌≡◌, ℕ, ◌≤◌, Bool, true, false, nat_le, List, length, map, Option, None, Some, if◌then◌else◌}
 use Rattle.rt_base.specs.declared.TheConstants.{MOST_STEPS}
 use Rattle.rt_task.specs.Validity.{IsValid}
 use Rattle.rt_task.specs.declared.Task.{Task}
@@ -10,13 +10,14 @@ use Rattle.rt_model.specs.Past.{Past, entries_in, now}
 use Rattle.block_counts.specs.declared.seen.Seen.{Seen}
 use Rattle.block_counts.specs.SeenWords.{tallies_of}
 use Rattle.count_laws.specs.Tallies.{tallies}
+use Rattle.trace_views.specs.JobRows as views
 use Rattle.trace_views.specs.JobRows.{job_row, listed}
 use Rattle.trace_views.specs.JobTimes.{Outcome, kept, late, missed, under_way}
 use Rattle.job_views.specs.declared.row.JobRow.{JobRow}
 use Rattle.job_views.specs.declared.table.JobTable.{JobTable}
 use Rattle.job_views.specs.RowsShown.{row_shown}
 use Rattle.job_views.specs.Tables.{Keeps, task_count}
-use Rattle.event_lines.specs.Tracks.{JobMarks, TaskTrack}
+use Rattle.event_lines.specs.Tracks.{Due, JobMarks, TaskTrack}
 use Rattle.event_lines.specs.TracksOf.{job_marks}
 
 -- a job that came out so was not over by its deadline
@@ -25,6 +26,10 @@ is_missed_by kept = false
 is_missed_by late = true
 is_missed_by missed = true
 is_missed_by under_way = false
+
+-- the deadline that a line says, where it is at most the clock
+abbrev pub due_by : ℕ → views.JobRow → Option Due
+due_by clock r = if nat_le r.deadline clock then Some (record { tick = r.deadline; missed = is_missed_by r.outcome }) else None
 
 -- the marks of the jobs of a task that are listed; and a track with these
 abbrev pub marks_listed : Group → Past → ℕ → List JobMarks

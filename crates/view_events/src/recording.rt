@@ -29,12 +29,7 @@ pub(crate) struct Recording {
 
 impl Recording {
     /// A group of a setup at opening, with room for so many steps.
-    fn open(
-        alloc: Global,
-        setup: &Setup,
-        group: GroupNo,
-        room: u32,
-    ) -> Result<Recording, NoMemory>
+    fn open(alloc: Global, setup: &Setup, group: GroupNo, room: u32) -> Result<Recording, NoMemory>
         requires group { IsGroupOf setup.now group.0 }
         requires room { room ≤ MOST_STEPS }
         ensures recorded { IfOk result (IsRecorded []) }

@@ -64,6 +64,27 @@ fn mark_all(
     Ok(())
 }
 
+/// The tracks of a group with the marks of the jobs of its tasks.
+fn marked(
+    alloc: Global,
+    tasks: &[Task],
+    table: &JobTable,
+    clock: Tick,
+    requests: &[Seen],
+    mut tracks: GroupTracks,
+) -> Result<GroupTracks, NoMemory>
+    requires { (g : Group) × (past : Past) × AreJobsOf g past tasks.now table.now clock.0 requests.now
+        × All (HasTaskOf g) (group_tracks_shown tracks).tasks }
+    ensures { let shown = group_tracks_shown tracks in IfOk result (λ x. (g : Group) (past : Past)
+        → AreJobsOf g past tasks.now table.now clock.0 requests.now
+        → All (HasTaskOf g) shown.tasks → group_tracks_shown x
+        ≡ record shown { tasks = map (with_marks g past) shown.tasks }) }
+{
+    let rows = tracks.tasks.as_mut_slice();
+    mark_all(alloc, tasks, table, clock, requests, rows)?;
+    Ok(tracks)
+}
+
 /// The tracks of a group of a setup with these entries.
 pub(crate) fn tracks_after(
     alloc: Global,
@@ -85,14 +106,13 @@ pub(crate) fn tracks_after(
         table,
     } = recording;
     let clock = replay.now();
-    let mut tracks = feed.close(alloc, replay.afresh(), clock)?;
-    mark_all(
+    let tracks = feed.close(alloc, replay.afresh(), clock)?;
+    marked(
         alloc,
         parts.tasks.as_slice(),
         &table,
         clock,
         replay.requests(),
-        tracks.tasks.as_mut_slice(),
-    )?;
-    Ok(tracks)
+        tracks,
+    )
 }

@@ -7,6 +7,7 @@ use Rattle.job_facts.proofs.Jobs.{map-last}
 use Rattle.job_views.proofs.Lines.{line-of}
 use Rattle.event_lines.specs.Shown.{job_marks_shown}
 use Rattle.event_lines.specs.TracksOf.{job_marks}
+use Rattle.view_events.proofs.Marked.{marks-next}
 use Rattle.view_events.proofs.job_marks.marks_of_jobs.Goals as goal
 
 pub row-row-requires : goal.row-row-requires

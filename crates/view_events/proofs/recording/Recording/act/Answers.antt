@@ -25,8 +25,8 @@ foretell-requires-clause-fed c =
       subst (λ (g : Group). IsFed g (Clock tick ∷ past) c.args.self.now.feed) (sym c.afresh.ensures.group) is.fed,
     )
 
-pub act-requires-clause-acted : goal.act-requires-clause-acted
-act-requires-clause-acted c =
+pub act-requires : goal.act-requires
+act-requires c =
     let past = c.requires.moved.0 in
     let is = c.requires.moved.1 in
     let tick = c.args.step.tick.0 in
@@ -38,13 +38,16 @@ act-requires-clause-acted c =
     let then : after g c.args.step past ≡ Acted d ∷ Clock tick ∷ past = after-acted g c.args.step past ∙ ap (λ (x : PastAct). Acted x ∷ Clock tick ∷ past) (sym act_is) in
     let at = subst (replays.IsAt c.act-act.new.self) then (c.act-act.ensures.at past is.at) in
     let same = c.afresh.ensures.group ∙ sym c.act-act.ensures.group ∙ sym c.afresh-2.ensures.group in
-    let shown = act_is ∙ ap (λ (x : Group). past_act x c.args.step.cpu.0 c.args.step.act (Clock tick ∷ past)) (sym c.afresh.ensures.group) in (
-      Clock tick ∷ past,
-      c.afresh-2.ensures.at (Acted d ∷ Clock tick ∷ past) at,
-      subst (λ (x : Group). IsForetold x (record { act = d; before = Clock tick ∷ past }) c.in_ok-unit.unit) same
-      (subst (λ (x : PastAct). IsForetold (ranker.group_of c.afresh.result.now) (record { act = x; before = Clock tick ∷ past }) c.in_ok-unit.unit) (sym shown) told),
-      subst (λ (x : Group). IsFed x (Clock tick ∷ past) c.args.self.now.feed) same fed,
-    )
+    let shown = act_is ∙ ap (λ (x : Group). past_act x c.args.step.cpu.0 c.args.step.act (Clock tick ∷ past)) (sym c.afresh.ensures.group) in
+    record {
+      acted = (
+        Clock tick ∷ past,
+        c.afresh-2.ensures.at (Acted d ∷ Clock tick ∷ past) at,
+        subst (λ (x : Group). IsForetold x (record { act = d; before = Clock tick ∷ past }) c.in_ok-unit.unit) same
+            (subst (λ (x : PastAct). IsForetold (ranker.group_of c.afresh.result.now) (record { act = x; before = Clock tick ∷ past }) c.in_ok-unit.unit) (sym shown) told),
+        subst (λ (x : Group). IsFed x (Clock tick ∷ past) c.args.self.now.feed) same fed,
+      );
+    }
 
 pub feed-requires-clause-next : goal.feed-requires-clause-next
 feed-requires-clause-next c =

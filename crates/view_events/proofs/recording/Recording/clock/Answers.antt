@@ -12,12 +12,15 @@ see-requires c =
     let tick = c.args.tick.0 in
     let fed = subst (λ (g : Group). IsFed g past c.args.self.now.feed) (sym c.afresh.ensures.group) is.fed in
     let turned = c.in_ok-turn.ensures past (c.now.ensures.at past is.at) (c.afresh.ensures.at past is.at) fed in
-    let moved = c.clock.ensures.moved past is.at in (
-      past,
-      tick,
-      c.afresh-2.ensures.moved past tick moved,
-      subst (λ (g : Group). IsTurned g tick past c.turn.new.self) (c.afresh.ensures.group ∙ sym c.clock.ensures.group ∙ sym c.afresh-2.ensures.group) turned,
-    )
+    let moved = c.clock.ensures.moved past is.at in
+    record {
+      turned = (
+        past,
+        tick,
+        c.afresh-2.ensures.moved past tick moved,
+        subst (λ (g : Group). IsTurned g tick past c.turn.new.self) (c.afresh.ensures.group ∙ sym c.clock.ensures.group ∙ sym c.afresh-2.ensures.group) turned,
+      );
+    }
 
 pub returns-clause-moved : goal.returns-clause-moved
 returns-clause-moved c =
