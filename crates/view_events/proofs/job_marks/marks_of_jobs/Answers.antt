@@ -1,11 +1,8 @@
-use Rattle.std.proofs.Common.{◌≡◌, ◌∙◌, ◌+◌, [], ◌∷◌, ◌++◌, map, sym, ap, arith}
-use Rattle.std.proofs.lemmas.List.{map-append}
+use Rattle.std.proofs.Common.{◌≡◌, ◌∙◌, ◌+◌, map, ap, arith}
 use Rattle.rt_rules.specs.Numbers.{numbers_from}
 use Rattle.trace_views.specs.JobRows.{listed}
 use Rattle.job_facts.proofs.Few.{listed-few}
-use Rattle.job_facts.proofs.Jobs.{map-last}
 use Rattle.job_views.proofs.Lines.{line-of}
-use Rattle.event_lines.specs.Shown.{job_marks_shown}
 use Rattle.event_lines.specs.TracksOf.{job_marks}
 use Rattle.view_events.proofs.Marked.{marks-next}
 use Rattle.view_events.proofs.job_marks.marks_of_jobs.Goals as goal

@@ -6,7 +6,6 @@ use Rattle.rt_model.specs.Outcomes.{past_act}
 use Rattle.rt_model.specs.Past.{Acted, Clock, Past, PastAct}
 use Rattle.rt_model.proofs.Steps.{after-acted}
 use Rattle.chart_rows.specs.Foretold.{IsForetold}
-use Rattle.job_views.specs.Tables.{Keeps}
 use Rattle.rank_afresh.specs.Standing as ranker
 use Rattle.span_feed.specs.Feeds.{IsFed}
 use Rattle.view_acts.specs.ShownActs.{act_shown}
