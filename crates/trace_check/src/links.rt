@@ -1,21 +1,25 @@
-//! The links of a group's processors, read from the ranker.
-ghost use Rattle.std.specs.Prelude.{◌≡◌, ◌<◌, All, OnOk};
+//! The links of a group's processors, read from the ranker, and those that a step changes.
+ghost use Rattle.std.specs.Prelude.{◌≡◌, ◌<◌, All, IfOk, OnOk};
+ghost use Rattle.rt_task.specs.declared.Step.{Step};
 ghost use Rattle.rt_model.specs.Past.{Past};
 ghost use Rattle.rt_plays.specs.Homes.{IsProcessorOf};
 ghost use Rattle.rank_afresh.specs.Standing.{IsAt, group_of};
 ghost use Rattle.trace_lines.specs.Lines.{links_of};
 ghost use Rattle.trace_text.specs.Groups.{cpu_numbers};
 ghost use Rattle.trace_text.specs.TraceText.{links_at};
+ghost use Rattle.trace_check.specs.GroupLinks.{CanRead, HaveChanged};
 ghost use Rattle.trace_check.specs.SameLinks.{same_links};
 
 use rank_afresh::Afresh;
 use rt_base::{CpuNo, NoMemory};
+use std::alloc::Global;
+use std::mem;
 use trace_lines::CpuLink;
-use trace_text::is_same_task;
+use trace_text::{is_same_task, put_changed};
 
 /// Puts the links of these processors in the place of what stood in `links`.
 #[tactic(auto, using(std::proofs::Common::append_assoc))]
-pub(crate) fn read_links(
+fn read_links(
     afresh: &Afresh,
     cpus: &[CpuNo],
     links: &mut Vec<CpuLink>,
@@ -49,4 +53,79 @@ pub(crate) fn are_same(a: &[CpuLink], b: &[CpuLink]) -> bool
         }
     }
     true
+}
+
+/// The processors of a group, their links as they were read last, those before the last step that placed some, and those
+/// that the last step changed.
+#[derive(Drop)]
+pub(crate) struct GroupLinks {
+    cpus: Vec<CpuNo>,
+    links: Vec<CpuLink>,
+    before: Vec<CpuLink>,
+    changed: Vec<CpuLink>,
+}
+
+impl GroupLinks {
+    /// The links of these processors now.
+    pub(crate) fn open(
+        alloc: Global,
+        afresh: &Afresh,
+        cpus: Vec<CpuNo>,
+    ) -> Result<GroupLinks, NoMemory>
+        requires { All (λ q. IsProcessorOf (group_of afresh.now) q.0) cpus.items }
+        ensures cpus { IfOk result (λ l. l.cpus.items ≡ cpus.items) }
+        ensures links { IfOk result (λ l. (past : Past) → IsAt afresh.now past
+            → links_of l.links.items
+            ≡ links_at (group_of afresh.now) past (cpu_numbers cpus.items)) }
+    {
+        let mut links = Vec::new(alloc);
+        read_links(afresh, cpus.as_slice(), &mut links)?;
+        Ok(GroupLinks {
+            cpus,
+            links,
+            before: Vec::new(alloc),
+            changed: Vec::new(alloc),
+        })
+    }
+
+    /// The processors.
+    pub(crate) fn cpus(&self) -> &[CpuNo]
+        ensures { result.now ≡ self.now.cpus.items }
+    {
+        self.cpus.as_slice()
+    }
+
+    /// Their links.
+    pub(crate) fn links(&self) -> &[CpuLink]
+        ensures { result.now ≡ self.now.links.items }
+    {
+        self.links.as_slice()
+    }
+
+    /// The links that the last step changed.
+    pub(crate) fn changed(&self) -> &[CpuLink]
+        ensures { result.now ≡ self.now.changed.items }
+    {
+        self.changed.as_slice()
+    }
+
+    /// Reads the links after a step. Where that placed none, they are as before.
+    pub(crate) fn follow(&mut self, afresh: &Afresh) -> Result<(), NoMemory>
+        requires { (past : Past) × (step : Step) × CanRead past step afresh.now self.old }
+        ensures { OnOk result ((past : Past) (step : Step)
+            → CanRead past step afresh.now self.old
+            → HaveChanged (group_of afresh.now) past step self.new) }
+    {
+        if !afresh.has_placed() {
+            self.changed.clear();
+            return Ok(());
+        }
+        mem::swap(&mut self.before, &mut self.links);
+        read_links(afresh, self.cpus.as_slice(), &mut self.links)?;
+        put_changed(
+            self.before.as_slice(),
+            self.links.as_slice(),
+            &mut self.changed,
+        )
+    }
 }

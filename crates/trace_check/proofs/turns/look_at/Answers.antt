@@ -16,14 +16,6 @@ none-of None false h = cc
 none-of (Some act) true h = cc
 none-of (Some act) false h = refl
 
-pub loop-cpu-preserved : goal.loop-cpu-preserved
-unfolding has_none
-loop-cpu-preserved c = λ past step at looked.
-    let g = group_of c.args.afresh.now in
-    let d : CpuNo = record { 0 = 0 } in
-    let cpu : CpuNo = get_or c.args.cpus.now c.loop-cpu.cpu-index d in
-    let before = c.loop-cpu.invariant past step at looked in
-    let told : c.is_none-is_none.result ≡ has_none g cpu.0 (after g step past) = none-of c.next_of.result c.is_none-is_none.result c.is_none-is_none.ensures ∙ ap {A = Option Act} (λ o. is_none o) (c.next_of.ensures (after g step past) at) in
-    let more : cpu_numbers (take (c.loop-cpu.cpu-index + 1) c.args.cpus.now) ≡ cpu_numbers (take c.loop-cpu.cpu-index c.args.cpus.now) ++ cpu.0 ∷ [] =
-    ap cpu_numbers (take_more c.args.cpus.now c.loop-cpu.cpu-index d c.loop-cpu-test.true) ∙ map-append (λ (q : CpuNo). q.0) (take c.loop-cpu.cpu-index c.args.cpus.now) (cpu ∷ []) in
-    subst (λ (qs : List ℕ). AreLooked g past step qs c.look.new.self) (sym more) (c.look.ensures g past step (cpu_numbers (take c.loop-cpu.cpu-index c.args.cpus.now)) before told)
+-- one more processor was looked at
+more-looked : (cpus : List CpuNo) (i : ℕ) (d : CpuNo) → i < length cpus → cpu_numbers (take (i + 1) cpus) ≡ cpu_numbers (take i cpus) ++ (get_or cpus i d).0 ∷ []
+more-looked cpus i d low = ap cpu_numbers (take_more cpus i d low) ∙ map-append (λ (q : CpuNo). q.0) (take i cpus) (get_or cpus i d ∷ [])

@@ -1,0 +1,1 @@
+use Rattle.trace_check.proofs.links.GroupLinks.follow.Goals as goal
