@@ -9,13 +9,13 @@ ghost use Rattle.trace_read.specs.declared.fault.TraceFault.TheVariants as fault
 ghost use Rattle.trace_read.specs.Reads.{AreLines, HasHead, HasRead, IsRefused, LacksFirstLine, stop_at};
 ghost use Rattle.trace_read.specs.Seen.{BeginsNoLine, BeginsLine, IsSplitAtFeed, ReadsBack, Tells};
 
+use crate::canonical_set::read_line_set;
 use crate::fits::line_fits;
 use crate::known::Known;
 use crate::parse::line_in;
 use crate::put::put_line;
 use crate::{Line, LineList, Trace, TraceFault};
 use rt_task::Setup;
-use set_read::read_set;
 use std::alloc::{AllocError, Global};
 use std::str;
 use trace_lines::{Version, first_line};
@@ -34,7 +34,7 @@ fn split_line(bytes: &[u8]) -> Option<(&[u8], &[u8])>
 }
 
 /// What stands after these first bytes.
-fn after<'a>(first: &[u8], bytes: &'a [u8]) -> Option<&'a [u8]>
+pub(crate) fn after<'a>(first: &[u8], bytes: &'a [u8]) -> Option<&'a [u8]>
     ensures { MatchOption result ((rest : List ℕ)
         → bytes.now ≢ first.now ++ rest) (λ x. bytes.now ≡ first.now ++ x.now) }
 {
@@ -171,7 +171,7 @@ pub fn read_trace(alloc: Global, bytes: &[u8]) -> Result<Trace, TraceFault>
     ensures { HasRead bytes.now result }
 {
     let (version, set, rest) = read_head(bytes)?;
-    let setup = read_set(alloc, set)?;
+    let setup = read_line_set(alloc, set)?;
     let (lines, left) = read_lines_of(alloc, version, &setup, rest)?;
     let stop = stop_after(lines.as_slice(), left)?;
     Ok(Trace {
