@@ -20,11 +20,7 @@ const STEPS_BEGIN: &[u8] = b",\"steps\":[";
 const STEPS_END: &[u8] = b"],\"tasks\":[";
 
 /// What stands before this place, and what stands after these bytes there.
-fn split_at_place<'a>(
-    part: &[u8],
-    bytes: &'a [u8],
-    place: usize,
-) -> Option<(&'a [u8], &'a [u8])>
+fn split_at_place<'a>(part: &[u8], bytes: &'a [u8], place: usize) -> Option<(&'a [u8], &'a [u8])>
     requires { place < length bytes.now }
     ensures { IfSome result (λ x. bytes.now ≡ x.0.now ++ (part.now ++ x.1.now)) }
 {
