@@ -1,5 +1,5 @@
 -- Words come back out of a line, and numbers out of words.
-use Rattle.std.proofs.Common.{◌≡◌, ◌≢◌, ℕ, ◌+◌, ◌-◌, ◌*◌, ◌/◌, ◌%◌, ◌<◌, ◌≤◌, ◌^◌, ◌==◌, suc, Bool, true, false, not, ◌&&◌, List, [], ◌∷◌, ◌++◌, get_or, take, drop, All, Option, Some, None, decimal, refl, ap, ◌∙◌, arith, eq-eqb, length, sym}
+use Rattle.std.proofs.Common.{◌≡◌, ℕ, ◌+◌, ◌-◌, ◌*◌, ◌/◌, ◌%◌, ◌<◌, ◌≤◌, ◌^◌, ◌==◌, suc, Bool, true, false, not, ◌&&◌, List, [], ◌∷◌, ◌++◌, take, drop, All, Option, Some, None, decimal, refl, ap, ◌∙◌, arith, eq-eqb, length, sym}
 use Rattle.std.specs.Prelude.{bytes_eq, nat_lt, option_map, if◌then◌else◌}
 use Rattle.std.specs.Char.{is_ascii_digit}
 use Rattle.std.specs.List.{list_all}
@@ -81,12 +81,6 @@ cut-first c [] rest h = rw (eq-eqb c c refl) refl
 cut-first c (x ∷ xs) rest h =
     let parts = and_parts (not (x == c)) (is_free c xs) h in
     rw (not-true (x == c) parts.0, cut-first c xs rest parts.1) refl
-
-pub free_from-reads : (c : ℕ) (w : Word) → ((i : ℕ) → i < length w → get_or w i 0 ≢ c) → is_free c w ≡ true
-free_from-reads c [] h = refl
-free_from-reads c (x ∷ xs) h =
-    let first : (x == c) ≡ false = (let here : x ≢ c = h 0 (omega arith) in grind (arith, nat_tests)) in
-    rw (first, free_from-reads c xs (λ i l. h (suc i) (omega arith))) refl
 
 pub cut-join : (w : Word) (ws : List Word) → is_plain w ≡ true → cut 32 (join 32 (w ∷ ws)) ≡ (w, join 32 ws)
 cut-join w [] h = cut-free 32 w (plain-free 32 w (omega arith) h)
@@ -322,13 +316,13 @@ number_from_front n (c ∷ cs) = step (c == 10) refl (c == 32) refl (is_ascii_di
     step true e b f d g k = ap (number_from n) (front-feed c cs e) ∙ sym (ap (λ (o : Option (ℕ × List ℕ)). o >>= λ p. number_end p.0 p.1) (digits-end c cs (feed_is c e)) ∙ rw (number_end, e) refl)
     step false e true f d g k =
         ap (number_from n) (front-cons c cs e) ∙ ap (λ (p : List ℕ × List ℕ). option_map (λ m. (m, p.1)) (number_after n p.0)) (cut-here 32 c (front cs) f)
-            ∙ sym (ap (λ (o : Option (ℕ × List ℕ)). o >>= λ p. number_end p.0 p.1) (digits-end c cs (space_is c f)) ∙ rw (number_end, e, f) refl)
+        ∙ sym (ap (λ (o : Option (ℕ × List ℕ)). o >>= λ p. number_end p.0 p.1) (digits-end c cs (space_is c f)) ∙ rw (number_end, e, f) refl)
     step false e false f true g k =
         ap (number_from n) (front-cons c cs e) ∙ ap (λ (p : List ℕ × List ℕ). option_map (λ m. (m, p.1)) (number_after n p.0)) (cut-later 32 c (front cs) f) ∙ more (next_digit n c) k
-            ∙ sym (ap (λ (o : Option (ℕ × List ℕ)). o >>= λ p. number_end p.0 p.1) (digits-more c cs g))
+        ∙ sym (ap (λ (o : Option (ℕ × List ℕ)). o >>= λ p. number_end p.0 p.1) (digits-more c cs g))
     step false e false f false g k =
         ap (number_from n) (front-cons c cs e) ∙ ap (λ (p : List ℕ × List ℕ). option_map (λ m. (m, p.1)) (number_after n p.0)) (cut-later 32 c (front cs) f) ∙ ap (λ (o : Option ℕ). option_map (λ m. (m, (cut 32 (front cs)).1)) (o >>= λ m. number_after m (cut 32 (front cs)).0)) (no_digit n c g)
-            ∙ sym (ap (λ (o : Option (ℕ × List ℕ)). o >>= λ p. number_end p.0 p.1) (digits-end c cs g) ∙ rw (number_end, e, f) refl)
+        ∙ sym (ap (λ (o : Option (ℕ × List ℕ)). o >>= λ p. number_end p.0 p.1) (digits-end c cs g) ∙ rw (number_end, e, f) refl)
 
 pub number_at_front : (text : List ℕ) → number_at (front text) ≡ (digits_after 0 text >>= λ p. number_end p.0 p.1)
 number_at_front text = number_from_front 0 text

@@ -25,7 +25,11 @@ fn link_in(k: &Known, word: &[u8]) -> Option<CpuLink>
 }
 
 /// A link for each word, or none where one says no link.
-pub(crate) fn links_in(alloc: Global, k: &Known, text: &[u8]) -> Result<Option<LinkList>, AllocError>
+pub(crate) fn links_in(
+    alloc: Global,
+    k: &Known,
+    text: &[u8],
+) -> Result<Option<LinkList>, AllocError>
     ensures { IfOk result (λ o. option_map links_of o
         ≡ reading.links_in k.now (reading.front text.now)) }
 {

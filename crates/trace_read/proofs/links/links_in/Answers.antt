@@ -20,5 +20,5 @@ pub loop-rest-preserved : goal.loop-rest-preserved
 loop-rest-preserved c =
     let filled : 0 < length (reading.front c.loop-rest.rest.now) = search rules in
     let longer : links_of c.push.new.self.items ≡ links_of c.loop-rest.links.items ++ link_of c.in-Some.link ∷ [] = ap links_of c.in_ok-push.ensures.items ∙ map-append link_of c.loop-rest.links.items (c.in-Some.link ∷ []) in
-      each_in-more (reading.link_in c.args.k.now) (reading.front c.loop-rest.rest.now) c.word_at.result.0.now (reading.front c.word_at.result.1.now) (links_of c.loop-rest.links.items) (links_of c.push.new.self.items) (link_of c.in-Some.link) filled c.word_at.ensures c.in-Some.ensures longer
-          ∙ c.loop-rest.invariant
+    each_in-more (reading.link_in c.args.k.now) (reading.front c.loop-rest.rest.now) c.word_at.result.0.now (reading.front c.word_at.result.1.now) (links_of c.loop-rest.links.items) (links_of c.push.new.self.items) (link_of c.in-Some.link) filled c.word_at.ensures c.in-Some.ensures longer
+    ∙ c.loop-rest.invariant

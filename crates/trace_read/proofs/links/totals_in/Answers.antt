@@ -17,5 +17,5 @@ loop-rest-smaller c =
 pub loop-rest-preserved : goal.loop-rest-preserved
 loop-rest-preserved c =
     let filled : 0 < length (reading.front c.loop-rest.rest.now) = search rules in
-      each_in-more reading.number_in (reading.front c.loop-rest.rest.now) c.word_at.result.0.now (reading.front c.word_at.result.1.now) c.loop-rest.totals.items c.push.new.self.items c.in-Some.total filled c.word_at.ensures c.in-Some.ensures c.in_ok-push.ensures.items
-          ∙ c.loop-rest.invariant
+    each_in-more reading.number_in (reading.front c.loop-rest.rest.now) c.word_at.result.0.now (reading.front c.word_at.result.1.now) c.loop-rest.totals.items c.push.new.self.items c.in-Some.total filled c.word_at.ensures c.in-Some.ensures c.in_ok-push.ensures.items
+    ∙ c.loop-rest.invariant
