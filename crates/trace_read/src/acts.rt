@@ -10,7 +10,7 @@ use rt_base::SemNo;
 use rt_task::{Act, Op};
 
 /// An act that is one word.
-fn bare_act(word: &[u8]) -> Option<Act>
+pub(crate) fn bare_act(word: &[u8]) -> Option<Act>
     ensures { result ≡ word_in reading.bare_acts word.now }
 {
     match word {

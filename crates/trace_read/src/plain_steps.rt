@@ -4,8 +4,8 @@
 //! found counts only where the canonical text of the set that it makes is the text that was read.
 ghost use Rattle.std.specs.Prelude.{◌≡◌, ◌+◌, ◌<◌, ◌≤◌, ◌^◌, IfSome, length, map, vec_len};
 ghost use Rattle.set_read.specs.Document as document;
-ghost use Rattle.set_read.specs.Forms.{word_in};
 
+use crate::acts::bare_act;
 use rt_base::{SemNo, TaskNo};
 use rt_task::{Act, Draft, DraftStep, DraftSteps, DraftTask, Op, Sem};
 use set_read::Names;
@@ -103,21 +103,6 @@ fn number_of(names: &Names, name: &[u8]) -> Option<u32>
 {
     let name = str::from_utf8(name).ok()?;
     Some(names.number(name))
-}
-
-/// An act that is a word alone.
-fn bare_act(word: &[u8]) -> Option<Act>
-    ensures { result ≡ word_in document.bare_acts word.now }
-{
-    match word {
-        b"tick" => Some(Act::Tick),
-        b"irq" => Some(Act::Irq),
-        b"work" => Some(Act::Do(Op::Work)),
-        b"npon" => Some(Act::Do(Op::NpOn)),
-        b"npoff" => Some(Act::Do(Op::NpOff)),
-        b"end" => Some(Act::Do(Op::End)),
-        _ => None,
-    }
 }
 
 /// An act that is a word and a name.
