@@ -140,7 +140,7 @@ word_within (x ∷ xs) = step (x == 32) (x == 10) (word_within xs)
 space-no_feed : (x : ℕ) → x == 32 ≡ true → x == 10 ≡ false
 space-no_feed x h = grind (arith, nat_tests)
 
-front-cons : (x : ℕ) (xs : List ℕ) → x == 10 ≡ false → front (x ∷ xs) ≡ x ∷ front xs
+pub front-cons : (x : ℕ) (xs : List ℕ) → x == 10 ≡ false → front (x ∷ xs) ≡ x ∷ front xs
 front-cons x xs e = rw (front, e) refl
 
 front-feed : (x : ℕ) (xs : List ℕ) → x == 10 ≡ true → front (x ∷ xs) ≡ []
@@ -149,7 +149,7 @@ front-feed x xs e = rw (front, e) refl
 cut-here : (c x : ℕ) (xs : List ℕ) → x == c ≡ true → cut c (x ∷ xs) ≡ ([], xs)
 cut-here c x xs e = rw (cut, e) refl
 
-cut-later : (c x : ℕ) (xs : List ℕ) → x == c ≡ false → cut c (x ∷ xs) ≡ (x ∷ (cut c xs).0, (cut c xs).1)
+pub cut-later : (c x : ℕ) (xs : List ℕ) → x == c ≡ false → cut c (x ∷ xs) ≡ (x ∷ (cut c xs).0, (cut c xs).1)
 cut-later c x xs e = rw (cut, e) refl
 
 ends-at_space : (x : ℕ) (xs : List ℕ) → x == 32 ≡ true → word_length (x ∷ xs) ≡ 0

@@ -1,6 +1,6 @@
 -- What the reader makes of the text of a line before it is checked. What is promised of a trace
 -- cites none of this: the laws say that each line of the grammar is given back.
-use Rattle.std.specs.Prelude.{ℕ, suc, ◌+◌, ◌-◌, ◌*◌, ◌^◌, ◌==◌, nat_lt, List, [], ◌∷◌, Option, None, Some, option_map, if◌then◌else◌, bytes_eq, codes}
+use Rattle.std.specs.Prelude.{ℕ, suc, Bool, false, ◌+◌, ◌-◌, ◌*◌, ◌^◌, ◌==◌, nat_lt, List, [], ◌∷◌, Option, None, Some, option_map, if◌then◌else◌, bytes_eq, codes}
 use Rattle.std.specs.Char.{is_ascii_digit}
 use Rattle.rt_task.specs.declared.Op.TheVariants as ops
 use Rattle.rt_task.specs.declared.Act.{Act}
@@ -90,6 +90,10 @@ number_at text = option_map (λ n. (n, (cut 32 text).1)) (number_in (cut 32 text
 
 abbrev pub small_at : List ℕ → Read ℕ
 small_at text = option_map (λ n. (n, (cut 32 text).1)) (small_in (cut 32 text).0)
+
+abbrev pub begins_with_digit : List ℕ → Bool
+begins_with_digit [] = false
+begins_with_digit (c ∷ cs) = is_ascii_digit c
 
 -- the number that the digits at the beginning say, after the number so far, and what stands after them
 abbrev pub digits_after : ℕ → List ℕ → Read ℕ

@@ -10,7 +10,7 @@ use crate::known::Known;
 use crate::links::{links_in, totals_in};
 use crate::replies::reply_at;
 use crate::tasks::task_at;
-use crate::words::{cut, is_word, number_at, small_at, small_or_dash, word_at};
+use crate::words::{begins_with_digit, cut, is_word, number_at, small_at, small_or_dash, word_at};
 use rt_base::{CpuNo, GroupNo, SemNo, Tick};
 use rt_history::Entry;
 use rt_task::Step;
@@ -113,10 +113,9 @@ fn count_line_in(alloc: Global, text: &[u8]) -> Result<Option<Line>, AllocError>
     Ok(Some(Line::CountLine { name, totals }))
 }
 
-/// The line that a text begins with, before it is checked: each line of the grammar is read, and one that is none of its
-/// may be too.
+/// A line that begins with a word.
 #[tactic(auto, unfolding(crate::specs::Reading::line_in))]
-pub(crate) fn line_in(alloc: Global, k: &Known, text: &[u8]) -> Result<Option<Line>, AllocError>
+fn worded_line_in(alloc: Global, k: &Known, text: &[u8]) -> Result<Option<Line>, AllocError>
     ensures { IfOk result (λ o. option_map line_of o
         ≡ reading.line_in k.now (reading.front text.now)) }
 {
@@ -128,4 +127,17 @@ pub(crate) fn line_in(alloc: Global, k: &Known, text: &[u8]) -> Result<Option<Li
         w if is_word(w, b"count") => count_line_in(alloc, rest),
         _ => entry_line_in(alloc, k, text),
     }
+}
+
+/// The line that a text begins with, before it is checked: each line of the grammar is read, and one that is none of its
+/// may be too.
+#[tactic(auto, using(crate::proofs::EntryLaws::entry_by_digit))]
+pub(crate) fn line_in(alloc: Global, k: &Known, text: &[u8]) -> Result<Option<Line>, AllocError>
+    ensures { IfOk result (λ o. option_map line_of o
+        ≡ reading.line_in k.now (reading.front text.now)) }
+{
+    if begins_with_digit(text) {
+        return entry_line_in(alloc, k, text);
+    }
+    worded_line_in(alloc, k, text)
 }

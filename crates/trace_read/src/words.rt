@@ -77,6 +77,15 @@ pub(crate) fn word_at(text: &[u8]) -> (&[u8], &[u8])
     (word, after_word(rest))
 }
 
+pub(crate) fn begins_with_digit(text: &[u8]) -> bool
+    ensures { result ≡ reading.begins_with_digit text.now }
+{
+    match text {
+        [first, ..] => first.is_ascii_digit(),
+        [] => false,
+    }
+}
+
 /// The number with one more digit.
 fn next_digit(n: u64, digit: u8) -> Option<u64>
     ensures { result ≡ reading.next_digit n digit }
