@@ -1,4 +1,4 @@
-use Rattle.std.proofs.Common.{◌≡◌, ◌<◌, ℕ, zero, suc, min, Bool, true, false, List, [], ◌∷◌, length, get_or, take, inl, refl, sym, ap, ◌∙◌, subst, arith, rules}
+use Rattle.std.proofs.Common.{◌≡◌, ◌<◌, ℕ, min, true, List, length, take, inl, refl, sym, ap, ◌∙◌, subst, arith, rules}
 use Rattle.std.specs.Prelude.{Option}
 use Rattle.std.proofs.lemmas.List.{length-map, with_items_is}
 use Rattle.rt_base.specs.TaskNos.{number_of_task, numbers, numbers_of_tasks}

@@ -1,4 +1,4 @@
-use Rattle.std.proofs.Common.{◌≡◌, ℕ, Bool, List, sym, ap, ◌∙◌}
+use Rattle.std.proofs.Common.{ℕ, Bool, List, sym, ap, ◌∙◌}
 use Rattle.std.specs.Prelude.{Option}
 use Rattle.rt_order.specs.declared.Key.{Key}
 use Rattle.rt_rules.specs.Keys.{Ranked}
