@@ -1,4 +1,4 @@
-use Rattle.std.proofs.Common.{◌≡◌, ◌<◌, ℕ, zero, suc, min, Bool, true, false, List, [], ◌∷◌, length, get_or, take, inl, refl, sym, ap, ◌∙◌, subst, arith, rules}
+use Rattle.std.proofs.Common.{◌≡◌, ◌<◌, ℕ, min, true, List, length, take, inl, refl, sym, ap, ◌∙◌, subst, arith, rules}
 use Rattle.std.specs.Prelude.{Option}
 use Rattle.std.proofs.lemmas.List.{length-map, with_items_is}
 use Rattle.rt_base.specs.TaskNos.{number_of_task, numbers, numbers_of_tasks}
@@ -13,7 +13,7 @@ use Rattle.rank_afresh.specs.declared.ranks.Candidate.{Candidate}
 use Rattle.rank_afresh.specs.Candidates.{ranked_all}
 use Rattle.rank_afresh.specs.Clusters.{runs_in}
 use Rattle.rank_afresh.proofs.Firsts.{tasks-least}
-use Rattle.rank_afresh.proofs.SetLists.{length-runs_in}
+use Rattle.rank_afresh.proofs.SetLists.{length-runs_in, marked-inside}
 use Rattle.rank_afresh.proofs.cluster.RankedCluster.follow.Goals as goal
 use Rattle.rank_afresh.proofs.cluster.RankedCluster.follow.Goals.{After-write_tasks}
 
@@ -34,12 +34,6 @@ pub place-requires-clause-distinct : goal.place-requires-clause-distinct
 place-requires-clause-distinct c =
     let top = top_is (goal.at.place-requires-clause-distinct c).After-write_tasks in
     subst IsDistinct (sym (ap numbers c.as_slice-4.ensures.value ∙ top)) (distinct-take c.len-cpus.result (tasks_of (ranked_all c.self.inside.ranked.items)) c.self.invariant.4.once)
-
--- a mark stands within the marks
-marked-inside : (marks : List Bool) (t : ℕ) → get_or marks t false ≡ true → t < length marks
-marked-inside [] t h = cc
-marked-inside (m ∷ ms) zero h = omega arith
-marked-inside (m ∷ ms) (suc t) h = let inside : t < length ms = marked-inside ms t h in omega (arith, inside)
 
 pub place-requires-clause-room : goal.place-requires-clause-room
 place-requires-clause-room c = λ t h.
