@@ -44,11 +44,11 @@ place-requires-clause-room c = λ t h.
     let inside : t < length c.self.inside.own.items = marked-inside c.self.inside.own.items t (c.self.invariant.1 t ∙ own) in
     omega (arith, inside, c.self.invariant.2, c.as_mut_slice-2.ensures.len, c.self.inside.in_top.ok.0)
 
-pub returns : goal.returns
-returns c =
+pub returns-clause-followed : goal.returns-clause-followed
+returns-clause-followed c =
     let k : Kept = c.args.core.now.facts.kept in
     let links : List (Option ℕ) = numbers_of_tasks c.self.inside.links.items in
-    let top = top_is (goal.at.returns c).After-write_tasks in
+    let top = top_is (goal.at.returns-clause-followed c).After-write_tasks in
     let same : length c.place.new.links ≡ length c.self.inside.links.items = search rules in
     let items_are = with_items_is c.self.inside.links c.place.new.links (same ∙ sym c.self.inside.links.ok.0) in
     let count : c.len-cpus.result ≡ length links = omega (arith, c.len-cpus.ensures, c.self.inside.links.ok.0, length-map c.self.inside.links.items number_of_task) in
