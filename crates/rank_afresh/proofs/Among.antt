@@ -1,7 +1,8 @@
 -- Ranked tasks that are of a list, each once, as one is taken out or put in.
 use Rattle.std.proofs.Common.{◌≡◌, ℕ, suc, ◌<◌, ◌≤◌, Bool, true, false, cond, List, [], ◌∷◌, length, inl, inr, refl, sym, ap, ◌∙◌, arith, eqb-true}
-use Rattle.std.specs.Prelude.{◌==◌, ◌||◌}
+use Rattle.std.specs.Prelude.{◌==◌, ◌||◌, Option, None, Some}
 use Rattle.std.proofs.lemmas.List.{length-map}
+use Rattle.rt_order.specs.declared.Key.{Key}
 use Rattle.rt_rules.specs.Distinct.{IsDistinct}
 use Rattle.rt_rules.specs.Keys.{Ranked, inserted}
 use Rattle.rt_rules.specs.Numbers.{has}
@@ -12,6 +13,7 @@ use Rattle.rt_rules.proofs.MemberLaws.{equal_self}
 use Rattle.rt_rules.proofs.RankedLaws.{distinct-inserted, has-inserted}
 use Rattle.ready_queue.proofs.OrderedLaws.{in_order-inserted, in_order-without}
 use Rattle.ready_queue.proofs.SplitLaws.{has-without}
+use Rattle.rank_afresh.specs.Candidates.{with_key}
 use Rattle.rank_afresh.specs.Ranks.{AreAmong}
 
 still-there : (t u : ℕ) (rs : List Ranked) → IsDistinct (tasks_of rs) → has u (tasks_of (without_task t rs)) ≡ true → has u (tasks_of rs) ≡ true
@@ -65,3 +67,7 @@ module _ (ts : List ℕ) (t : ℕ) (rs : List Ranked) (are : AreAmong ts rs) whe
           [ inl e ↦ rw (eqb-true u a.task e, is) there | inr k ↦ among-without.inside u k ];
       order = in_order-inserted a (without_task t rs) among-without.order;
     }
+
+    pub among-with : (o : Option Key) → AreAmong ts (with_key t o (without_task t rs))
+    among-with None = among-without
+    among-with (Some k) = among-inserted (record { key = k; task = t }) refl

@@ -1,12 +1,13 @@
 -- In a valid set each task has a name by the rules, and is found again by it.
 use Rattle.std.proofs.Common.{◌≡◌, ℕ, ◌+◌, ◌-◌, ◌<◌, ◌≤◌, ◌^◌, ◌==◌, Bool, true, false, List, [], ◌∷◌, ◌++◌, All, map, length, get_or, None, refl, ap, sym, subst, ◌∙◌, arith}
 use Rattle.std.specs.Str.{IsUtf8}
-use Rattle.std.specs.Prelude.{nat_le}
+use Rattle.std.specs.Prelude.{bytes_eq, nat_le}
 use Rattle.std.proofs.lemmas.Bool.{and_parts, leb-true}
 use Rattle.std.proofs.lemmas.Bool.Decides.{nat_tests}
 use Rattle.std.proofs.lemmas.List.{length-map}
 use Rattle.std.proofs.lemmas.List.Elements.{All-nil, All-cons, All-head, All-tail}
 use Rattle.std.proofs.lemmas.Option.{unwrap_or-slice_get}
+use Rattle.std.proofs.lemmas.Slice.Eq.{bytes_eq-Decides}
 use Rattle.std.proofs.lemmas.Str.{IsUtf8-from_ascii}
 use Rattle.std.proofs.lemmas.Str.Ascii.{IsAscii-from_all}
 use Rattle.rt_base.specs.declared.TheConstants.{MOST_TASKS}
@@ -19,6 +20,7 @@ use Rattle.rt_task.specs.Refusals.{first_failing}
 use Rattle.rt_task.specs.RuleWords.{is_known, is_name}
 use Rattle.rt_task.specs.SizeRules.{whole_size}
 use Rattle.rt_task.specs.Validity.{IsValid, refusal_of}
+use Rattle.set_read.specs.Document.{position_from}
 use Rattle.set_laws.proofs.KnownLaws.{has_fresh, names_task}
 use Rattle.set_laws.proofs.Passing.{passed, rows}
 use Rattle.set_laws.proofs.PositionLaws.{known_position, map-map}
@@ -75,6 +77,20 @@ texts-of : (ts : List Task) → All IsNamed (task_names ts) → AreTexts ts
 texts-of [] h = All-nil (λ (t : Task). IsUtf8 t.name)
 texts-of (t ∷ ts) h =
     All-cons (λ (x : Task). IsUtf8 x.name) t ts (name-text t.name (All-head IsNamed t.name (task_names ts) h)) (texts-of ts (All-tail IsNamed t.name (task_names ts) h))
+
+differs : (v w : Word) → IsUtf8 v → (IsUtf8 w → ⊥) → bytes_eq v w ≡ false
+differs v w text unlike = step (bytes_eq v w) refl
+  where
+    step : (b : Bool) → bytes_eq v w ≡ b → b ≡ false
+    step true e = absurd (unlike (subst IsUtf8 ((bytes_eq-Decides v w).0 e) text))
+    step false e = refl
+
+-- what is no text is no task's name
+pub not_found : (n : ℕ) (ts : List Task) (w : Word) → AreTexts ts → (IsUtf8 w → ⊥) → position_from n (task_names ts) w ≡ 0
+not_found n [] w h unlike = refl
+not_found n (t ∷ ts) w h unlike =
+    let other : bytes_eq t.name w ≡ false = differs t.name w (All-head (λ (x : Task). IsUtf8 x.name) t ts h) unlike in
+    rw other (not_found (n + 1) ts w (All-tail (λ (x : Task). IsUtf8 x.name) t ts h) unlike)
 
 -- each name is text
 pub are_texts : (p : Parts) → IsValid p → AreTexts p.tasks

@@ -1,19 +1,17 @@
 -- Words come back out of a line, and numbers out of words.
-use Rattle.std.proofs.Common.{◌≡◌, ◌≢◌, ℕ, ◌+◌, ◌-◌, ◌*◌, ◌/◌, ◌%◌, ◌<◌, ◌≤◌, ◌^◌, ◌==◌, suc, Bool, true, false, not, ◌&&◌, List, [], ◌∷◌, ◌++◌, get_or, All, Option, Some, None, decimal, refl, ap, ◌∙◌, arith, eq-eqb, length}
-use Rattle.std.specs.Prelude.{bytes_eq, nat_lt, if◌then◌else◌}
+use Rattle.std.proofs.Common.{◌≡◌, ℕ, ◌+◌, ◌-◌, ◌*◌, ◌/◌, ◌%◌, ◌<◌, ◌≤◌, ◌^◌, ◌==◌, suc, Bool, true, false, not, ◌&&◌, List, [], ◌∷◌, ◌++◌, take, drop, All, Option, Some, None, decimal, refl, ap, ◌∙◌, arith, eq-eqb, length, sym}
+use Rattle.std.specs.Prelude.{bytes_eq, nat_lt, option_map, if◌then◌else◌}
 use Rattle.std.specs.Char.{is_ascii_digit}
 use Rattle.std.specs.List.{list_all}
-use Rattle.std.specs.Option.{MatchOption}
-use denote.Ref.{Bor}
-use Rattle.std.proofs.lemmas.Str.Pattern.{IsSplitOnceResult, split_parts}
 use Rattle.std.proofs.lemmas.Bool.{and_parts}
 use Rattle.std.proofs.lemmas.Bool.Decides.{nat_tests}
+use Rattle.std.proofs.lemmas.List.{take_all, length-drop}
 use Rattle.std.proofs.lemmas.List.Elements.{All-nil, All-cons}
 use Rattle.std.proofs.lemmas.List.Folds.{list_all-append}
 use Rattle.std.proofs.lemmas.Fmt.{decimal_by_steps}
 use Rattle.set_read.specs.Forms.{◌>>=◌}
 use Rattle.trace_lines.specs.Words.{Word, join}
-use Rattle.trace_read.specs.Reading.{cut, longer_first, pieces, when_64, next_digit, number_after, number_in, when_32, small_in, number_at, small_at}
+use Rattle.trace_read.specs.Reading.{cut, front, longer_first, pieces, cut_length, word_length, after_word, when_64, next_digit, number_after, number_in, when_32, small_in, number_at, small_at, digits_after, number_end}
 
 not-true : (b : Bool) → not b ≡ true → b ≡ false
 not-true true h = cc
@@ -84,25 +82,6 @@ cut-first c (x ∷ xs) rest h =
     let parts = and_parts (not (x == c)) (is_free c xs) h in
     rw (not-true (x == c) parts.0, cut-first c xs rest parts.1) refl
 
-pub free_from-reads : (c : ℕ) (w : Word) → ((i : ℕ) → i < length w → get_or w i 0 ≢ c) → is_free c w ≡ true
-free_from-reads c [] h = refl
-free_from-reads c (x ∷ xs) h =
-    let first : (x == c) ≡ false = (let here : x ≢ c = h 0 (omega arith) in grind (arith, nat_tests)) in
-    rw (first, free_from-reads c xs (λ i l. h (suc i) (omega arith))) refl
-
--- what a text is cut into, from what its parts are
-pub cut-parts : (c : ℕ) (text w rest : List ℕ) → text ≡ w ++ c ∷ rest → ((i : ℕ) → i < length w → get_or w i 0 ≢ c) → cut c text ≡ (w, rest)
-cut-parts c text w rest e h = ap (cut c) e ∙ cut-first c w rest (free_from-reads c w h)
-
-pub cut-whole : (c : ℕ) (text : List ℕ) → ((i : ℕ) → i < length text → get_or text i 0 ≢ c) → cut c text ≡ (text, [])
-cut-whole c text h = cut-free c text (free_from-reads c text h)
-
--- what `split_once` gives is the cut
-pub cut-split_once : (c : ℕ) (text : List ℕ) (r : Option (Bor (List ℕ) × Bor (List ℕ))) → IsSplitOnceResult c text r → c < 128
-    → MatchOption r (cut c text ≡ (text, [])) (λ x. cut c text ≡ (x.0.now, x.1.now))
-cut-split_once c text None h low = cut-whole c text (split_parts c text None h low)
-cut-split_once c text (Some x) h low = let parts = split_parts c text (Some x) h low in cut-parts c text x.0.now x.1.now parts.0 parts.1
-
 pub cut-join : (w : Word) (ws : List Word) → is_plain w ≡ true → cut 32 (join 32 (w ∷ ws)) ≡ (w, join 32 ws)
 cut-join w [] h = cut-free 32 w (plain-free 32 w (omega arith) h)
 cut-join w (v ∷ ws) h = cut-first 32 w (join 32 (v ∷ ws)) (plain-free 32 w (omega arith) h)
@@ -123,6 +102,91 @@ pieces-cons c x xs = pieces_step c x xs (x == c) (longer-cut c x xs)
 pub pieces-cut : (c : ℕ) (xs : List ℕ) → 0 < length xs → pieces c xs ≡ (cut c xs).0 ∷ pieces c (cut c xs).1
 pieces-cut c [] h = absurd (omega arith)
 pieces-cut c (x ∷ xs) h = pieces-cons c x xs
+
+-- ---- words at the beginning of a line
+
+-- what is cut, by where the byte stands
+pub cut_within : (c : ℕ) (text : List ℕ) → cut_length c text ≤ length text
+cut_within c [] = omega arith
+cut_within c (x ∷ xs) = step (x == c) (cut_within c xs)
+  where
+    step : (b : Bool) → cut_length c xs ≤ length xs → (if b then 0 else suc (cut_length c xs)) ≤ length (x ∷ xs)
+    step true h = omega arith
+    step false h = omega arith
+
+pub cut_at : (c : ℕ) (text : List ℕ) → cut c text ≡ (take (cut_length c text) text, drop 1 (drop (cut_length c text) text))
+cut_at c [] = refl
+cut_at c (x ∷ xs) = step (x == c) (cut_at c xs)
+  where
+    step : (b : Bool) → cut c xs ≡ (take (cut_length c xs) xs, drop 1 (drop (cut_length c xs) xs))
+        → (if◌then◌else◌ {A = List ℕ × List ℕ} b ([], xs) (x ∷ (cut c xs).0, (cut c xs).1)) ≡ (take (if b then 0 else suc (cut_length c xs)) (x ∷ xs), drop 1 (drop (if b then 0 else suc (cut_length c xs)) (x ∷ xs)))
+    step true h = refl
+    step false h = rw h refl
+
+pub cut_parts : (c : ℕ) (text word rest : List ℕ) (n : ℕ) → n ≡ cut_length c text → word ≡ take n text → rest ≡ drop n text → (word, take (length rest - 1) (drop 1 rest)) ≡ cut c text
+cut_parts c text word rest n e w r =
+    let all : take (length rest - 1) (drop 1 rest) ≡ drop 1 rest = take_all (length rest - 1) (drop 1 rest) (omega (arith, length-drop 1 rest)) in
+    rw (all, w, r, e) (sym (cut_at c text))
+
+pub word_within : (text : List ℕ) → word_length text ≤ length text
+word_within [] = omega arith
+word_within (x ∷ xs) = step (x == 32) (x == 10) (word_within xs)
+  where
+    step : (a b : Bool) → word_length xs ≤ length xs → (if a then 0 else (if b then 0 else suc (word_length xs))) ≤ length (x ∷ xs)
+    step true b h = omega arith
+    step false true h = omega arith
+    step false false h = omega arith
+
+space-no_feed : (x : ℕ) → x == 32 ≡ true → x == 10 ≡ false
+space-no_feed x h = grind (arith, nat_tests)
+
+pub front-cons : (x : ℕ) (xs : List ℕ) → x == 10 ≡ false → front (x ∷ xs) ≡ x ∷ front xs
+front-cons x xs e = rw (front, e) refl
+
+front-feed : (x : ℕ) (xs : List ℕ) → x == 10 ≡ true → front (x ∷ xs) ≡ []
+front-feed x xs e = rw (front, e) refl
+
+cut-here : (c x : ℕ) (xs : List ℕ) → x == c ≡ true → cut c (x ∷ xs) ≡ ([], xs)
+cut-here c x xs e = rw (cut, e) refl
+
+pub cut-later : (c x : ℕ) (xs : List ℕ) → x == c ≡ false → cut c (x ∷ xs) ≡ (x ∷ (cut c xs).0, (cut c xs).1)
+cut-later c x xs e = rw (cut, e) refl
+
+ends-at_space : (x : ℕ) (xs : List ℕ) → x == 32 ≡ true → word_length (x ∷ xs) ≡ 0
+ends-at_space x xs e = rw (word_length, e) refl
+
+ends-at_feed : (x : ℕ) (xs : List ℕ) → x == 32 ≡ false → x == 10 ≡ true → word_length (x ∷ xs) ≡ 0
+ends-at_feed x xs e f = rw (word_length, e, f) refl
+
+ends-later : (x : ℕ) (xs : List ℕ) → x == 32 ≡ false → x == 10 ≡ false → word_length (x ∷ xs) ≡ suc (word_length xs)
+ends-later x xs e f = rw (word_length, e, f) refl
+
+after-space : (x : ℕ) (xs : List ℕ) → x == 32 ≡ true → after_word (x ∷ xs) ≡ xs
+after-space x xs e = rw (after_word, e) refl
+
+after-other : (x : ℕ) (xs : List ℕ) → x == 32 ≡ false → after_word (x ∷ xs) ≡ x ∷ xs
+after-other x xs e = rw (after_word, e) refl
+
+-- the first word of a line
+abbrev first_parts : List ℕ → ℕ → List ℕ × List ℕ
+first_parts text n = (take n text, front (after_word (drop n text)))
+
+pub cut_front : (text : List ℕ) → cut 32 (front text) ≡ (take (word_length text) text, front (after_word (drop (word_length text) text)))
+cut_front [] = refl
+cut_front (x ∷ xs) = step (x == 32) refl (x == 10) refl (cut_front xs)
+  where
+    step : (a : Bool) → x == 32 ≡ a → (b : Bool) → x == 10 ≡ b → cut 32 (front xs) ≡ first_parts xs (word_length xs) → cut 32 (front (x ∷ xs)) ≡ first_parts (x ∷ xs) (word_length (x ∷ xs))
+    step true e b f h =
+        let after : first_parts (x ∷ xs) 0 ≡ ([], front xs) = ap (λ (t : List ℕ). ([], front t)) (after-space x xs e) in
+        ap (cut 32) (front-cons x xs (space-no_feed x e)) ∙ cut-here 32 x (front xs) e ∙ sym after ∙ sym (ap (first_parts (x ∷ xs)) (ends-at_space x xs e))
+    step false e true f h =
+        let after : first_parts (x ∷ xs) 0 ≡ ([], []) = ap (λ (t : List ℕ). ([], t)) (ap front (after-other x xs e) ∙ front-feed x xs f) in
+        ap (cut 32) (front-feed x xs f) ∙ sym after ∙ sym (ap (first_parts (x ∷ xs)) (ends-at_feed x xs e f))
+    step false e false f h =
+        ap (cut 32) (front-cons x xs f) ∙ cut-later 32 x (front xs) e ∙ ap (λ (p : List ℕ × List ℕ). (x ∷ p.0, p.1)) h ∙ sym (ap (first_parts (x ∷ xs)) (ends-later x xs e f))
+
+pub word_parts : (text word rest left : List ℕ) (n : ℕ) → n ≡ word_length text → word ≡ take n text → rest ≡ drop n text → left ≡ after_word rest → (word, front left) ≡ cut 32 (front text)
+word_parts text word rest left n e w r l = rw (l, w, r, e) (sym (cut_front text))
 
 -- words that are not empty
 abbrev pub AllFilled : List Word → Type 0
@@ -215,3 +279,50 @@ small_at-join n ws h =
     let first = cut-join (decimal n) ws (decimal-plain n (omega arith)) in
     let number = small_in-decimal n h in
     rw (first, number) refl
+
+-- ---- a number at the beginning of a line
+
+feed_is : (c : ℕ) → c == 10 ≡ true → is_ascii_digit c ≡ false
+feed_is c h = grind (arith, nat_tests)
+
+space_is : (c : ℕ) → c == 32 ≡ true → is_ascii_digit c ≡ false
+space_is c h = grind (arith, nat_tests)
+
+no_digit : (n c : ℕ) → is_ascii_digit c ≡ false → next_digit n c ≡ None
+no_digit n c e = rw (next_digit, e) refl
+
+-- after the number so far
+abbrev number_from : ℕ → List ℕ → Option (ℕ × List ℕ)
+number_from n text = option_map (λ m. (m, (cut 32 text).1)) (number_after n (cut 32 text).0)
+
+number_from_front : (n : ℕ) (text : List ℕ) → number_from n (front text) ≡ (digits_after n text >>= λ p. number_end p.0 p.1)
+number_from_front n [] = refl
+number_from_front n (c ∷ cs) = step (c == 10) refl (c == 32) refl (is_ascii_digit c) refl (λ m. number_from_front m cs)
+  where
+    Known : Type 0
+    Known = (m : ℕ) → number_from m (front cs) ≡ (digits_after m cs >>= λ p. number_end p.0 p.1)
+
+    more : (o : Option ℕ) → Known → option_map (λ m. (m, (cut 32 (front cs)).1)) (o >>= λ m. number_after m (cut 32 (front cs)).0) ≡ ((o >>= λ m. digits_after m cs) >>= λ p. number_end p.0 p.1)
+    more None k = refl
+    more (Some m) k = k m
+
+    digits-end : (c : ℕ) (cs : List ℕ) → is_ascii_digit c ≡ false → digits_after n (c ∷ cs) ≡ Some (n, c ∷ cs)
+    digits-end c cs e = rw (digits_after, e) refl
+
+    digits-more : (c : ℕ) (cs : List ℕ) → is_ascii_digit c ≡ true → digits_after n (c ∷ cs) ≡ (next_digit n c >>= λ m. digits_after m cs)
+    digits-more c cs e = rw (digits_after, e) refl
+
+    step : (a : Bool) → c == 10 ≡ a → (b : Bool) → c == 32 ≡ b → (d : Bool) → is_ascii_digit c ≡ d → Known → number_from n (front (c ∷ cs)) ≡ (digits_after n (c ∷ cs) >>= λ p. number_end p.0 p.1)
+    step true e b f d g k = ap (number_from n) (front-feed c cs e) ∙ sym (ap (λ (o : Option (ℕ × List ℕ)). o >>= λ p. number_end p.0 p.1) (digits-end c cs (feed_is c e)) ∙ rw (number_end, e) refl)
+    step false e true f d g k =
+        ap (number_from n) (front-cons c cs e) ∙ ap (λ (p : List ℕ × List ℕ). option_map (λ m. (m, p.1)) (number_after n p.0)) (cut-here 32 c (front cs) f)
+        ∙ sym (ap (λ (o : Option (ℕ × List ℕ)). o >>= λ p. number_end p.0 p.1) (digits-end c cs (space_is c f)) ∙ rw (number_end, e, f) refl)
+    step false e false f true g k =
+        ap (number_from n) (front-cons c cs e) ∙ ap (λ (p : List ℕ × List ℕ). option_map (λ m. (m, p.1)) (number_after n p.0)) (cut-later 32 c (front cs) f) ∙ more (next_digit n c) k
+        ∙ sym (ap (λ (o : Option (ℕ × List ℕ)). o >>= λ p. number_end p.0 p.1) (digits-more c cs g))
+    step false e false f false g k =
+        ap (number_from n) (front-cons c cs e) ∙ ap (λ (p : List ℕ × List ℕ). option_map (λ m. (m, p.1)) (number_after n p.0)) (cut-later 32 c (front cs) f) ∙ ap (λ (o : Option ℕ). option_map (λ m. (m, (cut 32 (front cs)).1)) (o >>= λ m. number_after m (cut 32 (front cs)).0)) (no_digit n c g)
+        ∙ sym (ap (λ (o : Option (ℕ × List ℕ)). o >>= λ p. number_end p.0 p.1) (digits-end c cs g) ∙ rw (number_end, e, f) refl)
+
+pub number_at_front : (text : List ℕ) → number_at (front text) ≡ (digits_after 0 text >>= λ p. number_end p.0 p.1)
+number_at_front text = number_from_front 0 text

@@ -1,6 +1,6 @@
 -- What the reader makes of the text of a line before it is checked. What is promised of a trace
 -- cites none of this: the laws say that each line of the grammar is given back.
-use Rattle.std.specs.Prelude.{ℕ, ◌+◌, ◌-◌, ◌*◌, ◌^◌, ◌==◌, nat_lt, List, [], ◌∷◌, Option, None, Some, option_map, if◌then◌else◌, bytes_eq, codes}
+use Rattle.std.specs.Prelude.{ℕ, suc, Bool, false, ◌+◌, ◌-◌, ◌*◌, ◌^◌, ◌==◌, nat_lt, List, [], ◌∷◌, Option, None, Some, option_map, if◌then◌else◌, bytes_eq, codes}
 use Rattle.std.specs.Char.{is_ascii_digit}
 use Rattle.rt_task.specs.declared.Op.TheVariants as ops
 use Rattle.rt_task.specs.declared.Act.{Act}
@@ -23,6 +23,10 @@ abbrev pub cut : ℕ → List ℕ → List ℕ × List ℕ
 cut c [] = ([], [])
 cut c (x ∷ xs) = if x == c then ([], xs) else (x ∷ (cut c xs).0, (cut c xs).1)
 
+-- the line that a text begins with: what stands before its first line feed
+abbrev pub front : List ℕ → List ℕ
+front text = (cut 10 text).0
+
 abbrev pub longer_first : ℕ → List Word → List Word
 longer_first x [] = (x ∷ []) ∷ []
 longer_first x (w ∷ ws) = (x ∷ w) ∷ ws
@@ -36,6 +40,21 @@ pieces c (x ∷ xs) = if x == c then [] ∷ pieces c xs else longer_first x (pie
 abbrev pub each_in : {A : Type 0} → (Word → Option A) → List Word → Option (List A)
 each_in read [] = Some []
 each_in read (w ∷ ws) = read w >>= λ x. option_map (λ xs. x ∷ xs) (each_in read ws)
+
+-- where the first such byte stands
+abbrev pub cut_length : ℕ → List ℕ → ℕ
+cut_length c [] = 0
+cut_length c (x ∷ xs) = if x == c then 0 else suc (cut_length c xs)
+
+-- where the first word of a line ends
+abbrev pub word_length : List ℕ → ℕ
+word_length [] = 0
+word_length (x ∷ xs) = if x == 32 then 0 else (if x == 10 then 0 else suc (word_length xs))
+
+-- what stands after a word: a space is stepped over
+abbrev pub after_word : List ℕ → List ℕ
+after_word [] = []
+after_word (x ∷ xs) = if x == 32 then xs else x ∷ xs
 
 -- ---- numbers
 
@@ -71,6 +90,20 @@ number_at text = option_map (λ n. (n, (cut 32 text).1)) (number_in (cut 32 text
 
 abbrev pub small_at : List ℕ → Read ℕ
 small_at text = option_map (λ n. (n, (cut 32 text).1)) (small_in (cut 32 text).0)
+
+abbrev pub begins_with_digit : List ℕ → Bool
+begins_with_digit [] = false
+begins_with_digit (c ∷ cs) = is_ascii_digit c
+
+-- the number that the digits at the beginning say, after the number so far, and what stands after them
+abbrev pub digits_after : ℕ → List ℕ → Read ℕ
+digits_after n [] = Some (n, [])
+digits_after n (c ∷ cs) = if is_ascii_digit c then (next_digit n c >>= λ m. digits_after m cs) else Some (n, c ∷ cs)
+
+-- a number whose digits end so, and what is left of its line
+abbrev pub number_end : ℕ → List ℕ → Read ℕ
+number_end n [] = Some (n, [])
+number_end n (c ∷ cs) = if c == 10 then Some (n, []) else (if c == 32 then Some (n, front cs) else None)
 
 -- ---- tasks
 

@@ -22,12 +22,14 @@ pub(crate) struct Known<'a> {
 impl<'a> Model for Known<'a> {
     ghost use Rattle.std.specs.Prelude.{◌≡◌};
     ghost use Rattle.trace_lines.specs.Known.{Known, known_in};
+    ghost use Rattle.trace_read.specs.Seen.{AreTexts};
 
     ghost Value = { Known };
 
     ghost view = { λ a. known_in a.format };
 
-    ghost invariant = { λ a. a.names ≡ (known_in a.format).names };
+    ghost invariant = { λ a. (a.names ≡ (known_in a.format).names)
+        × AreTexts a.format.parts.now.tasks };
 }
 
 impl<'a> Known<'a> {
@@ -60,10 +62,14 @@ impl<'a> Known<'a> {
     }
 
     /// The number of the task with this name, and 0 where no task has it.
-    pub(crate) fn number(&self, name: &str) -> u32
+    #[tactic(auto, using(crate::proofs::TellLaws::not_found))]
+    pub(crate) fn number(&self, name: &[u8]) -> u32
         ensures { result ≡ document.position_from 1 self.now.names name.now }
     {
-        self.names.number(name)
+        match str::from_utf8(name) {
+            Ok(text) => self.names.number(text),
+            Err(_) => 0,
+        }
     }
 
     /// How many tasks the set has.

@@ -2,12 +2,14 @@
 #![tactic(auto)]
 
 mod acts;
+mod canonical_set;
 mod fault;
 mod fits;
 mod known;
 mod lines;
 mod links;
 mod parse;
+mod plain_steps;
 mod put;
 mod read;
 mod replies;

@@ -5,17 +5,17 @@ ghost use Rattle.trace_read.specs.Reading as reading;
 
 use crate::known::Known;
 use crate::tasks::target_in;
-use crate::words::{cut, number_in, small_in};
+use crate::words::{cut, is_at_end, number_in, small_in, word_at};
 use crate::{LinkList, Totals};
 use rt_base::CpuNo;
 use std::alloc::{AllocError, Global};
 use trace_lines::CpuLink;
 
 /// A processor and the task that it is linked to.
-fn link_in(k: &Known, word: &str) -> Option<CpuLink>
+fn link_in(k: &Known, word: &[u8]) -> Option<CpuLink>
     ensures { option_map link_of result ≡ reading.link_in k.now word.now }
 {
-    let (cpu, task) = cut(word, ':');
+    let (cpu, task) = cut(word, b':');
     let cpu = small_in(cpu)?;
     let task = target_in(k, task)?;
     Some(CpuLink {
@@ -25,13 +25,18 @@ fn link_in(k: &Known, word: &str) -> Option<CpuLink>
 }
 
 /// A link for each word, or none where one says no link.
-pub(crate) fn links_in(alloc: Global, k: &Known, text: &str) -> Result<Option<LinkList>, AllocError>
-    ensures { IfOk result (λ o. option_map links_of o ≡ reading.links_in k.now text.now) }
+pub(crate) fn links_in(
+    alloc: Global,
+    k: &Known,
+    text: &[u8],
+) -> Result<Option<LinkList>, AllocError>
+    ensures { IfOk result (λ o. option_map links_of o
+        ≡ reading.links_in k.now (reading.front text.now)) }
 {
     let mut links = Vec::new(alloc);
     let mut rest = text;
-    while !rest.is_empty() {
-        let (word, more) = cut(rest, ' ');
+    while !is_at_end(rest) {
+        let (word, more) = word_at(rest);
         let Some(link) = link_in(k, word) else {
             return Ok(None);
         };
@@ -42,13 +47,13 @@ pub(crate) fn links_in(alloc: Global, k: &Known, text: &str) -> Result<Option<Li
 }
 
 /// A total for each word, or none where one is no number.
-pub(crate) fn totals_in(alloc: Global, text: &str) -> Result<Option<Totals>, AllocError>
-    ensures { IfOk result (λ o. o ≡ reading.totals_in text.now) }
+pub(crate) fn totals_in(alloc: Global, text: &[u8]) -> Result<Option<Totals>, AllocError>
+    ensures { IfOk result (λ o. o ≡ reading.totals_in (reading.front text.now)) }
 {
     let mut totals = Vec::new(alloc);
     let mut rest = text;
-    while !rest.is_empty() {
-        let (word, more) = cut(rest, ' ');
+    while !is_at_end(rest) {
+        let (word, more) = word_at(rest);
         let Some(total) = number_in(word) else {
             return Ok(None);
         };

@@ -10,7 +10,7 @@ use crate::known::Known;
 use crate::links::{links_in, totals_in};
 use crate::replies::reply_at;
 use crate::tasks::task_at;
-use crate::words::{cut, number_at, small_at, small_or_dash};
+use crate::words::{begins_with_digit, cut, is_word, number_at, small_at, small_or_dash, word_at};
 use rt_base::{CpuNo, GroupNo, SemNo, Tick};
 use rt_history::Entry;
 use rt_task::Step;
@@ -18,8 +18,9 @@ use std::alloc::{AllocError, Global};
 
 /// An entry, and what stands after it.
 #[tactic(auto, unfolding(crate::specs::Reading::entry_at))]
-fn entry_at<'a>(k: &Known, text: &'a str) -> Option<(Entry, &'a str)>
-    ensures { option_map (λ p. (p.0, p.1.now)) result ≡ reading.entry_at k.now text.now }
+fn entry_at<'a>(k: &Known, text: &'a [u8]) -> Option<(Entry, &'a [u8])>
+    ensures { option_map (λ p. (p.0, reading.front p.1.now)) result
+        ≡ reading.entry_at k.now (reading.front text.now) }
 {
     let (tick, rest) = number_at(text)?;
     let (cpu, rest) = small_at(rest)?;
@@ -34,8 +35,9 @@ fn entry_at<'a>(k: &Known, text: &'a str) -> Option<(Entry, &'a str)>
 }
 
 #[tactic(auto, unfolding(crate::specs::Reading::entry_line_in))]
-fn entry_line_in(alloc: Global, k: &Known, text: &str) -> Result<Option<Line>, AllocError>
-    ensures { IfOk result (λ o. option_map line_of o ≡ reading.entry_line_in k.now text.now) }
+fn entry_line_in(alloc: Global, k: &Known, text: &[u8]) -> Result<Option<Line>, AllocError>
+    ensures { IfOk result (λ o. option_map line_of o
+        ≡ reading.entry_line_in k.now (reading.front text.now)) }
 {
     let Some((no, rest)) = small_at(text) else {
         return Ok(None);
@@ -50,8 +52,9 @@ fn entry_line_in(alloc: Global, k: &Known, text: &str) -> Result<Option<Line>, A
 }
 
 #[tactic(auto, unfolding(crate::specs::Reading::group_line_in))]
-fn group_line_in(alloc: Global, k: &Known, text: &str) -> Result<Option<Line>, AllocError>
-    ensures { IfOk result (λ o. option_map line_of o ≡ reading.group_line_in k.now text.now) }
+fn group_line_in(alloc: Global, k: &Known, text: &[u8]) -> Result<Option<Line>, AllocError>
+    ensures { IfOk result (λ o. option_map line_of o
+        ≡ reading.group_line_in k.now (reading.front text.now)) }
 {
     let Some((group, rest)) = small_at(text) else {
         return Ok(None);
@@ -66,15 +69,16 @@ fn group_line_in(alloc: Global, k: &Known, text: &str) -> Result<Option<Line>, A
 }
 
 #[tactic(auto, unfolding(crate::specs::Reading::block_line_in))]
-fn block_line_in(k: &Known, text: &str) -> Option<Line>
-    ensures { option_map line_of result ≡ reading.block_line_in k.now text.now }
+fn block_line_in(k: &Known, text: &[u8]) -> Option<Line>
+    ensures { option_map line_of result ≡ reading.block_line_in k.now (reading.front text.now) }
 {
     let (no, rest) = small_at(text)?;
     let (task, rest) = task_at(k, rest)?;
     let (sem, rest) = small_at(rest)?;
     let (ends, rest) = small_at(rest)?;
     let (ends_all, rest) = small_at(rest)?;
-    let bound = small_or_dash(rest)?;
+    let (word, _) = cut(rest, b'\n');
+    let bound = small_or_dash(word)?;
     Some(Line::BlockLine {
         no,
         task,
@@ -85,20 +89,21 @@ fn block_line_in(k: &Known, text: &str) -> Option<Line>
     })
 }
 
-fn name_in(word: &str) -> Option<u8>
+fn name_in(word: &[u8]) -> Option<u8>
     ensures { result ≡ reading.name_in word.now }
 {
-    match word.as_bytes() {
+    match word {
         [name] => Some(*name),
         _ => None,
     }
 }
 
 #[tactic(auto, unfolding(crate::specs::Reading::count_line_in))]
-fn count_line_in(alloc: Global, text: &str) -> Result<Option<Line>, AllocError>
-    ensures { IfOk result (λ o. option_map line_of o ≡ reading.count_line_in text.now) }
+fn count_line_in(alloc: Global, text: &[u8]) -> Result<Option<Line>, AllocError>
+    ensures { IfOk result (λ o. option_map line_of o
+        ≡ reading.count_line_in (reading.front text.now)) }
 {
-    let (word, rest) = cut(text, ' ');
+    let (word, rest) = word_at(text);
     let Some(name) = name_in(word) else {
         return Ok(None);
     };
@@ -108,18 +113,31 @@ fn count_line_in(alloc: Global, text: &str) -> Result<Option<Line>, AllocError>
     Ok(Some(Line::CountLine { name, totals }))
 }
 
-/// The line that a text without its line feed says, before it is checked: each line of the grammar is read, and a text
-/// that is none of its may be too.
+/// A line that begins with a word.
 #[tactic(auto, unfolding(crate::specs::Reading::line_in))]
-pub(crate) fn line_in(alloc: Global, k: &Known, text: &str) -> Result<Option<Line>, AllocError>
-    ensures { IfOk result (λ o. option_map line_of o ≡ reading.line_in k.now text.now) }
+fn worded_line_in(alloc: Global, k: &Known, text: &[u8]) -> Result<Option<Line>, AllocError>
+    ensures { IfOk result (λ o. option_map line_of o
+        ≡ reading.line_in k.now (reading.front text.now)) }
 {
-    let (word, rest) = cut(text, ' ');
+    let (word, rest) = word_at(text);
     match word {
-        "group" => group_line_in(alloc, k, rest),
-        "block" => Ok(block_line_in(k, rest)),
-        "end" => Ok(Some(Line::EndLine)),
-        "count" => count_line_in(alloc, rest),
+        w if is_word(w, b"group") => group_line_in(alloc, k, rest),
+        w if is_word(w, b"block") => Ok(block_line_in(k, rest)),
+        w if is_word(w, b"end") => Ok(Some(Line::EndLine)),
+        w if is_word(w, b"count") => count_line_in(alloc, rest),
         _ => entry_line_in(alloc, k, text),
     }
+}
+
+/// The line that a text begins with, before it is checked: each line of the grammar is read, and one that is none of its
+/// may be too.
+#[tactic(auto, using(crate::proofs::EntryLaws::entry_by_digit))]
+pub(crate) fn line_in(alloc: Global, k: &Known, text: &[u8]) -> Result<Option<Line>, AllocError>
+    ensures { IfOk result (λ o. option_map line_of o
+        ≡ reading.line_in k.now (reading.front text.now)) }
+{
+    if begins_with_digit(text) {
+        return entry_line_in(alloc, k, text);
+    }
+    worded_line_in(alloc, k, text)
 }

@@ -7,17 +7,16 @@ ghost use Rattle.trace_lines.specs.Known as known;
 ghost use Rattle.trace_read.specs.Lines.{line_of, lines_of};
 ghost use Rattle.trace_read.specs.declared.fault.TraceFault.TheVariants as faults;
 ghost use Rattle.trace_read.specs.Reads.{AreLines, HasHead, HasRead, IsRefused, LacksFirstLine, stop_at};
-ghost use Rattle.trace_read.specs.Seen.{BeginsNoLine, BeginsLine, IsSplitAtFeed, ReadsBack, Tells};
+ghost use Rattle.trace_read.specs.Seen.{BeginsNoLine, BeginsLine, IsSplitAtFeed, Tells};
 
+use crate::canonical_set::read_line_set;
 use crate::fits::line_fits;
 use crate::known::Known;
 use crate::parse::line_in;
 use crate::put::put_line;
 use crate::{Line, LineList, Trace, TraceFault};
 use rt_task::Setup;
-use set_read::read_set;
 use std::alloc::{AllocError, Global};
-use std::str;
 use trace_lines::{Version, first_line};
 
 /// What stands before the first line feed, and what stands after it.
@@ -34,22 +33,11 @@ fn split_line(bytes: &[u8]) -> Option<(&[u8], &[u8])>
 }
 
 /// What stands after these first bytes.
-fn after<'a>(first: &[u8], bytes: &'a [u8]) -> Option<&'a [u8]>
+pub(crate) fn after<'a>(first: &[u8], bytes: &'a [u8]) -> Option<&'a [u8]>
     ensures { MatchOption result ((rest : List ℕ)
         → bytes.now ≢ first.now ++ rest) (λ x. bytes.now ≡ first.now ++ x.now) }
 {
     bytes.strip_prefix(first)
-}
-
-/// The line that bytes without a line feed say, before it is checked.
-fn parse_line(alloc: Global, k: &Known, bytes: &[u8]) -> Result<Option<Line>, AllocError>
-    requires { Tells k.now }
-    ensures { IfOk result (λ o. ReadsBack k.now bytes.now o) }
-{
-    match str::from_utf8(bytes) {
-        Ok(text) => line_in(alloc, k, text),
-        Err(_) => Ok(None),
-    }
 }
 
 /// The line that bytes begin with, and what stands after it. What was parsed is checked against its own text, which is
@@ -65,10 +53,7 @@ fn read_line<'a>(
         (BeginsNoLine k.now bytes.now) (λ x. BeginsLine k.now bytes.now (line_of x.0) x.1.now)) }
     ensures memory { IfErr result (λ e. e ≡ faults.NoMemory) }
 {
-    let Some((front, _)) = split_line(bytes) else {
-        return Ok(None);
-    };
-    let Some(line) = parse_line(alloc, k, front)? else {
+    let Some(line) = line_in(alloc, k, bytes)? else {
         return Ok(None);
     };
     if !line_fits(k, &line) {
@@ -171,7 +156,7 @@ pub fn read_trace(alloc: Global, bytes: &[u8]) -> Result<Trace, TraceFault>
     ensures { HasRead bytes.now result }
 {
     let (version, set, rest) = read_head(bytes)?;
-    let setup = read_set(alloc, set)?;
+    let setup = read_line_set(alloc, set)?;
     let (lines, left) = read_lines_of(alloc, version, &setup, rest)?;
     let stop = stop_after(lines.as_slice(), left)?;
     Ok(Trace {

@@ -1,9 +1,6 @@
-use Rattle.std.proofs.Common.{None, Some, sym}
-use Rattle.trace_read.proofs.WordLaws.{cut-split_once}
+use Rattle.trace_read.proofs.WordLaws.{cut_parts}
 use Rattle.trace_read.proofs.words.cut.Goals as goal
 
-pub returns-in-None : goal.returns-in-None
-returns-in-None c = sym (cut-split_once c.args.at c.args.text.now None c.in-None.ensures.cases c.requires)
-
-pub returns-in-Some : goal.returns-in-Some
-returns-in-Some c = sym (cut-split_once c.args.at c.args.text.now (Some (c.in-Some.word, c.in-Some.rest)) c.in-Some.ensures.cases c.requires)
+pub returns-in-len1-up : goal.returns-in-len1-up
+returns-in-len1-up c =
+    cut_parts c.args.at c.args.text.now c.split_at.result.0.now c.split_at.result.1.now c.cut_length.result c.cut_length.ensures c.split_at.ensures.front c.split_at.ensures.back

@@ -11,10 +11,10 @@ use Rattle.rank_afresh.proofs.afresh.Afresh.effective_key.Goals as goal
 pub key-requires : goal.key-requires
 key-requires c =
     let there = subst (λ (v : Standing). has c.args.task.0 (tasks (group_of v)) ≡ true) (sym c.self.view_is) c.requires in
-    has-base (the_view c.self.inside) _ c.self.invariant c.core.result.now.facts c.core.ensures.facts c.args.task.0 there
+    has-base (the_view c.self.inside) _ c.self.invariant.0 c.core.result.now.facts c.core.ensures.facts c.args.task.0 there
 
 pub returns : goal.returns
 returns c =
     let there = subst (λ (v : Standing). has c.args.task.0 (tasks (group_of v)) ≡ true) (sym c.self.view_is) c.requires in
     subst (λ (v : Standing). (past : Past) → IsAt v past → c.key.result ≡ effective_key (group_of v) c.args.task.0 past) c.self.view_is
-    (λ past at. key-shown (the_view c.self.inside) _ c.self.invariant c.core.result.now.facts c.core.ensures.facts c.args.task.0 there past at c.key.result c.key.ensures)
+    (λ past at. key-shown (the_view c.self.inside) _ c.self.invariant.0 c.core.result.now.facts c.core.ensures.facts c.args.task.0 there past at c.key.result c.key.ensures)

@@ -11,10 +11,10 @@ use Rattle.rank_afresh.proofs.afresh.Afresh.exists.Goals as goal
 pub is_there-requires : goal.is_there-requires
 is_there-requires c =
     let there = subst (λ (v : Standing). has c.args.task.0 (tasks (group_of v)) ≡ true) (sym c.self.view_is) c.requires in
-    task-of (the_view c.self.inside) _ c.self.invariant c.core.result.now.facts c.core.ensures.facts c.args.task.0 there _ c.parts.ensures.parts
+    task-of (the_view c.self.inside) _ c.self.invariant.0 c.core.result.now.facts c.core.ensures.facts c.args.task.0 there _ c.parts.ensures.parts
 
 pub returns : goal.returns
 returns c =
     let there = subst (λ (v : Standing). has c.args.task.0 (tasks (group_of v)) ≡ true) (sym c.self.view_is) c.requires in
     subst (λ (v : Standing). (past : Past) → IsAt v past → c.is_there.result ≡ exists (group_of v) c.args.task.0 past) c.self.view_is
-    (λ past at. exists-shown (the_view c.self.inside) _ c.self.invariant c.core.result.now.facts c.core.ensures.facts c.args.task.0 there past at _ c.parts.ensures.parts c.is_there.result c.is_there.ensures)
+    (λ past at. exists-shown (the_view c.self.inside) _ c.self.invariant.0 c.core.result.now.facts c.core.ensures.facts c.args.task.0 there past at _ c.parts.ensures.parts c.is_there.result c.is_there.ensures)

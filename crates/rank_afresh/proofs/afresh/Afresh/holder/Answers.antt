@@ -13,4 +13,4 @@ pub returns : goal.returns
 returns c =
     let known = subst (λ (v : Standing). has c.args.sem.0 (sems (group_of v)) ≡ true) (sym c.self.view_is) c.requires in
     subst (λ (v : Standing). (past : Past) → IsAt v past → number_of_task c.holder.result ≡ holder (group_of v) c.args.sem.0 past) c.self.view_is
-    (λ past at. holder-shown (the_view c.self.inside) _ c.self.invariant c.core.result.now.facts c.core.ensures.facts c.args.sem.0 known past at (number_of_task c.holder.result) c.holder.ensures)
+    (λ past at. holder-shown (the_view c.self.inside) _ c.self.invariant.0 c.core.result.now.facts c.core.ensures.facts c.args.sem.0 known past at (number_of_task c.holder.result) c.holder.ensures)

@@ -15,11 +15,11 @@ resv_state-requires c =
     let high = subst (λ (v : Standing). c.args.number.0 ≤ length v.setup.resvs) (sym c.self.view_is) c.requires.high in
     let here = subst (λ (v : Standing). in_group (group_of v) (resv (group_of v) c.args.number.0).cluster.0 ≡ true) (sym c.self.view_is) c.requires.here in
     let at = subst (λ (v : Standing). IsAt v c.requires.at.0) (sym c.self.view_is) c.requires.at.1 in
-    resv-there (the_view c.self.inside) c.self.invariant.core_fit.valid c.core.result.now.facts c.core.ensures.facts c.args.number.0 c.requires.low high here c.requires.at.0 at
+    resv-there (the_view c.self.inside) c.self.invariant.0.core_fit.valid c.core.result.now.facts c.core.ensures.facts c.args.number.0 c.requires.low high here c.requires.at.0 at
 
 pub returns : goal.returns
 returns c =
     let high = subst (λ (v : Standing). c.args.number.0 ≤ length v.setup.resvs) (sym c.self.view_is) c.requires.high in
     let here = subst (λ (v : Standing). in_group (group_of v) (resv (group_of v) c.args.number.0).cluster.0 ≡ true) (sym c.self.view_is) c.requires.here in
     subst (λ (v : Standing). (past : Past) → IsAt v past → option_map (λ (t : Tick). t.0) c.resv_state.result.last ≡ last (group_of v) c.args.number.0 past) c.self.view_is
-    (λ past at. last-shown (the_view c.self.inside) c.self.invariant.core_fit.valid c.core.result.now.facts c.core.ensures.facts c.args.number.0 c.requires.low high here past at (option_map (λ (t : Tick). t.0) c.resv_state.result.last) c.resv_state.ensures.last)
+    (λ past at. last-shown (the_view c.self.inside) c.self.invariant.0.core_fit.valid c.core.result.now.facts c.core.ensures.facts c.args.number.0 c.requires.low high here past at (option_map (λ (t : Tick). t.0) c.resv_state.result.last) c.resv_state.ensures.last)

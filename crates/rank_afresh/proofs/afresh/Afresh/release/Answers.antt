@@ -12,15 +12,15 @@ use Rattle.rank_afresh.proofs.afresh.Afresh.release.Goals as goal
 pub release-requires : goal.release-requires
 release-requires c =
     let there = subst (λ (v : Standing). has c.args.task.0 (tasks (group_of v)) ≡ true) (sym c.self.view_is) c.requires in
-    task-of (the_view c.self.inside) _ c.self.invariant c.core.result.now.facts c.core.ensures.facts c.args.task.0 there _ c.parts.ensures.parts
+    task-of (the_view c.self.inside) _ c.self.invariant.0 c.core.result.now.facts c.core.ensures.facts c.args.task.0 there _ c.parts.ensures.parts
 
 pub returns-clause-release : goal.returns-clause-release
 returns-clause-release c =
     let there = subst (λ (v : Standing). has c.args.task.0 (tasks (group_of v)) ≡ true) (sym c.self.view_is) c.requires in
     subst (λ (v : Standing). (past : Past) → IsAt v past → c.release.result ≡ release (group_of v) c.args.task.0 past) c.self.view_is
-    (λ past at. release-shown (the_view c.self.inside) _ c.self.invariant c.core.result.now.facts c.core.ensures.facts c.args.task.0 there past at _ c.parts.ensures.parts c.release.result c.release.ensures)
+    (λ past at. release-shown (the_view c.self.inside) _ c.self.invariant.0 c.core.result.now.facts c.core.ensures.facts c.args.task.0 there past at _ c.parts.ensures.parts c.release.result c.release.ensures)
 
 pub returns-clause-low : goal.returns-clause-low
 returns-clause-low c =
     let there = subst (λ (v : Standing). has c.args.task.0 (tasks (group_of v)) ≡ true) (sym c.self.view_is) c.requires in
-    release-bound (the_view c.self.inside) _ c.self.invariant c.core.result.now.facts c.core.ensures.facts c.args.task.0 there _ c.parts.ensures.parts c.release.result c.release.ensures
+    release-bound (the_view c.self.inside) _ c.self.invariant.0 c.core.result.now.facts c.core.ensures.facts c.args.task.0 there _ c.parts.ensures.parts c.release.result c.release.ensures

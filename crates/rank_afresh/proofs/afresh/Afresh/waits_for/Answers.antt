@@ -13,4 +13,4 @@ pub returns : goal.returns
 returns c =
     let there = subst (λ (v : Standing). has c.args.task.0 (tasks (group_of v)) ≡ true) (sym c.self.view_is) c.requires in
     subst (λ (v : Standing). (past : Past) → IsAt v past → number_of_task c.waits_for.result ≡ waits_for (group_of v) c.args.task.0 past) c.self.view_is
-    (λ past at. waits_for-shown (the_view c.self.inside) _ c.self.invariant c.core.result.now.facts c.core.ensures.facts c.args.task.0 there past at (number_of_task c.waits_for.result) c.waits_for.ensures)
+    (λ past at. waits_for-shown (the_view c.self.inside) _ c.self.invariant.0 c.core.result.now.facts c.core.ensures.facts c.args.task.0 there past at (number_of_task c.waits_for.result) c.waits_for.ensures)

@@ -12,15 +12,15 @@ use Rattle.rank_afresh.proofs.afresh.Afresh.wakes.Goals as goal
 pub wakes-requires-clause-low : goal.wakes-requires-clause-low
 wakes-requires-clause-low c =
     let there = subst (λ (v : Standing). has c.args.task.0 (tasks (group_of v)) ≡ true) (sym c.self.view_is) c.requires in
-    low (the_view c.self.inside) _ c.self.invariant c.core.result.now.facts c.core.ensures.facts c.args.task.0 there
+    low (the_view c.self.inside) _ c.self.invariant.0 c.core.result.now.facts c.core.ensures.facts c.args.task.0 there
 
 pub wakes-requires-clause-high : goal.wakes-requires-clause-high
 wakes-requires-clause-high c =
     let there = subst (λ (v : Standing). has c.args.task.0 (tasks (group_of v)) ≡ true) (sym c.self.view_is) c.requires in
-    in-jobs (the_view c.self.inside) _ c.self.invariant c.core.result.now.facts c.core.ensures.facts c.args.task.0 there
+    in-jobs (the_view c.self.inside) _ c.self.invariant.0 c.core.result.now.facts c.core.ensures.facts c.args.task.0 there
 
 pub returns : goal.returns
 returns c =
     let there = subst (λ (v : Standing). has c.args.task.0 (tasks (group_of v)) ≡ true) (sym c.self.view_is) c.requires in
     subst (λ (v : Standing). (past : Past) → IsAt v past → c.wakes.result ≡ wakes c.args.task.0 past) c.self.view_is
-    (λ past at. wakes-shown (the_view c.self.inside) _ c.self.invariant c.core.result.now.facts c.core.ensures.facts c.args.task.0 there past at c.wakes.result c.wakes.ensures)
+    (λ past at. wakes-shown (the_view c.self.inside) _ c.self.invariant.0 c.core.result.now.facts c.core.ensures.facts c.args.task.0 there past at c.wakes.result c.wakes.ensures)

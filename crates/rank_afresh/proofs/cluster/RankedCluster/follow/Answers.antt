@@ -1,4 +1,4 @@
-use Rattle.std.proofs.Common.{◌≡◌, ◌<◌, ℕ, zero, suc, min, Bool, true, false, List, [], ◌∷◌, length, get_or, take, inl, refl, sym, ap, ◌∙◌, subst, arith, rules}
+use Rattle.std.proofs.Common.{◌≡◌, ◌<◌, ℕ, min, true, List, length, take, inl, refl, sym, ap, ◌∙◌, subst, arith, rules}
 use Rattle.std.specs.Prelude.{Option}
 use Rattle.std.proofs.lemmas.List.{length-map, with_items_is}
 use Rattle.rt_base.specs.TaskNos.{number_of_task, numbers, numbers_of_tasks}
@@ -13,7 +13,7 @@ use Rattle.rank_afresh.specs.declared.ranks.Candidate.{Candidate}
 use Rattle.rank_afresh.specs.Candidates.{ranked_all}
 use Rattle.rank_afresh.specs.Clusters.{runs_in}
 use Rattle.rank_afresh.proofs.Firsts.{tasks-least}
-use Rattle.rank_afresh.proofs.SetLists.{length-runs_in}
+use Rattle.rank_afresh.proofs.SetLists.{length-runs_in, marked-inside}
 use Rattle.rank_afresh.proofs.cluster.RankedCluster.follow.Goals as goal
 use Rattle.rank_afresh.proofs.cluster.RankedCluster.follow.Goals.{After-write_tasks}
 
@@ -35,12 +35,6 @@ place-requires-clause-distinct c =
     let top = top_is (goal.at.place-requires-clause-distinct c).After-write_tasks in
     subst IsDistinct (sym (ap numbers c.as_slice-4.ensures.value ∙ top)) (distinct-take c.len-cpus.result (tasks_of (ranked_all c.self.inside.ranked.items)) c.self.invariant.4.once)
 
--- a mark stands within the marks
-marked-inside : (marks : List Bool) (t : ℕ) → get_or marks t false ≡ true → t < length marks
-marked-inside [] t h = cc
-marked-inside (m ∷ ms) zero h = omega arith
-marked-inside (m ∷ ms) (suc t) h = let inside : t < length ms = marked-inside ms t h in omega (arith, inside)
-
 pub place-requires-clause-room : goal.place-requires-clause-room
 place-requires-clause-room c = λ t h.
     let top = top_is (goal.at.place-requires-clause-room c).After-write_tasks in
@@ -50,11 +44,11 @@ place-requires-clause-room c = λ t h.
     let inside : t < length c.self.inside.own.items = marked-inside c.self.inside.own.items t (c.self.invariant.1 t ∙ own) in
     omega (arith, inside, c.self.invariant.2, c.as_mut_slice-2.ensures.len, c.self.inside.in_top.ok.0)
 
-pub returns : goal.returns
-returns c =
+pub returns-clause-followed : goal.returns-clause-followed
+returns-clause-followed c =
     let k : Kept = c.args.core.now.facts.kept in
     let links : List (Option ℕ) = numbers_of_tasks c.self.inside.links.items in
-    let top = top_is (goal.at.returns c).After-write_tasks in
+    let top = top_is (goal.at.returns-clause-followed c).After-write_tasks in
     let same : length c.place.new.links ≡ length c.self.inside.links.items = search rules in
     let items_are = with_items_is c.self.inside.links c.place.new.links (same ∙ sym c.self.inside.links.ok.0) in
     let count : c.len-cpus.result ≡ length links = omega (arith, c.len-cpus.ensures, c.self.inside.links.ok.0, length-map c.self.inside.links.items number_of_task) in

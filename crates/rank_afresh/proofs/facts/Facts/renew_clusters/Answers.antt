@@ -1,9 +1,10 @@
 use Rattle.std.proofs.Common.{◌≡◌, ◌≢◌, ◌<◌, ℕ, List, length, length-set, below_more, get_or-set_same, get_or-set_other, refl, ap, ◌∙◌, subst, arith}
 use Rattle.std.proofs.lemmas.List.{get_or_default}
 use Rattle.rt_base.specs.TaskNos.{numbers}
+use Rattle.rt_rules.proofs.BoolLaws.{neither}
 use Rattle.group_core.specs.Facts as core
 use Rattle.rank_afresh.specs.Clusters.{ClusterFacts, HasRenewed, no_facts}
-use Rattle.rank_afresh.specs.Facts.{HaveRenewed, WithRoom, cluster_at, core_of}
+use Rattle.rank_afresh.specs.Facts.{HaveRenewed, LinksStay, WithRoom, cluster_at, core_of}
 use Rattle.rank_afresh.proofs.Moving.{renewed-as}
 use Rattle.rank_afresh.proofs.facts.Facts.renew_clusters.Goals as goal
 
@@ -14,14 +15,14 @@ loop-n-preserved c =
     let olds : List ClusterFacts = c.self.inside.clusters.items in
     let x : core.Facts = c.self.inside.core.facts in
     let ts : List ℕ = numbers c.self.inside.looked.items in
-    let new : ClusterFacts = c.renew.new.self in
+    let new : ClusterFacts = c.renew-placed.new.self in
     let looked : numbers c.loop-n.self-inside.looked.items ≡ ts = rw c.loop-n.invariant.looked refl in
     let inside : n < length cs = omega (arith, c.loop-n-test.true, c.len-n-end.ensures, c.loop-n.invariant.count, c.loop-n.invariant.room, c.self.inside.clusters.ok.0) in
     let was : c.index_mut.result.now ≡ cluster_at olds n = c.index_mut.ensures.value ∙ get_or_default cs n c.index_mut.result.now no_facts inside ∙ c.loop-n.invariant.rest n (omega arith) in
     let now : HasRenewed c.args.parts.now x ts (cluster_at olds n) new =
     renewed-as c.args.parts.now c.loop-n.self-inside.core.facts x (numbers c.as_slice.result.now) ts c.index_mut.result.now (cluster_at olds n) new
     (ap (λ (w : core.WithRoom). w.facts) c.loop-n.invariant.core)
-    (ap numbers c.as_slice.ensures.value ∙ looked) was c.renew.ensures in
+    (ap numbers c.as_slice.ensures.value ∙ looked) was c.renew-placed.ensures.renewed in
     record {
       core = c.loop-n.invariant.core;
       moments = c.loop-n.invariant.moments;
@@ -29,6 +30,10 @@ loop-n-preserved c =
       count = c.loop-n.invariant.count;
       room = length-set cs n new ∙ c.loop-n.invariant.room;
       done = below_more _ _ (λ k h. let ne : k ≢ n = omega (arith, h) in rw (get_or-set_other cs n k new no_facts ne) (c.loop-n.invariant.done k h)) (rw (get_or-set_same cs n new no_facts inside) now);
+      stay = λ h.
+          let none = neither c.loop-n.placed c.renew-placed.result h in
+          below_more _ _ (λ k low. let ne : k ≢ n = omega (arith, low) in rw (get_or-set_other cs n k new no_facts ne) (c.loop-n.invariant.stay none.0 k low))
+          (rw (get_or-set_same cs n new no_facts inside) (c.renew-placed.ensures.stays none.1 ∙ ap (λ (x : ClusterFacts). x.links) was));
       rest = λ k h. let ne : k ≢ n = omega (arith, h) in get_or-set_other cs n k new no_facts ne ∙ c.loop-n.invariant.rest k (omega (arith, h));
     }
 
@@ -36,3 +41,8 @@ pub returns-clause-clusters : goal.returns-clause-clusters
 returns-clause-clusters c =
     subst (λ (w : WithRoom). HaveRenewed c.args.parts.now (core_of w.facts) w.facts.looked w.facts.clusters c.loop-n.self-inside.clusters.items) c.self.view_is
     (λ i h. c.loop-n.invariant.done i (omega (arith, h, c.loop-n-test.false, c.len-n-end.ensures, c.self.inside.clusters.ok.0)))
+
+pub returns-clause-stay : goal.returns-clause-stay
+returns-clause-stay c = λ still.
+    subst (λ (w : WithRoom). LinksStay w.facts.clusters c.loop-n.self-inside.clusters.items) c.self.view_is
+    (λ i h. c.loop-n.invariant.stay still i (omega (arith, h, c.loop-n-test.false, c.len-n-end.ensures, c.self.inside.clusters.ok.0)))
