@@ -1,14 +1,19 @@
 -- The links of a group's processors, as contracts see them.
-use Rattle.std.specs.Prelude.{◌≡◌}
+use Rattle.std.specs.Prelude.{◌≡◌, ℕ, List, map}
 use Rattle.rt_task.specs.declared.Step.{Step}
 use Rattle.rt_model.specs.Group.{Group, group_processors}
 use Rattle.rt_model.specs.Histories.{after, changed}
 use Rattle.rt_model.specs.Past.{Past}
 use Rattle.rank_afresh.specs.Standing.{IsAt, Standing, group_of}
+use Rattle.trace_lines.specs.declared.links.CpuLink.{CpuLink}
 use Rattle.trace_lines.specs.Lines.{links_of}
 use Rattle.trace_text.specs.Groups.{cpu_numbers}
 use Rattle.trace_text.specs.TraceText.{links_at}
 use Rattle.trace_check.specs.declared.links.GroupLinks.{GroupLinks}
+
+-- the processors that they are of
+abbrev pub cpus_in : List CpuLink → List ℕ
+cpus_in ls = map (λ (x : CpuLink). x.cpu.0) ls
 
 -- they are those of the group at this past
 pub record AreLinks (g : Group) (past : Past) (l : GroupLinks) : Type 0 where

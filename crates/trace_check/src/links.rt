@@ -1,21 +1,20 @@
 //! The links of a group's processors, read from the ranker, and those that a step changes.
-ghost use Rattle.std.specs.Prelude.{◌≡◌, ◌<◌, All, IfOk, OnOk};
+ghost use Rattle.std.specs.Prelude.{◌≡◌, ◌<◌, ◌++◌, All, IfOk, OnOk};
 ghost use Rattle.rt_task.specs.declared.Step.{Step};
 ghost use Rattle.rt_model.specs.Past.{Past};
 ghost use Rattle.rt_plays.specs.Homes.{IsProcessorOf};
 ghost use Rattle.rank_afresh.specs.Standing.{IsAt, group_of};
 ghost use Rattle.trace_lines.specs.Lines.{links_of};
-ghost use Rattle.trace_text.specs.Groups.{cpu_numbers};
+ghost use Rattle.trace_text.specs.Groups.{changed_links, cpu_numbers};
 ghost use Rattle.trace_text.specs.TraceText.{links_at};
-ghost use Rattle.trace_check.specs.GroupLinks.{CanRead, HaveChanged};
+ghost use Rattle.trace_check.specs.GroupLinks.{CanRead, HaveChanged, cpus_in};
 ghost use Rattle.trace_check.specs.SameLinks.{same_links};
 
 use rank_afresh::Afresh;
 use rt_base::{CpuNo, NoMemory};
 use std::alloc::Global;
-use std::mem;
 use trace_lines::CpuLink;
-use trace_text::{is_same_task, put_changed};
+use trace_text::is_same_task;
 
 /// Puts the links of these processors in the place of what stood in `links`.
 #[tactic(auto, using(std::proofs::Common::append_assoc))]
@@ -55,13 +54,36 @@ pub(crate) fn are_same(a: &[CpuLink], b: &[CpuLink]) -> bool
     true
 }
 
-/// The processors of a group, their links as they were read last, those before the last step that placed some, and those
-/// that the last step changed.
+/// Reads the links again, each in its place, and puts those that are others than before behind what stood in `changed`.
+#[tactic(auto, using(std::proofs::Common::append_assoc))]
+fn read_again(
+    afresh: &Afresh,
+    links: &mut [CpuLink],
+    changed: &mut Vec<CpuLink>,
+) -> Result<(), NoMemory>
+    requires { All (λ x. IsProcessorOf (group_of afresh.now) x.cpu.0) links.old }
+    ensures links { OnOk result ((past : Past) → IsAt afresh.now past
+        → links_of links.new ≡ links_at (group_of afresh.now) past (cpus_in links.old)) }
+    ensures changed { OnOk result ((past : Past) → IsAt afresh.now past
+        → links_of changed.new.items ≡ links_of changed.old.items
+        ++ changed_links (links_of links.old)
+        (links_at (group_of afresh.now) past (cpus_in links.old))) }
+{
+    for i in 0..links.len() {
+        let task = afresh.linked(links[i].cpu);
+        if !is_same_task(links[i].task, task) {
+            links[i].task = task;
+            changed.push(links[i])?;
+        }
+    }
+    Ok(())
+}
+
+/// The processors of a group, their links as they were read last, and those that the last step changed.
 #[derive(Drop)]
 pub(crate) struct GroupLinks {
     cpus: Vec<CpuNo>,
     links: Vec<CpuLink>,
-    before: Vec<CpuLink>,
     changed: Vec<CpuLink>,
 }
 
@@ -83,7 +105,6 @@ impl GroupLinks {
         Ok(GroupLinks {
             cpus,
             links,
-            before: Vec::new(alloc),
             changed: Vec::new(alloc),
         })
     }
@@ -116,16 +137,10 @@ impl GroupLinks {
             → CanRead past step afresh.now self.old
             → HaveChanged (group_of afresh.now) past step self.new) }
     {
+        self.changed.clear();
         if !afresh.has_placed() {
-            self.changed.clear();
             return Ok(());
         }
-        mem::swap(&mut self.before, &mut self.links);
-        read_links(afresh, self.cpus.as_slice(), &mut self.links)?;
-        put_changed(
-            self.before.as_slice(),
-            self.links.as_slice(),
-            &mut self.changed,
-        )
+        read_again(afresh, self.links.as_mut_slice(), &mut self.changed)
     }
 }

@@ -238,9 +238,11 @@ module _ (g : Group) (past : Past) (step : Step) (qs : List ℕ) (v : Turns) (at
       kept : (p : ℕ) (b : Bool) → q == p ≡ b → (o : Option Turn) → row_of v.rows p ≡ o → IsRowOf g p (IsTurnAfter g past step qs p) o → IsRowOf g p (IsTurnAfter g past step (qs ++ q ∷ []) p) o
       kept p b e None row h = h
       kept p true e (Some u) row h =
-          let same : q ≡ p = eqb-true q p e in
-          (h.0, subst (λ (r : ℕ). IsTurnAfter g past step (qs ++ q ∷ []) r u) same
-          (turn-unseen u (own u (ap (row_of v.rows) same ∙ row)) (subst (λ (r : ℕ). IsTurnAfter g past step qs r u) (sym same) h.1)))
+          let same : q ≡ p = eqb-true q p e in (
+            h.0,
+            subst (λ (r : ℕ). IsTurnAfter g past step (qs ++ q ∷ []) r u) same
+                (turn-unseen u (own u (ap (row_of v.rows) same ∙ row)) (subst (λ (r : ℕ). IsTurnAfter g past step qs r u) (sym same) h.1)),
+          )
       kept p false e (Some u) row h = (h.0, turn-kept p u e h.1)
 
   -- a processor of another group is not looked at
