@@ -13,7 +13,7 @@ use Rattle.rt_rules.proofs.BoolLaws.{both, neither, or_true}
 use Rattle.rt_rules.proofs.LinkLaws.{length-placed}
 use Rattle.rt_rules.proofs.MemberLaws.{equal_self, has-append, has-filter}
 use Rattle.rt_model.specs.EffectiveKeys.{effective_key}
-use Rattle.rt_model.specs.Group.{Group, clusters, cpus, first_cpu, tasks}
+use Rattle.rt_model.specs.Group.{Group, clusters, first_cpu, tasks}
 use Rattle.rt_model.specs.Group as groups
 use Rattle.rt_model.specs.Holders.{awaits}
 use Rattle.rt_model.specs.Links.{runs_of}
