@@ -18,11 +18,7 @@ use trace_text::is_same_task;
 
 /// Puts the links of these processors in the place of what stood in `links`.
 #[tactic(auto, using(std::proofs::Common::append_assoc))]
-fn read_links(
-    afresh: &Afresh,
-    cpus: &[CpuNo],
-    links: &mut Vec<CpuLink>,
-) -> Result<(), NoMemory>
+fn read_links(afresh: &Afresh, cpus: &[CpuNo], links: &mut Vec<CpuLink>) -> Result<(), NoMemory>
     requires { All (λ q. IsProcessorOf (group_of afresh.now) q.0) cpus.now }
     ensures { OnOk result ((past : Past) → IsAt afresh.now past
         → links_of links.new.items

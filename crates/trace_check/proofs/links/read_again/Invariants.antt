@@ -12,7 +12,7 @@ abbrev pub invariant-loop-i : goal.invariant-loop-i
 invariant-loop-i l =
     (drop l.i l.links ≡ drop l.i l.initial.links)
     × ((past : Past) → IsAt l.afresh past
-      → links_of (take l.i l.links) ++ links_at (group_of l.afresh) past (cpus_in (drop l.i l.links)) ≡ links_at (group_of l.afresh) past (cpus_in l.initial.links))
+    → links_of (take l.i l.links) ++ links_at (group_of l.afresh) past (cpus_in (drop l.i l.links)) ≡ links_at (group_of l.afresh) past (cpus_in l.initial.links))
     × ((past : Past) → IsAt l.afresh past
-      → links_of l.changed.items ++ changed_links (links_of (drop l.i l.links)) (links_at (group_of l.afresh) past (cpus_in (drop l.i l.links)))
-      ≡ links_of l.initial.changed.items ++ changed_links (links_of l.initial.links) (links_at (group_of l.afresh) past (cpus_in l.initial.links)))
+    → links_of l.changed.items ++ changed_links (links_of (drop l.i l.links)) (links_at (group_of l.afresh) past (cpus_in (drop l.i l.links)))
+    ≡ links_of l.initial.changed.items ++ changed_links (links_of l.initial.links) (links_at (group_of l.afresh) past (cpus_in l.initial.links)))

@@ -43,7 +43,7 @@ follow-requires c =
       past_of at.group at.entries,
       step,
       can-read at c.args.setup.now c.args.self.now fw step gone.next _ _ (c.step.ensures.group ∙ fw.following.group_is)
-      (ap (λ (f : Follow). f.links) c.step.ensures.others) (c.step.ensures.at at can),
+          (ap (λ (f : Follow). f.links) c.step.ensures.others) (c.step.ensures.at at can),
     )
 
 pub returns-then-not-are_same-clause-refused : goal.returns-then-not-are_same-clause-refused
