@@ -46,8 +46,8 @@ open-requires-2-clause-room c =
     ∙ ap (λ n. room_in p.drive n c.in_ok-course.course) (ap length c.as_slice-listed.ensures.value) ∙ room-first g c.in_ok-cpus.cpus.items c.in_ok-cpus.ensures c.in_ok-course.course opened in
     omega (arith, is, room-few g c.parts.ensures.valid)
 
-pub open-requires-4 : goal.open-requires-4
-open-requires-4 c =
+pub open-requires-5 : goal.open-requires-5
+open-requires-5 c =
     let same = group-made c.args.setup.now c.args.group.0 c.in_ok-afresh.afresh c.in_ok-afresh.ensures.setup c.in_ok-afresh.ensures.group in
     subst (λ (g : Group). All (λ (q : CpuNo). IsProcessorOf g q.0) c.in_ok-cpus.cpus.items) (sym same)
     (cpus_there (group_with c.args.setup.now c.args.group.0) c.in_ok-cpus.cpus.items c.in_ok-cpus.ensures)
