@@ -3,6 +3,7 @@ use Rattle.std.proofs.Common.{◌≡◌, ℕ, ◌+◌, ◌-◌, ◌<◌, ◌≤�
 use Rattle.std.specs.Prelude.{None, Option, Some, if◌then◌else◌, ◌==◌}
 use Rattle.std.proofs.lemmas.Bool.{eqb-false}
 use Rattle.rt_base.specs.declared.TheConstants.{MOST_STEPS, TICK_END}
+use Rattle.rt_base.specs.declared.CpuNo.{CpuNo}
 use Rattle.rt_task.specs.declared.Act.{Act}
 use Rattle.rt_task.specs.declared.Act.TheVariants as acts
 use Rattle.rt_task.specs.declared.Op.{Op}
@@ -26,8 +27,9 @@ use Rattle.group_core.specs.Facts.{told_all}
 use Rattle.group_core.specs.Reads.{CanRead, timer_in}
 use Rattle.group_core.proofs.Counting.{read-clock}
 use Rattle.group_core.proofs.Reading.{is-task}
-use Rattle.rank_afresh.specs.Clusters.{ClusterFacts, HasRenewed, IsPlaced, runs_in}
-use Rattle.rank_afresh.specs.Facts.{ArePlaced, CanEnd, CanFollow, Facts, HasEnded, HaveRenewed, WithRoom, cluster_at, core_of, with_core}
+use Rattle.rank_afresh.specs.Clusters.{ClusterFacts, HasRenewed, IsApart, IsPlaced, runs_in}
+use Rattle.rank_afresh.specs.Facts.{ArePlaced, ArePlacedApart, CanEnd, CanFollow, Facts, HasEnded, HaveRenewed, WithRoom, cluster_at, core_of, with_core}
+use Rattle.rank_afresh.specs.declared.cluster.Ran.TheVariants as rans
 use Rattle.rank_afresh.specs.Moments.{due_in}
 use Rattle.rank_afresh.specs.Ranks.{AreTasks}
 use Rattle.rank_afresh.proofs.Fitting.{places-stay}
@@ -106,23 +108,39 @@ one-new all q act reply none k = by_case (accepted reply)
     by_case true = by_act act
     by_case false = inl refl
 
-pub runs-stay : (all : List Task) (q : ℕ) (act : Act) (reply : Reply) (none : Bool) (k : Kept) → (cpu_of (has_acted all q act reply none k) q).runs ≡ (cpu_of k q).runs
-    → (first n : ℕ) → runs_in (has_acted all q act reply none k) first n ≡ runs_in k first n
-runs-stay all q act reply none k same first n =
-    map-same (λ r. (cpu_of k r).runs) (λ r. (cpu_of (has_acted all q act reply none k) r).runs) (numbers_from first n) (λ r h. one r (one-new all q act reply none k))
+-- it runs what it ran, or it is none of these
+abbrev Stays : ℕ → Kept → Kept → ℕ → ℕ → Type 0
+Stays q k k' first n = ((cpu_of k' q).runs ≡ (cpu_of k q).runs) ⊎ ((q < first) ⊎ (first + n ≤ q))
+
+pub runs-stay : (all : List Task) (q : ℕ) (act : Act) (reply : Reply) (none : Bool) (k : Kept) (first n : ℕ) → Stays q k (has_acted all q act reply none k) first n
+    → runs_in (has_acted all q act reply none k) first n ≡ runs_in k first n
+runs-stay all q act reply none k first n stays =
+    map-same (λ r. (cpu_of k r).runs) (λ r. (cpu_of (has_acted all q act reply none k) r).runs) (numbers_from first n) (λ r h. one r h (one-new all q act reply none k))
   where
-    one : (r : ℕ) → IsOneNew q k (has_acted all q act reply none k) → (cpu_of (has_acted all q act reply none k) r).runs ≡ (cpu_of k r).runs
-    one r (inl all_same) = ap (λ (cs : List CpuFacts). (get_or cs r idle_cpu).runs) all_same
-    one r (inr new) = by_case (r == q) refl
+    at_it : (r : ℕ) → has r (numbers_from first n) ≡ true → r ≡ q → Stays q k (has_acted all q act reply none k) first n → (cpu_of (has_acted all q act reply none k) r).runs ≡ (cpu_of k r).runs
+    at_it r h here (inl same) = ap (λ m. (cpu_of (has_acted all q act reply none k) m).runs) here ∙ same ∙ ap (λ m. (cpu_of k m).runs) (sym here)
+    at_it r h here (inr (inl before)) = let low = has-numbers_from r first n h in absurd (omega (arith, before, low, here))
+    at_it r h here (inr (inr after)) = let high = numbers_from-below r first n h in absurd (omega (arith, after, high, here))
+
+    one : (r : ℕ) → has r (numbers_from first n) ≡ true → IsOneNew q k (has_acted all q act reply none k) → (cpu_of (has_acted all q act reply none k) r).runs ≡ (cpu_of k r).runs
+    one r h (inl all_same) = ap (λ (cs : List CpuFacts). (get_or cs r idle_cpu).runs) all_same
+    one r h (inr new) = by_case (r == q) refl
       where
         by_case : (b : Bool) → r == q ≡ b → (cpu_of (has_acted all q act reply none k) r).runs ≡ (cpu_of k r).runs
-        by_case true e = let here : r ≡ q = eqb-true r q e in ap (λ m. (cpu_of (has_acted all q act reply none k) m).runs) here ∙ same ∙ ap (λ m. (cpu_of k m).runs) (sym here)
+        by_case true e = at_it r h (eqb-true r q e) stays
         by_case false e =
             ap (λ (cs : List CpuFacts). (get_or cs r idle_cpu).runs) new.1
             ∙ ap (λ (c : CpuFacts). c.runs) (get_or-set_other k.cpus q r new.0 idle_cpu (eqb-false r q e))
 
-pub placed-acted : (all : List Task) (q : ℕ) (act : Act) (reply : Reply) (none : Bool) (k : Kept) (cs : List ClusterFacts) → ArePlaced k cs
-    → (cpu_of (has_acted all q act reply none k) q).runs ≡ (cpu_of k q).runs → ArePlaced (has_acted all q act reply none k) cs
-placed-acted all q act reply none k cs placed same n inside =
+pub placed-acted : (all : List Task) (q : CpuNo) (act : Act) (reply : Reply) (none : Bool) (k : Kept) (cs : List ClusterFacts) → ArePlaced k cs → (b : Bool)
+    → (b ≡ true → (cpu_of (has_acted all q.0 act reply none k) q.0).runs ≡ (cpu_of k q.0).runs)
+    → ArePlacedApart (if b then rans.Nowhere else rans.At q) (has_acted all q.0 act reply none k) cs
+placed-acted all q act reply none k cs placed b same n inside apart =
     let is : IsPlaced k (cluster_at cs n) = placed n inside in
-    record { top_is = is.top_is; runs_are = is.runs_are ∙ sym (runs-stay all q act reply none k same (cluster_at cs n).first (length (cluster_at cs n).links)) }
+    let x : ClusterFacts = cluster_at cs n in
+    record { top_is = is.top_is; runs_are = is.runs_are ∙ sym (runs-stay all q.0 act reply none k x.first (length x.links) (stays b same apart)) }
+  where
+    stays : (b : Bool) → (b ≡ true → (cpu_of (has_acted all q.0 act reply none k) q.0).runs ≡ (cpu_of k q.0).runs) → IsApart (if b then rans.Nowhere else rans.At q) (cluster_at cs n)
+        → Stays q.0 k (has_acted all q.0 act reply none k) (cluster_at cs n).first (length (cluster_at cs n).links)
+    stays true same apart = inl (same refl)
+    stays false same apart = inr apart

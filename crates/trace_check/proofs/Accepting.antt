@@ -1,27 +1,23 @@
 -- An entry that is the next one is followed.
 use Rattle.std.proofs.Common.{◌≡◌, ◌+◌, ◌<◌, ◌≤◌, List, [], ◌∷◌, ◌++◌, length, refl, sym, ap, ◌∙◌, subst, arith, length-append}
 use Rattle.std.proofs.Math.Seq.{get_or-append_seam}
-use Rattle.rt_base.specs.declared.CpuNo.{CpuNo}
 use Rattle.rt_base.specs.declared.TheConstants.{MOST_STEPS}
 use Rattle.rt_task.specs.declared.Parts.{Parts}
 use Rattle.rt_task.specs.declared.Step.{Step}
 use Rattle.rt_history.specs.declared.Entry.{Entry}
-use Rattle.rt_model.specs.Group.{Group, group_processors}
+use Rattle.rt_model.specs.Group.{Group}
 use Rattle.rt_model.specs.Histories.{after, past_of, reply_to}
 use Rattle.rt_model.specs.Steps.{IsStepOf}
 use Rattle.rt_model.proofs.Steps.{past_of-append}
 use Rattle.rt_plays.proofs.PlayLaws.{play-fits}
 use Rattle.block_counts.specs.GroupRequests as counts
-use Rattle.rank_afresh.specs.Standing.{IsAt, group_of}
-use Rattle.trace_lines.specs.declared.links.CpuLink.{CpuLink}
-use Rattle.trace_lines.specs.Lines.{links_of}
-use Rattle.trace_text.specs.Groups.{cpu_numbers}
-use Rattle.trace_text.specs.TraceText.{links_at}
-use Rattle.trace_text.proofs.ReplayLaws.{AreRead, are-read}
+use Rattle.rank_afresh.specs.Standing.{IsAt, Standing, group_of}
 use Rattle.trace_laws.proofs.Plays.{begun-steps, few-entries}
 use Rattle.trace_check.specs.declared.course.Course.{Course}
 use Rattle.trace_check.specs.declared.follow.Follow.{Follow}
+use Rattle.trace_check.specs.declared.links.GroupLinks.{GroupLinks}
 use Rattle.trace_check.specs.Courses.{CanTake, IsCourse, IsOnCourse}
+use Rattle.trace_check.specs.GroupLinks.{AreLinks, CanRead}
 use Rattle.trace_check.specs.Following.{CanStep, IsFollowing, IsFollowingWith}
 use Rattle.trace_check.specs.Places.{IsNextStep, Place, entry_by, longer}
 
@@ -62,20 +58,20 @@ module _ (at : Place) (p : Parts) (f : Follow) (fw : IsFollowingWith at p f) (st
   pub count-low : f.count + 1 ≤ MOST_STEPS
   count-low = let few = few-entries g (es ++ made ∷ []) fw.following.valid next in omega (arith, few, more-entries, fw.following.count_is)
 
-  -- the links after the step, and those before
-  pub read-now : (v : Group) (ks : List CpuNo) (before links : List CpuLink) → v ≡ g → ks ≡ f.cpus.items → before ≡ f.links.items
-      → links_of links ≡ links_at v (after g step (past_of g es)) (cpu_numbers ks) → AreRead g (past_of g es) (after g step (past_of g es)) before links
-  read-now v ks before links same cpus before_is read =
-      are-read g v (past_of g es) (after g step (past_of g es)) f.cpus.items ks f.links.items before links same fw.following.cpus_are cpus before_is fw.following.links_are read
+  -- the links before the step are those of the group
+  pub can-read : (v : Standing) (l : GroupLinks) → group_of v ≡ g → l ≡ f.links → IsAt v (after g step (past_of g es)) → CanRead (past_of g es) step v l
+  can-read v l same kept at_after = record {
+    before = subst (λ (x : Group). AreLinks x (past_of g es) l) (sym same) (subst (AreLinks g (past_of g es)) (sym kept) fw.following.links_are);
+    stands = subst (λ (x : Group). IsAt v (after x step (past_of g es))) (sym same) at_after;
+  }
 
   -- what is followed afterwards
   pub record IsTaken (f' : Follow) : Type 0 where
     pub group_same : group_of f'.afresh ≡ group_of f.afresh
     pub spare_less : f'.afresh.spare + 1 ≡ f.afresh.spare
     pub at_after : IsAt f'.afresh (after g step (past_of g es))
-    pub cpus_same : f'.cpus.items ≡ f.cpus.items
     pub count_more : f'.count ≡ f.count + 1
-    pub links_read : links_of f'.links.items ≡ links_at g (after g step (past_of g es)) (group_processors g)
+    pub links_after : AreLinks g (after g step (past_of g es)) f'.links
     pub counted_after : counts.IsAt f'.blocks (after g step (past_of g es))
     pub blocks_same : counts.group_of f'.blocks ≡ counts.group_of f.blocks
     pub blocks_less : f'.blocks.spare + 1 ≡ f.blocks.spare
@@ -104,7 +100,6 @@ module _ (at : Place) (p : Parts) (f : Follow) (fw : IsFollowingWith at p f) (st
         blocks_group = t.blocks_same ∙ fw.following.blocks_group;
         blocks_spare = omega (arith, t.blocks_less, t.spare_less, fw.following.blocks_spare);
         waiting_room = omega (arith, t.room_same, fw.following.waiting_room);
-        cpus_are = ap cpu_numbers t.cpus_same ∙ fw.following.cpus_are;
-        links_are = t.links_read ∙ ap (λ past. links_at g past (group_processors g)) (sym past_is);
+        links_are = subst (λ past. AreLinks g past f'.links) (sym past_is) t.links_after;
         course_is = t.course_after;
       }

@@ -136,10 +136,10 @@ abbrev pub place_at : {p : Parts} → {lines : List Line} → {n : ℕ} → {fro
 place_at {p = p} {n = n} right = record { group = group_with p n; entries = right.entries }
 
 -- the line that shows the links of a group at opening
-pub opened-line : {p : Parts} → (n : ℕ) (f : Follow) → IsFollowing (group_with p n) [] f → group_line n (links_of f.links.items) ≡ opening_line (group_with p n)
+pub opened-line : {p : Parts} → (n : ℕ) (f : Follow) → IsFollowing (group_with p n) [] f → group_line n (links_of f.links.links.items) ≡ opening_line (group_with p n)
 opened-line {p = p} n f following =
     let g : Group = group_with p n in
-    ap (group_line n) (following.links_are ∙ ap (λ past. links_at g past (group_processors g)) (past_none g))
+    ap (group_line n) (following.links_are.links_are ∙ ap (λ past. links_at g past (group_processors g)) (past_none g))
 
 module _ (p : Parts) (lines : List Line) where
   stands-before : {n : ℕ} → {r : Progress} → {opened seats : List Seat} → (right : AreRight p lines n r opened seats) → StandBefore (lines_of_groups p 0 right.histories) lines r.lines
@@ -202,11 +202,11 @@ module _ (p : Parts) (lines : List Line) where
         none_next l others here (inr next) = omega (arith, next.all, low, right.count)
 
     -- it is
-    pub opened-right : (f : Follow) → IsFollowing (group_with p n) [] f → begins_with n (links_of f.links.items) (drop r.lines lines) ≡ true → IsRight p lines n r (r.lines + 1) f opened was was
+    pub opened-right : (f : Follow) → IsFollowing (group_with p n) [] f → begins_with n (links_of f.links.links.items) (drop r.lines lines) ≡ true → IsRight p lines n r (r.lines + 1) f opened was was
     opened-right f following begins =
-        let line = begins-true n (links_of f.links.items) (drop r.lines lines) begins in
+        let line = begins-true n (links_of f.links.links.items) (drop r.lines lines) begins in
         let g : Group = group_with p n in
-        let more = stand-more (lines_of_groups p 0 right.histories) lines r.lines (group_line n (links_of f.links.items)) line.0 (stands-before right) line.1 in
+        let more = stand-more (lines_of_groups p 0 right.histories) lines r.lines (group_line n (links_of f.links.links.items)) line.0 (stands-before right) line.1 in
         record {
           before = right;
           entries = [];

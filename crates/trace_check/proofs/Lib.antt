@@ -1,4 +1,5 @@
 pub mod LinkLists
+pub mod LinkLaws
 pub mod HeadText
 pub mod Places
 pub mod Courses

@@ -29,7 +29,7 @@ same-true None (Some t) h = cc
 same-true (Some t) None h = cc
 same-true (Some t) (Some u) h = ap Some (eqb-true t u h)
 
-same-self : (a : Option ℕ) → same a a ≡ true
+pub same-self : (a : Option ℕ) → same a a ≡ true
 same-self None = refl
 same-self (Some t) = let e : t == t ≡ true = grind (arith, nat_tests) in e
 

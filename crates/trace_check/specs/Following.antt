@@ -4,20 +4,20 @@ use Rattle.rt_task.specs.declared.Parts.{Parts}
 use Rattle.rt_task.specs.declared.Step.{Step}
 use Rattle.rt_task.specs.Validity.{IsValid}
 use Rattle.rt_history.specs.declared.Entry.{Entry}
-use Rattle.rt_model.specs.Group.{Group, group_processors}
+use Rattle.rt_model.specs.Group.{Group}
 use Rattle.rt_model.specs.Steps.{IsStepOf}
 use Rattle.rt_model.specs.Histories.{after, changed, past_of, reply_to}
 use Rattle.rt_groups.specs.Groups.{IsGroupOf}
 use Rattle.block_counts.specs.GroupRequests as counts
 use Rattle.rank_afresh.specs.Standing.{IsAt, group_of}
-use Rattle.trace_lines.specs.Lines.{Link, links_of}
+use Rattle.trace_lines.specs.Lines.{Link}
 use Rattle.trace_text.specs.TraceText.{links_at}
-use Rattle.trace_text.specs.Groups.{cpu_numbers}
 use Rattle.rt_plays.specs.Plays.{IsBegunPlay}
 use Rattle.rt_plays.specs.Room.{room}
 use Rattle.trace_check.specs.declared.course.Course.{Course}
 use Rattle.trace_check.specs.declared.follow.Follow.{Follow}
 use Rattle.trace_check.specs.Courses.{IsCourse}
+use Rattle.trace_check.specs.GroupLinks.{AreLinks}
 use Rattle.trace_check.specs.Places.{IsNextStep, Place}
 
 -- these entries of the group were followed
@@ -33,8 +33,7 @@ pub record IsFollowing (g : Group) (es : List Entry) (f : Follow) : Type 0 where
   pub blocks_group : counts.group_of f.blocks ≡ g
   pub blocks_spare : f.blocks.spare ≡ f.afresh.spare
   pub waiting_room : length g.setup.tasks ≤ f.waiting.room
-  pub cpus_are : cpu_numbers f.cpus.items ≡ group_processors g
-  pub links_are : links_of f.links.items ≡ links_at g (past_of g es) (group_processors g)
+  pub links_are : AreLinks g (past_of g es) f.links
   pub course_is : IsCourse g es f.course
 
 -- they were followed by the group's set

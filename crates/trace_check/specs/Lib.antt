@@ -1,6 +1,7 @@
 pub mod Verdicts
 pub mod Next
 pub mod SameLinks
+pub mod GroupLinks
 pub mod LinesAlike
 pub mod Places
 pub mod Courses

@@ -17,33 +17,29 @@ ghost use Rattle.trace_check.specs.Places.{Place};
 ghost use Rattle.trace_check.specs.RequestLines.{request_lines};
 
 use crate::course::Course;
-use crate::links::{are_same, read_links};
+use crate::links::{GroupLinks, are_same};
 use crate::same::is_same_reply;
 use block_counts::{Blocks, Seen};
 use rank_afresh::Afresh;
-use rt_base::{CpuNo, GroupNo, NoMemory};
+use rt_base::{GroupNo, NoMemory};
 use rt_history::{Entry, Reply};
 use rt_task::{Setup, Step};
 use std::alloc::Global;
-use std::mem;
 use trace_lines::CpuLink;
-use trace_text::{cpus_of, put_changed, shown_by};
+use trace_text::{cpus_of, shown_by};
 use trace_tools::Shown;
 use waiting_list::WaitingList;
 
 /// A group whose entries are followed: the ranker that replays them, the requests so far with their
-/// counts, the tasks that waited as the last entry freed a semaphore, the group's processors, their
-/// links now and before the last entry, those that this entry changed, how far the scripts or the
-/// turns of the processors were followed, and the number of entries.
+/// counts, the tasks that waited as the last entry freed a semaphore, the group's processors with
+/// their links, how far the scripts or the turns of the processors were followed, and the number of
+/// entries.
 #[derive(Drop)]
 pub(crate) struct Follow {
     afresh: Afresh,
     blocks: Blocks,
     waiting: WaitingList,
-    cpus: Vec<CpuNo>,
-    links: Vec<CpuLink>,
-    before: Vec<CpuLink>,
-    changed: Vec<CpuLink>,
+    links: GroupLinks,
     course: Course,
     count: u32,
 }
@@ -63,16 +59,12 @@ impl Follow {
         let blocks = Blocks::open(alloc, setup, group, room)?;
         let tasks = setup.parts().tasks.as_slice().len();
         let waiting = WaitingList::open(alloc, tasks as u32)?;
-        let mut links = Vec::new(alloc);
-        read_links(&afresh, cpus.as_slice(), &mut links)?;
+        let links = GroupLinks::open(alloc, &afresh, cpus)?;
         Ok(Follow {
             afresh,
             blocks,
             waiting,
-            cpus,
             links,
-            before: Vec::new(alloc),
-            changed: Vec::new(alloc),
             course,
             count: 0,
         })
@@ -145,17 +137,11 @@ impl Follow {
         if !is_same_reply(self.step(entry.step), entry.reply) {
             return Ok(false);
         }
-        mem::swap(&mut self.before, &mut self.links);
-        read_links(&self.afresh, self.cpus.as_slice(), &mut self.links)?;
-        put_changed(
-            self.before.as_slice(),
-            self.links.as_slice(),
-            &mut self.changed,
-        )?;
-        if !are_same(self.changed.as_slice(), links) {
+        self.links.follow(&self.afresh)?;
+        if !are_same(self.links.changed(), links) {
             return Ok(false);
         }
-        self.course.look(setup, &self.afresh, self.cpus.as_slice());
+        self.course.look(setup, &self.afresh, self.links.cpus());
         self.count += 1;
         Ok(true)
     }
@@ -171,9 +157,9 @@ impl Follow {
 
     /// The links now.
     pub(crate) fn links(&self) -> &[CpuLink]
-        ensures { result.now ≡ self.now.links.items }
+        ensures { result.now ≡ self.now.links.links.items }
     {
-        self.links.as_slice()
+        self.links.links()
     }
 
     /// The requests among the entries that were followed, each with its counts.

@@ -23,7 +23,7 @@ use trace_tools::{Bus, TraceTool};
 /// Whether the first of the lines is that of the group, with its links at opening.
 fn begins(follow: &Follow, number: GroupNo, lines: &[Line]) -> bool
     ensures { result
-        ≡ begins_with number.0 (links_of follow.now.links.items) (lines_of lines.now) }
+        ≡ begins_with number.0 (links_of follow.now.links.links.items) (lines_of lines.now) }
 {
     match lines.first() {
         Some(Line::GroupLine { group, links }) => {

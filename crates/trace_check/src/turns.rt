@@ -47,7 +47,7 @@ pub(crate) fn take_turn(turns: &mut Turns, setup: &Setup, afresh: &Afresh, step:
     turns.take(step, next)
 }
 
-/// Looks at each of these processors after a step that was taken.
+/// Looks at each of these processors that awaits it, after a step that was taken.
 pub(crate) fn look_at(turns: &mut Turns, setup: &Setup, afresh: &Afresh, cpus: &[CpuNo])
     requires cpus { All (λ q. IsProcessorOf (group_of afresh.now) q.0) cpus.now }
     requires at { (past : Past) × IsAt afresh.now past }
@@ -58,7 +58,9 @@ pub(crate) fn look_at(turns: &mut Turns, setup: &Setup, afresh: &Afresh, cpus: &
         → AreLooked (group_of afresh.now) past step (cpu_numbers cpus.now) turns.new }
 {
     for cpu in cpus {
-        let is_none = next_of(setup, afresh, *cpu).is_none();
-        turns.look(*cpu, is_none);
+        if turns.awaits_look(*cpu) {
+            let is_none = next_of(setup, afresh, *cpu).is_none();
+            turns.look(*cpu, is_none);
+        }
     }
 }

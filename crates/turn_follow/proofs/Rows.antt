@@ -21,7 +21,7 @@ use Rattle.rt_plays.specs.NextSteps.{MayComeNext}
 use Rattle.rt_plays.specs.Turns.{turns_begun, steps_since, has_none, had_none, is_tick}
 use Rattle.rt_plays.proofs.TurnLaws.{begun-act, begun-other, begun-tick, had-after, since-act, since-other, since-tick}
 use Rattle.turn_follow.specs.declared.turn.Turn.{Turn}
-use Rattle.turn_follow.specs.Turn.{Begins, GoesOn, IsTaken, seen, stepped}
+use Rattle.turn_follow.specs.Turn.{Begins, GoesOn, IsTaken, awaits_look, counts_none, seen, stepped}
 use Rattle.turn_follow.specs.Turns.{AreAt, AreLooked, HasTaken, IsRowOf, IsTurnAfter, IsTurnAt, Turns, numbers_of, row_ended, row_of, row_seen}
 use Rattle.turn_follow.proofs.TurnLaws.{comes-next, ended-is, next-comes, no-tick}
 
@@ -98,7 +98,7 @@ more-given cpus i cpu d rows low is inside opened q =
 
 turn-first : (g : Group) (q : ℕ) → IsTurnAt g [] q before_all
 unfolding turns_begun steps_since had_none
-turn-first g q = record { begun_is = refl; since_is = refl; none_is = refl }
+turn-first g q = record { begun_is = refl; since_is = refl; none_is = λ counts. refl }
 
 pub rows-first : (g : Group) (qs : List ℕ) (v : Turns) → qs ≡ group_processors g → drives.horizon g.setup.drive ≡ v.horizon → ((q : ℕ) → row_of v.rows q ≡ given (has q qs)) → AreAt g [] v
 rows-first g qs v same far opened = record { horizon_is = sym far; rows_are = λ q. subst (IsRowOf g q (IsTurnAt g [] q)) (sym (opened q)) (by_case q (has q qs) refl) }
@@ -125,21 +125,21 @@ module _ (g : Group) (past : Past) (step : Step) (v : Turns) (at : AreAt g past 
       record {
         begun_is = ap (λ (x : Turn). x.begun) same ∙ is.begun_is ∙ sym (begun-act g step past step.cpu.0 no);
         since_is = ap (λ (x : Turn). x.since) same ∙ ap (λ (n : ℕ). n + 1) is.since_is ∙ sym (since-act g step past step.cpu.0 own no);
-        none_is = none-own u (ap (λ (x : Turn). x.had_none) same);
+        none_is = λ counts. none-own u (ap (λ (x : Turn). x.had_none) same);
       }
   turn-taken t u is (inr (new, same)) =
       let yes : is_tick step.act ≡ true = ap is_tick new.act_is in
       record {
         begun_is = ap (λ (x : Turn). x.begun) same ∙ ap (λ (n : ℕ). n + 1) is.begun_is ∙ sym (begun-tick g step past step.cpu.0 own yes);
         since_is = ap (λ (x : Turn). x.since) same ∙ sym (since-tick g step past step.cpu.0 own yes);
-        none_is = none-own u (ap (λ (x : Turn). x.had_none) same);
+        none_is = λ counts. none-own u (ap (λ (x : Turn). x.had_none) same);
       }
 
   turn-other : (q : ℕ) (t : Turn) → step.cpu.0 == q ≡ false → IsTurnAt g past q t → IsTurnAfter g past step [] q t
   turn-other q t other is = record {
     begun_is = is.begun_is ∙ sym (begun-other g step past q other);
     since_is = is.since_is ∙ sym (since-other g step past q other);
-    none_is = rw other is.none_is;
+    none_is = λ counts. rw other (is.none_is counts);
   }
 
   came : (t u : Turn) → IsTaken t next (drives.horizon g.setup.drive) step u → GoesOn t next step ⊎ Begins t (drives.horizon g.setup.drive) step
@@ -186,16 +186,25 @@ looked-now false true r = or_true r
 looked-now false false true = refl
 looked-now false false false = refl
 
+unseen-now : (kept counts a n r : Bool) → counts ≡ true → counts && not kept ≡ false → kept ≡ (a && n) || r → kept ≡ (true && n) || r
+unseen-now false counts a n r counted unasked is = cc
+unseen-now true counts a n r counted unasked is = more a n r is
+  where
+    more : (a n r : Bool) → true ≡ (a && n) || r → true ≡ (true && n) || r
+    more true n r is = is
+    more false true r is = refl
+    more false false r is = is
+
 module _ (g : Group) (past : Past) (step : Step) (qs : List ℕ) (v : Turns) (at : AreLooked g past step qs v) (q : ℕ) where
   turn-kept : (p : ℕ) (t : Turn) → q == p ≡ false → IsTurnAfter g past step qs p t → IsTurnAfter g past step (qs ++ q ∷ []) p t
-  turn-kept p t other is = record { begun_is = is.begun_is; since_is = is.since_is; none_is = rw (has-more p q qs other) is.none_is }
+  turn-kept p t other is = record { begun_is = is.begun_is; since_is = is.since_is; none_is = λ counts. rw (has-more p q qs other) (is.none_is counts) }
 
   turn-seen : (t : Turn) (none : Bool) → none ≡ has_none g q (after g step past) → IsTurnAfter g past step qs q t → IsTurnAfter g past step (qs ++ q ∷ []) q (seen t none)
   turn-seen t none told is = record {
     begun_is = is.begun_is;
     since_is = is.since_is;
-    none_is =
-        ap (λ (b : Bool). b || none) is.none_is ∙ ap (λ (b : Bool). ((has q qs && has_none g q (after g step past)) || (not (step.cpu.0 == q) && had_none g q past)) || b) told
+    none_is = λ counts.
+        ap (λ (b : Bool). b || none) (is.none_is counts) ∙ ap (λ (b : Bool). ((has q qs && has_none g q (after g step past)) || (not (step.cpu.0 == q) && had_none g q past)) || b) told
         ∙ looked-now (has q qs) (has_none g q (after g step past)) (not (step.cpu.0 == q) && had_none g q past)
         ∙ ap (λ (b : Bool). (b && has_none g q (after g step past)) || (not (step.cpu.0 == q) && had_none g q past)) (sym (has-now q qs));
   }
@@ -209,6 +218,32 @@ module _ (g : Group) (past : Past) (step : Step) (qs : List ℕ) (v : Turns) (at
         horizon_is = at.horizon_is;
         rows_are = put-rows g v.rows q (Some (seen t none)) (IsTurnAfter g past step qs) (IsTurnAfter g past step (qs ++ q ∷ [])) (row-inside v.rows q t is) at.rows_are (here.0, turn-seen t none told here.1) turn-kept;
       })
+
+  -- where a look can change nothing, none is taken
+  turn-unseen : (t : Turn) → awaits_look t ≡ false → IsTurnAfter g past step qs q t → IsTurnAfter g past step (qs ++ q ∷ []) q t
+  turn-unseen t unasked is = record {
+    begun_is = is.begun_is;
+    since_is = is.since_is;
+    none_is = λ counts.
+        unseen-now t.had_none (counts_none t.since) (has q qs) (has_none g q (after g step past)) (not (step.cpu.0 == q) && had_none g q past) counts unasked (is.none_is counts)
+        ∙ ap (λ (b : Bool). (b && has_none g q (after g step past)) || (not (step.cpu.0 == q) && had_none g q past)) (sym (has-now q qs));
+  }
+
+  pub looked-not : (t : Turn) → row_of v.rows q ≡ Some t → awaits_look t ≡ false → AreLooked g past step (qs ++ q ∷ []) v
+  looked-not t is unasked = record { horizon_is = at.horizon_is; rows_are = λ p. kept p (q == p) refl (row_of v.rows p) refl (at.rows_are p) }
+    where
+      own : (u : Turn) → row_of v.rows q ≡ Some u → awaits_look u ≡ false
+      own u row = (let same : Some t ≡ Some u = sym is ∙ row in cc (unasked, same))
+
+      kept : (p : ℕ) (b : Bool) → q == p ≡ b → (o : Option Turn) → row_of v.rows p ≡ o → IsRowOf g p (IsTurnAfter g past step qs p) o → IsRowOf g p (IsTurnAfter g past step (qs ++ q ∷ []) p) o
+      kept p b e None row h = h
+      kept p true e (Some u) row h =
+          let same : q ≡ p = eqb-true q p e in (
+            h.0,
+            subst (λ (r : ℕ). IsTurnAfter g past step (qs ++ q ∷ []) r u) same
+                (turn-unseen u (own u (ap (row_of v.rows) same ∙ row)) (subst (λ (r : ℕ). IsTurnAfter g past step qs r u) (sym same) h.1)),
+          )
+      kept p false e (Some u) row h = (h.0, turn-kept p u e h.1)
 
   -- a processor of another group is not looked at
   pub looked-past : row_of v.rows q ≡ None → AreLooked g past step (qs ++ q ∷ []) v
@@ -228,7 +263,7 @@ all-looked g past step v at = record { horizon_is = at.horizon_is; rows_are = λ
     by_row q (Some t) h =
         let there : has q (group_processors g) ≡ true = h.0 in
         let is = h.1 in
-        (h.0, record { begun_is = is.begun_is; since_is = is.since_is; none_is = is.none_is ∙ rw there (sym (had-after g step past q)) })
+        (h.0, record { begun_is = is.begun_is; since_is = is.since_is; none_is = λ counts. is.none_is counts ∙ rw there (sym (had-after g step past q)) })
 
 -- ---- the end
 

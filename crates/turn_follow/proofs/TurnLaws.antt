@@ -1,6 +1,7 @@
 -- What is kept of a processor, where it is what the definitions give: which step may come next, and what comes of it.
-use Rattle.std.proofs.Common.{◌≡◌, ◌⊎◌, ℕ, ◌-◌, ◌<◌, Bool, false, ◌||◌, inl, inr, refl, sym, ap, ◌∙◌, subst, arith}
-use Rattle.std.specs.Prelude.{◌==◌, Option, Some}
+use Rattle.std.proofs.Common.{◌≡◌, ◌⊎◌, ℕ, ◌+◌, ◌-◌, ◌<◌, Bool, true, false, not, ◌&&◌, ◌||◌, inl, inr, refl, sym, ap, ◌∙◌, subst, arith}
+use Rattle.std.specs.Prelude.{◌==◌, nat_le, Option, Some}
+use Rattle.rt_base.specs.declared.TheConstants.{MOST_TURN_ACTS}
 use Rattle.std.proofs.lemmas.Bool.Decides.{nat_tests}
 use Rattle.rt_task.specs.declared.Act.{Act}
 use Rattle.rt_task.specs.declared.Act.TheVariants as acts
@@ -19,13 +20,21 @@ use Rattle.turn_follow.specs.declared.turn.Turn.{Turn}
 use Rattle.turn_follow.specs.Turn.{Begins, GoesOn, act_on, has_ended, is_between}
 use Rattle.turn_follow.specs.Turns.{IsTurnAt}
 
+-- a turn is over by what was seen of its next act only where that counts
+as-counted : (begun full kept told : Bool) → (begun && not full ≡ true → kept ≡ told) → begun && (full || kept) ≡ begun && (full || told)
+as-counted true true kept told same = refl
+as-counted true false kept told same = same refl
+as-counted false full kept told same = refl
+
 module _ (g : Group) (past : Past) (q : ℕ) (t : Turn) (is : IsTurnAt g past q t) where
   act_on-is : (next : Option Act) → next ≡ next_act g (situation g q past) → act_on t next ≡ act_going_on g q past
   unfolding act_going_on
   act_on-is next told = rw (is.since_is, told) refl
 
   pub between-is : is_between t ≡ defs.is_between g q past
-  between-is = rw (is.begun_is, is.since_is, is.none_is) (sym (between-lem g q past ∙ ap (λ (b : Bool). turns_begun q past == 0 || b) (over-lem g q past)))
+  between-is =
+      ap (λ (b : Bool). t.begun == 0 || b) (as-counted (nat_le 1 t.since) (nat_le (MOST_TURN_ACTS + 1) t.since) t.had_none (had_none g q past) is.none_is)
+      ∙ rw (is.begun_is, is.since_is) (sym (between-lem g q past ∙ ap (λ (b : Bool). turns_begun q past == 0 || b) (over-lem g q past)))
 
   pub ended-is : has_ended t (horizon g.setup.drive) ≡ plays.has_ended g q past
   unfolding plays.has_ended has_left

@@ -36,5 +36,13 @@ IsTaken t next horizon s u = (GoesOn t next s × (u ≡ stepped t.begun (t.since
 abbrev pub seen : Turn → Bool → Turn
 seen t none = record { begun = t.begun; since = t.since; had_none = t.had_none || none }
 
+-- whether its next act still counts: its turn has begun with an interrupt, and has acts left
+abbrev pub counts_none : ℕ → Bool
+counts_none since = nat_le 1 since && not (nat_le (MOST_TURN_ACTS + 1) since)
+
+-- whether a look can change what comes next
+abbrev pub awaits_look : Turn → Bool
+awaits_look t = counts_none t.since && not t.had_none
+
 abbrev pub has_ended : Turn → ℕ → Bool
 has_ended t horizon = is_between t && not (nat_lt t.begun horizon)

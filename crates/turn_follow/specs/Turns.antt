@@ -11,7 +11,7 @@ use Rattle.rt_plays.specs.Homes.{IsProcessorOf}
 use Rattle.rt_plays.specs.NextSteps.{MayComeNext}
 use Rattle.rt_plays.specs.Turns.{turns_begun, steps_since, has_none, had_none}
 use Rattle.turn_follow.specs.declared.turn.Turn.{Turn}
-use Rattle.turn_follow.specs.Turn.{has_ended, seen}
+use Rattle.turn_follow.specs.Turn.{counts_none, has_ended, seen}
 
 -- by the processor's number, and how many turns each has
 pub record Turns : Type 0 where
@@ -37,11 +37,11 @@ abbrev pub IsRowOf : Group → ℕ → (Turn → Type 0) → Option Turn → Typ
 IsRowOf g q P None = IsProcessorOf g q → ⊥
 IsRowOf g q P (Some t) = IsProcessorOf g q × P t
 
--- what is kept of a processor is what the definitions give at this past
+-- what is kept of a processor is what the definitions give at this past, that its next act was none as far as that counts
 pub record IsTurnAt (g : Group) (past : Past) (q : ℕ) (t : Turn) : Type 0 where
   pub begun_is : t.begun ≡ turns_begun q past
   pub since_is : t.since ≡ steps_since q past
-  pub none_is : t.had_none ≡ had_none g q past
+  pub none_is : counts_none t.since ≡ true → t.had_none ≡ had_none g q past
 
 pub record AreAt (g : Group) (past : Past) (v : Turns) : Type 0 where
   pub horizon_is : v.horizon ≡ drives.horizon g.setup.drive
@@ -51,7 +51,7 @@ pub record AreAt (g : Group) (past : Past) (v : Turns) : Type 0 where
 pub record IsTurnAfter (g : Group) (past : Past) (step : Step) (qs : List ℕ) (q : ℕ) (t : Turn) : Type 0 where
   pub begun_is : t.begun ≡ turns_begun q (after g step past)
   pub since_is : t.since ≡ steps_since q (after g step past)
-  pub none_is : t.had_none ≡ (has q qs && has_none g q (after g step past)) || (not (step.cpu.0 == q) && had_none g q past)
+  pub none_is : counts_none t.since ≡ true → t.had_none ≡ (has q qs && has_none g q (after g step past)) || (not (step.cpu.0 == q) && had_none g q past)
 
 pub record AreLooked (g : Group) (past : Past) (step : Step) (qs : List ℕ) (v : Turns) : Type 0 where
   pub horizon_is : v.horizon ≡ drives.horizon g.setup.drive

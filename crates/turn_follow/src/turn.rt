@@ -106,6 +106,14 @@ impl Turn {
         }
     }
 
+    /// Whether a look can change what comes next: not before the turn's interrupt, nor once it has had all its acts, nor where
+    /// the next act was none before.
+    pub(crate) fn awaits_look(self) -> bool
+        ensures { result ≡ words.awaits_look self }
+    {
+        self.since > 0 && self.since <= MOST_TURN_ACTS && !self.had_none
+    }
+
     /// Whether all `horizon` turns were played.
     pub(crate) fn has_ended(self, horizon: u64) -> bool
         ensures { result ≡ words.has_ended self horizon }

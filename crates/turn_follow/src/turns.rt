@@ -24,7 +24,7 @@ use std::marker::Model;
 /// How far each processor of a group is in its turns, by its number, and how many turns each has.
 /// `None` stands for a processor of another group.
 ///
-/// After each entry every processor of the group is looked at: `take`, and then `look` for each.
+/// After each entry every processor of the group is looked at, where it awaits that: `take`, and then `look` for each.
 #[derive(Drop)]
 pub struct Turns {
     horizon: u64,
@@ -129,6 +129,18 @@ impl Turns {
                 self.put(step.cpu, Some(turn));
                 true
             }
+            None => false,
+        }
+    }
+
+    /// Whether a processor is to be looked at after a step that was taken; where not, all stays as if it were.
+    pub fn awaits_look(&self, cpu: CpuNo) -> bool
+        ensures { (g : Group) (past : Past) (step : Step) (qs : List ℕ)
+            → AreLooked g past step qs self.now → result ≡ false
+            → AreLooked g past step (qs ++ cpu.0 ∷ []) self.now }
+    {
+        match self.row(cpu) {
+            Some(turn) => turn.awaits_look(),
             None => false,
         }
     }

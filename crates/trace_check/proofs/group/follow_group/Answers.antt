@@ -17,14 +17,14 @@ use Rattle.trace_check.proofs.group.follow_group.Goals as goal
 pub returns-then-not-begins : goal.returns-then-not-begins
 returns-then-not-begins g c = λ opened before.
     let n = c.args.group.0 in
-    let links = links_of c.in_ok-follow.follow.links.items in
+    let links = links_of c.in_ok-follow.follow.links.links.items in
     opened-wrong c.args.setup.now (lines_of c.args.lines.now) n c.args.from opened (seats g.T.TraceTool.tool c.args.bus.now) before c.in_ok-follow.ensures.valid (group-low c.args.setup.now n c.in_ok-follow.ensures.valid c.requires.group) links (opened-line n c.in_ok-follow.follow c.in_ok-follow.ensures)
     (ap (begins_with n links) (sym (rest-read c.args.lines.now c.args.from.lines)) ∙ sym c.begins.ensures ∙ c.if-not-begins.true)
 
 pub loop-i-init : goal.loop-i-init
 loop-i-init g c = λ opened before.
     let n = c.args.group.0 in
-    let links = links_of c.in_ok-follow.follow.links.items in
+    let links = links_of c.in_ok-follow.follow.links.links.items in
     opened-right c.args.setup.now (lines_of c.args.lines.now) n c.args.from opened (seats g.T.TraceTool.tool c.args.bus.now) before c.in_ok-follow.ensures.valid (group-low c.args.setup.now n c.in_ok-follow.ensures.valid c.requires.group) c.in_ok-follow.follow c.in_ok-follow.ensures
     (ap (begins_with n links) (sym (rest-read c.args.lines.now c.args.from.lines)) ∙ sym c.begins.ensures ∙ c.if-not-begins.false)
 

@@ -1,4 +1,4 @@
-use Rattle.std.proofs.Common.{◌≡◌, ◌+◌, ◌++◌, ◌∷◌, [], ℕ, Bool, true, false, not, List, take, get_or, sym, ap, ◌∙◌, subst, refl}
+use Rattle.std.proofs.Common.{◌≡◌, ◌+◌, ◌<◌, ◌++◌, ◌∷◌, [], ℕ, Bool, true, false, not, List, length, take, get_or, sym, ap, ◌∙◌, subst, refl}
 use Rattle.std.specs.Prelude.{is_none, is_some, Option, None, Some}
 use Rattle.std.proofs.lemmas.List.{map-append, take_more, take_all}
 use Rattle.rt_base.specs.declared.CpuNo.{CpuNo}
@@ -9,6 +9,7 @@ use Rattle.rank_afresh.specs.Standing.{group_of}
 use Rattle.trace_text.specs.Groups.{cpu_numbers}
 use Rattle.turn_follow.specs.Turns.{AreLooked}
 use Rattle.trace_check.proofs.turns.look_at.Goals as goal
+use Rattle.trace_check.proofs.turns.look_at.Goals.{then-awaits_look, else-awaits_look}
 
 none-of : (o : Option Act) (b : Bool) → is_some o ≡ not b → b ≡ is_none o
 none-of None true h = refl
@@ -16,14 +17,23 @@ none-of None false h = cc
 none-of (Some act) true h = cc
 none-of (Some act) false h = refl
 
+-- one more processor was looked at
+more-looked : (cpus : List CpuNo) (i : ℕ) (d : CpuNo) → i < length cpus → cpu_numbers (take (i + 1) cpus) ≡ cpu_numbers (take i cpus) ++ (get_or cpus i d).0 ∷ []
+more-looked cpus i d low = ap cpu_numbers (take_more cpus i d low) ∙ map-append (λ (q : CpuNo). q.0) (take i cpus) (get_or cpus i d ∷ [])
+
 pub loop-cpu-preserved : goal.loop-cpu-preserved
 unfolding has_none
 loop-cpu-preserved c = λ past step at looked.
     let g = group_of c.args.afresh.now in
     let d : CpuNo = record { 0 = 0 } in
-    let cpu : CpuNo = get_or c.args.cpus.now c.loop-cpu.cpu-index d in
-    let before = c.loop-cpu.invariant past step at looked in
-    let told : c.is_none-is_none.result ≡ has_none g cpu.0 (after g step past) = none-of c.next_of.result c.is_none-is_none.result c.is_none-is_none.ensures ∙ ap {A = Option Act} (λ o. is_none o) (c.next_of.ensures (after g step past) at) in
-    let more : cpu_numbers (take (c.loop-cpu.cpu-index + 1) c.args.cpus.now) ≡ cpu_numbers (take c.loop-cpu.cpu-index c.args.cpus.now) ++ cpu.0 ∷ [] =
-    ap cpu_numbers (take_more c.args.cpus.now c.loop-cpu.cpu-index d c.loop-cpu-test.true) ∙ map-append (λ (q : CpuNo). q.0) (take c.loop-cpu.cpu-index c.args.cpus.now) (cpu ∷ []) in
-    subst (λ (qs : List ℕ). AreLooked g past step qs c.look.new.self) (sym more) (c.look.ensures g past step (cpu_numbers (take c.loop-cpu.cpu-index c.args.cpus.now)) before told)
+    let i = c.loop-cpu.cpu-index in
+    let cpu : CpuNo = get_or c.args.cpus.now i d in
+    let qs = cpu_numbers (take i c.args.cpus.now) in
+    let before : AreLooked g past step qs c.loop-cpu.turns = c.loop-cpu.invariant past step at looked in
+    let one : AreLooked g past step (qs ++ cpu.0 ∷ []) c.if-awaits_look.turns =
+    elim c.if-awaits_look.branch [
+      | then-awaits_look w ↦ subst (AreLooked g past step (qs ++ cpu.0 ∷ [])) (sym w.turns-is) (w.look.ensures g past step qs before
+          (none-of w.next_of.result w.is_none-is_none.result w.is_none-is_none.ensures ∙ ap {A = Option Act} (λ o. is_none o) (w.next_of.ensures (after g step past) at)))
+      | else-awaits_look w ↦ subst (AreLooked g past step (qs ++ cpu.0 ∷ [])) (sym w.turns-is) (c.awaits_look.ensures g past step qs before w.if-awaits_look.false)
+    ] in
+    subst (λ (ns : List ℕ). AreLooked g past step ns c.if-awaits_look.turns) (sym (more-looked c.args.cpus.now i d c.loop-cpu-test.true)) one

@@ -1,21 +1,17 @@
 use Rattle.std.proofs.Common.{◌≡◌, ◌+◌, ◌≤◌, rules, true, false, List, refl, sym, ap, ◌∙◌, subst, arith}
-use Rattle.std.specs.Prelude.{All}
-use Rattle.rt_base.specs.declared.CpuNo.{CpuNo}
 use Rattle.rt_base.specs.declared.TheConstants.{MOST_STEPS}
-use Rattle.rt_model.specs.Group.{Group, group_processors}
-use Rattle.rt_model.specs.Histories.{after, past_of, reply_to}
-use Rattle.rt_plays.specs.Homes.{IsProcessorOf}
+use Rattle.rt_model.specs.Group.{Group}
+use Rattle.rt_model.specs.Histories.{past_of, reply_to}
 use Rattle.rank_afresh.specs.Standing.{group_of}
 use Rattle.trace_lines.specs.Lines.{Link, links_of}
 use Rattle.trace_text.specs.Groups.{cpu_numbers}
-use Rattle.trace_text.specs.TraceText.{links_at}
-use Rattle.trace_text.proofs.ReplayLaws.{as_many, changed_by, cpus_there}
 use Rattle.trace_check.specs.declared.course.Course.{Course}
 use Rattle.trace_check.specs.declared.follow.Follow.{Follow}
 use Rattle.trace_check.specs.Courses.{HasGone}
+use Rattle.trace_check.specs.GroupLinks.{HaveChanged}
 use Rattle.trace_check.specs.SameLinks.{same_links}
 use Rattle.trace_check.proofs.LinkLists.{same_links-true, same_links-self}
-use Rattle.trace_check.proofs.Accepting.{can-take, can_step, count-low, following-next, read-now}
+use Rattle.trace_check.proofs.Accepting.{can-take, can_step, count-low, can-read, following-next}
 use Rattle.trace_check.proofs.follow.Follow.accepts.Goals as goal
 
 pub take-requires : goal.take-requires
@@ -37,38 +33,28 @@ returns-then-not-is_same_reply-clause-refused c = λ at fw t n.
     let told : c.step.result ≡ reply_to at.group c.args.entry.now.step (past_of at.group at.entries) = c.step.ensures.reply at (can_step at c.args.setup.now c.args.self.now fw c.args.entry.now.step gone.next c.take.new.self) in
     c.is_same_reply.ensures.other c.if-not-is_same_reply.true (told ∙ sym n.reply_is)
 
-pub read_links-requires : goal.read_links-requires
-read_links-requires c =
-    let at = c.requires.0 in
-    let fw = c.requires.1 in
-    let cpus : c.as_slice.result.now ≡ c.args.self.now.cpus.items = c.as_slice.ensures.value ∙ ap (λ (f : Follow). f.cpus.items) c.step.ensures.others in
-    subst (λ (g : Group). All (λ (q : CpuNo). IsProcessorOf g q.0) c.as_slice.result.now) (sym (c.step.ensures.group ∙ fw.following.group_is))
-    (cpus_there at.group c.as_slice.result.now (ap cpu_numbers cpus ∙ fw.following.cpus_are))
-
-pub put_changed-requires : goal.put_changed-requires
-put_changed-requires c =
+pub follow-requires : goal.follow-requires
+follow-requires c =
     let at = c.requires.0 in
     let fw = c.requires.1 in
     let step = c.args.entry.now.step in
     let gone = c.take.ensures.taken at (can-take at c.args.setup.now c.args.self.now fw) c.if-not-take.false in
-    let can = can_step at c.args.setup.now c.args.self.now fw step gone.next c.take.new.self in
-    let before : c.as_slice-2.result.now ≡ c.args.self.now.links.items = cc (c.as_slice-2.ensures.value, c.swap.ensures.x_after, ap (λ (f : Follow). f.links.items) c.step.ensures.others) in
-    let read =
-    read-now at c.args.setup.now c.args.self.now fw step gone.next (group_of c.step.new.self.afresh) c.step.new.self.cpus.items c.as_slice-2.result.now c.as_slice-3.result.now (c.step.ensures.group ∙ fw.following.group_is) (ap (λ (f : Follow). f.cpus.items) c.step.ensures.others) before
-    (ap links_of c.as_slice-3.ensures.value ∙ c.in_ok-read_links.ensures _ (c.step.ensures.at at can) ∙ ap (λ (qs : List CpuNo). links_at (group_of c.step.new.self.afresh) (after at.group step (past_of at.group at.entries)) (cpu_numbers qs)) c.as_slice.ensures.value) in
-    as_many at.group (past_of at.group at.entries) (after at.group step (past_of at.group at.entries)) c.as_slice-2.result.now c.as_slice-3.result.now read
+    let can = can_step at c.args.setup.now c.args.self.now fw step gone.next c.take.new.self in (
+      past_of at.group at.entries,
+      step,
+      can-read at c.args.setup.now c.args.self.now fw step gone.next _ _ (c.step.ensures.group ∙ fw.following.group_is)
+          (ap (λ (f : Follow). f.links) c.step.ensures.others) (c.step.ensures.at at can),
+    )
 
 pub returns-then-not-are_same-clause-refused : goal.returns-then-not-are_same-clause-refused
 returns-then-not-are_same-clause-refused c = λ at fw t n.
     let step = c.args.entry.now.step in
     let gone = c.take.ensures.taken at (can-take at c.args.setup.now c.args.self.now fw) c.if-not-take.false in
     let can = can_step at c.args.setup.now c.args.self.now fw step gone.next c.take.new.self in
-    let before : c.as_slice-2.result.now ≡ c.args.self.now.links.items = cc (c.as_slice-2.ensures.value, c.swap.ensures.x_after, ap (λ (f : Follow). f.links.items) c.step.ensures.others) in
-    let read =
-    read-now at c.args.setup.now c.args.self.now fw step gone.next (group_of c.step.new.self.afresh) c.step.new.self.cpus.items c.as_slice-2.result.now c.as_slice-3.result.now (c.step.ensures.group ∙ fw.following.group_is) (ap (λ (f : Follow). f.cpus.items) c.step.ensures.others) before
-    (ap links_of c.as_slice-3.ensures.value ∙ c.in_ok-read_links.ensures _ (c.step.ensures.at at can) ∙ ap (λ (qs : List CpuNo). links_at (group_of c.step.new.self.afresh) (after at.group step (past_of at.group at.entries)) (cpu_numbers qs)) c.as_slice.ensures.value) in
-    let told = c.in_ok-put_changed.ensures ∙ changed_by at.group (past_of at.group at.entries) (after at.group step (past_of at.group at.entries)) c.as_slice-2.result.now c.as_slice-3.result.now read in
-    let both : links_of c.as_slice-4.result.now ≡ links_of c.args.links.now = ap links_of c.as_slice-4.ensures.value ∙ told ∙ sym n.links_are in
+    let is : group_of c.step.new.self.afresh ≡ at.group = c.step.ensures.group ∙ fw.following.group_is in
+    let read = can-read at c.args.setup.now c.args.self.now fw step gone.next _ _ is (ap (λ (f : Follow). f.links) c.step.ensures.others) (c.step.ensures.at at can) in
+    let now : HaveChanged at.group (past_of at.group at.entries) step c.follow.new.self = subst (λ (g : Group). HaveChanged g (past_of at.group at.entries) step c.follow.new.self) is (c.in_ok-follow.ensures _ step read) in
+    let both : links_of c.changed.result.now ≡ links_of c.args.links.now = ap links_of c.changed.ensures ∙ now.changed_are ∙ sym n.links_are in
     let yes : c.are_same.result ≡ true = c.are_same.ensures ∙ ap (λ (ls : List Link). same_links ls (links_of c.args.links.now)) both ∙ same_links-self (links_of c.args.links.now) in
     let no : c.are_same.result ≡ false = c.if-not-are_same.true in
     cc
@@ -79,14 +65,17 @@ look-requires c =
     let fw = c.requires.1 in
     let step = c.args.entry.now.step in
     let gone = c.take.ensures.taken at (can-take at c.args.setup.now c.args.self.now fw) c.if-not-take.false in
-    let can = can_step at c.args.setup.now c.args.self.now fw step gone.next c.take.new.self in (
+    let can = can_step at c.args.setup.now c.args.self.now fw step gone.next c.take.new.self in
+    let is : group_of c.step.new.self.afresh ≡ at.group = c.step.ensures.group ∙ fw.following.group_is in
+    let read = can-read at c.args.setup.now c.args.self.now fw step gone.next _ _ is (ap (λ (f : Follow). f.links) c.step.ensures.others) (c.step.ensures.at at can) in
+    let now : HaveChanged at.group (past_of at.group at.entries) step c.follow.new.self = subst (λ (g : Group). HaveChanged g (past_of at.group at.entries) step c.follow.new.self) is (c.in_ok-follow.ensures _ step read) in (
       at,
       step,
       record {
         setup_is = fw.setup_is;
-        group_is = c.step.ensures.group ∙ fw.following.group_is;
+        group_is = is;
         stands = c.step.ensures.at at can;
-        cpus_are = ap cpu_numbers (c.as_slice-5.ensures.value ∙ ap (λ (f : Follow). f.cpus.items) c.step.ensures.others) ∙ fw.following.cpus_are;
+        cpus_are = ap cpu_numbers c.cpus.ensures ∙ now.links_are.cpus_are;
       },
     )
 
@@ -104,13 +93,11 @@ returns-clause-accepted c = λ at fw t.
     let step = c.args.entry.now.step in
     let gone = c.take.ensures.taken at (can-take at c.args.setup.now c.args.self.now fw) c.if-not-take.false in
     let can = can_step at c.args.setup.now c.args.self.now fw step gone.next c.take.new.self in
-    let before : c.as_slice-2.result.now ≡ c.args.self.now.links.items = cc (c.as_slice-2.ensures.value, c.swap.ensures.x_after, ap (λ (f : Follow). f.links.items) c.step.ensures.others) in
-    let read =
-    read-now at c.args.setup.now c.args.self.now fw step gone.next (group_of c.step.new.self.afresh) c.step.new.self.cpus.items c.as_slice-2.result.now c.as_slice-3.result.now (c.step.ensures.group ∙ fw.following.group_is) (ap (λ (f : Follow). f.cpus.items) c.step.ensures.others) before
-    (ap links_of c.as_slice-3.ensures.value ∙ c.in_ok-read_links.ensures _ (c.step.ensures.at at can) ∙ ap (λ (qs : List CpuNo). links_at (group_of c.step.new.self.afresh) (after at.group step (past_of at.group at.entries)) (cpu_numbers qs)) c.as_slice.ensures.value) in
-    let told = c.in_ok-put_changed.ensures ∙ changed_by at.group (past_of at.group at.entries) (after at.group step (past_of at.group at.entries)) c.as_slice-2.result.now c.as_slice-3.result.now read in
-    let yes : same_links (links_of c.as_slice-4.result.now) (links_of c.args.links.now) ≡ true = sym c.are_same.ensures ∙ c.if-not-are_same.false in
-    let shown = sym (same_links-true (links_of c.as_slice-4.result.now) (links_of c.args.links.now) yes) ∙ ap links_of c.as_slice-4.ensures.value ∙ told in
+    let is : group_of c.step.new.self.afresh ≡ at.group = c.step.ensures.group ∙ fw.following.group_is in
+    let read = can-read at c.args.setup.now c.args.self.now fw step gone.next _ _ is (ap (λ (f : Follow). f.links) c.step.ensures.others) (c.step.ensures.at at can) in
+    let now : HaveChanged at.group (past_of at.group at.entries) step c.follow.new.self = subst (λ (g : Group). HaveChanged g (past_of at.group at.entries) step c.follow.new.self) is (c.in_ok-follow.ensures _ step read) in
+    let yes : same_links (links_of c.changed.result.now) (links_of c.args.links.now) ≡ true = sym c.are_same.ensures ∙ c.if-not-are_same.false in
+    let shown = sym (same_links-true (links_of c.changed.result.now) (links_of c.args.links.now) yes) ∙ ap links_of c.changed.ensures ∙ now.changed_are in
     let reply : c.args.entry.now.reply ≡ reply_to at.group step (past_of at.group at.entries) = sym (c.is_same_reply.ensures.same c.if-not-is_same_reply.false) ∙ c.step.ensures.reply at can in
     let kept : c.step.new.self.course ≡ c.take.new.self = ap (λ (f : Follow). f.course) c.step.ensures.others in
     record {
@@ -119,18 +106,17 @@ returns-clause-accepted c = λ at fw t.
         group_same = c.step.ensures.group;
         spare_less = c.step.ensures.spare;
         at_after = c.step.ensures.at at can;
-        cpus_same = ap (λ (f : Follow). f.cpus.items) c.step.ensures.others;
         count_more = ap (λ (f : Follow). f.count + 1) c.step.ensures.others;
-        links_read = ap links_of (sym c.as_slice-3.ensures.value) ∙ read.links_are;
+        links_after = now.links_are;
         counted_after = c.step.ensures.counted at can;
         blocks_same = c.step.ensures.same;
         blocks_less = c.step.ensures.room;
         room_same = c.step.ensures.waiting;
         course_after = c.look.ensures at step (record {
           setup_is = fw.setup_is;
-          group_is = c.step.ensures.group ∙ fw.following.group_is;
+          group_is = is;
           stands = c.step.ensures.at at can;
-          cpus_are = ap cpu_numbers (c.as_slice-5.ensures.value ∙ ap (λ (f : Follow). f.cpus.items) c.step.ensures.others) ∙ fw.following.cpus_are;
+          cpus_are = ap cpu_numbers c.cpus.ensures ∙ now.links_are.cpus_are;
         }) (subst (HasGone at step) (sym kept) gone);
       });
     }

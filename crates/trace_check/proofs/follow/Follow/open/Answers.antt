@@ -46,15 +46,15 @@ open-requires-2-clause-room c =
     ∙ ap (λ n. room_in p.drive n c.in_ok-course.course) (ap length c.as_slice-listed.ensures.value) ∙ room-first g c.in_ok-cpus.cpus.items c.in_ok-cpus.ensures c.in_ok-course.course opened in
     omega (arith, is, room-few g c.parts.ensures.valid)
 
-pub read_links-requires : goal.read_links-requires
-read_links-requires c =
+pub open-requires-4 : goal.open-requires-4
+open-requires-4 c =
     let same = group-made c.args.setup.now c.args.group.0 c.in_ok-afresh.afresh c.in_ok-afresh.ensures.setup c.in_ok-afresh.ensures.group in
-    subst (λ (g : Group). All (λ (q : CpuNo). IsProcessorOf g q.0) c.as_slice.result.now) (sym same)
-    (cpus_there (group_with c.args.setup.now c.args.group.0) c.as_slice.result.now (ap cpu_numbers c.as_slice.ensures.value ∙ c.in_ok-cpus.ensures))
+    subst (λ (g : Group). All (λ (q : CpuNo). IsProcessorOf g q.0) c.in_ok-cpus.cpus.items) (sym same)
+    (cpus_there (group_with c.args.setup.now c.args.group.0) c.in_ok-cpus.cpus.items c.in_ok-cpus.ensures)
 
 pub returns : goal.returns
 returns c =
-    following-first c.args.setup.now c.args.group.0 _ (record {
+    following-first c.args.setup.now c.args.group.0 c.in_ok-cpus.cpus.items _ (record {
       valid = c.parts.ensures.valid;
       there = c.requires.group;
       setup_is = c.in_ok-afresh.ensures.setup;
@@ -73,6 +73,7 @@ returns c =
           c.in_ok-afresh.ensures.room ∙ c.room-room.ensures
           ∙ ap (λ (q : Parts). room_in q.drive (length c.as_slice-listed.result.now) c.in_ok-course.course) c.parts.ensures.parts
           ∙ ap (λ n. room_in c.args.setup.now.drive n c.in_ok-course.course) (ap length c.as_slice-listed.ensures.value);
-      links_are = λ past at. c.in_ok-read_links.ensures past at ∙ ap (λ (qs : List CpuNo). links_at (group_of c.in_ok-afresh.afresh) past (cpu_numbers qs)) c.as_slice.ensures.value;
+      cpus_kept = c.in_ok-links.ensures.cpus;
+      links_are = c.in_ok-links.ensures.links;
       count_is = refl;
     })
