@@ -4,4 +4,5 @@ pub mod Stays
 pub mod Settled
 pub mod Listed
 pub mod Seen
+mod Marking
 pub mod PendingLaws

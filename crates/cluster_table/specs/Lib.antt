@@ -1,4 +1,5 @@
 pub mod Clusters
 pub mod Placed
 pub mod Table
+pub mod Marks
 pub mod Pending

@@ -8,12 +8,16 @@ ghost use Rattle.rt_base.specs.declared.TheConstants.{MOST_CLUSTERS, MOST_CPUS};
 ghost use Rattle.rt_task.specs.declared.Cluster as sets;
 ghost use Rattle.link_table.specs.Linked.{irq_reply, link_of, runs_on};
 ghost use Rattle.cluster_table.specs.Clusters.{KeptCluster, after_take, homes_from, left_by, relinked, rows_from, with_key};
+ghost use Rattle.cluster_table.specs.Marks.{StayUnmarked};
 ghost use Rattle.cluster_table.specs.Table.{HasProcessor, HasTask, IsThere, changed_at, cluster_at, cluster_numbers};
 
 mod cluster;
+mod marks;
 mod pending;
 mod placing;
 mod rows;
+
+pub use marks::PlacedMarks;
 
 use cluster::ClusterState;
 use ready_heap::ReadyHeap;
@@ -155,14 +159,16 @@ impl ClusterTable {
         cluster.leave(q);
     }
 
-    /// Links the first of the eligible tasks in each cluster. It looks only at those in which others have become the
-    /// first ones: where they are the same, the links stay as they are, whatever runs.
-    pub fn place_changed(&mut self)
-        ensures { self.new ≡ record self.old {
+    /// Links the first of the eligible tasks in each cluster, and marks those that it places anew. It looks only at those in
+    /// which others have become the first ones: where they are the same, the links stay as they are, whatever runs.
+    pub fn place_changed(&mut self, placed: &mut PlacedMarks)
+        ensures clusters { self.new ≡ record self.old {
           clusters = map (option_map relinked) self.old.clusters;
         } }
+        ensures others { StayUnmarked placed.old placed.new self.old self.new }
     {
         while let Some(c) = self.changed.pop() {
+            placed.mark(c);
             if let Some(cluster) = &mut self.clusters[c.0 as usize] {
                 cluster.place();
             }

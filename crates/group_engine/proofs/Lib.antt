@@ -14,5 +14,6 @@ pub mod GroupInTurn
 pub mod ClusterInTurn
 pub mod Opening
 pub mod Stepping
+pub mod LinksKept
 mod Looked
 mod Offering

@@ -1,13 +1,14 @@
 use Rattle.std.proofs.Common.{◌≡◌, ◌<◌, ◌++◌, ◌∷◌, [], List, length, set, true, ap, sym, ◌∙◌, arith}
 use Rattle.std.proofs.lemmas.List.{get_or_read, map-append, nil_from_length, set-get_or}
-use Rattle.std.specs.Prelude.{None, Option}
+use Rattle.std.specs.Prelude.{None, Option, Some}
 use Rattle.rt_base.specs.declared.ClusterNo.{ClusterNo}
 use Rattle.rt_rules.specs.Numbers.{has}
 use Rattle.rt_rules.proofs.MemberLaws.{equal_self, has-push}
 use Rattle.cluster_table.specs.Clusters.{KeptCluster}
 use Rattle.cluster_table.specs.Placed.{PlacedCluster}
-use Rattle.cluster_table.specs.Table.{cluster_numbers}
+use Rattle.cluster_table.specs.Table.{Table, cluster_at, cluster_numbers}
 use Rattle.cluster_table.proofs.Listed.{listed-absent, listed-placed, settled-all}
+use Rattle.cluster_table.proofs.Marking.{seen-other, unmarked-other}
 use Rattle.cluster_table.proofs.Seen.{relinked-all, relinked-once}
 use Rattle.cluster_table.proofs.ClusterTable.place_changed.Goals as goal
 use Rattle.cluster_table.proofs.ClusterTable.place_changed.Goals.{In-Some}
@@ -35,6 +36,10 @@ loop-c-preserved-in-Some-index_mut c =
     let at = sym (get_or_read ks c.in-Some.c.0 c.index_mut.result.now (within popped) c.index_mut.ensures.value None) ∙ c.in-Some-index_mut.is in
     record {
       homes = c.loop-c.invariant.homes;
+      unmarked = λ d h.
+          let other = unmarked-other c.loop-c.placed c.in-Some.c.0 d (rw c.mark.ensures at h) in
+          let was = c.loop-c.invariant.unmarked d other.1 in
+          (was.0, seen-other ks c.in-Some.c.0 d (Some new) other.0 ∙ was.1);
       relinked = relinked-once ks c.in-Some.c.0 k new at (ap (λ (k : PlacedCluster). k.cluster) c.place.ensures.cluster) c.place.ensures.settled ∙ c.loop-c.invariant.relinked;
       listed =
           rw c.pop.ensures.capacity
@@ -49,16 +54,25 @@ loop-c-preserved c =
     let none = sym (get_or_read ks c.in-Some.c.0 c.index_mut.result.now (within popped) c.index_mut.ensures.value None) ∙ c.in_default-index_mut.is in
     record {
       homes = c.loop-c.invariant.homes;
+      unmarked = λ d h.
+          let other = unmarked-other c.loop-c.placed c.in-Some.c.0 d (rw c.mark.ensures at h) in
+          let was = c.loop-c.invariant.unmarked d other.1 in
+          (was.0, rw same was.1);
       relinked = rw same c.loop-c.invariant.relinked;
       listed =
           rw (same, c.pop.ensures.capacity)
           (listed-absent ks (cluster_numbers c.loop-c.self-inside.changed.items) _ c.loop-c.invariant.listed c.in-Some.c.0 (cluster_numbers c.pop.new.self.items) (last popped) none);
     }
 
-pub returns : goal.returns
-returns c =
+pub returns-clause-clusters : goal.returns-clause-clusters
+returns-clause-clusters c =
     let inside = c.loop-c.self-inside in
     let none : inside.changed.items ≡ [] = nil_from_length _ (omega (arith, c.in_default.ensures.cases.0, inside.changed.ok.0)) in
     let settled = settled-all inside.clusters.items (cluster_numbers inside.changed.items) _ c.loop-c.invariant.listed (ap cluster_numbers none) in
     let placed = sym (relinked-all inside.clusters.items settled) ∙ c.loop-c.invariant.relinked in
     rw (← c.self.view_is, c.loop-c.invariant.homes) (ap (λ (ks : List (Option KeptCluster)). record { homes = cluster_numbers c.self.inside.homes.items; clusters = ks }) placed)
+
+pub returns-clause-others : goal.returns-clause-others
+returns-clause-others c = λ d h.
+    let still = c.loop-c.invariant.unmarked d h in
+    (still.0, still.1 ∙ ap (λ (t : Table). cluster_at t d) c.self.view_is)

@@ -1,0 +1,90 @@
+-- Only placing changes links: neither looking at tasks nor what a processor comes to run does.
+use Rattle.std.proofs.Common.{◌≡◌, ◌≢◌, ℕ, ◌⊎◌, inl, inr, Bool, true, false, List, [], ◌∷◌, ◌++◌, refl, sym, ap, ◌∙◌}
+use Rattle.std.specs.Prelude.{None, Option, Some, if◌then◌else◌, option_map, slice_index}
+use Rattle.std.proofs.lemmas.Bool.{cases_eq}
+use Rattle.std.proofs.lemmas.List.{same_from_push}
+use Rattle.rt_history.specs.declared.Entry.{Entry}
+use Rattle.rt_history.specs.declared.Reply.{Reply}
+use Rattle.rt_task.specs.declared.Act.{Act}
+use Rattle.rt_task.specs.declared.Act.TheVariants as acts
+use Rattle.rt_task.specs.declared.Parts.{Parts}
+use Rattle.rt_rules.specs.Numbers.{has}
+use Rattle.rt_model.specs.Group.{Group, clusters}
+use Rattle.rt_model.specs.Histories.{past_of}
+use Rattle.rt_model.specs.Links.{links}
+use Rattle.rt_model.specs.Past.{Past, accepted}
+use Rattle.cluster_table.specs.Clusters.{KeptCluster, after_take, left_by, with_key}
+use Rattle.cluster_table.specs.Marks.{IsUnmarked}
+use Rattle.cluster_table.specs.Table.{Table, changed_at, cluster_at}
+use Rattle.cluster_table.proofs.RowLaws.{at-changed, at-changed_other}
+use Rattle.group_engine.specs.declared.state.GroupState.{GroupState}
+use Rattle.group_engine.specs.Links.{AreMarked, StayLinked, links_in}
+use Rattle.group_engine.specs.State.{HasClusterAt, IsAt}
+use Rattle.group_engine.specs.Touching.{all_brought_up, all_offered, brought_up, home_in, key_now, offered, run_followed}
+
+-- one cluster is changed, and not its links
+links-changed : (home c : ℕ) (change : KeptCluster → KeptCluster) (t : Table) → ((k : KeptCluster) → (change k).linked.links ≡ k.linked.links)
+    → links_in (changed_at home change t) c ≡ links_in t c
+links-changed home c change t keeps = by_number (cases_eq c home)
+  where
+    by_kept : (o : Option KeptCluster) → option_map (λ (k : KeptCluster). k.linked.links) (option_map change o) ≡ option_map (λ (k : KeptCluster). k.linked.links) o
+    by_kept None = refl
+    by_kept (Some k) = ap {B = Option (List (Option ℕ))} (λ ls. Some ls) (keeps k)
+
+    by_number : (c ≡ home) ⊎ (c ≢ home) → links_in (changed_at home change t) c ≡ links_in t c
+    by_number (inl same) = rw same (ap (option_map (λ (k : KeptCluster). k.linked.links)) (at-changed home change t) ∙ by_kept (cluster_at t home))
+    by_number (inr apart) = ap (option_map (λ (k : KeptCluster). k.linked.links)) (at-changed_other home c change t apart)
+
+pub links-offered : (p : Parts) (us : List ℕ) (s : GroupState) (c : ℕ) → links_in (all_offered p us s).clusters c ≡ links_in s.clusters c
+links-offered p [] s c = refl
+links-offered p (u ∷ us) s c =
+    links-offered p us (offered p u s) c ∙ links-changed (home_in p u) c (with_key u (key_now p s.core.facts u)) s.clusters (λ k. refl)
+
+pub links-brought : (p : Parts) (us : List ℕ) (s : GroupState) (c : ℕ) → links_in (all_brought_up p us s).clusters c ≡ links_in s.clusters c
+links-brought p [] s c = refl
+links-brought p (u ∷ us) s c =
+    links-brought p us (brought_up p u s) c ∙ links-changed (home_in p u) c (with_key u (key_now p s.core.facts u)) s.clusters (λ k. refl)
+
+pub links-followed : (q : ℕ) (act : Act) (reply : Reply) (o : Option ℕ) (t : Table) (c : ℕ) → links_in (run_followed q act reply o t) c ≡ links_in t c
+links-followed q acts.Tick reply o t c = refl
+links-followed q acts.Irq reply o t c = by_reply (accepted reply)
+  where
+    by_reply : (b : Bool) → links_in (if b then changed_at (slice_index t.homes q) (after_take q false) t else t) c ≡ links_in t c
+    by_reply true = links-changed (slice_index t.homes q) c (after_take q false) t (λ k. refl)
+    by_reply false = refl
+links-followed q (acts.Arrive u) reply o t c = refl
+links-followed q (acts.Do op) reply None t c = links-changed (slice_index t.homes q) c (left_by q) t (λ k. refl)
+links-followed q (acts.Do op) reply (Some u) t c = refl
+
+-- ---- the links of two pasts
+
+-- where a cluster has the links that it had, the definition gives both pasts the same
+links-same : (g : Group) (c : ℕ) (past past' : Past) (t t' : Table) → HasClusterAt g c past t → HasClusterAt g c past' t' → links_in t' c ≡ links_in t c
+    → links g c past' ≡ links g c past
+links-same g c past past' t t' was is same =
+    let read : Some is.cluster.linked.links ≡ Some was.cluster.linked.links =
+        sym (ap (option_map (λ (k : KeptCluster). k.linked.links)) is.there) ∙ same ∙ ap (option_map (λ (k : KeptCluster). k.linked.links)) was.there in
+    let equal : is.cluster.linked.links ≡ was.cluster.linked.links = cc in
+    sym is.is_at.links_are ∙ equal ∙ was.is_at.links_are
+
+-- before the first entry there is none to compare with
+pub marked-first : (g : Group) (marks : List Bool) → AreMarked g [] marks
+marked-first g marks = λ es e same c h out. absurd (none es e same)
+  where
+    none : (es : List Entry) (e : Entry) → [] ≡ es ++ e ∷ [] → ⊥
+    none [] e same = cc
+    none (x ∷ es) e same = cc
+
+-- an entry more, whose moves placed no links in a cluster without a mark
+pub marked-entry : (g : Group) (es : List Entry) (e : Entry) (s s' : GroupState) (before marks : List Bool) → IsAt g (past_of g es) s → IsAt g (past_of g (es ++ e ∷ [])) s'
+    → StayLinked before marks s s' → AreMarked g (es ++ e ∷ []) marks
+marked-entry g es e s s' before marks was is stay = λ fs f same c h out.
+    let first : es ≡ fs = (same_from_push es fs e f same).0 in
+    links-same g c (past_of g es) (past_of g (es ++ e ∷ [])) s.clusters s'.clusters (was.clusters_are c h) (is.clusters_are c h) (stay c out).1 ∙ ap (λ xs. links g c (past_of g xs)) first
+
+-- one move after another
+pub stay-both : (a b c : List Bool) (s t u : GroupState) → StayLinked a b s t → StayLinked b c t u → StayLinked a c s u
+stay-both a b c s t u first second = λ n h.
+    let then = second n h in
+    let before = first n then.0 in
+    (before.0, then.1 ∙ before.1)
