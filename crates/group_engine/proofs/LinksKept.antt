@@ -1,5 +1,5 @@
 -- Only placing changes links: neither looking at tasks nor what a processor comes to run does.
-use Rattle.std.proofs.Common.{◌≡◌, ◌≢◌, ℕ, ◌⊎◌, inl, inr, Bool, true, false, List, [], ◌∷◌, ◌++◌, refl, sym, ap, ◌∙◌}
+use Rattle.std.proofs.Common.{◌≡◌, ◌≢◌, ℕ, ◌-◌, ◌⊎◌, inl, inr, Bool, true, false, List, [], ◌∷◌, ◌++◌, refl, sym, ap, ◌∙◌}
 use Rattle.std.specs.Prelude.{None, Option, Some, if◌then◌else◌, option_map, slice_index}
 use Rattle.std.proofs.lemmas.Bool.{cases_eq}
 use Rattle.std.proofs.lemmas.List.{same_from_push}
@@ -9,12 +9,15 @@ use Rattle.rt_task.specs.declared.Act.{Act}
 use Rattle.rt_task.specs.declared.Act.TheVariants as acts
 use Rattle.rt_task.specs.declared.Parts.{Parts}
 use Rattle.rt_rules.specs.Numbers.{has}
-use Rattle.rt_model.specs.Group.{Group, clusters}
+use Rattle.rt_rules.specs.Placing.{at_place}
+use Rattle.rt_model.specs.Group.{Group, cluster_with, clusters, first_cpu}
 use Rattle.rt_model.specs.Histories.{past_of}
-use Rattle.rt_model.specs.Links.{links}
+use Rattle.rt_model.specs.Links.{linked, links}
 use Rattle.rt_model.specs.Past.{Past, accepted}
+use Rattle.rt_plays.specs.Homes.{IsProcessorOf}
+use Rattle.rt_groups.proofs.GroupPlaces.{processors_are_at_home}
 use Rattle.cluster_table.specs.Clusters.{KeptCluster, after_take, left_by, with_key}
-use Rattle.cluster_table.specs.Marks.{IsUnmarked}
+use Rattle.cluster_table.specs.Marks.{IsUnmarked, Marks}
 use Rattle.cluster_table.specs.Table.{Table, changed_at, cluster_at}
 use Rattle.cluster_table.proofs.RowLaws.{at-changed, at-changed_other}
 use Rattle.group_engine.specs.declared.state.GroupState.{GroupState}
@@ -68,7 +71,7 @@ links-same g c past past' t t' was is same =
     sym is.is_at.links_are ∙ equal ∙ was.is_at.links_are
 
 -- before the first entry there is none to compare with
-pub marked-first : (g : Group) (marks : List Bool) → AreMarked g [] marks
+pub marked-first : (g : Group) (marks : Marks) → AreMarked g [] marks
 marked-first g marks = λ es e same c h out. absurd (none es e same)
   where
     none : (es : List Entry) (e : Entry) → [] ≡ es ++ e ∷ [] → ⊥
@@ -76,15 +79,27 @@ marked-first g marks = λ es e same c h out. absurd (none es e same)
     none (x ∷ es) e same = cc
 
 -- an entry more, whose moves placed no links in a cluster without a mark
-pub marked-entry : (g : Group) (es : List Entry) (e : Entry) (s s' : GroupState) (before marks : List Bool) → IsAt g (past_of g es) s → IsAt g (past_of g (es ++ e ∷ [])) s'
+pub marked-entry : (g : Group) (es : List Entry) (e : Entry) (s s' : GroupState) (before marks : Marks) → IsAt g (past_of g es) s → IsAt g (past_of g (es ++ e ∷ [])) s'
     → StayLinked before marks s s' → AreMarked g (es ++ e ∷ []) marks
 marked-entry g es e s s' before marks was is stay = λ fs f same c h out.
     let first : es ≡ fs = (same_from_push es fs e f same).0 in
     links-same g c (past_of g es) (past_of g (es ++ e ∷ [])) s.clusters s'.clusters (was.clusters_are c h) (is.clusters_are c h) (stay c out).1 ∙ ap (λ xs. links g c (past_of g xs)) first
 
 -- one move after another
-pub stay-both : (a b c : List Bool) (s t u : GroupState) → StayLinked a b s t → StayLinked b c t u → StayLinked a c s u
+pub stay-both : (a b c : Marks) (s t u : GroupState) → StayLinked a b s t → StayLinked b c t u → StayLinked a c s u
 stay-both a b c s t u first second = λ n h.
     let then = second n h in
     let before = first n then.0 in
     (before.0, then.1 ∙ before.1)
+
+-- a processor of a cluster without a mark is linked as before the last entry
+pub linked-unmarked : (g : Group) (es : List Entry) (e : Entry) (marks : Marks) → AreMarked g (es ++ e ∷ []) marks → (q : ℕ) → IsProcessorOf g q
+    → IsUnmarked marks (cluster_with g q) → linked g q (past_of g (es ++ e ∷ [])) ≡ linked g q (past_of g es)
+unfolding linked
+linked-unmarked g es e marks marked q of out =
+    ap (λ ls. at_place ls (q - first_cpu g (cluster_with g q))) (marked es e refl (cluster_with g q) (processors_are_at_home g q of).cluster_there out)
+
+-- and so is each processor where no cluster has a mark
+pub linked-none : (g : Group) (es : List Entry) (e : Entry) (marks : Marks) → AreMarked g (es ++ e ∷ []) marks → marks.any ≡ false → (q : ℕ) → IsProcessorOf g q
+    → linked g q (past_of g (es ++ e ∷ [])) ≡ linked g q (past_of g es)
+linked-none g es e marks marked none q of = linked-unmarked g es e marks marked q of (rw none refl)

@@ -12,6 +12,8 @@ use Rattle.rt_model.specs.Steps.{IsStepOf}
 use Rattle.rt_groups.specs.Endings.{ended_last}
 use Rattle.rt_groups.specs.Groups.{AreStepsOf}
 use Rattle.group_engine.specs.declared.state.GroupState.{GroupState}
+use Rattle.cluster_table.specs.Marks.{Marks}
+use Rattle.group_engine.specs.Links.{AreMarked}
 use Rattle.group_engine.specs.Moments.{IsPlayed}
 use Rattle.group_engine.specs.State.{IsAt}
 
@@ -26,10 +28,11 @@ pub record IsSound (g : Group) (entries : List Entry) (room capacity : ℕ) (s :
   pub legal : IsLegal g entries
   pub steps : AreStepsOf g entries
 
--- and this is the task whose job the last of the entries ended, with whether that was late
-pub record IsEngine (g : Group) (entries : List Entry) (room capacity : ℕ) (s : GroupState) (ended : Option (TaskNo × Bool)) : Type 0 where
+-- and this is the task whose job the last of the entries ended, with whether that was late, and these clusters alone were placed anew
+pub record IsEngine (g : Group) (entries : List Entry) (room capacity : ℕ) (s : GroupState) (ended : Option (TaskNo × Bool)) (placed : Marks) : Type 0 where
   pub sound : IsSound g entries room capacity s
   pub ended_is : ended ≡ ended_last g (past_of g entries)
+  pub placed_are : AreMarked g entries placed
 
 -- a group, and the room for its entries
 pub record Extent : Type 0 where

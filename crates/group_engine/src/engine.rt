@@ -1,10 +1,10 @@
 //! The engine of one group: its history, kept step by step.
-ghost use Rattle.std.specs.Prelude.{◌≡◌, ◌<◌, ◌≤◌, ◌+◌, ◌∷◌, ◌++◌, [], IfOk, true, false, length, vec_capacity};
+ghost use Rattle.std.specs.Prelude.{◌≡◌, ℕ, ◌<◌, ◌≤◌, ◌+◌, ◌∷◌, ◌++◌, [], IfOk, true, false, length, vec_capacity};
 ghost use Rattle.rt_base.specs.TaskNos.{number_of_task};
 ghost use Rattle.rt_base.specs.declared.TheConstants.{MOST_STEPS};
 ghost use Rattle.rt_rules.specs.Distinct.{IsDistinct};
 ghost use Rattle.rt_rules.specs.Numbers.{has};
-ghost use Rattle.rt_model.specs.Group.{clusters};
+ghost use Rattle.rt_model.specs.Group.{cluster_with, clusters};
 ghost use Rattle.rt_model.specs.Runs.{runs};
 ghost use Rattle.rt_model.specs.Links.{linked};
 ghost use Rattle.rt_model.specs.Situations.{situation};
@@ -13,8 +13,10 @@ ghost use Rattle.rt_model.specs.Holders.{holder};
 ghost use Rattle.count_laws.specs.Tallies.{waiter_tasks};
 ghost use Rattle.group_core.specs.Words.{AreWaitersAt};
 ghost use Rattle.group_engine.specs.Keys.{HoldsKeys};
+ghost use Rattle.group_engine.specs.Links.{StayLinked};
 ghost use Rattle.group_engine.specs.Moments.{IsDeclared, between};
 ghost use Rattle.group_engine.specs.Sound.{Extent, IsMoved, IsSound};
+ghost use Rattle.rt_history.specs.declared.Entry.{Entry};
 ghost use Rattle.rt_model.specs.Steps.{IsStepOf};
 ghost use Rattle.rt_plays.specs.Homes.{IsProcessorOf};
 ghost use Rattle.rank_changes.specs.Clusters.{HoldsEligible};
@@ -24,6 +26,7 @@ ghost use Rattle.rt_groups.specs.Groups.{GroupHistory, group_of, past, with_entr
 ghost use Rattle.rt_groups.specs.Endings.{ended_last};
 
 use crate::state::GroupState;
+use cluster_table::PlacedMarks;
 use group_core::{Answer, WaitingList};
 use prio_inherit::Inherit;
 use ready_heap::ReadyHeap;
@@ -45,6 +48,8 @@ pub struct Engine {
     entries: Vec<Entry>,
     state: GroupState,
     ended: Option<(TaskNo, bool)>,
+    // The clusters in which the last step placed links anew.
+    placed: PlacedMarks,
 }
 
 impl Model for Engine {
@@ -63,7 +68,7 @@ impl Model for Engine {
 
     ghost invariant = { λ a.
         IsEngine (record { setup = a.setup; number = a.group.0 })
-        a.entries.items a.room (vec_capacity a.entries) a.state a.ended };
+        a.entries.items a.room (vec_capacity a.entries) a.state a.ended a.placed };
 }
 
 impl Engine {
@@ -77,6 +82,7 @@ impl Engine {
         let setup = setup.share()?;
         let state = GroupState::open(alloc, &setup, group, room)?;
         let entries = Vec::with_capacity(alloc, room as usize)?;
+        let placed = PlacedMarks::new(alloc, setup.parts().clusters.as_slice().len())?;
         Ok(Engine {
             setup,
             group,
@@ -84,6 +90,7 @@ impl Engine {
             entries,
             state,
             ended: None,
+            placed,
         })
     }
 
@@ -136,6 +143,26 @@ impl Engine {
         self.ended
     }
 
+    /// Whether the last step, its move of the clock or its act, may have changed a link: where not, each processor of the group is
+    /// linked as before the step.
+    pub fn has_placed(&self) -> bool
+        ensures { (h : GroupHistory) (e : Entry) → self.now ≡ with_entry e h → result ≡ false
+            → (q : ℕ) → IsProcessorOf (group_of h) q
+            → linked (group_of h) q (past self.now) ≡ linked (group_of h) q (past h) }
+    {
+        self.placed.has_any()
+    }
+
+    /// Whether the last step, its move of the clock or its act, may have changed a link in this cluster: where not, each
+    /// processor of the cluster is linked as before the step.
+    pub fn has_placed_in(&self, cluster: ClusterNo) -> bool
+        ensures { (h : GroupHistory) (e : Entry) → self.now ≡ with_entry e h → result ≡ false
+            → (q : ℕ) → IsProcessorOf (group_of h) q → cluster_with (group_of h) q ≡ cluster.0
+            → linked (group_of h) q (past self.now) ≡ linked (group_of h) q (past h) }
+    {
+        self.placed.has(cluster)
+    }
+
     /// The eligible tasks of a cluster of the group, each with its effective key.
     pub fn ready(&self, cluster: ClusterNo) -> &ReadyHeap<ByKey>
         requires { has cluster.0 (clusters (group_of self.now)) ≡ true }
@@ -171,8 +198,15 @@ impl Engine {
         ensures stack { FollowsStack (group_of self.new) (past self.new) }
     {
         let parts = self.setup.parts();
-        self.state.move_clock(parts, step.tick);
-        let settled = settle(parts, &mut self.state, &mut self.entries, step);
+        self.placed.clear();
+        self.state.move_clock(parts, step.tick, &mut self.placed);
+        let settled = settle(
+            parts,
+            &mut self.state,
+            &mut self.entries,
+            &mut self.placed,
+            step,
+        );
         self.ended = settled.ended;
         settled.reply
     }
@@ -193,16 +227,30 @@ impl Engine {
         ensures same_room { list.new.room ≡ list.old.room }
     {
         let parts = self.setup.parts();
-        self.state.move_clock(parts, step.tick);
+        self.placed.clear();
+        self.state.move_clock(parts, step.tick, &mut self.placed);
         self.state.list_waiting(parts, step.cpu, step.act, list);
-        let settled = settle(parts, &mut self.state, &mut self.entries, step);
+        let settled = settle(
+            parts,
+            &mut self.state,
+            &mut self.entries,
+            &mut self.placed,
+            step,
+        );
         self.ended = settled.ended;
         settled.reply
     }
 }
 
-/// Answers the act of a step, to whose tick the clock has moved, and adds the entry.
-fn settle(parts: &Parts, state: &mut GroupState, entries: &mut Vec<Entry>, step: Step) -> Answer
+/// Answers the act of a step, to whose tick the clock has moved, and adds the entry. The clusters in which links are placed
+/// anew are marked.
+fn settle(
+    parts: &Parts,
+    state: &mut GroupState,
+    entries: &mut Vec<Entry>,
+    placed: &mut PlacedMarks,
+    step: Step,
+) -> Answer
     requires { (at : Extent)
         × IsMoved at step parts.now entries.old.items (vec_capacity entries.old) state.old }
     ensures reply { (at : Extent)
@@ -216,8 +264,9 @@ fn settle(parts: &Parts, state: &mut GroupState, entries: &mut Vec<Entry>, step:
     ensures sound { (at : Extent)
         → IsMoved at step parts.now entries.old.items (vec_capacity entries.old) state.old
         → IsSound at.group entries.new.items at.room (vec_capacity entries.new) state.new }
+    ensures links { StayLinked placed.old placed.new state.old state.new }
 {
-    let answer = state.act(parts, step.cpu, step.act);
+    let answer = state.act(parts, step.cpu, step.act, placed);
     entries.push_reserved(Entry {
         step,
         reply: answer.reply,

@@ -21,12 +21,13 @@ ghost use Rattle.group_core.specs.Words.{AreWaitersAt, Moment};
 ghost use Rattle.group_facts.specs.Timers.{AreDue};
 ghost use Rattle.group_core.specs.Facts.{tasks_of_some};
 ghost use Rattle.group_core.specs.Looked.{looked, named};
+ghost use Rattle.group_engine.specs.Links.{StayLinked};
 ghost use Rattle.group_engine.specs.Moments.{CanActOn, CanEnd, CanLend, CanLook, CanMove, CanTell, HasActed, IsDeclared, IsPlayed};
 ghost use Rattle.group_engine.specs.State.{IsAt};
 ghost use Rattle.group_engine.specs.Touching.{AreArmedOnly, AreNumbered, CanBringUp, CanBringUpAll, CanFollow, CanOffer, CanOfferAll};
 ghost use Rattle.group_engine.specs.Touching.{all_brought_up, all_offered, armed, brought_up, followed, key_now, offered};
 
-use cluster_table::ClusterTable;
+use cluster_table::{ClusterTable, PlacedMarks};
 use group_core::{Answer, GroupCore, Looks, WaitingList};
 use prio_inherit::Inherit;
 use ready_heap::ReadyHeap;
@@ -67,7 +68,7 @@ impl GroupState {
             clusters: ClusterTable::open(alloc, parts.clusters.as_slice(), group, count + 1)?,
         };
         state.bring_up_group(parts, group);
-        state.end_move(parts);
+        state.end_move(parts, &mut PlacedMarks::new(alloc, 0)?);
         Ok(state)
     }
 
@@ -198,15 +199,17 @@ impl GroupState {
         }
     }
 
-    /// Ends a move, or the opening: the reservations are settled, and the links follow.
-    fn end_move(&mut self, parts: &Parts)
+    /// Ends a move, or the opening: the reservations are settled, and the links follow. The clusters in which links are placed
+    /// anew are marked.
+    fn end_move(&mut self, parts: &Parts, placed: &mut PlacedMarks)
         requires { (at : Moment) × CanEnd at parts.now self.old }
         ensures at { (at : Moment) → CanEnd at parts.now self.old → IsAt at.group at.past self.new }
+        ensures links { StayLinked placed.old placed.new self.old self.new }
         ensures room { self.new.core.room ≡ self.old.core.room }
     {
         self.core.settle();
         self.offer_changed(parts);
-        self.clusters.place_changed();
+        self.clusters.place_changed(placed);
     }
 
     /// Looks at each task whose moment has come, the earliest first.
@@ -234,16 +237,17 @@ impl GroupState {
     }
 
     /// Moves the clock to the tick, if that is later: the tasks whose moment has come are looked at, and the links
-    /// follow.
-    pub(crate) fn move_clock(&mut self, parts: &Parts, tick: Tick)
+    /// follow. The clusters in which links are placed anew are marked.
+    pub(crate) fn move_clock(&mut self, parts: &Parts, tick: Tick, placed: &mut PlacedMarks)
         requires { (at : Moment) × CanMove at tick.0 parts.now self.old }
         ensures moved { (at : Moment) → CanMove at tick.0 parts.now self.old
             → IsAt at.group (Clock tick.0 ∷ at.past) self.new }
+        ensures links { StayLinked placed.old placed.new self.old self.new }
         ensures room { self.new.core.room ≡ self.old.core.room }
     {
         self.core.move_clock(tick);
         self.bring_up_due(parts);
-        self.end_move(parts);
+        self.end_move(parts, placed);
     }
 
     /// Looks at the task, if there is one.
@@ -316,19 +320,26 @@ impl GroupState {
         }
     }
 
-    /// An act of the processor, once the clock has moved.
-    pub(crate) fn act(&mut self, parts: &Parts, cpu: CpuNo, act: Act) -> Answer
+    /// An act of the processor, once the clock has moved. The clusters in which links are placed anew are marked.
+    pub(crate) fn act(
+        &mut self,
+        parts: &Parts,
+        cpu: CpuNo,
+        act: Act,
+        placed: &mut PlacedMarks,
+    ) -> Answer
         requires at { (at : Moment) × CanActOn at cpu.0 act parts.now self.old }
         requires room { 0 < self.old.core.room }
         ensures acted { (at : Moment) → CanActOn at cpu.0 act parts.now self.old
             → HasActed at cpu.0 act result self.new }
+        ensures links { StayLinked placed.old placed.new self.old self.new }
         ensures room { self.old.core.room ≤ self.new.core.room + 1 }
     {
         let link = self.linked(cpu);
         let answer = self.core.act(parts, cpu, link, act);
         self.follow_run(cpu, act, answer.reply);
         self.bring_up_looked(parts, answer.looks);
-        self.end_move(parts);
+        self.end_move(parts, placed);
         answer
     }
 }

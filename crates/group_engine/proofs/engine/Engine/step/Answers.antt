@@ -6,6 +6,7 @@ use Rattle.resv_laws.proofs.TableLaws.{tables_are_followed}
 use Rattle.rt_laws.proofs.SemaphoreLaws.{histories_are_made}
 use Rattle.rt_laws.proofs.SrpOnce.{stack_is_followed}
 use Rattle.group_engine.specs.Sound.{IsMoved}
+use Rattle.group_engine.proofs.LinksKept.{marked-entry, stay-both}
 use Rattle.group_engine.proofs.Stepping.{can_move, has_moved, moment, of_group}
 use Rattle.group_engine.proofs.engine.Engine.step.Goals as goal
 use Rattle.group_engine.proofs.engine.Engine.step.Goals.{After-settle-settled}
@@ -31,7 +32,16 @@ moved c =
     has_moved _ _ _ _ _ c.self.invariant.sound c.args.step _ _ of c.parts-parts.ensures.parts spare moved c.move_clock.ensures.room
 
 pub invariant_of-self : goal.invariant_of-self
-invariant_of-self c = record { sound = c.settle-settled.ensures.sound _ (moved (goal.at.invariant_of-self c).After-settle-settled); ended_is = c.settle-settled.ensures.ended _ (moved (goal.at.invariant_of-self c).After-settle-settled) }
+invariant_of-self c =
+    let sound = c.settle-settled.ensures.sound _ (moved (goal.at.invariant_of-self c).After-settle-settled) in
+    record {
+      sound = sound;
+      ended_is = c.settle-settled.ensures.ended _ (moved (goal.at.invariant_of-self c).After-settle-settled);
+      placed_are =
+          rw c.settle-settled.ensures.entry
+          (marked-entry _ c.self.inside.entries.items _ c.self.inside.state c.settle-settled.new.state _ _ c.self.invariant.sound.kept (rw c.settle-settled.ensures.entry at sound.kept)
+          (stay-both _ _ _ c.self.inside.state c.move_clock.new.self c.settle-settled.new.state c.move_clock.ensures.links c.settle-settled.ensures.links));
+    }
 
 pub returns-clause-reply : goal.returns-clause-reply
 returns-clause-reply c = c.settle-settled.ensures.reply _ (moved (goal.at.returns-clause-reply c).After-settle-settled) ∙ ap (λ (h : GroupHistory). reply_to (group_of h) c.args.step (past h)) c.self.view_is

@@ -9,6 +9,8 @@ use Rattle.group_engine.specs.declared.state.GroupState.{GroupState}
 use Rattle.group_engine.specs.Ending.{IsEnding}
 use Rattle.group_engine.specs.Moments.{CanActOn}
 use Rattle.group_engine.specs.Touching.{AreNumbered, all_brought_up, followed}
+use Rattle.group_engine.specs.Links.{links_in}
+use Rattle.group_engine.proofs.LinksKept.{links-brought, links-followed}
 use Rattle.group_engine.proofs.ActMoves.{IsAnswered, can-follow, can-looks, core-can-act, core-may-act, ended-told, ending-act, is-plain, told-is}
 use Rattle.group_engine.proofs.Bringing.{core-brought}
 use Rattle.group_engine.proofs.state.GroupState.act.Goals as goal
@@ -94,3 +96,14 @@ returns-clause-room c =
     c.end_move.ensures.room ∙ ap (λ (s : GroupState). s.core.room) c.bring_up_looked.ensures
     ∙ ap (λ (x : WithRoom). x.room) (core-brought c.args.parts.now (looked c.args.parts.now c.act-answer.result.looks) c.follow_run.new.self) ∙ ap (λ (s : GroupState). s.core.room) c.follow_run.ensures in
     omega (arith, same, c.act-answer.ensures.room)
+
+pub returns-clause-links : goal.returns-clause-links
+returns-clause-links c = λ d h.
+    let still = c.end_move.ensures.links d h in
+    (
+      still.0,
+      still.1 ∙ ap (λ (s : GroupState). links_in s.clusters d) c.bring_up_looked.ensures
+      ∙ links-brought c.args.parts.now (looked c.args.parts.now c.act-answer.result.looks) c.follow_run.new.self d
+      ∙ ap (λ (s : GroupState). links_in s.clusters d) c.follow_run.ensures
+      ∙ links-followed c.args.cpu.0 c.args.act c.act-answer.result.reply _ c.args.self.now.clusters d,
+    )

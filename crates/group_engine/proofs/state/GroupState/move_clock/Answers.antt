@@ -6,6 +6,8 @@ use Rattle.group_core.specs.Facts.{WithRoom}
 use Rattle.group_engine.specs.declared.state.GroupState.{GroupState}
 use Rattle.group_engine.specs.Touching.{CanBringUpAll}
 use Rattle.group_engine.proofs.Bringing.{core-brought}
+use Rattle.group_engine.specs.Links.{links_in}
+use Rattle.group_engine.proofs.LinksKept.{links-brought}
 use Rattle.group_engine.proofs.ClockMoves.{armed-member, can-clocked, clock-ends, clocked_state}
 use Rattle.group_engine.proofs.state.GroupState.move_clock.Goals as goal
 
@@ -43,3 +45,9 @@ returns-clause-room c =
     let s1 : GroupState = record c.args.self.now { core = c.move_clock.new.self } in
     c.end_move.ensures.room ∙ ap (λ (s : GroupState). s.core.room) c.bring_up_due.ensures.2 ∙ ap (λ (x : WithRoom). x.room) (core-brought c.args.parts.now c.bring_up_due.ensures.0 s1)
     ∙ ap (λ (x : WithRoom). x.room) c.move_clock.ensures
+
+pub returns-clause-links : goal.returns-clause-links
+returns-clause-links c = λ d h.
+    let s1 : GroupState = record c.args.self.now { core = c.move_clock.new.self } in
+    let still = c.end_move.ensures.links d h in
+    (still.0, still.1 ∙ ap (λ (s : GroupState). links_in s.clusters d) c.bring_up_due.ensures.2 ∙ links-brought c.args.parts.now c.bring_up_due.ensures.0 s1 d)
