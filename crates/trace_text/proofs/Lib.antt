@@ -1,6 +1,7 @@
 pub mod CameLaws
 pub mod CpuLaws
 pub mod ReplayLaws
+pub mod StillLinks
 pub mod LineLaws
 pub mod ShownLaws
 pub mod GroupLaws

@@ -1,7 +1,7 @@
 -- An engine that takes the steps of another again, and the links of its processors.
 use Rattle.std.proofs.Common.{◌≡◌, ℕ, zero, suc, ◌+◌, ◌<◌, ◌≤◌, ◌==◌, Bool, true, false, not, List, [], ◌∷◌, length, map, drop, get_or, refl, sym, ap, ◌∙◌, subst, arith}
 use Rattle.std.specs.Prelude.{All, filter, if◌then◌else◌, Option, Result, Ok, Err, OnOk}
-use Rattle.std.proofs.lemmas.List.{length-map}
+use Rattle.std.proofs.lemmas.List.{get_or-drop, length-map}
 use Rattle.std.proofs.Math.Seq.{drop-cons}
 use Rattle.rt_base.specs.declared.CpuNo.{CpuNo}
 use Rattle.rt_task.specs.declared.Parts.{Parts}
@@ -29,7 +29,7 @@ use Rattle.group_engine.specs.Moments.{between}
 use Rattle.trace_lines.specs.declared.links.CpuLink.{CpuLink}
 use Rattle.trace_lines.specs.Lines.{Link, link_of, links_of}
 use Rattle.trace_text.specs.TraceText.{links_at}
-use Rattle.trace_text.specs.Groups.{Counts, Follows, HasPlayed, changed_links, cpu_numbers}
+use Rattle.trace_text.specs.Groups.{Counts, Follows, HasPlayed, changed_links, cpu_numbers, cpus_in}
 
 pub drop_end : {A : Type 0} (xs : List A) (n : ℕ) → length xs ≤ n → drop n xs ≡ []
 drop_end [] zero h = refl
@@ -46,18 +46,28 @@ all-has f (x ∷ xs) (suc k) d h = rw (all-has f xs k d (omega arith)) (or_true 
 pub cpus_there : (g : Group) (qs : List CpuNo) → cpu_numbers qs ≡ group_processors g → All (λ q. IsProcessorOf g q.0) qs
 cpus_there g qs e k d h = subst (λ ys. has (get_or qs k d).0 ys ≡ true) e (all-has (λ (q : CpuNo). q.0) qs k d h)
 
-cpus_in : (xs : List CpuLink) → map (λ (l : Link). l.0) (links_of xs) ≡ map (λ (x : CpuLink). x.cpu.0) xs
-cpus_in [] = refl
-cpus_in (x ∷ xs) = ap (λ ys. x.cpu.0 ∷ ys) (cpus_in xs)
+cpus_of_links : (xs : List CpuLink) → map (λ (l : Link). l.0) (links_of xs) ≡ cpus_in xs
+cpus_of_links [] = refl
+cpus_of_links (x ∷ xs) = ap (λ ys. x.cpu.0 ∷ ys) (cpus_of_links xs)
 
 cpus_at : (g : Group) (p : Past) (qs : List ℕ) → map (λ (l : Link). l.0) (links_at g p qs) ≡ qs
 cpus_at g p [] = refl
 cpus_at g p (q ∷ qs) = ap (λ ys. q ∷ ys) (cpus_at g p qs)
 
+-- the links of processors at a past are of these processors
+pub cpus-are : (g : Group) (p : Past) (qs : List ℕ) (xs : List CpuLink) → links_of xs ≡ links_at g p qs → cpus_in xs ≡ qs
+cpus-are g p qs xs e = sym (cpus_of_links xs) ∙ ap (map (λ (l : Link). l.0)) e ∙ cpus_at g p qs
+
 pub links_there : (g : Group) (p : Past) (xs : List CpuLink) → links_of xs ≡ links_at g p (group_processors g) → All (λ x. IsProcessorOf g x.cpu.0) xs
 links_there g p xs e k d h =
-    let own : map (λ (x : CpuLink). x.cpu.0) xs ≡ group_processors g = sym (cpus_in xs) ∙ ap (map (λ (l : Link). l.0)) e ∙ cpus_at g p (group_processors g) in
-    subst (λ ys. has (get_or xs k d).cpu.0 ys ≡ true) own (all-has (λ (x : CpuLink). x.cpu.0) xs k d h)
+    subst (λ ys. has (get_or xs k d).cpu.0 ys ≡ true) (cpus-are g p (group_processors g) xs e) (all-has (λ (x : CpuLink). x.cpu.0) xs k d h)
+
+-- the processors are the same after an entry more, and these are their links then
+pub follows-next : (h h' : GroupHistory) (e : Entry) (qs : List CpuNo) (links : List CpuLink) → h' ≡ with_entry e h → cpu_numbers qs ≡ group_processors (group_of h)
+    → links_of links ≡ links_at (group_of h) (past h') (group_processors (group_of h)) → Follows h' qs links
+follows-next h h' e qs links entry cpus are =
+    let same : group_of h ≡ group_of h' = sym (ap group_of entry) in
+    record { cpus_are = cpus ∙ ap group_processors same; links_are = are ∙ ap (λ (g : Group). links_at g (past h') (group_processors g)) same }
 
 -- a step makes one event more
 pub past_step : (h h' : GroupHistory) (s : Step) (r : Reply) → h' ≡ with_entry (record { step = s; reply = r }) h → past h' ≡ after (group_of h) s (past h)
@@ -94,16 +104,6 @@ as_many g was now before links r =
     let c : length (links_at g now (group_processors g)) ≡ length (group_processors g) = length-map (group_processors g) (λ q. (q, linked g q now)) in
     let d : length (links_at g was (group_processors g)) ≡ length (group_processors g) = length-map (group_processors g) (λ q. (q, linked g q was)) in
     omega (arith, a, b, c, d, ap length r.links_are, ap length r.before_are)
-
--- those that were read of the group's processors
-pub are-read : (g v : Group) (was now : Past) (qs ks : List CpuNo) (old before links : List CpuLink) → v ≡ g → cpu_numbers qs ≡ group_processors g → ks ≡ qs
-    → before ≡ old → links_of old ≡ links_at g was (group_processors g) → links_of links ≡ links_at v now (cpu_numbers ks) → AreRead g was now before links
-are-read g v was now qs ks old before links same cpus_are ks_are before_is old_are read = record {
-  before_are = ap links_of before_is ∙ old_are;
-  links_are =
-      read ∙ ap (λ (x : Group). links_at x now (cpu_numbers ks)) same
-      ∙ ap (λ (ns : List ℕ). links_at g now ns) (ap cpu_numbers ks_are ∙ cpus_are);
-}
 
 pub on_ok : {E : Type 0} {P : Type 0} (r : Result (Unit {0}) E) → P → OnOk r P
 on_ok (Ok u) p = p
@@ -171,3 +171,10 @@ module _ (h h' : GroupHistory) (b b' : GroupRequests) (room room' : ℕ) (step :
     spare = omega (arith, counts.spare, spare_less, ap (λ (x : GroupHistory). x.spare) entry);
     room_is = omega (arith, counts.room_is, room_same, ap (λ (x : GroupHistory). length x.setup.tasks) entry);
   }
+
+-- where the rest of two lists is the same, so is what stands at its beginning
+pub at_place : (xs ys : List CpuLink) (i : ℕ) (d : CpuLink) → drop i xs ≡ drop i ys → get_or xs i d ≡ get_or ys i d
+at_place xs ys i d same =
+    let here : i + 0 ≡ i = omega arith in
+    ap (λ (n : ℕ). get_or xs n d) (sym here) ∙ sym (get_or-drop i xs 0 d) ∙ ap (λ (zs : List CpuLink). get_or zs 0 d) same ∙ get_or-drop i ys 0 d
+    ∙ ap (λ (n : ℕ). get_or ys n d) here

@@ -27,6 +27,10 @@ pub record AreGroupsOf (p : Parts) (hs : List GroupHistory) : Type 0 where
 abbrev pub cpu_numbers : List CpuNo → List ℕ
 cpu_numbers qs = map (λ (q : CpuNo). q.0) qs
 
+-- the processors that links are of
+abbrev pub cpus_in : List CpuLink → List ℕ
+cpus_in ls = map (λ (x : CpuLink). x.cpu.0) ls
+
 -- of the links now, those that are others than before, place by place
 abbrev pub changed_links : List Link → List Link → List Link
 changed_links [] now = []

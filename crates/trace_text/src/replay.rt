@@ -12,22 +12,20 @@ ghost use Rattle.trace_text.specs.Groups.{Follows};
 
 use crate::counted::Counted;
 use crate::cpus::cpus_of;
-use crate::links::{put_changed, read_links};
+use crate::links::{read_again, read_links};
 use block_counts::Seen;
 use rt_base::{CpuNo, GroupNo, NoMemory};
 use rt_task::{Setup, Step};
 use std::alloc::Global;
-use std::mem;
 use trace_lines::CpuLink;
 
-/// An engine that takes the steps of another one again, with its processors, their links now and
-/// before the last step, and those that this step changed.
+/// An engine that takes the steps of another one again, with its processors, their links now, and those that the last step
+/// changed.
 #[derive(Drop)]
 pub struct Replay {
     engine: Counted,
     cpus: Vec<CpuNo>,
     links: Vec<CpuLink>,
-    before: Vec<CpuLink>,
     changed: Vec<CpuLink>,
 }
 
@@ -49,7 +47,6 @@ impl Replay {
             engine: counted,
             cpus,
             links,
-            before: Vec::new(alloc),
             changed: Vec::new(alloc),
         })
     }
@@ -83,7 +80,7 @@ impl Replay {
         self.engine.requests()
     }
 
-    /// Takes a step.
+    /// Takes a step. The links are read again where it placed some.
     pub fn step(&mut self, step: Step) -> Result<(), NoMemory>
         requires room { 0 < self.old.engine.spare }
         requires step { IsStepOf (group_of self.old.engine) step }
@@ -100,12 +97,11 @@ impl Replay {
             (Follows self.new.engine self.new.cpus.items self.new.links.items) }
     {
         self.engine.step(step);
-        mem::swap(&mut self.before, &mut self.links);
-        read_links(self.engine.engine(), self.cpus.as_slice(), &mut self.links)?;
-        put_changed(
-            self.before.as_slice(),
-            self.links.as_slice(),
-            &mut self.changed,
-        )
+        self.changed.clear();
+        let engine = self.engine.engine();
+        if !engine.has_placed() {
+            return Ok(());
+        }
+        read_again(engine, self.links.as_mut_slice(), &mut self.changed)
     }
 }

@@ -1,40 +1,73 @@
-use Rattle.std.proofs.Common.{◌≡◌, ap, ◌∙◌}
+use Rattle.std.proofs.Common.{◌≡◌, List, length, refl, sym, ap, ◌∙◌, subst, arith}
+use Rattle.std.specs.Prelude.{All, OnOk}
+use Rattle.std.specs.Vec.{with_items}
+use Rattle.std.proofs.lemmas.List.{with_items_is}
 use Rattle.std.proofs.lemmas.Result.{on_ok_weaker}
-use Rattle.rt_model.specs.Group.{Group}
-use Rattle.rt_model.specs.Past.{Past}
-use Rattle.trace_lines.specs.Lines.{links_of}
+use Rattle.rt_model.specs.Group.{Group, group_processors}
 use Rattle.rt_model.specs.Histories.{changed}
+use Rattle.rt_model.specs.Past.{Past}
+use Rattle.rt_plays.specs.Homes.{IsProcessorOf}
 use Rattle.rt_groups.specs.Groups.{GroupHistory, group_of, past}
+use Rattle.trace_lines.specs.declared.links.CpuLink.{CpuLink}
+use Rattle.trace_lines.specs.Lines.{links_of}
+use Rattle.trace_text.specs.Groups.{changed_links, cpus_in}
 use Rattle.trace_text.specs.TraceText.{links_at}
-use Rattle.trace_text.proofs.ReplayLaws.{cpus_there, past_step, changed_by, are-read, as_many, on_ok}
+use Rattle.trace_text.proofs.ReplayLaws.{follows-next, links_there, on_ok, past_step}
+use Rattle.trace_text.proofs.StillLinks.{AreAsBefore, links-stay, none-changed, on-both, told-changed}
 use Rattle.trace_text.proofs.replay.Replay.step.Goals as goal
+use Rattle.trace_text.proofs.replay.Replay.step.Goals.{After-read_again, then-not-has_placed}
 
-pub read_links-requires : goal.read_links-requires
-read_links-requires c =
-    let same_group : group_of c.engine.result.now ≡ group_of c.args.self.now.engine = ap group_of (c.engine.ensures ∙ c.step.ensures.entry) in
-    rw (same_group, c.as_slice.ensures.value) (cpus_there _ c.args.self.now.cpus.items c.requires.follows.cpus_are)
+pub returns-then-not-has_placed-clause-past : goal.returns-then-not-has_placed-clause-past
+returns-then-not-has_placed-clause-past c = past_step c.args.self.now.engine c.step.new.self c.args.step c.step.result c.step.ensures.entry
 
-pub put_changed-requires : goal.put_changed-requires
-put_changed-requires c =
+-- no processor's link was changed
+still : (c : then-not-has_placed) → AreAsBefore (group_of c.args.self.now.engine) (past c.args.self.now.engine) (past c.step.new.self) (group_processors (group_of c.args.self.now.engine))
+still c = rw c.engine.ensures at (c.has_placed.ensures c.args.self.now.engine _ (c.engine.ensures ∙ c.step.ensures.entry) c.if-not-has_placed.true)
+
+pub returns-then-not-has_placed-clause-changed : goal.returns-then-not-has_placed-clause-changed
+returns-then-not-has_placed-clause-changed c =
+    let g : Group = group_of c.args.self.now.engine in
+    let now : Past = past c.step.new.self in
+    ap links_of c.clear.ensures.items ∙ sym (ap (links_at g now) (none-changed g (past c.args.self.now.engine) now (still c)))
+
+pub returns-then-not-has_placed-clause-follows : goal.returns-then-not-has_placed-clause-follows
+returns-then-not-has_placed-clause-follows c =
     let g : Group = group_of c.args.self.now.engine in
     let was : Past = past c.args.self.now.engine in
-    let now : Past = past c.engine.result.now in
-    let before : c.as_slice-2.result.now ≡ c.args.self.now.links.items = cc (c.as_slice-2.ensures.value, c.swap.ensures.x_after) in
-    as_many g was now c.as_slice-2.result.now c.as_slice-3.result.now
-    (are-read g (group_of c.engine.result.now) was now c.args.self.now.cpus.items c.as_slice.result.now c.args.self.now.links.items _ _ (ap group_of (c.engine.ensures ∙ c.step.ensures.entry)) c.requires.follows.cpus_are c.as_slice.ensures.value before c.requires.follows.links_are
-    (ap links_of c.as_slice-3.ensures.value ∙ c.in_ok-read_links.ensures))
+    follows-next c.args.self.now.engine c.step.new.self _ c.args.self.now.cpus.items c.args.self.now.links.items c.step.ensures.entry c.requires.follows.cpus_are
+    (c.requires.follows.links_are ∙ sym (links-stay g was (past c.step.new.self) (group_processors g) (still c)))
+
+pub read_again-requires : goal.read_again-requires
+read_again-requires c =
+    let g : Group = group_of c.args.self.now.engine in
+    let same : g ≡ group_of c.engine.result.now = sym (ap group_of (c.engine.ensures ∙ c.step.ensures.entry)) in
+    rw c.as_mut_slice.ensures.value
+    (subst (λ (x : Group). All (λ (l : CpuLink). IsProcessorOf x l.cpu.0) c.args.self.now.links.items) same (links_there g (past c.args.self.now.engine) c.args.self.now.links.items c.requires.follows.links_are))
 
 pub returns-clause-past : goal.returns-clause-past
-returns-clause-past c = on_ok c.put_changed.result (past_step c.args.self.now.engine c.step.new.self c.args.step c.step.result c.step.ensures.entry)
+returns-clause-past c = on_ok c.read_again.result (past_step c.args.self.now.engine c.step.new.self c.args.step c.step.result c.step.ensures.entry)
+
+-- the links were read again, and those that changed are told
+told : (c : After-read_again) → OnOk c.read_again.result ((links_of c.read_again.new.links ≡ links_at (group_of c.args.self.now.engine) (past c.step.new.self) (group_processors (group_of c.args.self.now.engine)))
+    × (links_of c.read_again.new.changed.items ≡ links_at (group_of c.args.self.now.engine) (past c.step.new.self) (changed (group_of c.args.self.now.engine) (past c.args.self.now.engine) (past c.step.new.self))))
+told c =
+    let g : Group = group_of c.args.self.now.engine in
+    let now : Past = past c.step.new.self in
+    let links : List CpuLink = c.args.self.now.links.items in
+    let own : c.as_mut_slice.result.now ≡ links = c.as_mut_slice.ensures.value in
+    let same : group_of c.engine.result.now ≡ g = ap group_of (c.engine.ensures ∙ c.step.ensures.entry) in
+    let then : past c.engine.result.now ≡ now = ap past c.engine.ensures in
+    let at : links_at (group_of c.engine.result.now) (past c.engine.result.now) (cpus_in c.as_mut_slice.result.now) ≡ links_at g now (cpus_in links) = rw (same, then, own) refl in
+    on-both c.read_again.result c.read_again.ensures.links c.read_again.ensures.changed (λ read more.
+    told-changed g (past c.args.self.now.engine) now links c.read_again.new.links c.read_again.new.changed.items c.requires.follows.links_are (read ∙ at)
+    (more ∙ rw (c.clear.ensures.items, own, at) refl))
 
 pub returns-clause-changed : goal.returns-clause-changed
-returns-clause-changed c =
-    let g : Group = group_of c.args.self.now.engine in
-    let was : Past = past c.args.self.now.engine in
-    let now : Past = past c.engine.result.now in
-    let before : c.as_slice-2.result.now ≡ c.args.self.now.links.items = cc (c.as_slice-2.ensures.value, c.swap.ensures.x_after) in
-    on_ok_weaker c.put_changed.result
-    (λ told. told ∙ changed_by g was now c.as_slice-2.result.now c.as_slice-3.result.now
-    (are-read g (group_of c.engine.result.now) was now c.args.self.now.cpus.items c.as_slice.result.now c.args.self.now.links.items _ _ (ap group_of (c.engine.ensures ∙ c.step.ensures.entry)) c.requires.follows.cpus_are c.as_slice.ensures.value before c.requires.follows.links_are
-    (ap links_of c.as_slice-3.ensures.value ∙ c.in_ok-read_links.ensures))
-    ∙ ap (λ (h : GroupHistory). links_at g (past h) (changed g was (past h))) c.engine.ensures) c.put_changed.ensures
+returns-clause-changed c = on_ok_weaker c.read_again.result (λ both. both.1) (told c)
+
+pub returns-clause-follows : goal.returns-clause-follows
+returns-clause-follows c =
+    let long : length c.read_again.new.links ≡ c.args.self.now.links.len = omega (arith, c.read_again.auto.links, ap length c.as_mut_slice.ensures.value, c.args.self.now.links.ok.0) in
+    let written = with_items_is c.args.self.now.links c.read_again.new.links long in
+    on_ok_weaker c.read_again.result (λ both.
+    follows-next c.args.self.now.engine c.step.new.self _ c.args.self.now.cpus.items (with_items c.args.self.now.links c.read_again.new.links).items c.step.ensures.entry c.requires.follows.cpus_are (ap links_of written ∙ both.0)) (told c)
