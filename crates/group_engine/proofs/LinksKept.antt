@@ -1,5 +1,5 @@
 -- Only placing changes links: neither looking at tasks nor what a processor comes to run does.
-use Rattle.std.proofs.Common.{◌≡◌, ◌≢◌, ℕ, ◌-◌, ◌⊎◌, inl, inr, Bool, true, false, List, [], ◌∷◌, ◌++◌, refl, sym, ap, ◌∙◌}
+use Rattle.std.proofs.Common.{◌≡◌, ◌≢◌, ℕ, ◌-◌, ◌⊎◌, inl, inr, Bool, true, false, not, ◌&&◌, List, [], ◌∷◌, ◌++◌, refl, sym, ap, ◌∙◌}
 use Rattle.std.specs.Prelude.{None, Option, Some, if◌then◌else◌, option_map, slice_index}
 use Rattle.std.proofs.lemmas.Bool.{cases_eq}
 use Rattle.std.proofs.lemmas.List.{same_from_push}
@@ -16,6 +16,7 @@ use Rattle.rt_model.specs.Links.{linked, links}
 use Rattle.rt_model.specs.Past.{Past, accepted}
 use Rattle.rt_plays.specs.Homes.{IsProcessorOf}
 use Rattle.rt_groups.proofs.GroupPlaces.{processors_are_at_home}
+use Rattle.link_table.specs.Linked.{Linked, after_irq, is_deferred, is_pending, link_of, with_run}
 use Rattle.cluster_table.specs.Clusters.{KeptCluster, after_take, left_by, with_key}
 use Rattle.cluster_table.specs.Marks.{IsUnmarked, Marks}
 use Rattle.cluster_table.specs.Table.{Table, changed_at, cluster_at}
@@ -48,12 +49,20 @@ links-brought p [] s c = refl
 links-brought p (u ∷ us) s c =
     links-brought p us (brought_up p u s) c ∙ links-changed (home_in p u) c (with_key u (key_now p s.core.facts u)) s.clusters (λ k. refl)
 
+-- taking an interrupt changes what runs alone
+if-links : (b : Bool) (l l' : Linked) → l'.links ≡ l.links → (if b then l' else l).links ≡ l.links
+if-links true l l' same = same
+if-links false l l' same = refl
+
+links-taken : (l : Linked) (q : ℕ) (np : Bool) → (after_irq l q np).links ≡ l.links
+links-taken l q np = if-links (is_pending l q && not (is_deferred l q np)) l (with_run l q (link_of l q)) refl
+
 pub links-followed : (q : ℕ) (act : Act) (reply : Reply) (o : Option ℕ) (t : Table) (c : ℕ) → links_in (run_followed q act reply o t) c ≡ links_in t c
 links-followed q acts.Tick reply o t c = refl
 links-followed q acts.Irq reply o t c = by_reply (accepted reply)
   where
     by_reply : (b : Bool) → links_in (if b then changed_at (slice_index t.homes q) (after_take q false) t else t) c ≡ links_in t c
-    by_reply true = links-changed (slice_index t.homes q) c (after_take q false) t (λ k. refl)
+    by_reply true = links-changed (slice_index t.homes q) c (after_take q false) t (λ k. links-taken k.linked q false)
     by_reply false = refl
 links-followed q (acts.Arrive u) reply o t c = refl
 links-followed q (acts.Do op) reply None t c = links-changed (slice_index t.homes q) c (left_by q) t (λ k. refl)
@@ -88,9 +97,9 @@ marked-entry g es e s s' before marks was is stay = λ fs f same c h out.
 -- one move after another
 pub stay-both : (a b c : Marks) (s t u : GroupState) → StayLinked a b s t → StayLinked b c t u → StayLinked a c s u
 stay-both a b c s t u first second = λ n h.
-    let then = second n h in
-    let before = first n then.0 in
-    (before.0, then.1 ∙ before.1)
+    let later = second n h in
+    let earlier = first n later.0 in
+    (earlier.0, later.1 ∙ earlier.1)
 
 -- a processor of a cluster without a mark is linked as before the last entry
 pub linked-unmarked : (g : Group) (es : List Entry) (e : Entry) (marks : Marks) → AreMarked g (es ++ e ∷ []) marks → (q : ℕ) → IsProcessorOf g q
