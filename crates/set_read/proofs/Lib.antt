@@ -2,3 +2,4 @@ pub mod FormLaws
 pub mod NameLaws
 pub mod ReadLaws
 pub mod ShapeLaws
+pub mod ActLaws

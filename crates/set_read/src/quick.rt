@@ -1,0 +1,99 @@
+//! Reading the usual document in one pass: its steps stand last, and are read from tokens.
+ghost use Rattle.std.specs.Prelude.{◌≡◌, [], Some, Ok, IfSome, IsTrue, codes};
+ghost use Rattle.json.specs.Json.{read_key};
+ghost use Rattle.json.specs.Value.{members_view};
+ghost use Rattle.serde_json.specs.Read.{of_json};
+ghost use Rattle.serde_json.specs.View.{view};
+ghost use Rattle.set_read.specs.Sets.{draft_in_bytes};
+ghost use Rattle.set_read.specs.Tokens.{CanBeWritten, Completes, LeavesSteps, with_no_steps};
+
+use crate::document::whole_of;
+use crate::read::{draft_of_whole, is_few, name_lists};
+use crate::step_tokens::steps;
+use json::{Reader, Scratch, Token};
+use rt_task::{Draft, DraftDrive, DraftSteps};
+use serde_json::Value;
+use std::alloc::Global;
+
+// How deep a member's value may nest: a document may 127 deep, and it is an object.
+const MEMBER_DEPTH: usize = 126;
+
+/// The members before the steps, up to the first step.
+fn members_before_steps<'a>(
+    alloc: Global,
+    reader: &mut Reader<'a>,
+) -> Option<Vec<(&'a str, json::Value<'a>)>>
+    ensures tokens { IfSome result
+        (λ ms. LeavesSteps reader.old (members_view ms.items) reader.new) }
+    ensures written { IfSome result (λ ms. CanBeWritten (members_view ms.items)) }
+{
+    let Token::BeginObject = reader.next()? else {
+        return None;
+    };
+    let mut members = Vec::new(alloc);
+    while let Some(key) = reader.next_key().ok()? {
+        if key == "steps" {
+            let Token::BeginArray = reader.next()? else {
+                return None;
+            };
+            return Some(members);
+        }
+        let member = json::Value::read(alloc, reader, MEMBER_DEPTH).ok()?;
+        members.push((key, member)).ok()?;
+    }
+    None
+}
+
+/// The object of these members and of no steps.
+fn value_of<'a>(alloc: Global, members: Vec<(&'a str, json::Value<'a>)>) -> Option<Value>
+    requires { CanBeWritten (members_view members.items) }
+    ensures { IfSome result
+        (λ v. of_json (with_no_steps (members_view members.entry.items)) ≡ Some (view v)) }
+{
+    let mut members = members;
+    let none = json::Value::Array(Vec::new(alloc));
+    members.push(("steps", none)).ok()?;
+    let text = json::to_vec(alloc, &json::Value::Object(members)).ok()?;
+    Value::from_slice(alloc, text.as_slice()).ok()
+}
+
+/// Whether the object ends here, and the text with it.
+fn is_at_end(reader: &mut Reader<'_>) -> bool
+    ensures { IsTrue result → read_key reader.old ≡ Some (None, []) }
+{
+    match reader.next_key() {
+        Ok(None) => reader.next().is_none(),
+        _ => false,
+    }
+}
+
+/// The set that a document says whose steps are still to be read.
+fn draft_of(alloc: Global, value: &Value, reader: &mut Reader<'_>) -> Option<Draft>
+    ensures { IfSome result (λ draft. Completes (view value.now) reader.old draft) }
+{
+    let whole = whole_of(value)?;
+    if !is_few(&whole) {
+        return None;
+    }
+    let names = name_lists(alloc, &whole).ok()?;
+    let found = steps(alloc, &names, reader)?;
+    if !is_at_end(reader) {
+        return None;
+    }
+    let mut draft = draft_of_whole(alloc, &whole, &names).ok()?;
+    draft.drive = DraftDrive::Steps(DraftSteps::from_vec(found));
+    Some(draft)
+}
+
+/// The set that a document says, where it has the usual form: an object whose last member is an
+/// array of well-formed steps. None: read it as a whole.
+pub(crate) fn quick_draft(alloc: Global, bytes: &[u8]) -> Option<Draft>
+    ensures { IfSome result (λ draft. draft_in_bytes bytes.now ≡ Ok draft) }
+{
+    let text = std::str::from_utf8(bytes).ok()?;
+    let mut scratch = Scratch::new(alloc);
+    let mut reader = Reader::new(text, &mut scratch).ok()?;
+    let members = members_before_steps(alloc, &mut reader)?;
+    let value = value_of(alloc, members)?;
+    draft_of(alloc, &value, &mut reader)
+}
