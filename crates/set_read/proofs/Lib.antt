@@ -3,3 +3,8 @@ pub mod NameLaws
 pub mod ReadLaws
 pub mod ShapeLaws
 pub mod ActLaws
+pub mod NumberLaws
+pub mod TokenLaws
+pub mod StepLaws
+pub mod FrontLaws
+pub mod WholeLaws

@@ -55,6 +55,10 @@ with_steps ms js = json.object (before ms (json.member (codes "steps") (json.arr
 abbrev pub with_no_steps : json.Members → json.Json
 with_no_steps ms = with_steps ms json.no_items
 
+-- what is left of an object is these members, and rest follows it
+abbrev pub AreMembers : ℕ → List Token → json.Members → List Token → Type 0
+AreMembers depth ts ms rest = (n : ℕ) → length ts ≤ n → json.members (json.value depth) n ts ≡ Some (ms, rest)
+
 -- From the first token these members were read, and the steps are next: with whatever steps these are, and nothing after them, the value is known.
 abbrev pub LeavesSteps : List Token → json.Members → List Token → Type 0
 LeavesSteps first ms now =

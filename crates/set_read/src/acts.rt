@@ -41,7 +41,7 @@ fn op_counted(word: &str, n: u64) -> Option<Op>
     }
 }
 
-#[tactic(auto, using(crate::proofs::ActLaws::argument))]
+#[tactic(auto, using(crate::proofs::ActLaws::is_name))]
 pub(crate) fn op_with(names: &NameLists, word: &str, x: &Value) -> Option<Op>
     ensures { result ≡ document.op_with (names_seen names.now) word.now (view x.now) }
 {
@@ -72,7 +72,7 @@ pub(crate) fn act_counted(word: &str, n: u64) -> Option<Act>
     Some(Act::Do(op))
 }
 
-#[tactic(auto, using(crate::proofs::ActLaws::argument))]
+#[tactic(auto, using(crate::proofs::ActLaws::is_name))]
 pub(crate) fn act_with(names: &NameLists, word: &str, x: &Value) -> Option<Act>
     ensures { result ≡ document.act_with (names_seen names.now) word.now (view x.now) }
 {

@@ -20,7 +20,10 @@ fn number_in(text: &str) -> Option<u64>
     if digits.is_empty() || !digits[0].is_ascii_digit() {
         return None;
     }
-    fast_float::parse_u64(digits).ok()
+    match fast_float::parse_u64(digits) {
+        Ok(n) => Some(n),
+        Err(_) => None,
+    }
 }
 
 fn number(reader: &mut Reader<'_>) -> Option<u64>
@@ -47,7 +50,10 @@ fn act(names: &NameLists, word: &str, reader: &mut Reader<'_>) -> Option<Act>
         (λ act. SaysAct (names_seen names.now) word.now reader.old act reader.new) }
 {
     let act = match reader.next()? {
-        Token::EndArray => return bare_act(word),
+        Token::EndArray => {
+            let act = bare_act(word)?;
+            return Some(act);
+        }
         Token::String(name) => act_named(names, word, name)?,
         Token::Number(text) => act_counted(word, number_in(text)?)?,
         _ => return None,
