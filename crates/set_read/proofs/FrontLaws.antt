@@ -1,5 +1,5 @@
 -- The members before the steps, member by member, and what they say with the steps.
-use Rattle.std.proofs.Common.{◌≡◌, ℕ, ◌≤◌, max, List, [], ◌∷◌, ◌++◌, length, Option, Some, None, option_map, option_and_then, refl, sym, ap, ◌∙◌, arith, append-nil, Bor}
+use Rattle.std.proofs.Common.{◌≡◌, ℕ, ◌≤◌, max, List, [], ◌∷◌, ◌++◌, length, Option, Some, None, option_map, option_and_then, refl, sym, ap, ap₂, ◌∙◌, arith, append-nil, Bor, Vec, Bool, true, cond}
 use Rattle.std.specs.Prelude.{codes}
 use Rattle.json.specs.Token.{Token}
 use Rattle.json.specs.Json as json
@@ -8,12 +8,13 @@ use Rattle.json.specs.Lex.{tokens}
 use Rattle.json.specs.Print.{print}
 use Rattle.json.specs.Tree.{json_tokens, depth, HasNumbers, MembersHaveNumbers, members_depth}
 use Rattle.json.specs.Value.{value_view, members_view}
-use Rattle.json.specs.declared.value.Value.{Value}
+use Rattle.json.specs.declared.value.Value.{Value, Object}
 use Rattle.json.proofs.Grammar.{value-begin_array, value-begin_object, members_end}
+use Rattle.json.proofs.Trees.{view-Object}
 use Rattle.json.proofs.Printed.Tokens.{tokens-print}
 use Rattle.json.proofs.Printed.Trees.{value-json_tokens, ArePrintable-json_tokens}
-use Rattle.serde_json.specs.Read.{of_json, read}
-use Rattle.set_read.specs.Tokens.{member_depth, AreMembers, before, with_steps, LeavesSteps, CanBeWritten}
+use Rattle.serde_json.specs.Read.{max_depth, of_json, read}
+use Rattle.set_read.specs.Tokens.{member_depth, AreMembers, before, with_steps, with_no_steps, LeavesSteps, CanBeWritten}
 use Rattle.set_read.proofs.TokenLaws.{one_member}
 
 -- ---- members in a row
@@ -35,10 +36,18 @@ can_be_written no_members k j h numbers nests = ((numbers, tt), omega arith)
 can_be_written (member l i ms) k j h numbers nests = let rest = can_be_written ms k j (h.0.1, omega (arith, h.1)) numbers nests in ((h.0.0, rest.0), omega (arith, h.1, rest.1))
 
 -- what was written is read as the same value
-pub read-printed : (j : Json) → HasNumbers j → depth j ≤ 127 → read (print (json_tokens j)) ≡ of_json j
+pub read-printed : (j : Json) → HasNumbers j → depth j ≤ max_depth → read (print (json_tokens j)) ≡ of_json j
 read-printed j numbers nests =
     ap (λ o. option_and_then of_json (option_and_then (λ p. if_last p.0 p.1) o))
     (ap (value 127) (tokens-print (json_tokens j) (ArePrintable-json_tokens j numbers) ∙ sym (append-nil (json_tokens j))) ∙ value-json_tokens j 127 [] nests)
+
+-- what a push of no steps makes
+pub with_no_steps-view : {A : Type 0} (ms pushed : Vec (Bor (List ℕ) × Value A) A) (m : Bor (List ℕ) × Value A) (done : Bool) → pushed.items ≡ cond done (ms.items ++ m ∷ []) ms.items → done ≡ true → m.0.now ≡ codes "steps" → value_view m.1 ≡ json.array json.no_items
+    → value_view (Object pushed) ≡ with_no_steps (members_view ms.items)
+with_no_steps-view ms pushed m done items ok key none =
+    let all : pushed.items ≡ ms.items ++ m ∷ [] = items ∙ ap (λ b. cond b (ms.items ++ m ∷ []) ms.items) ok in
+    view-Object pushed ∙ ap (λ vs. json.object (members_view vs)) all ∙ ap json.object (members_view-push ms.items m)
+    ∙ ap₂ (λ k j. json.object (before (members_view ms.items) (member k j no_members))) key none
 
 -- ---- the steps, and the end of the object
 

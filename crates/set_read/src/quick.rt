@@ -1,11 +1,13 @@
 //! Reading the usual document in one pass: its steps stand last, and are read from tokens.
-ghost use Rattle.std.specs.Prelude.{◌≡◌, [], Some, Ok, IfSome, IsTrue, codes};
+ghost use Rattle.std.specs.Prelude.{◌≡◌, ◌≤◌, [], Some, Ok, IfSome, IsTrue, codes};
 ghost use Rattle.json.specs.Json.{read_key};
-ghost use Rattle.json.specs.Value.{members_view};
-ghost use Rattle.serde_json.specs.Read.{of_json};
+ghost use Rattle.json.specs.Tree.{HasNumbers, depth};
+ghost use Rattle.json.specs.Value.{members_view, value_view};
+ghost use Rattle.serde_json.specs.Read.{max_depth, of_json};
 ghost use Rattle.serde_json.specs.View.{view};
 ghost use Rattle.set_read.specs.Sets.{draft_in_bytes};
-ghost use Rattle.set_read.specs.Tokens.{CanBeWritten, Completes, LeavesSteps, with_no_steps};
+ghost use Rattle.set_read.specs.Tokens as tokens;
+ghost use Rattle.set_read.specs.Tokens.{CanBeWritten, Completes, LeavesSteps};
 
 use crate::document::whole_of;
 use crate::read::{draft_of_whole, is_few, name_lists};
@@ -31,30 +33,46 @@ fn members_before_steps<'a>(
         return None;
     };
     let mut members = Vec::new(alloc);
-    while let Some(key) = reader.next_key().ok()? {
+    while let Ok(Some(key)) = reader.next_key() {
         if key == "steps" {
             let Token::BeginArray = reader.next()? else {
                 return None;
             };
             return Some(members);
         }
-        let member = json::Value::read(alloc, reader, MEMBER_DEPTH).ok()?;
+        let Ok(member) = json::Value::read(alloc, reader, MEMBER_DEPTH) else {
+            return None;
+        };
         members.push((key, member)).ok()?;
     }
     None
 }
 
 /// The object of these members and of no steps.
-fn value_of<'a>(alloc: Global, members: Vec<(&'a str, json::Value<'a>)>) -> Option<Value>
-    requires { CanBeWritten (members_view members.items) }
+fn with_no_steps<'a>(
+    alloc: Global,
+    members: Vec<(&'a str, json::Value<'a>)>,
+) -> Option<json::Value<'a>>
     ensures { IfSome result
-        (λ v. of_json (with_no_steps (members_view members.entry.items)) ≡ Some (view v)) }
+        (λ v. value_view v ≡ tokens.with_no_steps (members_view members.entry.items)) }
 {
     let mut members = members;
     let none = json::Value::Array(Vec::new(alloc));
     members.push(("steps", none)).ok()?;
-    let text = json::to_vec(alloc, &json::Value::Object(members)).ok()?;
-    Value::from_slice(alloc, text.as_slice()).ok()
+    Some(json::Value::Object(members))
+}
+
+/// The value as the readers of forms take it.
+fn value_of(alloc: Global, value: &json::Value<'_>) -> Option<Value>
+    requires numbers { HasNumbers (value_view value.now) }
+    requires nests { depth (value_view value.now) ≤ max_depth }
+    ensures { IfSome result (λ v. of_json (value_view value.now) ≡ Some (view v)) }
+{
+    let text = json::to_vec(alloc, value).ok()?;
+    match Value::from_slice(alloc, text.as_slice()) {
+        Ok(value) => Some(value),
+        Err(_) => None,
+    }
 }
 
 /// Whether the object ends here, and the text with it.
@@ -94,6 +112,7 @@ pub(crate) fn quick_draft(alloc: Global, bytes: &[u8]) -> Option<Draft>
     let mut scratch = Scratch::new(alloc);
     let mut reader = Reader::new(text, &mut scratch).ok()?;
     let members = members_before_steps(alloc, &mut reader)?;
-    let value = value_of(alloc, members)?;
+    let object = with_no_steps(alloc, members)?;
+    let value = value_of(alloc, &object)?;
     draft_of(alloc, &value, &mut reader)
 }

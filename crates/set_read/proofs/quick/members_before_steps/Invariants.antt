@@ -6,11 +6,11 @@ use Rattle.set_read.specs.Tokens.{AreMembers, CanBeWritten, before, member_depth
 use Rattle.set_read.proofs.quick.members_before_steps.Given as goal
 
 -- what was found, and then what the rest is, is what all are
-abbrev pub invariant-loop-members : goal.invariant-loop-members
-invariant-loop-members l = record {
+abbrev pub invariant-loop-key : goal.invariant-loop-key
+invariant-loop-key l = record {
   read : (last : Members) (after : List Token) → AreMembers member_depth l.reader last after → AreMembers member_depth l.initial.reader (before (members_view l.members.items) last) after;
   written : CanBeWritten (members_view l.members.items);
 }
 
-abbrev pub decreases-loop-members : goal.decreases-loop-members
-decreases-loop-members l = length l.reader
+abbrev pub decreases-loop-key : goal.decreases-loop-key
+decreases-loop-key l = length l.reader

@@ -1,7 +1,13 @@
-use Rattle.json.proofs.Trees.{view-Object}
-use Rattle.set_read.proofs.FrontLaws.{read-printed, members_view-push, can_be_written}
-use Rattle.set_read.proofs.WholeLaws.{exchanged}
+use Rattle.std.proofs.Common.{◌≡◌, ap, sym, ◌∙◌, arith}
+use Rattle.json.specs.Print.{print}
+use Rattle.json.specs.Tree.{json_tokens}
+use Rattle.json.specs.Value.{value_view}
+use Rattle.serde_json.specs.Read.{read}
+use Rattle.set_read.proofs.FrontLaws.{read-printed}
 use Rattle.set_read.proofs.quick.value_of.Goals as goal
 
-pub to_vec-requires : goal.to_vec-requires
-to_vec-requires c = ?
+pub returns-in-Ok : goal.returns-in-Ok
+returns-in-Ok c =
+    let j = value_view c.args.value.now in
+    let text : c.as_slice.result.now ≡ print (json_tokens j) = grind arith in
+    sym (read-printed j c.requires.numbers c.requires.nests) ∙ ap read (sym text) ∙ c.in-Ok.ensures.ok.1
