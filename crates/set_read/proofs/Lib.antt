@@ -8,3 +8,5 @@ pub mod TokenLaws
 pub mod StepLaws
 pub mod FrontLaws
 pub mod WholeLaws
+pub mod DraftLaws
+pub mod QuickLaws

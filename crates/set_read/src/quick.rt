@@ -93,14 +93,20 @@ fn draft_of(alloc: Global, value: &Value, reader: &mut Reader<'_>) -> Option<Dra
     if !is_few(&whole) {
         return None;
     }
-    let names = name_lists(alloc, &whole).ok()?;
+    let Ok(names) = name_lists(alloc, &whole) else {
+        return None;
+    };
     let found = steps(alloc, &names, reader)?;
     if !is_at_end(reader) {
         return None;
     }
-    let mut draft = draft_of_whole(alloc, &whole, &names).ok()?;
-    draft.drive = DraftDrive::Steps(DraftSteps::from_vec(found));
-    Some(draft)
+    match draft_of_whole(alloc, &whole, &names) {
+        Ok(mut draft) => {
+            draft.drive = DraftDrive::Steps(DraftSteps::from_vec(found));
+            Some(draft)
+        }
+        Err(_) => None,
+    }
 }
 
 /// The set that a document says, where it has the usual form: an object whose last member is an
@@ -108,9 +114,13 @@ fn draft_of(alloc: Global, value: &Value, reader: &mut Reader<'_>) -> Option<Dra
 pub(crate) fn quick_draft(alloc: Global, bytes: &[u8]) -> Option<Draft>
     ensures { IfSome result (λ draft. draft_in_bytes bytes.now ≡ Ok draft) }
 {
-    let text = std::str::from_utf8(bytes).ok()?;
+    let Ok(text) = std::str::from_utf8(bytes) else {
+        return None;
+    };
     let mut scratch = Scratch::new(alloc);
-    let mut reader = Reader::new(text, &mut scratch).ok()?;
+    let Ok(mut reader) = Reader::new(text, &mut scratch) else {
+        return None;
+    };
     let members = members_before_steps(alloc, &mut reader)?;
     let object = with_no_steps(alloc, members)?;
     let value = value_of(alloc, &object)?;
