@@ -1,5 +1,5 @@
 -- The draft of a document whose steps are read apart.
-use Rattle.std.proofs.Common.{◌≡◌, ℕ, ◌+◌, List, [], ◌∷◌, Option, Some, None, Result, Ok, Err, map, refl, ap, sym, ◌∙◌}
+use Rattle.std.proofs.Common.{◌≡◌, ℕ, ◌+◌, List, [], ◌∷◌, Option, Some, None, Result, Ok, Err, map, false, refl, ap, sym, ◌∙◌}
 use Rattle.std.specs.Prelude.{codes}
 use Rattle.rt_task.specs.declared.PluginKind.{PluginKind}
 use Rattle.rt_task.specs.declared.Sem.{Sem}
@@ -15,6 +15,7 @@ use Rattle.rt_task.specs.declared.draft.DraftResv.{DraftResv}
 use Rattle.rt_task.specs.declared.draft.DraftStep.{DraftStep}
 use Rattle.rt_task.specs.declared.draft.DraftTask.{DraftTask}
 use Rattle.rt_task.specs.Refusals.{bad}
+use Rattle.json.specs.Token.{Token}
 use Rattle.serde_json.specs.Data.{Data, array, object, Items, no_items, Members, put}
 use Rattle.set_read.specs.Document.{Whole, steps, whole_of, names_of, tasks_from, cluster_form, semaphore_form, reservation_form, step_form}
 use Rattle.set_read.specs.Elements.{elements_from, with_front}
@@ -22,6 +23,7 @@ use Rattle.set_read.specs.Forms as forms
 use Rattle.set_read.specs.Forms.{every, listed}
 use Rattle.set_read.specs.Sets.{◌>>=◌, or_refused}
 use Rattle.set_read.specs.Stepwise.{drive_read, whole_read, draft_read}
+use Rattle.set_read.specs.Tokens.{Completes, SaysDraft}
 use Rattle.set_read.proofs.WholeLaws.{whole_of-put}
 
 -- ---- elements
@@ -56,20 +58,25 @@ driven plugin (Ok c) (Err b) r t was now d e = absurd cc
 driven plugin (Ok c) (Ok s) (Err b) t was now d e = absurd cc
 driven plugin (Ok c) (Ok s) (Ok r) (Err b) was now d e = absurd cc
 
-whole_read-steps : (w : Whole) (ds : List Data) (found : List DraftStep) (d : Draft) → w.play ≡ steps [] → whole_read w ≡ Ok d → every (step_form (names_of w)) ds ≡ Some found → whole_read (record w { play = steps ds }) ≡ Ok (record d { drive = Steps found })
+pub whole_read-steps : (w : Whole) (ds : List Data) (found : List DraftStep) (d : Draft) → w.play ≡ steps [] → whole_read w ≡ Ok d → every (step_form (names_of w)) ds ≡ Some found → whole_read (record w { play = steps ds }) ≡ Ok (record d { drive = Steps found })
 unfolding whole_read drive_read
 whole_read-steps w ds found d none e said =
     let clusters = elements_from parts.Cluster 0 (map (λ x. cluster_form x) w.clusters) in
     let sems = elements_from parts.Sem 0 (map (λ x. semaphore_form x) w.sems) in
     let resvs = elements_from parts.Resv 0 (map (λ x. reservation_form x) w.resvs) in
-    let tasks = elements_from parts.Task 0 (tasks_from (names_of w) Rattle.std.proofs.Common.false 1 w.tasks) in
+    let tasks = elements_from parts.Task 0 (tasks_from (names_of w) false 1 w.tasks) in
     let read : draft_by w.plugin clusters sems resvs tasks (Ok (Steps [])) ≡ Ok d = sym (λ i. whole_read (record w { play = none i })) ∙ e in
     ap (λ found. draft_by w.plugin clusters sems resvs tasks (found >>= λ found. Ok (Steps found))) (every_found (step_form (names_of w)) parts.Step 0 ds found said) ∙ driven w.plugin clusters sems resvs tasks (Steps []) (Steps found) d read
 
 -- the steps put at their name say the draft with these steps
-pub completed : (value : Data) (ds : Items) (w : Whole) (found : List DraftStep) (d : Draft) → whole_of value ≡ Some w → whole_read w ≡ Ok d → every (step_form (names_of w)) (listed ds) ≡ Some found
-    → (ms : Members) → value ≡ object (put (codes "steps") (array no_items) ms) → draft_read (object (put (codes "steps") (array ds) ms)) ≡ Ok (record d { drive = Steps found })
+pub completed : (value : Data) (ts : List Token) (w : Whole) (d : Draft) → whole_of value ≡ Some w → SaysDraft w ts d → Completes value ts d
 unfolding draft_read
-completed value ds w found d whole e said ms is =
-    let put = whole_of-put no_items ds ms w (ap whole_of (sym is) ∙ whole) in
-    ap (λ o. or_refused (bad kinds.Shape parts.Whole 0) o >>= whole_read) put.0 ∙ whole_read-steps w (listed ds) found d put.1 e said
+completed value ts w d whole (ds, rest, said, closed, draft) = (
+  ds,
+  rest,
+  said,
+  closed,
+  λ ms is.
+      (let exchanged = whole_of-put no_items ds ms w (ap whole_of (sym is) ∙ whole) in
+      ap (λ o. or_refused (bad kinds.Shape parts.Whole 0) o >>= whole_read) exchanged.0 ∙ draft exchanged.1),
+)

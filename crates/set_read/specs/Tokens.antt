@@ -8,9 +8,9 @@ use Rattle.rt_task.specs.declared.draft.Draft.{Draft}
 use Rattle.rt_task.specs.declared.draft.DraftStep.{DraftStep}
 use Rattle.serde_json.specs.Data.{Data, unsigned, array, object, Items, no_items, Members, put}
 use Rattle.serde_json.specs.Read.{of_json, of_items, converted, number_of}
-use Rattle.set_read.specs.Document.{Names, act_form, step_form}
+use Rattle.set_read.specs.Document.{Names, Whole, steps, act_form, step_form}
 use Rattle.set_read.specs.Forms.{listed, every}
-use Rattle.set_read.specs.Stepwise.{draft_read}
+use Rattle.set_read.specs.Stepwise.{draft_read, whole_read}
 
 -- how deep a member's value may nest, and how deep one of its items
 abbrev pub member_depth : ℕ
@@ -40,7 +40,7 @@ SaysStep names ts step rest = (d : Data) × (converted of_json (json.value item_
 
 -- what is left of an array is these steps
 abbrev pub SaySteps : Names → List Token → List DraftStep → List Token → Type 0
-SaySteps names ts steps rest = (ds : Items) × SayItems item_depth ts ds rest × (every (step_form names) (listed ds) ≡ Some steps)
+SaySteps names ts found rest = (ds : Items) × SayItems item_depth ts ds rest × (every (step_form names) (listed ds) ≡ Some found)
 
 -- ---- members
 
@@ -69,7 +69,13 @@ LeavesSteps first ms now =
 abbrev pub CanBeWritten : json.Members → Type 0
 CanBeWritten ms = MembersHaveNumbers ms × (members_depth ms ≤ member_depth)
 
--- The steps are next, and then the end of the text: with them in place of none, the value says this draft.
+-- The steps are next, and then the end of the text: with them in place of none, the whole says this draft.
+abbrev pub SaysDraft : Whole → List Token → Draft → Type 0
+SaysDraft whole ts draft =
+    (ds : Items) × (rest : List Token) × SayItems item_depth ts ds rest × (json.read_key rest ≡ Some (None, []))
+    × (whole.play ≡ steps [] → whole_read (record whole { play = steps (listed ds) }) ≡ Ok draft)
+
+-- the same of a value
 abbrev pub Completes : Data → List Token → Draft → Type 0
 Completes value ts draft =
     (ds : Items) × (rest : List Token) × SayItems item_depth ts ds rest × (json.read_key rest ≡ Some (None, []))

@@ -5,11 +5,16 @@ ghost use Rattle.json.specs.Tree.{HasNumbers, depth};
 ghost use Rattle.json.specs.Value.{members_view, value_view};
 ghost use Rattle.serde_json.specs.Read.{max_depth, of_json};
 ghost use Rattle.serde_json.specs.View.{view};
+ghost use Rattle.set_read.specs.Document.{names_of};
+ghost use Rattle.set_read.specs.Few.{IsFew};
+ghost use Rattle.set_read.specs.Names.{names_seen};
+ghost use Rattle.set_read.specs.Seen.{whole_seen};
 ghost use Rattle.set_read.specs.Sets.{draft_in_bytes};
 ghost use Rattle.set_read.specs.Tokens as tokens;
-ghost use Rattle.set_read.specs.Tokens.{CanBeWritten, Completes, LeavesSteps};
+ghost use Rattle.set_read.specs.Tokens.{CanBeWritten, Completes, LeavesSteps, SaysDraft};
 
-use crate::document::whole_of;
+use crate::acts::NameLists;
+use crate::document::{Whole, whole_of};
 use crate::read::{draft_of_whole, is_few, name_lists};
 use crate::step_tokens::steps;
 use json::{Reader, Scratch, Token};
@@ -85,7 +90,31 @@ fn is_at_end(reader: &mut Reader<'_>) -> bool
     }
 }
 
-/// The set that a document says whose steps are still to be read.
+/// The set that a whole says whose steps are still to be read.
+fn draft_with_steps(
+    alloc: Global,
+    whole: &Whole,
+    names: &NameLists,
+    reader: &mut Reader<'_>,
+) -> Option<Draft>
+    requires few { IsFew whole.now }
+    requires names { names_seen names.now ≡ names_of (whole_seen whole.now) }
+    ensures { IfSome result (λ draft. SaysDraft (whole_seen whole.now) reader.old draft) }
+{
+    let found = steps(alloc, names, reader)?;
+    if !is_at_end(reader) {
+        return None;
+    }
+    match draft_of_whole(alloc, whole, names) {
+        Ok(mut draft) => {
+            draft.drive = DraftDrive::Steps(DraftSteps::from_vec(found));
+            Some(draft)
+        }
+        Err(_) => None,
+    }
+}
+
+/// The same of a value whose steps are still to be read.
 fn draft_of(alloc: Global, value: &Value, reader: &mut Reader<'_>) -> Option<Draft>
     ensures { IfSome result (λ draft. Completes (view value.now) reader.old draft) }
 {
@@ -96,17 +125,7 @@ fn draft_of(alloc: Global, value: &Value, reader: &mut Reader<'_>) -> Option<Dra
     let Ok(names) = name_lists(alloc, &whole) else {
         return None;
     };
-    let found = steps(alloc, &names, reader)?;
-    if !is_at_end(reader) {
-        return None;
-    }
-    match draft_of_whole(alloc, &whole, &names) {
-        Ok(mut draft) => {
-            draft.drive = DraftDrive::Steps(DraftSteps::from_vec(found));
-            Some(draft)
-        }
-        Err(_) => None,
-    }
+    draft_with_steps(alloc, &whole, &names, reader)
 }
 
 /// The set that a document says, where it has the usual form: an object whose last member is an
