@@ -6,7 +6,7 @@ use Rattle.json.specs.Json.{parse_map, after_end_array, read_key, value}
 use Rattle.json.proofs.Grammar.{left, value_is, value-begin_array, items_end, items_more, members_more, read_key-shorter, skip_value-shorter}
 use Rattle.serde_json.specs.Data.{Data, number, string, array, unsigned, Items, no_items, item}
 use Rattle.serde_json.specs.Read.{of_json, of_items, converted, number_of}
-use Rattle.set_read.specs.Tokens.{SayItems, AreMembers}
+use Rattle.set_read.specs.Tokens.{AreItems, AreMembers}
 
 -- ---- a value that was converted
 
@@ -40,16 +40,16 @@ converted-shorter depth ts r d e = skip_value-shorter depth ts r (ap left (conve
 
 -- ---- items
 
-pub no_more_items : (depth : ℕ) (ts r : List Token) → after_end_array ts ≡ Some r → SayItems depth ts no_items r
+pub no_more_items : (depth : ℕ) (ts r : List Token) → after_end_array ts ≡ Some r → AreItems depth ts no_items r
 no_more_items depth ts r e n enough = ap (converted of_items) (items_end (value depth) n ts r enough e)
 
-pub one_item : (depth : ℕ) (ts r rest : List Token) (d : Data) (ds : Items) → after_end_array ts ≡ None → converted of_json (value depth ts) ≡ Some (d, r) → SayItems depth r ds rest → SayItems depth ts (item d ds) rest
+pub one_item : (depth : ℕ) (ts r rest : List Token) (d : Data) (ds : Items) → after_end_array ts ≡ None → converted of_json (value depth ts) ≡ Some (d, r) → AreItems depth r ds rest → AreItems depth ts (item d ds) rest
 one_item depth ts r rest d ds going first more n enough =
     let j = converted_some of_json (value depth ts) d r first in
     let less = converted-shorter depth ts r d first in
     ap (converted of_items) (items_more (value depth) n ts r j.0 (omega arith) going j.1) ∙ with_item j.0 d j.2 _ ∙ ap (parse_map (item d)) (more (n - 1) (omega arith))
 
-pub array_said : (depth : ℕ) (ts rest : List Token) (ds : Items) → 0 < depth → SayItems (depth - 1) ts ds rest → converted of_json (value depth (Token.begin_array ∷ ts)) ≡ Some (array ds, rest)
+pub array_said : (depth : ℕ) (ts rest : List Token) (ds : Items) → 0 < depth → AreItems (depth - 1) ts ds rest → converted of_json (value depth (Token.begin_array ∷ ts)) ≡ Some (array ds, rest)
 array_said depth ts rest ds some say = ap (converted of_json) (value-begin_array depth ts some) ∙ converted-array (json.items (value (depth - 1)) (length ts) ts) ∙ ap (parse_map array) (say (length ts) (omega arith))
 
 pub number_said : (depth : ℕ) (s : List ℕ) (n : ℕ) (r : List Token) → number_of s ≡ Some (unsigned n) → converted of_json (value depth (Token.number s ∷ r)) ≡ Some (number (unsigned n), r)

@@ -75,7 +75,7 @@ module _ (was now : Items) where
       let d = object (put (codes "steps") (array was) ms) in
       let known = object_of whole_members d in
       let given : whole_by known (required (one_of plugins) (codes "plugin") d) (required items (codes "clusters") d) (optional items [] (codes "sems") d) (optional items [] (codes "resvs") d) (optional items [] (codes "tasks") d)
-          (play_of (Some (array was)) (get (codes "horizon") d)) ≡ Some w =
+      (play_of (Some (array was)) (get (codes "horizon") d)) ≡ Some w =
       sym (ap (λ o. whole_by known (required (one_of plugins) (codes "plugin") d) (required items (codes "clusters") d) (optional items [] (codes "sems") d) (optional items [] (codes "resvs") d) (optional items [] (codes "tasks") d)
       (play_of o (get (codes "horizon") d))) (get_member-put (codes "steps") (array was) ms)) ∙ e in
       let moved = exchanged known (required (one_of plugins) (codes "plugin") d) (required items (codes "clusters") d) (optional items [] (codes "sems") d) (optional items [] (codes "resvs") d) (optional items [] (codes "tasks") d) (get (codes "horizon") d) w given in (

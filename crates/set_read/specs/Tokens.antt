@@ -7,7 +7,7 @@ use Rattle.rt_task.specs.declared.Act.{Act}
 use Rattle.rt_task.specs.declared.draft.Draft.{Draft}
 use Rattle.rt_task.specs.declared.draft.DraftStep.{DraftStep}
 use Rattle.serde_json.specs.Data.{Data, unsigned, array, object, Items, no_items, Members, put}
-use Rattle.serde_json.specs.Read.{of_json, of_items, converted, number_of}
+use Rattle.serde_json.specs.Read.{max_depth, of_json, of_items, converted, number_of}
 use Rattle.set_read.specs.Document.{Names, Whole, steps, act_form, step_form}
 use Rattle.set_read.specs.Forms.{listed, every}
 use Rattle.set_read.specs.Stepwise.{draft_read, whole_read}
@@ -23,8 +23,8 @@ abbrev pub argument_depth : ℕ
 argument_depth = 124
 
 -- what is left of an array is these items, and rest follows it
-abbrev pub SayItems : ℕ → List Token → Items → List Token → Type 0
-SayItems depth ts ds rest = (n : ℕ) → length ts ≤ n → converted of_items (json.items (json.value depth) n ts) ≡ Some (ds, rest)
+abbrev pub AreItems : ℕ → List Token → Items → List Token → Type 0
+AreItems depth ts ds rest = (n : ℕ) → length ts ≤ n → converted of_items (json.items (json.value depth) n ts) ≡ Some (ds, rest)
 
 -- a number of 64 bits stands first
 abbrev pub SaysNumber : List Token → ℕ → List Token → Type 0
@@ -32,7 +32,7 @@ SaysNumber ts n rest = (s : List ℕ) × (ts ≡ Token.number s ∷ rest) × (nu
 
 -- what is left of a step is the arguments of its word
 abbrev pub SaysAct : Names → List ℕ → List Token → Act → List Token → Type 0
-SaysAct names word ts act rest = (ds : Items) × SayItems argument_depth ts ds rest × (act_form names word (listed ds) ≡ Some act)
+SaysAct names word ts act rest = (ds : Items) × AreItems argument_depth ts ds rest × (act_form names word (listed ds) ≡ Some act)
 
 -- a step stands first
 abbrev pub SaysStep : Names → List Token → DraftStep → List Token → Type 0
@@ -40,7 +40,7 @@ SaysStep names ts step rest = (d : Data) × (converted of_json (json.value item_
 
 -- what is left of an array is these steps
 abbrev pub SaySteps : Names → List Token → List DraftStep → List Token → Type 0
-SaySteps names ts found rest = (ds : Items) × SayItems item_depth ts ds rest × (every (step_form names) (listed ds) ≡ Some found)
+SaySteps names ts found rest = (ds : Items) × AreItems item_depth ts ds rest × (every (step_form names) (listed ds) ≡ Some found)
 
 -- ---- members
 
@@ -63,7 +63,7 @@ AreMembers depth ts ms rest = (n : ℕ) → length ts ≤ n → json.members (js
 abbrev pub LeavesSteps : List Token → json.Members → List Token → Type 0
 LeavesSteps first ms now =
     (js : json.Items) (rest after : List Token) → json.items (json.value item_depth) (length now) now ≡ Some (js, rest) → json.read_key rest ≡ Some (None, after)
-    → json.value (127) first ≡ Some (with_steps ms js, after)
+    → json.value max_depth first ≡ Some (with_steps ms js, after)
 
 -- the members can be written and read back
 abbrev pub CanBeWritten : json.Members → Type 0
@@ -72,11 +72,11 @@ CanBeWritten ms = MembersHaveNumbers ms × (members_depth ms ≤ member_depth)
 -- The steps are next, and then the end of the text: with them in place of none, the whole says this draft.
 abbrev pub SaysDraft : Whole → List Token → Draft → Type 0
 SaysDraft whole ts draft =
-    (ds : Items) × (rest : List Token) × SayItems item_depth ts ds rest × (json.read_key rest ≡ Some (None, []))
+    (ds : Items) × (rest : List Token) × AreItems item_depth ts ds rest × (json.read_key rest ≡ Some (None, []))
     × (whole.play ≡ steps [] → whole_read (record whole { play = steps (listed ds) }) ≡ Ok draft)
 
 -- the same of a value
 abbrev pub Completes : Data → List Token → Draft → Type 0
 Completes value ts draft =
-    (ds : Items) × (rest : List Token) × SayItems item_depth ts ds rest × (json.read_key rest ≡ Some (None, []))
+    (ds : Items) × (rest : List Token) × AreItems item_depth ts ds rest × (json.read_key rest ≡ Some (None, []))
     × ((ms : Members) → value ≡ object (put (codes "steps") (array no_items) ms) → draft_read (object (put (codes "steps") (array ds) ms)) ≡ Ok draft)

@@ -25,6 +25,17 @@ use std::alloc::Global;
 // How deep a member's value may nest: a document may 127 deep, and it is an object.
 const MEMBER_DEPTH: usize = 126;
 
+/// Whether the text ends as the usual document does: with a step, their array and the object. What
+/// it answers spares time alone: a document of another form is not begun here.
+fn ends_with_step(bytes: &[u8]) -> bool {
+    let last = bytes
+        .iter()
+        .rev()
+        .copied()
+        .filter(|byte| !byte.is_ascii_whitespace());
+    last.take(3).eq(*b"}]]")
+}
+
 /// The members before the steps, up to the first step.
 fn members_before_steps<'a>(
     alloc: Global,
@@ -56,12 +67,11 @@ fn members_before_steps<'a>(
 /// The object of these members and of no steps.
 fn with_no_steps<'a>(
     alloc: Global,
-    members: Vec<(&'a str, json::Value<'a>)>,
+    mut members: Vec<(&'a str, json::Value<'a>)>,
 ) -> Option<json::Value<'a>>
     ensures { IfSome result
         (λ v. value_view v ≡ tokens.with_no_steps (members_view members.entry.items)) }
 {
-    let mut members = members;
     let none = json::Value::Array(Vec::new(alloc));
     members.push(("steps", none)).ok()?;
     Some(json::Value::Object(members))
@@ -133,6 +143,9 @@ fn draft_of(alloc: Global, value: &Value, reader: &mut Reader<'_>) -> Option<Dra
 pub(crate) fn quick_draft(alloc: Global, bytes: &[u8]) -> Option<Draft>
     ensures { IfSome result (λ draft. draft_in_bytes bytes.now ≡ Ok draft) }
 {
+    if !ends_with_step(bytes) {
+        return None;
+    }
     let Ok(text) = std::str::from_utf8(bytes) else {
         return None;
     };

@@ -121,7 +121,11 @@ pub fn names_of<'a>(alloc: Global, whole: &Whole<'a>) -> Result<NameLists<'a>, S
 }
 
 #[tactic(auto, unfolding(crate::specs::Stepwise::whole_read))]
-pub(crate) fn draft_of_whole(alloc: Global, whole: &Whole, names: &NameLists) -> Result<Draft, SetStop>
+pub(crate) fn draft_of_whole(
+    alloc: Global,
+    whole: &Whole,
+    names: &NameLists,
+) -> Result<Draft, SetStop>
     requires few { IsFew whole.now }
     requires names { names_seen names.now ≡ document.names_of (whole_seen whole.now) }
     ensures { Gives same result (whole_read (whole_seen whole.now)) }

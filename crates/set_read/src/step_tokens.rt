@@ -58,7 +58,11 @@ fn act(names: &NameLists, word: &str, reader: &mut Reader<'_>) -> Option<Act>
         Token::Number(text) => act_counted(word, number_in(text)?)?,
         _ => return None,
     };
-    if reader.take_end_array() { Some(act) } else { None }
+    if reader.take_end_array() {
+        Some(act)
+    } else {
+        None
+    }
 }
 
 /// A step.
