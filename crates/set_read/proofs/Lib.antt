@@ -2,3 +2,11 @@ pub mod FormLaws
 pub mod NameLaws
 pub mod ReadLaws
 pub mod ShapeLaws
+pub mod ActLaws
+pub mod NumberLaws
+pub mod TokenLaws
+pub mod StepLaws
+pub mod FrontLaws
+pub mod WholeLaws
+pub mod DraftLaws
+pub mod QuickLaws

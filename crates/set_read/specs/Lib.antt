@@ -6,3 +6,4 @@ pub mod Names
 pub mod Seen
 pub mod Stepwise
 pub mod Few
+pub mod Tokens

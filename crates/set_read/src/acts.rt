@@ -1,5 +1,6 @@
 //! Reading acts, operations and steps, whose names stand for positions.
 ghost use Rattle.std.specs.Prelude.{◌≡◌, map, ◌^◌, ◌<◌, ◌+◌, ◌≤◌, length, option_map};
+ghost use Rattle.serde_json.specs.Data.{number, string, unsigned};
 ghost use Rattle.serde_json.specs.View.{view};
 ghost use Rattle.set_read.specs.Document as document;
 ghost use Rattle.set_read.specs.Forms as forms;
@@ -18,35 +19,68 @@ pub struct NameLists<'a> {
     pub tasks: Names<'a>,
 }
 
-pub(crate) fn op_with(names: &NameLists, word: &str, x: &Value) -> Option<Op>
-    ensures { result ≡ document.op_with (names_seen names.now) word.now (view x.now) }
+/// An operation with a name.
+fn op_named(names: &NameLists, word: &str, name: &str) -> Option<Op>
+    ensures { result ≡ document.op_with (names_seen names.now) word.now (string name.now) }
 {
     match word {
-        "lock" => {
-            let name = x.as_str()?;
-            Some(Op::Lock(SemNo(names.sems.number(name))))
-        }
-        "unlock" => {
-            let name = x.as_str()?;
-            Some(Op::Unlock(SemNo(names.sems.number(name))))
-        }
-        "sleep" => {
-            let n = x.as_u64()?;
-            Some(Op::Sleep(n))
-        }
+        "lock" => Some(Op::Lock(SemNo(names.sems.number(name)))),
+        "unlock" => Some(Op::Unlock(SemNo(names.sems.number(name)))),
         _ => None,
     }
 }
 
+/// An operation with a number.
+fn op_counted(word: &str, n: u64) -> Option<Op>
+    ensures { (names : document.Names)
+        → result ≡ document.op_with names word.now (number (unsigned n)) }
+{
+    match word {
+        "sleep" => Some(Op::Sleep(n)),
+        _ => None,
+    }
+}
+
+#[tactic(auto, using(crate::proofs::ActLaws::is_name))]
+pub(crate) fn op_with(names: &NameLists, word: &str, x: &Value) -> Option<Op>
+    ensures { result ≡ document.op_with (names_seen names.now) word.now (view x.now) }
+{
+    if let Some(name) = x.as_str() {
+        return op_named(names, word, name);
+    }
+    let n = x.as_u64()?;
+    op_counted(word, n)
+}
+
+/// An act with a name.
+pub(crate) fn act_named(names: &NameLists, word: &str, name: &str) -> Option<Act>
+    ensures { result ≡ document.act_with (names_seen names.now) word.now (string name.now) }
+{
+    if word == "arrive" {
+        return Some(Act::Arrive(TaskNo(names.tasks.number(name))));
+    }
+    let op = op_named(names, word, name)?;
+    Some(Act::Do(op))
+}
+
+/// An act with a number.
+pub(crate) fn act_counted(word: &str, n: u64) -> Option<Act>
+    ensures { (names : document.Names)
+        → result ≡ document.act_with names word.now (number (unsigned n)) }
+{
+    let op = op_counted(word, n)?;
+    Some(Act::Do(op))
+}
+
+#[tactic(auto, using(crate::proofs::ActLaws::is_name))]
 pub(crate) fn act_with(names: &NameLists, word: &str, x: &Value) -> Option<Act>
     ensures { result ≡ document.act_with (names_seen names.now) word.now (view x.now) }
 {
-    if word == "arrive" {
-        let name = x.as_str()?;
-        return Some(Act::Arrive(TaskNo(names.tasks.number(name))));
+    if let Some(name) = x.as_str() {
+        return act_named(names, word, name);
     }
-    let op = op_with(names, word, x)?;
-    Some(Act::Do(op))
+    let n = x.as_u64()?;
+    act_counted(word, n)
 }
 
 pub(crate) fn bare_act(word: &str) -> Option<Act>

@@ -6,8 +6,10 @@ mod document;
 mod elements;
 mod forms;
 mod names;
+mod quick;
 mod read;
 pub mod single;
+mod step_tokens;
 mod tasks;
 
 pub use names::Names;

@@ -15,6 +15,7 @@ use crate::document::{Play, Whole, whole_of};
 use crate::elements::{clusters_of, reservations_of, semaphores_of, steps_of, tasks_of};
 use crate::forms::text_at;
 use crate::names::Names;
+use crate::quick::quick_draft;
 use rt_task::{
     BadSet, Draft, DraftClusters, DraftDrive, DraftResvs, DraftSteps, DraftTasks, Part, Place,
     SemList, SetKind, SetStop, Setup,
@@ -44,7 +45,7 @@ fn names_in(alloc: Global, items: &[Value]) -> Result<Vec<&str>, AllocError>
     Ok(names)
 }
 
-fn is_few(whole: &Whole) -> bool
+pub(crate) fn is_few(whole: &Whole) -> bool
     ensures { IsTrue result → IsFew whole.now }
 {
     let most: usize = 4_294_967_294;
@@ -97,7 +98,7 @@ fn names_among<'a>(alloc: Global, items: &'a [Value]) -> Result<Names<'a>, Alloc
     Names::of(alloc, names_in(alloc, items)?)
 }
 
-fn name_lists<'a>(alloc: Global, whole: &Whole<'a>) -> Result<NameLists<'a>, AllocError>
+pub(crate) fn name_lists<'a>(alloc: Global, whole: &Whole<'a>) -> Result<NameLists<'a>, AllocError>
     requires { IsFew whole.now }
     ensures { IfOk result (λ n. names_seen n ≡ document.names_of (whole_seen whole.now)) }
 {
@@ -120,7 +121,11 @@ pub fn names_of<'a>(alloc: Global, whole: &Whole<'a>) -> Result<NameLists<'a>, S
 }
 
 #[tactic(auto, unfolding(crate::specs::Stepwise::whole_read))]
-fn draft_of_whole(alloc: Global, whole: &Whole, names: &NameLists) -> Result<Draft, SetStop>
+pub(crate) fn draft_of_whole(
+    alloc: Global,
+    whole: &Whole,
+    names: &NameLists,
+) -> Result<Draft, SetStop>
     requires few { IsFew whole.now }
     requires names { names_seen names.now ≡ document.names_of (whole_seen whole.now) }
     ensures { Gives same result (whole_read (whole_seen whole.now)) }
@@ -159,6 +164,15 @@ fn draft_of_value(alloc: Global, v: &Value) -> Result<Draft, SetStop>
 
 /// The set that a document says, before its rules are tried, or the first fault of form.
 pub fn read_draft(alloc: Global, bytes: &[u8]) -> Result<Draft, SetStop>
+    ensures { Gives same result (draft_in_bytes bytes.now) }
+{
+    match quick_draft(alloc, bytes) {
+        Some(draft) => Ok(draft),
+        None => read_as_whole(alloc, bytes),
+    }
+}
+
+fn read_as_whole(alloc: Global, bytes: &[u8]) -> Result<Draft, SetStop>
     ensures { Gives same result (draft_in_bytes bytes.now) }
 {
     match Value::from_slice(alloc, bytes) {

@@ -6,7 +6,7 @@ use Rattle.rt_task.specs.declared.draft.Draft.{Draft}
 use Rattle.rt_task.specs.Answers.{Gives}
 use Rattle.set_read.specs.Sets.{same}
 use Rattle.set_read.proofs.ReadLaws.{read_draft-read, read_draft-refused}
-use Rattle.set_read.proofs.read.read_draft.Goals as goal
+use Rattle.set_read.proofs.read.read_as_whole.Goals as goal
 
 pub returns-in-Ok : goal.returns-in-Ok
 returns-in-Ok c =

@@ -1,0 +1,11 @@
+use Rattle.std.proofs.Common.{ap, sym, ◌∙◌}
+use Rattle.serde_json.specs.View.{view}
+use Rattle.set_read.specs.Document.{op_with}
+use Rattle.set_read.specs.Names.{names_seen}
+use Rattle.set_read.proofs.ActLaws.{is_count}
+use Rattle.set_read.proofs.acts.op_with.Goals as goal
+
+pub returns : goal.returns
+returns c =
+    let names = names_seen c.args.names.now in
+    c.op_counted.ensures names ∙ ap (op_with names c.args.word.now) (sym (is_count (view c.args.x.now) c.in_ok-n.n c.in_ok-n.ensures))
