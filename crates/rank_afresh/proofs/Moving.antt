@@ -19,7 +19,7 @@ use Rattle.rt_model.specs.Past.{accepted}
 use Rattle.rt_model.specs.Releases.{has_come}
 use Rattle.release_queue.specs.Timers.{tick_at}
 use Rattle.group_facts.specs.Facts.{CpuFacts, idle_cpu}
-use Rattle.group_facts.specs.Kept.{Kept, after_act, cpu_of, has_acted, with_clock}
+use Rattle.group_facts.specs.Kept.{Kept, after_act, cpu_of, has_acted}
 use Rattle.group_facts.specs.Timers.{renewed}
 use Rattle.group_jobs.specs.GroupJobs.{IsTaskOf}
 use Rattle.group_resvs.specs.GroupResvs.{IsSettled}
@@ -86,10 +86,6 @@ end-clocked p tick clock f x left due can low clocked count listed =
       follow = subst (λ (y : core.Facts). CanFollow p (record (with_core y f) { moments = left; looked = due })) (sym clocked) moved;
       looked_are = rw listed (due-are p clock f.moments can.moments);
     }
-
--- the clock leaves what runs
-pub placed-clocked : (tick : ℕ) (k : Kept) (cs : List ClusterFacts) → ArePlaced k cs → ArePlacedBut rans.Nowhere (with_clock tick k) cs
-placed-clocked tick k cs placed n inside = let is = placed n inside in record { top_is = is.top_is; runs_are = is.runs_are }
 
 -- ---- what runs after an act
 

@@ -1,15 +1,15 @@
 -- A cluster that has looked at the tasks that a move touched: its ranking, its top and what runs there are those of the past.
-use Rattle.std.proofs.Common.{◌≡◌, ℕ, Bool, true, false, not, List, [], ◌∷◌, ◌++◌, ◌⊎◌, inl, inr, length, take, refl, sym, ap, ◌∙◌, subst}
+use Rattle.std.proofs.Common.{◌≡◌, ℕ, Bool, true, false, List, [], ◌∷◌, ◌++◌, ◌⊎◌, inl, inr, length, take, refl, sym, ap, ◌∙◌}
 use Rattle.std.specs.Prelude.{filter, if◌then◌else◌, ◌==◌}
 use Rattle.std.proofs.lemmas.List.Elements.{filter-append}
 use Rattle.rt_task.specs.Validity.{IsValid}
 use Rattle.rt_task.specs.declared.Parts.{Parts}
 use Rattle.rt_order.specs.declared.Key.{Key}
 use Rattle.rt_rules.specs.Keys.{Ranked, inserted}
-use Rattle.rt_rules.specs.Numbers.{has, is_empty}
+use Rattle.rt_rules.specs.Numbers.{has}
 use Rattle.rt_rules.specs.Placing.{placed}
 use Rattle.rt_rules.specs.Rankings.{tasks_of, without_task}
-use Rattle.rt_rules.proofs.BoolLaws.{both, neither, not_true, or_true}
+use Rattle.rt_rules.proofs.BoolLaws.{both, neither, or_true}
 use Rattle.rt_rules.proofs.LinkLaws.{length-placed}
 use Rattle.rt_rules.proofs.MemberLaws.{equal_self, has-append, has-filter}
 use Rattle.rt_model.specs.EffectiveKeys.{effective_key}
@@ -25,16 +25,13 @@ use Rattle.ready_queue.specs.Refreshed.{put_back, refreshed}
 use Rattle.rank_changes.specs.ClusterMoves.{of_cluster}
 use Rattle.rank_changes.specs.Clusters.{SameStanding}
 use Rattle.rank_changes.proofs.MovedClusters.{ranking_after_move}
-use Rattle.group_facts.specs.Kept.{Kept}
 use Rattle.group_resvs.specs.GroupResvs.{GroupResvs, is_served}
 use Rattle.group_resvs.specs.Laws.{AreChanged}
 use Rattle.group_core.specs.Facts as core
 use Rattle.group_core.specs.Reads.{is_candidate, key_in}
 use Rattle.group_core.specs.Standing as standing
 use Rattle.group_core.proofs.ModelWords.{AreResvsRead, eligible-read, key-read, resvs-read}
-use Rattle.rank_afresh.specs.declared.ran.Ran.{Ran}
-use Rattle.rank_afresh.specs.declared.ran.Ran.TheVariants as rans
-use Rattle.rank_afresh.specs.Clusters.{ClusterFacts, HasFollowed, HasRenewed, IsAsBefore, IsPlaced, IsPlacedBut, has_cpu, is_apart, looked_at, own, runs_anew, runs_in}
+use Rattle.rank_afresh.specs.Clusters.{ClusterFacts, HasRenewed, IsAsBefore, IsPlaced, looked_at, own, runs_in}
 use Rattle.rank_afresh.specs.Standing.{IsClusterOf, IsRankedAt}
 use Rattle.rank_afresh.proofs.ModelWords.{runs-read}
 use Rattle.rank_afresh.proofs.SetLists.{length-runs_in}
@@ -78,38 +75,6 @@ module _ (p : Parts) (f : core.Facts) (us : List ℕ) (old new : ClusterFacts) (
     top_is = renewed.top_is ∙ ap (λ (rs : List Ranked). take (length old.links) (tasks_of rs)) (sym renewed.ranked_same) ∙ ap (λ n. take n (tasks_of new.ranked)) (sym length-links);
     runs_are = renewed.runs_are ∙ ap (λ n. runs_in f.kept n (length old.links)) (sym renewed.first_same) ∙ ap (runs_in f.kept new.first) (sym length-links);
   }
-
--- ---- where none of these tasks is its own
-
-looked-none : (p : Parts) (f : core.Facts) (us : List ℕ) (c : ClusterFacts) → own c us ≡ [] → looked_at p f us c ≡ c
-looked-none p f us c none = ap (λ ts. record c { ranked = refreshed (key_in f.sems) (is_candidate p f.kept f.sems f.resvs) ts c.ranked }) none
-
--- a cluster that is placed stays
-renewed-quiet : (p : Parts) (f : core.Facts) (us : List ℕ) (c : ClusterFacts) → own c us ≡ [] → own c f.resvs.changed ≡ [] → IsPlaced f.kept c → HasRenewed p f us c c
-renewed-quiet p f us c none unchanged placed =
-    subst (λ d. HasFollowed f.kept d c) (sym (ap (looked_at p f f.resvs.changed) (looked-none p f us c none) ∙ looked-none p f f.resvs.changed c unchanged)) (record {
-      first_same = refl;
-      tasks_same = refl;
-      ranked_same = refl;
-      top_is = placed.top_is;
-      runs_are = placed.runs_are;
-      links_follow = inr (record { top_same = refl; runs_stay = inl refl; links_same = refl });
-    })
-
-none-own : (ts : List ℕ) → not (is_empty ts) ≡ false → ts ≡ []
-none-own [] h = refl
-none-own (t ∷ ts) h = cc
-
-runs-apart : (ran : Ran) (k : Kept) (c : ClusterFacts) → is_apart ran c ≡ true → runs_anew ran k c ≡ c.runs
-runs-apart rans.Nowhere k c apart = refl
-runs-apart (rans.At q) k c apart = rw (not_true (has_cpu c q.0) apart) refl
-runs-apart rans.Anywhere k c apart = cc
-
--- so does one whose processors run what they ran
-pub renewed-apart : (p : Parts) (ran : Ran) (f : core.Facts) (us : List ℕ) (c : ClusterFacts) → not (is_empty (own c us)) ≡ false → not (is_empty (own c f.resvs.changed)) ≡ false → is_apart ran c ≡ true
-    → IsPlacedBut ran f.kept c → HasRenewed p f us c c
-renewed-apart p ran f us c none unchanged apart placed =
-    renewed-quiet p f us c (none-own _ none) (none-own _ unchanged) (record { top_is = placed.top_is; runs_are = sym (runs-apart ran f.kept c apart) ∙ placed.runs_are })
 
 -- ---- at a past
 

@@ -42,7 +42,7 @@ returns-clause-stays c = λ still.
       place = q - x.first;
       inside = omega (arith, low, room);
       runs_are = elim c.if-is_none.branch [
-          | then-is_none w ↦ inl (written ∙ ap (set x.runs (q - x.first)) (runs-none c.runs-run.result (c.is_none.ensures ∙ ap not w.if-is_none.true)))
-          | else-is_none w ↦ inr (written ∙ ap (set x.runs (q - x.first)) (same-task _ _ (sym w.eq.ensures ∙ sym w.result-is ∙ still) ∙ read-at_place ls (q - x.first) _ (omega (arith, low, length-map ls number_of_task)) w.index.ensures))
-        ];
+        | then-is_none w ↦ inl (written ∙ ap (set x.runs (q - x.first)) (runs-none c.runs-run.result (c.is_none.ensures ∙ ap not w.if-is_none.true)))
+        | else-is_none w ↦ inr (written ∙ ap (set x.runs (q - x.first)) (same-task _ _ (sym w.eq.ensures ∙ sym w.result-is ∙ still) ∙ read-at_place ls (q - x.first) _ (omega (arith, low, length-map ls number_of_task)) w.index.ensures))
+      ];
     }))
