@@ -1,7 +1,8 @@
 -- The end of a move, step by step: what its calls rest on, and what they come to.
-use Rattle.std.proofs.Common.{◌≡◌, ℕ, ◌+◌, ◌-◌, ◌<◌, ◌≤◌, ◌⊎◌, inl, inr, Bool, true, false, List, length, set, get_or, get_or-set_other, eqb-true, refl, sym, ap, ◌∙◌, subst, arith}
-use Rattle.std.specs.Prelude.{None, Option, Some, if◌then◌else◌, ◌==◌}
+use Rattle.std.proofs.Common.{◌≡◌, ℕ, ◌+◌, ◌-◌, ◌<◌, ◌≤◌, ◌⊎◌, inl, inr, Bool, true, false, List, length, set, get_or, get_or-set_other, eqb-true, leb-true, ltb-true, refl, sym, ap, ◌∙◌, subst, arith}
+use Rattle.std.specs.Prelude.{None, Option, Some, if◌then◌else◌, nat_le, nat_lt, ◌==◌}
 use Rattle.std.proofs.lemmas.Bool.{eqb-false}
+use Rattle.std.proofs.lemmas.Bool.Decides.{nat_tests}
 use Rattle.rt_base.specs.declared.TheConstants.{MOST_STEPS, TICK_END}
 use Rattle.rt_base.specs.declared.CpuNo.{CpuNo}
 use Rattle.rt_task.specs.declared.Act.{Act}
@@ -11,7 +12,7 @@ use Rattle.rt_task.specs.declared.Parts.{Parts}
 use Rattle.rt_task.specs.declared.Task.{Task}
 use Rattle.rt_history.specs.declared.Reply.{Reply}
 use Rattle.rt_rules.specs.Numbers.{has, numbers_from}
-use Rattle.rt_rules.proofs.BoolLaws.{both}
+use Rattle.rt_rules.proofs.BoolLaws.{both, clash}
 use Rattle.rt_rules.proofs.MemberLaws.{has-filter}
 use Rattle.rt_rules.proofs.NumberLaws.{has-numbers_from, numbers_from-below}
 use Rattle.rt_model.specs.Past.{accepted}
@@ -27,13 +28,14 @@ use Rattle.group_core.specs.Facts.{told_all}
 use Rattle.group_core.specs.Reads.{CanRead, timer_in}
 use Rattle.group_core.proofs.Counting.{read-clock}
 use Rattle.group_core.proofs.Reading.{is-task}
-use Rattle.rank_afresh.specs.Clusters.{ClusterFacts, HasRenewed, IsApart, IsPlaced, runs_in}
-use Rattle.rank_afresh.specs.Facts.{ArePlaced, ArePlacedApart, CanEnd, CanFollow, Facts, HasEnded, HaveRenewed, WithRoom, cluster_at, core_of, with_core}
-use Rattle.rank_afresh.specs.declared.cluster.Ran.TheVariants as rans
+use Rattle.rank_afresh.specs.Clusters.{ClusterFacts, HasRenewed, IsPlaced, RunBut, has_cpu, runs_in}
+use Rattle.rank_afresh.specs.Facts.{ArePlaced, ArePlacedBut, CanEnd, CanFollow, Facts, HasEnded, HaveRenewed, WithRoom, cluster_at, core_of, with_core}
+use Rattle.rank_afresh.specs.declared.ran.Ran.TheVariants as rans
 use Rattle.rank_afresh.specs.Moments.{due_in}
 use Rattle.rank_afresh.specs.Ranks.{AreTasks}
 use Rattle.rank_afresh.proofs.Fitting.{places-stay}
 use Rattle.rank_afresh.proofs.ModelWords.{map-same}
+use Rattle.rank_afresh.proofs.SetLists.{mapped-but}
 
 -- a task of the set can be read
 pub task-of : (p : Parts) (k : Kept) (t : ℕ) → CanRead MOST_STEPS p k → (1 ≤ t) × (t ≤ length p.tasks) → IsTaskOf k p.tasks t
@@ -108,39 +110,57 @@ one-new all q act reply none k = by_case (accepted reply)
     by_case true = by_act act
     by_case false = inl refl
 
--- it runs what it ran, or it is none of these
-abbrev Stays : ℕ → Kept → Kept → ℕ → ℕ → Type 0
-Stays q k k' first n = ((cpu_of k' q).runs ≡ (cpu_of k q).runs) ⊎ ((q < first) ⊎ (first + n ≤ q))
+module _ (all : List Task) (q : ℕ) (act : Act) (reply : Reply) (none : Bool) (k : Kept) where
+  abbrev k' : Kept
+  k' = has_acted all q act reply none k
 
-pub runs-stay : (all : List Task) (q : ℕ) (act : Act) (reply : Reply) (none : Bool) (k : Kept) (first n : ℕ) → Stays q k (has_acted all q act reply none k) first n
-    → runs_in (has_acted all q act reply none k) first n ≡ runs_in k first n
-runs-stay all q act reply none k first n stays =
-    map-same (λ r. (cpu_of k r).runs) (λ r. (cpu_of (has_acted all q act reply none k) r).runs) (numbers_from first n) (λ r h. one r h (one-new all q act reply none k))
-  where
-    at_it : (r : ℕ) → has r (numbers_from first n) ≡ true → r ≡ q → Stays q k (has_acted all q act reply none k) first n → (cpu_of (has_acted all q act reply none k) r).runs ≡ (cpu_of k r).runs
-    at_it r h here (inl same) = ap (λ m. (cpu_of (has_acted all q act reply none k) m).runs) here ∙ same ∙ ap (λ m. (cpu_of k m).runs) (sym here)
-    at_it r h here (inr (inl before)) = let low = has-numbers_from r first n h in absurd (omega (arith, before, low, here))
-    at_it r h here (inr (inr after)) = let high = numbers_from-below r first n h in absurd (omega (arith, after, high, here))
+  others-run : (r : ℕ) → r == q ≡ false → (cpu_of k' r).runs ≡ (cpu_of k r).runs
+  others-run r apart = by_new (one-new all q act reply none k)
+    where
+      by_new : IsOneNew q k k' → (cpu_of k' r).runs ≡ (cpu_of k r).runs
+      by_new (inl all_same) = ap (λ (cs : List CpuFacts). (get_or cs r idle_cpu).runs) all_same
+      by_new (inr new) =
+          ap (λ (cs : List CpuFacts). (get_or cs r idle_cpu).runs) new.1
+          ∙ ap (λ (c : CpuFacts). c.runs) (get_or-set_other k.cpus q r new.0 idle_cpu (eqb-false r q apart))
 
-    one : (r : ℕ) → has r (numbers_from first n) ≡ true → IsOneNew q k (has_acted all q act reply none k) → (cpu_of (has_acted all q act reply none k) r).runs ≡ (cpu_of k r).runs
-    one r h (inl all_same) = ap (λ (cs : List CpuFacts). (get_or cs r idle_cpu).runs) all_same
-    one r h (inr new) = by_case (r == q) refl
-      where
-        by_case : (b : Bool) → r == q ≡ b → (cpu_of (has_acted all q act reply none k) r).runs ≡ (cpu_of k r).runs
-        by_case true e = at_it r h (eqb-true r q e) stays
-        by_case false e =
-            ap (λ (cs : List CpuFacts). (get_or cs r idle_cpu).runs) new.1
-            ∙ ap (λ (c : CpuFacts). c.runs) (get_or-set_other k.cpus q r new.0 idle_cpu (eqb-false r q e))
+  -- where it is none of these, or runs what it ran
+  runs-stay : (first n : ℕ) → (has q (numbers_from first n) ≡ true → (cpu_of k' q).runs ≡ (cpu_of k q).runs) → runs_in k' first n ≡ runs_in k first n
+  runs-stay first n here = map-same (λ r. (cpu_of k r).runs) (λ r. (cpu_of k' r).runs) (numbers_from first n) (λ r h. by_case r h (r == q) refl)
+    where
+      by_case : (r : ℕ) → has r (numbers_from first n) ≡ true → (b : Bool) → r == q ≡ b → (cpu_of k' r).runs ≡ (cpu_of k r).runs
+      by_case r h true e =
+          let same : r ≡ q = eqb-true r q e in
+          ap (λ m. (cpu_of k' m).runs) same ∙ here (subst (λ m. has m (numbers_from first n) ≡ true) same h) ∙ ap (λ m. (cpu_of k m).runs) (sym same)
+      by_case r h false e = others-run r e
+
+  -- and where it is one of these
+  runs-but : (first n : ℕ) → first ≤ q → q < first + n → set (runs_in k first n) (q - first) (cpu_of k' q).runs ≡ runs_in k' first n
+  runs-but first n = mapped-but (λ r. (cpu_of k r).runs) (λ r. (cpu_of k' r).runs) q others-run first n
+
+  run-at : (c : ClusterFacts) → c.runs ≡ runs_in k c.first (length c.links) → (b : Bool) → has_cpu c q ≡ b
+      → (if b then set c.runs (q - c.first) (cpu_of k' q).runs else c.runs) ≡ runs_in k' c.first (length c.links)
+  run-at c runs true e =
+      let p = both (nat_le c.first q) (nat_lt (q - c.first) (length c.links)) e in
+      let low : c.first ≤ q = leb-true c.first q p.0 in
+      let high : q - c.first < length c.links = ltb-true (q - c.first) (length c.links) p.1 in
+      ap (λ (rs : List (Option ℕ)). set rs (q - c.first) (cpu_of k' q).runs) runs ∙ runs-but c.first (length c.links) low (omega (arith, low, high))
+  run-at c runs false e = runs ∙ sym (runs-stay c.first (length c.links) (λ h. absurd (clash _ (inside h) e)))
+    where
+      inside : has q (numbers_from c.first (length c.links)) ≡ true → has_cpu c q ≡ true
+      inside h =
+          let low : c.first ≤ q = has-numbers_from q c.first (length c.links) h in
+          let high : q < c.first + length c.links = numbers_from-below q c.first (length c.links) h in
+          grind (arith, nat_tests, low, high)
 
 pub placed-acted : (all : List Task) (q : CpuNo) (act : Act) (reply : Reply) (none : Bool) (k : Kept) (cs : List ClusterFacts) → ArePlaced k cs → (b : Bool)
     → (b ≡ true → (cpu_of (has_acted all q.0 act reply none k) q.0).runs ≡ (cpu_of k q.0).runs)
-    → ArePlacedApart (if b then rans.Nowhere else rans.At q) (has_acted all q.0 act reply none k) cs
-placed-acted all q act reply none k cs placed b same n inside apart =
+    → ArePlacedBut (if b then rans.Nowhere else rans.At q) (has_acted all q.0 act reply none k) cs
+placed-acted all q act reply none k cs placed b same n inside =
     let is : IsPlaced k (cluster_at cs n) = placed n inside in
-    let x : ClusterFacts = cluster_at cs n in
-    record { top_is = is.top_is; runs_are = is.runs_are ∙ sym (runs-stay all q.0 act reply none k x.first (length x.links) (stays b same apart)) }
+    record { top_is = is.top_is; runs_are = by_case (cluster_at cs n) is.runs_are b same }
   where
-    stays : (b : Bool) → (b ≡ true → (cpu_of (has_acted all q.0 act reply none k) q.0).runs ≡ (cpu_of k q.0).runs) → IsApart (if b then rans.Nowhere else rans.At q) (cluster_at cs n)
-        → Stays q.0 k (has_acted all q.0 act reply none k) (cluster_at cs n).first (length (cluster_at cs n).links)
-    stays true same apart = inl (same refl)
-    stays false same apart = inr apart
+    by_case : (c : ClusterFacts) → c.runs ≡ runs_in k c.first (length c.links) → (b : Bool)
+        → (b ≡ true → (cpu_of (has_acted all q.0 act reply none k) q.0).runs ≡ (cpu_of k q.0).runs)
+        → RunBut (if b then rans.Nowhere else rans.At q) (has_acted all q.0 act reply none k) c
+    by_case c runs true same = runs ∙ sym (runs-stay all q.0 act reply none k c.first (length c.links) (λ h. same refl))
+    by_case c runs false same = run-at all q.0 act reply none k c runs (has_cpu c q.0) refl

@@ -1,5 +1,5 @@
 -- A cluster that has looked at the tasks that a move touched: its ranking, its top and what runs there are those of the past.
-use Rattle.std.proofs.Common.{◌≡◌, ℕ, Bool, true, false, List, [], ◌∷◌, ◌++◌, ◌⊎◌, inl, inr, length, take, refl, sym, ap, ◌∙◌, subst}
+use Rattle.std.proofs.Common.{◌≡◌, ℕ, Bool, true, false, List, [], ◌∷◌, ◌++◌, ◌⊎◌, inl, inr, length, take, refl, sym, ap, ◌∙◌}
 use Rattle.std.specs.Prelude.{filter, if◌then◌else◌, ◌==◌}
 use Rattle.std.proofs.lemmas.List.Elements.{filter-append}
 use Rattle.rt_task.specs.Validity.{IsValid}
@@ -31,7 +31,7 @@ use Rattle.group_core.specs.Facts as core
 use Rattle.group_core.specs.Reads.{is_candidate, key_in}
 use Rattle.group_core.specs.Standing as standing
 use Rattle.group_core.proofs.ModelWords.{AreResvsRead, eligible-read, key-read, resvs-read}
-use Rattle.rank_afresh.specs.Clusters.{ClusterFacts, HasFollowed, HasRenewed, IsAsBefore, IsPlaced, looked_at, own, runs_in}
+use Rattle.rank_afresh.specs.Clusters.{ClusterFacts, HasRenewed, IsAsBefore, IsPlaced, looked_at, own, runs_in}
 use Rattle.rank_afresh.specs.Standing.{IsClusterOf, IsRankedAt}
 use Rattle.rank_afresh.proofs.ModelWords.{runs-read}
 use Rattle.rank_afresh.proofs.SetLists.{length-runs_in}
@@ -75,23 +75,6 @@ module _ (p : Parts) (f : core.Facts) (us : List ℕ) (old new : ClusterFacts) (
     top_is = renewed.top_is ∙ ap (λ (rs : List Ranked). take (length old.links) (tasks_of rs)) (sym renewed.ranked_same) ∙ ap (λ n. take n (tasks_of new.ranked)) (sym length-links);
     runs_are = renewed.runs_are ∙ ap (λ n. runs_in f.kept n (length old.links)) (sym renewed.first_same) ∙ ap (runs_in f.kept new.first) (sym length-links);
   }
-
--- ---- where none of these tasks is its own
-
-looked-none : (p : Parts) (f : core.Facts) (us : List ℕ) (c : ClusterFacts) → own c us ≡ [] → looked_at p f us c ≡ c
-looked-none p f us c none = ap (λ ts. record c { ranked = refreshed (key_in f.sems) (is_candidate p f.kept f.sems f.resvs) ts c.ranked }) none
-
--- a cluster that is placed stays
-pub renewed-quiet : (p : Parts) (f : core.Facts) (us : List ℕ) (c : ClusterFacts) → own c us ≡ [] → own c f.resvs.changed ≡ [] → IsPlaced f.kept c → HasRenewed p f us c c
-renewed-quiet p f us c none unchanged placed =
-    subst (λ d. HasFollowed f.kept d c) (sym (ap (looked_at p f f.resvs.changed) (looked-none p f us c none) ∙ looked-none p f f.resvs.changed c unchanged)) (record {
-      first_same = refl;
-      tasks_same = refl;
-      ranked_same = refl;
-      top_is = placed.top_is;
-      runs_are = placed.runs_are;
-      links_follow = inr (record { top_same = refl; runs_same = refl; links_same = refl });
-    })
 
 -- ---- at a past
 

@@ -9,6 +9,7 @@ mod listing;
 mod marks;
 mod moments;
 mod placing;
+mod ran;
 mod ranks;
 mod room;
 mod rows;

@@ -3,8 +3,8 @@ use Rattle.std.proofs.lemmas.List.{get_or_default}
 use Rattle.rt_base.specs.TaskNos.{numbers}
 use Rattle.rt_rules.proofs.BoolLaws.{neither}
 use Rattle.group_core.specs.Facts as core
-use Rattle.rank_afresh.specs.Clusters.{ClusterFacts, HasRenewed, IsApart, IsPlaced, no_facts}
-use Rattle.rank_afresh.specs.Facts.{ArePlacedApart, HaveRenewed, LinksStay, WithRoom, cluster_at, core_of}
+use Rattle.rank_afresh.specs.Clusters.{ClusterFacts, HasRenewed, IsPlacedBut, no_facts}
+use Rattle.rank_afresh.specs.Facts.{ArePlacedBut, HaveRenewed, LinksStay, WithRoom, cluster_at, core_of}
 use Rattle.rank_afresh.proofs.Moving.{renewed-as}
 use Rattle.rank_afresh.proofs.facts.Facts.renew_clusters.Goals as goal
 
@@ -16,9 +16,9 @@ renew-placed-requires-clause-placed c =
     let low : n < length olds = omega (arith, c.loop-n-test.true, c.len-n-end.ensures, c.self.inside.clusters.ok.0) in
     let inside : n < length cs = omega (arith, low, c.loop-n.invariant.room) in
     let was : c.index_mut.result.now ≡ cluster_at olds n = c.index_mut.ensures.value ∙ get_or_default cs n c.index_mut.result.now no_facts inside ∙ c.loop-n.invariant.rest n (omega arith) in
-    let placed : ArePlacedApart c.args.ran c.self.inside.core.facts.kept olds = subst (λ (w : WithRoom). ArePlacedApart c.args.ran w.facts.kept w.facts.clusters) (sym c.self.view_is) c.requires.placed in
-    subst (λ (w : core.WithRoom). IsApart c.args.ran c.index_mut.result.now → IsPlaced w.facts.kept c.index_mut.result.now) (sym c.loop-n.invariant.core)
-    (subst (λ (x : ClusterFacts). IsApart c.args.ran x → IsPlaced c.self.inside.core.facts.kept x) (sym was) (placed n low))
+    let placed : ArePlacedBut c.args.ran c.self.inside.core.facts.kept olds = subst (λ (w : WithRoom). ArePlacedBut c.args.ran w.facts.kept w.facts.clusters) (sym c.self.view_is) c.requires.placed in
+    subst (λ (w : core.WithRoom). IsPlacedBut c.args.ran w.facts.kept c.index_mut.result.now) (sym c.loop-n.invariant.core)
+    (subst (λ (x : ClusterFacts). IsPlacedBut c.args.ran c.self.inside.core.facts.kept x) (sym was) (placed n low))
 
 pub loop-n-preserved : goal.loop-n-preserved
 loop-n-preserved c =
