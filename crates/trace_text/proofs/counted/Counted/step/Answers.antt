@@ -1,4 +1,4 @@
-use Rattle.std.proofs.Common.{◌≡◌, sym, ap, subst, ◌∙◌}
+use Rattle.std.proofs.Common.{sym, subst}
 use Rattle.rt_base.specs.TaskNos.{number_of_task}
 use Rattle.rt_model.specs.Steps.{IsStepOf}
 use Rattle.rt_groups.specs.Groups.{GroupHistory, group_of, past}
