@@ -5,7 +5,6 @@ use Rattle.json.specs.Json.{after_end_array}
 use Rattle.rt_task.specs.declared.Act.{Act}
 use Rattle.rt_task.specs.declared.draft.DraftStep.{DraftStep}
 use Rattle.serde_json.specs.Data.{number, string, array, unsigned, no_items, item}
-use Rattle.serde_json.specs.Read.{number_of}
 use Rattle.set_read.specs.Document.{Names, bare_acts, act_with, step_form}
 use Rattle.set_read.specs.Forms.{word_in}
 use Rattle.set_read.specs.Tokens.{item_depth, argument_depth, SaysNumber, SaysAct, SaysStep, SaySteps}
