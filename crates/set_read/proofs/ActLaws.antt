@@ -1,8 +1,7 @@
 -- The one argument of a word: a name or a number.
-use Rattle.std.proofs.Common.{◌≡◌, ℕ, Bool, true, false, List, Option, Some, None, refl, ap, subst, sym}
+use Rattle.std.proofs.Common.{◌≡◌, ℕ, Bool, true, false, List, Some, refl, subst, sym}
 use Rattle.std.specs.Prelude.{bytes_eq, codes, option_and_then, option_map}
 use Rattle.std.proofs.lemmas.Slice.Eq.{bytes_eq-Decides}
-use Rattle.rt_task.specs.declared.Act.{Act}
 use Rattle.rt_task.specs.declared.Act.TheVariants as acts
 use Rattle.serde_json.specs.Data.{Data, null, boolean, number, string, array, object, unsigned, negative, float}
 use Rattle.serde_json.specs.Find.{as_str, as_number, as_u64}
@@ -27,9 +26,12 @@ is_count (array ds) n e = cc
 is_count (object ms) n e = cc
 
 -- with a number stand operations alone
-pub counted_act : (names : Names) (w : List ℕ) (n : ℕ) → act_with names w (number (unsigned n)) ≡ option_map acts.Do (op_with names w (number (unsigned n)))
+pub counted_act : (names : Names) (w : List ℕ) (n : ℕ)
+    → act_with names w (number (unsigned n)) ≡ option_map acts.Do (op_with names w (number (unsigned n)))
 counted_act names w n = by_word (bytes_eq w (codes "arrive")) refl
   where
-    by_word : (b : Bool) → bytes_eq w (codes "arrive") ≡ b → act_with names w (number (unsigned n)) ≡ option_map acts.Do (op_with names w (number (unsigned n)))
-    by_word true e = subst (λ v. act_with names v (number (unsigned n)) ≡ option_map acts.Do (op_with names v (number (unsigned n)))) (sym ((bytes_eq-Decides w (codes "arrive")).0 e)) refl
+    by_word : (b : Bool) → bytes_eq w (codes "arrive") ≡ b
+        → act_with names w (number (unsigned n)) ≡ option_map acts.Do (op_with names w (number (unsigned n)))
+    by_word true e =
+        subst (λ v. act_with names v (number (unsigned n)) ≡ option_map acts.Do (op_with names v (number (unsigned n)))) (sym ((bytes_eq-Decides w (codes "arrive")).0 e)) refl
     by_word false e = rw e refl

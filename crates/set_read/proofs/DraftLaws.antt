@@ -1,6 +1,5 @@
 -- The draft of a document whose steps are read apart.
 use Rattle.std.proofs.Common.{◌≡◌, ℕ, ◌+◌, List, [], ◌∷◌, Option, Some, None, Result, Ok, Err, map, false, refl, ap, sym, ◌∙◌}
-use Rattle.std.specs.Prelude.{codes}
 use Rattle.rt_task.specs.declared.PluginKind.{PluginKind}
 use Rattle.rt_task.specs.declared.Sem.{Sem}
 use Rattle.rt_task.specs.declared.bad_set.BadSet.{BadSet}
@@ -16,7 +15,7 @@ use Rattle.rt_task.specs.declared.draft.DraftStep.{DraftStep}
 use Rattle.rt_task.specs.declared.draft.DraftTask.{DraftTask}
 use Rattle.rt_task.specs.Refusals.{bad}
 use Rattle.json.specs.Token.{Token}
-use Rattle.serde_json.specs.Data.{Data, array, object, Items, no_items, Members, put}
+use Rattle.serde_json.specs.Data.{Data, no_items}
 use Rattle.set_read.specs.Document.{Whole, steps, whole_of, names_of, tasks_from, cluster_form, semaphore_form, reservation_form, step_form}
 use Rattle.set_read.specs.Elements.{elements_from, with_front}
 use Rattle.set_read.specs.Forms as forms
@@ -28,20 +27,24 @@ use Rattle.set_read.proofs.WholeLaws.{whole_of-put}
 
 -- ---- elements
 
-with_first : {A : Type 0} (part : Part) (n : ℕ) (o : Option A) (r : Option (List A)) (rest : List (Option A)) (xs : List A) → forms.◌>>=◌ o (λ x. forms.◌>>=◌ r (λ ys. Some (x ∷ ys))) ≡ Some xs
+with_first : {A : Type 0} (part : Part) (n : ℕ) (o : Option A) (r : Option (List A)) (rest : List (Option A)) (xs : List A)
+    → forms.◌>>=◌ o (λ x. forms.◌>>=◌ r (λ ys. Some (x ∷ ys))) ≡ Some xs
     → ((ys : List A) → r ≡ Some ys → elements_from part (n + 1) rest ≡ Ok ys) → elements_from part n (o ∷ rest) ≡ Ok xs
 with_first part n None r rest xs e more = absurd cc
 with_first part n (Some x) None rest xs e more = absurd cc
 with_first part n (Some x) (Some ys) rest xs e more = let same : x ∷ ys ≡ xs = cc in ap (with_front (x ∷ [])) (more ys refl) ∙ ap Ok same
 
 -- where each has its form, none is refused
-every_found : {A : Type 0} (form : Data → Option A) (part : Part) (n : ℕ) (ds : List Data) (xs : List A) → every form ds ≡ Some xs → elements_from part n (map (λ x. form x) ds) ≡ Ok xs
+every_found : {A : Type 0} (form : Data → Option A) (part : Part) (n : ℕ) (ds : List Data) (xs : List A) → every form ds ≡ Some xs
+    → elements_from part n (map (λ x. form x) ds) ≡ Ok xs
 every_found form part n [] xs e = let same : [] ≡ xs = cc in ap Ok same
-every_found form part n (d ∷ ds) xs e = with_first part n (form d) (every form ds) (map (λ x. form x) ds) xs e (every_found form part (n + 1) ds)
+every_found form part n (d ∷ ds) xs e =
+    with_first part n (form d) (every form ds) (map (λ x. form x) ds) xs e (every_found form part (n + 1) ds)
 
 -- ---- the draft
 
-abbrev draft_by : PluginKind → Result (List DraftCluster) BadSet → Result (List Sem) BadSet → Result (List DraftResv) BadSet → Result (List DraftTask) BadSet → Result DraftDrive BadSet → Result Draft BadSet
+abbrev draft_by : PluginKind → Result (List DraftCluster) BadSet → Result (List Sem) BadSet → Result (List DraftResv) BadSet
+    → Result (List DraftTask) BadSet → Result DraftDrive BadSet → Result Draft BadSet
 draft_by plugin clusters sems resvs tasks drive = do
   clusters ← clusters
   sems ← sems
@@ -50,15 +53,20 @@ draft_by plugin clusters sems resvs tasks drive = do
   drive ← drive
   Ok (record { plugin = plugin; clusters = clusters; sems = sems; resvs = resvs; tasks = tasks; drive = drive })
 
-driven : (plugin : PluginKind) (clusters : Result (List DraftCluster) BadSet) (sems : Result (List Sem) BadSet) (resvs : Result (List DraftResv) BadSet) (tasks : Result (List DraftTask) BadSet) (was now : DraftDrive) (d : Draft)
-    → draft_by plugin clusters sems resvs tasks (Ok was) ≡ Ok d → draft_by plugin clusters sems resvs tasks (Ok now) ≡ Ok (record d { drive = now })
-driven plugin (Ok c) (Ok s) (Ok r) (Ok t) was now d e = let same : record { plugin = plugin; clusters = c; sems = s; resvs = r; tasks = t; drive = was } ≡ d = cc in ap (λ (v : Draft). Ok (record v { drive = now })) same
+driven : (plugin : PluginKind) (clusters : Result (List DraftCluster) BadSet) (sems : Result (List Sem) BadSet) (resvs : Result (List DraftResv) BadSet)
+    (tasks : Result (List DraftTask) BadSet) (was now : DraftDrive) (d : Draft)
+    → draft_by plugin clusters sems resvs tasks (Ok was) ≡ Ok d
+    → draft_by plugin clusters sems resvs tasks (Ok now) ≡ Ok (record d { drive = now })
+driven plugin (Ok c) (Ok s) (Ok r) (Ok t) was now d e =
+    let same : record { plugin = plugin; clusters = c; sems = s; resvs = r; tasks = t; drive = was } ≡ d = cc in
+    ap (λ (v : Draft). Ok (record v { drive = now })) same
 driven plugin (Err b) s r t was now d e = absurd cc
 driven plugin (Ok c) (Err b) r t was now d e = absurd cc
 driven plugin (Ok c) (Ok s) (Err b) t was now d e = absurd cc
 driven plugin (Ok c) (Ok s) (Ok r) (Err b) was now d e = absurd cc
 
-pub whole_read-steps : (w : Whole) (ds : List Data) (found : List DraftStep) (d : Draft) → w.play ≡ steps [] → whole_read w ≡ Ok d → every (step_form (names_of w)) ds ≡ Some found → whole_read (record w { play = steps ds }) ≡ Ok (record d { drive = Steps found })
+pub whole_read-steps : (w : Whole) (ds : List Data) (found : List DraftStep) (d : Draft) → w.play ≡ steps [] → whole_read w ≡ Ok d
+    → every (step_form (names_of w)) ds ≡ Some found → whole_read (record w { play = steps ds }) ≡ Ok (record d { drive = Steps found })
 unfolding whole_read drive_read
 whole_read-steps w ds found d none e said =
     let clusters = elements_from parts.Cluster 0 (map (λ x. cluster_form x) w.clusters) in
@@ -66,7 +74,8 @@ whole_read-steps w ds found d none e said =
     let resvs = elements_from parts.Resv 0 (map (λ x. reservation_form x) w.resvs) in
     let tasks = elements_from parts.Task 0 (tasks_from (names_of w) false 1 w.tasks) in
     let read : draft_by w.plugin clusters sems resvs tasks (Ok (Steps [])) ≡ Ok d = sym (λ i. whole_read (record w { play = none i })) ∙ e in
-    ap (λ found. draft_by w.plugin clusters sems resvs tasks (found >>= λ found. Ok (Steps found))) (every_found (step_form (names_of w)) parts.Step 0 ds found said) ∙ driven w.plugin clusters sems resvs tasks (Steps []) (Steps found) d read
+    ap (λ found. draft_by w.plugin clusters sems resvs tasks (found >>= λ found. Ok (Steps found))) (every_found (step_form (names_of w)) parts.Step 0 ds found said)
+    ∙ driven w.plugin clusters sems resvs tasks (Steps []) (Steps found) d read
 
 -- the steps put at their name say the draft with these steps
 pub completed : (value : Data) (ts : List Token) (w : Whole) (d : Draft) → whole_of value ≡ Some w → SaysDraft w ts d → Completes value ts d

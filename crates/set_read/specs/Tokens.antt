@@ -1,5 +1,5 @@
 -- What the tokens of a document say, read from where the reader stands.
-use Rattle.std.specs.Prelude.{◌≡◌, ℕ, ◌≤◌, List, [], ◌∷◌, Option, None, Some, Ok, length, codes}
+use Rattle.std.specs.Prelude.{◌≡◌, ℕ, ◌≤◌, List, [], ◌∷◌, None, Some, Ok, length, codes}
 use Rattle.json.specs.Token.{Token}
 use Rattle.json.specs.Json as json
 use Rattle.json.specs.Tree.{MembersHaveNumbers, members_depth}
@@ -62,7 +62,8 @@ AreMembers depth ts ms rest = (n : ℕ) → length ts ≤ n → json.members (js
 -- From the first token these members were read, and the steps are next: with whatever steps these are, and nothing after them, the value is known.
 abbrev pub LeavesSteps : List Token → json.Members → List Token → Type 0
 LeavesSteps first ms now =
-    (js : json.Items) (rest after : List Token) → json.items (json.value item_depth) (length now) now ≡ Some (js, rest) → json.read_key rest ≡ Some (None, after)
+    (js : json.Items) (rest after : List Token) → json.items (json.value item_depth) (length now) now ≡ Some (js, rest)
+    → json.read_key rest ≡ Some (None, after)
     → json.value max_depth first ≡ Some (with_steps ms js, after)
 
 -- the members can be written and read back

@@ -172,6 +172,7 @@ pub fn read_draft(alloc: Global, bytes: &[u8]) -> Result<Draft, SetStop>
     }
 }
 
+/// The same of any document, read into one value.
 fn read_as_whole(alloc: Global, bytes: &[u8]) -> Result<Draft, SetStop>
     ensures { Gives same result (draft_in_bytes bytes.now) }
 {

@@ -1,4 +1,4 @@
-use Rattle.std.proofs.Common.{◌≡◌, Some, Ok, sym, arith}
+use Rattle.std.proofs.Common.{◌≡◌, Some, arith}
 use Rattle.set_read.specs.Document.{names_of, step_form}
 use Rattle.set_read.specs.Forms.{every, listed}
 use Rattle.set_read.specs.Seen.{whole_seen}

@@ -13,18 +13,22 @@ use Rattle.set_read.proofs.quick.quick_draft.Goals as goal
 
 pub value_of-requires-clause-numbers : goal.value_of-requires-clause-numbers
 value_of-requires-clause-numbers c =
-    rw c.in_ok-object.ensures (can_be_written (members_view c.in_ok-members.members.items) (codes "steps") (array no_items) c.in_ok-members.ensures.written tt (omega arith)).0
+    let front = members_view c.in_ok-members.members.items in
+    rw c.in_ok-object.ensures (can_be_written front (codes "steps") (array no_items) c.in_ok-members.ensures.written tt (omega arith)).0
 
 pub value_of-requires-clause-nests : goal.value_of-requires-clause-nests
 value_of-requires-clause-nests c =
-    let can = can_be_written (members_view c.in_ok-members.members.items) (codes "steps") (array no_items) c.in_ok-members.ensures.written tt (omega arith) in
+    let front = members_view c.in_ok-members.members.items in
+    let can = can_be_written front (codes "steps") (array no_items) c.in_ok-members.ensures.written tt (omega arith) in
     rw c.in_ok-object.ensures (omega (arith, can.1))
 
 pub returns : goal.returns
 returns c =
     let front = members_view c.in_ok-members.members.items in
     let read : c.in-Ok-new.reader ≡ tokens c.args.bytes.now = c.in-Ok-new.ensures.ok ∙ ap tokens c.in-Ok.ensures.cases.0 in
-    let leaves : LeavesSteps (tokens c.args.bytes.now) front c.members_before_steps.new.reader = rw (← read) c.in_ok-members.ensures.tokens in
-    let written : of_json (with_no_steps front) ≡ Some (view c.in_ok-value.value) = ap of_json (sym c.in_ok-object.ensures) ∙ c.in_ok-value.ensures in
+    let now = c.members_before_steps.new.reader in
+    let leaves : LeavesSteps (tokens c.args.bytes.now) front now = rw (← read) c.in_ok-members.ensures.tokens in
+    let value = view c.in_ok-value.value in
+    let written : of_json (with_no_steps front) ≡ Some value = ap of_json (sym c.in_ok-object.ensures) ∙ c.in_ok-value.ensures in
     IfSome_then c.draft_of.result c.draft_of.ensures
-    (λ draft said. quick-read c.args.bytes.now front c.members_before_steps.new.reader (view c.in_ok-value.value) draft c.in-Ok.ensures.cases.1 leaves written said)
+    (λ draft said. quick-read c.args.bytes.now front now value draft c.in-Ok.ensures.cases.1 leaves written said)

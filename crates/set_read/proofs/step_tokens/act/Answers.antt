@@ -1,7 +1,6 @@
-use Rattle.std.proofs.Common.{◌≡◌, ◌∷◌, Some, IfSome, ap, arith, rules}
+use Rattle.std.proofs.Common.{◌≡◌, ◌∷◌, Some, arith}
 use Rattle.json.specs.Token.{Token}
 use Rattle.json.specs.Json.{after_end_array}
-use Rattle.json.specs.Reads.{token_of}
 use Rattle.set_read.specs.Names.{names_seen}
 use Rattle.set_read.proofs.StepLaws.{bare_said, named_said, counted_said}
 use Rattle.set_read.proofs.step_tokens.act.Goals as goal
@@ -19,10 +18,14 @@ returns-then-take_end_array c =
     elim c.match-branch-2.branch [
       | in-String+in_ok-act-in-String w ↦
           let first : c.args.reader.now ≡ Token.string w.in-String.name.now ∷ c.next.new.self = grind arith in
-          rw w.act-is (named_said names c.args.word.now w.in-String.name.now c.args.reader.now c.next.new.self c.take_end_array.new.self w.in_ok-act-in-String.act first last w.in_ok-act-in-String.ensures)
+          let act = w.in_ok-act-in-String in
+          rw w.act-is
+          (named_said names c.args.word.now w.in-String.name.now c.args.reader.now c.next.new.self c.take_end_array.new.self act.act first last act.ensures)
       | in-Number+in_ok-number_in-in-Number+in_ok-act-in-Number w ↦
           let first : c.args.reader.now ≡ Token.number w.in-Number.text.now ∷ c.next.new.self = grind arith in
           let n = w.in_ok-number_in-in-Number in
+          let act = w.in_ok-act-in-Number in
           rw w.act-is
-          (counted_said names c.args.word.now w.in-Number.text.now n.field-0 c.args.reader.now c.next.new.self c.take_end_array.new.self w.in_ok-act-in-Number.act first n.ensures last (w.in_ok-act-in-Number.ensures names))
+          (counted_said names c.args.word.now n.field-0 c.args.reader.now c.next.new.self c.take_end_array.new.self act.act
+          (w.in-Number.text.now, first, n.ensures) last (act.ensures names))
     ]

@@ -1,4 +1,4 @@
-use Rattle.std.proofs.Common.{◌≤◌, get_or, arith, rules}
+use Rattle.std.proofs.Common.{◌≤◌, get_or, arith}
 use Rattle.set_read.proofs.NumberLaws.{number_of-parsed}
 use Rattle.set_read.proofs.step_tokens.number_in.Goals as goal
 

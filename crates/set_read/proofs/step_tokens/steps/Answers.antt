@@ -1,9 +1,7 @@
-use Rattle.std.proofs.Common.{◌≡◌, ◌∷◌, ◌++◌, [], List, None, Some, length, ◌<◌, ap, sym, ◌∙◌, subst, arith, append_assoc, append-nil}
-use Rattle.json.specs.Token.{Token}
+use Rattle.std.proofs.Common.{◌≡◌, ◌∷◌, ◌++◌, [], None, Some, arith, append_assoc, append-nil}
 use Rattle.json.specs.Json.{after_end_array}
-use Rattle.rt_task.specs.declared.draft.DraftStep.{DraftStep}
 use Rattle.set_read.specs.Names.{names_seen}
-use Rattle.set_read.specs.Tokens.{SaysStep, SaySteps}
+use Rattle.set_read.specs.Tokens.{SaysStep}
 use Rattle.set_read.proofs.StepLaws.{step-shorter, no_more_steps, one_step}
 use Rattle.set_read.proofs.step_tokens.steps.Goals as goal
 
