@@ -8,6 +8,7 @@ mod facts;
 mod listing;
 mod marks;
 mod moments;
+mod placed;
 mod placing;
 mod ran;
 mod ranks;

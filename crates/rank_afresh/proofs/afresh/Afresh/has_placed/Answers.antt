@@ -11,6 +11,6 @@ use Rattle.rank_afresh.proofs.afresh.Afresh.has_placed.Goals as goal
 
 pub returns : goal.returns
 returns c =
-    subst (λ (v : Standing). (past : Past) (step : Step) → IsAt v (after (group_of v) step past) → c.self.inside.placed ≡ false → (q : ℕ) → IsProcessorOf (group_of v) q
+    subst (λ (v : Standing). (past : Past) (step : Step) → IsAt v (after (group_of v) step past) → c.has_any.result ≡ false → (q : ℕ) → IsProcessorOf (group_of v) q
     → linked (group_of v) q (after (group_of v) step past) ≡ linked (group_of v) q past) c.self.view_is
-    (λ past step at still q of. linked-stays (the_view c.self.inside) _ c.self.invariant.0 q of step past at still)
+    (λ past step at still q of. linked-stays (the_view c.self.inside) _ c.self.invariant.0 q of step past at (c.has_any.ensures still _))

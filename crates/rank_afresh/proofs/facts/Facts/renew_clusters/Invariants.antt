@@ -1,4 +1,4 @@
-use Rattle.std.proofs.Common.{◌≡◌, ◌<◌, ◌≤◌, ℕ, false, length, vec_len}
+use Rattle.std.proofs.Common.{◌≡◌, ◌<◌, ◌≤◌, ℕ, false, get_or, length, vec_len}
 use Rattle.rt_base.specs.TaskNos.{numbers}
 use Rattle.rank_afresh.specs.Clusters.{HasRenewed}
 use Rattle.rank_afresh.specs.Facts.{cluster_at}
@@ -14,6 +14,8 @@ invariant-loop-n l = record {
   room : length l.self-inside.clusters.items ≡ length l.initial.self-inside.clusters.items;
   done : (i : ℕ) → i < l.n → HasRenewed l.parts l.initial.self-inside.core.facts (numbers l.initial.self-inside.looked.items)
       (cluster_at l.initial.self-inside.clusters.items i) (cluster_at l.self-inside.clusters.items i);
-  stay : l.placed ≡ false → (i : ℕ) → i < l.n → (cluster_at l.self-inside.clusters.items i).links ≡ (cluster_at l.initial.self-inside.clusters.items i).links;
+  marks_room : length l.placed ≡ length l.initial.placed;
+  marks_stay : (i : ℕ) → get_or l.placed i false ≡ false → get_or l.initial.placed i false ≡ false;
+  links_stay : (i : ℕ) → i < l.n → get_or l.placed i false ≡ false → (cluster_at l.self-inside.clusters.items i).links ≡ (cluster_at l.initial.self-inside.clusters.items i).links;
   rest : (i : ℕ) → l.n ≤ i → cluster_at l.self-inside.clusters.items i ≡ cluster_at l.initial.self-inside.clusters.items i;
 }
