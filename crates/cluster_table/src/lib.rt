@@ -17,9 +17,8 @@ mod pending;
 mod placing;
 mod rows;
 
-pub use marks::PlacedMarks;
-
 use cluster::ClusterState;
+pub use marks::PlacedMarks;
 use ready_heap::ReadyHeap;
 use rows::{homes_of, states_of};
 use rt_base::{ClusterNo, CpuNo, GroupNo, NoMemory, TaskNo};

@@ -75,7 +75,7 @@ links-same : (g : Group) (c : ℕ) (past past' : Past) (t t' : Table) → HasClu
     → links g c past' ≡ links g c past
 links-same g c past past' t t' was is same =
     let read : Some is.cluster.linked.links ≡ Some was.cluster.linked.links =
-        sym (ap (option_map (λ (k : KeptCluster). k.linked.links)) is.there) ∙ same ∙ ap (option_map (λ (k : KeptCluster). k.linked.links)) was.there in
+    sym (ap (option_map (λ (k : KeptCluster). k.linked.links)) is.there) ∙ same ∙ ap (option_map (λ (k : KeptCluster). k.linked.links)) was.there in
     let equal : is.cluster.linked.links ≡ was.cluster.linked.links = cc in
     sym is.is_at.links_are ∙ equal ∙ was.is_at.links_are
 

@@ -14,7 +14,11 @@ use trace_lines::CpuLink;
 
 /// Puts the links of these processors in the place of what stood in `links`.
 #[tactic(auto, using(std::proofs::Common::append_assoc))]
-pub(crate) fn read_links(engine: &Engine, cpus: &[CpuNo], links: &mut Vec<CpuLink>) -> Result<(), NoMemory>
+pub(crate) fn read_links(
+    engine: &Engine,
+    cpus: &[CpuNo],
+    links: &mut Vec<CpuLink>,
+) -> Result<(), NoMemory>
     requires { All (λ q. IsProcessorOf (group_of engine.now) q.0) cpus.now }
     ensures { let now = links_at (group_of engine.now) (past engine.now) (cpu_numbers cpus.now) in
         OnOk result (links_of links.new.items ≡ now) }

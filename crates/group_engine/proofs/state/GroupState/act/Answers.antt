@@ -99,11 +99,10 @@ returns-clause-room c =
 
 pub returns-clause-links : goal.returns-clause-links
 returns-clause-links c = λ d h.
-    let still = c.end_move.ensures.links d h in
-    (
+    let still = c.end_move.ensures.links d h in (
       still.0,
       still.1 ∙ ap (λ (s : GroupState). links_in s.clusters d) c.bring_up_looked.ensures
-      ∙ links-brought c.args.parts.now (looked c.args.parts.now c.act-answer.result.looks) c.follow_run.new.self d
-      ∙ ap (λ (s : GroupState). links_in s.clusters d) c.follow_run.ensures
-      ∙ links-followed c.args.cpu.0 c.args.act c.act-answer.result.reply _ c.args.self.now.clusters d,
+          ∙ links-brought c.args.parts.now (looked c.args.parts.now c.act-answer.result.looks) c.follow_run.new.self d
+          ∙ ap (λ (s : GroupState). links_in s.clusters d) c.follow_run.ensures
+          ∙ links-followed c.args.cpu.0 c.args.act c.act-answer.result.reply _ c.args.self.now.clusters d,
     )
