@@ -4,7 +4,7 @@ ghost use Rattle.rt_base.specs.TaskNos.{number_of_task};
 ghost use Rattle.rt_base.specs.declared.TheConstants.{MOST_STEPS};
 ghost use Rattle.rt_rules.specs.Distinct.{IsDistinct};
 ghost use Rattle.rt_rules.specs.Numbers.{has};
-ghost use Rattle.rt_model.specs.Group.{cluster_with, clusters};
+ghost use Rattle.rt_model.specs.Group.{clusters};
 ghost use Rattle.rt_model.specs.Runs.{runs};
 ghost use Rattle.rt_model.specs.Links.{linked};
 ghost use Rattle.rt_model.specs.Situations.{situation};
@@ -153,14 +153,14 @@ impl Engine {
         self.placed.has_any()
     }
 
-    /// Whether the last step, its move of the clock or its act, may have changed a link in this cluster: where not, each
-    /// processor of the cluster is linked as before the step.
-    pub fn has_placed_in(&self, cluster: ClusterNo) -> bool
+    /// Whether the last step, its move of the clock or its act, may have changed a link in the processor's cluster: where not, the
+    /// processor is linked as before the step.
+    pub fn has_placed_at(&self, cpu: CpuNo) -> bool
+        requires { IsProcessorOf (group_of self.now) cpu.0 }
         ensures { (h : GroupHistory) (e : Entry) → self.now ≡ with_entry e h → result ≡ false
-            → (q : ℕ) → IsProcessorOf (group_of h) q → cluster_with (group_of h) q ≡ cluster.0
-            → linked (group_of h) q (past self.now) ≡ linked (group_of h) q (past h) }
+            → linked (group_of h) cpu.0 (past self.now) ≡ linked (group_of h) cpu.0 (past h) }
     {
-        self.placed.has(cluster)
+        self.placed.has(self.state.home(cpu))
     }
 
     /// The eligible tasks of a cluster of the group, each with its effective key.

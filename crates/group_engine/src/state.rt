@@ -6,7 +6,7 @@ ghost use Rattle.rt_task.specs.declared.Task.{Task};
 ghost use Rattle.rt_rules.specs.Distinct.{IsDistinct};
 ghost use Rattle.rt_rules.specs.Numbers.{has};
 ghost use Rattle.rt_rules.specs.Placing.{tasks_in};
-ghost use Rattle.rt_model.specs.Group.{clusters, tasks};
+ghost use Rattle.rt_model.specs.Group.{cluster_with, clusters, tasks};
 ghost use Rattle.rt_model.specs.Holders.{holder};
 ghost use Rattle.rt_model.specs.Links.{linked};
 ghost use Rattle.rt_model.specs.Past.{Clock, accepted};
@@ -86,6 +86,15 @@ impl GroupState {
                 self.bring_up(parts, task.number);
             }
         }
+    }
+
+    /// The cluster of the processor.
+    pub(crate) fn home(&self, cpu: CpuNo) -> ClusterNo
+        requires { CanLook cpu.0 self.now }
+        ensures { (at : Moment) → IsAt at.group at.past self.now → IsProcessorOf at.group cpu.0
+            → result.0 ≡ cluster_with at.group cpu.0 }
+    {
+        self.clusters.home(cpu)
     }
 
     /// The task that the processor is linked to, `None` where there is none.
