@@ -12,18 +12,22 @@ use json::{Reader, Token};
 use rt_task::{Act, DraftStep};
 use std::alloc::Global;
 
-/// The number that digits write; None where there is another sign, or where it is too large.
+/// The number that digits write; None where anything else stands, or where it is too large.
 fn number_in(text: &str) -> Option<u64>
     ensures { IfSome result (λ n. number_of text.now ≡ Some (unsigned n)) }
 {
     let digits = text.as_bytes();
-    if digits.is_empty() || !digits[0].is_ascii_digit() {
+    if digits.is_empty() {
         return None;
     }
-    match fast_float::parse_u64(digits) {
-        Ok(n) => Some(n),
-        Err(_) => None,
+    let mut value = 0u64;
+    for byte in digits {
+        if !byte.is_ascii_digit() {
+            return None;
+        }
+        value = value.checked_mul(10)?.checked_add(u64::from(*byte - b'0'))?;
     }
+    Some(value)
 }
 
 fn number(reader: &mut Reader<'_>) -> Option<u64>
