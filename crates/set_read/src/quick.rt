@@ -1,5 +1,5 @@
 //! Reading the usual document in one pass: its steps stand last, and are read from tokens.
-ghost use Rattle.std.specs.Prelude.{◌≡◌, ◌≤◌, [], Some, Ok, IfSome, IsTrue, codes};
+ghost use Rattle.std.specs.Prelude.{◌≡◌, ◌≤◌, [], Some, Ok, IfSome, IsTrue};
 ghost use Rattle.json.specs.Json.{read_key};
 ghost use Rattle.json.specs.Tree.{HasNumbers, depth};
 ghost use Rattle.json.specs.Value.{members_view, value_view};
@@ -22,7 +22,7 @@ use rt_task::{Draft, DraftDrive, DraftSteps};
 use serde_json::Value;
 use std::alloc::Global;
 
-// How deep a member's value may nest: a document may 127 deep, and it is an object.
+// How deep a member's value may nest: the document itself may 127 deep.
 const MEMBER_DEPTH: usize = 126;
 
 /// Whether the text ends as the usual document does: with a step, their array and the object. What
