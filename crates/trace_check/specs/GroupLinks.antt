@@ -1,13 +1,12 @@
 -- The links of a group's processors, as contracts see them.
-use Rattle.std.specs.Prelude.{◌≡◌, ℕ, List}
+use Rattle.std.specs.Prelude.{◌≡◌}
 use Rattle.rt_task.specs.declared.Step.{Step}
 use Rattle.rt_model.specs.Group.{Group, group_processors}
 use Rattle.rt_model.specs.Histories.{after, changed}
 use Rattle.rt_model.specs.Past.{Past}
 use Rattle.rank_afresh.specs.Standing.{IsAt, Standing, group_of}
-use Rattle.trace_lines.specs.declared.links.CpuLink.{CpuLink}
-use Rattle.trace_lines.specs.Lines.{Link, links_of}
-use Rattle.trace_text.specs.Groups.{cpu_numbers, cpus_in}
+use Rattle.trace_lines.specs.Lines.{links_of}
+use Rattle.trace_text.specs.Groups.{cpu_numbers}
 use Rattle.trace_text.specs.TraceText.{links_at}
 use Rattle.trace_check.specs.declared.links.GroupLinks.{GroupLinks}
 
@@ -19,15 +18,6 @@ pub record AreLinks (g : Group) (past : Past) (l : GroupLinks) : Type 0 where
 -- they were before a step, and the ranker stands behind it
 pub record CanRead (past : Past) (step : Step) (v : Standing) (l : GroupLinks) : Type 0 where
   pub before : AreLinks (group_of v) past l
-  pub stands : IsAt v (after (group_of v) step past)
-
--- the links of these processors after a step
-abbrev pub links_after : Standing → Step → Past → List ℕ → List Link
-links_after v step past qs = links_at (group_of v) (after (group_of v) step past) qs
-
--- these links were before a step, and the ranker stands behind it
-pub record CanReadAgain (past : Past) (step : Step) (v : Standing) (ls : List CpuLink) : Type 0 where
-  pub before : links_of ls ≡ links_at (group_of v) past (cpus_in ls)
   pub stands : IsAt v (after (group_of v) step past)
 
 -- they are those after the step, with those that it changed

@@ -1,20 +1,17 @@
 //! The links of a group's processors, read from the ranker, and those that a step changes.
 ghost use Rattle.std.specs.Prelude.{◌≡◌, ◌<◌, ◌++◌, All, IfOk, OnOk};
-ghost use Rattle.rt_base.specs.TaskNos.{number_of_task};
 ghost use Rattle.rt_task.specs.declared.Step.{Step};
-ghost use Rattle.rt_model.specs.Histories.{after};
-ghost use Rattle.rt_model.specs.Links.{linked};
 ghost use Rattle.rt_model.specs.Past.{Past};
 ghost use Rattle.rt_plays.specs.Homes.{IsProcessorOf};
 ghost use Rattle.rank_afresh.specs.Standing.{IsAt, group_of};
 ghost use Rattle.trace_lines.specs.Lines.{links_of};
 ghost use Rattle.trace_text.specs.Groups.{changed_links, cpu_numbers, cpus_in};
 ghost use Rattle.trace_text.specs.TraceText.{links_at};
-ghost use Rattle.trace_check.specs.GroupLinks.{CanRead, CanReadAgain, HaveChanged, links_after};
+ghost use Rattle.trace_check.specs.GroupLinks.{CanRead, HaveChanged};
 ghost use Rattle.trace_check.specs.SameLinks.{same_links};
 
 use rank_afresh::Afresh;
-use rt_base::{CpuNo, NoMemory, TaskNo};
+use rt_base::{CpuNo, NoMemory};
 use std::alloc::Global;
 use trace_lines::CpuLink;
 use trace_text::is_same_task;
@@ -53,23 +50,7 @@ pub(crate) fn are_same(a: &[CpuLink], b: &[CpuLink]) -> bool
     true
 }
 
-/// The task of the link after a step, before which the link was this one. It is read only where the step placed links of the
-/// processor's cluster.
-fn task_now(afresh: &Afresh, link: CpuLink) -> Option<TaskNo>
-    requires { IsProcessorOf (group_of afresh.now) link.cpu.0 }
-    ensures { (past : Past) (step : Step) → IsAt afresh.now (after (group_of afresh.now) step past)
-        → number_of_task link.task ≡ linked (group_of afresh.now) link.cpu.0 past
-        → number_of_task result
-        ≡ linked (group_of afresh.now) link.cpu.0 (after (group_of afresh.now) step past) }
-{
-    if afresh.has_placed_in(afresh.cluster_of(link.cpu)) {
-        afresh.linked(link.cpu)
-    } else {
-        link.task
-    }
-}
-
-/// Reads the links after a step, each in its place, and puts those that are others than before behind what stood in `changed`.
+/// Reads the links again, each in its place, and puts those that are others than before behind what stood in `changed`.
 #[tactic(auto, using(std::proofs::Common::append_assoc))]
 fn read_again(
     afresh: &Afresh,
@@ -77,17 +58,15 @@ fn read_again(
     changed: &mut Vec<CpuLink>,
 ) -> Result<(), NoMemory>
     requires { All (λ x. IsProcessorOf (group_of afresh.now) x.cpu.0) links.old }
-    ensures links { OnOk result ((past : Past) (step : Step)
-        → CanReadAgain past step afresh.now links.old
-        → links_of links.new ≡ links_after afresh.now step past (cpus_in links.old)) }
-    ensures changed { OnOk result ((past : Past) (step : Step)
-        → CanReadAgain past step afresh.now links.old
+    ensures links { OnOk result ((past : Past) → IsAt afresh.now past
+        → links_of links.new ≡ links_at (group_of afresh.now) past (cpus_in links.old)) }
+    ensures changed { OnOk result ((past : Past) → IsAt afresh.now past
         → links_of changed.new.items ≡ links_of changed.old.items
         ++ changed_links (links_of links.old)
-        (links_after afresh.now step past (cpus_in links.old))) }
+        (links_at (group_of afresh.now) past (cpus_in links.old))) }
 {
     for i in 0..links.len() {
-        let task = task_now(afresh, links[i]);
+        let task = afresh.linked(links[i].cpu);
         if !is_same_task(links[i].task, task) {
             links[i].task = task;
             changed.push(links[i])?;
@@ -147,7 +126,7 @@ impl GroupLinks {
         self.changed.as_slice()
     }
 
-    /// Reads the links after a step, where that placed some: those of the clusters whose links it placed.
+    /// Reads the links after a step. Where that placed none, they are as before.
     pub(crate) fn follow(&mut self, afresh: &Afresh) -> Result<(), NoMemory>
         requires { (past : Past) × (step : Step) × CanRead past step afresh.now self.old }
         ensures { OnOk result ((past : Past) (step : Step)

@@ -1,7 +1,6 @@
 -- The links of processors, some of which stay as they were.
 use Rattle.std.proofs.Common.{◌≡◌, ℕ, true, not, List, [], ◌∷◌, refl, sym, ap, ◌∙◌}
 use Rattle.std.specs.Prelude.{◌==◌, filter, OnOk, Result, Ok, Err}
-use Rattle.rt_history.specs.declared.Entry.{Entry}
 use Rattle.rt_rules.specs.Numbers.{has, same}
 use Rattle.rt_rules.proofs.BoolLaws.{or_true}
 use Rattle.rt_rules.proofs.MemberLaws.{equal_self}
@@ -10,10 +9,10 @@ use Rattle.rt_model.specs.Group.{Group, group_processors}
 use Rattle.rt_model.specs.Histories.{changed}
 use Rattle.rt_model.specs.Links.{linked}
 use Rattle.rt_model.specs.Past.{Past}
-use Rattle.rt_groups.specs.Groups.{GroupHistory, group_of, past, with_entry}
+use Rattle.rt_groups.specs.Groups.{GroupHistory, group_of, past}
 use Rattle.trace_lines.specs.declared.links.CpuLink.{CpuLink}
 use Rattle.trace_lines.specs.Lines.{links_of}
-use Rattle.trace_text.specs.Groups.{CanReadAgain, changed_links, cpus_in}
+use Rattle.trace_text.specs.Groups.{changed_links, cpus_in}
 use Rattle.trace_text.specs.TraceText.{links_at}
 use Rattle.trace_text.proofs.ReplayLaws.{changed_by, cpus-are}
 
@@ -40,12 +39,12 @@ module _ (g : Group) (was now : Past) where
   unfolding changed
   none-changed all = none-of (group_processors g) all
 
--- the links before an entry, as they are lent to be read again
-pub can-read : (h : GroupHistory) (e : Entry) (now : GroupHistory) (xs ls : List CpuLink) → now ≡ with_entry e h → ls ≡ xs
-    → links_of xs ≡ links_at (group_of h) (past h) (group_processors (group_of h)) → CanReadAgain h e now ls
-can-read h e now xs ls entry own were =
-    let cpus : cpus_in xs ≡ group_processors (group_of h) = cpus-are (group_of h) (past h) (group_processors (group_of h)) xs were in
-    record { before = rw own (were ∙ ap (links_at (group_of h) (past h)) (sym cpus)); entry = entry }
+-- an engine that is lent shows the history that it has
+pub lent-links : (x h : GroupHistory) (g : Group) (ls xs : List CpuLink) → x ≡ h → group_of h ≡ g → ls ≡ xs
+    → links_at (group_of x) (past x) (cpus_in ls) ≡ links_at g (past h) (cpus_in xs)
+lent-links x h g ls xs same of own =
+    ap (λ (v : GroupHistory). links_at (group_of v) (past v) (cpus_in ls)) same ∙ ap (λ (k : Group). links_at k (past h) (cpus_in ls)) of
+    ∙ ap (λ (ys : List CpuLink). links_at g (past h) (cpus_in ys)) own
 
 -- what was read of the links at a past, and those that are others than before
 pub told-changed : (g : Group) (was now : Past) (before links changes : List CpuLink) → links_of before ≡ links_at g was (group_processors g)

@@ -7,7 +7,7 @@ use Rattle.rt_history.specs.declared.Entry.{Entry}
 use Rattle.rt_rules.specs.Numbers.{numbers_from, same}
 use Rattle.rt_model.specs.Group.{group_processors}
 use Rattle.rt_model.specs.Histories.{past_from}
-use Rattle.rt_groups.specs.Groups.{GroupHistory, IsGroupOf, group_of, past, with_entry}
+use Rattle.rt_groups.specs.Groups.{GroupHistory, IsGroupOf, group_of, past}
 use Rattle.count_laws.specs.Tallies.{Tally}
 use Rattle.block_counts.specs.GroupRequests.{GroupRequests, IsAt}
 use Rattle.trace_lines.specs.declared.links.CpuLink.{CpuLink}
@@ -41,11 +41,6 @@ changed_links (x ∷ before) (y ∷ now) = if same x.1 y.1 then changed_links be
 pub record Follows (h : GroupHistory) (qs : List CpuNo) (links : List CpuLink) : Type 0 where
   pub cpus_are : cpu_numbers qs ≡ group_processors (group_of h)
   pub links_are : links_of links ≡ links_at (group_of h) (past h) (group_processors (group_of h))
-
--- these links were before an entry, and an engine has the history with it
-pub record CanReadAgain (h : GroupHistory) (e : Entry) (now : GroupHistory) (ls : List CpuLink) : Type 0 where
-  pub before : links_of ls ≡ links_at (group_of h) (past h) (cpus_in ls)
-  pub entry : now ≡ with_entry e h
 
 -- the requests of a history are kept, with room for its further entries and for the tasks that wait
 pub record Counts (h : GroupHistory) (b : GroupRequests) (room : ℕ) : Type 0 where

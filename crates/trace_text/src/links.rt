@@ -3,12 +3,10 @@ ghost use Rattle.std.specs.Prelude.{◌≡◌, ◌++◌, All, OnOk, length};
 ghost use Rattle.rt_base.specs.TaskNos.{number_of_task};
 ghost use Rattle.rt_rules.specs.Numbers.{same};
 ghost use Rattle.rt_plays.specs.Homes.{IsProcessorOf};
-ghost use Rattle.rt_history.specs.declared.Entry.{Entry};
-ghost use Rattle.rt_model.specs.Links.{linked};
-ghost use Rattle.rt_groups.specs.Groups.{GroupHistory, group_of, past, with_entry};
+ghost use Rattle.rt_groups.specs.Groups.{group_of, past};
 ghost use Rattle.trace_lines.specs.Lines.{links_of};
 ghost use Rattle.trace_text.specs.TraceText.{links_at};
-ghost use Rattle.trace_text.specs.Groups.{CanReadAgain, changed_links, cpu_numbers, cpus_in};
+ghost use Rattle.trace_text.specs.Groups.{changed_links, cpu_numbers, cpus_in};
 
 use group_engine::Engine;
 use rt_base::{CpuNo, NoMemory, TaskNo};
@@ -47,22 +45,7 @@ pub fn is_same_task(a: Option<TaskNo>, b: Option<TaskNo>) -> bool
     }
 }
 
-/// The task that a processor is linked to after a step, given its link before it.
-fn task_now(engine: &Engine, link: CpuLink) -> Option<TaskNo>
-    requires { IsProcessorOf (group_of engine.now) link.cpu.0 }
-    ensures { (h : GroupHistory) (e : Entry) → engine.now ≡ with_entry e h
-        → number_of_task link.task ≡ linked (group_of h) link.cpu.0 (past h)
-        → number_of_task result ≡ linked (group_of h) link.cpu.0 (past engine.now) }
-{
-    if engine.has_placed_at(link.cpu) {
-        engine.linked(link.cpu)
-    } else {
-        link.task
-    }
-}
-
-/// Reads the links again after a step, each in its place, and puts those that are others than before behind what stood in
-/// `changed`.
+/// Reads the links again, each in its place, and puts those that are others than before behind what stood in `changed`.
 #[tactic(auto, using(std::proofs::Common::append_assoc))]
 pub(crate) fn read_again(
     engine: &Engine,
@@ -70,17 +53,14 @@ pub(crate) fn read_again(
     changed: &mut Vec<CpuLink>,
 ) -> Result<(), NoMemory>
     requires { All (λ x. IsProcessorOf (group_of engine.now) x.cpu.0) links.old }
-    ensures links { OnOk result ((h : GroupHistory) (e : Entry)
-        → CanReadAgain h e engine.now links.old
-        → links_of links.new ≡ links_at (group_of h) (past engine.now) (cpus_in links.old)) }
-    ensures changed { OnOk result ((h : GroupHistory) (e : Entry)
-        → CanReadAgain h e engine.now links.old
-        → links_of changed.new.items ≡ links_of changed.old.items
+    ensures links { OnOk result (links_of links.new
+        ≡ links_at (group_of engine.now) (past engine.now) (cpus_in links.old)) }
+    ensures changed { OnOk result (links_of changed.new.items ≡ links_of changed.old.items
         ++ changed_links (links_of links.old)
-        (links_at (group_of h) (past engine.now) (cpus_in links.old))) }
+        (links_at (group_of engine.now) (past engine.now) (cpus_in links.old))) }
 {
     for i in 0..links.len() {
-        let task = task_now(engine, links[i]);
+        let task = engine.linked(links[i].cpu);
         if !is_same_task(links[i].task, task) {
             links[i].task = task;
             changed.push(links[i])?;

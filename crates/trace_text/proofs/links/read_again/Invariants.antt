@@ -1,8 +1,7 @@
 use Rattle.std.proofs.Common.{◌≡◌, ◌++◌, drop, take}
-use Rattle.rt_history.specs.declared.Entry.{Entry}
-use Rattle.rt_groups.specs.Groups.{GroupHistory, group_of, past}
+use Rattle.rt_groups.specs.Groups.{group_of, past}
 use Rattle.trace_lines.specs.Lines.{links_of}
-use Rattle.trace_text.specs.Groups.{CanReadAgain, changed_links, cpus_in}
+use Rattle.trace_text.specs.Groups.{changed_links, cpus_in}
 use Rattle.trace_text.specs.TraceText.{links_at}
 use Rattle.trace_text.proofs.links.read_again.Given as goal
 
@@ -10,8 +9,6 @@ use Rattle.trace_text.proofs.links.read_again.Given as goal
 abbrev pub invariant-loop-i : goal.invariant-loop-i
 invariant-loop-i l =
     (drop l.i l.links ≡ drop l.i l.initial.links)
-    × ((h : GroupHistory) (e : Entry) → CanReadAgain h e l.engine l.initial.links
-    → links_of (take l.i l.links) ++ links_at (group_of h) (past l.engine) (cpus_in (drop l.i l.links)) ≡ links_at (group_of h) (past l.engine) (cpus_in l.initial.links))
-    × ((h : GroupHistory) (e : Entry) → CanReadAgain h e l.engine l.initial.links
-    → links_of l.changed.items ++ changed_links (links_of (drop l.i l.links)) (links_at (group_of h) (past l.engine) (cpus_in (drop l.i l.links)))
-    ≡ links_of l.initial.changed.items ++ changed_links (links_of l.initial.links) (links_at (group_of h) (past l.engine) (cpus_in l.initial.links)))
+    × (links_of (take l.i l.links) ++ links_at (group_of l.engine) (past l.engine) (cpus_in (drop l.i l.links)) ≡ links_at (group_of l.engine) (past l.engine) (cpus_in l.initial.links))
+    × (links_of l.changed.items ++ changed_links (links_of (drop l.i l.links)) (links_at (group_of l.engine) (past l.engine) (cpus_in (drop l.i l.links)))
+    ≡ links_of l.initial.changed.items ++ changed_links (links_of l.initial.links) (links_at (group_of l.engine) (past l.engine) (cpus_in l.initial.links)))

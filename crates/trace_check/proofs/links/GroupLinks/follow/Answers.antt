@@ -11,10 +11,9 @@ use Rattle.trace_lines.specs.declared.links.CpuLink.{CpuLink}
 use Rattle.trace_lines.specs.Lines.{links_of}
 use Rattle.trace_text.specs.Groups.{changed_links, cpus_in}
 use Rattle.trace_text.specs.TraceText.{links_at}
-use Rattle.trace_text.proofs.ReplayLaws.{cpus-are, links_there}
+use Rattle.trace_text.proofs.ReplayLaws.{links_there}
 use Rattle.trace_text.proofs.StillLinks.{links-stay, none-changed, on-both}
 use Rattle.trace_check.specs.declared.links.GroupLinks.{GroupLinks}
-use Rattle.trace_check.specs.GroupLinks.{CanReadAgain}
 use Rattle.trace_check.proofs.LinkLaws.{have-changed}
 use Rattle.trace_check.proofs.links.GroupLinks.follow.Goals as goal
 
@@ -44,12 +43,9 @@ returns c =
     let written = with_items_is c.args.self.now.links c.read_again.new.links long in
     on-both c.read_again.result c.read_again.ensures.links c.read_again.ensures.changed (λ links told past step can.
     let now : Past = after g step past in
-    let before : links_of c.args.self.now.links.items ≡ links_at g past (cpus_in c.args.self.now.links.items) =
-    can.before.links_are ∙ ap (links_at g past) (sym (cpus-are g past (group_processors g) c.args.self.now.links.items can.before.links_are)) in
-    let again : CanReadAgain past step c.args.afresh.now c.as_mut_slice.result.now = rw own (record { before = before; stands = can.stands }) in
     let read : links_of c.read_again.new.links ≡ links_at g now (cpus_in c.args.self.now.links.items) =
-    links past step again ∙ ap (λ (xs : List CpuLink). links_at g now (cpus_in xs)) own in
-    let first : links_of c.read_again.new.changed.items ≡ links_of c.clear.new.self.items ++ changed_links (links_of c.as_mut_slice.result.now) (links_at g now (cpus_in c.as_mut_slice.result.now)) = told past step again in
+    links now can.stands ∙ ap (λ (xs : List CpuLink). links_at g now (cpus_in xs)) own in
+    let first : links_of c.read_again.new.changed.items ≡ links_of c.clear.new.self.items ++ changed_links (links_of c.as_mut_slice.result.now) (links_at g now (cpus_in c.as_mut_slice.result.now)) = told now can.stands in
     let more : links_of c.read_again.new.changed.items ≡ changed_links (links_of c.args.self.now.links.items) (links_at g now (cpus_in c.args.self.now.links.items)) = rw (first, c.clear.ensures.items, own) refl in
     let after_it : GroupLinks = record { cpus = c.args.self.now.cpus; links = with_items c.args.self.now.links c.read_again.new.links; changed = c.read_again.new.changed } in
     have-changed g past step c.args.self.now after_it can.before refl (ap links_of written ∙ read) more)

@@ -13,7 +13,7 @@ use Rattle.trace_lines.specs.Lines.{Link, links_of}
 use Rattle.trace_text.specs.Groups.{changed_links, cpus_in}
 use Rattle.trace_text.specs.TraceText.{links_at}
 use Rattle.trace_text.proofs.ReplayLaws.{follows-next, links_there, on_ok, past_step}
-use Rattle.trace_text.proofs.StillLinks.{AreAsBefore, can-read, links-stay, none-changed, on-both, told-changed}
+use Rattle.trace_text.proofs.StillLinks.{AreAsBefore, lent-links, links-stay, none-changed, on-both, told-changed}
 use Rattle.trace_text.proofs.replay.Replay.step.Goals as goal
 use Rattle.trace_text.proofs.replay.Replay.step.Goals.{After-read_again, Then-not-has_placed}
 
@@ -52,16 +52,14 @@ told : (c : After-read_again) → OnOk c.read_again.result ((links_of c.read_aga
     × (links_of c.read_again.new.changed.items ≡ links_at (group_of c.args.self.now.engine) (past c.step.new.self) (changed (group_of c.args.self.now.engine) (past c.args.self.now.engine) (past c.step.new.self))))
 told c =
     let g : Group = group_of c.args.self.now.engine in
-    let was : Past = past c.args.self.now.engine in
+    let now : Past = past c.step.new.self in
     let links : List CpuLink = c.args.self.now.links.items in
     let own : c.as_mut_slice.result.now ≡ links = c.as_mut_slice.ensures.value in
-    let at : links_at g (past c.engine-engine.result.now) (cpus_in c.as_mut_slice.result.now) ≡ links_at g (past c.step.new.self) (cpus_in links) =
-        ap (λ (x : GroupHistory). links_at g (past x) (cpus_in c.as_mut_slice.result.now)) c.engine-engine.ensures ∙ ap (λ (xs : List CpuLink). links_at g (past c.step.new.self) (cpus_in xs)) own in
-    let can = can-read c.args.self.now.engine _ c.engine-engine.result.now links c.as_mut_slice.result.now (c.engine-engine.ensures ∙ c.step.ensures.entry) own c.requires.follows.links_are in
-    let of : List CpuLink → List Link = λ xs. changed_links (links_of xs) (links_at g (past c.engine-engine.result.now) (cpus_in c.as_mut_slice.result.now)) in
+    let at = lent-links c.engine-engine.result.now c.step.new.self g c.as_mut_slice.result.now links c.engine-engine.ensures (ap group_of c.step.ensures.entry) own in
+    let of : List CpuLink → List Link = λ xs. changed_links (links_of xs) (links_at (group_of c.engine-engine.result.now) (past c.engine-engine.result.now) (cpus_in c.as_mut_slice.result.now)) in
     on-both c.read_again.result c.read_again.ensures.links c.read_again.ensures.changed (λ read more.
-    told-changed g was (past c.step.new.self) links c.read_again.new.links c.read_again.new.changed.items c.requires.follows.links_are (read c.args.self.now.engine _ can ∙ at)
-    (more c.args.self.now.engine _ can ∙ ap (λ (ys : List CpuLink). links_of ys ++ of c.as_mut_slice.result.now) c.clear.ensures.items ∙ ap of own ∙ ap (changed_links (links_of links)) at))
+    told-changed g (past c.args.self.now.engine) now links c.read_again.new.links c.read_again.new.changed.items c.requires.follows.links_are (read ∙ at)
+    (more ∙ ap (λ (ys : List CpuLink). links_of ys ++ of c.as_mut_slice.result.now) c.clear.ensures.items ∙ ap of own ∙ ap (changed_links (links_of links)) at))
 
 pub returns-clause-changed : goal.returns-clause-changed
 returns-clause-changed c = on_ok_weaker c.read_again.result (λ both. both.1) (told (goal.at.returns-clause-changed c).After-read_again)
