@@ -1,7 +1,7 @@
 ghost use Rattle.std.specs.Prelude.{◌≡◌, ◌≢◌, ℕ, ◌<◌, length, slice_index};
 ghost use Rattle.cluster_table.specs.Table.{HasProcessor, HasTask};
 
-use cluster_table::ClusterTable;
+use cluster_table::{ClusterTable, PlacedMarks};
 use rt_base::{CpuNo, GroupNo, TaskNo};
 use rt_history::Reply;
 use rt_order::Key;
@@ -32,6 +32,8 @@ enum Call {
     Ready(u32, u64),
     Gone(u32),
     Place,
+    // Whether the last `Place` placed the links of the processor's cluster anew.
+    Placed(bool),
     Irq(bool, Reply),
     Leave,
     Linked(Option<TaskNo>),
@@ -47,7 +49,7 @@ fn key(major: u64) -> Key {
     }
 }
 
-fn play(rt: &impl Abort, table: &mut ClusterTable, q: CpuNo, call: Call)
+fn play(rt: &impl Abort, table: &mut ClusterTable, placed: &mut PlacedMarks, q: CpuNo, call: Call)
     requires count { length table.old.homes ≡ 5 }
     requires fit { (q t : ℕ) → q < 5 → q ≢ 2 → t < 8
         → HasProcessor table.old (slice_index table.old.homes q) q
@@ -69,7 +71,11 @@ fn play(rt: &impl Abort, table: &mut ClusterTable, q: CpuNo, call: Call)
             assert!(rt; task < 8);
             table.set(c, TaskNo(task), None);
         }
-        Call::Place => table.place_changed(),
+        Call::Place => {
+            placed.clear();
+            table.place_changed(placed);
+        }
+        Call::Placed(yes) => assert_eq!(rt; placed.has(c), yes),
         Call::Irq(np, reply) => assert_eq!(rt; table.take_irq(c, q, np), reply),
         Call::Leave => table.leave(c, q),
         Call::Linked(task) => assert_eq!(rt; table.linked(c, q), task),
@@ -81,8 +87,9 @@ fn play(rt: &impl Abort, table: &mut ClusterTable, q: CpuNo, call: Call)
 fn play_all(rt: &impl Abort, alloc: Global, calls: &[(u32, Call)]) {
     let table = ClusterTable::open(alloc, &ROWS, GroupNo(0), 8);
     let mut table = table.expect(rt, "memory");
+    let mut placed = PlacedMarks::new(alloc, ROWS.len()).expect(rt, "memory");
     for (q, call) in calls {
-        play(rt, &mut table, CpuNo(*q), *call);
+        play(rt, &mut table, &mut placed, CpuNo(*q), *call);
     }
 }
 
@@ -98,6 +105,8 @@ fn places_in_each_cluster(rt: HostRuntime) {
             (4, Call::Ready(5, 10)),
             (0, Call::Linked(None)),
             (0, Call::Place),
+            (0, Call::Placed(true)),
+            (4, Call::Placed(true)),
             (0, Call::Linked(Some(TaskNo(2)))),
             (1, Call::Linked(Some(TaskNo(1)))),
             (3, Call::Linked(Some(TaskNo(5)))),
@@ -109,6 +118,8 @@ fn places_in_each_cluster(rt: HostRuntime) {
             (4, Call::Irq(false, Reply::Quiet)),
             (0, Call::Ready(3, 10)),
             (0, Call::Place),
+            (0, Call::Placed(true)),
+            (4, Call::Placed(false)),
             (0, Call::Linked(Some(TaskNo(2)))),
             (1, Call::Linked(Some(TaskNo(3)))),
             (1, Call::Irq(true, Reply::Deferred)),
