@@ -55,4 +55,4 @@ pub returns-in-Leave-clause-fit : goal.returns-in-Leave-clause-fit
 returns-in-Leave-clause-fit g c = rw c.leave.ensures (fits-changed c.args.table.now c.home-c.result.0 (left_by c.args.q.0) (stays-left_by c.args.q.0) c.requires.fit)
 
 pub returns-in-Place-clause-fit : goal.returns-in-Place-clause-fit
-returns-in-Place-clause-fit g c = rw c.place_changed.ensures (fits-relinked c.args.table.now c.requires.fit)
+returns-in-Place-clause-fit g c = rw c.place_changed.ensures.clusters (fits-relinked c.args.table.now c.requires.fit)
