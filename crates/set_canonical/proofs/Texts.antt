@@ -1,5 +1,7 @@
 -- The compact texts of a set's parts, as they are written.
-use Rattle.std.proofs.Common.{◌≡◌, ℕ, List, [], ◌++◌, Bool, true, false, codes, decimal, refl, ap, sym, ◌∙◌, append_assoc, append-nil}
+use Rattle.std.proofs.Common.{◌≡◌, ℕ, suc, ◌+◌, ◌<◌, ◌≤◌, List, [], ◌∷◌, ◌++◌, length, drop, get_or, subst, arith, Bool, true, false, codes, decimal, refl, ap, sym, ◌∙◌, append_assoc, append-nil}
+use Rattle.std.proofs.Math.Seq.{drop-cons}
+use Rattle.std.proofs.lemmas.List.{drop_all}
 use Rattle.rt_task.specs.declared.Cluster.{Cluster}
 use Rattle.rt_task.specs.declared.Drive.{Drive}
 use Rattle.rt_task.specs.declared.Drive.TheVariants.{Steps, Horizon}
@@ -12,7 +14,7 @@ use Rattle.rt_task.specs.declared.Sem.{Sem}
 use Rattle.rt_task.specs.declared.Step.{Step}
 use Rattle.rt_task.specs.declared.Task.{Task}
 use Rattle.rt_task.specs.Draft.{runs}
-use Rattle.json.specs.Print.{escape_byte, quoted}
+use Rattle.json.specs.Print.{escape, escape_byte, quoted}
 use Rattle.serde_json.specs.Data.{boolean}
 use Rattle.serde_json.specs.View.{items_of}
 use Rattle.serde_json.specs.Written.{compact_text, items_text}
@@ -151,3 +153,16 @@ set_text p =
     by_drive : (d : Drive) → compact_text (set_data (record p { drive = d })) ≡ set_parts (record p { drive = d })
     by_drive (Steps ss) = refl
     by_drive (Horizon h) = refl
+
+-- ---- bytes that stand in a string as they are
+
+pub plain_next : (text : List ℕ) (i d : ℕ) → i < length text → escape_byte (get_or text i d) ≡ get_or text i d ∷ [] → (escape (drop i text) ≡ drop i text → escape text ≡ text)
+    → escape (drop (i + 1) text) ≡ drop (i + 1) text → escape text ≡ text
+plain_next text i d low plain before rest =
+    let next : i + 1 ≡ suc i = omega arith in
+    let here : drop i text ≡ get_or text i d ∷ drop (suc i) text = drop-cons text i d low in
+    let later : escape (drop (suc i) text) ≡ drop (suc i) text = subst (λ (n : ℕ). escape (drop n text) ≡ drop n text) next rest in
+    before (ap escape here ∙ ap (λ (xs : List ℕ). xs ++ escape (drop (suc i) text)) plain ∙ ap (λ (xs : List ℕ). get_or text i d ∷ xs) later ∙ sym here)
+
+pub plain_end : (text : List ℕ) (i : ℕ) → length text ≤ i → (escape (drop i text) ≡ drop i text → escape text ≡ text) → escape text ≡ text
+plain_end text i past_all before = let none : drop i text ≡ [] = drop_all i text past_all in before (rw none refl)

@@ -1,5 +1,5 @@
 //! Small texts, put after what is written.
-ghost use Rattle.std.specs.Prelude.{◌≡◌, ◌<◌, ◌++◌, decimal, OnOk};
+ghost use Rattle.std.specs.Prelude.{◌≡◌, ◌<◌, ◌∷◌, ◌++◌, [], decimal, IsTrue, OnOk};
 ghost use Rattle.std.specs.Char.{digit_char};
 ghost use Rattle.json.specs.Print as print;
 ghost use Rattle.serde_json.specs.Data.{boolean};
@@ -103,15 +103,47 @@ fn put_byte(out: &mut Vec<u8>, byte: u8) -> Result<(), AllocError>
     Ok(out.push(byte)?)
 }
 
-/// A string's bytes, with their escapes.
+/// Whether the byte stands in a string as it is.
+#[tactic(auto, unfolding(json::specs::Print::escape_byte))]
+fn is_plain(byte: u8) -> bool
+    ensures { IsTrue result → print.escape_byte byte ≡ byte ∷ [] }
+{
+    byte >= 32 && escape_letter(byte) == 0
+}
+
+/// Whether all bytes do.
+#[tactic(auto, using(crate::proofs::Texts::plain_next, crate::proofs::Texts::plain_end))]
+fn are_plain(text: &[u8]) -> bool
+    ensures { IsTrue result → print.escape text.now ≡ text.now }
+{
+    for byte in text {
+        if !is_plain(*byte) {
+            return false;
+        }
+    }
+    true
+}
+
+/// A string's bytes, each with its escape.
 #[tactic(auto, using(std::proofs::Common::append_assoc))]
-fn put_escaped(out: &mut Vec<u8>, text: &[u8]) -> Result<(), AllocError>
+fn put_bytes(out: &mut Vec<u8>, text: &[u8]) -> Result<(), AllocError>
     ensures { OnOk result (out.new.items ≡ out.old.items ++ print.escape text.now) }
 {
     for byte in text {
         put_byte(out, *byte)?;
     }
     Ok(())
+}
+
+/// A string's bytes, with their escapes. Most strings have none, and are put whole.
+fn put_escaped(out: &mut Vec<u8>, text: &[u8]) -> Result<(), AllocError>
+    ensures { OnOk result (out.new.items ≡ out.old.items ++ print.escape text.now) }
+{
+    if are_plain(text) {
+        put(out, text)
+    } else {
+        put_bytes(out, text)
+    }
 }
 
 /// A string in its quotes, after the text before it.

@@ -1,6 +1,6 @@
 use Rattle.std.proofs.Common.{◌≡◌, ◌++◌, drop}
 use Rattle.json.specs.Print.{escape}
-use Rattle.set_canonical.proofs.put.put_escaped.Given as goal
+use Rattle.set_canonical.proofs.put.put_bytes.Given as goal
 
 -- what was written, and then the rest of the text, is the whole text
 abbrev pub invariant-loop-byte : goal.invariant-loop-byte
