@@ -18,15 +18,15 @@ use Rattle.trace_lines.specs.Known.{known_of}
 use Rattle.trace_lines.specs.Lines.{Line}
 use Rattle.trace_tools.specs.Seats.{Seat, seat_line, seat_of, seats_after}
 use Rattle.trace_tools.specs.Tools.{Tool}
-use Rattle.trace_text.specs.declared.stop.WriteStop.{WriteStop}
-use Rattle.trace_text.specs.declared.stop.WriteStop.TheVariants as stops
-use Rattle.trace_text.specs.declared.summary.Summary.{Summary}
+use Rattle.trace_writer.specs.declared.stop.WriteStop.{WriteStop}
+use Rattle.trace_writer.specs.declared.stop.WriteStop.TheVariants as stops
+use Rattle.trace_writer.specs.declared.summary.Summary.{Summary}
 use Rattle.trace_text.specs.CountLines.{count_lines, shown_from}
 use Rattle.trace_text.specs.Groups as groups
-use Rattle.trace_text.specs.Summaries.{summary_from}
-use Rattle.trace_text.specs.Writing.{Came}
-use Rattle.trace_text.proofs.BusText.{lines-of_tools}
-use Rattle.trace_text.proofs.CameLaws.{coming-last, coming-next, coming-start, coming-stop}
+use Rattle.trace_writer.specs.Summaries.{summary_from}
+use Rattle.trace_writer.specs.Writing.{Came}
+use Rattle.trace_writer.proofs.BusText.{lines-of_tools}
+use Rattle.trace_writer.proofs.CameLaws.{coming-last, coming-next, coming-start, coming-stop}
 use Rattle.set_input.specs.Ends.{Writing}
 use Rattle.set_input.proofs.EndLaws.{Wrote}
 use Rattle.set_input.proofs.Promises.{holds-throughout}

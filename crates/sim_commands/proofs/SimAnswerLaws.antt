@@ -17,7 +17,7 @@ use Rattle.trace_text.specs.Groups as groups
 use Rattle.trace_text.specs.CountLines.{bus_text, counted_text}
 use Rattle.trace_tools.specs.Seats.{Seat, seat_of}
 use Rattle.trace_tools.specs.Tools.{Tool}
-use Rattle.trace_text.proofs.BusText.{text-of_tools}
+use Rattle.trace_writer.proofs.BusText.{text-of_tools}
 use Rattle.sim_commands.specs.Sim.{set_trace}
 use Rattle.set_input.specs.Inputs.{WasRead, WasRefused}
 use Rattle.sim_commands.specs.SimAnswers.{SimAnswers}

@@ -9,9 +9,9 @@ use Rattle.trace_lines.specs.declared.format.Version.TheVariants.{Two}
 use Rattle.trace_lines.specs.Grammar.{line_text}
 use Rattle.trace_lines.specs.Known.{known_of}
 use Rattle.trace_tools.specs.Tools.{Tool}
-use Rattle.trace_text.specs.declared.summary.Summary.{Summary}
+use Rattle.trace_writer.specs.declared.summary.Summary.{Summary}
 use Rattle.trace_text.specs.CountLines.{count_lines}
-use Rattle.trace_text.specs.Summaries.{summary_from}
+use Rattle.trace_writer.specs.Summaries.{summary_from}
 use Rattle.set_input.specs.Ends.{Writing}
 use Rattle.set_input.specs.Throughout.{HoldsThroughout}
 

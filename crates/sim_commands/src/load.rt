@@ -5,7 +5,7 @@ ghost use Rattle.trace_lines.specs.Grammar.{line_text};
 ghost use Rattle.trace_lines.specs.Known.{Known};
 ghost use Rattle.trace_tools.specs.Places.{seats};
 ghost use Rattle.trace_tools.specs.Seats.{seat_line};
-ghost use Rattle.trace_text.specs.Writing.{Came};
+ghost use Rattle.trace_writer.specs.Writing.{Came};
 ghost use Rattle.set_input.specs.Ends.{writing};
 ghost use Rattle.set_input.specs.Answers.{IsUnwritten};
 ghost use Rattle.sim_commands.specs.Load.{number_line, summary_text};

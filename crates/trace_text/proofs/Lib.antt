@@ -1,4 +1,3 @@
-pub mod CameLaws
 pub mod CpuLaws
 pub mod ReplayLaws
 pub mod StillLinks
@@ -6,5 +5,3 @@ pub mod LineLaws
 pub mod ShownLaws
 pub mod GroupLaws
 pub mod BlockLines
-pub mod SummaryLaws
-pub mod BusText

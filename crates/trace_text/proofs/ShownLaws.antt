@@ -20,7 +20,7 @@ use Rattle.trace_tools.specs.Seats.{Seat, seat_after, seat_line, seats_after}
 use Rattle.trace_text.specs.CountLines.{bus_lines, bus_text, ended_late, ended_task, shown_as, shown_entries, shown_from}
 use Rattle.trace_text.specs.Groups.{AreGroupsOf, histories}
 use Rattle.trace_text.specs.TraceText.{head_text, lines_from}
-use Rattle.trace_text.proofs.CameLaws.{Coming, coming-start}
+use Rattle.trace_writer.proofs.CameLaws.{Coming, coming-start}
 use Rattle.trace_text.proofs.LineLaws.{history_group, texts, trace_parts}
 use Rattle.trace_text.proofs.ReplayLaws.{drop_end}
 
@@ -88,26 +88,3 @@ pub counts-end : (k : Known) (seats : List Seat) (i : ℕ) → length seats ≤ 
 counts-end k seats i past_all = rw (drop_end seats i past_all) refl
 
 -- ---- the text of a bus, part by part: the head, the lines of the groups, and the count lines
-
--- the lines of the groups, with the names of a setup
-abbrev pub lines_of_parts : Version → Parts → Parts → List GroupHistory → List ℕ
-lines_of_parts version names p hs = texts (known_of version names) (lines_from p 0 (histories hs))
-
-abbrev pub lines_of : Version → Parts → List GroupHistory → List ℕ
-lines_of version p hs = lines_of_parts version p p hs
-
-abbrev pub counts_of : Version → Parts → List GroupHistory → List Seat → List ℕ
-counts_of version p hs seats = texts (known_of version p) (bus_lines seats p (histories hs))
-
-bus_parts : (version : Version) (p : Parts) (hs : List GroupHistory) (seats : List Seat)
-    → bus_text version seats p (histories hs) ≡ head_text version p ++ (lines_of version p hs ++ counts_of version p hs seats)
-bus_parts version p hs seats =
-    ap (λ (xs : List ℕ). xs ++ counts_of version p hs seats) (trace_parts version p hs)
-    ∙ append_assoc (head_text version p) (lines_of version p hs) (counts_of version p hs seats)
-
--- none of them came yet
-pub coming-bus : (version : Version) (p : Parts) (hs : List GroupHistory) (seats : List Seat) (held : Held) (faults : ℕ)
-    → Coming held held faults faults (bus_text version seats p (histories hs)) (head_text version p ++ (lines_of version p hs ++ counts_of version p hs seats))
-coming-bus version p hs seats held faults =
-    subst (λ (xs : List ℕ). Coming held held faults faults (bus_text version seats p (histories hs)) xs) (bus_parts version p hs seats)
-    (coming-start held faults (bus_text version seats p (histories hs)))

@@ -39,13 +39,6 @@ module _ (g : Group) (was now : Past) where
   unfolding changed
   none-changed all = none-of (group_processors g) all
 
--- an engine that is lent shows the history that it has
-pub lent-links : (x h : GroupHistory) (g : Group) (ls xs : List CpuLink) → x ≡ h → group_of h ≡ g → ls ≡ xs
-    → links_at (group_of x) (past x) (cpus_in ls) ≡ links_at g (past h) (cpus_in xs)
-lent-links x h g ls xs same of own =
-    ap (λ (v : GroupHistory). links_at (group_of v) (past v) (cpus_in ls)) same ∙ ap (λ (k : Group). links_at k (past h) (cpus_in ls)) of
-    ∙ ap (λ (ys : List CpuLink). links_at g (past h) (cpus_in ys)) own
-
 -- what was read of the links at a past, and those that are others than before
 pub told-changed : (g : Group) (was now : Past) (before links changes : List CpuLink) → links_of before ≡ links_at g was (group_processors g)
     → links_of links ≡ links_at g now (cpus_in before) → links_of changes ≡ changed_links (links_of before) (links_at g now (cpus_in before))

@@ -37,25 +37,6 @@ changed_links [] now = []
 changed_links (x ∷ before) [] = []
 changed_links (x ∷ before) (y ∷ now) = if same x.1 y.1 then changed_links before now else (y ∷ changed_links before now)
 
--- these are the processors of a group and their links after its history
-pub record Follows (h : GroupHistory) (qs : List CpuNo) (links : List CpuLink) : Type 0 where
-  pub cpus_are : cpu_numbers qs ≡ group_processors (group_of h)
-  pub links_are : links_of links ≡ links_at (group_of h) (past h) (group_processors (group_of h))
-
--- the requests of a history are kept, with room for its further entries and for the tasks that wait
-pub record Counts (h : GroupHistory) (b : GroupRequests) (room : ℕ) : Type 0 where
-  pub valid : IsValid h.setup
-  pub setup_is : b.setup ≡ h.setup
-  pub group_is : b.group ≡ h.group
-  pub at : IsAt b (past h)
-  pub spare : h.spare ≤ b.spare
-  pub room_is : length h.setup.tasks ≤ room
-
 -- the line of a request
 abbrev pub request_line : Tally → Line
 request_line x = block_line x.no x.task x.sem x.ends x.ends_all x.bound
-
--- a history has taken the steps of these entries
-pub record HasPlayed (old new : GroupHistory) (es : List Entry) : Type 0 where
-  pub group_is : group_of new ≡ group_of old
-  pub past_is : past new ≡ past_from (group_of old) (past old) es

@@ -1,5 +1,3 @@
 pub mod TraceText
-pub mod Writing
 pub mod Groups
 pub mod CountLines
-pub mod Summaries

@@ -5,8 +5,8 @@ use Rattle.load_set.specs.Load.{load_of}
 use Rattle.trace_lines.specs.declared.format.Version.TheVariants.{Two}
 use Rattle.trace_lines.specs.Known.{known_of}
 use Rattle.trace_tools.specs.Places.{seats}
-use Rattle.trace_text.specs.Writing.{Came}
-use Rattle.trace_text.specs.declared.stop.WriteStop.TheVariants as stops
+use Rattle.trace_writer.specs.Writing.{Came}
+use Rattle.trace_writer.specs.declared.stop.WriteStop.TheVariants as stops
 use Rattle.set_input.specs.Ends.{writing}
 use Rattle.sim_commands.specs.Load.{load_text}
 use Rattle.sim_commands.proofs.LoadLaws.{came-wrote, load-text, load-wrote}

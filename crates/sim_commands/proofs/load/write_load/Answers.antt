@@ -3,7 +3,7 @@ use Rattle.std.specs.Prelude.{flat_map}
 use Rattle.trace_lines.specs.Grammar.{line_text}
 use Rattle.trace_tools.specs.Places.{seats}
 use Rattle.trace_tools.specs.Seats.{seat_line}
-use Rattle.trace_text.proofs.CameLaws.{came-err}
+use Rattle.trace_writer.proofs.CameLaws.{came-err}
 use Rattle.sim_commands.specs.Load.{summary_text}
 use Rattle.sim_commands.proofs.LoadLaws.{came_both, came_first}
 use Rattle.sim_commands.proofs.load.write_load.Goals as goal

@@ -1,7 +1,7 @@
 use Rattle.std.proofs.Common.{[], ◌++◌, Err}
 use Rattle.std.specs.Prelude.{codes}
 use Rattle.sim_commands.specs.Load.{number_line, summary_text}
-use Rattle.trace_text.proofs.CameLaws.{came-err}
+use Rattle.trace_writer.proofs.CameLaws.{came-err}
 use Rattle.sim_commands.proofs.LoadLaws.{came_both, came_first}
 use Rattle.sim_commands.proofs.load.write_summary.Goals as goal
 

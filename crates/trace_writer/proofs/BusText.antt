@@ -1,0 +1,61 @@
+-- The text of a bus is that of its tools; without tools it is the trace.
+use Rattle.std.proofs.Common.{◌≡◌, List, [], ◌∷◌, ◌++◌, map, refl, sym, ap, ◌∙◌, append-nil}
+use Rattle.std.proofs.lemmas.Simd.{map-map}
+use Rattle.rt_task.specs.declared.Parts.{Parts}
+use Rattle.rt_history.specs.declared.Entry.{Entry}
+use Rattle.trace_lines.specs.Lines.{Line}
+use Rattle.trace_lines.specs.Known.{known_of}
+use Rattle.trace_lines.specs.declared.format.Version.{Version}
+use Rattle.trace_tools.specs.declared.shown.Shown.{Shown}
+use Rattle.trace_tools.specs.Seats.{Seat, seat_line, seat_of, seats_after}
+use Rattle.trace_tools.specs.Tools.{Tool, line_of}
+use Rattle.trace_tools.specs.Tools as tools
+use Rattle.trace_tools.proofs.BusLaws.{lines-after}
+use Rattle.trace_text.specs.CountLines.{bus_text, counted_text, shown_from}
+use Rattle.trace_text.specs.TraceText.{trace_text}
+use Rattle.trace_text.proofs.LineLaws.{texts}
+
+-- the lines of a bus of these tools, each of which is what its trait says
+pub lines-of_tools : {T : Type 0} (tool : T → Tool) (ts : List T) (es : List Shown)
+    → map seat_line (seats_after es (map (λ t. seat_of (tool t)) ts)) ≡ map (λ (t : Tool). line_of (tools.after es t)) (map tool ts)
+lines-of_tools tool ts es = ap (λ (ss : List Seat). map seat_line (seats_after es ss)) (sym (map-map seat_of tool ts)) ∙ lines-after es (map tool ts)
+
+pub text-of_tools : {T : Type 0} (version : Version) (tool : T → Tool) (ts : List T) (p : Parts) (hs : List (List Entry)) (seats : List Seat) → seats ≡ map (λ t. seat_of (tool t)) ts
+    → bus_text version seats p hs ≡ counted_text version (map tool ts) p hs
+text-of_tools version tool ts p hs seats is =
+    ap (λ (ss : List Seat). bus_text version ss p hs) is
+    ∙ ap (λ (ls : List Line). trace_text version p hs ++ texts (known_of version p) ls) (lines-of_tools tool ts (shown_from p 0 hs))
+
+-- no place comes to be
+seats_after-none : (es : List Shown) → seats_after es [] ≡ []
+seats_after-none [] = refl
+seats_after-none (e ∷ es) = seats_after-none es
+
+pub text-of_none : (version : Version) (p : Parts) (hs : List (List Entry)) (seats : List Seat) → seats ≡ [] → bus_text version seats p hs ≡ trace_text version p hs
+text-of_none version p hs seats none =
+    ap (λ (ss : List Seat). bus_text version ss p hs) none
+    ∙ ap (λ (ss : List Seat). trace_text version p hs ++ texts (known_of version p) (map seat_line ss)) (seats_after-none (shown_from p 0 hs))
+    ∙ append-nil (trace_text version p hs)
+
+-- the lines of the groups, with the names of a setup
+abbrev pub lines_of_parts : Version → Parts → Parts → List GroupHistory → List ℕ
+lines_of_parts version names p hs = texts (known_of version names) (lines_from p 0 (histories hs))
+
+abbrev pub lines_of : Version → Parts → List GroupHistory → List ℕ
+lines_of version p hs = lines_of_parts version p p hs
+
+abbrev pub counts_of : Version → Parts → List GroupHistory → List Seat → List ℕ
+counts_of version p hs seats = texts (known_of version p) (bus_lines seats p (histories hs))
+
+bus_parts : (version : Version) (p : Parts) (hs : List GroupHistory) (seats : List Seat)
+    → bus_text version seats p (histories hs) ≡ head_text version p ++ (lines_of version p hs ++ counts_of version p hs seats)
+bus_parts version p hs seats =
+    ap (λ (xs : List ℕ). xs ++ counts_of version p hs seats) (trace_parts version p hs)
+    ∙ append_assoc (head_text version p) (lines_of version p hs) (counts_of version p hs seats)
+
+-- none of them came yet
+pub coming-bus : (version : Version) (p : Parts) (hs : List GroupHistory) (seats : List Seat) (held : Held) (faults : ℕ)
+    → Coming held held faults faults (bus_text version seats p (histories hs)) (head_text version p ++ (lines_of version p hs ++ counts_of version p hs seats))
+coming-bus version p hs seats held faults =
+    subst (λ (xs : List ℕ). Coming held held faults faults (bus_text version seats p (histories hs)) xs) (bus_parts version p hs seats)
+    (coming-start held faults (bus_text version seats p (histories hs)))

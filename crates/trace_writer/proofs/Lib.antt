@@ -1,0 +1,5 @@
+pub mod CameLaws
+pub mod Replays
+pub mod GroupParts
+pub mod SummaryLaws
+pub mod BusText

@@ -1,0 +1,108 @@
+-- An engine that takes steps, with the links of its processors and the requests.
+use Rattle.std.proofs.Common.{◌≡◌, ℕ, zero, suc, ◌+◌, ◌<◌, ◌≤◌, ◌==◌, Bool, true, false, not, List, [], ◌∷◌, length, map, drop, get_or, refl, sym, ap, ◌∙◌, subst, arith}
+use Rattle.std.specs.Prelude.{All, filter, if◌then◌else◌, Option, Result, Ok, Err, OnOk}
+use Rattle.std.proofs.lemmas.List.{get_or-drop, length-map}
+use Rattle.std.proofs.Math.Seq.{drop-cons}
+use Rattle.rt_base.specs.declared.CpuNo.{CpuNo}
+use Rattle.rt_task.specs.declared.Parts.{Parts}
+use Rattle.rt_task.specs.declared.Step.{Step}
+use Rattle.rt_task.specs.Validity.{IsValid}
+use Rattle.rt_history.specs.declared.Entry.{Entry}
+use Rattle.rt_history.specs.declared.Reply.{Reply}
+use Rattle.rt_rules.specs.Numbers.{has, same}
+use Rattle.rt_rules.proofs.BoolLaws.{or_true}
+use Rattle.rt_rules.proofs.MemberLaws.{equal_self}
+use Rattle.rt_rules.specs.SemState.{Frees}
+use Rattle.rt_model.specs.Group.{Group, group_processors}
+use Rattle.rt_model.specs.Histories.{after, changed, clock_moved, past_from, past_of, reply_to}
+use Rattle.rt_model.specs.Links.{linked}
+use Rattle.rt_model.specs.Past.{Past}
+use Rattle.rt_model.specs.Runs.{runs}
+use Rattle.rt_model.proofs.Steps.{past_of-append, runs-clock}
+use Rattle.rt_plays.specs.Homes.{IsProcessorOf}
+use Rattle.rt_groups.specs.Groups.{GroupHistory, group_of, past, with_entry}
+use Rattle.count_laws.specs.CountLaws.{act_of}
+use Rattle.count_laws.specs.Tallies.{AreWaiters, Waiter}
+use Rattle.block_counts.specs.GroupRequests.{GroupRequests, IsAt, IsBetween, group_of as requests_group}
+use Rattle.group_engine.specs.Words.{AreListed, AreWaitersAt}
+use Rattle.group_engine.specs.Moments.{between}
+use Rattle.trace_lines.specs.declared.links.CpuLink.{CpuLink}
+use Rattle.trace_lines.specs.Lines.{Link, link_of, links_of}
+use Rattle.trace_text.specs.TraceText.{links_at}
+use Rattle.trace_writer.specs.Replays.{Counts, Follows, HasPlayed}
+use Rattle.trace_text.specs.Groups.{changed_links, cpu_numbers, cpus_in}
+
+-- the processors are the same after an entry more, and these are their links then
+pub follows-next : (h h' : GroupHistory) (e : Entry) (qs : List CpuNo) (links : List CpuLink) → h' ≡ with_entry e h → cpu_numbers qs ≡ group_processors (group_of h)
+    → links_of links ≡ links_at (group_of h) (past h') (group_processors (group_of h)) → Follows h' qs links
+follows-next h h' e qs links entry cpus are =
+    let same : group_of h ≡ group_of h' = sym (ap group_of entry) in
+    record { cpus_are = cpus ∙ ap group_processors same; links_are = are ∙ ap (λ (g : Group). links_at g (past h') (group_processors g)) same }
+
+-- a step makes one event more
+pub past_step : (h h' : GroupHistory) (s : Step) (r : Reply) → h' ≡ with_entry (record { step = s; reply = r }) h → past h' ≡ after (group_of h) s (past h)
+past_step h h' s r e = ap past e ∙ past_of-append (group_of h) h.entries (record { step = s; reply = r })
+
+pub on_ok : {E : Type 0} {P : Type 0} (r : Result (Unit {0}) E) → P → OnOk r P
+on_ok (Ok u) p = p
+on_ok (Err e) p = tt
+
+-- the first i of these entries' steps were taken again
+pub record Playing (old now : GroupHistory) (qs : List CpuNo) (links : List CpuLink) (es : List Entry) (i : ℕ) : Type 0 where
+  pub same_group : group_of now ≡ group_of old
+  pub room : length es ≤ now.spare + i
+  pub follows : Follows now qs links
+  pub past_is : past_from (group_of old) (past now) (drop i es) ≡ past_from (group_of old) (past old) es
+
+pub has_played : (old now : GroupHistory) (qs : List CpuNo) (links : List CpuLink) (es : List Entry) (i : ℕ) → length es ≤ i → Playing old now qs links es i → HasPlayed old now es
+has_played old now qs links es i all p = record {
+  group_is = p.same_group;
+  past_is = all_taken (group_of old) (past now) (past old) es i all p.past_is;
+}
+
+-- at opening there are no requests
+pub counts-open : (h : GroupHistory) (b : GroupRequests) (room : ℕ) (p : Parts) (n spare : ℕ) → IsValid p → h ≡ record { setup = p; group = n; entries = []; spare = spare }
+    → b.setup ≡ p → b.group ≡ n → b.spare ≡ spare → IsAt b [] → length p.tasks ≤ room → Counts h b room
+unfolding past_of past_from
+counts-open h b room p n spare valid is setup_is group_is spare_is at few = record {
+  valid = subst (λ (x : GroupHistory). IsValid x.setup) (sym is) valid;
+  setup_is = setup_is ∙ ap (λ (x : GroupHistory). x.setup) (sym is);
+  group_is = group_is ∙ ap (λ (x : GroupHistory). x.group) (sym is);
+  at = subst (λ (x : GroupHistory). IsAt b (past x)) (sym is) at;
+  spare = omega (arith, spare_is, ap (λ (x : GroupHistory). x.spare) is);
+  room_is = omega (arith, few, ap (λ (x : GroupHistory). length x.setup.tasks) is);
+}
+
+-- the requests of an entry more
+module _ (h h' : GroupHistory) (b b' : GroupRequests) (room room' : ℕ) (step : Step) (reply : Reply) (counts : Counts h b room) (entry : h' ≡ with_entry (record { step = step; reply = reply }) h) where
+  own : requests_group b ≡ group_of h
+  own = rw (counts.setup_is, counts.group_is) refl
+
+  pub is_between : (running : Option ℕ) (ws : List Waiter) → reply ≡ reply_to (group_of h) step (past h) → running ≡ runs step.cpu.0 (past h) → AreWaitersAt (between h step) step.cpu.0 step.act ws
+      → IsBetween b (past h) (record { step = step; reply = reply }) running ws
+  unfolding reply_to
+  is_between running ws reply_is runs_is waiting = record {
+    reply_is = reply_is ∙ ap (λ (g : Group). reply_to g step (past h)) (sym own);
+    runs_is = runs_is ∙ sym (runs-clock step.cpu.0 step.tick.0 (past h));
+    waiting = λ t s frees.
+        let freed : act_of (group_of h) step (past h) ≡ Frees t s = ap (λ (g : Group). act_of g step (past h)) (sym own) ∙ frees in
+        subst (λ (g : Group). AreWaiters g s (clock_moved step (past h)) ws) (sym own)
+        (subst (λ a. AreListed (group_of h) (clock_moved step (past h)) a ws) freed waiting);
+  }
+
+  pub counts-next : b'.setup ≡ b.setup → b'.group ≡ b.group → b'.spare + 1 ≡ b.spare → room' ≡ room → IsAt b' (after (requests_group b) step (past h)) → Counts h' b' room'
+  counts-next setup_same group_same spare_less room_same at = record {
+    valid = subst (λ (x : GroupHistory). IsValid x.setup) (sym entry) counts.valid;
+    setup_is = setup_same ∙ counts.setup_is ∙ ap (λ (x : GroupHistory). x.setup) (sym entry);
+    group_is = group_same ∙ counts.group_is ∙ ap (λ (x : GroupHistory). x.group) (sym entry);
+    at = subst (λ (p : Past). IsAt b' p) (ap (λ (g : Group). after g step (past h)) own ∙ sym (past_step h h' step reply entry)) at;
+    spare = omega (arith, counts.spare, spare_less, ap (λ (x : GroupHistory). x.spare) entry);
+    room_is = omega (arith, counts.room_is, room_same, ap (λ (x : GroupHistory). length x.setup.tasks) entry);
+  }
+
+-- an engine that is lent shows the history that it has
+pub lent-links : (x h : GroupHistory) (g : Group) (ls xs : List CpuLink) → x ≡ h → group_of h ≡ g → ls ≡ xs
+    → links_at (group_of x) (past x) (cpus_in ls) ≡ links_at g (past h) (cpus_in xs)
+lent-links x h g ls xs same of own =
+    ap (λ (v : GroupHistory). links_at (group_of v) (past v) (cpus_in ls)) same ∙ ap (λ (k : Group). links_at k (past h) (cpus_in ls)) of
+    ∙ ap (λ (ys : List CpuLink). links_at g (past h) (cpus_in ys)) own

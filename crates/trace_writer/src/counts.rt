@@ -1,0 +1,55 @@
+//! What a bus is shown of the entries, and the count lines of its tools.
+ghost use Rattle.std.specs.Prelude.{◌≡◌, flat_map, map};
+ghost use Rattle.rt_groups.specs.Groups.{group_of, past};
+ghost use Rattle.trace_lines.specs.Grammar.{line_text};
+ghost use Rattle.trace_lines.specs.Known.{Known};
+ghost use Rattle.trace_tools.specs.Places.{seats};
+ghost use Rattle.trace_tools.specs.Seats.{seat_after, seat_line};
+ghost use Rattle.trace_text.specs.CountLines.{shown_as};
+ghost use Rattle.trace_writer.specs.Writing.{Came};
+
+use crate::WriteStop;
+use crate::counted::Counted;
+use crate::lines::write_bytes;
+use rt_base::GroupNo;
+use rt_fault::Sink;
+use rt_history::Entry;
+use std::alloc::Global;
+use trace_text::shown_by;
+use trace_tools::{Bus, TraceTool};
+
+/// Shows the bus an entry of a group, whose step the engine has taken last.
+pub fn show<T: TraceTool>(
+    bus: &mut Bus<T>,
+    engine: &Counted,
+    group: GroupNo,
+    no: u32,
+    entry: &Entry,
+)
+    requires { engine.now.group ≡ group.0 }
+    ensures { let e = shown_as (group_of engine.now) no entry.now (past engine.now) in
+        seats T.tool bus.new ≡ map (seat_after e) (seats T.tool bus.old) }
+{
+    bus.feed(&shown_by(group, no, *entry, engine.ended()));
+}
+
+/// The count lines of a bus: one for each tool, in the order in which they were handed in.
+pub fn write_counts<T: TraceTool, K: Sink>(
+    alloc: Global,
+    bus: &Bus<T>,
+    out: &mut K,
+) -> Result<(), WriteStop>
+    ensures { (k : Known)
+        → Came result (K.held out.old) (K.held out.new) (K.faults out.old) (K.faults out.new)
+        (flat_map (line_text k) (map seat_line (seats T.tool bus.now))) }
+{
+    // There is no memory for more tools than that.
+    let Ok(count) = u32::try_from(bus.count()) else {
+        return Err(WriteStop::NoMemory);
+    };
+    for i in 0..count {
+        let line = bus.line(alloc, i)?;
+        write_bytes(out, line.as_slice())?;
+    }
+    Ok(())
+}

@@ -1,0 +1,111 @@
+//! A group's steps as they are taken, with the links that each of them changes and the requests.
+ghost use Rattle.std.specs.Prelude.{◌≡◌, ◌-◌, ◌<◌, ◌≤◌, [], IfOk};
+ghost use Rattle.rt_base.specs.declared.TheConstants.{MOST_STEPS};
+ghost use Rattle.rt_model.specs.Histories.{after, changed, reply_to};
+ghost use Rattle.rt_model.specs.Steps.{IsStepOf};
+ghost use Rattle.rt_groups.specs.Groups.{group_of, past, IsGroupOf};
+ghost use Rattle.count_laws.specs.Tallies.{tallies};
+ghost use Rattle.block_counts.specs.SeenWords.{tallies_of};
+ghost use Rattle.trace_lines.specs.Lines.{links_of};
+ghost use Rattle.trace_text.specs.TraceText.{links_at};
+ghost use Rattle.trace_writer.specs.Replays.{Follows};
+
+use crate::counted::Counted;
+use crate::links::{read_again, read_links};
+use block_counts::Seen;
+use rt_base::{CpuNo, GroupNo, NoMemory};
+use rt_history::Reply;
+use rt_task::{Setup, Step};
+use std::alloc::Global;
+use trace_lines::CpuLink;
+use trace_text::cpus_of;
+
+/// An engine that takes the steps of its group, with the group's processors, their links now, and those that the last step
+/// changed.
+#[derive(Drop)]
+pub struct Replay {
+    engine: Counted,
+    cpus: Vec<CpuNo>,
+    links: Vec<CpuLink>,
+    changed: Vec<CpuLink>,
+}
+
+impl Replay {
+    /// A group before its first step, with room for `room` steps.
+    pub fn open(alloc: Global, setup: &Setup, group: GroupNo, room: u32) -> Result<Replay, NoMemory>
+        requires group { IsGroupOf setup.now group.0 }
+        requires room { room ≤ MOST_STEPS }
+        ensures opened { IfOk result (λ r.
+            r.engine ≡
+            record { setup = setup.now; group = group.0; entries = []; spare = room }) }
+        ensures follows { IfOk result (λ r. Follows r.engine r.cpus.items r.links.items) }
+    {
+        let counted = Counted::open(alloc, setup, group, room)?;
+        let cpus = cpus_of(alloc, setup, group)?;
+        let mut links = Vec::new(alloc);
+        read_links(counted.engine(), cpus.as_slice(), &mut links)?;
+        Ok(Replay {
+            engine: counted,
+            cpus,
+            links,
+            changed: Vec::new(alloc),
+        })
+    }
+
+    /// The engine.
+    pub fn engine(&self) -> &Counted
+        ensures { result.now ≡ self.now.engine }
+    {
+        &self.engine
+    }
+
+    /// The links now.
+    pub fn links(&self) -> &[CpuLink]
+        ensures { result.now ≡ self.now.links.items }
+    {
+        self.links.as_slice()
+    }
+
+    /// The links that the last step changed.
+    pub fn changed(&self) -> &[CpuLink]
+        ensures { result.now ≡ self.now.changed.items }
+    {
+        self.changed.as_slice()
+    }
+
+    /// The requests so far, in order of asking.
+    pub fn requests(&self) -> &[Seen]
+        ensures { tallies_of result.now
+            ≡ tallies (group_of self.now.engine) (past self.now.engine) }
+    {
+        self.engine.requests()
+    }
+
+    /// Takes a step, and tells its reply. The links are read again where it placed some.
+    pub fn step(&mut self, step: Step) -> Result<Reply, NoMemory>
+        requires room { 0 < self.old.engine.spare }
+        requires step { IsStepOf (group_of self.old.engine) step }
+        requires follows { Follows self.old.engine self.old.cpus.items self.old.links.items }
+        ensures reply { let g = group_of self.old.engine in
+            IfOk result (λ r. r ≡ reply_to g step (past self.old.engine)) }
+        ensures group { IfOk result (λ r. group_of self.new.engine ≡ group_of self.old.engine) }
+        ensures spare { IfOk result (λ r. self.new.engine.spare ≡ self.old.engine.spare - 1) }
+        ensures past { let now = after (group_of self.old.engine) step (past self.old.engine) in
+            IfOk result (λ r. past self.new.engine ≡ now) }
+        ensures changed { let g = group_of self.old.engine in
+            let others = changed g (past self.old.engine) (past self.new.engine) in
+            let shown = links_at g (past self.new.engine) others in
+            IfOk result (λ r. links_of self.new.changed.items ≡ shown) }
+        ensures follows { IfOk result
+            (λ r. Follows self.new.engine self.new.cpus.items self.new.links.items) }
+    {
+        let reply = self.engine.step(step);
+        self.changed.clear();
+        let engine = self.engine.engine();
+        if !engine.has_placed() {
+            return Ok(reply);
+        }
+        read_again(engine, self.links.as_mut_slice(), &mut self.changed)?;
+        Ok(reply)
+    }
+}
