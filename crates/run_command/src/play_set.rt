@@ -13,7 +13,7 @@ use std::alloc::Global;
 use std::sync::Wait;
 use std::thread::Threads;
 use trace_lines::Version;
-use trace_text::{WriteStop, write_trace};
+use trace_writer::{WriteStop, write_trace};
 use trace_tools::{Bus, TraceTool};
 
 /// Reads a set, plays each processor's steps or turns in a thread of its own, and writes the trace of the histories that come

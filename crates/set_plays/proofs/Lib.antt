@@ -1,5 +1,5 @@
 pub mod Numbered
 pub mod CpuGroups
 pub mod GivenSteps
-pub mod OrderLaws
+pub mod ScriptLaws
 pub mod OneStep

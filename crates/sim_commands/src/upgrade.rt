@@ -22,9 +22,9 @@ use std::alloc::Global;
 use trace_check::{Verdict, check_trace};
 use trace_lines::Version;
 use trace_read::Trace;
-use trace_text::{WriteStop, write_shown_trace};
 use trace_tools::{Bus, TraceTool};
 use trace_upgrade::engines_of;
+use trace_writer::{WriteStop, write_shown_trace};
 
 /// Writes, in format 2, a trace that was read of the text of plays, and the count lines of a bus that was shown these.
 fn write_upgrade<T: TraceTool, K: Sink>(

@@ -33,15 +33,6 @@ use Rattle.trace_text.proofs.GroupLaws.{groups-counted, groups-few}
 abbrev pub texts : Known → List Line → List ℕ
 texts k ls = flat_map (line_text k) ls
 
--- the line of the next entry, and the lines after it
-pub entries_next : (k : Known) (g : Group) (i : ℕ) (p : Past) (es : List Entry) (d : Entry) → i < length es
-    → texts k (entry_lines g i p (drop i es))
-    ≡ line_text k (entry_line i (get_or es i d) (links_at g (after g (get_or es i d).step p) (changed g p (after g (get_or es i d).step p)))) ++ texts k (entry_lines g (i + 1) (after g (get_or es i d).step p) (drop (i + 1) es))
-unfolding entry_lines
-entries_next k g i p es d low =
-    let next : i + 1 ≡ suc i = omega arith in
-    rw (drop-cons es i d low, next) refl
-
 -- the lines of a past's requests, by their counts
 pub request_lines : (g : Group) (past : Past) → block_lines g past ≡ map request_line (tallies g past)
 unfolding block_lines
@@ -54,15 +45,6 @@ request_next k xs i d low = let next : i + 1 ≡ suc i = omega arith in rw (drop
 
 pub requests_end : (k : Known) (xs : List Seen) (i : ℕ) → length xs ≤ i → texts k (map request_line (tallies_of (drop i xs))) ≡ []
 requests_end k xs i h = rw (drop_end xs i h) refl
-
--- the same, with the links that a replay showed
-pub entry_next : (k : Known) (g g' : Group) (i : ℕ) (p p' : Past) (es : List Entry) (d : Entry) (shown : List Link) → i < length es → g' ≡ g → p' ≡ after g' (get_or es i d).step p → shown ≡ links_at g' p' (changed g' p p')
-    → texts k (entry_lines g i p (drop i es)) ≡ line_text k (entry_line i (get_or es i d) shown) ++ texts k (entry_lines g (i + 1) p' (drop (i + 1) es))
-entry_next k g g' i p p' es d shown low group_is past_is shown_is = rw (shown_is, past_is, group_is) (entries_next k g i p es d low)
-
-pub entries_end : (k : Known) (g : Group) (i : ℕ) (p : Past) (es : List Entry) → length es ≤ i → texts k (entry_lines g i p (drop i es)) ≡ []
-unfolding entry_lines
-entries_end k g i p es h = rw (drop_end es i h) refl
 
 pub past_none : (g : Group) → past_of g [] ≡ []
 unfolding past_of past_from
@@ -85,27 +67,8 @@ history_group p hs i d are low =
     let number_is : (get_or hs i d).group ≡ i = numbered (λ (h : GroupHistory). h.group) hs 0 i d are.in_order low ∙ omega arith in
     rw (setup_is, number_is) refl
 
-pub groups_next : (k : Known) (p : Parts) (hs : List GroupHistory) (i : ℕ) (d : GroupHistory) → AreGroupsOf p hs → i < length hs
-    → texts k (lines_from p i (histories (drop i hs))) ≡ texts k (group_lines (group_of (get_or hs i d)) (get_or hs i d).entries) ++ texts k (lines_from p (i + 1) (histories (drop (i + 1) hs)))
-groups_next k p hs i d are low =
-    let next : i + 1 ≡ suc i = omega arith in
-    rw (history_group p hs i d are low, drop-cons hs i d low, next) (flat_map-append (line_text k) (group_lines (record { setup = p; number = i }) (get_or hs i d).entries) (lines_from p (suc i) (histories (drop (suc i) hs))))
-
--- the same for an item of the list
-pub groups_next_item : (k : Known) (p : Parts) (hs : List GroupHistory) (i : ℕ) (h : GroupHistory) → AreGroupsOf p hs → i < length hs → h ≡ get_or hs i h
-    → texts k (lines_from p i (histories (drop i hs))) ≡ texts k (group_lines (group_of h) h.entries) ++ texts k (lines_from p (i + 1) (histories (drop (i + 1) hs)))
-groups_next_item k p hs i h are low e = groups_next k p hs i h are low ∙ ap (λ (x : GroupHistory). texts k (group_lines (group_of x) x.entries) ++ texts k (lines_from p (i + 1) (histories (drop (i + 1) hs)))) (sym e)
-
 pub item_number : (p : Parts) (hs : List GroupHistory) (i : ℕ) (h : GroupHistory) → AreGroupsOf p hs → i < length hs → h ≡ get_or hs i h → h.group ≡ i
 item_number p hs i h are low e = ap (λ (x : GroupHistory). x.group) e ∙ ap (λ (g : Group). g.number) (history_group p hs i h are low)
-
--- the first two lines, and the others
-pub trace_parts : (version : Version) (p : Parts) (hs : List GroupHistory) → trace_text version p (histories hs) ≡ head_text version p ++ texts (known_of version p) (lines_from p 0 (histories hs))
-unfolding trace_text
-trace_parts version p hs = refl
-
-pub groups_end : (k : Known) (p : Parts) (hs : List GroupHistory) (i : ℕ) → length hs ≤ i → texts k (lines_from p i (histories (drop i hs))) ≡ line_text k end_line
-groups_end k p hs i h = rw (drop_end hs i h) (append-nil (line_text k end_line))
 
 -- a valid set has few groups
 pub few_groups : (p : Parts) (hs : List GroupHistory) → AreGroupsOf p hs → IsValid p → length hs ≤ 64

@@ -31,43 +31,10 @@ pub shown-is : (h : GroupHistory) (group : GroupNo) (i : ℕ) (e : Entry) (ended
     → s ≡ record { group = group; no = i; entry = e; ended = ended_task ended; late = ended_late ended } → s ≡ shown_as (group_of h) i e (past h)
 shown-is h group i e ended s number_is ended_is is = rw (is, ended_is, number_is) refl
 
--- the next entry, by what is lent of an engine that has taken its step, and those after it
-pub shown-next : (g : Group) (old new lent : GroupHistory) (i : ℕ) (es : List Entry) (d : Entry) (before shown : List Seat) → i < length es → group_of old ≡ g → group_of new ≡ group_of old
-    → past new ≡ after (group_of old) (get_or es i d).step (past old) → lent ≡ new → shown ≡ map (seat_after (shown_as (group_of lent) i (get_or es i d) (past lent))) before
-    → seats_after (shown_entries g (i + 1) (past new) (drop (i + 1) es)) shown ≡ seats_after (shown_entries g i (past old) (drop i es)) before
-unfolding shown_entries
-shown-next g old new lent i es d before shown low same group_is past_is lent_is fed =
-    let next : i + 1 ≡ suc i = omega arith in
-    let number_is : new.group ≡ g.number = ap (λ (x : Group). x.number) (group_is ∙ same) in
-    rw (fed, lent_is, past_is, group_is, same, number_is, drop-cons es i d low, next) refl
-
-pub shown-end : (g : Group) (i : ℕ) (p : Past) (es : List Entry) (seats : List Seat) → length es ≤ i → seats_after (shown_entries g i p (drop i es)) seats ≡ seats
-unfolding shown_entries
-shown-end g i p es seats past_all = rw (drop_end es i past_all) refl
-
 -- lists of entries that are shown one after the other
 pub seats_after-append : (xs ys : List Shown) (seats : List Seat) → seats_after (xs ++ ys) seats ≡ seats_after ys (seats_after xs seats)
 seats_after-append [] ys seats = refl
 seats_after-append (x ∷ xs) ys seats = seats_after-append xs ys (map (seat_after x) seats)
-
--- the entries of the next group, and those of the groups after it
-pub shown-group : (p : Parts) (hs : List GroupHistory) (i : ℕ) (h : GroupHistory) (before after_it : List Seat) → AreGroupsOf p hs → i < length hs → h ≡ get_or hs i h
-    → after_it ≡ seats_after (shown_entries (group_of h) 0 [] h.entries) before
-    → seats_after (shown_from p (i + 1) (histories (drop (i + 1) hs))) after_it ≡ seats_after (shown_from p i (histories (drop i hs))) before
-shown-group p hs i h before after_it are low is fed =
-    let next : i + 1 ≡ suc i = omega arith in
-    let g : Group = record { setup = p; number = i } in
-    let group_is : group_of h ≡ g = ap group_of is ∙ history_group p hs i h are low in
-    let own : List Shown = shown_entries (group_of h) 0 [] h.entries in
-    let others : List Shown = shown_from p (i + 1) (histories (drop (suc i) hs)) in
-    let here : shown_from p i (histories (drop i hs)) ≡ shown_entries g 0 [] (get_or hs i h).entries ++ others = ap (λ (xs : List GroupHistory). shown_from p i (histories xs)) (drop-cons hs i h low) in
-    let same : shown_entries g 0 [] (get_or hs i h).entries ≡ own = ap (λ (x : GroupHistory). shown_entries g 0 [] x.entries) (sym is) ∙ ap (λ (x : Group). shown_entries x 0 [] h.entries) (sym group_is) in
-    ap (λ (n : ℕ). seats_after (shown_from p (i + 1) (histories (drop n hs))) after_it) next
-    ∙ ap (seats_after others) fed ∙ sym (seats_after-append own others before)
-    ∙ ap (λ (xs : List Shown). seats_after xs before) (sym (here ∙ ap (λ (xs : List Shown). xs ++ others) same))
-
-pub shown-all : (p : Parts) (hs : List GroupHistory) (i : ℕ) (seats : List Seat) → length hs ≤ i → seats_after (shown_from p i (histories (drop i hs))) seats ≡ seats
-shown-all p hs i seats past_all = rw (drop_end hs i past_all) refl
 
 -- ---- the count lines
 
@@ -87,4 +54,3 @@ counts-next k seats i text low is =
 pub counts-end : (k : Known) (seats : List Seat) (i : ℕ) → length seats ≤ i → texts k (map seat_line (drop i seats)) ≡ []
 counts-end k seats i past_all = rw (drop_end seats i past_all) refl
 
--- ---- the text of a bus, part by part: the head, the lines of the groups, and the count lines

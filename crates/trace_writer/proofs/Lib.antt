@@ -1,5 +1,6 @@
 pub mod CameLaws
 pub mod Replays
+pub mod Stepping
 pub mod GroupParts
 pub mod SummaryLaws
 pub mod BusText

@@ -47,19 +47,6 @@ pub on_ok : {E : Type 0} {P : Type 0} (r : Result (Unit {0}) E) → P → OnOk r
 on_ok (Ok u) p = p
 on_ok (Err e) p = tt
 
--- the first i of these entries' steps were taken again
-pub record Playing (old now : GroupHistory) (qs : List CpuNo) (links : List CpuLink) (es : List Entry) (i : ℕ) : Type 0 where
-  pub same_group : group_of now ≡ group_of old
-  pub room : length es ≤ now.spare + i
-  pub follows : Follows now qs links
-  pub past_is : past_from (group_of old) (past now) (drop i es) ≡ past_from (group_of old) (past old) es
-
-pub has_played : (old now : GroupHistory) (qs : List CpuNo) (links : List CpuLink) (es : List Entry) (i : ℕ) → length es ≤ i → Playing old now qs links es i → HasPlayed old now es
-has_played old now qs links es i all p = record {
-  group_is = p.same_group;
-  past_is = all_taken (group_of old) (past now) (past old) es i all p.past_is;
-}
-
 -- at opening there are no requests
 pub counts-open : (h : GroupHistory) (b : GroupRequests) (room : ℕ) (p : Parts) (n spare : ℕ) → IsValid p → h ≡ record { setup = p; group = n; entries = []; spare = spare }
     → b.setup ≡ p → b.group ≡ n → b.spare ≡ spare → IsAt b [] → length p.tasks ≤ room → Counts h b room
