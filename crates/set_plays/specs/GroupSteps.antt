@@ -6,20 +6,23 @@ use Rattle.rt_task.specs.declared.Step.{Step}
 use Rattle.rt_history.specs.declared.Entry.{Entry}
 use Rattle.rt_model.specs.Group.{Group}
 use Rattle.rt_model.specs.Steps.{IsStepOf}
-use Rattle.rt_plays.specs.Order.{history}
+use Rattle.rt_task.specs.declared.Drive.TheVariants.{Horizon}
+use Rattle.rt_plays.specs.Order.{history, rounds}
 use Rattle.rt_plays.specs.Plays.{group_count, group_with}
 use Rattle.rt_groups.specs.Groups.{AreStepsOf}
 use Rattle.set_plays.specs.declared.group_steps.GroupSteps.{GroupSteps}
-use Rattle.set_plays.specs.declared.group_steps.GroupSteps.TheVariants.{Given, Again}
+use Rattle.set_plays.specs.declared.group_steps.GroupSteps.TheVariants.{Given, Again, Turns}
 
 abbrev pub steps_of : Group → GroupSteps → List Step
 steps_of g (Given steps) = steps.now
 steps_of g (Again entries) = map (λ (e : Entry). e.step) entries.now
+steps_of g (Turns horizon) = rounds g horizon 0 []
 
 -- they are steps of the group, no more than a history has
 abbrev pub AreStepsIn : Group → GroupSteps → Type 0
 AreStepsIn g (Given steps) = All (IsStepOf g) steps.now × (length steps.now ≤ MOST_STEPS)
 AreStepsIn g (Again entries) = AreStepsOf g entries.now × (length entries.now ≤ MOST_STEPS)
+AreStepsIn g (Turns horizon) = g.setup.drive ≡ Horizon horizon
 
 -- steps for each group of the set, by rising number
 pub record AreGroupSteps (p : Parts) (xs : List GroupSteps) : Type 0 where

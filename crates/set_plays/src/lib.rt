@@ -7,7 +7,9 @@ mod group_steps;
 mod groups;
 mod scripts;
 mod steps_left;
+mod turns_left;
 
 pub use group_steps::GroupSteps;
 pub use scripts::Scripts;
 pub use steps_left::StepsLeft;
+pub use turns_left::TurnsLeft;

@@ -6,19 +6,21 @@ ghost use Rattle.rt_model.specs.Steps.{IsStepOf};
 ghost use Rattle.rt_groups.specs.Groups.{group_of, past};
 ghost use Rattle.set_plays.specs.StepsLeft.{AreOf, room_of, steps_left};
 
+use crate::TurnsLeft;
 use group_engine::Engine;
 use rt_history::Entry;
 use rt_task::{Setup, Step};
 
-/// The steps of a group that are left to be played: given ones, or those of a history that is played again.
+/// The steps of a group that are left to be played: given ones, those of a history, or turns.
 #[derive(Drop)]
 pub enum StepsLeft<'a> {
     Given(&'a [Step]),
     Again(&'a [Entry]),
+    Turns(TurnsLeft),
 }
 
 impl StepsLeft<'_> {
-    /// Room for the entries of all of them.
+    /// Room for the entries of all of them, where none was played yet.
     pub fn room(&self) -> u32
         requires { room_of self.now ≤ MOST_STEPS }
         ensures { result ≡ room_of self.now }
@@ -26,6 +28,7 @@ impl StepsLeft<'_> {
         match self {
             StepsLeft::Given(steps) => steps.len() as u32,
             StepsLeft::Again(entries) => entries.len() as u32,
+            StepsLeft::Turns(turns) => turns.room(),
         }
     }
 
@@ -51,6 +54,7 @@ impl StepsLeft<'_> {
                 *entries = rest;
                 Some(first.step)
             }
+            StepsLeft::Turns(turns) => turns.next(setup, engine),
         }
     }
 }

@@ -1,0 +1,57 @@
+-- The groups of a set, one after another: the lines of the next one, and what a bus is shown of it.
+use Rattle.std.proofs.Common.{◌≡◌, ℕ, suc, ◌+◌, ◌<◌, ◌≤◌, List, [], ◌∷◌, ◌++◌, length, map, drop, get_or, refl, sym, ap, ◌∙◌, arith, append-nil}
+use Rattle.std.proofs.lemmas.Grind.{flat_map-append}
+use Rattle.std.proofs.lemmas.List.{drop_all}
+use Rattle.std.proofs.Math.Seq.{drop-cons}
+use Rattle.rt_task.specs.declared.Parts.{Parts}
+use Rattle.rt_history.specs.declared.Entry.{Entry}
+use Rattle.rt_model.specs.Histories.{IsLegalFrom, after, reply_to}
+use Rattle.rt_model.specs.Group.{Group}
+use Rattle.rt_model.specs.Past.{Past}
+use Rattle.rt_plays.specs.Order.{history}
+use Rattle.rt_plays.specs.Plays.{group_with}
+use Rattle.set_plays.specs.declared.group_steps.GroupSteps.{GroupSteps}
+use Rattle.set_plays.specs.GroupSteps.{group_told, told_from}
+use Rattle.trace_lines.specs.Grammar.{line_text}
+use Rattle.trace_lines.specs.Known.{Known}
+use Rattle.trace_lines.specs.Lines.{end_line}
+use Rattle.trace_tools.specs.declared.shown.Shown.{Shown}
+use Rattle.trace_tools.specs.Seats.{Seat, seats_after}
+use Rattle.trace_text.specs.CountLines.{shown_entries, shown_from}
+use Rattle.trace_text.specs.TraceText.{group_lines, lines_from}
+use Rattle.trace_text.proofs.LineLaws.{texts}
+use Rattle.trace_text.proofs.ShownLaws.{seats_after-append}
+
+module _ (p : Parts) (xs : List GroupSteps) (i : ℕ) where
+  -- the history of the next group, and those behind it
+  pub told-next : (x : GroupSteps) → i < length xs → x ≡ get_or xs i x → told_from p i (drop i xs) ≡ group_told p i x ∷ told_from p (i + 1) (drop (i + 1) xs)
+  told-next x low is =
+      let next : suc i ≡ i + 1 = omega arith in
+      ap (told_from p i) (drop-cons xs i x low) ∙ ap (λ (y : GroupSteps). group_told p i y ∷ told_from p (i + 1) (drop (suc i) xs)) (sym is)
+      ∙ ap (λ n. group_told p i x ∷ told_from p (i + 1) (drop n xs)) next
+
+  pub groups-next : (k : Known) (x : GroupSteps) → i < length xs → x ≡ get_or xs i x
+      → texts k (lines_from p i (told_from p i (drop i xs))) ≡ texts k (group_lines (group_with p i) (group_told p i x)) ++ texts k (lines_from p (i + 1) (told_from p (i + 1) (drop (i + 1) xs)))
+  groups-next k x low is =
+      ap (λ (hs : List (List Entry)). texts k (lines_from p i hs)) (told-next x low is)
+      ∙ flat_map-append (line_text k) (group_lines (group_with p i) (group_told p i x)) (lines_from p (i + 1) (told_from p (i + 1) (drop (i + 1) xs)))
+
+  pub groups-end : (k : Known) → length xs ≤ i → texts k (lines_from p i (told_from p i (drop i xs))) ≡ line_text k end_line
+  groups-end k all = ap (λ (ys : List GroupSteps). texts k (lines_from p i (told_from p i ys))) (drop_all i xs all) ∙ append-nil (line_text k end_line)
+
+  pub shown-next : (x : GroupSteps) (before fed : List Seat) → i < length xs → x ≡ get_or xs i x → fed ≡ seats_after (shown_entries (group_with p i) 0 [] (group_told p i x)) before
+      → seats_after (shown_from p (i + 1) (told_from p (i + 1) (drop (i + 1) xs))) fed ≡ seats_after (shown_from p i (told_from p i (drop i xs))) before
+  shown-next x before fed low is shown =
+      let own : List Shown = shown_entries (group_with p i) 0 [] (group_told p i x) in
+      let others : List Shown = shown_from p (i + 1) (told_from p (i + 1) (drop (i + 1) xs)) in
+      ap (seats_after others) shown ∙ sym (seats_after-append own others before)
+      ∙ sym (ap (λ (hs : List (List Entry)). seats_after (shown_from p i hs) before) (told-next x low is))
+
+  pub shown-end : (seats : List Seat) → length xs ≤ i → seats_after (shown_from p i (told_from p i (drop i xs))) seats ≡ seats
+  shown-end seats all = ap (λ (ys : List GroupSteps). seats_after (shown_from p i (told_from p i ys)) seats) (drop_all i xs all)
+
+-- a legal history is that of its steps
+pub legal-told : (g : Group) (was : Past) (es : List Entry) → IsLegalFrom g was es → history g was (map (λ (e : Entry). e.step) es) ≡ es
+unfolding history
+legal-told g was [] legal = refl
+legal-told g was (e ∷ es) legal = rw (sym legal.0, legal-told g (after g e.step was) es legal.1) refl
