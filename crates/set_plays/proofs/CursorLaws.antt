@@ -1,5 +1,6 @@
 -- What is left of the turns: its first step and what is left then, and what is left where a turn is over.
-use Rattle.std.proofs.Common.{◌≡◌, ℕ, zero, suc, Bool, true, false, if◌then◌else◌, subst, ◌+◌, ◌-◌, ◌<◌, ◌≤◌, List, [], ◌∷◌, ◌++◌, drop, drop-cons, length, refl, sym, ap, ◌∙◌, add-one, arith}
+use Rattle.std.proofs.Common.{◌≡◌, ℕ, zero, suc, ◌+◌, ◌-◌, ◌<◌, ◌≤◌, Bool, true, false, if◌then◌else◌, refl, sym, ap, ◌∙◌, subst, arith}
+use Rattle.std.proofs.Common.{List, [], ◌∷◌, ◌++◌, drop, drop-cons, length, add-one}
 use Rattle.std.proofs.lemmas.List.{drop_all}
 use Rattle.std.proofs.lemmas.Bool.{eqb-true}
 use Rattle.std.specs.Prelude.{Option, None, Some, IfSome, MatchOption, ◌==◌, slice_index}
@@ -20,7 +21,8 @@ use Rattle.rt_plays.specs.Homes.{IsProcessorOf}
 use Rattle.rt_plays.specs.NextSteps.{step_at}
 use Rattle.rt_plays.specs.Order.{acts_played, round, rounds}
 use Rattle.body_play.proofs.ValidBodies.{next-fits}
-use Rattle.set_plays.specs.TurnsLeft.{TurnsAhead, AreTurnsOf, GoesOnBy, IsTurnOver, cpu_of, turn_left, round_left, rounds_left, turns_left, with_step, next_turn}
+use Rattle.set_plays.specs.TurnsLeft.{turn_left, round_left, rounds_left, turns_left, with_step, next_in_round, next_round, next_turn}
+use Rattle.set_plays.specs.TurnsLeft.{TurnsAhead, cpu_of, AreTurnsOf, GoesOnBy, IsTurnOver}
 use Rattle.set_plays.proofs.TurnLaws.{acts-none, acts-some, acts-zero, turn-lem}
 
 -- ---- the turn under way
@@ -42,8 +44,8 @@ acts-left g q t (suc (suc n)) was two =
     let left : 16 - n ≡ 18 - suc (suc n) = omega arith in
     ap (λ k. acts_played g k q t was) left
 
-pub goes-on-act : (g : Group) (c : TurnsAhead) (was : Past) (act : Act) → 2 ≤ c.done → c.done < 18 → next_act g (situation g (cpu_of c) was) ≡ Some act
-    → GoesOnBy g c was act
+pub goes-on-act : (g : Group) (c : TurnsAhead) (was : Past) (act : Act) → 2 ≤ c.done → c.done < 18
+    → next_act g (situation g (cpu_of c) was) ≡ Some act → GoesOnBy g c was act
 goes-on-act g c was act two low next =
     let q : ℕ = cpu_of c in
     let one : 18 - c.done ≡ suc (18 - (c.done + 1)) = omega arith in
@@ -59,20 +61,24 @@ over-none g c was two none = acts-left g (cpu_of c) c.tick c.done was two ∙ ac
 pub over-full : (g : Group) (c : TurnsAhead) (was : Past) → 18 ≤ c.done → IsTurnOver g c was
 over-full g c was full =
     let zero_left : 18 - c.done ≡ 0 = omega arith in
-    acts-left g (cpu_of c) c.tick c.done was (omega arith) ∙ ap (λ k. acts_played g k (cpu_of c) c.tick was) zero_left ∙ acts-zero g (cpu_of c) c.tick was
+    acts-left g (cpu_of c) c.tick c.done was (omega arith)
+    ∙ ap (λ k. acts_played g k (cpu_of c) c.tick was) zero_left
+    ∙ acts-zero g (cpu_of c) c.tick was
 
 -- ---- rounds
 
 module _ (g : Group) where
   rounds_left-step : (q : ℕ) (qs : List ℕ) (n t done : ℕ) (was : Past) (act : Act)
       → turn_left g q t done was ≡ step_at q t act ∷ turn_left g q t (done + 1) (after g (step_at q t act) was)
-      → rounds_left g (q ∷ qs) (suc n) t done was ≡ step_at q t act ∷ rounds_left g (q ∷ qs) (suc n) t (done + 1) (after g (step_at q t act) was)
+      → rounds_left g (q ∷ qs) (suc n) t done was
+      ≡ step_at q t act ∷ rounds_left g (q ∷ qs) (suc n) t (done + 1) (after g (step_at q t act) was)
   unfolding round_left rounds_left past_by
   rounds_left-step q qs n t done was act next =
       let in_round : List Step → List Step = λ steps. steps ++ round g qs t (past_by g was steps) in
       ap (λ (steps : List Step). in_round steps ++ rounds g n (suc t) (past_by g was (in_round steps))) next
 
-  round_left-over : (q : ℕ) (qs : List ℕ) (t done : ℕ) (was : Past) → turn_left g q t done was ≡ [] → round_left g (q ∷ qs) t done was ≡ round g qs t was
+  round_left-over : (q : ℕ) (qs : List ℕ) (t done : ℕ) (was : Past) → turn_left g q t done was ≡ []
+      → round_left g (q ∷ qs) t done was ≡ round g qs t was
   unfolding round_left past_by
   round_left-over q qs t done was over = ap (λ (steps : List Step). steps ++ round g qs t (past_by g was steps)) over
 
@@ -85,7 +91,8 @@ module _ (g : Group) where
       → rounds_left g (q ∷ qs) (suc n) t done was ≡ rounds_left g qs (suc n) t 0 was
   unfolding rounds_left
   rounds_left-over q qs n t done was over =
-      ap (λ (steps : List Step). steps ++ rounds g n (suc t) (past_by g was steps)) (round_left-over q qs t done was over ∙ sym (round_left-all qs t was))
+      ap (λ (steps : List Step). steps ++ rounds g n (suc t) (past_by g was steps))
+      (round_left-over q qs t done was over ∙ sym (round_left-all qs t was))
 
   rounds_left-all : (n t : ℕ) (was : Past) → rounds_left g (group_processors g) n t 0 was ≡ rounds g n t was
   unfolding rounds_left rounds
@@ -121,7 +128,8 @@ module _ (g : Group) (c : TurnsAhead) (was : Past) (before : c.tick < c.horizon)
   rest = c.horizon - (c.tick + 1)
 
   -- the processors that have not ended their turn begin with the one whose turn is under way
-  turns_left-now : (done : ℕ) (later : Past) → turns_left g (record c { done = done }) later ≡ rounds_left g (cpu_of c ∷ behind) (suc rest) c.tick done later
+  turns_left-now : (done : ℕ) (later : Past)
+      → turns_left g (record c { done = done }) later ≡ rounds_left g (cpu_of c ∷ behind) (suc rest) c.tick done later
   unfolding turns_left behind rest
   turns_left-now done later =
       let here : drop c.place c.cpus ≡ cpu_of c ∷ drop (c.place + 1) c.cpus = rw add-one (drop-cons c.cpus c.place 0 there) in
@@ -138,16 +146,16 @@ module _ (g : Group) (c : TurnsAhead) (was : Past) (before : c.tick < c.horizon)
       ∙ ap (λ (steps : List Step). s ∷ steps) (sym (turns_left-now (c.done + 1) (after g s was)))
 
   -- where the turn under way is over, all that is left is from the turn behind it on
-  turns_left-same_round : IsTurnOver g c was → turns_left g c was ≡ turns_left g (record c { place = c.place + 1; done = 0 }) was
+  turns_left-next_in_round : IsTurnOver g c was → turns_left g c was ≡ turns_left g (next_in_round c) was
   unfolding turns_left behind rest
-  turns_left-same_round over =
+  turns_left-next_in_round over =
       let one : suc (c.horizon - (c.tick + 1)) ≡ c.horizon - c.tick = omega arith in
       turns_left-now c.done was
       ∙ rounds_left-over g (cpu_of c) behind rest c.tick c.done was over
       ∙ ap (λ n. rounds_left g (drop (c.place + 1) c.cpus) n c.tick 0 was) one
 
   turns_left-next_round : c.cpus ≡ group_processors g → c.place + 1 ≡ length c.cpus → IsTurnOver g c was
-      → turns_left g c was ≡ turns_left g (record c { tick = c.tick + 1; place = 0; done = 0 }) was
+      → turns_left g c was ≡ turns_left g (next_round c) was
   unfolding turns_left behind rest
   turns_left-next_round cpus last over =
       let n : ℕ = c.horizon - (c.tick + 1) in
@@ -165,9 +173,9 @@ module _ (g : Group) (c : TurnsAhead) (was : Past) (before : c.tick < c.horizon)
   turns_left-over cpus over = by_case (c.place + 1 == length c.cpus) refl
     where
       by_case : (b : Bool) → (c.place + 1 == length c.cpus) ≡ b
-          → turns_left g c was ≡ turns_left g (if b then record c { tick = c.tick + 1; place = 0; done = 0 } else record c { place = c.place + 1; done = 0 }) was
+          → turns_left g c was ≡ turns_left g (if b then next_round c else next_in_round c) was
       by_case true last = turns_left-next_round cpus (eqb-true (c.place + 1) (length c.cpus) last) over
-      by_case false more = turns_left-same_round over
+      by_case false more = turns_left-next_in_round over
 
 -- ---- the steps are of the group
 
@@ -179,14 +187,17 @@ listed (q ∷ qs) (suc k) low = rw (listed qs k (omega arith)) (or_true (slice_i
 pub processor-of : (g : Group) (c : TurnsAhead) → AreTurnsOf g c → IsProcessorOf g (cpu_of c)
 processor-of g c turns = subst (λ (ns : List ℕ). has (cpu_of c) ns ≡ true) turns.processors (listed c.cpus c.place turns.place)
 
-pub step-of : (g : Group) (c : TurnsAhead) (act : Act) → AreTurnsOf g c → c.tick < c.horizon → IsActOf g act → IsStepOf g (step_at (cpu_of c) c.tick act)
-step-of g c act turns before fits = record { processor = processor-of g c turns; tick = let most = turns.horizon in omega arith; act = fits }
+pub step-of : (g : Group) (c : TurnsAhead) (act : Act) → AreTurnsOf g c → c.tick < c.horizon → IsActOf g act
+    → IsStepOf g (step_at (cpu_of c) c.tick act)
+step-of g c act turns before fits =
+    let most = turns.horizon in
+    record { processor = processor-of g c turns; tick = omega arith; act = fits }
 
 -- ---- what is told of an act that may be none
 
 -- what a processor is asked for is how its turn goes on, or that it is over
-pub told-left : (g : Group) (c : TurnsAhead) (was : Past) (o : Option Act) → 2 ≤ c.done → c.done < 18 → o ≡ next_act g (situation g (cpu_of c) was)
-    → MatchOption o (IsTurnOver g c was) (GoesOnBy g c was)
+pub told-left : (g : Group) (c : TurnsAhead) (was : Past) (o : Option Act) → 2 ≤ c.done → c.done < 18
+    → o ≡ next_act g (situation g (cpu_of c) was) → MatchOption o (IsTurnOver g c was) (GoesOnBy g c was)
 told-left g c was None two low told = over-none g c was two (sym told)
 told-left g c was (Some act) two low told = goes-on-act g c was act two low (sym told)
 

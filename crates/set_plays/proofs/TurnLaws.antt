@@ -21,15 +21,15 @@ pub acts-some : (g : Group) (q n t : ℕ) (was : Past) (act : Act) → next_act 
     → acts_played g (suc n) q t was ≡ step_at q t act ∷ acts_played g n q t (after g (step_at q t act) was)
 unfolding acts_played
 acts-some g q n t was act e =
-    ap (λ (o : Option Act). elim o as (λ _. List Step) [ None ↦ [] | Some a ↦ step_at q t a ∷ acts_played g n q t (after g (step_at q t a) was) ])
-    e
+    let played : Act → List Step = λ a. step_at q t a ∷ acts_played g n q t (after g (step_at q t a) was) in
+    ap (λ (o : Option Act). elim o as (λ _. List Step) [ None ↦ [] | Some a ↦ played a ]) e
 
 pub acts-none : (g : Group) (q n t : ℕ) (was : Past) → next_act g (situation g q was) ≡ None → acts_played g n q t was ≡ []
 unfolding acts_played
 acts-none g q zero t was e = refl
 acts-none g q (suc n) t was e =
-    ap (λ (o : Option Act). elim o as (λ _. List Step) [ None ↦ [] | Some a ↦ step_at q t a ∷ acts_played g n q t (after g (step_at q t a) was) ])
-    e
+    let played : Act → List Step = λ a. step_at q t a ∷ acts_played g n q t (after g (step_at q t a) was) in
+    ap (λ (o : Option Act). elim o as (λ _. List Step) [ None ↦ [] | Some a ↦ played a ]) e
 
 pub acts-zero : (g : Group) (q t : ℕ) (was : Past) → acts_played g 0 q t was ≡ []
 unfolding acts_played
@@ -44,11 +44,13 @@ asked p h q s o of_setup told answer =
 -- ---- turns and rounds
 
 pub turn-lem : (g : Group) (q t : ℕ) (was : Past)
-    → turn g q t was ≡ step_at q t acts.Tick ∷ step_at q t acts.Irq ∷ acts_played g 16 q t (after g (step_at q t acts.Irq) (after g (step_at q t acts.Tick) was))
+    → let begun : Past = after g (step_at q t acts.Irq) (after g (step_at q t acts.Tick) was) in
+    turn g q t was ≡ step_at q t acts.Tick ∷ step_at q t acts.Irq ∷ acts_played g 16 q t begun
 unfolding turn past_by
 turn-lem g q t was = refl
 
-round-cons : (g : Group) (q : ℕ) (qs : List ℕ) (t : ℕ) (was : Past) → round g (q ∷ qs) t was ≡ turn g q t was ++ round g qs t (past_by g was (turn g q t was))
+round-cons : (g : Group) (q : ℕ) (qs : List ℕ) (t : ℕ) (was : Past)
+    → round g (q ∷ qs) t was ≡ turn g q t was ++ round g qs t (past_by g was (turn g q t was))
 unfolding round
 round-cons g q qs t was = refl
 
@@ -73,7 +75,8 @@ acts-few g zero q t was = omega arith
 acts-few g (suc n) q t was = by_case (next_act g (situation g q was)) (λ act. acts-few g n q t (after g (step_at q t act) was))
   where
     by_case : (o : Option Act) → ((act : Act) → length (acts_played g n q t (after g (step_at q t act) was)) ≤ n)
-        → length (elim o as (λ _. List Step) [ None ↦ [] | Some act ↦ step_at q t act ∷ acts_played g n q t (after g (step_at q t act) was) ]) ≤ suc n
+        → let played : Act → List Step = λ act. step_at q t act ∷ acts_played g n q t (after g (step_at q t act) was) in
+        length (elim o as (λ _. List Step) [ None ↦ [] | Some act ↦ played act ]) ≤ suc n
     by_case None few = omega arith
     by_case (Some act) few = let h = few act in omega arith
 
@@ -99,5 +102,6 @@ length-rounds g (suc n) t was =
     let steps : List Step = round g (group_processors g) t was in
     let rest = length-rounds g n (suc t) (past_by g was steps) in
     let one = round-few g (group_processors g) t was in
-    let all : suc n * length (group_processors g) * 18 ≡ length (group_processors g) * 18 + n * length (group_processors g) * 18 = omega arith in
+    let cpus : ℕ = length (group_processors g) in
+    let all : suc n * cpus * 18 ≡ cpus * 18 + n * cpus * 18 = omega arith in
     rw (rounds-more g n t was) (omega (arith, length-append steps (rounds g n (suc t) (past_by g was steps)), one, rest, all))

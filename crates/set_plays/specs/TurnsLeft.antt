@@ -71,8 +71,13 @@ module _ (g : Group) where
 abbrev pub with_step : TurnsAhead → TurnsAhead
 with_step c = record c { done = c.done + 1 }
 
--- the turn behind the one under way: that of the next processor, or of the first one in the next round
+-- the turn of the next processor in this round, and that of the first one in the next
+abbrev pub next_in_round : TurnsAhead → TurnsAhead
+next_in_round c = record c { place = c.place + 1; done = 0 }
+
+abbrev pub next_round : TurnsAhead → TurnsAhead
+next_round c = record c { tick = c.tick + 1; place = 0; done = 0 }
+
+-- the turn behind the one under way
 abbrev pub next_turn : TurnsAhead → TurnsAhead
-next_turn c =
-    if c.place + 1 == length c.cpus then record c { tick = c.tick + 1; place = 0; done = 0 }
-    else record c { place = c.place + 1; done = 0 }
+next_turn c = if c.place + 1 == length c.cpus then next_round c else next_in_round c

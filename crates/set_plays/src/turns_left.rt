@@ -16,9 +16,9 @@ use rt_base::{CpuNo, MOST_TURN_STEPS, Tick};
 use rt_task::{Act, Setup, Step};
 use std::marker::Model;
 
-/// The turns of a group's processors that are left to be played, in the order of one thread: each processor plays its turn
-/// whole, a Tick, an Irq and then its next acts, as long as there is one and at most as many as a turn has; when all have,
-/// each plays its next.
+/// The turns of a group's processors that are left to be played, in the order of one thread: each processor plays its
+/// turn whole, a Tick, an Irq and then its next acts, as long as there is one and at most as many as a turn has; when all
+/// have, each plays its next.
 #[derive(Drop)]
 pub struct TurnsLeft {
     horizon: u64,
@@ -155,8 +155,8 @@ impl TurnsLeft {
         }
     }
 
-    /// The next step, where the engine is at the history of those before; none where all turns were played. It takes a constant
-    /// time, and no memory.
+    /// The next step, where the engine is at the history of those before; none where all turns were played. It takes a
+    /// constant time, and no memory.
     pub fn next(&mut self, setup: &Setup, engine: &Engine) -> Option<Step>
         requires setup { engine.now.setup ≡ setup.now }
         requires turns { AreTurnsOf (group_of engine.now) self.old }

@@ -1,5 +1,5 @@
 -- The answers of `sim`, by how its reading and its writing ended.
-use Rattle.std.proofs.Common.{◌≡◌, ◌∙◌, List, map, ap, subst, inl, inr}
+use Rattle.std.proofs.Common.{◌≡◌, List, map, ap, subst, inl, inr}
 use Rattle.std.specs.Prelude.{◌⊎◌, ℕ, Result, Err}
 use Rattle.rt_base.specs.declared.TheConstants.{MOST_SET_BYTES}
 use Rattle.rt_task.specs.declared.Parts.{Parts}
@@ -11,7 +11,7 @@ use Rattle.rt_fault.specs.declared.status.Status.TheVariants as ends
 use Rattle.set_input.specs.Ends.{Reading, Writing}
 use Rattle.rt_plays.specs.Order.{histories}
 use Rattle.trace_lines.specs.declared.format.Version.TheVariants.{Two}
-use Rattle.trace_text.specs.CountLines.{bus_text, counted_text}
+use Rattle.trace_text.specs.CountLines.{bus_text}
 use Rattle.trace_tools.specs.Seats.{Seat, seat_of}
 use Rattle.trace_tools.specs.Tools.{Tool}
 use Rattle.trace_writer.proofs.BusText.{text-of_tools}

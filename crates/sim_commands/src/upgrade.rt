@@ -1,5 +1,5 @@
 //! The command `upgrade`: from the bytes of a trace to the text in format 2 of its set and histories, with count lines.
-ghost use Rattle.std.specs.Prelude.{◌≡◌, ◌≢◌, ℕ, List, map, true};
+ghost use Rattle.std.specs.Prelude.{◌≡◌, ◌≢◌, ℕ, List, map};
 ghost use Rattle.rt_task.specs.Validity.{IsValid};
 ghost use Rattle.rt_history.specs.declared.Entry.{Entry};
 ghost use Rattle.rt_fault.specs.Faults.{HasRisen};

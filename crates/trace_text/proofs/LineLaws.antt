@@ -1,32 +1,24 @@
 -- The lines of a group, part by part as they are written.
-use Rattle.std.proofs.Common.{◌≡◌, ℕ, zero, suc, ◌+◌, ◌<◌, ◌≤◌, List, [], ◌∷◌, ◌++◌, length, map, drop, get_or, refl, sym, ap, subst, ◌∙◌, arith, append-nil}
+use Rattle.std.proofs.Common.{◌≡◌, ℕ, zero, suc, ◌+◌, ◌<◌, ◌≤◌, List, [], ◌∷◌, ◌++◌, length, map, drop, get_or, refl, sym, ap, ◌∙◌, arith}
 use Rattle.std.specs.Prelude.{flat_map}
-use Rattle.std.proofs.lemmas.Grind.{flat_map-append}
 use Rattle.std.proofs.lemmas.Simd.{map-map}
 use Rattle.std.proofs.Math.Seq.{drop-cons}
 use Rattle.rt_task.specs.declared.Parts.{Parts}
-use Rattle.rt_history.specs.declared.Entry.{Entry}
-use Rattle.rt_fault.specs.Held.{Held}
-use Rattle.rt_base.specs.declared.CpuNo.{CpuNo}
 use Rattle.rt_rules.specs.Numbers.{numbers_from, rest}
 use Rattle.rt_task.specs.Validity.{IsValid}
 use Rattle.rt_model.specs.Blocking.{requests}
-use Rattle.rt_model.specs.Group.{Group, group_processors}
-use Rattle.rt_model.specs.Histories.{after, changed, past_from, past_of}
+use Rattle.rt_model.specs.Group.{Group}
+use Rattle.rt_model.specs.Histories.{after, past_from, past_of}
 use Rattle.rt_model.specs.Past.{Past}
 use Rattle.rt_groups.specs.Groups.{GroupHistory, group_of, past}
 use Rattle.count_laws.specs.Tallies.{tallies, tally}
 use Rattle.block_counts.specs.declared.seen.Seen.{Seen}
 use Rattle.block_counts.specs.SeenWords.{tallies_of, tally_of}
-use Rattle.trace_lines.specs.Lines.{Link, Line, links_of, group_line, entry_line, end_line}
-use Rattle.trace_lines.specs.declared.links.CpuLink.{CpuLink}
+use Rattle.trace_lines.specs.Lines.{Line}
 use Rattle.trace_lines.specs.Grammar.{line_text}
-use Rattle.trace_lines.specs.declared.format.Version.{Version}
-use Rattle.trace_lines.specs.Known.{Known, known_of}
-use Rattle.trace_text.specs.TraceText.{links_at, entry_lines, block_lines, group_lines, lines_from, trace_text, head_text}
-use Rattle.trace_text.specs.Groups.{AreGroupsOf, histories, request_line}
-use Rattle.trace_writer.specs.Replays.{Follows, HasPlayed}
-use Rattle.trace_writer.proofs.CameLaws.{Coming, coming-start}
+use Rattle.trace_lines.specs.Known.{Known}
+use Rattle.trace_text.specs.TraceText.{block_lines}
+use Rattle.trace_text.specs.Groups.{AreGroupsOf, request_line}
 use Rattle.trace_text.proofs.ReplayLaws.{drop_end}
 use Rattle.trace_text.proofs.GroupLaws.{groups-counted, groups-few}
 

@@ -1,27 +1,18 @@
 -- What a bus was shown of the entries so far, and the lines that it gives.
-use Rattle.std.proofs.Common.{◌≡◌, ℕ, zero, suc, ◌+◌, ◌<◌, ◌≤◌, List, [], ◌∷◌, ◌++◌, length, map, drop, get_or, refl, sym, ap, subst, ◌∙◌, arith, append_assoc}
+use Rattle.std.proofs.Common.{◌≡◌, ℕ, zero, suc, ◌+◌, ◌<◌, ◌≤◌, List, [], ◌∷◌, ◌++◌, length, map, drop, refl, sym, ap, ◌∙◌, arith}
 use Rattle.std.specs.Prelude.{Bool, IfSome, Option, slice_get}
-use Rattle.std.proofs.Math.Seq.{drop-cons}
 use Rattle.rt_base.specs.declared.GroupNo.{GroupNo}
 use Rattle.rt_base.specs.declared.TaskNo.{TaskNo}
-use Rattle.rt_task.specs.declared.Parts.{Parts}
 use Rattle.rt_history.specs.declared.Entry.{Entry}
-use Rattle.rt_model.specs.Group.{Group}
 use Rattle.rt_model.specs.Histories.{after}
-use Rattle.rt_model.specs.Past.{Past}
 use Rattle.rt_groups.specs.Endings.{ended_last}
 use Rattle.rt_groups.specs.Groups.{GroupHistory, group_of, past}
-use Rattle.rt_fault.specs.Held.{Held}
-use Rattle.trace_lines.specs.declared.format.Version.{Version}
 use Rattle.trace_lines.specs.Grammar.{line_text}
-use Rattle.trace_lines.specs.Known.{Known, known_of}
+use Rattle.trace_lines.specs.Known.{Known}
 use Rattle.trace_tools.specs.declared.shown.Shown.{Shown}
 use Rattle.trace_tools.specs.Seats.{Seat, seat_after, seat_line, seats_after}
-use Rattle.trace_text.specs.CountLines.{bus_lines, bus_text, ended_late, ended_task, shown_as, shown_entries, shown_from}
-use Rattle.trace_text.specs.Groups.{AreGroupsOf, histories}
-use Rattle.trace_text.specs.TraceText.{head_text, lines_from}
-use Rattle.trace_writer.proofs.CameLaws.{Coming, coming-start}
-use Rattle.trace_text.proofs.LineLaws.{history_group, texts, trace_parts}
+use Rattle.trace_text.specs.CountLines.{ended_late, ended_task, shown_as}
+use Rattle.trace_text.proofs.LineLaws.{texts}
 use Rattle.trace_text.proofs.ReplayLaws.{drop_end}
 
 -- ---- the entries that are shown

@@ -1,18 +1,13 @@
 -- The groups of a setup, each with its history.
-use Rattle.std.specs.Prelude.{◌≡◌, ℕ, ◌<◌, ◌≤◌, List, [], ◌∷◌, length, map, All, if◌then◌else◌}
+use Rattle.std.specs.Prelude.{◌≡◌, ℕ, ◌<◌, List, [], ◌∷◌, length, map, All, if◌then◌else◌}
 use Rattle.rt_base.specs.declared.CpuNo.{CpuNo}
 use Rattle.rt_task.specs.declared.Parts.{Parts}
-use Rattle.rt_task.specs.Validity.{IsValid}
 use Rattle.rt_history.specs.declared.Entry.{Entry}
 use Rattle.rt_rules.specs.Numbers.{numbers_from, same}
-use Rattle.rt_model.specs.Group.{group_processors}
-use Rattle.rt_model.specs.Histories.{past_from}
-use Rattle.rt_groups.specs.Groups.{GroupHistory, IsGroupOf, group_of, past}
+use Rattle.rt_groups.specs.Groups.{GroupHistory, IsGroupOf}
 use Rattle.count_laws.specs.Tallies.{Tally}
-use Rattle.block_counts.specs.GroupRequests.{GroupRequests, IsAt}
 use Rattle.trace_lines.specs.declared.links.CpuLink.{CpuLink}
-use Rattle.trace_lines.specs.Lines.{Line, Link, block_line, links_of}
-use Rattle.trace_text.specs.TraceText.{links_at}
+use Rattle.trace_lines.specs.Lines.{Line, Link, block_line}
 
 abbrev pub histories : List GroupHistory → List (List Entry)
 histories hs = map (λ (h : GroupHistory). h.entries) hs

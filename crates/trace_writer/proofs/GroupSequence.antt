@@ -5,7 +5,7 @@ use Rattle.std.proofs.lemmas.List.{drop_all}
 use Rattle.std.proofs.Math.Seq.{drop-cons}
 use Rattle.rt_task.specs.declared.Parts.{Parts}
 use Rattle.rt_history.specs.declared.Entry.{Entry}
-use Rattle.rt_model.specs.Histories.{IsLegalFrom, after, reply_to}
+use Rattle.rt_model.specs.Histories.{IsLegalFrom, after}
 use Rattle.rt_model.specs.Group.{Group}
 use Rattle.rt_model.specs.Past.{Past}
 use Rattle.rt_plays.specs.Order.{history}

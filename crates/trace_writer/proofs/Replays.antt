@@ -1,8 +1,6 @@
 -- An engine that takes steps, with the links of its processors and the requests.
-use Rattle.std.proofs.Common.{◌≡◌, ℕ, zero, suc, ◌+◌, ◌<◌, ◌≤◌, ◌==◌, Bool, true, false, not, List, [], ◌∷◌, length, map, drop, get_or, refl, sym, ap, ◌∙◌, subst, arith}
-use Rattle.std.specs.Prelude.{All, filter, if◌then◌else◌, Option, Result, Ok, Err, OnOk}
-use Rattle.std.proofs.lemmas.List.{get_or-drop, length-map}
-use Rattle.std.proofs.Math.Seq.{drop-cons}
+use Rattle.std.proofs.Common.{◌≡◌, ℕ, ◌+◌, ◌≤◌, List, [], length, refl, sym, ap, ◌∙◌, subst, arith}
+use Rattle.std.specs.Prelude.{Option, Result, Ok, Err, OnOk}
 use Rattle.rt_base.specs.declared.CpuNo.{CpuNo}
 use Rattle.rt_task.specs.declared.Parts.{Parts}
 use Rattle.rt_task.specs.declared.Step.{Step}
@@ -10,16 +8,12 @@ use Rattle.rt_task.specs.Validity.{IsValid}
 use Rattle.rt_history.specs.declared.Entry.{Entry}
 use Rattle.rt_history.specs.declared.Reply.{Reply}
 use Rattle.rt_rules.specs.Numbers.{has, same}
-use Rattle.rt_rules.proofs.BoolLaws.{or_true}
-use Rattle.rt_rules.proofs.MemberLaws.{equal_self}
 use Rattle.rt_rules.specs.SemState.{Frees}
 use Rattle.rt_model.specs.Group.{Group, group_processors}
-use Rattle.rt_model.specs.Histories.{after, changed, clock_moved, past_from, past_of, reply_to}
-use Rattle.rt_model.specs.Links.{linked}
+use Rattle.rt_model.specs.Histories.{after, clock_moved, past_from, past_of, reply_to}
 use Rattle.rt_model.specs.Past.{Past}
 use Rattle.rt_model.specs.Runs.{runs}
 use Rattle.rt_model.proofs.Steps.{past_of-append, runs-clock}
-use Rattle.rt_plays.specs.Homes.{IsProcessorOf}
 use Rattle.rt_groups.specs.Groups.{GroupHistory, group_of, past, with_entry}
 use Rattle.count_laws.specs.CountLaws.{act_of}
 use Rattle.count_laws.specs.Tallies.{AreWaiters, Waiter}
@@ -27,10 +21,10 @@ use Rattle.block_counts.specs.GroupRequests.{GroupRequests, IsAt, IsBetween, gro
 use Rattle.group_engine.specs.Words.{AreListed, AreWaitersAt}
 use Rattle.group_engine.specs.Moments.{between}
 use Rattle.trace_lines.specs.declared.links.CpuLink.{CpuLink}
-use Rattle.trace_lines.specs.Lines.{Link, link_of, links_of}
+use Rattle.trace_lines.specs.Lines.{links_of}
 use Rattle.trace_text.specs.TraceText.{links_at}
-use Rattle.trace_writer.specs.Replays.{Counts, Follows, HasPlayed}
-use Rattle.trace_text.specs.Groups.{changed_links, cpu_numbers, cpus_in}
+use Rattle.trace_writer.specs.Replays.{Counts, Follows}
+use Rattle.trace_text.specs.Groups.{cpu_numbers, cpus_in}
 
 -- the processors are the same after an entry more, and these are their links then
 pub follows-next : (h h' : GroupHistory) (e : Entry) (qs : List CpuNo) (links : List CpuLink) → h' ≡ with_entry e h → cpu_numbers qs ≡ group_processors (group_of h)

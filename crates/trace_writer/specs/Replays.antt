@@ -1,17 +1,14 @@
 -- An engine that takes the steps of a group, with the links of its processors and its requests.
-use Rattle.std.specs.Prelude.{◌≡◌, ℕ, ◌<◌, ◌≤◌, List, [], ◌∷◌, length, map, All, if◌then◌else◌}
+use Rattle.std.specs.Prelude.{◌≡◌, ℕ, ◌≤◌, List, length}
 use Rattle.rt_base.specs.declared.CpuNo.{CpuNo}
-use Rattle.rt_task.specs.declared.Parts.{Parts}
 use Rattle.rt_task.specs.Validity.{IsValid}
 use Rattle.rt_history.specs.declared.Entry.{Entry}
-use Rattle.rt_rules.specs.Numbers.{numbers_from, same}
 use Rattle.rt_model.specs.Group.{group_processors}
 use Rattle.rt_model.specs.Histories.{past_from}
-use Rattle.rt_groups.specs.Groups.{GroupHistory, IsGroupOf, group_of, past}
-use Rattle.count_laws.specs.Tallies.{Tally}
+use Rattle.rt_groups.specs.Groups.{GroupHistory, group_of, past}
 use Rattle.block_counts.specs.GroupRequests.{GroupRequests, IsAt}
 use Rattle.trace_lines.specs.declared.links.CpuLink.{CpuLink}
-use Rattle.trace_lines.specs.Lines.{Line, Link, block_line, links_of}
+use Rattle.trace_lines.specs.Lines.{links_of}
 use Rattle.trace_text.specs.Groups.{cpu_numbers}
 use Rattle.trace_text.specs.TraceText.{links_at}
 use Rattle.rt_model.specs.Group.{Group}

@@ -1,5 +1,4 @@
 //! One line at a time: built in a text that is used again, and then written.
-ghost use Rattle.std.specs.Prelude.{◌≡◌};
 ghost use Rattle.trace_lines.specs.Known.{Known, known_in};
 ghost use Rattle.trace_lines.specs.Grammar.{line_text};
 ghost use Rattle.trace_lines.specs.Lines.{links_of, group_line, entry_line, end_line};

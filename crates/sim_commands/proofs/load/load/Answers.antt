@@ -1,4 +1,4 @@
-use Rattle.std.proofs.Common.{◌≡◌, ◌∙◌, ℕ, List, map, Ok, Err, subst}
+use Rattle.std.proofs.Common.{◌≡◌, ℕ, List, map, Ok, Err, subst}
 use Rattle.rt_task.specs.declared.Parts.{Parts}
 use Rattle.rt_fault.specs.declared.status.Status.TheVariants as ends
 use Rattle.load_set.specs.Load.{load_of}

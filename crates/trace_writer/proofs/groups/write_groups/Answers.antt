@@ -1,4 +1,4 @@
-use Rattle.std.proofs.Common.{◌≡◌, ◌+◌, drop, sym, ◌∙◌, subst, arith}
+use Rattle.std.proofs.Common.{◌+◌, drop, sym, ◌∙◌, subst, arith}
 use Rattle.rt_plays.specs.Plays.{group_with}
 use Rattle.rt_groups.proofs.GroupCount.{groups_are_counted}
 use Rattle.set_plays.specs.declared.group_steps.GroupSteps.{GroupSteps}

@@ -1,4 +1,4 @@
-use Rattle.std.proofs.Common.{◌≡◌, sym, ap, subst, arith}
+use Rattle.std.proofs.Common.{◌≡◌, ◌≤◌, sym, ap, subst, arith}
 use Rattle.rt_task.specs.Validity.{IsValid}
 use Rattle.rt_model.specs.Situations.{next_act, situation}
 use Rattle.rt_groups.specs.Groups.{GroupHistory, group_of, past}
@@ -24,19 +24,22 @@ pub returns-then-self-lt-MOST_TURN_STEPS-clause-left : goal.returns-then-self-lt
 returns-then-self-lt-MOST_TURN_STEPS-clause-left c =
     let h : GroupHistory = c.args.engine.now in
     let same = ap (λ (x : TurnsAhead). x.done) c.self.view_is in
+    let asked_of : c.next_act.result ≡ next_act (group_of h) (situation (group_of h) c.cpu.result.0 (past h)) =
+    asked _ h _ _ _ c.requires.setup c.situation-situation.ensures c.next_act.ensures in
     let told : c.next_act.result ≡ next_act (group_of h) (situation (group_of h) (cpu_of c.args.self.now) (past h)) =
-    rw (← c.cpu.ensures) (asked c.args.setup.now h c.cpu.result.0 c.situation-situation.result c.next_act.result c.requires.setup c.situation-situation.ensures c.next_act.ensures) in
+    rw (← c.cpu.ensures) asked_of in
     told-left (group_of h) c.args.self.now (past h) c.next_act.result
     (omega (arith, same, c.if-self-eq0.false, c.if-self-eq1.false)) (omega (arith, same, c.if-self-lt-MOST_TURN_STEPS.true)) told
 
 pub returns-then-self-lt-MOST_TURN_STEPS-clause-act : goal.returns-then-self-lt-MOST_TURN_STEPS-clause-act
 returns-then-self-lt-MOST_TURN_STEPS-clause-act c =
     let h : GroupHistory = c.args.engine.now in
-    let q = c.cpu.result.0 in
-    told-fits (group_of h) (situation (group_of h) q (past h)) c.next_act.result (subst IsValid (sym c.requires.setup) c.parts-parts.ensures.valid)
-    (asked c.args.setup.now h q c.situation-situation.result c.next_act.result c.requires.setup c.situation-situation.ensures c.next_act.ensures)
+    let asked_of : c.next_act.result ≡ next_act (group_of h) (situation (group_of h) c.cpu.result.0 (past h)) =
+    asked _ h _ _ _ c.requires.setup c.situation-situation.ensures c.next_act.ensures in
+    told-fits (group_of h) _ c.next_act.result (subst IsValid (sym c.requires.setup) c.parts-parts.ensures.valid) asked_of
 
 pub returns-else-self-lt-MOST_TURN_STEPS-clause-left : goal.returns-else-self-lt-MOST_TURN_STEPS-clause-left
 returns-else-self-lt-MOST_TURN_STEPS-clause-left c =
     let same = ap (λ (x : TurnsAhead). x.done) c.self.view_is in
-    over-full (group_of c.args.engine.now) c.args.self.now (past c.args.engine.now) (omega (arith, same, c.if-self-lt-MOST_TURN_STEPS.false))
+    let full : 18 ≤ c.args.self.now.done = omega (arith, same, c.if-self-lt-MOST_TURN_STEPS.false) in
+    over-full (group_of c.args.engine.now) c.args.self.now (past c.args.engine.now) full

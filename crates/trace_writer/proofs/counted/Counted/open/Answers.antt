@@ -1,4 +1,4 @@
-use Rattle.std.proofs.Common.{◌≡◌, ◌≤◌, length, ap, arith}
+use Rattle.std.proofs.Common.{◌≤◌, length, ap, arith}
 use Rattle.rt_task.specs.declared.Parts.{Parts}
 use Rattle.group_engine.specs.Words.{WaitingList}
 use Rattle.trace_writer.proofs.Replays.{counts-open}
