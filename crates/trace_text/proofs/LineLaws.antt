@@ -8,7 +8,7 @@ use Rattle.rt_rules.specs.Numbers.{numbers_from, rest}
 use Rattle.rt_task.specs.Validity.{IsValid}
 use Rattle.rt_model.specs.Blocking.{requests}
 use Rattle.rt_model.specs.Group.{Group}
-use Rattle.rt_model.specs.Histories.{after, past_from, past_of}
+use Rattle.rt_model.specs.Histories.{past_from, past_of}
 use Rattle.rt_model.specs.Past.{Past}
 use Rattle.rt_groups.specs.Groups.{GroupHistory, group_of, past}
 use Rattle.count_laws.specs.Tallies.{tallies, tally}

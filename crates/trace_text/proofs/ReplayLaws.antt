@@ -13,7 +13,6 @@ use Rattle.rt_model.specs.Histories.{after, changed, past_from}
 use Rattle.rt_model.specs.Links.{linked}
 use Rattle.rt_model.specs.Past.{Past}
 use Rattle.rt_plays.specs.Homes.{IsProcessorOf}
-use Rattle.rt_groups.specs.Groups.{past}
 use Rattle.trace_lines.specs.declared.links.CpuLink.{CpuLink}
 use Rattle.trace_lines.specs.Lines.{Link, link_of, links_of}
 use Rattle.trace_text.specs.TraceText.{links_at}
