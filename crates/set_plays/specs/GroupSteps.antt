@@ -7,9 +7,10 @@ use Rattle.rt_history.specs.declared.Entry.{Entry}
 use Rattle.rt_model.specs.Group.{Group}
 use Rattle.rt_model.specs.Steps.{IsStepOf}
 use Rattle.rt_task.specs.declared.Drive.TheVariants.{Horizon}
-use Rattle.rt_plays.specs.Order.{history, rounds}
+use Rattle.rt_plays.specs.Order.{history, order, rounds}
 use Rattle.rt_plays.specs.Plays.{group_count, group_with}
 use Rattle.rt_groups.specs.Groups.{AreStepsOf}
+use Rattle.set_plays.specs.Groups.{script_of}
 use Rattle.set_plays.specs.declared.group_steps.GroupSteps.{GroupSteps}
 use Rattle.set_plays.specs.declared.group_steps.GroupSteps.TheVariants.{Given, Again, Turns}
 
@@ -40,3 +41,14 @@ told_from p n (x ∷ xs) = group_told p n x ∷ told_from p (n + 1) xs
 
 abbrev pub told : Parts → List GroupSteps → List (List Entry)
 told p xs = told_from p 0 xs
+
+-- the group's steps are those that one thread plays of it
+pub record AreInOrder (p : Parts) (n : ℕ) (x : GroupSteps) : Type 0 where
+  pub steps : AreStepsIn (group_with p n) x
+  pub order_is : steps_of (group_with p n) x ≡ order (group_with p n)
+
+-- these are the steps that the set gives for the group
+pub record IsScriptOf (p : Parts) (n : ℕ) (steps : List Step) : Type 0 where
+  pub script_is : steps ≡ script_of p n
+  pub of_group : All (IsStepOf (group_with p n)) steps
+  pub few : length steps ≤ MOST_STEPS

@@ -51,7 +51,7 @@ impl<'a> GroupSteps<'a> {
         requires there { IsGroupOf setup.now group.0 }
         requires steps { AreStepsIn (group_with setup.now group.0) self }
         ensures { let g = group_with setup.now group.0 in
-            IfOk result (AreReady g (steps_of g self)) }
+            IfOk result (AreReady g (steps_of g self.entry)) }
     {
         match self {
             GroupSteps::Given(steps) => Ok(StepsLeft::Given(steps)),

@@ -51,6 +51,7 @@ impl TurnsLeft {
             → horizon ≤ TICK_END → AreTurnsOf g result }
         ensures all { (g : Group) (was : Past) → cpu_numbers cpus.items ≡ group_processors g
             → turns_left g result was ≡ rounds g horizon 0 was }
+        ensures horizon { result.horizon ≡ horizon }
     {
         TurnsLeft {
             horizon,

@@ -43,4 +43,3 @@ counts-next k seats i text low is =
 
 pub counts-end : (k : Known) (seats : List Seat) (i : ℕ) → length seats ≤ i → texts k (map seat_line (drop i seats)) ≡ []
 counts-end k seats i past_all = rw (drop_end seats i past_all) refl
-
