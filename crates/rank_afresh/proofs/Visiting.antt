@@ -1,0 +1,146 @@
+-- Which clusters the end of a move goes to: those that it passes over stay.
+use Rattle.std.proofs.Common.{◌≡◌, ◌≢◌, ◌⊎◌, inl, inr, ℕ, ◌+◌, ◌-◌, ◌<◌, ◌≤◌, ◌||◌, Bool, true, false, cond, List, [], ◌∷◌, ◌++◌, length, length-set, map, get_or, get_or-set_same, get_or-set_other, set, take, eqb-true, refl, sym, ap, ◌∙◌, subst, arith}
+use Rattle.std.specs.Prelude.{nat_le, nat_lt, filter, ◌==◌}
+use Rattle.std.proofs.lemmas.Bool.{cases_eq}
+use Rattle.std.proofs.lemmas.Bool.Decides.{nat_tests}
+use Rattle.std.proofs.lemmas.List.{get_or-map, get_or_past, length-map, map_more}
+use Rattle.rt_base.specs.TaskNos.{numbers}
+use Rattle.rt_base.specs.declared.TaskNo.{TaskNo}
+use Rattle.rt_task.specs.declared.Cluster.{Cluster}
+use Rattle.rt_task.specs.declared.Parts.{Parts}
+use Rattle.rt_task.specs.declared.Task.{Task}
+use Rattle.rt_rules.specs.Distinct.{IsDistinct}
+use Rattle.rt_rules.specs.Numbers.{has}
+use Rattle.rt_rules.proofs.BoolLaws.{both, clash, or_true}
+use Rattle.rt_rules.proofs.DistinctLaws.{distinct-append, length-few}
+use Rattle.rt_rules.proofs.MemberLaws.{equal_self, has-append, has-appended, has-one, has-push}
+use Rattle.group_facts.specs.Kept.{Kept}
+use Rattle.group_core.specs.Facts as core
+use Rattle.rank_afresh.specs.declared.ran.Ran.{Ran}
+use Rattle.rank_afresh.specs.declared.ran.Ran.TheVariants as rans
+use Rattle.rank_afresh.specs.Clusters.{ClusterFacts, HasFollowed, HasRenewed, IsPlaced, IsPlacedBut, has_cpu, looked_at, looked_over, no_facts, own, runs_anew, runs_in}
+use Rattle.rank_afresh.specs.Facts.{cluster_at}
+use Rattle.rank_afresh.specs.Visits.{AreAllVisited, AreHomes, AreVisited, HasMore, IsHome, IsRanVisited, IsVisited, VisitFacts}
+use Rattle.rank_afresh.proofs.Renewing.{length-links}
+
+-- ---- the list of places
+
+-- there is room for one more
+pub room-left : (n count : ℕ) (ps : List ℕ) → IsDistinct ps → ((m : ℕ) → has m ps ≡ true → m < count) → n < count → has n ps ≡ false → length ps < count
+room-left n count ps once inside low new =
+    let all : length (n ∷ ps) ≤ count = length-few count (n ∷ ps) (new, once) below in
+    omega (arith, all)
+  where
+    below : (m : ℕ) → has m (n ∷ ps) ≡ true → m < count
+    below m h = by_case (m == n) refl h
+      where
+        by_case : (b : Bool) → m == n ≡ b → b || has m ps ≡ true → m < count
+        by_case true e k = let same : m ≡ n = eqb-true m n e in omega (arith, same, low)
+        by_case false e k = inside m k
+
+pub below-more : (n count : ℕ) (ps : List ℕ) → ((m : ℕ) → has m ps ≡ true → m < count) → n < count → (m : ℕ) → has m (ps ++ n ∷ []) ≡ true → m < count
+below-more n count ps inside low m h = by_case (has-appended m ps (n ∷ []) h)
+  where
+    by_case : (has m ps ≡ true) ⊎ (has m (n ∷ []) ≡ true) → m < count
+    by_case (inl k) = inside m k
+    by_case (inr k) = let same : m ≡ n = has-one m n k in omega (arith, same, low)
+
+pub has-more : (n : ℕ) (ps : List ℕ) (m : ℕ) → has m ps ≡ true → has m (ps ++ n ∷ []) ≡ true
+has-more n ps m h = has-push m n ps ∙ rw h (or_true (m == n))
+
+pub has-new : (n : ℕ) (ps : List ℕ) → has n (ps ++ n ∷ []) ≡ true
+has-new n ps = has-push n n ps ∙ rw (equal_self n) refl
+
+-- ---- what is gone to stays so
+
+pub more-again : (u v w : VisitFacts) → HasMore u v → HasMore v w → HasMore u w
+more-again u v w m m' = record { stay = λ n h. m'.stay n (m.stay n h); rest = m'.rest ∙ ap (λ (x : VisitFacts). record x { places = w.places }) m.rest }
+
+pub still-visited : (v w : VisitFacts) (homes : List ℕ) (i : ℕ) → HasMore v w → IsVisited v homes i → IsVisited w homes i
+still-visited v w homes i more is = λ n low here. more.stay n (is n (subst (λ m. n < m) (ap (λ (x : VisitFacts). x.count) more.rest) low) here)
+
+-- with one task more
+pub homes-more : (v w : VisitFacts) (homes : List ℕ) (ts : List TaskNo) (i : ℕ) (d : TaskNo) → i < length ts → HasMore v w
+    → ((t : ℕ) → has t (numbers (take i ts)) ≡ true → IsVisited v homes t) → IsVisited w homes (get_or ts i d).0 → (t : ℕ) → has t (numbers (take (i + 1) ts)) ≡ true → IsVisited w homes t
+homes-more v w homes ts i d inside more so_far here t h = by_case (has-appended t (numbers (take i ts)) (u ∷ []) (subst (λ us. has t us ≡ true) (map_more (λ (x : TaskNo). x.0) ts i d inside) h))
+  where
+    u : ℕ
+    u = (get_or ts i d).0
+
+    by_case : (has t (numbers (take i ts)) ≡ true) ⊎ (has t (u ∷ []) ≡ true) → IsVisited w homes t
+    by_case (inl k) = still-visited v w homes t more (so_far t k)
+    by_case (inr k) = subst (IsVisited w homes) (sym (has-one t u k)) here
+
+-- ---- where none of these tasks is its own
+
+none-own : (c : ClusterFacts) (us : List ℕ) → ((t : ℕ) → has t us ≡ true → has t c.tasks ≡ true → ⊥) → own c us ≡ []
+none-own c [] none = refl
+none-own c (u ∷ us) none = by_case (has u c.tasks) refl (none-own c us (λ t h. none t (rw h (or_true (t == u)))))
+  where
+    by_case : (b : Bool) → has u c.tasks ≡ b → own c us ≡ [] → cond b (u ∷ own c us) (own c us) ≡ []
+    by_case true e r = absurd (none u (rw (equal_self u)) e)
+    by_case false e r = r
+
+looked-none : (p : Parts) (f : core.Facts) (us : List ℕ) (c : ClusterFacts) → own c us ≡ [] → looked_at p f us c ≡ c
+looked-none p f us c none = ap (λ ts. record c { ranked = looked_over p f ts c.ranked }) none
+
+-- a cluster that is placed stays
+renewed-quiet : (p : Parts) (f : core.Facts) (us : List ℕ) (c : ClusterFacts) → own c us ≡ [] → own c f.resvs.changed ≡ [] → IsPlaced f.kept c → HasRenewed p f us c c
+renewed-quiet p f us c none unchanged placed =
+    subst (λ d. HasFollowed f.kept d c) (sym (ap (looked_at p f f.resvs.changed) (looked-none p f us c none) ∙ looked-none p f f.resvs.changed c unchanged)) (record {
+      first_same = refl;
+      tasks_same = refl;
+      ranked_same = refl;
+      top_is = placed.top_is;
+      runs_are = placed.runs_are;
+      links_follow = inr (record { top_same = refl; runs_stay = inl refl; links_same = refl });
+    })
+
+-- so does one that is passed over
+module _ (p : Parts) (f : core.Facts) (us : List ℕ) (ran : Ran) (cs : List ClusterFacts) (v : VisitFacts) (n : ℕ) (homes : AreHomes cs v) (visited : AreVisited us f.resvs.changed ran v)
+    (inside : n < length cs) (passed : has n v.places ≡ false) where
+  abbrev c : ClusterFacts
+  c = cluster_at cs n
+
+  low : n < v.count
+  low = omega (arith, inside, homes.count_is)
+
+  runs-same : runs_anew ran f.kept c ≡ c.runs
+  runs-same = by_ran ran visited.ran_is
+    where
+      by_cpu : (q : ℕ) (b : Bool) → has_cpu c q ≡ b → IsVisited v v.cpu_homes q → has_cpu c q ≡ false
+      by_cpu q true e is = absurd (clash _ (is n low (homes.cpus_at n q e)) passed)
+      by_cpu q false e is = e
+
+      by_ran : (r : Ran) → IsRanVisited v r → runs_anew r f.kept c ≡ c.runs
+      by_ran rans.Nowhere is = refl
+      by_ran (rans.At q) is = rw (by_cpu q.0 (has_cpu c q.0) refl is) refl
+      by_ran rans.Anywhere is = absurd (clash _ (is n low) passed)
+
+  pub renewed-passed : IsPlacedBut ran f.kept c → HasRenewed p f us c c
+  renewed-passed placed =
+      renewed-quiet p f us c (none-own c us (λ t h k. clash _ (visited.touched_are t h n low (homes.tasks_at n t k)) passed))
+      (none-own c f.resvs.changed (λ t h k. clash _ (visited.changed_are t h n low (homes.tasks_at n t k)) passed))
+      (record { top_is = placed.top_is; runs_are = sym runs-same ∙ placed.runs_are })
+
+-- ---- clusters keep their tasks and processors
+
+pub homes-set : (p : Parts) (f : core.Facts) (us : List ℕ) (cs : List ClusterFacts) (v : VisitFacts) (n : ℕ) (new : ClusterFacts) → n < length cs → HasRenewed p f us (cluster_at cs n) new
+    → AreHomes cs v → AreHomes (set cs n new) v
+homes-set p f us cs v n new inside renewed homes = record {
+  count_is = homes.count_is ∙ sym (length-set cs n new);
+  tasks_at = λ m t h. homes.tasks_at m t (subst (λ (ts : List ℕ). has t ts ≡ true) (same-tasks m (cases_eq m n)) h);
+  cpus_at = λ m q h. homes.cpus_at m q (sym (same-cpus m q (cases_eq m n)) ∙ h);
+}
+  where
+    same-tasks : (m : ℕ) → (m ≡ n) ⊎ (m ≢ n) → (cluster_at (set cs n new) m).tasks ≡ (cluster_at cs m).tasks
+    same-tasks m (inl same) =
+        ap (λ i. (cluster_at (set cs n new) i).tasks) same ∙ ap (λ (x : ClusterFacts). x.tasks) (get_or-set_same cs n new no_facts inside)
+        ∙ renewed.tasks_same ∙ ap (λ i. (cluster_at cs i).tasks) (sym same)
+    same-tasks m (inr apart) = ap (λ (x : ClusterFacts). x.tasks) (get_or-set_other cs n m new no_facts apart)
+
+    same-cpus : (m q : ℕ) → (m ≡ n) ⊎ (m ≢ n) → has_cpu (cluster_at (set cs n new) m) q ≡ has_cpu (cluster_at cs m) q
+    same-cpus m q (inl same) =
+        ap (λ i. has_cpu (cluster_at (set cs n new) i) q) same ∙ ap (λ (x : ClusterFacts). has_cpu x q) (get_or-set_same cs n new no_facts inside)
+        ∙ rw (renewed.first_same, length-links p f us (cluster_at cs n) new renewed) refl ∙ ap (λ i. has_cpu (cluster_at cs i) q) (sym same)
+    same-cpus m q (inr apart) = ap (λ (x : ClusterFacts). has_cpu x q) (get_or-set_other cs n m new no_facts apart)
