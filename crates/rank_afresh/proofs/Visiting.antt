@@ -1,9 +1,9 @@
 -- Which clusters the end of a move goes to: those that it passes over stay.
-use Rattle.std.proofs.Common.{◌≡◌, ◌≢◌, ◌⊎◌, inl, inr, ℕ, ◌+◌, ◌-◌, ◌<◌, ◌≤◌, ◌||◌, Bool, true, false, cond, List, [], ◌∷◌, ◌++◌, length, length-set, map, get_or, get_or-set_same, get_or-set_other, set, take, eqb-true, refl, sym, ap, ◌∙◌, subst, arith}
+use Rattle.std.proofs.Common.{◌≡◌, ◌≢◌, ◌⊎◌, inl, inr, ℕ, zero, suc, ◌+◌, ◌-◌, ◌<◌, ◌≤◌, ◌||◌, Bool, true, false, cond, List, [], ◌∷◌, ◌++◌, length, length-set, map, get_or, get_or-set_same, get_or-set_other, set, take, eqb-true, refl, sym, ap, ◌∙◌, subst, arith}
 use Rattle.std.specs.Prelude.{nat_le, nat_lt, filter, ◌==◌}
 use Rattle.std.proofs.lemmas.Bool.{cases_eq}
 use Rattle.std.proofs.lemmas.Bool.Decides.{nat_tests}
-use Rattle.std.proofs.lemmas.List.{get_or-map, get_or_past, length-map, map_more}
+use Rattle.std.proofs.lemmas.List.{get_or-map, get_or_past, length-map, map_more, take_more}
 use Rattle.rt_base.specs.TaskNos.{numbers}
 use Rattle.rt_base.specs.declared.TaskNo.{TaskNo}
 use Rattle.rt_task.specs.declared.Cluster.{Cluster}
@@ -11,7 +11,7 @@ use Rattle.rt_task.specs.declared.Parts.{Parts}
 use Rattle.rt_task.specs.declared.Task.{Task}
 use Rattle.rt_rules.specs.Distinct.{IsDistinct}
 use Rattle.rt_rules.specs.Numbers.{has}
-use Rattle.rt_rules.proofs.BoolLaws.{both, clash, or_true}
+use Rattle.rt_rules.proofs.BoolLaws.{clash, or_true, unless}
 use Rattle.rt_rules.proofs.DistinctLaws.{distinct-append, length-few}
 use Rattle.rt_rules.proofs.MemberLaws.{equal_self, has-append, has-appended, has-one, has-push}
 use Rattle.group_facts.specs.Kept.{Kept}
@@ -19,7 +19,7 @@ use Rattle.group_core.specs.Facts as core
 use Rattle.rank_afresh.specs.declared.ran.Ran.{Ran}
 use Rattle.rank_afresh.specs.declared.ran.Ran.TheVariants as rans
 use Rattle.rank_afresh.specs.Clusters.{ClusterFacts, HasFollowed, HasRenewed, IsPlaced, IsPlacedBut, has_cpu, looked_at, looked_over, no_facts, own, runs_anew, runs_in}
-use Rattle.rank_afresh.specs.Facts.{cluster_at}
+use Rattle.rank_afresh.specs.Facts.{ArePlacedBut, HaveRenewed, cluster_at}
 use Rattle.rank_afresh.specs.Visits.{AreAllVisited, AreHomes, AreVisited, HasMore, IsHome, IsRanVisited, IsVisited, VisitFacts}
 use Rattle.rank_afresh.proofs.Renewing.{length-links}
 
@@ -144,3 +144,56 @@ homes-set p f us cs v n new inside renewed homes = record {
         ap (λ i. has_cpu (cluster_at (set cs n new) i) q) same ∙ ap (λ (x : ClusterFacts). has_cpu x q) (get_or-set_same cs n new no_facts inside)
         ∙ rw (renewed.first_same, length-links p f us (cluster_at cs n) new renewed) refl ∙ ap (λ i. has_cpu (cluster_at cs i) q) (sym same)
     same-cpus m q (inr apart) = ap (λ (x : ClusterFacts). has_cpu x q) (get_or-set_other cs n m new no_facts apart)
+
+-- ---- one cluster after the other
+
+pub has-place : (qs : List ℕ) (i : ℕ) → i < length qs → has (get_or qs i 0) qs ≡ true
+has-place [] i h = absurd (omega arith)
+has-place (q ∷ qs) zero h = rw (equal_self q) refl
+has-place (q ∷ qs) (suc i) h = rw (has-place qs i (omega arith)) (or_true (get_or qs i 0 == q))
+
+place-new : (qs : List ℕ) (i : ℕ) → IsDistinct qs → i < length qs → has (get_or qs i 0) (take i qs) ≡ false
+place-new [] i once h = absurd (omega arith)
+place-new (q ∷ qs) zero once h = refl
+place-new (q ∷ qs) (suc i) once h = by_case (get_or qs i 0 == q) refl (place-new qs i once.1 (omega arith)) (has-place qs i (omega arith))
+  where
+    by_case : (b : Bool) → get_or qs i 0 == q ≡ b → has (get_or qs i 0) (take i qs) ≡ false → has (get_or qs i 0) qs ≡ true → b || has (get_or qs i 0) (take i qs) ≡ false
+    by_case true e r there = absurd (clash _ (subst (λ m. has m qs ≡ true) (eqb-true _ q e) there) once.0)
+    by_case false e r there = r
+
+-- the cluster at the next place
+module _ (qs : List ℕ) (i n : ℕ) (next : n ≡ get_or qs i 0) (once : IsDistinct qs) (inside : i < length qs) where
+  pub not-before : has n (take i qs) ≡ false
+  not-before = rw next (place-new qs i once inside)
+
+  taken : (m : ℕ) → has m (take (i + 1) qs) ≡ (m == n || has m (take i qs))
+  taken m = ap (has m) (take_more qs i 0 inside) ∙ has-push m (get_or qs i 0) (take i qs) ∙ ap (λ k. m == k || has m (take i qs)) (sym next)
+
+  pub taken-here : has n (take (i + 1) qs) ≡ true
+  taken-here = taken n ∙ rw (equal_self n) refl
+
+  pub taken-other : (m : ℕ) → m ≢ n → has m (take (i + 1) qs) ≡ has m (take i qs)
+  taken-other m apart = let other : m == n ≡ false = unless _ (λ e. apart (eqb-true m n e)) in taken m ∙ rw other refl
+
+pub each-set : (P : ℕ → ClusterFacts → Type 0) (cs : List ClusterFacts) (n : ℕ) (new : ClusterFacts) → n < length cs → ((m : ℕ) → m ≢ n → P m (cluster_at cs m)) → P n new → (m : ℕ) → P m (cluster_at (set cs n new) m)
+each-set P cs n new low others here m = by_case (cases_eq m n)
+  where
+    by_case : (m ≡ n) ⊎ (m ≢ n) → P m (cluster_at (set cs n new) m)
+    by_case (inl same) = subst (λ k. P k (cluster_at (set cs n new) k)) (sym same) (subst (P n) (sym (get_or-set_same cs n new no_facts low)) here)
+    by_case (inr apart) = subst (P m) (sym (get_or-set_other cs n m new no_facts apart)) (others m apart)
+
+pub visited-as : (us us' vs vs' : List ℕ) (ran : Ran) (v : VisitFacts) → us ≡ us' → vs ≡ vs' → AreVisited us vs ran v → AreVisited us' vs' ran v
+visited-as us us' vs vs' ran v touched changed are = subst (λ xs. AreVisited us' xs ran v) changed (subst (λ xs. AreVisited xs vs ran v) touched are)
+
+pub homes-as : (cs : List ClusterFacts) (v w : VisitFacts) → w ≡ record v { places = w.places } → AreHomes cs v → AreHomes cs w
+homes-as cs v w same homes = subst (AreHomes cs) (sym same) (record { count_is = homes.count_is; tasks_at = homes.tasks_at; cpus_at = homes.cpus_at })
+
+-- each cluster is gone to, or stays
+pub each-renewed : (p : Parts) (x : core.Facts) (us : List ℕ) (ran : Ran) (olds cs : List ClusterFacts) (v : VisitFacts) → AreHomes olds v → AreVisited us x.resvs.changed ran v → ArePlacedBut ran x.kept olds
+    → ((m : ℕ) → has m v.places ≡ true → HasRenewed p x us (cluster_at olds m) (cluster_at cs m)) → ((m : ℕ) → has m v.places ≡ false → cluster_at cs m ≡ cluster_at olds m)
+    → HaveRenewed p x us olds cs
+each-renewed p x us ran olds cs v homes visited placed done rest m inside = by_case (has m v.places) refl
+  where
+    by_case : (b : Bool) → has m v.places ≡ b → HasRenewed p x us (cluster_at olds m) (cluster_at cs m)
+    by_case true e = done m e
+    by_case false e = subst (HasRenewed p x us (cluster_at olds m)) (sym (rest m e)) (renewed-passed p x us ran olds v m homes visited inside e (placed m inside))
