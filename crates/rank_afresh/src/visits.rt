@@ -153,11 +153,11 @@ impl Visits {
         ensures visited { AreVisited (numbers touched.now) (numbers changed.now) ran self.new }
         ensures rest { self.new ≡ record self.old { places = self.new.places } }
     {
-        self.places.clear();
         if self.count == 1 {
             self.add_all();
             return;
         }
+        self.places.clear();
         self.add_homes(touched);
         self.add_homes(changed);
         self.add_ran(ran);
