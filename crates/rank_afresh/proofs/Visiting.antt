@@ -59,6 +59,22 @@ more-again u v w m m' = record { stay = λ n h. m'.stay n (m.stay n h); rest = m
 pub still-visited : (v w : VisitFacts) (homes : List ℕ) (i : ℕ) → HasMore v w → IsVisited v homes i → IsVisited w homes i
 still-visited v w homes i more is = λ n low here. more.stay n (is n (subst (λ m. n < m) (ap (λ (x : VisitFacts). x.count) more.rest) low) here)
 
+-- one that is alone is listed, where any is
+pub listed-alone : (ps : List ℕ) → length ps ≡ 1 → ((m : ℕ) → has m ps ≡ true → m < 1) → (n : ℕ) → n < 1 → has n ps ≡ true
+listed-alone [] one below n low = absurd (omega (arith, one))
+listed-alone (p ∷ ps) one below n low =
+    let b : p < 1 = below p (rw (equal_self p)) in
+    let same : n ≡ p = omega (arith, b, low) in
+    subst (λ m. has m (p ∷ ps) ≡ true) (sym same) (rw (equal_self p))
+
+pub all-visited : (us vs : List ℕ) (ran : Ran) (v : VisitFacts) → AreAllVisited v → AreVisited us vs ran v
+all-visited us vs ran v all = record { touched_are = λ t h n low here. all n low; changed_are = λ t h n low here. all n low; ran_is = by_ran ran }
+  where
+    by_ran : (r : Ran) → IsRanVisited v r
+    by_ran rans.Nowhere = tt
+    by_ran (rans.At q) = λ n low here. all n low
+    by_ran rans.Anywhere = all
+
 -- with one task more
 pub homes-more : (v w : VisitFacts) (homes : List ℕ) (ts : List TaskNo) (i : ℕ) (d : TaskNo) → i < length ts → HasMore v w
     → ((t : ℕ) → has t (numbers (take i ts)) ≡ true → IsVisited v homes t) → IsVisited w homes (get_or ts i d).0 → (t : ℕ) → has t (numbers (take (i + 1) ts)) ≡ true → IsVisited w homes t

@@ -147,14 +147,13 @@ impl Visits {
         }
     }
 
-    /// Lists the clusters of these tasks, and those on whose processors what runs may be another. One that is alone is
-    /// always listed.
+    /// Lists the clusters of these tasks, and those on whose processors what runs may be another. One that is alone
+    /// stays listed.
     pub(crate) fn list(&mut self, touched: &[TaskNo], changed: &[TaskNo], ran: Ran)
         ensures visited { AreVisited (numbers touched.now) (numbers changed.now) ran self.new }
         ensures rest { self.new ≡ record self.old { places = self.new.places } }
     {
-        if self.count == 1 {
-            self.add_all();
+        if self.count == 1 && self.places.len() == 1 {
             return;
         }
         self.places.clear();
