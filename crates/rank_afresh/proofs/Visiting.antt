@@ -1,26 +1,22 @@
 -- Which clusters the end of a move goes to: those that it passes over stay.
-use Rattle.std.proofs.Common.{◌≡◌, ◌≢◌, ◌⊎◌, inl, inr, ℕ, zero, suc, ◌+◌, ◌-◌, ◌<◌, ◌≤◌, ◌||◌, Bool, true, false, cond, List, [], ◌∷◌, ◌++◌, length, length-set, map, get_or, get_or-set_same, get_or-set_other, set, take, eqb-true, refl, sym, ap, ◌∙◌, subst, arith}
-use Rattle.std.specs.Prelude.{nat_le, nat_lt, filter, ◌==◌}
+use Rattle.std.proofs.Common.{◌≡◌, ◌≢◌, ◌⊎◌, inl, inr, ℕ, zero, suc, ◌+◌, ◌<◌, ◌≤◌, ◌||◌, Bool, true, false, cond, List, [], ◌∷◌, ◌++◌, length, length-set, get_or, get_or-set_same, get_or-set_other, set, take, eqb-true, refl, sym, ap, ◌∙◌, subst, arith}
+use Rattle.std.specs.Prelude.{◌==◌}
 use Rattle.std.proofs.lemmas.Bool.{cases_eq}
-use Rattle.std.proofs.lemmas.Bool.Decides.{nat_tests}
-use Rattle.std.proofs.lemmas.List.{get_or-map, get_or_past, length-map, map_more, take_more}
+use Rattle.std.proofs.lemmas.List.{map_more, take_more}
 use Rattle.rt_base.specs.TaskNos.{numbers}
 use Rattle.rt_base.specs.declared.TaskNo.{TaskNo}
-use Rattle.rt_task.specs.declared.Cluster.{Cluster}
 use Rattle.rt_task.specs.declared.Parts.{Parts}
-use Rattle.rt_task.specs.declared.Task.{Task}
 use Rattle.rt_rules.specs.Distinct.{IsDistinct}
 use Rattle.rt_rules.specs.Numbers.{has}
 use Rattle.rt_rules.proofs.BoolLaws.{clash, or_true, unless}
-use Rattle.rt_rules.proofs.DistinctLaws.{distinct-append, length-few}
-use Rattle.rt_rules.proofs.MemberLaws.{equal_self, has-append, has-appended, has-one, has-push}
-use Rattle.group_facts.specs.Kept.{Kept}
+use Rattle.rt_rules.proofs.DistinctLaws.{length-few}
+use Rattle.rt_rules.proofs.MemberLaws.{equal_self, has-appended, has-one, has-push}
 use Rattle.group_core.specs.Facts as core
 use Rattle.rank_afresh.specs.declared.ran.Ran.{Ran}
 use Rattle.rank_afresh.specs.declared.ran.Ran.TheVariants as rans
-use Rattle.rank_afresh.specs.Clusters.{ClusterFacts, HasFollowed, HasRenewed, IsPlaced, IsPlacedBut, has_cpu, looked_at, looked_over, no_facts, own, runs_anew, runs_in}
+use Rattle.rank_afresh.specs.Clusters.{ClusterFacts, HasFollowed, HasRenewed, IsPlaced, IsPlacedBut, has_cpu, looked_at, looked_over, no_facts, own, runs_anew}
 use Rattle.rank_afresh.specs.Facts.{ArePlacedBut, HaveRenewed, cluster_at}
-use Rattle.rank_afresh.specs.Visits.{AreAllVisited, AreHomes, AreVisited, HasMore, IsHome, IsRanVisited, IsVisited, VisitFacts}
+use Rattle.rank_afresh.specs.Visits.{AreAllVisited, AreHomes, AreVisited, HasMore, IsRanVisited, IsVisited, VisitFacts}
 use Rattle.rank_afresh.proofs.Renewing.{length-links}
 
 -- ---- the list of places

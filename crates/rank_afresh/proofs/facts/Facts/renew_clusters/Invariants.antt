@@ -1,4 +1,4 @@
-use Rattle.std.proofs.Common.{◌≡◌, ◌<◌, ℕ, true, false, get_or, length, take, vec_len}
+use Rattle.std.proofs.Common.{◌≡◌, ℕ, true, false, get_or, length, take, vec_len}
 use Rattle.rt_base.specs.TaskNos.{numbers}
 use Rattle.rt_rules.specs.Numbers.{has}
 use Rattle.rank_afresh.specs.Clusters.{HasRenewed}

@@ -1,5 +1,4 @@
-use Rattle.std.proofs.Common.{◌≡◌, ◌<◌, ◌++◌, [], ◌∷◌, ℕ, Bool, false, true, List, length, refl, sym, ap, ◌∙◌, subst, arith}
-use Rattle.std.specs.Prelude.{Option, Some}
+use Rattle.std.proofs.Common.{◌≡◌, ℕ, false, refl, sym, ap, ◌∙◌, subst, arith}
 use Rattle.rt_rules.specs.Numbers.{has}
 use Rattle.rt_rules.proofs.DistinctLaws.{distinct-append}
 use Rattle.rank_afresh.specs.Visits.{HasMore, VisitFacts}

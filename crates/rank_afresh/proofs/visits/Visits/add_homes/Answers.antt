@@ -1,8 +1,8 @@
-use Rattle.std.proofs.Common.{◌≡◌, ◌<◌, ◌⊎◌, inl, inr, ◌+◌, ◌++◌, [], ◌∷◌, ℕ, true, List, length, refl, sym, ap, ◌∙◌, subst, take, take_all, get_or, arith}
+use Rattle.std.proofs.Common.{◌≡◌, ◌<◌, ℕ, true, List, sym, ap, ◌∙◌, subst, take, take_all, get_or}
 use Rattle.rt_base.specs.TaskNos.{numbers}
 use Rattle.rt_base.specs.declared.TaskNo.{TaskNo}
 use Rattle.rt_rules.specs.Numbers.{has}
-use Rattle.rank_afresh.specs.Visits.{HasMore, IsHome, IsVisited, VisitFacts}
+use Rattle.rank_afresh.specs.Visits.{IsHome, IsVisited, VisitFacts}
 use Rattle.rank_afresh.proofs.Visiting.{homes-more, more-again}
 use Rattle.rank_afresh.proofs.visits.Visits.add_homes.Goals as goal
 

@@ -1,7 +1,7 @@
 use Rattle.std.proofs.Common.{◌≡◌, ◌<◌, ℕ, true, length, subst, arith}
 use Rattle.rt_base.specs.TaskNos.{numbers}
 use Rattle.rt_rules.specs.Numbers.{has}
-use Rattle.rank_afresh.specs.Visits.{AreAllVisited, VisitFacts}
+use Rattle.rank_afresh.specs.Visits.{AreAllVisited}
 use Rattle.rank_afresh.proofs.Visiting.{all-visited, listed-alone}
 use Rattle.rank_afresh.proofs.visits.Visits.list.Goals as goal
 
