@@ -14,5 +14,6 @@ mod ran;
 mod ranks;
 mod room;
 mod rows;
+mod visits;
 
 pub use afresh::Afresh;

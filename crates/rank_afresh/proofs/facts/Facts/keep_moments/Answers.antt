@@ -33,3 +33,6 @@ put-requires c =
     let r = range (goal.at.put-requires c).After-index-task in
     let all = ap (λ (w : WithRoom). length w.facts.moments) c.self.view_is in
     omega (arith, r.1, all, c.loop-i.invariant.count, c.requires.moments)
+
+pub invariant_of-self : goal.invariant_of-self
+invariant_of-self c = rw (c.loop-i.invariant.looked, c.loop-i.invariant.clusters, c.loop-i.invariant.visits, c.loop-i.invariant.count) c.self.invariant
