@@ -1,8 +1,6 @@
 pub mod LinkLists
 pub mod LinkLaws
 pub mod HeadText
-pub mod Places
-pub mod Courses
 pub mod Opening
 pub mod Accepting
 pub mod GroupLines

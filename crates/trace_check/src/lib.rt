@@ -12,7 +12,6 @@ ghost use Rattle.trace_check.specs.Verdicts.{HasShown, IsVerdict};
 
 mod behind;
 mod counts;
-mod course;
 mod follow;
 mod group;
 mod head;
@@ -21,8 +20,6 @@ mod links;
 mod progress;
 mod requests;
 mod same;
-mod scripts;
-mod turns;
 mod verdict;
 
 use head::has_head;
