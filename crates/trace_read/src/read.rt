@@ -156,7 +156,7 @@ pub fn read_trace(alloc: Global, bytes: &[u8]) -> Result<Trace, TraceFault>
     ensures { HasRead bytes.now result }
 {
     let (version, set, rest) = read_head(bytes)?;
-    let setup = read_line_set(alloc, set)?;
+    let (setup, is_canonical) = read_line_set(alloc, set)?;
     let (lines, left) = read_lines_of(alloc, version, &setup, rest)?;
     let stop = stop_after(lines.as_slice(), left)?;
     Ok(Trace {
@@ -164,5 +164,6 @@ pub fn read_trace(alloc: Global, bytes: &[u8]) -> Result<Trace, TraceFault>
         setup,
         lines,
         stop,
+        is_canonical,
     })
 }
