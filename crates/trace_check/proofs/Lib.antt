@@ -6,6 +6,7 @@ pub mod Accepting
 pub mod GroupLines
 pub mod SetLines
 pub mod LinesAlike
+pub mod FirstFeed
 pub mod Shown
 pub mod Judged
 pub mod Judging
