@@ -2,8 +2,7 @@
 ghost use Rattle.std.specs.Prelude.{◌≡◌, ◌++◌, List, map, IfOk, OnOk};
 ghost use Rattle.set_explain.specs.Shown.{rule_shown};
 ghost use Rattle.trace_tools.specs.Tools.{Tool};
-ghost use Rattle.trace_read.specs.Lines.{lines_of};
-ghost use Rattle.trace_read.specs.Reads.{HasBadSet, IsRefused, IsTraceOf};
+ghost use Rattle.trace_read.specs.Reads.{HasBadSet, IsReadOf, IsRefused};
 ghost use Rattle.trace_read.specs.declared.fault.TraceFault.TheVariants as faults;
 ghost use Rattle.explain_command.specs.Explaining.{TraceIsExplained};
 ghost use Rattle.explain_command.specs.Texts as texts;
@@ -103,8 +102,7 @@ fn judged<T: TraceTool>(
     trace: &Trace,
     tools: Vec<T>,
 ) -> Result<Explained, NoMemory>
-    requires { IsTraceOf bytes.now trace.now.version trace.now.setup
-        (lines_of trace.now.lines) trace.now.stop }
+    requires { IsReadOf bytes.now trace.now }
     ensures { IfOk result (λ x.
         TraceIsExplained (map T.tool tools.items) bytes.now x.outcome x.text.items) }
 {

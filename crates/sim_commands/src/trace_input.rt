@@ -2,8 +2,7 @@
 ghost use Rattle.std.specs.Prelude.{IfOk};
 ghost use Rattle.rt_base.specs.declared.TheConstants.{MOST_TRACE_BYTES};
 ghost use Rattle.rt_task.specs.Validity.{IsValid};
-ghost use Rattle.trace_read.specs.Lines.{lines_of};
-ghost use Rattle.trace_read.specs.Reads.{IsTraceOf};
+ghost use Rattle.trace_read.specs.Reads.{IsReadOf};
 ghost use Rattle.set_input.specs.Ends.{reading};
 ghost use Rattle.sim_commands.specs.Check.{WasTrace, WasNoTrace};
 ghost use Rattle.set_input.specs.Stopped.{EndsReading};
@@ -19,8 +18,7 @@ use trace_read::{Trace, TraceFault, read_trace};
 pub fn read_trace_input<S: Source>(alloc: Global, src: &mut S) -> Result<(Vec<u8>, Trace), Status>
     ensures ok { let source = reading S.left S.faults src.old src.new in
         IfOk result (λ x. WasTrace source x.0.items x.1.version x.1.setup) }
-    ensures trace { IfOk result (λ x.
-        IsTraceOf x.0.items x.1.version x.1.setup (lines_of x.1.lines) x.1.stop) }
+    ensures trace { IfOk result (λ x. IsReadOf x.0.items x.1) }
     ensures valid { IfOk result (λ x. IsValid x.1.setup) }
     ensures ends { let source = reading S.left S.faults src.old src.new in
         EndsReading source MOST_TRACE_BYTES (WasNoTrace source) result }

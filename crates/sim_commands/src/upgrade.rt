@@ -8,8 +8,7 @@ ghost use Rattle.trace_tools.specs.Places.{seats};
 ghost use Rattle.trace_tools.specs.Seats.{seat_of, seats_after};
 ghost use Rattle.trace_tools.specs.Tools.{Tool};
 ghost use Rattle.trace_text.specs.CountLines.{counted_text, shown_from};
-ghost use Rattle.trace_read.specs.Lines.{lines_of};
-ghost use Rattle.trace_read.specs.Reads.{IsTraceOf};
+ghost use Rattle.trace_read.specs.Reads.{IsReadOf};
 ghost use Rattle.trace_upgrade.specs.Said.{SaysPlays};
 ghost use Rattle.set_input.specs.Ends.{reading, writing};
 ghost use Rattle.set_input.specs.Answers.{IsUnwritten};
@@ -68,8 +67,7 @@ fn upgrade_valid<T: TraceTool, K: Sink>(
     tools: Vec<T>,
     out: &mut K,
 ) -> Status
-    requires trace { IsTraceOf bytes.now trace.now.version trace.now.setup
-        (lines_of trace.now.lines) trace.now.stop }
+    requires trace { IsReadOf bytes.now trace.now }
     requires valid { IsValid trace.now.setup }
     ensures upgraded { HasUpgraded (map T.tool tools.items) trace.now.version trace.now.setup
         bytes.now (writing K.held K.faults out.old out.new) result }

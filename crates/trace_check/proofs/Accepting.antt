@@ -13,13 +13,13 @@ use Rattle.rt_plays.proofs.PlayLaws.{play-fits}
 use Rattle.block_counts.specs.GroupRequests as counts
 use Rattle.rank_afresh.specs.Standing.{IsAt, Standing, group_of}
 use Rattle.trace_laws.proofs.Plays.{begun-steps, few-entries}
-use Rattle.trace_check.specs.declared.course.Course.{Course}
+use Rattle.trace_course.specs.declared.course.Course.{Course}
 use Rattle.trace_check.specs.declared.follow.Follow.{Follow}
 use Rattle.trace_check.specs.declared.links.GroupLinks.{GroupLinks}
-use Rattle.trace_check.specs.Courses.{CanTake, IsCourse, IsOnCourse}
+use Rattle.trace_course.specs.Courses.{CanTake, IsCourse, IsOnCourse}
 use Rattle.trace_check.specs.GroupLinks.{AreLinks, CanRead}
 use Rattle.trace_check.specs.Following.{CanStep, IsFollowing, IsFollowingWith}
-use Rattle.trace_check.specs.Places.{IsNextStep, Place, entry_by, longer}
+use Rattle.trace_course.specs.Places.{IsNextStep, Place, entry_by, longer}
 
 -- its course is followed as far
 pub on-course : (at : Place) (p : Parts) (f : Follow) → IsFollowingWith at p f → IsOnCourse at p f.course

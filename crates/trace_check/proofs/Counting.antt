@@ -19,7 +19,7 @@ use Rattle.rank_afresh.specs.Standing.{IsOfSame, Standing, group_of}
 use Rattle.trace_text.proofs.BlockLines.{names-known, reachable-past_of}
 use Rattle.trace_check.specs.declared.follow.Follow.{Follow}
 use Rattle.trace_check.specs.Following.{CanStep}
-use Rattle.trace_check.specs.Places.{Place}
+use Rattle.trace_course.specs.Places.{Place}
 
 pub group-same : (v w : Standing) → IsOfSame v w → group_of w ≡ group_of v
 group-same v w same = λ i. record { setup = same.setup_is i; number = same.group_is i }

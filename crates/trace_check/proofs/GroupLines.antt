@@ -13,7 +13,7 @@ use Rattle.trace_text.specs.TraceText.{block_lines, block_of, entry_lines, group
 use Rattle.trace_laws.proofs.Plays.{begun-legal, begun-whole}
 use Rattle.trace_laws.proofs.ReadBack.{entries_first, histories_said, first-entries, said-entries}
 use Rattle.trace_check.specs.GroupLines.{IsOtherLine, lines_so_far, opening_line}
-use Rattle.trace_check.specs.Places.{IsNextStep, entry_by}
+use Rattle.trace_course.specs.Places.{IsNextStep, entry_by}
 
 -- the line of an entry that comes after others
 abbrev pub next_line : Group → List Entry → Entry → Line

@@ -40,7 +40,7 @@ use Rattle.trace_check.specs.declared.verdict.Verdict.TheVariants.{Invalid, Vali
 use Rattle.trace_check.specs.Verdicts.{IsInvalid}
 use Rattle.trace_check.specs.SameLinks.{same_links}
 use Rattle.trace_check.specs.Following.{IsAccepted, IsFollowing, IsFollowingWith, IsNextEntry}
-use Rattle.trace_check.specs.Places.{Place}
+use Rattle.trace_course.specs.Places.{Place}
 use Rattle.trace_check.specs.GroupLines.{ArePlaysFrom, IsOtherLine, NoEntryFirst, lines_of_groups, lines_so_far, opening_line}
 use Rattle.trace_check.specs.Judging.{IsJudged, IsJudgedText, IsShownText, begins_with, begins_with_end, verdict_behind}
 use Rattle.trace_check.specs.LinesAlike.{behind_lines}

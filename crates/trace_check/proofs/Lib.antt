@@ -1,13 +1,12 @@
 pub mod LinkLists
 pub mod LinkLaws
 pub mod HeadText
-pub mod Places
-pub mod Courses
 pub mod Opening
 pub mod Accepting
 pub mod GroupLines
 pub mod SetLines
 pub mod LinesAlike
+pub mod FirstFeed
 pub mod Shown
 pub mod Judged
 pub mod Judging

@@ -18,9 +18,9 @@ use Rattle.trace_text.proofs.ReplayLaws.{cpus_there}
 use Rattle.trace_laws.proofs.Plays.{begun-none}
 use Rattle.rt_groups.proofs.GroupLimits.{processor-low}
 use Rattle.trace_check.specs.declared.follow.Follow.{Follow}
-use Rattle.trace_check.specs.Courses.{IsOpened, room_in}
+use Rattle.trace_course.specs.Courses.{IsOpened, room_in}
 use Rattle.trace_check.specs.Following.{IsFollowing}
-use Rattle.trace_check.proofs.Courses.{course-first, room-first}
+use Rattle.trace_course.proofs.Courses.{course-first, room-first}
 
 -- the processors of a group have low numbers
 pub cpus-low : (g : Group) (qs : List CpuNo) → IsValid g.setup → cpu_numbers qs ≡ group_processors g → All (λ (q : CpuNo). q.0 < 64) qs

@@ -14,11 +14,11 @@ use Rattle.trace_lines.specs.Lines.{Link}
 use Rattle.trace_text.specs.TraceText.{links_at}
 use Rattle.rt_plays.specs.Plays.{IsBegunPlay}
 use Rattle.rt_plays.specs.Room.{room}
-use Rattle.trace_check.specs.declared.course.Course.{Course}
+use Rattle.trace_course.specs.declared.course.Course.{Course}
 use Rattle.trace_check.specs.declared.follow.Follow.{Follow}
-use Rattle.trace_check.specs.Courses.{IsCourse}
+use Rattle.trace_course.specs.Courses.{IsCourse}
 use Rattle.trace_check.specs.GroupLinks.{AreLinks}
-use Rattle.trace_check.specs.Places.{IsNextStep, Place}
+use Rattle.trace_course.specs.Places.{IsNextStep, Place}
 
 -- these entries of the group were followed
 pub record IsFollowing (g : Group) (es : List Entry) (f : Follow) : Type 0 where

@@ -1,10 +1,7 @@
 pub mod Verdicts
-pub mod Next
 pub mod SameLinks
 pub mod GroupLinks
 pub mod LinesAlike
-pub mod Places
-pub mod Courses
 pub mod Following
 pub mod GroupLines
 pub mod RequestLines

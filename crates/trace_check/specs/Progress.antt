@@ -14,7 +14,7 @@ use Rattle.trace_check.specs.declared.progress.Progress.{Progress}
 use Rattle.trace_check.specs.declared.progress.Followed.{Followed}
 use Rattle.trace_check.specs.declared.progress.Followed.TheVariants.{Whole, Wrong}
 use Rattle.trace_check.specs.declared.verdict.Verdict.TheVariants.{Invalid}
-use Rattle.trace_check.specs.Places.{Place}
+use Rattle.trace_course.specs.Places.{Place}
 use Rattle.trace_check.specs.GroupLines.{ArePlaysFrom, NoEntryFirst, lines_of_groups}
 use Rattle.trace_check.specs.Judging.{IsJudged}
 use Rattle.trace_check.specs.RequestLines.{AllStandFirst, StopAt}

@@ -3,16 +3,16 @@ ghost use Rattle.std.specs.Prelude.{◌≡◌};
 ghost use Rattle.trace_check.specs.LinesAlike as alike;
 ghost use Rattle.trace_check.specs.LinesAlike.{behind_lines};
 
+use memchr::memchr;
+
 /// What stands behind the first line feed.
 fn behind_line(bytes: &[u8]) -> &[u8]
     ensures { result.now ≡ alike.behind_line bytes.now }
 {
-    for (i, c) in bytes.iter().enumerate() {
-        if *c == b'\n' {
-            return &bytes[i + 1..];
-        }
+    match memchr(b'\n', bytes) {
+        Some(i) => &bytes[i + 1..],
+        None => &bytes[bytes.len()..],
     }
-    &bytes[bytes.len()..]
 }
 
 /// What follows the first `lines` line feeds.

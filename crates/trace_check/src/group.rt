@@ -5,9 +5,9 @@ ghost use Rattle.trace_lines.specs.Lines.{links_of};
 ghost use Rattle.trace_tools.specs.Places.{seats};
 ghost use Rattle.trace_tools.specs.Seats.{Seat};
 ghost use Rattle.trace_read.specs.Lines.{lines_of};
+ghost use Rattle.trace_course.specs.Places.{Place};
 ghost use Rattle.trace_check.specs.Judging.{begins_with};
 ghost use Rattle.trace_check.specs.Following.{IsFollowingWith};
-ghost use Rattle.trace_check.specs.Places.{Place};
 ghost use Rattle.trace_check.specs.Progress.{AreRight, IsEndedAt, IsFollowedTo};
 
 use crate::follow::Follow;

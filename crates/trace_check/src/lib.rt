@@ -6,13 +6,11 @@ ghost use Rattle.std.specs.Prelude.{◌≡◌, List, map, IfOk, true};
 ghost use Rattle.trace_tools.specs.Places.{seats};
 ghost use Rattle.trace_tools.specs.Seats.{seat_of};
 ghost use Rattle.trace_tools.specs.Tools.{Tool};
-ghost use Rattle.trace_read.specs.Lines.{lines_of};
-ghost use Rattle.trace_read.specs.Reads.{IsTraceOf};
+ghost use Rattle.trace_read.specs.Reads.{IsReadOf};
 ghost use Rattle.trace_check.specs.Verdicts.{HasShown, IsVerdict};
 
 mod behind;
 mod counts;
-mod course;
 mod follow;
 mod group;
 mod head;
@@ -21,8 +19,6 @@ mod links;
 mod progress;
 mod requests;
 mod same;
-mod scripts;
-mod turns;
 mod verdict;
 
 use head::has_head;
@@ -45,8 +41,7 @@ pub fn check_trace<T: TraceTool>(
     trace: &Trace,
     bus: &mut Bus<T>,
 ) -> Result<Verdict, NoMemory>
-    requires read { IsTraceOf bytes.now trace.now.version trace.now.setup
-        (lines_of trace.now.lines) trace.now.stop }
+    requires read { IsReadOf bytes.now trace.now }
     ensures verdict { IfOk result (λ v. (tools : List Tool)
         → seats T.tool bus.old ≡ map seat_of tools
         → IsVerdict tools trace.now.version trace.now.setup bytes.now v) }
@@ -54,7 +49,8 @@ pub fn check_trace<T: TraceTool>(
         → seats T.tool bus.old ≡ map seat_of tools
         → HasShown tools trace.now.version trace.now.setup bytes.now (seats T.tool bus.new) v) }
 {
-    if !has_head(alloc, bytes, trace.version, trace.setup.parts())? {
+    let parts = trace.setup.parts();
+    if !has_head(alloc, bytes, trace.version, parts, trace.is_canonical)? {
         return Ok(Verdict::Invalid(2));
     }
     judge_lines(alloc, bytes, trace, bus)

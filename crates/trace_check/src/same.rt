@@ -1,17 +1,8 @@
-//! Steps, replies and requests that are the same.
+//! Replies and requests that are the same.
 ghost use Rattle.std.specs.Prelude.{◌≡◌, true, false};
 
 use block_counts::Seen;
 use rt_history::Reply;
-use rt_task::Step;
-
-/// Whether two steps are the same.
-pub(crate) fn is_same_step(a: Step, b: Step) -> bool
-    ensures same { result ≡ true → a ≡ b }
-    ensures other { result ≡ false → a ≡ b → ⊥ }
-{
-    a == b
-}
 
 /// Whether two replies are the same.
 pub(crate) fn is_same_reply(a: Reply, b: Reply) -> bool

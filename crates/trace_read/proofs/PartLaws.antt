@@ -22,7 +22,7 @@ use Rattle.trace_lines.specs.Grammar.{task_word, target_word, act_words, reply_w
 use Rattle.trace_lines.specs.Known.{Known, IsNumberOf, name_at, Is64, ActIsKnown, ReplyIsKnown, TargetIsKnown, BoundIsKnown, LinkIsKnown}
 use Rattle.trace_read.specs.Seen.{Tells}
 use Rattle.trace_read.specs.Reading.{each_in, number_in, small_or_dash, task_by, task_in, target_in, task_at, bare_acts, act_with, act_at, bare_replies, reply_at, link_in, links_in, totals_in}
-use Rattle.trace_read.proofs.WordLaws.{is_plain_byte, is_plain, AllPlain, AllFilled, is_plain-append, no_word, cut-first, cut-join, pieces-join, IsNoDigit, decimal-free, decimal-plain, number_in-decimal, small_in-decimal, when_32-same, number_at-join, small_at-join}
+use Rattle.trace_read.proofs.WordLaws.{is_plain_byte, is_plain, AllPlain, AllFilled, is_plain-append, no_word, cut-first, cut-join, pieces-join, IsNoDigit, decimal-free, decimal-plain, number_in-decimal, small_in-decimal, when_32-same, number_at-join}
 
 fits_64 : (n : ℕ) → n < 2 ^ 32 → n < 2 ^ 64
 fits_64 n h = omega arith

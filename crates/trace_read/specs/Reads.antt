@@ -1,7 +1,8 @@
 -- What is read of the bytes of a trace, and why bytes are no trace.
-use Rattle.std.specs.Prelude.{◌≡◌, ◌≢◌, ℕ, ◌+◌, ◌⊎◌, List, [], ◌∷◌, ◌++◌, flat_map, length, All, Option, None, Some, Result, Ok, Err, codes}
+use Rattle.std.specs.Prelude.{◌≡◌, ◌≢◌, ℕ, ◌+◌, ◌⊎◌, List, [], ◌∷◌, ◌++◌, flat_map, length, All, Option, None, Some, Result, Ok, Err, IsTrue, codes}
 use Rattle.rt_task.specs.declared.bad_set.BadSet.{BadSet}
 use Rattle.rt_task.specs.declared.Parts.{Parts}
+use Rattle.set_canonical.specs.Canonical.{canonical}
 use Rattle.set_read.specs.Sets.{set}
 use Rattle.trace_lines.specs.declared.format.Version.{Version}
 use Rattle.trace_lines.specs.FirstLine.{first_line}
@@ -40,6 +41,11 @@ pub record IsTraceOf (bytes : List ℕ) (version : Version) (p : Parts) (lines :
   pub lines_are : AreLines (known_of version p) rest lines left
   pub stop_is : stop ≡ stop_at lines left
 
+-- the trace is what was read of the bytes, and where it says so, their second line is that of the canonical set
+pub record IsReadOf (bytes : List ℕ) (t : Trace) : Type 0 where
+  pub trace : IsTraceOf bytes t.version t.setup (lines_of t.lines) t.stop
+  pub canonical : IsTrue t.is_canonical → trace.set_text ≡ canonical t.setup
+
 -- the bytes do not begin with the first line of a format
 abbrev pub LacksFirstLine : List ℕ → Type 0
 LacksFirstLine bytes = (version : Version) (rest : List ℕ) → bytes ≢ first_line version ++ rest
@@ -66,5 +72,5 @@ IsRefused bytes faults.NoMemory = Unit {0}
 
 -- how reading ends
 abbrev pub HasRead : List ℕ → Result Trace TraceFault → Type 0
-HasRead bytes (Ok t) = IsTraceOf bytes t.version t.setup (lines_of t.lines) t.stop
+HasRead bytes (Ok t) = IsReadOf bytes t
 HasRead bytes (Err e) = IsRefused bytes e

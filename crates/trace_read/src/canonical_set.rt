@@ -1,5 +1,5 @@
 //! The set of a trace, whose line is most often the canonical text of it.
-ghost use Rattle.std.specs.Prelude.{◌≡◌, ◌<◌, ◌++◌, Ok, IfSome, IsTrue, length};
+ghost use Rattle.std.specs.Prelude.{◌≡◌, ◌<◌, ◌++◌, Ok, IfOk, IfSome, IsTrue, length};
 ghost use Rattle.rt_task.specs.Answers.{Gives};
 ghost use Rattle.set_canonical.specs.Canonical as spec;
 ghost use Rattle.set_read.specs.Sets.{set};
@@ -92,7 +92,8 @@ fn is_canonical_of(alloc: Global, setup: &Setup, bytes: &[u8]) -> bool
 
 /// The set whose canonical text the bytes are, if its steps are plain. It is not found where memory runs out.
 fn canonical_set(alloc: Global, bytes: &[u8]) -> Option<Setup>
-    ensures { IfSome result (λ s. set bytes.now ≡ Ok s) }
+    ensures read { IfSome result (λ s. set bytes.now ≡ Ok s) }
+    ensures canonical { IfSome result (λ s. bytes.now ≡ spec.canonical s) }
 {
     let draft = plain_draft(alloc, bytes)?;
     let setup = setup_of_draft(alloc, draft).ok()?;
@@ -104,12 +105,16 @@ fn canonical_set(alloc: Global, bytes: &[u8]) -> Option<Setup>
 }
 
 /// The setup that a set document stands for, or why it is refused, as `set_read::read_set` says it; a canonical text is
-/// read without the values of its steps.
-pub(crate) fn read_line_set(alloc: Global, bytes: &[u8]) -> Result<Setup, SetStop>
-    ensures { Gives (λ s. s) result (set bytes.now) }
+/// read without the values of its steps. With it, whether the document was found to be the canonical text.
+pub(crate) fn read_line_set(alloc: Global, bytes: &[u8]) -> Result<(Setup, bool), SetStop>
+    ensures read { Gives (λ x. x.0) result (set bytes.now) }
+    ensures canonical { IfOk result (λ x. IsTrue x.1 → bytes.now ≡ spec.canonical x.0) }
 {
     match canonical_set(alloc, bytes) {
-        Some(setup) => Ok(setup),
-        None => read_set(alloc, bytes),
+        Some(setup) => Ok((setup, true)),
+        None => {
+            let setup = read_set(alloc, bytes)?;
+            Ok((setup, false))
+        }
     }
 }

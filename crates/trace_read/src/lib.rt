@@ -33,4 +33,6 @@ pub struct Trace {
     pub lines: LineList,
     /// The number of that first one, from 1; `None` where there is none.
     pub stop: Option<u32>,
+    /// Whether the set's line was found to be the canonical text of the set. `false` says nothing.
+    pub is_canonical: bool,
 }

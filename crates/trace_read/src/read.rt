@@ -15,6 +15,7 @@ use crate::known::Known;
 use crate::parse::line_in;
 use crate::put::put_line;
 use crate::{Line, LineList, Trace, TraceFault};
+use memchr::memchr;
 use rt_task::Setup;
 use std::alloc::{AllocError, Global};
 use trace_lines::{Version, first_line};
@@ -24,12 +25,10 @@ fn split_line(bytes: &[u8]) -> Option<(&[u8], &[u8])>
     ensures { MatchOption result (All (λ
         (c : ℕ). c ≢ 10) bytes.now) (λ x. IsSplitAtFeed bytes.now x.0.now x.1.now) }
 {
-    for (i, c) in bytes.iter().enumerate() {
-        if *c == b'\n' {
-            return Some((&bytes[..i], &bytes[i + 1..]));
-        }
+    match memchr(b'\n', bytes) {
+        Some(i) => Some((&bytes[..i], &bytes[i + 1..])),
+        None => None,
     }
-    None
 }
 
 /// What stands after these first bytes.
@@ -156,7 +155,7 @@ pub fn read_trace(alloc: Global, bytes: &[u8]) -> Result<Trace, TraceFault>
     ensures { HasRead bytes.now result }
 {
     let (version, set, rest) = read_head(bytes)?;
-    let setup = read_line_set(alloc, set)?;
+    let (setup, is_canonical) = read_line_set(alloc, set)?;
     let (lines, left) = read_lines_of(alloc, version, &setup, rest)?;
     let stop = stop_after(lines.as_slice(), left)?;
     Ok(Trace {
@@ -164,5 +163,6 @@ pub fn read_trace(alloc: Global, bytes: &[u8]) -> Result<Trace, TraceFault>
         setup,
         lines,
         stop,
+        is_canonical,
     })
 }

@@ -8,7 +8,15 @@ ghost use Rattle.trace_read.specs.Reading as reading;
 pub(crate) fn is_word(word: &[u8], known: &[u8]) -> bool
     ensures { result ≡ bytes_eq word.now known.now }
 {
-    word == known
+    if word.len() != known.len() {
+        return false;
+    }
+    for (i, c) in word.iter().enumerate() {
+        if *c != known[i] {
+            return false;
+        }
+    }
+    true
 }
 
 /// Where the first such byte stands, or the length of the text.

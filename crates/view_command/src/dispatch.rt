@@ -3,8 +3,7 @@ ghost use Rattle.std.specs.Prelude.{◌≡◌, ◌≢◌, List, map, IfOk, Some}
 ghost use Rattle.rt_history.specs.declared.Entry.{Entry};
 ghost use Rattle.rt_task.specs.Validity.{IsValid};
 ghost use Rattle.rt_fault.specs.Faults.{HasRisen};
-ghost use Rattle.trace_read.specs.Lines.{lines_of};
-ghost use Rattle.trace_read.specs.Reads.{IsTraceOf};
+ghost use Rattle.trace_read.specs.Reads.{IsReadOf};
 ghost use Rattle.trace_text.specs.Groups.{AreGroupsOf, histories};
 ghost use Rattle.trace_upgrade.specs.Said.{SaysPlays};
 ghost use Rattle.set_input.specs.Ends.{reading, writing};
@@ -84,8 +83,7 @@ fn text_in<T: TraceTool>(
     trace: &Trace,
     tools: Vec<T>,
 ) -> Result<Vec<u8>, ViewEnd>
-    requires trace { IsTraceOf bytes.now trace.now.version trace.now.setup
-        (lines_of trace.now.lines) trace.now.stop }
+    requires trace { IsReadOf bytes.now trace.now }
     requires valid { IsValid trace.now.setup }
     requires fits { Fits view }
     ensures { IsViewed (map T.tool tools.items) trace.now.version trace.now.setup

@@ -12,7 +12,7 @@ write_upgrade-requires g c =
     let tools : List Tool = map g.T.TraceTool.tool c.args.tools.items in
     let opened : seats g.T.TraceTool.tool c.in-Ok.bus ≡ map seat_of tools = c.in-Ok.ensures ∙ sym (map-map seat_of g.T.TraceTool.tool c.args.tools.items) in
     let is = rw c.in-Ok-Valid.field-0-is at (c.in-Ok-Valid.ensures.verdict tools opened) in
-    (is.histories, valid-says tools c.args.bytes.now t c.in-Ok-Valid.field-0-0 c.requires.valid is c.requires.trace)
+    (is.histories, valid-says tools c.args.bytes.now t c.in-Ok-Valid.field-0-0 c.requires.valid is c.requires.trace.trace)
 
 pub returns-in-Ok-Valid-clause-upgraded : goal.returns-in-Ok-Valid-clause-upgraded
 returns-in-Ok-Valid-clause-upgraded g c =
@@ -21,7 +21,7 @@ returns-in-Ok-Valid-clause-upgraded g c =
     let opened : seats g.T.TraceTool.tool c.in-Ok.bus ≡ map seat_of tools = c.in-Ok.ensures ∙ sym (map-map seat_of g.T.TraceTool.tool c.args.tools.items) in
     let is = rw c.in-Ok-Valid.field-0-is at (c.in-Ok-Valid.ensures.verdict tools opened) in
     let shown = rw c.in-Ok-Valid.field-0-is at (c.in-Ok-Valid.ensures.shown tools opened) in
-    let says = valid-says tools c.args.bytes.now t c.in-Ok-Valid.field-0-0 c.requires.valid is c.requires.trace in
+    let says = valid-says tools c.args.bytes.now t c.in-Ok-Valid.field-0-0 c.requires.valid is c.requires.trace.trace in
     written-upgraded tools t.version t.setup c.args.bytes.now _ _ c.write_upgrade.result (valid-upgrade tools c.args.bytes.now t c.in-Ok-Valid.field-0-0 c.requires.valid is)
     (c.write_upgrade.ensures.written is.histories tools says (shown is))
 
@@ -32,7 +32,7 @@ returns-in-Ok-Valid-clause-wrong_unwritten g c =
     let opened : seats g.T.TraceTool.tool c.in-Ok.bus ≡ map seat_of tools = c.in-Ok.ensures ∙ sym (map-map seat_of g.T.TraceTool.tool c.args.tools.items) in
     let is = rw c.in-Ok-Valid.field-0-is at (c.in-Ok-Valid.ensures.verdict tools opened) in
     let shown = rw c.in-Ok-Valid.field-0-is at (c.in-Ok-Valid.ensures.shown tools opened) in
-    let says = valid-says tools c.args.bytes.now t c.in-Ok-Valid.field-0-0 c.requires.valid is c.requires.trace in
+    let says = valid-says tools c.args.bytes.now t c.in-Ok-Valid.field-0-0 c.requires.valid is c.requires.trace.trace in
     λ line same. absurd (written-right _ _ c.write_upgrade.result line (c.write_upgrade.ensures.written is.histories tools says (shown is)) same)
 
 pub returns-in-Ok-Valid-clause-read : goal.returns-in-Ok-Valid-clause-read
@@ -42,7 +42,7 @@ returns-in-Ok-Valid-clause-read g c =
     let opened : seats g.T.TraceTool.tool c.in-Ok.bus ≡ map seat_of tools = c.in-Ok.ensures ∙ sym (map-map seat_of g.T.TraceTool.tool c.args.tools.items) in
     let is = rw c.in-Ok-Valid.field-0-is at (c.in-Ok-Valid.ensures.verdict tools opened) in
     let shown = rw c.in-Ok-Valid.field-0-is at (c.in-Ok-Valid.ensures.shown tools opened) in
-    let says = valid-says tools c.args.bytes.now t c.in-Ok-Valid.field-0-0 c.requires.valid is c.requires.trace in
+    let says = valid-says tools c.args.bytes.now t c.in-Ok-Valid.field-0-0 c.requires.valid is c.requires.trace.trace in
     written-read _ _ c.write_upgrade.result (c.write_upgrade.ensures.written is.histories tools says (shown is))
 
 pub returns-in-Ok-Invalid-clause-upgraded : goal.returns-in-Ok-Invalid-clause-upgraded

@@ -6,7 +6,7 @@ use Rattle.trace_tools.specs.Places.{seats}
 use Rattle.trace_tools.specs.Seats.{seat_after}
 use Rattle.trace_read.specs.Lines.{line_of, lines_of}
 use Rattle.trace_check.specs.Following.{IsAccepted, IsFollowingWith, IsNextEntry}
-use Rattle.trace_check.specs.Places.{Place}
+use Rattle.trace_course.specs.Places.{Place}
 use Rattle.trace_check.specs.Judging.{begins_with}
 use Rattle.trace_check.specs.Progress.{IsEndedAt}
 use Rattle.trace_check.specs.GroupLines.{IsOtherLine}

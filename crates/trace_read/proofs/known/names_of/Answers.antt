@@ -1,4 +1,4 @@
-use Rattle.std.proofs.Common.{sym, subst, ap, ◌∙◌, get_or, length, ◌<◌}
+use Rattle.std.proofs.Common.{sym, subst, get_or}
 use Rattle.std.specs.Str.{IsUtf8}
 use Rattle.rt_task.specs.declared.Task.{Task}
 use Rattle.trace_read.proofs.known.names_of.Goals as goal

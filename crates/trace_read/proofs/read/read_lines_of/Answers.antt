@@ -1,4 +1,4 @@
-use Rattle.std.proofs.Common.{◌≡◌, ◌+◌, ◌<◌, ◌^◌, length, sym, subst}
+use Rattle.std.proofs.Common.{◌+◌, ◌<◌, ◌^◌, length, sym, subst}
 use Rattle.rt_task.specs.declared.Parts.{Parts}
 use Rattle.trace_lines.specs.Known.{known_of}
 use Rattle.trace_read.specs.Seen.{AreTexts, Tells}

@@ -17,7 +17,7 @@ text_said-requires-clause-says g c =
     let tools : List Tool = map g.T.TraceTool.tool c.args.tools.items in
     let opened : seats g.T.TraceTool.tool c.in-Ok.bus ≡ map seat_of tools = c.in-Ok.ensures ∙ sym (map-map seat_of g.T.TraceTool.tool c.args.tools.items) in
     let is = rw c.in-Ok-Valid.field-0-is at (c.in-Ok-Valid.ensures.verdict tools opened) in
-    (is.histories, valid-says tools c.args.bytes.now t c.in-Ok-Valid.field-0-0 c.requires.valid is c.requires.trace)
+    (is.histories, valid-says tools c.args.bytes.now t c.in-Ok-Valid.field-0-0 c.requires.valid is c.requires.trace.trace)
 
 pub returns-in-Ok-Valid : goal.returns-in-Ok-Valid
 returns-in-Ok-Valid g c =
@@ -25,7 +25,7 @@ returns-in-Ok-Valid g c =
     let tools : List Tool = map g.T.TraceTool.tool c.args.tools.items in
     let opened : seats g.T.TraceTool.tool c.in-Ok.bus ≡ map seat_of tools = c.in-Ok.ensures ∙ sym (map-map seat_of g.T.TraceTool.tool c.args.tools.items) in
     let is = rw c.in-Ok-Valid.field-0-is at (c.in-Ok-Valid.ensures.verdict tools opened) in
-    let says = valid-says tools c.args.bytes.now t c.in-Ok-Valid.field-0-0 c.requires.valid is c.requires.trace in
+    let says = valid-says tools c.args.bytes.now t c.in-Ok-Valid.field-0-0 c.requires.valid is c.requires.trace.trace in
     subst (λ (r : Result (Vec _ Global) ViewEnd). IsViewed tools t.version t.setup c.args.bytes.now c.args.view r) (sym c.there.ensures)
     (view-said tools t.version t.setup c.args.bytes.now c.args.view c.in-Ok-Valid.field-0-0 c.text_said.result c.requires.valid is
     (on-ok c.text_said.result c.text_said.ensures (λ o h. h is.histories says)))

@@ -5,9 +5,9 @@ use Rattle.rt_model.specs.Histories.{past_of, reply_to}
 use Rattle.rank_afresh.specs.Standing.{group_of}
 use Rattle.trace_lines.specs.Lines.{Link, links_of}
 use Rattle.trace_text.specs.Groups.{cpu_numbers}
-use Rattle.trace_check.specs.declared.course.Course.{Course}
+use Rattle.trace_course.specs.declared.course.Course.{Course}
 use Rattle.trace_check.specs.declared.follow.Follow.{Follow}
-use Rattle.trace_check.specs.Courses.{HasGone}
+use Rattle.trace_course.specs.Courses.{HasGone}
 use Rattle.trace_check.specs.GroupLinks.{HaveChanged}
 use Rattle.trace_check.specs.SameLinks.{same_links}
 use Rattle.trace_check.proofs.LinkLists.{same_links-true, same_links-self}

@@ -15,8 +15,8 @@ use Rattle.trace_text.specs.Groups.{cpu_numbers}
 use Rattle.trace_text.specs.TraceText.{links_at}
 use Rattle.waiting_list.specs.WaitingList.{WaitingList}
 use Rattle.rank_afresh.specs.Standing.{group_of}
-use Rattle.trace_check.specs.Courses.{IsOpened, room_in}
-use Rattle.trace_check.proofs.Courses.{room-first}
+use Rattle.trace_course.specs.Courses.{IsOpened, room_in}
+use Rattle.trace_course.proofs.Courses.{room-first}
 use Rattle.trace_check.proofs.Opening.{cpus-low, group-made, following-first}
 use Rattle.trace_check.proofs.follow.Follow.open.Goals as goal
 

@@ -1,0 +1,206 @@
+-- How far the scripts of a group's processors were followed, and the next step of each.
+use Rattle.std.proofs.Common.{◌≡◌, ◌≢◌, ℕ, ◌+◌, ◌<◌, ◌≤◌, ◌==◌, Bool, true, false, ◌||◌, List, [], ◌∷◌, ◌++◌, length, take, drop, get_or, set, refl, sym, ap, ◌∙◌, subst, arith, append_assoc, eqb-true, length-append, get_or-set_same, get_or-set_other, inl, inr}
+use Rattle.std.specs.Prelude.{Option, None, Some, filter, count_by, replicate, if◌then◌else◌}
+use Rattle.std.specs.Option.{MatchOption, is_some}
+use Rattle.std.proofs.lemmas.Bool.{cases_lt}
+use Rattle.std.proofs.lemmas.List.{get_or-replicate, get_or_default, get_or_past, length-replicate, map-append, take_more}
+use Rattle.std.proofs.lemmas.List.Sums.{length-filter}
+use Rattle.rt_base.specs.declared.CpuNo.{CpuNo}
+use Rattle.rt_task.specs.declared.Act.TheVariants as acts
+use Rattle.rt_task.specs.declared.Step.{Step}
+use Rattle.rt_history.specs.declared.Entry.{Entry}
+use Rattle.rt_rules.specs.Numbers.{has}
+use Rattle.rt_rules.proofs.BoolLaws.{or_true}
+use Rattle.rt_rules.proofs.MemberLaws.{equal_self, has-append}
+use Rattle.rt_model.specs.Group.{Group, group_processors}
+use Rattle.rt_plays.proofs.ScriptParts.{script-take-drop, script-take-next, script-steps_of-next, script-steps_of-skip}
+use Rattle.rt_plays.specs.Drives.{steps_given}
+use Rattle.rt_plays.specs.Homes.{IsProcessorOf}
+use Rattle.rt_plays.specs.Order.{steps_in_group}
+use Rattle.rt_plays.specs.Scripts.{script, steps_of}
+use Rattle.turn_follow.specs.Turns.{numbers_of}
+use Rattle.trace_course.specs.declared.scripts.Scripts.{Scripts}
+use Rattle.trace_course.specs.Next.{IsNextAt}
+use Rattle.trace_course.specs.Places.{ArePassed, ArePlaces, IsNextOfScript, IsNextPlace, IsPassed, IsPlaceOf, Place, has_place, place_in}
+
+longer : {A : Type 0} (xs ys : List A) (y : A) → xs ≡ xs ++ y ∷ ys → ⊥
+longer xs ys y e = omega (arith, ap length e, length-append xs (y ∷ ys))
+
+-- two lists that begin alike go on alike
+first-same : {A : Type 0} (xs ys zs : List A) (y z : A) → xs ++ y ∷ ys ≡ xs ++ z ∷ zs → y ≡ z
+first-same [] ys zs y z e = cc
+first-same {A = A} (x ∷ xs) ys zs y z e = first-same xs ys zs y z (tail (xs ++ y ∷ ys) (xs ++ z ∷ zs) e)
+  where
+    tail : (us vs : List A) → x ∷ us ≡ x ∷ vs → us ≡ vs
+    tail us vs k = cc
+
+-- a step that was found
+pub some-next : (steps : List Step) (from q : ℕ) (o : Option ℕ) → MatchOption o (script steps q ≡ script (take from steps) q) (λ j. IsNextAt steps from q j) → is_some o ≡ true → (j : ℕ) × IsNextAt steps from q j
+some-next steps from q None m t = cc
+some-next steps from q (Some j) m t = (j, m)
+
+module _ (at : Place) (steps : List Step) (s : Scripts) (ps : ArePassed at steps s) where
+  abbrev g : Group
+  g = at.group
+
+  abbrev es : List Entry
+  es = at.entries
+
+  abbrev places : List (Option ℕ)
+  places = s.places.items
+
+  pub at_place : (q from : ℕ) → place_in places q ≡ Some from → IsProcessorOf g q × IsPassed (steps_given g.setup.drive) es q from
+  at_place q from is = subst (IsPlaceOf g es q) is (ps.places_are q)
+
+  pub no_place : (q : ℕ) → place_in places q ≡ None → IsProcessorOf g q → ⊥
+  no_place q is = subst (IsPlaceOf g es q) is (ps.places_are q)
+
+  pub place-within : (q from : ℕ) → place_in places q ≡ Some from → from ≤ length steps
+  place-within q from is = let w = (at_place q from is).1.within in omega (arith, w, ap length ps.steps_are)
+
+  taken : (q from : ℕ) → place_in places q ≡ Some from → script (take from steps) q ≡ script (steps_of es) q
+  taken q from is = ap (λ (ss : List Step). script (take from ss) q) ps.steps_are ∙ (at_place q from is).1.taken
+
+  -- a processor with no step left
+  pub none-left : (q from : ℕ) → place_in places q ≡ Some from → script steps q ≡ script (take from steps) q → script (steps_given g.setup.drive) q ≡ script (steps_of es) q
+  none-left q from is same = ap (λ (ss : List Step). script ss q) (sym ps.steps_are) ∙ same ∙ taken q from is
+
+  -- where no step was found, none is next
+  pub none-found : (step : Step) (from : ℕ) → place_in places step.cpu.0 ≡ Some from → script steps step.cpu.0 ≡ script (take from steps) step.cpu.0 → IsNextOfScript g es step → ⊥
+  none-found step from is same n = longer (script (steps_of es) step.cpu.0) n.more step (sym (none-left step.cpu.0 from is same) ∙ n.next)
+
+  -- the script, from the next step on
+  goes-on : (q from j : ℕ) (x : Step) → place_in places q ≡ Some from → IsNextAt steps from q j → x ≡ get_or steps j x → script (take (j + 1) steps) q ≡ script (steps_of es) q ++ x ∷ []
+  goes-on q from j x at_it n is =
+      script-take-next steps q j x n.there (n.of_cpu x)
+      ∙ ap (λ (ss : List Step). ss ++ get_or steps j x ∷ []) (n.none_before ∙ taken q from at_it)
+      ∙ ap (λ (y : Step). script (steps_of es) q ++ y ∷ []) (sym is)
+
+  whole : (q from j : ℕ) (x : Step) → place_in places q ≡ Some from → IsNextAt steps from q j → x ≡ get_or steps j x
+      → script (steps_given g.setup.drive) q ≡ script (steps_of es) q ++ x ∷ script (drop (j + 1) steps) q
+  whole q from j x at_it n is =
+      ap (λ (ss : List Step). script ss q) (sym ps.steps_are) ∙ script-take-drop steps q (j + 1) ∙ ap (λ (ss : List Step). ss ++ script (drop (j + 1) steps) q) (goes-on q from j x at_it n is)
+      ∙ append_assoc (script (steps_of es) q) (x ∷ []) (script (drop (j + 1) steps) q)
+
+  -- the step that was found is the next one
+  pub found : (step : Step) (from j : ℕ) → place_in places step.cpu.0 ≡ Some from → IsNextAt steps from step.cpu.0 j → get_or steps j step ≡ step → IsNextPlace g es step j
+  found step from j at_it n same = record {
+    next = record { home = (at_place step.cpu.0 from at_it).0; more = script (drop (j + 1) steps) step.cpu.0; next = whole step.cpu.0 from j step at_it n (sym same) };
+    there = subst (λ (ss : List Step). j < length ss) ps.steps_are n.there;
+    step_is = λ d. ap (λ (ss : List Step). get_or ss j d) (sym ps.steps_are) ∙ get_or_default steps j d step n.there ∙ same;
+    taken = ap (λ (ss : List Step). script (take (j + 1) ss) step.cpu.0) (sym ps.steps_are) ∙ goes-on step.cpu.0 from j step at_it n (sym same);
+  }
+
+  -- and no other one is
+  pub not-found : (step : Step) (from j : ℕ) → place_in places step.cpu.0 ≡ Some from → IsNextAt steps from step.cpu.0 j → (get_or steps j step ≡ step → ⊥) → IsNextOfScript g es step → ⊥
+  not-found step from j at_it n other k =
+      let x : Step = get_or steps j step in
+      let is : x ≡ get_or steps j x = get_or_default steps j step x n.there in
+      other (first-same (script (steps_of es) step.cpu.0) (script (drop (j + 1) steps) step.cpu.0) k.more x step (sym (whole step.cpu.0 from j x at_it n is) ∙ k.next))
+
+  -- a step is left where one is found
+  pub some-left : (q from j : ℕ) → place_in places q ≡ Some from → IsNextAt steps from q j → script (steps_given g.setup.drive) q ≡ script (steps_of es) q → ⊥
+  some-left q from j at_it n none =
+      let d : Step = record { cpu = record { 0 = 0 }; tick = record { 0 = 0 }; act = acts.Tick } in
+      let x : Step = get_or steps j d in
+      let is : x ≡ get_or steps j x = get_or_default steps j d x n.there in
+      longer (script (steps_of es) q) (script (drop (j + 1) steps) q) x (sym none ∙ whole q from j x at_it n is)
+
+-- ---- the places of a group
+
+-- a processor of the group has a place
+pub place-inside : (g : Group) (es : List Entry) (places : List (Option ℕ)) (q : ℕ) → ArePlaces g es places → IsProcessorOf g q → q < length places
+place-inside g es places q are there =
+    elim (cases_lt q (length places)) [
+      | inl low ↦ low
+      | inr high ↦ (let none : place_in places q ≡ None = get_or_past places q None high in absurd (subst (IsPlaceOf g es q) none (are q) there))
+    ]
+
+-- a processor has a place where it was given one
+abbrev pub given : Bool → Option ℕ
+given b = if b then Some 0 else None
+
+-- before the first entry
+pub places-first : (g : Group) (qs : List ℕ) (places : List (Option ℕ)) → qs ≡ group_processors g → ((q : ℕ) → place_in places q ≡ (if has q qs then Some 0 else None)) → ArePlaces g [] places
+places-first g qs places same opened q = subst (IsPlaceOf g [] q) (sym (opened q)) (by_case (has q qs) refl)
+  where
+    by_case : (b : Bool) → has q qs ≡ b → IsPlaceOf g [] q (if b then Some 0 else None)
+    by_case true e = (subst (λ (ns : List ℕ). has q ns ≡ true) same e, record { within = omega arith; taken = refl })
+    by_case false e = (λ there. let yes : has q qs ≡ true = subst (λ (ns : List ℕ). has q ns ≡ true) (sym same) there in cc)
+
+-- the steps of processors with a place are those of the group
+pub places-counted : (g : Group) (qs : List ℕ) (places : List (Option ℕ)) (steps : List Step) → qs ≡ group_processors g → ((q : ℕ) → place_in places q ≡ (if has q qs then Some 0 else None))
+    → count_by (λ (s : Step). has_place places s.cpu.0) steps ≡ length (steps_in_group g steps)
+places-counted g qs places steps same opened =
+    sym (length-filter (λ (s : Step). has_place places s.cpu.0) steps) ∙ ap length (alike steps)
+  where
+    test : (q : ℕ) → has_place places q ≡ has q (group_processors g)
+    test q = ap (is_some {T = ℕ}) (opened q) ∙ by_case (has q qs) ∙ ap (has q) same
+      where
+        by_case : (b : Bool) → is_some (given b) ≡ b
+        by_case true = refl
+        by_case false = refl
+
+    alike : (ss : List Step) → filter (λ (s : Step). has_place places s.cpu.0) ss ≡ steps_in_group g ss
+    alike [] = refl
+    alike (s ∷ ss) = rw (test s.cpu.0, alike ss) refl
+
+-- one step more of a processor is behind it
+pub places-next : (g : Group) (es : List Entry) (e : Entry) (j : ℕ) (places : List (Option ℕ)) → ArePlaces g es places → IsNextPlace g es e.step j → ArePlaces g (es ++ e ∷ []) (set places e.step.cpu.0 (Some (j + 1)))
+places-next g es e j places are np q = by_case (e.step.cpu.0 == q) refl
+  where
+    inside : e.step.cpu.0 < length places
+    inside = place-inside g es places e.step.cpu.0 are np.next.home
+
+    kept : (o : Option ℕ) → e.step.cpu.0 == q ≡ false → IsPlaceOf g es q o → IsPlaceOf g (es ++ e ∷ []) q o
+    kept None other h = h
+    kept (Some n) other h = (h.0, record { within = h.1.within; taken = h.1.taken ∙ sym (script-steps_of-skip es e q other) })
+
+    by_case : (b : Bool) → e.step.cpu.0 == q ≡ b → IsPlaceOf g (es ++ e ∷ []) q (place_in (set places e.step.cpu.0 (Some (j + 1))) q)
+    by_case true own =
+        let same : e.step.cpu.0 ≡ q = eqb-true e.step.cpu.0 q own in
+        let now : place_in (set places e.step.cpu.0 (Some (j + 1))) e.step.cpu.0 ≡ Some (j + 1) = get_or-set_same places e.step.cpu.0 (Some (j + 1)) None inside in
+        let here : IsPlaceOf g (es ++ e ∷ []) e.step.cpu.0 (Some (j + 1)) = (
+          np.next.home,
+          record {
+            within = (let l = np.there in omega arith);
+            taken = np.taken ∙ sym (script-steps_of-next es e e.step.cpu.0 (equal_self e.step.cpu.0));
+          },
+        ) in
+        subst (λ (r : ℕ). IsPlaceOf g (es ++ e ∷ []) r (place_in (set places e.step.cpu.0 (Some (j + 1))) r)) same (subst (IsPlaceOf g (es ++ e ∷ []) e.step.cpu.0) (sym now) here)
+    by_case false other =
+        let apart : q ≢ e.step.cpu.0 = (λ k. let n : e.step.cpu.0 == q ≡ true = rw k (equal_self e.step.cpu.0) in cc) in
+        let now : place_in (set places e.step.cpu.0 (Some (j + 1))) q ≡ place_in places q = get_or-set_other places e.step.cpu.0 q (Some (j + 1)) None apart in
+        subst (IsPlaceOf g (es ++ e ∷ []) q) (sym now) (kept (place_in places q) other (are q))
+
+or_none : (a : Bool) → a || false ≡ a
+or_none true = refl
+or_none false = refl
+
+-- none has one at first
+pub opened-none : (n q : ℕ) → place_in (replicate n None) q ≡ None
+opened-none n q =
+    elim (cases_lt q n) [
+      | inl low ↦ get_or-replicate n q None None low
+      | inr high ↦ get_or_past (replicate n None) q None (omega (arith, high, length-replicate {A = Option ℕ} n None))
+    ]
+
+-- one processor more has a place
+pub opened-more : (cpus : List CpuNo) (i : ℕ) (cpu d : CpuNo) (places : List (Option ℕ)) → i < length cpus → cpu ≡ get_or cpus i d → cpu.0 < length places
+    → ((q : ℕ) → place_in places q ≡ (if has q (numbers_of (take i cpus)) then Some 0 else None))
+    → (q : ℕ) → place_in (set places cpu.0 (Some 0)) q ≡ (if has q (numbers_of (take (i + 1) cpus)) then Some 0 else None)
+opened-more cpus i cpu d places low is inside opened q =
+    by_case (q == cpu.0) refl ∙ ap (λ (b : Bool). if b then Some 0 else None) (sym more)
+  where
+    more : has q (numbers_of (take (i + 1) cpus)) ≡ has q (numbers_of (take i cpus)) || (q == cpu.0 || false)
+    more =
+        ap (λ (qs : List CpuNo). has q (numbers_of qs)) (take_more cpus i d low ∙ ap (λ (x : CpuNo). take i cpus ++ x ∷ []) (sym is))
+        ∙ ap (has q) (map-append (λ (x : CpuNo). x.0) (take i cpus) (cpu ∷ [])) ∙ has-append q (numbers_of (take i cpus)) (cpu.0 ∷ [])
+
+    by_case : (b : Bool) → q == cpu.0 ≡ b → place_in (set places cpu.0 (Some 0)) q ≡ (if has q (numbers_of (take i cpus)) || (b || false) then Some 0 else None)
+    by_case true e =
+        ap (place_in (set places cpu.0 (Some 0))) (eqb-true q cpu.0 e) ∙ get_or-set_same places cpu.0 (Some 0) None inside
+        ∙ ap given (sym (or_true (has q (numbers_of (take i cpus)))))
+    by_case false e =
+        let apart : q ≢ cpu.0 = (λ k. let n : q == cpu.0 ≡ true = rw k (equal_self cpu.0) in cc) in
+        get_or-set_other places cpu.0 q (Some 0) None apart ∙ opened q ∙ ap given (sym (or_none (has q (numbers_of (take i cpus)))))

@@ -1,0 +1,20 @@
+use Rattle.std.proofs.Common.{sym, subst}
+use Rattle.trace_course.specs.Places.{ArePlaces, entry_by, longer}
+use Rattle.trace_course.proofs.Places.{place-inside, places-next}
+use Rattle.trace_course.proofs.scripts.Scripts.take.Goals as goal
+
+pub pass-requires : goal.pass-requires
+pass-requires c =
+    let at = c.requires.0 in
+    let ps = c.requires.1 in
+    place-inside at.group at.entries c.args.self.now.places.items c.args.step.cpu.0 ps.places_are (c.in-Some.ensures at ps).next.home
+
+pub returns-in-Some-clause-taken : goal.returns-in-Some-clause-taken
+returns-in-Some-clause-taken c = λ at ps yes.
+    let np = c.in-Some.ensures at ps in
+    record {
+      next = np.next;
+      places_are =
+          subst (ArePlaces at.group (longer at c.args.step)) (sym c.pass.ensures)
+          (places-next at.group at.entries (entry_by at.group at.entries c.args.step) c.in-Some.j c.args.self.now.places.items ps.places_are np);
+    }

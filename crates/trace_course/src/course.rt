@@ -1,0 +1,116 @@
+//! What drives the entries of a group: the scripts of its processors, or their turns.
+ghost use Rattle.std.specs.Prelude.{◌≡◌, ◌*◌, ◌<◌, ◌≤◌, All, IfOk, true, false, length};
+ghost use Rattle.rt_base.specs.declared.TheConstants.{MOST_CPUS, MOST_STEPS, MOST_TURN_STEPS};
+ghost use Rattle.rt_task.specs.declared.Step as given;
+ghost use Rattle.rt_plays.specs.Drives as drives;
+ghost use Rattle.rt_plays.specs.Homes.{IsProcessorOf};
+ghost use Rattle.rt_plays.specs.Plays.{IsPlay};
+ghost use Rattle.rank_afresh.specs.Standing.{group_of};
+ghost use Rattle.trace_course.specs.Courses.{CanLook, CanTake, HasGone, IsOnCourse, IsOpened};
+ghost use Rattle.trace_course.specs.Courses.{IsCourse, room_in};
+ghost use Rattle.trace_course.specs.Places.{IsNextStep, Place, longer};
+
+use crate::scripts::Scripts;
+use crate::turns::{look_at, take_turn};
+use rank_afresh::Afresh;
+use rt_base::{CpuNo, MOST_TURN_STEPS, NoMemory};
+use rt_plays::steps_given;
+use rt_task::{Drive, Setup, Step};
+use std::alloc::Global;
+use turn_follow::Turns;
+
+/// How far the processors of a group are, in the scripts of a set that gives steps, or in the turns
+/// of one with a horizon.
+#[derive(Drop)]
+pub enum Course {
+    /// Of a set that gives steps.
+    Scripts(Scripts),
+    /// Of a set with a horizon.
+    Turns(Turns),
+}
+
+/// How many turns each processor has; a set with steps has none.
+fn horizon_of(drive: &Drive) -> u64
+    ensures { result ≡ drives.horizon drive.now }
+{
+    match drive {
+        Drive::Steps(_) => 0,
+        Drive::Horizon(horizon) => *horizon,
+    }
+}
+
+/// The most steps that `horizon` turns of `cpus` processors have.
+fn room_for_turns(horizon: u64, cpus: usize) -> u32
+    requires { horizon * cpus * MOST_TURN_STEPS ≤ MOST_STEPS }
+    ensures { result ≡ horizon * cpus * MOST_TURN_STEPS }
+{
+    (horizon * cpus as u64 * MOST_TURN_STEPS as u64) as u32
+}
+
+impl Course {
+    /// Before the first step of these processors.
+    pub fn open(alloc: Global, drive: &Drive, cpus: &[CpuNo]) -> Result<Course, NoMemory>
+        requires { All (λ q. q.0 < MOST_CPUS) cpus.now }
+        ensures { IfOk result (IsOpened drive.now cpus.now) }
+    {
+        match drive {
+            Drive::Steps(_) => Ok(Course::Scripts(Scripts::open(alloc, cpus)?)),
+            Drive::Horizon(horizon) => Ok(Course::Turns(Turns::open(alloc, cpus, *horizon)?)),
+        }
+    }
+
+    /// How many entries `cpus` processors can have at most.
+    pub fn room(&self, drive: &Drive, cpus: usize) -> u32
+        requires steps { length (drives.steps_given drive.now) ≤ MOST_STEPS }
+        requires turns { drives.horizon drive.now * cpus * MOST_TURN_STEPS ≤ MOST_STEPS }
+        ensures { result ≡ room_in drive.now cpus self.now }
+    {
+        match self {
+            Course::Scripts(scripts) => scripts.count(steps_given(drive)),
+            Course::Turns(_) => room_for_turns(horizon_of(drive), cpus),
+        }
+    }
+
+    /// Takes a step, where it is one that may come next of its processor.
+    pub fn take(&mut self, setup: &Setup, afresh: &Afresh, step: Step) -> bool
+        requires { (at : Place) × CanTake at setup.now afresh.now self.old }
+        ensures taken { (at : Place) → CanTake at setup.now afresh.now self.old
+            → result ≡ true → HasGone at step self.new }
+        ensures refused { (at : Place) → CanTake at setup.now afresh.now self.old
+            → result ≡ false → IsNextStep at.group at.entries step → ⊥ }
+    {
+        match self {
+            Course::Scripts(scripts) => scripts.take(steps_given(&setup.parts().drive), step),
+            Course::Turns(turns) => take_turn(turns, setup, afresh, step),
+        }
+    }
+
+    /// Looks at the processors of the group after a step that was taken.
+    pub fn look(&mut self, setup: &Setup, afresh: &Afresh, cpus: &[CpuNo])
+        requires { (at : Place) × (step : given.Step)
+            × CanLook at step setup.now afresh.now cpus.now }
+        ensures { (at : Place) (step : given.Step)
+            → CanLook at step setup.now afresh.now cpus.now
+            → HasGone at step self.old
+            → IsCourse at.group (longer at step) self.new }
+    {
+        match self {
+            Course::Scripts(_) => {}
+            Course::Turns(turns) => look_at(turns, setup, afresh, cpus),
+        }
+    }
+
+    /// Whether no processor has a step left.
+    pub fn is_over(&self, setup: &Setup) -> bool
+        requires { (at : Place) × IsOnCourse at setup.now self.now }
+        ensures over { (at : Place) → IsOnCourse at setup.now self.now
+            → result ≡ true → IsPlay at.group at.entries }
+        ensures not_over { (at : Place) → IsOnCourse at setup.now self.now
+            → result ≡ false → IsPlay at.group at.entries → ⊥ }
+    {
+        match self {
+            Course::Scripts(scripts) => scripts.are_over(steps_given(&setup.parts().drive)),
+            Course::Turns(turns) => turns.have_ended(),
+        }
+    }
+}
