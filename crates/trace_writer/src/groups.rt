@@ -104,11 +104,11 @@ fn write_group<T: TraceTool, K: Sink>(
 ) -> Result<(), WriteStop>
     requires there { IsGroupOf setup.now number.0 }
     requires steps { AreStepsIn (group_with setup.now number.0) steps }
-    ensures lines { let es = group_told setup.now number.0 steps in Came result
+    ensures lines { let es = group_told setup.now number.0 steps.entry in Came result
         (K.held out.old) (K.held out.new) (K.faults out.old) (K.faults out.new)
         (flat_map (line_text (known_in format.now))
         (group_lines (group_with setup.now number.0) es)) }
-    ensures shown { let es = group_told setup.now number.0 steps in
+    ensures shown { let es = group_told setup.now number.0 steps.entry in
         let shown = shown_entries (group_with setup.now number.0) 0 [] es in
         OnOk result (seats T.tool bus.new ≡ seats_after shown (seats T.tool bus.old)) }
 {

@@ -92,11 +92,11 @@ fn summarize_group<T: TraceTool>(
 ) -> Result<Summary, NoMemory>
     requires there { IsGroupOf setup.now number.0 }
     requires steps { AreStepsIn (group_with setup.now number.0) steps }
-    ensures summary { let es = group_told setup.now number.0 steps in
+    ensures summary { let es = group_told setup.now number.0 steps.entry in
         IfOk result (λ s. s ≡ summary_in (group_with setup.now number.0) es) }
     ensures entries { IfOk result (λ s. s.entries ≤ MOST_STEPS) }
     ensures requests { IfOk result (λ s. s.requests ≤ 2 * MOST_STEPS) }
-    ensures shown { let es = group_told setup.now number.0 steps in
+    ensures shown { let es = group_told setup.now number.0 steps.entry in
         let shown = shown_entries (group_with setup.now number.0) 0 [] es in
         IfOk result (λ _. seats T.tool bus.new ≡ seats_after shown (seats T.tool bus.old)) }
 {
