@@ -1,5 +1,5 @@
 -- One more of the steps that are left: its entry, its line, and what a bus is shown.
-use Rattle.std.proofs.Common.{◌≡◌, ℕ, ◌+◌, ◌-◌, ◌<◌, ◌≤◌, List, [], ◌∷◌, ◌++◌, length, map, refl, sym, ap, ◌∙◌, arith}
+use Rattle.std.proofs.Common.{◌≡◌, ℕ, ◌+◌, ◌-◌, ◌<◌, ◌≤◌, List, [], ◌∷◌, ◌++◌, length, map, refl, sym, ap, subst, ◌∙◌, arith}
 use Rattle.rt_task.specs.declared.Step.{Step}
 use Rattle.rt_history.specs.declared.Entry.{Entry}
 use Rattle.rt_history.specs.declared.Reply.{Reply}
@@ -32,50 +32,62 @@ ahead-end g left was none = ap (history g was) none
 
 -- ---- the lines
 
-pub lines-next : (k : Known) (g : Group) (no : ℕ) (was now : Past) (e : Entry) (es more : List Entry) (shown : List Link) → es ≡ e ∷ more → now ≡ after g e.step was → shown ≡ links_at g now (changed g was now)
-    → texts k (entry_lines g no was es) ≡ line_text k (entry_line no e shown) ++ texts k (entry_lines g (no + 1) now more)
+pub lines-next : (k : Known) (g : Group) (i : ℕ) (was now : Past) (e : Entry) (es more : List Entry) (shown : List Link) → es ≡ e ∷ more → now ≡ after g e.step was → shown ≡ links_at g now (changed g was now)
+    → texts k (entry_lines g i was es) ≡ line_text k (entry_line i e shown) ++ texts k (entry_lines g (i + 1) now more)
 unfolding entry_lines
-lines-next k g no was now e es more shown next stepped links = rw (links, next, stepped) refl
+lines-next k g i was now e es more shown next stepped links = rw (links, next, stepped) refl
 
-pub lines-end : (k : Known) (g : Group) (no : ℕ) (was : Past) (es : List Entry) → es ≡ [] → texts k (entry_lines g no was es) ≡ []
+pub lines-end : (k : Known) (g : Group) (i : ℕ) (was : Past) (es : List Entry) → es ≡ [] → texts k (entry_lines g i was es) ≡ []
 unfolding entry_lines
-lines-end k g no was es none = rw none refl
+lines-end k g i was es none = rw none refl
 
 -- ---- what a bus is shown
 
-pub seats-next : (g : Group) (no : ℕ) (was now : Past) (e : Entry) (es more : List Entry) (before fed : List Seat) → es ≡ e ∷ more → now ≡ after g e.step was → fed ≡ map (seat_after (shown_as g no e now)) before
-    → seats_after (shown_entries g (no + 1) now more) fed ≡ seats_after (shown_entries g no was es) before
+pub seats-next : (g : Group) (i : ℕ) (was now : Past) (e : Entry) (es more : List Entry) (before fed : List Seat) → es ≡ e ∷ more → now ≡ after g e.step was → fed ≡ map (seat_after (shown_as g i e now)) before
+    → seats_after (shown_entries g (i + 1) now more) fed ≡ seats_after (shown_entries g i was es) before
 unfolding shown_entries
-seats-next g no was now e es more before fed next stepped shown = rw (shown, next, stepped) refl
+seats-next g i was now e es more before fed next stepped shown = rw (shown, next, stepped) refl
 
-pub seats-end : (g : Group) (no : ℕ) (was : Past) (es : List Entry) (before : List Seat) → es ≡ [] → seats_after (shown_entries g no was es) before ≡ before
+pub seats-end : (g : Group) (i : ℕ) (was : Past) (es : List Entry) (before : List Seat) → es ≡ [] → seats_after (shown_entries g i was es) before ≡ before
 unfolding shown_entries
-seats-end g no was es before none = rw none refl
+seats-end g i was es before none = rw none refl
+
+-- ---- an engine that is lent shows the history that it has
+
+pub lent-next : (now lent : GroupHistory) (left left' : StepsLeft) (s : Step) → lent ≡ now → steps_left (group_of lent) left (past lent) ≡ s ∷ steps_left (group_of lent) left' (after (group_of lent) s (past lent))
+    → steps_left (group_of now) left (past now) ≡ s ∷ steps_left (group_of now) left' (after (group_of now) s (past now))
+lent-next now lent left left' s same next =
+    subst (λ (h : GroupHistory). steps_left (group_of h) left (past h) ≡ s ∷ steps_left (group_of h) left' (after (group_of h) s (past h))) same next
+
+pub lent-end : (g : Group) (now lent : GroupHistory) (left : StepsLeft) → lent ≡ now → group_of now ≡ g → steps_left (group_of lent) left (past lent) ≡ [] → ahead g left (past now) ≡ []
+lent-end g now lent left same own none =
+    let here : steps_left (group_of now) left (past now) ≡ [] = subst (λ (h : GroupHistory). steps_left (group_of h) left (past h) ≡ []) same none in
+    ahead-end g left (past now) (subst (λ (x : Group). steps_left x left (past now) ≡ []) own here)
 
 -- ---- a group that plays
 
 -- from the history `old`, whose steps come to `all`, it has come to `now`, and these steps are left
-pub record IsPlaying (old now : GroupHistory) (left : StepsLeft) (no : ℕ) (all : List Entry) : Type 0 where
+pub record IsPlaying (old now : GroupHistory) (left : StepsLeft) (i : ℕ) (all : List Entry) : Type 0 where
   pub same_group : group_of now ≡ group_of old
   pub of : AreOf (group_of old) left
-  pub count : no + now.spare ≡ old.spare
+  pub count : i + now.spare ≡ old.spare
   pub room : length (ahead (group_of old) left (past now)) ≤ now.spare
   pub past_is : past_from (group_of old) (past now) (ahead (group_of old) left (past now)) ≡ past_from (group_of old) (past old) all
 
 pub playing-first : (old : GroupHistory) (left : StepsLeft) → AreOf (group_of old) left → length (ahead (group_of old) left (past old)) ≤ old.spare → IsPlaying old old left 0 (ahead (group_of old) left (past old))
-playing-first old left of room = record { same_group = refl; of = of; count = refl; room = room; past_is = refl }
+playing-first old left of room = record { same_group = refl; of = of; count = omega arith; room = room; past_is = refl }
 
-module _ (old now : GroupHistory) (left left' : StepsLeft) (no : ℕ) (all : List Entry) (s : Step) (playing : IsPlaying old now left no all)
+module _ (old now : GroupHistory) (left left' : StepsLeft) (i : ℕ) (all : List Entry) (s : Step) (playing : IsPlaying old now left i all)
     (next : steps_left (group_of now) left (past now) ≡ s ∷ steps_left (group_of now) left' (after (group_of now) s (past now))) where
   next-here : steps_left (group_of old) left (past now) ≡ s ∷ steps_left (group_of old) left' (after (group_of old) s (past now))
-  next-here = rw playing.same_group at next
+  next-here = subst (λ (g : Group). steps_left g left (past now) ≡ s ∷ steps_left g left' (after g s (past now))) playing.same_group next
 
   -- its entry, and those behind it
   pub entry-next : (h : GroupHistory) (r : Reply) → r ≡ reply_to (group_of now) s (past now) → past h ≡ after (group_of now) s (past now)
       → ahead (group_of old) left (past now) ≡ record { step = s; reply = r } ∷ ahead (group_of old) left' (past h)
   entry-next h r told stepped =
-      let here : r ≡ reply_to (group_of old) s (past now) = rw playing.same_group at told in
-      let after_it : past h ≡ after (group_of old) s (past now) = rw playing.same_group at stepped in
+      let here : r ≡ reply_to (group_of old) s (past now) = told ∙ ap (λ (g : Group). reply_to g s (past now)) playing.same_group in
+      let after_it : past h ≡ after (group_of old) s (past now) = stepped ∙ ap (λ (g : Group). after g s (past now)) playing.same_group in
       ahead-next (group_of old) left left' (past now) s r here next-here ∙ ap (λ (p : Past). record { step = s; reply = r } ∷ ahead (group_of old) left' p) (sym after_it)
 
   pub room-next : 0 < now.spare
@@ -83,16 +95,16 @@ module _ (old now : GroupHistory) (left left' : StepsLeft) (no : ℕ) (all : Lis
       let more = ap length (ahead-next (group_of old) left left' (past now) s (reply_to (group_of old) s (past now)) refl next-here) in
       omega (arith, more, playing.room)
 
-  pub playing-next : (h : GroupHistory) → AreOf (group_of now) left' → group_of h ≡ group_of now → h.spare ≡ now.spare - 1 → past h ≡ after (group_of now) s (past now) → IsPlaying old h left' (no + 1) all
+  pub playing-next : (h : GroupHistory) → AreOf (group_of now) left' → group_of h ≡ group_of now → h.spare ≡ now.spare - 1 → past h ≡ after (group_of now) s (past now) → IsPlaying old h left' (i + 1) all
   unfolding past_from
   playing-next h of group spare stepped =
       let r : Reply = reply_to (group_of now) s (past now) in
       let more = entry-next h r refl stepped in
-      let after_it : past h ≡ after (group_of old) s (past now) = rw playing.same_group at stepped in
+      let after_it : past h ≡ after (group_of old) s (past now) = stepped ∙ ap (λ (g : Group). after g s (past now)) playing.same_group in
       let some = room-next in
       record {
         same_group = group ∙ playing.same_group;
-        of = rw playing.same_group at of;
+        of = subst (λ (g : Group). AreOf g left') playing.same_group of;
         count = omega (arith, playing.count, spare, some);
         room = omega (arith, ap length more, playing.room, spare);
         past_is =
@@ -100,11 +112,9 @@ module _ (old now : GroupHistory) (left left' : StepsLeft) (no : ℕ) (all : Lis
             ∙ sym (ap (past_from (group_of old) (past now)) more) ∙ playing.past_is;
       }
 
-pub playing-end : (old now : GroupHistory) (left : StepsLeft) (no : ℕ) (all : List Entry) → IsPlaying old now left no all → steps_left (group_of now) left (past now) ≡ [] → HasPlayed old now all
+pub playing-end : (old now : GroupHistory) (left : StepsLeft) (i : ℕ) (all : List Entry) → IsPlaying old now left i all → ahead (group_of old) left (past now) ≡ [] → HasPlayed old now all
 unfolding past_from
-playing-end old now left no all playing none = record {
+playing-end old now left i all playing none = record {
   group_is = playing.same_group;
-  past_is =
-      let here : steps_left (group_of old) left (past now) ≡ [] = rw playing.same_group at none in
-      sym (ap (past_from (group_of old) (past now)) (ahead-end (group_of old) left (past now) here)) ∙ playing.past_is;
+  past_is = sym (ap (past_from (group_of old) (past now)) none) ∙ playing.past_is;
 }
