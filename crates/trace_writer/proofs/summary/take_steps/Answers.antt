@@ -22,8 +22,8 @@ pub next-requires-clause-setup : goal.next-requires-clause-setup
 next-requires-clause-setup g c =
     ap (λ (h : GroupHistory). h.setup) c.engine.ensures ∙ ap (λ (x : Group). x.setup) c.loop-step.invariant.playing.same_group ∙ c.requires.setup
 
-pub step-requires-clause-room : goal.step-requires-clause-room
-step-requires-clause-room g c =
+pub step-reply-requires-clause-room : goal.step-reply-requires-clause-room
+step-reply-requires-clause-room g c =
     let old : GroupHistory = c.args.engine.now in
     let h : GroupHistory = c.loop-step.engine in
     let next = lent-next h c.engine.result.now c.loop-step.left c.next.new.self c.in-Some.step c.engine.ensures c.in-Some.ensures.next in
@@ -35,27 +35,27 @@ loop-step-smaller g c =
     let h : GroupHistory = c.loop-step.engine in
     let next = lent-next h c.engine.result.now c.loop-step.left c.next.new.self c.in-Some.step c.engine.ensures c.in-Some.ensures.next in
     let some = room-next old h c.loop-step.left c.next.new.self c.loop-step.no _ c.in-Some.step c.loop-step.invariant.playing next in
-    omega (arith, some, ap (λ (x : GroupHistory). x.spare) c.step.ensures.entry)
+    omega (arith, some, ap (λ (x : GroupHistory). x.spare) c.step-reply.ensures.entry)
 
 pub show-requires : goal.show-requires
 show-requires g c =
-    ap (λ (h : GroupHistory). h.group) c.step.ensures.entry ∙ ap (λ (x : Group). x.number) c.loop-step.invariant.playing.same_group ∙ c.requires.number
+    ap (λ (h : GroupHistory). h.group) c.step-reply.ensures.entry ∙ ap (λ (x : Group). x.number) c.loop-step.invariant.playing.same_group ∙ c.requires.number
 
 pub loop-step-preserved : goal.loop-step-preserved
 loop-step-preserved g c =
     let old : GroupHistory = c.args.engine.now in
     let h : GroupHistory = c.loop-step.engine in
     let next = lent-next h c.engine.result.now c.loop-step.left c.next.new.self c.in-Some.step c.engine.ensures c.in-Some.ensures.next in
-    let h' : GroupHistory = c.step.new.self in
+    let h' : GroupHistory = c.step-reply.new.self in
     let own = c.loop-step.invariant.playing.same_group in
-    let e : Entry = record { step = c.in-Some.step; reply = c.step.result } in
-    let group = ap group_of c.step.ensures.entry in
-    let took = past_step h h' c.in-Some.step c.step.result c.step.ensures.entry in
-    let more = entry-next old h c.loop-step.left c.next.new.self c.loop-step.no _ c.in-Some.step c.loop-step.invariant.playing next h' c.step.result c.step.ensures.reply took in
+    let e : Entry = record { step = c.in-Some.step; reply = c.step-reply.result } in
+    let group = ap group_of c.step-reply.ensures.entry in
+    let took = past_step h h' c.in-Some.step c.step-reply.result c.step-reply.ensures.entry in
+    let more = entry-next old h c.loop-step.left c.next.new.self c.loop-step.no _ c.in-Some.step c.loop-step.invariant.playing next h' c.step-reply.result c.step-reply.ensures.reply took in
     let stepped : past h' ≡ after (group_of old) c.in-Some.step (past h) = took ∙ ap (λ (x : Group). after x c.in-Some.step (past h)) own in
     let fed = c.show.ensures ∙ ap (λ (x : Group). map (seat_after (shown_as x c.loop-step.no e (past h'))) (seats g.T.TraceTool.tool c.loop-step.bus)) (group ∙ own) in
     record {
-      playing = playing-next old h c.loop-step.left c.next.new.self c.loop-step.no _ c.in-Some.step c.loop-step.invariant.playing next h' (subst (λ (x : Group). AreOf x c.next.new.self) (ap group_of c.engine.ensures) c.in-Some.ensures.of) group (ap (λ (x : GroupHistory). x.spare) c.step.ensures.entry) took;
+      playing = playing-next old h c.loop-step.left c.next.new.self c.loop-step.no _ c.in-Some.step c.loop-step.invariant.playing next h' (subst (λ (x : Group). AreOf x c.next.new.self) (ap group_of c.engine.ensures) c.in-Some.ensures.of) group (ap (λ (x : GroupHistory). x.spare) c.step-reply.ensures.entry) took;
       shown = seats-next (group_of old) c.loop-step.no (past h) (past h') e (ahead (group_of old) c.loop-step.left (past h)) (ahead (group_of old) c.next.new.self (past h')) (seats g.T.TraceTool.tool c.loop-step.bus) (seats g.T.TraceTool.tool c.show.new.bus) more stepped fed
           ∙ c.loop-step.invariant.shown;
     }
