@@ -1,4 +1,4 @@
-use Rattle.std.proofs.Common.{◌≡◌, List, [], ◌++◌, ap, ◌∙◌, subst, refl, Ok, Err}
+use Rattle.std.proofs.Common.{◌≡◌, List, [], ◌++◌, ap, ◌∙◌, length, subst, sym, refl, arith, Ok, Err}
 use Rattle.rt_model.specs.Group.{Group, group_processors}
 use Rattle.rt_model.specs.Past.{Past}
 use Rattle.rt_history.specs.declared.Entry.{Entry}
@@ -18,7 +18,9 @@ use Rattle.trace_writer.proofs.GroupParts.{blocks_of, coming-group, entries_of, 
 use Rattle.rt_task.specs.declared.Step.{Step}
 use Rattle.rt_plays.specs.Order.{history}
 use Rattle.rt_plays.specs.Plays.{group_with}
-use Rattle.set_plays.specs.GroupSteps.{group_told}
+use Rattle.set_plays.specs.GroupSteps.{group_told, steps_of}
+use Rattle.set_plays.specs.StepsLeft.{AreOf}
+use Rattle.set_plays.proofs.ScriptLaws.{length-history}
 use Rattle.trace_text.proofs.LineLaws.{texts}
 use Rattle.trace_writer.proofs.Replays.{on_ok}
 use Rattle.trace_writer.proofs.groups.write_group.Goals as goal
@@ -88,6 +90,28 @@ returns-clause-lines g c =
     (text_of k g' es) (entries_of k g' es) (blocks_of k g' es) first
     (subst (λ xs. Came (Ok tt) (g.K.Sink.held c.write_group_line.new.out) (g.K.Sink.held c.write_entries.new.out) (g.K.Sink.faults c.write_group_line.new.out) (g.K.Sink.faults c.write_entries.new.out) xs) lines c.in_ok-write_entries.ensures.lines))
     (subst (λ xs. Came c.write_blocks.result (g.K.Sink.held c.write_entries.new.out) (g.K.Sink.held c.write_blocks.new.out) (g.K.Sink.faults c.write_entries.new.out) (g.K.Sink.faults c.write_blocks.new.out) xs) blocks c.write_blocks.ensures)
+
+pub write_entries-requires-clause-setup : goal.write_entries-requires-clause-setup
+write_entries-requires-clause-setup g c = ap (λ (x : GroupHistory). x.setup) c.in_ok-replay.ensures.opened
+
+pub write_entries-requires-clause-of : goal.write_entries-requires-clause-of
+write_entries-requires-clause-of g c = subst (λ (x : Group). AreOf x c.in_ok-left.left) (sym (ap group_of c.in_ok-replay.ensures.opened)) c.in_ok-left.ensures.of
+
+pub write_entries-requires-clause-room : goal.write_entries-requires-clause-room
+write_entries-requires-clause-room g c =
+    let g' : Group = group_with c.args.setup.now c.args.number.0 in
+    let same : group_of c.in_ok-replay.replay.engine ≡ g' = ap group_of c.in_ok-replay.ensures.opened in
+    let none : c.in_ok-replay.replay.engine.entries ≡ [] = ap (λ (x : GroupHistory). x.entries) c.in_ok-replay.ensures.opened in
+    let came : ahead (group_of c.in_ok-replay.replay.engine) c.in_ok-left.left (past c.in_ok-replay.replay.engine) ≡ group_told c.args.setup.now c.args.number.0 c.args.steps =
+    ap (λ (x : Group). ahead x c.in_ok-left.left (past c.in_ok-replay.replay.engine)) same ∙ ap (ahead g' c.in_ok-left.left) (opened-past c.in_ok-replay.replay.engine none)
+    ∙ ap (history g' []) c.in_ok-left.ensures.steps_are in
+    omega (arith, ap length came, length-history g' [] (steps_of g' c.args.steps), c.in_ok-left.ensures.enough, c.room.ensures, ap (λ (x : GroupHistory). x.spare) c.in_ok-replay.ensures.opened)
+
+pub write_entries-requires-clause-few : goal.write_entries-requires-clause-few
+write_entries-requires-clause-few g c = omega (arith, c.in_ok-left.ensures.few, c.room.ensures, ap (λ (x : GroupHistory). x.spare) c.in_ok-replay.ensures.opened)
+
+pub open-requires-clause-room : goal.open-requires-clause-room
+open-requires-clause-room g c = omega (arith, c.in_ok-left.ensures.few, c.room.ensures)
 
 pub write_entries-requires-clause-number : goal.write_entries-requires-clause-number
 write_entries-requires-clause-number g c = ap (λ (x : GroupHistory). x.group) c.in_ok-replay.ensures.opened

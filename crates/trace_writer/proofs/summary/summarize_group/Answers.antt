@@ -1,4 +1,4 @@
-use Rattle.std.proofs.Common.{◌≡◌, ◌≤◌, List, [], length, refl, ap, ◌∙◌, subst, arith}
+use Rattle.std.proofs.Common.{◌≡◌, ◌≤◌, List, [], length, refl, sym, ap, ◌∙◌, subst, arith}
 use Rattle.rt_base.specs.declared.TheConstants.{MOST_STEPS}
 use Rattle.rt_history.specs.declared.Entry.{Entry}
 use Rattle.rt_model.specs.Group.{Group}
@@ -10,6 +10,7 @@ use Rattle.rt_groups.specs.Groups.{GroupHistory, group_of, past}
 use Rattle.block_counts.specs.SeenWords.{tallies_of}
 use Rattle.count_laws.specs.Tallies.{tallies}
 use Rattle.set_plays.specs.GroupSteps.{group_told, steps_of}
+use Rattle.set_plays.specs.StepsLeft.{AreOf}
 use Rattle.set_plays.proofs.ScriptLaws.{length-history}
 use Rattle.trace_tools.specs.declared.shown.Shown.{Shown}
 use Rattle.trace_tools.specs.Places.{seats}
@@ -22,6 +23,28 @@ use Rattle.trace_writer.proofs.summary.summarize_group.Goals as goal
 
 pub take_steps-requires-clause-number : goal.take_steps-requires-clause-number
 take_steps-requires-clause-number g c = ap (λ (x : GroupHistory). x.group) c.in_ok-engine.ensures
+
+pub take_steps-requires-clause-setup : goal.take_steps-requires-clause-setup
+take_steps-requires-clause-setup g c = ap (λ (x : GroupHistory). x.setup) c.in_ok-engine.ensures
+
+pub take_steps-requires-clause-of : goal.take_steps-requires-clause-of
+take_steps-requires-clause-of g c = subst (λ (x : Group). AreOf x c.in_ok-left.left) (sym (ap group_of c.in_ok-engine.ensures)) c.in_ok-left.ensures.of
+
+pub take_steps-requires-clause-room : goal.take_steps-requires-clause-room
+take_steps-requires-clause-room g c =
+    let g' : Group = group_with c.args.setup.now c.args.number.0 in
+    let same : group_of c.in_ok-engine.engine ≡ g' = ap group_of c.in_ok-engine.ensures in
+    let none : c.in_ok-engine.engine.entries ≡ [] = ap (λ (x : GroupHistory). x.entries) c.in_ok-engine.ensures in
+    let came : ahead (group_of c.in_ok-engine.engine) c.in_ok-left.left (past c.in_ok-engine.engine) ≡ group_told c.args.setup.now c.args.number.0 c.args.steps =
+    ap (λ (x : Group). ahead x c.in_ok-left.left (past c.in_ok-engine.engine)) same ∙ ap (ahead g' c.in_ok-left.left) (opened-past c.in_ok-engine.engine none)
+    ∙ ap (history g' []) c.in_ok-left.ensures.steps_are in
+    omega (arith, ap length came, length-history g' [] (steps_of g' c.args.steps), c.in_ok-left.ensures.enough, c.room.ensures, ap (λ (x : GroupHistory). x.spare) c.in_ok-engine.ensures)
+
+pub take_steps-requires-clause-few : goal.take_steps-requires-clause-few
+take_steps-requires-clause-few g c = omega (arith, c.in_ok-left.ensures.few, c.room.ensures, ap (λ (x : GroupHistory). x.spare) c.in_ok-engine.ensures)
+
+pub open-requires-clause-room : goal.open-requires-clause-room
+open-requires-clause-room g c = omega (arith, c.in_ok-left.ensures.few, c.room.ensures)
 
 pub returns-clause-summary : goal.returns-clause-summary
 returns-clause-summary g c =
