@@ -1,3 +1,4 @@
+pub mod Groups
 pub mod Sim
 pub mod Check
 pub mod SimAnswers

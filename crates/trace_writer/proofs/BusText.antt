@@ -1,5 +1,5 @@
 -- The text of a bus is that of its tools; without tools it is the trace.
-use Rattle.std.proofs.Common.{◌≡◌, ℕ, List, [], ◌∷◌, ◌++◌, map, refl, sym, ap, subst, ◌∙◌, append-nil, append_assoc}
+use Rattle.std.proofs.Common.{◌≡◌, List, [], ◌∷◌, ◌++◌, map, refl, sym, ap, ◌∙◌, append-nil}
 use Rattle.std.proofs.lemmas.Simd.{map-map}
 use Rattle.rt_task.specs.declared.Parts.{Parts}
 use Rattle.rt_history.specs.declared.Entry.{Entry}
@@ -11,10 +11,8 @@ use Rattle.trace_tools.specs.Seats.{Seat, seat_line, seat_of, seats_after}
 use Rattle.trace_tools.specs.Tools.{Tool, line_of}
 use Rattle.trace_tools.specs.Tools as tools
 use Rattle.trace_tools.proofs.BusLaws.{lines-after}
-use Rattle.rt_fault.specs.Held.{Held}
-use Rattle.trace_writer.proofs.CameLaws.{Coming, coming-start}
-use Rattle.trace_text.specs.CountLines.{bus_lines, bus_text, counted_text, shown_from}
-use Rattle.trace_text.specs.TraceText.{head_text, lines_from, trace_text}
+use Rattle.trace_text.specs.CountLines.{bus_text, counted_text, shown_from}
+use Rattle.trace_text.specs.TraceText.{trace_text}
 use Rattle.trace_text.proofs.LineLaws.{texts}
 
 -- the lines of a bus of these tools, each of which is what its trait says
@@ -38,27 +36,3 @@ text-of_none version p hs seats none =
     ap (λ (ss : List Seat). bus_text version ss p hs) none
     ∙ ap (λ (ss : List Seat). trace_text version p hs ++ texts (known_of version p) (map seat_line ss)) (seats_after-none (shown_from p 0 hs))
     ∙ append-nil (trace_text version p hs)
-
--- ---- the text of a bus, part by part: the head, the lines of the groups, and the count lines
-
--- the lines of the groups, with the names of a setup
-abbrev pub lines_of_parts : Version → Parts → Parts → List (List Entry) → List ℕ
-lines_of_parts version names p hs = texts (known_of version names) (lines_from p 0 hs)
-
-abbrev pub lines_of : Version → Parts → List (List Entry) → List ℕ
-lines_of version p hs = lines_of_parts version p p hs
-
-abbrev pub counts_of : Version → Parts → List (List Entry) → List Seat → List ℕ
-counts_of version p hs seats = texts (known_of version p) (bus_lines seats p hs)
-
-bus-parts : (version : Version) (p : Parts) (hs : List (List Entry)) (seats : List Seat)
-    → bus_text version seats p hs ≡ head_text version p ++ (lines_of version p hs ++ counts_of version p hs seats)
-unfolding trace_text
-bus-parts version p hs seats = append_assoc (head_text version p) (lines_of version p hs) (counts_of version p hs seats)
-
--- none of them came yet
-pub coming-bus : (version : Version) (p : Parts) (hs : List (List Entry)) (seats : List Seat) (held : Held) (faults : ℕ)
-    → Coming held held faults faults (bus_text version seats p hs) (head_text version p ++ (lines_of version p hs ++ counts_of version p hs seats))
-coming-bus version p hs seats held faults =
-    subst (λ (xs : List ℕ). Coming held held faults faults (bus_text version seats p hs) xs) (bus-parts version p hs seats)
-    (coming-start held faults (bus_text version seats p hs))

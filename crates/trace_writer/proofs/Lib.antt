@@ -1,7 +1,8 @@
 pub mod CameLaws
 pub mod Replays
-pub mod Stepping
-pub mod GroupParts
-pub mod GroupSequence
+pub mod LentLinks
+pub mod GroupLines
+pub mod ShownEntries
 pub mod SummaryLaws
 pub mod BusText
+pub mod BusParts

@@ -1,4 +1,4 @@
--- An engine that takes the steps of a group, with the links of its processors and its requests.
+-- An engine that takes the steps of a group again, with the links of its processors and its requests.
 use Rattle.std.specs.Prelude.{◌≡◌, ℕ, ◌≤◌, List, length}
 use Rattle.rt_base.specs.declared.CpuNo.{CpuNo}
 use Rattle.rt_task.specs.Validity.{IsValid}
@@ -9,13 +9,8 @@ use Rattle.rt_groups.specs.Groups.{GroupHistory, group_of, past}
 use Rattle.block_counts.specs.GroupRequests.{GroupRequests, IsAt}
 use Rattle.trace_lines.specs.declared.links.CpuLink.{CpuLink}
 use Rattle.trace_lines.specs.Lines.{links_of}
-use Rattle.trace_text.specs.Groups.{cpu_numbers}
 use Rattle.trace_text.specs.TraceText.{links_at}
-use Rattle.rt_model.specs.Group.{Group}
-use Rattle.rt_model.specs.Past.{Past}
-use Rattle.rt_plays.specs.Order.{history}
-use Rattle.set_plays.specs.declared.steps_left.StepsLeft.{StepsLeft}
-use Rattle.set_plays.specs.StepsLeft.{steps_left}
+use Rattle.trace_text.specs.Groups.{cpu_numbers}
 
 -- these are the processors of a group and their links after its history
 pub record Follows (h : GroupHistory) (qs : List CpuNo) (links : List CpuLink) : Type 0 where
@@ -35,7 +30,3 @@ pub record Counts (h : GroupHistory) (b : GroupRequests) (room : ℕ) : Type 0 w
 pub record HasPlayed (old new : GroupHistory) (es : List Entry) : Type 0 where
   pub group_is : group_of new ≡ group_of old
   pub past_is : past new ≡ past_from (group_of old) (past old) es
-
--- the entries of the steps that are left, each with its reply
-abbrev pub ahead : Group → StepsLeft → Past → List Entry
-ahead g left was = history g was (steps_left g left was)

@@ -1,5 +1,5 @@
 use Rattle.std.proofs.Common.{◌≡◌, drop}
-use Rattle.set_plays.specs.GroupSteps.{told, told_from}
+use Rattle.trace_text.specs.Groups.{histories}
 use Rattle.trace_lines.specs.Known.{known_in}
 use Rattle.trace_tools.specs.Places.{seats}
 use Rattle.trace_tools.specs.Seats.{seats_after}
@@ -13,6 +13,6 @@ use Rattle.trace_writer.proofs.groups.write_groups.Given as goal
 abbrev pub invariant-loop-i : goal.invariant-loop-i
 invariant-loop-i g l =
     Coming (g.K.Sink.held l.initial.out) (g.K.Sink.held l.out) (g.K.Sink.faults l.initial.out) (g.K.Sink.faults l.out)
-    (texts (known_in l.format) (lines_from l.setup 0 (told l.setup l.groups))) (texts (known_in l.format) (lines_from l.setup l.i (told_from l.setup l.i (drop l.i l.groups))))
-    × (seats_after (shown_from l.setup l.i (told_from l.setup l.i (drop l.i l.groups))) (seats g.T.TraceTool.tool l.bus)
-    ≡ seats_after (shown_from l.setup 0 (told l.setup l.groups)) (seats g.T.TraceTool.tool l.initial.bus))
+    (texts (known_in l.format) (lines_from l.setup 0 (histories l.groups))) (texts (known_in l.format) (lines_from l.setup l.i (histories (drop l.i l.groups))))
+    × (seats_after (shown_from l.setup l.i (histories (drop l.i l.groups))) (seats g.T.TraceTool.tool l.bus)
+    ≡ seats_after (shown_from l.setup 0 (histories l.groups)) (seats g.T.TraceTool.tool l.initial.bus))

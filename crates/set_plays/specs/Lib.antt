@@ -1,4 +1,0 @@
-pub mod Groups
-pub mod TurnsLeft
-pub mod GroupSteps
-pub mod StepsLeft

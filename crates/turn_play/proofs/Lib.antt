@@ -1,0 +1,3 @@
+pub mod StepsTaken
+pub mod TurnSteps
+pub mod TurnsAhead
