@@ -13,8 +13,8 @@ use std::alloc::Global;
 use std::sync::Wait;
 use std::thread::Threads;
 use trace_lines::Version;
-use trace_writer::{WriteStop, write_trace};
 use trace_tools::{Bus, TraceTool};
+use trace_writer::{WriteStop, write_trace};
 
 /// Reads a set, plays each processor's steps or turns in a thread of its own, and writes the trace of the histories that come
 /// about, with the count lines of the tools.

@@ -1,5 +1,5 @@
 -- The text of a bus, part by part: the head, the lines of the groups, and the count lines.
-use Rattle.std.proofs.Common.{◌≡◌, ℕ, ◌+◌, List, ◌++◌, ap, subst, ◌∙◌, append_assoc}
+use Rattle.std.proofs.Common.{◌≡◌, ℕ, List, ◌++◌, ap, subst, ◌∙◌, append_assoc}
 use Rattle.rt_task.specs.declared.Parts.{Parts}
 use Rattle.rt_groups.specs.Groups.{GroupHistory}
 use Rattle.rt_fault.specs.Held.{Held}

@@ -6,7 +6,6 @@ use Rattle.rt_task.specs.declared.Parts.{Parts}
 use Rattle.rt_history.specs.declared.Entry.{Entry}
 use Rattle.rt_fault.specs.Held.{Held}
 use Rattle.rt_base.specs.declared.CpuNo.{CpuNo}
-use Rattle.rt_model.specs.Blocking.{requests}
 use Rattle.rt_model.specs.Group.{Group, group_processors}
 use Rattle.rt_model.specs.Histories.{after, changed, past_from, past_of}
 use Rattle.rt_model.specs.Past.{Past}

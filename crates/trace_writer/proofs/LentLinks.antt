@@ -1,6 +1,6 @@
 -- An engine that is lent shows the links that it has.
 use Rattle.std.proofs.Common.{◌≡◌, List, ap, ◌∙◌}
-use Rattle.rt_rules.specs.Numbers.{has, same}
+use Rattle.rt_rules.specs.Numbers.{same}
 use Rattle.rt_model.specs.Group.{Group}
 use Rattle.rt_groups.specs.Groups.{GroupHistory, group_of, past}
 use Rattle.trace_lines.specs.declared.links.CpuLink.{CpuLink}

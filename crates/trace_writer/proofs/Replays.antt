@@ -7,7 +7,6 @@ use Rattle.rt_task.specs.declared.Step.{Step}
 use Rattle.rt_task.specs.Validity.{IsValid}
 use Rattle.rt_history.specs.declared.Entry.{Entry}
 use Rattle.rt_history.specs.declared.Reply.{Reply}
-use Rattle.rt_rules.specs.Numbers.{same}
 use Rattle.rt_rules.specs.SemState.{Frees}
 use Rattle.rt_model.specs.Group.{Group, group_processors}
 use Rattle.rt_model.specs.Histories.{after, clock_moved, past_from, past_of, reply_to}
