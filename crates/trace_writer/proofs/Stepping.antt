@@ -71,11 +71,12 @@ pub record IsPlaying (old now : GroupHistory) (left : StepsLeft) (i : ℕ) (all 
   pub same_group : group_of now ≡ group_of old
   pub of : AreOf (group_of old) left
   pub count : i + now.spare ≡ old.spare
+  pub so_far : i + length (ahead (group_of old) left (past now)) ≡ length all
   pub room : length (ahead (group_of old) left (past now)) ≤ now.spare
   pub past_is : past_from (group_of old) (past now) (ahead (group_of old) left (past now)) ≡ past_from (group_of old) (past old) all
 
 pub playing-first : (old : GroupHistory) (left : StepsLeft) → AreOf (group_of old) left → length (ahead (group_of old) left (past old)) ≤ old.spare → IsPlaying old old left 0 (ahead (group_of old) left (past old))
-playing-first old left of room = record { same_group = refl; of = of; count = omega arith; room = room; past_is = refl }
+playing-first old left of room = record { same_group = refl; of = of; count = omega arith; so_far = omega arith; room = room; past_is = refl }
 
 module _ (old now : GroupHistory) (left left' : StepsLeft) (i : ℕ) (all : List Entry) (s : Step) (playing : IsPlaying old now left i all)
     (next : steps_left (group_of now) left (past now) ≡ s ∷ steps_left (group_of now) left' (after (group_of now) s (past now))) where
@@ -106,6 +107,7 @@ module _ (old now : GroupHistory) (left left' : StepsLeft) (i : ℕ) (all : List
         same_group = group ∙ playing.same_group;
         of = subst (λ (g : Group). AreOf g left') playing.same_group of;
         count = omega (arith, playing.count, spare, some);
+        so_far = omega (arith, playing.so_far, ap length more);
         room = omega (arith, ap length more, playing.room, spare);
         past_is =
             ap (λ (p : Past). past_from (group_of old) p (ahead (group_of old) left' (past h))) after_it
@@ -118,3 +120,6 @@ playing-end old now left i all playing none = record {
   group_is = playing.same_group;
   past_is = sym (ap (past_from (group_of old) (past now)) none) ∙ playing.past_is;
 }
+
+pub count-end : (old now : GroupHistory) (left : StepsLeft) (i : ℕ) (all : List Entry) → IsPlaying old now left i all → ahead (group_of old) left (past now) ≡ [] → i ≡ length all
+count-end old now left i all playing none = omega (arith, playing.so_far, ap length none)

@@ -55,19 +55,20 @@ fn joined(a: Summary, b: Summary) -> Summary
     }
 }
 
-/// The engine takes the steps that are left of its group, and the bus is shown each entry.
+/// The engine takes the steps that are left of its group, and the bus is shown each entry. Tells how many there were.
 fn take_steps<T: TraceTool>(
     setup: &Setup,
     engine: &mut Counted,
     left: &mut StepsLeft<'_>,
     number: GroupNo,
     bus: &mut Bus<T>,
-)
+) -> u32
     requires setup { engine.old.setup ≡ setup.now }
     requires number { engine.old.group ≡ number.0 }
     requires of { AreOf (group_of engine.old) left.old }
     requires room { length (ahead (group_of engine.old) left.old (past engine.old)) ≤ engine.old.spare }
     requires few { engine.old.spare ≤ MOST_STEPS }
+    ensures count { result ≡ length (ahead (group_of engine.old) left.old (past engine.old)) }
     ensures played { let es = ahead (group_of engine.old) left.old (past engine.old) in
         HasPlayed engine.old engine.new es }
     ensures shown { let g = group_of engine.old in
@@ -80,6 +81,7 @@ fn take_steps<T: TraceTool>(
         show(bus, engine, number, no, &Entry { step, reply });
         no += 1;
     }
+    no
 }
 
 /// What the history of a group comes to that plays these steps. The bus is shown its entries.
@@ -102,10 +104,10 @@ fn summarize_group<T: TraceTool>(
 {
     let mut left = steps.all(alloc, setup, number)?;
     let mut engine = Counted::open(alloc, setup, number, left.room())?;
-    take_steps(setup, &mut engine, &mut left, number, bus);
+    let entries = take_steps(setup, &mut engine, &mut left, number, bus);
     let requests = engine.requests();
     Ok(Summary {
-        entries: engine.engine().entries().len() as u32,
+        entries,
         requests: requests.len() as u32,
         most: most_ends(requests),
     })

@@ -21,17 +21,17 @@ use Rattle.trace_writer.proofs.GroupParts.{opened-past, played-tallies}
 use Rattle.trace_writer.proofs.SummaryLaws.{requests-few-seen, summary-is}
 use Rattle.trace_writer.proofs.summary.summarize_group.Goals as goal
 
-pub take_steps-requires-clause-number : goal.take_steps-requires-clause-number
-take_steps-requires-clause-number g c = ap (λ (x : GroupHistory). x.group) c.in_ok-engine.ensures
+pub take_steps-entries-requires-clause-number : goal.take_steps-entries-requires-clause-number
+take_steps-entries-requires-clause-number g c = ap (λ (x : GroupHistory). x.group) c.in_ok-engine.ensures
 
-pub take_steps-requires-clause-setup : goal.take_steps-requires-clause-setup
-take_steps-requires-clause-setup g c = ap (λ (x : GroupHistory). x.setup) c.in_ok-engine.ensures
+pub take_steps-entries-requires-clause-setup : goal.take_steps-entries-requires-clause-setup
+take_steps-entries-requires-clause-setup g c = ap (λ (x : GroupHistory). x.setup) c.in_ok-engine.ensures
 
-pub take_steps-requires-clause-of : goal.take_steps-requires-clause-of
-take_steps-requires-clause-of g c = subst (λ (x : Group). AreOf x c.in_ok-left.left) (sym (ap group_of c.in_ok-engine.ensures)) c.in_ok-left.ensures.of
+pub take_steps-entries-requires-clause-of : goal.take_steps-entries-requires-clause-of
+take_steps-entries-requires-clause-of g c = subst (λ (x : Group). AreOf x c.in_ok-left.left) (sym (ap group_of c.in_ok-engine.ensures)) c.in_ok-left.ensures.of
 
-pub take_steps-requires-clause-room : goal.take_steps-requires-clause-room
-take_steps-requires-clause-room g c =
+pub take_steps-entries-requires-clause-room : goal.take_steps-entries-requires-clause-room
+take_steps-entries-requires-clause-room g c =
     let g' : Group = group_with c.args.setup.now c.args.number.0 in
     let same : group_of c.in_ok-engine.engine ≡ g' = ap group_of c.in_ok-engine.ensures in
     let none : c.in_ok-engine.engine.entries ≡ [] = ap (λ (x : GroupHistory). x.entries) c.in_ok-engine.ensures in
@@ -40,8 +40,8 @@ take_steps-requires-clause-room g c =
     ∙ ap (history g' []) c.in_ok-left.ensures.steps_are in
     omega (arith, ap length came, length-history g' [] (steps_of g' c.args.steps), c.in_ok-left.ensures.enough, c.room.ensures, ap (λ (x : GroupHistory). x.spare) c.in_ok-engine.ensures)
 
-pub take_steps-requires-clause-few : goal.take_steps-requires-clause-few
-take_steps-requires-clause-few g c = omega (arith, c.in_ok-left.ensures.few, c.room.ensures, ap (λ (x : GroupHistory). x.spare) c.in_ok-engine.ensures)
+pub take_steps-entries-requires-clause-few : goal.take_steps-entries-requires-clause-few
+take_steps-entries-requires-clause-few g c = omega (arith, c.in_ok-left.ensures.few, c.room.ensures, ap (λ (x : GroupHistory). x.spare) c.in_ok-engine.ensures)
 
 pub open-requires-clause-room : goal.open-requires-clause-room
 open-requires-clause-room g c = omega (arith, c.in_ok-left.ensures.few, c.room.ensures)
@@ -56,9 +56,19 @@ returns-clause-summary g c =
     ap (λ (x : Group). ahead x c.in_ok-left.left (past c.in_ok-engine.engine)) same ∙ ap (ahead g' c.in_ok-left.left) (opened-past c.in_ok-engine.engine none)
     ∙ ap (history g' []) c.in_ok-left.ensures.steps_are in
     let told : tallies_of c.requests-requests.result.now ≡ tallies g' (past_of g' es) =
-    played-tallies g' c.in_ok-engine.engine c.take_steps.new.engine es c.requests-requests.result.now same none (subst (HasPlayed c.in_ok-engine.engine c.take_steps.new.engine) came c.take_steps.ensures.played) c.requests-requests.ensures in
+    played-tallies g' c.in_ok-engine.engine c.take_steps-entries.new.engine es c.requests-requests.result.now same none (subst (HasPlayed c.in_ok-engine.engine c.take_steps-entries.new.engine) came c.take_steps-entries.ensures.played) c.requests-requests.ensures in
     let few : length es ≤ MOST_STEPS = (let count = length-history g' [] (steps_of g' c.args.steps) in omega (arith, count, c.in_ok-left.ensures.enough, c.in_ok-left.ensures.few)) in
-    summary-is g' es c.requests-requests.result.now _ c.most_ends.result ? told c.most_ends.ensures
+    summary-is g' es c.requests-requests.result.now c.take_steps-entries.result c.most_ends.result (c.take_steps-entries.ensures.count ∙ ap length came) told c.most_ends.ensures
+
+pub returns-clause-entries : goal.returns-clause-entries
+returns-clause-entries g c =
+    let g' : Group = group_with c.args.setup.now c.args.number.0 in
+    let same : group_of c.in_ok-engine.engine ≡ g' = ap group_of c.in_ok-engine.ensures in
+    let none : c.in_ok-engine.engine.entries ≡ [] = ap (λ (x : GroupHistory). x.entries) c.in_ok-engine.ensures in
+    let came : ahead (group_of c.in_ok-engine.engine) c.in_ok-left.left (past c.in_ok-engine.engine) ≡ group_told c.args.setup.now c.args.number.0 c.args.steps =
+    ap (λ (x : Group). ahead x c.in_ok-left.left (past c.in_ok-engine.engine)) same ∙ ap (ahead g' c.in_ok-left.left) (opened-past c.in_ok-engine.engine none)
+    ∙ ap (history g' []) c.in_ok-left.ensures.steps_are in
+    omega (arith, c.take_steps-entries.ensures.count, ap length came, length-history g' [] (steps_of g' c.args.steps), c.in_ok-left.ensures.enough, c.in_ok-left.ensures.few)
 
 pub returns-clause-requests : goal.returns-clause-requests
 returns-clause-requests g c =
@@ -70,7 +80,7 @@ returns-clause-requests g c =
     ap (λ (x : Group). ahead x c.in_ok-left.left (past c.in_ok-engine.engine)) same ∙ ap (ahead g' c.in_ok-left.left) (opened-past c.in_ok-engine.engine none)
     ∙ ap (history g' []) c.in_ok-left.ensures.steps_are in
     let told : tallies_of c.requests-requests.result.now ≡ tallies g' (past_of g' es) =
-    played-tallies g' c.in_ok-engine.engine c.take_steps.new.engine es c.requests-requests.result.now same none (subst (HasPlayed c.in_ok-engine.engine c.take_steps.new.engine) came c.take_steps.ensures.played) c.requests-requests.ensures in
+    played-tallies g' c.in_ok-engine.engine c.take_steps-entries.new.engine es c.requests-requests.result.now same none (subst (HasPlayed c.in_ok-engine.engine c.take_steps-entries.new.engine) came c.take_steps-entries.ensures.played) c.requests-requests.ensures in
     let few : length es ≤ MOST_STEPS = (let count = length-history g' [] (steps_of g' c.args.steps) in omega (arith, count, c.in_ok-left.ensures.enough, c.in_ok-left.ensures.few)) in
     requests-few-seen g' es c.requests-requests.result.now few told
 
@@ -87,4 +97,4 @@ returns-clause-shown g c =
     ap (λ (x : Group). shown_entries x 0 (past c.in_ok-engine.engine) (ahead (group_of c.in_ok-engine.engine) c.in_ok-left.left (past c.in_ok-engine.engine))) same
     ∙ ap (λ (p : Past). shown_entries g' 0 p (ahead (group_of c.in_ok-engine.engine) c.in_ok-left.left (past c.in_ok-engine.engine))) (opened-past c.in_ok-engine.engine none)
     ∙ ap (shown_entries g' 0 []) came in
-    c.take_steps.ensures.shown ∙ ap (λ (ss : List Shown). seats_after ss (seats g.T.TraceTool.tool c.args.bus.now)) shown
+    c.take_steps-entries.ensures.shown ∙ ap (λ (ss : List Shown). seats_after ss (seats g.T.TraceTool.tool c.args.bus.now)) shown

@@ -9,7 +9,7 @@ use Rattle.trace_tools.specs.Seats.{seat_after}
 use Rattle.trace_text.specs.CountLines.{shown_as}
 use Rattle.trace_writer.specs.Replays.{ahead}
 use Rattle.trace_writer.proofs.Replays.{past_step}
-use Rattle.trace_writer.proofs.Stepping.{entry-next, lent-end, lent-next, playing-end, playing-first, playing-next, room-next, seats-end, seats-next}
+use Rattle.trace_writer.proofs.Stepping.{count-end, entry-next, lent-end, lent-next, playing-end, playing-first, playing-next, room-next, seats-end, seats-next}
 use Rattle.trace_writer.proofs.summary.take_steps.Goals as goal
 
 pub loop-step-init : goal.loop-step-init
@@ -59,6 +59,13 @@ loop-step-preserved g c =
       shown = seats-next (group_of old) c.loop-step.no (past h) (past h') e (ahead (group_of old) c.loop-step.left (past h)) (ahead (group_of old) c.next.new.self (past h')) (seats g.T.TraceTool.tool c.loop-step.bus) (seats g.T.TraceTool.tool c.show.new.bus) more stepped fed
           ∙ c.loop-step.invariant.shown;
     }
+
+pub returns-clause-count : goal.returns-clause-count
+returns-clause-count g c =
+    let old : GroupHistory = c.args.engine.now in
+    let h : GroupHistory = c.loop-step.engine in
+    let none = lent-end (group_of old) h c.engine.result.now c.loop-step.left c.engine.ensures c.loop-step.invariant.playing.same_group c.in_default.ensures.next in
+    count-end old h c.loop-step.left c.loop-step.no _ c.loop-step.invariant.playing none
 
 pub returns-clause-played : goal.returns-clause-played
 returns-clause-played g c =
