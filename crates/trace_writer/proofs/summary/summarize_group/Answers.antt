@@ -70,6 +70,20 @@ returns-clause-entries g c =
     ∙ ap (history g' []) c.in_ok-left.ensures.steps_are in
     omega (arith, c.take_steps-entries.ensures.count, ap length came, length-history g' [] (steps_of g' c.args.steps), c.in_ok-left.ensures.enough, c.in_ok-left.ensures.few)
 
+pub overflow_cast-result : goal.overflow_cast-result
+overflow_cast-result g c =
+    let g' : Group = group_with c.args.setup.now c.args.number.0 in
+    let es : List Entry = group_told c.args.setup.now c.args.number.0 c.args.steps in
+    let same : group_of c.in_ok-engine.engine ≡ g' = ap group_of c.in_ok-engine.ensures in
+    let none : c.in_ok-engine.engine.entries ≡ [] = ap (λ (x : GroupHistory). x.entries) c.in_ok-engine.ensures in
+    let came : ahead (group_of c.in_ok-engine.engine) c.in_ok-left.left (past c.in_ok-engine.engine) ≡ es =
+    ap (λ (x : Group). ahead x c.in_ok-left.left (past c.in_ok-engine.engine)) same ∙ ap (ahead g' c.in_ok-left.left) (opened-past c.in_ok-engine.engine none)
+    ∙ ap (history g' []) c.in_ok-left.ensures.steps_are in
+    let told : tallies_of c.requests-requests.result.now ≡ tallies g' (past_of g' es) =
+    played-tallies g' c.in_ok-engine.engine c.take_steps-entries.new.engine es c.requests-requests.result.now same none (subst (HasPlayed c.in_ok-engine.engine c.take_steps-entries.new.engine) came c.take_steps-entries.ensures.played) c.requests-requests.ensures in
+    let few : length es ≤ MOST_STEPS = (let count = length-history g' [] (steps_of g' c.args.steps) in omega (arith, count, c.in_ok-left.ensures.enough, c.in_ok-left.ensures.few)) in
+    omega (arith, requests-few-seen g' es c.requests-requests.result.now few told)
+
 pub returns-clause-requests : goal.returns-clause-requests
 returns-clause-requests g c =
     let g' : Group = group_with c.args.setup.now c.args.number.0 in
