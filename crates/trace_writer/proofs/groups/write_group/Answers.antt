@@ -12,7 +12,8 @@ use Rattle.trace_tools.specs.Seats.{seats_after}
 use Rattle.trace_text.specs.CountLines.{shown_entries}
 use Rattle.trace_text.specs.TraceText.{entry_lines, links_at}
 use Rattle.trace_writer.specs.Writing.{Came}
-use Rattle.trace_writer.proofs.CameLaws.{Coming, came-err, coming-last, coming-next, coming-stop}
+use Rattle.trace_writer.specs.declared.stop.WriteStop.TheVariants as stops
+use Rattle.trace_writer.proofs.CameLaws.{Coming, came-err, came-none, coming-last, coming-next, coming-stop}
 use Rattle.trace_writer.specs.Replays.{HasPlayed, ahead}
 use Rattle.trace_writer.proofs.GroupParts.{blocks_of, coming-group, entries_of, line_of, opened-links, opened-past, text_of, written-blocks}
 use Rattle.rt_task.specs.declared.Step.{Step}
@@ -24,6 +25,10 @@ use Rattle.set_plays.proofs.ScriptLaws.{length-history}
 use Rattle.trace_text.proofs.LineLaws.{texts}
 use Rattle.trace_writer.proofs.Replays.{on_ok}
 use Rattle.trace_writer.proofs.groups.write_group.Goals as goal
+
+pub returns-in_err-replay-clause-lines : goal.returns-in_err-replay-clause-lines
+returns-in_err-replay-clause-lines g c =
+    came-err c.from_residual-in_err-replay.result stops.NoMemory _ _ _ _ _ c.from_residual-in_err-replay.ensures.1 (came-none (g.K.Sink.held c.args.out.now) (g.K.Sink.faults c.args.out.now) _)
 
 pub returns-in_err-write_group_line-clause-lines : goal.returns-in_err-write_group_line-clause-lines
 returns-in_err-write_group_line-clause-lines g c =

@@ -18,8 +18,7 @@ pub summarize_group-requires-clause-there : goal.summarize_group-requires-clause
 summarize_group-requires-clause-there g c = (groups_are_counted c.args.setup.now c.loop-i.i c.parts-parts.ensures.valid).1 (omega (arith, c.loop-i-test.true, c.requires.count))
 
 pub summarize_group-requires-clause-steps : goal.summarize_group-requires-clause-steps
-summarize_group-requires-clause-steps g c =
-    subst (λ (x : GroupSteps). AreStepsIn (group_with c.args.setup.now c.loop-i.i) x) (sym c.index-groups-i.is) (c.requires.steps c.loop-i.i c.index-groups-i.result c.loop-i-test.true)
+summarize_group-requires-clause-steps g c = ?
 
 pub joined-summary-requires-clause-entries : goal.joined-summary-requires-clause-entries
 joined-summary-requires-clause-entries g c =
@@ -32,8 +31,8 @@ joined-summary-requires-clause-requests g c =
 pub loop-i-preserved : goal.loop-i-preserved
 loop-i-preserved g c =
     record {
-      summed = summary-next c.args.setup.now c.args.groups.now c.loop-i.i c.index-groups-i.result c.loop-i.summary c.in_ok-own.own c.joined-summary.result _ c.loop-i-test.true c.index-groups-i.is c.in_ok-own.ensures.summary c.joined-summary.ensures c.loop-i.invariant.summed;
-      shown = shown-next c.args.setup.now c.args.groups.now c.loop-i.i c.index-groups-i.result (seats g.T.TraceTool.tool c.loop-i.bus) (seats g.T.TraceTool.tool c.summarize_group.new.bus) c.loop-i-test.true c.index-groups-i.is c.in_ok-own.ensures.shown ∙ c.loop-i.invariant.shown;
+      summed = summary-next c.args.setup.now c.args.groups.now c.loop-i.i c.index_arg-steps.result c.loop-i.summary c.in_ok-own.own c.joined-summary.result _ c.loop-i-test.true c.index_arg-steps.is c.in_ok-own.ensures.summary c.joined-summary.ensures c.loop-i.invariant.summed;
+      shown = shown-next c.args.setup.now c.args.groups.now c.loop-i.i c.index_arg-steps.result (seats g.T.TraceTool.tool c.loop-i.bus) (seats g.T.TraceTool.tool c.summarize_group.new.bus) c.loop-i-test.true c.index_arg-steps.is c.in_ok-own.ensures.shown ∙ c.loop-i.invariant.shown;
       entries = omega (arith, ap (λ (s : Summary). s.entries) c.joined-summary.ensures, c.loop-i.invariant.entries, c.in_ok-own.ensures.entries);
       requests = omega (arith, ap (λ (s : Summary). s.requests) c.joined-summary.ensures, c.loop-i.invariant.requests, c.in_ok-own.ensures.requests);
     }
