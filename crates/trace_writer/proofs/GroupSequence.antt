@@ -11,6 +11,7 @@ use Rattle.rt_model.specs.Past.{Past}
 use Rattle.rt_plays.specs.Order.{history}
 use Rattle.rt_plays.specs.Plays.{group_with}
 use Rattle.set_plays.specs.declared.group_steps.GroupSteps.{GroupSteps}
+use Rattle.set_plays.specs.declared.group_steps.GroupSteps.TheVariants.{Given}
 use Rattle.set_plays.specs.GroupSteps.{group_told, told_from}
 use Rattle.trace_lines.specs.Grammar.{line_text}
 use Rattle.trace_lines.specs.Known.{Known}
@@ -22,30 +23,33 @@ use Rattle.trace_text.specs.TraceText.{group_lines, lines_from}
 use Rattle.trace_text.proofs.LineLaws.{texts}
 use Rattle.trace_text.proofs.ShownLaws.{seats_after-append}
 
+-- what stands for the steps of a group beyond the last
+abbrev pub no_steps : GroupSteps
+no_steps = Given (record { ref_ptr = (0, 0); now = [] })
+
 module _ (p : Parts) (xs : List GroupSteps) (i : ℕ) where
   -- the history of the next group, and those behind it
-  pub told-next : (x : GroupSteps) → i < length xs → x ≡ get_or xs i x → told_from p i (drop i xs) ≡ group_told p i x ∷ told_from p (i + 1) (drop (i + 1) xs)
-  told-next x low is =
+  pub told-next : (d : GroupSteps) → i < length xs → told_from p i (drop i xs) ≡ group_told p i (get_or xs i d) ∷ told_from p (i + 1) (drop (i + 1) xs)
+  told-next d low =
       let next : suc i ≡ i + 1 = omega arith in
-      ap (told_from p i) (drop-cons xs i x low) ∙ ap (λ (y : GroupSteps). group_told p i y ∷ told_from p (i + 1) (drop (suc i) xs)) (sym is)
-      ∙ ap (λ n. group_told p i x ∷ told_from p (i + 1) (drop n xs)) next
+      ap (told_from p i) (drop-cons xs i d low) ∙ ap (λ n. group_told p i (get_or xs i d) ∷ told_from p (i + 1) (drop n xs)) next
 
-  pub groups-next : (k : Known) (x : GroupSteps) → i < length xs → x ≡ get_or xs i x
-      → texts k (lines_from p i (told_from p i (drop i xs))) ≡ texts k (group_lines (group_with p i) (group_told p i x)) ++ texts k (lines_from p (i + 1) (told_from p (i + 1) (drop (i + 1) xs)))
-  groups-next k x low is =
-      ap (λ (hs : List (List Entry)). texts k (lines_from p i hs)) (told-next x low is)
-      ∙ flat_map-append (line_text k) (group_lines (group_with p i) (group_told p i x)) (lines_from p (i + 1) (told_from p (i + 1) (drop (i + 1) xs)))
+  pub groups-next : (k : Known) (d : GroupSteps) → i < length xs
+      → texts k (lines_from p i (told_from p i (drop i xs))) ≡ texts k (group_lines (group_with p i) (group_told p i (get_or xs i d))) ++ texts k (lines_from p (i + 1) (told_from p (i + 1) (drop (i + 1) xs)))
+  groups-next k d low =
+      ap (λ (hs : List (List Entry)). texts k (lines_from p i hs)) (told-next d low)
+      ∙ flat_map-append (line_text k) (group_lines (group_with p i) (group_told p i (get_or xs i d))) (lines_from p (i + 1) (told_from p (i + 1) (drop (i + 1) xs)))
 
   pub groups-end : (k : Known) → length xs ≤ i → texts k (lines_from p i (told_from p i (drop i xs))) ≡ line_text k end_line
   groups-end k all = ap (λ (ys : List GroupSteps). texts k (lines_from p i (told_from p i ys))) (drop_all i xs all) ∙ append-nil (line_text k end_line)
 
-  pub shown-next : (x : GroupSteps) (before fed : List Seat) → i < length xs → x ≡ get_or xs i x → fed ≡ seats_after (shown_entries (group_with p i) 0 [] (group_told p i x)) before
+  pub shown-next : (d : GroupSteps) (before fed : List Seat) → i < length xs → fed ≡ seats_after (shown_entries (group_with p i) 0 [] (group_told p i (get_or xs i d))) before
       → seats_after (shown_from p (i + 1) (told_from p (i + 1) (drop (i + 1) xs))) fed ≡ seats_after (shown_from p i (told_from p i (drop i xs))) before
-  shown-next x before fed low is shown =
-      let own : List Shown = shown_entries (group_with p i) 0 [] (group_told p i x) in
+  shown-next d before fed low shown =
+      let own : List Shown = shown_entries (group_with p i) 0 [] (group_told p i (get_or xs i d)) in
       let others : List Shown = shown_from p (i + 1) (told_from p (i + 1) (drop (i + 1) xs)) in
       ap (seats_after others) shown ∙ sym (seats_after-append own others before)
-      ∙ sym (ap (λ (hs : List (List Entry)). seats_after (shown_from p i hs) before) (told-next x low is))
+      ∙ sym (ap (λ (hs : List (List Entry)). seats_after (shown_from p i hs) before) (told-next d low))
 
   pub shown-end : (seats : List Seat) → length xs ≤ i → seats_after (shown_from p i (told_from p i (drop i xs))) seats ≡ seats
   shown-end seats all = ap (λ (ys : List GroupSteps). seats_after (shown_from p i (told_from p i ys)) seats) (drop_all i xs all)

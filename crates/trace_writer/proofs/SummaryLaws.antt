@@ -73,13 +73,13 @@ nothing-joined a =
     rw (entries, requests, most) refl
 
 -- the next group, and those after it
-pub summary-next : (p : Parts) (xs : List GroupSteps) (i : ℕ) (x : GroupSteps) (so_far own now all : Summary) → i < length xs → x ≡ get_or xs i x
-    → own ≡ summary_in (group_with p i) (group_told p i x) → now ≡ joined so_far own → joined so_far (summary_from p i (told_from p i (drop i xs))) ≡ all
+pub summary-next : (p : Parts) (xs : List GroupSteps) (i : ℕ) (d : GroupSteps) (so_far own now all : Summary) → i < length xs
+    → own ≡ summary_in (group_with p i) (group_told p i (get_or xs i d)) → now ≡ joined so_far own → joined so_far (summary_from p i (told_from p i (drop i xs))) ≡ all
     → joined now (summary_from p (i + 1) (told_from p (i + 1) (drop (i + 1) xs))) ≡ all
-summary-next p xs i x so_far own now all low is own_is now_is before =
+summary-next p xs i d so_far own now all low own_is now_is before =
     let others : Summary = summary_from p (i + 1) (told_from p (i + 1) (drop (i + 1) xs)) in
     let here : summary_from p i (told_from p i (drop i xs)) ≡ joined own others =
-    ap (λ (hs : List (List Entry)). summary_from p i hs) (told-next p xs i x low is) ∙ ap (λ (s : Summary). joined s others) (sym own_is) in
+    ap (λ (hs : List (List Entry)). summary_from p i hs) (told-next p xs i d low) ∙ ap (λ (s : Summary). joined s others) (sym own_is) in
     ap (λ (s : Summary). joined s others) now_is ∙ joined-assoc so_far own others ∙ ap (joined so_far) (sym here) ∙ before
 
 pub summary-end : (p : Parts) (xs : List GroupSteps) (i : ℕ) (s all : Summary) → length xs ≤ i → joined s (summary_from p i (told_from p i (drop i xs))) ≡ all → s ≡ all

@@ -1,13 +1,11 @@
-use Rattle.std.proofs.Common.{refl, ap, sym, ◌∙◌, subst, arith}
+use Rattle.std.proofs.Common.{refl, ap, sym, ◌∙◌, arith}
 use Rattle.trace_tools.specs.Places.{seats}
-use Rattle.rt_plays.specs.Plays.{group_with}
 use Rattle.rt_groups.proofs.GroupCount.{groups_are_counted}
-use Rattle.set_plays.specs.declared.group_steps.GroupSteps.{GroupSteps}
-use Rattle.set_plays.specs.GroupSteps.{AreStepsIn, told}
+use Rattle.set_plays.specs.GroupSteps.{told}
 use Rattle.trace_writer.specs.Summaries.{summary_from}
 use Rattle.trace_writer.specs.declared.summary.Summary.{Summary}
 use Rattle.trace_text.proofs.GroupLaws.{groups-few}
-use Rattle.trace_writer.proofs.GroupSequence.{shown-end, shown-next}
+use Rattle.trace_writer.proofs.GroupSequence.{no_steps, shown-end, shown-next}
 use Rattle.trace_writer.proofs.SummaryLaws.{nothing-joined, summary-end, summary-next}
 use Rattle.trace_writer.proofs.summary.summarize_groups.Goals as goal
 
@@ -18,7 +16,7 @@ pub summarize_group-requires-clause-there : goal.summarize_group-requires-clause
 summarize_group-requires-clause-there g c = (groups_are_counted c.args.setup.now c.loop-i.i c.parts-parts.ensures.valid).1 (omega (arith, c.loop-i-test.true, c.requires.count))
 
 pub summarize_group-requires-clause-steps : goal.summarize_group-requires-clause-steps
-summarize_group-requires-clause-steps g c = ?
+summarize_group-requires-clause-steps g c = c.requires.steps c.loop-i.i no_steps c.loop-i-test.true
 
 pub joined-summary-requires-clause-entries : goal.joined-summary-requires-clause-entries
 joined-summary-requires-clause-entries g c =
@@ -31,8 +29,8 @@ joined-summary-requires-clause-requests g c =
 pub loop-i-preserved : goal.loop-i-preserved
 loop-i-preserved g c =
     record {
-      summed = summary-next c.args.setup.now c.args.groups.now c.loop-i.i c.index_arg-steps.result c.loop-i.summary c.in_ok-own.own c.joined-summary.result _ c.loop-i-test.true c.index_arg-steps.is c.in_ok-own.ensures.summary c.joined-summary.ensures c.loop-i.invariant.summed;
-      shown = shown-next c.args.setup.now c.args.groups.now c.loop-i.i c.index_arg-steps.result (seats g.T.TraceTool.tool c.loop-i.bus) (seats g.T.TraceTool.tool c.summarize_group.new.bus) c.loop-i-test.true c.index_arg-steps.is c.in_ok-own.ensures.shown ∙ c.loop-i.invariant.shown;
+      summed = summary-next c.args.setup.now c.args.groups.now c.loop-i.i no_steps c.loop-i.summary c.in_ok-own.own c.joined-summary.result _ c.loop-i-test.true c.in_ok-own.ensures.summary c.joined-summary.ensures c.loop-i.invariant.summed;
+      shown = shown-next c.args.setup.now c.args.groups.now c.loop-i.i no_steps (seats g.T.TraceTool.tool c.loop-i.bus) (seats g.T.TraceTool.tool c.summarize_group.new.bus) c.loop-i-test.true c.in_ok-own.ensures.shown ∙ c.loop-i.invariant.shown;
       entries = omega (arith, ap (λ (s : Summary). s.entries) c.joined-summary.ensures, c.loop-i.invariant.entries, c.in_ok-own.ensures.entries);
       requests = omega (arith, ap (λ (s : Summary). s.requests) c.joined-summary.ensures, c.loop-i.invariant.requests, c.in_ok-own.ensures.requests);
     }
