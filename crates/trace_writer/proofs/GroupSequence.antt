@@ -1,5 +1,7 @@
 -- The groups of a set, one after another: the lines of the next one, and what a bus is shown of it.
-use Rattle.std.proofs.Common.{◌≡◌, ℕ, suc, ◌+◌, ◌<◌, ◌≤◌, List, [], ◌∷◌, ◌++◌, length, map, drop, get_or, refl, sym, ap, ◌∙◌, arith, append-nil}
+use Rattle.std.proofs.Common.{◌≡◌, ℕ, suc, ◌+◌, ◌-◌, ◌<◌, ◌≤◌, List, [], ◌∷◌, ◌++◌, length, map, drop, get_or, refl, sym, ap, subst, ◌∙◌, arith, append-nil, inl, inr, length-append}
+use Rattle.std.proofs.lemmas.Bool.{cases_lt}
+use Rattle.std.proofs.lemmas.List.{get_or-append_right, get_or_append_left}
 use Rattle.std.proofs.lemmas.Grind.{flat_map-append}
 use Rattle.std.proofs.lemmas.List.{drop_all}
 use Rattle.std.proofs.Math.Seq.{drop-cons}
@@ -18,6 +20,8 @@ use Rattle.trace_lines.specs.Known.{Known}
 use Rattle.trace_lines.specs.Lines.{end_line}
 use Rattle.trace_tools.specs.declared.shown.Shown.{Shown}
 use Rattle.trace_tools.specs.Seats.{Seat, seats_after}
+use Rattle.rt_groups.specs.Groups.{GroupHistory}
+use Rattle.trace_text.specs.Groups.{histories}
 use Rattle.trace_text.specs.CountLines.{shown_entries, shown_from}
 use Rattle.trace_text.specs.TraceText.{group_lines, lines_from}
 use Rattle.trace_text.proofs.LineLaws.{texts}
@@ -59,3 +63,26 @@ pub legal-told : (g : Group) (was : Past) (es : List Entry) → IsLegalFrom g wa
 unfolding history
 legal-told g was [] legal = refl
 legal-told g was (e ∷ es) legal = rw (sym legal.0, legal-told g (after g e.step was) es legal.1) refl
+
+-- what groups have played is told again by the steps of their histories
+pub told-again : (p : Parts) (hs : List GroupHistory) (xs : List GroupSteps) (a : ℕ) → length xs ≡ length hs
+    → ((n : ℕ) (d : GroupSteps) (h : GroupHistory) → n < length xs → group_told p (a + n) (get_or xs n d) ≡ (get_or hs n h).entries) → told_from p a xs ≡ histories hs
+told-again p [] [] a count all = refl
+told-again p [] (x ∷ xs) a count all = absurd (omega arith)
+told-again p (h ∷ hs) [] a count all = absurd (omega arith)
+told-again p (h ∷ hs) (x ∷ xs) a count all =
+    let first : group_told p a x ≡ h.entries = subst (λ n. group_told p n x ≡ h.entries) (let e : a + 0 ≡ a = omega arith in e) (all 0 x h (omega arith)) in
+    let rest = told-again p hs xs (a + 1) (omega (arith, count)) (λ n d k low. subst (λ m. group_told p m (get_or xs n d) ≡ (get_or hs n k).entries) (let e : a + suc n ≡ a + 1 + n = omega arith in e) (all (suc n) d k (omega (arith, low)))) in
+    rw (first, rest) refl
+
+-- one group more
+pub all-push : (P : ℕ → GroupSteps → Type 0) (xs ys : List GroupSteps) (i : ℕ) (x : GroupSteps) → ys ≡ xs ++ x ∷ [] → length xs ≡ i → ((n : ℕ) (d : GroupSteps) → n < length xs → P n (get_or xs n d)) → P i x
+    → (n : ℕ) (d : GroupSteps) → n < length ys → P n (get_or ys n d)
+all-push P xs ys i x is count all last n d low = elim (cases_lt n (length xs)) [
+  | inl inside ↦ subst (P n) (sym (ap (λ (zs : List GroupSteps). get_or zs n d) is ∙ get_or_append_left xs (x ∷ []) d n inside)) (all n d inside)
+  | inr beyond ↦ (
+      let here : n ≡ i = (let more = ap length is in omega (arith, more, length-append xs (x ∷ []), low, beyond, count)) in
+      let first : n - length xs ≡ 0 = omega arith in
+      let found : get_or ys n d ≡ x = ap (λ (zs : List GroupSteps). get_or zs n d) is ∙ get_or-append_right xs (x ∷ []) (length xs) n d refl beyond ∙ ap (λ k. get_or (x ∷ []) k d) first in
+      subst (λ k. P k (get_or ys n d)) (sym here) (subst (P i) (sym found) last))
+]
