@@ -8,10 +8,10 @@ use Rattle.trace_writer.specs.Writing.{Came}
 use Rattle.trace_writer.proofs.BusText.{text-of_none}
 use Rattle.trace_writer.proofs.CameLaws.{came-err, coming-last, coming-next, coming-start, coming-stop}
 use Rattle.trace_text.proofs.LineLaws.{texts}
-use Rattle.trace_writer.proofs.shown_trace.write_shown_trace.Goals as goal
+use Rattle.trace_writer.proofs.engines.write_shown_trace.Goals as goal
 
-pub returns-in_err-write_all : goal.returns-in_err-write_all
-returns-in_err-write_all g c =
+pub returns-in_err-write_engines : goal.returns-in_err-write_engines
+returns-in_err-write_engines g c =
     let p = c.args.setup.now in
     let held = g.K.Sink.held in
     let faults = g.K.Sink.faults in
@@ -20,9 +20,9 @@ returns-in_err-write_all g c =
     let counts : List ℕ = texts (known_of c.args.version p) (map seat_line (seats g.T.TraceTool.tool c.args.bus.now)) in
     let nobody : kept ≡ [] = c.in_ok-none.ensures ∙ ap (map (λ t. seat_of (g.T.TraceTool.tool t))) c.new.ensures.items in
     let part =
-    subst (λ (t : List ℕ). Came (Err c.in_err-write_all.field-0.0) (held c.args.out.now) (held c.write_all.new.out) (faults c.args.out.now) (faults c.write_all.new.out) t) (text-of_none c.args.version p (histories c.args.groups.now) kept nobody) c.in_err-write_all.ensures.lines in
-    came-err c.from_residual-in_err-write_all.result c.in_err-write_all.field-0.0 (held c.args.out.now) (held c.write_all.new.out) (faults c.args.out.now) (faults c.write_all.new.out) (text ++ counts) c.from_residual-in_err-write_all.ensures.1
-    (coming-stop c.in_err-write_all.field-0.0 (held c.args.out.now) (held c.args.out.now) (held c.write_all.new.out) (faults c.args.out.now) (faults c.args.out.now) (faults c.write_all.new.out) (text ++ counts) text counts
+    subst (λ (t : List ℕ). Came (Err c.in_err-write_engines.field-0.0) (held c.args.out.now) (held c.write_engines.new.out) (faults c.args.out.now) (faults c.write_engines.new.out) t) (text-of_none c.args.version p (histories c.args.groups.now) kept nobody) c.in_err-write_engines.ensures.lines in
+    came-err c.from_residual-in_err-write_engines.result c.in_err-write_engines.field-0.0 (held c.args.out.now) (held c.write_engines.new.out) (faults c.args.out.now) (faults c.write_engines.new.out) (text ++ counts) c.from_residual-in_err-write_engines.ensures.1
+    (coming-stop c.in_err-write_engines.field-0.0 (held c.args.out.now) (held c.args.out.now) (held c.write_engines.new.out) (faults c.args.out.now) (faults c.args.out.now) (faults c.write_engines.new.out) (text ++ counts) text counts
     (coming-start (held c.args.out.now) (faults c.args.out.now) (text ++ counts)) part)
 
 pub returns : goal.returns
@@ -35,8 +35,8 @@ returns g c =
     let counts : List ℕ = texts (known_of c.args.version p) (map seat_line (seats g.T.TraceTool.tool c.args.bus.now)) in
     let nobody : kept ≡ [] = c.in_ok-none.ensures ∙ ap (map (λ t. seat_of (g.T.TraceTool.tool t))) c.new.ensures.items in
     let all =
-    subst (λ (t : List ℕ). Came (Ok tt) (held c.args.out.now) (held c.write_all.new.out) (faults c.args.out.now) (faults c.write_all.new.out) t) (text-of_none c.args.version p (histories c.args.groups.now) kept nobody) c.in_ok-write_all.ensures.lines in
-    coming-last c.write_counts.result (held c.args.out.now) (held c.write_all.new.out) (held c.write_counts.new.out) (faults c.args.out.now) (faults c.write_all.new.out) (faults c.write_counts.new.out) (text ++ counts) counts
-    (coming-next (held c.args.out.now) (held c.args.out.now) (held c.write_all.new.out) (faults c.args.out.now) (faults c.args.out.now) (faults c.write_all.new.out) (text ++ counts) text counts
+    subst (λ (t : List ℕ). Came (Ok tt) (held c.args.out.now) (held c.write_engines.new.out) (faults c.args.out.now) (faults c.write_engines.new.out) t) (text-of_none c.args.version p (histories c.args.groups.now) kept nobody) c.in_ok-write_engines.ensures.lines in
+    coming-last c.write_counts.result (held c.args.out.now) (held c.write_engines.new.out) (held c.write_counts.new.out) (faults c.args.out.now) (faults c.write_engines.new.out) (faults c.write_counts.new.out) (text ++ counts) counts
+    (coming-next (held c.args.out.now) (held c.args.out.now) (held c.write_engines.new.out) (faults c.args.out.now) (faults c.args.out.now) (faults c.write_engines.new.out) (text ++ counts) text counts
     (coming-start (held c.args.out.now) (faults c.args.out.now) (text ++ counts)) all)
     (c.write_counts.ensures (known_of c.args.version p))
