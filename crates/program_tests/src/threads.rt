@@ -23,7 +23,9 @@ const TWO_TURNS_EACH: &str = r#"{"plugin":"GSN-EDF","clusters":[{"cpus":2}],"hor
 
 /// What is said of the text of a trace, where it is one of a set that can be checked.
 fn verdict(alloc: Global, text: &[u8]) -> Option<Verdict> {
-    let trace = read_trace(alloc, text).ok()?;
+    let Ok(trace) = read_trace(alloc, text) else {
+        return None;
+    };
     let mut bus = Bus::open(alloc, shipped_tools(alloc).ok()?).ok()?;
     check_trace(alloc, text, &trace, &mut bus).ok()
 }
