@@ -1,12 +1,13 @@
 -- What explains the verdict on a trace.
 use Rattle.std.proofs.Common.{◌≡◌, ℕ, List, sym, subst}
-use Rattle.std.specs.Prelude.{Option, Result, Ok, Err, IfOk}
+use Rattle.std.specs.Prelude.{drop, Result, Ok, Err, IfOk}
 use Rattle.rt_base.specs.declared.NoMemory.{NoMemory}
 use Rattle.rt_task.specs.declared.Parts.{Parts}
 use Rattle.trace_lines.specs.declared.format.Version.{Version}
 use Rattle.trace_lines.specs.Lines.{Line}
 use Rattle.trace_tools.specs.Tools.{Tool}
-use Rattle.trace_read.specs.Reads.{IsTraceOf}
+use Rattle.trace_read.specs.Reads.{IsHeadOf}
+use Rattle.trace_read.specs.declared.head.TraceHead.{TraceHead}
 use Rattle.trace_laws.specs.ValidTexts.{IsValidText}
 use Rattle.trace_check.specs.Verdicts.{IsInvalid}
 use Rattle.sim_commands.specs.Check.{SaysSet}
@@ -16,9 +17,9 @@ use Rattle.explain_command.specs.declared.outcome.Outcome.TheVariants.{Fine, Wro
 use Rattle.explain_command.specs.Explaining.{TraceIsExplained, TraceIsInvalid, TraceIsValid}
 use Rattle.explain_command.specs.Texts.{valid_trace, wrong_line}
 
--- a trace that was read says its set
-pub says-read : (bytes : List ℕ) (v : Version) (p : Parts) (lines : List Line) (stop : Option ℕ) → IsTraceOf bytes v p lines stop → SaysSet bytes v p
-says-read bytes v p lines stop r = record { set_text = r.set_text; rest = r.rest; head = r.head; set_is = r.set_is }
+-- a head that was read says its set
+pub says-read : (bytes : List ℕ) (h : TraceHead) → IsHeadOf bytes h → SaysSet bytes h.version h.setup
+says-read bytes h r = record { set_text = r.set_text; rest = drop h.length bytes; head = r.head; set_is = r.set_is }
 
 module _ (tools : List Tool) (v : Version) (p : Parts) (bytes : List ℕ) where
   pub explains-valid : (entries : ℕ) (r : Result Explained NoMemory) → SaysSet bytes v p → IsValidText tools v p bytes entries

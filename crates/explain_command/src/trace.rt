@@ -2,7 +2,7 @@
 ghost use Rattle.std.specs.Prelude.{◌≡◌, ◌++◌, List, map, IfOk, OnOk};
 ghost use Rattle.set_explain.specs.Shown.{rule_shown};
 ghost use Rattle.trace_tools.specs.Tools.{Tool};
-ghost use Rattle.trace_read.specs.Reads.{HasBadSet, IsReadOf, IsRefused};
+ghost use Rattle.trace_read.specs.Reads.{HasBadSet, IsHeadOf, IsRefused};
 ghost use Rattle.trace_read.specs.declared.fault.TraceFault.TheVariants as faults;
 ghost use Rattle.explain_command.specs.Explaining.{TraceIsExplained};
 ghost use Rattle.explain_command.specs.Texts as texts;
@@ -17,7 +17,7 @@ use rt_task::{BadSet, Part, Place, SetKind, Setup};
 use set_explain::{Cause, Rule, cause_of, explanation};
 use std::alloc::{AllocError, Global};
 use trace_check::{Verdict, check_trace};
-use trace_read::{Trace, TraceFault, read_trace};
+use trace_read::{TraceFault, TraceHead, read_head};
 use trace_tools::{Bus, TraceTool};
 
 /// The rule of a line of the head.
@@ -99,19 +99,19 @@ fn wrong(alloc: Global, bytes: &[u8], setup: &Setup, line: u32) -> Result<Explai
 fn judged<T: TraceTool>(
     alloc: Global,
     bytes: &[u8],
-    trace: &Trace,
+    head: &TraceHead,
     tools: Vec<T>,
 ) -> Result<Explained, NoMemory>
-    requires { IsReadOf bytes.now trace.now }
+    requires { IsHeadOf bytes.now head.now }
     ensures { IfOk result (λ x.
         TraceIsExplained (map T.tool tools.items) bytes.now x.outcome x.text.items) }
 {
     let Ok(mut bus) = Bus::open(alloc, tools) else {
         return Err(NoMemory);
     };
-    match check_trace(alloc, bytes, trace, &mut bus) {
+    match check_trace(alloc, bytes, head, &mut bus) {
         Ok(Verdict::Valid(_)) => fine(alloc, "nothing is refused: a valid trace\n"),
-        Ok(Verdict::Invalid(line)) => wrong(alloc, bytes, &trace.setup, line),
+        Ok(Verdict::Invalid(line)) => wrong(alloc, bytes, &head.setup, line),
         Err(_) => Err(NoMemory),
     }
 }
@@ -124,8 +124,8 @@ pub(crate) fn trace_explained<T: TraceTool>(
 ) -> Result<Explained, NoMemory>
     ensures { IfOk result (λ x. TraceIsExplained (map T.tool tools.items) bytes.now x.outcome x.text.items) }
 {
-    match read_trace(alloc, bytes) {
-        Ok(trace) => judged(alloc, bytes, &trace, tools),
+    match read_head(alloc, bytes) {
+        Ok(head) => judged(alloc, bytes, &head, tools),
         Err(TraceFault::NotTrace(line)) => headless(alloc, bytes, line),
         Err(TraceFault::BadSet(bad)) => bad_set(alloc, bytes, bad),
         Err(TraceFault::NoMemory) => Err(NoMemory),

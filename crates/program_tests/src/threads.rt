@@ -13,7 +13,7 @@ use std::sync::atomic::{AtomicBool, AtomicU64, Ordering};
 use std::test::Fail;
 use std::thread;
 use trace_check::{Verdict, check_trace};
-use trace_read::read_trace;
+use trace_read::read_head;
 use trace_tools::{Bus, shipped_tools};
 
 const TWO_TICKS_EACH: &str =
@@ -23,11 +23,11 @@ const TWO_TURNS_EACH: &str = r#"{"plugin":"GSN-EDF","clusters":[{"cpus":2}],"hor
 
 /// What is said of the text of a trace, where it is one of a set that can be checked.
 fn verdict(alloc: Global, text: &[u8]) -> Option<Verdict> {
-    let Ok(trace) = read_trace(alloc, text) else {
+    let Ok(head) = read_head(alloc, text) else {
         return None;
     };
     let mut bus = Bus::open(alloc, shipped_tools(alloc).ok()?).ok()?;
-    check_trace(alloc, text, &trace, &mut bus).ok()
+    check_trace(alloc, text, &head, &mut bus).ok()
 }
 
 /// Runs the command with the tools of the program.

@@ -10,3 +10,10 @@ pub mod FrontLaws
 pub mod WholeLaws
 pub mod DraftLaws
 pub mod QuickLaws
+pub mod WordLaws
+pub mod StringLaws
+pub mod LexLaws
+pub mod PlaceLaws
+pub mod OpenLaws
+pub mod FirstLaws
+pub mod PlainLaws

@@ -1,5 +1,5 @@
 -- The steps that tokens say, token by token.
-use Rattle.std.proofs.Common.{◌≡◌, ℕ, ◌<◌, List, [], ◌∷◌, length, Some, None, refl, sym, ap, arith}
+use Rattle.std.proofs.Common.{◌≡◌, ℕ, List, [], ◌∷◌, Some, None, refl, sym, ap, arith}
 use Rattle.json.specs.Token.{Token}
 use Rattle.json.specs.Json.{after_end_array}
 use Rattle.rt_task.specs.declared.Act.{Act}
@@ -8,7 +8,7 @@ use Rattle.serde_json.specs.Data.{number, string, array, unsigned, no_items, ite
 use Rattle.set_read.specs.Document.{Names, bare_acts, act_with, step_form}
 use Rattle.set_read.specs.Forms.{word_in}
 use Rattle.set_read.specs.Tokens.{item_depth, argument_depth, SaysNumber, SaysAct, SaysStep, SaySteps}
-use Rattle.set_read.proofs.TokenLaws.{converted-shorter, no_more_items, one_item, array_said, number_item, string_item}
+use Rattle.set_read.proofs.TokenLaws.{no_more_items, one_item, array_said, number_item, string_item}
 
 module _ (names : Names) where
   pub bare_said : (w : List ℕ) (ts r : List Token) (act : Act) → ts ≡ Token.end_array ∷ r → Some act ≡ word_in bare_acts w → SaysAct names w ts act r
@@ -35,9 +35,6 @@ module _ (names : Names) where
         rw opened (array_said item_depth a r _ (omega arith) cpus),
         rw e refl,
       )
-
-  pub step-shorter : (ts r : List Token) (step : DraftStep) → SaysStep names ts step r → length r < length ts
-  step-shorter ts r step s = converted-shorter item_depth ts r s.0 s.1
 
   pub no_more_steps : (ts r : List Token) → after_end_array ts ≡ Some r → SaySteps names ts [] r
   no_more_steps ts r e = (no_items, no_more_items item_depth ts r e, refl)

@@ -2,11 +2,11 @@
 use Rattle.std.proofs.Common.{◌≡◌, ℕ, ◌-◌, ◌<◌, List, ◌∷◌, length, Option, Some, None, option_map, refl, ap, ◌∙◌, arith}
 use Rattle.json.specs.Token.{Token}
 use Rattle.json.specs.Json as json
-use Rattle.json.specs.Json.{parse_map, after_end_array, read_key, value}
-use Rattle.json.proofs.Grammar.{left, value_is, value-begin_array, items_end, items_more, members_more, read_key-shorter, skip_value-shorter}
+use Rattle.json.specs.Json.{parse_map, after_end_array, value}
+use Rattle.json.proofs.Grammar.{left, value_is, value-begin_array, items_end, items_more, skip_value-shorter}
 use Rattle.serde_json.specs.Data.{Data, number, string, array, unsigned, Items, no_items, item}
 use Rattle.serde_json.specs.Read.{of_json, of_items, converted, number_of}
-use Rattle.set_read.specs.Tokens.{SaysNumber, AreItems, AreMembers}
+use Rattle.set_read.specs.Tokens.{SaysNumber, AreItems}
 
 -- ---- a value that was converted
 
@@ -40,7 +40,7 @@ converted-array None = refl
 converted-array (Some p) = twice array p.1 (of_items p.0)
 
 -- a value takes tokens
-pub converted-shorter : (depth : ℕ) (ts r : List Token) (d : Data) → converted of_json (value depth ts) ≡ Some (d, r) → length r < length ts
+converted-shorter : (depth : ℕ) (ts r : List Token) (d : Data) → converted of_json (value depth ts) ≡ Some (d, r) → length r < length ts
 converted-shorter depth ts r d e = skip_value-shorter depth ts r (ap left (converted_some of_json (value depth ts) d r e).1)
 
 -- ---- items
@@ -77,13 +77,3 @@ number_item depth n ts r rest ds (s, first, is) more =
 pub string_item : (depth : ℕ) (s : List ℕ) (ts r rest : List Token) (ds : Items) → ts ≡ Token.string s ∷ r → AreItems depth r ds rest
     → AreItems depth ts (item (string s) ds) rest
 string_item depth s ts r rest ds first more = rw first (one_item depth (Token.string s ∷ r) r rest (string s) ds refl (string_said depth s r) more)
-
--- ---- members
-
-pub one_member : (depth : ℕ) (k : List ℕ) (ts s r after : List Token) (j : json.Json) (ms : json.Members)
-    → read_key ts ≡ Some (Some k, s) → value depth s ≡ Some (j, r) → AreMembers depth r ms after
-    → AreMembers depth ts (json.member k j ms) after
-one_member depth k ts s r after j ms key first more n enough =
-    let less = read_key-shorter ts (Some k) s key in
-    let lesser = skip_value-shorter depth s r (ap left first) in
-    members_more (value depth) n k ts s r j (omega arith) key first ∙ ap (parse_map (json.member k j)) (more (n - 1) (omega arith))

@@ -7,3 +7,4 @@ pub mod Seen
 pub mod Stepwise
 pub mod Few
 pub mod Tokens
+pub mod Texts

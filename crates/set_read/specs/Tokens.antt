@@ -2,7 +2,6 @@
 use Rattle.std.specs.Prelude.{◌≡◌, ℕ, ◌≤◌, List, [], ◌∷◌, None, Some, Ok, length, codes}
 use Rattle.json.specs.Token.{Token}
 use Rattle.json.specs.Json as json
-use Rattle.json.specs.Tree.{MembersHaveNumbers, members_depth}
 use Rattle.rt_task.specs.declared.Act.{Act}
 use Rattle.rt_task.specs.declared.draft.Draft.{Draft}
 use Rattle.rt_task.specs.declared.draft.DraftStep.{DraftStep}
@@ -12,10 +11,7 @@ use Rattle.set_read.specs.Document.{Names, Whole, steps, act_form, step_form}
 use Rattle.set_read.specs.Forms.{listed, every}
 use Rattle.set_read.specs.Stepwise.{draft_read, whole_read}
 
--- how deep a member's value may nest, and how deep one of its items
-abbrev pub member_depth : ℕ
-member_depth = 126
-
+-- how deep a step may nest, and how deep one of its items
 abbrev pub item_depth : ℕ
 item_depth = 125
 
@@ -55,20 +51,12 @@ with_steps ms js = json.object (before ms (json.member (codes "steps") (json.arr
 abbrev pub with_no_steps : json.Members → json.Json
 with_no_steps ms = with_steps ms json.no_items
 
--- what is left of an object is these members, and rest follows it
-abbrev pub AreMembers : ℕ → List Token → json.Members → List Token → Type 0
-AreMembers depth ts ms rest = (n : ℕ) → length ts ≤ n → json.members (json.value depth) n ts ≡ Some (ms, rest)
-
 -- From the first token these members were read, and the steps are next: with whatever steps these are, and nothing after them, the value is known.
 abbrev pub LeavesSteps : List Token → json.Members → List Token → Type 0
 LeavesSteps first ms now =
     (js : json.Items) (rest after : List Token) → json.items (json.value item_depth) (length now) now ≡ Some (js, rest)
     → json.read_key rest ≡ Some (None, after)
     → json.value max_depth first ≡ Some (with_steps ms js, after)
-
--- the members can be written and read back
-abbrev pub CanBeWritten : json.Members → Type 0
-CanBeWritten ms = MembersHaveNumbers ms × (members_depth ms ≤ member_depth)
 
 -- The steps are next, and then the end of the text: with them in place of none, the whole says this draft.
 abbrev pub SaysDraft : Whole → List Token → Draft → Type 0

@@ -20,23 +20,23 @@ pub struct NameLists<'a> {
 }
 
 /// An operation with a name.
-fn op_named(names: &NameLists, word: &str, name: &str) -> Option<Op>
+fn op_named(names: &NameLists, word: &[u8], name: &str) -> Option<Op>
     ensures { result ≡ document.op_with (names_seen names.now) word.now (string name.now) }
 {
     match word {
-        "lock" => Some(Op::Lock(SemNo(names.sems.number(name)))),
-        "unlock" => Some(Op::Unlock(SemNo(names.sems.number(name)))),
+        b"lock" => Some(Op::Lock(SemNo(names.sems.number(name)))),
+        b"unlock" => Some(Op::Unlock(SemNo(names.sems.number(name)))),
         _ => None,
     }
 }
 
 /// An operation with a number.
-fn op_counted(word: &str, n: u64) -> Option<Op>
+fn op_counted(word: &[u8], n: u64) -> Option<Op>
     ensures { (names : document.Names)
         → result ≡ document.op_with names word.now (number (unsigned n)) }
 {
     match word {
-        "sleep" => Some(Op::Sleep(n)),
+        b"sleep" => Some(Op::Sleep(n)),
         _ => None,
     }
 }
@@ -45,6 +45,7 @@ fn op_counted(word: &str, n: u64) -> Option<Op>
 pub(crate) fn op_with(names: &NameLists, word: &str, x: &Value) -> Option<Op>
     ensures { result ≡ document.op_with (names_seen names.now) word.now (view x.now) }
 {
+    let word = word.as_bytes();
     if let Some(name) = x.as_str() {
         return op_named(names, word, name);
     }
@@ -53,18 +54,20 @@ pub(crate) fn op_with(names: &NameLists, word: &str, x: &Value) -> Option<Op>
 }
 
 /// An act with a name.
-pub(crate) fn act_named(names: &NameLists, word: &str, name: &str) -> Option<Act>
+pub(crate) fn act_named(names: &NameLists, word: &[u8], name: &str) -> Option<Act>
     ensures { result ≡ document.act_with (names_seen names.now) word.now (string name.now) }
 {
-    if word == "arrive" {
-        return Some(Act::Arrive(TaskNo(names.tasks.number(name))));
+    match word {
+        b"arrive" => Some(Act::Arrive(TaskNo(names.tasks.number(name)))),
+        _ => {
+            let op = op_named(names, word, name)?;
+            Some(Act::Do(op))
+        }
     }
-    let op = op_named(names, word, name)?;
-    Some(Act::Do(op))
 }
 
 /// An act with a number.
-pub(crate) fn act_counted(word: &str, n: u64) -> Option<Act>
+pub(crate) fn act_counted(word: &[u8], n: u64) -> Option<Act>
     ensures { (names : document.Names)
         → result ≡ document.act_with names word.now (number (unsigned n)) }
 {
@@ -76,6 +79,7 @@ pub(crate) fn act_counted(word: &str, n: u64) -> Option<Act>
 pub(crate) fn act_with(names: &NameLists, word: &str, x: &Value) -> Option<Act>
     ensures { result ≡ document.act_with (names_seen names.now) word.now (view x.now) }
 {
+    let word = word.as_bytes();
     if let Some(name) = x.as_str() {
         return act_named(names, word, name);
     }
@@ -83,7 +87,7 @@ pub(crate) fn act_with(names: &NameLists, word: &str, x: &Value) -> Option<Act>
     act_counted(word, n)
 }
 
-pub(crate) fn bare_act(word: &str) -> Option<Act>
+fn bare_act(word: &str) -> Option<Act>
     ensures { result ≡ forms.word_in document.bare_acts word.now }
 {
     match word {

@@ -5,11 +5,12 @@ mod acts;
 mod document;
 mod elements;
 mod forms;
+mod lexemes;
 mod names;
+mod plain_steps;
 mod quick;
 mod read;
 pub mod single;
-mod step_tokens;
 mod tasks;
 
 pub use names::Names;

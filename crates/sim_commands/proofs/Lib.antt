@@ -1,11 +1,3 @@
-pub mod Numbered
-pub mod CpuGroups
-pub mod GivenSteps
-pub mod OrderLaws
-pub mod OneStep
-pub mod TurnRoom
-pub mod TurnOrder
-pub mod SimLaws
 pub mod CheckLaws
 pub mod SimAnswerLaws
 pub mod CheckAnswerLaws

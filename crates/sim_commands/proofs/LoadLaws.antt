@@ -5,11 +5,9 @@ use Rattle.std.specs.declared.alloc.Global.{Global}
 use Rattle.std.proofs.lemmas.Fmt.{decimal_injective}
 use Rattle.rt_task.specs.Validity.{IsValid}
 use Rattle.rt_task.specs.declared.Parts.{Parts}
-use Rattle.rt_history.specs.declared.Entry.{Entry}
 use Rattle.rt_fault.specs.Held.{Held}
 use Rattle.rt_fault.specs.declared.status.Status.{Status}
 use Rattle.rt_fault.specs.declared.status.Status.TheVariants as ends
-use Rattle.rt_groups.specs.Groups.{GroupHistory}
 use Rattle.rt_plays.specs.Order.{histories}
 use Rattle.load_set.specs.Load.{load_of}
 use Rattle.trace_lines.specs.declared.format.Version.TheVariants.{Two}
@@ -22,7 +20,6 @@ use Rattle.trace_writer.specs.declared.stop.WriteStop.{WriteStop}
 use Rattle.trace_writer.specs.declared.stop.WriteStop.TheVariants as stops
 use Rattle.trace_writer.specs.declared.summary.Summary.{Summary}
 use Rattle.trace_text.specs.CountLines.{count_lines, shown_from}
-use Rattle.trace_text.specs.Groups as groups
 use Rattle.trace_writer.specs.Summaries.{summary_from}
 use Rattle.trace_writer.specs.Writing.{Came}
 use Rattle.trace_writer.proofs.BusText.{lines-of_tools}
@@ -30,11 +27,9 @@ use Rattle.trace_writer.proofs.CameLaws.{coming-last, coming-next, coming-start,
 use Rattle.set_input.specs.Ends.{Writing}
 use Rattle.set_input.proofs.EndLaws.{Wrote}
 use Rattle.set_input.proofs.Promises.{holds-throughout}
-use Rattle.sim_commands.specs.Groups.{all_played}
 use Rattle.sim_commands.specs.Load.{load_text, summary_text}
 use Rattle.sim_commands.specs.LoadAnswers.{LoadAnswers}
 use Rattle.sim_commands.specs.Sim.{IsLoad, is_check, is_sim, is_upgrade}
-use Rattle.sim_commands.proofs.SimLaws.{played-histories}
 
 -- ---- its words
 
@@ -74,16 +69,14 @@ came-wrote (Err stops.Fault) sink text p = (p.0, p.2)
 came-wrote (Err stops.NoMemory) sink text p = inr p.0
 
 -- the text of what was played is that of the load
-pub load-text : {T : Type 0} (tool : T → Tool) (ts : List T) (n : ℕ) (p : Parts) (hs : List GroupHistory) (s : Summary) (before seats : List Seat) → p ≡ load_of n → hs ≡ all_played p
-    → s ≡ summary_from p 0 (groups.histories hs) → before ≡ map (λ t. seat_of (tool t)) ts → seats ≡ seats_after (shown_from p 0 (groups.histories hs)) before
+pub load-text : {T : Type 0} (tool : T → Tool) (ts : List T) (n : ℕ) (p : Parts) (s : Summary) (before seats : List Seat) → p ≡ load_of n
+    → s ≡ summary_from p 0 (histories p) → before ≡ map (λ t. seat_of (tool t)) ts → seats ≡ seats_after (shown_from p 0 (histories p)) before
     → summary_text n s ++ flat_map (line_text (known_of Two p)) (map seat_line seats) ≡ load_text (map tool ts) n
-load-text tool ts n p hs s before seats made all sums are fed =
-    let played : groups.histories hs ≡ histories p = played-histories p hs all in
-    let lines : map seat_line seats ≡ count_lines (map tool ts) p (groups.histories hs) =
-    ap (λ (ss : List Seat). map seat_line ss) (fed ∙ ap (seats_after (shown_from p 0 (groups.histories hs))) are) ∙ lines-of_tools tool ts (shown_from p 0 (groups.histories hs)) in
+load-text tool ts n p s before seats made sums are fed =
+    let lines : map seat_line seats ≡ count_lines (map tool ts) p (histories p) =
+    ap (λ (ss : List Seat). map seat_line ss) (fed ∙ ap (seats_after (shown_from p 0 (histories p))) are) ∙ lines-of_tools tool ts (shown_from p 0 (histories p)) in
     ap (λ (x : Summary). summary_text n x ++ flat_map (line_text (known_of Two p)) (map seat_line seats)) sums
-    ∙ ap (λ (ls : List Line). summary_text n (summary_from p 0 (groups.histories hs)) ++ flat_map (line_text (known_of Two p)) ls) lines
-    ∙ ap (λ (es : List (List Entry)). summary_text n (summary_from p 0 es) ++ flat_map (line_text (known_of Two p)) (count_lines (map tool ts) p es)) played
+    ∙ ap (λ (ls : List Line). summary_text n (summary_from p 0 (histories p)) ++ flat_map (line_text (known_of Two p)) ls) lines
     ∙ ap (λ (q : Parts). summary_text n (summary_from q 0 (histories q)) ++ flat_map (line_text (known_of Two q)) (count_lines (map tool ts) q (histories q))) made
 
 -- ---- its answers

@@ -1,5 +1,5 @@
 -- The answers of `sim`, by how its reading and its writing ended.
-use Rattle.std.proofs.Common.{◌≡◌, ◌∙◌, List, map, ap, subst, inl, inr}
+use Rattle.std.proofs.Common.{◌≡◌, List, map, ap, subst, inl, inr}
 use Rattle.std.specs.Prelude.{◌⊎◌, ℕ, Result, Err}
 use Rattle.rt_base.specs.declared.TheConstants.{MOST_SET_BYTES}
 use Rattle.rt_task.specs.declared.Parts.{Parts}
@@ -9,12 +9,9 @@ use Rattle.rt_fault.specs.Reading.{TakesAtMost}
 use Rattle.rt_fault.specs.declared.status.Status.{Status}
 use Rattle.rt_fault.specs.declared.status.Status.TheVariants as ends
 use Rattle.set_input.specs.Ends.{Reading, Writing}
-use Rattle.sim_commands.specs.Groups.{all_played}
 use Rattle.rt_plays.specs.Order.{histories}
-use Rattle.rt_groups.specs.Groups.{GroupHistory}
 use Rattle.trace_lines.specs.declared.format.Version.TheVariants.{Two}
-use Rattle.trace_text.specs.Groups as groups
-use Rattle.trace_text.specs.CountLines.{bus_text, counted_text}
+use Rattle.trace_text.specs.CountLines.{bus_text}
 use Rattle.trace_tools.specs.Seats.{Seat, seat_of}
 use Rattle.trace_tools.specs.Tools.{Tool}
 use Rattle.trace_writer.proofs.BusText.{text-of_tools}
@@ -25,7 +22,6 @@ use Rattle.set_input.specs.Stopped.{EndsReading}
 use Rattle.set_input.proofs.EndLaws.{ended-well, Wrote}
 use Rattle.set_input.proofs.InputLaws.{can_play-told, can_play-unrefused}
 use Rattle.set_input.proofs.Promises.{holds-throughout}
-use Rattle.sim_commands.proofs.SimLaws.{played-histories}
 
 -- no set was read
 pub sim-unread :
@@ -101,12 +97,10 @@ wrote-answers tools source sink p (ends.BadInput b) read few h = absurd h
 wrote-answers tools source sink p ends.ReadFault read few h = absurd h
 wrote-answers tools source sink p ends.TooLong read few h = absurd h
 
--- a set was read, and the trace of its groups written with the count lines of its tools, or a first part of it
+-- a set was read, and its trace written with the count lines of its tools, or a first part of it
 pub sim-read :
-    {T : Type 0} (tool : T → Tool) (ts : List T) (seats : List Seat) (source : Reading) (sink : Writing) (p : Parts) (hs : List GroupHistory) (answer : Status) → WasRead source p
-    → TakesAtMost MOST_SET_BYTES source.old.left source.new.left → hs ≡ all_played p → seats ≡ map (λ t. seat_of (tool t)) ts
-    → Wrote sink (bus_text Two seats p (groups.histories hs)) answer → SimAnswers (map tool ts) source sink answer
-sim-read tool ts seats source sink p hs answer read few all are wrote =
-    let text : bus_text Two seats p (groups.histories hs) ≡ set_trace (map tool ts) p =
-    text-of_tools Two tool ts p (groups.histories hs) seats are ∙ ap (counted_text Two (map tool ts) p) (played-histories p hs all) in
-    wrote-answers (map tool ts) source sink p answer read few (subst (λ (xs : List ℕ). Wrote sink xs answer) text wrote)
+    {T : Type 0} (tool : T → Tool) (ts : List T) (seats : List Seat) (source : Reading) (sink : Writing) (p : Parts) (answer : Status) → WasRead source p
+    → TakesAtMost MOST_SET_BYTES source.old.left source.new.left → seats ≡ map (λ t. seat_of (tool t)) ts
+    → Wrote sink (bus_text Two seats p (histories p)) answer → SimAnswers (map tool ts) source sink answer
+sim-read tool ts seats source sink p answer read few are wrote =
+    wrote-answers (map tool ts) source sink p answer read few (subst (λ (xs : List ℕ). Wrote sink xs answer) (text-of_tools Two tool ts p (histories p) seats are) wrote)

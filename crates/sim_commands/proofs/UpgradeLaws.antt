@@ -1,5 +1,5 @@
 -- A valid trace was read of the text of plays, and its upgrade is the text in format 2 of these.
-use Rattle.std.proofs.Common.{◌≡◌, ℕ, List, ◌++◌, map, refl, ap, ◌∙◌, subst, inr}
+use Rattle.std.proofs.Common.{◌≡◌, ℕ, List, ◌++◌, map, refl, sym, ap, ◌∙◌, subst, inr}
 use Rattle.std.specs.Prelude.{flat_map}
 use Rattle.rt_task.specs.Validity.{IsValid}
 use Rattle.rt_task.specs.declared.Parts.{Parts}
@@ -12,6 +12,7 @@ use Rattle.trace_lines.specs.Grammar.{line_text}
 use Rattle.trace_lines.specs.Known.{known_of}
 use Rattle.trace_lines.specs.Lines.{Line}
 use Rattle.trace_read.specs.declared.Trace.{Trace}
+use Rattle.trace_read.specs.declared.head.TraceHead.{TraceHead}
 use Rattle.trace_read.specs.Lines.{lines_of}
 use Rattle.trace_read.specs.Reads.{IsTraceOf}
 use Rattle.trace_tools.specs.Seats.{Seat, seat_line, seat_of, seats_after}
@@ -39,6 +40,29 @@ module _ (tools : List Tool) (bytes : List ℕ) (t : Trace) (entries : ℕ) (val
 
   pub valid-upgrade : IsUpgradeOf tools bytes (counted_text Two tools t.setup is.histories)
   valid-upgrade = record { version = t.version; setup = t.setup; histories = is.histories; played = played; text_is = is.text_is; upgraded_is = refl }
+
+-- a trace whose lines were read behind the head of a valid text
+module _ (tools : List Tool) (bytes : List ℕ) (h : TraceHead) (t : Trace) (entries : ℕ) (valid : IsValid h.setup) (is : IsValidText tools h.version h.setup bytes entries)
+    (read : IsTraceOf bytes h.version h.setup (lines_of t.lines) t.stop) (version : t.version ≡ h.version) (setup : t.setup ≡ h.setup) where
+  pub head-says : SaysPlays t is.histories
+  head-says = subst (λ (x : Trace). SaysPlays x is.histories) same (valid-says tools bytes whole entries valid is read)
+    where
+      whole : Trace
+      whole = record { version = h.version; setup = h.setup; lines = t.lines; stop = t.stop }
+
+      same : whole ≡ t
+      same = λ i. record { version = sym version i; setup = sym setup i; lines = t.lines; stop = t.stop }
+
+  pub head-upgrade : IsUpgradeOf tools bytes (counted_text Two tools h.setup is.histories)
+  head-upgrade = valid-upgrade tools bytes (record { version = h.version; setup = h.setup; lines = t.lines; stop = t.stop }) entries valid is
+
+  -- what was written of it is the text of its plays
+  pub head-written : (seats : List Seat) (sink : Writing) (answer : Status) → seats ≡ seats_after (shown_from h.setup 0 is.histories) (map seat_of tools)
+      → ((hs : List (List Entry)) (others : List Tool) → SaysPlays t hs → seats ≡ seats_after (shown_from t.setup 0 hs) (map seat_of others) → HasWritten (counted_text Two others t.setup hs) sink answer)
+      → HasWritten (counted_text Two tools h.setup is.histories) sink answer
+  head-written seats sink answer shown written =
+      subst (λ (p : Parts). HasWritten (counted_text Two tools p is.histories) sink answer) setup
+      (written is.histories tools head-says (shown ∙ ap (λ (p : Parts). seats_after (shown_from p 0 is.histories) (map seat_of tools)) (sym setup)))
 
 -- the trace of the same plays, and behind it the lines of a bus that was shown these, is the text with count lines
 pub shown-text : (tools : List Tool) (p : Parts) (hs got : List (List Entry)) (seats : List Seat) → got ≡ hs → seats ≡ seats_after (shown_from p 0 hs) (map seat_of tools)

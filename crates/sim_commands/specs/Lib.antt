@@ -1,4 +1,3 @@
-pub mod Groups
 pub mod Sim
 pub mod Check
 pub mod SimAnswers

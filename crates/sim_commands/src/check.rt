@@ -30,14 +30,14 @@ pub(crate) fn check<T: TraceTool, S: Source, K: Sink>(
     ensures no_write_fault { result ≢ Status.WriteFault → K.faults out.new ≡ K.faults out.old }
     ensures not_usage { result ≢ Status.Usage }
 {
-    let (bytes, trace) = match read_trace_input(alloc, src) {
+    let (bytes, head) = match read_trace_input(alloc, src) {
         Ok(input) => input,
         Err(status) => return status,
     };
     let Ok(mut bus) = Bus::open(alloc, tools) else {
         return Status::NoMemory;
     };
-    let Ok(verdict) = check_trace(alloc, bytes.as_slice(), &trace, &mut bus) else {
+    let Ok(verdict) = check_trace(alloc, bytes.as_slice(), &head, &mut bus) else {
         return Status::NoMemory;
     };
     let mut line = Vec::new(alloc);

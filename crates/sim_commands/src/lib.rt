@@ -4,12 +4,9 @@
 
 mod check;
 mod dispatch;
-mod groups;
 mod load;
-mod play;
 mod play_set;
 mod trace_input;
-mod turns;
 mod upgrade;
 mod verdict_line;
 mod words;

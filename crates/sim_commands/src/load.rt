@@ -11,7 +11,6 @@ ghost use Rattle.set_input.specs.Answers.{IsUnwritten};
 ghost use Rattle.sim_commands.specs.Load.{number_line, summary_text};
 ghost use Rattle.sim_commands.specs.LoadAnswers.{LoadAnswers};
 
-use crate::play::play;
 use itoa::Buffer;
 use load_set::load_set;
 use rt_fault::{Sink, Status};
@@ -110,13 +109,10 @@ pub(crate) fn load<T: TraceTool, K: Sink>(
     let Ok(setup) = load_set(alloc, n) else {
         return Status::NoMemory;
     };
-    let Ok(engines) = play(alloc, &setup) else {
-        return Status::NoMemory;
-    };
     let Ok(mut bus) = Bus::open(alloc, tools) else {
         return Status::NoMemory;
     };
-    let Ok(summary) = summarize(alloc, &setup, engines.as_slice(), &mut bus) else {
+    let Ok(summary) = summarize(alloc, &setup, &mut bus) else {
         return Status::NoMemory;
     };
     match write_load(alloc, n, summary, &bus, out) {

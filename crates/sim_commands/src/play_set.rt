@@ -5,13 +5,12 @@ ghost use Rattle.set_input.specs.Ends.{reading, writing};
 ghost use Rattle.set_input.specs.Answers.{IsUnwritten};
 ghost use Rattle.sim_commands.specs.SimAnswers.{SimAnswers};
 
-use crate::play::play;
 use rt_fault::{Sink, Source, Status};
 use set_input::read_input;
 use std::alloc::Global;
 use trace_lines::Version;
 use trace_tools::{Bus, TraceTool};
-use trace_writer::{WriteStop, write_trace};
+use trace_writer::{WriteStop, write_played};
 
 /// Reads a set, plays its steps in the given order or its turns, and writes the trace of the histories that come about,
 /// with the count lines of the tools.
@@ -37,20 +36,10 @@ pub(crate) fn play_set<S: Source, K: Sink, T: TraceTool>(
         Ok(setup) => setup,
         Err(status) => return status,
     };
-    let Ok(engines) = play(alloc, &setup) else {
-        return Status::NoMemory;
-    };
     let Ok(mut bus) = Bus::open(alloc, tools) else {
         return Status::NoMemory;
     };
-    match write_trace(
-        alloc,
-        Version::Two,
-        &setup,
-        engines.as_slice(),
-        &mut bus,
-        out,
-    ) {
+    match write_played(alloc, Version::Two, &setup, &mut bus, out) {
         Ok(()) => Status::Ok,
         Err(WriteStop::Fault) => Status::WriteFault,
         Err(WriteStop::NoMemory) => Status::NoMemory,

@@ -8,7 +8,7 @@ ghost use Rattle.trace_tools.specs.Places.{seats};
 ghost use Rattle.trace_tools.specs.Seats.{seat_of, seats_after};
 ghost use Rattle.trace_tools.specs.Tools.{Tool};
 ghost use Rattle.trace_text.specs.CountLines.{counted_text, shown_from};
-ghost use Rattle.trace_read.specs.Reads.{IsReadOf};
+ghost use Rattle.trace_read.specs.Reads.{IsHeadOf};
 ghost use Rattle.trace_upgrade.specs.Said.{SaysPlays};
 ghost use Rattle.set_input.specs.Ends.{reading, writing};
 ghost use Rattle.set_input.specs.Answers.{IsUnwritten};
@@ -20,7 +20,7 @@ use rt_fault::{Sink, Source, Status};
 use std::alloc::Global;
 use trace_check::{Verdict, check_trace};
 use trace_lines::Version;
-use trace_read::Trace;
+use trace_read::{Trace, TraceHead};
 use trace_tools::{Bus, TraceTool};
 use trace_upgrade::engines_of;
 use trace_writer::{WriteStop, write_shown_trace};
@@ -59,17 +59,17 @@ fn write_upgrade<T: TraceTool, K: Sink>(
     }
 }
 
-/// Writes, in format 2, the trace that was read of these bytes, where it is valid.
+/// Writes, in format 2, the trace whose head was read of these bytes, where it is valid.
 fn upgrade_valid<T: TraceTool, K: Sink>(
     alloc: Global,
     bytes: &[u8],
-    trace: &Trace,
+    head: &TraceHead,
     tools: Vec<T>,
     out: &mut K,
 ) -> Status
-    requires trace { IsReadOf bytes.now trace.now }
-    requires valid { IsValid trace.now.setup }
-    ensures upgraded { HasUpgraded (map T.tool tools.items) trace.now.version trace.now.setup
+    requires head { IsHeadOf bytes.now head.now }
+    requires valid { IsValid head.now.setup }
+    ensures upgraded { HasUpgraded (map T.tool tools.items) head.now.version head.now.setup
         bytes.now (writing K.held K.faults out.old out.new) result }
     ensures wrong_unwritten { (line : ℕ) → result ≡ Status.Invalid line → out.new ≡ out.old }
     ensures read { IsUnwritten result → ⊥ }
@@ -80,11 +80,15 @@ fn upgrade_valid<T: TraceTool, K: Sink>(
     let Ok(mut bus) = Bus::open(alloc, tools) else {
         return Status::NoMemory;
     };
-    match check_trace(alloc, bytes, trace, &mut bus) {
-        Ok(Verdict::Valid(_)) => write_upgrade(alloc, trace, &bus, out),
-        Ok(Verdict::Invalid(line)) => Status::Invalid(line),
-        Err(_) => Status::NoMemory,
+    match check_trace(alloc, bytes, head, &mut bus) {
+        Ok(Verdict::Valid(_)) => {}
+        Ok(Verdict::Invalid(line)) => return Status::Invalid(line),
+        Err(_) => return Status::NoMemory,
     }
+    let Ok(trace) = head.read_lines(alloc, bytes) else {
+        return Status::NoMemory;
+    };
+    write_upgrade(alloc, &trace, &bus, out)
 }
 
 /// Reads a trace, and where it is valid for its set, writes it in format 2 with the count line of each of these tools.
@@ -106,9 +110,9 @@ pub(crate) fn upgrade<T: TraceTool, S: Source, K: Sink>(
     ensures no_write_fault { result ≢ Status.WriteFault → K.faults out.new ≡ K.faults out.old }
     ensures not_usage { result ≢ Status.Usage }
 {
-    let (bytes, trace) = match read_trace_input(alloc, src) {
+    let (bytes, head) = match read_trace_input(alloc, src) {
         Ok(input) => input,
         Err(status) => return status,
     };
-    upgrade_valid(alloc, bytes.as_slice(), &trace, tools, out)
+    upgrade_valid(alloc, bytes.as_slice(), &head, tools, out)
 }

@@ -1,15 +1,25 @@
 -- An entry that is the next one is followed.
-use Rattle.std.proofs.Common.{◌≡◌, ◌+◌, ◌<◌, ◌≤◌, List, [], ◌∷◌, ◌++◌, length, refl, sym, ap, ◌∙◌, subst, arith, length-append}
+use Rattle.std.proofs.Common.{◌≡◌, ◌+◌, ◌<◌, ◌≤◌, ℕ, List, [], ◌∷◌, ◌++◌, length, Some, refl, sym, ap, ◌∙◌, subst, arith, length-append}
 use Rattle.std.proofs.Math.Seq.{get_or-append_seam}
 use Rattle.rt_base.specs.declared.TheConstants.{MOST_STEPS}
 use Rattle.rt_task.specs.declared.Parts.{Parts}
+use Rattle.rt_task.specs.declared.Act.{Act}
+use Rattle.rt_task.specs.declared.Act.TheVariants as acts
 use Rattle.rt_task.specs.declared.Step.{Step}
 use Rattle.rt_history.specs.declared.Entry.{Entry}
+use Rattle.rt_history.specs.declared.Reply.{Reply}
+use Rattle.trace_lines.specs.declared.format.Version.{Version}
+use Rattle.trace_lines.specs.Grammar.{line_text}
+use Rattle.trace_lines.specs.Known.{known_of}
+use Rattle.trace_lines.specs.Lines.{Link, entry_line}
 use Rattle.rt_model.specs.Group.{Group}
 use Rattle.rt_model.specs.Histories.{after, past_of, reply_to}
 use Rattle.rt_model.specs.Steps.{IsStepOf}
 use Rattle.rt_model.proofs.Steps.{past_of-append}
+use Rattle.rt_plays.specs.Turns.{is_tick}
 use Rattle.rt_plays.proofs.PlayLaws.{play-fits}
+use Rattle.trace_read.specs.Movers.{says_tick}
+use Rattle.trace_read.specs.declared.mover.Mover.{Mover}
 use Rattle.block_counts.specs.GroupRequests as counts
 use Rattle.rank_afresh.specs.Standing.{IsAt, Standing, group_of}
 use Rattle.trace_laws.proofs.Plays.{begun-steps, few-entries}
@@ -20,6 +30,29 @@ use Rattle.trace_course.specs.Courses.{CanTake, IsCourse, IsOnCourse}
 use Rattle.trace_check.specs.GroupLinks.{AreLinks, CanRead}
 use Rattle.trace_check.specs.Following.{CanStep, IsFollowing, IsFollowingWith}
 use Rattle.trace_course.specs.Places.{IsNextStep, Place, entry_by, longer}
+
+-- what is read of a line says the same as what drives a group
+pub says-tick : (act : Act) → is_tick act ≡ says_tick act
+says-tick acts.Tick = refl
+says-tick acts.Irq = refl
+says-tick (acts.Arrive t) = refl
+says-tick (acts.Do op) = refl
+
+pub same-mover : (a b : Mover) → Some a ≡ Some b → a ≡ b
+same-mover a b e = cc
+
+pub same-step : (a b : Step) → Some a ≡ Some b → a ≡ b
+same-step a b e = cc
+
+pub entry-same : (e : Entry) (s : Step) (r : Reply) → e.step ≡ s → e.reply ≡ r → e ≡ record { step = s; reply = r }
+entry-same e s r step reply = λ i. record { step = step i; reply = reply i }
+
+-- the line of an entry, by the set that was read
+pub line-same : (v : Version) (p q : Parts) (i count : ℕ) (e made : Entry) (links shown : List Link) → p ≡ q → i ≡ count → e ≡ made → links ≡ shown
+    → line_text (known_of v q) (entry_line i e links) ≡ line_text (known_of v p) (entry_line count made shown)
+line-same v p q i count e made links shown set number entry same =
+    ap (λ (x : Parts). line_text (known_of v x) (entry_line i e links)) (sym set) ∙ ap (λ (n : ℕ). line_text (known_of v p) (entry_line n e links)) number
+    ∙ ap (λ (x : Entry). line_text (known_of v p) (entry_line count x links)) entry ∙ ap (λ (xs : List Link). line_text (known_of v p) (entry_line count made xs)) same
 
 -- its course is followed as far
 pub on-course : (at : Place) (p : Parts) (f : Follow) → IsFollowingWith at p f → IsOnCourse at p f.course

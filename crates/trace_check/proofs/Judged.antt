@@ -34,9 +34,14 @@ use Rattle.trace_check.specs.LinesAlike.{behind_lines, lines_alike}
 use Rattle.trace_check.specs.Verdicts.{IsInvalid, IsVerdict}
 use Rattle.trace_check.specs.GroupLines.{lines_of_groups}
 use Rattle.trace_check.proofs.GroupLines.{IsNoEnd}
-use Rattle.trace_check.proofs.LinePlaces.{heads, tails}
-use Rattle.trace_check.proofs.LinesAlike.{alike-most, alike-past, alike-there, behind-text, texts-alike}
+use Rattle.trace_check.proofs.LinesAlike.{alike-most, alike-past, alike-there, texts-alike}
 use Rattle.trace_check.proofs.SetLines.{completed-between, whole-lines}
+
+pub heads : (x y : Line) (xs ys : List Line) → x ∷ xs ≡ y ∷ ys → x ≡ y
+heads x y xs ys e = cc
+
+tails : (x y : Line) (xs ys : List Line) → x ∷ xs ≡ y ∷ ys → xs ≡ ys
+tails x y xs ys e = cc
 
 -- ---- lists that agree
 
@@ -112,20 +117,52 @@ module _ (tools : List Tool) (v : Version) (p : Parts) (valid : IsValid p) where
   valid-text : (hs : List (List Entry)) → ArePlays p hs → IsValidText tools v p (trace_text v p hs) (entry_count hs)
   valid-text hs plays = record { histories = hs; plays = plays; text_is = inl refl; count = refl }
 
-  module _ (bytes : List ℕ) (lines : List Line) (stop : Option ℕ) (r : IsTraceOf bytes v p lines stop) where
-    -- a text that is valid has the lines of plays, and others behind them
-    valid-lines : (n : ℕ) (is : IsValidText tools v p bytes n) → (r.set_text ≡ canonical p) × ((later : List Line) × (lines ≡ lines_from p 0 is.histories ++ later))
-    valid-lines n is =
-        let begins = text-begins tools v p is.histories bytes is.text_is in
-        let heads = head-unique v v bytes r.set_text r.rest (canonical p) (lines_of v p is.histories ++ begins.0) r.head (longer-head v p is.histories begins.0 bytes begins.1 one_line) in
-        (heads.set_text, first-read k r.rest r.left begins.0 lines (lines_from p 0 is.histories) tells (known-lines v p valid is.histories is.plays) heads.rest r.lines_are)
+  -- ---- the set's line
 
-    -- a text that begins as a valid one has its set
-    begun-set : (n : ℕ) (begun : IsBegun tools v p n bytes) → 2 ≤ n → r.set_text ≡ canonical p
+  module _ (bytes set_text rest : List ℕ) (head : HasHead v bytes set_text rest) where
+    -- a text that is valid has its set
+    valid-set : (n : ℕ) (is : IsValidText tools v p bytes n) → set_text ≡ canonical p
+    valid-set n is =
+        let begins = text-begins tools v p is.histories bytes is.text_is in
+        (head-unique v v bytes set_text rest (canonical p) (lines_of v p is.histories ++ begins.0) head (longer-head v p is.histories begins.0 bytes begins.1 one_line)).set_text
+
+    -- and so has one that begins as a valid one
+    begun-set : (n : ℕ) (begun : IsBegun tools v p n bytes) → 2 ≤ n → set_text ≡ canonical p
     begun-set n begun many =
         let is = begun.valid in
         let begins = text-begins tools v p is.histories begun.whole is.text_is in
-        alike-head v v n bytes begun.whole r.set_text r.rest (canonical p) (lines_of v p is.histories ++ begins.0) begun.alike many r.head (longer-head v p is.histories begins.0 begun.whole begins.1 one_line)
+        alike-head v v n bytes begun.whole set_text rest (canonical p) (lines_of v p is.histories ++ begins.0) begun.alike many head (longer-head v p is.histories begins.0 begun.whole begins.1 one_line)
+
+    -- the second line is wrong where the set's text is not the canonical one
+    pub not-canonical : (set_text ≡ canonical p → ⊥) → IsInvalid tools v p bytes 2
+    not-canonical other =
+        let all = completed-between p [] tt (omega arith) in
+        record {
+          not_valid = λ n is. other (valid-set n is);
+          right = 1;
+          line_is = refl;
+          begun = record {
+            whole = trace_text v p all.0;
+            entries = entry_count all.0;
+            valid = valid-text all.0 all.1;
+            alike = alike-one_head v bytes (trace_text v p all.0) set_text rest (canonical p) (lines_of v p all.0) head (trace-head v p all.0 one_line);
+          };
+          most = λ n begun. most n begun (nat_lt 1 n) refl;
+        }
+      where
+        most : (n : ℕ) → IsBegun tools v p n bytes → (b : Bool) → nat_lt 1 n ≡ b → n ≤ 1
+        most n begun true e = let many : 2 ≤ n = grind (arith, nat_tests, e) in absurd (other (begun-set n begun many))
+        most n begun false e = grind (arith, nat_tests, e)
+
+  -- ---- lines
+
+  module _ (bytes : List ℕ) (lines : List Line) (stop : Option ℕ) (r : IsTraceOf bytes v p lines stop) where
+    -- a text that is valid has the lines of plays, and others behind them
+    valid-lines : (n : ℕ) (is : IsValidText tools v p bytes n) → (later : List Line) × (lines ≡ lines_from p 0 is.histories ++ later)
+    valid-lines n is =
+        let begins = text-begins tools v p is.histories bytes is.text_is in
+        let heads = head-unique v v bytes r.set_text r.rest (canonical p) (lines_of v p is.histories ++ begins.0) r.head (longer-head v p is.histories begins.0 bytes begins.1 one_line) in
+        first-read k r.rest r.left begins.0 lines (lines_from p 0 is.histories) tells (known-lines v p valid is.histories is.plays) heads.rest r.lines_are
 
     -- and agrees with the lines of its plays, as far as both go
     begun-agrees : (n m : ℕ) (begun : IsBegun tools v p n bytes) → m + 2 ≤ n → m ≤ length (lines_from p 0 begun.valid.histories) → AgreeThrough m lines (lines_from p 0 begun.valid.histories)
@@ -186,7 +223,7 @@ module _ (tools : List Tool) (v : Version) (p : Parts) (valid : IsValid p) where
     -- the line behind them is wrong
     pub stopped : (front rest : List Line) → r.set_text ≡ canonical p → IsStopped front rest → IsInvalid tools v p bytes (length front + 3)
     stopped front rest same s = record {
-      not_valid = λ n is. (let said = valid-lines n is in begin-none front rest s is.histories is.plays said.1.0 said.1.1);
+      not_valid = λ n is. (let said = valid-lines n is in begin-none front rest s is.histories is.plays said.0 said.1);
       right = length front + 2;
       line_is = omega arith;
       begun = agrees-begun (length front) s.plays same s.are_plays (agree-front front rest s.later lines (lines_from p 0 s.plays) s.lines_are s.plays_begin);
@@ -197,36 +234,78 @@ module _ (tools : List Tool) (v : Version) (p : Parts) (valid : IsValid p) where
         most n begun true e = let high : length front + 2 < n = grind (arith, nat_tests, e) in absurd (none-further front rest s n high begun)
         most n begun false e = grind (arith, nat_tests, e)
 
-    -- ---- lines that begin with all those of plays, and text behind them
+  -- ---- a text that begins with all the lines of plays
 
-    module _ (hs : List (List Entry)) (same : r.set_text ≡ canonical p) (plays : ArePlays p hs) (later : List Line) (begin : lines ≡ lines_from p 0 hs ++ later) where
-      abbrev all : List Line
-      all = lines_from p 0 hs
+  module _ (bytes : List ℕ) (hs : List (List Entry)) (plays : ArePlays p hs) (behind : List ℕ) (head_is : HasHead v bytes (canonical p) (lines_of v p hs ++ behind)) where
+    abbrev pub all : List Line
+    all = lines_from p 0 hs
 
-      -- the text behind them
-      abbrev behind : List ℕ
-      behind = flat_map (line_text k) later ++ r.left
+    abbrev pub counts : List ℕ
+    counts = flat_map (line_text k) (count_lines tools p hs)
 
-      abbrev counts : List ℕ
-      counts = flat_map (line_text k) (count_lines tools p hs)
+    known : All (IsLine k) all
+    known = known-lines v p valid hs plays
 
-      known : All (IsLine k) all
-      known = known-lines v p valid hs plays
+    text_is : bytes ≡ trace_text v p hs ++ behind
+    text_is = head_is.bytes_are ∙ sym (longer-begins v p hs behind (trace_text v p hs ++ behind) refl)
 
-      rest_is : r.rest ≡ lines_of v p hs ++ behind
-      rest_is =
-          r.lines_are.text_is ∙ ap (λ (ls : List Line). flat_map (line_text k) ls ++ r.left) begin
-          ∙ ap (λ (t : List ℕ). t ++ r.left) (flat_map-append (line_text k) all later) ∙ append_assoc (lines_of v p hs) (flat_map (line_text k) later) r.left
+    -- it is valid where nothing stands behind them, or all the count lines
+    pub alone-valid : behind ≡ [] → IsValidText tools v p bytes (entry_count hs)
+    alone-valid none = record {
+      histories = hs;
+      plays = plays;
+      text_is = inl (text_is ∙ ap (λ (t : List ℕ). trace_text v p hs ++ t) none ∙ append-nil (trace_text v p hs));
+      count = refl;
+    }
 
-      head_is : HasHead v bytes (canonical p) (lines_of v p hs ++ behind)
-      head_is = subst (λ (s : List ℕ). HasHead v bytes s (lines_of v p hs ++ behind)) same (subst (HasHead v bytes r.set_text) rest_is r.head)
+    pub counted-valid : behind ≡ counts → IsValidText tools v p bytes (entry_count hs)
+    counted-valid is = record {
+      histories = hs;
+      plays = plays;
+      text_is = inr (text_is ∙ ap (λ (t : List ℕ). trace_text v p hs ++ t) is);
+      count = refl;
+    }
 
-      text_is : bytes ≡ trace_text v p hs ++ behind
-      text_is = head_is.bytes_are ∙ sym (longer-begins v p hs behind (trace_text v p hs ++ behind) refl)
+    -- a valid text is of these plays
+    pub same-histories : (n : ℕ) (is : IsValidText tools v p bytes n) → hs ≡ is.histories
+    same-histories n is =
+        let begins = text-begins tools v p is.histories bytes is.text_is in
+        texts-apart v p hs is.histories behind begins.0 bytes valid plays is.plays text_is begins.1
 
-      pub behind-is : behind_lines (length all + 2) bytes ≡ behind
-      behind-is = behind-text v k all bytes (canonical p) behind tells known head_is
+    -- and else not
+    other-invalid : (behind ≡ [] → ⊥) → (behind ≡ counts → ⊥) → (n : ℕ) → IsValidText tools v p bytes n → ⊥
+    other-invalid some other n is = by_text is.text_is
+      where
+        by_text : IsTextOf tools v p is.histories bytes → ⊥
+        by_text (inl e) = some (append_cancel_left (trace_text v p hs) behind [] (sym text_is ∙ e ∙ ap (trace_text v p) (sym (same-histories n is)) ∙ sym (append-nil (trace_text v p hs))))
+        by_text (inr e) = other (append_cancel_left (trace_text v p hs) behind counts (sym text_is ∙ e ∙ ap (counted_text v tools p) (sym (same-histories n is))))
 
+    -- so many lines are right then
+    abbrev pub right : ℕ
+    right = length all + 2 + lines_alike behind counts
+
+    pub counts-begun : IsBegun tools v p right bytes
+    counts-begun =
+        let whole : List ℕ = counted_text v tools p hs in
+        let head = longer-head v p hs counts whole refl one_line in
+        let alike = alike-two v (length all + lines_alike behind counts) bytes whole (canonical p) (lines_of v p hs ++ behind) (lines_of v p hs ++ counts) head_is head
+        (alike-behind k (lines_alike behind counts) all behind counts tells known (alike-there behind counts)) in
+        let number : length all + lines_alike behind counts + 2 ≡ right = omega arith in
+        record {
+          whole = whole;
+          entries = entry_count hs;
+          valid = record { histories = hs; plays = plays; text_is = inr refl; count = refl };
+          alike = subst (λ (n : ℕ). BeginAlike n bytes whole) number alike;
+        }
+
+    alike-within : (n : ℕ) (more whole : List ℕ) → whole ≡ trace_text v p hs ++ more → BeginAlike n bytes whole → n ≤ length all + 2 + lines_alike behind more
+    alike-within n more whole is alike =
+        let few = alike-most n bytes whole alike in
+        let number = texts-alike v k all bytes whole (canonical p) behind more tells known head_is (longer-head v p hs more whole is one_line) in
+        omega (arith, few, number)
+
+    -- where these are the first of its lines
+    module _ (lines : List Line) (stop : Option ℕ) (r : IsTraceOf bytes v p lines stop) (later : List Line) (begin : lines ≡ all ++ later) where
       -- a valid text that begins with all these lines is of these plays
       same-plays : (n : ℕ) (begun : IsBegun tools v p n bytes) → length all + 2 ≤ n → hs ≡ begun.valid.histories
       same-plays n begun many = by_length (nat_lt (length others) (length all)) refl
@@ -237,71 +316,16 @@ module _ (tools : List Tool) (v : Version) (p : Parts) (valid : IsValid p) where
           by_length : (b : Bool) → nat_lt (length others) (length all) ≡ b → hs ≡ begun.valid.histories
           by_length true e =
               let few : length others < length all = grind (arith, nat_tests, e) in
-              let agree = begun-agrees n (length others) begun (omega (arith, many, few)) (omega arith) in
+              let agree = begun-agrees bytes lines stop r n (length others) begun (omega (arith, many, few)) (omega arith) in
               elim (two-fronts all others later (drop (length others) lines) (sym begin ∙ agree-all lines others agree)) [
                 | inl h ↦ begin-same p hs begun.valid.histories h.0 h.1
                 | inr h ↦ sym (begin-same p begun.valid.histories hs (h.0 ∷ h.1) h.2)
               ]
           by_length false e =
               let low : length all ≤ length others = grind (arith, nat_tests, e) in
-              let agree = begun-agrees n (length all) begun many low in
+              let agree = begun-agrees bytes lines stop r n (length all) begun many low in
               begin-same p hs begun.valid.histories (drop (length all) others)
               (sym (take-append-drop (length all) others) ∙ ap (λ (xs : List Line). xs ++ drop (length all) others) (sym agree.same ∙ ap (take (length all)) begin ∙ take-append_seam all later))
-
-      -- it is valid where nothing stands behind them, or all the count lines
-      alone-valid : behind ≡ [] → IsValidText tools v p bytes (entry_count hs)
-      alone-valid none = record {
-        histories = hs;
-        plays = plays;
-        text_is = inl (text_is ∙ ap (λ (t : List ℕ). trace_text v p hs ++ t) none ∙ append-nil (trace_text v p hs));
-        count = refl;
-      }
-
-      counted-valid : behind ≡ counts → IsValidText tools v p bytes (entry_count hs)
-      counted-valid is = record {
-        histories = hs;
-        plays = plays;
-        text_is = inr (text_is ∙ ap (λ (t : List ℕ). trace_text v p hs ++ t) is);
-        count = refl;
-      }
-
-      -- a valid text is of these plays
-      pub same-histories : (n : ℕ) (is : IsValidText tools v p bytes n) → hs ≡ is.histories
-      same-histories n is =
-          let begins = text-begins tools v p is.histories bytes is.text_is in
-          texts-apart v p hs is.histories behind begins.0 bytes valid plays is.plays text_is begins.1
-
-      -- and else not
-      other-invalid : (behind ≡ [] → ⊥) → (behind ≡ counts → ⊥) → (n : ℕ) → IsValidText tools v p bytes n → ⊥
-      other-invalid some other n is = by_text is.text_is
-        where
-          by_text : IsTextOf tools v p is.histories bytes → ⊥
-          by_text (inl e) = some (append_cancel_left (trace_text v p hs) behind [] (sym text_is ∙ e ∙ ap (trace_text v p) (sym (same-histories n is)) ∙ sym (append-nil (trace_text v p hs))))
-          by_text (inr e) = other (append_cancel_left (trace_text v p hs) behind counts (sym text_is ∙ e ∙ ap (counted_text v tools p) (sym (same-histories n is))))
-
-      -- so many lines are right then
-      abbrev right : ℕ
-      right = length all + 2 + lines_alike behind counts
-
-      counts-begun : IsBegun tools v p right bytes
-      counts-begun =
-          let whole : List ℕ = counted_text v tools p hs in
-          let head = longer-head v p hs counts whole refl one_line in
-          let alike = alike-two v (length all + lines_alike behind counts) bytes whole (canonical p) (lines_of v p hs ++ behind) (lines_of v p hs ++ counts) head_is head
-          (alike-behind k (lines_alike behind counts) all behind counts tells known (alike-there behind counts)) in
-          let number : length all + lines_alike behind counts + 2 ≡ right = omega arith in
-          record {
-            whole = whole;
-            entries = entry_count hs;
-            valid = record { histories = hs; plays = plays; text_is = inr refl; count = refl };
-            alike = subst (λ (n : ℕ). BeginAlike n bytes whole) number alike;
-          }
-
-      alike-within : (n : ℕ) (more whole : List ℕ) → whole ≡ trace_text v p hs ++ more → BeginAlike n bytes whole → n ≤ length all + 2 + lines_alike behind more
-      alike-within n more whole is alike =
-          let few = alike-most n bytes whole alike in
-          let number = texts-alike v k all bytes whole (canonical p) behind more tells known head_is (longer-head v p hs more whole is one_line) in
-          omega (arith, few, number)
 
       within-right : (n : ℕ) → IsBegun tools v p n bytes → n ≤ right
       within-right n begun = by_number (nat_lt n (length all + 2)) refl
@@ -317,41 +341,6 @@ module _ (tools : List Tool) (v : Version) (p : Parts) (valid : IsValid p) where
           by_number true e = let low : n < length all + 2 = grind (arith, nat_tests, e) in omega (arith, low)
           by_number false e = let high : length all + 2 ≤ n = grind (arith, nat_tests, e) in by_text (same-plays n begun high) begun.valid.text_is
 
-      behind-wrong : (behind ≡ [] → ⊥) → (behind ≡ counts → ⊥) → IsInvalid tools v p bytes (right + 1)
+      -- the next line is wrong where something stands behind them that is not the count lines
+      pub behind-wrong : (behind ≡ [] → ⊥) → (behind ≡ counts → ⊥) → IsInvalid tools v p bytes (right + 1)
       behind-wrong some other = record { not_valid = other-invalid some other; right = right; line_is = refl; begun = counts-begun; most = within-right }
-
-      at-behind : IsVerdict tools v p bytes (verdict_behind behind counts (length all + 2) (entry_count hs))
-      at-behind = by_tests (length behind == 0) (bytes_eq behind counts) refl refl
-        where
-          by_tests : (e f : Bool) → (length behind == 0) ≡ e → bytes_eq behind counts ≡ f → IsVerdict tools v p bytes (if e || f then Valid (entry_count hs) else Invalid (right + 1))
-          by_tests true f none is = alone-valid (nil_from_length behind (eqb-true (length behind) 0 none))
-          by_tests false true some is = counted-valid ((bytes_eq-Decides behind counts).0 is)
-          by_tests false false some other =
-              behind-wrong (λ none. let yes : (length behind == 0) ≡ true = rw none refl in cc) (λ is. let yes : bytes_eq behind counts ≡ true = (bytes_eq-Decides behind counts).1 is in cc)
-
-      -- the verdict on what stands behind them
-      pub behind-judged : (rest lines_wanted : List ℕ) (so_far entries : ℕ) → rest ≡ behind → lines_wanted ≡ counts → so_far ≡ length all + 2 → entries ≡ entry_count hs → IsVerdict tools v p bytes (verdict_behind rest lines_wanted so_far entries)
-      behind-judged rest lines_wanted so_far entries rest_same wanted_same right_same entries_same =
-          let told : verdict_behind behind counts (length all + 2) (entry_count hs) ≡ verdict_behind rest lines_wanted so_far entries = rw (rest_same, wanted_same, right_same, entries_same) refl in
-          subst (IsVerdict tools v p bytes) told at-behind
-
-    -- the set's text is not the canonical one
-    pub not-canonical : (r.set_text ≡ canonical p → ⊥) → IsInvalid tools v p bytes 2
-    not-canonical other =
-        let all = completed-between p [] tt (omega arith) in
-        record {
-          not_valid = λ n is. other (valid-lines n is).0;
-          right = 1;
-          line_is = refl;
-          begun = record {
-            whole = trace_text v p all.0;
-            entries = entry_count all.0;
-            valid = valid-text all.0 all.1;
-            alike = alike-one_head v bytes (trace_text v p all.0) r.set_text r.rest (canonical p) (lines_of v p all.0) r.head (trace-head v p all.0 one_line);
-          };
-          most = λ n begun. most n begun (nat_lt 1 n) refl;
-        }
-      where
-        most : (n : ℕ) → IsBegun tools v p n bytes → (b : Bool) → nat_lt 1 n ≡ b → n ≤ 1
-        most n begun true e = let many : 2 ≤ n = grind (arith, nat_tests, e) in absurd (other (begun-set n begun many))
-        most n begun false e = grind (arith, nat_tests, e)

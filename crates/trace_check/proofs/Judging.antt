@@ -1,67 +1,60 @@
--- Lines that were judged right so far, and what the next one comes to.
-use Rattle.std.proofs.Common.{◌≡◌, ◌≢◌, ℕ, suc, ◌+◌, ◌*◌, ◌<◌, ◌≤◌, ◌^◌, inl, inr, ◌⊎◌, Bool, true, false, ◌&&◌, ◌==◌, List, [], ◌∷◌, ◌++◌, length, map, take, drop, get_or, refl, sym, ap, ◌∙◌, subst, arith, eqb-true, append-nil, append_assoc, length-append}
-use Rattle.std.specs.Prelude.{All, flat_map, sum_by, Option}
+-- A text that was judged right so far, and what the next line comes to.
+use Rattle.std.proofs.Common.{◌≡◌, ◌≢◌, ℕ, zero, suc, ◌+◌, ◌-◌, ◌*◌, ◌<◌, ◌≤◌, ◌^◌, inl, inr, ◌⊎◌, Bool, true, false, ◌||◌, ◌==◌, List, [], ◌∷◌, ◌++◌, length, map, take, drop, get_or, None, Some, refl, sym, ap, ◌∙◌, subst, arith, eqb-true, append_assoc, length-append}
+use Rattle.std.specs.Prelude.{All, Option, bytes_eq, codes, flat_map, sum_by, if◌then◌else◌}
 use Rattle.std.proofs.lemmas.List.Sums.{sum-map, sum_by-cons, sum_by_push}
-use Rattle.std.proofs.lemmas.List.{append_cancel_left, length-drop, length-take-le, take-append-drop}
-use Rattle.std.proofs.lemmas.List.Elements.{All-append, All-get_or, All-head, All-tail, All-take}
-use Rattle.std.proofs.Math.ListN.{drop_of_length-le}
-use Rattle.std.proofs.Math.Seq.{drop-cons, get_or-append_seam}
+use Rattle.std.proofs.lemmas.List.{append_cancel_left, drop-drop, length-take-le, nil_from_length, take-append-drop, take_all}
+use Rattle.std.proofs.lemmas.List.Elements.{All-append, All-head, All-take}
+use Rattle.std.proofs.lemmas.Slice.Eq.{bytes_eq-Decides}
+use Rattle.std.proofs.Math.Seq.{drop-cons}
 use Rattle.rt_base.specs.declared.TheConstants.{MOST_STEPS}
 use Rattle.rt_task.specs.declared.Parts.{Parts}
 use Rattle.rt_task.specs.Validity.{IsValid}
 use Rattle.rt_history.specs.declared.Entry.{Entry}
-use Rattle.rt_rules.proofs.MemberLaws.{equal_self}
 use Rattle.rt_model.specs.Group.{Group, group_processors}
 use Rattle.rt_model.specs.Histories.{past_of}
 use Rattle.rt_groups.specs.Groups.{IsGroupOf}
 use Rattle.rt_groups.proofs.GroupCount.{groups_are_counted}
 use Rattle.rt_plays.specs.Plays.{ArePlays, IsPlay, group_count, group_with}
+use Rattle.set_canonical.specs.Canonical.{canonical}
+use Rattle.set_laws.proofs.CanonicalLaws.{set-of-canonical}
 use Rattle.trace_lines.specs.Lines.{Link, Line, group_line, entry_line, block_line, end_line, count_line, links_of}
 use Rattle.trace_lines.specs.declared.format.Version.{Version}
-use Rattle.trace_lines.specs.Grammar.{line_text}
-use Rattle.trace_lines.specs.Known.{Known, known_of}
+use Rattle.trace_lines.specs.Grammar.{line_text, line_words}
+use Rattle.trace_lines.specs.Known.{IsLine, Known, known_of}
 use Rattle.trace_tools.specs.Seats.{Seat, seat_after, seat_line, seat_of, seats_after}
 use Rattle.trace_tools.specs.Tools.{Tool}
-use Rattle.trace_text.specs.CountLines.{shown_as, shown_entries, shown_from}
+use Rattle.trace_text.specs.CountLines.{count_lines, shown_as, shown_entries, shown_from}
 use Rattle.trace_text.specs.TraceText.{lines_from, links_at}
 use Rattle.trace_text.proofs.GroupLaws.{groups-few}
 use Rattle.trace_text.proofs.LineLaws.{past_none}
-use Rattle.trace_read.specs.Lines.{line_of}
-use Rattle.trace_read.specs.declared.lines.Line.TheVariants as read
-use Rattle.trace_read.specs.declared.lines.Line as kinds
+use Rattle.trace_read.specs.Reading.{begins_with_digit}
+use Rattle.trace_read.specs.Reads.{AreLines, HasHead, IsTraceOf, stop_at}
+use Rattle.trace_read.proofs.TellLaws.{valid-tells}
 use Rattle.trace_laws.specs.ValidTexts.{entry_count}
+use Rattle.trace_laws.proofs.Heads.{lines_of}
+use Rattle.trace_laws.proofs.KnownLines.{known-lines}
 use Rattle.trace_laws.proofs.Plays.{begun-whole, few-entries}
-use Rattle.trace_lines.specs.declared.links.CpuLink.{CpuLink}
+use Rattle.trace_laws.proofs.ReadBack.{first-read}
 use Rattle.trace_check.specs.declared.follow.Follow.{Follow}
 use Rattle.trace_check.specs.declared.progress.Progress.{Progress}
 use Rattle.trace_check.specs.declared.progress.Followed.{Followed}
+use Rattle.trace_check.specs.declared.requests.Stood.{Stood}
 use Rattle.trace_check.specs.declared.verdict.Verdict.{Verdict}
 use Rattle.trace_check.specs.declared.verdict.Verdict.TheVariants.{Invalid, Valid}
-use Rattle.trace_check.specs.Verdicts.{IsInvalid}
-use Rattle.trace_check.specs.SameLinks.{same_links}
-use Rattle.trace_check.specs.Following.{IsAccepted, IsFollowing, IsFollowingWith, IsNextEntry}
+use Rattle.trace_check.specs.Verdicts.{HasShown, IsInvalid, IsVerdict}
+use Rattle.trace_check.specs.Following.{HasTaken, IsFollowing, IsFollowingWith, IsNextEntry, IsTaken, NoneIsNext}
 use Rattle.trace_course.specs.Places.{Place}
-use Rattle.trace_check.specs.GroupLines.{ArePlaysFrom, IsOtherLine, NoEntryFirst, lines_of_groups, lines_so_far, opening_line}
-use Rattle.trace_check.specs.Judging.{IsJudged, IsJudgedText, IsShownText, begins_with, begins_with_end, verdict_behind}
-use Rattle.trace_check.specs.LinesAlike.{behind_lines}
-use Rattle.trace_check.specs.Progress.{AreAllRight, AreRight, IsEndedAt, IsFollowedTo, finished, missing, unfinished}
-use Rattle.trace_check.specs.RequestLines.{AllStandFirst, StopAt}
-use Rattle.trace_check.proofs.LinkLists.{same_links-self, same_links-true}
-use Rattle.trace_check.proofs.GroupLines.{IsNoEnd, blocks-no_end, lines_so_far-last, lines_so_far-none, next-step, next-told, next_line, so_far-no_end}
+use Rattle.trace_check.specs.GroupLines.{ArePlaysFrom, IsOtherLine, NoEntryBegins, NoEntryBehind, NoEntryFirst, lines_of_groups, lines_so_far, next_line, opening_line}
+use Rattle.trace_check.specs.Judging.{IsJudged, IsJudgedText, IsShownText, verdict_behind}
+use Rattle.trace_check.specs.Progress.{AreAllRight, AreRight, IsEndedAt, IsFollowedTo, IsRight, finished, missing, unfinished}
+use Rattle.trace_check.specs.LinesAlike.{lines_alike}
+use Rattle.trace_check.specs.RequestLines.{HaveStood}
+use Rattle.trace_check.proofs.FirstLetters.{other-letter}
+use Rattle.trace_check.proofs.GroupLines.{IsNoEnd, blocks-no_end, blocks-other, lines_so_far-last, lines_so_far-none, next-step, next-told, so_far-no_end}
 use Rattle.trace_check.proofs.SetLines.{AreClosed, GoesOn, IsEntryNext, IsNextAfter, completed-between, completed-whole, completed-within, from-all, goes-on, groups-no_end, lines-last, lines_behind, lines_through, next-between, next-within, plays-append, whole-lines}
-use Rattle.trace_check.proofs.Judged.{behind-is, behind-judged, same-histories, stopped}
+use Rattle.trace_check.proofs.Judged.{alone-valid, behind-wrong, counted-valid, counts-begun, heads, same-histories}
 use Rattle.trace_check.proofs.Shown.{lines-shown, shown-group, shown-more, shown-none}
-use Rattle.trace_check.proofs.LinePlaces.{StandBefore, drop-further, heads, rest-at, rest-cons, stand-further, stand-more, stand-within, tails}
-
--- ---- lines
-
--- a line of another kind than an entry's was read
-pub other-line : (l : kinds.Line) → ((n : ℕ) (e : Entry) (links : List CpuLink) → l ≢ read.EntryLine n e links) → IsOtherLine (line_of l)
-other-line (read.GroupLine n shown) other = tt
-other-line (read.EntryLine n e links) other = other n e links refl
-other-line (read.BlockLine i t s n m b) other = tt
-other-line read.EndLine other = tt
-other-line (read.CountLine n totals) other = tt
+use Rattle.trace_check.proofs.TextPlaces.{StandFirst, lines-short, rest-of, size-is, stand-further, stand-line, stand-none, stopped-at, texts, texts-more, wrong-lines}
 
 -- two lists with one element more that are the same
 last-same : {A : Type 0} (xs ys : List A) (x y : A) → xs ++ x ∷ [] ≡ ys ++ y ∷ [] → (xs ≡ ys) × (x ≡ y)
@@ -79,30 +72,27 @@ last-same {A = A} (a ∷ xs) (b ∷ ys) x y e =
     rest-same : (us vs : List A) → a ∷ us ≡ b ∷ vs → us ≡ vs
     rest-same us vs k = cc
 
--- the first line behind a place
-begins-true : (n : ℕ) (ks : List Link) (ls : List Line) → begins_with n ks ls ≡ true → (others : List Line) × (ls ≡ group_line n ks ∷ others)
-begins-true n ks [] h = cc
-begins-true n ks (group_line g shown ∷ ls) h = (ls, by_parts (g == n) (same_links ks shown) refl refl h)
-  where
-    by_parts : (a b : Bool) → g == n ≡ a → same_links ks shown ≡ b → a && b ≡ true → group_line g shown ∷ ls ≡ group_line n ks ∷ ls
-    by_parts true true ea eb k = ap (λ (m : ℕ). group_line m shown ∷ ls) (eqb-true g n ea) ∙ ap (λ (xs : List Link). group_line n xs ∷ ls) (sym (same_links-true ks shown eb))
-    by_parts true false ea eb k = cc
-    by_parts false b ea eb k = cc
-begins-true n ks (entry_line i e xs ∷ ls) h = cc
-begins-true n ks (block_line i t s a m b ∷ ls) h = cc
-begins-true n ks (end_line ∷ ls) h = cc
-begins-true n ks (count_line i xs ∷ ls) h = cc
+-- what comes of taking a line, in the part of a text behind a place
+pub taken-rest : (at : Place) (v : Version) (size : ℕ) (text line : List ℕ) (o : Option Entry) (f : Follow) → HasTaken at v (take (length text - size) (drop size text)) line o f → HasTaken at v (drop size text) line o f
+taken-rest at v size text line o f h = subst (λ (xs : List ℕ). HasTaken at v xs line o f) (rest-of size text) h
 
-begins-self : (n : ℕ) (ks : List Link) (ls : List Line) → begins_with n ks (group_line n ks ∷ ls) ≡ true
-begins-self n ks ls = rw (equal_self n) (same_links-self ks)
+pub none-taken-there : (at : Place) (v : Version) (text line : List ℕ) (o : Option Entry) (f : Follow) → ((e : Entry) → o ≡ Some e → ⊥) → HasTaken at v text line o f → NoneIsNext at v text
+none-taken-there at v text line None f none h = h
+none-taken-there at v text line (Some e) f none h = absurd (none e refl)
 
-ends-true : (ls : List Line) → begins_with_end ls ≡ true → (others : List Line) × (ls ≡ end_line ∷ others)
-ends-true [] h = cc
-ends-true (group_line g shown ∷ ls) h = cc
-ends-true (entry_line i e xs ∷ ls) h = cc
-ends-true (block_line i t s a m b ∷ ls) h = cc
-ends-true (end_line ∷ ls) h = (ls, refl)
-ends-true (count_line i xs ∷ ls) h = cc
+-- the line behind all groups
+pub end-text : (known : Known) → line_text known end_line ≡ codes "end" ++ 10 ∷ []
+unfolding line_text line_words
+end-text known = refl
+
+-- what stands behind it
+pub end-behind : (known : Known) (size : ℕ) (text left : List ℕ) → left ≡ take (length text - size) (drop size text) → left ≡ (codes "end" ++ 10 ∷ []) ++ drop 4 left → drop size text ≡ line_text known end_line ++ take (length left - 4) (drop 4 left)
+end-behind known size text left is begins =
+    sym (is ∙ rest-of size text) ∙ begins ∙ ap (λ (xs : List ℕ). xs ++ drop 4 left) (sym (end-text known)) ∙ ap (λ (xs : List ℕ). line_text known end_line ++ xs) (sym (rest-of 4 left))
+
+none-taken : (n : ℕ) → take {A = Line} n [] ≡ []
+none-taken zero = refl
+none-taken (suc n) = refl
 
 -- ---- how many entries
 
@@ -123,48 +113,47 @@ count-few p n (es ∷ hs) valid plays =
 pub group-low : (p : Parts) (n : ℕ) → IsValid p → IsGroupOf p n → n < group_count p
 group-low p n valid there = (groups_are_counted p n valid).0 there
 
--- so many of the lines are those of whole groups and of the entries of group n that were followed, which were shown too
-pub record IsRight (p : Parts) (lines : List Line) (n : ℕ) (from : Progress) (place : ℕ) (f : Follow) (opened was seats : List Seat) : Type 0 where
-  pub before : AreRight p lines n from opened was
-  pub entries : List Entry
-  pub shown : seats ≡ seats_after (shown_entries (group_with p n) 0 [] entries) was
-  pub following : IsFollowing (group_with p n) entries f
-  pub stands : StandBefore (lines_through p before.histories n entries) lines place
-
--- where they were followed to
-abbrev pub place_at : {p : Parts} → {lines : List Line} → {n : ℕ} → {from : Progress} → {place : ℕ} → {f : Follow} → {opened was seats : List Seat} → IsRight p lines n from place f opened was seats → Place
-place_at {p = p} {n = n} right = record { group = group_with p n; entries = right.entries }
-
 -- the line that shows the links of a group at opening
 pub opened-line : {p : Parts} → (n : ℕ) (f : Follow) → IsFollowing (group_with p n) [] f → group_line n (links_of f.links.links.items) ≡ opening_line (group_with p n)
 opened-line {p = p} n f following =
     let g : Group = group_with p n in
     ap (group_line n) (following.links_are.links_are ∙ ap (λ past. links_at g past (group_processors g)) (past_none g))
 
-module _ (p : Parts) (lines : List Line) where
-  stands-before : {n : ℕ} → {r : Progress} → {opened seats : List Seat} → (right : AreRight p lines n r opened seats) → StandBefore (lines_of_groups p 0 right.histories) lines r.lines
-  stands-before right = record { place_is = right.place_is; lines_are = right.lines_are }
+module _ (v : Version) (p : Parts) (text : List ℕ) where
+  abbrev k : Known
+  k = known_of v p
 
-  pub right-within : (n : ℕ) (r : Progress) (opened seats : List Seat) → AreRight p lines n r opened seats → r.lines ≤ length lines
-  right-within n r opened seats right = stand-within (lines_of_groups p 0 right.histories) lines r.lines (stands-before right)
+  -- where they were followed to
+  abbrev pub place_at : {n : ℕ} → {from : Progress} → {size : ℕ} → {f : Follow} → {opened was seats : List Seat} → IsRight v p text n from size f opened was seats → Place
+  place_at {n = n} right = record { group = group_with p n; entries = right.entries }
+
+  right-stands : {n : ℕ} → {r : Progress} → {opened seats : List Seat} → (right : AreRight v p text n r opened seats) → StandFirst k text (lines_of_groups p 0 right.histories) r.length
+  right-stands right = record { within = right.within; text_is = right.text_is }
+
+  -- there are no more lines than bytes
+  pub right-short : (n : ℕ) (r : Progress) (opened seats : List Seat) → AreRight v p text n r opened seats → r.lines ≤ r.length
+  right-short n r opened seats right =
+      let ls : List Line = lines_of_groups p 0 right.histories in
+      omega (arith, right.place_is, lines-short k ls, size-is k text ls r.length (right-stands right))
 
   -- what stands behind whole groups is of no entry behind those of the last
-  closed-by : {n : ℕ} → {r : Progress} → {opened seats : List Seat} → (right : AreRight p lines n r opened seats) (l : Line) (others ls : List Line) → drop r.lines lines ≡ l ∷ others → AreClosed p right.histories (l ∷ ls)
-  closed-by right l others ls here front es last =
-      same-first (lines_behind p (length front) es) (subst (λ (rest : List Line). NoEntryFirst (lines_behind p (length front) es ++ rest)) here (right.closed front es last))
+  closed-by : {n : ℕ} → {r : Progress} → {opened seats : List Seat} → (right : AreRight v p text n r opened seats) (l : Line) (more : List ℕ) (ls : List Line) → IsLine k l
+      → drop r.length text ≡ line_text k l ++ more → AreClosed p right.histories (l ∷ ls)
+  closed-by {r = r} right l more ls known is front es last = by_lines (lines_behind p (length front) es) (right.closed front es last)
     where
-      same-first : (bs : List Line) → NoEntryFirst (bs ++ l ∷ others) → NoEntryFirst (bs ++ l ∷ ls)
-      same-first [] h = h
-      same-first (b ∷ bs) h = h
+      by_lines : (bs : List Line) → NoEntryBehind k bs (drop r.length text) → NoEntryFirst (bs ++ l ∷ ls)
+      by_lines [] none = none l more known is
+      by_lines (b ∷ bs) other = other
 
   -- before all groups
-  pub right-first : (opened : List Seat) → AreRight p lines 0 (record { lines = 0; entries = 0 }) opened opened
+  pub right-first : (opened : List Seat) → AreRight v p text 0 (record { lines = 0; entries = 0; length = 0 }) opened opened
   right-first opened = record {
     histories = [];
     plays = tt;
     count = refl;
     place_is = refl;
-    lines_are = refl;
+    within = omega arith;
+    text_is = refl;
     entries_are = refl;
     shown = refl;
     closed = λ front es none. absurd (omega (arith, ap length none, length-append front (es ∷ [])));
@@ -172,56 +161,59 @@ module _ (p : Parts) (lines : List Line) where
 
   -- ---- the line of a group
 
-  module _ (n : ℕ) (r : Progress) (opened was : List Seat) (right : AreRight p lines n r opened was) (valid : IsValid p) (low : n < group_count p) where
+  module _ (n : ℕ) (r : Progress) (opened was : List Seat) (right : AreRight v p text n r opened was) where
     -- it is not there
-    pub opened-wrong : (links : List Link) → group_line n links ≡ opening_line (group_with p n) → begins_with n links (drop r.lines lines) ≡ false → IsJudged p lines (Invalid (r.lines + 3))
-    opened-wrong links shown other tools version bytes stop t same = subst (λ (m : ℕ). IsInvalid tools version p bytes (m + 3)) (sym right.place_is) (stopped tools version p valid bytes lines stop t front rest same (record {
-      lines_are = right.lines_are;
+    pub opened-wrong : IsValid p → n < group_count p → (l : Line) → l ≡ opening_line (group_with p n) → ((more : List ℕ) → drop r.length text ≡ line_text k l ++ more → ⊥) → IsJudged v p text (Invalid (r.lines + 3))
+    opened-wrong valid low line is none tools bytes head = subst (λ (m : ℕ). IsInvalid tools v p bytes (m + 3)) (sym right.place_is) (stopped-at tools v p valid bytes text head front (drop r.length text) (record {
+      text_is = right.text_is;
       plays = all.0;
       are_plays = all.1;
       later = all.2.0;
       plays_begin = all.2.1;
-      no_more = λ hs l others ls plays here begin. none_next l others here (next-between p hs right.histories l ls plays (closed-by right l others ls here) begin);
       no_end = groups-no_end p 0 right.histories;
+      no_more = λ hs l more ls plays known here begin. none_next l more here (next-between p hs right.histories l ls plays (closed-by right l more ls known here) begin);
     }))
       where
         front : List Line
         front = lines_of_groups p 0 right.histories
 
-        rest : List Line
-        rest = drop r.lines lines
-
         all : (hs : List (List Entry)) × ArePlays p hs × ((ls : List Line) × (lines_from p 0 hs ≡ front ++ ls))
         all = completed-between p right.histories right.plays (omega (arith, low, right.count))
 
-        none_next : (l : Line) (others : List Line) → rest ≡ l ∷ others → IsNextAfter p (length right.histories) l → ⊥
-        none_next l others here (inl next) =
-            let is : l ≡ group_line n links = next.line_is ∙ ap (λ (m : ℕ). opening_line (group_with p m)) right.count ∙ sym shown in
-            let yes : begins_with n links rest ≡ true = ap (begins_with n links) (here ∙ ap (λ (x : Line). x ∷ others) is) ∙ begins-self n links others in
-            cc
-        none_next l others here (inr next) = omega (arith, next.all, low, right.count)
+        none_next : (l : Line) (more : List ℕ) → drop r.length text ≡ line_text k l ++ more → IsNextAfter p (length right.histories) l → ⊥
+        none_next l more here (inl next) =
+            let same : l ≡ line = next.line_is ∙ ap (λ (m : ℕ). opening_line (group_with p m)) right.count ∙ sym is in
+            none more (here ∙ ap (λ (x : Line). line_text k x ++ more) same)
+        none_next l more here (inr next) = omega (arith, next.all, low, right.count)
 
     -- it is
-    pub opened-right : (f : Follow) → IsFollowing (group_with p n) [] f → begins_with n (links_of f.links.links.items) (drop r.lines lines) ≡ true → IsRight p lines n r (r.lines + 1) f opened was was
-    opened-right f following begins =
-        let line = begins-true n (links_of f.links.links.items) (drop r.lines lines) begins in
+    pub opened-right : (f : Follow) (line : List ℕ) → IsFollowing (group_with p n) [] f → line ≡ line_text k (group_line n (links_of f.links.links.items)) → drop r.length text ≡ line ++ drop (length line) (drop r.length text)
+        → IsRight v p text n r (r.length + length line) f opened was was
+    opened-right f line following is begins =
         let g : Group = group_with p n in
-        let more = stand-more (lines_of_groups p 0 right.histories) lines r.lines (group_line n (links_of f.links.links.items)) line.0 (stands-before right) line.1 in
+        let front : List Line = lines_of_groups p 0 right.histories in
+        let l : Line = group_line n (links_of f.links.links.items) in
+        let same : l ∷ [] ≡ lines_so_far g [] = ap (λ (x : Line). x ∷ []) (opened-line n f following) ∙ sym (lines_so_far-none g) in
+        let stands : StandFirst k text (front ++ lines_so_far g []) (r.length + length line) =
+        subst (λ (xs : List Line). StandFirst k text (front ++ xs) (r.length + length line)) same
+        (stand-further k text front (l ∷ []) r.length (length line) (right-stands right) (stand-line k (drop r.length text) l line is begins)) in
         record {
           before = right;
           entries = [];
           shown = shown-none g was;
           following = following;
-          stands = subst (λ (xs : List Line). StandBefore (lines_of_groups p 0 right.histories ++ xs) lines (r.lines + 1)) (ap (λ (l : Line). l ∷ []) (opened-line n f following) ∙ sym (lines_so_far-none g)) more;
+          within = stands.within;
+          text_is = stands.text_is;
+          place_is = omega (arith, right.place_is, following.count_is, length-append front (lines_so_far g []), ap length (lines_so_far-none g));
         }
 
   -- ---- lines of entries
 
   -- they were followed by the set
-  pub followed-with : {n : ℕ} → {from : Progress} → {place : ℕ} → {f : Follow} → {opened was seats : List Seat} → (right : IsRight p lines n from place f opened was seats) → IsFollowingWith (place_at right) p f
+  pub followed-with : {n : ℕ} → {from : Progress} → {size : ℕ} → {f : Follow} → {opened was seats : List Seat} → (right : IsRight v p text n from size f opened was seats) → IsFollowingWith (place_at right) p f
   followed-with right = record { following = right.following; setup_is = refl }
 
-  module _ (n : ℕ) (from : Progress) (place : ℕ) (f : Follow) (opened was seats : List Seat) (right : IsRight p lines n from place f opened was seats) where
+  module _ (n : ℕ) (from : Progress) (size : ℕ) (f : Follow) (opened was seats : List Seat) (right : IsRight v p text n from size f opened was seats) where
     abbrev g : Group
     g = group_with p n
 
@@ -234,142 +226,148 @@ module _ (p : Parts) (lines : List Line) where
     abbrev front : List Line
     front = lines_through p done n es
 
+    abbrev rest : List ℕ
+    rest = drop size text
+
     valid : IsValid p
     valid = right.following.valid
 
     low : n < group_count p
     low = group-low p n valid right.following.is_there
 
+    stands : StandFirst k text front size
+    stands = record { within = right.within; text_is = right.text_is }
+
+    -- there are no more lines than bytes
+    pub place-short : from.lines + 1 + f.count ≤ size
+    place-short = omega (arith, right.place_is, lines-short k front, size-is k text front size stands)
+
     -- the next entry is followed
-    pub accepted-right : (i : ℕ) (e : Entry) (links : List Link) (d : Line) (f' : Follow) (seats' : List Seat) → place < length lines → get_or lines place d ≡ entry_line i e links → IsAccepted (place_at right) i e links f'
-        → seats' ≡ map (seat_after (shown_as g i e (past_of g (es ++ e ∷ [])))) seats → IsRight p lines n from (place + 1) f' opened was seats'
-    accepted-right i e links d f' seats' inside here a fed =
-        let is : drop place lines ≡ next_line g es e ∷ drop (place + 1) lines =
-        rest-at lines place d inside
-        ∙ ap (λ (l : Line). l ∷ drop (place + 1) lines) (here ∙ ap (λ (m : ℕ). entry_line m e links) a.next.number ∙ ap (entry_line (length es) e) a.next.links_are) in
-        record {
-          before = right.before;
-          entries = es ++ e ∷ [];
-          shown = shown-more g es e was seats seats' right.shown (fed ∙ ap (λ (m : ℕ). map (seat_after (shown_as g m e (past_of g (es ++ e ∷ [])))) seats) a.next.number);
-          following = a.following;
-          stands = subst (λ (xs : List Line). StandBefore xs lines (place + 1)) more (stand-more front lines place (next_line g es e) (drop (place + 1) lines) right.stands is);
-        }
+    pub taken-right : (line : List ℕ) (e : Entry) (f' : Follow) (seats' : List Seat) → IsTaken (place_at right) v rest line e f'
+        → seats' ≡ map (seat_after (shown_as g f.count e (past_of g (es ++ e ∷ [])))) seats → IsRight v p text n from (size + length line) f' opened was seats'
+    taken-right line e f' seats' taken fed = record {
+      before = right.before;
+      entries = es ++ e ∷ [];
+      shown = shown-more g es e was seats seats' right.shown (fed ∙ ap (λ (m : ℕ). map (seat_after (shown_as g m e (past_of g (es ++ e ∷ [])))) seats) right.following.count_is);
+      following = taken.following;
+      within = stands-more.within;
+      text_is = stands-more.text_is;
+      place_is =
+          omega (arith, right.place_is, right.following.count_is, taken.following.count_is, length-append es (e ∷ []), ap length more, length-append front (next_line g es e ∷ []));
+    }
       where
         more : front ++ next_line g es e ∷ [] ≡ lines_through p done n (es ++ e ∷ [])
         more = append_assoc (lines_of_groups p 0 done) (lines_so_far g es) (next_line g es e ∷ []) ∙ ap (λ (xs : List Line). lines_of_groups p 0 done ++ xs) (sym (lines_so_far-last g es e))
 
+        stands-more : StandFirst k text (lines_through p done n (es ++ e ∷ [])) (size + length line)
+        stands-more =
+            subst (λ (xs : List Line). StandFirst k text xs (size + length line)) more
+            (stand-further k text front (next_line g es e ∷ []) size (length line) stands (stand-line k rest (next_line g es e) line taken.line_is taken.begins))
+
     -- the line behind them is wrong where none that may come there is it
-    wrong-there : ((l : Line) (others : List Line) → drop place lines ≡ l ∷ others → IsEntryNext g es l ⊎ (IsPlay g es × IsOtherLine l) → ⊥) → IsJudged p lines (Invalid (place + 3))
-    wrong-there none tools version bytes stop t same = subst (λ (m : ℕ). IsInvalid tools version p bytes (m + 3)) (sym right.stands.place_is) (stopped tools version p valid bytes lines stop t front (drop place lines) same (record {
-      lines_are = right.stands.lines_are;
+    wrong-there : ((l : Line) (more : List ℕ) → IsLine k l → rest ≡ line_text k l ++ more → IsEntryNext g es l ⊎ (IsPlay g es × IsOtherLine l) → ⊥) → IsJudged v p text (Invalid (from.lines + 1 + f.count + 3))
+    wrong-there none tools bytes head = subst (λ (m : ℕ). IsInvalid tools v p bytes (m + 3)) (sym right.place_is) (stopped-at tools v p valid bytes text head front rest (record {
+      text_is = right.text_is;
       plays = all.0;
       are_plays = all.1;
       later = all.2.0;
       plays_begin = all.2.1;
-      no_more = λ hs l others ls plays here begin. none l others here (next-within p hs done n es l ls plays right.before.count begin);
       no_end = All-append IsNoEnd (lines_of_groups p 0 done) (lines_so_far g es) (groups-no_end p 0 done) (so_far-no_end g es);
+      no_more = λ hs l more ls plays known here begin. none l more known here (next-within p hs done n es l ls plays right.before.count begin);
     }))
       where
         all : (hs : List (List Entry)) × ArePlays p hs × ((ls : List Line) × (lines_from p 0 hs ≡ front ++ ls))
         all = completed-within p done n es right.before.plays right.before.count low right.following.begun
 
-    -- an entry that is not the next one
-    pub refused-there : (i : ℕ) (e : Entry) (links : List Link) (d : Line) → place < length lines → get_or lines place d ≡ entry_line i e links → (IsNextEntry g es i e links → ⊥) → IsJudged p lines (Invalid (place + 3))
-    refused-there i e links d inside here refused = wrong-there none
+    -- a line that begins as that of an entry, and is none that may come next
+    pub refused-there : NoneIsNext (place_at right) v rest → begins_with_digit rest ≡ true → IsJudged v p text (Invalid (from.lines + 1 + f.count + 3))
+    refused-there refused digit = wrong-there none
       where
-        same_entry : (l : Line) → l ≡ entry_line i e links → IsEntryNext g es l ⊎ (IsPlay g es × IsOtherLine l) → ⊥
-        same_entry l is (inl next) =
-            let line : next_line g es next.entry ≡ entry_line i e links = sym next.line_is ∙ is in
-            refused (subst IsNextLine line (record { number = refl; next = next-step g es next.entry next.more next.play; reply_is = next-told g es next.entry next.more next.play; links_are = refl }))
-          where
-            IsNextLine : Line → Type 0
-            IsNextLine (entry_line m x ks) = IsNextEntry g es m x ks
-            IsNextLine _ = ⊥
-        same_entry l is (inr (play, other)) = subst IsOtherLine is other
+        IsNextLine : Line → Type 0
+        IsNextLine (entry_line m x ks) = IsNextEntry g es m x ks
+        IsNextLine _ = ⊥
 
-        none : (l : Line) (others : List Line) → drop place lines ≡ l ∷ others → IsEntryNext g es l ⊎ (IsPlay g es × IsOtherLine l) → ⊥
-        none l others is = same_entry l (heads _ _ _ _ (sym is ∙ rest-at lines place d inside) ∙ here)
+        next-is : (l : Line) → IsEntryNext g es l → IsNextLine l
+        next-is l next =
+            subst IsNextLine (sym next.line_is) (record { number = refl; next = next-step g es next.entry next.more next.play; reply_is = next-told g es next.entry next.more next.play; links_are = refl })
 
-    -- no entry line is there
-    abbrev pub NoEntryThere : Type 0
-    NoEntryThere = (l : Line) (others : List Line) → drop place lines ≡ l ∷ others → IsOtherLine l
+        of_entry : (l : Line) (more : List ℕ) → IsLine k l → rest ≡ line_text k l ++ more → IsNextLine l → ⊥
+        of_entry (group_line m links) more known is next = next
+        of_entry (entry_line i e links) more known is next = refused i e links more known is next
+        of_entry (block_line i t s a b m) more known is next = next
+        of_entry end_line more known is next = next
+        of_entry (count_line name totals) more known is next = next
 
-    pub other-there : (d : Line) → place < length lines → IsOtherLine (get_or lines place d) → NoEntryThere
-    other-there d inside other l others is = subst IsOtherLine (heads _ _ _ _ (sym (rest-at lines place d inside) ∙ is)) other
+        none : (l : Line) (more : List ℕ) → IsLine k l → rest ≡ line_text k l ++ more → IsEntryNext g es l ⊎ (IsPlay g es × IsOtherLine l) → ⊥
+        none l more known is (inl next) = of_entry l more known is (next-is l next)
+        none l more known is (inr other) =
+            let yes : begins_with_digit rest ≡ true = digit in
+            let no : begins_with_digit rest ≡ false = ap begins_with_digit is ∙ other-letter k l more other.1 in
+            cc
 
-    pub none-there : length lines ≤ place → NoEntryThere
-    none-there all l others is = absurd (omega (arith, all, ap length is, length-drop place lines))
-
-    -- and a step is left
-    unfinished-there : NoEntryThere → (IsPlay g es → ⊥) → IsJudged p lines (Invalid (place + 3))
+    -- no line of an entry is there, and a step is left
+    unfinished-there : NoEntryBegins k rest → (IsPlay g es → ⊥) → IsJudged v p text (Invalid (from.lines + 1 + f.count + 3))
     unfinished-there other left = wrong-there none
       where
-        none : (l : Line) (others : List Line) → drop place lines ≡ l ∷ others → IsEntryNext g es l ⊎ (IsPlay g es × IsOtherLine l) → ⊥
-        none l others is (inl next) = subst IsOtherLine next.line_is (other l others is)
-        none l others is (inr next) = left next.0
-
-    pub place-within : place ≤ length lines
-    place-within = stand-within front lines place right.stands
+        none : (l : Line) (more : List ℕ) → IsLine k l → rest ≡ line_text k l ++ more → IsEntryNext g es l ⊎ (IsPlay g es × IsOtherLine l) → ⊥
+        none l more known is (inl next) = subst IsOtherLine next.line_is (other l more known is)
+        none l more known is (inr next) = left next.0
 
     abbrev blocks : List Line
     blocks = lines_behind p n es
 
-    -- no line of an entry stands behind the entries
-    first-other : NoEntryThere → NoEntryFirst (drop place lines)
-    first-other other = by_rest (drop place lines) refl
-      where
-        by_rest : (rest : List Line) → drop place lines ≡ rest → NoEntryFirst rest
-        by_rest [] is = tt
-        by_rest (l ∷ others) is = other l others is
-
     -- what comes behind the first lines of requests
-    behind : (k : ℕ) → NoEntryThere → (hs : List (List Entry)) (l : Line) (others ls : List Line) → ArePlays p hs → drop place lines ≡ take k blocks ++ l ∷ others → lines_from p 0 hs ≡ (front ++ take k blocks) ++ l ∷ ls
-        → (later : List Line) × (l ∷ ls ≡ drop k blocks ++ later)
-    behind k other hs l others ls plays is begin = by_first (take k blocks) (drop k blocks) (take-append-drop k blocks) (subst NoEntryFirst is (first-other other)) begin
+    behind : (first later : List Line) (hs : List (List Entry)) (l : Line) (ls : List Line) → first ++ later ≡ blocks → ArePlays p hs → (first ≡ [] → IsOtherLine l) → lines_from p 0 hs ≡ (front ++ first) ++ l ∷ ls
+        → (others : List Line) × (l ∷ ls ≡ later ++ others)
+    behind first later hs l ls parts plays other begun =
+        (others, append_cancel_left first (l ∷ ls) (later ++ others) (on.lines_are ∙ ap (λ (bs : List Line). bs ++ others) (sym parts) ∙ append_assoc first later others))
       where
-        by_first : (first more : List Line) → first ++ more ≡ blocks → NoEntryFirst (first ++ l ∷ others) → lines_from p 0 hs ≡ (front ++ first) ++ l ∷ ls → (later : List Line) × (l ∷ ls ≡ more ++ later)
-        by_first first more parts no_entry begun = (later, append_cancel_left first (l ∷ ls) (more ++ later) (on.lines_are ∙ ap (λ (bs : List Line). bs ++ later) (sym parts) ∙ append_assoc first more later))
-          where
-            on : GoesOn p n es (first ++ l ∷ ls)
-            on = whole first (begun ∙ append_assoc front first (l ∷ ls)) no_entry
-              where
-                whole : (bs : List Line) → lines_from p 0 hs ≡ front ++ (bs ++ l ∷ ls) → NoEntryFirst (bs ++ l ∷ others) → GoesOn p n es (bs ++ l ∷ ls)
-                whole [] lines_are o = goes-on p hs done n es l ls plays right.before.count o lines_are
-                whole (b ∷ bs) lines_are o = goes-on p hs done n es b (bs ++ l ∷ ls) plays right.before.count o lines_are
+        whole : (bs : List Line) → bs ++ later ≡ blocks → (bs ≡ [] → IsOtherLine l) → lines_from p 0 hs ≡ front ++ (bs ++ l ∷ ls) → GoesOn p n es (bs ++ l ∷ ls)
+        whole [] same none lines_are = goes-on p hs done n es l ls plays right.before.count (none refl) lines_are
+        whole (b ∷ bs) same none lines_are =
+            goes-on p hs done n es b (bs ++ l ∷ ls) plays right.before.count (All-head IsOtherLine b (bs ++ later) (subst (All IsOtherLine) (sym same) (blocks-other g (past_of g es)))) lines_are
 
-            later : List Line
-            later = lines_of_groups p (n + 1) on.more ++ end_line ∷ []
+        on : GoesOn p n es (first ++ l ∷ ls)
+        on = whole first parts other (begun ∙ append_assoc front first (l ∷ ls))
+
+        others : List Line
+        others = lines_of_groups p (n + 1) on.more ++ end_line ∷ []
 
     -- the line of a request is missing
-    missing-there : (k : ℕ) → NoEntryThere → IsPlay g es → StopAt blocks (drop place lines) k → IsJudged p lines (Invalid (place + k + 3))
-    missing-there k other over cut tools version bytes stop t same = subst (λ (m : ℕ). IsInvalid tools version p bytes (m + 3)) (sym stands.place_is) (stopped tools version p valid bytes lines stop t here (drop (place + k) lines) same (record {
-      lines_are = stands.lines_are;
+    missing-there : (s : Stood) → NoEntryBegins k rest → IsPlay g es → HaveStood k blocks rest s → s.count < length blocks → IsJudged v p text (Invalid (from.lines + 1 + f.count + s.count + 3))
+    missing-there s other over stood few tools bytes head = subst (λ (m : ℕ). IsInvalid tools v p bytes (m + 3)) (sym place_is) (stopped-at tools v p valid bytes text head here behind_those (record {
+      text_is = stands-on.text_is ∙ ap (λ (xs : List ℕ). texts k here ++ xs) (sym (drop-drop s.length size text));
       plays = all.0;
       are_plays = all.1;
       later = all.2.0;
       plays_begin = all.2.1;
-      no_more = λ hs l others ls plays rest begin. no_more l others ls rest (behind k other hs l others ls plays (cut.begin ∙ ap (λ (xs : List Line). take k blocks ++ xs) (sym (drop-further front lines place k right.stands) ∙ rest)) begin);
-      no_end = none;
+      no_end =
+          All-append IsNoEnd front (take s.count blocks) (All-append IsNoEnd (lines_of_groups p 0 done) (lines_so_far g es) (groups-no_end p 0 done) (so_far-no_end g es))
+          (All-take IsNoEnd s.count blocks (blocks-no_end g (past_of g es)));
+      no_more = λ hs l more ls plays known is begin. no_more l more ls is
+          (behind (take s.count blocks) (drop s.count blocks) hs l ls (take-append-drop s.count blocks) plays
+          (λ none. other l more known (stood.text_is ∙ ap (λ (xs : List Line). texts k xs ++ behind_those) none ∙ is)) begin);
     }))
       where
         here : List Line
-        here = front ++ take k blocks
+        here = front ++ take s.count blocks
 
-        stands : StandBefore here lines (place + k)
-        stands = stand-further front (take k blocks) lines place k right.stands (length-take-le k blocks (let l = cut.low in omega arith)) cut.begin
+        behind_those : List ℕ
+        behind_those = drop s.length rest
 
-        none : All IsNoEnd here
-        none =
-            All-append IsNoEnd front (take k blocks) (All-append IsNoEnd (lines_of_groups p 0 done) (lines_so_far g es) (groups-no_end p 0 done) (so_far-no_end g es))
-            (All-take IsNoEnd k blocks (blocks-no_end g (past_of g es)))
+        stands-on : StandFirst k text here (size + s.length)
+        stands-on = stand-further k text front (take s.count blocks) size s.length stands (record { within = stood.within; text_is = stood.text_is })
 
-        next : (l : Line) → drop k blocks ≡ get_or blocks k l ∷ drop (suc k) blocks
-        next l = drop-cons blocks k l cut.low
+        place_is : from.lines + 1 + f.count + s.count ≡ length here
+        place_is = omega (arith, right.place_is, length-append front (take s.count blocks), length-take-le s.count blocks stood.low)
 
-        no_more : (l : Line) (others ls : List Line) → drop (place + k) lines ≡ l ∷ others → (later : List Line) × (l ∷ ls ≡ drop k blocks ++ later) → ⊥
-        no_more l others ls rest b =
-            let is : l ≡ get_or blocks k l = heads _ _ _ _ (b.1 ∙ ap (λ (bs : List Line). bs ++ b.0) (next l)) in
-            cut.other l others (sym (drop-further front lines place k right.stands) ∙ rest ∙ ap (λ (x : Line). x ∷ others) is)
+        next : (l : Line) → drop s.count blocks ≡ get_or blocks s.count l ∷ drop (suc s.count) blocks
+        next l = drop-cons blocks s.count l few
+
+        no_more : (l : Line) (more : List ℕ) (ls : List Line) → behind_those ≡ line_text k l ++ more → (others : List Line) × (l ∷ ls ≡ drop s.count blocks ++ others) → ⊥
+        no_more l more ls is b =
+            let same : l ≡ get_or blocks s.count l = heads _ _ _ _ (b.1 ∙ ap (λ (bs : List Line). bs ++ b.0) (next l)) in
+            stood.other l more few (is ∙ ap (λ (x : Line). line_text k x ++ more) same)
 
         -- plays of all groups
         all : (hs : List (List Entry)) × ArePlays p hs × ((ls : List Line) × (lines_from p 0 hs ≡ here ++ ls))
@@ -379,35 +377,43 @@ module _ (p : Parts) (lines : List Line) where
               whole.0,
               whole.1,
               (
-                drop k blocks ++ later,
-                whole.2.1 ∙ ap (λ (xs : List Line). front ++ xs) (ap (λ (bs : List Line). bs ++ later) (sym (take-append-drop k blocks)) ∙ append_assoc (take k blocks) (drop k blocks) later)
-                    ∙ sym (append_assoc front (take k blocks) (drop k blocks ++ later)),
+                drop s.count blocks ++ later,
+                whole.2.1 ∙ ap (λ (xs : List Line). front ++ xs) (ap (λ (bs : List Line). bs ++ later) (sym (take-append-drop s.count blocks)) ∙ append_assoc (take s.count blocks) (drop s.count blocks) later)
+                    ∙ sym (append_assoc front (take s.count blocks) (drop s.count blocks ++ later)),
               ),
             )
 
     -- the play of the group is whole, and the lines of its requests are there
-    group-right : NoEntryThere → IsPlay g es → AllStandFirst blocks (drop place lines) → AreRight p lines (n + 1) (record { lines = place + length blocks; entries = from.entries + f.count }) opened seats
-    group-right other over there =
+    group-right : (s : Stood) → NoEntryBegins k rest → IsPlay g es → HaveStood k blocks rest s → s.count ≡ length blocks
+        → AreRight v p text (n + 1) (record { lines = from.lines + 1 + f.count + s.count; entries = from.entries + f.count; length = size + s.length }) opened seats
+    group-right s other over stood whole =
         let all : lines_of_groups p 0 (done ++ es ∷ []) ≡ front ++ blocks = lines-last p done n es right.before.count in
         let here : n ≡ 0 + length done = omega (arith, right.before.count) in
-        let stands : StandBefore (front ++ blocks) lines (place + length blocks) = stand-further front blocks lines place (length blocks) right.stands refl there in
+        let taken : take s.count blocks ≡ blocks = take_all s.count blocks (omega (arith, whole)) in
+        let stands-on : StandFirst k text (lines_of_groups p 0 (done ++ es ∷ [])) (size + s.length) =
+        subst (λ (ls : List Line). StandFirst k text ls (size + s.length)) (ap (λ (bs : List Line). front ++ bs) taken ∙ sym all)
+        (stand-further k text front (take s.count blocks) size s.length stands (record { within = stood.within; text_is = stood.text_is })) in
         record {
           histories = done ++ es ∷ [];
           plays = plays-append p 0 done (es ∷ []) right.before.plays (subst (λ (m : ℕ). IsPlay (group_with p m) es) here over, tt);
           count = omega (arith, right.before.count, length-append done (es ∷ []));
-          place_is = stands.place_is ∙ ap length (sym all);
-          lines_are = stands.lines_are ∙ ap (λ (xs : List Line). xs ++ drop (place + length blocks) lines) (sym all);
+          place_is = omega (arith, right.place_is, whole, ap length all, length-append front blocks);
+          within = stands-on.within;
+          text_is = stands-on.text_is;
           entries_are = omega (arith, right.before.entries_are, right.following.count_is, count-more done es);
           shown = shown-group p n done es opened was seats right.before.count right.before.shown right.shown;
           closed = λ before last same. closed-last before last (last-same done before es last same);
         }
       where
-        closed-last : (before : List (List Entry)) (last : List Entry) → (done ≡ before) × (es ≡ last) → NoEntryFirst (lines_behind p (length before) last ++ drop (place + length blocks) lines)
+        behind_all : (bs : List Line) → rest ≡ texts k (take s.count bs) ++ drop s.length rest → All IsOtherLine bs → NoEntryBehind k bs (drop (size + s.length) text)
+        behind_all [] here others = λ l more known is. other l more known (here ∙ ap (λ (xs : List Line). texts k xs ++ drop s.length rest) (none-taken s.count) ∙ drop-drop s.length size text ∙ is)
+        behind_all (b ∷ bs) here others = All-head IsOtherLine b bs others
+
+        closed-last : (before : List (List Entry)) (last : List Entry) → (done ≡ before) × (es ≡ last) → NoEntryBehind k (lines_behind p (length before) last) (drop (size + s.length) text)
         closed-last before last same =
             let count : n ≡ length before = sym right.before.count ∙ ap length same.0 in
-            let here : drop place lines ≡ blocks ++ drop (place + length blocks) lines = there ∙ ap (λ (xs : List Line). blocks ++ xs) (sym (drop-further front lines place (length blocks) right.stands)) in
-            subst (λ (m : ℕ). NoEntryFirst (lines_behind p m last ++ drop (place + length blocks) lines)) count
-            (subst (λ (xs : List Entry). NoEntryFirst (lines_behind p n xs ++ drop (place + length blocks) lines)) same.1 (subst NoEntryFirst here (first-other other)))
+            subst (λ (m : ℕ). NoEntryBehind k (lines_behind p m last) (drop (size + s.length) text)) count
+            (subst (λ (xs : List Entry). NoEntryBehind k (lines_behind p n xs) (drop (size + s.length) text)) same.1 (behind_all blocks stood.text_is (blocks-other g (past_of g es))))
 
     pub entries-few : from.entries + f.count < 2 ^ 32
     entries-few =
@@ -417,14 +423,14 @@ module _ (p : Parts) (lines : List Line) where
         omega (arith, before, here, groups, low, right.before.count, right.before.entries_are, right.following.count_is)
 
     -- what comes of it
-    pub ended-there : (fd : Followed) → NoEntryThere → IsEndedAt (place_at right) lines from f.count place fd → IsFollowedTo p lines n opened seats fd
+    pub ended-there : (fd : Followed) → NoEntryBegins k rest → IsEndedAt (place_at right) k rest from f.count size fd → IsFollowedTo v p text n opened seats fd
     ended-there fd other (unfinished left) = unfinished-there other left
-    ended-there fd other (missing k over cut) = missing-there k other over cut
-    ended-there fd other (finished over there) = group-right other over there
+    ended-there fd other (missing s over stood few) = missing-there s other over stood few
+    ended-there fd other (finished s over stood whole) = group-right s other over stood whole
 
   -- ---- the line `end`
 
-  module _ (r : Progress) (opened seats : List Seat) (all : AreAllRight p lines r opened seats) where
+  module _ (r : Progress) (opened seats : List Seat) (all : AreAllRight v p text r opened seats) where
     abbrev hs : List (List Entry)
     hs = all.right.histories
 
@@ -438,50 +444,68 @@ module _ (p : Parts) (lines : List Line) where
     lines_all = whole-lines p 0 hs
 
     -- it is not there
-    pub end-wrong : begins_with_end (drop r.lines lines) ≡ false → IsJudged p lines (Invalid (r.lines + 3))
-    end-wrong other tools version bytes stop t same = subst (λ (m : ℕ). IsInvalid tools version p bytes (m + 3)) (sym all.right.place_is) (stopped tools version p all.valid bytes lines stop t groups (drop r.lines lines) same (record {
-      lines_are = all.right.lines_are;
+    pub end-wrong : ((more : List ℕ) → drop r.length text ≡ line_text k end_line ++ more → ⊥) → IsJudged v p text (Invalid (r.lines + 3))
+    end-wrong other tools bytes head = subst (λ (m : ℕ). IsInvalid tools v p bytes (m + 3)) (sym all.right.place_is) (stopped-at tools v p all.valid bytes text head groups (drop r.length text) (record {
+      text_is = all.right.text_is;
       plays = hs;
       are_plays = plays_all;
       later = end_line ∷ [];
       plays_begin = lines_all;
-      no_more = λ ps l others ls plays here begin. none_next l others here (next-between p ps hs l ls plays (closed-by all.right l others ls here) begin);
       no_end = groups-no_end p 0 hs;
+      no_more = λ ps l more ls plays known here begin. none_next l more here (next-between p ps hs l ls plays (closed-by all.right l more ls known here) begin);
     }))
       where
-        none_next : (l : Line) (others : List Line) → drop r.lines lines ≡ l ∷ others → IsNextAfter p (length hs) l → ⊥
-        none_next l others here (inl next) = omega (arith, next.low, all.right.count)
-        none_next l others here (inr next) =
-            let yes : begins_with_end (drop r.lines lines) ≡ true = ap begins_with_end (here ∙ ap (λ (x : Line). x ∷ others) next.line_is) in
-            cc
+        none_next : (l : Line) (more : List ℕ) → drop r.length text ≡ line_text k l ++ more → IsNextAfter p (length hs) l → ⊥
+        none_next l more here (inl next) = omega (arith, next.low, all.right.count)
+        none_next l more here (inr next) = other more (here ∙ ap (λ (x : Line). line_text k x ++ more) next.line_is)
 
-    module _ (there : begins_with_end (drop r.lines lines) ≡ true) where
-      abbrev whole : List Line
-      whole = groups ++ end_line ∷ []
+    module _ (behind_end : List ℕ) (there : drop r.length text ≡ line_text k end_line ++ behind_end) where
+      text-parts : text ≡ lines_of v p hs ++ behind_end
+      text-parts =
+          all.right.text_is ∙ ap (λ (xs : List ℕ). texts k groups ++ xs) there ∙ sym (append_assoc (texts k groups) (line_text k end_line) behind_end)
+          ∙ ap (λ (xs : List ℕ). xs ++ behind_end) (sym (texts-more k groups end_line) ∙ ap (texts k) (sym lines_all))
 
-      stands : StandBefore whole lines (r.lines + 1)
-      stands = let e = ends-true (drop r.lines lines) there in stand-more groups lines r.lines end_line e.0 (stands-before all.right) e.1
+      module _ (tools : List Tool) (bytes : List ℕ) (head : HasHead v bytes (canonical p) text) where
+        head-all : HasHead v bytes (canonical p) (lines_of v p hs ++ behind_end)
+        head-all = subst (HasHead v bytes (canonical p)) text-parts head
 
-      pub end-inside : r.lines < length lines
-      end-inside = let e = ends-true (drop r.lines lines) there in (rest-cons lines r.lines end_line e.0 e.1).0
+        -- what stands behind it is wrong
+        wrong-behind : (behind_end ≡ [] → ⊥) → (behind_end ≡ texts k (count_lines tools p hs) → ⊥)
+            → IsInvalid tools v p bytes (length (lines_from p 0 hs) + 2 + lines_alike behind_end (texts k (count_lines tools p hs)) + 1)
+        wrong-behind some other =
+            wrong-lines tools v p all.valid bytes text head (length (lines_from p 0 hs) + 2 + lines_alike behind_end (texts k (count_lines tools p hs)))
+            (counts-begun tools v p all.valid bytes hs plays_all behind_end head-all) by_lines
+          where
+            by_lines : (lines : List Line) (left : List ℕ) → AreLines k text lines left → IsInvalid tools v p bytes (length (lines_from p 0 hs) + 2 + lines_alike behind_end (texts k (count_lines tools p hs)) + 1)
+            by_lines lines left are =
+                let t : IsTraceOf bytes v p lines (stop_at lines left) = record { set_text = canonical p; rest = text; left = left; head = head; set_is = set-of-canonical p all.valid; lines_are = are; stop_is = refl } in
+                let others = first-read k text left behind_end lines (lines_from p 0 hs) (valid-tells v p all.valid) (known-lines v p all.valid hs plays_all) text-parts are in
+                behind-wrong tools v p all.valid bytes hs plays_all behind_end head-all lines (stop_at lines left) t others.0 others.1 some other
 
-      -- what stands behind it is judged
-      pub end-judged : (tools : List Tool) (version : Version) (bytes rest wanted : List ℕ) (stop : Option ℕ) → opened ≡ map seat_of tools → rest ≡ behind_lines (r.lines + 3) bytes
-          → ((k : Known) → wanted ≡ flat_map (line_text k) (map seat_line seats)) → IsJudgedText tools version p bytes lines stop (verdict_behind rest wanted (r.lines + 1 + 2) r.entries)
-      end-judged tools version bytes rest wanted stop opened_is rest_is wanted_is t same =
-          let later : List Line = drop (r.lines + 1) lines in
-          let begin : lines ≡ lines_from p 0 hs ++ later = stands.lines_are ∙ ap (λ (xs : List Line). xs ++ later) (sym lines_all) in
-          let number : r.lines + 3 ≡ length (lines_from p 0 hs) + 2 = omega (arith, stands.place_is, ap length lines_all) in
+        verdict-behind : IsVerdict tools v p bytes (verdict_behind behind_end (texts k (count_lines tools p hs)) (length (lines_from p 0 hs) + 2) (entry_count hs))
+        verdict-behind = by_tests (length behind_end == 0) (bytes_eq behind_end (texts k (count_lines tools p hs))) refl refl
+          where
+            by_tests : (e f : Bool) → (length behind_end == 0) ≡ e → bytes_eq behind_end (texts k (count_lines tools p hs)) ≡ f
+                → IsVerdict tools v p bytes (if e || f then Valid (entry_count hs) else Invalid (length (lines_from p 0 hs) + 2 + lines_alike behind_end (texts k (count_lines tools p hs)) + 1))
+            by_tests true f none is = alone-valid tools v p all.valid bytes hs plays_all behind_end head-all (nil_from_length behind_end (eqb-true (length behind_end) 0 none))
+            by_tests false true some is = counted-valid tools v p all.valid bytes hs plays_all behind_end head-all ((bytes_eq-Decides behind_end (texts k (count_lines tools p hs))).0 is)
+            by_tests false false some other =
+                wrong-behind (λ none. let yes : (length behind_end == 0) ≡ true = rw none refl in cc)
+                (λ is. let yes : bytes_eq behind_end (texts k (count_lines tools p hs)) ≡ true = (bytes_eq-Decides behind_end (texts k (count_lines tools p hs))).1 is in cc)
+
+      -- it is there, and what stands behind it is judged
+      pub end-judged : (tools : List Tool) (wanted : List ℕ) → opened ≡ map seat_of tools → ((known : Known) → wanted ≡ texts known (map seat_line seats)) → IsJudgedText tools v p text (verdict_behind behind_end wanted (r.lines + 1 + 2) r.entries)
+      end-judged tools wanted opened_is wanted_is bytes head =
+          let number : length (lines_from p 0 hs) + 2 ≡ r.lines + 1 + 2 = omega (arith, all.right.place_is, ap length lines_all, length-append groups (end_line ∷ [])) in
           let shown : seats ≡ seats_after (shown_from p 0 hs) (map seat_of tools) = all.right.shown ∙ ap (seats_after (shown_from p 0 hs)) opened_is in
-          behind-judged tools version p all.valid bytes lines stop t hs same plays_all later begin rest wanted (r.lines + 1 + 2) r.entries
-          (rest_is ∙ ap (λ (n : ℕ). behind_lines n bytes) number ∙ behind-is tools version p all.valid bytes lines stop t hs same plays_all later begin)
-          (wanted_is (known_of version p) ∙ ap (flat_map (line_text (known_of version p))) (lines-shown tools p hs seats shown)) (omega (arith, number)) all.right.entries_are
+          let same : texts k (count_lines tools p hs) ≡ wanted = sym (wanted_is k ∙ ap (texts k) (lines-shown tools p hs seats shown)) in
+          let told : verdict_behind behind_end (texts k (count_lines tools p hs)) (length (lines_from p 0 hs) + 2) (entry_count hs) ≡ verdict_behind behind_end wanted (r.lines + 1 + 2) r.entries =
+          rw (same, number, sym all.right.entries_are) refl in
+          subst (IsVerdict tools v p bytes) told (verdict-behind tools bytes head)
 
       -- the bus was shown the entries of the text, where it is valid
-      pub end-shown : (tools : List Tool) (version : Version) (bytes : List ℕ) (stop : Option ℕ) (v : Verdict) → opened ≡ map seat_of tools → IsShownText tools version p bytes lines stop seats v
-      end-shown tools version bytes stop (Invalid line) opened_is t same = tt
-      end-shown tools version bytes stop (Valid n) opened_is t same = λ is.
-          let later : List Line = drop (r.lines + 1) lines in
-          let begin : lines ≡ lines_from p 0 hs ++ later = stands.lines_are ∙ ap (λ (xs : List Line). xs ++ later) (sym lines_all) in
+      pub end-shown : (tools : List Tool) (verdict : Verdict) → opened ≡ map seat_of tools → IsShownText tools v p text seats verdict
+      end-shown tools (Invalid line) opened_is bytes head = tt
+      end-shown tools (Valid m) opened_is bytes head = λ is.
           all.right.shown ∙ ap (seats_after (shown_from p 0 hs)) opened_is
-          ∙ ap (λ (es : List (List Entry)). seats_after (shown_from p 0 es) (map seat_of tools)) (same-histories tools version p all.valid bytes lines stop t hs same plays_all later begin n is)
+          ∙ ap (λ (xs : List (List Entry)). seats_after (shown_from p 0 xs) (map seat_of tools)) (same-histories tools v p all.valid bytes hs plays_all behind_end (head-all tools bytes head) m is)

@@ -6,10 +6,10 @@ pub mod Accepting
 pub mod GroupLines
 pub mod SetLines
 pub mod LinesAlike
-pub mod FirstFeed
 pub mod Shown
 pub mod Judged
 pub mod Judging
-pub mod LinePlaces
+pub mod FirstLetters
+pub mod TextPlaces
 pub mod RequestLaws
 pub mod Counting

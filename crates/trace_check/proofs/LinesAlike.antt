@@ -14,7 +14,7 @@ use Rattle.trace_read.specs.Seen.{Tells}
 use Rattle.trace_read.proofs.LineLaws.{line_body, line_body-one_line}
 use Rattle.trace_laws.specs.ValidTexts.{BeginAlike, with_feeds}
 use Rattle.trace_laws.proofs.Alike.{OnOneLine, alike-cons, alike-none, feeds-cons, head-lines, line-first, name_line, name_line-one, set_line, set_line-one}
-use Rattle.trace_check.specs.LinesAlike.{behind_line, behind_lines, lines_alike}
+use Rattle.trace_check.specs.LinesAlike.{lines_alike}
 
 no_feed : (x : ℕ) → x ≢ 10 → x == 10 ≡ false
 no_feed x h = grind (arith, nat_tests)
@@ -85,30 +85,6 @@ alike-built w (x ∷ a) (y ∷ b) one = by_case (x == y) (x == 10) refl refl (λ
 
 pub alike-there : (a b : List ℕ) → BeginAlike (lines_alike a b) a b
 alike-there a b = alike-built [] a b (All-nil (λ (c : ℕ). c ≢ 10))
-
--- ---- what stands behind lines
-
-behind-feed : (w x : List ℕ) → OnOneLine w → behind_line (w ++ 10 ∷ x) ≡ x
-behind-feed [] x one = refl
-behind-feed (c ∷ w) x one = rw (no_feed c (All-head (λ (c : ℕ). c ≢ 10) c w one)) (behind-feed w x (All-tail (λ (c : ℕ). c ≢ 10) c w one))
-
-behind-each : (k : Known) (ls : List Line) (x : List ℕ) → Tells k → All (IsLine k) ls → behind_lines (length ls) (flat_map (line_text k) ls ++ x) ≡ x
-behind-each k [] x tell g = refl
-behind-each k (l ∷ ls) x tell g =
-    ap (λ (t : List ℕ). behind_lines (length ls) (behind_line t)) (line-first k l ls x)
-    ∙ ap (behind_lines (length ls)) (behind-feed (line_body k l) (flat_map (line_text k) ls ++ x) (line_body-one_line k l tell (All-head (IsLine k) l ls g)))
-    ∙ behind-each k ls x tell (All-tail (IsLine k) l ls g)
-
-behind-head : (v : Version) (n : ℕ) (bytes s r : List ℕ) → HasHead v bytes s r → behind_lines (suc (suc n)) bytes ≡ behind_lines n r
-behind-head v n bytes s r h =
-    ap (behind_lines (suc (suc n))) (head-lines v bytes s r h) ∙ ap (behind_lines (suc n)) (behind-feed (name_line v) (set_line s ++ 10 ∷ r) (name_line-one v))
-    ∙ ap (behind_lines n) (behind-feed (set_line s) r (set_line-one s h.on_one_line))
-
--- behind the first two lines, and lines of the grammar
-pub behind-text : (v : Version) (k : Known) (ls : List Line) (bytes s x : List ℕ) → Tells k → All (IsLine k) ls → HasHead v bytes s (flat_map (line_text k) ls ++ x) → behind_lines (length ls + 2) bytes ≡ x
-behind-text v k ls bytes s x tell known h =
-    let count : length ls + 2 ≡ suc (suc (length ls)) = omega arith in
-    ap (λ (n : ℕ). behind_lines n bytes) count ∙ behind-head v (length ls) bytes s (flat_map (line_text k) ls ++ x) h ∙ behind-each k ls x tell known
 
 -- ---- where texts differ
 

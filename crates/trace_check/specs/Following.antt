@@ -1,5 +1,5 @@
 -- A group's lines, followed step by step, as contracts see it.
-use Rattle.std.specs.Prelude.{◌≡◌, ℕ, ◌+◌, ◌<◌, ◌≤◌, List, [], ◌∷◌, ◌++◌, length}
+use Rattle.std.specs.Prelude.{◌≡◌, ℕ, ◌+◌, ◌<◌, ◌≤◌, List, [], ◌∷◌, ◌++◌, drop, length, Option, None, Some}
 use Rattle.rt_task.specs.declared.Parts.{Parts}
 use Rattle.rt_task.specs.declared.Step.{Step}
 use Rattle.rt_task.specs.Validity.{IsValid}
@@ -10,13 +10,17 @@ use Rattle.rt_model.specs.Histories.{after, changed, past_of, reply_to}
 use Rattle.rt_groups.specs.Groups.{IsGroupOf}
 use Rattle.block_counts.specs.GroupRequests as counts
 use Rattle.rank_afresh.specs.Standing.{IsAt, group_of}
-use Rattle.trace_lines.specs.Lines.{Link}
+use Rattle.trace_lines.specs.declared.format.Version.{Version}
+use Rattle.trace_lines.specs.Grammar.{line_text}
+use Rattle.trace_lines.specs.Known.{IsLine, known_of}
+use Rattle.trace_lines.specs.Lines.{Link, entry_line}
 use Rattle.trace_text.specs.TraceText.{links_at}
 use Rattle.rt_plays.specs.Plays.{IsBegunPlay}
 use Rattle.rt_plays.specs.Room.{room}
 use Rattle.trace_course.specs.declared.course.Course.{Course}
 use Rattle.trace_check.specs.declared.follow.Follow.{Follow}
 use Rattle.trace_course.specs.Courses.{IsCourse}
+use Rattle.trace_check.specs.GroupLines.{next_line}
 use Rattle.trace_check.specs.GroupLinks.{AreLinks}
 use Rattle.trace_course.specs.Places.{IsNextStep, Place}
 
@@ -55,7 +59,18 @@ pub record IsNextEntry (g : Group) (es : List Entry) (no : ℕ) (e : Entry) (lin
   pub reply_is : e.reply ≡ reply_to g e.step (past_of g es)
   pub links_are : links ≡ links_at g (after g e.step (past_of g es)) (changed g (past_of g es) (after g e.step (past_of g es)))
 
--- the entry was the next one, and is followed now
-pub record IsAccepted (at : Place) (no : ℕ) (e : Entry) (links : List Link) (f : Follow) : Type 0 where
-  pub next : IsNextEntry at.group at.entries no e links
+-- the entry is the next one, and is followed now; its line was made, and the text begins with it
+pub record IsTaken (at : Place) (v : Version) (text line : List ℕ) (e : Entry) (f : Follow) : Type 0 where
   pub following : IsFollowing at.group (at.entries ++ e ∷ []) f
+  pub line_is : line ≡ line_text (known_of v at.group.setup) (next_line at.group at.entries e)
+  pub begins : text ≡ line ++ drop (length line) text
+
+-- the text begins with the line of no entry that may come next
+abbrev pub NoneIsNext : Place → Version → List ℕ → Type 0
+NoneIsNext at v text = (i : ℕ) (e : Entry) (links : List Link) (more : List ℕ) → IsLine (known_of v at.group.setup) (entry_line i e links)
+    → text ≡ line_text (known_of v at.group.setup) (entry_line i e links) ++ more → IsNextEntry at.group at.entries i e links → ⊥
+
+-- what comes of taking the next line
+abbrev pub HasTaken : Place → Version → List ℕ → List ℕ → Option Entry → Follow → Type 0
+HasTaken at v text line None f = NoneIsNext at v text
+HasTaken at v text line (Some e) f = IsTaken at v text line e f

@@ -1,5 +1,4 @@
 pub mod Verdicts
-pub mod SameLinks
 pub mod GroupLinks
 pub mod LinesAlike
 pub mod Following

@@ -1,23 +1,25 @@
 //! The entry lines of a group, followed step by step.
 ghost use Rattle.std.specs.Prelude.{◌≡◌, ◌+◌, ◌<◌, ◌≤◌, ◌∷◌, ◌++◌, [], ℕ, true, false};
-ghost use Rattle.std.specs.Prelude.{IfOk, length, MatchOption};
-ghost use Rattle.rt_history.specs.declared.Entry.{Entry};
+ghost use Rattle.std.specs.Prelude.{IfOk, List, Some, length};
+ghost use Rattle.rt_history.specs.declared.Entry as entries;
 ghost use Rattle.rt_model.specs.Histories.{after, past_of, reply_to};
 ghost use Rattle.rt_groups.specs.Groups.{IsGroupOf};
 ghost use Rattle.block_counts.specs.GroupRequests as counts;
 ghost use Rattle.block_counts.specs.SeenWords.{tallies_of};
 ghost use Rattle.rt_plays.specs.Plays.{IsPlay, group_with};
 ghost use Rattle.rank_afresh.specs.Standing.{IsAt, group_of};
-ghost use Rattle.trace_lines.specs.Lines.{links_of};
+ghost use Rattle.trace_lines.specs.declared.format.Version.{Version};
+ghost use Rattle.trace_lines.specs.Grammar.{line_text};
+ghost use Rattle.trace_lines.specs.Known.{IsLine, known_of};
+ghost use Rattle.trace_lines.specs.Lines.{Link, entry_line};
 ghost use Rattle.trace_text.specs.CountLines.{shown_as};
 ghost use Rattle.trace_text.specs.TraceText.{block_lines};
-ghost use Rattle.trace_course.specs.Places.{Place};
-ghost use Rattle.trace_check.specs.Following.{CanStep, IsAccepted, IsFollowing};
-ghost use Rattle.trace_check.specs.Following.{IsFollowingWith, IsNextEntry};
+ghost use Rattle.trace_course.specs.Places.{IsNextStep, Place};
+ghost use Rattle.trace_check.specs.Following.{CanStep, HasTaken, IsFollowing, IsFollowingWith};
 ghost use Rattle.trace_check.specs.RequestLines.{request_lines};
 
-use crate::links::{GroupLinks, are_same};
-use crate::same::is_same_reply;
+use crate::lines::{begins_with, make_entry_line};
+use crate::links::GroupLinks;
 use block_counts::{Blocks, Seen};
 use rank_afresh::Afresh;
 use rt_base::{GroupNo, NoMemory};
@@ -25,7 +27,8 @@ use rt_history::{Entry, Reply};
 use rt_task::{Setup, Step};
 use std::alloc::Global;
 use trace_course::Course;
-use trace_lines::CpuLink;
+use trace_lines::{CpuLink, Version};
+use trace_read::mover_at;
 use trace_text::{cpus_of, shown_by};
 use trace_tools::Shown;
 use waiting_list::WaitingList;
@@ -112,38 +115,56 @@ impl Follow {
         reply
     }
 
-    /// Whether an entry line, by its number, its entry and its links, is the next one that is
-    /// right. Where it is, its step was taken.
-    pub(crate) fn accepts(
-        &mut self,
-        setup: &Setup,
-        no: u32,
-        entry: &Entry,
-        links: &[CpuLink],
-    ) -> Result<bool, NoMemory>
-        requires { (at : Place) × IsFollowingWith at setup.now self.old }
-        ensures accepted { IfOk result (λ b. (at : Place) → IsFollowingWith at setup.now self.old
-            → b ≡ true → IsAccepted at no entry.now (links_of links.now) self.new) }
-        ensures refused { IfOk result (λ b. (at : Place) → IsFollowingWith at setup.now self.old
-            → b ≡ false
-            → IsNextEntry at.group at.entries no entry.now (links_of links.now) → ⊥) }
+    /// The step that the entry line says with which the text begins, where that may come next.
+    fn step_said(&self, setup: &Setup, text: &[u8]) -> Option<Step>
+        requires { (at : Place) × IsFollowingWith at setup.now self.now }
+        ensures { (at : Place) (v : Version) → IsFollowingWith at setup.now self.now
+            → (i : ℕ) (e : entries.Entry) (links : List Link) (more : List ℕ)
+            → IsLine (known_of v setup.now) (entry_line i e links)
+            → text.now ≡ line_text (known_of v setup.now) (entry_line i e links) ++ more
+            → IsNextStep at.group at.entries e.step → result ≡ Some e.step }
     {
-        if no != self.count {
-            return Ok(false);
+        let mover = mover_at(text)?;
+        self.course
+            .next_step(setup, &self.afresh, mover.cpu, mover.is_tick)
+    }
+
+    /// Takes the step of the entry line with which the text begins, where that line is right: the line that a valid trace has
+    /// there is made in `line`, and compared. Gives the entry.
+    pub(crate) fn take_line(
+        &mut self,
+        version: Version,
+        setup: &Setup,
+        text: &[u8],
+        line: &mut Vec<u8>,
+    ) -> Result<Option<Entry>, NoMemory>
+        requires { (at : Place) × IsFollowingWith at setup.now self.old }
+        ensures { IfOk result (λ o. (at : Place) → IsFollowingWith at setup.now self.old
+            → HasTaken at version text.now line.new.items o self.new) }
+    {
+        let Some(step) = self.step_said(setup, text) else {
+            return Ok(None);
+        };
+        if !self.course.take(setup, &self.afresh, step) {
+            return Ok(None);
         }
-        if !self.course.take(setup, &self.afresh, entry.step) {
-            return Ok(false);
-        }
-        if !is_same_reply(self.step(entry.step), entry.reply) {
-            return Ok(false);
-        }
+        let reply = self.step(step);
+        let entry = Entry { step, reply };
         self.links.follow(&self.afresh)?;
-        if !are_same(self.links.changed(), links) {
-            return Ok(false);
+        make_entry_line(
+            line,
+            version,
+            setup,
+            self.count,
+            &entry,
+            self.links.changed(),
+        )?;
+        if !begins_with(text, line.as_slice()) {
+            return Ok(None);
         }
         self.course.look(setup, &self.afresh, self.links.cpus());
         self.count += 1;
-        Ok(true)
+        Ok(Some(entry))
     }
 
     /// The entry that was followed last, with its number, as tools are shown it.

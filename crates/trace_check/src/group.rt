@@ -1,97 +1,171 @@
 //! The lines of a group.
-ghost use Rattle.std.specs.Prelude.{◌≡◌, ◌+◌, ◌^◌, ◌<◌, ◌≤◌, List, IfOk, length, true};
+ghost use Rattle.std.specs.Prelude.{◌≡◌, ◌+◌, ◌^◌, ◌<◌, ◌≤◌, List, [], IfOk, drop, length, true};
 ghost use Rattle.rt_groups.specs.Groups.{IsGroupOf};
-ghost use Rattle.trace_lines.specs.Lines.{links_of};
+ghost use Rattle.rt_plays.specs.Plays.{group_with};
+ghost use Rattle.trace_lines.specs.Known.{known_of};
+ghost use Rattle.trace_lines.specs.Lines.{group_line, links_of};
 ghost use Rattle.trace_tools.specs.Places.{seats};
 ghost use Rattle.trace_tools.specs.Seats.{Seat};
-ghost use Rattle.trace_read.specs.Lines.{lines_of};
+ghost use Rattle.trace_read.specs.Reading.{begins_with_digit};
 ghost use Rattle.trace_course.specs.Places.{Place};
-ghost use Rattle.trace_check.specs.Judging.{begins_with};
-ghost use Rattle.trace_check.specs.Following.{IsFollowingWith};
-ghost use Rattle.trace_check.specs.Progress.{AreRight, IsEndedAt, IsFollowedTo};
+ghost use Rattle.trace_check.specs.declared.progress.Progress as progress;
+ghost use Rattle.trace_check.specs.Following.{IsFollowing, IsFollowingWith};
+ghost use Rattle.trace_check.specs.Progress.{AreFollowed, AreRight, HasStood, IsEndedAt};
+ghost use Rattle.trace_check.specs.Progress.{IsFollowedTo, IsRight};
 
 use crate::follow::Follow;
-use crate::links::are_same;
-use crate::progress::{Followed, Progress};
-use crate::requests::first_missing;
+use crate::lines::{begins_with, make_group_line};
+use crate::progress::{Entries, Followed, Progress};
+use crate::requests::stood_first;
 use rt_base::{GroupNo, NoMemory};
 use rt_task::Setup;
 use std::alloc::Global;
-use trace_read::Line;
+use trace_lines::Version;
 use trace_tools::{Bus, TraceTool};
 
-/// Whether the first of the lines is that of the group, with its links at opening.
-fn begins(follow: &Follow, number: GroupNo, lines: &[Line]) -> bool
-    ensures { result
-        ≡ begins_with number.0 (links_of follow.now.links.links.items) (lines_of lines.now) }
+/// Whether the text begins with the line of the group, with its links at opening, which is made in `line`.
+fn begins(
+    version: Version,
+    setup: &Setup,
+    follow: &Follow,
+    number: GroupNo,
+    text: &[u8],
+    line: &mut Vec<u8>,
+) -> Result<bool, NoMemory>
+    ensures { let opening = group_line number.0 (links_of follow.now.links.links.items) in
+        IfOk result (HasStood (known_of version setup.now) opening text.now line.new.items) }
 {
-    match lines.first() {
-        Some(Line::GroupLine { group, links }) => {
-            group.0 == number.0 && are_same(follow.links(), links.as_slice())
-        }
-        _ => false,
+    make_group_line(line, version, setup, number, follow.links())?;
+    Ok(begins_with(text, line.as_slice()))
+}
+
+/// Whether an entry's line may stand first in the text: it begins with a digit, and no other line does.
+fn begins_as_entry(text: &[u8]) -> bool
+    ensures { result ≡ begins_with_digit text.now }
+{
+    match text {
+        [first, ..] => first.is_ascii_digit(),
+        [] => false,
     }
 }
 
-/// What the lines of a group come to where no entry line stands in this place: all its steps must
-/// have been followed, and the lines of its requests stand there.
+/// What the lines of a group come to where no entry line stands behind so many bytes: all its steps must have been followed,
+/// and the lines of its requests stand there.
 fn ended_at(
-    follow: &Follow,
+    version: Version,
     setup: &Setup,
-    lines: &[Line],
+    follow: &Follow,
+    text: &[u8],
     from: Progress,
-    place: usize,
-) -> Followed
+    size: usize,
+    line: &mut Vec<u8>,
+) -> Result<Followed, NoMemory>
     requires follows { (at : Place) × IsFollowingWith at setup.now follow.now }
     requires few { from.entries + follow.now.count < 2 ^ 32 }
-    requires place { place ≤ length lines.now }
-    ensures { (at : Place) → IsFollowingWith at setup.now follow.now
-        → IsEndedAt at (lines_of lines.now) from follow.now.count place result }
+    requires within { size ≤ length text.now }
+    requires places { from.lines + 1 + follow.now.count ≤ size }
+    ensures { IfOk result (λ followed. (at : Place) → IsFollowingWith at setup.now follow.now
+        → IsEndedAt at (known_of version setup.now) (drop size text.now) from
+        follow.now.count size followed) }
 {
+    let place = from.lines + 1 + follow.count() as usize;
     if !follow.is_over(setup) {
-        return Followed::Wrong(place);
+        return Ok(Followed::Wrong(place));
     }
     let requests = follow.requests();
-    match first_missing(requests, &lines[place..]) {
-        Some(k) => Followed::Wrong(place + k),
-        None => Followed::Whole(Progress {
-            lines: place + requests.len(),
-            entries: from.entries + follow.count(),
-        }),
+    let stood = stood_first(version, setup, requests, &text[size..], line)?;
+    if stood.count < requests.len() {
+        return Ok(Followed::Wrong(place + stood.count));
+    }
+    Ok(Followed::Whole(Progress {
+        lines: place + stood.count,
+        entries: from.entries + follow.count(),
+        length: size + stood.length,
+    }))
+}
+
+/// Follows the entry lines of a group from where the text has so many bytes. The bus is shown each entry that is right.
+fn follow_entries<T: TraceTool>(
+    version: Version,
+    setup: &Setup,
+    group: GroupNo,
+    follow: &mut Follow,
+    text: &[u8],
+    begin: usize,
+    line: &mut Vec<u8>,
+    bus: &mut Bus<T>,
+) -> Result<Entries, NoMemory>
+    requires { (from : progress.Progress) × (opened : List Seat) × (was : List Seat)
+        × IsRight version setup.now text.now group.0 from begin follow.old
+        opened was (seats T.tool bus.old) }
+    ensures { IfOk result (λ entries. (from : progress.Progress) (opened was : List Seat)
+        → IsRight version setup.now text.now group.0 from begin follow.old
+        opened was (seats T.tool bus.old)
+        → AreFollowed version setup.now text.now group.0 from follow.new
+        opened was (seats T.tool bus.new) entries) }
+{
+    let mut size = begin;
+    'entries: while begins_as_entry(&text[size..]) {
+        let no = follow.count();
+        let Some(entry) = follow.take_line(version, setup, &text[size..], line)? else {
+            return Ok(Entries::WrongAfter(no));
+        };
+        bus.feed(&follow.shown(group, no, entry));
+        size += line.as_slice().len();
+    }
+    Ok(Entries::Right(size))
+}
+
+/// Follows the lines of a group that was opened.
+fn follow_lines<T: TraceTool>(
+    version: Version,
+    setup: &Setup,
+    group: GroupNo,
+    follow: &mut Follow,
+    text: &[u8],
+    from: Progress,
+    line: &mut Vec<u8>,
+    bus: &mut Bus<T>,
+) -> Result<Followed, NoMemory>
+    requires group { IsGroupOf setup.now group.0 }
+    requires opened { IsFollowing (group_with setup.now group.0) [] follow.old }
+    requires before { (opened : List Seat)
+        × AreRight version setup.now text.now group.0 from opened (seats T.tool bus.old) }
+    ensures { IfOk result (λ followed. (opened : List Seat)
+        → AreRight version setup.now text.now group.0 from opened (seats T.tool bus.old)
+        → IsFollowedTo version setup.now text.now group.0 opened (seats T.tool bus.new)
+        followed) }
+{
+    if !begins(version, setup, follow, group, &text[from.length..], line)? {
+        return Ok(Followed::Wrong(from.lines));
+    }
+    let begin = from.length + line.as_slice().len();
+    let entries = follow_entries(version, setup, group, follow, text, begin, line, bus)?;
+    match entries {
+        Entries::Right(size) => ended_at(version, setup, follow, text, from, size, line),
+        Entries::WrongAfter(count) => Ok(Followed::Wrong(from.lines + 1 + count as usize)),
     }
 }
 
 /// Follows the lines of a group, behind those of the groups before it. The bus is shown each entry that is right.
 pub(crate) fn follow_group<T: TraceTool>(
     alloc: Global,
+    version: Version,
     setup: &Setup,
     group: GroupNo,
-    lines: &[Line],
+    text: &[u8],
     from: Progress,
+    line: &mut Vec<u8>,
     bus: &mut Bus<T>,
 ) -> Result<Followed, NoMemory>
     requires group { IsGroupOf setup.now group.0 }
     requires before { (opened : List Seat)
-        × AreRight setup.now (lines_of lines.now) group.0 from opened (seats T.tool bus.old) }
+        × AreRight version setup.now text.now group.0 from opened (seats T.tool bus.old) }
     ensures { IfOk result (λ followed. (opened : List Seat)
-        → AreRight setup.now (lines_of lines.now) group.0 from opened (seats T.tool bus.old)
-        → IsFollowedTo setup.now (lines_of lines.now) group.0 opened (seats T.tool bus.new)
+        → AreRight version setup.now text.now group.0 from opened (seats T.tool bus.old)
+        → IsFollowedTo version setup.now text.now group.0 opened (seats T.tool bus.new)
         followed) }
 {
     let mut follow = Follow::open(alloc, setup, group)?;
-    if !begins(&follow, group, &lines[from.lines..]) {
-        return Ok(Followed::Wrong(from.lines));
-    }
-    for i in from.lines + 1..lines.len() {
-        match &lines[i] {
-            Line::EntryLine { no, entry, links } => {
-                if !follow.accepts(setup, *no, entry, links.as_slice())? {
-                    return Ok(Followed::Wrong(i));
-                }
-                bus.feed(&follow.shown(group, *no, *entry));
-            }
-            _ => return Ok(ended_at(&follow, setup, lines, from, i)),
-        }
-    }
-    Ok(ended_at(&follow, setup, lines, from, lines.len()))
+    follow_lines(version, setup, group, &mut follow, text, from, line, bus)
 }

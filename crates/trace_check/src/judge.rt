@@ -1,23 +1,23 @@
-//! The lines of a trace after its first two, judged one by one.
-ghost use Rattle.std.specs.Prelude.{◌≡◌, ◌+◌, ◌≤◌, ℕ, List, map, IfOk, Option, length, true};
-ghost use Rattle.rt_task.specs.Validity.{IsValid};
+//! The text of a trace behind its first two lines, judged line by line.
+ghost use Rattle.std.specs.Prelude.{◌≡◌, ◌+◌, ◌≤◌, List, map, IfOk, length};
 ghost use Rattle.rt_task.specs.declared.Parts.{Parts};
 ghost use Rattle.trace_lines.specs.declared.format.Version.{Version};
 ghost use Rattle.trace_tools.specs.Places.{seats};
 ghost use Rattle.trace_tools.specs.Seats.{seat_of};
 ghost use Rattle.trace_tools.specs.Tools.{Tool};
-ghost use Rattle.trace_read.specs.Lines.{lines_of};
-ghost use Rattle.trace_check.specs.Judging.{IsJudgedText, IsShownText, begins_with_end, verdict_behind};
+ghost use Rattle.trace_check.specs.Judging.{IsJudgedText, IsShownText, verdict_behind};
 ghost use Rattle.trace_check.specs.Progress.{AreAllRight};
 
 use crate::Verdict;
-use crate::behind::{behind, lines_alike};
+use crate::behind::lines_alike;
 use crate::counts::count_text;
 use crate::group::follow_group;
+use crate::lines::begins_with;
 use crate::progress::{Followed, Progress};
 use rt_base::{GroupNo, NoMemory};
+use rt_task::Setup;
 use std::alloc::Global;
-use trace_read::{Line, Trace};
+use trace_lines::Version;
 use trace_text::count_groups;
 use trace_tools::{Bus, TraceTool};
 
@@ -37,15 +37,8 @@ fn wrong_at(place: usize) -> Result<Verdict, NoMemory>
     Ok(Verdict::Invalid(line_at(place)?))
 }
 
-/// Whether the first of the lines is the line `end`.
-fn is_end(lines: &[Line]) -> bool
-    ensures { result ≡ begins_with_end (lines_of lines.now) }
-{
-    match lines.first() {
-        Some(Line::EndLine) => true,
-        _ => false,
-    }
-}
+/// The line behind all groups.
+const END: &[u8] = b"end\n";
 
 /// The verdict that `further` lines after line `place` are right, and the next is wrong.
 fn wrong_behind(place: usize, further: usize) -> Result<Verdict, NoMemory>
@@ -68,60 +61,72 @@ fn judge_behind(rest: &[u8], counts: &[u8], place: usize, entries: u32) -> Resul
     wrong_behind(place, lines_alike(rest, counts))
 }
 
-/// What the lines come to behind those of all groups.
+/// What the text comes to behind the lines of all groups.
 fn end_at<T: TraceTool>(
     alloc: Global,
-    bytes: &[u8],
-    lines: &[Line],
+    text: &[u8],
     right: Progress,
     bus: &Bus<T>,
 ) -> Result<Verdict, NoMemory>
-    requires { right.lines ≤ length lines.now }
-    ensures judged { IfOk result (λ v. (p : Parts) (tools : List Tool)
-        → AreAllRight p (lines_of lines.now) right (map seat_of tools) (seats T.tool bus.now)
-        → (version : Version) (stop : Option ℕ)
-        → IsJudgedText tools version p bytes.now (lines_of lines.now) stop v) }
-    ensures shown { IfOk result (λ v. (p : Parts) (tools : List Tool)
-        → AreAllRight p (lines_of lines.now) right (map seat_of tools) (seats T.tool bus.now)
-        → (version : Version) (stop : Option ℕ) → IsShownText tools version p
-        bytes.now (lines_of lines.now) stop (seats T.tool bus.now) v) }
+    requires within { right.length ≤ length text.now }
+    requires places { right.lines ≤ right.length }
+    ensures judged { IfOk result (λ v. (version : Version) (p : Parts) (tools : List Tool)
+        → AreAllRight version p text.now right (map seat_of tools) (seats T.tool bus.now)
+        → IsJudgedText tools version p text.now v) }
+    ensures shown { IfOk result (λ v. (version : Version) (p : Parts) (tools : List Tool)
+        → AreAllRight version p text.now right (map seat_of tools) (seats T.tool bus.now)
+        → IsShownText tools version p text.now (seats T.tool bus.now) v) }
 {
-    let place = right.lines;
-    if !is_end(&lines[place..]) {
-        return wrong_at(place);
+    let rest = &text[right.length..];
+    if !begins_with(rest, END) {
+        return wrong_at(right.lines);
     }
     let counts = count_text(alloc, bus)?;
-    let rest = behind(bytes, line_at(place)?);
-    judge_behind(rest, counts.as_slice(), place + 1, right.entries)
+    judge_behind(
+        &rest[END.len()..],
+        counts.as_slice(),
+        right.lines + 1,
+        right.entries,
+    )
 }
 
-/// What the text of a trace comes to, whose head has a canonical set.
-pub(crate) fn judge_lines<T: TraceTool>(
+/// What the text comes to that stands behind the two lines of a head with a canonical set.
+pub(crate) fn judge_text<T: TraceTool>(
     alloc: Global,
-    bytes: &[u8],
-    trace: &Trace,
+    version: Version,
+    setup: &Setup,
+    text: &[u8],
     bus: &mut Bus<T>,
 ) -> Result<Verdict, NoMemory>
-    requires valid { IsValid trace.now.setup }
     ensures judged { IfOk result (λ v. (tools : List Tool)
         → seats T.tool bus.old ≡ map seat_of tools
-        → IsJudgedText tools trace.now.version trace.now.setup bytes.now
-        (lines_of trace.now.lines) trace.now.stop v) }
+        → IsJudgedText tools version setup.now text.now v) }
     ensures shown { IfOk result (λ v. (tools : List Tool)
         → seats T.tool bus.old ≡ map seat_of tools
-        → IsShownText tools trace.now.version trace.now.setup bytes.now
-        (lines_of trace.now.lines) trace.now.stop (seats T.tool bus.new) v) }
+        → IsShownText tools version setup.now text.now (seats T.tool bus.new) v) }
 {
-    let lines = trace.lines.as_slice();
+    // A proof knows that a setup is valid once its parts are read.
+    let _parts = setup.parts();
+    let mut line = Vec::new(alloc);
     let mut right = Progress {
         lines: 0,
         entries: 0,
+        length: 0,
     };
-    for n in 0..count_groups(&trace.setup) {
-        match follow_group(alloc, &trace.setup, GroupNo(n), lines, right, bus)? {
+    for n in 0..count_groups(setup) {
+        match follow_group(
+            alloc,
+            version,
+            setup,
+            GroupNo(n),
+            text,
+            right,
+            &mut line,
+            bus,
+        )? {
             Followed::Whole(further) => right = further,
             Followed::Wrong(place) => return wrong_at(place),
         }
     }
-    end_at(alloc, bytes, lines, right, bus)
+    end_at(alloc, text, right, bus)
 }

@@ -8,7 +8,6 @@ ghost use Rattle.trace_lines.specs.Lines.{links_of};
 ghost use Rattle.trace_text.specs.Groups.{changed_links, cpu_numbers, cpus_in};
 ghost use Rattle.trace_text.specs.TraceText.{links_at};
 ghost use Rattle.trace_check.specs.GroupLinks.{CanRead, HaveChanged};
-ghost use Rattle.trace_check.specs.SameLinks.{same_links};
 
 use rank_afresh::Afresh;
 use rt_base::{CpuNo, NoMemory};
@@ -33,21 +32,6 @@ fn read_links(afresh: &Afresh, cpus: &[CpuNo], links: &mut Vec<CpuLink>) -> Resu
         links.push(link)?;
     }
     Ok(())
-}
-
-/// Whether two lists have the same links.
-pub(crate) fn are_same(a: &[CpuLink], b: &[CpuLink]) -> bool
-    ensures { result ≡ same_links (links_of a.now) (links_of b.now) }
-{
-    if a.len() != b.len() {
-        return false;
-    }
-    for (i, x) in a.iter().enumerate() {
-        if x.cpu.0 != b[i].cpu.0 || !is_same_task(x.task, b[i].task) {
-            return false;
-        }
-    }
-    true
 }
 
 /// Reads the links again, each in its place, and puts those that are others than before behind what stood in `changed`.

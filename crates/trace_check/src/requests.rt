@@ -1,62 +1,47 @@
 //! The lines of the requests of a group, compared with those that stand in a text.
-ghost use Rattle.std.specs.Prelude.{◌≡◌, true, false, MatchOption, None, Some, option_map};
-ghost use Rattle.block_counts.specs.SeenWords.{tallies_of, tally_of};
-ghost use Rattle.trace_read.specs.Lines.{lines_of};
-ghost use Rattle.trace_check.specs.RequestLines.{AllStandFirst, StopAt, first_request, request_lines};
+ghost use Rattle.std.specs.Prelude.{◌≡◌, IfOk};
+ghost use Rattle.block_counts.specs.SeenWords.{tallies_of};
+ghost use Rattle.trace_lines.specs.Known.{known_of};
+ghost use Rattle.trace_check.specs.RequestLines.{HaveStood, request_lines};
 
-use crate::same::is_same_request;
+use crate::lines::{begins_with, make_block_line};
 use block_counts::Seen;
-use trace_read::Line;
+use rt_base::NoMemory;
+use rt_task::Setup;
+use trace_lines::Version;
 
-/// The request that the first of the lines says, where that is the line of one.
-fn first_said(lines: &[Line]) -> Option<Seen>
-    ensures { option_map tally_of result ≡ first_request (lines_of lines.now) }
-{
-    match lines.first() {
-        Some(
-            Line::BlockLine {
-                no,
-                task,
-                sem,
-                ends,
-                ends_all,
-                bound,
-            },
-        ) => Some(Seen {
-            no: *no,
-            task: *task,
-            sem: *sem,
-            ends: *ends,
-            ends_all: *ends_all,
-            bound: *bound,
-        }),
-        _ => None,
-    }
+/// How many lines of requests stand first in a text, and how many bytes they have.
+#[derive(Clone, Copy, PartialEq, Eq)]
+pub(crate) struct Stood {
+    pub(crate) count: usize,
+    pub(crate) length: usize,
 }
 
-/// Whether the first of the lines is that of the request.
-fn says_first(lines: &[Line], request: Seen) -> bool
-    ensures same { result ≡ true
-        → first_request (lines_of lines.now) ≡ Some (tally_of request) }
-    ensures other { result ≡ false
-        → first_request (lines_of lines.now) ≡ Some (tally_of request) → ⊥ }
+/// How far the lines of the requests stand first in the text, each made in `line`.
+pub(crate) fn stood_first(
+    version: Version,
+    setup: &Setup,
+    requests: &[Seen],
+    text: &[u8],
+    line: &mut Vec<u8>,
+) -> Result<Stood, NoMemory>
+    ensures { IfOk result (HaveStood (known_of version setup.now)
+        (request_lines (tallies_of requests.now)) text.now) }
 {
-    match first_said(lines) {
-        Some(said) => is_same_request(said, request),
-        None => false,
-    }
-}
-
-/// How many of the lines of the requests stand first among the lines, where they do not all.
-pub(crate) fn first_missing(requests: &[Seen], lines: &[Line]) -> Option<usize>
-    ensures { MatchOption result
-        (AllStandFirst (request_lines (tallies_of requests.now)) (lines_of lines.now))
-        (λ k. StopAt (request_lines (tallies_of requests.now)) (lines_of lines.now) k) }
-{
+    let mut size = 0;
     for k in 0..requests.len() {
-        if !says_first(&lines[k..], requests[k]) {
-            return Some(k);
+        make_block_line(line, version, setup, &requests[k])?;
+        let made = line.as_slice();
+        if !begins_with(&text[size..], made) {
+            return Ok(Stood {
+                count: k,
+                length: size,
+            });
         }
+        size += made.len();
     }
-    None
+    Ok(Stood {
+        count: requests.len(),
+        length: size,
+    })
 }

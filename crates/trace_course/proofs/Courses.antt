@@ -36,6 +36,7 @@ use Rattle.trace_course.specs.declared.course.Course.{Course}
 use Rattle.trace_course.specs.declared.course.Course.TheVariants.{Scripts, Turns}
 use Rattle.trace_course.specs.declared.scripts.Scripts as scripts
 use Rattle.trace_course.specs.Courses.{CanLook, HasGone, IsCourse, IsOnCourse, IsOpened, room_in}
+use Rattle.trace_course.specs.Next.{AreFollowing}
 use Rattle.trace_course.specs.Places.{AreDone, ArePassed, HasPassed, IsNextOfScript, IsNextStep, Place, entry_by, longer}
 use Rattle.trace_course.proofs.Places.{places-counted, places-first}
 
@@ -104,7 +105,7 @@ next-turn g es step begun =
 
 module _ (at : Place) (p : Parts) (s : scripts.Scripts) (on : IsOnCourse at p (Scripts s)) where
   pub scripts-passed : (steps : List Step) → steps ≡ steps_given p.drive → ArePassed at steps s
-  scripts-passed steps is = record { valid = on.valid; places_are = on.course_is.1; steps_are = is ∙ ap (λ (q : Parts). steps_given q.drive) on.setup_is }
+  scripts-passed steps is = record { valid = on.valid; places_are = on.course_is.1; following_are = on.course_is.2; steps_are = is ∙ ap (λ (q : Parts). steps_given q.drive) on.setup_is }
 
   begun-script : IsBegunScriptPlay at.group at.entries
   begun-script = (begun-scripts at.group.setup.drive at.group at.entries on.course_is.0).0 on.begun
@@ -114,11 +115,15 @@ module _ (at : Place) (p : Parts) (s : scripts.Scripts) (on : IsOnCourse at p (S
       let e : Entry = entry_by at.group at.entries step in
       record {
         next = (begun-scripts at.group.setup.drive at.group (longer at step) on.course_is.0).1 (part-next at.group at.entries e gone.next.more begun-script refl gone.next.home gone.next.next);
-        gone = (on.course_is.0, gone.places_are);
+        gone = (on.course_is.0, gone.places_are, gone.following_are);
       }
 
+  -- the step that may come next is that of a script
+  pub scripts-next : (step : Step) → IsNextStep at.group at.entries step → IsNextOfScript at.group at.entries step
+  scripts-next step next = next-script at.group at.entries step ((begun-scripts at.group.setup.drive at.group (longer at step) on.course_is.0).0 next)
+
   pub scripts-refused : (step : Step) → (IsNextOfScript at.group at.entries step → ⊥) → IsNextStep at.group at.entries step → ⊥
-  scripts-refused step none next = none (next-script at.group at.entries step ((begun-scripts at.group.setup.drive at.group (longer at step) on.course_is.0).0 next))
+  scripts-refused step none next = none (scripts-next step next)
 
   pub scripts-over : AreDone at.group at.entries → IsPlay at.group at.entries
   scripts-over done = (whole-scripts at.group.setup.drive at.group at.entries on.course_is.0).1 (play-of-part at.group at.entries begun-script done)
@@ -153,10 +158,14 @@ module _ (at : Place) (p : Parts) (t : turns.Turns) (on : IsOnCourse at p (Turns
           gone = (on.course_is.0, taken.looked);
         }
 
-    pub turns-refused : (step : Step) → (IsProcessorOf (group_of v) step.cpu.0 → MayComeNext (group_of v) past step → ⊥) → IsNextStep at.group at.entries step → ⊥
-    turns-refused step none next =
+    -- the step that may come next does so by what the ranker says
+    pub turns-next : (step : Step) → IsNextStep at.group at.entries step → IsProcessorOf (group_of v) step.cpu.0 × MayComeNext (group_of v) past step
+    turns-next step next =
         let may = next-turn at.group at.entries step ((begun-turns at.group.setup.drive at.group (longer at step) on.course_is.0).0 next) in
-        none (subst (λ (g : Group). IsProcessorOf g step.cpu.0) (sym same) may.0) (subst (λ (g : Group). MayComeNext g past step) (sym same) may.1)
+        (subst (λ (g : Group). IsProcessorOf g step.cpu.0) (sym same) may.0, subst (λ (g : Group). MayComeNext g past step) (sym same) may.1)
+
+    pub turns-refused : (step : Step) → (IsProcessorOf (group_of v) step.cpu.0 → MayComeNext (group_of v) past step → ⊥) → IsNextStep at.group at.entries step → ⊥
+    turns-refused step none next = let may = turns-next step next in none may.0 may.1
 
 -- once each processor was looked at
 pub looked-all : (at : Place) (step : Step) (p : Parts) (v : Standing) (cpus : List CpuNo) (t t' : turns.Turns) → CanLook at step p v cpus → HasGone at step (Turns t)
@@ -175,7 +184,11 @@ looked-all at step p v cpus t t' can gone further =
 
 module _ (g : Group) (cpus : List CpuNo) (cpus_are : numbers_of cpus ≡ group_processors g) where
   course-by : (drive : Drive) (c : Course) → g.setup.drive ≡ drive → IsOpened drive cpus c → IsCourse g [] c
-  course-by (drives.Steps steps) (Scripts s) is opened = (ap gives_steps is, places-first g (numbers_of cpus) s.places.items cpus_are opened)
+  course-by (drives.Steps steps) (Scripts s) is opened = (
+    ap gives_steps is,
+    places-first g (numbers_of cpus) s.places.items cpus_are opened.0,
+    subst (λ (drive : Drive). AreFollowing (steps_given drive) s.following.items) (sym is) opened.1,
+  )
   course-by (drives.Steps steps) (Turns t) is opened = absurd opened
   course-by (drives.Horizon h) (Scripts s) is opened = absurd opened
   course-by (drives.Horizon h) (Turns t) is opened = (ap gives_steps is, subst (λ (past : Past). AreAt g past t) (sym (opening-past g)) (opened g cpus_are (ap horizon is)))
@@ -185,7 +198,7 @@ module _ (g : Group) (cpus : List CpuNo) (cpus_are : numbers_of cpus ≡ group_p
   course-first c opened = course-by g.setup.drive c refl opened
 
   room-by : (drive : Drive) (c : Course) → IsOpened drive cpus c → room_in drive (length cpus) c ≡ room_by g drive
-  room-by (drives.Steps steps) (Scripts s) opened = places-counted g (numbers_of cpus) s.places.items steps cpus_are opened
+  room-by (drives.Steps steps) (Scripts s) opened = places-counted g (numbers_of cpus) s.places.items steps cpus_are opened.0
   room-by (drives.Steps steps) (Turns t) opened = absurd opened
   room-by (drives.Horizon h) (Scripts s) opened = absurd opened
   room-by (drives.Horizon h) (Turns t) opened =

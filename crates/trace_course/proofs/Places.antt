@@ -20,7 +20,7 @@ use Rattle.rt_plays.specs.Order.{steps_in_group}
 use Rattle.rt_plays.specs.Scripts.{script, steps_of}
 use Rattle.turn_follow.specs.Turns.{numbers_of}
 use Rattle.trace_course.specs.declared.scripts.Scripts.{Scripts}
-use Rattle.trace_course.specs.Next.{IsNextAt}
+use Rattle.trace_course.specs.Next.{IsFollowing, IsNextAt}
 use Rattle.trace_course.specs.Places.{ArePassed, ArePlaces, IsNextOfScript, IsNextPlace, IsPassed, IsPlaceOf, Place, has_place, place_in}
 
 longer : {A : Type 0} (xs ys : List A) (y : A) → xs ≡ xs ++ y ∷ ys → ⊥
@@ -91,12 +91,16 @@ module _ (at : Place) (steps : List Step) (s : Scripts) (ps : ArePassed at steps
     taken = ap (λ (ss : List Step). script (take (j + 1) ss) step.cpu.0) (sym ps.steps_are) ∙ goes-on step.cpu.0 from j step at_it n (sym same);
   }
 
-  -- and no other one is
-  pub not-found : (step : Step) (from j : ℕ) → place_in places step.cpu.0 ≡ Some from → IsNextAt steps from step.cpu.0 j → (get_or steps j step ≡ step → ⊥) → IsNextOfScript g es step → ⊥
-  not-found step from j at_it n other k =
+  -- and the next one is that
+  pub found-is : (step : Step) (from j : ℕ) → place_in places step.cpu.0 ≡ Some from → IsNextAt steps from step.cpu.0 j → IsNextOfScript g es step → get_or steps j step ≡ step
+  found-is step from j at_it n k =
       let x : Step = get_or steps j step in
       let is : x ≡ get_or steps j x = get_or_default steps j step x n.there in
-      other (first-same (script (steps_of es) step.cpu.0) (script (drop (j + 1) steps) step.cpu.0) k.more x step (sym (whole step.cpu.0 from j x at_it n is) ∙ k.next))
+      first-same (script (steps_of es) step.cpu.0) (script (drop (j + 1) steps) step.cpu.0) k.more x step (sym (whole step.cpu.0 from j x at_it n is) ∙ k.next)
+
+  -- so no other one is
+  pub not-found : (step : Step) (from j : ℕ) → place_in places step.cpu.0 ≡ Some from → IsNextAt steps from step.cpu.0 j → (get_or steps j step ≡ step → ⊥) → IsNextOfScript g es step → ⊥
+  not-found step from j at_it n other k = other (found-is step from j at_it n k)
 
   -- a step is left where one is found
   pub some-left : (q from j : ℕ) → place_in places q ≡ Some from → IsNextAt steps from q j → script (steps_given g.setup.drive) q ≡ script (steps_of es) q → ⊥
@@ -117,8 +121,8 @@ place-inside g es places q are there =
     ]
 
 -- a processor has a place where it was given one
-abbrev pub given : Bool → Option ℕ
-given b = if b then Some 0 else None
+abbrev pub given : ℕ → Bool → Option ℕ
+given place b = if b then Some place else None
 
 -- before the first entry
 pub places-first : (g : Group) (qs : List ℕ) (places : List (Option ℕ)) → qs ≡ group_processors g → ((q : ℕ) → place_in places q ≡ (if has q qs then Some 0 else None)) → ArePlaces g [] places
@@ -137,7 +141,7 @@ places-counted g qs places steps same opened =
     test : (q : ℕ) → has_place places q ≡ has q (group_processors g)
     test q = ap (is_some {T = ℕ}) (opened q) ∙ by_case (has q qs) ∙ ap (has q) same
       where
-        by_case : (b : Bool) → is_some (given b) ≡ b
+        by_case : (b : Bool) → is_some (given 0 b) ≡ b
         by_case true = refl
         by_case false = refl
 
@@ -145,10 +149,16 @@ places-counted g qs places steps same opened =
     alike [] = refl
     alike (s ∷ ss) = rw (test s.cpu.0, alike ss) refl
 
--- one step more of a processor is behind it
-pub places-next : (g : Group) (es : List Entry) (e : Entry) (j : ℕ) (places : List (Option ℕ)) → ArePlaces g es places → IsNextPlace g es e.step j → ArePlaces g (es ++ e ∷ []) (set places e.step.cpu.0 (Some (j + 1)))
-places-next g es e j places are np q = by_case (e.step.cpu.0 == q) refl
+-- one step more of a processor is behind it, which passes as far on as no other one of it stands
+pub places-next : (g : Group) (es : List Entry) (e : Entry) (j distance : ℕ) (places : List (Option ℕ)) → ArePlaces g es places → IsNextPlace g es e.step j
+    → IsFollowing (steps_given g.setup.drive) j distance → ArePlaces g (es ++ e ∷ []) (set places e.step.cpu.0 (Some (j + distance)))
+places-next g es e j distance places are np far q = by_case (e.step.cpu.0 == q) refl
   where
+    passed : script (take (j + distance) (steps_given g.setup.drive)) e.step.cpu.0 ≡ script (take (j + 1) (steps_given g.setup.drive)) e.step.cpu.0
+    passed =
+        subst (λ (s : Step). script (take (j + distance) (steps_given g.setup.drive)) s.cpu.0 ≡ script (take (j + 1) (steps_given g.setup.drive)) s.cpu.0)
+        (np.step_is e.step) (far.none_between e.step)
+
     inside : e.step.cpu.0 < length places
     inside = place-inside g es places e.step.cpu.0 are np.next.home
 
@@ -156,21 +166,21 @@ places-next g es e j places are np q = by_case (e.step.cpu.0 == q) refl
     kept None other h = h
     kept (Some n) other h = (h.0, record { within = h.1.within; taken = h.1.taken ∙ sym (script-steps_of-skip es e q other) })
 
-    by_case : (b : Bool) → e.step.cpu.0 == q ≡ b → IsPlaceOf g (es ++ e ∷ []) q (place_in (set places e.step.cpu.0 (Some (j + 1))) q)
+    by_case : (b : Bool) → e.step.cpu.0 == q ≡ b → IsPlaceOf g (es ++ e ∷ []) q (place_in (set places e.step.cpu.0 (Some (j + distance))) q)
     by_case true own =
         let same : e.step.cpu.0 ≡ q = eqb-true e.step.cpu.0 q own in
-        let now : place_in (set places e.step.cpu.0 (Some (j + 1))) e.step.cpu.0 ≡ Some (j + 1) = get_or-set_same places e.step.cpu.0 (Some (j + 1)) None inside in
-        let here : IsPlaceOf g (es ++ e ∷ []) e.step.cpu.0 (Some (j + 1)) = (
+        let now : place_in (set places e.step.cpu.0 (Some (j + distance))) e.step.cpu.0 ≡ Some (j + distance) = get_or-set_same places e.step.cpu.0 (Some (j + distance)) None inside in
+        let here : IsPlaceOf g (es ++ e ∷ []) e.step.cpu.0 (Some (j + distance)) = (
           np.next.home,
           record {
-            within = (let l = np.there in omega arith);
-            taken = np.taken ∙ sym (script-steps_of-next es e e.step.cpu.0 (equal_self e.step.cpu.0));
+            within = far.within;
+            taken = passed ∙ np.taken ∙ sym (script-steps_of-next es e e.step.cpu.0 (equal_self e.step.cpu.0));
           },
         ) in
-        subst (λ (r : ℕ). IsPlaceOf g (es ++ e ∷ []) r (place_in (set places e.step.cpu.0 (Some (j + 1))) r)) same (subst (IsPlaceOf g (es ++ e ∷ []) e.step.cpu.0) (sym now) here)
+        subst (λ (r : ℕ). IsPlaceOf g (es ++ e ∷ []) r (place_in (set places e.step.cpu.0 (Some (j + distance))) r)) same (subst (IsPlaceOf g (es ++ e ∷ []) e.step.cpu.0) (sym now) here)
     by_case false other =
         let apart : q ≢ e.step.cpu.0 = (λ k. let n : e.step.cpu.0 == q ≡ true = rw k (equal_self e.step.cpu.0) in cc) in
-        let now : place_in (set places e.step.cpu.0 (Some (j + 1))) q ≡ place_in places q = get_or-set_other places e.step.cpu.0 q (Some (j + 1)) None apart in
+        let now : place_in (set places e.step.cpu.0 (Some (j + distance))) q ≡ place_in places q = get_or-set_other places e.step.cpu.0 q (Some (j + distance)) None apart in
         subst (IsPlaceOf g (es ++ e ∷ []) q) (sym now) (kept (place_in places q) other (are q))
 
 or_none : (a : Bool) → a || false ≡ a
@@ -185,22 +195,22 @@ opened-none n q =
       | inr high ↦ get_or_past (replicate n None) q None (omega (arith, high, length-replicate {A = Option ℕ} n None))
     ]
 
--- one processor more has a place
-pub opened-more : (cpus : List CpuNo) (i : ℕ) (cpu d : CpuNo) (places : List (Option ℕ)) → i < length cpus → cpu ≡ get_or cpus i d → cpu.0 < length places
-    → ((q : ℕ) → place_in places q ≡ (if has q (numbers_of (take i cpus)) then Some 0 else None))
-    → (q : ℕ) → place_in (set places cpu.0 (Some 0)) q ≡ (if has q (numbers_of (take (i + 1) cpus)) then Some 0 else None)
-opened-more cpus i cpu d places low is inside opened q =
-    by_case (q == cpu.0) refl ∙ ap (λ (b : Bool). if b then Some 0 else None) (sym more)
+-- one processor more has this place
+pub opened-more : (cpus : List CpuNo) (i : ℕ) (cpu d : CpuNo) (place : ℕ) (places : List (Option ℕ)) → i < length cpus → cpu ≡ get_or cpus i d → cpu.0 < length places
+    → ((q : ℕ) → place_in places q ≡ (if has q (numbers_of (take i cpus)) then Some place else None))
+    → (q : ℕ) → place_in (set places cpu.0 (Some place)) q ≡ (if has q (numbers_of (take (i + 1) cpus)) then Some place else None)
+opened-more cpus i cpu d place places low is inside opened q =
+    by_case (q == cpu.0) refl ∙ ap (given place) (sym more)
   where
     more : has q (numbers_of (take (i + 1) cpus)) ≡ has q (numbers_of (take i cpus)) || (q == cpu.0 || false)
     more =
         ap (λ (qs : List CpuNo). has q (numbers_of qs)) (take_more cpus i d low ∙ ap (λ (x : CpuNo). take i cpus ++ x ∷ []) (sym is))
         ∙ ap (has q) (map-append (λ (x : CpuNo). x.0) (take i cpus) (cpu ∷ [])) ∙ has-append q (numbers_of (take i cpus)) (cpu.0 ∷ [])
 
-    by_case : (b : Bool) → q == cpu.0 ≡ b → place_in (set places cpu.0 (Some 0)) q ≡ (if has q (numbers_of (take i cpus)) || (b || false) then Some 0 else None)
+    by_case : (b : Bool) → q == cpu.0 ≡ b → place_in (set places cpu.0 (Some place)) q ≡ (if has q (numbers_of (take i cpus)) || (b || false) then Some place else None)
     by_case true e =
-        ap (place_in (set places cpu.0 (Some 0))) (eqb-true q cpu.0 e) ∙ get_or-set_same places cpu.0 (Some 0) None inside
-        ∙ ap given (sym (or_true (has q (numbers_of (take i cpus)))))
+        ap (place_in (set places cpu.0 (Some place))) (eqb-true q cpu.0 e) ∙ get_or-set_same places cpu.0 (Some place) None inside
+        ∙ ap (given place) (sym (or_true (has q (numbers_of (take i cpus)))))
     by_case false e =
         let apart : q ≢ cpu.0 = (λ k. let n : q == cpu.0 ≡ true = rw k (equal_self cpu.0) in cc) in
-        get_or-set_other places cpu.0 q (Some 0) None apart ∙ opened q ∙ ap given (sym (or_none (has q (numbers_of (take i cpus)))))
+        get_or-set_other places cpu.0 q (Some place) None apart ∙ opened q ∙ ap (given place) (sym (or_none (has q (numbers_of (take i cpus)))))

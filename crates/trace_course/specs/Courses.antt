@@ -18,11 +18,13 @@ use Rattle.rank_afresh.specs.Standing.{IsAt, Standing, group_of}
 use Rattle.turn_follow.specs.Turns.{AreAt, AreLooked, numbers_of}
 use Rattle.trace_course.specs.declared.course.Course.{Course}
 use Rattle.trace_course.specs.declared.course.Course.TheVariants.{Scripts, Turns}
+use Rattle.trace_course.specs.Next.{AreFollowing}
 use Rattle.trace_course.specs.Places.{ArePlaces, IsNextStep, Place, has_place, longer, place_in}
 
 -- before the first step, of these processors
 abbrev pub IsOpened : Drive → List CpuNo → Course → Type 0
-IsOpened (drives.Steps steps) cpus (Scripts s) = (q : ℕ) → place_in s.places.items q ≡ (if has q (numbers_of cpus) then Some 0 else None)
+IsOpened (drives.Steps steps) cpus (Scripts s) =
+    ((q : ℕ) → place_in s.places.items q ≡ (if has q (numbers_of cpus) then Some 0 else None)) × AreFollowing steps s.following.items
 IsOpened (drives.Horizon h) cpus (Turns v) = (g : Group) → numbers_of cpus ≡ group_processors g → horizon g.setup.drive ≡ h → AreAt g [] v
 IsOpened _ cpus _ = ⊥
 
@@ -33,12 +35,15 @@ room_in drive cpus (Turns v) = horizon drive * cpus * MOST_TURN_STEPS
 
 -- these entries were followed
 abbrev pub IsCourse : Group → List Entry → Course → Type 0
-IsCourse g es (Scripts s) = (gives_steps g.setup.drive ≡ true) × ArePlaces g es s.places.items
+IsCourse g es (Scripts s) =
+    (gives_steps g.setup.drive ≡ true) × ArePlaces g es s.places.items × AreFollowing (steps_given g.setup.drive) s.following.items
 IsCourse g es (Turns v) = (gives_steps g.setup.drive ≡ false) × AreAt g (past_of g es) v
 
 -- a step was taken, and in a body run no processor was looked at since then
 abbrev pub IsGone : Place → Step → Course → Type 0
-IsGone at step (Scripts s) = (gives_steps at.group.setup.drive ≡ true) × ArePlaces at.group (longer at step) s.places.items
+IsGone at step (Scripts s) =
+    (gives_steps at.group.setup.drive ≡ true) × ArePlaces at.group (longer at step) s.places.items
+    × AreFollowing (steps_given at.group.setup.drive) s.following.items
 IsGone at step (Turns v) = (gives_steps at.group.setup.drive ≡ false) × AreLooked at.group (past_of at.group at.entries) step [] v
 
 -- the step may come next, and was taken

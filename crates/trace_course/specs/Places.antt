@@ -11,6 +11,7 @@ use Rattle.rt_plays.specs.Homes.{IsProcessorOf}
 use Rattle.rt_plays.specs.Plays.{IsBegunPlay}
 use Rattle.rt_plays.specs.Scripts.{script, steps_of}
 use Rattle.trace_course.specs.declared.scripts.Scripts.{Scripts}
+use Rattle.trace_course.specs.Next.{AreFollowing}
 
 -- a group and entries of it
 pub record Place : Type 0 where
@@ -54,6 +55,7 @@ ArePlaces g es places = (q : ℕ) → IsPlaceOf g es q (place_in places q)
 pub record ArePassed (at : Place) (steps : List Step) (s : Scripts) : Type 0 where
   pub valid : IsValid at.group.setup
   pub places_are : ArePlaces at.group at.entries s.places.items
+  pub following_are : AreFollowing (steps_given at.group.setup.drive) s.following.items
   pub steps_are : steps ≡ steps_given at.group.setup.drive
 
 -- the step is the next one of its processor's script
@@ -81,3 +83,4 @@ pub record IsNextPlace (g : Group) (es : List Entry) (step : Step) (j : ℕ) : T
 pub record HasPassed (at : Place) (step : Step) (s : Scripts) : Type 0 where
   pub next : IsNextOfScript at.group at.entries step
   pub places_are : ArePlaces at.group (longer at step) s.places.items
+  pub following_are : AreFollowing (steps_given at.group.setup.drive) s.following.items

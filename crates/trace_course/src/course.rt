@@ -1,17 +1,18 @@
 //! What drives the entries of a group: the scripts of its processors, or their turns.
-ghost use Rattle.std.specs.Prelude.{◌≡◌, ◌*◌, ◌<◌, ◌≤◌, All, IfOk, true, false, length};
+ghost use Rattle.std.specs.Prelude.{◌≡◌, ◌*◌, ◌<◌, ◌≤◌, All, IfOk, Some, true, false, length};
 ghost use Rattle.rt_base.specs.declared.TheConstants.{MOST_CPUS, MOST_STEPS, MOST_TURN_STEPS};
 ghost use Rattle.rt_task.specs.declared.Step as given;
 ghost use Rattle.rt_plays.specs.Drives as drives;
 ghost use Rattle.rt_plays.specs.Homes.{IsProcessorOf};
 ghost use Rattle.rt_plays.specs.Plays.{IsPlay};
+ghost use Rattle.rt_plays.specs.Turns as turn_words;
 ghost use Rattle.rank_afresh.specs.Standing.{group_of};
 ghost use Rattle.trace_course.specs.Courses.{CanLook, CanTake, HasGone, IsOnCourse, IsOpened};
 ghost use Rattle.trace_course.specs.Courses.{IsCourse, room_in};
 ghost use Rattle.trace_course.specs.Places.{IsNextStep, Place, longer};
 
 use crate::scripts::Scripts;
-use crate::turns::{look_at, take_turn};
+use crate::turns::{look_at, next_step, take_turn};
 use rank_afresh::Afresh;
 use rt_base::{CpuNo, MOST_TURN_STEPS, NoMemory};
 use rt_plays::steps_given;
@@ -54,7 +55,10 @@ impl Course {
         ensures { IfOk result (IsOpened drive.now cpus.now) }
     {
         match drive {
-            Drive::Steps(_) => Ok(Course::Scripts(Scripts::open(alloc, cpus)?)),
+            Drive::Steps(steps) => {
+                let scripts = Scripts::open(alloc, steps.as_slice(), cpus)?;
+                Ok(Course::Scripts(scripts))
+            }
             Drive::Horizon(horizon) => Ok(Course::Turns(Turns::open(alloc, cpus, *horizon)?)),
         }
     }
@@ -68,6 +72,26 @@ impl Course {
         match self {
             Course::Scripts(scripts) => scripts.count(steps_given(drive)),
             Course::Turns(_) => room_for_turns(horizon_of(drive), cpus),
+        }
+    }
+
+    /// The step of a processor that may come next: that of its script, or in a body run the Tick of its next turn, or the step
+    /// that goes on with its turn.
+    pub fn next_step(
+        &self,
+        setup: &Setup,
+        afresh: &Afresh,
+        cpu: CpuNo,
+        is_tick: bool,
+    ) -> Option<Step>
+        requires { (at : Place) × CanTake at setup.now afresh.now self.now }
+        ensures { (at : Place) (step : given.Step) → CanTake at setup.now afresh.now self.now
+            → IsNextStep at.group at.entries step → step.cpu ≡ cpu
+            → turn_words.is_tick step.act ≡ is_tick → result ≡ Some step }
+    {
+        match self {
+            Course::Scripts(scripts) => scripts.next_step(steps_given(&setup.parts().drive), cpu),
+            Course::Turns(turns) => next_step(turns, setup, afresh, cpu, is_tick),
         }
     }
 

@@ -4,7 +4,9 @@
 #![tactic(auto)]
 
 mod course;
+mod following;
 mod scripts;
+mod table;
 mod turns;
 
 pub use course::Course;

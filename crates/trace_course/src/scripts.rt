@@ -1,16 +1,19 @@
 //! The scripts of a group's processors, followed step by step.
 ghost use Rattle.std.specs.Prelude.{◌≡◌, ◌+◌, ◌<◌, ◌≤◌, ◌==◌, ℕ, true, false, length, take};
-ghost use Rattle.std.specs.Prelude.{All, IfOk, MatchOption, None, Some, replicate, slice_get};
+ghost use Rattle.std.specs.Prelude.{All, IfOk, MatchOption, None, Some, slice_index};
 ghost use Rattle.std.specs.Prelude.{count_by, slice_index_or, slice_set, if◌then◌else◌};
 ghost use Rattle.rt_base.specs.declared.TheConstants.{MOST_CPUS, MOST_STEPS};
+ghost use Rattle.rt_task.specs.declared.Step as given;
 ghost use Rattle.rt_rules.specs.Numbers.{has};
 ghost use Rattle.rt_plays.specs.Homes.{IsProcessorOf};
 ghost use Rattle.rt_plays.specs.Scripts.{script};
 ghost use Rattle.turn_follow.specs.Turns.{numbers_of};
 ghost use Rattle.trace_course.specs.Places.{AreDone, ArePassed, HasPassed, IsDone, IsNextOfScript};
 ghost use Rattle.trace_course.specs.Places.{IsNextPlace, Place, has_place, place_in};
-ghost use Rattle.trace_course.specs.Next.{IsNextAt};
+ghost use Rattle.trace_course.specs.Next.{AreFollowing, IsNextAt};
 
+use crate::following::following_of;
+use crate::table::{place_of, places_at};
 use rt_base::{CpuNo, MOST_CPUS, NoMemory};
 use rt_task::Step;
 use std::alloc::Global;
@@ -38,49 +41,34 @@ fn next_of(steps: &[Step], from: usize, cpu: CpuNo) -> Option<usize>
     None
 }
 
-/// A place for each number that a processor can have, with nothing in it.
-fn no_places(alloc: Global) -> Result<Vec<Option<usize>>, NoMemory>
-    ensures { IfOk result (λ v. v.items ≡ replicate MOST_CPUS None) }
-{
-    let mut places = Vec::new(alloc);
-    for _ in 0..MOST_CPUS {
-        places.push(None)?;
-    }
-    Ok(places)
-}
-
 /// How far the steps of a group's processors were followed: for each processor, by its number, the
-/// place among the set's steps behind its last one that was followed, and `None` for a processor of
-/// another group.
+/// place among the set's steps that it is at, behind its last one that was followed, and `None` for a
+/// processor of another group. For each of the set's steps it is kept how far on the next one of its
+/// processor is, so that a processor passes to it at once, however many others stand between.
 #[derive(Drop)]
 pub struct Scripts {
     places: Vec<Option<usize>>,
+    following: Vec<u32>,
 }
 
 impl Scripts {
     /// The scripts of these processors, of which no step was followed yet.
-    pub(crate) fn open(alloc: Global, cpus: &[CpuNo]) -> Result<Scripts, NoMemory>
+    pub(crate) fn open(alloc: Global, steps: &[Step], cpus: &[CpuNo]) -> Result<Scripts, NoMemory>
         requires { All (λ q. q.0 < MOST_CPUS) cpus.now }
-        ensures { IfOk result (λ s. (q : ℕ) → place_in s.places.items q
+        ensures places { IfOk result (λ s. (q : ℕ) → place_in s.places.items q
             ≡ (if has q (numbers_of cpus.now) then Some 0 else None)) }
+        ensures following { IfOk result (λ s. AreFollowing steps.now s.following.items) }
     {
-        let mut places = no_places(alloc)?;
-        for cpu in cpus {
-            places[cpu.0 as usize] = Some(0);
-        }
-        Ok(Scripts { places })
+        let places = places_at(alloc, cpus, 0)?;
+        let following = following_of(alloc, steps, cpus)?;
+        Ok(Scripts { places, following })
     }
 
     /// The place of a processor.
     fn place(&self, cpu: CpuNo) -> Option<usize>
         ensures { result ≡ place_in self.now.places.items cpu.0 }
     {
-        let number = cpu.0 as usize;
-        if number < self.places.len() {
-            self.places[number]
-        } else {
-            None
-        }
+        place_of(self.places.as_slice(), cpu)
     }
 
     /// How many of the steps are of these processors.
@@ -119,6 +107,17 @@ impl Scripts {
         }
     }
 
+    /// The step that comes next of a processor.
+    pub(crate) fn next_step(&self, steps: &[Step], cpu: CpuNo) -> Option<Step>
+        requires { (at : Place) × ArePassed at steps.now self.now }
+        ensures { (at : Place) (step : given.Step) → ArePassed at steps.now self.now
+            → IsNextOfScript at.group at.entries step → step.cpu ≡ cpu → result ≡ Some step }
+    {
+        let from = self.place(cpu)?;
+        let j = next_of(steps, from, cpu)?;
+        Some(steps[j])
+    }
+
     /// Whether the processor has a step left.
     fn has_next(&self, steps: &[Step], cpu: CpuNo) -> bool
         requires { (at : Place) × ArePassed at steps.now self.now }
@@ -149,10 +148,20 @@ impl Scripts {
         true
     }
 
+    /// How far on from the step in this place its processor may pass.
+    fn distance(&self, place: usize) -> usize
+        requires { place < length self.now.following.items }
+        ensures { result ≡ slice_index self.now.following.items place }
+    {
+        self.following[place] as usize
+    }
+
     /// Takes it that the processor's steps before this place were followed.
     fn pass(&mut self, cpu: CpuNo, place: usize)
         requires { cpu.0 < length self.old.places.items }
-        ensures { self.new.places.items ≡ slice_set self.old.places.items cpu.0 (Some place) }
+        ensures places { self.new.places.items
+            ≡ slice_set self.old.places.items cpu.0 (Some place) }
+        ensures following { self.new.following ≡ self.old.following }
     {
         self.places[cpu.0 as usize] = Some(place);
     }
@@ -167,7 +176,7 @@ impl Scripts {
     {
         match self.next(steps, step) {
             Some(j) => {
-                self.pass(step.cpu, j + 1);
+                self.pass(step.cpu, j + self.distance(j));
                 true
             }
             None => false,

@@ -1,11 +1,12 @@
 //! The turns of a group's processors, followed with the ranker.
-ghost use Rattle.std.specs.Prelude.{◌≡◌, [], ℕ, true, false, All};
+ghost use Rattle.std.specs.Prelude.{◌≡◌, [], ℕ, true, false, All, Some};
 ghost use Rattle.rt_task.specs.declared.Step as steps;
 ghost use Rattle.rt_model.specs.Histories.{after};
 ghost use Rattle.rt_model.specs.Past.{Past};
 ghost use Rattle.rt_model.specs.Situations.{next_act, situation};
 ghost use Rattle.rt_plays.specs.Homes.{IsProcessorOf};
 ghost use Rattle.rt_plays.specs.NextSteps.{MayComeNext};
+ghost use Rattle.rt_plays.specs.Turns as turn_words;
 ghost use Rattle.rank_afresh.specs.Standing.{IsAt, group_of};
 ghost use Rattle.turn_follow.specs.Turns.{AreAt, AreLooked, HasTaken, numbers_of};
 
@@ -24,6 +25,30 @@ fn next_of(setup: &Setup, afresh: &Afresh, cpu: CpuNo) -> Option<Act>
         result ≡ next_act g (situation g cpu.0 past) }
 {
     next_act(setup, &afresh.situation(cpu))
+}
+
+/// The step of a processor that may come next: the Tick of its next turn, or the step that goes on with its turn.
+pub(crate) fn next_step(
+    turns: &Turns,
+    setup: &Setup,
+    afresh: &Afresh,
+    cpu: CpuNo,
+    is_tick: bool,
+) -> Option<Step>
+    requires at { (past : Past) × IsAt afresh.now past
+        × AreAt (group_of afresh.now) past turns.now }
+    requires setup { setup.now ≡ afresh.now.setup }
+    ensures { (past : Past) (step : steps.Step) → IsAt afresh.now past
+        → AreAt (group_of afresh.now) past turns.now
+        → IsProcessorOf (group_of afresh.now) step.cpu.0
+        → MayComeNext (group_of afresh.now) past step → step.cpu ≡ cpu
+        → turn_words.is_tick step.act ≡ is_tick → result ≡ Some step }
+{
+    if !turns.has(cpu) {
+        return None;
+    }
+    let next = next_of(setup, afresh, cpu);
+    turns.next_step(cpu, is_tick, next)
 }
 
 /// Takes a step, where it goes on with the turn of its processor or begins the next one.

@@ -6,3 +6,5 @@ pub mod LineLaws
 pub mod EntryLaws
 pub mod FitLaws
 pub mod ReadLaws
+pub mod MoverLaws
+pub mod HeadLaws

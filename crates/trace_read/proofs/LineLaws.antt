@@ -16,7 +16,7 @@ use Rattle.trace_read.proofs.PartLaws.{task_word-plain, task_at-join, act_at-joi
 
 -- ---- no word of a line has a space or a line feed
 
-fits_64 : (n : ℕ) → n < 2 ^ 32 → n < 2 ^ 64
+pub fits_64 : (n : ℕ) → n < 2 ^ 32 → n < 2 ^ 64
 fits_64 n h = omega arith
 
 letter-plain : (c : ℕ) → IsLetter c → is_plain (c ∷ []) ≡ true

@@ -27,7 +27,7 @@ reads_back k text o tell h l is body = h ∙ ap (line_in k) body ∙ line_in-bod
 
 -- ---- no line
 
-front_is : (k : Known) (text more : List ℕ) (l : grammar.Line) → Tells k → IsLine k l → text ≡ line_text k l ++ more → front text ≡ line_body k l
+pub front_is : (k : Known) (text more : List ℕ) (l : grammar.Line) → Tells k → IsLine k l → text ≡ line_text k l ++ more → front text ≡ line_body k l
 front_is k text more l tell is e = ap (λ (p : List ℕ × List ℕ). p.0) (ap (cut 10) e ∙ cut-line k l more tell is)
 
 pub none-not_read : (k : Known) (text : List ℕ) → Tells k → IsParsed k text None → BeginsNoLine k text

@@ -2,3 +2,4 @@ pub mod Lines
 pub mod Reads
 pub mod Reading
 pub mod Seen
+pub mod Movers

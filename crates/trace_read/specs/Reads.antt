@@ -1,5 +1,5 @@
 -- What is read of the bytes of a trace, and why bytes are no trace.
-use Rattle.std.specs.Prelude.{◌≡◌, ◌≢◌, ℕ, ◌+◌, ◌⊎◌, List, [], ◌∷◌, ◌++◌, flat_map, length, All, Option, None, Some, Result, Ok, Err, IsTrue, codes}
+use Rattle.std.specs.Prelude.{◌≡◌, ◌≢◌, ℕ, ◌+◌, ◌≤◌, ◌⊎◌, List, [], ◌∷◌, ◌++◌, drop, flat_map, length, All, Option, None, Some, Result, Ok, Err, IsTrue, codes}
 use Rattle.rt_task.specs.declared.bad_set.BadSet.{BadSet}
 use Rattle.rt_task.specs.declared.Parts.{Parts}
 use Rattle.set_canonical.specs.Canonical.{canonical}
@@ -10,6 +10,7 @@ use Rattle.trace_lines.specs.Grammar.{line_text}
 use Rattle.trace_lines.specs.Known.{Known, known_of, IsLine}
 use Rattle.trace_lines.specs.Lines.{Line}
 use Rattle.trace_read.specs.declared.Trace.{Trace}
+use Rattle.trace_read.specs.declared.head.TraceHead.{TraceHead}
 use Rattle.trace_read.specs.Lines.{lines_of}
 use Rattle.trace_read.specs.declared.fault.TraceFault.{TraceFault}
 use Rattle.trace_read.specs.declared.fault.TraceFault.TheVariants as faults
@@ -41,10 +42,13 @@ pub record IsTraceOf (bytes : List ℕ) (version : Version) (p : Parts) (lines :
   pub lines_are : AreLines (known_of version p) rest lines left
   pub stop_is : stop ≡ stop_at lines left
 
--- the trace is what was read of the bytes, and where it says so, their second line is that of the canonical set
-pub record IsReadOf (bytes : List ℕ) (t : Trace) : Type 0 where
-  pub trace : IsTraceOf bytes t.version t.setup (lines_of t.lines) t.stop
-  pub canonical : IsTrue t.is_canonical → trace.set_text ≡ canonical t.setup
+-- this was read of the first two lines of the bytes; where it says that the set's line is the canonical one, it is
+pub record IsHeadOf (bytes : List ℕ) (h : TraceHead) : Type 0 where
+  pub set_text : List ℕ
+  pub within : h.length ≤ length bytes
+  pub head : HasHead h.version bytes set_text (drop h.length bytes)
+  pub set_is : set set_text ≡ Ok h.setup
+  pub canonical : IsTrue h.is_canonical → set_text ≡ canonical h.setup
 
 -- the bytes do not begin with the first line of a format
 abbrev pub LacksFirstLine : List ℕ → Type 0
@@ -70,7 +74,12 @@ IsRefused bytes (faults.NotTrace n) = ((n ≡ 1) × LacksFirstLine bytes) ⊎ ((
 IsRefused bytes (faults.BadSet b) = HasBadSet bytes b
 IsRefused bytes faults.NoMemory = Unit {0}
 
--- how reading ends
+-- how reading the first two lines ends
+abbrev pub HasReadHead : List ℕ → Result TraceHead TraceFault → Type 0
+HasReadHead bytes (Ok h) = IsHeadOf bytes h
+HasReadHead bytes (Err e) = IsRefused bytes e
+
+-- how reading all of it ends
 abbrev pub HasRead : List ℕ → Result Trace TraceFault → Type 0
-HasRead bytes (Ok t) = IsReadOf bytes t
+HasRead bytes (Ok t) = IsTraceOf bytes t.version t.setup (lines_of t.lines) t.stop
 HasRead bytes (Err e) = IsRefused bytes e

@@ -4,8 +4,8 @@ ghost use Rattle.rt_task.specs.Answers.{Gives};
 ghost use Rattle.set_canonical.specs.Canonical as spec;
 ghost use Rattle.set_read.specs.Sets.{set};
 
+use crate::head::after;
 use crate::plain_steps::plain_steps;
-use crate::read::after;
 use rt_task::{Draft, DraftDrive, SetStop, Setup};
 use set_canonical::canonical;
 use set_laws::canonical_is_read;

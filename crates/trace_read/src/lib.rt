@@ -5,9 +5,11 @@ mod acts;
 mod canonical_set;
 mod fault;
 mod fits;
+mod head;
 mod known;
 mod lines;
 mod links;
+mod mover;
 mod parse;
 mod plain_steps;
 mod put;
@@ -17,7 +19,9 @@ mod tasks;
 mod words;
 
 pub use fault::TraceFault;
+pub use head::{TraceHead, read_head};
 pub use lines::{Line, LineList, LinkList, Totals};
+pub use mover::{Mover, mover_at};
 pub use put::put_line;
 pub use read::read_trace;
 use rt_task::Setup;
@@ -33,6 +37,4 @@ pub struct Trace {
     pub lines: LineList,
     /// The number of that first one, from 1; `None` where there is none.
     pub stop: Option<u32>,
-    /// Whether the set's line was found to be the canonical text of the set. `false` says nothing.
-    pub is_canonical: bool,
 }

@@ -1,43 +1,20 @@
 //! Reading a trace.
-ghost use Rattle.std.specs.Prelude.{◌≡◌, ◌≢◌, ℕ, ◌++◌, List, All, IfErr, IfOk, MatchOption, MatchResult, OnOk};
-ghost use Rattle.rt_task.specs.Validity.{IsValid};
-ghost use Rattle.trace_lines.specs.FirstLine as heads;
-ghost use Rattle.trace_lines.specs.Grammar.{line_text};
+ghost use Rattle.std.specs.Prelude.{◌≡◌, IfErr, IfOk, MatchOption};
 ghost use Rattle.trace_lines.specs.Known as known;
 ghost use Rattle.trace_read.specs.Lines.{line_of, lines_of};
 ghost use Rattle.trace_read.specs.declared.fault.TraceFault.TheVariants as faults;
-ghost use Rattle.trace_read.specs.Reads.{AreLines, HasHead, HasRead, IsRefused, LacksFirstLine, stop_at};
-ghost use Rattle.trace_read.specs.Seen.{BeginsNoLine, BeginsLine, IsSplitAtFeed, Tells};
+ghost use Rattle.trace_read.specs.Reads.{AreLines, HasRead, IsHeadOf, IsTraceOf, stop_at};
+ghost use Rattle.trace_read.specs.Seen.{BeginsNoLine, BeginsLine, Tells};
 
-use crate::canonical_set::read_line_set;
 use crate::fits::line_fits;
+use crate::head::{TraceHead, after, read_head};
 use crate::known::Known;
 use crate::parse::line_in;
 use crate::put::put_line;
 use crate::{Line, LineList, Trace, TraceFault};
-use memchr::memchr;
 use rt_task::Setup;
 use std::alloc::{AllocError, Global};
-use trace_lines::{Version, first_line};
-
-/// What stands before the first line feed, and what stands after it.
-fn split_line(bytes: &[u8]) -> Option<(&[u8], &[u8])>
-    ensures { MatchOption result (All (λ
-        (c : ℕ). c ≢ 10) bytes.now) (λ x. IsSplitAtFeed bytes.now x.0.now x.1.now) }
-{
-    match memchr(b'\n', bytes) {
-        Some(i) => Some((&bytes[..i], &bytes[i + 1..])),
-        None => None,
-    }
-}
-
-/// What stands after these first bytes.
-pub(crate) fn after<'a>(first: &[u8], bytes: &'a [u8]) -> Option<&'a [u8]>
-    ensures { MatchOption result ((rest : List ℕ)
-        → bytes.now ≢ first.now ++ rest) (λ x. bytes.now ≡ first.now ++ x.now) }
-{
-    bytes.strip_prefix(first)
-}
+use trace_lines::Version;
 
 /// The line that bytes begin with, and what stands after it. What was parsed is checked against its own text, which is
 /// written into `text`.
@@ -103,37 +80,6 @@ fn read_lines_of<'a>(
     read_lines(alloc, &k, bytes)
 }
 
-/// The format that the first line names, and what stands after that line.
-fn read_first(bytes: &[u8]) -> Option<(Version, &[u8])>
-    ensures { MatchOption result (LacksFirstLine bytes.now)
-        (λ x. bytes.now ≡ heads.first_line x.0 ++ x.1.now) }
-{
-    if let Some(rest) = after(first_line(Version::One), bytes) {
-        return Some((Version::One, rest));
-    }
-    match after(first_line(Version::Two), bytes) {
-        Some(rest) => Some((Version::Two, rest)),
-        None => None,
-    }
-}
-
-/// The format, the bytes of the set, and what stands after its line.
-fn read_head(bytes: &[u8]) -> Result<(Version, &[u8], &[u8]), TraceFault>
-    ensures { MatchResult result
-        (λ x. HasHead x.0 bytes.now x.1.now x.2.now) (λ e. IsRefused bytes.now e) }
-{
-    let Some((version, second)) = read_first(bytes) else {
-        return Err(TraceFault::NotTrace(1));
-    };
-    let Some(line) = after(b"set ", second) else {
-        return Err(TraceFault::NotTrace(2));
-    };
-    match split_line(line) {
-        None => Err(TraceFault::NotTrace(2)),
-        Some((set, rest)) => Ok((version, set, rest)),
-    }
-}
-
 /// The number of the line that follows the two of the head and these, from 1, where anything is left.
 fn stop_after(lines: &[Line], left: &[u8]) -> Result<Option<u32>, TraceFault>
     ensures stop { IfOk result (λ o. o ≡ stop_at (lines_of lines.now) left.now) }
@@ -148,21 +94,35 @@ fn stop_after(lines: &[Line], left: &[u8]) -> Result<Option<u32>, TraceFault>
     }
 }
 
-/// Reads the bytes of a trace: its format, its set, and its lines up to the first that is none of the grammar. Refused are
-/// bytes that do not begin with the line of a format, those whose second line does not begin as the set's or has no
-/// line feed, and a set that is refused. More lines than a `u32` numbers are answered as memory that ran out.
+impl TraceHead {
+    /// The lines behind these two, up to the first that is none of the grammar. More lines than a `u32` numbers are answered as
+    /// memory that ran out.
+    pub fn read_lines(&self, alloc: Global, bytes: &[u8]) -> Result<Trace, TraceFault>
+        requires { IsHeadOf bytes.now self.now }
+        ensures trace { IfOk result (λ t. IsTraceOf bytes.now self.now.version self.now.setup
+            (lines_of t.lines) t.stop) }
+        ensures version { IfOk result (λ t. t.version ≡ self.now.version) }
+        ensures setup { IfOk result (λ t. t.setup ≡ self.now.setup) }
+        ensures memory { IfErr result (λ e. e ≡ faults.NoMemory) }
+    {
+        let setup = self.setup.share()?;
+        let rest = &bytes[self.length..];
+        let (lines, left) = read_lines_of(alloc, self.version, &setup, rest)?;
+        let stop = stop_after(lines.as_slice(), left)?;
+        Ok(Trace {
+            version: self.version,
+            setup,
+            lines,
+            stop,
+        })
+    }
+}
+
+/// Reads the bytes of a trace: its format, its set, and its lines up to the first that is none of the grammar. It refuses what
+/// `read_head` refuses. More lines than a `u32` numbers are answered as memory that ran out.
 pub fn read_trace(alloc: Global, bytes: &[u8]) -> Result<Trace, TraceFault>
     ensures { HasRead bytes.now result }
 {
-    let (version, set, rest) = read_head(bytes)?;
-    let (setup, is_canonical) = read_line_set(alloc, set)?;
-    let (lines, left) = read_lines_of(alloc, version, &setup, rest)?;
-    let stop = stop_after(lines.as_slice(), left)?;
-    Ok(Trace {
-        version,
-        setup,
-        lines,
-        stop,
-        is_canonical,
-    })
+    let head = read_head(alloc, bytes)?;
+    head.read_lines(alloc, bytes)
 }

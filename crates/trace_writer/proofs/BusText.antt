@@ -1,5 +1,5 @@
 -- The text of a bus is that of its tools; without tools it is the trace.
-use Rattle.std.proofs.Common.{◌≡◌, List, [], ◌∷◌, ◌++◌, map, refl, sym, ap, ◌∙◌, append-nil}
+use Rattle.std.proofs.Common.{◌≡◌, List, [], ◌∷◌, ◌++◌, map, refl, sym, ap, ◌∙◌, append-nil, append_assoc}
 use Rattle.std.proofs.lemmas.Simd.{map-map}
 use Rattle.rt_task.specs.declared.Parts.{Parts}
 use Rattle.rt_history.specs.declared.Entry.{Entry}
@@ -11,9 +11,10 @@ use Rattle.trace_tools.specs.Seats.{Seat, seat_line, seat_of, seats_after}
 use Rattle.trace_tools.specs.Tools.{Tool, line_of}
 use Rattle.trace_tools.specs.Tools as tools
 use Rattle.trace_tools.proofs.BusLaws.{lines-after}
-use Rattle.trace_text.specs.CountLines.{bus_text, counted_text, shown_from}
-use Rattle.trace_text.specs.TraceText.{trace_text}
+use Rattle.trace_text.specs.CountLines.{bus_lines, bus_text, counted_text, shown_from}
+use Rattle.trace_text.specs.TraceText.{head_text, lines_from, trace_text}
 use Rattle.trace_text.proofs.LineLaws.{texts}
+use Rattle.trace_writer.proofs.CameLaws.{HasParts}
 
 -- the lines of a bus of these tools, each of which is what its trait says
 pub lines-of_tools : {T : Type 0} (tool : T → Tool) (ts : List T) (es : List Shown)
@@ -36,3 +37,10 @@ text-of_none version p hs seats none =
     ap (λ (ss : List Seat). bus_text version ss p hs) none
     ∙ ap (λ (ss : List Seat). trace_text version p hs ++ texts (known_of version p) (map seat_line ss)) (seats_after-none (shown_from p 0 hs))
     ∙ append-nil (trace_text version p hs)
+
+-- the text of a bus as it is written: the head, the lines of the groups, and the count lines of a bus that was shown the entries
+pub bus-parts : (version : Version) (p names : Parts) (hs : List (List Entry)) (before fed : List Seat) → names ≡ p → fed ≡ seats_after (shown_from p 0 hs) before
+    → HasParts (bus_text version before p hs) (head_text version names) (texts (known_of version names) (lines_from p 0 hs)) (texts (known_of version p) (map seat_line fed))
+unfolding trace_text
+bus-parts version p names hs before fed same shown =
+    record { parts_are = rw (same, shown) (append_assoc (head_text version p) (texts (known_of version p) (lines_from p 0 hs)) (texts (known_of version p) (bus_lines before p hs))) }

@@ -1,5 +1,5 @@
 -- Texts that come to a sink one after the other.
-use Rattle.std.proofs.Common.{◌≡◌, ℕ, ◌≤◌, List, [], ◌++◌, refl, sym, ap, ◌∙◌, arith, append_assoc, append-nil}
+use Rattle.std.proofs.Common.{◌≡◌, ℕ, ◌≤◌, List, [], ◌++◌, refl, sym, ap, subst, ◌∙◌, arith, append_assoc, append-nil}
 use Rattle.std.specs.Prelude.{◌≢◌}
 use Rattle.std.specs.Prelude.{Result, Ok, Err, IsErrAnd, OnOk, OnErr}
 use Rattle.rt_fault.specs.Faults.{HasRisen}
@@ -62,6 +62,70 @@ coming-last (Err e) a b c f g h text part s p = coming-stop e a b c f g h text p
   where
     more : Coming a b f g text (part ++ [])
     more = record { front = s.front; came = s.came; unfailed = s.unfailed; split = s.split ∙ ap (λ xs. s.front ++ xs) (sym (append-nil part)) }
+
+-- what is left is said otherwise
+pub coming-by : {a b : Held} {f g : ℕ} {text left left' : List ℕ} → left ≡ left' → Coming a b f g text left → Coming a b f g text left'
+coming-by {a} {b} {f} {g} {text} same s = subst (Coming a b f g text) same s
+
+-- a text of three parts
+pub record HasParts (text one two three : List ℕ) : Type 0 where
+  pub parts_are : text ≡ one ++ (two ++ three)
+
+-- ---- the same of a sink, by what it tells that it holds, and of its faults
+
+module _ {K : Type 0} (held : K → Held) (faults : K → ℕ) where
+  abbrev pub CameTo : Result (Unit {0}) WriteStop → K → K → List ℕ → Type 0
+  CameTo r a b text = Came r (held a) (held b) (faults a) (faults b) text
+
+  abbrev pub IsComing : K → K → List ℕ → List ℕ → Type 0
+  IsComing a b text left = Coming (held a) (held b) (faults a) (faults b) text left
+
+  -- the text that came is said otherwise
+  pub came-by : (r : Result (Unit {0}) WriteStop) (a b : K) (text text' : List ℕ) → text ≡ text' → CameTo r a b text → CameTo r a b text'
+  came-by r a b text text' same p = subst (CameTo r a b) same p
+
+  -- memory ran out before any part
+  pub stopped-before : (r : Result (Unit {0}) WriteStop) (a : K) (text : List ℕ) → IsErrAnd r (λ x. x ≡ stops.NoMemory) → CameTo r a a text
+  stopped-before r a text is = came-err r stops.NoMemory (held a) (held a) (faults a) (faults a) text is (came-none (held a) (faults a) text)
+
+  -- the next part
+  module _ (a b : K) (text : List ℕ) where
+    pub comes-next : (c : K) (part left : List ℕ) → IsComing a b text (part ++ left) → CameTo (Ok tt) b c part → IsComing a c text left
+    comes-next c part left s p = coming-next (held a) (held b) (held c) (faults a) (faults b) (faults c) text part left s p
+
+    pub comes-stop : (r : Result (Unit {0}) WriteStop) (e : WriteStop) (c : K) (part left : List ℕ) → IsErrAnd r (λ x. x ≡ e) → IsComing a b text (part ++ left) → CameTo (Err e) b c part → CameTo r a c text
+    comes-stop r e c part left is s p =
+        came-err r e (held a) (held c) (faults a) (faults c) text is (coming-stop e (held a) (held b) (held c) (faults a) (faults b) (faults c) text part left s p)
+
+    pub comes-cut : (r : Result (Unit {0}) WriteStop) (left : List ℕ) → IsErrAnd r (λ x. x ≡ stops.NoMemory) → IsComing a b text left → CameTo r a b text
+    comes-cut r left is s = came-err r stops.NoMemory (held a) (held b) (faults a) (faults b) text is (coming-cut (held a) (held b) (faults a) (faults b) text left s)
+
+    pub comes-last : (r : Result (Unit {0}) WriteStop) (c : K) (part : List ℕ) → IsComing a b text part → CameTo r b c part → CameTo r a c text
+    comes-last r c part s p = coming-last r (held a) (held b) (held c) (faults a) (faults b) (faults c) text part s p
+
+    pub comes-end : IsComing a b text [] → CameTo (Ok tt) a b text
+    comes-end s = coming-end (held a) (held b) (faults a) (faults b) text s
+
+  -- a text of two parts
+  pub came-both : (r : Result (Unit {0}) WriteStop) (a b c : K) (one two : List ℕ) → CameTo (Ok tt) a b one → CameTo r b c two → CameTo r a c (one ++ two)
+  came-both r a b c one two p last = comes-last a b (one ++ two) r c two (comes-next a a (one ++ two) b one two (coming-start (held a) (faults a) (one ++ two)) p) last
+
+  pub stopped-front : (r : Result (Unit {0}) WriteStop) (e : WriteStop) (a b : K) (one two : List ℕ) → IsErrAnd r (λ x. x ≡ e) → CameTo (Err e) a b one → CameTo r a b (one ++ two)
+  stopped-front r e a b one two is p = comes-stop a a (one ++ two) r e b one two is (coming-start (held a) (faults a) (one ++ two)) p
+
+  -- a text of three parts
+  module _ {text one two three : List ℕ} (parts : HasParts text one two three) (a b : K) where
+    first : IsComing a a text (one ++ (two ++ three))
+    first = coming-by parts.parts_are (coming-start (held a) (faults a) text)
+
+    pub stopped-first : (r : Result (Unit {0}) WriteStop) (e : WriteStop) → IsErrAnd r (λ x. x ≡ e) → CameTo (Err e) a b one → CameTo r a b text
+    stopped-first r e is p = comes-stop a a text r e b one (two ++ three) is first p
+
+    pub stopped-second : (r : Result (Unit {0}) WriteStop) (e : WriteStop) (c : K) → IsErrAnd r (λ x. x ≡ e) → CameTo (Ok tt) a b one → CameTo (Err e) b c two → CameTo r a c text
+    stopped-second r e c is p q = comes-stop a b text r e c two three is (comes-next a a text b one (two ++ three) first p) q
+
+    pub came-third : (r : Result (Unit {0}) WriteStop) (c d : K) → CameTo (Ok tt) a b one → CameTo (Ok tt) b c two → CameTo r c d three → CameTo r a d text
+    came-third r c d p q last = comes-last a c text r d three (comes-next a b text c two three (comes-next a a text b one (two ++ three) first p) q) last
 
 -- the parts of an end
 pub came-ok : (r : Result (Unit {0}) WriteStop) (a b : Held) (f g : ℕ) (text : List ℕ) → Came r a b f g text → OnOk r (Extends a b text)

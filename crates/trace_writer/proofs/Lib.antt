@@ -1,8 +1,7 @@
 pub mod CameLaws
 pub mod Replays
-pub mod LentLinks
-pub mod GroupLines
-pub mod ShownEntries
+pub mod Stepping
+pub mod GroupParts
+pub mod GroupSequence
 pub mod SummaryLaws
 pub mod BusText
-pub mod BusParts

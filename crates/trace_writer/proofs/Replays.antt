@@ -1,5 +1,5 @@
--- An engine that takes the steps of another again, and the links of its processors.
-use Rattle.std.proofs.Common.{◌≡◌, ℕ, ◌+◌, ◌≤◌, List, [], length, drop, refl, sym, ap, ◌∙◌, subst, arith}
+-- An engine that takes steps, with the links of its processors and the requests.
+use Rattle.std.proofs.Common.{◌≡◌, ℕ, ◌+◌, ◌≤◌, List, [], length, refl, sym, ap, ◌∙◌, subst, arith}
 use Rattle.std.specs.Prelude.{Option, Result, Ok, Err, OnOk}
 use Rattle.rt_base.specs.declared.CpuNo.{CpuNo}
 use Rattle.rt_task.specs.declared.Parts.{Parts}
@@ -7,6 +7,7 @@ use Rattle.rt_task.specs.declared.Step.{Step}
 use Rattle.rt_task.specs.Validity.{IsValid}
 use Rattle.rt_history.specs.declared.Entry.{Entry}
 use Rattle.rt_history.specs.declared.Reply.{Reply}
+use Rattle.rt_rules.specs.Numbers.{same}
 use Rattle.rt_rules.specs.SemState.{Frees}
 use Rattle.rt_model.specs.Group.{Group, group_processors}
 use Rattle.rt_model.specs.Histories.{after, clock_moved, past_from, past_of, reply_to}
@@ -22,9 +23,8 @@ use Rattle.group_engine.specs.Moments.{between}
 use Rattle.trace_lines.specs.declared.links.CpuLink.{CpuLink}
 use Rattle.trace_lines.specs.Lines.{links_of}
 use Rattle.trace_text.specs.TraceText.{links_at}
-use Rattle.trace_writer.specs.Replays.{Counts, Follows, HasPlayed}
-use Rattle.trace_text.specs.Groups.{cpu_numbers}
-use Rattle.trace_text.proofs.ReplayLaws.{all_taken}
+use Rattle.trace_writer.specs.Replays.{Counts, Follows, HasTaken}
+use Rattle.trace_text.specs.Groups.{cpu_numbers, cpus_in}
 
 -- the processors are the same after an entry more, and these are their links then
 pub follows-next : (h h' : GroupHistory) (e : Entry) (qs : List CpuNo) (links : List CpuLink) → h' ≡ with_entry e h → cpu_numbers qs ≡ group_processors (group_of h)
@@ -37,22 +37,12 @@ follows-next h h' e qs links entry cpus are =
 pub past_step : (h h' : GroupHistory) (s : Step) (r : Reply) → h' ≡ with_entry (record { step = s; reply = r }) h → past h' ≡ after (group_of h) s (past h)
 past_step h h' s r e = ap past e ∙ past_of-append (group_of h) h.entries (record { step = s; reply = r })
 
+pub taken-entry : (h h' : GroupHistory) (s : Step) (r : Reply) → h' ≡ with_entry (record { step = s; reply = r }) h → r ≡ reply_to (group_of h) s (past h) → HasTaken h h' s r
+taken-entry h h' s r e told = record { reply_is = told; group_is = ap group_of e; spare_is = ap (λ (x : GroupHistory). x.spare) e; past_is = past_step h h' s r e }
+
 pub on_ok : {E : Type 0} {P : Type 0} (r : Result (Unit {0}) E) → P → OnOk r P
 on_ok (Ok u) p = p
 on_ok (Err e) p = tt
-
--- the first i of these entries' steps were taken again
-pub record Playing (old now : GroupHistory) (qs : List CpuNo) (links : List CpuLink) (es : List Entry) (i : ℕ) : Type 0 where
-  pub same_group : group_of now ≡ group_of old
-  pub room : length es ≤ now.spare + i
-  pub follows : Follows now qs links
-  pub past_is : past_from (group_of old) (past now) (drop i es) ≡ past_from (group_of old) (past old) es
-
-pub has_played : (old now : GroupHistory) (qs : List CpuNo) (links : List CpuLink) (es : List Entry) (i : ℕ) → length es ≤ i → Playing old now qs links es i → HasPlayed old now es
-has_played old now qs links es i all p = record {
-  group_is = p.same_group;
-  past_is = all_taken (group_of old) (past now) (past old) es i all p.past_is;
-}
 
 -- at opening there are no requests
 pub counts-open : (h : GroupHistory) (b : GroupRequests) (room : ℕ) (p : Parts) (n spare : ℕ) → IsValid p → h ≡ record { setup = p; group = n; entries = []; spare = spare }
@@ -93,3 +83,10 @@ module _ (h h' : GroupHistory) (b b' : GroupRequests) (room room' : ℕ) (step :
     spare = omega (arith, counts.spare, spare_less, ap (λ (x : GroupHistory). x.spare) entry);
     room_is = omega (arith, counts.room_is, room_same, ap (λ (x : GroupHistory). length x.setup.tasks) entry);
   }
+
+-- an engine that is lent shows the history that it has
+pub lent-links : (x h : GroupHistory) (g : Group) (ls xs : List CpuLink) → x ≡ h → group_of h ≡ g → ls ≡ xs
+    → links_at (group_of x) (past x) (cpus_in ls) ≡ links_at g (past h) (cpus_in xs)
+lent-links x h g ls xs same of own =
+    ap (λ (v : GroupHistory). links_at (group_of v) (past v) (cpus_in ls)) same ∙ ap (λ (k : Group). links_at k (past h) (cpus_in ls)) of
+    ∙ ap (λ (ys : List CpuLink). links_at g (past h) (cpus_in ys)) own

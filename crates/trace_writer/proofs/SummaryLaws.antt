@@ -11,15 +11,16 @@ use Rattle.rt_model.specs.Blocking.{asked_by, requests}
 use Rattle.rt_model.specs.Group.{Group}
 use Rattle.rt_model.specs.Histories.{past_of}
 use Rattle.rt_model.specs.Past.{Acted, Clock, Past, entries_in, sem_act}
-use Rattle.rt_groups.specs.Groups.{GroupHistory, group_of, past}
+use Rattle.rt_plays.specs.Plays.{group_with}
+use Rattle.set_plays.specs.declared.group_steps.GroupSteps.{GroupSteps}
+use Rattle.set_plays.specs.GroupSteps.{group_told, told_from}
 use Rattle.count_laws.specs.Tallies.{Tally, tallies, tally}
 use Rattle.block_counts.specs.SeenWords.{tallies_of, tally_of}
 use Rattle.block_counts.specs.declared.seen.Seen.{Seen}
 use Rattle.trace_writer.specs.declared.summary.Summary.{Summary}
-use Rattle.trace_text.specs.Groups.{AreGroupsOf, histories}
 use Rattle.trace_writer.specs.Summaries.{joined, most_ends, nothing, summary_from, summary_in}
 use Rattle.trace_text.proofs.BlockLines.{entries-few}
-use Rattle.trace_text.proofs.LineLaws.{history_group}
+use Rattle.trace_writer.proofs.GroupSequence.{told-next}
 use Rattle.trace_text.proofs.ReplayLaws.{drop_end}
 
 -- there are no more requests than entries
@@ -42,10 +43,10 @@ tallies-few g es few =
 pub requests-few-seen : (g : Group) (es : List Entry) (seen : List Seen) → length es ≤ MOST_STEPS → tallies_of seen ≡ tallies g (past_of g es) → length seen ≤ 2 * MOST_STEPS
 requests-few-seen g es seen few are = omega (arith, length-map seen tally_of, ap (λ (xs : List Tally). length xs) are, tallies-few g es few)
 
-pub summary-is : (g : Group) (own es : List Entry) (seen : List Seen) (most : ℕ) → es ≡ own → tallies_of seen ≡ tallies g (past_of g own) → most ≡ most_ends (tallies_of seen)
-    → record { entries = length es; requests = length seen; most = most } ≡ summary_in g own
-summary-is g own es seen most all are is =
-    let requests : length seen ≡ length (tallies g (past_of g own)) = sym (length-map seen tally_of) ∙ ap (λ (xs : List Tally). length xs) are in
+pub summary-is : (g : Group) (es : List Entry) (seen : List Seen) (count most : ℕ) → count ≡ length es → tallies_of seen ≡ tallies g (past_of g es) → most ≡ most_ends (tallies_of seen)
+    → record { entries = count; requests = length seen; most = most } ≡ summary_in g es
+summary-is g es seen count most all are is =
+    let requests : length seen ≡ length (tallies g (past_of g es)) = sym (length-map seen tally_of) ∙ ap (λ (xs : List Tally). length xs) are in
     rw (all, requests, is, are) refl
 
 -- ---- together
@@ -72,22 +73,18 @@ nothing-joined a =
     rw (entries, requests, most) refl
 
 -- the next group, and those after it
-pub summary-next : (p : Parts) (hs : List GroupHistory) (i : ℕ) (h : GroupHistory) (so_far own now all : Summary) → AreGroupsOf p hs → i < length hs → h ≡ get_or hs i h
-    → own ≡ summary_in (group_of h) h.entries → now ≡ joined so_far own → joined so_far (summary_from p i (histories (drop i hs))) ≡ all
-    → joined now (summary_from p (i + 1) (histories (drop (i + 1) hs))) ≡ all
-summary-next p hs i h so_far own now all are low is own_is now_is before =
-    let next : i + 1 ≡ suc i = omega arith in
-    let g : Group = record { setup = p; number = i } in
-    let group_is : group_of h ≡ g = ap group_of is ∙ history_group p hs i h are low in
-    let others : Summary = summary_from p (i + 1) (histories (drop (suc i) hs)) in
-    let here : summary_from p i (histories (drop i hs)) ≡ joined (summary_in g (get_or hs i h).entries) others = ap (λ (xs : List GroupHistory). summary_from p i (histories xs)) (drop-cons hs i h low) in
-    let same : own ≡ summary_in g (get_or hs i h).entries = own_is ∙ ap (λ (x : Group). summary_in x h.entries) group_is ∙ ap (λ (x : GroupHistory). summary_in g x.entries) is in
-    ap (λ (n : ℕ). joined now (summary_from p (i + 1) (histories (drop n hs)))) next ∙ ap (λ (s : Summary). joined s others) now_is ∙ joined-assoc so_far own others
-    ∙ ap (λ (s : Summary). joined so_far (joined s others)) same ∙ ap (joined so_far) (sym here) ∙ before
+pub summary-next : (p : Parts) (xs : List GroupSteps) (i : ℕ) (d : GroupSteps) (so_far own now all : Summary) → i < length xs
+    → own ≡ summary_in (group_with p i) (group_told p i (get_or xs i d)) → now ≡ joined so_far own → joined so_far (summary_from p i (told_from p i (drop i xs))) ≡ all
+    → joined now (summary_from p (i + 1) (told_from p (i + 1) (drop (i + 1) xs))) ≡ all
+summary-next p xs i d so_far own now all low own_is now_is before =
+    let others : Summary = summary_from p (i + 1) (told_from p (i + 1) (drop (i + 1) xs)) in
+    let here : summary_from p i (told_from p i (drop i xs)) ≡ joined own others =
+    ap (λ (hs : List (List Entry)). summary_from p i hs) (told-next p xs i d low) ∙ ap (λ (s : Summary). joined s others) (sym own_is) in
+    ap (λ (s : Summary). joined s others) now_is ∙ joined-assoc so_far own others ∙ ap (joined so_far) (sym here) ∙ before
 
-pub summary-end : (p : Parts) (hs : List GroupHistory) (i : ℕ) (s all : Summary) → length hs ≤ i → joined s (summary_from p i (histories (drop i hs))) ≡ all → s ≡ all
-summary-end p hs i s all past_all before =
-    sym (joined-nothing s) ∙ ap (λ (xs : List GroupHistory). joined s (summary_from p i (histories xs))) (sym (drop_end hs i past_all)) ∙ before
+pub summary-end : (p : Parts) (xs : List GroupSteps) (i : ℕ) (s all : Summary) → length xs ≤ i → joined s (summary_from p i (told_from p i (drop i xs))) ≡ all → s ≡ all
+summary-end p xs i s all past_all before =
+    sym (joined-nothing s) ∙ ap (λ (ys : List GroupSteps). joined s (summary_from p i (told_from p i ys))) (sym (drop_end xs i past_all)) ∙ before
 
 -- ---- the most ends
 

@@ -1,16 +1,19 @@
-//! The groups of a trace.
+//! The groups of a trace, whose steps are played as their lines are written.
 ghost use Rattle.std.specs.Prelude.{◌≡◌, ◌≤◌, [], flat_map, length, map, OnOk};
 ghost use Rattle.rt_base.specs.declared.TheConstants.{MOST_CLUSTERS, MOST_STEPS};
-ghost use Rattle.rt_groups.specs.Groups.{group_of, past, AreStepsOf, IsGroupOf};
-ghost use Rattle.trace_lines.specs.Grammar.{line_text};
+ghost use Rattle.rt_plays.specs.Plays.{group_with};
+ghost use Rattle.rt_groups.specs.Groups.{group_of, past, IsGroupOf};
 ghost use Rattle.block_counts.specs.SeenWords.{tallies_of};
-ghost use Rattle.trace_text.specs.Groups.{AreGroupsOf, histories, request_line};
-ghost use Rattle.trace_writer.specs.Replays.{Follows, HasPlayed};
+ghost use Rattle.set_plays.specs.GroupSteps.{AreGroupSteps, AreStepsIn, group_told, told};
+ghost use Rattle.set_plays.specs.StepsLeft.{AreOf};
+ghost use Rattle.trace_lines.specs.Grammar.{line_text};
 ghost use Rattle.trace_lines.specs.Known.{known_in};
 ghost use Rattle.trace_tools.specs.Places.{seats};
 ghost use Rattle.trace_tools.specs.Seats.{seats_after};
 ghost use Rattle.trace_text.specs.CountLines.{bus_text, shown_entries, shown_from};
+ghost use Rattle.trace_text.specs.Groups.{request_line};
 ghost use Rattle.trace_text.specs.TraceText.{entry_lines, group_lines, head_text, lines_from};
+ghost use Rattle.trace_writer.specs.Replays.{Follows, HasPlayed, ahead};
 ghost use Rattle.trace_writer.specs.Writing.{Came};
 
 use crate::WriteStop;
@@ -20,45 +23,53 @@ use crate::lines::{
 };
 use crate::replay::Replay;
 use block_counts::Seen;
-use group_engine::Engine;
 use rt_base::GroupNo;
 use rt_fault::Sink;
 use rt_history::Entry;
 use rt_task::{Parts, Setup};
+use set_plays::{GroupSteps, StepsLeft};
 use std::alloc::Global;
 use trace_lines::{Format, Version, first_line};
 use trace_text::set_line_of;
 use trace_tools::{Bus, TraceTool};
 
-/// The lines of entries of a group, whose steps are taken again. The bus is shown each entry.
+/// The lines of the entries of a group, each written as its step is taken. The bus is shown each entry.
 fn write_entries<T: TraceTool, K: Sink>(
+    setup: &Setup,
     replay: &mut Replay,
+    left: &mut StepsLeft<'_>,
     number: GroupNo,
-    entries: &[Entry],
     format: &Format,
     bus: &mut Bus<T>,
     line: &mut Vec<u8>,
     out: &mut K,
 ) -> Result<(), WriteStop>
+    requires setup { replay.old.engine.setup ≡ setup.now }
     requires number { replay.old.engine.group ≡ number.0 }
     requires follows { Follows replay.old.engine replay.old.cpus.items replay.old.links.items }
-    requires room { length entries.now ≤ replay.old.engine.spare }
-    requires few { length entries.now ≤ MOST_STEPS }
-    requires steps { AreStepsOf (group_of replay.old.engine) entries.now }
-    ensures lines { Came result
-        (K.held out.old) (K.held out.new) (K.faults out.old) (K.faults out.new)
+    requires of { AreOf (group_of replay.old.engine) left.old }
+    requires room { let es = ahead (group_of replay.old.engine) left.old (past replay.old.engine) in
+        length es ≤ replay.old.engine.spare }
+    requires few { replay.old.engine.spare ≤ MOST_STEPS }
+    ensures lines { let g = group_of replay.old.engine in
+        let es = ahead g left.old (past replay.old.engine) in
+        Came result (K.held out.old) (K.held out.new) (K.faults out.old) (K.faults out.new)
         (flat_map (line_text (known_in format.now))
-        (entry_lines (group_of replay.old.engine) 0 (past replay.old.engine) entries.now)) }
-    ensures played { OnOk result
-        (HasPlayed replay.old.engine replay.new.engine entries.now) }
+        (entry_lines g 0 (past replay.old.engine) es)) }
+    ensures played { let es = ahead (group_of replay.old.engine) left.old (past replay.old.engine) in
+        OnOk result (HasPlayed replay.old.engine replay.new.engine es) }
     ensures shown { let g = group_of replay.old.engine in
-        let es = shown_entries g 0 (past replay.old.engine) entries.now in
-        OnOk result (seats T.tool bus.new ≡ seats_after es (seats T.tool bus.old)) }
+        let es = ahead g left.old (past replay.old.engine) in
+        let shown = shown_entries g 0 (past replay.old.engine) es in
+        OnOk result (seats T.tool bus.new ≡ seats_after shown (seats T.tool bus.old)) }
 {
-    for (i, entry) in entries.iter().enumerate() {
-        replay.step(entry.step)?;
-        write_entry_line(out, line, format, i as u32, entry, replay.changed())?;
-        show(bus, replay.engine(), number, i as u32, entry);
+    let mut no = 0;
+    while let Some(step) = left.next(setup, replay.engine().engine()) {
+        let reply = replay.step(step)?;
+        let entry = Entry { step, reply };
+        write_entry_line(out, line, format, no, &entry, replay.changed())?;
+        show(bus, replay.engine(), number, no, &entry);
+        no += 1;
     }
     Ok(())
 }
@@ -80,31 +91,40 @@ fn write_blocks<K: Sink>(
     Ok(())
 }
 
-/// The lines of a group. The bus is shown its entries.
+/// The lines of a group that plays these steps. The bus is shown its entries.
 fn write_group<T: TraceTool, K: Sink>(
     alloc: Global,
     setup: &Setup,
     format: &Format,
     number: GroupNo,
-    group: &Engine,
+    steps: GroupSteps<'_>,
     bus: &mut Bus<T>,
     line: &mut Vec<u8>,
     out: &mut K,
 ) -> Result<(), WriteStop>
     requires there { IsGroupOf setup.now number.0 }
-    requires setup { group.now.setup ≡ setup.now }
-    requires number { group.now.group ≡ number.0 }
-    ensures lines { Came result
+    requires steps { AreStepsIn (group_with setup.now number.0) steps }
+    ensures lines { let es = group_told setup.now number.0 steps.entry in Came result
         (K.held out.old) (K.held out.new) (K.faults out.old) (K.faults out.new)
         (flat_map (line_text (known_in format.now))
-        (group_lines (group_of group.now) group.now.entries)) }
-    ensures shown { let es = shown_entries (group_of group.now) 0 [] group.now.entries in
-        OnOk result (seats T.tool bus.new ≡ seats_after es (seats T.tool bus.old)) }
+        (group_lines (group_with setup.now number.0) es)) }
+    ensures shown { let es = group_told setup.now number.0 steps.entry in
+        let shown = shown_entries (group_with setup.now number.0) 0 [] es in
+        OnOk result (seats T.tool bus.new ≡ seats_after shown (seats T.tool bus.old)) }
 {
-    let entries = group.entries();
-    let mut replay = Replay::open(alloc, setup, number, entries.len() as u32)?;
+    let mut left = steps.all(alloc, setup, number)?;
+    let mut replay = Replay::open(alloc, setup, number, left.room())?;
     write_group_line(out, line, format, number, replay.links())?;
-    write_entries(&mut replay, number, entries, format, bus, line, out)?;
+    write_entries(
+        setup,
+        &mut replay,
+        &mut left,
+        number,
+        format,
+        bus,
+        line,
+        out,
+    )?;
     write_blocks(replay.requests(), format, line, out)
 }
 
@@ -113,27 +133,29 @@ fn write_groups<T: TraceTool, K: Sink>(
     alloc: Global,
     setup: &Setup,
     format: &Format,
-    groups: &[Engine],
+    groups: &[GroupSteps<'_>],
     bus: &mut Bus<T>,
     out: &mut K,
 ) -> Result<(), WriteStop>
-    requires groups { AreGroupsOf setup.now groups.now }
+    requires groups { AreGroupSteps setup.now groups.now }
     requires few { length groups.now ≤ MOST_CLUSTERS }
     ensures lines { Came result
         (K.held out.old) (K.held out.new) (K.faults out.old) (K.faults out.new)
         (flat_map (line_text (known_in format.now))
-        (lines_from setup.now 0 (histories groups.now))) }
-    ensures shown { let es = shown_from setup.now 0 (histories groups.now) in
+        (lines_from setup.now 0 (told setup.now groups.now))) }
+    ensures shown { let es = shown_from setup.now 0 (told setup.now groups.now) in
         OnOk result (seats T.tool bus.new ≡ seats_after es (seats T.tool bus.old)) }
 {
+    // A proof knows that a setup is valid once its parts are read.
+    let _parts = setup.parts();
     let mut line = Vec::new(alloc);
-    for (i, group) in groups.iter().enumerate() {
+    for (i, steps) in groups.iter().enumerate() {
         write_group(
             alloc,
             setup,
             format,
             GroupNo(i as u32),
-            group,
+            *steps,
             bus,
             &mut line,
             out,
@@ -157,20 +179,20 @@ fn write_head<K: Sink>(
     write_bytes(out, line.as_slice())
 }
 
-/// The whole trace, and the count lines of a bus that is shown its entries.
-pub fn write_all<T: TraceTool, K: Sink>(
+/// The whole trace of groups that play these steps, and the count lines of a bus that is shown the entries.
+pub(crate) fn write_all<T: TraceTool, K: Sink>(
     alloc: Global,
     version: Version,
     setup: &Setup,
-    groups: &[Engine],
+    groups: &[GroupSteps<'_>],
     bus: &mut Bus<T>,
     out: &mut K,
 ) -> Result<(), WriteStop>
-    requires groups { AreGroupsOf setup.now groups.now }
-    ensures lines { Came result
+    requires groups { AreGroupSteps setup.now groups.now }
+    ensures lines { let all = bus_text version (seats T.tool bus.old) setup.now in Came result
         (K.held out.old) (K.held out.new) (K.faults out.old) (K.faults out.new)
-        (bus_text version (seats T.tool bus.old) setup.now (histories groups.now)) }
-    ensures shown { let es = shown_from setup.now 0 (histories groups.now) in
+        (all (told setup.now groups.now)) }
+    ensures shown { let es = shown_from setup.now 0 (told setup.now groups.now) in
         OnOk result (seats T.tool bus.new ≡ seats_after es (seats T.tool bus.old)) }
 {
     let parts = setup.parts();

@@ -1,25 +1,26 @@
-//! A group's steps taken again, for the links that each of them changes and for the requests.
-ghost use Rattle.std.specs.Prelude.{◌≡◌, ◌-◌, ◌<◌, ◌≤◌, [], IfOk, OnOk};
+//! A group's steps as they are taken, with the links that each of them changes and the requests.
+ghost use Rattle.std.specs.Prelude.{◌≡◌, ◌<◌, ◌≤◌, [], IfOk};
 ghost use Rattle.rt_base.specs.declared.TheConstants.{MOST_STEPS};
-ghost use Rattle.rt_model.specs.Histories.{after, changed};
+ghost use Rattle.rt_model.specs.Histories.{changed};
 ghost use Rattle.rt_model.specs.Steps.{IsStepOf};
 ghost use Rattle.rt_groups.specs.Groups.{group_of, past, IsGroupOf};
 ghost use Rattle.count_laws.specs.Tallies.{tallies};
 ghost use Rattle.block_counts.specs.SeenWords.{tallies_of};
 ghost use Rattle.trace_lines.specs.Lines.{links_of};
 ghost use Rattle.trace_text.specs.TraceText.{links_at};
-ghost use Rattle.trace_writer.specs.Replays.{Follows};
+ghost use Rattle.trace_writer.specs.Replays.{Follows, HasTaken};
 
 use crate::counted::Counted;
 use crate::links::{read_again, read_links};
 use block_counts::Seen;
 use rt_base::{CpuNo, GroupNo, NoMemory};
+use rt_history::Reply;
 use rt_task::{Setup, Step};
 use std::alloc::Global;
 use trace_lines::CpuLink;
 use trace_text::cpus_of;
 
-/// An engine that takes the steps of another one again, with its processors, their links now, and those that the last step
+/// An engine that takes the steps of its group, with the group's processors, their links now, and those that the last step
 /// changed.
 #[derive(Drop)]
 pub struct Replay {
@@ -80,28 +81,26 @@ impl Replay {
         self.engine.requests()
     }
 
-    /// Takes a step. The links are read again where it placed some.
-    pub fn step(&mut self, step: Step) -> Result<(), NoMemory>
+    /// Takes a step, and tells its reply. The links are read again where it placed some.
+    pub fn step(&mut self, step: Step) -> Result<Reply, NoMemory>
         requires room { 0 < self.old.engine.spare }
         requires step { IsStepOf (group_of self.old.engine) step }
         requires follows { Follows self.old.engine self.old.cpus.items self.old.links.items }
-        ensures group { OnOk result (group_of self.new.engine ≡ group_of self.old.engine) }
-        ensures spare { OnOk result (self.new.engine.spare ≡ self.old.engine.spare - 1) }
-        ensures past { let now = after (group_of self.old.engine) step (past self.old.engine) in
-            OnOk result (past self.new.engine ≡ now) }
+        ensures taken { IfOk result (HasTaken self.old.engine self.new.engine step) }
         ensures changed { let g = group_of self.old.engine in
             let others = changed g (past self.old.engine) (past self.new.engine) in
             let shown = links_at g (past self.new.engine) others in
-            OnOk result (links_of self.new.changed.items ≡ shown) }
-        ensures follows { OnOk result
-            (Follows self.new.engine self.new.cpus.items self.new.links.items) }
+            IfOk result (λ r. links_of self.new.changed.items ≡ shown) }
+        ensures follows { IfOk result
+            (λ r. Follows self.new.engine self.new.cpus.items self.new.links.items) }
     {
-        self.engine.step(step);
+        let reply = self.engine.step(step);
         self.changed.clear();
         let engine = self.engine.engine();
         if !engine.has_placed() {
-            return Ok(());
+            return Ok(reply);
         }
-        read_again(engine, self.links.as_mut_slice(), &mut self.changed)
+        read_again(engine, self.links.as_mut_slice(), &mut self.changed)?;
+        Ok(reply)
     }
 }

@@ -159,6 +159,16 @@ module _ (g : Group) (past : Past) (step : Step) (v : Turns) (at : AreAt g past 
         };
       })
 
+  -- the step that may come next is the one that was made, where that is the one that goes on or begins
+  pub step-made : (t : Turn) → row_of v.rows step.cpu.0 ≡ Some t → MayComeNext g past step → (o : Option Step) → (is_tick step.act ≡ false → GoesOn t next step → o ≡ Some step)
+      → ((far : ℕ) → is_tick step.act ≡ true → Begins t far step → o ≡ Some step) → o ≡ Some step
+  step-made t row may o goes begins =
+      let is : IsTurnAt g past step.cpu.0 t = (turn-there t row).1 in
+      elim (next-comes g past step.cpu.0 t is step refl next told may) [
+        | inl on ↦ goes (no-tick g past step.cpu.0 t is step refl next told on) on
+        | inr new ↦ begins (drives.horizon g.setup.drive) (ap is_tick new.act_is) new
+      ]
+
   pub not-next : (t : Turn) → row_of v.rows step.cpu.0 ≡ Some t → (GoesOn t next step ⊎ Begins t v.horizon step → ⊥) → MayComeNext g past step → ⊥
   not-next t row none may =
       let there = turn-there t row in

@@ -1,9 +1,10 @@
 //! How far one processor is in its turns.
-ghost use Rattle.std.specs.Prelude.{◌≡◌, ◌⊎◌, true, false, None, Some, MatchOption};
+ghost use Rattle.std.specs.Prelude.{◌≡◌, ◌⊎◌, ℕ, true, false, None, Some, MatchOption};
+ghost use Rattle.rt_task.specs.declared.Step as steps;
 ghost use Rattle.turn_follow.specs.Turn as words;
 ghost use Rattle.turn_follow.specs.Turn.{Begins, GoesOn};
 
-use rt_base::MOST_TURN_ACTS;
+use rt_base::{CpuNo, MOST_TURN_ACTS, Tick};
 use rt_task::{Act, Step};
 
 /// How many turns a processor has begun, how many steps it took since its newest Tick, and whether
@@ -79,6 +80,25 @@ impl Turn {
             && step.tick.0 == self.begun
             && self.is_between()
             && self.begun < horizon
+    }
+
+    /// The step of `cpu` that may come next: the Tick of its next turn, or the step that goes on with the turn.
+    pub(crate) fn next_step(self, cpu: CpuNo, is_tick: bool, next: Option<Act>) -> Option<Step>
+        ensures on { (s : steps.Step) → s.cpu ≡ cpu → is_tick ≡ false → GoesOn self next s
+            → result ≡ Some s }
+        ensures begins { (s : steps.Step) (horizon : ℕ) → s.cpu ≡ cpu → is_tick ≡ true
+            → Begins self horizon s → result ≡ Some s }
+    {
+        let (tick, act) = if is_tick {
+            (self.begun, Act::Tick)
+        } else {
+            (self.begun.checked_sub(1)?, self.act_on(next)?)
+        };
+        Some(Step {
+            cpu,
+            tick: Tick(tick),
+            act,
+        })
     }
 
     /// What comes of a step, where that may come next.

@@ -11,6 +11,8 @@ ghost use Rattle.rt_plays.specs.Drives as drives;
 ghost use Rattle.rt_plays.specs.Homes.{IsProcessorOf};
 ghost use Rattle.rt_plays.specs.NextSteps.{MayComeNext};
 ghost use Rattle.rt_plays.specs.Turns.{has_none};
+ghost use Rattle.rt_plays.specs.Turns as turn_words;
+ghost use Rattle.rt_task.specs.declared.Step as steps;
 ghost use Rattle.turn_follow.specs.Turn as words;
 ghost use Rattle.turn_follow.specs.Turns.{AreAt, AreLooked, HasTaken};
 ghost use Rattle.turn_follow.specs.Turns.{numbers_of, row_ended, row_of, row_seen};
@@ -108,6 +110,18 @@ impl Turns {
             → (result ≡ true) ↔ IsProcessorOf g cpu.0 }
     {
         self.row(cpu).is_some()
+    }
+
+    /// The step of a processor that may come next: the Tick of its next turn, or the step that goes on with its turn. `next` is
+    /// the processor's next act.
+    pub fn next_step(&self, cpu: CpuNo, is_tick: bool, next: Option<Act>) -> Option<Step>
+        ensures { (g : Group) (past : Past) (step : steps.Step) → AreAt g past self.now
+            → next ≡ next_act g (situation g cpu.0 past) → IsProcessorOf g cpu.0
+            → MayComeNext g past step → step.cpu ≡ cpu → turn_words.is_tick step.act ≡ is_tick
+            → result ≡ Some step }
+    {
+        let turn = self.row(cpu)?;
+        turn.next_step(cpu, is_tick, next)
     }
 
     /// Takes a step, where it may come next: it goes on with the turn of its processor, or begins

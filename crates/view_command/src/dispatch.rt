@@ -3,7 +3,7 @@ ghost use Rattle.std.specs.Prelude.{◌≡◌, ◌≢◌, List, map, IfOk, Some}
 ghost use Rattle.rt_history.specs.declared.Entry.{Entry};
 ghost use Rattle.rt_task.specs.Validity.{IsValid};
 ghost use Rattle.rt_fault.specs.Faults.{HasRisen};
-ghost use Rattle.trace_read.specs.Reads.{IsReadOf};
+ghost use Rattle.trace_read.specs.Reads.{IsHeadOf};
 ghost use Rattle.trace_text.specs.Groups.{AreGroupsOf, histories};
 ghost use Rattle.trace_upgrade.specs.Said.{SaysPlays};
 ghost use Rattle.set_input.specs.Ends.{reading, writing};
@@ -22,7 +22,7 @@ use rt_task::Setup;
 use sim_commands::read_trace_input;
 use std::alloc::Global;
 use trace_check::{Verdict, check_trace};
-use trace_read::Trace;
+use trace_read::{Trace, TraceHead};
 use trace_tools::{Bus, TraceTool};
 use trace_upgrade::engines_of;
 use view_charts::chart_text;
@@ -75,28 +75,32 @@ fn there(text: Result<Option<Vec<u8>>, NoMemory>) -> Result<Vec<u8>, ViewEnd>
     }
 }
 
-/// The text of a view of the trace that was read of these bytes, where it is valid.
+/// The text of a view of the trace whose head was read of these bytes, where it is valid.
 fn text_in<T: TraceTool>(
     alloc: Global,
     view: View,
     bytes: &[u8],
-    trace: &Trace,
+    head: &TraceHead,
     tools: Vec<T>,
 ) -> Result<Vec<u8>, ViewEnd>
-    requires trace { IsReadOf bytes.now trace.now }
-    requires valid { IsValid trace.now.setup }
+    requires head { IsHeadOf bytes.now head.now }
+    requires valid { IsValid head.now.setup }
     requires fits { Fits view }
-    ensures { IsViewed (map T.tool tools.items) trace.now.version trace.now.setup
+    ensures { IsViewed (map T.tool tools.items) head.now.version head.now.setup
         bytes.now view result }
 {
     let Ok(mut bus) = Bus::open(alloc, tools) else {
         return Err(ViewEnd::Ended(Status::NoMemory));
     };
-    match check_trace(alloc, bytes, trace, &mut bus) {
-        Ok(Verdict::Valid(_)) => there(text_said(alloc, view, trace)),
-        Ok(Verdict::Invalid(line)) => Err(ViewEnd::Ended(Status::Invalid(line))),
-        Err(_) => Err(ViewEnd::Ended(Status::NoMemory)),
+    match check_trace(alloc, bytes, head, &mut bus) {
+        Ok(Verdict::Valid(_)) => {}
+        Ok(Verdict::Invalid(line)) => return Err(ViewEnd::Ended(Status::Invalid(line))),
+        Err(_) => return Err(ViewEnd::Ended(Status::NoMemory)),
     }
+    let Ok(trace) = head.read_lines(alloc, bytes) else {
+        return Err(ViewEnd::Ended(Status::NoMemory));
+    };
+    there(text_said(alloc, view, &trace))
 }
 
 /// Reads a trace, and where it is valid for its set, writes this view of it.
@@ -122,11 +126,11 @@ fn write_view<T: TraceTool, S: Source, K: Sink>(
         → K.faults out.new ≡ K.faults out.old }
     ensures not_usage { result ≢ ViewEnd.Ended Status.Usage }
 {
-    let (bytes, trace) = match read_trace_input(alloc, src) {
+    let (bytes, head) = match read_trace_input(alloc, src) {
         Ok(input) => input,
         Err(status) => return ViewEnd::Ended(status),
     };
-    let text = match text_in(alloc, view, bytes.as_slice(), &trace, tools) {
+    let text = match text_in(alloc, view, bytes.as_slice(), &head, tools) {
         Ok(text) => text,
         Err(end) => return end,
     };

@@ -1,4 +1,4 @@
-use Rattle.std.proofs.Common.{ap, sym, ◌∙◌}
+use Rattle.std.proofs.Common.{ap₂, sym, ◌∙◌}
 use Rattle.serde_json.specs.View.{view}
 use Rattle.set_read.specs.Document.{op_with}
 use Rattle.set_read.specs.Names.{names_seen}
@@ -8,4 +8,4 @@ use Rattle.set_read.proofs.acts.op_with.Goals as goal
 pub returns : goal.returns
 returns c =
     let names = names_seen c.args.names.now in
-    c.op_counted.ensures names ∙ ap (op_with names c.args.word.now) (sym (is_count (view c.args.x.now) c.in_ok-n.n c.in_ok-n.ensures))
+    c.op_counted.ensures names ∙ ap₂ (op_with names) c.as_bytes-word.ensures.value (sym (is_count (view c.args.x.now) c.in_ok-n.n c.in_ok-n.ensures))

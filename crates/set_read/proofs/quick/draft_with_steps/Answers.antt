@@ -1,7 +1,9 @@
 use Rattle.std.proofs.Common.{◌≡◌, Some, arith}
+use Rattle.json.specs.Lex.{after_value}
 use Rattle.set_read.specs.Document.{names_of, step_form}
 use Rattle.set_read.specs.Forms.{every, listed}
 use Rattle.set_read.specs.Seen.{whole_seen}
+use Rattle.set_read.specs.Texts.{tokens_at}
 use Rattle.set_read.proofs.DraftLaws.{whole_read-steps}
 use Rattle.set_read.proofs.quick.draft_with_steps.Goals as goal
 
@@ -11,7 +13,7 @@ returns-in-Ok c =
     let w = whole_seen c.args.whole.now in
     let steps : every (step_form (names_of w)) (listed said.0) ≡ Some c.in_ok-found.found.items = rw (← c.requires.names) said.2 in (
       said.0,
-      c.steps.new.reader,
+      tokens_at after_value c.in_ok-found.rest.now,
       said.1,
       grind arith,
       λ none. rw c.from_vec.ensures (whole_read-steps w (listed said.0) c.in_ok-found.found.items c.in-Ok.draft none c.in-Ok.ensures steps),

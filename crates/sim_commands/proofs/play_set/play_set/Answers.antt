@@ -1,25 +1,29 @@
-use Rattle.std.proofs.Common.{◌∙◌, inr, refl}
-use Rattle.sim_commands.proofs.SimLaws.{played-groups}
+use Rattle.std.proofs.Common.{inr, refl}
 use Rattle.sim_commands.proofs.SimAnswerLaws.{sim-read, sim-unread}
 use Rattle.sim_commands.proofs.play_set.play_set.Goals as goal
 
 pub returns-in-Err-clause-answers : goal.returns-in-Err-clause-answers
 returns-in-Err-clause-answers g c = sim-unread _ _ _ c.in-Err.status c.in-Err.ensures.ends refl
 
-pub write_trace-requires : goal.write_trace-requires
-write_trace-requires g c = record { groups = played-groups c.in-Ok.setup c.as_slice.result.now c.in-Ok.ensures.ok.valid (c.as_slice.ensures.value ∙ c.in-Ok-play.ensures) }
-
-pub returns-in-Ok-write_trace-clause-answers : goal.returns-in-Ok-write_trace-clause-answers
-returns-in-Ok-write_trace-clause-answers g c =
-    sim-read g.T.TraceTool.tool c.args.tools.items _ _ _ c.in-Ok.setup c.as_slice.result.now _ c.in-Ok.ensures.ok (c.in-Ok.ensures.ends.not_too_long (λ is. cc))
-    (c.as_slice.ensures.value ∙ c.in-Ok-play.ensures) c.in-Ok-open.ensures c.in-Ok-write_trace.ensures.ok
+pub returns-in-Ok-write_played-clause-answers : goal.returns-in-Ok-write_played-clause-answers
+returns-in-Ok-write_played-clause-answers g c =
+    sim-read g.T.TraceTool.tool c.args.tools.items _ _ _ c.in-Ok.setup _ c.in-Ok.ensures.ok (c.in-Ok.ensures.ends.not_too_long (λ is. cc)) c.in-Ok-open.ensures c.in-Ok-write_played.ensures.lines.0
 
 pub returns-in-Err-Fault-clause-answers : goal.returns-in-Err-Fault-clause-answers
 returns-in-Err-Fault-clause-answers g c =
-    sim-read g.T.TraceTool.tool c.args.tools.items _ _ _ c.in-Ok.setup c.as_slice.result.now _ c.in-Ok.ensures.ok (c.in-Ok.ensures.ends.not_too_long (λ is. cc))
-    (c.as_slice.ensures.value ∙ c.in-Ok-play.ensures) c.in-Ok-open.ensures (c.in-Err-Fault.ensures.stopped, c.in-Err-Fault.ensures.fault (cc))
+    let came = rw c.in-Err-Fault.field-0-is at c.in-Err-Fault.ensures.lines in
+    sim-read g.T.TraceTool.tool c.args.tools.items _ _ _ c.in-Ok.setup _ c.in-Ok.ensures.ok (c.in-Ok.ensures.ends.not_too_long (λ is. cc)) c.in-Ok-open.ensures (came.0, came.2)
 
 pub returns-clause-answers : goal.returns-clause-answers
 returns-clause-answers g c =
-    sim-read g.T.TraceTool.tool c.args.tools.items _ _ _ c.in-Ok.setup c.as_slice.result.now _ c.in-Ok.ensures.ok (c.in-Ok.ensures.ends.not_too_long (λ is. cc))
-    (c.as_slice.ensures.value ∙ c.in-Ok-play.ensures) c.in-Ok-open.ensures (inr c.in-Err-NoMemory.ensures.stopped)
+    let came = rw c.in-Err-NoMemory.field-0-is at c.in-Err-NoMemory.ensures.lines in
+    sim-read g.T.TraceTool.tool c.args.tools.items _ _ _ c.in-Ok.setup _ c.in-Ok.ensures.ok (c.in-Ok.ensures.ends.not_too_long (λ is. cc)) c.in-Ok-open.ensures (inr came.0)
+
+pub returns-in-Ok-write_played-clause-no_write_fault : goal.returns-in-Ok-write_played-clause-no_write_fault
+returns-in-Ok-write_played-clause-no_write_fault g c = λ _. c.in-Ok-write_played.ensures.lines.1
+
+pub returns-in-Err-Fault-clause-write_fault : goal.returns-in-Err-Fault-clause-write_fault
+returns-in-Err-Fault-clause-write_fault g c = λ _. let came = rw c.in-Err-Fault.field-0-is at c.in-Err-Fault.ensures.lines in came.2
+
+pub returns-clause-no_write_fault : goal.returns-clause-no_write_fault
+returns-clause-no_write_fault g c = λ _. let came = rw c.in-Err-NoMemory.field-0-is at c.in-Err-NoMemory.ensures.lines in came.1

@@ -2,12 +2,12 @@ use Rattle.std.proofs.Common.{drop, map}
 use Rattle.trace_lines.specs.Known.{Known}
 use Rattle.trace_tools.specs.Places.{seats}
 use Rattle.trace_tools.specs.Seats.{seat_line}
-use Rattle.trace_writer.proofs.CameLaws.{Coming}
+use Rattle.trace_writer.proofs.CameLaws.{IsComing}
 use Rattle.trace_text.proofs.LineLaws.{texts}
 use Rattle.trace_writer.proofs.counts.write_counts.Given as goal
 
 -- the lines of the tools so far came
 abbrev pub invariant-loop-i : goal.invariant-loop-i
 invariant-loop-i g l =
-    (k : Known) → Coming (g.K.Sink.held l.initial.out) (g.K.Sink.held l.out) (g.K.Sink.faults l.initial.out) (g.K.Sink.faults l.out)
+    (k : Known) → IsComing g.K.Sink.held g.K.Sink.faults l.initial.out l.out
     (texts k (map seat_line (seats g.T.TraceTool.tool l.bus))) (texts k (map seat_line (drop l.i (seats g.T.TraceTool.tool l.bus))))

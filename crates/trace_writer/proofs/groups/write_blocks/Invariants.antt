@@ -2,12 +2,12 @@ use Rattle.std.proofs.Common.{drop, map}
 use Rattle.block_counts.specs.SeenWords.{tallies_of}
 use Rattle.trace_lines.specs.Known.{known_in}
 use Rattle.trace_text.specs.Groups.{request_line}
-use Rattle.trace_writer.proofs.CameLaws.{Coming}
+use Rattle.trace_writer.proofs.CameLaws.{IsComing}
 use Rattle.trace_text.proofs.LineLaws.{texts}
 use Rattle.trace_writer.proofs.groups.write_blocks.Given as goal
 
 -- the lines of the requests so far came
 abbrev pub invariant-loop-seen : goal.invariant-loop-seen
 invariant-loop-seen g l =
-    Coming (g.K.Sink.held l.initial.out) (g.K.Sink.held l.out) (g.K.Sink.faults l.initial.out) (g.K.Sink.faults l.out)
+    IsComing g.K.Sink.held g.K.Sink.faults l.initial.out l.out
     (texts (known_in l.format) (map request_line (tallies_of l.requests))) (texts (known_in l.format) (map request_line (tallies_of (drop l.seen-index l.requests))))

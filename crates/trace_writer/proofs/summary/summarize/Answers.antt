@@ -1,47 +1,12 @@
-use Rattle.std.proofs.Common.{refl, ap, sym, ◌∙◌, arith}
-use Rattle.trace_tools.specs.Places.{seats}
-use Rattle.trace_text.specs.Groups.{histories}
-use Rattle.trace_writer.specs.Summaries.{summary_from}
-use Rattle.trace_writer.specs.declared.summary.Summary.{Summary}
-use Rattle.trace_text.proofs.LineLaws.{few_groups, item_number}
-use Rattle.trace_writer.proofs.ShownEntries.{shown-all, shown-group}
-use Rattle.trace_writer.proofs.SummaryLaws.{nothing-joined, summary-end, summary-next}
+use Rattle.std.proofs.Common.{ap, sym, ◌∙◌, subst}
+use Rattle.set_plays.specs.GroupSteps.{AreGroupSteps, told}
 use Rattle.trace_writer.proofs.summary.summarize.Goals as goal
 
-pub overflow_cast-i : goal.overflow_cast-i
-overflow_cast-i g c = omega (arith, c.loop-i-test.true, few_groups c.args.setup.now c.args.groups.now c.requires c.parts-parts.ensures.valid)
-
-pub summarize_group-requires-clause-number : goal.summarize_group-requires-clause-number
-summarize_group-requires-clause-number g c = item_number c.args.setup.now c.args.groups.now c.loop-i.i c.index-groups-i.result c.requires c.loop-i-test.true c.index-groups-i.is
-
-pub joined-summary-requires-clause-entries : goal.joined-summary-requires-clause-entries
-joined-summary-requires-clause-entries g c =
-    omega (arith, c.loop-i-test.true, few_groups c.args.setup.now c.args.groups.now c.requires c.parts-parts.ensures.valid, c.loop-i.invariant.entries, c.in_ok-own.ensures.entries)
-
-pub joined-summary-requires-clause-requests : goal.joined-summary-requires-clause-requests
-joined-summary-requires-clause-requests g c =
-    omega (arith, c.loop-i-test.true, few_groups c.args.setup.now c.args.groups.now c.requires c.parts-parts.ensures.valid, c.loop-i.invariant.requests, c.in_ok-own.ensures.requests)
-
-pub loop-i-preserved : goal.loop-i-preserved
-loop-i-preserved g c =
-    record {
-      summed = summary-next c.args.setup.now c.args.groups.now c.loop-i.i c.index-groups-i.result c.loop-i.summary c.in_ok-own.own c.joined-summary.result _ c.requires c.loop-i-test.true c.index-groups-i.is c.in_ok-own.ensures.summary c.joined-summary.ensures c.loop-i.invariant.summed;
-      shown = shown-group c.args.setup.now c.args.groups.now c.loop-i.i c.index-groups-i.result (seats g.T.TraceTool.tool c.loop-i.bus) (seats g.T.TraceTool.tool c.summarize_group.new.bus) c.requires c.loop-i-test.true c.index-groups-i.is c.in_ok-own.ensures.shown ∙ c.loop-i.invariant.shown;
-      entries = omega (arith, ap (λ (s : Summary). s.entries) c.joined-summary.ensures, c.loop-i.invariant.entries, c.in_ok-own.ensures.entries);
-      requests = omega (arith, ap (λ (s : Summary). s.requests) c.joined-summary.ensures, c.loop-i.invariant.requests, c.in_ok-own.ensures.requests);
-    }
+pub summarize_groups-requires : goal.summarize_groups-requires
+summarize_groups-requires g c = subst (AreGroupSteps c.args.setup.now) (sym c.as_slice.ensures.value) c.in_ok-groups.ensures.steps
 
 pub returns-clause-summary : goal.returns-clause-summary
-returns-clause-summary g c = summary-end c.args.setup.now c.args.groups.now c.loop-i.i c.loop-i.summary _ (omega (arith, c.loop-i-test.false)) c.loop-i.invariant.summed
+returns-clause-summary g c = rw (ap (told c.args.setup.now) c.as_slice.ensures.value ∙ c.in_ok-groups.ensures.told) at c.summarize_groups.ensures.summary
 
 pub returns-clause-shown : goal.returns-clause-shown
-returns-clause-shown g c =
-    sym (shown-all c.args.setup.now c.args.groups.now c.loop-i.i (seats g.T.TraceTool.tool c.loop-i.bus) (omega (arith, c.loop-i-test.false))) ∙ c.loop-i.invariant.shown
-
-pub loop-i-init : goal.loop-i-init
-loop-i-init g c = record {
-  summed = nothing-joined (summary_from c.args.setup.now 0 (histories c.args.groups.now));
-  shown = refl;
-  entries = omega arith;
-  requests = omega arith;
-}
+returns-clause-shown g c = rw (ap (told c.args.setup.now) c.as_slice.ensures.value ∙ c.in_ok-groups.ensures.told) at c.summarize_groups.ensures.shown

@@ -1,4 +1,6 @@
-use Rattle.std.proofs.Common.{sym, subst}
+use Rattle.std.proofs.Common.{Global, Vec, ℕ, sym, subst}
+use Rattle.rt_plays.specs.Drives.{steps_given}
+use Rattle.trace_course.specs.Next.{AreFollowing, IsFollowing}
 use Rattle.trace_course.specs.Places.{ArePlaces, entry_by, longer}
 use Rattle.trace_course.proofs.Places.{place-inside, places-next}
 use Rattle.trace_course.proofs.scripts.Scripts.take.Goals as goal
@@ -12,9 +14,12 @@ pass-requires c =
 pub returns-in-Some-clause-taken : goal.returns-in-Some-clause-taken
 returns-in-Some-clause-taken c = λ at ps yes.
     let np = c.in-Some.ensures at ps in
+    let steps = steps_given at.group.setup.drive in
+    let far = subst (IsFollowing steps c.in-Some.j) (sym c.distance.ensures) (ps.following_are.each c.in-Some.j np.there) in
     record {
       next = np.next;
       places_are =
-          subst (ArePlaces at.group (longer at c.args.step)) (sym c.pass.ensures)
-          (places-next at.group at.entries (entry_by at.group at.entries c.args.step) c.in-Some.j c.args.self.now.places.items ps.places_are np);
+          subst (ArePlaces at.group (longer at c.args.step)) (sym c.pass.ensures.places)
+          (places-next at.group at.entries (entry_by at.group at.entries c.args.step) c.in-Some.j c.distance.result c.args.self.now.places.items ps.places_are np far);
+      following_are = subst (λ (following : Vec ℕ Global). AreFollowing steps following.items) (sym c.pass.ensures.following) ps.following_are;
     }

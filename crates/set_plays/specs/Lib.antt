@@ -1,0 +1,4 @@
+pub mod Groups
+pub mod TurnsLeft
+pub mod GroupSteps
+pub mod StepsLeft

@@ -1,0 +1,18 @@
+use Rattle.std.proofs.Common.{◌≡◌, ◌++◌, List, length, true}
+use Rattle.json.specs.Lex.{Place, may_begin, tokens}
+use Rattle.json.specs.Token.{Token}
+use Rattle.rt_task.specs.declared.draft.DraftStep.{DraftStep}
+use Rattle.set_read.specs.Names.{names_seen}
+use Rattle.set_read.specs.Texts.{tokens_at}
+use Rattle.set_read.specs.Tokens.{SaySteps}
+use Rattle.set_read.proofs.plain_steps.steps.Given as goal
+
+-- what was found, and then what the rest is, is what all are
+abbrev pub invariant-loop-found : goal.invariant-loop-found
+invariant-loop-found l =
+    (place : Place) × (may_begin place ≡ true)
+    × ((steps : List DraftStep) (rest : List Token) → SaySteps (names_seen l.names) (tokens_at place l.left) steps rest
+    → SaySteps (names_seen l.names) (tokens l.fn.bytes) (l.found.items ++ steps) rest)
+
+abbrev pub decreases-loop-found : goal.decreases-loop-found
+decreases-loop-found l = length l.left

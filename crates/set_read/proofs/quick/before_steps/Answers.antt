@@ -1,0 +1,15 @@
+use Rattle.std.proofs.Common.{◌≡◌, ◌++◌, sym, ap, ◌∙◌}
+use Rattle.json.specs.Json.{document}
+use Rattle.serde_json.specs.Read.{read}
+use Rattle.serde_json.specs.View.{view}
+use Rattle.set_read.specs.Texts.{closing}
+use Rattle.set_read.proofs.OpenLaws.{opens_steps}
+use Rattle.set_read.proofs.quick.before_steps.Goals as goal
+
+pub returns-in-Ok : goal.returns-in-Ok
+returns-in-Ok c =
+    let text = c.args.text.now in
+    let whole : c.as_slice.result.now ≡ text ++ closing = c.as_slice.ensures.value ∙ c.in_ok-whole.ensures in
+    let again : c.as_slice-2.result.now ≡ text ++ closing = c.as_slice-2.ensures.value ∙ c.in_ok-whole.ensures in
+    let known = c.ends_with_no_steps.ensures c.if-not-ends_with_no_steps.false in
+    opens_steps text known.0 (view c.in-Ok.value) (ap document (sym whole) ∙ known.1) (ap read (sym again) ∙ c.in-Ok.ensures.ok.1)

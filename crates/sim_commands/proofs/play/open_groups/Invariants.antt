@@ -1,8 +1,0 @@
-use Rattle.std.proofs.Common.{◌≡◌, map}
-use Rattle.rt_rules.specs.Numbers.{numbers_from}
-use Rattle.sim_commands.specs.Groups.{opened}
-use Rattle.sim_commands.proofs.play.open_groups.Given as goal
-
--- the groups below n are opened
-abbrev pub invariant-loop-n : goal.invariant-loop-n
-invariant-loop-n l = l.engines.items ≡ map (opened l.setup) (numbers_from 0 l.n)

@@ -1,0 +1,131 @@
+use Rattle.std.proofs.Common.{◌≡◌, ◌+◌, ◌≤◌, ℕ, true, false, List, ◌++◌, Some, drop, length, rules, refl, sym, ap, ◌∙◌, subst, arith}
+use Rattle.rt_base.specs.declared.TheConstants.{MOST_STEPS}
+use Rattle.rt_task.specs.declared.Parts.{Parts}
+use Rattle.rt_task.specs.declared.Step.{Step}
+use Rattle.rt_history.specs.declared.Entry.{Entry}
+use Rattle.rt_model.specs.Group.{Group}
+use Rattle.rt_model.specs.Histories.{after, changed, past_of, reply_to}
+use Rattle.rank_afresh.specs.Standing.{group_of}
+use Rattle.trace_lines.specs.Grammar.{line_text}
+use Rattle.trace_lines.specs.Known.{IsLine, known_of}
+use Rattle.trace_lines.specs.Lines.{Link, entry_line, links_of}
+use Rattle.trace_text.specs.Groups.{cpu_numbers}
+use Rattle.trace_text.specs.TraceText.{links_at}
+use Rattle.trace_course.specs.Courses.{HasGone}
+use Rattle.trace_check.specs.declared.follow.Follow.{Follow}
+use Rattle.trace_check.specs.GroupLines.{next_line}
+use Rattle.trace_check.specs.GroupLinks.{HaveChanged}
+use Rattle.trace_check.proofs.Accepting.{can-take, can_step, count-low, can-read, entry-same, following-next, line-same, same-step}
+use Rattle.trace_check.proofs.follow.Follow.take_line.Goals as goal
+
+pub step-reply-requires : goal.step-reply-requires
+step-reply-requires c =
+    let at = c.requires.0 in
+    let fw = c.requires.1 in
+    let gone = c.take.ensures.taken at (can-take at c.args.setup.now c.args.self.now fw) c.if-not-take.false in
+    (at, can_step at c.args.setup.now c.args.self.now fw c.in-Some.step gone.next c.take.new.self)
+
+pub follow-requires : goal.follow-requires
+follow-requires c =
+    let at = c.requires.0 in
+    let fw = c.requires.1 in
+    let step = c.in-Some.step in
+    let gone = c.take.ensures.taken at (can-take at c.args.setup.now c.args.self.now fw) c.if-not-take.false in
+    let can = can_step at c.args.setup.now c.args.self.now fw step gone.next c.take.new.self in (
+      past_of at.group at.entries,
+      step,
+      can-read at c.args.setup.now c.args.self.now fw step gone.next _ _ (c.step-reply.ensures.group ∙ fw.following.group_is)
+          (ap (λ (f : Follow). f.links) c.step-reply.ensures.others) (c.step-reply.ensures.at at can),
+    )
+
+pub returns-then-not-begins_with : goal.returns-then-not-begins_with
+returns-then-not-begins_with c = λ at fw i e links more known here next.
+    let p = c.args.setup.now in
+    let v = c.args.version in
+    let step = c.in-Some.step in
+    let past = past_of at.group at.entries in
+    let gone = c.take.ensures.taken at (can-take at p c.args.self.now fw) c.if-not-take.false in
+    let can = can_step at p c.args.self.now fw step gone.next c.take.new.self in
+    let is : group_of c.step-reply.new.self.afresh ≡ at.group = c.step-reply.ensures.group ∙ fw.following.group_is in
+    let read = can-read at p c.args.self.now fw step gone.next _ _ is (ap (λ (f : Follow). f.links) c.step-reply.ensures.others) (c.step-reply.ensures.at at can) in
+    let now : HaveChanged at.group past step c.follow.new.self = subst (λ (g : Group). HaveChanged g past step c.follow.new.self) is (c.in_ok-follow.ensures _ step read) in
+    let said : c.step_said.result ≡ Some e.step =
+    c.step_said.ensures at v fw i e links more (subst (λ (q : Parts). IsLine (known_of v q) (entry_line i e links)) (sym fw.setup_is) known)
+    (here ∙ ap (λ (q : Parts). line_text (known_of v q) (entry_line i e links) ++ more) (sym fw.setup_is)) next.next in
+    let same : e.step ≡ step = same-step e.step step (sym said ∙ c.in-Some.is) in
+    let reply = next.reply_is ∙ ap (λ (s : Step). reply_to at.group s past) same ∙ sym (c.step-reply.ensures.reply at can) in
+    let shown : links ≡ links_of c.changed.result.now =
+    next.links_are ∙ ap (λ (s : Step). links_at at.group (after at.group s past) (changed at.group past (after at.group s past))) same ∙ sym (ap links_of c.changed.ensures ∙ now.changed_are) in
+    let number : i ≡ c.step-reply.new.self.count = next.number ∙ sym fw.following.count_is ∙ sym (ap (λ (f : Follow). f.count) c.step-reply.ensures.others) in
+    let line : line_text (known_of v at.group.setup) (entry_line i e links) ≡ c.as_slice.result.now =
+    line-same v p at.group.setup i _ e (record { step = step; reply = c.step-reply.result }) links _ fw.setup_is number (entry-same e step c.step-reply.result same reply) shown
+    ∙ sym c.in_ok-make_entry_line.ensures ∙ sym c.as_slice.ensures.value in
+    c.begins_with.ensures.no c.if-not-begins_with.true more (here ∙ ap (λ (xs : List ℕ). xs ++ more) line)
+
+pub look-requires : goal.look-requires
+look-requires c =
+    let at = c.requires.0 in
+    let fw = c.requires.1 in
+    let step = c.in-Some.step in
+    let gone = c.take.ensures.taken at (can-take at c.args.setup.now c.args.self.now fw) c.if-not-take.false in
+    let can = can_step at c.args.setup.now c.args.self.now fw step gone.next c.take.new.self in
+    let is : group_of c.step-reply.new.self.afresh ≡ at.group = c.step-reply.ensures.group ∙ fw.following.group_is in
+    let read = can-read at c.args.setup.now c.args.self.now fw step gone.next _ _ is (ap (λ (f : Follow). f.links) c.step-reply.ensures.others) (c.step-reply.ensures.at at can) in
+    let now : HaveChanged at.group (past_of at.group at.entries) step c.follow.new.self = subst (λ (g : Group). HaveChanged g (past_of at.group at.entries) step c.follow.new.self) is (c.in_ok-follow.ensures _ step read) in (
+      at,
+      step,
+      record {
+        setup_is = fw.setup_is;
+        group_is = is;
+        stands = c.step-reply.ensures.at at can;
+        cpus_are = ap cpu_numbers c.cpus.ensures ∙ now.links_are.cpus_are;
+      },
+    )
+
+pub overflow_add-self : goal.overflow_add-self
+overflow_add-self c =
+    let at = c.requires.0 in
+    let fw = c.requires.1 in
+    let gone = c.take.ensures.taken at (can-take at c.args.setup.now c.args.self.now fw) c.if-not-take.false in
+    let low : c.args.self.now.count + 1 ≤ MOST_STEPS = count-low at c.args.setup.now c.args.self.now fw c.in-Some.step gone.next in
+    let same : c.step-reply.new.self.count ≡ c.args.self.now.count = ap (λ (f : Follow). f.count) c.step-reply.ensures.others in
+    search rules
+
+pub returns : goal.returns
+returns c = λ at fw.
+    let p = c.args.setup.now in
+    let v = c.args.version in
+    let step = c.in-Some.step in
+    let past = past_of at.group at.entries in
+    let gone = c.take.ensures.taken at (can-take at p c.args.self.now fw) c.if-not-take.false in
+    let can = can_step at p c.args.self.now fw step gone.next c.take.new.self in
+    let is : group_of c.step-reply.new.self.afresh ≡ at.group = c.step-reply.ensures.group ∙ fw.following.group_is in
+    let read = can-read at p c.args.self.now fw step gone.next _ _ is (ap (λ (f : Follow). f.links) c.step-reply.ensures.others) (c.step-reply.ensures.at at can) in
+    let now : HaveChanged at.group past step c.follow.new.self = subst (λ (g : Group). HaveChanged g past step c.follow.new.self) is (c.in_ok-follow.ensures _ step read) in
+    let kept : c.step-reply.new.self.course ≡ c.take.new.self = ap (λ (f : Follow). f.course) c.step-reply.ensures.others in
+    let made : Entry = record { step = step; reply = c.step-reply.result } in
+    let number : length at.entries ≡ c.step-reply.new.self.count = sym fw.following.count_is ∙ sym (ap (λ (f : Follow). f.count) c.step-reply.ensures.others) in
+    record {
+      following = following-next at p c.args.self.now fw step gone.next made _ refl (c.step-reply.ensures.reply at can) (record {
+        group_same = c.step-reply.ensures.group;
+        spare_less = c.step-reply.ensures.spare;
+        at_after = c.step-reply.ensures.at at can;
+        count_more = ap (λ (f : Follow). f.count + 1) c.step-reply.ensures.others;
+        links_after = now.links_are;
+        counted_after = c.step-reply.ensures.counted at can;
+        blocks_same = c.step-reply.ensures.same;
+        blocks_less = c.step-reply.ensures.room;
+        room_same = c.step-reply.ensures.waiting;
+        course_after = c.look.ensures at step (record {
+          setup_is = fw.setup_is;
+          group_is = is;
+          stands = c.step-reply.ensures.at at can;
+          cpus_are = ap cpu_numbers c.cpus.ensures ∙ now.links_are.cpus_are;
+        }) (subst (HasGone at step) (sym kept) gone);
+      });
+      line_is =
+          c.in_ok-make_entry_line.ensures
+          ∙ sym (line-same v p at.group.setup (length at.entries) _ made made (links_at at.group (after at.group step past) (changed at.group past (after at.group step past))) _ fw.setup_is number refl
+          (sym (ap links_of c.changed.ensures ∙ now.changed_are)));
+      begins = subst (λ (xs : List ℕ). c.args.text.now ≡ xs ++ drop (length xs) c.args.text.now) c.as_slice.ensures.value (c.begins_with.ensures.yes c.if-not-begins_with.false);
+    }

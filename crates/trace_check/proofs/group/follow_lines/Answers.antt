@@ -1,0 +1,168 @@
+use Rattle.std.proofs.Common.{◌≡◌, ℕ, ◌+◌, ◌-◌, ◌≤◌, Bool, List, drop, length, take, rules, refl, sym, ap, ◌∙◌, subst, arith}
+use Rattle.std.proofs.lemmas.Result.{IfOk-weaker}
+use Rattle.trace_lines.specs.Known.{known_of}
+use Rattle.trace_lines.specs.Lines.{Line, group_line, links_of}
+use Rattle.trace_tools.specs.Places.{seats}
+use Rattle.trace_tools.specs.Seats.{Seat}
+use Rattle.trace_course.specs.Places.{Place}
+use Rattle.trace_check.specs.declared.progress.Entries.{Entries}
+use Rattle.trace_check.specs.declared.progress.Followed.{Followed}
+use Rattle.trace_check.specs.Following.{IsFollowingWith}
+use Rattle.trace_check.specs.Progress.{AreFollowed, AreRight, HasStood, IsEndedAt, IsFollowedTo, IsRight}
+use Rattle.trace_check.proofs.Judging.{ended-there, entries-few, followed-with, group-low, opened-line, opened-right, opened-wrong, place-short, place_at, right-short}
+use Rattle.trace_check.proofs.TextPlaces.{begins-rest, rest-of, taken-inside}
+use Rattle.trace_check.proofs.group.follow_lines.Goals as goal
+
+pub returns-then-not-branch : goal.returns-then-not-branch
+returns-then-not-branch g c = λ opened before.
+    let v = c.args.version in
+    let p = c.args.setup.now in
+    let text = c.args.text.now in
+    let n = c.args.group.0 in
+    let l : Line = group_line n (links_of c.args.follow.now.links.links.items) in
+    let none = subst (λ (b : Bool). HasStood (known_of v p) l (take (length text - c.args.from.length) (drop c.args.from.length text)) c.begins.new.line.items b) c.if-not-branch.true c.in_ok-begins.ensures in
+    opened-wrong v p text n c.args.from opened (seats g.T.TraceTool.tool c.args.bus.now) before c.requires.opened.valid (group-low p n c.requires.opened.valid c.requires.group) l
+    (opened-line n c.args.follow.now c.requires.opened) (λ more is. none more (rest-of c.args.from.length text ∙ is))
+
+pub overflow_add-begin : goal.overflow_add-begin
+overflow_add-begin g c =
+    let v = c.args.version in
+    let p = c.args.setup.now in
+    let text = c.args.text.now in
+    let l : Line = group_line c.args.group.0 (links_of c.args.follow.now.links.links.items) in
+    let stood = subst (λ (b : Bool). HasStood (known_of v p) l (take (length text - c.args.from.length) (drop c.args.from.length text)) c.begins.new.line.items b) c.if-not-branch.false c.in_ok-begins.ensures in
+    let inside : c.args.from.length + length c.as_slice.result.now ≤ length text =
+    taken-inside text c.begins.new.line.items c.as_slice.result.now c.args.from.length c.requires.before.1.within (begins-rest c.args.from.length text _ _ refl stood.1) c.as_slice.ensures.value in
+    search rules
+
+pub follow_entries-requires : goal.follow_entries-requires
+follow_entries-requires g c =
+    let v = c.args.version in
+    let p = c.args.setup.now in
+    let text = c.args.text.now in
+    let first = seats g.T.TraceTool.tool c.args.bus.now in
+    let l : Line = group_line c.args.group.0 (links_of c.args.follow.now.links.links.items) in
+    let stood = subst (λ (b : Bool). HasStood (known_of v p) l (take (length text - c.args.from.length) (drop c.args.from.length text)) c.begins.new.line.items b) c.if-not-branch.false c.in_ok-begins.ensures in (
+      c.args.from,
+      c.requires.before.0,
+      first,
+      subst (λ (xs : List ℕ). IsRight v p text c.args.group.0 c.args.from (c.args.from.length + length xs) c.args.follow.now c.requires.before.0 first first) (sym c.as_slice.ensures.value)
+          (opened-right v p text c.args.group.0 c.args.from c.requires.before.0 first c.requires.before.1 c.args.follow.now c.begins.new.line.items c.requires.opened stood.0
+          (begins-rest c.args.from.length text _ _ refl stood.1)),
+    )
+
+pub ended_at-requires-clause-follows : goal.ended_at-requires-clause-follows
+ended_at-requires-clause-follows g c =
+    let v = c.args.version in
+    let p = c.args.setup.now in
+    let text = c.args.text.now in
+    let first = seats g.T.TraceTool.tool c.args.bus.now in
+    let last = seats g.T.TraceTool.tool c.follow_entries.new.bus in
+    let n = c.args.group.0 in
+    let from = c.args.from in
+    let l : Line = group_line n (links_of c.args.follow.now.links.links.items) in
+    let stood = subst (λ (b : Bool). HasStood (known_of v p) l (take (length text - c.args.from.length) (drop c.args.from.length text)) c.begins.new.line.items b) c.if-not-branch.false c.in_ok-begins.ensures in
+    let begun = subst (λ (xs : List ℕ). IsRight v p text n from (from.length + length xs) c.args.follow.now c.requires.before.0 first first) (sym c.as_slice.ensures.value)
+    (opened-right v p text n from c.requires.before.0 first c.requires.before.1 c.args.follow.now c.begins.new.line.items c.requires.opened stood.0 (begins-rest from.length text _ _ refl stood.1)) in
+    let followed = subst (λ (e : Entries). AreFollowed v p text n from c.follow_entries.new.follow c.requires.before.0 first last e) c.in-Right.is (c.in_ok-entries.ensures from c.requires.before.0 first begun) in
+    (place_at v p text followed.0, followed-with v p text followed.0)
+
+pub ended_at-requires-clause-few : goal.ended_at-requires-clause-few
+ended_at-requires-clause-few g c =
+    let v = c.args.version in
+    let p = c.args.setup.now in
+    let text = c.args.text.now in
+    let first = seats g.T.TraceTool.tool c.args.bus.now in
+    let last = seats g.T.TraceTool.tool c.follow_entries.new.bus in
+    let n = c.args.group.0 in
+    let from = c.args.from in
+    let l : Line = group_line n (links_of c.args.follow.now.links.links.items) in
+    let stood = subst (λ (b : Bool). HasStood (known_of v p) l (take (length text - c.args.from.length) (drop c.args.from.length text)) c.begins.new.line.items b) c.if-not-branch.false c.in_ok-begins.ensures in
+    let begun = subst (λ (xs : List ℕ). IsRight v p text n from (from.length + length xs) c.args.follow.now c.requires.before.0 first first) (sym c.as_slice.ensures.value)
+    (opened-right v p text n from c.requires.before.0 first c.requires.before.1 c.args.follow.now c.begins.new.line.items c.requires.opened stood.0 (begins-rest from.length text _ _ refl stood.1)) in
+    let followed = subst (λ (e : Entries). AreFollowed v p text n from c.follow_entries.new.follow c.requires.before.0 first last e) c.in-Right.is (c.in_ok-entries.ensures from c.requires.before.0 first begun) in
+    entries-few v p text n from c.in-Right.size c.follow_entries.new.follow c.requires.before.0 first last followed.0
+
+pub ended_at-requires-clause-within : goal.ended_at-requires-clause-within
+ended_at-requires-clause-within g c =
+    let v = c.args.version in
+    let p = c.args.setup.now in
+    let text = c.args.text.now in
+    let first = seats g.T.TraceTool.tool c.args.bus.now in
+    let last = seats g.T.TraceTool.tool c.follow_entries.new.bus in
+    let n = c.args.group.0 in
+    let from = c.args.from in
+    let l : Line = group_line n (links_of c.args.follow.now.links.links.items) in
+    let stood = subst (λ (b : Bool). HasStood (known_of v p) l (take (length text - c.args.from.length) (drop c.args.from.length text)) c.begins.new.line.items b) c.if-not-branch.false c.in_ok-begins.ensures in
+    let begun = subst (λ (xs : List ℕ). IsRight v p text n from (from.length + length xs) c.args.follow.now c.requires.before.0 first first) (sym c.as_slice.ensures.value)
+    (opened-right v p text n from c.requires.before.0 first c.requires.before.1 c.args.follow.now c.begins.new.line.items c.requires.opened stood.0 (begins-rest from.length text _ _ refl stood.1)) in
+    let followed = subst (λ (e : Entries). AreFollowed v p text n from c.follow_entries.new.follow c.requires.before.0 first last e) c.in-Right.is (c.in_ok-entries.ensures from c.requires.before.0 first begun) in
+    followed.0.within
+
+pub ended_at-requires-clause-places : goal.ended_at-requires-clause-places
+ended_at-requires-clause-places g c =
+    let v = c.args.version in
+    let p = c.args.setup.now in
+    let text = c.args.text.now in
+    let first = seats g.T.TraceTool.tool c.args.bus.now in
+    let last = seats g.T.TraceTool.tool c.follow_entries.new.bus in
+    let n = c.args.group.0 in
+    let from = c.args.from in
+    let l : Line = group_line n (links_of c.args.follow.now.links.links.items) in
+    let stood = subst (λ (b : Bool). HasStood (known_of v p) l (take (length text - c.args.from.length) (drop c.args.from.length text)) c.begins.new.line.items b) c.if-not-branch.false c.in_ok-begins.ensures in
+    let begun = subst (λ (xs : List ℕ). IsRight v p text n from (from.length + length xs) c.args.follow.now c.requires.before.0 first first) (sym c.as_slice.ensures.value)
+    (opened-right v p text n from c.requires.before.0 first c.requires.before.1 c.args.follow.now c.begins.new.line.items c.requires.opened stood.0 (begins-rest from.length text _ _ refl stood.1)) in
+    let followed = subst (λ (e : Entries). AreFollowed v p text n from c.follow_entries.new.follow c.requires.before.0 first last e) c.in-Right.is (c.in_ok-entries.ensures from c.requires.before.0 first begun) in
+    place-short v p text n from c.in-Right.size c.follow_entries.new.follow c.requires.before.0 first last followed.0
+
+pub returns-in-Right : goal.returns-in-Right
+returns-in-Right g c =
+    let v = c.args.version in
+    let p = c.args.setup.now in
+    let text = c.args.text.now in
+    let first = seats g.T.TraceTool.tool c.args.bus.now in
+    let last = seats g.T.TraceTool.tool c.follow_entries.new.bus in
+    let n = c.args.group.0 in
+    let from = c.args.from in
+    let l : Line = group_line n (links_of c.args.follow.now.links.links.items) in
+    let stood = subst (λ (b : Bool). HasStood (known_of v p) l (take (length text - c.args.from.length) (drop c.args.from.length text)) c.begins.new.line.items b) c.if-not-branch.false c.in_ok-begins.ensures in
+    IfOk-weaker c.ended_at.result
+    (λ (f : Followed). (at : Place) → IsFollowingWith at p c.follow_entries.new.follow → IsEndedAt at (known_of v p) (drop c.in-Right.size text) from c.follow_entries.new.follow.count c.in-Right.size f)
+    (λ (f : Followed). (opened : List Seat) → AreRight v p text n from opened first → IsFollowedTo v p text n opened last f)
+    (λ f ended opened before.
+    let begun = subst (λ (xs : List ℕ). IsRight v p text n from (from.length + length xs) c.args.follow.now opened first first) (sym c.as_slice.ensures.value)
+    (opened-right v p text n from opened first before c.args.follow.now c.begins.new.line.items c.requires.opened stood.0 (begins-rest from.length text _ _ refl stood.1)) in
+    let followed = subst (λ (e : Entries). AreFollowed v p text n from c.follow_entries.new.follow opened first last e) c.in-Right.is (c.in_ok-entries.ensures from opened first begun) in
+    ended-there v p text n from c.in-Right.size c.follow_entries.new.follow opened first last followed.0 f followed.1 (ended (place_at v p text followed.0) (followed-with v p text followed.0)))
+    c.ended_at.ensures
+
+pub returns-in-WrongAfter : goal.returns-in-WrongAfter
+returns-in-WrongAfter g c = λ opened before.
+    let v = c.args.version in
+    let p = c.args.setup.now in
+    let text = c.args.text.now in
+    let first = seats g.T.TraceTool.tool c.args.bus.now in
+    let last = seats g.T.TraceTool.tool c.follow_entries.new.bus in
+    let n = c.args.group.0 in
+    let from = c.args.from in
+    let l : Line = group_line n (links_of c.args.follow.now.links.links.items) in
+    let stood = subst (λ (b : Bool). HasStood (known_of v p) l (take (length text - c.args.from.length) (drop c.args.from.length text)) c.begins.new.line.items b) c.if-not-branch.false c.in_ok-begins.ensures in
+    let begun = subst (λ (xs : List ℕ). IsRight v p text n from (from.length + length xs) c.args.follow.now opened first first) (sym c.as_slice.ensures.value)
+    (opened-right v p text n from opened first before c.args.follow.now c.begins.new.line.items c.requires.opened stood.0 (begins-rest from.length text _ _ refl stood.1)) in
+    let followed = subst (λ (e : Entries). AreFollowed v p text n from c.follow_entries.new.follow opened first last e) c.in-WrongAfter.is (c.in_ok-entries.ensures from opened first begun) in
+    followed
+
+pub overflow_add-result : goal.overflow_add-result
+overflow_add-result g c =
+    let few : c.args.from.lines ≤ c.args.from.length = right-short c.args.version c.args.setup.now c.args.text.now c.args.group.0 c.args.from c.requires.before.0 (seats g.T.TraceTool.tool c.args.bus.now) c.requires.before.1 in
+    let within : c.args.from.length ≤ length c.args.text.now = c.requires.before.1.within in
+    search rules
+
+pub overflow_add-result-in-WrongAfter : goal.overflow_add-result-in-WrongAfter
+overflow_add-result-in-WrongAfter g c =
+    let few : c.args.from.lines ≤ c.args.from.length = right-short c.args.version c.args.setup.now c.args.text.now c.args.group.0 c.args.from c.requires.before.0 (seats g.T.TraceTool.tool c.args.bus.now) c.requires.before.1 in
+    let within : c.args.from.length ≤ length c.args.text.now = c.requires.before.1.within in
+    search rules
+
+pub slice_bounds-begins-count : goal.slice_bounds-begins-count
+slice_bounds-begins-count g c = c.requires.before.1.within

@@ -1,0 +1,94 @@
+use Rattle.std.proofs.Common.{◌≡◌, ◌+◌, ℕ, List, map, sym, ap, ◌∙◌, subst, arith}
+use Rattle.std.proofs.lemmas.Result.{IfOk-weaker}
+use Rattle.rt_task.specs.declared.Parts.{Parts}
+use Rattle.rt_plays.specs.Plays.{group_count}
+use Rattle.rt_groups.proofs.GroupCount.{groups_are_counted}
+use Rattle.trace_lines.specs.declared.format.Version.{Version}
+use Rattle.trace_tools.specs.Places.{seats}
+use Rattle.trace_tools.specs.Seats.{Seat, seat_of}
+use Rattle.trace_tools.specs.Tools.{Tool}
+use Rattle.trace_check.specs.declared.progress.Followed.{Followed}
+use Rattle.trace_check.specs.declared.verdict.Verdict.{Verdict}
+use Rattle.trace_check.specs.declared.verdict.Verdict.TheVariants.{Invalid}
+use Rattle.trace_check.specs.Judging.{IsJudgedText, IsShownText}
+use Rattle.trace_check.specs.Progress.{AreAllRight, AreRight, IsFollowedTo}
+use Rattle.trace_check.proofs.Judging.{right-first, right-short}
+use Rattle.trace_check.proofs.judge.judge_text.Goals as goal
+
+pub loop-n-init : goal.loop-n-init
+loop-n-init g c = right-first c.args.version c.args.setup.now c.args.text.now (seats g.T.TraceTool.tool c.args.bus.now)
+
+pub follow_group-requires : goal.follow_group-requires
+follow_group-requires g c = record {
+  group = (groups_are_counted c.args.setup.now c.loop-n.n c.parts-parts.ensures.valid).1 (omega (arith, c.loop-n-test.true, c.count_groups-n-end.ensures));
+  before = (seats g.T.TraceTool.tool c.args.bus.now, c.loop-n.invariant);
+}
+
+pub returns-in-Wrong-clause-judged : goal.returns-in-Wrong-clause-judged
+returns-in-Wrong-clause-judged g c =
+    let v = c.args.version in
+    let p = c.args.setup.now in
+    let text = c.args.text.now in
+    let first = seats g.T.TraceTool.tool c.args.bus.now in
+    let followed = subst (λ (f : Followed). (opened : List Seat) → AreRight v p text c.loop-n.n c.loop-n.right opened (seats g.T.TraceTool.tool c.loop-n.bus) → IsFollowedTo v p text c.loop-n.n opened (seats g.T.TraceTool.tool c.follow_group.new.bus) f) c.in-Wrong.is c.in_ok-further.ensures in
+    let judged = followed first c.loop-n.invariant in
+    IfOk-weaker c.wrong_at.result (λ (x : Verdict). x ≡ Invalid (c.in-Wrong.place + 3))
+    (λ (x : Verdict). (tools : List Tool) → first ≡ map seat_of tools → IsJudgedText tools v p text x)
+    (λ x is tools opened. subst (IsJudgedText tools v p text) (sym is) (judged tools))
+    c.wrong_at.ensures
+
+pub returns-in-Wrong-clause-shown : goal.returns-in-Wrong-clause-shown
+returns-in-Wrong-clause-shown g c =
+    let v = c.args.version in
+    let p = c.args.setup.now in
+    let text = c.args.text.now in
+    let first = seats g.T.TraceTool.tool c.args.bus.now in
+    let last = seats g.T.TraceTool.tool c.follow_group.new.bus in
+    IfOk-weaker c.wrong_at.result (λ (x : Verdict). x ≡ Invalid (c.in-Wrong.place + 3))
+    (λ (x : Verdict). (tools : List Tool) → first ≡ map seat_of tools → IsShownText tools v p text last x)
+    (λ x is tools opened. subst (IsShownText tools v p text last) (sym is) (λ bytes head. tt))
+    c.wrong_at.ensures
+
+pub loop-n-preserved : goal.loop-n-preserved
+loop-n-preserved g c =
+    let v = c.args.version in
+    let p = c.args.setup.now in
+    let text = c.args.text.now in
+    let followed = subst (λ (f : Followed). (opened : List Seat) → AreRight v p text c.loop-n.n c.loop-n.right opened (seats g.T.TraceTool.tool c.loop-n.bus) → IsFollowedTo v p text c.loop-n.n opened (seats g.T.TraceTool.tool c.follow_group.new.bus) f) c.in-Whole.is c.in_ok-further.ensures in
+    followed (seats g.T.TraceTool.tool c.args.bus.now) c.loop-n.invariant
+
+pub end_at-requires : goal.end_at-requires
+end_at-requires g c = record {
+  within = c.loop-n.invariant.within;
+  places = right-short c.args.version c.args.setup.now c.args.text.now c.loop-n.n c.loop-n.right (seats g.T.TraceTool.tool c.args.bus.now) (seats g.T.TraceTool.tool c.loop-n.bus) c.loop-n.invariant;
+}
+
+pub returns-clause-judged : goal.returns-clause-judged
+returns-clause-judged g c =
+    let v = c.args.version in
+    let p = c.args.setup.now in
+    let text = c.args.text.now in
+    let first = seats g.T.TraceTool.tool c.args.bus.now in
+    let last = seats g.T.TraceTool.tool c.loop-n.bus in
+    let n : c.loop-n.n ≡ group_count p = omega (arith, c.loop-n-test.false, c.loop-n.auto.n-end, c.count_groups-n-end.ensures) in
+    let right : AreRight v p text (group_count p) c.loop-n.right first last = subst (λ (m : ℕ). AreRight v p text m c.loop-n.right first last) n c.loop-n.invariant in
+    IfOk-weaker c.end_at.result
+    (λ (x : Verdict). (w : Version) (q : Parts) (tools : List Tool) → AreAllRight w q text c.loop-n.right (map seat_of tools) last → IsJudgedText tools w q text x)
+    (λ (x : Verdict). (tools : List Tool) → first ≡ map seat_of tools → IsJudgedText tools v p text x)
+    (λ x judged tools opened. judged v p tools (record { valid = c.parts-parts.ensures.valid; right = subst (λ (ss : List Seat). AreRight v p text (group_count p) c.loop-n.right ss last) opened right }))
+    c.end_at.ensures.judged
+
+pub returns-clause-shown : goal.returns-clause-shown
+returns-clause-shown g c =
+    let v = c.args.version in
+    let p = c.args.setup.now in
+    let text = c.args.text.now in
+    let first = seats g.T.TraceTool.tool c.args.bus.now in
+    let last = seats g.T.TraceTool.tool c.loop-n.bus in
+    let n : c.loop-n.n ≡ group_count p = omega (arith, c.loop-n-test.false, c.loop-n.auto.n-end, c.count_groups-n-end.ensures) in
+    let right : AreRight v p text (group_count p) c.loop-n.right first last = subst (λ (m : ℕ). AreRight v p text m c.loop-n.right first last) n c.loop-n.invariant in
+    IfOk-weaker c.end_at.result
+    (λ (x : Verdict). (w : Version) (q : Parts) (tools : List Tool) → AreAllRight w q text c.loop-n.right (map seat_of tools) last → IsShownText tools w q text last x)
+    (λ (x : Verdict). (tools : List Tool) → first ≡ map seat_of tools → IsShownText tools v p text last x)
+    (λ x shown tools opened. shown v p tools (record { valid = c.parts-parts.ensures.valid; right = subst (λ (ss : List Seat). AreRight v p text (group_count p) c.loop-n.right ss last) opened right }))
+    c.end_at.ensures.shown

@@ -1,3 +1,0 @@
-pub mod StepsTaken
-pub mod TurnSteps
-pub mod TurnsAhead
