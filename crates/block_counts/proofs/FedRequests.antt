@@ -8,8 +8,8 @@ use Rattle.rt_task.specs.declared.Act.{Act}
 use Rattle.rt_task.specs.declared.Op.TheVariants as ops
 use Rattle.rt_task.specs.declared.Op.{Op}
 use Rattle.rt_task.specs.declared.Parts.{Parts}
-use Rattle.rt_history.specs.declared.Entry.{Entry}
-use Rattle.rt_history.specs.declared.Reply.{Reply}
+use Rattle.rt_rules.specs.declared.history.Entry.{Entry}
+use Rattle.rt_rules.specs.declared.history.Reply.{Reply}
 use Rattle.rt_rules.specs.SemState.{Asks, Neither, SemAct}
 use Rattle.rt_model.specs.Blocking.{bound}
 use Rattle.rt_model.specs.Group.{Group}

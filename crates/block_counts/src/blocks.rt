@@ -17,7 +17,7 @@ use crate::bounds::{bound_of, no_user_counts};
 use crate::requests::{ask, count_end, no_places, no_requests};
 use crate::seen::{Seen, Waiting};
 use rt_base::{GroupNo, NoMemory, TaskNo};
-use rt_history::Entry;
+use rt_rules::Entry;
 use rt_task::Setup;
 use std::alloc::Global;
 use std::marker::Model;
@@ -88,7 +88,7 @@ impl Blocks {
 
     /// Takes an entry of the group, with what its processor runs and, where it frees a semaphore, which tasks wait for
     /// that; both are as they stand between the two moves of its step, so a task that the entry grants the semaphore still
-    /// waits. The caller tells them: `waiting_list` lists them.
+    /// waits. The caller tells them: `group_core` lists them.
     ///
     /// There must be room for the entry, the running task and the semaphore of a Lock must be of the setup, and no task may
     /// stand twice in `waiting`.

@@ -8,7 +8,7 @@ use Rattle.rt_task.specs.declared.Act.TheVariants as acts
 use Rattle.rt_task.specs.declared.Act.{Act}
 use Rattle.rt_task.specs.declared.Op.TheVariants as ops
 use Rattle.rt_task.specs.declared.Op.{Op}
-use Rattle.rt_history.specs.declared.Entry.{Entry}
+use Rattle.rt_rules.specs.declared.history.Entry.{Entry}
 use Rattle.rt_rules.specs.SemState.{Asks, Frees, Neither, SemAct}
 use Rattle.rt_model.specs.Answers.{np_on}
 use Rattle.rt_model.specs.Group.{Group, cluster_with}

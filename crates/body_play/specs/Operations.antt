@@ -3,7 +3,7 @@ use Rattle.std.specs.Prelude.{ℕ, ◌-◌, Bool, false, not, ◌||◌, List, Op
 use Rattle.rt_task.specs.declared.Op.{Op}
 use Rattle.rt_task.specs.declared.Op.TheVariants.{Work}
 use Rattle.rt_task.specs.declared.Task.{Task}
-use Rattle.rt_history.specs.declared.Situation.{Situation}
+use Rattle.rt_rules.specs.declared.history.Situation.{Situation}
 use Rattle.rt_model.specs.Group.{no_task}
 
 -- the operation at a place of the body of a task, which is named by its number

@@ -11,7 +11,7 @@ ghost use Rattle.rt_plays.specs.Plays.{group_with};
 ghost use Rattle.body_play.specs.Operations as operations;
 
 use rt_base::TaskNo;
-use rt_history::Situation;
+use rt_rules::Situation;
 use rt_task::{Act, Op, Setup, Task};
 
 fn operation_at(tasks: &[Task], runs: TaskNo, at: u32) -> Option<Op>

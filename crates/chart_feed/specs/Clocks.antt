@@ -2,7 +2,7 @@
 use Rattle.std.specs.Prelude.{◌≡◌, ℕ, ◌<◌, Bool, List, [], ◌∷◌, ◌++◌, length, Option, None, Some, if◌then◌else◌, slice_index_or}
 use Rattle.rt_task.specs.declared.Act.{Act}
 use Rattle.rt_task.specs.declared.Act.TheVariants.{Arrive}
-use Rattle.rt_history.specs.declared.Reply.{Reply}
+use Rattle.rt_rules.specs.declared.history.Reply.{Reply}
 use Rattle.rt_model.specs.Past.{Past, accepted}
 use Rattle.rt_model.specs.Releases.{arrivals}
 use Rattle.chart_feed.specs.Times.{end_clocks}

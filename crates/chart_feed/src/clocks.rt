@@ -9,7 +9,7 @@ ghost use Rattle.chart_feed.specs.Clocks.{Keeps, clocks_at};
 
 use chart_rows::is_accepted;
 use rt_base::{NoMemory, TaskNo};
-use rt_history::Reply;
+use rt_rules::Reply;
 use rt_task::Act;
 use std::alloc::Global;
 use std::marker::Model;

@@ -17,7 +17,7 @@ ghost use Rattle.chart_rows.specs.Looks.{state_doing};
 use chart_cells::{Cell, CpuCell, Doing, Playing};
 use rank_afresh::Afresh;
 use rt_base::{CpuNo, NoMemory, SemNo, TaskNo};
-use rt_order::Key;
+use rt_rules::Key;
 use std::alloc::Global;
 
 fn waiting_by(blocked: bool, sem: SemNo) -> Doing

@@ -6,7 +6,7 @@ ghost use Rattle.chart_cells.specs.Cells.{cell_shown};
 
 use chart_cells::{Cell, Doing};
 use rt_base::{NoMemory, ResvNo, TaskNo};
-use rt_history::Reply;
+use rt_rules::Reply;
 use rt_task::{Act, Op};
 use std::alloc::Global;
 use view_acts::ShownAct;

@@ -5,7 +5,7 @@ use Rattle.rt_task.specs.declared.Act.{Act}
 use Rattle.rt_task.specs.declared.Act.TheVariants as acts
 use Rattle.rt_task.specs.declared.Op.{Op}
 use Rattle.rt_task.specs.declared.Op.TheVariants as ops
-use Rattle.rt_history.specs.declared.Reply.TheVariants as replies
+use Rattle.rt_rules.specs.declared.history.Reply.TheVariants as replies
 use Rattle.std.proofs.lemmas.Bool.{eqb-false}
 use Rattle.rt_rules.specs.Numbers.{same}
 use Rattle.rt_rules.proofs.BoolLaws.{both, clash}

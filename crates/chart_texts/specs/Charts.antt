@@ -1,7 +1,7 @@
 -- What a chart shows: of each group the columns in the window, and what its tasks, processors and reservations do in them.
 use Rattle.std.specs.Prelude.{ℕ, ◌+◌, List, [], ◌∷◌, length, map, filter, fold, max}
 use Rattle.rt_task.specs.declared.Parts.{Parts}
-use Rattle.rt_history.specs.declared.Entry.{Entry}
+use Rattle.rt_rules.specs.declared.history.Entry.{Entry}
 use Rattle.rt_rules.specs.Numbers.{numbers_from}
 use Rattle.rt_model.specs.Group.{Group, in_group, group_processors, resv, tasks}
 use Rattle.rt_model.specs.Histories.{past_of}

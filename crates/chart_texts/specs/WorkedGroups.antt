@@ -3,7 +3,7 @@ use Rattle.std.specs.Prelude.{◌≡◌, List, [], ◌∷◌, None, Some, codes,
 use Rattle.std.specs.Fmt.{digits}
 use Rattle.rt_task.specs.declared.PluginKind.TheVariants as plugins
 use Rattle.rt_task.specs.declared.ResvKind.TheVariants.{Polling, Sporadic}
-use Rattle.rt_history.specs.declared.Reply.TheVariants.{Done, NoBudget, Quiet, Spent}
+use Rattle.rt_rules.specs.declared.history.Reply.TheVariants.{Done, NoBudget, Quiet, Spent}
 use Rattle.rt_model.specs.Computed.{computed}
 use Rattle.rt_model.specs.Group.{Group}
 use Rattle.rt_model.specs.Samples.{Line, line, entries_of, IsTrace, group_of, in_group, cluster_with, client_of, periodic, reservation}

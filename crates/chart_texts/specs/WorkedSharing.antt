@@ -3,7 +3,7 @@ use Rattle.std.specs.Prelude.{◌≡◌, List, [], ◌∷◌, Some, codes, refl}
 use Rattle.std.specs.Fmt.{digits}
 use Rattle.rt_task.specs.declared.PluginKind.TheVariants as plugins
 use Rattle.rt_task.specs.declared.Protocol.TheVariants.{Mpcp, Pcp}
-use Rattle.rt_history.specs.declared.Reply.TheVariants.{Done, Granted, NotLast, Queued}
+use Rattle.rt_rules.specs.declared.history.Reply.TheVariants.{Done, Granted, NotLast, Queued}
 use Rattle.rt_model.specs.Computed.{computed}
 use Rattle.rt_model.specs.Group.{Group}
 use Rattle.rt_model.specs.Samples.{Line, line, entries_of, IsTrace, group_of, cluster_with, periodic, sporadic, sem_under}

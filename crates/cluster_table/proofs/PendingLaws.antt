@@ -3,7 +3,7 @@ use Rattle.std.proofs.Common.{◌≡◌, ℕ, ◌≤◌, Bool, true, false, ◌&
 use Rattle.std.specs.Prelude.{Option, None, Some, is_none}
 use Rattle.rt_base.specs.TaskNos.{number_of_task}
 use Rattle.rt_base.specs.declared.TaskNo.{TaskNo}
-use Rattle.rt_order.specs.declared.Key.{Key}
+use Rattle.rt_rules.specs.declared.Key.{Key}
 use Rattle.rt_rules.specs.Distinct.{IsDistinct}
 use Rattle.rt_rules.specs.Numbers.{has, is}
 use Rattle.rt_rules.specs.Placing.{is_of, placed, tasks_in}

@@ -2,7 +2,7 @@
 use Rattle.std.proofs.Common.{◌≡◌, ◌≢◌, ℕ, ◌-◌, Bool, true, false, not, ◌&&◌, cond, ◌⊎◌, inl, inr, length, map, refl, ap, ◌∙◌, arith, length-set}
 use Rattle.std.proofs.lemmas.Bool.{cases_eq}
 use Rattle.std.specs.Prelude.{Option, None, option_map}
-use Rattle.rt_order.specs.declared.Key.{Key}
+use Rattle.rt_rules.specs.declared.Key.{Key}
 use Rattle.link_table.specs.Linked.{Linked, is_deferred, is_pending, link_of, with_run}
 use Rattle.cluster_table.specs.Clusters.{KeptCluster, after_take, left_by, relinked, with_key}
 use Rattle.cluster_table.specs.Table.{Table, HasProcessor, HasTask, changed_at, cluster_at}

@@ -1,6 +1,6 @@
 -- One cluster: the keys of its eligible tasks, and what its processors run and are linked to.
 use Rattle.std.specs.Prelude.{◌≡◌, ℕ, suc, ◌+◌, Bool, ◌==◌, List, [], ◌∷◌, ◌++◌, replicate, Option, None, Some, if◌then◌else◌, slice_set}
-use Rattle.rt_order.specs.declared.Key.{Key}
+use Rattle.rt_rules.specs.declared.Key.{Key}
 use Rattle.rt_rules.specs.Placing.{placed}
 use Rattle.rt_task.specs.declared.Cluster as sets
 use Rattle.ready_queue.specs.Queue.{first_tasks}

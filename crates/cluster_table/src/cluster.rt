@@ -11,8 +11,7 @@ use link_table::Links;
 use ready_heap::ReadyHeap;
 use ready_queue::ReadyQueue;
 use rt_base::{CpuNo, NoMemory, TaskNo};
-use rt_history::Reply;
-use rt_order::{ByKey, Key};
+use rt_rules::{ByKey, Key, Reply};
 use std::alloc::Global;
 use std::marker::Model;
 

@@ -1,7 +1,7 @@
 -- The list of requests with their counts, and what one entry makes of it.
 use Rattle.std.specs.Prelude.{◌≡◌, ℕ, ◌+◌, Bool, ◌&&◌, ◌==◌, List, [], ◌∷◌, ◌++◌, map, Option, None, Some, if◌then◌else◌}
 use Rattle.rt_task.specs.declared.Act.{Act}
-use Rattle.rt_history.specs.declared.Reply.{Reply}
+use Rattle.rt_rules.specs.declared.history.Reply.{Reply}
 use Rattle.rt_rules.specs.Numbers.{is}
 use Rattle.rt_rules.specs.SemState.{SemAct, Asks, Frees, Neither}
 use Rattle.rt_model.specs.Blocking.{Asked, requests, ends, ends_all, bound, is_blocked}

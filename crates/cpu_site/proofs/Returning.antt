@@ -6,7 +6,7 @@ use Rattle.std.proofs.lemmas.List.{get_or_default, nil_from_length, reverse-reve
 use Rattle.std.proofs.lemmas.List.Elements.{All-cons, All-push, All-weaker, Contains-append_left, Contains-push}
 use Rattle.std.proofs.Math.Seq.{get_or-append_seam}
 use Rattle.rt_base.specs.declared.CpuNo.{CpuNo}
-use Rattle.rt_history.specs.declared.Entry.{Entry}
+use Rattle.rt_rules.specs.declared.history.Entry.{Entry}
 use Rattle.rt_model.specs.Group.{Group, group_processors}
 use Rattle.rt_model.specs.Histories.{raises, raises_from}
 use Rattle.rt_groups.specs.Groups.{GroupHistory, group_of}

@@ -4,7 +4,7 @@ use Rattle.std.specs.Prelude.{◌==◌, ◌&&◌, if◌then◌else◌, map}
 use Rattle.std.proofs.lemmas.Bool.Decides.{nat_tests}
 use Rattle.std.proofs.lemmas.List.{take-append-le}
 use Rattle.rt_task.specs.declared.Step.{Step}
-use Rattle.rt_history.specs.declared.Entry.{Entry}
+use Rattle.rt_rules.specs.declared.history.Entry.{Entry}
 use Rattle.rt_model.specs.Group.{Group}
 use Rattle.rt_model.specs.Histories.{raises}
 use Rattle.rt_plays.specs.Scripts.{script, steps_of}

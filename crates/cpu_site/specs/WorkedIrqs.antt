@@ -2,7 +2,7 @@
 use Rattle.std.specs.Prelude.{◌≡◌, ℕ, List, [], ◌∷◌, Some, refl}
 use Rattle.rt_task.specs.declared.PluginKind.TheVariants as plugins
 use Rattle.rt_task.specs.declared.Protocol.TheVariants.{Fmlp}
-use Rattle.rt_history.specs.declared.Reply.TheVariants.{Done, Granted, Quiet}
+use Rattle.rt_rules.specs.declared.history.Reply.TheVariants.{Done, Granted, Quiet}
 use Rattle.rt_model.specs.Computed.{computed}
 use Rattle.rt_model.specs.Group.{Group}
 use Rattle.rt_model.specs.Samples.{Line, line, entries_of, IsTrace, group_of, cluster_with, sem_under, periodic, sporadic, using}

@@ -1,6 +1,6 @@
 //! A group as the value of a turn.
 use crate::group::Group;
-use rt_history::Entry;
+use rt_rules::Entry;
 use rt_task::Parts;
 use turn_cell::Story;
 

@@ -4,7 +4,7 @@ use Rattle.std.specs.Prelude.{All, flat_map, slice_index_or, ◌==◌}
 use Rattle.rt_base.specs.declared.TheConstants.{MOST_CPUS, MOST_STEPS, MOST_TASKS, TICK_END}
 use Rattle.rt_task.specs.Validity.{IsValid}
 use Rattle.rt_task.specs.declared.Parts.{Parts}
-use Rattle.rt_history.specs.declared.Entry.{Entry}
+use Rattle.rt_rules.specs.declared.history.Entry.{Entry}
 use Rattle.rt_rules.specs.Numbers.{has}
 use Rattle.rt_rules.proofs.BoolLaws.{or_true}
 use Rattle.rt_rules.proofs.MemberLaws.{equal_self}

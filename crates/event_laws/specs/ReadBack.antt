@@ -2,7 +2,7 @@
 use Rattle.std.specs.Prelude.{◌≡◌, List, Some}
 use Rattle.rt_task.specs.Validity.{IsValid}
 use Rattle.rt_task.specs.declared.Parts.{Parts}
-use Rattle.rt_history.specs.declared.Entry.{Entry}
+use Rattle.rt_rules.specs.declared.history.Entry.{Entry}
 use Rattle.rt_plays.specs.Plays.{ArePlays}
 use Rattle.chart_texts.specs.Charts.{pasts_from}
 use Rattle.serde_json.specs.Read.{read}

@@ -1,7 +1,7 @@
 -- The law of tracks: they tell what the trace events of a past tell.
 use Rattle.std.specs.Prelude.{◌≡◌, List, map}
 use Rattle.rt_task.specs.declared.Parts.{Parts}
-use Rattle.rt_history.specs.declared.Entry.{Entry}
+use Rattle.rt_rules.specs.declared.history.Entry.{Entry}
 use Rattle.rt_model.specs.Group.{Group}
 use Rattle.rt_model.specs.Past.{Past}
 use Rattle.chart_texts.specs.Charts.{pasts_from}

@@ -10,7 +10,7 @@ ghost use Rattle.rt_rules.specs.Fmlp.{fmlp_after};
 ghost use Rattle.fmlp_sem.specs.FmlpLine.{FmlpLine};
 
 use rt_base::{Ask, NoMemory, TaskNo};
-use rt_order::Key;
+use rt_rules::Key;
 use sem_laws::list_behind_first;
 use std::alloc::Global;
 use std::collections::VecDeque;

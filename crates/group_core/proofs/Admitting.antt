@@ -23,8 +23,8 @@ use Rattle.rt_laws.proofs.ValidSets.{rules_of}
 use Rattle.group_facts.specs.Ways.{AreWays}
 use Rattle.sem_table_laws.proofs.Stacks.{no-pairs}
 use Rattle.group_sems.specs.GroupSems.{GroupSems}
-use Rattle.group_sem_laws.specs.Kept.{KeepsLocks}
-use Rattle.group_sem_laws.proofs.Reading.{passing_is_read}
+use Rattle.group_sems.specs.Kept.{KeepsLocks}
+use Rattle.group_sems.proofs.Reading.{passing_is_read}
 use Rattle.group_core.specs.Reads.{admits_in}
 
 module _ (g : Group) (rules : MeetsRules g) (past : Past) (made : IsReachable g past) (t : ℕ) where

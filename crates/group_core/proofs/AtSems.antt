@@ -6,8 +6,8 @@ use Rattle.rt_task.specs.Validity.{IsValid}
 use Rattle.rt_task.specs.RuleWords.{is_stacked}
 use Rattle.rt_task.specs.declared.Act.TheVariants as acts
 use Rattle.rt_task.specs.declared.Op.TheVariants as ops
-use Rattle.rt_history.specs.declared.Reply.{Reply}
-use Rattle.rt_history.specs.declared.Reply.TheVariants as replies
+use Rattle.rt_rules.specs.declared.history.Reply.{Reply}
+use Rattle.rt_rules.specs.declared.history.Reply.TheVariants as replies
 use Rattle.rt_rules.specs.Numbers.{has, is}
 use Rattle.rt_rules.specs.SemState.{Asks}
 use Rattle.rt_rules.proofs.NumberLaws.{has-numbers_from, numbers_from-below}
@@ -27,12 +27,12 @@ use Rattle.group_facts.specs.Facts.{JobFacts}
 use Rattle.group_facts.specs.FactMoves.{with_act}
 use Rattle.group_facts.specs.Kept.{IsKept}
 use Rattle.group_sems.specs.Refusing.{AreSemsOf, lock_refusal, unlock_refusal}
-use Rattle.group_sem_laws.specs.Kept.{KeepsGroupSems, KeepsLocks}
-use Rattle.group_sem_laws.proofs.Fitting.{lock_fits, unlock_fits}
-use Rattle.group_sem_laws.proofs.Locks.{lock_is_kept}
-use Rattle.group_sem_laws.proofs.Reading.{grant_is_read}
-use Rattle.group_sem_laws.proofs.Refusals.{lock_refusal_is_read, unlock_refusal_is_read}
-use Rattle.group_sem_laws.proofs.Unlocks.{unlock_is_kept}
+use Rattle.group_sems.specs.Kept.{KeepsGroupSems, KeepsLocks}
+use Rattle.group_sems.proofs.Fitting.{lock_fits, unlock_fits}
+use Rattle.group_sems.proofs.Locks.{lock_is_kept}
+use Rattle.group_sems.proofs.Reading.{grant_is_read}
+use Rattle.group_sems.proofs.ReadRefusals.{lock_refusal_is_read, unlock_refusal_is_read}
+use Rattle.group_sems.proofs.Unlocks.{unlock_is_kept}
 use Rattle.group_core.specs.Facts.{Facts, MayLock, MayUnlock, asked_reply, lock_refused, sems_by, task_reply}
 use Rattle.group_core.specs.Reads.{base_in}
 use Rattle.group_core.proofs.ModelWords.{base-read}

@@ -16,16 +16,16 @@ use Rattle.group_facts.specs.Words.{AreRead}
 use Rattle.group_facts.proofs.KeptMoves.{task-range, words_of_kept}
 use Rattle.sem_table.specs.Told.{awaits_of}
 use Rattle.group_sems.specs.GroupSems.{GroupSems}
-use Rattle.group_sem_laws.specs.Kept.{KeepsBases, KeepsGroupSems, KeepsLocks}
-use Rattle.group_sem_laws.proofs.Keys.{key_is_read}
-use Rattle.group_sem_laws.proofs.Reading.{holding_is_read}
+use Rattle.group_sems.specs.Kept.{KeepsBases, KeepsGroupSems, KeepsLocks}
+use Rattle.group_sems.proofs.KeptKeys.{key_is_read}
+use Rattle.group_sems.proofs.Reading.{holding_is_read}
 use Rattle.resv_laws.specs.Kept.{ready_release}
 use Rattle.group_resvs.specs.GroupResvs as group_resvs
 use Rattle.group_resvs.specs.GroupResvs.{GroupResvs, is_served_by, lacks_budget_of}
 use Rattle.group_resvs.specs.Kept.{KeepsResvs}
 use Rattle.group_resvs.specs.Laws.{IsRead}
 use Rattle.group_resvs.proofs.KeptLaws.{resvs_are_read}
-use Rattle.waiting_list.proofs.Reading.{key_of-any}
+use Rattle.group_core.proofs.ReadingBlocked.{key_of-any}
 use Rattle.group_core.specs.Reads.{AreBased, base_in, is_candidate, key_in}
 use Rattle.group_core.proofs.Admitting.{admitted-read}
 use Rattle.group_jobs.specs.GroupJobs.{ready_now}

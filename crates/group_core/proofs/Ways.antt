@@ -5,7 +5,7 @@ use Rattle.rt_base.specs.declared.TaskNo.{TaskNo}
 use Rattle.rt_task.specs.declared.Act.{Act}
 use Rattle.rt_task.specs.declared.Act.TheVariants as acts
 use Rattle.rt_task.specs.declared.Parts.{Parts}
-use Rattle.rt_history.specs.declared.Reply.{Reply}
+use Rattle.rt_rules.specs.declared.history.Reply.{Reply}
 use Rattle.rt_model.specs.Past.{accepted}
 use Rattle.group_facts.specs.Kept.{Kept}
 use Rattle.group_facts.specs.Ways.{way_after, way_of, ways_after}

@@ -6,7 +6,7 @@ use Rattle.std.proofs.lemmas.List.{set-set}
 use Rattle.rt_task.specs.declared.Act.{Act}
 use Rattle.rt_task.specs.declared.Act.TheVariants as acts
 use Rattle.rt_task.specs.declared.Parts.{Parts}
-use Rattle.rt_history.specs.declared.Reply.{Reply}
+use Rattle.rt_rules.specs.declared.history.Reply.{Reply}
 use Rattle.rt_model.specs.Past.{accepted}
 use Rattle.group_facts.specs.Kept.{cpu_of}
 use Rattle.cluster_table.specs.Clusters.{KeptCluster, after_take, left_by, with_key}

@@ -10,8 +10,8 @@ use Rattle.rt_task.specs.declared.Op.{Op}
 use Rattle.rt_task.specs.declared.Op.TheVariants as ops
 use Rattle.rt_task.specs.RuleWords.{is_stacked}
 use Rattle.rt_task.specs.Validity.{IsValid}
-use Rattle.rt_history.specs.declared.Reply.{Reply}
-use Rattle.rt_history.specs.declared.Reply.TheVariants as replies
+use Rattle.rt_rules.specs.declared.history.Reply.{Reply}
+use Rattle.rt_rules.specs.declared.history.Reply.TheVariants as replies
 use Rattle.rt_rules.specs.Numbers.{has, is, is_empty, same}
 use Rattle.rt_model.specs.Answers.{answer, arrival_answer, do_answer, is_granted, last_work, lock_answer, nests, no_budget, op_answer, unless_holding, unlock_answer, work_answer}
 use Rattle.rt_model.specs.Group.{Group, cluster_with, clusters, declares, protocol}

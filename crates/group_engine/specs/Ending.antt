@@ -1,7 +1,7 @@
 -- The state as a move is written down, before it is ended: before the reservations are settled and the links placed.
 use Rattle.std.specs.Prelude.{◌≡◌, ℕ, ◌+◌, ◌≤◌, ◌&&◌, Bool, true, List, length, Option, Some, is_none}
 use Rattle.rt_base.specs.declared.TheConstants.{MOST_STEPS}
-use Rattle.rt_order.specs.declared.Key.{Key}
+use Rattle.rt_rules.specs.declared.Key.{Key}
 use Rattle.rt_rules.specs.Numbers.{has}
 use Rattle.rt_rules.specs.Placing.{placed}
 use Rattle.rt_model.specs.EffectiveKeys.{effective_key}

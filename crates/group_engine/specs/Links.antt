@@ -1,6 +1,6 @@
 -- The links that a state keeps, and the clusters in which moves placed none.
 use Rattle.std.specs.Prelude.{◌≡◌, ℕ, true, List, [], ◌∷◌, ◌++◌, Option, option_map}
-use Rattle.rt_history.specs.declared.Entry.{Entry}
+use Rattle.rt_rules.specs.declared.history.Entry.{Entry}
 use Rattle.rt_rules.specs.Numbers.{has}
 use Rattle.rt_model.specs.Group.{Group, clusters}
 use Rattle.rt_model.specs.Histories.{past_of}

@@ -1,10 +1,10 @@
 -- Looking at tasks anew: their timers, whether their jobs are eligible and with which keys, and what their reservations are told.
 use Rattle.std.specs.Prelude.{◌≡◌, ℕ, ◌<◌, false, true, List, [], ◌∷◌, length, map, Option, None, Some, if◌then◌else◌, option_map, slice_index, slice_set}
-use Rattle.rt_order.specs.declared.Key.{Key}
+use Rattle.rt_rules.specs.declared.Key.{Key}
 use Rattle.rt_task.specs.declared.Act.{Act}
 use Rattle.rt_task.specs.declared.Act.TheVariants as acts
 use Rattle.rt_task.specs.declared.Parts.{Parts}
-use Rattle.rt_history.specs.declared.Reply.{Reply}
+use Rattle.rt_rules.specs.declared.history.Reply.{Reply}
 use Rattle.rt_rules.specs.Numbers.{has}
 use Rattle.rt_model.specs.Past.{accepted}
 use Rattle.release_queue.specs.Timers.{tick_at}

@@ -33,8 +33,7 @@ use prio_inherit::Inherit;
 use ready_heap::ReadyHeap;
 use release_queue::ReleaseQueue;
 use rt_base::{ClusterNo, CpuNo, GroupNo, NoMemory, SemNo, TaskNo, Tick};
-use rt_history::{Reply, Situation};
-use rt_order::{ByKey, Key};
+use rt_rules::{ByKey, Key, Reply, Situation};
 use rt_task::{Act, Parts, Setup};
 use std::alloc::Global;
 

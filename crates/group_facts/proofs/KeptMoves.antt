@@ -11,7 +11,7 @@ use Rattle.rt_task.specs.declared.Kind.TheVariants.{Periodic, Sporadic}
 use Rattle.rt_task.specs.declared.Op.{Op}
 use Rattle.rt_task.specs.declared.Task.{Task}
 use Rattle.rt_base.specs.declared.TaskNo.{TaskNo}
-use Rattle.rt_history.specs.declared.Reply.TheVariants as replies
+use Rattle.rt_rules.specs.declared.history.Reply.TheVariants as replies
 use Rattle.rt_rules.specs.Numbers.{has, numbers_from}
 use Rattle.rt_rules.specs.Placing.{tasks_in}
 use Rattle.rt_rules.proofs.BoolLaws.{both, clash}

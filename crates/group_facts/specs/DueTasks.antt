@@ -1,6 +1,6 @@
 -- The eligible tasks of a cluster after a move: those that the timers give, or that a quiet act touches, are looked at again.
 use Rattle.std.specs.Prelude.{◌≡◌, ℕ, true, false, ◌∷◌, max, List, Option}
-use Rattle.rt_order.specs.declared.Key.{Key}
+use Rattle.rt_rules.specs.declared.Key.{Key}
 use Rattle.rt_task.specs.declared.Act.{Act}
 use Rattle.rt_task.specs.RuleWords.{is_p_res}
 use Rattle.rt_rules.specs.Numbers.{has}

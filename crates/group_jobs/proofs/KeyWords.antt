@@ -7,8 +7,8 @@ use Rattle.rt_task.specs.declared.PluginKind.{PluginKind}
 use Rattle.rt_task.specs.declared.PluginKind.TheVariants as plugins
 use Rattle.rt_model.specs.Group.{Group, resv, served_by, task}
 use Rattle.rt_plays.specs.Plays.{group_with}
-use Rattle.partitioned.specs.ReservationKeys.{resv_number}
-use Rattle.partitioned.proofs.KeyLaws.{resv-number}
+use Rattle.plugins.specs.ReservationKeys.{resv_number}
+use Rattle.plugins.proofs.PartitionedKeyLaws.{resv-number}
 use Rattle.group_facts.specs.Facts.{JobFacts}
 use Rattle.group_facts.specs.Words.{key_of, release_of}
 use Rattle.group_jobs.specs.GroupJobs.{task_in}

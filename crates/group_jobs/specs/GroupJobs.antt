@@ -4,8 +4,8 @@ use Rattle.rt_base.specs.declared.TheConstants.{MOST_STEPS, TICK_END}
 use Rattle.rt_task.specs.declared.Op.{Op}
 use Rattle.rt_task.specs.declared.Op.TheVariants as ops
 use Rattle.rt_task.specs.declared.Task.{Task}
-use Rattle.rt_history.specs.declared.Reply.{Reply}
-use Rattle.rt_history.specs.declared.Reply.TheVariants as replies
+use Rattle.rt_rules.specs.declared.history.Reply.{Reply}
+use Rattle.rt_rules.specs.declared.history.Reply.TheVariants as replies
 use Rattle.rt_model.specs.Group.{no_task}
 use Rattle.rt_model.specs.Past.{is_work}
 use Rattle.group_facts.specs.Bounds.{AreBounded}

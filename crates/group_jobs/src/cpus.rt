@@ -5,7 +5,7 @@ ghost use Rattle.group_jobs.specs.GroupJobs.{cpu_left, is_op_reply};
 ghost use Rattle.group_jobs.specs.States.{cpu_seen};
 
 use rt_base::TaskNo;
-use rt_history::Reply;
+use rt_rules::Reply;
 use rt_task::{Act, Op};
 
 /// The task that the processor runs, and the clock of its last Work.

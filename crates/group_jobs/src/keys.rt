@@ -1,12 +1,11 @@
 //! Base keys by the set's plugin.
 ghost use Rattle.std.specs.Prelude.{◌≡◌, ◌+◌, ◌^◌, ◌<◌};
-ghost use Rattle.partitioned.specs.ReservationKeys as reservations;
+ghost use Rattle.plugins.specs.ReservationKeys as reservations;
 ghost use Rattle.group_jobs.specs.Keys as keys;
 
-use global_edf::{CEdf, GsnEdf};
-use partitioned::{PFp, PRes, PsnEdf};
+use plugins::{CEdf, GsnEdf, PFp, PRes, PsnEdf};
 use rt_base::{ResvNo, Tick};
-use rt_order::{Key, Plugin};
+use rt_rules::{Key, Plugin};
 use rt_task::{Parts, PluginKind, Task};
 
 /// The number of a reservation, and 0 for none.

@@ -8,7 +8,7 @@ ghost use Rattle.group_jobs.specs.GroupJobs.{RunsTask};
 
 use crate::GroupJobs;
 use rt_base::{CpuNo, TaskNo};
-use rt_history::Situation;
+use rt_rules::Situation;
 
 impl GroupJobs {
     /// How many operations the job that runs has done; 0 where nothing runs.

@@ -5,7 +5,7 @@ use Rattle.rt_base.specs.declared.TaskNo.{TaskNo}
 use Rattle.rt_base.specs.TaskNos.{numbers}
 use Rattle.std.specs.Prelude.{◌==◌, Option, None, Some, slice_set}
 use Rattle.std.proofs.lemmas.Bool.{eqb-false}
-use Rattle.rt_order.specs.declared.Key.{Key}
+use Rattle.rt_rules.specs.declared.Key.{Key}
 use Rattle.rt_rules.specs.Numbers.{has}
 use Rattle.rt_rules.specs.Walks.{walk}
 use Rattle.rt_rules.proofs.BoolLaws.{or_true}

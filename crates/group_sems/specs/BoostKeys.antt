@@ -1,6 +1,6 @@
 -- The key to which the holder of a semaphore is boosted, by the set's plugin and the protocol of the semaphore.
 use Rattle.std.specs.Prelude.{◌≤◌, ◌<◌, ℕ, length, Option}
-use Rattle.rt_order.specs.declared.Key.{Key}
+use Rattle.rt_rules.specs.declared.Key.{Key}
 use Rattle.rt_task.specs.declared.Parts.{Parts}
 use Rattle.rt_task.specs.declared.PluginKind.{PluginKind}
 use Rattle.rt_task.specs.declared.PluginKind.TheVariants as plugins
@@ -8,8 +8,8 @@ use Rattle.rt_task.specs.declared.Protocol.{Protocol}
 use Rattle.rt_task.specs.declared.Task.{Task}
 use Rattle.rt_model.specs.Group.{protocol, task}
 use Rattle.rt_plays.specs.Plays.{group_with}
-use Rattle.global_edf.specs.Boosts.{global_boost}
-use Rattle.partitioned.specs.Boosts.{partitioned_boost}
+use Rattle.plugins.specs.GlobalBoosts.{global_boost}
+use Rattle.plugins.specs.PartitionedBoosts.{partitioned_boost}
 use Rattle.mpcp_ceilings.specs.Ceilings.{CeilingTable, ceiling_in}
 
 abbrev pub boost_under : PluginKind → Task → Protocol → ℕ → ℕ → Option Key

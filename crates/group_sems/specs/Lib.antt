@@ -3,3 +3,8 @@ pub mod Telling
 pub mod BoostKeys
 pub mod Locking
 pub mod Refusing
+pub mod Kept
+pub mod Keeping
+pub mod Fitting
+pub mod Reading
+pub mod Leaving

@@ -1,6 +1,6 @@
 -- What an accepted Lock and an accepted Unlock make of the semaphores and the keys, and what they rest on.
 use Rattle.std.specs.Prelude.{◌≡◌, ◌<◌, ◌≤◌, ℕ, Bool, true, false, List, [], ◌∷◌, length, Option, None, Some, slice_set}
-use Rattle.rt_order.specs.declared.Key.{Key}
+use Rattle.rt_rules.specs.declared.Key.{Key}
 use Rattle.rt_task.specs.declared.Parts.{Parts}
 use Rattle.prio_inherit.specs.Waits.{Waits}
 use Rattle.sem_table.specs.Asked.{after_ask, is_granted}

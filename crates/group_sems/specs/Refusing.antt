@@ -7,8 +7,8 @@ use Rattle.rt_task.specs.RuleWords.{is_stacked}
 use Rattle.rt_task.specs.declared.Parts.{Parts}
 use Rattle.rt_task.specs.declared.Protocol.{Protocol}
 use Rattle.rt_task.specs.declared.Protocol.TheVariants.{Pcp, Srp}
-use Rattle.rt_history.specs.declared.Reply.{Reply}
-use Rattle.rt_history.specs.declared.Reply.TheVariants as replies
+use Rattle.rt_rules.specs.declared.history.Reply.{Reply}
+use Rattle.rt_rules.specs.declared.history.Reply.TheVariants as replies
 use Rattle.rt_rules.specs.Numbers.{has, is}
 use Rattle.rt_model.specs.Ceilings.{is_pcp}
 use Rattle.rt_model.specs.Group.{declares, protocol, task}

@@ -1,6 +1,6 @@
 -- Telling tasks whom they wait for: those that wait at a semaphore wait for its owner.
 use Rattle.std.specs.Prelude.{◌≡◌, ◌≢◌, ℕ, true, false, List, [], ◌∷◌, Option, None, Some, IsSome, if◌then◌else◌, slice_index_or, slice_set}
-use Rattle.rt_order.specs.declared.Key.{Key}
+use Rattle.rt_rules.specs.declared.Key.{Key}
 use Rattle.rt_rules.specs.Numbers.{has, same}
 use Rattle.prio_inherit.specs.Waits.{Waits, next_of}
 use Rattle.sem_table.specs.SemTable.{SemTable}

@@ -3,11 +3,10 @@ ghost use Rattle.std.specs.Prelude.{◌≡◌, ◌≤◌, length};
 ghost use Rattle.group_sems.specs.BoostKeys as boosting;
 ghost use Rattle.group_sems.specs.BoostKeys.{IsSemOf};
 
-use global_edf::{CEdf, GsnEdf};
 use mpcp_ceilings::MpcpCeilings;
-use partitioned::{PFp, PsnEdf};
+use plugins::{CEdf, GsnEdf, PFp, PsnEdf};
 use rt_base::{SemNo, TaskNo, Tick};
-use rt_order::{Key, Plugin};
+use rt_rules::{Key, Plugin};
 use rt_task::{Parts, PluginKind, Protocol, Task};
 
 /// The key of the task while it holds a semaphore of this protocol and ceiling that it was granted at `granted`.

@@ -19,14 +19,14 @@ ghost use Rattle.group_sems.specs.Telling.{retold, told, CanTell, HasBase};
 
 mod boosts;
 mod keys;
+pub mod laws;
 mod refusals;
 
 use boosts::boost_now;
 use mpcp_ceilings::MpcpCeilings;
 use prio_inherit::Inherit;
 use rt_base::{Ask, GroupNo, NoMemory, SemNo, TaskNo, Tick};
-use rt_history::Reply;
-use rt_order::Key;
+use rt_rules::{Key, Reply};
 use rt_task::{Parts, Setup};
 use sem_table::Sems;
 use std::alloc::Global;

@@ -10,7 +10,7 @@ ghost use Rattle.group_sems.specs.Refusing as refusing;
 ghost use Rattle.group_sems.specs.Refusing.{AreSems, AreSemsOf};
 
 use rt_base::{MOST_HELD, SemNo, TaskNo};
-use rt_history::Reply;
+use rt_rules::Reply;
 use rt_task::{Parts, Protocol};
 use sem_table::Sems;
 

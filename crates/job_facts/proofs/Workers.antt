@@ -2,8 +2,8 @@
 use Rattle.std.proofs.Common.{◌≡◌, ◌∙◌, ◌⊎◌, inl, inr, ℕ, eqb-true, Bool, true, false, [], ◌∷◌, ◌&&◌, ◌||◌, refl, sym, ap, arith, subst}
 use Rattle.std.specs.Prelude.{Option, None, Some, if◌then◌else◌, ◌==◌, is_some}
 use Rattle.std.proofs.lemmas.Bool.Decides.{nat_tests}
-use Rattle.rt_history.specs.declared.Reply.{Reply}
-use Rattle.rt_history.specs.declared.Reply.TheVariants as replies
+use Rattle.rt_rules.specs.declared.history.Reply.{Reply}
+use Rattle.rt_rules.specs.declared.history.Reply.TheVariants as replies
 use Rattle.rt_rules.specs.Numbers.{is}
 use Rattle.rt_rules.proofs.BoolLaws.{and_false, both, clash, unless}
 use Rattle.rt_rules.proofs.MemberLaws.{is-some, some-is}

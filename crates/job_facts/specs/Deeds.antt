@@ -3,7 +3,7 @@ use Rattle.std.specs.Prelude.{ℕ, ◌+◌, Bool, true, false, ◌&&◌, [], ◌
 use Rattle.rt_task.specs.declared.Act.{Act}
 use Rattle.rt_task.specs.declared.Act.TheVariants.{Arrive, Do}
 use Rattle.rt_task.specs.declared.Op.TheVariants.{Lock}
-use Rattle.rt_history.specs.declared.Reply.{Reply}
+use Rattle.rt_rules.specs.declared.history.Reply.{Reply}
 use Rattle.rt_rules.specs.Numbers.{is}
 use Rattle.rt_model.specs.Past.{PastAct, accepted, is_work, operation}
 use Rattle.trace_views.specs.JobCounts.{is_elsewhere, is_queued_reply, is_switch_reply, takes_up}

@@ -7,7 +7,7 @@ ghost use Rattle.job_facts.specs.Deeds as deeds;
 ghost use Rattle.view_acts.specs.ShownActs.{act_shown};
 
 use rt_base::TaskNo;
-use rt_history::Reply;
+use rt_rules::Reply;
 use rt_task::{Act, Op};
 use view_acts::ShownAct;
 

@@ -8,8 +8,8 @@ use Rattle.std.specs.BinaryHeap.{IsHeap, lt_by_cmp}
 use Rattle.std.proofs.lemmas.Bool.Decides.{nat_tests}
 use Rattle.std.proofs.lemmas.List.Elements.{All-cons, All-tail}
 use Rattle.std.proofs.lemmas.List.Sorted.{All-permutation, IsPermutation-map}
-use Rattle.rt_order.specs.declared.Key.{Key}
-use Rattle.rt_order.specs.KeyOrder.{higher, equal_keys}
+use Rattle.rt_rules.specs.declared.Key.{Key}
+use Rattle.rt_rules.specs.KeyOrder.{higher, equal_keys}
 use Rattle.rt_rules.specs.Numbers.{has, without, foremost}
 use Rattle.rt_rules.proofs.PlacingLaws.{either, or_true}
 use Rattle.rt_rules.proofs.MemberLaws.{equal_self, has-push, has-without, length-without, turned}

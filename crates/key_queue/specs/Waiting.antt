@@ -1,6 +1,6 @@
 -- Tasks that wait, with the keys that they gave.
 use Rattle.std.specs.Prelude.{ℕ, List, Option, None, Some}
-use Rattle.rt_order.specs.declared.Key.{Key}
+use Rattle.rt_rules.specs.declared.Key.{Key}
 use Rattle.rt_rules.specs.Numbers.{without}
 
 -- the key that each task below the room gave last, and the tasks that wait, in the order of asking

@@ -3,7 +3,7 @@ ghost use Rattle.std.specs.Prelude.{◌≡◌, ◌+◌, ◌<◌, ◌≤◌, ◌�
 ghost use Rattle.std.specs.BinaryHeap.{heap_items, heap_len, heap_capacity, IsHeap};
 ghost use Rattle.std.specs.List.Sorted.{IsPermutation};
 ghost use Rattle.rt_base.specs.TaskNos.{number_of_task, numbers};
-ghost use Rattle.rt_order.specs.KeyOrder.{equal_keys};
+ghost use Rattle.rt_rules.specs.KeyOrder.{equal_keys};
 ghost use Rattle.rt_rules.specs.Numbers.{has, foremost};
 ghost use Rattle.key_queue.specs.Queue.{later};
 ghost use Rattle.key_queue.specs.Waiting.{Waiting, left};
@@ -11,7 +11,7 @@ ghost use Rattle.sem_laws.specs.KeptKeys.{key_at, above};
 
 use crate::TaskLine;
 use rt_base::{NoMemory, TaskNo};
-use rt_order::Key;
+use rt_rules::Key;
 use std::alloc::Global;
 use std::cmp::Reverse;
 use std::collections::BinaryHeap;

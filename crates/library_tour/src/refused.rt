@@ -3,7 +3,7 @@ ghost use Rattle.std.specs.Prelude.{◌≡◌, ◌∷◌, []};
 ghost use Rattle.rt_model.specs.Past.{accepted};
 ghost use Rattle.library_tour.specs.RefusedActs.{refused_rules};
 
-use rt_history::Reply;
+use rt_rules::Reply;
 use trace_tools::{Shown, TraceTool};
 
 /// Counts the entries whose reply is a refusal.

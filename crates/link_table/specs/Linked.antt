@@ -1,8 +1,8 @@
 -- Links and runs of one cluster, and what an interrupt does.
 use Rattle.std.specs.Prelude.{◌≡◌, ◌↔◌, ℕ, ◌+◌, ◌-◌, ◌<◌, ◌≤◌, ◌==◌, Bool, true, false, not, ◌&&◌, List, [], ◌∷◌, Option, None, Some, is_some}
 use Rattle.std.specs.Prelude.{if◌then◌else◌, length, slice_set, replicate}
-use Rattle.rt_history.specs.declared.Reply.{Reply}
-use Rattle.rt_history.specs.declared.Reply.TheVariants.{Quiet, Deferred, Runs, Idles}
+use Rattle.rt_rules.specs.declared.history.Reply.{Reply}
+use Rattle.rt_rules.specs.declared.history.Reply.TheVariants.{Quiet, Deferred, Runs, Idles}
 use Rattle.rt_rules.specs.Numbers.{has, is, same}
 use Rattle.rt_rules.specs.Distinct.{IsDistinct}
 use Rattle.rt_rules.specs.Placing.{tasks_in, at_place, placed}

@@ -15,7 +15,7 @@ mod places;
 
 use marks::TaskMarks;
 use rt_base::{CpuNo, NoMemory, TaskNo};
-use rt_history::Reply;
+use rt_rules::Reply;
 use std::alloc::Global;
 use std::marker::Model;
 

@@ -4,7 +4,7 @@
 
 ghost use Rattle.std.specs.Prelude.{◌≡◌, ◌<◌, ◌≢◌, ◌↔◌, ◌+◌, ◌≤◌, ◌++◌, [], ℕ, true, false, length, IfOk, Some, None, slice_set, vec_len, vec_capacity};
 ghost use Rattle.rt_base.specs.TaskNos.{number_of_task, numbers};
-ghost use Rattle.rt_order.specs.KeyOrder.{equal_keys};
+ghost use Rattle.rt_rules.specs.KeyOrder.{equal_keys};
 ghost use Rattle.rt_rules.specs.Numbers.{has};
 ghost use Rattle.rt_rules.specs.SemState.{Asks, Frees};
 ghost use Rattle.rt_rules.specs.Mpcp.{mpcp_after};
@@ -13,7 +13,7 @@ ghost use Rattle.mpcp_sem.specs.MpcpState.{MpcpState};
 
 use key_queue::KeyQueue;
 use rt_base::{Ask, NoMemory, TaskNo};
-use rt_order::Key;
+use rt_rules::Key;
 use std::alloc::Global;
 use std::marker::Model;
 

@@ -10,7 +10,7 @@ ghost use Rattle.part_player.specs.Replies.{can_come};
 
 use part_state::PartState;
 use rt_base::CpuNo;
-use rt_history::Reply;
+use rt_rules::Reply;
 use rt_task::{Act, Op, Task};
 
 /// The processor did the act, which was answered so.

@@ -14,7 +14,7 @@ use crate::opening::{group_of, script_of, tasks_of};
 use mpcp_ceilings::MpcpCeilings;
 use part_state::{PartReply, PartState};
 use rt_base::{ClusterNo, CpuNo, MOST_CPUS, NoMemory, SemNo, TaskNo, Tick};
-use rt_history::Reply;
+use rt_rules::Reply;
 use rt_task::{Setup, Step};
 use split_rules::{SplitAct, SplitEntry};
 use std::alloc::Global;

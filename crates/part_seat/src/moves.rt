@@ -3,7 +3,7 @@ ghost use Rattle.std.specs.Prelude.{◌≡◌, ◌<◌, true, map, option_map, N
 ghost use Rattle.part_player.specs.Players.{IsAnswered, IsAsking, IsFreeing, group_of, has_entry, own_script, past_at};
 ghost use Rattle.split_counts.specs.Room.{ComesNext};
 ghost use Rattle.split_rules.specs.PartAnswers.{asked};
-ghost use Rattle.rt_history.specs.declared.Reply.TheVariants as replies;
+ghost use Rattle.rt_rules.specs.declared.history.Reply.TheVariants as replies;
 ghost use Rattle.part_seat.specs.AtTurns.{HasActed, IsPassedAt};
 ghost use Rattle.part_seat.specs.Partitions.{IsMeeting, books_in, cells_of};
 
@@ -11,7 +11,7 @@ use crate::passed::{Passed, PlayedStep};
 use crate::turns::{ask, release};
 use part_player::Player;
 use rt_base::{Ask, SemNo, TaskNo};
-use rt_history::Reply;
+use rt_rules::Reply;
 use rt_task::Step;
 use split_inbox::SemBook;
 use split_rules::SplitAct;

@@ -5,7 +5,7 @@ use Rattle.std.specs.Prelude.{Option, if◌then◌else◌}
 use Rattle.rt_base.specs.TaskNos.{numbers}
 use Rattle.rt_base.specs.declared.TaskNo.{TaskNo}
 use Rattle.rt_task.specs.declared.Parts.{Parts}
-use Rattle.rt_order.specs.declared.Key.{Key}
+use Rattle.rt_rules.specs.declared.Key.{Key}
 use Rattle.rt_rules.specs.Keys.{Ranked, ahead, inserted}
 use Rattle.rt_rules.specs.Numbers.{has}
 use Rattle.rt_rules.specs.Rankings.{ranked_by}

@@ -6,7 +6,7 @@ use Rattle.rt_base.specs.declared.TheConstants.{TICK_END}
 use Rattle.rt_task.specs.declared.Parts.{Parts}
 use Rattle.rt_task.specs.declared.Protocol.{Protocol}
 use Rattle.rt_task.specs.declared.Protocol.TheVariants.{Fmlp, Mpcp}
-use Rattle.rt_order.specs.declared.Key.{Key}
+use Rattle.rt_rules.specs.declared.Key.{Key}
 use Rattle.rt_rules.specs.Keys.{Ranked, ahead}
 use Rattle.rt_rules.specs.Numbers.{first}
 use Rattle.rt_rules.specs.Rankings.{ranked_by, tasks_of}

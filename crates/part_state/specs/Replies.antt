@@ -8,8 +8,8 @@ use Rattle.rt_task.specs.declared.Act.TheVariants as acts
 use Rattle.rt_task.specs.declared.Op.{Op}
 use Rattle.rt_task.specs.declared.Op.TheVariants as ops
 use Rattle.rt_task.specs.declared.Parts.{Parts}
-use Rattle.rt_history.specs.declared.Reply.{Reply}
-use Rattle.rt_history.specs.declared.Reply.TheVariants as replies
+use Rattle.rt_rules.specs.declared.history.Reply.{Reply}
+use Rattle.rt_rules.specs.declared.history.Reply.TheVariants as replies
 use Rattle.rt_rules.specs.Numbers.{has, same}
 use Rattle.rt_model.specs.Group.{Group, group_processors, tasks}
 use Rattle.rt_model.specs.Runs.{runs}

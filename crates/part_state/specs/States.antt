@@ -5,7 +5,7 @@ use Rattle.rt_base.specs.declared.Ask.TheVariants.{Granted, Queued}
 use Rattle.rt_base.specs.declared.SemNo.{SemNo}
 use Rattle.rt_task.specs.declared.Act.{Act}
 use Rattle.rt_task.specs.declared.Task.{Task}
-use Rattle.rt_history.specs.declared.Reply.{Reply}
+use Rattle.rt_rules.specs.declared.history.Reply.{Reply}
 use Rattle.rt_rules.specs.Numbers.{has}
 use Rattle.rt_model.specs.Group.{Group, tasks}
 use Rattle.group_facts.specs.Kept.{IsKept, Kept, cpu_of, has_acted}

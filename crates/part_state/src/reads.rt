@@ -10,7 +10,7 @@ ghost use Rattle.part_state.specs.Reads.{CanRead};
 use crate::state::PartState;
 use mpcp_ceilings::MpcpCeilings;
 use rt_base::TaskNo;
-use rt_order::Key;
+use rt_rules::Key;
 use rt_task::{Parts, Protocol};
 
 /// A task that may run, with its key.

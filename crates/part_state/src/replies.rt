@@ -9,7 +9,7 @@ ghost use Rattle.part_state.specs.Replies as words;
 
 use crate::state::PartState;
 use rt_base::{CpuNo, SemNo, TaskNo};
-use rt_history::Reply;
+use rt_rules::Reply;
 use rt_task::{Act, Op, Parts};
 
 /// What an act comes to, as far as the partition says it alone.

@@ -13,7 +13,7 @@ ghost use Rattle.part_state.specs.States.{after_act, after_deed, after_take, loc
 use crate::locks::TaskLock;
 use group_jobs::GroupJobs;
 use rt_base::{CpuNo, NoMemory, SemNo, TaskNo, Tick};
-use rt_history::Reply;
+use rt_rules::Reply;
 use rt_task::{Op, Task};
 use std::alloc::Global;
 use std::marker::Model;

@@ -3,7 +3,7 @@ ghost use Rattle.std.specs.Prelude.{◌≡◌, IfOk, length};
 
 use block_counts::{Blocks, Seen, Waiting};
 use rt_base::{ClusterNo, CpuNo, GroupNo, SemNo, TaskNo, Tick};
-use rt_history::{Entry, Reply};
+use rt_rules::{Entry, Reply};
 use rt_task::{
     Act, Cluster, ClusterList, Drive, Kind, Name, Op, Ops, Parts, PluginKind, Protocol, ResvList,
     Sem, SemList, SemNos, Step, StepList, Task, TaskList,

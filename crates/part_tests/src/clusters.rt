@@ -3,8 +3,7 @@ ghost use Rattle.cluster_table.specs.Table.{HasProcessor, HasTask};
 
 use cluster_table::{ClusterTable, PlacedMarks};
 use rt_base::{CpuNo, GroupNo, TaskNo};
-use rt_history::Reply;
-use rt_order::Key;
+use rt_rules::{Key, Reply};
 use rt_task::Cluster;
 use std::alloc::Global;
 use std::process::Abort;

@@ -3,7 +3,7 @@ ghost use Rattle.std.specs.Prelude.{◌≡◌, length};
 use crate::seeds::next;
 use ready_heap::ReadyHeap;
 use rt_base::TaskNo;
-use rt_order::{ByKey, Key, Steps};
+use rt_rules::{ByKey, Key, Steps};
 use std::alloc::Global;
 use std::collections::{BTreeMap, BTreeSet};
 use std::marker::Brand;

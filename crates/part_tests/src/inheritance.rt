@@ -3,7 +3,7 @@ ghost use Rattle.std.specs.Prelude.{◌≡◌, ◌<◌, ℕ, IfOk, IsSome, Some,
 use crate::seeds::next;
 use prio_inherit::Inherit;
 use rt_base::TaskNo;
-use rt_order::Key;
+use rt_rules::Key;
 use std::alloc::Global;
 use std::test::Fail;
 

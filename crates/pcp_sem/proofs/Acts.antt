@@ -1,8 +1,8 @@
 -- What the type keeps, over each of its calls.
 use Rattle.std.proofs.Common.{◌≡◌, ℕ, ◌+◌, ◌^◌, ◌<◌, ◌≤◌, Bool, true, false, not, ◌≢◌, List, [], ◌∷◌, ◌++◌, length, set, refl, sym, ap, ◌∙◌, subst, arith, length-set, get_or-set_same, get_or-set_other, eqb-true}
 use Rattle.std.specs.Prelude.{◌==◌, if◌then◌else◌, None, Some, find}
-use Rattle.rt_order.specs.declared.Key.{Key}
-use Rattle.rt_order.specs.KeyOrder.{higher, equal_keys}
+use Rattle.rt_rules.specs.declared.Key.{Key}
+use Rattle.rt_rules.specs.KeyOrder.{higher, equal_keys}
 use Rattle.rt_rules.specs.Numbers.{has}
 use Rattle.rt_rules.specs.SemState.{Asks, Frees}
 use Rattle.rt_rules.specs.Pcp.{TaskSem, PcpState, by_key, in_order, without_pair, passes, pcp_after}

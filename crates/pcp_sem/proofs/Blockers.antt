@@ -1,7 +1,7 @@
 -- The blocker of a task is the owner of the newest grant among those of other tasks; a waiting task has one, and it does not wait.
 use Rattle.std.proofs.Common.{◌≡◌, ℕ, Bool, true, false, List, [], ◌∷◌, refl, ap, ◌∙◌, subst}
 use Rattle.std.specs.Prelude.{Some, ◌==◌}
-use Rattle.rt_order.specs.declared.Key.{Key}
+use Rattle.rt_rules.specs.declared.Key.{Key}
 use Rattle.rt_rules.specs.Numbers.{has, first}
 use Rattle.rt_rules.specs.Pcp.{TaskSem, PcpState, of_others, passes}
 use Rattle.rt_rules.proofs.PlacingLaws.{unless}

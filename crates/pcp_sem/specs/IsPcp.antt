@@ -1,6 +1,6 @@
 -- What the type of PCP keeps at all times.
 use Rattle.std.specs.Prelude.{◌≡◌, ℕ, ◌+◌, ◌^◌, ◌<◌, ◌≤◌, true, false, List, length}
-use Rattle.rt_order.specs.declared.Key.{Key}
+use Rattle.rt_rules.specs.declared.Key.{Key}
 use Rattle.rt_rules.specs.Distinct.{IsDistinct}
 use Rattle.rt_rules.specs.Pcp.{TaskSem, PcpState, in_order}
 use Rattle.sem_laws.specs.KeptKeys.{above}

@@ -1,7 +1,7 @@
 -- The semaphores of one cluster under PCP as contracts see them.
 use Rattle.std.specs.Prelude.{ℕ, Bool, not, ◌&&◌, ◌||◌, ◌==◌, nat_lt, List, Option, option_map, find}
-use Rattle.rt_order.specs.declared.Key.{Key}
-use Rattle.rt_order.specs.KeyOrder.{higher}
+use Rattle.rt_rules.specs.declared.Key.{Key}
+use Rattle.rt_rules.specs.KeyOrder.{higher}
 use Rattle.rt_rules.specs.Numbers.{foremost}
 use Rattle.rt_rules.specs.Pcp.{TaskSem, PcpState, of_others, holder_among}
 use Rattle.sem_laws.specs.KeptKeys.{key_at}

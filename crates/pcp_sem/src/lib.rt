@@ -4,7 +4,7 @@
 
 ghost use Rattle.std.specs.Prelude.{◌≡◌, ◌≢◌, ◌<◌, ◌≤◌, ◌↔◌, ◌+◌, ◌++◌, ◌==◌, [], ℕ, true, false, length, reverse, replicate, filter, IfOk, IsNone, Some, None, slice_set, slice_get, vec_len, vec_capacity};
 ghost use Rattle.rt_base.specs.TaskNos.{number_of_task, numbers};
-ghost use Rattle.rt_order.specs.KeyOrder.{higher, equal_keys, lowest_key};
+ghost use Rattle.rt_rules.specs.KeyOrder.{higher, equal_keys, lowest_key};
 ghost use Rattle.rt_rules.specs.Numbers.{first, has};
 ghost use Rattle.rt_rules.specs.SemState.{Asks, Frees};
 ghost use Rattle.rt_rules.specs.Pcp.{of_others, pcp_after, pcp_sem_state, passes, without_pair};
@@ -15,7 +15,7 @@ ghost use Rattle.pcp_sem.specs.Settled.{IsSettled};
 
 use pairs::Pair;
 use rt_base::{Ask, NoMemory, TaskNo};
-use rt_order::Key;
+use rt_rules::Key;
 use std::alloc::Global;
 use std::marker::Model;
 

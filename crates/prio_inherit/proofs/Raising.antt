@@ -4,13 +4,13 @@ use Rattle.std.specs.Prelude.{◌==◌, Option, None, Some, is_some, if◌then�
 use Rattle.std.proofs.lemmas.List.{get_or_read}
 use Rattle.rt_base.specs.declared.TaskNo.{TaskNo}
 use Rattle.rt_base.specs.TaskNos.{numbers_of_tasks}
-use Rattle.rt_order.specs.declared.Key.{Key}
-use Rattle.rt_order.specs.KeyOrder.{higher}
+use Rattle.rt_rules.specs.declared.Key.{Key}
+use Rattle.rt_rules.specs.KeyOrder.{higher}
 use Rattle.rt_rules.proofs.PlacingLaws.{unless}
 use Rattle.sem_laws.specs.KeptKeys.{key_at}
 use Rattle.rt_rules.proofs.BoolLaws.{clash}
 use Rattle.rt_rules.proofs.MemberLaws.{equal_self}
-use Rattle.rt_order.specs.OrderLaws.{higher-irreflexive, higher-transitive}
+use Rattle.rt_rules.specs.OrderLaws.{higher-irreflexive, higher-transitive}
 use Rattle.prio_inherit.specs.Waits.{next_of, base_of, NoWalkComesRound}
 use Rattle.prio_inherit.specs.Local.{IsTop, IsLocal, IsInherit, IsRaising}
 use Rattle.prio_inherit.proofs.Settling.{waits_not, settle-step, settle-join, set-set, told-below}

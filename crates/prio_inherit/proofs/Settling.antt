@@ -5,8 +5,8 @@ use Rattle.std.proofs.lemmas.List.{get_or-replicate, length-replicate}
 use Rattle.std.proofs.lemmas.Bool.Decides.{nat_tests}
 use Rattle.rt_base.specs.declared.TaskNo.{TaskNo}
 use Rattle.rt_base.specs.TaskNos.{number_of_task, numbers_of_tasks}
-use Rattle.rt_order.specs.declared.Key.{Key}
-use Rattle.rt_order.specs.KeyOrder.{higher, lowest_key}
+use Rattle.rt_rules.specs.declared.Key.{Key}
+use Rattle.rt_rules.specs.KeyOrder.{higher, lowest_key}
 use Rattle.rt_rules.specs.Numbers.{has, is, numbers_from}
 use Rattle.rt_rules.specs.Keys.{highest}
 use Rattle.rt_rules.specs.Walks.{walk, followers}
@@ -14,7 +14,7 @@ use Rattle.rt_rules.proofs.PlacingLaws.{either, or_true, unless}
 use Rattle.sem_laws.specs.KeptKeys.{key_at}
 use Rattle.rt_rules.proofs.MemberLaws.{equal_self, is-some, some-is}
 use Rattle.rt_rules.proofs.BoolLaws.{both, clash}
-use Rattle.rt_order.specs.OrderLaws.{higher-irreflexive, higher-transitive}
+use Rattle.rt_rules.specs.OrderLaws.{higher-irreflexive, higher-transitive}
 use Rattle.prio_inherit.specs.Waits.{next_of, base_of, NoWalkComesRound}
 use Rattle.prio_inherit.specs.Local.{IsTop, IsLocal, IsInherit, IsSettling}
 use Rattle.prio_inherit.proofs.Walking.{after, after-step, after-all, kept-is}

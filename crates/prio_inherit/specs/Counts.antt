@@ -1,6 +1,6 @@
 -- How many tasks wait for each task.
 use Rattle.std.specs.Prelude.{◌≡◌, ℕ, ◌+◌, ◌<◌, ◌^◌, List, [], ◌∷◌, length, Option, if◌then◌else◌, slice_index}
-use Rattle.rt_order.specs.declared.Key.{Key}
+use Rattle.rt_rules.specs.declared.Key.{Key}
 use Rattle.rt_rules.specs.Numbers.{is}
 use Rattle.prio_inherit.specs.Local.{IsInherit}
 

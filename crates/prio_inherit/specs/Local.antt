@@ -1,7 +1,7 @@
 -- What is kept of the keys: each task has the highest of its base key and the keys of those that wait for it.
 use Rattle.std.specs.Prelude.{◌≡◌, ℕ, ◌<◌, false, ◌⊎◌, Option, Some, List, length, if◌then◌else◌}
-use Rattle.rt_order.specs.declared.Key.{Key}
-use Rattle.rt_order.specs.KeyOrder.{higher}
+use Rattle.rt_rules.specs.declared.Key.{Key}
+use Rattle.rt_rules.specs.KeyOrder.{higher}
 use Rattle.sem_laws.specs.KeptKeys.{key_at}
 use Rattle.rt_rules.specs.Numbers.{is}
 use Rattle.prio_inherit.specs.Waits.{next_of, base_of, NoWalkComesRound}

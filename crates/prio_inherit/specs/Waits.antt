@@ -1,7 +1,7 @@
 -- Tasks that wait for others, their base keys and boosts.
 use Rattle.std.specs.Prelude.{◌≡◌, ℕ, false, List, length, Option, None, slice_index_or, unwrap_or}
-use Rattle.rt_order.specs.declared.Key.{Key}
-use Rattle.rt_order.specs.KeyOrder.{lowest_key}
+use Rattle.rt_rules.specs.declared.Key.{Key}
+use Rattle.rt_rules.specs.KeyOrder.{lowest_key}
 use Rattle.rt_rules.specs.Numbers.{has, numbers_from}
 use Rattle.rt_rules.specs.Walks.{walk, followers, inherited}
 

@@ -1,8 +1,8 @@
 //! The keys that are kept, and their update along a walk.
 ghost use Rattle.std.specs.Prelude.{◌≡◌, ◌<◌, ◌&&◌, true, ℕ, List, Option, None, Some, IfOk, length, replicate};
 ghost use Rattle.rt_base.specs.TaskNos.{number_of_task, numbers_of_tasks};
-ghost use Rattle.rt_order.specs.declared.Key.{Key};
-ghost use Rattle.rt_order.specs.KeyOrder.{higher, lowest_key};
+ghost use Rattle.rt_rules.specs.declared.Key.{Key};
+ghost use Rattle.rt_rules.specs.KeyOrder.{higher, lowest_key};
 ghost use Rattle.rt_rules.specs.Numbers.{is};
 ghost use Rattle.sem_laws.specs.KeptKeys.{key_at};
 ghost use Rattle.prio_inherit.specs.Counts.{IsCounted};
@@ -10,7 +10,7 @@ ghost use Rattle.prio_inherit.specs.Waits.{base_of, next_of};
 ghost use Rattle.prio_inherit.specs.Local.{IsTop, IsLocal, IsSettling, IsRaising};
 
 use rt_base::{NoMemory, TaskNo};
-use rt_order::Key;
+use rt_rules::Key;
 use std::alloc::Global;
 
 /// As many places with no key.

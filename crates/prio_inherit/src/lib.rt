@@ -6,7 +6,7 @@ ghost use Rattle.std.specs.Prelude.{◌≡◌, ◌<◌, IsSome, IfOk, None, Some
 ghost use Rattle.prio_inherit.specs.Waits.{Waits, NoWalkComesRound, effective_key};
 
 use rt_base::{NoMemory, TaskNo};
-use rt_order::Key;
+use rt_rules::Key;
 use std::alloc::Global;
 use std::marker::Model;
 

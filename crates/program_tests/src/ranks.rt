@@ -9,9 +9,10 @@ ghost use Rattle.rank_afresh.specs.Standing.{IsAt, IsOfSame, group_of};
 ghost use Rattle.trace_text.specs.Groups.{cpu_numbers};
 
 use block_counts::Waiting;
+use group_core::WaitingList;
 use rank_afresh::Afresh;
 use rt_base::{ClusterNo, CpuNo, GroupNo, ResvNo, SemNo, TaskNo, Tick};
-use rt_history::Reply;
+use rt_rules::Reply;
 use rt_task::{
     Act, Cluster, ClusterList, Drive, Kind, Name, Op, Ops, Parts, PluginKind, Protocol, Resv,
     ResvKind, ResvList, Sem, SemList, SemNos, Setup, Slots, Step, StepList, Task, TaskList,
@@ -21,7 +22,6 @@ use std::alloc::{AllocError, Global};
 use std::process::Abort;
 use std::test::Fail;
 use trace_text::cpus_of;
-use waiting_list::WaitingList;
 
 /// A task of this cluster; its jobs are a period of 10 apart, and have this cost and relative deadline.
 fn task(

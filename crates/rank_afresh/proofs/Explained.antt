@@ -28,7 +28,7 @@ use Rattle.group_facts.specs.Words.{AreRead, release_of}
 use Rattle.group_facts.proofs.KeptMoves.{words_of_kept}
 use Rattle.group_jobs.specs.GroupJobs.{task_in}
 use Rattle.group_jobs.proofs.ReleaseBounds.{release-low}
-use Rattle.group_sem_laws.proofs.Refusals.{holder_is_read}
+use Rattle.group_sems.proofs.ReadRefusals.{holder_is_read}
 use Rattle.group_core.specs.Facts as core
 use Rattle.group_core.specs.Reads.{is_candidate}
 use Rattle.group_core.proofs.ModelWords.{eligible-read, resvs-read}

@@ -14,7 +14,7 @@ use Rattle.rt_task.specs.declared.Cluster.{Cluster}
 use Rattle.rt_task.specs.declared.Parts.{Parts}
 use Rattle.rt_task.specs.declared.draft.Draft.{Draft}
 use Rattle.rt_task.specs.declared.draft.DraftResv.{DraftResv}
-use Rattle.rt_order.specs.declared.Key.{Key}
+use Rattle.rt_rules.specs.declared.Key.{Key}
 use Rattle.rt_rules.specs.Numbers.{has, is, is_empty, numbers_from}
 use Rattle.rt_model.specs.BaseKeys.{base_key}
 use Rattle.rt_model.specs.EffectiveKeys.{effective_key}
@@ -40,8 +40,8 @@ use Rattle.group_facts.proofs.KeptMoves.{task-range, words_of_kept}
 use Rattle.group_jobs.specs.GroupJobs.{IsTaskOf, task_in}
 use Rattle.group_sems.specs.Telling.{HasBase}
 use Rattle.prio_inherit.specs.Waits as kept_keys
-use Rattle.group_sem_laws.proofs.Reading.{holding_is_read}
-use Rattle.group_sem_laws.proofs.Refusals.{holder_is_read}
+use Rattle.group_sems.proofs.Reading.{holding_is_read}
+use Rattle.group_sems.proofs.ReadRefusals.{holder_is_read}
 use Rattle.group_core.specs.Facts as core
 use Rattle.group_core.specs.Reads.{CanRead, base_in}
 use Rattle.group_core.proofs.Bases.{have-bases}

@@ -2,7 +2,7 @@
 use Rattle.std.proofs.Common.{◌≡◌, ℕ, Bool, true, false, ◌&&◌, ◌||◌, ◌⊎◌, inl, inr, cond, eqb-true, List, [], ◌∷◌, refl, sym, ap, ◌∙◌, subst, arith}
 use Rattle.std.specs.Prelude.{◌==◌, nat_lt, Option, Some, filter, find, unwrap_or}
 use Rattle.std.proofs.lemmas.Bool.Decides.{nat_tests}
-use Rattle.rt_order.specs.KeyOrder.{higher}
+use Rattle.rt_rules.specs.KeyOrder.{higher}
 use Rattle.rt_rules.specs.Keys.{ahead}
 use Rattle.rt_rules.specs.Numbers.{foremost, has}
 use Rattle.rt_rules.proofs.BoolLaws.{both, clash, either, or_true}

@@ -1,6 +1,6 @@
 -- A cluster after a move, without looking at tasks that the move does not change.
 use Rattle.std.specs.Prelude.{◌≡◌, ℕ, true, false, ◌==◌, filter, List, ◌∷◌, Option}
-use Rattle.rt_order.specs.declared.Key.{Key}
+use Rattle.rt_rules.specs.declared.Key.{Key}
 use Rattle.rt_task.specs.declared.Act.{Act}
 use Rattle.rt_task.specs.RuleWords.{is_p_res}
 use Rattle.rt_task.specs.Validity.{IsValid}

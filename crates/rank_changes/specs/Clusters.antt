@@ -1,6 +1,6 @@
 -- What stays as it is where few tasks of a cluster change: its ranking, its top and its links.
 use Rattle.std.specs.Prelude.{◌≡◌, ℕ, true, false, ◌==◌, List, ◌∷◌, Option}
-use Rattle.rt_order.specs.declared.Key.{Key}
+use Rattle.rt_rules.specs.declared.Key.{Key}
 use Rattle.rt_task.specs.declared.Act.{Act}
 use Rattle.rt_task.specs.RuleWords.{is_p_res}
 use Rattle.rt_rules.specs.Numbers.{has, is}

@@ -1,7 +1,7 @@
 -- The front client of a reservation is the first of a set of just its ready clients, by release.
 use Rattle.std.specs.Prelude.{◌≡◌, ℕ, List, Option, None, Some, unwrap_or}
-use Rattle.rt_order.specs.declared.Key.{Key}
-use Rattle.rt_order.specs.KeyOrder.{higher}
+use Rattle.rt_rules.specs.declared.Key.{Key}
+use Rattle.rt_rules.specs.KeyOrder.{higher}
 use Rattle.rt_model.specs.Group.{Group, clients}
 use Rattle.rt_model.specs.Past.{Past}
 use Rattle.rt_model.specs.Releases.{ready, release}

@@ -1,7 +1,7 @@
 -- Nodes in a slab, by the number of their task.
 use Rattle.std.specs.Prelude.{◌≡◌, ℕ, ◌≤◌, List, length, count_by, Option, None, Some, is_some, IsSome, slice_index_or}
 use Rattle.slab.specs.Slab.{Slab, get, slab_len}
-use Rattle.rt_order.specs.declared.Key.{Key}
+use Rattle.rt_rules.specs.declared.Key.{Key}
 use Rattle.ready_heap.specs.declared.arena.Node.{Node}
 
 -- the node under a slab's key that is kept, if any

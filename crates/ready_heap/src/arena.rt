@@ -3,7 +3,7 @@ ghost use Rattle.std.specs.Prelude.{◌≡◌, ◌<◌, IfOk, IsSome, None, Some
 ghost use Rattle.ready_heap.specs.Arena.{with_key, with_place};
 
 use rt_base::{NoMemory, TaskNo};
-use rt_order::Key;
+use rt_rules::Key;
 use slab::Slab;
 use std::alloc::Global;
 use std::marker::Model;

@@ -4,7 +4,7 @@ ghost use Rattle.ready_heap.specs.Row.{key_at, task_at, IsPopped, IsPushed, IsRo
 
 use crate::arena::{Arena, Node};
 use rt_base::{NoMemory, TaskNo};
-use rt_order::Key;
+use rt_rules::Key;
 use std::alloc::Global;
 use std::marker::Model;
 

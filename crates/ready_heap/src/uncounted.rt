@@ -1,12 +1,12 @@
 //! Calls of a heap of keys by a caller who does not count its comparisons.
 ghost use Rattle.std.specs.Prelude.{◌≡◌, ◌<◌, IfSome, IfNone, None, Some, is_some, length, slice_set};
-ghost use Rattle.rt_order.specs.KeyOrder.{higher};
+ghost use Rattle.rt_rules.specs.KeyOrder.{higher};
 ghost use Rattle.ready_heap.specs.Row.{key_at};
 ghost use Rattle.ready_heap.specs.Ready.{size, IsFirst};
 
 use crate::ReadyHeap;
 use rt_base::TaskNo;
-use rt_order::{ByKey, Key, Steps};
+use rt_rules::{ByKey, Key, Steps};
 use std::marker::Brand;
 use std::sync::ledger::{Blank, Ledger};
 

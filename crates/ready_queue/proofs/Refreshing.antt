@@ -1,7 +1,7 @@
 -- A ranking is kept by taking out the tasks that were touched, and putting back those that pass.
 use Rattle.std.proofs.Common.{◌≡◌, ℕ, Bool, true, false, not, ◌&&◌, cond, eqb-true, List, [], ◌∷◌, refl, sym, ap, ◌∙◌}
 use Rattle.std.specs.Prelude.{◌==◌}
-use Rattle.rt_order.specs.declared.Key.{Key}
+use Rattle.rt_rules.specs.declared.Key.{Key}
 use Rattle.rt_rules.specs.Numbers.{has}
 use Rattle.rt_rules.specs.Distinct.{IsDistinct}
 use Rattle.rt_rules.specs.Keys.{Ranked}

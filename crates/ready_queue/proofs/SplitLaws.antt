@@ -5,8 +5,8 @@ use Rattle.std.proofs.lemmas.List.{length-append, take-append-drop, take-map, ta
 use Rattle.std.proofs.Math.Seq.{take-append_seam}
 use Rattle.std.proofs.lemmas.List.Sums.{sum_by-cons}
 use Rattle.std.specs.Prelude.{◌==◌, filter, replicate, nat_lt, Option, None, Some, is_some, unwrap_or}
-use Rattle.rt_order.specs.declared.Key.{Key}
-use Rattle.rt_order.specs.KeyOrder.{higher, lowest_key}
+use Rattle.rt_rules.specs.declared.Key.{Key}
+use Rattle.rt_rules.specs.KeyOrder.{higher, lowest_key}
 use Rattle.rt_rules.specs.Distinct.{IsDistinct}
 use Rattle.rt_rules.specs.Keys.{Ranked, ahead, inserted, sorted}
 use Rattle.rt_rules.specs.Numbers.{has, numbers_from}

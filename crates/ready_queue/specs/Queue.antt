@@ -1,7 +1,7 @@
 -- The tasks that are in, in the order of their keys, and the first of them.
 use Rattle.std.specs.Prelude.{◌≡◌, ℕ, Bool, List, length, map, take, Option, None, if◌then◌else◌, is_some, unwrap_or, slice_index_or}
-use Rattle.rt_order.specs.declared.Key.{Key}
-use Rattle.rt_order.specs.KeyOrder.{lowest_key}
+use Rattle.rt_rules.specs.declared.Key.{Key}
+use Rattle.rt_rules.specs.KeyOrder.{lowest_key}
 use Rattle.rt_rules.specs.Keys.{Ranked}
 use Rattle.rt_rules.specs.Numbers.{numbers_from, has}
 use Rattle.rt_rules.specs.Rankings.{ranked_by, tasks_of}

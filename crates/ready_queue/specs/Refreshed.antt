@@ -1,6 +1,6 @@
 -- A ranking is kept by bringing up to date the tasks that were touched alone.
 use Rattle.std.specs.Prelude.{◌≡◌, ℕ, Bool, true, false, List, [], ◌∷◌, if◌then◌else◌}
-use Rattle.rt_order.specs.declared.Key.{Key}
+use Rattle.rt_rules.specs.declared.Key.{Key}
 use Rattle.rt_rules.specs.Distinct.{IsDistinct}
 use Rattle.rt_rules.specs.Keys.{Ranked, inserted}
 use Rattle.rt_rules.specs.Numbers.{has}

@@ -12,7 +12,7 @@ mod ranked_list;
 pub use ranked_list::{RankedList, RankedTask};
 use ready_heap::{ReadyHeap, uncounted};
 use rt_base::{NoMemory, TaskNo};
-use rt_order::{ByKey, Key};
+use rt_rules::{ByKey, Key};
 use std::alloc::Global;
 use std::marker::Model;
 

@@ -1,6 +1,6 @@
 -- Timers: at each task's number the tick that it waits for, where it is armed.
 use Rattle.std.specs.Prelude.{◌≡◌, ℕ, ◌<◌, ◌≤◌, List, map, length, Option, None, Some, option_map, slice_index, slice_index_or}
-use Rattle.rt_order.specs.declared.Key.{Key}
+use Rattle.rt_rules.specs.declared.Key.{Key}
 
 -- the tick that a task waits for
 abbrev pub tick_at : List (Option ℕ) → ℕ → Option ℕ

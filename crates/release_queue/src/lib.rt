@@ -7,7 +7,7 @@ ghost use Rattle.release_queue.specs.Timers.{key_of_tick, tick_at, IsNextDue, No
 
 use ready_heap::{ReadyHeap, uncounted};
 use rt_base::{NoMemory, TaskNo, Tick};
-use rt_order::{ByKey, Key};
+use rt_rules::{ByKey, Key};
 use std::alloc::Global;
 use std::marker::Model;
 

@@ -1,6 +1,6 @@
 -- Releases of jobs that stand as keys in a heap.
 use Rattle.std.specs.Prelude.{◌≡◌, ℕ, List, map, Option, None, Some, option_map, slice_index_or}
-use Rattle.rt_order.specs.declared.Key.{Key}
+use Rattle.rt_rules.specs.declared.Key.{Key}
 
 -- the earlier release is the higher key
 abbrev pub key_of_release : ℕ → Key

@@ -10,7 +10,7 @@ use crate::ResvState;
 use ready_heap::{ReadyHeap, uncounted};
 use resv_table::Table;
 use rt_base::{ClusterNo, NoMemory, ResvNo, TaskNo, Tick};
-use rt_order::{ByKey, Key};
+use rt_rules::{ByKey, Key};
 use rt_task::{Resv, ResvKind, Slot, Slots};
 use std::alloc::Global;
 use std::marker::Model;

@@ -1,12 +1,12 @@
 -- The highest of several keys does not depend on their order.
 use Rattle.std.proofs.Common.{Bool, List, [], false, inl, inr, map, refl, subst, sym, true, ℕ, ◌++◌, ◌∙◌, ◌∷◌, ◌≡◌, ◌⊎◌}
 use Rattle.std.specs.Prelude.{if◌then◌else◌}
-use Rattle.rt_order.specs.KeyOrder.{higher}
-use Rattle.rt_order.specs.declared.Key.{Key}
+use Rattle.rt_rules.specs.KeyOrder.{higher}
+use Rattle.rt_rules.specs.declared.Key.{Key}
 use Rattle.rt_rules.specs.Keys.{highest}
 use Rattle.rt_rules.specs.Numbers.{has}
 use Rattle.rt_rules.proofs.BoolLaws.{clash, unless}
-use Rattle.rt_order.specs.OrderLaws.{higher-irreflexive, higher-total, higher-transitive}
+use Rattle.rt_rules.specs.OrderLaws.{higher-irreflexive, higher-total, higher-transitive}
 use Rattle.rt_rules.proofs.KeyLaws.{higher-falls, highest-of, highest-owner}
 use Rattle.rt_rules.proofs.MemberLaws.{equal_self}
 

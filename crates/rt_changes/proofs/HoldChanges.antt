@@ -1,7 +1,7 @@
 -- What tasks hold and wait for after a Lock or an Unlock.
 use Rattle.std.proofs.Common.{Bool, eqb-true, false, inl, inr, not, refl, subst, sym, true, ℕ, ◌&&◌, ◌||◌, ◌∙◌, ◌∷◌, ◌≡◌, ◌⊎◌}
 use Rattle.std.specs.Prelude.{None, Option, Some, if◌then◌else◌, ◌==◌}
-use Rattle.rt_history.specs.declared.Reply.TheVariants as replies
+use Rattle.rt_rules.specs.declared.history.Reply.TheVariants as replies
 use Rattle.rt_rules.specs.Numbers.{has, is}
 use Rattle.rt_rules.specs.Pcp.{TaskSem, granted}
 use Rattle.rt_rules.specs.SemState.{Asks, Frees}

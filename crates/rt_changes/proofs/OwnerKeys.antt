@@ -1,8 +1,8 @@
 -- Effective keys from the states of semaphores alone.
 use Rattle.std.proofs.Common.{Bool, List, [], eqb-true, false, map, not, refl, subst, sym, true, ℕ, ◌&&◌, ◌++◌, ◌||◌, ◌∙◌, ◌∷◌, ◌≡◌}
 use Rattle.std.specs.Prelude.{None, Option, Some, if◌then◌else◌, is_some, ◌==◌}
-use Rattle.rt_order.specs.declared.Key.{Key}
-use Rattle.rt_order.specs.KeyOrder.{higher}
+use Rattle.rt_rules.specs.declared.Key.{Key}
+use Rattle.rt_rules.specs.KeyOrder.{higher}
 use Rattle.rt_rules.specs.Keys.{highest}
 use Rattle.rt_rules.specs.Numbers.{has, is, is_empty}
 use Rattle.rt_rules.specs.Pcp.{TaskSem, passes, pcp_after}

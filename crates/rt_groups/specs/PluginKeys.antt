@@ -1,6 +1,6 @@
 -- What it is for a plugin's keys to be those of the model, for the tasks of a valid set under this plugin.
 use Rattle.std.specs.Prelude.{◌≡◌, ℕ, true, Option, unwrap_or}
-use Rattle.rt_order.specs.declared.Key.{Key}
+use Rattle.rt_rules.specs.declared.Key.{Key}
 use Rattle.rt_task.specs.RuleWords.{is_p_res}
 use Rattle.rt_task.specs.Validity.{IsValid}
 use Rattle.rt_task.specs.declared.PluginKind.{PluginKind}

@@ -1,6 +1,6 @@
 -- The order of base keys.
 use Rattle.std.proofs.Common.{ap, false, refl, sym, true, ℕ, ◌∙◌, ◌≡◌}
-use Rattle.rt_order.specs.declared.Key.{Key}
+use Rattle.rt_rules.specs.declared.Key.{Key}
 use Rattle.rt_task.specs.RuleWords.{is_p_res, stands_under}
 use Rattle.rt_task.specs.declared.PluginKind.TheVariants as plugins
 use Rattle.rt_task.specs.declared.PluginKind.{PluginKind}
@@ -9,7 +9,7 @@ use Rattle.rt_task.specs.declared.Protocol.{Protocol}
 use Rattle.rt_model.specs.BaseKeys.{above, base_key, key_by}
 use Rattle.rt_model.specs.Group.{Group}
 use Rattle.rt_model.specs.Past.{Past}
-use Rattle.rt_order.specs.OrderLaws.{higher-irreflexive as higher-self, higher-transitive as higher-trans}
+use Rattle.rt_rules.specs.OrderLaws.{higher-irreflexive as higher-self, higher-transitive as higher-trans}
 use Rattle.rt_rules.proofs.KeyLaws.{IsOrder, higher-total}
 use Rattle.rt_rules.proofs.PcpGrantLaws.{IsStrict}
 use Rattle.rt_laws.specs.Keys.{BaseKeysDiffer}

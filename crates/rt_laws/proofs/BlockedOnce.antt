@@ -7,8 +7,8 @@ use Rattle.rt_task.specs.declared.PluginKind.TheVariants as plugins
 use Rattle.rt_task.specs.declared.PluginKind.{PluginKind}
 use Rattle.rt_task.specs.declared.Protocol.TheVariants.{Fmlp, Mpcp, Omlp, Pcp, Srp}
 use Rattle.rt_task.specs.declared.Protocol.{Protocol}
-use Rattle.rt_order.specs.KeyOrder.{higher}
-use Rattle.rt_order.specs.OrderLaws.{higher-irreflexive, higher-transitive}
+use Rattle.rt_rules.specs.KeyOrder.{higher}
+use Rattle.rt_rules.specs.OrderLaws.{higher-irreflexive, higher-transitive}
 use Rattle.rt_rules.specs.Keys.{Ranked, highest, sorted}
 use Rattle.rt_rules.specs.Numbers.{first, has, is}
 use Rattle.rt_rules.specs.Pcp.{PcpState, TaskSem, granted, in_order, is_same_pair, of_others, of_sem, passes, pcp_after, tested, without_pair}

@@ -9,8 +9,8 @@ use Rattle.rt_task.specs.declared.PluginKind.TheVariants as plugins
 use Rattle.rt_task.specs.declared.PluginKind.{PluginKind}
 use Rattle.rt_task.specs.declared.Protocol.TheVariants.{Fmlp, Mpcp, Omlp, Pcp, Srp}
 use Rattle.rt_task.specs.declared.Protocol.{Protocol}
-use Rattle.rt_order.specs.KeyOrder.{higher}
-use Rattle.rt_order.specs.declared.Key.{Key}
+use Rattle.rt_rules.specs.KeyOrder.{higher}
+use Rattle.rt_rules.specs.declared.Key.{Key}
 use Rattle.rt_rules.specs.Keys.{Ranked, sorted}
 use Rattle.rt_rules.specs.Numbers.{first, has, is}
 use Rattle.rt_rules.specs.Walks.{followers}

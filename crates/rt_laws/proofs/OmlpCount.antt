@@ -5,7 +5,7 @@ use Rattle.std.proofs.lemmas.List.Sums.{length-filter}
 use Rattle.std.specs.Prelude.{None, Option, Some, count_by, filter, if◌then◌else◌, is_some, nat_lt, ◌==◌}
 use Rattle.rt_task.specs.RuleWords.{is_of_one_cluster, stands_under}
 use Rattle.rt_task.specs.declared.Protocol.TheVariants.{Omlp}
-use Rattle.rt_order.specs.KeyOrder.{higher}
+use Rattle.rt_rules.specs.KeyOrder.{higher}
 use Rattle.rt_rules.specs.Distinct.{IsDistinct}
 use Rattle.rt_rules.specs.Numbers.{foremost, has, is, rest, without}
 use Rattle.rt_rules.specs.Omlp.{OmlpState, handed_over, omlp_after}

@@ -1,7 +1,7 @@
 -- PCP: the two kept facts over every past, and that no semaphore has two holders.
 use Rattle.std.proofs.Common.{ap, List, [], false, inl, inr, refl, sym, true, ℕ, ◌∙◌, ◌∷◌, ◌≡◌, ◌⊎◌}
 use Rattle.std.specs.Prelude.{None, Option, Some}
-use Rattle.rt_order.specs.KeyOrder.{lowest_key}
+use Rattle.rt_rules.specs.KeyOrder.{lowest_key}
 use Rattle.rt_rules.specs.Numbers.{first, has, is}
 use Rattle.rt_rules.specs.Pcp.{PcpState, of_sem, passes, pcp_after}
 use Rattle.rt_rules.specs.SemState.{Asks, SemAct}

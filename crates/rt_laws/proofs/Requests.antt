@@ -6,7 +6,7 @@ use Rattle.rt_task.specs.RuleWords.{is_stacked}
 use Rattle.rt_task.specs.declared.Act.TheVariants as acts
 use Rattle.rt_task.specs.declared.Act.{Act}
 use Rattle.rt_task.specs.declared.Op.TheVariants as ops
-use Rattle.rt_history.specs.declared.Reply.TheVariants as replies
+use Rattle.rt_rules.specs.declared.history.Reply.TheVariants as replies
 use Rattle.rt_rules.specs.Numbers.{is}
 use Rattle.rt_rules.specs.SemState.{Asks, Frees, Neither}
 use Rattle.rt_model.specs.Answers.{answer, do_answer, is_granted, lock_answer, nests, op_answer, unlock_answer}

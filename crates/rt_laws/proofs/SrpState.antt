@@ -14,8 +14,8 @@ use Rattle.rt_task.specs.declared.PluginKind.TheVariants as plugins
 use Rattle.rt_task.specs.declared.PluginKind.{PluginKind}
 use Rattle.rt_task.specs.declared.Protocol.TheVariants.{Srp}
 use Rattle.rt_task.specs.declared.Protocol.{Protocol}
-use Rattle.rt_history.specs.declared.Reply.TheVariants as replies
-use Rattle.rt_history.specs.declared.Reply.{Reply}
+use Rattle.rt_rules.specs.declared.history.Reply.TheVariants as replies
+use Rattle.rt_rules.specs.declared.history.Reply.{Reply}
 use Rattle.rt_rules.specs.Numbers.{first, has, is, is_empty}
 use Rattle.rt_rules.specs.Pcp.{TaskSem, of_others, of_sem}
 use Rattle.rt_rules.specs.SemState.{Asks, Neither, SemState}

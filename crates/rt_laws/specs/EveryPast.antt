@@ -1,7 +1,7 @@
 -- Where the laws hold: in each group of a valid setup, over every past that moves make.
 use Rattle.std.specs.Prelude.{List, ◌∷◌}
 use Rattle.rt_task.specs.Validity.{IsValid}
-use Rattle.rt_history.specs.declared.Entry.{Entry}
+use Rattle.rt_rules.specs.declared.history.Entry.{Entry}
 use Rattle.rt_model.specs.Group.{Group}
 use Rattle.rt_model.specs.Histories.{past_of}
 use Rattle.rt_model.specs.Reachable.{IsReachable}

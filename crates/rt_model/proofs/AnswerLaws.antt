@@ -7,8 +7,8 @@ use Rattle.rt_task.specs.declared.Op.{Op}
 use Rattle.rt_task.specs.declared.Op.TheVariants as ops
 use Rattle.rt_task.specs.declared.Kind.{Kind}
 use Rattle.rt_task.specs.declared.Kind.TheVariants.{Periodic, Sporadic}
-use Rattle.rt_history.specs.declared.Reply.{Reply}
-use Rattle.rt_history.specs.declared.Reply.TheVariants as replies
+use Rattle.rt_rules.specs.declared.history.Reply.{Reply}
+use Rattle.rt_rules.specs.declared.history.Reply.TheVariants as replies
 use Rattle.rt_rules.specs.Numbers.{is}
 use Rattle.rt_model.specs.Answers.{answer, irq_answer, link_reply, np_on, arrival_answer, work_answer, lock_answer, unlock_answer, unless_holding, op_answer, do_answer}
 use Rattle.rt_model.specs.Group.{Group, task}

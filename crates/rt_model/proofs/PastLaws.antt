@@ -3,8 +3,8 @@ use Rattle.std.proofs.Common.{◌≡◌, ℕ, zero, suc, ◌+◌, ◌-◌, ◌<�
 use Rattle.std.specs.Prelude.{Option, None, if◌then◌else◌, ◌==◌, is_some, nat_lt, slice_index_or}
 use Rattle.std.proofs.lemmas.Bool.Decides.{nat_tests}
 use Rattle.rt_task.specs.declared.Act.{Act}
-use Rattle.rt_history.specs.declared.Reply.{Reply}
-use Rattle.rt_history.specs.declared.Reply.TheVariants as replies
+use Rattle.rt_rules.specs.declared.history.Reply.{Reply}
+use Rattle.rt_rules.specs.declared.history.Reply.TheVariants as replies
 use Rattle.rt_rules.specs.Distinct.{IsDistinct}
 use Rattle.rt_rules.specs.Numbers.{has, is, numbers_from}
 use Rattle.rt_rules.specs.Placing.{tasks_in, placed, at_place}
@@ -17,7 +17,7 @@ use Rattle.rt_model.specs.Past.{PastAct, Event, Clock, Acted, Past}
 use Rattle.rt_model.specs.Runs.{runs, runs_after, runs_by, leaves}
 use Rattle.rt_model.specs.Tops.{top}
 use Rattle.rt_task.specs.declared.Cluster.{Cluster}
-use Rattle.rt_history.specs.declared.Entry.{Entry}
+use Rattle.rt_rules.specs.declared.history.Entry.{Entry}
 use Rattle.rt_rules.proofs.PlacingLaws.{has-tasks_in, has-placed, either, or_true, equal_self, distinct_cons, distinct-head, distinct-tail}
 use Rattle.rt_rules.proofs.LinkLaws.{distinct-placed, links-runs, length-placed}
 use Rattle.rt_rules.proofs.NumberLaws.{distinct-numbers_from, has-numbers_from, numbers_from-below}

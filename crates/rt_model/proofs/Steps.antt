@@ -3,7 +3,7 @@ use Rattle.std.proofs.Common.{◌≡◌, ℕ, ◌+◌, ◌*◌, ◌≤◌, lengt
 use Rattle.std.specs.Prelude.{if◌then◌else◌, None, Some, ◌==◌}
 use Rattle.rt_base.specs.declared.CpuNo.{CpuNo}
 use Rattle.rt_base.specs.declared.Tick.{Tick}
-use Rattle.rt_history.specs.declared.Entry.{Entry}
+use Rattle.rt_rules.specs.declared.history.Entry.{Entry}
 use Rattle.rt_task.specs.declared.Step.{Step}
 use Rattle.rt_task.specs.declared.Act.{Act}
 use Rattle.rt_task.specs.declared.Act.TheVariants as acts
@@ -21,7 +21,7 @@ use Rattle.rt_model.specs.Runs.{runs, runs_after}
 use Rattle.rt_model.specs.Semaphores.{omlp, cluster_of, at_sem}
 use Rattle.rt_model.specs.Tops.{top}
 use Rattle.rt_task.specs.declared.Op.TheVariants as ops
-use Rattle.rt_history.specs.declared.Reply.TheVariants as replies
+use Rattle.rt_rules.specs.declared.history.Reply.TheVariants as replies
 
 pub done-step : (t : ℕ) (e : Event) (past : Past) → done t (e ∷ past) ≡ (if ends_job t e then done t past + 1 else done t past)
 unfolding done

@@ -14,8 +14,8 @@ use Rattle.rt_task.specs.declared.Protocol.TheVariants.{Pcp, Srp}
 use Rattle.rt_task.specs.declared.Act.TheVariants as acts
 use Rattle.rt_task.specs.declared.Op.TheVariants as ops
 use Rattle.rt_task.specs.declared.PluginKind.TheVariants as plugins
-use Rattle.rt_history.specs.declared.Reply.{Reply}
-use Rattle.rt_history.specs.declared.Reply.TheVariants as replies
+use Rattle.rt_rules.specs.declared.history.Reply.{Reply}
+use Rattle.rt_rules.specs.declared.history.Reply.TheVariants as replies
 use Rattle.rt_rules.specs.Numbers.{has, is, same, is_empty}
 use Rattle.rt_rules.specs.Pcp.{passes}
 use Rattle.rt_model.specs.Ceilings.{is_pcp, above_ceiling, pcp}

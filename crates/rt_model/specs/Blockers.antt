@@ -1,6 +1,6 @@
 -- PCP (Sha, Rajkumar and Lehoczky, IEEE Transactions on Computers, 1990): the task that keeps a waiting task from its semaphore.
 use Rattle.std.specs.Prelude.{ℕ, Bool, not, ◌&&◌, ◌||◌, List, Option, nat_lt, map}
-use Rattle.rt_order.specs.KeyOrder.{higher}
+use Rattle.rt_rules.specs.KeyOrder.{higher}
 use Rattle.rt_rules.specs.Numbers.{foremost}
 use Rattle.rt_rules.specs.Pcp.{TaskSem, of_others, holder_among}
 use Rattle.rt_model.specs.Ceilings.{ceiling, pcp}

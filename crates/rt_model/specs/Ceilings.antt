@@ -3,8 +3,8 @@
 use Rattle.std.specs.Prelude.{ℕ, Bool, false, ◌&&◌, ◌==◌, [], ◌∷◌, if◌then◌else◌, true, map}
 use Rattle.rt_task.specs.declared.Protocol.{Protocol}
 use Rattle.rt_task.specs.declared.Protocol.TheVariants.{Pcp}
-use Rattle.rt_order.specs.declared.Key.{Key}
-use Rattle.rt_order.specs.KeyOrder.{higher, lowest_key}
+use Rattle.rt_rules.specs.declared.Key.{Key}
+use Rattle.rt_rules.specs.KeyOrder.{higher, lowest_key}
 use Rattle.rt_rules.specs.Keys.{highest}
 use Rattle.rt_rules.specs.Pcp.{PcpState, pcp_after}
 use Rattle.rt_rules.specs.SemState.{SemAct, Asks, Frees, Neither}

@@ -1,8 +1,8 @@
 -- Legal histories: each reply is the answer in the past that the entries before it made.
 use Rattle.std.specs.Prelude.{◌≡◌, ℕ, suc, Bool, not, ◌&&◌, ◌||◌, List, [], ◌∷◌, map, Option, if◌then◌else◌, filter, ⊤}
 use Rattle.rt_task.specs.declared.Step.{Step}
-use Rattle.rt_history.specs.declared.Reply.{Reply}
-use Rattle.rt_history.specs.declared.Entry.{Entry}
+use Rattle.rt_rules.specs.declared.history.Reply.{Reply}
+use Rattle.rt_rules.specs.declared.history.Entry.{Entry}
 use Rattle.rt_rules.specs.Numbers.{same, has}
 use Rattle.rt_rules.specs.Placing.{tasks_in}
 use Rattle.rt_model.specs.Answers.{answer}

@@ -5,7 +5,7 @@ use Rattle.rt_task.specs.declared.Act.{Act}
 use Rattle.rt_task.specs.declared.Act.TheVariants as acts
 use Rattle.rt_task.specs.declared.Op.{Op}
 use Rattle.rt_task.specs.declared.Op.TheVariants as ops
-use Rattle.rt_history.specs.declared.Situation.{Situation}
+use Rattle.rt_rules.specs.declared.history.Situation.{Situation}
 use Rattle.rt_rules.specs.Numbers.{same}
 use Rattle.rt_model.specs.Answers.{last_work, np_on, no_budget}
 use Rattle.rt_model.specs.Group.{Group, task}

@@ -7,8 +7,8 @@ use Rattle.rt_task.specs.declared.ResvKind.TheVariants as resv_kinds
 use Rattle.rt_task.specs.declared.Step.{Step}
 use Rattle.rt_task.specs.declared.Act.{Act}
 use Rattle.rt_task.specs.declared.Op.TheVariants as ops
-use Rattle.rt_history.specs.declared.Reply.TheVariants.{Done, Quiet}
-use Rattle.rt_history.specs.declared.Situation.{Situation}
+use Rattle.rt_rules.specs.declared.history.Reply.TheVariants.{Done, Quiet}
+use Rattle.rt_rules.specs.declared.history.Situation.{Situation}
 use Rattle.rt_model.specs.Computed.{computed}
 use Rattle.rt_model.specs.Group.{Group}
 use Rattle.rt_model.specs.Histories.{after, past_by}

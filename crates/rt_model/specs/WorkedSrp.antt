@@ -2,7 +2,7 @@
 use Rattle.std.specs.Prelude.{◌≡◌, List, [], ◌∷◌, None, Some, refl}
 use Rattle.rt_task.specs.declared.PluginKind.TheVariants as plugins
 use Rattle.rt_task.specs.declared.Protocol.TheVariants.{Srp}
-use Rattle.rt_history.specs.declared.Reply.TheVariants.{Done, Granted, Nested, NotLast, Holding}
+use Rattle.rt_rules.specs.declared.history.Reply.TheVariants.{Done, Granted, Nested, NotLast, Holding}
 use Rattle.rt_model.specs.Computed.{computed}
 use Rattle.rt_model.specs.Group.{Group}
 use Rattle.rt_model.specs.Histories.{past_by}

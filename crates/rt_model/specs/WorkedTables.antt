@@ -1,7 +1,7 @@
 -- Worked examples: table reservations under P-RES.
 use Rattle.std.specs.Prelude.{◌≡◌, List, [], ◌∷◌, None, Some, refl}
 use Rattle.rt_task.specs.declared.PluginKind.TheVariants as plugins
-use Rattle.rt_history.specs.declared.Reply.TheVariants.{Done, Idles, NoBudget}
+use Rattle.rt_rules.specs.declared.history.Reply.TheVariants.{Done, Idles, NoBudget}
 use Rattle.rt_model.specs.Computed.{computed}
 use Rattle.rt_model.specs.Group.{Group}
 use Rattle.rt_model.specs.Histories.{past_by}

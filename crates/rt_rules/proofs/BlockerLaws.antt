@@ -1,9 +1,9 @@
 -- PCP: the blocker of a task is the owner of the newest grant among those of other tasks.
 use Rattle.std.proofs.Common.{Bool, List, [], ap, cond, eqb-true, false, inl, inr, map, not, refl, subst, sym, true, ℕ, ◌&&◌, ◌||◌, ◌∙◌, ◌∷◌, ◌≡◌, ◌⊎◌}
 use Rattle.std.specs.Prelude.{None, Option, Some, filter, is_none, nat_lt, ◌==◌}
-use Rattle.rt_order.specs.KeyOrder.{higher}
-use Rattle.rt_order.specs.OrderLaws.{higher-irreflexive, higher-transitive}
-use Rattle.rt_order.specs.declared.Key.{Key}
+use Rattle.rt_rules.specs.KeyOrder.{higher}
+use Rattle.rt_rules.specs.OrderLaws.{higher-irreflexive, higher-transitive}
+use Rattle.rt_rules.specs.declared.Key.{Key}
 use Rattle.rt_rules.specs.Numbers.{first, foremost, has}
 use Rattle.rt_rules.specs.Pcp.{TaskSem, holder_among, of_others, of_sem, passes}
 use Rattle.rt_rules.proofs.BoolLaws.{both, clash, either, unless}

@@ -3,9 +3,9 @@ use Rattle.std.proofs.Common.{Bool, List, [], ap, arith, cond, eqb-true, false, 
 use Rattle.std.proofs.lemmas.Bool.Decides.{nat_tests}
 use Rattle.std.specs.List.{find, list_all}
 use Rattle.std.specs.Prelude.{None, Some, if◌then◌else◌, nat_lt, ◌==◌}
-use Rattle.rt_order.specs.KeyOrder.{higher}
-use Rattle.rt_order.specs.OrderLaws.{higher-irreflexive, higher-total as same-key, higher-transitive}
-use Rattle.rt_order.specs.declared.Key.{Key}
+use Rattle.rt_rules.specs.KeyOrder.{higher}
+use Rattle.rt_rules.specs.OrderLaws.{higher-irreflexive, higher-total as same-key, higher-transitive}
+use Rattle.rt_rules.specs.declared.Key.{Key}
 use Rattle.rt_rules.specs.Keys.{highest}
 use Rattle.rt_rules.specs.Numbers.{foremost, has}
 use Rattle.rt_rules.proofs.BoolLaws.{both, clash, either, not_true, or_true, unless}

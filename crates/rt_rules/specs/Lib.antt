@@ -1,3 +1,5 @@
+pub mod KeyOrder
+pub mod OrderLaws
 pub mod Numbers
 pub mod Distinct
 pub mod Keys

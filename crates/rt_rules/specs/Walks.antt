@@ -1,7 +1,7 @@
 -- Priority inheritance (Sha, Rajkumar and Lehoczky, IEEE Transactions on Computers, 1990): walks from waiting tasks to those that
 -- they wait for. `next t` is the task that t waits for.
 use Rattle.std.specs.Prelude.{ℕ, zero, suc, List, [], ◌∷◌, length, map, Option, None, Some, filter}
-use Rattle.rt_order.specs.declared.Key.{Key}
+use Rattle.rt_rules.specs.declared.Key.{Key}
 use Rattle.rt_rules.specs.Numbers.{has}
 use Rattle.rt_rules.specs.Keys.{highest}
 

@@ -1,6 +1,6 @@
 -- Worked examples on lists, computed from the definitions. Tasks are above one another by their numbers here, the lower the higher.
 use Rattle.std.specs.Prelude.{◌≡◌, ℕ, ◌+◌, Bool, true, false, nat_lt, [], ◌∷◌, Option, None, Some, if◌then◌else◌, refl}
-use Rattle.rt_order.specs.declared.Key.{Key}
+use Rattle.rt_rules.specs.declared.Key.{Key}
 use Rattle.rt_rules.specs.Keys.{Ranked, sorted}
 use Rattle.rt_rules.specs.Mpcp.{mpcp_after}
 use Rattle.rt_rules.specs.Omlp.{omlp_after}

@@ -1,7 +1,7 @@
 -- The keys with which tasks asked, kept by the number of the task.
 use Rattle.std.specs.Prelude.{ℕ, Bool, List, slice_index_or}
-use Rattle.rt_order.specs.declared.Key.{Key}
-use Rattle.rt_order.specs.KeyOrder.{higher}
+use Rattle.rt_rules.specs.declared.Key.{Key}
+use Rattle.rt_rules.specs.KeyOrder.{higher}
 
 -- the key with which a task asked last
 abbrev pub key_at : List Key → ℕ → Key

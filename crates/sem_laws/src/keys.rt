@@ -2,7 +2,7 @@
 ghost use Rattle.std.specs.Prelude.{◌≡◌};
 ghost use Rattle.sem_laws.specs.KeptKeys.{key_at};
 
-use rt_order::Key;
+use rt_rules::Key;
 
 /// The key at a place, or the highest of all past the end.
 pub fn key_in(keys: &[Key], place: u32) -> Key

@@ -1,6 +1,6 @@
 -- What a request makes of the table, and when it is granted at once.
 use Rattle.std.specs.Prelude.{ℕ, ◌+◌, Bool, true, false, min, Option, None, Some, slice_set}
-use Rattle.rt_order.specs.declared.Key.{Key}
+use Rattle.rt_rules.specs.declared.Key.{Key}
 use Rattle.rt_rules.specs.Fmlp.{fmlp_after}
 use Rattle.rt_rules.specs.Mpcp.{mpcp_after}
 use Rattle.rt_rules.specs.Numbers.{first, same}

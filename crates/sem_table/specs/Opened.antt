@@ -6,8 +6,8 @@ use Rattle.rt_task.specs.declared.Parts.{Parts}
 use Rattle.rt_task.specs.declared.Task.{Task}
 use Rattle.rt_task.specs.declared.Protocol.{Protocol}
 use Rattle.rt_task.specs.declared.Protocol.TheVariants as protocols
-use Rattle.rt_order.specs.declared.Key.{Key}
-use Rattle.rt_order.specs.KeyOrder.{lowest_key}
+use Rattle.rt_rules.specs.declared.Key.{Key}
+use Rattle.rt_rules.specs.KeyOrder.{lowest_key}
 use Rattle.rt_rules.specs.Keys.{highest}
 use Rattle.rt_rules.specs.Numbers.{is, is_empty, numbers_from}
 use Rattle.rt_model.specs.Ceilings.{is_pcp}

@@ -19,7 +19,7 @@ use mpcp_sem::MpcpSem;
 use omlp_sem::OmlpSem;
 use pcp_sem::PcpSet;
 use rt_base::{Ask, ClusterNo, SemNo, TaskNo};
-use rt_order::Key;
+use rt_rules::Key;
 use srp_sem::SrpSet;
 
 /// A semaphore of one of the five protocols. The PCP semaphores of a cluster are kept in one set, where each has its

@@ -14,7 +14,7 @@ use mpcp_sem::MpcpSem;
 use omlp_sem::OmlpSem;
 use pcp_sem::PcpSet;
 use rt_base::{ClusterNo, GroupNo, NoMemory};
-use rt_order::Key;
+use rt_rules::Key;
 use rt_task::{Parts, Protocol, Task};
 use std::alloc::Global;
 

@@ -1,14 +1,14 @@
 //! What the parts of a setup say of a group and its semaphores.
 ghost use Rattle.std.specs.Prelude.{◌≡◌, ◌≤◌, ◌&&◌, ◌∷◌, ◌++◌, [], if◌then◌else◌, length, map, IfOk, unwrap_or, option_map};
 ghost use Rattle.rt_base.specs.TaskNos.{numbers};
-ghost use Rattle.rt_order.specs.KeyOrder.{lowest_key};
+ghost use Rattle.rt_rules.specs.KeyOrder.{lowest_key};
 ghost use Rattle.rt_rules.specs.Keys.{highest};
 ghost use Rattle.rt_rules.specs.Numbers.{has, first};
 ghost use Rattle.rt_model.specs.Group.{cpus, declares, home, in_group, protocol, users};
 ghost use Rattle.sem_table.specs.Opened.{group_in, pcp_home, prio_key};
 
 use rt_base::{ClusterNo, GroupNo, NoMemory, SemNo, TaskNo};
-use rt_order::Key;
+use rt_rules::Key;
 use rt_task::{Cluster, Parts, Protocol, Task};
 use std::alloc::Global;
 

@@ -8,12 +8,12 @@ use Rattle.rt_task.specs.declared.PluginKind.{PluginKind}
 use Rattle.rt_task.specs.declared.PluginKind.TheVariants as plugins
 use Rattle.rt_task.specs.declared.Protocol.{Protocol}
 use Rattle.rt_task.specs.declared.Protocol.TheVariants.{Fmlp, Mpcp, Omlp, Pcp, Srp}
-use Rattle.rt_order.specs.declared.Key.{Key}
+use Rattle.rt_rules.specs.declared.Key.{Key}
 use Rattle.rt_rules.specs.Keys.{highest}
 use Rattle.rt_rules.specs.Numbers.{has, is, numbers_from}
 use Rattle.rt_model.specs.BaseKeys.{base_key, key_by}
 use Rattle.rt_model.specs.Ceilings.{ceiling, pcp}
-use Rattle.rt_order.specs.KeyOrder.{lowest_key}
+use Rattle.rt_rules.specs.KeyOrder.{lowest_key}
 use Rattle.rt_model.specs.Group.{Group, cpus, in_group, protocol, sems, tasks, users}
 use Rattle.rt_model.specs.Semaphores.{cluster_of, fmlp, omlp, mpcp}
 use Rattle.rt_model.specs.StackPolicy.{srp, srp_ceiling}

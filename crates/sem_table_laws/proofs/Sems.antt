@@ -3,8 +3,8 @@ use Rattle.std.proofs.Common.{◌≡◌, ◌∙◌, ℕ, true, false, List, ◌�
 use Rattle.std.specs.Prelude.{◌==◌, slice_set}
 use Rattle.rt_task.specs.declared.Protocol.{Protocol}
 use Rattle.rt_task.specs.declared.Protocol.TheVariants.{Fmlp, Mpcp, Omlp, Pcp, Srp}
-use Rattle.rt_order.specs.declared.Key.{Key}
-use Rattle.rt_order.specs.KeyOrder.{higher}
+use Rattle.rt_rules.specs.declared.Key.{Key}
+use Rattle.rt_rules.specs.KeyOrder.{higher}
 use Rattle.rt_rules.specs.Numbers.{has, foremost, rest}
 use Rattle.rt_rules.specs.Omlp.{OmlpState, omlp_after, handed_over}
 use Rattle.rt_rules.specs.Mpcp.{mpcp_after, passed_on}

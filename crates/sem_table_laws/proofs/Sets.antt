@@ -6,7 +6,7 @@ use Rattle.rt_task.specs.declared.PluginKind.{PluginKind}
 use Rattle.rt_task.specs.declared.PluginKind.TheVariants as plugins
 use Rattle.rt_task.specs.declared.Protocol.{Protocol}
 use Rattle.rt_task.specs.declared.Protocol.TheVariants.{Pcp}
-use Rattle.rt_order.specs.declared.Key.{Key}
+use Rattle.rt_rules.specs.declared.Key.{Key}
 use Rattle.rt_rules.specs.Numbers.{has}
 use Rattle.rt_rules.specs.Pcp.{PcpState, passes, pcp_after}
 use Rattle.rt_rules.specs.SemState.{SemAct, Asks, Frees, Neither}
@@ -25,7 +25,7 @@ use Rattle.rt_laws.proofs.Next.{next}
 use Rattle.rt_laws.proofs.PcpState.{IsPcpKept, IsUser, pcp_kept, pcp-first, pcp-holder, pcp-waiting, sem-home, user-not_over}
 use Rattle.rt_rules.specs.Numbers.{first, is}
 use Rattle.rt_rules.specs.Pcp.{of_sem}
-use Rattle.rt_order.specs.KeyOrder.{higher}
+use Rattle.rt_rules.specs.KeyOrder.{higher}
 use Rattle.rt_model.specs.Holders.{sem_state}
 use Rattle.rt_model.specs.Semaphores.{cluster_of}
 use Rattle.rt_rules.proofs.PairLaws.{pair-of}

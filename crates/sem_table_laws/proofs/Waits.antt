@@ -4,7 +4,7 @@ use Rattle.std.specs.Prelude.{Option, None, Some, option_map, slice_get, nat_lt}
 use Rattle.rt_base.specs.declared.SemNo.{SemNo}
 use Rattle.rt_task.specs.declared.Protocol.{Protocol}
 use Rattle.rt_task.specs.declared.Protocol.TheVariants.{Fmlp, Mpcp, Omlp, Pcp, Srp}
-use Rattle.rt_order.specs.KeyOrder.{higher}
+use Rattle.rt_rules.specs.KeyOrder.{higher}
 use Rattle.rt_rules.specs.Numbers.{has}
 use Rattle.rt_rules.specs.Pcp.{PcpState, holder_among, of_others}
 use Rattle.rt_rules.specs.SemState.{SemState}

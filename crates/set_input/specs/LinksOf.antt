@@ -1,7 +1,7 @@
 -- What holds after each entry of the histories of a set.
 use Rattle.std.specs.Prelude.{◌≡◌, ℕ, ◌<◌, ◌≤◌, List, [], length, get_or, take}
 use Rattle.rt_task.specs.declared.Parts.{Parts}
-use Rattle.rt_history.specs.declared.Entry.{Entry}
+use Rattle.rt_rules.specs.declared.history.Entry.{Entry}
 use Rattle.rt_rules.specs.Numbers.{has}
 use Rattle.rt_rules.specs.Placing.{tasks_in}
 use Rattle.rt_model.specs.Group.{Group}

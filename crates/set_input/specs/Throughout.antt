@@ -1,7 +1,7 @@
 -- What holds after each entry of the histories of a set: of links, of holders and waits, and of the requests.
 use Rattle.std.specs.Prelude.{◌≡◌, ◌≢◌, ℕ, ◌<◌, ◌≤◌, true, false, List, [], ◌∷◌, ◌++◌, Some, All, length, get_or, take}
 use Rattle.rt_task.specs.declared.Parts.{Parts}
-use Rattle.rt_history.specs.declared.Entry.{Entry}
+use Rattle.rt_rules.specs.declared.history.Entry.{Entry}
 use Rattle.rt_rules.specs.Pcp.{TaskSem, passes}
 use Rattle.rt_model.specs.Blocking.{is_blocked}
 use Rattle.rt_model.specs.Ceilings.{above_ceiling, is_pcp, pcp}

@@ -5,7 +5,7 @@ use Rattle.rt_task.specs.declared.Act.{Act}
 use Rattle.rt_task.specs.declared.Act.TheVariants as acts
 use Rattle.rt_task.specs.declared.Parts.{Parts}
 use Rattle.rt_task.specs.declared.Step.{Step}
-use Rattle.rt_history.specs.declared.Situation.{Situation}
+use Rattle.rt_rules.specs.declared.history.Situation.{Situation}
 use Rattle.rt_model.specs.Group.{Group, group_processors}
 use Rattle.rt_model.specs.Histories.{after, past_by}
 use Rattle.rt_model.specs.Past.{Past}

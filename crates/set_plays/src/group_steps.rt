@@ -9,7 +9,7 @@ ghost use Rattle.set_plays.specs.StepsLeft.{AreReady};
 
 use crate::{StepsLeft, TurnsLeft};
 use rt_base::{GroupNo, NoMemory};
-use rt_history::Entry;
+use rt_rules::Entry;
 use rt_task::{Setup, Step};
 use std::alloc::Global;
 use trace_text::cpus_of;

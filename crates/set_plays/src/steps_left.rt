@@ -8,7 +8,7 @@ ghost use Rattle.set_plays.specs.StepsLeft.{AreOf, room_of, steps_left};
 
 use crate::TurnsLeft;
 use group_engine::Engine;
-use rt_history::Entry;
+use rt_rules::Entry;
 use rt_task::{Setup, Step};
 
 /// The steps of a group that are left to be played: given ones, those of a history, or turns.

@@ -1,7 +1,7 @@
 -- What a load prints: of the set that is generated for a number, what its histories come to, and what tools count of them.
 use Rattle.std.specs.Prelude.{ℕ, List, [], ◌∷◌, ◌++◌, codes, decimal, flat_map}
 use Rattle.rt_task.specs.declared.Parts.{Parts}
-use Rattle.rt_history.specs.declared.Entry.{Entry}
+use Rattle.rt_rules.specs.declared.history.Entry.{Entry}
 use Rattle.rt_fault.specs.Held.{Extends, ExtendsByPrefix}
 use Rattle.rt_plays.specs.Order.{histories}
 use Rattle.load_set.specs.Load.{load_of}

@@ -3,7 +3,7 @@ use Rattle.std.proofs.Common.{◌≡◌, ◌≢◌, ◌⊎◌, ℕ, ◌<◌, Boo
 use Rattle.std.specs.Prelude.{◌==◌}
 use Rattle.rt_base.specs.declared.Ask.{Ask}
 use Rattle.rt_base.specs.declared.Ask.TheVariants.{Granted, Queued}
-use Rattle.rt_order.specs.KeyOrder.{higher, equal_keys}
+use Rattle.rt_rules.specs.KeyOrder.{higher, equal_keys}
 use Rattle.rt_rules.specs.Mpcp.{after_ask, passed_on}
 use Rattle.rt_rules.specs.Numbers.{first, foremost, has, is, rest, without}
 use Rattle.rt_rules.specs.SemState.{in_line}

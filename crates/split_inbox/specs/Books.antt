@@ -4,8 +4,8 @@ use Rattle.rt_base.specs.TaskNos.{number_of_task}
 use Rattle.rt_base.specs.declared.Ask.{Ask}
 use Rattle.rt_base.specs.declared.CpuNo.{CpuNo}
 use Rattle.rt_base.specs.declared.TaskNo.{TaskNo}
-use Rattle.rt_order.specs.KeyOrder.{higher}
-use Rattle.rt_order.specs.declared.Key.{Key}
+use Rattle.rt_rules.specs.KeyOrder.{higher}
+use Rattle.rt_rules.specs.declared.Key.{Key}
 use Rattle.rt_rules.specs.Mpcp.{after_ask, passed_on}
 use Rattle.rt_rules.specs.Numbers.{first, foremost, has, is}
 use Rattle.rt_rules.specs.SemState.{SemState}

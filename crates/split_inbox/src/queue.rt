@@ -11,7 +11,7 @@ use crate::subject::SemRule;
 use fmlp_sem::FmlpSem;
 use mpcp_sem::MpcpSem;
 use rt_base::{Ask, NoMemory, TaskNo};
-use rt_order::Key;
+use rt_rules::Key;
 use std::alloc::Global;
 
 /// A semaphore of either kind.

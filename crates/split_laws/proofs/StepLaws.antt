@@ -6,7 +6,7 @@ use Rattle.rt_task.specs.declared.Act.{Act}
 use Rattle.rt_task.specs.declared.Parts.{Parts}
 use Rattle.rt_task.specs.declared.Protocol.{Protocol}
 use Rattle.rt_task.specs.declared.Protocol.TheVariants as protocols
-use Rattle.rt_history.specs.declared.Reply.{Reply}
+use Rattle.rt_rules.specs.declared.history.Reply.{Reply}
 use Rattle.rt_rules.specs.Numbers.{has}
 use Rattle.rt_rules.specs.Mpcp.{passed_on}
 use Rattle.rt_rules.specs.SemState.{SemState}

@@ -3,7 +3,7 @@
 use Rattle.std.specs.Prelude.{◌≡◌, ℕ, ◌==◌, false, List, [], ◌∷◌, ◌++◌, length}
 use Rattle.rt_base.specs.TaskNos.{number_of_task}
 use Rattle.rt_task.specs.declared.Parts.{Parts}
-use Rattle.rt_history.specs.declared.Reply.TheVariants as replies
+use Rattle.rt_rules.specs.declared.history.Reply.TheVariants as replies
 use Rattle.rt_rules.specs.SemState.{SemState}
 use Rattle.rt_model.specs.Group.{Group, protocol}
 use Rattle.rt_model.specs.Past.{now}

@@ -4,8 +4,8 @@ use Rattle.std.specs.Prelude.{◌≡◌, ℕ, true, List, [], map, Option, Some,
 use Rattle.rt_base.specs.declared.Ask.{Ask}
 use Rattle.rt_base.specs.declared.TaskNo.{TaskNo}
 use Rattle.rt_task.specs.declared.Act.{Act}
-use Rattle.rt_history.specs.declared.Reply.{Reply}
-use Rattle.rt_history.specs.declared.Reply.TheVariants as replies
+use Rattle.rt_rules.specs.declared.history.Reply.{Reply}
+use Rattle.rt_rules.specs.declared.history.Reply.TheVariants as replies
 use Rattle.rt_model.specs.Group.{Group, sems, tasks}
 use Rattle.split_rules.specs.Matching.{Books, claims, done_at, granted_at, own, rise_from, taken_at, told}
 use Rattle.split_rules.specs.PartPast.{Claim, deeds}

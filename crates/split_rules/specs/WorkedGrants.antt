@@ -4,7 +4,7 @@ use Rattle.rt_base.specs.declared.Ask.TheVariants.{Granted, Queued}
 use Rattle.rt_task.specs.declared.Kind.TheVariants.{Periodic}
 use Rattle.rt_task.specs.declared.PluginKind.TheVariants as plugins
 use Rattle.rt_task.specs.declared.Protocol.TheVariants.{Fmlp, Mpcp}
-use Rattle.rt_history.specs.declared.Reply.TheVariants as replies
+use Rattle.rt_rules.specs.declared.history.Reply.TheVariants as replies
 use Rattle.rt_model.specs.Group.{Group}
 use Rattle.rt_model.specs.Samples.{group_of, cluster_with, sem_under, task_with, in_group, tick, irq, work, lock, unlock, end, runs_task}
 use Rattle.split_rules.specs.Computed.{computed_splits}

@@ -3,7 +3,7 @@
 #![tactic(auto)]
 
 use rt_base::{Ask, CpuNo, SemNo, TaskNo, Tick};
-use rt_history::Reply;
+use rt_rules::Reply;
 use rt_task::Act;
 
 /// One entry of a semaphore's history: what a task of a processor did at it, and what came of it.

@@ -3,7 +3,7 @@
 use crate::stepping::{end_in_order, text_in_order};
 use part_seat::Played2;
 use rt_base::{SemNo, TaskNo, Tick};
-use rt_history::Reply;
+use rt_rules::Reply;
 use split_rules::{SplitAct, SplitEntry};
 use std::test::Fail;
 

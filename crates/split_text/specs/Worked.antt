@@ -4,7 +4,7 @@ use Rattle.std.specs.Fmt.{digits}
 use Rattle.rt_task.specs.declared.Task.{Task}
 use Rattle.rt_task.specs.declared.PluginKind.TheVariants as plugins
 use Rattle.rt_task.specs.declared.Protocol.TheVariants.{Fmlp}
-use Rattle.rt_history.specs.declared.Reply.TheVariants as replies
+use Rattle.rt_rules.specs.declared.history.Reply.TheVariants as replies
 use Rattle.rt_model.specs.Group.{Group}
 use Rattle.rt_model.specs.Samples.{group_of, cluster_with, sem_under, periodic, in_cluster, using, irq, lock, runs_task}
 use Rattle.split_rules.specs.Computed.{computed_splits}

@@ -9,7 +9,7 @@ ghost use Rattle.split_writer.specs.Replays.{CanAct, CanPlay, IsOpReply, is_irq_
 
 use part_state::PartState;
 use rt_base::CpuNo;
-use rt_history::Reply;
+use rt_rules::Reply;
 use rt_task::{Act, Op, Task};
 use split_rules::{SplitAct, SplitEntry};
 

@@ -1,7 +1,7 @@
 -- The text of the table of jobs: groups by number, in each the tasks by number, in each the jobs by number.
 use Rattle.std.specs.Prelude.{ℕ, List, [], ◌∷◌, ◌++◌, flat_map, codes, decimal}
 use Rattle.rt_task.specs.declared.Parts.{Parts}
-use Rattle.rt_history.specs.declared.Entry.{Entry}
+use Rattle.rt_rules.specs.declared.history.Entry.{Entry}
 use Rattle.rt_model.specs.Group.{Group, task}
 use Rattle.rt_model.specs.Past.{Past}
 use Rattle.trace_views.specs.JobRows.{JobRow, job_rows}

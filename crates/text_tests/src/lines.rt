@@ -1,7 +1,7 @@
 //! Lines as text, with each act and each reply, in both formats.
 
 use rt_base::{CpuNo, GroupNo, SemNo, TaskNo, Tick};
-use rt_history::{Entry, Reply};
+use rt_rules::{Entry, Reply};
 use rt_task::{Act, Op, Setup, Step};
 use set_read::read_set;
 use std::alloc::Global;

@@ -1,7 +1,7 @@
 //! Traces that are read, to their end or up to a line that is none, and bytes that are no trace.
 
 use rt_base::{SemNo, TaskNo};
-use rt_history::Reply;
+use rt_rules::Reply;
 use rt_task::{BadSet, Part, Place, SetKind};
 use std::alloc::Global;
 use std::test::Fail;

@@ -3,7 +3,7 @@ use Rattle.std.proofs.Common.{◌≡◌, ℕ, sym, ap, ◌∙◌, subst}
 use Rattle.std.specs.Prelude.{List, Option}
 use Rattle.rt_task.specs.declared.Parts.{Parts}
 use Rattle.rt_task.specs.declared.Step.{Step}
-use Rattle.rt_history.specs.declared.Reply.{Reply}
+use Rattle.rt_rules.specs.declared.history.Reply.{Reply}
 use Rattle.rt_rules.specs.SemState.{Frees}
 use Rattle.rt_model.specs.Group.{Group}
 use Rattle.rt_model.specs.Histories.{clock_moved, past_of, reply_to}
@@ -14,7 +14,7 @@ use Rattle.rt_model.proofs.Steps.{reply_to-lem}
 use Rattle.count_laws.specs.CountLaws.{act_of}
 use Rattle.count_laws.specs.Tallies.{AreWaiters, Waiter, act_by}
 use Rattle.block_counts.specs.GroupRequests.{IsBetween, NamesKnown}
-use Rattle.waiting_list.specs.Listing.{AreListed, AreWaitersAt, Moment}
+use Rattle.group_core.specs.Listing.{AreListed, AreWaitersAt, Moment}
 use Rattle.rank_afresh.specs.Standing.{IsOfSame, Standing, group_of}
 use Rattle.trace_text.proofs.BlockLines.{names-known, reachable-past_of}
 use Rattle.trace_check.specs.declared.follow.Follow.{Follow}

@@ -9,7 +9,7 @@ use Rattle.std.proofs.lemmas.List.Elements.{All-get_or}
 use Rattle.std.proofs.Math.Seq.{get_or-append_seam, take-append-add, take-append_seam}
 use Rattle.rt_task.specs.declared.Parts.{Parts}
 use Rattle.rt_task.specs.Validity.{IsValid}
-use Rattle.rt_history.specs.declared.Entry.{Entry}
+use Rattle.rt_rules.specs.declared.history.Entry.{Entry}
 use Rattle.rt_plays.specs.Plays.{ArePlays}
 use Rattle.set_canonical.specs.Canonical.{canonical}
 use Rattle.trace_lines.specs.declared.format.Version.{Version}
@@ -246,7 +246,7 @@ module _ (tools : List Tool) (v : Version) (p : Parts) (valid : IsValid p) where
     known : All (IsLine k) all
     known = known-lines v p valid hs plays
 
-    text_is : bytes ≡ trace_text v p hs ++ behind
+    pub text_is : bytes ≡ trace_text v p hs ++ behind
     text_is = head_is.bytes_are ∙ sym (longer-begins v p hs behind (trace_text v p hs ++ behind) refl)
 
     -- it is valid where nothing stands behind them, or all the count lines

@@ -1,6 +1,6 @@
 -- A text that was judged right so far, and what the next line comes to.
-use Rattle.std.proofs.Common.{◌≡◌, ◌≢◌, ℕ, zero, suc, ◌+◌, ◌-◌, ◌*◌, ◌<◌, ◌≤◌, ◌^◌, inl, inr, ◌⊎◌, Bool, true, false, ◌||◌, ◌==◌, List, [], ◌∷◌, ◌++◌, length, map, take, drop, get_or, None, Some, refl, sym, ap, ◌∙◌, subst, arith, eqb-true, append_assoc, length-append}
-use Rattle.std.specs.Prelude.{All, Option, bytes_eq, codes, flat_map, sum_by, if◌then◌else◌}
+use Rattle.std.proofs.Common.{◌≡◌, ◌≢◌, ℕ, zero, suc, ◌+◌, ◌-◌, ◌*◌, ◌<◌, ◌≤◌, ◌^◌, inl, inr, ◌⊎◌, Bool, true, false, ◌||◌, ◌==◌, List, [], ◌∷◌, ◌++◌, length, map, take, drop, get_or, None, Some, refl, sym, ap, ◌∙◌, subst, arith, eqb-true, append-nil, append_assoc, length-append}
+use Rattle.std.specs.Prelude.{All, Option, bytes_eq, codes, flat_map, not, sum_by, if◌then◌else◌}
 use Rattle.std.proofs.lemmas.List.Sums.{sum-map, sum_by-cons, sum_by_push}
 use Rattle.std.proofs.lemmas.List.{append_cancel_left, drop-drop, length-take-le, nil_from_length, take-append-drop, take_all}
 use Rattle.std.proofs.lemmas.List.Elements.{All-append, All-head, All-take}
@@ -9,7 +9,7 @@ use Rattle.std.proofs.Math.Seq.{drop-cons}
 use Rattle.rt_base.specs.declared.TheConstants.{MOST_STEPS}
 use Rattle.rt_task.specs.declared.Parts.{Parts}
 use Rattle.rt_task.specs.Validity.{IsValid}
-use Rattle.rt_history.specs.declared.Entry.{Entry}
+use Rattle.rt_rules.specs.declared.history.Entry.{Entry}
 use Rattle.rt_model.specs.Group.{Group, group_processors}
 use Rattle.rt_model.specs.Histories.{past_of}
 use Rattle.rt_groups.specs.Groups.{IsGroupOf}
@@ -23,8 +23,8 @@ use Rattle.trace_lines.specs.Grammar.{line_text, line_words}
 use Rattle.trace_lines.specs.Known.{IsLine, Known, known_of}
 use Rattle.trace_tools.specs.Seats.{Seat, seat_after, seat_line, seat_of, seats_after}
 use Rattle.trace_tools.specs.Tools.{Tool}
-use Rattle.trace_text.specs.CountLines.{count_lines, shown_as, shown_entries, shown_from}
-use Rattle.trace_text.specs.TraceText.{lines_from, links_at}
+use Rattle.trace_text.specs.CountLines.{count_lines, counted_text, shown_as, shown_entries, shown_from}
+use Rattle.trace_text.specs.TraceText.{lines_from, links_at, trace_text}
 use Rattle.trace_text.proofs.GroupLaws.{groups-few}
 use Rattle.trace_text.proofs.LineLaws.{past_none}
 use Rattle.trace_read.specs.Reading.{begins_with_digit}
@@ -45,6 +45,7 @@ use Rattle.trace_check.specs.Verdicts.{HasShown, IsInvalid, IsVerdict}
 use Rattle.trace_check.specs.Following.{HasTaken, IsFollowing, IsFollowingWith, IsNextEntry, IsTaken, NoneIsNext}
 use Rattle.trace_course.specs.Places.{Place}
 use Rattle.trace_check.specs.GroupLines.{ArePlaysFrom, IsOtherLine, NoEntryBegins, NoEntryBehind, NoEntryFirst, lines_of_groups, lines_so_far, next_line, opening_line}
+use Rattle.trace_check.specs.Counts.{IsCountedText}
 use Rattle.trace_check.specs.Judging.{IsJudged, IsJudgedText, IsShownText, verdict_behind}
 use Rattle.trace_check.specs.Progress.{AreAllRight, AreRight, IsEndedAt, IsFollowedTo, IsRight, finished, missing, unfinished}
 use Rattle.trace_check.specs.LinesAlike.{lines_alike}
@@ -52,7 +53,7 @@ use Rattle.trace_check.specs.RequestLines.{HaveStood}
 use Rattle.trace_check.proofs.FirstLetters.{other-letter}
 use Rattle.trace_check.proofs.GroupLines.{IsNoEnd, blocks-no_end, blocks-other, lines_so_far-last, lines_so_far-none, next-step, next-told, so_far-no_end}
 use Rattle.trace_check.proofs.SetLines.{AreClosed, GoesOn, IsEntryNext, IsNextAfter, completed-between, completed-whole, completed-within, from-all, goes-on, groups-no_end, lines-last, lines_behind, lines_through, next-between, next-within, plays-append, whole-lines}
-use Rattle.trace_check.proofs.Judged.{alone-valid, behind-wrong, counted-valid, counts-begun, heads, same-histories}
+use Rattle.trace_check.proofs.Judged.{alone-valid, behind-wrong, counted-valid, counts-begun, heads, same-histories, text_is}
 use Rattle.trace_check.proofs.Shown.{lines-shown, shown-group, shown-more, shown-none}
 use Rattle.trace_check.proofs.TextPlaces.{StandFirst, lines-short, rest-of, size-is, stand-further, stand-line, stand-none, stopped-at, texts, texts-more, wrong-lines}
 
@@ -509,3 +510,29 @@ module _ (v : Version) (p : Parts) (text : List ℕ) where
       end-shown tools (Valid m) opened_is bytes head = λ is.
           all.right.shown ∙ ap (seats_after (shown_from p 0 hs)) opened_is
           ∙ ap (λ (xs : List (List Entry)). seats_after (shown_from p 0 xs) (map seat_of tools)) (same-histories tools v p all.valid bytes hs plays_all behind_end (head-all tools bytes head) m is)
+
+      -- whether count lines stand behind it
+      pub end-counted : (tools : List Tool) (wanted : List ℕ) (verdict : Verdict) (counted : Bool) → opened ≡ map seat_of tools → ((known : Known) → wanted ≡ texts known (map seat_line seats))
+          → verdict ≡ verdict_behind behind_end wanted (r.lines + 1 + 2) r.entries → counted ≡ not (length behind_end == 0) → IsCountedText tools v p text verdict counted
+      end-counted tools wanted (Invalid line) counted opened_is wanted_is is counted_is bytes head = tt
+      end-counted tools wanted (Valid m) counted opened_is wanted_is is counted_is bytes head = λ valid.
+          subst (λ (xs : List (List Entry)). bytes ≡ (if counted then counted_text v tools p xs else trace_text v p xs))
+          (same-histories tools v p all.valid bytes hs plays_all behind_end (head-all tools bytes head) m valid)
+          (by_tests (length behind_end == 0) (bytes_eq behind_end wanted) refl refl is (counted_is))
+        where
+          whole : bytes ≡ trace_text v p hs ++ behind_end
+          whole = text_is tools v p all.valid bytes hs plays_all behind_end (head-all tools bytes head)
+
+          shown : seats ≡ seats_after (shown_from p 0 hs) (map seat_of tools)
+          shown = all.right.shown ∙ ap (seats_after (shown_from p 0 hs)) opened_is
+
+          by_tests : (e f : Bool) → (length behind_end == 0) ≡ e → bytes_eq behind_end wanted ≡ f
+              → Valid m ≡ (if e || f then Valid r.entries else Invalid (r.lines + 1 + 2 + lines_alike behind_end wanted + 1)) → counted ≡ not e
+              → bytes ≡ (if counted then counted_text v tools p hs else trace_text v p hs)
+          by_tests true f none same valid off =
+              subst (λ (b : Bool). bytes ≡ (if b then counted_text v tools p hs else trace_text v p hs)) (sym off)
+              (whole ∙ ap (λ (t : List ℕ). trace_text v p hs ++ t) (nil_from_length behind_end (eqb-true (length behind_end) 0 none)) ∙ append-nil (trace_text v p hs))
+          by_tests false true some same valid on =
+              subst (λ (b : Bool). bytes ≡ (if b then counted_text v tools p hs else trace_text v p hs)) (sym on)
+              (whole ∙ ap (λ (t : List ℕ). trace_text v p hs ++ t) ((bytes_eq-Decides behind_end wanted).0 same ∙ wanted_is k ∙ ap (texts k) (lines-shown tools p hs seats shown)))
+          by_tests false false some other valid on = cc

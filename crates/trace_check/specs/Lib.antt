@@ -5,4 +5,5 @@ pub mod Following
 pub mod GroupLines
 pub mod RequestLines
 pub mod Judging
+pub mod Counts
 pub mod Progress

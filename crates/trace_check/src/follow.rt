@@ -1,7 +1,7 @@
 //! The entry lines of a group, followed step by step.
 ghost use Rattle.std.specs.Prelude.{◌≡◌, ◌+◌, ◌<◌, ◌≤◌, ◌∷◌, ◌++◌, [], ℕ, true, false};
 ghost use Rattle.std.specs.Prelude.{IfOk, List, Some, length};
-ghost use Rattle.rt_history.specs.declared.Entry as entries;
+ghost use Rattle.rt_rules.specs.declared.history.Entry as entries;
 ghost use Rattle.rt_model.specs.Histories.{after, past_of, reply_to};
 ghost use Rattle.rt_groups.specs.Groups.{IsGroupOf};
 ghost use Rattle.block_counts.specs.GroupRequests as counts;
@@ -21,9 +21,10 @@ ghost use Rattle.trace_check.specs.RequestLines.{request_lines};
 use crate::lines::{begins_with, make_entry_line};
 use crate::links::GroupLinks;
 use block_counts::{Blocks, Seen};
+use group_core::WaitingList;
 use rank_afresh::Afresh;
 use rt_base::{GroupNo, NoMemory};
-use rt_history::{Entry, Reply};
+use rt_rules::{Entry, Reply};
 use rt_task::{Setup, Step};
 use std::alloc::Global;
 use trace_course::Course;
@@ -31,7 +32,6 @@ use trace_lines::{CpuLink, Version};
 use trace_read::mover_at;
 use trace_text::{cpus_of, shown_by};
 use trace_tools::Shown;
-use waiting_list::WaitingList;
 
 /// A group whose entries are followed: the ranker that replays them, the requests so far with their
 /// counts, the tasks that waited as the last entry freed a semaphore, the group's processors with

@@ -1,19 +1,20 @@
 //! The text of a trace behind its first two lines, judged line by line.
-ghost use Rattle.std.specs.Prelude.{◌≡◌, ◌+◌, ◌≤◌, List, map, IfOk, length};
+ghost use Rattle.std.specs.Prelude.{◌≡◌, ◌+◌, ◌≤◌, List, map, false, IfOk, length};
 ghost use Rattle.rt_task.specs.declared.Parts.{Parts};
 ghost use Rattle.trace_lines.specs.declared.format.Version.{Version};
 ghost use Rattle.trace_tools.specs.Places.{seats};
 ghost use Rattle.trace_tools.specs.Seats.{seat_of};
 ghost use Rattle.trace_tools.specs.Tools.{Tool};
+ghost use Rattle.trace_check.specs.Counts.{IsCountedText};
 ghost use Rattle.trace_check.specs.Judging.{IsJudgedText, IsShownText, verdict_behind};
 ghost use Rattle.trace_check.specs.Progress.{AreAllRight};
 
-use crate::Verdict;
 use crate::behind::lines_alike;
 use crate::counts::count_text;
 use crate::group::follow_group;
 use crate::lines::begins_with;
 use crate::progress::{Followed, Progress};
+use crate::{Checked, Verdict};
 use rt_base::{GroupNo, NoMemory};
 use rt_task::Setup;
 use std::alloc::Global;
@@ -35,6 +36,17 @@ fn wrong_at(place: usize) -> Result<Verdict, NoMemory>
     ensures { IfOk result (λ v. v ≡ Verdict.Invalid (place + 3)) }
 {
     Ok(Verdict::Invalid(line_at(place)?))
+}
+
+/// That the line behind this place is the first that is wrong.
+fn wrong(place: usize) -> Result<Checked, NoMemory>
+    ensures { IfOk result (λ c. c
+        ≡ record { verdict = Verdict.Invalid (place + 3); counted = false }) }
+{
+    Ok(Checked {
+        verdict: wrong_at(place)?,
+        counted: false,
+    })
 }
 
 /// The line behind all groups.
@@ -67,27 +79,30 @@ fn end_at<T: TraceTool>(
     text: &[u8],
     right: Progress,
     bus: &Bus<T>,
-) -> Result<Verdict, NoMemory>
+) -> Result<Checked, NoMemory>
     requires within { right.length ≤ length text.now }
     requires places { right.lines ≤ right.length }
-    ensures judged { IfOk result (λ v. (version : Version) (p : Parts) (tools : List Tool)
+    ensures judged { IfOk result (λ c. (version : Version) (p : Parts) (tools : List Tool)
         → AreAllRight version p text.now right (map seat_of tools) (seats T.tool bus.now)
-        → IsJudgedText tools version p text.now v) }
-    ensures shown { IfOk result (λ v. (version : Version) (p : Parts) (tools : List Tool)
+        → IsJudgedText tools version p text.now c.verdict) }
+    ensures counted { IfOk result (λ c. (version : Version) (p : Parts) (tools : List Tool)
         → AreAllRight version p text.now right (map seat_of tools) (seats T.tool bus.now)
-        → IsShownText tools version p text.now (seats T.tool bus.now) v) }
+        → IsCountedText tools version p text.now c.verdict c.counted) }
+    ensures shown { IfOk result (λ c. (version : Version) (p : Parts) (tools : List Tool)
+        → AreAllRight version p text.now right (map seat_of tools) (seats T.tool bus.now)
+        → IsShownText tools version p text.now (seats T.tool bus.now) c.verdict) }
 {
     let rest = &text[right.length..];
     if !begins_with(rest, END) {
-        return wrong_at(right.lines);
+        return wrong(right.lines);
     }
     let counts = count_text(alloc, bus)?;
-    judge_behind(
-        &rest[END.len()..],
-        counts.as_slice(),
-        right.lines + 1,
-        right.entries,
-    )
+    let behind = &rest[END.len()..];
+    let verdict = judge_behind(behind, counts.as_slice(), right.lines + 1, right.entries)?;
+    Ok(Checked {
+        verdict,
+        counted: !behind.is_empty(),
+    })
 }
 
 /// What the text comes to that stands behind the two lines of a head with a canonical set.
@@ -97,13 +112,16 @@ pub(crate) fn judge_text<T: TraceTool>(
     setup: &Setup,
     text: &[u8],
     bus: &mut Bus<T>,
-) -> Result<Verdict, NoMemory>
-    ensures judged { IfOk result (λ v. (tools : List Tool)
+) -> Result<Checked, NoMemory>
+    ensures judged { IfOk result (λ c. (tools : List Tool)
         → seats T.tool bus.old ≡ map seat_of tools
-        → IsJudgedText tools version setup.now text.now v) }
-    ensures shown { IfOk result (λ v. (tools : List Tool)
+        → IsJudgedText tools version setup.now text.now c.verdict) }
+    ensures counted { IfOk result (λ c. (tools : List Tool)
         → seats T.tool bus.old ≡ map seat_of tools
-        → IsShownText tools version setup.now text.now (seats T.tool bus.new) v) }
+        → IsCountedText tools version setup.now text.now c.verdict c.counted) }
+    ensures shown { IfOk result (λ c. (tools : List Tool)
+        → seats T.tool bus.old ≡ map seat_of tools
+        → IsShownText tools version setup.now text.now (seats T.tool bus.new) c.verdict) }
 {
     // A proof knows that a setup is valid once its parts are read.
     let _parts = setup.parts();
@@ -125,7 +143,7 @@ pub(crate) fn judge_text<T: TraceTool>(
             bus,
         )? {
             Followed::Whole(further) => right = further,
-            Followed::Wrong(place) => return wrong_at(place),
+            Followed::Wrong(place) => return wrong(place),
         }
     }
     end_at(alloc, text, right, bus)

@@ -7,6 +7,7 @@ ghost use Rattle.trace_tools.specs.Places.{seats};
 ghost use Rattle.trace_tools.specs.Seats.{seat_of};
 ghost use Rattle.trace_tools.specs.Tools.{Tool};
 ghost use Rattle.trace_read.specs.Reads.{IsHeadOf};
+ghost use Rattle.trace_check.specs.Counts.{HasCounts};
 ghost use Rattle.trace_check.specs.Verdicts.{HasShown, IsVerdict};
 
 mod behind;
@@ -27,7 +28,7 @@ use rt_base::NoMemory;
 use std::alloc::Global;
 use trace_read::TraceHead;
 use trace_tools::{Bus, TraceTool};
-pub use verdict::Verdict;
+pub use verdict::{Checked, Verdict};
 
 /// Whether a text of which this head was read is a valid trace, in its format, for its set: the canonical set, for each
 /// group the lines of a play of it, and the line `end`, and behind that nothing, or the count line of each tool of the bus.
@@ -50,9 +51,33 @@ pub fn check_trace<T: TraceTool>(
         → seats T.tool bus.old ≡ map seat_of tools
         → HasShown tools head.now.version head.now.setup bytes.now (seats T.tool bus.new) v) }
 {
+    Ok(check_counted(alloc, bytes, head, bus)?.verdict)
+}
+
+/// The same, and of a valid text whether the count lines stand behind it.
+pub fn check_counted<T: TraceTool>(
+    alloc: Global,
+    bytes: &[u8],
+    head: &TraceHead,
+    bus: &mut Bus<T>,
+) -> Result<Checked, NoMemory>
+    requires read { IsHeadOf bytes.now head.now }
+    ensures verdict { IfOk result (λ c. (tools : List Tool)
+        → seats T.tool bus.old ≡ map seat_of tools
+        → IsVerdict tools head.now.version head.now.setup bytes.now c.verdict) }
+    ensures counted { IfOk result (λ c. (tools : List Tool)
+        → seats T.tool bus.old ≡ map seat_of tools
+        → HasCounts tools head.now.version head.now.setup bytes.now c.verdict c.counted) }
+    ensures shown { IfOk result (λ c. (tools : List Tool)
+        → seats T.tool bus.old ≡ map seat_of tools
+        → HasShown tools head.now.version head.now.setup bytes.now (seats T.tool bus.new) c.verdict) }
+{
     let parts = head.setup.parts();
     if !has_head(alloc, bytes, head.version, parts, head.is_canonical)? {
-        return Ok(Verdict::Invalid(2));
+        return Ok(Checked {
+            verdict: Verdict::Invalid(2),
+            counted: false,
+        });
     }
     judge_text(alloc, head.version, &head.setup, &bytes[head.length..], bus)
 }

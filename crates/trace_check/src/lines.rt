@@ -8,7 +8,7 @@ ghost use Rattle.trace_text.specs.Groups.{request_line};
 
 use block_counts::Seen;
 use rt_base::{GroupNo, NoMemory};
-use rt_history::Entry;
+use rt_rules::Entry;
 use rt_task::Setup;
 use trace_lines::{CpuLink, Format, Version, put_block_line, put_entry_line, put_group_line};
 

@@ -4,7 +4,7 @@ use Rattle.std.specs.Prelude.{◌==◌, flat_map}
 use Rattle.std.proofs.lemmas.Bool.Decides.{nat_tests}
 use Rattle.std.proofs.lemmas.List.{append_cancel_left}
 use Rattle.rt_task.specs.declared.Parts.{Parts}
-use Rattle.rt_history.specs.declared.Entry.{Entry}
+use Rattle.rt_rules.specs.declared.history.Entry.{Entry}
 use Rattle.set_canonical.specs.Canonical.{canonical}
 use Rattle.trace_lines.specs.declared.format.Version.{Version}
 use Rattle.trace_lines.specs.declared.format.Version.TheVariants.{One, Two}

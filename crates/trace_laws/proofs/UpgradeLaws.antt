@@ -1,7 +1,7 @@
 -- A valid text has one upgrade, which is valid and its own upgrade.
 use Rattle.std.proofs.Common.{◌≡◌, ℕ, List, Ok, refl, sym, ap, subst, ◌∙◌, ◌++◌, inr}
 use Rattle.rt_task.specs.declared.Parts.{Parts}
-use Rattle.rt_history.specs.declared.Entry.{Entry}
+use Rattle.rt_rules.specs.declared.history.Entry.{Entry}
 use Rattle.rt_plays.specs.Plays.{ArePlays}
 use Rattle.set_canonical.specs.Canonical.{canonical}
 use Rattle.set_read.specs.Sets.{set}

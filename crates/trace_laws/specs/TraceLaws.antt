@@ -3,7 +3,7 @@ use Rattle.std.specs.Prelude.{◌≡◌, ℕ, true, List, ◌++◌, length, All,
 use Rattle.rt_task.specs.declared.Parts.{Parts}
 use Rattle.rt_task.specs.RuleWords.{is_name}
 use Rattle.rt_task.specs.Validity.{IsValid}
-use Rattle.rt_history.specs.declared.Entry.{Entry}
+use Rattle.rt_rules.specs.declared.history.Entry.{Entry}
 use Rattle.rt_plays.specs.Order.{histories}
 use Rattle.rt_plays.specs.Plays.{ArePlays}
 use Rattle.trace_lines.specs.declared.format.Version.{Version}

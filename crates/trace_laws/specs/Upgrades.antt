@@ -2,7 +2,7 @@
 use Rattle.std.specs.Prelude.{◌≡◌, ℕ, true, List}
 use Rattle.rt_task.specs.declared.Parts.{Parts}
 use Rattle.rt_task.specs.Validity.{IsValid}
-use Rattle.rt_history.specs.declared.Entry.{Entry}
+use Rattle.rt_rules.specs.declared.history.Entry.{Entry}
 use Rattle.trace_lines.specs.declared.format.Version.{Version}
 use Rattle.trace_lines.specs.declared.format.Version.TheVariants.{Two}
 use Rattle.trace_tools.specs.Tools.{Tool}

@@ -1,7 +1,7 @@
 -- The valid texts of a set, and how far a text begins as one of them.
 use Rattle.std.specs.Prelude.{◌≡◌, ◌≢◌, ◌⊎◌, ℕ, List, [], ◌∷◌, ◌++◌, map, flat_map, sum, length, All}
 use Rattle.rt_task.specs.declared.Parts.{Parts}
-use Rattle.rt_history.specs.declared.Entry.{Entry}
+use Rattle.rt_rules.specs.declared.history.Entry.{Entry}
 use Rattle.trace_lines.specs.declared.format.Version.{Version}
 use Rattle.trace_tools.specs.Tools.{Tool}
 use Rattle.trace_text.specs.TraceText.{trace_text}

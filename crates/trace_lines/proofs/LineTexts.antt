@@ -1,6 +1,6 @@
 -- The texts of lines, part by part as they are written.
 use Rattle.std.proofs.Common.{◌≡◌, ℕ, List, [], ◌∷◌, ◌++◌, map, codes, decimal, Option, refl, ap, ◌∙◌, append_assoc, append-nil}
-use Rattle.rt_history.specs.declared.Entry.{Entry}
+use Rattle.rt_rules.specs.declared.history.Entry.{Entry}
 use Rattle.trace_lines.specs.Words.{Word, join, further}
 use Rattle.trace_lines.specs.Lines.{Link, group_line, entry_line, block_line, end_line, count_line}
 use Rattle.trace_lines.specs.Known.{Known}

@@ -1,7 +1,7 @@
 -- The lines of a trace as values.
 use Rattle.std.specs.Prelude.{ℕ, List, Option, map}
 use Rattle.rt_base.specs.TaskNos.{number_of_task}
-use Rattle.rt_history.specs.declared.Entry.{Entry}
+use Rattle.rt_rules.specs.declared.history.Entry.{Entry}
 use Rattle.trace_lines.specs.declared.links.CpuLink.{CpuLink}
 
 -- a processor and the task that it is linked to

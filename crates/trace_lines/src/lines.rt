@@ -13,7 +13,7 @@ use crate::replies::put_reply;
 use crate::tasks::put_next_task;
 use crate::{CpuLink, Format};
 use rt_base::{GroupNo, NoMemory, SemNo, TaskNo};
-use rt_history::Entry;
+use rt_rules::Entry;
 use std::alloc::AllocError;
 
 #[tactic(auto, using(crate::proofs::LineTexts::group_text, std::proofs::Common::append_assoc))]

@@ -7,7 +7,7 @@ ghost use Rattle.trace_lines.specs.Grammar.{reply_words};
 use crate::Format;
 use crate::put::put;
 use crate::tasks::put_word_and_task;
-use rt_history::Reply;
+use rt_rules::Reply;
 use std::alloc::AllocError;
 
 /// The words of a reply, each after a space.

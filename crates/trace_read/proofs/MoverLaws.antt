@@ -4,7 +4,7 @@ use Rattle.std.specs.Prelude.{codes}
 use Rattle.rt_task.specs.declared.Act.{Act}
 use Rattle.rt_task.specs.declared.Act.TheVariants as acts
 use Rattle.rt_task.specs.declared.Op.TheVariants as ops
-use Rattle.rt_history.specs.declared.Entry.{Entry}
+use Rattle.rt_rules.specs.declared.history.Entry.{Entry}
 use Rattle.trace_lines.specs.Words.{Word, join}
 use Rattle.trace_lines.specs.Grammar.{act_words, link_word, line_text, line_words, reply_words}
 use Rattle.trace_lines.specs.Known.{Known, IsEntryLine, IsLine}

@@ -8,7 +8,7 @@ ghost use Rattle.trace_read.specs.Lines.{line_of};
 use crate::Line;
 use crate::known::Known;
 use rt_base::{GroupNo, MOST_TOTALS, SemNo, TaskNo};
-use rt_history::{Entry, Reply};
+use rt_rules::{Entry, Reply};
 use rt_task::{Act, Op};
 use trace_lines::CpuLink;
 

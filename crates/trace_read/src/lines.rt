@@ -1,6 +1,6 @@
 //! The lines of a trace as values.
 use rt_base::{GroupNo, SemNo, TaskNo};
-use rt_history::Entry;
+use rt_rules::Entry;
 use rt_task::Items;
 use trace_lines::CpuLink;
 

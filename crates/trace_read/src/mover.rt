@@ -1,6 +1,6 @@
 //! Whose step an entry line says, read without the rest of the line.
 ghost use Rattle.std.specs.Prelude.{◌≡◌, ◌++◌, ℕ, List, Some};
-ghost use Rattle.rt_history.specs.declared.Entry.{Entry};
+ghost use Rattle.rt_rules.specs.declared.history.Entry.{Entry};
 ghost use Rattle.trace_lines.specs.Grammar.{line_text};
 ghost use Rattle.trace_lines.specs.Known as known;
 ghost use Rattle.trace_lines.specs.Lines.{Link, entry_line};

@@ -12,7 +12,7 @@ use crate::replies::reply_at;
 use crate::tasks::task_at;
 use crate::words::{begins_with_digit, cut, is_word, number_at, small_at, small_or_dash, word_at};
 use rt_base::{CpuNo, GroupNo, SemNo, Tick};
-use rt_history::Entry;
+use rt_rules::Entry;
 use rt_task::Step;
 use std::alloc::{AllocError, Global};
 

@@ -6,7 +6,7 @@ ghost use Rattle.trace_read.specs.Reading as reading;
 use crate::known::Known;
 use crate::tasks::task_at;
 use crate::words::{is_word, word_at};
-use rt_history::Reply;
+use rt_rules::Reply;
 
 /// A reply that is one word.
 fn bare_reply(word: &[u8]) -> Option<Reply>

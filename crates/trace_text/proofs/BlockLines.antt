@@ -18,7 +18,7 @@ use Rattle.rt_task.specs.Draft.{draft_of}
 use Rattle.rt_task.specs.Lookups as lookups
 use Rattle.rt_task.specs.SizeRules.{whole_size}
 use Rattle.rt_task.specs.Validity.{IsValid}
-use Rattle.rt_history.specs.declared.Entry.{Entry}
+use Rattle.rt_rules.specs.declared.history.Entry.{Entry}
 use Rattle.rt_rules.specs.Numbers.{has}
 use Rattle.rt_rules.specs.SemState.{Asks, Frees, Neither, SemAct}
 use Rattle.rt_rules.proofs.BoolLaws.{both}

@@ -4,7 +4,7 @@ use Rattle.std.specs.Prelude.{All, filter, if◌then◌else◌}
 use Rattle.std.proofs.lemmas.List.{get_or-drop, length-map}
 use Rattle.std.proofs.Math.Seq.{drop-cons}
 use Rattle.rt_base.specs.declared.CpuNo.{CpuNo}
-use Rattle.rt_history.specs.declared.Entry.{Entry}
+use Rattle.rt_rules.specs.declared.history.Entry.{Entry}
 use Rattle.rt_rules.specs.Numbers.{has, same}
 use Rattle.rt_rules.proofs.BoolLaws.{or_true}
 use Rattle.rt_rules.proofs.MemberLaws.{equal_self}

@@ -3,7 +3,7 @@ ghost use Rattle.std.specs.Prelude.{◌≡◌};
 ghost use Rattle.trace_text.specs.CountLines.{ended_late, ended_task};
 
 use rt_base::{GroupNo, TaskNo};
-use rt_history::Entry;
+use rt_rules::Entry;
 use trace_tools::Shown;
 
 /// An entry with its number, as tools are shown it, by the task whose job it ended and whether that was late.

@@ -6,8 +6,8 @@ use Rattle.rt_base.specs.declared.TaskNo.{TaskNo}
 use Rattle.rt_task.specs.declared.Act.{Act}
 use Rattle.rt_task.specs.declared.Act.TheVariants.{Do}
 use Rattle.rt_task.specs.declared.Op.TheVariants.{Work}
-use Rattle.rt_history.specs.declared.Reply.{Reply}
-use Rattle.rt_history.specs.declared.Reply.TheVariants.{Done, Runs, Idles}
+use Rattle.rt_rules.specs.declared.history.Reply.{Reply}
+use Rattle.rt_rules.specs.declared.history.Reply.TheVariants.{Done, Runs, Idles}
 use Rattle.rt_rules.specs.Numbers.{numbers_from, is}
 use Rattle.trace_tools.specs.declared.shown.Shown.{Shown}
 

@@ -8,7 +8,7 @@ ghost use Rattle.trace_tools.specs.Laws.{MigrationsAreCounted};
 use crate::shown::Shown;
 use crate::tool::TraceTool;
 use rt_base::{MOST_TASKS, NoMemory};
-use rt_history::Reply;
+use rt_rules::Reply;
 use std::alloc::Global;
 
 /// Counts how often a task begins to run on another processor than the last time, of the entries with reply Runs.

@@ -9,7 +9,7 @@ ghost use Rattle.trace_tools.specs.Laws.{OccupancyIsCounted};
 use crate::shown::Shown;
 use crate::tool::TraceTool;
 use rt_base::MOST_CPUS;
-use rt_history::Reply;
+use rt_rules::Reply;
 use rt_task::{Act, Op};
 
 const CPUS: usize = MOST_CPUS as usize;

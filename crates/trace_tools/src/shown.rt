@@ -1,6 +1,6 @@
 //! Entries as tools are shown them.
 use rt_base::{GroupNo, TaskNo};
-use rt_history::Entry;
+use rt_rules::Entry;
 
 /// An entry of a trace, as a tool is shown it.
 #[derive(Clone, Copy, PartialEq, Eq)]

@@ -5,7 +5,7 @@ ghost use Rattle.trace_tools.specs.Laws.{SwitchesAreCounted};
 
 use crate::shown::Shown;
 use crate::tool::TraceTool;
-use rt_history::Reply;
+use rt_rules::Reply;
 
 /// Counts the entries whose reply is Runs or Idles.
 #[derive(Drop)]

@@ -2,7 +2,7 @@
 use Rattle.std.specs.Prelude.{◌≡◌, ℕ, ◌-◌, ◌≤◌, false, List, [], ◌∷◌, ◌++◌, length}
 use Rattle.rt_base.specs.declared.TheConstants.{MOST_STEPS}
 use Rattle.rt_task.specs.declared.Parts.{Parts}
-use Rattle.rt_history.specs.declared.Entry.{Entry}
+use Rattle.rt_rules.specs.declared.history.Entry.{Entry}
 use Rattle.rt_model.specs.Histories.{IsLegalFrom}
 use Rattle.rt_groups.specs.Groups.{AreStepsOf, GroupHistory, IsGroupOf, IsLegalNow, group_of, past}
 use Rattle.trace_text.specs.TraceText.{trace_text}

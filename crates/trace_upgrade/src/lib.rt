@@ -2,7 +2,7 @@
 #![tactic(auto)]
 
 ghost use Rattle.std.specs.Prelude.{◌≡◌, List, All, IfOk};
-ghost use Rattle.rt_history.specs.declared.Entry.{Entry};
+ghost use Rattle.rt_rules.specs.declared.history.Entry.{Entry};
 ghost use Rattle.rt_groups.specs.Groups.{GroupHistory};
 ghost use Rattle.trace_text.specs.Groups.{AreGroupsOf, histories};
 ghost use Rattle.trace_upgrade.specs.Said.{SaysPlays};

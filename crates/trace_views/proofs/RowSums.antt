@@ -2,8 +2,8 @@
 use Rattle.std.proofs.Common.{◌≡◌, ◌∙◌, ℕ, suc, ◌+◌, Bool, true, false, List, ◌&&◌, refl, sym, ap, arith, eqb-true}
 use Rattle.std.specs.Prelude.{None, if◌then◌else◌, sum_by}
 use Rattle.rt_task.specs.declared.Act.{Act}
-use Rattle.rt_history.specs.declared.Reply.{Reply}
-use Rattle.rt_history.specs.declared.Reply.TheVariants as replies
+use Rattle.rt_rules.specs.declared.history.Reply.{Reply}
+use Rattle.rt_rules.specs.declared.history.Reply.TheVariants as replies
 use Rattle.rt_rules.specs.Numbers.{numbers_from, is}
 use Rattle.rt_rules.specs.SemState.{SemAct, Asks}
 use Rattle.rt_rules.proofs.BoolLaws.{both}

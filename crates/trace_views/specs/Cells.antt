@@ -1,7 +1,7 @@
 -- What is so in one column: of a task, of a processor and of a reservation.
 use Rattle.std.specs.Prelude.{ℕ, ◌+◌, Bool, false, not, ◌&&◌, List, [], ◌∷◌, map, reverse, filter, Option, None, Some, if◌then◌else◌, is_some}
 use Rattle.std.specs.Prelude.{◌==◌}
-use Rattle.rt_order.specs.declared.Key.{Key}
+use Rattle.rt_rules.specs.declared.Key.{Key}
 use Rattle.rt_rules.specs.Numbers.{has, is}
 use Rattle.rt_model.specs.BaseKeys.{base_key}
 use Rattle.rt_model.specs.Blocking.{is_blocked}

@@ -1,7 +1,7 @@
 -- Worked examples: the tables of jobs and of tasks.
 use Rattle.std.specs.Prelude.{◌≡◌, ℕ, List, [], ◌∷◌, Option, None, Some, refl, ℤ, pos, neg_ℤ}
 use Rattle.rt_task.specs.declared.PluginKind.TheVariants as plugins
-use Rattle.rt_history.specs.declared.Reply.TheVariants.{Done}
+use Rattle.rt_rules.specs.declared.history.Reply.TheVariants.{Done}
 use Rattle.rt_model.specs.Computed.{computed}
 use Rattle.rt_model.specs.Group.{Group}
 use Rattle.rt_model.specs.Histories.{past_of}

@@ -5,8 +5,8 @@ use Rattle.rt_base.specs.declared.CpuNo.{CpuNo}
 use Rattle.rt_task.specs.declared.Parts.{Parts}
 use Rattle.rt_task.specs.declared.Step.{Step}
 use Rattle.rt_task.specs.Validity.{IsValid}
-use Rattle.rt_history.specs.declared.Entry.{Entry}
-use Rattle.rt_history.specs.declared.Reply.{Reply}
+use Rattle.rt_rules.specs.declared.history.Entry.{Entry}
+use Rattle.rt_rules.specs.declared.history.Reply.{Reply}
 use Rattle.rt_rules.specs.Numbers.{same}
 use Rattle.rt_rules.specs.SemState.{Frees}
 use Rattle.rt_model.specs.Group.{Group, group_processors}

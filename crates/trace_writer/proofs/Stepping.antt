@@ -1,8 +1,8 @@
 -- One more of the steps that are left: its entry, its line, and what a bus is shown.
 use Rattle.std.proofs.Common.{◌≡◌, ℕ, ◌+◌, ◌<◌, ◌≤◌, List, [], ◌∷◌, ◌++◌, length, map, refl, sym, ap, subst, ◌∙◌, arith}
 use Rattle.rt_task.specs.declared.Step.{Step}
-use Rattle.rt_history.specs.declared.Entry.{Entry}
-use Rattle.rt_history.specs.declared.Reply.{Reply}
+use Rattle.rt_rules.specs.declared.history.Entry.{Entry}
+use Rattle.rt_rules.specs.declared.history.Reply.{Reply}
 use Rattle.rt_model.specs.Group.{Group}
 use Rattle.rt_model.specs.Histories.{after, changed, past_from, reply_to}
 use Rattle.rt_model.specs.Past.{Past}

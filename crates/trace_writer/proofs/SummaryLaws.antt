@@ -5,7 +5,7 @@ use Rattle.std.proofs.lemmas.List.{length-map, length-append}
 use Rattle.std.proofs.Math.Seq.{drop-cons}
 use Rattle.rt_base.specs.declared.TheConstants.{MOST_STEPS}
 use Rattle.rt_task.specs.declared.Parts.{Parts}
-use Rattle.rt_history.specs.declared.Entry.{Entry}
+use Rattle.rt_rules.specs.declared.history.Entry.{Entry}
 use Rattle.rt_rules.specs.SemState.{Asks, Frees, Neither, SemAct}
 use Rattle.rt_model.specs.Blocking.{asked_by, requests}
 use Rattle.rt_model.specs.Group.{Group}

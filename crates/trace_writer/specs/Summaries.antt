@@ -1,7 +1,7 @@
 -- What histories come to: how many entries and requests they have, and the most critical sections that a request saw end.
 use Rattle.std.specs.Prelude.{ℕ, ◌+◌, List, [], ◌∷◌, length, max}
 use Rattle.rt_task.specs.declared.Parts.{Parts}
-use Rattle.rt_history.specs.declared.Entry.{Entry}
+use Rattle.rt_rules.specs.declared.history.Entry.{Entry}
 use Rattle.rt_model.specs.Group.{Group}
 use Rattle.rt_model.specs.Histories.{past_of}
 use Rattle.count_laws.specs.Tallies.{Tally, tallies}

@@ -11,7 +11,7 @@ ghost use Rattle.block_counts.specs.SeenWords.{tallies_of};
 use block_counts::{Blocks, Seen};
 use group_engine::{Engine, WaitingList};
 use rt_base::{GroupNo, NoMemory, TaskNo};
-use rt_history::{Entry, Reply};
+use rt_rules::{Entry, Reply};
 use rt_task::{Setup, Step};
 use std::alloc::Global;
 use std::marker::Model;

@@ -13,7 +13,7 @@ use crate::counted::Counted;
 use crate::lines::write_bytes;
 use rt_base::GroupNo;
 use rt_fault::Sink;
-use rt_history::Entry;
+use rt_rules::Entry;
 use std::alloc::Global;
 use trace_text::shown_by;
 use trace_tools::{Bus, TraceTool};

@@ -25,7 +25,7 @@ use crate::replay::Replay;
 use block_counts::Seen;
 use rt_base::GroupNo;
 use rt_fault::Sink;
-use rt_history::Entry;
+use rt_rules::Entry;
 use rt_task::{Parts, Setup};
 use set_plays::{GroupSteps, StepsLeft};
 use std::alloc::Global;

@@ -10,7 +10,7 @@ use crate::WriteStop;
 use block_counts::Seen;
 use rt_base::GroupNo;
 use rt_fault::{Sink, put_all};
-use rt_history::Entry;
+use rt_rules::Entry;
 use trace_lines::{CpuLink, Format, put_block_line, put_end_line, put_entry_line, put_group_line};
 
 /// Writes bytes.

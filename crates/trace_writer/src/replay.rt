@@ -14,7 +14,7 @@ use crate::counted::Counted;
 use crate::links::{read_again, read_links};
 use block_counts::Seen;
 use rt_base::{CpuNo, GroupNo, NoMemory};
-use rt_history::Reply;
+use rt_rules::Reply;
 use rt_task::{Setup, Step};
 use std::alloc::Global;
 use trace_lines::CpuLink;

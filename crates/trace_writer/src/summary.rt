@@ -18,7 +18,7 @@ use crate::counted::Counted;
 use crate::counts::show;
 use block_counts::Seen;
 use rt_base::{GroupNo, NoMemory};
-use rt_history::Entry;
+use rt_rules::Entry;
 use rt_task::Setup;
 use set_plays::{GroupSteps, Scripts, StepsLeft};
 use std::alloc::Global;

@@ -19,7 +19,7 @@ use chart_cells::Panel;
 use chart_feed::{Feed, Members};
 use chart_texts::{Axis, Window};
 use rt_base::{GroupNo, NoMemory};
-use rt_history::Entry;
+use rt_rules::Entry;
 use rt_task::{Parts, Setup, Step};
 use std::alloc::Global;
 use trace_text::cpus_of;

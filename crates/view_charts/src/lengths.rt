@@ -12,7 +12,7 @@ ghost use Rattle.trace_text.specs.Groups.{AreGroupsOf, histories};
 use chart_texts::Axis;
 use group_engine::Engine;
 use rt_base::Tick;
-use rt_history::Entry;
+use rt_rules::Entry;
 
 /// The clock after these entries.
 fn clock_after(entries: &[Entry]) -> Tick

@@ -1,7 +1,7 @@
 -- The text of each view of a set and its histories.
 use Rattle.std.specs.Prelude.{ℕ, List, Option, Some}
 use Rattle.rt_task.specs.declared.Parts.{Parts}
-use Rattle.rt_history.specs.declared.Entry as entries
+use Rattle.rt_rules.specs.declared.history.Entry as entries
 use Rattle.chart_texts.specs.Charts.{pasts_from}
 use Rattle.event_texts.specs.EventText.{event_text}
 use Rattle.why_texts.specs.WhyText.{why_text}

@@ -3,7 +3,7 @@ use Rattle.std.specs.Prelude.{◌≡◌, ℕ, List, Option, None, Some, option_m
 use Rattle.std.specs.declared.alloc.Global.{Global}
 use Rattle.rt_base.specs.declared.NoMemory.{NoMemory}
 use Rattle.rt_task.specs.declared.Parts.{Parts}
-use Rattle.rt_history.specs.declared.Entry as entries
+use Rattle.rt_rules.specs.declared.history.Entry as entries
 use Rattle.rt_fault.specs.declared.status.Status.TheVariants as ends
 use Rattle.trace_lines.specs.declared.format.Version.{Version}
 use Rattle.trace_tools.specs.Tools.{Tool}

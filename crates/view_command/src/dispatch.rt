@@ -1,6 +1,6 @@
 //! The top call: a view of a trace.
 ghost use Rattle.std.specs.Prelude.{◌≡◌, ◌≢◌, List, map, IfOk, Some};
-ghost use Rattle.rt_history.specs.declared.Entry.{Entry};
+ghost use Rattle.rt_rules.specs.declared.history.Entry.{Entry};
 ghost use Rattle.rt_task.specs.Validity.{IsValid};
 ghost use Rattle.rt_fault.specs.Faults.{HasRisen};
 ghost use Rattle.trace_read.specs.Reads.{IsHeadOf};

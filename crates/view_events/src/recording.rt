@@ -11,7 +11,7 @@ ghost use Rattle.view_events.specs.Recordings.{IsMoved, IsRecorded, group_of, sp
 
 use job_views::JobTable;
 use rt_base::{GroupNo, NoMemory, Tick};
-use rt_history::Entry;
+use rt_rules::Entry;
 use rt_task::{Parts, Setup, Step};
 use span_feed::{Members, SpanFeed};
 use std::alloc::Global;

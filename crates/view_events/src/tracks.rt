@@ -16,7 +16,7 @@ use block_counts::Seen;
 use event_lines::{GroupTracks, TaskTrack};
 use job_views::JobTable;
 use rt_base::{GroupNo, NoMemory, Tick};
-use rt_history::Entry;
+use rt_rules::Entry;
 use rt_task::{Setup, Task};
 use std::alloc::Global;
 

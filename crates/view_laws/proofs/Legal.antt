@@ -4,7 +4,7 @@ use Rattle.std.specs.Prelude.{slice_index_or, ⊤}
 use Rattle.rt_task.specs.declared.Drive.{Drive}
 use Rattle.rt_task.specs.declared.Drive.TheVariants.{Steps, Horizon}
 use Rattle.rt_task.specs.declared.Parts.{Parts}
-use Rattle.rt_history.specs.declared.Entry.{Entry}
+use Rattle.rt_rules.specs.declared.history.Entry.{Entry}
 use Rattle.rt_model.specs.Group.{Group}
 use Rattle.rt_model.specs.Histories.{IsLegal}
 use Rattle.rt_plays.specs.Plays.{IsPlayBy, group_with}

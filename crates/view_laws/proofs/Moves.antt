@@ -4,9 +4,9 @@ use Rattle.std.specs.Prelude.{Option, None, Some, if◌then◌else◌, is_some, 
 use Rattle.rt_base.specs.declared.TheConstants.{MOST_TASKS}
 use Rattle.rt_task.specs.Validity.{IsValid}
 use Rattle.rt_task.specs.declared.Act.{Act}
-use Rattle.rt_history.specs.declared.Entry.{Entry}
-use Rattle.rt_history.specs.declared.Reply.{Reply}
-use Rattle.rt_history.specs.declared.Reply.TheVariants as replies
+use Rattle.rt_rules.specs.declared.history.Entry.{Entry}
+use Rattle.rt_rules.specs.declared.history.Reply.{Reply}
+use Rattle.rt_rules.specs.declared.history.Reply.TheVariants as replies
 use Rattle.rt_rules.specs.Numbers.{has, is}
 use Rattle.rt_rules.proofs.BoolLaws.{both}
 use Rattle.rt_rules.proofs.MemberLaws.{equal_self}

@@ -1,7 +1,7 @@
 -- The moves in the table of tasks are those that the tool for migrations counts.
 use Rattle.std.specs.Prelude.{◌≡◌, List, [], sum_by}
 use Rattle.rt_task.specs.Validity.{IsValid}
-use Rattle.rt_history.specs.declared.Entry.{Entry}
+use Rattle.rt_rules.specs.declared.history.Entry.{Entry}
 use Rattle.rt_model.specs.Group.{Group}
 use Rattle.rt_model.specs.Histories.{IsLegal}
 use Rattle.trace_text.specs.CountLines.{shown_entries}

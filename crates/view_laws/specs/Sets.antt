@@ -2,7 +2,7 @@
 use Rattle.std.specs.Prelude.{◌≡◌, ℕ, ◌+◌, List, [], ◌∷◌, count_by, min, sum_by}
 use Rattle.rt_task.specs.Validity.{IsValid}
 use Rattle.rt_task.specs.declared.Parts.{Parts}
-use Rattle.rt_history.specs.declared.Entry.{Entry}
+use Rattle.rt_rules.specs.declared.history.Entry.{Entry}
 use Rattle.rt_plays.specs.Plays.{ArePlays, group_with}
 use Rattle.trace_text.specs.CountLines.{shown_from}
 use Rattle.trace_tools.specs.Entries.{migrations, misses, most}

@@ -1,7 +1,7 @@
 -- The totals of the table of tasks are what the tools count of the entries.
 use Rattle.std.specs.Prelude.{◌≡◌, Bool, List, [], count_by, sum_by}
 use Rattle.rt_task.specs.Validity.{IsValid}
-use Rattle.rt_history.specs.declared.Entry.{Entry}
+use Rattle.rt_rules.specs.declared.history.Entry.{Entry}
 use Rattle.rt_model.specs.Group.{Group}
 use Rattle.rt_model.specs.Histories.{IsLegal, past_of}
 use Rattle.trace_text.specs.CountLines.{shown_entries}

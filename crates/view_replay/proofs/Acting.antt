@@ -4,7 +4,7 @@ use Rattle.std.specs.Prelude.{List, Option, None, Some}
 use Rattle.rt_task.specs.declared.Act.{Act}
 use Rattle.rt_task.specs.declared.Parts.{Parts}
 use Rattle.rt_task.specs.declared.Step.{Step}
-use Rattle.rt_history.specs.declared.Reply.{Reply}
+use Rattle.rt_rules.specs.declared.history.Reply.{Reply}
 use Rattle.rt_rules.specs.SemState.{Frees}
 use Rattle.rt_model.specs.Answers.{answer}
 use Rattle.rt_model.specs.Group.{Group}
@@ -18,7 +18,7 @@ use Rattle.rt_groups.specs.Endings.{ended_last}
 use Rattle.count_laws.specs.CountLaws.{act_of}
 use Rattle.count_laws.specs.Tallies.{AreWaiters, Waiter, act_by}
 use Rattle.block_counts.specs.GroupRequests.{IsBetween, NamesKnown}
-use Rattle.waiting_list.specs.Listing.{AreListed, AreWaitersAt, Moment}
+use Rattle.group_core.specs.Listing.{AreListed, AreWaitersAt, Moment}
 use Rattle.trace_text.proofs.BlockLines.{names-known}
 use Rattle.view_replay.specs.declared.replay.Replay.{Replay}
 use Rattle.view_replay.specs.Replays.{IsMoved, ended_number, group_of}

@@ -15,13 +15,13 @@ ghost use Rattle.view_acts.specs.ShownActs.{act_shown};
 ghost use Rattle.view_replay.specs.Replays.{IsAt, IsMoved, ended_number, group_of, spare};
 
 use block_counts::{Blocks, Seen};
+use group_core::WaitingList;
 use rank_afresh::Afresh;
 use rt_base::{GroupNo, NoMemory, TaskNo, Tick};
-use rt_history::Entry;
+use rt_rules::Entry;
 use rt_task::{Setup, Step};
 use std::alloc::Global;
 use view_acts::ShownAct;
-use waiting_list::WaitingList;
 
 /// A group whose steps are taken again. A step is two moves: `clock` and then `act`; between them, and after each, a view reads
 /// what is so by `afresh`. After `open` no call takes memory.

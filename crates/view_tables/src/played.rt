@@ -10,7 +10,7 @@ ghost use Rattle.view_tables.specs.Playing.{IsPlayed, group_of, spare};
 
 use job_views::JobTable;
 use rt_base::{GroupNo, NoMemory};
-use rt_history::Entry;
+use rt_rules::Entry;
 use rt_task::{Setup, Step};
 use std::alloc::Global;
 use view_replay::Replay;

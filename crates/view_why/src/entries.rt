@@ -16,7 +16,7 @@ use crate::links::{put_links, read_links};
 use crate::members::{Members, state_of};
 use crate::noted::Noted;
 use rt_base::NoMemory;
-use rt_history::Entry;
+use rt_rules::Entry;
 use std::alloc::Global;
 use trace_lines::{CpuLink, Format, Version, put_entry_line};
 use trace_text::put_changed;

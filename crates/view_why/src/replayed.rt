@@ -9,7 +9,7 @@ ghost use Rattle.rt_plays.specs.Plays.{group_with};
 ghost use Rattle.view_replay.specs.Replays.{IsAt, group_of, spare};
 
 use rt_base::{GroupNo, NoMemory};
-use rt_history::Entry;
+use rt_rules::Entry;
 use rt_task::{Setup, Step};
 use std::alloc::Global;
 use view_replay::Replay;

@@ -14,7 +14,7 @@ use crate::noted::take_noting;
 use crate::replayed::replayed;
 use group_engine::Engine;
 use rt_base::{GroupNo, NoMemory};
-use rt_history::Entry;
+use rt_rules::Entry;
 use rt_task::Setup;
 use std::alloc::Global;
 

@@ -2,7 +2,7 @@
 use Rattle.std.specs.Prelude.{[], ◌++◌, codes}
 use Rattle.rt_task.specs.declared.Protocol.{Protocol}
 use Rattle.rt_task.specs.declared.Protocol.TheVariants.{Pcp}
-use Rattle.rt_order.specs.declared.Key.{Key}
+use Rattle.rt_rules.specs.declared.Key.{Key}
 use Rattle.why_texts.specs.Pieces.{Piece, key_piece}
 
 abbrev pub ceiling_shown : Protocol → Key → Piece

@@ -8,7 +8,7 @@ ghost use Rattle.why_lines.specs.GroupSets.{group_in};
 use crate::pieces::{GroupSet, put, put_number, put_task, put_task_or_dash};
 use crate::sentences::sentence;
 use rt_base::{CpuNo, NoMemory, TaskNo, Tick};
-use rt_history::Reply;
+use rt_rules::Reply;
 
 /// The clock of a state.
 #[tactic(auto, using(std::proofs::Common::append_assoc))]

@@ -10,7 +10,7 @@ ghost use Rattle.why_lines.specs.SemNos.{sem_numbers};
 use crate::pieces::{GroupSet, put, put_key, put_number, put_sems, put_task};
 use crate::resvs::put_number_or_dash;
 use rt_base::{NoMemory, SemNo, TaskNo};
-use rt_order::Key;
+use rt_rules::Key;
 
 /// The keys and times of a job that is there, and what it has used of its cost.
 #[derive(Clone, Copy)]

@@ -7,7 +7,7 @@ ghost use Rattle.why_lines.specs.GroupSets.{group_in};
 ghost use Rattle.why_lines.specs.SemNos.{number_of_sem, sem_numbers};
 
 use rt_base::{GroupNo, NoMemory, SemNo, TaskNo};
-use rt_order::Key;
+use rt_rules::Key;
 use rt_task::{Parts, Protocol};
 use trace_lines::put_number as put_decimal;
 

@@ -10,7 +10,7 @@ ghost use Rattle.why_lines.specs.Ceilings.{ceiling_shown};
 
 use crate::pieces::{GroupSet, protocol_of, put, put_key, put_sem, put_task, put_task_or_dash};
 use rt_base::{NoMemory, SemNo, TaskNo};
-use rt_order::Key;
+use rt_rules::Key;
 use rt_task::Protocol;
 use set_canonical::protocol_word;
 

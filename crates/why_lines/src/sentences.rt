@@ -2,7 +2,7 @@
 ghost use Rattle.std.specs.Prelude.{◌≡◌};
 ghost use Rattle.why_texts.specs.Sentences as texts;
 
-use rt_history::Reply;
+use rt_rules::Reply;
 
 /// The sentence that explains a reply.
 pub(crate) fn sentence(reply: Reply) -> &'static [u8]

@@ -5,9 +5,9 @@ use Rattle.rt_base.specs.declared.TheConstants.{TICK_END}
 use Rattle.rt_task.specs.Validity.{IsValid}
 use Rattle.rt_task.specs.declared.Protocol.{Protocol}
 use Rattle.rt_task.specs.declared.Protocol.TheVariants.{Fmlp, Mpcp, Omlp, Pcp, Srp}
-use Rattle.rt_order.specs.declared.Key.{Key}
+use Rattle.rt_rules.specs.declared.Key.{Key}
 use Rattle.rt_task.specs.declared.PluginKind.TheVariants as plugins
-use Rattle.rt_order.specs.KeyOrder.{lowest_key}
+use Rattle.rt_rules.specs.KeyOrder.{lowest_key}
 use Rattle.rt_rules.specs.Keys.{highest}
 use Rattle.rt_rules.specs.Numbers.{has, is_empty, numbers_from}
 use Rattle.rt_rules.proofs.BoolLaws.{both}

@@ -1,7 +1,7 @@
 -- Keys by the priorities of tasks, as they are under P-FP.
 use Rattle.std.specs.Prelude.{ℕ, List, filter, map}
-use Rattle.rt_order.specs.declared.Key.{Key}
-use Rattle.rt_order.specs.KeyOrder.{lowest_key}
+use Rattle.rt_rules.specs.declared.Key.{Key}
+use Rattle.rt_rules.specs.KeyOrder.{lowest_key}
 use Rattle.rt_rules.specs.Keys.{highest}
 use Rattle.rt_model.specs.Group.{Group, declares, task}
 

@@ -10,7 +10,7 @@ ghost use Rattle.why_states.specs.Keys.{highest_of, key_of_priority};
 
 use crate::declared::declares;
 use rt_base::{SemNo, TaskNo};
-use rt_order::Key;
+use rt_rules::Key;
 use why_lines::GroupSet;
 
 /// The key that a task has by its priority.

@@ -1,7 +1,7 @@
 -- Lines, and the pieces that they are made of: names of tasks and of semaphores, and keys.
 use Rattle.std.specs.List.{concat}
 use Rattle.std.specs.Prelude.{ℕ, List, [], ◌∷◌, ◌++◌, flat_map, Option, None, Some, codes, decimal}
-use Rattle.rt_order.specs.declared.Key.{Key}
+use Rattle.rt_rules.specs.declared.Key.{Key}
 use Rattle.rt_model.specs.Group.{Group, sem, task}
 
 abbrev pub Piece : Type 0

@@ -1,7 +1,7 @@
 -- Replies, each explained by a sentence.
 use Rattle.std.specs.Prelude.{codes}
-use Rattle.rt_history.specs.declared.Reply.{Reply}
-use Rattle.rt_history.specs.declared.Reply.TheVariants as replies
+use Rattle.rt_rules.specs.declared.history.Reply.{Reply}
+use Rattle.rt_rules.specs.declared.history.Reply.TheVariants as replies
 use Rattle.why_texts.specs.Pieces.{Piece}
 
 abbrev pub sentence : Reply → Piece

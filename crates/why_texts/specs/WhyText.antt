@@ -1,7 +1,7 @@
 -- The text that explains an entry of a group's history.
 use Rattle.std.specs.Prelude.{ℕ, ◌+◌, List, [], ◌∷◌, ◌++◌, flat_map, map, take, Option, None, Some, codes, decimal, option_map, slice_get}
 use Rattle.rt_task.specs.declared.Parts.{Parts}
-use Rattle.rt_history.specs.declared.Entry.{Entry}
+use Rattle.rt_rules.specs.declared.history.Entry.{Entry}
 use Rattle.rt_model.specs.Group.{Group, group_processors}
 use Rattle.rt_model.specs.Histories.{after, changed, clock_moved, past_of}
 use Rattle.rt_model.specs.Jobs.{done}

@@ -2,7 +2,7 @@
 use Rattle.std.specs.Prelude.{◌≡◌, List, [], ◌∷◌, Some, codes, refl}
 use Rattle.std.specs.Fmt.{digits}
 use Rattle.rt_task.specs.declared.PluginKind.TheVariants as plugins
-use Rattle.rt_history.specs.declared.Reply.TheVariants.{Deferred, Done, NotInNp, Quiet}
+use Rattle.rt_rules.specs.declared.history.Reply.TheVariants.{Deferred, Done, NotInNp, Quiet}
 use Rattle.rt_model.specs.Computed.{computed}
 use Rattle.rt_model.specs.Group.{Group}
 use Rattle.rt_model.specs.Samples.{IsTrace, Line, cluster_with, end, entries_of, group_of, irq, line, np_off, np_on, periodic, runs_task, to}

@@ -12,7 +12,7 @@ ghost use Rattle.group_core.specs.Reads.{CanRead, base_in};
 use super::GroupCore;
 use resv_core::ResvState;
 use rt_base::{ResvNo, TaskNo};
-use rt_order::Key;
+use rt_rules::Key;
 use rt_task::Parts;
 
 impl GroupCore {

@@ -19,7 +19,7 @@ ghost use Rattle.rank_afresh.specs.Standing.{IsAt, group_of};
 use super::Afresh;
 use group_core::GroupCore;
 use rt_base::{NoMemory, ResvNo, SemNo, TaskNo};
-use rt_order::Key;
+use rt_rules::Key;
 use std::alloc::Global;
 
 /// Whether the task holds the semaphore.

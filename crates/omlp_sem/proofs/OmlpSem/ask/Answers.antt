@@ -1,7 +1,7 @@
 use Rattle.std.proofs.Common.{◌≡◌, ◌≢◌, ℕ, ◌<◌, ◌++◌, true, false, length, arith, length-set}
 use Rattle.std.specs.Prelude.{Some}
 use Rattle.rt_base.specs.TaskNos.{numbers}
-use Rattle.rt_order.specs.KeyOrder.{equal_keys}
+use Rattle.rt_rules.specs.KeyOrder.{equal_keys}
 use Rattle.rt_rules.specs.Numbers.{has, first, rest}
 use Rattle.sem_laws.specs.KeptKeys.{key_at}
 use Rattle.sem_laws.proofs.TaskNumbers.{numbers-push, length-numbers}

@@ -3,7 +3,7 @@ use Rattle.std.specs.Prelude.{option_map, slice_index_or, slice_set}
 use Rattle.split_inbox.specs.Sums.{sum_of}
 use Rattle.split_inbox.specs.Books as book
 use Rattle.split_inbox.specs.Books.{entry}
-use Rattle.rt_history.specs.declared.Reply.TheVariants as replies
+use Rattle.rt_rules.specs.declared.history.Reply.TheVariants as replies
 use Rattle.split_inbox.specs.declared.subject.SemOf.{SemOf}
 use Rattle.split_rules.specs.PartHistories.{past_of}
 use Rattle.split_rules.specs.Partitions.{part_group}

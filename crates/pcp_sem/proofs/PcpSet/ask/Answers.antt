@@ -1,6 +1,6 @@
 use Rattle.std.proofs.Common.{◌≡◌, ◌≢◌, ◌∙◌, ◌++◌, ℕ, true, false, length, sym, ap, arith}
 use Rattle.std.specs.Prelude.{slice_set}
-use Rattle.rt_order.specs.KeyOrder.{equal_keys}
+use Rattle.rt_rules.specs.KeyOrder.{equal_keys}
 use Rattle.rt_rules.specs.Numbers.{has}
 use Rattle.rt_rules.specs.Pcp.{passes}
 use Rattle.sem_laws.specs.KeptKeys.{key_at}

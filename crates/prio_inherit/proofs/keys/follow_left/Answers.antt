@@ -1,7 +1,7 @@
 use Rattle.std.proofs.Common.{◌≡◌, ◌∙◌, true, refl, sym, ap, arith}
 use Rattle.std.proofs.lemmas.List.{get_or_read}
 use Rattle.rt_base.specs.TaskNos.{numbers_of_tasks}
-use Rattle.rt_order.specs.KeyOrder.{higher}
+use Rattle.rt_rules.specs.KeyOrder.{higher}
 use Rattle.sem_laws.specs.KeptKeys.{key_at}
 use Rattle.prio_inherit.proofs.Settling.{settled-here}
 use Rattle.prio_inherit.proofs.keys.follow_left.Goals as goal

@@ -2,7 +2,7 @@ use Rattle.std.proofs.Common.{◌≡◌, ◌<◌, ◌∙◌, length, get_or, sym
 use Rattle.std.specs.Prelude.{Some, None}
 use Rattle.std.proofs.lemmas.List.{get_or_read}
 use Rattle.rt_base.specs.TaskNos.{number_of_task, numbers_of_tasks}
-use Rattle.rt_order.specs.KeyOrder.{higher}
+use Rattle.rt_rules.specs.KeyOrder.{higher}
 use Rattle.sem_laws.specs.KeptKeys.{key_at}
 use Rattle.prio_inherit.proofs.Settling.{next_of-numbers, follow-came, follow-end, settled}
 use Rattle.prio_inherit.proofs.Raising.{Raises, raises-step, raises-stop}

@@ -1,5 +1,5 @@
 use Rattle.std.proofs.Common.{◌≡◌, List, Option, ap, set-set, sym, true, ◌∙◌}
-use Rattle.rt_order.specs.declared.Key.{Key}
+use Rattle.rt_rules.specs.declared.Key.{Key}
 use Rattle.rt_rules.proofs.BoolLaws.{not_false}
 use Rattle.ready_queue.specs.Queue.{Queue, is_first}
 use Rattle.ready_queue.proofs.ExchangeLaws.{none-exchanged}

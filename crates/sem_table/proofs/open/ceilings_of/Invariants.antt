@@ -1,6 +1,6 @@
 use Rattle.std.proofs.Common.{◌≡◌, ◌∷◌, map}
 use Rattle.rt_rules.specs.Numbers.{numbers_from}
-use Rattle.rt_order.specs.KeyOrder.{lowest_key}
+use Rattle.rt_rules.specs.KeyOrder.{lowest_key}
 use Rattle.sem_table.specs.Opened.{group_in, prio_ceiling}
 use Rattle.sem_table.proofs.open.ceilings_of.Given as goal
 

@@ -1,7 +1,7 @@
 use Rattle.std.proofs.Common.{◌≡◌, drop, map}
 use Rattle.rt_base.specs.TaskNos.{numbers}
 use Rattle.rt_rules.specs.Keys.{highest}
-use Rattle.rt_order.specs.KeyOrder.{lowest_key}
+use Rattle.rt_rules.specs.KeyOrder.{lowest_key}
 use Rattle.sem_table.specs.Opened.{group_in, prio_key}
 use Rattle.sem_table.proofs.parts.ceiling.Given as goal
 

@@ -51,8 +51,8 @@ follow_entries-requires g c =
           (begins-rest c.args.from.length text _ _ refl stood.1)),
     )
 
-pub ended_at-requires-clause-follows : goal.ended_at-requires-clause-follows
-ended_at-requires-clause-follows g c =
+pub ended_at-requires : goal.ended_at-requires
+ended_at-requires g c =
     let v = c.args.version in
     let p = c.args.setup.now in
     let text = c.args.text.now in
@@ -65,55 +65,12 @@ ended_at-requires-clause-follows g c =
     let begun = subst (λ (xs : List ℕ). IsRight v p text n from (from.length + length xs) c.args.follow.now c.requires.before.0 first first) (sym c.as_slice.ensures.value)
     (opened-right v p text n from c.requires.before.0 first c.requires.before.1 c.args.follow.now c.begins.new.line.items c.requires.opened stood.0 (begins-rest from.length text _ _ refl stood.1)) in
     let followed = subst (λ (e : Entries). AreFollowed v p text n from c.follow_entries.new.follow c.requires.before.0 first last e) c.in-Right.is (c.in_ok-entries.ensures from c.requires.before.0 first begun) in
-    (place_at v p text followed.0, followed-with v p text followed.0)
-
-pub ended_at-requires-clause-few : goal.ended_at-requires-clause-few
-ended_at-requires-clause-few g c =
-    let v = c.args.version in
-    let p = c.args.setup.now in
-    let text = c.args.text.now in
-    let first = seats g.T.TraceTool.tool c.args.bus.now in
-    let last = seats g.T.TraceTool.tool c.follow_entries.new.bus in
-    let n = c.args.group.0 in
-    let from = c.args.from in
-    let l : Line = group_line n (links_of c.args.follow.now.links.links.items) in
-    let stood = subst (λ (b : Bool). HasStood (known_of v p) l (take (length text - c.args.from.length) (drop c.args.from.length text)) c.begins.new.line.items b) c.if-not-branch.false c.in_ok-begins.ensures in
-    let begun = subst (λ (xs : List ℕ). IsRight v p text n from (from.length + length xs) c.args.follow.now c.requires.before.0 first first) (sym c.as_slice.ensures.value)
-    (opened-right v p text n from c.requires.before.0 first c.requires.before.1 c.args.follow.now c.begins.new.line.items c.requires.opened stood.0 (begins-rest from.length text _ _ refl stood.1)) in
-    let followed = subst (λ (e : Entries). AreFollowed v p text n from c.follow_entries.new.follow c.requires.before.0 first last e) c.in-Right.is (c.in_ok-entries.ensures from c.requires.before.0 first begun) in
-    entries-few v p text n from c.in-Right.size c.follow_entries.new.follow c.requires.before.0 first last followed.0
-
-pub ended_at-requires-clause-within : goal.ended_at-requires-clause-within
-ended_at-requires-clause-within g c =
-    let v = c.args.version in
-    let p = c.args.setup.now in
-    let text = c.args.text.now in
-    let first = seats g.T.TraceTool.tool c.args.bus.now in
-    let last = seats g.T.TraceTool.tool c.follow_entries.new.bus in
-    let n = c.args.group.0 in
-    let from = c.args.from in
-    let l : Line = group_line n (links_of c.args.follow.now.links.links.items) in
-    let stood = subst (λ (b : Bool). HasStood (known_of v p) l (take (length text - c.args.from.length) (drop c.args.from.length text)) c.begins.new.line.items b) c.if-not-branch.false c.in_ok-begins.ensures in
-    let begun = subst (λ (xs : List ℕ). IsRight v p text n from (from.length + length xs) c.args.follow.now c.requires.before.0 first first) (sym c.as_slice.ensures.value)
-    (opened-right v p text n from c.requires.before.0 first c.requires.before.1 c.args.follow.now c.begins.new.line.items c.requires.opened stood.0 (begins-rest from.length text _ _ refl stood.1)) in
-    let followed = subst (λ (e : Entries). AreFollowed v p text n from c.follow_entries.new.follow c.requires.before.0 first last e) c.in-Right.is (c.in_ok-entries.ensures from c.requires.before.0 first begun) in
-    followed.0.within
-
-pub ended_at-requires-clause-places : goal.ended_at-requires-clause-places
-ended_at-requires-clause-places g c =
-    let v = c.args.version in
-    let p = c.args.setup.now in
-    let text = c.args.text.now in
-    let first = seats g.T.TraceTool.tool c.args.bus.now in
-    let last = seats g.T.TraceTool.tool c.follow_entries.new.bus in
-    let n = c.args.group.0 in
-    let from = c.args.from in
-    let l : Line = group_line n (links_of c.args.follow.now.links.links.items) in
-    let stood = subst (λ (b : Bool). HasStood (known_of v p) l (take (length text - c.args.from.length) (drop c.args.from.length text)) c.begins.new.line.items b) c.if-not-branch.false c.in_ok-begins.ensures in
-    let begun = subst (λ (xs : List ℕ). IsRight v p text n from (from.length + length xs) c.args.follow.now c.requires.before.0 first first) (sym c.as_slice.ensures.value)
-    (opened-right v p text n from c.requires.before.0 first c.requires.before.1 c.args.follow.now c.begins.new.line.items c.requires.opened stood.0 (begins-rest from.length text _ _ refl stood.1)) in
-    let followed = subst (λ (e : Entries). AreFollowed v p text n from c.follow_entries.new.follow c.requires.before.0 first last e) c.in-Right.is (c.in_ok-entries.ensures from c.requires.before.0 first begun) in
-    place-short v p text n from c.in-Right.size c.follow_entries.new.follow c.requires.before.0 first last followed.0
+    record {
+      follows = (place_at v p text followed.0, followed-with v p text followed.0);
+      few = entries-few v p text n from c.in-Right.size c.follow_entries.new.follow c.requires.before.0 first last followed.0;
+      within = followed.0.within;
+      places = place-short v p text n from c.in-Right.size c.follow_entries.new.follow c.requires.before.0 first last followed.0;
+    }
 
 pub returns-in-Right : goal.returns-in-Right
 returns-in-Right g c =

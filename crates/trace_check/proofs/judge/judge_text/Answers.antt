@@ -1,4 +1,4 @@
-use Rattle.std.proofs.Common.{◌≡◌, ◌+◌, ℕ, List, map, sym, ap, ◌∙◌, subst, arith}
+use Rattle.std.proofs.Common.{false, ◌≡◌, ◌+◌, ℕ, List, map, sym, ap, ◌∙◌, subst, arith}
 use Rattle.std.proofs.lemmas.Result.{IfOk-weaker}
 use Rattle.rt_task.specs.declared.Parts.{Parts}
 use Rattle.rt_plays.specs.Plays.{group_count}
@@ -8,8 +8,9 @@ use Rattle.trace_tools.specs.Places.{seats}
 use Rattle.trace_tools.specs.Seats.{Seat, seat_of}
 use Rattle.trace_tools.specs.Tools.{Tool}
 use Rattle.trace_check.specs.declared.progress.Followed.{Followed}
-use Rattle.trace_check.specs.declared.verdict.Verdict.{Verdict}
+use Rattle.trace_check.specs.declared.verdict.Checked.{Checked}
 use Rattle.trace_check.specs.declared.verdict.Verdict.TheVariants.{Invalid}
+use Rattle.trace_check.specs.Counts.{IsCountedText}
 use Rattle.trace_check.specs.Judging.{IsJudgedText, IsShownText}
 use Rattle.trace_check.specs.Progress.{AreAllRight, AreRight, IsFollowedTo}
 use Rattle.trace_check.proofs.Judging.{right-first, right-short}
@@ -32,10 +33,21 @@ returns-in-Wrong-clause-judged g c =
     let first = seats g.T.TraceTool.tool c.args.bus.now in
     let followed = subst (λ (f : Followed). (opened : List Seat) → AreRight v p text c.loop-n.n c.loop-n.right opened (seats g.T.TraceTool.tool c.loop-n.bus) → IsFollowedTo v p text c.loop-n.n opened (seats g.T.TraceTool.tool c.follow_group.new.bus) f) c.in-Wrong.is c.in_ok-further.ensures in
     let judged = followed first c.loop-n.invariant in
-    IfOk-weaker c.wrong_at.result (λ (x : Verdict). x ≡ Invalid (c.in-Wrong.place + 3))
-    (λ (x : Verdict). (tools : List Tool) → first ≡ map seat_of tools → IsJudgedText tools v p text x)
-    (λ x is tools opened. subst (IsJudgedText tools v p text) (sym is) (judged tools))
-    c.wrong_at.ensures
+    IfOk-weaker c.wrong.result (λ (x : Checked). x ≡ record { verdict = Invalid (c.in-Wrong.place + 3); counted = false })
+    (λ (x : Checked). (tools : List Tool) → first ≡ map seat_of tools → IsJudgedText tools v p text x.verdict)
+    (λ x is tools opened. subst (λ (y : Checked). IsJudgedText tools v p text y.verdict) (sym is) (judged tools))
+    c.wrong.ensures
+
+pub returns-in-Wrong-clause-counted : goal.returns-in-Wrong-clause-counted
+returns-in-Wrong-clause-counted g c =
+    let v = c.args.version in
+    let p = c.args.setup.now in
+    let text = c.args.text.now in
+    let first = seats g.T.TraceTool.tool c.args.bus.now in
+    IfOk-weaker c.wrong.result (λ (x : Checked). x ≡ record { verdict = Invalid (c.in-Wrong.place + 3); counted = false })
+    (λ (x : Checked). (tools : List Tool) → first ≡ map seat_of tools → IsCountedText tools v p text x.verdict x.counted)
+    (λ x is tools opened. subst (λ (y : Checked). IsCountedText tools v p text y.verdict y.counted) (sym is) (λ bytes head. tt))
+    c.wrong.ensures
 
 pub returns-in-Wrong-clause-shown : goal.returns-in-Wrong-clause-shown
 returns-in-Wrong-clause-shown g c =
@@ -44,10 +56,10 @@ returns-in-Wrong-clause-shown g c =
     let text = c.args.text.now in
     let first = seats g.T.TraceTool.tool c.args.bus.now in
     let last = seats g.T.TraceTool.tool c.follow_group.new.bus in
-    IfOk-weaker c.wrong_at.result (λ (x : Verdict). x ≡ Invalid (c.in-Wrong.place + 3))
-    (λ (x : Verdict). (tools : List Tool) → first ≡ map seat_of tools → IsShownText tools v p text last x)
-    (λ x is tools opened. subst (IsShownText tools v p text last) (sym is) (λ bytes head. tt))
-    c.wrong_at.ensures
+    IfOk-weaker c.wrong.result (λ (x : Checked). x ≡ record { verdict = Invalid (c.in-Wrong.place + 3); counted = false })
+    (λ (x : Checked). (tools : List Tool) → first ≡ map seat_of tools → IsShownText tools v p text last x.verdict)
+    (λ x is tools opened. subst (λ (y : Checked). IsShownText tools v p text last y.verdict) (sym is) (λ bytes head. tt))
+    c.wrong.ensures
 
 pub loop-n-preserved : goal.loop-n-preserved
 loop-n-preserved g c =
@@ -73,10 +85,25 @@ returns-clause-judged g c =
     let n : c.loop-n.n ≡ group_count p = omega (arith, c.loop-n-test.false, c.loop-n.auto.n-end, c.count_groups-n-end.ensures) in
     let right : AreRight v p text (group_count p) c.loop-n.right first last = subst (λ (m : ℕ). AreRight v p text m c.loop-n.right first last) n c.loop-n.invariant in
     IfOk-weaker c.end_at.result
-    (λ (x : Verdict). (w : Version) (q : Parts) (tools : List Tool) → AreAllRight w q text c.loop-n.right (map seat_of tools) last → IsJudgedText tools w q text x)
-    (λ (x : Verdict). (tools : List Tool) → first ≡ map seat_of tools → IsJudgedText tools v p text x)
+    (λ (x : Checked). (w : Version) (q : Parts) (tools : List Tool) → AreAllRight w q text c.loop-n.right (map seat_of tools) last → IsJudgedText tools w q text x.verdict)
+    (λ (x : Checked). (tools : List Tool) → first ≡ map seat_of tools → IsJudgedText tools v p text x.verdict)
     (λ x judged tools opened. judged v p tools (record { valid = c.parts-parts.ensures.valid; right = subst (λ (ss : List Seat). AreRight v p text (group_count p) c.loop-n.right ss last) opened right }))
     c.end_at.ensures.judged
+
+pub returns-clause-counted : goal.returns-clause-counted
+returns-clause-counted g c =
+    let v = c.args.version in
+    let p = c.args.setup.now in
+    let text = c.args.text.now in
+    let first = seats g.T.TraceTool.tool c.args.bus.now in
+    let last = seats g.T.TraceTool.tool c.loop-n.bus in
+    let n : c.loop-n.n ≡ group_count p = omega (arith, c.loop-n-test.false, c.loop-n.auto.n-end, c.count_groups-n-end.ensures) in
+    let right : AreRight v p text (group_count p) c.loop-n.right first last = subst (λ (m : ℕ). AreRight v p text m c.loop-n.right first last) n c.loop-n.invariant in
+    IfOk-weaker c.end_at.result
+    (λ (x : Checked). (w : Version) (q : Parts) (tools : List Tool) → AreAllRight w q text c.loop-n.right (map seat_of tools) last → IsCountedText tools w q text x.verdict x.counted)
+    (λ (x : Checked). (tools : List Tool) → first ≡ map seat_of tools → IsCountedText tools v p text x.verdict x.counted)
+    (λ x counted tools opened. counted v p tools (record { valid = c.parts-parts.ensures.valid; right = subst (λ (ss : List Seat). AreRight v p text (group_count p) c.loop-n.right ss last) opened right }))
+    c.end_at.ensures.counted
 
 pub returns-clause-shown : goal.returns-clause-shown
 returns-clause-shown g c =
@@ -88,7 +115,7 @@ returns-clause-shown g c =
     let n : c.loop-n.n ≡ group_count p = omega (arith, c.loop-n-test.false, c.loop-n.auto.n-end, c.count_groups-n-end.ensures) in
     let right : AreRight v p text (group_count p) c.loop-n.right first last = subst (λ (m : ℕ). AreRight v p text m c.loop-n.right first last) n c.loop-n.invariant in
     IfOk-weaker c.end_at.result
-    (λ (x : Verdict). (w : Version) (q : Parts) (tools : List Tool) → AreAllRight w q text c.loop-n.right (map seat_of tools) last → IsShownText tools w q text last x)
-    (λ (x : Verdict). (tools : List Tool) → first ≡ map seat_of tools → IsShownText tools v p text last x)
+    (λ (x : Checked). (w : Version) (q : Parts) (tools : List Tool) → AreAllRight w q text c.loop-n.right (map seat_of tools) last → IsShownText tools w q text last x.verdict)
+    (λ (x : Checked). (tools : List Tool) → first ≡ map seat_of tools → IsShownText tools v p text last x.verdict)
     (λ x shown tools opened. shown v p tools (record { valid = c.parts-parts.ensures.valid; right = subst (λ (ss : List Seat). AreRight v p text (group_count p) c.loop-n.right ss last) opened right }))
     c.end_at.ensures.shown

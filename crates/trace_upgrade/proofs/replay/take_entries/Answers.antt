@@ -1,5 +1,5 @@
 use Rattle.std.proofs.Common.{◌≡◌, ◌+◌, ◌∷◌, List, drop, sym, ap, ◌∙◌, subst}
-use Rattle.rt_history.specs.declared.Entry.{Entry}
+use Rattle.rt_rules.specs.declared.history.Entry.{Entry}
 use Rattle.trace_read.specs.Lines.{lines_of}
 use Rattle.trace_upgrade.specs.Said.{CanTake, entries_first, with_entries}
 use Rattle.trace_upgrade.proofs.LineSteps.{entry-next}

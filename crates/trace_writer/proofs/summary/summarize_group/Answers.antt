@@ -1,5 +1,5 @@
 use Rattle.std.proofs.Common.{List, length, ap, ◌∙◌, arith}
-use Rattle.rt_history.specs.declared.Entry.{Entry}
+use Rattle.rt_rules.specs.declared.history.Entry.{Entry}
 use Rattle.rt_plays.specs.Plays.{group_with}
 use Rattle.rt_groups.specs.Groups.{GroupHistory}
 use Rattle.set_plays.specs.GroupSteps.{group_told}

@@ -1,5 +1,5 @@
 use Rattle.std.proofs.Common.{◌≡◌, List, length, sym, ap, arith}
-use Rattle.rt_history.specs.declared.Entry.{Entry}
+use Rattle.rt_rules.specs.declared.history.Entry.{Entry}
 use Rattle.rt_groups.specs.Groups.{group_of}
 use Rattle.rt_plays.specs.Plays.{group_with}
 use Rattle.view_why.proofs.EntryLaws.{explained-none, why-entry}

@@ -1,5 +1,5 @@
 use Rattle.std.proofs.Common.{◌≡◌, ◌++◌, List, length, map, reverse}
-use Rattle.rt_history.specs.declared.Entry.{Entry}
+use Rattle.rt_rules.specs.declared.history.Entry.{Entry}
 use Rattle.rt_plays.specs.Plays.{group_with}
 use Rattle.turn_cell.specs.Places.{Place}
 use Rattle.cpu_site.specs.declared.story.GroupOf.{GroupOf}

@@ -1,5 +1,5 @@
 use Rattle.std.proofs.Common.{◌≡◌, ◌<◌, ℕ, true, false, length, arith}
-use Rattle.rt_order.specs.KeyOrder.{equal_keys}
+use Rattle.rt_rules.specs.KeyOrder.{equal_keys}
 use Rattle.rt_rules.specs.Numbers.{has}
 use Rattle.sem_laws.specs.KeptKeys.{key_at}
 use Rattle.key_queue.proofs.QueueLaws.{place_for, queue-push}

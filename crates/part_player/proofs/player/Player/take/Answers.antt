@@ -1,6 +1,6 @@
 use Rattle.std.proofs.Common.{◌≡◌, ◌++◌, ◌∷◌, [], List, Bool, false, Some, sym, ap, ◌∙◌, subst, arith}
 use Rattle.rt_base.specs.TaskNos.{numbers}
-use Rattle.rt_history.specs.declared.Reply.TheVariants as replies
+use Rattle.rt_rules.specs.declared.history.Reply.TheVariants as replies
 use Rattle.group_facts.proofs.KeptMoves.{task-range}
 use Rattle.split_rules.specs.PartHistories.{past_of}
 use Rattle.split_rules.specs.PartSems.{awaiting}

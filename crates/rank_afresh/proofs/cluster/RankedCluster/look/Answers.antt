@@ -1,6 +1,6 @@
 use Rattle.std.proofs.Common.{ℕ, Bool, List, sym, ap, ◌∙◌}
 use Rattle.std.specs.Prelude.{Option}
-use Rattle.rt_order.specs.declared.Key.{Key}
+use Rattle.rt_rules.specs.declared.Key.{Key}
 use Rattle.rt_rules.specs.Keys.{Ranked}
 use Rattle.rt_rules.specs.Rankings.{without_task}
 use Rattle.group_core.specs.Reads.{is_candidate, key_in}

@@ -3,7 +3,7 @@ use Rattle.std.specs.Prelude.{Option}
 use Rattle.std.proofs.lemmas.List.{length-map}
 use Rattle.rt_base.specs.TaskNos.{number_of_task, numbers, numbers_of_tasks}
 use Rattle.rt_base.specs.declared.TaskNo.{TaskNo}
-use Rattle.rt_order.specs.declared.Key.{Key}
+use Rattle.rt_rules.specs.declared.Key.{Key}
 use Rattle.rt_rules.specs.Keys.{Ranked}
 use Rattle.rt_rules.specs.Numbers.{has}
 use Rattle.rt_rules.specs.Rankings.{tasks_of, without_task}

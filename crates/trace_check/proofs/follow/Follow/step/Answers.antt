@@ -4,7 +4,7 @@ use Rattle.rt_model.specs.Group.{Group}
 use Rattle.rt_model.specs.Histories.{after, clock_moved, past_of, reply_to}
 use Rattle.block_counts.specs.GroupRequests as counts
 use Rattle.block_counts.specs.SeenWords.{waiters_of}
-use Rattle.waiting_list.specs.Listing.{AreWaitersAt, Moment}
+use Rattle.group_core.specs.Listing.{AreWaitersAt, Moment}
 use Rattle.rank_afresh.specs.Standing.{group_of}
 use Rattle.trace_check.proofs.Counting.{between_moves, group-same, names-there, told-between}
 use Rattle.trace_check.proofs.follow.Follow.step.Goals as goal

@@ -9,7 +9,7 @@ use Rattle.rt_task.specs.Validity.{IsValid}
 use Rattle.block_counts.specs.GroupRequests as requests
 use Rattle.block_counts.specs.SeenWords.{waiters_of}
 use Rattle.rank_afresh.specs.Standing as ranker
-use Rattle.waiting_list.specs.Listing.{AreWaitersAt, Moment}
+use Rattle.group_core.specs.Listing.{AreWaitersAt, Moment}
 use Rattle.view_replay.specs.Replays.{ended_number, group_of}
 use Rattle.view_replay.proofs.Acting.{act-by, ended-after, names-there, told-between}
 use Rattle.view_replay.proofs.replay.Replay.act.Goals as goal

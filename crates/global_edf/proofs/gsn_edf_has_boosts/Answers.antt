@@ -1,5 +1,0 @@
-use Rattle.global_edf.proofs.KeyLaws as laws
-use Rattle.global_edf.proofs.gsn_edf_has_boosts.Goals as goal
-
-pub returns : goal.returns
-returns c = laws.gsn_edf_has_boosts

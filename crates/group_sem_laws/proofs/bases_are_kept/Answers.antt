@@ -1,5 +1,0 @@
-use Rattle.group_sem_laws.proofs.Bases as law
-use Rattle.group_sem_laws.proofs.bases_are_kept.Goals as goal
-
-pub returns : goal.returns
-returns c = law.bases_are_kept

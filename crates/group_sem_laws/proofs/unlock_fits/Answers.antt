@@ -1,5 +1,0 @@
-use Rattle.group_sem_laws.proofs.Fitting as law
-use Rattle.group_sem_laws.proofs.unlock_fits.Goals as goal
-
-pub returns : goal.returns
-returns c = law.unlock_fits

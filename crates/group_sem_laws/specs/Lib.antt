@@ -1,5 +1,0 @@
-pub mod Kept
-pub mod Keeping
-pub mod Fitting
-pub mod Reading
-pub mod Leaving

@@ -1,0 +1,5 @@
+use Rattle.group_sems.proofs.Reading as law
+use Rattle.group_sems.proofs.laws.holding_is_read.Goals as goal
+
+pub returns : goal.returns
+returns c = law.holding_is_read

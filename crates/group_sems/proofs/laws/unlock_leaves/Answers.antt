@@ -1,0 +1,5 @@
+use Rattle.group_sems.proofs.Leaving as law
+use Rattle.group_sems.proofs.laws.unlock_leaves.Goals as goal
+
+pub returns : goal.returns
+returns c = law.unlock_leaves

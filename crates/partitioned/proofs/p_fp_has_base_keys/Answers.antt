@@ -1,5 +1,0 @@
-use Rattle.partitioned.proofs.KeyLaws as laws
-use Rattle.partitioned.proofs.p_fp_has_base_keys.Goals as goal
-
-pub returns : goal.returns
-returns c = laws.p_fp_has_base_keys

@@ -1,3 +1,0 @@
-pub mod Boosts
-pub mod PriorityKeys
-pub mod ReservationKeys

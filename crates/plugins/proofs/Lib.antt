@@ -1,0 +1,2 @@
+pub mod GlobalKeyLaws
+pub mod PartitionedKeyLaws

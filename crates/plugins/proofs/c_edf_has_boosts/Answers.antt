@@ -1,0 +1,5 @@
+use Rattle.plugins.proofs.GlobalKeyLaws as laws
+use Rattle.plugins.proofs.c_edf_has_boosts.Goals as goal
+
+pub returns : goal.returns
+returns c = laws.c_edf_has_boosts

@@ -1,0 +1,5 @@
+use Rattle.plugins.proofs.GlobalKeyLaws as laws
+use Rattle.plugins.proofs.gsn_edf_has_boosts.Goals as goal
+
+pub returns : goal.returns
+returns c = laws.gsn_edf_has_boosts

@@ -1,0 +1,5 @@
+pub mod DeadlineKeys
+pub mod PriorityKeys
+pub mod ReservationKeys
+pub mod GlobalBoosts
+pub mod PartitionedBoosts

@@ -1,3 +1,0 @@
-pub mod WaitingList
-pub mod Blocked
-pub mod Listing
