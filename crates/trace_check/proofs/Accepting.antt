@@ -1,5 +1,5 @@
 -- An entry that is the next one is followed.
-use Rattle.std.proofs.Common.{◌≡◌, ◌+◌, ◌<◌, ◌≤◌, ℕ, List, [], ◌∷◌, ◌++◌, length, Some, refl, sym, ap, ◌∙◌, subst, arith, length-append}
+use Rattle.std.proofs.Common.{◌≡◌, ◌+◌, ◌≤◌, ℕ, List, [], ◌∷◌, ◌++◌, length, Some, refl, sym, ap, ◌∙◌, subst, arith, length-append}
 use Rattle.std.proofs.Math.Seq.{get_or-append_seam}
 use Rattle.rt_base.specs.declared.TheConstants.{MOST_STEPS}
 use Rattle.rt_task.specs.declared.Parts.{Parts}

@@ -1,10 +1,8 @@
 -- A line begins with a digit where it is that of an entry, and no other line does.
-use Rattle.std.proofs.Common.{◌≡◌, ℕ, ◌+◌, ◌<◌, ◌≤◌, ◌^◌, ◌%◌, Bool, true, false, List, [], ◌∷◌, ◌++◌, map, decimal, refl, sym, ap, ◌∙◌, arith, append_assoc}
-use Rattle.std.specs.Char.{is_ascii_digit}
+use Rattle.std.proofs.Common.{◌≡◌, ℕ, ◌+◌, ◌<◌, ◌≤◌, ◌^◌, ◌%◌, true, false, List, [], ◌∷◌, ◌++◌, decimal, refl, ap, ◌∙◌, arith, append_assoc}
 use Rattle.std.proofs.lemmas.Bool.Decides.{nat_tests}
 use Rattle.std.proofs.lemmas.Fmt.{decimal_by_steps}
 use Rattle.rt_rules.specs.declared.history.Entry.{Entry}
-use Rattle.trace_lines.specs.Words.{Word, join}
 use Rattle.trace_lines.specs.Grammar.{line_text, line_words}
 use Rattle.trace_lines.specs.Known.{Known, IsLine}
 use Rattle.trace_lines.specs.Lines.{Line, Link, group_line, entry_line, block_line, end_line, count_line}

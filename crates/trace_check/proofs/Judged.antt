@@ -1,10 +1,8 @@
 -- When a text whose lines are known is a valid trace, and else how far it is right.
-use Rattle.std.proofs.Common.{◌≡◌, ◌≢◌, ℕ, ◌+◌, ◌<◌, ◌≤◌, ◌==◌, ◌||◌, inl, inr, ◌⊎◌, Bool, true, false, List, [], ◌∷◌, ◌++◌, All, length, take, drop, get_or, refl, sym, ap, ◌∙◌, subst, arith, eqb-true, append-nil, append_assoc, length-append}
-use Rattle.std.specs.Prelude.{Option, bytes_eq, flat_map, nat_lt, if◌then◌else◌}
+use Rattle.std.proofs.Common.{◌≡◌, ◌≢◌, ℕ, ◌+◌, ◌<◌, ◌≤◌, inl, inr, ◌⊎◌, Bool, true, false, List, [], ◌∷◌, ◌++◌, All, length, take, drop, get_or, refl, sym, ap, ◌∙◌, subst, arith, append-nil, append_assoc, length-append}
+use Rattle.std.specs.Prelude.{Option, flat_map, nat_lt}
 use Rattle.std.proofs.lemmas.Bool.Decides.{nat_tests}
-use Rattle.std.proofs.lemmas.Slice.Eq.{bytes_eq-Decides}
-use Rattle.std.proofs.lemmas.List.{append_cancel_left, nil_from_length, take-append-drop, take-take, take_all}
-use Rattle.std.proofs.lemmas.List.Concat.{flat_map-append}
+use Rattle.std.proofs.lemmas.List.{append_cancel_left, take-append-drop, take-take, take_all}
 use Rattle.std.proofs.lemmas.List.Elements.{All-get_or}
 use Rattle.std.proofs.Math.Seq.{get_or-append_seam, take-append-add, take-append_seam}
 use Rattle.rt_task.specs.declared.Parts.{Parts}
@@ -28,10 +26,8 @@ use Rattle.trace_laws.proofs.Heads.{head-unique, lines_of, longer-begins, longer
 use Rattle.trace_laws.proofs.KnownLines.{known-lines}
 use Rattle.trace_laws.proofs.OneLine.{canonical-one_line}
 use Rattle.trace_laws.proofs.ReadBack.{begin-same, first-read, text-begins, texts-apart}
-use Rattle.trace_check.specs.declared.verdict.Verdict.TheVariants.{Valid, Invalid}
-use Rattle.trace_check.specs.Judging.{verdict_behind}
-use Rattle.trace_check.specs.LinesAlike.{behind_lines, lines_alike}
-use Rattle.trace_check.specs.Verdicts.{IsInvalid, IsVerdict}
+use Rattle.trace_check.specs.LinesAlike.{lines_alike}
+use Rattle.trace_check.specs.Verdicts.{IsInvalid}
 use Rattle.trace_check.specs.GroupLines.{lines_of_groups}
 use Rattle.trace_check.proofs.GroupLines.{IsNoEnd}
 use Rattle.trace_check.proofs.LinesAlike.{alike-most, alike-past, alike-there, texts-alike}

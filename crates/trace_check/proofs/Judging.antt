@@ -1,6 +1,6 @@
 -- A text that was judged right so far, and what the next line comes to.
-use Rattle.std.proofs.Common.{◌≡◌, ◌≢◌, ℕ, zero, suc, ◌+◌, ◌-◌, ◌*◌, ◌<◌, ◌≤◌, ◌^◌, inl, inr, ◌⊎◌, Bool, true, false, ◌||◌, ◌==◌, List, [], ◌∷◌, ◌++◌, length, map, take, drop, get_or, None, Some, refl, sym, ap, ◌∙◌, subst, arith, eqb-true, append-nil, append_assoc, length-append}
-use Rattle.std.specs.Prelude.{All, Option, bytes_eq, codes, flat_map, not, sum_by, if◌then◌else◌}
+use Rattle.std.proofs.Common.{◌≡◌, ℕ, zero, suc, ◌+◌, ◌-◌, ◌*◌, ◌<◌, ◌≤◌, ◌^◌, inl, inr, ◌⊎◌, Bool, true, false, ◌||◌, ◌==◌, List, [], ◌∷◌, ◌++◌, length, map, take, drop, get_or, None, Some, refl, sym, ap, ◌∙◌, subst, arith, eqb-true, append-nil, append_assoc, length-append}
+use Rattle.std.specs.Prelude.{All, Option, bytes_eq, codes, not, sum_by, if◌then◌else◌}
 use Rattle.std.proofs.lemmas.List.Sums.{sum-map, sum_by-cons, sum_by_push}
 use Rattle.std.proofs.lemmas.List.{append_cancel_left, drop-drop, length-take-le, nil_from_length, take-append-drop, take_all}
 use Rattle.std.proofs.lemmas.List.Elements.{All-append, All-head, All-take}
@@ -17,13 +17,13 @@ use Rattle.rt_groups.proofs.GroupCount.{groups_are_counted}
 use Rattle.rt_plays.specs.Plays.{ArePlays, IsPlay, group_count, group_with}
 use Rattle.set_canonical.specs.Canonical.{canonical}
 use Rattle.set_laws.proofs.CanonicalLaws.{set-of-canonical}
-use Rattle.trace_lines.specs.Lines.{Link, Line, group_line, entry_line, block_line, end_line, count_line, links_of}
+use Rattle.trace_lines.specs.Lines.{Line, group_line, entry_line, block_line, end_line, count_line, links_of}
 use Rattle.trace_lines.specs.declared.format.Version.{Version}
 use Rattle.trace_lines.specs.Grammar.{line_text, line_words}
 use Rattle.trace_lines.specs.Known.{IsLine, Known, known_of}
 use Rattle.trace_tools.specs.Seats.{Seat, seat_after, seat_line, seat_of, seats_after}
 use Rattle.trace_tools.specs.Tools.{Tool}
-use Rattle.trace_text.specs.CountLines.{count_lines, counted_text, shown_as, shown_entries, shown_from}
+use Rattle.trace_text.specs.CountLines.{count_lines, counted_text, shown_as, shown_from}
 use Rattle.trace_text.specs.TraceText.{lines_from, links_at, trace_text}
 use Rattle.trace_text.proofs.GroupLaws.{groups-few}
 use Rattle.trace_text.proofs.LineLaws.{past_none}
@@ -41,7 +41,7 @@ use Rattle.trace_check.specs.declared.progress.Followed.{Followed}
 use Rattle.trace_check.specs.declared.requests.Stood.{Stood}
 use Rattle.trace_check.specs.declared.verdict.Verdict.{Verdict}
 use Rattle.trace_check.specs.declared.verdict.Verdict.TheVariants.{Invalid, Valid}
-use Rattle.trace_check.specs.Verdicts.{HasShown, IsInvalid, IsVerdict}
+use Rattle.trace_check.specs.Verdicts.{IsInvalid, IsVerdict}
 use Rattle.trace_check.specs.Following.{HasTaken, IsFollowing, IsFollowingWith, IsNextEntry, IsTaken, NoneIsNext}
 use Rattle.trace_course.specs.Places.{Place}
 use Rattle.trace_check.specs.GroupLines.{ArePlaysFrom, IsOtherLine, NoEntryBegins, NoEntryBehind, NoEntryFirst, lines_of_groups, lines_so_far, next_line, opening_line}
@@ -55,7 +55,7 @@ use Rattle.trace_check.proofs.GroupLines.{IsNoEnd, blocks-no_end, blocks-other, 
 use Rattle.trace_check.proofs.SetLines.{AreClosed, GoesOn, IsEntryNext, IsNextAfter, completed-between, completed-whole, completed-within, from-all, goes-on, groups-no_end, lines-last, lines_behind, lines_through, next-between, next-within, plays-append, whole-lines}
 use Rattle.trace_check.proofs.Judged.{alone-valid, behind-wrong, counted-valid, counts-begun, heads, same-histories, text_is}
 use Rattle.trace_check.proofs.Shown.{lines-shown, shown-group, shown-more, shown-none}
-use Rattle.trace_check.proofs.TextPlaces.{StandFirst, lines-short, rest-of, size-is, stand-further, stand-line, stand-none, stopped-at, texts, texts-more, wrong-lines}
+use Rattle.trace_check.proofs.TextPlaces.{StandFirst, lines-short, rest-of, size-is, stand-further, stand-line, stopped-at, texts, texts-more, wrong-lines}
 
 -- two lists with one element more that are the same
 last-same : {A : Type 0} (xs ys : List A) (x y : A) → xs ++ x ∷ [] ≡ ys ++ y ∷ [] → (xs ≡ ys) × (x ≡ y)

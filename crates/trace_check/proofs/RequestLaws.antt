@@ -1,10 +1,9 @@
 -- The lines of requests, as they are wanted, and as they stand in a text.
-use Rattle.std.proofs.Common.{◌≡◌, ℕ, ◌+◌, ◌-◌, ◌<◌, ◌≤◌, List, [], ◌∷◌, ◌++◌, length, take, drop, get_or, sym, ap, ◌∙◌, subst, arith, length-append}
-use Rattle.std.specs.Prelude.{flat_map}
+use Rattle.std.proofs.Common.{◌≡◌, ℕ, ◌+◌, ◌-◌, ◌<◌, ◌≤◌, List, [], ◌∷◌, ◌++◌, length, take, drop, get_or, sym, ap, ◌∙◌, subst, arith}
 use Rattle.std.proofs.lemmas.List.{get_or-map, length-drop, length-map, length-take-le, take_more}
 use Rattle.rt_model.specs.Group.{Group}
 use Rattle.rt_model.specs.Past.{Past}
-use Rattle.count_laws.specs.Tallies.{Tally, tallies}
+use Rattle.count_laws.specs.Tallies.{tallies}
 use Rattle.block_counts.specs.declared.seen.Seen.{Seen}
 use Rattle.block_counts.specs.SeenWords.{tallies_of, tally_of}
 use Rattle.trace_lines.specs.Grammar.{line_text}

@@ -7,7 +7,6 @@ use Rattle.rt_model.specs.Histories.{after, past_from, past_of}
 use Rattle.rt_model.specs.Past.{Past}
 use Rattle.rt_model.proofs.Steps.{past_of-append}
 use Rattle.rt_plays.specs.Plays.{group_with}
-use Rattle.trace_lines.specs.Lines.{Line}
 use Rattle.trace_tools.specs.declared.shown.Shown.{Shown}
 use Rattle.trace_tools.specs.Seats.{Seat, seat_after, seat_line, seat_of, seats_after}
 use Rattle.trace_tools.specs.Tools.{Tool}

@@ -1,5 +1,5 @@
 -- The text of a trace behind its first two lines, judged line by line.
-use Rattle.std.specs.Prelude.{◌≡◌, ℕ, ◌+◌, ◌||◌, ◌==◌, List, bytes_eq, length, if◌then◌else◌}
+use Rattle.std.specs.Prelude.{ℕ, ◌+◌, ◌||◌, ◌==◌, List, bytes_eq, length, if◌then◌else◌}
 use Rattle.rt_task.specs.declared.Parts.{Parts}
 use Rattle.set_canonical.specs.Canonical.{canonical}
 use Rattle.trace_lines.specs.declared.format.Version.{Version}

@@ -1,20 +1,17 @@
-use Rattle.std.proofs.Common.{◌≡◌, ℕ, List, ◌++◌, drop, map, ap, ◌∙◌, sym, subst}
+use Rattle.std.proofs.Common.{◌≡◌, List, ◌++◌, drop, map, ap, ◌∙◌, sym}
 use Rattle.std.proofs.lemmas.Result.{IfOk-weaker}
 use Rattle.rt_task.specs.declared.Parts.{Parts}
-use Rattle.set_canonical.specs.Canonical.{canonical}
 use Rattle.trace_tools.specs.Places.{seats}
 use Rattle.trace_tools.specs.Seats.{seat_of}
 use Rattle.trace_tools.specs.Tools.{Tool}
-use Rattle.trace_read.specs.Reads.{HasHead}
 use Rattle.rt_rules.proofs.BoolLaws.{clash}
 use Rattle.trace_text.specs.TraceText.{head_text}
 use Rattle.trace_check.specs.declared.verdict.Checked.{Checked}
 use Rattle.trace_check.specs.Verdicts.{HasShown, IsVerdict}
 use Rattle.trace_check.specs.Counts.{HasCounts, IsCountedText}
 use Rattle.trace_check.specs.Judging.{IsJudgedText, IsShownText}
-use Rattle.trace_check.proofs.HeadText.{canonical-said, canonical-begins}
+use Rattle.trace_check.proofs.HeadText.{canonical-begins, canonical-head}
 use Rattle.trace_check.proofs.Judged.{not-canonical}
-use Rattle.trace_check.proofs.TextPlaces.{rest-of}
 use Rattle.trace_check.proofs.check_counted.Goals as goal
 
 pub has_head-requires : goal.has_head-requires
@@ -40,12 +37,8 @@ returns-then-not-branch-clause-verdict g c = λ tools opened.
 pub returns-clause-verdict : goal.returns-clause-verdict
 returns-clause-verdict g c =
     let h = c.args.head.now in
-    let r = c.requires.read in
-    let rest = drop h.length c.args.bytes.now in
     let first = seats g.T.TraceTool.tool c.args.bus.now in
-    let begins = (c.in_ok-has_head.ensures).0 c.if-not-branch.false in
-    let same = canonical-said h.version h.setup c.args.bytes.now r.set_text rest begins.0 c.parts-parts.ensures.valid r.head (begins.1 ∙ ap (λ (p : Parts). head_text h.version p ++ begins.0) c.parts-parts.ensures.parts) in
-    let head = subst (HasHead h.version c.args.bytes.now (canonical h.setup)) (sym (rest-of h.length c.args.bytes.now)) (subst (λ (s : List ℕ). HasHead h.version c.args.bytes.now s rest) same r.head) in
+    let head = canonical-head c.args.bytes.now h _ c.requires.read c.parts-parts.ensures.valid c.parts-parts.ensures.parts ((c.in_ok-has_head.ensures).0 c.if-not-branch.false) in
     IfOk-weaker c.judge_text.result
     (λ (x : Checked). (tools : List Tool) → first ≡ map seat_of tools → IsJudgedText tools h.version h.setup _ x.verdict)
     (λ (x : Checked). (tools : List Tool) → first ≡ map seat_of tools → IsVerdict tools h.version h.setup c.args.bytes.now x.verdict)
@@ -54,12 +47,8 @@ returns-clause-verdict g c =
 pub returns-clause-counted : goal.returns-clause-counted
 returns-clause-counted g c =
     let h = c.args.head.now in
-    let r = c.requires.read in
-    let rest = drop h.length c.args.bytes.now in
     let first = seats g.T.TraceTool.tool c.args.bus.now in
-    let begins = (c.in_ok-has_head.ensures).0 c.if-not-branch.false in
-    let same = canonical-said h.version h.setup c.args.bytes.now r.set_text rest begins.0 c.parts-parts.ensures.valid r.head (begins.1 ∙ ap (λ (p : Parts). head_text h.version p ++ begins.0) c.parts-parts.ensures.parts) in
-    let head = subst (HasHead h.version c.args.bytes.now (canonical h.setup)) (sym (rest-of h.length c.args.bytes.now)) (subst (λ (s : List ℕ). HasHead h.version c.args.bytes.now s rest) same r.head) in
+    let head = canonical-head c.args.bytes.now h _ c.requires.read c.parts-parts.ensures.valid c.parts-parts.ensures.parts ((c.in_ok-has_head.ensures).0 c.if-not-branch.false) in
     IfOk-weaker c.judge_text.result
     (λ (x : Checked). (tools : List Tool) → first ≡ map seat_of tools → IsCountedText tools h.version h.setup _ x.verdict x.counted)
     (λ (x : Checked). (tools : List Tool) → first ≡ map seat_of tools → HasCounts tools h.version h.setup c.args.bytes.now x.verdict x.counted)
@@ -68,13 +57,9 @@ returns-clause-counted g c =
 pub returns-clause-shown : goal.returns-clause-shown
 returns-clause-shown g c =
     let h = c.args.head.now in
-    let r = c.requires.read in
-    let rest = drop h.length c.args.bytes.now in
     let first = seats g.T.TraceTool.tool c.args.bus.now in
     let last = seats g.T.TraceTool.tool c.judge_text.new.bus in
-    let begins = (c.in_ok-has_head.ensures).0 c.if-not-branch.false in
-    let same = canonical-said h.version h.setup c.args.bytes.now r.set_text rest begins.0 c.parts-parts.ensures.valid r.head (begins.1 ∙ ap (λ (p : Parts). head_text h.version p ++ begins.0) c.parts-parts.ensures.parts) in
-    let head = subst (HasHead h.version c.args.bytes.now (canonical h.setup)) (sym (rest-of h.length c.args.bytes.now)) (subst (λ (s : List ℕ). HasHead h.version c.args.bytes.now s rest) same r.head) in
+    let head = canonical-head c.args.bytes.now h _ c.requires.read c.parts-parts.ensures.valid c.parts-parts.ensures.parts ((c.in_ok-has_head.ensures).0 c.if-not-branch.false) in
     IfOk-weaker c.judge_text.result
     (λ (x : Checked). (tools : List Tool) → first ≡ map seat_of tools → IsShownText tools h.version h.setup _ last x.verdict)
     (λ (x : Checked). (tools : List Tool) → first ≡ map seat_of tools → HasShown tools h.version h.setup c.args.bytes.now last x.verdict)

@@ -1,4 +1,4 @@
-use Rattle.std.proofs.Common.{◌≡◌, ℕ, ◌+◌, ◌<◌, drop, length, sym, arith}
+use Rattle.std.proofs.Common.{◌≡◌, drop, sym, arith}
 use Rattle.std.proofs.lemmas.List.{length-drop}
 use Rattle.trace_check.specs.LinesAlike as alike
 use Rattle.trace_check.proofs.LinesAlike.{alike-past, alike-stop}

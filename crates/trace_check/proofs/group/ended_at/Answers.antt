@@ -1,4 +1,4 @@
-use Rattle.std.proofs.Common.{◌≡◌, ℕ, ◌+◌, ◌≤◌, List, length, drop, rules, sym, ap, ◌∙◌, subst, arith}
+use Rattle.std.proofs.Common.{◌≡◌, ℕ, ◌+◌, ◌≤◌, List, length, drop, rules, sym, ap, subst, arith}
 use Rattle.block_counts.specs.SeenWords.{tallies_of}
 use Rattle.trace_lines.specs.Known.{known_of}
 use Rattle.trace_lines.specs.Lines.{Line}

@@ -12,9 +12,7 @@ use Rattle.trace_laws.proofs.Plays.{room-few}
 use Rattle.rt_groups.proofs.GroupLimits.{steps-few, turns-few}
 use Rattle.trace_text.proofs.ReplayLaws.{cpus_there}
 use Rattle.trace_text.specs.Groups.{cpu_numbers}
-use Rattle.trace_text.specs.TraceText.{links_at}
 use Rattle.group_core.specs.WaitingList.{WaitingList}
-use Rattle.rank_afresh.specs.Standing.{group_of}
 use Rattle.trace_course.specs.Courses.{IsOpened, room_in}
 use Rattle.trace_course.proofs.Courses.{room-first}
 use Rattle.trace_check.proofs.Opening.{cpus-low, group-made, following-first}

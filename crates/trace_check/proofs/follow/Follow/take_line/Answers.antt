@@ -1,4 +1,4 @@
-use Rattle.std.proofs.Common.{◌≡◌, ◌+◌, ◌≤◌, ℕ, true, false, List, ◌++◌, Some, drop, length, rules, refl, sym, ap, ◌∙◌, subst, arith}
+use Rattle.std.proofs.Common.{◌≡◌, ◌+◌, ◌≤◌, ℕ, List, ◌++◌, Some, drop, length, rules, refl, sym, ap, ◌∙◌, subst}
 use Rattle.rt_base.specs.declared.TheConstants.{MOST_STEPS}
 use Rattle.rt_task.specs.declared.Parts.{Parts}
 use Rattle.rt_task.specs.declared.Step.{Step}
@@ -8,12 +8,11 @@ use Rattle.rt_model.specs.Histories.{after, changed, past_of, reply_to}
 use Rattle.rank_afresh.specs.Standing.{group_of}
 use Rattle.trace_lines.specs.Grammar.{line_text}
 use Rattle.trace_lines.specs.Known.{IsLine, known_of}
-use Rattle.trace_lines.specs.Lines.{Link, entry_line, links_of}
+use Rattle.trace_lines.specs.Lines.{entry_line, links_of}
 use Rattle.trace_text.specs.Groups.{cpu_numbers}
 use Rattle.trace_text.specs.TraceText.{links_at}
 use Rattle.trace_course.specs.Courses.{HasGone}
 use Rattle.trace_check.specs.declared.follow.Follow.{Follow}
-use Rattle.trace_check.specs.GroupLines.{next_line}
 use Rattle.trace_check.specs.GroupLinks.{HaveChanged}
 use Rattle.trace_check.proofs.Accepting.{can-take, can_step, count-low, can-read, entry-same, following-next, line-same, same-step}
 use Rattle.trace_check.proofs.follow.Follow.take_line.Goals as goal
