@@ -1,9 +1,9 @@
 -- A valid trace was read of the text of plays, and its upgrade is the text in format 2 of these.
-use Rattle.std.proofs.Common.{◌≡◌, ℕ, List, ◌++◌, map, refl, sym, ap, ◌∙◌, subst, inr}
-use Rattle.std.specs.Prelude.{flat_map}
+use Rattle.std.proofs.Common.{◌≡◌, ℕ, Bool, true, List, ◌++◌, map, refl, sym, ap, ◌∙◌, subst, inr}
+use Rattle.std.specs.Prelude.{flat_map, if◌then◌else◌}
 use Rattle.rt_task.specs.Validity.{IsValid}
 use Rattle.rt_task.specs.declared.Parts.{Parts}
-use Rattle.rt_history.specs.declared.Entry.{Entry}
+use Rattle.rt_rules.specs.declared.history.Entry.{Entry}
 use Rattle.rt_fault.specs.declared.status.Status.{Status}
 use Rattle.rt_fault.specs.declared.status.Status.TheVariants as ends
 use Rattle.trace_lines.specs.declared.format.Version.{Version}
@@ -23,6 +23,8 @@ use Rattle.trace_laws.specs.TraceLaws.{ArePlayed}
 use Rattle.trace_laws.specs.Upgrades.{IsUpgradeOf}
 use Rattle.trace_laws.specs.ValidTexts.{IsValidText}
 use Rattle.trace_laws.proofs.ReadBack.{text-begins}
+use Rattle.trace_check.specs.Counts.{HasCounts}
+use Rattle.trace_check.specs.declared.verdict.Verdict.TheVariants.{Valid}
 use Rattle.trace_check.proofs.Shown.{lines-shown}
 use Rattle.trace_upgrade.specs.Said.{SaysPlays}
 use Rattle.set_input.specs.Answers.{IsUnwritten}
@@ -38,8 +40,15 @@ module _ (tools : List Tool) (bytes : List ℕ) (t : Trace) (entries : ℕ) (val
       let begins = text-begins tools t.version t.setup is.histories bytes is.text_is in
       record { played = played; more = begins.0; read = subst (λ (text : List ℕ). IsTraceOf text t.version t.setup (lines_of t.lines) t.stop) begins.1 read }
 
-  pub valid-upgrade : IsUpgradeOf tools bytes (counted_text Two tools t.setup is.histories)
-  valid-upgrade = record { version = t.version; setup = t.setup; histories = is.histories; played = played; text_is = is.text_is; upgraded_is = refl }
+-- the upgrade of a valid text, and it is the text itself where that is of format 2 and has its count lines
+module _ (tools : List Tool) (bytes : List ℕ) (v : Version) (p : Parts) (entries : ℕ) (valid : IsValid p) (is : IsValidText tools v p bytes entries) where
+  pub text-upgrade : IsUpgradeOf tools bytes (counted_text Two tools p is.histories)
+  text-upgrade = record { version = v; setup = p; histories = is.histories; played = record { valid = valid; plays = is.plays }; text_is = is.text_is; upgraded_is = refl }
+
+  pub own-upgrade : (counted : Bool) → HasCounts tools v p bytes (Valid entries) counted → (v ≡ Two) × (counted ≡ true) → bytes ≡ counted_text Two tools p is.histories
+  own-upgrade counted counts today =
+      subst (λ (w : Version). bytes ≡ counted_text w tools p is.histories) today.0
+      (subst (λ (b : Bool). bytes ≡ (if b then counted_text v tools p is.histories else trace_text v p is.histories)) today.1 (counts is))
 
 -- a trace whose lines were read behind the head of a valid text
 module _ (tools : List Tool) (bytes : List ℕ) (h : TraceHead) (t : Trace) (entries : ℕ) (valid : IsValid h.setup) (is : IsValidText tools h.version h.setup bytes entries)
@@ -54,7 +63,7 @@ module _ (tools : List Tool) (bytes : List ℕ) (h : TraceHead) (t : Trace) (ent
       same = λ i. record { version = sym version i; setup = sym setup i; lines = t.lines; stop = t.stop }
 
   pub head-upgrade : IsUpgradeOf tools bytes (counted_text Two tools h.setup is.histories)
-  head-upgrade = valid-upgrade tools bytes (record { version = h.version; setup = h.setup; lines = t.lines; stop = t.stop }) entries valid is
+  head-upgrade = text-upgrade tools bytes h.version h.setup entries valid is
 
   -- what was written of it is the text of its plays
   pub head-written : (seats : List Seat) (sink : Writing) (answer : Status) → seats ≡ seats_after (shown_from h.setup 0 is.histories) (map seat_of tools)

@@ -1,7 +1,7 @@
 //! The command `upgrade`: from the bytes of a trace to the text in format 2 of its set and histories, with count lines.
-ghost use Rattle.std.specs.Prelude.{◌≡◌, ◌≢◌, ℕ, List, map};
+ghost use Rattle.std.specs.Prelude.{◌≡◌, ◌≢◌, ℕ, List, map, true};
 ghost use Rattle.rt_task.specs.Validity.{IsValid};
-ghost use Rattle.rt_history.specs.declared.Entry.{Entry};
+ghost use Rattle.rt_rules.specs.declared.history.Entry.{Entry};
 ghost use Rattle.rt_fault.specs.Faults.{HasRisen};
 ghost use Rattle.trace_lines.specs.declared.format.Version.TheVariants.{Two};
 ghost use Rattle.trace_tools.specs.Places.{seats};
@@ -16,9 +16,9 @@ ghost use Rattle.sim_commands.specs.Upgrade.{HasUpgraded, HasWritten};
 ghost use Rattle.sim_commands.specs.UpgradeAnswers.{UpgradeAnswers};
 
 use crate::trace_input::read_trace_input;
-use rt_fault::{Sink, Source, Status};
+use rt_fault::{Sink, Source, Status, put_all};
 use std::alloc::Global;
-use trace_check::{Verdict, check_trace};
+use trace_check::{Checked, Verdict, check_counted};
 use trace_lines::Version;
 use trace_read::{Trace, TraceHead};
 use trace_tools::{Bus, TraceTool};
@@ -59,6 +59,29 @@ fn write_upgrade<T: TraceTool, K: Sink>(
     }
 }
 
+/// Writes a text that is its own upgrade.
+fn write_same<K: Sink>(bytes: &[u8], out: &mut K) -> Status
+    ensures written { HasWritten bytes.now (writing K.held K.faults out.old out.new) result }
+    ensures write_fault { result ≡ Status.WriteFault →
+        HasRisen (K.faults out.old) (K.faults out.new) }
+    ensures no_write_fault { result ≢ Status.WriteFault → K.faults out.new ≡ K.faults out.old }
+{
+    match put_all(out, bytes) {
+        Ok(()) => Status::Ok,
+        Err(_) => Status::WriteFault,
+    }
+}
+
+/// Whether a text that was checked is its own upgrade: it is of format 2, and has its count lines.
+fn is_upgraded(head: &TraceHead, checked: Checked) -> bool
+    ensures { result ≡ true → (head.now.version ≡ Two) × (checked.counted ≡ true) }
+{
+    match head.version {
+        Version::One => false,
+        Version::Two => checked.counted,
+    }
+}
+
 /// Writes, in format 2, the trace whose head was read of these bytes, where it is valid.
 fn upgrade_valid<T: TraceTool, K: Sink>(
     alloc: Global,
@@ -80,10 +103,15 @@ fn upgrade_valid<T: TraceTool, K: Sink>(
     let Ok(mut bus) = Bus::open(alloc, tools) else {
         return Status::NoMemory;
     };
-    match check_trace(alloc, bytes, head, &mut bus) {
-        Ok(Verdict::Valid(_)) => {}
-        Ok(Verdict::Invalid(line)) => return Status::Invalid(line),
-        Err(_) => return Status::NoMemory,
+    let Ok(checked) = check_counted(alloc, bytes, head, &mut bus) else {
+        return Status::NoMemory;
+    };
+    match checked.verdict {
+        Verdict::Valid(_) => {}
+        Verdict::Invalid(line) => return Status::Invalid(line),
+    }
+    if is_upgraded(head, checked) {
+        return write_same(bytes, out);
     }
     let Ok(trace) = head.read_lines(alloc, bytes) else {
         return Status::NoMemory;
