@@ -1,43 +1,40 @@
 //! Operations, acts and steps.
 ghost use Rattle.std.specs.Prelude.{◌≡◌, ◌++◌, List, [], ◌∷◌, true, OnOk};
+ghost use Rattle.json.specs.Print.{escape};
 ghost use Rattle.serde_json.specs.Data.{string};
 ghost use Rattle.serde_json.specs.View.{items_of};
-ghost use Rattle.serde_json.specs.Written.{compact_text, items_text};
+ghost use Rattle.serde_json.specs.Written.{comma_if, compact_text, items_text};
 ghost use Rattle.set_canonical.specs.Values.{natural_data, array_data, sem_names, task_names, op_items, act_items, step_data};
 
 use crate::names::{sem_name, task_name};
-use crate::put::{put, put_comma, put_number, put_string};
+use crate::put::{put, put_comma, put_escaped, put_natural, put_number, put_string};
 use rt_task::{Act, Op, Sem, Step, Task};
 use std::alloc::AllocError;
 
-/// The rest of an array that has a word alone.
+/// The rest of an array that has a word alone, which comes in its quotes and with the bracket behind.
 #[tactic(auto, using(std::proofs::Common::append_assoc))]
-fn put_word(out: &mut Vec<u8>, later: bool, word: &[u8]) -> Result<(), AllocError>
-    ensures { OnOk result (out.new.items
-        ≡ out.old.items ++ items_text later (items_of (string word.now ∷ []))) }
+fn put_word(out: &mut Vec<u8>, later: bool, rest: &[u8]) -> Result<(), AllocError>
+    ensures { OnOk result (out.new.items ≡ out.old.items ++ (comma_if later ++ rest.now)) }
 {
     put_comma(out, later)?;
-    put_string(out, b"", word)?;
-    out.push(b']')?;
-    Ok(())
+    put(out, rest)
 }
 
-/// The rest of an array that has a word and a name.
+/// The rest of an array that has a word and a name. The word comes in its quotes, with the comma and the quote behind it.
 #[tactic(auto, using(std::proofs::Common::append_assoc))]
 fn put_word_and_name(
     out: &mut Vec<u8>,
     later: bool,
-    word: &[u8],
+    front: &[u8],
     name: &[u8],
 ) -> Result<(), AllocError>
-    ensures { OnOk result (out.new.items
-        ≡ out.old.items ++ items_text later (items_of (string word.now ∷ string name.now ∷ []))) }
+    ensures { OnOk result (out.new.items ≡ out.old.items
+        ++ (comma_if later ++ (front.now ++ (escape name.now ++ 34 ∷ 93 ∷ [])))) }
 {
     put_comma(out, later)?;
-    put_string(out, b"", word)?;
-    put_string(out, b",", name)?;
-    out.push(b']')?;
-    Ok(())
+    put(out, front)?;
+    put_escaped(out, name)?;
+    put(out, b"\"]")
 }
 
 /// The rest of an array that has a word and a number.
@@ -59,31 +56,33 @@ pub fn put_word_and_number(
 }
 
 /// The rest of an array that has an operation.
+#[tactic(auto, using(std::proofs::Common::append_assoc), unfolding(json::specs::Print::escape_byte))]
 pub fn put_op(out: &mut Vec<u8>, later: bool, sems: &[Sem], op: Op) -> Result<(), AllocError>
     ensures { OnOk result (out.new.items
         ≡ out.old.items ++ items_text later (items_of (op_items (sem_names sems.now) op))) }
 {
     match op {
-        Op::Work => put_word(out, later, b"work"),
-        Op::Lock(s) => put_word_and_name(out, later, b"lock", sem_name(sems, s)),
-        Op::Unlock(s) => put_word_and_name(out, later, b"unlock", sem_name(sems, s)),
+        Op::Work => put_word(out, later, b"\"work\"]"),
+        Op::Lock(s) => put_word_and_name(out, later, b"\"lock\",\"", sem_name(sems, s)),
+        Op::Unlock(s) => put_word_and_name(out, later, b"\"unlock\",\"", sem_name(sems, s)),
         Op::Sleep(n) => put_word_and_number(out, later, b"sleep", n),
-        Op::NpOn => put_word(out, later, b"npon"),
-        Op::NpOff => put_word(out, later, b"npoff"),
-        Op::End => put_word(out, later, b"end"),
+        Op::NpOn => put_word(out, later, b"\"npon\"]"),
+        Op::NpOff => put_word(out, later, b"\"npoff\"]"),
+        Op::End => put_word(out, later, b"\"end\"]"),
     }
 }
 
 /// The rest of an array that has an act.
+#[tactic(auto, using(std::proofs::Common::append_assoc), unfolding(json::specs::Print::escape_byte))]
 fn put_act(out: &mut Vec<u8>, sems: &[Sem], tasks: &[Task], act: Act) -> Result<(), AllocError>
     ensures { OnOk result (out.new.items
         ≡ out.old.items ++ items_text true (items_of (act_items
         (sem_names sems.now) (task_names tasks.now) act))) }
 {
     match act {
-        Act::Tick => put_word(out, true, b"tick"),
-        Act::Irq => put_word(out, true, b"irq"),
-        Act::Arrive(t) => put_word_and_name(out, true, b"arrive", task_name(tasks, t)),
+        Act::Tick => put(out, b",\"tick\"]"),
+        Act::Irq => put(out, b",\"irq\"]"),
+        Act::Arrive(t) => put_word_and_name(out, true, b"\"arrive\",\"", task_name(tasks, t)),
         Act::Do(op) => put_op(out, true, sems, op),
     }
 }
@@ -94,8 +93,10 @@ fn put_step(out: &mut Vec<u8>, sems: &[Sem], tasks: &[Task], s: &Step) -> Result
         ≡ out.old.items ++ compact_text (step_data
         (sem_names sems.now) (task_names tasks.now) s.now)) }
 {
-    put_number(out, b"[", u64::from(s.cpu.0))?;
-    put_number(out, b",", s.tick.0)?;
+    out.push(b'[')?;
+    put_natural(out, u64::from(s.cpu.0))?;
+    out.push(b',')?;
+    put_natural(out, s.tick.0)?;
     put_act(out, sems, tasks, s.act)?;
     Ok(())
 }

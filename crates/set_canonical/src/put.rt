@@ -26,18 +26,25 @@ pub fn put_comma(out: &mut Vec<u8>, later: bool) -> Result<(), AllocError>
     Ok(())
 }
 
-/// The number in decimal, after the text before it; most numbers of a set have one digit.
-#[tactic(auto, using(std::proofs::Common::append_assoc, std::proofs::lemmas::Fmt::decimal_digit))]
-pub fn put_number(out: &mut Vec<u8>, before: &[u8], n: u64) -> Result<(), AllocError>
-    ensures { OnOk result (out.new.items ≡ out.old.items ++ (before.now ++ decimal n)) }
+/// The number in decimal; most numbers of a set have one digit.
+#[tactic(auto, using(std::proofs::lemmas::Fmt::decimal_digit))]
+pub fn put_natural(out: &mut Vec<u8>, n: u64) -> Result<(), AllocError>
+    ensures { OnOk result (out.new.items ≡ out.old.items ++ decimal n) }
 {
-    put(out, before)?;
     if n < 10 {
         return Ok(out.push(b'0' + n as u8)?);
     }
     let mut buffer = Buffer::new();
-    put(out, buffer.format(n).as_bytes())?;
-    Ok(())
+    put(out, buffer.format(n).as_bytes())
+}
+
+/// The number in decimal, after the text before it.
+#[tactic(auto, using(std::proofs::Common::append_assoc))]
+pub fn put_number(out: &mut Vec<u8>, before: &[u8], n: u64) -> Result<(), AllocError>
+    ensures { OnOk result (out.new.items ≡ out.old.items ++ (before.now ++ decimal n)) }
+{
+    put(out, before)?;
+    put_natural(out, n)
 }
 
 /// `true` or `false`, after the text before it.
@@ -136,7 +143,7 @@ fn put_bytes(out: &mut Vec<u8>, text: &[u8]) -> Result<(), AllocError>
 }
 
 /// A string's bytes, with their escapes. Most strings have none, and are put whole.
-fn put_escaped(out: &mut Vec<u8>, text: &[u8]) -> Result<(), AllocError>
+pub fn put_escaped(out: &mut Vec<u8>, text: &[u8]) -> Result<(), AllocError>
     ensures { OnOk result (out.new.items ≡ out.old.items ++ print.escape text.now) }
 {
     if are_plain(text) {

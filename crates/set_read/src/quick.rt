@@ -163,7 +163,7 @@ pub(crate) fn quick_draft(alloc: Global, bytes: &[u8]) -> Option<Draft>
     if !ends_with_step(bytes) {
         return None;
     }
-    let Ok(_) = std::str::from_utf8(bytes) else {
+    let Ok(_) = simdutf8::basic::from_utf8(bytes) else {
         return None;
     };
     let (text, steps) = at_steps(bytes)?;

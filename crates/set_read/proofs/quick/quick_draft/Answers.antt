@@ -11,5 +11,5 @@ returns c =
     let (front, leaves, written) = c.in_ok-value.ensures in
     IfSome_then c.draft_of.result c.draft_of.ensures
     (λ draft said.
-    quick-read bytes front (tokens steps) (view c.in_ok-value.value) draft c.in-Ok.ensures.cases.1
+    quick-read bytes front (tokens steps) (view c.in_ok-value.value) draft c.in-Ok.ensures.1
     (rw c.in_ok-text.ensures (leaves steps)) written said)
