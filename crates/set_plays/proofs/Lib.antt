@@ -7,3 +7,4 @@ pub mod TurnLaws
 mod CursorLaws
 pub mod TurnRoom
 pub mod GroupLaws
+pub mod OneGroup
