@@ -52,7 +52,7 @@ impl Model for ArrivalQueue {
 }
 
 // The next arrival of the newest one's task is at this place.
-fn follow(arrivals: &mut Vec<Arrival>, newest: Option<usize>, place: usize)
+fn link_behind(arrivals: &mut Vec<Arrival>, newest: Option<usize>, place: usize)
     requires { IfSome newest (λ i. i < length arrivals.old.items) }
     ensures items { arrivals.new.items ≡ followed arrivals.old.items newest place }
     ensures room { vec_capacity arrivals.new ≡ vec_capacity arrivals.old }
@@ -106,7 +106,7 @@ impl ArrivalQueue {
     {
         let place = self.arrivals.len();
         let ends = self.ends[task.0 as usize];
-        follow(&mut self.arrivals, ends.newest, place);
+        link_behind(&mut self.arrivals, ends.newest, place);
         self.arrivals.push_reserved(Arrival {
             task: task.0,
             clock: clock.0,

@@ -15,9 +15,9 @@ use Rattle.rt_model.specs.Blocking.{bound}
 use Rattle.rt_model.specs.Group.{Group}
 use Rattle.rt_model.specs.Histories.{after, reply_to}
 use Rattle.rt_model.specs.Past.{Past, accepted, entries_in, sem_act_of}
-use Rattle.count_laws.specs.CountLaws.{act_of}
-use Rattle.count_laws.specs.Tallies.{Tally, Waiter, act_by, counted, counted_at, fed, tallies}
-use Rattle.count_laws.proofs.Laws.{entry_feeds}
+use Rattle.rt_changes.specs.CountLaws.{act_of}
+use Rattle.rt_changes.specs.Tallies.{Tally, Waiter, act_by, counted, counted_at, fed, tallies}
+use Rattle.rt_changes.proofs.requests.Laws.{entry_feeds}
 use Rattle.block_counts.specs.GroupRequests.{GroupRequests, IsAt, IsBetween, IsFit, NamesKnown, group_of}
 use Rattle.block_counts.specs.Bounding.{IsSemOf, IsTaskOf}
 use Rattle.block_counts.specs.Places.{IsFew}

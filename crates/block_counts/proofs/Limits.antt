@@ -5,7 +5,7 @@ use Rattle.rt_task.specs.declared.Cluster.{Cluster}
 use Rattle.rt_task.specs.declared.Parts.{Parts}
 use Rattle.rt_task.specs.Validity.{IsValid}
 use Rattle.rt_model.specs.Group.{no_cluster}
-use Rattle.rt_groups.proofs.SetLimits.{sets_are_in_limits}
+use Rattle.rt_plays.proofs.SetLimits.{sets_are_in_limits}
 use Rattle.block_counts.specs.Bounding.{CanBound}
 
 pub can_bound : (p : Parts) → IsValid p → CanBound p

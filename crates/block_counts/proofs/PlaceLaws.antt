@@ -7,8 +7,8 @@ use Rattle.std.specs.Prelude.{None, Option, Some, if◌then◌else◌, nat_lt, s
 use Rattle.rt_rules.specs.Numbers.{has, is}
 use Rattle.rt_rules.proofs.BoolLaws.{clash, neither, unless}
 use Rattle.rt_rules.proofs.MemberLaws.{equal_self}
-use Rattle.count_laws.specs.Tallies.{Tally, Waiter, blocked_in, counted, counted_at, newest_from, newest_of, seen_by, waiter_tasks}
-use Rattle.count_laws.proofs.Feeding.{newest-push}
+use Rattle.rt_changes.specs.Tallies.{Tally, Waiter, blocked_in, counted, counted_at, newest_from, newest_of, seen_by, waiter_tasks}
+use Rattle.rt_changes.proofs.requests.Feeding.{newest-push}
 use Rattle.block_counts.specs.Places.{ArePlaces, IsFew, IsPlaceOf, no_tally, seen_at, seen_in, seen_one}
 use Rattle.block_counts.proofs.Lists.{map-same-at, map-same-but}
 

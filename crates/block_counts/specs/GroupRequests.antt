@@ -12,8 +12,8 @@ use Rattle.rt_model.specs.Group.{Group}
 use Rattle.rt_model.specs.Histories.{clock_moved, reply_to}
 use Rattle.rt_model.specs.Past.{Past, entries_in}
 use Rattle.rt_model.specs.Runs.{runs}
-use Rattle.count_laws.specs.CountLaws.{act_of}
-use Rattle.count_laws.specs.Tallies.{AreWaiters, Tally, Waiter, tallies}
+use Rattle.rt_changes.specs.CountLaws.{act_of}
+use Rattle.rt_changes.specs.Tallies.{AreWaiters, Tally, Waiter, tallies}
 use Rattle.block_counts.specs.Bounding.{IsSemOf, IsTaskOf}
 use Rattle.block_counts.specs.Places.{ArePlaces, IsFew}
 

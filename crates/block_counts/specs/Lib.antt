@@ -1,5 +1,5 @@
 pub mod SeenWords
-pub mod AtSems
 pub mod Places
 pub mod Bounding
 pub mod GroupRequests
+pub mod inside

@@ -1,6 +1,6 @@
 -- Where each task's newest request stands in the list.
 use Rattle.std.specs.Prelude.{◌≡◌, ℕ, ◌<◌, ◌≤◌, ◌==◌, Bool, List, length, Option, None, Some, if◌then◌else◌, slice_index_or, slice_set}
-use Rattle.count_laws.specs.Tallies.{Tally, Waiter, newest_of, seen_by}
+use Rattle.rt_changes.specs.Tallies.{Tally, Waiter, newest_of, seen_by}
 
 -- what a place that stands for no request is read as
 abbrev pub no_tally : Tally

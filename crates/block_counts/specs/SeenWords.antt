@@ -1,6 +1,6 @@
 -- Requests and waiting tasks as definitions speak of them.
 use Rattle.std.specs.Prelude.{List, map}
-use Rattle.count_laws.specs.Tallies.{Tally, Waiter}
+use Rattle.rt_changes.specs.Tallies.{Tally, Waiter}
 use Rattle.block_counts.specs.declared.seen.Seen.{Seen}
 use Rattle.block_counts.specs.declared.seen.Waiting.{Waiting}
 

@@ -7,8 +7,8 @@ ghost use Rattle.rt_model.specs.Blocking.{bound};
 ghost use Rattle.rt_model.specs.Histories.{after};
 ghost use Rattle.rt_model.specs.Reachable.{IsReachable};
 ghost use Rattle.rt_model.specs.Past.{Past};
-ghost use Rattle.count_laws.specs.OpenLaws.{IsWithin};
-ghost use Rattle.count_laws.specs.Tallies.{act_by, fed, tallies, waiter_tasks};
+ghost use Rattle.rt_changes.specs.OpenLaws.{IsWithin};
+ghost use Rattle.rt_changes.specs.Tallies.{act_by, fed, tallies, waiter_tasks};
 ghost use Rattle.block_counts.specs.GroupRequests.{IsAt, IsBetween, NamesKnown, group_of};
 ghost use Rattle.block_counts.specs.SeenWords.{tallies_of, waiters_of};
 

@@ -2,7 +2,7 @@
 ghost use Rattle.std.specs.Prelude.{◌≡◌, ◌+◌, ◌-◌, ◌^◌, ◌<◌, ◌≤◌, ℕ, [], ◌∷◌, ◌++◌, All, Some, None, IfOk, length, replicate, slice_index_or, slice_set, vec_len, vec_capacity};
 ghost use Rattle.rt_base.specs.declared.TheConstants.{MOST_STEPS};
 ghost use Rattle.rt_rules.specs.Distinct.{IsDistinct};
-ghost use Rattle.count_laws.specs.Tallies.{counted, waiter_tasks};
+ghost use Rattle.rt_changes.specs.Tallies.{counted, waiter_tasks};
 ghost use Rattle.block_counts.specs.SeenWords.{tallies_of, tally_of, waiter_of, waiters_of};
 ghost use Rattle.block_counts.specs.Places.{ArePlaces, IsFew, PointWithin, seen_at, seen_one};
 

@@ -25,12 +25,12 @@ use Rattle.rt_model.specs.Sleep.{wakes}
 use Rattle.rt_model.proofs.PastLaws.{made-from}
 use Rattle.rt_model.proofs.Steps.{past_of-append, runs-clock}
 use Rattle.rt_laws.specs.BlockedOnce.{is_asking, takes_interrupts}
-use Rattle.rt_laws.proofs.BlockedMoves.{blocked_at_most, taking_is_prompt}
-use Rattle.rt_laws.proofs.Requests.{IsAsk, asks}
-use Rattle.rank_changes.specs.Clusters.{SameCluster}
-use Rattle.rank_changes.specs.Touched.{comes_due, lies_in, release_lies_in}
-use Rattle.rank_changes.proofs.SameClusters.{cluster-stays, runs-clock as cluster-runs}
-use Rattle.rank_changes.proofs.QuietMoves.{standing_after_clock}
+use Rattle.rt_laws.proofs.pcp.BlockedMoves.{blocked_at_most, taking_is_prompt}
+use Rattle.rt_laws.proofs.semaphores.Requests.{IsAsk, asks}
+use Rattle.rt_changes.specs.Clusters.{SameCluster}
+use Rattle.rt_changes.specs.Touched.{comes_due, lies_in, release_lies_in}
+use Rattle.rt_changes.proofs.rankings.SameClusters.{cluster-stays, runs-clock as cluster-runs}
+use Rattle.rt_changes.proofs.rankings.QuietMoves.{standing_after_clock}
 use Rattle.rt_rules.proofs.BoolLaws.{both}
 use Rattle.rt_plays.specs.BodyHistories.{IsBodyHistory, IsTurn, turn_acts}
 use Rattle.rt_plays.proofs.Sentence.{holds-at}

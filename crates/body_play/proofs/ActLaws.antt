@@ -10,7 +10,7 @@ use Rattle.rt_task.specs.declared.Task.{Task}
 use Rattle.rt_rules.specs.declared.history.Situation.{Situation}
 use Rattle.rt_model.specs.Group.{Group, task}
 use Rattle.rt_model.specs.Situations.{next_act, next_of, next_op}
-use Rattle.body_play.specs.Operations.{operation_at, waits}
+use Rattle.body_play.specs.inside.Operations.{operation_at, waits}
 
 -- an operation is done, or waits
 pub next_op-some : (g : Group) (s : Situation) (op : Op) → (if waits s op then None else Some (acts.Do op)) ≡ next_op g s (Some op)

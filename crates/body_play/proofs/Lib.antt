@@ -1,2 +1,4 @@
 pub mod ActLaws
 pub mod ValidBodies
+pub mod TurnLaws
+pub mod Rows

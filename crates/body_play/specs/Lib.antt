@@ -1,1 +1,3 @@
-pub mod Operations
+pub mod Turn
+pub mod Turns
+pub mod inside

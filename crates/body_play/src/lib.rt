@@ -8,11 +8,15 @@ ghost use Rattle.std.specs.Prelude.{◌≡◌, ◌-◌, ◌&&◌, ℕ, not, is_s
 ghost use Rattle.rt_model.specs.Group.{Group};
 ghost use Rattle.rt_model.specs.Situations as situations;
 ghost use Rattle.rt_plays.specs.Plays.{group_with};
-ghost use Rattle.body_play.specs.Operations as operations;
+ghost use Rattle.body_play.specs.inside.Operations as operations;
+
+mod turn;
+mod turns;
 
 use rt_base::TaskNo;
 use rt_rules::Situation;
 use rt_task::{Act, Op, Setup, Task};
+pub use turns::Turns;
 
 fn operation_at(tasks: &[Task], runs: TaskNo, at: u32) -> Option<Op>
     ensures { result ≡ operations.operation_at tasks.now runs.0 at }

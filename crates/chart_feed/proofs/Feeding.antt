@@ -12,7 +12,7 @@ use Rattle.chart_rows.specs.Units.{IsTold}
 use Rattle.chart_rows.specs.declared.units.Unit.{Unit}
 use Rattle.chart_feed.specs.EntryClocks.{EntriesKept, clocks_in, entry_clocks}
 use Rattle.chart_feed.specs.Feeds.{IsActed, IsClocked, IsMoved, IsTurned}
-use Rattle.chart_feed.specs.Stands.{CanAct, CanSee}
+use Rattle.chart_feed.specs.inside.Stands.{CanAct, CanSee}
 use Rattle.chart_feed.specs.WindowStrips.{entries_of, is_in, place}
 use Rattle.chart_feed.specs.declared.feed.Feed.{Feed}
 use Rattle.chart_feed.proofs.Edges.{clocks-acted, clocks-clocked}

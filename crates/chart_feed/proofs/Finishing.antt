@@ -13,7 +13,7 @@ use Rattle.chart_texts.specs.Charts as charts
 use Rattle.chart_cells.specs.Cells.{cell_shown}
 use Rattle.chart_cells.specs.declared.cells.Marked.{Marked}
 use Rattle.chart_feed.specs.Finished.{AreTimed}
-use Rattle.chart_feed.specs.Marked.{marked_in}
+use Rattle.chart_feed.specs.inside.Marked.{marked_in}
 use Rattle.chart_feed.specs.Times.{edges_of, end_clocks, marks_in}
 use Rattle.chart_feed.proofs.MarkLaws.{marks-shown}
 

@@ -16,7 +16,8 @@ use Rattle.chart_texts.specs.Windows.{columns_in, cut}
 use Rattle.chart_rows.specs.Strips.{blank, column_of, done, seen, strip_of}
 use Rattle.chart_feed.specs.WindowStrips.{closed, closed_below, entries_of, entry_strip, in_window, is_in, open_at, open_moved, open_turned, tick_strip, ticks_in}
 use Rattle.chart_feed.proofs.Entries.{cut-inside, cut-outside, entries-acted, entries-clocked, length-entries, strips-entries}
-use Rattle.chart_feed.proofs.Ticks.{closed-same, columns-ticks, strip-acted, strip-begun, strip-clocked, strip-gap, ticks-inside, ticks-outside}
+use Rattle.chart_rows.proofs.TickLaws.{strip-acted, strip-begun, strip-clocked, strip-gap}
+use Rattle.chart_feed.proofs.Ticks.{closed-same, columns-ticks, ticks-inside, ticks-outside}
 
 -- ---- ticks, as the clock is to be moved
 

@@ -6,8 +6,8 @@ use Rattle.rt_task.specs.declared.Task.{Task}
 use Rattle.rt_rules.specs.Numbers.{has}
 use Rattle.rt_model.specs.Group.{Group, group_processors, task, tasks}
 use Rattle.rt_model.specs.Past.{Past}
-use Rattle.rt_groups.proofs.GroupPlaces.{tasks_are_at_home}
-use Rattle.rt_groups.proofs.SetLimits.{sets_are_in_limits}
+use Rattle.rt_plays.proofs.GroupPlaces.{tasks_are_at_home}
+use Rattle.rt_plays.proofs.SetLimits.{sets_are_in_limits}
 use Rattle.trace_views.specs.Columns.{Column}
 use Rattle.job_facts.proofs.Periods.{period-positive}
 use Rattle.chart_texts.specs.declared.window.Axis.{Axis}
@@ -17,8 +17,8 @@ use Rattle.chart_texts.specs.Windows.{columns_in}
 use Rattle.chart_rows.specs.Rows.{CpuKept, ResvKept, RowsKept, TaskKept, cpu_kept, resv_kept, rows_of, task_kept}
 use Rattle.chart_rows.specs.Strips.{Strip, blank, strip_of}
 use Rattle.chart_feed.specs.Clocks.{ClocksKept}
-use Rattle.chart_feed.specs.Marked.{edges_shown}
-use Rattle.chart_feed.specs.Panels.{CanShow, IsCpuRow, IsResvRow, IsTaskRow}
+use Rattle.chart_feed.specs.inside.Marked.{edges_shown}
+use Rattle.chart_feed.specs.inside.Panels.{CanShow, IsCpuRow, IsResvRow, IsTaskRow}
 use Rattle.chart_feed.specs.declared.times.Edges.{Edges}
 use Rattle.chart_feed.specs.declared.window_columns.Columns.{Columns}
 use Rattle.chart_feed.proofs.Edges.{are-timed}

@@ -11,7 +11,7 @@ use Rattle.chart_texts.specs.declared.window.Axis.TheVariants.{Entries, Ticks}
 use Rattle.chart_texts.specs.declared.window.Window.{Window}
 use Rattle.chart_texts.specs.Windows.{columns_in}
 use Rattle.rank_afresh.specs.Standing.{Standing, group_of}
-use Rattle.chart_feed.specs.Stands.{HasRows}
+use Rattle.chart_feed.specs.inside.Stands.{HasRows}
 use Rattle.chart_rows.specs.Rows.{RowsKept, rows_acted, rows_closed, rows_of, rows_seen}
 use Rattle.chart_rows.specs.Strips.{Strip, blank, done, seen, strip_of}
 use Rattle.chart_rows.specs.UpTo.{AreUpTo}
@@ -19,7 +19,7 @@ use Rattle.chart_feed.specs.WindowStrips.{closed, closed_below, entry_strip, has
 use Rattle.chart_feed.proofs.Moves.{acted-entries, acted-open, acted-outside, acted-ticks, below-beyond, below-more, below-same, ended-entries, ended-ticks, gap-more, moved-ticks, turned-entries, turned-ticks}
 use Rattle.chart_rows.proofs.RowLaws.{acted-rows, closed-rows, seen-rows}
 use Rattle.chart_rows.proofs.UpTo.{rows-still, rows-up-to}
-use Rattle.chart_feed.proofs.Ticks.{newest-strip, strip-seen}
+use Rattle.chart_rows.proofs.TickLaws.{newest-strip, strip-seen}
 
 -- ---- at opening
 

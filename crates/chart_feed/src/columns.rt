@@ -9,7 +9,7 @@ ghost use Rattle.chart_texts.specs.declared.window.Window as windows;
 ghost use Rattle.chart_texts.specs.Windows.{columns_in};
 ghost use Rattle.view_acts.specs.ShownActs.{act_shown};
 ghost use Rattle.chart_rows.specs.Rows.{rows_of};
-ghost use Rattle.chart_feed.specs.Stands.{CanAct, CanSee, HasRows};
+ghost use Rattle.chart_feed.specs.inside.Stands.{CanAct, CanSee, HasRows};
 ghost use Rattle.chart_feed.specs.WindowStrips as strips;
 ghost use Rattle.chart_rows.specs.Strips.{blank, strip_of};
 ghost use Rattle.chart_feed.specs.WindowStrips.{closed, closed_below, open_at, open_moved, open_turned};

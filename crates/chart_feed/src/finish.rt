@@ -8,7 +8,7 @@ ghost use Rattle.chart_texts.specs.Charts.{cpu_row_in, resv_row_in, task_row_in}
 ghost use Rattle.chart_cells.specs.Charts.{cpu_row_shown, resv_row_shown, task_row_shown};
 ghost use Rattle.chart_feed.specs.declared.times.Edges as seen_edges;
 ghost use Rattle.chart_feed.specs.Finished.{IsFinished};
-ghost use Rattle.chart_feed.specs.Marked.{edges_shown};
+ghost use Rattle.chart_feed.specs.inside.Marked.{edges_shown};
 ghost use Rattle.chart_rows.specs.Rows.{cpu_kept, resv_kept, task_kept};
 ghost use Rattle.chart_rows.specs.Strips.{blank, strip_of};
 

@@ -3,7 +3,7 @@ ghost use Rattle.std.specs.Prelude.{◌≡◌, ◌+◌, ◌<◌, All, IfOk, drop
 ghost use Rattle.rt_base.specs.declared.TheConstants.{TICK_END};
 ghost use Rattle.chart_feed.specs.declared.times.Edges as seen_edges;
 ghost use Rattle.chart_cells.specs.Cells.{marked_shown};
-ghost use Rattle.chart_feed.specs.Marked.{edges_shown, marked_in};
+ghost use Rattle.chart_feed.specs.inside.Marked.{edges_shown, marked_in};
 ghost use Rattle.chart_feed.specs.Times as seen;
 
 use crate::times::{Edges, marks};

@@ -12,8 +12,8 @@ ghost use Rattle.chart_texts.specs.declared.window.Axis as axes;
 ghost use Rattle.chart_texts.specs.declared.window.Window as windows;
 ghost use Rattle.chart_rows.specs.Rows.{CpuKept, ResvKept, TaskKept};
 ghost use Rattle.chart_feed.specs.declared.times.Edges as seen_edges;
-ghost use Rattle.chart_feed.specs.Marked.{edges_shown};
-ghost use Rattle.chart_feed.specs.Panels.{CanShow, IsCpuRow, IsResvRow, IsTaskRow};
+ghost use Rattle.chart_feed.specs.inside.Marked.{edges_shown};
+ghost use Rattle.chart_feed.specs.inside.Panels.{CanShow, IsCpuRow, IsResvRow, IsTaskRow};
 
 use crate::clocks::TaskClocks;
 use crate::finish::{cpu_row, resv_row, task_row};

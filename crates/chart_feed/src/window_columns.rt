@@ -5,7 +5,7 @@ ghost use Rattle.rt_model.specs.Past.{Past};
 ghost use Rattle.rt_model.specs.Past as pasts;
 ghost use Rattle.chart_texts.specs.Windows.{columns_in};
 ghost use Rattle.chart_feed.specs.EntryClocks.{clocks_in, entry_clocks};
-ghost use Rattle.chart_feed.specs.Panels.{AreColumns};
+ghost use Rattle.chart_feed.specs.inside.Panels.{AreColumns};
 
 use crate::entry_clocks::{EntryClocks, numbers_in};
 use crate::marking::edges_of;

@@ -9,7 +9,7 @@ use Rattle.rt_model.specs.Group.{Group}
 use Rattle.trace_views.specs.Cells.{runs_no_unit}
 use Rattle.chart_cells.specs.Cells.{cpu_numbers, playing_shown}
 use Rattle.chart_rows.specs.declared.loops.Played.{Played}
-use Rattle.chart_rows.specs.Plays.{played_shown}
+use Rattle.chart_rows.specs.inside.Plays.{played_shown}
 use Rattle.chart_rows.specs.Rows as rows
 
 -- the first n are changed

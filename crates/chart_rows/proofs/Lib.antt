@@ -6,3 +6,5 @@ pub mod Foretelling
 pub mod Waits
 pub mod Ranks
 pub mod UpTo
+mod OneRow
+pub mod TickLaws

@@ -15,9 +15,9 @@ use Rattle.rt_model.specs.Releases.{exists, has_come, release}
 use Rattle.rt_model.specs.Runs.{runs}
 use Rattle.rt_model.specs.Sleep.{sleeps, wakes}
 use Rattle.rt_laws.proofs.Moves.{IsMove, clock_moves, cpu_acts, last_move}
-use Rattle.rt_laws.proofs.Requests.{asks}
-use Rattle.rank_changes.specs.Touched.{SameReady, arriving}
-use Rattle.rank_changes.proofs.TouchedTasks.{clock-none, facts-none, job-none, other-none, ready-same}
+use Rattle.rt_laws.proofs.semaphores.Requests.{asks}
+use Rattle.rt_changes.specs.Touched.{SameReady, arriving}
+use Rattle.rt_changes.proofs.rankings.TouchedTasks.{clock-none, facts-none, job-none, other-none, ready-same}
 use Rattle.trace_views.specs.Cells as cells
 use Rattle.trace_views.specs.Cells.{TaskCell}
 use Rattle.chart_cells.specs.Kept.{later, rank, state_cell}

@@ -2,14 +2,15 @@
 use Rattle.std.proofs.Common.{◌≡◌, ◌∙◌, ℕ, zero, suc, ◌+◌, ◌<◌, ◌≤◌, true, List, [], ◌∷◌, ◌++◌, length, map, take, get_or, refl, sym, ap, subst, arith, All}
 use Rattle.std.specs.Prelude.{◌==◌}
 use Rattle.std.proofs.lemmas.List.{map-append, take_more}
-use Rattle.std.proofs.lemmas.Simd.{map-map}
+use Rattle.rt_rules.specs.Distinct.{IsDistinct}
 use Rattle.rt_rules.specs.Numbers.{has, numbers_from}
 use Rattle.rt_rules.proofs.BoolLaws.{both, or_true}
 use Rattle.rt_rules.proofs.MemberLaws.{equal_self, has-filter}
-use Rattle.rt_rules.proofs.NumberLaws.{has-numbers_from, numbers_from-below}
+use Rattle.rt_rules.proofs.NumberLaws.{distinct-numbers_from, has-numbers_from, numbers_from-below}
+use Rattle.rt_rules.proofs.PlacingLaws.{distinct-filter}
 use Rattle.rt_model.specs.Group.{Group, group_processors, in_group, resv, tasks}
 use Rattle.chart_texts.specs.Charts.{group_resvs}
-use Rattle.chart_rows.specs.Listed.{AreListed}
+use Rattle.chart_rows.specs.Listed.{AreListed, tasks_listed}
 use Rattle.chart_rows.specs.Rows.{CpuKept, ResvKept, RowsKept, TaskKept, cpu_kept, resv_kept, resvs_listed, rows_of, task_kept}
 use Rattle.chart_rows.specs.Strips.{Strip}
 
@@ -18,10 +19,22 @@ all-of f number is us [] sub k d low = absurd (omega arith)
 all-of f number is us (t ∷ ts) sub zero d low = ap (λ n. has n us) (is t) ∙ sub t (rw equal_self refl)
 all-of f number is us (t ∷ ts) sub (suc k) d low = all-of f number is us ts (λ u h. sub u (rw h (or_true (u == t)))) k d (omega arith)
 
+numbers-of : {A : Type 0} (f : ℕ → A) (number : A → ℕ) → ((t : ℕ) → number (f t) ≡ t) → (ts : List ℕ) → map number (map f ts) ≡ ts
+numbers-of f number is [] = refl
+numbers-of f number is (t ∷ ts) = λ i. is t i ∷ numbers-of f number is ts i
+
+tasks-once : (g : Group) → IsDistinct (tasks g)
+unfolding tasks
+tasks-once g = distinct-filter _ _ (distinct-numbers_from 1 (length g.setup.tasks))
+
 module _ (g : Group) (ss : List Strip) (s : Strip) (v : RowsKept) (is : v ≡ rows_of g ss s) where
   pub tasks-listed : All (λ (k : TaskKept). has k.task (tasks g) ≡ true) v.tasks
   unfolding rows_of
   tasks-listed = subst (λ (w : RowsKept). All (λ (k : TaskKept). has k.task (tasks g) ≡ true) w.tasks) (sym is) (all-of (task_kept g ss s) (λ (k : TaskKept). k.task) (λ t. refl) (tasks g) (tasks g) (λ t h. h))
+
+  pub listed-once : IsDistinct (tasks_listed v.tasks)
+  unfolding rows_of
+  listed-once = subst IsDistinct (sym (ap (λ (w : RowsKept). tasks_listed w.tasks) is ∙ numbers-of (task_kept g ss s) (λ (k : TaskKept). k.task) (λ t. refl) (tasks g))) (tasks-once g)
 
   pub cpus-listed : All (λ (k : CpuKept). has k.cpu (group_processors g) ≡ true) v.cpus
   unfolding rows_of
@@ -52,12 +65,8 @@ mapped-more shown f xs i d old new p low before is made =
 
 -- they are listed
 pub rows-listed : (g : Group) (ss : List Strip) (s : Strip) (v : RowsKept) → v ≡ rows_of g ss s → AreListed g v
-rows-listed g ss s v is = record { tasks_are = tasks-listed g ss s v is; cpus_are = cpus-listed g ss s v is; resvs_are = resvs-listed g ss s v is }
+rows-listed g ss s v is = record { tasks_are = tasks-listed g ss s v is; once = listed-once g ss s v is; cpus_are = cpus-listed g ss s v is; resvs_are = resvs-listed g ss s v is }
 
 pub resvs-of : (g : Group) (ss : List Strip) (s : Strip) (v : RowsKept) → v ≡ rows_of g ss s → resvs_listed v.resvs ≡ group_resvs g
 unfolding rows_of
-resvs-of g ss s v is = ap (λ (w : RowsKept). resvs_listed w.resvs) is ∙ map-map (λ (k : ResvKept). k.resv) (resv_kept g ss s) (group_resvs g) ∙ map-self (group_resvs g)
-  where
-    map-self : (rs : List ℕ) → map (λ r. r) rs ≡ rs
-    map-self [] = refl
-    map-self (r ∷ rs) = ap (λ xs. r ∷ xs) (map-self rs)
+resvs-of g ss s v is = ap (λ (w : RowsKept). resvs_listed w.resvs) is ∙ numbers-of (resv_kept g ss s) (λ (k : ResvKept). k.resv) (λ r. refl) (group_resvs g)

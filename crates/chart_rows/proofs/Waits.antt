@@ -22,8 +22,8 @@ use Rattle.rt_model.specs.Group.{Group, cpus, protocol, sems}
 use Rattle.rt_model.specs.Holders.{awaits, sem_state, sem_state_by}
 use Rattle.rt_model.specs.Past.{Event, Past, sem_act}
 use Rattle.rt_model.specs.Semaphores.{at_sem, cluster_of, fmlp, mpcp, omlp}
-use Rattle.rt_laws.proofs.AtSem.{at_cluster-asks, at_sem-asks}
-use Rattle.rt_laws.proofs.Waiting.{none-waits, waits-none}
+use Rattle.rt_laws.proofs.semaphores.AtSem.{at_cluster-asks, at_sem-asks}
+use Rattle.rt_laws.proofs.semaphores.Waiting.{none-waits, waits-none}
 
 -- ---- OMLP, also where the list has no room at all
 

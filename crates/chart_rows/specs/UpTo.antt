@@ -3,7 +3,7 @@ use Rattle.std.specs.Prelude.{ℕ, ◌≤◌, Bool, ◌||◌, All}
 use Rattle.rt_rules.specs.Numbers.{is}
 use Rattle.rt_model.specs.Group.{Group}
 use Rattle.rt_model.specs.Past.{Past, PastAct}
-use Rattle.rank_changes.specs.Touched.{arriving}
+use Rattle.rt_changes.specs.Touched.{arriving}
 use Rattle.chart_cells.specs.Kept.{rank}
 use Rattle.chart_rows.specs.Looks.{state_doing}
 use Rattle.chart_rows.specs.Rows.{RowsKept, TaskKept}

@@ -3,7 +3,7 @@ ghost use Rattle.std.specs.Prelude.{◌≡◌, ◌&&◌, All, OnOk, map, true, i
 ghost use Rattle.rt_base.specs.TaskNos.{number_of_task};
 ghost use Rattle.rt_rules.specs.Numbers.{has, is};
 ghost use Rattle.rt_model.specs.Group.{Group};
-ghost use Rattle.rank_changes.specs.Touched.{arriving};
+ghost use Rattle.rt_changes.specs.Touched.{arriving};
 ghost use Rattle.trace_views.specs.Cells.{cell_at};
 ghost use Rattle.trace_views.specs.Cells as views;
 ghost use Rattle.trace_views.specs.Moments.{Moment, is_unit};
@@ -12,7 +12,6 @@ ghost use Rattle.chart_cells.specs.Kept.{with_unit};
 ghost use Rattle.view_acts.specs.ShownActs.{act_shown};
 ghost use Rattle.chart_rows.specs.Rows.{cpu_acted, resv_acted, task_acted};
 ghost use Rattle.chart_rows.specs.Units.{IsTold};
-ghost use Rattle.chart_rows.specs.UpTo as looks;
 
 use crate::cpus::CpuFeed;
 use crate::resvs::ResvFeed;
@@ -89,18 +88,12 @@ pub(crate) fn act_resv(row: &mut ResvFeed, unit: &Option<Unit>)
     }
 }
 
-fn arriving(act: Act) -> Option<TaskNo>
+/// The task that arrives by the act.
+pub(crate) fn arriving(act: Act) -> Option<TaskNo>
     ensures { number_of_task result ≡ arriving act }
 {
     match act {
         Act::Arrive(task) => Some(task),
         _ => None,
     }
-}
-
-/// Whether the state after an act may show more of a task: the act's processor ran it, or it arrives.
-pub(crate) fn touches(act: &ShownAct, task: TaskNo) -> bool
-    ensures { result ≡ looks.touches (act_shown act.now) task.0 }
-{
-    act.task == Some(task) || arriving(act.act) == Some(task)
 }

@@ -4,6 +4,7 @@
 
 mod acting;
 mod cpus;
+mod finding;
 mod foreseen;
 mod look;
 mod loops;

@@ -1,5 +1,7 @@
 //! What an act, and the end of a column, makes of all rows.
 ghost use Rattle.std.specs.Prelude.{◌≡◌, All, IfOk, OnOk, map, true};
+ghost use Rattle.rt_base.specs.TaskNos.{number_of_task};
+ghost use Rattle.rt_rules.specs.Distinct.{IsDistinct};
 ghost use Rattle.rt_rules.specs.Numbers.{has};
 ghost use Rattle.rt_model.specs.Group.{Group};
 ghost use Rattle.trace_views.specs.Cells.{runs_no_unit};
@@ -7,12 +9,15 @@ ghost use Rattle.trace_views.specs.Moments.{Moment};
 ghost use Rattle.chart_texts.specs.Charts.{group_resvs};
 ghost use Rattle.view_acts.specs.ShownActs.{act_shown};
 ghost use Rattle.chart_cells.specs.Cells.{cpu_numbers, playing_shown};
-ghost use Rattle.chart_rows.specs.Plays.{played_shown};
+ghost use Rattle.chart_rows.specs.inside.Finding.{only};
+ghost use Rattle.chart_rows.specs.inside.Plays.{played_shown};
+ghost use Rattle.chart_rows.specs.Listed.{tasks_listed};
 ghost use Rattle.chart_rows.specs.Rows as rows;
 ghost use Rattle.chart_rows.specs.Units.{IsTold};
 
 use crate::acting::{act_cpu, act_resv, act_task};
 use crate::cpus::CpuFeed;
+use crate::finding::{are_same, place_of};
 use crate::resvs::ResvFeed;
 use crate::tasks::TaskFeed;
 use crate::units::Unit;
@@ -28,19 +33,44 @@ pub(crate) struct Played {
     pub(crate) playing: Playing,
 }
 
-/// An act for the rows of tasks, with its unit, if it is one.
+/// An act for the row of this task, if there is one.
+fn act_row(
+    tasks: &mut [TaskFeed],
+    alloc: Global,
+    task: Option<TaskNo>,
+    act: &ShownAct,
+    unit: &Option<Unit>,
+) -> Result<(), NoMemory>
+    ensures { OnOk result ((g : Group) (m : Moment) → IsDistinct (tasks_listed tasks.old)
+        → act_shown act.now ≡ m.act → IsTold g m unit.now
+        → tasks.new ≡ map (only (number_of_task task) (rows.task_acted g m)) tasks.old) }
+{
+    let Some(task) = task else {
+        return Ok(());
+    };
+    if let Some(place) = place_of(tasks, task) {
+        act_task(&mut tasks[place], alloc, act, unit)?;
+    }
+    Ok(())
+}
+
+/// An act for the rows of tasks, with its unit, if it is one: only those change of the task that its processor ran and of
+/// the one whose job it ended.
 pub(crate) fn act_tasks(
     tasks: &mut [TaskFeed],
     alloc: Global,
     act: &ShownAct,
     unit: &Option<Unit>,
 ) -> Result<(), NoMemory>
-    ensures { OnOk result ((g : Group) (m : Moment) → act_shown act.now ≡ m.act
-        → IsTold g m unit.now → tasks.new ≡ map (rows.task_acted g m) tasks.old) }
+    ensures { OnOk result ((g : Group) (m : Moment) → IsDistinct (tasks_listed tasks.old)
+        → act_shown act.now ≡ m.act → IsTold g m unit.now
+        → tasks.new ≡ map (rows.task_acted g m) tasks.old) }
 {
-    for row in tasks.iter_mut() {
-        act_task(row, alloc, act, unit)?;
+    act_row(tasks, alloc, act.task, act, unit)?;
+    if are_same(act.ended, act.task) {
+        return Ok(());
     }
+    act_row(tasks, alloc, act.ended, act, unit)?;
     Ok(())
 }
 

@@ -1,5 +1,7 @@
 //! What a state of the group makes of the rows: a state more, or the last one of a column.
 ghost use Rattle.std.specs.Prelude.{◌≡◌, ◌∷◌, All, IfOk, OnOk, map, true};
+ghost use Rattle.rt_base.specs.TaskNos.{number_of_task};
+ghost use Rattle.rt_rules.specs.Distinct.{IsDistinct};
 ghost use Rattle.rt_rules.specs.Numbers.{has};
 ghost use Rattle.rt_model.specs.Group as groups;
 ghost use Rattle.rt_model.specs.Past.{Acted, Past};
@@ -7,18 +9,21 @@ ghost use Rattle.rt_plays.specs.Homes.{IsProcessorOf};
 ghost use Rattle.rank_afresh.specs.Standing.{IsAt, group_of};
 ghost use Rattle.chart_texts.specs.Charts.{group_resvs};
 ghost use Rattle.view_acts.specs.ShownActs.{act_shown};
-ghost use Rattle.chart_rows.specs.Plays.{played_shown};
+ghost use Rattle.chart_rows.specs.inside.Finding.{only};
+ghost use Rattle.chart_rows.specs.inside.Plays.{played_shown};
+ghost use Rattle.chart_rows.specs.Listed.{tasks_listed};
 ghost use Rattle.chart_rows.specs.Rows as rows;
 ghost use Rattle.chart_rows.specs.UpTo.{IsUpTo};
 
-use crate::acting::touches;
+use crate::acting::arriving;
 use crate::cpus::CpuFeed;
+use crate::finding::{are_same, place_of};
 use crate::look::{cpu_at_end, see_state};
 use crate::loops::Played;
 use crate::resvs::ResvFeed;
 use crate::tasks::TaskFeed;
 use rank_afresh::Afresh;
-use rt_base::NoMemory;
+use rt_base::{NoMemory, TaskNo};
 use std::alloc::Global;
 use view_acts::ShownAct;
 
@@ -50,27 +55,31 @@ pub(crate) fn see_tasks(
     Ok(())
 }
 
-/// The state after an act, for the row of a task.
-fn see_task_after(
-    row: &mut TaskFeed,
+/// The state after an act, for the row of this task, if there is one.
+fn see_row(
+    tasks: &mut [TaskFeed],
     alloc: Global,
     afresh: &Afresh,
-    act: &ShownAct,
+    task: Option<TaskNo>,
 ) -> Result<(), NoMemory>
-    requires task { has row.old.task (groups.tasks (group_of afresh.now)) ≡ true }
+    requires tasks { All (λ (k : rows.TaskKept).
+        has k.task (groups.tasks (group_of afresh.now)) ≡ true) tasks.old }
+    requires once { IsDistinct (tasks_listed tasks.old) }
     requires at { (past : Past) × IsAt afresh.now past }
-    ensures { OnOk result ((past : Past) → IsAt afresh.now (Acted (act_shown act.now) ∷ past)
-        → IsUpTo (group_of afresh.now) past row.old → row.new
-        ≡ rows.task_seen (group_of afresh.now) (Acted (act_shown act.now) ∷ past) row.old) }
+    ensures { OnOk result ((past : Past) → IsAt afresh.now past → tasks.new
+        ≡ map (only (number_of_task task) (rows.task_seen (group_of afresh.now) past)) tasks.old) }
 {
-    if touches(act, row.task()) {
-        see_task(row, alloc, afresh)
-    } else {
-        Ok(())
+    let Some(task) = task else {
+        return Ok(());
+    };
+    if let Some(place) = place_of(tasks, task) {
+        see_task(&mut tasks[place], alloc, afresh)?;
     }
+    Ok(())
 }
 
-/// The state after an act, for the rows of tasks: of those alone that the act touches it may show more.
+/// The state after an act, for the rows of tasks: of those alone that the act touches it may show more, the task that its
+/// processor ran and the one that arrives.
 pub(crate) fn see_tasks_after(
     tasks: &mut [TaskFeed],
     alloc: Global,
@@ -79,15 +88,19 @@ pub(crate) fn see_tasks_after(
 ) -> Result<(), NoMemory>
     requires tasks { All (λ (k : rows.TaskKept).
         has k.task (groups.tasks (group_of afresh.now)) ≡ true) tasks.old }
+    requires once { IsDistinct (tasks_listed tasks.old) }
     requires at { (past : Past) × IsAt afresh.now (Acted (act_shown act.now) ∷ past)
         × All (IsUpTo (group_of afresh.now) past) tasks.old }
     ensures { OnOk result ((past : Past) → IsAt afresh.now (Acted (act_shown act.now) ∷ past)
         → All (IsUpTo (group_of afresh.now) past) tasks.old → tasks.new ≡ map
         (rows.task_seen (group_of afresh.now) (Acted (act_shown act.now) ∷ past)) tasks.old) }
 {
-    for row in tasks.iter_mut() {
-        see_task_after(row, alloc, afresh, act)?;
+    see_row(tasks, alloc, afresh, act.task)?;
+    let arrives = arriving(act.act);
+    if are_same(arrives, act.task) {
+        return Ok(());
     }
+    see_row(tasks, alloc, afresh, arrives)?;
     Ok(())
 }
 

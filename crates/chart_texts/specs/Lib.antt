@@ -6,12 +6,7 @@ pub mod Rulers
 pub mod TaskLines
 pub mod CpuLines
 pub mod ChartText
-pub mod Computed
 pub mod BarLaws
 pub mod WidthLaws
 pub mod Named
-pub mod WorkedRulers
-pub mod WorkedSharing
-pub mod WorkedJobs
-pub mod WorkedGroups
-pub mod WorkedNested
+pub mod worked

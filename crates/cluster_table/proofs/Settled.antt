@@ -5,7 +5,7 @@ use Rattle.std.proofs.lemmas.List.{take-map}
 use Rattle.rt_rules.specs.Keys.{Ranked}
 use Rattle.rt_rules.specs.Placing.{kept, tasks_in}
 use Rattle.rt_rules.specs.Rankings.{tasks_of}
-use Rattle.rt_laws.proofs.PlacedAgain.{placed-again}
+use Rattle.rt_laws.proofs.links.PlacedAgain.{placed-again}
 use Rattle.ready_queue.specs.Queue.{first_tasks, in_order}
 use Rattle.ready_queue.proofs.SplitLaws.{split-none}
 use Rattle.link_table.specs.Linked.{IsOfCluster, IsSound}

@@ -12,8 +12,8 @@ use Rattle.rt_rules.specs.declared.history.Entry.{Entry}
 use Rattle.rt_model.specs.Group.{Group}
 use Rattle.rt_model.specs.Histories.{reply_to}
 use Rattle.rt_model.specs.Steps.{IsStepOf}
-use Rattle.rt_groups.specs.Drives.{gives_steps}
-use Rattle.rt_groups.specs.Groups.{GroupHistory, group_of, past, with_entry}
+use Rattle.rt_plays.specs.Drives.{gives_steps}
+use Rattle.rt_plays.specs.Groups.{GroupHistory, group_of, past, with_entry}
 use Rattle.rt_plays.specs.Drives.{steps_given}
 use Rattle.rt_plays.specs.Homes.{IsProcessorOf}
 use Rattle.rt_plays.specs.Order.{steps_in_group}
@@ -24,7 +24,7 @@ use Rattle.rt_task.specs.Validity.{IsValid}
 use Rattle.rt_plays.proofs.PlayLaws.{play-fits}
 use Rattle.rt_plays.proofs.ScriptOrder.{in_group-home, in_group-script}
 use Rattle.rt_plays.proofs.ScriptParts.{script-take-drop, script-take-next, script-steps_of-next, script-steps_of-skip}
-use Rattle.rt_groups.proofs.GroupLimits.{processor-low}
+use Rattle.rt_plays.proofs.GroupLimits.{processor-low}
 use Rattle.cpu_site.specs.Chains.{IsNextFrom, IsChained}
 use Rattle.cpu_site.specs.Playing.{IsPlayable, IsPlayedTo, IsPlaying, IsNextStep, IsNextEntry, IsOver}
 use Rattle.cpu_site.proofs.Drives.{begun-few, begun-first, begun-next, next-script, over-script}

@@ -5,7 +5,7 @@ use Rattle.rt_task.specs.declared.Parts.{Parts}
 use Rattle.rt_task.specs.Validity.{IsValid}
 use Rattle.rt_rules.specs.Numbers.{numbers_from}
 use Rattle.rt_plays.proofs.ProcessorLaws.{cpu_count}
-use Rattle.rt_groups.proofs.SetLimits.{sets_are_in_limits}
+use Rattle.rt_plays.proofs.SetLimits.{sets_are_in_limits}
 use Rattle.cpu_site.specs.Cpus.{cpu_numbers}
 
 -- numbers from a up to e

@@ -21,13 +21,13 @@ use Rattle.rt_plays.specs.ScriptPlays.{IsBegunScriptPlay}
 use Rattle.rt_plays.proofs.BodyCompletion.{past_from-join}
 use Rattle.rt_plays.proofs.PlayLaws.{begun-grows, play-fits}
 use Rattle.rt_plays.proofs.ScriptParts.{part-first, part-next, play-of-part}
-use Rattle.rt_groups.specs.Drives.{gives_steps}
+use Rattle.rt_plays.specs.Drives.{gives_steps}
 use Rattle.turn_cell.specs.Words.{entries_of, AgreeOn, StartsWith}
 use Rattle.turn_cell.proofs.Tools.{entries-append}
 use Rattle.cpu_site.specs.declared.progress.Progress.{Progress}
 use Rattle.cpu_site.specs.Playing.{IsFar, IsFarBy, IsNextBy, IsNextStep, IsOver, IsOverBy, room_in}
 use Rattle.cpu_site.specs.Seats.{cpu_of}
-use Rattle.rt_groups.proofs.GroupLimits.{turns-few}
+use Rattle.rt_plays.proofs.GroupLimits.{turns-few}
 use Rattle.cpu_site.proofs.SetFacts.{group-steps_few}
 use Rattle.cpu_site.specs.Turning.{IsAtTurn}
 use Rattle.cpu_site.proofs.Turning.{at-first, at-others, ended-others}

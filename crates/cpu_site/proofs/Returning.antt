@@ -9,7 +9,7 @@ use Rattle.rt_base.specs.declared.CpuNo.{CpuNo}
 use Rattle.rt_rules.specs.declared.history.Entry.{Entry}
 use Rattle.rt_model.specs.Group.{Group, group_processors}
 use Rattle.rt_model.specs.Histories.{raises, raises_from}
-use Rattle.rt_groups.specs.Groups.{GroupHistory, group_of}
+use Rattle.rt_plays.specs.Groups.{GroupHistory, group_of}
 use Rattle.rt_plays.specs.Homes.{IsProcessorOf}
 use Rattle.rt_plays.specs.Plays.{IsBegunPlay}
 use Rattle.cpu_site.specs.Cpus.{cpu_numbers}

@@ -5,7 +5,7 @@ use Rattle.std.proofs.lemmas.List.{length-replicate}
 use Rattle.rt_base.specs.declared.TheConstants.{MOST_STEPS}
 use Rattle.rt_rules.specs.declared.history.Entry.{Entry}
 use Rattle.rt_model.specs.Histories.{reply_to, past_of, raises, raises_from, is_raise, after}
-use Rattle.rt_groups.specs.Groups.{GroupHistory, group_of, past, with_entry}
+use Rattle.rt_plays.specs.Groups.{GroupHistory, group_of, past, with_entry}
 use Rattle.rt_plays.specs.Homes.{IsProcessorOf}
 use Rattle.rt_plays.specs.Drives.{horizon}
 use Rattle.rt_plays.specs.Plays.{IsBegunPlay}

@@ -13,8 +13,8 @@ use Rattle.rt_plays.specs.Drives.{steps_given}
 use Rattle.rt_plays.specs.Homes.{IsProcessorOf}
 use Rattle.rt_plays.specs.Order.{steps_in_group}
 use Rattle.rt_plays.proofs.ProcessorLaws.{processors-few}
-use Rattle.rt_groups.proofs.GroupLimits.{steps-few, steps-of_groups}
-use Rattle.rt_groups.proofs.SetLimits.{sets_are_in_limits}
+use Rattle.rt_plays.proofs.GroupLimits.{steps-few, steps-of_groups}
+use Rattle.rt_plays.proofs.SetLimits.{sets_are_in_limits}
 
 -- no group has more steps than a set may have
 pub group-steps_few : (g : Group) → IsValid g.setup → length (steps_in_group g (steps_given g.setup.drive)) ≤ MOST_STEPS

@@ -12,7 +12,7 @@ use Rattle.rt_model.specs.Past.{Past}
 use Rattle.rt_model.specs.Links.{pending}
 use Rattle.rt_model.proofs.Steps.{past_of-append}
 use Rattle.rt_model.specs.Histories.{after, past_of, past_from, is_raise, raises, raises_from}
-use Rattle.rt_groups.specs.Groups.{GroupHistory, group_of, past, with_entry}
+use Rattle.rt_plays.specs.Groups.{GroupHistory, group_of, past, with_entry}
 use Rattle.cpu_site.specs.declared.sights.Sight.{Sight}
 use Rattle.cpu_site.specs.Raises.{cpu_at, cpu_count, is_raised, raise_at, raises_of, HaveCounted, IsSight, AreSights, AreRaises}
 

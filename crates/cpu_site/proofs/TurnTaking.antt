@@ -23,14 +23,14 @@ use Rattle.rt_plays.specs.NextSteps.{step_at}
 use Rattle.rt_plays.specs.Plays.{IsBegunPlay}
 use Rattle.rt_plays.specs.Room.{room}
 use Rattle.rt_plays.proofs.PlayLaws.{play-fits}
-use Rattle.rt_groups.specs.Drives.{gives_steps}
-use Rattle.rt_groups.specs.Groups.{GroupHistory, group_of, past, with_entry, IsGroupOf}
+use Rattle.rt_plays.specs.Drives.{gives_steps}
+use Rattle.rt_plays.specs.Groups.{GroupHistory, group_of, past, with_entry, IsGroupOf}
 use Rattle.body_play.proofs.ValidBodies.{next-fits}
 use Rattle.cpu_site.specs.declared.progress.Progress.{Progress}
 use Rattle.cpu_site.specs.Playing.{IsFar, IsFarBy, IsNextEntry, IsNextStep, IsOver, IsPlaying}
 use Rattle.cpu_site.specs.Turning.{act_after, IsAtTurn, IsTurnDone}
 use Rattle.cpu_site.proofs.Drives.{begun-next, far-turns, next-turn, over-turns}
-use Rattle.rt_groups.proofs.GroupLimits.{processor-some, turns-few}
+use Rattle.rt_plays.proofs.GroupLimits.{processor-some, turns-few}
 use Rattle.cpu_site.proofs.Turning.{comes, turn-done, turn-given, turns-ended, Comes}
 
 -- the act that comes is one of the group

@@ -5,4 +5,4 @@ pub mod Playing
 pub mod Raises
 pub mod Seats
 pub mod Turning
-pub mod WorkedIrqs
+pub mod worked

@@ -9,8 +9,8 @@ use Rattle.rt_task.specs.Validity.{IsValid}
 use Rattle.rt_rules.specs.declared.history.Entry.{Entry}
 use Rattle.rt_model.specs.Group.{Group}
 use Rattle.rt_model.specs.Histories.{past_of, reply_to}
-use Rattle.rt_groups.specs.Drives.{gives_steps}
-use Rattle.rt_groups.specs.Groups.{GroupHistory, group_of, past, with_entry, IsGroupOf}
+use Rattle.rt_plays.specs.Drives.{gives_steps}
+use Rattle.rt_plays.specs.Groups.{GroupHistory, group_of, past, with_entry, IsGroupOf}
 use Rattle.rt_plays.specs.BodyPlays.{has_ended}
 use Rattle.rt_plays.specs.Drives.{horizon, steps_given}
 use Rattle.rt_plays.specs.NextSteps.{MayComeNext}

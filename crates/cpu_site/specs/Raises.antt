@@ -7,7 +7,7 @@ use Rattle.rt_model.specs.Past.{Past}
 use Rattle.rt_model.specs.Links.{linked}
 use Rattle.rt_model.specs.Runs.{runs}
 use Rattle.rt_model.specs.Histories.{is_raise, raises}
-use Rattle.rt_groups.specs.Groups.{GroupHistory, group_of}
+use Rattle.rt_plays.specs.Groups.{GroupHistory, group_of}
 use Rattle.cpu_site.specs.declared.sights.Sight.{Sight}
 
 abbrev pub is_pending : Sight → Bool

@@ -7,7 +7,7 @@ use Rattle.rt_model.specs.Group.{Group, group_processors}
 use Rattle.rt_model.specs.Histories.{reply_to, past_of, raises}
 use Rattle.rt_plays.specs.Drives.{horizon}
 use Rattle.rt_plays.specs.Plays.{IsBegunPlay}
-use Rattle.rt_groups.specs.Groups.{GroupHistory}
+use Rattle.rt_plays.specs.Groups.{GroupHistory}
 use Rattle.turn_cell.specs.Words.{entries_of, AgreeOn, StartsWith}
 use Rattle.turn_cell.specs.Places.{Cell, Place}
 use Rattle.cpu_site.specs.declared.story.GroupOf.{GroupOf}

@@ -1,7 +1,7 @@
 //! A group whose processors play their scripts or their turns, as a pointer to it.
 ghost use Rattle.std.specs.Prelude.{◌≡◌, ◌≤◌, IfOk, length};
 ghost use Rattle.rt_base.specs.declared.TheConstants.{MOST_STEPS};
-ghost use Rattle.rt_groups.specs.Groups.{group_of, IsGroupOf};
+ghost use Rattle.rt_plays.specs.Groups.{group_of, IsGroupOf};
 ghost use Rattle.rt_plays.specs.Homes.{IsProcessorOf};
 ghost use Rattle.rt_plays.specs.Plays.{IsBegunPlay};
 ghost use Rattle.cpu_site.specs.Playing.{unplayed, IsFar, IsOutcome, IsPlayable};
@@ -26,7 +26,7 @@ pub struct Group {
 }
 
 impl Model for Group {
-    ghost use Rattle.rt_groups.specs.Groups.{GroupHistory};
+    ghost use Rattle.rt_plays.specs.Groups.{GroupHistory};
 
     ghost Value = { GroupHistory };
 

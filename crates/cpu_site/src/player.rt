@@ -5,8 +5,7 @@ ghost use Rattle.rt_base.specs.declared.TheConstants.{MOST_STEPS, MOST_TURN_STEP
 ghost use Rattle.rt_model.specs.Group.{group_processors};
 ghost use Rattle.rt_model.specs.Links.{linked};
 ghost use Rattle.rt_model.specs.Runs.{runs};
-ghost use Rattle.rt_groups.specs.Drives as group_drives;
-ghost use Rattle.rt_groups.specs.Groups.{group_of, past, IsGroupOf};
+ghost use Rattle.rt_plays.specs.Groups.{group_of, past, IsGroupOf};
 ghost use Rattle.rt_plays.specs.Drives as drives;
 ghost use Rattle.rt_plays.specs.Homes.{IsProcessorOf};
 ghost use Rattle.rt_plays.specs.Plays.{group_with, IsBegunPlay};
@@ -23,8 +22,7 @@ use crate::progress::Progress;
 use body_play::next_act;
 use group_engine::Engine;
 use rt_base::{CpuNo, GroupNo, MOST_CPUS, MOST_TURN_STEPS, NoMemory, TaskNo, Tick};
-use rt_groups::gives_steps;
-use rt_plays::steps_given;
+use rt_plays::{gives_steps, steps_given};
 use rt_rules::Entry;
 use rt_task::{Act, Drive, Setup, Step};
 use std::alloc::Global;
@@ -41,7 +39,7 @@ pub(crate) struct Player {
 }
 
 impl Model for Player {
-    ghost use Rattle.rt_groups.specs.Groups.{GroupHistory};
+    ghost use Rattle.rt_plays.specs.Groups.{GroupHistory};
     ghost use Rattle.cpu_site.specs.Playing.{IsPlaying};
 
     ghost Value = { GroupHistory };
@@ -131,7 +129,7 @@ impl Player {
     /// Takes the next step of the processor's script.
     fn next_of_script(&mut self, cpu: CpuNo, at: Progress) -> Played
         requires cpu { IsProcessorOf (group_of self.old) cpu.0 }
-        requires steps { group_drives.gives_steps self.old.setup.drive ≡ true }
+        requires steps { drives.gives_steps self.old.setup.drive ≡ true }
         requires far { IsFar (group_of self.old) cpu.0 self.old.entries at }
         ensures outcome { IsOutcome self.old cpu.0 at result self.new at }
         ensures far { IsFar (group_of self.new) cpu.0 self.new.entries at }
@@ -168,7 +166,7 @@ impl Player {
     /// Takes a step of the processor's turn, or gives the turn as over.
     fn next_of_turn(&mut self, cpu: CpuNo, at: &mut Progress) -> Played
         requires cpu { IsProcessorOf (group_of self.old) cpu.0 }
-        requires turns { group_drives.gives_steps self.old.setup.drive ≡ false }
+        requires turns { drives.gives_steps self.old.setup.drive ≡ false }
         requires far { IsFar (group_of self.old) cpu.0 self.old.entries at.old }
         ensures outcome { IsOutcome self.old cpu.0 at.old result self.new at.new }
         ensures far { IsFar (group_of self.new) cpu.0 self.new.entries at.new }

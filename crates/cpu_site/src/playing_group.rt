@@ -1,7 +1,7 @@
 //! A group whose processors play their scripts or their turns, with the interrupts that were raised at each of them.
 ghost use Rattle.std.specs.Prelude.{◌≡◌, ◌≤◌, IfOk, length};
 ghost use Rattle.rt_base.specs.declared.TheConstants.{MOST_STEPS};
-ghost use Rattle.rt_groups.specs.Groups.{group_of, IsGroupOf};
+ghost use Rattle.rt_plays.specs.Groups.{group_of, IsGroupOf};
 ghost use Rattle.rt_plays.specs.Homes.{IsProcessorOf};
 ghost use Rattle.rt_plays.specs.Plays.{IsBegunPlay};
 ghost use Rattle.cpu_site.specs.Playing.{unplayed, IsFar, IsOutcome, IsPlayable};
@@ -35,7 +35,7 @@ pub(crate) struct PlayingGroup {
 impl Model for PlayingGroup {
     ghost use Rattle.std.specs.Prelude.{◌≡◌};
     ghost use Rattle.rt_model.specs.Group.{group_processors};
-    ghost use Rattle.rt_groups.specs.Groups.{GroupHistory, group_of, past};
+    ghost use Rattle.rt_plays.specs.Groups.{GroupHistory, group_of, past};
     ghost use Rattle.rt_plays.specs.Plays.{IsBegunPlay};
     ghost use Rattle.cpu_site.specs.Cpus.{cpu_numbers};
     ghost use Rattle.cpu_site.specs.Raises.{AreRaises, AreSights};

@@ -3,7 +3,7 @@ ghost use Rattle.std.specs.Prelude.{◌≡◌, ◌^◌, ◌<◌, All, IfOk, leng
 ghost use Rattle.rt_base.specs.TaskNos.{number_of_task};
 ghost use Rattle.rt_rules.specs.Numbers.{same};
 ghost use Rattle.rt_model.specs.Group.{group_processors};
-ghost use Rattle.rt_groups.specs.Groups.{group_of, past};
+ghost use Rattle.rt_plays.specs.Groups.{group_of, past};
 ghost use Rattle.rt_plays.specs.Homes.{IsProcessorOf};
 ghost use Rattle.cpu_site.specs.Cpus.{cpu_numbers};
 ghost use Rattle.cpu_site.specs.Raises.{is_raised, AreSights, HaveCounted, IsSight};

@@ -3,7 +3,7 @@ ghost use Rattle.std.specs.Prelude.{◌≡◌, ℕ, ◌+◌, ◌<◌, ◌≤◌,
 ghost use Rattle.rt_base.specs.declared.TheConstants.{MOST_CPUS, MOST_STEPS};
 ghost use Rattle.rt_model.specs.Group.{group_processors};
 ghost use Rattle.rt_model.specs.Histories.{raises};
-ghost use Rattle.rt_groups.specs.Groups.{group_of, IsGroupOf};
+ghost use Rattle.rt_plays.specs.Groups.{group_of, IsGroupOf};
 ghost use Rattle.rt_plays.specs.Homes.{IsProcessorOf};
 ghost use Rattle.rt_plays.specs.Plays.{group_with, IsBegunPlay};
 ghost use Rattle.turn_cell.specs.Words.{AgreeOn, StartsWith};

@@ -15,9 +15,9 @@ use Rattle.rt_model.specs.Past.{Acted, Clock, Past, entries_in, now}
 use Rattle.rt_model.specs.Steps.{IsStepOf}
 use Rattle.rt_plays.specs.Homes.{IsProcessorOf}
 use Rattle.rt_plays.specs.Plays.{ArePlays, IsBegunPlay, IsPlay, group_count, group_with}
-use Rattle.rt_groups.specs.Groups.{AreStepsOf}
-use Rattle.rt_groups.proofs.GroupLimits.{processor-low}
-use Rattle.rt_groups.proofs.SetLimits.{sets_are_in_limits}
+use Rattle.rt_plays.specs.Groups.{AreStepsOf}
+use Rattle.rt_plays.proofs.GroupLimits.{processor-low}
+use Rattle.rt_plays.proofs.SetLimits.{sets_are_in_limits}
 use Rattle.rt_laws.proofs.ValidSets.{task-numbered}
 use Rattle.trace_views.specs.Moments.{moments}
 use Rattle.chart_texts.specs.Charts.{pasts_from}

@@ -3,7 +3,7 @@ use Rattle.std.proofs.Common.{◌≡◌, ◌∙◌, ℕ, ◌+◌, ◌-◌, ◌<�
 use Rattle.std.proofs.Math.Seq.{take-append_seam}
 use Rattle.event_texts.specs.EventText.{event_lines}
 use Rattle.event_texts.specs.Records.{Piece}
-use Rattle.event_lines.specs.Commas.{with_comma, with_commas}
+use Rattle.event_lines.specs.inside.Commas.{with_comma, with_commas}
 
 -- events with a comma and a line feed between them
 abbrev pub between : List Piece → List ℕ

@@ -8,7 +8,7 @@ use Rattle.chart_cells.specs.declared.cells.Playing.{Playing}
 use Rattle.chart_cells.specs.declared.cells.Playing.TheVariants.{Idle, RunsTask, WorksFor}
 use Rattle.event_texts.specs.CpuSpans.{events_of_cell, link_argument}
 use Rattle.event_texts.specs.Records.{Piece, span_event}
-use Rattle.event_lines.specs.Commas.{with_comma, with_commas}
+use Rattle.event_lines.specs.inside.Commas.{with_comma, with_commas}
 use Rattle.event_lines.specs.Shown.{cpu_span_shown}
 use Rattle.event_lines.specs.TrackEvents.{cpu_span_events}
 use Rattle.event_lines.specs.declared.tracks.CpuSpan.{CpuSpan}

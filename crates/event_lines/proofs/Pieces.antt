@@ -7,8 +7,8 @@ use Rattle.rt_model.specs.Group.{sem}
 use Rattle.trace_views.specs.Cells.{TaskCell}
 use Rattle.event_texts.specs.Records.{Piece, begun, count_event, instant_event, microseconds, named, on_thread, span_event, strings, thread_event, truth}
 use Rattle.event_texts.specs.TaskSpans.{cell_arguments}
-use Rattle.event_lines.specs.Commas.{with_comma, with_commas}
-use Rattle.event_lines.specs.Openings.{count_to, instant_to, job_arguments, name_in, named_to, span_to}
+use Rattle.event_lines.specs.inside.Commas.{with_comma, with_commas}
+use Rattle.event_lines.specs.inside.Openings.{count_to, instant_to, job_arguments, name_in, named_to, span_to}
 use Rattle.event_lines.specs.TrackEvents.{group_words, process_name, some_group}
 
 abbrev pub joined : List Piece → Piece → Piece

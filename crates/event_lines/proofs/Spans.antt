@@ -7,7 +7,7 @@ use Rattle.chart_cells.specs.declared.cells.Doing.{Doing}
 use Rattle.chart_cells.specs.declared.cells.Doing.TheVariants.{Away, Blocked, Ready, Running, Sleeping, Waits, Works}
 use Rattle.event_texts.specs.Records.{Piece, span_event}
 use Rattle.event_texts.specs.TaskSpans.{cell_arguments, events_of_cell, kind, name}
-use Rattle.event_lines.specs.Commas.{with_comma, with_commas}
+use Rattle.event_lines.specs.inside.Commas.{with_comma, with_commas}
 use Rattle.event_lines.specs.Shown.{task_span_shown}
 use Rattle.event_lines.specs.TrackEvents.{task_span_events}
 use Rattle.event_lines.specs.declared.tracks.TaskSpan.{TaskSpan}

@@ -3,5 +3,4 @@ pub mod TracksOf
 pub mod TrackEvents
 pub mod TrackLaws
 pub mod Shown
-pub mod Openings
-pub mod Commas
+pub mod inside

@@ -1,8 +1,8 @@
 //! What is left of budgets.
 ghost use Rattle.std.specs.Prelude.{◌≡◌, ◌++◌, map, OnOk};
 ghost use Rattle.event_texts.specs.Records.{count_event};
-ghost use Rattle.event_lines.specs.Commas.{with_comma, with_commas};
-ghost use Rattle.event_lines.specs.Openings.{count_to};
+ghost use Rattle.event_lines.specs.inside.Commas.{with_comma, with_commas};
+ghost use Rattle.event_lines.specs.inside.Openings.{count_to};
 ghost use Rattle.event_lines.specs.Shown.{budget_span_shown};
 ghost use Rattle.event_lines.specs.TrackEvents.{budget_event, some_group};
 

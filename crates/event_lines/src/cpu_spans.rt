@@ -3,7 +3,7 @@ ghost use Rattle.std.specs.Prelude.{◌≡◌, ◌++◌, flat_map, map, OnOk};
 ghost use Rattle.rt_base.specs.TaskNos.{number_of_task};
 ghost use Rattle.event_texts.specs.CpuSpans as spec;
 ghost use Rattle.event_texts.specs.Records.{span_event};
-ghost use Rattle.event_lines.specs.Commas.{with_comma, with_commas};
+ghost use Rattle.event_lines.specs.inside.Commas.{with_comma, with_commas};
 ghost use Rattle.event_lines.specs.Shown.{cpu_span_shown};
 ghost use Rattle.event_lines.specs.TrackEvents.{cpu_span_events, some_group};
 

@@ -1,6 +1,6 @@
 //! The events of groups.
 ghost use Rattle.std.specs.Prelude.{◌≡◌, ◌++◌, flat_map, map, OnOk};
-ghost use Rattle.event_lines.specs.Commas.{with_commas};
+ghost use Rattle.event_lines.specs.inside.Commas.{with_commas};
 ghost use Rattle.event_lines.specs.Shown.{cpu_track_shown, group_tracks_shown, resv_track_shown, task_track_shown};
 ghost use Rattle.event_lines.specs.TrackEvents.{cpu_events, resv_events, some_group, task_events, tracks_events};
 

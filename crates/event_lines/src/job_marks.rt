@@ -2,8 +2,8 @@
 ghost use Rattle.std.specs.Prelude.{◌≡◌, ◌≤◌, ◌^◌, ◌++◌, flat_map, map, option_map, OnOk};
 ghost use Rattle.event_texts.specs.JobInstants.{deadline_name};
 ghost use Rattle.event_texts.specs.Records.{instant_event};
-ghost use Rattle.event_lines.specs.Commas.{with_comma, with_commas};
-ghost use Rattle.event_lines.specs.Openings.{instant_to};
+ghost use Rattle.event_lines.specs.inside.Commas.{with_comma, with_commas};
+ghost use Rattle.event_lines.specs.inside.Openings.{instant_to};
 ghost use Rattle.event_lines.specs.Shown.{due_shown, job_marks_shown};
 ghost use Rattle.event_lines.specs.TrackEvents.{deadline_events, end_events, job_events, release_events};
 

@@ -1,7 +1,7 @@
 //! The names of processes and threads.
 ghost use Rattle.std.specs.Prelude.{◌≡◌, ◌+◌, ◌<◌, ◌^◌, ◌++◌, map, codes, decimal, OnOk};
 ghost use Rattle.event_texts.specs.Records.{thread_event};
-ghost use Rattle.event_lines.specs.Commas.{with_comma, with_commas};
+ghost use Rattle.event_lines.specs.inside.Commas.{with_comma, with_commas};
 ghost use Rattle.event_lines.specs.Shown.{cpu_track_shown, resv_track_shown, task_track_shown};
 ghost use Rattle.event_lines.specs.TrackEvents.{cpu_names, cpu_thread, group_words, process_name, resv_names, some_group, task_names, task_thread};
 

@@ -1,7 +1,7 @@
 //! The members that events begin with.
 ghost use Rattle.std.specs.Prelude.{◌≡◌, ◌++◌, OnOk};
 ghost use Rattle.event_texts.specs.Records.{begun, on_thread};
-ghost use Rattle.event_lines.specs.Openings.{named_to, span_times, span_to};
+ghost use Rattle.event_lines.specs.inside.Openings.{named_to, span_times, span_to};
 
 use crate::put::{put, put_microseconds, put_number};
 use std::alloc::AllocError;

@@ -4,8 +4,8 @@ ghost use Rattle.std.specs.Prelude.{◌≡◌, ◌∷◌, ◌++◌, decimal, fla
 ghost use Rattle.chart_cells.specs.Cells.{cell_shown, cpu_numbers, doing_shown, sem_numbers};
 ghost use Rattle.event_texts.specs.Records.{quoted, span_event};
 ghost use Rattle.event_texts.specs.TaskSpans as spec;
-ghost use Rattle.event_lines.specs.Commas.{with_comma, with_commas};
-ghost use Rattle.event_lines.specs.Openings.{job_arguments, name_in};
+ghost use Rattle.event_lines.specs.inside.Commas.{with_comma, with_commas};
+ghost use Rattle.event_lines.specs.inside.Openings.{job_arguments, name_in};
 ghost use Rattle.event_lines.specs.Shown.{task_span_shown};
 ghost use Rattle.event_lines.specs.TrackEvents.{some_group, task_span_events};
 

@@ -2,7 +2,7 @@
 ghost use Rattle.std.specs.Prelude.{◌≡◌, ◌++◌, List, map, IfOk, OnOk};
 ghost use Rattle.event_texts.specs.EventText.{event_lines};
 ghost use Rattle.event_texts.specs.Records.{Piece};
-ghost use Rattle.event_lines.specs.Commas.{with_commas};
+ghost use Rattle.event_lines.specs.inside.Commas.{with_commas};
 ghost use Rattle.event_lines.specs.Shown.{group_tracks_shown};
 ghost use Rattle.event_lines.specs.TrackEvents.{tracks_text};
 

@@ -4,5 +4,4 @@ pub mod JobInstants
 pub mod CpuSpans
 pub mod Budgets
 pub mod EventText
-pub mod Computed
-pub mod WorkedEvents
+pub mod worked

@@ -1,7 +1,6 @@
 //! The command `explain`: from the bytes of a set or a trace to the text that says why it is refused.
 ghost use Rattle.std.specs.Prelude.{◌≡◌, ◌≢◌, map, MatchResult};
-ghost use Rattle.rt_fault.specs.Faults.{HasRisen};
-ghost use Rattle.set_input.specs.Ends.{reading, writing};
+ghost use Rattle.set_input.specs.Ends.{TellsFaults, reading, writing};
 ghost use Rattle.explain_command.specs.ExplainAnswers.{ExplainAnswers, IsUnlooked, IsUnwritten};
 ghost use Rattle.explain_command.specs.Explaining.{IsExplained};
 
@@ -49,12 +48,8 @@ pub fn explain<S: Source, K: Sink, T: TraceTool>(
     ensures answers { ExplainAnswers (map T.tool tools.items)
         (reading S.left S.faults src.old src.new) (writing K.held K.faults out.old out.new) result }
     ensures unwritten { IsUnwritten result → out.new ≡ out.old }
-    ensures read_fault { result ≡ Status.ReadFault →
-        HasRisen (S.faults src.old) (S.faults src.new) }
-    ensures no_read_fault { result ≢ Status.ReadFault → S.faults src.new ≡ S.faults src.old }
-    ensures write_fault { result ≡ Status.WriteFault →
-        HasRisen (K.faults out.old) (K.faults out.new) }
-    ensures no_write_fault { result ≢ Status.WriteFault → K.faults out.new ≡ K.faults out.old }
+    ensures faults { TellsFaults (reading S.left S.faults src.old src.new)
+        (writing K.held K.faults out.old out.new) result }
     ensures not_usage { result ≢ Status.Usage }
 {
     let bytes = match read_bytes(alloc, src) {

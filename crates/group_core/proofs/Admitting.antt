@@ -17,11 +17,11 @@ use Rattle.rt_model.specs.Tops.{is_admitted}
 use Rattle.rt_model.specs.UnderWay.{is_sleep, starts, under_way}
 use Rattle.rt_laws.proofs.Moves.{IsMove, moved}
 use Rattle.rt_laws.proofs.Rules.{MeetsRules}
-use Rattle.rt_laws.proofs.SrpState.{IsSrpUser, eligible-is, srp_users, start-is}
-use Rattle.rt_laws.proofs.SrpUsers.{IsSrpCluster, srp_cluster}
+use Rattle.rt_laws.proofs.srp.SrpState.{IsSrpUser, eligible-is, srp_users, start-is}
+use Rattle.rt_laws.proofs.srp.SrpUsers.{IsSrpCluster, srp_cluster}
 use Rattle.rt_laws.proofs.ValidSets.{rules_of}
-use Rattle.group_facts.specs.Ways.{AreWays}
-use Rattle.sem_table_laws.proofs.Stacks.{no-pairs}
+use Rattle.group_jobs.specs.Ways.{AreWays}
+use Rattle.sem_table.proofs.Stacks.{no-pairs}
 use Rattle.group_sems.specs.GroupSems.{GroupSems}
 use Rattle.group_sems.specs.Kept.{KeepsLocks}
 use Rattle.group_sems.proofs.Reading.{passing_is_read}

@@ -20,12 +20,12 @@ use Rattle.rt_model.specs.Past.{Acted, Event, Past, accepted, sem_act}
 use Rattle.rt_model.specs.Outcomes.{past_act}
 use Rattle.rt_model.specs.Reachable.{IsReachable, acted}
 use Rattle.rt_model.specs.Runs.{runs}
-use Rattle.rt_laws.proofs.Running.{running}
+use Rattle.rt_laws.proofs.jobs.Running.{running}
 use Rattle.rt_laws.proofs.ValidSets.{rules_of}
 use Rattle.rt_changes.proofs.SemActs.{lock_asks, unlock_frees}
-use Rattle.group_facts.specs.Facts.{JobFacts}
-use Rattle.group_facts.specs.FactMoves.{with_act}
-use Rattle.group_facts.specs.Kept.{IsKept}
+use Rattle.group_jobs.specs.Facts.{JobFacts}
+use Rattle.group_jobs.specs.FactMoves.{with_act}
+use Rattle.group_jobs.specs.Kept.{IsKept}
 use Rattle.group_sems.specs.Refusing.{AreSemsOf, lock_refusal, unlock_refusal}
 use Rattle.group_sems.specs.Kept.{KeepsGroupSems, KeepsLocks}
 use Rattle.group_sems.proofs.Fitting.{lock_fits, unlock_fits}

@@ -20,23 +20,23 @@ use Rattle.rt_model.specs.Outcomes.{past_act}
 use Rattle.rt_model.specs.Past.{Past, accepted}
 use Rattle.rt_model.specs.Runs.{runs}
 use Rattle.rt_model.specs.Steps.{IsActOf}
-use Rattle.rt_laws.proofs.Engaged.{holder-engaged}
+use Rattle.rt_laws.proofs.jobs.Engaged.{holder-engaged}
 use Rattle.rt_laws.proofs.Moves.{cpu_acts}
 use Rattle.rt_laws.proofs.Next.{next}
-use Rattle.rt_laws.proofs.Running.{running}
+use Rattle.rt_laws.proofs.jobs.Running.{running}
 use Rattle.rt_laws.proofs.ValidSets.{rules_of}
 use Rattle.rt_changes.proofs.Acting.{IsParty, all_parties}
-use Rattle.count_laws.specs.Tallies.{AreWaiters, Waiter, act_by, waiter, waiter_tasks, waiters}
-use Rattle.count_laws.proofs.Laws.{waiting_lists_wait}
+use Rattle.rt_changes.specs.Tallies.{AreWaiters, Waiter, act_by, waiter, waiter_tasks, waiters}
+use Rattle.rt_changes.proofs.requests.Laws.{waiting_lists_wait}
 use Rattle.sem_table.specs.Told.{state_of}
-use Rattle.sem_table_laws.specs.Telling.{AreFewTasks}
-use Rattle.sem_table_laws.proofs.Conditions.{tells_state}
-use Rattle.sem_table_laws.proofs.Waiters.{waiters_are_few}
-use Rattle.group_facts.specs.Kept.{Kept, cpu_of}
+use Rattle.sem_table.specs.Telling.{AreFewTasks}
+use Rattle.sem_table.proofs.Conditions.{tells_state}
+use Rattle.sem_table.proofs.Waiters.{waiters_are_few}
+use Rattle.group_jobs.specs.Kept.{Kept, cpu_of}
 use Rattle.group_sems.specs.GroupSems.{GroupSems}
 use Rattle.group_sems.proofs.ReadRefusals.{unlock_refusal_is_read}
-use Rattle.group_core.specs.Blocked.{CanRankAll, CanRankTask, waiters_now}
-use Rattle.group_core.specs.Listing.{AreListed, AreWaitersAt, CanList, Moment, NamesSem, freed_at, goes}
+use Rattle.group_core.specs.inside.Blocked.{CanRankAll, CanRankTask, waiters_now}
+use Rattle.group_core.specs.Listing.{AreListed, AreWaitersAt, CanList, GroupAt, NamesSem, freed_at, goes}
 use Rattle.group_core.proofs.WaiterLimits.{can-rank-task}
 use Rattle.group_core.proofs.ReadingBlocked.{waiters-read}
 
@@ -89,7 +89,7 @@ tasks-now : (p : Parts) (k : Kept) (ts : List ℕ) → waiter_tasks (waiters_now
 tasks-now p k [] = refl
 tasks-now p k (t ∷ ts) = ap (λ us. t ∷ us) (tasks-now p k ts)
 
-module _ (at : Moment) (p : Parts) (k : Kept) (v : GroupSems) (q : ℕ) (act : Act) (room : ℕ) (can : CanList at p k v q act room) where
+module _ (at : GroupAt) (p : Parts) (k : Kept) (v : GroupSems) (q : ℕ) (act : Act) (room : ℕ) (can : CanList at p k v q act room) where
   runs-read : (cpu_of k q).runs ≡ runs q at.past
   runs-read = ap (λ c. c.runs) (can.jobs_are.cpus_are q can.inside)
 

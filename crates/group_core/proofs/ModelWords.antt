@@ -10,16 +10,16 @@ use Rattle.rt_model.specs.Reachable.{IsReachable}
 use Rattle.rt_model.specs.Group.{Group, task, tasks}
 use Rattle.rt_model.specs.Past.{Past}
 use Rattle.rt_model.specs.Tops.{eligible, is_admitted, is_served}
-use Rattle.group_facts.specs.Kept.{IsKept, Kept, job_of}
-use Rattle.group_facts.specs.Ways.{AreWays}
-use Rattle.group_facts.specs.Words.{AreRead}
-use Rattle.group_facts.proofs.KeptMoves.{task-range, words_of_kept}
+use Rattle.group_jobs.specs.Kept.{IsKept, Kept, job_of}
+use Rattle.group_jobs.specs.Ways.{AreWays}
+use Rattle.group_jobs.specs.Words.{AreRead}
+use Rattle.group_jobs.proofs.KeptMoves.{task-range, words_of_kept}
 use Rattle.sem_table.specs.Told.{awaits_of}
 use Rattle.group_sems.specs.GroupSems.{GroupSems}
 use Rattle.group_sems.specs.Kept.{KeepsBases, KeepsGroupSems, KeepsLocks}
 use Rattle.group_sems.proofs.KeptKeys.{key_is_read}
 use Rattle.group_sems.proofs.Reading.{holding_is_read}
-use Rattle.resv_laws.specs.Kept.{ready_release}
+use Rattle.resv_core.specs.Kept.{ready_release}
 use Rattle.group_resvs.specs.GroupResvs as group_resvs
 use Rattle.group_resvs.specs.GroupResvs.{GroupResvs, is_served_by, lacks_budget_of}
 use Rattle.group_resvs.specs.Kept.{KeepsResvs}

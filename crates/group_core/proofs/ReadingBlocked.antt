@@ -19,16 +19,16 @@ use Rattle.rt_model.specs.Holders.{awaits, sem_state}
 use Rattle.rt_model.specs.Past.{Past}
 use Rattle.rt_model.specs.Reachable.{IsReachable}
 use Rattle.rt_model.specs.Releases.{exists}
-use Rattle.rt_laws.proofs.OneWait.{awaits-is, waits_once}
+use Rattle.rt_laws.proofs.semaphores.OneWait.{awaits-is, waits_once}
 use Rattle.rt_laws.proofs.ValidSets.{rules_of}
 use Rattle.rt_plays.specs.Plays.{group_with}
-use Rattle.rt_groups.proofs.TaskNumbers.{task-number}
-use Rattle.count_laws.specs.Tallies.{Waiter, waiter}
-use Rattle.group_facts.specs.Facts.{JobFacts}
-use Rattle.group_facts.specs.Kept.{IsKept, Kept, job_of}
-use Rattle.group_facts.specs.Words.{is_there, key_of}
-use Rattle.group_facts.proofs.KeptMoves.{words_of_kept}
-use Rattle.group_core.specs.Blocked.{home_in, is_above, is_among_first, key_in, waiter_now, waiters_now}
+use Rattle.rt_plays.proofs.TaskNumbers.{task-number}
+use Rattle.rt_changes.specs.Tallies.{Waiter, waiter}
+use Rattle.group_jobs.specs.Facts.{JobFacts}
+use Rattle.group_jobs.specs.Kept.{IsKept, Kept, job_of}
+use Rattle.group_jobs.specs.Words.{is_there, key_of}
+use Rattle.group_jobs.proofs.KeptMoves.{words_of_kept}
+use Rattle.group_core.specs.inside.Blocked.{home_in, is_above, is_among_first, key_in, waiter_now, waiters_now}
 use Rattle.group_core.proofs.CountingRows.{counted-rows}
 
 -- the key does not depend on the group's number

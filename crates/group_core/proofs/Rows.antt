@@ -10,9 +10,9 @@ use Rattle.rt_base.specs.declared.TheConstants.{TICK_END}
 use Rattle.rt_task.specs.declared.Parts.{Parts}
 use Rattle.rt_task.specs.declared.Task.{Task}
 use Rattle.rt_model.specs.Group.{no_task}
-use Rattle.group_facts.specs.Kept.{Kept}
+use Rattle.group_jobs.specs.Kept.{Kept}
 use Rattle.group_jobs.specs.GroupJobs.{IsTaskOf, task_in}
-use Rattle.group_core.specs.Blocked.{CanRank, CanRankTask, home_in}
+use Rattle.group_core.specs.inside.Blocked.{CanRank, CanRankTask, home_in}
 
 module _ (p : Parts) (k : Kept) (c i : ℕ) (x : Task) (can : CanRank p k c) (low : i < length p.tasks) (is : x ≡ slice_index_or p.tasks i no_task) where
   number : x.number.0 ≡ i + 1

@@ -8,11 +8,11 @@ use Rattle.rt_task.specs.declared.ResvKind.TheVariants.{Polling, Sporadic, Table
 use Rattle.rt_model.specs.Group.{Group}
 use Rattle.rt_model.specs.Past.{Clock, Past, now}
 use Rattle.rt_model.specs.Reachable.{IsReachable, clocked as clocked_too}
-use Rattle.group_facts.specs.Kept.{IsKept, Kept, with_clock}
+use Rattle.group_jobs.specs.Kept.{IsKept, Kept, with_clock}
 use Rattle.resv_core.specs.Served.{Served, ServerState, settled, ticked, ticked_by}
 use Rattle.resv_core.proofs.SettledLaws.{settled-twice}
-use Rattle.resv_laws.specs.Kept.{ready_release}
-use Rattle.resv_laws.specs.Serving.{all_settled, clock_to}
+use Rattle.resv_core.specs.Kept.{ready_release}
+use Rattle.resv_core.specs.Serving.{all_settled, clock_to}
 use Rattle.group_resvs.specs.GroupResvs.{AllServe, GroupResvs, IsSettled, all_changed}
 use Rattle.group_resvs.specs.Kept.{KeepsResvs}
 use Rattle.group_resvs.specs.Laws.{AreToldOf, told_of_move}

@@ -5,16 +5,16 @@ use Rattle.rt_task.specs.Validity.{IsValid}
 use Rattle.rt_rules.specs.Numbers.{has}
 use Rattle.rt_model.specs.Group.{Group, home, in_group, task, tasks}
 use Rattle.rt_model.specs.Past.{Past, entries_in, now}
-use Rattle.rt_groups.specs.Limits.{IsTaskInLimits}
-use Rattle.rt_groups.specs.Places.{IsHomeTask}
-use Rattle.rt_groups.proofs.GroupPlaces.{tasks_are_at_home}
-use Rattle.rt_groups.proofs.SetLimits.{sets_are_in_limits}
-use Rattle.group_facts.specs.Bounds.{AreBounded}
-use Rattle.group_facts.specs.Facts.{JobFacts, job_facts}
-use Rattle.group_facts.specs.Kept.{IsKept, Kept, job_of}
-use Rattle.group_facts.proofs.FactBounds.{facts_are_bounded}
+use Rattle.rt_plays.specs.Limits.{IsTaskInLimits}
+use Rattle.rt_plays.specs.Places.{IsHomeTask}
+use Rattle.rt_plays.proofs.GroupPlaces.{tasks_are_at_home}
+use Rattle.rt_plays.proofs.SetLimits.{sets_are_in_limits}
+use Rattle.group_jobs.specs.Bounds.{AreBounded}
+use Rattle.group_jobs.specs.Facts.{JobFacts, job_facts}
+use Rattle.group_jobs.specs.Kept.{IsKept, Kept, job_of}
+use Rattle.group_jobs.proofs.FactBounds.{facts_are_bounded}
 use Rattle.group_jobs.specs.GroupJobs.{IsTaskOf, task_in}
-use Rattle.group_core.specs.Blocked.{CanRank, CanRankTask, home_in}
+use Rattle.group_core.specs.inside.Blocked.{CanRank, CanRankTask, home_in}
 use Rattle.group_core.proofs.ReadingBlocked.{member-home, member-of}
 
 weaker : (a b c : ℕ) (job : JobFacts) → a ≤ b → AreBounded a c job → AreBounded b c job

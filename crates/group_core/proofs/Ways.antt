@@ -7,8 +7,8 @@ use Rattle.rt_task.specs.declared.Act.TheVariants as acts
 use Rattle.rt_task.specs.declared.Parts.{Parts}
 use Rattle.rt_rules.specs.declared.history.Reply.{Reply}
 use Rattle.rt_model.specs.Past.{accepted}
-use Rattle.group_facts.specs.Kept.{Kept}
-use Rattle.group_facts.specs.Ways.{way_after, way_of, ways_after}
+use Rattle.group_jobs.specs.Kept.{Kept}
+use Rattle.group_jobs.specs.Ways.{way_after, way_of, ways_after}
 use Rattle.group_core.specs.Facts.{ended_by, ends_by, ends_in, late_in}
 
 some-if : (b : Bool) (x : TaskNo × Bool) → is_some (if b then Some x else None) ≡ b

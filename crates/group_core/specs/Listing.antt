@@ -16,9 +16,9 @@ use Rattle.rt_model.specs.Reachable.{IsReachable}
 use Rattle.rt_model.specs.Runs.{runs}
 use Rattle.rt_model.specs.Steps.{IsActOf}
 use Rattle.rt_plays.specs.Homes.{IsProcessorOf}
-use Rattle.count_laws.specs.Tallies.{AreWaiters, Waiter, act_by}
+use Rattle.rt_changes.specs.Tallies.{AreWaiters, Waiter, act_by}
 use Rattle.sem_table.specs.SemTable.{SemTable}
-use Rattle.group_facts.specs.Kept.{IsKept, Kept}
+use Rattle.group_jobs.specs.Kept.{IsKept, Kept}
 use Rattle.group_sems.specs.GroupSems.{GroupSems}
 use Rattle.group_sems.specs.Refusing.{unlock_refusal}
 use Rattle.group_sems.specs.Kept.{KeepsGroupSems}
@@ -38,7 +38,7 @@ NamesSem p (acts.Do (ops.Unlock s)) = (1 ≤ s.0) × (s.0 ≤ length p.sems)
 NamesSem p _ = ⊤
 
 -- a group after a past
-pub record Moment : Type 0 where
+pub record GroupAt : Type 0 where
   pub group : Group
   pub past : Past
 
@@ -48,11 +48,11 @@ AreListed g past (Frees t s) ws = AreWaiters g s past ws
 AreListed g past _ ws = ws ≡ []
 
 -- at this moment, and for an act of the processor
-abbrev pub AreWaitersAt : Moment → ℕ → Act → List Waiter → Type 0
+abbrev pub AreWaitersAt : GroupAt → ℕ → Act → List Waiter → Type 0
 AreWaitersAt at q act ws = AreListed at.group at.past (act_by act (answer at.group q act at.past) (runs q at.past)) ws
 
 -- what is kept of jobs and semaphores is of this moment of a group, and the act is one of its processors'
-pub record CanList (at : Moment) (p : Parts) (k : Kept) (v : GroupSems) (q : ℕ) (act : Act) (room : ℕ) : Type 0 where
+pub record CanList (at : GroupAt) (p : Parts) (k : Kept) (v : GroupSems) (q : ℕ) (act : Act) (room : ℕ) : Type 0 where
   pub valid : IsValid at.group.setup
   pub reachable : IsReachable at.group at.past
   pub few : entries_in at.past ≤ MOST_STEPS
@@ -65,7 +65,7 @@ pub record CanList (at : Moment) (p : Parts) (k : Kept) (v : GroupSems) (q : ℕ
   pub has_room : length at.group.setup.tasks ≤ room
 
 -- what is kept of jobs and semaphores is of this moment of a group, and the task is one of its tasks
-pub record CanAsk (at : Moment) (p : Parts) (k : Kept) (v : GroupSems) (t : ℕ) : Type 0 where
+pub record CanAsk (at : GroupAt) (p : Parts) (k : Kept) (v : GroupSems) (t : ℕ) : Type 0 where
   pub valid : IsValid at.group.setup
   pub reachable : IsReachable at.group at.past
   pub few : entries_in at.past ≤ MOST_STEPS

@@ -1,6 +1,6 @@
 -- The tasks that wait for a semaphore, as contracts see them.
 use Rattle.std.specs.Prelude.{ℕ, List}
-use Rattle.count_laws.specs.Tallies.{Waiter}
+use Rattle.rt_changes.specs.Tallies.{Waiter}
 
 -- the tasks, and how many there is room for
 pub record WaitingList : Type 0 where

@@ -4,12 +4,12 @@ ghost use Rattle.std.specs.Prelude.{◌≡◌, ◌+◌, ◌≤◌, ◌<◌, ◌+
 ghost use Rattle.rt_base.specs.TaskNos.{numbers};
 ghost use Rattle.rt_rules.specs.Distinct.{IsDistinct};
 ghost use Rattle.rt_model.specs.Blocking as definitions;
-ghost use Rattle.count_laws.specs.Tallies.{waiter_tasks};
+ghost use Rattle.rt_changes.specs.Tallies.{waiter_tasks};
 ghost use Rattle.block_counts.specs.SeenWords.{waiters_of};
-ghost use Rattle.group_facts.specs.Kept.{cpu_of};
+ghost use Rattle.group_jobs.specs.Kept.{cpu_of};
 ghost use Rattle.sem_table.specs.Told.{state_of};
-ghost use Rattle.group_core.specs.Blocked.{CanRankAll, waiters_now};
-ghost use Rattle.group_core.specs.Listing.{AreWaitersAt, CanAsk, CanList, Moment, NamesSem, freed_at};
+ghost use Rattle.group_core.specs.inside.Blocked.{CanRankAll, waiters_now};
+ghost use Rattle.group_core.specs.Listing.{AreWaitersAt, CanAsk, CanList, GroupAt, NamesSem, freed_at};
 
 mod blocked;
 
@@ -73,9 +73,9 @@ impl WaitingList {
     /// Lists the tasks that wait for the semaphore that the act of the processor frees, by what is kept of jobs and of
     /// semaphores between the two moves of a step; none where it frees none. Each task stands once.
     pub fn list(&mut self, parts: &Parts, jobs: &GroupJobs, sems: &GroupSems, cpu: CpuNo, act: Act)
-        requires { (at : Moment)
+        requires { (at : GroupAt)
             × CanList at parts.now jobs.now.kept sems.now cpu.0 act self.old.room }
-        ensures waiting { (at : Moment)
+        ensures waiting { (at : GroupAt)
             → CanList at parts.now jobs.now.kept sems.now cpu.0 act self.old.room
             → AreWaitersAt at cpu.0 act self.new.waiting }
         ensures once { IsDistinct (waiter_tasks self.new.waiting) }
@@ -105,8 +105,8 @@ impl WaitingList {
 /// Whether the task is priority-blocked, by what is kept of jobs and of semaphores: it waits, and fewer tasks of its cluster
 /// than this has processors have a current job with a higher base key.
 pub fn is_blocked(parts: &Parts, jobs: &GroupJobs, sems: &GroupSems, task: TaskNo) -> bool
-    requires { (at : Moment) × CanAsk at parts.now jobs.now.kept sems.now task.0 }
-    ensures { (at : Moment) → CanAsk at parts.now jobs.now.kept sems.now task.0
+    requires { (at : GroupAt) × CanAsk at parts.now jobs.now.kept sems.now task.0 }
+    ensures { (at : GroupAt) → CanAsk at parts.now jobs.now.kept sems.now task.0
         → result ≡ definitions.is_blocked at.group task.0 at.past }
 {
     sems.waits(task) && is_among_first(parts, jobs, task)

@@ -11,13 +11,13 @@ use Rattle.rt_model.specs.Links.{linked}
 use Rattle.rt_model.specs.Outcomes.{past_act}
 use Rattle.rt_model.specs.Past.{Acted, Event, Past}
 use Rattle.rt_model.specs.Runs.{runs}
-use Rattle.rt_groups.specs.Endings.{ended_in}
-use Rattle.group_facts.specs.Facts.{CpuFacts}
-use Rattle.group_facts.specs.FactMoves.{with_act}
-use Rattle.group_facts.specs.Kept.{IsOfGroup, cpu_of}
-use Rattle.group_facts.specs.Timers.{timer_at}
-use Rattle.group_facts.proofs.TimerSets.{timers_are_renewed}
-use Rattle.group_core.specs.Words.{CanList, Moment}
+use Rattle.rt_plays.specs.Endings.{ended_in}
+use Rattle.group_jobs.specs.Facts.{CpuFacts}
+use Rattle.group_jobs.specs.FactMoves.{with_act}
+use Rattle.group_jobs.specs.Kept.{IsOfGroup, cpu_of}
+use Rattle.group_jobs.specs.Timers.{timer_at}
+use Rattle.group_jobs.proofs.TimerSets.{timers_are_renewed}
+use Rattle.group_core.specs.Words.{CanList, GroupAt}
 use Rattle.group_core.specs.Facts.{Facts, IsPlainAct, MayAct, WithRoom, acted, ended_now, looked_in, reply_in}
 use Rattle.group_core.specs.Facts as moves
 use Rattle.group_core.specs.Standing as core
@@ -28,29 +28,29 @@ use Rattle.group_engine.specs.declared.state.GroupState.{GroupState}
 use Rattle.group_engine.specs.Ending.{IsEnding}
 use Rattle.group_engine.specs.Moments.{CanAct, CanActOn}
 use Rattle.group_engine.specs.State.{IsFitAt, acts_left}
-use Rattle.group_engine.specs.Touching.{AreNumbered, CanFollow, all_brought_up, followed}
+use Rattle.group_engine.specs.inside.Touching.{AreNumbered, CanUpdateRun, all_updated, with_run}
 use Rattle.group_engine.proofs.Bounding.{can-look, number-is}
-use Rattle.group_engine.proofs.BringingUp.{can-followed}
-use Rattle.group_engine.proofs.Following.{between-followed, homes-followed}
+use Rattle.group_engine.proofs.Updating.{can-with_run}
+use Rattle.group_engine.proofs.Following.{between-with_run, homes-with_run}
 use Rattle.group_engine.proofs.Reading.{looks-alike}
 use Rattle.group_engine.proofs.Running.{has_processor}
 use Rattle.group_engine.proofs.Settling.{IsBetween, brought}
 
 -- the tasks that wait can be listed between the moves of a step
-pub can-list : (at : Moment) (q : ℕ) (act : Act) (p : Parts) (s : GroupState) (space : ℕ) → CanActOn at q act p s → length p.tasks ≤ space
+pub can-list : (at : GroupAt) (q : ℕ) (act : Act) (p : Parts) (s : GroupState) (space : ℕ) → CanActOn at q act p s → length p.tasks ≤ space
     → CanList at p s.core.facts.kept s.core.facts.sems q act space
 can-list at q act p s space can roomy =
     let enough : length at.group.setup.tasks ≤ space = omega (arith, roomy, ap (λ (x : Parts). length x.tasks) can.parts_are) in
     core-can-list at.group s.core.facts _ _ can.can.kept.core_fit at.past can.can.kept.core_at can.can.kept.few p can.parts_are q act can.can.inside can.can.act_is_of space enough
 
 -- an act was answered so, and made the facts these
-pub record IsAnswered (at : Moment) (q : ℕ) (act : Act) (s : GroupState) (reply : Reply) (x : WithRoom) : Type 0 where
+pub record IsAnswered (at : GroupAt) (q : ℕ) (act : Act) (s : GroupState) (reply : Reply) (x : WithRoom) : Type 0 where
   pub link : Option ℕ
   pub link_is : link ≡ linked at.group q at.past
   pub reply_is : reply ≡ reply_in at.group.setup q link act s.core.facts
   pub facts_are : x.facts ≡ acted at.group.setup q act reply s.core.facts
 
-module _ (at : Moment) (q : ℕ) (act : Act) (s : GroupState) (can : CanAct at q act s) where
+module _ (at : GroupAt) (q : ℕ) (act : Act) (s : GroupState) (can : CanAct at q act s) where
   abbrev g : Group
   g = at.group
 
@@ -124,28 +124,28 @@ module _ (at : Moment) (q : ℕ) (act : Act) (s : GroupState) (can : CanAct at q
     abbrev s1 : GroupState
     s1 = record s { core = x }
 
-    pub can-follow : CanFollow q s1
+    pub can-follow : CanUpdateRun q s1
     can-follow = record {
       cpu = moved.kept.cpus_room q can.inside;
       home = can.kept.homes_are.there q can.inside;
       there = has_processor g q can.inside past s can.kept;
     }
 
-    pub can-looks : AreNumbered g.setup us (followed q act reply s1)
-    can-looks t h = (can-followed g.setup q act reply t s1 (can-look g past s can.kept x (acts_left past') (acts_left past') fit t (inside t h)), number-is g can.played.valid t (inside t h))
+    pub can-looks : AreNumbered g.setup us (with_run q act reply s1)
+    can-looks t h = (can-with_run g.setup q act reply t s1 (can-look g past s can.kept x (acts_left past') (acts_left past') fit t (inside t h)), number-is g can.played.valid t (inside t h))
 
-    between : IsBetween g event past us (followed q act reply s1)
+    between : IsBetween g event past us (with_run q act reply s1)
     between = record {
       few = let few = can.few in omega (arith, few);
       before = f.resvs;
       moved = moved;
       fit = fit;
       timers_are = timers_are_renewed us (tasks g) (timer_at g past) (timer_at g past') s.timers inside (λ t h k. sym (others t k).timer_same) can.kept.timers_are;
-      homes_are = rw (homes-followed q act reply (cpu_of x.facts.kept q).runs s.clusters) can.kept.homes_are;
-      clusters_are = between-followed g q can.inside past s can.kept act can.act_is_of reply told-is (cpu_of x.facts.kept q).runs runs-now;
+      homes_are = rw (homes-with_run q act reply (cpu_of x.facts.kept q).runs s.clusters) can.kept.homes_are;
+      clusters_are = between-with_run g q can.inside past s can.kept act can.act_is_of reply told-is (cpu_of x.facts.kept q).runs runs-now;
       inside = inside;
       others = λ t h k. looks-alike g t past past' h (others t k);
     }
 
-    pub ending-act : IsEnding g past' (all_brought_up g.setup us (followed q act reply s1))
-    ending-act = brought g can.played event past us (followed q act reply s1) between
+    pub ending-act : IsEnding g past' (all_updated g.setup us (with_run q act reply s1))
+    ending-act = brought g can.played event past us (with_run q act reply s1) between

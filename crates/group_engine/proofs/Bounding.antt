@@ -5,9 +5,9 @@ use Rattle.rt_task.specs.Validity.{IsValid}
 use Rattle.rt_rules.specs.Numbers.{has}
 use Rattle.rt_model.specs.Group.{Group, home, task, tasks}
 use Rattle.rt_model.specs.Past.{Past}
-use Rattle.rt_groups.specs.Limits.{IsTaskInLimits}
-use Rattle.rt_groups.specs.Places.{IsHomeTask}
-use Rattle.group_facts.specs.Kept.{Kept}
+use Rattle.rt_plays.specs.Limits.{IsTaskInLimits}
+use Rattle.rt_plays.specs.Places.{IsHomeTask}
+use Rattle.group_jobs.specs.Kept.{Kept}
 use Rattle.group_jobs.specs.GroupJobs.{IsTaskOf, task_in}
 use Rattle.group_sems.specs.GroupSems.{GroupSems}
 use Rattle.group_sems.specs.Telling.{HasBase}
@@ -20,7 +20,7 @@ use Rattle.group_core.proofs.Bases.{have-bases}
 use Rattle.group_core.proofs.Reading.{is-task}
 use Rattle.group_engine.specs.declared.state.GroupState.{GroupState}
 use Rattle.group_engine.specs.State.{HasClusterAt, IsAt}
-use Rattle.group_engine.specs.Touching.{CanBringUp, home_in}
+use Rattle.group_engine.specs.inside.Touching.{CanUpdate, home_in}
 
 module _ (g : Group) (valid : IsValid g.setup) (t : ℕ) (h : has t (tasks g) ≡ true) where
   own : IsHomeTask g t
@@ -46,9 +46,9 @@ module _ (g : Group) (valid : IsValid g.setup) (t : ℕ) (h : has t (tasks g) �
   at-home-in s there = subst (λ c. HasTask s.clusters c t) (sym home-is) there
 
   -- it can be looked at
-  pub can_bring_up : (acts : ℕ) (s : GroupState) → acts ≤ MOST_STEPS → CanRead acts g.setup s.core.facts.kept → AreBased g.setup s.core.facts.kept s.core.facts.sems
-      → t < length s.timers → HasTask s.clusters (home g t) t → CanBringUp g.setup t s
-  can_bring_up acts s few read based room there = record {
+  pub can_update : (acts : ℕ) (s : GroupState) → acts ≤ MOST_STEPS → CanRead acts g.setup s.core.facts.kept → AreBased g.setup s.core.facts.kept s.core.facts.sems
+      → t < length s.timers → HasTask s.clusters (home g t) t → CanUpdate g.setup t s
+  can_update acts s few read based room there = record {
     task = task-of acts s.core.facts.kept few read;
     has_base = has-base s.core.facts.kept s.core.facts.sems based;
     timer_room = room;
@@ -57,9 +57,9 @@ module _ (g : Group) (valid : IsValid g.setup) (t : ℕ) (h : has t (tasks g) �
 
 -- each task of the group can be looked at once a move is written down
 pub can-look : (g : Group) (past : Past) (s : GroupState) → IsAt g past s → (x : WithRoom) (room spare : ℕ) → core.IsFit g x.facts room spare
-    → (t : ℕ) → has t (tasks g) ≡ true → CanBringUp g.setup t (record s { core = x })
+    → (t : ℕ) → has t (tasks g) ≡ true → CanUpdate g.setup t (record s { core = x })
 can-look g past s at x room spare fit t h =
     let home_of : IsHomeTask g t = at_home g fit.valid t h in
     let was : HasClusterAt g (home g t) past s.clusters = at.clusters_are (home g t) home_of.cluster_there in
     let there : HasTask s.clusters (home g t) t = (was.cluster, was.there, omega (arith, was.is_at.room, home_of.high)) in
-    can_bring_up g fit.valid t h (MOST_STEPS - spare) (record s { core = x }) (omega arith) fit.read fit.based (at.timers_are.room t h) there
+    can_update g fit.valid t h (MOST_STEPS - spare) (record s { core = x }) (omega arith) fit.read fit.based (at.timers_are.room t h) there

@@ -14,15 +14,15 @@ use Rattle.rt_model.specs.Reachable.{clocked as clocked-too}
 use Rattle.rt_laws.proofs.Moves.{clock_moves}
 use Rattle.rt_laws.proofs.ValidSets.{rules_of}
 use Rattle.release_queue.specs.Timers.{tick_at}
-use Rattle.rank_changes.specs.Touched.{comes_due}
-use Rattle.rank_changes.proofs.QuietMoves.{base_key-same, key-quiet}
-use Rattle.rank_changes.proofs.SameClusters.{runs-clock}
-use Rattle.rank_changes.proofs.SameEligibility.{awaits-quiet, srp-quiet}
-use Rattle.rank_changes.proofs.TouchedTasks.{clock_keeps_jobs, clock_touches_due}
-use Rattle.group_facts.specs.Timers.{AreDue, AreMoved, TimersAreKept, renewed, ticks_without, timer_at}
-use Rattle.group_facts.proofs.TimerMoves.{timers_after_clock}
-use Rattle.group_facts.proofs.TimerSets.{length-without, tick-set, tick-without}
-use Rattle.group_core.specs.Words.{Moment}
+use Rattle.rt_changes.specs.Touched.{comes_due}
+use Rattle.rt_changes.proofs.rankings.QuietMoves.{base_key-same, key-quiet}
+use Rattle.rt_changes.proofs.rankings.SameClusters.{runs-clock}
+use Rattle.rt_changes.proofs.rankings.SameEligibility.{awaits-quiet, srp-quiet}
+use Rattle.rt_changes.proofs.rankings.TouchedTasks.{clock_keeps_jobs, clock_touches_due}
+use Rattle.group_jobs.specs.Timers.{AreDue, AreMoved, TimersAreKept, renewed, ticks_without, timer_at}
+use Rattle.group_jobs.proofs.TimerMoves.{timers_after_clock}
+use Rattle.group_jobs.proofs.TimerSets.{length-without, tick-set, tick-without}
+use Rattle.group_core.specs.Words.{GroupAt}
 use Rattle.group_core.specs.Facts.{clocked}
 use Rattle.group_core.specs.Standing as core
 use Rattle.group_core.proofs.Admitting.{admitted-over}
@@ -30,7 +30,7 @@ use Rattle.group_core.proofs.Moves.{at-clocked, fit-clocked}
 use Rattle.group_engine.specs.declared.state.GroupState.{GroupState}
 use Rattle.group_engine.specs.Moments.{CanEnd, CanMove}
 use Rattle.group_engine.specs.State.{HasClusterAt, IsAt, IsFitAt, acts_left}
-use Rattle.group_engine.specs.Touching.{CanBringUpAll, all_brought_up}
+use Rattle.group_engine.specs.inside.Touching.{CanUpdateAll, all_updated}
 use Rattle.group_engine.proofs.Bounding.{can-look}
 use Rattle.group_engine.proofs.Reading.{IsAlike}
 use Rattle.group_engine.proofs.Settling.{HasClusterBetween, IsBetween, brought}
@@ -103,7 +103,7 @@ module _ (g : Group) (past : Past) (s : GroupState) (at : IsAt g past s) (tick :
   fit = fit-clocked g s.core.facts (acts_left past) (acts_left past) at.core_fit tick low
 
   -- each task of the group can be looked at then
-  pub can-clocked : CanBringUpAll g.setup (tasks g) (clocked_state tick s)
+  pub can-clocked : CanUpdateAll g.setup (tasks g) (clocked_state tick s)
   can-clocked t h = can-look g past s at (record s.core { facts = clocked tick s.core.facts }) (acts_left past) (acts_left past) fit t h
 
   module _ (us : List ℕ) (due : AreDue (max (now past) tick) s.timers us) where
@@ -154,8 +154,8 @@ module _ (g : Group) (past : Past) (s : GroupState) (at : IsAt g past s) (tick :
     }
 
 -- once those that are due were looked at, the move is to be ended
-pub clock-ends : (at : Moment) (tick : ℕ) (p : Parts) (s : GroupState) (s1 s2 : GroupState) (us : List ℕ) → CanMove at tick p s → s1 ≡ clocked_state tick s
-    → AreDue s1.core.facts.kept.clock s.timers us → s2 ≡ all_brought_up p us s1 → CanEnd (record { group = at.group; past = Clock tick ∷ at.past }) p s2
+pub clock-ends : (at : GroupAt) (tick : ℕ) (p : Parts) (s : GroupState) (s1 s2 : GroupState) (us : List ℕ) → CanMove at tick p s → s1 ≡ clocked_state tick s
+    → AreDue s1.core.facts.kept.clock s.timers us → s2 ≡ all_updated p us s1 → CanEnd (record { group = at.group; past = Clock tick ∷ at.past }) p s2
 clock-ends at tick p s s1 s2 us can clocked_is due is =
     let clock : s1.core.facts.kept.clock ≡ max (now at.past) tick = ap (λ (x : GroupState). x.core.facts.kept.clock) clocked_is ∙ ap (λ n. max n tick) can.kept.core_at.kept.clock_is in
     let due_then : AreDue (max (now at.past) tick) s.timers us = subst (λ n. AreDue n s.timers us) clock due in

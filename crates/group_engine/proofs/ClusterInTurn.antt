@@ -12,19 +12,19 @@ use Rattle.rt_model.specs.Group.{no_task}
 use Rattle.group_jobs.specs.GroupJobs.{task_in}
 use Rattle.group_core.specs.Facts.{tasks_in_cluster}
 use Rattle.group_engine.specs.declared.state.GroupState.{GroupState}
-use Rattle.group_engine.specs.Touching.{AreNumbered, CanBringUp, CanBringUpAll, all_brought_up, brought_up}
-use Rattle.group_engine.proofs.BringingUp.{can-after, can-after-all}
+use Rattle.group_engine.specs.inside.Touching.{AreNumbered, CanUpdate, CanUpdateAll, all_updated, updated}
+use Rattle.group_engine.proofs.Updating.{can-after, can-after-all}
 
 -- ---- these, and then those
 
-pub all-append : (p : Parts) (xs ys : List ℕ) (s : GroupState) → all_brought_up p (xs ++ ys) s ≡ all_brought_up p ys (all_brought_up p xs s)
+pub all-append : (p : Parts) (xs ys : List ℕ) (s : GroupState) → all_updated p (xs ++ ys) s ≡ all_updated p ys (all_updated p xs s)
 all-append p [] ys s = refl
-all-append p (x ∷ xs) ys s = all-append p xs ys (brought_up p x s)
+all-append p (x ∷ xs) ys s = all-append p xs ys (updated p x s)
 
-pub can-front : (p : Parts) (xs ys : List ℕ) (s : GroupState) → AreNumbered p (xs ++ ys) s → CanBringUpAll p xs s
+pub can-front : (p : Parts) (xs ys : List ℕ) (s : GroupState) → AreNumbered p (xs ++ ys) s → CanUpdateAll p xs s
 can-front p xs ys s all t h = (all t (has-append t xs ys ∙ rw h)).0
 
-pub can-behind : (p : Parts) (xs ys : List ℕ) (s : GroupState) → AreNumbered p (xs ++ ys) s → AreNumbered p ys (all_brought_up p xs s)
+pub can-behind : (p : Parts) (xs ys : List ℕ) (s : GroupState) → AreNumbered p (xs ++ ys) s → AreNumbered p ys (all_updated p xs s)
 can-behind p xs ys s all t h = let one = all t (has-append t xs ys ∙ rw h (or_true (has t xs))) in (can-after-all p t xs s one.0, one.1)
 
 -- ---- the tasks of a cluster but those among the first i of the set
@@ -39,7 +39,7 @@ behind-one p c i low = let left : length p.tasks - i ≡ suc (length p.tasks - s
 -- those of the cluster among the first i tasks of the set have been looked at
 pub record AreToTest (p : Parts) (c i : ℕ) (start s : GroupState) : Type 0 where
   pub can : AreNumbered p (tasks_in_cluster p c) s
-  pub rest : all_brought_up p (cluster_behind p c i) s ≡ all_brought_up p (tasks_in_cluster p c) start
+  pub rest : all_updated p (cluster_behind p c i) s ≡ all_updated p (tasks_in_cluster p c) start
 
 pub to-test-first : (p : Parts) (c : ℕ) (s : GroupState) → AreNumbered p (tasks_in_cluster p c) s → AreToTest p c 0 s s
 to-test-first p c s h = record {
@@ -61,10 +61,10 @@ next-has p c i low e =
 
 module _ (p : Parts) (c i : ℕ) (start s : GroupState) (h : AreToTest p c i start s) where
   -- the next task is of the cluster
-  pub next-can : i < length p.tasks → next_home p i ≡ c → CanBringUp p (suc i) s × ((task_in p.tasks (suc i)).number.0 ≡ suc i)
+  pub next-can : i < length p.tasks → next_home p i ≡ c → CanUpdate p (suc i) s × ((task_in p.tasks (suc i)).number.0 ≡ suc i)
   next-can low is = h.can (suc i) (next-has p c i low (eq-eqb (next_home p i) c is))
 
-  pub to-test-in : i < length p.tasks → next_home p i ≡ c → AreToTest p c (suc i) start (brought_up p (suc i) s)
+  pub to-test-in : i < length p.tasks → next_home p i ≡ c → AreToTest p c (suc i) start (updated p (suc i) s)
   to-test-in low is = record {
     can = λ t k. (can-after p t (suc i) s (h.can t k).0, (h.can t k).1);
     rest = rw (behind-one p c i low, next-in p c i true (eq-eqb (next_home p i) c is)) at h.rest;

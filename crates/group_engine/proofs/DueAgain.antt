@@ -8,9 +8,9 @@ use Rattle.std.proofs.lemmas.List.Sums.{sum_by-set}
 use Rattle.rt_model.specs.Releases.{has_come}
 use Rattle.rt_task.specs.declared.Task.{Task}
 use Rattle.release_queue.specs.Timers.{IsNextDue, tick_at}
-use Rattle.group_facts.specs.Facts.{JobFacts}
-use Rattle.group_facts.specs.Timers.{AreDue, first_of_two, if_later, timer}
-use Rattle.group_facts.specs.Words.{release_of}
+use Rattle.group_jobs.specs.Facts.{JobFacts}
+use Rattle.group_jobs.specs.Timers.{AreDue, first_of_two, if_later, timer}
+use Rattle.group_jobs.specs.Words.{release_of}
 
 -- ---- moments after the clock
 

@@ -25,12 +25,12 @@ use Rattle.rt_model.specs.Runs.{leaves, runs, runs_by}
 use Rattle.rt_model.specs.Steps.{IsActOf}
 use Rattle.rt_plays.specs.Homes.{IsProcessorOf}
 use Rattle.link_table.specs.Linked.{with_run}
-use Rattle.group_facts.specs.Facts.{CpuFacts}
-use Rattle.group_facts.specs.FactMoves.{CountsNothing, IsArrived, with_act}
-use Rattle.group_facts.specs.Kept.{cpu_of}
-use Rattle.group_facts.specs.Replies.{irq_reply, np_of}
-use Rattle.group_facts.proofs.CpuSteps.{cpu_is_counted, refused_stays}
-use Rattle.group_facts.proofs.JobSteps.{arrival_is_counted, others_count_nothing}
+use Rattle.group_jobs.specs.Facts.{CpuFacts}
+use Rattle.group_jobs.specs.FactMoves.{CountsNothing, IsArrived, with_act}
+use Rattle.group_jobs.specs.Kept.{cpu_of}
+use Rattle.group_jobs.specs.Replies.{irq_reply, np_of}
+use Rattle.group_jobs.proofs.CpuSteps.{cpu_is_counted, refused_stays}
+use Rattle.group_jobs.proofs.JobSteps.{arrival_is_counted, others_count_nothing}
 use Rattle.cluster_table.specs.Clusters.{KeptCluster, after_take, left_by}
 use Rattle.cluster_table.specs.Table.{Table, changed_at}
 use Rattle.group_core.specs.Facts.{Facts}
@@ -38,7 +38,7 @@ use Rattle.group_core.proofs.Acts.{reply-is, step-inside}
 use Rattle.group_core.proofs.Looking.{runs-there}
 use Rattle.group_engine.specs.declared.state.GroupState.{GroupState}
 use Rattle.group_engine.specs.State.{IsAt}
-use Rattle.group_engine.specs.Touching.{run_followed}
+use Rattle.group_engine.specs.inside.Touching.{run_updated}
 use Rattle.group_engine.proofs.Interrupting.{between-irq}
 use Rattle.group_engine.proofs.Running.{between-run, between-still}
 use Rattle.group_engine.proofs.Settling.{HasClusterBetween}
@@ -149,12 +149,12 @@ module _ (g : Group) (q : ℕ) (inside : IsProcessorOf g q) (past : Past) (s : G
   abbrev AreBetween : Act → Table → Type 0
   AreBetween act t = (c : ℕ) → has c (clusters g) ≡ true → HasClusterBetween g c (Acted (past_act g q act past)) past t
 
-  op-followed : (op : Op) (reply : Reply) (o : Option ℕ) → o ≡ runs q (with_act g q (acts.Do op) past) → AreBetween (acts.Do op) (run_followed q (acts.Do op) reply o s.clusters)
-  op-followed op reply None is =
+  op-with_run : (op : Op) (reply : Reply) (o : Option ℕ) → o ≡ runs q (with_act g q (acts.Do op) past) → AreBetween (acts.Do op) (run_updated q (acts.Do op) reply o s.clusters)
+  op-with_run op reply None is =
       subst (λ c. AreBetween (acts.Do op) (changed_at c (left_by q) s.clusters)) (sym home-is)
       (between-run g q inside (acts.Do op) past s at (changed_at (cluster_with g q) (left_by q) s.clusters) (left_by q) refl
       (λ k h i. ap (λ o. let x : KeptCluster = record k { linked = with_run k.linked q o } in x) is))
-  op-followed op reply (Some t) is = between-still g q (acts.Do op) past s at (do-runs g valid q past at.core_at.reachable op t (sym is))
+  op-with_run op reply (Some t) is = between-still g q (acts.Do op) past s at (do-runs g valid q past at.core_at.reachable op t (sym is))
 
   irq-is : IsActOf g acts.Irq → irq_reply (linked g q past) (runs q past) (np_of f.kept (cpu_of f.kept q).runs) ≡ answer g q acts.Irq past
   irq-is of =
@@ -162,26 +162,26 @@ module _ (g : Group) (q : ℕ) (inside : IsProcessorOf g q) (past : Past) (s : G
       ∙ reply-is g f _ _ at.core_fit past at.core_at q acts.Irq (step-inside g q acts.Irq inside of) of (linked g q past) refl
 
   -- once the cluster of the processor has what that runs after the act, they are between
-  pub between-followed : (act : Act) → IsActOf g act → (reply : Reply) → reply ≡ answer g q act past → (o : Option ℕ) → o ≡ runs q (with_act g q act past)
-      → AreBetween act (run_followed q act reply o s.clusters)
-  between-followed acts.Tick of reply told o is = between-still g q acts.Tick past s at (tick-runs g valid q past at.core_at.reachable)
-  between-followed acts.Irq of reply told o is = by_reply (accepted reply) refl
+  pub between-with_run : (act : Act) → IsActOf g act → (reply : Reply) → reply ≡ answer g q act past → (o : Option ℕ) → o ≡ runs q (with_act g q act past)
+      → AreBetween act (run_updated q act reply o s.clusters)
+  between-with_run acts.Tick of reply told o is = between-still g q acts.Tick past s at (tick-runs g valid q past at.core_at.reachable)
+  between-with_run acts.Irq of reply told o is = by_reply (accepted reply) refl
     where
       by_reply : (b : Bool) → accepted reply ≡ b → AreBetween acts.Irq (if b then changed_at (slice_index s.clusters.homes q) (after_take q false) s.clusters else s.clusters)
       by_reply true e =
           subst (λ c. AreBetween acts.Irq (changed_at c (after_take q false) s.clusters)) (sym home-is)
           (between-irq g q inside past s at (np_of f.kept (cpu_of f.kept q).runs) (irq-is of) (ap accepted (sym told) ∙ e))
       by_reply false e = between-still g q acts.Irq past s at (refused-runs g valid q past at.core_at.reachable acts.Irq (ap accepted (sym told) ∙ e))
-  between-followed (acts.Arrive t) of reply told o is = between-still g q (acts.Arrive t) past s at (arrive-runs g valid q past at.core_at.reachable t)
-  between-followed (acts.Do op) of reply told o is = op-followed op reply o is
+  between-with_run (acts.Arrive t) of reply told o is = between-still g q (acts.Arrive t) past s at (arrive-runs g valid q past at.core_at.reachable t)
+  between-with_run (acts.Do op) of reply told o is = op-with_run op reply o is
 
-pub homes-followed : (q : ℕ) (act : Act) (reply : Reply) (o : Option ℕ) (t : Table) → (run_followed q act reply o t).homes ≡ t.homes
-homes-followed q acts.Tick reply o t = refl
-homes-followed q acts.Irq reply o t = by_reply (accepted reply)
+pub homes-with_run : (q : ℕ) (act : Act) (reply : Reply) (o : Option ℕ) (t : Table) → (run_updated q act reply o t).homes ≡ t.homes
+homes-with_run q acts.Tick reply o t = refl
+homes-with_run q acts.Irq reply o t = by_reply (accepted reply)
   where
     by_reply : (b : Bool) → (if b then changed_at (slice_index t.homes q) (after_take q false) t else t).homes ≡ t.homes
     by_reply true = refl
     by_reply false = refl
-homes-followed q (acts.Arrive u) reply o t = refl
-homes-followed q (acts.Do op) reply None t = refl
-homes-followed q (acts.Do op) reply (Some u) t = refl
+homes-with_run q (acts.Arrive u) reply o t = refl
+homes-with_run q (acts.Do op) reply None t = refl
+homes-with_run q (acts.Do op) reply (Some u) t = refl

@@ -11,8 +11,8 @@ use Rattle.rt_model.specs.Group.{Group, cluster, home, in_group, no_cluster, no_
 use Rattle.rt_plays.specs.Plays.{group_with}
 use Rattle.group_engine.specs.declared.state.GroupState.{GroupState}
 use Rattle.group_jobs.specs.GroupJobs.{task_in}
-use Rattle.group_engine.specs.Touching.{AreNumbered, CanBringUp, all_brought_up, brought_up}
-use Rattle.group_engine.proofs.BringingUp.{can-after}
+use Rattle.group_engine.specs.inside.Touching.{AreNumbered, CanUpdate, all_updated, updated}
+use Rattle.group_engine.proofs.Updating.{can-after}
 
 -- the tasks of the group but those among the first i of the set
 abbrev tasks_behind : Group → ℕ → List ℕ
@@ -24,12 +24,12 @@ behind-one g i low = let left : length g.setup.tasks - i ≡ suc (length g.setup
 
 -- a task can be looked at, and has its number
 abbrev IsNumbered : Parts → ℕ → GroupState → Type 0
-IsNumbered p t s = CanBringUp p t s × ((task_in p.tasks t).number.0 ≡ t)
+IsNumbered p t s = CanUpdate p t s × ((task_in p.tasks t).number.0 ≡ t)
 
 -- those of the group among the first i tasks of the set have been looked at
 pub record AreToCome (p : Parts) (n i : ℕ) (start s : GroupState) : Type 0 where
   pub can : AreNumbered p (tasks (group_with p n)) s
-  pub rest : all_brought_up p (tasks_behind (group_with p n) i) s ≡ all_brought_up p (tasks (group_with p n)) start
+  pub rest : all_updated p (tasks_behind (group_with p n) i) s ≡ all_updated p (tasks (group_with p n)) start
 
 pub to-come-first : (p : Parts) (n : ℕ) (s : GroupState) → AreNumbered p (tasks (group_with p n)) s → AreToCome p n 0 s s
 unfolding tasks
@@ -58,7 +58,7 @@ module _ (p : Parts) (n i : ℕ) (start s : GroupState) (h : AreToCome p n i sta
   pub next-can : i < length p.tasks → next_group p i ≡ n → IsNumbered p (suc i) s
   next-can low is = h.can (suc i) (next-has p n i low (eq-eqb (next_group p i) n is))
 
-  pub to-come-in : i < length p.tasks → next_group p i ≡ n → AreToCome p n (suc i) start (brought_up p (suc i) s)
+  pub to-come-in : i < length p.tasks → next_group p i ≡ n → AreToCome p n (suc i) start (updated p (suc i) s)
   to-come-in low is = record {
     can = λ t k. (can-after p t (suc i) s (h.can t k).0, (h.can t k).1);
     rest = rw (behind-one (group_with p n) i low, next-in p n i true (eq-eqb (next_group p i) n is)) at h.rest;

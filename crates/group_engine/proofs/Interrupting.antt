@@ -12,12 +12,12 @@ use Rattle.rt_model.specs.Past.{Acted, Past, accepted, now}
 use Rattle.rt_model.specs.Runs.{runs}
 use Rattle.rt_plays.specs.Homes.{IsProcessorOf}
 use Rattle.link_table.specs.Linked.{Linked, after_irq, is_pending, link_of, runs_on, with_run}
-use Rattle.group_facts.specs.Facts.{CpuFacts, cpu_facts}
-use Rattle.group_facts.specs.FactMoves.{CountsNothing, with_act}
-use Rattle.group_facts.specs.Moves.{cpu_after}
-use Rattle.group_facts.specs.Replies.{irq_reply, run_reply}
-use Rattle.group_facts.proofs.CpuSteps.{cpu_is_counted}
-use Rattle.group_facts.proofs.JobSteps.{others_count_nothing}
+use Rattle.group_jobs.specs.Facts.{CpuFacts, cpu_facts}
+use Rattle.group_jobs.specs.FactMoves.{CountsNothing, with_act}
+use Rattle.group_jobs.specs.Moves.{cpu_after}
+use Rattle.group_jobs.specs.Replies.{irq_reply, run_reply}
+use Rattle.group_jobs.proofs.CpuSteps.{cpu_is_counted}
+use Rattle.group_jobs.proofs.JobSteps.{others_count_nothing}
 use Rattle.cluster_table.specs.Clusters.{KeptCluster, after_take}
 use Rattle.cluster_table.specs.Table.{changed_at}
 use Rattle.group_engine.specs.declared.state.GroupState.{GroupState}

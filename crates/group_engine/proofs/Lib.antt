@@ -1,6 +1,6 @@
 pub mod Reading
-pub mod Bringing
-pub mod BringingUp
+pub mod UpdateLaws
+pub mod Updating
 pub mod Bounding
 pub mod Settling
 pub mod Running
@@ -16,4 +16,4 @@ pub mod Opening
 pub mod Stepping
 pub mod LinksKept
 mod Looked
-mod Offering
+mod Requeueing

@@ -8,14 +8,13 @@ use Rattle.rt_rules.specs.declared.history.Reply.{Reply}
 use Rattle.rt_task.specs.declared.Act.{Act}
 use Rattle.rt_task.specs.declared.Act.TheVariants as acts
 use Rattle.rt_task.specs.declared.Parts.{Parts}
-use Rattle.rt_rules.specs.Numbers.{has}
 use Rattle.rt_rules.specs.Placing.{at_place}
-use Rattle.rt_model.specs.Group.{Group, cluster_with, clusters, first_cpu}
+use Rattle.rt_model.specs.Group.{Group, cluster_with, first_cpu}
 use Rattle.rt_model.specs.Histories.{past_of}
 use Rattle.rt_model.specs.Links.{linked, links}
 use Rattle.rt_model.specs.Past.{Past, accepted}
 use Rattle.rt_plays.specs.Homes.{IsProcessorOf}
-use Rattle.rt_groups.proofs.GroupPlaces.{processors_are_at_home}
+use Rattle.rt_plays.proofs.GroupPlaces.{processors_are_at_home}
 use Rattle.link_table.specs.Linked.{Linked, after_irq, is_deferred, is_pending, link_of, with_run}
 use Rattle.cluster_table.specs.Clusters.{KeptCluster, after_take, left_by, with_key}
 use Rattle.cluster_table.specs.Marks.{IsUnmarked, Marks}
@@ -24,7 +23,7 @@ use Rattle.cluster_table.proofs.RowLaws.{at-changed, at-changed_other}
 use Rattle.group_engine.specs.declared.state.GroupState.{GroupState}
 use Rattle.group_engine.specs.Links.{AreMarked, StayLinked, links_in}
 use Rattle.group_engine.specs.State.{HasClusterAt, IsAt}
-use Rattle.group_engine.specs.Touching.{all_brought_up, all_offered, brought_up, home_in, key_now, offered, run_followed}
+use Rattle.group_engine.specs.inside.Touching.{all_updated, all_requeued, updated, home_in, key_now, requeued, run_updated}
 
 -- one cluster is changed, and not its links
 links-changed : (home c : ℕ) (change : KeptCluster → KeptCluster) (t : Table) → ((k : KeptCluster) → (change k).linked.links ≡ k.linked.links)
@@ -39,15 +38,15 @@ links-changed home c change t keeps = by_number (cases_eq c home)
     by_number (inl same) = rw same (ap (option_map (λ (k : KeptCluster). k.linked.links)) (at-changed home change t) ∙ by_kept (cluster_at t home))
     by_number (inr apart) = ap (option_map (λ (k : KeptCluster). k.linked.links)) (at-changed_other home c change t apart)
 
-pub links-offered : (p : Parts) (us : List ℕ) (s : GroupState) (c : ℕ) → links_in (all_offered p us s).clusters c ≡ links_in s.clusters c
-links-offered p [] s c = refl
-links-offered p (u ∷ us) s c =
-    links-offered p us (offered p u s) c ∙ links-changed (home_in p u) c (with_key u (key_now p s.core.facts u)) s.clusters (λ k. refl)
+pub links-requeued : (p : Parts) (us : List ℕ) (s : GroupState) (c : ℕ) → links_in (all_requeued p us s).clusters c ≡ links_in s.clusters c
+links-requeued p [] s c = refl
+links-requeued p (u ∷ us) s c =
+    links-requeued p us (requeued p u s) c ∙ links-changed (home_in p u) c (with_key u (key_now p s.core.facts u)) s.clusters (λ k. refl)
 
-pub links-brought : (p : Parts) (us : List ℕ) (s : GroupState) (c : ℕ) → links_in (all_brought_up p us s).clusters c ≡ links_in s.clusters c
+pub links-brought : (p : Parts) (us : List ℕ) (s : GroupState) (c : ℕ) → links_in (all_updated p us s).clusters c ≡ links_in s.clusters c
 links-brought p [] s c = refl
 links-brought p (u ∷ us) s c =
-    links-brought p us (brought_up p u s) c ∙ links-changed (home_in p u) c (with_key u (key_now p s.core.facts u)) s.clusters (λ k. refl)
+    links-brought p us (updated p u s) c ∙ links-changed (home_in p u) c (with_key u (key_now p s.core.facts u)) s.clusters (λ k. refl)
 
 -- taking an interrupt changes what runs alone
 if-links : (b : Bool) (l l' : Linked) → l'.links ≡ l.links → (if b then l' else l).links ≡ l.links
@@ -57,16 +56,16 @@ if-links false l l' same = refl
 links-taken : (l : Linked) (q : ℕ) (np : Bool) → (after_irq l q np).links ≡ l.links
 links-taken l q np = if-links (is_pending l q && not (is_deferred l q np)) l (with_run l q (link_of l q)) refl
 
-pub links-followed : (q : ℕ) (act : Act) (reply : Reply) (o : Option ℕ) (t : Table) (c : ℕ) → links_in (run_followed q act reply o t) c ≡ links_in t c
-links-followed q acts.Tick reply o t c = refl
-links-followed q acts.Irq reply o t c = by_reply (accepted reply)
+pub links-with_run : (q : ℕ) (act : Act) (reply : Reply) (o : Option ℕ) (t : Table) (c : ℕ) → links_in (run_updated q act reply o t) c ≡ links_in t c
+links-with_run q acts.Tick reply o t c = refl
+links-with_run q acts.Irq reply o t c = by_reply (accepted reply)
   where
     by_reply : (b : Bool) → links_in (if b then changed_at (slice_index t.homes q) (after_take q false) t else t) c ≡ links_in t c
     by_reply true = links-changed (slice_index t.homes q) c (after_take q false) t (λ k. links-taken k.linked q false)
     by_reply false = refl
-links-followed q (acts.Arrive u) reply o t c = refl
-links-followed q (acts.Do op) reply None t c = links-changed (slice_index t.homes q) c (left_by q) t (λ k. refl)
-links-followed q (acts.Do op) reply (Some u) t c = refl
+links-with_run q (acts.Arrive u) reply o t c = refl
+links-with_run q (acts.Do op) reply None t c = links-changed (slice_index t.homes q) c (left_by q) t (λ k. refl)
+links-with_run q (acts.Do op) reply (Some u) t c = refl
 
 -- ---- the links of two pasts
 

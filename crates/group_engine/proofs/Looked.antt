@@ -6,8 +6,8 @@ use Rattle.rt_rules.specs.Numbers.{has}
 use Rattle.rt_rules.specs.Placing.{tasks_in}
 use Rattle.rt_rules.proofs.BoolLaws.{or_true}
 use Rattle.group_engine.specs.declared.state.GroupState.{GroupState}
-use Rattle.group_engine.specs.Touching.{CanBringUpAll, all_brought_up}
-use Rattle.group_engine.proofs.BringingUp.{can-after-all}
+use Rattle.group_engine.specs.inside.Touching.{CanUpdateAll, all_updated}
+use Rattle.group_engine.proofs.Updating.{can-after-all}
 
 in-first : (t : ℕ) (o : Option ℕ) (rest : List (Option ℕ)) → has t (tasks_in (o ∷ [])) ≡ true → has t (tasks_in (o ∷ rest)) ≡ true
 in-first t None rest h = cc
@@ -23,13 +23,13 @@ in-rest t (Some x) rest h = rw h (or_true (t == x))
 
 module _ (p : Parts) (o : Option ℕ) (rest : List (Option ℕ)) (s : GroupState) where
   -- the first can be looked at, and then the others
-  pub can-first : CanBringUpAll p (tasks_in (o ∷ rest)) s → CanBringUpAll p (tasks_in (o ∷ [])) s
+  pub can-first : CanUpdateAll p (tasks_in (o ∷ rest)) s → CanUpdateAll p (tasks_in (o ∷ [])) s
   can-first can t h = can t (in-first t o rest h)
 
-  pub can-rest : CanBringUpAll p (tasks_in (o ∷ rest)) s → CanBringUpAll p (tasks_in rest) (all_brought_up p (tasks_in (o ∷ [])) s)
+  pub can-rest : CanUpdateAll p (tasks_in (o ∷ rest)) s → CanUpdateAll p (tasks_in rest) (all_updated p (tasks_in (o ∷ [])) s)
   can-rest can t h = can-after-all p t (tasks_in (o ∷ [])) s (can t (in-rest t o rest h))
 
 pub brought-first : (p : Parts) (o : Option ℕ) (rest : List (Option ℕ)) (s : GroupState)
-    → all_brought_up p (tasks_in (o ∷ rest)) s ≡ all_brought_up p (tasks_in rest) (all_brought_up p (tasks_in (o ∷ [])) s)
+    → all_updated p (tasks_in (o ∷ rest)) s ≡ all_updated p (tasks_in rest) (all_updated p (tasks_in (o ∷ [])) s)
 brought-first p None rest s = refl
 brought-first p (Some x) rest s = refl

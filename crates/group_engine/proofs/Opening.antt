@@ -15,18 +15,18 @@ use Rattle.rt_model.specs.Reachable.{opened}
 use Rattle.rt_model.specs.Runs.{runs}
 use Rattle.rt_model.specs.Tops.{top}
 use Rattle.rt_laws.proofs.GroupLaws.{tasks_of-home}
-use Rattle.rt_groups.specs.Limits.{IsInLimits}
-use Rattle.rt_groups.specs.Places.{IsHomeTask}
-use Rattle.rt_groups.proofs.GroupPlaces.{tasks_are_at_home}
-use Rattle.rt_groups.proofs.SetLimits.{sets_are_in_limits}
+use Rattle.rt_plays.specs.Limits.{IsInLimits}
+use Rattle.rt_plays.specs.Places.{IsHomeTask}
+use Rattle.rt_plays.proofs.GroupPlaces.{tasks_are_at_home}
+use Rattle.rt_plays.proofs.SetLimits.{sets_are_in_limits}
 use Rattle.ready_queue.specs.ReadySet.{HoldsJust, set_refreshed}
 use Rattle.ready_queue.specs.Refreshed.{AgreeBut}
 use Rattle.ready_queue.proofs.ReadySets.{set_is_refreshed}
-use Rattle.rank_changes.specs.ClusterMoves.{of_cluster}
-use Rattle.group_facts.specs.Timers.{TimersAreKept, timer_at}
-use Rattle.group_facts.proofs.KeptMoves.{length-replicated, replicated}
-use Rattle.group_facts.proofs.TimerMoves.{timers_at_opening}
-use Rattle.group_facts.proofs.WayMoves.{ways_at_opening}
+use Rattle.rt_changes.specs.ClusterMoves.{of_cluster}
+use Rattle.group_jobs.specs.Timers.{TimersAreKept, timer_at}
+use Rattle.group_jobs.proofs.KeptMoves.{length-replicated, replicated}
+use Rattle.group_jobs.proofs.TimerMoves.{timers_at_opening}
+use Rattle.group_jobs.proofs.WayMoves.{ways_at_opening}
 use Rattle.cluster_table.specs.Clusters.{KeptCluster, fresh, homes_from, rows_from}
 use Rattle.cluster_table.specs.Table.{HasTask, cluster_at}
 use Rattle.cluster_table.proofs.RowLaws.{home-at, length-homes, processor-low, row-at}
@@ -34,7 +34,7 @@ use Rattle.group_sems.specs.GroupSems.{GroupSems}
 use Rattle.group_resvs.specs.GroupResvs.{GroupResvs, IsSettled, is_served}
 use Rattle.group_resvs.specs.Laws.{AreToldOf}
 use Rattle.group_resvs.specs.Laws as laws
-use Rattle.resv_laws.specs.Kept.{ready_release}
+use Rattle.resv_core.specs.Kept.{ready_release}
 use Rattle.group_core.specs.Facts.{AreOpened, Facts, IsUntold, WithRoom, at_opening, resvs_at_opening, told_all}
 use Rattle.group_core.specs.Reads.{timer_in}
 use Rattle.group_core.proofs.Counting.{read-opened}
@@ -43,9 +43,9 @@ use Rattle.group_engine.specs.declared.state.GroupState.{GroupState}
 use Rattle.group_engine.specs.Ending.{HasClusterEnding, HaveEnded, HoldsStanding, IsEnding, stands}
 use Rattle.group_engine.specs.Moments.{IsPlayed}
 use Rattle.group_engine.specs.State.{acts_left}
-use Rattle.group_engine.specs.Touching.{AreNumbered, all_brought_up}
-use Rattle.group_engine.proofs.Bounding.{can_bring_up, number-is}
-use Rattle.group_engine.proofs.Bringing.{cluster-brought, core-brought, homes-brought, keys-refreshed, renewed-same, served-told_each, timers-brought}
+use Rattle.group_engine.specs.inside.Touching.{AreNumbered, all_updated}
+use Rattle.group_engine.proofs.Bounding.{can_update, number-is}
+use Rattle.group_engine.proofs.UpdateLaws.{cluster-brought, core-brought, homes-brought, keys-refreshed, renewed-same, served-told_each, timers-brought}
 use Rattle.group_engine.proofs.Settling.{holds-same, key-kept, length-refreshed, timer-kept}
 
 -- before any task was looked at
@@ -98,7 +98,7 @@ module _ (g : Group) (played : IsPlayed g) (room : ℕ) (v : GroupSems) (new : I
       let n : length (replicate {A = Option ℕ} (length g.setup.tasks + 1) None) ≡ length g.setup.tasks + 1 = length-replicated (length g.setup.tasks + 1) None in
       let m : length (replicate {A = Option Key} (length g.setup.tasks + 1) None) ≡ length g.setup.tasks + 1 = length-replicated (length g.setup.tasks + 1) None in
       let there : HasTask s0.clusters (home g t) t = (fresh (first_cpu g (home g t)) (cpus g (home g t)) (length g.setup.tasks + 1), row (home g t) home_of.cluster_there, omega (arith, home_of.high, m)) in
-      (can_bring_up g played.valid t h MOST_STEPS s0 (omega arith) (read-opened MOST_STEPS g.setup limits) (based_first g played.valid v new) (omega (arith, home_of.high, n)) there, number-is g played.valid t h)
+      (can_update g played.valid t h MOST_STEPS s0 (omega arith) (read-opened MOST_STEPS g.setup limits) (based_first g played.valid v new) (omega (arith, home_of.high, n)) there, number-is g played.valid t h)
 
   -- the tasks that stand and are served before the reservations are settled
   abbrev test : ℕ → Bool
@@ -128,7 +128,7 @@ module _ (g : Group) (played : IsPlayed g) (room : ℕ) (v : GroupSems) (new : I
           either-way false k = refl
 
   abbrev opened_state : GroupState
-  opened_state = all_brought_up g.setup (tasks g) s0
+  opened_state = all_updated g.setup (tasks g) s0
 
   -- being told leaves who is served
   served-told : (t : ℕ) → is_served w t ≡ is_served (resvs_at_opening g) t
@@ -192,7 +192,7 @@ module _ (g : Group) (played : IsPlayed g) (room : ℕ) (x : WithRoom) (new : Ar
   pub can-all : AreNumbered g.setup (tasks g) (empty_state g x)
   can-all = subst (λ (y : Facts). AreNumbered g.setup (tasks g) (empty_state g (record { facts = y; room = x.room }))) (sym new.opened) (can-opened g played x.room new.sems new.untold)
 
-  pub opened-at : IsEnding g [] (all_brought_up g.setup (tasks g) (empty_state g x))
+  pub opened-at : IsEnding g [] (all_updated g.setup (tasks g) (empty_state g x))
   opened-at =
-      subst (λ (y : Facts). IsEnding g [] (all_brought_up g.setup (tasks g) (empty_state g (record { facts = y; room = x.room })))) (sym new.opened)
+      subst (λ (y : Facts). IsEnding g [] (all_updated g.setup (tasks g) (empty_state g (record { facts = y; room = x.room })))) (sym new.opened)
       (ending-opened g played x.room new.sems new.untold)

@@ -7,10 +7,10 @@ use Rattle.rt_model.specs.Group.{Group, task, tasks}
 use Rattle.rt_model.specs.Holders.{awaits}
 use Rattle.rt_model.specs.Past.{Past, now}
 use Rattle.rt_model.specs.Tops.{is_admitted}
-use Rattle.group_facts.specs.Facts.{job_facts}
-use Rattle.group_facts.specs.Words.{AreRead, is_ready}
-use Rattle.group_facts.proofs.ReadWords.{words_are_read}
-use Rattle.resv_laws.specs.Kept.{ready_release}
+use Rattle.group_jobs.specs.Facts.{job_facts}
+use Rattle.group_jobs.specs.Words.{AreRead, is_ready}
+use Rattle.group_jobs.proofs.ReadWords.{words_are_read}
+use Rattle.resv_core.specs.Kept.{ready_release}
 use Rattle.group_core.specs.Standing.{LooksSame}
 use Rattle.group_engine.specs.Ending.{stands}
 

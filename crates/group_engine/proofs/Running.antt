@@ -12,12 +12,12 @@ use Rattle.rt_model.specs.Past.{Acted, Past}
 use Rattle.rt_model.specs.Runs.{runs}
 use Rattle.rt_model.proofs.PastLaws.{at_place-numbers, length-runs_of}
 use Rattle.rt_plays.specs.Homes.{IsProcessorOf}
-use Rattle.rt_groups.specs.Places.{IsAtHome}
-use Rattle.rt_groups.proofs.GroupPlaces.{processors_are_at_home}
-use Rattle.rt_groups.proofs.RunsAfter.{runs_of-changed, runs_of-still}
-use Rattle.rank_changes.proofs.SameClusters.{runs-elsewhere}
+use Rattle.rt_plays.specs.Places.{IsAtHome}
+use Rattle.rt_plays.proofs.GroupPlaces.{processors_are_at_home}
+use Rattle.rt_plays.proofs.RunsAfter.{runs_of-changed, runs_of-still}
+use Rattle.rt_changes.proofs.rankings.SameClusters.{runs-elsewhere}
 use Rattle.link_table.specs.Linked.{IsOfCluster, link_of, runs_on, with_run}
-use Rattle.group_facts.specs.FactMoves.{with_act}
+use Rattle.group_jobs.specs.FactMoves.{with_act}
 use Rattle.cluster_table.specs.Clusters.{KeptCluster}
 use Rattle.cluster_table.specs.Table.{HasProcessor, Table, changed_at, cluster_at}
 use Rattle.cluster_table.proofs.RowLaws.{at-changed, at-changed_other}

@@ -17,18 +17,18 @@ use Rattle.rt_model.specs.Tops.{eligible, is_admitted, is_served as is_served_by
 use Rattle.rt_model.proofs.Steps.{links-step}
 use Rattle.rt_model.proofs.TopLaws.{distinct-tasks_of}
 use Rattle.rt_laws.proofs.GroupLaws.{tasks_of-home}
-use Rattle.rt_groups.specs.Places.{IsHomeTask}
+use Rattle.rt_plays.specs.Places.{IsHomeTask}
 use Rattle.ready_queue.specs.Queue.{first_tasks}
 use Rattle.ready_queue.specs.ReadySet.{HoldsJust, kept_key, set_refreshed}
 use Rattle.ready_queue.specs.Refreshed.{AgreeBut}
 use Rattle.ready_queue.proofs.ReadySets.{set_is_refreshed}
-use Rattle.rank_changes.specs.ClusterMoves.{of_cluster}
-use Rattle.rank_changes.specs.Clusters.{HoldsEligible}
-use Rattle.group_facts.specs.Kept.{IsKept, Kept, job_of}
-use Rattle.group_facts.specs.Timers.{TimersAreKept, renewed, timer_at}
-use Rattle.group_facts.specs.Ways.{AreWays}
-use Rattle.group_facts.specs.Words.{is_ready}
-use Rattle.group_facts.proofs.TimerMoves.{timer_is_read}
+use Rattle.rt_changes.specs.ClusterMoves.{of_cluster}
+use Rattle.rt_changes.specs.Clusters.{HoldsEligible}
+use Rattle.group_jobs.specs.Kept.{IsKept, Kept, job_of}
+use Rattle.group_jobs.specs.Timers.{TimersAreKept, renewed, timer_at}
+use Rattle.group_jobs.specs.Ways.{AreWays}
+use Rattle.group_jobs.specs.Words.{is_ready}
+use Rattle.group_jobs.proofs.TimerMoves.{timer_is_read}
 use Rattle.group_jobs.specs.GroupJobs.{task_in}
 use Rattle.cluster_table.specs.Clusters.{KeptCluster, relinked}
 use Rattle.cluster_table.specs.Table.{HasTask, Table, cluster_at}
@@ -41,10 +41,10 @@ use Rattle.group_resvs.specs.Kept.{KeepsResvs}
 use Rattle.group_resvs.specs.Laws.{AreToldOf}
 use Rattle.group_resvs.proofs.KeptLaws.{resvs_are_read}
 use Rattle.resv_core.specs.Served.{Served, charged}
-use Rattle.resv_laws.specs.Kept.{ready_release}
-use Rattle.resv_laws.specs.Serving as serving
-use Rattle.resv_laws.specs.Serving.{all_begun, for_task}
-use Rattle.resv_laws.proofs.ServingLaws.{for_task-keeps}
+use Rattle.resv_core.specs.Kept.{ready_release}
+use Rattle.resv_core.specs.Serving as serving
+use Rattle.resv_core.specs.Serving.{all_begun, for_task}
+use Rattle.resv_core.proofs.ServingLaws.{for_task-keeps}
 use Rattle.group_core.proofs.Words.{at_home}
 use Rattle.group_core.specs.Facts.{Facts, WithRoom, told_all}
 use Rattle.group_core.specs.Reads.{admits_in, key_in, timer_in}
@@ -57,9 +57,9 @@ use Rattle.group_engine.specs.Keys.{HoldsKeys}
 use Rattle.group_engine.specs.Ending.{HasClusterEnding, HaveEnded, HoldsStanding, IsEnding, stands}
 use Rattle.group_engine.specs.Moments.{IsPlayed}
 use Rattle.group_engine.specs.State.{AreHomes, HasClusterAt, IsAt, IsFitAt, acts_left}
-use Rattle.group_engine.specs.Touching.{CanOfferAll, all_brought_up, all_offered, placed_all}
+use Rattle.group_engine.specs.inside.Touching.{CanRequeueAll, all_updated, all_requeued, placed_all}
 use Rattle.group_engine.proofs.Bounding.{at-home-in, has-base, task-of}
-use Rattle.group_engine.proofs.Bringing.{OnlyClusters, cluster-brought, cluster-offered, core-brought, homes-brought, key_where, keys-refreshed, others-offered, renewed-same, timers-brought}
+use Rattle.group_engine.proofs.UpdateLaws.{OnlyClusters, cluster-brought, cluster-requeued, core-brought, homes-brought, key_where, keys-refreshed, others-requeued, renewed-same, timers-brought}
 use Rattle.group_engine.proofs.Reading.{IsAlike, stands-ready}
 
 -- ---- the top of a cluster is the first of the tasks that its set holds
@@ -186,7 +186,7 @@ of_cluster-outside g c us t h k = by_case (has t us) refl
 
 module _ (g : Group) (played : IsPlayed g) (e : Event) (past : Past) (us : List ℕ) (s : GroupState) (between : IsBetween g e past us s) where
   abbrev brought_state : GroupState
-  brought_state = all_brought_up g.setup us s
+  brought_state = all_updated g.setup us s
 
   abbrev f : Facts
   f = s.core.facts
@@ -279,8 +279,8 @@ module _ (g : Group) (played : IsPlayed g) (past : Past) (s : GroupState) (endin
   ended-core = ending.core_ends z.facts kept sems settled
 
   -- what putting the changed clients where they stand rests on
-  pub can-offer : CanOfferAll g.setup settled_resvs.changed settled_state
-  can-offer t k =
+  pub can-requeue : CanRequeueAll g.setup settled_resvs.changed settled_state
+  can-requeue t k =
       let h : has t (tasks g) ≡ true = ended-core.changed.inside t k in
       let fit = ended-core.fit in
       let home_of : IsHomeTask g t = at_home g played.valid t h in
@@ -292,7 +292,7 @@ module _ (g : Group) (played : IsPlayed g) (past : Past) (s : GroupState) (endin
         at_home = at-home-in g played.valid t h s there;
       }
 
-  cluster-ended : (c : ℕ) → HasClusterEnding g c past ending.before s.clusters → HasClusterAt g c past (placed_all (all_offered g.setup settled_resvs.changed settled_state)).clusters
+  cluster-ended : (c : ℕ) → HasClusterEnding g c past ending.before s.clusters → HasClusterAt g c past (placed_all (all_requeued g.setup settled_resvs.changed settled_state)).clusters
   cluster-ended c was =
       let k : KeptCluster = was.cluster in
       let key : ℕ → Key = λ u. effective_key g u past in
@@ -302,7 +302,7 @@ module _ (g : Group) (played : IsPlayed g) (past : Past) (s : GroupState) (endin
       (λ u h. let m : has u (tasks g) ≡ true = ended-core.changed.inside u h in
       (m, key-kept g past z.facts ended-core.at.reachable ended-core.at.kept ended-core.at.sems_are ended-core.at.ways_are played (is_served settled_resvs) u m)) in
       let next : KeptCluster = record k { keys = keys } in
-      let offered_row : cluster_at (all_offered g.setup settled_resvs.changed settled_state).clusters c ≡ Some next = cluster-offered g.setup settled_resvs.changed settled_state c k was.there ∙ ap (λ ks. let x : KeptCluster = record k { keys = ks } in Some x) keys_same in
+      let requeued_row : cluster_at (all_requeued g.setup settled_resvs.changed settled_state).clusters c ≡ Some next = cluster-requeued g.setup settled_resvs.changed settled_state c k was.there ∙ ap (λ ks. let x : KeptCluster = record k { keys = ks } in Some x) keys_same in
       let agree : AgreeBut (of_cluster g c settled_resvs.changed) (tasks_of g c) key key (λ u. stands g u past && is_served ending.before u) test = record {
         inside = of_cluster-inside g c settled_resvs.changed;
         tests = λ t h m. ap (λ b. stands g t past && b) (sym (ended-core.changed.others t (tasks_of-home g c t h).0 (of_cluster-outside g c settled_resvs.changed t h m)));
@@ -312,7 +312,7 @@ module _ (g : Group) (played : IsPlayed g) (past : Past) (s : GroupState) (endin
       let holds : HoldsEligible g c past keys = holds-same (tasks_of g c) key test (λ u. eligible g u past) keys (λ t h. sym (eligible-served g played past settled_resvs ended-core.at.resvs_are t (tasks_of-home g c t h).0)) stand in
       record {
         cluster = relinked next;
-        there = at-relinked (all_offered g.setup settled_resvs.changed settled_state).clusters c ∙ ap (option_map relinked) offered_row;
+        there = at-relinked (all_requeued g.setup settled_resvs.changed settled_state).clusters c ∙ ap (option_map relinked) requeued_row;
         is_at = record {
           cpus_are = was.is_ending.cpus_are;
           first_is = was.is_ending.first_is;
@@ -326,9 +326,9 @@ module _ (g : Group) (played : IsPlayed g) (past : Past) (s : GroupState) (endin
       }
 
   -- once the changed clients are where they stand, and the links placed
-  pub ended : IsAt g past (placed_all (all_offered g.setup settled_resvs.changed settled_state))
+  pub ended : IsAt g past (placed_all (all_requeued g.setup settled_resvs.changed settled_state))
   ended =
-      let only : OnlyClusters settled_state (all_offered g.setup settled_resvs.changed settled_state) = others-offered g.setup settled_resvs.changed settled_state in
+      let only : OnlyClusters settled_state (all_requeued g.setup settled_resvs.changed settled_state) = others-requeued g.setup settled_resvs.changed settled_state in
       record {
         few = ending.few;
         core_at = rw only.core_same ended-core.at;

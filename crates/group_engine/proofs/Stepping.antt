@@ -1,7 +1,8 @@
 -- One step of the engine: what its moves rest on, and that what is kept stays sound.
-use Rattle.std.proofs.Common.{◌≡◌, ℕ, ◌+◌, ◌<◌, ◌≤◌, List, [], ◌∷◌, ◌++◌, length, refl, sym, ◌∙◌, subst, arith, length-append}
+use Rattle.std.proofs.Common.{◌≡◌, ℕ, ◌+◌, ◌-◌, ◌<◌, ◌≤◌, Bool, List, [], ◌∷◌, ◌++◌, length, refl, sym, ap, ◌∙◌, subst, arith, length-append}
 use Rattle.std.proofs.lemmas.List.Elements.{All-push}
-use Rattle.std.specs.Prelude.{None}
+use Rattle.std.specs.Prelude.{None, Option}
+use Rattle.rt_base.specs.declared.TaskNo.{TaskNo}
 use Rattle.rt_base.specs.declared.TheConstants.{MOST_STEPS}
 use Rattle.rt_task.specs.declared.Parts.{Parts}
 use Rattle.rt_task.specs.declared.Step.{Step}
@@ -13,14 +14,17 @@ use Rattle.rt_model.specs.Past.{Clock, Past, entries_in}
 use Rattle.rt_model.specs.Steps.{IsStepOf}
 use Rattle.rt_model.proofs.Steps.{IsLegal-append, after-acted, past_of-append, reply_to-lem}
 use Rattle.rt_plays.specs.Homes.{IsProcessorOf}
-use Rattle.rt_groups.specs.Groups.{GroupHistory, IsGroupOf, group_of}
-use Rattle.rt_groups.specs.Endings.{ended_last}
+use Rattle.rt_plays.specs.Groups.{GroupHistory, IsGroupOf, group_of}
+use Rattle.rt_plays.specs.Endings.{ended_last}
+use Rattle.cluster_table.specs.Marks.{Marks}
 use Rattle.group_core.specs.declared.looks.Answer.{Answer}
 use Rattle.group_engine.specs.declared.state.GroupState.{GroupState}
 use Rattle.group_engine.specs.Moments.{CanActOn, CanMove, HasActed, IsPlayed}
-use Rattle.group_core.specs.Words.{Moment}
-use Rattle.group_engine.specs.Sound.{Extent, IsMoved, IsSound}
+use Rattle.group_core.specs.Words.{GroupAt}
+use Rattle.group_engine.specs.Links.{StayLinked}
+use Rattle.group_engine.specs.Sound.{Extent, IsEngine, IsMoved, IsSound}
 use Rattle.group_engine.specs.State.{IsAt}
+use Rattle.group_engine.proofs.LinksKept.{marked-entry, stay-both}
 
 pub entries_in-from : (g : Group) (es : List Entry) (past : Past) → entries_in (past_from g past es) ≡ length es + entries_in past
 unfolding past_from after
@@ -60,33 +64,42 @@ ended-first g = refl
 pub at_home : (h h' : GroupHistory) (q : ℕ) → h ≡ h' → IsProcessorOf (group_of h') q → IsProcessorOf (group_of h) q
 at_home h h' q same there = subst (λ (x : GroupHistory). IsProcessorOf (group_of x) q) (sym same) there
 
-pub of_group : (h h' : GroupHistory) (step : Step) → h ≡ h' → IsStepOf (group_of h') step → IsStepOf (group_of h) step
-of_group h h' step same of = subst (λ (x : GroupHistory). IsStepOf (group_of x) step) (sym same) of
-
 module _ (g : Group) (es : List Entry) (room capacity : ℕ) (state : GroupState) (sound : IsSound g es room capacity state) where
-  abbrev pub moment : Moment
+  abbrev pub moment : GroupAt
   moment = record { group = g; past = past_of g es }
 
-  pub can_move : (parts : Parts) (step : Step) → parts ≡ g.setup → IsStepOf g step → CanMove moment step.tick.0 parts state
-  can_move parts step same of = record { played = sound.played; kept = sound.kept; parts_are = same; tick_low = of.tick }
+-- a step of the group that contracts see
+module _ (h h' : GroupHistory) (same : h ≡ h') (room capacity : ℕ) (state : GroupState) (sound : IsSound (group_of h) h.entries room capacity state)
+    (step : Step) (of' : IsStepOf (group_of h') step) (parts : Parts) (parts_are : parts ≡ h.setup) where
+  of : IsStepOf (group_of h) step
+  of = subst (λ (x : GroupHistory). IsStepOf (group_of x) step) (sym same) of'
+
+  abbrev here : GroupAt
+  here = moment (group_of h) h.entries room capacity state sound
+
+  may_move : CanMove here step.tick.0 parts state
+  may_move = record { played = sound.played; kept = sound.kept; parts_are = parts_are; tick_low = of.tick }
+
+  pub can_move : (at : GroupAt) × CanMove at step.tick.0 parts state
+  can_move = (here, may_move)
 
   -- the clock has moved
-  pub has_moved : (step : Step) (parts : Parts) (moved : GroupState) → IsStepOf g step → parts ≡ g.setup → length es < room
-      → IsAt g (Clock step.tick.0 ∷ past_of g es) moved → moved.core.room ≡ state.core.room
-      → IsMoved (record { group = g; room = room }) step parts es capacity moved
-  has_moved step parts moved of same spare kept arrivals = record {
+  pub has_moved : (moved : GroupState) → h.spare ≡ room - length h.entries → 0 < h'.spare
+      → ((at : GroupAt) → CanMove at step.tick.0 parts state → IsAt at.group (Clock step.tick.0 ∷ at.past) moved) → moved.core.room ≡ state.core.room
+      → IsMoved (record { group = group_of h; room = room }) step parts h.entries capacity moved
+  has_moved moved spare more moves arrivals = record {
     before = state;
     sound = sound;
-    parts_are = same;
+    parts_are = parts_are;
     step_is_of = of;
-    spare = spare;
-    kept = kept;
+    spare = (let shown = ap (λ (x : GroupHistory). x.spare) same in omega arith);
+    kept = moves here may_move;
     arrivals = arrivals;
   }
 
 -- the act after that
 module _ (at : Extent) (step : Step) (parts : Parts) (es : List Entry) (capacity : ℕ) (moved : GroupState) (m : IsMoved at step parts es capacity moved) where
-  abbrev pub at_tick : Moment
+  abbrev pub at_tick : GroupAt
   at_tick = record { group = at.group; past = Clock step.tick.0 ∷ past_of at.group es }
 
   pub can_act : CanActOn at_tick step.cpu.0 step.act parts moved
@@ -127,3 +140,15 @@ module _ (at : Extent) (step : Step) (parts : Parts) (es : List Entry) (capacity
   pub ended-is : (told : Answer) (s : GroupState) → HasActed at_tick step.cpu.0 step.act told s
       → told.ended ≡ ended_last at.group (past_of at.group (es ++ record { step = step; reply = told.reply } ∷ []))
   ended-is told s acted = rw (past_of-append, after-acted) acted.ended_is
+
+-- the engine once the act is answered and its entry added
+pub stepped : {at : Extent} {step : Step} {parts : Parts} {es es' : List Entry} {capacity capacity' : ℕ} {s moved s' : GroupState} {ended : Option (TaskNo × Bool)} (e : Entry) (a b c : Marks)
+    → IsMoved at step parts es capacity moved → IsSound at.group es at.room capacity s
+    → ((to : Extent) → IsMoved to step parts es capacity moved → IsSound to.group es' to.room capacity' s')
+    → ((to : Extent) → IsMoved to step parts es capacity moved → ended ≡ ended_last to.group (past_of to.group es'))
+    → es' ≡ es ++ e ∷ [] → StayLinked a b s moved → StayLinked b c moved s' → IsEngine at.group es' at.room capacity' s' ended c
+stepped {at} {es = es} {s = s} {moved} {s'} e a b c m was sound ended entry first second = record {
+  sound = sound at m;
+  ended_is = ended at m;
+  placed_are = rw entry (marked-entry at.group es e s s' a c was.kept (rw entry at (sound at m).kept) (stay-both a b c s moved s' first second));
+}

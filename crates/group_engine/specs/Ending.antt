@@ -12,7 +12,7 @@ use Rattle.rt_model.specs.Past.{Past, entries_in}
 use Rattle.rt_model.specs.Releases.{ready}
 use Rattle.rt_model.specs.Tops.{is_admitted, top}
 use Rattle.ready_queue.specs.ReadySet.{HoldsJust}
-use Rattle.group_facts.specs.Timers.{TimersAreKept}
+use Rattle.group_jobs.specs.Timers.{TimersAreKept}
 use Rattle.cluster_table.specs.Clusters.{KeptCluster}
 use Rattle.cluster_table.specs.Table.{Table, cluster_at}
 use Rattle.group_resvs.specs.GroupResvs.{GroupResvs, IsSettled, is_served}

@@ -9,8 +9,8 @@ use Rattle.rt_model.specs.Group.{Group}
 use Rattle.rt_model.specs.Histories.{IsLegal, past_of}
 use Rattle.rt_model.specs.Past.{Clock}
 use Rattle.rt_model.specs.Steps.{IsStepOf}
-use Rattle.rt_groups.specs.Endings.{ended_last}
-use Rattle.rt_groups.specs.Groups.{AreStepsOf}
+use Rattle.rt_plays.specs.Endings.{ended_last}
+use Rattle.rt_plays.specs.Groups.{AreStepsOf}
 use Rattle.group_engine.specs.declared.state.GroupState.{GroupState}
 use Rattle.cluster_table.specs.Marks.{Marks}
 use Rattle.group_engine.specs.Links.{AreMarked}

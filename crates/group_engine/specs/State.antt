@@ -6,8 +6,8 @@ use Rattle.rt_model.specs.Group.{Group, cluster_with, clusters, cpus, first_cpu}
 use Rattle.rt_model.specs.Links.{links, runs_of}
 use Rattle.rt_model.specs.Past.{Past, entries_in}
 use Rattle.rt_plays.specs.Homes.{IsProcessorOf}
-use Rattle.rank_changes.specs.Clusters.{HoldsEligible}
-use Rattle.group_facts.specs.Timers.{TimersAreKept}
+use Rattle.rt_changes.specs.Clusters.{HoldsEligible}
+use Rattle.group_jobs.specs.Timers.{TimersAreKept}
 use Rattle.cluster_table.specs.Clusters.{KeptCluster}
 use Rattle.cluster_table.specs.Table.{Table, cluster_at}
 use Rattle.group_core.specs.Facts.{Facts}

@@ -10,7 +10,7 @@ ghost use Rattle.rt_model.specs.Links.{linked};
 ghost use Rattle.rt_model.specs.Situations.{situation};
 ghost use Rattle.rt_model.specs.Histories.{past_of, reply_to};
 ghost use Rattle.rt_model.specs.Holders.{holder};
-ghost use Rattle.count_laws.specs.Tallies.{waiter_tasks};
+ghost use Rattle.rt_changes.specs.Tallies.{waiter_tasks};
 ghost use Rattle.group_core.specs.Words.{AreWaitersAt};
 ghost use Rattle.group_engine.specs.Keys.{HoldsKeys};
 ghost use Rattle.group_engine.specs.Links.{StayLinked};
@@ -19,11 +19,11 @@ ghost use Rattle.group_engine.specs.Sound.{Extent, IsMoved, IsSound};
 ghost use Rattle.rt_rules.specs.declared.history.Entry.{Entry};
 ghost use Rattle.rt_model.specs.Steps.{IsStepOf};
 ghost use Rattle.rt_plays.specs.Homes.{IsProcessorOf};
-ghost use Rattle.rank_changes.specs.Clusters.{HoldsEligible};
-ghost use Rattle.resv_laws.specs.Tables.{FollowsTables};
+ghost use Rattle.rt_changes.specs.Clusters.{HoldsEligible};
+ghost use Rattle.resv_core.specs.Tables.{FollowsTables};
 ghost use Rattle.rt_laws.specs.StackPolicy.{FollowsStack};
-ghost use Rattle.rt_groups.specs.Groups.{GroupHistory, group_of, past, with_entry, AreStepsOf, IsGroupOf, IsLegalNow};
-ghost use Rattle.rt_groups.specs.Endings.{ended_last};
+ghost use Rattle.rt_plays.specs.Groups.{GroupHistory, group_of, past, with_entry, AreStepsOf, IsGroupOf, IsLegalNow};
+ghost use Rattle.rt_plays.specs.Endings.{ended_last};
 
 use crate::state::GroupState;
 use cluster_table::PlacedMarks;
@@ -53,7 +53,7 @@ pub struct Engine {
 
 impl Model for Engine {
     ghost use Rattle.std.specs.Prelude.{◌-◌, vec_len, vec_capacity};
-    ghost use Rattle.rt_groups.specs.Groups.{GroupHistory};
+    ghost use Rattle.rt_plays.specs.Groups.{GroupHistory};
     ghost use Rattle.group_engine.specs.Sound.{IsEngine};
 
     ghost Value = { GroupHistory };
@@ -199,15 +199,15 @@ impl Engine {
         let parts = self.setup.parts();
         self.placed.clear();
         self.state.move_clock(parts, step.tick, &mut self.placed);
-        let settled = settle(
+        let answer = take_act(
             parts,
             &mut self.state,
             &mut self.entries,
             &mut self.placed,
             step,
         );
-        self.ended = settled.ended;
-        settled.reply
+        self.ended = answer.ended;
+        answer.reply
     }
 
     /// Takes a step, as `step` does, and lists the tasks that wait for the semaphore that it frees, each with whether it is
@@ -228,22 +228,23 @@ impl Engine {
         let parts = self.setup.parts();
         self.placed.clear();
         self.state.move_clock(parts, step.tick, &mut self.placed);
+        // Between the two moves: they wait as the semaphore is freed, before it is granted to one of them.
         self.state.list_waiting(parts, step.cpu, step.act, list);
-        let settled = settle(
+        let answer = take_act(
             parts,
             &mut self.state,
             &mut self.entries,
             &mut self.placed,
             step,
         );
-        self.ended = settled.ended;
-        settled.reply
+        self.ended = answer.ended;
+        answer.reply
     }
 }
 
 /// Answers the act of a step, to whose tick the clock has moved, and adds the entry. The clusters in which links are placed
 /// anew are marked.
-fn settle(
+fn take_act(
     parts: &Parts,
     state: &mut GroupState,
     entries: &mut Vec<Entry>,

@@ -14,18 +14,18 @@ ghost use Rattle.rt_model.specs.Runs.{runs};
 ghost use Rattle.rt_model.specs.Situations.{situation};
 ghost use Rattle.rt_plays.specs.Homes.{IsProcessorOf};
 ghost use Rattle.rt_plays.specs.Plays.{group_with};
-ghost use Rattle.rt_groups.specs.Groups.{IsGroupOf};
-ghost use Rattle.rank_changes.specs.Clusters.{HoldsEligible};
-ghost use Rattle.count_laws.specs.Tallies.{waiter_tasks};
-ghost use Rattle.group_core.specs.Words.{AreWaitersAt, Moment};
-ghost use Rattle.group_facts.specs.Timers.{AreDue};
+ghost use Rattle.rt_plays.specs.Groups.{IsGroupOf};
+ghost use Rattle.rt_changes.specs.Clusters.{HoldsEligible};
+ghost use Rattle.rt_changes.specs.Tallies.{waiter_tasks};
+ghost use Rattle.group_core.specs.Words.{AreWaitersAt, GroupAt};
+ghost use Rattle.group_jobs.specs.Timers.{AreDue};
 ghost use Rattle.group_core.specs.Facts.{tasks_of_some};
 ghost use Rattle.group_core.specs.Looked.{looked, named};
 ghost use Rattle.group_engine.specs.Links.{StayLinked};
 ghost use Rattle.group_engine.specs.Moments.{CanActOn, CanEnd, CanLend, CanLook, CanMove, CanTell, HasActed, IsDeclared, IsPlayed};
 ghost use Rattle.group_engine.specs.State.{IsAt};
-ghost use Rattle.group_engine.specs.Touching.{AreArmedOnly, AreNumbered, CanBringUp, CanBringUpAll, CanFollow, CanOffer, CanOfferAll};
-ghost use Rattle.group_engine.specs.Touching.{all_brought_up, all_offered, armed, brought_up, followed, key_now, offered};
+ghost use Rattle.group_engine.specs.inside.Touching.{AreArmedOnly, AreNumbered, CanUpdate, CanUpdateAll, CanUpdateRun, CanRequeue, CanRequeueAll};
+ghost use Rattle.group_engine.specs.inside.Touching.{all_updated, all_requeued, armed, updated, with_run, key_now, requeued};
 
 use cluster_table::{ClusterTable, PlacedMarks};
 use group_core::{Answer, GroupCore, Looks, WaitingList};
@@ -66,23 +66,23 @@ impl GroupState {
             timers: ReleaseQueue::new(alloc, count + 1)?,
             clusters: ClusterTable::open(alloc, parts.clusters.as_slice(), group, count + 1)?,
         };
-        state.bring_up_group(parts, group);
+        state.update_group(parts, group);
         state.end_move(parts, &mut PlacedMarks::new(alloc, 0)?);
         Ok(state)
     }
 
     /// Looks at all tasks of the group.
-    fn bring_up_group(&mut self, parts: &Parts, group: GroupNo)
+    fn update_group(&mut self, parts: &Parts, group: GroupNo)
         requires within { All (λ (t : Task). t.cluster.0 < length parts.now.clusters)
             parts.now.tasks }
         requires can { AreNumbered parts.now (tasks (group_with parts.now group.0)) self.old }
         ensures { self.new
-            ≡ all_brought_up parts.now (tasks (group_with parts.now group.0)) self.old }
+            ≡ all_updated parts.now (tasks (group_with parts.now group.0)) self.old }
     {
         for task in parts.tasks.as_slice() {
             let home = task.cluster.0 as usize;
             if parts.clusters.as_slice()[home].group.0 == group.0 {
-                self.bring_up(parts, task.number);
+                self.update(parts, task.number);
             }
         }
     }
@@ -90,7 +90,7 @@ impl GroupState {
     /// The cluster of the processor.
     pub(crate) fn home(&self, cpu: CpuNo) -> ClusterNo
         requires { CanLook cpu.0 self.now }
-        ensures { (at : Moment) → IsAt at.group at.past self.now → IsProcessorOf at.group cpu.0
+        ensures { (at : GroupAt) → IsAt at.group at.past self.now → IsProcessorOf at.group cpu.0
             → result.0 ≡ cluster_with at.group cpu.0 }
     {
         self.clusters.home(cpu)
@@ -99,7 +99,7 @@ impl GroupState {
     /// The task that the processor is linked to, `None` where there is none.
     pub(crate) fn linked(&self, cpu: CpuNo) -> Option<TaskNo>
         requires { CanLook cpu.0 self.now }
-        ensures { (at : Moment) → IsAt at.group at.past self.now → IsProcessorOf at.group cpu.0
+        ensures { (at : GroupAt) → IsAt at.group at.past self.now → IsProcessorOf at.group cpu.0
             → number_of_task result ≡ linked at.group cpu.0 at.past }
     {
         let home = self.clusters.home(cpu);
@@ -109,7 +109,7 @@ impl GroupState {
     /// What the processor runs.
     pub(crate) fn runs(&self, cpu: CpuNo) -> Option<TaskNo>
         requires { CanLook cpu.0 self.now }
-        ensures { (at : Moment) → IsAt at.group at.past self.now → IsProcessorOf at.group cpu.0
+        ensures { (at : GroupAt) → IsAt at.group at.past self.now → IsProcessorOf at.group cpu.0
             → number_of_task result ≡ runs cpu.0 at.past }
     {
         self.core.runs(cpu)
@@ -118,7 +118,7 @@ impl GroupState {
     /// What the processor's next act depends on.
     pub(crate) fn situation(&self, cpu: CpuNo) -> Situation
         requires { CanTell cpu.0 self.now }
-        ensures { (at : Moment) → IsPlayed at.group → IsAt at.group at.past self.now
+        ensures { (at : GroupAt) → IsPlayed at.group → IsAt at.group at.past self.now
             → IsProcessorOf at.group cpu.0 → result ≡ situation at.group cpu.0 at.past }
     {
         let link = self.linked(cpu);
@@ -128,7 +128,7 @@ impl GroupState {
     /// The heap of a cluster's eligible tasks.
     pub(crate) fn ready(&self, cluster: ClusterNo) -> &ReadyHeap<ByKey>
         requires { CanLend cluster.0 self.now }
-        ensures { (at : Moment) → IsAt at.group at.past self.now
+        ensures { (at : GroupAt) → IsAt at.group at.past self.now
             → has cluster.0 (clusters at.group) ≡ true
             → HoldsEligible at.group cluster.0 at.past result.now.keys }
     {
@@ -140,7 +140,7 @@ impl GroupState {
 
     /// The task that holds the semaphore, which a task of the group declares.
     pub(crate) fn holder(&self, sem: SemNo) -> Option<TaskNo>
-        ensures { (at : Moment) → IsPlayed at.group → IsAt at.group at.past self.now
+        ensures { (at : GroupAt) → IsPlayed at.group → IsAt at.group at.past self.now
             → IsDeclared at.group sem.0 → number_of_task result ≡ holder at.group sem.0 at.past }
     {
         self.core.holder(sem)
@@ -155,7 +155,7 @@ impl GroupState {
 
     /// The key of the task's job, where that is eligible.
     fn key(&self, parts: &Parts, task: TaskNo) -> Option<Key>
-        requires { CanOffer parts.now task.0 self.now }
+        requires { CanRequeue parts.now task.0 self.now }
         ensures { result ≡ key_now parts.now self.now.core.facts task.0 }
     {
         if self.core.is_eligible(parts, task) {
@@ -166,8 +166,8 @@ impl GroupState {
     }
 
     /// Arms the task's timer for the moment that its job waits for, if any, and for no other.
-    fn arm_anew(&mut self, parts: &Parts, task: TaskNo)
-        requires { CanBringUp parts.now task.0 self.old }
+    fn rearm_timer(&mut self, parts: &Parts, task: TaskNo)
+        requires { CanUpdate parts.now task.0 self.old }
         ensures { self.new ≡ armed parts.now task.0 self.old }
     {
         self.timers.cancel(task);
@@ -177,9 +177,9 @@ impl GroupState {
     }
 
     /// Puts the task where it stands among those of its cluster: with its key where its job is eligible, and else out.
-    fn offer(&mut self, parts: &Parts, task: TaskNo)
-        requires { CanOffer parts.now task.0 self.old }
-        ensures { self.new ≡ offered parts.now task.0 self.old }
+    fn requeue(&mut self, parts: &Parts, task: TaskNo)
+        requires { CanRequeue parts.now task.0 self.old }
+        ensures { self.new ≡ requeued parts.now task.0 self.old }
     {
         let key = self.key(parts, task);
         let home = parts.tasks.as_slice()[task.0 as usize - 1].cluster;
@@ -187,56 +187,59 @@ impl GroupState {
     }
 
     /// Arms the task's timer anew, looks at whether its job is eligible, and at its key, and tells its reservation.
-    fn bring_up(&mut self, parts: &Parts, task: TaskNo)
-        requires { CanBringUp parts.now task.0 self.old }
-        ensures { self.new ≡ brought_up parts.now task.0 self.old }
+    fn update(&mut self, parts: &Parts, task: TaskNo)
+        requires { CanUpdate parts.now task.0 self.old }
+        ensures { self.new ≡ updated parts.now task.0 self.old }
     {
-        self.offer(parts, task);
-        self.arm_anew(parts, task);
+        // The reservation is told last: `end_move` settles it, and requeues whom that serves.
+        self.requeue(parts, task);
+        self.rearm_timer(parts, task);
         self.core.tell(parts, task);
     }
 
     /// Puts the tasks that the end of the move made or unmade served clients of their reservations where they stand.
-    fn offer_changed(&mut self, parts: &Parts)
-        requires { CanOfferAll parts.now self.old.core.facts.resvs.changed self.old }
-        ensures { self.new ≡ all_offered parts.now self.old.core.facts.resvs.changed self.old }
+    fn requeue_changed(&mut self, parts: &Parts)
+        requires { CanRequeueAll parts.now self.old.core.facts.resvs.changed self.old }
+        ensures { self.new ≡ all_requeued parts.now self.old.core.facts.resvs.changed self.old }
     {
         for i in 0..self.core.changed().len() {
             let task = self.core.changed()[i];
-            self.offer(parts, task);
+            self.requeue(parts, task);
         }
     }
 
     /// Ends a move, or the opening: the reservations are settled, and the links follow. The clusters in which links are placed
     /// anew are marked.
     fn end_move(&mut self, parts: &Parts, placed: &mut PlacedMarks)
-        requires { (at : Moment) × CanEnd at parts.now self.old }
-        ensures at { (at : Moment) → CanEnd at parts.now self.old → IsAt at.group at.past self.new }
+        requires { (at : GroupAt) × CanEnd at parts.now self.old }
+        ensures at { (at : GroupAt) → CanEnd at parts.now self.old → IsAt at.group at.past self.new }
         ensures links { StayLinked placed.old placed.new self.old self.new }
         ensures room { self.new.core.room ≡ self.old.core.room }
     {
+        // The links come last: who is served says who is ranked, and who is ranked says who is linked.
         self.core.settle();
-        self.offer_changed(parts);
+        self.requeue_changed(parts);
         self.clusters.place_changed(placed);
     }
 
     /// Looks at each task whose moment has come, the earliest first.
-    fn bring_up_due(&mut self, parts: &Parts)
-        requires { (ts : List ℕ) × CanBringUpAll parts.now ts self.old × AreArmedOnly ts self.old }
+    fn update_due(&mut self, parts: &Parts)
+        requires { (ts : List ℕ) × CanUpdateAll parts.now ts self.old × AreArmedOnly ts self.old }
         ensures { (us : List ℕ) × AreDue self.old.core.facts.kept.clock self.old.timers us
-            × (self.new ≡ all_brought_up parts.now us self.old) }
+            × (self.new ≡ all_updated parts.now us self.old) }
     {
         let clock = Tick(self.core.clock());
         while let Some(task) = self.timers.next_due(clock) {
-            self.bring_up(parts, task);
+            // It is armed for a later moment or for none, so that each task comes once.
+            self.update(parts, task);
         }
     }
 
     /// Lists the tasks that wait for the semaphore that the act of the processor frees, once the clock has moved.
     pub(crate) fn list_waiting(&self, parts: &Parts, cpu: CpuNo, act: Act, list: &mut WaitingList)
-        requires at { (at : Moment) × CanActOn at cpu.0 act parts.now self.now }
+        requires at { (at : GroupAt) × CanActOn at cpu.0 act parts.now self.now }
         requires room { length parts.now.tasks ≤ list.old.room }
-        ensures waiting { (at : Moment) → CanActOn at cpu.0 act parts.now self.now
+        ensures waiting { (at : GroupAt) → CanActOn at cpu.0 act parts.now self.now
             → AreWaitersAt at cpu.0 act list.new.waiting }
         ensures once { IsDistinct (waiter_tasks list.new.waiting) }
         ensures room_is { list.new.room ≡ list.old.room }
@@ -247,70 +250,70 @@ impl GroupState {
     /// Moves the clock to the tick, if that is later: the tasks whose moment has come are looked at, and the links
     /// follow. The clusters in which links are placed anew are marked.
     pub(crate) fn move_clock(&mut self, parts: &Parts, tick: Tick, placed: &mut PlacedMarks)
-        requires { (at : Moment) × CanMove at tick.0 parts.now self.old }
-        ensures moved { (at : Moment) → CanMove at tick.0 parts.now self.old
+        requires { (at : GroupAt) × CanMove at tick.0 parts.now self.old }
+        ensures moved { (at : GroupAt) → CanMove at tick.0 parts.now self.old
             → IsAt at.group (Clock tick.0 ∷ at.past) self.new }
         ensures links { StayLinked placed.old placed.new self.old self.new }
         ensures room { self.new.core.room ≡ self.old.core.room }
     {
         self.core.move_clock(tick);
-        self.bring_up_due(parts);
+        self.update_due(parts);
         self.end_move(parts, placed);
     }
 
     /// Looks at the task, if there is one.
-    fn bring_up_any(&mut self, parts: &Parts, task: Option<TaskNo>)
-        requires { CanBringUpAll parts.now (tasks_in (number_of_task task ∷ [])) self.old }
+    fn update_any(&mut self, parts: &Parts, task: Option<TaskNo>)
+        requires { CanUpdateAll parts.now (tasks_in (number_of_task task ∷ [])) self.old }
         ensures { self.new
-            ≡ all_brought_up parts.now (tasks_in (number_of_task task ∷ [])) self.old }
+            ≡ all_updated parts.now (tasks_in (number_of_task task ∷ [])) self.old }
     {
         if let Some(task) = task {
-            self.bring_up(parts, task);
+            self.update(parts, task);
         }
     }
 
     /// Looks at the tasks that an act has touched and named one by one.
-    fn bring_up_named(&mut self, parts: &Parts, looks: Looks)
-        requires { CanBringUpAll parts.now (named looks) self.old }
-        ensures { self.new ≡ all_brought_up parts.now (named looks) self.old }
+    fn update_named(&mut self, parts: &Parts, looks: Looks)
+        requires { CanUpdateAll parts.now (named looks) self.old }
+        ensures { self.new ≡ all_updated parts.now (named looks) self.old }
     {
-        self.bring_up_any(parts, looks.task);
-        self.bring_up_any(parts, looks.before);
-        self.bring_up_any(parts, looks.after);
-        self.bring_up_any(parts, looks.served);
+        self.update_any(parts, looks.task);
+        self.update_any(parts, looks.before);
+        self.update_any(parts, looks.after);
+        self.update_any(parts, looks.served);
     }
 
     /// Looks at all tasks of the cluster, if there is one.
-    fn bring_up_cluster(&mut self, parts: &Parts, cluster: Option<ClusterNo>)
+    fn update_cluster(&mut self, parts: &Parts, cluster: Option<ClusterNo>)
         requires { let c = option_map (λ (x : ids.ClusterNo). x.0) cluster in
             AreNumbered parts.now (tasks_of_some parts.now c) self.old }
         ensures { let c = option_map (λ (x : ids.ClusterNo). x.0) cluster in
-            self.new ≡ all_brought_up parts.now (tasks_of_some parts.now c) self.old }
+            self.new ≡ all_updated parts.now (tasks_of_some parts.now c) self.old }
     {
         let Some(home) = cluster else {
             return;
         };
         for task in parts.tasks.as_slice() {
             if task.cluster.0 == home.0 {
-                self.bring_up(parts, task.number);
+                self.update(parts, task.number);
             }
         }
     }
 
     /// Looks at the tasks that an act has touched.
-    fn bring_up_looked(&mut self, parts: &Parts, looks: Looks)
+    fn update_looked(&mut self, parts: &Parts, looks: Looks)
         requires { AreNumbered parts.now (looked parts.now looks) self.old }
-        ensures { self.new ≡ all_brought_up parts.now (looked parts.now looks) self.old }
+        ensures { self.new ≡ all_updated parts.now (looked parts.now looks) self.old }
     {
-        self.bring_up_named(parts, looks);
-        self.bring_up_cluster(parts, looks.cluster);
+        self.update_named(parts, looks);
+        self.update_cluster(parts, looks.cluster);
     }
 
     /// Writes down in its cluster what the processor runs after an act that was answered so: its link after an interrupt that
     /// is accepted, and nothing after an operation that leaves it with nothing to run.
-    fn follow_run(&mut self, cpu: CpuNo, act: Act, reply: Reply)
-        requires { CanFollow cpu.0 self.old }
-        ensures { self.new ≡ followed cpu.0 act reply self.old }
+    fn update_run(&mut self, cpu: CpuNo, act: Act, reply: Reply)
+        requires { CanUpdateRun cpu.0 self.old }
+        ensures { self.new ≡ with_run cpu.0 act reply self.old }
     {
         let home = self.clusters.home(cpu);
         match act {
@@ -336,17 +339,17 @@ impl GroupState {
         act: Act,
         placed: &mut PlacedMarks,
     ) -> Answer
-        requires at { (at : Moment) × CanActOn at cpu.0 act parts.now self.old }
+        requires at { (at : GroupAt) × CanActOn at cpu.0 act parts.now self.old }
         requires room { 0 < self.old.core.room }
-        ensures acted { (at : Moment) → CanActOn at cpu.0 act parts.now self.old
+        ensures acted { (at : GroupAt) → CanActOn at cpu.0 act parts.now self.old
             → HasActed at cpu.0 act result self.new }
         ensures links { StayLinked placed.old placed.new self.old self.new }
         ensures room { self.old.core.room ≤ self.new.core.room + 1 }
     {
         let link = self.linked(cpu);
         let answer = self.core.act(parts, cpu, link, act);
-        self.follow_run(cpu, act, answer.reply);
-        self.bring_up_looked(parts, answer.looks);
+        self.update_run(cpu, act, answer.reply);
+        self.update_looked(parts, answer.looks);
         self.end_move(parts, placed);
         answer
     }

@@ -1,7 +1,7 @@
 -- The facts of tasks as they are kept: counts in one list, the arrivals that wait in another.
 use Rattle.std.proofs.Common.{false, None, ◌≡◌, ℕ, zero, suc, ◌+◌, ◌-◌, ◌<◌, ◌≤◌, List, [], ◌∷◌, length, drop, map, replicate, get_or, set, refl, sym, ap, ◌∙◌, arith}
 use Rattle.arrival_queue.specs.Waiting.{queue_at}
-use Rattle.group_facts.specs.Facts.{JobFacts, idle_cpu, no_job}
+use Rattle.group_jobs.specs.Facts.{JobFacts, idle_cpu, no_job}
 use Rattle.group_jobs.specs.States.{cpu_seen, job_with, jobs_with}
 use Rattle.group_jobs.specs.declared.cpus.CpuState.{CpuState}
 use Rattle.group_jobs.specs.declared.states.TaskState.{TaskState}

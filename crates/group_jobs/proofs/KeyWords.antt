@@ -9,10 +9,10 @@ use Rattle.rt_model.specs.Group.{Group, resv, served_by, task}
 use Rattle.rt_plays.specs.Plays.{group_with}
 use Rattle.plugins.specs.ReservationKeys.{resv_number}
 use Rattle.plugins.proofs.PartitionedKeyLaws.{resv-number}
-use Rattle.group_facts.specs.Facts.{JobFacts}
-use Rattle.group_facts.specs.Words.{key_of, release_of}
+use Rattle.group_jobs.specs.Facts.{JobFacts}
+use Rattle.group_jobs.specs.Words.{key_of, release_of}
 use Rattle.group_jobs.specs.GroupJobs.{task_in}
-use Rattle.group_jobs.specs.Keys.{key_under, resv_prio}
+use Rattle.group_jobs.specs.inside.Keys.{key_under, resv_prio}
 
 resv-prio : (p : Parts) (t : ℕ) → resv_prio p.resvs (task_in p.tasks t) ≡ (resv (group_with p 0) (served_by (group_with p 0) t)).prio
 unfolding task resv served_by

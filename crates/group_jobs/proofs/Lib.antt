@@ -1,3 +1,15 @@
 pub mod JobLists
 pub mod ReleaseBounds
 pub mod KeyWords
+pub mod ReadWords
+pub mod FactLists
+pub mod JobSteps
+pub mod CpuSteps
+pub mod KeptMoves
+pub mod WayMoves
+pub mod ReadReplies
+pub mod TimerSets
+pub mod TimerMoves
+pub mod ReadSituations
+pub mod FactBounds
+pub mod DueSets

@@ -8,8 +8,8 @@ use Rattle.rt_task.specs.declared.Kind.TheVariants.{Periodic, Sporadic}
 use Rattle.rt_task.specs.declared.Task.{Task}
 use Rattle.rt_rules.specs.Numbers.{first, has}
 use Rattle.rt_rules.proofs.MemberLaws.{equal_self}
-use Rattle.group_facts.specs.Kept.{Kept, job_of}
-use Rattle.group_facts.specs.Words.{release_by_kind, release_of}
+use Rattle.group_jobs.specs.Kept.{Kept, job_of}
+use Rattle.group_jobs.specs.Words.{release_by_kind, release_of}
 use Rattle.group_jobs.specs.GroupJobs.{IsTaskOf, task_in}
 
 pub periodic-low : (phase done period : ℕ) → phase < TICK_END → period < TICK_END → done ≤ MOST_STEPS → phase + done * period < 2 ^ 62

@@ -8,11 +8,11 @@ use Rattle.rt_rules.specs.declared.history.Reply.{Reply}
 use Rattle.rt_rules.specs.declared.history.Reply.TheVariants as replies
 use Rattle.rt_model.specs.Group.{no_task}
 use Rattle.rt_model.specs.Past.{is_work}
-use Rattle.group_facts.specs.Bounds.{AreBounded}
-use Rattle.group_facts.specs.Facts.{CpuFacts}
-use Rattle.group_facts.specs.Kept.{Kept, cpu_of, job_of}
-use Rattle.group_facts.specs.Words.{is_ready, release_of}
-use Rattle.group_facts.specs.Replies.{np_off_reply, np_on_reply, work_reply}
+use Rattle.group_jobs.specs.Bounds.{AreBounded}
+use Rattle.group_jobs.specs.Facts.{CpuFacts}
+use Rattle.group_jobs.specs.Kept.{Kept, cpu_of, job_of}
+use Rattle.group_jobs.specs.Words.{is_ready, release_of}
+use Rattle.group_jobs.specs.Replies.{np_off_reply, np_on_reply, work_reply}
 
 -- what is kept, and room for how many more arrivals
 pub record GroupJobs : Type 0 where

@@ -1,3 +1,14 @@
-pub mod Keys
 pub mod States
 pub mod GroupJobs
+pub mod Facts
+pub mod Words
+pub mod Moves
+pub mod FactMoves
+pub mod Kept
+pub mod Ways
+pub mod Replies
+pub mod Timers
+pub mod Situations
+pub mod Bounds
+pub mod DueTasks
+pub mod inside

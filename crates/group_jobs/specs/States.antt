@@ -4,7 +4,7 @@ use Rattle.rt_base.specs.TaskNos.{number_of_task}
 use Rattle.rt_base.specs.declared.TheConstants.{TICK_END}
 use Rattle.rt_task.specs.declared.Op.{Op}
 use Rattle.rt_task.specs.declared.Op.TheVariants as ops
-use Rattle.group_facts.specs.Facts.{JobFacts, CpuFacts}
+use Rattle.group_jobs.specs.Facts.{JobFacts, CpuFacts}
 use Rattle.group_jobs.specs.declared.states.TaskState.{TaskState}
 use Rattle.group_jobs.specs.declared.cpus.CpuState.{CpuState}
 

@@ -1,7 +1,7 @@
 //! Base keys by the set's plugin.
 ghost use Rattle.std.specs.Prelude.{◌≡◌, ◌+◌, ◌^◌, ◌<◌};
 ghost use Rattle.plugins.specs.ReservationKeys as reservations;
-ghost use Rattle.group_jobs.specs.Keys as keys;
+ghost use Rattle.group_jobs.specs.inside.Keys as keys;
 
 use plugins::{CEdf, GsnEdf, PFp, PRes, PsnEdf};
 use rt_base::{ResvNo, Tick};

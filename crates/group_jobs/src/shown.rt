@@ -1,7 +1,7 @@
 //! What is shown of a task's current job.
 ghost use Rattle.std.specs.Prelude.{◌≡◌, ◌≤◌, length};
-ghost use Rattle.group_facts.specs.Kept.{job_of};
-ghost use Rattle.group_facts.specs.Words as words;
+ghost use Rattle.group_jobs.specs.Kept.{job_of};
+ghost use Rattle.group_jobs.specs.Words as words;
 
 use crate::GroupJobs;
 use rt_base::TaskNo;

@@ -2,8 +2,8 @@
 ghost use Rattle.std.specs.Prelude.{◌≡◌, ◌^◌, ◌<◌, ℕ, length};
 ghost use Rattle.rt_base.specs.TaskNos.{number_of_task};
 ghost use Rattle.rt_model.specs.Group.{Group};
-ghost use Rattle.group_facts.specs.Kept.{cpu_of};
-ghost use Rattle.group_facts.specs.Situations as kept;
+ghost use Rattle.group_jobs.specs.Kept.{cpu_of};
+ghost use Rattle.group_jobs.specs.Situations as kept;
 ghost use Rattle.group_jobs.specs.GroupJobs.{RunsTask};
 
 use crate::GroupJobs;

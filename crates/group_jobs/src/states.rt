@@ -1,8 +1,8 @@
 //! What is counted of a task.
 ghost use Rattle.std.specs.Prelude.{◌≡◌, ◌+◌, ◌^◌, ◌<◌, List, ℕ};
-ghost use Rattle.group_facts.specs.Facts.{JobFacts};
-ghost use Rattle.group_facts.specs.Moves.{is_end, job_ended, op_done};
-ghost use Rattle.group_facts.specs.Words.{is_used_up};
+ghost use Rattle.group_jobs.specs.Facts.{JobFacts};
+ghost use Rattle.group_jobs.specs.Moves.{is_end, job_ended, op_done};
+ghost use Rattle.group_jobs.specs.Words.{is_used_up};
 ghost use Rattle.rt_base.specs.declared.TheConstants.{TICK_END};
 ghost use Rattle.rt_rules.specs.Numbers.{rest};
 ghost use Rattle.group_jobs.specs.States.{job_with, HasRoom, SleepIsShort};

@@ -23,20 +23,20 @@ use Rattle.rt_model.specs.Releases.{ready}
 use Rattle.rt_model.specs.Reservations.{earlier, front, left}
 use Rattle.rt_model.specs.Tops as model
 use Rattle.rt_laws.proofs.Moves.{last_move}
-use Rattle.rt_laws.proofs.Running.{running}
+use Rattle.rt_laws.proofs.jobs.Running.{running}
 use Rattle.rt_laws.proofs.ValidSets.{rules_of}
-use Rattle.rt_groups.proofs.Unreserved.{no_resvs}
-use Rattle.rank_changes.specs.Served.{serves}
-use Rattle.rank_changes.proofs.ServedClients.{p_res-is, same-is}
+use Rattle.rt_plays.proofs.Unreserved.{no_resvs}
+use Rattle.rt_changes.specs.Served.{serves}
+use Rattle.rt_changes.proofs.rankings.ServedClients.{p_res-is, same-is}
 use Rattle.resv_core.specs.Served.{Served, ServerState, IsFront, IsResv, charged, has_ready, is_here, is_over, left_of, opened, refilled_at, server, server_for, server_here, server_of, settled, settled_by, ticked}
-use Rattle.resv_laws.specs.Kept.{IsShown, IsStateOf, ready_release, told_now}
-use Rattle.resv_laws.specs.Serving.{IsServing, all_begun, all_settled, at_server, charged_for, for_task, told_each}
-use Rattle.resv_laws.proofs.KeptLaws.{begun-releases}
+use Rattle.resv_core.specs.Kept.{IsShown, IsStateOf, ready_release, told_now}
+use Rattle.resv_core.specs.Serving.{IsServing, all_begun, all_settled, at_server, charged_for, for_task, told_each}
+use Rattle.resv_core.proofs.KeptLaws.{begun-releases}
 use Rattle.rt_task.specs.declared.Task.{Task}
-use Rattle.resv_laws.proofs.ServingLaws.{all-begun, all_moved_in_any_order, each-server, for_task-keeps, for_task-server, opened-clock, opened-server, resv-kept, work_may_be_charged}
-use Rattle.resv_laws.proofs.ShownLaws.{state_is_shown}
-use Rattle.resv_laws.proofs.TellingLaws.{all_opened_in_any_order, clients_are_listed, each_is_told, nobody_is_listed}
-use Rattle.resv_laws.proofs.ValidClients.{tied}
+use Rattle.resv_core.proofs.ServingLaws.{all-begun, all_moved_in_any_order, each-server, for_task-keeps, for_task-server, opened-clock, opened-server, resv-kept, work_may_be_charged}
+use Rattle.resv_core.proofs.ShownLaws.{state_is_shown}
+use Rattle.resv_core.proofs.TellingLaws.{all_opened_in_any_order, clients_are_listed, each_is_told, nobody_is_listed}
+use Rattle.resv_core.proofs.ValidClients.{tied}
 use Rattle.group_resvs.specs.GroupResvs.{GroupResvs, IsSettled, Serves, all_changed, changed_of, is_served_by, lacks_budget_of, served_at}
 use Rattle.group_resvs.specs.Kept.{AreEmptyElsewhere, AreNone, AreServing, KeepsResvs}
 use Rattle.group_resvs.specs.Laws.{AreChanged, AreToldOf, IsRead, MoveIsKept, OpeningIsKept, ResvsAreRead, WorkHasUnit, at_opening, told_of_move}

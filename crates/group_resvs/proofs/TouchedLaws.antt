@@ -7,8 +7,8 @@ use Rattle.rt_rules.proofs.BoolLaws.{clash}
 use Rattle.rt_rules.proofs.MemberLaws.{equal_self}
 use Rattle.resv_core.specs.Served.{Served, ServerState, IsResv, no_server, server, settled, with_server}
 use Rattle.resv_core.proofs.SettledLaws.{settled-twice}
-use Rattle.resv_laws.specs.Serving.{all_settled}
-use Rattle.resv_laws.proofs.ServingLaws.{each-server, server-set}
+use Rattle.resv_core.specs.Serving.{all_settled}
+use Rattle.resv_core.proofs.ServingLaws.{each-server, server-set}
 use Rattle.group_resvs.specs.declared.touched.Touched.{Touched}
 use Rattle.group_resvs.specs.declared.touched.Touched.TheVariants.{Nothing, One, Many}
 use Rattle.group_resvs.specs.GroupResvs.{AllServe, Serves, served_at}

@@ -6,7 +6,7 @@ use Rattle.rt_base.specs.declared.Tick.{Tick}
 use Rattle.rt_rules.specs.Numbers.{is, same}
 use Rattle.rt_rules.specs.Placing.{tasks_in}
 use Rattle.resv_core.specs.Served.{Served, ServerState, IsFront, IsResv, has_ready, left_of, server, server_of}
-use Rattle.resv_laws.specs.Serving.{all_settled}
+use Rattle.resv_core.specs.Serving.{all_settled}
 
 -- the reservations; by their numbers, less 1, the client that each serves since the last move ended; and the tasks that the end of
 -- that move made or unmade such clients

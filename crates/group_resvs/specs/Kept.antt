@@ -3,9 +3,9 @@ use Rattle.std.specs.Prelude.{◌≡◌, ℕ, true, false, [], length, None}
 use Rattle.rt_task.specs.RuleWords.{is_p_res}
 use Rattle.rt_model.specs.Group.{Group, resv}
 use Rattle.rt_model.specs.Past.{Past, now}
-use Rattle.rank_changes.specs.Served.{serves}
+use Rattle.rt_changes.specs.Served.{serves}
 use Rattle.resv_core.specs.Served.{IsResv, Served, is_here, server, server_of}
-use Rattle.resv_laws.specs.Serving.{IsServing}
+use Rattle.resv_core.specs.Serving.{IsServing}
 use Rattle.group_resvs.specs.GroupResvs.{GroupResvs, served_at}
 
 -- the reservations of other groups have no room for a client

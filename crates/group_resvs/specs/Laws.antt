@@ -12,8 +12,8 @@ use Rattle.rt_model.specs.Reachable.{IsReachable}
 use Rattle.rt_model.specs.Runs.{runs}
 use Rattle.rt_model.specs.Tops as model
 use Rattle.resv_core.specs.Served.{opened, server_of}
-use Rattle.resv_laws.specs.Kept.{ready_release}
-use Rattle.resv_laws.specs.Serving.{all_begun, told_each}
+use Rattle.resv_core.specs.Kept.{ready_release}
+use Rattle.resv_core.specs.Serving.{all_begun, told_each}
 use Rattle.group_resvs.specs.GroupResvs.{GroupResvs, HasUnit, IsSettled, is_served, lacks_budget}
 use Rattle.group_resvs.specs.Kept.{KeepsResvs}
 

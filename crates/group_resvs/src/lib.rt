@@ -4,8 +4,8 @@
 ghost use Rattle.std.specs.Prelude.{◌≡◌, ◌≤◌, [], IfOk, IsSome, None, is_some, length, replicate, vec_capacity, vec_len};
 ghost use Rattle.rt_base.specs.TaskNos.{numbers};
 ghost use Rattle.resv_core.specs.Served.{charged, opened, server_of};
-ghost use Rattle.resv_laws.specs.Kept.{told_now};
-ghost use Rattle.resv_laws.specs.Serving.{all_settled, clock_to, for_task};
+ghost use Rattle.resv_core.specs.Kept.{told_now};
+ghost use Rattle.resv_core.specs.Serving.{all_settled, clock_to, for_task};
 ghost use Rattle.group_resvs.specs.GroupResvs.{IsSettled, HasUnit, is_served, lacks_budget, tick_of};
 
 mod changes;

@@ -1,7 +1,7 @@
 //! The end of a move that touched one reservation alone.
 ghost use Rattle.std.specs.Prelude.{◌≡◌, ◌+◌, ◌≤◌, length, vec_capacity};
 ghost use Rattle.rt_base.specs.TaskNos.{numbers, numbers_of_tasks};
-ghost use Rattle.resv_laws.specs.Serving.{all_settled};
+ghost use Rattle.resv_core.specs.Serving.{all_settled};
 ghost use Rattle.group_resvs.specs.GroupResvs.{AllServe, all_changed};
 ghost use Rattle.group_resvs.specs.Touched.{IsSettledBut};
 

@@ -17,7 +17,7 @@ use Rattle.rt_model.specs.Group.{Group, protocol, sem, sems, task, tasks}
 use Rattle.rt_model.specs.Holders.{holder, holds}
 use Rattle.rt_model.specs.Past.{Acted, Clock, Event, Past, now, sem_act}
 use Rattle.rt_plays.specs.Plays.{group_with}
-use Rattle.rt_laws.proofs.Holding.{one-holds}
+use Rattle.rt_laws.proofs.semaphores.Holding.{one-holds}
 use Rattle.rt_changes.specs.Owners.{sem_of}
 use Rattle.rt_changes.proofs.Boosts.{boost_by-left}
 use Rattle.rt_changes.proofs.Left.{granted_at-left}
@@ -26,7 +26,7 @@ use Rattle.plugins.proofs.PartitionedKeyLaws.{partitioned_boosts}
 use Rattle.mpcp_ceilings.specs.Ceilings.{AreCeilings, CeilingTable, ceiling_in}
 use Rattle.mpcp_ceilings.proofs.NotedLaws.{ceilings_are_told}
 use Rattle.prio_inherit.specs.Waits as kept_keys
-use Rattle.sem_table_laws.proofs.Lists.{at-other, at-same}
+use Rattle.sem_table.proofs.Lists.{at-other, at-same}
 use Rattle.group_sems.specs.BoostKeys.{boost_now, boost_under}
 
 -- ---- who holds what it held is boosted as before

@@ -24,19 +24,19 @@ use Rattle.rt_rules.proofs.MemberLaws.{has-filter, has-one, some-is}
 use Rattle.rt_rules.proofs.NumberLaws.{distinct-numbers_from, length-numbers_from}
 use Rattle.rt_rules.proofs.PairLaws.{has_pair, pair-of}
 use Rattle.rt_rules.proofs.PlacingLaws.{distinct-filter}
-use Rattle.rt_laws.proofs.Asked.{IsAsked}
-use Rattle.rt_laws.proofs.Engaged.{holder-engaged, waiting-engaged}
+use Rattle.rt_laws.proofs.semaphores.Asked.{IsAsked}
+use Rattle.rt_laws.proofs.jobs.Engaged.{holder-engaged, waiting-engaged}
 use Rattle.rt_laws.proofs.GroupLaws.{user-task}
 use Rattle.rt_laws.proofs.Moves.{last_move}
 use Rattle.rt_laws.proofs.Next.{next}
-use Rattle.rt_laws.proofs.OneWait.{awaits-is, waits_once}
-use Rattle.rt_laws.proofs.PcpState.{IsUser, pcp-waiting, pcp_kept, sem-home}
-use Rattle.rt_laws.proofs.PcpWalks.{walk-step, walk-stops}
+use Rattle.rt_laws.proofs.semaphores.OneWait.{awaits-is, waits_once}
+use Rattle.rt_laws.proofs.pcp.PcpState.{IsUser, pcp-waiting, pcp_kept, sem-home}
+use Rattle.rt_laws.proofs.pcp.PcpWalks.{walk-step, walk-stops}
 use Rattle.rt_laws.proofs.Rules.{MeetsRules}
-use Rattle.rt_laws.proofs.SemaphoreLaws.{holder_waits_not}
+use Rattle.rt_laws.proofs.semaphores.SemaphoreLaws.{holder_waits_not}
 use Rattle.rt_laws.proofs.ValidSets.{rules_of}
-use Rattle.rt_laws.proofs.Waiting.{awaits-waits, none-waits}
-use Rattle.rt_laws.proofs.WaitsHolding.{waits_under_pcp}
+use Rattle.rt_laws.proofs.semaphores.Waiting.{awaits-waits, none-waits}
+use Rattle.rt_laws.proofs.semaphores.WaitsHolding.{waits_under_pcp}
 use Rattle.rt_changes.specs.HoldChanges.{IsGrant, IsQueueing, IsRelease, IsServed, KeepsHolds}
 use Rattle.rt_changes.specs.Owners.{newest_owner, owner}
 use Rattle.rt_changes.proofs.Acting.{IsParty, all_parties, party-home}
@@ -49,16 +49,16 @@ use Rattle.pcp_sem.specs.Pairs.{tasks_of}
 use Rattle.sem_table.specs.Asked.{after_ask, is_granted}
 use Rattle.sem_table.specs.Released.{after_release}
 use Rattle.sem_table.specs.Told.{owner_of, waiters_of}
-use Rattle.sem_table_laws.specs.KeptSems.{KeepsSems}
-use Rattle.sem_table_laws.specs.Telling.{AreFewTasks, IsServedBy, waiters_at}
-use Rattle.sem_table_laws.proofs.Conditions.{ask_fits, release_fits}
-use Rattle.sem_table_laws.proofs.Keeps.{ask_keeps, release_keeps}
-use Rattle.sem_table_laws.proofs.Opening.{between}
-use Rattle.sem_table_laws.proofs.Owner.{tells_owner}
-use Rattle.sem_table_laws.proofs.Rows.{grants_as_rules}
-use Rattle.sem_table_laws.proofs.Served.{tells_served}
-use Rattle.sem_table_laws.proofs.Waiters.{tells_waiters, waiters_are_few}
-use Rattle.sem_table_laws.proofs.Waits.{ask_is_known, release_is_known}
+use Rattle.sem_table.specs.KeptSems.{KeepsSems}
+use Rattle.sem_table.specs.Telling.{AreFewTasks, IsServedBy, waiters_at}
+use Rattle.sem_table.proofs.Conditions.{ask_fits, release_fits}
+use Rattle.sem_table.proofs.Keeps.{ask_keeps, release_keeps}
+use Rattle.sem_table.proofs.NewRows.{between}
+use Rattle.sem_table.proofs.Owner.{tells_owner}
+use Rattle.sem_table.proofs.Rows.{grants_as_rules}
+use Rattle.sem_table.proofs.ServedNext.{tells_served}
+use Rattle.sem_table.proofs.Waiters.{tells_waiters, waiters_are_few}
+use Rattle.sem_table.proofs.Waits.{ask_is_known, release_is_known}
 use Rattle.mpcp_ceilings.specs.Ceilings.{AreCeilings, CeilingTable}
 use Rattle.group_sems.specs.BoostKeys.{IsSemOf}
 use Rattle.group_sems.specs.GroupSems.{GroupSems}

@@ -16,7 +16,7 @@ use Rattle.rt_model.specs.Group.{Group, tasks}
 use Rattle.rt_model.specs.Holders.{awaits}
 use Rattle.rt_model.specs.Past.{Past}
 use Rattle.rt_model.specs.Reachable.{IsReachable}
-use Rattle.rt_laws.proofs.PcpWalks.{walk-none, walk-step, walk-stops}
+use Rattle.rt_laws.proofs.pcp.PcpWalks.{walk-none, walk-step, walk-stops}
 use Rattle.rt_laws.proofs.Rules.{MeetsRules}
 use Rattle.rt_laws.proofs.ValidSets.{rules_of}
 use Rattle.rt_changes.specs.KeysOfWaiters.{waiters}

@@ -15,7 +15,7 @@ use Rattle.rt_model.specs.Outcomes.{attempt, ended, ended_by, is_spent, past_act
 use Rattle.rt_model.specs.Past.{Acted, Event, Past, accepted, sem_act}
 use Rattle.rt_model.specs.Runs.{runs}
 use Rattle.rt_laws.proofs.Moves.{IsMove, clock_moves, cpu_acts, last_move}
-use Rattle.rt_laws.proofs.Requests.{IsAsk, IsFree, asks, frees}
+use Rattle.rt_laws.proofs.semaphores.Requests.{IsAsk, IsFree, asks, frees}
 use Rattle.rt_changes.specs.HoldChanges.{IsServed, KeepsHolds}
 use Rattle.rt_changes.specs.KeyChanges.{renews}
 use Rattle.rt_changes.specs.Owners.{is_touched, sem_of}

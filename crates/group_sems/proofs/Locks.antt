@@ -16,15 +16,15 @@ use Rattle.rt_model.specs.Group.{Group, protocol, tasks}
 use Rattle.rt_model.specs.Holders.{awaits, holds}
 use Rattle.rt_model.specs.Past.{Event, Past, now, sem_act}
 use Rattle.rt_model.specs.Reachable.{IsReachable}
-use Rattle.rt_laws.proofs.Asked.{IsAsked}
-use Rattle.rt_laws.proofs.Holding.{holds-one}
+use Rattle.rt_laws.proofs.semaphores.Asked.{IsAsked}
+use Rattle.rt_laws.proofs.semaphores.Holding.{holds-one}
 use Rattle.rt_laws.proofs.Moves.{last_move}
 use Rattle.rt_laws.proofs.Next.{next}
-use Rattle.rt_laws.proofs.PcpWalks.{walk-stops}
+use Rattle.rt_laws.proofs.pcp.PcpWalks.{walk-stops}
 use Rattle.rt_laws.proofs.Rules.{MeetsRules}
-use Rattle.rt_laws.proofs.SemaphoreLaws.{requests_do_not_nest}
+use Rattle.rt_laws.proofs.semaphores.SemaphoreLaws.{requests_do_not_nest}
 use Rattle.rt_laws.proofs.ValidSets.{rules_of}
-use Rattle.rt_laws.proofs.Waiting.{none-waits}
+use Rattle.rt_laws.proofs.semaphores.Waiting.{none-waits}
 use Rattle.rt_changes.specs.HoldChanges.{IsGrant, IsQueueing}
 use Rattle.rt_changes.specs.Owners.{owner, sem_of}
 use Rattle.rt_changes.proofs.Apart.{asks-holds_not}
@@ -36,10 +36,10 @@ use Rattle.prio_inherit.specs.Waits.{Waits, next_of}
 use Rattle.sem_table.specs.Asked.{after_ask, is_granted}
 use Rattle.sem_table.specs.SemTable.{SemTable}
 use Rattle.sem_table.specs.Told.{owner_of}
-use Rattle.sem_table_laws.specs.KeptSems.{KeepsSems}
-use Rattle.sem_table_laws.proofs.Keeps.{ask_keeps}
-use Rattle.sem_table_laws.proofs.Owner.{tells_owner}
-use Rattle.sem_table_laws.proofs.Rows.{ask_rows, grants_as_rules}
+use Rattle.sem_table.specs.KeptSems.{KeepsSems}
+use Rattle.sem_table.proofs.Keeps.{ask_keeps}
+use Rattle.sem_table.proofs.Owner.{tells_owner}
+use Rattle.sem_table.proofs.Rows.{ask_rows, grants_as_rules}
 use Rattle.group_sems.specs.BoostKeys.{boost_now}
 use Rattle.group_sems.specs.GroupSems.{GroupSems}
 use Rattle.group_sems.specs.Locking.{asked_waits, with_boost}

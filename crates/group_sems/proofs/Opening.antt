@@ -7,14 +7,14 @@ use Rattle.rt_model.specs.Boosts.{boost}
 use Rattle.rt_model.specs.EffectiveKeys.{waits_for}
 use Rattle.rt_model.specs.Group.{Group}
 use Rattle.rt_model.specs.Reachable.{opened}
-use Rattle.rt_laws.proofs.Engaged.{holder-engaged, nobody-engaged}
-use Rattle.rt_laws.proofs.PcpWalks.{walk-stops}
+use Rattle.rt_laws.proofs.jobs.Engaged.{holder-engaged, nobody-engaged}
+use Rattle.rt_laws.proofs.pcp.PcpWalks.{walk-stops}
 use Rattle.rt_laws.proofs.Rules.{MeetsRules}
 use Rattle.rt_laws.proofs.ValidSets.{rules_of}
-use Rattle.rt_laws.proofs.Waiting.{nobody-waits, none-waits}
+use Rattle.rt_laws.proofs.semaphores.Waiting.{nobody-waits, none-waits}
 use Rattle.rt_changes.proofs.Boosts.{boost-none}
-use Rattle.sem_table_laws.proofs.Opening.{new_keeps}
-use Rattle.sem_table_laws.proofs.Rows.{new_rows}
+use Rattle.sem_table.proofs.NewRows.{new_keeps}
+use Rattle.sem_table.proofs.Rows.{new_rows}
 use Rattle.group_sems.specs.Keeping.{OpeningIsKept}
 use Rattle.group_sems.specs.Kept.{KeepsBoosts, KeepsNexts}
 use Rattle.group_sems.proofs.Outside.{opened-empty}

@@ -12,8 +12,8 @@ use Rattle.rt_model.specs.Reachable.{IsReachable}
 use Rattle.rt_model.specs.BaseKeys.{base_key}
 use Rattle.rt_task.specs.Validity.{IsValid}
 use Rattle.rt_rules.specs.SemState.{Asks, Frees}
-use Rattle.rt_laws.proofs.Asked.{IsAsked}
-use Rattle.rt_laws.proofs.Engaged.{holder-engaged}
+use Rattle.rt_laws.proofs.semaphores.Asked.{IsAsked}
+use Rattle.rt_laws.proofs.jobs.Engaged.{holder-engaged}
 use Rattle.rt_laws.proofs.Moves.{last_move}
 use Rattle.rt_laws.proofs.Next.{next}
 use Rattle.rt_laws.proofs.ValidSets.{rules_of}
@@ -31,9 +31,9 @@ use Rattle.sem_table.specs.Asked.{after_ask, set_asked, sets_asked, srp_asked}
 use Rattle.sem_table.specs.Opened.{IsOpened, has_pcp, is_srp_home, new_set, new_set_if, new_srp, new_srp_if}
 use Rattle.sem_table.specs.Released.{after_release, set_freed, sets_freed, srp_freed}
 use Rattle.sem_table.specs.SemTable.{ClusterSets, SemTable, no_set, no_srp_set, sem_at, set_at, srp_set_at}
-use Rattle.sem_table_laws.specs.KeptSems.{KeepsSem, KeepsSems}
-use Rattle.sem_table_laws.proofs.Conditions.{group-of}
-use Rattle.sem_table_laws.proofs.Lists.{at-other}
+use Rattle.sem_table.specs.KeptSems.{KeepsSem, KeepsSems}
+use Rattle.sem_table.proofs.Conditions.{group-of}
+use Rattle.sem_table.proofs.Lists.{at-other}
 use Rattle.group_sems.specs.Kept.{IsEmptyOutside, KeepsLocks}
 
 -- ---- at first

@@ -17,16 +17,16 @@ use Rattle.rt_model.specs.Semaphores.{cluster_of}
 use Rattle.rt_rules.proofs.BoolLaws.{and_false, both}
 use Rattle.rt_rules.proofs.MemberLaws.{equal_self, turned}
 use Rattle.rt_rules.proofs.PairLaws.{has_pair, pair-of, tasks_of_pairs}
-use Rattle.rt_laws.proofs.OneWait.{awaits-is, waits_once}
+use Rattle.rt_laws.proofs.semaphores.OneWait.{awaits-is, waits_once}
 use Rattle.rt_laws.proofs.GroupLaws.{user-task}
-use Rattle.rt_laws.proofs.PcpState.{IsUser, pcp-waiting, pcp_kept, sem-home}
+use Rattle.rt_laws.proofs.pcp.PcpState.{IsUser, pcp-waiting, pcp_kept, sem-home}
 use Rattle.rt_laws.proofs.Rules.{MeetsRules}
-use Rattle.rt_laws.proofs.Waiting.{awaits-waits}
+use Rattle.rt_laws.proofs.semaphores.Waiting.{awaits-waits}
 use Rattle.rt_changes.specs.Owners.{is_beside, newest_owner, owner}
 use Rattle.rt_changes.proofs.Acting.{IsActor, party-home}
 use Rattle.rt_changes.proofs.Left.{holder-left, pcp-left}
 use Rattle.rt_changes.proofs.SemChanges.{left, outside}
-use Rattle.sem_table_laws.specs.Telling.{waiters_at}
+use Rattle.sem_table.specs.Telling.{waiters_at}
 
 -- semaphores beside one another have one owner
 pub owner-beside : (g : Group) (s r : ℕ) (past : Past) → is_beside g s r ≡ true → owner g r past ≡ owner g s past

@@ -5,7 +5,7 @@ use Rattle.rt_rules.specs.declared.Key.{Key}
 use Rattle.rt_rules.specs.Numbers.{has}
 use Rattle.rt_rules.proofs.BoolLaws.{neither}
 use Rattle.rt_rules.proofs.MemberLaws.{turned}
-use Rattle.sem_table_laws.proofs.Lists.{at-other, at-same, still-below}
+use Rattle.sem_table.proofs.Lists.{at-other, at-same, still-below}
 use Rattle.group_sems.specs.Keeping.{rebased}
 use Rattle.group_sems.specs.Telling.{told}
 

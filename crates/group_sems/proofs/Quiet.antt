@@ -2,8 +2,8 @@
 use Rattle.std.proofs.Common.{◌∙◌, sym}
 use Rattle.rt_changes.specs.SemChanges.{LeavesSems}
 use Rattle.rt_changes.proofs.SemChanges.{quiet}
-use Rattle.sem_table_laws.proofs.Keeps.{quiet_keeps}
-use Rattle.sem_table_laws.proofs.Rows.{quiet_rows}
+use Rattle.sem_table.proofs.Keeps.{quiet_keeps}
+use Rattle.sem_table.proofs.Rows.{quiet_rows}
 use Rattle.group_sems.specs.Keeping.{QuietIsKept}
 
 pub quiet_is_kept : QuietIsKept

@@ -20,12 +20,12 @@ use Rattle.rt_model.specs.StackPolicy.{srp}
 use Rattle.rt_plays.specs.Plays.{group_with}
 use Rattle.rt_rules.proofs.BoolLaws.{and_false, clash}
 use Rattle.rt_rules.proofs.MemberLaws.{any-none, equal_self, none-any}
-use Rattle.rt_laws.proofs.Engaged.{holder-engaged}
+use Rattle.rt_laws.proofs.jobs.Engaged.{holder-engaged}
 use Rattle.rt_laws.proofs.GroupLaws.{user-task}
-use Rattle.rt_laws.proofs.Holding.{holds-one, one-holds}
-use Rattle.rt_laws.proofs.PcpState.{pcp-holder}
+use Rattle.rt_laws.proofs.semaphores.Holding.{holds-one, one-holds}
+use Rattle.rt_laws.proofs.pcp.PcpState.{pcp-holder}
 use Rattle.rt_laws.proofs.Rules.{MeetsRules}
-use Rattle.rt_laws.proofs.SrpState.{srp-holder}
+use Rattle.rt_laws.proofs.srp.SrpState.{srp-holder}
 use Rattle.rt_laws.proofs.ValidSets.{rules_of}
 use Rattle.rt_changes.proofs.Acting.{IsParty, all_parties}
 use Rattle.rt_changes.proofs.Moving.{has-holds}
@@ -33,9 +33,9 @@ use Rattle.sem_table.specs.declared.any_sem.AnySem.{AnySem}
 use Rattle.sem_table.specs.declared.any_sem.AnySem.TheVariants as any
 use Rattle.sem_table.specs.SemTable.{SemTable, sem_at, set_at, srp_set_at}
 use Rattle.sem_table.specs.Told.{held_of, state_by, state_of}
-use Rattle.sem_table_laws.specs.KeptSems.{KeepsSem, KeepsSems}
-use Rattle.sem_table_laws.proofs.Conditions.{tells_state}
-use Rattle.sem_table_laws.proofs.Waits.{tells_last}
+use Rattle.sem_table.specs.KeptSems.{KeepsSem, KeepsSems}
+use Rattle.sem_table.proofs.Conditions.{tells_state}
+use Rattle.sem_table.proofs.Waits.{tells_last}
 use Rattle.group_sems.specs.GroupSems.{GroupSems}
 use Rattle.group_sems.specs.Refusing.{holds_it, holds_other, holds_other_one, is_nested_by, uses_of}
 use Rattle.group_sems.specs.Kept.{IsEmptyOutside, KeepsLocks}

@@ -7,11 +7,11 @@ use Rattle.rt_rules.specs.Numbers.{is_empty}
 use Rattle.rt_model.specs.Holders.{holds}
 use Rattle.sem_table.specs.SemTable.{row_at}
 use Rattle.sem_table.specs.Told.{awaits_of}
-use Rattle.sem_table_laws.specs.KeptRows.{KeepsRow}
-use Rattle.sem_table_laws.proofs.Owner.{tells_owner}
-use Rattle.sem_table_laws.proofs.Rows.{grants_as_rules}
-use Rattle.sem_table_laws.proofs.Served.{tells_served}
-use Rattle.sem_table_laws.proofs.SrpSets.{tells_passing}
+use Rattle.sem_table.specs.KeptRows.{KeepsRow}
+use Rattle.sem_table.proofs.Owner.{tells_owner}
+use Rattle.sem_table.proofs.Rows.{grants_as_rules}
+use Rattle.sem_table.proofs.ServedNext.{tells_served}
+use Rattle.sem_table.proofs.SrpSets.{tells_passing}
 use Rattle.group_sems.specs.Reading.{GrantIsRead, HoldingIsRead, OwnerIsRead, PassingIsRead, ServedIsRead}
 
 pub owner_is_read : OwnerIsRead

@@ -12,7 +12,7 @@ use Rattle.rt_model.specs.Past.{Event, Past, sem_act}
 use Rattle.rt_model.specs.Reachable.{IsReachable}
 use Rattle.rt_laws.proofs.Moves.{last_move}
 use Rattle.rt_laws.proofs.Next.{next}
-use Rattle.rt_laws.proofs.PcpWalks.{walk-step, walk-stops}
+use Rattle.rt_laws.proofs.pcp.PcpWalks.{walk-step, walk-stops}
 use Rattle.rt_laws.proofs.Rules.{MeetsRules}
 use Rattle.rt_laws.proofs.ValidSets.{rules_of}
 use Rattle.rt_changes.specs.Owners.{is_beside, owner, sem_of}
@@ -21,10 +21,10 @@ use Rattle.rt_changes.proofs.Owning.{waits-owner}
 use Rattle.prio_inherit.specs.Waits.{Waits, next_of}
 use Rattle.sem_table.specs.SemTable.{SemTable}
 use Rattle.sem_table.specs.Told.{owner_of, waiters_of}
-use Rattle.sem_table_laws.specs.KeptSems.{KeepsSems}
-use Rattle.sem_table_laws.specs.Telling.{waiters_at}
-use Rattle.sem_table_laws.proofs.Owner.{tells_owner}
-use Rattle.sem_table_laws.proofs.Waiters.{tells_waiters, waiters_are_few}
+use Rattle.sem_table.specs.KeptSems.{KeepsSems}
+use Rattle.sem_table.specs.Telling.{waiters_at}
+use Rattle.sem_table.proofs.Owner.{tells_owner}
+use Rattle.sem_table.proofs.Waiters.{tells_waiters, waiters_are_few}
 use Rattle.group_sems.specs.Telling.{retold, told, told_of}
 use Rattle.group_sems.specs.Kept.{KeepsNexts}
 use Rattle.group_sems.proofs.Bases.{task-place}

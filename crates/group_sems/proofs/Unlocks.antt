@@ -14,16 +14,16 @@ use Rattle.rt_model.specs.Group.{Group, protocol, sems, tasks}
 use Rattle.rt_model.specs.Holders.{awaits, holder, holds, sem_state}
 use Rattle.rt_model.specs.Past.{Event, Past, now, sem_act}
 use Rattle.rt_model.specs.Reachable.{IsReachable}
-use Rattle.rt_laws.proofs.Engaged.{holder-engaged, waiting-engaged}
+use Rattle.rt_laws.proofs.jobs.Engaged.{holder-engaged, waiting-engaged}
 use Rattle.rt_laws.proofs.GroupLaws.{user-task}
-use Rattle.rt_laws.proofs.Holding.{holds-one, one-holds}
+use Rattle.rt_laws.proofs.semaphores.Holding.{holds-one, one-holds}
 use Rattle.rt_laws.proofs.Moves.{last_move}
 use Rattle.rt_laws.proofs.Next.{next}
 use Rattle.rt_laws.proofs.Rules.{MeetsRules}
-use Rattle.rt_laws.proofs.SemaphoreLaws.{holder_holds_one}
+use Rattle.rt_laws.proofs.semaphores.SemaphoreLaws.{holder_holds_one}
 use Rattle.rt_laws.proofs.ValidSets.{rules_of}
-use Rattle.rt_laws.proofs.Waiting.{awaits-waits, none-waits, waits-none}
-use Rattle.rt_laws.proofs.WaitsHolding.{waits_under_pcp}
+use Rattle.rt_laws.proofs.semaphores.Waiting.{awaits-waits, none-waits, waits-none}
+use Rattle.rt_laws.proofs.semaphores.WaitsHolding.{waits_under_pcp}
 use Rattle.rt_changes.specs.HoldChanges.{IsRelease, IsServed, KeepsHolds}
 use Rattle.rt_changes.specs.Owners.{is_beside, owner, sem_of}
 use Rattle.rt_changes.proofs.Acting.{IsParty, all_parties}
@@ -37,11 +37,11 @@ use Rattle.prio_inherit.specs.Waits.{Waits, next_of}
 use Rattle.sem_table.specs.Released.{after_release}
 use Rattle.sem_table.specs.SemTable.{SemTable}
 use Rattle.sem_table.specs.Told.{owner_of}
-use Rattle.sem_table_laws.specs.KeptSems.{KeepsSems}
-use Rattle.sem_table_laws.specs.Telling.{IsServedBy}
-use Rattle.sem_table_laws.proofs.Keeps.{release_keeps}
-use Rattle.sem_table_laws.proofs.Owner.{tells_owner}
-use Rattle.sem_table_laws.proofs.Served.{release_rows, tells_served}
+use Rattle.sem_table.specs.KeptSems.{KeepsSems}
+use Rattle.sem_table.specs.Telling.{IsServedBy}
+use Rattle.sem_table.proofs.Keeps.{release_keeps}
+use Rattle.sem_table.proofs.Owner.{tells_owner}
+use Rattle.sem_table.proofs.ServedNext.{release_rows, tells_served}
 use Rattle.group_sems.specs.BoostKeys.{boost_now}
 use Rattle.group_sems.specs.GroupSems.{GroupSems}
 use Rattle.group_sems.specs.Locking.{served_waits, with_boost}

@@ -9,8 +9,8 @@ use Rattle.rt_model.specs.Group.{Group, in_group, tasks}
 use Rattle.rt_model.specs.Past.{Past}
 use Rattle.prio_inherit.specs.Waits.{Waits, boost_of, next_of}
 use Rattle.sem_table.specs.SemTable.{SemTable, set_at, srp_set_at}
-use Rattle.sem_table_laws.specs.KeptRows.{KeepsRows}
-use Rattle.sem_table_laws.specs.KeptSems.{KeepsSems}
+use Rattle.sem_table.specs.KeptRows.{KeepsRows}
+use Rattle.sem_table.specs.KeptSems.{KeepsSems}
 use Rattle.mpcp_ceilings.specs.Ceilings.{AreCeilings}
 use Rattle.group_sems.specs.GroupSems.{GroupSems}
 

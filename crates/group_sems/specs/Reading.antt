@@ -18,7 +18,7 @@ use Rattle.prio_inherit.specs.Waits as kept_keys
 use Rattle.sem_table.specs.Asked.{is_granted}
 use Rattle.sem_table.specs.Released.{after_release}
 use Rattle.sem_table.specs.Told.{awaits_of, held_of, owner_of, passes_of, state_of}
-use Rattle.sem_table_laws.specs.Telling.{IsServedBy}
+use Rattle.sem_table.specs.Telling.{IsServedBy}
 use Rattle.group_sems.specs.GroupSems.{GroupSems}
 use Rattle.group_sems.specs.Refusing.{lock_refusal, unlock_refusal}
 use Rattle.group_sems.specs.Kept.{KeepsLocks, KeepsWaits}

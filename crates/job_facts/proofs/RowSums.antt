@@ -5,8 +5,8 @@ use Rattle.std.proofs.lemmas.List.Elements.{filter_map-append}
 use Rattle.std.proofs.lemmas.List.Sums.{fold-append, sum_by-append}
 use Rattle.rt_task.specs.declared.Kind.{Kind}
 use Rattle.rt_task.specs.declared.Kind.TheVariants.{Periodic, Sporadic}
-use Rattle.count_laws.specs.Tallies as seen
-use Rattle.count_laws.specs.Tallies.{tallies, tally}
+use Rattle.rt_changes.specs.Tallies as seen
+use Rattle.rt_changes.specs.Tallies.{tallies, tally}
 use Rattle.rt_model.specs.Blocking.{Asked, requests}
 use Rattle.rt_model.specs.Group.{Group, task}
 use Rattle.rt_model.specs.Jobs.{done}

@@ -9,8 +9,8 @@ use Rattle.std.proofs.lemmas.List.Sums.{sum_by-cons}
 use Rattle.std.proofs.lemmas.List.Elements.{All-head, All-nil, All-push, All-tail, All-weaker}
 use Rattle.rt_task.specs.declared.Kind.{Kind}
 use Rattle.rt_task.specs.declared.Kind.TheVariants.{Periodic, Sporadic}
-use Rattle.count_laws.specs.Tallies as seen
-use Rattle.count_laws.specs.Tallies.{tallies, tally}
+use Rattle.rt_changes.specs.Tallies as seen
+use Rattle.rt_changes.specs.Tallies.{tallies, tally}
 use Rattle.rt_rules.specs.Numbers.{numbers_from}
 use Rattle.rt_rules.proofs.BoolLaws.{both}
 use Rattle.rt_rules.proofs.NumberLaws.{length-numbers_from}

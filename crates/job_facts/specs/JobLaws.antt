@@ -1,7 +1,7 @@
 -- The laws by which what is kept of jobs is kept, move by move.
 use Rattle.std.specs.Prelude.{◌≡◌, ℕ, ◌+◌, ◌<◌, ◌≤◌, All, List, [], ◌∷◌, ◌++◌, length}
 use Rattle.rt_task.specs.declared.Act.{Act}
-use Rattle.count_laws.specs.Tallies.{tallies}
+use Rattle.rt_changes.specs.Tallies.{tallies}
 use Rattle.rt_model.specs.Blocking.{requests}
 use Rattle.rt_model.specs.Group.{Group, task}
 use Rattle.rt_model.specs.Jobs.{done}

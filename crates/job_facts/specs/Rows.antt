@@ -4,7 +4,7 @@ use Rattle.std.specs.Prelude.{Option, None, Some, unwrap_or, if◌then◌else◌
 use Rattle.rt_task.specs.declared.Kind.{Kind}
 use Rattle.rt_task.specs.declared.Kind.TheVariants.{Periodic, Sporadic}
 use Rattle.rt_task.specs.declared.Task.{Task}
-use Rattle.count_laws.specs.Tallies as seen
+use Rattle.rt_changes.specs.Tallies as seen
 use Rattle.rt_model.specs.Releases.{has_come}
 use Rattle.trace_views.specs.JobRows.{JobRow}
 use Rattle.trace_views.specs.JobTimes.{finish_by, outcome_by, time_to}

@@ -4,7 +4,7 @@ use Rattle.std.specs.Prelude.{Option, None, Some, ℤ, ◌+ℤ◌, if◌then◌e
 use Rattle.rt_task.specs.declared.Kind.{Kind}
 use Rattle.rt_task.specs.declared.Kind.TheVariants.{Periodic, Sporadic}
 use Rattle.rt_task.specs.declared.Task.{Task}
-use Rattle.count_laws.specs.Tallies as seen
+use Rattle.rt_changes.specs.Tallies as seen
 use Rattle.trace_views.specs.JobRows.{JobRow}
 use Rattle.trace_views.specs.TaskRows.{TaskRow, greater, greatest, greatest_of, is_late, total, with_other}
 

@@ -11,9 +11,9 @@ use Rattle.rt_model.specs.Group as groups
 use Rattle.rt_model.specs.Jobs.{done}
 use Rattle.rt_model.specs.Past.{Past, now}
 use Rattle.rt_model.specs.Releases.{arrivals}
-use Rattle.rt_groups.specs.Limits.{IsTaskInLimits}
-use Rattle.rt_groups.proofs.SetLimits.{sets_are_in_limits}
-use Rattle.count_laws.specs.Tallies.{tallies, tally}
+use Rattle.rt_plays.specs.Limits.{IsTaskInLimits}
+use Rattle.rt_plays.proofs.SetLimits.{sets_are_in_limits}
+use Rattle.rt_changes.specs.Tallies.{tallies, tally}
 use Rattle.block_counts.specs.declared.seen.Seen.{Seen}
 use Rattle.block_counts.specs.SeenWords.{tallies_of, tally_of}
 use Rattle.trace_views.specs.JobRows.{JobRow, job_row, listed, rows_of}
@@ -31,7 +31,7 @@ use Rattle.job_facts.proofs.Rows.{placed, rows_are_kept}
 use Rattle.job_views.specs.declared.table.JobTable.{JobTable}
 use Rattle.job_views.specs.declared.task_jobs.TaskJobs.{TaskJobs}
 use Rattle.job_views.specs.Tables.{IsLineOf, IsTableOf, IsTableWith}
-use Rattle.job_views.specs.Times.{IsEarly}
+use Rattle.job_views.specs.inside.Times.{IsEarly}
 use Rattle.job_views.specs.Told as told
 use Rattle.job_views.specs.Told.{jobs_of}
 use Rattle.job_views.proofs.Updates.{jobs_in-at}

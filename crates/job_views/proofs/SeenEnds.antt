@@ -4,7 +4,7 @@ use Rattle.std.specs.Prelude.{All, None, sum_by, slice_index_or}
 use Rattle.std.proofs.lemmas.List.{get_or-map}
 use Rattle.std.proofs.lemmas.List.Elements.{All-get_or}
 use Rattle.std.proofs.lemmas.List.Sums.{sum_by_more}
-use Rattle.count_laws.specs.Tallies.{Tally}
+use Rattle.rt_changes.specs.Tallies.{Tally}
 use Rattle.block_counts.specs.declared.seen.Seen.{Seen}
 use Rattle.block_counts.specs.SeenWords.{tallies_of, tally_of}
 use Rattle.job_facts.specs.Rows.{no_request}

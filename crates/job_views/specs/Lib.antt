@@ -1,6 +1,5 @@
 pub mod Told
-pub mod Times
 pub mod RowsShown
-pub mod SumsShown
 pub mod TaskRowsShown
 pub mod Tables
+pub mod inside

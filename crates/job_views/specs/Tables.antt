@@ -15,7 +15,7 @@ use Rattle.rt_model.specs.Past.{Past, PastAct, entries_in, now}
 use Rattle.rt_model.specs.Reachable.{IsReachable}
 use Rattle.block_counts.specs.declared.seen.Seen.{Seen}
 use Rattle.block_counts.specs.SeenWords.{tallies_of}
-use Rattle.count_laws.specs.Tallies.{tallies}
+use Rattle.rt_changes.specs.Tallies.{tallies}
 use Rattle.job_facts.specs.Tallies.{jobs_at}
 use Rattle.job_facts.specs.Workers.{worker}
 use Rattle.job_views.specs.declared.table.JobTable.{JobTable}

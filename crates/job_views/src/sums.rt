@@ -3,7 +3,7 @@ ghost use Rattle.std.specs.Prelude.{◌≡◌, ◌+◌, ◌*◌, ◌<◌, ◌≤
 ghost use Rattle.trace_views.specs.TaskRows.{greater, is_late};
 ghost use Rattle.job_facts.specs.Sums as facts;
 ghost use Rattle.job_views.specs.RowsShown.{outcome_shown, row_shown};
-ghost use Rattle.job_views.specs.SumsShown.{FitsRows, sums_shown};
+ghost use Rattle.job_views.specs.inside.SumsShown.{FitsRows, sums_shown};
 
 use crate::row::{JobRow, Outcome};
 

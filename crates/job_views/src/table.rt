@@ -12,7 +12,7 @@ ghost use Rattle.job_facts.specs.Sums.{sums_of};
 ghost use Rattle.job_facts.specs.Tallies.{no_jobs};
 ghost use Rattle.job_views.specs.Tables.{CanFeed, IsLineOf, IsTableOf, IsTableWith, Keeps, task_count, worker_in};
 ghost use Rattle.job_views.specs.RowsShown.{row_shown};
-ghost use Rattle.job_views.specs.SumsShown.{sums_shown};
+ghost use Rattle.job_views.specs.inside.SumsShown.{sums_shown};
 ghost use Rattle.job_views.specs.TaskRowsShown.{task_row_shown};
 ghost use Rattle.job_views.specs.Told.{jobs_in};
 

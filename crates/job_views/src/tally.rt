@@ -4,7 +4,7 @@ ghost use Rattle.rt_base.specs.declared.TheConstants.{MOST_STEPS, TICK_END};
 ghost use Rattle.trace_views.specs.JobCounts.{is_elsewhere};
 ghost use Rattle.job_facts.specs.Deeds as deeds;
 ghost use Rattle.job_facts.specs.Tallies.{nothing};
-ghost use Rattle.job_views.specs.Times.{IsLow};
+ghost use Rattle.job_views.specs.inside.Times.{IsLow};
 
 use rt_base::NoMemory;
 use std::alloc::Global;

@@ -7,7 +7,7 @@ ghost use Rattle.job_facts.specs.Tallies.{no_jobs};
 ghost use Rattle.view_acts.specs.ShownActs.{act_shown};
 ghost use Rattle.block_counts.specs.SeenWords.{tallies_of};
 ghost use Rattle.job_views.specs.RowsShown.{row_shown};
-ghost use Rattle.job_views.specs.Times.{IsEarly};
+ghost use Rattle.job_views.specs.inside.Times.{IsEarly};
 
 use crate::deeds::{is_queued, is_switch, locks, works};
 use crate::ends::{ends_all_in, ends_in};

@@ -5,7 +5,7 @@ ghost use Rattle.rt_model.specs.Releases.{has_come};
 ghost use Rattle.trace_views.specs.JobTimes as times;
 ghost use Rattle.job_facts.specs.Rows as rows;
 ghost use Rattle.job_views.specs.RowsShown.{outcome_shown};
-ghost use Rattle.job_views.specs.Times.{IsEarly, IsLow};
+ghost use Rattle.job_views.specs.inside.Times.{IsEarly, IsLow};
 
 use crate::row::Outcome;
 use rt_task::{Kind, Task};

@@ -3,12 +3,12 @@ use Rattle.std.proofs.Common.{◌≡◌, ℕ, zero, suc, ◌<◌, true, List, le
 use Rattle.rt_task.specs.Draft.{step_of}
 use Rattle.rt_task.specs.declared.Step.{Step}
 use Rattle.rt_rules.specs.Numbers.{has}
-use Rattle.rt_model.specs.Computed.{computed}
+use Rattle.rt_model.specs.worked.Computed.{computed}
 use Rattle.rt_model.specs.Group.{Group, clusters, sems, tasks, users}
 use Rattle.rt_model.specs.Steps.{IsStepOf}
 use Rattle.rt_plays.specs.Homes.{IsProcessorOf}
-use Rattle.library_tour.specs.TourGroup.{the_group}
-use Rattle.library_tour.specs.TourSet.{the_steps}
+use Rattle.library_tour.specs.inside.TourGroup.{the_group}
+use Rattle.library_tour.specs.inside.TourSet.{the_steps}
 
 -- the processors, the cluster, the tasks and the semaphore with a user
 pub record HasAll (g : Group) : Type 0 where

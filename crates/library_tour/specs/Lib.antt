@@ -1,3 +1,2 @@
-pub mod TourSet
-pub mod TourGroup
 pub mod RefusedActs
+pub mod inside

@@ -1,7 +1,7 @@
 //! A set of one's own.
 ghost use Rattle.std.specs.Prelude.{◌≡◌, [], ◌∷◌, IfOk};
 ghost use Rattle.rt_task.specs.Draft.{parts_of};
-ghost use Rattle.library_tour.specs.TourSet.{at_once, the_draft, the_sem, the_steps, user};
+ghost use Rattle.library_tour.specs.inside.TourSet.{at_once, the_draft, the_sem, the_steps, user};
 
 use rt_base::{SemNo, TaskNo};
 use rt_task::{

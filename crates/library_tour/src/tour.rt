@@ -1,9 +1,9 @@
 //! The engine, step by step, and what it tells between steps.
 ghost use Rattle.std.specs.Prelude.{◌≡◌, IfOk};
 ghost use Rattle.rt_task.specs.Draft.{parts_of};
-ghost use Rattle.rt_groups.specs.Groups.{GroupHistory, group_of};
-ghost use Rattle.library_tour.specs.TourSet.{the_draft};
-ghost use Rattle.library_tour.specs.TourGroup.{IsOfTour};
+ghost use Rattle.rt_plays.specs.Groups.{GroupHistory, group_of};
+ghost use Rattle.library_tour.specs.inside.TourSet.{the_draft};
+ghost use Rattle.library_tour.specs.inside.TourGroup.{IsOfTour};
 
 use crate::set::SHARED;
 use group_engine::Engine;

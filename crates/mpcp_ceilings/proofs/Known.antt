@@ -12,8 +12,8 @@ use Rattle.rt_rules.proofs.NumberLaws.{numbers_from-below, numbers_from-has}
 use Rattle.rt_model.specs.Group.{Group, cluster, declares, home, in_group, no_cluster, no_task, sems, task, tasks}
 use Rattle.rt_laws.proofs.Rules.{MeetsRules}
 use Rattle.rt_laws.proofs.ValidSets.{rules_of}
-use Rattle.rt_groups.proofs.SetLimits.{sets_are_in_limits}
-use Rattle.mpcp_ceilings.specs.Noting.{AreKnown, HaveRows}
+use Rattle.rt_plays.proofs.SetLimits.{sets_are_in_limits}
+use Rattle.mpcp_ceilings.specs.inside.Noting.{AreKnown, HaveRows}
 
 have-rows : (ss : List SemNo) (n : ℕ) → ((s : ℕ) → has s (map (λ (m : SemNo). m.0) ss) ≡ true → s < n) → HaveRows ss n
 have-rows [] n h k d low = absurd (omega (arith, low))

@@ -11,7 +11,7 @@ use Rattle.rt_rules.proofs.NumberLaws.{numbers_from-below}
 use Rattle.rt_model.specs.Boosts.{mpcp_ceiling}
 use Rattle.rt_model.specs.Group.{Group, cluster, declares, home, in_group, no_cluster, no_task, sems, task, tasks, users}
 use Rattle.mpcp_ceilings.specs.Ceilings.{AreCeilings, CeilingTable, CeilingsAreTold, smallest_outside}
-use Rattle.mpcp_ceilings.specs.Noting.{lowered, noted_uses, with_user}
+use Rattle.mpcp_ceilings.specs.inside.Noting.{lowered, noted_uses, with_user}
 use Rattle.mpcp_ceilings.specs.declared.user_prios.UserPrios.{UserPrios}
 use Rattle.mpcp_ceilings.proofs.SmallestLaws.{foremost-push}
 use Rattle.mpcp_ceilings.proofs.UserLaws.{IsOrdered, noted-at, noted-length, outside-with_user, with_user-ordered}

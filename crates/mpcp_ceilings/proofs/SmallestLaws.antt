@@ -6,7 +6,7 @@ use Rattle.rt_rules.specs.Numbers.{foremost, has}
 use Rattle.rt_rules.proofs.BoolLaws.{either, or_true}
 use Rattle.rt_rules.proofs.KeyLaws.{IsOrder, foremost-is, foremost-none, foremost-some}
 use Rattle.rt_rules.proofs.MemberLaws.{equal_self, has-push}
-use Rattle.mpcp_ceilings.specs.Noting.{lowered}
+use Rattle.mpcp_ceilings.specs.inside.Noting.{lowered}
 
 by_number : IsOrder nat_lt
 by_number = record {

@@ -9,7 +9,7 @@ use Rattle.rt_rules.specs.Numbers.{has}
 use Rattle.rt_rules.proofs.BoolLaws.{clash}
 use Rattle.rt_rules.proofs.MemberLaws.{equal_self}
 use Rattle.mpcp_ceilings.specs.Ceilings.{smallest_outside}
-use Rattle.mpcp_ceilings.specs.Noting.{lowered, noted_uses, with_user}
+use Rattle.mpcp_ceilings.specs.inside.Noting.{lowered, noted_uses, with_user}
 use Rattle.mpcp_ceilings.specs.declared.user_prios.UserPrios.{UserPrios}
 
 -- the smallest among other clusters is no smaller than the smallest of all

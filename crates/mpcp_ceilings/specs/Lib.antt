@@ -1,2 +1,2 @@
 pub mod Ceilings
-pub mod Noting
+pub mod inside

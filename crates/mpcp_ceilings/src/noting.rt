@@ -3,7 +3,7 @@ ghost use Rattle.std.specs.Prelude.{◌≡◌, ◌+◌, ◌<◌, ◌==◌, IfOk,
 ghost use Rattle.rt_plays.specs.Plays.{group_with};
 ghost use Rattle.rt_model.specs.Group.{no_cluster};
 ghost use Rattle.mpcp_ceilings.specs.Ceilings.{AreCeilings};
-ghost use Rattle.mpcp_ceilings.specs.Noting.{AreKnown, HaveRows, noted_uses};
+ghost use Rattle.mpcp_ceilings.specs.inside.Noting.{AreKnown, HaveRows, noted_uses};
 
 use crate::user_prios::{UserPrios, with_user};
 use rt_base::{GroupNo, NoMemory};

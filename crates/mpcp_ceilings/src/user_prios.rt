@@ -1,7 +1,7 @@
 //! What is kept of a semaphore's users.
 ghost use Rattle.std.specs.Prelude.{◌≡◌, Some};
 ghost use Rattle.mpcp_ceilings.specs.Ceilings as told;
-ghost use Rattle.mpcp_ceilings.specs.Noting as noted;
+ghost use Rattle.mpcp_ceilings.specs.inside.Noting as noted;
 
 use rt_base::ClusterNo;
 

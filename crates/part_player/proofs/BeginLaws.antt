@@ -19,8 +19,8 @@ use Rattle.rt_model.specs.Group.{Group, declares, task, tasks}
 use Rattle.rt_model.specs.Past.{now}
 use Rattle.rt_model.specs.Runs.{runs}
 use Rattle.rt_laws.proofs.ValidSets.{rules_of}
-use Rattle.group_facts.specs.Kept.{cpu_of}
-use Rattle.group_facts.proofs.KeptMoves.{task-range}
+use Rattle.group_jobs.specs.Kept.{cpu_of}
+use Rattle.group_jobs.proofs.KeptMoves.{task-range}
 use Rattle.group_jobs.specs.GroupJobs.{IsTaskOf, RunsTask, task_in}
 use Rattle.mpcp_ceilings.specs.Ceilings.{AreCeilings, CeilingTable}
 use Rattle.split_rules.specs.PartAnswers.{answer, asked, part_act}

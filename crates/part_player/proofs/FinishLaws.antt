@@ -20,7 +20,7 @@ use Rattle.rt_model.specs.Answers.{link_reply, work_answer}
 use Rattle.rt_model.specs.Group.{Group, tasks}
 use Rattle.rt_model.specs.Runs.{runs}
 use Rattle.rt_plays.specs.Plays.{group_with}
-use Rattle.rt_groups.proofs.GroupLimits.{processor-low}
+use Rattle.rt_plays.proofs.GroupLimits.{processor-low}
 use Rattle.mpcp_ceilings.specs.Ceilings.{AreCeilings, CeilingTable}
 use Rattle.split_facts.specs.Kept.{IsPlainPart}
 use Rattle.rt_rules.specs.Numbers.{has, same}
@@ -37,8 +37,8 @@ use Rattle.part_state.specs.States.{IsAt, PartState, after_act, after_take, open
 use Rattle.part_state.proofs.KeptLaws.{kept_after_act, kept_after_clock, kept_after_take, kept_at_opening}
 use Rattle.part_player.specs.Kept.{IsKept, stands_at}
 use Rattle.part_player.specs.Players.{IsAnswered, IsOfSplit, entry_of, moved, own_script, take_entry}
-use Rattle.part_player.specs.Openings.{tasks_at}
-use Rattle.part_player.specs.Replies.{can_come, comes_to_irq, comes_to_op}
+use Rattle.part_player.specs.inside.Openings.{tasks_at}
+use Rattle.part_player.specs.inside.Replies.{can_come, comes_to_irq, comes_to_op}
 use Rattle.part_player.proofs.OwnParts.{not-enforced, own-inside, own-tasks}
 use Rattle.part_player.proofs.OwnSteps.{IsOwnStep, next-step, steps-pushed}
 

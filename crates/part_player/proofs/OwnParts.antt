@@ -26,7 +26,7 @@ use Rattle.rt_model.specs.Group.{Group, cluster, cluster_with, clusters, cpus, f
 use Rattle.rt_plays.specs.Drives.{steps_given}
 use Rattle.rt_plays.specs.Plays.{group_with}
 use Rattle.rt_plays.specs.Room.{processor_count}
-use Rattle.rt_groups.proofs.SetLimits.{sets_are_in_limits}
+use Rattle.rt_plays.proofs.SetLimits.{sets_are_in_limits}
 use Rattle.rt_laws.proofs.GroupLaws.{tasks_of-home}
 use Rattle.rt_laws.proofs.ValidSets.{rules_of, task-numbered}
 use Rattle.split_set.specs.SplitSets.{has_split_steps, is_split_act, is_split_plugin, is_split_protocol, is_split_set, is_split_task}
@@ -36,7 +36,7 @@ use Rattle.split_rules.specs.Partitions.{group_no, part_group}
 use Rattle.split_rules.specs.SemHistories.{seat_of}
 use Rattle.split_laws.specs.Keys.{AllBoost}
 use Rattle.split_laws.specs.Parts.{IsSeat}
-use Rattle.part_player.specs.Openings.{tasks_at}
+use Rattle.part_player.specs.inside.Openings.{tasks_at}
 use Rattle.part_player.specs.Players.{IsOfSplit}
 use Rattle.part_player.proofs.SingleClusters.{AreSingle, single-first, single-in, single-sum}
 

@@ -16,7 +16,7 @@ use Rattle.rt_model.specs.Past.{entries_in, now}
 use Rattle.rt_model.specs.Steps.{IsStepOf}
 use Rattle.rt_plays.specs.Drives.{steps_given}
 use Rattle.rt_plays.specs.Homes.{IsProcessorOf}
-use Rattle.rt_groups.proofs.GroupLimits.{steps-few, steps-of_groups}
+use Rattle.rt_plays.proofs.GroupLimits.{steps-few, steps-of_groups}
 use Rattle.split_set.specs.SplitSets.{is_split_act}
 use Rattle.split_rules.specs.PartHistories.{after, after_entry, past_from, past_of, step_by, steps_of}
 use Rattle.split_rules.specs.PartPast.{PartPast, moves}

@@ -1,4 +1,3 @@
 pub mod Players
-pub mod Replies
-pub mod Openings
 pub mod Kept
+pub mod inside

@@ -1,12 +1,12 @@
 //! What an act that was answered makes of the state.
 ghost use Rattle.std.specs.Prelude.{◌≡◌, ℕ, ◌<◌, true, length, Some};
 ghost use Rattle.split_set.specs.SplitSets.{is_split_act};
-ghost use Rattle.group_facts.specs.Kept.{cpu_of};
+ghost use Rattle.group_jobs.specs.Kept.{cpu_of};
 ghost use Rattle.group_jobs.specs.GroupJobs.{IsTaskOf, is_op_reply};
 ghost use Rattle.group_jobs.specs.States.{SleepIsShort};
 ghost use Rattle.rt_task.specs.declared.Act.TheVariants as acts;
 ghost use Rattle.part_state.specs.States.{after_act};
-ghost use Rattle.part_player.specs.Replies.{can_come};
+ghost use Rattle.part_player.specs.inside.Replies.{can_come};
 
 use part_state::PartState;
 use rt_base::CpuNo;

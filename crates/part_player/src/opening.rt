@@ -5,7 +5,7 @@ ghost use Rattle.rt_base.specs.TaskNos.{numbers};
 ghost use Rattle.rt_base.specs.declared.TheConstants.{MOST_TASKS};
 ghost use Rattle.rt_plays.specs.Drives.{steps_given};
 ghost use Rattle.rt_plays.specs.Scripts.{script};
-ghost use Rattle.part_player.specs.Openings.{tasks_at};
+ghost use Rattle.part_player.specs.inside.Openings.{tasks_at};
 
 use rt_base::{ClusterNo, CpuNo, GroupNo, NoMemory, TaskNo};
 use rt_task::{Cluster, Drive, Parts, Step, Task};

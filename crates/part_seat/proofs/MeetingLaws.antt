@@ -21,12 +21,13 @@ use Rattle.split_rules.specs.declared.SemEntry.{SemEntry}
 use Rattle.split_rules.specs.declared.SplitEntry.{SplitEntry}
 use Rattle.split_inbox.specs.Books as book
 use Rattle.split_inbox.specs.Books.{cpu_of}
+use Rattle.split_inbox.specs.declared.subject.SemOf.{SemOf}
 use Rattle.split_laws.specs.Parts.{HasSeen, HaveGrown, IsActIn, IsPartPast}
 use Rattle.split_laws.specs.Runs.{IsOutcome}
 use Rattle.split_laws.proofs.EntryLaws.{legal_past_is_known}
 use Rattle.split_laws.proofs.RunLaws.{entry_joins}
 use Rattle.split_laws.proofs.RunLists.{by_number}
-use Rattle.split_laws.proofs.StepLaws.{same-legal}
+use Rattle.split_laws.proofs.StepLaws.{same-legal, some-same}
 use Rattle.split_laws.proofs.TheLaws.{seen_acts, seen_alone, seen_grows}
 use Rattle.split_counts.specs.Room.{ComesNext}
 use Rattle.split_turns.specs.SplitTurns.{book_of}
@@ -35,9 +36,10 @@ use Rattle.part_books.specs.PartBooks.{CanAsk, CanRelease, StandsAt}
 use Rattle.part_books.proofs.BookLaws.{may_ask_book, may_release_book}
 use Rattle.part_player.specs.Players.{IsAsking, IsFreeing, IsPlayed, own_script}
 use Rattle.part_player.proofs.OwnParts.{own-seat}
-use Rattle.part_seat.specs.AtTurns.{HasGiven, IsFound}
+use Rattle.part_seat.specs.AtTurns.{About, HasGiven, IsFound}
 use Rattle.part_seat.specs.Partitions.{IsMeeting, IsSeatAt, Seat, books_in}
 use Rattle.part_seat.proofs.BookLists.{books-at, put, put-grown, put-here, put-others, set-here, set-others}
+use Rattle.part_seat.proofs.PlaceLaws.{IsPlace}
 
 equal-clash : (i j : ℕ) → i ≡ j → nat_eq i j ≡ false → ⊥
 equal-clash i j e k = let t = equal_self j in let u = ap (λ x. nat_eq x j) e in cc
@@ -95,15 +97,35 @@ module _ (p : Parts) (q : ℕ) (es : List SplitEntry) (seats : List Seat) (playe
       at_home = home;
     }
 
-    pub can-ask : (t : ℕ) (x : Step) → ComesNext (own_script p q) q es x → IsAsking g q past x t s → CanAsk (book_of p s) fs q t
+    can-ask : (t : ℕ) (x : Step) → ComesNext (own_script p q) q es x → IsAsking g q past x t s → CanAsk (book_of p s) fs q t
     can-ask t x next asks =
         subst (λ l. CanAsk (book_of p s) l q t) (put-here books s fs)
         (may_ask_book p q s t (put books s fs) es x (stands t x next asks.names asks.low asks.high asks.at_home) asks.holds asks.waits)
 
-    pub can-release : (t : ℕ) (x : Step) → ComesNext (own_script p q) q es x → IsFreeing g q past x t s → CanRelease (book_of p s) fs q t
+    can-release : (t : ℕ) (x : Step) → ComesNext (own_script p q) q es x → IsFreeing g q past x t s → CanRelease (book_of p s) fs q t
     can-release t x next frees =
         subst (λ l. CanRelease (book_of p s) l q t) (put-here books s fs)
         (may_release_book p q s t (put books s fs) es x (stands t x next frees.names frees.low frees.high frees.at_home) frees.holds)
+
+  -- so it is at the seat, to which the processor comes under this number
+  module _ (s : ℕ) (d : Seat) (at : IsPlace p q s seats d) (n : ℕ) (own : n ≡ q) (t : ℕ) (x : Step) (next : ComesNext (own_script p q) q es x) where
+    abbrev seat : Seat
+    seat = slice_index_or seats (s - 1) d
+
+    found-there : (about : SemOf) → seat.cell.subject ≡ Some about → (fs : List SemEntry) → IsFound about n seat.seen fs → IsFound (book_of p s) q (books s) fs
+    found-there about here fs found =
+        subst (λ l. IsFound (book_of p s) q l fs) (sym (books-at seats s d at.low at.high))
+        (subst (λ m. IsFound (book_of p s) m seat.seen fs) own (subst (λ b. IsFound b n seat.seen fs) (some-same (sym here ∙ at.seat.about)) found))
+
+    pub may-ask : IsAsking g q past x t s → About seat (λ about. (fs : List SemEntry) → IsFound about n seat.seen fs → CanAsk about fs n t)
+    may-ask asks about here fs found =
+        subst (λ m. CanAsk about fs m t) (sym own)
+        (subst (λ b. CanAsk b fs q t) (some-same (sym at.seat.about ∙ here)) (can-ask s fs (found-there about here fs found) t x next asks))
+
+    pub may-release : IsFreeing g q past x t s → About seat (λ about. (fs : List SemEntry) → IsFound about n seat.seen fs → CanRelease about fs n t)
+    may-release frees about here fs found =
+        subst (λ m. CanRelease about fs m t) (sym own)
+        (subst (λ b. CanRelease b fs q t) (some-same (sym at.seat.about ∙ here)) (can-release s fs (found-there about here fs found) t x next frees))
 
   -- ---- the seat at the turn of semaphore s has seen more
   module _ (s : ℕ) (low : 1 ≤ s) (high : s - 1 < length seats) (a' : Seat) (d : Seat)

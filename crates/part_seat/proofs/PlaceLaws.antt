@@ -1,5 +1,5 @@
 -- The seat and the turn of a semaphore that a partition knows, and how long its history may be.
-use Rattle.std.proofs.Common.{◌≡◌, ℕ, ◌+◌, ◌-◌, ◌<◌, ◌≤◌, true, List, length, map, sym, ap, ◌∙◌, subst, arith}
+use Rattle.std.proofs.Common.{◌≡◌, ℕ, ◌+◌, ◌-◌, ◌^◌, ◌<◌, ◌≤◌, true, List, length, map, sym, ap, ◌∙◌, subst, arith}
 use Rattle.std.specs.Prelude.{filter, slice_index_or}
 use Rattle.std.proofs.lemmas.List.{get_or-map, length-map}
 use Rattle.rt_task.specs.Validity.{IsValid}
@@ -21,10 +21,13 @@ use Rattle.split_rules.specs.PartPast.{PartPast}
 use Rattle.split_rules.specs.Partitions.{part_group}
 use Rattle.split_turns.specs.SplitTurns.{quota, quotas}
 use Rattle.split_turns.proofs.ListLaws.{kept-within, lengths-within, map-same, script-count}
+use Rattle.split_laws.proofs.StepLaws.{some-same}
+use Rattle.part_player.specs.Players.{IsOfSplit}
 use Rattle.part_player.proofs.OwnParts.{few-steps}
+use Rattle.part_seat.specs.AtTurns.{About}
 use Rattle.part_seat.specs.Partitions.{IsMeeting, IsSeatAt, Seat, cells_of}
 
-pub sem-range : (g : Group) (s : ℕ) → has s (sems g) ≡ true → (1 ≤ s) × (s ≤ length g.setup.sems)
+sem-range : (g : Group) (s : ℕ) → has s (sems g) ≡ true → (1 ≤ s) × (s ≤ length g.setup.sems)
 unfolding sems
 sem-range g s h =
     let low : 1 ≤ s = has-numbers_from s 1 (length g.setup.sems) h in
@@ -46,16 +49,17 @@ pub record IsPlace (p : Parts) (q s : ℕ) (seats : List Seat) (d : Seat) : Type
   pub high : s - 1 < length seats
   pub seat : IsSeatAt p q s (slice_index_or seats (s - 1) d)
 
+pub within-seats : (p : Parts) (q s : ℕ) (seats : List Seat) (past : PartPast) → IsMeeting p q seats past → has s (sems (part_group p q)) ≡ true → (1 ≤ s) × (s - 1 < length seats)
+within-seats p q s seats past meeting known = let r = sem-range (part_group p q) s known in let n = meeting.count in (r.0, omega (arith, r.0, r.1, n))
+
 pub place-of : (p : Parts) (q s : ℕ) (seats : List Seat) (past : PartPast) (d : Seat) → IsMeeting p q seats past → has s (sems (part_group p q)) ≡ true → IsPlace p q s seats d
 place-of p q s seats past d meeting known =
-    let r = sem-range (part_group p q) s known in
-    let n = meeting.count in
-    let high : s - 1 < length seats = omega (arith, r.0, r.1, n) in
+    let r = within-seats p q s seats past meeting known in
     let back : s - 1 + 1 ≡ s = omega (arith, r.0) in
-    record { low = r.0; high = high; seat = subst (λ m. IsSeatAt p q m (slice_index_or seats (s - 1) d)) back (meeting.each (s - 1) d high) }
+    record { low = r.0; high = r.1; seat = subst (λ m. IsSeatAt p q m (slice_index_or seats (s - 1) d)) back (meeting.each (s - 1) d r.1) }
 
 -- the entries of a semaphore's history are few
-pub quotas-few : (p : Parts) (s : ℕ) → IsValid p → is_split_set p ≡ true → sum_of (quotas p s) ≤ MOST_SPLIT_STEPS
+quotas-few : (p : Parts) (s : ℕ) → IsValid p → is_split_set p ≡ true → sum_of (quotas p s) ≤ MOST_SPLIT_STEPS
 quotas-few p s valid split =
     let uses : List Step = filter (λ (x : Step). names_sem s x.act) (steps_given p.drive) in
     let same = ap sum_of (map-same (λ q. length (script uses q)) (quota p s) (λ q. script-count (names_sem s) q (steps_given p.drive)) (numbers_from 0 (processor_count p))) in
@@ -63,3 +67,9 @@ quotas-few p s valid split =
     let kept = kept-within (names_sem s) (steps_given p.drive) in
     let few = few-steps p valid split in
     omega (arith, same, within, kept, few)
+
+pub few-there : (p : Parts) (q s : ℕ) (seats : List Seat) (d : Seat) → IsPlace p q s seats d → IsOfSplit p q → About (slice_index_or seats (s - 1) d) (λ x. sum_of x.quotas < 2 ^ 32)
+few-there p q s seats d at of x here =
+    let few = quotas-few p s of.valid of.split in
+    let same = ap (λ (y : SemOf). sum_of y.quotas) (some-same (sym at.seat.about ∙ here)) in
+    omega (arith, few, same)

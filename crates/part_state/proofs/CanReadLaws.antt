@@ -5,13 +5,13 @@ use Rattle.rt_rules.specs.Numbers.{has}
 use Rattle.rt_rules.proofs.NumberLaws.{has-numbers_from, numbers_from-below}
 use Rattle.rt_model.specs.Group.{Group, sems}
 use Rattle.rt_model.specs.Past.{entries_in, now}
-use Rattle.rt_groups.specs.Limits.{IsTaskInLimits}
-use Rattle.rt_groups.proofs.SetLimits.{sets_are_in_limits}
-use Rattle.group_facts.specs.Bounds.{AreBounded}
-use Rattle.group_facts.specs.Facts.{JobFacts, job_facts}
-use Rattle.group_facts.specs.Kept.{job_of}
-use Rattle.group_facts.proofs.FactBounds.{facts_are_bounded}
-use Rattle.group_facts.proofs.KeptMoves.{task-range}
+use Rattle.rt_plays.specs.Limits.{IsTaskInLimits}
+use Rattle.rt_plays.proofs.SetLimits.{sets_are_in_limits}
+use Rattle.group_jobs.specs.Bounds.{AreBounded}
+use Rattle.group_jobs.specs.Facts.{JobFacts, job_facts}
+use Rattle.group_jobs.specs.Kept.{job_of}
+use Rattle.group_jobs.proofs.FactBounds.{facts_are_bounded}
+use Rattle.group_jobs.proofs.KeptMoves.{task-range}
 use Rattle.group_jobs.specs.GroupJobs.{task_in}
 use Rattle.split_rules.specs.PartPast.{moves}
 use Rattle.part_state.specs.Reading.{CanBeRead}

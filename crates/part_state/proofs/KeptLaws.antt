@@ -14,9 +14,9 @@ use Rattle.rt_rules.proofs.MemberLaws.{equal_self}
 use Rattle.rt_model.specs.Group.{Group, tasks}
 use Rattle.rt_model.specs.Past.{Acted, Clock, accepted, now}
 use Rattle.rt_model.specs.Runs.{runs}
-use Rattle.group_facts.specs.Kept.{cpu_of}
-use Rattle.group_facts.proofs.KeptMoves.{length-replicated, replicated, task-range}
-use Rattle.group_facts.proofs.KeptMoves as jobs
+use Rattle.group_jobs.specs.Kept.{cpu_of}
+use Rattle.group_jobs.proofs.KeptMoves.{length-replicated, replicated, task-range}
+use Rattle.group_jobs.proofs.KeptMoves as jobs
 use Rattle.split_rules.specs.PartAnswers.{part_act}
 use Rattle.split_rules.specs.PartPast.{Asks, Deed, Frees, Gets, Moved, PartEvent, PartPast, TaskDeed, Took, deed_in, deed_of, moves}
 use Rattle.split_rules.specs.PartSems.{awaited_after, awaited_by, awaiting, begins, begins_to_hold, held_after, held_by, held_since, holding}

@@ -12,7 +12,7 @@ use Rattle.rt_rules.specs.Rankings.{ranked_by}
 use Rattle.rt_rules.proofs.BoolLaws.{or_true}
 use Rattle.rt_rules.proofs.MemberLaws.{equal_self}
 use Rattle.mpcp_ceilings.specs.Ceilings.{CeilingTable}
-use Rattle.part_state.specs.Candidates.{head}
+use Rattle.part_state.specs.inside.Candidates.{head}
 use Rattle.part_state.specs.Reads.{better, better_with, key_in, may_run}
 use Rattle.part_state.specs.States.{PartState}
 

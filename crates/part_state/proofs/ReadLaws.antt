@@ -16,10 +16,10 @@ use Rattle.rt_model.specs.Group.{Group, cluster_with, home, protocol, resv, sem,
 use Rattle.rt_model.specs.Group as group
 use Rattle.rt_model.specs.Releases.{ready}
 use Rattle.rt_plays.specs.Plays.{group_with}
-use Rattle.group_facts.specs.Facts.{JobFacts}
-use Rattle.group_facts.specs.Kept.{job_of}
-use Rattle.group_facts.specs.Words.{AreRead, key_of}
-use Rattle.group_facts.proofs.KeptMoves.{words_of_kept}
+use Rattle.group_jobs.specs.Facts.{JobFacts}
+use Rattle.group_jobs.specs.Kept.{job_of}
+use Rattle.group_jobs.specs.Words.{AreRead, key_of}
+use Rattle.group_jobs.proofs.KeptMoves.{words_of_kept}
 use Rattle.mpcp_ceilings.specs.Ceilings.{CeilingTable}
 use Rattle.mpcp_ceilings.proofs.NotedLaws.{ceilings_are_told}
 use Rattle.split_rules.specs.PartLinks.{boost, boost_by, boost_of, effective_key, eligible, part, ranking, tasks}

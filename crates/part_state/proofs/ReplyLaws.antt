@@ -16,8 +16,8 @@ use Rattle.rt_model.specs.Answers.{last_work, link_reply, no_budget, work_answer
 use Rattle.rt_model.specs.Group.{Group, declares, task, tasks}
 use Rattle.rt_model.specs.Past.{Past}
 use Rattle.rt_model.specs.Runs.{runs}
-use Rattle.group_facts.specs.Kept.{cpu_of}
-use Rattle.group_facts.specs.Replies.{irq_reply, run_reply, work_reply}
+use Rattle.group_jobs.specs.Kept.{cpu_of}
+use Rattle.group_jobs.specs.Replies.{irq_reply, run_reply, work_reply}
 use Rattle.split_rules.specs.PartAnswers.{answer, asked, do_answer, end_answer, irq_answer, lock_answer, op_answer, unlock_answer}
 use Rattle.split_rules.specs.PartLinks.{linked, pending}
 use Rattle.split_rules.specs.PartPast.{PartPast, moves}

@@ -8,7 +8,7 @@ use Rattle.rt_rules.specs.declared.history.Reply.{Reply}
 use Rattle.rt_rules.specs.Numbers.{has}
 use Rattle.rt_model.specs.Group.{Group, tasks}
 use Rattle.rt_model.specs.Past.{Acted, Clock, accepted}
-use Rattle.group_facts.specs.Kept.{HasRoom}
+use Rattle.group_jobs.specs.Kept.{HasRoom}
 use Rattle.split_rules.specs.PartAnswers.{answer, part_act}
 use Rattle.split_rules.specs.PartPast.{Claim, Moved, PartPast, Took}
 use Rattle.split_facts.specs.Kept.{IsPlainPart}

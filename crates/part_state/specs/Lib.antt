@@ -1,8 +1,8 @@
 pub mod States
 pub mod Keeping
-pub mod Candidates
 pub mod Reads
 pub mod Reading
 pub mod Uses
 pub mod Replies
 pub mod Entries
+pub mod inside

@@ -12,8 +12,8 @@ use Rattle.rt_rules.specs.Numbers.{first}
 use Rattle.rt_rules.specs.Rankings.{ranked_by, tasks_of}
 use Rattle.rt_model.specs.Group.{no_sem}
 use Rattle.rt_plays.specs.Plays.{group_with}
-use Rattle.group_facts.specs.Kept.{job_of}
-use Rattle.group_facts.specs.Words.{is_ready, key_of}
+use Rattle.group_jobs.specs.Kept.{job_of}
+use Rattle.group_jobs.specs.Words.{is_ready, key_of}
 use Rattle.group_jobs.specs.GroupJobs.{IsTaskOf, task_in}
 use Rattle.mpcp_ceilings.specs.Ceilings.{CeilingTable, ceiling_in}
 use Rattle.part_state.specs.States.{PartState, lock_of}

@@ -13,8 +13,8 @@ use Rattle.rt_rules.specs.declared.history.Reply.TheVariants as replies
 use Rattle.rt_rules.specs.Numbers.{has, same}
 use Rattle.rt_model.specs.Group.{Group, group_processors, tasks}
 use Rattle.rt_model.specs.Runs.{runs}
-use Rattle.group_facts.specs.Kept.{cpu_of}
-use Rattle.group_facts.specs.Replies.{irq_reply, work_reply}
+use Rattle.group_jobs.specs.Kept.{cpu_of}
+use Rattle.group_jobs.specs.Replies.{irq_reply, work_reply}
 use Rattle.group_jobs.specs.GroupJobs.{task_in}
 use Rattle.split_rules.specs.PartAnswers.{answer, asked}
 use Rattle.split_rules.specs.PartLinks.{linked}

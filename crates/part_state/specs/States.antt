@@ -8,8 +8,8 @@ use Rattle.rt_task.specs.declared.Task.{Task}
 use Rattle.rt_rules.specs.declared.history.Reply.{Reply}
 use Rattle.rt_rules.specs.Numbers.{has}
 use Rattle.rt_model.specs.Group.{Group, tasks}
-use Rattle.group_facts.specs.Kept.{IsKept, Kept, cpu_of, has_acted}
-use Rattle.group_facts.specs.Kept as jobs
+use Rattle.group_jobs.specs.Kept.{IsKept, Kept, cpu_of, has_acted}
+use Rattle.group_jobs.specs.Kept as jobs
 use Rattle.split_rules.specs.PartPast.{Asks, Claim, Deed, Frees, Gets, PartPast, TaskDeed, deed_of, moves}
 use Rattle.split_rules.specs.PartSems.{awaiting, held_since, holding}
 use Rattle.part_state.specs.declared.locks.TaskLock.{TaskLock}

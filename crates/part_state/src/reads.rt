@@ -3,7 +3,7 @@ ghost use Rattle.std.specs.Prelude.{◌≡◌, ◌+◌, true, length};
 ghost use Rattle.rt_base.specs.TaskNos.{number_of_task, numbers};
 ghost use Rattle.rt_rules.specs.Keys.{ahead};
 ghost use Rattle.rt_rules.specs.Numbers.{has};
-ghost use Rattle.part_state.specs.Candidates.{ranked, ranked_best};
+ghost use Rattle.part_state.specs.inside.Candidates.{ranked, ranked_best};
 ghost use Rattle.part_state.specs.Reads as words;
 ghost use Rattle.part_state.specs.Reads.{CanRead};
 

@@ -1,8 +1,8 @@
 //! What an act of a partition's processor comes to.
 ghost use Rattle.std.specs.Prelude.{◌≡◌, ◌<◌, ◌≤◌, false, length};
 ghost use Rattle.rt_base.specs.TaskNos.{number_of_task};
-ghost use Rattle.group_facts.specs.Replies as told;
-ghost use Rattle.group_facts.specs.Kept.{cpu_of};
+ghost use Rattle.group_jobs.specs.Replies as told;
+ghost use Rattle.group_jobs.specs.Kept.{cpu_of};
 ghost use Rattle.group_jobs.specs.GroupJobs.{RunsTask};
 ghost use Rattle.part_state.specs.Uses.{is_declared};
 ghost use Rattle.part_state.specs.Replies as words;

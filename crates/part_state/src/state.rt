@@ -3,8 +3,8 @@ ghost use Rattle.std.specs.Prelude.{◌≡◌, ◌-◌, ◌<◌, ◌≤◌, true
 ghost use Rattle.rt_base.specs.TaskNos.{number_of_task};
 ghost use Rattle.rt_base.specs.declared.TheConstants.{MOST_TASKS};
 ghost use Rattle.rt_task.specs.declared.Act.TheVariants as acts;
-ghost use Rattle.group_facts.specs.Kept.{cpu_of};
-ghost use Rattle.group_facts.specs.Replies.{run_reply};
+ghost use Rattle.group_jobs.specs.Kept.{cpu_of};
+ghost use Rattle.group_jobs.specs.Replies.{run_reply};
 ghost use Rattle.group_jobs.specs.GroupJobs.{IsTaskOf, is_op_reply};
 ghost use Rattle.group_jobs.specs.States.{SleepIsShort};
 ghost use Rattle.split_rules.specs.PartPast.{deed_of};

@@ -11,10 +11,10 @@ use Rattle.rt_model.specs.Boosts.{boost_by, boosts_fmlp, granted_at, mpcp_ceilin
 use Rattle.rt_model.specs.Group.{Group, protocol, task}
 use Rattle.rt_model.specs.Past.{Past}
 use Rattle.rt_model.specs.Releases.{deadline, release}
-use Rattle.rt_groups.proofs.TaskNumbers.{task-number}
+use Rattle.rt_plays.proofs.TaskNumbers.{task-number}
 use Rattle.plugins.specs.GlobalBoosts.{global_boost}
 use Rattle.plugins.specs.DeadlineKeys.{deadline_key}
-use Rattle.rt_groups.specs.PluginKeys.{AreBaseKeys, AreBoosts}
+use Rattle.rt_plays.specs.PluginKeys.{AreBaseKeys, AreBoosts}
 
 -- ---- by deadline
 

@@ -11,11 +11,11 @@ use Rattle.rt_model.specs.BaseKeys.{base_key, key_by}
 use Rattle.rt_model.specs.Boosts.{boost_by, boosts_fmlp, granted_at, mpcp_ceiling}
 use Rattle.rt_model.specs.Group.{Group, protocol, resv, served_by, task}
 use Rattle.rt_model.specs.Past.{Past}
-use Rattle.rt_groups.proofs.TaskNumbers.{task-number}
+use Rattle.rt_plays.proofs.TaskNumbers.{task-number}
 use Rattle.plugins.proofs.GlobalKeyLaws.{deadline_keys_are_bases, global_boosts}
 use Rattle.plugins.specs.GlobalBoosts.{global_boost}
 use Rattle.plugins.specs.DeadlineKeys.{deadline_key}
-use Rattle.rt_groups.specs.PluginKeys.{AreBaseKeys, AreBoosts}
+use Rattle.rt_plays.specs.PluginKeys.{AreBaseKeys, AreBoosts}
 use Rattle.plugins.specs.PartitionedBoosts.{partitioned_boost}
 use Rattle.plugins.specs.PriorityKeys.{priority_key}
 use Rattle.plugins.specs.ReservationKeys.{reservation_key, resv_number}

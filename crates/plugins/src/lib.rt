@@ -3,7 +3,7 @@
 //! PSN-EDF, by deadline, P-FP, by fixed priorities, and P-RES, by the priorities of reservations.
 #![tactic(auto)]
 
-ghost use Rattle.rt_groups.specs.PluginKeys.{AreBaseKeys, AreBoosts};
+ghost use Rattle.rt_plays.specs.PluginKeys.{AreBaseKeys, AreBoosts};
 
 mod c_edf;
 mod global;

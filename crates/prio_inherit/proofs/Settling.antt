@@ -366,12 +366,12 @@ module _ (n : ℕ) where
 -- ---- a walk, as the code follows it
 
 module _ (bases : List (Option Key)) (os : List (Option TaskNo)) (keys : List Key) where
-  pub follow-step : (t : ℕ) (k : Key) → IsSettling bases (numbers_of_tasks os) keys (Some t) → IsTop (length os) (next_of (numbers_of_tasks os)) (key_at keys) (base_of bases t) t k → IsSettling bases (numbers_of_tasks os) (set keys t k) (number_of_task (get_or os t None))
-  follow-step t k ok top = subst (λ o. IsSettling bases (numbers_of_tasks os) (set keys t k) o) (next_of-numbers os t) (settle-step bases (numbers_of_tasks os) keys t k ok (subst (λ n. IsTop n (next_of (numbers_of_tasks os)) (key_at keys) (base_of bases t) t k) (sym (length-numbers os)) top))
+  pub walk-step : (t : ℕ) (k : Key) → IsSettling bases (numbers_of_tasks os) keys (Some t) → IsTop (length os) (next_of (numbers_of_tasks os)) (key_at keys) (base_of bases t) t k → IsSettling bases (numbers_of_tasks os) (set keys t k) (number_of_task (get_or os t None))
+  walk-step t k ok top = subst (λ o. IsSettling bases (numbers_of_tasks os) (set keys t k) o) (next_of-numbers os t) (settle-step bases (numbers_of_tasks os) keys t k ok (subst (λ n. IsTop n (next_of (numbers_of_tasks os)) (key_at keys) (base_of bases t) t k) (sym (length-numbers os)) top))
 
-  pub follow-came : (start : Option ℕ) (i t : ℕ) → after (next_of (numbers_of_tasks os)) i start ≡ Some t → after (next_of (numbers_of_tasks os)) (i + 1) start ≡ number_of_task (get_or os t None)
-  follow-came start i t e = rw add-one (after-step (next_of (numbers_of_tasks os)) i t start e ∙ next_of-numbers os t)
+  pub walk-came : (start : Option ℕ) (i t : ℕ) → after (next_of (numbers_of_tasks os)) i start ≡ Some t → after (next_of (numbers_of_tasks os)) (i + 1) start ≡ number_of_task (get_or os t None)
+  walk-came start i t e = rw add-one (after-step (next_of (numbers_of_tasks os)) i t start e ∙ next_of-numbers os t)
 
-  pub follow-end : (keys' : List Key) (start at : Option ℕ) (i : ℕ) → IsSettling bases (numbers_of_tasks os) keys' start → IsSettling bases (numbers_of_tasks os) keys at → after (next_of (numbers_of_tasks os)) i start ≡ at → i ≡ length os → (t : ℕ) → t < length (numbers_of_tasks os) → IsLocal bases (numbers_of_tasks os) keys t
-  follow-end keys' start at i first ok came end =
+  pub walk-end : (keys' : List Key) (start at : Option ℕ) (i : ℕ) → IsSettling bases (numbers_of_tasks os) keys' start → IsSettling bases (numbers_of_tasks os) keys at → after (next_of (numbers_of_tasks os)) i start ≡ at → i ≡ length os → (t : ℕ) → t < length (numbers_of_tasks os) → IsLocal bases (numbers_of_tasks os) keys t
+  walk-end keys' start at i first ok came end =
       settled bases (numbers_of_tasks os) keys at ok (sym came ∙ ap (λ n. after (next_of (numbers_of_tasks os)) n start) (end ∙ sym (length-numbers os)) ∙ walked bases (numbers_of_tasks os) keys' start first)

@@ -89,7 +89,7 @@ fn top_key(
 }
 
 /// Brings the keys up to date along the walk that begins at the given task.
-pub fn follow(
+pub fn update_walk(
     bases: &[Option<Key>],
     nexts: &[Option<TaskNo>],
     counts: &[u32],
@@ -115,7 +115,7 @@ pub fn follow(
 
 /// Brings the keys up to date where a task waits for the holder no longer. Where its key was lower than that of the
 /// holder, they are.
-pub fn follow_left(
+pub fn update_walk_left(
     bases: &[Option<Key>],
     nexts: &[Option<TaskNo>],
     counts: &[u32],
@@ -136,7 +136,7 @@ pub fn follow_left(
     if keys[holder.0 as usize].is_higher(keys[task.0 as usize]) {
         return;
     }
-    follow(bases, nexts, counts, keys, Some(holder));
+    update_walk(bases, nexts, counts, keys, Some(holder));
 }
 
 /// Raises the keys that are lower than the given one to it, along the walk that begins at the given task, up to the

@@ -72,7 +72,7 @@ impl Inherit {
             record self.old { bases = slice_set self.old.bases task.0 (Some key) } }
     {
         self.bases[task.0 as usize] = Some(key);
-        keys::follow(
+        keys::update_walk(
             self.bases.as_slice(),
             self.nexts.as_slice(),
             self.counts.as_slice(),
@@ -110,7 +110,7 @@ impl Inherit {
         };
         self.nexts[task.0 as usize] = None;
         self.counts[holder.0 as usize] -= 1;
-        keys::follow_left(
+        keys::update_walk_left(
             self.bases.as_slice(),
             self.nexts.as_slice(),
             self.counts.as_slice(),

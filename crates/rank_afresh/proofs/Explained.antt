@@ -16,16 +16,16 @@ use Rattle.rt_model.specs.Releases.{release}
 use Rattle.rt_model.specs.Reservations.{front, last}
 use Rattle.rt_model.specs.Sleep.{wakes}
 use Rattle.rt_model.specs.Tops.{eligible, ranking}
-use Rattle.rt_groups.proofs.Unreserved.{no_resvs}
+use Rattle.rt_plays.proofs.Unreserved.{no_resvs}
 use Rattle.resv_core.specs.Served.{IsFront, IsResv, has_ready, last_of, server}
-use Rattle.resv_laws.specs.Kept.{IsShown}
-use Rattle.resv_laws.proofs.ShownLaws.{state_is_shown}
+use Rattle.resv_core.specs.Kept.{IsShown}
+use Rattle.resv_core.proofs.ShownLaws.{state_is_shown}
 use Rattle.sem_table.specs.Told.{state_of, waits_for_of}
-use Rattle.sem_table_laws.proofs.Waits.{tells_waits}
-use Rattle.group_facts.specs.Facts.{JobFacts, job_facts}
-use Rattle.group_facts.specs.Kept.{job_of}
-use Rattle.group_facts.specs.Words.{AreRead, release_of}
-use Rattle.group_facts.proofs.KeptMoves.{words_of_kept}
+use Rattle.sem_table.proofs.Waits.{tells_waits}
+use Rattle.group_jobs.specs.Facts.{JobFacts, job_facts}
+use Rattle.group_jobs.specs.Kept.{job_of}
+use Rattle.group_jobs.specs.Words.{AreRead, release_of}
+use Rattle.group_jobs.proofs.KeptMoves.{words_of_kept}
 use Rattle.group_jobs.specs.GroupJobs.{task_in}
 use Rattle.group_jobs.proofs.ReleaseBounds.{release-low}
 use Rattle.group_sems.proofs.ReadRefusals.{holder_is_read}

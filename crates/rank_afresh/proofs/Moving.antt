@@ -18,9 +18,9 @@ use Rattle.rt_rules.proofs.NumberLaws.{has-numbers_from, numbers_from-below}
 use Rattle.rt_model.specs.Past.{accepted}
 use Rattle.rt_model.specs.Releases.{has_come}
 use Rattle.release_queue.specs.Timers.{tick_at}
-use Rattle.group_facts.specs.Facts.{CpuFacts, idle_cpu}
-use Rattle.group_facts.specs.Kept.{Kept, after_act, cpu_of, has_acted}
-use Rattle.group_facts.specs.Timers.{renewed}
+use Rattle.group_jobs.specs.Facts.{CpuFacts, idle_cpu}
+use Rattle.group_jobs.specs.Kept.{Kept, after_act, cpu_of, has_acted}
+use Rattle.group_jobs.specs.Timers.{renewed}
 use Rattle.group_jobs.specs.GroupJobs.{IsTaskOf}
 use Rattle.group_resvs.specs.GroupResvs.{IsSettled}
 use Rattle.group_core.specs.Facts as core

@@ -11,7 +11,7 @@ use Rattle.rt_model.specs.Group.{Group, cluster_with, cpus, first_cpu, home, no_
 use Rattle.rt_model.proofs.PastLaws.{processor-home}
 use Rattle.rt_laws.proofs.GroupLaws.{tasks_of-home}
 use Rattle.rt_plays.specs.Room.{processor_count}
-use Rattle.group_facts.proofs.KeptMoves.{task-range}
+use Rattle.group_jobs.proofs.KeptMoves.{task-range}
 use Rattle.rank_afresh.specs.Clusters.{ClusterFacts, has_cpu, no_facts}
 use Rattle.rank_afresh.specs.Facts.{cluster_at, unlinked_clusters}
 use Rattle.rank_afresh.specs.Homes.{homes_from, task_homes}

@@ -22,9 +22,9 @@ use Rattle.rt_model.specs.Releases.{ready}
 use Rattle.rt_model.specs.Tops.{eligible, is_admitted, is_served as is_served_by_rules, ranking, top}
 use Rattle.rt_laws.proofs.GroupLaws.{tasks_of-home}
 use Rattle.ready_queue.specs.Refreshed.{put_back, refreshed}
-use Rattle.rank_changes.specs.ClusterMoves.{of_cluster}
-use Rattle.rank_changes.specs.Clusters.{SameStanding}
-use Rattle.rank_changes.proofs.MovedClusters.{ranking_after_move}
+use Rattle.rt_changes.specs.ClusterMoves.{of_cluster}
+use Rattle.rt_changes.specs.Clusters.{SameStanding}
+use Rattle.rt_changes.proofs.rankings.MovedClusters.{ranking_after_move}
 use Rattle.group_resvs.specs.GroupResvs.{GroupResvs, is_served}
 use Rattle.group_resvs.specs.Laws.{AreChanged}
 use Rattle.group_core.specs.Facts as core

@@ -28,15 +28,15 @@ use Rattle.rt_model.specs.Reservations.{left}
 use Rattle.rt_model.specs.Sleep.{sleeps}
 use Rattle.rt_laws.proofs.ValidSets.{keeps_rows}
 use Rattle.rt_changes.proofs.Lists.{filter-same}
-use Rattle.rt_groups.proofs.Unreserved.{no_resvs}
-use Rattle.rt_groups.proofs.ValidRows.{passes_rows}
+use Rattle.rt_plays.proofs.Unreserved.{no_resvs}
+use Rattle.rt_plays.proofs.ValidRows.{passes_rows}
 use Rattle.resv_core.specs.Served.{IsResv, is_cluster_here, is_here, left_of, server}
-use Rattle.resv_laws.proofs.ShownLaws.{state_is_shown}
+use Rattle.resv_core.proofs.ShownLaws.{state_is_shown}
 use Rattle.sem_table.specs.Told.{held_of, state_of}
-use Rattle.group_facts.specs.Facts.{JobFacts, job_facts}
-use Rattle.group_facts.specs.Kept.{job_of}
-use Rattle.group_facts.specs.Words.{AreRead, is_asleep, is_there}
-use Rattle.group_facts.proofs.KeptMoves.{task-range, words_of_kept}
+use Rattle.group_jobs.specs.Facts.{JobFacts, job_facts}
+use Rattle.group_jobs.specs.Kept.{job_of}
+use Rattle.group_jobs.specs.Words.{AreRead, is_asleep, is_there}
+use Rattle.group_jobs.proofs.KeptMoves.{task-range, words_of_kept}
 use Rattle.group_jobs.specs.GroupJobs.{IsTaskOf, task_in}
 use Rattle.group_sems.specs.Telling.{HasBase}
 use Rattle.prio_inherit.specs.Waits as kept_keys

@@ -3,7 +3,7 @@ ghost use Rattle.std.specs.Prelude.{◌≡◌, ◌+◌, ◌≤◌, ◌<◌, ◌+
 ghost use Rattle.rt_base.specs.TaskNos.{number_of_task, numbers};
 ghost use Rattle.rt_base.specs.declared.ClusterNo as ids;
 ghost use Rattle.rt_base.specs.declared.TheConstants.{MOST_TASKS};
-ghost use Rattle.rt_groups.specs.Limits.{IsInLimits};
+ghost use Rattle.rt_plays.specs.Limits.{IsInLimits};
 ghost use Rattle.rt_model.specs.Group.{tasks};
 ghost use Rattle.rt_rules.specs.Placing.{tasks_in};
 ghost use Rattle.group_core.specs.Facts.{tasks_of_some};

@@ -1,7 +1,7 @@
 //! The processors on which what runs may be another.
 ghost use Rattle.std.specs.Prelude.{◌≡◌, if◌then◌else◌};
 ghost use Rattle.rank_afresh.specs.declared.ran.Ran.TheVariants.{At, Nowhere};
-ghost use Rattle.rank_afresh.specs.Rans.{is_nowhere};
+ghost use Rattle.rank_afresh.specs.inside.Rans.{is_nowhere};
 
 use rt_base::CpuNo;
 

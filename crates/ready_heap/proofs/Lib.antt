@@ -5,3 +5,4 @@ pub mod HeapLaws
 pub mod AheadLaws
 pub mod SiftLaws
 pub mod ReadyLaws
+pub mod MajorLaws

@@ -4,8 +4,9 @@ use Rattle.std.specs.Prelude.{Option, None, Some, ◌==◌, ◌||◌, nat_lt, op
 use Rattle.std.specs.List.{list_any}
 use Rattle.std.proofs.lemmas.Bool.{cases_eq}
 use Rattle.std.proofs.lemmas.Bool.Decides.{nat_tests}
-use Rattle.std.proofs.lemmas.List.{get_or-map, length-map}
+use Rattle.std.proofs.lemmas.List.{get_or-map, get_or_read, length-map}
 use Rattle.rt_base.specs.declared.ClusterNo.{ClusterNo}
+use Rattle.rt_base.specs.declared.ResvNo.{ResvNo}
 use Rattle.rt_task.specs.Validity.{IsValid}
 use Rattle.rt_task.specs.declared.Parts.{Parts}
 use Rattle.rt_task.specs.declared.Resv.{Resv}
@@ -16,9 +17,10 @@ use Rattle.resv_table.specs.Tables.{HasSlots, Slots, is_table_of, own, served_in
 use Rattle.resv_table.specs.declared.ResvSlot.{ResvSlot}
 use Rattle.resv_table.proofs.ValidRows.{few-resvs}
 use Rattle.resv_table.proofs.ValidTables.{each_has_its_slots}
-use Rattle.resv_core.specs.Known.{AreKnown, AreTables, IsKnown, IsTable, home_of, no_home, place_by_table, place_for}
-use Rattle.resv_core.specs.Served.{ServerState, charged, charged_by, has_ready, no_server, opened_server, place_at, place_of, refilled_at, settled, settled_by, ticked, ticked_by, ticked_to, ticked_to_by}
+use Rattle.resv_core.specs.Known.{AreKnown, AreTables, IsKnown, IsTable, home_of, no_home, place_for, served_by}
+use Rattle.resv_core.specs.Served.{IsPlaced, ServerState, charged, charged_by, has_ready, no_server, opened_server, place_at, place_of, refilled_at, settled, settled_by, ticked, ticked_by, ticked_to, ticked_to_by}
 use Rattle.resv_core.specs.declared.server.InSlot.{InSlot}
+use Rattle.resv_core.proofs.PlaceLaws.{placed-set}
 use Rattle.resv_core.proofs.ValidResvs.{valid-home}
 
 -- a change leaves what a reservation is
@@ -49,6 +51,13 @@ known-set tables homes servers i s same known = record {
         let old : StaysTable (get_or servers k no_server) s = subst (λ n. StaysTable (get_or servers n no_server) s) (sym e) same in
         subst (IsKnown tables (get_or homes k no_home) (suc k)) (sym is) (known-change tables (get_or homes k no_home) (suc k) (get_or servers k no_server) s old (known.each k low))
     by_case k low (inr ne) = subst (IsKnown tables (get_or homes k no_home) (suc k)) (sym (get_or-set_other servers i k s no_server ne)) (known.each k low)
+
+-- so it does as a call has it, which leaves the length of its row of releases and what it is
+pub sound-set : (tables : List (Option Slots)) (homes : List ClusterNo) (servers : List ServerState) (whose : List (Option ResvNo)) (i : ℕ) (change : ServerState → ServerState) (old new : ServerState) → i < length servers → old ≡ get_or servers i old → new ≡ change old → ((s : ServerState) → length (change s).releases ≡ length s.releases) → ((s : ServerState) → StaysTable s (change s)) → IsPlaced servers whose × AreKnown tables homes servers → IsPlaced (set servers i new) whose × AreKnown tables homes (set servers i new)
+sound-set tables homes servers whose i change old new inside read is rooms stays sound =
+    let at : ServerState = get_or servers i no_server in
+    let changed : new ≡ change at = is ∙ ap change (get_or_read servers i old inside read no_server) in
+    rw changed (placed-set servers whose i (change at) (rooms at) sound.0, known-set tables homes servers i (change at) (stays at) sound.1)
 
 -- each changes
 pub known-map : (tables : List (Option Slots)) (homes : List ClusterNo) (servers : List ServerState) (change : ServerState → ServerState) → ((s : ServerState) → StaysTable s (change s)) → AreKnown tables homes servers → AreKnown tables homes (map change servers)
@@ -143,7 +152,7 @@ known-opened p group tables valid are = record {
         has : HasSlots (table_of p (get_or p.resvs k no_resv).cluster.0) (suc k) (get_or p.resvs k no_resv)
         has = each_has_its_slots p valid k no_resv inside table
 
-        by_table : (o : Option Slots) → IsTable p (get_or p.resvs k no_resv).cluster.0 o → place_by_table o (suc k) clock ≡ place_at (get_or p.resvs k no_resv).period (get_or p.resvs k no_resv).slots clock
+        by_table : (o : Option Slots) → IsTable p (get_or p.resvs k no_resv).cluster.0 o → place_for (suc k) (served_by o clock) ≡ place_at (get_or p.resvs k no_resv).period (get_or p.resvs k no_resv).slots clock
         by_table None h = let bad : false ≡ true = sym h ∙ any-table (get_or p.resvs k no_resv).cluster.0 p.resvs k no_resv inside of in absurd cc
         by_table (Some t) h =
             let v : Slots = table_of p (get_or p.resvs k no_resv).cluster.0 in

@@ -10,19 +10,28 @@ use Rattle.resv_table.specs.Tables.{Slots, is_table_of, served_at, table_of}
 use Rattle.resv_table.specs.declared.Served.{Served}
 use Rattle.resv_core.specs.Served.{ServerState, no_server, place_at}
 use Rattle.resv_core.specs.declared.server.InSlot.{InSlot}
+use Rattle.resv_core.specs.declared.server.Lookup.{Lookup}
 
 -- what is served, where it is one reservation
 abbrev pub place_for : ℕ → Option Served → Option InSlot
 place_for r None = None
 place_for r (Some x) = if x.resv.0 == r then Some (record { began = x.from.0; left = x.left }) else None
 
-abbrev pub place_by_table : Option Slots → ℕ → ℕ → Option InSlot
-place_by_table None r clock = None
-place_by_table (Some table) r clock = place_for r (served_at table clock)
+-- what the table of a cluster serves at a clock, if there is one
+abbrev pub served_by : Option Slots → ℕ → Option Served
+served_by None clock = None
+served_by (Some table) clock = served_at table clock
+
+abbrev pub served_of : List (Option Slots) → ClusterNo → ℕ → Option Served
+served_of tables home clock = served_by (slice_index_or tables home.0 None) clock
 
 -- of reservation r, in the table of its cluster
 abbrev pub place_in : List (Option Slots) → ClusterNo → ℕ → ℕ → Option InSlot
-place_in tables home r clock = place_by_table (slice_index_or tables home.0 None) r clock
+place_in tables home r clock = place_for r (served_of tables home clock)
+
+-- what was looked up for a cluster is what its table serves at the clock
+abbrev pub IsLookup : List (Option Slots) → ℕ → Lookup → Type 0
+IsLookup tables clock l = l.served ≡ served_of tables l.home clock
 
 abbrev pub no_home : ClusterNo
 no_home = record { 0 = 0 }

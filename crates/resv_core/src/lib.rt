@@ -7,6 +7,7 @@ ghost use Rattle.rt_base.specs.declared.Tick.{Tick};
 ghost use Rattle.resv_core.specs.Served.{charged, gone, has_ready, last_of, left_of, opened, readied, settled, ticked};
 ghost use Rattle.resv_core.specs.Served.{server, server_of, with_each, with_server, IsFront, IsResv};
 
+pub mod laws;
 mod opening;
 mod server;
 

@@ -1,6 +1,6 @@
 //! One reservation as it stands.
 ghost use Rattle.std.specs.Prelude.{◌≡◌, ◌≤◌, ◌<◌, IfNone, IfOk, IfSome, false, length, map, option_map};
-ghost use Rattle.resv_core.specs.Known.{place_in, AreKnown};
+ghost use Rattle.resv_core.specs.Known.{place_for, place_in, served_of, AreKnown, IsLookup};
 ghost use Rattle.rt_base.specs.declared.Tick.{Tick};
 ghost use Rattle.resv_core.specs.Releases.{key_of_release};
 ghost use Rattle.resv_core.specs.Served.{charged, first_refill, fresh, gone, has_ready, is_over, last_of, left_of, place_at, place_by};
@@ -8,7 +8,7 @@ ghost use Rattle.resv_core.specs.Served.{readied, refilled_at, settled, ticked, 
 
 use crate::ResvState;
 use ready_heap::{ReadyHeap, uncounted};
-use resv_table::Table;
+use resv_table::{Served, Table};
 use rt_base::{ClusterNo, NoMemory, ResvNo, TaskNo, Tick};
 use rt_rules::{ByKey, Key};
 use rt_task::{Resv, ResvKind, Slot, Slots};
@@ -287,14 +287,20 @@ impl Server {
     }
 }
 
-// Where the table of the cluster has the clock in the slots of the reservation.
-fn place_in(tables: &[Option<Table>], home: ClusterNo, resv: ResvNo, clock: u64) -> Option<InSlot>
-    ensures { result ≡ place_in tables.now home resv.0 clock }
+// What the table of a cluster serves at a clock, if there is one.
+fn served_in(tables: &[Option<Table>], home: ClusterNo, clock: u64) -> Option<Served>
+    ensures { result ≡ served_of tables.now home clock }
 {
-    let Some(Some(table)) = tables.get(home.0 as usize) else {
-        return None;
-    };
-    let served = table.served(Tick(clock))?;
+    match tables.get(home.0 as usize) {
+        Some(Some(table)) => table.served(Tick(clock)),
+        _ => None,
+    }
+}
+
+fn place_for(served: Option<Served>, resv: ResvNo) -> Option<InSlot>
+    ensures { result ≡ place_for resv.0 served }
+{
+    let served = served?;
     if served.resv != resv {
         return None;
     }
@@ -302,6 +308,34 @@ fn place_in(tables: &[Option<Table>], home: ClusterNo, resv: ResvNo, clock: u64)
         began: served.from.0,
         left: served.left,
     })
+}
+
+// What was looked up last, so that the reservations of a cluster are told by one search of its table.
+#[derive(Clone, Copy)]
+struct Lookup {
+    home: ClusterNo,
+    served: Option<Served>,
+}
+
+// Where the table of the cluster has the clock in the slots of the reservation.
+fn place_in(
+    last: &mut Lookup,
+    tables: &[Option<Table>],
+    home: ClusterNo,
+    resv: ResvNo,
+    clock: u64,
+) -> Option<InSlot>
+    requires { IsLookup tables.now clock last.old }
+    ensures place { result ≡ place_in tables.now home resv.0 clock }
+    ensures last { IsLookup tables.now clock last.new }
+{
+    if last.home != home {
+        *last = Lookup {
+            home,
+            served: served_in(tables, home, clock),
+        };
+    }
+    place_for(last.served, resv)
 }
 
 /// Moves the clock of each reservation from `old` to `new`.
@@ -315,8 +349,13 @@ pub(crate) fn tick_each(
     requires { AreKnown tables.now homes.now servers.old }
     ensures { servers.new ≡ map (ticked old new) servers.old }
 {
+    let home = ClusterNo(0);
+    let mut last = Lookup {
+        home,
+        served: served_in(tables, home, new),
+    };
     for (i, home) in homes.iter().enumerate() {
-        let place = place_in(tables, *home, ResvNo(i as u32 + 1), new);
+        let place = place_in(&mut last, tables, *home, ResvNo(i as u32 + 1), new);
         servers[i].tick(old, new, place);
     }
 }

@@ -13,8 +13,8 @@ use Rattle.rt_model.specs.Reachable.{IsReachable}
 use Rattle.rt_model.specs.Past.{Event, Past, sem_act}
 use Rattle.rt_model.specs.Semaphores.{cluster_of}
 use Rattle.rt_rules.proofs.BoolLaws.{clash}
-use Rattle.rt_laws.proofs.Asked.{Asked, asked}
-use Rattle.rt_laws.proofs.Engaged.{engaged, engaged-step, holder-engaged, nobody-engaged}
+use Rattle.rt_laws.proofs.semaphores.Asked.{Asked, asked}
+use Rattle.rt_laws.proofs.jobs.Engaged.{engaged, engaged-step, holder-engaged, nobody-engaged}
 use Rattle.rt_laws.proofs.GroupLaws.{pcp-shares, user-home}
 use Rattle.rt_laws.proofs.Moves.{by_moves}
 use Rattle.rt_laws.proofs.Next.{IsNext}

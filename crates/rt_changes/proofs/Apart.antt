@@ -19,13 +19,13 @@ use Rattle.rt_model.specs.Past.{Event, Past, sem_act}
 use Rattle.rt_model.specs.Semaphores.{cluster_of}
 use Rattle.rt_rules.proofs.BoolLaws.{both, clash, neither, unless}
 use Rattle.rt_rules.proofs.PairLaws.{has_pair, has_pair-append, has_pair-without_pair, without_pair-gone}
-use Rattle.rt_laws.proofs.Asked.{Asked, IsAsked, asked, asks_empty}
-use Rattle.rt_laws.proofs.AtSem.{at_cluster-asks}
-use Rattle.rt_laws.proofs.Holding.{holds-none, holds-one}
+use Rattle.rt_laws.proofs.semaphores.Asked.{Asked, IsAsked, asked, asks_empty}
+use Rattle.rt_laws.proofs.semaphores.AtSem.{at_cluster-asks}
+use Rattle.rt_laws.proofs.semaphores.Holding.{holds-none, holds-one}
 use Rattle.rt_laws.proofs.Moves.{by_moves}
-use Rattle.rt_laws.proofs.PcpState.{first-pcp, pcp-first, pcp-holder, pcp-waiting, pcp_kept}
+use Rattle.rt_laws.proofs.pcp.PcpState.{first-pcp, pcp-first, pcp-holder, pcp-waiting, pcp_kept}
 use Rattle.rt_laws.proofs.Rules.{MeetsRules}
-use Rattle.rt_laws.proofs.WaitsHolding.{waits_under_pcp}
+use Rattle.rt_laws.proofs.semaphores.WaitsHolding.{waits_under_pcp}
 use Rattle.rt_changes.proofs.Acting.{party-home}
 
 -- ---- who asks

@@ -15,8 +15,8 @@ use Rattle.rt_model.specs.Releases.{arrivals, deadline, release, release_by}
 use Rattle.rt_model.proofs.Steps.{done-step}
 use Rattle.rt_rules.proofs.BoolLaws.{clash, neither, not_false, unless}
 use Rattle.rt_laws.specs.SemaphoreLaws.{is_engaged}
-use Rattle.rt_laws.proofs.SemaphoreLaws.{engaged_keeps_job}
-use Rattle.rt_laws.proofs.JobLaws.{base_key-keeps}
+use Rattle.rt_laws.proofs.semaphores.SemaphoreLaws.{engaged_keeps_job}
+use Rattle.rt_laws.proofs.jobs.JobLaws.{base_key-keeps}
 use Rattle.rt_laws.proofs.ValidSets.{rules_of}
 use Rattle.rt_changes.specs.KeyChanges.{BaseKeyStays, BaseKeyStaysWithJob, EndedIsFree, arrived, renews}
 

@@ -14,12 +14,12 @@ use Rattle.rt_model.specs.Reachable.{IsReachable}
 use Rattle.rt_model.specs.Past.{Event, Past}
 use Rattle.rt_rules.proofs.BoolLaws.{clash}
 use Rattle.rt_rules.proofs.MemberLaws.{is-some, some-is}
-use Rattle.rt_laws.proofs.Engaged.{holder-engaged}
+use Rattle.rt_laws.proofs.jobs.Engaged.{holder-engaged}
 use Rattle.rt_laws.proofs.Rules.{MeetsRules}
-use Rattle.rt_laws.proofs.SrpUsers.{all_users, srp_cluster, unboosted}
+use Rattle.rt_laws.proofs.srp.SrpUsers.{all_users, srp_cluster, unboosted}
 use Rattle.rt_laws.proofs.ValidSets.{rules_of}
-use Rattle.rt_laws.proofs.SemaphoreLaws.{holder_holds_one}
-use Rattle.rt_laws.proofs.Holding.{holds-one, one-holds}
+use Rattle.rt_laws.proofs.semaphores.SemaphoreLaws.{holder_holds_one}
+use Rattle.rt_laws.proofs.semaphores.Holding.{holds-one, one-holds}
 use Rattle.rt_changes.specs.BoostChanges.{BoostOfHolder, BoostOfOthers, GrantIsNow}
 use Rattle.rt_changes.proofs.Lists.{first-only}
 

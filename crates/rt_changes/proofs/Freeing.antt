@@ -17,7 +17,7 @@ use Rattle.rt_model.specs.Semaphores.{cluster_of, fmlp, mpcp, omlp}
 use Rattle.rt_model.specs.StackPolicy.{srp, srp_at}
 use Rattle.rt_rules.specs.Pcp.{without_pair}
 use Rattle.rt_rules.proofs.SrpLaws.{first-srp}
-use Rattle.rt_laws.proofs.SrpState.{srp-holder}
+use Rattle.rt_laws.proofs.srp.SrpState.{srp-holder}
 use Rattle.rt_model.proofs.Steps.{omlp-step}
 use Rattle.rt_rules.proofs.BoolLaws.{clash, either, unless}
 use Rattle.rt_rules.proofs.DistinctLaws.{first-absent, without-gone}
@@ -25,14 +25,14 @@ use Rattle.rt_rules.proofs.KeyLaws.{foremost-some}
 use Rattle.rt_rules.proofs.MemberLaws.{equal_self, has-first}
 use Rattle.rt_rules.proofs.OmlpLaws.{IsQueued}
 use Rattle.rt_rules.proofs.PairLaws.{has_pair, without_pair-gone}
-use Rattle.rt_laws.proofs.FmlpState.{fmlp-line, fmlp-sem_state, fmlp-step}
+use Rattle.rt_laws.proofs.fmlp.FmlpState.{fmlp-line, fmlp-sem_state, fmlp-step}
 use Rattle.rt_laws.proofs.Moves.{IsMove, clock_moves, cpu_acts}
-use Rattle.rt_laws.proofs.MpcpState.{mpcp-holder, mpcp-is}
-use Rattle.rt_laws.proofs.OmlpState.{omlp-sem_state, queued}
-use Rattle.rt_laws.proofs.PcpState.{first-pcp, pcp-holder, pcp-waiting}
-use Rattle.rt_laws.proofs.Requests.{frees}
+use Rattle.rt_laws.proofs.mpcp.MpcpState.{mpcp-holder, mpcp-is}
+use Rattle.rt_laws.proofs.omlp.OmlpState.{omlp-sem_state, queued}
+use Rattle.rt_laws.proofs.pcp.PcpState.{first-pcp, pcp-holder, pcp-waiting}
+use Rattle.rt_laws.proofs.semaphores.Requests.{frees}
 use Rattle.rt_laws.proofs.Rules.{MeetsRules}
-use Rattle.rt_laws.proofs.Running.{running}
+use Rattle.rt_laws.proofs.jobs.Running.{running}
 use Rattle.rt_changes.proofs.Acting.{IsParty, stack-home}
 use Rattle.rt_changes.proofs.Lists.{other-pair}
 use Rattle.rt_changes.proofs.PcpForms.{IsFreed, freed-form, freed_state}

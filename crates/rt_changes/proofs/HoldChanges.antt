@@ -17,16 +17,16 @@ use Rattle.rt_model.proofs.Steps.{past_act-reply}
 use Rattle.rt_rules.proofs.BoolLaws.{both, clash, either, or_true, unless}
 use Rattle.rt_rules.proofs.MemberLaws.{equal_self, is-some, is_one, some-is, turned}
 use Rattle.rt_rules.proofs.PairLaws.{has_pair, has_pair-without_pair}
-use Rattle.rt_laws.proofs.Asked.{IsAsked}
-use Rattle.rt_laws.proofs.Engaged.{holder-engaged}
-use Rattle.rt_laws.proofs.Holding.{holds-one, one-holds}
+use Rattle.rt_laws.proofs.semaphores.Asked.{IsAsked}
+use Rattle.rt_laws.proofs.jobs.Engaged.{holder-engaged}
+use Rattle.rt_laws.proofs.semaphores.Holding.{holds-one, one-holds}
 use Rattle.rt_laws.proofs.Moves.{IsMove, clock_moves, cpu_acts, last_move, moved}
-use Rattle.rt_laws.proofs.OneWait.{awaits-is, waits_once}
-use Rattle.rt_laws.proofs.PcpState.{first-pcp, pcp-first, pcp-holder, pcp_kept}
-use Rattle.rt_laws.proofs.Requests.{asks}
+use Rattle.rt_laws.proofs.semaphores.OneWait.{awaits-is, waits_once}
+use Rattle.rt_laws.proofs.pcp.PcpState.{first-pcp, pcp-first, pcp-holder, pcp_kept}
+use Rattle.rt_laws.proofs.semaphores.Requests.{asks}
 use Rattle.rt_laws.proofs.Rules.{MeetsRules}
 use Rattle.rt_laws.proofs.ValidSets.{rules_of}
-use Rattle.rt_laws.proofs.Waiting.{awaits-waits, none-waits, waiting-step, waits-none}
+use Rattle.rt_laws.proofs.semaphores.Waiting.{awaits-waits, none-waits, waiting-step, waits-none}
 use Rattle.rt_changes.specs.HoldChanges.{IsGrant, IsQueueing, IsRelease, IsServed, KeepsHolds, LockGrants, LockIsAnswered, LockQueues, UnlockReleases}
 use Rattle.rt_changes.specs.Owners.{is_beside}
 use Rattle.rt_changes.proofs.Acting.{IsParty, all_parties, freeing, party-home, stack-home}

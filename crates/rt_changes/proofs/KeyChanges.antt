@@ -16,14 +16,14 @@ use Rattle.rt_model.specs.Past.{Event, Past, sem_act}
 use Rattle.rt_model.specs.Semaphores.{cluster_of}
 use Rattle.rt_rules.proofs.BoolLaws.{and_false, both, clash, neither, not_true, or_true, unless}
 use Rattle.rt_rules.proofs.MemberLaws.{find-none, find-some, has-filter, turned}
-use Rattle.rt_laws.proofs.SemaphoreLaws.{engaged_keeps_job}
+use Rattle.rt_laws.proofs.semaphores.SemaphoreLaws.{engaged_keeps_job}
 use Rattle.rt_laws.proofs.Moves.{last_move}
 use Rattle.rt_laws.proofs.Next.{next}
-use Rattle.rt_laws.proofs.OneWait.{awaits-is, waits_once}
-use Rattle.rt_laws.proofs.PcpWalks.{walk-stops}
+use Rattle.rt_laws.proofs.semaphores.OneWait.{awaits-is, waits_once}
+use Rattle.rt_laws.proofs.pcp.PcpWalks.{walk-stops}
 use Rattle.rt_laws.proofs.Rules.{MeetsRules}
 use Rattle.rt_laws.proofs.ValidSets.{rules_of}
-use Rattle.rt_laws.proofs.Waiting.{awaits-waits}
+use Rattle.rt_laws.proofs.semaphores.Waiting.{awaits-waits}
 use Rattle.rt_changes.specs.BoostChanges.{BoostStays}
 use Rattle.rt_changes.specs.KeysOfWaiters.{waiters}
 use Rattle.rt_changes.specs.KeyChanges.{EffectiveKeyFollowsBase, EffectiveKeyStays}

@@ -12,10 +12,10 @@ use Rattle.rt_model.specs.Reachable.{IsReachable}
 use Rattle.rt_model.specs.Past.{Past}
 use Rattle.rt_rules.proofs.BoolLaws.{clash, unless}
 use Rattle.rt_rules.proofs.MemberLaws.{is-some}
-use Rattle.rt_laws.proofs.PcpWalks.{walk-none, walk-step, walk-stops}
+use Rattle.rt_laws.proofs.pcp.PcpWalks.{walk-none, walk-step, walk-stops}
 use Rattle.rt_laws.proofs.Rules.{MeetsRules}
 use Rattle.rt_laws.proofs.ValidSets.{rules_of}
-use Rattle.rt_laws.proofs.Waiting.{awaits-waits}
+use Rattle.rt_laws.proofs.semaphores.Waiting.{awaits-waits}
 use Rattle.rt_changes.specs.KeysOfWaiters.{HoldsNothingHasBase, KeyIsOfWaiters, WaitsForOwner, waiters}
 use Rattle.rt_changes.specs.Owners.{owner}
 use Rattle.rt_changes.proofs.Lists.{filter-same}

@@ -16,11 +16,11 @@ use Rattle.rt_model.specs.Reachable.{IsReachable}
 use Rattle.rt_model.specs.Past.{Event, Past, sem_act}
 use Rattle.rt_model.specs.Semaphores.{at_sem, cluster_of, fmlp, mpcp, omlp}
 use Rattle.rt_rules.proofs.MemberLaws.{equal_self, has-filter}
-use Rattle.rt_laws.proofs.Engaged.{engaged, engaged-cases, engaged-step, holder-engaged, holder-stays, waiting-engaged}
+use Rattle.rt_laws.proofs.jobs.Engaged.{engaged, engaged-cases, engaged-step, holder-engaged, holder-stays, waiting-engaged}
 use Rattle.rt_laws.proofs.Moves.{IsMove, moved}
 use Rattle.rt_laws.proofs.Next.{IsNext, next}
 use Rattle.rt_laws.proofs.Rules.{MeetsRules}
-use Rattle.rt_laws.proofs.SrpState.{kept}
+use Rattle.rt_laws.proofs.srp.SrpState.{kept}
 use Rattle.rt_changes.proofs.Stays.{engaged-stays}
 
 -- what a task holds

@@ -19,13 +19,13 @@ use Rattle.rt_rules.proofs.BlockerLaws.{newest-of_others}
 use Rattle.rt_rules.proofs.MemberLaws.{empty-none, equal_self, some-is}
 use Rattle.rt_rules.proofs.PairLaws.{has_pair, tasks_of_pairs}
 use Rattle.rt_rules.proofs.PcpLaws.{IsStacked, newest-other}
-use Rattle.rt_laws.proofs.Engaged.{waiting-engaged}
+use Rattle.rt_laws.proofs.jobs.Engaged.{waiting-engaged}
 use Rattle.rt_laws.proofs.GroupLaws.{user-task}
-use Rattle.rt_laws.proofs.Holding.{holds-one}
-use Rattle.rt_laws.proofs.PcpState.{IsPcpKept, IsUser, pcp-first, pcp-holder, pcp_kept, sem-home, user-not_over}
-use Rattle.rt_laws.proofs.PcpWalks.{waiting-stops, walk-step}
+use Rattle.rt_laws.proofs.semaphores.Holding.{holds-one}
+use Rattle.rt_laws.proofs.pcp.PcpState.{IsPcpKept, IsUser, pcp-first, pcp-holder, pcp_kept, sem-home, user-not_over}
+use Rattle.rt_laws.proofs.pcp.PcpWalks.{waiting-stops, walk-step}
 use Rattle.rt_laws.proofs.Rules.{MeetsRules}
-use Rattle.rt_laws.proofs.Waiting.{awaits-waits}
+use Rattle.rt_laws.proofs.semaphores.Waiting.{awaits-waits}
 use Rattle.rt_changes.specs.Owners.{newest_owner, owner}
 use Rattle.rt_changes.proofs.Acting.{all_parties, party-home}
 

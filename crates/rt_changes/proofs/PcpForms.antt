@@ -17,10 +17,10 @@ use Rattle.rt_rules.proofs.MemberLaws.{equal_self}
 use Rattle.rt_rules.proofs.PairLaws.{distinct-in_order, has_pair, has_pair-in_order, tasks_of_pairs}
 use Rattle.rt_rules.proofs.PcpGrantLaws.{IsFalling, falling-in_order}
 use Rattle.rt_rules.proofs.PcpLaws.{passes-cons}
-use Rattle.rt_laws.proofs.BaseKeyLaws.{above-strict}
-use Rattle.rt_laws.proofs.PcpState.{IsPcpKept, pcp_kept, user-not_over}
+use Rattle.rt_laws.proofs.jobs.BaseKeyLaws.{above-strict}
+use Rattle.rt_laws.proofs.pcp.PcpState.{IsPcpKept, pcp_kept, user-not_over}
 use Rattle.rt_laws.proofs.Rules.{MeetsRules}
-use Rattle.rt_laws.proofs.PcpGrants.{waiting_once}
+use Rattle.rt_laws.proofs.pcp.PcpGrants.{waiting_once}
 use Rattle.rt_changes.proofs.Acting.{IsParty, party-home}
 
 -- ---- the tries, in falling order

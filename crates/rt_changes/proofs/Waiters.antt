@@ -19,16 +19,16 @@ use Rattle.rt_model.specs.Semaphores.{cluster_of}
 use Rattle.rt_rules.proofs.BoolLaws.{both, clash}
 use Rattle.rt_rules.proofs.MemberLaws.{equal_self, has-filter, is-some, some-is}
 use Rattle.rt_rules.proofs.PairLaws.{has_pair, pair-of, tasks_of_pairs}
-use Rattle.rt_laws.proofs.SemaphoreLaws.{holder_holds_one}
-use Rattle.rt_laws.proofs.Engaged.{holder-engaged, waiting-engaged}
+use Rattle.rt_laws.proofs.semaphores.SemaphoreLaws.{holder_holds_one}
+use Rattle.rt_laws.proofs.jobs.Engaged.{holder-engaged, waiting-engaged}
 use Rattle.rt_laws.proofs.GroupLaws.{user-task}
-use Rattle.rt_laws.proofs.OneWait.{awaits-is, waits_once}
-use Rattle.rt_laws.proofs.PcpState.{IsUser, pcp-first, pcp-holder, pcp-waiting, pcp_kept, sem-home}
-use Rattle.rt_laws.proofs.PcpWalks.{walk-stops}
+use Rattle.rt_laws.proofs.semaphores.OneWait.{awaits-is, waits_once}
+use Rattle.rt_laws.proofs.pcp.PcpState.{IsUser, pcp-first, pcp-holder, pcp-waiting, pcp_kept, sem-home}
+use Rattle.rt_laws.proofs.pcp.PcpWalks.{walk-stops}
 use Rattle.rt_laws.proofs.Rules.{MeetsRules}
-use Rattle.rt_laws.proofs.SrpUsers.{all_users, srp_cluster}
+use Rattle.rt_laws.proofs.srp.SrpUsers.{all_users, srp_cluster}
 use Rattle.rt_laws.proofs.ValidSets.{rules_of}
-use Rattle.rt_laws.proofs.Waiting.{awaits-waits, srp-waiting}
+use Rattle.rt_laws.proofs.semaphores.Waiting.{awaits-waits, srp-waiting}
 use Rattle.rt_changes.specs.KeysOfWaiters.{waiters}
 use Rattle.rt_changes.specs.OwnerKeys.{WaitersOfHolder, WaitersOfNewestOwner}
 use Rattle.rt_changes.specs.Owners.{newest_owner, owner}

@@ -4,3 +4,4 @@ pub mod Reading
 pub mod Memory
 pub mod StatusCode
 pub mod Stops
+pub mod Ends

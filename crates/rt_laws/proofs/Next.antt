@@ -16,16 +16,16 @@ use Rattle.rt_model.specs.Runs.{runs}
 use Rattle.rt_model.specs.Semaphores.{cluster_of}
 use Rattle.rt_model.specs.Sleep.{sleep_end}
 use Rattle.rt_rules.proofs.BoolLaws.{clash, unless}
-use Rattle.rt_laws.proofs.Asked.{Asked, Freed, asked, freed}
-use Rattle.rt_laws.proofs.Endings.{sleep-holds_nothing, sleep-is}
-use Rattle.rt_laws.proofs.Engaged.{engaged, engaged-cases, engaged-step}
-use Rattle.rt_laws.proofs.Holding.{holds-none}
-use Rattle.rt_laws.proofs.JobEnds.{ended-free}
+use Rattle.rt_laws.proofs.semaphores.Asked.{Asked, Freed, asked, freed}
+use Rattle.rt_laws.proofs.jobs.Endings.{sleep-holds_nothing, sleep-is}
+use Rattle.rt_laws.proofs.jobs.Engaged.{engaged, engaged-cases, engaged-step}
+use Rattle.rt_laws.proofs.semaphores.Holding.{holds-none}
+use Rattle.rt_laws.proofs.jobs.JobEnds.{ended-free}
 use Rattle.rt_laws.proofs.Moves.{IsMove, clock_moves, cpu_acts}
-use Rattle.rt_laws.proofs.SrpState.{kept}
-use Rattle.rt_laws.proofs.Requests.{asks}
+use Rattle.rt_laws.proofs.srp.SrpState.{kept}
+use Rattle.rt_laws.proofs.semaphores.Requests.{asks}
 use Rattle.rt_laws.proofs.Rules.{MeetsRules}
-use Rattle.rt_laws.proofs.Running.{running}
+use Rattle.rt_laws.proofs.jobs.Running.{running}
 
 -- a task that holds or waits after an event does not fall asleep in it
 awake-act : (g : Group) → MeetsRules g → {past : Past} → IsReachable g past → (q t s : ℕ) (act : Act) → has s (sems g) ≡ true → engaged g t s (Acted (past_act g q act past) ∷ past) ≡ true → sleep_end (now past) (did t (Acted (past_act g q act past))) ≡ 0

@@ -4,7 +4,7 @@ use Rattle.std.proofs.Common.{arith, ap}
 use Rattle.rt_task.specs.declared.Act.TheVariants as acts
 use Rattle.rt_task.specs.declared.Drive.TheVariants.{Steps}
 use Rattle.rt_task.specs.declared.PluginKind.TheVariants as plugins
-use Rattle.rt_model.specs.Computed.{computed}
+use Rattle.rt_model.specs.worked.Computed.{computed}
 use Rattle.rt_model.specs.Group.{Group}
 use Rattle.rt_plays.specs.NextSteps.{step_at}
 use Rattle.rt_plays.specs.Plays.{IsPlay, ArePlays}

@@ -13,4 +13,4 @@ pub mod Walks
 pub mod Placing
 pub mod Slots
 pub mod Rankings
-pub mod Worked
+pub mod worked

@@ -9,7 +9,7 @@ use Rattle.rt_fault.specs.Reading.{TakesAtMost}
 use Rattle.rt_fault.specs.declared.status.Status.{Status}
 use Rattle.rt_fault.specs.declared.status.Status.TheVariants as ends
 use Rattle.rt_rules.specs.declared.history.Entry.{Entry}
-use Rattle.rt_groups.specs.Groups.{GroupHistory}
+use Rattle.rt_plays.specs.Groups.{GroupHistory}
 use Rattle.rt_plays.specs.Plays.{ArePlays}
 use Rattle.trace_lines.specs.declared.format.Version.TheVariants.{Two}
 use Rattle.trace_text.specs.Groups.{histories}

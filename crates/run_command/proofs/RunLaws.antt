@@ -5,7 +5,7 @@ use Rattle.rt_task.specs.declared.Parts.{Parts}
 use Rattle.rt_task.specs.Validity.{IsValid}
 use Rattle.rt_rules.specs.declared.history.Entry.{Entry}
 use Rattle.rt_model.specs.Group.{Group}
-use Rattle.rt_groups.specs.Groups.{GroupHistory, group_of}
+use Rattle.rt_plays.specs.Groups.{GroupHistory, group_of}
 use Rattle.rt_plays.specs.Plays.{ArePlays, IsPlay, group_with}
 use Rattle.trace_text.specs.Groups.{histories}
 use Rattle.trace_text.proofs.GroupLaws.{groups-counted}

@@ -1,7 +1,6 @@
 //! The top call: the commands `run` and `split`.
-ghost use Rattle.std.specs.Prelude.{◌≡◌, ◌≢◌, true, map};
-ghost use Rattle.rt_fault.specs.Faults.{HasRisen};
-ghost use Rattle.set_input.specs.Ends.{reading, writing};
+ghost use Rattle.std.specs.Prelude.{◌≡◌, true, map};
+ghost use Rattle.set_input.specs.Ends.{TellsFaults, reading, writing};
 ghost use Rattle.set_input.specs.Answers.{IsUnwritten};
 ghost use Rattle.run_command.specs.Run as commands;
 ghost use Rattle.run_command.specs.RunAnswers.{RunAnswers};
@@ -44,12 +43,8 @@ pub fn run<R: Threads + Wait + Sync, S: Source, K: Sink, T: TraceTool, G: Gate +
     ensures unwritten { IsUnwritten result → out.new ≡ out.old }
 
     // A fault is answered exactly where a read or a write of this call failed.
-    ensures read_fault { result ≡ Status.ReadFault →
-        HasRisen (S.faults src.old) (S.faults src.new) }
-    ensures no_read_fault { result ≢ Status.ReadFault → S.faults src.new ≡ S.faults src.old }
-    ensures write_fault { result ≡ Status.WriteFault →
-        HasRisen (K.faults out.old) (K.faults out.new) }
-    ensures no_write_fault { result ≢ Status.WriteFault → K.faults out.new ≡ K.faults out.old }
+    ensures faults { TellsFaults (reading S.left S.faults src.old src.new)
+        (writing K.held K.faults out.old out.new) result }
 
     // What each command answers, and what it read and wrote.
     ensures run { commands.is_run words.now ≡ true → RunAnswers (map T.tool tools.items)

@@ -1,7 +1,6 @@
 //! The command `run`: from the bytes of a set to the text of a trace of it.
 ghost use Rattle.std.specs.Prelude.{◌≡◌, ◌≢◌, map};
-ghost use Rattle.rt_fault.specs.Faults.{HasRisen};
-ghost use Rattle.set_input.specs.Ends.{reading, writing};
+ghost use Rattle.set_input.specs.Ends.{TellsFaults, reading, writing};
 ghost use Rattle.set_input.specs.Answers.{IsUnwritten};
 ghost use Rattle.run_command.specs.RunAnswers.{RunAnswers};
 
@@ -30,12 +29,8 @@ pub(crate) fn play_set<R: Threads + Wait + Sync, S: Source, K: Sink, T: TraceToo
         (reading S.left S.faults src.old src.new)
         (writing K.held K.faults out.old out.new) result }
     ensures unwritten { IsUnwritten result → out.new ≡ out.old }
-    ensures read_fault { result ≡ Status.ReadFault →
-        HasRisen (S.faults src.old) (S.faults src.new) }
-    ensures no_read_fault { result ≢ Status.ReadFault → S.faults src.new ≡ S.faults src.old }
-    ensures write_fault { result ≡ Status.WriteFault →
-        HasRisen (K.faults out.old) (K.faults out.new) }
-    ensures no_write_fault { result ≢ Status.WriteFault → K.faults out.new ≡ K.faults out.old }
+    ensures faults { TellsFaults (reading S.left S.faults src.old src.new)
+        (writing K.held K.faults out.old out.new) result }
     ensures not_usage { result ≢ Status.Usage }
 {
     let setup = match read_input(alloc, src) {

@@ -1,7 +1,6 @@
 //! The command `split`: from the bytes of a split set to the text of a split run of it.
 ghost use Rattle.std.specs.Prelude.{◌≡◌, ◌≢◌};
-ghost use Rattle.rt_fault.specs.Faults.{HasRisen};
-ghost use Rattle.set_input.specs.Ends.{reading, writing};
+ghost use Rattle.set_input.specs.Ends.{TellsFaults, reading, writing};
 ghost use Rattle.run_command.specs.Split.{IsSplitRun};
 ghost use Rattle.run_command.specs.SplitAnswers.{SplitAnswers};
 
@@ -48,12 +47,8 @@ pub(crate) fn play_split<R: Threads + Wait + Sync, S: Source, K: Sink, G: Gate +
     ensures answers { SplitAnswers (reading S.left S.faults src.old src.new)
         (writing K.held K.faults out.old out.new) result }
     ensures unwritten { result ≢ Status.Ok → result ≢ Status.WriteFault → out.new ≡ out.old }
-    ensures read_fault { result ≡ Status.ReadFault →
-        HasRisen (S.faults src.old) (S.faults src.new) }
-    ensures no_read_fault { result ≢ Status.ReadFault → S.faults src.new ≡ S.faults src.old }
-    ensures write_fault { result ≡ Status.WriteFault →
-        HasRisen (K.faults out.old) (K.faults out.new) }
-    ensures no_write_fault { result ≢ Status.WriteFault → K.faults out.new ≡ K.faults out.old }
+    ensures faults { TellsFaults (reading S.left S.faults src.old src.new)
+        (writing K.held K.faults out.old out.new) result }
     ensures not_usage { result ≢ Status.Usage }
 {
     let setup = match read_input(alloc, src) {

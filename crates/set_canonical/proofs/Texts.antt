@@ -19,7 +19,7 @@ use Rattle.serde_json.specs.Data.{boolean}
 use Rattle.serde_json.specs.View.{items_of}
 use Rattle.serde_json.specs.Written.{compact_text, items_text}
 use Rattle.set_canonical.specs.Canonical.{set_data}
-use Rattle.set_canonical.specs.Members.{early_text, slots_text, horizon_text, steps_text, setting_text, elements_text}
+use Rattle.set_canonical.specs.inside.Members.{early_text, slots_text, horizon_text, steps_text, setting_text, elements_text}
 use Rattle.set_canonical.specs.Values.{array_data, sem_names, resv_names, task_names, cluster_data, sem_data, slot_data, resv_data, step_data, act_items, piece_data, resv_or_null, uses_data, task_data}
 use Rattle.set_canonical.specs.Words.{plugin_word, protocol_word, resv_kind_word, kind_word}
 

@@ -1,4 +1,4 @@
 pub mod Words
 pub mod Values
 pub mod Canonical
-pub mod Members
+pub mod inside

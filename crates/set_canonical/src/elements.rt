@@ -1,7 +1,7 @@
 //! Clusters, semaphores and reservations.
 ghost use Rattle.std.specs.Prelude.{◌≡◌, ◌++◌, codes, OnOk};
 ghost use Rattle.serde_json.specs.Written.{compact_text};
-ghost use Rattle.set_canonical.specs.Members.{slots_text};
+ghost use Rattle.set_canonical.specs.inside.Members.{slots_text};
 ghost use Rattle.set_canonical.specs.Values.{array_data, cluster_data, sem_data, slot_data, resv_data};
 
 use crate::put::{put, put_comma, put_number, put_string};

@@ -3,7 +3,7 @@ ghost use Rattle.std.specs.Prelude.{◌≡◌, ◌++◌, OnOk};
 ghost use Rattle.serde_json.specs.Written.{compact_text};
 ghost use Rattle.set_canonical.specs.Canonical.{set_data};
 ghost use Rattle.set_canonical.specs.Values.{sem_names, task_names};
-ghost use Rattle.set_canonical.specs.Members.{horizon_text, steps_text, setting_text, elements_text};
+ghost use Rattle.set_canonical.specs.inside.Members.{horizon_text, steps_text, setting_text, elements_text};
 
 use crate::elements::{put_clusters, put_resvs, put_sems};
 use crate::operations::put_steps;
@@ -42,7 +42,7 @@ fn put_given_steps(
 }
 
 /// The clusters, the horizon and the plugin.
-#[tactic(auto, using(std::proofs::Common::append_assoc), unfolding(crate::specs::Members::setting_text))]
+#[tactic(auto, using(std::proofs::Common::append_assoc), unfolding(crate::specs::inside::Members::setting_text))]
 fn put_setting(out: &mut Vec<u8>, parts: &Parts) -> Result<(), AllocError>
     ensures { OnOk result (out.new.items ≡ out.old.items ++ setting_text parts.now) }
 {
@@ -53,7 +53,7 @@ fn put_setting(out: &mut Vec<u8>, parts: &Parts) -> Result<(), AllocError>
 }
 
 /// The reservations, the semaphores, the steps and the tasks.
-#[tactic(auto, using(std::proofs::Common::append_assoc), unfolding(crate::specs::Members::elements_text))]
+#[tactic(auto, using(std::proofs::Common::append_assoc), unfolding(crate::specs::inside::Members::elements_text))]
 fn put_elements(
     alloc: Global,
     out: &mut Vec<u8>,

@@ -5,7 +5,7 @@ ghost use Rattle.serde_json.specs.Data.{boolean};
 ghost use Rattle.serde_json.specs.Written.{compact_text};
 ghost use Rattle.set_canonical.specs.Values.{array_data, sem_names, resv_names, resv_or_null, uses_data, task_data};
 ghost use Rattle.set_canonical.specs.Words as spec;
-ghost use Rattle.set_canonical.specs.Members.{early_text};
+ghost use Rattle.set_canonical.specs.inside.Members.{early_text};
 
 use crate::bodies::put_body;
 use crate::names::{resv_name, sem_name};

@@ -7,12 +7,12 @@ use Rattle.rt_model.specs.Group.{Group}
 use Rattle.rt_model.specs.Past.{Past}
 use Rattle.rt_model.proofs.PastLaws.{links_are_the_top}
 use Rattle.rt_laws.specs.EveryPast.{EveryPast}
-use Rattle.rt_laws.proofs.HolderLinked.{holder_is_linked}
-use Rattle.rt_laws.proofs.PriorityCeiling.{later_is_above_ceiling, waiting_does_not_pass, walks_end}
-use Rattle.rt_laws.proofs.SemaphoreLaws.{histories_are_made, one_holder}
-use Rattle.resv_laws.proofs.TableLaws.{tables_are_followed}
-use Rattle.rt_laws.proofs.SrpOnce.{stack_is_followed}
-use Rattle.count_laws.proofs.Bounds.{seen_within_bound}
+use Rattle.rt_laws.proofs.mpcp.HolderLinked.{holder_is_linked}
+use Rattle.rt_laws.proofs.pcp.PriorityCeiling.{later_is_above_ceiling, waiting_does_not_pass, walks_end}
+use Rattle.rt_laws.proofs.semaphores.SemaphoreLaws.{histories_are_made, one_holder}
+use Rattle.resv_core.proofs.TableLaws.{tables_are_followed}
+use Rattle.rt_laws.proofs.srp.SrpOnce.{stack_is_followed}
+use Rattle.rt_changes.proofs.requests.Bounds.{seen_within_bound}
 use Rattle.set_input.specs.LinksOf.{LinksAreTheTopOf}
 use Rattle.set_input.specs.Throughout.{AfterEach, HoldsThroughout}
 

@@ -1,41 +1,26 @@
--- The two ends of a call: what its source and its sink tell as it begins and as it ends.
-use Rattle.std.specs.Prelude.{ℕ, List, Option}
+-- The two ends of a call, that neither counted a fault in it, and that a fault is answered.
+use Rattle.std.specs.Prelude.{◌≡◌, ◌≢◌}
 use Rattle.rt_fault.specs.Faults.{HasRisen}
-use Rattle.rt_fault.specs.Held.{Held}
-
--- a source at one moment: the bytes still to come, and the count of faults
-pub record SourceSeen : Type 0 where
-  pub left : Option (List ℕ)
-  pub faults : ℕ
-
--- a sink at one moment: what it holds, and the count of faults
-pub record SinkSeen : Type 0 where
-  pub held : Held
-  pub faults : ℕ
-
-pub record Reading : Type 0 where
-  pub old : SourceSeen
-  pub new : SourceSeen
-
-pub record Writing : Type 0 where
-  pub old : SinkSeen
-  pub new : SinkSeen
-
--- a call's source, by the meanings of its type
-abbrev pub reading : {S : Type 0} → (S → Option (List ℕ)) → (S → ℕ) → S → S → Reading
-reading left faults old new = record {
-  old = record { left = left old; faults = faults old };
-  new = record { left = left new; faults = faults new };
-}
-
--- a call's sink
-abbrev pub writing : {K : Type 0} → (K → Held) → (K → ℕ) → K → K → Writing
-writing held faults old new = record {
-  old = record { held = held old; faults = faults old };
-  new = record { held = held new; faults = faults new };
-}
+use Rattle.rt_fault.specs.declared.status.Status.{Status}
+use Rattle.rt_fault.specs.declared.status.Status.TheVariants.{ReadFault, WriteFault}
+pub use Rattle.rt_fault.specs.Ends.{SourceSeen, SinkSeen, Reading, Writing, reading, writing}
 
 -- neither end counted a fault in the call
 pub record IsFaultless (source : Reading) (sink : Writing) : Type 0 where
   pub read : ¬ (HasRisen source.old.faults source.new.faults)
   pub write : ¬ (HasRisen sink.old.faults sink.new.faults)
+
+-- a fault is answered exactly where a read or a write of the call failed: by one answer of its type for each
+pub record TellsFaultsBy {A : Type 0} (failed_read failed_write : A) (source : Reading) (sink : Writing) (answer : A) : Type 0 where
+  -- a read failed
+  pub read_fault : answer ≡ failed_read → HasRisen source.old.faults source.new.faults
+  -- on any other answer none did
+  pub no_read_fault : answer ≢ failed_read → source.new.faults ≡ source.old.faults
+  -- a write failed
+  pub write_fault : answer ≡ failed_write → HasRisen sink.old.faults sink.new.faults
+  -- on any other answer none did
+  pub no_write_fault : answer ≢ failed_write → sink.new.faults ≡ sink.old.faults
+
+-- the same, by a status
+abbrev pub TellsFaults : Reading → Writing → Status → Type 0
+TellsFaults source sink answer = TellsFaultsBy ReadFault WriteFault source sink answer

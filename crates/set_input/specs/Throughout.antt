@@ -13,9 +13,9 @@ use Rattle.rt_laws.specs.HolderIsLinked.{HasLinkedHolder, is_global}
 use Rattle.rt_laws.specs.PriorityCeiling.{WalkEnds}
 use Rattle.rt_laws.specs.SemaphoreLaws.{HasOneGrant}
 use Rattle.rt_laws.specs.StackPolicy.{FollowsStack}
-use Rattle.resv_laws.specs.Tables.{FollowsTables}
-use Rattle.count_laws.specs.OpenLaws.{IsWithin}
-use Rattle.count_laws.specs.Tallies.{tallies}
+use Rattle.resv_core.specs.Tables.{FollowsTables}
+use Rattle.rt_changes.specs.OpenLaws.{IsWithin}
+use Rattle.rt_changes.specs.Tallies.{tallies}
 use Rattle.set_input.specs.LinksOf.{LinksAreTheTopOf}
 
 -- it holds of each group n, after the first k entries of its history

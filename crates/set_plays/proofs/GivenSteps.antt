@@ -16,7 +16,7 @@ use Rattle.rt_rules.proofs.BoolLaws.{both}
 use Rattle.rt_laws.proofs.ValidSets.{KeepsRule, step_rows}
 use Rattle.rt_plays.specs.Drives.{steps_given}
 use Rattle.rt_plays.proofs.ProcessorLaws.{cpu_count}
-use Rattle.rt_groups.proofs.SetLimits.{cpus-drafted}
+use Rattle.rt_plays.proofs.SetLimits.{cpus-drafted}
 
 pub steps-inside : (p : Parts) → IsValid p → All (λ (s : Step). s.cpu.0 < cpu_count p.clusters) (steps_given p.drive)
 unfolding step_range lookups.cpus

@@ -13,7 +13,7 @@ use Rattle.rt_model.specs.Situations.{situation, next_act}
 use Rattle.rt_plays.specs.NextSteps.{step_at}
 use Rattle.rt_plays.specs.Order.{acts_played, turn, round, rounds}
 use Rattle.rt_plays.specs.Plays.{group_with}
-use Rattle.rt_groups.specs.Groups.{GroupHistory, group_of, past}
+use Rattle.rt_plays.specs.Groups.{GroupHistory, group_of, past}
 
 -- ---- the acts
 

@@ -8,8 +8,8 @@ use Rattle.rt_task.specs.Validity.{IsValid}
 use Rattle.rt_model.specs.Group.{group_processors}
 use Rattle.rt_plays.specs.Drives.{horizon}
 use Rattle.rt_plays.specs.Plays.{group_with}
-use Rattle.rt_groups.specs.Groups.{IsGroupOf}
-use Rattle.rt_groups.proofs.GroupLimits as limits
+use Rattle.rt_plays.specs.Groups.{IsGroupOf}
+use Rattle.rt_plays.proofs.GroupLimits as limits
 
 pub turns-few : (p : Parts) (n h : ℕ) → IsValid p → p.drive ≡ Horizon h → h * length (group_processors (group_with p n)) * 18 ≤ MOST_STEPS
 turns-few p n h valid drive =

@@ -9,7 +9,7 @@ use Rattle.rt_model.specs.Steps.{IsStepOf}
 use Rattle.rt_task.specs.declared.Drive.TheVariants.{Horizon}
 use Rattle.rt_plays.specs.Order.{history, order, rounds}
 use Rattle.rt_plays.specs.Plays.{group_count, group_with}
-use Rattle.rt_groups.specs.Groups.{AreStepsOf}
+use Rattle.rt_plays.specs.Groups.{AreStepsOf}
 use Rattle.set_plays.specs.Groups.{script_of}
 use Rattle.set_plays.specs.declared.group_steps.GroupSteps.{GroupSteps}
 use Rattle.set_plays.specs.declared.group_steps.GroupSteps.TheVariants.{Given, Again, Turns}

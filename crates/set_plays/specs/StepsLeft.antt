@@ -6,7 +6,7 @@ use Rattle.rt_rules.specs.declared.history.Entry.{Entry}
 use Rattle.rt_model.specs.Group.{Group}
 use Rattle.rt_model.specs.Past.{Past}
 use Rattle.rt_model.specs.Steps.{IsStepOf}
-use Rattle.rt_groups.specs.Groups.{AreStepsOf}
+use Rattle.rt_plays.specs.Groups.{AreStepsOf}
 use Rattle.set_plays.specs.TurnsLeft.{AreTurnsOf, turns_left}
 use Rattle.set_plays.specs.declared.steps_left.StepsLeft.{StepsLeft}
 use Rattle.set_plays.specs.declared.steps_left.StepsLeft.TheVariants.{Given, Again, Turns}

@@ -1,6 +1,6 @@
 //! The steps of a group.
 ghost use Rattle.std.specs.Prelude.{◌≡◌, [], IfOk};
-ghost use Rattle.rt_groups.specs.Groups.{IsGroupOf};
+ghost use Rattle.rt_plays.specs.Groups.{IsGroupOf};
 ghost use Rattle.rt_task.specs.declared.Drive.TheVariants.{Horizon};
 ghost use Rattle.rt_plays.specs.Order.{rounds};
 ghost use Rattle.rt_plays.specs.Plays.{group_with};

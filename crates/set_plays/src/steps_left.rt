@@ -3,7 +3,7 @@ ghost use Rattle.std.specs.Prelude.{◌≡◌, ◌∷◌, ◌≤◌, [], IfSome,
 ghost use Rattle.rt_base.specs.declared.TheConstants.{MOST_STEPS};
 ghost use Rattle.rt_model.specs.Histories.{after};
 ghost use Rattle.rt_model.specs.Steps.{IsStepOf};
-ghost use Rattle.rt_groups.specs.Groups.{group_of, past};
+ghost use Rattle.rt_plays.specs.Groups.{group_of, past};
 ghost use Rattle.set_plays.specs.StepsLeft.{AreOf, room_of, steps_left};
 
 use crate::TurnsLeft;

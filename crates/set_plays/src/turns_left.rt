@@ -7,7 +7,7 @@ ghost use Rattle.rt_model.specs.Past.{Past};
 ghost use Rattle.rt_model.specs.Steps.{IsActOf, IsStepOf};
 ghost use Rattle.rt_plays.specs.NextSteps.{step_at};
 ghost use Rattle.rt_plays.specs.Order.{rounds};
-ghost use Rattle.rt_groups.specs.Groups.{group_of, past};
+ghost use Rattle.rt_plays.specs.Groups.{group_of, past};
 ghost use Rattle.set_plays.specs.TurnsLeft.{cpu_numbers, cpu_of, next_turn, turns_left, with_step, AreTurnsOf, GoesOnBy, IsTurnOver};
 
 use body_play::next_act;

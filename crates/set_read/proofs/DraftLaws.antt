@@ -17,12 +17,12 @@ use Rattle.rt_task.specs.Refusals.{bad}
 use Rattle.json.specs.Token.{Token}
 use Rattle.serde_json.specs.Data.{Data, no_items}
 use Rattle.set_read.specs.Document.{Whole, steps, whole_of, names_of, tasks_from, cluster_form, semaphore_form, reservation_form, step_form}
-use Rattle.set_read.specs.Elements.{elements_from, with_front}
+use Rattle.set_read.specs.inside.Elements.{elements_from, with_front}
 use Rattle.set_read.specs.Forms as forms
 use Rattle.set_read.specs.Forms.{every, listed}
 use Rattle.set_read.specs.Sets.{◌>>=◌, or_refused}
-use Rattle.set_read.specs.Stepwise.{drive_read, whole_read, draft_read}
-use Rattle.set_read.specs.Tokens.{Completes, SaysDraft}
+use Rattle.set_read.specs.inside.Stepwise.{drive_read, whole_read, draft_read}
+use Rattle.set_read.specs.inside.Tokens.{Completes, SaysDraft}
 use Rattle.set_read.proofs.WholeLaws.{whole_of-put}
 
 -- ---- elements

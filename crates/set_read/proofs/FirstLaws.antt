@@ -13,7 +13,7 @@ use Rattle.json.specs.Token.{string}
 use Rattle.json.specs.Word.{is_operator, is_space, ends_word, after_whole, after_fraction, after_exponent, after_number}
 use Rattle.json.proofs.Printed.Numbers.{lex-number}
 use Rattle.json.proofs.Printed.Strings.{content-escape, escape_byte_plain, lex-escape}
-use Rattle.set_read.specs.Texts.{BeginsWith, BeginsWithNumber}
+use Rattle.set_read.specs.inside.Texts.{BeginsWith, BeginsWithNumber}
 use Rattle.set_read.proofs.NumberLaws.{number_of-digits}
 
 -- ---- the front of a list, and the rest

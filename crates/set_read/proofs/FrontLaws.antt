@@ -7,7 +7,7 @@ use Rattle.json.specs.Json.{Members, no_members, member}
 use Rattle.json.specs.Value.{value_view, members_view}
 use Rattle.json.specs.declared.value.Value.{Value, Object}
 use Rattle.json.proofs.Trees.{view-Object}
-use Rattle.set_read.specs.Tokens.{before, with_no_steps}
+use Rattle.set_read.specs.inside.Tokens.{before, with_no_steps}
 
 members_before : {A : Type 0} (ms : List (Bor (List ℕ) × Value A)) (m : Bor (List ℕ) × Value A)
     → members_view (ms ++ m ∷ []) ≡ before (members_view ms) (member m.0.now (value_view m.1) no_members)

@@ -4,7 +4,7 @@ use Rattle.std.proofs.lemmas.Bool.{false≢true}
 use Rattle.json.specs.Lex.{Class, quote, backslash, operator, space, other, class, Lexeme, token, Mode, between, in_word, in_string, in_escape, lex, lex_byte, operator_lexeme, string_token}
 use Rattle.json.specs.Text.{content, plain}
 use Rattle.json.specs.Token.{begin_array, bad, string}
-use Rattle.set_read.specs.Texts.{closing}
+use Rattle.set_read.specs.inside.Texts.{closing}
 use Rattle.set_read.proofs.StringLaws.{closes, closes_byte, settled}
 use Rattle.set_read.proofs.WordLaws.{word_alone, word-more}
 

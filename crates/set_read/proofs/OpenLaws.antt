@@ -13,8 +13,8 @@ use Rattle.json.proofs.Printed.Trees.{value-json_tokens}
 use Rattle.json.proofs.Unique.Spelling.{value-json_tokens_back, tokens-document}
 use Rattle.serde_json.specs.Data.{Data}
 use Rattle.serde_json.specs.Read.{of_json, read}
-use Rattle.set_read.specs.Texts.{closing, OpensSteps}
-use Rattle.set_read.specs.Tokens.{before, with_steps, with_no_steps, LeavesSteps}
+use Rattle.set_read.specs.inside.Texts.{closing, OpensSteps}
+use Rattle.set_read.specs.inside.Tokens.{before, with_steps, with_no_steps, LeavesSteps}
 use Rattle.set_read.proofs.PlaceLaws.{opens}
 
 -- ---- members, and then the steps

@@ -3,7 +3,7 @@ use Rattle.std.proofs.Common.{◌≡◌, ℕ, Bool, true, false, List, [], ◌�
 use Rattle.std.proofs.lemmas.List.{append_cancel_right}
 use Rattle.json.specs.Lex.{Lexeme, token, comma, colon, between, lex, Place, fresh, after_value, after_comma, after_key, begins_colon, may_begin, may_close, if_allowed, place_token, punctuate, tokens}
 use Rattle.json.specs.Token.{Token, begin_object, end_object, begin_array, end_array, key, string, number, boolean, null, bad}
-use Rattle.set_read.specs.Texts.{closing}
+use Rattle.set_read.specs.inside.Texts.{closing}
 use Rattle.set_read.proofs.LexLaws.{Reached, IsFaulty, closes_outside, lexed}
 
 module _ (p : Place) (ls : List Lexeme) where

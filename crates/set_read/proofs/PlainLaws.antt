@@ -9,8 +9,8 @@ use Rattle.rt_task.specs.declared.draft.DraftStep.{DraftStep}
 use Rattle.serde_json.specs.Data.{number, string, unsigned}
 use Rattle.set_read.specs.Document.{Names, act_with, bare_acts}
 use Rattle.set_read.specs.Forms.{word_in}
-use Rattle.set_read.specs.Texts.{tokens_at, BeginsWith, BeginsWithNumber, BeginsWithArgument, EndsStep, BeginsWithStep}
-use Rattle.set_read.specs.Tokens.{SaysNumber, SaySteps}
+use Rattle.set_read.specs.inside.Texts.{tokens_at, BeginsWith, BeginsWithNumber, BeginsWithArgument, EndsStep, BeginsWithStep}
+use Rattle.set_read.specs.inside.Tokens.{SaysNumber, SaySteps}
 use Rattle.set_read.proofs.PlaceLaws.{token_at}
 use Rattle.set_read.proofs.StepLaws.{bare_said, counted_said, named_said, no_more_steps, one_step, step_said}
 

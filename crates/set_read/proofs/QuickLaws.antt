@@ -8,7 +8,7 @@ use Rattle.rt_task.specs.declared.draft.Draft.{Draft}
 use Rattle.serde_json.specs.Data.{Data, array, object, Items, no_items, Members, no_members, put}
 use Rattle.serde_json.specs.Read.{of_json, of_items, of_members, read}
 use Rattle.set_read.specs.Sets.{draft_in_bytes}
-use Rattle.set_read.specs.Tokens.{item_depth, before, with_steps, with_no_steps, Completes, LeavesSteps}
+use Rattle.set_read.specs.inside.Tokens.{item_depth, before, with_steps, with_no_steps, Completes, LeavesSteps}
 use Rattle.set_read.proofs.ReadLaws.{read_draft-read}
 use Rattle.set_read.proofs.TokenLaws.{converted_some}
 

@@ -12,8 +12,8 @@ use Rattle.rt_task.specs.declared.bad_set.BadSet.{BadSet}
 use Rattle.rt_task.specs.declared.draft.Draft.{Draft}
 use Rattle.rt_task.specs.Refusals.{bad, first_failing}
 use Rattle.set_read.specs.Document.{Names, Whole, Play, steps, horizon, whole_of, names_of, has_horizon, tasks_from, cluster_form, semaphore_form, reservation_form}
-use Rattle.set_read.specs.Elements.{with_front, elements_from}
-use Rattle.set_read.specs.Stepwise.{drive_read, whole_read, draft_read}
+use Rattle.set_read.specs.inside.Elements.{with_front, elements_from}
+use Rattle.set_read.specs.inside.Stepwise.{drive_read, whole_read, draft_read}
 use Rattle.set_read.specs.Sets.{◌>>=◌, or_refused, elements, has_form, same, unless, drive_of, draft_of_value, draft_in_bytes, value_of}
 
 with_first : {A : Type 0} (x : A) (part : Part) (o : Option ℕ) (xs : List A) → with_front (x ∷ []) (unless (option_map (bad kinds.Shape part) o) xs) ≡ unless (option_map (bad kinds.Shape part) o) (x ∷ xs)

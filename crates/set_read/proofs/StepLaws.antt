@@ -7,7 +7,7 @@ use Rattle.rt_task.specs.declared.draft.DraftStep.{DraftStep}
 use Rattle.serde_json.specs.Data.{number, string, array, unsigned, no_items, item}
 use Rattle.set_read.specs.Document.{Names, bare_acts, act_with, step_form}
 use Rattle.set_read.specs.Forms.{word_in}
-use Rattle.set_read.specs.Tokens.{item_depth, argument_depth, SaysNumber, SaysAct, SaysStep, SaySteps}
+use Rattle.set_read.specs.inside.Tokens.{item_depth, argument_depth, SaysNumber, SaysAct, SaysStep, SaySteps}
 use Rattle.set_read.proofs.TokenLaws.{no_more_items, one_item, array_said, number_item, string_item}
 
 module _ (names : Names) where

@@ -5,7 +5,7 @@ use Rattle.std.specs.Char.{encode_utf8, is_digit}
 use Rattle.json.specs.Lex.{Class, quote, backslash, operator, space, other, class, Mode, between, in_word, in_string, in_escape}
 use Rattle.json.specs.Text.{code_unit, short_escape, is_high_surrogate, is_low_surrogate, surrogate_pair, Within, plain, after_backslash, after_u, after_high, prepend, content}
 use Rattle.json.specs.Word.{is_operator, is_space}
-use Rattle.set_read.specs.Texts.{closing}
+use Rattle.set_read.specs.inside.Texts.{closing}
 
 abbrev pub closes_byte : Mode → Class → (Mode → Bool) → Bool
 closes_byte between c k = true

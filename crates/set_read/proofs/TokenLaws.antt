@@ -6,7 +6,7 @@ use Rattle.json.specs.Json.{parse_map, after_end_array, value}
 use Rattle.json.proofs.Grammar.{left, value_is, value-begin_array, items_end, items_more, skip_value-shorter}
 use Rattle.serde_json.specs.Data.{Data, number, string, array, unsigned, Items, no_items, item}
 use Rattle.serde_json.specs.Read.{of_json, of_items, converted, number_of}
-use Rattle.set_read.specs.Tokens.{SaysNumber, AreItems}
+use Rattle.set_read.specs.inside.Tokens.{SaysNumber, AreItems}
 
 -- ---- a value that was converted
 

@@ -4,7 +4,7 @@ ghost use Rattle.rt_task.specs.declared.bad_set.Part.TheVariants as parts;
 ghost use Rattle.serde_json.specs.View.{view};
 ghost use Rattle.set_read.specs.Document as document;
 ghost use Rattle.rt_task.specs.Answers.{Gives};
-ghost use Rattle.set_read.specs.Elements.{elements_from};
+ghost use Rattle.set_read.specs.inside.Elements.{elements_from};
 ghost use Rattle.rt_task.specs.RuleWords.{is_empty, is_periodic};
 ghost use Rattle.set_read.specs.Names.{names_seen};
 

@@ -4,7 +4,7 @@ ghost use Rattle.std.specs.Str.Parse.{AllDigits, digits_value};
 ghost use Rattle.json.specs.Lex.{between, class, lex, operator, operator_lexeme, token};
 ghost use Rattle.json.specs.Token.{string};
 ghost use Rattle.json.specs.Word.{ends_word, is_space};
-ghost use Rattle.set_read.specs.Texts.{BeginsWith, BeginsWithNumber};
+ghost use Rattle.set_read.specs.inside.Texts.{BeginsWith, BeginsWithNumber};
 
 // A number up to it has room for one more digit.
 const MOST_BEFORE_DIGIT: u64 = (u64::MAX - 9) / 10;

@@ -5,8 +5,8 @@ ghost use Rattle.json.specs.Token.{string};
 ghost use Rattle.set_read.specs.Document.{bare_acts};
 ghost use Rattle.set_read.specs.Forms.{word_in};
 ghost use Rattle.set_read.specs.Names.{names_seen};
-ghost use Rattle.set_read.specs.Texts.{BeginsWith, BeginsWithArgument, BeginsWithStep, EndsStep, tokens_at};
-ghost use Rattle.set_read.specs.Tokens.{SaySteps};
+ghost use Rattle.set_read.specs.inside.Texts.{BeginsWith, BeginsWithArgument, BeginsWithStep, EndsStep, tokens_at};
+ghost use Rattle.set_read.specs.inside.Tokens.{SaySteps};
 
 use crate::acts::{NameLists, act_counted, act_named};
 use crate::lexemes::{after, after_blanks, number, unquoted};

@@ -5,12 +5,12 @@ ghost use Rattle.json.specs.Lex.{after_value, tokens};
 ghost use Rattle.json.specs.Value.{value_view};
 ghost use Rattle.serde_json.specs.View.{view};
 ghost use Rattle.set_read.specs.Document.{names_of};
-ghost use Rattle.set_read.specs.Few.{IsFew};
+ghost use Rattle.set_read.specs.inside.Few.{IsFew};
 ghost use Rattle.set_read.specs.Names.{names_seen};
 ghost use Rattle.set_read.specs.Seen.{whole_seen};
 ghost use Rattle.set_read.specs.Sets.{draft_in_bytes};
-ghost use Rattle.set_read.specs.Texts.{OpensSteps, closing, tokens_at};
-ghost use Rattle.set_read.specs.Tokens.{Completes, SaysDraft, with_no_steps};
+ghost use Rattle.set_read.specs.inside.Texts.{OpensSteps, closing, tokens_at};
+ghost use Rattle.set_read.specs.inside.Tokens.{Completes, SaysDraft, with_no_steps};
 
 use crate::acts::NameLists;
 use crate::document::{Whole, whole_of};

@@ -4,10 +4,10 @@ ghost use Rattle.rt_task.specs.declared.bad_set.Part.TheVariants as parts;
 ghost use Rattle.serde_json.specs.View.{view};
 ghost use Rattle.set_read.specs.Document as document;
 ghost use Rattle.rt_task.specs.Answers.{Gives};
-ghost use Rattle.set_read.specs.Stepwise.{draft_read, drive_read, whole_read};
+ghost use Rattle.set_read.specs.inside.Stepwise.{draft_read, drive_read, whole_read};
 ghost use Rattle.set_read.specs.Names.{names_seen};
 ghost use Rattle.set_read.specs.Seen.{play_seen, whole_seen};
-ghost use Rattle.set_read.specs.Few.{IsFew, HasFewSteps};
+ghost use Rattle.set_read.specs.inside.Few.{IsFew, HasFewSteps};
 ghost use Rattle.set_read.specs.Sets.{same, draft_in_bytes, set};
 
 use crate::acts::NameLists;
@@ -59,7 +59,7 @@ pub(crate) fn is_few(whole: &Whole) -> bool
     few
 }
 
-#[tactic(auto, unfolding(crate::specs::Stepwise::drive_read))]
+#[tactic(auto, unfolding(crate::specs::inside::Stepwise::drive_read))]
 fn drive_of(alloc: Global, names: &NameLists, play: Play) -> Result<DraftDrive, SetStop>
     requires { HasFewSteps play }
     ensures { Gives same result (drive_read (names_seen names.now) (play_seen play.entry)) }
@@ -120,7 +120,7 @@ pub fn names_of<'a>(alloc: Global, whole: &Whole<'a>) -> Result<NameLists<'a>, S
     Ok(name_lists(alloc, whole)?)
 }
 
-#[tactic(auto, unfolding(crate::specs::Stepwise::whole_read))]
+#[tactic(auto, unfolding(crate::specs::inside::Stepwise::whole_read))]
 pub(crate) fn draft_of_whole(
     alloc: Global,
     whole: &Whole,
@@ -145,7 +145,7 @@ pub(crate) fn draft_of_whole(
     })
 }
 
-#[tactic(auto, unfolding(crate::specs::Stepwise::draft_read))]
+#[tactic(auto, unfolding(crate::specs::inside::Stepwise::draft_read))]
 fn draft_of_value(alloc: Global, v: &Value) -> Result<Draft, SetStop>
     ensures { Gives same result (draft_read (view v.now)) }
 {

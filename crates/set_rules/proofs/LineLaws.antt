@@ -4,7 +4,7 @@ use Rattle.std.specs.List.{list_all}
 use Rattle.std.specs.Ordering.{nat_cmp, is_lt}
 use Rattle.std.proofs.lemmas.Bool.{cases_lt, and_from, and_parts, lt-ltb, le-ltb, lt-leb, le-leb, ne_eqb}
 use Rattle.std.proofs.lemmas.Bool.Decides.{nat_tests}
-use Rattle.set_rules.specs.Tables.{is_free, with_entry, IsApart, are_apart, stands_apart}
+use Rattle.set_rules.specs.inside.Tables.{is_free, with_entry, IsApart, are_apart, stands_apart}
 
 are_apart-late : (p e : ℕ × ℕ) → p.0 ≤ e.1 → are_apart p e ≡ true
 are_apart-late p e h = rw (le-ltb e.1 p.0 h) refl

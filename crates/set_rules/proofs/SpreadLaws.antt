@@ -10,7 +10,7 @@ use Rattle.set_rules.specs.declared.rules.spread.Spread.{Spread}
 use Rattle.rt_task.specs.Lookups.{group_of}
 use Rattle.rt_task.specs.RuleWords.{has, all_same, sem_numbers}
 use Rattle.rt_task.specs.SharingRules.{clusters_sharing}
-use Rattle.set_rules.specs.Spreads.{spread_of, added, clusters_among}
+use Rattle.set_rules.specs.inside.Spreads.{spread_of, added, clusters_among}
 
 and_true : (a : Bool) → (a && true) ≡ a
 and_true true = refl

@@ -21,7 +21,7 @@ use Rattle.rt_task.specs.SharingRules.{resv_sharing}
 use Rattle.rt_task.specs.Validity.{range_rows}
 use Rattle.rt_task.specs.SlotRules.{slots_follow, slots_length, slots_in_range, overlap, fit_by, fit_together}
 use Rattle.set_rules.specs.declared.rules.tables.Tables.{Tables}
-use Rattle.set_rules.specs.Tables.{is_in_range, cycle_of, slots_of, same_cycle, allows, on_line, placed, is_free, with_entry, has_room, with_slots, IsApart, are_apart, stands_apart, stands_off, turns_with, Knows}
+use Rattle.set_rules.specs.inside.Tables.{is_in_range, cycle_of, slots_of, same_cycle, allows, on_line, placed, is_free, with_entry, has_room, with_slots, IsApart, are_apart, stands_apart, stands_off, turns_with, Knows}
 use Rattle.set_rules.proofs.RefusalLaws.{each-passes, third-none}
 use Rattle.set_rules.proofs.LineLaws.{and-assoc, and-comm, are_free-is, with_all-apart, with_all-is}
 

@@ -1,4 +1,2 @@
-pub mod NamesSeen
-pub mod Spreads
 pub mod Ends
-pub mod Tables
+pub mod inside

@@ -9,7 +9,7 @@ use Rattle.turn_cell.specs.Places.{Cell}
 use Rattle.cpu_site.specs.declared.story.GroupOf.{GroupOf}
 use Rattle.cpu_site.specs.Seats.{CpuPlace}
 use Rattle.set_runs.specs.declared.driver.Driver.{Driver}
-use Rattle.set_runs.specs.Drivers.{AreAtWork, AreOver, AreStill, IsAtWork}
+use Rattle.set_runs.specs.inside.Drivers.{AreAtWork, AreOver, AreStill, IsAtWork}
 use Rattle.set_runs.specs.Runs.{AreDriven, IsDriven}
 use Rattle.set_runs.proofs.Lists.{each-all, each-chain, each-more, each-none, each-self, each-set, some-of}
 

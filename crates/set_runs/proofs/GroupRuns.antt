@@ -5,7 +5,7 @@ use Rattle.std.proofs.lemmas.List.{get_or-map, length-map}
 use Rattle.rt_task.specs.declared.Parts.{Parts}
 use Rattle.rt_rules.specs.Numbers.{has}
 use Rattle.rt_model.specs.Group.{group_processors}
-use Rattle.rt_groups.specs.Groups.{GroupHistory, group_of}
+use Rattle.rt_plays.specs.Groups.{GroupHistory, group_of}
 use Rattle.rt_plays.specs.Homes.{IsProcessorOf}
 use Rattle.rt_plays.specs.Plays.{group_with, IsBegunPlay}
 use Rattle.turn_cell.specs.Places.{Cell}

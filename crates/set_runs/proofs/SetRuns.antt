@@ -6,8 +6,8 @@ use Rattle.rt_base.specs.declared.NoMemory.{NoMemory}
 use Rattle.rt_task.specs.declared.Parts.{Parts}
 use Rattle.rt_task.specs.Validity.{IsValid}
 use Rattle.rt_rules.specs.Numbers.{numbers_from}
-use Rattle.rt_groups.specs.Groups.{GroupHistory, IsGroupOf}
-use Rattle.rt_groups.proofs.GroupCount.{groups_are_counted}
+use Rattle.rt_plays.specs.Groups.{GroupHistory, IsGroupOf}
+use Rattle.rt_plays.proofs.GroupCount.{groups_are_counted}
 use Rattle.rt_plays.specs.Plays.{group_count}
 use Rattle.trace_text.proofs.GroupLaws.{all-groups, groups-few}
 use Rattle.set_runs.specs.Runs.{AreRunsOf, IsRunOf}

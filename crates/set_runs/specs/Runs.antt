@@ -1,7 +1,7 @@
 -- What is left when the processors of groups have played their scripts or their turns.
 use Rattle.std.specs.Prelude.{◌≡◌, ℕ, ◌<◌, List, length, slice_index_or}
 use Rattle.rt_task.specs.declared.Parts.{Parts}
-use Rattle.rt_groups.specs.Groups.{GroupHistory, group_of}
+use Rattle.rt_plays.specs.Groups.{GroupHistory, group_of}
 use Rattle.rt_plays.specs.Plays.{IsPlay}
 use Rattle.trace_text.specs.Groups.{AreGroupsOf}
 use Rattle.turn_cell.specs.Places.{Cell}

@@ -1,7 +1,7 @@
 //! The processors of a group that plays by turns.
 ghost use Rattle.std.specs.Prelude.{◌≡◌, length, map, All, IfOk};
 ghost use Rattle.tick_clock.specs.Clocks.{fresh};
-ghost use Rattle.set_runs.specs.Drivers.{AreAtWork, IsAtWork};
+ghost use Rattle.set_runs.specs.inside.Drivers.{AreAtWork, IsAtWork};
 
 use cpu_site::{CpuSeat, Gate, Site, drive_turns, play_turn};
 use rt_base::NoMemory;

@@ -1,7 +1,7 @@
 //! A group whose processors play in threads, each in one of its own.
 ghost use Rattle.std.specs.Prelude.{◌≡◌, ◌<◌, ◌≤◌, length, All, IfOk};
 ghost use Rattle.rt_base.specs.declared.TheConstants.{MOST_CPUS};
-ghost use Rattle.rt_groups.specs.Groups.{IsGroupOf};
+ghost use Rattle.rt_plays.specs.Groups.{IsGroupOf};
 ghost use Rattle.set_runs.specs.Runs.{AreDriven, IsDriven, IsRunOf};
 
 use crate::turn_run::drive_all_turns;

@@ -1,6 +1,6 @@
 //! All groups of a set, beside each other.
 ghost use Rattle.std.specs.Prelude.{◌≡◌, ◌<◌, ◌^◌, map, IfOk, Ok};
-ghost use Rattle.rt_groups.specs.Groups.{IsGroupOf};
+ghost use Rattle.rt_plays.specs.Groups.{IsGroupOf};
 ghost use Rattle.set_runs.specs.Runs.{AreRunsOf, IsRunOf};
 
 use crate::group_run::run_group;

@@ -1,7 +1,7 @@
 //! A group that plays by turns, each processor in a thread of its own.
 ghost use Rattle.std.specs.Prelude.{◌≡◌, ◌<◌, ◌≤◌, true, length, All, IfOk};
 ghost use Rattle.rt_base.specs.declared.TheConstants.{MOST_CPUS};
-ghost use Rattle.set_runs.specs.Drivers.{AreOver, AreStill, IsAtWork};
+ghost use Rattle.set_runs.specs.inside.Drivers.{AreOver, AreStill, IsAtWork};
 ghost use Rattle.set_runs.specs.Runs.{AreDriven};
 
 use crate::driver::{Driver, drivers_of, seats_of};

@@ -21,7 +21,7 @@ use Rattle.trace_writer.specs.declared.stop.WriteStop.TheVariants as stops
 use Rattle.trace_writer.specs.declared.summary.Summary.{Summary}
 use Rattle.trace_text.specs.CountLines.{count_lines, shown_from}
 use Rattle.trace_writer.specs.Summaries.{summary_from}
-use Rattle.trace_writer.specs.Writing.{Came}
+use Rattle.trace_writer.proofs.CameLaws.{CameFrom}
 use Rattle.trace_writer.proofs.BusText.{lines-of_tools}
 use Rattle.trace_writer.proofs.CameLaws.{coming-last, coming-next, coming-start, coming-stop}
 use Rattle.set_input.specs.Ends.{Writing}
@@ -49,12 +49,12 @@ one_number (word ∷ number ∷ more ∷ words) m n a b = absurd a
 -- ---- its text
 
 -- a text came, and after it another one, or a first part of it
-pub came_both : (r : Result (Unit {0}) WriteStop) (a b c : Held) (f g h : ℕ) (one two : List ℕ) → Came (Ok tt) a b f g one → Came r b c g h two → Came r a c f h (one ++ two)
+pub came_both : (r : Result (Unit {0}) WriteStop) (a b c : Held) (f g h : ℕ) (one two : List ℕ) → CameFrom (Ok tt) a b f g one → CameFrom r b c g h two → CameFrom r a c f h (one ++ two)
 came_both r a b c f g h one two first second =
     coming-last r a b c f g h (one ++ two) two (coming-next a a b f f g (one ++ two) one two (coming-start a f (one ++ two)) first) second
 
 -- a first part came of the first of two
-pub came_first : (e : WriteStop) (a b : Held) (f g : ℕ) (one two : List ℕ) → Came (Err e) a b f g one → Came (Err e) a b f g (one ++ two)
+pub came_first : (e : WriteStop) (a b : Held) (f g : ℕ) (one two : List ℕ) → CameFrom (Err e) a b f g one → CameFrom (Err e) a b f g (one ++ two)
 came_first e a b f g one two stopped = coming-stop e a a b f f g (one ++ two) one two (coming-start a f (one ++ two)) stopped
 
 -- the answer by how a write ended
@@ -63,7 +63,7 @@ status_of (Ok u) = ends.Ok
 status_of (Err stops.Fault) = ends.WriteFault
 status_of (Err stops.NoMemory) = ends.NoMemory
 
-pub came-wrote : (r : Result (Unit {0}) WriteStop) (sink : Writing) (text : List ℕ) → Came r sink.old.held sink.new.held sink.old.faults sink.new.faults text → Wrote sink text (status_of r)
+pub came-wrote : (r : Result (Unit {0}) WriteStop) (sink : Writing) (text : List ℕ) → CameFrom r sink.old.held sink.new.held sink.old.faults sink.new.faults text → Wrote sink text (status_of r)
 came-wrote (Ok u) sink text p = p.0
 came-wrote (Err stops.Fault) sink text p = (p.0, p.2)
 came-wrote (Err stops.NoMemory) sink text p = inr p.0

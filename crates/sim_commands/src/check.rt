@@ -1,7 +1,6 @@
 //! The command `check`: from the bytes of a trace to the line that says what it is.
 ghost use Rattle.std.specs.Prelude.{◌≡◌, ◌≢◌, map};
-ghost use Rattle.rt_fault.specs.Faults.{HasRisen};
-ghost use Rattle.set_input.specs.Ends.{reading, writing};
+ghost use Rattle.set_input.specs.Ends.{TellsFaults, reading, writing};
 ghost use Rattle.set_input.specs.Answers.{IsUnwritten};
 ghost use Rattle.sim_commands.specs.CheckAnswers.{CheckAnswers};
 
@@ -22,12 +21,8 @@ pub(crate) fn check<T: TraceTool, S: Source, K: Sink>(
     ensures answers { CheckAnswers (map T.tool tools.items)
         (reading S.left S.faults src.old src.new) (writing K.held K.faults out.old out.new) result }
     ensures unwritten { IsUnwritten result → out.new ≡ out.old }
-    ensures read_fault { result ≡ Status.ReadFault →
-        HasRisen (S.faults src.old) (S.faults src.new) }
-    ensures no_read_fault { result ≢ Status.ReadFault → S.faults src.new ≡ S.faults src.old }
-    ensures write_fault { result ≡ Status.WriteFault →
-        HasRisen (K.faults out.old) (K.faults out.new) }
-    ensures no_write_fault { result ≢ Status.WriteFault → K.faults out.new ≡ K.faults out.old }
+    ensures faults { TellsFaults (reading S.left S.faults src.old src.new)
+        (writing K.held K.faults out.old out.new) result }
     ensures not_usage { result ≢ Status.Usage }
 {
     let (bytes, head) = match read_trace_input(alloc, src) {

@@ -1,7 +1,6 @@
 //! The top call: the commands `sim`, `check`, `upgrade` and `load`.
-ghost use Rattle.std.specs.Prelude.{◌≡◌, ◌≢◌, ℕ, true, map};
-ghost use Rattle.rt_fault.specs.Faults.{HasRisen};
-ghost use Rattle.set_input.specs.Ends.{reading, writing};
+ghost use Rattle.std.specs.Prelude.{◌≡◌, ℕ, true, map};
+ghost use Rattle.set_input.specs.Ends.{TellsFaults, reading, writing};
 ghost use Rattle.sim_commands.specs.Sim as commands;
 ghost use Rattle.sim_commands.specs.Sim.{IsCommand, IsLoad};
 ghost use Rattle.set_input.specs.Answers.{IsUnwritten};
@@ -46,12 +45,8 @@ pub fn sim<S: Source, K: Sink, T: TraceTool>(
         → result ≡ Status.Invalid line → out.new ≡ out.old }
 
     // A fault is answered exactly where a read or a write of this call failed.
-    ensures read_fault { result ≡ Status.ReadFault →
-        HasRisen (S.faults src.old) (S.faults src.new) }
-    ensures no_read_fault { result ≢ Status.ReadFault → S.faults src.new ≡ S.faults src.old }
-    ensures write_fault { result ≡ Status.WriteFault →
-        HasRisen (K.faults out.old) (K.faults out.new) }
-    ensures no_write_fault { result ≢ Status.WriteFault → K.faults out.new ≡ K.faults out.old }
+    ensures faults { TellsFaults (reading S.left S.faults src.old src.new)
+        (writing K.held K.faults out.old out.new) result }
 
     // What each command answers, and what it read and wrote.
     ensures sim { commands.is_sim words.now ≡ true → SimAnswers (map T.tool tools.items)

@@ -44,7 +44,7 @@ fn write_number_line<K: Sink>(
     number: u64,
     rest: &[u8],
 ) -> Result<(), WriteStop>
-    ensures { Came result (K.held out.old) (K.held out.new) (K.faults out.old) (K.faults out.new)
+    ensures { Came result (writing K.held K.faults out.old out.new)
         (number_line word.now number rest.now) }
 {
     line.clear();
@@ -59,8 +59,7 @@ fn write_summary<K: Sink>(
     summary: Summary,
     out: &mut K,
 ) -> Result<(), WriteStop>
-    ensures { Came result (K.held out.old) (K.held out.new) (K.faults out.old) (K.faults out.new)
-        (summary_text n summary) }
+    ensures { Came result (writing K.held K.faults out.old out.new) (summary_text n summary) }
 {
     let mut line = Vec::new(alloc);
     write_number_line(out, &mut line, b"load ", n, b"")?;
@@ -84,7 +83,7 @@ fn write_load<T: TraceTool, K: Sink>(
     out: &mut K,
 ) -> Result<(), WriteStop>
     ensures { (k : Known)
-        → Came result (K.held out.old) (K.held out.new) (K.faults out.old) (K.faults out.new)
+        → Came result (writing K.held K.faults out.old out.new)
         (summary_text n summary ++ flat_map (line_text k) (map seat_line (seats T.tool bus.now))) }
 {
     write_summary(alloc, n, summary, out)?;

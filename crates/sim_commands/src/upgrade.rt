@@ -10,7 +10,7 @@ ghost use Rattle.trace_tools.specs.Tools.{Tool};
 ghost use Rattle.trace_text.specs.CountLines.{counted_text, shown_from};
 ghost use Rattle.trace_read.specs.Reads.{IsHeadOf};
 ghost use Rattle.trace_upgrade.specs.Said.{SaysPlays};
-ghost use Rattle.set_input.specs.Ends.{reading, writing};
+ghost use Rattle.set_input.specs.Ends.{TellsFaults, reading, writing};
 ghost use Rattle.set_input.specs.Answers.{IsUnwritten};
 ghost use Rattle.sim_commands.specs.Upgrade.{HasUpgraded, HasWritten};
 ghost use Rattle.sim_commands.specs.UpgradeAnswers.{UpgradeAnswers};
@@ -130,12 +130,8 @@ pub(crate) fn upgrade<T: TraceTool, S: Source, K: Sink>(
         (reading S.left S.faults src.old src.new) (writing K.held K.faults out.old out.new) result }
     ensures unwritten { IsUnwritten result → out.new ≡ out.old }
     ensures wrong_unwritten { (line : ℕ) → result ≡ Status.Invalid line → out.new ≡ out.old }
-    ensures read_fault { result ≡ Status.ReadFault →
-        HasRisen (S.faults src.old) (S.faults src.new) }
-    ensures no_read_fault { result ≢ Status.ReadFault → S.faults src.new ≡ S.faults src.old }
-    ensures write_fault { result ≡ Status.WriteFault →
-        HasRisen (K.faults out.old) (K.faults out.new) }
-    ensures no_write_fault { result ≢ Status.WriteFault → K.faults out.new ≡ K.faults out.old }
+    ensures faults { TellsFaults (reading S.left S.faults src.old src.new)
+        (writing K.held K.faults out.old out.new) result }
     ensures not_usage { result ≢ Status.Usage }
 {
     let (bytes, head) = match read_trace_input(alloc, src) {

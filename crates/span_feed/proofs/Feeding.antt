@@ -23,7 +23,8 @@ use Rattle.event_lines.specs.Tracks.{GroupTracks, TaskTrack}
 use Rattle.event_lines.specs.TracksOf.{cpu_track, resv_track, task_track, tracks_of}
 use Rattle.span_feed.specs.Spanned.{HasSpans, cpu_spanned, resv_spanned, spanned, task_spanned, unmarked}
 use Rattle.span_feed.specs.TickStrips.{tick_strip, ticks_below, turned_strip}
-use Rattle.span_feed.proofs.TickLaws.{below-gap, below-one, first-strip, length-below, strip-seen, turned-not}
+use Rattle.chart_rows.proofs.TickLaws.{strip-seen}
+use Rattle.span_feed.proofs.TickLaws.{below-gap, below-one, first-strip, length-below, turned-not}
 
 module _ (g : Group) (tracks : GroupTracks) where
   -- ---- the column that goes on is over, and a column of the newest state alone

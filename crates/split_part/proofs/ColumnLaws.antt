@@ -6,7 +6,7 @@ use Rattle.std.proofs.lemmas.List.{length-take-le, map-append, map_push, reverse
 use Rattle.std.proofs.lemmas.Option.{get_or_from_slice_get, slice_get-get_or, slice_get_within}
 use Rattle.turn_cell.specs.Words.{StartsWith}
 use Rattle.split_part.specs.Columns.{AreBoth, AreFrom, IsColumn}
-use Rattle.split_part.specs.Deals.{IsPopped, lists}
+use Rattle.split_part.specs.inside.Deals.{IsPopped, lists}
 use Rattle.split_part.proofs.Dealing.{last-same}
 
 -- ---- with their places

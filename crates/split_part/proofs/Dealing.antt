@@ -2,7 +2,7 @@
 use Rattle.std.proofs.Common.{◌≡◌, List, [], ◌∷◌, ◌++◌, map, refl, sym, ap, ◌∙◌, subst, arith, length-append, length}
 use Rattle.std.specs.Global.{Vec}
 use Rattle.std.proofs.lemmas.List.{map-append}
-use Rattle.split_part.specs.Deals.{IsPopped, lists}
+use Rattle.split_part.specs.inside.Deals.{IsPopped, lists}
 
 pub popped-then : {A : Type 0} (rows rests : List (List A)) (xs : List A) (rest : List A) (x : A) → IsPopped rows rests xs
     → IsPopped (rows ++ (rest ++ x ∷ []) ∷ []) (rests ++ rest ∷ []) (xs ++ x ∷ [])

@@ -4,7 +4,7 @@ ghost use Rattle.part_seat.specs.Partitions.{cells_of};
 ghost use Rattle.part_seat.specs.PartSeats.{IsPartSeat, IsPartition, inboxes_of};
 ghost use Rattle.split_part.specs.Closings.{AreRests, AreResting, CanTake, CanTakeEach, HasTakenAll, HaveCpus, HaveTaken, IsTold, claims_in};
 ghost use Rattle.split_part.specs.Columns.{AreBoth, AreFrom};
-ghost use Rattle.split_part.specs.Deals.{lists};
+ghost use Rattle.split_part.specs.inside.Deals.{lists};
 ghost use Rattle.split_part.specs.Openings.{inboxes_at};
 
 use crate::deal::{pop_each, turn_round};

@@ -1,6 +1,6 @@
 //! Rows that are dealt out.
 ghost use Rattle.std.specs.Prelude.{◌≡◌, ◌<◌, All, IfOk, length, reverse};
-ghost use Rattle.split_part.specs.Deals.{IsPopped, lists};
+ghost use Rattle.split_part.specs.inside.Deals.{IsPopped, lists};
 
 use rt_base::NoMemory;
 use std::alloc::Global;

@@ -11,7 +11,7 @@ ghost use Rattle.split_set.specs.SplitSets.{is_split_set};
 ghost use Rattle.split_set.specs.declared.TheConstants.{MOST_SPLIT_STEPS};
 ghost use Rattle.part_seat.specs.PartSeats.{unlocks_of};
 ghost use Rattle.split_part.specs.Columns.{AreBoth};
-ghost use Rattle.split_part.specs.Deals.{lists};
+ghost use Rattle.split_part.specs.inside.Deals.{lists};
 ghost use Rattle.split_part.specs.Openings.{AreFreshRows, AreOpenParts, AreSeated, CanSeat, IsFreshTaker, inboxes_at, posters_at, rows_in, turns_in};
 
 use crate::deal::{pop_each, turn_round};

@@ -12,7 +12,7 @@ use Rattle.part_seat.specs.declared.passed.Played2.TheVariants.{Ended}
 use Rattle.split_part.specs.Ends.{AllPlayed, EndOf, IsSplitEnd}
 use Rattle.split_part.specs.Splits.{AreSeatsOf, IsSeatOf, SplitOf}
 use Rattle.split_writer.specs.PartPlays.{ArePartPlays}
-use Rattle.split_run.specs.Driven.{AreAnswered, AreDriven, IsDriven}
+use Rattle.split_run.specs.inside.Driven.{AreAnswered, AreDriven, IsDriven}
 use Rattle.split_run.specs.RunEnds.{IsRunEnd}
 
 -- a step that finds none left

@@ -1,2 +1,2 @@
-pub mod Driven
 pub mod RunEnds
+pub mod inside

@@ -1,7 +1,7 @@
 //! The processors of a split run, each of which plays until its script is played.
 ghost use Rattle.std.specs.Prelude.{◌≡◌, All, IfOk, Ok, map};
 ghost use Rattle.split_part.specs.Splits.{AreSeatsOf, IsSeatOf};
-ghost use Rattle.split_run.specs.Driven.{AreAnswered, AreDriven, IsDriven};
+ghost use Rattle.split_run.specs.inside.Driven.{AreAnswered, AreDriven, IsDriven};
 
 use cpu_site::Gate;
 use part_seat::{PartSeat, Played2};

@@ -10,7 +10,7 @@ use Rattle.split_rules.specs.declared.SemEntry.{SemEntry}
 use Rattle.split_inbox.specs.Books.{BookOf, IsHistory, IsLegalSem, entry}
 use Rattle.split_inbox.specs.Grants.{IsGrant, claim}
 use Rattle.split_inbox.specs.declared.subject.SemOf.{SemOf}
-use Rattle.split_tests.specs.OneBook.{IsAtTurn}
+use Rattle.split_tests.specs.inside.OneBook.{IsAtTurn}
 
 -- task 1 of processor 0 frees the semaphore, and task 2 holds it then
 abbrev pub freed : SemEntry

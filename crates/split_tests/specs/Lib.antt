@@ -1,1 +1,1 @@
-pub mod OneBook
+pub mod inside

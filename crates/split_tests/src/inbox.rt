@@ -2,7 +2,7 @@
 ghost use Rattle.std.specs.Prelude.{◌≡◌, ◌∷◌, [], true, IfOk, Some};
 ghost use Rattle.split_inbox.specs.Books.{entry};
 ghost use Rattle.split_inbox.specs.Grants.{claim};
-ghost use Rattle.split_tests.specs.OneBook.{one_book, IsAtTurn};
+ghost use Rattle.split_tests.specs.inside.OneBook.{one_book, IsAtTurn};
 
 use rt_base::{Ask, CpuNo, NoMemory, SemNo, TaskNo};
 use split_inbox::{Grant, Inbox, Names, SemBook, SemRule};

@@ -22,8 +22,8 @@ use Rattle.rt_model.specs.Group.{no_cluster, no_sem, protocol, sem}
 use Rattle.rt_laws.proofs.ValidSets.{keeps_rows, rules_of}
 use Rattle.rt_plays.specs.Plays.{group_with}
 use Rattle.rt_plays.specs.Room.{processor_count}
-use Rattle.rt_groups.proofs.SetLimits.{sets_are_in_limits}
-use Rattle.rt_groups.proofs.ValidRows.{passes_rows}
+use Rattle.rt_plays.proofs.SetLimits.{sets_are_in_limits}
+use Rattle.rt_plays.proofs.ValidRows.{passes_rows}
 use Rattle.rt_base.specs.declared.SemNo.{SemNo}
 use Rattle.split_inbox.specs.declared.subject.SemOf.{SemOf}
 use Rattle.split_inbox.specs.declared.subject.SemRule.{SemRule}

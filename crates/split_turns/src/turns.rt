@@ -1,6 +1,6 @@
 //! The turns of a set's semaphores.
 ghost use Rattle.std.specs.Prelude.{◌≡◌, ◌<◌, ◌≤◌, true, length, IfOk};
-ghost use Rattle.rt_groups.specs.Limits.{IsInLimits};
+ghost use Rattle.rt_plays.specs.Limits.{IsInLimits};
 ghost use Rattle.rt_plays.specs.Drives.{steps_given};
 ghost use Rattle.rt_plays.specs.Room.{processor_count};
 ghost use Rattle.set_books.specs.SetBooks as books;

@@ -3,7 +3,7 @@ use Rattle.std.proofs.Common.{◌≡◌, ℕ, [], ◌∷◌, ◌++◌, codes, de
 use Rattle.split_rules.specs.declared.SemAct.{SemAct}
 use Rattle.split_rules.specs.declared.SplitEntry.{SplitEntry}
 use Rattle.split_text.specs.SplitText.{line_of, link_words, sem_act_words, split_act_words}
-use Rattle.split_writer.specs.Texts.{part_words}
+use Rattle.split_writer.specs.inside.Texts.{part_words}
 use Rattle.trace_lines.specs.Grammar.{reply_words, task_word}
 use Rattle.trace_lines.specs.Known.{Known}
 use Rattle.trace_lines.specs.Words.{Word, further}

@@ -18,7 +18,7 @@ use Rattle.split_rules.specs.declared.SemEntry.{SemEntry}
 use Rattle.split_rules.specs.declared.SplitEntry.{SplitEntry}
 use Rattle.split_text.specs.SplitText.{body_text, known, line_of, part_lines, parts_from, sem_act_words, sem_lines, sems_from, split_text}
 use Rattle.split_writer.specs.PartPlays.{lists}
-use Rattle.split_writer.specs.Texts.{lines_with, part_block, part_words, texts}
+use Rattle.split_writer.specs.inside.Texts.{lines_with, part_block, part_words, texts}
 use Rattle.trace_lines.specs.Grammar.{target_word, task_word}
 use Rattle.trace_lines.specs.Known.{Known}
 use Rattle.trace_lines.specs.Words.{Word}

@@ -10,7 +10,7 @@ use Rattle.rt_task.specs.declared.Step.{Step}
 use Rattle.rt_model.specs.Group.{Group}
 use Rattle.rt_model.specs.Past.{entries_in, now}
 use Rattle.rt_model.specs.Steps.{IsStepOf}
-use Rattle.rt_groups.proofs.GroupLimits.{steps-few, steps-of_groups}
+use Rattle.rt_plays.proofs.GroupLimits.{steps-few, steps-of_groups}
 use Rattle.rt_plays.specs.Drives.{steps_given}
 use Rattle.rt_plays.specs.Homes.{IsProcessorOf}
 use Rattle.rt_plays.specs.Scripts.{script}

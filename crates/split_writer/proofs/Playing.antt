@@ -21,8 +21,8 @@ use Rattle.rt_model.specs.Group.{Group, declares}
 use Rattle.rt_model.specs.Past.{Clock, accepted, now}
 use Rattle.rt_model.specs.Runs.{runs}
 use Rattle.rt_laws.proofs.GroupLaws.{tasks_of-home}
-use Rattle.group_facts.specs.Facts.{CpuFacts}
-use Rattle.group_facts.proofs.KeptMoves.{task-range}
+use Rattle.group_jobs.specs.Facts.{CpuFacts}
+use Rattle.group_jobs.proofs.KeptMoves.{task-range}
 use Rattle.group_jobs.specs.GroupJobs.{is_op_reply}
 use Rattle.mpcp_ceilings.specs.Ceilings.{AreCeilings, CeilingTable}
 use Rattle.rt_plays.proofs.ProcessorLaws.{processors-below}
@@ -47,7 +47,7 @@ use Rattle.part_state.proofs.EntryLaws.{held_is_known, kept_after_entry}
 use Rattle.part_state.proofs.KeptLaws.{kept_after_clock, kept_at_opening}
 use Rattle.part_state.proofs.ReadLaws.{link_is_read}
 use Rattle.split_writer.specs.PartPlays.{IsPartPlay, IsPartition}
-use Rattle.split_writer.specs.Replays.{CanAct, CanPlay, CanPlayBy, IsOpReply, IsReplyTo, is_irq_reply}
+use Rattle.split_writer.specs.inside.Replays.{CanAct, CanPlay, CanPlayBy, IsOpReply, IsReplyTo, is_irq_reply}
 use Rattle.split_writer.proofs.Moments.{IsMoment, moment, next}
 use Rattle.split_writer.proofs.Partitions.{boosts, cpu-count, inside, one, plain, seat}
 

@@ -1,3 +1,2 @@
 pub mod PartPlays
-pub mod Replays
-pub mod Texts
+pub mod inside

@@ -3,7 +3,7 @@ ghost use Rattle.std.specs.Prelude.{◌≡◌, ◌∷◌, [], ◌++◌, suc, OnO
 ghost use Rattle.rt_base.specs.TaskNos.{number_of_task, numbers_of_tasks};
 ghost use Rattle.rt_rules.specs.Numbers.{same};
 ghost use Rattle.split_text.specs.SplitText.{line_of, link_words, split_act_words};
-ghost use Rattle.split_writer.specs.Texts.{lines_with, part_words, texts};
+ghost use Rattle.split_writer.specs.inside.Texts.{lines_with, part_words, texts};
 ghost use Rattle.trace_lines.specs.Grammar.{target_word};
 ghost use Rattle.trace_lines.specs.Known.{known_in};
 ghost use Rattle.trace_lines.specs.Words.{further};

@@ -1,11 +1,11 @@
 //! Entries of a partition's history, played again.
 ghost use Rattle.std.specs.Prelude.{◌≡◌, ◌<◌, true, length, Some};
 ghost use Rattle.rt_task.specs.declared.Act.TheVariants as acts;
-ghost use Rattle.group_facts.specs.Kept.{cpu_of};
+ghost use Rattle.group_jobs.specs.Kept.{cpu_of};
 ghost use Rattle.group_jobs.specs.GroupJobs.{IsTaskOf, is_op_reply};
 ghost use Rattle.part_state.specs.Entries.{after_entry};
 ghost use Rattle.part_state.specs.States.{after_act};
-ghost use Rattle.split_writer.specs.Replays.{CanAct, CanPlay, IsOpReply, is_irq_reply};
+ghost use Rattle.split_writer.specs.inside.Replays.{CanAct, CanPlay, IsOpReply, is_irq_reply};
 
 use part_state::PartState;
 use rt_base::CpuNo;

@@ -3,7 +3,7 @@ ghost use Rattle.std.specs.Prelude.{◌≡◌, ◌∷◌, [], ◌++◌, OnOk, co
 ghost use Rattle.split_rules.specs.declared.SemAct.TheVariants.{Release};
 ghost use Rattle.split_text.specs.SplitText.{line_of, sem_act_words, sem_lines, sems_from};
 ghost use Rattle.split_writer.specs.PartPlays.{lists};
-ghost use Rattle.split_writer.specs.Texts.{texts};
+ghost use Rattle.split_writer.specs.inside.Texts.{texts};
 ghost use Rattle.trace_lines.specs.Grammar.{task_word};
 ghost use Rattle.trace_lines.specs.Known.{known_in};
 ghost use Rattle.trace_lines.specs.Words.{further};

@@ -8,7 +8,7 @@ ghost use Rattle.split_rules.specs.Partitions.{part_group};
 ghost use Rattle.split_set.specs.SplitSets.{is_split_set};
 ghost use Rattle.split_text.specs.SplitText.{known, part_lines, parts_from, split_text};
 ghost use Rattle.split_writer.specs.PartPlays.{ArePartPlays, IsPartPlay, IsPartition, lists};
-ghost use Rattle.split_writer.specs.Texts.{part_block, texts};
+ghost use Rattle.split_writer.specs.inside.Texts.{part_block, texts};
 
 use crate::links::links_of;
 use crate::parts::{put_entries, put_opening};

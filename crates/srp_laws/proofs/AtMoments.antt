@@ -18,11 +18,11 @@ use Rattle.rt_model.specs.UnderWay.{under_way}
 use Rattle.rt_rules.proofs.BoolLaws.{both, clash, either, not_true, or_true, unless}
 use Rattle.rt_rules.proofs.MemberLaws.{equal_self, turned}
 use Rattle.rt_rules.proofs.PairLaws.{has_pair}
-use Rattle.rt_laws.proofs.BaseKeyLaws.{above-strict}
-use Rattle.rt_laws.proofs.BlockedOnce.{any-pair, pair-any, stopped-by}
+use Rattle.rt_laws.proofs.jobs.BaseKeyLaws.{above-strict}
+use Rattle.rt_laws.proofs.pcp.BlockedOnce.{any-pair, pair-any, stopped-by}
 use Rattle.rt_laws.proofs.Rules.{MeetsRules}
-use Rattle.rt_laws.proofs.SrpState.{IsSrpState, IsSrpUser, is_srp-is, srp_state, srp_users, way-eligible}
-use Rattle.rt_laws.proofs.SrpUsers.{IsSrpCluster, awaits-none, srp_cluster}
+use Rattle.rt_laws.proofs.srp.SrpState.{IsSrpState, IsSrpUser, is_srp-is, srp_state, srp_users, way-eligible}
+use Rattle.rt_laws.proofs.srp.SrpUsers.{IsSrpCluster, awaits-none, srp_cluster}
 use Rattle.rt_laws.proofs.ValidSets.{rules_of}
 use Rattle.srp_laws.specs.Sections.{awaits_start, is_no_higher, reaches}
 use Rattle.srp_laws.specs.StackLaws.{BegunIsEligible, BegunIsNotOvertaken, DelayedReaches, OneReaches}

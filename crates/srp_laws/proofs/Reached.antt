@@ -1,9 +1,9 @@
 -- The moments of the laws come about.
 use Rattle.rt_model.specs.Reachable.{opened}
-use Rattle.rt_laws.proofs.Witness.{made_by}
+use Rattle.rt_laws.proofs.semaphores.Witness.{made_by}
 use Rattle.srp_laws.specs.StackLaws.{ReachesDelayed, ReachesOvertaken}
-use Rattle.srp_laws.specs.WorkedStarts.{delayed-delays, delayed-prompt, delayed-waits, delayed_past, delayed_steps, member, three_levels, three_levels-valid}
-use Rattle.srp_laws.specs.WorkedStarts.{overtaken-inside, overtaken-linked, overtaken-lower, overtaken-prompt, overtaken-waits, overtaken_past, overtaken_steps}
+use Rattle.srp_laws.specs.worked.Starts.{delayed-delays, delayed-prompt, delayed-waits, delayed_past, delayed_steps, member, three_levels, three_levels-valid}
+use Rattle.srp_laws.specs.worked.Starts.{overtaken-inside, overtaken-linked, overtaken-lower, overtaken-prompt, overtaken-waits, overtaken_past, overtaken_steps}
 
 pub delayed_is_reached : ReachesDelayed
 delayed_is_reached = record {

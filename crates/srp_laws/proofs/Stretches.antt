@@ -21,16 +21,16 @@ use Rattle.rt_rules.proofs.BoolLaws.{both, clash, either, not_false, not_true, u
 use Rattle.rt_rules.proofs.MemberLaws.{equal_self, turned}
 use Rattle.rt_rules.proofs.PairLaws.{has_pair}
 use Rattle.rt_laws.specs.BlockedOnce.{takes_interrupts}
-use Rattle.rt_laws.proofs.BlockedMoves.{taken-before}
-use Rattle.rt_laws.proofs.BlockedOnce.{pair-task}
+use Rattle.rt_laws.proofs.pcp.BlockedMoves.{taken-before}
+use Rattle.rt_laws.proofs.pcp.BlockedOnce.{pair-task}
 use Rattle.rt_laws.proofs.GroupLaws.{home-tasks_of}
-use Rattle.rt_laws.proofs.JobLaws.{base_key-keeps}
-use Rattle.rt_laws.proofs.LinkedTasks.{IsLinked, linked-eligible}
+use Rattle.rt_laws.proofs.jobs.JobLaws.{base_key-keeps}
+use Rattle.rt_laws.proofs.links.LinkedTasks.{IsLinked, linked-eligible}
 use Rattle.rt_laws.proofs.Moves.{IsMove, by_moves, clock_moves, cpu_acts, moved}
-use Rattle.rt_laws.proofs.Requests.{asks}
-use Rattle.rt_laws.proofs.Running.{ended-runs}
-use Rattle.rt_laws.proofs.SrpState.{IsSrpState, srp-back, srp_state, under_way-back}
-use Rattle.rt_laws.proofs.SrpUsers.{IsSrpCluster, top-above}
+use Rattle.rt_laws.proofs.semaphores.Requests.{asks}
+use Rattle.rt_laws.proofs.jobs.Running.{ended-runs}
+use Rattle.rt_laws.proofs.srp.SrpState.{IsSrpState, srp-back, srp_state, under_way-back}
+use Rattle.rt_laws.proofs.srp.SrpUsers.{IsSrpCluster, top-above}
 use Rattle.rt_laws.proofs.ValidSets.{rules_of}
 use Rattle.srp_laws.specs.Sections.{awaits_start, delays, entered, is_inside, is_lower, is_no_higher, reaches, was_delayed}
 use Rattle.srp_laws.specs.StackLaws.{DelayedOnce}

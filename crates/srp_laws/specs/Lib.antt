@@ -1,3 +1,3 @@
 pub mod Sections
 pub mod StackLaws
-pub mod WorkedStarts
+pub mod worked

@@ -1,7 +1,7 @@
 -- The two parts of a path are the path.
 use Rattle.std.proofs.Common.{◌≡◌, ◌∙◌, ℕ, List, ◌++◌, refl, ap, append_assoc}
 use Rattle.svg_texts.specs.Shapes.{path, point}
-use Rattle.svg_lines.specs.Paths.{path_from, path_to}
+use Rattle.svg_lines.specs.inside.Paths.{path_from, path_to}
 
 parts : (class : List ℕ) (x y : ℕ) (moves : List ℕ) → path_to class x y ++ path_from moves ≡ path class (point x y ++ moves)
 unfolding path

@@ -1,4 +1,3 @@
-pub mod Paths
-pub mod Hollow
 pub mod Shown
 pub mod Words
+pub mod inside

@@ -1,7 +1,7 @@
 //! Bars, and names that fit into a width.
 ghost use Rattle.std.specs.Prelude.{◌≡◌, ◌+◌, ◌*◌, ◌<◌, ◌^◌, ◌++◌, nat_le, length, OnOk};
 ghost use Rattle.svg_texts.specs.Bars as spec;
-ghost use Rattle.svg_lines.specs.Hollow.{hollow};
+ghost use Rattle.svg_lines.specs.inside.Hollow.{hollow};
 
 use crate::elements::{colour, ink};
 use crate::put::Pixels;

@@ -1,7 +1,7 @@
 //! The lines of a picture: rectangles, words and paths.
 ghost use Rattle.std.specs.Prelude.{◌≡◌, ◌++◌, OnOk, IfOk, codes, decimal};
 ghost use Rattle.svg_texts.specs.Shapes as spec;
-ghost use Rattle.svg_lines.specs.Paths.{path_from, path_to};
+ghost use Rattle.svg_lines.specs.inside.Paths.{path_from, path_to};
 
 use crate::put::{Pixels, put, put_attribute, put_number, put_pixels};
 use std::alloc::{AllocError, Global};

@@ -10,8 +10,5 @@ pub mod Grids
 pub mod Style
 pub mod Legend
 pub mod SvgText
-pub mod Computed
 pub mod LaneLaws
-pub mod WorkedShapes
-pub mod WorkedPictures
-pub mod WorkedBudgets
+pub mod worked

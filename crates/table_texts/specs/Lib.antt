@@ -1,4 +1,4 @@
 pub mod Fields
 pub mod JobText
 pub mod TaskText
-pub mod Worked
+pub mod worked

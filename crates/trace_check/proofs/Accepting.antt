@@ -27,8 +27,8 @@ use Rattle.trace_course.specs.declared.course.Course.{Course}
 use Rattle.trace_check.specs.declared.follow.Follow.{Follow}
 use Rattle.trace_check.specs.declared.links.GroupLinks.{GroupLinks}
 use Rattle.trace_course.specs.Courses.{CanTake, IsCourse, IsOnCourse}
-use Rattle.trace_check.specs.GroupLinks.{AreLinks, CanRead}
-use Rattle.trace_check.specs.Following.{CanStep, IsFollowing, IsFollowingWith}
+use Rattle.trace_check.specs.inside.GroupLinks.{AreLinks, CanRead}
+use Rattle.trace_check.specs.inside.Following.{CanStep, IsFollowing, IsFollowingWith}
 use Rattle.trace_course.specs.Places.{IsNextStep, Place, entry_by, longer}
 
 -- what is read of a line says the same as what drives a group

@@ -11,14 +11,14 @@ use Rattle.rt_model.specs.Past.{Past}
 use Rattle.rt_model.specs.Reachable.{clocked}
 use Rattle.rt_model.specs.Runs.{runs}
 use Rattle.rt_model.proofs.Steps.{reply_to-lem}
-use Rattle.count_laws.specs.CountLaws.{act_of}
-use Rattle.count_laws.specs.Tallies.{AreWaiters, Waiter, act_by}
+use Rattle.rt_changes.specs.CountLaws.{act_of}
+use Rattle.rt_changes.specs.Tallies.{AreWaiters, Waiter, act_by}
 use Rattle.block_counts.specs.GroupRequests.{IsBetween, NamesKnown}
-use Rattle.group_core.specs.Listing.{AreListed, AreWaitersAt, Moment}
+use Rattle.group_core.specs.Listing.{AreListed, AreWaitersAt, GroupAt}
 use Rattle.rank_afresh.specs.Standing.{IsOfSame, Standing, group_of}
 use Rattle.trace_text.proofs.BlockLines.{names-known, reachable-past_of}
 use Rattle.trace_check.specs.declared.follow.Follow.{Follow}
-use Rattle.trace_check.specs.Following.{CanStep}
+use Rattle.trace_check.specs.inside.Following.{CanStep}
 use Rattle.trace_course.specs.Places.{Place}
 
 pub group-same : (v w : Standing) → IsOfSame v w → group_of w ≡ group_of v
@@ -32,7 +32,7 @@ module _ (at : Place) (f : Follow) (step : Step) (can : CanStep at f step) where
   past = past_of g at.entries
 
   -- between the two moves of the step
-  abbrev pub between_moves : Moment
+  abbrev pub between_moves : GroupAt
   between_moves = record { group = g; past = clock_moved step past }
 
   -- who asks for a semaphore, and which, are the set's

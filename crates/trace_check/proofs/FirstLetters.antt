@@ -8,7 +8,7 @@ use Rattle.trace_lines.specs.Known.{Known, IsLine}
 use Rattle.trace_lines.specs.Lines.{Line, Link, group_line, entry_line, block_line, end_line, count_line}
 use Rattle.trace_read.specs.Reading.{begins_with_digit}
 use Rattle.trace_read.proofs.LineLaws.{fits_64}
-use Rattle.trace_check.specs.GroupLines.{IsOtherLine, NoEntryBegins}
+use Rattle.trace_check.specs.inside.GroupLines.{IsOtherLine, NoEntryBegins}
 
 -- a number begins with a digit, whatever stands behind it
 number-digit : (n : ℕ) → n < 2 ^ 64 → (xs : List ℕ) → begins_with_digit (decimal n ++ xs) ≡ true

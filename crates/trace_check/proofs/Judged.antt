@@ -28,7 +28,7 @@ use Rattle.trace_laws.proofs.OneLine.{canonical-one_line}
 use Rattle.trace_laws.proofs.ReadBack.{begin-same, first-read, text-begins, texts-apart}
 use Rattle.trace_check.specs.LinesAlike.{lines_alike}
 use Rattle.trace_check.specs.Verdicts.{IsInvalid}
-use Rattle.trace_check.specs.GroupLines.{lines_of_groups}
+use Rattle.trace_check.specs.inside.GroupLines.{lines_of_groups}
 use Rattle.trace_check.proofs.GroupLines.{IsNoEnd}
 use Rattle.trace_check.proofs.LinesAlike.{alike-most, alike-past, alike-there, texts-alike}
 use Rattle.trace_check.proofs.SetLines.{completed-between, whole-lines}

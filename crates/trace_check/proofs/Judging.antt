@@ -12,8 +12,8 @@ use Rattle.rt_task.specs.Validity.{IsValid}
 use Rattle.rt_rules.specs.declared.history.Entry.{Entry}
 use Rattle.rt_model.specs.Group.{Group, group_processors}
 use Rattle.rt_model.specs.Histories.{past_of}
-use Rattle.rt_groups.specs.Groups.{IsGroupOf}
-use Rattle.rt_groups.proofs.GroupCount.{groups_are_counted}
+use Rattle.rt_plays.specs.Groups.{IsGroupOf}
+use Rattle.rt_plays.proofs.GroupCount.{groups_are_counted}
 use Rattle.rt_plays.specs.Plays.{ArePlays, IsPlay, group_count, group_with}
 use Rattle.set_canonical.specs.Canonical.{canonical}
 use Rattle.set_laws.proofs.CanonicalLaws.{set-of-canonical}
@@ -42,14 +42,14 @@ use Rattle.trace_check.specs.declared.requests.Stood.{Stood}
 use Rattle.trace_check.specs.declared.verdict.Verdict.{Verdict}
 use Rattle.trace_check.specs.declared.verdict.Verdict.TheVariants.{Invalid, Valid}
 use Rattle.trace_check.specs.Verdicts.{IsInvalid, IsVerdict}
-use Rattle.trace_check.specs.Following.{HasTaken, IsFollowing, IsFollowingWith, IsNextEntry, IsTaken, NoneIsNext}
+use Rattle.trace_check.specs.inside.Following.{HasTaken, IsFollowing, IsFollowingWith, IsNextEntry, IsTaken, NoneIsNext}
 use Rattle.trace_course.specs.Places.{Place}
-use Rattle.trace_check.specs.GroupLines.{ArePlaysFrom, IsOtherLine, NoEntryBegins, NoEntryBehind, NoEntryFirst, lines_of_groups, lines_so_far, next_line, opening_line}
+use Rattle.trace_check.specs.inside.GroupLines.{ArePlaysFrom, IsOtherLine, NoEntryBegins, NoEntryBehind, NoEntryFirst, lines_of_groups, lines_so_far, next_line, opening_line}
 use Rattle.trace_check.specs.Counts.{IsCountedText}
-use Rattle.trace_check.specs.Judging.{IsJudged, IsJudgedText, IsShownText, verdict_behind}
-use Rattle.trace_check.specs.Progress.{AreAllRight, AreRight, IsEndedAt, IsFollowedTo, IsRight, finished, missing, unfinished}
+use Rattle.trace_check.specs.inside.Judging.{IsJudged, IsJudgedText, IsShownText, verdict_behind}
+use Rattle.trace_check.specs.inside.Progress.{AreAllRight, AreRight, IsEndedAt, IsFollowedTo, IsRight, finished, missing, unfinished}
 use Rattle.trace_check.specs.LinesAlike.{lines_alike}
-use Rattle.trace_check.specs.RequestLines.{HaveStood}
+use Rattle.trace_check.specs.inside.RequestLines.{HaveStood}
 use Rattle.trace_check.proofs.FirstLetters.{other-letter}
 use Rattle.trace_check.proofs.GroupLines.{IsNoEnd, blocks-no_end, blocks-other, lines_so_far-last, lines_so_far-none, next-step, next-told, so_far-no_end}
 use Rattle.trace_check.proofs.SetLines.{AreClosed, GoesOn, IsEntryNext, IsNextAfter, completed-between, completed-whole, completed-within, from-all, goes-on, groups-no_end, lines-last, lines_behind, lines_through, next-between, next-within, plays-append, whole-lines}

@@ -9,7 +9,7 @@ use Rattle.trace_text.specs.Groups.{changed_links, cpu_numbers, cpus_in}
 use Rattle.trace_text.specs.TraceText.{links_at}
 use Rattle.trace_text.proofs.StillLinks.{told-changed}
 use Rattle.trace_check.specs.declared.links.GroupLinks.{GroupLinks}
-use Rattle.trace_check.specs.GroupLinks.{AreLinks, HaveChanged}
+use Rattle.trace_check.specs.inside.GroupLinks.{AreLinks, HaveChanged}
 
 -- what was read after a step, of the links before it
 pub have-changed : (g : Group) (past : Past) (step : Step) (l l' : GroupLinks) → AreLinks g past l → l'.cpus.items ≡ l.cpus.items

@@ -6,7 +6,7 @@ use Rattle.rt_task.specs.declared.Parts.{Parts}
 use Rattle.rt_task.specs.Validity.{IsValid}
 use Rattle.rt_model.specs.Group.{Group, group_processors}
 use Rattle.rt_model.specs.Past.{Past}
-use Rattle.rt_groups.specs.Groups.{IsGroupOf}
+use Rattle.rt_plays.specs.Groups.{IsGroupOf}
 use Rattle.rt_plays.specs.Plays.{group_with}
 use Rattle.block_counts.specs.GroupRequests as counts
 use Rattle.rank_afresh.specs.Standing.{Standing, IsAt, group_of}
@@ -16,10 +16,10 @@ use Rattle.trace_text.specs.TraceText.{links_at}
 use Rattle.trace_text.proofs.LineLaws.{past_none}
 use Rattle.trace_text.proofs.ReplayLaws.{cpus_there}
 use Rattle.trace_laws.proofs.Plays.{begun-none}
-use Rattle.rt_groups.proofs.GroupLimits.{processor-low}
+use Rattle.rt_plays.proofs.GroupLimits.{processor-low}
 use Rattle.trace_check.specs.declared.follow.Follow.{Follow}
 use Rattle.trace_course.specs.Courses.{IsOpened, room_in}
-use Rattle.trace_check.specs.Following.{IsFollowing}
+use Rattle.trace_check.specs.inside.Following.{IsFollowing}
 use Rattle.trace_course.proofs.Courses.{course-first, room-first}
 
 -- the processors of a group have low numbers

@@ -3,7 +3,7 @@ use Rattle.std.proofs.Common.{◌≡◌, ℕ, ◌+◌, ◌-◌, ◌<◌, ◌≤�
 use Rattle.std.proofs.lemmas.List.{get_or-map, length-drop, length-map, length-take-le, take_more}
 use Rattle.rt_model.specs.Group.{Group}
 use Rattle.rt_model.specs.Past.{Past}
-use Rattle.count_laws.specs.Tallies.{tallies}
+use Rattle.rt_changes.specs.Tallies.{tallies}
 use Rattle.block_counts.specs.declared.seen.Seen.{Seen}
 use Rattle.block_counts.specs.SeenWords.{tallies_of, tally_of}
 use Rattle.trace_lines.specs.Grammar.{line_text}
@@ -12,7 +12,7 @@ use Rattle.trace_lines.specs.Lines.{Line}
 use Rattle.trace_text.specs.TraceText.{block_lines}
 use Rattle.trace_text.specs.Groups.{request_line}
 use Rattle.trace_text.proofs.LineLaws as writer
-use Rattle.trace_check.specs.RequestLines.{HaveStood, request_lines}
+use Rattle.trace_check.specs.inside.RequestLines.{HaveStood, request_lines}
 use Rattle.trace_check.specs.declared.requests.Stood.{Stood}
 use Rattle.trace_check.proofs.TextPlaces.{StandFirst, lines-short, rest-of, size-is, stand-further, stand-line}
 

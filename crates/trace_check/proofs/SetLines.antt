@@ -12,7 +12,7 @@ use Rattle.trace_lines.specs.Lines.{Line, end_line}
 use Rattle.trace_text.specs.TraceText.{block_lines, entry_lines, group_lines, lines_from}
 use Rattle.trace_laws.proofs.Plays.{begun-none}
 use Rattle.trace_laws.proofs.ReadBack.{entries_first, histories_said, said-group, said-lines}
-use Rattle.trace_check.specs.GroupLines.{ArePlaysFrom, IsOtherLine, NoEntryFirst, lines_of_groups, lines_so_far, next_line, opening_line}
+use Rattle.trace_check.specs.inside.GroupLines.{ArePlaysFrom, IsOtherLine, NoEntryFirst, lines_of_groups, lines_so_far, next_line, opening_line}
 use Rattle.trace_check.proofs.GroupLines.{IsNoEnd, blocks-other, group-no_end, group_lines-parts, lines_so_far-more, lines_so_far-next, said-so_far}
 
 -- ---- plays of the groups from a number on

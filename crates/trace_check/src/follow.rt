@@ -3,7 +3,7 @@ ghost use Rattle.std.specs.Prelude.{◌≡◌, ◌+◌, ◌<◌, ◌≤◌, ◌�
 ghost use Rattle.std.specs.Prelude.{IfOk, List, Some, length};
 ghost use Rattle.rt_rules.specs.declared.history.Entry as entries;
 ghost use Rattle.rt_model.specs.Histories.{after, past_of, reply_to};
-ghost use Rattle.rt_groups.specs.Groups.{IsGroupOf};
+ghost use Rattle.rt_plays.specs.Groups.{IsGroupOf};
 ghost use Rattle.block_counts.specs.GroupRequests as counts;
 ghost use Rattle.block_counts.specs.SeenWords.{tallies_of};
 ghost use Rattle.rt_plays.specs.Plays.{IsPlay, group_with};
@@ -15,8 +15,8 @@ ghost use Rattle.trace_lines.specs.Lines.{Link, entry_line};
 ghost use Rattle.trace_text.specs.CountLines.{shown_as};
 ghost use Rattle.trace_text.specs.TraceText.{block_lines};
 ghost use Rattle.trace_course.specs.Places.{IsNextStep, Place};
-ghost use Rattle.trace_check.specs.Following.{CanStep, HasTaken, IsFollowing, IsFollowingWith};
-ghost use Rattle.trace_check.specs.RequestLines.{request_lines};
+ghost use Rattle.trace_check.specs.inside.Following.{CanStep, HasTaken, IsFollowing, IsFollowingWith};
+ghost use Rattle.trace_check.specs.inside.RequestLines.{request_lines};
 
 use crate::lines::{begins_with, make_entry_line};
 use crate::links::GroupLinks;

@@ -1,6 +1,6 @@
 //! The lines of a group.
 ghost use Rattle.std.specs.Prelude.{◌≡◌, ◌+◌, ◌^◌, ◌<◌, ◌≤◌, List, [], IfOk, drop, length, true};
-ghost use Rattle.rt_groups.specs.Groups.{IsGroupOf};
+ghost use Rattle.rt_plays.specs.Groups.{IsGroupOf};
 ghost use Rattle.rt_plays.specs.Plays.{group_with};
 ghost use Rattle.trace_lines.specs.Known.{known_of};
 ghost use Rattle.trace_lines.specs.Lines.{group_line, links_of};
@@ -9,9 +9,9 @@ ghost use Rattle.trace_tools.specs.Seats.{Seat};
 ghost use Rattle.trace_read.specs.Reading.{begins_with_digit};
 ghost use Rattle.trace_course.specs.Places.{Place};
 ghost use Rattle.trace_check.specs.declared.progress.Progress as progress;
-ghost use Rattle.trace_check.specs.Following.{IsFollowing, IsFollowingWith};
-ghost use Rattle.trace_check.specs.Progress.{AreFollowed, AreRight, HasStood, IsEndedAt};
-ghost use Rattle.trace_check.specs.Progress.{IsFollowedTo, IsRight};
+ghost use Rattle.trace_check.specs.inside.Following.{IsFollowing, IsFollowingWith};
+ghost use Rattle.trace_check.specs.inside.Progress.{AreFollowed, AreRight, HasStood, IsEndedAt};
+ghost use Rattle.trace_check.specs.inside.Progress.{IsFollowedTo, IsRight};
 
 use crate::follow::Follow;
 use crate::lines::{begins_with, make_group_line};

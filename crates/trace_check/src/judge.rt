@@ -6,8 +6,8 @@ ghost use Rattle.trace_tools.specs.Places.{seats};
 ghost use Rattle.trace_tools.specs.Seats.{seat_of};
 ghost use Rattle.trace_tools.specs.Tools.{Tool};
 ghost use Rattle.trace_check.specs.Counts.{IsCountedText};
-ghost use Rattle.trace_check.specs.Judging.{IsJudgedText, IsShownText, verdict_behind};
-ghost use Rattle.trace_check.specs.Progress.{AreAllRight};
+ghost use Rattle.trace_check.specs.inside.Judging.{IsJudgedText, IsShownText, verdict_behind};
+ghost use Rattle.trace_check.specs.inside.Progress.{AreAllRight};
 
 use crate::behind::lines_alike;
 use crate::counts::count_text;

@@ -7,7 +7,7 @@ ghost use Rattle.rank_afresh.specs.Standing.{IsAt, group_of};
 ghost use Rattle.trace_lines.specs.Lines.{links_of};
 ghost use Rattle.trace_text.specs.Groups.{changed_links, cpu_numbers, cpus_in};
 ghost use Rattle.trace_text.specs.TraceText.{links_at};
-ghost use Rattle.trace_check.specs.GroupLinks.{CanRead, HaveChanged};
+ghost use Rattle.trace_check.specs.inside.GroupLinks.{CanRead, HaveChanged};
 
 use rank_afresh::Afresh;
 use rt_base::{CpuNo, NoMemory};

@@ -2,7 +2,7 @@
 ghost use Rattle.std.specs.Prelude.{◌≡◌, IfOk};
 ghost use Rattle.block_counts.specs.SeenWords.{tallies_of};
 ghost use Rattle.trace_lines.specs.Known.{known_of};
-ghost use Rattle.trace_check.specs.RequestLines.{HaveStood, request_lines};
+ghost use Rattle.trace_check.specs.inside.RequestLines.{HaveStood, request_lines};
 
 use crate::lines::{begins_with, make_block_line};
 use block_counts::Seen;

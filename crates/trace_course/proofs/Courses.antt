@@ -27,11 +27,11 @@ use Rattle.rt_plays.specs.Scripts.{script, steps_of}
 use Rattle.rt_plays.proofs.PlayLaws.{begun-grows}
 use Rattle.rt_plays.proofs.ScriptParts.{part-next, play-of-part, script-steps_of-next}
 use Rattle.rt_plays.proofs.Sentence.{opening-past}
-use Rattle.rt_groups.specs.Drives.{gives_steps}
+use Rattle.rt_plays.specs.Drives.{gives_steps}
 use Rattle.rank_afresh.specs.Standing.{Standing, group_of}
-use Rattle.turn_follow.specs.Turns as turns
-use Rattle.turn_follow.specs.Turns.{AreAt, AreLooked, HasTaken, numbers_of}
-use Rattle.turn_follow.proofs.Rows.{all-looked}
+use Rattle.body_play.specs.Turns as turns
+use Rattle.body_play.specs.Turns.{AreAt, AreLooked, HasTaken, numbers_of}
+use Rattle.body_play.proofs.Rows.{all-looked}
 use Rattle.trace_course.specs.declared.course.Course.{Course}
 use Rattle.trace_course.specs.declared.course.Course.TheVariants.{Scripts, Turns}
 use Rattle.trace_course.specs.declared.scripts.Scripts as scripts

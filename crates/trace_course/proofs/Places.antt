@@ -18,7 +18,7 @@ use Rattle.rt_plays.specs.Drives.{steps_given}
 use Rattle.rt_plays.specs.Homes.{IsProcessorOf}
 use Rattle.rt_plays.specs.Order.{steps_in_group}
 use Rattle.rt_plays.specs.Scripts.{script, steps_of}
-use Rattle.turn_follow.specs.Turns.{numbers_of}
+use Rattle.body_play.specs.Turns.{numbers_of}
 use Rattle.trace_course.specs.declared.scripts.Scripts.{Scripts}
 use Rattle.trace_course.specs.Next.{IsFollowing, IsNextAt}
 use Rattle.trace_course.specs.Places.{ArePassed, ArePlaces, IsNextOfScript, IsNextPlace, IsPassed, IsPlaceOf, Place, has_place, place_in}

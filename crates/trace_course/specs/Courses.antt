@@ -13,9 +13,9 @@ use Rattle.rt_model.specs.Group.{Group, group_processors}
 use Rattle.rt_model.specs.Histories.{after, past_of}
 use Rattle.rt_plays.specs.Drives.{horizon, steps_given}
 use Rattle.rt_plays.specs.Plays.{IsBegunPlay}
-use Rattle.rt_groups.specs.Drives.{gives_steps}
+use Rattle.rt_plays.specs.Drives.{gives_steps}
 use Rattle.rank_afresh.specs.Standing.{IsAt, Standing, group_of}
-use Rattle.turn_follow.specs.Turns.{AreAt, AreLooked, numbers_of}
+use Rattle.body_play.specs.Turns.{AreAt, AreLooked, numbers_of}
 use Rattle.trace_course.specs.declared.course.Course.{Course}
 use Rattle.trace_course.specs.declared.course.Course.TheVariants.{Scripts, Turns}
 use Rattle.trace_course.specs.Next.{AreFollowing}

@@ -13,12 +13,12 @@ ghost use Rattle.trace_course.specs.Places.{IsNextStep, Place, longer};
 
 use crate::scripts::Scripts;
 use crate::turns::{look_at, next_step, take_turn};
+use body_play::Turns;
 use rank_afresh::Afresh;
 use rt_base::{CpuNo, MOST_TURN_STEPS, NoMemory};
 use rt_plays::steps_given;
 use rt_task::{Drive, Setup, Step};
 use std::alloc::Global;
-use turn_follow::Turns;
 
 /// How far the processors of a group are, in the scripts of a set that gives steps, or in the turns
 /// of one with a horizon.

@@ -7,7 +7,7 @@ ghost use Rattle.rt_task.specs.declared.Step as given;
 ghost use Rattle.rt_rules.specs.Numbers.{has};
 ghost use Rattle.rt_plays.specs.Homes.{IsProcessorOf};
 ghost use Rattle.rt_plays.specs.Scripts.{script};
-ghost use Rattle.turn_follow.specs.Turns.{numbers_of};
+ghost use Rattle.body_play.specs.Turns.{numbers_of};
 ghost use Rattle.trace_course.specs.Places.{AreDone, ArePassed, HasPassed, IsDone, IsNextOfScript};
 ghost use Rattle.trace_course.specs.Places.{IsNextPlace, Place, has_place, place_in};
 ghost use Rattle.trace_course.specs.Next.{AreFollowing, IsNextAt};

@@ -2,7 +2,7 @@
 ghost use Rattle.std.specs.Prelude.{◌≡◌, ◌<◌, ℕ, All, IfOk, None, Some, replicate, if◌then◌else◌};
 ghost use Rattle.rt_base.specs.declared.TheConstants.{MOST_CPUS};
 ghost use Rattle.rt_rules.specs.Numbers.{has};
-ghost use Rattle.turn_follow.specs.Turns.{numbers_of};
+ghost use Rattle.body_play.specs.Turns.{numbers_of};
 ghost use Rattle.trace_course.specs.Places.{place_in};
 
 use rt_base::{CpuNo, MOST_CPUS, NoMemory};

@@ -8,13 +8,12 @@ ghost use Rattle.rt_plays.specs.Homes.{IsProcessorOf};
 ghost use Rattle.rt_plays.specs.NextSteps.{MayComeNext};
 ghost use Rattle.rt_plays.specs.Turns as turn_words;
 ghost use Rattle.rank_afresh.specs.Standing.{IsAt, group_of};
-ghost use Rattle.turn_follow.specs.Turns.{AreAt, AreLooked, HasTaken, numbers_of};
+ghost use Rattle.body_play.specs.Turns.{AreAt, AreLooked, HasTaken, numbers_of};
 
-use body_play::next_act;
+use body_play::{Turns, next_act};
 use rank_afresh::Afresh;
 use rt_base::CpuNo;
 use rt_task::{Act, Setup, Step};
-use turn_follow::Turns;
 
 /// The next act of a processor of the group.
 fn next_of(setup: &Setup, afresh: &Afresh, cpu: CpuNo) -> Option<Act>

@@ -25,12 +25,12 @@ use Rattle.rt_model.specs.Past.{Past, Clock}
 use Rattle.rt_model.specs.Steps.{IsActOf, IsOpOf, IsStepOf}
 use Rattle.rt_model.proofs.AnswerLaws.{answer-runs_link, to_run}
 use Rattle.rt_model.proofs.Steps.{reply_to-lem}
-use Rattle.rt_laws.proofs.LinkedTasks.{linked-eligible}
+use Rattle.rt_laws.proofs.links.LinkedTasks.{linked-eligible}
 use Rattle.rt_plays.specs.Homes.{IsProcessorOf}
 use Rattle.rt_plays.specs.Plays.{ArePlays, IsBegunPlay, IsPlay, group_count, group_with}
-use Rattle.rt_groups.specs.Groups.{AreStepsOf, IsGroupOf}
-use Rattle.rt_groups.proofs.GroupCount.{groups_are_counted}
-use Rattle.rt_groups.proofs.GroupLimits.{processor-low, processor-some}
+use Rattle.rt_plays.specs.Groups.{AreStepsOf, IsGroupOf}
+use Rattle.rt_plays.proofs.GroupCount.{groups_are_counted}
+use Rattle.rt_plays.proofs.GroupLimits.{processor-low, processor-some}
 use Rattle.trace_lines.specs.Known.{ActIsKnown, IsLine, IsNumberOf, Known, LinkIsKnown, OpIsKnown, ReplyIsKnown, TargetIsKnown, known_of}
 use Rattle.trace_lines.specs.declared.format.Version.{Version}
 use Rattle.trace_lines.specs.Lines.{Link, end_line, entry_line, group_line}

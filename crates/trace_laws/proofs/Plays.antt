@@ -30,8 +30,8 @@ use Rattle.rt_plays.specs.ScriptPlays.{IsScriptPlay}
 use Rattle.rt_plays.specs.Scripts.{script, steps_of}
 use Rattle.rt_plays.proofs.PlayLaws.{begun-is_completed, part-is_begun, play-fits}
 use Rattle.rt_plays.proofs.Sentence.{history-of_play}
-use Rattle.rt_groups.specs.Groups.{AreStepsOf}
-use Rattle.rt_groups.proofs.GroupLimits.{steps-few, steps-of_groups, turns-few}
+use Rattle.rt_plays.specs.Groups.{AreStepsOf}
+use Rattle.rt_plays.proofs.GroupLimits.{steps-few, steps-of_groups, turns-few}
 use Rattle.trace_laws.proofs.NextActs.{act-fits}
 use Rattle.trace_laws.proofs.ScriptLaws.{all-by_script}
 

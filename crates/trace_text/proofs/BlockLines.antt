@@ -32,13 +32,13 @@ use Rattle.rt_model.specs.Runs.{runs}
 use Rattle.rt_model.specs.Steps.{IsActOf}
 use Rattle.rt_model.proofs.PastLaws.{made-from}
 use Rattle.rt_model.proofs.Steps.{length-past_from, number_of-le}
-use Rattle.rt_laws.proofs.Asked.{IsAsked, asked}
+use Rattle.rt_laws.proofs.semaphores.Asked.{IsAsked, asked}
 use Rattle.rt_laws.proofs.Moves.{IsMove, by_moves, clock_moves, cpu_acts}
-use Rattle.rt_laws.proofs.Running.{IsRunning, running}
+use Rattle.rt_laws.proofs.jobs.Running.{IsRunning, running}
 use Rattle.rt_laws.proofs.ValidSets.{rules_of}
-use Rattle.rt_groups.proofs.GroupPlaces.{tasks_are_at_home}
-use Rattle.rt_groups.proofs.SetLimits.{sets_are_in_limits}
-use Rattle.rt_groups.proofs.ValidRows.{passes_rows}
+use Rattle.rt_plays.proofs.GroupPlaces.{tasks_are_at_home}
+use Rattle.rt_plays.proofs.SetLimits.{sets_are_in_limits}
+use Rattle.rt_plays.proofs.ValidRows.{passes_rows}
 use Rattle.block_counts.specs.GroupRequests.{NamesKnown}
 use Rattle.block_counts.proofs.Limits.{can_bound}
 use Rattle.block_counts.proofs.UserLaws.{users-all, users-few}

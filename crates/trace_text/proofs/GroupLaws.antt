@@ -13,9 +13,9 @@ use Rattle.rt_rules.proofs.BoolLaws.{or_true}
 use Rattle.rt_rules.proofs.MemberLaws.{equal_self, has-left, length-without, turned}
 use Rattle.rt_rules.proofs.NumberLaws.{distinct-numbers_from, length-numbers_from, numbers_from-below}
 use Rattle.rt_plays.specs.Plays.{group_count}
-use Rattle.rt_groups.specs.Groups.{GroupHistory}
-use Rattle.rt_groups.proofs.GroupCount.{groups_are_counted}
-use Rattle.rt_groups.proofs.SetLimits.{sets_are_in_limits}
+use Rattle.rt_plays.specs.Groups.{GroupHistory}
+use Rattle.rt_plays.proofs.GroupCount.{groups_are_counted}
+use Rattle.rt_plays.proofs.SetLimits.{sets_are_in_limits}
 use Rattle.trace_text.specs.Groups.{AreGroupsOf}
 
 -- different numbers of a list are no more than the list has

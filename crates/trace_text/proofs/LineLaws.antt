@@ -10,8 +10,8 @@ use Rattle.rt_model.specs.Blocking.{requests}
 use Rattle.rt_model.specs.Group.{Group}
 use Rattle.rt_model.specs.Histories.{past_from, past_of}
 use Rattle.rt_model.specs.Past.{Past}
-use Rattle.rt_groups.specs.Groups.{GroupHistory, group_of, past}
-use Rattle.count_laws.specs.Tallies.{tallies, tally}
+use Rattle.rt_plays.specs.Groups.{GroupHistory, group_of, past}
+use Rattle.rt_changes.specs.Tallies.{tallies, tally}
 use Rattle.block_counts.specs.declared.seen.Seen.{Seen}
 use Rattle.block_counts.specs.SeenWords.{tallies_of, tally_of}
 use Rattle.trace_lines.specs.Lines.{Line}

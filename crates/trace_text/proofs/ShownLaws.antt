@@ -4,8 +4,8 @@ use Rattle.std.specs.Prelude.{Bool, IfSome, Option, slice_get}
 use Rattle.rt_base.specs.declared.GroupNo.{GroupNo}
 use Rattle.rt_base.specs.declared.TaskNo.{TaskNo}
 use Rattle.rt_rules.specs.declared.history.Entry.{Entry}
-use Rattle.rt_groups.specs.Endings.{ended_last}
-use Rattle.rt_groups.specs.Groups.{GroupHistory, group_of, past}
+use Rattle.rt_plays.specs.Endings.{ended_last}
+use Rattle.rt_plays.specs.Groups.{GroupHistory, group_of, past}
 use Rattle.trace_lines.specs.Grammar.{line_text}
 use Rattle.trace_lines.specs.Known.{Known}
 use Rattle.trace_tools.specs.declared.shown.Shown.{Shown}

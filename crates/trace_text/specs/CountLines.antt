@@ -6,7 +6,7 @@ use Rattle.rt_rules.specs.declared.history.Entry.{Entry}
 use Rattle.rt_model.specs.Group.{Group}
 use Rattle.rt_model.specs.Past.{Past}
 use Rattle.rt_model.specs.Histories.{after}
-use Rattle.rt_groups.specs.Endings.{ended_last}
+use Rattle.rt_plays.specs.Endings.{ended_last}
 use Rattle.trace_lines.specs.Lines.{Line}
 use Rattle.trace_lines.specs.declared.format.Version.{Version}
 use Rattle.trace_lines.specs.Grammar.{line_text}

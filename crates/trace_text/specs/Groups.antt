@@ -1,11 +1,12 @@
 -- The groups of a setup, each with its history.
-use Rattle.std.specs.Prelude.{◌≡◌, ℕ, ◌<◌, List, [], ◌∷◌, length, map, All, if◌then◌else◌}
+use Rattle.std.specs.Prelude.{◌≡◌, ℕ, ◌<◌, ◌≤◌, List, [], ◌∷◌, length, map, All, if◌then◌else◌}
 use Rattle.rt_base.specs.declared.CpuNo.{CpuNo}
+use Rattle.rt_base.specs.declared.TheConstants.{MOST_STEPS}
 use Rattle.rt_task.specs.declared.Parts.{Parts}
 use Rattle.rt_rules.specs.declared.history.Entry.{Entry}
 use Rattle.rt_rules.specs.Numbers.{numbers_from, same}
-use Rattle.rt_groups.specs.Groups.{GroupHistory, IsGroupOf}
-use Rattle.count_laws.specs.Tallies.{Tally}
+use Rattle.rt_plays.specs.Groups.{AreStepsOf, GroupHistory, IsGroupOf, IsLegalNow, group_of}
+use Rattle.rt_changes.specs.Tallies.{Tally}
 use Rattle.trace_lines.specs.declared.links.CpuLink.{CpuLink}
 use Rattle.trace_lines.specs.Lines.{Line, Link, block_line}
 
@@ -18,6 +19,13 @@ pub record AreGroupsOf (p : Parts) (hs : List GroupHistory) : Type 0 where
   pub in_order : map (λ (h : GroupHistory). h.group) hs ≡ numbers_from 0 (length hs)
   pub are_groups : (n : ℕ) → n < length hs → IsGroupOf p n
   pub are_all : (n : ℕ) → IsGroupOf p n → n < length hs
+
+-- a group of its setup, whose entries are a legal history that can be taken from opening on
+pub record CanReplay (h : GroupHistory) : Type 0 where
+  pub there : IsGroupOf h.setup h.group
+  pub few : length h.entries ≤ MOST_STEPS
+  pub steps : AreStepsOf (group_of h) h.entries
+  pub legal : IsLegalNow h
 
 abbrev pub cpu_numbers : List CpuNo → List ℕ
 cpu_numbers qs = map (λ (q : CpuNo). q.0) qs

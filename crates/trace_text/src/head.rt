@@ -21,7 +21,7 @@ fn line_with(alloc: Global, set: &[u8]) -> Result<Vec<u8>, NoMemory>
 }
 
 /// The line of the canonical set.
-pub fn set_line_of(alloc: Global, parts: &Parts) -> Result<Vec<u8>, NoMemory>
+fn set_line_of(alloc: Global, parts: &Parts) -> Result<Vec<u8>, NoMemory>
     ensures { IfOk result (λ v. v.items ≡ codes "set " ++ (canonical parts.now ++ 10 ∷ [])) }
 {
     let set = canonical_of_parts(alloc, parts)?;

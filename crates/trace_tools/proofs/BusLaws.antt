@@ -3,7 +3,7 @@ use Rattle.std.proofs.Common.{◌≡◌, ◌∙◌, Bool, true, false, List, [],
 use Rattle.trace_lines.specs.Lines.{Line}
 use Rattle.trace_tools.specs.declared.shown.Shown.{Shown}
 use Rattle.trace_tools.specs.Tools.{Tool, after, fed, has_ended, line_of, totals, when_shown}
-use Rattle.trace_tools.specs.Seats.{Seat, counting, counted, fed_seat, seat_after, seat_line, seat_of, seats_after, settled}
+use Rattle.trace_tools.specs.Seats.{Seat, counting, counted, fed_seat, seat_after, seat_line, seat_of, seats_after, closed}
 
 seat_line-of : (t : Tool) → seat_line (seat_of t) ≡ line_of t
 seat_line-of t = by_case (has_ended t)
@@ -15,7 +15,7 @@ seat_line-of t = by_case (has_ended t)
 seat_after-of : (e : Shown) (t : Tool) → seat_after e (seat_of t) ≡ seat_of (when_shown e t)
 seat_after-of e t = by_case (has_ended t) refl
   where
-    by_case : (b : Bool) → has_ended t ≡ b → settled (fed_seat e (cond b (counted t.rules.name (totals t)) (counting t))) ≡ seat_of (cond b t (fed e t))
+    by_case : (b : Bool) → has_ended t ≡ b → closed (fed_seat e (cond b (counted t.rules.name (totals t)) (counting t))) ≡ seat_of (cond b t (fed e t))
     by_case true ended = sym (ap (λ (v : Bool). cond v (counted t.rules.name (totals t)) (counting t)) ended)
     by_case false goes_on = refl
 

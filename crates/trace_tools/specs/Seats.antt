@@ -13,9 +13,9 @@ abbrev pub seat_of : Tool → Seat
 seat_of t = if has_ended t then counted t.rules.name (totals t) else counting t
 
 -- where its tool has ended it leaves
-abbrev pub settled : Seat → Seat
-settled (counting t) = seat_of t
-settled (counted name numbers) = counted name numbers
+abbrev pub closed : Seat → Seat
+closed (counting t) = seat_of t
+closed (counted name numbers) = counted name numbers
 
 -- a tool that counts is fed
 abbrev pub fed_seat : Shown → Seat → Seat
@@ -24,7 +24,7 @@ fed_seat e (counted name numbers) = counted name numbers
 
 -- a place after an entry that is shown
 abbrev pub seat_after : Shown → Seat → Seat
-seat_after e seat = settled (fed_seat e seat)
+seat_after e seat = closed (fed_seat e seat)
 
 -- the places after all these entries, in order
 abbrev pub seats_after : List Shown → List Seat → List Seat

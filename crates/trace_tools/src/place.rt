@@ -24,7 +24,7 @@ pub struct Place<T> {
 impl<T: TraceTool> Place<T> {
     ghost use Rattle.trace_lines.specs.Grammar.{line_text};
     ghost use Rattle.trace_lines.specs.Known.{Known};
-    ghost use Rattle.trace_tools.specs.Seats.{seat_of, seat_after, seat_line, settled, fed_seat};
+    ghost use Rattle.trace_tools.specs.Seats.{seat_of, seat_after, seat_line, closed, fed_seat};
     ghost use Rattle.trace_tools.specs.Places.{seat};
 
     pub fn of(tool: T) -> Place<T>
@@ -36,12 +36,12 @@ impl<T: TraceTool> Place<T> {
             totals: [0; TOTALS],
             count: 0,
         };
-        place.settle();
+        place.close_ended();
         place
     }
 
-    fn settle(&mut self)
-        ensures { seat T.tool self.new ≡ settled (seat T.tool self.old) }
+    fn close_ended(&mut self)
+        ensures { seat T.tool self.new ≡ closed (seat T.tool self.old) }
     {
         let Some(tool) = &self.tool else {
             return;
@@ -66,7 +66,7 @@ impl<T: TraceTool> Place<T> {
         ensures { seat T.tool self.new ≡ seat_after e.now (seat T.tool self.old) }
     {
         self.pass_on(e);
-        self.settle();
+        self.close_ended();
     }
 
     pub fn line(&self, alloc: Global) -> Result<Vec<u8>, NoMemory>

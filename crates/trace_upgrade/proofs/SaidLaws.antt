@@ -11,17 +11,17 @@ use Rattle.rt_model.specs.Group.{Group}
 use Rattle.rt_model.specs.Histories.{after, past_of}
 use Rattle.rt_model.specs.Past.{Past}
 use Rattle.rt_plays.specs.Plays.{IsPlay, group_count, group_with}
-use Rattle.rt_groups.specs.Groups.{GroupHistory}
-use Rattle.rt_groups.proofs.GroupCount.{groups_are_counted}
+use Rattle.rt_plays.specs.Groups.{GroupHistory}
+use Rattle.rt_plays.proofs.GroupCount.{groups_are_counted}
 use Rattle.trace_lines.specs.Lines.{Line}
-use Rattle.trace_text.specs.Groups.{AreGroupsOf, histories}
+use Rattle.trace_text.specs.Groups.{AreGroupsOf, CanReplay, histories}
 use Rattle.trace_text.specs.TraceText.{block_lines, block_of, entry_lines, group_lines, lines_from, trace_text}
 use Rattle.trace_text.proofs.GroupLaws.{all-groups}
 use Rattle.trace_laws.proofs.Plays.{begun-legal, begun-steps, begun-whole, few-entries}
 use Rattle.trace_laws.proofs.ReadBack.{read-first}
 use Rattle.trace_read.specs.Lines.{lines_of}
 use Rattle.trace_read.specs.declared.Trace.{Trace}
-use Rattle.trace_upgrade.specs.Said.{CanReplay, SaysPlays, entries_first, groups_said}
+use Rattle.trace_upgrade.specs.Said.{SaysPlays, entries_first, groups_said}
 
 -- the groups from a number on, each with its history, and no room for more
 abbrev pub groups_with : Parts → ℕ → List (List Entry) → List GroupHistory

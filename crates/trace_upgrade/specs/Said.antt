@@ -1,10 +1,9 @@
 -- The groups that the lines of a trace say, each with its entries.
 use Rattle.std.specs.Prelude.{◌≡◌, ℕ, ◌-◌, ◌≤◌, false, List, [], ◌∷◌, ◌++◌, length}
-use Rattle.rt_base.specs.declared.TheConstants.{MOST_STEPS}
 use Rattle.rt_task.specs.declared.Parts.{Parts}
 use Rattle.rt_rules.specs.declared.history.Entry.{Entry}
 use Rattle.rt_model.specs.Histories.{IsLegalFrom}
-use Rattle.rt_groups.specs.Groups.{AreStepsOf, GroupHistory, IsGroupOf, IsLegalNow, group_of, past}
+use Rattle.rt_plays.specs.Groups.{AreStepsOf, GroupHistory, group_of, past}
 use Rattle.trace_text.specs.TraceText.{trace_text}
 use Rattle.trace_lines.specs.Lines.{Line, end_line, entry_line, group_line}
 use Rattle.trace_read.specs.declared.Trace.{Trace}
@@ -43,10 +42,3 @@ pub record CanTake (h : GroupHistory) (es : List Entry) : Type 0 where
   pub room : length es ≤ h.spare
   pub steps : AreStepsOf (group_of h) es
   pub legal : IsLegalFrom (group_of h) (past h) es
-
--- a group of a setup without reservations, whose entries can be taken from opening on
-pub record CanReplay (h : GroupHistory) : Type 0 where
-  pub there : IsGroupOf h.setup h.group
-  pub few : length h.entries ≤ MOST_STEPS
-  pub steps : AreStepsOf (group_of h) h.entries
-  pub legal : IsLegalNow h

@@ -1,56 +1,42 @@
-//! The steps of a group's entry lines, taken again.
-ghost use Rattle.std.specs.Prelude.{◌≡◌, ◌≤◌, length, IfOk};
-ghost use Rattle.rt_base.specs.declared.TheConstants.{MOST_STEPS};
-ghost use Rattle.trace_read.specs.Lines.{lines_of};
-ghost use Rattle.trace_upgrade.specs.Said.{CanReplay, CanTake, entries_first, group_said, with_entries};
+//! Engines that take the steps of histories again.
+ghost use Rattle.std.specs.Prelude.{◌≡◌, IfOk};
+ghost use Rattle.trace_upgrade.specs.Said.{CanTake, with_entries};
 
 use group_engine::Engine;
-use rt_base::{GroupNo, NoMemory};
-use rt_task::Setup;
+use rt_base::NoMemory;
+use rt_rules::Entry;
 use std::alloc::Global;
-use trace_read::Line;
+use trace_text::PlayedGroup;
 
-/// How many entry lines stand first.
-fn count_entries(lines: &[Line]) -> u32
-    requires { length (entries_first (lines_of lines.now)) ≤ MOST_STEPS }
-    ensures { result ≡ length (entries_first (lines_of lines.now)) }
+/// Takes the steps of these entries.
+fn take_entries(engine: &mut Engine, entries: &[Entry])
+    requires { CanTake engine.old entries.now }
+    ensures { engine.new ≡ with_entries entries.now engine.old }
 {
-    let mut count = 0;
-    for line in lines {
-        match line {
-            Line::EntryLine { .. } => count += 1,
-            _ => return count,
-        }
-    }
-    count
-}
-
-/// Takes the steps of the entry lines that stand first.
-fn take_entries(engine: &mut Engine, lines: &[Line])
-    requires { CanTake engine.old (entries_first (lines_of lines.now)) }
-    ensures { engine.new ≡ with_entries (entries_first (lines_of lines.now)) engine.old }
-{
-    for line in lines {
-        match line {
-            Line::EntryLine { entry, .. } => {
-                engine.step(entry.step);
-            }
-            _ => return,
-        }
+    for entry in entries {
+        engine.step(entry.step);
     }
 }
 
-/// The engine of a group whose entry lines stand first.
-pub(crate) fn engine_of(
-    alloc: Global,
-    setup: &Setup,
-    group: GroupNo,
-    lines: &[Line],
-) -> Result<Engine, NoMemory>
-    requires { CanReplay (group_said setup.now group.0 (lines_of lines.now)) }
-    ensures { IfOk result (λ e. e ≡ group_said setup.now group.0 (lines_of lines.now)) }
+/// The engine of a group that has taken the steps of its history.
+fn engine_of(alloc: Global, group: &PlayedGroup) -> Result<Engine, NoMemory>
+    ensures { IfOk result (λ e. e ≡ group.now) }
 {
-    let mut engine = Engine::open(alloc, setup, group, count_entries(lines))?;
-    take_entries(&mut engine, lines);
+    let entries = group.entries();
+    let mut engine = Engine::open(alloc, group.setup(), group.number(), entries.len() as u32)?;
+    take_entries(&mut engine, entries);
     Ok(engine)
+}
+
+/// The engines of these groups.
+pub(crate) fn engines_again(alloc: Global, groups: &[PlayedGroup]) -> Result<Vec<Engine>, NoMemory>
+    ensures { IfOk result (λ v. v.items ≡ groups.now) }
+{
+    let mut engines = Vec::new(alloc);
+    for group in groups {
+        if engines.push(engine_of(alloc, group)?).is_err() {
+            return Err(NoMemory);
+        }
+    }
+    Ok(engines)
 }

@@ -9,7 +9,7 @@ use Rattle.rt_model.specs.Past.{Event, Past, ends_job}
 use Rattle.rt_model.specs.Reachable.{IsReachable}
 use Rattle.rt_model.specs.Releases.{exists}
 use Rattle.rt_model.proofs.Steps.{done-step}
-use Rattle.rt_laws.proofs.JobLaws.{exists-keeps}
+use Rattle.rt_laws.proofs.jobs.JobLaws.{exists-keeps}
 use Rattle.rt_laws.proofs.Moves.{by_moves, IsMove}
 use Rattle.rt_laws.proofs.Rules.{MeetsRules}
 use Rattle.trace_views.specs.JobMoves.{Test, count_moves, in_job}

@@ -12,10 +12,10 @@ use Rattle.rt_model.specs.Reachable.{IsReachable}
 use Rattle.rt_model.specs.Releases.{arrivals, arrives, deadline, exists, is_released, release, release_by}
 use Rattle.rt_model.proofs.ReleaseLaws.{exists-early, is_next_of_early}
 use Rattle.rt_model.proofs.Steps.{done-step}
-use Rattle.rt_laws.proofs.JobLaws.{released}
+use Rattle.rt_laws.proofs.jobs.JobLaws.{released}
 use Rattle.rt_laws.proofs.Moves.{IsMove, by_moves, clock_moves, cpu_acts}
 use Rattle.rt_laws.proofs.Rules.{MeetsRules}
-use Rattle.rt_laws.proofs.Running.{IsRunning, ended-runs, running}
+use Rattle.rt_laws.proofs.jobs.Running.{IsRunning, ended-runs, running}
 use Rattle.rt_laws.proofs.ValidSets.{rules_of}
 use Rattle.trace_views.specs.JobMoves.{count_moves, in_job, last_clock}
 use Rattle.trace_views.specs.JobTimes.{deadline_of, end, ends_now, kept, late, missed, outcome, outcome_by, release_of, under_way}

@@ -20,12 +20,12 @@ use Rattle.rt_model.specs.Runs.{runs}
 use Rattle.rt_model.specs.Tops.{eligible}
 use Rattle.rt_model.proofs.AnswerLaws.{answer-runs_link, to_run}
 use Rattle.rt_model.proofs.Steps.{past_act-task, past_act-reply}
-use Rattle.rt_laws.proofs.LinkedTasks.{IsLinked, linked-eligible}
+use Rattle.rt_laws.proofs.links.LinkedTasks.{IsLinked, linked-eligible}
 use Rattle.rt_laws.proofs.Moves.{clock_moves, cpu_acts}
-use Rattle.rt_laws.proofs.Requests as requests
-use Rattle.rt_laws.proofs.Requests.{IsAsk}
+use Rattle.rt_laws.proofs.semaphores.Requests as requests
+use Rattle.rt_laws.proofs.semaphores.Requests.{IsAsk}
 use Rattle.rt_laws.proofs.Rules.{MeetsRules}
-use Rattle.rt_laws.proofs.Running.{IsRunning, running}
+use Rattle.rt_laws.proofs.jobs.Running.{IsRunning, running}
 use Rattle.rt_laws.proofs.ValidSets.{rules_of}
 use Rattle.trace_views.specs.JobMoves.{Test, count_moves, in_job}
 use Rattle.trace_views.specs.JobTimes.{works}

@@ -11,7 +11,4 @@ pub mod JobCounts
 pub mod JobRows
 pub mod TaskRows
 pub mod TableLaws
-pub mod Computed
-pub mod WorkedTables
-pub mod WorkedSharing
-pub mod WorkedColumns
+pub mod worked

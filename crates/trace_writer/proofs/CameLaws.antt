@@ -3,11 +3,16 @@ use Rattle.std.proofs.Common.{◌≡◌, ℕ, ◌≤◌, List, [], ◌++◌, ref
 use Rattle.std.specs.Prelude.{◌≢◌}
 use Rattle.std.specs.Prelude.{Result, Ok, Err, IsErrAnd, OnOk, OnErr}
 use Rattle.rt_fault.specs.Faults.{HasRisen}
+use Rattle.rt_fault.specs.Ends.{SinkSeen, Writing, writing}
 use Rattle.rt_fault.specs.Held.{Held, Extends, ExtendsByPrefix}
 use Rattle.rt_fault.proofs.HeldLaws.{Extends-none, Extends-append, ExtendsByPrefix-append, ExtendsByPrefix-more, ExtendsByPrefix-front}
 use Rattle.trace_writer.specs.declared.stop.WriteStop.{WriteStop}
 use Rattle.trace_writer.specs.declared.stop.WriteStop.TheVariants as stops
 use Rattle.trace_writer.specs.Writing.{Came}
+
+-- by what was held, and how many faults were counted, before and after
+abbrev pub CameFrom : Result (Unit {0}) WriteStop → Held → Held → ℕ → ℕ → List ℕ → Type 0
+CameFrom r a b f g text = Came r (record { old = record { held = a; faults = f }; new = record { held = b; faults = g } }) text
 
 -- a first part of the text came, and this is what is left of it
 pub record Coming (old new : Held) (before after : ℕ) (text left : List ℕ) : Type 0 where
@@ -21,7 +26,7 @@ pub coming-start : (h : Held) (f : ℕ) (text : List ℕ) → Coming h h f f tex
 coming-start h f text = record { front = []; came = Extends-none h; unfailed = refl; split = refl }
 
 -- the next part came
-pub coming-next : (a b c : Held) (f g h : ℕ) (text part left : List ℕ) → Coming a b f g text (part ++ left) → Came (Ok tt) b c g h part → Coming a c f h text left
+pub coming-next : (a b c : Held) (f g h : ℕ) (text part left : List ℕ) → Coming a b f g text (part ++ left) → CameFrom (Ok tt) b c g h part → Coming a c f h text left
 coming-next a b c f g h text part left s p = record {
   front = s.front ++ part;
   came = Extends-append a b c s.front part s.came p.0;
@@ -30,7 +35,7 @@ coming-next a b c f g h text part left s p = record {
 }
 
 -- the next part stopped
-pub coming-stop : (e : WriteStop) (a b c : Held) (f g h : ℕ) (text part left : List ℕ) → Coming a b f g text (part ++ left) → Came (Err e) b c g h part → Came (Err e) a c f h text
+pub coming-stop : (e : WriteStop) (a b c : Held) (f g h : ℕ) (text part left : List ℕ) → Coming a b f g text (part ++ left) → CameFrom (Err e) b c g h part → CameFrom (Err e) a c f h text
 coming-stop stops.Fault a b c f g h text part left s p =
     let prefix = ExtendsByPrefix-more a c (s.front ++ part) left (ExtendsByPrefix-append a b c s.front part s.came p.0) in
     (rw (s.split, ← append_assoc) prefix, rw s.unfailed at p.1, rw s.unfailed at p.2)
@@ -39,24 +44,24 @@ coming-stop stops.NoMemory a b c f g h text part left s p =
     (rw (s.split, ← append_assoc) prefix, p.1 ∙ s.unfailed)
 
 -- memory ran out before the next part
-pub coming-cut : (a b : Held) (f g : ℕ) (text left : List ℕ) → Coming a b f g text left → Came (Err stops.NoMemory) a b f g text
+pub coming-cut : (a b : Held) (f g : ℕ) (text left : List ℕ) → Coming a b f g text left → CameFrom (Err stops.NoMemory) a b f g text
 coming-cut a b f g text left s = (ExtendsByPrefix-front a b text s.front left s.split s.came, s.unfailed)
 
 -- all of it came
-pub coming-end : (a b : Held) (f g : ℕ) (text : List ℕ) → Coming a b f g text [] → Came (Ok tt) a b f g text
+pub coming-end : (a b : Held) (f g : ℕ) (text : List ℕ) → Coming a b f g text [] → CameFrom (Ok tt) a b f g text
 coming-end a b f g text s = (rw (s.split, append-nil) s.came, s.unfailed)
 
 -- memory ran out before any part
-pub came-none : (h : Held) (f : ℕ) (text : List ℕ) → Came (Err stops.NoMemory) h h f f text
+pub came-none : (h : Held) (f : ℕ) (text : List ℕ) → CameFrom (Err stops.NoMemory) h h f f text
 came-none h f text = coming-cut h h f f text text (coming-start h f text)
 
 -- the same where the end is handed on
-pub came-err : (r : Result (Unit {0}) WriteStop) (e : WriteStop) (a b : Held) (f g : ℕ) (text : List ℕ) → IsErrAnd r (λ x. x ≡ e) → Came (Err e) a b f g text → Came r a b f g text
+pub came-err : (r : Result (Unit {0}) WriteStop) (e : WriteStop) (a b : Held) (f g : ℕ) (text : List ℕ) → IsErrAnd r (λ x. x ≡ e) → CameFrom (Err e) a b f g text → CameFrom r a b f g text
 came-err (Ok u) e a b f g text h p = absurd h
 came-err (Err x) e a b f g text h p = rw h p
 
 -- the last part came, or stopped
-pub coming-last : (r : Result (Unit {0}) WriteStop) (a b c : Held) (f g h : ℕ) (text part : List ℕ) → Coming a b f g text part → Came r b c g h part → Came r a c f h text
+pub coming-last : (r : Result (Unit {0}) WriteStop) (a b c : Held) (f g h : ℕ) (text part : List ℕ) → Coming a b f g text part → CameFrom r b c g h part → CameFrom r a c f h text
 coming-last (Ok u) a b c f g h text part s p = (rw s.split (Extends-append a b c s.front part s.came p.0), p.1 ∙ s.unfailed)
 coming-last (Err e) a b c f g h text part s p = coming-stop e a b c f g h text part [] more p
   where
@@ -75,7 +80,7 @@ pub record HasParts (text one two three : List ℕ) : Type 0 where
 
 module _ {K : Type 0} (held : K → Held) (faults : K → ℕ) where
   abbrev pub CameTo : Result (Unit {0}) WriteStop → K → K → List ℕ → Type 0
-  CameTo r a b text = Came r (held a) (held b) (faults a) (faults b) text
+  CameTo r a b text = Came r (writing held faults a b) text
 
   abbrev pub IsComing : K → K → List ℕ → List ℕ → Type 0
   IsComing a b text left = Coming (held a) (held b) (faults a) (faults b) text left
@@ -128,26 +133,26 @@ module _ {K : Type 0} (held : K → Held) (faults : K → ℕ) where
     came-third r c d p q last = comes-last a c text r d three (comes-next a b text c two three (comes-next a a text b one (two ++ three) first p) q) last
 
 -- the parts of an end
-pub came-ok : (r : Result (Unit {0}) WriteStop) (a b : Held) (f g : ℕ) (text : List ℕ) → Came r a b f g text → OnOk r (Extends a b text)
+pub came-ok : (r : Result (Unit {0}) WriteStop) (a b : Held) (f g : ℕ) (text : List ℕ) → CameFrom r a b f g text → OnOk r (Extends a b text)
 came-ok (Ok u) a b f g text p = p.0
 came-ok (Err e) a b f g text p = tt
 
-pub came-stopped : (r : Result (Unit {0}) WriteStop) (a b : Held) (f g : ℕ) (text : List ℕ) → Came r a b f g text → OnErr r (ExtendsByPrefix a b text)
+pub came-stopped : (r : Result (Unit {0}) WriteStop) (a b : Held) (f g : ℕ) (text : List ℕ) → CameFrom r a b f g text → OnErr r (ExtendsByPrefix a b text)
 came-stopped (Ok u) a b f g text p = tt
 came-stopped (Err stops.Fault) a b f g text p = p.0
 came-stopped (Err stops.NoMemory) a b f g text p = p.0
 
-pub came-fault : (r : Result (Unit {0}) WriteStop) (a b : Held) (f g : ℕ) (text : List ℕ) → Came r a b f g text → r ≡ Err stops.Fault → HasRisen f g
+pub came-fault : (r : Result (Unit {0}) WriteStop) (a b : Held) (f g : ℕ) (text : List ℕ) → CameFrom r a b f g text → r ≡ Err stops.Fault → HasRisen f g
 came-fault (Ok u) a b f g text p e = cc
 came-fault (Err stops.Fault) a b f g text p e = p.2
 came-fault (Err stops.NoMemory) a b f g text p e = cc
 
-pub came-counted : (r : Result (Unit {0}) WriteStop) (a b : Held) (f g : ℕ) (text : List ℕ) → Came r a b f g text → f ≤ g
+pub came-counted : (r : Result (Unit {0}) WriteStop) (a b : Held) (f g : ℕ) (text : List ℕ) → CameFrom r a b f g text → f ≤ g
 came-counted (Ok u) a b f g text p = let e : g ≡ f = p.1 in omega arith
 came-counted (Err stops.Fault) a b f g text p = p.1
 came-counted (Err stops.NoMemory) a b f g text p = let e : g ≡ f = p.1 in omega arith
 
-pub came-unfailed : (r : Result (Unit {0}) WriteStop) (a b : Held) (f g : ℕ) (text : List ℕ) → Came r a b f g text → r ≢ Err stops.Fault → g ≡ f
+pub came-unfailed : (r : Result (Unit {0}) WriteStop) (a b : Held) (f g : ℕ) (text : List ℕ) → CameFrom r a b f g text → r ≢ Err stops.Fault → g ≡ f
 came-unfailed (Ok u) a b f g text p other = p.1
 came-unfailed (Err stops.Fault) a b f g text p other = absurd (other refl)
 came-unfailed (Err stops.NoMemory) a b f g text p other = p.1

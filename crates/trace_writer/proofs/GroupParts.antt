@@ -10,8 +10,8 @@ use Rattle.rt_model.specs.Histories.{past_from, past_of}
 use Rattle.rt_model.specs.Past.{Past}
 use Rattle.rt_plays.specs.Order.{history}
 use Rattle.rt_plays.specs.Plays.{group_with}
-use Rattle.rt_groups.specs.Groups.{GroupHistory, group_of, past}
-use Rattle.count_laws.specs.Tallies.{tallies}
+use Rattle.rt_plays.specs.Groups.{GroupHistory, group_of, past}
+use Rattle.rt_changes.specs.Tallies.{tallies}
 use Rattle.block_counts.specs.declared.seen.Seen.{Seen}
 use Rattle.block_counts.specs.SeenWords.{tallies_of}
 use Rattle.set_plays.specs.declared.group_steps.GroupSteps.{GroupSteps}

@@ -18,7 +18,7 @@ use Rattle.trace_lines.specs.Known.{Known}
 use Rattle.trace_lines.specs.Lines.{end_line}
 use Rattle.trace_tools.specs.declared.shown.Shown.{Shown}
 use Rattle.trace_tools.specs.Seats.{Seat, seats_after}
-use Rattle.rt_groups.specs.Groups.{GroupHistory}
+use Rattle.rt_plays.specs.Groups.{GroupHistory}
 use Rattle.trace_text.specs.Groups.{histories}
 use Rattle.trace_text.specs.CountLines.{shown_entries, shown_from}
 use Rattle.trace_text.specs.TraceText.{group_lines, lines_from}

@@ -14,9 +14,9 @@ use Rattle.rt_model.specs.Histories.{after, clock_moved, past_from, past_of, rep
 use Rattle.rt_model.specs.Past.{Past}
 use Rattle.rt_model.specs.Runs.{runs}
 use Rattle.rt_model.proofs.Steps.{past_of-append, runs-clock}
-use Rattle.rt_groups.specs.Groups.{GroupHistory, group_of, past, with_entry}
-use Rattle.count_laws.specs.CountLaws.{act_of}
-use Rattle.count_laws.specs.Tallies.{AreWaiters, Waiter}
+use Rattle.rt_plays.specs.Groups.{GroupHistory, group_of, past, with_entry}
+use Rattle.rt_changes.specs.CountLaws.{act_of}
+use Rattle.rt_changes.specs.Tallies.{AreWaiters, Waiter}
 use Rattle.block_counts.specs.GroupRequests.{GroupRequests, IsAt, IsBetween, group_of as requests_group}
 use Rattle.group_engine.specs.Words.{AreListed, AreWaitersAt}
 use Rattle.group_engine.specs.Moments.{between}

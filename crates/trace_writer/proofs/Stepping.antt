@@ -7,7 +7,7 @@ use Rattle.rt_model.specs.Group.{Group}
 use Rattle.rt_model.specs.Histories.{after, changed, past_from, reply_to}
 use Rattle.rt_model.specs.Past.{Past}
 use Rattle.rt_plays.specs.Order.{history}
-use Rattle.rt_groups.specs.Groups.{GroupHistory, group_of, past}
+use Rattle.rt_plays.specs.Groups.{GroupHistory, group_of, past}
 use Rattle.set_plays.specs.declared.steps_left.StepsLeft.{StepsLeft}
 use Rattle.set_plays.specs.StepsLeft.{AreOf, steps_left}
 use Rattle.trace_lines.specs.Grammar.{line_text}

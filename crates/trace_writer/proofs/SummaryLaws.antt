@@ -14,7 +14,7 @@ use Rattle.rt_model.specs.Past.{Acted, Clock, Past, entries_in, sem_act}
 use Rattle.rt_plays.specs.Plays.{group_with}
 use Rattle.set_plays.specs.declared.group_steps.GroupSteps.{GroupSteps}
 use Rattle.set_plays.specs.GroupSteps.{group_told, told_from}
-use Rattle.count_laws.specs.Tallies.{Tally, tallies, tally}
+use Rattle.rt_changes.specs.Tallies.{Tally, tallies, tally}
 use Rattle.block_counts.specs.SeenWords.{tallies_of, tally_of}
 use Rattle.block_counts.specs.declared.seen.Seen.{Seen}
 use Rattle.trace_writer.specs.declared.summary.Summary.{Summary}

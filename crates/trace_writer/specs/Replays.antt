@@ -9,7 +9,7 @@ use Rattle.rt_model.specs.Group.{Group, group_processors}
 use Rattle.rt_model.specs.Histories.{after, past_from, reply_to}
 use Rattle.rt_model.specs.Past.{Past}
 use Rattle.rt_plays.specs.Order.{history}
-use Rattle.rt_groups.specs.Groups.{GroupHistory, group_of, past}
+use Rattle.rt_plays.specs.Groups.{GroupHistory, group_of, past}
 use Rattle.block_counts.specs.GroupRequests.{GroupRequests, IsAt}
 use Rattle.set_plays.specs.declared.steps_left.StepsLeft.{StepsLeft}
 use Rattle.set_plays.specs.StepsLeft.{steps_left}

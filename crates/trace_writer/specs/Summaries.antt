@@ -4,7 +4,7 @@ use Rattle.rt_task.specs.declared.Parts.{Parts}
 use Rattle.rt_rules.specs.declared.history.Entry.{Entry}
 use Rattle.rt_model.specs.Group.{Group}
 use Rattle.rt_model.specs.Histories.{past_of}
-use Rattle.count_laws.specs.Tallies.{Tally, tallies}
+use Rattle.rt_changes.specs.Tallies.{Tally, tallies}
 use Rattle.trace_writer.specs.declared.summary.Summary.{Summary}
 
 -- the greatest number of critical sections that ended while a request was open and its task priority-blocked; 0 where there is none

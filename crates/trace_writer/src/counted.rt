@@ -3,9 +3,9 @@ ghost use Rattle.std.specs.Prelude.{◌≡◌, ◌<◌, ◌≤◌, [], IfOk};
 ghost use Rattle.rt_base.specs.declared.TheConstants.{MOST_STEPS};
 ghost use Rattle.rt_model.specs.Steps.{IsStepOf};
 ghost use Rattle.rt_model.specs.Histories.{reply_to};
-ghost use Rattle.rt_groups.specs.Endings.{ended_last};
-ghost use Rattle.rt_groups.specs.Groups.{IsGroupOf, group_of, past, with_entry};
-ghost use Rattle.count_laws.specs.Tallies.{tallies};
+ghost use Rattle.rt_plays.specs.Endings.{ended_last};
+ghost use Rattle.rt_plays.specs.Groups.{IsGroupOf, group_of, past, with_entry};
+ghost use Rattle.rt_changes.specs.Tallies.{tallies};
 ghost use Rattle.block_counts.specs.SeenWords.{tallies_of};
 
 use block_counts::{Blocks, Seen};
@@ -26,7 +26,7 @@ pub struct Counted {
 }
 
 impl Model for Counted {
-    ghost use Rattle.rt_groups.specs.Groups.{GroupHistory};
+    ghost use Rattle.rt_plays.specs.Groups.{GroupHistory};
     ghost use Rattle.trace_writer.specs.Replays.{Counts};
 
     ghost Value = { GroupHistory };

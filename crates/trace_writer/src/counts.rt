@@ -1,11 +1,12 @@
 //! What a bus is shown of the entries, and the count lines of its tools.
 ghost use Rattle.std.specs.Prelude.{◌≡◌, flat_map, map};
-ghost use Rattle.rt_groups.specs.Groups.{group_of, past};
+ghost use Rattle.rt_plays.specs.Groups.{group_of, past};
 ghost use Rattle.trace_lines.specs.Grammar.{line_text};
 ghost use Rattle.trace_lines.specs.Known.{Known};
 ghost use Rattle.trace_tools.specs.Places.{seats};
 ghost use Rattle.trace_tools.specs.Seats.{seat_after, seat_line};
 ghost use Rattle.trace_text.specs.CountLines.{shown_as};
+ghost use Rattle.rt_fault.specs.Ends.{writing};
 ghost use Rattle.trace_writer.specs.Writing.{Came};
 
 use crate::WriteStop;
@@ -40,7 +41,7 @@ pub fn write_counts<T: TraceTool, K: Sink>(
     out: &mut K,
 ) -> Result<(), WriteStop>
     ensures { (k : Known)
-        → Came result (K.held out.old) (K.held out.new) (K.faults out.old) (K.faults out.new)
+        → Came result (writing K.held K.faults out.old out.new)
         (flat_map (line_text k) (map seat_line (seats T.tool bus.now))) }
 {
     // There is no memory for more tools than that.

@@ -10,6 +10,7 @@ ghost use Rattle.trace_tools.specs.Seats.{seat_line, seats_after};
 ghost use Rattle.trace_text.specs.CountLines.{bus_text, shown_from};
 ghost use Rattle.trace_text.specs.Groups.{AreGroupsOf, histories};
 ghost use Rattle.trace_text.specs.TraceText.{trace_text};
+ghost use Rattle.rt_fault.specs.Ends.{writing};
 ghost use Rattle.trace_writer.specs.Writing.{Came};
 ghost use Rattle.trace_writer.specs.declared.stop.WriteStop.TheVariants as stops;
 
@@ -85,8 +86,7 @@ fn write_engines<T: TraceTool, K: Sink>(
 ) -> Result<(), WriteStop>
     requires groups { AreGroupsOf setup.now groups.now }
     ensures lines { let all = bus_text version (seats T.tool bus.old) setup.now in Came result
-        (K.held out.old) (K.held out.new) (K.faults out.old) (K.faults out.new)
-        (all (histories groups.now)) }
+        (writing K.held K.faults out.old out.new) (all (histories groups.now)) }
     ensures shown { let es = shown_from setup.now 0 (histories groups.now) in
         OnOk result (seats T.tool bus.new ≡ seats_after es (seats T.tool bus.old)) }
 {
@@ -105,7 +105,7 @@ pub fn write_shown_trace<T: TraceTool, K: Sink>(
     out: &mut K,
 ) -> Result<(), WriteStop>
     requires groups { AreGroupsOf setup.now groups.now }
-    ensures { Came result (K.held out.old) (K.held out.new) (K.faults out.old) (K.faults out.new)
+    ensures { Came result (writing K.held K.faults out.old out.new)
         (trace_text version setup.now (histories groups.now)
         ++ flat_map (line_text (known_of version setup.now)) (map seat_line (seats T.tool bus.now))) }
 {

@@ -2,7 +2,7 @@
 ghost use Rattle.std.specs.Prelude.{◌≡◌, ◌≤◌, [], flat_map, length, map, OnOk};
 ghost use Rattle.rt_base.specs.declared.TheConstants.{MOST_CLUSTERS, MOST_STEPS};
 ghost use Rattle.rt_plays.specs.Plays.{group_with};
-ghost use Rattle.rt_groups.specs.Groups.{group_of, past, IsGroupOf};
+ghost use Rattle.rt_plays.specs.Groups.{group_of, past, IsGroupOf};
 ghost use Rattle.block_counts.specs.SeenWords.{tallies_of};
 ghost use Rattle.set_plays.specs.GroupSteps.{AreGroupSteps, AreStepsIn, group_told, told};
 ghost use Rattle.set_plays.specs.StepsLeft.{AreOf};
@@ -14,12 +14,14 @@ ghost use Rattle.trace_text.specs.CountLines.{bus_text, shown_entries, shown_fro
 ghost use Rattle.trace_text.specs.Groups.{request_line};
 ghost use Rattle.trace_text.specs.TraceText.{entry_lines, group_lines, head_text, lines_from};
 ghost use Rattle.trace_writer.specs.Replays.{Follows, HasPlayed, ahead};
+ghost use Rattle.rt_fault.specs.Ends.{writing};
 ghost use Rattle.trace_writer.specs.Writing.{Came};
 
 use crate::WriteStop;
 use crate::counts::{show, write_counts};
 use crate::lines::{
     write_block_line, write_bytes, write_end_line, write_entry_line, write_group_line,
+    write_set_line,
 };
 use crate::replay::Replay;
 use block_counts::Seen;
@@ -27,10 +29,10 @@ use rt_base::GroupNo;
 use rt_fault::Sink;
 use rt_rules::Entry;
 use rt_task::{Parts, Setup};
+use set_canonical::canonical_of_parts;
 use set_plays::{GroupSteps, StepsLeft};
 use std::alloc::Global;
 use trace_lines::{Format, Version, first_line};
-use trace_text::set_line_of;
 use trace_tools::{Bus, TraceTool};
 
 /// The lines of the entries of a group, each written as its step is taken. The bus is shown each entry.
@@ -53,7 +55,7 @@ fn write_entries<T: TraceTool, K: Sink>(
     requires few { replay.old.engine.spare ≤ MOST_STEPS }
     ensures lines { let g = group_of replay.old.engine in
         let es = ahead g left.old (past replay.old.engine) in
-        Came result (K.held out.old) (K.held out.new) (K.faults out.old) (K.faults out.new)
+        Came result (writing K.held K.faults out.old out.new)
         (flat_map (line_text (known_in format.now))
         (entry_lines g 0 (past replay.old.engine) es)) }
     ensures played { let es = ahead (group_of replay.old.engine) left.old (past replay.old.engine) in
@@ -81,7 +83,7 @@ fn write_blocks<K: Sink>(
     line: &mut Vec<u8>,
     out: &mut K,
 ) -> Result<(), WriteStop>
-    ensures { Came result (K.held out.old) (K.held out.new) (K.faults out.old) (K.faults out.new)
+    ensures { Came result (writing K.held K.faults out.old out.new)
         (flat_map (line_text (known_in format.now))
         (map request_line (tallies_of requests.now))) }
 {
@@ -105,8 +107,7 @@ fn write_group<T: TraceTool, K: Sink>(
     requires there { IsGroupOf setup.now number.0 }
     requires steps { AreStepsIn (group_with setup.now number.0) steps }
     ensures lines { let es = group_told setup.now number.0 steps.entry in Came result
-        (K.held out.old) (K.held out.new) (K.faults out.old) (K.faults out.new)
-        (flat_map (line_text (known_in format.now))
+        (writing K.held K.faults out.old out.new) (flat_map (line_text (known_in format.now))
         (group_lines (group_with setup.now number.0) es)) }
     ensures shown { let es = group_told setup.now number.0 steps.entry in
         let shown = shown_entries (group_with setup.now number.0) 0 [] es in
@@ -139,8 +140,7 @@ fn write_groups<T: TraceTool, K: Sink>(
 ) -> Result<(), WriteStop>
     requires groups { AreGroupSteps setup.now groups.now }
     requires few { length groups.now ≤ MOST_CLUSTERS }
-    ensures lines { Came result
-        (K.held out.old) (K.held out.new) (K.faults out.old) (K.faults out.new)
+    ensures lines { Came result (writing K.held K.faults out.old out.new)
         (flat_map (line_text (known_in format.now))
         (lines_from setup.now 0 (told setup.now groups.now))) }
     ensures shown { let es = shown_from setup.now 0 (told setup.now groups.now) in
@@ -171,12 +171,11 @@ fn write_head<K: Sink>(
     parts: &Parts,
     out: &mut K,
 ) -> Result<(), WriteStop>
-    ensures { Came result (K.held out.old) (K.held out.new) (K.faults out.old) (K.faults out.new)
-        (head_text version parts.now) }
+    ensures { Came result (writing K.held K.faults out.old out.new) (head_text version parts.now) }
 {
-    let line = set_line_of(alloc, parts)?;
+    let set = canonical_of_parts(alloc, parts)?;
     write_bytes(out, first_line(version))?;
-    write_bytes(out, line.as_slice())
+    write_set_line(out, set.as_slice())
 }
 
 /// The whole trace of groups that play these steps, and the count lines of a bus that is shown the entries.
@@ -190,8 +189,7 @@ pub(crate) fn write_all<T: TraceTool, K: Sink>(
 ) -> Result<(), WriteStop>
     requires groups { AreGroupSteps setup.now groups.now }
     ensures lines { let all = bus_text version (seats T.tool bus.old) setup.now in Came result
-        (K.held out.old) (K.held out.new) (K.faults out.old) (K.faults out.new)
-        (all (told setup.now groups.now)) }
+        (writing K.held K.faults out.old out.new) (all (told setup.now groups.now)) }
     ensures shown { let es = shown_from setup.now 0 (told setup.now groups.now) in
         OnOk result (seats T.tool bus.new ≡ seats_after es (seats T.tool bus.old)) }
 {

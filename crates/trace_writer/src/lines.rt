@@ -1,9 +1,11 @@
 //! One line at a time: built in a text that is used again, and then written.
+ghost use Rattle.std.specs.Prelude.{◌++◌, ◌∷◌, [], codes};
 ghost use Rattle.trace_lines.specs.Known.{Known, known_in};
 ghost use Rattle.trace_lines.specs.Grammar.{line_text};
 ghost use Rattle.trace_lines.specs.Lines.{links_of, group_line, entry_line, end_line};
 ghost use Rattle.block_counts.specs.SeenWords.{tally_of};
 ghost use Rattle.trace_text.specs.Groups.{request_line};
+ghost use Rattle.rt_fault.specs.Ends.{writing};
 ghost use Rattle.trace_writer.specs.Writing.{Came};
 
 use crate::WriteStop;
@@ -15,11 +17,20 @@ use trace_lines::{CpuLink, Format, put_block_line, put_end_line, put_entry_line,
 
 /// Writes bytes.
 pub fn write_bytes<K: Sink>(out: &mut K, bytes: &[u8]) -> Result<(), WriteStop>
-    ensures { Came result (K.held out.old) (K.held out.new) (K.faults out.old) (K.faults out.new)
-        bytes.now }
+    ensures { Came result (writing K.held K.faults out.old out.new) bytes.now }
 {
     put_all(out, bytes)?;
     Ok(())
+}
+
+/// Writes the line of a set with this text, which is not copied.
+pub fn write_set_line<K: Sink>(out: &mut K, set: &[u8]) -> Result<(), WriteStop>
+    ensures { Came result (writing K.held K.faults out.old out.new)
+        (codes "set " ++ (set.now ++ 10 ∷ [])) }
+{
+    write_bytes(out, b"set ")?;
+    write_bytes(out, set)?;
+    write_bytes(out, b"\n")
 }
 
 /// Writes the line of a group.
@@ -30,7 +41,7 @@ pub fn write_group_line<K: Sink>(
     group: GroupNo,
     links: &[CpuLink],
 ) -> Result<(), WriteStop>
-    ensures { Came result (K.held out.old) (K.held out.new) (K.faults out.old) (K.faults out.new)
+    ensures { Came result (writing K.held K.faults out.old out.new)
         (line_text (known_in format.now) (group_line group.0 (links_of links.now))) }
 {
     line.clear();
@@ -47,7 +58,7 @@ pub fn write_entry_line<K: Sink>(
     entry: &Entry,
     links: &[CpuLink],
 ) -> Result<(), WriteStop>
-    ensures { Came result (K.held out.old) (K.held out.new) (K.faults out.old) (K.faults out.new)
+    ensures { Came result (writing K.held K.faults out.old out.new)
         (line_text (known_in format.now) (entry_line number entry.now (links_of links.now))) }
 {
     line.clear();
@@ -62,7 +73,7 @@ pub fn write_block_line<K: Sink>(
     format: &Format,
     seen: &Seen,
 ) -> Result<(), WriteStop>
-    ensures { Came result (K.held out.old) (K.held out.new) (K.faults out.old) (K.faults out.new)
+    ensures { Came result (writing K.held K.faults out.old out.new)
         (line_text (known_in format.now) (request_line (tally_of seen.now))) }
 {
     line.clear();
@@ -82,8 +93,7 @@ pub fn write_block_line<K: Sink>(
 /// Writes the line `end`.
 pub fn write_end_line<K: Sink>(out: &mut K, line: &mut Vec<u8>) -> Result<(), WriteStop>
     ensures { (k : Known)
-        → Came result (K.held out.old) (K.held out.new) (K.faults out.old) (K.faults out.new)
-        (line_text k end_line) }
+        → Came result (writing K.held K.faults out.old out.new) (line_text k end_line) }
 {
     line.clear();
     put_end_line(line)?;

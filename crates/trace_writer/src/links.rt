@@ -1,7 +1,7 @@
 //! The links of a group's processors: read from an engine, and compared with those before.
 ghost use Rattle.std.specs.Prelude.{◌≡◌, ◌++◌, All, OnOk};
 ghost use Rattle.rt_plays.specs.Homes.{IsProcessorOf};
-ghost use Rattle.rt_groups.specs.Groups.{group_of, past};
+ghost use Rattle.rt_plays.specs.Groups.{group_of, past};
 ghost use Rattle.trace_lines.specs.Lines.{links_of};
 ghost use Rattle.trace_text.specs.TraceText.{links_at};
 ghost use Rattle.trace_text.specs.Groups.{changed_links, cpu_numbers, cpus_in};

@@ -4,6 +4,7 @@ ghost use Rattle.rt_plays.specs.Order.{histories};
 ghost use Rattle.trace_tools.specs.Places.{seats};
 ghost use Rattle.trace_tools.specs.Seats.{seats_after};
 ghost use Rattle.trace_text.specs.CountLines.{bus_text, shown_from};
+ghost use Rattle.rt_fault.specs.Ends.{writing};
 ghost use Rattle.trace_writer.specs.Writing.{Came};
 
 use crate::WriteStop;
@@ -29,8 +30,7 @@ pub fn write_played<T: TraceTool, K: Sink>(
     out: &mut K,
 ) -> Result<(), WriteStop>
     ensures lines { let all = bus_text version (seats T.tool bus.old) setup.now in Came result
-        (K.held out.old) (K.held out.new) (K.faults out.old) (K.faults out.new)
-        (all (histories setup.now)) }
+        (writing K.held K.faults out.old out.new) (all (histories setup.now)) }
     ensures shown { let es = shown_from setup.now 0 (histories setup.now) in
         OnOk result (seats T.tool bus.new ≡ seats_after es (seats T.tool bus.old)) }
 {

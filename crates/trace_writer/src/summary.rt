@@ -1,7 +1,7 @@
 //! What the histories of a set come to, in numbers.
 ghost use Rattle.std.specs.Prelude.{◌≡◌, ◌+◌, ◌*◌, ◌<◌, ◌≤◌, ◌^◌, [], IfOk, length};
 ghost use Rattle.rt_base.specs.declared.TheConstants.{MOST_STEPS};
-ghost use Rattle.rt_groups.specs.Groups.{IsGroupOf, group_of, past};
+ghost use Rattle.rt_plays.specs.Groups.{IsGroupOf, group_of, past};
 ghost use Rattle.rt_plays.specs.Order.{histories};
 ghost use Rattle.rt_plays.specs.Plays.{group_with};
 ghost use Rattle.set_plays.specs.GroupSteps.{AreGroupSteps, AreStepsIn, group_told, told};

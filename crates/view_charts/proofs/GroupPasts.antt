@@ -5,7 +5,7 @@ use Rattle.rt_task.specs.declared.Parts.{Parts}
 use Rattle.rt_model.specs.Group.{Group}
 use Rattle.rt_model.specs.Histories.{past_of}
 use Rattle.rt_model.specs.Past.{Past}
-use Rattle.rt_groups.specs.Groups.{GroupHistory, group_of, past}
+use Rattle.rt_plays.specs.Groups.{GroupHistory, group_of, past}
 use Rattle.chart_texts.specs.Charts.{pasts_from}
 use Rattle.trace_text.specs.Groups.{AreGroupsOf, histories}
 use Rattle.trace_text.proofs.LineLaws.{history_group}

@@ -11,7 +11,7 @@ use Rattle.rt_model.specs.Group.{Group}
 use Rattle.rt_model.specs.Histories.{after, past_from, past_of}
 use Rattle.rt_model.specs.Past.{Past, now}
 use Rattle.rt_model.proofs.Steps.{after-acted}
-use Rattle.rt_groups.specs.Groups.{AreStepsOf, GroupHistory, past}
+use Rattle.rt_plays.specs.Groups.{AreStepsOf, GroupHistory, past}
 use Rattle.group_engine.proofs.Stepping.{entries_in-past_of}
 use Rattle.trace_text.specs.Groups.{AreGroupsOf, histories}
 use Rattle.trace_text.proofs.ReplayLaws.{drop_end}

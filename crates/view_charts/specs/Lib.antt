@@ -1,3 +1,3 @@
 pub mod Texts
 pub mod Windows
-pub mod Drawings
+pub mod inside

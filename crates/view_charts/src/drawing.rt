@@ -5,14 +5,14 @@ ghost use Rattle.rt_task.specs.Validity.{IsValid};
 ghost use Rattle.rt_model.specs.Histories.{after, past_from, past_of};
 ghost use Rattle.rt_model.specs.Past.{Past};
 ghost use Rattle.rt_model.specs.Steps.{IsStepOf};
-ghost use Rattle.rt_groups.specs.Groups.{AreStepsOf, IsGroupOf};
+ghost use Rattle.rt_plays.specs.Groups.{AreStepsOf, IsGroupOf};
 ghost use Rattle.rt_plays.specs.Plays.{group_with};
 ghost use Rattle.chart_cells.specs.Charts.{panel_shown};
 ghost use Rattle.chart_texts.specs.Charts as charts;
 ghost use Rattle.chart_texts.specs.Windows.{columns_in};
 ghost use Rattle.chart_texts.specs.declared.window.Axis as axes;
 ghost use Rattle.chart_texts.specs.declared.window.Window as windows;
-ghost use Rattle.view_charts.specs.Drawings.{IsDrawn, group_of, spare};
+ghost use Rattle.view_charts.specs.inside.Drawings.{IsDrawn, group_of, spare};
 ghost use Rattle.view_charts.specs.Windows.{IsShown};
 
 use chart_cells::Panel;

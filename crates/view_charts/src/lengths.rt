@@ -3,16 +3,16 @@ ghost use Rattle.std.specs.Prelude.{◌≡◌};
 ghost use Rattle.rt_model.specs.Group.{Group};
 ghost use Rattle.rt_model.specs.Histories.{past_of};
 ghost use Rattle.rt_model.specs.Past.{now};
-ghost use Rattle.rt_groups.specs.Groups.{past};
+ghost use Rattle.rt_plays.specs.Groups.{past};
 ghost use Rattle.rt_task.specs.declared.Parts.{Parts};
 ghost use Rattle.chart_texts.specs.Charts.{longest_on, pasts_from};
 ghost use Rattle.chart_texts.specs.Windows.{length_on};
 ghost use Rattle.trace_text.specs.Groups.{AreGroupsOf, histories};
 
 use chart_texts::Axis;
-use group_engine::Engine;
 use rt_base::Tick;
 use rt_rules::Entry;
+use trace_text::PlayedGroup;
 
 /// The clock after these entries.
 fn clock_after(entries: &[Entry]) -> Tick
@@ -26,7 +26,7 @@ fn clock_after(entries: &[Entry]) -> Tick
 }
 
 /// How many columns a group has.
-fn length_of(axis: Axis, group: &Engine) -> u64
+fn length_of(axis: Axis, group: &PlayedGroup) -> u64
     ensures { result ≡ length_on axis (past group.now) }
 {
     match axis {
@@ -36,7 +36,7 @@ fn length_of(axis: Axis, group: &Engine) -> u64
 }
 
 /// How many columns the longest group has; 0 where there is none.
-pub(crate) fn longest(axis: Axis, groups: &[Engine]) -> u64
+pub(crate) fn longest(axis: Axis, groups: &[PlayedGroup]) -> u64
     ensures { (p : Parts) → AreGroupsOf p groups.now
         → result ≡ longest_on axis (pasts_from p 0 (histories groups.now)) }
 {

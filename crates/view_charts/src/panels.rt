@@ -1,6 +1,6 @@
 //! What a chart shows of each group.
 ghost use Rattle.std.specs.Prelude.{◌≡◌, IfOk, map};
-ghost use Rattle.rt_groups.specs.Groups.{IsGroupOf, group_of, past};
+ghost use Rattle.rt_plays.specs.Groups.{IsGroupOf, group_of, past};
 ghost use Rattle.chart_cells.specs.Charts.{panel_shown};
 ghost use Rattle.chart_texts.specs.Charts.{pasts_from};
 ghost use Rattle.trace_text.specs.Groups.{AreGroupsOf, histories};
@@ -10,10 +10,10 @@ ghost use Rattle.view_charts.specs.Windows.{IsShown};
 use crate::drawing::panel_of;
 use chart_cells::Panel;
 use chart_texts::{Axis, Window};
-use group_engine::Engine;
 use rt_base::{GroupNo, NoMemory};
 use rt_task::Setup;
 use std::alloc::Global;
+use trace_text::PlayedGroup;
 
 /// What a chart shows of a group, whose history is played again.
 fn panel_again(
@@ -22,7 +22,7 @@ fn panel_again(
     window: Window,
     setup: &Setup,
     number: GroupNo,
-    group: &Engine,
+    group: &PlayedGroup,
 ) -> Result<Panel, NoMemory>
     requires there { IsGroupOf setup.now number.0 }
     requires setup { group.now.setup ≡ setup.now }
@@ -40,7 +40,7 @@ pub(crate) fn panels_of(
     axis: Axis,
     window: Window,
     setup: &Setup,
-    groups: &[Engine],
+    groups: &[PlayedGroup],
 ) -> Result<Vec<Panel>, NoMemory>
     requires groups { AreGroupsOf setup.now groups.now }
     requires window { IsShown window }

@@ -9,10 +9,10 @@ use crate::lengths::longest;
 use crate::panels::panels_of;
 use chart_cells::Chart;
 use chart_texts::{Axis, Window};
-use group_engine::Engine;
 use rt_base::NoMemory;
 use rt_task::Setup;
 use std::alloc::Global;
+use trace_text::PlayedGroup;
 
 /// How a chart is drawn.
 #[derive(Clone, Copy, Debug, PartialEq, Eq)]
@@ -40,7 +40,7 @@ fn text_in(
     axis: Axis,
     window: Window,
     setup: &Setup,
-    groups: &[Engine],
+    groups: &[PlayedGroup],
 ) -> Result<Vec<u8>, NoMemory>
     requires groups { AreGroupsOf setup.now groups.now }
     requires window { IsShown window }
@@ -57,7 +57,7 @@ fn text_in(
     }
 }
 
-/// The text of a chart of a setup and the histories of its groups, one engine for each group by rising number: by an axis, and in a
+/// The text of a chart of a setup and the histories of its groups, one for each group by rising number: by an axis, and in a
 /// window, or in one of all columns, but at most the first 400, where none is asked for. Each history is played again; memory is
 /// taken for the text, for the columns of the window, and for one group at a time.
 pub fn chart_text(
@@ -66,7 +66,7 @@ pub fn chart_text(
     axis: Axis,
     window: Option<Window>,
     setup: &Setup,
-    groups: &[Engine],
+    groups: &[PlayedGroup],
 ) -> Result<Vec<u8>, NoMemory>
     requires groups { AreGroupsOf setup.now groups.now }
     requires window { Fits window }

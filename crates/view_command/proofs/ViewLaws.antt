@@ -22,7 +22,7 @@ use Rattle.sim_commands.specs.Check.{WasNoTrace, WasTrace}
 use Rattle.sim_commands.proofs.CheckLaws.{can_check-told, can_check-unrefused, can_check-valid}
 use Rattle.view_command.specs.View.{IsViewOf, WasWithout, WasWrong}
 use Rattle.view_command.specs.ViewAnswers.{ViewAnswers}
-use Rattle.view_command.specs.Viewing.{IsTextOf, IsViewed, comes}
+use Rattle.view_command.specs.inside.Viewing.{IsTextOf, IsViewed, comes}
 use Rattle.view_command.specs.declared.ending.ViewEnd.{ViewEnd}
 use Rattle.view_command.specs.declared.ending.ViewEnd.TheVariants.{Ended, NoSuchEntry}
 use Rattle.view_command.specs.declared.views.View.{View}

@@ -1,7 +1,6 @@
 pub mod Words
-pub mod Windows
 pub mod Texts
 pub mod Ends
 pub mod View
 pub mod ViewAnswers
-pub mod Viewing
+pub mod inside

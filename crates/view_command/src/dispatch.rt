@@ -2,20 +2,19 @@
 ghost use Rattle.std.specs.Prelude.{◌≡◌, ◌≢◌, List, map, IfOk, Some};
 ghost use Rattle.rt_rules.specs.declared.history.Entry.{Entry};
 ghost use Rattle.rt_task.specs.Validity.{IsValid};
-ghost use Rattle.rt_fault.specs.Faults.{HasRisen};
 ghost use Rattle.trace_read.specs.Reads.{IsHeadOf};
 ghost use Rattle.trace_text.specs.Groups.{AreGroupsOf, histories};
 ghost use Rattle.trace_upgrade.specs.Said.{SaysPlays};
 ghost use Rattle.set_input.specs.Ends.{reading, writing};
-ghost use Rattle.view_command.specs.Windows.{Fits};
+ghost use Rattle.view_command.specs.Ends.{TellsFaults};
+ghost use Rattle.view_command.specs.inside.Windows.{Fits};
 ghost use Rattle.view_command.specs.ViewAnswers.{ViewAnswers};
-ghost use Rattle.view_command.specs.Viewing.{IsTextOf, IsViewed, comes};
+ghost use Rattle.view_command.specs.inside.Viewing.{IsTextOf, IsViewed, comes};
 ghost use Rattle.view_command.specs.Words as commands;
 
 use crate::ending::ViewEnd;
 use crate::views::View;
 use crate::words::view_of;
-use group_engine::Engine;
 use rt_base::NoMemory;
 use rt_fault::{Sink, Source, Status, put_all};
 use rt_task::Setup;
@@ -23,8 +22,9 @@ use sim_commands::read_trace_input;
 use std::alloc::Global;
 use trace_check::{Verdict, check_trace};
 use trace_read::{Trace, TraceHead};
+use trace_text::PlayedGroup;
 use trace_tools::{Bus, TraceTool};
-use trace_upgrade::engines_of;
+use trace_upgrade::groups_of;
 use view_charts::chart_text;
 use view_events::events_text;
 use view_tables::table_text;
@@ -35,7 +35,7 @@ fn text_of(
     alloc: Global,
     view: View,
     setup: &Setup,
-    groups: &[Engine],
+    groups: &[PlayedGroup],
 ) -> Result<Option<Vec<u8>>, NoMemory>
     requires groups { AreGroupsOf setup.now groups.now }
     requires fits { Fits view }
@@ -57,10 +57,10 @@ fn text_said(alloc: Global, view: View, trace: &Trace) -> Result<Option<Vec<u8>>
     ensures { IfOk result (λ o. (hs : List (List Entry)) → SaysPlays trace.now hs
         → IsTextOf view trace.now.setup hs o) }
 {
-    let Ok(engines) = engines_of(alloc, trace) else {
+    let Ok(groups) = groups_of(alloc, trace) else {
         return Err(NoMemory);
     };
-    let text = text_of(alloc, view, &trace.setup, engines.as_slice())?;
+    let text = text_of(alloc, view, &trace.setup, groups.as_slice())?;
     Ok(text)
 }
 
@@ -116,14 +116,8 @@ fn write_view<T: TraceTool, S: Source, K: Sink>(
         (reading S.left S.faults src.old src.new) (writing K.held K.faults out.old out.new) result }
     ensures unwritten { result ≢ ViewEnd.Ended Status.Ok → result ≢ ViewEnd.Ended Status.WriteFault
         → out.new ≡ out.old }
-    ensures read_fault { result ≡ ViewEnd.Ended Status.ReadFault →
-        HasRisen (S.faults src.old) (S.faults src.new) }
-    ensures no_read_fault { result ≢ ViewEnd.Ended Status.ReadFault
-        → S.faults src.new ≡ S.faults src.old }
-    ensures write_fault { result ≡ ViewEnd.Ended Status.WriteFault →
-        HasRisen (K.faults out.old) (K.faults out.new) }
-    ensures no_write_fault { result ≢ ViewEnd.Ended Status.WriteFault
-        → K.faults out.new ≡ K.faults out.old }
+    ensures faults { TellsFaults (reading S.left S.faults src.old src.new)
+        (writing K.held K.faults out.old out.new) result }
     ensures not_usage { result ≢ ViewEnd.Ended Status.Usage }
 {
     let (bytes, head) = match read_trace_input(alloc, src) {
@@ -162,14 +156,8 @@ pub fn view<S: Source, K: Sink, T: TraceTool>(
         → out.new ≡ out.old }
 
     // A fault is answered exactly where a read or a write of this call failed.
-    ensures read_fault { result ≡ ViewEnd.Ended Status.ReadFault →
-        HasRisen (S.faults src.old) (S.faults src.new) }
-    ensures no_read_fault { result ≢ ViewEnd.Ended Status.ReadFault
-        → S.faults src.new ≡ S.faults src.old }
-    ensures write_fault { result ≡ ViewEnd.Ended Status.WriteFault →
-        HasRisen (K.faults out.old) (K.faults out.new) }
-    ensures no_write_fault { result ≢ ViewEnd.Ended Status.WriteFault
-        → K.faults out.new ≡ K.faults out.old }
+    ensures faults { TellsFaults (reading S.left S.faults src.old src.new)
+        (writing K.held K.faults out.old out.new) result }
 
     // What each command answers, and what it read and wrote.
     ensures view { (view : View) → commands.Names words.now view

@@ -1,6 +1,6 @@
 //! The words of a command line, after the program's name.
 ghost use Rattle.std.specs.Prelude.{◌≡◌, ◌≢◌, ◌<◌, ◌^◌, ℕ, MatchOption, decimal};
-ghost use Rattle.view_command.specs.Windows.{FitsIfAny};
+ghost use Rattle.view_command.specs.inside.Windows.{FitsIfAny};
 ghost use Rattle.view_command.specs.Words.{IsDecimal};
 ghost use Rattle.view_command.specs.Words as commands;
 

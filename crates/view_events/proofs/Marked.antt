@@ -19,7 +19,7 @@ use Rattle.event_lines.specs.Shown.{job_marks_shown}
 use Rattle.event_lines.specs.Tracks.{GroupTracks, JobMarks, TaskTrack}
 use Rattle.event_lines.specs.TracksOf.{job_marks, task_track, tracks_of}
 use Rattle.span_feed.specs.Spanned.{unmarked}
-use Rattle.view_events.specs.JobMarks.{HasTaskOf, IsRowOf, due_by, with_marks}
+use Rattle.view_events.specs.inside.JobMarks.{HasTaskOf, IsRowOf, due_by, with_marks}
 use Rattle.view_events.proofs.Missed.{missed-is}
 
 -- what a line gives by a clock

@@ -10,7 +10,7 @@ use Rattle.rt_model.proofs.Steps.{done-step}
 use Rattle.trace_views.specs.JobMoves.{count_moves, last_clock, or_else}
 use Rattle.trace_views.specs.JobTimes.{deadline_of, end, kept, late, missed, outcome, outcome_by, under_way}
 use Rattle.trace_views.specs.Marks.{ended_by, is_missed}
-use Rattle.view_events.specs.JobMarks.{is_missed_by}
+use Rattle.view_events.specs.inside.JobMarks.{is_missed_by}
 
 now-grows : (e : Event) (past : Past) → now past ≤ now (e ∷ past)
 now-grows (Clock tick) past = grind arith

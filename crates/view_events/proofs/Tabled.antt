@@ -6,11 +6,11 @@ use Rattle.rt_model.specs.Group as groups
 use Rattle.rt_model.specs.Group.{Group}
 use Rattle.rt_model.specs.Past.{Past}
 use Rattle.block_counts.specs.declared.seen.Seen.{Seen}
-use Rattle.group_facts.proofs.KeptMoves.{task-range}
+use Rattle.group_jobs.proofs.KeptMoves.{task-range}
 use Rattle.job_views.specs.declared.table.JobTable.{JobTable}
 use Rattle.job_views.specs.Tables.{IsTableWith}
 use Rattle.view_tables.proofs.GroupTexts.{limits, task-there}
-use Rattle.view_events.specs.JobMarks.{AreJobsOf}
+use Rattle.view_events.specs.inside.JobMarks.{AreJobsOf}
 
 module _ (g : Group) (past : Past) (tasks : List Task) (v : JobTable) (clock : ℕ) (requests : List Seen) (are : AreJobsOf g past tasks v clock requests) (t : ℕ) (of_group : has t (groups.tasks g) ≡ true) where
   pub from-one : 1 ≤ t

@@ -1,2 +1,1 @@
-pub mod JobMarks
-pub mod Recordings
+pub mod inside

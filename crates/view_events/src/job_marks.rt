@@ -6,7 +6,7 @@ ghost use Rattle.job_views.specs.RowsShown.{outcome_shown, row_shown};
 ghost use Rattle.job_views.specs.Tables.{IsTableWith};
 ghost use Rattle.event_lines.specs.Shown.{due_shown, job_marks_shown};
 ghost use Rattle.event_lines.specs.TracksOf.{job_marks};
-ghost use Rattle.view_events.specs.JobMarks.{IsRowOf, due_by, is_missed_by, marks_listed};
+ghost use Rattle.view_events.specs.inside.JobMarks.{IsRowOf, due_by, is_missed_by, marks_listed};
 
 use block_counts::Seen;
 use event_lines::{Due, JobMarks};

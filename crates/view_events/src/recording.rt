@@ -5,9 +5,9 @@ ghost use Rattle.rt_task.specs.Validity.{IsValid};
 ghost use Rattle.rt_model.specs.Histories.{after, past_from, past_of};
 ghost use Rattle.rt_model.specs.Past.{Past};
 ghost use Rattle.rt_model.specs.Steps.{IsStepOf};
-ghost use Rattle.rt_groups.specs.Groups.{AreStepsOf, IsGroupOf};
+ghost use Rattle.rt_plays.specs.Groups.{AreStepsOf, IsGroupOf};
 ghost use Rattle.rt_plays.specs.Plays.{group_with};
-ghost use Rattle.view_events.specs.Recordings.{IsMoved, IsRecorded, group_of, spare};
+ghost use Rattle.view_events.specs.inside.Recordings.{IsMoved, IsRecorded, group_of, spare};
 
 use job_views::JobTable;
 use rt_base::{GroupNo, NoMemory, Tick};

@@ -1,6 +1,6 @@
 //! The text of trace events.
 ghost use Rattle.std.specs.Prelude.{◌≡◌, IfOk, map};
-ghost use Rattle.rt_groups.specs.Groups.{IsGroupOf, group_of, past};
+ghost use Rattle.rt_plays.specs.Groups.{IsGroupOf, group_of, past};
 ghost use Rattle.chart_texts.specs.Charts.{pasts_from};
 ghost use Rattle.event_lines.specs.Shown.{group_tracks_shown};
 ghost use Rattle.event_lines.specs.TrackLaws.{tracks_of_groups};
@@ -10,17 +10,17 @@ ghost use Rattle.trace_text.specs.Groups.{AreGroupsOf, histories};
 
 use crate::tracks::tracks_after;
 use event_lines::GroupTracks;
-use group_engine::Engine;
 use rt_base::{GroupNo, NoMemory};
 use rt_task::Setup;
 use std::alloc::Global;
+use trace_text::PlayedGroup;
 
 /// The tracks of a group, whose history is played again.
 fn tracks_again(
     alloc: Global,
     setup: &Setup,
     number: GroupNo,
-    group: &Engine,
+    group: &PlayedGroup,
 ) -> Result<GroupTracks, NoMemory>
     requires there { IsGroupOf setup.now number.0 }
     requires setup { group.now.setup ≡ setup.now }
@@ -35,7 +35,7 @@ fn tracks_again(
 fn tracks_of_all(
     alloc: Global,
     setup: &Setup,
-    groups: &[Engine],
+    groups: &[PlayedGroup],
 ) -> Result<Vec<GroupTracks>, NoMemory>
     requires { AreGroupsOf setup.now groups.now }
     ensures { IfOk result (λ v. map group_tracks_shown v.items
@@ -50,10 +50,14 @@ fn tracks_of_all(
     Ok(tracks)
 }
 
-/// The text of the trace events of a setup and the histories of its groups, one engine for each group by rising number, as JSON for
+/// The text of the trace events of a setup and the histories of its groups, one for each group by rising number, as JSON for
 /// viewers of such events. Each history is played again; memory is taken for the text and for the spans and jobs of all groups, and
 /// for the requests of one group at a time.
-pub fn events_text(alloc: Global, setup: &Setup, groups: &[Engine]) -> Result<Vec<u8>, NoMemory>
+pub fn events_text(
+    alloc: Global,
+    setup: &Setup,
+    groups: &[PlayedGroup],
+) -> Result<Vec<u8>, NoMemory>
     requires { AreGroupsOf setup.now groups.now }
     ensures { IfOk result
         (λ v. v.items ≡ event_text (pasts_from setup.now 0 (histories groups.now))) }

@@ -4,11 +4,11 @@ ghost use Rattle.rt_model.specs.Group.{Group};
 ghost use Rattle.rt_model.specs.Histories.{past_of};
 ghost use Rattle.rt_model.specs.Past.{Past};
 ghost use Rattle.rt_base.specs.declared.TheConstants.{MOST_STEPS};
-ghost use Rattle.rt_groups.specs.Groups.{AreStepsOf, IsGroupOf};
+ghost use Rattle.rt_plays.specs.Groups.{AreStepsOf, IsGroupOf};
 ghost use Rattle.rt_plays.specs.Plays.{group_with};
 ghost use Rattle.event_lines.specs.Shown.{group_tracks_shown, task_track_shown};
 ghost use Rattle.event_lines.specs.TracksOf.{tracks_of};
-ghost use Rattle.view_events.specs.JobMarks.{AreJobsOf, HasTaskOf, with_marks};
+ghost use Rattle.view_events.specs.inside.JobMarks.{AreJobsOf, HasTaskOf, with_marks};
 
 use crate::job_marks::marks_of_jobs;
 use crate::recording::Recording;

@@ -17,10 +17,10 @@ use Rattle.rt_model.specs.Outcomes.{past_act}
 use Rattle.rt_model.specs.Past.{Acted, Clock, Event, Past}
 use Rattle.rt_model.specs.Reachable.{IsReachable, acted, clocked, opened}
 use Rattle.rt_model.proofs.AnswerLaws.{answer-runs_link, to_run}
-use Rattle.rt_groups.proofs.SetLimits.{sets_are_in_limits}
-use Rattle.rt_laws.proofs.LinkedTasks.{IsLinked, linked-eligible}
+use Rattle.rt_plays.proofs.SetLimits.{sets_are_in_limits}
+use Rattle.rt_laws.proofs.links.LinkedTasks.{IsLinked, linked-eligible}
 use Rattle.rt_laws.proofs.Moves.{IsMove, clock_moves, cpu_acts}
-use Rattle.rt_laws.proofs.SemaphoreLaws.{histories_are_made}
+use Rattle.rt_laws.proofs.semaphores.SemaphoreLaws.{histories_are_made}
 use Rattle.rt_laws.proofs.ValidSets.{task-numbered}
 use Rattle.trace_text.specs.CountLines.{shown_as, shown_entries}
 use Rattle.trace_tools.specs.Entries as tools

@@ -21,12 +21,12 @@ use Rattle.rt_model.specs.Past as pasts
 use Rattle.rt_model.specs.Reachable.{IsReachable}
 use Rattle.rt_model.specs.Releases.{deadline}
 use Rattle.rt_model.specs.Runs.{runs}
-use Rattle.rt_groups.specs.Endings.{ended_in}
+use Rattle.rt_plays.specs.Endings.{ended_in}
 use Rattle.rt_model.proofs.Steps.{past_act-task}
 use Rattle.rt_laws.proofs.Moves.{IsMove, clock_moves, cpu_acts}
 use Rattle.rt_laws.proofs.Rules.{MeetsRules}
-use Rattle.rt_laws.proofs.Running.{IsRunning, ended-runs, running}
-use Rattle.rt_laws.proofs.SemaphoreLaws.{histories_are_made}
+use Rattle.rt_laws.proofs.jobs.Running.{IsRunning, ended-runs, running}
+use Rattle.rt_laws.proofs.semaphores.SemaphoreLaws.{histories_are_made}
 use Rattle.rt_laws.proofs.ValidSets.{rules_of}
 use Rattle.trace_text.specs.CountLines.{ended_late, ended_task, shown_entries}
 use Rattle.trace_tools.specs.Entries as tools

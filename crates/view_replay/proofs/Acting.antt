@@ -14,11 +14,11 @@ use Rattle.rt_model.specs.Past.{Acted, Past, PastAct}
 use Rattle.rt_model.specs.Runs.{runs}
 use Rattle.rt_model.specs.Steps.{IsStepOf}
 use Rattle.rt_model.proofs.Steps.{reply_to-lem}
-use Rattle.rt_groups.specs.Endings.{ended_last}
-use Rattle.count_laws.specs.CountLaws.{act_of}
-use Rattle.count_laws.specs.Tallies.{AreWaiters, Waiter, act_by}
+use Rattle.rt_plays.specs.Endings.{ended_last}
+use Rattle.rt_changes.specs.CountLaws.{act_of}
+use Rattle.rt_changes.specs.Tallies.{AreWaiters, Waiter, act_by}
 use Rattle.block_counts.specs.GroupRequests.{IsBetween, NamesKnown}
-use Rattle.group_core.specs.Listing.{AreListed, AreWaitersAt, Moment}
+use Rattle.group_core.specs.Listing.{AreListed, AreWaitersAt, GroupAt}
 use Rattle.trace_text.proofs.BlockLines.{names-known}
 use Rattle.view_replay.specs.declared.replay.Replay.{Replay}
 use Rattle.view_replay.specs.Replays.{IsMoved, ended_number, group_of}
@@ -33,7 +33,7 @@ module _ (v : Replay) (step : Step) (past : Past) (moved : IsMoved v step.tick.0
       let known : NamesKnown g.setup step.act o = subst (NamesKnown g.setup step.act) (sym is) (names-known g step.cpu.0 step.act moved.whole.valid moved.ranked.core_at.reachable of.act) in
       subst (λ (p : Parts). NamesKnown p step.act o) (sym (ap (λ (x : Group). x.setup) moved.whole.group_is)) known
 
-  abbrev between : Moment
+  abbrev between : GroupAt
   between = record { group = g; past = clock_moved step past }
 
   -- the reply, what runs and who waits are as the definitions have it

@@ -15,10 +15,10 @@ use Rattle.rt_model.specs.Group.{Group, cluster, home, in_group, no_cluster, no_
 use Rattle.rt_model.specs.Group as groups
 use Rattle.rt_model.specs.Past.{Past, now}
 use Rattle.rt_model.specs.Histories.{past_of}
-use Rattle.rt_groups.specs.Groups.{GroupHistory, past}
-use Rattle.rt_groups.specs.Groups as made
-use Rattle.rt_groups.specs.Limits.{IsTaskInLimits}
-use Rattle.rt_groups.proofs.SetLimits.{sets_are_in_limits}
+use Rattle.rt_plays.specs.Groups.{GroupHistory, past}
+use Rattle.rt_plays.specs.Groups as made
+use Rattle.rt_plays.specs.Limits.{IsTaskInLimits}
+use Rattle.rt_plays.proofs.SetLimits.{sets_are_in_limits}
 use Rattle.trace_views.specs.JobRows.{JobRow, job_row, job_rows, listed, rows_of}
 use Rattle.trace_views.specs.TaskRows.{TaskRow, task_row, task_rows}
 use Rattle.table_texts.specs.Fields.{line_of, of_groups}
@@ -32,7 +32,7 @@ use Rattle.job_views.specs.Tables.{IsTableOf}
 use Rattle.view_tables.specs.declared.played.Played.{Played}
 use Rattle.view_tables.specs.declared.tables.Table.{Table}
 use Rattle.view_tables.specs.declared.tables.Table.TheVariants.{Jobs, Tasks}
-use Rattle.view_tables.specs.Playing.{HasTask, IsPlayed, group_of}
+use Rattle.view_tables.specs.inside.Playing.{HasTask, IsPlayed, group_of}
 use Rattle.view_tables.specs.Texts.{columns, group_text, is_of, table_text, task_text}
 
 -- ---- the tasks so far

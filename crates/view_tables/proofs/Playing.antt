@@ -7,7 +7,7 @@ use Rattle.rt_model.specs.Outcomes.{past_act}
 use Rattle.rt_model.specs.Past.{Acted, Clock, Past, PastAct, now}
 use Rattle.rt_model.specs.Steps.{IsStepOf}
 use Rattle.rt_model.proofs.Steps.{after-acted, past_act-cpu}
-use Rattle.rt_groups.proofs.GroupLimits.{processor-low}
+use Rattle.rt_plays.proofs.GroupLimits.{processor-low}
 use Rattle.job_facts.specs.Workers.{worker}
 use Rattle.job_facts.proofs.Jobs.{jobs_are_kept}
 use Rattle.job_views.specs.declared.table.JobTable.{JobTable}

@@ -2,7 +2,7 @@
 ghost use Rattle.std.specs.Prelude.{◌≡◌, ◌++◌, ◌<◌, OnOk, length};
 ghost use Rattle.rt_plays.specs.Plays.{group_with};
 ghost use Rattle.rt_model.specs.Past.{Past};
-ghost use Rattle.view_tables.specs.Playing.{HasTask, IsPlayed, group_of};
+ghost use Rattle.view_tables.specs.inside.Playing.{HasTask, IsPlayed, group_of};
 ghost use Rattle.view_tables.specs.Texts.{group_text, is_of, task_text};
 
 use crate::lines::{put_job, put_task};

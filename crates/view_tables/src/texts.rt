@@ -1,16 +1,16 @@
 //! The text of a table.
 ghost use Rattle.std.specs.Prelude.{◌≡◌, ◌++◌, IfOk, OnOk};
-ghost use Rattle.rt_groups.specs.Groups.{IsGroupOf, group_of, past};
+ghost use Rattle.rt_plays.specs.Groups.{IsGroupOf, group_of, past};
 ghost use Rattle.trace_text.specs.Groups.{AreGroupsOf, histories};
 ghost use Rattle.view_tables.specs.Texts as texts;
 ghost use Rattle.view_tables.specs.Texts.{columns, group_text};
 
 use crate::played::Played;
 use crate::tables::{Table, put_group};
-use group_engine::Engine;
 use rt_base::{GroupNo, NoMemory};
 use rt_task::Setup;
 use std::alloc::Global;
+use trace_text::PlayedGroup;
 
 const JOB_COLUMNS: &[u8] =
     b"task,job,release,deadline,start,finish,end,outcome,units,response,lateness,preemptions,migrations,moves,requests,queued,ends,ends_all\n";
@@ -35,7 +35,7 @@ fn put_played(
     table: Table,
     setup: &Setup,
     number: GroupNo,
-    group: &Engine,
+    group: &PlayedGroup,
 ) -> Result<(), NoMemory>
     requires there { IsGroupOf setup.now number.0 }
     requires setup { group.now.setup ≡ setup.now }
@@ -47,13 +47,13 @@ fn put_played(
     put_group(text, table, setup, number, &played)
 }
 
-/// The text of a table of a setup and the histories of its groups, one engine for each group by rising number. Each history is
+/// The text of a table of a setup and the histories of its groups, one for each group by rising number. Each history is
 /// played again; memory is taken for the text, and for the jobs and requests of one group at a time.
 pub fn table_text(
     alloc: Global,
     table: Table,
     setup: &Setup,
-    groups: &[Engine],
+    groups: &[PlayedGroup],
 ) -> Result<Vec<u8>, NoMemory>
     requires { AreGroupsOf setup.now groups.now }
     ensures { IfOk result

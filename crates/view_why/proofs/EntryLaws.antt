@@ -18,9 +18,9 @@ use Rattle.rt_model.specs.Links.{linked}
 use Rattle.rt_model.specs.Outcomes.{ended, past_act}
 use Rattle.rt_model.specs.Past.{Past}
 use Rattle.rt_model.specs.Reachable.{IsReachable}
-use Rattle.rt_groups.specs.Groups.{GroupHistory}
-use Rattle.rt_groups.specs.Groups as made
-use Rattle.rt_laws.proofs.Running.{ended-runs, running}
+use Rattle.rt_plays.specs.Groups.{GroupHistory}
+use Rattle.rt_plays.specs.Groups as made
+use Rattle.rt_laws.proofs.jobs.Running.{ended-runs, running}
 use Rattle.rt_laws.proofs.ValidSets.{rules_of}
 use Rattle.rank_afresh.proofs.SetLists.{cut, cut-all}
 use Rattle.trace_lines.specs.declared.links.CpuLink.{CpuLink}
@@ -31,8 +31,8 @@ use Rattle.trace_text.specs.TraceText.{links_at}
 use Rattle.why_texts.specs.Pieces.{line}
 use Rattle.why_texts.specs.Sentences.{sentence}
 use Rattle.why_texts.specs.WhyText.{ended_line, entry_text, explained, explained_of, link_line, ran_line, trace_line, why_text}
-use Rattle.view_why.specs.LinkLines.{line_of, lines_of}
-use Rattle.view_why.specs.Parts.{act_lines, link_lines, states_lines}
+use Rattle.view_why.specs.inside.LinkLines.{line_of, lines_of}
+use Rattle.view_why.specs.inside.Parts.{act_lines, link_lines, states_lines}
 
 module _ (g : Group) (step : Step) (past : Past) (t : ℕ) (ends : Some t ≡ (past_act g step.cpu.0 step.act (clock_moved step past)).ended) where
   ends-it : is t (past_act g step.cpu.0 step.act (clock_moved step past)).ended ≡ true

@@ -1,3 +1,1 @@
-pub mod Groups
-pub mod LinkLines
-pub mod Parts
+pub mod inside

@@ -9,8 +9,8 @@ ghost use Rattle.trace_lines.specs.Lines.{links_of};
 ghost use Rattle.trace_text.specs.TraceText.{links_at};
 ghost use Rattle.view_replay.specs.Replays as replays;
 ghost use Rattle.why_texts.specs.WhyText.{ended_line, entry_text, trace_line};
-ghost use Rattle.view_why.specs.Groups.{AreMembers, group_of};
-ghost use Rattle.view_why.specs.Parts.{AreNotes, act_lines, link_lines, states_lines};
+ghost use Rattle.view_why.specs.inside.Groups.{AreMembers, group_of};
+ghost use Rattle.view_why.specs.inside.Parts.{AreNotes, act_lines, link_lines, states_lines};
 
 use crate::links::{put_links, read_links};
 use crate::members::{Members, state_of};

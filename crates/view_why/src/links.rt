@@ -8,7 +8,7 @@ ghost use Rattle.trace_lines.specs.Lines.{links_of};
 ghost use Rattle.trace_text.specs.Groups.{cpu_numbers};
 ghost use Rattle.trace_text.specs.TraceText.{links_at};
 ghost use Rattle.why_lines.specs.GroupSets.{group_in};
-ghost use Rattle.view_why.specs.LinkLines.{lines_of};
+ghost use Rattle.view_why.specs.inside.LinkLines.{lines_of};
 
 use rank_afresh::Afresh;
 use rt_base::{CpuNo, NoMemory};

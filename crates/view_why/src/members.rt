@@ -5,7 +5,7 @@ ghost use Rattle.rt_plays.specs.Plays.{group_with};
 ghost use Rattle.view_replay.specs.Replays as replays;
 ghost use Rattle.why_states.specs.States as states;
 ghost use Rattle.why_lines.specs.GroupSets.{group_in};
-ghost use Rattle.view_why.specs.Groups.{AreMembers, group_of};
+ghost use Rattle.view_why.specs.inside.Groups.{AreMembers, group_of};
 
 use rt_base::{CpuNo, GroupNo, NoMemory, ResvNo, SemNo, TaskNo};
 use rt_task::Setup;

@@ -6,8 +6,8 @@ ghost use Rattle.rt_model.specs.Steps.{IsStepOf};
 ghost use Rattle.view_replay.specs.Replays as replays;
 ghost use Rattle.why_states.specs.States as states;
 ghost use Rattle.why_texts.specs.StateText.{state_text};
-ghost use Rattle.view_why.specs.Groups.{AreMembers, group_of};
-ghost use Rattle.view_why.specs.Parts.{AreNotes};
+ghost use Rattle.view_why.specs.inside.Groups.{AreMembers, group_of};
+ghost use Rattle.view_why.specs.inside.Parts.{AreNotes};
 
 use crate::links::read_links;
 use crate::members::{Members, state_of};

@@ -4,7 +4,7 @@ ghost use Rattle.rt_base.specs.declared.TheConstants.{MOST_STEPS};
 ghost use Rattle.rt_model.specs.Histories.{after, past_from, past_of};
 ghost use Rattle.rt_model.specs.Past.{Past};
 ghost use Rattle.rt_model.specs.Steps.{IsStepOf};
-ghost use Rattle.rt_groups.specs.Groups.{AreStepsOf, IsGroupOf};
+ghost use Rattle.rt_plays.specs.Groups.{AreStepsOf, IsGroupOf};
 ghost use Rattle.rt_plays.specs.Plays.{group_with};
 ghost use Rattle.view_replay.specs.Replays.{IsAt, group_of, spare};
 

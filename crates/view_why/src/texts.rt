@@ -3,7 +3,7 @@ ghost use Rattle.std.specs.Prelude.{◌≡◌, ◌<◌, IfOk, length, option_map
 ghost use Rattle.rt_base.specs.declared.TheConstants.{MOST_STEPS};
 ghost use Rattle.rt_model.specs.Histories.{past_of};
 ghost use Rattle.rt_model.specs.Steps.{IsStepOf};
-ghost use Rattle.rt_groups.specs.Groups.{AreStepsOf, IsGroupOf, group_of};
+ghost use Rattle.rt_plays.specs.Groups.{AreStepsOf, IsGroupOf, group_of};
 ghost use Rattle.rt_plays.specs.Plays.{group_with};
 ghost use Rattle.trace_text.specs.Groups.{AreGroupsOf, histories};
 ghost use Rattle.why_texts.specs.WhyText as texts;
@@ -12,11 +12,11 @@ use crate::entries::text_of;
 use crate::members::Members;
 use crate::noted::take_noting;
 use crate::replayed::replayed;
-use group_engine::Engine;
 use rt_base::{GroupNo, NoMemory};
 use rt_rules::Entry;
 use rt_task::Setup;
 use std::alloc::Global;
+use trace_text::PlayedGroup;
 
 /// The text of an entry with its number, behind the entries before it.
 fn entry_text(
@@ -45,7 +45,7 @@ fn explained(
     alloc: Global,
     setup: &Setup,
     number: GroupNo,
-    group: &Engine,
+    group: &PlayedGroup,
     entry: u64,
 ) -> Result<Option<Vec<u8>>, NoMemory>
     requires there { IsGroupOf setup.now number.0 }
@@ -66,7 +66,7 @@ fn explained(
     Ok(Some(text))
 }
 
-/// The text that explains an entry of a group of a setup, both by number from 0, with the histories of the groups, one engine for each
+/// The text that explains an entry of a group of a setup, both by number from 0, with the histories of the groups, one for each
 /// by rising number; none exactly where there is no such group or entry. The entries before it are played again; memory is taken for
 /// the text, and for that group.
 pub fn why_text(
@@ -74,7 +74,7 @@ pub fn why_text(
     group: u64,
     entry: u64,
     setup: &Setup,
-    groups: &[Engine],
+    groups: &[PlayedGroup],
 ) -> Result<Option<Vec<u8>>, NoMemory>
     requires { AreGroupsOf setup.now groups.now }
     ensures { IfOk result (λ o. option_map (λ v. v.items) o

@@ -19,18 +19,18 @@ use Rattle.rt_model.specs.Group.{Group, clusters, home, in_group, protocol, resv
 use Rattle.rt_model.specs.Jobs.{done}
 use Rattle.rt_model.specs.Past.{Past, now}
 use Rattle.rt_model.specs.Releases.{has_come, is_released, opens_early, release}
-use Rattle.rt_groups.specs.Limits.{IsTaskInLimits}
-use Rattle.rt_groups.specs.Places.{IsHomeTask}
-use Rattle.rt_groups.proofs.GroupPlaces.{tasks_are_at_home}
-use Rattle.rt_groups.proofs.SetLimits.{sets_are_in_limits}
-use Rattle.rt_laws.proofs.BlockedOnce.{pcp-plugin}
+use Rattle.rt_plays.specs.Limits.{IsTaskInLimits}
+use Rattle.rt_plays.specs.Places.{IsHomeTask}
+use Rattle.rt_plays.proofs.GroupPlaces.{tasks_are_at_home}
+use Rattle.rt_plays.proofs.SetLimits.{sets_are_in_limits}
+use Rattle.rt_laws.proofs.pcp.BlockedOnce.{pcp-plugin}
 use Rattle.rt_laws.proofs.ValidSets.{rules_of}
 use Rattle.chart_texts.specs.Charts.{group_resvs}
-use Rattle.resv_laws.proofs.ValidClients.{tied}
+use Rattle.resv_core.proofs.ValidClients.{tied}
 use Rattle.why_texts.specs.Pieces.{key_piece}
 use Rattle.why_texts.specs.SemLines.{ceiling_piece, declared_sems}
 use Rattle.why_lines.specs.Ceilings.{ceiling_shown}
-use Rattle.why_states.specs.Keys.{highest_of, key_of_priority}
+use Rattle.why_states.specs.inside.Keys.{highest_of, key_of_priority}
 
 -- a declared semaphore is one of the group's
 pub declared-sem : (g : Group) (s : ℕ) → has s (declared_sems g) ≡ true → has s (sems g) ≡ true

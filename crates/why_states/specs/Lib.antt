@@ -1,3 +1,2 @@
 pub mod States
-pub mod Keys
-pub mod Unserved
+pub mod inside

@@ -6,7 +6,7 @@ ghost use Rattle.rt_model.specs.Ceilings as ceilings;
 ghost use Rattle.rt_model.specs.Group as groups;
 ghost use Rattle.rt_task.specs.declared.PluginKind.TheVariants as plugins;
 ghost use Rattle.why_lines.specs.GroupSets.{group_in};
-ghost use Rattle.why_states.specs.Keys.{highest_of, key_of_priority};
+ghost use Rattle.why_states.specs.inside.Keys.{highest_of, key_of_priority};
 
 use crate::declared::declares;
 use rt_base::{SemNo, TaskNo};

@@ -7,7 +7,7 @@ ghost use Rattle.rt_model.specs.Group.{Group, protocol, sems, tasks};
 ghost use Rattle.rt_model.specs.Past.{Past};
 ghost use Rattle.why_texts.specs.Standings.{kept_back, ready_standing, standing, waiting_standing, waiting_words, with_piece};
 ghost use Rattle.why_lines.specs.GroupSets.{group_in};
-ghost use Rattle.why_states.specs.Unserved.{unserved_piece};
+ghost use Rattle.why_states.specs.inside.Unserved.{unserved_piece};
 ghost use Rattle.why_states.specs.States.{IsAt, group_of};
 
 use crate::others::highest_of_others;

@@ -7,8 +7,4 @@ pub mod Standings
 pub mod TaskLines
 pub mod StateText
 pub mod WhyText
-pub mod Computed
-pub mod WorkedLocks
-pub mod WorkedJobs
-pub mod WorkedGroups
-pub mod WorkedLines
+pub mod worked

@@ -2,8 +2,8 @@
 ghost use Rattle.std.specs.Prelude.{◌≡◌};
 ghost use Rattle.rt_base.specs.TaskNos.{number_of_task};
 ghost use Rattle.sem_table.specs.Told.{waits_for_of};
-ghost use Rattle.group_facts.specs.Kept.{job_of};
-ghost use Rattle.group_facts.specs.Words as words;
+ghost use Rattle.group_jobs.specs.Kept.{job_of};
+ghost use Rattle.group_jobs.specs.Words as words;
 ghost use Rattle.group_jobs.specs.GroupJobs.{IsTaskOf, task_in};
 
 use super::GroupCore;

@@ -4,8 +4,8 @@ ghost use Rattle.rt_base.specs.declared.Tick as ticks;
 ghost use Rattle.rt_base.specs.declared.TheConstants.{MOST_STEPS};
 ghost use Rattle.resv_core.specs.Served.{IsFront, IsResv, has_ready, last_of, left_of, server};
 ghost use Rattle.sem_table.specs.Told.{held_of};
-ghost use Rattle.group_facts.specs.Kept.{job_of};
-ghost use Rattle.group_facts.specs.Words as words;
+ghost use Rattle.group_jobs.specs.Kept.{job_of};
+ghost use Rattle.group_jobs.specs.Words as words;
 ghost use Rattle.group_jobs.specs.GroupJobs.{IsTaskOf, task_in};
 ghost use Rattle.group_core.specs.Reads.{CanRead, base_in};
 

@@ -1,8 +1,8 @@
 //! Whether a task that waits is priority-blocked.
 ghost use Rattle.std.specs.Prelude.{◌≡◌, ◌<◌, ℕ, length, slice_index_or};
 ghost use Rattle.rt_model.specs.Group.{no_task};
-ghost use Rattle.group_core.specs.Blocked as words;
-ghost use Rattle.group_core.specs.Blocked.{CanRank, CanRankTask};
+ghost use Rattle.group_core.specs.inside.Blocked as words;
+ghost use Rattle.group_core.specs.inside.Blocked.{CanRank, CanRankTask};
 
 use group_jobs::GroupJobs;
 use rt_base::{ClusterNo, TaskNo};

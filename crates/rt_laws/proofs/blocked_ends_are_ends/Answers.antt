@@ -1,4 +1,4 @@
-use Rattle.rt_laws.proofs.Bounds as laws
+use Rattle.rt_laws.proofs.semaphores.Bounds as laws
 use Rattle.rt_laws.proofs.blocked_ends_are_ends.Goals as goal
 
 pub returns : goal.returns

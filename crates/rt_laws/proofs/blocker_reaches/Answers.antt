@@ -1,4 +1,4 @@
-use Rattle.rt_laws.proofs.BlockedMoves as laws
+use Rattle.rt_laws.proofs.pcp.BlockedMoves as laws
 use Rattle.rt_laws.proofs.blocker_reaches.Goals as goal
 
 pub returns : goal.returns

@@ -1,4 +1,4 @@
-use Rattle.rt_laws.proofs.BoostedHolders as laws
+use Rattle.rt_laws.proofs.mpcp.BoostedHolders as laws
 use Rattle.rt_laws.proofs.boosted_is_linked.Goals as goal
 
 pub returns : goal.returns

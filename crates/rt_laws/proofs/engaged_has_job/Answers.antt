@@ -1,4 +1,4 @@
-use Rattle.rt_laws.proofs.SemaphoreLaws as laws
+use Rattle.rt_laws.proofs.semaphores.SemaphoreLaws as laws
 use Rattle.rt_laws.proofs.engaged_has_job.Goals as goal
 
 pub returns : goal.returns

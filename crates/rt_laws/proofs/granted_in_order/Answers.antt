@@ -1,4 +1,4 @@
-use Rattle.rt_laws.proofs.InOrder as laws
+use Rattle.rt_laws.proofs.fmlp.InOrder as laws
 use Rattle.rt_laws.proofs.granted_in_order.Goals as goal
 
 pub returns : goal.returns

@@ -1,4 +1,4 @@
-use Rattle.rt_laws.proofs.BoostedHolders as laws
+use Rattle.rt_laws.proofs.mpcp.BoostedHolders as laws
 use Rattle.rt_laws.proofs.holder_is_boosted.Goals as goal
 
 pub returns : goal.returns

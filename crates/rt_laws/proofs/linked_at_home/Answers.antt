@@ -1,4 +1,4 @@
-use Rattle.rt_laws.proofs.Links as laws
+use Rattle.rt_laws.proofs.links.Links as laws
 use Rattle.rt_laws.proofs.linked_at_home.Goals as goal
 
 pub returns : goal.returns

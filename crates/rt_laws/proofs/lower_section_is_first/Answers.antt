@@ -1,4 +1,4 @@
-use Rattle.rt_laws.proofs.LowerSections as laws
+use Rattle.rt_laws.proofs.mpcp.LowerSections as laws
 use Rattle.rt_laws.proofs.lower_section_is_first.Goals as goal
 
 pub returns : goal.returns

@@ -1,4 +1,4 @@
-use Rattle.rt_laws.proofs.Witness as laws
+use Rattle.rt_laws.proofs.semaphores.Witness as laws
 use Rattle.rt_laws.proofs.omlp_bound_is_reached.Goals as goal
 
 pub returns : goal.returns

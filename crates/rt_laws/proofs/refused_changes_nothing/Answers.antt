@@ -1,4 +1,4 @@
-use Rattle.rt_laws.proofs.RefusedKeys as laws
+use Rattle.rt_laws.proofs.jobs.RefusedKeys as laws
 use Rattle.rt_laws.proofs.refused_changes_nothing.Goals as goal
 
 pub returns : goal.returns

@@ -1,4 +1,4 @@
-use Rattle.rt_laws.proofs.FrontClients as laws
+use Rattle.rt_laws.proofs.jobs.FrontClients as laws
 use Rattle.rt_laws.proofs.released_goes_first.Goals as goal
 
 pub returns : goal.returns

@@ -1,4 +1,4 @@
-use Rattle.rt_laws.proofs.Reached as laws
+use Rattle.rt_laws.proofs.semaphores.Reached as laws
 use Rattle.rt_laws.proofs.requests_stand_in_line.Goals as goal
 
 pub returns : goal.returns

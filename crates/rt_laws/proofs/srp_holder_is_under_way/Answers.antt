@@ -1,4 +1,4 @@
-use Rattle.rt_laws.proofs.SrpOnce as laws
+use Rattle.rt_laws.proofs.srp.SrpOnce as laws
 use Rattle.rt_laws.proofs.srp_holder_is_under_way.Goals as goal
 
 pub returns : goal.returns

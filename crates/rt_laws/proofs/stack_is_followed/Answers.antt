@@ -1,4 +1,4 @@
-use Rattle.rt_laws.proofs.SrpOnce as laws
+use Rattle.rt_laws.proofs.srp.SrpOnce as laws
 use Rattle.rt_laws.proofs.stack_is_followed.Goals as goal
 
 pub returns : goal.returns

@@ -1,4 +1,4 @@
-use Rattle.rt_laws.proofs.PriorityCeiling as laws
+use Rattle.rt_laws.proofs.pcp.PriorityCeiling as laws
 use Rattle.rt_laws.proofs.waiting_does_not_pass.Goals as goal
 
 pub returns : goal.returns

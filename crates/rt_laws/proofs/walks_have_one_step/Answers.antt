@@ -1,4 +1,4 @@
-use Rattle.rt_laws.proofs.PriorityCeiling as laws
+use Rattle.rt_laws.proofs.pcp.PriorityCeiling as laws
 use Rattle.rt_laws.proofs.walks_have_one_step.Goals as goal
 
 pub returns : goal.returns

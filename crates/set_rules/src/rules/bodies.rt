@@ -4,7 +4,7 @@ ghost use Rattle.std.specs.List.{list_any};
 ghost use Rattle.rt_base.specs.declared.SemNo.{SemNo};
 ghost use Rattle.rt_task.specs.Bodies.{at_release, Holding, without, is_newest, nests, after_op, goes_on};
 ghost use Rattle.rt_task.specs.Lookups.{is_stacked_sem};
-ghost use Rattle.set_rules.specs.NamesSeen.{has_number};
+ghost use Rattle.set_rules.specs.inside.NamesSeen.{has_number};
 ghost use Rattle.rt_task.specs.RuleWords as words;
 
 use super::seen::add_number;

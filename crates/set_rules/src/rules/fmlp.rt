@@ -3,7 +3,7 @@ ghost use Rattle.std.specs.Prelude.{◌≡◌, ◌&&◌, ◌||◌, ◌==◌, not
 ghost use Rattle.std.specs.List.{list_any};
 ghost use Rattle.rt_base.specs.declared.SemNo.{SemNo};
 ghost use Rattle.rt_task.specs.Lookups.{is_fmlp_sem};
-ghost use Rattle.set_rules.specs.NamesSeen.{has_number};
+ghost use Rattle.set_rules.specs.inside.NamesSeen.{has_number};
 ghost use Rattle.rt_task.specs.SharingRules.{has_fmlp_users};
 
 use rt_base::SemNo;

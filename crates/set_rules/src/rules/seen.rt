@@ -1,6 +1,6 @@
 //! Names and numbers met so far.
 ghost use Rattle.std.specs.Prelude.{◌≡◌, ◌||◌, ◌==◌, not, ℕ, List, IfOk, OnOk, bytes_eq};
-ghost use Rattle.set_rules.specs.NamesSeen.{has_name, has_number};
+ghost use Rattle.set_rules.specs.inside.NamesSeen.{has_name, has_number};
 
 use rt_task::Name;
 use std::alloc::AllocError;

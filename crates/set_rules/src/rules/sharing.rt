@@ -12,12 +12,12 @@ ghost use Rattle.rt_task.specs.Draft.{steps_of};
 ghost use Rattle.set_rules.specs.Ends.{ends_from};
 ghost use Rattle.rt_task.specs.Lookups as lookups;
 ghost use Rattle.rt_task.specs.RangeRules.{resv_range};
-ghost use Rattle.set_rules.specs.NamesSeen.{has_number};
+ghost use Rattle.set_rules.specs.inside.NamesSeen.{has_number};
 ghost use Rattle.rt_task.specs.Refusals.{each, first};
 ghost use Rattle.rt_task.specs.RuleWords as words;
 ghost use Rattle.rt_task.specs.SharingRules as rules;
-ghost use Rattle.set_rules.specs.Spreads.{spread_of};
-ghost use Rattle.set_rules.specs.Tables.{Knows, is_in_range};
+ghost use Rattle.set_rules.specs.inside.Spreads.{spread_of};
+ghost use Rattle.set_rules.specs.inside.Tables.{Knows, is_in_range};
 ghost use Rattle.rt_task.specs.Validity.{sharing_rows};
 
 use super::bodies::is_well_formed;

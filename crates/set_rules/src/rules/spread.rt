@@ -6,7 +6,7 @@ ghost use Rattle.rt_task.specs.declared.draft.Draft.{Draft};
 ghost use Rattle.rt_task.specs.Lookups as lookups;
 ghost use Rattle.rt_task.specs.RuleWords.{has};
 ghost use Rattle.rt_task.specs.SharingRules.{clusters_sharing};
-ghost use Rattle.set_rules.specs.Spreads.{spread_of, added};
+ghost use Rattle.set_rules.specs.inside.Spreads.{spread_of, added};
 
 use rt_base::SemNo;
 use rt_task::Draft;

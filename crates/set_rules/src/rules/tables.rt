@@ -4,7 +4,7 @@ ghost use Rattle.std.specs.List.{list_all};
 ghost use Rattle.rt_task.specs.declared.draft.DraftResv.{DraftResv};
 ghost use Rattle.rt_task.specs.SlotRules.{fit_together};
 ghost use Rattle.std.specs.HashMap as hash;
-ghost use Rattle.set_rules.specs.Tables as words;
+ghost use Rattle.set_rules.specs.inside.Tables as words;
 
 use rt_task::{DraftResv, ResvKind, Slot};
 use std::alloc::{AllocError, Global};

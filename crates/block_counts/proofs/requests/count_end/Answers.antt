@@ -4,7 +4,7 @@ use Rattle.std.specs.Prelude.{false, ℕ}
 use Rattle.rt_base.specs.declared.TheConstants.{MOST_STEPS}
 use Rattle.rt_rules.specs.Distinct.{IsDistinct}
 use Rattle.rt_rules.specs.Numbers.{has}
-use Rattle.count_laws.specs.Tallies.{Waiter, counted, waiter_tasks}
+use Rattle.rt_changes.specs.Tallies.{Waiter, counted, waiter_tasks}
 use Rattle.block_counts.specs.declared.seen.Waiting.{Waiting}
 use Rattle.block_counts.specs.Places.{IsFew, seen_one}
 use Rattle.block_counts.specs.SeenWords.{tallies_of, tally_of, waiter_of, waiters_of}

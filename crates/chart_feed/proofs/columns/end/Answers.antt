@@ -4,7 +4,7 @@ use Rattle.rank_afresh.specs.Standing.{group_of}
 use Rattle.chart_texts.specs.declared.window.Axis.{Axis}
 use Rattle.chart_texts.specs.Windows.{columns_in}
 use Rattle.chart_rows.specs.Rows.{rows_of}
-use Rattle.chart_feed.specs.Stands.{HasRows}
+use Rattle.chart_feed.specs.inside.Stands.{HasRows}
 use Rattle.chart_rows.specs.Strips.{blank, strip_of}
 use Rattle.chart_feed.specs.WindowStrips.{closed, open_at}
 use Rattle.chart_feed.proofs.Stepping.{finished-entries, finished-ticks}

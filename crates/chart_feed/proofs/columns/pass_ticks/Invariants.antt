@@ -1,6 +1,6 @@
 use Rattle.std.proofs.Common.{◌<◌, ◌≤◌, ℕ, max, min}
 use Rattle.rt_model.specs.Past.{Past}
-use Rattle.chart_feed.specs.Stands.{HasRows}
+use Rattle.chart_feed.specs.inside.Stands.{HasRows}
 use Rattle.chart_rows.specs.Strips.{blank}
 use Rattle.chart_feed.specs.WindowStrips.{closed_below}
 use Rattle.chart_feed.proofs.columns.pass_ticks.Given as goal

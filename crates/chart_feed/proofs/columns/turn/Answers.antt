@@ -4,7 +4,7 @@ use Rattle.rt_model.specs.Past.{Clock, Past}
 use Rattle.rank_afresh.specs.Standing.{group_of}
 use Rattle.chart_texts.specs.declared.window.Axis.{Axis}
 use Rattle.chart_rows.specs.Rows.{rows_of}
-use Rattle.chart_feed.specs.Stands.{HasRows}
+use Rattle.chart_feed.specs.inside.Stands.{HasRows}
 use Rattle.chart_feed.specs.WindowStrips.{closed, open_at, open_turned}
 use Rattle.chart_feed.proofs.Stepping.{turned-by-entries}
 use Rattle.chart_feed.proofs.columns.turn.Goals as goal

@@ -7,7 +7,7 @@ use Rattle.rt_model.specs.Releases.{arrivals}
 use Rattle.chart_texts.specs.Charts.{task_row_in}
 use Rattle.chart_cells.specs.Cells.{marked_shown}
 use Rattle.chart_feed.specs.Clocks.{ClocksKept}
-use Rattle.chart_feed.specs.Marked.{marked_in}
+use Rattle.chart_feed.specs.inside.Marked.{marked_in}
 use Rattle.chart_rows.specs.Rows.{TaskKept, ends_in}
 use Rattle.chart_rows.specs.Strips.{strip_of}
 use Rattle.chart_feed.specs.Times.{end_clocks}

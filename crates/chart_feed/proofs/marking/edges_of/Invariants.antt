@@ -1,7 +1,7 @@
 use Rattle.std.proofs.Common.{◌≡◌, ◌+◌, ◌<◌, ◌++◌, All, drop, map}
 use Rattle.rt_base.specs.declared.TheConstants.{TICK_END}
 use Rattle.chart_feed.specs.declared.times.Edges.{Edges}
-use Rattle.chart_feed.specs.Marked.{edges_shown}
+use Rattle.chart_feed.specs.inside.Marked.{edges_shown}
 use Rattle.chart_feed.specs.Times as seen
 use Rattle.chart_feed.proofs.marking.edges_of.Given as goal
 

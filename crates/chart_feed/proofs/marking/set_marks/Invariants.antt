@@ -1,6 +1,6 @@
 use Rattle.std.proofs.Common.{◌≡◌, ◌++◌, drop, map, take, length}
 use Rattle.chart_cells.specs.Cells.{marked_shown}
-use Rattle.chart_feed.specs.Marked.{edges_shown, marked_in}
+use Rattle.chart_feed.specs.inside.Marked.{edges_shown, marked_in}
 use Rattle.chart_feed.proofs.marking.set_marks.Given as goal
 
 -- those so far have their marks, and those of the rest are all of them

@@ -1,7 +1,7 @@
 use Rattle.std.proofs.Common.{◌≡◌, length, arith}
 use Rattle.chart_cells.specs.Charts.{resv_row_shown}
 use Rattle.chart_texts.specs.Charts.{resv_row_in}
-use Rattle.chart_feed.specs.Panels.{IsResvRow}
+use Rattle.chart_feed.specs.inside.Panels.{IsResvRow}
 use Rattle.chart_rows.specs.Rows.{ResvKept}
 use Rattle.chart_feed.proofs.Paneled.{made-all-of, made-more, made-none}
 use Rattle.chart_feed.proofs.panel.finish_resvs.Goals as goal

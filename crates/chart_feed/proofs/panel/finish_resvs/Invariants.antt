@@ -3,7 +3,7 @@ use Rattle.rt_model.specs.Group.{Group}
 use Rattle.trace_views.specs.Columns.{Column}
 use Rattle.chart_cells.specs.Charts.{resv_row_shown}
 use Rattle.chart_texts.specs.Charts.{resv_row_in}
-use Rattle.chart_feed.specs.Panels.{IsResvRow}
+use Rattle.chart_feed.specs.inside.Panels.{IsResvRow}
 use Rattle.chart_rows.specs.Rows.{ResvKept}
 use Rattle.chart_feed.proofs.Paneled.{AreMade}
 use Rattle.chart_feed.proofs.panel.finish_resvs.Given as goal

@@ -2,8 +2,8 @@ use Rattle.std.proofs.Common.{◌≡◌, length, arith, map}
 use Rattle.chart_cells.specs.Charts.{task_row_shown}
 use Rattle.chart_texts.specs.Charts.{task_row_in}
 use Rattle.chart_rows.specs.Rows.{TaskKept}
-use Rattle.chart_feed.specs.Marked.{edges_shown}
-use Rattle.chart_feed.specs.Panels.{IsTaskRow}
+use Rattle.chart_feed.specs.inside.Marked.{edges_shown}
+use Rattle.chart_feed.specs.inside.Panels.{IsTaskRow}
 use Rattle.chart_feed.proofs.Paneled.{made-all-of, made-more, made-next, made-none}
 use Rattle.chart_feed.proofs.panel.finish_tasks.Goals as goal
 

@@ -5,8 +5,8 @@ use Rattle.trace_views.specs.Columns.{Column}
 use Rattle.chart_cells.specs.Charts.{task_row_shown}
 use Rattle.chart_texts.specs.Charts.{task_row_in}
 use Rattle.chart_rows.specs.Rows.{TaskKept}
-use Rattle.chart_feed.specs.Marked.{edges_shown}
-use Rattle.chart_feed.specs.Panels.{IsTaskRow}
+use Rattle.chart_feed.specs.inside.Marked.{edges_shown}
+use Rattle.chart_feed.specs.inside.Panels.{IsTaskRow}
 use Rattle.chart_feed.proofs.Paneled.{AreMade}
 use Rattle.chart_feed.proofs.panel.finish_tasks.Given as goal
 

@@ -5,7 +5,7 @@ use Rattle.chart_cells.specs.Charts.{cpu_row_shown, resv_row_shown, task_row_sho
 use Rattle.chart_texts.specs.Charts.{CpuRow, ResvRow, TaskRow, cpu_row_in, group_resvs, panel_of, resv_row_in, task_row_in}
 use Rattle.chart_texts.specs.Windows.{columns_in}
 use Rattle.chart_rows.specs.Rows.{CpuKept, ResvKept, RowsKept, TaskKept}
-use Rattle.chart_feed.specs.Panels.{IsCpuRow, IsResvRow}
+use Rattle.chart_feed.specs.inside.Panels.{IsCpuRow, IsResvRow}
 use Rattle.chart_feed.proofs.Shown.{cpu-rows, cpus-shown, resv-rows, resvs-shown, same-rows, task-rows, tasks-shown}
 use Rattle.chart_feed.proofs.panel.panel_with.Goals as goal
 

@@ -4,7 +4,7 @@ use Rattle.rt_base.specs.declared.TheConstants.{TICK_END}
 use Rattle.rt_model.specs.Past.{now}
 use Rattle.chart_texts.specs.declared.window.Axis.{Axis}
 use Rattle.chart_texts.specs.Windows.{columns_in}
-use Rattle.chart_feed.specs.Panels.{AreColumns}
+use Rattle.chart_feed.specs.inside.Panels.{AreColumns}
 use Rattle.chart_feed.proofs.window_columns.columns_of.Goals as goal
 
 pub returns-in-Ticks : goal.returns-in-Ticks

@@ -2,7 +2,7 @@ use Rattle.std.proofs.Common.{◌∙◌, ap, refl, subst, sym}
 use Rattle.rt_base.specs.TaskNos.{number_of_task}
 use Rattle.rt_task.specs.Validity.{IsValid}
 use Rattle.rt_model.specs.Outcomes.{past_act}
-use Rattle.rt_laws.proofs.Running.{running}
+use Rattle.rt_laws.proofs.jobs.Running.{running}
 use Rattle.rt_laws.proofs.ValidSets.{rules_of}
 use Rattle.rank_afresh.specs.Standing.{group_of}
 use Rattle.chart_rows.specs.Foretold.{moment_of}

@@ -1,7 +1,7 @@
 use Rattle.std.proofs.Common.{◌∙◌, List, ℕ, [], ◌∷◌, ◌++◌, false, map, ap}
 use Rattle.trace_views.specs.Cells.{cell_away}
 use Rattle.chart_cells.specs.Kept.{finished}
-use Rattle.chart_rows.specs.Plays.{played_shown}
+use Rattle.chart_rows.specs.inside.Plays.{played_shown}
 use Rattle.chart_rows.specs.Rows.{TaskKept, running}
 use Rattle.chart_rows.proofs.loops.close_task.Goals as goal
 

@@ -1,5 +1,5 @@
 use Rattle.std.proofs.Common.{◌∙◌, map}
-use Rattle.chart_rows.specs.Plays.{played_shown}
+use Rattle.chart_rows.specs.inside.Plays.{played_shown}
 use Rattle.chart_rows.specs.Rows.{task_closed}
 use Rattle.chart_rows.proofs.Changed.{changed-all, changed-more}
 use Rattle.chart_rows.proofs.loops.close_tasks.Goals as goal

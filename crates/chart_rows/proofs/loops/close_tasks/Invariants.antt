@@ -1,6 +1,6 @@
 use Rattle.std.proofs.Common.{◌≡◌, map}
 use Rattle.rt_model.specs.Group.{Group}
-use Rattle.chart_rows.specs.Plays.{played_shown}
+use Rattle.chart_rows.specs.inside.Plays.{played_shown}
 use Rattle.chart_rows.specs.Rows as rows
 use Rattle.chart_rows.proofs.Changed.{changed}
 use Rattle.chart_rows.proofs.loops.close_tasks.Given as goal

@@ -1,7 +1,7 @@
 use Rattle.std.proofs.Common.{◌≡◌, map, take}
 use Rattle.rt_model.specs.Group.{Group}
 use Rattle.chart_cells.specs.Cells.{cpu_numbers}
-use Rattle.chart_rows.specs.Plays.{played_shown}
+use Rattle.chart_rows.specs.inside.Plays.{played_shown}
 use Rattle.chart_rows.specs.Rows as rows
 use Rattle.chart_rows.proofs.loops.running.Given as goal
 

@@ -1,7 +1,7 @@
 use Rattle.std.proofs.Common.{◌∙◌, map, sym, ap, subst}
 use Rattle.rt_plays.specs.Homes.{IsProcessorOf}
 use Rattle.rank_afresh.specs.Standing.{group_of}
-use Rattle.chart_rows.specs.Plays.{played_shown}
+use Rattle.chart_rows.specs.inside.Plays.{played_shown}
 use Rattle.chart_rows.specs.Rows.{CpuKept, played}
 use Rattle.chart_rows.proofs.Changed.{made-all}
 use Rattle.chart_rows.proofs.RowParts.{mapped-more}

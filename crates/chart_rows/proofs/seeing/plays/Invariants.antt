@@ -1,7 +1,7 @@
 use Rattle.std.proofs.Common.{◌≡◌, map, take}
 use Rattle.rt_model.specs.Past.{Past}
 use Rattle.rank_afresh.specs.Standing.{IsAt, group_of}
-use Rattle.chart_rows.specs.Plays.{played_shown}
+use Rattle.chart_rows.specs.inside.Plays.{played_shown}
 use Rattle.chart_rows.specs.Rows as rows
 use Rattle.chart_rows.proofs.seeing.plays.Given as goal
 

@@ -1,6 +1,6 @@
 use Rattle.std.proofs.Common.{◌≡◌, ◌<◌, ◌≤◌, length, get_or, sym, ap, ◌∙◌, subst, arith}
 use Rattle.std.proofs.lemmas.Grind.{get_or_default_zero}
-use Rattle.rt_groups.specs.Groups.{group_of, past}
+use Rattle.rt_plays.specs.Groups.{group_of, past}
 use Rattle.cpu_site.specs.Raises.{cpu_count, is_raised, IsSight}
 use Rattle.cpu_site.proofs.Numbering.{cpu-listed, cpu-read, cpus-read}
 use Rattle.cpu_site.proofs.Sighting.{counted-none, counted-one}

@@ -1,4 +1,4 @@
-use Rattle.rt_groups.specs.Groups.{group_of}
+use Rattle.rt_plays.specs.Groups.{group_of}
 use Rattle.cpu_site.proofs.Numbering.{cpu-listed}
 use Rattle.cpu_site.proofs.sights.look.Goals as goal
 

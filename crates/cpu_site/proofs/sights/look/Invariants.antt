@@ -1,4 +1,4 @@
-use Rattle.rt_groups.specs.Groups.{group_of, past}
+use Rattle.rt_plays.specs.Groups.{group_of, past}
 use Rattle.cpu_site.proofs.Sighting.{AreSeen}
 use Rattle.cpu_site.proofs.sights.look.Given as goal
 

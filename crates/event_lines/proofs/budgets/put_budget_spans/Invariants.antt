@@ -1,5 +1,5 @@
 use Rattle.std.proofs.Common.{◌≡◌, ◌++◌, map, drop}
-use Rattle.event_lines.specs.Commas.{with_commas}
+use Rattle.event_lines.specs.inside.Commas.{with_commas}
 use Rattle.event_lines.specs.Shown.{budget_span_shown}
 use Rattle.event_lines.specs.TrackEvents.{budget_event, some_group}
 use Rattle.event_lines.proofs.budgets.put_budget_spans.Given as goal

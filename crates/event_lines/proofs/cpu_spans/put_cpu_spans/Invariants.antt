@@ -1,5 +1,5 @@
 use Rattle.std.proofs.Common.{◌≡◌, ◌++◌, map, drop, flat_map}
-use Rattle.event_lines.specs.Commas.{with_commas}
+use Rattle.event_lines.specs.inside.Commas.{with_commas}
 use Rattle.event_lines.specs.Shown.{cpu_span_shown}
 use Rattle.event_lines.specs.TrackEvents.{cpu_span_events, some_group}
 use Rattle.event_lines.proofs.cpu_spans.put_cpu_spans.Given as goal

@@ -1,5 +1,5 @@
 use Rattle.std.proofs.Common.{◌≡◌, ◌++◌, map, drop, flat_map}
-use Rattle.event_lines.specs.Commas.{with_commas}
+use Rattle.event_lines.specs.inside.Commas.{with_commas}
 use Rattle.event_lines.specs.Shown.{group_tracks_shown}
 use Rattle.event_lines.specs.TrackEvents.{some_group, tracks_events}
 use Rattle.event_lines.proofs.groups.put_groups.Given as goal

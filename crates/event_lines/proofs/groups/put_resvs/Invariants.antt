@@ -1,5 +1,5 @@
 use Rattle.std.proofs.Common.{◌≡◌, ◌++◌, map, drop, flat_map}
-use Rattle.event_lines.specs.Commas.{with_commas}
+use Rattle.event_lines.specs.inside.Commas.{with_commas}
 use Rattle.event_lines.specs.Shown.{resv_track_shown}
 use Rattle.event_lines.specs.TrackEvents.{resv_events, some_group}
 use Rattle.event_lines.proofs.groups.put_resvs.Given as goal

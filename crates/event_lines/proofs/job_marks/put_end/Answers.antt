@@ -2,7 +2,7 @@ use Rattle.std.proofs.Common.{◌∙◌, ℕ, ◌+◌, ◌++◌, codes, sym, ap,
 use Rattle.std.proofs.lemmas.Result.{on_ok_weaker}
 use Rattle.std.specs.Prelude.{Option}
 use Rattle.event_texts.specs.Records.{instant_event}
-use Rattle.event_lines.specs.Commas.{with_comma, with_commas}
+use Rattle.event_lines.specs.inside.Commas.{with_comma, with_commas}
 use Rattle.event_lines.specs.TrackEvents.{end_events}
 use Rattle.event_lines.proofs.Pieces.{alone}
 use Rattle.event_lines.proofs.job_marks.put_end.Goals as goal

@@ -1,5 +1,5 @@
 use Rattle.std.proofs.Common.{◌≡◌, ◌++◌, map, drop, flat_map}
-use Rattle.event_lines.specs.Commas.{with_commas}
+use Rattle.event_lines.specs.inside.Commas.{with_commas}
 use Rattle.event_lines.specs.Shown.{job_marks_shown}
 use Rattle.event_lines.specs.TrackEvents.{job_events}
 use Rattle.event_lines.proofs.job_marks.put_job_marks.Given as goal

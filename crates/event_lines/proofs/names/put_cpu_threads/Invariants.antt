@@ -1,5 +1,5 @@
 use Rattle.std.proofs.Common.{◌≡◌, ◌++◌, map, drop}
-use Rattle.event_lines.specs.Commas.{with_commas}
+use Rattle.event_lines.specs.inside.Commas.{with_commas}
 use Rattle.event_lines.specs.Shown.{cpu_track_shown}
 use Rattle.event_lines.specs.TrackEvents.{cpu_thread}
 use Rattle.event_lines.proofs.names.put_cpu_threads.Given as goal

@@ -1,5 +1,5 @@
 use Rattle.std.proofs.Common.{◌≡◌, ◌++◌, map, drop}
-use Rattle.event_lines.specs.Commas.{with_commas}
+use Rattle.event_lines.specs.inside.Commas.{with_commas}
 use Rattle.event_lines.specs.Shown.{task_track_shown}
 use Rattle.event_lines.specs.TrackEvents.{some_group, task_thread}
 use Rattle.event_lines.proofs.names.put_task_threads.Given as goal

@@ -3,7 +3,7 @@ use Rattle.std.proofs.lemmas.Result.{on_ok_weaker}
 use Rattle.rt_base.specs.declared.SemNo.{SemNo}
 use Rattle.rt_task.specs.declared.Sem.{Sem}
 use Rattle.chart_cells.specs.Cells.{cell_shown, sem_numbers}
-use Rattle.event_lines.specs.Openings.{job_arguments}
+use Rattle.event_lines.specs.inside.Openings.{job_arguments}
 use Rattle.event_lines.proofs.Chains.{five_put}
 use Rattle.event_lines.proofs.Pieces.{arguments-put}
 use Rattle.event_lines.proofs.task_spans.put_arguments.Goals as goal

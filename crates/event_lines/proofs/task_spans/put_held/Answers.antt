@@ -3,7 +3,7 @@ use Rattle.std.proofs.lemmas.Result.{on_ok_weaker}
 use Rattle.rt_base.specs.declared.SemNo.{SemNo}
 use Rattle.chart_cells.specs.Cells.{sem_numbers}
 use Rattle.event_texts.specs.Records.{quoted}
-use Rattle.event_lines.specs.Openings.{name_in}
+use Rattle.event_lines.specs.inside.Openings.{name_in}
 use Rattle.event_lines.proofs.Chains.{two_put}
 use Rattle.event_lines.proofs.Joins.{join-first}
 use Rattle.event_lines.proofs.task_spans.put_held.Goals as goal

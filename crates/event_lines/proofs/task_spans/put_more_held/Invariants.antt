@@ -1,7 +1,7 @@
 use Rattle.std.proofs.Common.{◌≡◌, ◌∷◌, ◌++◌, map, drop, flat_map}
 use Rattle.chart_cells.specs.Cells.{sem_numbers}
 use Rattle.event_texts.specs.Records.{quoted}
-use Rattle.event_lines.specs.Openings.{name_in}
+use Rattle.event_lines.specs.inside.Openings.{name_in}
 use Rattle.event_lines.proofs.task_spans.put_more_held.Given as goal
 
 -- what was written, and then what is left, is the whole

@@ -1,5 +1,5 @@
 use Rattle.std.proofs.Common.{◌≡◌, ◌++◌, map, drop, flat_map}
-use Rattle.event_lines.specs.Commas.{with_commas}
+use Rattle.event_lines.specs.inside.Commas.{with_commas}
 use Rattle.event_lines.specs.Shown.{task_span_shown}
 use Rattle.event_lines.specs.TrackEvents.{some_group, task_span_events}
 use Rattle.event_lines.proofs.task_spans.put_task_spans.Given as goal

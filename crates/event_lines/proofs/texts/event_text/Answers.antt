@@ -2,7 +2,7 @@ use Rattle.std.proofs.Common.{◌∙◌, List, ◌++◌, codes, map, ap, append_
 use Rattle.std.specs.Prelude.{flat_map}
 use Rattle.event_texts.specs.EventText.{event_lines}
 use Rattle.event_texts.specs.Records.{Piece}
-use Rattle.event_lines.specs.Commas.{with_commas}
+use Rattle.event_lines.specs.inside.Commas.{with_commas}
 use Rattle.event_lines.specs.Shown.{group_tracks_shown}
 use Rattle.event_lines.specs.TrackEvents.{some_group, tracks_events, tracks_text}
 use Rattle.event_lines.proofs.texts.event_text.Goals as goal

@@ -3,12 +3,12 @@ use Rattle.std.specs.Prelude.{is_some}
 use Rattle.rt_task.specs.declared.Parts.{Parts}
 use Rattle.rt_model.specs.Blocking.{is_blocked}
 use Rattle.rt_model.specs.Group.{Group}
-use Rattle.group_facts.specs.Kept.{Kept}
+use Rattle.group_jobs.specs.Kept.{Kept}
 use Rattle.sem_table.specs.Told.{awaits_of}
 use Rattle.group_sems.specs.GroupSems.{GroupSems}
 use Rattle.group_sems.proofs.Reading.{holding_is_read}
-use Rattle.group_core.specs.Blocked.{CanRankTask, is_among_first}
-use Rattle.group_core.specs.Listing.{CanAsk, Moment}
+use Rattle.group_core.specs.inside.Blocked.{CanRankTask, is_among_first}
+use Rattle.group_core.specs.Listing.{CanAsk, GroupAt}
 use Rattle.group_core.proofs.WaiterLimits.{can-rank-task}
 use Rattle.group_core.proofs.ReadingBlocked.{blocked-as}
 use Rattle.group_core.proofs.waiting_list.is_blocked.Goals as goal
@@ -21,7 +21,7 @@ is_among_first-requires c =
     (can-rank-task at.group can.valid at.past c.args.jobs.now.kept can.jobs_are can.few can.clock_low c.args.task.0 can.member)
 
 -- what is read off the semaphores and the jobs is what the definitions give
-blocked-there : (at : Moment) (p : Parts) (k : Kept) (v : GroupSems) (t : ℕ) → CanAsk at p k v t → (waits : Bool) → waits ≡ is_some (awaits_of v.table t)
+blocked-there : (at : GroupAt) (p : Parts) (k : Kept) (v : GroupSems) (t : ℕ) → CanAsk at p k v t → (waits : Bool) → waits ≡ is_some (awaits_of v.table t)
     → waits && is_among_first p k t ≡ is_blocked at.group t at.past
 blocked-there at p k v t can waits read =
     ap (λ (x : Parts). waits && is_among_first x k t) can.parts_are

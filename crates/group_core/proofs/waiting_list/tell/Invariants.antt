@@ -1,7 +1,7 @@
 use Rattle.std.proofs.Common.{◌≡◌, ◌+◌, ◌≤◌, ◌++◌, take, vec_capacity, vec_len}
 use Rattle.rt_base.specs.TaskNos.{numbers}
 use Rattle.block_counts.specs.SeenWords.{waiters_of}
-use Rattle.group_core.specs.Blocked.{waiters_now}
+use Rattle.group_core.specs.inside.Blocked.{waiters_now}
 use Rattle.group_core.proofs.waiting_list.tell.Given as goal
 
 -- the tasks so far were added

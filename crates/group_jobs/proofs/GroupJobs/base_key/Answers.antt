@@ -4,10 +4,10 @@ use Rattle.std.proofs.lemmas.List.{get_or_read}
 use Rattle.rt_base.specs.declared.TheConstants.{TICK_END}
 use Rattle.rt_task.specs.declared.Task.{Task}
 use Rattle.rt_model.specs.Group.{no_task}
-use Rattle.group_facts.specs.Kept.{job_of}
-use Rattle.group_facts.specs.Words.{release_of}
+use Rattle.group_jobs.specs.Kept.{job_of}
+use Rattle.group_jobs.specs.Words.{release_of}
 use Rattle.group_jobs.specs.GroupJobs.{task_in}
-use Rattle.group_jobs.specs.Keys.{key_under, resv_prio}
+use Rattle.group_jobs.specs.inside.Keys.{key_under, resv_prio}
 use Rattle.group_jobs.proofs.KeyWords.{key-under}
 use Rattle.group_jobs.proofs.ReleaseBounds.{release-low}
 use Rattle.group_jobs.proofs.GroupJobs.base_key.Goals as goal

@@ -1,8 +1,8 @@
 use Rattle.std.proofs.Common.{◌≡◌, true, false, refl, sym, ap, ◌∙◌}
 use Rattle.rt_rules.specs.Numbers.{rest}
-use Rattle.group_facts.specs.Facts.{JobFacts}
-use Rattle.group_facts.specs.Kept.{job_of, with_job}
-use Rattle.group_facts.specs.Moves.{after_op, is_end, job_ended, op_done}
+use Rattle.group_jobs.specs.Facts.{JobFacts}
+use Rattle.group_jobs.specs.Kept.{job_of, with_job}
+use Rattle.group_jobs.specs.Moves.{after_op, is_end, job_ended, op_done}
 use Rattle.group_jobs.specs.GroupJobs.{GroupJobs}
 use Rattle.group_jobs.specs.States.{job_with}
 use Rattle.group_jobs.proofs.GroupJobs.count.Goals as goal

@@ -1,6 +1,6 @@
 use Rattle.std.proofs.Common.{◌≡◌, ℕ, ◌≤◌, List, [], ◌∷◌, false, None, length, refl, sym, ap, ◌∙◌, arith}
 use Rattle.arrival_queue.specs.Waiting.{first_of, queue_at}
-use Rattle.group_facts.specs.Facts.{JobFacts}
+use Rattle.group_jobs.specs.Facts.{JobFacts}
 use Rattle.rt_rules.specs.Numbers.{first}
 use Rattle.group_jobs.specs.declared.states.TaskState.{TaskState}
 use Rattle.group_jobs.proofs.JobLists.{high-kept, job-at}

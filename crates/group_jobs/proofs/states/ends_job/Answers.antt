@@ -2,9 +2,9 @@ use Rattle.std.proofs.Common.{◌≡◌, ℕ, Bool, refl, ap, ◌∙◌}
 use Rattle.rt_task.specs.declared.Op.{Op}
 use Rattle.rt_task.specs.declared.Op.TheVariants as ops
 use Rattle.rt_task.specs.declared.Task.{Task}
-use Rattle.group_facts.specs.Facts.{JobFacts}
-use Rattle.group_facts.specs.Moves.{is_end, op_done}
-use Rattle.group_facts.specs.Words.{is_used_up}
+use Rattle.group_jobs.specs.Facts.{JobFacts}
+use Rattle.group_jobs.specs.Moves.{is_end, op_done}
+use Rattle.group_jobs.specs.Words.{is_used_up}
 use Rattle.group_jobs.proofs.states.ends_job.Goals as goal
 
 other : (op : Op) (task : Task) (clock : ℕ) (holds_none : Bool) (job : JobFacts) → (op ≡ ops.End → ⊥) → is_used_up task holds_none (op_done clock op job) ≡ is_end task clock op holds_none job

@@ -3,7 +3,7 @@ use Rattle.std.specs.Prelude.{Option, None, replicate}
 use Rattle.rt_base.specs.TaskNos.{numbers_of_tasks}
 use Rattle.rt_base.specs.declared.TheConstants.{MOST_RESVS}
 use Rattle.rt_task.specs.declared.Parts.{Parts}
-use Rattle.rt_groups.proofs.SetLimits.{sets_are_in_limits}
+use Rattle.rt_plays.proofs.SetLimits.{sets_are_in_limits}
 use Rattle.resv_core.specs.Served.{Served}
 use Rattle.group_resvs.proofs.NobodyServed.{numbers-nobody, opened-count}
 use Rattle.group_resvs.proofs.TouchedLaws.{settled_but-many}

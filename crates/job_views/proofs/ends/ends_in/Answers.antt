@@ -1,5 +1,5 @@
 use Rattle.std.proofs.Common.{arith, rules}
-use Rattle.count_laws.specs.Tallies.{Tally}
+use Rattle.rt_changes.specs.Tallies.{Tally}
 use Rattle.job_views.proofs.SeenEnds.{none_seen, sum-next}
 use Rattle.job_views.proofs.ends.ends_in.Goals as goal
 

@@ -6,8 +6,8 @@ use Rattle.rt_task.specs.declared.Step.{Step}
 use Rattle.rt_model.specs.Group.{Group}
 use Rattle.rt_model.specs.Steps.{IsStepOf}
 use Rattle.rt_plays.specs.Drives.{steps_given}
-use Rattle.library_tour.specs.TourGroup.{the_group}
-use Rattle.library_tour.specs.TourSet.{the_steps}
+use Rattle.library_tour.specs.inside.TourGroup.{the_group}
+use Rattle.library_tour.specs.inside.TourSet.{the_steps}
 use Rattle.library_tour.proofs.TourLaws.{step-there}
 use Rattle.library_tour.proofs.tour.play.Goals as goal
 

@@ -1,5 +1,5 @@
 use Rattle.std.proofs.Common.{◌≡◌, ◌+◌, length}
-use Rattle.library_tour.specs.TourGroup.{IsOfTour}
+use Rattle.library_tour.specs.inside.TourGroup.{IsOfTour}
 use Rattle.library_tour.proofs.tour.play.Given as goal
 
 -- the engine is of the tour's group, and has room for the steps that are left

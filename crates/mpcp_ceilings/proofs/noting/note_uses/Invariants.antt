@@ -1,5 +1,5 @@
 use Rattle.std.proofs.Common.{◌≡◌, drop, length}
-use Rattle.mpcp_ceilings.specs.Noting.{noted_uses}
+use Rattle.mpcp_ceilings.specs.inside.Noting.{noted_uses}
 use Rattle.mpcp_ceilings.proofs.noting.note_uses.Given as goal
 
 abbrev pub invariant-loop-sem : goal.invariant-loop-sem

@@ -4,7 +4,7 @@ use Rattle.std.specs.Prelude.{Option, if◌then◌else◌, slice_index_or, ◌==
 use Rattle.rt_task.specs.declared.Task.{Task}
 use Rattle.rt_model.specs.Group.{Group, no_cluster}
 use Rattle.rt_plays.specs.Plays.{group_with}
-use Rattle.mpcp_ceilings.specs.Noting.{noted_uses}
+use Rattle.mpcp_ceilings.specs.inside.Noting.{noted_uses}
 use Rattle.mpcp_ceilings.specs.declared.user_prios.UserPrios.{UserPrios}
 use Rattle.mpcp_ceilings.proofs.NotedLaws.{AreNoted, noted-all, noted-read}
 use Rattle.mpcp_ceilings.proofs.noting.noted_rows.Goals as goal

@@ -1,45 +1,30 @@
-use Rattle.std.proofs.Common.{◌≡◌, ◌-◌, ◌++◌, ◌∷◌, List, [], refl, sym, ap, ◌∙◌, subst, arith}
+use Rattle.std.proofs.Common.{◌-◌, ◌++◌, ◌∷◌, List, [], refl, sym, ap, ◌∙◌, subst, arith}
 use Rattle.std.specs.Prelude.{slice_index_or, slice_set}
 use Rattle.rt_rules.specs.declared.history.Reply.{Reply}
-use Rattle.split_inbox.specs.Sums.{sum_of}
 use Rattle.split_inbox.specs.Books.{entry}
-use Rattle.split_inbox.specs.declared.subject.SemOf.{SemOf}
 use Rattle.split_rules.specs.PartAnswers.{asked}
 use Rattle.split_rules.specs.PartHistories.{past_of}
 use Rattle.split_rules.specs.Partitions.{part_group}
 use Rattle.split_rules.specs.declared.SemAct.TheVariants as acts
 use Rattle.split_rules.specs.declared.SemEntry.{SemEntry}
 use Rattle.split_rules.specs.declared.SplitEntry.{SplitEntry}
-use Rattle.split_laws.proofs.StepLaws.{some-same}
 use Rattle.split_turns.specs.SplitTurns.{book_of}
-use Rattle.part_books.specs.PartBooks.{CanAsk}
 use Rattle.part_player.specs.Players.{IsAnswered, PlayerOf, entry_of, group_of, past_at}
-use Rattle.part_seat.specs.AtTurns.{HasGiven, IsFound}
-use Rattle.part_seat.specs.Partitions.{IsMeeting, Seat, books_in}
-use Rattle.part_seat.proofs.BookLists.{books-at, set-cells}
+use Rattle.part_seat.specs.AtTurns.{HasGiven}
+use Rattle.part_seat.specs.Partitions.{IsMeeting, Seat}
+use Rattle.part_seat.proofs.BookLists.{set-cells}
 use Rattle.part_seat.proofs.MeetingLaws as laws
-use Rattle.part_seat.proofs.PlaceLaws.{cells-at, cells-count, place-of, quotas-few, sem-range}
+use Rattle.part_seat.proofs.PlaceLaws.{cells-at, cells-count, few-there, place-of, within-seats}
 use Rattle.part_seat.proofs.moves.asks.Goals as goal
 
 pub overflow_sub-place : goal.overflow_sub-place
-overflow_sub-place g c =
-    let a = c.args.player.now in
-    (sem-range (part_group a.setup a.cpu) c.args.sem.0 c.requires.asks.known).0
+overflow_sub-place g c = (within-seats _ _ _ _ _ c.requires.meeting c.requires.asks.known).0
 
 pub bounds-turns-place : goal.bounds-turns-place
-bounds-turns-place g c =
-    let a = c.args.player.now in
-    let r = sem-range (part_group a.setup a.cpu) c.args.sem.0 c.requires.asks.known in
-    let n = cells-count c.args.turns.now c.args.seats.now c.requires.turns in
-    let m = c.requires.meeting.count in
-    omega (arith, r.0, r.1, n, m)
+bounds-turns-place g c = let w = within-seats _ _ _ _ _ c.requires.meeting c.requires.asks.known in let n = cells-count c.args.turns.now c.args.seats.now c.requires.turns in omega (arith, w.1, n)
 
 pub bounds-seats-place : goal.bounds-seats-place
-bounds-seats-place g c =
-    let a = c.args.player.now in
-    let r = sem-range (part_group a.setup a.cpu) c.args.sem.0 c.requires.asks.known in
-    let m = c.requires.meeting.count in
-    omega (arith, r.0, r.1, m)
+bounds-seats-place g c = (within-seats _ _ _ _ _ c.requires.meeting c.requires.asks.known).1
 
 pub ask-answer-requires-clause-cell : goal.ask-answer-requires-clause-cell
 ask-answer-requires-clause-cell g c =
@@ -55,26 +40,16 @@ ask-answer-requires-clause-seat g c =
     (at.seat.cpu ∙ sym c.cpu-cpu.ensures.cpu, at.seat.rests)
 
 pub ask-answer-requires-clause-few : goal.ask-answer-requires-clause-few
-ask-answer-requires-clause-few g c s here =
+ask-answer-requires-clause-few g c =
     let a = c.args.player.now in
     let at = place-of a.setup a.cpu c.args.sem.0 c.args.seats.now _ c.index-seats-place.result c.requires.meeting c.requires.asks.known in
-    let of = c.cpu-cpu.ensures.played.of_split in
-    let few = quotas-few a.setup c.args.sem.0 of.valid of.split in
-    let same = ap (λ (x : SemOf). sum_of x.quotas) (some-same (sym at.seat.about ∙ here)) in
-    omega (arith, few, same)
+    few-there a.setup a.cpu c.args.sem.0 c.args.seats.now c.index-seats-place.result at c.cpu-cpu.ensures.played.of_split
 
 pub ask-answer-requires-clause-may : goal.ask-answer-requires-clause-may
-ask-answer-requires-clause-may g c s here es found =
+ask-answer-requires-clause-may g c =
     let a = c.args.player.now in
     let at = place-of a.setup a.cpu c.args.sem.0 c.args.seats.now _ c.index-seats-place.result c.requires.meeting c.requires.asks.known in
-    let is : s ≡ book_of a.setup c.args.sem.0 = some-same (sym here ∙ at.seat.about) in
-    let found' : IsFound (book_of a.setup c.args.sem.0) a.cpu (books_in c.args.seats.now c.args.sem.0) es =
-    subst (λ l. IsFound (book_of a.setup c.args.sem.0) a.cpu l es) (sym (books-at c.args.seats.now c.args.sem.0 c.index-seats-place.result at.low at.high))
-    (subst (λ n. IsFound (book_of a.setup c.args.sem.0) n (slice_index_or c.args.seats.now (c.args.sem.0 - 1) c.index-seats-place.result).seen es) c.cpu-cpu.ensures.cpu
-    (subst (λ x. IsFound x c.cpu-cpu.result.0 (slice_index_or c.args.seats.now (c.args.sem.0 - 1) c.index-seats-place.result).seen es) is found)) in
-    subst (λ n. CanAsk s es n c.args.task.0) (sym c.cpu-cpu.ensures.cpu)
-    (subst (λ x. CanAsk x es a.cpu c.args.task.0) (sym is)
-    (laws.can-ask a.setup a.cpu a.entries c.args.seats.now c.cpu-cpu.ensures.played c.requires.meeting c.args.sem.0 es found' c.args.task.0 c.args.step c.requires.next c.requires.asks))
+    laws.may-ask a.setup a.cpu a.entries c.args.seats.now c.cpu-cpu.ensures.played c.requires.meeting c.args.sem.0 c.index-seats-place.result at c.cpu-cpu.result.0 c.cpu-cpu.ensures.cpu c.args.task.0 c.args.step c.requires.next c.requires.asks
 
 pub finish-entry-requires-clause-reply : goal.finish-entry-requires-clause-reply
 finish-entry-requires-clause-reply g c =

@@ -10,8 +10,8 @@ overflow_sub-index_mut c =
     let told : is_some (slice_index_or c.self.inside.bases.items c.args.task.0 None) ≡ true = rw (← c.self.view_is) at c.requires in
     is-waited _ _ _ _ _ c.self.invariant c.args.task.0 c.in-Some.holder c.index.result.now told c.index.ensures c.in-Some.is c.index_mut-2.result.now c.index_mut-2.ensures.value
 
-pub follow_left-requires : goal.follow_left-requires
-follow_left-requires c =
+pub update_walk_left-requires : goal.update_walk_left-requires
+update_walk_left-requires c =
     let told : is_some (slice_index_or c.self.inside.bases.items c.args.task.0 None) ≡ true = rw (← c.self.view_is) at c.requires in
     let is_cut : IsCut c.self.inside.bases.items (numbers_of_tasks c.self.inside.nexts.items) c.self.inside.keys.items (set c.self.inside.counts.items c.in-Some.holder.0 (c.index_mut-2.result.now - 1)) c.args.task.0 c.in-Some.holder.0 = cut _ _ _ _ _ c.self.invariant c.args.task.0 c.in-Some.holder c.index.result.now told c.index.ensures c.in-Some.is c.index_mut-2.result.now c.index_mut-2.ensures.value in
     rw (c.as_slice.ensures.value, c.as_slice-2.ensures.value, c.as_slice-3.ensures.value, numbers-set) record {
@@ -29,8 +29,8 @@ invariant_of-self c =
       inherit = inherit-of _ _ _ _ _ _ is_cut.settling
           (c.self.invariant.inherit.bases_length ∙ sym (length-set _ _ _))
           (c.self.invariant.inherit.boosts_length ∙ sym (length-set _ _ _))
-          (rw (c.as_slice-2.ensures.value, numbers-set) at c.follow_left.ensures.length)
-          (rw (c.as_slice.ensures.value, c.as_slice-2.ensures.value, numbers-set) at c.follow_left.ensures.local);
+          (rw (c.as_slice-2.ensures.value, numbers-set) at c.update_walk_left.ensures.length)
+          (rw (c.as_slice.ensures.value, c.as_slice-2.ensures.value, numbers-set) at c.update_walk_left.ensures.local);
       counted = is_cut.counted;
     }
 

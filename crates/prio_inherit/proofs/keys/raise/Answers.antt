@@ -4,7 +4,7 @@ use Rattle.std.proofs.lemmas.List.{get_or_read}
 use Rattle.rt_base.specs.TaskNos.{number_of_task, numbers_of_tasks}
 use Rattle.rt_rules.specs.KeyOrder.{higher}
 use Rattle.sem_laws.specs.KeptKeys.{key_at}
-use Rattle.prio_inherit.proofs.Settling.{next_of-numbers, follow-came, follow-end, settled}
+use Rattle.prio_inherit.proofs.Settling.{next_of-numbers, walk-came, walk-end, settled}
 use Rattle.prio_inherit.proofs.Raising.{Raises, raises-step, raises-stop}
 use Rattle.prio_inherit.proofs.keys.raise.Goals as goal
 
@@ -26,11 +26,11 @@ loop-step-preserved c =
       keys_length = length-set c.loop-step.keys.items c.in-Some.task.0 c.args.key ∙ c.loop-step.invariant.keys_length;
       at_within = λ t e. c.requires.within c.in-Some.task.0 t (next_of-numbers c.args.nexts.now c.in-Some.task.0 ∙ e);
       raising = raises-step c.args.nexts.now c.args.keys.now.items c.loop-step.keys.items (number_of_task c.args.start) c.args.key c.in-Some.task.0 (number_of_task (get_or c.args.nexts.now c.in-Some.task.0 None)) raising (ap (higher c.args.key) (sym read) ∙ sym c.is_higher.ensures ∙ c.if-not-is_higher.false) (next_of-numbers c.args.nexts.now c.in-Some.task.0);
-      came = follow-came [] c.args.nexts.now c.loop-step.keys.items (number_of_task c.args.start) c.loop-step._step c.in-Some.task.0 (c.loop-step.invariant.came ∙ here);
+      came = walk-came [] c.args.nexts.now c.loop-step.keys.items (number_of_task c.args.start) c.loop-step._step c.in-Some.task.0 (c.loop-step.invariant.came ∙ here);
     }
 
 pub returns-clause-local : goal.returns-clause-local
-returns-clause-local c = λ bases ok. follow-end bases c.args.nexts.now c.loop-step.keys.items c.args.keys.now.items (number_of_task c.args.start) (number_of_task c.loop-step.at) c.loop-step._step ok.settling (c.loop-step.invariant.raising bases ok).settling c.loop-step.invariant.came (omega arith)
+returns-clause-local c = λ bases ok. walk-end bases c.args.nexts.now c.loop-step.keys.items c.args.keys.now.items (number_of_task c.args.start) (number_of_task c.loop-step.at) c.loop-step._step ok.settling (c.loop-step.invariant.raising bases ok).settling c.loop-step.invariant.came (omega arith)
 
 pub returns-in_default-clause-local : goal.returns-in_default-clause-local
 returns-in_default-clause-local c = λ bases ok. settled bases (numbers_of_tasks c.args.nexts.now) c.loop-step.keys.items (number_of_task c.loop-step.at) (c.loop-step.invariant.raising bases ok).settling (ap number_of_task c.in_default.is)

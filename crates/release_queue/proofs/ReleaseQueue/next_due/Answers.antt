@@ -1,6 +1,6 @@
 use Rattle.std.proofs.Common.{◌≡◌, ◌<◌, length, get_or, arith}
-use Rattle.std.proofs.lemmas.List.{get_or_read}
-use Rattle.release_queue.proofs.TimerLaws.{ticks_in-set, empty-not_due, first-due, first-late, first_inside, timed-cancel}
+use Rattle.std.proofs.lemmas.List.{get_or_read, map-set}
+use Rattle.release_queue.proofs.TimerLaws.{empty-not_due, first-due, first-late, first_inside, timed-cancel}
 use Rattle.release_queue.proofs.ReleaseQueue.next_due.Goals as goal
 
 pub returns-in_default-clause-none : goal.returns-in_default-clause-none
@@ -26,4 +26,4 @@ returns-clause-due c =
     rw (← c.self.view_is) (first-due _ _ c.self.invariant c.in-Some.task.0 c.in-Some.ensures.first c.args.now.0 (omega (arith, read, c.if-index-now.false)))
 
 pub returns-clause-taken : goal.returns-clause-taken
-returns-clause-taken c = rw (← c.self.view_is, c.take_out.ensures.removed) (ticks_in-set _ _ _)
+returns-clause-taken c = rw (← c.self.view_is, c.take_out.ensures.removed) (map-set _ _ _ _)

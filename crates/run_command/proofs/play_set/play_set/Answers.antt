@@ -24,3 +24,11 @@ pub returns-clause-answers : goal.returns-clause-answers
 returns-clause-answers g c =
     run-read g.T.TraceTool.tool c.args.tools.items _ _ _ c.in-Ok.setup c.as_slice.result.now _ c.in-Ok.ensures.ok (c.in-Ok.ensures.ends.not_too_long (λ is. cc))
     (subst (AreRunsOf c.in-Ok.setup) (sym c.as_slice.ensures.value) c.in-Ok-run_set.ensures) c.in-Ok-open.ensures (inr c.in-Err-NoMemory.ensures.stopped)
+
+pub returns-in-Err-Fault-clause-faults : goal.returns-in-Err-Fault-clause-faults
+returns-in-Err-Fault-clause-faults g c = record {
+  read_fault = λ is. cc;
+  no_read_fault = λ other. c.in-Ok.ensures.ends.no_read_fault (λ is. cc);
+  write_fault = λ is. c.in-Err-Fault.ensures.fault (cc);
+  no_write_fault = λ other. absurd (other refl);
+}

@@ -1,5 +1,5 @@
 use Rattle.std.proofs.Common.{append_assoc}
-use Rattle.set_canonical.specs.Members.{setting_text}
+use Rattle.set_canonical.specs.inside.Members.{setting_text}
 use Rattle.set_canonical.proofs.sets.put_setting.Goals as goal
 
 pub returns : goal.returns

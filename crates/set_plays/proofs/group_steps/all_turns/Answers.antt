@@ -4,7 +4,7 @@ use Rattle.rt_base.specs.declared.CpuNo.{CpuNo}
 use Rattle.rt_base.specs.declared.TheConstants.{MOST_STEPS}
 use Rattle.rt_model.specs.Group.{Group, group_processors}
 use Rattle.rt_plays.specs.Plays.{group_with}
-use Rattle.rt_groups.proofs.GroupLimits.{processor-some}
+use Rattle.rt_plays.proofs.GroupLimits.{processor-some}
 use Rattle.set_plays.specs.TurnsLeft.{AreTurnsOf}
 use Rattle.set_plays.proofs.TurnLaws.{length-rounds}
 use Rattle.set_plays.proofs.TurnRoom.{horizon-few, turns-few}

@@ -2,7 +2,7 @@ use Rattle.std.proofs.Common.{◌≡◌, map, drop}
 use Rattle.rt_task.specs.declared.bad_set.Part.TheVariants as parts
 use Rattle.serde_json.specs.View.{view}
 use Rattle.set_read.specs.Document as document
-use Rattle.set_read.specs.Elements.{elements_from, with_front}
+use Rattle.set_read.specs.inside.Elements.{elements_from, with_front}
 use Rattle.set_read.proofs.elements.clusters_of.Given as goal
 
 -- what was found, and then what the rest is, is what all are

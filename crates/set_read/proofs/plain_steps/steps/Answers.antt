@@ -1,7 +1,7 @@
 use Rattle.std.proofs.Common.{◌≡◌, ◌∷◌, ◌++◌, [], refl, arith, append_assoc}
 use Rattle.json.specs.Lex.{after_comma, after_value}
 use Rattle.set_read.specs.Names.{names_seen}
-use Rattle.set_read.specs.Texts.{tokens_at}
+use Rattle.set_read.specs.inside.Texts.{tokens_at}
 use Rattle.set_read.proofs.PlainLaws.{step_last, step_more}
 use Rattle.set_read.proofs.plain_steps.steps.Goals as goal
 

@@ -3,8 +3,8 @@ use Rattle.json.specs.Lex.{Place, may_begin, tokens}
 use Rattle.json.specs.Token.{Token}
 use Rattle.rt_task.specs.declared.draft.DraftStep.{DraftStep}
 use Rattle.set_read.specs.Names.{names_seen}
-use Rattle.set_read.specs.Texts.{tokens_at}
-use Rattle.set_read.specs.Tokens.{SaySteps}
+use Rattle.set_read.specs.inside.Texts.{tokens_at}
+use Rattle.set_read.specs.inside.Tokens.{SaySteps}
 use Rattle.set_read.proofs.plain_steps.steps.Given as goal
 
 -- what was found, and then what the rest is, is what all are

@@ -2,7 +2,7 @@ use Rattle.std.proofs.Common.{◌≡◌, ◌++◌, sym, ap, ◌∙◌}
 use Rattle.json.specs.Json.{document}
 use Rattle.serde_json.specs.Read.{read}
 use Rattle.serde_json.specs.View.{view}
-use Rattle.set_read.specs.Texts.{closing}
+use Rattle.set_read.specs.inside.Texts.{closing}
 use Rattle.set_read.proofs.OpenLaws.{opens_steps}
 use Rattle.set_read.proofs.quick.before_steps.Goals as goal
 

@@ -3,7 +3,7 @@ use Rattle.json.specs.Lex.{after_value}
 use Rattle.set_read.specs.Document.{names_of, step_form}
 use Rattle.set_read.specs.Forms.{every, listed}
 use Rattle.set_read.specs.Seen.{whole_seen}
-use Rattle.set_read.specs.Texts.{tokens_at}
+use Rattle.set_read.specs.inside.Texts.{tokens_at}
 use Rattle.set_read.proofs.DraftLaws.{whole_read-steps}
 use Rattle.set_read.proofs.quick.draft_with_steps.Goals as goal
 

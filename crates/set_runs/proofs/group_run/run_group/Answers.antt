@@ -1,7 +1,7 @@
 use Rattle.std.proofs.Common.{arith}
 use Rattle.rt_model.specs.Group.{group_processors}
 use Rattle.rt_plays.specs.Plays.{group_with}
-use Rattle.rt_groups.proofs.GroupLimits.{processor-some}
+use Rattle.rt_plays.proofs.GroupLimits.{processor-some}
 use Rattle.set_runs.proofs.GroupRuns.{all-seated, driven-cells, group-run, unused-count, unused-seats}
 use Rattle.set_runs.proofs.group_run.run_group.Goals as goal
 

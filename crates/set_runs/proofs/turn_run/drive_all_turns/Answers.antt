@@ -1,6 +1,6 @@
 use Rattle.std.proofs.Common.{List, sym, ◌∙◌, subst}
 use Rattle.set_runs.specs.declared.driver.Driver.{Driver}
-use Rattle.set_runs.specs.Drivers.{AreStill}
+use Rattle.set_runs.specs.inside.Drivers.{AreStill}
 use Rattle.set_runs.proofs.Drivers.{all-done, still-own, work-on, work-own}
 use Rattle.set_runs.proofs.turn_run.drive_all_turns.Goals as goal
 

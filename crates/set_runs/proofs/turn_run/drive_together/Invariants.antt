@@ -1,4 +1,4 @@
-use Rattle.set_runs.specs.Drivers.{AreStill}
+use Rattle.set_runs.specs.inside.Drivers.{AreStill}
 use Rattle.set_runs.proofs.turn_run.drive_together.Given as goal
 
 abbrev pub invariant-loop : goal.invariant-loop

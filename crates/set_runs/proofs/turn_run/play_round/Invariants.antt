@@ -1,4 +1,4 @@
-use Rattle.set_runs.specs.Drivers.{AreStill}
+use Rattle.set_runs.specs.inside.Drivers.{AreStill}
 use Rattle.set_runs.proofs.turn_run.play_round.Given as goal
 
 abbrev pub invariant-loop-i : goal.invariant-loop-i

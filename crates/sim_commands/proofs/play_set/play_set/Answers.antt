@@ -1,4 +1,4 @@
-use Rattle.std.proofs.Common.{inr, refl}
+use Rattle.std.proofs.Common.{rules, inr, refl}
 use Rattle.sim_commands.proofs.SimAnswerLaws.{sim-read, sim-unread}
 use Rattle.sim_commands.proofs.play_set.play_set.Goals as goal
 
@@ -19,11 +19,11 @@ returns-clause-answers g c =
     let came = rw c.in-Err-NoMemory.field-0-is at c.in-Err-NoMemory.ensures.lines in
     sim-read g.T.TraceTool.tool c.args.tools.items _ _ _ c.in-Ok.setup _ c.in-Ok.ensures.ok (c.in-Ok.ensures.ends.not_too_long (λ is. cc)) c.in-Ok-open.ensures (inr came.0)
 
-pub returns-in-Ok-write_played-clause-no_write_fault : goal.returns-in-Ok-write_played-clause-no_write_fault
-returns-in-Ok-write_played-clause-no_write_fault g c = λ _. c.in-Ok-write_played.ensures.lines.1
+pub returns-in-Ok-write_played-clause-faults : goal.returns-in-Ok-write_played-clause-faults
+returns-in-Ok-write_played-clause-faults g c = search (rules, c.in-Ok-write_played.ensures.lines.1)
 
-pub returns-in-Err-Fault-clause-write_fault : goal.returns-in-Err-Fault-clause-write_fault
-returns-in-Err-Fault-clause-write_fault g c = λ _. let came = rw c.in-Err-Fault.field-0-is at c.in-Err-Fault.ensures.lines in came.2
+pub returns-in-Err-Fault-clause-faults : goal.returns-in-Err-Fault-clause-faults
+returns-in-Err-Fault-clause-faults g c = let came = rw c.in-Err-Fault.field-0-is at c.in-Err-Fault.ensures.lines in search (rules, came.2)
 
-pub returns-clause-no_write_fault : goal.returns-clause-no_write_fault
-returns-clause-no_write_fault g c = λ _. let came = rw c.in-Err-NoMemory.field-0-is at c.in-Err-NoMemory.ensures.lines in came.1
+pub returns-clause-faults : goal.returns-clause-faults
+returns-clause-faults g c = let came = rw c.in-Err-NoMemory.field-0-is at c.in-Err-NoMemory.ensures.lines in search (rules, came.1)

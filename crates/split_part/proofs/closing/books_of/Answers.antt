@@ -7,7 +7,7 @@ use Rattle.split_inbox.specs.declared.subject.SemOf.{SemOf}
 use Rattle.part_seat.specs.Partitions.{Seat}
 use Rattle.split_part.specs.Closings.{IsTold}
 use Rattle.split_part.specs.Columns.{AreBoth}
-use Rattle.split_part.specs.Deals.{lists}
+use Rattle.split_part.specs.inside.Deals.{lists}
 use Rattle.split_part.proofs.ClosingLaws.{column-cell, column-cpus, hand-contains, hand-resting, told-by, told-more, turn-wide}
 use Rattle.split_part.proofs.ColumnLaws.{all-get, both-length, length-popped, popped-rows, reversed-lists, rows-full, rows-popped, starts-popped, take-whole}
 use Rattle.split_part.proofs.closing.books_of.Goals as goal

@@ -2,7 +2,7 @@ use Rattle.std.proofs.Common.{◌≡◌, ◌+◌, All, drop, length, map, revers
 use Rattle.turn_cell.specs.Words.{StartsWith}
 use Rattle.split_part.specs.Closings.{IsTold}
 use Rattle.split_part.specs.Columns.{AreBoth}
-use Rattle.split_part.specs.Deals.{lists}
+use Rattle.split_part.specs.inside.Deals.{lists}
 use Rattle.split_part.proofs.closing.books_of.Given as goal
 
 -- the turns from the next one on are closed

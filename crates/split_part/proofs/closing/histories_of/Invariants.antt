@@ -1,6 +1,6 @@
 use Rattle.std.proofs.Common.{◌≡◌, ◌++◌, All, map}
 use Rattle.part_seat.specs.PartSeats.{IsPartition}
-use Rattle.split_part.specs.Deals.{lists}
+use Rattle.split_part.specs.inside.Deals.{lists}
 use Rattle.split_part.proofs.closing.histories_of.Given as goal
 
 -- those so far are parted

@@ -5,7 +5,7 @@ use Rattle.std.proofs.lemmas.Option.{slice_get-map, slice_get_within}
 use Rattle.split_inbox.specs.Inboxes.{TakerOf}
 use Rattle.split_part.specs.Closings.{IsRestAt}
 use Rattle.split_part.specs.Columns.{AreFrom}
-use Rattle.split_part.specs.Deals.{lists}
+use Rattle.split_part.specs.inside.Deals.{lists}
 use Rattle.split_part.specs.Openings.{inboxes_at}
 use Rattle.split_part.proofs.ClosingLaws.{column-inbox, inbox-wide, rest-at}
 use Rattle.split_part.proofs.ColumnLaws.{length-popped, lists-popped, map-last, popped-rows, rows-full, rows-popped, starts-popped, take-whole}

@@ -2,7 +2,7 @@ use Rattle.std.proofs.Common.{◌≡◌, ◌+◌, length, map, reverse, take, ve
 use Rattle.turn_cell.specs.Words.{StartsWith}
 use Rattle.split_part.specs.Closings.{IsRestAt}
 use Rattle.split_part.specs.Columns.{AreFrom}
-use Rattle.split_part.specs.Deals.{lists}
+use Rattle.split_part.specs.inside.Deals.{lists}
 use Rattle.split_part.specs.Openings.{inboxes_at}
 use Rattle.split_part.proofs.closing.rests_of.Given as goal
 

@@ -4,7 +4,7 @@ use Rattle.split_inbox.specs.Grants.{GrantOf}
 use Rattle.part_seat.specs.Partitions.{PartOf}
 use Rattle.split_part.specs.Closings.{CanTake, HasTakenAt, claims_in}
 use Rattle.split_part.specs.Columns.{AreFrom}
-use Rattle.split_part.specs.Deals.{lists}
+use Rattle.split_part.specs.inside.Deals.{lists}
 use Rattle.split_part.proofs.ClosingLaws.{taken-at}
 use Rattle.split_part.proofs.ColumnLaws.{from-push, get-after, length-popped, reversed-lists}
 use Rattle.split_part.proofs.closing.take_rests.Goals as goal

@@ -1,5 +1,5 @@
 use Rattle.std.proofs.Common.{◌<◌, suc, arith, All, length, [], ◌∷◌, ◌++◌, sym, ap, ◌∙◌, subst, append_assoc}
-use Rattle.split_part.specs.Deals.{IsPopped, lists}
+use Rattle.split_part.specs.inside.Deals.{IsPopped, lists}
 use Rattle.split_part.proofs.Dealing.{vecs_then}
 use Rattle.split_part.proofs.deal.pop_each.Goals as goal
 

@@ -1,5 +1,5 @@
 use Rattle.std.proofs.Common.{◌≡◌, ◌<◌, ◌++◌, All, length}
-use Rattle.split_part.specs.Deals.{IsPopped, lists}
+use Rattle.split_part.specs.inside.Deals.{IsPopped, lists}
 use Rattle.split_part.proofs.deal.pop_each.Given as goal
 
 -- the rows so far gave their last elements

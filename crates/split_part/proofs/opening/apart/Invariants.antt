@@ -1,5 +1,5 @@
 use Rattle.std.proofs.Common.{◌≡◌, ◌++◌}
-use Rattle.split_part.specs.Deals.{lists}
+use Rattle.split_part.specs.inside.Deals.{lists}
 use Rattle.split_part.specs.Openings.{rows_in, turns_in}
 use Rattle.split_part.proofs.opening.apart.Given as goal
 

@@ -1,6 +1,6 @@
 use Rattle.std.proofs.Common.{◌≡◌, take}
 use Rattle.split_part.specs.Columns.{AreBoth}
-use Rattle.split_part.specs.Deals.{lists}
+use Rattle.split_part.specs.inside.Deals.{lists}
 use Rattle.split_part.specs.Openings.{IsFreshTaker, inboxes_at, posters_at}
 use Rattle.split_part.proofs.opening.inboxes.Given as goal
 

@@ -1,10 +1,10 @@
 use Rattle.std.proofs.Common.{◌≡◌, ◌+◌, ◌-◌, ◌<◌, length, map, reverse, take, sym, ap, ◌∙◌, subst, arith}
-use Rattle.rt_groups.proofs.SetLimits.{sets_are_in_limits}
+use Rattle.rt_plays.proofs.SetLimits.{sets_are_in_limits}
 use Rattle.part_player.proofs.OwnParts.{count-is}
 use Rattle.part_seat.specs.Partitions.{unplayed}
 use Rattle.std.proofs.lemmas.List.{length-reverse}
 use Rattle.split_part.specs.Columns.{AreFrom, IsColumn}
-use Rattle.split_part.specs.Deals.{lists}
+use Rattle.split_part.specs.inside.Deals.{lists}
 use Rattle.split_part.specs.Openings.{IsOpenPart}
 use Rattle.split_part.proofs.ColumnLaws.{from-popped, popped-rows, rows-full}
 use Rattle.split_part.proofs.OpeningLaws.{first-rows, open-unused, rows-reach}

@@ -1,6 +1,6 @@
 use Rattle.std.proofs.Common.{◌≡◌, ◌+◌, length, map, reverse, take}
 use Rattle.split_part.specs.Columns.{AreFrom}
-use Rattle.split_part.specs.Deals.{lists}
+use Rattle.split_part.specs.inside.Deals.{lists}
 use Rattle.split_part.specs.Openings.{IsOpenPart}
 use Rattle.split_part.proofs.opening.partitions.Given as goal
 

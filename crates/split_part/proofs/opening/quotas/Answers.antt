@@ -1,6 +1,6 @@
 use Rattle.std.proofs.Common.{◌≡◌, ◌≤◌, ℕ, List, length, map, sym, ap, ◌∙◌, arith}
 use Rattle.rt_task.specs.declared.Step.{Step}
-use Rattle.rt_groups.proofs.SetLimits.{sets_are_in_limits}
+use Rattle.rt_plays.proofs.SetLimits.{sets_are_in_limits}
 use Rattle.rt_rules.specs.Numbers.{numbers_from}
 use Rattle.rt_plays.specs.Drives.{steps_given}
 use Rattle.rt_plays.specs.Room.{processor_count}

@@ -4,7 +4,7 @@ use Rattle.split_inbox.specs.Inboxes.{PosterOf, TakerOf}
 use Rattle.part_seat.specs.Partitions.{PartOf}
 use Rattle.part_seat.specs.PartSeats.{IsUnplayed, PartPlace}
 use Rattle.split_part.specs.Columns.{AreFrom, IsColumn}
-use Rattle.split_part.specs.Deals.{lists}
+use Rattle.split_part.specs.inside.Deals.{lists}
 use Rattle.split_part.specs.Openings.{IsSeated}
 use Rattle.split_part.proofs.ClosingLaws.{column-all}
 use Rattle.split_part.proofs.ColumnLaws.{all-get, from-popped, length-popped, popped-rows, rows-full, rows-popped, starts-popped, take-whole, wide-more}

@@ -1,7 +1,7 @@
 use Rattle.std.proofs.Common.{◌≡◌, ◌+◌, length, map, reverse, take, vec_len}
 use Rattle.turn_cell.specs.Words.{StartsWith}
 use Rattle.split_part.specs.Columns.{AreFrom}
-use Rattle.split_part.specs.Deals.{lists}
+use Rattle.split_part.specs.inside.Deals.{lists}
 use Rattle.split_part.specs.Openings.{IsSeated}
 use Rattle.split_part.proofs.opening.seated.Given as goal
 

@@ -3,9 +3,9 @@ use Rattle.std.specs.Prelude.{Option}
 use Rattle.rt_base.specs.TaskNos.{numbers}
 use Rattle.rt_base.specs.declared.TaskNo.{TaskNo}
 use Rattle.rt_task.specs.declared.Task.{Task}
-use Rattle.rt_groups.proofs.SetLimits.{sets_are_in_limits}
+use Rattle.rt_plays.proofs.SetLimits.{sets_are_in_limits}
 use Rattle.part_state.specs.Entries.{after_entry}
-use Rattle.split_writer.specs.Replays.{CanPlay}
+use Rattle.split_writer.specs.inside.Replays.{CanPlay}
 use Rattle.split_writer.proofs.Moments.{moment}
 use Rattle.split_writer.proofs.Playing.{IsPlayed, at-next, can-play, can-read, first-played, link-is, no_entry, opened-at, played-next}
 use Rattle.split_writer.proofs.links.links_of.Goals as goal

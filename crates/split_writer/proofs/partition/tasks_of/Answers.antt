@@ -7,7 +7,7 @@ use Rattle.rt_rules.specs.Numbers.{numbers_from}
 use Rattle.rt_rules.proofs.BoolLaws.{unless}
 use Rattle.rt_rules.proofs.MemberLaws.{equal_self}
 use Rattle.rt_model.specs.Group.{home}
-use Rattle.rt_groups.proofs.SetLimits.{sets_are_in_limits}
+use Rattle.rt_plays.proofs.SetLimits.{sets_are_in_limits}
 use Rattle.split_rules.specs.Partitions.{group_no, part_group}
 use Rattle.split_writer.proofs.Partitions.{home-at, tasks-are, with-own, without-other}
 use Rattle.split_writer.proofs.partition.tasks_of.Goals.{then-task-cpu+in_ok-push, else-task-cpu}

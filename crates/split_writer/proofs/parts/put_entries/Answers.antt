@@ -1,6 +1,6 @@
 use Rattle.std.proofs.Common.{drop}
 use Rattle.rt_base.specs.TaskNos.{numbers_of_tasks}
-use Rattle.split_writer.specs.Texts.{lines_with, texts}
+use Rattle.split_writer.specs.inside.Texts.{lines_with, texts}
 use Rattle.split_writer.proofs.ListTexts.{all-come, entry-end}
 use Rattle.trace_lines.specs.Known.{known_in}
 use Rattle.split_writer.proofs.parts.put_entries.Goals as goal

@@ -1,6 +1,6 @@
 use Rattle.std.proofs.Common.{◌≡◌, ◌++◌, drop}
 use Rattle.split_text.specs.SplitText.{sem_lines}
-use Rattle.split_writer.specs.Texts.{texts}
+use Rattle.split_writer.specs.inside.Texts.{texts}
 use Rattle.trace_lines.specs.Known.{known_in}
 use Rattle.split_writer.proofs.sems.put_history.Given as goal
 

@@ -1,7 +1,7 @@
 use Rattle.std.proofs.Common.{◌≡◌, ◌+◌, ◌++◌, drop}
 use Rattle.split_text.specs.SplitText.{sems_from}
 use Rattle.split_writer.specs.PartPlays.{lists}
-use Rattle.split_writer.specs.Texts.{texts}
+use Rattle.split_writer.specs.inside.Texts.{texts}
 use Rattle.split_writer.proofs.sems.put_sems.Given as goal
 
 -- what was written, and then the other semaphores, are all of them

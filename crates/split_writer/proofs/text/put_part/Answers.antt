@@ -3,7 +3,7 @@ use Rattle.std.specs.Prelude.{Option}
 use Rattle.rt_base.specs.TaskNos.{number_of_task, numbers_of_tasks}
 use Rattle.rt_base.specs.declared.TaskNo.{TaskNo}
 use Rattle.split_text.specs.SplitText.{known, line_of}
-use Rattle.split_writer.specs.Texts.{lines_with, texts}
+use Rattle.split_writer.specs.inside.Texts.{lines_with, texts}
 use Rattle.split_writer.proofs.ListTexts.{links-all, part-whole}
 use Rattle.split_writer.proofs.text.put_part.Goals as goal
 use Rattle.trace_lines.specs.Grammar.{target_word}

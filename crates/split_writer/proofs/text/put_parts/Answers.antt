@@ -1,11 +1,11 @@
 use Rattle.std.proofs.Common.{List, [], ◌++◌, get_or, ap, sym, subst, ◌∙◌, drop, ◌+◌, arith}
 use Rattle.std.proofs.lemmas.List.{get_or-map, length-map}
 use Rattle.std.specs.Global.{Vec}
-use Rattle.rt_groups.proofs.SetLimits.{sets_are_in_limits}
+use Rattle.rt_plays.proofs.SetLimits.{sets_are_in_limits}
 use Rattle.split_rules.specs.declared.SplitEntry.{SplitEntry}
 use Rattle.split_text.specs.SplitText.{parts_from}
 use Rattle.split_writer.specs.PartPlays.{IsPartPlay, lists}
-use Rattle.split_writer.specs.Texts.{part_block, texts}
+use Rattle.split_writer.specs.inside.Texts.{part_block, texts}
 use Rattle.split_writer.proofs.ListTexts.{all-come, come, parts-end, parts-next}
 use Rattle.split_writer.proofs.text.put_parts.Goals as goal
 

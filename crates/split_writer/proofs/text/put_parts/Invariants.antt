@@ -1,7 +1,7 @@
 use Rattle.std.proofs.Common.{◌≡◌, ◌++◌, drop}
 use Rattle.split_text.specs.SplitText.{parts_from}
 use Rattle.split_writer.specs.PartPlays.{lists}
-use Rattle.split_writer.specs.Texts.{texts}
+use Rattle.split_writer.specs.inside.Texts.{texts}
 use Rattle.split_writer.proofs.text.put_parts.Given as goal
 
 -- what was written, and then the other partitions, are all of them

@@ -2,7 +2,7 @@ use Rattle.std.proofs.Common.{◌++◌, ap, ◌∙◌, append_assoc, codes}
 use Rattle.rt_task.specs.declared.Parts.{Parts}
 use Rattle.split_text.specs.SplitText.{parts_from, sems_from, split_text}
 use Rattle.split_writer.specs.PartPlays.{lists}
-use Rattle.split_writer.specs.Texts.{texts}
+use Rattle.split_writer.specs.inside.Texts.{texts}
 use Rattle.split_writer.proofs.ListTexts.{text-whole}
 use Rattle.split_writer.proofs.text.split_text_of.Goals as goal
 

@@ -3,8 +3,8 @@ use Rattle.block_counts.specs.SeenWords.{tallies_of}
 use Rattle.trace_lines.specs.Known.{known_of}
 use Rattle.trace_lines.specs.Lines.{Line}
 use Rattle.trace_check.specs.declared.progress.Followed.TheVariants.{Whole, Wrong}
-use Rattle.trace_check.specs.Progress.{IsEndedAt, finished, missing, unfinished, wanted}
-use Rattle.trace_check.specs.RequestLines.{HaveStood, request_lines}
+use Rattle.trace_check.specs.inside.Progress.{IsEndedAt, finished, missing, unfinished, wanted}
+use Rattle.trace_check.specs.inside.RequestLines.{HaveStood, request_lines}
 use Rattle.trace_check.proofs.RequestLaws.{stood-rest, stood-within, wanted-length}
 use Rattle.trace_check.proofs.group.ended_at.Goals as goal
 

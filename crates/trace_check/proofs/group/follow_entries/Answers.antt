@@ -9,10 +9,10 @@ use Rattle.trace_text.specs.CountLines.{shown_as}
 use Rattle.trace_read.specs.Reading.{begins_with_digit}
 use Rattle.trace_course.specs.Places.{Place}
 use Rattle.trace_check.specs.declared.verdict.Verdict.TheVariants.{Invalid}
-use Rattle.trace_check.specs.Following.{HasTaken}
-use Rattle.trace_check.specs.GroupLines.{next_line}
-use Rattle.trace_check.specs.Judging.{IsJudged}
-use Rattle.trace_check.specs.Progress.{IsRight}
+use Rattle.trace_check.specs.inside.Following.{HasTaken}
+use Rattle.trace_check.specs.inside.GroupLines.{next_line}
+use Rattle.trace_check.specs.inside.Judging.{IsJudged}
+use Rattle.trace_check.specs.inside.Progress.{IsRight}
 use Rattle.trace_check.proofs.FirstLetters.{no-entry}
 use Rattle.trace_check.proofs.Judging.{followed-with, none-taken-there, place_at, refused-there, taken-rest, taken-right}
 use Rattle.trace_check.proofs.TextPlaces.{line-some, rest-of, taken-inside}

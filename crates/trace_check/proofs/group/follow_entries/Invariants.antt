@@ -2,7 +2,7 @@ use Rattle.std.proofs.Common.{◌-◌, ◌≤◌, List, length}
 use Rattle.trace_tools.specs.Places.{seats}
 use Rattle.trace_tools.specs.Seats.{Seat}
 use Rattle.trace_check.specs.declared.progress.Progress.{Progress}
-use Rattle.trace_check.specs.Progress.{IsRight}
+use Rattle.trace_check.specs.inside.Progress.{IsRight}
 use Rattle.trace_check.proofs.group.follow_entries.Given as goal
 
 -- the entries so far are right

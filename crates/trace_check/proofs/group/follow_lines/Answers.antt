@@ -7,8 +7,8 @@ use Rattle.trace_tools.specs.Seats.{Seat}
 use Rattle.trace_course.specs.Places.{Place}
 use Rattle.trace_check.specs.declared.progress.Entries.{Entries}
 use Rattle.trace_check.specs.declared.progress.Followed.{Followed}
-use Rattle.trace_check.specs.Following.{IsFollowingWith}
-use Rattle.trace_check.specs.Progress.{AreFollowed, AreRight, HasStood, IsEndedAt, IsFollowedTo, IsRight}
+use Rattle.trace_check.specs.inside.Following.{IsFollowingWith}
+use Rattle.trace_check.specs.inside.Progress.{AreFollowed, AreRight, HasStood, IsEndedAt, IsFollowedTo, IsRight}
 use Rattle.trace_check.proofs.Judging.{ended-there, entries-few, followed-with, group-low, opened-line, opened-right, opened-wrong, place-short, place_at, right-short}
 use Rattle.trace_check.proofs.TextPlaces.{begins-rest, rest-of, taken-inside}
 use Rattle.trace_check.proofs.group.follow_lines.Goals as goal

@@ -10,8 +10,8 @@ use Rattle.trace_tools.specs.Tools.{Tool}
 use Rattle.trace_check.specs.declared.verdict.Checked.{Checked}
 use Rattle.trace_check.specs.declared.verdict.Verdict.TheVariants.{Invalid}
 use Rattle.trace_check.specs.Counts.{IsCountedText}
-use Rattle.trace_check.specs.Judging.{IsJudgedText, IsShownText}
-use Rattle.trace_check.specs.Progress.{AreAllRight}
+use Rattle.trace_check.specs.inside.Judging.{IsJudgedText, IsShownText}
+use Rattle.trace_check.specs.inside.Progress.{AreAllRight}
 use Rattle.trace_check.proofs.Judging.{end-behind, end-counted, end-judged, end-shown, end-text, end-wrong}
 use Rattle.trace_check.proofs.TextPlaces.{rest-of}
 use Rattle.trace_check.proofs.judge.end_at.Goals as goal

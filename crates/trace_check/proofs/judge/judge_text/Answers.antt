@@ -2,7 +2,7 @@ use Rattle.std.proofs.Common.{false, ◌≡◌, ◌+◌, ℕ, List, map, sym, su
 use Rattle.std.proofs.lemmas.Result.{IfOk-weaker}
 use Rattle.rt_task.specs.declared.Parts.{Parts}
 use Rattle.rt_plays.specs.Plays.{group_count}
-use Rattle.rt_groups.proofs.GroupCount.{groups_are_counted}
+use Rattle.rt_plays.proofs.GroupCount.{groups_are_counted}
 use Rattle.trace_lines.specs.declared.format.Version.{Version}
 use Rattle.trace_tools.specs.Places.{seats}
 use Rattle.trace_tools.specs.Seats.{Seat, seat_of}
@@ -11,8 +11,8 @@ use Rattle.trace_check.specs.declared.progress.Followed.{Followed}
 use Rattle.trace_check.specs.declared.verdict.Checked.{Checked}
 use Rattle.trace_check.specs.declared.verdict.Verdict.TheVariants.{Invalid}
 use Rattle.trace_check.specs.Counts.{IsCountedText}
-use Rattle.trace_check.specs.Judging.{IsJudgedText, IsShownText}
-use Rattle.trace_check.specs.Progress.{AreAllRight, AreRight, IsFollowedTo}
+use Rattle.trace_check.specs.inside.Judging.{IsJudgedText, IsShownText}
+use Rattle.trace_check.specs.inside.Progress.{AreAllRight, AreRight, IsFollowedTo}
 use Rattle.trace_check.proofs.Judging.{right-first, right-short}
 use Rattle.trace_check.proofs.judge.judge_text.Goals as goal
 

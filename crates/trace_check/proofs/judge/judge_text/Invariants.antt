@@ -1,5 +1,5 @@
 use Rattle.trace_tools.specs.Places.{seats}
-use Rattle.trace_check.specs.Progress.{AreRight}
+use Rattle.trace_check.specs.inside.Progress.{AreRight}
 use Rattle.trace_check.proofs.judge.judge_text.Given as goal
 
 -- the text is right so far

@@ -2,7 +2,7 @@ use Rattle.std.proofs.Common.{◌-◌, List, ℕ, get_or, ap, refl, sym, ◌∙�
 use Rattle.std.specs.Prelude.{Option}
 use Rattle.rt_task.specs.declared.Act.TheVariants as acts
 use Rattle.rt_task.specs.declared.Step.{Step}
-use Rattle.turn_follow.specs.Turns.{numbers_of}
+use Rattle.body_play.specs.Turns.{numbers_of}
 use Rattle.trace_course.specs.Next.{AreFollowing}
 use Rattle.trace_course.specs.Places.{place_in}
 use Rattle.trace_course.proofs.Distances.{behind, following-first, following-next, next-first, next-set, next-without, place-there}

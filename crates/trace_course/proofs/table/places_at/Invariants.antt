@@ -1,7 +1,7 @@
 use Rattle.std.proofs.Common.{◌≡◌, ℕ, length, take}
 use Rattle.std.specs.Prelude.{None, Some, if◌then◌else◌}
 use Rattle.rt_rules.specs.Numbers.{has}
-use Rattle.turn_follow.specs.Turns.{numbers_of}
+use Rattle.body_play.specs.Turns.{numbers_of}
 use Rattle.trace_course.specs.Places.{place_in}
 use Rattle.trace_course.proofs.table.places_at.Given as goal
 

@@ -6,7 +6,7 @@ use Rattle.rt_task.specs.declared.Act.{Act}
 use Rattle.rt_model.specs.Histories.{after}
 use Rattle.rt_plays.specs.Turns.{has_none}
 use Rattle.rank_afresh.specs.Standing.{group_of}
-use Rattle.turn_follow.specs.Turns.{AreLooked, numbers_of}
+use Rattle.body_play.specs.Turns.{AreLooked, numbers_of}
 use Rattle.trace_course.proofs.turns.look_at.Goals as goal
 use Rattle.trace_course.proofs.turns.look_at.Goals.{then-awaits_look, else-awaits_look}
 

@@ -3,7 +3,7 @@ use Rattle.rt_task.specs.declared.Step.{Step}
 use Rattle.rt_model.specs.Histories.{after}
 use Rattle.rt_model.specs.Past.{Past}
 use Rattle.rank_afresh.specs.Standing.{IsAt, group_of}
-use Rattle.turn_follow.specs.Turns.{AreLooked, numbers_of}
+use Rattle.body_play.specs.Turns.{AreLooked, numbers_of}
 use Rattle.trace_course.proofs.turns.look_at.Given as goal
 
 -- the processors that were passed were looked at

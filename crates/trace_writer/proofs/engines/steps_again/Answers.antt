@@ -6,7 +6,7 @@ use Rattle.rt_rules.specs.declared.history.Entry.{Entry}
 use Rattle.rt_model.specs.Group.{Group}
 use Rattle.rt_model.specs.Histories.{IsLegal}
 use Rattle.rt_plays.specs.Plays.{group_count, group_with}
-use Rattle.rt_groups.specs.Groups.{AreStepsOf, GroupHistory, group_of}
+use Rattle.rt_plays.specs.Groups.{AreStepsOf, GroupHistory, group_of}
 use Rattle.set_plays.specs.declared.group_steps.GroupSteps.TheVariants.{Again}
 use Rattle.set_plays.specs.GroupSteps.{AreStepsIn, group_told}
 use Rattle.set_plays.proofs.GroupLaws.{all-push}

@@ -1,6 +1,6 @@
 use Rattle.std.proofs.Common.{◌≡◌, ◌<◌, ℕ, length, get_or}
 use Rattle.rt_plays.specs.Plays.{group_with}
-use Rattle.rt_groups.specs.Groups.{GroupHistory}
+use Rattle.rt_plays.specs.Groups.{GroupHistory}
 use Rattle.set_plays.specs.declared.group_steps.GroupSteps.{GroupSteps}
 use Rattle.set_plays.specs.GroupSteps.{AreStepsIn, group_told}
 use Rattle.trace_writer.proofs.engines.steps_again.Given as goal

@@ -1,6 +1,6 @@
 use Rattle.std.proofs.Common.{ap, sym, ◌∙◌, refl, arith}
 use Rattle.rt_model.specs.Group.{Group}
-use Rattle.rt_groups.specs.Groups.{GroupHistory}
+use Rattle.rt_plays.specs.Groups.{GroupHistory}
 use Rattle.trace_lines.specs.Known.{known_in}
 use Rattle.trace_lines.specs.Lines.{links_of}
 use Rattle.trace_tools.specs.Places.{seats}

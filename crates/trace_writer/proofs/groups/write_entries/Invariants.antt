@@ -1,5 +1,5 @@
 use Rattle.std.proofs.Common.{◌≡◌}
-use Rattle.rt_groups.specs.Groups.{group_of, past}
+use Rattle.rt_plays.specs.Groups.{group_of, past}
 use Rattle.trace_lines.specs.Known.{known_in}
 use Rattle.trace_tools.specs.Places.{seats}
 use Rattle.trace_writer.specs.Replays.{Follows, ahead}

@@ -1,5 +1,5 @@
 use Rattle.std.proofs.Common.{sym, ◌∙◌, arith}
-use Rattle.rt_groups.proofs.GroupCount.{groups_are_counted}
+use Rattle.rt_plays.proofs.GroupCount.{groups_are_counted}
 use Rattle.trace_lines.specs.Known.{known_in}
 use Rattle.trace_tools.specs.Places.{seats}
 use Rattle.trace_writer.proofs.CameLaws.{comes-last, comes-next, comes-stop, coming-by}

@@ -15,6 +15,6 @@ returns-in_err-write_bytes g c =
 
 pub returns : goal.returns
 returns g c =
-    let line_is : c.as_slice.result.now ≡ set_line c.args.parts.now = c.as_slice.ensures.value ∙ c.in_ok-line.ensures in
-    came-both g.K.Sink.held g.K.Sink.faults c.write_bytes-2.result c.args.out.now c.write_bytes.new.out c.write_bytes-2.new.out (heads.first_line c.args.version) (set_line c.args.parts.now)
-    (rw c.first_line.ensures at c.in_ok-write_bytes.ensures) (rw line_is at c.write_bytes-2.ensures)
+    let set_is : c.as_slice.result.now ≡ canonical c.args.parts.now = c.as_slice.ensures.value ∙ c.in_ok-set.ensures in
+    came-both g.K.Sink.held g.K.Sink.faults c.write_set_line.result c.args.out.now c.write_bytes.new.out c.write_set_line.new.out (heads.first_line c.args.version) (set_line c.args.parts.now)
+    (rw c.first_line.ensures at c.in_ok-write_bytes.ensures) (rw set_is at c.write_set_line.ensures)

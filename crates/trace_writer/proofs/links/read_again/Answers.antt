@@ -1,7 +1,7 @@
 use Rattle.std.proofs.Common.{sym, subst}
 use Rattle.std.specs.Prelude.{None}
 use Rattle.rt_plays.specs.Homes.{IsProcessorOf}
-use Rattle.rt_groups.specs.Groups.{group_of}
+use Rattle.rt_plays.specs.Groups.{group_of}
 use Rattle.trace_lines.specs.declared.links.CpuLink.{CpuLink}
 use Rattle.trace_text.proofs.ReplayLaws.{at_place}
 use Rattle.trace_writer.proofs.links.read_again.Goals as goal

@@ -1,5 +1,5 @@
 use Rattle.std.proofs.Common.{◌≡◌, ◌++◌, drop, take}
-use Rattle.rt_groups.specs.Groups.{group_of, past}
+use Rattle.rt_plays.specs.Groups.{group_of, past}
 use Rattle.trace_lines.specs.Lines.{links_of}
 use Rattle.trace_text.specs.Groups.{changed_links, cpus_in}
 use Rattle.trace_text.specs.TraceText.{links_at}

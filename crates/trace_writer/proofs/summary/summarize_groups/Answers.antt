@@ -1,6 +1,6 @@
 use Rattle.std.proofs.Common.{refl, ap, sym, ◌∙◌, arith}
 use Rattle.trace_tools.specs.Places.{seats}
-use Rattle.rt_groups.proofs.GroupCount.{groups_are_counted}
+use Rattle.rt_plays.proofs.GroupCount.{groups_are_counted}
 use Rattle.set_plays.specs.GroupSteps.{told}
 use Rattle.trace_writer.specs.Summaries.{summary_from}
 use Rattle.trace_writer.specs.declared.summary.Summary.{Summary}

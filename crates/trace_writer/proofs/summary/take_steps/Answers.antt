@@ -1,6 +1,6 @@
 use Rattle.std.proofs.Common.{ap, sym, ◌∙◌, refl, arith}
 use Rattle.rt_model.specs.Group.{Group}
-use Rattle.rt_groups.specs.Groups.{GroupHistory}
+use Rattle.rt_plays.specs.Groups.{GroupHistory}
 use Rattle.trace_tools.specs.Places.{seats}
 use Rattle.trace_writer.proofs.Replays.{taken-entry}
 use Rattle.trace_writer.proofs.Stepping.{count-end, lent-group, lent-of, playing-end, playing-first, playing-next, room-next, shown-end, shown-next, taking}

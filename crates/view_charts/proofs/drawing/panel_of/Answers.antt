@@ -7,7 +7,7 @@ use Rattle.chart_feed.specs.Feeds.{IsFed}
 use Rattle.chart_texts.specs.Charts as charts
 use Rattle.chart_texts.specs.Windows.{columns_in}
 use Rattle.chart_texts.specs.declared.window.Window.{Window}
-use Rattle.view_charts.specs.Drawings.{group_of}
+use Rattle.view_charts.specs.inside.Drawings.{group_of}
 use Rattle.view_charts.proofs.drawing.panel_of.Goals as goal
 
 pub close-requires-clause-clock : goal.close-requires-clause-clock

@@ -1,5 +1,5 @@
 use Rattle.std.proofs.Common.{◌∙◌, ◌+◌, ap, arith, length, sym}
-use Rattle.rt_groups.specs.Groups.{group_of, past}
+use Rattle.rt_plays.specs.Groups.{group_of, past}
 use Rattle.rt_model.specs.Histories.{past_of}
 use Rattle.rt_model.specs.Past.{now}
 use Rattle.chart_texts.specs.Windows.{length_on}

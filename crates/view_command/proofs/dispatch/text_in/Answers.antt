@@ -7,7 +7,7 @@ use Rattle.trace_tools.specs.Places.{seats}
 use Rattle.trace_tools.specs.Seats.{seat_of}
 use Rattle.trace_tools.specs.Tools.{Tool}
 use Rattle.sim_commands.proofs.UpgradeLaws.{head-says}
-use Rattle.view_command.specs.Viewing.{IsTextOf, IsViewed}
+use Rattle.view_command.specs.inside.Viewing.{IsTextOf, IsViewed}
 use Rattle.view_command.specs.declared.ending.ViewEnd.{ViewEnd}
 use Rattle.view_command.proofs.ViewLaws.{on-ok, view-said}
 use Rattle.view_command.proofs.dispatch.text_in.Goals as goal

@@ -5,7 +5,7 @@ use Rattle.rt_fault.specs.Held.{Extends, ExtendsByPrefix}
 use Rattle.trace_tools.specs.Tools.{Tool}
 use Rattle.sim_commands.proofs.CheckAnswerLaws.{on_err-holds, on_ok-holds}
 use Rattle.view_command.specs.View.{IsViewOf}
-use Rattle.view_command.specs.Viewing.{IsViewed}
+use Rattle.view_command.specs.inside.Viewing.{IsViewed}
 use Rattle.view_command.specs.declared.ending.ViewEnd.{ViewEnd}
 use Rattle.view_command.proofs.ViewLaws.{view-cut, view-none, view-unread, view-whole}
 use Rattle.view_command.proofs.dispatch.write_view.Goals as goal

@@ -1,7 +1,7 @@
 use Rattle.std.proofs.Common.{◌∙◌, ap}
 use Rattle.event_lines.specs.Shown.{task_track_shown}
 use Rattle.event_lines.specs.Tracks.{TaskTrack}
-use Rattle.view_events.specs.JobMarks.{marks_listed}
+use Rattle.view_events.specs.inside.JobMarks.{marks_listed}
 use Rattle.view_events.proofs.Tabled.{from-one, number-is, with-table, within}
 use Rattle.view_events.proofs.tracks.mark.Goals as goal
 

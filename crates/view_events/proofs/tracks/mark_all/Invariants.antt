@@ -3,7 +3,7 @@ use Rattle.rt_model.specs.Group.{Group}
 use Rattle.rt_model.specs.Past.{Past}
 use Rattle.chart_rows.proofs.Changed.{changed}
 use Rattle.event_lines.specs.Shown.{task_track_shown}
-use Rattle.view_events.specs.JobMarks.{AreJobsOf, HasTaskOf, with_marks}
+use Rattle.view_events.specs.inside.JobMarks.{AreJobsOf, HasTaskOf, with_marks}
 use Rattle.view_events.proofs.tracks.mark_all.Given as goal
 
 -- those so far are marked

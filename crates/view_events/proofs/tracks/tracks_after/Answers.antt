@@ -4,13 +4,13 @@ use Rattle.rt_task.specs.declared.Parts.{Parts}
 use Rattle.rt_model.specs.Group.{Group}
 use Rattle.rt_model.specs.Histories.{past_of}
 use Rattle.rt_plays.specs.Plays.{group_with}
-use Rattle.count_laws.specs.Tallies.{tallies}
+use Rattle.rt_changes.specs.Tallies.{tallies}
 use Rattle.event_lines.specs.Shown.{group_tracks_shown}
 use Rattle.event_lines.specs.Tracks.{GroupTracks}
 use Rattle.event_lines.specs.TracksOf.{tracks_of}
 use Rattle.span_feed.specs.Feeds.{IsFed}
 use Rattle.span_feed.specs.Spanned.{unmarked}
-use Rattle.view_events.specs.JobMarks.{AreJobsOf, HasTaskOf}
+use Rattle.view_events.specs.inside.JobMarks.{AreJobsOf, HasTaskOf}
 use Rattle.view_events.proofs.Marked.{marked-are, unmarked-tasks}
 use Rattle.view_events.proofs.tracks.tracks_after.Goals as goal
 

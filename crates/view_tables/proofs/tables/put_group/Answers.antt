@@ -2,7 +2,7 @@ use Rattle.std.proofs.Common.{◌≡◌, ◌∙◌, ◌<◌, ◌++◌, true, fal
 use Rattle.rt_task.specs.Validity.{IsValid}
 use Rattle.rt_task.specs.declared.Parts.{Parts}
 use Rattle.rt_model.specs.Group.{Group}
-use Rattle.view_tables.specs.Playing.{group_of}
+use Rattle.view_tables.specs.inside.Playing.{group_of}
 use Rattle.view_tables.specs.Texts.{is_of, task_text}
 use Rattle.view_tables.proofs.GroupTexts.{group-next, has-task, is_of-this, limits, so_far, so_far-all}
 use Rattle.view_tables.proofs.tables.put_group.Goals as goal

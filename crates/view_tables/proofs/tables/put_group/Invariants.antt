@@ -1,6 +1,6 @@
 use Rattle.std.proofs.Common.{◌≡◌, ◌++◌}
 use Rattle.rt_model.specs.Past.{Past}
-use Rattle.view_tables.specs.Playing.{IsPlayed, group_of}
+use Rattle.view_tables.specs.inside.Playing.{IsPlayed, group_of}
 use Rattle.view_tables.proofs.GroupTexts.{so_far}
 use Rattle.view_tables.proofs.tables.put_group.Given as goal
 

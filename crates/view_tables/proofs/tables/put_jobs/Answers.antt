@@ -6,7 +6,7 @@ use Rattle.job_facts.proofs.Few.{listed-few}
 use Rattle.job_views.specs.RowsShown.{row_shown}
 use Rattle.job_views.specs.Tables.{IsTableWith}
 use Rattle.job_views.proofs.Lines.{line-of}
-use Rattle.view_tables.specs.Playing.{group_of}
+use Rattle.view_tables.specs.inside.Playing.{group_of}
 use Rattle.view_tables.proofs.GroupTexts.{jobs-all, jobs-next, row-task, table-of}
 use Rattle.view_tables.proofs.tables.put_jobs.Goals as goal
 

@@ -5,7 +5,7 @@ use Rattle.rt_model.specs.Past.{Past}
 use Rattle.trace_views.specs.JobRows.{JobRow, job_row}
 use Rattle.table_texts.specs.Fields.{line_of}
 use Rattle.table_texts.specs.JobText.{job_fields}
-use Rattle.view_tables.specs.Playing.{HasTask, IsPlayed, group_of}
+use Rattle.view_tables.specs.inside.Playing.{HasTask, IsPlayed, group_of}
 use Rattle.view_tables.proofs.tables.put_jobs.Given as goal
 
 -- the lines of the jobs so far

@@ -7,7 +7,7 @@ use Rattle.table_texts.specs.TaskText.{task_fields}
 use Rattle.job_views.specs.Tables.{IsTableWith}
 use Rattle.job_views.specs.TaskRowsShown.{task_row_shown}
 use Rattle.view_tables.specs.declared.tables.Table.{Table}
-use Rattle.view_tables.specs.Playing.{group_of}
+use Rattle.view_tables.specs.inside.Playing.{group_of}
 use Rattle.view_tables.specs.Texts.{task_text}
 use Rattle.view_tables.proofs.GroupTexts.{table-of, task_row-task}
 use Rattle.view_tables.proofs.tables.put_lines.Goals as goal

@@ -7,7 +7,7 @@ use Rattle.trace_lines.specs.Lines.{links_of}
 use Rattle.trace_text.specs.Groups.{cpu_numbers}
 use Rattle.trace_text.specs.TraceText.{links_at}
 use Rattle.trace_text.proofs.ReplayLaws.{AreRead, as_many, changed_by, cpus_there}
-use Rattle.view_why.specs.Groups.{group_of}
+use Rattle.view_why.specs.inside.Groups.{group_of}
 use Rattle.view_why.proofs.entries.changed_links.Goals as goal
 
 pub read_links-requires : goal.read_links-requires

@@ -8,7 +8,7 @@ use Rattle.why_texts.specs.Pieces.{line, task_or_dash}
 use Rattle.why_texts.specs.Sentences.{sentence}
 use Rattle.why_texts.specs.WhyText.{ended_line, ran_line, trace_line}
 use Rattle.view_why.proofs.EntryLaws.{text-of_four}
-use Rattle.view_why.specs.Groups.{group_of}
+use Rattle.view_why.specs.inside.Groups.{group_of}
 use Rattle.view_why.proofs.entries.put_act_lines.Goals as goal
 
 pub returns : goal.returns

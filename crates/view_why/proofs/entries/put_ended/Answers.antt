@@ -10,7 +10,7 @@ use Rattle.rt_model.specs.Past.{PastAct}
 use Rattle.why_texts.specs.Pieces.{line, task_name}
 use Rattle.why_texts.specs.WhyText.{ended_line}
 use Rattle.view_why.proofs.EntryLaws.{ended-one, ended-there}
-use Rattle.view_why.specs.Groups.{group_of}
+use Rattle.view_why.specs.inside.Groups.{group_of}
 use Rattle.view_why.proofs.entries.put_ended.Goals as goal
 
 pub done-requires : goal.done-requires

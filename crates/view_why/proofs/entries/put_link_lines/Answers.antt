@@ -5,9 +5,9 @@ use Rattle.rt_model.specs.Group.{group_processors}
 use Rattle.trace_lines.specs.Lines.{links_of}
 use Rattle.why_texts.specs.Pieces.{line}
 use Rattle.why_texts.specs.WhyText.{link_line}
-use Rattle.view_why.specs.LinkLines.{lines_of}
+use Rattle.view_why.specs.inside.LinkLines.{lines_of}
 use Rattle.view_why.proofs.EntryLaws.{links-lines}
-use Rattle.view_why.specs.Groups.{group_of}
+use Rattle.view_why.specs.inside.Groups.{group_of}
 use Rattle.view_why.proofs.entries.put_link_lines.Goals as goal
 
 pub returns : goal.returns

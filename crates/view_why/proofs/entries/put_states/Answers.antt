@@ -6,7 +6,7 @@ use Rattle.rt_model.specs.Histories.{after, clock_moved}
 use Rattle.why_texts.specs.Pieces.{line}
 use Rattle.why_texts.specs.StateText.{state_text}
 use Rattle.view_why.proofs.EntryLaws.{text-of_four}
-use Rattle.view_why.specs.Groups.{group_of}
+use Rattle.view_why.specs.inside.Groups.{group_of}
 use Rattle.view_why.proofs.entries.put_states.Goals as goal
 
 pub put_state-requires : goal.put_state-requires

@@ -1,7 +1,7 @@
 use Rattle.std.proofs.Common.{◌∙◌, ◌++◌, List, ap}
 use Rattle.std.proofs.lemmas.Result.{on_ok_weaker}
 use Rattle.rt_model.specs.Histories.{after}
-use Rattle.view_why.specs.Groups.{group_of}
+use Rattle.view_why.specs.inside.Groups.{group_of}
 use Rattle.trace_lines.specs.Grammar.{line_text}
 use Rattle.trace_lines.specs.Known.{known_of}
 use Rattle.trace_lines.specs.Lines.{Link, entry_line, links_of}

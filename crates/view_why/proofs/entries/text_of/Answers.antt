@@ -1,7 +1,7 @@
 use Rattle.std.proofs.Common.{◌∙◌, ◌++◌, ap, append_assoc}
-use Rattle.view_why.specs.Parts.{act_lines, link_lines, states_lines}
+use Rattle.view_why.specs.inside.Parts.{act_lines, link_lines, states_lines}
 use Rattle.view_why.proofs.EntryLaws.{entry-parts}
-use Rattle.view_why.specs.Groups.{group_of}
+use Rattle.view_why.specs.inside.Groups.{group_of}
 use Rattle.view_why.proofs.entries.text_of.Goals as goal
 
 pub returns : goal.returns

@@ -1,7 +1,7 @@
 use Rattle.std.proofs.Common.{◌≡◌, ◌++◌, drop}
 use Rattle.trace_lines.specs.Lines.{links_of}
 use Rattle.why_lines.specs.GroupSets.{group_in}
-use Rattle.view_why.specs.LinkLines.{lines_of}
+use Rattle.view_why.specs.inside.LinkLines.{lines_of}
 use Rattle.view_why.proofs.links.put_links.Given as goal
 
 -- what was written, and then the lines of the rest, are those of all

@@ -13,7 +13,7 @@ use Rattle.trace_text.specs.TraceText.{links_at}
 use Rattle.trace_text.proofs.ReplayLaws.{cpus_there}
 use Rattle.view_replay.specs.Replays as replays
 use Rattle.why_texts.specs.StateText.{state_text}
-use Rattle.view_why.specs.Groups.{group_of}
+use Rattle.view_why.specs.inside.Groups.{group_of}
 use Rattle.view_why.proofs.noted.take_noting.Goals as goal
 
 pub read_links-requires : goal.read_links-requires

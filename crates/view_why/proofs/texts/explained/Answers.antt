@@ -1,6 +1,6 @@
 use Rattle.std.proofs.Common.{◌≡◌, List, length, sym, ap, arith}
 use Rattle.rt_rules.specs.declared.history.Entry.{Entry}
-use Rattle.rt_groups.specs.Groups.{group_of}
+use Rattle.rt_plays.specs.Groups.{group_of}
 use Rattle.rt_plays.specs.Plays.{group_with}
 use Rattle.view_why.proofs.EntryLaws.{explained-none, why-entry}
 use Rattle.view_why.proofs.texts.explained.Goals as goal

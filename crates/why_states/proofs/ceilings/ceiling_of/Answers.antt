@@ -1,6 +1,6 @@
 use Rattle.std.proofs.Common.{◌∙◌, ap}
 use Rattle.why_lines.specs.GroupSets.{group_in}
-use Rattle.why_states.specs.Keys.{highest_of}
+use Rattle.why_states.specs.inside.Keys.{highest_of}
 use Rattle.why_states.proofs.Facts.{ceiling-by-priority}
 use Rattle.why_states.proofs.ceilings.ceiling_of.Goals as goal
 

@@ -4,7 +4,7 @@ use Rattle.rt_base.specs.TaskNos.{numbers}
 use Rattle.rt_rules.specs.Keys.{highest}
 use Rattle.rt_model.specs.Group.{declares}
 use Rattle.why_lines.specs.GroupSets.{group_in}
-use Rattle.why_states.specs.Keys.{highest_of, key_of_priority}
+use Rattle.why_states.specs.inside.Keys.{highest_of, key_of_priority}
 use Rattle.why_states.proofs.ceilings.highest_key.Given as goal
 
 -- the highest so far, and the rest

@@ -4,7 +4,7 @@ use Rattle.rt_base.specs.declared.TheConstants.{MOST_CPUS}
 use Rattle.rt_task.specs.declared.Cluster.{Cluster}
 use Rattle.rt_rules.specs.Numbers.{numbers_from}
 use Rattle.rt_model.specs.Group.{clusters, first_in, in_group}
-use Rattle.rt_groups.proofs.SetLimits.{sets_are_in_limits}
+use Rattle.rt_plays.proofs.SetLimits.{sets_are_in_limits}
 use Rattle.rank_afresh.proofs.SetLists.{cpus-read, cpus_of, first-more, first-read, first-within, group-read}
 use Rattle.why_texts.specs.ClusterLines.{cluster_lines}
 use Rattle.why_states.proofs.Rows.{row-next, unequal}

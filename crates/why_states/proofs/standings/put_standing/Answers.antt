@@ -4,7 +4,7 @@ use Rattle.rt_rules.specs.Numbers.{has}
 use Rattle.rt_model.specs.Group.{Group, tasks}
 use Rattle.rt_model.specs.Holders.{awaits}
 use Rattle.rt_model.specs.Sleep.{sleeps, wakes}
-use Rattle.rt_laws.proofs.Waiting.{awaits-waits}
+use Rattle.rt_laws.proofs.semaphores.Waiting.{awaits-waits}
 use Rattle.why_texts.specs.Standings.{standing}
 use Rattle.why_states.specs.States.{IsAt, group_of}
 use Rattle.why_states.proofs.standings.put_standing.Goals as goal

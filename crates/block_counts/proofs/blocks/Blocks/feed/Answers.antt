@@ -5,7 +5,7 @@ use Rattle.rt_base.specs.TaskNos.{number_of_task}
 use Rattle.rt_task.specs.declared.Parts.{Parts}
 use Rattle.rt_rules.specs.SemState.{SemAct}
 use Rattle.rt_model.specs.Blocking.{bound}
-use Rattle.count_laws.specs.Tallies.{Tally, counted, fed}
+use Rattle.rt_changes.specs.Tallies.{Tally, counted, fed}
 use Rattle.block_counts.specs.GroupRequests.{GroupRequests, NamesKnown, group_of}
 use Rattle.block_counts.specs.Bounding.{CanBound}
 use Rattle.block_counts.specs.SeenWords.{tallies_of, tally_of, waiters_of}

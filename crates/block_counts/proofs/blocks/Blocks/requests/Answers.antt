@@ -1,8 +1,8 @@
 use Rattle.std.proofs.Common.{All, ap, subst, sym, ◌∙◌, ◌≡◌}
 use Rattle.rt_task.specs.Validity.{IsValid}
-use Rattle.count_laws.specs.OpenLaws.{IsWithin}
-use Rattle.count_laws.specs.Tallies.{tallies}
-use Rattle.count_laws.proofs.Bounds.{seen_within_bound}
+use Rattle.rt_changes.specs.OpenLaws.{IsWithin}
+use Rattle.rt_changes.specs.Tallies.{tallies}
+use Rattle.rt_changes.proofs.requests.Bounds.{seen_within_bound}
 use Rattle.block_counts.specs.GroupRequests.{GroupRequests, group_of}
 use Rattle.block_counts.specs.SeenWords.{tallies_of}
 use Rattle.block_counts.proofs.blocks.Blocks.requests.Goals as goal

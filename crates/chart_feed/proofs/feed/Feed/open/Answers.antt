@@ -1,6 +1,6 @@
 use Rattle.std.proofs.Common.{◌≡◌, ◌∙◌, ap, arith, length, refl, sym}
 use Rattle.rt_task.specs.declared.Parts.{Parts}
-use Rattle.rt_groups.proofs.SetLimits.{sets_are_in_limits}
+use Rattle.rt_plays.proofs.SetLimits.{sets_are_in_limits}
 use Rattle.chart_feed.specs.EntryClocks.{clocks_in}
 use Rattle.chart_feed.proofs.Feeding.{none-noted}
 use Rattle.chart_feed.proofs.feed.Feed.open.Goals as goal

@@ -1,7 +1,7 @@
 use Rattle.std.proofs.Common.{◌≡◌, ◌∙◌, length, map, ap, arith}
 use Rattle.std.proofs.lemmas.List.{with_items_is}
 use Rattle.rank_afresh.specs.Standing.{group_of}
-use Rattle.chart_rows.specs.Plays.{played_shown}
+use Rattle.chart_rows.specs.inside.Plays.{played_shown}
 use Rattle.chart_rows.specs.Rows.{cpu_closed, played, resv_closed, rows_closed, task_closed}
 use Rattle.chart_rows.proofs.rows.Rows.close.Goals as goal
 

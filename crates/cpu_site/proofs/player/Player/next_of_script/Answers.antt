@@ -5,8 +5,8 @@ use Rattle.rt_rules.specs.declared.history.Entry.{Entry}
 use Rattle.rt_model.specs.Group.{Group}
 use Rattle.rt_plays.specs.Homes.{IsProcessorOf}
 use Rattle.rt_plays.specs.Plays.{IsBegunPlay}
-use Rattle.rt_groups.specs.Drives.{gives_steps}
-use Rattle.rt_groups.specs.Groups.{GroupHistory, group_of, with_entry}
+use Rattle.rt_plays.specs.Drives.{gives_steps}
+use Rattle.rt_plays.specs.Groups.{GroupHistory, group_of, with_entry}
 use Rattle.cpu_site.specs.Playing.{IsFar, IsNextEntry, IsOver, IsPlaying}
 use Rattle.cpu_site.proofs.Advancing.{place-there, over-read, taking-read, playing-few}
 use Rattle.cpu_site.proofs.Drives.{far-script}

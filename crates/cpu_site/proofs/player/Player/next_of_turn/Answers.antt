@@ -2,7 +2,7 @@ use Rattle.std.proofs.Common.{◌≡◌, ℕ, ◌+◌, ◌<◌, ◌≤◌, lengt
 use Rattle.rt_base.specs.declared.TheConstants.{MOST_STEPS}
 use Rattle.rt_task.specs.declared.Parts.{Parts}
 use Rattle.rt_rules.specs.declared.history.Entry.{Entry}
-use Rattle.rt_groups.specs.Groups.{GroupHistory, group_of, past, with_entry}
+use Rattle.rt_plays.specs.Groups.{GroupHistory, group_of, past, with_entry}
 use Rattle.rt_model.specs.Histories.{reply_to}
 use Rattle.rt_model.specs.Steps.{IsStepOf}
 use Rattle.rt_plays.specs.Drives.{horizon}

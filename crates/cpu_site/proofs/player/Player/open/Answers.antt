@@ -7,7 +7,7 @@ use Rattle.rt_task.specs.declared.Drive.{Drive}
 use Rattle.rt_task.specs.declared.Step.{Step}
 use Rattle.rt_rules.specs.Numbers.{has}
 use Rattle.rt_model.specs.Group.{group_processors}
-use Rattle.rt_groups.specs.Groups.{GroupHistory}
+use Rattle.rt_plays.specs.Groups.{GroupHistory}
 use Rattle.rt_plays.specs.Drives.{horizon, steps_given}
 use Rattle.rt_plays.specs.Order.{steps_in_group}
 use Rattle.rt_plays.specs.Plays.{group_with}
@@ -18,7 +18,7 @@ use Rattle.cpu_site.specs.Playing.{room_in}
 use Rattle.cpu_site.proofs.Advancing.{playing-opened, steps-low}
 use Rattle.cpu_site.proofs.Drives.{room-few, room-is}
 use Rattle.cpu_site.proofs.Numbering.{cpus-read}
-use Rattle.rt_groups.proofs.GroupLimits.{turns-few}
+use Rattle.rt_plays.proofs.GroupLimits.{turns-few}
 use Rattle.cpu_site.proofs.SetFacts.{group-steps_few}
 use Rattle.cpu_site.proofs.player.Player.open.Goals as goal
 

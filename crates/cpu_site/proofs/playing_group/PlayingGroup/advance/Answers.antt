@@ -1,6 +1,6 @@
 use Rattle.std.proofs.Common.{length, ap, sym, ◌∙◌, arith, length-append, ◌∷◌, []}
 use Rattle.rt_model.specs.Group.{group_processors}
-use Rattle.rt_groups.specs.Groups.{GroupHistory}
+use Rattle.rt_plays.specs.Groups.{GroupHistory}
 use Rattle.cpu_site.proofs.Sighting.{group-same, raises-low, raises-more}
 use Rattle.cpu_site.proofs.playing_group.PlayingGroup.advance.Goals as goal
 

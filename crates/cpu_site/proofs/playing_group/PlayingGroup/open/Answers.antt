@@ -1,7 +1,7 @@
 use Rattle.std.proofs.Common.{◌≡◌, sym, ap, ◌∙◌, subst, arith}
 use Rattle.rt_model.specs.Group.{group_processors}
 use Rattle.rt_plays.specs.Plays.{IsBegunPlay}
-use Rattle.rt_groups.specs.Groups.{GroupHistory, group_of}
+use Rattle.rt_plays.specs.Groups.{GroupHistory, group_of}
 use Rattle.cpu_site.specs.Cpus.{cpu_numbers}
 use Rattle.cpu_site.proofs.Numbering.{cpus-read}
 use Rattle.cpu_site.proofs.Sighting.{raises-none}

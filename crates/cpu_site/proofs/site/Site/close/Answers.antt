@@ -4,7 +4,7 @@ use Rattle.rt_plays.specs.Homes.{IsProcessorOf}
 use Rattle.rt_plays.specs.Plays.{IsBegunPlay}
 use Rattle.turn_cell.specs.Places.{TurnOf}
 use Rattle.turn_cell.specs.Words.{AgreeOn, StartsWith}
-use Rattle.rt_groups.specs.Groups.{GroupHistory, group_of}
+use Rattle.rt_plays.specs.Groups.{GroupHistory, group_of}
 use Rattle.cpu_site.specs.declared.story.GroupOf.{GroupOf}
 use Rattle.cpu_site.specs.Seats.{cpu_of, group_at, About, CpuPlace}
 use Rattle.cpu_site.proofs.Returning.{back-all, back-end, back-more, later-all, middle, taken-more, whole-all}

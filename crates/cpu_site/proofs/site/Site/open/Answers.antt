@@ -1,13 +1,13 @@
 use Rattle.std.proofs.Common.{◌≡◌, ◌<◌, ◌≤◌, ◌∷◌, [], length, sym, ap, ◌∙◌, arith, append-nil}
 use Rattle.std.proofs.lemmas.List.{length-map}
 use Rattle.rt_model.specs.Group.{group_processors}
-use Rattle.rt_groups.specs.Groups.{GroupHistory, group_of}
+use Rattle.rt_plays.specs.Groups.{GroupHistory, group_of}
 use Rattle.rt_plays.specs.Plays.{group_with}
 use Rattle.cpu_site.specs.Cpus.{cpu_numbers}
 use Rattle.cpu_site.specs.Seats.{unused_seat}
 use Rattle.cpu_site.proofs.Numbering.{cpus-read}
 use Rattle.cpu_site.proofs.Returning.{all-put, fresh-about, fresh-last, fresh-self, put-more, raises-opened, seat-numbered, taken-more}
-use Rattle.rt_groups.proofs.GroupLimits.{processor-some}
+use Rattle.rt_plays.proofs.GroupLimits.{processor-some}
 use Rattle.cpu_site.proofs.SetFacts.{cpus-few}
 use Rattle.cpu_site.proofs.site.Site.open.Goals as goal
 

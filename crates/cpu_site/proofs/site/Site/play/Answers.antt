@@ -1,6 +1,6 @@
 use Rattle.std.proofs.Common.{length, sym, ap, ◌∙◌, subst, arith, vec_capacity}
 use Rattle.rt_model.specs.Group.{Group}
-use Rattle.rt_groups.specs.Groups.{GroupHistory, group_of}
+use Rattle.rt_plays.specs.Groups.{GroupHistory, group_of}
 use Rattle.cpu_site.specs.Playing.{IsFar}
 use Rattle.cpu_site.proofs.SetFacts.{cpus-few}
 use Rattle.cpu_site.proofs.Seating as seating

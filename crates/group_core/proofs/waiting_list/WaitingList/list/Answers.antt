@@ -1,7 +1,7 @@
 use Rattle.std.proofs.Common.{◌≡◌, refl, sym, ap, ◌∙◌, arith}
 use Rattle.std.specs.Prelude.{Some}
 use Rattle.block_counts.specs.SeenWords.{waiters_of}
-use Rattle.group_facts.specs.Kept.{cpu_of}
+use Rattle.group_jobs.specs.Kept.{cpu_of}
 use Rattle.group_core.specs.Listing.{freed_at}
 use Rattle.group_core.specs.WaitingList.{WaitingList}
 use Rattle.group_core.proofs.Freeing.{freed-held, listed-can, listed-few, listed-once, names-sem, told-are, told-none}

@@ -1,5 +1,5 @@
 use Rattle.std.proofs.Common.{◌≡◌, ◌≤◌, count_by, take}
-use Rattle.group_core.specs.Blocked.{is_above}
+use Rattle.group_core.specs.inside.Blocked.{is_above}
 use Rattle.group_core.proofs.waiting_list.blocked.is_among_first.Given as goal
 
 -- those among the tasks so far were counted

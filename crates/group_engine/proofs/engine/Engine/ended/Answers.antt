@@ -1,6 +1,6 @@
 use Rattle.std.proofs.Common.{ap, ◌∙◌}
-use Rattle.rt_groups.specs.Endings.{ended_last}
-use Rattle.rt_groups.specs.Groups.{GroupHistory, group_of, past}
+use Rattle.rt_plays.specs.Endings.{ended_last}
+use Rattle.rt_plays.specs.Groups.{GroupHistory, group_of, past}
 use Rattle.group_engine.proofs.engine.Engine.ended.Goals as goal
 
 pub returns : goal.returns

@@ -1,5 +1,5 @@
-use Rattle.std.proofs.Common.{◌≡◌, ◌∷◌, ◌++◌, [], sym, ◌∙◌, subst}
-use Rattle.rt_groups.specs.Groups.{GroupHistory, group_of}
+use Rattle.std.proofs.Common.{◌∷◌, ◌++◌, [], sym, ◌∙◌, subst}
+use Rattle.rt_plays.specs.Groups.{GroupHistory, group_of}
 use Rattle.group_engine.specs.Links.{AreMarked}
 use Rattle.group_engine.proofs.LinksKept.{linked-none}
 use Rattle.group_engine.proofs.engine.Engine.has_placed.Goals as goal

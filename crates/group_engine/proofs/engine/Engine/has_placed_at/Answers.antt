@@ -1,7 +1,7 @@
 use Rattle.std.proofs.Common.{◌≡◌, ◌∷◌, ◌++◌, [], sym, ap, ◌∙◌, subst}
-use Rattle.rt_model.specs.Group.{Group, cluster_with}
+use Rattle.rt_model.specs.Group.{cluster_with}
 use Rattle.rt_plays.specs.Homes.{IsProcessorOf}
-use Rattle.rt_groups.specs.Groups.{GroupHistory, group_of}
+use Rattle.rt_plays.specs.Groups.{GroupHistory, group_of}
 use Rattle.cluster_table.specs.Marks.{IsUnmarked}
 use Rattle.group_engine.specs.Links.{AreMarked}
 use Rattle.group_engine.proofs.LinksKept.{linked-unmarked}

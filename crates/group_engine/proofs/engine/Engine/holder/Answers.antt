@@ -1,6 +1,6 @@
 use Rattle.std.proofs.Common.{ap, sym, subst, ◌∙◌}
 use Rattle.rt_model.specs.Holders.{holder}
-use Rattle.rt_groups.specs.Groups.{GroupHistory, group_of, past}
+use Rattle.rt_plays.specs.Groups.{GroupHistory, group_of, past}
 use Rattle.group_engine.specs.Moments.{IsDeclared}
 use Rattle.group_engine.proofs.Stepping.{moment}
 use Rattle.group_engine.proofs.engine.Engine.holder.Goals as goal

@@ -1,5 +1,5 @@
 use Rattle.std.proofs.Common.{subst}
-use Rattle.rt_groups.specs.Groups.{GroupHistory, group_of, past}
+use Rattle.rt_plays.specs.Groups.{GroupHistory, group_of, past}
 use Rattle.group_engine.specs.Keys.{HoldsKeys}
 use Rattle.group_engine.proofs.Settling.{keys-held}
 use Rattle.group_engine.proofs.engine.Engine.keys.Goals as goal

@@ -1,8 +1,8 @@
 use Rattle.std.proofs.Common.{◌≡◌, ℕ, true, subst, sym}
 use Rattle.rt_rules.specs.Numbers.{has}
 use Rattle.rt_model.specs.Group.{clusters}
-use Rattle.rank_changes.specs.Clusters.{HoldsEligible}
-use Rattle.rt_groups.specs.Groups.{GroupHistory, group_of, past}
+use Rattle.rt_changes.specs.Clusters.{HoldsEligible}
+use Rattle.rt_plays.specs.Groups.{GroupHistory, group_of, past}
 use Rattle.group_engine.proofs.Stepping.{moment}
 use Rattle.group_engine.proofs.engine.Engine.ready.Goals as goal
 

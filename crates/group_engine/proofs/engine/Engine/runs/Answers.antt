@@ -1,6 +1,6 @@
 use Rattle.std.proofs.Common.{ap, ◌∙◌}
 use Rattle.rt_model.specs.Runs.{runs}
-use Rattle.rt_groups.specs.Groups.{GroupHistory, past}
+use Rattle.rt_plays.specs.Groups.{GroupHistory, past}
 use Rattle.group_engine.proofs.Stepping.{at_home, moment}
 use Rattle.group_engine.proofs.engine.Engine.runs.Goals as goal
 

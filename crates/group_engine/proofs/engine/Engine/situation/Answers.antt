@@ -1,6 +1,6 @@
 use Rattle.std.proofs.Common.{ap, ◌∙◌}
 use Rattle.rt_model.specs.Situations.{situation}
-use Rattle.rt_groups.specs.Groups.{GroupHistory, group_of, past}
+use Rattle.rt_plays.specs.Groups.{GroupHistory, group_of, past}
 use Rattle.group_engine.proofs.Stepping.{at_home, moment}
 use Rattle.group_engine.proofs.engine.Engine.situation.Goals as goal
 

@@ -2,14 +2,14 @@ use Rattle.std.proofs.Common.{◌≡◌, ap, ◌∙◌}
 use Rattle.std.specs.Prelude.{Some}
 use Rattle.rt_model.specs.Group.{cluster_with}
 use Rattle.cluster_table.specs.Table.{cluster_at}
-use Rattle.group_core.specs.Words.{Moment}
+use Rattle.group_core.specs.Words.{GroupAt}
 use Rattle.group_engine.specs.State.{HasClusterAt}
 use Rattle.group_engine.proofs.Running.{has_processor, link-read, own_cluster}
 use Rattle.group_engine.proofs.state.GroupState.linked.Goals as goal
 
 pub linked-requires : goal.linked-requires
 linked-requires c =
-    let at : Moment = c.requires.0 in
+    let at : GroupAt = c.requires.0 in
     rw c.home-home.ensures (has_processor at.group c.args.cpu.0 c.requires.2 at.past c.args.self.now c.requires.1)
 
 pub returns : goal.returns

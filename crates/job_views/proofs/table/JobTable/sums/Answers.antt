@@ -1,7 +1,7 @@
 use Rattle.std.proofs.Common.{◌∙◌, ◌+◌, sym, arith}
 use Rattle.job_facts.proofs.RowSums.{sums-none}
 use Rattle.job_views.specs.RowsShown.{row_shown}
-use Rattle.job_views.specs.SumsShown.{sums_shown}
+use Rattle.job_views.specs.inside.SumsShown.{sums_shown}
 use Rattle.job_views.proofs.Lines.{jobs-few, line-of, sums-next}
 use Rattle.job_views.proofs.table.JobTable.sums.Goals as goal
 

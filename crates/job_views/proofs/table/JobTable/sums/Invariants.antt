@@ -5,7 +5,7 @@ use Rattle.rt_model.specs.Jobs.{done}
 use Rattle.rt_model.specs.Past.{Past}
 use Rattle.trace_views.specs.JobRows.{job_row}
 use Rattle.job_facts.specs.Sums.{sums_of}
-use Rattle.job_views.specs.SumsShown.{FitsRows, sums_shown}
+use Rattle.job_views.specs.inside.SumsShown.{FitsRows, sums_shown}
 use Rattle.job_views.specs.Tables.{IsTableWith}
 use Rattle.job_views.proofs.table.JobTable.sums.Given as goal
 

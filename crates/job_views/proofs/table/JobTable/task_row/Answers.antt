@@ -4,7 +4,7 @@ use Rattle.block_counts.specs.SeenWords.{tallies_of}
 use Rattle.trace_views.specs.JobRows.{job_row}
 use Rattle.job_facts.specs.Sums.{due_in, released_in, sums_of, task_row_from}
 use Rattle.job_facts.proofs.Few.{listed-few}
-use Rattle.job_views.specs.SumsShown.{sums_shown}
+use Rattle.job_views.specs.inside.SumsShown.{sums_shown}
 use Rattle.job_views.proofs.Lines.{ended-low, task-period, task_row-is}
 use Rattle.job_views.proofs.table.JobTable.task_row.Goals as goal
 

@@ -9,9 +9,9 @@ use Rattle.rt_model.specs.Group.{no_cluster}
 use Rattle.rt_plays.specs.Plays.{group_with}
 use Rattle.mpcp_ceilings.specs.Ceilings.{AreCeilings}
 use Rattle.part_state.specs.States.{opened}
-use Rattle.part_player.specs.Openings.{tasks_at}
+use Rattle.part_player.specs.inside.Openings.{tasks_at}
 use Rattle.std.specs.Prelude.{slice_index_or}
-use Rattle.rt_groups.proofs.SetLimits.{sets_are_in_limits}
+use Rattle.rt_plays.proofs.SetLimits.{sets_are_in_limits}
 use Rattle.part_player.specs.Kept.{IsKept}
 use Rattle.part_player.specs.Players.{IsOfSplit, own_script}
 use Rattle.part_player.proofs.FinishLaws.{opened-kept}

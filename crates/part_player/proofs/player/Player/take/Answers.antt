@@ -1,7 +1,7 @@
 use Rattle.std.proofs.Common.{◌≡◌, ◌++◌, ◌∷◌, [], List, Bool, false, Some, sym, ap, ◌∙◌, subst, arith}
 use Rattle.rt_base.specs.TaskNos.{numbers}
 use Rattle.rt_rules.specs.declared.history.Reply.TheVariants as replies
-use Rattle.group_facts.proofs.KeptMoves.{task-range}
+use Rattle.group_jobs.proofs.KeptMoves.{task-range}
 use Rattle.split_rules.specs.PartHistories.{past_of}
 use Rattle.split_rules.specs.PartSems.{awaiting}
 use Rattle.split_rules.specs.Partitions.{part_group}

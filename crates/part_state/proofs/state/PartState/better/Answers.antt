@@ -1,5 +1,5 @@
 use Rattle.std.proofs.Common.{◌≡◌, Some, sym, ◌∙◌, subst}
-use Rattle.part_state.specs.Candidates.{ranked, ranked_best}
+use Rattle.part_state.specs.inside.Candidates.{ranked, ranked_best}
 use Rattle.part_state.specs.Reads.{better_with}
 use Rattle.part_state.proofs.Linking.{goes-first, no-better, the-first}
 use Rattle.part_state.proofs.state.PartState.better.Goals as goal

@@ -1,7 +1,7 @@
 use Rattle.std.proofs.Common.{◌-◌, drop, sym, ap, ◌∙◌, arith}
 use Rattle.rt_base.specs.TaskNos.{numbers}
 use Rattle.rt_rules.specs.Rankings.{ranked_by}
-use Rattle.part_state.specs.Candidates.{head}
+use Rattle.part_state.specs.inside.Candidates.{head}
 use Rattle.part_state.specs.Reads.{better_with, key_in, may_run}
 use Rattle.part_state.proofs.Linking.{head-ranked, one-more, there}
 use Rattle.part_state.proofs.state.PartState.linked.Goals as goal

@@ -1,7 +1,7 @@
 use Rattle.std.proofs.Common.{◌≡◌, drop}
 use Rattle.rt_base.specs.TaskNos.{numbers}
 use Rattle.rt_rules.specs.Rankings.{ranked_by}
-use Rattle.part_state.specs.Candidates.{head, ranked_best}
+use Rattle.part_state.specs.inside.Candidates.{head, ranked_best}
 use Rattle.part_state.specs.Reads.{key_in, may_run}
 use Rattle.part_state.proofs.state.PartState.linked.Given as goal
 

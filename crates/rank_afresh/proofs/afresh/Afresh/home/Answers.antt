@@ -1,6 +1,6 @@
 use Rattle.std.proofs.Common.{◌≡◌, ℕ, ◌<◌, ◌≤◌, List, length, get_or, sym, ap, ◌∙◌, subst, arith}
 use Rattle.rt_base.specs.declared.TheConstants.{MOST_CLUSTERS}
-use Rattle.rt_groups.proofs.SetLimits.{sets_are_in_limits}
+use Rattle.rt_plays.proofs.SetLimits.{sets_are_in_limits}
 use Rattle.rt_plays.specs.Homes.{IsProcessorOf}
 use Rattle.rank_afresh.specs.contracts.afresh.Afresh.{the_view}
 use Rattle.rank_afresh.specs.Facts.{home_of}

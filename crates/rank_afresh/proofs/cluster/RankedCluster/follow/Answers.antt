@@ -6,7 +6,7 @@ use Rattle.rt_rules.specs.Distinct.{IsDistinct}
 use Rattle.rt_rules.specs.Numbers.{has}
 use Rattle.rt_rules.specs.Rankings.{tasks_of}
 use Rattle.rt_rules.proofs.RankedLaws.{distinct-take, has-take}
-use Rattle.group_facts.specs.Kept.{Kept}
+use Rattle.group_jobs.specs.Kept.{Kept}
 use Rattle.rank_afresh.specs.contracts.cluster.RankedCluster.{the_view}
 use Rattle.rank_afresh.specs.declared.ran.Ran.{Ran}
 use Rattle.rank_afresh.specs.declared.ran.Ran.TheVariants as rans

@@ -5,7 +5,7 @@ use Rattle.rt_base.specs.TaskNos.{number_of_task, numbers_of_tasks}
 use Rattle.rt_base.specs.declared.TaskNo.{TaskNo}
 use Rattle.rt_rules.proofs.BoolLaws.{both}
 use Rattle.link_table.proofs.PlaceLaws.{numbers_of_tasks-set, read-at_place}
-use Rattle.group_facts.specs.Kept.{cpu_of}
+use Rattle.group_jobs.specs.Kept.{cpu_of}
 use Rattle.rank_afresh.specs.contracts.cluster.RankedCluster.{the_view}
 use Rattle.rank_afresh.specs.Clusters.{ClusterFacts, RunsStay, has_cpu}
 use Rattle.rank_afresh.proofs.SetLists.{same-task}

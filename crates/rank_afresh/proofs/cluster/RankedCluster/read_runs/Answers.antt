@@ -1,6 +1,6 @@
 use Rattle.std.proofs.Common.{◌≡◌, ◌-◌, true, length, length-set, set, sym, ap, ◌∙◌, subst}
 use Rattle.rt_base.specs.declared.CpuNo.{CpuNo}
-use Rattle.group_facts.specs.Kept.{Kept, cpu_of}
+use Rattle.group_jobs.specs.Kept.{Kept, cpu_of}
 use Rattle.rank_afresh.specs.declared.ran.Ran.{Ran}
 use Rattle.rank_afresh.specs.declared.ran.Ran.TheVariants as rans
 use Rattle.rank_afresh.specs.Clusters.{ClusterFacts, RunBut, has_cpu, runs_in}

@@ -1,6 +1,6 @@
 use Rattle.std.proofs.Common.{◌≡◌, drop, length}
 use Rattle.rt_base.specs.TaskNos.{numbers}
-use Rattle.group_facts.specs.Timers.{renewed}
+use Rattle.group_jobs.specs.Timers.{renewed}
 use Rattle.group_core.specs.Reads.{timer_in}
 use Rattle.rank_afresh.proofs.facts.Facts.keep_moments.Given as goal
 

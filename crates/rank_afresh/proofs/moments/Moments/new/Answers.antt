@@ -1,7 +1,7 @@
 use Rattle.std.proofs.Common.{◌≡◌, ℕ, List, rules}
 use Rattle.std.specs.Prelude.{None, Option, replicate}
 use Rattle.release_queue.specs.Timers.{tick_at}
-use Rattle.group_facts.proofs.KeptMoves.{replicated}
+use Rattle.group_jobs.proofs.KeptMoves.{replicated}
 use Rattle.rank_afresh.specs.Moments.{IsLeast}
 use Rattle.rank_afresh.proofs.moments.Moments.new.Goals as goal
 

@@ -1,6 +1,6 @@
 use Rattle.std.proofs.Common.{refl}
-use Rattle.resv_core.proofs.ReleaseLaws.{releases_in-set}
+use Rattle.std.proofs.lemmas.List.{map-set}
 use Rattle.resv_core.proofs.server.Server.client_gone.Goals as goal
 
 pub returns : goal.returns
-returns c = rw (← c.self.view_is, c.take_out.ensures.removed, releases_in-set) refl
+returns c = rw (← c.self.view_is, c.take_out.ensures.removed, map-set) refl

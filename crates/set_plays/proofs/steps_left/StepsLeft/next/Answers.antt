@@ -4,7 +4,7 @@ use Rattle.std.proofs.lemmas.List.Elements.{All-tail}
 use Rattle.rt_task.specs.declared.Step.{Step}
 use Rattle.rt_rules.specs.declared.history.Entry.{Entry}
 use Rattle.rt_model.specs.Steps.{IsStepOf}
-use Rattle.rt_groups.specs.Groups.{AreStepsOf, group_of}
+use Rattle.rt_plays.specs.Groups.{AreStepsOf, group_of}
 use Rattle.set_plays.proofs.steps_left.StepsLeft.next.Goals as goal
 
 pub returns-in_ok-first-in-Given-clause-of : goal.returns-in_ok-first-in-Given-clause-of

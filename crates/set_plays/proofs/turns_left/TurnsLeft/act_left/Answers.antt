@@ -1,7 +1,7 @@
 use Rattle.std.proofs.Common.{◌≡◌, ◌≤◌, sym, ap, subst, arith}
 use Rattle.rt_task.specs.Validity.{IsValid}
 use Rattle.rt_model.specs.Situations.{next_act, situation}
-use Rattle.rt_groups.specs.Groups.{GroupHistory, group_of, past}
+use Rattle.rt_plays.specs.Groups.{GroupHistory, group_of, past}
 use Rattle.set_plays.specs.TurnsLeft.{TurnsAhead, cpu_of}
 use Rattle.set_plays.proofs.TurnLaws.{asked}
 use Rattle.set_plays.proofs.CursorLaws.{begins-tick, goes-on-irq, over-full, processor-of, told-fits, told-left}

@@ -5,7 +5,7 @@ use Rattle.rt_task.specs.declared.Step.{Step}
 use Rattle.rt_model.specs.Group.{Group}
 use Rattle.rt_model.specs.Histories.{after}
 use Rattle.rt_model.specs.Past.{Past}
-use Rattle.rt_groups.specs.Groups.{group_of, past}
+use Rattle.rt_plays.specs.Groups.{group_of, past}
 use Rattle.set_plays.specs.TurnsLeft.{turns_left, AreTurnsOf}
 use Rattle.set_plays.proofs.CursorLaws.{step-of, turns_left-none, turns_left-over, turns_left-step}
 use Rattle.set_plays.proofs.turns_left.TurnsLeft.next.Goals as goal

@@ -1,5 +1,5 @@
 use Rattle.rt_base.specs.declared.SemNo.{SemNo}
-use Rattle.set_rules.specs.NamesSeen.{has_number}
+use Rattle.set_rules.specs.inside.NamesSeen.{has_number}
 use Rattle.set_rules.proofs.NameLaws.{numbers-next}
 use Rattle.set_rules.proofs.rules.bodies.numbers_of.Goals as goal
 

@@ -3,7 +3,7 @@ use Rattle.std.specs.List.{list_any}
 use Rattle.rt_base.specs.declared.SemNo.{SemNo}
 use Rattle.rt_task.specs.declared.draft.DraftTask.{DraftTask}
 use Rattle.rt_task.specs.Lookups.{is_fmlp_sem}
-use Rattle.set_rules.specs.NamesSeen.{has_number}
+use Rattle.set_rules.specs.inside.NamesSeen.{has_number}
 use Rattle.set_rules.proofs.rules.fmlp.fmlp_clusters.Given as goal
 
 -- of the tasks so far

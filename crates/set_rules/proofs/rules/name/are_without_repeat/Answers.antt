@@ -1,7 +1,7 @@
 use Rattle.std.proofs.Common.{List, get_or, sym, ◌∙◌}
 use Rattle.std.proofs.lemmas.Bool.{not-true, not-false}
 use Rattle.rt_base.specs.declared.SemNo.{SemNo}
-use Rattle.set_rules.specs.NamesSeen.{has_number}
+use Rattle.set_rules.specs.inside.NamesSeen.{has_number}
 use Rattle.set_rules.proofs.NameLaws.{no_repeat-next, no_repeat-stops, numbers-next}
 use Rattle.set_rules.proofs.rules.name.are_without_repeat.Goals as goal
 

@@ -1,6 +1,6 @@
 use Rattle.std.proofs.Common.{◌≡◌, ℕ, true, map, take}
 use Rattle.rt_base.specs.declared.SemNo.{SemNo}
-use Rattle.set_rules.specs.NamesSeen.{has_number}
+use Rattle.set_rules.specs.inside.NamesSeen.{has_number}
 use Rattle.rt_task.specs.RuleWords.{has, no_repeat}
 use Rattle.set_rules.proofs.rules.name.are_without_repeat.Given as goal
 

@@ -3,7 +3,7 @@ use Rattle.rt_task.specs.declared.Sem.{Sem}
 use Rattle.rt_task.specs.declared.bad_set.Part.TheVariants as parts
 use Rattle.rt_task.specs.declared.bad_set.SetKind.TheVariants as kinds
 use Rattle.rt_task.specs.NameRules as rules
-use Rattle.set_rules.specs.NamesSeen.{has_name}
+use Rattle.set_rules.specs.inside.NamesSeen.{has_name}
 use Rattle.set_rules.proofs.NameLaws.{names-next}
 use Rattle.set_rules.proofs.RefusalLaws.{first_failing-passes, each-stops}
 use Rattle.set_rules.proofs.rules.name.sems_named.Goals as goal

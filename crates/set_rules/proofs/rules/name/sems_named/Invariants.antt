@@ -3,7 +3,7 @@ use Rattle.std.specs.List.{list_any}
 use Rattle.std.specs.Prelude.{bytes_eq}
 use Rattle.rt_task.specs.declared.Sem.{Sem}
 use Rattle.rt_task.specs.NameRules as rules
-use Rattle.set_rules.specs.NamesSeen.{has_name}
+use Rattle.set_rules.specs.inside.NamesSeen.{has_name}
 use Rattle.rt_task.specs.Refusals.{first_failing}
 use Rattle.set_rules.proofs.rules.name.sems_named.Given as goal
 

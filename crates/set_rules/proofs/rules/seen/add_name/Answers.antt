@@ -1,6 +1,6 @@
 use Rattle.std.proofs.Common.{ap, ◌∙◌, ◌||◌}
 use Rattle.std.specs.Prelude.{bytes_eq}
-use Rattle.set_rules.specs.NamesSeen.{has_name}
+use Rattle.set_rules.specs.inside.NamesSeen.{has_name}
 use Rattle.set_rules.proofs.RefusalLaws.{if-true}
 use Rattle.set_rules.proofs.rules.seen.add_name.Goals as goal
 

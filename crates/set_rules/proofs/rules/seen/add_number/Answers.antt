@@ -1,5 +1,5 @@
 use Rattle.std.proofs.Common.{◌∙◌, ◌==◌}
-use Rattle.set_rules.specs.NamesSeen.{has_number}
+use Rattle.set_rules.specs.inside.NamesSeen.{has_number}
 use Rattle.set_rules.proofs.RefusalLaws.{if-true}
 use Rattle.set_rules.proofs.rules.seen.add_number.Goals as goal
 

@@ -2,7 +2,7 @@ use Rattle.std.proofs.Common.{◌≡◌, ◌+◌, List, [], ◌∷◌, ◌++◌,
 use Rattle.std.proofs.lemmas.List.{take_more}
 use Rattle.rt_task.specs.declared.draft.DraftResv.{DraftResv}
 use Rattle.rt_task.specs.SharingRules as rules
-use Rattle.set_rules.specs.Tables.{Knows}
+use Rattle.set_rules.specs.inside.Tables.{Knows}
 use Rattle.set_rules.proofs.RefusalLaws.{first_failing-passes}
 use Rattle.set_rules.proofs.TableLaws.{in_range-at, sharing-fits}
 use Rattle.set_rules.proofs.rules.sharing.resvs_sharing.Goals as goal

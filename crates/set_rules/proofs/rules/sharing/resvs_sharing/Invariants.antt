@@ -1,7 +1,7 @@
 use Rattle.std.proofs.Common.{◌≡◌, [], take, drop}
 use Rattle.rt_task.specs.Refusals.{first_failing}
 use Rattle.rt_task.specs.SharingRules as rules
-use Rattle.set_rules.specs.Tables.{Knows}
+use Rattle.set_rules.specs.inside.Tables.{Knows}
 use Rattle.set_rules.proofs.rules.sharing.resvs_sharing.Given as goal
 
 -- what is known is of those so far, and the first failing of what is left is that of all

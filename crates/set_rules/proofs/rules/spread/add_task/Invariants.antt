@@ -2,7 +2,7 @@ use Rattle.std.proofs.Common.{◌≡◌, ℕ, ◌+◌, ◌<◌, cond, length, ge
 use Rattle.rt_base.specs.declared.SemNo.{SemNo}
 use Rattle.set_rules.specs.declared.rules.spread.Spread.{Spread}
 use Rattle.rt_task.specs.RuleWords.{has}
-use Rattle.set_rules.specs.Spreads.{added}
+use Rattle.set_rules.specs.inside.Spreads.{added}
 use Rattle.set_rules.proofs.rules.spread.add_task.Given as goal
 
 -- the semaphores named so far have the task

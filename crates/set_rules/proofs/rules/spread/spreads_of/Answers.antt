@@ -4,7 +4,7 @@ use Rattle.rt_task.specs.declared.draft.DraftTask.{DraftTask}
 use Rattle.set_rules.specs.declared.rules.spread.Spread.{Spread}
 use Rattle.std.proofs.lemmas.List.{take_all}
 use Rattle.rt_task.specs.RuleWords.{has}
-use Rattle.set_rules.specs.Spreads.{spread_of, added, clusters_among}
+use Rattle.set_rules.specs.inside.Spreads.{spread_of, added, clusters_among}
 use Rattle.set_rules.proofs.SpreadLaws.{spread-task, clusters_sharing-all, get_or-written}
 use Rattle.set_rules.proofs.rules.spread.spreads_of.Goals as goal
 

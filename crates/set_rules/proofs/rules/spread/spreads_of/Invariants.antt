@@ -1,6 +1,6 @@
 use Rattle.std.proofs.Common.{◌≡◌, ℕ, ◌+◌, ◌<◌, length, get_or, take, vec_len}
 use Rattle.set_rules.specs.declared.rules.spread.Spread.{Spread}
-use Rattle.set_rules.specs.Spreads.{spread_of, clusters_among}
+use Rattle.set_rules.specs.inside.Spreads.{spread_of, clusters_among}
 use Rattle.set_rules.proofs.rules.spread.spreads_of.Given as goal
 
 -- of the tasks so far

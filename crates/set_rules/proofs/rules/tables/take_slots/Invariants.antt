@@ -1,5 +1,5 @@
 use Rattle.std.proofs.Common.{◌≡◌, take}
-use Rattle.set_rules.specs.Tables.{with_slots}
+use Rattle.set_rules.specs.inside.Tables.{with_slots}
 use Rattle.set_rules.proofs.rules.tables.take_slots.Given as goal
 
 -- with the slots so far

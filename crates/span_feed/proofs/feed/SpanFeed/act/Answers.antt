@@ -7,7 +7,8 @@ use Rattle.view_acts.specs.ShownActs.{act_shown}
 use Rattle.chart_rows.proofs.RowParts.{rows-listed}
 use Rattle.event_lines.specs.Shown.{group_tracks_shown}
 use Rattle.span_feed.proofs.Feeding.{act-taken, acted-up-to, spans-same, state-seen}
-use Rattle.span_feed.proofs.TickLaws.{below-acted, strip-acted}
+use Rattle.chart_rows.proofs.TickLaws.{strip-acted}
+use Rattle.span_feed.proofs.TickLaws.{below-acted}
 use Rattle.span_feed.proofs.feed.SpanFeed.act.Goals as goal
 
 pub see_after-requires-clause-listed : goal.see_after-requires-clause-listed

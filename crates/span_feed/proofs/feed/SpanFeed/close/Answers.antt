@@ -3,7 +3,8 @@ use Rattle.rank_afresh.specs.Standing.{group_of}
 use Rattle.rt_model.specs.Past.{now}
 use Rattle.span_feed.specs.TickStrips.{tick_strip, ticks_below}
 use Rattle.span_feed.proofs.Feeding.{all-over}
-use Rattle.span_feed.proofs.TickLaws.{length-below, newest-strip}
+use Rattle.chart_rows.proofs.TickLaws.{newest-strip}
+use Rattle.span_feed.proofs.TickLaws.{length-below}
 use Rattle.span_feed.proofs.feed.SpanFeed.close.Goals as goal
 
 pub end_tick-requires-clause-held : goal.end_tick-requires-clause-held

@@ -6,7 +6,8 @@ use Rattle.rt_model.specs.Past.{now}
 use Rattle.event_lines.specs.Shown.{group_tracks_shown}
 use Rattle.span_feed.specs.TickStrips.{tick_strip, ticks_below}
 use Rattle.span_feed.proofs.Feeding.{next-long, spans-same, ticks-stay, ticks-turned}
-use Rattle.span_feed.proofs.TickLaws.{length-below, newest-strip, turned-later, turned-not}
+use Rattle.chart_rows.proofs.TickLaws.{newest-strip}
+use Rattle.span_feed.proofs.TickLaws.{length-below, turned-later, turned-not}
 use Rattle.span_feed.proofs.feed.SpanFeed.turn.Goals as goal
 
 pub end_tick-requires-clause-held : goal.end_tick-requires-clause-held

@@ -8,7 +8,7 @@ use Rattle.part_seat.specs.Partitions.{PartOf, cells_of}
 use Rattle.part_seat.specs.PartSeats.{inboxes_of}
 use Rattle.split_part.specs.Closings.{AreRests, AreResting, CanTakeEach, HaveCpus, HaveTaken, IsTold}
 use Rattle.split_part.specs.Columns.{AreBoth, AreFrom}
-use Rattle.split_part.specs.Deals.{lists}
+use Rattle.split_part.specs.inside.Deals.{lists}
 use Rattle.split_part.specs.Ends.{AllGoOn, AllPlayed, EndOf, HavePlayed, IsSplitEnd}
 use Rattle.split_part.specs.Openings.{inboxes_at}
 use Rattle.split_part.specs.Splits.{AreSeatsOf, SplitOf}

@@ -6,7 +6,7 @@ use Rattle.rt_plays.specs.Room.{processor_count}
 use Rattle.part_seat.specs.PartSeats.{unlocks_of}
 use Rattle.split_part.specs.Closings.{HaveCpus}
 use Rattle.split_part.specs.Columns.{AreBoth}
-use Rattle.split_part.specs.Deals.{lists}
+use Rattle.split_part.specs.inside.Deals.{lists}
 use Rattle.split_part.specs.Openings.{AreSeated, CanSeat, IsFreshTaker, posters_at}
 use Rattle.split_part.specs.Splits.{SplitOf}
 use Rattle.split_part.proofs.Unlocks.{unlocks-few}

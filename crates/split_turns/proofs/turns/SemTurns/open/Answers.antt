@@ -1,7 +1,7 @@
 use Rattle.std.proofs.Common.{◌≡◌, ◌+◌, length, sym, ap, ◌∙◌, arith, length-append, subst}
 use Rattle.rt_task.specs.Validity.{IsValid}
 use Rattle.rt_task.specs.declared.Parts.{Parts}
-use Rattle.rt_groups.proofs.SetLimits.{sets_are_in_limits}
+use Rattle.rt_plays.proofs.SetLimits.{sets_are_in_limits}
 use Rattle.split_turns.specs.SplitTurns.{AreTurnsFrom, IsTurnOf}
 use Rattle.split_turns.proofs.SetLaws.{few-sems, some-cpu, turns-more}
 use Rattle.split_turns.proofs.turns.SemTurns.open.Goals as goal

@@ -9,7 +9,7 @@ use Rattle.rt_plays.specs.Drives.{horizon, steps_given}
 use Rattle.rt_plays.specs.Homes.{IsProcessorOf}
 use Rattle.rt_plays.specs.Plays.{group_with}
 use Rattle.trace_laws.proofs.Plays.{room-few}
-use Rattle.rt_groups.proofs.GroupLimits.{steps-few, turns-few}
+use Rattle.rt_plays.proofs.GroupLimits.{steps-few, turns-few}
 use Rattle.trace_text.proofs.ReplayLaws.{cpus_there}
 use Rattle.trace_text.specs.Groups.{cpu_numbers}
 use Rattle.group_core.specs.WaitingList.{WaitingList}

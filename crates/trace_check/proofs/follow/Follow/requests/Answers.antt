@@ -2,7 +2,7 @@ use Rattle.std.proofs.Common.{ap, ◌∙◌}
 use Rattle.rt_model.specs.Group.{Group}
 use Rattle.rt_model.specs.Histories.{past_of}
 use Rattle.trace_text.specs.TraceText.{block_lines}
-use Rattle.trace_check.specs.RequestLines.{request_lines}
+use Rattle.trace_check.specs.inside.RequestLines.{request_lines}
 use Rattle.trace_check.proofs.RequestLaws.{wanted-lines}
 use Rattle.block_counts.specs.GroupRequests as counts
 use Rattle.trace_check.proofs.follow.Follow.requests.Goals as goal

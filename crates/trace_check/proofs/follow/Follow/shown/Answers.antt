@@ -1,5 +1,5 @@
 use Rattle.std.proofs.Common.{◌≡◌, refl, ap, ◌∙◌}
-use Rattle.rt_groups.specs.Endings.{ended_last}
+use Rattle.rt_plays.specs.Endings.{ended_last}
 use Rattle.rt_model.specs.Group.{Group}
 use Rattle.rt_model.specs.Histories.{past_of}
 use Rattle.trace_check.proofs.follow.Follow.shown.Goals as goal

@@ -4,7 +4,7 @@ use Rattle.rt_model.specs.Group.{Group}
 use Rattle.rt_model.specs.Histories.{after, clock_moved, past_of, reply_to}
 use Rattle.block_counts.specs.GroupRequests as counts
 use Rattle.block_counts.specs.SeenWords.{waiters_of}
-use Rattle.group_core.specs.Listing.{AreWaitersAt, Moment}
+use Rattle.group_core.specs.Listing.{AreWaitersAt, GroupAt}
 use Rattle.rank_afresh.specs.Standing.{group_of}
 use Rattle.trace_check.proofs.Counting.{between_moves, group-same, names-there, told-between}
 use Rattle.trace_check.proofs.follow.Follow.step.Goals as goal
@@ -24,7 +24,7 @@ returns-clause-counted c = λ at can.
     let same : group_of c.clock.new.self ≡ at.group = group-same _ _ c.clock.ensures.same ∙ can.following.group_is in
     let told = c.act-reply.ensures.reply past clocked ∙ ap (λ (g : Group). reply_to g step past) same in
     let listed =
-    subst (λ (g : Group). let m : Moment = record { group = g; past = clock_moved step past } in AreWaitersAt m step.cpu.0 step.act c.list_waiting.new.list.waiting) same
+    subst (λ (g : Group). let m : GroupAt = record { group = g; past = clock_moved step past } in AreWaitersAt m step.cpu.0 step.act c.list_waiting.new.list.waiting) same
     (c.list_waiting.ensures.waiting (clock_moved step past) clocked) in
     let wait = subst (AreWaitersAt (between_moves at c.args.self.now step can) step.cpu.0 step.act) (sym c.tasks.ensures) listed in
     let between = told-between at c.args.self.now step can c.act-reply.result (number_of_task c.runs-runs.result) (waiters_of c.tasks.result.now) told (c.runs-runs.ensures (clock_moved step past) clocked) wait in

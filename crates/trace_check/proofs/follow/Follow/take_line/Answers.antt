@@ -13,7 +13,7 @@ use Rattle.trace_text.specs.Groups.{cpu_numbers}
 use Rattle.trace_text.specs.TraceText.{links_at}
 use Rattle.trace_course.specs.Courses.{HasGone}
 use Rattle.trace_check.specs.declared.follow.Follow.{Follow}
-use Rattle.trace_check.specs.GroupLinks.{HaveChanged}
+use Rattle.trace_check.specs.inside.GroupLinks.{HaveChanged}
 use Rattle.trace_check.proofs.Accepting.{can-take, can_step, count-low, can-read, entry-same, following-next, line-same, same-step}
 use Rattle.trace_check.proofs.follow.Follow.take_line.Goals as goal
 

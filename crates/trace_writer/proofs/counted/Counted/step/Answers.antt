@@ -1,7 +1,7 @@
 use Rattle.std.proofs.Common.{sym, subst}
 use Rattle.rt_base.specs.TaskNos.{number_of_task}
 use Rattle.rt_model.specs.Steps.{IsStepOf}
-use Rattle.rt_groups.specs.Groups.{GroupHistory, group_of, past}
+use Rattle.rt_plays.specs.Groups.{GroupHistory, group_of, past}
 use Rattle.block_counts.specs.SeenWords.{waiters_of}
 use Rattle.group_engine.specs.Words.{AreWaitersAt}
 use Rattle.group_engine.specs.Moments.{between}

@@ -1,5 +1,5 @@
 use Rattle.std.proofs.Common.{ap, ◌∙◌}
-use Rattle.rt_groups.specs.Groups.{group_of}
+use Rattle.rt_plays.specs.Groups.{group_of}
 use Rattle.trace_text.proofs.ReplayLaws.{cpus_there}
 use Rattle.trace_writer.proofs.replay.Replay.open.Goals as goal
 

@@ -6,7 +6,7 @@ use Rattle.rt_model.specs.Group.{Group, group_processors}
 use Rattle.rt_model.specs.Histories.{changed}
 use Rattle.rt_model.specs.Past.{Past}
 use Rattle.rt_plays.specs.Homes.{IsProcessorOf}
-use Rattle.rt_groups.specs.Groups.{group_of, past}
+use Rattle.rt_plays.specs.Groups.{group_of, past}
 use Rattle.trace_lines.specs.declared.links.CpuLink.{CpuLink}
 use Rattle.trace_lines.specs.Lines.{Link, links_of}
 use Rattle.trace_text.specs.Groups.{changed_links, cpus_in}

@@ -1,7 +1,7 @@
 use Rattle.std.proofs.Common.{◌∙◌, ap, arith, length, map, sym}
 use Rattle.rt_base.specs.declared.ResvNo.{ResvNo}
 use Rattle.rt_task.specs.declared.Parts.{Parts}
-use Rattle.rt_groups.proofs.SetLimits.{sets_are_in_limits}
+use Rattle.rt_plays.proofs.SetLimits.{sets_are_in_limits}
 use Rattle.rt_model.specs.Group.{Group}
 use Rattle.chart_texts.specs.Charts.{group_resvs}
 use Rattle.view_charts.proofs.drawing.Drawing.open.Goals as goal

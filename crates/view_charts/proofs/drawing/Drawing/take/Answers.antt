@@ -1,6 +1,6 @@
 use Rattle.std.proofs.Common.{◌∙◌, refl, subst, arith}
 use Rattle.trace_text.proofs.ReplayLaws.{all_taken, past_next}
-use Rattle.view_charts.specs.Drawings.{IsDrawn, group_of}
+use Rattle.view_charts.specs.inside.Drawings.{IsDrawn, group_of}
 use Rattle.view_charts.proofs.drawing.Drawing.take.Goals as goal
 
 pub step-requires-clause-drawn : goal.step-requires-clause-drawn

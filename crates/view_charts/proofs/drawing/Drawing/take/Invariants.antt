@@ -3,7 +3,7 @@ use Rattle.rt_model.specs.Histories.{past_from}
 use Rattle.rt_model.specs.Past.{Past}
 use Rattle.chart_texts.specs.declared.window.Axis.{Axis}
 use Rattle.chart_texts.specs.declared.window.Window.{Window}
-use Rattle.view_charts.specs.Drawings.{IsDrawn, group_of, spare}
+use Rattle.view_charts.specs.inside.Drawings.{IsDrawn, group_of, spare}
 use Rattle.view_charts.proofs.drawing.Drawing.take.Given as goal
 
 -- the steps of the entries so far were taken

@@ -11,7 +11,7 @@ use Rattle.span_feed.specs.Feeds.{IsFed}
 use Rattle.view_acts.specs.ShownActs.{act_shown}
 use Rattle.view_replay.specs.Replays as replays
 use Rattle.view_tables.proofs.Playing.{can-feed, kept-after}
-use Rattle.view_events.specs.Recordings.{group_of}
+use Rattle.view_events.specs.inside.Recordings.{group_of}
 use Rattle.view_events.proofs.recording.Recording.act.Goals as goal
 
 pub foretell-requires-clause-fed : goal.foretell-requires-clause-fed

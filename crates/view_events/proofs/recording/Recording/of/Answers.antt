@@ -1,7 +1,7 @@
 use Rattle.std.proofs.Common.{[], subst}
 use Rattle.rt_model.specs.Group.{Group}
 use Rattle.rt_model.specs.Histories.{past_from, past_of}
-use Rattle.view_events.specs.Recordings.{IsRecorded}
+use Rattle.view_events.specs.inside.Recordings.{IsRecorded}
 use Rattle.view_events.proofs.recording.Recording.of.Goals as goal
 
 pub returns-clause-recorded : goal.returns-clause-recorded

@@ -2,7 +2,7 @@ use Rattle.std.proofs.Common.{subst}
 use Rattle.std.proofs.lemmas.Result.{on_ok_weaker}
 use Rattle.rt_model.specs.Group.{Group}
 use Rattle.rt_model.specs.Histories.{after}
-use Rattle.view_events.specs.Recordings.{IsRecorded}
+use Rattle.view_events.specs.inside.Recordings.{IsRecorded}
 use Rattle.view_events.proofs.recording.Recording.step.Goals as goal
 
 pub returns-clause-recorded : goal.returns-clause-recorded

@@ -1,6 +1,6 @@
 use Rattle.std.proofs.Common.{◌∙◌, refl, subst, arith}
 use Rattle.trace_text.proofs.ReplayLaws.{all_taken, past_next}
-use Rattle.view_events.specs.Recordings.{IsRecorded, group_of}
+use Rattle.view_events.specs.inside.Recordings.{IsRecorded, group_of}
 use Rattle.view_events.proofs.recording.Recording.take.Goals as goal
 
 pub loop-entry-preserved : goal.loop-entry-preserved

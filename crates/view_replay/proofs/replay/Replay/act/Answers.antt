@@ -4,12 +4,12 @@ use Rattle.rt_model.specs.Group.{Group}
 use Rattle.rt_model.specs.Histories.{after, clock_moved}
 use Rattle.rt_model.specs.Past.{now}
 use Rattle.rt_model.proofs.Steps.{after-acted, reply_to-lem}
-use Rattle.rt_groups.specs.Endings.{ended_last}
+use Rattle.rt_plays.specs.Endings.{ended_last}
 use Rattle.rt_task.specs.Validity.{IsValid}
 use Rattle.block_counts.specs.GroupRequests as requests
 use Rattle.block_counts.specs.SeenWords.{waiters_of}
 use Rattle.rank_afresh.specs.Standing as ranker
-use Rattle.group_core.specs.Listing.{AreWaitersAt, Moment}
+use Rattle.group_core.specs.Listing.{AreWaitersAt, GroupAt}
 use Rattle.view_replay.specs.Replays.{ended_number, group_of}
 use Rattle.view_replay.proofs.Acting.{act-by, ended-after, names-there, told-between}
 use Rattle.view_replay.proofs.replay.Replay.act.Goals as goal
@@ -38,7 +38,7 @@ returns-clause-at c = λ past moved.
     let step = c.args.step in
     let same : ranker.group_of c.act-reply.new.self ≡ g = λ i. record { setup = c.act-reply.ensures.same.setup_is i; number = c.act-reply.ensures.same.group_is i } in
     let counted_same : requests.group_of c.feed.new.self ≡ requests.group_of c.args.self.now.blocks = λ i. record { setup = c.feed.ensures.setup i; number = c.feed.ensures.group i } in
-    let m : Moment = record { group = g; past = clock_moved step past } in
+    let m : GroupAt = record { group = g; past = clock_moved step past } in
     let wait = subst (AreWaitersAt m step.cpu.0 step.act) (sym c.tasks.ensures) (c.list_waiting.ensures.waiting (clock_moved step past) moved.ranked) in
     let between =
     told-between v step past moved c.act-reply.result (number_of_task c.runs-task.result) (waiters_of c.tasks.result.now) (c.act-reply.ensures.reply past moved.ranked) (c.runs-task.ensures (clock_moved step past) moved.ranked) wait in

@@ -1,7 +1,7 @@
 use Rattle.std.proofs.Common.{[], subst}
 use Rattle.rt_model.specs.Group.{Group}
 use Rattle.rt_model.specs.Histories.{past_from, past_of}
-use Rattle.view_tables.specs.Playing.{IsPlayed}
+use Rattle.view_tables.specs.inside.Playing.{IsPlayed}
 use Rattle.view_tables.proofs.played.Played.of.Goals as goal
 
 pub returns-clause-played : goal.returns-clause-played

@@ -1,6 +1,6 @@
 use Rattle.std.proofs.Common.{◌∙◌, refl, subst, arith}
 use Rattle.trace_text.proofs.ReplayLaws.{all_taken, past_next}
-use Rattle.view_tables.specs.Playing.{IsPlayed, group_of}
+use Rattle.view_tables.specs.inside.Playing.{IsPlayed, group_of}
 use Rattle.view_tables.proofs.played.Played.take.Goals as goal
 
 pub loop-entry-preserved : goal.loop-entry-preserved

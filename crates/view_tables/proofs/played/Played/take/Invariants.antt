@@ -1,7 +1,7 @@
 use Rattle.std.proofs.Common.{◌≡◌, ◌+◌, ◌≤◌, drop, length}
 use Rattle.rt_model.specs.Histories.{past_from}
 use Rattle.rt_model.specs.Past.{Past}
-use Rattle.view_tables.specs.Playing.{IsPlayed, group_of, spare}
+use Rattle.view_tables.specs.inside.Playing.{IsPlayed, group_of, spare}
 use Rattle.view_tables.proofs.played.Played.take.Given as goal
 
 -- the steps of the entries so far were taken

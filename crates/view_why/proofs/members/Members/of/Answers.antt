@@ -1,6 +1,6 @@
 use Rattle.std.proofs.Common.{ap, arith, length}
 use Rattle.rt_task.specs.declared.Parts.{Parts}
-use Rattle.rt_groups.proofs.SetLimits.{sets_are_in_limits}
+use Rattle.rt_plays.proofs.SetLimits.{sets_are_in_limits}
 use Rattle.rank_afresh.proofs.Shown.{few-sems}
 use Rattle.view_why.proofs.members.Members.of.Goals as goal
 

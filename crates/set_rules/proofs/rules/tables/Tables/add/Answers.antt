@@ -1,7 +1,7 @@
 use Rattle.std.proofs.Common.{ℕ, List, Option, Some, cond, eqb, nat_eq, ap, ◌∙◌}
 use Rattle.std.specs.HashMap.{get}
 use Rattle.rt_task.specs.declared.Slot.{Slot}
-use Rattle.set_rules.specs.Tables.{with_slots}
+use Rattle.set_rules.specs.inside.Tables.{with_slots}
 use Rattle.set_rules.proofs.TableLaws.{knows-more}
 use Rattle.set_rules.proofs.rules.tables.Tables.add.Goals as goal
 

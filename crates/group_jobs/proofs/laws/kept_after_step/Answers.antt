@@ -1,0 +1,5 @@
+use Rattle.group_jobs.proofs.KeptMoves as laws
+use Rattle.group_jobs.proofs.laws.kept_after_step.Goals as goal
+
+pub returns : goal.returns
+returns c = laws.kept_after_step

@@ -1,0 +1,5 @@
+use Rattle.group_jobs.proofs.FactBounds as laws
+use Rattle.group_jobs.proofs.laws.wakes_are_bounded.Goals as goal
+
+pub returns : goal.returns
+returns c = laws.wakes_are_bounded

@@ -1,0 +1,2 @@
+pub mod TourSet
+pub mod TourGroup

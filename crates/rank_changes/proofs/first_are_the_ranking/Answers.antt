@@ -1,5 +1,0 @@
-use Rattle.ready_queue.proofs.ReadySets as laws
-use Rattle.rank_changes.proofs.first_are_the_ranking.Goals as goal
-
-pub returns : goal.returns
-returns c = laws.first_are_the_ranking

@@ -1,5 +1,0 @@
-use Rattle.ready_queue.proofs.ReadySets as laws
-use Rattle.rank_changes.proofs.set_is_refreshed.Goals as goal
-
-pub returns : goal.returns
-returns c = laws.set_is_refreshed

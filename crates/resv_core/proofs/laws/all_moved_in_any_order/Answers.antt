@@ -1,0 +1,5 @@
+use Rattle.resv_core.proofs.ServingLaws as laws
+use Rattle.resv_core.proofs.laws.all_moved_in_any_order.Goals as goal
+
+pub returns : goal.returns
+returns c = laws.all_moved_in_any_order

@@ -1,5 +1,0 @@
-use Rattle.resv_laws.proofs.TellingLaws as laws
-use Rattle.resv_laws.proofs.all_opened_in_any_order.Goals as goal
-
-pub returns : goal.returns
-returns c = laws.all_opened_in_any_order

@@ -1,5 +1,0 @@
-use Rattle.resv_laws.proofs.TableLaws as laws
-use Rattle.resv_laws.proofs.linked_in_slot.Goals as goal
-
-pub returns : goal.returns
-returns c = laws.linked_in_slot

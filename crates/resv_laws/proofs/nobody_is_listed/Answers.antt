@@ -1,5 +1,0 @@
-use Rattle.resv_laws.proofs.TellingLaws as laws
-use Rattle.resv_laws.proofs.nobody_is_listed.Goals as goal
-
-pub returns : goal.returns
-returns c = laws.nobody_is_listed

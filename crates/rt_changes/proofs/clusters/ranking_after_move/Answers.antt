@@ -1,0 +1,5 @@
+use Rattle.rt_changes.proofs.rankings.MovedClusters as laws
+use Rattle.rt_changes.proofs.clusters.ranking_after_move.Goals as goal
+
+pub returns : goal.returns
+returns c = laws.ranking_after_move

@@ -1,5 +1,0 @@
-use Rattle.rt_groups.proofs.SetLimits as laws
-use Rattle.rt_groups.proofs.sets_are_in_limits.Goals as goal
-
-pub returns : goal.returns
-returns c = laws.sets_are_in_limits

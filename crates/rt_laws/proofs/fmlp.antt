@@ -1,0 +1,3 @@
+pub mod FmlpState
+pub mod FmlpCount
+pub mod InOrder

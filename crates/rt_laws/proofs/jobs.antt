@@ -1,0 +1,10 @@
+pub mod JobLaws
+pub mod BaseKeyLaws
+pub mod FrontClients
+pub mod RefusedJobs
+pub mod RefusedKeys
+pub mod Running
+pub mod Engaged
+pub mod Endings
+pub mod JobEnds
+pub mod EngagedJobs

@@ -1,0 +1,3 @@
+pub mod PlacedAgain
+pub mod LinkedTasks
+pub mod Links

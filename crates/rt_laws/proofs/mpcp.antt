@@ -1,0 +1,5 @@
+pub mod MpcpState
+pub mod HolderLinked
+pub mod HighestGranted
+pub mod BoostedHolders
+pub mod LowerSections

@@ -1,0 +1,3 @@
+pub mod OmlpState
+pub mod OmlpCount
+pub mod OmlpParts

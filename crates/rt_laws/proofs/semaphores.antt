@@ -1,0 +1,13 @@
+pub mod Requests
+pub mod AtSem
+pub mod Waiting
+pub mod Holding
+pub mod Asked
+pub mod OneWait
+pub mod OpenRequests
+pub mod Bounds
+pub mod WaitsHolding
+pub mod HasHolder
+pub mod SemaphoreLaws
+pub mod Witness
+pub mod Reached

@@ -1,0 +1,3 @@
+pub mod SrpUsers
+pub mod SrpState
+pub mod SrpOnce

@@ -1,0 +1,9 @@
+pub mod NameCases
+pub mod SharingCases
+pub mod ReachedCases
+pub mod ShapeCases
+pub mod BodyCases
+pub mod RuleCases
+pub mod RangeCases
+pub mod SizeCases
+pub mod EdgeCases

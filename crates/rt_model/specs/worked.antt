@@ -1,0 +1,15 @@
+pub mod Samples
+pub mod Links
+pub mod Reservations
+pub mod Boosts
+pub mod Pcp
+pub mod Srp
+pub mod Tables
+pub mod Clusters
+pub mod Locks
+pub mod Computed
+pub mod Body
+pub mod Mpcp
+pub mod Omlp
+pub mod Jobs
+pub mod Replenishment

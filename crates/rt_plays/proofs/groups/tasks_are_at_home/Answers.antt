@@ -1,0 +1,5 @@
+use Rattle.rt_plays.proofs.GroupPlaces as laws
+use Rattle.rt_plays.proofs.groups.tasks_are_at_home.Goals as goal
+
+pub returns : goal.returns
+returns c = laws.tasks_are_at_home

@@ -1,0 +1,4 @@
+pub mod Samples
+pub mod Plays
+pub mod Computed
+pub mod EdgeCases

@@ -1,0 +1,5 @@
+use Rattle.sem_table.proofs.Rows as law
+use Rattle.sem_table.proofs.laws.ask_rows.Goals as goal
+
+pub returns : goal.returns
+returns c = law.ask_rows

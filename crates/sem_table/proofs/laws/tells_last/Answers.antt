@@ -1,0 +1,5 @@
+use Rattle.sem_table.proofs.Waits as law
+use Rattle.sem_table.proofs.laws.tells_last.Goals as goal
+
+pub returns : goal.returns
+returns c = law.tells_last

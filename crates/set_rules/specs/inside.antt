@@ -1,0 +1,3 @@
+pub mod NamesSeen
+pub mod Spreads
+pub mod Tables

@@ -1,0 +1,5 @@
+pub mod Samples
+pub mod Refusals
+pub mod Splits
+pub mod Computed
+pub mod Grants

@@ -1,0 +1,2 @@
+pub mod Hollow
+pub mod Paths

@@ -1,0 +1,4 @@
+pub mod Pictures
+pub mod Computed
+pub mod Shapes
+pub mod Budgets

@@ -1,0 +1,91 @@
+-- How far the text behind the head of a trace is right.
+use Rattle.std.specs.Prelude.{◌≡◌, ℕ, ◌+◌, ◌<◌, ◌≤◌, List, [], ◌∷◌, ◌++◌, drop, flat_map, length, Bool, true, false}
+use Rattle.rt_task.specs.declared.Parts.{Parts}
+use Rattle.rt_task.specs.Validity.{IsValid}
+use Rattle.rt_rules.specs.declared.history.Entry.{Entry}
+use Rattle.rt_model.specs.Histories.{past_of}
+use Rattle.rt_plays.specs.Plays.{IsPlay, group_count, group_with}
+use Rattle.trace_lines.specs.declared.format.Version.{Version}
+use Rattle.trace_lines.specs.Grammar.{line_text}
+use Rattle.trace_lines.specs.Known.{Known, known_of}
+use Rattle.trace_lines.specs.Lines.{Line}
+use Rattle.trace_tools.specs.Seats.{Seat, seats_after}
+use Rattle.trace_text.specs.CountLines.{shown_entries, shown_from}
+use Rattle.trace_text.specs.TraceText.{block_lines}
+use Rattle.trace_laws.specs.ValidTexts.{entry_count}
+use Rattle.trace_check.specs.declared.progress.Progress.{Progress}
+use Rattle.trace_check.specs.declared.progress.Followed.{Followed}
+use Rattle.trace_check.specs.declared.progress.Followed.TheVariants.{Whole, Wrong}
+use Rattle.trace_check.specs.declared.progress.Entries.{Entries}
+use Rattle.trace_check.specs.declared.progress.Entries.TheVariants.{Right, WrongAfter}
+use Rattle.trace_check.specs.declared.follow.Follow.{Follow}
+use Rattle.trace_check.specs.declared.requests.Stood.{Stood}
+use Rattle.trace_check.specs.declared.verdict.Verdict.TheVariants.{Invalid}
+use Rattle.trace_course.specs.Places.{Place}
+use Rattle.trace_check.specs.inside.Following.{IsFollowing}
+use Rattle.trace_check.specs.inside.GroupLines.{ArePlaysFrom, NoEntryBegins, NoEntryBehind, lines_of_groups, lines_so_far}
+use Rattle.trace_check.specs.inside.Judging.{IsJudged}
+use Rattle.trace_check.specs.inside.RequestLines.{HaveStood}
+
+-- the lines of the requests of the entries that were followed
+abbrev pub wanted : Place → List Line
+wanted at = block_lines at.group (past_of at.group at.entries)
+
+-- the text begins with this line, which was made, or it does not
+abbrev pub HasStood : Known → Line → List ℕ → List ℕ → Bool → Type 0
+HasStood k l text line true = (line ≡ line_text k l) × (text ≡ line ++ drop (length line) text)
+HasStood k l text line false = (more : List ℕ) → text ≡ line_text k l ++ more → ⊥
+
+-- so much of the text is the lines of plays of the first n groups, whose entries a bus was shown that was opened so and stands so now
+pub record AreRight (v : Version) (p : Parts) (text : List ℕ) (n : ℕ) (r : Progress) (opened seats : List Seat) : Type 0 where
+  pub histories : List (List Entry)
+  pub plays : ArePlaysFrom p 0 histories
+  pub count : length histories ≡ n
+  pub place_is : r.lines ≡ length (lines_of_groups p 0 histories)
+  pub within : r.length ≤ length text
+  pub text_is : text ≡ flat_map (line_text (known_of v p)) (lines_of_groups p 0 histories) ++ drop r.length text
+  pub entries_are : r.entries ≡ entry_count histories
+  pub shown : seats ≡ seats_after (shown_from p 0 histories) opened
+  -- no line of an entry stands right behind the entries of the last of them
+  pub closed : (front : List (List Entry)) (es : List Entry) → histories ≡ front ++ es ∷ []
+      → NoEntryBehind (known_of v p) (wanted (record { group = group_with p (length front); entries = es })) (drop r.length text)
+
+-- those of plays of all the groups of a valid set
+pub record AreAllRight (v : Version) (p : Parts) (text : List ℕ) (r : Progress) (opened seats : List Seat) : Type 0 where
+  pub valid : IsValid p
+  pub right : AreRight v p text (group_count p) r opened seats
+
+-- what comes of following the lines of group n, behind those of the groups before it
+abbrev pub IsFollowedTo : Version → Parts → List ℕ → ℕ → List Seat → List Seat → Followed → Type 0
+IsFollowedTo v p text n opened seats (Whole r) = AreRight v p text (n + 1) r opened seats
+IsFollowedTo v p text n opened seats (Wrong place) = IsJudged v p text (Invalid (place + 3))
+
+-- so much of the text is the lines of whole groups and of the entries of group n that were followed, which were shown too
+pub record IsRight (v : Version) (p : Parts) (text : List ℕ) (n : ℕ) (from : Progress) (size : ℕ) (f : Follow) (opened was seats : List Seat) : Type 0 where
+  pub before : AreRight v p text n from opened was
+  pub entries : List Entry
+  pub shown : seats ≡ seats_after (shown_entries (group_with p n) 0 [] entries) was
+  pub following : IsFollowing (group_with p n) entries f
+  pub within : size ≤ length text
+  pub text_is : text ≡ flat_map (line_text (known_of v p)) (lines_of_groups p 0 before.histories ++ lines_so_far (group_with p n) entries) ++ drop size text
+  pub place_is : from.lines + 1 + f.count ≡ length (lines_of_groups p 0 before.histories ++ lines_so_far (group_with p n) entries)
+
+-- what comes of following the entry lines of group n
+abbrev pub AreFollowed : Version → Parts → List ℕ → ℕ → Progress → Follow → List Seat → List Seat → List Seat → Entries → Type 0
+AreFollowed v p text n from f opened was seats (Right size) =
+    IsRight v p text n from size f opened was seats × NoEntryBegins (known_of v p) (drop size text)
+AreFollowed v p text n from f opened was seats (WrongAfter count) = IsJudged v p text (Invalid (from.lines + 1 + count + 3))
+
+-- what comes of it where no entry line stands behind so many bytes, which this rest follows
+pub data IsEndedAt (at : Place) (k : Known) (rest : List ℕ) (from : Progress) (count length_so_far : ℕ) : Followed → Type 0 where
+  -- the play is not whole
+  unfinished : (IsPlay at.group at.entries → ⊥) → IsEndedAt at k rest from count length_so_far (Wrong (from.lines + 1 + count))
+  -- it is, and the line of a request is missing
+  missing :
+      (s : Stood) → IsPlay at.group at.entries → HaveStood k (wanted at) rest s → s.count < length (wanted at)
+      → IsEndedAt at k rest from count length_so_far (Wrong (from.lines + 1 + count + s.count))
+  -- none is
+  finished :
+      (s : Stood) → IsPlay at.group at.entries → HaveStood k (wanted at) rest s → s.count ≡ length (wanted at)
+      → IsEndedAt at k rest from count length_so_far
+      (Whole (record { lines = from.lines + 1 + count + s.count; entries = from.entries + count; length = length_so_far + s.length }))

@@ -1,6 +1,0 @@
-use Rattle.std.proofs.Common.{◌≡◌, replicate}
-use Rattle.std.specs.Prelude.{None}
-use Rattle.turn_follow.proofs.turns.no_rows.Given as goal
-
-abbrev pub invariant-loop : goal.invariant-loop
-invariant-loop l = l.rows.items ≡ replicate l.counter None

@@ -1,0 +1,2 @@
+pub mod JobMarks
+pub mod Recordings
