@@ -13,7 +13,7 @@ use Rattle.rt_plays.specs.Groups.{GroupHistory}
 use Rattle.rt_plays.specs.Plays.{ArePlays}
 use Rattle.trace_lines.specs.declared.format.Version.TheVariants.{Two}
 use Rattle.trace_text.specs.Groups.{histories}
-use Rattle.trace_tools.specs.Seats.{Seat, seat_of}
+use Rattle.trace_tools.specs.Counters.{Counter, counter_of}
 use Rattle.trace_tools.specs.Tools.{Tool}
 use Rattle.trace_text.specs.CountLines.{bus_text, counted_text}
 use Rattle.trace_writer.proofs.BusText.{text-of_tools}
@@ -103,9 +103,9 @@ wrote-answers tools source sink p hs ends.TooLong read plays few h = absurd h
 
 -- a set was read, and the trace of its groups written with the count lines of its tools, or a first part of it
 pub run-read :
-    {T : Type 0} (tool : T → Tool) (ts : List T) (seats : List Seat) (source : Reading) (sink : Writing) (p : Parts) (hs : List GroupHistory) (answer : Status) → WasRead source p
-    → TakesAtMost MOST_SET_BYTES source.old.left source.new.left → AreRunsOf p hs → seats ≡ map (λ t. seat_of (tool t)) ts
-    → Wrote sink (bus_text Two seats p (histories hs)) answer → RunAnswers (map tool ts) source sink answer
-run-read tool ts seats source sink p hs answer read few are sits wrote =
+    {T : Type 0} (tool : T → Tool) (ts : List T) (counters : List Counter) (source : Reading) (sink : Writing) (p : Parts) (hs : List GroupHistory) (answer : Status) → WasRead source p
+    → TakesAtMost MOST_SET_BYTES source.old.left source.new.left → AreRunsOf p hs → counters ≡ map (λ t. counter_of (tool t)) ts
+    → Wrote sink (bus_text Two counters p (histories hs)) answer → RunAnswers (map tool ts) source sink answer
+run-read tool ts counters source sink p hs answer read few are sits wrote =
     wrote-answers (map tool ts) source sink p (histories hs) answer read (run-plays p hs read.valid are) few
-    (subst (λ (xs : List ℕ). Wrote sink xs answer) (text-of_tools Two tool ts p (histories hs) seats sits) wrote)
+    (subst (λ (xs : List ℕ). Wrote sink xs answer) (text-of_tools Two tool ts p (histories hs) counters sits) wrote)

@@ -14,7 +14,7 @@ use Rattle.trace_lines.specs.declared.format.Version.TheVariants.{Two}
 use Rattle.trace_lines.specs.Grammar.{line_text}
 use Rattle.trace_lines.specs.Known.{known_of}
 use Rattle.trace_lines.specs.Lines.{Line}
-use Rattle.trace_tools.specs.Seats.{Seat, seat_line, seat_of, seats_after}
+use Rattle.trace_tools.specs.Counters.{Counter, counter_line, counter_of, counters_after}
 use Rattle.trace_tools.specs.Tools.{Tool}
 use Rattle.trace_writer.specs.declared.stop.WriteStop.{WriteStop}
 use Rattle.trace_writer.specs.declared.stop.WriteStop.TheVariants as stops
@@ -69,13 +69,13 @@ came-wrote (Err stops.Fault) sink text p = (p.0, p.2)
 came-wrote (Err stops.NoMemory) sink text p = inr p.0
 
 -- the text of what was played is that of the load
-pub load-text : {T : Type 0} (tool : T → Tool) (ts : List T) (n : ℕ) (p : Parts) (s : Summary) (before seats : List Seat) → p ≡ load_of n
-    → s ≡ summary_from p 0 (histories p) → before ≡ map (λ t. seat_of (tool t)) ts → seats ≡ seats_after (shown_from p 0 (histories p)) before
-    → summary_text n s ++ flat_map (line_text (known_of Two p)) (map seat_line seats) ≡ load_text (map tool ts) n
-load-text tool ts n p s before seats made sums are fed =
-    let lines : map seat_line seats ≡ count_lines (map tool ts) p (histories p) =
-    ap (λ (ss : List Seat). map seat_line ss) (fed ∙ ap (seats_after (shown_from p 0 (histories p))) are) ∙ lines-of_tools tool ts (shown_from p 0 (histories p)) in
-    ap (λ (x : Summary). summary_text n x ++ flat_map (line_text (known_of Two p)) (map seat_line seats)) sums
+pub load-text : {T : Type 0} (tool : T → Tool) (ts : List T) (n : ℕ) (p : Parts) (s : Summary) (before counters : List Counter) → p ≡ load_of n
+    → s ≡ summary_from p 0 (histories p) → before ≡ map (λ t. counter_of (tool t)) ts → counters ≡ counters_after (shown_from p 0 (histories p)) before
+    → summary_text n s ++ flat_map (line_text (known_of Two p)) (map counter_line counters) ≡ load_text (map tool ts) n
+load-text tool ts n p s before counters made sums are fed =
+    let lines : map counter_line counters ≡ count_lines (map tool ts) p (histories p) =
+    ap (λ (ss : List Counter). map counter_line ss) (fed ∙ ap (counters_after (shown_from p 0 (histories p))) are) ∙ lines-of_tools tool ts (shown_from p 0 (histories p)) in
+    ap (λ (x : Summary). summary_text n x ++ flat_map (line_text (known_of Two p)) (map counter_line counters)) sums
     ∙ ap (λ (ls : List Line). summary_text n (summary_from p 0 (histories p)) ++ flat_map (line_text (known_of Two p)) ls) lines
     ∙ ap (λ (q : Parts). summary_text n (summary_from q 0 (histories q)) ++ flat_map (line_text (known_of Two q)) (count_lines (map tool ts) q (histories q))) made
 

@@ -12,7 +12,7 @@ use Rattle.set_input.specs.Ends.{Reading, Writing}
 use Rattle.rt_plays.specs.Order.{histories}
 use Rattle.trace_lines.specs.declared.format.Version.TheVariants.{Two}
 use Rattle.trace_text.specs.CountLines.{bus_text}
-use Rattle.trace_tools.specs.Seats.{Seat, seat_of}
+use Rattle.trace_tools.specs.Counters.{Counter, counter_of}
 use Rattle.trace_tools.specs.Tools.{Tool}
 use Rattle.trace_writer.proofs.BusText.{text-of_tools}
 use Rattle.sim_commands.specs.Sim.{set_trace}
@@ -99,8 +99,8 @@ wrote-answers tools source sink p ends.TooLong read few h = absurd h
 
 -- a set was read, and its trace written with the count lines of its tools, or a first part of it
 pub sim-read :
-    {T : Type 0} (tool : T → Tool) (ts : List T) (seats : List Seat) (source : Reading) (sink : Writing) (p : Parts) (answer : Status) → WasRead source p
-    → TakesAtMost MOST_SET_BYTES source.old.left source.new.left → seats ≡ map (λ t. seat_of (tool t)) ts
-    → Wrote sink (bus_text Two seats p (histories p)) answer → SimAnswers (map tool ts) source sink answer
-sim-read tool ts seats source sink p answer read few are wrote =
-    wrote-answers (map tool ts) source sink p answer read few (subst (λ (xs : List ℕ). Wrote sink xs answer) (text-of_tools Two tool ts p (histories p) seats are) wrote)
+    {T : Type 0} (tool : T → Tool) (ts : List T) (counters : List Counter) (source : Reading) (sink : Writing) (p : Parts) (answer : Status) → WasRead source p
+    → TakesAtMost MOST_SET_BYTES source.old.left source.new.left → counters ≡ map (λ t. counter_of (tool t)) ts
+    → Wrote sink (bus_text Two counters p (histories p)) answer → SimAnswers (map tool ts) source sink answer
+sim-read tool ts counters source sink p answer read few are wrote =
+    wrote-answers (map tool ts) source sink p answer read few (subst (λ (xs : List ℕ). Wrote sink xs answer) (text-of_tools Two tool ts p (histories p) counters are) wrote)

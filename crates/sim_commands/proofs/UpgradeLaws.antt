@@ -15,7 +15,7 @@ use Rattle.trace_read.specs.declared.Trace.{Trace}
 use Rattle.trace_read.specs.declared.head.TraceHead.{TraceHead}
 use Rattle.trace_read.specs.Lines.{lines_of}
 use Rattle.trace_read.specs.Reads.{IsTraceOf}
-use Rattle.trace_tools.specs.Seats.{Seat, seat_line, seat_of, seats_after}
+use Rattle.trace_tools.specs.Counters.{Counter, counter_line, counter_of, counters_after}
 use Rattle.trace_tools.specs.Tools.{Tool}
 use Rattle.trace_text.specs.CountLines.{counted_text, shown_from}
 use Rattle.trace_text.specs.TraceText.{trace_text}
@@ -66,19 +66,19 @@ module _ (tools : List Tool) (bytes : List ℕ) (h : TraceHead) (t : Trace) (ent
   head-upgrade = text-upgrade tools bytes h.version h.setup entries valid is
 
   -- what was written of it is the text of its plays
-  pub head-written : (seats : List Seat) (sink : Writing) (answer : Status) → seats ≡ seats_after (shown_from h.setup 0 is.histories) (map seat_of tools)
-      → ((hs : List (List Entry)) (others : List Tool) → SaysPlays t hs → seats ≡ seats_after (shown_from t.setup 0 hs) (map seat_of others) → HasWritten (counted_text Two others t.setup hs) sink answer)
+  pub head-written : (counters : List Counter) (sink : Writing) (answer : Status) → counters ≡ counters_after (shown_from h.setup 0 is.histories) (map counter_of tools)
+      → ((hs : List (List Entry)) (others : List Tool) → SaysPlays t hs → counters ≡ counters_after (shown_from t.setup 0 hs) (map counter_of others) → HasWritten (counted_text Two others t.setup hs) sink answer)
       → HasWritten (counted_text Two tools h.setup is.histories) sink answer
-  head-written seats sink answer shown written =
+  head-written counters sink answer shown written =
       subst (λ (p : Parts). HasWritten (counted_text Two tools p is.histories) sink answer) setup
-      (written is.histories tools head-says (shown ∙ ap (λ (p : Parts). seats_after (shown_from p 0 is.histories) (map seat_of tools)) (sym setup)))
+      (written is.histories tools head-says (shown ∙ ap (λ (p : Parts). counters_after (shown_from p 0 is.histories) (map counter_of tools)) (sym setup)))
 
 -- the trace of the same plays, and behind it the lines of a bus that was shown these, is the text with count lines
-pub shown-text : (tools : List Tool) (p : Parts) (hs got : List (List Entry)) (seats : List Seat) → got ≡ hs → seats ≡ seats_after (shown_from p 0 hs) (map seat_of tools)
-    → trace_text Two p got ++ flat_map (line_text (known_of Two p)) (map seat_line seats) ≡ counted_text Two tools p hs
-shown-text tools p hs got seats same shown =
-    ap (λ (es : List (List Entry)). trace_text Two p es ++ flat_map (line_text (known_of Two p)) (map seat_line seats)) same
-    ∙ ap (λ (ls : List Line). trace_text Two p hs ++ flat_map (line_text (known_of Two p)) ls) (lines-shown tools p hs seats shown)
+pub shown-text : (tools : List Tool) (p : Parts) (hs got : List (List Entry)) (counters : List Counter) → got ≡ hs → counters ≡ counters_after (shown_from p 0 hs) (map counter_of tools)
+    → trace_text Two p got ++ flat_map (line_text (known_of Two p)) (map counter_line counters) ≡ counted_text Two tools p hs
+shown-text tools p hs got counters same shown =
+    ap (λ (es : List (List Entry)). trace_text Two p es ++ flat_map (line_text (known_of Two p)) (map counter_line counters)) same
+    ∙ ap (λ (ls : List Line). trace_text Two p hs ++ flat_map (line_text (known_of Two p)) ls) (lines-shown tools p hs counters shown)
 
 -- the text that was written is the upgrade
 pub written-upgraded : (tools : List Tool) (v : Version) (p : Parts) (bytes text : List ℕ) (sink : Writing) (answer : Status) → IsUpgradeOf tools bytes text → HasWritten text sink answer → HasUpgraded tools v p bytes sink answer

@@ -3,8 +3,8 @@ ghost use Rattle.std.specs.Prelude.{◌≡◌, ◌≢◌, ◌++◌, flat_map, ma
 ghost use Rattle.rt_fault.specs.Faults.{HasRisen};
 ghost use Rattle.trace_lines.specs.Grammar.{line_text};
 ghost use Rattle.trace_lines.specs.Known.{Known};
-ghost use Rattle.trace_tools.specs.Places.{seats};
-ghost use Rattle.trace_tools.specs.Seats.{seat_line};
+ghost use Rattle.trace_tools.specs.BusCounters.{counters};
+ghost use Rattle.trace_tools.specs.Counters.{counter_line};
 ghost use Rattle.trace_writer.specs.Writing.{Came};
 ghost use Rattle.set_input.specs.Ends.{writing};
 ghost use Rattle.set_input.specs.Answers.{IsUnwritten};
@@ -84,7 +84,7 @@ fn write_load<T: TraceTool, K: Sink>(
 ) -> Result<(), WriteStop>
     ensures { (k : Known)
         → Came result (writing K.held K.faults out.old out.new)
-        (summary_text n summary ++ flat_map (line_text k) (map seat_line (seats T.tool bus.now))) }
+        (summary_text n summary ++ flat_map (line_text k) (map counter_line (counters T.tool bus.now))) }
 {
     write_summary(alloc, n, summary, out)?;
     write_counts(alloc, bus, out)

@@ -4,8 +4,8 @@ ghost use Rattle.rt_task.specs.Validity.{IsValid};
 ghost use Rattle.rt_rules.specs.declared.history.Entry.{Entry};
 ghost use Rattle.rt_fault.specs.Faults.{HasRisen};
 ghost use Rattle.trace_lines.specs.declared.format.Version.TheVariants.{Two};
-ghost use Rattle.trace_tools.specs.Places.{seats};
-ghost use Rattle.trace_tools.specs.Seats.{seat_of, seats_after};
+ghost use Rattle.trace_tools.specs.BusCounters.{counters};
+ghost use Rattle.trace_tools.specs.Counters.{counter_of, counters_after};
 ghost use Rattle.trace_tools.specs.Tools.{Tool};
 ghost use Rattle.trace_text.specs.CountLines.{counted_text, shown_from};
 ghost use Rattle.trace_read.specs.Reads.{IsHeadOf};
@@ -34,8 +34,8 @@ fn write_upgrade<T: TraceTool, K: Sink>(
 ) -> Status
     requires { (hs : List (List Entry)) × SaysPlays trace.now hs }
     ensures written { (hs : List (List Entry)) (tools : List Tool) → SaysPlays trace.now hs
-        → seats T.tool bus.now
-        ≡ seats_after (shown_from trace.now.setup 0 hs) (map seat_of tools) → HasWritten
+        → counters T.tool bus.now
+        ≡ counters_after (shown_from trace.now.setup 0 hs) (map counter_of tools) → HasWritten
         (counted_text Two tools trace.now.setup hs)
         (writing K.held K.faults out.old out.new) result }
     ensures write_fault { result ≡ Status.WriteFault →

@@ -21,7 +21,7 @@ use Rattle.trace_lines.specs.Lines.{Line, group_line, entry_line, block_line, en
 use Rattle.trace_lines.specs.declared.format.Version.{Version}
 use Rattle.trace_lines.specs.Grammar.{line_text, line_words}
 use Rattle.trace_lines.specs.Known.{IsLine, Known, known_of}
-use Rattle.trace_tools.specs.Seats.{Seat, seat_after, seat_line, seat_of, seats_after}
+use Rattle.trace_tools.specs.Counters.{Counter, counter_after, counter_line, counter_of, counters_after}
 use Rattle.trace_tools.specs.Tools.{Tool}
 use Rattle.trace_text.specs.CountLines.{count_lines, counted_text, shown_as, shown_from}
 use Rattle.trace_text.specs.TraceText.{lines_from, links_at, trace_text}
@@ -125,20 +125,20 @@ module _ (v : Version) (p : Parts) (text : List ℕ) where
   k = known_of v p
 
   -- where they were followed to
-  abbrev pub place_at : {n : ℕ} → {from : Progress} → {size : ℕ} → {f : Follow} → {opened was seats : List Seat} → IsRight v p text n from size f opened was seats → Place
+  abbrev pub place_at : {n : ℕ} → {from : Progress} → {size : ℕ} → {f : Follow} → {opened was counters : List Counter} → IsRight v p text n from size f opened was counters → Place
   place_at {n = n} right = record { group = group_with p n; entries = right.entries }
 
-  right-stands : {n : ℕ} → {r : Progress} → {opened seats : List Seat} → (right : AreRight v p text n r opened seats) → StandFirst k text (lines_of_groups p 0 right.histories) r.length
+  right-stands : {n : ℕ} → {r : Progress} → {opened counters : List Counter} → (right : AreRight v p text n r opened counters) → StandFirst k text (lines_of_groups p 0 right.histories) r.length
   right-stands right = record { within = right.within; text_is = right.text_is }
 
   -- there are no more lines than bytes
-  pub right-short : (n : ℕ) (r : Progress) (opened seats : List Seat) → AreRight v p text n r opened seats → r.lines ≤ r.length
-  right-short n r opened seats right =
+  pub right-short : (n : ℕ) (r : Progress) (opened counters : List Counter) → AreRight v p text n r opened counters → r.lines ≤ r.length
+  right-short n r opened counters right =
       let ls : List Line = lines_of_groups p 0 right.histories in
       omega (arith, right.place_is, lines-short k ls, size-is k text ls r.length (right-stands right))
 
   -- what stands behind whole groups is of no entry behind those of the last
-  closed-by : {n : ℕ} → {r : Progress} → {opened seats : List Seat} → (right : AreRight v p text n r opened seats) (l : Line) (more : List ℕ) (ls : List Line) → IsLine k l
+  closed-by : {n : ℕ} → {r : Progress} → {opened counters : List Counter} → (right : AreRight v p text n r opened counters) (l : Line) (more : List ℕ) (ls : List Line) → IsLine k l
       → drop r.length text ≡ line_text k l ++ more → AreClosed p right.histories (l ∷ ls)
   closed-by {r = r} right l more ls known is front es last = by_lines (lines_behind p (length front) es) (right.closed front es last)
     where
@@ -147,7 +147,7 @@ module _ (v : Version) (p : Parts) (text : List ℕ) where
       by_lines (b ∷ bs) other = other
 
   -- before all groups
-  pub right-first : (opened : List Seat) → AreRight v p text 0 (record { lines = 0; entries = 0; length = 0 }) opened opened
+  pub right-first : (opened : List Counter) → AreRight v p text 0 (record { lines = 0; entries = 0; length = 0 }) opened opened
   right-first opened = record {
     histories = [];
     plays = tt;
@@ -162,7 +162,7 @@ module _ (v : Version) (p : Parts) (text : List ℕ) where
 
   -- ---- the line of a group
 
-  module _ (n : ℕ) (r : Progress) (opened was : List Seat) (right : AreRight v p text n r opened was) where
+  module _ (n : ℕ) (r : Progress) (opened was : List Counter) (right : AreRight v p text n r opened was) where
     -- it is not there
     pub opened-wrong : IsValid p → n < group_count p → (l : Line) → l ≡ opening_line (group_with p n) → ((more : List ℕ) → drop r.length text ≡ line_text k l ++ more → ⊥) → IsJudged v p text (Invalid (r.lines + 3))
     opened-wrong valid low line is none tools bytes head = subst (λ (m : ℕ). IsInvalid tools v p bytes (m + 3)) (sym right.place_is) (stopped-at tools v p valid bytes text head front (drop r.length text) (record {
@@ -211,10 +211,10 @@ module _ (v : Version) (p : Parts) (text : List ℕ) where
   -- ---- lines of entries
 
   -- they were followed by the set
-  pub followed-with : {n : ℕ} → {from : Progress} → {size : ℕ} → {f : Follow} → {opened was seats : List Seat} → (right : IsRight v p text n from size f opened was seats) → IsFollowingWith (place_at right) p f
+  pub followed-with : {n : ℕ} → {from : Progress} → {size : ℕ} → {f : Follow} → {opened was counters : List Counter} → (right : IsRight v p text n from size f opened was counters) → IsFollowingWith (place_at right) p f
   followed-with right = record { following = right.following; setup_is = refl }
 
-  module _ (n : ℕ) (from : Progress) (size : ℕ) (f : Follow) (opened was seats : List Seat) (right : IsRight v p text n from size f opened was seats) where
+  module _ (n : ℕ) (from : Progress) (size : ℕ) (f : Follow) (opened was counters : List Counter) (right : IsRight v p text n from size f opened was counters) where
     abbrev g : Group
     g = group_with p n
 
@@ -244,12 +244,12 @@ module _ (v : Version) (p : Parts) (text : List ℕ) where
     place-short = omega (arith, right.place_is, lines-short k front, size-is k text front size stands)
 
     -- the next entry is followed
-    pub taken-right : (line : List ℕ) (e : Entry) (f' : Follow) (seats' : List Seat) → IsTaken (place_at right) v rest line e f'
-        → seats' ≡ map (seat_after (shown_as g f.count e (past_of g (es ++ e ∷ [])))) seats → IsRight v p text n from (size + length line) f' opened was seats'
-    taken-right line e f' seats' taken fed = record {
+    pub taken-right : (line : List ℕ) (e : Entry) (f' : Follow) (counters' : List Counter) → IsTaken (place_at right) v rest line e f'
+        → counters' ≡ map (counter_after (shown_as g f.count e (past_of g (es ++ e ∷ [])))) counters → IsRight v p text n from (size + length line) f' opened was counters'
+    taken-right line e f' counters' taken fed = record {
       before = right.before;
       entries = es ++ e ∷ [];
-      shown = shown-more g es e was seats seats' right.shown (fed ∙ ap (λ (m : ℕ). map (seat_after (shown_as g m e (past_of g (es ++ e ∷ [])))) seats) right.following.count_is);
+      shown = shown-more g es e was counters counters' right.shown (fed ∙ ap (λ (m : ℕ). map (counter_after (shown_as g m e (past_of g (es ++ e ∷ [])))) counters) right.following.count_is);
       following = taken.following;
       within = stands-more.within;
       text_is = stands-more.text_is;
@@ -386,7 +386,7 @@ module _ (v : Version) (p : Parts) (text : List ℕ) where
 
     -- the play of the group is whole, and the lines of its requests are there
     group-right : (s : Stood) → NoEntryBegins k rest → IsPlay g es → HaveStood k blocks rest s → s.count ≡ length blocks
-        → AreRight v p text (n + 1) (record { lines = from.lines + 1 + f.count + s.count; entries = from.entries + f.count; length = size + s.length }) opened seats
+        → AreRight v p text (n + 1) (record { lines = from.lines + 1 + f.count + s.count; entries = from.entries + f.count; length = size + s.length }) opened counters
     group-right s other over stood whole =
         let all : lines_of_groups p 0 (done ++ es ∷ []) ≡ front ++ blocks = lines-last p done n es right.before.count in
         let here : n ≡ 0 + length done = omega (arith, right.before.count) in
@@ -402,7 +402,7 @@ module _ (v : Version) (p : Parts) (text : List ℕ) where
           within = stands-on.within;
           text_is = stands-on.text_is;
           entries_are = omega (arith, right.before.entries_are, right.following.count_is, count-more done es);
-          shown = shown-group p n done es opened was seats right.before.count right.before.shown right.shown;
+          shown = shown-group p n done es opened was counters right.before.count right.before.shown right.shown;
           closed = λ before last same. closed-last before last (last-same done before es last same);
         }
       where
@@ -424,14 +424,14 @@ module _ (v : Version) (p : Parts) (text : List ℕ) where
         omega (arith, before, here, groups, low, right.before.count, right.before.entries_are, right.following.count_is)
 
     -- what comes of it
-    pub ended-there : (fd : Followed) → NoEntryBegins k rest → IsEndedAt (place_at right) k rest from f.count size fd → IsFollowedTo v p text n opened seats fd
+    pub ended-there : (fd : Followed) → NoEntryBegins k rest → IsEndedAt (place_at right) k rest from f.count size fd → IsFollowedTo v p text n opened counters fd
     ended-there fd other (unfinished left) = unfinished-there other left
     ended-there fd other (missing s over stood few) = missing-there s other over stood few
     ended-there fd other (finished s over stood whole) = group-right s other over stood whole
 
   -- ---- the line `end`
 
-  module _ (r : Progress) (opened seats : List Seat) (all : AreAllRight v p text r opened seats) where
+  module _ (r : Progress) (opened counters : List Counter) (all : AreAllRight v p text r opened counters) where
     abbrev hs : List (List Entry)
     hs = all.right.histories
 
@@ -495,24 +495,24 @@ module _ (v : Version) (p : Parts) (text : List ℕ) where
                 (λ is. let yes : bytes_eq behind_end (texts k (count_lines tools p hs)) ≡ true = (bytes_eq-Decides behind_end (texts k (count_lines tools p hs))).1 is in cc)
 
       -- it is there, and what stands behind it is judged
-      pub end-judged : (tools : List Tool) (wanted : List ℕ) → opened ≡ map seat_of tools → ((known : Known) → wanted ≡ texts known (map seat_line seats)) → IsJudgedText tools v p text (verdict_behind behind_end wanted (r.lines + 1 + 2) r.entries)
+      pub end-judged : (tools : List Tool) (wanted : List ℕ) → opened ≡ map counter_of tools → ((known : Known) → wanted ≡ texts known (map counter_line counters)) → IsJudgedText tools v p text (verdict_behind behind_end wanted (r.lines + 1 + 2) r.entries)
       end-judged tools wanted opened_is wanted_is bytes head =
           let number : length (lines_from p 0 hs) + 2 ≡ r.lines + 1 + 2 = omega (arith, all.right.place_is, ap length lines_all, length-append groups (end_line ∷ [])) in
-          let shown : seats ≡ seats_after (shown_from p 0 hs) (map seat_of tools) = all.right.shown ∙ ap (seats_after (shown_from p 0 hs)) opened_is in
-          let same : texts k (count_lines tools p hs) ≡ wanted = sym (wanted_is k ∙ ap (texts k) (lines-shown tools p hs seats shown)) in
+          let shown : counters ≡ counters_after (shown_from p 0 hs) (map counter_of tools) = all.right.shown ∙ ap (counters_after (shown_from p 0 hs)) opened_is in
+          let same : texts k (count_lines tools p hs) ≡ wanted = sym (wanted_is k ∙ ap (texts k) (lines-shown tools p hs counters shown)) in
           let told : verdict_behind behind_end (texts k (count_lines tools p hs)) (length (lines_from p 0 hs) + 2) (entry_count hs) ≡ verdict_behind behind_end wanted (r.lines + 1 + 2) r.entries =
           rw (same, number, sym all.right.entries_are) refl in
           subst (IsVerdict tools v p bytes) told (verdict-behind tools bytes head)
 
       -- the bus was shown the entries of the text, where it is valid
-      pub end-shown : (tools : List Tool) (verdict : Verdict) → opened ≡ map seat_of tools → IsShownText tools v p text seats verdict
+      pub end-shown : (tools : List Tool) (verdict : Verdict) → opened ≡ map counter_of tools → IsShownText tools v p text counters verdict
       end-shown tools (Invalid line) opened_is bytes head = tt
       end-shown tools (Valid m) opened_is bytes head = λ is.
-          all.right.shown ∙ ap (seats_after (shown_from p 0 hs)) opened_is
-          ∙ ap (λ (xs : List (List Entry)). seats_after (shown_from p 0 xs) (map seat_of tools)) (same-histories tools v p all.valid bytes hs plays_all behind_end (head-all tools bytes head) m is)
+          all.right.shown ∙ ap (counters_after (shown_from p 0 hs)) opened_is
+          ∙ ap (λ (xs : List (List Entry)). counters_after (shown_from p 0 xs) (map counter_of tools)) (same-histories tools v p all.valid bytes hs plays_all behind_end (head-all tools bytes head) m is)
 
       -- whether count lines stand behind it
-      pub end-counted : (tools : List Tool) (wanted : List ℕ) (verdict : Verdict) (counted : Bool) → opened ≡ map seat_of tools → ((known : Known) → wanted ≡ texts known (map seat_line seats))
+      pub end-counted : (tools : List Tool) (wanted : List ℕ) (verdict : Verdict) (counted : Bool) → opened ≡ map counter_of tools → ((known : Known) → wanted ≡ texts known (map counter_line counters))
           → verdict ≡ verdict_behind behind_end wanted (r.lines + 1 + 2) r.entries → counted ≡ not (length behind_end == 0) → IsCountedText tools v p text verdict counted
       end-counted tools wanted (Invalid line) counted opened_is wanted_is is counted_is bytes head = tt
       end-counted tools wanted (Valid m) counted opened_is wanted_is is counted_is bytes head = λ valid.
@@ -523,8 +523,8 @@ module _ (v : Version) (p : Parts) (text : List ℕ) where
           whole : bytes ≡ trace_text v p hs ++ behind_end
           whole = text_is tools v p all.valid bytes hs plays_all behind_end (head-all tools bytes head)
 
-          shown : seats ≡ seats_after (shown_from p 0 hs) (map seat_of tools)
-          shown = all.right.shown ∙ ap (seats_after (shown_from p 0 hs)) opened_is
+          shown : counters ≡ counters_after (shown_from p 0 hs) (map counter_of tools)
+          shown = all.right.shown ∙ ap (counters_after (shown_from p 0 hs)) opened_is
 
           by_tests : (e f : Bool) → (length behind_end == 0) ≡ e → bytes_eq behind_end wanted ≡ f
               → Valid m ≡ (if e || f then Valid r.entries else Invalid (r.lines + 1 + 2 + lines_alike behind_end wanted + 1)) → counted ≡ not e
@@ -534,5 +534,5 @@ module _ (v : Version) (p : Parts) (text : List ℕ) where
               (whole ∙ ap (λ (t : List ℕ). trace_text v p hs ++ t) (nil_from_length behind_end (eqb-true (length behind_end) 0 none)) ∙ append-nil (trace_text v p hs))
           by_tests false true some same valid on =
               subst (λ (b : Bool). bytes ≡ (if b then counted_text v tools p hs else trace_text v p hs)) (sym on)
-              (whole ∙ ap (λ (t : List ℕ). trace_text v p hs ++ t) ((bytes_eq-Decides behind_end wanted).0 same ∙ wanted_is k ∙ ap (texts k) (lines-shown tools p hs seats shown)))
+              (whole ∙ ap (λ (t : List ℕ). trace_text v p hs ++ t) ((bytes_eq-Decides behind_end wanted).0 same ∙ wanted_is k ∙ ap (texts k) (lines-shown tools p hs counters shown)))
           by_tests false false some other valid on = cc

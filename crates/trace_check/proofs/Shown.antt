@@ -8,11 +8,11 @@ use Rattle.rt_model.specs.Past.{Past}
 use Rattle.rt_model.proofs.Steps.{past_of-append}
 use Rattle.rt_plays.specs.Plays.{group_with}
 use Rattle.trace_tools.specs.declared.shown.Shown.{Shown}
-use Rattle.trace_tools.specs.Seats.{Seat, seat_after, seat_line, seat_of, seats_after}
+use Rattle.trace_tools.specs.Counters.{Counter, counter_after, counter_line, counter_of, counters_after}
 use Rattle.trace_tools.specs.Tools.{Tool}
 use Rattle.trace_tools.proofs.BusLaws.{lines-after}
 use Rattle.trace_text.specs.CountLines.{count_lines, shown_as, shown_entries, shown_from}
-use Rattle.trace_text.proofs.ShownLaws.{seats_after-append}
+use Rattle.trace_text.proofs.ShownLaws.{counters_after-append}
 
 module _ (g : Group) where
   shown-append : (i : ℕ) (past : Past) (es : List Entry) (e : Entry)
@@ -25,19 +25,19 @@ module _ (g : Group) where
       (shown-append (i + 1) (after g x.step past) es e ∙ ap (λ (n : ℕ). shown_entries g (i + 1) (after g x.step past) es ++ shown_as g n e (after g e.step (past_from g (after g x.step past) es)) ∷ []) next)
 
   -- one entry more is shown
-  pub shown-more : (es : List Entry) (e : Entry) (opened now later : List Seat) → now ≡ seats_after (shown_entries g 0 [] es) opened
-      → later ≡ map (seat_after (shown_as g (length es) e (past_of g (es ++ e ∷ [])))) now → later ≡ seats_after (shown_entries g 0 [] (es ++ e ∷ [])) opened
+  pub shown-more : (es : List Entry) (e : Entry) (opened now later : List Counter) → now ≡ counters_after (shown_entries g 0 [] es) opened
+      → later ≡ map (counter_after (shown_as g (length es) e (past_of g (es ++ e ∷ [])))) now → later ≡ counters_after (shown_entries g 0 [] (es ++ e ∷ [])) opened
   unfolding past_of
   shown-more es e opened now later was fed =
       let number : 0 + length es ≡ length es = omega arith in
       let entry : shown_as g (0 + length es) e (after g e.step (past_from g [] es)) ≡ shown_as g (length es) e (past_of g (es ++ e ∷ [])) =
       ap (λ (n : ℕ). shown_as g n e (after g e.step (past_from g [] es))) number ∙ ap (shown_as g (length es) e) (sym (past_of-append g es e)) in
-      fed ∙ ap (map (seat_after (shown_as g (length es) e (past_of g (es ++ e ∷ []))))) was
-      ∙ ap (λ (s : Shown). seats_after (s ∷ []) (seats_after (shown_entries g 0 [] es) opened)) (sym entry)
-      ∙ sym (seats_after-append (shown_entries g 0 [] es) (shown_as g (0 + length es) e (after g e.step (past_from g [] es)) ∷ []) opened)
-      ∙ ap (λ (ss : List Shown). seats_after ss opened) (sym (shown-append 0 [] es e))
+      fed ∙ ap (map (counter_after (shown_as g (length es) e (past_of g (es ++ e ∷ []))))) was
+      ∙ ap (λ (s : Shown). counters_after (s ∷ []) (counters_after (shown_entries g 0 [] es) opened)) (sym entry)
+      ∙ sym (counters_after-append (shown_entries g 0 [] es) (shown_as g (0 + length es) e (after g e.step (past_from g [] es)) ∷ []) opened)
+      ∙ ap (λ (ss : List Shown). counters_after ss opened) (sym (shown-append 0 [] es e))
 
-  pub shown-none : (opened : List Seat) → opened ≡ seats_after (shown_entries g 0 [] []) opened
+  pub shown-none : (opened : List Counter) → opened ≡ counters_after (shown_entries g 0 [] []) opened
   unfolding shown_entries
   shown-none opened = refl
 
@@ -50,15 +50,15 @@ groups-append p n (xs ∷ hs) es =
     ∙ ap (λ (m : ℕ). (own ++ shown_from p (n + 1) hs) ++ shown_entries (group_with p m) 0 [] es) next
 
 -- the entries of one group more are shown
-pub shown-group : (p : Parts) (n : ℕ) (hs : List (List Entry)) (es : List Entry) (opened was now : List Seat) → length hs ≡ n → was ≡ seats_after (shown_from p 0 hs) opened
-    → now ≡ seats_after (shown_entries (group_with p n) 0 [] es) was → now ≡ seats_after (shown_from p 0 (hs ++ es ∷ [])) opened
+pub shown-group : (p : Parts) (n : ℕ) (hs : List (List Entry)) (es : List Entry) (opened was now : List Counter) → length hs ≡ n → was ≡ counters_after (shown_from p 0 hs) opened
+    → now ≡ counters_after (shown_entries (group_with p n) 0 [] es) was → now ≡ counters_after (shown_from p 0 (hs ++ es ∷ [])) opened
 shown-group p n hs es opened was now count before here =
     let number : n ≡ 0 + length hs = omega (arith, count) in
-    here ∙ ap (seats_after (shown_entries (group_with p n) 0 [] es)) before
-    ∙ ap (λ (m : ℕ). seats_after (shown_entries (group_with p m) 0 [] es) (seats_after (shown_from p 0 hs) opened)) number
-    ∙ sym (seats_after-append (shown_from p 0 hs) (shown_entries (group_with p (0 + length hs)) 0 [] es) opened)
-    ∙ ap (λ (ss : List Shown). seats_after ss opened) (sym (groups-append p 0 hs es))
+    here ∙ ap (counters_after (shown_entries (group_with p n) 0 [] es)) before
+    ∙ ap (λ (m : ℕ). counters_after (shown_entries (group_with p m) 0 [] es) (counters_after (shown_from p 0 hs) opened)) number
+    ∙ sym (counters_after-append (shown_from p 0 hs) (shown_entries (group_with p (0 + length hs)) 0 [] es) opened)
+    ∙ ap (λ (ss : List Shown). counters_after ss opened) (sym (groups-append p 0 hs es))
 
 -- the lines of the bus are those of its tools
-pub lines-shown : (tools : List Tool) (p : Parts) (hs : List (List Entry)) (seats : List Seat) → seats ≡ seats_after (shown_from p 0 hs) (map seat_of tools) → map seat_line seats ≡ count_lines tools p hs
-lines-shown tools p hs seats is = ap (map seat_line) is ∙ lines-after (shown_from p 0 hs) tools
+pub lines-shown : (tools : List Tool) (p : Parts) (hs : List (List Entry)) (counters : List Counter) → counters ≡ counters_after (shown_from p 0 hs) (map counter_of tools) → map counter_line counters ≡ count_lines tools p hs
+lines-shown tools p hs counters is = ap (map counter_line) is ∙ lines-after (shown_from p 0 hs) tools

@@ -2,7 +2,7 @@
 use Rattle.std.specs.Prelude.{◌≡◌, ℕ, ◌+◌, ◌≤◌, List, map}
 use Rattle.rt_task.specs.declared.Parts.{Parts}
 use Rattle.trace_lines.specs.declared.format.Version.{Version}
-use Rattle.trace_tools.specs.Seats.{Seat, seat_of, seats_after}
+use Rattle.trace_tools.specs.Counters.{Counter, counter_of, counters_after}
 use Rattle.trace_tools.specs.Tools.{Tool}
 use Rattle.trace_text.specs.CountLines.{shown_from}
 use Rattle.trace_laws.specs.ValidTexts.{IsValidText, IsBegun}
@@ -23,7 +23,7 @@ IsVerdict tools version p text (Valid entries) = IsValidText tools version p tex
 IsVerdict tools version p text (Invalid line) = IsInvalid tools version p text line
 
 -- a bus of the tools stands so once it was shown all entries of the text, where that is valid
-abbrev pub HasShown : List Tool → Version → Parts → List ℕ → List Seat → Verdict → Type 0
-HasShown tools version p text seats (Valid entries) =
-    (is : IsValidText tools version p text entries) → seats ≡ seats_after (shown_from p 0 is.histories) (map seat_of tools)
-HasShown tools version p text seats (Invalid line) = Unit {0}
+abbrev pub HasShown : List Tool → Version → Parts → List ℕ → List Counter → Verdict → Type 0
+HasShown tools version p text counters (Valid entries) =
+    (is : IsValidText tools version p text entries) → counters ≡ counters_after (shown_from p 0 is.histories) (map counter_of tools)
+HasShown tools version p text counters (Invalid line) = Unit {0}

@@ -2,8 +2,8 @@
 ghost use Rattle.std.specs.Prelude.{◌≡◌, flat_map, map, IfOk};
 ghost use Rattle.trace_lines.specs.Grammar.{line_text};
 ghost use Rattle.trace_lines.specs.Known.{Known};
-ghost use Rattle.trace_tools.specs.Places.{seats};
-ghost use Rattle.trace_tools.specs.Seats.{seat_line};
+ghost use Rattle.trace_tools.specs.BusCounters.{counters};
+ghost use Rattle.trace_tools.specs.Counters.{counter_line};
 
 use rt_base::NoMemory;
 use std::alloc::Global;
@@ -12,7 +12,7 @@ use trace_tools::{Bus, TraceTool};
 /// The count lines of a bus: one for each tool, in the order in which they were handed in.
 pub(crate) fn count_text<T: TraceTool>(alloc: Global, bus: &Bus<T>) -> Result<Vec<u8>, NoMemory>
     ensures { IfOk result (λ v. (k : Known)
-        → v.items ≡ flat_map (line_text k) (map seat_line (seats T.tool bus.now))) }
+        → v.items ≡ flat_map (line_text k) (map counter_line (counters T.tool bus.now))) }
 {
     // There is no memory for more tools than that.
     let Ok(count) = u32::try_from(bus.count()) else {

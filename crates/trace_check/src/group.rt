@@ -4,8 +4,8 @@ ghost use Rattle.rt_plays.specs.Groups.{IsGroupOf};
 ghost use Rattle.rt_plays.specs.Plays.{group_with};
 ghost use Rattle.trace_lines.specs.Known.{known_of};
 ghost use Rattle.trace_lines.specs.Lines.{group_line, links_of};
-ghost use Rattle.trace_tools.specs.Places.{seats};
-ghost use Rattle.trace_tools.specs.Seats.{Seat};
+ghost use Rattle.trace_tools.specs.BusCounters.{counters};
+ghost use Rattle.trace_tools.specs.Counters.{Counter};
 ghost use Rattle.trace_read.specs.Reading.{begins_with_digit};
 ghost use Rattle.trace_course.specs.Places.{Place};
 ghost use Rattle.trace_check.specs.declared.progress.Progress as progress;
@@ -95,14 +95,14 @@ fn follow_entries<T: TraceTool>(
     line: &mut Vec<u8>,
     bus: &mut Bus<T>,
 ) -> Result<Entries, NoMemory>
-    requires { (from : progress.Progress) × (opened : List Seat) × (was : List Seat)
+    requires { (from : progress.Progress) × (opened : List Counter) × (was : List Counter)
         × IsRight version setup.now text.now group.0 from begin follow.old
-        opened was (seats T.tool bus.old) }
-    ensures { IfOk result (λ entries. (from : progress.Progress) (opened was : List Seat)
+        opened was (counters T.tool bus.old) }
+    ensures { IfOk result (λ entries. (from : progress.Progress) (opened was : List Counter)
         → IsRight version setup.now text.now group.0 from begin follow.old
-        opened was (seats T.tool bus.old)
+        opened was (counters T.tool bus.old)
         → AreFollowed version setup.now text.now group.0 from follow.new
-        opened was (seats T.tool bus.new) entries) }
+        opened was (counters T.tool bus.new) entries) }
 {
     let mut size = begin;
     'entries: while begins_as_entry(&text[size..]) {
@@ -129,11 +129,11 @@ fn follow_lines<T: TraceTool>(
 ) -> Result<Followed, NoMemory>
     requires group { IsGroupOf setup.now group.0 }
     requires opened { IsFollowing (group_with setup.now group.0) [] follow.old }
-    requires before { (opened : List Seat)
-        × AreRight version setup.now text.now group.0 from opened (seats T.tool bus.old) }
-    ensures { IfOk result (λ followed. (opened : List Seat)
-        → AreRight version setup.now text.now group.0 from opened (seats T.tool bus.old)
-        → IsFollowedTo version setup.now text.now group.0 opened (seats T.tool bus.new)
+    requires before { (opened : List Counter)
+        × AreRight version setup.now text.now group.0 from opened (counters T.tool bus.old) }
+    ensures { IfOk result (λ followed. (opened : List Counter)
+        → AreRight version setup.now text.now group.0 from opened (counters T.tool bus.old)
+        → IsFollowedTo version setup.now text.now group.0 opened (counters T.tool bus.new)
         followed) }
 {
     if !begins(version, setup, follow, group, &text[from.length..], line)? {
@@ -159,11 +159,11 @@ pub(crate) fn follow_group<T: TraceTool>(
     bus: &mut Bus<T>,
 ) -> Result<Followed, NoMemory>
     requires group { IsGroupOf setup.now group.0 }
-    requires before { (opened : List Seat)
-        × AreRight version setup.now text.now group.0 from opened (seats T.tool bus.old) }
-    ensures { IfOk result (λ followed. (opened : List Seat)
-        → AreRight version setup.now text.now group.0 from opened (seats T.tool bus.old)
-        → IsFollowedTo version setup.now text.now group.0 opened (seats T.tool bus.new)
+    requires before { (opened : List Counter)
+        × AreRight version setup.now text.now group.0 from opened (counters T.tool bus.old) }
+    ensures { IfOk result (λ followed. (opened : List Counter)
+        → AreRight version setup.now text.now group.0 from opened (counters T.tool bus.old)
+        → IsFollowedTo version setup.now text.now group.0 opened (counters T.tool bus.new)
         followed) }
 {
     let mut follow = Follow::open(alloc, setup, group)?;

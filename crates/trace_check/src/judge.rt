@@ -2,8 +2,8 @@
 ghost use Rattle.std.specs.Prelude.{◌≡◌, ◌+◌, ◌≤◌, List, map, false, IfOk, length};
 ghost use Rattle.rt_task.specs.declared.Parts.{Parts};
 ghost use Rattle.trace_lines.specs.declared.format.Version.{Version};
-ghost use Rattle.trace_tools.specs.Places.{seats};
-ghost use Rattle.trace_tools.specs.Seats.{seat_of};
+ghost use Rattle.trace_tools.specs.BusCounters.{counters};
+ghost use Rattle.trace_tools.specs.Counters.{counter_of};
 ghost use Rattle.trace_tools.specs.Tools.{Tool};
 ghost use Rattle.trace_check.specs.Counts.{IsCountedText};
 ghost use Rattle.trace_check.specs.inside.Judging.{IsJudgedText, IsShownText, verdict_behind};
@@ -83,14 +83,14 @@ fn end_at<T: TraceTool>(
     requires within { right.length ≤ length text.now }
     requires places { right.lines ≤ right.length }
     ensures judged { IfOk result (λ c. (version : Version) (p : Parts) (tools : List Tool)
-        → AreAllRight version p text.now right (map seat_of tools) (seats T.tool bus.now)
+        → AreAllRight version p text.now right (map counter_of tools) (counters T.tool bus.now)
         → IsJudgedText tools version p text.now c.verdict) }
     ensures counted { IfOk result (λ c. (version : Version) (p : Parts) (tools : List Tool)
-        → AreAllRight version p text.now right (map seat_of tools) (seats T.tool bus.now)
+        → AreAllRight version p text.now right (map counter_of tools) (counters T.tool bus.now)
         → IsCountedText tools version p text.now c.verdict c.counted) }
     ensures shown { IfOk result (λ c. (version : Version) (p : Parts) (tools : List Tool)
-        → AreAllRight version p text.now right (map seat_of tools) (seats T.tool bus.now)
-        → IsShownText tools version p text.now (seats T.tool bus.now) c.verdict) }
+        → AreAllRight version p text.now right (map counter_of tools) (counters T.tool bus.now)
+        → IsShownText tools version p text.now (counters T.tool bus.now) c.verdict) }
 {
     let rest = &text[right.length..];
     if !begins_with(rest, END) {
@@ -114,14 +114,14 @@ pub(crate) fn judge_text<T: TraceTool>(
     bus: &mut Bus<T>,
 ) -> Result<Checked, NoMemory>
     ensures judged { IfOk result (λ c. (tools : List Tool)
-        → seats T.tool bus.old ≡ map seat_of tools
+        → counters T.tool bus.old ≡ map counter_of tools
         → IsJudgedText tools version setup.now text.now c.verdict) }
     ensures counted { IfOk result (λ c. (tools : List Tool)
-        → seats T.tool bus.old ≡ map seat_of tools
+        → counters T.tool bus.old ≡ map counter_of tools
         → IsCountedText tools version setup.now text.now c.verdict c.counted) }
     ensures shown { IfOk result (λ c. (tools : List Tool)
-        → seats T.tool bus.old ≡ map seat_of tools
-        → IsShownText tools version setup.now text.now (seats T.tool bus.new) c.verdict) }
+        → counters T.tool bus.old ≡ map counter_of tools
+        → IsShownText tools version setup.now text.now (counters T.tool bus.new) c.verdict) }
 {
     // A proof knows that a setup is valid once its parts are read.
     let _parts = setup.parts();

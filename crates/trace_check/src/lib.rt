@@ -3,8 +3,8 @@
 #![tactic(auto)]
 
 ghost use Rattle.std.specs.Prelude.{◌≡◌, List, map, IfOk, true};
-ghost use Rattle.trace_tools.specs.Places.{seats};
-ghost use Rattle.trace_tools.specs.Seats.{seat_of};
+ghost use Rattle.trace_tools.specs.BusCounters.{counters};
+ghost use Rattle.trace_tools.specs.Counters.{counter_of};
 ghost use Rattle.trace_tools.specs.Tools.{Tool};
 ghost use Rattle.trace_read.specs.Reads.{IsHeadOf};
 ghost use Rattle.trace_check.specs.Counts.{HasCounts};
@@ -45,11 +45,11 @@ pub fn check_trace<T: TraceTool>(
 ) -> Result<Verdict, NoMemory>
     requires read { IsHeadOf bytes.now head.now }
     ensures verdict { IfOk result (λ v. (tools : List Tool)
-        → seats T.tool bus.old ≡ map seat_of tools
+        → counters T.tool bus.old ≡ map counter_of tools
         → IsVerdict tools head.now.version head.now.setup bytes.now v) }
     ensures shown { IfOk result (λ v. (tools : List Tool)
-        → seats T.tool bus.old ≡ map seat_of tools
-        → HasShown tools head.now.version head.now.setup bytes.now (seats T.tool bus.new) v) }
+        → counters T.tool bus.old ≡ map counter_of tools
+        → HasShown tools head.now.version head.now.setup bytes.now (counters T.tool bus.new) v) }
 {
     Ok(check_counted(alloc, bytes, head, bus)?.verdict)
 }
@@ -63,14 +63,14 @@ pub fn check_counted<T: TraceTool>(
 ) -> Result<Checked, NoMemory>
     requires read { IsHeadOf bytes.now head.now }
     ensures verdict { IfOk result (λ c. (tools : List Tool)
-        → seats T.tool bus.old ≡ map seat_of tools
+        → counters T.tool bus.old ≡ map counter_of tools
         → IsVerdict tools head.now.version head.now.setup bytes.now c.verdict) }
     ensures counted { IfOk result (λ c. (tools : List Tool)
-        → seats T.tool bus.old ≡ map seat_of tools
+        → counters T.tool bus.old ≡ map counter_of tools
         → HasCounts tools head.now.version head.now.setup bytes.now c.verdict c.counted) }
     ensures shown { IfOk result (λ c. (tools : List Tool)
-        → seats T.tool bus.old ≡ map seat_of tools
-        → HasShown tools head.now.version head.now.setup bytes.now (seats T.tool bus.new) c.verdict) }
+        → counters T.tool bus.old ≡ map counter_of tools
+        → HasShown tools head.now.version head.now.setup bytes.now (counters T.tool bus.new) c.verdict) }
 {
     let parts = head.setup.parts();
     if !has_head(alloc, bytes, head.version, parts, head.is_canonical)? {

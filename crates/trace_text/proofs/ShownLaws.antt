@@ -9,7 +9,7 @@ use Rattle.rt_plays.specs.Groups.{GroupHistory, group_of, past}
 use Rattle.trace_lines.specs.Grammar.{line_text}
 use Rattle.trace_lines.specs.Known.{Known}
 use Rattle.trace_tools.specs.declared.shown.Shown.{Shown}
-use Rattle.trace_tools.specs.Seats.{Seat, seat_after, seat_line, seats_after}
+use Rattle.trace_tools.specs.Counters.{Counter, counter_after, counter_line, counters_after}
 use Rattle.trace_text.specs.CountLines.{ended_late, ended_task, shown_as}
 use Rattle.trace_text.proofs.LineLaws.{texts}
 use Rattle.trace_text.proofs.ReplayLaws.{drop_end}
@@ -22,24 +22,24 @@ pub shown-is : (h : GroupHistory) (group : GroupNo) (i : ℕ) (e : Entry) (ended
 shown-is h group i e ended s number_is ended_is is = rw (is, ended_is, number_is) refl
 
 -- lists of entries that are shown one after the other
-pub seats_after-append : (xs ys : List Shown) (seats : List Seat) → seats_after (xs ++ ys) seats ≡ seats_after ys (seats_after xs seats)
-seats_after-append [] ys seats = refl
-seats_after-append (x ∷ xs) ys seats = seats_after-append xs ys (map (seat_after x) seats)
+pub counters_after-append : (xs ys : List Shown) (counters : List Counter) → counters_after (xs ++ ys) counters ≡ counters_after ys (counters_after xs counters)
+counters_after-append [] ys counters = refl
+counters_after-append (x ∷ xs) ys counters = counters_after-append xs ys (map (counter_after x) counters)
 
 -- ---- the count lines
 
 -- the line of the next place, and those after it
-counts-suc : (k : Known) (seats : List Seat) (i : ℕ) (text : List ℕ) → i < length seats → IfSome (slice_get seats i) (λ s. text ≡ line_text k (seat_line s))
-    → texts k (map seat_line (drop i seats)) ≡ text ++ texts k (map seat_line (drop (suc i) seats))
+counts-suc : (k : Known) (counters : List Counter) (i : ℕ) (text : List ℕ) → i < length counters → IfSome (slice_get counters i) (λ s. text ≡ line_text k (counter_line s))
+    → texts k (map counter_line (drop i counters)) ≡ text ++ texts k (map counter_line (drop (suc i) counters))
 counts-suc k [] i text low is = absurd (omega arith)
-counts-suc k (s ∷ seats) zero text low is = ap (λ xs. xs ++ texts k (map seat_line seats)) (sym is)
-counts-suc k (s ∷ seats) (suc i) text low is = counts-suc k seats i text (omega arith) is
+counts-suc k (s ∷ counters) zero text low is = ap (λ xs. xs ++ texts k (map counter_line counters)) (sym is)
+counts-suc k (s ∷ counters) (suc i) text low is = counts-suc k counters i text (omega arith) is
 
-pub counts-next : (k : Known) (seats : List Seat) (i : ℕ) (text : List ℕ) → i < length seats → IfSome (slice_get seats i) (λ s. text ≡ line_text k (seat_line s))
-    → texts k (map seat_line (drop i seats)) ≡ text ++ texts k (map seat_line (drop (i + 1) seats))
-counts-next k seats i text low is =
+pub counts-next : (k : Known) (counters : List Counter) (i : ℕ) (text : List ℕ) → i < length counters → IfSome (slice_get counters i) (λ s. text ≡ line_text k (counter_line s))
+    → texts k (map counter_line (drop i counters)) ≡ text ++ texts k (map counter_line (drop (i + 1) counters))
+counts-next k counters i text low is =
     let next : suc i ≡ i + 1 = omega arith in
-    counts-suc k seats i text low is ∙ ap (λ (n : ℕ). text ++ texts k (map seat_line (drop n seats))) next
+    counts-suc k counters i text low is ∙ ap (λ (n : ℕ). text ++ texts k (map counter_line (drop n counters))) next
 
-pub counts-end : (k : Known) (seats : List Seat) (i : ℕ) → length seats ≤ i → texts k (map seat_line (drop i seats)) ≡ []
-counts-end k seats i past_all = rw (drop_end seats i past_all) refl
+pub counts-end : (k : Known) (counters : List Counter) (i : ℕ) → length counters ≤ i → texts k (map counter_line (drop i counters)) ≡ []
+counts-end k counters i past_all = rw (drop_end counters i past_all) refl

@@ -14,7 +14,7 @@ use Rattle.trace_lines.specs.Known.{known_of}
 use Rattle.trace_tools.specs.declared.shown.Shown.{Shown}
 use Rattle.trace_tools.specs.Tools.{Tool, line_of}
 use Rattle.trace_tools.specs.Tools as tools
-use Rattle.trace_tools.specs.Seats.{Seat, seat_line, seats_after}
+use Rattle.trace_tools.specs.Counters.{Counter, counter_line, counters_after}
 use Rattle.trace_text.specs.TraceText.{trace_text}
 
 -- the task whose job an entry ended, and whether it ended late
@@ -59,9 +59,9 @@ counted_text version ts p histories =
     trace_text version p histories ++ flat_map (line_text (known_of version p)) (count_lines ts p histories)
 
 -- the same of a bus, whose places stand for its tools
-abbrev pub bus_lines : List Seat → Parts → List (List Entry) → List Line
-bus_lines seats p histories = map seat_line (seats_after (shown_from p 0 histories) seats)
+abbrev pub bus_lines : List Counter → Parts → List (List Entry) → List Line
+bus_lines counters p histories = map counter_line (counters_after (shown_from p 0 histories) counters)
 
-abbrev pub bus_text : Version → List Seat → Parts → List (List Entry) → List ℕ
-bus_text version seats p histories =
-    trace_text version p histories ++ flat_map (line_text (known_of version p)) (bus_lines seats p histories)
+abbrev pub bus_text : Version → List Counter → Parts → List (List Entry) → List ℕ
+bus_text version counters p histories =
+    trace_text version p histories ++ flat_map (line_text (known_of version p)) (bus_lines counters p histories)

@@ -1,4 +1,4 @@
--- The text of a place is the text of what the list's map has there.
+-- The text of a counter is the text of what the list's map has there.
 use Rattle.std.specs.Prelude.{Result, Ok, Err, IfOk, IfSome, slice_get}
 use Rattle.std.proofs.Common.{◌≡◌, ℕ, zero, suc, ◌<◌, List, [], ◌∷◌, length, map, get_or, arith}
 

@@ -8,7 +8,7 @@ use Rattle.rt_rules.specs.declared.history.Reply.TheVariants as replies
 use Rattle.rt_rules.specs.Numbers.{is}
 use Rattle.trace_tools.specs.declared.shown.Shown.{Shown}
 use Rattle.trace_tools.specs.Tools.{Tool, after, totals}
-use Rattle.trace_tools.specs.Entries.{begins, begun_by, last_place, migrations, most, moves, moves_after, moves_from, moves_task}
+use Rattle.trace_tools.specs.Entries.{begins, begun_by, last_cpu, migrations, most, moves, moves_after, moves_from, moves_task}
 use Rattle.trace_tools.specs.Rules.{is_elsewhere, migration_rules, migrate, new_migrations, nowhere, raised}
 use Rattle.trace_tools.proofs.CountLaws.{raised-then, raised-within}
 use Rattle.trace_tools.proofs.Zeros.{zeros}
@@ -18,10 +18,10 @@ abbrev word : Option ℕ → ℕ
 word None = 0
 word (Some q) = suc q
 
--- the places are those of the entries before, which stand newest first
-record Kept (before : List Shown) (places : List ℕ) : Type 0 where
-  len : length places ≡ MOST_TASKS + 1
-  each : (t : ℕ) → t ≤ MOST_TASKS → slice_index places t ≡ word (last_place t before)
+-- the last_cpus are those of the entries before, which stand newest first
+record Kept (before : List Shown) (last_cpus : List ℕ) : Type 0 where
+  len : length last_cpus ≡ MOST_TASKS + 1
+  each : (t : ℕ) → t ≤ MOST_TASKS → slice_index last_cpus t ≡ word (last_cpu t before)
 
 elsewhere-word : (o : Option ℕ) (q : ℕ) → is_elsewhere (word o) q ≡ moves_from o q
 elsewhere-word None q = refl
@@ -52,71 +52,71 @@ begun-within replies.NotInNp t h = cc
 begun-within replies.TooEarly t h = cc
 begun-within replies.NotSporadic t h = cc
 
-abbrev at_places : ℕ → List ℕ → Tool
-at_places n places = record { rules = migration_rules; state = n ∷ places }
+abbrev at_last_cpus : ℕ → List ℕ → Tool
+at_last_cpus n last_cpus = record { rules = migration_rules; state = n ∷ last_cpus }
 
--- an entry that begins none leaves the places
-kept-none : (before : List Shown) (e : Shown) (places : List ℕ) → begins e ≡ None → Kept before places → Kept (e ∷ before) places
-kept-none before e places none kept = record {
+-- an entry that begins none leaves the last_cpus
+kept-none : (before : List Shown) (e : Shown) (last_cpus : List ℕ) → begins e ≡ None → Kept before last_cpus → Kept (e ∷ before) last_cpus
+kept-none before e last_cpus none kept = record {
   len = kept.len;
-  each = λ t h. kept.each t h ∙ ap (λ (o : Option ℕ). word (cond (is t o) (Some e.entry.step.cpu.0) (last_place t before))) (sym none);
+  each = λ t h. kept.each t h ∙ ap (λ (o : Option ℕ). word (cond (is t o) (Some e.entry.step.cpu.0) (last_cpu t before))) (sym none);
 }
 
-last-some : (before : List Shown) (e : Shown) (t s : ℕ) → begins e ≡ Some t → last_place s (e ∷ before) ≡ cond (nat_eq s t) (Some e.entry.step.cpu.0) (last_place s before)
-last-some before e t s some = ap (λ (o : Option ℕ). cond (is s o) (Some e.entry.step.cpu.0) (last_place s before)) some
+last-some : (before : List Shown) (e : Shown) (t s : ℕ) → begins e ≡ Some t → last_cpu s (e ∷ before) ≡ cond (nat_eq s t) (Some e.entry.step.cpu.0) (last_cpu s before)
+last-some before e t s some = ap (λ (o : Option ℕ). cond (is s o) (Some e.entry.step.cpu.0) (last_cpu s before)) some
 
-place-some : (before : List Shown) (q : ℕ) (places : List ℕ) (t s : ℕ) → t < length places → slice_index places s ≡ word (last_place s before)
-    → slice_index (slice_set places t (suc q)) s ≡ word (cond (nat_eq s t) (Some q) (last_place s before))
-place-some before q places t s below old = by_case (nat_eq s t) refl
+last_cpu-some : (before : List Shown) (q : ℕ) (last_cpus : List ℕ) (t s : ℕ) → t < length last_cpus → slice_index last_cpus s ≡ word (last_cpu s before)
+    → slice_index (slice_set last_cpus t (suc q)) s ≡ word (cond (nat_eq s t) (Some q) (last_cpu s before))
+last_cpu-some before q last_cpus t s below old = by_case (nat_eq s t) refl
   where
-    by_case : (b : Bool) → nat_eq s t ≡ b → slice_index (slice_set places t (suc q)) s ≡ word (cond b (Some q) (last_place s before))
+    by_case : (b : Bool) → nat_eq s t ≡ b → slice_index (slice_set last_cpus t (suc q)) s ≡ word (cond b (Some q) (last_cpu s before))
     by_case true same =
         let e : s ≡ t = grind (arith, nat_tests) in
-        ap (slice_index (slice_set places t (suc q))) e ∙ get_or-set_same places t (suc q) 0 below
+        ap (slice_index (slice_set last_cpus t (suc q))) e ∙ get_or-set_same last_cpus t (suc q) 0 below
     by_case false other =
         let ne : s ≢ t = grind (arith, nat_tests) in
-        get_or-set_other places t s (suc q) 0 ne ∙ old
+        get_or-set_other last_cpus t s (suc q) 0 ne ∙ old
 
-kept-some : (before : List Shown) (e : Shown) (places : List ℕ) (t : ℕ) → begins e ≡ Some t → t ≤ MOST_TASKS → Kept before places
-    → Kept (e ∷ before) (slice_set places t (suc e.entry.step.cpu.0))
-kept-some before e places t some within kept =
-    let len : length places ≡ MOST_TASKS + 1 = kept.len in
-    let below : t < length places = omega arith in
+kept-some : (before : List Shown) (e : Shown) (last_cpus : List ℕ) (t : ℕ) → begins e ≡ Some t → t ≤ MOST_TASKS → Kept before last_cpus
+    → Kept (e ∷ before) (slice_set last_cpus t (suc e.entry.step.cpu.0))
+kept-some before e last_cpus t some within kept =
+    let len : length last_cpus ≡ MOST_TASKS + 1 = kept.len in
+    let below : t < length last_cpus = omega arith in
     record {
-      len = length-set places t (suc e.entry.step.cpu.0) ∙ kept.len;
-      each = λ s h. place-some before e.entry.step.cpu.0 places t s below (kept.each s h) ∙ ap word (sym (last-some before e t s some));
+      len = length-set last_cpus t (suc e.entry.step.cpu.0) ∙ kept.len;
+      each = λ s h. last_cpu-some before e.entry.step.cpu.0 last_cpus t s below (kept.each s h) ∙ ap word (sym (last-some before e t s some));
     }
 
-abbrev places_after : Option ℕ → ℕ → List ℕ → List ℕ
-places_after None q places = places
-places_after (Some t) q places = slice_set places t (suc q)
+abbrev last_cpus_after : Option ℕ → ℕ → List ℕ → List ℕ
+last_cpus_after None q last_cpus = last_cpus
+last_cpus_after (Some t) q last_cpus = slice_set last_cpus t (suc q)
 
-kept-after : (before : List Shown) (e : Shown) (places : List ℕ) (o : Option ℕ) → begins e ≡ o → Kept before places → Kept (e ∷ before) (places_after o e.entry.step.cpu.0 places)
-kept-after before e places None is kept = kept-none before e places is kept
-kept-after before e places (Some t) is kept = kept-some before e places t is (begun-within e.entry.reply t is) kept
+kept-after : (before : List Shown) (e : Shown) (last_cpus : List ℕ) (o : Option ℕ) → begins e ≡ o → Kept before last_cpus → Kept (e ∷ before) (last_cpus_after o e.entry.step.cpu.0 last_cpus)
+kept-after before e last_cpus None is kept = kept-none before e last_cpus is kept
+kept-after before e last_cpus (Some t) is kept = kept-some before e last_cpus t is (begun-within e.entry.reply t is) kept
 
 -- the count rises where a task moves
-state-after : (before : List Shown) (q n : ℕ) (places : List ℕ) (o : Option ℕ) → ((t : ℕ) → o ≡ Some t → t ≤ MOST_TASKS) → Kept before places
-    → migrate o q (n ∷ places) ≡ raised (moves_task o q before) n ∷ places_after o q places
-state-after before q n places None within kept = refl
-state-after before q n places (Some t) within kept =
-    let word_is : slice_index places t ≡ word (last_place t before) = kept.each t (within t refl) in
-    ap (λ (b : Bool). raised b n ∷ slice_set places t (suc q)) (ap (λ (p : ℕ). is_elsewhere p q) word_is ∙ elsewhere-word (last_place t before) q)
+state-after : (before : List Shown) (q n : ℕ) (last_cpus : List ℕ) (o : Option ℕ) → ((t : ℕ) → o ≡ Some t → t ≤ MOST_TASKS) → Kept before last_cpus
+    → migrate o q (n ∷ last_cpus) ≡ raised (moves_task o q before) n ∷ last_cpus_after o q last_cpus
+state-after before q n last_cpus None within kept = refl
+state-after before q n last_cpus (Some t) within kept =
+    let word_is : slice_index last_cpus t ≡ word (last_cpu t before) = kept.each t (within t refl) in
+    ap (λ (b : Bool). raised b n ∷ slice_set last_cpus t (suc q)) (ap (λ (p : ℕ). is_elsewhere p q) word_is ∙ elsewhere-word (last_cpu t before) q)
 
-one-total : (n : ℕ) (places : List ℕ) → totals (at_places n places) ≡ n ∷ []
+one-total : (n : ℕ) (last_cpus : List ℕ) → totals (at_last_cpus n last_cpus) ≡ n ∷ []
 unfolding totals
-one-total n places = refl
+one-total n last_cpus = refl
 
-moved-after : (es before : List Shown) (n : ℕ) (places : List ℕ) → n ≤ most → Kept before places → totals (after es (at_places n places)) ≡ min (n + moves_after before es) most ∷ []
-moved-after [] before n places h kept =
+moved-after : (es before : List Shown) (n : ℕ) (last_cpus : List ℕ) → n ≤ most → Kept before last_cpus → totals (after es (at_last_cpus n last_cpus)) ≡ min (n + moves_after before es) most ∷ []
+moved-after [] before n last_cpus h kept =
     let same : n ≡ min (n + 0) most = omega arith in
-    one-total n places ∙ ap (λ (k : ℕ). k ∷ []) same
-moved-after (e ∷ es) before n places h kept =
+    one-total n last_cpus ∙ ap (λ (k : ℕ). k ∷ []) same
+moved-after (e ∷ es) before n last_cpus h kept =
     let q : ℕ = e.entry.step.cpu.0 in
     let within : (t : ℕ) → begins e ≡ Some t → t ≤ MOST_TASKS = λ t is. begun-within e.entry.reply t is in
-    let next : migrate (begins e) q (n ∷ places) ≡ raised (moves before e) n ∷ places_after (begins e) q places = state-after before q n places (begins e) within kept in
+    let next : migrate (begins e) q (n ∷ last_cpus) ≡ raised (moves before e) n ∷ last_cpus_after (begins e) q last_cpus = state-after before q n last_cpus (begins e) within kept in
     ap (λ (state : List ℕ). totals (after es (record { rules = migration_rules; state = state }))) next
-    ∙ moved-after es (e ∷ before) (raised (moves before e) n) (places_after (begins e) q places) (raised-within (moves before e) n h) (kept-after before e places (begins e) refl kept)
+    ∙ moved-after es (e ∷ before) (raised (moves before e) n) (last_cpus_after (begins e) q last_cpus) (raised-within (moves before e) n h) (kept-after before e last_cpus (begins e) refl kept)
     ∙ ap (λ (k : ℕ). k ∷ []) (raised-then (moves before e) n (moves_after (e ∷ before) es) h)
 
 -- so many zeros

@@ -42,7 +42,7 @@ totals-all t numbers m i past so_far =
     let none : totals_from (m - i) i t ≡ [] = ap (λ (n : ℕ). totals_from n i t) left in
     sym (append-none (take i numbers)) ∙ ap (λ (ys : List ℕ). take i numbers ++ ys) (sym none) ∙ so_far
 
--- where each total is the number at its place, the totals are the numbers
+-- where each total is the number at its counter, the totals are the numbers
 slice_get-past : (front : List ℕ) → slice_get front (length front) ≡ None
 slice_get-past [] = refl
 slice_get-past (x ∷ xs) = slice_get-past xs

@@ -48,9 +48,9 @@ abbrev pub works_on : ℕ → Shown → Bool
 works_on q e = e.entry.step.cpu.0 == q && is_work e.entry.step.act e.entry.reply
 
 -- the processor that a task began to run on last, of entries that stand newest first
-abbrev pub last_place : ℕ → List Shown → Option ℕ
-last_place t [] = None
-last_place t (e ∷ es) = if is t (begins e) then Some e.entry.step.cpu.0 else last_place t es
+abbrev pub last_cpu : ℕ → List Shown → Option ℕ
+last_cpu t [] = None
+last_cpu t (e ∷ es) = if is t (begins e) then Some e.entry.step.cpu.0 else last_cpu t es
 
 -- after the earlier entries, newest first, a task begins to run on another processor than it did last
 abbrev pub moves_from : Option ℕ → ℕ → Bool
@@ -59,7 +59,7 @@ moves_from (Some p) q = not (p == q)
 
 abbrev pub moves_task : Option ℕ → ℕ → List Shown → Bool
 moves_task None q before = false
-moves_task (Some t) q before = moves_from (last_place t before) q
+moves_task (Some t) q before = moves_from (last_cpu t before) q
 
 abbrev pub moves : List Shown → Shown → Bool
 moves before e = moves_task (begins e) e.entry.step.cpu.0 before

@@ -2,14 +2,14 @@
 use Rattle.std.specs.Prelude.{◌≡◌, List, map}
 use Rattle.trace_tools.specs.declared.shown.Shown.{Shown}
 use Rattle.trace_tools.specs.Tools.{Tool, after, line_of, totals}
-use Rattle.trace_tools.specs.Seats.{seat_of, seats_after, seat_line}
+use Rattle.trace_tools.specs.Counters.{counter_of, counters_after, counter_line}
 use Rattle.trace_tools.specs.Entries.{misses, switches, migrations, occupancy, first_miss}
 use Rattle.trace_tools.specs.Rules.{new_misses, new_switches, new_migrations, new_occupancy, new_first_miss}
 
 -- the lines of a bus after entries are those of its tools, each fed every entry in order up to the one after which it ended
 abbrev pub BusesKeepTools : Type 0
 BusesKeepTools = (tools : List Tool) (es : List Shown) →
-    map seat_line (seats_after es (map seat_of tools)) ≡ map (λ (t : Tool). line_of (after es t)) tools
+    map counter_line (counters_after es (map counter_of tools)) ≡ map (λ (t : Tool). line_of (after es t)) tools
 
 abbrev pub MissesAreCounted : Type 0
 MissesAreCounted = (es : List Shown) → totals (after es new_misses) ≡ misses es

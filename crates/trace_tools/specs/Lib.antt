@@ -1,8 +1,8 @@
 pub mod Tools
-pub mod Seats
+pub mod Counters
 pub mod Entries
 pub mod Rules
-pub mod Places
+pub mod BusCounters
 pub mod Shipped
 pub mod Laws
 pub mod Choice

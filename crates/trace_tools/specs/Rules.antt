@@ -35,7 +35,7 @@ is_elsewhere (suc p) q = not (nat_eq p q)
 abbrev pub migrate : Option ℕ → ℕ → List ℕ → List ℕ
 migrate None q state = state
 migrate (Some t) q [] = []
-migrate (Some t) q (n ∷ places) = raised (is_elsewhere (slice_index places t) q) n ∷ slice_set places t (suc q)
+migrate (Some t) q (n ∷ last_cpus) = raised (is_elsewhere (slice_index last_cpus t) q) n ∷ slice_set last_cpus t (suc q)
 
 abbrev pub first_number : List ℕ → ℕ → Option ℕ
 first_number [] i = None

@@ -11,7 +11,7 @@ mod first_miss;
 mod migrations;
 mod misses;
 mod occupancy;
-mod place;
+mod tool_counter;
 mod shipped;
 mod shown;
 mod switches;

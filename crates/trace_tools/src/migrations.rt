@@ -16,8 +16,8 @@ use std::alloc::Global;
 pub struct Migrations {
     count: u64,
     // one more than the processor that each task began to run on last, or 0
-    places: Vec<u64>,
-    ghost all_tasks: { vec_len places ≡ MOST_TASKS + 1 },
+    last_cpus: Vec<u64>,
+    ghost all_tasks: { vec_len last_cpus ≡ MOST_TASKS + 1 },
 }
 
 fn begun(reply: Reply) -> Option<usize>
@@ -35,10 +35,10 @@ fn begun(reply: Reply) -> Option<usize>
     }
 }
 
-fn is_other(place: u64, cpu: u32) -> bool
-    ensures { result ≡ is_elsewhere place cpu }
+fn is_other(last_cpu: u64, cpu: u32) -> bool
+    ensures { result ≡ is_elsewhere last_cpu cpu }
 {
-    place != 0 && place - 1 != u64::from(cpu)
+    last_cpu != 0 && last_cpu - 1 != u64::from(cpu)
 }
 
 impl Migrations {
@@ -47,21 +47,21 @@ impl Migrations {
         ensures tool { IfOk result (λ m. ⟦<Migrations as TraceTool>⟧.tool m ≡ new_migrations) }
         ensures counts { MigrationsAreCounted }
     {
-        let places = vec![in alloc; 0; MOST_TASKS as usize + 1]?;
-        Ok(Migrations { count: 0, places })
+        let last_cpus = vec![in alloc; 0; MOST_TASKS as usize + 1]?;
+        Ok(Migrations { count: 0, last_cpus })
     }
 }
 
 impl TraceTool for Migrations {
-    ghost tool = { λ m. record { rules = migration_rules; state = m.count ∷ m.places.items } };
+    ghost tool = { λ m. record { rules = migration_rules; state = m.count ∷ m.last_cpus.items } };
 
     fn feed(&mut self, e: &Shown) {
         if let Some(task) = begun(e.entry.reply) {
             let cpu = e.entry.step.cpu.0;
-            if is_other(self.places[task], cpu) {
+            if is_other(self.last_cpus[task], cpu) {
                 self.count = self.count.saturating_add(1);
             }
-            self.places[task] = u64::from(cpu) + 1;
+            self.last_cpus[task] = u64::from(cpu) + 1;
         }
     }
 

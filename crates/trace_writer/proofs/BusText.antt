@@ -7,7 +7,7 @@ use Rattle.trace_lines.specs.Lines.{Line}
 use Rattle.trace_lines.specs.Known.{known_of}
 use Rattle.trace_lines.specs.declared.format.Version.{Version}
 use Rattle.trace_tools.specs.declared.shown.Shown.{Shown}
-use Rattle.trace_tools.specs.Seats.{Seat, seat_line, seat_of, seats_after}
+use Rattle.trace_tools.specs.Counters.{Counter, counter_line, counter_of, counters_after}
 use Rattle.trace_tools.specs.Tools.{Tool, line_of}
 use Rattle.trace_tools.specs.Tools as tools
 use Rattle.trace_tools.proofs.BusLaws.{lines-after}
@@ -18,29 +18,29 @@ use Rattle.trace_writer.proofs.CameLaws.{HasParts}
 
 -- the lines of a bus of these tools, each of which is what its trait says
 pub lines-of_tools : {T : Type 0} (tool : T → Tool) (ts : List T) (es : List Shown)
-    → map seat_line (seats_after es (map (λ t. seat_of (tool t)) ts)) ≡ map (λ (t : Tool). line_of (tools.after es t)) (map tool ts)
-lines-of_tools tool ts es = ap (λ (ss : List Seat). map seat_line (seats_after es ss)) (sym (map-map seat_of tool ts)) ∙ lines-after es (map tool ts)
+    → map counter_line (counters_after es (map (λ t. counter_of (tool t)) ts)) ≡ map (λ (t : Tool). line_of (tools.after es t)) (map tool ts)
+lines-of_tools tool ts es = ap (λ (ss : List Counter). map counter_line (counters_after es ss)) (sym (map-map counter_of tool ts)) ∙ lines-after es (map tool ts)
 
-pub text-of_tools : {T : Type 0} (version : Version) (tool : T → Tool) (ts : List T) (p : Parts) (hs : List (List Entry)) (seats : List Seat) → seats ≡ map (λ t. seat_of (tool t)) ts
-    → bus_text version seats p hs ≡ counted_text version (map tool ts) p hs
-text-of_tools version tool ts p hs seats is =
-    ap (λ (ss : List Seat). bus_text version ss p hs) is
+pub text-of_tools : {T : Type 0} (version : Version) (tool : T → Tool) (ts : List T) (p : Parts) (hs : List (List Entry)) (counters : List Counter) → counters ≡ map (λ t. counter_of (tool t)) ts
+    → bus_text version counters p hs ≡ counted_text version (map tool ts) p hs
+text-of_tools version tool ts p hs counters is =
+    ap (λ (ss : List Counter). bus_text version ss p hs) is
     ∙ ap (λ (ls : List Line). trace_text version p hs ++ texts (known_of version p) ls) (lines-of_tools tool ts (shown_from p 0 hs))
 
 -- no place comes to be
-seats_after-none : (es : List Shown) → seats_after es [] ≡ []
-seats_after-none [] = refl
-seats_after-none (e ∷ es) = seats_after-none es
+counters_after-none : (es : List Shown) → counters_after es [] ≡ []
+counters_after-none [] = refl
+counters_after-none (e ∷ es) = counters_after-none es
 
-pub text-of_none : (version : Version) (p : Parts) (hs : List (List Entry)) (seats : List Seat) → seats ≡ [] → bus_text version seats p hs ≡ trace_text version p hs
-text-of_none version p hs seats none =
-    ap (λ (ss : List Seat). bus_text version ss p hs) none
-    ∙ ap (λ (ss : List Seat). trace_text version p hs ++ texts (known_of version p) (map seat_line ss)) (seats_after-none (shown_from p 0 hs))
+pub text-of_none : (version : Version) (p : Parts) (hs : List (List Entry)) (counters : List Counter) → counters ≡ [] → bus_text version counters p hs ≡ trace_text version p hs
+text-of_none version p hs counters none =
+    ap (λ (ss : List Counter). bus_text version ss p hs) none
+    ∙ ap (λ (ss : List Counter). trace_text version p hs ++ texts (known_of version p) (map counter_line ss)) (counters_after-none (shown_from p 0 hs))
     ∙ append-nil (trace_text version p hs)
 
 -- the text of a bus as it is written: the head, the lines of the groups, and the count lines of a bus that was shown the entries
-pub bus-parts : (version : Version) (p names : Parts) (hs : List (List Entry)) (before fed : List Seat) → names ≡ p → fed ≡ seats_after (shown_from p 0 hs) before
-    → HasParts (bus_text version before p hs) (head_text version names) (texts (known_of version names) (lines_from p 0 hs)) (texts (known_of version p) (map seat_line fed))
+pub bus-parts : (version : Version) (p names : Parts) (hs : List (List Entry)) (before fed : List Counter) → names ≡ p → fed ≡ counters_after (shown_from p 0 hs) before
+    → HasParts (bus_text version before p hs) (head_text version names) (texts (known_of version names) (lines_from p 0 hs)) (texts (known_of version p) (map counter_line fed))
 unfolding trace_text
 bus-parts version p names hs before fed same shown =
     record { parts_are = rw (same, shown) (append_assoc (head_text version p) (texts (known_of version p) (lines_from p 0 hs)) (texts (known_of version p) (bus_lines before p hs))) }

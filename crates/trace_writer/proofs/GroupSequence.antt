@@ -17,13 +17,13 @@ use Rattle.trace_lines.specs.Grammar.{line_text}
 use Rattle.trace_lines.specs.Known.{Known}
 use Rattle.trace_lines.specs.Lines.{end_line}
 use Rattle.trace_tools.specs.declared.shown.Shown.{Shown}
-use Rattle.trace_tools.specs.Seats.{Seat, seats_after}
+use Rattle.trace_tools.specs.Counters.{Counter, counters_after}
 use Rattle.rt_plays.specs.Groups.{GroupHistory}
 use Rattle.trace_text.specs.Groups.{histories}
 use Rattle.trace_text.specs.CountLines.{shown_entries, shown_from}
 use Rattle.trace_text.specs.TraceText.{group_lines, lines_from}
 use Rattle.trace_text.proofs.LineLaws.{texts}
-use Rattle.trace_text.proofs.ShownLaws.{seats_after-append}
+use Rattle.trace_text.proofs.ShownLaws.{counters_after-append}
 
 -- what stands for the steps of a group beyond the last
 abbrev pub no_steps : GroupSteps
@@ -45,16 +45,16 @@ module _ (p : Parts) (xs : List GroupSteps) (i : ℕ) where
   pub groups-end : (k : Known) → length xs ≤ i → texts k (lines_from p i (told_from p i (drop i xs))) ≡ line_text k end_line
   groups-end k all = ap (λ (ys : List GroupSteps). texts k (lines_from p i (told_from p i ys))) (drop_all i xs all) ∙ append-nil (line_text k end_line)
 
-  pub shown-next : (d : GroupSteps) (before fed : List Seat) → i < length xs → fed ≡ seats_after (shown_entries (group_with p i) 0 [] (group_told p i (get_or xs i d))) before
-      → seats_after (shown_from p (i + 1) (told_from p (i + 1) (drop (i + 1) xs))) fed ≡ seats_after (shown_from p i (told_from p i (drop i xs))) before
+  pub shown-next : (d : GroupSteps) (before fed : List Counter) → i < length xs → fed ≡ counters_after (shown_entries (group_with p i) 0 [] (group_told p i (get_or xs i d))) before
+      → counters_after (shown_from p (i + 1) (told_from p (i + 1) (drop (i + 1) xs))) fed ≡ counters_after (shown_from p i (told_from p i (drop i xs))) before
   shown-next d before fed low shown =
       let own : List Shown = shown_entries (group_with p i) 0 [] (group_told p i (get_or xs i d)) in
       let others : List Shown = shown_from p (i + 1) (told_from p (i + 1) (drop (i + 1) xs)) in
-      ap (seats_after others) shown ∙ sym (seats_after-append own others before)
-      ∙ sym (ap (λ (hs : List (List Entry)). seats_after (shown_from p i hs) before) (told-next d low))
+      ap (counters_after others) shown ∙ sym (counters_after-append own others before)
+      ∙ sym (ap (λ (hs : List (List Entry)). counters_after (shown_from p i hs) before) (told-next d low))
 
-  pub shown-end : (seats : List Seat) → length xs ≤ i → seats_after (shown_from p i (told_from p i (drop i xs))) seats ≡ seats
-  shown-end seats all = ap (λ (ys : List GroupSteps). seats_after (shown_from p i (told_from p i ys)) seats) (drop_all i xs all)
+  pub shown-end : (counters : List Counter) → length xs ≤ i → counters_after (shown_from p i (told_from p i (drop i xs))) counters ≡ counters
+  shown-end counters all = ap (λ (ys : List GroupSteps). counters_after (shown_from p i (told_from p i ys)) counters) (drop_all i xs all)
 
 -- a legal history is that of its steps
 pub legal-told : (g : Group) (was : Past) (es : List Entry) → IsLegalFrom g was es → history g was (map (λ (e : Entry). e.step) es) ≡ es

@@ -13,7 +13,7 @@ use Rattle.set_plays.specs.StepsLeft.{AreOf, steps_left}
 use Rattle.trace_lines.specs.Grammar.{line_text}
 use Rattle.trace_lines.specs.Known.{Known}
 use Rattle.trace_lines.specs.Lines.{Link, entry_line}
-use Rattle.trace_tools.specs.Seats.{Seat, seat_after, seats_after}
+use Rattle.trace_tools.specs.Counters.{Counter, counter_after, counters_after}
 use Rattle.trace_text.specs.CountLines.{shown_as, shown_entries}
 use Rattle.trace_text.specs.TraceText.{entry_lines, links_at}
 use Rattle.trace_text.proofs.LineLaws.{texts}
@@ -23,8 +23,8 @@ use Rattle.trace_writer.specs.Replays.{HasPlayed, HasTaken, ahead}
 abbrev pub lines_ahead : Known → Group → ℕ → StepsLeft → Past → List ℕ
 lines_ahead k g i left was = texts k (entry_lines g i was (ahead g left was))
 
-abbrev pub seats_ahead : Group → ℕ → StepsLeft → Past → List Seat → List Seat
-seats_ahead g i left was before = seats_after (shown_entries g i was (ahead g left was)) before
+abbrev pub counters_ahead : Group → ℕ → StepsLeft → Past → List Counter → List Counter
+counters_ahead g i left was before = counters_after (shown_entries g i was (ahead g left was)) before
 
 -- the line of the first of them, and what a bus is shown of it
 lines-next : (k : Known) (g : Group) (i : ℕ) (was now : Past) (e : Entry) (es more : List Entry) (shown : List Link) → es ≡ e ∷ more → now ≡ after g e.step was → shown ≡ links_at g now (changed g was now)
@@ -32,10 +32,10 @@ lines-next : (k : Known) (g : Group) (i : ℕ) (was now : Past) (e : Entry) (es 
 unfolding entry_lines
 lines-next k g i was now e es more shown next stepped links = rw (links, next, stepped) refl
 
-seats-next : (g : Group) (i : ℕ) (was now : Past) (e : Entry) (es more : List Entry) (before fed : List Seat) → es ≡ e ∷ more → now ≡ after g e.step was → fed ≡ map (seat_after (shown_as g i e now)) before
-    → seats_after (shown_entries g (i + 1) now more) fed ≡ seats_after (shown_entries g i was es) before
+counters-next : (g : Group) (i : ℕ) (was now : Past) (e : Entry) (es more : List Entry) (before fed : List Counter) → es ≡ e ∷ more → now ≡ after g e.step was → fed ≡ map (counter_after (shown_as g i e now)) before
+    → counters_after (shown_entries g (i + 1) now more) fed ≡ counters_after (shown_entries g i was es) before
 unfolding shown_entries
-seats-next g i was now e es more before fed next stepped shown = rw (shown, next, stepped) refl
+counters-next g i was now e es more before fed next stepped shown = rw (shown, next, stepped) refl
 
 -- ---- a group that plays
 
@@ -121,12 +121,12 @@ module _ {old now x : GroupHistory} {left left' : StepsLeft} {i : ℕ} {all : Li
         (links ∙ ap (λ (g : Group). links_at g (past h) (changed g (past now) (past h))) t.playing.same_group)
 
     -- the bus is shown its entry, by the engine that is lent then
-    pub shown-next : {y : GroupHistory} (before fed : List Seat) → y ≡ h → fed ≡ map (seat_after (shown_as (group_of y) i (record { step = s; reply = r }) (past y))) before
-        → seats_ahead (group_of old) (i + 1) left' (past h) fed ≡ seats_ahead (group_of old) i left (past now) before
+    pub shown-next : {y : GroupHistory} (before fed : List Counter) → y ≡ h → fed ≡ map (counter_after (shown_as (group_of y) i (record { step = s; reply = r }) (past y))) before
+        → counters_ahead (group_of old) (i + 1) left' (past h) fed ≡ counters_ahead (group_of old) i left (past now) before
     shown-next before fed lent shown =
         let e : Entry = record { step = s; reply = r } in
-        seats-next (group_of old) i (past now) (past h) e (ahead (group_of old) left (past now)) (ahead (group_of old) left' (past h)) before fed entry-next stepped
-        (shown ∙ ap (λ (z : GroupHistory). map (seat_after (shown_as (group_of z) i e (past z))) before) lent ∙ ap (λ (g : Group). map (seat_after (shown_as g i e (past h))) before) same-next)
+        counters-next (group_of old) i (past now) (past h) e (ahead (group_of old) left (past now)) (ahead (group_of old) left' (past h)) before fed entry-next stepped
+        (shown ∙ ap (λ (z : GroupHistory). map (counter_after (shown_as (group_of z) i e (past z))) before) lent ∙ ap (λ (g : Group). map (counter_after (shown_as g i e (past h))) before) same-next)
 
 -- ---- no step is left
 
@@ -148,6 +148,6 @@ module _ {old now x : GroupHistory} {left : StepsLeft} {i : ℕ} {all : List Ent
   unfolding entry_lines
   lines-end k = ap (λ (es : List Entry). texts k (entry_lines (group_of old) i (past now) es)) ahead-end
 
-  pub shown-end : (before : List Seat) → seats_ahead (group_of old) i left (past now) before ≡ before
+  pub shown-end : (before : List Counter) → counters_ahead (group_of old) i left (past now) before ≡ before
   unfolding shown_entries
-  shown-end before = ap (λ (es : List Entry). seats_after (shown_entries (group_of old) i (past now) es) before) ahead-end
+  shown-end before = ap (λ (es : List Entry). counters_after (shown_entries (group_of old) i (past now) es) before) ahead-end

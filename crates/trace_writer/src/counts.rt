@@ -3,8 +3,8 @@ ghost use Rattle.std.specs.Prelude.{◌≡◌, flat_map, map};
 ghost use Rattle.rt_plays.specs.Groups.{group_of, past};
 ghost use Rattle.trace_lines.specs.Grammar.{line_text};
 ghost use Rattle.trace_lines.specs.Known.{Known};
-ghost use Rattle.trace_tools.specs.Places.{seats};
-ghost use Rattle.trace_tools.specs.Seats.{seat_after, seat_line};
+ghost use Rattle.trace_tools.specs.BusCounters.{counters};
+ghost use Rattle.trace_tools.specs.Counters.{counter_after, counter_line};
 ghost use Rattle.trace_text.specs.CountLines.{shown_as};
 ghost use Rattle.rt_fault.specs.Ends.{writing};
 ghost use Rattle.trace_writer.specs.Writing.{Came};
@@ -29,7 +29,7 @@ pub fn show<T: TraceTool>(
 )
     requires { engine.now.group ≡ group.0 }
     ensures { let e = shown_as (group_of engine.now) no entry.now (past engine.now) in
-        seats T.tool bus.new ≡ map (seat_after e) (seats T.tool bus.old) }
+        counters T.tool bus.new ≡ map (counter_after e) (counters T.tool bus.old) }
 {
     bus.feed(&shown_by(group, no, *entry, engine.ended()));
 }
@@ -42,7 +42,7 @@ pub fn write_counts<T: TraceTool, K: Sink>(
 ) -> Result<(), WriteStop>
     ensures { (k : Known)
         → Came result (writing K.held K.faults out.old out.new)
-        (flat_map (line_text k) (map seat_line (seats T.tool bus.now))) }
+        (flat_map (line_text k) (map counter_line (counters T.tool bus.now))) }
 {
     // There is no memory for more tools than that.
     let Ok(count) = u32::try_from(bus.count()) else {

@@ -5,8 +5,8 @@ ghost use Rattle.rt_fault.specs.Held.{Extends, ExtendsByPrefix};
 ghost use Rattle.set_plays.specs.GroupSteps.{AreGroupSteps, told};
 ghost use Rattle.trace_lines.specs.Grammar.{line_text};
 ghost use Rattle.trace_lines.specs.Known.{known_of};
-ghost use Rattle.trace_tools.specs.Places.{seats};
-ghost use Rattle.trace_tools.specs.Seats.{seat_line, seats_after};
+ghost use Rattle.trace_tools.specs.BusCounters.{counters};
+ghost use Rattle.trace_tools.specs.Counters.{counter_line, counters_after};
 ghost use Rattle.trace_text.specs.CountLines.{bus_text, shown_from};
 ghost use Rattle.trace_text.specs.Groups.{AreGroupsOf, histories};
 ghost use Rattle.trace_text.specs.TraceText.{trace_text};
@@ -60,12 +60,12 @@ pub fn write_trace<T: TraceTool, K: Sink>(
     out: &mut K,
 ) -> Result<(), WriteStop>
     requires groups { AreGroupsOf setup.now groups.now }
-    ensures ok { let told = seats T.tool bus.old in
+    ensures ok { let told = counters T.tool bus.old in
         let text = bus_text version told setup.now (histories groups.now) in
         OnOk result (Extends (K.held out.old) (K.held out.new) text) }
     ensures shown { let es = shown_from setup.now 0 (histories groups.now) in
-        OnOk result (seats T.tool bus.new ≡ seats_after es (seats T.tool bus.old)) }
-    ensures stopped { let told = seats T.tool bus.old in
+        OnOk result (counters T.tool bus.new ≡ counters_after es (counters T.tool bus.old)) }
+    ensures stopped { let told = counters T.tool bus.old in
         let text = bus_text version told setup.now (histories groups.now) in
         OnErr result (ExtendsByPrefix (K.held out.old) (K.held out.new) text) }
     ensures fault { result ≡ Err stops.Fault → HasRisen (K.faults out.old) (K.faults out.new) }
@@ -85,10 +85,10 @@ fn write_engines<T: TraceTool, K: Sink>(
     out: &mut K,
 ) -> Result<(), WriteStop>
     requires groups { AreGroupsOf setup.now groups.now }
-    ensures lines { let all = bus_text version (seats T.tool bus.old) setup.now in Came result
+    ensures lines { let all = bus_text version (counters T.tool bus.old) setup.now in Came result
         (writing K.held K.faults out.old out.new) (all (histories groups.now)) }
     ensures shown { let es = shown_from setup.now 0 (histories groups.now) in
-        OnOk result (seats T.tool bus.new ≡ seats_after es (seats T.tool bus.old)) }
+        OnOk result (counters T.tool bus.new ≡ counters_after es (counters T.tool bus.old)) }
 {
     let steps = steps_again(alloc, setup, groups)?;
     write_all(alloc, version, setup, steps.as_slice(), bus, out)
@@ -107,7 +107,7 @@ pub fn write_shown_trace<T: TraceTool, K: Sink>(
     requires groups { AreGroupsOf setup.now groups.now }
     ensures { Came result (writing K.held K.faults out.old out.new)
         (trace_text version setup.now (histories groups.now)
-        ++ flat_map (line_text (known_of version setup.now)) (map seat_line (seats T.tool bus.now))) }
+        ++ flat_map (line_text (known_of version setup.now)) (map counter_line (counters T.tool bus.now))) }
 {
     let mut none: Bus<T> = Bus::open(alloc, Vec::new(alloc))?;
     write_engines(alloc, version, setup, groups, &mut none, out)?;

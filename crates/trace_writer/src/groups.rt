@@ -8,8 +8,8 @@ ghost use Rattle.set_plays.specs.GroupSteps.{AreGroupSteps, AreStepsIn, group_to
 ghost use Rattle.set_plays.specs.StepsLeft.{AreOf};
 ghost use Rattle.trace_lines.specs.Grammar.{line_text};
 ghost use Rattle.trace_lines.specs.Known.{known_in};
-ghost use Rattle.trace_tools.specs.Places.{seats};
-ghost use Rattle.trace_tools.specs.Seats.{seats_after};
+ghost use Rattle.trace_tools.specs.BusCounters.{counters};
+ghost use Rattle.trace_tools.specs.Counters.{counters_after};
 ghost use Rattle.trace_text.specs.CountLines.{bus_text, shown_entries, shown_from};
 ghost use Rattle.trace_text.specs.Groups.{request_line};
 ghost use Rattle.trace_text.specs.TraceText.{entry_lines, group_lines, head_text, lines_from};
@@ -63,7 +63,7 @@ fn write_entries<T: TraceTool, K: Sink>(
     ensures shown { let g = group_of replay.old.engine in
         let es = ahead g left.old (past replay.old.engine) in
         let shown = shown_entries g 0 (past replay.old.engine) es in
-        OnOk result (seats T.tool bus.new ≡ seats_after shown (seats T.tool bus.old)) }
+        OnOk result (counters T.tool bus.new ≡ counters_after shown (counters T.tool bus.old)) }
 {
     let mut no = 0;
     while let Some(step) = left.next(setup, replay.engine().engine()) {
@@ -111,7 +111,7 @@ fn write_group<T: TraceTool, K: Sink>(
         (group_lines (group_with setup.now number.0) es)) }
     ensures shown { let es = group_told setup.now number.0 steps.entry in
         let shown = shown_entries (group_with setup.now number.0) 0 [] es in
-        OnOk result (seats T.tool bus.new ≡ seats_after shown (seats T.tool bus.old)) }
+        OnOk result (counters T.tool bus.new ≡ counters_after shown (counters T.tool bus.old)) }
 {
     let mut left = steps.all(alloc, setup, number)?;
     let mut replay = Replay::open(alloc, setup, number, left.room())?;
@@ -144,7 +144,7 @@ fn write_groups<T: TraceTool, K: Sink>(
         (flat_map (line_text (known_in format.now))
         (lines_from setup.now 0 (told setup.now groups.now))) }
     ensures shown { let es = shown_from setup.now 0 (told setup.now groups.now) in
-        OnOk result (seats T.tool bus.new ≡ seats_after es (seats T.tool bus.old)) }
+        OnOk result (counters T.tool bus.new ≡ counters_after es (counters T.tool bus.old)) }
 {
     // A proof knows that a setup is valid once its parts are read.
     let _parts = setup.parts();
@@ -188,10 +188,10 @@ pub(crate) fn write_all<T: TraceTool, K: Sink>(
     out: &mut K,
 ) -> Result<(), WriteStop>
     requires groups { AreGroupSteps setup.now groups.now }
-    ensures lines { let all = bus_text version (seats T.tool bus.old) setup.now in Came result
+    ensures lines { let all = bus_text version (counters T.tool bus.old) setup.now in Came result
         (writing K.held K.faults out.old out.new) (all (told setup.now groups.now)) }
     ensures shown { let es = shown_from setup.now 0 (told setup.now groups.now) in
-        OnOk result (seats T.tool bus.new ≡ seats_after es (seats T.tool bus.old)) }
+        OnOk result (counters T.tool bus.new ≡ counters_after es (counters T.tool bus.old)) }
 {
     let parts = setup.parts();
     write_head(alloc, version, parts, out)?;

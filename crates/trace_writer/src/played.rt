@@ -1,8 +1,8 @@
 //! The trace of a set, whose steps are played as their lines are written.
 ghost use Rattle.std.specs.Prelude.{◌≡◌, OnOk};
 ghost use Rattle.rt_plays.specs.Order.{histories};
-ghost use Rattle.trace_tools.specs.Places.{seats};
-ghost use Rattle.trace_tools.specs.Seats.{seats_after};
+ghost use Rattle.trace_tools.specs.BusCounters.{counters};
+ghost use Rattle.trace_tools.specs.Counters.{counters_after};
 ghost use Rattle.trace_text.specs.CountLines.{bus_text, shown_from};
 ghost use Rattle.rt_fault.specs.Ends.{writing};
 ghost use Rattle.trace_writer.specs.Writing.{Came};
@@ -29,10 +29,10 @@ pub fn write_played<T: TraceTool, K: Sink>(
     bus: &mut Bus<T>,
     out: &mut K,
 ) -> Result<(), WriteStop>
-    ensures lines { let all = bus_text version (seats T.tool bus.old) setup.now in Came result
+    ensures lines { let all = bus_text version (counters T.tool bus.old) setup.now in Came result
         (writing K.held K.faults out.old out.new) (all (histories setup.now)) }
     ensures shown { let es = shown_from setup.now 0 (histories setup.now) in
-        OnOk result (seats T.tool bus.new ≡ seats_after es (seats T.tool bus.old)) }
+        OnOk result (counters T.tool bus.new ≡ counters_after es (counters T.tool bus.old)) }
 {
     let scripts = Scripts::open(alloc, setup)?;
     let groups = scripts.groups(alloc, setup)?;

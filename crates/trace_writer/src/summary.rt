@@ -7,8 +7,8 @@ ghost use Rattle.rt_plays.specs.Plays.{group_with};
 ghost use Rattle.set_plays.specs.GroupSteps.{AreGroupSteps, AreStepsIn, group_told, told};
 ghost use Rattle.set_plays.specs.StepsLeft.{AreOf};
 ghost use Rattle.block_counts.specs.SeenWords.{tallies_of};
-ghost use Rattle.trace_tools.specs.Places.{seats};
-ghost use Rattle.trace_tools.specs.Seats.{seats_after};
+ghost use Rattle.trace_tools.specs.BusCounters.{counters};
+ghost use Rattle.trace_tools.specs.Counters.{counters_after};
 ghost use Rattle.trace_text.specs.CountLines.{shown_entries, shown_from};
 ghost use Rattle.trace_writer.specs.Replays.{HasPlayed, ahead};
 ghost use Rattle.trace_writer.specs.Summaries as words;
@@ -73,7 +73,7 @@ fn take_steps<T: TraceTool>(
         HasPlayed engine.old engine.new es }
     ensures shown { let g = group_of engine.old in
         let es = shown_entries g 0 (past engine.old) (ahead g left.old (past engine.old)) in
-        seats T.tool bus.new ≡ seats_after es (seats T.tool bus.old) }
+        counters T.tool bus.new ≡ counters_after es (counters T.tool bus.old) }
 {
     let mut no = 0;
     while let Some(step) = left.next(setup, engine.engine()) {
@@ -100,7 +100,7 @@ fn summarize_group<T: TraceTool>(
     ensures requests { IfOk result (λ s. s.requests ≤ 2 * MOST_STEPS) }
     ensures shown { let es = group_told setup.now number.0 steps.entry in
         let shown = shown_entries (group_with setup.now number.0) 0 [] es in
-        IfOk result (λ _. seats T.tool bus.new ≡ seats_after shown (seats T.tool bus.old)) }
+        IfOk result (λ _. counters T.tool bus.new ≡ counters_after shown (counters T.tool bus.old)) }
 {
     let mut left = steps.all(alloc, setup, number)?;
     let mut engine = Counted::open(alloc, setup, number, left.room())?;
@@ -123,7 +123,7 @@ pub fn summarize<T: TraceTool>(
     ensures summary { IfOk result
         (λ s. s ≡ summary_from setup.now 0 (histories setup.now)) }
     ensures shown { let es = shown_from setup.now 0 (histories setup.now) in
-        IfOk result (λ _. seats T.tool bus.new ≡ seats_after es (seats T.tool bus.old)) }
+        IfOk result (λ _. counters T.tool bus.new ≡ counters_after es (counters T.tool bus.old)) }
 {
     let scripts = Scripts::open(alloc, setup)?;
     let groups = scripts.groups(alloc, setup)?;
@@ -141,7 +141,7 @@ fn summarize_groups<T: TraceTool>(
     ensures summary { IfOk result
         (λ s. s ≡ summary_from setup.now 0 (told setup.now groups.now)) }
     ensures shown { let es = shown_from setup.now 0 (told setup.now groups.now) in
-        IfOk result (λ _. seats T.tool bus.new ≡ seats_after es (seats T.tool bus.old)) }
+        IfOk result (λ _. counters T.tool bus.new ≡ counters_after es (counters T.tool bus.old)) }
 {
     // A proof knows that a setup is valid once its parts are read.
     let _parts = setup.parts();

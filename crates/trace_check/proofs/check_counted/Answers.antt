@@ -1,8 +1,8 @@
 use Rattle.std.proofs.Common.{◌≡◌, List, ◌++◌, drop, map, ap, ◌∙◌, sym}
 use Rattle.std.proofs.lemmas.Result.{IfOk-weaker}
 use Rattle.rt_task.specs.declared.Parts.{Parts}
-use Rattle.trace_tools.specs.Places.{seats}
-use Rattle.trace_tools.specs.Seats.{seat_of}
+use Rattle.trace_tools.specs.BusCounters.{counters}
+use Rattle.trace_tools.specs.Counters.{counter_of}
 use Rattle.trace_tools.specs.Tools.{Tool}
 use Rattle.rt_rules.proofs.BoolLaws.{clash}
 use Rattle.trace_text.specs.TraceText.{head_text}
@@ -37,30 +37,30 @@ returns-then-not-branch-clause-verdict g c = λ tools opened.
 pub returns-clause-verdict : goal.returns-clause-verdict
 returns-clause-verdict g c =
     let h = c.args.head.now in
-    let first = seats g.T.TraceTool.tool c.args.bus.now in
+    let first = counters g.T.TraceTool.tool c.args.bus.now in
     let head = canonical-head c.args.bytes.now h _ c.requires.read c.parts-parts.ensures.valid c.parts-parts.ensures.parts ((c.in_ok-has_head.ensures).0 c.if-not-branch.false) in
     IfOk-weaker c.judge_text.result
-    (λ (x : Checked). (tools : List Tool) → first ≡ map seat_of tools → IsJudgedText tools h.version h.setup _ x.verdict)
-    (λ (x : Checked). (tools : List Tool) → first ≡ map seat_of tools → IsVerdict tools h.version h.setup c.args.bytes.now x.verdict)
+    (λ (x : Checked). (tools : List Tool) → first ≡ map counter_of tools → IsJudgedText tools h.version h.setup _ x.verdict)
+    (λ (x : Checked). (tools : List Tool) → first ≡ map counter_of tools → IsVerdict tools h.version h.setup c.args.bytes.now x.verdict)
     (λ v judged tools opened. judged tools opened c.args.bytes.now head) c.judge_text.ensures.judged
 
 pub returns-clause-counted : goal.returns-clause-counted
 returns-clause-counted g c =
     let h = c.args.head.now in
-    let first = seats g.T.TraceTool.tool c.args.bus.now in
+    let first = counters g.T.TraceTool.tool c.args.bus.now in
     let head = canonical-head c.args.bytes.now h _ c.requires.read c.parts-parts.ensures.valid c.parts-parts.ensures.parts ((c.in_ok-has_head.ensures).0 c.if-not-branch.false) in
     IfOk-weaker c.judge_text.result
-    (λ (x : Checked). (tools : List Tool) → first ≡ map seat_of tools → IsCountedText tools h.version h.setup _ x.verdict x.counted)
-    (λ (x : Checked). (tools : List Tool) → first ≡ map seat_of tools → HasCounts tools h.version h.setup c.args.bytes.now x.verdict x.counted)
+    (λ (x : Checked). (tools : List Tool) → first ≡ map counter_of tools → IsCountedText tools h.version h.setup _ x.verdict x.counted)
+    (λ (x : Checked). (tools : List Tool) → first ≡ map counter_of tools → HasCounts tools h.version h.setup c.args.bytes.now x.verdict x.counted)
     (λ v counted tools opened. counted tools opened c.args.bytes.now head) c.judge_text.ensures.counted
 
 pub returns-clause-shown : goal.returns-clause-shown
 returns-clause-shown g c =
     let h = c.args.head.now in
-    let first = seats g.T.TraceTool.tool c.args.bus.now in
-    let last = seats g.T.TraceTool.tool c.judge_text.new.bus in
+    let first = counters g.T.TraceTool.tool c.args.bus.now in
+    let last = counters g.T.TraceTool.tool c.judge_text.new.bus in
     let head = canonical-head c.args.bytes.now h _ c.requires.read c.parts-parts.ensures.valid c.parts-parts.ensures.parts ((c.in_ok-has_head.ensures).0 c.if-not-branch.false) in
     IfOk-weaker c.judge_text.result
-    (λ (x : Checked). (tools : List Tool) → first ≡ map seat_of tools → IsShownText tools h.version h.setup _ last x.verdict)
-    (λ (x : Checked). (tools : List Tool) → first ≡ map seat_of tools → HasShown tools h.version h.setup c.args.bytes.now last x.verdict)
+    (λ (x : Checked). (tools : List Tool) → first ≡ map counter_of tools → IsShownText tools h.version h.setup _ last x.verdict)
+    (λ (x : Checked). (tools : List Tool) → first ≡ map counter_of tools → HasShown tools h.version h.setup c.args.bytes.now last x.verdict)
     (λ v shown tools opened. shown tools opened c.args.bytes.now head) c.judge_text.ensures.shown

@@ -3,7 +3,7 @@ use Rattle.std.specs.Prelude.{ℕ, ◌+◌, ◌||◌, ◌==◌, List, bytes_eq, 
 use Rattle.rt_task.specs.declared.Parts.{Parts}
 use Rattle.set_canonical.specs.Canonical.{canonical}
 use Rattle.trace_lines.specs.declared.format.Version.{Version}
-use Rattle.trace_tools.specs.Seats.{Seat}
+use Rattle.trace_tools.specs.Counters.{Counter}
 use Rattle.trace_tools.specs.Tools.{Tool}
 use Rattle.trace_read.specs.Reads.{HasHead}
 use Rattle.trace_check.specs.declared.verdict.Verdict.{Verdict}
@@ -16,8 +16,8 @@ abbrev pub IsJudgedText : List Tool → Version → Parts → List ℕ → Verdi
 IsJudgedText tools v p text verdict = (bytes : List ℕ) → HasHead v bytes (canonical p) text → IsVerdict tools v p bytes verdict
 
 -- and then a bus stands so
-abbrev pub IsShownText : List Tool → Version → Parts → List ℕ → List Seat → Verdict → Type 0
-IsShownText tools v p text seats verdict = (bytes : List ℕ) → HasHead v bytes (canonical p) text → HasShown tools v p bytes seats verdict
+abbrev pub IsShownText : List Tool → Version → Parts → List ℕ → List Counter → Verdict → Type 0
+IsShownText tools v p text counters verdict = (bytes : List ℕ) → HasHead v bytes (canonical p) text → HasShown tools v p bytes counters verdict
 
 -- the verdict is right of the text, whatever tools count
 abbrev pub IsJudged : Version → Parts → List ℕ → Verdict → Type 0

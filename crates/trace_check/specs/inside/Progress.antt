@@ -9,7 +9,7 @@ use Rattle.trace_lines.specs.declared.format.Version.{Version}
 use Rattle.trace_lines.specs.Grammar.{line_text}
 use Rattle.trace_lines.specs.Known.{Known, known_of}
 use Rattle.trace_lines.specs.Lines.{Line}
-use Rattle.trace_tools.specs.Seats.{Seat, seats_after}
+use Rattle.trace_tools.specs.Counters.{Counter, counters_after}
 use Rattle.trace_text.specs.CountLines.{shown_entries, shown_from}
 use Rattle.trace_text.specs.TraceText.{block_lines}
 use Rattle.trace_laws.specs.ValidTexts.{entry_count}
@@ -37,7 +37,7 @@ HasStood k l text line true = (line ≡ line_text k l) × (text ≡ line ++ drop
 HasStood k l text line false = (more : List ℕ) → text ≡ line_text k l ++ more → ⊥
 
 -- so much of the text is the lines of plays of the first n groups, whose entries a bus was shown that was opened so and stands so now
-pub record AreRight (v : Version) (p : Parts) (text : List ℕ) (n : ℕ) (r : Progress) (opened seats : List Seat) : Type 0 where
+pub record AreRight (v : Version) (p : Parts) (text : List ℕ) (n : ℕ) (r : Progress) (opened counters : List Counter) : Type 0 where
   pub histories : List (List Entry)
   pub plays : ArePlaysFrom p 0 histories
   pub count : length histories ≡ n
@@ -45,36 +45,36 @@ pub record AreRight (v : Version) (p : Parts) (text : List ℕ) (n : ℕ) (r : P
   pub within : r.length ≤ length text
   pub text_is : text ≡ flat_map (line_text (known_of v p)) (lines_of_groups p 0 histories) ++ drop r.length text
   pub entries_are : r.entries ≡ entry_count histories
-  pub shown : seats ≡ seats_after (shown_from p 0 histories) opened
+  pub shown : counters ≡ counters_after (shown_from p 0 histories) opened
   -- no line of an entry stands right behind the entries of the last of them
   pub closed : (front : List (List Entry)) (es : List Entry) → histories ≡ front ++ es ∷ []
       → NoEntryBehind (known_of v p) (wanted (record { group = group_with p (length front); entries = es })) (drop r.length text)
 
 -- those of plays of all the groups of a valid set
-pub record AreAllRight (v : Version) (p : Parts) (text : List ℕ) (r : Progress) (opened seats : List Seat) : Type 0 where
+pub record AreAllRight (v : Version) (p : Parts) (text : List ℕ) (r : Progress) (opened counters : List Counter) : Type 0 where
   pub valid : IsValid p
-  pub right : AreRight v p text (group_count p) r opened seats
+  pub right : AreRight v p text (group_count p) r opened counters
 
 -- what comes of following the lines of group n, behind those of the groups before it
-abbrev pub IsFollowedTo : Version → Parts → List ℕ → ℕ → List Seat → List Seat → Followed → Type 0
-IsFollowedTo v p text n opened seats (Whole r) = AreRight v p text (n + 1) r opened seats
-IsFollowedTo v p text n opened seats (Wrong place) = IsJudged v p text (Invalid (place + 3))
+abbrev pub IsFollowedTo : Version → Parts → List ℕ → ℕ → List Counter → List Counter → Followed → Type 0
+IsFollowedTo v p text n opened counters (Whole r) = AreRight v p text (n + 1) r opened counters
+IsFollowedTo v p text n opened counters (Wrong place) = IsJudged v p text (Invalid (place + 3))
 
 -- so much of the text is the lines of whole groups and of the entries of group n that were followed, which were shown too
-pub record IsRight (v : Version) (p : Parts) (text : List ℕ) (n : ℕ) (from : Progress) (size : ℕ) (f : Follow) (opened was seats : List Seat) : Type 0 where
+pub record IsRight (v : Version) (p : Parts) (text : List ℕ) (n : ℕ) (from : Progress) (size : ℕ) (f : Follow) (opened was counters : List Counter) : Type 0 where
   pub before : AreRight v p text n from opened was
   pub entries : List Entry
-  pub shown : seats ≡ seats_after (shown_entries (group_with p n) 0 [] entries) was
+  pub shown : counters ≡ counters_after (shown_entries (group_with p n) 0 [] entries) was
   pub following : IsFollowing (group_with p n) entries f
   pub within : size ≤ length text
   pub text_is : text ≡ flat_map (line_text (known_of v p)) (lines_of_groups p 0 before.histories ++ lines_so_far (group_with p n) entries) ++ drop size text
   pub place_is : from.lines + 1 + f.count ≡ length (lines_of_groups p 0 before.histories ++ lines_so_far (group_with p n) entries)
 
 -- what comes of following the entry lines of group n
-abbrev pub AreFollowed : Version → Parts → List ℕ → ℕ → Progress → Follow → List Seat → List Seat → List Seat → Entries → Type 0
-AreFollowed v p text n from f opened was seats (Right size) =
-    IsRight v p text n from size f opened was seats × NoEntryBegins (known_of v p) (drop size text)
-AreFollowed v p text n from f opened was seats (WrongAfter count) = IsJudged v p text (Invalid (from.lines + 1 + count + 3))
+abbrev pub AreFollowed : Version → Parts → List ℕ → ℕ → Progress → Follow → List Counter → List Counter → List Counter → Entries → Type 0
+AreFollowed v p text n from f opened was counters (Right size) =
+    IsRight v p text n from size f opened was counters × NoEntryBegins (known_of v p) (drop size text)
+AreFollowed v p text n from f opened was counters (WrongAfter count) = IsJudged v p text (Invalid (from.lines + 1 + count + 3))
 
 -- what comes of it where no entry line stands behind so many bytes, which this rest follows
 pub data IsEndedAt (at : Place) (k : Known) (rest : List ℕ) (from : Progress) (count length_so_far : ℕ) : Followed → Type 0 where

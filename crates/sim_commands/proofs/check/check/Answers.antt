@@ -3,8 +3,8 @@ use Rattle.std.specs.Prelude.{is_err}
 use Rattle.std.proofs.lemmas.Grind.{common_steps}
 use Rattle.std.proofs.lemmas.Simd.{map-map}
 use Rattle.rt_fault.specs.Held.{Extends, ExtendsByPrefix}
-use Rattle.trace_tools.specs.Places.{seats}
-use Rattle.trace_tools.specs.Seats.{seat_of}
+use Rattle.trace_tools.specs.BusCounters.{counters}
+use Rattle.trace_tools.specs.Counters.{counter_of}
 use Rattle.trace_tools.specs.Tools.{Tool}
 use Rattle.trace_check.specs.Verdicts.{IsVerdict}
 use Rattle.sim_commands.proofs.CheckLaws.{can_check-valid}
@@ -18,7 +18,7 @@ returns-in-Err-clause-answers g c = check-unread (map g.T.TraceTool.tool c.args.
 pub returns-clause-answers : goal.returns-clause-answers
 returns-clause-answers g c =
     let tools : List Tool = map g.T.TraceTool.tool c.args.tools.items in
-    let opened : seats g.T.TraceTool.tool c.in-Ok-open.bus ≡ map seat_of tools = c.in-Ok-open.ensures ∙ sym (map-map seat_of g.T.TraceTool.tool c.args.tools.items) in
+    let opened : counters g.T.TraceTool.tool c.in-Ok-open.bus ≡ map counter_of tools = c.in-Ok-open.ensures ∙ sym (map-map counter_of g.T.TraceTool.tool c.args.tools.items) in
     let right = subst (λ (bytes : List ℕ). IsVerdict tools c.in-Ok.input.1.version c.in-Ok.input.1.setup bytes c.in-Ok-check_trace.verdict) c.as_slice.ensures.value (c.in-Ok-check_trace.ensures.verdict tools opened) in
     let wrong = subst (IsVerdict tools c.in-Ok.input.1.version c.in-Ok.input.1.setup c.in-Ok.input.0.items) c.in-Invalid.is right in
     record {
@@ -35,7 +35,7 @@ returns-clause-answers g c =
 pub returns-then-is_err-2-clause-answers : goal.returns-then-is_err-2-clause-answers
 returns-then-is_err-2-clause-answers g c =
     let tools : List Tool = map g.T.TraceTool.tool c.args.tools.items in
-    let opened : seats g.T.TraceTool.tool c.in-Ok-open.bus ≡ map seat_of tools = c.in-Ok-open.ensures ∙ sym (map-map seat_of g.T.TraceTool.tool c.args.tools.items) in
+    let opened : counters g.T.TraceTool.tool c.in-Ok-open.bus ≡ map counter_of tools = c.in-Ok-open.ensures ∙ sym (map-map counter_of g.T.TraceTool.tool c.args.tools.items) in
     let right = subst (λ (bytes : List ℕ). IsVerdict tools c.in-Ok.input.1.version c.in-Ok.input.1.setup bytes c.in-Ok-check_trace.verdict) c.as_slice.ensures.value (c.in-Ok-check_trace.ensures.verdict tools opened) in
     let put = on_ok-holds c.put_verdict.result c.put_verdict.ensures (sym c.is_err.ensures.value ∙ c.if-is_err.false) in
     let text : c.as_slice-2.result.now ≡ verdict_text c.in-Ok-check_trace.verdict = c.as_slice-2.ensures.value ∙ put ∙ ap (λ (xs : List ℕ). xs ++ verdict_text c.in-Ok-check_trace.verdict) c.new-line.ensures.items in
@@ -47,7 +47,7 @@ returns-then-is_err-2-clause-answers g c =
 pub returns-in-Valid-clause-answers : goal.returns-in-Valid-clause-answers
 returns-in-Valid-clause-answers g c =
     let tools : List Tool = map g.T.TraceTool.tool c.args.tools.items in
-    let opened : seats g.T.TraceTool.tool c.in-Ok-open.bus ≡ map seat_of tools = c.in-Ok-open.ensures ∙ sym (map-map seat_of g.T.TraceTool.tool c.args.tools.items) in
+    let opened : counters g.T.TraceTool.tool c.in-Ok-open.bus ≡ map counter_of tools = c.in-Ok-open.ensures ∙ sym (map-map counter_of g.T.TraceTool.tool c.args.tools.items) in
     let right = subst (λ (bytes : List ℕ). IsVerdict tools c.in-Ok.input.1.version c.in-Ok.input.1.setup bytes c.in-Ok-check_trace.verdict) c.as_slice.ensures.value (c.in-Ok-check_trace.ensures.verdict tools opened) in
     let put = on_ok-holds c.put_verdict.result c.put_verdict.ensures (sym c.is_err.ensures.value ∙ c.if-is_err.false) in
     let text : c.as_slice-2.result.now ≡ verdict_text c.in-Ok-check_trace.verdict = c.as_slice-2.ensures.value ∙ put ∙ ap (λ (xs : List ℕ). xs ++ verdict_text c.in-Ok-check_trace.verdict) c.new-line.ensures.items in

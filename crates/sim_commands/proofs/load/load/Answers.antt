@@ -4,7 +4,7 @@ use Rattle.rt_fault.specs.declared.status.Status.TheVariants as ends
 use Rattle.load_set.specs.Load.{load_of}
 use Rattle.trace_lines.specs.declared.format.Version.TheVariants.{Two}
 use Rattle.trace_lines.specs.Known.{known_of}
-use Rattle.trace_tools.specs.Places.{seats}
+use Rattle.trace_tools.specs.BusCounters.{counters}
 use Rattle.trace_writer.proofs.CameLaws.{CameFrom}
 use Rattle.trace_writer.specs.declared.stop.WriteStop.TheVariants as stops
 use Rattle.set_input.specs.Ends.{writing}
@@ -16,7 +16,7 @@ pub returns-in-Ok-write_load-clause-answers : goal.returns-in-Ok-write_load-clau
 returns-in-Ok-write_load-clause-answers g c =
     let p : Parts = c.in-Ok.setup in
     let made : p ≡ load_of c.args.n = c.in-Ok.ensures.set in
-    let text = load-text g.T.TraceTool.tool c.args.tools.items c.args.n p c.in-Ok-summarize.summary (seats g.T.TraceTool.tool c.in-Ok-open.bus) (seats g.T.TraceTool.tool c.summarize.new.bus) made
+    let text = load-text g.T.TraceTool.tool c.args.tools.items c.args.n p c.in-Ok-summarize.summary (counters g.T.TraceTool.tool c.in-Ok-open.bus) (counters g.T.TraceTool.tool c.summarize.new.bus) made
     c.in-Ok-summarize.ensures.summary c.in-Ok-open.ensures c.in-Ok-summarize.ensures.shown in
     load-wrote (map g.T.TraceTool.tool c.args.tools.items) c.args.n (writing g.K.Sink.held g.K.Sink.faults c.args.out.now c.write_load.new.out) ends.Ok c.in-Ok.ensures.valid
     (came-wrote (Ok tt) (writing g.K.Sink.held g.K.Sink.faults c.args.out.now c.write_load.new.out) (load_text (map g.T.TraceTool.tool c.args.tools.items) c.args.n)
@@ -29,7 +29,7 @@ pub returns-in-Err-Fault-clause-answers : goal.returns-in-Err-Fault-clause-answe
 returns-in-Err-Fault-clause-answers g c =
     let p : Parts = c.in-Ok.setup in
     let made : p ≡ load_of c.args.n = c.in-Ok.ensures.set in
-    let text = load-text g.T.TraceTool.tool c.args.tools.items c.args.n p c.in-Ok-summarize.summary (seats g.T.TraceTool.tool c.in-Ok-open.bus) (seats g.T.TraceTool.tool c.summarize.new.bus) made
+    let text = load-text g.T.TraceTool.tool c.args.tools.items c.args.n p c.in-Ok-summarize.summary (counters g.T.TraceTool.tool c.in-Ok-open.bus) (counters g.T.TraceTool.tool c.summarize.new.bus) made
     c.in-Ok-summarize.ensures.summary c.in-Ok-open.ensures c.in-Ok-summarize.ensures.shown in
     load-wrote (map g.T.TraceTool.tool c.args.tools.items) c.args.n (writing g.K.Sink.held g.K.Sink.faults c.args.out.now c.write_load.new.out) ends.WriteFault c.in-Ok.ensures.valid
     (came-wrote (Err stops.Fault) (writing g.K.Sink.held g.K.Sink.faults c.args.out.now c.write_load.new.out) (load_text (map g.T.TraceTool.tool c.args.tools.items) c.args.n)
@@ -42,7 +42,7 @@ pub returns-clause-answers : goal.returns-clause-answers
 returns-clause-answers g c =
     let p : Parts = c.in-Ok.setup in
     let made : p ≡ load_of c.args.n = c.in-Ok.ensures.set in
-    let text = load-text g.T.TraceTool.tool c.args.tools.items c.args.n p c.in-Ok-summarize.summary (seats g.T.TraceTool.tool c.in-Ok-open.bus) (seats g.T.TraceTool.tool c.summarize.new.bus) made
+    let text = load-text g.T.TraceTool.tool c.args.tools.items c.args.n p c.in-Ok-summarize.summary (counters g.T.TraceTool.tool c.in-Ok-open.bus) (counters g.T.TraceTool.tool c.summarize.new.bus) made
     c.in-Ok-summarize.ensures.summary c.in-Ok-open.ensures c.in-Ok-summarize.ensures.shown in
     load-wrote (map g.T.TraceTool.tool c.args.tools.items) c.args.n (writing g.K.Sink.held g.K.Sink.faults c.args.out.now c.write_load.new.out) ends.NoMemory c.in-Ok.ensures.valid
     (came-wrote (Err stops.NoMemory) (writing g.K.Sink.held g.K.Sink.faults c.args.out.now c.write_load.new.out) (load_text (map g.T.TraceTool.tool c.args.tools.items) c.args.n)

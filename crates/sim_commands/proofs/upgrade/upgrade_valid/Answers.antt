@@ -2,8 +2,8 @@ use Rattle.std.proofs.Common.{◌≡◌, ℕ, List, map, refl, sym, ◌∙◌, s
 use Rattle.std.proofs.lemmas.Simd.{map-map}
 use Rattle.trace_lines.specs.declared.format.Version.TheVariants.{Two}
 use Rattle.trace_text.specs.CountLines.{counted_text}
-use Rattle.trace_tools.specs.Places.{seats}
-use Rattle.trace_tools.specs.Seats.{seat_of}
+use Rattle.trace_tools.specs.BusCounters.{counters}
+use Rattle.trace_tools.specs.Counters.{counter_of}
 use Rattle.trace_tools.specs.Tools.{Tool}
 use Rattle.trace_check.specs.Counts.{HasCounts}
 use Rattle.trace_check.specs.Verdicts.{HasShown, IsVerdict}
@@ -17,7 +17,7 @@ pub returns-in-Invalid-clause-upgraded : goal.returns-in-Invalid-clause-upgraded
 returns-in-Invalid-clause-upgraded g c =
     let h = c.args.head.now in
     let tools : List Tool = map g.T.TraceTool.tool c.args.tools.items in
-    let opened : seats g.T.TraceTool.tool c.in-Ok.bus ≡ map seat_of tools = c.in-Ok.ensures ∙ sym (map-map seat_of g.T.TraceTool.tool c.args.tools.items) in
+    let opened : counters g.T.TraceTool.tool c.in-Ok.bus ≡ map counter_of tools = c.in-Ok.ensures ∙ sym (map-map counter_of g.T.TraceTool.tool c.args.tools.items) in
     (subst (IsVerdict tools h.version h.setup c.args.bytes.now) c.in-Invalid.is (c.in-Ok-check_counted.ensures.verdict tools opened), refl)
 
 pub returns-then-is_upgraded : goal.returns-then-is_upgraded
@@ -27,7 +27,7 @@ returns-then-is_upgraded g c =
     let checked = c.in-Ok-check_counted.checked in
     let entries = c.in-Valid.field-0 in
     let tools : List Tool = map g.T.TraceTool.tool c.args.tools.items in
-    let opened : seats g.T.TraceTool.tool c.in-Ok.bus ≡ map seat_of tools = c.in-Ok.ensures ∙ sym (map-map seat_of g.T.TraceTool.tool c.args.tools.items) in
+    let opened : counters g.T.TraceTool.tool c.in-Ok.bus ≡ map counter_of tools = c.in-Ok.ensures ∙ sym (map-map counter_of g.T.TraceTool.tool c.args.tools.items) in
     let is = subst (IsVerdict tools h.version h.setup bytes) c.in-Valid.is (c.in-Ok-check_counted.ensures.verdict tools opened) in
     let counts = subst (λ (v : Verdict). HasCounts tools h.version h.setup bytes v checked.counted) c.in-Valid.is (c.in-Ok-check_counted.ensures.counted tools opened) in
     let same = own-upgrade tools bytes h.version h.setup entries c.requires.valid is checked.counted counts (c.is_upgraded.ensures c.if-is_upgraded.true) in
@@ -46,7 +46,7 @@ pub write_upgrade-requires : goal.write_upgrade-requires
 write_upgrade-requires g c =
     let h = c.args.head.now in
     let tools : List Tool = map g.T.TraceTool.tool c.args.tools.items in
-    let opened : seats g.T.TraceTool.tool c.in-Ok.bus ≡ map seat_of tools = c.in-Ok.ensures ∙ sym (map-map seat_of g.T.TraceTool.tool c.args.tools.items) in
+    let opened : counters g.T.TraceTool.tool c.in-Ok.bus ≡ map counter_of tools = c.in-Ok.ensures ∙ sym (map-map counter_of g.T.TraceTool.tool c.args.tools.items) in
     let is = subst (IsVerdict tools h.version h.setup c.args.bytes.now) c.in-Valid.is (c.in-Ok-check_counted.ensures.verdict tools opened) in
     let lines = c.in-Ok-read_lines.ensures in
     (is.histories, head-says tools c.args.bytes.now h c.in-Ok-read_lines.trace c.in-Valid.field-0 c.requires.valid is lines.trace lines.version lines.setup)
@@ -58,9 +58,9 @@ returns g c =
     let bytes = c.args.bytes.now in
     let entries = c.in-Valid.field-0 in
     let tools : List Tool = map g.T.TraceTool.tool c.args.tools.items in
-    let opened : seats g.T.TraceTool.tool c.in-Ok.bus ≡ map seat_of tools = c.in-Ok.ensures ∙ sym (map-map seat_of g.T.TraceTool.tool c.args.tools.items) in
+    let opened : counters g.T.TraceTool.tool c.in-Ok.bus ≡ map counter_of tools = c.in-Ok.ensures ∙ sym (map-map counter_of g.T.TraceTool.tool c.args.tools.items) in
     let is = subst (IsVerdict tools h.version h.setup bytes) c.in-Valid.is (c.in-Ok-check_counted.ensures.verdict tools opened) in
-    let shown = subst (HasShown tools h.version h.setup bytes (seats g.T.TraceTool.tool c.check_counted.new.bus)) c.in-Valid.is (c.in-Ok-check_counted.ensures.shown tools opened) in
+    let shown = subst (HasShown tools h.version h.setup bytes (counters g.T.TraceTool.tool c.check_counted.new.bus)) c.in-Valid.is (c.in-Ok-check_counted.ensures.shown tools opened) in
     let lines = c.in-Ok-read_lines.ensures in
     let text = counted_text Two tools h.setup is.histories in
     let sink = writing g.K.Sink.held g.K.Sink.faults c.args.out.now c.write_upgrade.new.out in

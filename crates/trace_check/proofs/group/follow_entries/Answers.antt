@@ -3,8 +3,8 @@ use Rattle.rt_rules.specs.declared.history.Entry.{Entry}
 use Rattle.rt_model.specs.Histories.{past_of}
 use Rattle.trace_lines.specs.Known.{known_of}
 use Rattle.trace_tools.specs.declared.shown.Shown.{Shown}
-use Rattle.trace_tools.specs.Places.{seats}
-use Rattle.trace_tools.specs.Seats.{seat_after}
+use Rattle.trace_tools.specs.BusCounters.{counters}
+use Rattle.trace_tools.specs.Counters.{counter_after}
 use Rattle.trace_text.specs.CountLines.{shown_as}
 use Rattle.trace_read.specs.Reading.{begins_with_digit}
 use Rattle.trace_course.specs.Places.{Place}
@@ -39,7 +39,7 @@ returns-in_default g c = λ from opened was before.
     let refused = none-taken-there at v (drop c.entries.size text) c.take_line.new.line.items c.in_ok-entry.field-0 c.take_line.new.self c.in_default.not-Some taken in
     let digit = ap begins_with_digit (sym (rest-of c.entries.size text)) ∙ sym c.begins_as_entry.ensures ∙ c.entries-test.true in
     subst (λ (n : ℕ). IsJudged v p text (Invalid (from.lines + 1 + n + 3))) (sym c.count-no.ensures)
-    (refused-there v p text c.args.group.0 from c.entries.size c.entries.follow opened was (seats g.T.TraceTool.tool c.entries.bus) right refused digit)
+    (refused-there v p text c.args.group.0 from c.entries.size c.entries.follow opened was (counters g.T.TraceTool.tool c.entries.bus) right refused digit)
 
 pub overflow_add-size : goal.overflow_add-size
 overflow_add-size g c =
@@ -72,7 +72,7 @@ entries-preserved g c =
     let v = c.args.version in
     let p = c.args.setup.now in
     let text = c.args.text.now in
-    let now = seats g.T.TraceTool.tool c.entries.bus in
+    let now = counters g.T.TraceTool.tool c.entries.bus in
     let first = c.entries.invariant.1 c.requires.0 c.requires.1 c.requires.2 c.requires.3 in
     let there : Place = place_at v p text first in
     let got = taken-rest there v c.entries.size text c.take_line.new.line.items c.in_ok-entry.field-0 c.take_line.new.self (c.in_ok-entry.ensures there (followed-with v p text first)) in
@@ -84,10 +84,10 @@ entries-preserved g c =
           let taken = taken-rest at v c.entries.size text c.take_line.new.line.items c.in_ok-entry.field-0 c.take_line.new.self (c.in_ok-entry.ensures at (followed-with v p text right)) in
           let is = subst (λ (o : Option Entry). HasTaken at v (drop c.entries.size text) c.take_line.new.line.items o c.take_line.new.self) c.in-Some.is taken in
           let longer : Place = record { group = at.group; entries = at.entries ++ c.in-Some.entry ∷ [] } in
-          let fed = c.feed.ensures ∙ ap (λ (s : Shown). map (seat_after s) now) (c.shown.ensures longer is.following refl)
-          ∙ ap (λ (n : ℕ). map (seat_after (shown_as at.group n c.in-Some.entry (past_of at.group (at.entries ++ c.in-Some.entry ∷ [])))) now) c.count-no.ensures in
-          subst (λ (xs : List ℕ). IsRight v p text c.args.group.0 from (c.entries.size + length xs) c.take_line.new.self opened was (seats g.T.TraceTool.tool c.feed.new.self)) (sym c.as_slice.ensures.value)
-          (taken-right v p text c.args.group.0 from c.entries.size c.entries.follow opened was now right c.take_line.new.line.items c.in-Some.entry c.take_line.new.self (seats g.T.TraceTool.tool c.feed.new.self) is fed),
+          let fed = c.feed.ensures ∙ ap (λ (s : Shown). map (counter_after s) now) (c.shown.ensures longer is.following refl)
+          ∙ ap (λ (n : ℕ). map (counter_after (shown_as at.group n c.in-Some.entry (past_of at.group (at.entries ++ c.in-Some.entry ∷ [])))) now) c.count-no.ensures in
+          subst (λ (xs : List ℕ). IsRight v p text c.args.group.0 from (c.entries.size + length xs) c.take_line.new.self opened was (counters g.T.TraceTool.tool c.feed.new.self)) (sym c.as_slice.ensures.value)
+          (taken-right v p text c.args.group.0 from c.entries.size c.entries.follow opened was now right c.take_line.new.line.items c.in-Some.entry c.take_line.new.self (counters g.T.TraceTool.tool c.feed.new.self) is fed),
     )
 
 pub returns : goal.returns

@@ -1,6 +1,6 @@
 use Rattle.std.proofs.Common.{◌-◌, ◌≤◌, List, length}
-use Rattle.trace_tools.specs.Places.{seats}
-use Rattle.trace_tools.specs.Seats.{Seat}
+use Rattle.trace_tools.specs.BusCounters.{counters}
+use Rattle.trace_tools.specs.Counters.{Counter}
 use Rattle.trace_check.specs.declared.progress.Progress.{Progress}
 use Rattle.trace_check.specs.inside.Progress.{IsRight}
 use Rattle.trace_check.proofs.group.follow_entries.Given as goal
@@ -9,8 +9,8 @@ use Rattle.trace_check.proofs.group.follow_entries.Given as goal
 abbrev pub invariant-entries : goal.invariant-entries
 invariant-entries g l =
     (l.size ≤ length l.text)
-    × ((from : Progress) (opened was : List Seat) → IsRight l.version l.setup l.text l.fn.group.0 from l.initial.size l.initial.follow opened was (seats g.T.TraceTool.tool l.initial.bus)
-    → IsRight l.version l.setup l.text l.fn.group.0 from l.size l.follow opened was (seats g.T.TraceTool.tool l.bus))
+    × ((from : Progress) (opened was : List Counter) → IsRight l.version l.setup l.text l.fn.group.0 from l.initial.size l.initial.follow opened was (counters g.T.TraceTool.tool l.initial.bus)
+    → IsRight l.version l.setup l.text l.fn.group.0 from l.size l.follow opened was (counters g.T.TraceTool.tool l.bus))
 
 abbrev pub decreases-entries : goal.decreases-entries
 decreases-entries g l = length l.text - l.size

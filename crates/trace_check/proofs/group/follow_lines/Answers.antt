@@ -2,8 +2,8 @@ use Rattle.std.proofs.Common.{ℕ, ◌+◌, ◌-◌, ◌≤◌, Bool, List, drop
 use Rattle.std.proofs.lemmas.Result.{IfOk-weaker}
 use Rattle.trace_lines.specs.Known.{known_of}
 use Rattle.trace_lines.specs.Lines.{Line, group_line, links_of}
-use Rattle.trace_tools.specs.Places.{seats}
-use Rattle.trace_tools.specs.Seats.{Seat}
+use Rattle.trace_tools.specs.BusCounters.{counters}
+use Rattle.trace_tools.specs.Counters.{Counter}
 use Rattle.trace_course.specs.Places.{Place}
 use Rattle.trace_check.specs.declared.progress.Entries.{Entries}
 use Rattle.trace_check.specs.declared.progress.Followed.{Followed}
@@ -21,7 +21,7 @@ returns-then-not-branch g c = λ opened before.
     let n = c.args.group.0 in
     let l : Line = group_line n (links_of c.args.follow.now.links.links.items) in
     let none = subst (λ (b : Bool). HasStood (known_of v p) l (take (length text - c.args.from.length) (drop c.args.from.length text)) c.begins.new.line.items b) c.if-not-branch.true c.in_ok-begins.ensures in
-    opened-wrong v p text n c.args.from opened (seats g.T.TraceTool.tool c.args.bus.now) before c.requires.opened.valid (group-low p n c.requires.opened.valid c.requires.group) l
+    opened-wrong v p text n c.args.from opened (counters g.T.TraceTool.tool c.args.bus.now) before c.requires.opened.valid (group-low p n c.requires.opened.valid c.requires.group) l
     (opened-line n c.args.follow.now c.requires.opened) (λ more is. none more (rest-of c.args.from.length text ∙ is))
 
 pub overflow_add-begin : goal.overflow_add-begin
@@ -40,7 +40,7 @@ follow_entries-requires g c =
     let v = c.args.version in
     let p = c.args.setup.now in
     let text = c.args.text.now in
-    let first = seats g.T.TraceTool.tool c.args.bus.now in
+    let first = counters g.T.TraceTool.tool c.args.bus.now in
     let l : Line = group_line c.args.group.0 (links_of c.args.follow.now.links.links.items) in
     let stood = subst (λ (b : Bool). HasStood (known_of v p) l (take (length text - c.args.from.length) (drop c.args.from.length text)) c.begins.new.line.items b) c.if-not-branch.false c.in_ok-begins.ensures in (
       c.args.from,
@@ -56,8 +56,8 @@ ended_at-requires g c =
     let v = c.args.version in
     let p = c.args.setup.now in
     let text = c.args.text.now in
-    let first = seats g.T.TraceTool.tool c.args.bus.now in
-    let last = seats g.T.TraceTool.tool c.follow_entries.new.bus in
+    let first = counters g.T.TraceTool.tool c.args.bus.now in
+    let last = counters g.T.TraceTool.tool c.follow_entries.new.bus in
     let n = c.args.group.0 in
     let from = c.args.from in
     let l : Line = group_line n (links_of c.args.follow.now.links.links.items) in
@@ -77,15 +77,15 @@ returns-in-Right g c =
     let v = c.args.version in
     let p = c.args.setup.now in
     let text = c.args.text.now in
-    let first = seats g.T.TraceTool.tool c.args.bus.now in
-    let last = seats g.T.TraceTool.tool c.follow_entries.new.bus in
+    let first = counters g.T.TraceTool.tool c.args.bus.now in
+    let last = counters g.T.TraceTool.tool c.follow_entries.new.bus in
     let n = c.args.group.0 in
     let from = c.args.from in
     let l : Line = group_line n (links_of c.args.follow.now.links.links.items) in
     let stood = subst (λ (b : Bool). HasStood (known_of v p) l (take (length text - c.args.from.length) (drop c.args.from.length text)) c.begins.new.line.items b) c.if-not-branch.false c.in_ok-begins.ensures in
     IfOk-weaker c.ended_at.result
     (λ (f : Followed). (at : Place) → IsFollowingWith at p c.follow_entries.new.follow → IsEndedAt at (known_of v p) (drop c.in-Right.size text) from c.follow_entries.new.follow.count c.in-Right.size f)
-    (λ (f : Followed). (opened : List Seat) → AreRight v p text n from opened first → IsFollowedTo v p text n opened last f)
+    (λ (f : Followed). (opened : List Counter) → AreRight v p text n from opened first → IsFollowedTo v p text n opened last f)
     (λ f ended opened before.
     let begun = subst (λ (xs : List ℕ). IsRight v p text n from (from.length + length xs) c.args.follow.now opened first first) (sym c.as_slice.ensures.value)
     (opened-right v p text n from opened first before c.args.follow.now c.begins.new.line.items c.requires.opened stood.0 (begins-rest from.length text _ _ refl stood.1)) in
@@ -98,8 +98,8 @@ returns-in-WrongAfter g c = λ opened before.
     let v = c.args.version in
     let p = c.args.setup.now in
     let text = c.args.text.now in
-    let first = seats g.T.TraceTool.tool c.args.bus.now in
-    let last = seats g.T.TraceTool.tool c.follow_entries.new.bus in
+    let first = counters g.T.TraceTool.tool c.args.bus.now in
+    let last = counters g.T.TraceTool.tool c.follow_entries.new.bus in
     let n = c.args.group.0 in
     let from = c.args.from in
     let l : Line = group_line n (links_of c.args.follow.now.links.links.items) in
@@ -111,13 +111,13 @@ returns-in-WrongAfter g c = λ opened before.
 
 pub overflow_add-result : goal.overflow_add-result
 overflow_add-result g c =
-    let few : c.args.from.lines ≤ c.args.from.length = right-short c.args.version c.args.setup.now c.args.text.now c.args.group.0 c.args.from c.requires.before.0 (seats g.T.TraceTool.tool c.args.bus.now) c.requires.before.1 in
+    let few : c.args.from.lines ≤ c.args.from.length = right-short c.args.version c.args.setup.now c.args.text.now c.args.group.0 c.args.from c.requires.before.0 (counters g.T.TraceTool.tool c.args.bus.now) c.requires.before.1 in
     let within : c.args.from.length ≤ length c.args.text.now = c.requires.before.1.within in
     search rules
 
 pub overflow_add-result-in-WrongAfter : goal.overflow_add-result-in-WrongAfter
 overflow_add-result-in-WrongAfter g c =
-    let few : c.args.from.lines ≤ c.args.from.length = right-short c.args.version c.args.setup.now c.args.text.now c.args.group.0 c.args.from c.requires.before.0 (seats g.T.TraceTool.tool c.args.bus.now) c.requires.before.1 in
+    let few : c.args.from.lines ≤ c.args.from.length = right-short c.args.version c.args.setup.now c.args.text.now c.args.group.0 c.args.from c.requires.before.0 (counters g.T.TraceTool.tool c.args.bus.now) c.requires.before.1 in
     let within : c.args.from.length ≤ length c.args.text.now = c.requires.before.1.within in
     search rules
 

@@ -4,8 +4,8 @@ use Rattle.rt_task.specs.declared.Parts.{Parts}
 use Rattle.rt_plays.specs.Plays.{group_count}
 use Rattle.rt_plays.proofs.GroupCount.{groups_are_counted}
 use Rattle.trace_lines.specs.declared.format.Version.{Version}
-use Rattle.trace_tools.specs.Places.{seats}
-use Rattle.trace_tools.specs.Seats.{Seat, seat_of}
+use Rattle.trace_tools.specs.BusCounters.{counters}
+use Rattle.trace_tools.specs.Counters.{Counter, counter_of}
 use Rattle.trace_tools.specs.Tools.{Tool}
 use Rattle.trace_check.specs.declared.progress.Followed.{Followed}
 use Rattle.trace_check.specs.declared.verdict.Checked.{Checked}
@@ -17,12 +17,12 @@ use Rattle.trace_check.proofs.Judging.{right-first, right-short}
 use Rattle.trace_check.proofs.judge.judge_text.Goals as goal
 
 pub loop-n-init : goal.loop-n-init
-loop-n-init g c = right-first c.args.version c.args.setup.now c.args.text.now (seats g.T.TraceTool.tool c.args.bus.now)
+loop-n-init g c = right-first c.args.version c.args.setup.now c.args.text.now (counters g.T.TraceTool.tool c.args.bus.now)
 
 pub follow_group-requires : goal.follow_group-requires
 follow_group-requires g c = record {
   group = (groups_are_counted c.args.setup.now c.loop-n.n c.parts-parts.ensures.valid).1 (omega (arith, c.loop-n-test.true, c.count_groups-n-end.ensures));
-  before = (seats g.T.TraceTool.tool c.args.bus.now, c.loop-n.invariant);
+  before = (counters g.T.TraceTool.tool c.args.bus.now, c.loop-n.invariant);
 }
 
 pub returns-in-Wrong-clause-judged : goal.returns-in-Wrong-clause-judged
@@ -30,11 +30,11 @@ returns-in-Wrong-clause-judged g c =
     let v = c.args.version in
     let p = c.args.setup.now in
     let text = c.args.text.now in
-    let first = seats g.T.TraceTool.tool c.args.bus.now in
-    let followed = subst (λ (f : Followed). (opened : List Seat) → AreRight v p text c.loop-n.n c.loop-n.right opened (seats g.T.TraceTool.tool c.loop-n.bus) → IsFollowedTo v p text c.loop-n.n opened (seats g.T.TraceTool.tool c.follow_group.new.bus) f) c.in-Wrong.is c.in_ok-further.ensures in
+    let first = counters g.T.TraceTool.tool c.args.bus.now in
+    let followed = subst (λ (f : Followed). (opened : List Counter) → AreRight v p text c.loop-n.n c.loop-n.right opened (counters g.T.TraceTool.tool c.loop-n.bus) → IsFollowedTo v p text c.loop-n.n opened (counters g.T.TraceTool.tool c.follow_group.new.bus) f) c.in-Wrong.is c.in_ok-further.ensures in
     let judged = followed first c.loop-n.invariant in
     IfOk-weaker c.wrong.result (λ (x : Checked). x ≡ record { verdict = Invalid (c.in-Wrong.place + 3); counted = false })
-    (λ (x : Checked). (tools : List Tool) → first ≡ map seat_of tools → IsJudgedText tools v p text x.verdict)
+    (λ (x : Checked). (tools : List Tool) → first ≡ map counter_of tools → IsJudgedText tools v p text x.verdict)
     (λ x is tools opened. subst (λ (y : Checked). IsJudgedText tools v p text y.verdict) (sym is) (judged tools))
     c.wrong.ensures
 
@@ -43,9 +43,9 @@ returns-in-Wrong-clause-counted g c =
     let v = c.args.version in
     let p = c.args.setup.now in
     let text = c.args.text.now in
-    let first = seats g.T.TraceTool.tool c.args.bus.now in
+    let first = counters g.T.TraceTool.tool c.args.bus.now in
     IfOk-weaker c.wrong.result (λ (x : Checked). x ≡ record { verdict = Invalid (c.in-Wrong.place + 3); counted = false })
-    (λ (x : Checked). (tools : List Tool) → first ≡ map seat_of tools → IsCountedText tools v p text x.verdict x.counted)
+    (λ (x : Checked). (tools : List Tool) → first ≡ map counter_of tools → IsCountedText tools v p text x.verdict x.counted)
     (λ x is tools opened. subst (λ (y : Checked). IsCountedText tools v p text y.verdict y.counted) (sym is) (λ bytes head. tt))
     c.wrong.ensures
 
@@ -54,10 +54,10 @@ returns-in-Wrong-clause-shown g c =
     let v = c.args.version in
     let p = c.args.setup.now in
     let text = c.args.text.now in
-    let first = seats g.T.TraceTool.tool c.args.bus.now in
-    let last = seats g.T.TraceTool.tool c.follow_group.new.bus in
+    let first = counters g.T.TraceTool.tool c.args.bus.now in
+    let last = counters g.T.TraceTool.tool c.follow_group.new.bus in
     IfOk-weaker c.wrong.result (λ (x : Checked). x ≡ record { verdict = Invalid (c.in-Wrong.place + 3); counted = false })
-    (λ (x : Checked). (tools : List Tool) → first ≡ map seat_of tools → IsShownText tools v p text last x.verdict)
+    (λ (x : Checked). (tools : List Tool) → first ≡ map counter_of tools → IsShownText tools v p text last x.verdict)
     (λ x is tools opened. subst (λ (y : Checked). IsShownText tools v p text last y.verdict) (sym is) (λ bytes head. tt))
     c.wrong.ensures
 
@@ -66,13 +66,13 @@ loop-n-preserved g c =
     let v = c.args.version in
     let p = c.args.setup.now in
     let text = c.args.text.now in
-    let followed = subst (λ (f : Followed). (opened : List Seat) → AreRight v p text c.loop-n.n c.loop-n.right opened (seats g.T.TraceTool.tool c.loop-n.bus) → IsFollowedTo v p text c.loop-n.n opened (seats g.T.TraceTool.tool c.follow_group.new.bus) f) c.in-Whole.is c.in_ok-further.ensures in
-    followed (seats g.T.TraceTool.tool c.args.bus.now) c.loop-n.invariant
+    let followed = subst (λ (f : Followed). (opened : List Counter) → AreRight v p text c.loop-n.n c.loop-n.right opened (counters g.T.TraceTool.tool c.loop-n.bus) → IsFollowedTo v p text c.loop-n.n opened (counters g.T.TraceTool.tool c.follow_group.new.bus) f) c.in-Whole.is c.in_ok-further.ensures in
+    followed (counters g.T.TraceTool.tool c.args.bus.now) c.loop-n.invariant
 
 pub end_at-requires : goal.end_at-requires
 end_at-requires g c = record {
   within = c.loop-n.invariant.within;
-  places = right-short c.args.version c.args.setup.now c.args.text.now c.loop-n.n c.loop-n.right (seats g.T.TraceTool.tool c.args.bus.now) (seats g.T.TraceTool.tool c.loop-n.bus) c.loop-n.invariant;
+  places = right-short c.args.version c.args.setup.now c.args.text.now c.loop-n.n c.loop-n.right (counters g.T.TraceTool.tool c.args.bus.now) (counters g.T.TraceTool.tool c.loop-n.bus) c.loop-n.invariant;
 }
 
 pub returns-clause-judged : goal.returns-clause-judged
@@ -80,14 +80,14 @@ returns-clause-judged g c =
     let v = c.args.version in
     let p = c.args.setup.now in
     let text = c.args.text.now in
-    let first = seats g.T.TraceTool.tool c.args.bus.now in
-    let last = seats g.T.TraceTool.tool c.loop-n.bus in
+    let first = counters g.T.TraceTool.tool c.args.bus.now in
+    let last = counters g.T.TraceTool.tool c.loop-n.bus in
     let n : c.loop-n.n ≡ group_count p = omega (arith, c.loop-n-test.false, c.loop-n.auto.n-end, c.count_groups-n-end.ensures) in
     let right : AreRight v p text (group_count p) c.loop-n.right first last = subst (λ (m : ℕ). AreRight v p text m c.loop-n.right first last) n c.loop-n.invariant in
     IfOk-weaker c.end_at.result
-    (λ (x : Checked). (w : Version) (q : Parts) (tools : List Tool) → AreAllRight w q text c.loop-n.right (map seat_of tools) last → IsJudgedText tools w q text x.verdict)
-    (λ (x : Checked). (tools : List Tool) → first ≡ map seat_of tools → IsJudgedText tools v p text x.verdict)
-    (λ x judged tools opened. judged v p tools (record { valid = c.parts-parts.ensures.valid; right = subst (λ (ss : List Seat). AreRight v p text (group_count p) c.loop-n.right ss last) opened right }))
+    (λ (x : Checked). (w : Version) (q : Parts) (tools : List Tool) → AreAllRight w q text c.loop-n.right (map counter_of tools) last → IsJudgedText tools w q text x.verdict)
+    (λ (x : Checked). (tools : List Tool) → first ≡ map counter_of tools → IsJudgedText tools v p text x.verdict)
+    (λ x judged tools opened. judged v p tools (record { valid = c.parts-parts.ensures.valid; right = subst (λ (ss : List Counter). AreRight v p text (group_count p) c.loop-n.right ss last) opened right }))
     c.end_at.ensures.judged
 
 pub returns-clause-counted : goal.returns-clause-counted
@@ -95,14 +95,14 @@ returns-clause-counted g c =
     let v = c.args.version in
     let p = c.args.setup.now in
     let text = c.args.text.now in
-    let first = seats g.T.TraceTool.tool c.args.bus.now in
-    let last = seats g.T.TraceTool.tool c.loop-n.bus in
+    let first = counters g.T.TraceTool.tool c.args.bus.now in
+    let last = counters g.T.TraceTool.tool c.loop-n.bus in
     let n : c.loop-n.n ≡ group_count p = omega (arith, c.loop-n-test.false, c.loop-n.auto.n-end, c.count_groups-n-end.ensures) in
     let right : AreRight v p text (group_count p) c.loop-n.right first last = subst (λ (m : ℕ). AreRight v p text m c.loop-n.right first last) n c.loop-n.invariant in
     IfOk-weaker c.end_at.result
-    (λ (x : Checked). (w : Version) (q : Parts) (tools : List Tool) → AreAllRight w q text c.loop-n.right (map seat_of tools) last → IsCountedText tools w q text x.verdict x.counted)
-    (λ (x : Checked). (tools : List Tool) → first ≡ map seat_of tools → IsCountedText tools v p text x.verdict x.counted)
-    (λ x counted tools opened. counted v p tools (record { valid = c.parts-parts.ensures.valid; right = subst (λ (ss : List Seat). AreRight v p text (group_count p) c.loop-n.right ss last) opened right }))
+    (λ (x : Checked). (w : Version) (q : Parts) (tools : List Tool) → AreAllRight w q text c.loop-n.right (map counter_of tools) last → IsCountedText tools w q text x.verdict x.counted)
+    (λ (x : Checked). (tools : List Tool) → first ≡ map counter_of tools → IsCountedText tools v p text x.verdict x.counted)
+    (λ x counted tools opened. counted v p tools (record { valid = c.parts-parts.ensures.valid; right = subst (λ (ss : List Counter). AreRight v p text (group_count p) c.loop-n.right ss last) opened right }))
     c.end_at.ensures.counted
 
 pub returns-clause-shown : goal.returns-clause-shown
@@ -110,12 +110,12 @@ returns-clause-shown g c =
     let v = c.args.version in
     let p = c.args.setup.now in
     let text = c.args.text.now in
-    let first = seats g.T.TraceTool.tool c.args.bus.now in
-    let last = seats g.T.TraceTool.tool c.loop-n.bus in
+    let first = counters g.T.TraceTool.tool c.args.bus.now in
+    let last = counters g.T.TraceTool.tool c.loop-n.bus in
     let n : c.loop-n.n ≡ group_count p = omega (arith, c.loop-n-test.false, c.loop-n.auto.n-end, c.count_groups-n-end.ensures) in
     let right : AreRight v p text (group_count p) c.loop-n.right first last = subst (λ (m : ℕ). AreRight v p text m c.loop-n.right first last) n c.loop-n.invariant in
     IfOk-weaker c.end_at.result
-    (λ (x : Checked). (w : Version) (q : Parts) (tools : List Tool) → AreAllRight w q text c.loop-n.right (map seat_of tools) last → IsShownText tools w q text last x.verdict)
-    (λ (x : Checked). (tools : List Tool) → first ≡ map seat_of tools → IsShownText tools v p text last x.verdict)
-    (λ x shown tools opened. shown v p tools (record { valid = c.parts-parts.ensures.valid; right = subst (λ (ss : List Seat). AreRight v p text (group_count p) c.loop-n.right ss last) opened right }))
+    (λ (x : Checked). (w : Version) (q : Parts) (tools : List Tool) → AreAllRight w q text c.loop-n.right (map counter_of tools) last → IsShownText tools w q text last x.verdict)
+    (λ (x : Checked). (tools : List Tool) → first ≡ map counter_of tools → IsShownText tools v p text last x.verdict)
+    (λ x shown tools opened. shown v p tools (record { valid = c.parts-parts.ensures.valid; right = subst (λ (ss : List Counter). AreRight v p text (group_count p) c.loop-n.right ss last) opened right }))
     c.end_at.ensures.shown

@@ -1,7 +1,7 @@
 use Rattle.std.proofs.Common.{drop, map}
 use Rattle.trace_lines.specs.Known.{Known}
-use Rattle.trace_tools.specs.Places.{seats}
-use Rattle.trace_tools.specs.Seats.{seat_line}
+use Rattle.trace_tools.specs.BusCounters.{counters}
+use Rattle.trace_tools.specs.Counters.{counter_line}
 use Rattle.trace_writer.proofs.CameLaws.{IsComing}
 use Rattle.trace_text.proofs.LineLaws.{texts}
 use Rattle.trace_writer.proofs.counts.write_counts.Given as goal
@@ -10,4 +10,4 @@ use Rattle.trace_writer.proofs.counts.write_counts.Given as goal
 abbrev pub invariant-loop-i : goal.invariant-loop-i
 invariant-loop-i g l =
     (k : Known) → IsComing g.K.Sink.held g.K.Sink.faults l.initial.out l.out
-    (texts k (map seat_line (seats g.T.TraceTool.tool l.bus))) (texts k (map seat_line (drop l.i (seats g.T.TraceTool.tool l.bus))))
+    (texts k (map counter_line (counters g.T.TraceTool.tool l.bus))) (texts k (map counter_line (drop l.i (counters g.T.TraceTool.tool l.bus))))

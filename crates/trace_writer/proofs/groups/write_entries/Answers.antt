@@ -3,7 +3,7 @@ use Rattle.rt_model.specs.Group.{Group}
 use Rattle.rt_plays.specs.Groups.{GroupHistory}
 use Rattle.trace_lines.specs.Known.{known_in}
 use Rattle.trace_lines.specs.Lines.{links_of}
-use Rattle.trace_tools.specs.Places.{seats}
+use Rattle.trace_tools.specs.BusCounters.{counters}
 use Rattle.trace_writer.proofs.CameLaws.{comes-cut, comes-end, comes-next, comes-stop, coming-by, coming-start}
 use Rattle.trace_writer.proofs.Stepping.{lent-group, lent-of, line-next, lines-end, playing-end, playing-first, playing-next, room-next, same-next, shown-end, shown-next, taking}
 use Rattle.trace_writer.proofs.groups.write_entries.Goals as goal
@@ -55,7 +55,7 @@ loop-step-preserved g c =
       playing = playing-next t c.in_ok-reply.ensures.taken;
       follows = c.in_ok-reply.ensures.follows;
       coming = comes-next g.K.Sink.held g.K.Sink.faults c.args.out.now c.loop-step.out _ c.write_entry_line.new.out _ _ (coming-by line c.loop-step.invariant.coming) c.in_ok-write_entry_line.ensures;
-      shown = shown-next t c.in_ok-reply.ensures.taken (seats g.T.TraceTool.tool c.loop-step.bus) (seats g.T.TraceTool.tool c.show.new.bus) c.engine-in-Some.ensures c.show.ensures ∙ c.loop-step.invariant.shown;
+      shown = shown-next t c.in_ok-reply.ensures.taken (counters g.T.TraceTool.tool c.loop-step.bus) (counters g.T.TraceTool.tool c.show.new.bus) c.engine-in-Some.ensures c.show.ensures ∙ c.loop-step.invariant.shown;
     }
 
 pub returns-clause-lines : goal.returns-clause-lines
@@ -68,4 +68,4 @@ returns-clause-played g c = playing-end c.loop-step.invariant.playing (c.engine-
 
 pub returns-clause-shown : goal.returns-clause-shown
 returns-clause-shown g c =
-    sym (shown-end c.loop-step.invariant.playing (c.engine-in-loop-step.ensures ∙ c.engine.ensures) c.in_default.ensures.next (seats g.T.TraceTool.tool c.loop-step.bus)) ∙ c.loop-step.invariant.shown
+    sym (shown-end c.loop-step.invariant.playing (c.engine-in-loop-step.ensures ∙ c.engine.ensures) c.in_default.ensures.next (counters g.T.TraceTool.tool c.loop-step.bus)) ∙ c.loop-step.invariant.shown

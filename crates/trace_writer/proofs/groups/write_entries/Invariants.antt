@@ -1,10 +1,10 @@
 use Rattle.std.proofs.Common.{◌≡◌}
 use Rattle.rt_plays.specs.Groups.{group_of, past}
 use Rattle.trace_lines.specs.Known.{known_in}
-use Rattle.trace_tools.specs.Places.{seats}
+use Rattle.trace_tools.specs.BusCounters.{counters}
 use Rattle.trace_writer.specs.Replays.{Follows, ahead}
 use Rattle.trace_writer.proofs.CameLaws.{IsComing}
-use Rattle.trace_writer.proofs.Stepping.{IsPlaying, lines_ahead, seats_ahead}
+use Rattle.trace_writer.proofs.Stepping.{IsPlaying, lines_ahead, counters_ahead}
 use Rattle.trace_writer.proofs.groups.write_entries.Given as goal
 
 -- the group plays, its links are known, the lines of the entries so far came, and the bus was shown them
@@ -15,8 +15,8 @@ invariant-loop-step g l = record {
   coming : IsComing g.K.Sink.held g.K.Sink.faults l.initial.out l.out
       (lines_ahead (known_in l.format) (group_of l.initial.replay.engine) 0 l.initial.left (past l.initial.replay.engine))
       (lines_ahead (known_in l.format) (group_of l.initial.replay.engine) l.no l.left (past l.replay.engine));
-  shown : seats_ahead (group_of l.initial.replay.engine) l.no l.left (past l.replay.engine) (seats g.T.TraceTool.tool l.bus)
-      ≡ seats_ahead (group_of l.initial.replay.engine) 0 l.initial.left (past l.initial.replay.engine) (seats g.T.TraceTool.tool l.initial.bus);
+  shown : counters_ahead (group_of l.initial.replay.engine) l.no l.left (past l.replay.engine) (counters g.T.TraceTool.tool l.bus)
+      ≡ counters_ahead (group_of l.initial.replay.engine) 0 l.initial.left (past l.initial.replay.engine) (counters g.T.TraceTool.tool l.initial.bus);
 }
 
 abbrev pub decreases-loop-step : goal.decreases-loop-step

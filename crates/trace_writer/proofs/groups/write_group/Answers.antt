@@ -5,8 +5,8 @@ use Rattle.rt_plays.specs.Groups.{GroupHistory}
 use Rattle.set_plays.specs.GroupSteps.{group_told}
 use Rattle.trace_lines.specs.Known.{known_in}
 use Rattle.trace_tools.specs.declared.shown.Shown.{Shown}
-use Rattle.trace_tools.specs.Places.{seats}
-use Rattle.trace_tools.specs.Seats.{seats_after}
+use Rattle.trace_tools.specs.BusCounters.{counters}
+use Rattle.trace_tools.specs.Counters.{counters_after}
 use Rattle.trace_writer.proofs.CameLaws.{came-third, stopped-before, stopped-first, stopped-second}
 use Rattle.trace_writer.proofs.GroupParts.{blocks-played, few-opened, group-parts, line-opened, lines-opened, of-opened, opening, room-opened, shown-opened}
 use Rattle.trace_writer.proofs.Replays.{on_ok}
@@ -63,4 +63,4 @@ returns-clause-lines g c =
 pub returns-clause-shown : goal.returns-clause-shown
 returns-clause-shown g c =
     let shown = shown-opened (opening c.args.steps c.in_ok-replay.ensures.opened c.room.ensures c.in_ok-left.ensures) in
-    on_ok c.write_blocks.result (c.in_ok-write_entries.ensures.shown ∙ ap (λ (es : List Shown). seats_after es (seats g.T.TraceTool.tool c.args.bus.now)) shown)
+    on_ok c.write_blocks.result (c.in_ok-write_entries.ensures.shown ∙ ap (λ (es : List Shown). counters_after es (counters g.T.TraceTool.tool c.args.bus.now)) shown)

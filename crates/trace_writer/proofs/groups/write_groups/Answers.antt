@@ -1,7 +1,7 @@
 use Rattle.std.proofs.Common.{sym, ◌∙◌, arith}
 use Rattle.rt_plays.proofs.GroupCount.{groups_are_counted}
 use Rattle.trace_lines.specs.Known.{known_in}
-use Rattle.trace_tools.specs.Places.{seats}
+use Rattle.trace_tools.specs.BusCounters.{counters}
 use Rattle.trace_writer.proofs.CameLaws.{comes-last, comes-next, comes-stop, coming-by}
 use Rattle.trace_writer.proofs.GroupSequence.{no_steps, groups-end, groups-next, shown-end, shown-next}
 use Rattle.trace_writer.proofs.Replays.{on_ok}
@@ -23,7 +23,7 @@ pub loop-i-preserved : goal.loop-i-preserved
 loop-i-preserved g c =
     let here = groups-next c.args.setup.now c.args.groups.now c.loop-i.i (known_in c.args.format.now) no_steps c.loop-i-test.true in (
       comes-next g.K.Sink.held g.K.Sink.faults c.args.out.now c.loop-i.out _ c.write_group.new.out _ _ (coming-by here c.loop-i.invariant.0) c.in_ok-write_group.ensures.lines,
-      shown-next c.args.setup.now c.args.groups.now c.loop-i.i no_steps (seats g.T.TraceTool.tool c.loop-i.bus) (seats g.T.TraceTool.tool c.write_group.new.bus) c.loop-i-test.true c.in_ok-write_group.ensures.shown ∙ c.loop-i.invariant.1,
+      shown-next c.args.setup.now c.args.groups.now c.loop-i.i no_steps (counters g.T.TraceTool.tool c.loop-i.bus) (counters g.T.TraceTool.tool c.write_group.new.bus) c.loop-i-test.true c.in_ok-write_group.ensures.shown ∙ c.loop-i.invariant.1,
     )
 
 pub returns-clause-lines : goal.returns-clause-lines
@@ -33,4 +33,4 @@ returns-clause-lines g c =
 
 pub returns-clause-shown : goal.returns-clause-shown
 returns-clause-shown g c =
-    on_ok c.write_end_line.result (sym (shown-end c.args.setup.now c.args.groups.now c.loop-i.i (seats g.T.TraceTool.tool c.loop-i.bus) (omega (arith, c.loop-i-test.false))) ∙ c.loop-i.invariant.1)
+    on_ok c.write_end_line.result (sym (shown-end c.args.setup.now c.args.groups.now c.loop-i.i (counters g.T.TraceTool.tool c.loop-i.bus) (omega (arith, c.loop-i-test.false))) ∙ c.loop-i.invariant.1)

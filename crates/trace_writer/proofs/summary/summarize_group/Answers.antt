@@ -4,8 +4,8 @@ use Rattle.rt_plays.specs.Plays.{group_with}
 use Rattle.rt_plays.specs.Groups.{GroupHistory}
 use Rattle.set_plays.specs.GroupSteps.{group_told}
 use Rattle.trace_tools.specs.declared.shown.Shown.{Shown}
-use Rattle.trace_tools.specs.Places.{seats}
-use Rattle.trace_tools.specs.Seats.{seats_after}
+use Rattle.trace_tools.specs.BusCounters.{counters}
+use Rattle.trace_tools.specs.Counters.{counters_after}
 use Rattle.trace_writer.proofs.GroupParts.{ahead-opened, few-opened, few-told, of-opened, opening, room-opened, shown-opened, tallies-played}
 use Rattle.trace_writer.proofs.SummaryLaws.{requests-few-seen, summary-is}
 use Rattle.trace_writer.proofs.summary.summarize_group.Goals as goal
@@ -57,4 +57,4 @@ returns-clause-requests g c =
 pub returns-clause-shown : goal.returns-clause-shown
 returns-clause-shown g c =
     let shown = shown-opened (opening c.args.steps c.in_ok-engine.ensures c.room.ensures c.in_ok-left.ensures) in
-    c.take_steps-entries.ensures.shown ∙ ap (λ (ss : List Shown). seats_after ss (seats g.T.TraceTool.tool c.args.bus.now)) shown
+    c.take_steps-entries.ensures.shown ∙ ap (λ (ss : List Shown). counters_after ss (counters g.T.TraceTool.tool c.args.bus.now)) shown

@@ -1,5 +1,5 @@
 use Rattle.std.proofs.Common.{refl, ap, sym, ◌∙◌, arith}
-use Rattle.trace_tools.specs.Places.{seats}
+use Rattle.trace_tools.specs.BusCounters.{counters}
 use Rattle.rt_plays.proofs.GroupCount.{groups_are_counted}
 use Rattle.set_plays.specs.GroupSteps.{told}
 use Rattle.trace_writer.specs.Summaries.{summary_from}
@@ -30,7 +30,7 @@ pub loop-i-preserved : goal.loop-i-preserved
 loop-i-preserved g c =
     record {
       summed = summary-next c.args.setup.now c.args.groups.now c.loop-i.i no_steps c.loop-i.summary c.in_ok-own.own c.joined-summary.result _ c.loop-i-test.true c.in_ok-own.ensures.summary c.joined-summary.ensures c.loop-i.invariant.summed;
-      shown = shown-next c.args.setup.now c.args.groups.now c.loop-i.i no_steps (seats g.T.TraceTool.tool c.loop-i.bus) (seats g.T.TraceTool.tool c.summarize_group.new.bus) c.loop-i-test.true c.in_ok-own.ensures.shown ∙ c.loop-i.invariant.shown;
+      shown = shown-next c.args.setup.now c.args.groups.now c.loop-i.i no_steps (counters g.T.TraceTool.tool c.loop-i.bus) (counters g.T.TraceTool.tool c.summarize_group.new.bus) c.loop-i-test.true c.in_ok-own.ensures.shown ∙ c.loop-i.invariant.shown;
       entries = omega (arith, ap (λ (s : Summary). s.entries) c.joined-summary.ensures, c.loop-i.invariant.entries, c.in_ok-own.ensures.entries);
       requests = omega (arith, ap (λ (s : Summary). s.requests) c.joined-summary.ensures, c.loop-i.invariant.requests, c.in_ok-own.ensures.requests);
     }
@@ -40,7 +40,7 @@ returns-clause-summary g c = summary-end c.args.setup.now c.args.groups.now c.lo
 
 pub returns-clause-shown : goal.returns-clause-shown
 returns-clause-shown g c =
-    sym (shown-end c.args.setup.now c.args.groups.now c.loop-i.i (seats g.T.TraceTool.tool c.loop-i.bus) (omega (arith, c.loop-i-test.false))) ∙ c.loop-i.invariant.shown
+    sym (shown-end c.args.setup.now c.args.groups.now c.loop-i.i (counters g.T.TraceTool.tool c.loop-i.bus) (omega (arith, c.loop-i-test.false))) ∙ c.loop-i.invariant.shown
 
 pub loop-i-init : goal.loop-i-init
 loop-i-init g c = record {

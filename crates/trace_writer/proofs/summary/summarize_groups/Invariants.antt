@@ -1,7 +1,7 @@
 use Rattle.std.proofs.Common.{◌≡◌, ◌*◌, ◌≤◌, drop}
 use Rattle.rt_base.specs.declared.TheConstants.{MOST_STEPS}
-use Rattle.trace_tools.specs.Places.{seats}
-use Rattle.trace_tools.specs.Seats.{seats_after}
+use Rattle.trace_tools.specs.BusCounters.{counters}
+use Rattle.trace_tools.specs.Counters.{counters_after}
 use Rattle.trace_text.specs.CountLines.{shown_from}
 use Rattle.set_plays.specs.GroupSteps.{told, told_from}
 use Rattle.trace_writer.specs.Summaries.{joined, summary_from}
@@ -11,8 +11,8 @@ use Rattle.trace_writer.proofs.summary.summarize_groups.Given as goal
 abbrev pub invariant-loop-i : goal.invariant-loop-i
 invariant-loop-i g l = record {
   summed : joined l.summary (summary_from l.setup l.i (told_from l.setup l.i (drop l.i l.groups))) ≡ summary_from l.setup 0 (told l.setup l.groups);
-  shown : seats_after (shown_from l.setup l.i (told_from l.setup l.i (drop l.i l.groups))) (seats g.T.TraceTool.tool l.bus)
-      ≡ seats_after (shown_from l.setup 0 (told l.setup l.groups)) (seats g.T.TraceTool.tool l.initial.bus);
+  shown : counters_after (shown_from l.setup l.i (told_from l.setup l.i (drop l.i l.groups))) (counters g.T.TraceTool.tool l.bus)
+      ≡ counters_after (shown_from l.setup 0 (told l.setup l.groups)) (counters g.T.TraceTool.tool l.initial.bus);
   entries : l.summary.entries ≤ l.i * MOST_STEPS;
   requests : l.summary.requests ≤ l.i * (2 * MOST_STEPS);
 }

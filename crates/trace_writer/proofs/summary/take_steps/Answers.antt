@@ -1,7 +1,7 @@
 use Rattle.std.proofs.Common.{ap, sym, ◌∙◌, refl, arith}
 use Rattle.rt_model.specs.Group.{Group}
 use Rattle.rt_plays.specs.Groups.{GroupHistory}
-use Rattle.trace_tools.specs.Places.{seats}
+use Rattle.trace_tools.specs.BusCounters.{counters}
 use Rattle.trace_writer.proofs.Replays.{taken-entry}
 use Rattle.trace_writer.proofs.Stepping.{count-end, lent-group, lent-of, playing-end, playing-first, playing-next, room-next, shown-end, shown-next, taking}
 use Rattle.trace_writer.proofs.summary.take_steps.Goals as goal
@@ -32,7 +32,7 @@ loop-step-preserved g c =
     let taken = taken-entry c.loop-step.engine c.step-reply.new.self c.in-Some.step c.step-reply.result c.step-reply.ensures.entry c.step-reply.ensures.reply in
     record {
       playing = playing-next t taken;
-      shown = shown-next t taken (seats g.T.TraceTool.tool c.loop-step.bus) (seats g.T.TraceTool.tool c.show.new.bus) refl c.show.ensures ∙ c.loop-step.invariant.shown;
+      shown = shown-next t taken (counters g.T.TraceTool.tool c.loop-step.bus) (counters g.T.TraceTool.tool c.show.new.bus) refl c.show.ensures ∙ c.loop-step.invariant.shown;
     }
 
 pub returns-clause-count : goal.returns-clause-count
@@ -42,4 +42,4 @@ pub returns-clause-played : goal.returns-clause-played
 returns-clause-played g c = playing-end c.loop-step.invariant.playing c.engine.ensures c.in_default.ensures.next
 
 pub returns-clause-shown : goal.returns-clause-shown
-returns-clause-shown g c = sym (shown-end c.loop-step.invariant.playing c.engine.ensures c.in_default.ensures.next (seats g.T.TraceTool.tool c.loop-step.bus)) ∙ c.loop-step.invariant.shown
+returns-clause-shown g c = sym (shown-end c.loop-step.invariant.playing c.engine.ensures c.in_default.ensures.next (counters g.T.TraceTool.tool c.loop-step.bus)) ∙ c.loop-step.invariant.shown

@@ -3,8 +3,8 @@ use Rattle.std.proofs.lemmas.Simd.{map-map}
 use Rattle.std.specs.Prelude.{Option, Result, Vec}
 use Rattle.std.specs.declared.alloc.Global.{Global}
 use Rattle.rt_task.specs.declared.Parts.{Parts}
-use Rattle.trace_tools.specs.Places.{seats}
-use Rattle.trace_tools.specs.Seats.{seat_of}
+use Rattle.trace_tools.specs.BusCounters.{counters}
+use Rattle.trace_tools.specs.Counters.{counter_of}
 use Rattle.trace_tools.specs.Tools.{Tool}
 use Rattle.sim_commands.proofs.UpgradeLaws.{head-says}
 use Rattle.view_command.specs.inside.Viewing.{IsTextOf, IsViewed}
@@ -15,13 +15,13 @@ use Rattle.view_command.proofs.dispatch.text_in.Goals as goal
 pub returns-in-Ok-Invalid : goal.returns-in-Ok-Invalid
 returns-in-Ok-Invalid g c =
     let tools : List Tool = map g.T.TraceTool.tool c.args.tools.items in
-    let opened : seats g.T.TraceTool.tool c.in-Ok.bus ≡ map seat_of tools = c.in-Ok.ensures ∙ sym (map-map seat_of g.T.TraceTool.tool c.args.tools.items) in
+    let opened : counters g.T.TraceTool.tool c.in-Ok.bus ≡ map counter_of tools = c.in-Ok.ensures ∙ sym (map-map counter_of g.T.TraceTool.tool c.args.tools.items) in
     rw c.in-Ok-Invalid.field-0-is at (c.in-Ok-Invalid.ensures.verdict tools opened)
 
 pub text_said-requires-clause-says : goal.text_said-requires-clause-says
 text_said-requires-clause-says g c =
     let tools : List Tool = map g.T.TraceTool.tool c.args.tools.items in
-    let opened : seats g.T.TraceTool.tool c.in-Ok.bus ≡ map seat_of tools = c.in-Ok.ensures ∙ sym (map-map seat_of g.T.TraceTool.tool c.args.tools.items) in
+    let opened : counters g.T.TraceTool.tool c.in-Ok.bus ≡ map counter_of tools = c.in-Ok.ensures ∙ sym (map-map counter_of g.T.TraceTool.tool c.args.tools.items) in
     let is = rw c.in-Ok-Valid.field-0-is at (c.in-Ok-Valid.ensures.verdict tools opened) in
     let lines = c.in-Ok-read_lines.ensures in
     (is.histories, head-says tools c.args.bytes.now c.args.head.now c.in-Ok-read_lines.trace c.in-Ok-Valid.field-0-0 c.requires.valid is lines.trace lines.version lines.setup)
@@ -31,7 +31,7 @@ returns g c =
     let h = c.args.head.now in
     let t = c.in-Ok-read_lines.trace in
     let tools : List Tool = map g.T.TraceTool.tool c.args.tools.items in
-    let opened : seats g.T.TraceTool.tool c.in-Ok.bus ≡ map seat_of tools = c.in-Ok.ensures ∙ sym (map-map seat_of g.T.TraceTool.tool c.args.tools.items) in
+    let opened : counters g.T.TraceTool.tool c.in-Ok.bus ≡ map counter_of tools = c.in-Ok.ensures ∙ sym (map-map counter_of g.T.TraceTool.tool c.args.tools.items) in
     let is = rw c.in-Ok-Valid.field-0-is at (c.in-Ok-Valid.ensures.verdict tools opened) in
     let lines = c.in-Ok-read_lines.ensures in
     let says = head-says tools c.args.bytes.now h t c.in-Ok-Valid.field-0-0 c.requires.valid is lines.trace lines.version lines.setup in

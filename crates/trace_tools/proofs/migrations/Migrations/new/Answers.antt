@@ -6,11 +6,11 @@ use Rattle.trace_tools.proofs.migrations.Migrations.new.Goals as goal
 
 pub returns-clause-tool : goal.returns-clause-tool
 returns-clause-tool c =
-    let items : c.in_ok-places.places.items ≡ nowhere (MOST_TASKS + 1) = c.in_ok-places.ensures.items_if_clones_equal (search rules) ∙ nowhere-is (MOST_TASKS + 1) in
-    ap (λ (places : List ℕ). record { rules = migration_rules; state = 0 ∷ places }) items
+    let items : c.in_ok-last_cpus.last_cpus.items ≡ nowhere (MOST_TASKS + 1) = c.in_ok-last_cpus.ensures.items_if_clones_equal (search rules) ∙ nowhere-is (MOST_TASKS + 1) in
+    ap (λ (last_cpus : List ℕ). record { rules = migration_rules; state = 0 ∷ last_cpus }) items
 
 pub returns-clause-counts : goal.returns-clause-counts
 returns-clause-counts c = moves-counted
 
-pub returns-in_err-places-clause-counts : goal.returns-in_err-places-clause-counts
-returns-in_err-places-clause-counts c = moves-counted
+pub returns-in_err-last_cpus-clause-counts : goal.returns-in_err-last_cpus-clause-counts
+returns-in_err-last_cpus-clause-counts c = moves-counted

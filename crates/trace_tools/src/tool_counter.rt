@@ -1,4 +1,4 @@
-//! A tool's place in a bus.
+//! A tool's counter in a bus.
 ghost use Rattle.std.specs.Prelude.{◌≡◌, ◌≤◌, IfOk};
 ghost use Rattle.rt_base.specs.declared.TheConstants.{MOST_TOTALS};
 
@@ -13,7 +13,7 @@ const TOTALS: usize = MOST_TOTALS as usize;
 
 /// A tool that counts, or the name and the totals of one that has ended and was dropped.
 #[derive(Drop)]
-pub struct Place<T> {
+pub struct ToolCounter<T> {
     tool: Option<T>,
     name: u8,
     totals: [u64; TOTALS],
@@ -21,27 +21,27 @@ pub struct Place<T> {
     ghost within: { count ≤ MOST_TOTALS },
 }
 
-impl<T: TraceTool> Place<T> {
+impl<T: TraceTool> ToolCounter<T> {
     ghost use Rattle.trace_lines.specs.Grammar.{line_text};
     ghost use Rattle.trace_lines.specs.Known.{Known};
-    ghost use Rattle.trace_tools.specs.Seats.{seat_of, seat_after, seat_line, closed, fed_seat};
-    ghost use Rattle.trace_tools.specs.Places.{seat};
+    ghost use Rattle.trace_tools.specs.Counters.{counter_of, counter_after, counter_line, closed, fed_counter};
+    ghost use Rattle.trace_tools.specs.BusCounters.{counter};
 
-    pub fn of(tool: T) -> Place<T>
-        ensures { seat T.tool result ≡ seat_of (T.tool tool) }
+    pub fn of(tool: T) -> ToolCounter<T>
+        ensures { counter T.tool result ≡ counter_of (T.tool tool) }
     {
-        let mut place = Place {
+        let mut counter = ToolCounter {
             tool: Some(tool),
             name: 0,
             totals: [0; TOTALS],
             count: 0,
         };
-        place.close_ended();
-        place
+        counter.close_ended();
+        counter
     }
 
     fn close_ended(&mut self)
-        ensures { seat T.tool self.new ≡ closed (seat T.tool self.old) }
+        ensures { counter T.tool self.new ≡ closed (counter T.tool self.old) }
     {
         let Some(tool) = &self.tool else {
             return;
@@ -55,7 +55,7 @@ impl<T: TraceTool> Place<T> {
     }
 
     fn pass_on(&mut self, e: &Shown)
-        ensures { seat T.tool self.new ≡ fed_seat e.now (seat T.tool self.old) }
+        ensures { counter T.tool self.new ≡ fed_counter e.now (counter T.tool self.old) }
     {
         if let Some(tool) = &mut self.tool {
             tool.feed(e);
@@ -63,7 +63,7 @@ impl<T: TraceTool> Place<T> {
     }
 
     pub fn feed(&mut self, e: &Shown)
-        ensures { seat T.tool self.new ≡ seat_after e.now (seat T.tool self.old) }
+        ensures { counter T.tool self.new ≡ counter_after e.now (counter T.tool self.old) }
     {
         self.pass_on(e);
         self.close_ended();
@@ -71,7 +71,7 @@ impl<T: TraceTool> Place<T> {
 
     pub fn line(&self, alloc: Global) -> Result<Vec<u8>, NoMemory>
         ensures { (k : Known)
-            → IfOk result (λ v. v.items ≡ line_text k (seat_line (seat T.tool self.now))) }
+            → IfOk result (λ v. v.items ≡ line_text k (counter_line (counter T.tool self.now))) }
     {
         let mut line = Vec::new(alloc);
         match &self.tool {
