@@ -18,7 +18,7 @@ use Rattle.rt_plays.specs.Order.{steps_in_group}
 use Rattle.rt_plays.specs.Plays.{group_with, IsBegunPlay}
 use Rattle.rt_plays.specs.Room.{room}
 use Rattle.rt_plays.specs.Scripts.{script, steps_of}
-use Rattle.cpu_site.specs.Chains.{IsPlace, IsNextFrom}
+use Rattle.cpu_site.specs.Chains.{IsSeatToken, IsNextFrom}
 use Rattle.cpu_site.specs.declared.played.Played.{Played}
 use Rattle.cpu_site.specs.declared.played.Played.TheVariants as plays
 use Rattle.cpu_site.specs.declared.progress.Progress.{Progress}
@@ -77,7 +77,7 @@ pub record IsPlayable (p : Parts) (n : ℕ) : Type 0 where
 
 -- the steps of the processor that were played are those before a place, at which its next one stands
 pub record IsPlayedTo (steps : List Step) (es : List Entry) (q j : ℕ) : Type 0 where
-  pub place : IsPlace steps q j
+  pub place : IsSeatToken steps q j
   pub played : script (steps_of es) q ≡ script (take j steps) q
 
 -- the history is a play as far as it goes, with room for the steps that are left; where the set gives steps, the places are those of the

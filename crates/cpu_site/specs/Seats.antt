@@ -9,7 +9,7 @@ use Rattle.rt_plays.specs.Drives.{horizon}
 use Rattle.rt_plays.specs.Plays.{IsBegunPlay}
 use Rattle.rt_plays.specs.Groups.{GroupHistory}
 use Rattle.turn_cell.specs.Words.{entries_of, AgreeOn, StartsWith}
-use Rattle.turn_cell.specs.Places.{Cell, Place}
+use Rattle.turn_cell.specs.SeatViews.{Cell, SeatView}
 use Rattle.cpu_site.specs.declared.story.GroupOf.{GroupOf}
 use Rattle.cpu_site.specs.declared.progress.Progress.{Progress}
 use Rattle.cpu_site.specs.Playing.{IsFar, IsPlayable, IsNextStep, IsOver}
@@ -37,7 +37,7 @@ place_of_cpu s e = place_in (group_processors (group_at s)) (cpu_of e)
 
 -- the seat of a processor: of which site, of which processor, how many of its turns it gave as over, the entries that it has seen, and how
 -- often it looked at its interrupt word and what it found there the last time
-pub record CpuPlace : Type 0 where
+pub record CpuSeatView : Type 0 where
   pub cell : Cell GroupOf
   pub cpu : ℕ
   pub turns : ℕ
@@ -45,18 +45,18 @@ pub record CpuPlace : Type 0 where
   pub looks : ℕ
   pub found : ℕ
 
-abbrev pub cpu_place : ℕ → ℕ → Place Entry GroupOf → CpuPlace
-cpu_place q turns p = record { cell = p.cell; cpu = q; turns = turns; seen = p.seen; looks = p.looks; found = p.found }
+abbrev pub cpu_seat_view : ℕ → ℕ → SeatView Entry GroupOf → CpuSeatView
+cpu_seat_view q turns p = record { cell = p.cell; cpu = q; turns = turns; seen = p.seen; looks = p.looks; found = p.found }
 
 -- the seat of a processor that has seen nothing, and those of all of these processors
-abbrev pub unused_seat : Cell GroupOf → ℕ → CpuPlace
+abbrev pub unused_seat : Cell GroupOf → ℕ → CpuSeatView
 unused_seat cell q = record { cell = cell; cpu = q; turns = 0; seen = []; looks = 0; found = 0 }
 
-abbrev pub unused_seats : Cell GroupOf → List ℕ → List CpuPlace
+abbrev pub unused_seats : Cell GroupOf → List ℕ → List CpuSeatView
 unused_seats cell qs = map (unused_seat cell) qs
 
 -- the seat, after one look at its interrupt word, which found this number
-abbrev pub looked_up : ℕ → CpuPlace → CpuPlace
+abbrev pub looked_up : ℕ → CpuSeatView → CpuSeatView
 looked_up found p = record p { looks = p.looks + 1; found = found }
 
 abbrev pub is_irq : Act → Bool
@@ -81,7 +81,7 @@ word_taken g q es = raises g q (through_irq q es)
 
 -- the new list begins with the old one and ends with e, which is the processor's one new entry: its next step, with the reply that one
 -- thread gives there
-pub record IsPlay (s : GroupOf) (p : CpuPlace) (e : Entry) (p' : CpuPlace) : Type 0 where
+pub record IsPlay (s : GroupOf) (p : CpuSeatView) (e : Entry) (p' : CpuSeatView) : Type 0 where
   pub own : cpu_of e ≡ p.cpu
   pub between : List Entry
   pub ends : p'.seen ≡ (p.seen ++ between) ++ e ∷ []
@@ -90,17 +90,17 @@ pub record IsPlay (s : GroupOf) (p : CpuPlace) (e : Entry) (p' : CpuPlace) : Typ
   pub reply : e.reply ≡ reply_to (group_at s) e.step (past_of (group_at s) (p.seen ++ between))
 
 -- the new list begins with the old one and has no further entry of the processor
-pub record IsQuiet (p p' : CpuPlace) : Type 0 where
+pub record IsQuiet (p p' : CpuSeatView) : Type 0 where
   pub later : StartsWith p'.seen p.seen
   pub mine : AgreeOn cpu_of p.cpu p'.seen p.seen
 
 -- in the new list the turn of the processor is over, after those that it gave as over
-pub record IsTurnEnd (s : GroupOf) (p p' : CpuPlace) : Type 0 where
+pub record IsTurnEnd (s : GroupOf) (p p' : CpuSeatView) : Type 0 where
   pub quiet : IsQuiet p p'
   pub over : IsTurnDone (group_at s) p.cpu p.turns (past_of (group_at s) p'.seen)
 
 -- in the new list no step of the processor is left, and each of its turns was given as over
-pub record IsEnd (s : GroupOf) (p p' : CpuPlace) : Type 0 where
+pub record IsEnd (s : GroupOf) (p p' : CpuSeatView) : Type 0 where
   pub quiet : IsQuiet p p'
   pub over : IsOver (group_at s) p.cpu p'.seen
   pub all : p.turns ≡ horizon s.setup.drive
@@ -112,7 +112,7 @@ pub record IsSite (s : GroupOf) (count : ℕ) : Type 0 where
 
 -- what a seat keeps: it is that of the processor at its place of the group, which is so far, with the word that this took last, and room
 -- for what it plays
-pub record IsSeat (s : GroupOf) (p : Place Entry GroupOf) (q : ℕ) (at : Progress) (taken : ℕ) (counts : List ℕ) (room : ℕ) : Type 0 where
+pub record IsSeat (s : GroupOf) (p : SeatView Entry GroupOf) (q : ℕ) (at : Progress) (taken : ℕ) (counts : List ℕ) (room : ℕ) : Type 0 where
   pub low : p.cpu < cpu_count (group_at s)
   pub own : cpu_at (group_at s) p.cpu ≡ q
   pub begun : IsBegunPlay (group_at s) p.seen

@@ -7,10 +7,10 @@ ghost use Rattle.rt_plays.specs.Groups.{group_of, IsGroupOf};
 ghost use Rattle.rt_plays.specs.Homes.{IsProcessorOf};
 ghost use Rattle.rt_plays.specs.Plays.{group_with, IsBegunPlay};
 ghost use Rattle.turn_cell.specs.Words.{AgreeOn, StartsWith};
-ghost use Rattle.turn_cell.specs.Places.{fresh};
+ghost use Rattle.turn_cell.specs.SeatViews.{fresh};
 ghost use Rattle.cpu_site.specs.Played.{turns_after, IfDid, IfEnded, IfTurnOver};
 ghost use Rattle.cpu_site.specs.Raises.{cpu_at, cpu_count};
-ghost use Rattle.cpu_site.specs.Seats.{about, cpu_of, cpu_place, group_at, is_irq, looked_up, unused_seat, unused_seats, word_taken, About, IsEnd, IsPlay, IsTurnEnd};
+ghost use Rattle.cpu_site.specs.Seats.{about, cpu_of, cpu_seat_view, group_at, is_irq, looked_up, unused_seat, unused_seats, word_taken, About, IsEnd, IsPlay, IsTurnEnd};
 
 use crate::cpus::cpus_of;
 use crate::gate::Gate;
@@ -43,7 +43,7 @@ pub struct Site {
 
 impl Model for Site {
     ghost use Rattle.std.specs.Prelude.{◌≡◌, Some};
-    ghost use Rattle.turn_cell.specs.Places.{TurnOf};
+    ghost use Rattle.turn_cell.specs.SeatViews.{TurnOf};
     ghost use Rattle.cpu_site.specs.declared.story.GroupOf.{GroupOf};
     ghost use Rattle.cpu_site.specs.Seats.{IsSite};
 
@@ -75,11 +75,11 @@ pub struct CpuSeat {
 
 impl Model for CpuSeat {
     ghost use Rattle.std.specs.Prelude.{◌≡◌, false, vec_capacity};
-    ghost use Rattle.cpu_site.specs.Seats.{cpu_place, About, CpuPlace, IsSeat};
+    ghost use Rattle.cpu_site.specs.Seats.{cpu_seat_view, About, CpuSeatView, IsSeat};
 
-    ghost Value = { CpuPlace };
+    ghost Value = { CpuSeatView };
 
-    ghost view = { λ a. cpu_place a.cpu.0 a.at.turns a.seat };
+    ghost view = { λ a. cpu_seat_view a.cpu.0 a.at.turns a.seat };
 
     ghost invariant = { λ a. (a.seat.holds ≡ false) × (a.seat.cpu ≡ a.place)
         × About a.seat.cell

@@ -15,13 +15,13 @@ use Rattle.rt_rules.proofs.BoolLaws.{and_false}
 use Rattle.rt_model.specs.Blocking.{asked_by, requests}
 use Rattle.rt_model.specs.Jobs.{done}
 use Rattle.rt_model.specs.Past.{Acted, Clock, Past, PastAct, accepted, entries_in, sem_act_of}
-use Rattle.trace_views.specs.JobCounts.{asks_now, changes, migrations, moves, moves_now, preemptions, preempts, queued, queues_now, unit_places, units}
+use Rattle.trace_views.specs.JobCounts.{asks_now, changes, migrations, moves, moves_now, preemptions, preempts, queued, queues_now, unit_cpus, units}
 use Rattle.trace_views.specs.JobMoves.{Test, count_moves, in_job}
 use Rattle.trace_views.specs.JobTimes.{works}
 use Rattle.job_facts.specs.Deeds.{is_lock, locks}
 use Rattle.job_facts.specs.JobLaws.{TalliesAreFew}
 use Rattle.job_facts.specs.Kept.{IsFew}
-use Rattle.job_facts.specs.Places.{request_places}
+use Rattle.job_facts.specs.Places.{request_positions}
 use Rattle.job_facts.specs.Tallies.{jobs_at, tally_at}
 
 -- a test that no move of the clock passes
@@ -51,25 +51,25 @@ changes-few (p ∷ q ∷ ps) = by_case (p == q) (changes-few (q ∷ ps))
     by_case true h = omega (arith, h)
     by_case false h = omega (arith, h)
 
-places-few : (t k : ℕ) (past : Past) → length (unit_places t k past) ≤ entries_in past
-unfolding unit_places
+places-few : (t k : ℕ) (past : Past) → length (unit_cpus t k past) ≤ entries_in past
+unfolding unit_cpus
 places-few t k [] = omega arith
 places-few t k (Clock tick ∷ past) = places-few t k past
 places-few t k (Acted d ∷ past) = by_case (in_job t k (works t) (Acted d) past) (places-few t k past)
   where
-    by_case : (b : Bool) → length (unit_places t k past) ≤ entries_in past → length (if b then (d.cpu ∷ unit_places t k past) else unit_places t k past) ≤ entries_in past + 1
+    by_case : (b : Bool) → length (unit_cpus t k past) ≤ entries_in past → length (if b then (d.cpu ∷ unit_cpus t k past) else unit_cpus t k past) ≤ entries_in past + 1
     by_case true h = omega (arith, h)
     by_case false h = omega (arith, h)
 
 -- a job has as many places of requests as it made
-pub request_places-length : (t k : ℕ) (past : Past) → length (request_places t k past) ≡ count_moves (in_job t k (asks_now t)) past
-unfolding request_places count_moves
-request_places-length t k [] = refl
-request_places-length t k (e ∷ past) = by_case (in_job t k (asks_now t) e past) (request_places-length t k past)
+pub request_positions-length : (t k : ℕ) (past : Past) → length (request_positions t k past) ≡ count_moves (in_job t k (asks_now t)) past
+unfolding request_positions count_moves
+request_positions-length t k [] = refl
+request_positions-length t k (e ∷ past) = by_case (in_job t k (asks_now t) e past) (request_positions-length t k past)
   where
-    by_case : (b : Bool) → length (request_places t k past) ≡ count_moves (in_job t k (asks_now t)) past
-        → length (if b then (request_places t k past ++ length (requests past) ∷ []) else request_places t k past) ≡ (if b then count_moves (in_job t k (asks_now t)) past + 1 else count_moves (in_job t k (asks_now t)) past)
-    by_case true h = length-append (request_places t k past) (length (requests past) ∷ []) ∙ ap (λ n. n + 1) h
+    by_case : (b : Bool) → length (request_positions t k past) ≡ count_moves (in_job t k (asks_now t)) past
+        → length (if b then (request_positions t k past ++ length (requests past) ∷ []) else request_positions t k past) ≡ (if b then count_moves (in_job t k (asks_now t)) past + 1 else count_moves (in_job t k (asks_now t)) past)
+    by_case true h = length-append (request_positions t k past) (length (requests past) ∷ []) ∙ ap (λ n. n + 1) h
     by_case false h = h
 
 pub tallies_are_few : TalliesAreFew
@@ -77,9 +77,9 @@ unfolding tally_at units preemptions migrations moves queued
 tallies_are_few t k past = record {
   units_few = count-few t k (works t) (λ tick p. refl) past;
   preemptions_few = count-few t k (preempts t) (λ tick p. refl) past;
-  migrations_few = omega (arith, changes-few (unit_places t k past), places-few t k past);
+  migrations_few = omega (arith, changes-few (unit_cpus t k past), places-few t k past);
   moves_few = count-few t k (moves_now t) (λ tick p. refl) past;
-  requests_few = omega (arith, request_places-length t k past, count-few t k (asks_now t) (λ tick p. refl) past);
+  requests_few = omega (arith, request_positions-length t k past, count-few t k (asks_now t) (λ tick p. refl) past);
   queued_few = count-few t k (queues_now t) (λ tick p. refl) past;
 }
 
@@ -141,7 +141,7 @@ done-few t (Acted d ∷ past) = by_case (is t d.ended) (done-few t past)
     by_case false h = omega (arith, h)
 
 -- the places of a job's requests
-pub places-kept : (t k : ℕ) (past : Past) → (tally_at t k past).requests ≡ request_places t k past
+pub places-kept : (t k : ℕ) (past : Past) → (tally_at t k past).requests ≡ request_positions t k past
 unfolding tally_at
 places-kept t k past = refl
 

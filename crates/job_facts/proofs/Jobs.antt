@@ -13,7 +13,7 @@ use Rattle.rt_model.specs.Past.{Acted, Clock, Event, Past, PastAct, accepted, no
 use Rattle.rt_model.specs.Reachable.{IsReachable}
 use Rattle.rt_model.specs.Releases.{arrivals, arrives}
 use Rattle.rt_model.proofs.Steps.{done-step, past_act-cpu}
-use Rattle.trace_views.specs.JobCounts.{asks_now, has_worked, is_queued_reply, is_switch_reply, last_place, moves_now, preempts, takes_up}
+use Rattle.trace_views.specs.JobCounts.{asks_now, has_worked, is_queued_reply, is_switch_reply, last_cpu, moves_now, preempts, takes_up}
 use Rattle.trace_views.proofs.Sums.{above_differs, below_differs}
 use Rattle.job_facts.specs.Deeds.{arrived_by, arrived_task, asked, closed, ended, jobs_arrived, jobs_fed, jobs_run, jobs_taken, locks, moved, preempted, ran, worked, works}
 use Rattle.job_facts.specs.JobLaws.{JobsAreKept}
@@ -41,11 +41,11 @@ ended-keeps t e past =
     map-same (λ k. tally_at t k (e ∷ past)) (λ k. tally_at t k past) 1 (done t past) (λ k low high. tally-others t k e past (above_differs (done t past + 1) k (omega (arith, high))))
 
 pub jobs-clock : (t tick : ℕ) (past : Past) → jobs_at t (Clock tick ∷ past) ≡ jobs_at t past
-unfolding jobs_at done last_place arrivals
+unfolding jobs_at done last_cpu arrivals
 jobs-clock t tick past = λ i. record {
   ended = ended-keeps t (Clock tick) past i;
   current = tally-clock t (done t past + 1) tick past i;
-  place = last_place t past;
+  place = last_cpu t past;
   arrivals = arrivals t past;
 }
 
@@ -96,8 +96,8 @@ module _ (g : Group) (q : ℕ) (act : Act) (t : ℕ) (past : Past) (made : IsRea
   unfolding arrivals
   arrivals-shown = ap (λ b. if b then arrivals t past ++ now past ∷ [] else arrivals t past) arrives-shown
 
-  place-shown : last_place t (Acted d ∷ past) ≡ (if takes_up t d.reply then Some d.cpu else last_place t past)
-  unfolding last_place
+  place-shown : last_cpu t (Acted d ∷ past) ≡ (if takes_up t d.reply then Some d.cpu else last_cpu t past)
+  unfolding last_cpu
   place-shown = refl
 
   -- but for the end of a job
@@ -135,7 +135,7 @@ module _ (g : Group) (q : ℕ) (act : Act) (t : ℕ) (past : Past) (made : IsRea
       by_case false h = none-ends h
 
 pub jobs_are_kept : JobsAreKept
-unfolding jobs_at done last_place arrivals
+unfolding jobs_at done last_cpu arrivals
 jobs_are_kept = record {
   opening = λ t i. record { ended = []; current = tally-opening t 1 i; place = None; arrivals = [] };
   clocked = jobs-clock;

@@ -25,10 +25,10 @@ use Rattle.trace_views.specs.JobMoves.{in_job}
 use Rattle.trace_views.specs.JobRows.{job_row, listed}
 use Rattle.trace_views.specs.JobTimes as times
 use Rattle.job_facts.specs.JobLaws.{RowsAreKept}
-use Rattle.job_facts.specs.Places.{request_places}
+use Rattle.job_facts.specs.Places.{request_positions}
 use Rattle.job_facts.specs.Rows.{ends_all_in, ends_in, job_in, listed_in, no_request, release_at, row_from}
 use Rattle.job_facts.specs.Tallies.{Tally, jobs_at, tally_at}
-use Rattle.job_facts.proofs.Few.{request_places-length}
+use Rattle.job_facts.proofs.Few.{request_positions-length}
 
 abbrev none_asked : Asked
 none_asked = record { no = 0; task = 0; sem = 0 }
@@ -63,20 +63,20 @@ asked-length t (Asks u s) n rs h = length-append rs (record { no = n; task = u; 
 asked-length t (Frees u s) n rs h = cc
 asked-length t Neither n rs h = cc
 
-pub placed : (t k : ℕ) (past : Past) → AreBelow (length (requests past)) (request_places t k past)
-unfolding request_places requests
+pub placed : (t k : ℕ) (past : Past) → AreBelow (length (requests past)) (request_positions t k past)
+unfolding request_positions requests
 placed t k [] = All-nil (λ i. i < 0)
 placed t k (e ∷ past) = by_case (in_job t k (asks_now t) e past) refl (placed t k past)
   where
     grown : length (requests past) ≤ length (requests (e ∷ past))
     grown = let more = requests-grow e past in omega (arith, ap length more.1, length-append (requests past) more.0)
 
-    by_case : (b : Bool) → in_job t k (asks_now t) e past ≡ b → AreBelow (length (requests past)) (request_places t k past)
-        → AreBelow (length (requests (e ∷ past))) (if b then (request_places t k past ++ length (requests past) ∷ []) else request_places t k past)
+    by_case : (b : Bool) → in_job t k (asks_now t) e past ≡ b → AreBelow (length (requests past)) (request_positions t k past)
+        → AreBelow (length (requests (e ∷ past))) (if b then (request_positions t k past ++ length (requests past) ∷ []) else request_positions t k past)
     by_case true m low =
         let one : length (requests (e ∷ past)) ≡ length (requests past) + 1 = asked-length t (sem_act e) (entries_in past) (requests past) (both (done t past + 1 == k) (asks t (sem_act e)) m).1 in
-        All-push (λ i. i < length (requests (e ∷ past))) (request_places t k past) (length (requests past)) (below-more (length (requests past)) (length (requests (e ∷ past))) (request_places t k past) grown low) (omega (arith, one))
-    by_case false m low = below-more (length (requests past)) (length (requests (e ∷ past))) (request_places t k past) grown low
+        All-push (λ i. i < length (requests (e ∷ past))) (request_positions t k past) (length (requests past)) (below-more (length (requests past)) (length (requests (e ∷ past))) (request_positions t k past) grown low) (omega (arith, one))
+    by_case false m low = below-more (length (requests past)) (length (requests (e ∷ past))) (request_positions t k past) grown low
 
 -- in these places are the requests of the job
 asked-last : (t : ℕ) (x : SemAct) (n : ℕ) (rs own : List Asked) → asks t x ≡ true → asked_by x n own ≡ own ++ get_or (asked_by x n rs) (length rs) none_asked ∷ []
@@ -86,21 +86,21 @@ asked-last t (Asks u s) n rs own h =
 asked-last t (Frees u s) n rs own h = cc
 asked-last t Neither n rs own h = cc
 
-pub requests-placed : (t k : ℕ) (past : Past) → requests_of t k past ≡ in_places (requests past) (request_places t k past)
-unfolding requests_of request_places requests
+pub requests-placed : (t k : ℕ) (past : Past) → requests_of t k past ≡ in_places (requests past) (request_positions t k past)
+unfolding requests_of request_positions requests
 requests-placed t k [] = refl
 requests-placed t k (e ∷ past) = by_case (in_job t k (asks_now t) e past) refl (requests-placed t k past)
   where
-    kept : in_places (requests (e ∷ past)) (request_places t k past) ≡ in_places (requests past) (request_places t k past)
-    kept = let more = requests-grow e past in ap (λ rs. in_places rs (request_places t k past)) more.1 ∙ stays-in (requests past) more.0 (request_places t k past) (placed t k past)
+    kept : in_places (requests (e ∷ past)) (request_positions t k past) ≡ in_places (requests past) (request_positions t k past)
+    kept = let more = requests-grow e past in ap (λ rs. in_places rs (request_positions t k past)) more.1 ∙ stays-in (requests past) more.0 (request_positions t k past) (placed t k past)
 
-    by_case : (b : Bool) → in_job t k (asks_now t) e past ≡ b → requests_of t k past ≡ in_places (requests past) (request_places t k past)
-        → (if b then asked_by (sem_act e) (entries_in past) (requests_of t k past) else requests_of t k past) ≡ in_places (requests (e ∷ past)) (if b then (request_places t k past ++ length (requests past) ∷ []) else request_places t k past)
+    by_case : (b : Bool) → in_job t k (asks_now t) e past ≡ b → requests_of t k past ≡ in_places (requests past) (request_positions t k past)
+        → (if b then asked_by (sem_act e) (entries_in past) (requests_of t k past) else requests_of t k past) ≡ in_places (requests (e ∷ past)) (if b then (request_positions t k past ++ length (requests past) ∷ []) else request_positions t k past)
     by_case true m before =
         let is : asks t (sem_act e) ≡ true = (both (done t past + 1 == k) (asks t (sem_act e)) m).1 in
         asked-last t (sem_act e) (entries_in past) (requests past) (requests_of t k past) is
         ∙ ap (λ rs. rs ++ get_or (requests (e ∷ past)) (length (requests past)) none_asked ∷ []) (before ∙ sym kept)
-        ∙ sym (map-append (λ i. get_or (requests (e ∷ past)) i none_asked) (request_places t k past) (length (requests past) ∷ []))
+        ∙ sym (map-append (λ i. get_or (requests (e ∷ past)) i none_asked) (request_positions t k past) (length (requests past) ∷ []))
     by_case false m before = before ∙ sym kept
 
 -- so what they saw end is told by the list of requests
@@ -118,15 +118,15 @@ told-at g past f (i ∷ is) low =
     ∙ ap (λ n. told i + n) rest
     ∙ sym (sum_by-cons told i is)
 
-ends-told : (g : Group) (t k : ℕ) (past : Past) → ends_seen g t k past ≡ ends_in (tallies g past) (request_places t k past)
+ends-told : (g : Group) (t k : ℕ) (past : Past) → ends_seen g t k past ≡ ends_in (tallies g past) (request_positions t k past)
 unfolding ends_seen
 ends-told g t k past =
-    ap (λ rs. sum_by (λ (r : Asked). ends g r.no r.task r.sem past) rs) (requests-placed t k past) ∙ told-at g past (λ (x : seen.Tally). x.ends) (request_places t k past) (placed t k past)
+    ap (λ rs. sum_by (λ (r : Asked). ends g r.no r.task r.sem past) rs) (requests-placed t k past) ∙ told-at g past (λ (x : seen.Tally). x.ends) (request_positions t k past) (placed t k past)
 
-ends_all-told : (g : Group) (t k : ℕ) (past : Past) → ends_all_seen g t k past ≡ ends_all_in (tallies g past) (request_places t k past)
+ends_all-told : (g : Group) (t k : ℕ) (past : Past) → ends_all_seen g t k past ≡ ends_all_in (tallies g past) (request_positions t k past)
 unfolding ends_all_seen
 ends_all-told g t k past =
-    ap (λ rs. sum_by (λ (r : Asked). ends_all g r.no r.task r.sem past) rs) (requests-placed t k past) ∙ told-at g past (λ (x : seen.Tally). x.ends_all) (request_places t k past) (placed t k past)
+    ap (λ rs. sum_by (λ (r : Asked). ends_all g r.no r.task r.sem past) rs) (requests-placed t k past) ∙ told-at g past (λ (x : seen.Tally). x.ends_all) (request_positions t k past) (placed t k past)
 
 -- the release
 at-numbers_from : (i n k : ℕ) → k < n → get_or (numbers_from i n) k 0 ≡ i + k
@@ -159,7 +159,7 @@ read g t k past =
       preemptions = preemptions t k past;
       migrations = migrations t k past;
       moves = moves t k past;
-      requests = sym (request_places-length t k past) i;
+      requests = sym (request_positions-length t k past) i;
       queued = queued t k past;
       ends = ends-told g t k past i;
       ends_all = ends_all-told g t k past i;

@@ -11,14 +11,14 @@ use Rattle.rt_rules.proofs.MemberLaws.{equal_self, turned}
 use Rattle.rt_model.specs.Blocking.{asks, requests}
 use Rattle.rt_model.specs.Jobs.{done}
 use Rattle.rt_model.specs.Past.{Acted, Clock, Event, Past, PastAct, accepted, is_work, now, operation, sem_act_of}
-use Rattle.trace_views.specs.JobCounts.{asks_now, changes, is_elsewhere, is_queued_reply, migrations, moves, moves_now, preemptions, preempts, queued, unit_places, units}
+use Rattle.trace_views.specs.JobCounts.{asks_now, changes, is_elsewhere, is_queued_reply, migrations, moves, moves_now, preemptions, preempts, queued, unit_cpus, units}
 use Rattle.trace_views.specs.JobMoves.{clock_if, count_moves, first_clock, last_clock, or_else}
 use Rattle.trace_views.specs.JobTimes.{end, last_unit, start, works}
 use Rattle.trace_views.proofs.JobSums.{done-grows}
 use Rattle.trace_views.proofs.Sums.{below_differs}
 use Rattle.job_facts.specs.Deeds as deeds
 use Rattle.job_facts.specs.Deeds.{asked, ended, is_lock, locks, moved, preempted, worked}
-use Rattle.job_facts.specs.Places.{request_places}
+use Rattle.job_facts.specs.Places.{request_positions}
 use Rattle.job_facts.specs.Tallies.{Tally, nothing, tally_at}
 
 -- a job after an act, where it is its task's current one or not
@@ -57,35 +57,35 @@ queued-after true a c n = refl
 queued-after false a c n = refl
 
 pub tally-step : (t k : ℕ) (d : PastAct) (past : Past) → tally_at t k (Acted d ∷ past) ≡ tally_after (done t past + 1 == k) t d past (tally_at t k past)
-unfolding tally_at start last_unit end unit_places units preemptions migrations moves queued request_places count_moves first_clock last_clock
+unfolding tally_at start last_unit end unit_cpus units preemptions migrations moves queued request_positions count_moves first_clock last_clock
 tally-step t k d past =
     let b : Bool = done t past + 1 == k in λ i. record {
       start = start-after (b && works t (Acted d) past) (start t k past) past i;
       unit = newest-after (b && works t (Acted d) past) (last_unit t k past) past i;
       end = newest-after (b && is t d.ended) (end t k past) past i;
-      place = place-after (b && works t (Acted d) past) d.cpu (unit_places t k past) i;
+      place = place-after (b && works t (Acted d) past) d.cpu (unit_cpus t k past) i;
       units = units t k (Acted d ∷ past);
       preemptions = preemptions t k (Acted d ∷ past);
-      migrations = changes-after (b && works t (Acted d) past) d.cpu (unit_places t k past) i;
+      migrations = changes-after (b && works t (Acted d) past) d.cpu (unit_cpus t k past) i;
       moves = moves t k (Acted d ∷ past);
-      requests = request_places t k (Acted d ∷ past);
+      requests = request_positions t k (Acted d ∷ past);
       queued = queued-after b (asks_now t (Acted d) past) (is_queued_reply d.reply) (queued t k past) i;
     }
 
 -- a move of the clock is none of a job
 pub tally-clock : (t k tick : ℕ) (past : Past) → tally_at t k (Clock tick ∷ past) ≡ tally_at t k past
-unfolding tally_at start last_unit end unit_places units preemptions migrations moves queued request_places count_moves first_clock last_clock
+unfolding tally_at start last_unit end unit_cpus units preemptions migrations moves queued request_positions count_moves first_clock last_clock
 tally-clock t k tick past =
     let b : Bool = done t past + 1 == k in λ i. record {
       start = no-start b (start t k past) past i;
       unit = no-newest b (last_unit t k past) past i;
       end = no-newest b (end t k past) past i;
-      place = first (unit_places t k past);
+      place = first (unit_cpus t k past);
       units = skipped b (units t k past + 1) (units t k past) i;
       preemptions = skipped b (preemptions t k past + 1) (preemptions t k past) i;
       migrations = migrations t k past;
       moves = skipped b (moves t k past + 1) (moves t k past) i;
-      requests = skipped b (request_places t k past ++ length (requests past) ∷ []) (request_places t k past) i;
+      requests = skipped b (request_positions t k past ++ length (requests past) ∷ []) (request_positions t k past) i;
       queued = skipped b (queued t k past + 1) (queued t k past) i;
     }
   where
@@ -114,12 +114,12 @@ tally-current t d past =
     tally-step t (done t past + 1) d past ∙ ap (λ b. tally_after b t d past (tally_at t (done t past + 1) past)) (equal_self (done t past + 1))
 
 pub tally-opening : (t k : ℕ) → tally_at t k [] ≡ nothing
-unfolding tally_at start last_unit end unit_places units preemptions migrations moves queued request_places count_moves first_clock last_clock
+unfolding tally_at start last_unit end unit_cpus units preemptions migrations moves queued request_positions count_moves first_clock last_clock
 tally-opening t k = refl
 
 -- a job that has not begun
 pub tally-none : (t k : ℕ) (past : Past) → done t past + 1 < k → tally_at t k past ≡ nothing
-unfolding tally_at start last_unit end unit_places units preemptions migrations moves queued request_places count_moves first_clock last_clock
+unfolding tally_at start last_unit end unit_cpus units preemptions migrations moves queued request_positions count_moves first_clock last_clock
 tally-none t k [] h = refl
 tally-none t k (e ∷ past) h =
     let low : done t past + 1 < k = omega (arith, h, done-grows t e past) in

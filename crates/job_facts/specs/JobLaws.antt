@@ -13,7 +13,7 @@ use Rattle.trace_views.specs.JobRows.{JobRow, job_row, listed, rows_of}
 use Rattle.trace_views.specs.TaskRows.{task_row}
 use Rattle.job_facts.specs.Deeds.{jobs_fed}
 use Rattle.job_facts.specs.Kept.{IsFew, scene_at}
-use Rattle.job_facts.specs.Places.{request_places}
+use Rattle.job_facts.specs.Places.{request_positions}
 use Rattle.job_facts.specs.Rows.{job_in, listed_in, row_from}
 use Rattle.job_facts.specs.Sums.{added, sums_of, task_row_from}
 use Rattle.job_facts.specs.Tallies.{jobs_at, no_jobs, tally_at}
@@ -36,7 +36,7 @@ pub record RowsAreKept : Type 0 where
       → job_row g t past k ≡ row_from (task g t) (arrivals t past) (tallies g past) (now past) t k (tally_at t k past)
   pub listed : (g : Group) (t : ℕ) (past : Past) → listed g t past ≡ listed_in (task g t) (arrivals t past) (done t past) (now past)
   pub current : (t k : ℕ) (past : Past) → 1 ≤ k → k ≤ done t past + 1 → job_in (jobs_at t past) k ≡ tally_at t k past
-  pub placed : (t k : ℕ) (past : Past) → All (λ i. i < length (requests past)) (request_places t k past)
+  pub placed : (t k : ℕ) (past : Past) → All (λ i. i < length (requests past)) (request_positions t k past)
 
 -- The line of a task is read off what the lines of its jobs come to, which is added up line by line.
 pub record SumsAreKept : Type 0 where

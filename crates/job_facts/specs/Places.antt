@@ -6,7 +6,7 @@ use Rattle.trace_views.specs.JobCounts.{asks_now}
 use Rattle.trace_views.specs.JobMoves.{in_job}
 
 -- the places of the requests of a task's job k among all requests, from 0, in order of asking
-unfoldable pub request_places : ℕ → ℕ → Past → List ℕ
-request_places t k [] = []
-request_places t k (e ∷ past) =
-    if in_job t k (asks_now t) e past then request_places t k past ++ length (requests past) ∷ [] else request_places t k past
+unfoldable pub request_positions : ℕ → ℕ → Past → List ℕ
+request_positions t k [] = []
+request_positions t k (e ∷ past) =
+    if in_job t k (asks_now t) e past then request_positions t k past ++ length (requests past) ∷ [] else request_positions t k past

@@ -6,8 +6,8 @@ use Rattle.rt_model.specs.Past.{Past}
 use Rattle.rt_model.specs.Releases.{arrivals}
 use Rattle.trace_views.specs.JobTimes as times
 use Rattle.trace_views.specs.JobCounts as counts
-use Rattle.trace_views.specs.JobCounts.{last_place, unit_places}
-use Rattle.job_facts.specs.Places.{request_places}
+use Rattle.trace_views.specs.JobCounts.{last_cpu, unit_cpus}
+use Rattle.job_facts.specs.Places.{request_positions}
 
 -- a job: the clocks of its first and its newest unit and of its end, the processor of its newest unit, its counts, and the places of its
 -- requests among all requests, from 0
@@ -36,12 +36,12 @@ tally_at t k past = record {
   start = times.start t k past;
   unit = times.last_unit t k past;
   end = times.end t k past;
-  place = first (unit_places t k past);
+  place = first (unit_cpus t k past);
   units = counts.units t k past;
   preemptions = counts.preemptions t k past;
   migrations = counts.migrations t k past;
   moves = counts.moves t k past;
-  requests = request_places t k past;
+  requests = request_positions t k past;
   queued = counts.queued t k past;
 }
 
@@ -50,7 +50,7 @@ unfoldable pub jobs_at : ℕ → Past → Jobs
 jobs_at t past = record {
   ended = map (λ k. tally_at t k past) (numbers_from 1 (done t past));
   current = tally_at t (done t past + 1) past;
-  place = last_place t past;
+  place = last_cpu t past;
   arrivals = arrivals t past;
 }
 

@@ -39,7 +39,7 @@ use Rattle.part_player.proofs.OwnParts.{own-seat}
 use Rattle.part_seat.specs.AtTurns.{About, HasGiven, IsFound}
 use Rattle.part_seat.specs.Partitions.{IsMeeting, IsSeatAt, Seat, books_in}
 use Rattle.part_seat.proofs.BookLists.{books-at, put, put-grown, put-here, put-others, set-here, set-others}
-use Rattle.part_seat.proofs.PlaceLaws.{IsPlace}
+use Rattle.part_seat.proofs.PlaceLaws.{IsSeatToken}
 
 equal-clash : (i j : ℕ) → i ≡ j → nat_eq i j ≡ false → ⊥
 equal-clash i j e k = let t = equal_self j in let u = ap (λ x. nat_eq x j) e in cc
@@ -108,7 +108,7 @@ module _ (p : Parts) (q : ℕ) (es : List SplitEntry) (seats : List Seat) (playe
         (may_release_book p q s t (put books s fs) es x (stands t x next frees.names frees.low frees.high frees.at_home) frees.holds)
 
   -- so it is at the seat, to which the processor comes under this number
-  module _ (s : ℕ) (d : Seat) (at : IsPlace p q s seats d) (n : ℕ) (own : n ≡ q) (t : ℕ) (x : Step) (next : ComesNext (own_script p q) q es x) where
+  module _ (s : ℕ) (d : Seat) (at : IsSeatToken p q s seats d) (n : ℕ) (own : n ≡ q) (t : ℕ) (x : Step) (next : ComesNext (own_script p q) q es x) where
     abbrev seat : Seat
     seat = slice_index_or seats (s - 1) d
 

@@ -11,7 +11,7 @@ use Rattle.rt_model.specs.Group.{Group, sems}
 use Rattle.rt_plays.specs.Drives.{steps_given}
 use Rattle.rt_plays.specs.Room.{processor_count}
 use Rattle.rt_plays.specs.Scripts.{script}
-use Rattle.turn_cell.specs.Places.{TurnOf}
+use Rattle.turn_cell.specs.SeatViews.{TurnOf}
 use Rattle.split_set.specs.SplitSets.{is_split_set}
 use Rattle.split_set.specs.declared.TheConstants.{MOST_SPLIT_STEPS}
 use Rattle.split_inbox.specs.Sums.{sum_of}
@@ -44,7 +44,7 @@ cells-at turns seats i t d same low =
     sym (get_or-map (λ (a : Seat). a.cell) seats i d t.cell low) ∙ ap (λ l. slice_index_or l i t.cell) (sym same) ∙ get_or-map (λ (x : TurnOf SemOf). x.cell) turns i t t.cell (omega (arith, count, low))
 
 -- where the seat of a semaphore stands
-pub record IsPlace (p : Parts) (q s : ℕ) (seats : List Seat) (d : Seat) : Type 0 where
+pub record IsSeatToken (p : Parts) (q s : ℕ) (seats : List Seat) (d : Seat) : Type 0 where
   pub low : 1 ≤ s
   pub high : s - 1 < length seats
   pub seat : IsSeatAt p q s (slice_index_or seats (s - 1) d)
@@ -52,7 +52,7 @@ pub record IsPlace (p : Parts) (q s : ℕ) (seats : List Seat) (d : Seat) : Type
 pub within-seats : (p : Parts) (q s : ℕ) (seats : List Seat) (past : PartPast) → IsMeeting p q seats past → has s (sems (part_group p q)) ≡ true → (1 ≤ s) × (s - 1 < length seats)
 within-seats p q s seats past meeting known = let r = sem-range (part_group p q) s known in let n = meeting.count in (r.0, omega (arith, r.0, r.1, n))
 
-pub place-of : (p : Parts) (q s : ℕ) (seats : List Seat) (past : PartPast) (d : Seat) → IsMeeting p q seats past → has s (sems (part_group p q)) ≡ true → IsPlace p q s seats d
+pub place-of : (p : Parts) (q s : ℕ) (seats : List Seat) (past : PartPast) (d : Seat) → IsMeeting p q seats past → has s (sems (part_group p q)) ≡ true → IsSeatToken p q s seats d
 place-of p q s seats past d meeting known =
     let r = within-seats p q s seats past meeting known in
     let back : s - 1 + 1 ≡ s = omega (arith, r.0) in
@@ -68,7 +68,7 @@ quotas-few p s valid split =
     let few = few-steps p valid split in
     omega (arith, same, within, kept, few)
 
-pub few-there : (p : Parts) (q s : ℕ) (seats : List Seat) (d : Seat) → IsPlace p q s seats d → IsOfSplit p q → About (slice_index_or seats (s - 1) d) (λ x. sum_of x.quotas < 2 ^ 32)
+pub few-there : (p : Parts) (q s : ℕ) (seats : List Seat) (d : Seat) → IsSeatToken p q s seats d → IsOfSplit p q → About (slice_index_or seats (s - 1) d) (λ x. sum_of x.quotas < 2 ^ 32)
 few-there p q s seats d at of x here =
     let few = quotas-few p s of.valid of.split in
     let same = ap (λ (y : SemOf). sum_of y.quotas) (some-same (sym at.seat.about ∙ here)) in

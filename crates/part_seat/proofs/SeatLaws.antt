@@ -6,7 +6,7 @@ use Rattle.rt_base.specs.declared.TaskNo.{TaskNo}
 use Rattle.rt_task.specs.declared.Parts.{Parts}
 use Rattle.rt_rules.specs.Numbers.{has}
 use Rattle.rt_model.specs.Group.{Group}
-use Rattle.turn_cell.specs.Places.{Cell}
+use Rattle.turn_cell.specs.SeatViews.{Cell}
 use Rattle.split_rules.specs.Matching.{claims}
 use Rattle.split_rules.specs.PartHistories.{after, past_from, past_of}
 use Rattle.split_rules.specs.PartLinks.{tasks}
@@ -28,7 +28,7 @@ use Rattle.part_player.specs.Players.{take_entry}
 use Rattle.part_player.proofs.OwnParts.{own-task}
 use Rattle.part_seat.specs.AtTurns.{HasTaken, IsNext, IsSamePart, plain_claim, taken_claim}
 use Rattle.part_seat.specs.Partitions.{PartOf, books_in, group_of, past_at}
-use Rattle.part_seat.specs.PartSeats.{ArePosters, IsPartSeat, IsPartition, IsUnplayed, PartPlace, posted_in, taken_in}
+use Rattle.part_seat.specs.PartSeats.{ArePosters, IsPartSeat, IsPartition, IsUnplayed, PartSeatView, posted_in, taken_in}
 use Rattle.part_seat.specs.Steps.{HasStepped}
 use Rattle.part_seat.specs.declared.passed.Played2.{Played2}
 use Rattle.part_seat.proofs.RisingLaws.{last-is-greatest}
@@ -115,7 +115,7 @@ reserved turns part posters taker room seat = record {
 }
 
 -- nothing was played
-pub unplayed-seat : (turns : List (Cell SemOf)) (a : PartPlace) → IsUnplayed turns a → IsPartSeat turns a
+pub unplayed-seat : (turns : List (Cell SemOf)) (a : PartSeatView) → IsUnplayed turns a → IsPartSeat turns a
 unfolding past_of past_from deeds
 unplayed-seat turns a un = record {
   cells_are = un.cells_are;

@@ -14,7 +14,7 @@ use Rattle.rt_plays.specs.Drives.{steps_given}
 use Rattle.rt_plays.specs.Plays.{group_with}
 use Rattle.rt_plays.specs.Room.{processor_count}
 use Rattle.rt_plays.specs.Scripts.{script}
-use Rattle.turn_cell.specs.Places.{Cell, split_off}
+use Rattle.turn_cell.specs.SeatViews.{Cell, split_off}
 use Rattle.split_set.specs.declared.TheConstants.{MOST_SPLIT_STEPS}
 use Rattle.split_rules.specs.PartLinks.{tasks}
 use Rattle.split_rules.specs.PartPast.{Claim, PartPast}

@@ -7,7 +7,7 @@ use Rattle.rt_task.specs.declared.Parts.{Parts}
 use Rattle.rt_plays.proofs.SetLimits.{sets_are_in_limits}
 use Rattle.rt_model.specs.Group.{Group}
 use Rattle.rt_rules.specs.Numbers.{has}
-use Rattle.turn_cell.specs.Places.{Cell, HasCpu, IsJoined}
+use Rattle.turn_cell.specs.SeatViews.{Cell, HasCpu, IsJoined}
 use Rattle.turn_cell.specs.Words.{AgreeOn, longer}
 use Rattle.split_rules.specs.Matching.{Books, claims, granted_at, granted_in, own, taken_at}
 use Rattle.split_rules.specs.PartHistories.{after, past_of}

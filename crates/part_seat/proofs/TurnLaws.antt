@@ -1,6 +1,6 @@
 -- What a seat has seen, once its turn was taken and given back.
 use Rattle.std.proofs.Common.{◌≡◌, ℕ, false, List, [], ◌∷◌, ◌++◌, Some, sym, ap, ◌∙◌, subst}
-use Rattle.turn_cell.specs.Places.{Cell, given_back, taken}
+use Rattle.turn_cell.specs.SeatViews.{Cell, given_back, taken}
 use Rattle.turn_cell.specs.Words.{AgreeOn, StartsWith}
 use Rattle.split_rules.specs.declared.SemEntry.{SemEntry}
 use Rattle.split_inbox.specs.Books.{BookOf, IsHistory, IsLegalSem, cpu_of}

@@ -5,7 +5,7 @@ use Rattle.rt_rules.specs.Numbers.{numbers_from}
 use Rattle.rt_model.specs.Group.{Group}
 use Rattle.rt_plays.specs.Room.{processor_count}
 use Rattle.split_rules.specs.SemHistories.{seat_of}
-use Rattle.turn_cell.specs.Places.{Cell}
+use Rattle.turn_cell.specs.SeatViews.{Cell}
 use Rattle.split_rules.specs.Matching.{claims}
 use Rattle.split_rules.specs.PartLinks.{tasks}
 use Rattle.split_rules.specs.PartPast.{Claim, deeds}
@@ -22,7 +22,7 @@ use Rattle.part_seat.specs.AtTurns.{claim_passed, plain_claim, taken_claim}
 use Rattle.part_seat.specs.declared.passed.Passed.{Passed}
 
 -- the partition, the poster of each inbox, by the number of its processor, and the taker of its own
-pub record PartPlace : Type 0 where
+pub record PartSeatView : Type 0 where
   pub part : PartOf
   pub posters : List PosterOf
   pub taker : TakerOf
@@ -62,7 +62,7 @@ pub record IsPartition (a : PartOf) : Type 0 where
   pub meeting : IsMeeting a.setup a.cpu a.seats (past_at a)
 
 -- and what each such seat keeps beside it, where these are the turns of the semaphores
-pub record IsPartSeat (turns : List (Cell SemOf)) (a : PartPlace) : Type 0 where
+pub record IsPartSeat (turns : List (Cell SemOf)) (a : PartSeatView) : Type 0 where
   pub cells_are : cells_of a.part.seats ≡ turns
   pub posters_are : ArePosters a.part.setup a.part.cpu a.posters
   pub taker_tasks : a.taker.tasks ≡ tasks (group_of a.part) a.part.cpu
@@ -73,11 +73,11 @@ pub record IsPartSeat (turns : List (Cell SemOf)) (a : PartPlace) : Type 0 where
   pub from : (x : TakenGrant) → Among x (taken_in a.taker) → cpu_at (books_in a.part.seats x.claim.sem) x.claim.no ≡ Some x.from
 
 -- a seat that has room for so many entries more, and is the same beside
-abbrev pub with_room : ℕ → PartPlace → PartPlace
+abbrev pub with_room : ℕ → PartSeatView → PartSeatView
 with_room room a = record a { part = record a.part { room = room } }
 
 -- a seat of which nothing was played
-pub record IsUnplayed (turns : List (Cell SemOf)) (a : PartPlace) : Type 0 where
+pub record IsUnplayed (turns : List (Cell SemOf)) (a : PartSeatView) : Type 0 where
   pub entries : a.part.entries ≡ []
   pub unseen : (s : ℕ) → books_in a.part.seats s ≡ []
   pub cells_are : cells_of a.part.seats ≡ turns

@@ -2,7 +2,7 @@
 use Rattle.std.specs.Prelude.{◌≡◌, ℕ, zero, suc, ◌+◌, ◌<◌, false, List, [], length, map, Some, slice_index_or}
 use Rattle.rt_task.specs.declared.Parts.{Parts}
 use Rattle.rt_model.specs.Group.{Group}
-use Rattle.turn_cell.specs.Places.{Cell, Place}
+use Rattle.turn_cell.specs.SeatViews.{Cell, SeatView}
 use Rattle.split_rules.specs.Matching.{Books}
 use Rattle.split_rules.specs.PartHistories.{past_of}
 use Rattle.split_rules.specs.PartPast.{PartPast}
@@ -16,7 +16,7 @@ use Rattle.split_turns.specs.SplitTurns.{book_of}
 
 -- a seat at the turn of a semaphore's book
 abbrev pub Seat : Type 0
-Seat = Place SemEntry SemOf
+Seat = SeatView SemEntry SemOf
 
 -- lists as the histories of semaphores 1, 2 and so on
 abbrev pub books_of : List (List SemEntry) → Books

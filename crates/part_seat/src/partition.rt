@@ -6,7 +6,7 @@ ghost use Rattle.split_rules.specs.PartLinks.{tasks};
 ghost use Rattle.split_rules.specs.PartHistories.{steps_of};
 ghost use Rattle.split_rules.specs.SemHistories.{seat_of};
 ghost use Rattle.split_set.specs.SplitSets.{is_split_set};
-ghost use Rattle.turn_cell.specs.Places.{split_off};
+ghost use Rattle.turn_cell.specs.SeatViews.{split_off};
 ghost use Rattle.part_player.specs.Players.{own_script};
 ghost use Rattle.part_seat.specs.PartSeats.{IsPartition};
 ghost use Rattle.part_seat.specs.AtTurns.{HasPlayed, HasTaken, IsNext, taken_claim};

@@ -25,9 +25,9 @@ pub struct PartSeat<N: Names> {
 }
 
 impl<N: Names> Model for PartSeat<N> {
-    ghost use Rattle.part_seat.specs.PartSeats.{IsPartSeat, PartPlace};
+    ghost use Rattle.part_seat.specs.PartSeats.{IsPartSeat, PartSeatView};
 
-    ghost Value = { PartPlace };
+    ghost Value = { PartSeatView };
 
     ghost view = { λ a. record { part = a.part; posters = a.senders.items; taker = a.taker } };
 

@@ -1,6 +1,6 @@
 //! What a processor does at the turn of a semaphore's book.
 ghost use Rattle.std.specs.Prelude.{◌≡◌, ◌+◌, ◌<◌, ◌^◌, false, length};
-ghost use Rattle.turn_cell.specs.Places.{split_off};
+ghost use Rattle.turn_cell.specs.SeatViews.{split_off};
 ghost use Rattle.split_inbox.specs.Books.{entry};
 ghost use Rattle.split_inbox.specs.Sums.{sum_of};
 ghost use Rattle.part_books.specs.PartBooks.{CanAsk, CanRelease};

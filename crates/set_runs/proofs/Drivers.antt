@@ -5,9 +5,9 @@ use Rattle.rt_base.specs.declared.NoMemory.{NoMemory}
 use Rattle.std.proofs.lemmas.List.{get_or-map, length-map, nil_from_length, take-append-le}
 use Rattle.std.proofs.lemmas.List.Elements.{All-get_or, All-head, All-pop, All-rest, All-same}
 use Rattle.tick_clock.specs.Clocks.{fresh, Clock, Sight}
-use Rattle.turn_cell.specs.Places.{Cell}
+use Rattle.turn_cell.specs.SeatViews.{Cell}
 use Rattle.cpu_site.specs.declared.story.GroupOf.{GroupOf}
-use Rattle.cpu_site.specs.Seats.{CpuPlace}
+use Rattle.cpu_site.specs.Seats.{CpuSeatView}
 use Rattle.set_runs.specs.declared.driver.Driver.{Driver}
 use Rattle.set_runs.specs.inside.Drivers.{AreAtWork, AreOver, AreStill, IsAtWork}
 use Rattle.set_runs.specs.Runs.{AreDriven, IsDriven}
@@ -17,60 +17,60 @@ module _ (cell : Cell GroupOf) (clock : Clock) where
   -- ---- as they are made
 
   -- so many of the seats have a driver, and a seat of the clock is left for each of the others
-  pub record AreMade (all : List CpuPlace) (rest : List CpuPlace) (turns : List Sight) (drivers : List Driver) : Type 0 where
-    pub gone : List CpuPlace
+  pub record AreMade (all : List CpuSeatView) (rest : List CpuSeatView) (turns : List Sight) (drivers : List Driver) : Type 0 where
+    pub gone : List CpuSeatView
     pub split : all ≡ gone ++ rest
     pub made : AreAtWork cell clock gone drivers
-    pub seats : All (λ (p : CpuPlace). (p.cell ≡ cell) × (p.turns ≡ 0)) rest
+    pub seats : All (λ (p : CpuSeatView). (p.cell ≡ cell) × (p.turns ≡ 0)) rest
     pub left : All (λ (t : Sight). t ≡ fresh clock) turns
     pub count : length turns ≡ length rest
 
-  pub made-none : (all rest : List CpuPlace) (turns : List Sight) (drivers : List Driver) → rest ≡ all → drivers ≡ [] → All (λ (p : CpuPlace). (p.cell ≡ cell) × (p.turns ≡ 0)) all
+  pub made-none : (all rest : List CpuSeatView) (turns : List Sight) (drivers : List Driver) → rest ≡ all → drivers ≡ [] → All (λ (p : CpuSeatView). (p.cell ≡ cell) × (p.turns ≡ 0)) all
       → All (λ (t : Sight). t ≡ fresh clock) turns → length turns ≡ length all → AreMade all rest turns drivers
   made-none all rest turns drivers same none seats left count = record {
     gone = [];
     split = sym same;
-    made = subst (AreAtWork cell clock []) (sym none) (each-none (λ (p : CpuPlace) (d : Driver). IsAtWork cell clock p.cpu d));
-    seats = All-same (λ (p : CpuPlace). (p.cell ≡ cell) × (p.turns ≡ 0)) rest all same seats;
+    made = subst (AreAtWork cell clock []) (sym none) (each-none (λ (p : CpuSeatView) (d : Driver). IsAtWork cell clock p.cpu d));
+    seats = All-same (λ (p : CpuSeatView). (p.cell ≡ cell) × (p.turns ≡ 0)) rest all same seats;
     left = left;
     count = count ∙ ap length (sym same);
   }
 
   -- a clock's seat is left where a seat is
-  pub some-left : (all rest rest' : List CpuPlace) (turns : List Sight) (drivers : List Driver) (p : CpuPlace) → AreMade all rest turns drivers → rest ≡ p ∷ rest' → 0 < length turns
+  pub some-left : (all rest rest' : List CpuSeatView) (turns : List Sight) (drivers : List Driver) (p : CpuSeatView) → AreMade all rest turns drivers → rest ≡ p ∷ rest' → 0 < length turns
   some-left all rest rest' turns drivers p are is = let c = are.count in let l = ap length is in omega (arith, c, l)
 
-  pub made-more : (all rest rest' : List CpuPlace) (turns turns' : List Sight) (drivers drivers' : List Driver) (p : CpuPlace) (t : Sight) (d : Driver) → AreMade all rest turns drivers → rest ≡ p ∷ rest' → turns ≡ turns' ++ t ∷ []
+  pub made-more : (all rest rest' : List CpuSeatView) (turns turns' : List Sight) (drivers drivers' : List Driver) (p : CpuSeatView) (t : Sight) (d : Driver) → AreMade all rest turns drivers → rest ≡ p ∷ rest' → turns ≡ turns' ++ t ∷ []
       → drivers' ≡ drivers ++ d ∷ [] → d.seat ≡ p → d.turns ≡ t → (d.is_over ≡ true → ⊥) → AreMade all rest' turns' drivers'
   made-more all rest rest' turns turns' drivers drivers' p t d are is popped added seat_is turns_is going =
-      let here = All-head (λ (x : CpuPlace). (x.cell ≡ cell) × (x.turns ≡ 0)) p rest' (subst (λ (xs : List CpuPlace). All (λ (x : CpuPlace). (x.cell ≡ cell) × (x.turns ≡ 0)) xs) is are.seats) in
+      let here = All-head (λ (x : CpuSeatView). (x.cell ≡ cell) × (x.turns ≡ 0)) p rest' (subst (λ (xs : List CpuSeatView). All (λ (x : CpuSeatView). (x.cell ≡ cell) × (x.turns ≡ 0)) xs) is are.seats) in
       let pop = All-pop (λ (x : Sight). x ≡ fresh clock) turns turns' (Some t) popped are.left in
       let work : IsAtWork cell clock p.cpu d = record {
-        cell_is = ap (λ (x : CpuPlace). x.cell) seat_is ∙ here.0;
+        cell_is = ap (λ (x : CpuSeatView). x.cell) seat_is ∙ here.0;
         clock_is = ap (λ (x : Sight). x.clock) (turns_is ∙ pop.1);
-        cpu_is = ap (λ (x : CpuPlace). x.cpu) seat_is;
-        passes = ap (λ (x : Sight). x.passes) (turns_is ∙ pop.1) ∙ sym (ap (λ (x : CpuPlace). x.turns) seat_is ∙ here.1);
+        cpu_is = ap (λ (x : CpuSeatView). x.cpu) seat_is;
+        passes = ap (λ (x : Sight). x.passes) (turns_is ∙ pop.1) ∙ sym (ap (λ (x : CpuSeatView). x.turns) seat_is ∙ here.1);
         over = λ yes. absurd (going yes);
       } in
       record {
         gone = are.gone ++ p ∷ [];
-        split = are.split ∙ ap (λ (xs : List CpuPlace). are.gone ++ xs) is ∙ sym (append_assoc are.gone (p ∷ []) rest');
-        made = subst (AreAtWork cell clock (are.gone ++ p ∷ [])) (sym added) (each-more (λ (x : CpuPlace) (e : Driver). IsAtWork cell clock x.cpu e) are.gone drivers p d are.made work);
-        seats = All-rest (λ (x : CpuPlace). (x.cell ≡ cell) × (x.turns ≡ 0)) p rest' rest is are.seats;
+        split = are.split ∙ ap (λ (xs : List CpuSeatView). are.gone ++ xs) is ∙ sym (append_assoc are.gone (p ∷ []) rest');
+        made = subst (AreAtWork cell clock (are.gone ++ p ∷ [])) (sym added) (each-more (λ (x : CpuSeatView) (e : Driver). IsAtWork cell clock x.cpu e) are.gone drivers p d are.made work);
+        seats = All-rest (λ (x : CpuSeatView). (x.cell ≡ cell) × (x.turns ≡ 0)) p rest' rest is are.seats;
         left = pop.0;
         count = let c = are.count in let l = ap length is in let k = ap length popped in omega (arith, c, l, k, length-append turns' (t ∷ []));
       }
 
-  pub made-all : (all rest : List CpuPlace) (turns : List Sight) (drivers : List Driver) → AreMade all rest turns drivers → length rest ≡ 0 → AreAtWork cell clock all drivers
+  pub made-all : (all rest : List CpuSeatView) (turns : List Sight) (drivers : List Driver) → AreMade all rest turns drivers → length rest ≡ 0 → AreAtWork cell clock all drivers
   made-all all rest turns drivers are none =
-      subst (λ (xs : List CpuPlace). AreAtWork cell clock xs drivers) (sym (are.split ∙ ap (λ (xs : List CpuPlace). are.gone ++ xs) (nil_from_length rest none) ∙ append-nil are.gone)) are.made
+      subst (λ (xs : List CpuSeatView). AreAtWork cell clock xs drivers) (sym (are.split ∙ ap (λ (xs : List CpuSeatView). are.gone ++ xs) (nil_from_length rest none) ∙ append-nil are.gone)) are.made
 
   -- ---- as they play
 
   -- each is that of its own processor
-  pub work-own : (seats : List CpuPlace) (ds : List Driver) → AreAtWork cell clock seats ds → All (λ (d : Driver). IsAtWork cell clock d.seat.cpu d) ds
+  pub work-own : (seats : List CpuSeatView) (ds : List Driver) → AreAtWork cell clock seats ds → All (λ (d : Driver). IsAtWork cell clock d.seat.cpu d) ds
   work-own seats ds are =
-      each-all (λ (p : CpuPlace) (d : Driver). IsAtWork cell clock p.cpu d) (λ (d : Driver). IsAtWork cell clock d.seat.cpu d) seats ds are
+      each-all (λ (p : CpuSeatView) (d : Driver). IsAtWork cell clock p.cpu d) (λ (d : Driver). IsAtWork cell clock d.seat.cpu d) seats ds are
       (λ p d work. subst (λ (q : ℕ). IsAtWork cell clock q d) (sym work.cpu_is) work)
 
   pub still-own : (ds es : List Driver) → AreStill cell clock ds es → All (λ (e : Driver). IsAtWork cell clock e.seat.cpu e) es
@@ -95,22 +95,22 @@ module _ (cell : Cell GroupOf) (clock : Clock) where
       each-set (λ (d x : Driver). IsAtWork cell clock d.seat.cpu x) ds es i f are inside
       (λ d. on-work (get_or ds i d) e f (subst (λ (x : Driver). IsAtWork cell clock (get_or ds i d).seat.cpu x) (sym read) (are.each i d e inside)) work)
 
-  pub work-on : (seats : List CpuPlace) (ds es : List Driver) → AreAtWork cell clock seats ds → AreStill cell clock ds es → AreAtWork cell clock seats es
+  pub work-on : (seats : List CpuSeatView) (ds es : List Driver) → AreAtWork cell clock seats ds → AreStill cell clock ds es → AreAtWork cell clock seats es
   work-on seats ds es first second =
-      each-chain (λ (p : CpuPlace) (d : Driver). IsAtWork cell clock p.cpu d) (λ (d e : Driver). IsAtWork cell clock d.seat.cpu e) (λ (p : CpuPlace) (e : Driver). IsAtWork cell clock p.cpu e) seats ds es first second
+      each-chain (λ (p : CpuSeatView) (d : Driver). IsAtWork cell clock p.cpu d) (λ (d e : Driver). IsAtWork cell clock d.seat.cpu e) (λ (p : CpuSeatView) (e : Driver). IsAtWork cell clock p.cpu e) seats ds es first second
       (λ p d e a b. subst (λ (q : ℕ). IsAtWork cell clock q e) a.cpu_is b)
 
   -- ---- at the end
 
-  pub work-done : (seats after : List CpuPlace) (ds : List Driver) → AreAtWork cell clock seats ds → AreOver ds → after ≡ map (λ (d : Driver). d.seat) ds → AreDriven cell seats after
+  pub work-done : (seats after : List CpuSeatView) (ds : List Driver) → AreAtWork cell clock seats ds → AreOver ds → after ≡ map (λ (d : Driver). d.seat) ds → AreDriven cell seats after
   work-done seats after ds are over is = record {
     all = ap length is ∙ length-map ds (λ (d : Driver). d.seat) ∙ are.all;
     each = λ i p p' lt.
         let low : i < length ds = (let all = are.all in omega (arith, lt, all)) in
         let d : Driver = some-of ds i low in
         let work = are.each i p d lt in
-        let seat : get_or after i p' ≡ (get_or ds i d).seat = ap (λ (ps : List CpuPlace). get_or ps i p') is ∙ get_or-map (λ (x : Driver). x.seat) ds i d p' low in
-        subst (λ (x : CpuPlace). IsDriven cell (get_or seats i p) x) (sym seat) (record {
+        let seat : get_or after i p' ≡ (get_or ds i d).seat = ap (λ (ps : List CpuSeatView). get_or ps i p') is ∙ get_or-map (λ (x : Driver). x.seat) ds i d p' low in
+        subst (λ (x : CpuSeatView). IsDriven cell (get_or seats i p) x) (sym seat) (record {
           cell_is = work.cell_is;
           cpu_is = work.cpu_is;
           over = work.over (All-get_or (λ (x : Driver). x.is_over ≡ true) ds i d low over);
@@ -118,7 +118,7 @@ module _ (cell : Cell GroupOf) (clock : Clock) where
   }
 
   -- the drivers lie at the front of what was written
-  pub all-done : {X : Type 0} (items : X → List CpuPlace) (r : Result X NoMemory) (seats : List CpuPlace) (ds more : List Driver) (n : ℕ) → AreAtWork cell clock seats ds → AreOver ds → n ≡ length ds
+  pub all-done : {X : Type 0} (items : X → List CpuSeatView) (r : Result X NoMemory) (seats : List CpuSeatView) (ds more : List Driver) (n : ℕ) → AreAtWork cell clock seats ds → AreOver ds → n ≡ length ds
       → IfOk r (λ v. items v ≡ map (λ (d : Driver). d.seat) (take n (ds ++ more))) → IfOk r (λ v. AreDriven cell seats (items v))
   all-done items (Ok v) seats ds more n are over all is =
       let front : take n (ds ++ more) ≡ ds = take-append-le n ds more (omega (arith, all)) ∙ take_all n ds (omega (arith, all)) in

@@ -4,21 +4,21 @@ use Rattle.rt_task.specs.declared.Parts.{Parts}
 use Rattle.rt_plays.specs.Groups.{GroupHistory, group_of}
 use Rattle.rt_plays.specs.Plays.{IsPlay}
 use Rattle.trace_text.specs.Groups.{AreGroupsOf}
-use Rattle.turn_cell.specs.Places.{Cell}
+use Rattle.turn_cell.specs.SeatViews.{Cell}
 use Rattle.cpu_site.specs.declared.story.GroupOf.{GroupOf}
 use Rattle.cpu_site.specs.Playing.{IsOver}
-use Rattle.cpu_site.specs.Seats.{group_at, About, CpuPlace}
+use Rattle.cpu_site.specs.Seats.{group_at, About, CpuSeatView}
 use Rattle.set_runs.specs.Lists.{AreEach}
 
 -- a seat that comes back: that of the same processor of the same site, of which no step is left
-pub record IsDriven (cell : Cell GroupOf) (before after : CpuPlace) : Type 0 where
+pub record IsDriven (cell : Cell GroupOf) (before after : CpuSeatView) : Type 0 where
   pub cell_is : after.cell ≡ cell
   pub cpu_is : after.cpu ≡ before.cpu
   pub over : About cell (λ s. IsOver (group_at s) before.cpu after.seen)
 
 -- that holds of each of the seats, in order
-abbrev pub AreDriven : Cell GroupOf → List CpuPlace → List CpuPlace → Type 0
-AreDriven cell before after = AreEach (λ (p p' : CpuPlace). IsDriven cell p p') before after
+abbrev pub AreDriven : Cell GroupOf → List CpuSeatView → List CpuSeatView → Type 0
+AreDriven cell before after = AreEach (λ (p p' : CpuSeatView). IsDriven cell p p') before after
 
 -- a group of the setup, whose history is a play of it
 pub record IsRunOf (p : Parts) (n : ℕ) (h : GroupHistory) : Type 0 where

@@ -1,7 +1,7 @@
 -- Grants.
 use Rattle.std.specs.Prelude.{◌≡◌, ℕ, ◌-◌, ◌≤◌, false, List, Some, slice_get}
 use Rattle.rt_base.specs.declared.TaskNo.{TaskNo}
-use Rattle.turn_cell.specs.Places.{Cell, Place, IsSplitOff}
+use Rattle.turn_cell.specs.SeatViews.{Cell, Place, IsSplitOff}
 use Rattle.split_inbox.specs.Books.{IsLegalSem}
 use Rattle.split_rules.specs.declared.SemAct.TheVariants as acts
 use Rattle.split_rules.specs.declared.SemEntry.{SemEntry}

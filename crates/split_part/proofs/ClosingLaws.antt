@@ -4,7 +4,7 @@ use Rattle.std.specs.Prelude.{All, Contains, option_map, slice_get, slice_index_
 use Rattle.std.proofs.lemmas.List.{drop_more, get_or-map, length-map}
 use Rattle.std.proofs.lemmas.List.Elements.{All-cons}
 use Rattle.std.proofs.lemmas.Option.{get_or_from_slice_get, slice_get-map, slice_get_within}
-use Rattle.turn_cell.specs.Places.{Cell, TurnOf}
+use Rattle.turn_cell.specs.SeatViews.{Cell, TurnOf}
 use Rattle.turn_cell.specs.Words.{AgreeOn, StartsWith}
 use Rattle.split_rules.specs.declared.SemEntry.{SemEntry}
 use Rattle.split_inbox.specs.Books.{BookOf, IsHistory, IsLegalSem, cpu_of}

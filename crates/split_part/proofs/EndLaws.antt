@@ -10,7 +10,7 @@ use Rattle.rt_rules.proofs.MemberLaws.{equal_self}
 use Rattle.rt_model.specs.Group.{Group}
 use Rattle.rt_plays.specs.Plays.{group_with}
 use Rattle.rt_plays.specs.Room.{processor_count}
-use Rattle.turn_cell.specs.Places.{Cell, TurnOf}
+use Rattle.turn_cell.specs.SeatViews.{Cell, TurnOf}
 use Rattle.split_rules.specs.Matching.{Books, DoMatch, claims, granted_at, granted_by, own}
 use Rattle.split_rules.specs.PartHistories.{IsLegalFrom, past_of, steps_of}
 use Rattle.split_rules.specs.PartPast.{Claim, deeds}
@@ -36,7 +36,7 @@ use Rattle.part_player.specs.Players.{IsPlayed, own_script}
 use Rattle.part_player.proofs.OwnParts.{own-seat}
 use Rattle.part_seat.specs.AtTurns.{IsFound, plain_claim, taken_claim}
 use Rattle.part_seat.specs.Partitions.{IsMeeting, PartOf, Seat, books_in, books_of, cells_of, past_at}
-use Rattle.part_seat.specs.PartSeats.{IsPartSeat, IsPartition, PartPlace, inboxes_of, posted_in}
+use Rattle.part_seat.specs.PartSeats.{IsPartSeat, IsPartition, PartSeatView, inboxes_of, posted_in}
 use Rattle.part_seat.proofs.BookLists.{own-entries}
 use Rattle.split_part.specs.Closings.{AreRests, AreResting, CanTake, CanTakeEach, HasTakenAll, HasTakenAt, HaveTaken, IsRest, IsRestAt, IsTold, claims_in}
 use Rattle.split_part.specs.Columns.{AreBoth, AreFrom, IsColumn}
@@ -131,19 +131,19 @@ module _ (p : Parts) (q : ℕ) (seats : List Seat) (es : List SplitEntry) (meeti
 
 -- ---- each processor
 
-module _ (x : SplitOf) (turns : List (Cell SemOf)) (places : List PartPlace) (seats : AreSeatsOf x places) (kept : All (IsPartSeat turns) places) where
+module _ (x : SplitOf) (turns : List (Cell SemOf)) (places : List PartSeatView) (seats : AreSeatsOf x places) (kept : All (IsPartSeat turns) places) where
   abbrev pub rows_at : List (List PosterOf)
-  rows_at = map (λ (a : PartPlace). a.posters) places
+  rows_at = map (λ (a : PartSeatView). a.posters) places
 
   abbrev pub takers_at : List TakerOf
-  takers_at = map (λ (a : PartPlace). a.taker) places
+  takers_at = map (λ (a : PartSeatView). a.taker) places
 
   abbrev pub parts_at : List PartOf
-  parts_at = map (λ (a : PartPlace). a.part) places
+  parts_at = map (λ (a : PartSeatView). a.part) places
 
   -- its seat
   pub record IsHere (q : ℕ) : Type 0 where
-    pub place : PartPlace
+    pub place : PartSeatView
     pub here : slice_get places q ≡ Some place
     pub seat : IsSeatOf x place
     pub cpu : place.part.cpu ≡ q
@@ -158,15 +158,15 @@ module _ (x : SplitOf) (turns : List (Cell SemOf)) (places : List PartPlace) (se
         place = a.0;
         here = a.1;
         seat = subst (IsSeatOf x) is both.0;
-        cpu = ap (λ (k : PartPlace). k.part.cpu) (sym is) ∙ both.1;
+        cpu = ap (λ (k : PartSeatView). k.part.cpu) (sym is) ∙ both.1;
         seat_kept = all-get (IsPartSeat turns) places q a.0 kept a.1;
       }
 
-  pub mapped-get : {B : Type 0} (f : PartPlace → B) (q : ℕ) (a : PartPlace) → slice_get places q ≡ Some a → slice_get (map f places) q ≡ Some (f a)
+  pub mapped-get : {B : Type 0} (f : PartSeatView → B) (q : ℕ) (a : PartSeatView) → slice_get places q ≡ Some a → slice_get (map f places) q ≡ Some (f a)
   mapped-get f q a h = slice_get-map f places q ∙ ap (option_map f) h
 
   -- what holds of each seat holds of what it has
-  pub mapped-all : {B : Type 0} (P : B → Type 0) (f : PartPlace → B) → ((q : ℕ) (h : IsHere q) → P (f h.place)) → All P (map f places)
+  pub mapped-all : {B : Type 0} (P : B → Type 0) (f : PartSeatView → B) → ((q : ℕ) (h : IsHere q) → P (f h.place)) → All P (map f places)
   mapped-all P f each i d low =
       let l = length-map places f in
       let h = here-at i (omega (arith, low, l)) in
@@ -183,7 +183,7 @@ module _ (x : SplitOf) (turns : List (Cell SemOf)) (places : List PartPlace) (se
   pub takers-are : 0 < processor_count x.setup → x.inboxes ≡ inboxes_at takers_at
   takers-are some =
       let n = inbox-count some in
-      let l = length-map places (λ (a : PartPlace). a.taker) in
+      let l = length-map places (λ (a : PartSeatView). a.taker) in
       let m = length-map takers_at (λ (t : TakerOf). t.inbox) in
       same-list x.inboxes (inboxes_at takers_at) (omega (arith, n, l, m))
       (λ i low. let h = here-at i (omega (arith, low, n)) in
@@ -201,11 +201,11 @@ module _ (x : SplitOf) (turns : List (Cell SemOf)) (places : List PartPlace) (se
   -- ---- once they are closed
   module _ (rests : List (List GrantOf)) (left : AreRests rows_at takers_at rests) where
     pub rests-count : length rests ≡ length parts_at
-    rests-count = left.count ∙ length-map places (λ (a : PartPlace). a.taker) ∙ sym (length-map places (λ (a : PartPlace). a.part))
+    rests-count = left.count ∙ length-map places (λ (a : PartSeatView). a.taker) ∙ sym (length-map places (λ (a : PartSeatView). a.part))
 
     pub can-take-each : CanTakeEach parts_at rests
     can-take-each q a rest there at =
-        let l = length-map places (λ (k : PartPlace). k.part) in
+        let l = length-map places (λ (k : PartSeatView). k.part) in
         let low = slice_get_within parts_at q a there in
         let h = here-at q (omega (arith, low, l)) in
         let is_rest = from-first (IsRestAt rows_at takers_at) rests q rest left.each at h.place.taker (mapped-get (λ k. k.taker) q h.place h.here) in
@@ -228,10 +228,10 @@ module _ (x : SplitOf) (turns : List (Cell SemOf)) (places : List PartPlace) (se
       back-at q low =
           let h = here-at q low in
           let count = left.count in
-          let lt = length-map places (λ (b : PartPlace). b.taker) in
+          let lt = length-map places (λ (b : PartSeatView). b.taker) in
           let r = got rests q (omega (arith, low, count, lt)) in
           let many = taken.count in
-          let lp = length-map places (λ (b : PartPlace). b.part) in
+          let lp = length-map places (λ (b : PartSeatView). b.part) in
           let b = got parts q (omega (arith, low, many, lp)) in
           record {
             at = h;
@@ -244,7 +244,7 @@ module _ (x : SplitOf) (turns : List (Cell SemOf)) (places : List PartPlace) (se
           }
 
       parts-count : length parts ≡ length places
-      parts-count = taken.count ∙ length-map places (λ (a : PartPlace). a.part)
+      parts-count = taken.count ∙ length-map places (λ (a : PartSeatView). a.part)
 
       abbrev pub seat_rows : List (List Seat)
       seat_rows = map (λ (a : PartOf). a.seats) parts
@@ -349,7 +349,7 @@ module _ (x : SplitOf) (turns : List (Cell SemOf)) (places : List PartPlace) (se
               let same = ap processor_count c.back.at.seat.setup in
               let b = got c.back.at.place.posters r (omega (arith, low, count, same)) in
               let lh = both-length (λ row y. slice_get row r ≡ Some y) rows_at d.back.rest_is.hand d.back.rest_is.column in
-              let lr = length-map places (λ (a : PartPlace). a.posters) in
+              let lr = length-map places (λ (a : PartSeatView). a.posters) in
               let lq = slice_get_within places q c.back.at.place c.back.at.here in
               let h = got d.back.rest_is.hand q (omega (arith, lh, lr, lq)) in
               let at : slice_get c.back.at.place.posters r ≡ Some h.0 = both-get (λ row y. slice_get row r ≡ Some y) rows_at d.back.rest_is.hand q c.back.at.place.posters h.0 d.back.rest_is.column (mapped-get (λ a. a.posters) q c.back.at.place c.back.at.here) h.1 in
@@ -371,7 +371,7 @@ module _ (x : SplitOf) (turns : List (Cell SemOf)) (places : List PartPlace) (se
         first = closed 0 first_low
 
         part-count : length e.parts ≡ processor_count p
-        part-count = ap length entries_are ∙ length-map parts (λ (a : PartOf). a.entries) ∙ taken.count ∙ length-map places (λ (a : PartPlace). a.part) ∙ seats.count
+        part-count = ap length entries_are ∙ length-map parts (λ (a : PartOf). a.entries) ∙ taken.count ∙ length-map places (λ (a : PartSeatView). a.part) ∙ seats.count
 
         holder-one : (s q r t u : ℕ) → q < processor_count p → r < processor_count p → holding t (past_in p e q) ≡ Some s → holding u (past_in p e r) ≡ Some s → t ≡ u
         holder-one s q r t u low high h k =
@@ -411,7 +411,7 @@ module _ (x : SplitOf) (turns : List (Cell SemOf)) (places : List PartPlace) (se
             let n = seats.count in
             let there : q < processor_count p = omega (arith, low, n) in
             let c = closed q there in
-            subst (λ (a : PartPlace). GoesOn a (history_at e q)) (sym (get_or_from_slice_get places q c.back.at.place d c.back.at.here)) (goes-on q there c)
+            subst (λ (a : PartSeatView). GoesOn a (history_at e q)) (sym (get_or_from_slice_get places q c.back.at.place d c.back.at.here)) (goes-on q there c)
 
         pub all-played : HavePlayed p places → AllPlayed p e
         all-played have q low =
@@ -422,4 +422,4 @@ module _ (x : SplitOf) (turns : List (Cell SemOf)) (places : List PartPlace) (se
             let none : steps_of q c.back.took.more ≡ [] = subst (λ m. steps_of m c.back.took.more ≡ []) c.back.at.cpu c.back.took.takes in
             let grew : history_at e q ≡ c.back.at.place.part.entries ++ c.back.took.more = sym c.history ∙ c.back.took.entries in
             ap (steps_of q) grew ∙ steps-joined q c.back.at.place.part.entries c.back.took.more ∙ ap (λ l. steps_of q c.back.at.place.part.entries ++ l) none ∙ append-nil (steps_of q c.back.at.place.part.entries)
-            ∙ ap (λ (a : PartPlace). steps_of q a.part.entries) (sym is) ∙ have q c.back.at.place there
+            ∙ ap (λ (a : PartSeatView). steps_of q a.part.entries) (sym is) ∙ have q c.back.at.place there

@@ -9,7 +9,7 @@ use Rattle.rt_task.specs.Validity.{IsValid}
 use Rattle.rt_task.specs.declared.Parts.{Parts}
 use Rattle.rt_plays.specs.Room.{processor_count}
 use Rattle.atomic_table.specs.Seated.{TableId}
-use Rattle.turn_cell.specs.Places.{Cell, TurnOf, fresh, fresh_places}
+use Rattle.turn_cell.specs.SeatViews.{Cell, TurnOf, fresh, fresh_seats}
 use Rattle.split_set.specs.SplitSets.{is_split_set}
 use Rattle.split_rules.specs.PartLinks.{tasks}
 use Rattle.split_rules.specs.Partitions.{part_group}
@@ -22,7 +22,7 @@ use Rattle.split_turns.proofs.ListLaws.{length-mapped}
 use Rattle.part_player.proofs.OwnParts.{count-is}
 use Rattle.part_seat.specs.AtTurns.{plain_claim}
 use Rattle.part_seat.specs.Partitions.{AreUnused, IsSeatAt, PartOf, Seat, books_in, cells_of, group_of, unplayed}
-use Rattle.part_seat.specs.PartSeats.{ArePosters, IsPosterAt, IsUnplayed, PartPlace, posted_in, unlocks_of}
+use Rattle.part_seat.specs.PartSeats.{ArePosters, IsPosterAt, IsUnplayed, PartSeatView, posted_in, unlocks_of}
 use Rattle.part_seat.specs.Steps as steps
 use Rattle.split_part.specs.Closings.{HaveCpus}
 use Rattle.split_part.specs.Columns.{AreBoth, AreFrom, IsColumn}
@@ -34,7 +34,7 @@ use Rattle.split_part.proofs.ColumnLaws.{all-map, both-get, both-length, column-
 
 -- the seats of a turn, and one of them
 abbrev pub places : Cell SemOf → ℕ → List Seat
-places k n = fresh_places k n
+places k n = fresh_seats k n
 
 abbrev pub place : Cell SemOf → ℕ → Seat
 place k q = fresh k q
@@ -269,7 +269,7 @@ module _ (p : Parts) (rows : List (List Seat)) (fr : AreFreshRows p rows) (parts
   posters-are q = record { count = length-map takers (λ (t : TakerOf). fresh_poster t.inbox.table t.tasks t.quotas q) ∙ taker-count ∙ opened.count; each = poster-at q }
 
   -- what a seat is made of
-  pub seat-unplayed : (q : ℕ) (a : PartPlace) → IsSeated parts (posters_at takers) takers q a → IsUnplayed cells a
+  pub seat-unplayed : (q : ℕ) (a : PartSeatView) → IsSeated parts (posters_at takers) takers q a → IsUnplayed cells a
   seat-unplayed q a seated =
       let part = part-at q a.part seated.part in
       let low = slice_get_within parts q a.part seated.part in
@@ -301,7 +301,7 @@ module _ (p : Parts) (rows : List (List Seat)) (fr : AreFreshRows p rows) (parts
 
   -- ---- the seats of a run
   module _ (x : SplitOf) (setup : x.setup ≡ p) (turns : map (λ (t : TurnOf SemOf). t.cell) x.turns ≡ cells) (inboxes : x.inboxes ≡ inboxes_at takers)
-      (seats : List PartPlace) (seated : AreSeated parts (posters_at takers) takers seats) where
+      (seats : List PartSeatView) (seated : AreSeated parts (posters_at takers) takers seats) where
     inbox-same : (q : ℕ) → inboxes_at takers ≡ map (λ (b : PosterOf). b.inbox) (posters_of_cpu q takers)
     inbox-same q = same takers (λ i t there. (taker-at i t there).inbox)
       where
@@ -310,7 +310,7 @@ module _ (p : Parts) (rows : List (List Seat)) (fr : AreFreshRows p rows) (parts
         same [] is = refl
         same (t ∷ ts) is = let first = is 0 t refl in let others = same ts (λ i u there. is (suc i) u there) in (λ i. first i ∷ others i)
 
-    seat-of : (q : ℕ) (a : PartPlace) → IsSeated parts (posters_at takers) takers q a → IsSeatOf x a × (a.part.cpu ≡ q)
+    seat-of : (q : ℕ) (a : PartSeatView) → IsSeated parts (posters_at takers) takers q a → IsSeatOf x a × (a.part.cpu ≡ q)
     seat-of q a is =
         let part = part-at q a.part is.part in
         let low = slice_get_within parts q a.part is.part in
@@ -330,7 +330,7 @@ module _ (p : Parts) (rows : List (List Seat)) (fr : AreFreshRows p rows) (parts
           cpu,
         )
 
-    seated-at : (q : ℕ) (d : PartPlace) → q < length seats → IsSeated parts (posters_at takers) takers q (slice_index_or seats q d)
+    seated-at : (q : ℕ) (d : PartSeatView) → q < length seats → IsSeated parts (posters_at takers) takers q (slice_index_or seats q d)
     seated-at q d low = let a = got seats q low in subst (IsSeated parts (posters_at takers) takers q) (sym (get_or_from_slice_get seats q a.0 d a.1)) (from-first (IsSeated parts (posters_at takers) takers) seats q a.0 seated.each a.1)
 
     pub seats-are : AreSeatsOf x seats

@@ -1,6 +1,6 @@
 -- What the end of a split run comes to, step by step.
 use Rattle.std.specs.Prelude.{◌≡◌, ℕ, false, List, [], ◌++◌, length, map, All, Some, slice_get}
-use Rattle.turn_cell.specs.Places.{TurnOf}
+use Rattle.turn_cell.specs.SeatViews.{TurnOf}
 use Rattle.split_rules.specs.Matching.{claims}
 use Rattle.split_rules.specs.PartHistories.{steps_of}
 use Rattle.split_rules.specs.PartLinks.{tasks}

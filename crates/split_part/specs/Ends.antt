@@ -14,7 +14,7 @@ use Rattle.split_rules.specs.declared.SplitEntry.{SplitEntry}
 use Rattle.split_laws.specs.Parts.{Among}
 use Rattle.part_player.specs.Players.{own_script}
 use Rattle.part_seat.specs.Partitions.{books_of}
-use Rattle.part_seat.specs.PartSeats.{PartPlace}
+use Rattle.part_seat.specs.PartSeats.{PartSeatView}
 use Rattle.split_part.specs.declared.end.SplitEnd.{SplitEnd}
 
 -- the semaphores' histories by rising number from 1, and the partitions' by the number of the processor
@@ -48,18 +48,18 @@ pub record IsSplitEnd (p : Parts) (e : EndOf) : Type 0 where
       → Among (record { sem = s; no = n; task = u }) (claims (deeds (past_in p e (seat_of (group_with p 0) u))))
 
 -- each partition's history goes on from its seat's, and plays no further step of its script
-pub record GoesOn (a : PartPlace) (es : List SplitEntry) : Type 0 where
+pub record GoesOn (a : PartSeatView) (es : List SplitEntry) : Type 0 where
   pub more : List SplitEntry
   pub later : es ≡ a.part.entries ++ more
   pub takes : steps_of a.part.cpu more ≡ []
 
-abbrev pub AllGoOn : List PartPlace → EndOf → Type 0
-AllGoOn seats e = (q : ℕ) (d : PartPlace) → q < length seats → GoesOn (slice_index_or seats q d) (history_at e q)
+abbrev pub AllGoOn : List PartSeatView → EndOf → Type 0
+AllGoOn seats e = (q : ℕ) (d : PartSeatView) → q < length seats → GoesOn (slice_index_or seats q d) (history_at e q)
 
 -- each partition has played its script
 abbrev pub AllPlayed : Parts → EndOf → Type 0
 AllPlayed p e = (q : ℕ) → q < processor_count p → steps_of q (history_at e q) ≡ own_script p q
 
 -- each seat has played its script
-abbrev pub HavePlayed : Parts → List PartPlace → Type 0
-HavePlayed p seats = (q : ℕ) (d : PartPlace) → q < length seats → steps_of q (slice_index_or seats q d).part.entries ≡ own_script p q
+abbrev pub HavePlayed : Parts → List PartSeatView → Type 0
+HavePlayed p seats = (q : ℕ) (d : PartSeatView) → q < length seats → steps_of q (slice_index_or seats q d).part.entries ≡ own_script p q

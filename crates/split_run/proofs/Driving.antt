@@ -6,7 +6,7 @@ use Rattle.rt_base.specs.declared.NoMemory.{NoMemory}
 use Rattle.rt_task.specs.declared.Parts.{Parts}
 use Rattle.split_rules.specs.PartHistories.{steps_of}
 use Rattle.part_player.specs.Players.{own_script}
-use Rattle.part_seat.specs.PartSeats.{PartPlace}
+use Rattle.part_seat.specs.PartSeats.{PartSeatView}
 use Rattle.part_seat.specs.Steps.{IsStep}
 use Rattle.part_seat.specs.declared.passed.Played2.TheVariants.{Ended}
 use Rattle.split_part.specs.Ends.{AllPlayed, EndOf, IsSplitEnd}
@@ -16,7 +16,7 @@ use Rattle.split_run.specs.inside.Driven.{AreAnswered, AreDriven, IsDriven}
 use Rattle.split_run.specs.RunEnds.{IsRunEnd}
 
 -- a step that finds none left
-pub ended : (x : SplitOf) (first before after : PartPlace) → IsSeatOf x before → before.part.cpu ≡ first.part.cpu → IsStep Ended before after → IsSeatOf x after → IsDriven x first after
+pub ended : (x : SplitOf) (first before after : PartSeatView) → IsSeatOf x before → before.part.cpu ≡ first.part.cpu → IsStep Ended before after → IsSeatOf x after → IsDriven x first after
 ended x first before after was cpu step is = record {
   seat = is;
   cpu_is = step.same.cpu ∙ cpu;
@@ -30,33 +30,33 @@ ended x first before after was cpu step is = record {
 
 -- ---- the seats for which memory did not run out
 
-abbrev oks : List PartPlace → List (Result PartPlace NoMemory)
+abbrev oks : List PartSeatView → List (Result PartSeatView NoMemory)
 oks seats = map (λ a. Ok a) seats
 
-pub one-more : (runs : List (Result PartPlace NoMemory)) (seats seats' : List PartPlace) (rest rest' : List (Result PartPlace NoMemory)) (r : Result PartPlace NoMemory) (a : PartPlace)
+pub one-more : (runs : List (Result PartSeatView NoMemory)) (seats seats' : List PartSeatView) (rest rest' : List (Result PartSeatView NoMemory)) (r : Result PartSeatView NoMemory) (a : PartSeatView)
     → runs ≡ oks seats ++ rest → rest ≡ r ∷ rest' → r ≡ Ok a → seats' ≡ seats ++ a ∷ [] → runs ≡ oks seats' ++ rest'
 one-more runs seats seats' rest rest' r a are next is more =
     are
     ∙ ap (λ l. oks seats ++ l) (next ∙ ap (λ y. y ∷ rest') is)
     ∙ sym (append_assoc (oks seats) (Ok a ∷ []) rest')
-    ∙ ap (λ l. l ++ rest') (sym (map_push (λ b. let y : Result PartPlace NoMemory = Ok b in y) seats a))
+    ∙ ap (λ l. l ++ rest') (sym (map_push (λ b. let y : Result PartSeatView NoMemory = Ok b in y) seats a))
     ∙ ap (λ l. oks l ++ rest') (sym more)
 
-pub all-there : (runs : List (Result PartPlace NoMemory)) (seats : List PartPlace) (rest : List (Result PartPlace NoMemory)) → runs ≡ oks seats ++ rest → length rest ≡ 0 → runs ≡ oks seats
+pub all-there : (runs : List (Result PartSeatView NoMemory)) (seats : List PartSeatView) (rest : List (Result PartSeatView NoMemory)) → runs ≡ oks seats ++ rest → length rest ≡ 0 → runs ≡ oks seats
 all-there runs seats rest are none = are ∙ ap (λ l. oks seats ++ l) (nil_from_length rest none) ∙ append-nil (oks seats)
 
-module _ (x : SplitOf) (seats : List PartPlace) (are : AreSeatsOf x seats) (runs : List (Result PartPlace NoMemory)) (answered : AreAnswered x seats runs) where
-  module _ (after : List PartPlace) (is : runs ≡ oks after) where
+module _ (x : SplitOf) (seats : List PartSeatView) (are : AreSeatsOf x seats) (runs : List (Result PartSeatView NoMemory)) (answered : AreAnswered x seats runs) where
+  module _ (after : List PartSeatView) (is : runs ≡ oks after) where
     long : length after ≡ length seats
-    long = let m = ap length is ∙ length-map after (λ a. let y : Result PartPlace NoMemory = Ok a in y) in let n = answered.all in omega (arith, m, n)
+    long = let m = ap length is ∙ length-map after (λ a. let y : Result PartSeatView NoMemory = Ok a in y) in let n = answered.all in omega (arith, m, n)
 
-    driven-at : (q : ℕ) (d : PartPlace) → q < length after → IsDriven x (get_or seats q d) (get_or after q d)
+    driven-at : (q : ℕ) (d : PartSeatView) → q < length after → IsDriven x (get_or seats q d) (get_or after q d)
     driven-at q d low =
-        let same : get_or runs q (Ok d) ≡ Ok (get_or after q d) = ap (λ l. get_or l q (Ok d)) is ∙ get_or-map (λ a. let y : Result PartPlace NoMemory = Ok a in y) after q d (Ok d) low in
+        let same : get_or runs q (Ok d) ≡ Ok (get_or after q d) = ap (λ l. get_or l q (Ok d)) is ∙ get_or-map (λ a. let y : Result PartSeatView NoMemory = Ok a in y) after q d (Ok d) low in
         let all = long in
-        subst (λ (r : Result PartPlace NoMemory). IfOk r (λ a. IsDriven x (get_or seats q d) a)) same (answered.each q d (Ok d) (omega (arith, low, all)))
+        subst (λ (r : Result PartSeatView NoMemory). IfOk r (λ a. IsDriven x (get_or seats q d) a)) same (answered.each q d (Ok d) (omega (arith, low, all)))
 
-    cpu-at : (q : ℕ) (d : PartPlace) → q < length after → (get_or seats q d).part.cpu ≡ q
+    cpu-at : (q : ℕ) (d : PartSeatView) → q < length after → (get_or seats q d).part.cpu ≡ q
     cpu-at q d low = let all = long in (are.each q d (omega (arith, low, all))).1
 
     all-driven : AreDriven x after
@@ -68,7 +68,7 @@ module _ (x : SplitOf) (seats : List PartPlace) (are : AreSeatsOf x seats) (runs
       played = λ q d low. subst (λ n. steps_of n (get_or after q d).part.entries ≡ own_script x.setup n) (cpu-at q d low) (driven-at q d low).played;
     }
 
-  pub seats-driven : {X : Type 0} (items : X → List PartPlace) (r : Result X NoMemory) → IfOk r (λ v. runs ≡ oks (items v)) → IfOk r (λ v. AreDriven x (items v))
+  pub seats-driven : {X : Type 0} (items : X → List PartSeatView) (r : Result X NoMemory) → IfOk r (λ v. runs ≡ oks (items v)) → IfOk r (λ v. AreDriven x (items v))
   seats-driven items (Ok v) is = all-driven (items v) is
   seats-driven items (Err e) is = is
 

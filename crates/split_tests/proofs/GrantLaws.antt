@@ -4,7 +4,7 @@ use Rattle.std.specs.Prelude.{Some, slice_get}
 use Rattle.std.proofs.lemmas.List.{length-append}
 use Rattle.std.proofs.lemmas.Option.{slice_get-get_or}
 use Rattle.std.proofs.Math.Seq.{get_or-append_seam}
-use Rattle.turn_cell.specs.Places.{Cell, Place, TurnOf, given_back, split_off, taken}
+use Rattle.turn_cell.specs.SeatViews.{Cell, Place, TurnOf, given_back, split_off, taken}
 use Rattle.split_rules.specs.declared.SemAct.TheVariants as acts
 use Rattle.split_rules.specs.declared.SemEntry.{SemEntry}
 use Rattle.split_inbox.specs.Books.{BookOf, IsHistory, IsLegalSem, entry}

@@ -7,7 +7,7 @@ use Rattle.rt_plays.specs.Drives.{steps_given}
 use Rattle.rt_plays.specs.Plays.{group_with}
 use Rattle.rt_plays.specs.Room.{processor_count}
 use Rattle.rt_plays.specs.Scripts.{script}
-use Rattle.turn_cell.specs.Places.{fresh_places}
+use Rattle.turn_cell.specs.SeatViews.{fresh_seats}
 use Rattle.split_inbox.specs.declared.subject.SemOf.{SemOf}
 use Rattle.split_laws.specs.Counts.{count_steps, names_sem}
 use Rattle.set_books.specs.SetBooks.{homes, prios, rule_of}
@@ -35,7 +35,7 @@ module _ (p : Parts) where
   pub record IsTurnOf (s : ℕ) (t : SemTurn) : Type 0 where
     pub cpus : t.turn.cpus ≡ processor_count p
     pub book : t.turn.cell.subject ≡ Some (book_of s)
-    pub seats : t.seats.items ≡ fresh_places t.turn.cell (processor_count p)
+    pub seats : t.seats.items ≡ fresh_seats t.turn.cell (processor_count p)
 
   -- turns of the semaphores from number s on
   abbrev pub AreTurnsFrom : ℕ → List SemTurn → Type 0

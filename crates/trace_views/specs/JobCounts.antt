@@ -45,10 +45,10 @@ unfoldable pub preemptions : ℕ → ℕ → Past → ℕ
 preemptions t k past = count_in_job t k (preempts t) past
 
 -- a migration: a unit on another processor than the job's unit before it
-unfoldable pub unit_places : ℕ → ℕ → Past → List ℕ
-unit_places t k [] = []
-unit_places t k (Clock tick ∷ past) = unit_places t k past
-unit_places t k (Acted d ∷ past) = if in_job t k (works t) (Acted d) past then (d.cpu ∷ unit_places t k past) else unit_places t k past
+unfoldable pub unit_cpus : ℕ → ℕ → Past → List ℕ
+unit_cpus t k [] = []
+unit_cpus t k (Clock tick ∷ past) = unit_cpus t k past
+unit_cpus t k (Acted d ∷ past) = if in_job t k (works t) (Acted d) past then (d.cpu ∷ unit_cpus t k past) else unit_cpus t k past
 
 abbrev pub changes : List ℕ → ℕ
 changes [] = 0
@@ -56,7 +56,7 @@ changes (p ∷ []) = 0
 changes (p ∷ q ∷ ps) = (if p == q then 0 else 1) + changes (q ∷ ps)
 
 unfoldable pub migrations : ℕ → ℕ → Past → ℕ
-migrations t k past = changes (unit_places t k past)
+migrations t k past = changes (unit_cpus t k past)
 
 -- a move: a processor takes the task up, and it was another that did so last
 abbrev pub taken_up : Reply → Option ℕ
@@ -66,10 +66,10 @@ taken_up _ = None
 abbrev pub takes_up : ℕ → Reply → Bool
 takes_up t reply = is t (taken_up reply)
 
-unfoldable pub last_place : ℕ → Past → Option ℕ
-last_place t [] = None
-last_place t (Clock tick ∷ past) = last_place t past
-last_place t (Acted d ∷ past) = if takes_up t d.reply then Some d.cpu else last_place t past
+unfoldable pub last_cpu : ℕ → Past → Option ℕ
+last_cpu t [] = None
+last_cpu t (Clock tick ∷ past) = last_cpu t past
+last_cpu t (Acted d ∷ past) = if takes_up t d.reply then Some d.cpu else last_cpu t past
 
 abbrev pub is_elsewhere : ℕ → Option ℕ → Bool
 is_elsewhere q None = false
@@ -77,7 +77,7 @@ is_elsewhere q (Some p) = not (p == q)
 
 abbrev pub moves_now : ℕ → Test
 moves_now t (Clock tick) past = false
-moves_now t (Acted d) past = takes_up t d.reply && is_elsewhere d.cpu (last_place t past)
+moves_now t (Acted d) past = takes_up t d.reply && is_elsewhere d.cpu (last_cpu t past)
 
 unfoldable pub moves : ℕ → ℕ → Past → ℕ
 moves t k past = count_in_job t k (moves_now t) past

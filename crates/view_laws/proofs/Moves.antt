@@ -25,7 +25,7 @@ use Rattle.rt_laws.proofs.ValidSets.{task-numbered}
 use Rattle.trace_text.specs.CountLines.{shown_as, shown_entries}
 use Rattle.trace_tools.specs.Entries as tools
 use Rattle.trace_tools.specs.declared.shown.Shown.{Shown}
-use Rattle.trace_views.specs.JobCounts.{is_elsewhere, last_place, moves_now, taken_up}
+use Rattle.trace_views.specs.JobCounts.{is_elsewhere, last_cpu, moves_now, taken_up}
 use Rattle.trace_views.specs.JobMoves.{count_moves}
 use Rattle.trace_views.specs.TaskRows.{TaskRow, task_row, task_rows}
 use Rattle.trace_views.proofs.RowSums.{rows_count_all, taken-run}
@@ -38,7 +38,7 @@ use Rattle.view_laws.proofs.Totals.{distinct-tasks}
 -- the task that moved, by the task that was taken up
 abbrev pub mover : Option ℕ → ℕ → Past → Option ℕ
 mover None q past = None
-mover (Some u) q past = if is_elsewhere q (last_place u past) then Some u else None
+mover (Some u) q past = if is_elsewhere q (last_cpu u past) then Some u else None
 
 abbrev pub moves_of : Event → Past → Option ℕ
 moves_of (Clock tick) past = None
@@ -51,7 +51,7 @@ taken-member g q t a past made h =
     let l : IsLinked g q t past = linked-eligible g made q t (answer-runs_link g q t a past run) in
     l.member
 
-moves-tells : (t : ℕ) (o : Option ℕ) (q : ℕ) (past : Past) → is t o && is_elsewhere q (last_place t past) ≡ is t (mover o q past)
+moves-tells : (t : ℕ) (o : Option ℕ) (q : ℕ) (past : Past) → is t o && is_elsewhere q (last_cpu t past) ≡ is t (mover o q past)
 moves-tells t None q past = refl
 moves-tells t (Some u) q past = by_case (t == u) refl
   where
@@ -63,9 +63,9 @@ moves-tells t (Some u) q past = by_case (t == u) refl
     other true e = sym e
     other false e = refl
 
-    by_case : (x : Bool) → t == u ≡ x → x && is_elsewhere q (last_place t past) ≡ is t (if is_elsewhere q (last_place u past) then Some u else None)
-    by_case true e = ap (λ v. is_elsewhere q (last_place v past)) (eqb-true t u e) ∙ same (is_elsewhere q (last_place u past)) e
-    by_case false e = other (is_elsewhere q (last_place u past)) e
+    by_case : (x : Bool) → t == u ≡ x → x && is_elsewhere q (last_cpu t past) ≡ is t (if is_elsewhere q (last_cpu u past) then Some u else None)
+    by_case true e = ap (λ v. is_elsewhere q (last_cpu v past)) (eqb-true t u e) ∙ same (is_elsewhere q (last_cpu u past)) e
+    by_case false e = other (is_elsewhere q (last_cpu u past)) e
 
 moves-of_one : (g : Group) → IsOfOne g moves_now moves_of
 unfolding past_act
@@ -86,7 +86,7 @@ begun-taken _ h = refl
 
 -- the entries so far, newest first, have the places of the past
 abbrev pub HasPlaces : Group → Past → List Shown → Type 0
-HasPlaces g past before = (t : ℕ) → has t (tasks g) ≡ true → tools.last_place t before ≡ last_place t past
+HasPlaces g past before = (t : ℕ) → has t (tasks g) ≡ true → tools.last_cpu t before ≡ last_cpu t past
 
 elsewhere-moves : (u q : ℕ) (o : Option ℕ) → is_some (if is_elsewhere q o then Some u else None) ≡ tools.moves_from o q
 elsewhere-moves u q None = refl
@@ -100,7 +100,7 @@ mover-moves : (g : Group) (o : Option ℕ) (q : ℕ) (past : Past) (before : Lis
     → is_some (mover o q past) ≡ tools.moves_task o q before
 mover-moves g None q past before known places = refl
 mover-moves g (Some u) q past before known places =
-    elsewhere-moves u q (last_place u past) ∙ ap (λ o. tools.moves_from o q) (sym (places u (known u (equal_self u))))
+    elsewhere-moves u q (last_cpu u past) ∙ ap (λ o. tools.moves_from o q) (sym (places u (known u (equal_self u))))
 
 -- one entry
 pub record IsNext (g : Group) (i : ℕ) (e : Entry) (past : Past) (before : List Shown) : Type 0 where
@@ -108,15 +108,15 @@ pub record IsNext (g : Group) (i : ℕ) (e : Entry) (past : Past) (before : List
   pub places : HasPlaces g (after g e.step past) (shown_as g i e (after g e.step past) ∷ before)
   pub made : IsReachable g (after g e.step past)
   -- it takes up no task of another group
-  pub others : (t : ℕ) → has t (tasks g) ≡ false → tools.last_place t (shown_as g i e (after g e.step past) ∷ before) ≡ tools.last_place t before
+  pub others : (t : ℕ) → has t (tasks g) ≡ false → tools.last_cpu t (shown_as g i e (after g e.step past) ∷ before) ≡ tools.last_cpu t before
 
 pub next-entry : (g : Group) → IsValid g.setup → (i : ℕ) (e : Entry) (past : Past) (before : List Shown) → IsReachable g past → e.reply ≡ reply_to g e.step past → HasPlaces g past before → IsNext g i e past before
-unfolding after count_moves last_place past_act reply_to
+unfolding after count_moves last_cpu past_act reply_to
 next-entry g valid i e past before made legal places = record {
   counts = join (is_some (mover (taken_up said) q clk)) (count_moves (λ x b. is_some (moves_of x b)) past) ∙ ap (λ x. count_moves (λ y b. is_some (moves_of y b)) past + one_if x) same_move;
-  places = λ t there. ap (λ o. if is t o then Some q else tools.last_place t before) begun ∙ ap (λ o. if is t (taken_up said) then Some q else o) (places t there);
+  places = λ t there. ap (λ o. if is t o then Some q else tools.last_cpu t before) begun ∙ ap (λ o. if is t (taken_up said) then Some q else o) (places t there);
   made = acted q e.step.act (clocked e.step.tick.0 made);
-  others = λ t out. ap (λ o. if is t o then Some q else tools.last_place t before) begun ∙ ap (λ b. if b then Some q else tools.last_place t before) (stranger t out (is t (taken_up said)) refl);
+  others = λ t out. ap (λ o. if is t o then Some q else tools.last_cpu t before) begun ∙ ap (λ b. if b then Some q else tools.last_cpu t before) (stranger t out (is t (taken_up said)) refl);
 }
   where
     q : ℕ
@@ -162,7 +162,7 @@ moves_are_shown g valid i past (e ∷ es) before made legal places =
 -- of a group, behind entries of other groups
 pub group_moves : (g : Group) → IsValid g.setup → (es : List Entry) (before : List Shown) → IsLegal g es → HasPlaces g [] before
     → sum_by (λ (r : TaskRow). r.moves) (table_of g es) ≡ tools.moves_after before (shown_entries g 0 [] es)
-unfolding task_rows past_of count_moves last_place
+unfolding task_rows past_of count_moves last_cpu
 group_moves g valid es before legal places =
     let made : IsReachable g (past_of g es) = histories_are_made g es in
     sum-map (λ (r : TaskRow). r.moves) (task_row g (past_of g es)) (tasks g)
@@ -175,5 +175,5 @@ group_moves g valid es before legal places =
     from_zero n = omega arith
 
 pub moves_are_counted : MovesAreCounted
-unfolding last_place
+unfolding last_cpu
 moves_are_counted g es valid legal = group_moves g valid es [] legal (λ t there. refl)

@@ -13,7 +13,7 @@ use Rattle.rt_model.specs.Past.{Past}
 use Rattle.rt_model.specs.Reachable.{IsReachable, opened}
 use Rattle.rt_plays.specs.Plays.{group_with}
 use Rattle.trace_text.specs.CountLines.{shown_as, shown_entries, shown_from}
-use Rattle.trace_tools.specs.Entries.{last_place, moves, moves_after}
+use Rattle.trace_tools.specs.Entries.{last_cpu, moves, moves_after}
 use Rattle.trace_tools.specs.declared.shown.Shown.{Shown}
 use Rattle.trace_views.specs.JobCounts as counts
 use Rattle.trace_views.specs.TaskRows.{TaskRow}
@@ -50,7 +50,7 @@ other-group p m n t above h = by_case (has t (tasks (group_with p n))) refl
 -- the entries of a group leave the places of all other tasks
 others-stay :
     (g : Group) → IsValid g.setup → (i : ℕ) (past : Past) (es : List Entry) (before : List Shown) → IsReachable g past → IsLegalFrom g past es → HasPlaces g past before
-    → (t : ℕ) → has t (tasks g) ≡ false → last_place t (shown_behind before (shown_entries g i past es)) ≡ last_place t before
+    → (t : ℕ) → has t (tasks g) ≡ false → last_cpu t (shown_behind before (shown_entries g i past es)) ≡ last_cpu t before
 unfolding shown_entries
 others-stay g valid i past [] before made legal places t out = refl
 others-stay g valid i past (e ∷ es) before made legal places t out =
@@ -60,11 +60,11 @@ others-stay g valid i past (e ∷ es) before made legal places t out =
 
 -- no task of the groups from one on was taken up yet
 abbrev AreNew : Parts → ℕ → List Shown → Type 0
-AreNew p n before = (m t : ℕ) → n ≤ m → has t (tasks (group_with p m)) ≡ true → last_place t before ≡ None
+AreNew p n before = (m t : ℕ) → n ≤ m → has t (tasks (group_with p m)) ≡ true → last_cpu t before ≡ None
 
 moves-from : (p : Parts) → IsValid p → (n : ℕ) (hs : List (List Entry)) (before : List Shown) → AreLegal p n hs → AreNew p n before
     → moves_after before (shown_from p n hs) ≡ total_of (λ (r : TaskRow). r.moves) p n hs
-unfolding counts.last_place
+unfolding counts.last_cpu
 moves-from p valid n [] before legal new = refl
 moves-from p valid n (es ∷ hs) before legal new =
     let g = group_with p n in

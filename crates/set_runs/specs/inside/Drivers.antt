@@ -1,10 +1,10 @@
 -- The processors of a group that plays by turns, at a site and a clock.
 use Rattle.std.specs.Prelude.{◌≡◌, ℕ, ◌<◌, true, List, length, slice_index_or, All}
 use Rattle.tick_clock.specs.Clocks.{Clock}
-use Rattle.turn_cell.specs.Places.{Cell}
+use Rattle.turn_cell.specs.SeatViews.{Cell}
 use Rattle.cpu_site.specs.declared.story.GroupOf.{GroupOf}
 use Rattle.cpu_site.specs.Playing.{IsOver}
-use Rattle.cpu_site.specs.Seats.{group_at, About, CpuPlace}
+use Rattle.cpu_site.specs.Seats.{group_at, About, CpuSeatView}
 use Rattle.set_runs.specs.declared.driver.Driver.{Driver}
 use Rattle.set_runs.specs.Lists.{AreEach}
 
@@ -18,8 +18,8 @@ pub record IsAtWork (cell : Cell GroupOf) (clock : Clock) (q : ℕ) (d : Driver)
   pub over : d.is_over ≡ true → About cell (λ s. IsOver (group_at s) q d.seat.seen)
 
 -- the drivers of the processors of these seats, in order
-abbrev pub AreAtWork : Cell GroupOf → Clock → List CpuPlace → List Driver → Type 0
-AreAtWork cell clock seats ds = AreEach (λ (p : CpuPlace) (d : Driver). IsAtWork cell clock p.cpu d) seats ds
+abbrev pub AreAtWork : Cell GroupOf → Clock → List CpuSeatView → List Driver → Type 0
+AreAtWork cell clock seats ds = AreEach (λ (p : CpuSeatView) (d : Driver). IsAtWork cell clock p.cpu d) seats ds
 
 -- they drive the same processors as before
 abbrev pub AreStill : Cell GroupOf → Clock → List Driver → List Driver → Type 0

@@ -1,6 +1,6 @@
 -- The book of semaphore 1, for which tasks 1 and 2 of processor 0 may make three entries.
 use Rattle.std.specs.Prelude.{◌≡◌, false, [], ◌∷◌, Some}
-use Rattle.turn_cell.specs.Places.{Place, TurnOf}
+use Rattle.turn_cell.specs.SeatViews.{Place, TurnOf}
 use Rattle.split_rules.specs.declared.SemEntry.{SemEntry}
 use Rattle.split_inbox.specs.declared.subject.SemOf.{SemOf}
 use Rattle.split_inbox.specs.declared.subject.SemRule.TheVariants as rules

@@ -2,7 +2,7 @@ use Rattle.std.proofs.Common.{◌≡◌, ◌+◌, ◌<◌, false, [], ◌∷◌,
 use Rattle.std.specs.Prelude.{slice_get, slice_index_or}
 use Rattle.std.proofs.lemmas.List.{drop_all, length-map}
 use Rattle.std.proofs.lemmas.Option.{slice_get_within}
-use Rattle.turn_cell.specs.Places.{TurnOf}
+use Rattle.turn_cell.specs.SeatViews.{TurnOf}
 use Rattle.split_inbox.specs.declared.subject.SemOf.{SemOf}
 use Rattle.part_seat.specs.Partitions.{Seat}
 use Rattle.split_part.specs.Closings.{IsTold}

@@ -2,7 +2,7 @@ use Rattle.std.proofs.Common.{◌≡◌, ◌+◌, ◌<◌, [], ◌∷◌, ◌++�
 use Rattle.std.specs.Prelude.{All, slice_get}
 use Rattle.split_inbox.specs.Inboxes.{PosterOf, TakerOf}
 use Rattle.part_seat.specs.Partitions.{PartOf}
-use Rattle.part_seat.specs.PartSeats.{IsUnplayed, PartPlace}
+use Rattle.part_seat.specs.PartSeats.{IsUnplayed, PartSeatView}
 use Rattle.split_part.specs.Columns.{AreFrom, IsColumn}
 use Rattle.split_part.specs.inside.Deals.{lists}
 use Rattle.split_part.specs.Openings.{IsSeated}
@@ -72,7 +72,7 @@ new-requires g c =
     let taker = starts-popped told tnow c.in-Some-pop.taker tpopped c.args.takers.items inv.takers_are in
     let there : slice_get c.args.takers.items k ≡ Some c.in-Some-pop.taker = subst (λ j. slice_get c.args.takers.items j ≡ Some c.in-Some-pop.taker) place taker.1 in
     let posters = c.in_ok-senders_of.ensures in
-    let a : PartPlace = record { part = c.in-Some.part; posters = c.in_ok-senders_of.field-0.items; taker = c.in-Some-pop.taker } in
+    let a : PartSeatView = record { part = c.in-Some.part; posters = c.in_ok-senders_of.field-0.items; taker = c.in-Some-pop.taker } in
     subst (λ (m : PartOf). IsUnplayed g.N.Names.turns (record { part = m; posters = c.in_ok-senders_of.field-0.items; taker = c.in-Some-pop.taker })) (sym c.part.view_is)
     (c.requires.unplayed_each k a (record { part = part.1; posters = subst (IsColumn k rows) (sym posters) dealt.1; taker = there }))
 
@@ -99,7 +99,7 @@ loop-part-preserved g c =
     let there : slice_get c.args.takers.items k ≡ Some c.in-Some-pop.taker = subst (λ j. slice_get c.args.takers.items j ≡ Some c.in-Some-pop.taker) place taker.1 in
     let posters = c.in_ok-senders_of.ensures in
     let is = c.new.ensures ∙ ap (λ (m : PartOf). record { part = m; posters = c.in_ok-senders_of.field-0.items; taker = c.in-Some-pop.taker }) c.part.view_is in
-    let a : PartPlace = record { part = c.in-Some.part; posters = c.in_ok-senders_of.field-0.items; taker = c.in-Some-pop.taker } in
+    let a : PartSeatView = record { part = c.in-Some.part; posters = c.in_ok-senders_of.field-0.items; taker = c.in-Some-pop.taker } in
     let seated : IsSeated c.args.parts.items rows c.args.takers.items k a = record { part = part.1; posters = subst (IsColumn k rows) (sym posters) dealt.1; taker = there } in
     let pushed = c.in_ok-push.ensures.items in
     record {

@@ -11,7 +11,7 @@ use Rattle.rt_plays.specs.Drives.{steps_given}
 use Rattle.rt_plays.specs.Plays.{group_with}
 use Rattle.rt_plays.specs.Room.{processor_count}
 use Rattle.rt_plays.specs.Scripts.{script}
-use Rattle.turn_cell.specs.Places.{fresh_places}
+use Rattle.turn_cell.specs.SeatViews.{fresh_seats}
 use Rattle.split_rules.specs.SemHistories.{seat_of}
 use Rattle.split_laws.specs.Counts.{names_sem}
 use Rattle.split_inbox.specs.Sums.{sum_of}
@@ -78,5 +78,5 @@ returns c =
     record {
       cpus = c.in_ok-turn.ensures.turn.0 ∙ cpus;
       book = c.in_ok-turn.ensures.turn.1 ∙ ap Some (c.in_ok-book.ensures.about ∙ book-same c.args.sem _ _ _ _ _ _ _ _ rule c.requires.homes c.in_ok-prios.ensures counted);
-      seats = c.in_ok-turn.ensures.seats ∙ ap (fresh_places c.in_ok-turn.turn.cell) cpus;
+      seats = c.in_ok-turn.ensures.seats ∙ ap (fresh_seats c.in_ok-turn.turn.cell) cpus;
     }

@@ -2,11 +2,11 @@ use Rattle.std.proofs.Common.{ℕ, sym, subst, arith, ◌∷◌, [], length, map
 use Rattle.std.specs.Prelude.{All, Contains}
 use Rattle.rt_plays.specs.Homes.{IsProcessorOf}
 use Rattle.rt_plays.specs.Plays.{IsBegunPlay}
-use Rattle.turn_cell.specs.Places.{TurnOf}
+use Rattle.turn_cell.specs.SeatViews.{TurnOf}
 use Rattle.turn_cell.specs.Words.{AgreeOn, StartsWith}
 use Rattle.rt_plays.specs.Groups.{GroupHistory, group_of}
 use Rattle.cpu_site.specs.declared.story.GroupOf.{GroupOf}
-use Rattle.cpu_site.specs.Seats.{cpu_of, group_at, About, CpuPlace}
+use Rattle.cpu_site.specs.Seats.{cpu_of, group_at, About, CpuSeatView}
 use Rattle.cpu_site.proofs.Returning.{back-all, back-end, back-more, later-all, middle, taken-more, whole-all}
 use Rattle.cpu_site.proofs.site.Site.close.Goals as goal
 
@@ -29,14 +29,14 @@ close-requires-clause-all c =
     let i = c.loop-seat.invariant.0 in
     let are = back-end c.self.inside.turn.cell c.args.seats.items c.loop-seat.seats.items i.0 c.loop-seat.back.items (omega (arith, c.in_default.ensures.cases.0, c.loop-seat.seats.ok.0)) i.1 i.2 in
     back-all c.self.inside.turn c.self.invariant c.args.seats.items c.loop-seat.back.items are
-    (subst (λ (t : TurnOf GroupOf). About t.cell (λ s. (q : ℕ) → IsProcessorOf (group_at s) q → Contains (map (λ (p : CpuPlace). p.cpu) c.args.seats.items) q)) (sym c.self.view_is) c.requires.all)
+    (subst (λ (t : TurnOf GroupOf). About t.cell (λ s. (q : ℕ) → IsProcessorOf (group_at s) q → Contains (map (λ (p : CpuSeatView). p.cpu) c.args.seats.items) q)) (sym c.self.view_is) c.requires.all)
 
 pub returns-clause-later : goal.returns-clause-later
 returns-clause-later c =
     let i = c.loop-seat.invariant.0 in
     let are = back-end c.self.inside.turn.cell c.args.seats.items c.loop-seat.seats.items i.0 c.loop-seat.back.items (omega (arith, c.in_default.ensures.cases.0, c.loop-seat.seats.ok.0)) i.1 i.2 in
     let begun = subst (λ (h : GroupHistory). IsBegunPlay (group_of h) h.entries) c.into_engine.ensures.same c.into_engine.ensures.begun in
-    subst (λ (h : GroupHistory). All (λ (p : CpuPlace). StartsWith h.entries p.seen) c.args.seats.items) (sym c.into_engine.ensures.same)
+    subst (λ (h : GroupHistory). All (λ (p : CpuSeatView). StartsWith h.entries p.seen) c.args.seats.items) (sym c.into_engine.ensures.same)
     (later-all c.self.inside.turn c.self.invariant c.args.seats.items c.loop-seat.back.items are c.close.result c.close.ensures.subject begun c.close.ensures.later)
 
 pub returns-clause-whole : goal.returns-clause-whole
@@ -44,5 +44,5 @@ returns-clause-whole c =
     let i = c.loop-seat.invariant.0 in
     let are = back-end c.self.inside.turn.cell c.args.seats.items c.loop-seat.seats.items i.0 c.loop-seat.back.items (omega (arith, c.in_default.ensures.cases.0, c.loop-seat.seats.ok.0)) i.1 i.2 in
     let begun = subst (λ (h : GroupHistory). IsBegunPlay (group_of h) h.entries) c.into_engine.ensures.same c.into_engine.ensures.begun in
-    subst (λ (h : GroupHistory). All (λ (p : CpuPlace). AgreeOn cpu_of p.cpu h.entries p.seen) c.args.seats.items) (sym c.into_engine.ensures.same)
+    subst (λ (h : GroupHistory). All (λ (p : CpuSeatView). AgreeOn cpu_of p.cpu h.entries p.seen) c.args.seats.items) (sym c.into_engine.ensures.same)
     (whole-all c.self.inside.turn c.self.invariant c.args.seats.items c.loop-seat.back.items are c.close.result c.close.ensures.subject begun c.close.ensures.whole)

@@ -1,7 +1,7 @@
 use Rattle.std.proofs.Common.{◌≡◌, ◌-◌, ◌<◌, Option, Some, length, sym, ap, ◌∙◌, subst, arith}
 use Rattle.std.specs.Prelude.{IfSome, slice_get, slice_index_or}
 use Rattle.std.proofs.lemmas.Option.{slice_get-get_or}
-use Rattle.turn_cell.specs.Places.{split_off}
+use Rattle.turn_cell.specs.SeatViews.{split_off}
 use Rattle.part_seat.specs.Partitions.{Seat, cells_of}
 use Rattle.part_seat.proofs.PlaceLaws.{cells-at}
 use Rattle.part_seat.proofs.partition.Partition.spare.Goals as goal

@@ -1,6 +1,6 @@
 use Rattle.std.proofs.Common.{◌≡◌, ◌-◌, ◌++◌, ◌∷◌, [], false, Some, refl, sym, ap, ◌∙◌, subst}
 use Rattle.std.specs.Prelude.{slice_index_or, slice_set}
-use Rattle.turn_cell.specs.Places.{IsJoined}
+use Rattle.turn_cell.specs.SeatViews.{IsJoined}
 use Rattle.split_inbox.specs.Books.{cpu_of}
 use Rattle.split_inbox.specs.Grants.{IsGrant}
 use Rattle.split_inbox.specs.declared.subject.SemOf.{SemOf}

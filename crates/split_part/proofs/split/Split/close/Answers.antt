@@ -1,6 +1,6 @@
 use Rattle.std.proofs.Common.{◌≡◌, ◌<◌, All, length, map, reverse, sym, ap, ◌∙◌, subst}
 use Rattle.std.proofs.lemmas.List.{length-map}
-use Rattle.turn_cell.specs.Places.{TurnOf}
+use Rattle.turn_cell.specs.SeatViews.{TurnOf}
 use Rattle.rt_plays.specs.Room.{processor_count}
 use Rattle.split_inbox.specs.declared.subject.SemOf.{SemOf}
 use Rattle.split_turns.proofs.SetLaws.{some-cpu}

@@ -1,6 +1,6 @@
 use Rattle.std.proofs.Common.{◌≡◌, ◌≤◌, List, length, map, sym, ap, ◌∙◌, subst, arith}
 use Rattle.split_inbox.specs.Sums.{sum_of}
-use Rattle.turn_cell.specs.Places.{Cell, TurnOf}
+use Rattle.turn_cell.specs.SeatViews.{Cell, TurnOf}
 use Rattle.split_inbox.specs.declared.subject.SemOf.{SemOf}
 use Rattle.rt_plays.specs.Room.{processor_count}
 use Rattle.part_seat.specs.PartSeats.{unlocks_of}
