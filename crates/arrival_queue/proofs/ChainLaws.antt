@@ -1,4 +1,4 @@
--- The clocks of a task from a place on, and the queues of all tasks at each task's number.
+-- The clocks of a task from a position on, and the queues of all tasks at each task's number.
 use Rattle.std.proofs.Common.{◌≡◌, ◌≢◌, ◌∙◌, ℕ, zero, suc, ◌+◌, ◌<◌, ◌≤◌, Bool, true, false, cond, List, [], ◌∷◌, map, length, get_or, set, drop, replicate, ap, arith, eqb-true, refl, subst, sym}
 use Rattle.std.proofs.lemmas.List.{get_or-set_other, get_or-set_same, length-set}
 use Rattle.std.specs.Prelude.{Option, None, Some, filter, ◌==◌}
@@ -29,7 +29,7 @@ from-own t i [] low e = absurd (omega (arith, low))
 from-own t zero (a ∷ ns) low e = clocks-own t a ns e
 from-own t (suc i) (a ∷ ns) low e = from-own t i ns (omega (arith, low)) e
 
--- from two places on, between which no arrival is of the task
+-- from two positions on, between which no arrival is of the task
 pub from-skip : (t i j : ℕ) (ns : List Arrival) → i ≤ j → j ≤ length ns → ((k : ℕ) → i ≤ k → k < j → (arrival_at ns k).task ≢ t) → clocks_of t (drop i ns) ≡ clocks_of t (drop j ns)
 from-skip t zero zero ns up low none = refl
 from-skip t (suc i) zero ns up low none = absurd (omega (arith, up))
@@ -105,21 +105,21 @@ module _ (ns : List Arrival) (es : List Ends) (chained : IsChained ns es) (t : �
   pub queue-none : (get_or es t no_ends).first ≡ None → queue_of ns t (get_or es t no_ends) ≡ []
   queue-none e = rw (e, drop-length ns)
 
-  pub place-inside : (i : ℕ) → (get_or es t no_ends).first ≡ Some i → i < length ns
-  place-inside i e = (chained.first t within).inside i e
+  pub position-inside : (i : ℕ) → (get_or es t no_ends).first ≡ Some i → i < length ns
+  position-inside i e = (chained.first t within).inside i e
 
   pub queue-some : (i : ℕ) → (get_or es t no_ends).first ≡ Some i → queue_of ns t (get_or es t no_ends) ≡ (arrival_at ns i).clock ∷ clocks_of t (drop (suc i) ns)
-  queue-some i e = rw e (from-own t i ns (place-inside i e) ((chained.first t within).same i e))
+  queue-some i e = rw e (from-own t i ns (position-inside i e) ((chained.first t within).same i e))
 
   next-is : (i : ℕ) → (get_or es t no_ends).first ≡ Some i → IsNext ns t i (arrival_at ns i).next
-  next-is i e = subst (λ n. IsNext ns n i (arrival_at ns i).next) ((chained.first t within).same i e) (chained.nexts i (place-inside i e))
+  next-is i e = subst (λ n. IsNext ns n i (arrival_at ns i).next) ((chained.first t within).same i e) (chained.nexts i (position-inside i e))
 
   -- the queue without its first
   pub queue-dropped : (i : ℕ) → (get_or es t no_ends).first ≡ Some i → (n : Option ℕ) → (arrival_at ns i).next ≡ n → (newest : Option ℕ) → queue_of ns t (record { first = n; newest = newest }) ≡ rest_of (queue_of ns t (get_or es t no_ends))
-  queue-dropped i e None end newest = rw (queue-some i e) (sym (from-skip t (suc i) (length ns) ns (omega (arith, place-inside i e)) (omega arith) (λ k from to. (next-is i e).none end k (omega (arith, from)) to)))
+  queue-dropped i e None end newest = rw (queue-some i e) (sym (from-skip t (suc i) (length ns) ns (omega (arith, position-inside i e)) (omega arith) (λ k from to. (next-is i e).none end k (omega (arith, from)) to)))
   queue-dropped i e (Some j) end newest = rw (queue-some i e) (sym (from-skip t (suc i) j ns (omega (arith, (next-is i e).after j end)) (omega (arith, (next-is i e).inside j end)) (λ k from to. (next-is i e).between j end k (omega (arith, from)) to)))
 
-  -- the ends without the first place
+  -- the ends without the first position
   abbrev pub dropped : ℕ → Ends
   dropped i = record { first = (arrival_at ns i).next; newest = (get_or es t no_ends).newest }
 

@@ -9,7 +9,7 @@ use Rattle.arrival_queue.specs.Chains.{IsChained, IsFirst, IsNewest, IsNext, Non
 use Rattle.arrival_queue.specs.Waiting.{queue_at}
 use Rattle.arrival_queue.specs.declared.Arrival.{Arrival}
 use Rattle.arrival_queue.specs.declared.Ends.{Ends}
-use Rattle.arrival_queue.proofs.ChainLaws.{clocks-other, clocks-own, equal-self, place-inside, queue-at, waiting-set}
+use Rattle.arrival_queue.proofs.ChainLaws.{clocks-other, clocks-own, equal-self, position-inside, queue-at, waiting-set}
 
 unequal : (n m : ℕ) → n == m ≡ false → n ≢ m
 unequal n m e is = let own : n == m ≡ true = equal-self n m is in let c : true ≡ false = sym own ∙ e in cc
@@ -159,12 +159,12 @@ module _ (ns : List Arrival) (es : List Ends) (chained : IsChained ns es) (t : �
     where
       by_newest : (o : Option ℕ) → ends.newest ≡ o → ⊥
       by_newest None e = newest.none e i low (sym is)
-      by_newest (Some j) e = by_place (cases_order i j)
+      by_newest (Some j) e = by_position (cases_order i j)
         where
-          by_place : (i ≡ j) ⊎ ((i < j) ⊎ (j < i)) → ⊥
-          by_place (inl at) = ne (e ∙ ap (λ (k : ℕ). Some k) (sym at))
-          by_place (inr (inl before)) = (chained.nexts i low).none end j before (newest.inside j e) (newest.same j e ∙ is)
-          by_place (inr (inr behind)) = newest.last j e i behind low (sym is)
+          by_position : (i ≡ j) ⊎ ((i < j) ⊎ (j < i)) → ⊥
+          by_position (inl at) = ne (e ∙ ap (λ (k : ℕ). Some k) (sym at))
+          by_position (inr (inl before)) = (chained.nexts i low).none end j before (newest.inside j e) (newest.same j e ∙ is)
+          by_position (inr (inr behind)) = newest.last j e i behind low (sym is)
 
   nexts : (i : ℕ) → i < length pushed → IsNext pushed (arrival_at pushed i).task i (arrival_at pushed i).next
   nexts i low = by_equal (i == length ns) refl
@@ -254,7 +254,7 @@ module _ (ns : List Arrival) (es : List Ends) (chained : IsChained ns es) (t : �
     where
       inside : (x : Option ℕ) → ends.first ≡ x → unwrap_or x (length ns) ≤ length linked
       inside None m = omega (arith, followed-length ns ends.newest (length ns))
-      inside (Some i) m = omega (arith, place-inside ns es chained t within i m, followed-length ns ends.newest (length ns))
+      inside (Some i) m = omega (arith, position-inside ns es chained t within i m, followed-length ns ends.newest (length ns))
 
   other-queue : (u : ℕ) → u < length es → u ≢ t → queue_of pushed u (get_or es u no_ends) ≡ queue_of ns u (get_or es u no_ends)
   other-queue u low ne = by_first (get_or es u no_ends).first refl
@@ -262,7 +262,7 @@ module _ (ns : List Arrival) (es : List Ends) (chained : IsChained ns es) (t : �
       by_first : (o : Option ℕ) → (get_or es u no_ends).first ≡ o → clocks_of u (drop (unwrap_or o (length pushed)) pushed) ≡ clocks_of u (drop (unwrap_or o (length ns)) ns)
       by_first None e = rw (drop-length pushed, drop-length ns)
       by_first (Some i) e =
-          let inside : i ≤ length linked = omega (arith, place-inside ns es chained u low i e, followed-length ns ends.newest (length ns)) in
+          let inside : i ≤ length linked = omega (arith, position-inside ns es chained u low i e, followed-length ns ends.newest (length ns)) in
           added-clocks u i linked new inside
           ∙ ap (λ (cs : List ℕ). cs ++ clocks_of u (new ∷ [])) (followed-clocks u i ns ends.newest (length ns))
           ∙ ap (λ (cs : List ℕ). clocks_of u (drop i ns) ++ cs) (clocks-other u new [] (λ is. ne (sym is)))

@@ -1,4 +1,4 @@
--- How the arrivals are kept: all in one list in their order, each with the place of its task's next one.
+-- How the arrivals are kept: all in one list in their order, each with the position of its task's next one.
 use Rattle.std.specs.Prelude.{◌≡◌, ◌≢◌, ℕ, suc, ◌<◌, List, [], ◌∷◌, drop, filter, length, map, Option, None, Some, slice_index_or, slice_set, unwrap_or, ◌==◌}
 use Rattle.arrival_queue.specs.declared.Arrival.{Arrival}
 use Rattle.arrival_queue.specs.declared.Ends.{Ends}
@@ -12,7 +12,7 @@ no_ends = record { first = None; newest = None }
 abbrev pub arrival_at : List Arrival → ℕ → Arrival
 arrival_at ns i = slice_index_or ns i no_arrival
 
--- where the arrival at a place, if there is one, has a next one
+-- where the arrival at a position, if there is one, has a next one
 abbrev pub followed : List Arrival → Option ℕ → ℕ → List Arrival
 followed ns None next = ns
 followed ns (Some i) next = slice_set ns i (record (arrival_at ns i) { next = Some next })
@@ -32,11 +32,11 @@ queues_from ns t (e ∷ es) = queue_of ns t e ∷ queues_from ns (suc t) es
 abbrev pub waiting_of : List Arrival → List Ends → List (List ℕ)
 waiting_of ns es = queues_from ns 0 es
 
--- no arrival from one place on, before another, is of the task
+-- no arrival from one position on, before another, is of the task
 abbrev pub NoneOf : ℕ → List Arrival → ℕ → ℕ → Type 0
 NoneOf t ns from to = (i : ℕ) → from < i → i < to → (arrival_at ns i).task ≢ t
 
--- the next arrival of a task after a place, if there is one
+-- the next arrival of a task after a position, if there is one
 pub record IsNext (ns : List Arrival) (t i : ℕ) (next : Option ℕ) : Type 0 where
   pub none : next ≡ None → NoneOf t ns i (length ns)
   pub after : (j : ℕ) → next ≡ Some j → i < j

@@ -9,7 +9,7 @@ use rt_base::{NoMemory, TaskNo, Tick};
 use std::alloc::Global;
 use std::marker::Model;
 
-/// An arrival: its task, its clock, and the place of the task's next arrival.
+/// An arrival: its task, its clock, and the position of the task's next arrival.
 #[derive(Clone, Copy, PartialEq, Eq)]
 struct Arrival {
     task: u32,
@@ -17,7 +17,7 @@ struct Arrival {
     next: Option<usize>,
 }
 
-/// Of a task the places of its first arrival that waits, and of its newest one.
+/// Of a task the positions of its first arrival that waits, and of its newest one.
 #[derive(Clone, Copy, PartialEq, Eq)]
 struct Ends {
     first: Option<usize>,
@@ -27,7 +27,7 @@ struct Ends {
 /// For each task the clocks of its arrivals that wait, the earliest first, with room for a number of arrivals of all
 /// tasks together.
 ///
-/// Each call takes a constant time. An arrival that was taken keeps its place: the room is for all arrivals together.
+/// Each call takes a constant time. An arrival that was taken keeps its position: the room is for all arrivals together.
 #[derive(Drop)]
 pub struct ArrivalQueue {
     arrivals: Vec<Arrival>,
@@ -51,14 +51,14 @@ impl Model for ArrivalQueue {
         × (length a.arrivals.items ≤ a.room) × (a.room ≤ vec_capacity a.arrivals) };
 }
 
-// The next arrival of the newest one's task is at this place.
-fn link_behind(arrivals: &mut Vec<Arrival>, newest: Option<usize>, place: usize)
+// The next arrival of the newest one's task is at this position.
+fn link_behind(arrivals: &mut Vec<Arrival>, newest: Option<usize>, position: usize)
     requires { IfSome newest (λ i. i < length arrivals.old.items) }
-    ensures items { arrivals.new.items ≡ followed arrivals.old.items newest place }
+    ensures items { arrivals.new.items ≡ followed arrivals.old.items newest position }
     ensures room { vec_capacity arrivals.new ≡ vec_capacity arrivals.old }
 {
     if let Some(newest) = newest {
-        arrivals[newest].next = Some(place);
+        arrivals[newest].next = Some(position);
     }
 }
 
@@ -90,8 +90,8 @@ impl ArrivalQueue {
         requires { task.0 < length self.now.queues }
         ensures { result ≡ first_of (queue_at self.now.queues task.0) }
     {
-        let place = self.ends[task.0 as usize].first?;
-        Some(self.arrivals[place].clock)
+        let position = self.ends[task.0 as usize].first?;
+        Some(self.arrivals[position].clock)
     }
 
     /// An arrival of the task at this clock, behind those that wait. It takes one of the room.
@@ -104,17 +104,17 @@ impl ArrivalQueue {
             (queue_at self.old.queues task.0 ++ clock.0 ∷ []) }
         ensures room { self.new.room ≡ self.old.room - 1 }
     {
-        let place = self.arrivals.len();
+        let position = self.arrivals.len();
         let ends = self.ends[task.0 as usize];
-        link_behind(&mut self.arrivals, ends.newest, place);
+        link_behind(&mut self.arrivals, ends.newest, position);
         self.arrivals.push_reserved(Arrival {
             task: task.0,
             clock: clock.0,
             next: None,
         });
         self.ends[task.0 as usize] = Ends {
-            first: Some(ends.first.unwrap_or(place)),
-            newest: Some(place),
+            first: Some(ends.first.unwrap_or(position)),
+            newest: Some(position),
         };
     }
 
@@ -128,9 +128,9 @@ impl ArrivalQueue {
         ensures room { self.new.room ≡ self.old.room }
     {
         let ends = self.ends[task.0 as usize];
-        if let Some(place) = ends.first {
+        if let Some(position) = ends.first {
             self.ends[task.0 as usize] = Ends {
-                first: self.arrivals[place].next,
+                first: self.arrivals[position].next,
                 newest: ends.newest,
             };
         }

@@ -21,7 +21,7 @@ use Rattle.rt_changes.proofs.requests.Laws.{entry_feeds}
 use Rattle.block_counts.specs.GroupRequests.{GroupRequests, IsAt, IsBetween, IsFit, NamesKnown, group_of}
 use Rattle.block_counts.specs.Bounding.{IsSemOf, IsTaskOf}
 use Rattle.block_counts.specs.Places.{IsFew}
-use Rattle.block_counts.proofs.PlaceLaws.{counted_at-keeps, few-counted, places-counted, places-push}
+use Rattle.block_counts.proofs.PlaceLaws.{counted_at-keeps, few-counted, positions-counted, positions-push}
 
 -- who asks, and for what, is there
 pub names-known : (p : Parts) (act : Act) (reply : Reply) (o : Option ℕ) (t s : ℕ) → Asks t s ≡ act_by act reply o → NamesKnown p act o → IsTaskOf p t × IsSemOf p s
@@ -51,11 +51,11 @@ names-known p act reply o t s h names = by_reply (accepted reply) h
 All-weaker : (P Q : Tally → Type 0) → ((x : Tally) → P x → Q x) → (xs : List Tally) → All P xs → All Q xs
 All-weaker P Q f xs all = λ k d low. f _ (all k d low)
 
-pub fit-asked : (p : Parts) (x : Tally) (xs : List Tally) (places : List (Option ℕ)) (room more entries spare : ℕ) → IsFit p xs places room entries spare → 0 < spare → x.no ≡ entries → x.ends ≡ 0 → x.ends_all ≡ 0 → x.task < length places → room ≤ more → IsFit p (xs ++ x ∷ []) (slice_set places x.task (Some (length xs))) more (entries + 1) (spare - 1)
-fit-asked p x xs places room more entries spare fit left no_is no_ends no_all there grows = record {
+pub fit-asked : (p : Parts) (x : Tally) (xs : List Tally) (positions : List (Option ℕ)) (room more entries spare : ℕ) → IsFit p xs positions room entries spare → 0 < spare → x.no ≡ entries → x.ends ≡ 0 → x.ends_all ≡ 0 → x.task < length positions → room ≤ more → IsFit p (xs ++ x ∷ []) (slice_set positions x.task (Some (length xs))) more (entries + 1) (spare - 1)
+fit-asked p x xs positions room more entries spare fit left no_is no_ends no_all there grows = record {
   valid = fit.valid;
-  places_are = places-push entries x xs places fit.places_are fit.numbered no_is there;
-  places_length = length-set places x.task (Some (length xs)) ∙ fit.places_length;
+  positions_are = positions-push entries x xs positions fit.positions_are fit.numbered no_is there;
+  positions_length = length-set positions x.task (Some (length xs)) ∙ fit.positions_length;
   numbered = All-push (λ (y : Tally). y.no < entries + 1) xs x (All-weaker (λ (y : Tally). y.no < entries) (λ (y : Tally). y.no < entries + 1) (λ y low. omega (arith, low)) xs fit.numbered) (omega (arith, no_is));
   few = All-push (IsFew (entries + 1)) xs x (All-weaker (IsFew entries) (IsFew (entries + 1)) (λ y low. record { ends_few = omega (arith, low.ends_few); all_few = omega (arith, low.all_few) }) xs fit.few) (record { ends_few = omega (arith, no_ends); all_few = omega (arith, no_all) });
   short = omega (arith, fit.short, length-append xs (x ∷ []));
@@ -63,11 +63,11 @@ fit-asked p x xs places room more entries spare fit left no_is no_ends no_all th
   limit = omega (arith, fit.limit, left);
 }
 
-pub fit-counted : (p : Parts) (s : ℕ) (ws : List Waiter) (xs : List Tally) (places : List (Option ℕ)) (room entries spare : ℕ) → IsFit p xs places room entries spare → 0 < spare → IsFit p (counted s ws xs) places room (entries + 1) (spare - 1)
-fit-counted p s ws xs places room entries spare fit left = record {
+pub fit-counted : (p : Parts) (s : ℕ) (ws : List Waiter) (xs : List Tally) (positions : List (Option ℕ)) (room entries spare : ℕ) → IsFit p xs positions room entries spare → 0 < spare → IsFit p (counted s ws xs) positions room (entries + 1) (spare - 1)
+fit-counted p s ws xs positions room entries spare fit left = record {
   valid = fit.valid;
-  places_are = places-counted s ws xs places fit.places_are;
-  places_length = fit.places_length;
+  positions_are = positions-counted s ws xs positions fit.positions_are;
+  positions_length = fit.positions_length;
   numbered = All-map (λ (y : Tally). y.no < entries + 1) (counted_at s ws xs) xs (λ k d low. let same = (counted_at-keeps s ws xs (slice_index_or xs k d)).0 in omega (arith, same, fit.numbered k d low));
   few = few-counted entries s ws xs fit.few;
   short = omega (arith, fit.short, length-map xs (counted_at s ws xs));

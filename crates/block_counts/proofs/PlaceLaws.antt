@@ -1,4 +1,4 @@
--- The list of requests, with the place of each task's newest one.
+-- The list of requests, with the position of each task's newest one.
 use Rattle.std.proofs.Common.{Bool, List, [], All, ap, arith, eqb-true, false, inl, inr, length, length-append, map, refl, subst, sym, true, ℕ, ◌&&◌, ◌++◌, ◌+◌, ◌∙◌, ◌∷◌, ◌≡◌, ◌≢◌, ◌<◌, ◌≤◌, ◌⊎◌}
 use borrow.Author.Tests.{ltb-true, ltb-false}
 use Rattle.std.proofs.lemmas.List.{get_or-map, get_or-set_other, get_or-set_same, get_or_append_left, get_or_at, length-map, map-id}
@@ -9,7 +9,7 @@ use Rattle.rt_rules.proofs.BoolLaws.{clash, neither, unless}
 use Rattle.rt_rules.proofs.MemberLaws.{equal_self}
 use Rattle.rt_changes.specs.Tallies.{Tally, Waiter, blocked_in, counted, counted_at, newest_from, newest_of, seen_by, waiter_tasks}
 use Rattle.rt_changes.proofs.requests.Feeding.{newest-push}
-use Rattle.block_counts.specs.Places.{ArePlaces, IsFew, IsPlaceOf, no_tally, seen_at, seen_in, seen_one}
+use Rattle.block_counts.specs.Places.{ArePositions, IsFew, IsPositionOf, no_tally, seen_at, seen_in, seen_one}
 use Rattle.block_counts.proofs.Lists.{map-same-at, map-same-but}
 
 -- ---- what counting leaves
@@ -31,8 +31,8 @@ newest-kept f keeps t (x ∷ xs) o = rw ((keeps x).0, (keeps x).1) (newest-kept 
 at-map : (f : Tally → Tally) (xs : List Tally) (i : ℕ) → i < length xs → slice_index_or (map f xs) i no_tally ≡ f (slice_index_or xs i no_tally)
 at-map f xs i low = get_or-map f xs i no_tally no_tally low
 
-pub places-counted : (s : ℕ) (ws : List Waiter) (xs : List Tally) (places : List (Option ℕ)) → ArePlaces xs places → ArePlaces (counted s ws xs) places
-places-counted s ws xs places are = record { placed = placed; none = λ t h. newest-kept f keeps t xs None ∙ are.none t h; rising = rising }
+pub positions-counted : (s : ℕ) (ws : List Waiter) (xs : List Tally) (positions : List (Option ℕ)) → ArePositions xs positions → ArePositions (counted s ws xs) positions
+positions-counted s ws xs positions are = record { placed = placed; none = λ t h. newest-kept f keeps t xs None ∙ are.none t h; rising = rising }
   where
     f : Tally → Tally
     f = counted_at s ws xs
@@ -46,7 +46,7 @@ places-counted s ws xs places are = record { placed = placed; none = λ t h. new
     no_at : (i : ℕ) → i < length xs → (slice_index_or (map f xs) i no_tally).no ≡ (slice_index_or xs i no_tally).no
     no_at i low = ap (λ (x : Tally). x.no) (at-map f xs i low) ∙ (keeps (slice_index_or xs i no_tally)).0
 
-    placed : (t i : ℕ) → slice_index_or places t None ≡ Some i → IsPlaceOf (map f xs) t i
+    placed : (t i : ℕ) → slice_index_or positions t None ≡ Some i → IsPositionOf (map f xs) t i
     placed t i h =
         let p = are.placed t i h in
         record {
@@ -108,8 +108,8 @@ counted-alike s ws w all x (inr h) = rw h (by_case (x.sem == s))
     by_case true = refl
     by_case false = refl
 
-pub counted-more : (s : ℕ) (w : Waiter) (ws : List Waiter) (xs : List Tally) (places : List (Option ℕ)) → ArePlaces xs places → has w.task (waiter_tasks ws) ≡ false → seen_one places s w (counted s ws xs) ≡ counted s (ws ++ w ∷ []) xs
-counted-more s w ws xs places are fresh = by_place (slice_index_or places w.task None) refl
+pub counted-more : (s : ℕ) (w : Waiter) (ws : List Waiter) (xs : List Tally) (positions : List (Option ℕ)) → ArePositions xs positions → has w.task (waiter_tasks ws) ≡ false → seen_one positions s w (counted s ws xs) ≡ counted s (ws ++ w ∷ []) xs
+counted-more s w ws xs positions are fresh = by_position (slice_index_or positions w.task None) refl
   where
     f : Tally → Tally
     f = counted_at s ws xs
@@ -137,7 +137,7 @@ counted-more s w ws xs places are fresh = by_place (slice_index_or places w.task
         by_case true e = rw e refl
         by_case false e = rw e refl
 
-    other : (i : ℕ) → IsPlaceOf xs w.task i → (j : ℕ) → j < length xs → j ≢ i → f (slice_index_or xs j no_tally) ≡ h (slice_index_or xs j no_tally)
+    other : (i : ℕ) → IsPositionOf xs w.task i → (j : ℕ) → j < length xs → j ≢ i → f (slice_index_or xs j no_tally) ≡ h (slice_index_or xs j no_tally)
     other i p j low apart = by_case ((slice_index_or xs j no_tally).task == w.task) refl
       where
         no_i : ℕ
@@ -164,15 +164,15 @@ counted-more s w ws xs places are fresh = by_place (slice_index_or places w.task
             let own : newest_of (slice_index_or xs j no_tally).task xs ≡ Some no_i = ap (λ t. newest_of t xs) same ∙ p.newest in
             counted-alike s ws w xs _ (inr (rw own differ))
 
-    by_place : (o : Option ℕ) → slice_index_or places w.task None ≡ o → seen_in o s w.blocked (map f xs) ≡ map h xs
-    by_place None e = map-same-at f h no_tally xs (λ j low. unasked (are.none w.task e) _)
-    by_place (Some i) e =
+    by_position : (o : Option ℕ) → slice_index_or positions w.task None ≡ o → seen_in o s w.blocked (map f xs) ≡ map h xs
+    by_position None e = map-same-at f h no_tally xs (λ j low. unasked (are.none w.task e) _)
+    by_position (Some i) e =
         let p = are.placed w.task i e in
         ap (λ y. slice_set (map f xs) i (seen_at s w.blocked y)) (at-map f xs i p.low) ∙ ap (λ y. slice_set (map f xs) i y) (newest (slice_index_or xs i no_tally) p.task_is p.newest) ∙ map-same-but f h no_tally xs i p.low (other i p)
 
 -- ---- one more request
-pub places-push : (n : ℕ) (x : Tally) (xs : List Tally) (places : List (Option ℕ)) → ArePlaces xs places → All (λ (y : Tally). y.no < n) xs → x.no ≡ n → x.task < length places → ArePlaces (xs ++ x ∷ []) (slice_set places x.task (Some (length xs)))
-places-push n x xs places are below no_is there = record { placed = λ t i h. placed t i (t == x.task) refl h; none = λ t h. none t (t == x.task) refl h; rising = λ j k less low. rising j k less (nat_lt k (length xs)) refl low }
+pub positions-push : (n : ℕ) (x : Tally) (xs : List Tally) (positions : List (Option ℕ)) → ArePositions xs positions → All (λ (y : Tally). y.no < n) xs → x.no ≡ n → x.task < length positions → ArePositions (xs ++ x ∷ []) (slice_set positions x.task (Some (length xs)))
+positions-push n x xs positions are below no_is there = record { placed = λ t i h. placed t i (t == x.task) refl h; none = λ t h. none t (t == x.task) refl h; rising = λ j k less low. rising j k less (nat_lt k (length xs)) refl low }
   where
     last : slice_index_or (xs ++ x ∷ []) (length xs) no_tally ≡ x
     last = get_or_at xs x [] no_tally (length xs) refl
@@ -183,8 +183,8 @@ places-push n x xs places are below no_is there = record { placed = λ t i h. pl
     before : (j : ℕ) → j < length xs → slice_index_or (xs ++ x ∷ []) j no_tally ≡ slice_index_or xs j no_tally
     before j low = get_or_append_left xs (x ∷ []) no_tally j low
 
-    own : slice_index_or (slice_set places x.task (Some (length xs))) x.task None ≡ Some (length xs)
-    own = get_or-set_same places x.task (Some (length xs)) None there
+    own : slice_index_or (slice_set positions x.task (Some (length xs))) x.task None ≡ Some (length xs)
+    own = get_or-set_same positions x.task (Some (length xs)) None there
 
     newest : (t : ℕ) → newest_of t (xs ++ x ∷ []) ≡ (if t == x.task then Some x.no else newest_of t xs)
     newest t = newest-push t xs None x
@@ -192,22 +192,22 @@ places-push n x xs places are below no_is there = record { placed = λ t i h. pl
     apart : (t : ℕ) → t == x.task ≡ false → t ≢ x.task
     apart t k e = clash _ (rw (← e) (equal_self t)) k
 
-    placed : (t i : ℕ) (b : Bool) → t == x.task ≡ b → slice_index_or (slice_set places x.task (Some (length xs))) t None ≡ Some i → IsPlaceOf (xs ++ x ∷ []) t i
+    placed : (t i : ℕ) (b : Bool) → t == x.task ≡ b → slice_index_or (slice_set positions x.task (Some (length xs))) t None ≡ Some i → IsPositionOf (xs ++ x ∷ []) t i
     placed t i true k h =
         let same : t ≡ x.task = eqb-true t x.task k in
-        let here : Some (length xs) ≡ Some i = sym own ∙ ap (λ u. slice_index_or (slice_set places x.task (Some (length xs))) u None) (sym same) ∙ h in
+        let here : Some (length xs) ≡ Some i = sym own ∙ ap (λ u. slice_index_or (slice_set positions x.task (Some (length xs))) u None) (sym same) ∙ h in
         let at : length xs ≡ i = cc in
-        subst (IsPlaceOf (xs ++ x ∷ []) t) at (record { low = omega (arith, more); task_is = ap (λ (y : Tally). y.task) last ∙ sym same; newest = newest t ∙ rw k (ap (λ (y : Tally). Some y.no) (sym last)) })
+        subst (IsPositionOf (xs ++ x ∷ []) t) at (record { low = omega (arith, more); task_is = ap (λ (y : Tally). y.task) last ∙ sym same; newest = newest t ∙ rw k (ap (λ (y : Tally). Some y.no) (sym last)) })
     placed t i false k h =
-        let p = are.placed t i (sym (get_or-set_other places x.task t (Some (length xs)) None (apart t k)) ∙ h) in
+        let p = are.placed t i (sym (get_or-set_other positions x.task t (Some (length xs)) None (apart t k)) ∙ h) in
         record { low = omega (arith, more, p.low); task_is = ap (λ (y : Tally). y.task) (before i p.low) ∙ p.task_is; newest = newest t ∙ rw k (p.newest ∙ ap (λ (y : Tally). Some y.no) (sym (before i p.low))) }
 
-    none : (t : ℕ) (b : Bool) → t == x.task ≡ b → slice_index_or (slice_set places x.task (Some (length xs))) t None ≡ None → newest_of t (xs ++ x ∷ []) ≡ None
+    none : (t : ℕ) (b : Bool) → t == x.task ≡ b → slice_index_or (slice_set positions x.task (Some (length xs))) t None ≡ None → newest_of t (xs ++ x ∷ []) ≡ None
     none t true k h =
         let same : t ≡ x.task = eqb-true t x.task k in
-        let here : Some (length xs) ≡ None = sym own ∙ ap (λ u. slice_index_or (slice_set places x.task (Some (length xs))) u None) (sym same) ∙ h in
+        let here : Some (length xs) ≡ None = sym own ∙ ap (λ u. slice_index_or (slice_set positions x.task (Some (length xs))) u None) (sym same) ∙ h in
         cc
-    none t false k h = newest t ∙ rw k (are.none t (sym (get_or-set_other places x.task t (Some (length xs)) None (apart t k)) ∙ h))
+    none t false k h = newest t ∙ rw k (are.none t (sym (get_or-set_other positions x.task t (Some (length xs)) None (apart t k)) ∙ h))
 
     rising : (j k : ℕ) → j < k → (b : Bool) → nat_lt k (length xs) ≡ b → k < length (xs ++ x ∷ []) → (slice_index_or (xs ++ x ∷ []) j no_tally).no < (slice_index_or (xs ++ x ∷ []) k no_tally).no
     rising j k less true e low = let inside : k < length xs = ltb-true k (length xs) e in rw (before k inside, before j (omega (arith, less, inside))) (are.rising j k less inside)

@@ -15,7 +15,7 @@ use Rattle.rt_model.specs.Runs.{runs}
 use Rattle.rt_changes.specs.CountLaws.{act_of}
 use Rattle.rt_changes.specs.Tallies.{AreWaiters, Tally, Waiter, tallies}
 use Rattle.block_counts.specs.Bounding.{IsSemOf, IsTaskOf}
-use Rattle.block_counts.specs.Places.{ArePlaces, IsFew}
+use Rattle.block_counts.specs.Places.{ArePositions, IsFew}
 
 -- a group of a setup, its requests so far, how many entries were fed and room for how many more
 pub record GroupRequests : Type 0 where
@@ -46,12 +46,12 @@ pub record IsBetween (b : GroupRequests) (past : Past) (e : Entry) (running : Op
   pub runs_is : running ≡ runs e.step.cpu.0 (clock_moved e.step past)
   pub waiting : (t s : ℕ) → act_of (group_of b) e.step past ≡ Frees t s → AreWaiters (group_of b) s (clock_moved e.step past) ws
 
--- what is kept at all times: the place of each task's newest request, numbers below the next entry's, counts of no more than the
+-- what is kept at all times: the position of each task's newest request, numbers below the next entry's, counts of no more than the
 -- entries fed, and room for the entries to come
-pub record IsFit (p : Parts) (xs : List Tally) (places : List (Option ℕ)) (room entries spare : ℕ) : Type 0 where
+pub record IsFit (p : Parts) (xs : List Tally) (positions : List (Option ℕ)) (room entries spare : ℕ) : Type 0 where
   pub valid : IsValid p
-  pub places_are : ArePlaces xs places
-  pub places_length : length places ≡ length p.tasks + 1
+  pub positions_are : ArePositions xs positions
+  pub positions_length : length positions ≡ length p.tasks + 1
   pub numbered : All (λ (x : Tally). x.no < entries) xs
   pub few : All (IsFew entries) xs
   pub short : length xs ≤ entries

@@ -14,7 +14,7 @@ ghost use Rattle.block_counts.specs.SeenWords.{tallies_of, waiters_of};
 
 use crate::at_sem::{AtSem, at_sem};
 use crate::bounds::{bound_of, no_user_counts};
-use crate::requests::{ask, count_end, no_places, no_requests};
+use crate::requests::{ask, count_end, no_positions, no_requests};
 use crate::seen::{Seen, Waiting};
 use rt_base::{GroupNo, NoMemory, TaskNo};
 use rt_rules::Entry;
@@ -30,7 +30,7 @@ pub struct Blocks {
     setup: Setup,
     group: GroupNo,
     seen: Vec<Seen>,
-    places: Vec<Option<u32>>,
+    positions: Vec<Option<u32>>,
     // At the number of a semaphore how many tasks declare it, once it was asked for.
     users: Vec<Option<u32>>,
     entries: u32,
@@ -54,7 +54,7 @@ impl Model for Blocks {
     } };
 
     ghost invariant = { λ a.
-        IsFit a.setup (tallies_of a.seen.items) a.places.items (vec_capacity a.seen)
+        IsFit a.setup (tallies_of a.seen.items) a.positions.items (vec_capacity a.seen)
         a.entries a.spare
         × AreUserCounts (record { setup = a.setup; number = a.group.0 }) a.users.items };
 }
@@ -72,14 +72,14 @@ impl Blocks {
     {
         let setup = setup.share()?;
         let tasks = setup.parts().tasks.as_slice().len();
-        let places = no_places(alloc, tasks + 1)?;
+        let positions = no_positions(alloc, tasks + 1)?;
         let seen = no_requests(alloc, room as usize)?;
         let users = no_user_counts(alloc, setup.parts().sems.as_slice().len())?;
         Ok(Blocks {
             setup,
             group,
             seen,
-            places,
+            positions,
             users,
             entries: 0,
             spare: room,
@@ -123,11 +123,11 @@ impl Blocks {
                     ends_all: 0,
                     bound,
                 };
-                ask(&mut self.seen, self.places.as_mut_slice(), new);
+                ask(&mut self.seen, self.positions.as_mut_slice(), new);
             }
             AtSem::Frees(_, sem) => count_end(
                 self.seen.as_mut_slice(),
-                self.places.as_slice(),
+                self.positions.as_slice(),
                 sem,
                 waiting,
             ),

@@ -86,8 +86,8 @@ fn count_cpus(parts: &Parts, group: GroupNo, task: TaskNo) -> u32
         (home (record { setup = parts.now; number = group.0 }) task.0) }
     ensures few { result ≤ MOST_CPUS }
 {
-    let place = task.0 as usize - 1;
-    let cluster = parts.tasks.as_slice()[place].cluster;
+    let position = task.0 as usize - 1;
+    let cluster = parts.tasks.as_slice()[position].cluster;
     parts.clusters.as_slice()[cluster.0 as usize].cpus
 }
 
@@ -106,8 +106,8 @@ pub(crate) fn bound_of(
     ensures bound { result ≡ bound (record { setup = parts.now; number = group.0 }) task.0 sem.0 }
     ensures counts { AreUserCounts (record { setup = parts.now; number = group.0 }) counts.new }
 {
-    let place = sem.0 as usize - 1;
-    match parts.sems.as_slice()[place].protocol {
+    let position = sem.0 as usize - 1;
+    match parts.sems.as_slice()[position].protocol {
         Protocol::Omlp => {
             let cpus = count_cpus(parts, group, task);
             Some((2 * cpus).saturating_sub(1))

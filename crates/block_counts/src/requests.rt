@@ -1,17 +1,17 @@
-//! The list of requests, and the place of each task's newest one.
+//! The list of requests, and the position of each task's newest one.
 ghost use Rattle.std.specs.Prelude.{◌≡◌, ◌+◌, ◌-◌, ◌^◌, ◌<◌, ◌≤◌, ℕ, [], ◌∷◌, ◌++◌, All, Some, None, IfOk, length, replicate, slice_index_or, slice_set, vec_len, vec_capacity};
 ghost use Rattle.rt_base.specs.declared.TheConstants.{MOST_STEPS};
 ghost use Rattle.rt_rules.specs.Distinct.{IsDistinct};
 ghost use Rattle.rt_changes.specs.Tallies.{counted, waiter_tasks};
 ghost use Rattle.block_counts.specs.SeenWords.{tallies_of, tally_of, waiter_of, waiters_of};
-ghost use Rattle.block_counts.specs.Places.{ArePlaces, IsFew, PointWithin, seen_at, seen_one};
+ghost use Rattle.block_counts.specs.Places.{ArePositions, IsFew, PointWithin, seen_at, seen_one};
 
 use crate::seen::{Seen, Waiting};
 use rt_base::{NoMemory, SemNo, TaskNo};
 use std::alloc::Global;
 
 /// As many tasks with no request.
-pub(crate) fn no_places(alloc: Global, tasks: usize) -> Result<Vec<Option<u32>>, NoMemory>
+pub(crate) fn no_positions(alloc: Global, tasks: usize) -> Result<Vec<Option<u32>>, NoMemory>
     ensures { IfOk result (λ v. v.items ≡ replicate tasks None) }
 {
     Ok(vec![in alloc; None; tasks]?)
@@ -26,24 +26,24 @@ pub(crate) fn no_requests(alloc: Global, room: usize) -> Result<Vec<Seen>, NoMem
 }
 
 /// Adds a request, for which there is room: the newest of its task.
-pub(crate) fn ask(seen: &mut Vec<Seen>, places: &mut [Option<u32>], new: Seen)
+pub(crate) fn ask(seen: &mut Vec<Seen>, positions: &mut [Option<u32>], new: Seen)
     requires room { vec_len seen.old < vec_capacity seen.old }
     requires few { vec_len seen.old < MOST_STEPS }
-    requires task { new.task.0 < length places.old }
+    requires task { new.task.0 < length positions.old }
     ensures seen { seen.new.items ≡ seen.old.items ++ new ∷ [] }
-    ensures places { places.new ≡ slice_set places.old new.task.0 (Some (vec_len seen.old)) }
+    ensures positions { positions.new ≡ slice_set positions.old new.task.0 (Some (vec_len seen.old)) }
     ensures capacity { vec_capacity seen.old ≤ vec_capacity seen.new }
 {
-    places[new.task.0 as usize] = Some(seen.len() as u32);
+    positions[new.task.0 as usize] = Some(seen.len() as u32);
     seen.push_reserved(new);
 }
 
-// The place of a task's newest request.
-fn place_of(places: &[Option<u32>], task: TaskNo) -> Option<u32>
-    ensures { result ≡ slice_index_or places.now task.0 None }
+// The position of a task's newest request.
+fn position_of(positions: &[Option<u32>], task: TaskNo) -> Option<u32>
+    ensures { result ≡ slice_index_or positions.now task.0 None }
 {
-    match places.get(task.0 as usize) {
-        Some(place) => *place,
+    match positions.get(task.0 as usize) {
+        Some(position) => *position,
         None => None,
     }
 }
@@ -64,25 +64,25 @@ fn see(one: &mut Seen, sem: SemNo, blocked: bool)
 
 // A critical section of the semaphore ends while the task waits: its newest request, if that is one for the semaphore,
 // has seen it.
-fn see_end(seen: &mut [Seen], places: &[Option<u32>], sem: SemNo, waiting: Waiting)
-    requires places { PointWithin (length seen.old) places.now }
+fn see_end(seen: &mut [Seen], positions: &[Option<u32>], sem: SemNo, waiting: Waiting)
+    requires positions { PointWithin (length seen.old) positions.now }
     requires few { All (IsFew (MOST_STEPS + 1)) (tallies_of seen.old) }
     ensures { tallies_of seen.new
-        ≡ seen_one places.now sem.0 (waiter_of waiting) (tallies_of seen.old) }
+        ≡ seen_one positions.now sem.0 (waiter_of waiting) (tallies_of seen.old) }
 {
-    if let Some(place) = place_of(places, waiting.task) {
-        see(&mut seen[place as usize], sem, waiting.blocked);
+    if let Some(position) = position_of(positions, waiting.task) {
+        see(&mut seen[position as usize], sem, waiting.blocked);
     }
 }
 
 /// A critical section of the semaphore ends while these tasks wait.
-pub(crate) fn count_end(seen: &mut [Seen], places: &[Option<u32>], sem: SemNo, waiting: &[Waiting])
-    requires places { ArePlaces (tallies_of seen.old) places.now }
+pub(crate) fn count_end(seen: &mut [Seen], positions: &[Option<u32>], sem: SemNo, waiting: &[Waiting])
+    requires positions { ArePositions (tallies_of seen.old) positions.now }
     requires few { All (IsFew MOST_STEPS) (tallies_of seen.old) }
     requires once { IsDistinct (waiter_tasks (waiters_of waiting.now)) }
     ensures { tallies_of seen.new ≡ counted sem.0 (waiters_of waiting.now) (tallies_of seen.old) }
 {
     for one in waiting {
-        see_end(seen, places, sem, *one);
+        see_end(seen, positions, sem, *one);
     }
 }

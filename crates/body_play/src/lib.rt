@@ -21,9 +21,9 @@ pub use turns::Turns;
 fn operation_at(tasks: &[Task], runs: TaskNo, at: u32) -> Option<Op>
     ensures { result ≡ operations.operation_at tasks.now runs.0 at }
 {
-    let place = runs.0.saturating_sub(1) as usize;
-    if place < tasks.len() {
-        tasks[place].body.as_slice().get(at as usize).copied()
+    let position = runs.0.saturating_sub(1) as usize;
+    if position < tasks.len() {
+        tasks[position].body.as_slice().get(at as usize).copied()
     } else {
         None
     }
@@ -75,7 +75,7 @@ fn takes_interrupt(s: &Situation) -> bool
 ///
 /// An interrupt is taken where one is pending and what runs, if anything, can be preempted. Else the running job's next
 /// operation is done. It is `None` where nothing runs, where that operation is Work and the processor has worked at this
-/// clock or the reservation has no budget left, and where the body has no operation at that place.
+/// clock or the reservation has no budget left, and where the body has no operation at that position.
 ///
 /// Example: where task 1 runs, has done nothing, and no interrupt is pending, the first operation of its body is next.
 pub fn next_act(setup: &Setup, s: &Situation) -> Option<Act>

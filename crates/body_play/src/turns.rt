@@ -41,7 +41,7 @@ impl Model for Turns {
     ghost view = { λ a. record { horizon = a.horizon; rows = a.rows.items } };
 }
 
-/// A place for each number that a processor can have, with nothing in it.
+/// A position for each number that a processor can have, with nothing in it.
 fn no_rows(alloc: Global) -> Result<Vec<Option<Turn>>, NoMemory>
     ensures { IfOk result (λ v. v.items ≡ replicate MOST_CPUS None) }
 {

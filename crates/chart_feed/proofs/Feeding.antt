@@ -13,7 +13,7 @@ use Rattle.chart_rows.specs.declared.units.Unit.{Unit}
 use Rattle.chart_feed.specs.EntryClocks.{EntriesKept, clocks_in, entry_clocks}
 use Rattle.chart_feed.specs.Feeds.{IsActed, IsClocked, IsMoved, IsTurned}
 use Rattle.chart_feed.specs.inside.Stands.{CanAct, CanSee}
-use Rattle.chart_feed.specs.WindowStrips.{entries_of, is_in, place}
+use Rattle.chart_feed.specs.WindowStrips.{entries_of, is_in, position}
 use Rattle.chart_feed.specs.declared.feed.Feed.{Feed}
 use Rattle.chart_feed.proofs.Edges.{clocks-acted, clocks-clocked}
 use Rattle.chart_feed.proofs.Entries.{length-entries}
@@ -34,30 +34,30 @@ entries-stepped w d tick past clock is =
 
 module _ (f : Feed) (axis : Axis) (w : Window) (v : Standing) (tick : ℕ) (past : Past) where
   abbrev IsInside : ℕ → Bool → Type 0
-  IsInside clock inside = (x : Past) → clock ≡ now x → f.entries.count ≡ entries_in x → inside ≡ is_in f.window (place f.axis x)
+  IsInside clock inside = (x : Past) → clock ≡ now x → f.entries.count ≡ entries_in x → inside ≡ is_in f.window (position f.axis x)
 
   pub can-see : (clock : ℕ) (inside : Bool) → IsInside clock inside → IsClocked v clock (Clock tick ∷ past) → IsTurned axis w (group_of v) tick past f
       → CanSee v f.axis f.window tick past inside f.begun f.rows
-  can-see clock inside by_place clocked turned = record {
+  can-see clock inside by_position clocked turned = record {
     at = clocked.at;
-    inside_is = by_place (Clock tick ∷ past) clocked.clock_is (counted f.window past f.entries turned.0.entries_are);
+    inside_is = by_position (Clock tick ∷ past) clocked.clock_is (counted f.window past f.entries turned.0.entries_are);
     begun_is = turned.1;
     rows_are = turned.0.rows_are;
   }
 
-  -- the place of the column that goes on is as the axis and the window have it
+  -- the position of the column that goes on is as the axis and the window have it
   pub inside-same : (clock : ℕ) (inside : Bool) → IsInside clock inside → clock ≡ now (Clock tick ∷ past) → IsMoved axis w (group_of v) tick past f
-      → inside ≡ is_in w (place axis (Clock tick ∷ past))
-  inside-same clock inside by_place clock_is moved =
-      by_place (Clock tick ∷ past) clock_is (counted f.window past f.entries moved.entries_are)
-      ∙ (λ i. is_in (moved.window_is i) (place (moved.axis_is i) (Clock tick ∷ past)))
+      → inside ≡ is_in w (position axis (Clock tick ∷ past))
+  inside-same clock inside by_position clock_is moved =
+      by_position (Clock tick ∷ past) clock_is (counted f.window past f.entries moved.entries_are)
+      ∙ (λ i. is_in (moved.window_is i) (position (moved.axis_is i) (Clock tick ∷ past)))
 
   pub can-act : (clock : ℕ) (act : PastAct) (inside : Bool) (unit unit' : Option Unit) → IsInside clock inside
       → ((m : Moment) → act ≡ m.act → IsForetold (group_of v) m unit → IsTold (group_of v) m unit') → IsActed axis w v clock act tick past unit f
       → CanAct v f.axis f.window (Clock tick ∷ past) act inside unit' f.rows
-  can-act clock act inside unit unit' by_place told acted = record {
+  can-act clock act inside unit unit' by_position told acted = record {
     at = acted.clocked.at;
-    inside_is = by_place (Clock tick ∷ past) acted.clocked.clock_is (counted f.window past f.entries acted.moved.entries_are);
-    told = λ h. told (record { act = act; before = Clock tick ∷ past }) refl (acted.expected (sym (inside-same clock inside by_place acted.clocked.clock_is acted.moved) ∙ h));
+    inside_is = by_position (Clock tick ∷ past) acted.clocked.clock_is (counted f.window past f.entries acted.moved.entries_are);
+    told = λ h. told (record { act = act; before = Clock tick ∷ past }) refl (acted.expected (sym (inside-same clock inside by_position acted.clocked.clock_is acted.moved) ∙ h));
     rows_are = acted.moved.rows_are;
   }

@@ -6,7 +6,7 @@ use Rattle.rt_task.specs.declared.Task.{Task}
 use Rattle.rt_rules.specs.Numbers.{has}
 use Rattle.rt_model.specs.Group.{Group, group_processors, task, tasks}
 use Rattle.rt_model.specs.Past.{Past}
-use Rattle.rt_plays.proofs.GroupPlaces.{tasks_are_at_home}
+use Rattle.rt_plays.proofs.AtHomeLaws.{tasks_are_at_home}
 use Rattle.rt_plays.proofs.SetLimits.{sets_are_in_limits}
 use Rattle.trace_views.specs.Columns.{Column}
 use Rattle.job_facts.proofs.Periods.{period-positive}

@@ -15,7 +15,7 @@ use Rattle.chart_feed.specs.inside.Stands.{HasRows}
 use Rattle.chart_rows.specs.Rows.{RowsKept, rows_acted, rows_closed, rows_of, rows_seen}
 use Rattle.chart_rows.specs.Strips.{Strip, blank, done, seen, strip_of}
 use Rattle.chart_rows.specs.UpTo.{AreUpTo}
-use Rattle.chart_feed.specs.WindowStrips.{closed, closed_below, entry_strip, has_begun, is_in, open_at, open_moved, open_turned, place, tick_strip}
+use Rattle.chart_feed.specs.WindowStrips.{closed, closed_below, entry_strip, has_begun, is_in, open_at, open_moved, open_turned, position, tick_strip}
 use Rattle.chart_feed.proofs.Moves.{acted-entries, acted-open, acted-outside, acted-ticks, below-beyond, below-more, below-same, ended-entries, ended-ticks, gap-more, moved-ticks, turned-entries, turned-ticks}
 use Rattle.chart_rows.proofs.RowLaws.{acted-rows, closed-rows, seen-rows}
 use Rattle.chart_rows.proofs.UpTo.{rows-still, rows-up-to}
@@ -106,18 +106,18 @@ module _ (g : Group) (w : Window) (past : Past) (rows : RowsKept) where
   -- ---- the clock is moved
 
   -- the column that goes on, by whether it is in the window
-  moved-open : (axis : Axis) (tick : ℕ) → (if is_in w (place axis (Clock tick ∷ past)) then seen (Clock tick ∷ past) (open_turned axis w tick past) else blank) ≡ open_moved axis w (Clock tick ∷ past)
+  moved-open : (axis : Axis) (tick : ℕ) → (if is_in w (position axis (Clock tick ∷ past)) then seen (Clock tick ∷ past) (open_turned axis w tick past) else blank) ≡ open_moved axis w (Clock tick ∷ past)
   moved-open Ticks tick = moved-ticks w tick past
   moved-open Entries tick = refl
 
-  pub moved-inside : (axis : Axis) (tick : ℕ) → is_in w (place axis (Clock tick ∷ past)) ≡ true → rows ≡ rows_of g (closed axis w (Clock tick ∷ past)) (open_turned axis w tick past)
+  pub moved-inside : (axis : Axis) (tick : ℕ) → is_in w (position axis (Clock tick ∷ past)) ≡ true → rows ≡ rows_of g (closed axis w (Clock tick ∷ past)) (open_turned axis w tick past)
       → rows_seen g (Clock tick ∷ past) rows ≡ rows_of g (closed axis w (Clock tick ∷ past)) (open_moved axis w (Clock tick ∷ past))
   moved-inside axis tick h is =
       ap (rows_seen g (Clock tick ∷ past)) is ∙ seen-rows g (closed axis w (Clock tick ∷ past)) (open_turned axis w tick past) (Clock tick ∷ past)
       ∙ ap (rows_of g (closed axis w (Clock tick ∷ past))) (sym (ap (λ (b : Bool). if b then seen (Clock tick ∷ past) (open_turned axis w tick past) else blank) h) ∙ moved-open axis tick)
 
   -- outside the window nothing went on before the move
-  none-turned : (axis : Axis) (tick : ℕ) → is_in w (place axis (Clock tick ∷ past)) ≡ false → open_turned axis w tick past ≡ blank
+  none-turned : (axis : Axis) (tick : ℕ) → is_in w (position axis (Clock tick ∷ past)) ≡ false → open_turned axis w tick past ≡ blank
   none-turned Entries tick h = refl
   none-turned Ticks tick h = by_tick (nat_le tick (now past)) refl
     where
@@ -128,13 +128,13 @@ module _ (g : Group) (w : Window) (past : Past) (rows : RowsKept) where
           ap (λ (b : Bool). if b then tick_strip past (now past) else blank) gone
       by_tick false m = refl
 
-  pub moved-outside : (axis : Axis) (tick : ℕ) → is_in w (place axis (Clock tick ∷ past)) ≡ false → rows ≡ rows_of g (closed axis w (Clock tick ∷ past)) (open_turned axis w tick past)
+  pub moved-outside : (axis : Axis) (tick : ℕ) → is_in w (position axis (Clock tick ∷ past)) ≡ false → rows ≡ rows_of g (closed axis w (Clock tick ∷ past)) (open_turned axis w tick past)
       → rows ≡ rows_of g (closed axis w (Clock tick ∷ past)) (open_moved axis w (Clock tick ∷ past))
   moved-outside axis tick h is =
       is ∙ ap (rows_of g (closed axis w (Clock tick ∷ past))) (none-turned axis tick h ∙ sym (ap (λ (b : Bool). if b then seen (Clock tick ∷ past) (open_turned axis w tick past) else blank) h) ∙ moved-open axis tick)
 
   -- the column that goes on in the window has the newest state
-  moved-seen : (axis : Axis) → is_in w (place axis past) ≡ true → (s : Strip) × (open_moved axis w past ≡ seen past s)
+  moved-seen : (axis : Axis) → is_in w (position axis past) ≡ true → (s : Strip) × (open_moved axis w past ≡ seen past s)
   moved-seen Ticks h = let s = strip-seen past in (s.0, ap (λ (b : Bool). if b then tick_strip past (now past) else blank) h ∙ s.1)
   moved-seen Entries h = (blank, ap (λ (b : Bool). if b then seen past blank else blank) h)
 
@@ -147,7 +147,7 @@ module _ (g : Group) (w : Window) (past : Past) (rows : RowsKept) where
       ap (λ (b : Bool). if b then open_at Ticks w past else blank) yes ∙ ap (λ (b : Bool). if b then tick_strip past (now past) else blank) h ∙ s.1 in
       rows-still g tick past rows low (rows-up-to g (closed Ticks w (Clock tick ∷ past)) s.0 past rows (is ∙ ap (rows_of g (closed Ticks w (Clock tick ∷ past))) going))
 
-  pub moved-begun : (axis : Axis) (tick : ℕ) → has_begun axis tick past ≡ true → is_in w (place axis (Clock tick ∷ past)) ≡ true → rows ≡ rows_of g (closed axis w (Clock tick ∷ past)) (open_turned axis w tick past)
+  pub moved-begun : (axis : Axis) (tick : ℕ) → has_begun axis tick past ≡ true → is_in w (position axis (Clock tick ∷ past)) ≡ true → rows ≡ rows_of g (closed axis w (Clock tick ∷ past)) (open_turned axis w tick past)
       → rows ≡ rows_of g (closed axis w (Clock tick ∷ past)) (open_moved axis w (Clock tick ∷ past))
   moved-begun Entries tick begun h is = cc
   moved-begun Ticks tick begun h is =
@@ -155,7 +155,7 @@ module _ (g : Group) (w : Window) (past : Past) (rows : RowsKept) where
       let same : max (now past) tick ≡ now past = omega arith in
       begun-still tick low (subst (λ n. is_in w n ≡ true) same h) is ∙ moved-inside Ticks tick h is
 
-  pub moved-not : (axis : Axis) (tick : ℕ) (inside begun : Bool) → inside ≡ is_in w (place axis (Clock tick ∷ past)) → begun ≡ has_begun axis tick past → (inside ≡ true) × (begun ≡ true) ⊎ (inside ≡ false)
+  pub moved-not : (axis : Axis) (tick : ℕ) (inside begun : Bool) → inside ≡ is_in w (position axis (Clock tick ∷ past)) → begun ≡ has_begun axis tick past → (inside ≡ true) × (begun ≡ true) ⊎ (inside ≡ false)
       → rows ≡ rows_of g (closed axis w (Clock tick ∷ past)) (open_turned axis w tick past) → rows ≡ rows_of g (closed axis w (Clock tick ∷ past)) (open_moved axis w (Clock tick ∷ past))
   moved-not axis tick inside begun h k (inl m) is = moved-begun axis tick (sym k ∙ m.1) (sym h ∙ m.0) is
   moved-not axis tick inside begun h k (inr m) is = moved-outside axis tick (sym h ∙ m) is
@@ -167,7 +167,7 @@ module _ (g : Group) (w : Window) (past : Past) (rows : RowsKept) where
     m = record { act = d; before = past }
 
     -- the rows are up to the newest state also once the act is taken
-    pub acted-up-to : (axis : Axis) → is_in w (place axis past) ≡ true → rows ≡ rows_of g (closed axis w past) (open_moved axis w past) → AreUpTo g past (rows_acted g m rows)
+    pub acted-up-to : (axis : Axis) → is_in w (position axis past) ≡ true → rows ≡ rows_of g (closed axis w past) (open_moved axis w past) → AreUpTo g past (rows_acted g m rows)
     acted-up-to axis h is =
         let s = moved-seen axis h in
         rows-up-to g (closed axis w past) (done m s.0) past (rows_acted g m rows)
@@ -194,12 +194,12 @@ module _ (g : Group) (w : Window) (past : Past) (rows : RowsKept) where
         ∙ ap (λ s. rows_of g (closed Entries w past ++ seen (Acted d ∷ past) (done m s) ∷ []) blank) going
         ∙ ap (λ ss. rows_of g ss blank) (acted-entries w d past h)
 
-    pub acted-by : (axis : Axis) → is_in w (place axis past) ≡ true → rows ≡ rows_of g (closed axis w past) (open_moved axis w past)
+    pub acted-by : (axis : Axis) → is_in w (position axis past) ≡ true → rows ≡ rows_of g (closed axis w past) (open_moved axis w past)
         → after_act g axis (Acted d ∷ past) (rows_seen g (Acted d ∷ past) (rows_acted g m rows)) ≡ rows_of g (closed axis w (Acted d ∷ past)) (open_at axis w (Acted d ∷ past))
     acted-by Ticks h is = acted-in-ticks h is
     acted-by Entries h is = acted-in-entries h is
 
-    pub acted-outside-window : (axis : Axis) → is_in w (place axis past) ≡ false → rows ≡ rows_of g (closed axis w past) (open_moved axis w past)
+    pub acted-outside-window : (axis : Axis) → is_in w (position axis past) ≡ false → rows ≡ rows_of g (closed axis w past) (open_moved axis w past)
         → rows ≡ rows_of g (closed axis w (Acted d ∷ past)) (open_at axis w (Acted d ∷ past))
     acted-outside-window Ticks h is =
         is ∙ (λ i. rows_of g (acted-ticks w d past i) ((ap (λ (b : Bool). if b then tick_strip past (now past) else blank) h ∙ sym (ap (λ (b : Bool). if b then tick_strip (Acted d ∷ past) (now past) else blank) h)) i))

@@ -13,7 +13,7 @@ use Rattle.chart_rows.specs.declared.units.Unit.{Unit}
 use Rattle.chart_feed.specs.Clocks.{Keeps}
 use Rattle.chart_feed.specs.EntryClocks.{clocks_in, entry_clocks}
 use Rattle.chart_feed.specs.Finished.{EndsInAct}
-use Rattle.chart_feed.specs.WindowStrips.{closed, has_begun, is_in, open_at, open_moved, open_turned, place}
+use Rattle.chart_feed.specs.WindowStrips.{closed, has_begun, is_in, open_at, open_moved, open_turned, position}
 use Rattle.chart_feed.specs.declared.feed.Feed.{Feed}
 
 -- a group stands at a past, whose clock is this one
@@ -46,7 +46,7 @@ module _ (axis : Axis) (w : Window) (g : Group) where
 
   -- of an act in a column of the window, its unit was foretold
   abbrev pub IsExpected : Moment → Option Unit → Type 0
-  IsExpected m unit = is_in w (place axis m.before) ≡ true → IsForetold g m unit
+  IsExpected m unit = is_in w (position axis m.before) ≡ true → IsForetold g m unit
 
 module _ (axis : Axis) (w : Window) where
   -- an act was done after the clock was moved, and is to be taken, with its unit as it was foretold

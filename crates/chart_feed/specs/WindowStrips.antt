@@ -42,9 +42,9 @@ closed Entries w past = map entry_strip (cut w (entries_of past))
 
 -- the number of the column that goes on, and what there is of it after whole steps, as the clock is to be moved to a tick, and once
 -- it is; nothing where it is outside the window
-abbrev pub place : Axis → Past → ℕ
-place Ticks past = now past
-place Entries past = entries_in past
+abbrev pub position : Axis → Past → ℕ
+position Ticks past = now past
+position Entries past = entries_in past
 
 abbrev pub in_window : Window → ℕ → Strip → Strip
 in_window w i s = if is_in w i then s else blank

@@ -17,7 +17,7 @@ ghost use Rattle.view_acts.specs.ShownActs.{act_shown};
 ghost use Rattle.chart_rows.specs.Foretold.{moment_of};
 ghost use Rattle.chart_rows.specs.Units.{resv_numbers};
 ghost use Rattle.chart_feed.specs.Feeds.{IsActed, IsClocked, IsExpected, IsFed, IsMoved, IsTurned};
-ghost use Rattle.chart_feed.specs.WindowStrips.{is_in, place};
+ghost use Rattle.chart_feed.specs.WindowStrips.{is_in, position};
 
 use crate::clocks::{TaskClocks, no_clocks, note_act};
 use crate::columns::{begin, end, has_begun, take_act, take_state, turn};
@@ -127,7 +127,7 @@ impl Feed {
     /// Whether the column that goes on is in the window, at the clock.
     fn is_inside(&self, clock: Tick) -> bool
         ensures { (past : Past) → clock.0 ≡ now past → self.now.entries.count ≡ entries_in past
-            → result ≡ is_in self.now.window (place self.now.axis past) }
+            → result ≡ is_in self.now.window (position self.now.axis past) }
     {
         match self.axis {
             Axis::Ticks => is_in(self.window, clock.0),

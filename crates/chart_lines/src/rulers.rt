@@ -10,12 +10,12 @@ use chart_texts::Axis;
 use rt_base::NoMemory;
 use std::alloc::{AllocError, Global};
 
-/// A number from its place on; it is left out where the ruler is longer than that or ends right before it.
-fn put_number_at(ruler: &mut Vec<u8>, place: usize, n: u64) -> Result<(), AllocError>
-    ensures { OnOk result (ruler.new.items ≡ spec.with_number ruler.old.items place n) }
+/// A number from its position on; it is left out where the ruler is longer than that or ends right before it.
+fn put_number_at(ruler: &mut Vec<u8>, position: usize, n: u64) -> Result<(), AllocError>
+    ensures { OnOk result (ruler.new.items ≡ spec.with_number ruler.old.items position n) }
 {
-    if ruler.is_empty() || ruler.len() < place {
-        fill(ruler, place)?;
+    if ruler.is_empty() || ruler.len() < position {
+        fill(ruler, position)?;
         put_number(ruler, n)?;
     }
     Ok(())

@@ -11,7 +11,7 @@ use Rattle.rt_model.specs.Group.{Group}
 use Rattle.trace_views.specs.Moments.{Moment, is_unit}
 use Rattle.chart_rows.specs.Listed.{tasks_listed}
 use Rattle.chart_rows.specs.Rows.{TaskKept, task_acted}
-use Rattle.chart_rows.specs.inside.Finding.{IsPlaceOf, only}
+use Rattle.chart_rows.specs.inside.Finding.{IsPositionOf, only}
 
 -- ---- of one task
 
@@ -21,14 +21,14 @@ only-none f [] = refl
 only-none f (k ∷ ks) = ap (λ xs. k ∷ xs) (only-none f ks)
 
 -- nor is one where none is the task's
-pub only-absent : (t : ℕ) (f : TaskKept → TaskKept) (ks : List TaskKept) → IsPlaceOf t ks None → map (only (Some t) f) ks ≡ ks
+pub only-absent : (t : ℕ) (f : TaskKept → TaskKept) (ks : List TaskKept) → IsPositionOf t ks None → map (only (Some t) f) ks ≡ ks
 only-absent t f [] h = refl
 only-absent t f (k ∷ ks) h = λ i. first i ∷ only-absent t f ks (λ j d low. h (suc j) d (omega arith)) i
   where
     first : only (Some t) f k ≡ k
     first = let other = h 0 k (omega arith) in rw other refl
 
-absent : (t : ℕ) (ks : List TaskKept) → has t (tasks_listed ks) ≡ false → IsPlaceOf t ks None
+absent : (t : ℕ) (ks : List TaskKept) → has t (tasks_listed ks) ≡ false → IsPositionOf t ks None
 absent t [] h j d low = absurd (omega arith)
 absent t (k ∷ ks) h zero d low = let other = (neither (t == k.task) (has t (tasks_listed ks)) h).0 in grind (arith, nat_tests)
 absent t (k ∷ ks) h (suc j) d low = absent t ks (neither (t == k.task) (has t (tasks_listed ks)) h).1 j d (omega arith)
@@ -42,15 +42,15 @@ listed-at t (k ∷ ks) (suc i) d low is = by_case (t == k.task) (listed-at t ks 
     by_case true h = refl
     by_case false h = h
 
--- the row in the task's place is, and no other
-pub only-place : (t : ℕ) (f : TaskKept → TaskKept) (ks : List TaskKept) (i : ℕ) (d : TaskKept) → IsDistinct (tasks_listed ks) → i < length ks → (get_or ks i d).task ≡ t
+-- the row in the task's position is, and no other
+pub only-position : (t : ℕ) (f : TaskKept → TaskKept) (ks : List TaskKept) (i : ℕ) (d : TaskKept) → IsDistinct (tasks_listed ks) → i < length ks → (get_or ks i d).task ≡ t
     → set ks i (f (get_or ks i d)) ≡ map (only (Some t) f) ks
-only-place t f [] i d once low is = absurd (omega arith)
-only-place t f (k ∷ ks) zero d once low is = λ j. here j ∷ sym (only-absent t f ks (absent t ks (subst (λ n. has n (tasks_listed ks) ≡ false) is once.0))) j
+only-position t f [] i d once low is = absurd (omega arith)
+only-position t f (k ∷ ks) zero d once low is = λ j. here j ∷ sym (only-absent t f ks (absent t ks (subst (λ n. has n (tasks_listed ks) ≡ false) is once.0))) j
   where
     here : f k ≡ only (Some t) f k
     here = let same : (k.task == t) ≡ true = grind (arith, nat_tests) in rw same refl
-only-place t f (k ∷ ks) (suc i) d once low is = λ j. here j ∷ only-place t f ks i d once.1 (omega arith) is j
+only-position t f (k ∷ ks) (suc i) d once low is = λ j. here j ∷ only-position t f ks i d once.1 (omega arith) is j
   where
     apart : (n : ℕ) → n ≡ t → has n (tasks_listed ks) ≡ true
     apart n same = subst (λ u. has u (tasks_listed ks) ≡ true) (sym same) (listed-at t ks i d (omega arith) is)
@@ -122,16 +122,16 @@ only-still f a P keeps (k ∷ ks) all zero d low = first (is k.task a)
     first false = all 0 k (omega arith)
 only-still f a P keeps (k ∷ ks) all (suc j) d low = only-still f a P keeps ks (λ i e h. all (suc i) e (omega arith)) j d (omega arith)
 
--- ---- places, as code finds them
+-- ---- positions, as code finds them
 
 -- no task has no number
 pub no-number : (o : Option TaskNo) → ((t : TaskNo) → o ≢ Some t) → number_of_task o ≡ None
 no-number None h = refl
 no-number (Some t) h = absurd (h t refl)
 
-pub no-place : (t : ℕ) (ks : List TaskKept) (o : Option ℕ) → IsPlaceOf t ks o → ((i : ℕ) → o ≢ Some i) → IsPlaceOf t ks None
-no-place t ks None at h = at
-no-place t ks (Some i) at h = absurd (h i refl)
+pub no-position : (t : ℕ) (ks : List TaskKept) (o : Option ℕ) → IsPositionOf t ks o → ((i : ℕ) → o ≢ Some i) → IsPositionOf t ks None
+no-position t ks None at h = at
+no-position t ks (Some i) at h = absurd (h i refl)
 
 -- ---- an act leaves the rows of other tasks
 

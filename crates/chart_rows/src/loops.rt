@@ -17,7 +17,7 @@ ghost use Rattle.chart_rows.specs.Units.{IsTold};
 
 use crate::acting::{act_cpu, act_resv, act_task};
 use crate::cpus::CpuFeed;
-use crate::finding::{are_same, place_of};
+use crate::finding::{are_same, position_of};
 use crate::resvs::ResvFeed;
 use crate::tasks::TaskFeed;
 use crate::units::Unit;
@@ -48,8 +48,8 @@ fn act_row(
     let Some(task) = task else {
         return Ok(());
     };
-    if let Some(place) = place_of(tasks, task) {
-        act_task(&mut tasks[place], alloc, act, unit)?;
+    if let Some(position) = position_of(tasks, task) {
+        act_task(&mut tasks[position], alloc, act, unit)?;
     }
     Ok(())
 }

@@ -17,7 +17,7 @@ ghost use Rattle.chart_rows.specs.UpTo.{IsUpTo};
 
 use crate::acting::arriving;
 use crate::cpus::CpuFeed;
-use crate::finding::{are_same, place_of};
+use crate::finding::{are_same, position_of};
 use crate::look::{cpu_at_end, see_state};
 use crate::loops::Played;
 use crate::resvs::ResvFeed;
@@ -72,8 +72,8 @@ fn see_row(
     let Some(task) = task else {
         return Ok(());
     };
-    if let Some(place) = place_of(tasks, task) {
-        see_task(&mut tasks[place], alloc, afresh)?;
+    if let Some(position) = position_of(tasks, task) {
+        see_task(&mut tasks[position], alloc, afresh)?;
     }
     Ok(())
 }

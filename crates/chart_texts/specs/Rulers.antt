@@ -7,9 +7,9 @@ use Rattle.chart_texts.specs.declared.window.Axis.TheVariants.{Ticks, Entries}
 use Rattle.chart_texts.specs.Charts.{Panel}
 use Rattle.chart_texts.specs.Rows.{filled, row}
 
--- a number stands from its place on. It is left out where the ruler is longer than that or ends right before it; the first is there
+-- a number stands from its position on. It is left out where the ruler is longer than that or ends right before it; the first is there
 abbrev pub with_number : List ℕ → ℕ → ℕ → List ℕ
-with_number ruler place n = if is_empty ruler || nat_lt (length ruler) place then (filled place ruler ++ decimal n) else ruler
+with_number ruler position n = if is_empty ruler || nat_lt (length ruler) position then (filled position ruler ++ decimal n) else ruler
 
 -- the numbers of the columns from i on that have one, two characters a column, behind those of the columns before
 unfoldable pub ruler_from : List ℕ → ℕ → List (Option ℕ) → List ℕ

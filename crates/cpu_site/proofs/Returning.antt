@@ -18,16 +18,16 @@ use Rattle.turn_cell.specs.Words.{AgreeOn, StartsWith}
 use Rattle.turn_cell.proofs.Tools.{one_some}
 use Rattle.cpu_site.specs.declared.story.GroupOf.{GroupOf}
 use Rattle.cpu_site.specs.Raises.{cpu_at, cpu_count, raises_of}
-use Rattle.cpu_site.specs.Seats.{about, cpu_of, cpu_seat_view, group_at, place_of_cpu, unused_seat, unused_seats, About, CpuSeatView, IsSite}
+use Rattle.cpu_site.specs.Seats.{about, cpu_of, cpu_seat_view, group_at, position_of_cpu, unused_seat, unused_seats, About, CpuSeatView, IsSite}
 use Rattle.cpu_site.specs.declared.progress.Progress.{Progress}
 use Rattle.cpu_site.proofs.Drives.{begun-home}
-use Rattle.cpu_site.proofs.Numbering.{agree-same, cpu-of_group, cpu-place, cpu-read, cpus-read}
+use Rattle.cpu_site.proofs.Numbering.{agree-same, cpu-of_group, cpu-position, cpu-read, cpus-read}
 use Rattle.cpu_site.proofs.Seating.{Keeps}
 use Rattle.cpu_site.proofs.Sighting.{raises_of-at}
 
 -- ---- opening
 
--- the seat at a place of the group, as that of its processor
+-- the seat at a position of the group, as that of its processor
 abbrev pub numbered : Group → SeatView Entry GroupOf → CpuSeatView
 numbered g p = cpu_seat_view (cpu_at g p.cpu) 0 p
 
@@ -58,7 +58,7 @@ module _ (cell : Cell GroupOf) where
           let low : k < n = grind (arith, nat_tests, is, lt) in
           get_or_append_left (fresh_seats cell n) (fresh cell n ∷ []) d k (let h = length-fresh n in omega (arith, h, low)) ∙ rest low
 
-  -- the last of those that are left is at the place whose number is how many there are before it
+  -- the last of those that are left is at the position whose number is how many there are before it
   pub fresh-last : (n : ℕ) (all new gone : List (SeatView Entry GroupOf)) (p : SeatView Entry GroupOf) → all ≡ fresh_seats cell n → all ≡ new ++ p ∷ gone → (length new < n) × (p ≡ fresh cell (length new))
   fresh-last n all new gone p is split =
       let long = length-append new (p ∷ gone) in
@@ -94,7 +94,7 @@ fresh-about cell h cpus q n k m p subject are all is same low read s at =
     let here : m < length cpus = omega (arith, same, low, all) in
     subst (λ (x : GroupOf). (m < n) × (n ≡ cpu_count (group_at x)) × (cpu_at (group_at x) m ≡ q.0)) s_is (omega (arith, same, low), all ∙ cpus-read (group_of h) cpus are, cpu-read (group_of h) cpus m q are here ∙ ap (λ (x : CpuNo). x.0) (sym read))
 
--- the seat is that of the processor at its place
+-- the seat is that of the processor at its position
 pub seat-numbered : (cell : Cell GroupOf) (g : Group) (cpus : List CpuNo) (q : CpuNo) (k m : ℕ) (p : SeatView Entry GroupOf) (c : CpuSeatView) → cpu_numbers cpus ≡ group_processors g → p ≡ fresh cell k → m ≡ k → m < length cpus → q ≡ get_or cpus m q → c ≡ unused_seat p.cell q.0 → c ≡ numbered g p
 seat-numbered cell g cpus q k m p c are is same low read made =
     let at : cpu_at g k ≡ q.0 = ap (cpu_at g) (sym same) ∙ cpu-read g cpus m q are low ∙ ap (λ (x : CpuNo). x.0) (sym read) in
@@ -109,10 +109,10 @@ raises-opened h n i none all lt = raises_of-at h i (omega (arith, lt, all)) ∙ 
 
 -- the seat is among those that are back
 pub record IsBack (c : CpuSeatView) (back : List (SeatView Entry GroupOf)) : Type 0 where
-  pub place : SeatView Entry GroupOf
-  pub there : Contains back place
-  pub same : cpu_seat_view c.cpu c.turns place ≡ c
-  pub own : About place.cell (λ s. (place.cpu < cpu_count (group_at s)) × (cpu_at (group_at s) place.cpu ≡ c.cpu) × IsBegunPlay (group_at s) place.seen)
+  pub view : SeatView Entry GroupOf
+  pub there : Contains back view
+  pub same : cpu_seat_view c.cpu c.turns view ≡ c
+  pub own : About view.cell (λ s. (view.cpu < cpu_count (group_at s)) × (cpu_at (group_at s) view.cpu ≡ c.cpu) × IsBegunPlay (group_at s) position.seen)
 
 pub record AreBack (cell : Cell GroupOf) (gone : List CpuSeatView) (back : List (SeatView Entry GroupOf)) : Type 0 where
   pub rest : All (λ p. (p.cell ≡ cell) × (p.holds ≡ false)) back
@@ -121,11 +121,11 @@ pub record AreBack (cell : Cell GroupOf) (gone : List CpuSeatView) (back : List 
 pub back-none : (cell : Cell GroupOf) (back : List (SeatView Entry GroupOf)) → back ≡ [] → AreBack cell [] back
 back-none cell back is = record { rest = λ k d lt. absurd (omega (arith, lt, ap length is)); each = λ k d lt. absurd (omega (arith, lt)) }
 
-pub back-more : (cell : Cell GroupOf) (gone : List CpuSeatView) (back back' : List (SeatView Entry GroupOf)) (p : SeatView Entry GroupOf) (c : CpuSeatView) (q : ℕ) (at : Progress) (place taken : ℕ) (counts : List ℕ) (room : ℕ) → AreBack cell gone back → back' ≡ back ++ p ∷ [] → cpu_seat_view q at.turns p ≡ c → c.cell ≡ cell
-    → Keeps p q at place taken counts room → AreBack cell (c ∷ gone) back'
-back-more cell gone back back' p c q at place taken counts room are added view in_cell keeps = subst (λ (b : List (SeatView Entry GroupOf)). AreBack cell (c ∷ gone) b) (sym added) (record {
+pub back-more : (cell : Cell GroupOf) (gone : List CpuSeatView) (back back' : List (SeatView Entry GroupOf)) (p : SeatView Entry GroupOf) (c : CpuSeatView) (q : ℕ) (at : Progress) (position taken : ℕ) (counts : List ℕ) (room : ℕ) → AreBack cell gone back → back' ≡ back ++ p ∷ [] → cpu_seat_view q at.turns p ≡ c → c.cell ≡ cell
+    → Keeps p q at position taken counts room → AreBack cell (c ∷ gone) back'
+back-more cell gone back back' p c q at position taken counts room are added view in_cell keeps = subst (λ (b : List (SeatView Entry GroupOf)). AreBack cell (c ∷ gone) b) (sym added) (record {
   rest = All-push (λ (x : SeatView Entry GroupOf). (x.cell ≡ cell) × (x.holds ≡ false)) back p are.rest (ap (λ (x : CpuSeatView). x.cell) view ∙ in_cell, keeps.0);
-  each = All-cons (λ (x : CpuSeatView). IsBack x (back ++ p ∷ [])) c gone this (All-weaker (λ (x : CpuSeatView). IsBack x back) (λ (x : CpuSeatView). IsBack x (back ++ p ∷ [])) (λ x b. record { place = b.place; there = Contains-append_left back (p ∷ []) b.place b.there; same = b.same; own = b.own }) gone are.each);
+  each = All-cons (λ (x : CpuSeatView). IsBack x (back ++ p ∷ [])) c gone this (All-weaker (λ (x : CpuSeatView). IsBack x back) (λ (x : CpuSeatView). IsBack x (back ++ p ∷ [])) (λ x b. record { position = b.view; there = Contains-append_left back (p ∷ []) b.view b.there; same = b.same; own = b.own }) gone are.each);
 })
   where
     cpu_is : q ≡ c.cpu
@@ -133,7 +133,7 @@ back-more cell gone back back' p c q at place taken counts room are added view i
 
     this : IsBack c (back ++ p ∷ [])
     this = record {
-      place = p;
+      view = p;
       there = Contains-push back p;
       same = ap (λ (x : CpuSeatView). cpu_seat_view x.cpu x.turns p) (sym view) ∙ view;
       own = λ s is. let seat = keeps.2 s is in (seat.low, seat.own ∙ cpu_is, seat.begun);
@@ -163,7 +163,7 @@ map-contains xs q d there =
     (get_or xs there.0 d, (there.0, low, get_or_default xs there.0 (get_or xs there.0 d) d low), sym (get_or-map (λ (x : CpuSeatView). x.cpu) xs there.0 d q low) ∙ there.2)
 
 module _ (t : TurnOf GroupOf) (known : (s : GroupOf) × (t.cell.subject ≡ Some s) × IsSite s t.cpus) (seats : List CpuSeatView) (back : List (SeatView Entry GroupOf)) (are : AreBack t.cell seats back) where
-  -- all places are back
+  -- all positions are back
   pub back-all : About t.cell (λ s. (q : ℕ) → IsProcessorOf (group_at s) q → Contains (map (λ (x : CpuSeatView). x.cpu) seats) q) → (i : ℕ) → i < t.cpus → Contains (map (λ (p : SeatView Entry GroupOf). p.cpu) back) i
   back-all all i lt =
       let s : GroupOf = known.0 in
@@ -171,10 +171,10 @@ module _ (t : TurnOf GroupOf) (known : (s : GroupOf) × (t.cell.subject ≡ Some
       let q : ℕ = cpu_at (group_at s) i in
       let found = map-contains seats q (unused_seat t.cell 0) (all s known.1 q (cpu-of_group s i q low refl)) in
       let b : IsBack found.0 back = all-at (λ (x : CpuSeatView). IsBack x back) seats found.0 are.each found.1 in
-      let cell : b.place.cell ≡ t.cell = (all-at (λ (p : SeatView Entry GroupOf). (p.cell ≡ t.cell) × (p.holds ≡ false)) back b.place are.rest b.there).0 in
+      let cell : b.view.cell ≡ t.cell = (all-at (λ (p : SeatView Entry GroupOf). (p.cell ≡ t.cell) × (p.holds ≡ false)) back b.view are.rest b.there).0 in
       let own = b.own s (ap (λ (x : Cell GroupOf). x.subject) cell ∙ known.1) in
-      let here : b.place.cpu ≡ i = sym (cpu-place s b.place.cpu q own.0 (own.1 ∙ found.2)) ∙ cpu-place s i q low refl in
-      subst (λ k. Contains (map (λ (p : SeatView Entry GroupOf). p.cpu) back) k) here (contains-map (λ (p : SeatView Entry GroupOf). p.cpu) back b.place b.there)
+      let here : b.view.cpu ≡ i = sym (cpu-position s b.view.cpu q own.0 (own.1 ∙ found.2)) ∙ cpu-position s i q low refl in
+      subst (λ k. Contains (map (λ (p : SeatView Entry GroupOf). p.cpu) back) k) here (contains-map (λ (p : SeatView Entry GroupOf). p.cpu) back b.view b.there)
 
   module _ (h : GroupHistory) (subject : t.cell.subject ≡ Some (about h)) (begun : IsBegunPlay (group_of h) h.entries) where
     -- what the turn says of the seats that came back, it says of the processors
@@ -182,13 +182,13 @@ module _ (t : TurnOf GroupOf) (known : (s : GroupOf) × (t.cell.subject ≡ Some
     later-all later k d lt =
         let c : CpuSeatView = get_or seats k d in
         let b : IsBack c back = are.each k d lt in
-        subst (λ (x : CpuSeatView). StartsWith h.entries x.seen) b.same (all-at (λ (p : SeatView Entry GroupOf). StartsWith h.entries p.seen) back b.place later b.there)
+        subst (λ (x : CpuSeatView). StartsWith h.entries x.seen) b.same (all-at (λ (p : SeatView Entry GroupOf). StartsWith h.entries p.seen) back b.view later b.there)
 
-    pub whole-all : All (λ (p : SeatView Entry GroupOf). AgreeOn (place_of_cpu (about h)) p.cpu h.entries p.seen) back → All (λ (x : CpuSeatView). AgreeOn cpu_of x.cpu h.entries x.seen) seats
+    pub whole-all : All (λ (p : SeatView Entry GroupOf). AgreeOn (position_of_cpu (about h)) p.cpu h.entries p.seen) back → All (λ (x : CpuSeatView). AgreeOn cpu_of x.cpu h.entries x.seen) seats
     whole-all whole k d lt =
         let c : CpuSeatView = get_or seats k d in
         let b : IsBack c back = are.each k d lt in
-        let cell : b.place.cell ≡ t.cell = (all-at (λ (p : SeatView Entry GroupOf). (p.cell ≡ t.cell) × (p.holds ≡ false)) back b.place are.rest b.there).0 in
+        let cell : b.view.cell ≡ t.cell = (all-at (λ (p : SeatView Entry GroupOf). (p.cell ≡ t.cell) × (p.holds ≡ false)) back b.view are.rest b.there).0 in
         let own = b.own (about h) (ap (λ (x : Cell GroupOf). x.subject) cell ∙ subject) in
-        let agree = all-at (λ (p : SeatView Entry GroupOf). AgreeOn (place_of_cpu (about h)) p.cpu h.entries p.seen) back b.place whole b.there in
-        subst (λ (x : CpuSeatView). AgreeOn cpu_of c.cpu h.entries x.seen) b.same (agree-same (about h) b.place.cpu c.cpu own.0 own.1 h.entries b.place.seen (begun-home (group_of h) h.entries begun) (begun-home (group_of h) b.place.seen own.2) agree)
+        let agree = all-at (λ (p : SeatView Entry GroupOf). AgreeOn (position_of_cpu (about h)) p.cpu h.entries p.seen) back b.view whole b.there in
+        subst (λ (x : CpuSeatView). AgreeOn cpu_of c.cpu h.entries x.seen) b.same (agree-same (about h) b.view.cpu c.cpu own.0 own.1 h.entries b.view.seen (begun-home (group_of h) h.entries begun) (begun-home (group_of h) b.view.seen own.2) agree)

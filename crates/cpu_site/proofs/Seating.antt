@@ -11,17 +11,17 @@ use Rattle.rt_plays.specs.Drives.{horizon}
 use Rattle.rt_plays.specs.Plays.{IsBegunPlay}
 use Rattle.turn_cell.specs.Words.{entries_of, times, AgreeOn, StartsWith}
 use Rattle.turn_cell.specs.SeatViews.{Cell, TurnOf, SeatView, IsGift}
-use Rattle.turn_cell.specs.SeatViews as places
+use Rattle.turn_cell.specs.SeatViews as views
 use Rattle.turn_cell.proofs.Tools.{one_some}
 use Rattle.turn_cell.proofs.Views.{entries_here}
 use Rattle.cpu_site.specs.declared.story.GroupOf.{GroupOf}
 use Rattle.cpu_site.specs.declared.progress.Progress.{Progress}
 use Rattle.cpu_site.specs.Playing.{IsFar, IsNextEntry, IsNextStep, IsOver}
 use Rattle.cpu_site.specs.Raises.{cpu_at, cpu_count, raises_of, AreRaises}
-use Rattle.cpu_site.specs.Seats.{about, group_at, cpu_of, cpu_seat_view, is_irq, looked_up, place_of_cpu, word_taken, About, CpuSeatView, IsEnd, IsPlay, IsQuiet, IsSeat, IsSite, IsTurnEnd}
+use Rattle.cpu_site.specs.Seats.{about, group_at, cpu_of, cpu_seat_view, is_irq, looked_up, position_of_cpu, word_taken, About, CpuSeatView, IsEnd, IsPlay, IsQuiet, IsSeat, IsSite, IsTurnEnd}
 use Rattle.cpu_site.specs.Turning.{IsTurnDone}
 use Rattle.cpu_site.proofs.Drives.{begun-first, begun-home, far-first, far-later}
-use Rattle.cpu_site.proofs.Numbering.{agree-same, cpu-of_group, cpu-place}
+use Rattle.cpu_site.proofs.Numbering.{agree-same, cpu-of_group, cpu-position}
 use Rattle.cpu_site.proofs.Sighting.{group-same, raises-append, raises_of-at}
 use Rattle.cpu_site.proofs.Words.{word-own, word-others}
 
@@ -44,7 +44,7 @@ raises-each h h' e before counts is was now i lt =
     by_case false same more = inl (omega (arith, same, more))
 
 module _ (p : SeatView Entry GroupOf) (q : ℕ) (got : GroupHistory) (at : Progress) (taken : ℕ) (counts : List ℕ) (room : ℕ) (seat : IsSeat (about got) p q at taken counts room) (begun : IsBegunPlay (group_of got) got.entries) (later : StartsWith got.entries p.seen)
-    (mine : AgreeOn (place_of_cpu (about got)) p.cpu got.entries p.seen) where
+    (mine : AgreeOn (position_of_cpu (about got)) p.cpu got.entries p.seen) where
   own : AgreeOn cpu_of q got.entries p.seen
   own = agree-same (about got) p.cpu q seat.low seat.own got.entries p.seen (begun-home (group_of got) got.entries begun) (begun-home (group_of got) p.seen seat.begun) mine
 
@@ -130,9 +130,9 @@ module _ (p : SeatView Entry GroupOf) (q : ℕ) (got : GroupHistory) (at : Progr
 
     gift : (n : ℕ) (before now raised : List ℕ) → n ≡ cpu_count (group_of got) → AreRaises got before → AreRaises h' now → length h'.entries ≤ MOST_STEPS → All (λ i. i < length before) raised → ((i : ℕ) → times i raised ≤ 1)
         → ((i : ℕ) → i < length before → get_or now i 0 ≡ get_or before i 0 + times i raised)
-        → IsGift (λ (x : GroupHistory). x.entries) (place_of_cpu (about h')) raises_of n p.cpu got.entries (raises_of got) raised h'
+        → IsGift (λ (x : GroupHistory). x.entries) (position_of_cpu (about h')) raises_of n p.cpu got.entries (raises_of got) raised h'
     gift n before now raised all was are few named once counted = record {
-      list_is = inr (e, entries_are, ap (λ (s : GroupOf). place_of_cpu s e) (ap about more) ∙ cpu-place (about got) p.cpu (cpu_of e) seat.low (seat.own ∙ sym next.own));
+      list_is = inr (e, entries_are, ap (λ (s : GroupOf). position_of_cpu s e) (ap about more) ∙ cpu-position (about got) p.cpu (cpu_of e) seat.low (seat.own ∙ sym next.own));
       few = omega (arith, few);
       named = λ k d lt. let n_is : n ≡ length before = all ∙ sym was.all in rw n_is (named k d lt);
       once = once;
@@ -163,16 +163,16 @@ site-of t h subject site = subst (λ (s : GroupOf). IsSite s t.cpus) (one_some t
 
 -- what a seat keeps
 abbrev pub Keeps : SeatView Entry GroupOf → ℕ → Progress → ℕ → ℕ → List ℕ → ℕ → Type 0
-Keeps p q at place taken counts room = (p.holds ≡ false) × (p.cpu ≡ place) × About p.cell (λ s. IsSeat s p q at taken counts room)
+Keeps p q at position taken counts room = (p.holds ≡ false) × (p.cpu ≡ position) × About p.cell (λ s. IsSeat s p q at taken counts room)
 
-module _ (p p1 p' : SeatView Entry GroupOf) (p0 : CpuSeatView) (t u : TurnOf GroupOf) (got h' : GroupHistory) (q : ℕ) (at : Progress) (place taken : ℕ) (counts : List ℕ) (room : ℕ) (view : cpu_seat_view q at.turns p ≡ p0) (site : t ≡ u) (cell : p0.cell ≡ u.cell) (subject : t.cell.subject ≡ Some (about got))
-    (keeps : Keeps p q at place taken counts room) (begun : IsBegunPlay (group_of got) got.entries) (later : StartsWith got.entries p.seen) (mine : AgreeOn (place_of_cpu (about got)) p.cpu got.entries p.seen)
-    (took : p1 ≡ places.taken got.entries (raises_of got) p) (gave : p' ≡ places.given_back h'.entries (raises_of h') p1) where
+module _ (p p1 p' : SeatView Entry GroupOf) (p0 : CpuSeatView) (t u : TurnOf GroupOf) (got h' : GroupHistory) (q : ℕ) (at : Progress) (position taken : ℕ) (counts : List ℕ) (room : ℕ) (view : cpu_seat_view q at.turns p ≡ p0) (site : t ≡ u) (cell : p0.cell ≡ u.cell) (subject : t.cell.subject ≡ Some (about got))
+    (keeps : Keeps p q at position taken counts room) (begun : IsBegunPlay (group_of got) got.entries) (later : StartsWith got.entries p.seen) (mine : AgreeOn (position_of_cpu (about got)) p.cpu got.entries p.seen)
+    (took : p1 ≡ views.taken got.entries (raises_of got) p) (gave : p' ≡ views.given_back h'.entries (raises_of h') p1) where
   seat : IsSeat (about got) p q at taken counts room
   seat = seat-of p q p0 t u got at taken counts room view site cell subject keeps.2
 
-  now_is : p' ≡ places.given_back h'.entries (raises_of h') (places.taken got.entries (raises_of got) p)
-  now_is = gave ∙ ap (places.given_back h'.entries (raises_of h')) took
+  now_is : p' ≡ views.given_back h'.entries (raises_of h') (views.taken got.entries (raises_of got) p)
+  now_is = gave ∙ ap (views.given_back h'.entries (raises_of h')) took
 
   subject_is : p'.cell.subject ≡ Some (about got)
   subject_is = ap (λ (x : SeatView Entry GroupOf). x.cell.subject) now_is ∙ ap (λ (x : Cell GroupOf). x.subject) (ap (λ (x : CpuSeatView). x.cell) view ∙ cell ∙ sym (ap (λ (x : TurnOf GroupOf). x.cell) site)) ∙ subject
@@ -189,7 +189,7 @@ module _ (p p1 p' : SeatView Entry GroupOf) (p0 : CpuSeatView) (t u : TurnOf Gro
   about_is : (s : GroupOf) → u.cell.subject ≡ Some s → about got ≡ s
   about_is s is = one_some u.cell.subject (about got) s (sym (ap (λ (x : TurnOf GroupOf). x.cell.subject) site) ∙ subject) is
 
-  pub quiet-keeps : (at' : Progress) (counts' : List ℕ) → h' ≡ got → IsFar (group_of h') q h'.entries at' → length counts' ≡ length counts → Keeps p' q at' place taken counts' room
+  pub quiet-keeps : (at' : Progress) (counts' : List ℕ) → h' ≡ got → IsFar (group_of h') q h'.entries at' → length counts' ≡ length counts → Keeps p' q at' position taken counts' room
   quiet-keeps at' counts' same far long = (
     ap (λ (x : SeatView Entry GroupOf). x.holds) now_is,
     cpu_is ∙ keeps.1,
@@ -211,8 +211,8 @@ module _ (p p1 p' : SeatView Entry GroupOf) (p0 : CpuSeatView) (t u : TurnOf Gro
   quiet-later same = subst (λ (x : CpuSeatView). StartsWith p'.seen x.seen) view (later.0, seen_are ∙ ap (λ (x : GroupHistory). x.entries) same ∙ later.1)
 
   module _ (e : Entry) (next : IsNextEntry got at.turns q e) (more : h' ≡ with_entry e got) where
-    pub played-keeps : (at' : Progress) (counts' now : List ℕ) (taken' room' : ℕ) → IsBegunPlay (group_of h') h'.entries → IsFar (group_of h') q h'.entries at' → length counts' ≡ length counts → AreRaises h' now → taken' ≡ (if is_irq e.step.act then get_or now place 0 else taken) → room ≤ room'
-        → Keeps p' q at' place taken' counts' room'
+    pub played-keeps : (at' : Progress) (counts' now : List ℕ) (taken' room' : ℕ) → IsBegunPlay (group_of h') h'.entries → IsFar (group_of h') q h'.entries at' → length counts' ≡ length counts → AreRaises h' now → taken' ≡ (if is_irq e.step.act then get_or now position 0 else taken) → room ≤ room'
+        → Keeps p' q at' position taken' counts' room'
     played-keeps at' counts' now taken' room' begun' far long are word wide = (
       ap (λ (x : SeatView Entry GroupOf). x.holds) now_is,
       cpu_is ∙ keeps.1,
@@ -233,30 +233,30 @@ module _ (p p1 p' : SeatView Entry GroupOf) (p0 : CpuSeatView) (t u : TurnOf Gro
 
 -- what is given, where the seat has what was taken
 pub gift-at : (p p1 : SeatView Entry GroupOf) (q : ℕ) (got h' : GroupHistory) (at : Progress) (taken room n : ℕ) (counts before now raised : List ℕ) (seat : IsSeat (about got) p q at taken counts room) (begun : IsBegunPlay (group_of got) got.entries) (later : StartsWith got.entries p.seen)
-    (mine : AgreeOn (place_of_cpu (about got)) p.cpu got.entries p.seen) → p1 ≡ places.taken got.entries (raises_of got) p → (e : Entry) → IsNextEntry got at.turns q e → h' ≡ with_entry e got → n ≡ cpu_count (group_of got) → AreRaises got before → AreRaises h' now
+    (mine : AgreeOn (position_of_cpu (about got)) p.cpu got.entries p.seen) → p1 ≡ views.taken got.entries (raises_of got) p → (e : Entry) → IsNextEntry got at.turns q e → h' ≡ with_entry e got → n ≡ cpu_count (group_of got) → AreRaises got before → AreRaises h' now
     → length h'.entries ≤ MOST_STEPS → All (λ i. i < length before) raised → ((i : ℕ) → times i raised ≤ 1) → ((i : ℕ) → i < length before → get_or now i 0 ≡ get_or before i 0 + times i raised)
-    → IsGift (λ (x : GroupHistory). x.entries) (place_of_cpu (about h')) raises_of n p1.cpu p1.seen p1.raises raised h'
+    → IsGift (λ (x : GroupHistory). x.entries) (position_of_cpu (about h')) raises_of n p1.cpu p1.seen p1.raises raised h'
 gift-at p p1 q got h' at taken room n counts before now raised seat begun later mine took e next more all was are few named once counted =
-    subst (λ (x : SeatView Entry GroupOf). IsGift (λ (y : GroupHistory). y.entries) (place_of_cpu (about h')) raises_of n x.cpu x.seen x.raises raised h') (sym took)
+    subst (λ (x : SeatView Entry GroupOf). IsGift (λ (y : GroupHistory). y.entries) (position_of_cpu (about h')) raises_of n x.cpu x.seen x.raises raised h') (sym took)
     (gift p q got at taken counts room seat begun later mine e next h' more n before now raised all was are few named once counted)
 
 -- ---- a look at the processor's word
 
-module _ (p p' : SeatView Entry GroupOf) (p0 : CpuSeatView) (t u : TurnOf GroupOf) (q : ℕ) (at : Progress) (place taken : ℕ) (counts : List ℕ) (room : ℕ) (view : cpu_seat_view q at.turns p ≡ p0) (site : t ≡ u) (cell : p0.cell ≡ u.cell) (keeps : Keeps p q at place taken counts room) where
+module _ (p p' : SeatView Entry GroupOf) (p0 : CpuSeatView) (t u : TurnOf GroupOf) (q : ℕ) (at : Progress) (position taken : ℕ) (counts : List ℕ) (room : ℕ) (view : cpu_seat_view q at.turns p ≡ p0) (site : t ≡ u) (cell : p0.cell ≡ u.cell) (keeps : Keeps p q at position taken counts room) where
   cells : p.cell ≡ t.cell
   cells = ap (λ (x : CpuSeatView). x.cell) view ∙ cell ∙ sym (ap (λ (x : TurnOf GroupOf). x.cell) site)
 
   seat-in : (s : GroupOf) → t.cell.subject ≡ Some s → IsSeat s p q at taken counts room
   seat-in s is = keeps.2 s (ap (λ (x : Cell GroupOf). x.subject) cells ∙ is)
 
-  pub looked-low : (s : GroupOf) × (t.cell.subject ≡ Some s) × IsSite s t.cpus → place < t.cpus
+  pub looked-low : (s : GroupOf) × (t.cell.subject ≡ Some s) × IsSite s t.cpus → position < t.cpus
   looked-low known = let low = (seat-in known.0 known.1).low in let all = known.2.all in let same = keeps.1 in omega (arith, low, all, same)
 
-  module _ (word : ℕ) (is : p' ≡ places.looked place word p) where
+  module _ (word : ℕ) (is : p' ≡ views.looked position word p) where
     found_is : p'.found ≡ word
     found_is = ap (λ (x : SeatView Entry GroupOf). x.found) is
 
-    pub looked-word : get_or p.raises place 0 ≤ word → About u.cell (λ s. raises (group_at s) p0.cpu p0.seen ≤ p'.found)
+    pub looked-word : get_or p.raises position 0 ≤ word → About u.cell (λ s. raises (group_at s) p0.cpu p0.seen ≤ p'.found)
     looked-word found s is_at =
         let seat : IsSeat s p q at taken counts room = seat-in s (ap (λ (x : TurnOf GroupOf). x.cell.subject) site ∙ is_at) in
         let told : raises (group_at s) q p.seen ≤ p'.found = let r = seat.recorded in let f = rw (sym keeps.1) at found in omega (arith, r, f, found_is) in
@@ -272,8 +272,8 @@ module _ (p p' : SeatView Entry GroupOf) (p0 : CpuSeatView) (t u : TurnOf GroupO
         let own : cpu_seat_view q at.turns p' ≡ looked_up p'.found (cpu_seat_view q at.turns p) = ap (cpu_seat_view q at.turns) is ∙ ap (λ k. looked_up k (cpu_seat_view q at.turns p)) (sym found_is) in
         own ∙ ap (looked_up p'.found) view
 
-    pub looked-keeps : Keeps p' q at place taken counts room
-    looked-keeps = subst (λ (x : SeatView Entry GroupOf). Keeps x q at place taken counts room) (sym is) (
+    pub looked-keeps : Keeps p' q at position taken counts room
+    looked-keeps = subst (λ (x : SeatView Entry GroupOf). Keeps x q at position taken counts room) (sym is) (
       keeps.0,
       keeps.1,
       λ s is_at. let seat : IsSeat s p q at taken counts room = keeps.2 s is_at in record { low = seat.low; own = seat.own; begun = seat.begun; far = seat.far; recorded = seat.recorded; word = seat.word; all = seat.all; room_is = seat.room_is },
@@ -281,10 +281,10 @@ module _ (p p' : SeatView Entry GroupOf) (p0 : CpuSeatView) (t u : TurnOf GroupO
 
 -- ---- the seats of a site that is opened
 
-pub seated : (p : SeatView Entry GroupOf) (q place count : ℕ) (counts : List ℕ) (room : ℕ) → p ≡ places.fresh p.cell place → About p.cell (λ s. (place < count) × (count ≡ cpu_count (group_at s)) × (cpu_at (group_at s) place ≡ q)) → counts ≡ replicate count 0 → count ≤ room
-    → (at : Progress) → at ≡ record { turns = 0; steps = 0 } → Keeps p q at place 0 counts room
+pub seated : (p : SeatView Entry GroupOf) (q position count : ℕ) (counts : List ℕ) (room : ℕ) → p ≡ views.fresh p.cell position → About p.cell (λ s. (position < count) × (count ≡ cpu_count (group_at s)) × (cpu_at (group_at s) position ≡ q)) → counts ≡ replicate count 0 → count ≤ room
+    → (at : Progress) → at ≡ record { turns = 0; steps = 0 } → Keeps p q at position 0 counts room
 unfolding raises raises_from
-seated p q place count counts room is known zeros wide at start = (
+seated p q position count counts room is known zeros wide at start = (
   ap (λ (x : SeatView Entry GroupOf). x.holds) is,
   ap (λ (x : SeatView Entry GroupOf). x.cpu) is,
   λ s is_at.

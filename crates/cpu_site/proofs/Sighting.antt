@@ -39,8 +39,8 @@ seen-more g p sights sights' n q s seen is at this = subst (λ (ss : List Sight)
     by_case i d lt true is =
         let here : i ≡ n = eqb-true i n is in
         let value : get_or (sights ++ s ∷ []) (length sights) d ≡ s = get_or-append_seam sights s [] d in
-        let place : length sights ≡ i = seen.all ∙ sym here in
-        rw (← place, value) (subst (λ k. IsSight g (cpu_at g k) p s) (sym seen.all) (subst (λ x. IsSight g x p s) at this))
+        let position : length sights ≡ i = seen.all ∙ sym here in
+        rw (← position, value) (subst (λ k. IsSight g (cpu_at g k) p s) (sym seen.all) (subst (λ x. IsSight g x p s) at this))
     by_case i d lt false is =
         let other : i ≢ n = grind (arith, nat_tests, is) in
         let below : i < n = omega (arith, lt, other) in

@@ -58,7 +58,7 @@ far-few g valid there q es at = by_drive g.setup.drive
     by_drive (Steps given) far = omega (arith, far)
     by_drive (Horizon h) far = let low = far.few in omega (arith, few, low)
 
-module _ (h : GroupHistory) (p : Parts) (steps : List Step) (places nexts : List ℕ) (playing : IsPlaying h p steps places nexts) (q : ℕ) (of_g : IsProcessorOf (group_of h) q) (turns : gives_steps h.setup.drive ≡ false)
+module _ (h : GroupHistory) (p : Parts) (steps : List Step) (positions nexts : List ℕ) (playing : IsPlaying h p steps positions nexts) (q : ℕ) (of_g : IsProcessorOf (group_of h) q) (turns : gives_steps h.setup.drive ≡ false)
     (at : Progress) (far : IsFar (group_of h) q h.entries at) where
   is_at : IsAtTurn (group_of h) q (past h) at
   is_at = (far-turns (group_of h) q h.entries at turns).0 far
@@ -104,7 +104,7 @@ module _ (h : GroupHistory) (p : Parts) (steps : List Step) (places nexts : List
         low : length h.entries < room (group_of h)
         low = let few = play-fits (group_of h) (h.entries ++ e ∷ []) begun-more in omega (arith, few, length-append h.entries (e ∷ []))
 
-        pub playing-on : IsPlaying (with_entry e h) p steps places nexts
+        pub playing-on : IsPlaying (with_entry e h) p steps positions nexts
         playing-on = record {
           playable = playing.playable;
           setup_is = playing.setup_is;

@@ -45,7 +45,7 @@ module _ (g : Group) (q : ℕ) (past : Past) (at : Progress) (is : IsAtTurn g q 
     next = inr (tick-next g q past between.between (rw between.begun left) ∙ ap (λ (t : ℕ). let o : Option Step = Some (step_at q t acts.Tick) in o) between.begun);
     far = record {
       few = is.few;
-      place = inr (record {
+      position = inr (record {
         left = left;
         begun = begun-tick g (step_of acts.Tick) past q (own acts.Tick) refl ∙ ap (λ (n : ℕ). n + 1) between.begun;
         steps_are = let s = since-tick g (step_of acts.Tick) past q (own acts.Tick) refl in omega (arith, s, none);
@@ -61,7 +61,7 @@ module _ (g : Group) (q : ℕ) (past : Past) (at : Progress) (is : IsAtTurn g q 
         next = inl (going ∙ ap (λ (t : ℕ). let o : Option Step = Some (step_at q t act) in o) number);
         far = record {
           few = is.few;
-          place = inr (record {
+          position = inr (record {
             left = left;
             begun = begun-act g (step_of act) past q no_tick ∙ way.begun;
             steps_are = let s = since-act g (step_of act) past q (own act) no_tick in let w = way.steps_are in omega (arith, s, w);
@@ -89,15 +89,15 @@ module _ (g : Group) (q : ℕ) (past : Past) (at : Progress) (is : IsAtTurn g q 
       act-comes act way low (next_act-act g (situation g q past) act h) (act-next g q past act (omega (arith, b)) (omega (arith, w, some, more)) (omega (arith, w, low)) h)
 
   pub comes : (act : Act) → act_after g q at.steps past ≡ Some act → Comes act
-  comes act h = by_place is.place
+  comes act h = by_position is.position
     where
-      by_place : ((at.steps ≡ 0) × IsBetween g q at.turns past) ⊎ IsUnderWay g q at.turns at.steps past → Comes act
-      by_place (inl (none, between)) =
+      by_position : ((at.steps ≡ 0) × IsBetween g q at.turns past) ⊎ IsUnderWay g q at.turns at.steps past → Comes act
+      by_position (inl (none, between)) =
           let first : at.steps == 0 ≡ true = grind (arith, nat_tests, none) in
           let there : Some acts.Tick ≡ Some act = rw first at h in
           let same : acts.Tick ≡ act = cc in
           subst Comes same (tick-comes none between)
-      by_place (inr way) = way-comes act way (at.steps == 0) (at.steps == 1) (nat_le 18 at.steps) refl refl refl h
+      by_position (inr way) = way-comes act way (at.steps == 0) (at.steps == 1) (nat_le 18 at.steps) refl refl refl h
 
   -- ---- the end of a turn
 
@@ -118,14 +118,14 @@ module _ (g : Group) (q : ℕ) (past : Past) (at : Progress) (is : IsAtTurn g q 
       record { left = left; begun = way.begun; irq = omega (arith, w, some, more); done = inr (rw h refl) }
 
   pub turn-done : act_after g q at.steps past ≡ None → IsTurnDone g q at.turns past
-  turn-done h = by_place is.place
+  turn-done h = by_position is.position
     where
-      by_place : ((at.steps ≡ 0) × IsBetween g q at.turns past) ⊎ IsUnderWay g q at.turns at.steps past → IsTurnDone g q at.turns past
-      by_place (inl (none, between)) =
+      by_position : ((at.steps ≡ 0) × IsBetween g q at.turns past) ⊎ IsUnderWay g q at.turns at.steps past → IsTurnDone g q at.turns past
+      by_position (inl (none, between)) =
           let first : at.steps == 0 ≡ true = grind (arith, nat_tests, none) in
           let there : Some acts.Tick ≡ None = rw first at h in
           cc
-      by_place (inr way) = way-done way (at.steps == 0) (at.steps == 1) (nat_le 18 at.steps) refl refl refl h
+      by_position (inr way) = way-done way (at.steps == 0) (at.steps == 1) (nat_le 18 at.steps) refl refl refl h
 
 -- where the next act is none after an entry, it was none since the processor's last step
 abbrev pub IsNoneNow : Group → ℕ → Past → Type 0
@@ -144,7 +144,7 @@ none-now g q es = none-from g q [] es (λ some none. absurd (omega (arith, some)
 pub turn-given : (g : Group) (q t : ℕ) (es : List Entry) → IsTurnDone g q t (past_of g es) → IsAtTurn g q (past_of g es) (record { turns = t + 1; steps = 0 })
 turn-given g q t es done = record {
   few = let l = done.left in omega (arith, l);
-  place = inl (refl, record { begun = done.begun; between = by_cause done.done });
+  position = inl (refl, record { begun = done.begun; between = by_cause done.done });
 }
   where
     by_cause : (steps_since q (past_of g es) ≡ 17) ⊎ (has_none g q (past_of g es) ≡ true) → is_between g q (past_of g es) ≡ true
@@ -155,14 +155,14 @@ turn-given g q t es done = record {
 
 pub turns-ended : (g : Group) (q : ℕ) (past : Past) (at : Progress) → IsAtTurn g q past at → horizon g.setup.drive ≤ at.turns → (has_ended g q past ≡ true) × (at.turns ≡ horizon g.setup.drive)
 unfolding has_ended has_left
-turns-ended g q past at is high = (by_place is.place, let f = is.few in omega (arith, f, high))
+turns-ended g q past at is high = (by_position is.position, let f = is.few in omega (arith, f, high))
   where
-    by_place : ((at.steps ≡ 0) × IsBetween g q at.turns past) ⊎ IsUnderWay g q at.turns at.steps past → has_ended g q past ≡ true
-    by_place (inl (none, between)) =
+    by_position : ((at.steps ≡ 0) × IsBetween g q at.turns past) ⊎ IsUnderWay g q at.turns at.steps past → has_ended g q past ≡ true
+    by_position (inl (none, between)) =
         let b = between.begun in
         let last : nat_lt (turns_begun q past) (horizon g.setup.drive) ≡ false = grind (arith, nat_tests, b, high) in
         rw (between.between, last) refl
-    by_place (inr way) = absurd (let l = way.left in omega (arith, l, high))
+    by_position (inr way) = absurd (let l = way.left in omega (arith, l, high))
 
 between-first : (g : Group) (q : ℕ) → IsBetween g q 0 []
 unfolding turns_begun is_between
@@ -172,18 +172,18 @@ between-first g q = record { begun = refl; between = refl }
 pub at-first : (g : Group) (q : ℕ) → IsAtTurn g q (past_of g []) (record { turns = 0; steps = 0 })
 at-first g q = subst (λ (past : Past). IsAtTurn g q past (record { turns = 0; steps = 0 })) (sym (opening-past g)) (record {
   few = omega arith;
-  place = inl (refl, between-first g q);
+  position = inl (refl, between-first g q);
 })
 
 -- ---- entries of other processors
 
 module _ (g : Group) (q : ℕ) where
   at-other : (s : Step) (past : Past) (at : Progress) → s.cpu.0 == q ≡ false → IsAtTurn g q past at → IsAtTurn g q (after g s past) at
-  at-other s past at other is = record { few = is.few; place = by_place is.place }
+  at-other s past at other is = record { few = is.few; position = by_position is.position }
     where
-      by_place : ((at.steps ≡ 0) × IsBetween g q at.turns past) ⊎ IsUnderWay g q at.turns at.steps past → ((at.steps ≡ 0) × IsBetween g q at.turns (after g s past)) ⊎ IsUnderWay g q at.turns at.steps (after g s past)
-      by_place (inl (none, between)) = inl (none, record { begun = begun-other g s past q other ∙ between.begun; between = between-other g s past q other between.between })
-      by_place (inr way) = inr (record {
+      by_position : ((at.steps ≡ 0) × IsBetween g q at.turns past) ⊎ IsUnderWay g q at.turns at.steps past → ((at.steps ≡ 0) × IsBetween g q at.turns (after g s past)) ⊎ IsUnderWay g q at.turns at.steps (after g s past)
+      by_position (inl (none, between)) = inl (none, record { begun = begun-other g s past q other ∙ between.begun; between = between-other g s past q other between.between })
+      by_position (inr way) = inr (record {
         left = way.left;
         begun = begun-other g s past q other ∙ way.begun;
         steps_are = way.steps_are ∙ ap (λ (n : ℕ). n + 1) (sym (since-other g s past q other));

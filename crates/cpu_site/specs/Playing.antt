@@ -18,7 +18,7 @@ use Rattle.rt_plays.specs.Order.{steps_in_group}
 use Rattle.rt_plays.specs.Plays.{group_with, IsBegunPlay}
 use Rattle.rt_plays.specs.Room.{room}
 use Rattle.rt_plays.specs.Scripts.{script, steps_of}
-use Rattle.cpu_site.specs.Chains.{IsSeatToken, IsNextFrom}
+use Rattle.cpu_site.specs.Chains.{IsPosition, IsNextFrom}
 use Rattle.cpu_site.specs.declared.played.Played.{Played}
 use Rattle.cpu_site.specs.declared.played.Played.TheVariants as plays
 use Rattle.cpu_site.specs.declared.progress.Progress.{Progress}
@@ -75,20 +75,20 @@ pub record IsPlayable (p : Parts) (n : ℕ) : Type 0 where
   pub valid : IsValid p
   pub there : IsGroupOf p n
 
--- the steps of the processor that were played are those before a place, at which its next one stands
+-- the steps of the processor that were played are those before a position, at which its next one stands
 pub record IsPlayedTo (steps : List Step) (es : List Entry) (q j : ℕ) : Type 0 where
-  pub place : IsSeatToken steps q j
+  pub position : IsPosition steps q j
   pub played : script (steps_of es) q ≡ script (take j steps) q
 
--- the history is a play as far as it goes, with room for the steps that are left; where the set gives steps, the places are those of the
+-- the history is a play as far as it goes, with room for the steps that are left; where the set gives steps, the positions are those of the
 -- next ones
-pub record IsPlaying (h : GroupHistory) (p : Parts) (steps : List Step) (places nexts : List ℕ) : Type 0 where
+pub record IsPlaying (h : GroupHistory) (p : Parts) (steps : List Step) (positions nexts : List ℕ) : Type 0 where
   pub playable : IsPlayable h.setup h.group
   pub setup_is : p ≡ h.setup
   pub steps_are : steps ≡ steps_in_group (group_of h) (steps_given h.setup.drive)
   pub begun : IsBegunPlay (group_of h) h.entries
   pub room_is : length h.entries + h.spare ≡ room (group_of h)
-  pub all_cpus : length places ≡ MOST_CPUS
+  pub all_cpus : length positions ≡ MOST_CPUS
   pub all_steps : length nexts ≡ length steps
-  pub at : gives_steps h.setup.drive ≡ true → (q : ℕ) → q < MOST_CPUS → IsPlayedTo steps h.entries q (slice_index places q)
+  pub at : gives_steps h.setup.drive ≡ true → (q : ℕ) → q < MOST_CPUS → IsPlayedTo steps h.entries q (slice_index positions q)
   pub next : (i : ℕ) (d : Step) → i < length steps → IsNextFrom steps (slice_index_or steps i d).cpu.0 (i + 1) (slice_index nexts i)

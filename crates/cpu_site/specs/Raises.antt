@@ -22,7 +22,7 @@ pub record IsSight (g : Group) (q : ℕ) (p : Past) (s : Sight) : Type 0 where
   pub link : number_of_task s.link ≡ linked g q p
   pub runs : number_of_task s.runs ≡ runs q p
 
--- how many processors a group has, and which one is at a place
+-- how many processors a group has, and which one is at a position
 abbrev pub cpu_count : Group → ℕ
 cpu_count g = length (group_processors g)
 

@@ -27,13 +27,13 @@ abbrev pub cpu_of : Entry → ℕ
 cpu_of e = e.step.cpu.0
 
 -- how many numbers stand before this one in a list
-abbrev pub place_in : List ℕ → ℕ → ℕ
-place_in [] q = 0
-place_in (x ∷ xs) q = if x == q then 0 else place_in xs q + 1
+abbrev pub position_in : List ℕ → ℕ → ℕ
+position_in [] q = 0
+position_in (x ∷ xs) q = if x == q then 0 else position_in xs q + 1
 
--- the place of the entry's processor among those of the group, by rising number
-abbrev pub place_of_cpu : GroupOf → Entry → ℕ
-place_of_cpu s e = place_in (group_processors (group_at s)) (cpu_of e)
+-- the position of the entry's processor among those of the group, by rising number
+abbrev pub position_of_cpu : GroupOf → Entry → ℕ
+position_of_cpu s e = position_in (group_processors (group_at s)) (cpu_of e)
 
 -- the seat of a processor: of which site, of which processor, how many of its turns it gave as over, the entries that it has seen, and how
 -- often it looked at its interrupt word and what it found there the last time
@@ -110,7 +110,7 @@ pub record IsSite (s : GroupOf) (count : ℕ) : Type 0 where
   pub playable : IsPlayable s.setup s.number
   pub all : count ≡ cpu_count (group_at s)
 
--- what a seat keeps: it is that of the processor at its place of the group, which is so far, with the word that this took last, and room
+-- what a seat keeps: it is that of the processor at its position of the group, which is so far, with the word that this took last, and room
 -- for what it plays
 pub record IsSeat (s : GroupOf) (p : SeatView Entry GroupOf) (q : ℕ) (at : Progress) (taken : ℕ) (counts : List ℕ) (room : ℕ) : Type 0 where
   pub low : p.cpu < cpu_count (group_at s)

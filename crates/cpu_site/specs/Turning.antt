@@ -31,7 +31,7 @@ pub record IsUnderWay (g : Group) (q t steps : ℕ) (past : Past) : Type 0 where
 -- the processor is so far in its turns
 pub record IsAtTurn (g : Group) (q : ℕ) (past : Past) (at : Progress) : Type 0 where
   pub few : at.turns ≤ horizon g.setup.drive
-  pub place : ((at.steps ≡ 0) × IsBetween g q at.turns past) ⊎ IsUnderWay g q at.turns at.steps past
+  pub position : ((at.steps ≡ 0) × IsBetween g q at.turns past) ⊎ IsUnderWay g q at.turns at.steps past
 
 -- turn t of the processor is over: its Tick and its Irq were played, and then all acts that a turn has, or its next act is none now
 pub record IsTurnDone (g : Group) (q t : ℕ) (past : Past) : Type 0 where

@@ -12,8 +12,8 @@ pub(crate) fn no_counts(alloc: Global, cpus: usize) -> Result<Vec<u64>, NoMemory
     Ok(Vec::from_elem(alloc, 0, cpus)?)
 }
 
-/// An empty list of places, with room for one place a processor.
-pub(crate) fn no_places(alloc: Global, cpus: usize) -> Result<Vec<u32>, NoMemory>
+/// An empty list of positions, with room for one position a processor.
+pub(crate) fn no_positions(alloc: Global, cpus: usize) -> Result<Vec<u32>, NoMemory>
     ensures { IfOk result (λ v. (v.items ≡ []) × (cpus ≤ vec_capacity v)) }
 {
     Ok(Vec::with_capacity(alloc, cpus)?)
@@ -27,24 +27,24 @@ pub(crate) fn copy(from: &[u64], to: &mut Vec<u64>)
     to.as_mut_slice().copy_from_slice(from);
 }
 
-/// The places of the counts that have changed, where each is as it was or one more.
-pub(crate) fn changed(before: &[u64], after: &[u64], places: &mut Vec<u32>)
+/// The positions of the counts that have changed, where each is as it was or one more.
+pub(crate) fn changed(before: &[u64], after: &[u64], positions: &mut Vec<u32>)
     requires same { length before.now ≡ length after.now }
     requires few { length before.now < 2 ^ 32 }
-    requires room { length before.now ≤ vec_capacity places.old }
+    requires room { length before.now ≤ vec_capacity positions.old }
     requires each { (p : ℕ) → p < length before.now →
         (slice_index after.now p ≡ slice_index before.now p)
         ⊎ (slice_index after.now p ≡ slice_index before.now p + 1) }
-    ensures named { All (λ p. p < length before.now) places.new.items }
-    ensures once { (p : ℕ) → times p places.new.items ≤ 1 }
+    ensures named { All (λ p. p < length before.now) positions.new.items }
+    ensures once { (p : ℕ) → times p positions.new.items ≤ 1 }
     ensures counted { (p : ℕ) → p < length before.now →
-        slice_index after.now p ≡ slice_index before.now p + times p places.new.items }
-    ensures capacity { vec_capacity places.old ≤ vec_capacity places.new }
+        slice_index after.now p ≡ slice_index before.now p + times p positions.new.items }
+    ensures capacity { vec_capacity positions.old ≤ vec_capacity positions.new }
 {
-    places.clear();
+    positions.clear();
     for i in 0..before.len() as u32 {
         if before[i as usize] != after[i as usize] {
-            places.push_reserved(i);
+            positions.push_reserved(i);
         }
     }
 }

@@ -28,13 +28,13 @@ use rt_task::{Act, Drive, Setup, Step};
 use std::alloc::Global;
 use std::marker::Model;
 
-/// The engine of a group, with its setup, the group's own steps, and the place of each processor's next one.
+/// The engine of a group, with its setup, the group's own steps, and the position of each processor's next one.
 #[derive(Drop)]
 pub(crate) struct Player {
     engine: Engine,
     setup: Setup,
     steps: Vec<Step>,
-    places: Vec<usize>,
+    positions: Vec<usize>,
     nexts: Vec<usize>,
 }
 
@@ -47,7 +47,7 @@ impl Model for Player {
     ghost view = { λ a. a.engine };
 
     ghost invariant = { λ a.
-        IsPlaying a.engine a.setup a.steps.items a.places.items a.nexts.items };
+        IsPlaying a.engine a.setup a.steps.items a.positions.items a.nexts.items };
 }
 
 /// How many turns each processor has; a set with steps has none.
@@ -87,7 +87,7 @@ impl Player {
     {
         let drive = &setup.parts().drive;
         let steps = steps_of_cpus(alloc, steps_given(drive), cpus)?;
-        let (places, nexts) = chained(alloc, steps.as_slice(), MOST_CPUS)?;
+        let (positions, nexts) = chained(alloc, steps.as_slice(), MOST_CPUS)?;
         let room = room_in(drive, steps.len(), cpus.len());
         let engine = Engine::open(alloc, setup, group, room)?;
         let setup = setup.share()?;
@@ -95,7 +95,7 @@ impl Player {
             engine,
             setup,
             steps,
-            places,
+            positions,
             nexts,
         })
     }
@@ -136,13 +136,13 @@ impl Player {
         ensures begun { IsBegunPlay (group_of self.new) self.new.entries }
         ensures few { length self.new.entries ≤ MOST_STEPS }
     {
-        let place = self.places[cpu.0 as usize];
-        if place >= self.steps.len() {
+        let position = self.positions[cpu.0 as usize];
+        if position >= self.steps.len() {
             return Played::Ended;
         }
-        let step = self.steps[place];
+        let step = self.steps[position];
         let reply = self.engine.step(step);
-        self.places[cpu.0 as usize] = self.nexts[place];
+        self.positions[cpu.0 as usize] = self.nexts[position];
         Played::Did(Entry { step, reply })
     }
 

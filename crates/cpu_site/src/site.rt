@@ -15,7 +15,7 @@ ghost use Rattle.cpu_site.specs.Seats.{about, cpu_of, cpu_seat_view, group_at, i
 use crate::cpus::cpus_of;
 use crate::gate::Gate;
 use crate::group::Group;
-use crate::marks::{changed, copy, no_counts, no_places};
+use crate::marks::{changed, copy, no_counts, no_positions};
 use crate::played::Played;
 use crate::progress::Progress;
 use group_engine::Engine;
@@ -55,13 +55,13 @@ impl Model for Site {
         (s : GroupOf) × (a.turn.cell.subject ≡ Some s) × IsSite s a.turn.cpus };
 }
 
-/// A processor's place at a site. Contracts see what it has seen.
+/// A processor's position at a site. Contracts see what it has seen.
 #[derive(Drop)]
 pub struct CpuSeat {
     seat: TurnSeat<Group>,
     cpu: CpuNo,
-    // The processor's place among those of the group.
-    place: u32,
+    // The processor's position among those of the group.
+    position: u32,
     // How far it is in its turns.
     at: Progress,
     // How often a gate was asked before a play of it.
@@ -81,41 +81,41 @@ impl Model for CpuSeat {
 
     ghost view = { λ a. cpu_seat_view a.cpu.0 a.at.turns a.seat };
 
-    ghost invariant = { λ a. (a.seat.holds ≡ false) × (a.seat.cpu ≡ a.place)
+    ghost invariant = { λ a. (a.seat.holds ≡ false) × (a.seat.cpu ≡ a.position)
         × About a.seat.cell
         (λ s. IsSeat s a.seat a.cpu.0 a.at a.taken a.counts.items (vec_capacity a.raised)) };
 }
 
 /// The word that is taken by an act: that of the processor at an interrupt, and else the one that was taken before.
-fn word_after(act: Act, counts: &[u64], place: u32, taken: u64) -> u64
-    requires { place < length counts.now }
-    ensures { result ≡ (if is_irq act then slice_index counts.now place else taken) }
+fn word_after(act: Act, counts: &[u64], position: u32, taken: u64) -> u64
+    requires { position < length counts.now }
+    ensures { result ≡ (if is_irq act then slice_index counts.now position else taken) }
 {
     match act {
-        Act::Irq => counts[place as usize],
+        Act::Irq => counts[position as usize],
         _ => taken,
     }
 }
 
-/// The seat of a processor that has seen nothing. `place` is its place among the processors of its group.
+/// The seat of a processor that has seen nothing. `position` is its position among the processors of its group.
 fn seated(
     alloc: Global,
     seat: TurnSeat<Group>,
     cpu: CpuNo,
-    place: u32,
+    position: u32,
     count: usize,
 ) -> Result<CpuSeat, NoMemory>
-    requires seat { seat ≡ fresh seat.cell place }
-    requires place { About seat.cell (λ s. (place < count) × (count ≡ cpu_count (group_at s))
-        × (cpu_at (group_at s) place ≡ cpu.0)) }
+    requires seat { seat ≡ fresh seat.cell position }
+    requires position { About seat.cell (λ s. (position < count) × (count ≡ cpu_count (group_at s))
+        × (cpu_at (group_at s) position ≡ cpu.0)) }
     ensures { IfOk result (λ r. r ≡ unused_seat seat.cell cpu.0) }
 {
     let counts = no_counts(alloc, count)?;
-    let raised = no_places(alloc, count)?;
+    let raised = no_positions(alloc, count)?;
     Ok(CpuSeat {
         seat,
         cpu,
-        place,
+        position,
         at: Progress::start(),
         plays: 0,
         taken: 0,
@@ -181,9 +181,9 @@ impl Site {
         let (turn, mut seats) = Turn::open(alloc, value, count as u32)?;
         let mut all = Vec::new(alloc);
         while let Some(seat) = seats.pop() {
-            let place = seats.len();
-            let cpu = cpus[place];
-            let seat = seated(alloc, seat, cpu, place as u32, count)?;
+            let position = seats.len();
+            let cpu = cpus[position];
+            let seat = seated(alloc, seat, cpu, position as u32, count)?;
             all.push(seat)?;
         }
         turn_round(&mut all);
@@ -236,7 +236,7 @@ impl Site {
         match group.advance(seat.cpu, &mut seat.at) {
             Played::Did(entry) => {
                 changed(seat.counts.as_slice(), group.raises(), &mut seat.raised);
-                seat.taken = word_after(entry.step.act, group.raises(), seat.place, seat.taken);
+                seat.taken = word_after(entry.step.act, group.raises(), seat.position, seat.taken);
                 self.turn
                     .give(&mut seat.seat, group, seat.raised.as_slice());
                 Played::Did(entry)
@@ -263,6 +263,6 @@ impl Site {
             result ≡ nat_lt (word_taken (group_at s) seat.old.cpu seat.old.seen) seat.new.found) }
         ensures looked { seat.new ≡ looked_up seat.new.found seat.old }
     {
-        self.turn.irq_word(&mut seat.seat, seat.place) > seat.taken
+        self.turn.irq_word(&mut seat.seat, seat.position) > seat.taken
     }
 }

@@ -17,11 +17,11 @@ impl Story for Group {
     type Subject = GroupOf;
 
     ghost use Rattle.cpu_site.specs.Raises.{raises_of};
-    ghost use Rattle.cpu_site.specs.Seats.{about, place_of_cpu};
+    ghost use Rattle.cpu_site.specs.Seats.{about, position_of_cpu};
 
     ghost list = { λ g. g.entries };
 
-    ghost cpu = { place_of_cpu };
+    ghost cpu = { position_of_cpu };
 
     ghost raises = { λ g. raises_of g };
 

@@ -45,19 +45,19 @@ kind cells.ready = codes "ready"
 kind cells.away = []
 
 -- processors, by number
-abbrev pub places : List ℕ → Piece
-places qs = join_with_byte 43 (map decimal qs)
+abbrev pub positions : List ℕ → Piece
+positions qs = join_with_byte 43 (map decimal qs)
 
 module _ (g : Group) where
   abbrev pub sem_name : ℕ → Piece
   sem_name s = (sem g s).name
 
   abbrev pub name : Doing → Piece
-  name (cells.works qs) = codes "works on " ++ places qs
+  name (cells.works qs) = codes "works on " ++ positions qs
   name (cells.blocked s) = codes "blocked at " ++ sem_name s
   name (cells.waits s) = codes "waits for " ++ sem_name s
   name cells.sleeping = codes "sleeps"
-  name (cells.running qs) = codes "runs on " ++ places qs
+  name (cells.running qs) = codes "runs on " ++ positions qs
   name cells.ready = codes "ready"
   name cells.away = []
 

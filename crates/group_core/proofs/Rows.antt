@@ -19,7 +19,7 @@ module _ (p : Parts) (k : Kept) (c i : ℕ) (x : Task) (can : CanRank p k c) (lo
   number = ap (λ (y : Task). y.number.0) is ∙ (can.limits.tasks_in i low).number_is
 
   pub row-own : x ≡ task_in p.tasks x.number.0
-  row-own = let place : i ≡ x.number.0 - 1 = omega (arith, number) in is ∙ ap (λ n. slice_index_or p.tasks n no_task) place
+  row-own = let position : i ≡ x.number.0 - 1 = omega (arith, number) in is ∙ ap (λ n. slice_index_or p.tasks n no_task) position
 
   pub row-deadline : (task_in p.tasks x.number.0).rel_deadline < TICK_END
   row-deadline = subst (λ (y : Task). y.rel_deadline < TICK_END) (sym is ∙ row-own) (can.limits.tasks_in i low).deadline_low
@@ -29,16 +29,16 @@ module _ (p : Parts) (k : Kept) (c i : ℕ) (x : Task) (can : CanRank p k c) (lo
       let at_home : home_in p x.number.0 ≡ c = ap (λ (y : Task). y.cluster.0) (sym row-own) ∙ home in
       can.tasks x.number.0 (omega (arith, number)) (omega (arith, number, low)) at_home
 
--- a task of the set is at its place
+-- a task of the set is at its position
 module _ (p : Parts) (k : Kept) (t : ℕ) (can : CanRankTask p k t) where
-  pub task-place : t - 1 < length p.tasks
-  task-place = omega (arith, can.low, can.high)
+  pub task-position : t - 1 < length p.tasks
+  task-position = omega (arith, can.low, can.high)
 
   pub task-number : (task_in p.tasks t).number.0 ≡ t
-  task-number = (can.ranks.limits.tasks_in (t - 1) task-place).number_is ∙ omega (arith, can.low)
+  task-number = (can.ranks.limits.tasks_in (t - 1) task-position).number_is ∙ omega (arith, can.low)
 
   pub task-deadline : (task_in p.tasks t).rel_deadline < TICK_END
-  task-deadline = (can.ranks.limits.tasks_in (t - 1) task-place).deadline_low
+  task-deadline = (can.ranks.limits.tasks_in (t - 1) task-position).deadline_low
 
   pub task-kept : IsTaskOf k p.tasks t
   task-kept = can.ranks.tasks t can.low can.high refl

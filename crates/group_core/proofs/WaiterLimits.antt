@@ -6,8 +6,8 @@ use Rattle.rt_rules.specs.Numbers.{has}
 use Rattle.rt_model.specs.Group.{Group, home, in_group, task, tasks}
 use Rattle.rt_model.specs.Past.{Past, entries_in, now}
 use Rattle.rt_plays.specs.Limits.{IsTaskInLimits}
-use Rattle.rt_plays.specs.Places.{IsHomeTask}
-use Rattle.rt_plays.proofs.GroupPlaces.{tasks_are_at_home}
+use Rattle.rt_plays.specs.AtHome.{IsHomeTask}
+use Rattle.rt_plays.proofs.AtHomeLaws.{tasks_are_at_home}
 use Rattle.rt_plays.proofs.SetLimits.{sets_are_in_limits}
 use Rattle.group_jobs.specs.Bounds.{AreBounded}
 use Rattle.group_jobs.specs.Facts.{JobFacts, job_facts}
@@ -28,7 +28,7 @@ weaker a b c job le bounded = record {
 }
 
 module _ (g : Group) (valid : IsValid g.setup) where
-  -- the place of a task of the group
+  -- the position of a task of the group
   pub at_home : (t : ℕ) → has t (tasks g) ≡ true → IsHomeTask g t
   at_home t h = tasks_are_at_home g t valid h
 
@@ -36,8 +36,8 @@ module _ (g : Group) (valid : IsValid g.setup) where
   limits-of t h =
       let low : 1 ≤ t = (at_home t h).low in
       let high : t ≤ length g.setup.tasks = (at_home t h).high in
-      let place : t - 1 + 1 ≡ t = omega arith in
-      subst (λ n. IsTaskInLimits n (length g.setup.clusters) (task_in g.setup.tasks t)) place ((sets_are_in_limits g.setup valid).tasks_in (t - 1) (omega arith))
+      let position : t - 1 + 1 ≡ t = omega arith in
+      subst (λ n. IsTaskInLimits n (length g.setup.clusters) (task_in g.setup.tasks t)) position ((sets_are_in_limits g.setup valid).tasks_in (t - 1) (omega arith))
 
   -- it is one of the tasks of which jobs are kept
   pub task-kept : (past : Past) (k : Kept) → IsKept g past k → entries_in past ≤ MOST_STEPS → now past < TICK_END → (t : ℕ) → has t (tasks g) ≡ true → IsTaskOf k g.setup.tasks t

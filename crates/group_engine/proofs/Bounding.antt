@@ -6,7 +6,7 @@ use Rattle.rt_rules.specs.Numbers.{has}
 use Rattle.rt_model.specs.Group.{Group, home, task, tasks}
 use Rattle.rt_model.specs.Past.{Past}
 use Rattle.rt_plays.specs.Limits.{IsTaskInLimits}
-use Rattle.rt_plays.specs.Places.{IsHomeTask}
+use Rattle.rt_plays.specs.AtHome.{IsHomeTask}
 use Rattle.group_jobs.specs.Kept.{Kept}
 use Rattle.group_jobs.specs.GroupJobs.{IsTaskOf, task_in}
 use Rattle.group_sems.specs.GroupSems.{GroupSems}

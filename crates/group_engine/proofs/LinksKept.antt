@@ -8,13 +8,13 @@ use Rattle.rt_rules.specs.declared.history.Reply.{Reply}
 use Rattle.rt_task.specs.declared.Act.{Act}
 use Rattle.rt_task.specs.declared.Act.TheVariants as acts
 use Rattle.rt_task.specs.declared.Parts.{Parts}
-use Rattle.rt_rules.specs.Placing.{at_place}
+use Rattle.rt_rules.specs.Placing.{link_at}
 use Rattle.rt_model.specs.Group.{Group, cluster_with, first_cpu}
 use Rattle.rt_model.specs.Histories.{past_of}
 use Rattle.rt_model.specs.Links.{linked, links}
 use Rattle.rt_model.specs.Past.{Past, accepted}
 use Rattle.rt_plays.specs.Homes.{IsProcessorOf}
-use Rattle.rt_plays.proofs.GroupPlaces.{processors_are_at_home}
+use Rattle.rt_plays.proofs.AtHomeLaws.{processors_are_at_home}
 use Rattle.link_table.specs.Linked.{Linked, after_irq, is_deferred, is_pending, link_of, with_run}
 use Rattle.cluster_table.specs.Clusters.{KeptCluster, after_take, left_by, with_key}
 use Rattle.cluster_table.specs.Marks.{IsUnmarked, Marks}
@@ -105,7 +105,7 @@ pub linked-unmarked : (g : Group) (es : List Entry) (e : Entry) (marks : Marks) 
     → IsUnmarked marks (cluster_with g q) → linked g q (past_of g (es ++ e ∷ [])) ≡ linked g q (past_of g es)
 unfolding linked
 linked-unmarked g es e marks marked q of out =
-    ap (λ ls. at_place ls (q - first_cpu g (cluster_with g q))) (marked es e refl (cluster_with g q) (processors_are_at_home g q of).cluster_there out)
+    ap (λ ls. link_at ls (q - first_cpu g (cluster_with g q))) (marked es e refl (cluster_with g q) (processors_are_at_home g q of).cluster_there out)
 
 -- and so is each processor where no cluster has a mark
 pub linked-none : (g : Group) (es : List Entry) (e : Entry) (marks : Marks) → AreMarked g (es ++ e ∷ []) marks → marks.any ≡ false → (q : ℕ) → IsProcessorOf g q

@@ -16,8 +16,8 @@ use Rattle.rt_model.specs.Runs.{runs}
 use Rattle.rt_model.specs.Tops.{top}
 use Rattle.rt_laws.proofs.GroupLaws.{tasks_of-home}
 use Rattle.rt_plays.specs.Limits.{IsInLimits}
-use Rattle.rt_plays.specs.Places.{IsHomeTask}
-use Rattle.rt_plays.proofs.GroupPlaces.{tasks_are_at_home}
+use Rattle.rt_plays.specs.AtHome.{IsHomeTask}
+use Rattle.rt_plays.proofs.AtHomeLaws.{tasks_are_at_home}
 use Rattle.rt_plays.proofs.SetLimits.{sets_are_in_limits}
 use Rattle.ready_queue.specs.ReadySet.{HoldsJust, set_refreshed}
 use Rattle.ready_queue.specs.Refreshed.{AgreeBut}

@@ -10,10 +10,10 @@ use Rattle.rt_model.specs.Links.{linked, runs_of}
 use Rattle.rt_model.specs.Outcomes.{past_act}
 use Rattle.rt_model.specs.Past.{Acted, Past}
 use Rattle.rt_model.specs.Runs.{runs}
-use Rattle.rt_model.proofs.PastLaws.{at_place-numbers, length-runs_of}
+use Rattle.rt_model.proofs.PastLaws.{link_at-numbers, length-runs_of}
 use Rattle.rt_plays.specs.Homes.{IsProcessorOf}
-use Rattle.rt_plays.specs.Places.{IsAtHome}
-use Rattle.rt_plays.proofs.GroupPlaces.{processors_are_at_home}
+use Rattle.rt_plays.specs.AtHome.{IsAtHome}
+use Rattle.rt_plays.proofs.AtHomeLaws.{processors_are_at_home}
 use Rattle.rt_plays.proofs.RunsAfter.{runs_of-changed, runs_of-still}
 use Rattle.rt_changes.proofs.rankings.SameClusters.{runs-elsewhere}
 use Rattle.link_table.specs.Linked.{IsOfCluster, link_of, runs_on, with_run}
@@ -51,7 +51,7 @@ module _ (g : Group) (q : ℕ) (inside : IsProcessorOf g q) (past : Past) (s : G
   unfolding runs_of processors
   runs-read k is =
       rw (is.first_is, is.runs_are)
-      (at_place-numbers (λ r. runs r past) (first_cpu g (cluster_with g q)) (cpus g (cluster_with g q)) q (numbers_from-has (first_cpu g (cluster_with g q)) (cpus g (cluster_with g q)) q home_at.low home_at.high))
+      (link_at-numbers (λ r. runs r past) (first_cpu g (cluster_with g q)) (cpus g (cluster_with g q)) q (numbers_from-has (first_cpu g (cluster_with g q)) (cpus g (cluster_with g q)) q home_at.low home_at.high))
 
   pub link-read : (k : KeptCluster) → IsClusterAt g (cluster_with g q) past k → link_of k.linked q ≡ linked g q past
   unfolding linked

@@ -17,7 +17,7 @@ use Rattle.rt_model.specs.Tops.{eligible, is_admitted, is_served as is_served_by
 use Rattle.rt_model.proofs.Steps.{links-step}
 use Rattle.rt_model.proofs.TopLaws.{distinct-tasks_of}
 use Rattle.rt_laws.proofs.GroupLaws.{tasks_of-home}
-use Rattle.rt_plays.specs.Places.{IsHomeTask}
+use Rattle.rt_plays.specs.AtHome.{IsHomeTask}
 use Rattle.ready_queue.specs.Queue.{first_tasks}
 use Rattle.ready_queue.specs.ReadySet.{HoldsJust, kept_key, set_refreshed}
 use Rattle.ready_queue.specs.Refreshed.{AgreeBut}

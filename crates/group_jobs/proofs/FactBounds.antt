@@ -20,11 +20,11 @@ use Rattle.group_jobs.proofs.JobSteps.{position-step}
 
 -- ---- counts
 
-counts-step : (a b : Bool) (done place acts : ℕ) → done + place ≤ acts
-    → (if a then done + 1 else done) + (if a then 0 else (if b then place + 1 else place)) ≤ acts + 1
-counts-step true b done place acts h = omega arith
-counts-step false true done place acts h = omega arith
-counts-step false false done place acts h = omega arith
+counts-step : (a b : Bool) (done ops_done acts : ℕ) → done + ops_done ≤ acts
+    → (if a then done + 1 else done) + (if a then 0 else (if b then ops_done + 1 else ops_done)) ≤ acts + 1
+counts-step true b done ops_done acts h = omega arith
+counts-step false true done ops_done acts h = omega arith
+counts-step false false done ops_done acts h = omega arith
 
 counts-none : (t : ℕ) → done t [] + position_in_body t [] ≤ 0
 unfolding done position_in_body this_job

@@ -84,7 +84,7 @@ both-set ss qs t s change low high same =
 -- ---- at the opening
 
 abbrev pub new_state : TaskState
-new_state = record { done = 0; used = 0; place = 0; wakes = 0; non_preemptive = false; arrived = 0; newest = None }
+new_state = record { done = 0; used = 0; ops_done = 0; wakes = 0; non_preemptive = false; arrived = 0; newest = None }
 
 abbrev pub idle_state : CpuState
 idle_state = record { runs = None; worked = None }

@@ -9,7 +9,7 @@ use Rattle.rt_model.specs.Links.{linked, pending}
 use Rattle.rt_model.specs.Past.{Past, now}
 use Rattle.rt_model.specs.Reservations.{left}
 use Rattle.rt_model.specs.Runs.{runs}
-use Rattle.rt_model.specs.Situations.{task_no, place_of, lacks_budget, situation}
+use Rattle.rt_model.specs.Situations.{task_no, ops_done_of, lacks_budget, situation}
 use Rattle.group_jobs.specs.Facts.{JobFacts, CpuFacts}
 use Rattle.group_jobs.specs.Kept.{Kept, IsKept, cpu_of}
 use Rattle.group_jobs.specs.Situations.{lacks_of, situation_of, SituationIsRead}
@@ -26,7 +26,7 @@ lacks-read g (Some t) budget past h = lacks-same g t budget past (h t refl)
 opened : (g : Group) (q : ℕ) (past : Past)
     → situation g q past ≡ record {
       runs = option_map task_no (runs q past);
-      at = place_of g (runs q past) past;
+      at = ops_done_of g (runs q past) past;
       np =
           np_on g (runs q past) past;
       pending = not (same (linked g q past) (runs q past));
@@ -36,11 +36,11 @@ opened : (g : Group) (q : ℕ) (past : Past)
 unfolding situation pending
 opened g q past = refl
 
-place-read : (g : Group) (past : Past) (k : Kept) → IsKept g past k → (o : Option ℕ) → ((t : ℕ) → o ≡ Some t → has t (tasks g) ≡ true)
-    → kept.place_of k o ≡ place_of g o past
-unfolding place_of
-place-read g past k kept None inside = refl
-place-read g past k kept (Some t) inside = ap (λ (j : JobFacts). j.place) (kept.jobs_are t (inside t refl))
+ops-read : (g : Group) (past : Past) (k : Kept) → IsKept g past k → (o : Option ℕ) → ((t : ℕ) → o ≡ Some t → has t (tasks g) ≡ true)
+    → kept.ops_done_of k o ≡ ops_done_of g o past
+unfolding ops_done_of
+ops-read g past k kept None inside = refl
+ops-read g past k kept (Some t) inside = ap (λ (j : JobFacts). j.ops_done) (kept.jobs_are t (inside t refl))
 
 pub situation_is_read : SituationIsRead
 situation_is_read g past valid made q budget k inside budget_is kept =
@@ -50,7 +50,7 @@ situation_is_read g past valid made q budget k inside budget_is kept =
       running,
       worked,
       kept.clock_is,
-      place-read g past k kept (runs q past) (member g past valid made q k kept),
+      ops-read g past k kept (runs q past) (member g past valid made q k kept),
       np-read g past valid made q k kept (runs q past) refl,
       lacks-read g (runs q past) budget past budget_is,
     ) (sym (opened g q past))

@@ -9,8 +9,8 @@ use Rattle.group_jobs.specs.Facts.{JobFacts, job_facts}
 
 -- counts are at most the number of acts, and moments of arrivals at most the clock
 pub record AreBounded (acts clock : ℕ) (job : JobFacts) : Type 0 where
-  pub counts : job.done + job.place ≤ acts
-  pub used_low : job.used ≤ job.place
+  pub counts : job.done + job.ops_done ≤ acts
+  pub used_low : job.used ≤ job.ops_done
   pub arrived_low : job.arrived ≤ acts
   pub few_to_come : length job.to_come ≤ job.arrived
   pub newest_come : (n : ℕ) → job.newest ≡ Some n → n ≤ clock

@@ -18,7 +18,7 @@ use Rattle.group_jobs.specs.Words.{is_used_up}
 abbrev pub op_done : ℕ → Op → JobFacts → JobFacts
 op_done clock op job = record job {
   used = if is_work (Some op) then job.used + 1 else job.used;
-  place = job.place + 1;
+  ops_done = job.ops_done + 1;
   wakes = max (sleep_end clock (Some op)) job.wakes;
   np = np_after (Some op) job.np;
 }
@@ -28,7 +28,7 @@ abbrev pub job_ended : JobFacts → JobFacts
 job_ended job = record {
   done = job.done + 1;
   used = 0;
-  place = 0;
+  ops_done = 0;
   wakes = 0;
   np = false;
   arrived = job.arrived;

@@ -12,10 +12,10 @@ use Rattle.rt_laws.specs.EveryPast.{EveryPast}
 use Rattle.group_jobs.specs.Kept.{Kept, IsKept, job_of, cpu_of}
 use Rattle.group_jobs.specs.Replies.{lacks, np_of}
 
--- the place of what runs in its body, and whether it lacks budget
-abbrev pub place_of : Kept → Option ℕ → ℕ
-place_of k None = 0
-place_of k (Some t) = (job_of k t).place
+-- the ops_done of what runs in its body, and whether it lacks budget
+abbrev pub ops_done_of : Kept → Option ℕ → ℕ
+ops_done_of k None = 0
+ops_done_of k (Some t) = (job_of k t).ops_done
 
 module _ (g : Group) where
   abbrev pub lacks_of : Option ℕ → ℕ → Bool
@@ -28,7 +28,7 @@ module _ (g : Group) where
       let running = (cpu_of k q).runs in
       record {
         runs = option_map task_no running;
-        at = place_of k running;
+        at = ops_done_of k running;
         np = np_of k running;
         pending = not (same link running);
         worked = same (cpu_of k q).worked (Some k.clock);

@@ -13,7 +13,7 @@ abbrev pub job_with : TaskState → List ℕ → JobFacts
 job_with s queue = record {
   done = s.done;
   used = s.used;
-  place = s.place;
+  ops_done = s.ops_done;
   wakes = s.wakes;
   np = s.non_preemptive;
   arrived = s.arrived;
@@ -33,7 +33,7 @@ cpu_seen c = record { runs = number_of_task c.runs; worked = c.worked }
 pub record HasRoom (s : TaskState) : Type 0 where
   pub done : s.done < 2 ^ 63
   pub used : s.used < 2 ^ 63
-  pub place : s.place < 2 ^ 63
+  pub ops_done : s.ops_done < 2 ^ 63
 
 -- a sleep is within the limit of ticks
 abbrev pub SleepIsShort : Op → Type 0

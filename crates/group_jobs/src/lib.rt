@@ -161,12 +161,12 @@ impl GroupJobs {
     }
 
     /// How many operations the task's current job has done.
-    pub fn place(&self, task: TaskNo) -> u64
+    pub fn ops_done(&self, task: TaskNo) -> u64
         requires low { 1 ≤ task.0 }
         requires high { task.0 ≤ length self.now.kept.jobs }
-        ensures { result ≡ (job_of self.now.kept task.0).place }
+        ensures { result ≡ (job_of self.now.kept task.0).ops_done }
     {
-        self.state(task).place
+        self.state(task).ops_done
     }
 
     /// The release of the task's current job; none where a sporadic task's has not arrived.

@@ -12,15 +12,15 @@ use rt_rules::Situation;
 
 impl GroupJobs {
     /// How many operations the job that runs has done; 0 where nothing runs.
-    fn place_that_runs(&self, cpu: CpuNo) -> u32
+    fn ops_of_running(&self, cpu: CpuNo) -> u32
         requires cpu { cpu.0 < length self.now.kept.cpus }
         requires task { RunsTask self.now.kept cpu.0 }
-        requires few { kept.place_of self.now.kept (cpu_of self.now.kept cpu.0).runs < 2 ^ 32 }
-        ensures { result ≡ kept.place_of self.now.kept (cpu_of self.now.kept cpu.0).runs }
+        requires few { kept.ops_done_of self.now.kept (cpu_of self.now.kept cpu.0).runs < 2 ^ 32 }
+        ensures { result ≡ kept.ops_done_of self.now.kept (cpu_of self.now.kept cpu.0).runs }
     {
         match self.runs(cpu) {
             None => 0,
-            Some(task) => self.place(task) as u32,
+            Some(task) => self.ops_done(task) as u32,
         }
     }
 
@@ -28,7 +28,7 @@ impl GroupJobs {
     pub fn situation(&self, cpu: CpuNo, link: Option<TaskNo>, lacks_budget: bool) -> Situation
         requires cpu { cpu.0 < length self.now.kept.cpus }
         requires task { RunsTask self.now.kept cpu.0 }
-        requires few { kept.place_of self.now.kept (cpu_of self.now.kept cpu.0).runs < 2 ^ 32 }
+        requires few { kept.ops_done_of self.now.kept (cpu_of self.now.kept cpu.0).runs < 2 ^ 32 }
         ensures { (g : Group) (budget : ℕ)
             → lacks_budget ≡ kept.lacks_of g (cpu_of self.now.kept cpu.0).runs budget
             → result ≡ kept.situation_of g cpu.0 (number_of_task link) budget self.now.kept }
@@ -36,7 +36,7 @@ impl GroupJobs {
         let runs = self.runs(cpu);
         Situation {
             runs,
-            at: self.place_that_runs(cpu),
+            at: self.ops_of_running(cpu),
             np: self.runs_non_preemptive(cpu),
             pending: link != runs,
             worked: self.has_worked(cpu),

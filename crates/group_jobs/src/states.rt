@@ -16,7 +16,7 @@ use rt_task::{Op, Task};
 pub(crate) struct TaskState {
     pub(crate) done: u64,
     pub(crate) used: u64,
-    pub(crate) place: u64,
+    pub(crate) ops_done: u64,
     pub(crate) wakes: u64,
     pub(crate) non_preemptive: bool,
     pub(crate) arrived: u64,
@@ -28,7 +28,7 @@ impl TaskState {
     pub(crate) const NEW: TaskState = TaskState {
         done: 0,
         used: 0,
-        place: 0,
+        ops_done: 0,
         wakes: 0,
         non_preemptive: false,
         arrived: 0,
@@ -45,7 +45,7 @@ impl TaskState {
         ensures done { result.done ≡ self.done }
     {
         let mut after = self;
-        after.place += 1;
+        after.ops_done += 1;
         match op {
             Op::Work => after.used += 1,
             Op::Sleep(ticks) => after.wakes = self.wakes.max(clock + ticks),
@@ -90,7 +90,7 @@ impl TaskState {
         TaskState {
             done: self.done + 1,
             used: 0,
-            place: 0,
+            ops_done: 0,
             wakes: 0,
             non_preemptive: false,
             arrived: self.arrived,

@@ -258,12 +258,12 @@ module _ (g : Group) (valid : IsValid g.setup) (plugin : g.setup.plugin ≡ plug
 
   -- a changed client stands in one of the two lists
   record StandsIn (t : ℕ) (os : List (Option ℕ)) : Type 0 where
-    place : ℕ
-    low : place < length os
-    at : get_or os place None ≡ Some t
+    position : ℕ
+    low : position < length os
+    at : get_or os position None ≡ Some t
 
   later : (t : ℕ) (o : Option ℕ) (os : List (Option ℕ)) → StandsIn t os → StandsIn t (o ∷ os)
-  later t o os k = let low = k.low in record { place = suc k.place; low = omega (arith, low); at = k.at }
+  later t o os k = let low = k.low in record { position = suc k.position; low = omega (arith, low); at = k.at }
 
   among-all : (t : ℕ) (os ns : List (Option ℕ)) → has t (all_changed os ns) ≡ true → StandsIn t os ⊎ StandsIn t ns
   among-all t [] ns h = cc
@@ -271,8 +271,8 @@ module _ (g : Group) (valid : IsValid g.setup) (plugin : g.setup.plugin ≡ plug
   among-all t (o ∷ os) (n ∷ ns) h = by_part (has t (changed_of o n)) (has t (all_changed os ns)) refl refl (sym (has-append t (changed_of o n) (all_changed os ns)) ∙ h) (λ k. among-all t os ns k)
     where
       first-of : (is t o ≡ true) ⊎ (is t n ≡ true) → StandsIn t (o ∷ os) ⊎ StandsIn t (n ∷ ns)
-      first-of (inl e) = inl (record { place = 0; low = omega arith; at = is-some t o e })
-      first-of (inr e) = inr (record { place = 0; low = omega arith; at = is-some t n e })
+      first-of (inl e) = inl (record { position = 0; low = omega arith; at = is-some t o e })
+      first-of (inr e) = inr (record { position = 0; low = omega arith; at = is-some t n e })
 
       rest-of : StandsIn t os ⊎ StandsIn t ns → StandsIn t (o ∷ os) ⊎ StandsIn t (n ∷ ns)
       rest-of (inl k) = inl (later t o os k)
@@ -300,9 +300,9 @@ module _ (g : Group) (valid : IsValid g.setup) (plugin : g.setup.plugin ≡ plug
   stands-client : (past : Past) (v : GroupResvs) (t : ℕ) → AreServing g past v → StandsIn t v.serves → has t (tasks g) ≡ true
   stands-client past v t are k =
       let low = k.low in
-      let r : ℕ = k.place + 1 in
+      let r : ℕ = k.position + 1 in
       let there : IsResv v.resvs r = record { low = omega arith; high = omega (arith, low, are.all) } in
-      let e : r - 1 ≡ k.place = omega arith in
+      let e : r - 1 ≡ k.position = omega arith in
       let at : served_at v.serves r ≡ Some t = ap (λ i. get_or v.serves i None) e ∙ k.at in
       by_here r there at (is_here g.setup g.number (resv g r)) refl
     where
@@ -321,9 +321,9 @@ module _ (g : Group) (valid : IsValid g.setup) (plugin : g.setup.plugin ≡ plug
         let low = tie.low in
         let high = tie.high in
         let r : ℕ = served_by g t in
-        let place : r - 1 < length z.serves = omega (arith, low, high, are.all, are.serving.numbers) in
+        let position : r - 1 < length z.serves = omega (arith, low, high, are.all, are.serving.numbers) in
         ap (λ o. is_served_by o z.serves t) (are.serving.serves t h)
-        ∙ outside-all t (r - 1) v.serves z.serves (omega (arith, place, same)) place (subst (λ xs. has t xs ≡ false) list k)
+        ∙ outside-all t (r - 1) v.serves z.serves (omega (arith, position, same)) position (subst (λ xs. has t xs ≡ false) list k)
         ∙ sym (ap (λ o. is_served_by o v.serves t) (served t h));
   }
     where
@@ -373,7 +373,7 @@ module _ (g : Group) (valid : IsValid g.setup) (plugin : g.setup.plugin ≡ plug
       nothing-at (suc n) (suc i) = nothing-at n i
 
       nobody : (t n : ℕ) → StandsIn t (replicate n None) → ⊥
-      nobody t n k = let no : None ≡ Some t = sym (nothing-at n k.place) ∙ k.at in cc
+      nobody t n k = let no : None ≡ Some t = sym (nothing-at n k.position) ∙ k.at in cc
 
 -- ---- the clock
 

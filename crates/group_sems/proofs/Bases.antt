@@ -13,10 +13,10 @@ use Rattle.rt_changes.proofs.BaseKeys.{base_key-left}
 use Rattle.group_sems.specs.Keeping.{BasesAreKept, BasesAreTold, rebased}
 use Rattle.group_sems.proofs.Putting.{put-at, put-length, put-other, rebased-put}
 
--- a task of the group has a place
-pub task-place : (g : Group) (t : ℕ) → has t (tasks g) ≡ true → t < length g.setup.tasks + 1
+-- a task of the group has a position
+pub task-position : (g : Group) (t : ℕ) → has t (tasks g) ≡ true → t < length g.setup.tasks + 1
 unfolding tasks
-task-place g t h =
+task-position g t h =
     let q : has t (numbers_from 1 (length g.setup.tasks)) ≡ true = (both _ _ (rw has-filter at h)).0 in
     let b = numbers_from-below t 1 (length g.setup.tasks) q in
     omega (arith, b)
@@ -33,7 +33,7 @@ rebased-length key us bases = ap (λ (l : List (Option Key)). length l) (rebased
 pub bases_are_told : BasesAreTold
 bases_are_told g valid = record {
   room = rebased-length _ (tasks g) none ∙ none-room;
-  are = λ t there. rebased-at _ (tasks g) none t (subst (λ (n : ℕ). t < n) (sym none-room) (task-place g t there)) there;
+  are = λ t there. rebased-at _ (tasks g) none t (subst (λ (n : ℕ). t < n) (sym none-room) (task-position g t there)) there;
 }
   where
     none : List (Option Key)
@@ -49,5 +49,5 @@ bases_are_kept g e past valid made us bases others k = record {
 }
   where
     by_case : (t : ℕ) → has t (tasks g) ≡ true → (b : Bool) → has t us ≡ b → slice_index_or (rebased (λ u. base_key g u (e ∷ past)) us bases) t None ≡ Some (base_key g t (e ∷ past))
-    by_case t there true h = rebased-at _ us bases t (subst (λ (n : ℕ). t < n) (sym k.room) (task-place g t there)) h
+    by_case t there true h = rebased-at _ us bases t (subst (λ (n : ℕ). t < n) (sym k.room) (task-position g t there)) h
     by_case t there false h = rebased-other _ us bases t h ∙ k.are t there ∙ ap (λ (x : Key). Some x) (sym (base_key-left g t e past (others t h)))

@@ -28,7 +28,7 @@ use Rattle.prio_inherit.specs.Waits.{Waits, base_of, boost_of, next_of}
 use Rattle.group_sems.specs.Telling.{AreShallow}
 use Rattle.group_sems.specs.Kept.{KeepsNexts, KeepsWaits}
 use Rattle.group_sems.specs.Reading.{KeyIsRead}
-use Rattle.group_sems.proofs.Bases.{task-place}
+use Rattle.group_sems.proofs.Bases.{task-position}
 
 -- whoever is waited for waits for nothing
 pub kept-shallow : (g : Group) → MeetsRules g → (past : Past) → IsReachable g past → (nexts : List (Option ℕ)) → KeepsNexts g past nexts → AreShallow nexts
@@ -71,8 +71,8 @@ module _ (g : Group) (rules : MeetsRules g) (past : Past) (made : IsReachable g 
   walks-once : (u n : ℕ) → n ≡ length g.setup.tasks + 1 → has t (walk (next_of w.nexts) n (next_of w.nexts u)) ≡ is t (next_of w.nexts u)
   walks-once u n h = subst (λ (m : ℕ). has t (walk (next_of w.nexts) m (next_of w.nexts u)) ≡ is t (next_of w.nexts u)) (sym (h ∙ add-one (length g.setup.tasks))) (one-step w.nexts shallow (length g.setup.tasks) t u)
 
-  place : (u : ℕ) → has u (tasks g) ≡ true → has u (numbers_from 0 (length w.bases)) ≡ true
-  place u there = let b = task-place g u there in let r : length w.bases ≡ length g.setup.tasks + 1 = k.bases_are.room in numbers_from-has 0 (length w.bases) u (omega arith) (omega (arith, b, r))
+  position : (u : ℕ) → has u (tasks g) ≡ true → has u (numbers_from 0 (length w.bases)) ≡ true
+  position u there = let b = task-position g u there in let r : length w.bases ≡ length g.setup.tasks + 1 = k.bases_are.room in numbers_from-has 0 (length w.bases) u (omega arith) (omega (arith, b, r))
 
   same-followers : (u : ℕ) → has u (followers (next_of w.nexts) (numbers_from 0 (length w.bases)) t) ≡ has u (waiters g t past)
   same-followers u = kept-side ∙ by_task (has u (tasks g)) refl ∙ sym (has-filter (λ x. is t (waits_for g x past)) u (tasks g))
@@ -84,7 +84,7 @@ module _ (g : Group) (rules : MeetsRules g) (past : Past) (made : IsReachable g 
       kept-side = has-filter (λ x. has t (walk (next_of w.nexts) (length (numbers_from 0 (length w.bases))) (next_of w.nexts x))) u (numbers_from 0 (length w.bases)) ∙ ap (λ (b : Bool). has u (numbers_from 0 (length w.bases)) && b) (walks-once u (length (numbers_from 0 (length w.bases))) count)
 
       by_task : (b : Bool) → has u (tasks g) ≡ b → has u (numbers_from 0 (length w.bases)) && is t (next_of w.nexts u) ≡ has u (tasks g) && is t (waits_for g u past)
-      by_task true there = rw (there, place u there, k.nexts_are.are u there)
+      by_task true there = rw (there, position u there, k.nexts_are.are u there)
       by_task false away = rw (away, k.nexts_are.others u away) (and_false (has u (numbers_from 0 (length w.bases))))
 
   base-is : (u : ℕ) → has u (tasks g) ≡ true → base_of w.bases u ≡ base_key g u past

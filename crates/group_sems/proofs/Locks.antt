@@ -46,7 +46,7 @@ use Rattle.group_sems.specs.Locking.{asked_waits, with_boost}
 use Rattle.group_sems.specs.Telling.{retold}
 use Rattle.group_sems.specs.Keeping.{LockIsKept}
 use Rattle.group_sems.specs.Kept.{KeepsBoosts, KeepsLocks, KeepsNexts}
-use Rattle.group_sems.proofs.Bases.{task-place}
+use Rattle.group_sems.proofs.Bases.{task-position}
 use Rattle.group_sems.proofs.Boosting.{boost-kept, boost-stacked, pcp-stacked, boost-now-is, boost-now-none, boost-set, boost-unset, next-set, next-unset, now-stays}
 use Rattle.group_sems.proofs.Outside.{asked-empty}
 use Rattle.group_sems.proofs.Owners.{queued-owner}
@@ -80,11 +80,11 @@ module _ (g : Group) (e : Event) (past : Past) (valid : IsValid g.setup) (made_a
   waits_none : awaits g t past ≡ None
   waits_none = none-waits g t past asks.waits_none
 
-  next-place : t < length v.waits.nexts
-  next-place = subst (λ (n : ℕ). t < n) (sym k.nexts_are.room) (task-place g t asks.member)
+  next-position : t < length v.waits.nexts
+  next-position = subst (λ (n : ℕ). t < n) (sym k.nexts_are.room) (task-position g t asks.member)
 
-  boost-place : t < length v.waits.boosts
-  boost-place = subst (λ (n : ℕ). t < n) (sym k.boosts_are.room) (task-place g t asks.member)
+  boost-position : t < length v.waits.boosts
+  boost-position = subst (λ (n : ℕ). t < n) (sym k.boosts_are.room) (task-position g t asks.member)
 
   not-it : (u : ℕ) → has u (tasks g) ≡ false → u == t ≡ false
   not-it u away = unless _ (λ m. clash _ asks.member (subst (λ (n : ℕ). has n (tasks g) ≡ false) (eqb-true u t m) away))
@@ -111,7 +111,7 @@ module _ (g : Group) (e : Event) (past : Past) (valid : IsValid g.setup) (made_a
       where
         by_task : (u : ℕ) → has u (tasks g) ≡ true → (b : Bool) → u == t ≡ b → next_of (slice_set v.waits.nexts t (owner_of table s)) u ≡ waits_for g u (e ∷ past)
         by_task u there true m =
-            next-set v.waits.nexts t u (owner_of table s) next-place m
+            next-set v.waits.nexts t u (owner_of table s) next-position m
             ∙ owner-after
             ∙ sym (waits-owner g rules (e ∷ past) made_after u s (subst (λ (n : ℕ). awaits g n (e ∷ past) ≡ Some s) (sym (eqb-true u t m)) queue.waits))
         by_task u there false m = next-unset v.waits.nexts t u (owner_of table s) m ∙ k.nexts_are.are u there ∙ sym (next-stays u m)
@@ -164,7 +164,7 @@ module _ (g : Group) (e : Event) (past : Past) (valid : IsValid g.setup) (made_a
     }
       where
         by_task : (u : ℕ) → has u (tasks g) ≡ true → (b : Bool) → u == t ≡ b → kept_keys.boost_of (slice_set v.waits.boosts t now-key) u ≡ boost g u (e ∷ past)
-        by_task u there true m = boost-set v.waits.boosts t u now-key boost-place m ∙ own-boost ∙ ap (λ (n : ℕ). boost g n (e ∷ past)) (sym (eqb-true u t m))
+        by_task u there true m = boost-set v.waits.boosts t u now-key boost-position m ∙ own-boost ∙ ap (λ (n : ℕ). boost g n (e ∷ past)) (sym (eqb-true u t m))
         by_task u there false m = boost-unset v.waits.boosts t u now-key m ∙ k.boosts_are.are u there ∙ sym (boost-kept g u e past (grant.others u m).held)
 
     granted-nexts : KeepsNexts g (e ∷ past) (retold (owner_of v.table s) table s (with_boost t now-key v.waits)).nexts

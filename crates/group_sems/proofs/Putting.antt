@@ -1,4 +1,4 @@
--- Writing one value each at several places of a list.
+-- Writing one value each at several positions of a list.
 use Rattle.std.proofs.Common.{◌≡◌, ◌∙◌, ◌<◌, ◌||◌, ℕ, Bool, true, false, List, [], ◌∷◌, length, length-set, refl, sym, ap, subst, eqb-true}
 use Rattle.std.specs.Prelude.{◌==◌, Option, None, Some, slice_index_or, slice_set}
 use Rattle.rt_rules.specs.declared.Key.{Key}
@@ -9,7 +9,7 @@ use Rattle.sem_table.proofs.Lists.{at-other, at-same, still-below}
 use Rattle.group_sems.specs.Keeping.{rebased}
 use Rattle.group_sems.specs.Telling.{told}
 
--- the value of each of these places is put there
+-- the value of each of these positions is put there
 abbrev pub put : {X : Type 0} → (ℕ → X) → List ℕ → List (Option X) → List (Option X)
 put f [] xs = xs
 put f (u ∷ us) xs = put f us (slice_set xs u (Some (f u)))
@@ -18,14 +18,14 @@ pub put-length : {X : Type 0} (f : ℕ → X) (us : List ℕ) (xs : List (Option
 put-length f [] xs = refl
 put-length f (u ∷ us) xs = put-length f us (slice_set xs u (Some (f u))) ∙ length-set xs u (Some (f u))
 
--- each other place stays
+-- each other position stays
 pub put-other : {X : Type 0} (f : ℕ → X) (us : List ℕ) (xs : List (Option X)) (t : ℕ) → has t us ≡ false → slice_index_or (put f us xs) t None ≡ slice_index_or xs t None
 put-other f [] xs t h = refl
 put-other f (u ∷ us) xs t h =
     let q = neither (t == u) (has t us) h in
     put-other f us (slice_set xs u (Some (f u))) t q.1 ∙ at-other xs u t (Some (f u)) None (turned u t ∙ q.0)
 
--- each of these places has its value
+-- each of these positions has its value
 pub put-at : {X : Type 0} (f : ℕ → X) (us : List ℕ) (xs : List (Option X)) (t : ℕ) → t < length xs → has t us ≡ true → slice_index_or (put f us xs) t None ≡ Some (f t)
 put-at f [] xs t low h = cc
 put-at {X = X} f (u ∷ us) xs t low h = by_case (has t us) refl (put-at f us (slice_set xs u (Some (f u))) t (still-below xs u t (Some (f u)) low))

@@ -27,7 +27,7 @@ use Rattle.sem_table.proofs.Owner.{tells_owner}
 use Rattle.sem_table.proofs.Waiters.{tells_waiters, waiters_are_few}
 use Rattle.group_sems.specs.Telling.{retold, told, told_of}
 use Rattle.group_sems.specs.Kept.{KeepsNexts}
-use Rattle.group_sems.proofs.Bases.{task-place}
+use Rattle.group_sems.proofs.Bases.{task-position}
 use Rattle.group_sems.proofs.Owners.{awaits-waiter, owner-beside, owner-left, waiter-awaits}
 use Rattle.group_sems.proofs.Putting.{put-at, put-length, put-other, told-put}
 
@@ -118,7 +118,7 @@ module _ (g : Group) (valid : IsValid g.setup) (e : Event) (past : Past) (made_a
 
   module _ (room : length nexts ≡ length g.setup.tasks + 1) (outside : (u : ℕ) → has u (tasks g) ≡ false → next_of nexts u ≡ None) where
     low : (u : ℕ) → has u (tasks g) ≡ true → u < length nexts
-    low u there = subst (λ (n : ℕ). u < n) (sym room) (task-place g u there)
+    low u there = subst (λ (n : ℕ). u < n) (sym room) (task-position g u there)
 
     told-room : (o : Option ℕ) → length (told_of o (waiters_of table s) nexts) ≡ length g.setup.tasks + 1
     told-room None = room

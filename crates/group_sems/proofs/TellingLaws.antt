@@ -17,7 +17,7 @@ use Rattle.group_sems.specs.Telling.{AreShallow, CanTell, told}
 pub next-set : (nexts : List (Option ℕ)) (x t : ℕ) (o : Option ℕ) → t == x ≡ false → next_of (slice_set nexts x o) t ≡ next_of nexts t
 next-set nexts x t o h = get_or-set_other nexts x t o None (eqb-false t x h)
 
--- it is the new one, or the place is not there
+-- it is the new one, or the position is not there
 next-told : (nexts : List (Option ℕ)) (x v : ℕ) (o : Option ℕ) → next_of (slice_set nexts x o) x ≡ Some v → o ≡ Some v
 next-told [] x v o h = cc
 next-told (n ∷ ns) zero v o h = h

@@ -48,7 +48,7 @@ use Rattle.group_sems.specs.Locking.{served_waits, with_boost}
 use Rattle.group_sems.specs.Telling.{retold}
 use Rattle.group_sems.specs.Keeping.{UnlockIsKept}
 use Rattle.group_sems.specs.Kept.{KeepsBoosts, KeepsLocks, KeepsNexts}
-use Rattle.group_sems.proofs.Bases.{task-place}
+use Rattle.group_sems.proofs.Bases.{task-position}
 use Rattle.group_sems.proofs.Boosting.{boost-kept, boost-stacked, boost-now-is, boost-now-none, boost-set, boost-unset, next-set, next-unset, now-stays}
 use Rattle.group_sems.proofs.Outside.{freed-empty}
 use Rattle.group_sems.proofs.Retelling.{IsBefore, retold-boosts, retold-keeps}
@@ -174,7 +174,7 @@ module _ (g : Group) (e : Event) (past : Past) (valid : IsValid g.setup) (made_a
   dropped-boost x there not_served = by_task (x == t) refl
     where
       by_task : (b : Bool) → x == t ≡ b → kept_keys.boost_of dropped x ≡ boost g x (e ∷ past)
-      by_task true m = boost-set v.waits.boosts t x None (subst (λ (n : ℕ). t < n) (sym k.boosts_are.room) (task-place g t member)) m ∙ sym freer-boost ∙ ap (λ (n : ℕ). boost g n (e ∷ past)) (sym (eqb-true x t m))
+      by_task true m = boost-set v.waits.boosts t x None (subst (λ (n : ℕ). t < n) (sym k.boosts_are.room) (task-position g t member)) m ∙ sym freer-boost ∙ ap (λ (n : ℕ). boost g n (e ∷ past)) (sym (eqb-true x t m))
       by_task false m = boost-unset v.waits.boosts t x None m ∙ k.boosts_are.are x there ∙ sym (boost-kept g x e past (leaves x m not_served).held)
 
   -- ---- all that is kept, by the task that is served
@@ -201,7 +201,7 @@ module _ (g : Group) (e : Event) (past : Past) (valid : IsValid g.setup) (made_a
       by_task : (x : ℕ) → has x (tasks g) ≡ true → (b : Bool) → x == u ≡ b → kept_keys.boost_of (freed (Some u)).boosts x ≡ boost g x (e ∷ past)
       by_task x there true m =
           let q = serves.gives u one in
-          boost-set dropped u x (boost_now g.setup v.ceilings (now past) s u) (subst (λ (n : ℕ). u < n) (sym dropped-room) (task-place g u (served-task u q.0 q.1))) m
+          boost-set dropped u x (boost_now g.setup v.ceilings (now past) s u) (subst (λ (n : ℕ). u < n) (sym dropped-room) (task-position g u (served-task u q.0 q.1))) m
           ∙ served-boost u q.0 q.1
           ∙ ap (λ (n : ℕ). boost g n (e ∷ past)) (sym (eqb-true x u m))
       by_task x there false m = boost-unset dropped u x (boost_now g.setup v.ceilings (now past) s u) m ∙ dropped-boost x there (other-one u x one m)
@@ -226,7 +226,7 @@ module _ (g : Group) (e : Event) (past : Past) (valid : IsValid g.setup) (made_a
 
       by_task : (b : Bool) → x == u ≡ b → IsBefore g e past (slice_set v.waits.nexts u None) x
       by_task true m =
-          inr (subst (λ (n : ℕ). awaits g n (e ∷ past) ≡ None) (sym (eqb-true x u m)) q.1.waits_not, next-set v.waits.nexts u x None (subst (λ (n : ℕ). u < n) (sym k.nexts_are.room) (task-place g u (served-task u q.0 q.1))) m)
+          inr (subst (λ (n : ℕ). awaits g n (e ∷ past) ≡ None) (sym (eqb-true x u m)) q.1.waits_not, next-set v.waits.nexts u x None (subst (λ (n : ℕ). u < n) (sym k.nexts_are.room) (task-position g u (served-task u q.0 q.1))) m)
       by_task false m = inl (leaves-wait x (other-one u x one m), next-unset v.waits.nexts u x None m ∙ k.nexts_are.are x there)
 
   unlock-nexts : KeepsNexts g (e ∷ past) (retold (owner_of v.table s) table s (freed table.served)).nexts

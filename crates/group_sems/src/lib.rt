@@ -168,8 +168,8 @@ impl GroupSems {
     pub fn is_under_way(&self, task: TaskNo) -> bool
         ensures { result ≡ slice_index_or self.now.ways (task.0 - 1) false }
     {
-        let place = (task.0 as usize).saturating_sub(1);
-        match self.ways.as_slice().get(place) {
+        let position = (task.0 as usize).saturating_sub(1);
+        match self.ways.as_slice().get(position) {
             Some(way) => *way,
             None => false,
         }
@@ -182,9 +182,9 @@ impl GroupSems {
           ways = slice_set self.old.ways (task.0 - 1) way;
         } }
     {
-        let place = (task.0 as usize).saturating_sub(1);
-        if place < self.ways.len() {
-            self.ways[place] = way;
+        let position = (task.0 as usize).saturating_sub(1);
+        if position < self.ways.len() {
+            self.ways[position] = way;
         }
     }
 

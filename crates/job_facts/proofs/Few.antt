@@ -51,17 +51,17 @@ changes-few (p ∷ q ∷ ps) = by_case (p == q) (changes-few (q ∷ ps))
     by_case true h = omega (arith, h)
     by_case false h = omega (arith, h)
 
-places-few : (t k : ℕ) (past : Past) → length (unit_cpus t k past) ≤ entries_in past
+positions-few : (t k : ℕ) (past : Past) → length (unit_cpus t k past) ≤ entries_in past
 unfolding unit_cpus
-places-few t k [] = omega arith
-places-few t k (Clock tick ∷ past) = places-few t k past
-places-few t k (Acted d ∷ past) = by_case (in_job t k (works t) (Acted d) past) (places-few t k past)
+positions-few t k [] = omega arith
+positions-few t k (Clock tick ∷ past) = positions-few t k past
+positions-few t k (Acted d ∷ past) = by_case (in_job t k (works t) (Acted d) past) (positions-few t k past)
   where
     by_case : (b : Bool) → length (unit_cpus t k past) ≤ entries_in past → length (if b then (d.cpu ∷ unit_cpus t k past) else unit_cpus t k past) ≤ entries_in past + 1
     by_case true h = omega (arith, h)
     by_case false h = omega (arith, h)
 
--- a job has as many places of requests as it made
+-- a job has as many positions of requests as it made
 pub request_positions-length : (t k : ℕ) (past : Past) → length (request_positions t k past) ≡ count_moves (in_job t k (asks_now t)) past
 unfolding request_positions count_moves
 request_positions-length t k [] = refl
@@ -77,7 +77,7 @@ unfolding tally_at units preemptions migrations moves queued
 tallies_are_few t k past = record {
   units_few = count-few t k (works t) (λ tick p. refl) past;
   preemptions_few = count-few t k (preempts t) (λ tick p. refl) past;
-  migrations_few = omega (arith, changes-few (unit_cpus t k past), places-few t k past);
+  migrations_few = omega (arith, changes-few (unit_cpus t k past), positions-few t k past);
   moves_few = count-few t k (moves_now t) (λ tick p. refl) past;
   requests_few = omega (arith, request_positions-length t k past, count-few t k (asks_now t) (λ tick p. refl) past);
   queued_few = count-few t k (queues_now t) (λ tick p. refl) past;
@@ -140,10 +140,10 @@ done-few t (Acted d ∷ past) = by_case (is t d.ended) (done-few t past)
     by_case true h = omega (arith, h)
     by_case false h = omega (arith, h)
 
--- the places of a job's requests
-pub places-kept : (t k : ℕ) (past : Past) → (tally_at t k past).requests ≡ request_positions t k past
+-- the positions of a job's requests
+pub positions-kept : (t k : ℕ) (past : Past) → (tally_at t k past).requests ≡ request_positions t k past
 unfolding tally_at
-places-kept t k past = refl
+positions-kept t k past = refl
 
 -- what is kept of a task's arrivals, and how many of its jobs have ended
 pub arrivals-kept : (t : ℕ) (past : Past) → (jobs_at t past).arrivals ≡ arrivals t past

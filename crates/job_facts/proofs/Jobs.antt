@@ -45,7 +45,7 @@ unfolding jobs_at done last_cpu arrivals
 jobs-clock t tick past = λ i. record {
   ended = ended-keeps t (Clock tick) past i;
   current = tally-clock t (done t past + 1) tick past i;
-  place = last_cpu t past;
+  last_cpu = last_cpu t past;
   arrivals = arrivals t past;
 }
 
@@ -96,9 +96,9 @@ module _ (g : Group) (q : ℕ) (act : Act) (t : ℕ) (past : Past) (made : IsRea
   unfolding arrivals
   arrivals-shown = ap (λ b. if b then arrivals t past ++ now past ∷ [] else arrivals t past) arrives-shown
 
-  place-shown : last_cpu t (Acted d ∷ past) ≡ (if takes_up t d.reply then Some d.cpu else last_cpu t past)
+  position-shown : last_cpu t (Acted d ∷ past) ≡ (if takes_up t d.reply then Some d.cpu else last_cpu t past)
   unfolding last_cpu
-  place-shown = refl
+  position-shown = refl
 
   -- but for the end of a job
   abbrev still : Jobs
@@ -113,7 +113,7 @@ module _ (g : Group) (q : ℕ) (act : Act) (t : ℕ) (past : Past) (made : IsRea
       let number : done t (Acted d ∷ past) ≡ done t past = done-step t (Acted d) past ∙ rw h refl in
       let same_ended = ap (λ n. map tally_now (numbers_from 1 n)) number ∙ ended-keeps t (Acted d) past in
       let same_current = ap (λ n. tally_now (n + 1)) number ∙ current-shown ∙ ap (λ b. ended b (now past) deeds_shown) h in
-      λ i. record { ended = same_ended i; current = same_current i; place = place-shown i; arrivals = arrivals-shown i }
+      λ i. record { ended = same_ended i; current = same_current i; last_cpu = position-shown i; arrivals = arrivals-shown i }
 
   one-ends : is t d.ended ≡ true → jobs_at t (Acted d ∷ past) ≡ closed (now past) still
   unfolding jobs_at
@@ -125,7 +125,7 @@ module _ (g : Group) (q : ℕ) (act : Act) (t : ℕ) (past : Past) (made : IsRea
       ∙ ap (λ x. map (λ k. tally_at t k past) (numbers_from 1 (done t past)) ++ x ∷ []) ended_now in
       let low : done t past + 1 < done t past + 1 + 1 = omega arith in
       let new = ap (λ n. tally_now (n + 1)) number ∙ tally-others t (done t past + 1 + 1) (Acted d) past (below_differs (done t past + 1) (done t past + 1 + 1) low) ∙ tally-none t (done t past + 1 + 1) past low in
-      λ i. record { ended = all_ended i; current = new i; place = place-shown i; arrivals = arrivals-shown i }
+      λ i. record { ended = all_ended i; current = new i; last_cpu = position-shown i; arrivals = arrivals-shown i }
 
   jobs-act : jobs_at t (Acted d ∷ past) ≡ jobs_fed (scene_at q past) t d (jobs_at t past)
   jobs-act = by_case (is t d.ended) refl
@@ -137,7 +137,7 @@ module _ (g : Group) (q : ℕ) (act : Act) (t : ℕ) (past : Past) (made : IsRea
 pub jobs_are_kept : JobsAreKept
 unfolding jobs_at done last_cpu arrivals
 jobs_are_kept = record {
-  opening = λ t i. record { ended = []; current = tally-opening t 1 i; place = None; arrivals = [] };
+  opening = λ t i. record { ended = []; current = tally-opening t 1 i; last_cpu = None; arrivals = [] };
   clocked = jobs-clock;
   acted = jobs-act;
 }

@@ -36,11 +36,11 @@ none_asked = record { no = 0; task = 0; sem = 0 }
 abbrev AreBelow : ℕ → List ℕ → Type 0
 AreBelow n is = All (λ i. i < n) is
 
--- the requests in these places
-abbrev in_places : List Asked → List ℕ → List Asked
-in_places rs is = map (λ i. get_or rs i none_asked) is
+-- the requests in these positions
+abbrev in_positions : List Asked → List ℕ → List Asked
+in_positions rs is = map (λ i. get_or rs i none_asked) is
 
-stays-in : (rs more : List Asked) (is : List ℕ) → AreBelow (length rs) is → in_places (rs ++ more) is ≡ in_places rs is
+stays-in : (rs more : List Asked) (is : List ℕ) → AreBelow (length rs) is → in_positions (rs ++ more) is ≡ in_positions rs is
 stays-in rs more [] low = refl
 stays-in rs more (i ∷ is) low = let first : i < length rs = All-head (λ j. j < length rs) i is low in rw (get_or-append rs more none_asked i first, stays-in rs more is (All-tail (λ j. j < length rs) i is low)) refl
 
@@ -78,7 +78,7 @@ placed t k (e ∷ past) = by_case (in_job t k (asks_now t) e past) refl (placed 
         All-push (λ i. i < length (requests (e ∷ past))) (request_positions t k past) (length (requests past)) (below-more (length (requests past)) (length (requests (e ∷ past))) (request_positions t k past) grown low) (omega (arith, one))
     by_case false m low = below-more (length (requests past)) (length (requests (e ∷ past))) (request_positions t k past) grown low
 
--- in these places are the requests of the job
+-- in these positions are the requests of the job
 asked-last : (t : ℕ) (x : SemAct) (n : ℕ) (rs own : List Asked) → asks t x ≡ true → asked_by x n own ≡ own ++ get_or (asked_by x n rs) (length rs) none_asked ∷ []
 asked-last t (Asks u s) n rs own h =
     let r : Asked = record { no = n; task = u; sem = s } in
@@ -86,16 +86,16 @@ asked-last t (Asks u s) n rs own h =
 asked-last t (Frees u s) n rs own h = cc
 asked-last t Neither n rs own h = cc
 
-pub requests-placed : (t k : ℕ) (past : Past) → requests_of t k past ≡ in_places (requests past) (request_positions t k past)
+pub requests-placed : (t k : ℕ) (past : Past) → requests_of t k past ≡ in_positions (requests past) (request_positions t k past)
 unfolding requests_of request_positions requests
 requests-placed t k [] = refl
 requests-placed t k (e ∷ past) = by_case (in_job t k (asks_now t) e past) refl (requests-placed t k past)
   where
-    kept : in_places (requests (e ∷ past)) (request_positions t k past) ≡ in_places (requests past) (request_positions t k past)
-    kept = let more = requests-grow e past in ap (λ rs. in_places rs (request_positions t k past)) more.1 ∙ stays-in (requests past) more.0 (request_positions t k past) (placed t k past)
+    kept : in_positions (requests (e ∷ past)) (request_positions t k past) ≡ in_positions (requests past) (request_positions t k past)
+    kept = let more = requests-grow e past in ap (λ rs. in_positions rs (request_positions t k past)) more.1 ∙ stays-in (requests past) more.0 (request_positions t k past) (placed t k past)
 
-    by_case : (b : Bool) → in_job t k (asks_now t) e past ≡ b → requests_of t k past ≡ in_places (requests past) (request_positions t k past)
-        → (if b then asked_by (sem_act e) (entries_in past) (requests_of t k past) else requests_of t k past) ≡ in_places (requests (e ∷ past)) (if b then (request_positions t k past ++ length (requests past) ∷ []) else request_positions t k past)
+    by_case : (b : Bool) → in_job t k (asks_now t) e past ≡ b → requests_of t k past ≡ in_positions (requests past) (request_positions t k past)
+        → (if b then asked_by (sem_act e) (entries_in past) (requests_of t k past) else requests_of t k past) ≡ in_positions (requests (e ∷ past)) (if b then (request_positions t k past ++ length (requests past) ∷ []) else request_positions t k past)
     by_case true m before =
         let is : asks t (sem_act e) ≡ true = (both (done t past + 1 == k) (asks t (sem_act e)) m).1 in
         asked-last t (sem_act e) (entries_in past) (requests past) (requests_of t k past) is
@@ -105,7 +105,7 @@ requests-placed t k (e ∷ past) = by_case (in_job t k (asks_now t) e past) refl
 
 -- so what they saw end is told by the list of requests
 told-at : (g : Group) (past : Past) (f : seen.Tally → ℕ) (is : List ℕ) → AreBelow (length (requests past)) is
-    → sum_by (λ r. f (tally g past r)) (in_places (requests past) is) ≡ sum_by (λ i. f (get_or (tallies g past) i no_request)) is
+    → sum_by (λ r. f (tally g past r)) (in_positions (requests past) is) ≡ sum_by (λ i. f (get_or (tallies g past) i no_request)) is
 told-at g past f [] low = refl
 told-at g past f (i ∷ is) low =
     let first : i < length (requests past) = All-head (λ j. j < length (requests past)) i is low in
@@ -113,8 +113,8 @@ told-at g past f (i ∷ is) low =
     let here : get_or (tallies g past) i no_request ≡ tally g past (get_or (requests past) i none_asked) = get_or-map (tally g past) (requests past) i none_asked no_request first in
     let seen_by : Asked → ℕ = λ r. f (tally g past r) in
     let told : ℕ → ℕ = λ j. f (get_or (tallies g past) j no_request) in
-    sum_by-cons seen_by (get_or (requests past) i none_asked) (in_places (requests past) is)
-    ∙ ap (λ (x : seen.Tally). f x + sum_by seen_by (in_places (requests past) is)) (sym here)
+    sum_by-cons seen_by (get_or (requests past) i none_asked) (in_positions (requests past) is)
+    ∙ ap (λ (x : seen.Tally). f x + sum_by seen_by (in_positions (requests past) is)) (sym here)
     ∙ ap (λ n. told i + n) rest
     ∙ sym (sum_by-cons told i is)
 

@@ -39,9 +39,9 @@ newest-after : (b : Bool) (o : Option ℕ) (past : Past) → or_else (clock_if b
 newest-after true o past = refl
 newest-after false o past = refl
 
-place-after : (b : Bool) (q : ℕ) (ps : List ℕ) → first (if b then (q ∷ ps) else ps) ≡ (if b then Some q else first ps)
-place-after true q ps = refl
-place-after false q ps = refl
+position-after : (b : Bool) (q : ℕ) (ps : List ℕ) → first (if b then (q ∷ ps) else ps) ≡ (if b then Some q else first ps)
+position-after true q ps = refl
+position-after false q ps = refl
 
 one_more : (b : Bool) (n : ℕ) → (if b then 0 else 1) + n ≡ (if not b then n + 1 else n)
 one_more true n = omega arith
@@ -63,7 +63,7 @@ tally-step t k d past =
       start = start-after (b && works t (Acted d) past) (start t k past) past i;
       unit = newest-after (b && works t (Acted d) past) (last_unit t k past) past i;
       end = newest-after (b && is t d.ended) (end t k past) past i;
-      place = place-after (b && works t (Acted d) past) d.cpu (unit_cpus t k past) i;
+      last_cpu = position-after (b && works t (Acted d) past) d.cpu (unit_cpus t k past) i;
       units = units t k (Acted d ∷ past);
       preemptions = preemptions t k (Acted d ∷ past);
       migrations = changes-after (b && works t (Acted d) past) d.cpu (unit_cpus t k past) i;
@@ -80,7 +80,7 @@ tally-clock t k tick past =
       start = no-start b (start t k past) past i;
       unit = no-newest b (last_unit t k past) past i;
       end = no-newest b (end t k past) past i;
-      place = first (unit_cpus t k past);
+      last_cpu = first (unit_cpus t k past);
       units = skipped b (units t k past + 1) (units t k past) i;
       preemptions = skipped b (preemptions t k past + 1) (preemptions t k past) i;
       migrations = migrations t k past;

@@ -24,17 +24,17 @@ abbrev pub worked : Bool → ℕ → ℕ → Tally → Tally
 worked b clock cpu x = record x {
   start = if b then or_else x.start (Some clock) else x.start;
   unit = if b then Some clock else x.unit;
-  place = if b then Some cpu else x.place;
+  last_cpu = if b then Some cpu else x.last_cpu;
   units = if b then x.units + 1 else x.units;
-  migrations = if b && is_elsewhere cpu x.place then x.migrations + 1 else x.migrations;
+  migrations = if b && is_elsewhere cpu x.last_cpu then x.migrations + 1 else x.migrations;
 }
 
 abbrev pub preempted : Bool → Tally → Tally
 preempted b x = record x { preemptions = if b then x.preemptions + 1 else x.preemptions }
 
 abbrev pub asked : Bool → Bool → ℕ → Tally → Tally
-asked b queued place x = record x {
-  requests = if b then (x.requests ++ place ∷ []) else x.requests;
+asked b queued position x = record x {
+  requests = if b then (x.requests ++ position ∷ []) else x.requests;
   queued = if b && queued then x.queued + 1 else x.queued;
 }
 
@@ -66,17 +66,17 @@ worker_after act reply task before = if is_switch_reply reply then None else (if
 
 -- the job of a task, where its processor ran that, and whether it is the one that worked there
 abbrev pub ran : Bool → Bool → ℕ → ℕ → PastAct → Tally → Tally
-ran b is_worker clock place d x =
-    asked (b && locks d.act d.reply) (is_queued_reply d.reply) place (
+ran b is_worker clock position d x =
+    asked (b && locks d.act d.reply) (is_queued_reply d.reply) position (
     preempted (b && (is_switch_reply d.reply && is_worker)) (
     worked (b && works d.act d.reply) clock d.cpu x))
 
 -- the jobs of a task: a processor takes it up, it ran, a job of it arrives, one ends
 abbrev pub taken : Bool → ℕ → Jobs → Jobs
-taken b cpu r = record r { current = moved (b && is_elsewhere cpu r.place) r.current; place = if b then Some cpu else r.place }
+taken b cpu r = record r { current = moved (b && is_elsewhere cpu r.last_cpu) r.current; last_cpu = if b then Some cpu else r.last_cpu }
 
 abbrev pub run : Bool → Bool → ℕ → ℕ → PastAct → Jobs → Jobs
-run b is_worker clock place d r = record r { current = ran b is_worker clock place d r.current }
+run b is_worker clock position d r = record r { current = ran b is_worker clock position d r.current }
 
 abbrev pub arrived : Bool → ℕ → Jobs → Jobs
 arrived b clock r = record r { arrivals = if b then (r.arrivals ++ clock ∷ []) else r.arrivals }

@@ -30,7 +30,7 @@ abbrev pub TalliesAreFew : Type 0
 TalliesAreFew = (t k : ℕ) (past : Past) → IsFew (entries_in past) (tally_at t k past)
 
 -- The line of a job is read off what is kept of it, and off its task's arrivals and the requests, and so is how many are listed; the
--- places of a job's requests are among these.
+-- positions of a job's requests are among these.
 pub record RowsAreKept : Type 0 where
   pub read : (g : Group) (t k : ℕ) (past : Past)
       → job_row g t past k ≡ row_from (task g t) (arrivals t past) (tallies g past) (now past) t k (tally_at t k past)

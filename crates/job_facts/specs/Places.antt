@@ -1,11 +1,11 @@
--- The places of requests among all requests.
+-- The positions of requests among all requests.
 use Rattle.std.specs.Prelude.{ℕ, List, [], ◌∷◌, ◌++◌, length, if◌then◌else◌}
 use Rattle.rt_model.specs.Blocking.{requests}
 use Rattle.rt_model.specs.Past.{Past}
 use Rattle.trace_views.specs.JobCounts.{asks_now}
 use Rattle.trace_views.specs.JobMoves.{in_job}
 
--- the places of the requests of a task's job k among all requests, from 0, in order of asking
+-- the positions of the requests of a task's job k among all requests, from 0, in order of asking
 unfoldable pub request_positions : ℕ → ℕ → Past → List ℕ
 request_positions t k [] = []
 request_positions t k (e ∷ past) =

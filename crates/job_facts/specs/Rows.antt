@@ -29,15 +29,15 @@ listed_in t arrivals ended clock = if is_there t arrivals ended clock then ended
 abbrev pub job_in : Jobs → ℕ → Tally
 job_in r k = slice_index_or r.ended (k - 1) r.current
 
--- what the requests in these places saw end
+-- what the requests in these positions saw end
 abbrev pub no_request : seen.Tally
 no_request = record { no = 0; task = 0; sem = 0; ends = 0; ends_all = 0; bound = None }
 
 abbrev pub ends_in : List seen.Tally → List ℕ → ℕ
-ends_in requests places = sum_by (λ i. (slice_index_or requests i no_request).ends) places
+ends_in requests positions = sum_by (λ i. (slice_index_or requests i no_request).ends) positions
 
 abbrev pub ends_all_in : List seen.Tally → List ℕ → ℕ
-ends_all_in requests places = sum_by (λ i. (slice_index_or requests i no_request).ends_all) places
+ends_all_in requests positions = sum_by (λ i. (slice_index_or requests i no_request).ends_all) positions
 
 -- job k, at a clock
 abbrev pub row_from : Task → List ℕ → List seen.Tally → ℕ → ℕ → ℕ → Tally → JobRow

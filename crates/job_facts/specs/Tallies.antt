@@ -9,13 +9,13 @@ use Rattle.trace_views.specs.JobCounts as counts
 use Rattle.trace_views.specs.JobCounts.{last_cpu, unit_cpus}
 use Rattle.job_facts.specs.Places.{request_positions}
 
--- a job: the clocks of its first and its newest unit and of its end, the processor of its newest unit, its counts, and the places of its
+-- a job: the clocks of its first and its newest unit and of its end, the processor of its newest unit, its counts, and the positions of its
 -- requests among all requests, from 0
 pub record Tally : Type 0 where
   pub start : Option ℕ
   pub unit : Option ℕ
   pub end : Option ℕ
-  pub place : Option ℕ
+  pub last_cpu : Option ℕ
   pub units : ℕ
   pub preemptions : ℕ
   pub migrations : ℕ
@@ -27,7 +27,7 @@ pub record Tally : Type 0 where
 pub record Jobs : Type 0 where
   pub ended : List Tally
   pub current : Tally
-  pub place : Option ℕ
+  pub last_cpu : Option ℕ
   pub arrivals : List ℕ
 
 -- job k of a task after a past
@@ -36,7 +36,7 @@ tally_at t k past = record {
   start = times.start t k past;
   unit = times.last_unit t k past;
   end = times.end t k past;
-  place = first (unit_cpus t k past);
+  last_cpu = first (unit_cpus t k past);
   units = counts.units t k past;
   preemptions = counts.preemptions t k past;
   migrations = counts.migrations t k past;
@@ -50,7 +50,7 @@ unfoldable pub jobs_at : ℕ → Past → Jobs
 jobs_at t past = record {
   ended = map (λ k. tally_at t k past) (numbers_from 1 (done t past));
   current = tally_at t (done t past + 1) past;
-  place = last_cpu t past;
+  last_cpu = last_cpu t past;
   arrivals = arrivals t past;
 }
 
@@ -60,7 +60,7 @@ nothing = record {
   start = None;
   unit = None;
   end = None;
-  place = None;
+  last_cpu = None;
   units = 0;
   preemptions = 0;
   migrations = 0;
@@ -70,4 +70,4 @@ nothing = record {
 }
 
 abbrev pub no_jobs : Jobs
-no_jobs = record { ended = []; current = nothing; place = None; arrivals = [] }
+no_jobs = record { ended = []; current = nothing; last_cpu = None; arrivals = [] }

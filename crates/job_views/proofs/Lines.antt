@@ -22,11 +22,11 @@ use Rattle.job_facts.specs.Sums.{Sums, added, sums_of, task_row_from}
 use Rattle.job_facts.proofs.Jobs.{map-last}
 use Rattle.job_facts.proofs.Periods.{period-positive}
 use Rattle.job_facts.proofs.RowSums.{sums_are_kept}
-use Rattle.job_facts.specs.Places.{request_places}
+use Rattle.job_facts.specs.Places.{request_positions}
 use Rattle.job_facts.specs.Rows.{job_in, listed_in, row_from}
 use Rattle.job_facts.specs.Tallies as facts
 use Rattle.job_facts.specs.Tallies.{Jobs, jobs_at, tally_at}
-use Rattle.job_facts.proofs.Few.{arrivals-kept, done-few, ended-kept, places-kept, tallies_are_few}
+use Rattle.job_facts.proofs.Few.{arrivals-kept, done-few, ended-kept, positions-kept, tallies_are_few}
 use Rattle.job_facts.proofs.Rows.{placed, rows_are_kept}
 use Rattle.job_views.specs.declared.table.JobTable.{JobTable}
 use Rattle.job_views.specs.declared.task_jobs.TaskJobs.{TaskJobs}
@@ -81,14 +81,14 @@ module _ (g : Group) (past : Past) (v : JobTable) (task : Task) (clock job : ℕ
   pub job-few : job ≤ MOST_STEPS + 1
   job-few = omega (arith, is.begun, done-few number past, is.with_requests.table.few)
 
-  pub places-low : length (job_in (jobs_of x) job).requests ≤ MOST_STEPS
-  places-low = omega (arith, ap (λ (y : facts.Tally). length y.requests) job-kept, (tallies_are_few number job past).requests_few, is.with_requests.table.few)
+  pub positions-low : length (job_in (jobs_of x) job).requests ≤ MOST_STEPS
+  positions-low = omega (arith, ap (λ (y : facts.Tally). length y.requests) job-kept, (tallies_are_few number job past).requests_few, is.with_requests.table.few)
 
-  pub places-there : All (λ i. i < length rs) (job_in (jobs_of x) job).requests
-  places-there =
+  pub positions-there : All (λ i. i < length rs) (job_in (jobs_of x) job).requests
+  positions-there =
       let many : length rs ≡ length (requests past) = sym (length-map rs tally_of) ∙ ap length is.with_requests.requests_are ∙ length-map (requests past) (tally g past) in
-      let same : (job_in (jobs_of x) job).requests ≡ request_places number job past = ap (λ (y : facts.Tally). y.requests) job-kept ∙ places-kept number job past in
-      subst (λ is'. All (λ i. i < length rs) is') (sym same) (subst (λ n. All (λ i. i < n) (request_places number job past)) (sym many) (placed number job past))
+      let same : (job_in (jobs_of x) job).requests ≡ request_positions number job past = ap (λ (y : facts.Tally). y.requests) job-kept ∙ positions-kept number job past in
+      subst (λ is'. All (λ i. i < length rs) is') (sym same) (subst (λ n. All (λ i. i < n) (request_positions number job past)) (sym many) (placed number job past))
 
   pub row-is : row_from task x.arrivals.items (tallies_of rs) clock number job (job_in (jobs_of x) job) ≡ job_row g number past job
   row-is =

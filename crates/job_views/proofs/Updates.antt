@@ -32,9 +32,9 @@ module _ (f : Bool → Jobs → Jobs) (none : (r : Jobs) → f false r ≡ r) (x
           get_or-map jobs_of (set xs u v) t v no_jobs long ∙ ap jobs_of (get_or-set_other xs u t v v other) ∙ sym (get_or-map jobs_of xs t v no_jobs within) ∙ sym (none (jobs_in xs t))
 
 -- whether a task is the worker matters where it is the one that ran
-pub run-worker : (t u : ℕ) (o : Option ℕ) (clock place : ℕ) (d : PastAct) (r : Jobs) → run (t == u) (is u o) clock place d r ≡ run (t == u) (is t o) clock place d r
-run-worker t u o clock place d r = by_case (t == u) refl
+pub run-worker : (t u : ℕ) (o : Option ℕ) (clock position : ℕ) (d : PastAct) (r : Jobs) → run (t == u) (is u o) clock position d r ≡ run (t == u) (is t o) clock position d r
+run-worker t u o clock position d r = by_case (t == u) refl
   where
-    by_case : (b : Bool) → t == u ≡ b → run b (is u o) clock place d r ≡ run b (is t o) clock place d r
-    by_case true m = ap (λ i. run true (is i o) clock place d r) (sym (eqb-true t u m))
+    by_case : (b : Bool) → t == u ≡ b → run b (is u o) clock position d r ≡ run b (is t o) clock position d r
+    by_case true m = ap (λ i. run true (is i o) clock position d r) (sym (eqb-true t u m))
     by_case false m = refl

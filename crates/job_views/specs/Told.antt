@@ -11,7 +11,7 @@ tally_of x = record {
   start = x.start;
   unit = x.unit;
   end = x.end;
-  place = x.place;
+  last_cpu = x.last_cpu;
   units = x.units;
   preemptions = x.preemptions;
   migrations = x.migrations;
@@ -22,7 +22,7 @@ tally_of x = record {
 
 -- the jobs of a task
 abbrev pub jobs_of : TaskJobs → Jobs
-jobs_of x = record { ended = map tally_of x.ended.items; current = tally_of x.current; place = x.place; arrivals = x.arrivals.items }
+jobs_of x = record { ended = map tally_of x.ended.items; current = tally_of x.current; last_cpu = x.last_cpu; arrivals = x.arrivals.items }
 
 -- the jobs of the task with a number, of a list that begins with number 0
 abbrev pub jobs_in : List TaskJobs → ℕ → Jobs

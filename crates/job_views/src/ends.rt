@@ -6,28 +6,28 @@ ghost use Rattle.job_facts.specs.Rows as rows;
 
 use block_counts::Seen;
 
-/// How many critical sections the requests in these places saw end while they were priority-blocked.
-pub(crate) fn ends_in(requests: &[Seen], places: &[u32]) -> u64
-    requires few { length places.now ≤ MOST_STEPS }
-    requires placed { All (λ i. i < length requests.now) places.now }
-    ensures { result ≡ rows.ends_in (tallies_of requests.now) places.now }
+/// How many critical sections the requests in these positions saw end while they were priority-blocked.
+pub(crate) fn ends_in(requests: &[Seen], positions: &[u32]) -> u64
+    requires few { length positions.now ≤ MOST_STEPS }
+    requires placed { All (λ i. i < length requests.now) positions.now }
+    ensures { result ≡ rows.ends_in (tallies_of requests.now) positions.now }
 {
     let mut ends = 0;
-    for place in places {
-        ends += u64::from(requests[*place as usize].ends);
+    for position in positions {
+        ends += u64::from(requests[*position as usize].ends);
     }
     ends
 }
 
 /// How many these saw end in all.
-pub(crate) fn ends_all_in(requests: &[Seen], places: &[u32]) -> u64
-    requires few { length places.now ≤ MOST_STEPS }
-    requires placed { All (λ i. i < length requests.now) places.now }
-    ensures { result ≡ rows.ends_all_in (tallies_of requests.now) places.now }
+pub(crate) fn ends_all_in(requests: &[Seen], positions: &[u32]) -> u64
+    requires few { length positions.now ≤ MOST_STEPS }
+    requires placed { All (λ i. i < length requests.now) positions.now }
+    ensures { result ≡ rows.ends_all_in (tallies_of requests.now) positions.now }
 {
     let mut ends = 0;
-    for place in places {
-        ends += u64::from(requests[*place as usize].ends_all);
+    for position in positions {
+        ends += u64::from(requests[*position as usize].ends_all);
     }
     ends
 }

@@ -10,13 +10,13 @@ use rt_base::NoMemory;
 use std::alloc::Global;
 
 /// One job so far: the clocks of its first and its newest unit and of its end, the processor of its newest unit, its counts, and
-/// the places of its requests among those of the group.
+/// the positions of its requests among those of the group.
 #[derive(Drop)]
 pub(crate) struct JobTally {
     pub(crate) start: Option<u64>,
     pub(crate) unit: Option<u64>,
     pub(crate) end: Option<u64>,
-    pub(crate) place: Option<u32>,
+    pub(crate) last_cpu: Option<u32>,
     pub(crate) units: u32,
     pub(crate) preemptions: u32,
     pub(crate) migrations: u32,
@@ -27,11 +27,11 @@ pub(crate) struct JobTally {
     ghost end_in_time: { IsLow end },
 }
 
-/// Whether a place is another processor than this.
-pub(crate) fn is_elsewhere(cpu: u32, place: Option<u32>) -> bool
-    ensures { result ≡ is_elsewhere cpu place }
+/// Whether a position is another processor than this.
+pub(crate) fn is_elsewhere(cpu: u32, position: Option<u32>) -> bool
+    ensures { result ≡ is_elsewhere cpu position }
 {
-    match place {
+    match position {
         Some(other) => other != cpu,
         None => false,
     }
@@ -48,7 +48,7 @@ impl JobTally {
             start: None,
             unit: None,
             end: None,
-            place: None,
+            last_cpu: None,
             units: 0,
             preemptions: 0,
             migrations: 0,
@@ -76,11 +76,11 @@ impl JobTally {
         if self.start.is_none() {
             self.start = Some(clock);
         }
-        if is_elsewhere(cpu, self.place) {
+        if is_elsewhere(cpu, self.last_cpu) {
             self.migrations += 1;
         }
         self.unit = Some(clock);
-        self.place = Some(cpu);
+        self.last_cpu = Some(cpu);
         self.units += 1;
     }
 
@@ -92,13 +92,13 @@ impl JobTally {
         self.preemptions += 1;
     }
 
-    /// The job asks for a semaphore, by the request in this place.
-    pub(crate) fn ask(&mut self, queued: bool, place: u32) -> Result<(), NoMemory>
+    /// The job asks for a semaphore, by the request in this position.
+    pub(crate) fn ask(&mut self, queued: bool, position: u32) -> Result<(), NoMemory>
         requires { self.old.queued ≤ MOST_STEPS }
         ensures { OnOk result
-            (tally_of self.new ≡ deeds.asked true queued place (tally_of self.old)) }
+            (tally_of self.new ≡ deeds.asked true queued position (tally_of self.old)) }
     {
-        self.requests.push(place)?;
+        self.requests.push(position)?;
         if queued {
             self.queued += 1;
         }

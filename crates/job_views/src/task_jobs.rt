@@ -27,7 +27,7 @@ use view_acts::ShownAct;
 pub(crate) struct TaskJobs {
     pub(crate) ended: Vec<JobTally>,
     pub(crate) current: JobTally,
-    pub(crate) place: Option<u32>,
+    pub(crate) last_cpu: Option<u32>,
     pub(crate) arrivals: Vec<u64>,
     ghost arrivals_in_time: { All (λ r. r < TICK_END) arrivals.items },
 }
@@ -42,7 +42,7 @@ impl TaskJobs {
         TaskJobs {
             ended: Vec::new(alloc),
             current: JobTally::new(alloc),
-            place: None,
+            last_cpu: None,
             arrivals: Vec::new(alloc),
         }
     }
@@ -52,10 +52,10 @@ impl TaskJobs {
         requires { self.old.current.moves ≤ MOST_STEPS }
         ensures { jobs_of self.new ≡ deeds.taken true cpu (jobs_of self.old) }
     {
-        if is_elsewhere(cpu, self.place) {
+        if is_elsewhere(cpu, self.last_cpu) {
             self.current.move_on();
         }
-        self.place = Some(cpu);
+        self.last_cpu = Some(cpu);
     }
 
     /// The task ran on the processor of an act. It is told whether the task has worked there since the processor switched last, and

@@ -38,7 +38,7 @@ ring_from-linked next previous room p (suc n) (x ∷ xs) h away few =
     let q = neither (room == x) (has room xs) away in
     rw (h.0, turned x room, q.0) (ap (λ (ys : List ℕ). x ∷ ys) (ring_from-linked next previous room x n xs h.2 q.1 (omega arith)))
 
--- links that are the same at all places of a list
+-- links that are the same at all positions of a list
 framed : (next previous next' previous' : ℕ → ℕ) (room p : ℕ) (xs : List ℕ) → ((k : ℕ) → has k (p ∷ xs) ≡ true → next' k ≡ next k) → ((k : ℕ) → has k xs ≡ true → previous' k ≡ previous k) → previous' room ≡ previous room → IsLinked next previous room p xs → IsLinked next' previous' room p xs
 framed next previous next' previous' room p [] same same' end h = (same p (rw (equal_self p)) ∙ h.0, end ∙ h.1)
 framed next previous next' previous' room p (x ∷ xs) same same' end h =
@@ -58,7 +58,7 @@ module _ (next previous next' previous' : ℕ → ℕ) (room t : ℕ) where
       let o = neither (t == x) (has t xs) out in
       (same p not_last np ∙ h.0, same' x (turned x t ∙ o.0) (turned x room ∙ q.0) ∙ h.1, linked-push l x xs is h.2 once.0 once.1 q.1 (turned x t ∙ o.0) o.1 nl nt pt pr same same')
 
-  -- the places beside a member
+  -- the positions beside a member
   pub has-previous : (p : ℕ) (xs : List ℕ) → IsLinked next previous room p xs → has t xs ≡ true → has (previous t) (p ∷ xs) ≡ true
   has-previous p [] h k = cc
   has-previous p (x ∷ xs) h k = by_case (t == x) refl k (has-previous x xs h.2)

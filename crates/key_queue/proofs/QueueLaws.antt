@@ -62,9 +62,9 @@ module _ (keys : List Key) (room : ℕ) (waiting : List ℕ) (items : List (Reve
   has-held : (t : ℕ) → has t (tasks_of items) ≡ has t waiting
   has-held t = has-same t (tasks_of items) waiting (ok.counted t)
 
-  -- a task that does not wait has a place in the heap
-  pub place_for : (t : ℕ) → t < room → has t waiting ≡ false → size < capacity
-  place_for t below outside =
+  -- a task that does not wait has a position in the heap
+  pub position_for : (t : ℕ) → t < room → has t waiting ≡ false → size < capacity
+  position_for t below outside =
       let few : length (t ∷ waiting) ≤ room = length-few room (t ∷ waiting) (outside, ok.once) (λ u h. under u (either (u == t) (has u waiting) h)) in
       omega (arith, ok.reserved, ok.size_is)
     where

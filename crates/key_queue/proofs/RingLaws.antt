@@ -17,11 +17,11 @@ differs a b e s = grind (arith, nat_tests)
 pub not_equal : (a b : ℕ) → (a ≡ b → ⊥) → a == b ≡ false
 not_equal a b n = unless (a == b) (λ e. n (eqb-true a b e))
 
-same_place : (xs : List ℕ) (i v : ℕ) → i < length xs → slice_index (set xs i v) i ≡ v
-same_place xs i v h = get_or-set_same xs i v 0 h
+same_position : (xs : List ℕ) (i v : ℕ) → i < length xs → slice_index (set xs i v) i ≡ v
+same_position xs i v h = get_or-set_same xs i v 0 h
 
-other_place : (xs : List ℕ) (i k v : ℕ) → k == i ≡ false → slice_index (set xs i v) k ≡ slice_index xs k
-other_place xs i k v e = get_or-set_other xs i k v 0 (differs k i e)
+other_position : (xs : List ℕ) (i k v : ℕ) → k == i ≡ false → slice_index (set xs i v) k ≡ slice_index xs k
+other_position xs i k v e = get_or-set_other xs i k v 0 (differs k i e)
 
 pub ring-empty : (room : ℕ) → IsRing (replicate (room + 1) room) (replicate (room + 1) room) room []
 ring-empty room = record {
@@ -70,12 +70,12 @@ module _ (next previous : List ℕ) (room : ℕ) (ts : List ℕ) (ring : IsRing 
       record {
         linked = linked-push (slice_index next) (slice_index previous) (slice_index (set (set next l t) t room)) (slice_index (set (set previous t l) room t)) room t l room ts
             (is ∙ previous-room (slice_index next) (slice_index previous) room room ts ring.linked) ring.linked no_room ring.once no_room room_not out
-            (other_place (set next l t) t l room l_not_t ∙ same_place next l t (omega (arith, ring.next_length)))
-            (same_place (set next l t) t room (omega (arith, length-set next l t, ring.next_length)))
-            (other_place (set previous t l) room t t not_room ∙ same_place previous t l (omega (arith, ring.previous_length)))
-            (same_place (set previous t l) room t (omega (arith, length-set previous t l, ring.previous_length)))
-            (λ k a b. other_place (set next l t) t k room b ∙ other_place next l k t a)
-            (λ k a b. other_place (set previous t l) room k t b ∙ other_place previous t k l a);
+            (other_position (set next l t) t l room l_not_t ∙ same_position next l t (omega (arith, ring.next_length)))
+            (same_position (set next l t) t room (omega (arith, length-set next l t, ring.next_length)))
+            (other_position (set previous t l) room t t not_room ∙ same_position previous t l (omega (arith, ring.previous_length)))
+            (same_position (set previous t l) room t (omega (arith, length-set previous t l, ring.previous_length)))
+            (λ k a b. other_position (set next l t) t k room b ∙ other_position next l k t a)
+            (λ k a b. other_position (set previous t l) room k t b ∙ other_position previous t k l a);
         once = distinct-append t ts ring.once out;
         below = λ u h. under u (either (u == t) (has u ts) (sym (has-push u t ts) ∙ h));
         next_length = length-set _ _ _ ∙ length-set _ _ _ ∙ ring.next_length;
@@ -97,10 +97,10 @@ module _ (next previous : List ℕ) (room : ℕ) (ts : List ℕ) (ring : IsRing 
   ring-without t there = record {
     linked = linked-without (slice_index next) (slice_index previous) (slice_index (set next (slice_index previous t) (slice_index next t))) (slice_index (set previous (slice_index next t) (slice_index previous t))) room t room ts
         ring.linked no_room ring.once no_room there
-        (same_place next (slice_index previous t) (slice_index next t) (omega (arith, ring.next_length, previous_within t there)))
-        (same_place previous (slice_index next t) (slice_index previous t) (omega (arith, ring.previous_length, next_within t there)))
-        (λ k a. other_place next (slice_index previous t) k (slice_index next t) a)
-        (λ k a. other_place previous (slice_index next t) k (slice_index previous t) a);
+        (same_position next (slice_index previous t) (slice_index next t) (omega (arith, ring.next_length, previous_within t there)))
+        (same_position previous (slice_index next t) (slice_index previous t) (omega (arith, ring.previous_length, next_within t there)))
+        (λ k a. other_position next (slice_index previous t) k (slice_index next t) a)
+        (λ k a. other_position previous (slice_index next t) k (slice_index previous t) a);
     once = distinct-without t ts ring.once;
     below = λ u h. ring.below u (has-without u t ts h);
     next_length = length-set _ _ _ ∙ ring.next_length;
@@ -122,8 +122,8 @@ module _ (next previous : List ℕ) (room : ℕ) (ts : List ℕ) (ring : IsRing 
       join (inl e) = rw (e, equal_self room)
       join (inr m) = ap (λ b. slice_index next t == room || b) m ∙ or_true (slice_index next t == room)
 
-  pub place_within : (t : ℕ) → has t (room ∷ ts) ≡ true → t < length next
-  place_within t h = omega (arith, within t h, ring.next_length)
+  pub position_within : (t : ℕ) → has t (room ∷ ts) ≡ true → t < length next
+  position_within t h = omega (arith, within t h, ring.next_length)
 
 -- ---- a walk that adds what it finds
 
@@ -131,14 +131,14 @@ pub ring_tasks-from : (next : List ℕ) (room n : ℕ) → n ≡ room → ring_f
 unfolding ring_tasks
 ring_tasks-from next room n e = ap (λ i. ring_from next room i (slice_index next room)) e
 
-pub ring_from-end : (next : List ℕ) (room n place : ℕ) → place ≡ room → ring_from next room n place ≡ []
-ring_from-end next room zero place e = refl
-ring_from-end next room (suc n) place e = rw (e, equal_self room)
+pub ring_from-end : (next : List ℕ) (room n position : ℕ) → position ≡ room → ring_from next room n position ≡ []
+ring_from-end next room zero position e = refl
+ring_from-end next room (suc n) position e = rw (e, equal_self room)
 
-pub ring_from-none : (next : List ℕ) (room n place : ℕ) → n ≡ 0 → ring_from next room n place ≡ []
-ring_from-none next room zero place e = refl
-ring_from-none next room (suc n) place e = absurd (omega arith)
+pub ring_from-none : (next : List ℕ) (room n position : ℕ) → n ≡ 0 → ring_from next room n position ≡ []
+ring_from-none next room zero position e = refl
+ring_from-none next room (suc n) position e = absurd (omega arith)
 
-pub ring_from-step : (next : List ℕ) (room n m place : ℕ) → n ≡ m + 1 → place == room ≡ false → ring_from next room n place ≡ place ∷ ring_from next room m (slice_index next place)
-ring_from-step next room zero m place e apart = absurd (omega arith)
-ring_from-step next room (suc n) m place e apart = let s : n ≡ m = omega arith in rw (apart, s)
+pub ring_from-step : (next : List ℕ) (room n m position : ℕ) → n ≡ m + 1 → position == room ≡ false → ring_from next room n position ≡ position ∷ ring_from next room m (slice_index next position)
+ring_from-step next room zero m position e apart = absurd (omega arith)
+ring_from-step next room (suc n) m position e apart = let s : n ≡ m = omega arith in rw (apart, s)

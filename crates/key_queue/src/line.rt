@@ -8,8 +8,8 @@ use rt_base::{NoMemory, TaskNo};
 use std::alloc::Global;
 use std::marker::Model;
 
-/// Tasks in the order of coming, each once, with numbers below a room. They are kept as a ring: each place names the
-/// next and the previous one, and the room itself is the place before the first and after the last.
+/// Tasks in the order of coming, each once, with numbers below a room. They are kept as a ring: each position names the
+/// next and the previous one, and the room itself is the position before the first and after the last.
 #[derive(Drop)]
 pub struct TaskLine {
     next: Vec<u32>,
@@ -44,13 +44,13 @@ fn add_ring(next: &[u32], room: u32, into: &mut Vec<TaskNo>)
         numbers into.old.items ++ ring_tasks next.now room }
     ensures capacity { vec_capacity into.new ≡ vec_capacity into.old }
 {
-    let mut place = next[room as usize];
+    let mut position = next[room as usize];
     for _step in 0..room {
-        if place == room {
+        if position == room {
             return;
         }
-        into.push_reserved(TaskNo(place));
-        place = next[place as usize];
+        into.push_reserved(TaskNo(position));
+        position = next[position as usize];
     }
 }
 
@@ -77,11 +77,11 @@ impl TaskLine {
         ensures { self.new ≡ record self.old { tasks = self.old.tasks ++ task.0 ∷ [] } }
     {
         let room = self.room as usize;
-        let place = task.0 as usize;
+        let position = task.0 as usize;
         let last = self.previous[room];
         self.next[last as usize] = task.0;
-        self.next[place] = self.room;
-        self.previous[place] = last;
+        self.next[position] = self.room;
+        self.previous[position] = last;
         self.previous[room] = task.0;
     }
 
@@ -92,9 +92,9 @@ impl TaskLine {
         requires { has task.0 self.old.tasks ≡ true }
         ensures { self.new ≡ record self.old { tasks = without task.0 self.old.tasks } }
     {
-        let place = task.0 as usize;
-        let next = self.next[place];
-        let previous = self.previous[place];
+        let position = task.0 as usize;
+        let next = self.next[position];
+        let previous = self.previous[position];
         self.next[previous as usize] = next;
         self.previous[next as usize] = previous;
     }

@@ -3,9 +3,9 @@ use Rattle.std.proofs.Common.{◌≡◌, ℕ, suc, Bool, true, false, not, ◌&&
 use Rattle.std.specs.Prelude.{Option, None, Some, ◌==◌, filter}
 use Rattle.rt_rules.specs.Distinct.{IsDistinct}
 use Rattle.rt_rules.specs.Numbers.{has, is}
-use Rattle.rt_rules.specs.Placing.{at_place, filled, kept, kept_link, placed, tasks_in}
+use Rattle.rt_rules.specs.Placing.{link_at, filled, kept, kept_link, placed, tasks_in}
 use Rattle.rt_rules.proofs.BoolLaws.{and_false, and_true, clash, neither, or_true, unless}
-use Rattle.rt_rules.proofs.LinkLaws.{has-at_place}
+use Rattle.rt_rules.proofs.LinkLaws.{has-link_at}
 use Rattle.rt_rules.proofs.PlacingLaws.{distinct-filter, distinct-head, equal_self, has-filter}
 use Rattle.ready_queue.specs.Exchanges.{IsExchanged}
 use Rattle.link_table.specs.Linked.{Linked, exchanged, first_taken, first_taken_by, without_link, CanExchange, IsAmong, IsPlacedFor, IsSound}
@@ -25,9 +25,9 @@ kept-left top running (Some w) v out there = rw (unless (has w top) no, out)
     no h = clash (has v top) (ap (λ n. has n top) (sym (eqb-true w v (there w (equal_self w) h))) ∙ h) out
 
 kept-without_link : (top running : List ℕ) (left : Option ℕ) (rs ls : List (Option ℕ)) → length rs ≡ length ls → IsDistinct (tasks_in ls) → ((t : ℕ) → is t left ≡ true → has t top ≡ false)
-    → ((t k : ℕ) → is t (at_place rs k) ≡ true → has t top ≡ true → is t (at_place ls k) ≡ true)
-    → ((t k : ℕ) → is t (at_place ls k) ≡ true → is t left ≡ false → has t top ≡ true)
-    → ((t k : ℕ) → is t (at_place ls k) ≡ true → has t running ≡ true → is t (at_place rs k) ≡ true)
+    → ((t k : ℕ) → is t (link_at rs k) ≡ true → has t top ≡ true → is t (link_at ls k) ≡ true)
+    → ((t k : ℕ) → is t (link_at ls k) ≡ true → is t left ≡ false → has t top ≡ true)
+    → ((t k : ℕ) → is t (link_at ls k) ≡ true → has t running ≡ true → is t (link_at rs k) ≡ true)
     → kept top running rs ls ≡ without_link left ls
 kept-without_link top running None rs ls same once out there of_top home = kept-all top running rs ls same there (λ t k h. of_top t k h refl) home
 kept-without_link top running (Some u) [] [] same once out there of_top home = refl
@@ -44,7 +44,7 @@ kept-without_link top running (Some u) (r ∷ rs) (Some v ∷ ls) same once out 
     by_case true e later =
         let one : u ≡ v = eqb-true u v e in
         let here : kept_link top running r (Some v) ≡ None = kept-left top running r v (out v (rw one (equal_self v))) (λ t. there t 0) in
-        let other = λ (t k : ℕ) (h : is t (at_place ls k) ≡ true). unless (t == u) (λ m. clash (has v (tasks_in ls)) (ap (λ n. has n (tasks_in ls)) (sym (eqb-true t u m ∙ one)) ∙ has-at_place t ls k h) once.0) in
+        let other = λ (t k : ℕ) (h : is t (link_at ls k) ≡ true). unless (t == u) (λ m. clash (has v (tasks_in ls)) (ap (λ n. has n (tasks_in ls)) (sym (eqb-true t u m ∙ one)) ∙ has-link_at t ls k h) once.0) in
         let rest = kept-all top running rs ls (omega arith) (λ t k. there t (suc k)) (λ t k h. of_top t (suc k) h (other t k h)) (λ t k. home t (suc k)) in
         ap (λ x. x ∷ kept top running rs ls) here ∙ ap (λ xs. None ∷ xs) rest
     by_case false e later =
@@ -104,15 +104,15 @@ module _ (l : Linked) (old new : List ℕ) (left came : Option ℕ) (sound : IsS
   out : (t : ℕ) → is t left ≡ true → has t new ≡ false
   out t h = change.first t ∙ rw (h, and_false) (unless (is t came) (λ k. clash (has t old) (change.was t h) (change.was_not t k)))
 
-  there : (t k : ℕ) → is t (at_place l.runs k) ≡ true → has t new ≡ true → is t (at_place l.links k) ≡ true
-  there t k h of_new = are.where_it_runs t k h (was (has t old) (is t left) (is t came) (sym (change.first t) ∙ of_new) (λ c. clash (has t (tasks_in l.runs)) (has-at_place t l.runs k h) (idle t c)))
+  there : (t k : ℕ) → is t (link_at l.runs k) ≡ true → has t new ≡ true → is t (link_at l.links k) ≡ true
+  there t k h of_new = are.where_it_runs t k h (was (has t old) (is t left) (is t came) (sym (change.first t) ∙ of_new) (λ c. clash (has t (tasks_in l.runs)) (has-link_at t l.runs k h) (idle t c)))
     where
       was : (a b c : Bool) → (a && not b) || c ≡ true → (c ≡ true → ⊥) → a ≡ true
       was true b c h never = refl
       was false b c h never = absurd (never h)
 
-  of_top : (t k : ℕ) → is t (at_place l.links k) ≡ true → is t left ≡ false → has t new ≡ true
-  of_top t k h stays = let linked : has t old ≡ true = sym (are.top_alone t) ∙ has-at_place t l.links k h in change.first t ∙ rw (linked, stays) refl
+  of_top : (t k : ℕ) → is t (link_at l.links k) ≡ true → is t left ≡ false → has t new ≡ true
+  of_top t k h stays = let linked : has t old ≡ true = sym (are.top_alone t) ∙ has-link_at t l.links k h in change.first t ∙ rw (linked, stays) refl
 
   kept-exchanged : ks ≡ without_link left l.links
   kept-exchanged = kept-without_link new (tasks_in l.runs) left l.runs l.links sound.same_length sound.linked_once out there of_top (runs_where_linked l sound)

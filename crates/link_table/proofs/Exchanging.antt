@@ -2,7 +2,7 @@
 use Rattle.std.proofs.Common.{◌≡◌, ℕ, zero, suc, ◌<◌, ◌≤◌, true, false, List, [], ◌∷◌, length, set, refl, ap, arith, eqb-true, ◌∙◌}
 use Rattle.std.specs.Prelude.{Option, None, Some, is_some}
 use Rattle.rt_rules.specs.Numbers.{same}
-use Rattle.rt_rules.specs.Placing.{at_place}
+use Rattle.rt_rules.specs.Placing.{link_at}
 use Rattle.rt_rules.proofs.MemberLaws.{equal_self, turned}
 use Rattle.link_table.specs.Linked.{exchanged, first_taken_by, without_link}
 
@@ -31,13 +31,13 @@ without-later u None ls e = refl
 without-later u (Some t) ls e = rw (turned t u, e) refl
 
 -- the place of the task that left ends the exchange
-pub from-found : (q : ℕ) (left came : Option ℕ) (ls : List (Option ℕ)) → q < length ls → same (at_place ls q) left ≡ true → exchanged_from q left came ls ≡ set ls q came
+pub from-found : (q : ℕ) (left came : Option ℕ) (ls : List (Option ℕ)) → q < length ls → same (link_at ls q) left ≡ true → exchanged_from q left came ls ≡ set ls q came
 from-found q left came [] low e = absurd (omega arith)
 from-found zero left came (l ∷ ls) low e = ap (first_taken_by came) (without-here l left ls e) ∙ taken-here came ls
 from-found (suc q) left came (l ∷ ls) low e = ap (λ xs. l ∷ xs) (from-found q left came ls (omega arith) e)
 
 -- a processor that is left takes the task that came
-pub from-free : (q : ℕ) (left came : Option ℕ) (ls : List (Option ℕ)) → q < length ls → same (at_place ls q) left ≡ false → is_some (at_place ls q) ≡ false
+pub from-free : (q : ℕ) (left came : Option ℕ) (ls : List (Option ℕ)) → q < length ls → same (link_at ls q) left ≡ false → is_some (link_at ls q) ≡ false
     → exchanged_from q left came ls ≡ exchanged_from (suc q) left None (set ls q came)
 from-free q left came [] low e free = absurd (omega arith)
 from-free zero left came (Some u ∷ ls) low e free = cc
@@ -46,7 +46,7 @@ from-free zero (Some t) came (None ∷ ls) low e free = taken-here came (without
 from-free (suc q) left came (l ∷ ls) low e free = ap (λ xs. l ∷ xs) (from-free q left came ls (omega arith) e free)
 
 -- another link stays
-pub from-other : (q : ℕ) (left came : Option ℕ) (ls : List (Option ℕ)) → q < length ls → same (at_place ls q) left ≡ false → is_some (at_place ls q) ≡ true
+pub from-other : (q : ℕ) (left came : Option ℕ) (ls : List (Option ℕ)) → q < length ls → same (link_at ls q) left ≡ false → is_some (link_at ls q) ≡ true
     → exchanged_from q left came ls ≡ exchanged_from (suc q) left came ls
 from-other q left came [] low e taken = absurd (omega arith)
 from-other zero left came (None ∷ ls) low e taken = cc

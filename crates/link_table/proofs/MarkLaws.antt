@@ -6,12 +6,12 @@ use Rattle.rt_base.specs.declared.TaskNo.{TaskNo}
 use Rattle.rt_base.specs.TaskNos.{number_of_task, numbers_of_tasks}
 use Rattle.rt_rules.specs.Distinct.{IsDistinct}
 use Rattle.rt_rules.specs.Numbers.{has, is}
-use Rattle.rt_rules.specs.Placing.{at_place, kept, kept_link, tasks_in}
+use Rattle.rt_rules.specs.Placing.{link_at, kept, kept_link, tasks_in}
 use Rattle.rt_rules.proofs.BoolLaws.{and_false, and_true, clash, or_assoc, or_true, unless}
-use Rattle.rt_rules.proofs.LinkLaws.{has-at_place}
+use Rattle.rt_rules.proofs.LinkLaws.{has-link_at}
 use Rattle.rt_rules.proofs.PlacingLaws.{beside, distinct-head, distinct-tail, equal_self, has-filter, has-kept, has-tasks_in}
 use Rattle.link_table.specs.Marks.{AreMarks, Says, with_mark}
-use Rattle.link_table.proofs.PlaceLaws.{at_place-numbers}
+use Rattle.link_table.proofs.PlaceLaws.{link_at-numbers}
 
 -- the marks so far and the tasks that are left make the whole list
 pub record AreMarkedBut (marks : List Bool) (left all : List ℕ) : Type 0 where
@@ -21,7 +21,7 @@ pub record AreMarkedBut (marks : List Bool) (left all : List ℕ) : Type 0 where
 
 -- a task of the changed list is the new one or was there, and not at this place
 has-set_exact : (u k : ℕ) (o : Option ℕ) (ls : List (Option ℕ)) → IsDistinct (tasks_in ls) → k < length ls
-    → has u (tasks_in (set ls k o)) ≡ is u o || (has u (tasks_in ls) && not (is u (at_place ls k)))
+    → has u (tasks_in (set ls k o)) ≡ is u o || (has u (tasks_in ls) && not (is u (link_at ls k)))
 has-set_exact u k o [] once inside = absurd (omega arith)
 has-set_exact u zero o (l ∷ ls) once inside = has-tasks_in u o ls ∙ ap (λ b. is u o || b) (sym (ap (λ b. b && not (is u l)) (has-tasks_in u l ls) ∙ by_case (is u l) refl))
   where
@@ -30,11 +30,11 @@ has-set_exact u zero o (l ∷ ls) once inside = has-tasks_in u o ls ∙ ap (λ b
     by_case false e = and_true (has u (tasks_in ls))
 has-set_exact u (suc k) o (l ∷ ls) once inside =
     has-tasks_in u l (set ls k o) ∙ ap (λ b. is u l || b) (has-set_exact u k o ls (distinct-tail l ls once) (omega arith))
-    ∙ by_case (is u l) refl ∙ ap (λ b. is u o || (b && not (is u (at_place ls k)))) (sym (has-tasks_in u l ls))
+    ∙ by_case (is u l) refl ∙ ap (λ b. is u o || (b && not (is u (link_at ls k)))) (sym (has-tasks_in u l ls))
   where
-    by_case : (b : Bool) → is u l ≡ b → b || (is u o || (has u (tasks_in ls) && not (is u (at_place ls k)))) ≡ is u o || ((b || has u (tasks_in ls)) && not (is u (at_place ls k)))
+    by_case : (b : Bool) → is u l ≡ b → b || (is u o || (has u (tasks_in ls) && not (is u (link_at ls k)))) ≡ is u o || ((b || has u (tasks_in ls)) && not (is u (link_at ls k)))
     by_case true e =
-        let away : is u (at_place ls k) ≡ false = unless (is u (at_place ls k)) (λ h. clash (has u (tasks_in ls)) (has-at_place u ls k h) (distinct-head u l ls once e)) in
+        let away : is u (link_at ls k) ≡ false = unless (is u (link_at ls k)) (λ h. clash (has u (tasks_in ls)) (has-link_at u ls k h) (distinct-head u l ls once e)) in
         rw away (sym (or_true (is u o)))
     by_case false e = refl
 
@@ -52,14 +52,14 @@ at-with_mark marks (Some t) b u low = by_case (u == t) refl
     by_case false e = get_or-set_other marks t u b false (λ m. clash (u == t) (rw m (equal_self t)) e)
 
 pub marks-run : (marks : List Bool) (rs : List (Option ℕ)) (k : ℕ) (o : Option ℕ) → AreMarks marks (tasks_in rs) → IsDistinct (tasks_in rs) → k < length rs
-    → AreMarks (with_mark (with_mark marks (at_place rs k) false) o true) (tasks_in (set rs k o))
+    → AreMarks (with_mark (with_mark marks (link_at rs k) false) o true) (tasks_in (set rs k o))
 marks-run marks rs k o are once inside = record {
   each = λ u h.
-      let shorter : u < length (with_mark marks (at_place rs k) false) = omega (arith, h, length-with_mark (with_mark marks (at_place rs k) false) o true) in
-      let low : u < length marks = omega (arith, shorter, length-with_mark marks (at_place rs k) false) in
-      at-with_mark (with_mark marks (at_place rs k) false) o true u shorter
-      ∙ ap (λ b. cond (is u o) true b) (at-with_mark marks (at_place rs k) false u low ∙ ap (λ b. cond (is u (at_place rs k)) false b) (are.each u low))
-      ∙ joined (is u o) (is u (at_place rs k)) (has u (tasks_in rs))
+      let shorter : u < length (with_mark marks (link_at rs k) false) = omega (arith, h, length-with_mark (with_mark marks (link_at rs k) false) o true) in
+      let low : u < length marks = omega (arith, shorter, length-with_mark marks (link_at rs k) false) in
+      at-with_mark (with_mark marks (link_at rs k) false) o true u shorter
+      ∙ ap (λ b. cond (is u o) true b) (at-with_mark marks (link_at rs k) false u low ∙ ap (λ b. cond (is u (link_at rs k)) false b) (are.each u low))
+      ∙ joined (is u o) (is u (link_at rs k)) (has u (tasks_in rs))
       ∙ sym (has-set_exact u k o rs once inside);
 }
   where
@@ -82,7 +82,7 @@ pub left-none : (marks : List Bool) (top running : List ℕ) (rs ls : List (Opti
 left-none marks top running rs ls are = record { each = λ t h. are.each t h ∙ sym (and_true (has t top)) }
 
 has-kept_more : (t : ℕ) (top running : List ℕ) (rs ls : List (Option ℕ)) (q : ℕ) → q < length rs → q < length ls
-    → has t (tasks_in (kept_first top running rs ls (suc q))) ≡ has t (tasks_in (kept_first top running rs ls q)) || is t (kept_link top running (at_place rs q) (at_place ls q))
+    → has t (tasks_in (kept_first top running rs ls (suc q))) ≡ has t (tasks_in (kept_first top running rs ls q)) || is t (kept_link top running (link_at rs q) (link_at ls q))
 has-kept_more t top running [] ls q low low' = absurd (omega arith)
 has-kept_more t top running (r ∷ rs) [] q low low' = absurd (omega arith)
 has-kept_more t top running (r ∷ rs) (l ∷ ls) zero low low' = has-tasks_in t (kept_link top running r l) [] ∙ or_none (is t (kept_link top running r l))
@@ -93,11 +93,11 @@ has-kept_more t top running (r ∷ rs) (l ∷ ls) zero low low' = has-tasks_in t
 has-kept_more t top running (r ∷ rs) (l ∷ ls) (suc q) low low' =
     has-tasks_in t (kept_link top running r l) (kept_first top running rs ls (suc q))
     ∙ ap (λ b. is t (kept_link top running r l) || b) (has-kept_more t top running rs ls q (omega arith) (omega arith))
-    ∙ or_assoc (is t (kept_link top running r l)) (has t (tasks_in (kept_first top running rs ls q))) (is t (kept_link top running (at_place rs q) (at_place ls q)))
-    ∙ ap (λ b. b || is t (kept_link top running (at_place rs q) (at_place ls q))) (sym (has-tasks_in t (kept_link top running r l) (kept_first top running rs ls q)))
+    ∙ or_assoc (is t (kept_link top running r l)) (has t (tasks_in (kept_first top running rs ls q))) (is t (kept_link top running (link_at rs q) (link_at ls q)))
+    ∙ ap (λ b. b || is t (kept_link top running (link_at rs q) (link_at ls q))) (sym (has-tasks_in t (kept_link top running r l) (kept_first top running rs ls q)))
 
 -- one more processor keeps its link or loses it
-pub left-more : (marks : List Bool) (top running : List ℕ) (rs ls : List (Option ℕ)) (q : ℕ) (o : Option ℕ) → q < length rs → q < length ls → o ≡ kept_link top running (at_place rs q) (at_place ls q)
+pub left-more : (marks : List Bool) (top running : List ℕ) (rs ls : List (Option ℕ)) (q : ℕ) (o : Option ℕ) → q < length rs → q < length ls → o ≡ kept_link top running (link_at rs q) (link_at ls q)
     → AreLeft marks top running rs ls q → AreLeft (with_mark marks o false) top running rs ls (suc q)
 left-more marks top running rs ls q o low low' is_kept are = record {
   each = λ t h.
@@ -130,7 +130,7 @@ pub left-kept : (marks : List Bool) (top running : List ℕ) (runs links now : L
     → AreLeft marks top running (numbers_of_tasks runs) (numbers_of_tasks links) q → AreLeft (with_mark marks (number_of_task o) false) top running (numbers_of_tasks runs) (numbers_of_tasks links) (q + 1)
 left-kept marks top running runs links now q o low same rest is_kept are =
     let next : suc q ≡ q + 1 = omega arith in
-    let kept_there = is_kept ∙ ap (λ x. kept_link top running x (number_of_task (get_or now q None))) (at_place-numbers runs q) ∙ ap (λ x. kept_link top running (at_place (numbers_of_tasks runs) q) x) (ap number_of_task rest ∙ at_place-numbers links q) in
+    let kept_there = is_kept ∙ ap (λ x. kept_link top running x (number_of_task (get_or now q None))) (link_at-numbers runs q) ∙ ap (λ x. kept_link top running (link_at (numbers_of_tasks runs) q) x) (ap number_of_task rest ∙ link_at-numbers links q) in
     subst (AreLeft (with_mark marks (number_of_task o) false) top running (numbers_of_tasks runs) (numbers_of_tasks links)) next
     (left-more marks top running (numbers_of_tasks runs) (numbers_of_tasks links) q (number_of_task o) (omega (arith, low, same, length-map runs number_of_task)) (omega (arith, low, length-map links number_of_task)) kept_there are)
 
@@ -140,11 +140,11 @@ left-kept_all marks top running runs links q same past are =
     left-all marks top running (numbers_of_tasks runs) (numbers_of_tasks links) q (omega (arith, same, length-map runs number_of_task, length-map links number_of_task)) (omega (arith, past, length-map links number_of_task)) are
 
 -- a task that stands once stands nowhere before its place
-not-before : (t : ℕ) (ls : List (Option ℕ)) (q : ℕ) → IsDistinct (tasks_in ls) → is t (at_place ls q) ≡ true → has t (tasks_in (take q ls)) ≡ false
+not-before : (t : ℕ) (ls : List (Option ℕ)) (q : ℕ) → IsDistinct (tasks_in ls) → is t (link_at ls q) ≡ true → has t (tasks_in (take q ls)) ≡ false
 not-before t ls zero once here = refl
 not-before t [] (suc q) once here = refl
 not-before t (l ∷ ls) (suc q) once here =
-    let other : is t l ≡ false = unless (is t l) (λ h. clash (has t (tasks_in ls)) (has-at_place t ls q here) (distinct-head t l ls once h)) in
+    let other : is t l ≡ false = unless (is t l) (λ h. clash (has t (tasks_in ls)) (has-link_at t ls q here) (distinct-head t l ls once h)) in
     has-tasks_in t l (take q ls) ∙ rw other (not-before t ls q (distinct-tail l ls once) here)
 
 has-before : (t : ℕ) (ls : List (Option ℕ)) (q : ℕ) → has t (tasks_in (take q ls)) ≡ true → has t (tasks_in ls) ≡ true
@@ -161,15 +161,15 @@ module _ (marks : List Bool) (top : List ℕ) (rs ls : List (Option ℕ)) (q : �
   of_top out low = are.each t low ∙ rw out (and_true (has t top))
 
   -- the mark of what a processor runs tells whether it is of the top
-  pub run-says : IsDistinct (tasks_in rs) → is t (at_place rs q) ≡ true → Says marks t (has t top)
+  pub run-says : IsDistinct (tasks_in rs) → is t (link_at rs q) ≡ true → Says marks t (has t top)
   run-says once here = of_top (unless (has t (tasks_in (kept_first top (tasks_in rs) rs ls q))) (λ h. by_case (has-kept t top (tasks_in rs) (take q rs) (take q ls) h).1))
     where
       by_case : (has t (tasks_in (take q rs)) ≡ true) ⊎ (has t (tasks_in (take q ls)) ≡ true) × (has t (tasks_in rs) ≡ false) → ⊥
       by_case (inl h) = clash (has t (tasks_in (take q rs))) h (not-before t rs q once here)
-      by_case (inr h) = clash (has t (tasks_in rs)) (has-at_place t rs q here) h.1
+      by_case (inr h) = clash (has t (tasks_in rs)) (has-link_at t rs q here) h.1
 
   -- and so does the mark of its link, where that runs nowhere
-  pub link-says : IsDistinct (tasks_in ls) → is t (at_place ls q) ≡ true → has t (tasks_in rs) ≡ false → Says marks t (has t top)
+  pub link-says : IsDistinct (tasks_in ls) → is t (link_at ls q) ≡ true → has t (tasks_in rs) ≡ false → Says marks t (has t top)
   link-says once here idle = of_top (unless (has t (tasks_in (kept_first top (tasks_in rs) rs ls q))) (λ h. by_case (has-kept t top (tasks_in rs) (take q rs) (take q ls) h).1))
     where
       by_case : (has t (tasks_in (take q rs)) ≡ true) ⊎ (has t (tasks_in (take q ls)) ≡ true) × (has t (tasks_in rs) ≡ false) → ⊥

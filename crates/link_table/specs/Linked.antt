@@ -5,7 +5,7 @@ use Rattle.rt_rules.specs.declared.history.Reply.{Reply}
 use Rattle.rt_rules.specs.declared.history.Reply.TheVariants.{Quiet, Deferred, Runs, Idles}
 use Rattle.rt_rules.specs.Numbers.{has, is, same}
 use Rattle.rt_rules.specs.Distinct.{IsDistinct}
-use Rattle.rt_rules.specs.Placing.{tasks_in, at_place, placed}
+use Rattle.rt_rules.specs.Placing.{tasks_in, link_at, placed}
 use Rattle.ready_queue.specs.Exchanges.{IsExchanged}
 
 -- the first processor of a cluster, what each one runs, and the task that each one is linked to
@@ -23,10 +23,10 @@ abbrev pub IsOfCluster : Linked → ℕ → Type 0
 IsOfCluster l q = (l.first ≤ q) × (q < l.first + length l.runs)
 
 abbrev pub link_of : Linked → ℕ → Option ℕ
-link_of l q = at_place l.links (q - l.first)
+link_of l q = link_at l.links (q - l.first)
 
 abbrev pub runs_on : Linked → ℕ → Option ℕ
-runs_on l q = at_place l.runs (q - l.first)
+runs_on l q = link_at l.runs (q - l.first)
 
 -- an interrupt is pending where what a processor runs is not its link
 abbrev pub is_pending : Linked → ℕ → Bool
@@ -57,7 +57,7 @@ pub record IsSound (l : Linked) : Type 0 where
   pub same_length : length l.runs ≡ length l.links
   pub runs_once : IsDistinct (tasks_in l.runs)
   pub linked_once : IsDistinct (tasks_in l.links)
-  pub one_place : (t i j : ℕ) → is t (at_place l.links i) ≡ true → is t (at_place l.runs j) ≡ true → i ≡ j
+  pub one_link : (t i j : ℕ) → is t (link_at l.links i) ≡ true → is t (link_at l.runs j) ≡ true → i ≡ j
 
 -- these tasks alone run on the cluster's processors or are linked to them
 pub record IsAmong (ts : List ℕ) (l : Linked) : Type 0 where

@@ -85,7 +85,7 @@ impl Links {
         ensures link { number_of_task result ≡ link_of self.now q.0 }
         ensures sound { IsSound self.now }
     {
-        self.links[self.place_of(q)]
+        self.links[self.position_of(q)]
     }
 
     /// The task that the processor runs.
@@ -96,7 +96,7 @@ impl Links {
         ensures runs { number_of_task result ≡ runs_on self.now q.0 }
         ensures sound { IsSound self.now }
     {
-        self.runs[self.place_of(q)]
+        self.runs[self.position_of(q)]
     }
 
     /// Whether an interrupt is pending: the processor runs another task than its link, or one of them is none.
@@ -216,14 +216,14 @@ impl Links {
         ensures among { StaysAmong self.old self.new }
         ensures sound { IsSound self.new }
     {
-        let place = self.place_of(q);
+        let place = self.position_of(q);
         self.run_marks.set_of(self.runs[place], false);
         self.run_marks.set_of(task, true);
         self.runs[place] = task;
     }
 
     // The processor's position in the cluster, from 0.
-    fn place_of(&self, q: CpuNo) -> usize
+    fn position_of(&self, q: CpuNo) -> usize
         requires { IsOfCluster self.now q.0 }
         ensures place { result ≡ q.0 - self.now.first }
         ensures runs { result < length self.now.runs }

@@ -132,8 +132,8 @@ noted-more g k rows after h is = by_case (in_group g (home g (k + 1))) refl is
 pub noted-read : (g : Group) (k : ℕ) (x : Task) (ks : List Cluster) (rows after : List (Option UserPrios)) → AreNoted g k rows → k < length g.setup.tasks → x ≡ get_or g.setup.tasks k x → ks ≡ g.setup.clusters → after ≡ (if (slice_index_or ks x.cluster.0 no_cluster).group.0 == g.number then noted_uses x.prio x.cluster x.uses rows else rows) → AreNoted g (k + 1) after
 unfolding in_group home task cluster
 noted-read g k x ks rows after h low is there made =
-    let place : k + 1 - 1 ≡ k = omega arith in
-    let own : x ≡ slice_index_or g.setup.tasks (k + 1 - 1) no_task = is ∙ get_or_default g.setup.tasks k x no_task low ∙ ap (λ i. get_or g.setup.tasks i no_task) (sym place) in
+    let position : k + 1 - 1 ≡ k = omega arith in
+    let own : x ≡ slice_index_or g.setup.tasks (k + 1 - 1) no_task = is ∙ get_or_default g.setup.tasks k x no_task low ∙ ap (λ i. get_or g.setup.tasks i no_task) (sym position) in
     noted-more g k rows after h (made ∙ ap (λ (cs : List Cluster). if (slice_index_or cs x.cluster.0 no_cluster).group.0 == g.number then noted_uses x.prio x.cluster x.uses rows else rows) there ∙ ap (λ (y : Task). if (slice_index_or g.setup.clusters y.cluster.0 no_cluster).group.0 == g.number then noted_uses y.prio y.cluster y.uses rows else rows) own)
 
 pub noted-all : (g : Group) (rows : List (Option UserPrios)) → AreNoted g (length g.setup.tasks) rows → AreCeilings g (record { rows = rows })

@@ -16,8 +16,8 @@ fn note_uses(rows: &mut [Option<UserPrios>], task: &Task)
     ensures { rows.new ≡ noted_uses task.now.prio task.now.cluster task.now.uses rows.old }
 {
     for sem in task.uses.as_slice() {
-        let place = sem.0 as usize;
-        rows[place] = Some(with_user(rows[place], task.prio, task.cluster));
+        let position = sem.0 as usize;
+        rows[position] = Some(with_user(rows[position], task.prio, task.cluster));
     }
 }
 

@@ -51,9 +51,9 @@ module _ (cap room capacity : ℕ) (fifo queue : List ℕ) (ok : IsOmlp cap room
       below t (inl m) = ok.fifo_below t m
       below t (inr m) = ok.queue_below t m
 
-  -- a task that joins the FIFO list finds a place there
-  pub place_in : (t : ℕ) → t < room → has t fifo ≡ false → length fifo < cap → length fifo < capacity
-  place_in t below outside short =
+  -- a task that joins the FIFO list finds a position there
+  pub position_in : (t : ℕ) → t < room → has t fifo ≡ false → length fifo < cap → length fifo < capacity
+  position_in t below outside short =
       let few : length (t ∷ fifo) ≤ room = length-few room (t ∷ fifo) (outside, ok.fifo_once) (λ u h. under u (either (u == t) (has u fifo) h)) in
       omega (arith, ok.reserved)
     where

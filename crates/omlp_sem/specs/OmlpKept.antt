@@ -11,7 +11,7 @@ pub record OmlpKept : Type 0 where
   pub state : OmlpState
   pub keys : List Key
 
--- each task stands once in the two lists, and the FIFO list has a place for all that it ever holds
+-- each task stands once in the two lists, and the FIFO list has a position for all that it ever holds
 pub record IsOmlp (cap room capacity : ℕ) (fifo queue : List ℕ) : Type 0 where
   pub limit : room < 2 ^ 32
   pub fifo_once : IsDistinct fifo

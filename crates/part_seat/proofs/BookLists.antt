@@ -12,12 +12,12 @@ use Rattle.split_laws.specs.Parts.{HaveGrown}
 use Rattle.part_seat.specs.Partitions.{Seat, books_in, books_of, cells_of}
 
 -- the semaphore of a seat
-place-back : (s : ℕ) → 1 ≤ s → suc (s - 1) ≡ s
-place-back s low = omega (arith, low)
+position-back : (s : ℕ) → 1 ≤ s → suc (s - 1) ≡ s
+position-back s low = omega (arith, low)
 
 pub books-at : (seats : List Seat) (s : ℕ) (d : Seat) → 1 ≤ s → s - 1 < length seats → books_in seats s ≡ (slice_index_or seats (s - 1) d).seen
 books-at seats s d low high =
-    subst (λ n. books_in seats n ≡ (slice_index_or seats (s - 1) d).seen) (place-back s low) (get_or-map (λ (a : Seat). a.seen) seats (s - 1) d [] high)
+    subst (λ n. books_in seats n ≡ (slice_index_or seats (s - 1) d).seen) (position-back s low) (get_or-map (λ (a : Seat). a.seen) seats (s - 1) d [] high)
 
 module _ (seats : List Seat) (s : ℕ) (a : Seat) (low : 1 ≤ s) (high : s - 1 < length seats) where
   after : List Seat
@@ -31,7 +31,7 @@ module _ (seats : List Seat) (s : ℕ) (a : Seat) (low : 1 ≤ s) (high : s - 1 
   others : (n : ℕ) → suc n == s ≡ false → books_of (map (λ (b : Seat). b.seen) (slice_set seats (s - 1) a)) (suc n) ≡ books_in seats (suc n)
   others n other =
       ap (λ l. slice_index_or l n []) (map-set (λ (b : Seat). b.seen) seats (s - 1) a)
-      ∙ get_or-set_other (map (λ (b : Seat). b.seen) seats) (s - 1) n a.seen [] (λ e. clash n (ap suc e ∙ place-back s low) other)
+      ∙ get_or-set_other (map (λ (b : Seat). b.seen) seats) (s - 1) n a.seen [] (λ e. clash n (ap suc e ∙ position-back s low) other)
     where
       clash : (m : ℕ) → suc m ≡ s → suc m == s ≡ false → ⊥
       clash m e k = let t = equal_self s in let u = ap (λ x. x == s) e in cc

@@ -2,7 +2,7 @@ pub mod BookLists
 pub mod TurnLaws
 pub mod WaiterLaws
 pub mod MeetingLaws
-pub mod PlaceLaws
+pub mod PositionLaws
 pub mod PassLaws
 pub mod PlayLaws
 pub mod OpenLaws

@@ -39,7 +39,7 @@ use Rattle.part_player.proofs.OwnParts.{own-seat}
 use Rattle.part_seat.specs.AtTurns.{About, HasGiven, IsFound}
 use Rattle.part_seat.specs.Partitions.{IsMeeting, IsSeatAt, Seat, books_in}
 use Rattle.part_seat.proofs.BookLists.{books-at, put, put-grown, put-here, put-others, set-here, set-others}
-use Rattle.part_seat.proofs.PlaceLaws.{IsSeatToken}
+use Rattle.part_seat.proofs.PositionLaws.{IsSeatToken}
 
 equal-clash : (i j : ℕ) → i ≡ j → nat_eq i j ≡ false → ⊥
 equal-clash i j e k = let t = equal_self j in let u = ap (λ x. nat_eq x j) e in cc
@@ -139,22 +139,22 @@ module _ (p : Parts) (q : ℕ) (es : List SplitEntry) (seats : List Seat) (playe
     pub still-seat : IsSeatAt p q s a'
     still-seat =
         let at = meeting.each (s - 1) d high in
-        let place : s - 1 + 1 ≡ s = omega (arith, low) in
+        let position : s - 1 + 1 ≡ s = omega (arith, low) in
         record {
           cpu = ap (λ (k : Seat). k.cpu) same ∙ at.cpu;
           rests = ap (λ (k : Seat). k.holds) same ∙ at.rests;
-          about = ap (λ (k : Seat). k.cell.subject) same ∙ subst (λ n. a.cell.subject ≡ Some (book_of p n)) place at.about;
+          about = ap (λ (k : Seat). k.cell.subject) same ∙ subst (λ n. a.cell.subject ≡ Some (book_of p n)) position at.about;
         }
 
     each-seat : (i : ℕ) (e : Seat) → i < length seats' → IsSeatAt p q (i + 1) (slice_index_or seats' i e)
-    each-seat i e h = by_place (nat_eq i (s - 1)) refl
+    each-seat i e h = by_position (nat_eq i (s - 1)) refl
       where
-        by_place : (b : Bool) → nat_eq i (s - 1) ≡ b → IsSeatAt p q (i + 1) (slice_index_or seats' i e)
-        by_place true k =
+        by_position : (b : Bool) → nat_eq i (s - 1) ≡ b → IsSeatAt p q (i + 1) (slice_index_or seats' i e)
+        by_position true k =
             let is : i ≡ s - 1 = eqb-true i (s - 1) k in
-            let place : s ≡ i + 1 = omega (arith, low, is) in
-            subst (IsSeatAt p q (i + 1)) (sym (ap (λ n. slice_index_or seats' n e) is ∙ get_or-set_same seats (s - 1) a' e high)) (subst (λ n. IsSeatAt p q n a') place still-seat)
-        by_place false k =
+            let position : s ≡ i + 1 = omega (arith, low, is) in
+            subst (IsSeatAt p q (i + 1)) (sym (ap (λ n. slice_index_or seats' n e) is ∙ get_or-set_same seats (s - 1) a' e high)) (subst (λ n. IsSeatAt p q n a') position still-seat)
+        by_position false k =
             let count = length-set seats (s - 1) a' in
             subst (IsSeatAt p q (i + 1)) (sym (get_or-set_other seats (s - 1) i a' e (λ m. equal-clash i (s - 1) m k))) (meeting.each i e (omega (arith, h, count)))
 

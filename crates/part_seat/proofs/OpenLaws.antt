@@ -18,11 +18,11 @@ some-empty (x ∷ xs) i low un = get_or-map (λ (a : Seat). a.seen) (x ∷ xs) i
 -- their books are empty
 unseen-books : (p : Parts) (q : ℕ) (seats : List Seat) → AreUnused p q seats → (s : ℕ) → books_in seats s ≡ []
 unseen-books p q seats unused zero = refl
-unseen-books p q seats unused (suc n) = by_place (nat_lt n (length seats)) refl
+unseen-books p q seats unused (suc n) = by_position (nat_lt n (length seats)) refl
   where
-    by_place : (b : Bool) → nat_lt n (length seats) ≡ b → slice_index_or (map (λ (a : Seat). a.seen) seats) n [] ≡ []
-    by_place true h = some-empty seats n (ltb-true _ _ h) (unused.unseen n)
-    by_place false h = let l = length-map seats (λ (a : Seat). a.seen) in let k = ltb-false _ _ h in get_or_past (map (λ (a : Seat). a.seen) seats) n [] (omega (arith, l, k))
+    by_position : (b : Bool) → nat_lt n (length seats) ≡ b → slice_index_or (map (λ (a : Seat). a.seen) seats) n [] ≡ []
+    by_position true h = some-empty seats n (ltb-true _ _ h) (unused.unseen n)
+    by_position false h = let l = length-map seats (λ (a : Seat). a.seen) in let k = ltb-false _ _ h in get_or_past (map (λ (a : Seat). a.seen) seats) n [] (omega (arith, l, k))
 
 pub unused-meets : (p : Parts) (q : ℕ) (seats : List Seat) → AreUnused p q seats → IsMeeting p q seats (past_of (part_group p q) q [])
 unfolding past_of past_from

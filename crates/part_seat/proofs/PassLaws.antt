@@ -42,7 +42,7 @@ module _ (p : Parts) (q : ℕ) (seats : List Seat) (s : SemNo) (cpu : CpuNo) (ta
       let of = passed-task (book_of p s.0) found e t (ap acts.Release some) (subst (book.IsLegalSem (book_of p s.0)) is legal) in
       let homes = length-mapped (λ u. seat_of (group_with p 0) u) 0 (length p.tasks + 1) in
       let high_task = of.high in
-      let place : no ≡ length found = let a = ap length is in let b = length-append found (e ∷ []) in omega (arith, a, b, count) in
+      let position : no ≡ length found = let a = ap length is in let b = length-append found (e ∷ []) in omega (arith, a, b, count) in
       record {
         sem_low = low;
         sem_high = high;
@@ -50,7 +50,7 @@ module _ (p : Parts) (q : ℕ) (seats : List Seat) (s : SemNo) (cpu : CpuNo) (ta
         task_high = omega (arith, high_task, homes);
         task = task;
         granted =
-            ap (λ l. slice_get l no) is ∙ ap (slice_get (found ++ e ∷ [])) place ∙ at-end found e
+            ap (λ l. slice_get l no) is ∙ ap (slice_get (found ++ e ∷ [])) position ∙ at-end found e
             ∙ ap (λ (o : Option TaskNo). Some (entry cpu task (acts.Release o))) some
             ∙ ap (λ n. Some (entry (record { 0 = n }) task (acts.Release (Some t)))) mine;
       }

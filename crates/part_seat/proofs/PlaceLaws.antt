@@ -52,8 +52,8 @@ pub record IsSeatToken (p : Parts) (q s : ℕ) (seats : List Seat) (d : Seat) : 
 pub within-seats : (p : Parts) (q s : ℕ) (seats : List Seat) (past : PartPast) → IsMeeting p q seats past → has s (sems (part_group p q)) ≡ true → (1 ≤ s) × (s - 1 < length seats)
 within-seats p q s seats past meeting known = let r = sem-range (part_group p q) s known in let n = meeting.count in (r.0, omega (arith, r.0, r.1, n))
 
-pub place-of : (p : Parts) (q s : ℕ) (seats : List Seat) (past : PartPast) (d : Seat) → IsMeeting p q seats past → has s (sems (part_group p q)) ≡ true → IsSeatToken p q s seats d
-place-of p q s seats past d meeting known =
+pub position-of : (p : Parts) (q s : ℕ) (seats : List Seat) (past : PartPast) (d : Seat) → IsMeeting p q seats past → has s (sems (part_group p q)) ≡ true → IsSeatToken p q s seats d
+position-of p q s seats past d meeting known =
     let r = within-seats p q s seats past meeting known in
     let back : s - 1 + 1 ≡ s = omega (arith, r.0) in
     record { low = r.0; high = r.1; seat = subst (λ m. IsSeatAt p q m (slice_index_or seats (s - 1) d)) back (meeting.each (s - 1) d r.1) }

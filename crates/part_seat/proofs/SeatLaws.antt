@@ -82,12 +82,12 @@ module _ (turns : List (Cell SemOf)) (part : PartOf) (posters : List PosterOf) (
     taken-is = ap taken_in is ∙ map_push taken_claim taker.taken c
 
     from-taken : (x : TakenGrant) → Among x (taken_in taker') → cpu_at (books_in part'.seats x.claim.sem) x.claim.no ≡ Some x.from
-    from-taken x m = by_place (among-either x (taken_in taker) (taken_claim c ∷ []) (subst (Among x) taken-is m))
+    from-taken x m = by_position (among-either x (taken_in taker) (taken_claim c ∷ []) (subst (Among x) taken-is m))
       where
-        by_place : Among x (taken_in taker) ⊎ Among x (taken_claim c ∷ []) → cpu_at (books_in part'.seats x.claim.sem) x.claim.no ≡ Some x.from
-        by_place (inl k) = grown-cpu part.cpu (books_in part.seats) (books_in part'.seats) took.grown x.claim.sem x.claim.no x.from (seat.from x k)
-        by_place (inr (inl k)) = subst (λ (y : TakenGrant). cpu_at (books_in part'.seats y.claim.sem) y.claim.no ≡ Some y.from) (sym k) took.from
-        by_place (inr (inr k)) = elim k [ ]
+        by_position : Among x (taken_in taker) ⊎ Among x (taken_claim c ∷ []) → cpu_at (books_in part'.seats x.claim.sem) x.claim.no ≡ Some x.from
+        by_position (inl k) = grown-cpu part.cpu (books_in part.seats) (books_in part'.seats) took.grown x.claim.sem x.claim.no x.from (seat.from x k)
+        by_position (inr (inl k)) = subst (λ (y : TakenGrant). cpu_at (books_in part'.seats y.claim.sem) y.claim.no ≡ Some y.from) (sym k) took.from
+        by_position (inr (inr k)) = elim k [ ]
 
     pub after-grant : IsPartSeat turns (record { part = part'; posters = posters; taker = taker' })
     after-grant = record {

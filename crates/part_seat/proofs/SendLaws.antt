@@ -97,15 +97,15 @@ module _ (p : Parts) (q : ℕ) (of : IsOfSplit p q) (posters : List PosterOf) (a
   home-is : IsHomePart p c.task.0
   home-is = home-task p c.task.0 of.valid of.split passed.task_low passed.task_high
 
-  pub low-place : h < length posters
-  low-place = let a = home-is.there in let n = are.count in omega (arith, at, a, n)
+  pub low-position : h < length posters
+  low-position = let a = home-is.there in let n = are.count in omega (arith, at, a, n)
 
   module _ (d : PosterOf) where
     abbrev pub g : Group
     g = part_group p q
 
     low : h < length posters
-    low = low-place
+    low = low-position
 
     abbrev pub b : PosterOf
     b = slice_index_or posters h d
@@ -140,7 +140,7 @@ module _ (p : Parts) (q : ℕ) (of : IsOfSplit p q) (posters : List PosterOf) (a
       same-inboxes = map-set_same (λ (x : PosterOf). x.inbox) posters h b' d (ap (λ (x : PosterOf). x.inbox) is)
 
       each-poster : (r : ℕ) (e : PosterOf) → r < length posters' → IsPosterAt p q r (slice_index_or posters' r e)
-      each-poster r e below = by_place (nat_eq r h) refl
+      each-poster r e below = by_position (nat_eq r h) refl
         where
           still : IsPosterAt p q h b'
           still = record {
@@ -149,11 +149,11 @@ module _ (p : Parts) (q : ℕ) (of : IsOfSplit p q) (posters : List PosterOf) (a
             quotas_are = ap (λ (x : PosterOf). x.quotas) is ∙ poster.quotas_are;
           }
 
-          by_place : (k : Bool) → nat_eq r h ≡ k → IsPosterAt p q r (slice_index_or posters' r e)
-          by_place true k =
+          by_position : (k : Bool) → nat_eq r h ≡ k → IsPosterAt p q r (slice_index_or posters' r e)
+          by_position true k =
               let same : r ≡ h = eqb-true r h k in
               subst (λ n. IsPosterAt p q n (slice_index_or posters' n e)) (sym same) (subst (IsPosterAt p q h) (sym (get_or-set_same posters h b' e low)) still)
-          by_place false k =
+          by_position false k =
               let count = length-set posters h b' in
               subst (IsPosterAt p q r) (sym (get_or-set_other posters h r b' e (λ m. equal-clash r h m k))) (are.each r e (omega (arith, below, count)))
 
@@ -161,7 +161,7 @@ module _ (p : Parts) (q : ℕ) (of : IsOfSplit p q) (posters : List PosterOf) (a
       still-posters = record { count = length-set posters h b' ∙ are.count; each = each-poster }
 
       pub has-posted : (r : ℕ) → posted_in posters' r ≡ posted_in posters r ++ passed_to g r c
-      has-posted r = by_place (nat_eq r h) refl
+      has-posted r = by_position (nat_eq r h) refl
         where
           seat : seat_of g c.task.0 ≡ h
           seat = same-seat p (group_no p q) 0 c.task.0 ∙ home-is.seat ∙ sym at
@@ -169,8 +169,8 @@ module _ (p : Parts) (q : ℕ) (of : IsOfSplit p q) (posters : List PosterOf) (a
           lists : List (List Claim)
           lists = map (λ (x : PosterOf). map plain_claim x.posted) posters
 
-          by_place : (k : Bool) → nat_eq r h ≡ k → posted_in posters' r ≡ posted_in posters r ++ passed_to g r c
-          by_place true k =
+          by_position : (k : Bool) → nat_eq r h ≡ k → posted_in posters' r ≡ posted_in posters r ++ passed_to g r c
+          by_position true k =
               let same : r ≡ h = eqb-true r h k in
               let count = length-set posters h b' in
               let to : passed_to g h c ≡ claim_passed c ∷ [] = ap (λ n. if n == h then claim_passed c ∷ [] else []) seat ∙ ap (λ x. if x then claim_passed c ∷ [] else []) (equal_self h) in
@@ -180,7 +180,7 @@ module _ (p : Parts) (q : ℕ) (of : IsOfSplit p q) (posters : List PosterOf) (a
               ∙ map_push plain_claim b.posted (claim c.sem.0 c.no c.task.0 from seq)
               ∙ ap (λ l. l ++ claim_passed c ∷ []) (sym (posted-at posters h d low))
               ∙ ap (λ l. posted_in posters h ++ l) (sym to))
-          by_place false k =
+          by_position false k =
               let other : h == r ≡ false = turned h r ∙ k in
               let to : passed_to g r c ≡ [] = ap (λ n. if n == r then claim_passed c ∷ [] else []) seat ∙ ap (λ x. if x then claim_passed c ∷ [] else []) other in
               ap (λ l. slice_index_or l r []) (map-set (λ (x : PosterOf). map plain_claim x.posted) posters h b')

@@ -90,10 +90,10 @@ given-sent : (g : Group) (q r s n : ℕ) (e : SemEntry) (o : Option Passed) → 
 given-sent g q r s n e o cpu same =
     ap (λ b. if b then given_to g r s n (granted_by e.act) else []) (ap (λ m. m == q) cpu ∙ equal_self q) ∙ sent-to g r s n o (granted_by e.act) same
 
-place-is : (s n : ℕ) (o : Option Passed) (u : Option ℕ) → option_map claim_passed o ≡ option_map (λ t. record { sem = s; no = n; task = t }) u → (c : Passed) → o ≡ Some c
+position-is : (s n : ℕ) (o : Option Passed) (u : Option ℕ) → option_map claim_passed o ≡ option_map (λ t. record { sem = s; no = n; task = t }) u → (c : Passed) → o ≡ Some c
     → (c.sem.0 ≡ s) × (c.no ≡ n)
-place-is s n o None e c some = let f : option_map claim_passed o ≡ Some (claim_passed c) = ap (option_map claim_passed) some in cc
-place-is s n o (Some u) e c some =
+position-is s n o None e c some = let f : option_map claim_passed o ≡ Some (claim_passed c) = ap (option_map claim_passed) some in cc
+position-is s n o (Some u) e c some =
     let f : claim_passed c ≡ record { sem = s; no = n; task = u } = some-same (sym (ap (option_map claim_passed) some) ∙ e) in
     (ap (λ (k : Claim). k.sem) f, ap (λ (k : Claim). k.no) f)
 
@@ -146,7 +146,7 @@ module _ (a a' : PartOf) (r : PlayedStep) (played : HasPlayed a a' r) where
         by_acts (inl none) = let e = none.1 in cc
         by_acts (inr act) =
             let below = posted-below (group_of a) a.cpu (books_in a.seats) posted has i k m in
-            let is = place-is act.sem (length (act.found act.sem)) r.passed (granted_by act.entry.act) act.passes c some in
+            let is = position-is act.sem (length (act.found act.sem)) r.passed (granted_by act.entry.act) act.passes c some in
             let sem : k.sem ≡ act.sem = same ∙ is.0 in
             let grew = ap length (act.grown.later act.sem).1 in
             let more = length-append (books_in a.seats act.sem) (act.grown.later act.sem).0 in

@@ -45,9 +45,9 @@ pub(crate) fn asks<R: Wait>(
         result.passed }
     ensures passed { result.passed ≡ None }
 {
-    let place = sem.0 as usize - 1;
+    let position = sem.0 as usize - 1;
     let cpu = player.cpu();
-    let answer = ask(rt, &turns[place], &mut seats[place], cpu, task);
+    let answer = ask(rt, &turns[position], &mut seats[position], cpu, task);
     let entry = player.finish(step, reply_of(answer));
     PlayedStep {
         entry,
@@ -83,9 +83,9 @@ pub(crate) fn frees<R: Wait>(
     ensures passed { (c : Passed) → result.passed ≡ Some c
         → IsPassedAt player.old.setup player.old.cpu seats.new c }
 {
-    let place = sem.0 as usize - 1;
+    let position = sem.0 as usize - 1;
     let cpu = player.cpu();
-    let (next, no) = release(rt, &turns[place], &mut seats[place], cpu, task);
+    let (next, no) = release(rt, &turns[position], &mut seats[position], cpu, task);
     let entry = player.finish(step, Reply::Done);
     PlayedStep {
         entry,

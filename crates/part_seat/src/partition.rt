@@ -124,8 +124,8 @@ impl Partition {
         // A proof knows that the history is legal once it is read.
         let _entries = self.player.entries();
         let (sem, no, task) = (grant.sem(), grant.no(), grant.task());
-        let place = sem.0 as usize - 1;
-        turns[place].join(&mut self.seats[place], grant.into_seen());
+        let position = sem.0 as usize - 1;
+        turns[position].join(&mut self.seats[position], grant.into_seen());
         self.player.take(sem, no, task)
     }
 
@@ -142,8 +142,8 @@ impl Partition {
         ensures seats { self.new ≡ self.old }
         ensures copy { IfSome (slice_get self.old.seats (sem.0 - 1)) (λ a. result ≡ split_off a) }
     {
-        let place = sem.0 as usize - 1;
-        spare(rt, &turns[place], &mut self.seats[place])
+        let position = sem.0 as usize - 1;
+        spare(rt, &turns[position], &mut self.seats[position])
     }
 
     /// The history: legal, and its steps are a first part of the script.

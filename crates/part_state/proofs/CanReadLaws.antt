@@ -38,10 +38,10 @@ sem-range g r h =
 pub can_be_read : CanBeRead
 can_be_read g t past s valid few clock known at there =
     let r = task-range g t there in
-    let place : t - 1 + 1 ≡ t = omega (arith, r.0) in
+    let position : t - 1 + 1 ≡ t = omega (arith, r.0) in
     let inside : t - 1 < length g.setup.tasks = omega (arith, r.0, r.1) in
     let limits : IsTaskInLimits t (length g.setup.clusters) (task_in g.setup.tasks t) =
-    subst (λ n. IsTaskInLimits n (length g.setup.clusters) (task_in g.setup.tasks t)) place
+    subst (λ n. IsTaskInLimits n (length g.setup.clusters) (task_in g.setup.tasks t)) position
     ((sets_are_in_limits g.setup valid).tasks_in (t - 1) inside) in
     let bounds : AreBounded MOST_STEPS s.kept.clock (job_of s.kept t) =
     subst (λ j. AreBounded MOST_STEPS s.kept.clock j) (sym (at.kept.jobs_are t there))

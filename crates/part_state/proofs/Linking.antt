@@ -46,7 +46,7 @@ module _ (p : Parts) (c : CeilingTable) (s : PartState) (t : ℕ) where
       by_case true e = rw e (head-inserted (record { key = key_in p c s t; task = t }) (ranked_by (key_in p c s) (may_run p c s) ts))
       by_case false e = rw e refl
 
--- the task at a place is one of the list
+-- the task at a position is one of the list
 pub there : (us : List TaskNo) (j : ℕ) (d : TaskNo) → j < length us → has (get_or us j d).0 (numbers us) ≡ true
 there [] j d h = absurd (omega arith)
 there (u ∷ us) zero d h = rw equal_self refl

@@ -159,14 +159,14 @@ module _ (ceilings keys : List Key) (l : PcpState) (hc wc oc gc : ℕ) (ok : IsP
     pub pcp-queued : (wc' oc' : ℕ) → passes (above_ceiling (set keys t key) ceilings) l.held t ≡ false → wc ≤ wc' → oc ≤ oc' → IsPcp ceilings (set keys t key) (record { held = l.held; waiting = l.waiting ++ record { task = t; sem = s } ∷ [] }) hc wc' oc' gc
     pcp-queued wc' oc' pass w o = asked _ hc wc' oc' (ap (λ b. if b then record l { held = record { task = t; sem = s } ∷ l.held } else record l { waiting = l.waiting ++ record { task = t; sem = s } ∷ [] }) pass) (omega arith) w o
 
-    pub held-place : length l.held < hc
-    held-place = omega (arith, held-fits, ok.held_room)
+    pub held-position : length l.held < hc
+    held-position = omega (arith, held-fits, ok.held_room)
 
-    pub waiting-place : length l.waiting < wc
-    waiting-place = omega (arith, one-more-waiting ceilings keys t l ok.sound may.below may.idle, ok.waiting_room)
+    pub waiting-position : length l.waiting < wc
+    waiting-position = omega (arith, one-more-waiting ceilings keys t l ok.sound may.below may.idle, ok.waiting_room)
 
-    pub order-place : length (in_order (above keys) l.waiting) < oc
-    order-place = omega (arith, one-more-waiting ceilings keys t l ok.sound may.below may.idle, length-in_order (above keys) l.waiting, ok.order_room)
+    pub order-position : length (in_order (above keys) l.waiting) < oc
+    order-position = omega (arith, one-more-waiting ceilings keys t l ok.sound may.below may.idle, length-in_order (above keys) l.waiting, ok.order_room)
 
 -- a set whose semaphores nobody holds
 pub pcp-empty : (ceilings keys : List Key) (hc wc oc gc : ℕ) → length keys < 2 ^ 32 → length ceilings + length keys ≤ hc → length keys ≤ wc → length keys ≤ oc → length keys ≤ gc → IsPcp ceilings keys (record { held = []; waiting = [] }) hc wc oc gc

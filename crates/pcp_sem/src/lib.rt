@@ -174,7 +174,7 @@ impl PcpSet {
         self.grants.len() as u32
     }
 
-    /// The task that the last release granted at that place, counted from 0, in order of granting; `None` past the
+    /// The task that the last release granted at that position, counted from 0, in order of granting; `None` past the
     /// last of them, and before the first release.
     ///
     /// Example: `set.granted(0)` is the first task that the last release granted.

@@ -29,7 +29,7 @@ swapped a b c = omega arith
 moved : (a b c d e : ℕ) → b + c ≡ d + e → a + b + c ≡ a + d + e
 moved a b c d e h = omega arith
 
--- one place changes
+-- one position changes
 count-set : (os : List (Option ℕ)) (i t : ℕ) (o : Option ℕ) → i < length os → count_of (set os i o) t + one t (next_of os i) ≡ count_of os t + one t o
 count-set [] i t o low = absurd (omega arith)
 count-set (p ∷ os) zero t o low = swapped (one t o) (one t p) (count_of os t)

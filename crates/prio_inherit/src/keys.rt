@@ -13,14 +13,14 @@ use rt_base::{NoMemory, TaskNo};
 use rt_rules::Key;
 use std::alloc::Global;
 
-/// As many places with no key.
+/// As many positions with no key.
 pub fn no_keys(alloc: Global, room: usize) -> Result<Vec<Option<Key>>, NoMemory>
     ensures { IfOk result (λ v. v.items ≡ replicate room None) }
 {
     Ok(vec![in alloc; None; room]?)
 }
 
-/// As many places with no task.
+/// As many positions with no task.
 pub fn no_tasks(alloc: Global, room: usize) -> Result<Vec<Option<TaskNo>>, NoMemory>
     ensures { IfOk result (λ v. v.items ≡ replicate room None) }
 {
@@ -158,11 +158,11 @@ pub fn raise(nexts: &[Option<TaskNo>], keys: &mut Vec<Key>, start: Option<TaskNo
         let Some(task) = at else {
             return;
         };
-        let place = task.0 as usize;
-        if !key.is_higher(keys[place]) {
+        let position = task.0 as usize;
+        if !key.is_higher(keys[position]) {
             return;
         }
-        keys[place] = key;
-        at = nexts[place];
+        keys[position] = key;
+        at = nexts[position];
     }
 }

@@ -76,9 +76,9 @@ module _ (clock : ℕ) (old : List (Option ℕ)) (i : ℕ) (due : List TaskNo) (
   listed : (b : Bool) → has_come clock (tick_at old i) ≡ b
       → filter (λ t. has_come clock (tick_at old t)) (numbers_from 1 (i + 1 - 1)) ≡ filter (λ t. has_come clock (tick_at old t)) (numbers_from 1 (i - 1)) ++ (if b then i ∷ [] else [])
   listed b come =
-      let place : i - 1 + 1 ≡ i = omega (arith, some) in
+      let position : i - 1 + 1 ≡ i = omega (arith, some) in
       let all : i + 1 - 1 ≡ i - 1 + 1 = omega (arith, some) in
-      rw all (filter-next (λ t. has_come clock (tick_at old t)) (i - 1) b (rw place come) ∙ rw place refl)
+      rw all (filter-next (λ t. has_come clock (tick_at old t)) (i - 1) b (rw position come) ∙ rw position refl)
 
   pub taken-more : (due' : List TaskNo) (t : TaskNo) → t.0 ≡ i → has_come clock (tick_at now i) ≡ true → due' ≡ due ++ t ∷ [] → AreTaken clock old (i + 1) due' (set now i None) next
   taken-more due' t is come more =

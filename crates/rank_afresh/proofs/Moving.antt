@@ -33,7 +33,7 @@ use Rattle.rank_afresh.specs.Facts.{ArePlaced, ArePlacedBut, CanEnd, CanFollow, 
 use Rattle.rank_afresh.specs.declared.ran.Ran.TheVariants as rans
 use Rattle.rank_afresh.specs.Moments.{due_in}
 use Rattle.rank_afresh.specs.Ranks.{AreTasks}
-use Rattle.rank_afresh.proofs.Fitting.{places-stay}
+use Rattle.rank_afresh.proofs.Fitting.{positions-stay}
 use Rattle.rank_afresh.proofs.ModelWords.{map-same}
 use Rattle.rank_afresh.proofs.SetLists.{mapped-but}
 
@@ -79,7 +79,7 @@ end-clocked p tick clock f x left due can low clocked count listed =
     let moved : CanFollow p (record (with_core (core.clocked tick (core_of f)) f) { moments = left; looked = due }) = record {
       read = read-clock MOST_STEPS MOST_STEPS p f.kept (omega arith) can.read tick low;
       keys = can.keys;
-      places = places-stay p f.kept (core.clocked tick (core_of f)).kept f.clusters refl can.places;
+      positions = positions-stay p f.kept (core.clocked tick (core_of f)).kept f.clusters refl can.positions;
       moments = count ∙ can.moments;
     } in
     record {

@@ -56,7 +56,7 @@ module _ (g : Group) (n : ℕ) (inside : n < length g.setup.clusters) where
         here = home-at 0 g.setup.clusters q 0 few ∙ omega (arith, at);
       }
 
-pub homes-opened : (g : Group) → AreHomes (unlinked_clusters g) (record { count = length g.setup.clusters; task_homes = task_homes g.setup.tasks; cpu_homes = homes_from 0 g.setup.clusters; places = [] })
+pub homes-opened : (g : Group) → AreHomes (unlinked_clusters g) (record { count = length g.setup.clusters; task_homes = task_homes g.setup.tasks; cpu_homes = homes_from 0 g.setup.clusters; positions = [] })
 homes-opened g = record {
   count_is = sym (length-unlinked g);
   tasks_at = λ n t h. by_tasks n t (nat_lt n (length g.setup.clusters)) refl h;

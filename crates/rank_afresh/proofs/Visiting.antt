@@ -19,7 +19,7 @@ use Rattle.rank_afresh.specs.Facts.{ArePlacedBut, HaveRenewed, cluster_at}
 use Rattle.rank_afresh.specs.Visits.{AreAllVisited, AreHomes, AreVisited, HasMore, IsRanVisited, IsVisited, VisitFacts}
 use Rattle.rank_afresh.proofs.Renewing.{length-links}
 
--- ---- the list of places
+-- ---- the list of positions
 
 -- there is room for one more
 pub room-left : (n count : ℕ) (ps : List ℕ) → IsDistinct ps → ((m : ℕ) → has m ps ≡ true → m < count) → n < count → has n ps ≡ false → length ps < count
@@ -50,7 +50,7 @@ has-new n ps = has-push n n ps ∙ rw (equal_self n) refl
 -- ---- what is gone to stays so
 
 pub more-again : (u v w : VisitFacts) → HasMore u v → HasMore v w → HasMore u w
-more-again u v w m m' = record { stay = λ n h. m'.stay n (m.stay n h); rest = m'.rest ∙ ap (λ (x : VisitFacts). record x { places = w.places }) m.rest }
+more-again u v w m m' = record { stay = λ n h. m'.stay n (m.stay n h); rest = m'.rest ∙ ap (λ (x : VisitFacts). record x { positions = w.positions }) m.rest }
 
 pub still-visited : (v w : VisitFacts) (homes : List ℕ) (i : ℕ) → HasMore v w → IsVisited v homes i → IsVisited w homes i
 still-visited v w homes i more is = λ n low here. more.stay n (is n (subst (λ m. n < m) (ap (λ (x : VisitFacts). x.count) more.rest) low) here)
@@ -110,7 +110,7 @@ renewed-quiet p f us c none unchanged placed =
 
 -- so does one that is passed over
 module _ (p : Parts) (f : core.Facts) (us : List ℕ) (ran : Ran) (cs : List ClusterFacts) (v : VisitFacts) (n : ℕ) (homes : AreHomes cs v) (visited : AreVisited us f.resvs.changed ran v)
-    (inside : n < length cs) (passed : has n v.places ≡ false) where
+    (inside : n < length cs) (passed : has n v.positions ≡ false) where
   abbrev c : ClusterFacts
   c = cluster_at cs n
 
@@ -159,24 +159,24 @@ homes-set p f us cs v n new inside renewed homes = record {
 
 -- ---- one cluster after the other
 
-pub has-place : (qs : List ℕ) (i : ℕ) → i < length qs → has (get_or qs i 0) qs ≡ true
-has-place [] i h = absurd (omega arith)
-has-place (q ∷ qs) zero h = rw (equal_self q) refl
-has-place (q ∷ qs) (suc i) h = rw (has-place qs i (omega arith)) (or_true (get_or qs i 0 == q))
+pub has-position : (qs : List ℕ) (i : ℕ) → i < length qs → has (get_or qs i 0) qs ≡ true
+has-position [] i h = absurd (omega arith)
+has-position (q ∷ qs) zero h = rw (equal_self q) refl
+has-position (q ∷ qs) (suc i) h = rw (has-position qs i (omega arith)) (or_true (get_or qs i 0 == q))
 
-place-new : (qs : List ℕ) (i : ℕ) → IsDistinct qs → i < length qs → has (get_or qs i 0) (take i qs) ≡ false
-place-new [] i once h = absurd (omega arith)
-place-new (q ∷ qs) zero once h = refl
-place-new (q ∷ qs) (suc i) once h = by_case (get_or qs i 0 == q) refl (place-new qs i once.1 (omega arith)) (has-place qs i (omega arith))
+position-new : (qs : List ℕ) (i : ℕ) → IsDistinct qs → i < length qs → has (get_or qs i 0) (take i qs) ≡ false
+position-new [] i once h = absurd (omega arith)
+position-new (q ∷ qs) zero once h = refl
+position-new (q ∷ qs) (suc i) once h = by_case (get_or qs i 0 == q) refl (position-new qs i once.1 (omega arith)) (has-position qs i (omega arith))
   where
     by_case : (b : Bool) → get_or qs i 0 == q ≡ b → has (get_or qs i 0) (take i qs) ≡ false → has (get_or qs i 0) qs ≡ true → b || has (get_or qs i 0) (take i qs) ≡ false
     by_case true e r there = absurd (clash _ (subst (λ m. has m qs ≡ true) (eqb-true _ q e) there) once.0)
     by_case false e r there = r
 
--- the cluster at the next place
+-- the cluster at the next position
 module _ (qs : List ℕ) (i n : ℕ) (next : n ≡ get_or qs i 0) (once : IsDistinct qs) (inside : i < length qs) where
   pub not-before : has n (take i qs) ≡ false
-  not-before = rw next (place-new qs i once inside)
+  not-before = rw next (position-new qs i once inside)
 
   taken : (m : ℕ) → has m (take (i + 1) qs) ≡ (m == n || has m (take i qs))
   taken m = ap (has m) (take_more qs i 0 inside) ∙ has-push m (get_or qs i 0) (take i qs) ∙ ap (λ k. m == k || has m (take i qs)) (sym next)
@@ -197,15 +197,15 @@ each-set P cs n new low others here m = by_case (cases_eq m n)
 pub visited-as : (us us' vs vs' : List ℕ) (ran : Ran) (v : VisitFacts) → us ≡ us' → vs ≡ vs' → AreVisited us vs ran v → AreVisited us' vs' ran v
 visited-as us us' vs vs' ran v touched changed are = subst (λ xs. AreVisited us' xs ran v) changed (subst (λ xs. AreVisited xs vs ran v) touched are)
 
-pub homes-as : (cs : List ClusterFacts) (v w : VisitFacts) → w ≡ record v { places = w.places } → AreHomes cs v → AreHomes cs w
+pub homes-as : (cs : List ClusterFacts) (v w : VisitFacts) → w ≡ record v { positions = w.positions } → AreHomes cs v → AreHomes cs w
 homes-as cs v w same homes = subst (AreHomes cs) (sym same) (record { count_is = homes.count_is; tasks_at = homes.tasks_at; cpus_at = homes.cpus_at })
 
 -- each cluster is gone to, or stays
 pub each-renewed : (p : Parts) (x : core.Facts) (us : List ℕ) (ran : Ran) (olds cs : List ClusterFacts) (v : VisitFacts) → AreHomes olds v → AreVisited us x.resvs.changed ran v → ArePlacedBut ran x.kept olds
-    → ((m : ℕ) → has m v.places ≡ true → HasRenewed p x us (cluster_at olds m) (cluster_at cs m)) → ((m : ℕ) → has m v.places ≡ false → cluster_at cs m ≡ cluster_at olds m)
+    → ((m : ℕ) → has m v.positions ≡ true → HasRenewed p x us (cluster_at olds m) (cluster_at cs m)) → ((m : ℕ) → has m v.positions ≡ false → cluster_at cs m ≡ cluster_at olds m)
     → HaveRenewed p x us olds cs
-each-renewed p x us ran olds cs v homes visited placed done rest m inside = by_case (has m v.places) refl
+each-renewed p x us ran olds cs v homes visited placed done rest m inside = by_case (has m v.positions) refl
   where
-    by_case : (b : Bool) → has m v.places ≡ b → HasRenewed p x us (cluster_at olds m) (cluster_at cs m)
+    by_case : (b : Bool) → has m v.positions ≡ b → HasRenewed p x us (cluster_at olds m) (cluster_at cs m)
     by_case true e = done m e
     by_case false e = subst (HasRenewed p x us (cluster_at olds m)) (sym (rest m e)) (renewed-passed p x us ran olds v m homes visited inside e (placed m inside))

@@ -3,11 +3,11 @@ use Rattle.std.specs.Prelude.{ℕ, suc, List, [], ◌∷◌, ◌++◌, map, repl
 use Rattle.rt_task.specs.declared.Cluster.{Cluster}
 use Rattle.rt_task.specs.declared.Task.{Task}
 
--- by the processor's number the place of its cluster, where the first cluster has place c
+-- by the processor's number the position of its cluster, where the first cluster has position c
 abbrev pub homes_from : ℕ → List Cluster → List ℕ
 homes_from c [] = []
 homes_from c (k ∷ ks) = replicate k.cpus c ++ homes_from (suc c) ks
 
--- by the task's number, which is from 1 on, the place of its cluster
+-- by the task's number, which is from 1 on, the position of its cluster
 abbrev pub task_homes : List Task → List ℕ
 task_homes ts = 0 ∷ map (λ (t : Task). t.cluster.0) ts

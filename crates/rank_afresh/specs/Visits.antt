@@ -6,30 +6,30 @@ use Rattle.rank_afresh.specs.declared.ran.Ran.TheVariants as rans
 use Rattle.rank_afresh.specs.Clusters.{ClusterFacts, has_cpu}
 use Rattle.rank_afresh.specs.Facts.{cluster_at}
 
--- how many clusters there are, by the numbers of tasks and of processors the places of their clusters, and the places to go to
+-- how many clusters there are, by the numbers of tasks and of processors the positions of their clusters, and the positions to go to
 pub record VisitFacts : Type 0 where
   pub count : ℕ
   pub task_homes : List ℕ
   pub cpu_homes : List ℕ
-  pub places : List ℕ
+  pub positions : List ℕ
 
--- the place at this number is n
+-- the position at this number is n
 pub record IsHome (homes : List ℕ) (i n : ℕ) : Type 0 where
   pub inside : i < length homes
   pub here : slice_index_or homes i 0 ≡ n
 
--- with more places
+-- with more positions
 pub record HasMore (old new : VisitFacts) : Type 0 where
-  pub stay : (n : ℕ) → has n old.places ≡ true → has n new.places ≡ true
-  pub rest : new ≡ record old { places = new.places }
+  pub stay : (n : ℕ) → has n old.positions ≡ true → has n new.positions ≡ true
+  pub rest : new ≡ record old { positions = new.positions }
 
--- the cluster whose place is at this number is gone to
+-- the cluster whose position is at this number is gone to
 abbrev pub IsVisited : VisitFacts → List ℕ → ℕ → Type 0
-IsVisited v homes i = (n : ℕ) → n < v.count → IsHome homes i n → has n v.places ≡ true
+IsVisited v homes i = (n : ℕ) → n < v.count → IsHome homes i n → has n v.positions ≡ true
 
 -- each cluster is
 abbrev pub AreAllVisited : VisitFacts → Type 0
-AreAllVisited v = (n : ℕ) → n < v.count → has n v.places ≡ true
+AreAllVisited v = (n : ℕ) → n < v.count → has n v.positions ≡ true
 
 -- each cluster on whose processors what runs may be another is
 abbrev pub IsRanVisited : VisitFacts → Ran → Type 0

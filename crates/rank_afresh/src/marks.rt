@@ -24,11 +24,11 @@ fn mark(marks: &mut [bool], task: Option<TaskNo>)
     let Some(task) = task else {
         return;
     };
-    let place = task.0 as usize;
-    if place >= marks.len() {
+    let position = task.0 as usize;
+    if position >= marks.len() {
         return;
     }
-    marks[place] = true;
+    marks[position] = true;
 }
 
 /// Marks these tasks, and no others.
@@ -42,13 +42,13 @@ pub(crate) fn mark_tasks(marks: &mut [bool], tasks: &[TaskNo])
     }
 }
 
-/// Marks the tasks that stand in these places, and no others.
-pub(crate) fn mark_places(marks: &mut [bool], places: &[Option<TaskNo>])
+/// Marks the tasks that stand in these positions, and no others.
+pub(crate) fn mark_linked(marks: &mut [bool], positions: &[Option<TaskNo>])
     ensures { (t : ℕ) → t < length marks.old → slice_index_or marks.new t false
-        ≡ has t (tasks_in (numbers_of_tasks places.now)) }
+        ≡ has t (tasks_in (numbers_of_tasks positions.now)) }
 {
     marks.fill(false);
-    for task in places {
+    for task in positions {
         mark(marks, *task);
     }
 }

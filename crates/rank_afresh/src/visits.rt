@@ -11,16 +11,16 @@ use rt_base::{NoMemory, TaskNo};
 use std::alloc::Global;
 use std::marker::Model;
 
-/// The places of the clusters to go to, each once; and where each task and processor is at home, by which they are found.
+/// The positions of the clusters to go to, each once; and where each task and processor is at home, by which they are found.
 #[derive(Drop)]
 pub(crate) struct Visits {
     // How many clusters there are.
     count: usize,
-    // By a task's number the place of its cluster.
+    // By a task's number the position of its cluster.
     task_homes: Vec<usize>,
-    // By a processor's number the place of its cluster.
+    // By a processor's number the position of its cluster.
     cpu_homes: Vec<usize>,
-    places: Vec<usize>,
+    positions: Vec<usize>,
 }
 
 impl Model for Visits {
@@ -35,15 +35,15 @@ impl Model for Visits {
       count = a.count;
       task_homes = a.task_homes.items;
       cpu_homes = a.cpu_homes.items;
-      places = a.places.items;
+      positions = a.positions.items;
     } };
 
-    ghost invariant = { λ a. IsDistinct a.places.items
-        × ((n : ℕ) → has n a.places.items ≡ true → n < a.count)
-        × (a.count ≤ vec_capacity a.places) };
+    ghost invariant = { λ a. IsDistinct a.positions.items
+        × ((n : ℕ) → has n a.positions.items ≡ true → n < a.count)
+        × (a.count ≤ vec_capacity a.positions) };
 }
 
-/// The place at the number, if there is one.
+/// The position at the number, if there is one.
 fn home_at(homes: &[usize], number: u32) -> Option<usize>
     ensures { (n : ℕ) → IsHome homes.now number n → result ≡ Some n }
 {
@@ -65,48 +65,48 @@ impl Visits {
           count = count;
           task_homes = task_homes.items;
           cpu_homes = cpu_homes.items;
-          places = [];
+          positions = [];
         }) }
     {
         Ok(Visits {
             count,
             task_homes,
             cpu_homes,
-            places: with_room(alloc, count)?,
+            positions: with_room(alloc, count)?,
         })
     }
 
-    /// The places of the clusters to go to.
-    pub(crate) fn places(&self) -> &[usize]
-        ensures places { result.now ≡ self.now.places }
+    /// The positions of the clusters to go to.
+    pub(crate) fn positions(&self) -> &[usize]
+        ensures positions { result.now ≡ self.now.positions }
         ensures once { IsDistinct result.now }
         ensures inside { (n : ℕ) → has n result.now ≡ true → n < self.now.count }
     {
-        self.places.as_slice()
+        self.positions.as_slice()
     }
 
-    /// Whether the cluster at the place is to be gone to.
-    fn has(&self, place: usize) -> bool
-        ensures { result ≡ has place self.now.places }
+    /// Whether the cluster at the position is to be gone to.
+    fn has(&self, position: usize) -> bool
+        ensures { result ≡ has position self.now.positions }
     {
-        for other in self.places.as_slice() {
-            if place == *other {
+        for other in self.positions.as_slice() {
+            if position == *other {
                 return true;
             }
         }
         false
     }
 
-    /// Adds the cluster at the place, if there is one.
-    fn add(&mut self, place: Option<usize>)
+    /// Adds the cluster at the position, if there is one.
+    fn add(&mut self, position: Option<usize>)
         ensures more { HasMore self.old self.new }
-        ensures added { (n : ℕ) → place ≡ Some n → n < self.old.count → has n self.new.places ≡ true }
+        ensures added { (n : ℕ) → position ≡ Some n → n < self.old.count → has n self.new.positions ≡ true }
     {
-        let Some(place) = place else {
+        let Some(position) = position else {
             return;
         };
-        if place < self.count && !self.has(place) {
-            self.places.push_reserved(place);
+        if position < self.count && !self.has(position) {
+            self.positions.push_reserved(position);
         }
     }
 
@@ -127,8 +127,8 @@ impl Visits {
         ensures more { HasMore self.old self.new }
         ensures all { AreAllVisited self.new }
     {
-        for place in 0..self.count {
-            self.add(Some(place));
+        for position in 0..self.count {
+            self.add(Some(position));
         }
     }
 
@@ -151,12 +151,12 @@ impl Visits {
     /// stays listed.
     pub(crate) fn list(&mut self, touched: &[TaskNo], changed: &[TaskNo], ran: Ran)
         ensures visited { AreVisited (numbers touched.now) (numbers changed.now) ran self.new }
-        ensures rest { self.new ≡ record self.old { places = self.new.places } }
+        ensures rest { self.new ≡ record self.old { positions = self.new.positions } }
     {
-        if self.count == 1 && self.places.len() == 1 {
+        if self.count == 1 && self.positions.len() == 1 {
             return;
         }
-        self.places.clear();
+        self.positions.clear();
         self.add_homes(touched);
         self.add_homes(changed);
         self.add_ran(ran);

@@ -9,8 +9,8 @@ abbrev pub node_in : Slab Node → Option ℕ → Option Node
 node_in nodes None = None
 node_in nodes (Some at) = get nodes at
 
-abbrev pub with_place : ℕ → Node → Node
-with_place place n = record n { place = place }
+abbrev pub with_position : ℕ → Node → Node
+with_position position n = record n { position = position }
 
 abbrev pub with_key : Key → Node → Node
 with_key key n = record n { key = key }

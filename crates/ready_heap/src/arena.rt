@@ -1,6 +1,6 @@
 //! The nodes of tasks: each in a slab, with its slab key kept by the task's number.
 ghost use Rattle.std.specs.Prelude.{◌≡◌, ◌<◌, IfOk, IsSome, None, Some, length, option_map, replicate, slice_index_or, slice_set};
-ghost use Rattle.ready_heap.specs.Arena.{with_key, with_place};
+ghost use Rattle.ready_heap.specs.Arena.{with_key, with_position};
 
 use rt_base::{NoMemory, TaskNo};
 use rt_rules::Key;
@@ -8,11 +8,11 @@ use slab::Slab;
 use std::alloc::Global;
 use std::marker::Model;
 
-/// What a heap has of a task: its key, and its place in the heap.
+/// What a heap has of a task: its key, and its position in the heap.
 #[derive(Clone, Copy)]
 pub(crate) struct Node {
     pub(crate) key: Key,
-    pub(crate) place: usize,
+    pub(crate) position: usize,
 }
 
 /// The nodes by task number, seen as a list: at each number below the room its node, or none.
@@ -76,15 +76,15 @@ impl Arena {
         }
     }
 
-    /// Sets the place of the task's node, if it has one.
-    pub(crate) fn move_to(&mut self, task: TaskNo, place: usize)
+    /// Sets the position of the task's node, if it has one.
+    pub(crate) fn move_to(&mut self, task: TaskNo, position: usize)
         requires { task.0 < length self.old }
         ensures { self.new ≡ slice_set self.old task.0
-            (option_map (with_place place) (slice_index_or self.old task.0 None)) }
+            (option_map (with_position position) (slice_index_or self.old task.0 None)) }
     {
         if let Some(at) = self.kept[task.0 as usize] {
             if let Some(node) = self.nodes.get_mut(at) {
-                node.place = place;
+                node.position = position;
             }
         }
     }

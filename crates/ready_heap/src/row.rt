@@ -1,4 +1,4 @@
-//! Tasks in a row, each found by its place and by its number.
+//! Tasks in a row, each found by its position and by its number.
 ghost use Rattle.std.specs.Prelude.{◌≡◌, ◌^◌, ◌<◌, IfOk, IfSome, IsSome, None, Some, [], is_some, length, replicate, slice_set};
 ghost use Rattle.ready_heap.specs.Row.{key_at, task_at, IsPopped, IsPushed, IsRow, IsSwapped};
 
@@ -48,32 +48,32 @@ impl TaskRow {
         self.tasks.len()
     }
 
-    /// The task at a place.
-    pub(crate) fn task(&self, place: usize) -> TaskNo
-        requires { place < length self.now.tasks }
-        ensures { result.0 ≡ task_at self.now place }
+    /// The task at a position.
+    pub(crate) fn task(&self, position: usize) -> TaskNo
+        requires { position < length self.now.tasks }
+        ensures { result.0 ≡ task_at self.now position }
     {
-        self.tasks[place]
+        self.tasks[position]
     }
 
-    /// The key of the task at a place.
-    pub(crate) fn key(&self, place: usize) -> Key
-        requires { place < length self.now.tasks }
-        ensures { key_at self.now.keys (task_at self.now place) ≡ Some result }
+    /// The key of the task at a position.
+    pub(crate) fn key(&self, position: usize) -> Key
+        requires { position < length self.now.tasks }
+        ensures { key_at self.now.keys (task_at self.now position) ≡ Some result }
     {
-        self.keys[place]
+        self.keys[position]
     }
 
-    /// The place of a task, if it is in the row.
-    pub(crate) fn place(&self, task: TaskNo) -> Option<usize>
+    /// The position of a task, if it is in the row.
+    pub(crate) fn position(&self, task: TaskNo) -> Option<usize>
         requires { task.0 < length self.now.keys }
-        ensures found { IfSome result (λ place. (place < length self.now.tasks) ×
-            (task_at self.now place ≡ task.0)) }
+        ensures found { IfSome result (λ position. (position < length self.now.tasks) ×
+            (task_at self.now position ≡ task.0)) }
         ensures there { is_some result ≡ is_some (key_at self.now.keys task.0) }
         ensures sound { IsRow self.now }
     {
         match self.arena.get(task) {
-            Some(node) => Some(node.place),
+            Some(node) => Some(node.position),
             None => None,
         }
     }
@@ -85,13 +85,13 @@ impl TaskRow {
         ensures pushed { IsPushed self.old self.new task.0 key }
         ensures sound { IsRow self.new }
     {
-        let place = self.tasks.len();
-        self.arena.insert(task, Node { key, place });
+        let position = self.tasks.len();
+        self.arena.insert(task, Node { key, position });
         self.tasks.push_reserved(task);
         self.keys.push_reserved(key);
     }
 
-    /// Swaps the tasks of two places.
+    /// Swaps the tasks of two positions.
     pub(crate) fn swap(&mut self, i: usize, j: usize)
         requires first { i < length self.old.tasks }
         requires second { j < length self.old.tasks }
@@ -122,16 +122,16 @@ impl TaskRow {
         self.arena.remove(task);
     }
 
-    /// Gives the task at a place another key.
-    pub(crate) fn rekey(&mut self, place: usize, key: Key)
-        requires { place < length self.old.tasks }
+    /// Gives the task at a position another key.
+    pub(crate) fn rekey(&mut self, position: usize, key: Key)
+        requires { position < length self.old.tasks }
         ensures rekeyed { self.new ≡ record self.old {
-          keys = slice_set self.old.keys (task_at self.old place) (Some key);
+          keys = slice_set self.old.keys (task_at self.old position) (Some key);
         } }
         ensures sound { IsRow self.new }
     {
-        let task = self.tasks[place];
-        self.keys[place] = key;
+        let task = self.tasks[position];
+        self.keys[position] = key;
         self.arena.rekey(task, key);
     }
 }

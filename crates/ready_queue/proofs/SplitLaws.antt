@@ -89,11 +89,11 @@ holds-all keys = record {
     below n t h = let low = numbers_from-below t 0 n h in omega (arith, low)
 
     beyond : (ks : List (Option Key)) (t : ℕ) → has t (numbers_from 0 (length ks)) ≡ false → key_at ks t ≡ None
-    beyond ks t h = by_place (nat_lt t (length ks)) refl
+    beyond ks t h = by_position (nat_lt t (length ks)) refl
       where
-        by_place : (b : Bool) → nat_lt t (length ks) ≡ b → key_at ks t ≡ None
-        by_place true e = absurd (clash _ (numbers_from-has 0 (length ks) t (omega arith) (grind (arith, nat_tests, e))) h)
-        by_place false e = get_or_past ks t None (grind (arith, nat_tests, e))
+        by_position : (b : Bool) → nat_lt t (length ks) ≡ b → key_at ks t ≡ None
+        by_position true e = absurd (clash _ (numbers_from-has 0 (length ks) t (omega arith) (grind (arith, nat_tests, e))) h)
+        by_position false e = get_or_past ks t None (grind (arith, nat_tests, e))
 
     by_case : (t : ℕ) (b : Bool) → has t (numbers_from 0 (length keys)) ≡ b → (o : Option Key) → key_at keys t ≡ o
         → key_at keys t ≡ cond (b && is_in keys t) (Some (key_in keys t)) None

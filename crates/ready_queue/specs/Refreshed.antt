@@ -12,7 +12,7 @@ pub record AgreeBut (touched ts : List ℕ) (key key' : ℕ → Key) (test test'
   pub tests : (t : ℕ) → has t ts ≡ true → has t touched ≡ false → test t ≡ test' t
   pub keys : (t : ℕ) → has t ts ≡ true → has t touched ≡ false → test t ≡ true → key t ≡ key' t
 
--- a task is taken out, and put back in its place where it passes
+-- a task is taken out, and put back in its position where it passes
 abbrev pub put_back : (ℕ → Key) → (ℕ → Bool) → ℕ → List Ranked → List Ranked
 put_back key test t rs = if test t then inserted (record { key = key t; task = t }) (without_task t rs) else without_task t rs
 

@@ -117,14 +117,14 @@ impl ReadyQueue {
         if taken.is_none() {
             return put;
         }
-        // The task is still one of the first ones, and what came in its place has left again.
+        // The task is still one of the first ones, and what came in its position has left again.
         Exchange {
             left: None,
             came: None,
         }
     }
 
-    // Whether the task was one of the first ones, and which task came in its place.
+    // Whether the task was one of the first ones, and which task came in its position.
     fn take_out(&mut self, task: TaskNo) -> Exchange
         requires { task.0 < length self.old.keys }
         ensures keys { self.new ≡ record self.old { keys = slice_set self.old.keys task.0 None } }

@@ -95,13 +95,13 @@ all-at p xs i d h low = by_case (p (get_or xs i d)) refl
 -- ---- the reservations of a valid set
 
 module _ (p : Parts) (valid : IsValid p) (e : Resv) where
-  at-place : (i : ℕ) → i < length p.resvs → get_or (map draft_resv p.resvs) i (draft_resv e) ≡ draft_resv (get_or p.resvs i e)
-  at-place i low = get_or-map draft_resv p.resvs i e (draft_resv e) low
+  at-position : (i : ℕ) → i < length p.resvs → get_or (map draft_resv p.resvs) i (draft_resv e) ≡ draft_resv (get_or p.resvs i e)
+  at-position i low = get_or-map draft_resv p.resvs i e (draft_resv e) low
 
   -- each is in range
   pub ranged : (i : ℕ) → i < length p.resvs → resv_range (draft_of p) (take i (map draft_resv p.resvs)) (draft_resv (get_or p.resvs i e)) ≡ true
   ranged i low =
-      ap (resv_range (draft_of p) (take i (map draft_resv p.resvs))) (sym (at-place i low))
+      ap (resv_range (draft_of p) (take i (map draft_resv p.resvs))) (sym (at-position i low))
       ∙ pairs (resv_range (draft_of p)) [] (map draft_resv p.resvs) i (draft_resv e) (each-none kinds.Range parts.Resv (first_failing (resv_range (draft_of p)) [] (map draft_resv p.resvs)) (all-none (range_rows (draft_of p)) (rows-none p valid).0).1.1.0) (omega (arith, low, length-map p.resvs draft_resv))
 
   shared : (j : ℕ) → j < length p.resvs → list_all (λ q. fit_together q (get_or (map draft_resv p.resvs) j (draft_resv e))) (take j (map draft_resv p.resvs)) ≡ true
@@ -116,6 +116,6 @@ module _ (p : Parts) (valid : IsValid p) (e : Resv) where
       let inside : i < length (take j (map draft_resv p.resvs)) = omega (arith, before, low, wide, length-take j (map draft_resv p.resvs)) in
       let x : DraftResv = get_or (map draft_resv p.resvs) j (draft_resv e) in
       let one = all-at (λ q. fit_together q x) (take j (map draft_resv p.resvs)) i (draft_resv e) (shared j low) inside in
-      ap (λ (a : DraftResv). fit_together a (draft_resv (get_or p.resvs j e))) (sym (at-place i (omega (arith, before, low))) ∙ sym (get_or-take j (map draft_resv p.resvs) i (draft_resv e) before))
-      ∙ ap (fit_together (get_or (take j (map draft_resv p.resvs)) i (draft_resv e))) (sym (at-place j low))
+      ap (λ (a : DraftResv). fit_together a (draft_resv (get_or p.resvs j e))) (sym (at-position i (omega (arith, before, low))) ∙ sym (get_or-take j (map draft_resv p.resvs) i (draft_resv e) before))
+      ∙ ap (fit_together (get_or (take j (map draft_resv p.resvs)) i (draft_resv e))) (sym (at-position j low))
       ∙ one

@@ -7,7 +7,7 @@ use Rattle.rt_rules.specs.declared.history.Reply.{Reply}
 use Rattle.rt_rules.specs.declared.history.Reply.TheVariants as replies
 use Rattle.rt_rules.specs.Distinct.{IsDistinct}
 use Rattle.rt_rules.specs.Numbers.{has, is, numbers_from}
-use Rattle.rt_rules.specs.Placing.{tasks_in, placed, at_place}
+use Rattle.rt_rules.specs.Placing.{tasks_in, placed, link_at}
 use Rattle.rt_model.specs.Group.{Group, cpus, cluster, processors, first_cpu, cluster_with, first_in, cluster_in, no_cluster}
 use Rattle.rt_model.specs.Histories.{past_from, past_of, after, LinksAreTheTop}
 use Rattle.rt_model.specs.Links.{runs_of, links, linked}
@@ -71,11 +71,11 @@ one_processor t p q f (r ∷ ps) d hp hq k m = by_cases (p == r) (q == r) refl r
     by_cases false true e g x y rest = let same : q ≡ r = eqb-true q r g in let n = distinct-head t (f r) (map f ps) d (rw same at m) in let o = map-has t p f ps x k in cc
     by_cases false false e g x y rest = rest x y k m
 
-pub at_place-numbers : (f : ℕ → Option ℕ) (a n q : ℕ) → has q (numbers_from a n) ≡ true → at_place (map f (numbers_from a n)) (q - a) ≡ f q
-at_place-numbers f a zero q h = cc
-at_place-numbers f a (suc n) q h = by_case (q == a) refl h (at_place-numbers f (suc a) n q)
+pub link_at-numbers : (f : ℕ → Option ℕ) (a n q : ℕ) → has q (numbers_from a n) ≡ true → link_at (map f (numbers_from a n)) (q - a) ≡ f q
+link_at-numbers f a zero q h = cc
+link_at-numbers f a (suc n) q h = by_case (q == a) refl h (link_at-numbers f (suc a) n q)
   where
-    by_case : (b : Bool) → q == a ≡ b → b || has q (numbers_from (suc a) n) ≡ true → (has q (numbers_from (suc a) n) ≡ true → at_place (map f (numbers_from (suc a) n)) (q - suc a) ≡ f q) → at_place (f a ∷ map f (numbers_from (suc a) n)) (q - a) ≡ f q
+    by_case : (b : Bool) → q == a ≡ b → b || has q (numbers_from (suc a) n) ≡ true → (has q (numbers_from (suc a) n) ≡ true → link_at (map f (numbers_from (suc a) n)) (q - suc a) ≡ f q) → link_at (f a ∷ map f (numbers_from (suc a) n)) (q - a) ≡ f q
     by_case true e k rest = let same : q ≡ a = eqb-true q a e in let none : q - a ≡ 0 = omega arith in rw (none, same)
     by_case false e k rest = let above : suc a ≤ q = has-numbers_from q (suc a) n k in let one_more : q - a ≡ suc (q - suc a) = omega arith in rw one_more (rest k)
 
@@ -134,7 +134,7 @@ unfolding runs
 none_runs [] = tt
 none_runs (p ∷ ps) = none_runs ps
 
-linked-home : (g : Group) (c q : ℕ) (past : Past) → cluster_with g q ≡ c → linked g q past ≡ at_place (links g c past) (q - first_cpu g c)
+linked-home : (g : Group) (c q : ℕ) (past : Past) → cluster_with g q ≡ c → linked g q past ≡ link_at (links g c past) (q - first_cpu g c)
 unfolding linked
 linked-home g c q past e = rw e
 
@@ -154,8 +154,8 @@ runs_of-acted g c q act past home s =
         clash (inl m) = other (one_processor t q p (λ r. runs r past) (processors g c) s.runs_distinct hq hp m k)
         clash (inr m) =
             let l : is t (linked g q past) ≡ true = answer-runs_link g q t act past (rw past_act-reply at m) in
-            let there : is t (at_place (links g c past) (q - first_cpu g c)) ≡ true = rw (← linked-home g c q past (home q hq)) l in
-            let runs_there : is t (at_place (runs_of g c past) (p - first_cpu g c)) ≡ true = rw (at_place-numbers (λ r. runs r past) (first_cpu g c) (cpus g c) p hp) k in
+            let there : is t (link_at (links g c past) (q - first_cpu g c)) ≡ true = rw (← linked-home g c q past (home q hq)) l in
+            let runs_there : is t (link_at (runs_of g c past) (p - first_cpu g c)) ≡ true = rw (link_at-numbers (λ r. runs r past) (first_cpu g c) (cpus g c) p hp) k in
             let same : q - first_cpu g c ≡ p - first_cpu g c = links-runs t (top g c past) (runs_of g c past) s.before _ _ (distinct-top g c past) s.runs_distinct s.before_distinct (length-runs_of g c past ∙ sym s.before_length) (omega (arith, length-top g c past, length-runs_of g c past)) (rw s.links_are at there) runs_there in
             let from_q : first_cpu g c ≤ q = has-numbers_from q (first_cpu g c) (cpus g c) hq in
             let from_p : first_cpu g c ≤ p = has-numbers_from p (first_cpu g c) (cpus g c) hp in

@@ -1,7 +1,7 @@
 -- Link-based scheduling (Block, Leontyev, Brandenburg and Anderson, RTCSA 2007): links, and pending interrupts.
 use Rattle.std.specs.Prelude.{ℕ, Bool, not, List, [], ◌∷◌, Option, ◌-◌, map}
 use Rattle.rt_rules.specs.Numbers.{same}
-use Rattle.rt_rules.specs.Placing.{placed, at_place}
+use Rattle.rt_rules.specs.Placing.{placed, link_at}
 use Rattle.rt_model.specs.Group.{Group, first_cpu, processors, cluster_with}
 use Rattle.rt_model.specs.Past.{Past}
 use Rattle.rt_model.specs.Runs.{runs}
@@ -17,7 +17,7 @@ module _ (g : Group) where
   links c (e ∷ past) = placed (top g c (e ∷ past)) (runs_of c (e ∷ past)) (links c past)
 
   unfoldable pub linked : ℕ → Past → Option ℕ
-  linked q past = at_place (links (cluster_with g q) past) (q - first_cpu g (cluster_with g q))
+  linked q past = link_at (links (cluster_with g q) past) (q - first_cpu g (cluster_with g q))
 
   -- an interrupt is pending where what a processor runs is not its link
   unfoldable pub pending : ℕ → Past → Bool

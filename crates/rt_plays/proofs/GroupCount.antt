@@ -23,7 +23,7 @@ use Rattle.rt_plays.specs.Plays.{group_count}
 use Rattle.rt_laws.proofs.Rules.{MeetsRules}
 use Rattle.rt_laws.proofs.ValidSets.{rules_of}
 use Rattle.rt_plays.specs.Groups.{IsGroupOf}
-use Rattle.rt_plays.specs.Places.{GroupsAreCounted}
+use Rattle.rt_plays.specs.AtHome.{GroupsAreCounted}
 use Rattle.rt_plays.proofs.ValidRows.{first-passes, passes_rows}
 
 -- a cluster is of the group

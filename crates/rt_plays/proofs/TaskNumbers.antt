@@ -4,8 +4,8 @@ use Rattle.rt_task.specs.Validity.{IsValid}
 use Rattle.rt_rules.specs.Numbers.{has}
 use Rattle.rt_model.specs.Group.{Group, task, tasks}
 use Rattle.rt_plays.specs.Limits.{IsInLimits}
-use Rattle.rt_plays.specs.Places.{IsHomeTask}
-use Rattle.rt_plays.proofs.GroupPlaces.{tasks_are_at_home}
+use Rattle.rt_plays.specs.AtHome.{IsHomeTask}
+use Rattle.rt_plays.proofs.AtHomeLaws.{tasks_are_at_home}
 use Rattle.rt_plays.proofs.SetLimits.{sets_are_in_limits}
 
 pub task-number : (g : Group) (t : ℕ) → IsValid g.setup → has t (tasks g) ≡ true → (task g t).number.0 ≡ t

@@ -1,7 +1,7 @@
 //! What a valid setup says of its groups and of its numbers. Each function has a law as its contract, and does nothing.
 
 ghost use Rattle.rt_plays.specs.Limits.{SetsAreInLimits};
-ghost use Rattle.rt_plays.specs.Places.{GroupsAreCounted, ProcessorsAreAtHome, TasksAreAtHome};
+ghost use Rattle.rt_plays.specs.AtHome.{GroupsAreCounted, ProcessorsAreAtHome, TasksAreAtHome};
 
 /// The numbers of a valid setup are within the limits.
 pub fn sets_are_in_limits()

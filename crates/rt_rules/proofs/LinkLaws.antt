@@ -3,7 +3,7 @@ use Rattle.std.proofs.Common.{Bool, List, [], ap, arith, false, inl, inr, length
 use Rattle.std.specs.Prelude.{None, Option, Some, ◌==◌}
 use Rattle.rt_rules.specs.Distinct.{IsDistinct}
 use Rattle.rt_rules.specs.Numbers.{has, is}
-use Rattle.rt_rules.specs.Placing.{at_place, filled, is_of, kept, placed, tasks_in}
+use Rattle.rt_rules.specs.Placing.{link_at, filled, is_of, kept, placed, tasks_in}
 use Rattle.rt_rules.proofs.BoolLaws.{either, or_true, unless, neither}
 use Rattle.rt_rules.proofs.MemberLaws.{equal_self, has-filter}
 use Rattle.rt_rules.proofs.PlacingLaws.{beside, distinct-filter, distinct-head, distinct-kept, distinct-tail, has-placed, has-tasks_in, is-is_of, length-kept}
@@ -64,7 +64,7 @@ distinct-placed top runs links dt dr dl =
 
 -- ---- a processor that runs one of the top keeps it
 
-is-filled : (t : ℕ) (ls : List (Option ℕ)) (ts : List ℕ) (k : ℕ) → is t (at_place ls k) ≡ true → is t (at_place (filled ls ts) k) ≡ true
+is-filled : (t : ℕ) (ls : List (Option ℕ)) (ts : List ℕ) (k : ℕ) → is t (link_at ls k) ≡ true → is t (link_at (filled ls ts) k) ≡ true
 is-filled t [] ts k h = h
 is-filled t (Some u ∷ ls) ts zero h = h
 is-filled t (Some u ∷ ls) ts (suc k) h = is-filled t ls ts k h
@@ -73,31 +73,31 @@ is-filled t (None ∷ ls) [] (suc k) h = is-filled t ls [] k h
 is-filled t (None ∷ ls) (u ∷ ts) zero h = cc
 is-filled t (None ∷ ls) (u ∷ ts) (suc k) h = is-filled t ls ts k h
 
-is-kept : (t : ℕ) (top running : List ℕ) (rs ls : List (Option ℕ)) (k : ℕ) → length rs ≡ length ls → is t (at_place rs k) ≡ true → has t top ≡ true → is t (at_place (kept top running rs ls) k) ≡ true
+is-kept : (t : ℕ) (top running : List ℕ) (rs ls : List (Option ℕ)) (k : ℕ) → length rs ≡ length ls → is t (link_at rs k) ≡ true → has t top ≡ true → is t (link_at (kept top running rs ls) k) ≡ true
 is-kept t top running [] ls k e h there = cc
 is-kept t top running (r ∷ rs) [] k e h there = absurd (omega arith)
 is-kept t top running (r ∷ rs) (l ∷ ls) zero e h there = let of_top : is_of top r ≡ true = is-is_of t top r h ∙ there in rw of_top h
 is-kept t top running (r ∷ rs) (l ∷ ls) (suc k) e h there = is-kept t top running rs ls k (omega arith) h there
 
-pub has-at_place : (t : ℕ) (ls : List (Option ℕ)) (k : ℕ) → is t (at_place ls k) ≡ true → has t (tasks_in ls) ≡ true
-has-at_place t [] k h = cc
-has-at_place t (l ∷ ls) zero h = rw (has-tasks_in t l ls, h)
-has-at_place t (l ∷ ls) (suc k) h = rw (has-tasks_in t l ls, has-at_place t ls k h) (or_true (is t l))
+pub has-link_at : (t : ℕ) (ls : List (Option ℕ)) (k : ℕ) → is t (link_at ls k) ≡ true → has t (tasks_in ls) ≡ true
+has-link_at t [] k h = cc
+has-link_at t (l ∷ ls) zero h = rw (has-tasks_in t l ls, h)
+has-link_at t (l ∷ ls) (suc k) h = rw (has-tasks_in t l ls, has-link_at t ls k h) (or_true (is t l))
 
-pub one_place : (t : ℕ) (ls : List (Option ℕ)) (i j : ℕ) → IsDistinct (tasks_in ls) → is t (at_place ls i) ≡ true → is t (at_place ls j) ≡ true → i ≡ j
-one_place t [] i j d h k = cc
-one_place t (l ∷ ls) zero zero d h k = refl
-one_place t (l ∷ ls) zero (suc j) d h k = let n = distinct-head t l ls d h in let m = has-at_place t ls j k in cc
-one_place t (l ∷ ls) (suc i) zero d h k = let n = distinct-head t l ls d k in let m = has-at_place t ls i h in cc
-one_place t (l ∷ ls) (suc i) (suc j) d h k = ap suc (one_place t ls i j (distinct-tail l ls d) h k)
+pub one_link : (t : ℕ) (ls : List (Option ℕ)) (i j : ℕ) → IsDistinct (tasks_in ls) → is t (link_at ls i) ≡ true → is t (link_at ls j) ≡ true → i ≡ j
+one_link t [] i j d h k = cc
+one_link t (l ∷ ls) zero zero d h k = refl
+one_link t (l ∷ ls) zero (suc j) d h k = let n = distinct-head t l ls d h in let m = has-link_at t ls j k in cc
+one_link t (l ∷ ls) (suc i) zero d h k = let n = distinct-head t l ls d k in let m = has-link_at t ls i h in cc
+one_link t (l ∷ ls) (suc i) (suc j) d h k = ap suc (one_link t ls i j (distinct-tail l ls d) h k)
 
 -- a task that is linked at one place and runs at another is not of two places
-pub links-runs : (t : ℕ) (top : List ℕ) (runs links : List (Option ℕ)) (i j : ℕ) → IsDistinct top → IsDistinct (tasks_in runs) → IsDistinct (tasks_in links) → length runs ≡ length links → length top ≤ length runs → is t (at_place (placed top runs links) i) ≡ true → is t (at_place runs j) ≡ true → i ≡ j
+pub links-runs : (t : ℕ) (top : List ℕ) (runs links : List (Option ℕ)) (i j : ℕ) → IsDistinct top → IsDistinct (tasks_in runs) → IsDistinct (tasks_in links) → length runs ≡ length links → length top ≤ length runs → is t (link_at (placed top runs links) i) ≡ true → is t (link_at runs j) ≡ true → i ≡ j
 links-runs t top runs links i j dt dr dl same_length fits h k =
-    let there : has t top ≡ true = sym (has-placed t top runs links dt dr dl same_length fits) ∙ has-at_place t (placed top runs links) i h in
+    let there : has t top ≡ true = sym (has-placed t top runs links dt dr dl same_length fits) ∙ has-link_at t (placed top runs links) i h in
     let ks : List (Option ℕ) = kept top (tasks_in runs) runs links in
-    let stays : is t (at_place (placed top runs links) j) ≡ true = is-filled t ks (beside (tasks_in ks) top) j (is-kept t top (tasks_in runs) runs links j same_length k there) in
-    one_place t (placed top runs links) i j (distinct-placed top runs links dt dr dl) h stays
+    let stays : is t (link_at (placed top runs links) j) ≡ true = is-filled t ks (beside (tasks_in ks) top) j (is-kept t top (tasks_in runs) runs links j same_length k there) in
+    one_link t (placed top runs links) i j (distinct-placed top runs links dt dr dl) h stays
 
 length-filled : (ls : List (Option ℕ)) (ts : List ℕ) → length (filled ls ts) ≡ length ls
 length-filled [] ts = refl
@@ -108,7 +108,7 @@ length-filled (None ∷ ls) (t ∷ ts) = ap suc (length-filled ls ts)
 pub length-placed : (top : List ℕ) (runs links : List (Option ℕ)) → length runs ≡ length links → length (placed top runs links) ≡ length runs
 length-placed top runs links e = length-filled _ _ ∙ length-kept top (tasks_in runs) runs links e
 
-pub at_place-inside : (t : ℕ) (ls : List (Option ℕ)) (k : ℕ) → is t (at_place ls k) ≡ true → k < length ls
-at_place-inside t [] k h = cc
-at_place-inside t (l ∷ ls) zero h = omega arith
-at_place-inside t (l ∷ ls) (suc k) h = omega (arith, at_place-inside t ls k h)
+pub link_at-inside : (t : ℕ) (ls : List (Option ℕ)) (k : ℕ) → is t (link_at ls k) ≡ true → k < length ls
+link_at-inside t [] k h = cc
+link_at-inside t (l ∷ ls) zero h = omega arith
+link_at-inside t (l ∷ ls) (suc k) h = omega (arith, link_at-inside t ls k h)

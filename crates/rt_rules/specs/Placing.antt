@@ -34,7 +34,7 @@ abbrev pub placed : List ℕ → List (Option ℕ) → List (Option ℕ) → Lis
 placed top runs links = filled_with top (kept top (tasks_in runs) runs links)
 
 -- the link at a place
-abbrev pub at_place : List (Option ℕ) → ℕ → Option ℕ
-at_place [] k = None
-at_place (l ∷ ls) zero = l
-at_place (l ∷ ls) (suc k) = at_place ls k
+abbrev pub link_at : List (Option ℕ) → ℕ → Option ℕ
+link_at [] k = None
+link_at (l ∷ ls) zero = l
+link_at (l ∷ ls) (suc k) = link_at ls k

@@ -17,13 +17,13 @@ pub numbers-rest : (ts : List TaskNo) → numbers (drop 1 ts) ≡ rest (numbers 
 numbers-rest [] = refl
 numbers-rest (t ∷ ts) = refl
 
--- ---- a line that is listed from a place on
+-- ---- a line that is listed from a position on
 
 pub numbers-added : (ts : List TaskNo) (t : TaskNo) (ns : List ℕ) → numbers (ts ++ t ∷ []) ++ ns ≡ numbers ts ++ t.0 ∷ ns
 numbers-added [] t ns = refl
 numbers-added (u ∷ ts) t ns = ap (λ (ms : List ℕ). u.0 ∷ ms) (numbers-added ts t ns)
 
--- from a place on, the list begins with what stands there
+-- from a position on, the list begins with what stands there
 pub numbers-from : (ts : List TaskNo) (t : TaskNo) (i j : ℕ) → i < length ts → t ≡ get_or ts i t → j ≡ i + 1 → numbers (drop i ts) ≡ t.0 ∷ numbers (drop j ts)
 numbers-from [] t i j low read e = absurd (omega arith)
 numbers-from (x ∷ ts) t zero zero low read e = absurd (omega arith)

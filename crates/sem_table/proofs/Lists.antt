@@ -1,4 +1,4 @@
--- Reading lists after one place changed, and pairs of lists.
+-- Reading lists after one position changed, and pairs of lists.
 use Rattle.std.proofs.Common.{◌≡◌, ◌<◌, ◌&&◌, ℕ, true, false, List, [], ◌∷◌, refl, eqb-true, arith, length, subst}
 use Rattle.std.specs.Prelude.{◌==◌, slice_index_or, slice_set}
 use Rattle.std.proofs.lemmas.List.{get_or-set_other, get_or-set_same, length-set}

@@ -1,4 +1,4 @@
--- A place of the list of sets that is there reads the same whatever stands for a place that is not.
+-- A position of the list of sets that is there reads the same whatever stands for a position that is not.
 use Rattle.std.proofs.Common.{◌≡◌, ◌<◌, ◌∷◌, ℕ, zero, suc, List, [], length, arith}
 use Rattle.std.specs.Prelude.{slice_index_or}
 use Rattle.std.proofs.lemmas.List.{get_or_default}

@@ -25,7 +25,7 @@ use Rattle.sem_table.specs.declared.any_sem.AnySem.{AnySem}
 use Rattle.sem_table.specs.declared.any_sem.AnySem.TheVariants as any
 use Rattle.sem_table.specs.SemTable.{SemTable, sem_at, set_at, srp_set_at}
 
--- each user has a place
+-- each user has a position
 abbrev pub HasRoom : Group → ℕ → ℕ → Type 0
 HasRoom g s n = (t : ℕ) → has t (users g s) ≡ true → t < n
 

@@ -19,8 +19,8 @@ use std::alloc::Global;
 fn deadline_of(parts: &Parts, group: GroupNo, of: TaskNo) -> u64
     ensures { result ≡ (task (group_in parts.now group.0) of.0).rel_deadline }
 {
-    let place = (of.0 as usize).saturating_sub(1);
-    match parts.tasks.as_slice().get(place) {
+    let position = (of.0 as usize).saturating_sub(1);
+    match parts.tasks.as_slice().get(position) {
         Some(row) => row.rel_deadline,
         None => 0,
     }

@@ -91,8 +91,8 @@ pub fn users_of(
 fn prio_key_of(parts: &Parts, group: GroupNo, task: TaskNo) -> Key
     ensures { result ≡ prio_key (group_in parts.now group.0) task.0 }
 {
-    let place = (task.0 as usize).saturating_sub(1);
-    let prio = match parts.tasks.as_slice().get(place) {
+    let position = (task.0 as usize).saturating_sub(1);
+    let prio = match parts.tasks.as_slice().get(position) {
         Some(row) => row.prio,
         None => 0,
     };
@@ -137,8 +137,8 @@ pub fn home_of(parts: &Parts, group: GroupNo, users: &[TaskNo]) -> ClusterNo
 {
     match users.first() {
         Some(t) => {
-            let place = (t.0 as usize).saturating_sub(1);
-            match parts.tasks.as_slice().get(place) {
+            let position = (t.0 as usize).saturating_sub(1);
+            match parts.tasks.as_slice().get(position) {
                 Some(row) => row.cluster,
                 None => ClusterNo(0),
             }
@@ -152,8 +152,8 @@ pub fn home_of(parts: &Parts, group: GroupNo, users: &[TaskNo]) -> ClusterNo
 pub fn protocol_of(parts: &Parts, group: GroupNo, sem: u32) -> Protocol
     ensures { result ≡ protocol (group_in parts.now group.0) sem }
 {
-    let place = sem.saturating_sub(1) as usize;
-    match parts.sems.as_slice().get(place) {
+    let position = sem.saturating_sub(1) as usize;
+    match parts.sems.as_slice().get(position) {
         Some(row) => row.protocol,
         None => Protocol::Fmlp,
     }

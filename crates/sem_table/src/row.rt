@@ -59,9 +59,9 @@ pub fn note_served(rows: &mut [Row], served: Option<TaskNo>)
     ensures { rows.new ≡ rows_served (number_of_task served) rows.old }
 {
     if let Some(next) = served {
-        let place = next.0 as usize;
-        if place < rows.len() {
-            rows[place].note_grant();
+        let position = next.0 as usize;
+        if position < rows.len() {
+            rows[position].note_grant();
         }
     }
 }

@@ -107,22 +107,22 @@ module _ (g : Group) where
 
 -- ---- all turns
 
-pub turns_left-first : (g : Group) (c : TurnsAhead) (was : Past) → c.tick ≡ 0 → c.place ≡ 0 → c.done ≡ 0 → c.cpus ≡ group_processors g
+pub turns_left-first : (g : Group) (c : TurnsAhead) (was : Past) → c.tick ≡ 0 → c.position ≡ 0 → c.done ≡ 0 → c.cpus ≡ group_processors g
     → turns_left g c was ≡ rounds g c.horizon 0 was
 unfolding turns_left
-turns_left-first g c was tick place done cpus =
+turns_left-first g c was tick position done cpus =
     let all : c.horizon - 0 ≡ c.horizon = omega arith in
-    rw (place, tick, done, cpus, all) (rounds_left-all g c.horizon 0 was)
+    rw (position, tick, done, cpus, all) (rounds_left-all g c.horizon 0 was)
 
 pub turns_left-none : (g : Group) (c : TurnsAhead) (was : Past) → c.horizon ≤ c.tick → turns_left g c was ≡ []
 unfolding turns_left rounds_left
 turns_left-none g c was over =
     let zero_left : c.horizon - c.tick ≡ 0 = omega arith in
-    ap (λ n. rounds_left g (drop c.place c.cpus) n c.tick c.done was) zero_left
+    ap (λ n. rounds_left g (drop c.position c.cpus) n c.tick c.done was) zero_left
 
-module _ (g : Group) (c : TurnsAhead) (was : Past) (before : c.tick < c.horizon) (there : c.place < length c.cpus) where
+module _ (g : Group) (c : TurnsAhead) (was : Past) (before : c.tick < c.horizon) (there : c.position < length c.cpus) where
   behind : List ℕ
-  behind = drop (c.place + 1) c.cpus
+  behind = drop (c.position + 1) c.cpus
 
   rest : ℕ
   rest = c.horizon - (c.tick + 1)
@@ -132,10 +132,10 @@ module _ (g : Group) (c : TurnsAhead) (was : Past) (before : c.tick < c.horizon)
       → turns_left g (record c { done = done }) later ≡ rounds_left g (cpu_of c ∷ behind) (suc rest) c.tick done later
   unfolding turns_left behind rest
   turns_left-now done later =
-      let here : drop c.place c.cpus ≡ cpu_of c ∷ drop (c.place + 1) c.cpus = rw add-one (drop-cons c.cpus c.place 0 there) in
+      let here : drop c.position c.cpus ≡ cpu_of c ∷ drop (c.position + 1) c.cpus = rw add-one (drop-cons c.cpus c.position 0 there) in
       let one : c.horizon - c.tick ≡ suc (c.horizon - (c.tick + 1)) = omega arith in
       ap (λ (qs : List ℕ). rounds_left g qs (c.horizon - c.tick) c.tick done later) here
-      ∙ ap (λ n. rounds_left g (cpu_of c ∷ drop (c.place + 1) c.cpus) n c.tick done later) one
+      ∙ ap (λ n. rounds_left g (cpu_of c ∷ drop (c.position + 1) c.cpus) n c.tick done later) one
 
   pub turns_left-step : (act : Act) → GoesOnBy g c was act
       → turns_left g c was ≡ step_at (cpu_of c) c.tick act ∷ turns_left g (with_step c) (after g (step_at (cpu_of c) c.tick act) was)
@@ -152,14 +152,14 @@ module _ (g : Group) (c : TurnsAhead) (was : Past) (before : c.tick < c.horizon)
       let one : suc (c.horizon - (c.tick + 1)) ≡ c.horizon - c.tick = omega arith in
       turns_left-now c.done was
       ∙ rounds_left-over g (cpu_of c) behind rest c.tick c.done was over
-      ∙ ap (λ n. rounds_left g (drop (c.place + 1) c.cpus) n c.tick 0 was) one
+      ∙ ap (λ n. rounds_left g (drop (c.position + 1) c.cpus) n c.tick 0 was) one
 
-  turns_left-next_round : c.cpus ≡ group_processors g → c.place + 1 ≡ length c.cpus → IsTurnOver g c was
+  turns_left-next_round : c.cpus ≡ group_processors g → c.position + 1 ≡ length c.cpus → IsTurnOver g c was
       → turns_left g c was ≡ turns_left g (next_round c) was
   unfolding turns_left behind rest
   turns_left-next_round cpus last over =
       let n : ℕ = c.horizon - (c.tick + 1) in
-      let none : drop (c.place + 1) c.cpus ≡ [] = drop_all (c.place + 1) c.cpus (omega arith) in
+      let none : drop (c.position + 1) c.cpus ≡ [] = drop_all (c.position + 1) c.cpus (omega arith) in
       let next : suc c.tick ≡ c.tick + 1 = omega arith in
       turns_left-now c.done was
       ∙ rounds_left-over g (cpu_of c) behind rest c.tick c.done was over
@@ -170,11 +170,11 @@ module _ (g : Group) (c : TurnsAhead) (was : Past) (before : c.tick < c.horizon)
       ∙ ap (λ t. rounds_left g c.cpus n t 0 was) next
 
   pub turns_left-over : c.cpus ≡ group_processors g → IsTurnOver g c was → turns_left g c was ≡ turns_left g (next_turn c) was
-  turns_left-over cpus over = by_case (c.place + 1 == length c.cpus) refl
+  turns_left-over cpus over = by_case (c.position + 1 == length c.cpus) refl
     where
-      by_case : (b : Bool) → (c.place + 1 == length c.cpus) ≡ b
+      by_case : (b : Bool) → (c.position + 1 == length c.cpus) ≡ b
           → turns_left g c was ≡ turns_left g (if b then next_round c else next_in_round c) was
-      by_case true last = turns_left-next_round cpus (eqb-true (c.place + 1) (length c.cpus) last) over
+      by_case true last = turns_left-next_round cpus (eqb-true (c.position + 1) (length c.cpus) last) over
       by_case false more = turns_left-next_in_round over
 
 -- ---- the steps are of the group
@@ -185,7 +185,7 @@ listed (q ∷ qs) zero low = rw (equal_self q)
 listed (q ∷ qs) (suc k) low = rw (listed qs k (omega arith)) (or_true (slice_index qs k == q))
 
 pub processor-of : (g : Group) (c : TurnsAhead) → AreTurnsOf g c → IsProcessorOf g (cpu_of c)
-processor-of g c turns = subst (λ (ns : List ℕ). has (cpu_of c) ns ≡ true) turns.processors (listed c.cpus c.place turns.place)
+processor-of g c turns = subst (λ (ns : List ℕ). has (cpu_of c) ns ≡ true) turns.processors (listed c.cpus c.position turns.position)
 
 pub step-of : (g : Group) (c : TurnsAhead) (act : Act) → AreTurnsOf g c → c.tick < c.horizon → IsActOf g act
     → IsStepOf g (step_at (cpu_of c) c.tick act)

@@ -15,18 +15,18 @@ use Rattle.rt_plays.specs.Order.{acts_played, turn, round, rounds}
 abbrev pub cpu_numbers : List CpuNo → List ℕ
 cpu_numbers qs = map (λ (q : CpuNo). q.0) qs
 
--- a place in the turns of these processors below the horizon: the turn under way, of the processor at this place, and how many of
+-- a position in the turns of these processors below the horizon: the turn under way, of the processor at this position, and how many of
 -- its steps were handed out
 pub record TurnsAhead : Type 0 where
   pub horizon : ℕ
   pub cpus : List ℕ
   pub tick : ℕ
-  pub place : ℕ
+  pub position : ℕ
   pub done : ℕ
 
 -- the processor of the turn under way
 abbrev pub cpu_of : TurnsAhead → ℕ
-cpu_of c = slice_index c.cpus c.place
+cpu_of c = slice_index c.cpus c.position
 
 module _ (g : Group) where
   -- what is left of turn t of processor q once so many of its steps were handed out: all of it, all but the Tick, or the acts that
@@ -48,13 +48,13 @@ module _ (g : Group) where
 
   -- the steps that are left
   unfoldable pub turns_left : TurnsAhead → Past → List Step
-  turns_left c past = rounds_left (drop c.place c.cpus) (c.horizon - c.tick) c.tick c.done past
+  turns_left c past = rounds_left (drop c.position c.cpus) (c.horizon - c.tick) c.tick c.done past
 
   -- they are the turns of the group's processors
   pub record AreTurnsOf (c : TurnsAhead) : Type 0 where
     pub processors : c.cpus ≡ group_processors g
     pub horizon : c.horizon ≤ TICK_END
-    pub place : c.place < length c.cpus
+    pub position : c.position < length c.cpus
     pub done : c.done ≤ MOST_TURN_STEPS
 
   -- the turn under way goes on by this act
@@ -73,11 +73,11 @@ with_step c = record c { done = c.done + 1 }
 
 -- the turn of the next processor in this round, and that of the first one in the next
 abbrev pub next_in_round : TurnsAhead → TurnsAhead
-next_in_round c = record c { place = c.place + 1; done = 0 }
+next_in_round c = record c { position = c.position + 1; done = 0 }
 
 abbrev pub next_round : TurnsAhead → TurnsAhead
-next_round c = record c { tick = c.tick + 1; place = 0; done = 0 }
+next_round c = record c { tick = c.tick + 1; position = 0; done = 0 }
 
 -- the turn behind the one under way
 abbrev pub next_turn : TurnsAhead → TurnsAhead
-next_turn c = if c.place + 1 == length c.cpus then next_round c else next_in_round c
+next_turn c = if c.position + 1 == length c.cpus then next_round c else next_in_round c

@@ -23,7 +23,7 @@ use std::marker::Model;
 pub struct TurnsLeft {
     horizon: u64,
     cpus: Vec<CpuNo>,
-    // The turn under way: its number, its processor's place, and how many of its steps were handed out.
+    // The turn under way: its number, its processor's position, and how many of its steps were handed out.
     tick: u64,
     at: usize,
     done: u32,
@@ -38,7 +38,7 @@ impl Model for TurnsLeft {
       horizon = a.horizon;
       cpus = cpu_numbers a.cpus.items;
       tick = a.tick;
-      place = a.at;
+      position = a.at;
       done = a.done;
     } };
 }
@@ -79,7 +79,7 @@ impl TurnsLeft {
 
     /// The processor of the turn under way.
     fn cpu(&self) -> CpuNo
-        requires { self.now.place < length self.now.cpus }
+        requires { self.now.position < length self.now.cpus }
         ensures { result.0 ≡ cpu_of self.now }
     {
         self.cpus[self.at]
@@ -110,7 +110,7 @@ impl TurnsLeft {
 
     /// The step of this act in the turn under way, which is handed out.
     fn hand_out(&mut self, act: Act) -> Step
-        requires place { self.old.place < length self.old.cpus }
+        requires position { self.old.position < length self.old.cpus }
         requires room { self.old.done < MOST_TURN_STEPS }
         ensures step { result ≡ step_at (cpu_of self.old) self.old.tick act }
         ensures turns { self.new ≡ with_step self.old }
@@ -127,7 +127,7 @@ impl TurnsLeft {
     /// Ends the turn under way, and goes on to the next one.
     fn end_turn(&mut self)
         requires tick { self.old.tick < TICK_END }
-        requires place { self.old.place < length self.old.cpus }
+        requires position { self.old.position < length self.old.cpus }
         ensures { self.new ≡ next_turn self.old }
     {
         self.done = 0;
@@ -141,7 +141,7 @@ impl TurnsLeft {
 
     /// The Tick of the turn under way, of which no step was handed out; none where all turns were played.
     fn begin(&mut self) -> Option<Step>
-        requires place { self.old.place < length self.old.cpus }
+        requires position { self.old.position < length self.old.cpus }
         requires done { self.old.done ≡ 0 }
         ensures next { (g : Group) (was : Past) → MatchOption result
             (turns_left g self.old was ≡ [])

@@ -17,7 +17,7 @@ use Rattle.cpu_site.specs.Seats.{about, cpu_of, group_at, unused_seat, unused_se
 use Rattle.cpu_site.proofs.Drives.{over-later, play-whole}
 use Rattle.set_runs.specs.Runs.{AreDriven, IsRunOf}
 
--- the place of a number in a list
+-- the position of a number in a list
 has-at : (xs : List ℕ) (q : ℕ) → has q xs ≡ true → (k : ℕ) × (k < length xs) × (get_or xs k 0 ≡ q)
 has-at [] q h = cc
 has-at (x ∷ xs) q h = by_case (q == x) refl h (has-at xs q)
@@ -46,11 +46,11 @@ driven-cells cell before after are k d lt = (are.each k d d (let all = are.all i
 -- each processor of a group has its seat
 module _ (cell : Cell GroupOf) (p : Parts) (n : ℕ) (before after : List CpuSeatView) (unused : before ≡ unused_seats cell (group_processors (group_with p n))) (are : AreDriven cell before after) where
   record IsSeatOf (q : ℕ) : Type 0 where
-    place : ℕ
-    before_there : place < length before
-    after_there : place < length after
-    own : (d : CpuSeatView) → (get_or before place d).cpu ≡ q
-    kept : (d : CpuSeatView) → (get_or after place d).cpu ≡ q
+    position : ℕ
+    before_there : position < length before
+    after_there : position < length after
+    own : (d : CpuSeatView) → (get_or before position d).cpu ≡ q
+    kept : (d : CpuSeatView) → (get_or after position d).cpu ≡ q
 
   seat-of : (q : ℕ) → IsProcessorOf (group_with p n) q → IsSeatOf q
   seat-of q there =
@@ -63,7 +63,7 @@ module _ (cell : Cell GroupOf) (p : Parts) (n : ℕ) (before after : List CpuSea
       let low_after : k < length after = omega (arith, low_before, all) in
       let own : (d : CpuSeatView) → (get_or before k d).cpu ≡ q = λ d. ap (λ (ps : List CpuSeatView). (get_or ps k d).cpu) unused ∙ ap (λ (x : CpuSeatView). x.cpu) (get_or-map (unused_seat cell) qs k 0 d low) ∙ at.2 in
       record {
-        place = k;
+        position = k;
         before_there = low_before;
         after_there = low_after;
         own = own;
@@ -76,9 +76,9 @@ module _ (cell : Cell GroupOf) (p : Parts) (n : ℕ) (before after : List CpuSea
       let seat = seat-of q (subst (λ (x : GroupOf). IsProcessorOf (group_at x) q) (sym same) there) in
       let low = seat.after_there in
       let d : CpuSeatView = unused_seat cell q in (
-        seat.place,
+        seat.position,
         (let long = length-map after (λ (x : CpuSeatView). x.cpu) in omega (arith, low, long)),
-        get_or-map (λ (x : CpuSeatView). x.cpu) after seat.place d q low ∙ seat.kept d,
+        get_or-map (λ (x : CpuSeatView). x.cpu) after seat.position d q low ∙ seat.kept d,
       )
 
   module _ (h : GroupHistory) (subject : cell.subject ≡ Some (record { setup = p; number = n })) (told : cell.subject ≡ Some (about h)) (begun : IsBegunPlay (group_of h) h.entries)
@@ -91,10 +91,10 @@ module _ (cell : Cell GroupOf) (p : Parts) (n : ℕ) (before after : List CpuSea
     over-whole q there =
         let seat = seat-of q (subst (λ (x : GroupOf). IsProcessorOf (group_at x) q) about_is there) in
         let d : CpuSeatView = unused_seat cell q in
-        let last : CpuSeatView = get_or after seat.place d in
-        let over : IsOver (group_of h) q last.seen = subst (λ k. IsOver (group_of h) k last.seen) (seat.own d) ((are.each seat.place d d seat.before_there).over (about h) told) in
-        let agree : AgreeOn cpu_of q h.entries last.seen = subst (λ k. AgreeOn cpu_of k h.entries last.seen) (seat.kept d) (whole seat.place d seat.after_there) in
-        over-later (group_of h) q last.seen h.entries (later seat.place d seat.after_there) agree over
+        let last : CpuSeatView = get_or after seat.position d in
+        let over : IsOver (group_of h) q last.seen = subst (λ k. IsOver (group_of h) k last.seen) (seat.own d) ((are.each seat.position d d seat.before_there).over (about h) told) in
+        let agree : AgreeOn cpu_of q h.entries last.seen = subst (λ k. AgreeOn cpu_of k h.entries last.seen) (seat.kept d) (whole seat.position d seat.after_there) in
+        over-later (group_of h) q last.seen h.entries (later seat.position d seat.after_there) agree over
 
     pub group-run : IsRunOf p n h
     group-run = record {

@@ -6,7 +6,7 @@ use Rattle.std.proofs.lemmas.List.{get_or_append_left, get_or_default, get_or-se
 use Rattle.std.proofs.Math.Seq.{get_or-append_seam}
 use Rattle.set_runs.specs.Lists.{AreEach}
 
--- a list with a place has an element
+-- a list with a position has an element
 pub some-of : {A : Type 0} (xs : List A) (i : ℕ) → i < length xs → A
 some-of [] i lt = absurd (omega (arith, lt))
 some-of (x ∷ xs) i lt = x

@@ -12,7 +12,7 @@ use Rattle.rt_plays.specs.Plays.{group_count}
 use Rattle.trace_text.proofs.GroupLaws.{all-groups, groups-few}
 use Rattle.set_runs.specs.Runs.{AreRunsOf, IsRunOf}
 
--- each history is of the group at its place
+-- each history is of the group at its position
 abbrev pub AreRunsFrom : Parts → ℕ → List GroupHistory → Type 0
 AreRunsFrom p a hs = (k : ℕ) (d : GroupHistory) → k < length hs → IsRunOf p (a + k) (get_or hs k d)
 

@@ -19,8 +19,8 @@ use Rattle.split_rules.specs.SemHistories.{IsActAt, IsLegalFrom, after_act, next
 use Rattle.split_rules.specs.declared.SemAct.{SemAct}
 use Rattle.split_rules.specs.declared.SemAct.TheVariants as acts
 use Rattle.split_rules.specs.declared.SemEntry.{SemEntry}
-use Rattle.split_laws.proofs.TaleLists.{place-joined, tale-joined}
-use Rattle.split_laws.specs.Tales.{Holds, Out, Place, Waits, got, is_tale, own_deed, place_from, place_in, tale_by, tale_from}
+use Rattle.split_laws.proofs.TaleLists.{phase-joined, tale-joined}
+use Rattle.split_laws.specs.Tales.{Holds, Out, Phase, Waits, got, is_tale, own_deed, phase_from, phase_in, tale_by, tale_from}
 
 -- the next one waits
 pub next-waits : (g : Group) (p : Protocol) (ts : List ℕ) (u : ℕ) → next_by g p ts ≡ Some u → has u ts ≡ true
@@ -33,19 +33,19 @@ next-waits g protocols.Srp ts u h = has-first u ts (some-is u (first ts) h)
 
 -- what a deed tells of a task, how it then stands, and that nobody stands twice
 pub record IsTold (t : ℕ) (l l' : SemState) (ds : List Deed) : Type 0 where
-  pub told : is_tale (place_in t l) ds ≡ true
-  pub place : place_in t l' ≡ place_from (place_in t l) ds
+  pub told : is_tale (phase_in t l) ds ≡ true
+  pub phase : phase_in t l' ≡ phase_from (phase_in t l) ds
   pub once : StandsOnce l'
 
--- the places of a task, by what is known of it
-pub holds-place : (t : ℕ) (l : SemState) → is t l.holder ≡ true → place_in t l ≡ Holds
-holds-place t l h = rw h
+-- the phases of a task, by what is known of it
+pub holds-phase : (t : ℕ) (l : SemState) → is t l.holder ≡ true → phase_in t l ≡ Holds
+holds-phase t l h = rw h
 
-pub waits-place : (t : ℕ) (l : SemState) → is t l.holder ≡ false → has t l.waiting ≡ true → place_in t l ≡ Waits
-waits-place t l h k = rw h (rw k)
+pub waits-phase : (t : ℕ) (l : SemState) → is t l.holder ≡ false → has t l.waiting ≡ true → phase_in t l ≡ Waits
+waits-phase t l h k = rw h (rw k)
 
-pub out-place : (t : ℕ) (l : SemState) → is t l.holder ≡ false → has t l.waiting ≡ false → place_in t l ≡ Out
-out-place t l h k = rw h (rw k)
+pub out-phase : (t : ℕ) (l : SemState) → is t l.holder ≡ false → has t l.waiting ≡ false → phase_in t l ≡ Out
+out-phase t l h k = rw h (rw k)
 
 -- a task that asks stands last
 once-asked : (u : ℕ) (l : SemState) → StandsOnce l → is u l.holder ≡ false → has u l.waiting ≡ false → (v : ℕ) → is v l.holder ≡ true → has v (l.waiting ++ u ∷ []) ≡ false
@@ -60,26 +60,26 @@ module _ (t u : ℕ) (l : SemState) (once : StandsOnce l) where
   ask-told None h hands out true e =
       let same : u ≡ t = eqb-true u t e in
       record {
-        told = rw (out-place t l (subst (λ (x : ℕ). is x l.holder ≡ false) same hands) (subst (λ (x : ℕ). has x l.waiting ≡ false) same out));
-        place = holds-place t (after_ask u None l) (rw (turned t u) e);
+        told = rw (out-phase t l (subst (λ (x : ℕ). is x l.holder ≡ false) same hands) (subst (λ (x : ℕ). has x l.waiting ≡ false) same out));
+        phase = holds-phase t (after_ask u None l) (rw (turned t u) e);
         once = record { once = once.once; apart = λ v k. subst (λ (x : ℕ). has x l.waiting ≡ false) (sym (eqb-true v u k)) out };
       }
   ask-told None h hands out false e = record {
     told = refl;
-    place = rw (turned t u) (rw e (rw h));
+    phase = rw (turned t u) (rw e (rw h));
     once = record { once = once.once; apart = λ v k. subst (λ (x : ℕ). has x l.waiting ≡ false) (sym (eqb-true v u k)) out };
   }
   ask-told (Some v) h hands out true e =
       let same : u ≡ t = eqb-true u t e in
       record {
-        told = rw (out-place t l (subst (λ (x : ℕ). is x l.holder ≡ false) same hands) (subst (λ (x : ℕ). has x l.waiting ≡ false) same out));
-        place = waits-place t (after_ask u (Some v) l) (subst (λ (x : ℕ). is x l.holder ≡ false) same hands)
+        told = rw (out-phase t l (subst (λ (x : ℕ). is x l.holder ≡ false) same hands) (subst (λ (x : ℕ). has x l.waiting ≡ false) same out));
+        phase = waits-phase t (after_ask u (Some v) l) (subst (λ (x : ℕ). is x l.holder ≡ false) same hands)
             (rw (has-push t u l.waiting) (rw (turned t u) (rw e)));
         once = record { once = distinct-append u l.waiting once.once out; apart = once-asked u l once hands out };
       }
   ask-told (Some v) h hands out false e = record {
     told = refl;
-    place = rw (has-push t u l.waiting) (rw (turned t u) (rw e));
+    phase = rw (has-push t u l.waiting) (rw (turned t u) (rw e));
     once = record { once = distinct-append u l.waiting once.once out; apart = once-asked u l once hands out };
   }
 
@@ -110,12 +110,12 @@ module _ (t u : ℕ) (l : SemState) (once : StandsOnce l) (holds : l.holder ≡ 
       other w k = unless (t == w) (λ x. clash (has t l.waiting) (subst (λ (y : ℕ). has y l.waiting ≡ true) (sym (eqb-true t w x)) k) gone)
 
       own : (o : Option ℕ) → ((w : ℕ) → o ≡ Some w → has w l.waiting ≡ true) → IsTold t l (passed_on o l.waiting) (Frees ∷ got t n o)
-      own None waits = record { told = rw (holds-place t l has_it); place = out-place t (passed_on None l.waiting) refl gone; once = once-passed l once None }
+      own None waits = record { told = rw (holds-phase t l has_it); phase = out-phase t (passed_on None l.waiting) refl gone; once = once-passed l once None }
       own (Some w) waits =
           let ne : t == w ≡ false = other w (waits w refl) in
           record {
-            told = rw (holds-place t l has_it) (rw ne);
-            place = rw ne (rw (has-left t w l.waiting ne) (rw gone));
+            told = rw (holds-phase t l has_it) (rw ne);
+            phase = rw ne (rw (has-left t w l.waiting ne) (rw gone));
             once = once-passed l once (Some w);
           }
   release-told o waits n false e = other o waits
@@ -124,16 +124,16 @@ module _ (t u : ℕ) (l : SemState) (once : StandsOnce l) (holds : l.holder ≡ 
       not_held = rw holds (rw (turned t u) e)
 
       other : (o : Option ℕ) → ((w : ℕ) → o ≡ Some w → has w l.waiting ≡ true) → IsTold t l (passed_on o l.waiting) (got t n o)
-      other None waits = record { told = refl; place = rw not_held; once = once-passed l once None }
+      other None waits = record { told = refl; phase = rw not_held; once = once-passed l once None }
       other (Some w) waits = by_next (t == w) refl
         where
           by_next : (b : Bool) → t == w ≡ b → IsTold t l (passed_on (Some w) l.waiting) (if b then Gets n ∷ [] else [])
           by_next true k = record {
-            told = rw (waits-place t l not_held (subst (λ (x : ℕ). has x l.waiting ≡ true) (sym (eqb-true t w k)) (waits w refl)));
-            place = holds-place t (passed_on (Some w) l.waiting) k;
+            told = rw (waits-phase t l not_held (subst (λ (x : ℕ). has x l.waiting ≡ true) (sym (eqb-true t w k)) (waits w refl)));
+            phase = holds-phase t (passed_on (Some w) l.waiting) k;
             once = once-passed l once (Some w);
           }
-          by_next false k = record { told = refl; place = rw k (rw (has-left t w l.waiting k) (rw not_held)); once = once-passed l once (Some w) }
+          by_next false k = record { told = refl; phase = rw k (rw (has-left t w l.waiting k) (rw not_held)); once = once-passed l once (Some w) }
 
 module _ (g : Group) (p : Protocol) (t : ℕ) where
   act-told : (n u : ℕ) (x : SemAct) (l : SemState) → StandsOnce l → IsActAt g p u x l → IsTold t l (after_act g p u x l) (tale_by t n u x)
@@ -144,12 +144,12 @@ module _ (g : Group) (p : Protocol) (t : ℕ) where
 
   -- a whole history
   pub legal-told : (n : ℕ) (es : List SemEntry) (l : SemState) → StandsOnce l → IsLegalFrom g p l es → IsTold t l (state_from g p l es) (tale_from t n es)
-  legal-told n [] l once h = record { told = refl; place = refl; once = once }
+  legal-told n [] l once h = record { told = refl; phase = refl; once = once }
   legal-told n (e ∷ es) l once h =
       let a = act-told n e.task.0 e.act l once h.0.act in
       let b = legal-told (suc n) es (after_act g p e.task.0 e.act l) a.once h.1 in
       record {
-        told = tale-joined (place_in t l) (tale_by t n e.task.0 e.act) (tale_from t (suc n) es) a.told (rw (sym a.place) b.told);
-        place = b.place ∙ ap (λ (x : Place). place_from x (tale_from t (suc n) es)) a.place ∙ sym (place-joined (place_in t l) (tale_by t n e.task.0 e.act) (tale_from t (suc n) es));
+        told = tale-joined (phase_in t l) (tale_by t n e.task.0 e.act) (tale_from t (suc n) es) a.told (rw (sym a.phase) b.told);
+        phase = b.phase ∙ ap (λ (x : Phase). phase_from x (tale_from t (suc n) es)) a.phase ∙ sym (phase-joined (phase_in t l) (tale_by t n e.task.0 e.act) (tale_from t (suc n) es));
         once = b.once;
       }

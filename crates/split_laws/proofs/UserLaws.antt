@@ -12,7 +12,7 @@ use Rattle.rt_rules.specs.declared.history.Reply.{Reply}
 use Rattle.rt_rules.specs.declared.history.Reply.TheVariants as replies
 use Rattle.rt_rules.specs.Numbers.{has, same}
 use Rattle.rt_rules.proofs.BoolLaws.{both}
-use Rattle.rt_rules.proofs.LinkLaws.{has-at_place}
+use Rattle.rt_rules.proofs.LinkLaws.{has-link_at}
 use Rattle.rt_rules.proofs.MemberLaws.{equal_self, has-filter, some-is}
 use Rattle.rt_model.specs.Group.{Group, declares, home, tasks}
 use Rattle.rt_model.specs.Group as group
@@ -118,7 +118,7 @@ module _ (g : Group) (q : ℕ) (a : Ask) (past : PartPast) where
   link-in : (t : ℕ) → linked g q past ≡ Some t → has t (tasks g) ≡ true
   unfolding linked part.tasks group.tasks_of
   link-in t h =
-      let top = top-eligible g q t past (links-top g q t past (has-at_place t (links g q past) _ (some-is t _ h))) in
+      let top = top-eligible g q t past (links-top g q t past (has-link_at t (links g q past) _ (some-is t _ h))) in
       (both (has t (tasks g)) _ (rw (has-filter (λ u. home g u == part.part g q) t (tasks g)) at top.0)).0
 
   act-runs-in : (act : Act) → ((t : ℕ) → runs q (moves past) ≡ Some t → has t (tasks g) ≡ true) → (t : ℕ)

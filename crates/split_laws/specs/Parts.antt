@@ -10,15 +10,15 @@ use Rattle.split_rules.specs.PartSems.{awaiting, holding}
 use Rattle.split_rules.specs.SemHistories.{IsLegalSem, seat_of}
 use Rattle.split_rules.specs.declared.SemEntry.{SemEntry}
 use Rattle.split_rules.specs.declared.SplitEntry.{SplitEntry}
-use Rattle.split_laws.specs.Tales.{Holds, Out, Place, Waits, only_gets, place_from, tale_from, tale_in}
+use Rattle.split_laws.specs.Tales.{Holds, Out, Phase, Waits, only_gets, phase_from, tale_from, tale_in}
 
 -- the processor is the first of its cluster, as where each cluster has one
 abbrev pub IsSeat : Group → ℕ → Type 0
 IsSeat g q = first_cpu g (cluster_with g q) ≡ q
 
 -- how a task stands to semaphore s that holds and waits for these
-abbrev pub place_by : ℕ → Option ℕ → Option ℕ → Place
-place_by s held awaited = if is s held then Holds else (if is s awaited then Waits else Out)
+abbrev pub phase_by : ℕ → Option ℕ → Option ℕ → Phase
+phase_by s held awaited = if is s held then Holds else (if is s awaited then Waits else Out)
 
 -- it stands in a list
 abbrev pub Among : {A : Type 0} → A → List A → Type 0
@@ -31,7 +31,7 @@ pub record IsKnown (g : Group) (q : ℕ) (past : PartPast) : Type 0 where
   pub deeds_home : (d : TaskDeed) → Among d (deeds past) → seat_of g d.task ≡ q
   pub home : (t : ℕ) → seat_of g t == q ≡ false → (holding t past ≡ None) × (awaiting t past ≡ None)
   pub apart : (t : ℕ) → (holding t past ≡ None) ⊎ (awaiting t past ≡ None)
-  pub places : (t s : ℕ) → place_from Out (tale_in t s (deeds past)) ≡ place_by s (holding t past) (awaiting t past)
+  pub phases : (t s : ℕ) → phase_from Out (tale_in t s (deeds past)) ≡ phase_by s (holding t past) (awaiting t past)
 
 -- and what runs is of the partition, and does not wait
 pub record IsPartPast (g : Group) (q : ℕ) (past : PartPast) : Type 0 where

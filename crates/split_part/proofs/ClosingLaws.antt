@@ -23,7 +23,7 @@ use Rattle.split_part.proofs.ColumnLaws.{from-at, from-first, got}
 
 -- ---- columns
 
--- what holds of the element at a place of each row holds of the column
+-- what holds of the element at a view of each row holds of the column
 pub column-all : {A : Type 0} (P : A → Type 0) (k : ℕ) (rows : List (List A)) (xs : List A) → IsColumn k rows xs → All (λ row. (x : A) → slice_get row k ≡ Some x → P x) rows → All P xs
 column-all P k [] [] col h = λ i d low. absurd (omega (arith, low))
 column-all P k [] (y ∷ ys) col h = absurd col

@@ -1,4 +1,4 @@
--- Lists whose elements go with their places, or with those of another list.
+-- Lists whose elements go with their positions, or with those of another list.
 use Rattle.std.proofs.Common.{◌≡◌, ℕ, zero, suc, ◌+◌, ◌<◌, ◌≤◌, List, [], ◌∷◌, ◌++◌, length, map, take, reverse, Some, refl, sym, ap, ◌∙◌, subst, append_assoc, arith, length-append}
 use Rattle.std.specs.Prelude.{All, slice_get, slice_index_or}
 use Rattle.std.specs.Global.{Vec}
@@ -9,7 +9,7 @@ use Rattle.split_part.specs.Columns.{AreBoth, AreFrom, IsColumn}
 use Rattle.split_part.specs.inside.Deals.{IsPopped, lists}
 use Rattle.split_part.proofs.Dealing.{last-same}
 
--- ---- with their places
+-- ---- with their positions
 
 module _ {A : Type 0} (P : ℕ → A → Type 0) where
   pub from-joined : (n : ℕ) (xs ys : List A) → AreFrom P n xs → AreFrom P (n + length xs) ys → AreFrom P n (xs ++ ys)
@@ -119,7 +119,7 @@ pub column-at : {A : Type 0} (k : ℕ) (rows : List (List A)) (xs : List A) (i :
     → slice_get (slice_index_or rows i row) k ≡ Some (slice_index_or xs i x)
 column-at k rows xs i row x h low = both-at (λ r y. slice_get r k ≡ Some y) rows xs i row x h low
 
--- ---- by what stands at a place
+-- ---- by what stands at a position
 
 pub got : {A : Type 0} (xs : List A) (i : ℕ) → i < length xs → (x : A) × (slice_get xs i ≡ Some x)
 got [] i low = absurd (omega (arith, low))
@@ -153,7 +153,7 @@ pub get-between : {A : Type 0} (xs ys : List A) (x : A) → slice_get (xs ++ x �
 get-between [] ys x = refl
 get-between (y ∷ xs) ys x = get-between xs ys x
 
--- the elements at a place of rows that are each made of something are made of it too
+-- the elements at a position of rows that are each made of something are made of it too
 pub column-made : {A C : Type 0} (f : C → List A) (x : C → A) (k : ℕ) → ((c : C) → slice_get (f c) k ≡ Some (x c)) → (cs : List C) (xs : List A) → IsColumn k (map f cs) xs → xs ≡ map x cs
 column-made f x k is [] [] h = refl
 column-made f x k is [] (y ∷ ys) h = absurd h

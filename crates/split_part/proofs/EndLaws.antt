@@ -111,11 +111,11 @@ module _ (p : Parts) (q : ℕ) (seats : List Seat) (es : List SplitEntry) (meeti
 
   pub found-all : (s : ℕ) → IsFound (book_of p s) q (books_in seats s) (books_of sems s)
   found-all zero = found-none (book_of p 0) q
-  found-all (suc n) = by_place (nat_lt n (length seats)) refl
+  found-all (suc n) = by_view (nat_lt n (length seats)) refl
     where
-      by_place : (b : Bool) → nat_lt n (length seats) ≡ b → IsFound (book_of p (suc n)) q (books_in seats (suc n)) (books_of sems (suc n))
-      by_place true h = let e : n + 1 ≡ suc n = omega arith in subst (λ m. IsFound (book_of p m) q (books_in seats (suc n)) (books_of sems (suc n))) e (found-there n (ltb-true _ _ h))
-      by_place false h =
+      by_view : (b : Bool) → nat_lt n (length seats) ≡ b → IsFound (book_of p (suc n)) q (books_in seats (suc n)) (books_of sems (suc n))
+      by_view true h = let e : n + 1 ≡ suc n = omega arith in subst (λ m. IsFound (book_of p m) q (books_in seats (suc n)) (books_of sems (suc n))) e (found-there n (ltb-true _ _ h))
+      by_view false h =
           let high = ltb-false n (length seats) h in
           let l = both-length IsTold seats sems told in
           let m = length-map seats (λ (k : Seat). k.seen) in
@@ -131,63 +131,63 @@ module _ (p : Parts) (q : ℕ) (seats : List Seat) (es : List SplitEntry) (meeti
 
 -- ---- each processor
 
-module _ (x : SplitOf) (turns : List (Cell SemOf)) (places : List PartSeatView) (seats : AreSeatsOf x places) (kept : All (IsPartSeat turns) places) where
+module _ (x : SplitOf) (turns : List (Cell SemOf)) (views : List PartSeatView) (seats : AreSeatsOf x views) (kept : All (IsPartSeat turns) views) where
   abbrev pub rows_at : List (List PosterOf)
-  rows_at = map (λ (a : PartSeatView). a.posters) places
+  rows_at = map (λ (a : PartSeatView). a.posters) views
 
   abbrev pub takers_at : List TakerOf
-  takers_at = map (λ (a : PartSeatView). a.taker) places
+  takers_at = map (λ (a : PartSeatView). a.taker) views
 
   abbrev pub parts_at : List PartOf
-  parts_at = map (λ (a : PartSeatView). a.part) places
+  parts_at = map (λ (a : PartSeatView). a.part) views
 
   -- its seat
   pub record IsHere (q : ℕ) : Type 0 where
-    pub place : PartSeatView
-    pub here : slice_get places q ≡ Some place
-    pub seat : IsSeatOf x place
-    pub cpu : place.part.cpu ≡ q
-    pub seat_kept : IsPartSeat turns place
+    pub view : PartSeatView
+    pub here : slice_get views q ≡ Some view
+    pub seat : IsSeatOf x view
+    pub cpu : view.part.cpu ≡ q
+    pub seat_kept : IsPartSeat turns view
 
-  pub here-at : (q : ℕ) → q < length places → IsHere q
+  pub here-at : (q : ℕ) → q < length views → IsHere q
   here-at q low =
-      let a = got places q low in
-      let is = get_or_from_slice_get places q a.0 a.0 a.1 in
+      let a = got views q low in
+      let is = get_or_from_slice_get views q a.0 a.0 a.1 in
       let both = seats.each q a.0 low in
       record {
-        place = a.0;
+        view = a.0;
         here = a.1;
         seat = subst (IsSeatOf x) is both.0;
         cpu = ap (λ (k : PartSeatView). k.part.cpu) (sym is) ∙ both.1;
-        seat_kept = all-get (IsPartSeat turns) places q a.0 kept a.1;
+        seat_kept = all-get (IsPartSeat turns) views q a.0 kept a.1;
       }
 
-  pub mapped-get : {B : Type 0} (f : PartSeatView → B) (q : ℕ) (a : PartSeatView) → slice_get places q ≡ Some a → slice_get (map f places) q ≡ Some (f a)
-  mapped-get f q a h = slice_get-map f places q ∙ ap (option_map f) h
+  pub mapped-get : {B : Type 0} (f : PartSeatView → B) (q : ℕ) (a : PartSeatView) → slice_get views q ≡ Some a → slice_get (map f views) q ≡ Some (f a)
+  mapped-get f q a h = slice_get-map f views q ∙ ap (option_map f) h
 
   -- what holds of each seat holds of what it has
-  pub mapped-all : {B : Type 0} (P : B → Type 0) (f : PartSeatView → B) → ((q : ℕ) (h : IsHere q) → P (f h.place)) → All P (map f places)
+  pub mapped-all : {B : Type 0} (P : B → Type 0) (f : PartSeatView → B) → ((q : ℕ) (h : IsHere q) → P (f h.view)) → All P (map f views)
   mapped-all P f each i d low =
-      let l = length-map places f in
+      let l = length-map views f in
       let h = here-at i (omega (arith, low, l)) in
-      subst P (sym (get_or_from_slice_get (map f places) i (f h.place) d (mapped-get f i h.place h.here))) (each i h)
+      subst P (sym (get_or_from_slice_get (map f views) i (f h.view) d (mapped-get f i h.view h.here))) (each i h)
 
   -- ---- before the inboxes are closed
 
-  inbox-count : 0 < processor_count x.setup → length x.inboxes ≡ length places
+  inbox-count : 0 < processor_count x.setup → length x.inboxes ≡ length views
   inbox-count some =
       let n = seats.count in
       let h = here-at 0 (omega (arith, some, n)) in
-      ap length h.seat.seat.posters_are ∙ length-map h.place.posters (λ (b : PosterOf). b.inbox) ∙ h.seat_kept.posters_are.count ∙ ap processor_count h.seat.setup ∙ sym n
+      ap length h.seat.seat.posters_are ∙ length-map h.view.posters (λ (b : PosterOf). b.inbox) ∙ h.seat_kept.posters_are.count ∙ ap processor_count h.seat.setup ∙ sym n
 
   pub takers-are : 0 < processor_count x.setup → x.inboxes ≡ inboxes_at takers_at
   takers-are some =
       let n = inbox-count some in
-      let l = length-map places (λ (a : PartSeatView). a.taker) in
+      let l = length-map views (λ (a : PartSeatView). a.taker) in
       let m = length-map takers_at (λ (t : TakerOf). t.inbox) in
       same-list x.inboxes (inboxes_at takers_at) (omega (arith, n, l, m))
       (λ i low. let h = here-at i (omega (arith, low, n)) in
-      ap (slice_get x.inboxes) (sym h.cpu) ∙ h.seat.seat.taker_is ∙ sym (slice_get-map (λ (t : TakerOf). t.inbox) takers_at i ∙ ap (option_map (λ (t : TakerOf). t.inbox)) (mapped-get (λ a. a.taker) i h.place h.here)))
+      ap (slice_get x.inboxes) (sym h.cpu) ∙ h.seat.seat.taker_is ∙ sym (slice_get-map (λ (t : TakerOf). t.inbox) takers_at i ∙ ap (option_map (λ (t : TakerOf). t.inbox)) (mapped-get (λ a. a.taker) i h.view h.here)))
 
   pub posters-are : All (λ row. inboxes_of row ≡ x.inboxes) rows_at
   posters-are = mapped-all (λ row. inboxes_of row ≡ x.inboxes) (λ a. a.posters) (λ q h. sym h.seat.seat.posters_are)
@@ -201,16 +201,16 @@ module _ (x : SplitOf) (turns : List (Cell SemOf)) (places : List PartSeatView) 
   -- ---- once they are closed
   module _ (rests : List (List GrantOf)) (left : AreRests rows_at takers_at rests) where
     pub rests-count : length rests ≡ length parts_at
-    rests-count = left.count ∙ length-map places (λ (a : PartSeatView). a.taker) ∙ sym (length-map places (λ (a : PartSeatView). a.part))
+    rests-count = left.count ∙ length-map views (λ (a : PartSeatView). a.taker) ∙ sym (length-map views (λ (a : PartSeatView). a.part))
 
     pub can-take-each : CanTakeEach parts_at rests
     can-take-each q a rest there at =
-        let l = length-map places (λ (k : PartSeatView). k.part) in
+        let l = length-map views (λ (k : PartSeatView). k.part) in
         let low = slice_get_within parts_at q a there in
         let h = here-at q (omega (arith, low, l)) in
-        let is_rest = from-first (IsRestAt rows_at takers_at) rests q rest left.each at h.place.taker (mapped-get (λ k. k.taker) q h.place h.here) in
-        subst (λ (k : PartOf). CanTake k (claims_in rest)) (some-same (sym (mapped-get (λ k. k.part) q h.place h.here) ∙ there))
-        (record { taken = h.place.taker.taken; took = h.seat_kept.took; from = h.seat_kept.from; named = subst (λ ts. AreNamed ts (claims_in rest)) h.seat_kept.taker_tasks is_rest.named; rising = is_rest.rising })
+        let is_rest = from-first (IsRestAt rows_at takers_at) rests q rest left.each at h.view.taker (mapped-get (λ k. k.taker) q h.view h.here) in
+        subst (λ (k : PartOf). CanTake k (claims_in rest)) (some-same (sym (mapped-get (λ k. k.part) q h.view h.here) ∙ there))
+        (record { taken = h.view.taker.taken; took = h.seat_kept.took; from = h.seat_kept.from; named = subst (λ ts. AreNamed ts (claims_in rest)) h.seat_kept.taker_tasks is_rest.named; rising = is_rest.rising })
 
     -- ---- once the partitions took what was left
     module _ (parts : List PartOf) (taken : HaveTaken parts_at rests parts) (after : All IsPartition parts) where
@@ -218,33 +218,33 @@ module _ (x : SplitOf) (turns : List (Cell SemOf)) (places : List PartSeatView) 
       pub record IsBack (q : ℕ) : Type 0 where
         pub at : IsHere q
         pub rest : List GrantOf
-        pub rest_is : IsRest rows_at q at.place.taker (claims_in rest)
+        pub rest_is : IsRest rows_at q at.view.taker (claims_in rest)
         pub part : PartOf
         pub there : slice_get parts q ≡ Some part
-        pub took : HasTakenAll at.place.part part (claims_in rest)
+        pub took : HasTakenAll at.view.part part (claims_in rest)
         pub part_kept : IsPartition part
 
-      pub back-at : (q : ℕ) → q < length places → IsBack q
+      pub back-at : (q : ℕ) → q < length views → IsBack q
       back-at q low =
           let h = here-at q low in
           let count = left.count in
-          let lt = length-map places (λ (b : PartSeatView). b.taker) in
+          let lt = length-map views (λ (b : PartSeatView). b.taker) in
           let r = got rests q (omega (arith, low, count, lt)) in
           let many = taken.count in
-          let lp = length-map places (λ (b : PartSeatView). b.part) in
+          let lp = length-map views (λ (b : PartSeatView). b.part) in
           let b = got parts q (omega (arith, low, many, lp)) in
           record {
             at = h;
             rest = r.0;
-            rest_is = from-first (IsRestAt rows_at takers_at) rests q r.0 left.each r.1 h.place.taker (mapped-get (λ k. k.taker) q h.place h.here);
+            rest_is = from-first (IsRestAt rows_at takers_at) rests q r.0 left.each r.1 h.view.taker (mapped-get (λ k. k.taker) q h.view h.here);
             part = b.0;
             there = b.1;
-            took = from-first (HasTakenAt parts_at rests) parts q b.0 taken.each b.1 h.place.part r.0 (mapped-get (λ k. k.part) q h.place h.here) r.1;
+            took = from-first (HasTakenAt parts_at rests) parts q b.0 taken.each b.1 h.view.part r.0 (mapped-get (λ k. k.part) q h.view h.here) r.1;
             part_kept = all-get IsPartition parts q b.0 after b.1;
           }
 
-      parts-count : length parts ≡ length places
-      parts-count = taken.count ∙ length-map places (λ (a : PartSeatView). a.part)
+      parts-count : length parts ≡ length views
+      parts-count = taken.count ∙ length-map views (λ (a : PartSeatView). a.part)
 
       abbrev pub seat_rows : List (List Seat)
       seat_rows = map (λ (a : PartOf). a.seats) parts
@@ -328,40 +328,40 @@ module _ (x : SplitOf) (turns : List (Cell SemOf)) (places : List PartSeatView) 
           pub seen : HasSeen (part_group p q) q (books_at e) (past_in p e q)
           seen = seen_grows (part_group p q) q (books_in c.back.part.seats) (past_in p e q) known meeting.seen (books_at e) grown (λ s. same-legal p 0 (group_no p q) s (books_at e s) (set-legal s))
 
-          pub posted : HasPosted (part_group p q) q (books_at e) (posted_in c.back.at.place.posters)
+          pub posted : HasPosted (part_group p q) q (books_at e) (posted_in c.back.at.view.posters)
           posted =
-              let had = posted-grown _ c.back.at.place.part.cpu (books_in c.back.at.place.part.seats) (books_in c.back.part.seats) (posted_in c.back.at.place.posters) c.back.at.seat_kept.posted c.back.took.grown in
-              posted-grown (part_group p q) q (books_in c.back.part.seats) (books_at e) (posted_in c.back.at.place.posters)
-              (subst (λ n. HasPosted (part_group p n) n (books_in c.back.part.seats) (posted_in c.back.at.place.posters)) c.back.at.cpu
-              (subst (λ s. HasPosted (part_group s c.back.at.place.part.cpu) c.back.at.place.part.cpu (books_in c.back.part.seats) (posted_in c.back.at.place.posters)) c.back.at.seat.setup had)) grown
+              let had = posted-grown _ c.back.at.view.part.cpu (books_in c.back.at.view.part.seats) (books_in c.back.part.seats) (posted_in c.back.at.view.posters) c.back.at.seat_kept.posted c.back.took.grown in
+              posted-grown (part_group p q) q (books_in c.back.part.seats) (books_at e) (posted_in c.back.at.view.posters)
+              (subst (λ n. HasPosted (part_group p n) n (books_in c.back.part.seats) (posted_in c.back.at.view.posters)) c.back.at.cpu
+              (subst (λ s. HasPosted (part_group s c.back.at.view.part.cpu) c.back.at.view.part.cpu (books_in c.back.part.seats) (posted_in c.back.at.view.posters)) c.back.at.seat.setup had)) grown
 
-          pub claims_all : claims (deeds (past_in p e q)) ≡ map plain_claim (c.back.at.place.taker.taken ++ claims_in c.back.rest)
+          pub claims_all : claims (deeds (past_in p e q)) ≡ map plain_claim (c.back.at.view.taker.taken ++ claims_in c.back.rest)
           claims_all =
               sym (at-history (λ s n es. claims (deeds (past_at c.back.part)) ≡ claims (deeds (past_of (part_group s n) n es))) refl)
-              ∙ c.back.took.claims_are ∙ ap (λ l. l ++ map plain_claim (claims_in c.back.rest)) (c.back.at.seat_kept.took ∙ plain-taken c.back.at.place.taker.taken)
-              ∙ sym (map-joined plain_claim c.back.at.place.taker.taken (claims_in c.back.rest))
+              ∙ c.back.took.claims_are ∙ ap (λ l. l ++ map plain_claim (claims_in c.back.rest)) (c.back.at.seat_kept.took ∙ plain-taken c.back.at.view.taker.taken)
+              ∙ sym (map-joined plain_claim c.back.at.view.taker.taken (claims_in c.back.rest))
 
         -- ---- what a processor has posted to an inbox was taken there
         module _ (q r : ℕ) (c : IsClosed q) (d : IsClosed r) (low : r < processor_count p) where
-          pub posted-taken : (k : Claim) → Among k (posted_in c.back.at.place.posters r) → Among k (claims (deeds (past_in p e r)))
+          pub posted-taken : (k : Claim) → Among k (posted_in c.back.at.view.posters r) → Among k (claims (deeds (past_in p e r)))
           posted-taken k m =
               let count = c.back.at.seat_kept.posters_are.count in
               let same = ap processor_count c.back.at.seat.setup in
-              let b = got c.back.at.place.posters r (omega (arith, low, count, same)) in
+              let b = got c.back.at.view.posters r (omega (arith, low, count, same)) in
               let lh = both-length (λ row y. slice_get row r ≡ Some y) rows_at d.back.rest_is.hand d.back.rest_is.column in
-              let lr = length-map places (λ (a : PartSeatView). a.posters) in
-              let lq = slice_get_within places q c.back.at.place c.back.at.here in
+              let lr = length-map views (λ (a : PartSeatView). a.posters) in
+              let lq = slice_get_within views q c.back.at.view c.back.at.here in
               let h = got d.back.rest_is.hand q (omega (arith, lh, lr, lq)) in
-              let at : slice_get c.back.at.place.posters r ≡ Some h.0 = both-get (λ row y. slice_get row r ≡ Some y) rows_at d.back.rest_is.hand q c.back.at.place.posters h.0 d.back.rest_is.column (mapped-get (λ a. a.posters) q c.back.at.place c.back.at.here) h.1 in
-              let is_poster = c.back.at.seat_kept.posters_are.each r h.0 (slice_get_within c.back.at.place.posters r h.0 at) in
-              let mine : h.0.cpu ≡ q = ap (λ (y : PosterOf). y.cpu) (sym (get_or_from_slice_get c.back.at.place.posters r h.0 h.0 at)) ∙ is_poster.cpu ∙ c.back.at.cpu in
-              let all : h.0.posted ≡ of_poster q (d.back.at.place.taker.taken ++ claims_in d.back.rest) =
-              all-get (λ (y : PosterOf). y.posted ≡ of_poster y.cpu (d.back.at.place.taker.taken ++ claims_in d.back.rest)) d.back.rest_is.hand q h.0 d.back.rest_is.all h.1 ∙ ap (λ n. of_poster n (d.back.at.place.taker.taken ++ claims_in d.back.rest)) mine in
-              let posted_is : posted_in c.back.at.place.posters r ≡ map plain_claim h.0.posted =
-              get_or-map (λ (y : PosterOf). map plain_claim y.posted) c.back.at.place.posters r h.0 [] (slice_get_within c.back.at.place.posters r h.0 at)
-              ∙ ap (λ (y : PosterOf). map plain_claim y.posted) (get_or_from_slice_get c.back.at.place.posters r h.0 h.0 at) in
+              let at : slice_get c.back.at.view.posters r ≡ Some h.0 = both-get (λ row y. slice_get row r ≡ Some y) rows_at d.back.rest_is.hand q c.back.at.view.posters h.0 d.back.rest_is.column (mapped-get (λ a. a.posters) q c.back.at.view c.back.at.here) h.1 in
+              let is_poster = c.back.at.seat_kept.posters_are.each r h.0 (slice_get_within c.back.at.view.posters r h.0 at) in
+              let mine : h.0.cpu ≡ q = ap (λ (y : PosterOf). y.cpu) (sym (get_or_from_slice_get c.back.at.view.posters r h.0 h.0 at)) ∙ is_poster.cpu ∙ c.back.at.cpu in
+              let all : h.0.posted ≡ of_poster q (d.back.at.view.taker.taken ++ claims_in d.back.rest) =
+              all-get (λ (y : PosterOf). y.posted ≡ of_poster y.cpu (d.back.at.view.taker.taken ++ claims_in d.back.rest)) d.back.rest_is.hand q h.0 d.back.rest_is.all h.1 ∙ ap (λ n. of_poster n (d.back.at.view.taker.taken ++ claims_in d.back.rest)) mine in
+              let posted_is : posted_in c.back.at.view.posters r ≡ map plain_claim h.0.posted =
+              get_or-map (λ (y : PosterOf). map plain_claim y.posted) c.back.at.view.posters r h.0 [] (slice_get_within c.back.at.view.posters r h.0 at)
+              ∙ ap (λ (y : PosterOf). map plain_claim y.posted) (get_or_from_slice_get c.back.at.view.posters r h.0 h.0 at) in
               subst (Among k) (sym (claims_all r d))
-              (of-poster-among k q (d.back.at.place.taker.taken ++ claims_in d.back.rest) (subst (Among k) (posted_is ∙ ap (map plain_claim) all) m))
+              (of-poster-among k q (d.back.at.view.taker.taken ++ claims_in d.back.rest) (subst (Among k) (posted_is ∙ ap (map plain_claim) all) m))
 
         -- ---- the end
         first_low : 0 < processor_count p
@@ -371,7 +371,7 @@ module _ (x : SplitOf) (turns : List (Cell SemOf)) (places : List PartSeatView) 
         first = closed 0 first_low
 
         part-count : length e.parts ≡ processor_count p
-        part-count = ap length entries_are ∙ length-map parts (λ (a : PartOf). a.entries) ∙ taken.count ∙ length-map places (λ (a : PartSeatView). a.part) ∙ seats.count
+        part-count = ap length entries_are ∙ length-map parts (λ (a : PartOf). a.entries) ∙ taken.count ∙ length-map views (λ (a : PartSeatView). a.part) ∙ seats.count
 
         holder-one : (s q r t u : ℕ) → q < processor_count p → r < processor_count p → holding t (past_in p e q) ≡ Some s → holding u (past_in p e r) ≡ Some s → t ≡ u
         holder-one s q r t u low high h k =
@@ -389,8 +389,8 @@ module _ (x : SplitOf) (turns : List (Cell SemOf)) (places : List PartSeatView) 
             let d = closed (seat_of (group_with p 0) u) of.home_there in
             let k : Claim = record { sem = s; no = n; task = u } in
             posted-taken of.cpu (seat_of (group_with p 0) u) c d of.home_there k
-            (subst (λ r. Among k (posted_in c.back.at.place.posters r)) (same-seat p (group_no p of.cpu) 0 u)
-            (posted-by (part_group p of.cpu) of.cpu (books_at e) (posted_in c.back.at.place.posters) (posted of.cpu c) s n u h of.cpu_is))
+            (subst (λ r. Among k (posted_in c.back.at.view.posters r)) (same-seat p (group_no p of.cpu) 0 u)
+            (posted-by (part_group p of.cpu) of.cpu (books_at e) (posted_in c.back.at.view.posters) (posted of.cpu c) s n u h of.cpu_is))
 
         pub split-end : IsSplitEnd p e
         split-end = record {
@@ -403,23 +403,23 @@ module _ (x : SplitOf) (turns : List (Cell SemOf)) (places : List PartSeatView) 
           each_taken = grant-taken;
         }
 
-        goes-on : (q : ℕ) → q < processor_count p → (c : IsClosed q) → GoesOn c.back.at.place (history_at e q)
+        goes-on : (q : ℕ) → q < processor_count p → (c : IsClosed q) → GoesOn c.back.at.view (history_at e q)
         goes-on q low c = record { more = c.back.took.more; later = sym c.history ∙ c.back.took.entries; takes = c.back.took.takes }
 
-        pub all-go-on : AllGoOn places e
+        pub all-go-on : AllGoOn views e
         all-go-on q d low =
             let n = seats.count in
             let there : q < processor_count p = omega (arith, low, n) in
             let c = closed q there in
-            subst (λ (a : PartSeatView). GoesOn a (history_at e q)) (sym (get_or_from_slice_get places q c.back.at.place d c.back.at.here)) (goes-on q there c)
+            subst (λ (a : PartSeatView). GoesOn a (history_at e q)) (sym (get_or_from_slice_get views q c.back.at.view d c.back.at.here)) (goes-on q there c)
 
-        pub all-played : HavePlayed p places → AllPlayed p e
+        pub all-played : HavePlayed p views → AllPlayed p e
         all-played have q low =
             let n = seats.count in
             let c = closed q low in
-            let there : q < length places = omega (arith, low, n) in
-            let is = get_or_from_slice_get places q c.back.at.place c.back.at.place c.back.at.here in
+            let there : q < length views = omega (arith, low, n) in
+            let is = get_or_from_slice_get views q c.back.at.view c.back.at.view c.back.at.here in
             let none : steps_of q c.back.took.more ≡ [] = subst (λ m. steps_of m c.back.took.more ≡ []) c.back.at.cpu c.back.took.takes in
-            let grew : history_at e q ≡ c.back.at.place.part.entries ++ c.back.took.more = sym c.history ∙ c.back.took.entries in
-            ap (steps_of q) grew ∙ steps-joined q c.back.at.place.part.entries c.back.took.more ∙ ap (λ l. steps_of q c.back.at.place.part.entries ++ l) none ∙ append-nil (steps_of q c.back.at.place.part.entries)
-            ∙ ap (λ (a : PartSeatView). steps_of q a.part.entries) (sym is) ∙ have q c.back.at.place there
+            let grew : history_at e q ≡ c.back.at.view.part.entries ++ c.back.took.more = sym c.history ∙ c.back.took.entries in
+            ap (steps_of q) grew ∙ steps-joined q c.back.at.view.part.entries c.back.took.more ∙ ap (λ l. steps_of q c.back.at.view.part.entries ++ l) none ∙ append-nil (steps_of q c.back.at.view.part.entries)
+            ∙ ap (λ (a : PartSeatView). steps_of q a.part.entries) (sym is) ∙ have q c.back.at.view there

@@ -25,7 +25,7 @@ use Rattle.split_turns.proofs.SetLaws.{histories_are_of_set}
 use Rattle.part_player.proofs.OwnParts.{home-task}
 use Rattle.part_seat.proofs.WaiterLaws.{passed-task}
 
--- a list with the element at a place of it
+-- a list with the element at a view of it
 pub record IsSplitAt {A : Type 0} (xs : List A) (x : A) : Type 0 where
   pub front : List A
   pub rest : List A

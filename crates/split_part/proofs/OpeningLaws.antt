@@ -33,63 +33,63 @@ use Rattle.split_part.proofs.ColumnLaws.{all-map, both-get, both-length, column-
 -- ---- fresh seats
 
 -- the seats of a turn, and one of them
-abbrev pub places : Cell SemOf → ℕ → List Seat
-places k n = fresh_seats k n
+abbrev pub views : Cell SemOf → ℕ → List Seat
+views k n = fresh_seats k n
 
-abbrev pub place : Cell SemOf → ℕ → Seat
-place k q = fresh k q
+abbrev pub view : Cell SemOf → ℕ → Seat
+view k q = fresh k q
 
-pub length-fresh : (k : Cell SemOf) (n : ℕ) → length (places k n) ≡ n
+pub length-fresh : (k : Cell SemOf) (n : ℕ) → length (views k n) ≡ n
 length-fresh k zero = refl
-length-fresh k (suc n) = let l = length-append (places k n) (place k n ∷ []) in let r = length-fresh k n in omega (arith, l, r)
+length-fresh k (suc n) = let l = length-append (views k n) (view k n ∷ []) in let r = length-fresh k n in omega (arith, l, r)
 
-last-fresh : (k : Cell SemOf) (n q : ℕ) → n ≡ q → slice_get (places k (suc n)) q ≡ Some (place k q)
+last-fresh : (k : Cell SemOf) (n q : ℕ) → n ≡ q → slice_get (views k (suc n)) q ≡ Some (view k q)
 last-fresh k n q is =
-    subst (λ m. slice_get (places k (suc n)) m ≡ Some (place k m)) is
-    (ap (slice_get (places k n ++ place k n ∷ [])) (sym (length-fresh k n)) ∙ get-between (places k n) [] (place k n))
+    subst (λ m. slice_get (views k (suc n)) m ≡ Some (view k m)) is
+    (ap (slice_get (views k n ++ view k n ∷ [])) (sym (length-fresh k n)) ∙ get-between (views k n) [] (view k n))
 
-pub get-fresh : (k : Cell SemOf) (n q : ℕ) → q < n → slice_get (places k n) q ≡ Some (place k q)
+pub get-fresh : (k : Cell SemOf) (n q : ℕ) → q < n → slice_get (views k n) q ≡ Some (view k q)
 get-fresh k zero q low = absurd (omega (arith, low))
-get-fresh k (suc n) q low = by_place (nat_lt q n) refl (get-fresh k n q)
+get-fresh k (suc n) q low = by_view (nat_lt q n) refl (get-fresh k n q)
   where
-    by_place : (b : Bool) → nat_lt q n ≡ b → (q < n → slice_get (places k n) q ≡ Some (place k q)) → slice_get (places k (suc n)) q ≡ Some (place k q)
-    by_place true h before = get-first (places k n) (place k n ∷ []) q (place k q) (before (ltb-true _ _ h))
-    by_place false h before = let high = ltb-false q n h in last-fresh k n q (omega (arith, low, high))
+    by_view : (b : Bool) → nat_lt q n ≡ b → (q < n → slice_get (views k n) q ≡ Some (view k q)) → slice_get (views k (suc n)) q ≡ Some (view k q)
+    by_view true h before = get-first (views k n) (view k n ∷ []) q (view k q) (before (ltb-true _ _ h))
+    by_view false h before = let high = ltb-false q n h in last-fresh k n q (omega (arith, low, high))
 
 -- the seats of processor q at its turns
 abbrev pub fresh_at : ℕ → List (Cell SemOf) → List Seat
-fresh_at q cells = map (λ (k : Cell SemOf). place k q) cells
+fresh_at q cells = map (λ (k : Cell SemOf). view k q) cells
 
-pub column-fresh : (n q : ℕ) (cells : List (Cell SemOf)) (seats : List Seat) → q < n → IsColumn q (map (λ (k : Cell SemOf). places k n) cells) seats → seats ≡ fresh_at q cells
-column-fresh n q cells seats low col = column-made (λ (k : Cell SemOf). places k n) (λ (k : Cell SemOf). place k q) q (λ k. get-fresh k n q low) cells seats col
+pub column-fresh : (n q : ℕ) (cells : List (Cell SemOf)) (seats : List Seat) → q < n → IsColumn q (map (λ (k : Cell SemOf). views k n) cells) seats → seats ≡ fresh_at q cells
+column-fresh n q cells seats low col = column-made (λ (k : Cell SemOf). views k n) (λ (k : Cell SemOf). view k q) q (λ k. get-fresh k n q low) cells seats col
 
 pub cells-fresh : (q : ℕ) (cells : List (Cell SemOf)) → cells_of (fresh_at q cells) ≡ cells
-cells-fresh q cells = map-back (λ (a : Seat). a.cell) (λ (k : Cell SemOf). place k q) (λ k. refl) cells
+cells-fresh q cells = map-back (λ (a : Seat). a.cell) (λ (k : Cell SemOf). view k q) (λ k. refl) cells
 
 pub unused-fresh : (p : Parts) (q : ℕ) (cells : List (Cell SemOf)) → length cells ≡ length p.sems → AreFrom (λ s (k : Cell SemOf). k.subject ≡ Some (book_of p s)) 1 cells
     → AreUnused p q (fresh_at q cells)
 unused-fresh p q cells count about = record {
-  count = length-map cells (λ (k : Cell SemOf). place k q) ∙ count;
+  count = length-map cells (λ (k : Cell SemOf). view k q) ∙ count;
   each = λ i d low. let k = at i d low in subst (IsSeatAt p q (i + 1)) (sym k.2) (seat i k.0 k.1);
   unseen = λ i d low. ap (λ (a : Seat). a.seen) (at i d low).2;
 }
   where
-    at : (i : ℕ) (d : Seat) → i < length (fresh_at q cells) → (k : Cell SemOf) × (slice_get cells i ≡ Some k) × (slice_index_or (fresh_at q cells) i d ≡ place k q)
+    at : (i : ℕ) (d : Seat) → i < length (fresh_at q cells) → (k : Cell SemOf) × (slice_get cells i ≡ Some k) × (slice_index_or (fresh_at q cells) i d ≡ view k q)
     at i d low =
-        let l = length-map cells (λ (k : Cell SemOf). place k q) in
+        let l = length-map cells (λ (k : Cell SemOf). view k q) in
         let k = got cells i (omega (arith, low, l)) in
-        (k.0, k.1, get_or_from_slice_get (fresh_at q cells) i (place k.0 q) d (slice_get-map (λ (c : Cell SemOf). place c q) cells i ∙ ap (option_map (λ (c : Cell SemOf). place c q)) k.1))
+        (k.0, k.1, get_or_from_slice_get (fresh_at q cells) i (view k.0 q) d (slice_get-map (λ (c : Cell SemOf). view c q) cells i ∙ ap (option_map (λ (c : Cell SemOf). view c q)) k.1))
 
-    seat : (i : ℕ) (k : Cell SemOf) → slice_get cells i ≡ Some k → IsSeatAt p q (i + 1) (place k q)
+    seat : (i : ℕ) (k : Cell SemOf) → slice_get cells i ≡ Some k → IsSeatAt p q (i + 1) (view k q)
     seat i k there =
         let e : 1 + i ≡ i + 1 = omega arith in
         let subject = from-get (λ s (c : Cell SemOf). c.subject ≡ Some (book_of p s)) 1 cells i k about there in
         record { cpu = refl; rests = refl; about = subst (λ s. k.subject ≡ Some (book_of p s)) e subject }
 
 -- the rows of the turns of a set
-pub row-places : (p : Parts) (s : ℕ) (us : List SemTurn) → AreTurnsFrom p s us → rows_in us ≡ map (λ (k : Cell SemOf). places k (processor_count p)) (cells_in us)
-row-places p s [] h = refl
-row-places p s (t ∷ us) h = let first = h.0.seats in let others = row-places p (suc s) us h.1 in (λ i. first i ∷ others i)
+pub row-views : (p : Parts) (s : ℕ) (us : List SemTurn) → AreTurnsFrom p s us → rows_in us ≡ map (λ (k : Cell SemOf). views k (processor_count p)) (cells_in us)
+row-views p s [] h = refl
+row-views p s (t ∷ us) h = let first = h.0.seats in let others = row-views p (suc s) us h.1 in (λ i. first i ∷ others i)
 
 pub row-abouts : (p : Parts) (s : ℕ) (us : List SemTurn) → AreTurnsFrom p s us → AreFrom (λ r (k : Cell SemOf). k.subject ≡ Some (book_of p r)) s (cells_in us)
 row-abouts p s [] h = tt
@@ -98,7 +98,7 @@ row-abouts p s (t ∷ us) h = (h.0.book, row-abouts p (suc s) us h.1)
 abbrev pub fresh_rows : (p : Parts) (ts : List SemTurn) (rows : List (List Seat)) → AreTurns p ts → rows ≡ rows_in ts → AreFreshRows p rows
 fresh_rows p ts rows are same = record {
   cells = cells_in ts;
-  rows_are = same ∙ row-places p 1 ts are.each;
+  rows_are = same ∙ row-views p 1 ts are.each;
   count = length-map ts (λ (t : SemTurn). t.turn.cell) ∙ are.count;
   about = row-abouts p 1 ts are.each;
 }
@@ -128,7 +128,7 @@ open-unused p rows fr q seats low col =
 pub rows-wide : (p : Parts) (rows : List (List Seat)) → AreFreshRows p rows → All (λ row. length row ≡ processor_count p) rows
 rows-wide p rows fr =
     subst (All (λ row. length row ≡ processor_count p)) (sym fr.rows_are)
-    (all-map (λ row. length row ≡ processor_count p) (λ (k : Cell SemOf). places k (processor_count p)) fr.cells (λ k. length-fresh k (processor_count p)))
+    (all-map (λ row. length row ≡ processor_count p) (λ (k : Cell SemOf). views k (processor_count p)) fr.cells (λ k. length-fresh k (processor_count p)))
 
 module _ (p : Parts) (valid : IsValid p) (split : is_split_set p ≡ true) (rows : List (List Seat)) (fr : AreFreshRows p rows) where
   -- all seats are there at first
@@ -152,12 +152,12 @@ module _ (table : TableId) (ts quotas : List ℕ) where
 
   pub get-poster : (n q : ℕ) → q < n → slice_get (fresh_posters table ts quotas n) q ≡ Some (fresh_poster table ts quotas q)
   get-poster zero q low = absurd (omega (arith, low))
-  get-poster (suc n) q low = by_place (nat_lt q n) refl (get-poster n q)
+  get-poster (suc n) q low = by_view (nat_lt q n) refl (get-poster n q)
     where
-      by_place : (b : Bool) → nat_lt q n ≡ b → (q < n → slice_get (fresh_posters table ts quotas n) q ≡ Some (fresh_poster table ts quotas q))
+      by_view : (b : Bool) → nat_lt q n ≡ b → (q < n → slice_get (fresh_posters table ts quotas n) q ≡ Some (fresh_poster table ts quotas q))
           → slice_get (fresh_posters table ts quotas (suc n)) q ≡ Some (fresh_poster table ts quotas q)
-      by_place true h before = get-first (fresh_posters table ts quotas n) (fresh_poster table ts quotas n ∷ []) q (fresh_poster table ts quotas q) (before (ltb-true _ _ h))
-      by_place false h before = let high = ltb-false q n h in last-poster n q (omega (arith, low, high))
+      by_view true h before = get-first (fresh_posters table ts quotas n) (fresh_poster table ts quotas n ∷ []) q (fresh_poster table ts quotas q) (before (ltb-true _ _ h))
+      by_view false h before = let high = ltb-false q n h in last-poster n q (omega (arith, low, high))
 
   pub none-posted : (n : ℕ) → All (λ (b : PosterOf). b.posted ≡ []) (fresh_posters table ts quotas n)
   none-posted zero = λ i d low. absurd (omega (arith, low))
@@ -200,7 +200,7 @@ module _ (p : Parts) (rows : List (List Seat)) (fr : AreFreshRows p rows) (parts
   taker-count : length takers ≡ length parts
   taker-count = sym (both-length (IsFreshTaker quotas) parts takers are)
 
-  -- what is known of the taker at a place
+  -- what is known of the taker at a view
   pub record IsTakerAt (q : ℕ) (t : TakerOf) : Type 0 where
     pub low : q < processor_count p
     pub inbox : t.inbox ≡ inbox_at t.inbox.table t.quotas
@@ -288,7 +288,7 @@ module _ (p : Parts) (rows : List (List Seat)) (fr : AreFreshRows p rows) (parts
     where
       unseen : (s : ℕ) → books_in (fresh_at q cells) s ≡ []
       unseen zero = refl
-      unseen (suc n) = none-made (λ (b : Seat). b.seen) (λ (k : Cell SemOf). place k q) (λ k. refl) cells n
+      unseen (suc n) = none-made (λ (b : Seat). b.seen) (λ (k : Cell SemOf). view k q) (λ k. refl) cells n
 
   pub can-seat : CanSeat cells parts (posters_at takers) takers
   can-seat = record {

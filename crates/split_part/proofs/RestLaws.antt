@@ -85,12 +85,12 @@ module _ (a : PartOf) (kept : IsPartition a) (c : inbox.Claim) (cs : List inbox.
     taken-is = map_push taken_claim can.taken c
 
     from-more : (x : TakenGrant) → Among x (map taken_claim (can.taken ++ c ∷ [])) → cpu_at (books_in a'.seats x.claim.sem) x.claim.no ≡ Some x.from
-    from-more x m = by_place (among-either x (map taken_claim can.taken) (taken_claim c ∷ []) (subst (Among x) taken-is m))
+    from-more x m = by_view (among-either x (map taken_claim can.taken) (taken_claim c ∷ []) (subst (Among x) taken-is m))
       where
-        by_place : Among x (map taken_claim can.taken) ⊎ Among x (taken_claim c ∷ []) → cpu_at (books_in a'.seats x.claim.sem) x.claim.no ≡ Some x.from
-        by_place (inl k) = grown-cpu a.cpu (books_in a.seats) (books_in a'.seats) took.grown x.claim.sem x.claim.no x.from (can.from x k)
-        by_place (inr (inl k)) = subst (λ (y : TakenGrant). cpu_at (books_in a'.seats y.claim.sem) y.claim.no ≡ Some y.from) (sym k) took.from
-        by_place (inr (inr k)) = elim k [ ]
+        by_view : Among x (map taken_claim can.taken) ⊎ Among x (taken_claim c ∷ []) → cpu_at (books_in a'.seats x.claim.sem) x.claim.no ≡ Some x.from
+        by_view (inl k) = grown-cpu a.cpu (books_in a.seats) (books_in a'.seats) took.grown x.claim.sem x.claim.no x.from (can.from x k)
+        by_view (inr (inl k)) = subst (λ (y : TakenGrant). cpu_at (books_in a'.seats y.claim.sem) y.claim.no ≡ Some y.from) (sym k) took.from
+        by_view (inr (inr k)) = elim k [ ]
 
     pub can-more : CanTake a' cs
     can-more = record {

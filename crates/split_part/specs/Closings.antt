@@ -23,7 +23,7 @@ use Rattle.split_part.specs.Columns.{AreFrom, IsColumn}
 abbrev pub claims_in : List GrantOf → List inbox.Claim
 claims_in gs = map claim_of gs
 
--- what is left of inbox r, whose posters stand at place r of the rows: of each poster what was taken and then this are what it posted
+-- what is left of inbox r, whose posters stand at view r of the rows: of each poster what was taken and then this are what it posted
 pub record IsRest (rows : List (List PosterOf)) (r : ℕ) (t : TakerOf) (rest : List inbox.Claim) : Type 0 where
   pub hand : List PosterOf
   pub column : IsColumn r rows hand

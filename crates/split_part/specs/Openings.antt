@@ -30,7 +30,7 @@ pub record AreFreshRows (p : Parts) (rows : List (List Seat)) : Type 0 where
   pub count : length cells ≡ length p.sems
   pub about : AreFrom (λ s (k : Cell SemOf). k.subject ≡ Some (book_of p s)) 1 cells
 
--- the partition of processor q before its first step, with the seats at place q of the rows
+-- the partition of processor q before its first step, with the seats at view q of the rows
 pub record IsOpenPart (p : Parts) (rows : List (List Seat)) (q : ℕ) (a : PartOf) : Type 0 where
   pub is : a ≡ unplayed p q a.seats a.room
   pub column : IsColumn q rows a.seats
@@ -56,7 +56,7 @@ posters_at ts = map (λ (t : TakerOf). fresh_posters t.inbox.table t.tasks t.quo
 
 -- ---- seats
 
--- the seat of processor q has its partition, the posters at place q of the rows, and its taker
+-- the seat of processor q has its partition, the posters at view q of the rows, and its taker
 pub record IsSeated (parts : List PartOf) (rows : List (List PosterOf)) (takers : List TakerOf) (q : ℕ) (a : PartSeatView) : Type 0 where
   pub part : slice_get parts q ≡ Some a.part
   pub posters : IsColumn q rows a.posters

@@ -21,9 +21,9 @@ pub record IsSeatOf (x : SplitOf) (a : PartSeatView) : Type 0 where
   pub seat : steps.IsSeatOf x.turns x.inboxes a
 
 -- all seats of the run, by the number of the processor
-pub record AreSeatsOf (x : SplitOf) (places : List PartSeatView) : Type 0 where
-  pub count : length places ≡ processor_count x.setup
-  pub each : (q : ℕ) (d : PartSeatView) → q < length places → IsSeatOf x (slice_index_or places q d) × ((slice_index_or places q d).part.cpu ≡ q)
+pub record AreSeatsOf (x : SplitOf) (views : List PartSeatView) : Type 0 where
+  pub count : length views ≡ processor_count x.setup
+  pub each : (q : ℕ) (d : PartSeatView) → q < length views → IsSeatOf x (slice_index_or views q d) × ((slice_index_or views q d).part.cpu ≡ q)
 
 -- the turns' names
 abbrev pub cells_in : List SemTurn → List (Cell SemOf)
@@ -31,4 +31,4 @@ cells_in ts = map (λ (t : SemTurn). t.turn.cell) ts
 
 -- seats of which no step was played
 abbrev pub AreUnplayed : List PartSeatView → Type 0
-AreUnplayed places = (q : ℕ) (d : PartSeatView) → q < length places → (slice_index_or places q d).part.entries ≡ []
+AreUnplayed views = (q : ℕ) (d : PartSeatView) → q < length views → (slice_index_or views q d).part.entries ≡ []

@@ -132,7 +132,7 @@ pub(crate) fn inboxes<N: Names>(
     Ok((inboxes, rows, takers))
 }
 
-/// The seats of the partitions, in their order: each has the posters that stand at its place of the rows, and its taker.
+/// The seats of the partitions, in their order: each has the posters that stand at its view of the rows, and its taker.
 pub(crate) fn seated<N: Names>(
     alloc: Global,
     mut parts: Vec<Partition>,

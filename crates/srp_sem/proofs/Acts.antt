@@ -55,8 +55,8 @@ asked-kept ceilings held capacity capacity' t s k below free more = record {
     split r (inr m) = k.known r m
 
 -- there is room for it
-pub has-place : (ceilings : List ℕ) (held : List TaskSem) (capacity s : ℕ) → IsSrp ceilings held capacity → s < length ceilings → has s (sems_of held) ≡ false → length held < capacity
-has-place ceilings held capacity s k below free =
+pub has-position : (ceilings : List ℕ) (held : List TaskSem) (capacity s : ℕ) → IsSrp ceilings held capacity → s < length ceilings → has s (sems_of held) ≡ false → length held < capacity
+has-position ceilings held capacity s k below free =
     let more : IsSrp ceilings (record { task = 0; sem = s } ∷ held) capacity = asked-kept ceilings held capacity capacity 0 s k below free (omega arith) in
     let few : length (s ∷ sems_of held) ≤ length ceilings = length-few (length ceilings) (s ∷ sems_of held) more.one_holder more.known in
     omega (arith, few, length-sems held, k.room)

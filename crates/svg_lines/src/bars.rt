@@ -45,7 +45,7 @@ pub fn put_words_if(
     put_words(out, class, x, y, words)
 }
 
-/// A place and a size.
+/// A position and a size.
 #[derive(Clone, Copy)]
 pub struct Area {
     pub x: Pixels,

@@ -65,9 +65,9 @@ fn value_at(values: &[u64], i: u64) -> u64
     }
 }
 
-fn label_place(axis: Axis, x: Pixels) -> Pixels
+fn label_position(axis: Axis, x: Pixels) -> Pixels
     requires { x < 2 ^ 100 }
-    ensures { result ≡ spec.label_place axis x }
+    ensures { result ≡ spec.label_position axis x }
 {
     match axis {
         Axis::Ticks => x,
@@ -120,7 +120,7 @@ fn put_column_words(
         ++ spec.column_words grid.axis grid.step (panel_shown panel.now) i x grid.y) }
 {
     let label = number_text(alloc, value_at(&panel.labels, i))?;
-    put_words(out, b"n m", label_place(grid.axis, x), grid.y + 50, &label)?;
+    put_words(out, b"n m", label_position(grid.axis, x), grid.y + 50, &label)?;
     put_clock(alloc, out, grid, &panel.clocks, i, x)
 }
 

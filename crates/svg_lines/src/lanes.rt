@@ -20,7 +20,7 @@ use std::alloc::Global;
 /// Where a column begins, and how wide so many are.
 pub fn column_x(edge: Pixels, column: usize) -> Pixels
     requires { edge < 2 ^ 90 }
-    ensures place { result ≡ edge + 20 * column }
+    ensures position { result ≡ edge + 20 * column }
     ensures small { result < 2 ^ 91 }
 {
     edge + 20 * column as u128

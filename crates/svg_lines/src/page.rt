@@ -85,7 +85,7 @@ fn rows_height(panel: &Panel) -> Pixels
 #[tactic(auto, unfolding(svg_texts::specs::SvgText::below))]
 fn below(panels: &[Panel]) -> Pixels
     requires { length panels.now ≤ MOST_CLUSTERS }
-    ensures place { result ≡ spec.below 40 (map panel_shown panels.now) }
+    ensures position { result ≡ spec.below 40 (map panel_shown panels.now) }
     ensures small { result < 2 ^ 79 }
 {
     let mut y = 40;

@@ -126,7 +126,7 @@ fn same_part(a: &Part, b: &Part) -> bool
     }
 }
 
-/// Where the run of equal parts that begins at a place ends.
+/// Where the run of equal parts that begins at a position ends.
 pub fn run_end(parts: &[Part], from: usize) -> usize
     requires { from < length parts.now }
     ensures after { from < result }

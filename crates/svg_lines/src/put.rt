@@ -5,7 +5,7 @@ ghost use Rattle.svg_texts.specs.Shapes as spec;
 use itoa::Buffer;
 use std::alloc::AllocError;
 
-/// A place or a size, in pixels. No sum of those of a picture wraps.
+/// A position or a size, in pixels. No sum of those of a picture wraps.
 pub type Pixels = u128;
 
 pub fn put(out: &mut Vec<u8>, bytes: &[u8]) -> Result<(), AllocError>

@@ -21,9 +21,9 @@ abbrev pub step_of : Axis → Window → List Panel → ℕ
 step_of axis w ps = if nat_le w.to 100 && all_short axis ps then 1 else 5
 
 -- a tick's label stands at the edge of its column, and an entry's in the middle
-abbrev pub label_place : Axis → ℕ → ℕ
-label_place Ticks x = x
-label_place Entries x = x + 10
+abbrev pub label_position : Axis → ℕ → ℕ
+label_position Ticks x = x
+label_position Entries x = x + 10
 
 abbrev pub value_at : List ℕ → ℕ → ℕ
 value_at values i = slice_index_or values i 0
@@ -40,7 +40,7 @@ clock_words Entries step clocks i x y =
 -- the label of column i, and by entries its clock
 unfoldable pub column_words : Axis → ℕ → Panel → ℕ → ℕ → ℕ → List ℕ
 column_words axis step c i x y =
-    words (codes "n m") (label_place axis x) (y + 50) (decimal (value_at c.labels i)) ++ clock_words axis step c.clocks i x y
+    words (codes "n m") (label_position axis x) (y + 50) (decimal (value_at c.labels i)) ++ clock_words axis step c.clocks i x y
 
 -- each fifth line is darker
 abbrev pub line_class : ℕ → List ℕ

@@ -3,15 +3,15 @@ use Rattle.std.specs.Prelude.{ℕ, ◌+◌, ◌-◌, ◌*◌, List, flat_map}
 use Rattle.trace_views.specs.Spans.{Span, spans}
 use Rattle.svg_texts.specs.Parts.{Part, same_part}
 
-abbrev pub place_of : ℕ → Span Part → ℕ
-place_of left s = left + 20 * s.from
+abbrev pub position_of : ℕ → Span Part → ℕ
+position_of left s = left + 20 * s.from
 
 abbrev pub width_of : Span Part → ℕ
 width_of s = 20 * (s.to - s.from)
 
--- spans, each by its place, its width and its part
+-- spans, each by its position, its width and its part
 abbrev pub drawn : (ℕ → ℕ → Part → List ℕ) → ℕ → List (Span Part) → List ℕ
-drawn draw left ss = flat_map (λ (s : Span Part). draw (place_of left s) (width_of s) s.value) ss
+drawn draw left ss = flat_map (λ (s : Span Part). draw (position_of left s) (width_of s) s.value) ss
 
 unfoldable pub lane : (ℕ → ℕ → Part → List ℕ) → ℕ → List Part → List ℕ
 lane draw left parts = drawn draw left (spans same_part parts)

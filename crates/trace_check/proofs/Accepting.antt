@@ -29,7 +29,7 @@ use Rattle.trace_check.specs.declared.links.GroupLinks.{GroupLinks}
 use Rattle.trace_course.specs.Courses.{CanTake, IsCourse, IsOnCourse}
 use Rattle.trace_check.specs.inside.GroupLinks.{AreLinks, CanRead}
 use Rattle.trace_check.specs.inside.Following.{CanStep, IsFollowing, IsFollowingWith}
-use Rattle.trace_course.specs.Places.{IsNextStep, Place, entry_by, longer}
+use Rattle.trace_course.specs.Followed.{IsNextStep, GroupEntries, entry_by, longer}
 
 -- what is read of a line says the same as what drives a group
 pub says-tick : (act : Act) → is_tick act ≡ says_tick act
@@ -55,13 +55,13 @@ line-same v p q i count e made links shown set number entry same =
     ∙ ap (λ (x : Entry). line_text (known_of v p) (entry_line count x links)) entry ∙ ap (λ (xs : List Link). line_text (known_of v p) (entry_line count made xs)) same
 
 -- its course is followed as far
-pub on-course : (at : Place) (p : Parts) (f : Follow) → IsFollowingWith at p f → IsOnCourse at p f.course
+pub on-course : (at : GroupEntries) (p : Parts) (f : Follow) → IsFollowingWith at p f → IsOnCourse at p f.course
 on-course at p f fw = record { valid = fw.following.valid; setup_is = fw.setup_is; begun = fw.following.begun; course_is = fw.following.course_is }
 
-pub can-take : (at : Place) (p : Parts) (f : Follow) → IsFollowingWith at p f → CanTake at p f.afresh f.course
+pub can-take : (at : GroupEntries) (p : Parts) (f : Follow) → IsFollowingWith at p f → CanTake at p f.afresh f.course
 can-take at p f fw = record { on_course = on-course at p f fw; group_is = fw.following.group_is; stands = fw.following.at }
 
-module _ (at : Place) (p : Parts) (f : Follow) (fw : IsFollowingWith at p f) (step : Step) (next : IsNextStep at.group at.entries step) where
+module _ (at : GroupEntries) (p : Parts) (f : Follow) (fw : IsFollowingWith at p f) (step : Step) (next : IsNextStep at.group at.entries step) where
   abbrev g : Group
   g = at.group
 

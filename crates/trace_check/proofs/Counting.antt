@@ -19,12 +19,12 @@ use Rattle.rank_afresh.specs.Standing.{IsOfSame, Standing, group_of}
 use Rattle.trace_text.proofs.BlockLines.{names-known, reachable-past_of}
 use Rattle.trace_check.specs.declared.follow.Follow.{Follow}
 use Rattle.trace_check.specs.inside.Following.{CanStep}
-use Rattle.trace_course.specs.Places.{Place}
+use Rattle.trace_course.specs.Followed.{GroupEntries}
 
 pub group-same : (v w : Standing) → IsOfSame v w → group_of w ≡ group_of v
 group-same v w same = λ i. record { setup = same.setup_is i; number = same.group_is i }
 
-module _ (at : Place) (f : Follow) (step : Step) (can : CanStep at f step) where
+module _ (at : GroupEntries) (f : Follow) (step : Step) (can : CanStep at f step) where
   abbrev g : Group
   g = at.group
 

@@ -13,7 +13,7 @@ use Rattle.trace_text.specs.TraceText.{block_lines, block_of, entry_lines, group
 use Rattle.trace_laws.proofs.Plays.{begun-legal, begun-whole}
 use Rattle.trace_laws.proofs.ReadBack.{entries_first, histories_said, first-entries, said-entries}
 use Rattle.trace_check.specs.inside.GroupLines.{IsOtherLine, lines_so_far, next_line, opening_line}
-use Rattle.trace_course.specs.Places.{IsNextStep, entry_by}
+use Rattle.trace_course.specs.Followed.{IsNextStep, entry_by}
 
 entry_lines-append : (g : Group) (i : ℕ) (past : Past) (es more : List Entry) → entry_lines g i past (es ++ more) ≡ entry_lines g i past es ++ entry_lines g (i + length es) (past_from g past es) more
 unfolding entry_lines past_from

@@ -14,7 +14,7 @@ use Rattle.trace_read.specs.declared.head.TraceHead.{TraceHead}
 use Rattle.trace_laws.proofs.Heads.{head-unique}
 use Rattle.trace_laws.proofs.OneLine.{canonical-one_line}
 use Rattle.trace_text.specs.TraceText.{head_text}
-use Rattle.trace_check.proofs.TextPlaces.{rest-of}
+use Rattle.trace_check.proofs.TextPositions.{rest-of}
 
 pub has-head : (v : Version) (p : Parts) (bytes head : List ℕ) (b : Bool) → head ≡ head_text v p → b ≡ starts_with eqb bytes head
     → (b ≡ true) ↔ ((rest : List ℕ) × (bytes ≡ head_text v p ++ rest))

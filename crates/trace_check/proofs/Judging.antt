@@ -43,7 +43,7 @@ use Rattle.trace_check.specs.declared.verdict.Verdict.{Verdict}
 use Rattle.trace_check.specs.declared.verdict.Verdict.TheVariants.{Invalid, Valid}
 use Rattle.trace_check.specs.Verdicts.{IsInvalid, IsVerdict}
 use Rattle.trace_check.specs.inside.Following.{HasTaken, IsFollowing, IsFollowingWith, IsNextEntry, IsTaken, NoneIsNext}
-use Rattle.trace_course.specs.Places.{Place}
+use Rattle.trace_course.specs.Followed.{GroupEntries}
 use Rattle.trace_check.specs.inside.GroupLines.{ArePlaysFrom, IsOtherLine, NoEntryBegins, NoEntryBehind, NoEntryFirst, lines_of_groups, lines_so_far, next_line, opening_line}
 use Rattle.trace_check.specs.Counts.{IsCountedText}
 use Rattle.trace_check.specs.inside.Judging.{IsJudged, IsJudgedText, IsShownText, verdict_behind}
@@ -55,7 +55,7 @@ use Rattle.trace_check.proofs.GroupLines.{IsNoEnd, blocks-no_end, blocks-other, 
 use Rattle.trace_check.proofs.SetLines.{AreClosed, GoesOn, IsEntryNext, IsNextAfter, completed-between, completed-whole, completed-within, from-all, goes-on, groups-no_end, lines-last, lines_behind, lines_through, next-between, next-within, plays-append, whole-lines}
 use Rattle.trace_check.proofs.Judged.{alone-valid, behind-wrong, counted-valid, counts-begun, heads, same-histories, text_is}
 use Rattle.trace_check.proofs.Shown.{lines-shown, shown-group, shown-more, shown-none}
-use Rattle.trace_check.proofs.TextPlaces.{StandFirst, lines-short, rest-of, size-is, stand-further, stand-line, stopped-at, texts, texts-more, wrong-lines}
+use Rattle.trace_check.proofs.TextPositions.{StandFirst, lines-short, rest-of, size-is, stand-further, stand-line, stopped-at, texts, texts-more, wrong-lines}
 
 -- two lists with one element more that are the same
 last-same : {A : Type 0} (xs ys : List A) (x y : A) → xs ++ x ∷ [] ≡ ys ++ y ∷ [] → (xs ≡ ys) × (x ≡ y)
@@ -73,11 +73,11 @@ last-same {A = A} (a ∷ xs) (b ∷ ys) x y e =
     rest-same : (us vs : List A) → a ∷ us ≡ b ∷ vs → us ≡ vs
     rest-same us vs k = cc
 
--- what comes of taking a line, in the part of a text behind a place
-pub taken-rest : (at : Place) (v : Version) (size : ℕ) (text line : List ℕ) (o : Option Entry) (f : Follow) → HasTaken at v (take (length text - size) (drop size text)) line o f → HasTaken at v (drop size text) line o f
+-- what comes of taking a line, in the part of a text behind a position
+pub taken-rest : (at : GroupEntries) (v : Version) (size : ℕ) (text line : List ℕ) (o : Option Entry) (f : Follow) → HasTaken at v (take (length text - size) (drop size text)) line o f → HasTaken at v (drop size text) line o f
 taken-rest at v size text line o f h = subst (λ (xs : List ℕ). HasTaken at v xs line o f) (rest-of size text) h
 
-pub none-taken-there : (at : Place) (v : Version) (text line : List ℕ) (o : Option Entry) (f : Follow) → ((e : Entry) → o ≡ Some e → ⊥) → HasTaken at v text line o f → NoneIsNext at v text
+pub none-taken-there : (at : GroupEntries) (v : Version) (text line : List ℕ) (o : Option Entry) (f : Follow) → ((e : Entry) → o ≡ Some e → ⊥) → HasTaken at v text line o f → NoneIsNext at v text
 none-taken-there at v text line None f none h = h
 none-taken-there at v text line (Some e) f none h = absurd (none e refl)
 
@@ -125,8 +125,8 @@ module _ (v : Version) (p : Parts) (text : List ℕ) where
   k = known_of v p
 
   -- where they were followed to
-  abbrev pub place_at : {n : ℕ} → {from : Progress} → {size : ℕ} → {f : Follow} → {opened was counters : List Counter} → IsRight v p text n from size f opened was counters → Place
-  place_at {n = n} right = record { group = group_with p n; entries = right.entries }
+  abbrev pub position_at : {n : ℕ} → {from : Progress} → {size : ℕ} → {f : Follow} → {opened was counters : List Counter} → IsRight v p text n from size f opened was counters → GroupEntries
+  position_at {n = n} right = record { group = group_with p n; entries = right.entries }
 
   right-stands : {n : ℕ} → {r : Progress} → {opened counters : List Counter} → (right : AreRight v p text n r opened counters) → StandFirst k text (lines_of_groups p 0 right.histories) r.length
   right-stands right = record { within = right.within; text_is = right.text_is }
@@ -135,7 +135,7 @@ module _ (v : Version) (p : Parts) (text : List ℕ) where
   pub right-short : (n : ℕ) (r : Progress) (opened counters : List Counter) → AreRight v p text n r opened counters → r.lines ≤ r.length
   right-short n r opened counters right =
       let ls : List Line = lines_of_groups p 0 right.histories in
-      omega (arith, right.place_is, lines-short k ls, size-is k text ls r.length (right-stands right))
+      omega (arith, right.position_is, lines-short k ls, size-is k text ls r.length (right-stands right))
 
   -- what stands behind whole groups is of no entry behind those of the last
   closed-by : {n : ℕ} → {r : Progress} → {opened counters : List Counter} → (right : AreRight v p text n r opened counters) (l : Line) (more : List ℕ) (ls : List Line) → IsLine k l
@@ -152,7 +152,7 @@ module _ (v : Version) (p : Parts) (text : List ℕ) where
     histories = [];
     plays = tt;
     count = refl;
-    place_is = refl;
+    position_is = refl;
     within = omega arith;
     text_is = refl;
     entries_are = refl;
@@ -165,7 +165,7 @@ module _ (v : Version) (p : Parts) (text : List ℕ) where
   module _ (n : ℕ) (r : Progress) (opened was : List Counter) (right : AreRight v p text n r opened was) where
     -- it is not there
     pub opened-wrong : IsValid p → n < group_count p → (l : Line) → l ≡ opening_line (group_with p n) → ((more : List ℕ) → drop r.length text ≡ line_text k l ++ more → ⊥) → IsJudged v p text (Invalid (r.lines + 3))
-    opened-wrong valid low line is none tools bytes head = subst (λ (m : ℕ). IsInvalid tools v p bytes (m + 3)) (sym right.place_is) (stopped-at tools v p valid bytes text head front (drop r.length text) (record {
+    opened-wrong valid low line is none tools bytes head = subst (λ (m : ℕ). IsInvalid tools v p bytes (m + 3)) (sym right.position_is) (stopped-at tools v p valid bytes text head front (drop r.length text) (record {
       text_is = right.text_is;
       plays = all.0;
       are_plays = all.1;
@@ -205,13 +205,13 @@ module _ (v : Version) (p : Parts) (text : List ℕ) where
           following = following;
           within = stands.within;
           text_is = stands.text_is;
-          place_is = omega (arith, right.place_is, following.count_is, length-append front (lines_so_far g []), ap length (lines_so_far-none g));
+          position_is = omega (arith, right.position_is, following.count_is, length-append front (lines_so_far g []), ap length (lines_so_far-none g));
         }
 
   -- ---- lines of entries
 
   -- they were followed by the set
-  pub followed-with : {n : ℕ} → {from : Progress} → {size : ℕ} → {f : Follow} → {opened was counters : List Counter} → (right : IsRight v p text n from size f opened was counters) → IsFollowingWith (place_at right) p f
+  pub followed-with : {n : ℕ} → {from : Progress} → {size : ℕ} → {f : Follow} → {opened was counters : List Counter} → (right : IsRight v p text n from size f opened was counters) → IsFollowingWith (position_at right) p f
   followed-with right = record { following = right.following; setup_is = refl }
 
   module _ (n : ℕ) (from : Progress) (size : ℕ) (f : Follow) (opened was counters : List Counter) (right : IsRight v p text n from size f opened was counters) where
@@ -240,11 +240,11 @@ module _ (v : Version) (p : Parts) (text : List ℕ) where
     stands = record { within = right.within; text_is = right.text_is }
 
     -- there are no more lines than bytes
-    pub place-short : from.lines + 1 + f.count ≤ size
-    place-short = omega (arith, right.place_is, lines-short k front, size-is k text front size stands)
+    pub position-short : from.lines + 1 + f.count ≤ size
+    position-short = omega (arith, right.position_is, lines-short k front, size-is k text front size stands)
 
     -- the next entry is followed
-    pub taken-right : (line : List ℕ) (e : Entry) (f' : Follow) (counters' : List Counter) → IsTaken (place_at right) v rest line e f'
+    pub taken-right : (line : List ℕ) (e : Entry) (f' : Follow) (counters' : List Counter) → IsTaken (position_at right) v rest line e f'
         → counters' ≡ map (counter_after (shown_as g f.count e (past_of g (es ++ e ∷ [])))) counters → IsRight v p text n from (size + length line) f' opened was counters'
     taken-right line e f' counters' taken fed = record {
       before = right.before;
@@ -253,8 +253,8 @@ module _ (v : Version) (p : Parts) (text : List ℕ) where
       following = taken.following;
       within = stands-more.within;
       text_is = stands-more.text_is;
-      place_is =
-          omega (arith, right.place_is, right.following.count_is, taken.following.count_is, length-append es (e ∷ []), ap length more, length-append front (next_line g es e ∷ []));
+      position_is =
+          omega (arith, right.position_is, right.following.count_is, taken.following.count_is, length-append es (e ∷ []), ap length more, length-append front (next_line g es e ∷ []));
     }
       where
         more : front ++ next_line g es e ∷ [] ≡ lines_through p done n (es ++ e ∷ [])
@@ -267,7 +267,7 @@ module _ (v : Version) (p : Parts) (text : List ℕ) where
 
     -- the line behind them is wrong where none that may come there is it
     wrong-there : ((l : Line) (more : List ℕ) → IsLine k l → rest ≡ line_text k l ++ more → IsEntryNext g es l ⊎ (IsPlay g es × IsOtherLine l) → ⊥) → IsJudged v p text (Invalid (from.lines + 1 + f.count + 3))
-    wrong-there none tools bytes head = subst (λ (m : ℕ). IsInvalid tools v p bytes (m + 3)) (sym right.place_is) (stopped-at tools v p valid bytes text head front rest (record {
+    wrong-there none tools bytes head = subst (λ (m : ℕ). IsInvalid tools v p bytes (m + 3)) (sym right.position_is) (stopped-at tools v p valid bytes text head front rest (record {
       text_is = right.text_is;
       plays = all.0;
       are_plays = all.1;
@@ -281,7 +281,7 @@ module _ (v : Version) (p : Parts) (text : List ℕ) where
         all = completed-within p done n es right.before.plays right.before.count low right.following.begun
 
     -- a line that begins as that of an entry, and is none that may come next
-    pub refused-there : NoneIsNext (place_at right) v rest → begins_with_digit rest ≡ true → IsJudged v p text (Invalid (from.lines + 1 + f.count + 3))
+    pub refused-there : NoneIsNext (position_at right) v rest → begins_with_digit rest ≡ true → IsJudged v p text (Invalid (from.lines + 1 + f.count + 3))
     refused-there refused digit = wrong-there none
       where
         IsNextLine : Line → Type 0
@@ -336,7 +336,7 @@ module _ (v : Version) (p : Parts) (text : List ℕ) where
 
     -- the line of a request is missing
     missing-there : (s : Stood) → NoEntryBegins k rest → IsPlay g es → HaveStood k blocks rest s → s.count < length blocks → IsJudged v p text (Invalid (from.lines + 1 + f.count + s.count + 3))
-    missing-there s other over stood few tools bytes head = subst (λ (m : ℕ). IsInvalid tools v p bytes (m + 3)) (sym place_is) (stopped-at tools v p valid bytes text head here behind_those (record {
+    missing-there s other over stood few tools bytes head = subst (λ (m : ℕ). IsInvalid tools v p bytes (m + 3)) (sym position_is) (stopped-at tools v p valid bytes text head here behind_those (record {
       text_is = stands-on.text_is ∙ ap (λ (xs : List ℕ). texts k here ++ xs) (sym (drop-drop s.length size text));
       plays = all.0;
       are_plays = all.1;
@@ -359,8 +359,8 @@ module _ (v : Version) (p : Parts) (text : List ℕ) where
         stands-on : StandFirst k text here (size + s.length)
         stands-on = stand-further k text front (take s.count blocks) size s.length stands (record { within = stood.within; text_is = stood.text_is })
 
-        place_is : from.lines + 1 + f.count + s.count ≡ length here
-        place_is = omega (arith, right.place_is, length-append front (take s.count blocks), length-take-le s.count blocks stood.low)
+        position_is : from.lines + 1 + f.count + s.count ≡ length here
+        position_is = omega (arith, right.position_is, length-append front (take s.count blocks), length-take-le s.count blocks stood.low)
 
         next : (l : Line) → drop s.count blocks ≡ get_or blocks s.count l ∷ drop (suc s.count) blocks
         next l = drop-cons blocks s.count l few
@@ -398,7 +398,7 @@ module _ (v : Version) (p : Parts) (text : List ℕ) where
           histories = done ++ es ∷ [];
           plays = plays-append p 0 done (es ∷ []) right.before.plays (subst (λ (m : ℕ). IsPlay (group_with p m) es) here over, tt);
           count = omega (arith, right.before.count, length-append done (es ∷ []));
-          place_is = omega (arith, right.place_is, whole, ap length all, length-append front blocks);
+          position_is = omega (arith, right.position_is, whole, ap length all, length-append front blocks);
           within = stands-on.within;
           text_is = stands-on.text_is;
           entries_are = omega (arith, right.before.entries_are, right.following.count_is, count-more done es);
@@ -424,7 +424,7 @@ module _ (v : Version) (p : Parts) (text : List ℕ) where
         omega (arith, before, here, groups, low, right.before.count, right.before.entries_are, right.following.count_is)
 
     -- what comes of it
-    pub ended-there : (fd : Followed) → NoEntryBegins k rest → IsEndedAt (place_at right) k rest from f.count size fd → IsFollowedTo v p text n opened counters fd
+    pub ended-there : (fd : Followed) → NoEntryBegins k rest → IsEndedAt (position_at right) k rest from f.count size fd → IsFollowedTo v p text n opened counters fd
     ended-there fd other (unfinished left) = unfinished-there other left
     ended-there fd other (missing s over stood few) = missing-there s other over stood few
     ended-there fd other (finished s over stood whole) = group-right s other over stood whole
@@ -446,7 +446,7 @@ module _ (v : Version) (p : Parts) (text : List ℕ) where
 
     -- it is not there
     pub end-wrong : ((more : List ℕ) → drop r.length text ≡ line_text k end_line ++ more → ⊥) → IsJudged v p text (Invalid (r.lines + 3))
-    end-wrong other tools bytes head = subst (λ (m : ℕ). IsInvalid tools v p bytes (m + 3)) (sym all.right.place_is) (stopped-at tools v p all.valid bytes text head groups (drop r.length text) (record {
+    end-wrong other tools bytes head = subst (λ (m : ℕ). IsInvalid tools v p bytes (m + 3)) (sym all.right.position_is) (stopped-at tools v p all.valid bytes text head groups (drop r.length text) (record {
       text_is = all.right.text_is;
       plays = hs;
       are_plays = plays_all;
@@ -497,7 +497,7 @@ module _ (v : Version) (p : Parts) (text : List ℕ) where
       -- it is there, and what stands behind it is judged
       pub end-judged : (tools : List Tool) (wanted : List ℕ) → opened ≡ map counter_of tools → ((known : Known) → wanted ≡ texts known (map counter_line counters)) → IsJudgedText tools v p text (verdict_behind behind_end wanted (r.lines + 1 + 2) r.entries)
       end-judged tools wanted opened_is wanted_is bytes head =
-          let number : length (lines_from p 0 hs) + 2 ≡ r.lines + 1 + 2 = omega (arith, all.right.place_is, ap length lines_all, length-append groups (end_line ∷ [])) in
+          let number : length (lines_from p 0 hs) + 2 ≡ r.lines + 1 + 2 = omega (arith, all.right.position_is, ap length lines_all, length-append groups (end_line ∷ [])) in
           let shown : counters ≡ counters_after (shown_from p 0 hs) (map counter_of tools) = all.right.shown ∙ ap (counters_after (shown_from p 0 hs)) opened_is in
           let same : texts k (count_lines tools p hs) ≡ wanted = sym (wanted_is k ∙ ap (texts k) (lines-shown tools p hs counters shown)) in
           let told : verdict_behind behind_end (texts k (count_lines tools p hs)) (length (lines_from p 0 hs) + 2) (entry_count hs) ≡ verdict_behind behind_end wanted (r.lines + 1 + 2) r.entries =

@@ -10,6 +10,6 @@ pub mod Shown
 pub mod Judged
 pub mod Judging
 pub mod FirstLetters
-pub mod TextPlaces
+pub mod TextPositions
 pub mod RequestLaws
 pub mod Counting

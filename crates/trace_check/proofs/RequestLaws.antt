@@ -14,7 +14,7 @@ use Rattle.trace_text.specs.Groups.{request_line}
 use Rattle.trace_text.proofs.LineLaws as writer
 use Rattle.trace_check.specs.inside.RequestLines.{HaveStood, request_lines}
 use Rattle.trace_check.specs.declared.requests.Stood.{Stood}
-use Rattle.trace_check.proofs.TextPlaces.{StandFirst, lines-short, rest-of, size-is, stand-further, stand-line}
+use Rattle.trace_check.proofs.TextPositions.{StandFirst, lines-short, rest-of, size-is, stand-further, stand-line}
 
 -- the lines that are wanted of a group are those of its requests
 pub wanted-lines : (g : Group) (past : Past) → request_lines (tallies g past) ≡ block_lines g past
@@ -39,7 +39,7 @@ stood-more known rs text line k size r low stand is begins =
     subst (λ (ls : List Line). StandFirst known text ls (size + length line)) (sym more)
     (stand-further known text (take k wanted) (l ∷ []) size (length line) stand (stand-line known (drop size text) l line is begins))
 
--- what stood in the part of a text behind a place
+-- what stood in the part of a text behind a position
 pub stood-rest : (known : Known) (wanted : List Line) (size : ℕ) (text : List ℕ) (s : Stood) → HaveStood known wanted (take (length text - size) (drop size text)) s → HaveStood known wanted (drop size text) s
 stood-rest known wanted size text s h = subst (λ (xs : List ℕ). HaveStood known wanted xs s) (rest-of size text) h
 

@@ -76,19 +76,19 @@ known-there : (P : Line → Type 0) (front : List Line) (l : Line) (more : List 
 known-there P [] l more h = All-head P l more h
 known-there P (x ∷ front) l more h = known-there P front l more (All-tail P x (front ++ l ∷ more) h)
 
--- ---- places in a text
+-- ---- positions in a text
 
 pub rest-of : (n : ℕ) (xs : List ℕ) → take (length xs - n) (drop n xs) ≡ drop n xs
 rest-of n xs = take_all (length xs - n) (drop n xs) (omega (arith, length-drop n xs))
 
--- a text that begins behind a place with a line
+-- a text that begins behind a position with a line
 pub begins-rest : (size : ℕ) (text line items : List ℕ) → line ≡ items → take (length text - size) (drop size text) ≡ line ++ drop (length line) (take (length text - size) (drop size text))
     → drop size text ≡ items ++ drop (length items) (drop size text)
 begins-rest size text line items same is =
     let here : drop size text ≡ line ++ drop (length line) (drop size text) = subst (λ (xs : List ℕ). xs ≡ line ++ drop (length line) xs) (rest-of size text) is in
     subst (λ (xs : List ℕ). drop size text ≡ xs ++ drop (length xs) (drop size text)) same here
 
--- a line with which the text begins behind a place ends within it
+-- a line with which the text begins behind a position ends within it
 pub taken-inside : (text items line : List ℕ) (size : ℕ) → size ≤ length text → drop size text ≡ items ++ drop (length items) (drop size text) → line ≡ items → size + length line ≤ length text
 taken-inside text items line size low begins same =
     omega (arith, low, ap length begins, ap length same, length-append items (drop (length items) (drop size text)), length-drop size text)

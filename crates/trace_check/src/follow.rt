@@ -14,7 +14,7 @@ ghost use Rattle.trace_lines.specs.Known.{IsLine, known_of};
 ghost use Rattle.trace_lines.specs.Lines.{Link, entry_line};
 ghost use Rattle.trace_text.specs.CountLines.{shown_as};
 ghost use Rattle.trace_text.specs.TraceText.{block_lines};
-ghost use Rattle.trace_course.specs.Places.{IsNextStep, Place};
+ghost use Rattle.trace_course.specs.Followed.{IsNextStep, GroupEntries};
 ghost use Rattle.trace_check.specs.inside.Following.{CanStep, HasTaken, IsFollowing, IsFollowingWith};
 ghost use Rattle.trace_check.specs.inside.RequestLines.{request_lines};
 
@@ -75,10 +75,10 @@ impl Follow {
 
     /// Whether no processor has a step left.
     pub(crate) fn is_over(&self, setup: &Setup) -> bool
-        requires { (at : Place) × IsFollowingWith at setup.now self.now }
-        ensures over { (at : Place) → IsFollowingWith at setup.now self.now
+        requires { (at : GroupEntries) × IsFollowingWith at setup.now self.now }
+        ensures over { (at : GroupEntries) → IsFollowingWith at setup.now self.now
             → result ≡ true → IsPlay at.group at.entries }
-        ensures not_over { (at : Place) → IsFollowingWith at setup.now self.now
+        ensures not_over { (at : GroupEntries) → IsFollowingWith at setup.now self.now
             → result ≡ false → IsPlay at.group at.entries → ⊥ }
     {
         self.course.is_over(setup)
@@ -87,12 +87,12 @@ impl Follow {
     /// Takes a step of the group's: the clock moves, and the act is answered. Where it frees a
     /// semaphore, the requests see which tasks wait for that between the two moves.
     fn step(&mut self, step: Step) -> Reply
-        requires { (at : Place) × CanStep at self.old step }
-        ensures reply { (at : Place) → CanStep at self.old step
+        requires { (at : GroupEntries) × CanStep at self.old step }
+        ensures reply { (at : GroupEntries) → CanStep at self.old step
             → result ≡ reply_to at.group step (past_of at.group at.entries) }
-        ensures at { (at : Place) → CanStep at self.old step
+        ensures at { (at : GroupEntries) → CanStep at self.old step
             → IsAt self.new.afresh (after at.group step (past_of at.group at.entries)) }
-        ensures counted { (at : Place) → CanStep at self.old step → counts.IsAt self.new.blocks
+        ensures counted { (at : GroupEntries) → CanStep at self.old step → counts.IsAt self.new.blocks
             (after at.group step (past_of at.group at.entries)) }
         ensures group { group_of self.new.afresh ≡ group_of self.old.afresh }
         ensures same { counts.group_of self.new.blocks ≡ counts.group_of self.old.blocks }
@@ -117,8 +117,8 @@ impl Follow {
 
     /// The step that the entry line says with which the text begins, where that may come next.
     fn step_said(&self, setup: &Setup, text: &[u8]) -> Option<Step>
-        requires { (at : Place) × IsFollowingWith at setup.now self.now }
-        ensures { (at : Place) (v : Version) → IsFollowingWith at setup.now self.now
+        requires { (at : GroupEntries) × IsFollowingWith at setup.now self.now }
+        ensures { (at : GroupEntries) (v : Version) → IsFollowingWith at setup.now self.now
             → (i : ℕ) (e : entries.Entry) (links : List Link) (more : List ℕ)
             → IsLine (known_of v setup.now) (entry_line i e links)
             → text.now ≡ line_text (known_of v setup.now) (entry_line i e links) ++ more
@@ -138,8 +138,8 @@ impl Follow {
         text: &[u8],
         line: &mut Vec<u8>,
     ) -> Result<Option<Entry>, NoMemory>
-        requires { (at : Place) × IsFollowingWith at setup.now self.old }
-        ensures { IfOk result (λ o. (at : Place) → IsFollowingWith at setup.now self.old
+        requires { (at : GroupEntries) × IsFollowingWith at setup.now self.old }
+        ensures { IfOk result (λ o. (at : GroupEntries) → IsFollowingWith at setup.now self.old
             → HasTaken at version text.now line.new.items o self.new) }
     {
         let Some(step) = self.step_said(setup, text) else {
@@ -169,7 +169,7 @@ impl Follow {
 
     /// The entry that was followed last, with its number, as tools are shown it.
     pub(crate) fn shown(&self, group: GroupNo, no: u32, entry: Entry) -> Shown
-        ensures { (at : Place) → IsFollowing at.group at.entries self.now
+        ensures { (at : GroupEntries) → IsFollowing at.group at.entries self.now
             → at.group.number ≡ group.0
             → result ≡ shown_as at.group no entry (past_of at.group at.entries) }
     {
@@ -185,7 +185,7 @@ impl Follow {
 
     /// The requests among the entries that were followed, each with its counts.
     pub(crate) fn requests(&self) -> &[Seen]
-        ensures { (at : Place) → IsFollowing at.group at.entries self.now
+        ensures { (at : GroupEntries) → IsFollowing at.group at.entries self.now
             → request_lines (tallies_of result.now)
             ≡ block_lines at.group (past_of at.group at.entries) }
     {

@@ -7,7 +7,7 @@ ghost use Rattle.trace_lines.specs.Lines.{group_line, links_of};
 ghost use Rattle.trace_tools.specs.BusCounters.{counters};
 ghost use Rattle.trace_tools.specs.Counters.{Counter};
 ghost use Rattle.trace_read.specs.Reading.{begins_with_digit};
-ghost use Rattle.trace_course.specs.Places.{Place};
+ghost use Rattle.trace_course.specs.Followed.{GroupEntries};
 ghost use Rattle.trace_check.specs.declared.progress.Progress as progress;
 ghost use Rattle.trace_check.specs.inside.Following.{IsFollowing, IsFollowingWith};
 ghost use Rattle.trace_check.specs.inside.Progress.{AreFollowed, AreRight, HasStood, IsEndedAt};
@@ -60,25 +60,25 @@ fn ended_at(
     size: usize,
     line: &mut Vec<u8>,
 ) -> Result<Followed, NoMemory>
-    requires follows { (at : Place) × IsFollowingWith at setup.now follow.now }
+    requires follows { (at : GroupEntries) × IsFollowingWith at setup.now follow.now }
     requires few { from.entries + follow.now.count < 2 ^ 32 }
     requires within { size ≤ length text.now }
-    requires places { from.lines + 1 + follow.now.count ≤ size }
-    ensures { IfOk result (λ followed. (at : Place) → IsFollowingWith at setup.now follow.now
+    requires positions { from.lines + 1 + follow.now.count ≤ size }
+    ensures { IfOk result (λ followed. (at : GroupEntries) → IsFollowingWith at setup.now follow.now
         → IsEndedAt at (known_of version setup.now) (drop size text.now) from
         follow.now.count size followed) }
 {
-    let place = from.lines + 1 + follow.count() as usize;
+    let position = from.lines + 1 + follow.count() as usize;
     if !follow.is_over(setup) {
-        return Ok(Followed::Wrong(place));
+        return Ok(Followed::Wrong(position));
     }
     let requests = follow.requests();
     let stood = stood_first(version, setup, requests, &text[size..], line)?;
     if stood.count < requests.len() {
-        return Ok(Followed::Wrong(place + stood.count));
+        return Ok(Followed::Wrong(position + stood.count));
     }
     Ok(Followed::Whole(Progress {
-        lines: place + stood.count,
+        lines: position + stood.count,
         entries: from.entries + follow.count(),
         length: size + stood.length,
     }))

@@ -22,29 +22,29 @@ use trace_lines::Version;
 use trace_text::count_groups;
 use trace_tools::{Bus, TraceTool};
 
-/// The number of a line from 1, by its place after the two lines of the head.
-fn line_at(place: usize) -> Result<u32, NoMemory>
-    ensures { IfOk result (λ n. n ≡ place + 3) }
+/// The number of a line from 1, by its position after the two lines of the head.
+fn line_at(position: usize) -> Result<u32, NoMemory>
+    ensures { IfOk result (λ n. n ≡ position + 3) }
 {
-    match place.checked_add(3) {
+    match position.checked_add(3) {
         Some(n) => u32::try_from(n).map_err(|_| NoMemory),
         None => Err(NoMemory),
     }
 }
 
-fn wrong_at(place: usize) -> Result<Verdict, NoMemory>
-    ensures { IfOk result (λ v. v ≡ Verdict.Invalid (place + 3)) }
+fn wrong_at(position: usize) -> Result<Verdict, NoMemory>
+    ensures { IfOk result (λ v. v ≡ Verdict.Invalid (position + 3)) }
 {
-    Ok(Verdict::Invalid(line_at(place)?))
+    Ok(Verdict::Invalid(line_at(position)?))
 }
 
-/// That the line behind this place is the first that is wrong.
-fn wrong(place: usize) -> Result<Checked, NoMemory>
+/// That the line behind this position is the first that is wrong.
+fn wrong(position: usize) -> Result<Checked, NoMemory>
     ensures { IfOk result (λ c. c
-        ≡ record { verdict = Verdict.Invalid (place + 3); counted = false }) }
+        ≡ record { verdict = Verdict.Invalid (position + 3); counted = false }) }
 {
     Ok(Checked {
-        verdict: wrong_at(place)?,
+        verdict: wrong_at(position)?,
         counted: false,
     })
 }
@@ -52,25 +52,25 @@ fn wrong(place: usize) -> Result<Checked, NoMemory>
 /// The line behind all groups.
 const END: &[u8] = b"end\n";
 
-/// The verdict that `further` lines after line `place` are right, and the next is wrong.
-fn wrong_behind(place: usize, further: usize) -> Result<Verdict, NoMemory>
-    ensures { IfOk result (λ v. v ≡ Verdict.Invalid (place + further + 3)) }
+/// The verdict that `further` lines after line `position` are right, and the next is wrong.
+fn wrong_behind(position: usize, further: usize) -> Result<Verdict, NoMemory>
+    ensures { IfOk result (λ v. v ≡ Verdict.Invalid (position + further + 3)) }
 {
-    match place.checked_add(further) {
+    match position.checked_add(further) {
         Some(n) => wrong_at(n),
         None => Err(NoMemory),
     }
 }
 
-/// What the text behind the line `end` comes to, where the lines before this place are right: nothing is to stand there, or
+/// What the text behind the line `end` comes to, where the lines before this position are right: nothing is to stand there, or
 /// the count lines.
-fn judge_behind(rest: &[u8], counts: &[u8], place: usize, entries: u32) -> Result<Verdict, NoMemory>
-    ensures { IfOk result (λ v. v ≡ verdict_behind rest.now counts.now (place + 2) entries) }
+fn judge_behind(rest: &[u8], counts: &[u8], position: usize, entries: u32) -> Result<Verdict, NoMemory>
+    ensures { IfOk result (λ v. v ≡ verdict_behind rest.now counts.now (position + 2) entries) }
 {
     if rest.is_empty() || rest == counts {
         return Ok(Verdict::Valid(entries));
     }
-    wrong_behind(place, lines_alike(rest, counts))
+    wrong_behind(position, lines_alike(rest, counts))
 }
 
 /// What the text comes to behind the lines of all groups.
@@ -81,7 +81,7 @@ fn end_at<T: TraceTool>(
     bus: &Bus<T>,
 ) -> Result<Checked, NoMemory>
     requires within { right.length ≤ length text.now }
-    requires places { right.lines ≤ right.length }
+    requires positions { right.lines ≤ right.length }
     ensures judged { IfOk result (λ c. (version : Version) (p : Parts) (tools : List Tool)
         → AreAllRight version p text.now right (map counter_of tools) (counters T.tool bus.now)
         → IsJudgedText tools version p text.now c.verdict) }
@@ -143,7 +143,7 @@ pub(crate) fn judge_text<T: TraceTool>(
             bus,
         )? {
             Followed::Whole(further) => right = further,
-            Followed::Wrong(place) => return wrong(place),
+            Followed::Wrong(position) => return wrong(position),
         }
     }
     end_at(alloc, text, right, bus)

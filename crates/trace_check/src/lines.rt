@@ -1,4 +1,4 @@
-//! The line that is right in a place, made anew, and compared with the text that stands there.
+//! The line that is right in a position, made anew, and compared with the text that stands there.
 ghost use Rattle.std.specs.Prelude.{◌≡◌, ◌++◌, ℕ, List, OnOk, drop, length, true, false};
 ghost use Rattle.block_counts.specs.SeenWords.{tally_of};
 ghost use Rattle.trace_lines.specs.Grammar.{line_text};

@@ -34,7 +34,7 @@ fn read_links(afresh: &Afresh, cpus: &[CpuNo], links: &mut Vec<CpuLink>) -> Resu
     Ok(())
 }
 
-/// Reads the links again, each in its place, and puts those that are others than before behind what stood in `changed`.
+/// Reads the links again, each in its position, and puts those that are others than before behind what stood in `changed`.
 #[tactic(auto, using(std::proofs::Common::append_assoc))]
 fn read_again(
     afresh: &Afresh,

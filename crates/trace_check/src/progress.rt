@@ -13,7 +13,7 @@ pub(crate) struct Progress {
 pub(crate) enum Followed {
     /// They are right, and so far with those before them.
     Whole(Progress),
-    /// The line in this place, from 0, is wrong, or is missing.
+    /// The line in this position, from 0, is wrong, or is missing.
     Wrong(usize),
 }
 

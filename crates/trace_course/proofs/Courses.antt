@@ -37,8 +37,8 @@ use Rattle.trace_course.specs.declared.course.Course.TheVariants.{Scripts, Turns
 use Rattle.trace_course.specs.declared.scripts.Scripts as scripts
 use Rattle.trace_course.specs.Courses.{CanLook, HasGone, IsCourse, IsOnCourse, IsOpened, room_in}
 use Rattle.trace_course.specs.Next.{AreFollowing}
-use Rattle.trace_course.specs.Places.{AreDone, ArePassed, HasPassed, IsNextOfScript, IsNextStep, Place, entry_by, longer}
-use Rattle.trace_course.proofs.Places.{places-counted, places-first}
+use Rattle.trace_course.specs.Followed.{AreDone, ArePassed, HasPassed, IsNextOfScript, IsNextStep, GroupEntries, entry_by, longer}
+use Rattle.trace_course.proofs.Positions.{positions-counted, positions-first}
 
 -- ---- processors
 
@@ -103,9 +103,9 @@ next-turn g es step begun =
 
 -- ---- scripts
 
-module _ (at : Place) (p : Parts) (s : scripts.Scripts) (on : IsOnCourse at p (Scripts s)) where
+module _ (at : GroupEntries) (p : Parts) (s : scripts.Scripts) (on : IsOnCourse at p (Scripts s)) where
   pub scripts-passed : (steps : List Step) → steps ≡ steps_given p.drive → ArePassed at steps s
-  scripts-passed steps is = record { valid = on.valid; places_are = on.course_is.1; following_are = on.course_is.2; steps_are = is ∙ ap (λ (q : Parts). steps_given q.drive) on.setup_is }
+  scripts-passed steps is = record { valid = on.valid; positions_are = on.course_is.1; following_are = on.course_is.2; steps_are = is ∙ ap (λ (q : Parts). steps_given q.drive) on.setup_is }
 
   begun-script : IsBegunScriptPlay at.group at.entries
   begun-script = (begun-scripts at.group.setup.drive at.group at.entries on.course_is.0).0 on.begun
@@ -115,7 +115,7 @@ module _ (at : Place) (p : Parts) (s : scripts.Scripts) (on : IsOnCourse at p (S
       let e : Entry = entry_by at.group at.entries step in
       record {
         next = (begun-scripts at.group.setup.drive at.group (longer at step) on.course_is.0).1 (part-next at.group at.entries e gone.next.more begun-script refl gone.next.home gone.next.next);
-        gone = (on.course_is.0, gone.places_are, gone.following_are);
+        gone = (on.course_is.0, gone.positions_are, gone.following_are);
       }
 
   -- the step that may come next is that of a script
@@ -133,7 +133,7 @@ module _ (at : Place) (p : Parts) (s : scripts.Scripts) (on : IsOnCourse at p (S
 
 -- ---- turns
 
-module _ (at : Place) (p : Parts) (t : turns.Turns) (on : IsOnCourse at p (Turns t)) where
+module _ (at : GroupEntries) (p : Parts) (t : turns.Turns) (on : IsOnCourse at p (Turns t)) where
   abbrev past : Past
   past = past_of at.group at.entries
 
@@ -168,7 +168,7 @@ module _ (at : Place) (p : Parts) (t : turns.Turns) (on : IsOnCourse at p (Turns
     turns-refused step none next = let may = turns-next step next in none may.0 may.1
 
 -- once each processor was looked at
-pub looked-all : (at : Place) (step : Step) (p : Parts) (v : Standing) (cpus : List CpuNo) (t t' : turns.Turns) → CanLook at step p v cpus → HasGone at step (Turns t)
+pub looked-all : (at : GroupEntries) (step : Step) (p : Parts) (v : Standing) (cpus : List CpuNo) (t t' : turns.Turns) → CanLook at step p v cpus → HasGone at step (Turns t)
     → (AreLooked (group_of v) (past_of at.group at.entries) step [] t → AreLooked (group_of v) (past_of at.group at.entries) step (numbers_of cpus) t')
     → IsCourse at.group (longer at step) (Turns t')
 looked-all at step p v cpus t t' can gone further =
@@ -186,7 +186,7 @@ module _ (g : Group) (cpus : List CpuNo) (cpus_are : numbers_of cpus ≡ group_p
   course-by : (drive : Drive) (c : Course) → g.setup.drive ≡ drive → IsOpened drive cpus c → IsCourse g [] c
   course-by (drives.Steps steps) (Scripts s) is opened = (
     ap gives_steps is,
-    places-first g (numbers_of cpus) s.places.items cpus_are opened.0,
+    positions-first g (numbers_of cpus) s.positions.items cpus_are opened.0,
     subst (λ (drive : Drive). AreFollowing (steps_given drive) s.following.items) (sym is) opened.1,
   )
   course-by (drives.Steps steps) (Turns t) is opened = absurd opened
@@ -198,7 +198,7 @@ module _ (g : Group) (cpus : List CpuNo) (cpus_are : numbers_of cpus ≡ group_p
   course-first c opened = course-by g.setup.drive c refl opened
 
   room-by : (drive : Drive) (c : Course) → IsOpened drive cpus c → room_in drive (length cpus) c ≡ room_by g drive
-  room-by (drives.Steps steps) (Scripts s) opened = places-counted g (numbers_of cpus) s.places.items steps cpus_are opened.0
+  room-by (drives.Steps steps) (Scripts s) opened = positions-counted g (numbers_of cpus) s.positions.items steps cpus_are opened.0
   room-by (drives.Steps steps) (Turns t) opened = absurd opened
   room-by (drives.Horizon h) (Scripts s) opened = absurd opened
   room-by (drives.Horizon h) (Turns t) opened =

@@ -1,3 +1,3 @@
 pub mod Distances
-pub mod Places
+pub mod Positions
 pub mod Courses

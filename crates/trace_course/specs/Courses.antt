@@ -19,53 +19,53 @@ use Rattle.body_play.specs.Turns.{AreAt, AreLooked, numbers_of}
 use Rattle.trace_course.specs.declared.course.Course.{Course}
 use Rattle.trace_course.specs.declared.course.Course.TheVariants.{Scripts, Turns}
 use Rattle.trace_course.specs.Next.{AreFollowing}
-use Rattle.trace_course.specs.Places.{ArePlaces, IsNextStep, Place, has_place, longer, place_in}
+use Rattle.trace_course.specs.Followed.{ArePositions, IsNextStep, GroupEntries, has_position, longer, position_in}
 
 -- before the first step, of these processors
 abbrev pub IsOpened : Drive → List CpuNo → Course → Type 0
 IsOpened (drives.Steps steps) cpus (Scripts s) =
-    ((q : ℕ) → place_in s.places.items q ≡ (if has q (numbers_of cpus) then Some 0 else None)) × AreFollowing steps s.following.items
+    ((q : ℕ) → position_in s.positions.items q ≡ (if has q (numbers_of cpus) then Some 0 else None)) × AreFollowing steps s.following.items
 IsOpened (drives.Horizon h) cpus (Turns v) = (g : Group) → numbers_of cpus ≡ group_processors g → horizon g.setup.drive ≡ h → AreAt g [] v
 IsOpened _ cpus _ = ⊥
 
 -- how many entries so many processors can have at most
 abbrev pub room_in : Drive → ℕ → Course → ℕ
-room_in drive cpus (Scripts s) = count_by (λ (x : Step). has_place s.places.items x.cpu.0) (steps_given drive)
+room_in drive cpus (Scripts s) = count_by (λ (x : Step). has_position s.positions.items x.cpu.0) (steps_given drive)
 room_in drive cpus (Turns v) = horizon drive * cpus * MOST_TURN_STEPS
 
 -- these entries were followed
 abbrev pub IsCourse : Group → List Entry → Course → Type 0
 IsCourse g es (Scripts s) =
-    (gives_steps g.setup.drive ≡ true) × ArePlaces g es s.places.items × AreFollowing (steps_given g.setup.drive) s.following.items
+    (gives_steps g.setup.drive ≡ true) × ArePositions g es s.positions.items × AreFollowing (steps_given g.setup.drive) s.following.items
 IsCourse g es (Turns v) = (gives_steps g.setup.drive ≡ false) × AreAt g (past_of g es) v
 
 -- a step was taken, and in a body run no processor was looked at since then
-abbrev pub IsGone : Place → Step → Course → Type 0
+abbrev pub IsGone : GroupEntries → Step → Course → Type 0
 IsGone at step (Scripts s) =
-    (gives_steps at.group.setup.drive ≡ true) × ArePlaces at.group (longer at step) s.places.items
+    (gives_steps at.group.setup.drive ≡ true) × ArePositions at.group (longer at step) s.positions.items
     × AreFollowing (steps_given at.group.setup.drive) s.following.items
 IsGone at step (Turns v) = (gives_steps at.group.setup.drive ≡ false) × AreLooked at.group (past_of at.group at.entries) step [] v
 
 -- the step may come next, and was taken
-pub record HasGone (at : Place) (step : Step) (c : Course) : Type 0 where
+pub record HasGone (at : GroupEntries) (step : Step) (c : Course) : Type 0 where
   pub next : IsNextStep at.group at.entries step
   pub gone : IsGone at step c
 
 -- the entries of a play were followed
-pub record IsOnCourse (at : Place) (p : Parts) (c : Course) : Type 0 where
+pub record IsOnCourse (at : GroupEntries) (p : Parts) (c : Course) : Type 0 where
   pub valid : IsValid at.group.setup
   pub setup_is : p ≡ at.group.setup
   pub begun : IsBegunPlay at.group at.entries
   pub course_is : IsCourse at.group at.entries c
 
 -- and the ranker stands behind them
-pub record CanTake (at : Place) (p : Parts) (v : Standing) (c : Course) : Type 0 where
+pub record CanTake (at : GroupEntries) (p : Parts) (v : Standing) (c : Course) : Type 0 where
   pub on_course : IsOnCourse at p c
   pub group_is : group_of v ≡ at.group
   pub stands : IsAt v (past_of at.group at.entries)
 
 -- the ranker stands behind a step that was taken
-pub record CanLook (at : Place) (step : Step) (p : Parts) (v : Standing) (cpus : List CpuNo) : Type 0 where
+pub record CanLook (at : GroupEntries) (step : Step) (p : Parts) (v : Standing) (cpus : List CpuNo) : Type 0 where
   pub setup_is : p ≡ at.group.setup
   pub group_is : group_of v ≡ at.group
   pub stands : IsAt v (after at.group step (past_of at.group at.entries))

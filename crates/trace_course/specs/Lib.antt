@@ -1,3 +1,3 @@
 pub mod Next
-pub mod Places
+pub mod Followed
 pub mod Courses

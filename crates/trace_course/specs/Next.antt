@@ -3,13 +3,13 @@ use Rattle.std.specs.Prelude.{◌≡◌, ℕ, ◌+◌, ◌<◌, ◌≤◌, ◌==
 use Rattle.rt_task.specs.declared.Step.{Step}
 use Rattle.rt_plays.specs.Scripts.{script}
 
--- in this place is a step of the processor, and none stands between
+-- in this position is a step of the processor, and none stands between
 pub record IsNextAt (steps : List Step) (from q j : ℕ) : Type 0 where
   pub there : j < length steps
   pub of_cpu : (d : Step) → (slice_index_or steps j d).cpu.0 == q ≡ true
   pub none_before : script (take j steps) q ≡ script (take from steps) q
 
--- so far on from the step in this place, no other one of its processor stands between
+-- so far on from the step in this position, no other one of its processor stands between
 pub record IsFollowing (steps : List Step) (j distance : ℕ) : Type 0 where
   pub behind : 0 < distance
   pub within : j + distance ≤ length steps

@@ -9,7 +9,7 @@ ghost use Rattle.rt_plays.specs.Turns as turn_words;
 ghost use Rattle.rank_afresh.specs.Standing.{group_of};
 ghost use Rattle.trace_course.specs.Courses.{CanLook, CanTake, HasGone, IsOnCourse, IsOpened};
 ghost use Rattle.trace_course.specs.Courses.{IsCourse, room_in};
-ghost use Rattle.trace_course.specs.Places.{IsNextStep, Place, longer};
+ghost use Rattle.trace_course.specs.Followed.{IsNextStep, GroupEntries, longer};
 
 use crate::scripts::Scripts;
 use crate::turns::{look_at, next_step, take_turn};
@@ -84,8 +84,8 @@ impl Course {
         cpu: CpuNo,
         is_tick: bool,
     ) -> Option<Step>
-        requires { (at : Place) × CanTake at setup.now afresh.now self.now }
-        ensures { (at : Place) (step : given.Step) → CanTake at setup.now afresh.now self.now
+        requires { (at : GroupEntries) × CanTake at setup.now afresh.now self.now }
+        ensures { (at : GroupEntries) (step : given.Step) → CanTake at setup.now afresh.now self.now
             → IsNextStep at.group at.entries step → step.cpu ≡ cpu
             → turn_words.is_tick step.act ≡ is_tick → result ≡ Some step }
     {
@@ -97,10 +97,10 @@ impl Course {
 
     /// Takes a step, where it is one that may come next of its processor.
     pub fn take(&mut self, setup: &Setup, afresh: &Afresh, step: Step) -> bool
-        requires { (at : Place) × CanTake at setup.now afresh.now self.old }
-        ensures taken { (at : Place) → CanTake at setup.now afresh.now self.old
+        requires { (at : GroupEntries) × CanTake at setup.now afresh.now self.old }
+        ensures taken { (at : GroupEntries) → CanTake at setup.now afresh.now self.old
             → result ≡ true → HasGone at step self.new }
-        ensures refused { (at : Place) → CanTake at setup.now afresh.now self.old
+        ensures refused { (at : GroupEntries) → CanTake at setup.now afresh.now self.old
             → result ≡ false → IsNextStep at.group at.entries step → ⊥ }
     {
         match self {
@@ -111,9 +111,9 @@ impl Course {
 
     /// Looks at the processors of the group after a step that was taken.
     pub fn look(&mut self, setup: &Setup, afresh: &Afresh, cpus: &[CpuNo])
-        requires { (at : Place) × (step : given.Step)
+        requires { (at : GroupEntries) × (step : given.Step)
             × CanLook at step setup.now afresh.now cpus.now }
-        ensures { (at : Place) (step : given.Step)
+        ensures { (at : GroupEntries) (step : given.Step)
             → CanLook at step setup.now afresh.now cpus.now
             → HasGone at step self.old
             → IsCourse at.group (longer at step) self.new }
@@ -126,10 +126,10 @@ impl Course {
 
     /// Whether no processor has a step left.
     pub fn is_over(&self, setup: &Setup) -> bool
-        requires { (at : Place) × IsOnCourse at setup.now self.now }
-        ensures over { (at : Place) → IsOnCourse at setup.now self.now
+        requires { (at : GroupEntries) × IsOnCourse at setup.now self.now }
+        ensures over { (at : GroupEntries) → IsOnCourse at setup.now self.now
             → result ≡ true → IsPlay at.group at.entries }
-        ensures not_over { (at : Place) → IsOnCourse at setup.now self.now
+        ensures not_over { (at : GroupEntries) → IsOnCourse at setup.now self.now
             → result ≡ false → IsPlay at.group at.entries → ⊥ }
     {
         match self {

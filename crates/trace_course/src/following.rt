@@ -3,12 +3,12 @@ ghost use Rattle.std.specs.Prelude.{◌≡◌, ◌⊎◌, ◌+◌, ◌<◌, All,
 ghost use Rattle.rt_base.specs.declared.TheConstants.{MOST_CPUS};
 ghost use Rattle.trace_course.specs.Next.{AreFollowing};
 
-use crate::table::{place_of, places_at};
+use crate::table::{position_of, positions_at};
 use rt_base::{CpuNo, NoMemory};
 use rt_task::Step;
 use std::alloc::Global;
 
-/// How far a place is from one before it; 1, which never leads too far, where the number is too large to be kept.
+/// How far a position is from one before it; 1, which never leads too far, where the number is too large to be kept.
 fn distance(from: usize, to: usize) -> u32
     requires { from < to }
     ensures { (from + result ≡ to) ⊎ (result ≡ 1) }
@@ -27,12 +27,12 @@ pub(crate) fn following_of(
     ensures { IfOk result (λ v. AreFollowing steps.now v.items) }
 {
     let mut following = vec![in alloc; 1; steps.len()]?;
-    let mut next = places_at(alloc, cpus, steps.len())?;
-    for place in (0..steps.len()).rev() {
-        let cpu = steps[place].cpu;
-        if let Some(to) = place_of(next.as_slice(), cpu) {
-            following[place] = distance(place, to);
-            next[cpu.0 as usize] = Some(place);
+    let mut next = positions_at(alloc, cpus, steps.len())?;
+    for position in (0..steps.len()).rev() {
+        let cpu = steps[position].cpu;
+        if let Some(to) = position_of(next.as_slice(), cpu) {
+            following[position] = distance(position, to);
+            next[cpu.0 as usize] = Some(position);
         }
     }
     Ok(following)

@@ -19,35 +19,35 @@ const STEPS_BEGIN: &[u8] = b",\"steps\":[";
 /// What it has between its steps and the tasks.
 const STEPS_END: &[u8] = b"],\"tasks\":[";
 
-/// What stands before this place, and what stands after these bytes there.
-fn split_at_place<'a>(part: &[u8], bytes: &'a [u8], place: usize) -> Option<(&'a [u8], &'a [u8])>
-    requires { place < length bytes.now }
+/// What stands before this position, and what stands after these bytes there.
+fn split_at_position<'a>(part: &[u8], bytes: &'a [u8], position: usize) -> Option<(&'a [u8], &'a [u8])>
+    requires { position < length bytes.now }
     ensures { IfSome result (λ x. bytes.now ≡ x.0.now ++ (part.now ++ x.1.now)) }
 {
-    match after(part, &bytes[place..]) {
-        Some(rest) => Some((&bytes[..place], rest)),
+    match after(part, &bytes[position..]) {
+        Some(rest) => Some((&bytes[..position], rest)),
         None => None,
     }
 }
 
-/// What stands before the first place of these bytes, and what stands after it.
+/// What stands before the first position of these bytes, and what stands after it.
 fn split_at_first<'a>(part: &[u8], bytes: &'a [u8]) -> Option<(&'a [u8], &'a [u8])>
     ensures { IfSome result (λ x. bytes.now ≡ x.0.now ++ (part.now ++ x.1.now)) }
 {
     for i in 0..bytes.len() {
-        if let Some(parts) = split_at_place(part, bytes, i) {
+        if let Some(parts) = split_at_position(part, bytes, i) {
             return Some(parts);
         }
     }
     None
 }
 
-/// What stands before the last place of these bytes, and what stands after it.
+/// What stands before the last position of these bytes, and what stands after it.
 fn split_at_last<'a>(part: &[u8], bytes: &'a [u8]) -> Option<(&'a [u8], &'a [u8])>
     ensures { IfSome result (λ x. bytes.now ≡ x.0.now ++ (part.now ++ x.1.now)) }
 {
     for i in (0..bytes.len()).rev() {
-        if let Some(parts) = split_at_place(part, bytes, i) {
+        if let Some(parts) = split_at_position(part, bytes, i) {
             return Some(parts);
         }
     }

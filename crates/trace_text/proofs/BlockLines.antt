@@ -36,7 +36,7 @@ use Rattle.rt_laws.proofs.semaphores.Asked.{IsAsked, asked}
 use Rattle.rt_laws.proofs.Moves.{IsMove, by_moves, clock_moves, cpu_acts}
 use Rattle.rt_laws.proofs.jobs.Running.{IsRunning, running}
 use Rattle.rt_laws.proofs.ValidSets.{rules_of}
-use Rattle.rt_plays.proofs.GroupPlaces.{tasks_are_at_home}
+use Rattle.rt_plays.proofs.AtHomeLaws.{tasks_are_at_home}
 use Rattle.rt_plays.proofs.SetLimits.{sets_are_in_limits}
 use Rattle.rt_plays.proofs.ValidRows.{passes_rows}
 use Rattle.block_counts.specs.GroupRequests.{NamesKnown}

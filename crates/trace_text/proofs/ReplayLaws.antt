@@ -92,8 +92,8 @@ unfolding past_from
 all_taken g now was es i all is = ap (past_from g now) (sym (drop_end es i all)) ∙ is
 
 -- where the rest of two lists is the same, so is what stands at its beginning
-pub at_place : (xs ys : List CpuLink) (i : ℕ) (d : CpuLink) → drop i xs ≡ drop i ys → get_or xs i d ≡ get_or ys i d
-at_place xs ys i d same =
+pub at_position : (xs ys : List CpuLink) (i : ℕ) (d : CpuLink) → drop i xs ≡ drop i ys → get_or xs i d ≡ get_or ys i d
+at_position xs ys i d same =
     let here : i + 0 ≡ i = omega arith in
     ap (λ (n : ℕ). get_or xs n d) (sym here) ∙ sym (get_or-drop i xs 0 d) ∙ ap (λ (zs : List CpuLink). get_or zs 0 d) same ∙ get_or-drop i ys 0 d
     ∙ ap (λ (n : ℕ). get_or ys n d) here

@@ -28,7 +28,7 @@ counters_after-append (x ∷ xs) ys counters = counters_after-append xs ys (map 
 
 -- ---- the count lines
 
--- the line of the next place, and those after it
+-- the line of the next position, and those after it
 counts-suc : (k : Known) (counters : List Counter) (i : ℕ) (text : List ℕ) → i < length counters → IfSome (slice_get counters i) (λ s. text ≡ line_text k (counter_line s))
     → texts k (map counter_line (drop i counters)) ≡ text ++ texts k (map counter_line (drop (suc i) counters))
 counts-suc k [] i text low is = absurd (omega arith)

@@ -58,7 +58,7 @@ abbrev pub counted_text : Version → List Tool → Parts → List (List Entry) 
 counted_text version ts p histories =
     trace_text version p histories ++ flat_map (line_text (known_of version p)) (count_lines ts p histories)
 
--- the same of a bus, whose places stand for its tools
+-- the same of a bus, whose positions stand for its tools
 abbrev pub bus_lines : List Counter → Parts → List (List Entry) → List Line
 bus_lines counters p histories = map counter_line (counters_after (shown_from p 0 histories) counters)
 

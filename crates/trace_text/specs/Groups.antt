@@ -34,7 +34,7 @@ cpu_numbers qs = map (λ (q : CpuNo). q.0) qs
 abbrev pub cpus_in : List CpuLink → List ℕ
 cpus_in ls = map (λ (x : CpuLink). x.cpu.0) ls
 
--- of the links now, those that are others than before, place by place
+-- of the links now, those that are others than before, position by position
 abbrev pub changed_links : List Link → List Link → List Link
 changed_links [] now = []
 changed_links (x ∷ before) [] = []

@@ -19,7 +19,7 @@ pub fn is_same_task(a: Option<TaskNo>, b: Option<TaskNo>) -> bool
     }
 }
 
-/// Puts those of the links that are others than before, place by place, in the place of what stood
+/// Puts those of the links that are others than before, position by position, in the place of what stood
 /// in `changed`.
 #[tactic(auto, using(std::proofs::Common::append_assoc))]
 pub fn put_changed(

@@ -27,7 +27,7 @@ text-of_tools version tool ts p hs counters is =
     ap (λ (ss : List Counter). bus_text version ss p hs) is
     ∙ ap (λ (ls : List Line). trace_text version p hs ++ texts (known_of version p) ls) (lines-of_tools tool ts (shown_from p 0 hs))
 
--- no place comes to be
+-- no position comes to be
 counters_after-none : (es : List Shown) → counters_after es [] ≡ []
 counters_after-none [] = refl
 counters_after-none (e ∷ es) = counters_after-none es

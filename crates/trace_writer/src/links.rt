@@ -33,7 +33,7 @@ pub(crate) fn read_links(
     Ok(())
 }
 
-/// Reads the links again, each in its place, and puts those that are others than before behind what stood in `changed`.
+/// Reads the links again, each in its position, and puts those that are others than before behind what stood in `changed`.
 #[tactic(auto, using(std::proofs::Common::append_assoc))]
 pub(crate) fn read_again(
     engine: &Engine,

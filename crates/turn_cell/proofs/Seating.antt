@@ -1,4 +1,4 @@
--- The places of a new turn, one more at a time.
+-- The positions of a new turn, one more at a time.
 use Rattle.std.proofs.Common.{◌≡◌, ℕ, suc, ◌+◌, ◌-◌, List, [], ◌∷◌, ◌++◌, sym, ap, ◌∙◌, Option, Some}
 use Rattle.atomic_table.specs.Seated.{TableId}
 use Rattle.atomic_table.specs.Table.{Me}
@@ -11,7 +11,7 @@ pub seats_more : {E S : Type 0} (cell : Cell S) (k m : ℕ) (xs ys : List (SeatV
 seats_more {E} {S} cell k m xs ys p all more added is =
     added ∙ (λ i. all i ++ is i ∷ []) ∙ ap (λ (c : ℕ). fresh_seats {E = E} {S = S} cell c) (sym more)
 
--- the place of a seat that was just made
+-- the position of a seat that was just made
 pub newcomer_seat : {V E S : Type 0} (t z : TableId) (me new : Me (Option V) (TurnView E S)) (n k : ℕ) (sub : S) → z ≡ t → me ≡ (record (first_view n sub) { next = k }, []) → new ≡ (newcomer me.0, [])
     → seat_view z new.0 ≡ fresh (record { table = t; subject = Some sub }) k
 newcomer_seat {V} {E} {S} t z me new n k sub same is made =

@@ -20,14 +20,14 @@ module _ (g : Group) (past : Past) (tasks : List Task) (v : JobTable) (clock : �
   within = omega (arith, task-range g t of_group, ap length are.tasks_are)
 
   module _ (task : Task) (read : task ≡ get_or tasks (t - 1) task) where
-    at-place : task ≡ get_or g.setup.tasks (t - 1) task
-    at-place = read ∙ ap (λ xs. get_or xs (t - 1) task) are.tasks_are
+    at-position : task ≡ get_or g.setup.tasks (t - 1) task
+    at-position = read ∙ ap (λ xs. get_or xs (t - 1) task) are.tasks_are
 
     low : t - 1 < length g.setup.tasks
     low = omega (arith, within, ap length are.tasks_are)
 
     pub number-is : task.number.0 ≡ t
-    number-is = omega (arith, (limits g are.valid (t - 1) task low at-place).number_is, from-one)
+    number-is = omega (arith, (limits g are.valid (t - 1) task low at-position).number_is, from-one)
 
     pub with-table : IsTableWith g past v task clock requests
     with-table = record {
@@ -36,7 +36,7 @@ module _ (g : Group) (past : Past) (tasks : List Task) (v : JobTable) (clock : �
         valid = are.valid;
         few = are.few;
         clock_is = are.clock_is;
-        task_is = task-there g are.valid (t - 1) task low at-place;
+        task_is = task-there g are.valid (t - 1) task low at-position;
         from_one = omega (arith, number-is, from-one);
         within = omega (arith, number-is, low, from-one);
         there = omega (arith, number-is, low, from-one, are.count);

@@ -84,9 +84,9 @@ begun-taken : (r : Reply) → ((t : ℕ) → is t (taken_up r) ≡ true → t �
 begun-taken (replies.Runs t) h = rw (le-leb t.0 MOST_TASKS (h t.0 (equal_self t.0))) refl
 begun-taken _ h = refl
 
--- the entries so far, newest first, have the places of the past
-abbrev pub HasPlaces : Group → Past → List Shown → Type 0
-HasPlaces g past before = (t : ℕ) → has t (tasks g) ≡ true → tools.last_cpu t before ≡ last_cpu t past
+-- the entries so far, newest first, have the positions of the past
+abbrev pub HasPositions : Group → Past → List Shown → Type 0
+HasPositions g past before = (t : ℕ) → has t (tasks g) ≡ true → tools.last_cpu t before ≡ last_cpu t past
 
 elsewhere-moves : (u q : ℕ) (o : Option ℕ) → is_some (if is_elsewhere q o then Some u else None) ≡ tools.moves_from o q
 elsewhere-moves u q None = refl
@@ -96,25 +96,25 @@ elsewhere-moves u q (Some p) = by_case (not (p == q))
     by_case true = refl
     by_case false = refl
 
-mover-moves : (g : Group) (o : Option ℕ) (q : ℕ) (past : Past) (before : List Shown) → ((u : ℕ) → is u o ≡ true → has u (tasks g) ≡ true) → HasPlaces g past before
+mover-moves : (g : Group) (o : Option ℕ) (q : ℕ) (past : Past) (before : List Shown) → ((u : ℕ) → is u o ≡ true → has u (tasks g) ≡ true) → HasPositions g past before
     → is_some (mover o q past) ≡ tools.moves_task o q before
-mover-moves g None q past before known places = refl
-mover-moves g (Some u) q past before known places =
-    elsewhere-moves u q (last_cpu u past) ∙ ap (λ o. tools.moves_from o q) (sym (places u (known u (equal_self u))))
+mover-moves g None q past before known positions = refl
+mover-moves g (Some u) q past before known positions =
+    elsewhere-moves u q (last_cpu u past) ∙ ap (λ o. tools.moves_from o q) (sym (positions u (known u (equal_self u))))
 
 -- one entry
 pub record IsNext (g : Group) (i : ℕ) (e : Entry) (past : Past) (before : List Shown) : Type 0 where
   pub counts : count_moves (λ x b. is_some (moves_of x b)) (after g e.step past) ≡ count_moves (λ x b. is_some (moves_of x b)) past + one_if (tools.moves before (shown_as g i e (after g e.step past)))
-  pub places : HasPlaces g (after g e.step past) (shown_as g i e (after g e.step past) ∷ before)
+  pub positions : HasPositions g (after g e.step past) (shown_as g i e (after g e.step past) ∷ before)
   pub made : IsReachable g (after g e.step past)
   -- it takes up no task of another group
   pub others : (t : ℕ) → has t (tasks g) ≡ false → tools.last_cpu t (shown_as g i e (after g e.step past) ∷ before) ≡ tools.last_cpu t before
 
-pub next-entry : (g : Group) → IsValid g.setup → (i : ℕ) (e : Entry) (past : Past) (before : List Shown) → IsReachable g past → e.reply ≡ reply_to g e.step past → HasPlaces g past before → IsNext g i e past before
+pub next-entry : (g : Group) → IsValid g.setup → (i : ℕ) (e : Entry) (past : Past) (before : List Shown) → IsReachable g past → e.reply ≡ reply_to g e.step past → HasPositions g past before → IsNext g i e past before
 unfolding after count_moves last_cpu past_act reply_to
-next-entry g valid i e past before made legal places = record {
+next-entry g valid i e past before made legal positions = record {
   counts = join (is_some (mover (taken_up said) q clk)) (count_moves (λ x b. is_some (moves_of x b)) past) ∙ ap (λ x. count_moves (λ y b. is_some (moves_of y b)) past + one_if x) same_move;
-  places = λ t there. ap (λ o. if is t o then Some q else tools.last_cpu t before) begun ∙ ap (λ o. if is t (taken_up said) then Some q else o) (places t there);
+  positions = λ t there. ap (λ o. if is t o then Some q else tools.last_cpu t before) begun ∙ ap (λ o. if is t (taken_up said) then Some q else o) (positions t there);
   made = acted q e.step.act (clocked e.step.tick.0 made);
   others = λ t out. ap (λ o. if is t o then Some q else tools.last_cpu t before) begun ∙ ap (λ b. if b then Some q else tools.last_cpu t before) (stranger t out (is t (taken_up said)) refl);
 }
@@ -142,33 +142,33 @@ next-entry g valid i e past before made legal places = record {
     begun = ap tools.begun_by legal ∙ begun-taken said few
 
     same_move : is_some (mover (taken_up said) q clk) ≡ tools.moves_task (tools.begun_by e.reply) q before
-    same_move = mover-moves g (taken_up said) q clk before known places ∙ ap (λ o. tools.moves_task o q before) (sym begun)
+    same_move = mover-moves g (taken_up said) q clk before known positions ∙ ap (λ o. tools.moves_task o q before) (sym begun)
 
     join : (x : Bool) (n : ℕ) → (if x then n + 1 else n) ≡ n + one_if x
     join true n = refl
     join false n = omega arith
 
-pub moves_are_shown : (g : Group) → IsValid g.setup → (i : ℕ) (past : Past) (es : List Entry) (before : List Shown) → IsReachable g past → IsLegalFrom g past es → HasPlaces g past before
+pub moves_are_shown : (g : Group) → IsValid g.setup → (i : ℕ) (past : Past) (es : List Entry) (before : List Shown) → IsReachable g past → IsLegalFrom g past es → HasPositions g past before
     → count_moves (λ x b. is_some (moves_of x b)) (past_from g past es) ≡ count_moves (λ x b. is_some (moves_of x b)) past + tools.moves_after before (shown_entries g i past es)
 unfolding past_from shown_entries
-moves_are_shown g valid i past [] before made legal places = omega arith
-moves_are_shown g valid i past (e ∷ es) before made legal places =
+moves_are_shown g valid i past [] before made legal positions = omega arith
+moves_are_shown g valid i past (e ∷ es) before made legal positions =
     let now = after g e.step past in
-    let next : IsNext g i e past before = next-entry g valid i e past before made legal.0 places in
-    let rest = moves_are_shown g valid (i + 1) now es (shown_as g i e now ∷ before) next.made legal.1 next.places in
+    let next : IsNext g i e past before = next-entry g valid i e past before made legal.0 positions in
+    let rest = moves_are_shown g valid (i + 1) now es (shown_as g i e now ∷ before) next.made legal.1 next.positions in
     let here = next.counts in
     omega (arith, rest, here)
 
 -- of a group, behind entries of other groups
-pub group_moves : (g : Group) → IsValid g.setup → (es : List Entry) (before : List Shown) → IsLegal g es → HasPlaces g [] before
+pub group_moves : (g : Group) → IsValid g.setup → (es : List Entry) (before : List Shown) → IsLegal g es → HasPositions g [] before
     → sum_by (λ (r : TaskRow). r.moves) (table_of g es) ≡ tools.moves_after before (shown_entries g 0 [] es)
 unfolding task_rows past_of count_moves last_cpu
-group_moves g valid es before legal places =
+group_moves g valid es before legal positions =
     let made : IsReachable g (past_of g es) = histories_are_made g es in
     sum-map (λ (r : TaskRow). r.moves) (task_row g (past_of g es)) (tasks g)
     ∙ sum-equal _ (λ t. count_moves (moves_now t) (past_of g es)) (tasks g) (λ t. (rows_count_all g (past_of g es) valid made t).all_moves)
     ∙ tasks_have_all g moves_now moves_of (distinct-tasks g) (moves-of_one g) made
-    ∙ moves_are_shown g valid 0 [] es before opened legal places
+    ∙ moves_are_shown g valid 0 [] es before opened legal positions
     ∙ from_zero (tools.moves_after before (shown_entries g 0 [] es))
   where
     from_zero : (n : ℕ) → 0 + n ≡ n

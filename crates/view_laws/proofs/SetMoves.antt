@@ -20,7 +20,7 @@ use Rattle.trace_views.specs.TaskRows.{TaskRow}
 use Rattle.view_laws.specs.Sets.{total_of}
 use Rattle.view_laws.specs.Totals.{table_of}
 use Rattle.view_laws.proofs.Legal.{AreLegal}
-use Rattle.view_laws.proofs.Moves.{HasPlaces, group_moves, next-entry}
+use Rattle.view_laws.proofs.Moves.{HasPositions, group_moves, next-entry}
 
 -- the entries so far, newest first, once these have been shown too
 abbrev pub shown_behind : List Shown → List Shown → List Shown
@@ -47,16 +47,16 @@ other-group p m n t above h = by_case (has t (tasks (group_with p n))) refl
     by_case false k = k
     by_case true k = absurd (omega (arith, one-group p m n t h k, above))
 
--- the entries of a group leave the places of all other tasks
+-- the entries of a group leave the positions of all other tasks
 others-stay :
-    (g : Group) → IsValid g.setup → (i : ℕ) (past : Past) (es : List Entry) (before : List Shown) → IsReachable g past → IsLegalFrom g past es → HasPlaces g past before
+    (g : Group) → IsValid g.setup → (i : ℕ) (past : Past) (es : List Entry) (before : List Shown) → IsReachable g past → IsLegalFrom g past es → HasPositions g past before
     → (t : ℕ) → has t (tasks g) ≡ false → last_cpu t (shown_behind before (shown_entries g i past es)) ≡ last_cpu t before
 unfolding shown_entries
-others-stay g valid i past [] before made legal places t out = refl
-others-stay g valid i past (e ∷ es) before made legal places t out =
+others-stay g valid i past [] before made legal positions t out = refl
+others-stay g valid i past (e ∷ es) before made legal positions t out =
     let now = after g e.step past in
-    let next = next-entry g valid i e past before made legal.0 places in
-    others-stay g valid (i + 1) now es (shown_as g i e now ∷ before) next.made legal.1 next.places t out ∙ next.others t out
+    let next = next-entry g valid i e past before made legal.0 positions in
+    others-stay g valid (i + 1) now es (shown_as g i e now ∷ before) next.made legal.1 next.positions t out ∙ next.others t out
 
 -- no task of the groups from one on was taken up yet
 abbrev AreNew : Parts → ℕ → List Shown → Type 0
@@ -68,11 +68,11 @@ unfolding counts.last_cpu
 moves-from p valid n [] before legal new = refl
 moves-from p valid n (es ∷ hs) before legal new =
     let g = group_with p n in
-    let places : HasPlaces g [] before = λ t there. new n t (omega arith) there in
+    let positions : HasPositions g [] before = λ t there. new n t (omega arith) there in
     let shown = shown_entries g 0 [] es in
     let later : AreNew p (n + 1) (shown_behind before shown) = λ m t above there.
-    others-stay g valid 0 [] es before opened legal.0 places t (other-group p m n t above there) ∙ new m t (omega (arith, above)) there in
-    let here = group_moves g valid es before legal.0 places in
+    others-stay g valid 0 [] es before opened legal.0 positions t (other-group p m n t above there) ∙ new m t (omega (arith, above)) there in
+    let here = group_moves g valid es before legal.0 positions in
     let rest = moves-from p valid (n + 1) hs (shown_behind before shown) legal.1 later in
     moves-append before shown (shown_from p (n + 1) hs) ∙ omega (arith, here, rest)
 

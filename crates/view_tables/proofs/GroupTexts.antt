@@ -78,24 +78,24 @@ unfolding job_rows task_rows tasks
 so_far-all Jobs g past = sym (flat-flat (λ (r : JobRow). line_of (job_fields g r)) (λ t. rows_of g t past) (filter (in_this g) (numbers_from 1 (length g.setup.tasks))))
 so_far-all Tasks g past = sym (flat-map (λ (r : TaskRow). line_of (task_fields g r)) (task_row g past) (filter (in_this g) (numbers_from 1 (length g.setup.tasks))))
 
--- ---- the task at a place
+-- ---- the task at a position
 
 module _ (g : Group) (valid : IsValid g.setup) (i : ℕ) (x : Task) (low : i < length g.setup.tasks) (here : x ≡ get_or g.setup.tasks i x) where
-  at-place : x ≡ get_or g.setup.tasks i no_task
-  at-place = here ∙ get_or_default g.setup.tasks i x no_task low
+  at-position : x ≡ get_or g.setup.tasks i no_task
+  at-position = here ∙ get_or_default g.setup.tasks i x no_task low
 
   pub limits : IsTaskInLimits (i + 1) (length g.setup.clusters) x
-  limits = subst (IsTaskInLimits (i + 1) (length g.setup.clusters)) (sym at-place) ((sets_are_in_limits g.setup valid).tasks_in i low)
+  limits = subst (IsTaskInLimits (i + 1) (length g.setup.clusters)) (sym at-position) ((sets_are_in_limits g.setup valid).tasks_in i low)
 
   pub task-there : x ≡ groups.task g x.number.0
   unfolding groups.task
-  task-there = let number : i ≡ x.number.0 - 1 = omega (arith, limits.number_is) in at-place ∙ ap (λ n. get_or g.setup.tasks n no_task) number
+  task-there = let number : i ≡ x.number.0 - 1 = omega (arith, limits.number_is) in at-position ∙ ap (λ n. get_or g.setup.tasks n no_task) number
 
   pub is_of-this : is_of g.number g.setup x ≡ in_this g (i + 1)
   unfolding in_group home cluster groups.task
   is_of-this =
       let number : i ≡ i + 1 - 1 = omega arith in
-      ap (λ (y : Task). is_of g.number g.setup y) (at-place ∙ ap (λ n. get_or g.setup.tasks n no_task) number)
+      ap (λ (y : Task). is_of g.number g.setup y) (at-position ∙ ap (λ n. get_or g.setup.tasks n no_task) number)
 
 -- ---- a task of a group that was played
 

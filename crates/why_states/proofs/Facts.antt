@@ -20,8 +20,8 @@ use Rattle.rt_model.specs.Jobs.{done}
 use Rattle.rt_model.specs.Past.{Past, now}
 use Rattle.rt_model.specs.Releases.{has_come, is_released, opens_early, release}
 use Rattle.rt_plays.specs.Limits.{IsTaskInLimits}
-use Rattle.rt_plays.specs.Places.{IsHomeTask}
-use Rattle.rt_plays.proofs.GroupPlaces.{tasks_are_at_home}
+use Rattle.rt_plays.specs.AtHome.{IsHomeTask}
+use Rattle.rt_plays.proofs.AtHomeLaws.{tasks_are_at_home}
 use Rattle.rt_plays.proofs.SetLimits.{sets_are_in_limits}
 use Rattle.rt_laws.proofs.pcp.BlockedOnce.{pcp-plugin}
 use Rattle.rt_laws.proofs.ValidSets.{rules_of}

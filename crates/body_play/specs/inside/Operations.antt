@@ -6,7 +6,7 @@ use Rattle.rt_task.specs.declared.Task.{Task}
 use Rattle.rt_rules.specs.declared.history.Situation.{Situation}
 use Rattle.rt_model.specs.Group.{no_task}
 
--- the operation at a place of the body of a task, which is named by its number
+-- the operation at a position of the body of a task, which is named by its number
 abbrev pub operation_at : List Task → ℕ → ℕ → Option Op
 operation_at tasks t at = slice_get (slice_index_or tasks (t - 1) no_task).body at
 

@@ -3,10 +3,10 @@ use Rattle.std.specs.Prelude.{◌≡◌, ℕ, ◌<◌, ◌==◌, false, List, le
 use Rattle.rt_rules.specs.Numbers.{is}
 use Rattle.chart_rows.specs.Rows.{TaskKept}
 
--- the row in this place is the task's; where there is no place, no row is
-abbrev pub IsPlaceOf : ℕ → List TaskKept → Option ℕ → Type 0
-IsPlaceOf t ks None = All (λ (k : TaskKept). (k.task == t) ≡ false) ks
-IsPlaceOf t ks (Some i) = (i < length ks) × ((d : TaskKept) → (slice_index_or ks i d).task ≡ t)
+-- the row in this position is the task's; where there is no position, no row is
+abbrev pub IsPositionOf : ℕ → List TaskKept → Option ℕ → Type 0
+IsPositionOf t ks None = All (λ (k : TaskKept). (k.task == t) ≡ false) ks
+IsPositionOf t ks (Some i) = (i < length ks) × ((d : TaskKept) → (slice_index_or ks i d).task ≡ t)
 
 -- the row is changed, if it is the task's
 abbrev pub only : Option ℕ → (TaskKept → TaskKept) → TaskKept → TaskKept

@@ -1,4 +1,4 @@
--- Worked rulers: a number is left out where the one before is longer than its place or ends right before it.
+-- Worked rulers: a number is left out where the one before is longer than its position or ends right before it.
 use Rattle.std.specs.Fmt.{digits}
 use Rattle.std.specs.Prelude.{◌≡◌, [], ◌∷◌, None, Some, codes, refl}
 use Rattle.chart_texts.specs.worked.Computed.{charted}

@@ -13,7 +13,7 @@ use Rattle.rt_task.specs.declared.ResvKind.{ResvKind}
 use Rattle.rt_task.specs.declared.ResvKind.TheVariants.{Polling, Sporadic, Table}
 use Rattle.rt_rules.specs.Keys.{Ranked, sorted}
 use Rattle.rt_rules.specs.Numbers.{first, foremost, same}
-use Rattle.rt_rules.specs.Placing.{at_place, placed}
+use Rattle.rt_rules.specs.Placing.{link_at, placed}
 use Rattle.rt_rules.specs.Walks.{followers, inherited}
 use Rattle.rt_rules.proofs.BoolLaws.{and_false}
 use Rattle.rt_rules.proofs.MemberLaws.{equal_self}
@@ -242,7 +242,7 @@ module _ (g : Group) (rules : MeetsRules g) (d : PastAct) (past : Past) (x : IsR
 
   linked-refused : IsReachable g past → (q : ℕ) → linked g q after ≡ linked g q past
   unfolding linked
-  linked-refused made q = λ i. at_place (links-refused made (cluster_with g q) i) (q - first_cpu g (cluster_with g q))
+  linked-refused made q = λ i. link_at (links-refused made (cluster_with g q) i) (q - first_cpu g (cluster_with g q))
 
   pending-refused : IsReachable g past → (q : ℕ) → pending g q after ≡ pending g q past
   unfolding pending

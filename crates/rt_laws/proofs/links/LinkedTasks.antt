@@ -12,7 +12,7 @@ use Rattle.rt_model.specs.Reachable.{IsReachable}
 use Rattle.rt_model.specs.Past.{Past}
 use Rattle.rt_model.specs.Tops.{eligible, ranking, top}
 use Rattle.rt_rules.proofs.BoolLaws.{both}
-use Rattle.rt_rules.proofs.LinkLaws.{at_place-inside, has-at_place}
+use Rattle.rt_rules.proofs.LinkLaws.{link_at-inside, has-link_at}
 use Rattle.rt_rules.proofs.MemberLaws.{has-filter}
 use Rattle.rt_rules.proofs.NumberLaws.{numbers_from-has}
 use Rattle.rt_rules.proofs.RankedLaws.{has-sorted, has-take, tasks_ranked}
@@ -51,11 +51,11 @@ pub linked-eligible : (g : Group) {past : Past} → IsReachable g past → (q t 
 unfolding linked processors first_cpu cluster_with
 linked-eligible g {past} made q t h =
     let c : ℕ = cluster_in g.setup.clusters q in
-    let there : has t (tasks_in (links g c past)) ≡ true = has-at_place t (links g c past) _ h in
+    let there : has t (tasks_in (links g c past)) ≡ true = has-link_at t (links g c past) _ h in
     let among : has t (top g c past) ≡ true = sym (links-top g c (processor-home g c) made t) ∙ there in
     let facts = top-eligible g c t past among in
     let at : (has t (tasks g) ≡ true) × (home g t ≡ c) = tasks_of-home g c t facts.0 in
-    let inside : q - first_in g.setup.clusters c < length (links g c past) = at_place-inside t (links g c past) _ h in
+    let inside : q - first_in g.setup.clusters c < length (links g c past) = link_at-inside t (links g c past) _ h in
     let low : first_in g.setup.clusters c ≤ q = first_in-le g.setup.clusters q in
     let size : length (links g c past) ≡ cpus g c = length-links g c past (single g c (processor-home g c) made) in
     record {

@@ -3,14 +3,14 @@ use Rattle.std.proofs.Common.{List, [], arith, inl, inr, length, subst, suc, sym
 use Rattle.std.specs.Prelude.{Option, Some}
 use Rattle.rt_rules.specs.Distinct.{IsDistinct}
 use Rattle.rt_rules.specs.Numbers.{has, is}
-use Rattle.rt_rules.specs.Placing.{at_place, tasks_in}
+use Rattle.rt_rules.specs.Placing.{link_at, tasks_in}
 use Rattle.rt_model.specs.Group.{Group, cpus, first_cpu, home, processors}
 use Rattle.rt_model.specs.Links.{linked, links, runs_of}
 use Rattle.rt_model.specs.Reachable.{IsReachable}
 use Rattle.rt_model.specs.Past.{Past}
 use Rattle.rt_model.specs.Tops.{top}
 use Rattle.rt_rules.proofs.DistinctLaws.{length-distinct}
-use Rattle.rt_rules.proofs.LinkLaws.{distinct-placed, has-at_place, one_place}
+use Rattle.rt_rules.proofs.LinkLaws.{distinct-placed, has-link_at, one_link}
 use Rattle.rt_rules.proofs.MemberLaws.{is-some, some-is}
 use Rattle.rt_rules.proofs.NumberLaws.{has-numbers_from, numbers_from-has}
 use Rattle.rt_rules.proofs.BoolLaws.{either}
@@ -41,9 +41,9 @@ pub linked_at_home : LinkedAtHome
 linked_at_home g past valid made q t h = (is_linked g made q t h).at_home
 
 -- where a task is linked, and how far that is from the first processor of its cluster
-at_home : (g : Group) {past : Past} → IsReachable g past → (q t : ℕ) → linked g q past ≡ Some t → is t (at_place (links g (home g t) past) (q - first_cpu g (home g t))) ≡ true
+at_home : (g : Group) {past : Past} → IsReachable g past → (q t : ℕ) → linked g q past ≡ Some t → is t (link_at (links g (home g t) past) (q - first_cpu g (home g t))) ≡ true
 unfolding linked
-at_home g {past} made q t h = subst (λ c. is t (at_place (links g c past) (q - first_cpu g c)) ≡ true) (is_linked g made q t h).at_home (some-is t _ h)
+at_home g {past} made q t h = subst (λ c. is t (link_at (links g c past) (q - first_cpu g c)) ≡ true) (is_linked g made q t h).at_home (some-is t _ h)
 
 from_first : (g : Group) {past : Past} → IsReachable g past → (q t : ℕ) → linked g q past ≡ Some t → first_cpu g (home g t) ≤ q
 unfolding processors
@@ -51,7 +51,7 @@ from_first g made q t h = has-numbers_from q (first_cpu g (home g t)) (cpus g (h
 
 pub linked_to_one : LinkedToOne
 linked_to_one g past valid made p q t h k =
-    let same : p - first_cpu g (home g t) ≡ q - first_cpu g (home g t) = one_place t (links g (home g t) past) _ _ (links-distinct g (home g t) made) (at_home g made p t h) (at_home g made q t k) in
+    let same : p - first_cpu g (home g t) ≡ q - first_cpu g (home g t) = one_link t (links g (home g t) past) _ _ (links-distinct g (home g t) made) (at_home g made p t h) (at_home g made q t k) in
     omega (arith, same, from_first g made p t h, from_first g made q t k)
 
 pub links_fit : LinksFit
@@ -60,15 +60,15 @@ links_fit g past valid made c =
     omega (arith, few, length-top g c past)
 
 -- a task in a list of links has a place
-placed-at : (t : ℕ) (ls : List (Option ℕ)) → has t (tasks_in ls) ≡ true → (k : ℕ) × (k < length ls) × (is t (at_place ls k) ≡ true)
+placed-at : (t : ℕ) (ls : List (Option ℕ)) → has t (tasks_in ls) ≡ true → (k : ℕ) × (k < length ls) × (is t (link_at ls k) ≡ true)
 placed-at t [] h = cc
 placed-at t (l ∷ ls) h = split (either (is t l) _ (rw has-tasks_in at h)) (placed-at t ls)
   where
-    split : (is t l ≡ true) ⊎ (has t (tasks_in ls) ≡ true) → (has t (tasks_in ls) ≡ true → (k : ℕ) × (k < length ls) × (is t (at_place ls k) ≡ true)) → (k : ℕ) × (k < length (l ∷ ls)) × (is t (at_place (l ∷ ls) k) ≡ true)
+    split : (is t l ≡ true) ⊎ (has t (tasks_in ls) ≡ true) → (has t (tasks_in ls) ≡ true → (k : ℕ) × (k < length ls) × (is t (link_at ls k) ≡ true)) → (k : ℕ) × (k < length (l ∷ ls)) × (is t (link_at (l ∷ ls) k) ≡ true)
     split (inl k) r = (0, omega arith, k)
     split (inr k) r = let q = r k in (suc q.0, omega (arith, q.1), q.2)
 
-linked-at : (g : Group) (c q : ℕ) (past : Past) → has q (processors g c) ≡ true → linked g q past ≡ at_place (links g c past) (q - first_cpu g c)
+linked-at : (g : Group) (c q : ℕ) (past : Past) → has q (processors g c) ≡ true → linked g q past ≡ link_at (links g c past) (q - first_cpu g c)
 unfolding linked
 linked-at g c q past there = rw (processor-home g c q there)
 
@@ -83,4 +83,4 @@ has_link g {past} made c t h =
     record { cpu = q; there = there; linked_it = linked-at g c q past there ∙ rw at (is-some t _ place.2) }
 
 pub links_are_linked : LinksAreLinked
-links_are_linked g past valid made c t = (has_link g made c t, λ l. has-at_place t (links g c past) (l.cpu - first_cpu g c) (some-is t _ (sym (linked-at g c l.cpu past l.there) ∙ l.linked_it)))
+links_are_linked g past valid made c t = (has_link g made c t, λ l. has-link_at t (links g c past) (l.cpu - first_cpu g c) (some-is t _ (sym (linked-at g c l.cpu past l.there) ∙ l.linked_it)))

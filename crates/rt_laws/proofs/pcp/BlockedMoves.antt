@@ -33,7 +33,7 @@ use Rattle.rt_laws.proofs.semaphores.Holding.{one-holds}
 use Rattle.rt_laws.proofs.Moves.{IsMove, by_moves, clock_moves, cpu_acts, moved}
 use Rattle.rt_laws.proofs.semaphores.Requests.{IsAsk, asks}
 use Rattle.rt_laws.proofs.links.LinkedTasks.{linked-eligible}
-use Rattle.rt_rules.proofs.LinkLaws.{has-at_place}
+use Rattle.rt_rules.proofs.LinkLaws.{has-link_at}
 use Rattle.rt_laws.proofs.pcp.PcpGrants.{held_once}
 use Rattle.rt_laws.proofs.Rules.{MeetsRules}
 use Rattle.rt_laws.proofs.semaphores.SemaphoreLaws.{holder_holds_one}
@@ -418,7 +418,7 @@ blocked_at_most g past valid made t there prompt = at-most g valid made t there 
 -- what runs where no interrupt is pending is linked
 pub runs-linked : (g : Group) {past : Past} → IsReachable g past → (q u : ℕ) → pending g q past ≡ false → runs q past ≡ Some u → is_linked g (home g u) u past ≡ true
 unfolding pending is_linked linked
-runs-linked g {past} made q u none r = rw (← at) (has-at_place u (links g (cluster_with g q) past) (q - first_cpu g (cluster_with g q)) link)
+runs-linked g {past} made q u none r = rw (← at) (has-link_at u (links g (cluster_with g q) past) (q - first_cpu g (cluster_with g q)) link)
   where
     same_as : (o : Option ℕ) → not (same o (Some u)) ≡ false → is u o ≡ true
     same_as None h = cc

@@ -22,7 +22,7 @@ use Rattle.trace_check.specs.declared.follow.Follow.{Follow}
 use Rattle.trace_course.specs.Courses.{IsCourse}
 use Rattle.trace_check.specs.inside.GroupLines.{next_line}
 use Rattle.trace_check.specs.inside.GroupLinks.{AreLinks}
-use Rattle.trace_course.specs.Places.{IsNextStep, Place}
+use Rattle.trace_course.specs.Followed.{IsNextStep, GroupEntries}
 
 -- these entries of the group were followed
 pub record IsFollowing (g : Group) (es : List Entry) (f : Follow) : Type 0 where
@@ -41,12 +41,12 @@ pub record IsFollowing (g : Group) (es : List Entry) (f : Follow) : Type 0 where
   pub course_is : IsCourse g es f.course
 
 -- they were followed by the group's set
-pub record IsFollowingWith (at : Place) (p : Parts) (f : Follow) : Type 0 where
+pub record IsFollowingWith (at : GroupEntries) (p : Parts) (f : Follow) : Type 0 where
   pub following : IsFollowing at.group at.entries f
   pub setup_is : p ≡ at.group.setup
 
 -- the step can be answered, whether its processor has gone on by it or not
-pub record CanStep (at : Place) (f : Follow) (step : Step) : Type 0 where
+pub record CanStep (at : GroupEntries) (f : Follow) (step : Step) : Type 0 where
   pub course : Course
   pub following : IsFollowing at.group at.entries (record f { course = course })
   pub of_group : IsStepOf at.group step
@@ -60,17 +60,17 @@ pub record IsNextEntry (g : Group) (es : List Entry) (no : ℕ) (e : Entry) (lin
   pub links_are : links ≡ links_at g (after g e.step (past_of g es)) (changed g (past_of g es) (after g e.step (past_of g es)))
 
 -- the entry is the next one, and is followed now; its line was made, and the text begins with it
-pub record IsTaken (at : Place) (v : Version) (text line : List ℕ) (e : Entry) (f : Follow) : Type 0 where
+pub record IsTaken (at : GroupEntries) (v : Version) (text line : List ℕ) (e : Entry) (f : Follow) : Type 0 where
   pub following : IsFollowing at.group (at.entries ++ e ∷ []) f
   pub line_is : line ≡ line_text (known_of v at.group.setup) (next_line at.group at.entries e)
   pub begins : text ≡ line ++ drop (length line) text
 
 -- the text begins with the line of no entry that may come next
-abbrev pub NoneIsNext : Place → Version → List ℕ → Type 0
+abbrev pub NoneIsNext : GroupEntries → Version → List ℕ → Type 0
 NoneIsNext at v text = (i : ℕ) (e : Entry) (links : List Link) (more : List ℕ) → IsLine (known_of v at.group.setup) (entry_line i e links)
     → text ≡ line_text (known_of v at.group.setup) (entry_line i e links) ++ more → IsNextEntry at.group at.entries i e links → ⊥
 
 -- what comes of taking the next line
-abbrev pub HasTaken : Place → Version → List ℕ → List ℕ → Option Entry → Follow → Type 0
+abbrev pub HasTaken : GroupEntries → Version → List ℕ → List ℕ → Option Entry → Follow → Type 0
 HasTaken at v text line None f = NoneIsNext at v text
 HasTaken at v text line (Some e) f = IsTaken at v text line e f

@@ -21,14 +21,14 @@ use Rattle.trace_check.specs.declared.progress.Entries.TheVariants.{Right, Wrong
 use Rattle.trace_check.specs.declared.follow.Follow.{Follow}
 use Rattle.trace_check.specs.declared.requests.Stood.{Stood}
 use Rattle.trace_check.specs.declared.verdict.Verdict.TheVariants.{Invalid}
-use Rattle.trace_course.specs.Places.{Place}
+use Rattle.trace_course.specs.Followed.{GroupEntries}
 use Rattle.trace_check.specs.inside.Following.{IsFollowing}
 use Rattle.trace_check.specs.inside.GroupLines.{ArePlaysFrom, NoEntryBegins, NoEntryBehind, lines_of_groups, lines_so_far}
 use Rattle.trace_check.specs.inside.Judging.{IsJudged}
 use Rattle.trace_check.specs.inside.RequestLines.{HaveStood}
 
 -- the lines of the requests of the entries that were followed
-abbrev pub wanted : Place → List Line
+abbrev pub wanted : GroupEntries → List Line
 wanted at = block_lines at.group (past_of at.group at.entries)
 
 -- the text begins with this line, which was made, or it does not
@@ -41,7 +41,7 @@ pub record AreRight (v : Version) (p : Parts) (text : List ℕ) (n : ℕ) (r : P
   pub histories : List (List Entry)
   pub plays : ArePlaysFrom p 0 histories
   pub count : length histories ≡ n
-  pub place_is : r.lines ≡ length (lines_of_groups p 0 histories)
+  pub position_is : r.lines ≡ length (lines_of_groups p 0 histories)
   pub within : r.length ≤ length text
   pub text_is : text ≡ flat_map (line_text (known_of v p)) (lines_of_groups p 0 histories) ++ drop r.length text
   pub entries_are : r.entries ≡ entry_count histories
@@ -58,7 +58,7 @@ pub record AreAllRight (v : Version) (p : Parts) (text : List ℕ) (r : Progress
 -- what comes of following the lines of group n, behind those of the groups before it
 abbrev pub IsFollowedTo : Version → Parts → List ℕ → ℕ → List Counter → List Counter → Followed → Type 0
 IsFollowedTo v p text n opened counters (Whole r) = AreRight v p text (n + 1) r opened counters
-IsFollowedTo v p text n opened counters (Wrong place) = IsJudged v p text (Invalid (place + 3))
+IsFollowedTo v p text n opened counters (Wrong position) = IsJudged v p text (Invalid (position + 3))
 
 -- so much of the text is the lines of whole groups and of the entries of group n that were followed, which were shown too
 pub record IsRight (v : Version) (p : Parts) (text : List ℕ) (n : ℕ) (from : Progress) (size : ℕ) (f : Follow) (opened was counters : List Counter) : Type 0 where
@@ -68,7 +68,7 @@ pub record IsRight (v : Version) (p : Parts) (text : List ℕ) (n : ℕ) (from :
   pub following : IsFollowing (group_with p n) entries f
   pub within : size ≤ length text
   pub text_is : text ≡ flat_map (line_text (known_of v p)) (lines_of_groups p 0 before.histories ++ lines_so_far (group_with p n) entries) ++ drop size text
-  pub place_is : from.lines + 1 + f.count ≡ length (lines_of_groups p 0 before.histories ++ lines_so_far (group_with p n) entries)
+  pub position_is : from.lines + 1 + f.count ≡ length (lines_of_groups p 0 before.histories ++ lines_so_far (group_with p n) entries)
 
 -- what comes of following the entry lines of group n
 abbrev pub AreFollowed : Version → Parts → List ℕ → ℕ → Progress → Follow → List Counter → List Counter → List Counter → Entries → Type 0
@@ -77,7 +77,7 @@ AreFollowed v p text n from f opened was counters (Right size) =
 AreFollowed v p text n from f opened was counters (WrongAfter count) = IsJudged v p text (Invalid (from.lines + 1 + count + 3))
 
 -- what comes of it where no entry line stands behind so many bytes, which this rest follows
-pub data IsEndedAt (at : Place) (k : Known) (rest : List ℕ) (from : Progress) (count length_so_far : ℕ) : Followed → Type 0 where
+pub data IsEndedAt (at : GroupEntries) (k : Known) (rest : List ℕ) (from : Progress) (count length_so_far : ℕ) : Followed → Type 0 where
   -- the play is not whole
   unfinished : (IsPlay at.group at.entries → ⊥) → IsEndedAt at k rest from count length_so_far (Wrong (from.lines + 1 + count))
   -- it is, and the line of a request is missing

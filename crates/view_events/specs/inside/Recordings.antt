@@ -13,7 +13,7 @@ group_of r = replays.group_of r.replay
 abbrev pub spare : Recording → ℕ
 spare r = replays.spare r.replay
 
--- whole steps were taken, which made this past; the spans and the table of jobs are of it, and the table has a place for each task
+-- whole steps were taken, which made this past; the spans and the table of jobs are of it, and the table has a position for each task
 pub record IsRecorded (past : Past) (r : Recording) : Type 0 where
   pub at : replays.IsAt r.replay past
   pub fed : IsFed (group_of r) past r.feed

@@ -14,7 +14,7 @@ group_of p = replays.group_of p.replay
 abbrev pub spare : Played → ℕ
 spare p = replays.spare p.replay
 
--- its facts and the table of its jobs are of this past, and the table has a place for each task
+-- its facts and the table of its jobs are of this past, and the table has a position for each task
 pub record IsPlayed (past : Past) (p : Played) : Type 0 where
   pub at : replays.IsAt p.replay past
   pub kept : Keeps p.table past

@@ -27,9 +27,9 @@ taken ws k d low = ap waiters_of (take_more ws k d low) ∙ map-append waiter_of
 pub loop-one-init : goal.loop-one-init
 loop-one-init c = sym (counted-none c.args.sem.0 (tallies_of c.args.seen.now))
 
-pub see_end-requires-clause-places : goal.see_end-requires-clause-places
-see_end-requires-clause-places c = λ t i h.
-    let low = (c.requires.places.placed t i h).low in
+pub see_end-requires-clause-positions : goal.see_end-requires-clause-positions
+see_end-requires-clause-positions c = λ t i h.
+    let low = (c.requires.positions.placed t i h).low in
     omega (arith, low, length-map c.args.seen.now tally_of, c.loop-one.auto.seen)
 
 pub see_end-requires-clause-few : goal.see_end-requires-clause-few
@@ -41,6 +41,6 @@ loop-one-preserved c =
     let w = get_or c.args.waiting.now c.loop-one.one-index none in
     let low : c.loop-one.one-index < length c.args.waiting.now = c.loop-one-test.true in
     c.see_end.ensures ∙
-    ap (seen_one c.args.places.now c.args.sem.0 (waiter_of w)) c.loop-one.invariant ∙
-    counted-more c.args.sem.0 (waiter_of w) (waiters_of (take c.loop-one.one-index c.args.waiting.now)) (tallies_of c.args.seen.now) c.args.places.now c.requires.places (fresh c.args.waiting.now none refl c.requires.once c.loop-one.one-index low) ∙
+    ap (seen_one c.args.positions.now c.args.sem.0 (waiter_of w)) c.loop-one.invariant ∙
+    counted-more c.args.sem.0 (waiter_of w) (waiters_of (take c.loop-one.one-index c.args.waiting.now)) (tallies_of c.args.seen.now) c.args.positions.now c.requires.positions (fresh c.args.waiting.now none refl c.requires.once c.loop-one.one-index low) ∙
     ap (λ ws. counted c.args.sem.0 ws (tallies_of c.args.seen.now)) (sym (taken c.args.waiting.now c.loop-one.one-index none low))

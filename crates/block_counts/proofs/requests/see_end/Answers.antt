@@ -8,12 +8,12 @@ use Rattle.block_counts.proofs.requests.see_end.Goals as goal
 
 pub see-requires : goal.see-requires
 see-requires c =
-    let low : c.in-Some.place < length c.args.seen.now = c.requires.places c.args.waiting.task.0 c.in-Some.place (sym c.in-Some.ensures) in
-    subst (IsFew (MOST_STEPS + 1)) (get_or-map tally_of c.args.seen.now c.in-Some.place (record { no = 0; task = record { 0 = 0 }; sem = record { 0 = 0 }; ends = 0; ends_all = 0; bound = None }) no_tally low) (c.requires.few c.in-Some.place no_tally (rw (length-map c.args.seen.now tally_of) low))
+    let low : c.in-Some.position < length c.args.seen.now = c.requires.positions c.args.waiting.task.0 c.in-Some.position (sym c.in-Some.ensures) in
+    subst (IsFew (MOST_STEPS + 1)) (get_or-map tally_of c.args.seen.now c.in-Some.position (record { no = 0; task = record { 0 = 0 }; sem = record { 0 = 0 }; ends = 0; ends_all = 0; bound = None }) no_tally low) (c.requires.few c.in-Some.position no_tally (rw (length-map c.args.seen.now tally_of) low))
 
 pub returns-in-Some : goal.returns-in-Some
 returns-in-Some c =
-    let low : c.in-Some.place < length c.args.seen.now = c.requires.places c.args.waiting.task.0 c.in-Some.place (sym c.in-Some.ensures) in
-    map-set tally_of c.args.seen.now c.in-Some.place c.see.new.one ∙
-    ap (λ y. slice_set (tallies_of c.args.seen.now) c.in-Some.place y) (c.see.ensures ∙ ap (seen_at c.args.sem.0 c.args.waiting.blocked) (sym (get_or-map tally_of c.args.seen.now c.in-Some.place _ no_tally low))) ∙
+    let low : c.in-Some.position < length c.args.seen.now = c.requires.positions c.args.waiting.task.0 c.in-Some.position (sym c.in-Some.ensures) in
+    map-set tally_of c.args.seen.now c.in-Some.position c.see.new.one ∙
+    ap (λ y. slice_set (tallies_of c.args.seen.now) c.in-Some.position y) (c.see.ensures ∙ ap (seen_at c.args.sem.0 c.args.waiting.blocked) (sym (get_or-map tally_of c.args.seen.now c.in-Some.position _ no_tally low))) ∙
     ap (λ o. seen_in o c.args.sem.0 c.args.waiting.blocked (tallies_of c.args.seen.now)) c.in-Some.ensures

@@ -1,6 +1,6 @@
 use Rattle.std.proofs.Common.{◌≡◌, ◌∷◌, ◌++◌, decimal, map, drop, flat_map}
 use Rattle.chart_cells.specs.Cells.{cpu_numbers}
-use Rattle.event_lines.proofs.task_spans.put_more_places.Given as goal
+use Rattle.event_lines.proofs.task_spans.put_more_positions.Given as goal
 
 -- what was written, and then what is left, is the whole
 abbrev pub invariant-loop-cpu : goal.invariant-loop-cpu

@@ -17,7 +17,7 @@ returns c =
     rw (← c.self.view_is) (c.first.ensures ∙ first-same (queue_at c.self.inside.arrivals.queues c.args.task.0) ∙ sym (ap (λ (j : JobFacts). first j.to_come) (job-at c.self.inside.states.items c.self.inside.arrivals.queues c.args.task.0 none c.requires.low high)))
   where
     none : TaskState
-    none = record { done = 0; used = 0; place = 0; wakes = 0; non_preemptive = false; arrived = 0; newest = None }
+    none = record { done = 0; used = 0; ops_done = 0; wakes = 0; non_preemptive = false; arrived = 0; newest = None }
 
     first-same : (q : List ℕ) → first_of q ≡ first q
     first-same [] = refl

@@ -3,5 +3,5 @@ use Rattle.block_counts.specs.SeenWords.{tallies_of}
 use Rattle.job_facts.specs.Rows.{ends_in}
 use Rattle.job_views.proofs.ends.ends_in.Given as goal
 
-abbrev pub invariant-loop-place : goal.invariant-loop-place
-invariant-loop-place l = (l.ends ≡ ends_in (tallies_of l.requests) (take l.place-index l.places)) × (l.ends ≤ 2 ^ 32 * l.place-index)
+abbrev pub invariant-loop-position : goal.invariant-loop-position
+invariant-loop-position l = (l.ends ≡ ends_in (tallies_of l.requests) (take l.last_cpu-index l.positions)) × (l.ends ≤ 2 ^ 32 * l.last_cpu-index)

@@ -6,9 +6,9 @@ use Rattle.rt_base.specs.contracts.TaskNoPartialEq.TheImpl.{eq-value}
 use Rattle.rt_base.specs.declared.TaskNo.{TaskNo}
 use Rattle.rt_base.specs.TaskNos.{number_of_task, numbers_of_tasks}
 use Rattle.rt_rules.specs.Numbers.{same}
-use Rattle.rt_rules.specs.Placing.{at_place}
+use Rattle.rt_rules.specs.Placing.{link_at}
 use Rattle.link_table.proofs.Exchanging.{from-found, from-free, from-other, from-past}
-use Rattle.link_table.proofs.PlaceLaws.{at_place-numbers, numbers_of_tasks-set}
+use Rattle.link_table.proofs.PlaceLaws.{link_at-numbers, numbers_of_tasks-set}
 use Rattle.link_table.proofs.places.exchange.Goals as goal
 use Rattle.link_table.proofs.places.exchange.Goals.{then-is_none, else-is_none}
 
@@ -18,11 +18,11 @@ same-numbers None (Some y) = refl
 same-numbers (Some x) None = refl
 same-numbers (Some x) (Some y) = refl
 
-same-at : (os : List (Option TaskNo)) (q : ℕ) (left : Option TaskNo) → same (at_place (numbers_of_tasks os) q) (number_of_task left) ≡ option_eq eq-value.it (get_or os q None) left
-same-at os q left = rw (← at_place-numbers os q) (same-numbers (get_or os q None) left)
+same-at : (os : List (Option TaskNo)) (q : ℕ) (left : Option TaskNo) → same (link_at (numbers_of_tasks os) q) (number_of_task left) ≡ option_eq eq-value.it (get_or os q None) left
+same-at os q left = rw (← link_at-numbers os q) (same-numbers (get_or os q None) left)
 
-is_some-at : (os : List (Option TaskNo)) (q : ℕ) → is_some (at_place (numbers_of_tasks os) q) ≡ is_some (get_or os q None)
-is_some-at os q = rw (← at_place-numbers os q) (by_case (get_or os q None))
+is_some-at : (os : List (Option TaskNo)) (q : ℕ) → is_some (link_at (numbers_of_tasks os) q) ≡ is_some (get_or os q None)
+is_some-at os q = rw (← link_at-numbers os q) (by_case (get_or os q None))
   where
     by_case : (o : Option TaskNo) → is_some (number_of_task o) ≡ is_some o
     by_case None = refl

@@ -5,7 +5,7 @@ use Rattle.rt_rules.specs.Numbers.{is}
 use Rattle.rt_rules.specs.Placing.{kept_link, kept}
 use Rattle.rt_base.specs.TaskNos.{number_of_task, numbers_of_tasks}
 use Rattle.link_table.proofs.MarkLaws.{left-kept, left-kept_all, left-none, link-says, run-says}
-use Rattle.link_table.proofs.PlaceLaws.{at_place-numbers}
+use Rattle.link_table.proofs.PlaceLaws.{link_at-numbers}
 use Rattle.link_table.proofs.places.keep.Goals as goal
 
 -- kept, place by place
@@ -23,12 +23,12 @@ loop-q-init c = record { done = λ k h. absurd (omega arith); left = left-none _
 pub kept_at-link-requires-clause-run : goal.kept_at-link-requires-clause-run
 kept_at-link-requires-clause-run c =
     λ t h.
-    run-says _ _ _ _ c.loop-q.q c.loop-q.invariant.left t c.requires.runs_once (subst (λ o. is t o ≡ true) (at_place-numbers c.args.runs.now c.loop-q.q) h)
+    run-says _ _ _ _ c.loop-q.q c.loop-q.invariant.left t c.requires.runs_once (subst (λ o. is t o ≡ true) (link_at-numbers c.args.runs.now c.loop-q.q) h)
 
 pub kept_at-link-requires-clause-link : goal.kept_at-link-requires-clause-link
 kept_at-link-requires-clause-link c =
     λ t h idle.
-    let here = ap number_of_task (c.loop-q.invariant.rest c.loop-q.q (omega arith)) ∙ at_place-numbers c.args.links.now c.loop-q.q in
+    let here = ap number_of_task (c.loop-q.invariant.rest c.loop-q.q (omega arith)) ∙ link_at-numbers c.args.links.now c.loop-q.q in
     link-says _ _ _ _ c.loop-q.q c.loop-q.invariant.left t c.requires.linked_once (subst (λ o. is t o ≡ true) here h) idle
 
 pub loop-q-preserved : goal.loop-q-preserved

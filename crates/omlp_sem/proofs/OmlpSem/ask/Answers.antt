@@ -5,7 +5,7 @@ use Rattle.rt_rules.specs.KeyOrder.{equal_keys}
 use Rattle.rt_rules.specs.Numbers.{has, first, rest}
 use Rattle.sem_laws.specs.KeptKeys.{key_at}
 use Rattle.sem_laws.proofs.TaskNumbers.{numbers-push, length-numbers}
-use Rattle.omlp_sem.proofs.ListLaws.{outside_both, queue_waits, place_in, omlp-fifo, omlp-queue}
+use Rattle.omlp_sem.proofs.ListLaws.{outside_both, queue_waits, position_in, omlp-fifo, omlp-queue}
 use Rattle.omlp_sem.proofs.OmlpSem.ask.Goals as goal
 
 pub note-requires-clause-outside : goal.note-requires-clause-outside
@@ -31,8 +31,8 @@ push_back_reserved-requires c =
     let waits : has c.args.task.0 (rest (numbers c.self.inside.fifo.items) ++ c.self.inside.queue.waiting) ≡ false = rw (← c.self.view_is) at c.requires.outside in
     let below : c.args.task.0 < length c.self.inside.queue.keys = rw (← c.self.view_is) at c.requires.below in
     let short : length (numbers c.self.inside.fifo.items) < c.self.inside.cap = omega (arith, length-numbers c.self.inside.fifo.items) in
-    let place = place_in _ _ _ _ _ c.self.invariant c.args.task.0 below (outside_both c.args.task.0 (numbers c.self.inside.fifo.items) c.self.inside.queue.waiting hands waits).0 short in
-    omega (arith, place, length-numbers c.self.inside.fifo.items)
+    let position = position_in _ _ _ _ _ c.self.invariant c.args.task.0 below (outside_both c.args.task.0 (numbers c.self.inside.fifo.items) c.self.inside.queue.waiting hands waits).0 short in
+    omega (arith, position, length-numbers c.self.inside.fifo.items)
 
 pub invariant_of-self : goal.invariant_of-self
 invariant_of-self c =

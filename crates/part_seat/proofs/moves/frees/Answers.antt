@@ -15,48 +15,48 @@ use Rattle.part_seat.specs.Partitions.{IsMeeting, Seat, books_in}
 use Rattle.part_seat.proofs.BookLists.{put, put-here, set-cells, set-here}
 use Rattle.part_seat.proofs.PassLaws.{passed-at, passes-law}
 use Rattle.part_seat.proofs.MeetingLaws as laws
-use Rattle.part_seat.proofs.PlaceLaws.{cells-at, cells-count, few-there, place-of, within-seats}
+use Rattle.part_seat.proofs.PositionLaws.{cells-at, cells-count, few-there, position-of, within-seats}
 use Rattle.part_seat.proofs.moves.frees.Goals as goal
 
-pub overflow_sub-place : goal.overflow_sub-place
-overflow_sub-place g c = (within-seats _ _ _ _ _ c.requires.meeting c.requires.frees.known).0
+pub overflow_sub-position : goal.overflow_sub-position
+overflow_sub-position g c = (within-seats _ _ _ _ _ c.requires.meeting c.requires.frees.known).0
 
-pub bounds-turns-place : goal.bounds-turns-place
-bounds-turns-place g c = let w = within-seats _ _ _ _ _ c.requires.meeting c.requires.frees.known in let n = cells-count c.args.turns.now c.args.seats.now c.requires.turns in omega (arith, w.1, n)
+pub bounds-turns-position : goal.bounds-turns-position
+bounds-turns-position g c = let w = within-seats _ _ _ _ _ c.requires.meeting c.requires.frees.known in let n = cells-count c.args.turns.now c.args.seats.now c.requires.turns in omega (arith, w.1, n)
 
-pub bounds-seats-place : goal.bounds-seats-place
-bounds-seats-place g c = (within-seats _ _ _ _ _ c.requires.meeting c.requires.frees.known).1
+pub bounds-seats-position : goal.bounds-seats-position
+bounds-seats-position g c = (within-seats _ _ _ _ _ c.requires.meeting c.requires.frees.known).1
 
 pub release-next-requires-clause-cell : goal.release-next-requires-clause-cell
 release-next-requires-clause-cell g c =
     let a = c.args.player.now in
-    let at = place-of a.setup a.cpu c.args.sem.0 c.args.seats.now _ c.index-seats-place.result c.requires.meeting c.requires.frees.known in
-    cells-at c.args.turns.now c.args.seats.now (c.args.sem.0 - 1) c.index-turns-place.result c.index-seats-place.result c.requires.turns at.high
-    ∙ ap (λ t. t.cell) (sym c.index-turns-place.is)
+    let at = position-of a.setup a.cpu c.args.sem.0 c.args.seats.now _ c.index-seats-position.result c.requires.meeting c.requires.frees.known in
+    cells-at c.args.turns.now c.args.seats.now (c.args.sem.0 - 1) c.index-turns-position.result c.index-seats-position.result c.requires.turns at.high
+    ∙ ap (λ t. t.cell) (sym c.index-turns-position.is)
 
 pub release-next-requires-clause-seat : goal.release-next-requires-clause-seat
 release-next-requires-clause-seat g c =
     let a = c.args.player.now in
-    let at = place-of a.setup a.cpu c.args.sem.0 c.args.seats.now _ c.index-seats-place.result c.requires.meeting c.requires.frees.known in
+    let at = position-of a.setup a.cpu c.args.sem.0 c.args.seats.now _ c.index-seats-position.result c.requires.meeting c.requires.frees.known in
     (at.seat.cpu ∙ sym c.cpu-cpu.ensures.cpu, at.seat.rests)
 
 pub release-next-requires-clause-few : goal.release-next-requires-clause-few
 release-next-requires-clause-few g c =
     let a = c.args.player.now in
-    let at = place-of a.setup a.cpu c.args.sem.0 c.args.seats.now _ c.index-seats-place.result c.requires.meeting c.requires.frees.known in
-    few-there a.setup a.cpu c.args.sem.0 c.args.seats.now c.index-seats-place.result at c.cpu-cpu.ensures.played.of_split
+    let at = position-of a.setup a.cpu c.args.sem.0 c.args.seats.now _ c.index-seats-position.result c.requires.meeting c.requires.frees.known in
+    few-there a.setup a.cpu c.args.sem.0 c.args.seats.now c.index-seats-position.result at c.cpu-cpu.ensures.played.of_split
 
 pub release-next-requires-clause-may : goal.release-next-requires-clause-may
 release-next-requires-clause-may g c =
     let a = c.args.player.now in
-    let at = place-of a.setup a.cpu c.args.sem.0 c.args.seats.now _ c.index-seats-place.result c.requires.meeting c.requires.frees.known in
-    laws.may-release a.setup a.cpu a.entries c.args.seats.now c.cpu-cpu.ensures.played c.requires.meeting c.args.sem.0 c.index-seats-place.result at c.cpu-cpu.result.0 c.cpu-cpu.ensures.cpu c.args.task.0 c.args.step c.requires.next c.requires.frees
+    let at = position-of a.setup a.cpu c.args.sem.0 c.args.seats.now _ c.index-seats-position.result c.requires.meeting c.requires.frees.known in
+    laws.may-release a.setup a.cpu a.entries c.args.seats.now c.cpu-cpu.ensures.played c.requires.meeting c.args.sem.0 c.index-seats-position.result at c.cpu-cpu.result.0 c.cpu-cpu.ensures.cpu c.args.task.0 c.args.step c.requires.next c.requires.frees
 
 pub returns-clause-meeting : goal.returns-clause-meeting
 returns-clause-meeting g c =
     let a = c.args.player.now in
-    let d = c.index-seats-place.result in
-    let at = place-of a.setup a.cpu c.args.sem.0 c.args.seats.now (past_at a) d c.requires.meeting c.requires.frees.known in
+    let d = c.index-seats-position.result in
+    let at = position-of a.setup a.cpu c.args.sem.0 c.args.seats.now (past_at a) d c.requires.meeting c.requires.frees.known in
     let b : SemEntry = entry c.cpu-cpu.result c.args.task (acts.Release c.release-next.result.0) in
     let e : SplitEntry = entry_of c.args.step replies.Done in
     let given = subst (λ n. HasGiven (book_of a.setup c.args.sem.0) n b (slice_index_or c.args.seats.now (c.args.sem.0 - 1) d) c.release-next.new.seat) c.cpu-cpu.ensures.cpu (c.release-next.ensures.given _ at.seat.about) in
@@ -69,15 +69,15 @@ returns-clause-meeting g c =
 pub returns-clause-cells : goal.returns-clause-cells
 returns-clause-cells g c =
     let a = c.args.player.now in
-    let d = c.index-seats-place.result in
-    let at = place-of a.setup a.cpu c.args.sem.0 c.args.seats.now (past_at a) d c.requires.meeting c.requires.frees.known in
+    let d = c.index-seats-position.result in
+    let at = position-of a.setup a.cpu c.args.sem.0 c.args.seats.now (past_at a) d c.requires.meeting c.requires.frees.known in
     set-cells c.args.seats.now c.args.sem.0 c.release-next.new.seat at.low at.high d (ap (λ (x : Seat). x.cell) (c.release-next.ensures.given _ at.seat.about).same)
 
 pub returns-clause-acted : goal.returns-clause-acted
 returns-clause-acted g c =
     let a = c.args.player.now in
-    let d = c.index-seats-place.result in
-    let at = place-of a.setup a.cpu c.args.sem.0 c.args.seats.now (past_at a) d c.requires.meeting c.requires.frees.known in
+    let d = c.index-seats-position.result in
+    let at = position-of a.setup a.cpu c.args.sem.0 c.args.seats.now (past_at a) d c.requires.meeting c.requires.frees.known in
     let b : SemEntry = entry c.cpu-cpu.result c.args.task (acts.Release c.release-next.result.0) in
     let e : SplitEntry = entry_of c.args.step replies.Done in
     let given = subst (λ n. HasGiven (book_of a.setup c.args.sem.0) n b (slice_index_or c.args.seats.now (c.args.sem.0 - 1) d) c.release-next.new.seat) c.cpu-cpu.ensures.cpu (c.release-next.ensures.given _ at.seat.about) in
@@ -100,8 +100,8 @@ returns-clause-acted g c =
 pub returns-clause-passed : goal.returns-clause-passed
 returns-clause-passed g c k some =
     let a = c.args.player.now in
-    let d = c.index-seats-place.result in
-    let at = place-of a.setup a.cpu c.args.sem.0 c.args.seats.now (past_at a) d c.requires.meeting c.requires.frees.known in
+    let d = c.index-seats-position.result in
+    let at = position-of a.setup a.cpu c.args.sem.0 c.args.seats.now (past_at a) d c.requires.meeting c.requires.frees.known in
     let b : SemEntry = entry c.cpu-cpu.result c.args.task (acts.Release c.release-next.result.0) in
     let e : SplitEntry = entry_of c.args.step replies.Done in
     let given = subst (λ n. HasGiven (book_of a.setup c.args.sem.0) n b (slice_index_or c.args.seats.now (c.args.sem.0 - 1) d) c.release-next.new.seat) c.cpu-cpu.ensures.cpu (c.release-next.ensures.given _ at.seat.about) in

@@ -13,7 +13,7 @@ offset_bounds-senders-home g c =
     let a = c.args.part.now in
     let kept = c.entries-entries.ensures.kept in
     let at = c.home_of-home.ensures ∙ ap (λ (p : Parts). home (group_with p 0) c.args.passed.task.0) (c.parts.ensures.parts ∙ c.setup.ensures) in
-    let low = laws.low-place a.setup a.cpu kept.history.of_split c.args.senders.now c.requires.senders a.seats c.args.passed c.requires.passed c.home_of-home.result at in
+    let low = laws.low-position a.setup a.cpu kept.history.of_split c.args.senders.now c.requires.senders a.seats c.args.passed c.requires.passed c.home_of-home.result at in
     let count = c.requires.senders.count in
     let few = (sets_are_in_limits a.setup kept.history.of_split.valid).few_cpus in
     omega (arith, low, count, few)
@@ -23,14 +23,14 @@ bounds-senders-home g c =
     let a = c.args.part.now in
     let kept = c.entries-entries.ensures.kept in
     let at = c.home_of-home.ensures ∙ ap (λ (p : Parts). home (group_with p 0) c.args.passed.task.0) (c.parts.ensures.parts ∙ c.setup.ensures) in
-    laws.low-place a.setup a.cpu kept.history.of_split c.args.senders.now c.requires.senders a.seats c.args.passed c.requires.passed c.home_of-home.result at
+    laws.low-position a.setup a.cpu kept.history.of_split c.args.senders.now c.requires.senders a.seats c.args.passed c.requires.passed c.home_of-home.result at
 
 pub offset_bounds-inboxes-home : goal.offset_bounds-inboxes-home
 offset_bounds-inboxes-home g c =
     let a = c.args.part.now in
     let kept = c.entries-entries.ensures.kept in
     let at = c.home_of-home.ensures ∙ ap (λ (p : Parts). home (group_with p 0) c.args.passed.task.0) (c.parts.ensures.parts ∙ c.setup.ensures) in
-    let low = laws.low-place a.setup a.cpu kept.history.of_split c.args.senders.now c.requires.senders a.seats c.args.passed c.requires.passed c.home_of-home.result at in
+    let low = laws.low-position a.setup a.cpu kept.history.of_split c.args.senders.now c.requires.senders a.seats c.args.passed c.requires.passed c.home_of-home.result at in
     let count = c.requires.senders.count in
     let few = (sets_are_in_limits a.setup kept.history.of_split.valid).few_cpus in
     omega (arith, low, count, few)
@@ -40,7 +40,7 @@ bounds-inboxes-home g c =
     let a = c.args.part.now in
     let kept = c.entries-entries.ensures.kept in
     let at = c.home_of-home.ensures ∙ ap (λ (p : Parts). home (group_with p 0) c.args.passed.task.0) (c.parts.ensures.parts ∙ c.setup.ensures) in
-    let low = laws.low-place a.setup a.cpu kept.history.of_split c.args.senders.now c.requires.senders a.seats c.args.passed c.requires.passed c.home_of-home.result at in
+    let low = laws.low-position a.setup a.cpu kept.history.of_split c.args.senders.now c.requires.senders a.seats c.args.passed c.requires.passed c.home_of-home.result at in
     let same = ap length c.requires.inboxes ∙ length-map c.args.senders.now (λ (b : PosterOf). b.inbox) in
     omega (arith, low, same)
 
@@ -50,7 +50,7 @@ post-requires-clause-inbox g c =
     let kept = c.entries-entries.ensures.kept in
     let at = c.home_of-home.ensures ∙ ap (λ (p : Parts). home (group_with p 0) c.args.passed.task.0) (c.parts.ensures.parts ∙ c.setup.ensures) in
     let d = c.index-senders-home.result in
-    laws.inbox-at c.args.senders.now c.args.inboxes.now c.home_of-home.result d c.index-inboxes-home.result c.requires.inboxes (laws.low-place a.setup a.cpu kept.history.of_split c.args.senders.now c.requires.senders a.seats c.args.passed c.requires.passed c.home_of-home.result at)
+    laws.inbox-at c.args.senders.now c.args.inboxes.now c.home_of-home.result d c.index-inboxes-home.result c.requires.inboxes (laws.low-position a.setup a.cpu kept.history.of_split c.args.senders.now c.requires.senders a.seats c.args.passed c.requires.passed c.home_of-home.result at)
     ∙ sym c.index-inboxes-home.is
 
 pub post-requires-clause-cpu : goal.post-requires-clause-cpu

@@ -8,23 +8,23 @@ use Rattle.pcp_sem.specs.Pairs.{tasks_of}
 use Rattle.pcp_sem.specs.PcpKept.{above_ceiling}
 use Rattle.pcp_sem.specs.Listed.{pairs}
 use Rattle.pcp_sem.proofs.OrderLaws.{length-pairs}
-use Rattle.pcp_sem.proofs.Acts.{may_ask, settled, pcp-granted, pcp-queued, held-place, waiting-place, order-place, order-same, order-pushed}
+use Rattle.pcp_sem.proofs.Acts.{may_ask, settled, pcp-granted, pcp-queued, held-position, waiting-position, order-position, order-same, order-pushed}
 use Rattle.pcp_sem.proofs.PcpSet.ask.Goals as goal
 
 pub put_first-requires : goal.put_first-requires
 put_first-requires c =
     let may = may_ask c.args.task.0 c.args.sem c.args.key c.self.view_is (record { below = c.requires.below; known = c.requires.known; idle = c.requires.idle; fresh = c.requires.fresh; low = c.requires.low; same = c.requires.same }) in
-    omega (arith, held-place _ _ _ _ _ _ _ c.self.invariant.facts c.args.task.0 c.args.sem c.args.key may, length-pairs c.self.inside.held.items)
+    omega (arith, held-position _ _ _ _ _ _ _ c.self.invariant.facts c.args.task.0 c.args.sem c.args.key may, length-pairs c.self.inside.held.items)
 
 pub put_behind-requires : goal.put_behind-requires
 put_behind-requires c =
     let may = may_ask c.args.task.0 c.args.sem c.args.key c.self.view_is (record { below = c.requires.below; known = c.requires.known; idle = c.requires.idle; fresh = c.requires.fresh; low = c.requires.low; same = c.requires.same }) in
-    omega (arith, waiting-place _ _ _ _ _ _ _ c.self.invariant.facts c.args.task.0 c.args.sem c.args.key may, length-pairs c.self.inside.waiting.items)
+    omega (arith, waiting-position _ _ _ _ _ _ _ c.self.invariant.facts c.args.task.0 c.args.sem c.args.key may, length-pairs c.self.inside.waiting.items)
 
 pub insert_by_key-requires : goal.insert_by_key-requires
 insert_by_key-requires c =
     let may = may_ask c.args.task.0 c.args.sem c.args.key c.self.view_is (record { below = c.requires.below; known = c.requires.known; idle = c.requires.idle; fresh = c.requires.fresh; low = c.requires.low; same = c.requires.same }) in
-    omega (arith, order-place _ _ _ _ _ _ _ c.self.invariant.facts c.args.task.0 c.args.sem c.args.key may, ap length c.self.invariant.in_falling_order, length-pairs c.self.inside.order.items)
+    omega (arith, order-position _ _ _ _ _ _ _ c.self.invariant.facts c.args.task.0 c.args.sem c.args.key may, ap length c.self.invariant.in_falling_order, length-pairs c.self.inside.order.items)
 
 pub invariant_of-self : goal.invariant_of-self
 invariant_of-self c =

@@ -2,4 +2,4 @@ use Rattle.std.proofs.Common.{◌≡◌, ◌++◌, replicate}
 use Rattle.rank_afresh.proofs.rows.put_homes.Given as goal
 
 abbrev pub invariant-loop : goal.invariant-loop
-invariant-loop l = l.homes.items ≡ l.initial.homes.items ++ replicate l.counter l.place
+invariant-loop l = l.homes.items ≡ l.initial.homes.items ++ replicate l.counter l.position

@@ -1,4 +1,4 @@
-use Rattle.rt_plays.proofs.GroupPlaces as laws
+use Rattle.rt_plays.proofs.AtHomeLaws as laws
 use Rattle.rt_plays.proofs.groups.tasks_are_at_home.Goals as goal
 
 pub returns : goal.returns

@@ -68,9 +68,9 @@ new-requires g c =
     let tpopped = c.in-Some-pop.ensures.items in
     let m = length-popped told tnow c.in-Some-pop.taker tpopped in
     let same = inv.same_count in
-    let place : length tnow ≡ k = omega (arith, n, m, same) in
+    let view : length tnow ≡ k = omega (arith, n, m, same) in
     let taker = starts-popped told tnow c.in-Some-pop.taker tpopped c.args.takers.items inv.takers_are in
-    let there : slice_get c.args.takers.items k ≡ Some c.in-Some-pop.taker = subst (λ j. slice_get c.args.takers.items j ≡ Some c.in-Some-pop.taker) place taker.1 in
+    let there : slice_get c.args.takers.items k ≡ Some c.in-Some-pop.taker = subst (λ j. slice_get c.args.takers.items j ≡ Some c.in-Some-pop.taker) view taker.1 in
     let posters = c.in_ok-senders_of.ensures in
     let a : PartSeatView = record { part = c.in-Some.part; posters = c.in_ok-senders_of.field-0.items; taker = c.in-Some-pop.taker } in
     subst (λ (m : PartOf). IsUnplayed g.N.Names.turns (record { part = m; posters = c.in_ok-senders_of.field-0.items; taker = c.in-Some-pop.taker })) (sym c.part.view_is)
@@ -94,9 +94,9 @@ loop-part-preserved g c =
     let tpopped = c.in-Some-pop.ensures.items in
     let m = length-popped told tnow c.in-Some-pop.taker tpopped in
     let same = inv.same_count in
-    let place : length tnow ≡ k = omega (arith, n, m, same) in
+    let view : length tnow ≡ k = omega (arith, n, m, same) in
     let taker = starts-popped told tnow c.in-Some-pop.taker tpopped c.args.takers.items inv.takers_are in
-    let there : slice_get c.args.takers.items k ≡ Some c.in-Some-pop.taker = subst (λ j. slice_get c.args.takers.items j ≡ Some c.in-Some-pop.taker) place taker.1 in
+    let there : slice_get c.args.takers.items k ≡ Some c.in-Some-pop.taker = subst (λ j. slice_get c.args.takers.items j ≡ Some c.in-Some-pop.taker) view taker.1 in
     let posters = c.in_ok-senders_of.ensures in
     let is = c.new.ensures ∙ ap (λ (m : PartOf). record { part = m; posters = c.in_ok-senders_of.field-0.items; taker = c.in-Some-pop.taker }) c.part.view_is in
     let a : PartSeatView = record { part = c.in-Some.part; posters = c.in_ok-senders_of.field-0.items; taker = c.in-Some-pop.taker } in
@@ -105,7 +105,7 @@ loop-part-preserved g c =
     record {
       parts_are = part.0;
       takers_are = taker.0;
-      same_count = place;
+      same_count = view;
       rows_are = dealt.0;
       seats_are =
           from-popped (IsSeated c.args.parts.items rows c.args.takers.items) k (length old) c.push.new.self.items c.loop-part.seats.items c.new.result pushed n inv.seats_are

@@ -5,6 +5,6 @@ use Rattle.svg_lines.proofs.page.below.Given as goal
 
 abbrev pub invariant-loop-panel : goal.invariant-loop-panel
 invariant-loop-panel l = record {
-  place : below l.y (map panel_shown (drop l.panel-index l.panels)) ≡ below 40 (map panel_shown l.panels);
+  position : below l.y (map panel_shown (drop l.panel-index l.panels)) ≡ below 40 (map panel_shown l.panels);
   small : l.y ≤ 40 + l.panel-index * 2 ^ 72;
 }

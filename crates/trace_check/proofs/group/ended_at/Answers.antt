@@ -21,7 +21,7 @@ overflow_add-result c =
     let bounds = stood-within k lines c.args.size c.args.text.now c.in_ok-stood.stood c.requires.within stood in
     let few : c.in_ok-stood.stood.count ≤ c.in_ok-stood.stood.length = bounds.0 in
     let inside : c.args.size + c.in_ok-stood.stood.length ≤ length c.args.text.now = bounds.1 in
-    let places = c.requires.places in
+    let positions = c.requires.positions in
     let count = c.count.ensures in
     search rules
 
@@ -33,7 +33,7 @@ overflow_add-result-2 c =
     let bounds = stood-within k lines c.args.size c.args.text.now c.in_ok-stood.stood c.requires.within stood in
     let few : c.in_ok-stood.stood.count ≤ c.in_ok-stood.stood.length = bounds.0 in
     let inside : c.args.size + c.in_ok-stood.stood.length ≤ length c.args.text.now = bounds.1 in
-    let places = c.requires.places in
+    let positions = c.requires.positions in
     let count = c.count.ensures in
     search rules
 

@@ -7,15 +7,15 @@ use Rattle.trace_tools.specs.BusCounters.{counters}
 use Rattle.trace_tools.specs.Counters.{counter_after}
 use Rattle.trace_text.specs.CountLines.{shown_as}
 use Rattle.trace_read.specs.Reading.{begins_with_digit}
-use Rattle.trace_course.specs.Places.{Place}
+use Rattle.trace_course.specs.Followed.{GroupEntries}
 use Rattle.trace_check.specs.declared.verdict.Verdict.TheVariants.{Invalid}
 use Rattle.trace_check.specs.inside.Following.{HasTaken}
 use Rattle.trace_check.specs.inside.GroupLines.{next_line}
 use Rattle.trace_check.specs.inside.Judging.{IsJudged}
 use Rattle.trace_check.specs.inside.Progress.{IsRight}
 use Rattle.trace_check.proofs.FirstLetters.{no-entry}
-use Rattle.trace_check.proofs.Judging.{followed-with, none-taken-there, place_at, refused-there, taken-rest, taken-right}
-use Rattle.trace_check.proofs.TextPlaces.{line-some, rest-of, taken-inside}
+use Rattle.trace_check.proofs.Judging.{followed-with, none-taken-there, position_at, refused-there, taken-rest, taken-right}
+use Rattle.trace_check.proofs.TextPositions.{line-some, rest-of, taken-inside}
 use Rattle.trace_check.proofs.group.follow_entries.Goals as goal
 
 pub entries-init : goal.entries-init
@@ -26,7 +26,7 @@ take_line-requires g c =
     let v = c.args.version in
     let p = c.args.setup.now in
     let right = c.entries.invariant.1 c.requires.0 c.requires.1 c.requires.2 c.requires.3 in
-    (place_at v p c.args.text.now right, followed-with v p c.args.text.now right)
+    (position_at v p c.args.text.now right, followed-with v p c.args.text.now right)
 
 pub returns-in_default : goal.returns-in_default
 returns-in_default g c = λ from opened was before.
@@ -34,7 +34,7 @@ returns-in_default g c = λ from opened was before.
     let p = c.args.setup.now in
     let text = c.args.text.now in
     let right = c.entries.invariant.1 from opened was before in
-    let at : Place = place_at v p text right in
+    let at : GroupEntries = position_at v p text right in
     let taken = taken-rest at v c.entries.size text c.take_line.new.line.items c.in_ok-entry.field-0 c.take_line.new.self (c.in_ok-entry.ensures at (followed-with v p text right)) in
     let refused = none-taken-there at v (drop c.entries.size text) c.take_line.new.line.items c.in_ok-entry.field-0 c.take_line.new.self c.in_default.not-Some taken in
     let digit = ap begins_with_digit (sym (rest-of c.entries.size text)) ∙ sym c.begins_as_entry.ensures ∙ c.entries-test.true in
@@ -47,7 +47,7 @@ overflow_add-size g c =
     let p = c.args.setup.now in
     let text = c.args.text.now in
     let right = c.entries.invariant.1 c.requires.0 c.requires.1 c.requires.2 c.requires.3 in
-    let at : Place = place_at v p text right in
+    let at : GroupEntries = position_at v p text right in
     let taken = taken-rest at v c.entries.size text c.take_line.new.line.items c.in_ok-entry.field-0 c.take_line.new.self (c.in_ok-entry.ensures at (followed-with v p text right)) in
     let is = subst (λ (o : Option Entry). HasTaken at v (drop c.entries.size text) c.take_line.new.line.items o c.take_line.new.self) c.in-Some.is taken in
     let inside : c.entries.size + length c.as_slice.result.now ≤ length text =
@@ -60,7 +60,7 @@ entries-smaller g c =
     let p = c.args.setup.now in
     let text = c.args.text.now in
     let right = c.entries.invariant.1 c.requires.0 c.requires.1 c.requires.2 c.requires.3 in
-    let at : Place = place_at v p text right in
+    let at : GroupEntries = position_at v p text right in
     let taken = taken-rest at v c.entries.size text c.take_line.new.line.items c.in_ok-entry.field-0 c.take_line.new.self (c.in_ok-entry.ensures at (followed-with v p text right)) in
     let is = subst (λ (o : Option Entry). HasTaken at v (drop c.entries.size text) c.take_line.new.line.items o c.take_line.new.self) c.in-Some.is taken in
     let inside : c.entries.size + length c.as_slice.result.now ≤ length text =
@@ -74,16 +74,16 @@ entries-preserved g c =
     let text = c.args.text.now in
     let now = counters g.T.TraceTool.tool c.entries.bus in
     let first = c.entries.invariant.1 c.requires.0 c.requires.1 c.requires.2 c.requires.3 in
-    let there : Place = place_at v p text first in
+    let there : GroupEntries = position_at v p text first in
     let got = taken-rest there v c.entries.size text c.take_line.new.line.items c.in_ok-entry.field-0 c.take_line.new.self (c.in_ok-entry.ensures there (followed-with v p text first)) in
     let said = subst (λ (o : Option Entry). HasTaken there v (drop c.entries.size text) c.take_line.new.line.items o c.take_line.new.self) c.in-Some.is got in (
       taken-inside text c.take_line.new.line.items c.as_slice.result.now c.entries.size c.entries.invariant.0 said.begins c.as_slice.ensures.value,
       λ from opened was before.
           let right = c.entries.invariant.1 from opened was before in
-          let at : Place = place_at v p text right in
+          let at : GroupEntries = position_at v p text right in
           let taken = taken-rest at v c.entries.size text c.take_line.new.line.items c.in_ok-entry.field-0 c.take_line.new.self (c.in_ok-entry.ensures at (followed-with v p text right)) in
           let is = subst (λ (o : Option Entry). HasTaken at v (drop c.entries.size text) c.take_line.new.line.items o c.take_line.new.self) c.in-Some.is taken in
-          let longer : Place = record { group = at.group; entries = at.entries ++ c.in-Some.entry ∷ [] } in
+          let longer : GroupEntries = record { group = at.group; entries = at.entries ++ c.in-Some.entry ∷ [] } in
           let fed = c.feed.ensures ∙ ap (λ (s : Shown). map (counter_after s) now) (c.shown.ensures longer is.following refl)
           ∙ ap (λ (n : ℕ). map (counter_after (shown_as at.group n c.in-Some.entry (past_of at.group (at.entries ++ c.in-Some.entry ∷ [])))) now) c.count-no.ensures in
           subst (λ (xs : List ℕ). IsRight v p text c.args.group.0 from (c.entries.size + length xs) c.take_line.new.self opened was (counters g.T.TraceTool.tool c.feed.new.self)) (sym c.as_slice.ensures.value)

@@ -4,13 +4,13 @@ use Rattle.trace_lines.specs.Known.{known_of}
 use Rattle.trace_lines.specs.Lines.{Line, group_line, links_of}
 use Rattle.trace_tools.specs.BusCounters.{counters}
 use Rattle.trace_tools.specs.Counters.{Counter}
-use Rattle.trace_course.specs.Places.{Place}
+use Rattle.trace_course.specs.Followed.{GroupEntries}
 use Rattle.trace_check.specs.declared.progress.Entries.{Entries}
 use Rattle.trace_check.specs.declared.progress.Followed.{Followed}
 use Rattle.trace_check.specs.inside.Following.{IsFollowingWith}
 use Rattle.trace_check.specs.inside.Progress.{AreFollowed, AreRight, HasStood, IsEndedAt, IsFollowedTo, IsRight}
-use Rattle.trace_check.proofs.Judging.{ended-there, entries-few, followed-with, group-low, opened-line, opened-right, opened-wrong, place-short, place_at, right-short}
-use Rattle.trace_check.proofs.TextPlaces.{begins-rest, rest-of, taken-inside}
+use Rattle.trace_check.proofs.Judging.{ended-there, entries-few, followed-with, group-low, opened-line, opened-right, opened-wrong, position-short, position_at, right-short}
+use Rattle.trace_check.proofs.TextPositions.{begins-rest, rest-of, taken-inside}
 use Rattle.trace_check.proofs.group.follow_lines.Goals as goal
 
 pub returns-then-not-branch : goal.returns-then-not-branch
@@ -66,10 +66,10 @@ ended_at-requires g c =
     (opened-right v p text n from c.requires.before.0 first c.requires.before.1 c.args.follow.now c.begins.new.line.items c.requires.opened stood.0 (begins-rest from.length text _ _ refl stood.1)) in
     let followed = subst (λ (e : Entries). AreFollowed v p text n from c.follow_entries.new.follow c.requires.before.0 first last e) c.in-Right.is (c.in_ok-entries.ensures from c.requires.before.0 first begun) in
     record {
-      follows = (place_at v p text followed.0, followed-with v p text followed.0);
+      follows = (position_at v p text followed.0, followed-with v p text followed.0);
       few = entries-few v p text n from c.in-Right.size c.follow_entries.new.follow c.requires.before.0 first last followed.0;
       within = followed.0.within;
-      places = place-short v p text n from c.in-Right.size c.follow_entries.new.follow c.requires.before.0 first last followed.0;
+      positions = position-short v p text n from c.in-Right.size c.follow_entries.new.follow c.requires.before.0 first last followed.0;
     }
 
 pub returns-in-Right : goal.returns-in-Right
@@ -84,13 +84,13 @@ returns-in-Right g c =
     let l : Line = group_line n (links_of c.args.follow.now.links.links.items) in
     let stood = subst (λ (b : Bool). HasStood (known_of v p) l (take (length text - c.args.from.length) (drop c.args.from.length text)) c.begins.new.line.items b) c.if-not-branch.false c.in_ok-begins.ensures in
     IfOk-weaker c.ended_at.result
-    (λ (f : Followed). (at : Place) → IsFollowingWith at p c.follow_entries.new.follow → IsEndedAt at (known_of v p) (drop c.in-Right.size text) from c.follow_entries.new.follow.count c.in-Right.size f)
+    (λ (f : Followed). (at : GroupEntries) → IsFollowingWith at p c.follow_entries.new.follow → IsEndedAt at (known_of v p) (drop c.in-Right.size text) from c.follow_entries.new.follow.count c.in-Right.size f)
     (λ (f : Followed). (opened : List Counter) → AreRight v p text n from opened first → IsFollowedTo v p text n opened last f)
     (λ f ended opened before.
     let begun = subst (λ (xs : List ℕ). IsRight v p text n from (from.length + length xs) c.args.follow.now opened first first) (sym c.as_slice.ensures.value)
     (opened-right v p text n from opened first before c.args.follow.now c.begins.new.line.items c.requires.opened stood.0 (begins-rest from.length text _ _ refl stood.1)) in
     let followed = subst (λ (e : Entries). AreFollowed v p text n from c.follow_entries.new.follow opened first last e) c.in-Right.is (c.in_ok-entries.ensures from opened first begun) in
-    ended-there v p text n from c.in-Right.size c.follow_entries.new.follow opened first last followed.0 f followed.1 (ended (place_at v p text followed.0) (followed-with v p text followed.0)))
+    ended-there v p text n from c.in-Right.size c.follow_entries.new.follow opened first last followed.0 f followed.1 (ended (position_at v p text followed.0) (followed-with v p text followed.0)))
     c.ended_at.ensures
 
 pub returns-in-WrongAfter : goal.returns-in-WrongAfter

@@ -13,7 +13,7 @@ use Rattle.trace_check.specs.Counts.{IsCountedText}
 use Rattle.trace_check.specs.inside.Judging.{IsJudgedText, IsShownText}
 use Rattle.trace_check.specs.inside.Progress.{AreAllRight}
 use Rattle.trace_check.proofs.Judging.{end-behind, end-counted, end-judged, end-shown, end-text, end-wrong}
-use Rattle.trace_check.proofs.TextPlaces.{rest-of}
+use Rattle.trace_check.proofs.TextPositions.{rest-of}
 use Rattle.trace_check.proofs.judge.end_at.Goals as goal
 
 pub returns-then-not-begins_with-clause-judged : goal.returns-then-not-begins_with-clause-judged

@@ -33,7 +33,7 @@ returns-in-Wrong-clause-judged g c =
     let first = counters g.T.TraceTool.tool c.args.bus.now in
     let followed = subst (λ (f : Followed). (opened : List Counter) → AreRight v p text c.loop-n.n c.loop-n.right opened (counters g.T.TraceTool.tool c.loop-n.bus) → IsFollowedTo v p text c.loop-n.n opened (counters g.T.TraceTool.tool c.follow_group.new.bus) f) c.in-Wrong.is c.in_ok-further.ensures in
     let judged = followed first c.loop-n.invariant in
-    IfOk-weaker c.wrong.result (λ (x : Checked). x ≡ record { verdict = Invalid (c.in-Wrong.place + 3); counted = false })
+    IfOk-weaker c.wrong.result (λ (x : Checked). x ≡ record { verdict = Invalid (c.in-Wrong.position + 3); counted = false })
     (λ (x : Checked). (tools : List Tool) → first ≡ map counter_of tools → IsJudgedText tools v p text x.verdict)
     (λ x is tools opened. subst (λ (y : Checked). IsJudgedText tools v p text y.verdict) (sym is) (judged tools))
     c.wrong.ensures
@@ -44,7 +44,7 @@ returns-in-Wrong-clause-counted g c =
     let p = c.args.setup.now in
     let text = c.args.text.now in
     let first = counters g.T.TraceTool.tool c.args.bus.now in
-    IfOk-weaker c.wrong.result (λ (x : Checked). x ≡ record { verdict = Invalid (c.in-Wrong.place + 3); counted = false })
+    IfOk-weaker c.wrong.result (λ (x : Checked). x ≡ record { verdict = Invalid (c.in-Wrong.position + 3); counted = false })
     (λ (x : Checked). (tools : List Tool) → first ≡ map counter_of tools → IsCountedText tools v p text x.verdict x.counted)
     (λ x is tools opened. subst (λ (y : Checked). IsCountedText tools v p text y.verdict y.counted) (sym is) (λ bytes head. tt))
     c.wrong.ensures
@@ -56,7 +56,7 @@ returns-in-Wrong-clause-shown g c =
     let text = c.args.text.now in
     let first = counters g.T.TraceTool.tool c.args.bus.now in
     let last = counters g.T.TraceTool.tool c.follow_group.new.bus in
-    IfOk-weaker c.wrong.result (λ (x : Checked). x ≡ record { verdict = Invalid (c.in-Wrong.place + 3); counted = false })
+    IfOk-weaker c.wrong.result (λ (x : Checked). x ≡ record { verdict = Invalid (c.in-Wrong.position + 3); counted = false })
     (λ (x : Checked). (tools : List Tool) → first ≡ map counter_of tools → IsShownText tools v p text last x.verdict)
     (λ x is tools opened. subst (λ (y : Checked). IsShownText tools v p text last y.verdict) (sym is) (λ bytes head. tt))
     c.wrong.ensures
@@ -72,7 +72,7 @@ loop-n-preserved g c =
 pub end_at-requires : goal.end_at-requires
 end_at-requires g c = record {
   within = c.loop-n.invariant.within;
-  places = right-short c.args.version c.args.setup.now c.args.text.now c.loop-n.n c.loop-n.right (counters g.T.TraceTool.tool c.args.bus.now) (counters g.T.TraceTool.tool c.loop-n.bus) c.loop-n.invariant;
+  positions = right-short c.args.version c.args.setup.now c.args.text.now c.loop-n.n c.loop-n.right (counters g.T.TraceTool.tool c.args.bus.now) (counters g.T.TraceTool.tool c.loop-n.bus) c.loop-n.invariant;
 }
 
 pub returns-clause-judged : goal.returns-clause-judged

@@ -4,7 +4,7 @@ use Rattle.trace_lines.specs.Grammar.{line_text}
 use Rattle.trace_lines.specs.Known.{known_of}
 use Rattle.trace_check.specs.inside.RequestLines.{request_lines}
 use Rattle.trace_check.proofs.RequestLaws.{stood-more, wanted-at, wanted-length}
-use Rattle.trace_check.proofs.TextPlaces.{StandFirst, begins-rest, rest-of}
+use Rattle.trace_check.proofs.TextPositions.{StandFirst, begins-rest, rest-of}
 use Rattle.trace_check.proofs.requests.stood_first.Goals as goal
 
 pub returns-then-not-begins_with : goal.returns-then-not-begins_with

@@ -23,16 +23,16 @@ invariant_of-self c =
     let left = subst (λ (b : GroupRequests). 0 < b.spare) (sym c.self.view_is) c.requires.room in
     let names = subst (λ (b : GroupRequests). NamesKnown b.setup c.args.entry.step.act (number_of_task c.args.runs)) (sym c.self.view_is) c.requires.names in
     let known = names-known a.setup c.args.entry.step.act c.args.entry.reply (number_of_task c.args.runs) c.in-Asks.task.0 c.in-Asks.sem.0 c.in-Asks.ensures names in
-    let there : c.in-Asks.task.0 < length a.places.items = omega (arith, known.0.1, c.self.invariant.0.places_length) in
+    let there : c.in-Asks.task.0 < length a.positions.items = omega (arith, known.0.1, c.self.invariant.0.positions_length) in
     let new : Tally = record { no = a.entries; task = c.in-Asks.task.0; sem = c.in-Asks.sem.0; ends = 0; ends_all = 0; bound = c.bound_of-bound.result } in
     let grown : tallies_of c.ask.new.seen.items ≡ tallies_of a.seen.items ++ new ∷ [] = ap tallies_of c.ask.ensures.seen ∙ map-append tally_of a.seen.items _ in
     let count : a.seen.len ≡ length (tallies_of a.seen.items) = omega (arith, length-map a.seen.items tally_of, a.seen.ok.0) in
-    let placed : c.ask.new.places ≡ slice_set a.places.items c.in-Asks.task.0 (Some (length (tallies_of a.seen.items))) = c.ask.ensures.places ∙ ap (λ ps. slice_set ps c.in-Asks.task.0 (Some a.seen.len)) c.as_mut_slice.ensures.value ∙ ap (λ n. slice_set a.places.items c.in-Asks.task.0 (Some n)) count in
-    let same : length c.ask.new.places ≡ a.places.len = search rules in
-    let written = with_items_is a.places c.ask.new.places same in
+    let placed : c.ask.new.positions ≡ slice_set a.positions.items c.in-Asks.task.0 (Some (length (tallies_of a.seen.items))) = c.ask.ensures.positions ∙ ap (λ ps. slice_set ps c.in-Asks.task.0 (Some a.seen.len)) c.as_mut_slice.ensures.value ∙ ap (λ n. slice_set a.positions.items c.in-Asks.task.0 (Some n)) count in
+    let same : length c.ask.new.positions ≡ a.positions.len = search rules in
+    let written = with_items_is a.positions c.ask.new.positions same in
     let kept : length c.bound_of-bound.new.counts ≡ a.users.len = omega (arith, c.bound_of-bound.ensures.counts.room, c.self.invariant.1.room, ap (λ (p : Parts). length p.sems) c.parts-parts.ensures.parts, a.users.ok.0) in
     let counted = with_items_is a.users c.bound_of-bound.new.counts kept in (
-      rw (written, placed, grown) (fit-asked a.setup new (tallies_of a.seen.items) a.places.items (vec_capacity a.seen) (vec_capacity c.ask.new.seen) a.entries a.spare c.self.invariant.0 left refl refl refl there c.ask.ensures.capacity),
+      rw (written, placed, grown) (fit-asked a.setup new (tallies_of a.seen.items) a.positions.items (vec_capacity a.seen) (vec_capacity c.ask.new.seen) a.entries a.spare c.self.invariant.0 left refl refl refl there c.ask.ensures.capacity),
       rw (counted, ← c.parts-parts.ensures.parts) c.bound_of-bound.ensures.counts,
     )
 
@@ -43,7 +43,7 @@ invariant_of-self-in-Frees c =
     let same : length c.count_end.new.seen ≡ a.seen.len = search rules in
     let written = with_items_is a.seen c.count_end.new.seen same in
     let now : tallies_of c.count_end.new.seen ≡ counted c.in-Frees.sem.0 (waiters_of c.args.waiting.now) (tallies_of a.seen.items) = c.count_end.ensures ∙ ap (λ xs. counted c.in-Frees.sem.0 (waiters_of c.args.waiting.now) (tallies_of xs)) c.as_mut_slice-in-Frees.ensures.value in
-    (rw (written, now) (fit-counted a.setup c.in-Frees.sem.0 (waiters_of c.args.waiting.now) (tallies_of a.seen.items) a.places.items (vec_capacity a.seen) a.entries a.spare c.self.invariant.0 left), c.self.invariant.1)
+    (rw (written, now) (fit-counted a.setup c.in-Frees.sem.0 (waiters_of c.args.waiting.now) (tallies_of a.seen.items) a.positions.items (vec_capacity a.seen) a.entries a.spare c.self.invariant.0 left), c.self.invariant.1)
 
 pub returns-in-Asks-clause-at : goal.returns-in-Asks-clause-at
 returns-in-Asks-clause-at c = λ past at between.

@@ -8,7 +8,7 @@ use Rattle.rt_plays.specs.Plays.{IsBegunPlay}
 use Rattle.rt_plays.specs.Drives.{gives_steps}
 use Rattle.rt_plays.specs.Groups.{GroupHistory, group_of, with_entry}
 use Rattle.cpu_site.specs.Playing.{IsFar, IsNextEntry, IsOver, IsPlaying}
-use Rattle.cpu_site.proofs.Advancing.{place-there, over-read, taking-read, playing-few}
+use Rattle.cpu_site.proofs.Advancing.{position-there, over-read, taking-read, playing-few}
 use Rattle.cpu_site.proofs.Drives.{far-script}
 use Rattle.cpu_site.proofs.player.Player.next_of_script.Goals as goal
 
@@ -18,54 +18,54 @@ at_home h h' q same there = subst (λ (x : GroupHistory). IsProcessorOf (group_o
 given : (h h' : GroupHistory) → h ≡ h' → gives_steps h'.setup.drive ≡ true → gives_steps h.setup.drive ≡ true
 given h h' same gives = subst (λ (x : GroupHistory). gives_steps x.setup.drive ≡ true) (sym same) gives
 
-pub index-place-requires : goal.index-place-requires
-index-place-requires c =
-    let low = place-there _ _ _ _ _ c.self.invariant c.args.cpu.0 (at_home _ _ _ c.self.view_is c.requires.cpu) (given _ _ c.self.view_is c.requires.steps) in
-    omega (arith, low, c.self.inside.places.ok.0)
+pub index-position-requires : goal.index-position-requires
+index-position-requires c =
+    let low = position-there _ _ _ _ _ c.self.invariant c.args.cpu.0 (at_home _ _ _ c.self.view_is c.requires.cpu) (given _ _ c.self.view_is c.requires.steps) in
+    omega (arith, low, c.self.inside.positions.ok.0)
 
-pub returns-then-place-len-clause-outcome : goal.returns-then-place-len-clause-outcome
-returns-then-place-len-clause-outcome c =
-    let end : length c.self.inside.steps.items ≤ c.index-place.result.now = omega (arith, c.if-place-len.true, c.len.ensures, c.self.inside.steps.ok.0) in
-    let over = over-read _ _ _ _ _ c.self.invariant c.args.cpu.0 (at_home _ _ _ c.self.view_is c.requires.cpu) (given _ _ c.self.view_is c.requires.steps) c.index-place.result.now c.index-place.ensures end in (
+pub returns-then-position-len-clause-outcome : goal.returns-then-position-len-clause-outcome
+returns-then-position-len-clause-outcome c =
+    let end : length c.self.inside.steps.items ≤ c.index-position.result.now = omega (arith, c.if-position-len.true, c.len.ensures, c.self.inside.steps.ok.0) in
+    let over = over-read _ _ _ _ _ c.self.invariant c.args.cpu.0 (at_home _ _ _ c.self.view_is c.requires.cpu) (given _ _ c.self.view_is c.requires.steps) c.index-position.result.now c.index-position.ensures end in (
       subst (λ (h : GroupHistory). IsOver (group_of h) c.args.cpu.0 h.entries) c.self.view_is over,
       (far-script (group_of c.args.self.now) c.args.cpu.0 c.args.self.now.entries c.args.self.now.entries c.args.at c.requires.steps c.requires.far).1,
       refl,
       refl,
     )
 
-pub returns-then-place-len-clause-begun : goal.returns-then-place-len-clause-begun
-returns-then-place-len-clause-begun c = subst (λ (h : GroupHistory). IsBegunPlay (group_of h) h.entries) c.self.view_is c.self.invariant.begun
+pub returns-then-position-len-clause-begun : goal.returns-then-position-len-clause-begun
+returns-then-position-len-clause-begun c = subst (λ (h : GroupHistory). IsBegunPlay (group_of h) h.entries) c.self.view_is c.self.invariant.begun
 
-pub returns-then-place-len-clause-few : goal.returns-then-place-len-clause-few
-returns-then-place-len-clause-few c = subst (λ (h : GroupHistory). length h.entries ≤ MOST_STEPS) c.self.view_is (playing-few _ _ _ _ _ c.self.invariant)
+pub returns-then-position-len-clause-few : goal.returns-then-position-len-clause-few
+returns-then-position-len-clause-few c = subst (λ (h : GroupHistory). length h.entries ≤ MOST_STEPS) c.self.view_is (playing-few _ _ _ _ _ c.self.invariant)
 
 pub step-reply-requires-clause-room : goal.step-reply-requires-clause-room
 step-reply-requires-clause-room c =
-    let low : c.index-place.result.now < length c.self.inside.steps.items = omega (arith, c.if-place-len.false, c.len.ensures, c.self.inside.steps.ok.0) in
-    (taking-read _ _ _ _ _ c.self.invariant c.args.cpu.0 (at_home _ _ _ c.self.view_is c.requires.cpu) (given _ _ c.self.view_is c.requires.steps) c.index-place.result.now c.index-place.ensures c.index-step.result.now c.index-step.ensures low).room
+    let low : c.index-position.result.now < length c.self.inside.steps.items = omega (arith, c.if-position-len.false, c.len.ensures, c.self.inside.steps.ok.0) in
+    (taking-read _ _ _ _ _ c.self.invariant c.args.cpu.0 (at_home _ _ _ c.self.view_is c.requires.cpu) (given _ _ c.self.view_is c.requires.steps) c.index-position.result.now c.index-position.ensures c.index-step.result.now c.index-step.ensures low).room
 
 pub step-reply-requires-clause-step : goal.step-reply-requires-clause-step
 step-reply-requires-clause-step c =
-    let low : c.index-place.result.now < length c.self.inside.steps.items = omega (arith, c.if-place-len.false, c.len.ensures, c.self.inside.steps.ok.0) in
-    (taking-read _ _ _ _ _ c.self.invariant c.args.cpu.0 (at_home _ _ _ c.self.view_is c.requires.cpu) (given _ _ c.self.view_is c.requires.steps) c.index-place.result.now c.index-place.ensures c.index-step.result.now c.index-step.ensures low).step_of
+    let low : c.index-position.result.now < length c.self.inside.steps.items = omega (arith, c.if-position-len.false, c.len.ensures, c.self.inside.steps.ok.0) in
+    (taking-read _ _ _ _ _ c.self.invariant c.args.cpu.0 (at_home _ _ _ c.self.view_is c.requires.cpu) (given _ _ c.self.view_is c.requires.steps) c.index-position.result.now c.index-position.ensures c.index-step.result.now c.index-step.ensures low).step_of
 
 pub index_mut-requires : goal.index_mut-requires
 index_mut-requires c =
-    let low = place-there _ _ _ _ _ c.self.invariant c.args.cpu.0 (at_home _ _ _ c.self.view_is c.requires.cpu) (given _ _ c.self.view_is c.requires.steps) in
-    omega (arith, low, c.self.inside.places.ok.0)
+    let low = position-there _ _ _ _ _ c.self.invariant c.args.cpu.0 (at_home _ _ _ c.self.view_is c.requires.cpu) (given _ _ c.self.view_is c.requires.steps) in
+    omega (arith, low, c.self.inside.positions.ok.0)
 
 pub invariant_of-self : goal.invariant_of-self
 invariant_of-self c =
-    let low : c.index-place.result.now < length c.self.inside.steps.items = omega (arith, c.if-place-len.false, c.len.ensures, c.self.inside.steps.ok.0) in
+    let low : c.index-position.result.now < length c.self.inside.steps.items = omega (arith, c.if-position-len.false, c.len.ensures, c.self.inside.steps.ok.0) in
     let e : Entry = record { step = c.index-step.result.now; reply = c.step-reply.result } in
-    let t = taking-read _ _ _ _ _ c.self.invariant c.args.cpu.0 (at_home _ _ _ c.self.view_is c.requires.cpu) (given _ _ c.self.view_is c.requires.steps) c.index-place.result.now c.index-place.ensures c.index-step.result.now c.index-step.ensures low in
-    subst (λ (h : GroupHistory). IsPlaying h c.self.inside.setup c.self.inside.steps.items (set c.self.inside.places.items c.args.cpu.0 c.index.result.now) c.self.inside.nexts.items) (sym c.step-reply.ensures.entry) (t.after e refl c.step-reply.ensures.reply c.index-place.result.now c.index.result.now c.index-place.ensures c.index.ensures)
+    let t = taking-read _ _ _ _ _ c.self.invariant c.args.cpu.0 (at_home _ _ _ c.self.view_is c.requires.cpu) (given _ _ c.self.view_is c.requires.steps) c.index-position.result.now c.index-position.ensures c.index-step.result.now c.index-step.ensures low in
+    subst (λ (h : GroupHistory). IsPlaying h c.self.inside.setup c.self.inside.steps.items (set c.self.inside.positions.items c.args.cpu.0 c.index.result.now) c.self.inside.nexts.items) (sym c.step-reply.ensures.entry) (t.after e refl c.step-reply.ensures.reply c.index-position.result.now c.index.result.now c.index-position.ensures c.index.ensures)
 
 pub returns-clause-outcome : goal.returns-clause-outcome
 returns-clause-outcome c =
-    let low : c.index-place.result.now < length c.self.inside.steps.items = omega (arith, c.if-place-len.false, c.len.ensures, c.self.inside.steps.ok.0) in
+    let low : c.index-position.result.now < length c.self.inside.steps.items = omega (arith, c.if-position-len.false, c.len.ensures, c.self.inside.steps.ok.0) in
     let e : Entry = record { step = c.index-step.result.now; reply = c.step-reply.result } in
-    let t = taking-read _ _ _ _ _ c.self.invariant c.args.cpu.0 (at_home _ _ _ c.self.view_is c.requires.cpu) (given _ _ c.self.view_is c.requires.steps) c.index-place.result.now c.index-place.ensures c.index-step.result.now c.index-step.ensures low in
+    let t = taking-read _ _ _ _ _ c.self.invariant c.args.cpu.0 (at_home _ _ _ c.self.view_is c.requires.cpu) (given _ _ c.self.view_is c.requires.steps) c.index-position.result.now c.index-position.ensures c.index-step.result.now c.index-step.ensures low in
     (subst (λ (h : GroupHistory). IsNextEntry h c.args.at.turns c.args.cpu.0 e) c.self.view_is (t.entry c.args.at.turns e refl c.step-reply.ensures.reply), c.step-reply.ensures.entry ∙ ap (with_entry e) c.self.view_is, refl)
 
 pub returns-clause-far : goal.returns-clause-far

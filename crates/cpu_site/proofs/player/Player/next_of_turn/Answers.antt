@@ -19,7 +19,7 @@ horizon-read read kept own count is same kept_is = is ∙ ap (λ (p : Parts). ho
 
 pub returns-then-at-horizon_of-clause-outcome : goal.returns-then-at-horizon_of-clause-outcome
 returns-then-at-horizon_of-clause-outcome c =
-    let on = subst (λ (h : GroupHistory). IsPlaying h c.self.inside.setup c.self.inside.steps.items c.self.inside.places.items c.self.inside.nexts.items) c.self.view_is c.self.invariant in
+    let on = subst (λ (h : GroupHistory). IsPlaying h c.self.inside.setup c.self.inside.steps.items c.self.inside.positions.items c.self.inside.nexts.items) c.self.view_is c.self.invariant in
     let far = horizon-read _ _ _ _ c.horizon_of.ensures c.parts.ensures.parts on.setup_is in
     let over = taking.all-over c.args.self.now _ _ _ _ on c.args.cpu.0 c.requires.cpu c.requires.turns c.args.at.now c.requires.far (omega (arith, far, c.if-at-horizon_of.true)) in
     (over.0, over.1, refl, refl)
@@ -29,14 +29,14 @@ returns-then-at-horizon_of-clause-few c = subst (λ (h : GroupHistory). length h
 
 pub returns-in_default-clause-outcome : goal.returns-in_default-clause-outcome
 returns-in_default-clause-outcome c =
-    let on = subst (λ (h : GroupHistory). IsPlaying h c.self.inside.setup c.self.inside.steps.items c.self.inside.places.items c.self.inside.nexts.items) c.self.view_is c.self.invariant in
+    let on = subst (λ (h : GroupHistory). IsPlaying h c.self.inside.setup c.self.inside.steps.items c.self.inside.positions.items c.self.inside.nexts.items) c.self.view_is c.self.invariant in
     let far = horizon-read _ _ _ _ c.horizon_of.ensures c.parts.ensures.parts on.setup_is in
     let over = taking.one-over c.args.self.now _ _ _ _ on c.args.cpu.0 c.requires.cpu c.requires.turns c.args.at.now c.requires.far (omega (arith, far, c.if-at-horizon_of.false)) (sym c.act_after.ensures ∙ c.in_default.is) in
     (over.0, refl, refl)
 
 pub returns-in_default-clause-far : goal.returns-in_default-clause-far
 returns-in_default-clause-far c =
-    let on = subst (λ (h : GroupHistory). IsPlaying h c.self.inside.setup c.self.inside.steps.items c.self.inside.places.items c.self.inside.nexts.items) c.self.view_is c.self.invariant in
+    let on = subst (λ (h : GroupHistory). IsPlaying h c.self.inside.setup c.self.inside.steps.items c.self.inside.positions.items c.self.inside.nexts.items) c.self.view_is c.self.invariant in
     let far = horizon-read _ _ _ _ c.horizon_of.ensures c.parts.ensures.parts on.setup_is in
     (taking.one-over c.args.self.now _ _ _ _ on c.args.cpu.0 c.requires.cpu c.requires.turns c.args.at.now c.requires.far (omega (arith, far, c.if-at-horizon_of.false)) (sym c.act_after.ensures ∙ c.in_default.is)).1
 
@@ -45,30 +45,30 @@ returns-in_default-clause-few c = subst (λ (h : GroupHistory). length h.entries
 
 pub step-reply-requires-clause-room : goal.step-reply-requires-clause-room
 step-reply-requires-clause-room c =
-    let on = subst (λ (h : GroupHistory). IsPlaying h c.self.inside.setup c.self.inside.steps.items c.self.inside.places.items c.self.inside.nexts.items) c.self.view_is c.self.invariant in
+    let on = subst (λ (h : GroupHistory). IsPlaying h c.self.inside.setup c.self.inside.steps.items c.self.inside.positions.items c.self.inside.nexts.items) c.self.view_is c.self.invariant in
     let far = horizon-read _ _ _ _ c.horizon_of.ensures c.parts.ensures.parts on.setup_is in
     subst (λ (h : GroupHistory). 0 < h.spare) (sym c.self.view_is)
     (taking.has-room c.args.self.now _ _ _ _ on c.args.cpu.0 c.requires.cpu c.requires.turns c.args.at.now c.requires.far (omega (arith, far, c.if-at-horizon_of.false)) c.in-Some.act (sym c.act_after.ensures ∙ c.in-Some.is))
 
 pub step-reply-requires-clause-step : goal.step-reply-requires-clause-step
 step-reply-requires-clause-step c =
-    let on = subst (λ (h : GroupHistory). IsPlaying h c.self.inside.setup c.self.inside.steps.items c.self.inside.places.items c.self.inside.nexts.items) c.self.view_is c.self.invariant in
+    let on = subst (λ (h : GroupHistory). IsPlaying h c.self.inside.setup c.self.inside.steps.items c.self.inside.positions.items c.self.inside.nexts.items) c.self.view_is c.self.invariant in
     let far = horizon-read _ _ _ _ c.horizon_of.ensures c.parts.ensures.parts on.setup_is in
     subst (λ (h : GroupHistory). IsStepOf (group_of h) (step_at c.args.cpu.0 c.args.at.now.turns c.in-Some.act)) (sym c.self.view_is)
     (taking.step-of c.args.self.now _ _ _ _ on c.args.cpu.0 c.requires.cpu c.requires.turns c.args.at.now c.requires.far (omega (arith, far, c.if-at-horizon_of.false)) c.in-Some.act (sym c.act_after.ensures ∙ c.in-Some.is))
 
 pub invariant_of-self : goal.invariant_of-self
 invariant_of-self c =
-    let on = subst (λ (h : GroupHistory). IsPlaying h c.self.inside.setup c.self.inside.steps.items c.self.inside.places.items c.self.inside.nexts.items) c.self.view_is c.self.invariant in
+    let on = subst (λ (h : GroupHistory). IsPlaying h c.self.inside.setup c.self.inside.steps.items c.self.inside.positions.items c.self.inside.nexts.items) c.self.view_is c.self.invariant in
     let far = horizon-read _ _ _ _ c.horizon_of.ensures c.parts.ensures.parts on.setup_is in
     let e : Entry = record { step = step_at c.args.cpu.0 c.args.at.now.turns c.in-Some.act; reply = c.step-reply.result } in
     let reply = subst (λ (h : GroupHistory). c.step-reply.result ≡ reply_to (group_of h) e.step (past h)) c.self.view_is c.step-reply.ensures.reply in
-    subst (λ (h : GroupHistory). IsPlaying h c.self.inside.setup c.self.inside.steps.items c.self.inside.places.items c.self.inside.nexts.items) (sym (c.step-reply.ensures.entry ∙ ap (with_entry e) c.self.view_is))
+    subst (λ (h : GroupHistory). IsPlaying h c.self.inside.setup c.self.inside.steps.items c.self.inside.positions.items c.self.inside.nexts.items) (sym (c.step-reply.ensures.entry ∙ ap (with_entry e) c.self.view_is))
     (taking.playing-on c.args.self.now _ _ _ _ on c.args.cpu.0 c.requires.cpu c.requires.turns c.args.at.now c.requires.far (omega (arith, far, c.if-at-horizon_of.false)) c.in-Some.act (sym c.act_after.ensures ∙ c.in-Some.is) e refl reply)
 
 pub returns-clause-outcome : goal.returns-clause-outcome
 returns-clause-outcome c =
-    let on = subst (λ (h : GroupHistory). IsPlaying h c.self.inside.setup c.self.inside.steps.items c.self.inside.places.items c.self.inside.nexts.items) c.self.view_is c.self.invariant in
+    let on = subst (λ (h : GroupHistory). IsPlaying h c.self.inside.setup c.self.inside.steps.items c.self.inside.positions.items c.self.inside.nexts.items) c.self.view_is c.self.invariant in
     let far = horizon-read _ _ _ _ c.horizon_of.ensures c.parts.ensures.parts on.setup_is in
     let e : Entry = record { step = step_at c.args.cpu.0 c.args.at.now.turns c.in-Some.act; reply = c.step-reply.result } in
     let reply = subst (λ (h : GroupHistory). c.step-reply.result ≡ reply_to (group_of h) e.step (past h)) c.self.view_is c.step-reply.ensures.reply in (
@@ -79,7 +79,7 @@ returns-clause-outcome c =
 
 pub returns-clause-far : goal.returns-clause-far
 returns-clause-far c =
-    let on = subst (λ (h : GroupHistory). IsPlaying h c.self.inside.setup c.self.inside.steps.items c.self.inside.places.items c.self.inside.nexts.items) c.self.view_is c.self.invariant in
+    let on = subst (λ (h : GroupHistory). IsPlaying h c.self.inside.setup c.self.inside.steps.items c.self.inside.positions.items c.self.inside.nexts.items) c.self.view_is c.self.invariant in
     let far = horizon-read _ _ _ _ c.horizon_of.ensures c.parts.ensures.parts on.setup_is in
     let e : Entry = record { step = step_at c.args.cpu.0 c.args.at.now.turns c.in-Some.act; reply = c.step-reply.result } in
     let reply = subst (λ (h : GroupHistory). c.step-reply.result ≡ reply_to (group_of h) e.step (past h)) c.self.view_is c.step-reply.ensures.reply in

@@ -68,8 +68,8 @@ invariant_of-result c =
     let are = steps-own _ c.args.setup.now c.args.group.0 _ c.in_ok-steps.steps.items c.args.cpus.now c.parts.ensures.parts c.steps_given.ensures c.in_ok-steps.ensures c.requires.cpus in
     let long : c.len.result ≡ length c.in_ok-steps.steps.items = omega (arith, c.in_ok-steps.steps.ok.0, c.len.ensures) in
     let own = room-own c.args.setup.now c.args.group.0 _ c.in_ok-steps.steps.items c.args.cpus.now c.len.result _ (ap (λ (p : Parts). p.drive) c.parts.ensures.parts) are long c.requires.cpus c.room_in-room.ensures in
-    let chain : IsChained c.in_ok-steps.steps.items MOST_CPUS c.in_ok-places.places.items c.in_ok-places.nexts.items = subst (λ (ss : List Step). IsChained ss MOST_CPUS c.in_ok-places.places.items c.in_ok-places.nexts.items) c.as_slice.ensures.value c.in_ok-places.ensures in
-    playing-opened c.args.setup.now c.args.group.0 c.in_ok-steps.steps.items c.in_ok-places.places.items c.in_ok-places.nexts.items c.in_ok-engine.engine (record { valid = c.parts.ensures.valid; there = c.requires.group }) are chain
+    let chain : IsChained c.in_ok-steps.steps.items MOST_CPUS c.in_ok-positions.positions.items c.in_ok-positions.nexts.items = subst (λ (ss : List Step). IsChained ss MOST_CPUS c.in_ok-positions.positions.items c.in_ok-positions.nexts.items) c.as_slice.ensures.value c.in_ok-positions.ensures in
+    playing-opened c.args.setup.now c.args.group.0 c.in_ok-steps.steps.items c.in_ok-positions.positions.items c.in_ok-positions.nexts.items c.in_ok-engine.engine (record { valid = c.parts.ensures.valid; there = c.requires.group }) are chain
     (c.in_ok-engine.ensures ∙ ap (λ (k : ℕ). let h : GroupHistory = record { setup = c.args.setup.now; group = c.args.group.0; entries = []; spare = k } in h) own) c.in_ok-setup.setup c.in_ok-setup.ensures
 
 pub returns-clause-group : goal.returns-clause-group

@@ -18,7 +18,7 @@ loop-seat-preserved c =
       (
         c.in-Some.seat ∷ i.0,
         split,
-        back-more c.self.inside.turn.cell i.0 c.loop-seat.back.items c.push_reserved.new.self.items c.seat.inside.seat c.in-Some.seat c.seat.inside.cpu.0 c.seat.inside.at c.seat.inside.place c.seat.inside.taken c.seat.inside.counts.items (vec_capacity c.seat.inside.raised) i.2 c.push_reserved.ensures.items c.seat.view_is cell c.seat.invariant,
+        back-more c.self.inside.turn.cell i.0 c.loop-seat.back.items c.push_reserved.new.self.items c.seat.inside.seat c.in-Some.seat c.seat.inside.cpu.0 c.seat.inside.at c.seat.inside.position c.seat.inside.taken c.seat.inside.counts.items (vec_capacity c.seat.inside.raised) i.2 c.push_reserved.ensures.items c.seat.view_is cell c.seat.invariant,
       ),
       omega (arith, c.loop-seat.invariant.1, ap length c.push_reserved.ensures.items, length-append c.loop-seat.back.items (c.seat.inside.seat ∷ []), ap length c.in-Some.ensures.items, length-append c.pop.new.self.items (c.in-Some.seat ∷ [])),
       omega (arith, c.loop-seat.invariant.2, c.push_reserved.ensures.capacity),

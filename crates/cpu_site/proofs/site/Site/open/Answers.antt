@@ -34,28 +34,28 @@ pub index-cpu-requires : goal.index-cpu-requires
 index-cpu-requires c =
     let i = c.loop-seat.invariant in
     let last = fresh-last c.in_ok-turn.turn.cell c.len-count.result c.in_ok-turn.seats.items c.pop.new.self.items i.0 c.in-Some.seat c.in_ok-turn.ensures.seats (taken-more c.in_ok-turn.seats.items c.loop-seat.seats.items c.pop.new.self.items i.0 c.in-Some.seat i.1 c.in-Some.ensures.items) in
-    omega (arith, last.0, c.len-place.ensures, c.pop.new.self.ok.0, c.len-count.ensures)
+    omega (arith, last.0, c.len-position.ensures, c.pop.new.self.ok.0, c.len-count.ensures)
 
-pub overflow_cast-place : goal.overflow_cast-place
-overflow_cast-place c =
+pub overflow_cast-position : goal.overflow_cast-position
+overflow_cast-position c =
     let i = c.loop-seat.invariant in
     let last = fresh-last c.in_ok-turn.turn.cell c.len-count.result c.in_ok-turn.seats.items c.pop.new.self.items i.0 c.in-Some.seat c.in_ok-turn.ensures.seats (taken-more c.in_ok-turn.seats.items c.loop-seat.seats.items c.pop.new.self.items i.0 c.in-Some.seat i.1 c.in-Some.ensures.items) in
     let g = group_with c.args.setup.now c.args.group.0 in
-    let low : c.len-place.result ≤ 64 = omega (arith, last.0, c.len-place.ensures, c.pop.new.self.ok.0, cpus-few g c.in_ok-value.ensures.playable.valid, cpus-read g c.in_ok-cpus.cpus.items c.in_ok-cpus.ensures, c.len-count.ensures, c.in_ok-cpus.cpus.ok.0) in
+    let low : c.len-position.result ≤ 64 = omega (arith, last.0, c.len-position.ensures, c.pop.new.self.ok.0, cpus-few g c.in_ok-value.ensures.playable.valid, cpus-read g c.in_ok-cpus.cpus.items c.in_ok-cpus.ensures, c.len-count.ensures, c.in_ok-cpus.cpus.ok.0) in
     search (arith, low)
 
 pub seated-requires-clause-seat : goal.seated-requires-clause-seat
 seated-requires-clause-seat c =
     let i = c.loop-seat.invariant in
     let last = fresh-last c.in_ok-turn.turn.cell c.len-count.result c.in_ok-turn.seats.items c.pop.new.self.items i.0 c.in-Some.seat c.in_ok-turn.ensures.seats (taken-more c.in_ok-turn.seats.items c.loop-seat.seats.items c.pop.new.self.items i.0 c.in-Some.seat i.1 c.in-Some.ensures.items) in
-    fresh-self c.in_ok-turn.turn.cell (length c.pop.new.self.items) c.len-place.result c.in-Some.seat last.1 (omega (arith, c.len-place.ensures, c.pop.new.self.ok.0))
+    fresh-self c.in_ok-turn.turn.cell (length c.pop.new.self.items) c.len-position.result c.in-Some.seat last.1 (omega (arith, c.len-position.ensures, c.pop.new.self.ok.0))
 
-pub seated-requires-clause-place : goal.seated-requires-clause-place
-seated-requires-clause-place c =
+pub seated-requires-clause-position : goal.seated-requires-clause-position
+seated-requires-clause-position c =
     let i = c.loop-seat.invariant in
     let last = fresh-last c.in_ok-turn.turn.cell c.len-count.result c.in_ok-turn.seats.items c.pop.new.self.items i.0 c.in-Some.seat c.in_ok-turn.ensures.seats (taken-more c.in_ok-turn.seats.items c.loop-seat.seats.items c.pop.new.self.items i.0 c.in-Some.seat i.1 c.in-Some.ensures.items) in
     let are : cpu_numbers c.in_ok-cpus.cpus.items ≡ group_processors (group_of c.in_ok-value.value) = c.in_ok-cpus.ensures ∙ ap (λ (h : GroupHistory). group_processors (group_of h)) (sym c.in_ok-value.ensures.group) in
-    fresh-about c.in_ok-turn.turn.cell c.in_ok-value.value c.in_ok-cpus.cpus.items c.index-cpu.result.now c.len-count.result (length c.pop.new.self.items) c.len-place.result c.in-Some.seat c.in_ok-turn.ensures.turn.1 are (omega (arith, c.len-count.ensures, c.in_ok-cpus.cpus.ok.0)) last.1 (omega (arith, c.len-place.ensures, c.pop.new.self.ok.0)) last.0 c.index-cpu.ensures
+    fresh-about c.in_ok-turn.turn.cell c.in_ok-value.value c.in_ok-cpus.cpus.items c.index-cpu.result.now c.len-count.result (length c.pop.new.self.items) c.len-position.result c.in-Some.seat c.in_ok-turn.ensures.turn.1 are (omega (arith, c.len-count.ensures, c.in_ok-cpus.cpus.ok.0)) last.1 (omega (arith, c.len-position.ensures, c.pop.new.self.ok.0)) last.0 c.index-cpu.ensures
 
 pub loop-seat-preserved : goal.loop-seat-preserved
 loop-seat-preserved c =
@@ -63,12 +63,12 @@ loop-seat-preserved c =
     let g = group_with c.args.setup.now c.args.group.0 in
     let split = taken-more c.in_ok-turn.seats.items c.loop-seat.seats.items c.pop.new.self.items i.0 c.in-Some.seat i.1 c.in-Some.ensures.items in
     let last = fresh-last c.in_ok-turn.turn.cell c.len-count.result c.in_ok-turn.seats.items c.pop.new.self.items i.0 c.in-Some.seat c.in_ok-turn.ensures.seats split in
-    let here : c.len-place.result ≡ length c.pop.new.self.items = omega (arith, c.len-place.ensures, c.pop.new.self.ok.0) in
-    let low : c.len-place.result < length c.in_ok-cpus.cpus.items = omega (arith, last.0, here, c.len-count.ensures, c.in_ok-cpus.cpus.ok.0) in (
+    let here : c.len-position.result ≡ length c.pop.new.self.items = omega (arith, c.len-position.ensures, c.pop.new.self.ok.0) in
+    let low : c.len-position.result < length c.in_ok-cpus.cpus.items = omega (arith, last.0, here, c.len-count.ensures, c.in_ok-cpus.cpus.ok.0) in (
       c.in-Some.seat ∷ i.0,
       split,
       put-more g c.loop-seat.all.items c.push.new.self.items i.0 c.in-Some.seat c.in_ok-seat.seat i.2 c.in_ok-push.ensures.items
-          (seat-numbered c.in_ok-turn.turn.cell g c.in_ok-cpus.cpus.items c.index-cpu.result.now (length c.pop.new.self.items) c.len-place.result c.in-Some.seat c.in_ok-seat.seat c.in_ok-cpus.ensures last.1 here low c.index-cpu.ensures c.in_ok-seat.ensures),
+          (seat-numbered c.in_ok-turn.turn.cell g c.in_ok-cpus.cpus.items c.index-cpu.result.now (length c.pop.new.self.items) c.len-position.result c.in-Some.seat c.in_ok-seat.seat c.in_ok-cpus.ensures last.1 here low c.index-cpu.ensures c.in_ok-seat.ensures),
     )
 
 pub returns-clause-seats : goal.returns-clause-seats

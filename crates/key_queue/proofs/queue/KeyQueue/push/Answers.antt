@@ -2,7 +2,7 @@ use Rattle.std.proofs.Common.{◌≡◌, ◌<◌, ℕ, true, false, length, arit
 use Rattle.rt_rules.specs.KeyOrder.{equal_keys}
 use Rattle.rt_rules.specs.Numbers.{has}
 use Rattle.sem_laws.specs.KeptKeys.{key_at}
-use Rattle.key_queue.proofs.QueueLaws.{place_for, queue-push}
+use Rattle.key_queue.proofs.QueueLaws.{position_for, queue-push}
 use Rattle.key_queue.proofs.queue.KeyQueue.push.Goals as goal
 
 pub invariant_of-self : goal.invariant_of-self
@@ -18,4 +18,4 @@ put-requires c =
     let below : c.args.task.0 < length c.self.inside.keys.items = rw (← c.self.view_is) at c.requires.below in
     let within : c.args.task.0 < c.self.inside.line.room = omega (arith, c.self.invariant.keys_length) in
     let outside : has c.args.task.0 c.self.inside.line.tasks ≡ false = rw (← c.self.view_is) at c.requires.outside in
-    place_for _ _ _ _ _ _ c.self.invariant c.args.task.0 within outside
+    position_for _ _ _ _ _ _ c.self.invariant c.args.task.0 within outside

@@ -3,7 +3,7 @@ use Rattle.std.specs.Prelude.{IfSome, slice_get, slice_index_or}
 use Rattle.std.proofs.lemmas.Option.{slice_get-get_or}
 use Rattle.turn_cell.specs.SeatViews.{split_off}
 use Rattle.part_seat.specs.Partitions.{Seat, cells_of}
-use Rattle.part_seat.proofs.PlaceLaws.{cells-at}
+use Rattle.part_seat.proofs.PositionLaws.{cells-at}
 use Rattle.part_seat.proofs.partition.Partition.spare.Goals as goal
 
 pub spare-requires-clause-cell : goal.spare-requires-clause-cell
@@ -11,8 +11,8 @@ spare-requires-clause-cell g c =
     let seats : c.self.inside.seats.items ≡ c.args.self.now.seats = ap (λ a. a.seats) c.self.view_is in
     let low : c.args.sem.0 - 1 < length c.self.inside.seats.items = let l = c.requires.low in let h = c.requires.high in let n = ap length seats in omega (arith, l, h, n) in
     ap (λ (a : Seat). a.cell) c.index_mut.ensures.value
-    ∙ cells-at c.args.turns.now c.self.inside.seats.items (c.args.sem.0 - 1) c.index-turns-place.result c.index_mut.result.now (c.requires.turns ∙ ap cells_of (sym seats)) low
-    ∙ ap (λ t. t.cell) (sym c.index-turns-place.is)
+    ∙ cells-at c.args.turns.now c.self.inside.seats.items (c.args.sem.0 - 1) c.index-turns-position.result c.index_mut.result.now (c.requires.turns ∙ ap cells_of (sym seats)) low
+    ∙ ap (λ t. t.cell) (sym c.index-turns-position.is)
 
 pub returns-clause-copy : goal.returns-clause-copy
 returns-clause-copy g c =

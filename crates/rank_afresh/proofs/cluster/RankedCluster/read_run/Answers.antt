@@ -4,7 +4,7 @@ use Rattle.std.proofs.lemmas.List.{length-map}
 use Rattle.rt_base.specs.TaskNos.{number_of_task, numbers_of_tasks}
 use Rattle.rt_base.specs.declared.TaskNo.{TaskNo}
 use Rattle.rt_rules.proofs.BoolLaws.{both}
-use Rattle.link_table.proofs.PlaceLaws.{numbers_of_tasks-set, read-at_place}
+use Rattle.link_table.proofs.PlaceLaws.{numbers_of_tasks-set, read-link_at}
 use Rattle.group_jobs.specs.Kept.{cpu_of}
 use Rattle.rank_afresh.specs.contracts.cluster.RankedCluster.{the_view}
 use Rattle.rank_afresh.specs.Clusters.{ClusterFacts, RunsStay, has_cpu}
@@ -39,10 +39,10 @@ returns-clause-stays c = λ still.
     let written = numbers_of_tasks-set rs (q - x.first) c.runs-run.result in
     subst (λ (v : ClusterFacts). RunsStay v.links v.runs (numbers_of_tasks (set rs (q - x.first) c.runs-run.result))) c.self.view_is
     (inr (record {
-      place = q - x.first;
+      position = q - x.first;
       inside = omega (arith, low, room);
       runs_are = elim c.if-is_none.branch [
         | then-is_none w ↦ inl (written ∙ ap (set x.runs (q - x.first)) (runs-none c.runs-run.result (c.is_none.ensures ∙ ap not w.if-is_none.true)))
-        | else-is_none w ↦ inr (written ∙ ap (set x.runs (q - x.first)) (same-task _ _ (sym w.eq.ensures ∙ sym w.result-is ∙ still) ∙ read-at_place ls (q - x.first) _ (omega (arith, low, length-map ls number_of_task)) w.index.ensures))
+        | else-is_none w ↦ inr (written ∙ ap (set x.runs (q - x.first)) (same-task _ _ (sym w.eq.ensures ∙ sym w.result-is ∙ still) ∙ read-link_at ls (q - x.first) _ (omega (arith, low, length-map ls number_of_task)) w.index.ensures))
       ];
     }))

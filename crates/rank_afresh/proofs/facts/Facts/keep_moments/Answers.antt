@@ -19,9 +19,9 @@ range c =
     let t : TaskNo = c.index-task.result.now in
     let looked : AreTasks c.args.parts.now (numbers us) = subst (λ (w : WithRoom). AreTasks c.args.parts.now w.facts.looked) (sym c.self.view_is) c.requires.looked in
     let same : get_or c.loop-i.self-inside.looked.items i t ≡ get_or us i t = rw c.loop-i.invariant.looked refl in
-    let place : t ≡ get_or us i t = c.index-task.ensures ∙ same in
+    let position : t ≡ get_or us i t = c.index-task.ensures ∙ same in
     let inside : i < length us = omega (arith, c.loop-i-test.true, c.len-i-end.ensures, c.self.inside.looked.ok.0) in
-    looked t.0 (subst (λ (u : TaskNo). has u.0 (numbers us) ≡ true) (sym place) (has-at us i t inside))
+    looked t.0 (subst (λ (u : TaskNo). has u.0 (numbers us) ≡ true) (sym position) (has-at us i t inside))
 
 pub timer-moment-requires : goal.timer-moment-requires
 timer-moment-requires c =

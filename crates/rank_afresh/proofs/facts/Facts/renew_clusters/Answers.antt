@@ -11,53 +11,53 @@ use Rattle.rank_afresh.specs.Clusters.{CanPlace, ClusterFacts, HasRenewed, IsPla
 use Rattle.rank_afresh.specs.Facts.{ArePlacedBut, HaveRenewed, WithRoom, cluster_at, core_of}
 use Rattle.rank_afresh.specs.Visits.{AreHomes, AreVisited, VisitFacts}
 use Rattle.rank_afresh.proofs.Moving.{renewed-as}
-use Rattle.rank_afresh.proofs.Visiting.{each-renewed, each-set, has-place, homes-as, homes-set, not-before, taken-here, taken-other, visited-as}
+use Rattle.rank_afresh.proofs.Visiting.{each-renewed, each-set, has-position, homes-as, homes-set, not-before, taken-here, taken-other, visited-as}
 use Rattle.rank_afresh.proofs.facts.Facts.renew_clusters.Goals as goal
-use Rattle.rank_afresh.proofs.facts.Facts.renew_clusters.Goals.{After-index_mut, After-places, then-renew, else-renew}
+use Rattle.rank_afresh.proofs.facts.Facts.renew_clusters.Goals.{After-index_mut, After-positions, then-renew, else-renew}
 
--- ---- the next place
+-- ---- the next position
 
-places-are : (c : After-places) → c.places.result.now ≡ c.list.new.self.places
-places-are c = c.places.ensures.places ∙ ap (λ (v : VisitFacts). v.places) c.loop-i.invariant.visits
+positions-are : (c : After-positions) → c.positions.result.now ≡ c.list.new.self.positions
+positions-are c = c.positions.ensures.positions ∙ ap (λ (v : VisitFacts). v.positions) c.loop-i.invariant.visits
 
-next : (c : After-places) → get_or c.places.result.now c.loop-i.i 0 ≡ get_or c.list.new.self.places c.loop-i.i 0
-next c = ap (λ qs. get_or qs c.loop-i.i 0) (places-are c)
+next : (c : After-positions) → get_or c.positions.result.now c.loop-i.i 0 ≡ get_or c.list.new.self.positions c.loop-i.i 0
+next c = ap (λ qs. get_or qs c.loop-i.i 0) (positions-are c)
 
-once : (c : After-places) → IsDistinct c.list.new.self.places
-once c = subst IsDistinct (places-are c) c.places.ensures.once
+once : (c : After-positions) → IsDistinct c.list.new.self.positions
+once c = subst IsDistinct (positions-are c) c.positions.ensures.once
 
-within : (c : After-places) → c.loop-i.i < length c.list.new.self.places
-within c = let all = ap (λ (qs : List ℕ). length qs) c.places-i-end.ensures.places in omega (arith, c.loop-i-test.true, all)
+within : (c : After-positions) → c.loop-i.i < length c.list.new.self.positions
+within c = let all = ap (λ (qs : List ℕ). length qs) c.positions-i-end.ensures.positions in omega (arith, c.loop-i-test.true, all)
 
-low : (c : After-places) → get_or c.places.result.now c.loop-i.i 0 < length c.self.inside.clusters.items
+low : (c : After-positions) → get_or c.positions.result.now c.loop-i.i 0 < length c.self.inside.clusters.items
 low c =
-    let n : ℕ = get_or c.places.result.now c.loop-i.i 0 in
-    let all = ap (λ (qs : List ℕ). length qs) (places-are c) in
-    let there : has n c.places.result.now ≡ true = has-place c.places.result.now c.loop-i.i (omega (arith, within c, all)) in
-    let few = c.places.ensures.inside n there in
+    let n : ℕ = get_or c.positions.result.now c.loop-i.i 0 in
+    let all = ap (λ (qs : List ℕ). length qs) (positions-are c) in
+    let there : has n c.positions.result.now ≡ true = has-position c.positions.result.now c.loop-i.i (omega (arith, within c, all)) in
+    let few = c.positions.ensures.inside n there in
     let count = ap (λ (v : VisitFacts). v.count) c.loop-i.invariant.visits in
     let same = ap (λ (v : VisitFacts). v.count) c.list.ensures.rest in
     omega (arith, few, count, same, c.self.invariant.1.count_is)
 
 pub index_mut-requires : goal.index_mut-requires
 index_mut-requires c =
-    let inside = low (goal.at.index_mut-requires c).After-places in
+    let inside = low (goal.at.index_mut-requires c).After-positions in
     omega (arith, inside, c.loop-i.invariant.count, c.self.inside.clusters.ok.0)
 
-unseen : (c : After-places) → has (get_or c.places.result.now c.loop-i.i 0) (take c.loop-i.i c.list.new.self.places) ≡ false
-unseen c = not-before c.list.new.self.places c.loop-i.i (get_or c.places.result.now c.loop-i.i 0) (next c) (once c) (within c)
+unseen : (c : After-positions) → has (get_or c.positions.result.now c.loop-i.i 0) (take c.loop-i.i c.list.new.self.positions) ≡ false
+unseen c = not-before c.list.new.self.positions c.loop-i.i (get_or c.positions.result.now c.loop-i.i 0) (next c) (once c) (within c)
 
-was : (c : After-index_mut) → get_or c.places.result.now c.loop-i.i 0 < length c.self.inside.clusters.items → has (get_or c.places.result.now c.loop-i.i 0) (take c.loop-i.i c.list.new.self.places) ≡ false
-    → c.index_mut.result.now ≡ cluster_at c.self.inside.clusters.items (get_or c.places.result.now c.loop-i.i 0)
+was : (c : After-index_mut) → get_or c.positions.result.now c.loop-i.i 0 < length c.self.inside.clusters.items → has (get_or c.positions.result.now c.loop-i.i 0) (take c.loop-i.i c.list.new.self.positions) ≡ false
+    → c.index_mut.result.now ≡ cluster_at c.self.inside.clusters.items (get_or c.positions.result.now c.loop-i.i 0)
 was c inside new =
-    let n : ℕ = get_or c.places.result.now c.loop-i.i 0 in
+    let n : ℕ = get_or c.positions.result.now c.loop-i.i 0 in
     let cs : List ClusterFacts = c.loop-i.self-inside.clusters.items in
     let here : n < length cs = omega (arith, inside, c.loop-i.invariant.room) in
     c.index_mut.ensures.value ∙ get_or_default cs n c.index_mut.result.now no_facts here ∙ c.loop-i.invariant.rest n new
 
 pub renew-requires-clause-placed : goal.renew-requires-clause-placed
 renew-requires-clause-placed c =
-    let listed = (goal.at.renew-requires-clause-placed c).After-places in
+    let listed = (goal.at.renew-requires-clause-placed c).After-positions in
     let is = was (goal.at.renew-requires-clause-placed c).After-index_mut (low listed) (unseen listed) in
     let olds : List ClusterFacts = c.self.inside.clusters.items in
     let placed : ArePlacedBut c.args.ran c.self.inside.core.facts.kept olds = subst (λ (w : WithRoom). ArePlacedBut c.args.ran w.facts.kept w.facts.clusters) (sym c.self.view_is) c.requires.placed in
@@ -66,16 +66,16 @@ renew-requires-clause-placed c =
 
 pub renew-requires-clause-place : goal.renew-requires-clause-place
 renew-requires-clause-place c =
-    let listed = (goal.at.renew-requires-clause-place c).After-places in
+    let listed = (goal.at.renew-requires-clause-place c).After-positions in
     let is = was (goal.at.renew-requires-clause-place c).After-index_mut (low listed) (unseen listed) in
     let p = c.args.parts.now in
-    let all : All (CanPlace p c.self.inside.core.facts.kept) c.self.inside.clusters.items = subst (λ (w : WithRoom). All (CanPlace p w.facts.kept) w.facts.clusters) (sym c.self.view_is) c.requires.follow.places in
+    let all : All (CanPlace p c.self.inside.core.facts.kept) c.self.inside.clusters.items = subst (λ (w : WithRoom). All (CanPlace p w.facts.kept) w.facts.clusters) (sym c.self.view_is) c.requires.follow.positions in
     subst (λ (w : core.WithRoom). CanPlace p w.facts.kept c.index_mut.result.now) (sym c.loop-i.invariant.core)
     (subst (λ (x : ClusterFacts). CanPlace p c.self.inside.core.facts.kept x) (sym is) (all _ no_facts (low listed)))
 
 pub add-requires : goal.add-requires
 add-requires c =
-    let inside = low (goal.at.add-requires c).After-places in
+    let inside = low (goal.at.add-requires c).After-positions in
     let room = ap (λ (w : WithRoom). length w.facts.clusters) c.self.view_is in
     omega (arith, inside, c.loop-i.invariant.marks_room, c.requires.all, room)
 
@@ -97,10 +97,10 @@ marked-more false n marks marks' low one none = let is : marks' ≡ marks = none
 
 pub loop-i-preserved : goal.loop-i-preserved
 loop-i-preserved c =
-    let listed = (goal.at.loop-i-preserved c).After-places in
-    let n : ℕ = get_or c.places.result.now c.loop-i.i 0 in
+    let listed = (goal.at.loop-i-preserved c).After-positions in
+    let n : ℕ = get_or c.positions.result.now c.loop-i.i 0 in
     let i : ℕ = c.loop-i.i in
-    let qs : List ℕ = c.list.new.self.places in
+    let qs : List ℕ = c.list.new.self.positions in
     let cs : List ClusterFacts = c.loop-i.self-inside.clusters.items in
     let olds : List ClusterFacts = c.self.inside.clusters.items in
     let x : core.Facts = c.self.inside.core.facts in
@@ -149,8 +149,8 @@ returns-clause-clusters c =
     let olds : List ClusterFacts = c.self.inside.clusters.items in
     let cs : List ClusterFacts = c.loop-i.self-inside.clusters.items in
     let v : VisitFacts = c.list.new.self in
-    let count = ap (λ (qs : List ℕ). length qs) c.places-i-end.ensures.places in
-    let all : take c.loop-i.i v.places ≡ v.places = take_all c.loop-i.i v.places (omega (arith, c.loop-i-test.false, count)) in
+    let count = ap (λ (qs : List ℕ). length qs) c.positions-i-end.ensures.positions in
+    let all : take c.loop-i.i v.positions ≡ v.positions = take_all c.loop-i.i v.positions (omega (arith, c.loop-i-test.false, count)) in
     let visited : AreVisited ts x.resvs.changed c.args.ran v = visited-as _ ts _ x.resvs.changed c.args.ran v (ap numbers c.as_slice.ensures.value) c.changed.ensures c.list.ensures.visited in
     let homes : AreHomes olds v = homes-as olds c.self.inside.visits v c.list.ensures.rest c.self.invariant.1 in
     let placed : ArePlacedBut c.args.ran x.kept olds = subst (λ (w : WithRoom). ArePlacedBut c.args.ran w.facts.kept w.facts.clusters) (sym c.self.view_is) c.requires.placed in

@@ -4,8 +4,8 @@ use Rattle.rank_afresh.specs.Visits.{HasMore}
 use Rattle.rank_afresh.proofs.visits.Visits.add_all.Given as goal
 
 -- the first clusters are added
-abbrev pub invariant-loop-place : goal.invariant-loop-place
-invariant-loop-place l = record {
+abbrev pub invariant-loop-position : goal.invariant-loop-position
+invariant-loop-position l = record {
   more : HasMore l.initial.self l.self;
-  all : (n : ℕ) → n < l.place → has n l.self.places ≡ true;
+  all : (n : ℕ) → n < l.position → has n l.self.positions ≡ true;
 }

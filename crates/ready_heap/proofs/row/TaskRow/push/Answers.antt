@@ -27,15 +27,15 @@ invariant_of-self c =
     let absent : get_or c.self.inside.arena c.args.task.0 None ≡ None = no_node c.self.inside.arena c.args.task.0 (rw (← c.self.view_is) at c.requires.absent) in
     let in_keys : c.args.task.0 < length (keys_in c.self.inside.arena) = rw (← c.self.view_is) at c.requires.room in
     let inside : c.args.task.0 < length c.self.inside.arena = rw (length-keys_in c.self.inside.arena) at in_keys in
-    let place : c.len-place.result ≡ length (numbers c.self.inside.tasks.items) = c.len-place.ensures ∙ c.self.inside.tasks.ok.0 ∙ sym (length-numbers c.self.inside.tasks.items) in (
-      rw (c.insert.ensures, c.push_reserved.ensures.items, c.push_reserved.ensures.capacity, numbers-append, place) (placed-push _ _ _ c.self.invariant.0 c.args.task.0 c.args.key inside absent),
-      rw (c.insert.ensures, c.push_reserved.ensures.items, c.push_reserved-2.ensures.items, c.push_reserved-2.ensures.capacity, numbers-append) (keyed-push _ _ _ _ _ c.self.invariant.0 c.self.invariant.1 c.args.task.0 c.args.key c.len-place.result inside absent),
+    let position : c.len-position.result ≡ length (numbers c.self.inside.tasks.items) = c.len-position.ensures ∙ c.self.inside.tasks.ok.0 ∙ sym (length-numbers c.self.inside.tasks.items) in (
+      rw (c.insert.ensures, c.push_reserved.ensures.items, c.push_reserved.ensures.capacity, numbers-append, position) (placed-push _ _ _ c.self.invariant.0 c.args.task.0 c.args.key inside absent),
+      rw (c.insert.ensures, c.push_reserved.ensures.items, c.push_reserved-2.ensures.items, c.push_reserved-2.ensures.capacity, numbers-append) (keyed-push _ _ _ _ _ c.self.invariant.0 c.self.invariant.1 c.args.task.0 c.args.key c.len-position.result inside absent),
     )
 
 pub returns-clause-pushed : goal.returns-clause-pushed
 returns-clause-pushed c =
-    let place : c.len-place.result ≡ length (numbers c.self.inside.tasks.items) = c.len-place.ensures ∙ c.self.inside.tasks.ok.0 ∙ sym (length-numbers c.self.inside.tasks.items) in
-    rw (← c.self.view_is, c.insert.ensures, c.push_reserved.ensures.items, numbers-append, place) (pushed-lists c.self.inside.arena (numbers c.self.inside.tasks.items) c.args.task.0 c.args.key)
+    let position : c.len-position.result ≡ length (numbers c.self.inside.tasks.items) = c.len-position.ensures ∙ c.self.inside.tasks.ok.0 ∙ sym (length-numbers c.self.inside.tasks.items) in
+    rw (← c.self.view_is, c.insert.ensures, c.push_reserved.ensures.items, numbers-append, position) (pushed-lists c.self.inside.arena (numbers c.self.inside.tasks.items) c.args.task.0 c.args.key)
 
 pub returns-clause-sound : goal.returns-clause-sound
 returns-clause-sound c = row-placed _ _ _ (invariant_of-self c).0

@@ -1,16 +1,16 @@
 use Rattle.std.proofs.Common.{◌≡◌, ◌<◌, get_or, length, ap, ◌∙◌, arith}
 use Rattle.rt_base.specs.TaskNos.{numbers}
-use Rattle.ready_heap.specs.Row.{place_in}
+use Rattle.ready_heap.specs.Row.{position_in}
 use Rattle.ready_heap.proofs.KeyedLaws.{keyed-rekey}
 use Rattle.ready_heap.proofs.RowLaws.{row-placed, placed-rekey, keys_in-rekeyed, in_list, read_number, length-numbers}
 use Rattle.ready_heap.proofs.row.TaskRow.rekey.Goals as goal
 use Rattle.ready_heap.proofs.row.TaskRow.rekey.Goals.{After-index-task}
 
-inside : (c : After-index-task) → c.args.place < length (numbers c.self.inside.tasks.items)
+inside : (c : After-index-task) → c.args.position < length (numbers c.self.inside.tasks.items)
 inside c = rw (← c.self.view_is) at c.requires
 
-task : (c : After-index-task) → c.index-task.result.now.0 ≡ get_or (numbers c.self.inside.tasks.items) c.args.place 0
-task c = read_number c.self.inside.tasks.items c.args.place c.index-task.result.now (rw (length-numbers c.self.inside.tasks.items) at (inside c)) c.index-task.ensures
+task : (c : After-index-task) → c.index-task.result.now.0 ≡ get_or (numbers c.self.inside.tasks.items) c.args.position 0
+task c = read_number c.self.inside.tasks.items c.args.position c.index-task.result.now (rw (length-numbers c.self.inside.tasks.items) at (inside c)) c.index-task.ensures
 
 pub index_mut-requires : goal.index_mut-requires
 index_mut-requires c =
@@ -18,7 +18,7 @@ index_mut-requires c =
     omega (arith, at, c.self.invariant.1.same_length, c.self.inside.keys.ok.0)
 
 below : (c : After-index-task) → c.index-task.result.now.0 < length c.self.inside.arena
-below c = in_list c.self.inside.arena c.index-task.result.now.0 c.args.place (ap (place_in c.self.inside.arena) (task c) ∙ c.self.invariant.0.tells.told c.args.place (inside c))
+below c = in_list c.self.inside.arena c.index-task.result.now.0 c.args.position (ap (position_in c.self.inside.arena) (task c) ∙ c.self.invariant.0.tells.told c.args.position (inside c))
 
 pub rekey-requires : goal.rekey-requires
 rekey-requires c = below (goal.at.rekey-requires c).After-index-task
@@ -27,13 +27,13 @@ pub invariant_of-self : goal.invariant_of-self
 invariant_of-self c =
     let here = (goal.at.invariant_of-self c).After-index-task in (
       rw c.rekey.ensures (placed-rekey _ _ _ c.self.invariant.0 c.index-task.result.now.0 c.args.key (below here)),
-      rw (c.rekey.ensures, task here) (keyed-rekey _ _ _ _ _ c.self.invariant.0 c.self.invariant.1 c.args.place c.args.key (inside here)),
+      rw (c.rekey.ensures, task here) (keyed-rekey _ _ _ _ _ c.self.invariant.0 c.self.invariant.1 c.args.position c.args.key (inside here)),
     )
 
 pub returns-clause-rekeyed : goal.returns-clause-rekeyed
 returns-clause-rekeyed c =
     let here = (goal.at.returns-clause-rekeyed c).After-index-task in
-    let some = (row-placed _ _ _ c.self.invariant.0).keyed c.args.place (inside here) in
+    let some = (row-placed _ _ _ c.self.invariant.0).keyed c.args.position (inside here) in
     rw (← c.self.view_is, c.rekey.ensures, task here, keys_in-rekeyed c.self.inside.arena _ c.args.key some)
 
 pub returns-clause-sound : goal.returns-clause-sound

@@ -13,7 +13,7 @@ pub returns-else-are_over-clause-next : goal.returns-else-are_over-clause-next
 returns-else-are_over-clause-next c g was =
     let before : c.args.self.now.tick < c.args.self.now.horizon = grind (arith, common_steps) in
     rw (c.hand_out.ensures.step, c.hand_out.ensures.turns)
-    (turns_left-step g c.args.self.now was before c.requires.place acts.Tick (begins-tick g c.args.self.now was c.requires.done))
+    (turns_left-step g c.args.self.now was before c.requires.position acts.Tick (begins-tick g c.args.self.now was c.requires.done))
 
 pub returns-else-are_over-clause-step : goal.returns-else-are_over-clause-step
 returns-else-are_over-clause-step c g turns =

@@ -21,7 +21,7 @@ returns-in-Some-clause-next c =
     let g : Group = group_of c.args.engine.now in
     let was : Past = past c.args.engine.now in
     rw (c.hand_out.ensures.step, c.hand_out.ensures.turns)
-    (turns_left-step g c.args.self.now was before c.requires.turns.place c.in-Some.act c.in-Some.ensures.left)
+    (turns_left-step g c.args.self.now was before c.requires.turns.position c.in-Some.act c.in-Some.ensures.left)
 
 pub returns-in-Some-clause-step : goal.returns-in-Some-clause-step
 returns-in-Some-clause-step c =
@@ -34,7 +34,7 @@ returns-in-None-clause-next c =
     let was : Past = past c.args.engine.now in
     let before : c.args.self.now.tick < c.args.self.now.horizon = grind (arith, common_steps) in
     let turns : AreTurnsOf g c.args.self.now = c.requires.turns in
-    let over = turns_left-over g c.args.self.now was before turns.place turns.processors c.in-None.ensures.left in
+    let over = turns_left-over g c.args.self.now was before turns.position turns.processors c.in-None.ensures.left in
     let same : turns_left g c.end_turn.new.self was ≡ turns_left g c.args.self.now was = rw c.end_turn.ensures (sym over) in
     subst
     (λ (left : List Step). MatchOption c.begin.result (left ≡ []) (λ s. left ≡ s ∷ turns_left g c.begin.new.self (after g s was)))

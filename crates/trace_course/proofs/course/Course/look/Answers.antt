@@ -6,7 +6,7 @@ use Rattle.rt_model.specs.Histories.{after, past_of}
 use Rattle.rt_plays.specs.Homes.{IsProcessorOf}
 use Rattle.rank_afresh.specs.Standing.{IsAt}
 use Rattle.trace_course.specs.Courses.{HasGone, IsCourse}
-use Rattle.trace_course.specs.Places.{longer}
+use Rattle.trace_course.specs.Followed.{longer}
 use Rattle.trace_course.proofs.Courses.{cpus-there, looked-all}
 use Rattle.trace_course.proofs.course.Course.look.Goals as goal
 

@@ -1,7 +1,7 @@
 use Rattle.std.proofs.Common.{ℕ, arith, below_more}
 use Rattle.rt_plays.specs.Homes.{IsProcessorOf}
 use Rattle.rt_plays.proofs.GroupLimits.{processor-low}
-use Rattle.trace_course.specs.Places.{IsDone}
+use Rattle.trace_course.specs.Followed.{IsDone}
 use Rattle.trace_course.proofs.scripts.Scripts.are_over.Goals as goal
 
 pub returns-then-has_next-clause-not_over : goal.returns-then-has_next-clause-not_over

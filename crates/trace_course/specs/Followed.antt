@@ -14,7 +14,7 @@ use Rattle.trace_course.specs.declared.scripts.Scripts.{Scripts}
 use Rattle.trace_course.specs.Next.{AreFollowing}
 
 -- a group and entries of it
-pub record Place : Type 0 where
+pub record GroupEntries : Type 0 where
   pub group : Group
   pub entries : List Entry
 
@@ -22,7 +22,7 @@ pub record Place : Type 0 where
 abbrev pub entry_by : Group → List Entry → Step → Entry
 entry_by g es step = record { step = step; reply = reply_to g step (past_of g es) }
 
-abbrev pub longer : Place → Step → List Entry
+abbrev pub longer : GroupEntries → Step → List Entry
 longer at step = at.entries ++ entry_by at.group at.entries step ∷ []
 
 -- the step may come next: the play goes on by it
@@ -36,25 +36,25 @@ pub record IsPassed (steps : List Step) (es : List Entry) (q passed : ℕ) : Typ
   pub within : passed ≤ length steps
   pub taken : script (take passed steps) q ≡ script (steps_of es) q
 
--- the place of a processor among those that are kept
-abbrev pub place_in : List (Option ℕ) → ℕ → Option ℕ
-place_in places q = slice_index_or places q None
+-- the position of a processor among those that are kept
+abbrev pub position_in : List (Option ℕ) → ℕ → Option ℕ
+position_in positions q = slice_index_or positions q None
 
-abbrev pub has_place : List (Option ℕ) → ℕ → Bool
-has_place places q = is_some (place_in places q)
+abbrev pub has_position : List (Option ℕ) → ℕ → Bool
+has_position positions q = is_some (position_in positions q)
 
--- a processor of the group is at this place, and one of another group has none
-abbrev pub IsPlaceOf : Group → List Entry → ℕ → Option ℕ → Type 0
-IsPlaceOf g es q None = IsProcessorOf g q → ⊥
-IsPlaceOf g es q (Some n) = IsProcessorOf g q × IsPassed (steps_given g.setup.drive) es q n
+-- a processor of the group is at this position, and one of another group has none
+abbrev pub IsPositionOf : Group → List Entry → ℕ → Option ℕ → Type 0
+IsPositionOf g es q None = IsProcessorOf g q → ⊥
+IsPositionOf g es q (Some n) = IsProcessorOf g q × IsPassed (steps_given g.setup.drive) es q n
 
-abbrev pub ArePlaces : Group → List Entry → List (Option ℕ) → Type 0
-ArePlaces g es places = (q : ℕ) → IsPlaceOf g es q (place_in places q)
+abbrev pub ArePositions : Group → List Entry → List (Option ℕ) → Type 0
+ArePositions g es positions = (q : ℕ) → IsPositionOf g es q (position_in positions q)
 
 -- the scripts were followed so far, by the steps of the group's set
-pub record ArePassed (at : Place) (steps : List Step) (s : Scripts) : Type 0 where
+pub record ArePassed (at : GroupEntries) (steps : List Step) (s : Scripts) : Type 0 where
   pub valid : IsValid at.group.setup
-  pub places_are : ArePlaces at.group at.entries s.places.items
+  pub positions_are : ArePositions at.group at.entries s.positions.items
   pub following_are : AreFollowing (steps_given at.group.setup.drive) s.following.items
   pub steps_are : steps ≡ steps_given at.group.setup.drive
 
@@ -72,15 +72,15 @@ IsDone g es q = script (steps_given g.setup.drive) q ≡ script (steps_of es) q
 abbrev pub AreDone : Group → List Entry → Type 0
 AreDone g es = (q : ℕ) → IsProcessorOf g q → IsDone g es q
 
--- the place of the step among the set's steps
-pub record IsNextPlace (g : Group) (es : List Entry) (step : Step) (j : ℕ) : Type 0 where
+-- the position of the step among the set's steps
+pub record IsNextPosition (g : Group) (es : List Entry) (step : Step) (j : ℕ) : Type 0 where
   pub next : IsNextOfScript g es step
   pub there : j < length (steps_given g.setup.drive)
   pub step_is : (d : Step) → slice_index_or (steps_given g.setup.drive) j d ≡ step
   pub taken : script (take (j + 1) (steps_given g.setup.drive)) step.cpu.0 ≡ script (steps_of es) step.cpu.0 ++ step ∷ []
 
 -- the step was the next one of its script, and is followed now
-pub record HasPassed (at : Place) (step : Step) (s : Scripts) : Type 0 where
+pub record HasPassed (at : GroupEntries) (step : Step) (s : Scripts) : Type 0 where
   pub next : IsNextOfScript at.group at.entries step
-  pub places_are : ArePlaces at.group (longer at step) s.places.items
+  pub positions_are : ArePositions at.group (longer at step) s.positions.items
   pub following_are : AreFollowing (steps_given at.group.setup.drive) s.following.items

@@ -9,7 +9,7 @@ use Rattle.rt_model.proofs.PastLaws.{processor-home}
 use Rattle.rt_laws.proofs.Rules.{MeetsRules}
 use Rattle.rt_laws.proofs.ValidSets.{rules_of}
 use Rattle.rt_laws.proofs.ValidSteps.{in_some}
-use Rattle.rt_plays.specs.Places.{IsAtHome, ProcessorsAreAtHome, TasksAreAtHome}
+use Rattle.rt_plays.specs.AtHome.{IsAtHome, ProcessorsAreAtHome, TasksAreAtHome}
 
 cluster-inside : (g : Group) (c : ℕ) → has c (clusters g) ≡ true → c < length g.setup.clusters
 unfolding clusters
