@@ -20,8 +20,8 @@ use Rattle.rt_changes.specs.Tallies.{Tally, Waiter, act_by, counted, counted_at,
 use Rattle.rt_changes.proofs.requests.Laws.{entry_feeds}
 use Rattle.block_counts.specs.GroupRequests.{GroupRequests, IsAt, IsBetween, IsFit, NamesKnown, group_of}
 use Rattle.block_counts.specs.Bounding.{IsSemOf, IsTaskOf}
-use Rattle.block_counts.specs.Places.{IsFew}
-use Rattle.block_counts.proofs.PlaceLaws.{counted_at-keeps, few-counted, positions-counted, positions-push}
+use Rattle.block_counts.specs.Positions.{IsFew}
+use Rattle.block_counts.proofs.PositionLaws.{counted_at-keeps, few-counted, positions-counted, positions-push}
 
 -- who asks, and for what, is there
 pub names-known : (p : Parts) (act : Act) (reply : Reply) (o : Option ℕ) (t s : ℕ) → Asks t s ≡ act_by act reply o → NamesKnown p act o → IsTaskOf p t × IsSemOf p s

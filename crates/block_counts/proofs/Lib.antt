@@ -1,5 +1,5 @@
 pub mod Lists
-pub mod PlaceLaws
+pub mod PositionLaws
 pub mod Limits
 pub mod UserLaws
 pub mod FedRequests

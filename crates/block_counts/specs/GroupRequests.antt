@@ -15,7 +15,7 @@ use Rattle.rt_model.specs.Runs.{runs}
 use Rattle.rt_changes.specs.CountLaws.{act_of}
 use Rattle.rt_changes.specs.Tallies.{AreWaiters, Tally, Waiter, tallies}
 use Rattle.block_counts.specs.Bounding.{IsSemOf, IsTaskOf}
-use Rattle.block_counts.specs.Places.{ArePositions, IsFew}
+use Rattle.block_counts.specs.Positions.{ArePositions, IsFew}
 
 -- a group of a setup, its requests so far, how many entries were fed and room for how many more
 pub record GroupRequests : Type 0 where

@@ -1,5 +1,5 @@
 pub mod SeenWords
-pub mod Places
+pub mod Positions
 pub mod Bounding
 pub mod GroupRequests
 pub mod inside

@@ -4,7 +4,7 @@ ghost use Rattle.rt_base.specs.declared.TheConstants.{MOST_STEPS};
 ghost use Rattle.rt_rules.specs.Distinct.{IsDistinct};
 ghost use Rattle.rt_changes.specs.Tallies.{counted, waiter_tasks};
 ghost use Rattle.block_counts.specs.SeenWords.{tallies_of, tally_of, waiter_of, waiters_of};
-ghost use Rattle.block_counts.specs.Places.{ArePositions, IsFew, PointWithin, seen_at, seen_one};
+ghost use Rattle.block_counts.specs.Positions.{ArePositions, IsFew, PointWithin, seen_at, seen_one};
 
 use crate::seen::{Seen, Waiting};
 use rt_base::{NoMemory, SemNo, TaskNo};
@@ -76,7 +76,12 @@ fn see_end(seen: &mut [Seen], positions: &[Option<u32>], sem: SemNo, waiting: Wa
 }
 
 /// A critical section of the semaphore ends while these tasks wait.
-pub(crate) fn count_end(seen: &mut [Seen], positions: &[Option<u32>], sem: SemNo, waiting: &[Waiting])
+pub(crate) fn count_end(
+    seen: &mut [Seen],
+    positions: &[Option<u32>],
+    sem: SemNo,
+    waiting: &[Waiting],
+)
     requires positions { ArePositions (tallies_of seen.old) positions.now }
     requires few { All (IsFew MOST_STEPS) (tallies_of seen.old) }
     requires once { IsDistinct (waiter_tasks (waiters_of waiting.now)) }

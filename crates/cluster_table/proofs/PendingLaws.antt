@@ -7,7 +7,7 @@ use Rattle.rt_rules.specs.declared.Key.{Key}
 use Rattle.rt_rules.specs.Distinct.{IsDistinct}
 use Rattle.rt_rules.specs.Numbers.{has, is}
 use Rattle.rt_rules.specs.Placing.{is_of, placed, tasks_in}
-use Rattle.ready_queue.specs.declared.Exchange.{Exchange}
+use Rattle.ready_queue.specs.declared.TopChange.{TopChange}
 use Rattle.ready_queue.specs.Exchanges.{IsExchanged}
 use Rattle.ready_queue.specs.Queue.{first_tasks}
 use Rattle.link_table.specs.Linked.{Linked, CanExchange, IsOfCluster, IsPlacedFor, IsSound}
@@ -15,7 +15,7 @@ use Rattle.link_table.proofs.StayLaws.{linked_top-stays, placed_links-stay}
 use Rattle.cluster_table.specs.declared.pending.Pending.{Pending}
 use Rattle.cluster_table.specs.declared.pending.Pending.TheVariants.{Nothing, One, Several}
 use Rattle.cluster_table.specs.Clusters.{KeptCluster, IsSettled, after_take, left_by, relinked, with_key}
-use Rattle.cluster_table.specs.Pending.{IsPending, after_exchange, is_nothing}
+use Rattle.cluster_table.specs.Pending.{IsPending, after_change, is_nothing}
 use Rattle.cluster_table.proofs.FirstTasks.{distinct-first_tasks, few-first_tasks}
 use Rattle.cluster_table.proofs.Settled.{settled-run}
 use Rattle.cluster_table.proofs.Stays.{stays-after_take, stays-left_by}
@@ -45,18 +45,18 @@ none-is : (u : ℕ) (o : Option TaskNo) → is_none o ≡ true → is u (number_
 none-is u None h = refl
 none-is u (Some t) h = cc
 
-module _ (k : KeptCluster) (t : ℕ) (key : Option Key) (e : Exchange) (sound : IsSound k.linked) (all : k.cpus ≡ length k.linked.runs)
-    (x : IsExchanged (first_tasks k.cpus k.keys) (first_tasks k.cpus (set k.keys t key)) (number_of_task e.left) (number_of_task e.came)) where
+module _ (k : KeptCluster) (t : ℕ) (key : Option Key) (e : TopChange) (sound : IsSound k.linked) (all : k.cpus ≡ length k.linked.runs)
+    (x : IsExchanged (first_tasks k.cpus k.keys) (first_tasks k.cpus (set k.keys t key)) (number_of_task e.removed) (number_of_task e.added)) where
   few : length (first_tasks k.cpus k.keys) ≤ length k.linked.runs
   few = omega (arith, few-first_tasks k.cpus k.keys, all)
 
   -- where none left and none came, the same tasks are the first ones
-  same : is_none e.left ≡ true → is_none e.came ≡ true → (u : ℕ) → has u (first_tasks k.cpus k.keys) ≡ has u (first_tasks k.cpus (set k.keys t key))
+  same : is_none e.removed ≡ true → is_none e.added ≡ true → (u : ℕ) → has u (first_tasks k.cpus k.keys) ≡ has u (first_tasks k.cpus (set k.keys t key))
   same left came u =
-      let first = rw (none-is u e.left left, none-is u e.came came) at (x.first u) in
+      let first = rw (none-is u e.removed left, none-is u e.added came) at (x.first u) in
       sym (first ∙ unchanged (has u (first_tasks k.cpus k.keys)))
 
-  pending-same : is_none e.left ≡ true → is_none e.came ≡ true → (p : Pending) → IsPending p k → IsPending p (with_key t key k)
+  pending-same : is_none e.removed ≡ true → is_none e.added ≡ true → (p : Pending) → IsPending p k → IsPending p (with_key t key k)
   pending-same left came Nothing h = linked_top-stays k.linked (first_tasks k.cpus k.keys) (first_tasks k.cpus (set k.keys t key)) sound (distinct-first_tasks k.cpus k.keys) few (same left came) h
   pending-same left came (One d) h = (h.0, h.1, record { was = h.2.was; was_not = h.2.was_not; first = λ u. sym (same left came u) ∙ h.2.first u })
   pending-same left came Several h = tt
@@ -67,25 +67,25 @@ module _ (k : KeptCluster) (t : ℕ) (key : Option Key) (e : Exchange) (sound : 
   pending-one Several h = tt
 
   -- as a task is given a key
-  pub pending-with_key : (p : Pending) → IsPending p k → IsPending (after_exchange e p) (with_key t key k)
-  pending-with_key p h = by_case (is_none e.left) (is_none e.came) refl refl
+  pub pending-with_key : (p : Pending) → IsPending p k → IsPending (after_change e p) (with_key t key k)
+  pending-with_key p h = by_case (is_none e.removed) (is_none e.added) refl refl
     where
-      by_case : (a b : Bool) → is_none e.left ≡ a → is_none e.came ≡ b → IsPending (cond (a && b) p (cond (is_nothing p) (One e) Several)) (with_key t key k)
+      by_case : (a b : Bool) → is_none e.removed ≡ a → is_none e.added ≡ b → IsPending (cond (a && b) p (cond (is_nothing p) (One e) Several)) (with_key t key k)
       by_case true true left came = pending-same left came p h
       by_case true false left came = pending-one p h
       by_case false b left came = pending-one p h
 
--- ---- one exchange can be followed alone
+-- ---- one change can be followed alone
 
 no_run : (t : ℕ) (o : Option TaskNo) (us : List ℕ) → is_of us (number_of_task o) ≡ false → is t (number_of_task o) ≡ true → has t us ≡ false
 no_run t None us idle h = cc
 no_run t (Some u) us idle h = rw (eqb-true t u.0 h) idle
 
-module _ (k : KeptCluster) (e : Exchange) (all : k.cpus ≡ length k.linked.runs) (h : IsPending (One e) k) where
+module _ (k : KeptCluster) (e : TopChange) (all : k.cpus ≡ length k.linked.runs) (h : IsPending (One e) k) where
   fits-first : length (first_tasks k.cpus k.keys) ≤ length k.linked.runs
   fits-first = omega (arith, few-first_tasks k.cpus k.keys, all)
 
-  pub can-exchange : is_of (tasks_in k.linked.runs) (number_of_task e.came) ≡ false → CanExchange k.linked (number_of_task e.left) (number_of_task e.came)
+  pub can-exchange : is_of (tasks_in k.linked.runs) (number_of_task e.added) ≡ false → CanExchange k.linked (number_of_task e.removed) (number_of_task e.added)
   can-exchange idle = record {
     old = h.0;
     new = first_tasks k.cpus k.keys;
@@ -93,10 +93,10 @@ module _ (k : KeptCluster) (e : Exchange) (all : k.cpus ≡ length k.linked.runs
     placed = h.1;
     once = distinct-first_tasks k.cpus k.keys;
     fits = fits-first;
-    idle = λ t is. no_run t e.came (tasks_in k.linked.runs) idle is;
+    idle = λ t is. no_run t e.added (tasks_in k.linked.runs) idle is;
   }
 
   -- and gives the links of the tasks that are the first ones now
-  pub exchange-links : (new : Linked) → ((old top : List ℕ) → IsExchanged old top (number_of_task e.left) (number_of_task e.came) → IsPlacedFor old k.linked → length top ≤ length k.linked.runs
+  pub exchange-links : (new : Linked) → ((old top : List ℕ) → IsExchanged old top (number_of_task e.removed) (number_of_task e.added) → IsPlacedFor old k.linked → length top ≤ length k.linked.runs
       → IsDistinct top → new ≡ record k.linked { links = placed top k.linked.runs k.linked.links }) → new ≡ (relinked k).linked
   exchange-links new gives = gives h.0 (first_tasks k.cpus k.keys) h.2 h.1 fits-first (distinct-first_tasks k.cpus k.keys)

@@ -106,8 +106,8 @@ impl ClusterState {
         if is_same(self.queue.heap().key(task), key) {
             return;
         }
-        let exchange = self.queue.set(task, key);
-        self.pending = self.pending.after(exchange);
+        let change = self.queue.set(task, key);
+        self.pending = self.pending.after(change);
     }
 
     /// Takes an interrupt at the processor, where `np` says whether what it runs is non-preemptive. Where the reply is

@@ -1,8 +1,8 @@
 //! What has become of the first of a cluster's eligible tasks since its links were placed.
 ghost use Rattle.std.specs.Prelude.{◌≡◌};
-ghost use Rattle.cluster_table.specs.Pending.{after_exchange, is_nothing};
+ghost use Rattle.cluster_table.specs.Pending.{after_change, is_nothing};
 
-use ready_queue::Exchange;
+use ready_queue::TopChange;
 
 /// What has become of the first of a cluster's eligible tasks since its links were placed.
 #[derive(Clone, Copy)]
@@ -10,7 +10,7 @@ pub(crate) enum Pending {
     /// They are the same ones, in whatever order.
     Nothing,
     /// One change took a task from them and brought one to them, or did one of both.
-    One(Exchange),
+    One(TopChange),
     /// Several changes did.
     Several,
 }
@@ -23,13 +23,13 @@ impl Pending {
     }
 
     /// What it is after one more change.
-    pub(crate) fn after(self, exchange: Exchange) -> Pending
-        ensures { result ≡ after_exchange exchange self }
+    pub(crate) fn after(self, change: TopChange) -> Pending
+        ensures { result ≡ after_change change self }
     {
-        if exchange.is_none() {
+        if change.is_none() {
             self
         } else if self.is_nothing() {
-            Pending::One(exchange)
+            Pending::One(change)
         } else {
             Pending::Several
         }

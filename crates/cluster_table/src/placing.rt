@@ -47,11 +47,11 @@ pub(crate) fn place(queue: &ReadyQueue, links: &mut Links, top: &mut Vec<TaskNo>
     match pending {
         Pending::Nothing => {}
         Pending::Several => place_all(queue, links, top),
-        Pending::One(exchange) => {
-            if runs_any(links, exchange.came) {
+        Pending::One(change) => {
+            if runs_any(links, change.added) {
                 place_all(queue, links, top);
             } else {
-                links.exchange(exchange.left, exchange.came);
+                links.exchange(change.removed, change.added);
             }
         }
     }

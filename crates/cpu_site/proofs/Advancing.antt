@@ -25,7 +25,7 @@ use Rattle.rt_plays.proofs.PlayLaws.{play-fits}
 use Rattle.rt_plays.proofs.ScriptOrder.{in_group-home, in_group-script}
 use Rattle.rt_plays.proofs.ScriptParts.{script-take-drop, script-take-next, script-steps_of-next, script-steps_of-skip}
 use Rattle.rt_plays.proofs.GroupLimits.{processor-low}
-use Rattle.cpu_site.specs.Chains.{IsNextFrom, IsChained}
+use Rattle.cpu_site.specs.StepChains.{IsNextFrom, IsChained}
 use Rattle.cpu_site.specs.Playing.{IsPlayable, IsPlayedTo, IsPlaying, IsNextStep, IsNextEntry, IsOver}
 use Rattle.cpu_site.proofs.Drives.{begun-few, begun-first, begun-next, next-script, over-script}
 use Rattle.cpu_site.proofs.SetFacts.{group-steps}

@@ -3,7 +3,7 @@ pub mod SetFacts
 pub mod Chaining
 pub mod Advancing
 pub mod TurnTaking
-pub mod Sighting
+pub mod CpuViewLaws
 pub mod Marking
 pub mod Words
 pub mod Turning

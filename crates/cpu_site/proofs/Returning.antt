@@ -23,7 +23,7 @@ use Rattle.cpu_site.specs.declared.progress.Progress.{Progress}
 use Rattle.cpu_site.proofs.Drives.{begun-home}
 use Rattle.cpu_site.proofs.Numbering.{agree-same, cpu-of_group, cpu-position, cpu-read, cpus-read}
 use Rattle.cpu_site.proofs.Seating.{Keeps}
-use Rattle.cpu_site.proofs.Sighting.{raises_of-at}
+use Rattle.cpu_site.proofs.CpuViewLaws.{raises_of-at}
 
 -- ---- opening
 

@@ -22,7 +22,7 @@ use Rattle.cpu_site.specs.Seats.{about, group_at, cpu_of, cpu_seat_view, is_irq,
 use Rattle.cpu_site.specs.Turning.{IsTurnDone}
 use Rattle.cpu_site.proofs.Drives.{begun-first, begun-home, far-first, far-later}
 use Rattle.cpu_site.proofs.Numbering.{agree-same, cpu-of_group, cpu-position}
-use Rattle.cpu_site.proofs.Sighting.{group-same, raises-append, raises_of-at}
+use Rattle.cpu_site.proofs.CpuViewLaws.{group-same, raises-append, raises_of-at}
 use Rattle.cpu_site.proofs.Words.{word-own, word-others}
 
 -- how many processors the group still has

@@ -1,4 +1,4 @@
-pub mod Chains
+pub mod StepChains
 pub mod Cpus
 pub mod Played
 pub mod Playing

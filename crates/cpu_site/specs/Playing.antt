@@ -18,7 +18,7 @@ use Rattle.rt_plays.specs.Order.{steps_in_group}
 use Rattle.rt_plays.specs.Plays.{group_with, IsBegunPlay}
 use Rattle.rt_plays.specs.Room.{room}
 use Rattle.rt_plays.specs.Scripts.{script, steps_of}
-use Rattle.cpu_site.specs.Chains.{IsPosition, IsNextFrom}
+use Rattle.cpu_site.specs.StepChains.{IsPosition, IsNextFrom}
 use Rattle.cpu_site.specs.declared.played.Played.{Played}
 use Rattle.cpu_site.specs.declared.played.Played.TheVariants as plays
 use Rattle.cpu_site.specs.declared.progress.Progress.{Progress}

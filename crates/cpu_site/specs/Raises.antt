@@ -8,17 +8,17 @@ use Rattle.rt_model.specs.Links.{linked}
 use Rattle.rt_model.specs.Runs.{runs}
 use Rattle.rt_model.specs.Histories.{is_raise, raises}
 use Rattle.rt_plays.specs.Groups.{GroupHistory, group_of}
-use Rattle.cpu_site.specs.declared.sights.Sight.{Sight}
+use Rattle.cpu_site.specs.declared.cpu_views.CpuView.{CpuView}
 
-abbrev pub is_pending : Sight → Bool
+abbrev pub is_pending : CpuView → Bool
 is_pending s = not (same (number_of_task s.link) (number_of_task s.runs))
 
 -- an interrupt is pending that was not before, or at another link
-abbrev pub is_raised : Sight → Sight → Bool
+abbrev pub is_raised : CpuView → CpuView → Bool
 is_raised now before = is_pending now && (not (is_pending before) || not (same (number_of_task before.link) (number_of_task now.link)))
 
 -- what the processor was linked to and ran after a past
-pub record IsSight (g : Group) (q : ℕ) (p : Past) (s : Sight) : Type 0 where
+pub record IsCpuView (g : Group) (q : ℕ) (p : Past) (s : CpuView) : Type 0 where
   pub link : number_of_task s.link ≡ linked g q p
   pub runs : number_of_task s.runs ≡ runs q p
 
@@ -30,9 +30,9 @@ abbrev pub cpu_at : Group → ℕ → ℕ
 cpu_at g i = slice_index (group_processors g) i
 
 -- what each processor of the group was linked to and ran, by rising number
-pub record AreSights (g : Group) (p : Past) (sights : List Sight) : Type 0 where
-  pub all : length sights ≡ cpu_count g
-  pub each : (i : ℕ) (d : Sight) → i < cpu_count g → IsSight g (cpu_at g i) p (slice_index_or sights i d)
+pub record AreCpuViews (g : Group) (p : Past) (cpu_views : List CpuView) : Type 0 where
+  pub all : length cpu_views ≡ cpu_count g
+  pub each : (i : ℕ) (d : CpuView) → i < cpu_count g → IsCpuView g (cpu_at g i) p (slice_index_or cpu_views i d)
 
 -- 1 where the last entry raised an interrupt at the processor
 abbrev pub raise_at : Group → ℕ → Past → Past → ℕ
@@ -47,9 +47,9 @@ pub record AreRaises (h : GroupHistory) (counts : List ℕ) : Type 0 where
   pub all : length counts ≡ cpu_count (group_of h)
   pub each : (i : ℕ) → i < cpu_count (group_of h) → slice_index counts i ≡ raises (group_of h) (cpu_at (group_of h) i) h.entries
 
--- the counts and the sights are those after one entry more than before
-pub record HaveCounted (g : Group) (now : Past) (sights sights' : List Sight) (counts counts' : List ℕ) : Type 0 where
-  pub seen : AreSights g now sights'
+-- the counts and the cpu_views are those after one entry more than before
+pub record HaveCounted (g : Group) (now : Past) (cpu_views cpu_views' : List CpuView) (counts counts' : List ℕ) : Type 0 where
+  pub seen : AreCpuViews g now cpu_views'
   pub all : length counts' ≡ length counts
-  pub each : (before : Past) → AreSights g before sights → (i : ℕ) → i < cpu_count g
+  pub each : (before : Past) → AreCpuViews g before cpu_views → (i : ℕ) → i < cpu_count g
       → slice_index counts' i ≡ slice_index counts i + raise_at g (cpu_at g i) now before

@@ -1,18 +1,18 @@
 //! The processors of a group as the seats of a turn, each of which plays its own steps.
 #![tactic(auto)]
 
-mod chains;
+mod cpu_views;
 mod cpus;
 mod driving;
 mod gate;
 mod group;
-mod marks;
+mod interrupts;
+mod next_steps;
 mod own_steps;
 mod played;
 mod player;
 mod playing_group;
 mod progress;
-mod sights;
 mod site;
 mod story;
 

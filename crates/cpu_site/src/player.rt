@@ -15,7 +15,7 @@ ghost use Rattle.cpu_site.specs.Playing.{unplayed, IsFar, IsOutcome, IsPlayable}
 ghost use Rattle.cpu_site.specs.Turning as turning;
 ghost use Rattle.cpu_site.specs.Turning.{IsAtTurn};
 
-use crate::chains::chained;
+use crate::next_steps::chained;
 use crate::own_steps::steps_of_cpus;
 use crate::played::Played;
 use crate::progress::Progress;

@@ -7,12 +7,12 @@ ghost use Rattle.rt_plays.specs.Plays.{IsBegunPlay};
 ghost use Rattle.cpu_site.specs.Playing.{unplayed, IsFar, IsOutcome, IsPlayable};
 ghost use Rattle.cpu_site.specs.Raises.{AreRaises};
 
+use crate::cpu_views::{CpuView, count_raises, look};
 use crate::cpus::cpus_of;
-use crate::marks::no_counts;
+use crate::interrupts::no_counts;
 use crate::played::Played;
 use crate::player::Player;
 use crate::progress::Progress;
-use crate::sights::{Sight, count_raises, look};
 use group_engine::Engine;
 use rt_base::{CpuNo, GroupNo, NoMemory};
 use rt_task::Setup;
@@ -28,7 +28,7 @@ pub(crate) struct PlayingGroup {
     player: Player,
     // The group's processors, what each is linked to and runs, and how many interrupts were raised at it.
     cpus: Vec<CpuNo>,
-    sights: Vec<Sight>,
+    cpu_views: Vec<CpuView>,
     raises: Vec<u64>,
 }
 
@@ -38,7 +38,7 @@ impl Model for PlayingGroup {
     ghost use Rattle.rt_plays.specs.Groups.{GroupHistory, group_of, past};
     ghost use Rattle.rt_plays.specs.Plays.{IsBegunPlay};
     ghost use Rattle.cpu_site.specs.Cpus.{cpu_numbers};
-    ghost use Rattle.cpu_site.specs.Raises.{AreRaises, AreSights};
+    ghost use Rattle.cpu_site.specs.Raises.{AreRaises, AreCpuViews};
 
     ghost Value = { GroupHistory };
 
@@ -46,7 +46,7 @@ impl Model for PlayingGroup {
 
     ghost invariant = { λ a.
         (cpu_numbers a.cpus.items ≡ group_processors (group_of a.player))
-        × AreSights (group_of a.player) (past a.player) a.sights.items
+        × AreCpuViews (group_of a.player) (past a.player) a.cpu_views.items
         × AreRaises a.player a.raises.items
         × IsBegunPlay (group_of a.player) a.player.entries };
 }
@@ -64,12 +64,12 @@ impl PlayingGroup {
     {
         let cpus = cpus_of(alloc, setup, group)?;
         let player = Player::open(alloc, setup, group, cpus.as_slice())?;
-        let sights = look(alloc, &player, cpus.as_slice())?;
+        let cpu_views = look(alloc, &player, cpus.as_slice())?;
         let raises = no_counts(alloc, cpus.len())?;
         Ok(PlayingGroup {
             player,
             cpus,
-            sights,
+            cpu_views,
             raises,
         })
     }
@@ -107,7 +107,7 @@ impl PlayingGroup {
                 count_raises(
                     &self.player,
                     self.cpus.as_slice(),
-                    &mut self.sights,
+                    &mut self.cpu_views,
                     &mut self.raises,
                 );
                 Played::Did(entry)

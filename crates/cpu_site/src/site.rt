@@ -15,7 +15,7 @@ ghost use Rattle.cpu_site.specs.Seats.{about, cpu_of, cpu_seat_view, group_at, i
 use crate::cpus::cpus_of;
 use crate::gate::Gate;
 use crate::group::Group;
-use crate::marks::{changed, copy, no_counts, no_positions};
+use crate::interrupts::{changed, copy, no_counts, no_positions};
 use crate::played::Played;
 use crate::progress::Progress;
 use group_engine::Engine;

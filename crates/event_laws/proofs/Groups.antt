@@ -33,7 +33,7 @@ use Rattle.event_texts.specs.EventText.{group_name, process_of}
 use Rattle.event_texts.specs.JobInstants.{deadline_instant, deadline_name, end_instant, job_instants, release_instant, task_instants}
 use Rattle.event_texts.specs.Records.{Piece, count_event, instant_event, process_event, quoted, span_event, strings, thread_event, truth}
 use Rattle.event_texts.specs.TaskSpans as marks
-use Rattle.event_texts.specs.TaskSpans.{cell_arguments, kind, name, positions, same_cell, sem_name, task_spans}
+use Rattle.event_texts.specs.TaskSpans.{cell_arguments, kind, name, cpus_text, same_cell, sem_name, task_spans}
 use Rattle.event_laws.specs.EventValues.{Field, count_fields, instant_fields, items_of, members_of, object_of, process_fields, span_fields, strings_of, thread_fields}
 use Rattle.event_laws.specs.GroupValues.{budget_events, cell_fields, cpu_events, cpu_names, end_event, events_of_cell, events_of_playing, group_events, instant_events, job_events, link_fields, resv_names, task_events, task_names}
 use Rattle.event_laws.proofs.Events.{AreEvents, Each, IsEvent, IsEventTo, IsSpanOf, append-events, each-append, each-filter, each-found, each-map, each-reverse, each-same, each-take, flat-events, map-events, names-shallow, names-whole, no-events, one-event, spans-of}
@@ -114,11 +114,11 @@ first-small g test c x h is = each-found (StateIsSmall g) test (reverse c.states
 
 -- ---- cells of tasks
 
-positions-plain : (qs : List ℕ) → Each IsLow qs → IsPlain (positions qs)
+cpus_text-plain : (qs : List ℕ) → Each IsLow qs → IsPlain (cpus_text qs)
 unfolding escape_byte
-positions-plain [] h = refl
-positions-plain (q ∷ []) h = plain-decimal q (omega (arith, h.0))
-positions-plain (q ∷ r ∷ qs) h = plain-append (decimal q) (43 ∷ positions (r ∷ qs)) (plain-decimal q (omega (arith, h.0))) (ap (λ l. 43 ∷ l) (positions-plain (r ∷ qs) h.1))
+cpus_text-plain [] h = refl
+cpus_text-plain (q ∷ []) h = plain-decimal q (omega (arith, h.0))
+cpus_text-plain (q ∷ r ∷ qs) h = plain-append (decimal q) (43 ∷ cpus_text (r ∷ qs)) (plain-decimal q (omega (arith, h.0))) (ap (λ l. 43 ∷ l) (cpus_text-plain (r ∷ qs) h.1))
 
 pub record CellIsSmall (g : Group) (c : TaskCell) : Type 0 where
   pub name_is : IsPlain (name g c.doing)
@@ -153,11 +153,11 @@ module _ (g : Group) (plain : NamesArePlain g) (small : GroupIsSmall g) where
 
   name-plain : (d : Doing) → DoingIsSmall d → IsPlain (name g d)
   unfolding escape_byte
-  name-plain (cells.works qs) h = plain-append (codes "works on ") (positions qs) refl (positions-plain qs h)
+  name-plain (cells.works qs) h = plain-append (codes "works on ") (cpus_text qs) refl (cpus_text-plain qs h)
   name-plain (cells.blocked s) h = plain-append (codes "blocked at ") (sem g s).name refl (plain.sems_are s)
   name-plain (cells.waits s) h = plain-append (codes "waits for ") (sem g s).name refl (plain.sems_are s)
   name-plain cells.sleeping h = refl
-  name-plain (cells.running qs) h = plain-append (codes "runs on ") (positions qs) refl (positions-plain qs h)
+  name-plain (cells.running qs) h = plain-append (codes "runs on ") (cpus_text qs) refl (cpus_text-plain qs h)
   name-plain cells.ready h = refl
   name-plain cells.away h = refl
 

@@ -34,7 +34,7 @@ fn kind_of(doing: &Doing) -> &'static [u8]
 
 /// More processors, a plus before each.
 #[tactic(auto, using(crate::proofs::Joins::joins))]
-fn put_more_positions(text: &mut Vec<u8>, cpus: &[CpuNo]) -> Result<(), AllocError>
+fn put_more_cpus(text: &mut Vec<u8>, cpus: &[CpuNo]) -> Result<(), AllocError>
     ensures { OnOk result (text.new.items ≡ text.old.items
         ++ flat_map (λ w. 43 ∷ w) (map decimal (cpu_numbers cpus.now))) }
 {
@@ -47,15 +47,15 @@ fn put_more_positions(text: &mut Vec<u8>, cpus: &[CpuNo]) -> Result<(), AllocErr
 
 /// Processors, with a plus between them.
 #[tactic(auto, using(crate::proofs::Joins::joins))]
-fn put_positions(text: &mut Vec<u8>, cpus: &[CpuNo]) -> Result<(), AllocError>
+fn put_cpus(text: &mut Vec<u8>, cpus: &[CpuNo]) -> Result<(), AllocError>
     ensures { OnOk result (text.new.items
-        ≡ text.old.items ++ spec.positions (cpu_numbers cpus.now)) }
+        ≡ text.old.items ++ spec.cpus_text (cpu_numbers cpus.now)) }
 {
     match cpus {
         [] => Ok(()),
         [first, more @ ..] => {
             put_number(text, u64::from(first.0))?;
-            put_more_positions(text, more)
+            put_more_cpus(text, more)
         }
     }
 }
@@ -97,7 +97,7 @@ fn put_doing(text: &mut Vec<u8>, set: &Parts, doing: &Doing) -> Result<(), Alloc
     match doing {
         Doing::Works(cpus) => {
             put(text, b"works on ")?;
-            put_positions(text, cpus)
+            put_cpus(text, cpus)
         }
         Doing::Blocked(sem) => {
             put(text, b"blocked at ")?;
@@ -110,7 +110,7 @@ fn put_doing(text: &mut Vec<u8>, set: &Parts, doing: &Doing) -> Result<(), Alloc
         Doing::Sleeping => put(text, b"sleeps"),
         Doing::Running(cpus) => {
             put(text, b"runs on ")?;
-            put_positions(text, cpus)
+            put_cpus(text, cpus)
         }
         Doing::Ready => put(text, b"ready"),
         Doing::Away => Ok(()),

@@ -45,19 +45,19 @@ kind cells.ready = codes "ready"
 kind cells.away = []
 
 -- processors, by number
-abbrev pub positions : List ℕ → Piece
-positions qs = join_with_byte 43 (map decimal qs)
+abbrev pub cpus_text : List ℕ → Piece
+cpus_text qs = join_with_byte 43 (map decimal qs)
 
 module _ (g : Group) where
   abbrev pub sem_name : ℕ → Piece
   sem_name s = (sem g s).name
 
   abbrev pub name : Doing → Piece
-  name (cells.works qs) = codes "works on " ++ positions qs
+  name (cells.works qs) = codes "works on " ++ cpus_text qs
   name (cells.blocked s) = codes "blocked at " ++ sem_name s
   name (cells.waits s) = codes "waits for " ++ sem_name s
   name cells.sleeping = codes "sleeps"
-  name (cells.running qs) = codes "runs on " ++ positions qs
+  name (cells.running qs) = codes "runs on " ++ cpus_text qs
   name cells.ready = codes "ready"
   name cells.away = []
 

@@ -21,7 +21,7 @@ use Rattle.trace_views.specs.JobTimes.{works}
 use Rattle.job_facts.specs.Deeds.{is_lock, locks}
 use Rattle.job_facts.specs.JobLaws.{TalliesAreFew}
 use Rattle.job_facts.specs.Kept.{IsFew}
-use Rattle.job_facts.specs.Places.{request_positions}
+use Rattle.job_facts.specs.RequestPositions.{request_positions}
 use Rattle.job_facts.specs.Tallies.{jobs_at, tally_at}
 
 -- a test that no move of the clock passes

@@ -25,7 +25,7 @@ use Rattle.trace_views.specs.JobMoves.{in_job}
 use Rattle.trace_views.specs.JobRows.{job_row, listed}
 use Rattle.trace_views.specs.JobTimes as times
 use Rattle.job_facts.specs.JobLaws.{RowsAreKept}
-use Rattle.job_facts.specs.Places.{request_positions}
+use Rattle.job_facts.specs.RequestPositions.{request_positions}
 use Rattle.job_facts.specs.Rows.{ends_all_in, ends_in, job_in, listed_in, no_request, release_at, row_from}
 use Rattle.job_facts.specs.Tallies.{Tally, jobs_at, tally_at}
 use Rattle.job_facts.proofs.Few.{request_positions-length}

@@ -18,7 +18,7 @@ use Rattle.trace_views.proofs.JobSums.{done-grows}
 use Rattle.trace_views.proofs.Sums.{below_differs}
 use Rattle.job_facts.specs.Deeds as deeds
 use Rattle.job_facts.specs.Deeds.{asked, ended, is_lock, locks, moved, preempted, worked}
-use Rattle.job_facts.specs.Places.{request_positions}
+use Rattle.job_facts.specs.RequestPositions.{request_positions}
 use Rattle.job_facts.specs.Tallies.{Tally, nothing, tally_at}
 
 -- a job after an act, where it is its task's current one or not

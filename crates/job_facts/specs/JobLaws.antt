@@ -13,7 +13,7 @@ use Rattle.trace_views.specs.JobRows.{JobRow, job_row, listed, rows_of}
 use Rattle.trace_views.specs.TaskRows.{task_row}
 use Rattle.job_facts.specs.Deeds.{jobs_fed}
 use Rattle.job_facts.specs.Kept.{IsFew, scene_at}
-use Rattle.job_facts.specs.Places.{request_positions}
+use Rattle.job_facts.specs.RequestPositions.{request_positions}
 use Rattle.job_facts.specs.Rows.{job_in, listed_in, row_from}
 use Rattle.job_facts.specs.Sums.{added, sums_of, task_row_from}
 use Rattle.job_facts.specs.Tallies.{jobs_at, no_jobs, tally_at}

@@ -1,5 +1,5 @@
 pub mod Tallies
-pub mod Places
+pub mod RequestPositions
 pub mod Deeds
 pub mod Workers
 pub mod Kept

@@ -7,7 +7,7 @@ use Rattle.rt_model.specs.Releases.{arrivals}
 use Rattle.trace_views.specs.JobTimes as times
 use Rattle.trace_views.specs.JobCounts as counts
 use Rattle.trace_views.specs.JobCounts.{last_cpu, unit_cpus}
-use Rattle.job_facts.specs.Places.{request_positions}
+use Rattle.job_facts.specs.RequestPositions.{request_positions}
 
 -- a job: the clocks of its first and its newest unit and of its end, the processor of its newest unit, its counts, and the positions of its
 -- requests among all requests, from 0

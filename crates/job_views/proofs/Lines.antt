@@ -22,7 +22,7 @@ use Rattle.job_facts.specs.Sums.{Sums, added, sums_of, task_row_from}
 use Rattle.job_facts.proofs.Jobs.{map-last}
 use Rattle.job_facts.proofs.Periods.{period-positive}
 use Rattle.job_facts.proofs.RowSums.{sums_are_kept}
-use Rattle.job_facts.specs.Places.{request_positions}
+use Rattle.job_facts.specs.RequestPositions.{request_positions}
 use Rattle.job_facts.specs.Rows.{job_in, listed_in, row_from}
 use Rattle.job_facts.specs.Tallies as facts
 use Rattle.job_facts.specs.Tallies.{Jobs, jobs_at, tally_at}

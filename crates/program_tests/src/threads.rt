@@ -90,16 +90,16 @@ impl Asked {
 
 /// Holds the first play of each of two processors until the first play of the other has come, and counts the plays.
 #[derive(Drop)]
-struct Meeting {
+struct StartBarrier {
     zero: Asked,
     one: Asked,
     is_late: AtomicBool,
     is_out_of_turn: AtomicBool,
 }
 
-impl Meeting {
-    fn new() -> Meeting {
-        Meeting {
+impl StartBarrier {
+    fn new() -> StartBarrier {
+        StartBarrier {
             zero: Asked::nothing(),
             one: Asked::nothing(),
             is_late: AtomicBool::new(false),
@@ -108,7 +108,7 @@ impl Meeting {
     }
 }
 
-impl Gate for Meeting {
+impl Gate for StartBarrier {
     fn before<R: Wait>(&self, _rt: &R, cpu: CpuNo, n: u32) {
         let (own, other) = match cpu.0 {
             0 => (&self.zero, &self.one),
@@ -128,7 +128,7 @@ impl Gate for Meeting {
 
 #[test]
 fn two_processors_meet(rt: HostRuntime) -> Result<(), Fail> {
-    let gate = Meeting::new();
+    let gate = StartBarrier::new();
     let out = text_of(&rt, rt.alloc(), TWO_TICKS_EACH, &gate)?;
     assert!(rt; !gate.is_late.load(Ordering::SeqCst));
     assert!(rt; !gate.is_out_of_turn.load(Ordering::SeqCst));
@@ -143,7 +143,7 @@ fn two_processors_meet(rt: HostRuntime) -> Result<(), Fail> {
 
 #[test]
 fn two_processors_meet_at_their_turns(rt: HostRuntime) -> Result<(), Fail> {
-    let gate = Meeting::new();
+    let gate = StartBarrier::new();
     let out = text_of(&rt, rt.alloc(), TWO_TURNS_EACH, &gate)?;
     assert!(rt; !gate.is_late.load(Ordering::SeqCst));
     assert!(rt; !gate.is_out_of_turn.load(Ordering::SeqCst));

@@ -16,19 +16,19 @@ use rt_rules::{ByKey, Key};
 use std::alloc::Global;
 use std::marker::Model;
 
-/// Which task a change took from the first ones, and which it brought to them, if any.
+/// Which task a change removed from the first ones, and which it added to them, if any.
 #[derive(Clone, Copy, PartialEq, Eq)]
-pub struct Exchange {
-    pub left: Option<TaskNo>,
-    pub came: Option<TaskNo>,
+pub struct TopChange {
+    pub removed: Option<TaskNo>,
+    pub added: Option<TaskNo>,
 }
 
-impl Exchange {
+impl TopChange {
     /// Whether neither is there, so that the first ones stay the same tasks.
     pub fn is_none(self) -> bool
-        ensures { result ≡ (is_none self.left && is_none self.came) }
+        ensures { result ≡ (is_none self.removed && is_none self.added) }
     {
-        self.left.is_none() && self.came.is_none()
+        self.removed.is_none() && self.added.is_none()
     }
 }
 
@@ -99,12 +99,12 @@ impl ReadyQueue {
     /// and which one comes to be one, if any; the others among them are the same, in whatever order.
     ///
     /// Example: `queue.set(TaskNo(3), Some(key))` makes task 3 ready, and `queue.set(TaskNo(3), None)` takes it out.
-    pub fn set(&mut self, task: TaskNo, key: Option<Key>) -> Exchange
+    pub fn set(&mut self, task: TaskNo, key: Option<Key>) -> TopChange
         requires { task.0 < length self.old.keys }
         ensures keys { self.new ≡ record self.old { keys = slice_set self.old.keys task.0 key } }
         ensures exchanged { IsExchanged (first_tasks self.old.most self.old.keys)
             (first_tasks self.new.most self.new.keys)
-            (number_of_task result.left) (number_of_task result.came) }
+            (number_of_task result.removed) (number_of_task result.added) }
     {
         let taken = self.take_out(task);
         let Some(key) = key else {
@@ -117,80 +117,80 @@ impl ReadyQueue {
         if taken.is_none() {
             return put;
         }
-        // The task is still one of the first ones, and what came in its position has left again.
-        Exchange {
-            left: None,
-            came: None,
+        // The task is still one of the first ones, and what was added in its position is removed again.
+        TopChange {
+            removed: None,
+            added: None,
         }
     }
 
-    // Whether the task was one of the first ones, and which task came in its position.
-    fn take_out(&mut self, task: TaskNo) -> Exchange
+    // Whether the task was one of the first ones, and which task was added in its position.
+    fn take_out(&mut self, task: TaskNo) -> TopChange
         requires { task.0 < length self.old.keys }
         ensures keys { self.new ≡ record self.old { keys = slice_set self.old.keys task.0 None } }
         ensures exchanged { IsExchanged (first_tasks self.old.most self.old.keys)
             (first_tasks self.new.most self.new.keys)
-            (number_of_task result.left) (number_of_task result.came) }
-        ensures was_first { (is_none result.left && is_none result.came)
+            (number_of_task result.removed) (number_of_task result.added) }
+        ensures was_first { (is_none result.removed && is_none result.added)
             ≡ not (is_first self.old task.0) }
     {
         // The list is searched only for a task that is in and not one of the rest.
         let was_in = uncounted::take_out(&mut self.all, task);
         let was_behind = uncounted::take_out(&mut self.rest, task);
         if !was_in || was_behind {
-            return Exchange {
-                left: None,
-                came: None,
+            return TopChange {
+                removed: None,
+                added: None,
             };
         }
         self.first.remove(task);
         let Some((next, key)) = uncounted::take_first(&mut self.rest) else {
-            return Exchange {
-                left: Some(task),
-                came: None,
+            return TopChange {
+                removed: Some(task),
+                added: None,
             };
         };
         self.first.insert(key, next);
-        Exchange {
-            left: Some(task),
-            came: Some(next),
+        TopChange {
+            removed: Some(task),
+            added: Some(next),
         }
     }
 
     // Whether the task is one of the first ones, and which task it pushed out.
-    fn put_in(&mut self, task: TaskNo, key: Key) -> Exchange
+    fn put_in(&mut self, task: TaskNo, key: Key) -> TopChange
         requires room { task.0 < length self.old.keys }
         requires absent { key_at self.old.keys task.0 ≡ None }
         ensures keys { self.new
             ≡ record self.old { keys = slice_set self.old.keys task.0 (Some key) } }
         ensures exchanged { IsExchanged (first_tasks self.old.most self.old.keys)
             (first_tasks self.new.most self.new.keys)
-            (number_of_task result.left) (number_of_task result.came) }
-        ensures is_first { (is_none result.left && is_none result.came)
+            (number_of_task result.removed) (number_of_task result.added) }
+        ensures is_first { (is_none result.removed && is_none result.added)
             ≡ not (is_first self.new task.0) }
     {
         uncounted::put_in(&mut self.all, task, key);
         self.first.insert(key, task);
-        let came = Exchange {
-            left: None,
-            came: Some(task),
+        let added = TopChange {
+            removed: None,
+            added: Some(task),
         };
         if self.first.as_slice().len() <= self.most {
-            return came;
+            return added;
         }
         let Some(last) = self.first.pop() else {
-            return came;
+            return added;
         };
         uncounted::put_in(&mut self.rest, last.task, last.key);
         if last.task.0 == task.0 {
-            Exchange {
-                left: None,
-                came: None,
+            TopChange {
+                removed: None,
+                added: None,
             }
         } else {
-            Exchange {
-                left: Some(last.task),
-                came: Some(task),
+            TopChange {
+                removed: Some(last.task),
+                added: Some(task),
             }
         }
     }

@@ -16,7 +16,7 @@ use Rattle.rt_model.specs.Group.{Group, clients, home, in_group, resv, tasks}
 use Rattle.rt_model.specs.Past.{Event, Clock, Acted, Past, PastAct, accepted, did, is_work, now, operation}
 use Rattle.rt_model.specs.Releases.{ready, release}
 use Rattle.rt_model.specs.Reservations.{any_ready, begins_period, first_refill, is_due, is_loss, is_lost, is_refill, refilled, spent, works_for}
-use Rattle.resv_core.specs.Served.{ServerState, charged, charged_by, has_ready, is_here, is_over, opened_server, place_at, place_by, refilled_at, release_at, settled, settled_by, ticked, ticked_by}
+use Rattle.resv_core.specs.Served.{ServerState, charged, charged_by, has_ready, is_here, is_over, opened_server, in_slot_at, in_slot_by, refilled_at, release_at, settled, settled_by, ticked, ticked_by}
 use Rattle.resv_core.specs.Served as words
 use Rattle.resv_core.specs.declared.server.InSlot.{InSlot}
 use Rattle.resv_core.specs.Kept.{AreClientsOf, IsStateOf, MoveIsKept, MoveIsKeptInAnyOrder, OpeningIsKept, begun, counted, opening, ready_release, told, works}
@@ -103,12 +103,12 @@ module _ (sl : List Slot) (is : Option InSlot) where
   acted-begun Table b p rs rs' fl sp lo false = ap (λ m. state Table b p sl is rs' fl m lo) (let e : sp ≡ sp + 0 = omega arith in e)
 
 -- a table as the clock moves
-table-begun : (old n b p : ℕ) (sl : List Slot) (rs rs' : List (Option ℕ)) (fl : Option ℕ) (sp : ℕ) (lo : Bool) → old ≤ n → record (ticked old n (state Table b p sl (place_at p sl old) rs fl sp lo)) { releases = rs' } ≡ state Table b p sl (place_at p sl n) rs' fl (sp + 0) lo
-table-begun old n b p sl rs rs' fl sp lo low = by_case (nat_lt old n) refl ∙ ap (λ m. state Table b p sl (place_at p sl n) rs' fl m lo) (let e : sp ≡ sp + 0 = omega arith in e)
+table-begun : (old n b p : ℕ) (sl : List Slot) (rs rs' : List (Option ℕ)) (fl : Option ℕ) (sp : ℕ) (lo : Bool) → old ≤ n → record (ticked old n (state Table b p sl (in_slot_at p sl old) rs fl sp lo)) { releases = rs' } ≡ state Table b p sl (in_slot_at p sl n) rs' fl (sp + 0) lo
+table-begun old n b p sl rs rs' fl sp lo low = by_case (nat_lt old n) refl ∙ ap (λ m. state Table b p sl (in_slot_at p sl n) rs' fl m lo) (let e : sp ≡ sp + 0 = omega arith in e)
   where
-    by_case : (x : Bool) → nat_lt old n ≡ x → record (if x then record (state Table b p sl (place_at p sl old) rs fl sp lo) { in_slot = place_at p sl n } else state Table b p sl (place_at p sl old) rs fl sp lo) { releases = rs' } ≡ state Table b p sl (place_at p sl n) rs' fl sp lo
+    by_case : (x : Bool) → nat_lt old n ≡ x → record (if x then record (state Table b p sl (in_slot_at p sl old) rs fl sp lo) { in_slot = in_slot_at p sl n } else state Table b p sl (in_slot_at p sl old) rs fl sp lo) { releases = rs' } ≡ state Table b p sl (in_slot_at p sl n) rs' fl sp lo
     by_case true e = refl
-    by_case false e = let same : old ≡ n = (let high = ltb-false old n e in omega (arith, high, low)) in ap (λ m. state Table b p sl (place_at p sl m) rs' fl sp lo) same
+    by_case false e = let same : old ≡ n = (let high = ltb-false old n e in omega (arith, high, low)) in ap (λ m. state Table b p sl (in_slot_at p sl m) rs' fl sp lo) same
 
 over-due : (g : Group) (n p : ℕ) (fl : Option ℕ) → is_over n p fl ≡ is_due g n p fl
 unfolding is_due
@@ -119,7 +119,7 @@ over-due g n p (Some last) = refl
 
 -- what the definitions make of a state in a move
 abbrev defined : (g : Group) → ℕ → Event → Past → ResvKind → ℕ → List (Option ℕ) → Option ℕ → ℕ → Bool → ServerState
-defined g r e past k b rs fl sp lo = state k b (resv g r).period (resv g r).slots (place_by k (resv g r).period (resv g r).slots (now (e ∷ past))) rs (if is_refill g k r e past fl then Some (now (e ∷ past)) else fl) (if is_refill g k r e past fl then 0 else sp + counted k (works_for g r e)) (is_loss g k r (e ∷ past) || not (is_refill g k r e past fl) && lo)
+defined g r e past k b rs fl sp lo = state k b (resv g r).period (resv g r).slots (in_slot_by k (resv g r).period (resv g r).slots (now (e ∷ past))) rs (if is_refill g k r e past fl then Some (now (e ∷ past)) else fl) (if is_refill g k r e past fl then 0 else sp + counted k (works_for g r e)) (is_loss g k r (e ∷ past) || not (is_refill g k r e past fl) && lo)
 
 module _ (g : Group) (r : ℕ) (past : Past) (b : ℕ) (rs rs' : List (Option ℕ)) (fl : Option ℕ) (sp : ℕ) (lo : Bool) where
   no_work : (tick : ℕ) → sp ≡ sp + works_for g r (Clock tick)
@@ -135,7 +135,7 @@ module _ (g : Group) (r : ℕ) (past : Past) (b : ℕ) (rs rs' : List (Option �
   abbrev slots : List Slot
   slots = (resv g r).slots
 
-  kept-by : (k : ResvKind) (e : Event) → has_ready rs' ≡ any_ready g r (e ∷ past) → settled (now (e ∷ past)) (record (begun g r e past (state k b (resv g r).period slots (place_by k (resv g r).period slots (now past)) rs fl sp lo)) { releases = rs' }) ≡ defined g r e past k b rs' fl sp lo
+  kept-by : (k : ResvKind) (e : Event) → has_ready rs' ≡ any_ready g r (e ∷ past) → settled (now (e ∷ past)) (record (begun g r e past (state k b (resv g r).period slots (in_slot_by k (resv g r).period slots (now past)) rs fl sp lo)) { releases = rs' }) ≡ defined g r e past k b rs' fl sp lo
   unfolding is_refill is_loss begins_period
   kept-by Polling (Clock tick) h =
       ap (settled (now (Clock tick ∷ past))) (polling-begun slots None (now (Clock tick ∷ past)) b (resv g r).period rs rs' fl sp (sp + works_for g r (Clock tick)) lo (nat_lt (now past / (resv g r).period) (now (Clock tick ∷ past) / (resv g r).period)) (no_work tick))
@@ -159,13 +159,13 @@ module _ (g : Group) (r : ℕ) (past : Past) (b : ℕ) (rs rs' : List (Option �
       ∙ ap (λ m. state Sporadic b (resv g r).period slots None rs' (if x then Some n else fl) (if x then 0 else m) (not x && lo)) (one_work Sporadic (Acted d))
   kept-by Table (Clock tick) h = ap (settled (now (Clock tick ∷ past))) (table-begun (now past) (now (Clock tick ∷ past)) b (resv g r).period slots rs rs' fl sp lo (omega arith))
   kept-by Table (Acted d) h =
-      ap (settled (now (Acted d ∷ past))) (acted-begun slots (place_at (resv g r).period slots (now past)) Table b (resv g r).period rs rs' fl sp lo (works g r (Acted d)))
-      ∙ ap (λ m. state Table b (resv g r).period slots (place_at (resv g r).period slots (now past)) rs' fl m lo) (one_work Table (Acted d))
+      ap (settled (now (Acted d ∷ past))) (acted-begun slots (in_slot_at (resv g r).period slots (now past)) Table b (resv g r).period rs rs' fl sp lo (works g r (Acted d)))
+      ∙ ap (λ m. state Table b (resv g r).period slots (in_slot_at (resv g r).period slots (now past)) rs' fl m lo) (one_work Table (Acted d))
 
 -- a state that is that of the past, by the definitions
 abbrev standing : (g : Group) → ℕ → Past → List (Option ℕ) → ServerState
 standing g r past rs =
-    state (resv g r).kind (resv g r).budget (resv g r).period (resv g r).slots (place_by (resv g r).kind (resv g r).period (resv g r).slots (now past))
+    state (resv g r).kind (resv g r).budget (resv g r).period (resv g r).slots (in_slot_by (resv g r).kind (resv g r).period (resv g r).slots (now past))
     rs (refilled g r past) (counted (resv g r).kind (spent g r past)) (is_lost g r past)
 
 pub state-standing : (g : Group) (r : ℕ) (past : Past) (s : ServerState) → IsStateOf g r past s → s ≡ standing g r past s.releases
@@ -175,9 +175,9 @@ state-standing g r past s is =
     ∙ ap (λ p. state (resv g r).kind (resv g r).budget p s.slots s.in_slot s.releases s.refilled s.spent s.lost) is.period
     ∙ ap (λ l. state (resv g r).kind (resv g r).budget (resv g r).period l s.in_slot s.releases s.refilled s.spent s.lost) is.slots
     ∙ ap (λ i. state (resv g r).kind (resv g r).budget (resv g r).period (resv g r).slots i s.releases s.refilled s.spent s.lost) is.in_slot
-    ∙ ap (λ f. state (resv g r).kind (resv g r).budget (resv g r).period (resv g r).slots (place_by (resv g r).kind (resv g r).period (resv g r).slots (now past)) s.releases f s.spent s.lost) is.refilled
-    ∙ ap (λ n. state (resv g r).kind (resv g r).budget (resv g r).period (resv g r).slots (place_by (resv g r).kind (resv g r).period (resv g r).slots (now past)) s.releases (refilled g r past) n s.lost) is.spent
-    ∙ ap (λ l. state (resv g r).kind (resv g r).budget (resv g r).period (resv g r).slots (place_by (resv g r).kind (resv g r).period (resv g r).slots (now past)) s.releases (refilled g r past) (counted (resv g r).kind (spent g r past)) l) is.lost
+    ∙ ap (λ f. state (resv g r).kind (resv g r).budget (resv g r).period (resv g r).slots (in_slot_by (resv g r).kind (resv g r).period (resv g r).slots (now past)) s.releases f s.spent s.lost) is.refilled
+    ∙ ap (λ n. state (resv g r).kind (resv g r).budget (resv g r).period (resv g r).slots (in_slot_by (resv g r).kind (resv g r).period (resv g r).slots (now past)) s.releases (refilled g r past) n s.lost) is.spent
+    ∙ ap (λ l. state (resv g r).kind (resv g r).budget (resv g r).period (resv g r).slots (in_slot_by (resv g r).kind (resv g r).period (resv g r).slots (now past)) s.releases (refilled g r past) (counted (resv g r).kind (spent g r past)) l) is.lost
 
 pub standing-state : (g : Group) (r : ℕ) (past : Past) (rs : List (Option ℕ)) → AreClientsOf g r past rs → IsStateOf g r past (standing g r past rs)
 standing-state g r past rs are = record { kind = refl; budget = refl; period = refl; slots = refl; refilled = refl; spent = refl; lost = refl; in_slot = refl; clients_of = are }
@@ -194,7 +194,7 @@ begun-releases g r (Clock tick) past s = by_kind s.kind
     by_kind Sporadic = refl
     by_kind Table = by_slot (nat_lt (now past) (now (Clock tick ∷ past)))
       where
-        by_slot : (x : Bool) → (if x then record s { in_slot = place_at s.period s.slots (now (Clock tick ∷ past)) } else s).releases ≡ s.releases
+        by_slot : (x : Bool) → (if x then record s { in_slot = in_slot_at s.period s.slots (now (Clock tick ∷ past)) } else s).releases ≡ s.releases
         by_slot true = refl
         by_slot false = refl
 begun-releases g r (Acted d) past s = by_work (works g r (Acted d))
@@ -219,7 +219,7 @@ standing-moved : (g : Group) (r : ℕ) (e : Event) (past : Past) (rs rs' : List 
 unfolding refilled spent is_lost
 standing-moved g r e past rs rs' h =
     kept-by g r past (resv g r).budget rs rs' (refilled g r past) (counted (resv g r).kind (spent g r past)) (is_lost g r past) (resv g r).kind e h
-    ∙ ap (λ n. state (resv g r).kind (resv g r).budget (resv g r).period (resv g r).slots (place_by (resv g r).kind (resv g r).period (resv g r).slots (now (e ∷ past))) rs' (refilled g r (e ∷ past)) n (is_lost g r (e ∷ past)))
+    ∙ ap (λ n. state (resv g r).kind (resv g r).budget (resv g r).period (resv g r).slots (in_slot_by (resv g r).kind (resv g r).period (resv g r).slots (now (e ∷ past))) rs' (refilled g r (e ∷ past)) n (is_lost g r (e ∷ past)))
     (sym (counted-moved (resv g r).kind (is_refill g (resv g r).kind r e past (refilled g r past)) (spent g r past) (works_for g r e)))
 
 pub move_is_kept_in_any_order : MoveIsKeptInAnyOrder
@@ -247,7 +247,7 @@ move_is_kept g r e past s is =
 
 -- ---- the opening
 
-opened-settled : (g : Group) (r : ℕ) (k : ResvKind) (b p : ℕ) (sl : List Slot) (rs : List (Option ℕ)) → has_ready rs ≡ any_ready g r [] → settled 0 (state k b p sl (place_by k p sl 0) rs (words.first_refill k) 0 false) ≡ state k b p sl (place_by k p sl 0) rs (first_refill g k r) (counted k 0) (is_loss g k r [])
+opened-settled : (g : Group) (r : ℕ) (k : ResvKind) (b p : ℕ) (sl : List Slot) (rs : List (Option ℕ)) → has_ready rs ≡ any_ready g r [] → settled 0 (state k b p sl (in_slot_by k p sl 0) rs (words.first_refill k) 0 false) ≡ state k b p sl (in_slot_by k p sl 0) rs (first_refill g k r) (counted k 0) (is_loss g k r [])
 unfolding first_refill is_loss
 opened-settled g r Polling b p sl rs h = polling-settled sl None 0 b p rs (Some 0) 0 false (any_ready g r []) h ∙ ap (λ l. state Polling b p sl None rs (Some 0) 0 l) (or_false (any_ready g r []))
   where
@@ -270,7 +270,7 @@ none_there zero u = refl
 none_there (suc n) zero = refl
 none_there (suc n) (suc u) = none_there n u
 
-pub standing-opened : (g : Group) (r : ℕ) (rs : List (Option ℕ)) → has_ready rs ≡ any_ready g r [] → settled 0 (state (resv g r).kind (resv g r).budget (resv g r).period (resv g r).slots (place_by (resv g r).kind (resv g r).period (resv g r).slots 0) rs (words.first_refill (resv g r).kind) 0 false) ≡ standing g r [] rs
+pub standing-opened : (g : Group) (r : ℕ) (rs : List (Option ℕ)) → has_ready rs ≡ any_ready g r [] → settled 0 (state (resv g r).kind (resv g r).budget (resv g r).period (resv g r).slots (in_slot_by (resv g r).kind (resv g r).period (resv g r).slots 0) rs (words.first_refill (resv g r).kind) 0 false) ≡ standing g r [] rs
 unfolding refilled spent is_lost
 standing-opened g r rs h = opened-settled g r (resv g r).kind (resv g r).budget (resv g r).period (resv g r).slots rs h
 

@@ -17,10 +17,10 @@ use Rattle.resv_table.specs.Tables.{HasSlots, Slots, is_table_of, own, served_in
 use Rattle.resv_table.specs.declared.ResvSlot.{ResvSlot}
 use Rattle.resv_table.proofs.ValidRows.{few-resvs}
 use Rattle.resv_table.proofs.ValidTables.{each_has_its_slots}
-use Rattle.resv_core.specs.Known.{AreKnown, AreTables, IsKnown, IsTable, home_of, no_home, place_for, served_by}
-use Rattle.resv_core.specs.Served.{IsPlaced, ServerState, charged, charged_by, has_ready, no_server, opened_server, place_at, place_of, refilled_at, settled, settled_by, ticked, ticked_by, ticked_to, ticked_to_by}
+use Rattle.resv_core.specs.Known.{AreKnown, AreTables, IsKnown, IsTable, home_of, no_home, in_slot_for, served_by}
+use Rattle.resv_core.specs.Served.{IsPlaced, ServerState, charged, charged_by, has_ready, no_server, opened_server, in_slot_at, in_slot_of, refilled_at, settled, settled_by, ticked, ticked_by, ticked_to, ticked_to_by}
 use Rattle.resv_core.specs.declared.server.InSlot.{InSlot}
-use Rattle.resv_core.proofs.PlaceLaws.{placed-set}
+use Rattle.resv_core.proofs.InSlotLaws.{placed-set}
 use Rattle.resv_core.proofs.ValidResvs.{valid-home}
 
 -- a change leaves what a reservation is
@@ -34,7 +34,7 @@ same-table s = record { kind = refl; period = refl; slots = refl }
 
 known-change : (tables : List (Option Slots)) (home : ClusterNo) (r : ℕ) (old new : ServerState) → StaysTable old new → IsKnown tables home r old → IsKnown tables home r new
 known-change tables home r old new same known table clock =
-    known (sym same.kind ∙ table) clock ∙ ap (λ p. place_at p old.slots clock) (sym same.period) ∙ ap (λ ss. place_at new.period ss clock) (sym same.slots)
+    known (sym same.kind ∙ table) clock ∙ ap (λ p. in_slot_at p old.slots clock) (sym same.period) ∙ ap (λ ss. in_slot_at new.period ss clock) (sym same.slots)
 
 -- one reservation changes
 pub known-set : (tables : List (Option Slots)) (homes : List ClusterNo) (servers : List ServerState) (i : ℕ) (s : ServerState) → StaysTable (get_or servers i no_server) s → AreKnown tables homes servers → AreKnown tables homes (set servers i s)
@@ -88,7 +88,7 @@ ticked-stays old new s = by_kind s.kind
     by_kind : (k : ResvKind) → StaysTable s (ticked_by k old new s)
     by_kind Polling = by_test s (refilled_at new s) _ (record { kind = refl; period = refl; slots = refl })
     by_kind Sporadic = same-table s
-    by_kind Table = by_test s (record s { in_slot = place_at s.period s.slots new }) _ (record { kind = refl; period = refl; slots = refl })
+    by_kind Table = by_test s (record s { in_slot = in_slot_at s.period s.slots new }) _ (record { kind = refl; period = refl; slots = refl })
 
 pub settled-stays : (clock : ℕ) (s : ServerState) → StaysTable s (settled clock s)
 settled-stays clock s = by_kind s.kind
@@ -102,23 +102,23 @@ settled-stays clock s = by_kind s.kind
     by_kind Sporadic = by_test s (refilled_at clock s) _ (record { kind = refl; period = refl; slots = refl })
     by_kind Table = same-table s
 
--- where the place is that of the slots
-pub ticked_to-is : (place : Option InSlot) (old new : ℕ) (s : ServerState) → (s.kind ≡ Table → place ≡ place_at s.period s.slots new) → ticked_to place old new s ≡ ticked old new s
-ticked_to-is place old new s h = by_kind s.kind h
+-- where the slot is that of the slots
+pub ticked_to-is : (slot : Option InSlot) (old new : ℕ) (s : ServerState) → (s.kind ≡ Table → slot ≡ in_slot_at s.period s.slots new) → ticked_to slot old new s ≡ ticked old new s
+ticked_to-is slot old new s h = by_kind s.kind h
   where
-    by_kind : (k : ResvKind) → (k ≡ Table → place ≡ place_at s.period s.slots new) → ticked_to_by k place old new s ≡ ticked_by k old new s
+    by_kind : (k : ResvKind) → (k ≡ Table → slot ≡ in_slot_at s.period s.slots new) → ticked_to_by k slot old new s ≡ ticked_by k old new s
     by_kind Polling h = refl
     by_kind Sporadic h = refl
     by_kind Table h = ap (λ p. if nat_lt old new then record s { in_slot = p } else s) (h refl)
 
 -- ---- the opening
 
--- what is served of a table is the place in the slots of the reservation
-placed : (n cycle clock : ℕ) (o : Option ResvSlot) → place_for n (option_map (served_in cycle clock) o) ≡ option_map (place_of cycle clock) (own n o)
+-- what is served of a table is the slot in the slots of the reservation
+placed : (n cycle clock : ℕ) (o : Option ResvSlot) → in_slot_for n (option_map (served_in cycle clock) o) ≡ option_map (in_slot_of cycle clock) (own n o)
 placed n cycle clock None = refl
 placed n cycle clock (Some x) = by_case (x.resv.0 == n)
   where
-    by_case : (b : Bool) → (if b then Some (place_of cycle clock x.slot) else None) ≡ option_map (place_of cycle clock) (if b then Some x.slot else None)
+    by_case : (b : Bool) → (if b then Some (in_slot_of cycle clock x.slot) else None) ≡ option_map (in_slot_of cycle clock) (if b then Some x.slot else None)
     by_case true = refl
     by_case false = refl
 
@@ -152,8 +152,8 @@ known-opened p group tables valid are = record {
         has : HasSlots (table_of p (get_or p.resvs k no_resv).cluster.0) (suc k) (get_or p.resvs k no_resv)
         has = each_has_its_slots p valid k no_resv inside table
 
-        by_table : (o : Option Slots) → IsTable p (get_or p.resvs k no_resv).cluster.0 o → place_for (suc k) (served_by o clock) ≡ place_at (get_or p.resvs k no_resv).period (get_or p.resvs k no_resv).slots clock
+        by_table : (o : Option Slots) → IsTable p (get_or p.resvs k no_resv).cluster.0 o → in_slot_for (suc k) (served_by o clock) ≡ in_slot_at (get_or p.resvs k no_resv).period (get_or p.resvs k no_resv).slots clock
         by_table None h = let bad : false ≡ true = sym h ∙ any-table (get_or p.resvs k no_resv).cluster.0 p.resvs k no_resv inside of in absurd cc
         by_table (Some t) h =
             let v : Slots = table_of p (get_or p.resvs k no_resv).cluster.0 in
-            ap (place_for (suc k)) (h clock) ∙ placed (suc k) v.cycle clock (slot_at v clock) ∙ ap (option_map (place_of v.cycle clock)) (has.slot_is clock) ∙ ap (λ c. option_map (place_of c clock) (slots.slot_at (get_or p.resvs k no_resv).period (get_or p.resvs k no_resv).slots clock)) has.cycle_is
+            ap (in_slot_for (suc k)) (h clock) ∙ placed (suc k) v.cycle clock (slot_at v clock) ∙ ap (option_map (in_slot_of v.cycle clock)) (has.slot_is clock) ∙ ap (λ c. option_map (in_slot_of c clock) (slots.slot_at (get_or p.resvs k no_resv).period (get_or p.resvs k no_resv).slots clock)) has.cycle_is

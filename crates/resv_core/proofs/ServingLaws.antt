@@ -275,7 +275,7 @@ all_moved_in_any_order g e past v w valid plugin reachable serving told_it =
 
 read-task : (ts : List Task) (f : Task → Option ResvNo) (t : ℕ) → 1 ≤ t → t - 1 < length ts → get_or (None ∷ map f ts) t None ≡ f (get_or ts (t - 1) no_task)
 read-task ts f zero low inside = absurd (omega arith)
-read-task ts f (suc n) low inside = let e : suc n - 1 ≡ n = omega arith in let place : n < length ts = omega (arith, inside) in rw e (get_or-map f ts n no_task None place)
+read-task ts f (suc n) low inside = let e : suc n - 1 ≡ n = omega arith in let slot : n < length ts = omega (arith, inside) in rw e (get_or-map f ts n no_task None slot)
 
 pub opened-serves : (g : Group) (t : ℕ) → IsTied g t → server_of (opened g.setup g.number) t ≡ Some (record { 0 = served_by g t })
 unfolding opened task resv
@@ -283,8 +283,8 @@ opened-serves g t tie =
     let k : ℕ = served_by g t in
     let least = tie.low in
     let high = tie.high in
-    let place : k - 1 < length g.setup.resvs = omega (arith, least, high) in
-    let here : is_resv_here g.setup g.number (slice_get g.setup.resvs (k - 1)) ≡ true = ap (is_resv_here g.setup g.number) (resv-there g.setup.resvs (k - 1) place) ∙ tie.here in
+    let slot : k - 1 < length g.setup.resvs = omega (arith, least, high) in
+    let here : is_resv_here g.setup g.number (slice_get g.setup.resvs (k - 1)) ≡ true = ap (is_resv_here g.setup g.number) (resv-there g.setup.resvs (k - 1) slot) ∙ tie.here in
     let some : nat_lt 0 k ≡ true = grind (arith, nat_tests, least) in
     read-task g.setup.tasks (server_for g.setup g.number) t tie.numbered.0 tie.numbered.1
     ∙ ap (server_here g.setup g.number) tie.resv_is

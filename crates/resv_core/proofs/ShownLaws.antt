@@ -27,7 +27,7 @@ use Rattle.rt_model.specs.Past.{Acted, Past, accepted, did, is_work, now, operat
 use Rattle.rt_model.specs.Releases.{ready, release}
 use Rattle.rt_model.specs.Reservations.{any_ready, earlier, front, last, last_by, last_of, left, left_by, refilled, slot_now, spent}
 use Rattle.rt_model.specs.Runs.{runs}
-use Rattle.resv_core.specs.Served.{ServerState, IsFront, began_there, has_ready, left_of, left_there, place_at, place_by, place_of, release_at}
+use Rattle.resv_core.specs.Served.{ServerState, IsFront, began_there, has_ready, left_of, left_there, in_slot_at, in_slot_by, in_slot_of, release_at}
 use Rattle.resv_core.specs.Served as words
 use Rattle.resv_core.specs.Kept.{IsStateOf, counted, StateIsShown, WorkFindsBudget}
 use Rattle.resv_core.proofs.KeptLaws.{table-ready}
@@ -121,19 +121,19 @@ module _ (g : Group) (r : ℕ) (past : Past) (s : ServerState) (is : IsStateOf g
   -- ---- the budget and the last refill
 
   -- of a table what is left is that of the slot that holds the clock
-  left-there : (cycle clock : ℕ) (o : Option Slot) → left_there (option_map (place_of cycle clock) o) ≡ left_in cycle clock o
+  left-there : (cycle clock : ℕ) (o : Option Slot) → left_there (option_map (in_slot_of cycle clock) o) ≡ left_in cycle clock o
   left-there cycle clock None = refl
   left-there cycle clock (Some x) = refl
 
-  began-there : (cycle clock : ℕ) (o : Option Slot) → began_there (option_map (place_of cycle clock) o) ≡ began_in cycle clock o
+  began-there : (cycle clock : ℕ) (o : Option Slot) → began_there (option_map (in_slot_of cycle clock) o) ≡ began_in cycle clock o
   began-there cycle clock None = refl
   began-there cycle clock (Some x) = refl
 
   spent-is : (k : ResvKind) → (resv g r).kind ≡ k → s.spent ≡ counted k (spent g r past)
   spent-is k e = is.spent ∙ ap (λ j. counted j (spent g r past)) e
 
-  in_slot-is : (k : ResvKind) → (resv g r).kind ≡ k → s.in_slot ≡ place_by k (resv g r).period (resv g r).slots (now past)
-  in_slot-is k e = is.in_slot ∙ ap (λ j. place_by j (resv g r).period (resv g r).slots (now past)) e
+  in_slot-is : (k : ResvKind) → (resv g r).kind ≡ k → s.in_slot ≡ in_slot_by k (resv g r).period (resv g r).slots (now past)
+  in_slot-is k e = is.in_slot ∙ ap (λ j. in_slot_by j (resv g r).period (resv g r).slots (now past)) e
 
   pub left-is : left_of s ≡ left g r past
   unfolding left left_by slot_now

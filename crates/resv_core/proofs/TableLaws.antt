@@ -57,8 +57,8 @@ module _ (p : Parts) (valid : IsValid p) where
   drafts : List DraftResv
   drafts = map draft_resv p.resvs
 
-  at-place : (i : ℕ) → i < length p.resvs → get_or (map draft_resv p.resvs) i (draft_resv no_resv) ≡ draft_resv (get_or p.resvs i no_resv)
-  at-place i low = get_or-map draft_resv p.resvs i no_resv (draft_resv no_resv) low
+  at-slot : (i : ℕ) → i < length p.resvs → get_or (map draft_resv p.resvs) i (draft_resv no_resv) ≡ draft_resv (get_or p.resvs i no_resv)
+  at-slot i low = get_or-map draft_resv p.resvs i no_resv (draft_resv no_resv) low
 
   kept : (j : ℕ) → j < length p.resvs → (is_p_res p.plugin ≡ true) × (list_all (λ q. fit_together q (get_or (map draft_resv p.resvs) j (draft_resv no_resv))) (take j (map draft_resv p.resvs)) ≡ true)
   unfolding resv_sharing
@@ -71,8 +71,8 @@ module _ (p : Parts) (valid : IsValid p) where
       let inside : i < length (take j (map draft_resv p.resvs)) = omega (arith, before, low, wide, length-take j (map draft_resv p.resvs)) in
       let x : DraftResv = get_or (map draft_resv p.resvs) j (draft_resv no_resv) in
       let one = all-at (λ q. fit_together q x) (take j (map draft_resv p.resvs)) i (draft_resv no_resv) (kept j low).1 inside in
-      ap (λ (a : DraftResv). fit_together a (draft_resv (get_or p.resvs j no_resv))) (sym (at-place i (omega (arith, before, low))) ∙ sym (get_or-take j (map draft_resv p.resvs) i (draft_resv no_resv) before))
-      ∙ ap (fit_together (get_or (take j (map draft_resv p.resvs)) i (draft_resv no_resv))) (sym (at-place j low))
+      ap (λ (a : DraftResv). fit_together a (draft_resv (get_or p.resvs j no_resv))) (sym (at-slot i (omega (arith, before, low))) ∙ sym (get_or-take j (map draft_resv p.resvs) i (draft_resv no_resv) before))
+      ∙ ap (fit_together (get_or (take j (map draft_resv p.resvs)) i (draft_resv no_resv))) (sym (at-slot j low))
       ∙ one
 
 p_res-is : (k : PluginKind) → is_p_res k ≡ true → k ≡ plugins.PRes

@@ -119,10 +119,10 @@ tied g valid plugin t h = by_case (get_or g.setup.tasks (t - 1) no_task).resv re
         let least = leb-true 1 r.0 bounds.0 in
         let most = leb-true r.0 (length (draft_of g.setup).resvs) bounds.1 in
         let high : r.0 ≤ length g.setup.resvs = omega (arith, most, length-map g.setup.resvs draft_resv) in
-        let place : r.0 - 1 < length g.setup.resvs = omega (arith, least, high) in
+        let slot : r.0 - 1 < length g.setup.resvs = omega (arith, least, high) in
         let f = fits g.setup valid (t - 1) inside in
         let same_cluster : cluster_of_resv (draft_of g.setup) r.0 == (get_or g.setup.tasks (t - 1) no_task).cluster.0 ≡ true = sym (ap (λ b. resv_fits (draft_of g.setup) b (get_or g.setup.tasks (t - 1) no_task).cluster.0 (Some r)) (ap is_p_res plugin)) ∙ sym (ap (resv_fits (draft_of g.setup) (is_p_res g.setup.plugin) (get_or g.setup.tasks (t - 1) no_task).cluster.0) e) ∙ f in
-        let at_home : (get_or g.setup.resvs (r.0 - 1) no_resv).cluster.0 ≡ (get_or g.setup.tasks (t - 1) no_task).cluster.0 = sym (cluster_of_resv-is g.setup r.0 place) ∙ eqb-true _ _ same_cluster in
+        let at_home : (get_or g.setup.resvs (r.0 - 1) no_resv).cluster.0 ≡ (get_or g.setup.tasks (t - 1) no_task).cluster.0 = sym (cluster_of_resv-is g.setup r.0 slot) ∙ eqb-true _ _ same_cluster in
         let k = cluster-here g.setup.clusters (get_or g.setup.tasks (t - 1) no_task).cluster.0 g.number two.1 ((rules_of g valid).has_home t h) in
         let here : is_here g.setup g.number (get_or g.setup.resvs (r.0 - 1) no_resv) ≡ true = ap (λ c. is_cluster_here g.setup g.number (slice_get g.setup.clusters c)) at_home ∙ ap (is_cluster_here g.setup g.number) k.1 ∙ k.2 in
         let is : served_by g t ≡ r.0 = served-some g t r e in

@@ -11,7 +11,7 @@ use Rattle.rt_model.specs.Outcomes.{past_act}
 use Rattle.rt_model.specs.Past.{Event, Clock, Acted, Past, now, did, is_work}
 use Rattle.rt_model.specs.Releases.{ready, release}
 use Rattle.rt_model.specs.Reservations.{any_ready, front, is_lost, last, left, refilled, spent}
-use Rattle.resv_core.specs.Served.{ServerState, IsFront, charged, gone, has_ready, is_here, last_of, left_of, opened_server, place_by, readied}
+use Rattle.resv_core.specs.Served.{ServerState, IsFront, charged, gone, has_ready, is_here, last_of, left_of, opened_server, in_slot_by, readied}
 use Rattle.resv_core.specs.Served.{release_at, settled, ticked}
 
 -- each client whose readiness or release changed is told
@@ -47,7 +47,7 @@ module _ (g : Group) where
     pub refilled : s.refilled ≡ refilled g r past
     pub spent : s.spent ≡ counted (resv g r).kind (spent g r past)
     pub lost : s.lost ≡ is_lost g r past
-    pub in_slot : s.in_slot ≡ place_by (resv g r).kind (resv g r).period (resv g r).slots (now past)
+    pub in_slot : s.in_slot ≡ in_slot_by (resv g r).kind (resv g r).period (resv g r).slots (now past)
     pub clients_of : AreClientsOf r past s.releases
 
   -- ---- the calls of a move

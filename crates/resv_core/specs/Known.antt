@@ -8,14 +8,14 @@ use Rattle.rt_task.specs.declared.Resv.{Resv}
 use Rattle.rt_task.specs.declared.ResvKind.TheVariants.{Table}
 use Rattle.resv_table.specs.Tables.{Slots, is_table_of, served_at, table_of}
 use Rattle.resv_table.specs.declared.Served.{Served}
-use Rattle.resv_core.specs.Served.{ServerState, no_server, place_at}
+use Rattle.resv_core.specs.Served.{ServerState, no_server, in_slot_at}
 use Rattle.resv_core.specs.declared.server.InSlot.{InSlot}
 use Rattle.resv_core.specs.declared.server.Lookup.{Lookup}
 
 -- what is served, where it is one reservation
-abbrev pub place_for : ℕ → Option Served → Option InSlot
-place_for r None = None
-place_for r (Some x) = if x.resv.0 == r then Some (record { began = x.from.0; left = x.left }) else None
+abbrev pub in_slot_for : ℕ → Option Served → Option InSlot
+in_slot_for r None = None
+in_slot_for r (Some x) = if x.resv.0 == r then Some (record { began = x.from.0; left = x.left }) else None
 
 -- what the table of a cluster serves at a clock, if there is one
 abbrev pub served_by : Option Slots → ℕ → Option Served
@@ -26,8 +26,8 @@ abbrev pub served_of : List (Option Slots) → ClusterNo → ℕ → Option Serv
 served_of tables home clock = served_by (slice_index_or tables home.0 None) clock
 
 -- of reservation r, in the table of its cluster
-abbrev pub place_in : List (Option Slots) → ClusterNo → ℕ → ℕ → Option InSlot
-place_in tables home r clock = place_for r (served_of tables home clock)
+abbrev pub in_slot_in : List (Option Slots) → ClusterNo → ℕ → ℕ → Option InSlot
+in_slot_in tables home r clock = in_slot_for r (served_of tables home clock)
 
 -- what was looked up for a cluster is what its table serves at the clock
 abbrev pub IsLookup : List (Option Slots) → ℕ → Lookup → Type 0
@@ -38,7 +38,7 @@ no_home = record { 0 = 0 }
 
 -- the tables have each clock where it stands in the slots of reservation r, if that is a table reservation
 abbrev pub IsKnown : List (Option Slots) → ClusterNo → ℕ → ServerState → Type 0
-IsKnown tables home r s = s.kind ≡ Table → (clock : ℕ) → place_in tables home r clock ≡ place_at s.period s.slots clock
+IsKnown tables home r s = s.kind ≡ Table → (clock : ℕ) → in_slot_in tables home r clock ≡ in_slot_at s.period s.slots clock
 
 pub record AreKnown (tables : List (Option Slots)) (homes : List ClusterNo) (servers : List ServerState) : Type 0 where
   pub few : length servers ≤ MOST_RESVS

@@ -51,15 +51,15 @@ pub record IsFront (releases : List (Option ℕ)) (task : ℕ) : Type 0 where
 -- ---- what is shown of a reservation
 
 -- where a clock stands in the slots of a cycle
-abbrev pub place_of : ℕ → ℕ → Slot → InSlot
-place_of cycle clock s = record { began = clock - clock % cycle + s.from; left = s.to - clock % cycle }
+abbrev pub in_slot_of : ℕ → ℕ → Slot → InSlot
+in_slot_of cycle clock s = record { began = clock - clock % cycle + s.from; left = s.to - clock % cycle }
 
-abbrev pub place_at : ℕ → List Slot → ℕ → Option InSlot
-place_at cycle slots clock = option_map (place_of cycle clock) (slot_at cycle slots clock)
+abbrev pub in_slot_at : ℕ → List Slot → ℕ → Option InSlot
+in_slot_at cycle slots clock = option_map (in_slot_of cycle clock) (slot_at cycle slots clock)
 
-abbrev pub place_by : ResvKind → ℕ → List Slot → ℕ → Option InSlot
-place_by Table period slots clock = place_at period slots clock
-place_by _ period slots clock = None
+abbrev pub in_slot_by : ResvKind → ℕ → List Slot → ℕ → Option InSlot
+in_slot_by Table period slots clock = in_slot_at period slots clock
+in_slot_by _ period slots clock = None
 
 abbrev pub left_there : Option InSlot → ℕ
 left_there None = 0
@@ -116,18 +116,18 @@ refilled_at clock s = record s { refilled = Some clock; spent = 0; lost = false 
 abbrev pub ticked_by : ResvKind → ℕ → ℕ → ServerState → ServerState
 ticked_by Polling old new s = if nat_lt (old / s.period) (new / s.period) then refilled_at new s else s
 ticked_by Sporadic old new s = s
-ticked_by Table old new s = if nat_lt old new then record s { in_slot = place_at s.period s.slots new } else s
+ticked_by Table old new s = if nat_lt old new then record s { in_slot = in_slot_at s.period s.slots new } else s
 
 abbrev pub ticked : ℕ → ℕ → ServerState → ServerState
 ticked old new s = ticked_by s.kind old new s
 
--- so it does where the clock stands at this place in the slots of a table
+-- so it does where the clock stands at this slot in the slots of a table
 abbrev pub ticked_to_by : ResvKind → Option InSlot → ℕ → ℕ → ServerState → ServerState
-ticked_to_by Table place old new s = if nat_lt old new then record s { in_slot = place } else s
-ticked_to_by kind place old new s = ticked_by kind old new s
+ticked_to_by Table slot old new s = if nat_lt old new then record s { in_slot = slot } else s
+ticked_to_by kind slot old new s = ticked_by kind old new s
 
 abbrev pub ticked_to : Option InSlot → ℕ → ℕ → ServerState → ServerState
-ticked_to place old new s = ticked_to_by s.kind place old new s
+ticked_to slot old new s = ticked_to_by s.kind slot old new s
 
 -- the end of a move: a polling reservation with no ready client loses what is left, and a sporadic one with a ready client is
 -- refilled where it never was or its period is over
@@ -176,7 +176,7 @@ with_server v r s = record v { servers = slice_set v.servers (r - 1) s }
 abbrev pub with_each : (ServerState → ServerState) → Served → Served
 with_each change v = record v { servers = map change v.servers }
 
--- a task that is served has its place in its reservation
+-- a task that is served has its slot in its reservation
 abbrev pub IsPlaced : List ServerState → List (Option ResvNo) → Type 0
 IsPlaced servers served_by = (t : ℕ) (r : ResvNo) → slice_index_or served_by t None ≡ Some r →
     (1 ≤ r.0) × (r.0 ≤ length servers) × (t < length (slice_index_or servers (r.0 - 1) no_server).releases)
@@ -199,7 +199,7 @@ fresh kind budget period slots room = record {
   refilled = first_refill kind;
   spent = 0;
   lost = false;
-  in_slot = place_by kind period slots 0;
+  in_slot = in_slot_by kind period slots 0;
 }
 
 module _ (p : Parts) (group : ℕ) where

@@ -1,9 +1,9 @@
 //! One reservation as it stands.
 ghost use Rattle.std.specs.Prelude.{◌≡◌, ◌≤◌, ◌<◌, IfNone, IfOk, IfSome, false, length, map, option_map};
-ghost use Rattle.resv_core.specs.Known.{place_for, place_in, served_of, AreKnown, IsLookup};
+ghost use Rattle.resv_core.specs.Known.{in_slot_for, in_slot_in, served_of, AreKnown, IsLookup};
 ghost use Rattle.rt_base.specs.declared.Tick.{Tick};
 ghost use Rattle.resv_core.specs.Releases.{key_of_release};
-ghost use Rattle.resv_core.specs.Served.{charged, first_refill, fresh, gone, has_ready, is_over, last_of, left_of, place_at, place_by};
+ghost use Rattle.resv_core.specs.Served.{charged, first_refill, fresh, gone, has_ready, is_over, last_of, left_of, in_slot_at, in_slot_by};
 ghost use Rattle.resv_core.specs.Served.{readied, refilled_at, settled, ticked, ticked_to, unspent, IsFront};
 
 use crate::ResvState;
@@ -83,9 +83,9 @@ fn copied(alloc: Global, slots: &[Slot]) -> Result<Slots, NoMemory>
 }
 
 /// Where the clock stands in the slots of a cycle.
-fn place_at(cycle: u64, slots: &[Slot], clock: u64) -> Option<InSlot>
+fn in_slot_at(cycle: u64, slots: &[Slot], clock: u64) -> Option<InSlot>
     requires { 1 ≤ cycle }
-    ensures { result ≡ place_at cycle slots.now clock }
+    ensures { result ≡ in_slot_at cycle slots.now clock }
 {
     let t = clock % cycle;
     for slot in slots {
@@ -112,11 +112,11 @@ fn first_refill(kind: ResvKind) -> Option<u64>
 /// Where clock 0 stands in the slots of a table.
 fn first_slot(kind: ResvKind, period: u64, slots: &[Slot]) -> Option<InSlot>
     requires { 1 ≤ period }
-    ensures { result ≡ place_by kind period slots.now 0 }
+    ensures { result ≡ in_slot_by kind period slots.now 0 }
 {
     match kind {
         ResvKind::Polling | ResvKind::Sporadic => None,
-        ResvKind::Table => place_at(period, slots, 0),
+        ResvKind::Table => in_slot_at(period, slots, 0),
     }
 }
 
@@ -160,9 +160,9 @@ impl Server {
         uncounted::take_out(&mut self.clients, task);
     }
 
-    /// Moves the clock from `old` to `new`. Where the reservation is a table, `place` is the slot that holds `new`.
-    pub(crate) fn tick(&mut self, old: u64, new: u64, place: Option<InSlot>)
-        ensures { self.new ≡ ticked_to place old new self.old }
+    /// Moves the clock from `old` to `new`. Where the reservation is a table, `slot` is the slot that holds `new`.
+    pub(crate) fn tick(&mut self, old: u64, new: u64, slot: Option<InSlot>)
+        ensures { self.new ≡ ticked_to slot old new self.old }
     {
         match self.kind {
             ResvKind::Polling => {
@@ -173,7 +173,7 @@ impl Server {
             ResvKind::Sporadic => {}
             ResvKind::Table => {
                 if old < new {
-                    self.in_slot = place;
+                    self.in_slot = slot;
                 }
             }
         }
@@ -216,7 +216,7 @@ impl Server {
         match self.kind {
             ResvKind::Polling | ResvKind::Sporadic => self.unspent(),
             ResvKind::Table => match self.in_slot {
-                Some(place) => place.left,
+                Some(slot) => slot.left,
                 None => 0,
             },
         }
@@ -255,7 +255,7 @@ impl Server {
         ensures { option_map (λ (t : Tick). t.0) result ≡ last_of self.now }
     {
         match (self.kind, self.refilled) {
-            (ResvKind::Table, _) => self.in_slot.map(|place| Tick(place.began)),
+            (ResvKind::Table, _) => self.in_slot.map(|slot| Tick(slot.began)),
             (ResvKind::Polling, Some(clock)) => Some(Tick(clock / self.period * self.period)),
             (ResvKind::Sporadic, Some(clock)) => Some(Tick(clock)),
             (_, None) => None,
@@ -297,8 +297,8 @@ fn served_in(tables: &[Option<Table>], home: ClusterNo, clock: u64) -> Option<Se
     }
 }
 
-fn place_for(served: Option<Served>, resv: ResvNo) -> Option<InSlot>
-    ensures { result ≡ place_for resv.0 served }
+fn in_slot_for(served: Option<Served>, resv: ResvNo) -> Option<InSlot>
+    ensures { result ≡ in_slot_for resv.0 served }
 {
     let served = served?;
     if served.resv != resv {
@@ -318,7 +318,7 @@ struct Lookup {
 }
 
 // Where the table of the cluster has the clock in the slots of the reservation.
-fn place_in(
+fn in_slot_in(
     last: &mut Lookup,
     tables: &[Option<Table>],
     home: ClusterNo,
@@ -326,7 +326,7 @@ fn place_in(
     clock: u64,
 ) -> Option<InSlot>
     requires { IsLookup tables.now clock last.old }
-    ensures place { result ≡ place_in tables.now home resv.0 clock }
+    ensures slot { result ≡ in_slot_in tables.now home resv.0 clock }
     ensures last { IsLookup tables.now clock last.new }
 {
     if last.home != home {
@@ -335,7 +335,7 @@ fn place_in(
             served: served_in(tables, home, clock),
         };
     }
-    place_for(last.served, resv)
+    in_slot_for(last.served, resv)
 }
 
 /// Moves the clock of each reservation from `old` to `new`.
@@ -355,8 +355,8 @@ pub(crate) fn tick_each(
         served: served_in(tables, home, new),
     };
     for (i, home) in homes.iter().enumerate() {
-        let place = place_in(&mut last, tables, *home, ResvNo(i as u32 + 1), new);
-        servers[i].tick(old, new, place);
+        let slot = in_slot_in(&mut last, tables, *home, ResvNo(i as u32 + 1), new);
+        servers[i].tick(old, new, slot);
     }
 }
 

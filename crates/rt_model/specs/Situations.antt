@@ -18,9 +18,9 @@ abbrev pub task_no : ℕ → TaskNo
 task_no t = record { 0 = t }
 
 module _ (g : Group) where
-  unfoldable pub place_of : Option ℕ → Past → ℕ
-  place_of None past = 0
-  place_of (Some t) past = position_in_body t past
+  unfoldable pub ops_done_of : Option ℕ → Past → ℕ
+  ops_done_of None past = 0
+  ops_done_of (Some t) past = position_in_body t past
 
   unfoldable pub lacks_budget : Option ℕ → Past → Bool
   lacks_budget None past = false
@@ -29,7 +29,7 @@ module _ (g : Group) where
   unfoldable pub situation : ℕ → Past → Situation
   situation q past = record {
     runs = option_map task_no (runs q past);
-    at = place_of (runs q past) past;
+    at = ops_done_of (runs q past) past;
     np = np_on g (runs q past) past;
     pending = pending g q past;
     worked = same (last_work q past) (Some (now past));

@@ -1,4 +1,4 @@
-pub mod Drivers
+pub mod CpuThreads
 pub mod GroupRuns
 pub mod Lists
 pub mod SetRuns

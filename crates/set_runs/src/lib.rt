@@ -1,10 +1,10 @@
 //! A set that is played by threads, one for each processor, the groups beside each other.
 #![tactic(auto)]
 
-mod driver;
+mod cpu_thread;
 mod group_run;
-mod meeting;
 mod set_run;
+mod start_barrier;
 mod turn_run;
 
 pub use set_run::run_set;

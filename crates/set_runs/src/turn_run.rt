@@ -1,11 +1,11 @@
 //! A group that plays by turns, each processor in a thread of its own.
 ghost use Rattle.std.specs.Prelude.{◌≡◌, ◌<◌, ◌≤◌, true, length, All, IfOk};
 ghost use Rattle.rt_base.specs.declared.TheConstants.{MOST_CPUS};
-ghost use Rattle.set_runs.specs.inside.Drivers.{AreOver, AreStill, IsAtWork};
+ghost use Rattle.set_runs.specs.inside.CpuThreads.{AreOver, AreStill, IsAtWork};
 ghost use Rattle.set_runs.specs.Runs.{AreDriven};
 
-use crate::driver::{Driver, drivers_of, seats_of};
-use crate::meeting::Meeting;
+use crate::cpu_thread::{CpuThread, cpu_threads_of, seats_of};
+use crate::start_barrier::StartBarrier;
 use cpu_site::{CpuSeat, Gate, Site};
 use rt_base::NoMemory;
 use std::alloc::Global;
@@ -18,44 +18,44 @@ fn driven<R: Wait, G: Gate>(
     rt: &R,
     site: &Site,
     clock: &TickClock,
-    meeting: &Meeting,
-    mut driver: Driver,
+    start_barrier: &StartBarrier,
+    mut cpu_thread: CpuThread,
     gate: &G,
-) -> Driver
-    requires { IsAtWork site.now.cell clock.now driver.seat.cpu driver }
-    ensures { IsAtWork site.now.cell clock.now driver.seat.cpu result }
+) -> CpuThread
+    requires { IsAtWork site.now.cell clock.now cpu_thread.seat.cpu cpu_thread }
+    ensures { IsAtWork site.now.cell clock.now cpu_thread.seat.cpu result }
 {
-    if meeting.is_met() {
-        driver.play_all(rt, site, clock, gate);
+    if start_barrier.is_met() {
+        cpu_thread.play_all(rt, site, clock, gate);
     }
-    driver
+    cpu_thread
 }
 
-/// Plays the processors of all drivers, each in a thread of its own. Where a thread cannot be started none plays.
-fn drive_apart<R: Threads + Wait + Sync, G: Gate + Sync>(
+/// Plays the processors of all cpu_threads, each in a thread of its own. Where a thread cannot be started none plays.
+fn play_in_threads<R: Threads + Wait + Sync, G: Gate + Sync>(
     rt: &R,
     site: &Site,
     clock: &TickClock,
-    meeting: &Meeting,
-    drivers: Vec<Driver>,
+    start_barrier: &StartBarrier,
+    cpu_threads: Vec<CpuThread>,
     gate: &G,
-) -> Result<Vec<Driver>, NoMemory>
-    requires { All (λ d. IsAtWork site.now.cell clock.now d.seat.cpu d) drivers.items }
-    ensures { IfOk result (λ v. AreStill site.now.cell clock.now drivers.items v.items) }
+) -> Result<Vec<CpuThread>, NoMemory>
+    requires { All (λ d. IsAtWork site.now.cell clock.now d.seat.cpu d) cpu_threads.items }
+    ensures { IfOk result (λ v. AreStill site.now.cell clock.now cpu_threads.items v.items) }
 {
-    let play = |driver: Driver| -> Driver
-        requires { IsAtWork site.now.cell clock.now driver.seat.cpu driver }
-        ensures { IsAtWork site.entry.now.cell clock.entry.now driver.seat.cpu result }
-    { driven(rt, site, clock, meeting, driver, gate) };
-    Ok(thread::map_vec(rt, drivers, &play)?)
+    let play = |cpu_thread: CpuThread| -> CpuThread
+        requires { IsAtWork site.now.cell clock.now cpu_thread.seat.cpu cpu_thread }
+        ensures { IsAtWork site.entry.now.cell clock.entry.now cpu_thread.seat.cpu result }
+    { driven(rt, site, clock, start_barrier, cpu_thread, gate) };
+    Ok(thread::map_vec(rt, cpu_threads, &play)?)
 }
 
 /// Whether no step is left of any.
-fn are_over(drivers: &[Driver]) -> bool
-    ensures { result ≡ true → AreOver drivers.now }
+fn are_over(cpu_threads: &[CpuThread]) -> bool
+    ensures { result ≡ true → AreOver cpu_threads.now }
 {
-    for driver in drivers {
-        if !driver.is_over {
+    for cpu_thread in cpu_threads {
+        if !cpu_thread.is_over {
             return false;
         }
     }
@@ -67,34 +67,34 @@ fn play_round<R: Wait, G: Gate>(
     rt: &R,
     site: &Site,
     clock: &TickClock,
-    drivers: &mut [Driver],
+    cpu_threads: &mut [CpuThread],
     gate: &G,
 )
-    requires { All (λ d. IsAtWork site.now.cell clock.now d.seat.cpu d) drivers.old }
-    ensures { AreStill site.now.cell clock.now drivers.old drivers.new }
+    requires { All (λ d. IsAtWork site.now.cell clock.now d.seat.cpu d) cpu_threads.old }
+    ensures { AreStill site.now.cell clock.now cpu_threads.old cpu_threads.new }
 {
-    for i in 0..drivers.len() {
-        drivers[i].play_one(rt, site, clock, gate);
+    for i in 0..cpu_threads.len() {
+        cpu_threads[i].play_one(rt, site, clock, gate);
     }
 }
 
 /// Plays what is left of the turns, each turn of all before the next of any.
-fn drive_together<R: Wait, G: Gate>(
+fn play_by_caller<R: Wait, G: Gate>(
     rt: &R,
     site: &Site,
     clock: &TickClock,
-    drivers: &mut [Driver],
+    cpu_threads: &mut [CpuThread],
     gate: &G,
 )
-    requires { All (λ d. IsAtWork site.now.cell clock.now d.seat.cpu d) drivers.old }
-    ensures still { AreStill site.now.cell clock.now drivers.old drivers.new }
-    ensures over { AreOver drivers.new }
+    requires { All (λ d. IsAtWork site.now.cell clock.now d.seat.cpu d) cpu_threads.old }
+    ensures still { AreStill site.now.cell clock.now cpu_threads.old cpu_threads.new }
+    ensures over { AreOver cpu_threads.new }
 {
     for _ in rt.forever() {
-        if are_over(drivers) {
+        if are_over(cpu_threads) {
             return;
         }
-        play_round(rt, site, clock, drivers, gate);
+        play_round(rt, site, clock, cpu_threads, gate);
     }
     unreachable!()
 }
@@ -115,9 +115,9 @@ pub(crate) fn drive_all_turns<R: Threads + Wait + Sync, G: Gate + Sync>(
 {
     let count = seats.len() as u32;
     let (clock, turns) = TickClock::open(alloc, count)?;
-    let meeting = Meeting::of(count);
-    let drivers = drivers_of(alloc, site, &clock, seats, turns)?;
-    let mut drivers = drive_apart(rt, site, &clock, &meeting, drivers, gate)?;
-    drive_together(rt, site, &clock, drivers.as_mut_slice(), gate);
-    seats_of(alloc, drivers)
+    let start_barrier = StartBarrier::of(count);
+    let cpu_threads = cpu_threads_of(alloc, site, &clock, seats, turns)?;
+    let mut cpu_threads = play_in_threads(rt, site, &clock, &start_barrier, cpu_threads, gate)?;
+    play_by_caller(rt, site, &clock, cpu_threads.as_mut_slice(), gate);
+    seats_of(alloc, cpu_threads)
 }

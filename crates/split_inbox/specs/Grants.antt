@@ -1,7 +1,7 @@
 -- Grants.
 use Rattle.std.specs.Prelude.{◌≡◌, ℕ, ◌-◌, ◌≤◌, false, List, Some, slice_get}
 use Rattle.rt_base.specs.declared.TaskNo.{TaskNo}
-use Rattle.turn_cell.specs.SeatViews.{Cell, Place, IsSplitOff}
+use Rattle.turn_cell.specs.SeatViews.{Cell, SeatView, IsSplitOff}
 use Rattle.split_inbox.specs.Books.{IsLegalSem}
 use Rattle.split_rules.specs.declared.SemAct.TheVariants as acts
 use Rattle.split_rules.specs.declared.SemEntry.{SemEntry}
@@ -14,7 +14,7 @@ claim sem number task from seq = record { sem = sem; no = number; task = task; f
 -- a grant: its five numbers, and the seat that has seen what it says
 pub record GrantOf : Type 0 where
   pub claim : Claim
-  pub seen : Place SemEntry SemOf
+  pub seen : SeatView SemEntry SemOf
 
 abbrev pub claim_of : GrantOf → Claim
 claim_of g = g.claim

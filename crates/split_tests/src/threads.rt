@@ -55,16 +55,16 @@ impl Asked {
 
 /// Holds the first step of each of two processors until the first step of the other has come, and counts the steps.
 #[derive(Drop)]
-struct Meeting {
+struct StartBarrier {
     zero: Asked,
     one: Asked,
     is_late: AtomicBool,
     is_out_of_turn: AtomicBool,
 }
 
-impl Meeting {
-    fn new() -> Meeting {
-        Meeting {
+impl StartBarrier {
+    fn new() -> StartBarrier {
+        StartBarrier {
             zero: Asked::nothing(),
             one: Asked::nothing(),
             is_late: AtomicBool::new(false),
@@ -73,7 +73,7 @@ impl Meeting {
     }
 }
 
-impl Gate for Meeting {
+impl Gate for StartBarrier {
     fn before<R: Wait>(&self, _rt: &R, cpu: CpuNo, n: u32) {
         let (own, other) = match cpu.0 {
             0 => (&self.zero, &self.one),
@@ -93,7 +93,7 @@ impl Gate for Meeting {
 
 #[test]
 fn two_partitions_meet(rt: HostRuntime) -> Result<(), Fail> {
-    let gate = Meeting::new();
+    let gate = StartBarrier::new();
     let (status, out) = split(&rt, rt.alloc(), TWO_TICKS_EACH, 4096, &gate)?;
     assert_eq!(rt; status, Status::Ok);
     assert!(rt; !gate.is_late.load(Ordering::SeqCst));

@@ -152,6 +152,6 @@ pub span-drawn : (draw : ℕ → ℕ → ℕ → Part → List ℕ) (edge y : �
 span-drawn draw edge y ps from to a top x w out new all run is inside at_y at_x at_w written so_far =
     let rest = drawn (draw y) edge (spans_from same_part to (drop to (map part_shown ps))) in
     let here : drop from (map part_shown ps) ≡ part_shown a ∷ drop (from + 1) (map part_shown ps) = drop-shown part_shown ps from a inside ∙ ap (λ v. part_shown v ∷ drop (from + 1) (map part_shown ps)) (sym is) in
-    let positions : draw top x w (part_shown a) ≡ draw y (edge + 20 * from) (20 * (to - from)) (part_shown a) = ap (λ n. draw n x w (part_shown a)) at_y ∙ ap (λ n. draw y n w (part_shown a)) at_x ∙ ap (λ n. draw y (edge + 20 * from) n (part_shown a)) at_w in
+    let moved : draw top x w (part_shown a) ≡ draw y (edge + 20 * from) (20 * (to - from)) (part_shown a) = ap (λ n. draw n x w (part_shown a)) at_y ∙ ap (λ n. draw y n w (part_shown a)) at_x ∙ ap (λ n. draw y (edge + 20 * from) n (part_shown a)) at_w in
     let spans_are : drawn (draw y) edge (spans_from same_part from (drop from (map part_shown ps))) ≡ draw y (edge + 20 * from) (20 * (to - from)) (part_shown a) ++ rest = ap (λ ss. drawn (draw y) edge ss) (run (part_shown a) _ here) in
-    ap (λ z. z ++ rest) (written ∙ ap (λ z. out ++ z) positions) ∙ append_assoc out _ rest ∙ ap (λ z. out ++ z) (sym spans_are) ∙ so_far
+    ap (λ z. z ++ rest) (written ∙ ap (λ z. out ++ z) moved) ∙ append_assoc out _ rest ∙ ap (λ z. out ++ z) (sym spans_are) ∙ so_far

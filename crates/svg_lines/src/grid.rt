@@ -120,7 +120,13 @@ fn put_column_words(
         ++ spec.column_words grid.axis grid.step (panel_shown panel.now) i x grid.y) }
 {
     let label = number_text(alloc, value_at(&panel.labels, i))?;
-    put_words(out, b"n m", label_position(grid.axis, x), grid.y + 50, &label)?;
+    put_words(
+        out,
+        b"n m",
+        label_position(grid.axis, x),
+        grid.y + 50,
+        &label,
+    )?;
     put_clock(alloc, out, grid, &panel.clocks, i, x)
 }
 

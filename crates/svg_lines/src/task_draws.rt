@@ -52,8 +52,8 @@ fn cpu_texts(alloc: Global, cpus: &[CpuNo]) -> Result<Vec<Vec<u8>>, AllocError>
 }
 
 /// The numbers of processors with a plus between them.
-fn positions(alloc: Global, cpus: &[CpuNo]) -> Result<Vec<u8>, AllocError>
-    ensures { IfOk result (λ v. v.items ≡ spec.positions (cpu_numbers cpus.now)) }
+fn cpus_text(alloc: Global, cpus: &[CpuNo]) -> Result<Vec<u8>, AllocError>
+    ensures { IfOk result (λ v. v.items ≡ spec.cpus_text (cpu_numbers cpus.now)) }
 {
     joined(alloc, b'+', &cpu_texts(alloc, cpus)?)
 }
@@ -79,8 +79,8 @@ fn put_doing(
         ..a
     };
     match doing {
-        Doing::Works(cpus) => put_bar(alloc, out, true, task, bar, &positions(alloc, cpus)?),
-        Doing::Running(cpus) => put_bar(alloc, out, false, task, bar, &positions(alloc, cpus)?),
+        Doing::Works(cpus) => put_bar(alloc, out, true, task, bar, &cpus_text(alloc, cpus)?),
+        Doing::Running(cpus) => put_bar(alloc, out, false, task, bar, &cpus_text(alloc, cpus)?),
         Doing::Waits(sem) => put_box(alloc, out, set, b"w", *sem, a),
         Doing::Blocked(sem) => put_box(alloc, out, set, b"B", *sem, a),
         Doing::Sleeping => Ok(put_rect(out, b"z", a.x, a.y + 26, a.w, 3)?),

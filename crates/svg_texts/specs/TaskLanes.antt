@@ -13,8 +13,8 @@ use Rattle.svg_texts.specs.Parts.{Part, held, job, raised, section}
 use Rattle.svg_texts.specs.Shapes.{rect, words}
 
 -- the processors on which a task works or runs
-abbrev pub positions : List ℕ → List ℕ
-positions qs = join_with_byte 43 (map decimal qs)
+abbrev pub cpus_text : List ℕ → List ℕ
+cpus_text qs = join_with_byte 43 (map decimal qs)
 
 abbrev pub draw_if : List ℕ → ℕ → ℕ → ℕ → ℕ → Bool → List ℕ
 draw_if c y h x w so = if so then rect c x y w h else []
@@ -25,8 +25,8 @@ module _ (p : Parts) where
   box c s y x w = rect c x (y + 16) w 22 ++ words_if (codes "m") (x + w / 2) (y + 28) (fit (sem_at p s).name (short_name s) w)
 
   unfoldable pub draw_doing : ℕ → ℕ → ℕ → ℕ → Doing → List ℕ
-  draw_doing t y x w (cells.works qs) = bar true t x (y + 16) w 22 (positions qs)
-  draw_doing t y x w (cells.running qs) = bar false t x (y + 16) w 22 (positions qs)
+  draw_doing t y x w (cells.works qs) = bar true t x (y + 16) w 22 (cpus_text qs)
+  draw_doing t y x w (cells.running qs) = bar false t x (y + 16) w 22 (cpus_text qs)
   draw_doing t y x w (cells.waits s) = box (codes "w") s y x w
   draw_doing t y x w (cells.blocked s) = box (codes "B") s y x w
   draw_doing t y x w cells.sleeping = rect (codes "z") x (y + 26) w 3

@@ -64,7 +64,12 @@ fn wrong_behind(position: usize, further: usize) -> Result<Verdict, NoMemory>
 
 /// What the text behind the line `end` comes to, where the lines before this position are right: nothing is to stand there, or
 /// the count lines.
-fn judge_behind(rest: &[u8], counts: &[u8], position: usize, entries: u32) -> Result<Verdict, NoMemory>
+fn judge_behind(
+    rest: &[u8],
+    counts: &[u8],
+    position: usize,
+    entries: u32,
+) -> Result<Verdict, NoMemory>
     ensures { IfOk result (λ v. v ≡ verdict_behind rest.now counts.now (position + 2) entries) }
 {
     if rest.is_empty() || rest == counts {

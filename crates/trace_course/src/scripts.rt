@@ -61,7 +61,10 @@ impl Scripts {
     {
         let positions = positions_at(alloc, cpus, 0)?;
         let following = following_of(alloc, steps, cpus)?;
-        Ok(Scripts { positions, following })
+        Ok(Scripts {
+            positions,
+            following,
+        })
     }
 
     /// The position of a processor.

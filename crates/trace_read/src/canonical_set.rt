@@ -20,7 +20,11 @@ const STEPS_BEGIN: &[u8] = b",\"steps\":[";
 const STEPS_END: &[u8] = b"],\"tasks\":[";
 
 /// What stands before this position, and what stands after these bytes there.
-fn split_at_position<'a>(part: &[u8], bytes: &'a [u8], position: usize) -> Option<(&'a [u8], &'a [u8])>
+fn split_at_position<'a>(
+    part: &[u8],
+    bytes: &'a [u8],
+    position: usize,
+) -> Option<(&'a [u8], &'a [u8])>
     requires { position < length bytes.now }
     ensures { IfSome result (λ x. bytes.now ≡ x.0.now ++ (part.now ++ x.1.now)) }
 {

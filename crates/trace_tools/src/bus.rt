@@ -5,9 +5,9 @@ ghost use Rattle.trace_lines.specs.Known.{Known};
 ghost use Rattle.trace_tools.specs.Counters.{counter_of, counter_after, counter_line};
 ghost use Rattle.trace_tools.specs.BusCounters.{counters};
 
-use crate::tool_counter::ToolCounter;
 use crate::shown::Shown;
 use crate::tool::TraceTool;
+use crate::tool_counter::ToolCounter;
 use rt_base::NoMemory;
 use std::alloc::Global;
 

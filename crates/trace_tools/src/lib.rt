@@ -11,11 +11,11 @@ mod first_miss;
 mod migrations;
 mod misses;
 mod occupancy;
-mod tool_counter;
 mod shipped;
 mod shown;
 mod switches;
 mod tool;
+mod tool_counter;
 mod totals;
 
 pub use bus::Bus;

@@ -48,7 +48,10 @@ impl Migrations {
         ensures counts { MigrationsAreCounted }
     {
         let last_cpus = vec![in alloc; 0; MOST_TASKS as usize + 1]?;
-        Ok(Migrations { count: 0, last_cpus })
+        Ok(Migrations {
+            count: 0,
+            last_cpus,
+        })
     }
 }
 

@@ -19,13 +19,13 @@ use std::marker::Model;
 /// An engine with the requests of its history, and room for the tasks that wait as a semaphore is freed. Contracts see the
 /// engine.
 #[derive(Drop)]
-pub struct Counted {
+pub struct CountingEngine {
     engine: Engine,
     asked: Blocks,
     waiting: WaitingList,
 }
 
-impl Model for Counted {
+impl Model for CountingEngine {
     ghost use Rattle.rt_plays.specs.Groups.{GroupHistory};
     ghost use Rattle.trace_writer.specs.Replays.{Counts};
 
@@ -36,14 +36,14 @@ impl Model for Counted {
     ghost invariant = { λ a. Counts a.engine a.asked a.waiting.room };
 }
 
-impl Counted {
+impl CountingEngine {
     /// A group before its first step, with room for `room` steps.
     pub fn open(
         alloc: Global,
         setup: &Setup,
         group: GroupNo,
         room: u32,
-    ) -> Result<Counted, NoMemory>
+    ) -> Result<CountingEngine, NoMemory>
         requires group { IsGroupOf setup.now group.0 }
         requires room { room ≤ MOST_STEPS }
         ensures { IfOk result (λ r. r
@@ -53,7 +53,7 @@ impl Counted {
         let asked = Blocks::open(alloc, setup, group, room)?;
         let tasks = setup.parts().tasks.as_slice().len() as u32;
         let waiting = WaitingList::open(alloc, tasks)?;
-        Ok(Counted {
+        Ok(CountingEngine {
             engine,
             asked,
             waiting,

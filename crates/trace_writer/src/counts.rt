@@ -10,7 +10,7 @@ ghost use Rattle.rt_fault.specs.Ends.{writing};
 ghost use Rattle.trace_writer.specs.Writing.{Came};
 
 use crate::WriteStop;
-use crate::counted::Counted;
+use crate::counted::CountingEngine;
 use crate::lines::write_bytes;
 use rt_base::GroupNo;
 use rt_fault::Sink;
@@ -22,7 +22,7 @@ use trace_tools::{Bus, TraceTool};
 /// Shows the bus an entry of a group, whose step the engine has taken last.
 pub fn show<T: TraceTool>(
     bus: &mut Bus<T>,
-    engine: &Counted,
+    engine: &CountingEngine,
     group: GroupNo,
     no: u32,
     entry: &Entry,

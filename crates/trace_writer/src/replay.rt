@@ -10,7 +10,7 @@ ghost use Rattle.trace_lines.specs.Lines.{links_of};
 ghost use Rattle.trace_text.specs.TraceText.{links_at};
 ghost use Rattle.trace_writer.specs.Replays.{Follows, HasTaken};
 
-use crate::counted::Counted;
+use crate::counted::CountingEngine;
 use crate::links::{read_again, read_links};
 use block_counts::Seen;
 use rt_base::{CpuNo, GroupNo, NoMemory};
@@ -24,7 +24,7 @@ use trace_text::cpus_of;
 /// changed.
 #[derive(Drop)]
 pub struct Replay {
-    engine: Counted,
+    engine: CountingEngine,
     cpus: Vec<CpuNo>,
     links: Vec<CpuLink>,
     changed: Vec<CpuLink>,
@@ -40,7 +40,7 @@ impl Replay {
             record { setup = setup.now; group = group.0; entries = []; spare = room }) }
         ensures follows { IfOk result (λ r. Follows r.engine r.cpus.items r.links.items) }
     {
-        let counted = Counted::open(alloc, setup, group, room)?;
+        let counted = CountingEngine::open(alloc, setup, group, room)?;
         let cpus = cpus_of(alloc, setup, group)?;
         let mut links = Vec::new(alloc);
         read_links(counted.engine(), cpus.as_slice(), &mut links)?;
@@ -53,7 +53,7 @@ impl Replay {
     }
 
     /// The engine.
-    pub fn engine(&self) -> &Counted
+    pub fn engine(&self) -> &CountingEngine
         ensures { result.now ≡ self.now.engine }
     {
         &self.engine

@@ -14,7 +14,7 @@ ghost use Rattle.trace_writer.specs.Replays.{HasPlayed, ahead};
 ghost use Rattle.trace_writer.specs.Summaries as words;
 ghost use Rattle.trace_writer.specs.Summaries.{summary_from, summary_in};
 
-use crate::counted::Counted;
+use crate::counted::CountingEngine;
 use crate::counts::show;
 use block_counts::Seen;
 use rt_base::{GroupNo, NoMemory};
@@ -58,7 +58,7 @@ fn joined(a: Summary, b: Summary) -> Summary
 /// The engine takes the steps that are left of its group, and the bus is shown each entry. Tells how many there were.
 fn take_steps<T: TraceTool>(
     setup: &Setup,
-    engine: &mut Counted,
+    engine: &mut CountingEngine,
     left: &mut StepsLeft<'_>,
     number: GroupNo,
     bus: &mut Bus<T>,
@@ -103,7 +103,7 @@ fn summarize_group<T: TraceTool>(
         IfOk result (λ _. counters T.tool bus.new ≡ counters_after shown (counters T.tool bus.old)) }
 {
     let mut left = steps.all(alloc, setup, number)?;
-    let mut engine = Counted::open(alloc, setup, number, left.room())?;
+    let mut engine = CountingEngine::open(alloc, setup, number, left.room())?;
     let entries = take_steps(setup, &mut engine, &mut left, number, bus);
     let requests = engine.requests();
     Ok(Summary {

@@ -22,7 +22,7 @@ use Rattle.rt_model.specs.Links.{runs_of, links, linked, pending}
 use Rattle.rt_model.specs.Answers.{last_work, np_on, link_reply, irq_answer, may_arrive, arrival_answer, no_budget, work_answer, nests}
 use Rattle.rt_model.specs.Answers.{is_granted, lock_answer, unlock_answer, unless_holding, op_answer, do_answer, answer}
 use Rattle.rt_model.specs.Outcomes.{is_spent, ended_by, attempt, ended, past_act}
-use Rattle.rt_model.specs.Situations.{place_of, lacks_budget, situation, next_op, next_of, next_act}
+use Rattle.rt_model.specs.Situations.{ops_done_of, lacks_budget, situation, next_op, next_of, next_act}
 use Rattle.rt_model.specs.Histories.{reply_to, after, past_from, past_of, past_by, changed, played, is_raise, raises_from, raises}
 use Rattle.rt_model.specs.Blocking.{is_blocked, newest_request, is_open, ends_all, ends, bound_by, bound, requests}
 
@@ -35,7 +35,7 @@ unfolding task cluster sem resv cpus home in_group clusters first_cpu processors
     waits_for effective_key any_ready earlier front begins_period is_due is_refill first_refill refilled works_for spent is_loss
     is_lost slot_now left_by left last_by last_of last runs is_served is_admitted eligible ranking top runs_of links linked pending
     last_work np_on link_reply irq_answer may_arrive arrival_answer no_budget work_answer nests is_granted lock_answer
-    unlock_answer unless_holding op_answer do_answer answer is_spent ended_by attempt ended past_act place_of lacks_budget
+    unlock_answer unless_holding op_answer do_answer answer is_spent ended_by attempt ended past_act ops_done_of lacks_budget
     situation next_op next_of next_act reply_to after past_from past_of past_by changed played is_raise raises_from raises
     is_blocked newest_request is_open ends_all ends bound_by bound requests
 computed = tt

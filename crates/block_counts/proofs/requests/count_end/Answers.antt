@@ -6,10 +6,10 @@ use Rattle.rt_rules.specs.Distinct.{IsDistinct}
 use Rattle.rt_rules.specs.Numbers.{has}
 use Rattle.rt_changes.specs.Tallies.{Waiter, counted, waiter_tasks}
 use Rattle.block_counts.specs.declared.seen.Waiting.{Waiting}
-use Rattle.block_counts.specs.Places.{IsFew, seen_one}
+use Rattle.block_counts.specs.Positions.{IsFew, seen_one}
 use Rattle.block_counts.specs.SeenWords.{tallies_of, tally_of, waiter_of, waiters_of}
 use Rattle.block_counts.proofs.Lists.{distinct-before}
-use Rattle.block_counts.proofs.PlaceLaws.{counted-more, counted-none, few-counted}
+use Rattle.block_counts.proofs.PositionLaws.{counted-more, counted-none, few-counted}
 use Rattle.block_counts.proofs.requests.count_end.Goals as goal
 
 -- a task of the list is none of those before it

@@ -2,7 +2,7 @@ use Rattle.std.proofs.Common.{ap, sym, subst, length, ◌+◌, ◌<◌, ◌∙�
 use Rattle.std.proofs.lemmas.List.{get_or-map, length-map, map-set}
 use Rattle.std.specs.Prelude.{None, slice_set}
 use Rattle.rt_base.specs.declared.TheConstants.{MOST_STEPS}
-use Rattle.block_counts.specs.Places.{IsFew, no_tally, seen_at, seen_in}
+use Rattle.block_counts.specs.Positions.{IsFew, no_tally, seen_at, seen_in}
 use Rattle.block_counts.specs.SeenWords.{tallies_of, tally_of}
 use Rattle.block_counts.proofs.requests.see_end.Goals as goal
 

@@ -80,7 +80,7 @@ pub returns-clause-is_first : goal.returns-clause-is_first
 returns-clause-is_first c =
     let absent = absent-top _ _ _ c.self.invariant.0 c.args.task.0 (ap is_some (rw (← c.self.view_is) at c.requires.absent)) in
     let was_not = sym (first-top _ _ _ c.self.invariant.0 c.args.task.0) ∙ absent in
-    let told : is_none c.if-last-task.result.left && is_none c.if-last-task.result.came ≡ not (is c.args.task.0 (number_of_task c.if-last-task.result.came)) = elim c.if-last-task.branch [
+    let told : is_none c.if-last-task.result.removed && is_none c.if-last-task.result.added ≡ not (is c.args.task.0 (number_of_task c.if-last-task.result.added)) = elim c.if-last-task.branch [
       | then-last-task w ↦ rw w.result-is
       | else-last-task w ↦ rw (w.result-is, equal_self c.args.task.0)
     ] in

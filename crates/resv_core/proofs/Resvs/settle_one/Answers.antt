@@ -1,7 +1,7 @@
 use Rattle.std.proofs.Common.{arith, subst, sym}
 use Rattle.resv_core.specs.Served.{IsResv, Served, settled}
 use Rattle.resv_core.proofs.KnownLaws.{settled-stays, sound-set}
-use Rattle.resv_core.proofs.PlaceLaws.{length-settled}
+use Rattle.resv_core.proofs.InSlotLaws.{length-settled}
 use Rattle.resv_core.proofs.Resvs.settle_one.Goals as goal
 
 pub invariant_of-self : goal.invariant_of-self

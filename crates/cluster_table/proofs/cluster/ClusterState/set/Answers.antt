@@ -10,11 +10,11 @@ pub invariant_of-self : goal.invariant_of-self
 invariant_of-self c =
     let inside = c.self.inside in
     let k : KeptCluster = record { cpus = inside.queue.most; keys = inside.queue.keys; linked = inside.links } in
-    let exchanged = rw c.set-exchange.ensures.keys at c.set-exchange.ensures.exchanged in (
-      rw c.set-exchange.ensures.keys c.self.invariant.0,
-      rw c.set-exchange.ensures.keys c.self.invariant.1,
+    let exchanged = rw c.set-change.ensures.keys at c.set-change.ensures.exchanged in (
+      rw c.set-change.ensures.keys c.self.invariant.0,
+      rw c.set-change.ensures.keys c.self.invariant.1,
       c.self.invariant.2,
-      rw (c.set-exchange.ensures.keys, c.after-self-inside.ensures) (pending-with_key k c.args.task.0 c.args.key c.set-exchange.result c.self.invariant.2 c.self.invariant.0 exchanged inside.pending c.self.invariant.3),
+      rw (c.set-change.ensures.keys, c.after-self-inside.ensures) (pending-with_key k c.args.task.0 c.args.key c.set-change.result c.self.invariant.2 c.self.invariant.0 exchanged inside.pending c.self.invariant.3),
     )
 
 pub returns-then-is_same-clause-cluster : goal.returns-then-is_same-clause-cluster

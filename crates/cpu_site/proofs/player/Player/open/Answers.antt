@@ -12,7 +12,7 @@ use Rattle.rt_plays.specs.Drives.{horizon, steps_given}
 use Rattle.rt_plays.specs.Order.{steps_in_group}
 use Rattle.rt_plays.specs.Plays.{group_with}
 use Rattle.rt_plays.specs.Room.{room}
-use Rattle.cpu_site.specs.Chains.{IsChained}
+use Rattle.cpu_site.specs.StepChains.{IsChained}
 use Rattle.cpu_site.specs.Cpus.{cpu_numbers}
 use Rattle.cpu_site.specs.Playing.{room_in}
 use Rattle.cpu_site.proofs.Advancing.{playing-opened, steps-low}

@@ -1,8 +1,0 @@
-use Rattle.set_runs.proofs.Drivers.{still-on, still-own}
-use Rattle.set_runs.proofs.turn_run.drive_together.Goals as goal
-
-pub play_round-requires : goal.play_round-requires
-play_round-requires g c = still-own c.args.site.now.cell c.args.clock.now _ c.loop.drivers c.loop.invariant.2
-
-pub loop-preserved : goal.loop-preserved
-loop-preserved g c = (tt, tt, still-on c.args.site.now.cell c.args.clock.now _ _ _ c.loop.invariant.2 c.play_round.ensures)

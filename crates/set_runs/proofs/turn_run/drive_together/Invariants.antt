@@ -1,7 +1,0 @@
-use Rattle.set_runs.specs.inside.Drivers.{AreStill}
-use Rattle.set_runs.proofs.turn_run.drive_together.Given as goal
-
-abbrev pub invariant-loop : goal.invariant-loop
-invariant-loop g l =
-    (goal.iterator-loop g).can_next l.iterator' × (goal.iterator-loop g).is_finite l.iterator'
-    × AreStill l.site.cell l.clock l.fn.drivers l.drivers
