@@ -1,5 +1,6 @@
 -- How the arrivals are kept: all in one list in their order, each with the position of its task's next one.
-use Rattle.std.specs.Prelude.{◌≡◌, ◌≢◌, ℕ, suc, ◌<◌, List, [], ◌∷◌, drop, filter, length, map, Option, None, Some, slice_index_or, slice_set, unwrap_or, ◌==◌}
+use Rattle.std.specs.Prelude.{◌≡◌, ◌≢◌, ℕ, suc, ◌<◌, List, [], ◌∷◌, drop, filter, length, map, Option, None, Some, slice_index_or}
+use Rattle.std.specs.Prelude.{slice_set, unwrap_or, ◌==◌}
 use Rattle.arrival_queue.specs.declared.Arrival.{Arrival}
 use Rattle.arrival_queue.specs.declared.Ends.{Ends}
 

@@ -51,7 +51,8 @@ pub record AreAt (g : Group) (past : Past) (v : Turns) : Type 0 where
 pub record IsTurnAfter (g : Group) (past : Past) (step : Step) (qs : List ℕ) (q : ℕ) (t : Turn) : Type 0 where
   pub begun_is : t.begun ≡ turns_begun q (after g step past)
   pub since_is : t.since ≡ steps_since q (after g step past)
-  pub none_is : counts_none t.since ≡ true → t.had_none ≡ (has q qs && has_none g q (after g step past)) || (not (step.cpu.0 == q) && had_none g q past)
+  pub none_is : counts_none t.since ≡ true → t.had_none ≡ (has q qs && has_none g q (after g step past))
+      || (not (step.cpu.0 == q) && had_none g q past)
 
 pub record AreLooked (g : Group) (past : Past) (step : Step) (qs : List ℕ) (v : Turns) : Type 0 where
   pub horizon_is : v.horizon ≡ drives.horizon g.setup.drive

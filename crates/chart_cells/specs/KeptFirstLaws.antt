@@ -15,7 +15,8 @@ unless_kept o x = Some (unwrap_or o x)
 
 pub record CpuFollows (g : Group) (q : ℕ) (c : Column) : Type 0 where
   pub states : (x : Past) → kept_cpu g q (with_state x c) ≡ kept_cpu g q c
-  pub units : (m : Moment) → is_unit m && m.act.cpu == q ≡ true → kept_cpu g q (with_act m c) ≡ unless_kept (kept_cpu g q c) (cpu_at_unit g q m)
+  pub units : (m : Moment) → is_unit m && m.act.cpu == q ≡ true
+      → kept_cpu g q (with_act m c) ≡ unless_kept (kept_cpu g q c) (cpu_at_unit g q m)
   pub others : (m : Moment) → is_unit m && m.act.cpu == q ≡ false → kept_cpu g q (with_act m c) ≡ kept_cpu g q c
   pub ends : cpu_cell g q c ≡ unwrap_or (kept_cpu g q c) (cpu_at_end g q (newest c.states))
 

@@ -1,4 +1,4 @@
-//! Which counts have changed.
+//! Counts of the interrupts that were raised, and which of them have changed.
 ghost use Rattle.std.specs.Prelude.{◌≡◌, ℕ, ◌+◌, ◌<◌, ◌≤◌, ◌^◌, ◌⊎◌, [], All, IfOk, replicate, length, slice_index, vec_capacity};
 ghost use Rattle.turn_cell.specs.Words.{times};
 
@@ -12,7 +12,7 @@ pub(crate) fn no_counts(alloc: Global, cpus: usize) -> Result<Vec<u64>, NoMemory
     Ok(Vec::from_elem(alloc, 0, cpus)?)
 }
 
-/// An empty list of positions, with room for one position a processor.
+/// An empty list of positions, with room for one of each processor.
 pub(crate) fn no_positions(alloc: Global, cpus: usize) -> Result<Vec<u32>, NoMemory>
     ensures { IfOk result (λ v. (v.items ≡ []) × (cpus ≤ vec_capacity v)) }
 {

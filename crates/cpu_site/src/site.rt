@@ -55,7 +55,7 @@ impl Model for Site {
         (s : GroupOf) × (a.turn.cell.subject ≡ Some s) × IsSite s a.turn.cpus };
 }
 
-/// A processor's position at a site. Contracts see what it has seen.
+/// A processor's seat at a site. Contracts see what it has seen.
 #[derive(Drop)]
 pub struct CpuSeat {
     seat: TurnSeat<Group>,

@@ -1,6 +1,7 @@
 -- What a value is read as: the members of an object go in one after another, each to its position by its key.
 use Rattle.std.specs.Prelude.{◌<◌, ◌^◌, List, ⊤}
-use Rattle.serde_json.specs.Data.{Data, null, boolean, number, string, array, object, Items, no_items, item, Members, no_members, member, put}
+use Rattle.serde_json.specs.Data.{Data, null, boolean, number, string, array, object, Items, no_items, item, Members, no_members, member}
+use Rattle.serde_json.specs.Data.{put}
 use Rattle.serde_json.specs.Data.{unsigned, negative, float}
 
 abbrev mutual

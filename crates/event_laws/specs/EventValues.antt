@@ -1,6 +1,7 @@
 -- Trace events as the members of their objects, in the order in which they are written. A tick is 1,000 microseconds.
 use Rattle.std.specs.Prelude.{ℕ, ◌-◌, ◌*◌, Bool, List, [], ◌∷◌, ◌++◌, map, Option, None, Some, codes}
-use Rattle.serde_json.specs.Data.{Data, null, boolean, number, string, array, object, Items, no_items, item, Members, no_members, member, unsigned}
+use Rattle.serde_json.specs.Data.{Data, null, boolean, number, string, array, object, Items, no_items, item, Members, no_members, member}
+use Rattle.serde_json.specs.Data.{unsigned}
 use Rattle.event_texts.specs.Records.{Piece}
 
 abbrev pub Field : Type 0

@@ -18,7 +18,8 @@ use Rattle.event_texts.specs.EventText.{group_name, process_of}
 use Rattle.event_texts.specs.JobInstants.{deadline_name}
 use Rattle.event_texts.specs.TaskSpans as texts
 use Rattle.event_texts.specs.TaskSpans.{kind, name, same_cell, sem_name}
-use Rattle.event_laws.specs.EventValues.{Field, count_fields, instant_fields, items_of, object_of, process_fields, span_fields, strings_of, thread_fields, whole}
+use Rattle.event_laws.specs.EventValues.{Field, count_fields, instant_fields, items_of, object_of, process_fields, span_fields}
+use Rattle.event_laws.specs.EventValues.{strings_of, thread_fields, whole}
 
 module _ (g : Group) where
   -- ---- tasks

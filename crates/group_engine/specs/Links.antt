@@ -20,5 +20,6 @@ StayLinked before after s s' = (c : ℕ) → IsUnmarked after c → IsUnmarked b
 
 -- of a cluster without a mark the links are as before the last entry
 abbrev pub AreMarked : Group → List Entry → Marks → Type 0
-AreMarked g entries marks = (es : List Entry) (e : Entry) → entries ≡ es ++ e ∷ [] → (c : ℕ) → has c (clusters g) ≡ true → IsUnmarked marks c
+AreMarked g entries marks = (es : List Entry) (e : Entry) → entries ≡ es ++ e ∷ [] → (c : ℕ) → has c (clusters g) ≡ true
+    → IsUnmarked marks c
     → links g c (past_of g entries) ≡ links g c (past_of g es)

@@ -29,7 +29,8 @@ pub record IsSound (g : Group) (entries : List Entry) (room capacity : ℕ) (s :
   pub steps : AreStepsOf g entries
 
 -- and this is the task whose job the last of the entries ended, with whether that was late, and these clusters alone were placed anew
-pub record IsEngine (g : Group) (entries : List Entry) (room capacity : ℕ) (s : GroupState) (ended : Option (TaskNo × Bool)) (placed : Marks) : Type 0 where
+pub record IsEngine (g : Group) (entries : List Entry) (room capacity : ℕ) (s : GroupState)
+    (ended : Option (TaskNo × Bool)) (placed : Marks) : Type 0 where
   pub sound : IsSound g entries room capacity s
   pub ended_is : ended ≡ ended_last g (past_of g entries)
   pub placed_are : AreMarked g entries placed

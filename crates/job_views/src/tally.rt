@@ -27,11 +27,11 @@ pub(crate) struct JobTally {
     ghost end_in_time: { IsLow end },
 }
 
-/// Whether a position is another processor than this.
-pub(crate) fn is_elsewhere(cpu: u32, position: Option<u32>) -> bool
-    ensures { result ≡ is_elsewhere cpu position }
+/// Whether this is a processor, and another one than that.
+pub(crate) fn is_elsewhere(cpu: u32, last_cpu: Option<u32>) -> bool
+    ensures { result ≡ is_elsewhere cpu last_cpu }
 {
-    match position {
+    match last_cpu {
         Some(other) => other != cpu,
         None => false,
     }
@@ -92,7 +92,7 @@ impl JobTally {
         self.preemptions += 1;
     }
 
-    /// The job asks for a semaphore, by the request in this position.
+    /// The job asks for a semaphore, by the request at this position.
     pub(crate) fn ask(&mut self, queued: bool, position: u32) -> Result<(), NoMemory>
         requires { self.old.queued ≤ MOST_STEPS }
         ensures { OnOk result

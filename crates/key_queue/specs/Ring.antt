@@ -1,5 +1,5 @@
--- A list of numbers below a room, kept as a ring: each position names the next and the previous one, and the room itself is the position before
--- the first and after the last.
+-- A list of numbers below a room, kept as a ring: each position names the next and the previous one, and the room itself is the position
+-- before the first and after the last.
 use Rattle.std.specs.Prelude.{◌≡◌, ℕ, zero, suc, ◌+◌, ◌<◌, true, ◌==◌, List, [], ◌∷◌, length, slice_index, if◌then◌else◌}
 use Rattle.rt_rules.specs.Distinct.{IsDistinct}
 use Rattle.rt_rules.specs.Numbers.{has}

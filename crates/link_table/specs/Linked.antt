@@ -1,5 +1,6 @@
 -- Links and runs of one cluster, and what an interrupt does.
-use Rattle.std.specs.Prelude.{◌≡◌, ◌↔◌, ℕ, ◌+◌, ◌-◌, ◌<◌, ◌≤◌, ◌==◌, Bool, true, false, not, ◌&&◌, List, [], ◌∷◌, Option, None, Some, is_some}
+use Rattle.std.specs.Prelude.{◌≡◌, ◌↔◌, ℕ, ◌+◌, ◌-◌, ◌<◌, ◌≤◌, ◌==◌, Bool, true, false, not, ◌&&◌, List, [], ◌∷◌, Option, None, Some}
+use Rattle.std.specs.Prelude.{is_some}
 use Rattle.std.specs.Prelude.{if◌then◌else◌, length, slice_set, replicate}
 use Rattle.rt_rules.specs.declared.history.Reply.{Reply}
 use Rattle.rt_rules.specs.declared.history.Reply.TheVariants.{Quiet, Deferred, Runs, Idles}

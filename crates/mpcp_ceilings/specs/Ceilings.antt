@@ -1,5 +1,6 @@
 -- MPCP's ceilings (Rajkumar, ICDCS 1990), told from two priority numbers of each semaphore.
-use Rattle.std.specs.Prelude.{◌≡◌, ℕ, ◌+◌, ◌-◌, ◌==◌, true, not, nat_lt, List, length, map, filter, Option, None, Some, if◌then◌else◌, slice_index_or, unwrap_or}
+use Rattle.std.specs.Prelude.{◌≡◌, ℕ, ◌+◌, ◌-◌, ◌==◌, true, not, nat_lt, List, length, map, filter, Option, None, Some, if◌then◌else◌}
+use Rattle.std.specs.Prelude.{slice_index_or, unwrap_or}
 use Rattle.rt_task.specs.declared.Parts.{Parts}
 use Rattle.rt_rules.specs.Numbers.{foremost, has}
 use Rattle.rt_model.specs.Group.{Group, home, no_task, sems, task, users}

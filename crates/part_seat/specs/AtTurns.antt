@@ -54,7 +54,8 @@ taken_claim c = record { from = c.from; claim = plain_claim c }
 abbrev pub claim_passed : Passed → Claim
 claim_passed c = record { sem = c.sem.0; no = c.no; task = c.task.0 }
 
--- it names a semaphore and a task of the set, and entry `no` of the semaphore's history, by the processor, passed the semaphore on to the task
+-- it names a semaphore and a task of the set, and entry `no` of the semaphore's history, by the processor, passed the semaphore on to
+-- the task
 pub record IsPassedAt (p : Parts) (q : ℕ) (seats : List Seat) (c : Passed) : Type 0 where
   pub sem_low : 1 ≤ c.sem.0
   pub sem_high : c.sem.0 ≤ length p.sems
@@ -97,7 +98,8 @@ pub record HasPlayed (a a' : PartOf) (r : PlayedStep) : Type 0 where
 
 -- ---- grants that are taken
 
--- the grant was not taken before: what was taken is known with who posted it, and of its poster and its semaphore its number is the greatest
+-- the grant was not taken before: what was taken is known with who posted it, and of its poster and its semaphore its number is the
+-- greatest
 pub record IsNext (books : Books) (past : PartPast) (k : TakenGrant) : Type 0 where
   pub taken : List TakenGrant
   pub took : claims (deeds past) ≡ claims_of taken

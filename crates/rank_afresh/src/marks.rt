@@ -42,7 +42,7 @@ pub(crate) fn mark_tasks(marks: &mut [bool], tasks: &[TaskNo])
     }
 }
 
-/// Marks the tasks that stand in these positions, and no others.
+/// Marks the tasks that these processors are linked to or run, and no others.
 pub(crate) fn mark_linked(marks: &mut [bool], positions: &[Option<TaskNo>])
     ensures { (t : ℕ) → t < length marks.old → slice_index_or marks.new t false
         ≡ has t (tasks_in (numbers_of_tasks positions.now)) }

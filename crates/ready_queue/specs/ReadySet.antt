@@ -1,5 +1,6 @@
 -- A set that holds just the tasks that pass, each with its key, as a heap keeps it: at each task's number its key, where it is in.
-use Rattle.std.specs.Prelude.{◌≡◌, ℕ, zero, suc, ◌<◌, Bool, true, ◌&&◌, List, [], ◌∷◌, length, take, Option, None, Some, if◌then◌else◌, slice_set}
+use Rattle.std.specs.Prelude.{◌≡◌, ℕ, zero, suc, ◌<◌, Bool, true, ◌&&◌, List, [], ◌∷◌, length, take, Option, None, Some, if◌then◌else◌}
+use Rattle.std.specs.Prelude.{slice_set}
 use Rattle.rt_rules.specs.declared.Key.{Key}
 use Rattle.rt_rules.specs.KeyOrder.{higher}
 use Rattle.rt_rules.specs.Distinct.{IsDistinct}

@@ -11,7 +11,8 @@ use Rattle.rt_model.specs.Outcomes.{past_act}
 use Rattle.rt_model.specs.Past.{Event, Clock, Acted, Past, now, did, is_work}
 use Rattle.rt_model.specs.Releases.{ready, release}
 use Rattle.rt_model.specs.Reservations.{any_ready, front, is_lost, last, left, refilled, spent}
-use Rattle.resv_core.specs.Served.{ServerState, IsFront, charged, gone, has_ready, is_here, last_of, left_of, opened_server, in_slot_by, readied}
+use Rattle.resv_core.specs.Served.{ServerState, IsFront, charged, gone, has_ready, is_here, last_of, left_of, opened_server, in_slot_by}
+use Rattle.resv_core.specs.Served.{readied}
 use Rattle.resv_core.specs.Served.{release_at, settled, ticked}
 
 -- each client whose readiness or release changed is told

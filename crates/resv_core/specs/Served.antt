@@ -1,6 +1,7 @@
 -- Reservations as they stand between the moves of a group, and what each call makes of them.
 use Rattle.std.specs.Prelude.{◌≡◌, ℕ, ◌+◌, ◌-◌, ◌*◌, ◌/◌, ◌%◌, ◌<◌, ◌≤◌, Bool, true, false, not, ◌&&◌, ◌==◌, nat_lt, nat_le, if◌then◌else◌}
-use Rattle.std.specs.Prelude.{List, [], ◌∷◌, length, map, replicate, Option, None, Some, is_some, option_map, slice_get, slice_index_or, slice_set}
+use Rattle.std.specs.Prelude.{List, [], ◌∷◌, length, map, replicate, Option, None, Some, is_some, option_map, slice_get, slice_index_or}
+use Rattle.std.specs.Prelude.{slice_set}
 use Rattle.std.specs.List.{list_any}
 use Rattle.rt_base.specs.declared.ResvNo.{ResvNo}
 use Rattle.rt_task.specs.declared.Cluster.{Cluster}

@@ -11,7 +11,8 @@ use Rattle.rt_model.specs.Reachable.{IsReachable}
 use Rattle.rt_model.specs.Outcomes.{past_act}
 use Rattle.rt_model.specs.Past.{Event, Clock, Acted, Past, now, did, is_work}
 use Rattle.rt_model.specs.Runs.{runs}
-use Rattle.resv_core.specs.Served.{Served, ServerState, IsResv, charged, is_here, left_of, opened, release_at, server, server_of, settled, ticked}
+use Rattle.resv_core.specs.Served.{Served, ServerState, IsResv, charged, is_here, left_of, opened, release_at, server, server_of, settled}
+use Rattle.resv_core.specs.Served.{ticked}
 use Rattle.resv_core.specs.Served.{with_each, with_server}
 use Rattle.resv_core.specs.Kept.{AreClientsOf, IsStateOf, ready_release, told_now}
 

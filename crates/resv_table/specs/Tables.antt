@@ -1,5 +1,6 @@
 -- The slots of a cluster, which come again in each cycle.
-use Rattle.std.specs.Prelude.{◌≡◌, ◌==◌, ℕ, suc, ◌+◌, ◌-◌, ◌%◌, ◌<◌, ◌≤◌, Bool, true, false, ◌&&◌, List, [], ◌∷◌, ◌++◌, length, map, Option, None, Some, option_map, slice_index_or, if◌then◌else◌}
+use Rattle.std.specs.Prelude.{◌≡◌, ◌==◌, ℕ, suc, ◌+◌, ◌-◌, ◌%◌, ◌<◌, ◌≤◌, Bool, true, false, ◌&&◌, List, [], ◌∷◌, ◌++◌, length, map}
+use Rattle.std.specs.Prelude.{Option, None, Some, option_map, slice_index_or, if◌then◌else◌}
 use Rattle.std.specs.List.{All, count_by, find, list_any}
 use Rattle.rt_base.specs.declared.TheConstants.{TICK_END}
 use Rattle.rt_task.specs.Validity.{IsValid}

@@ -1,7 +1,8 @@
 -- How often a job is blocked under the priority ceiling protocol (Sha, Rajkumar and Lehoczky, IEEE Transactions on Computers, 1990): by
 -- at most one outermost critical section of the tasks of lower base key. A critical section is known by its task and by the entry with
 -- which it began.
-use Rattle.std.specs.Prelude.{◌≡◌, ℕ, ◌+◌, ◌≤◌, ◌==◌, Bool, true, false, not, ◌&&◌, ◌||◌, [], ◌∷◌, Option, None, Some, if◌then◌else◌, is_none, map, filter, length}
+use Rattle.std.specs.Prelude.{◌≡◌, ℕ, ◌+◌, ◌≤◌, ◌==◌, Bool, true, false, not, ◌&&◌, ◌||◌, [], ◌∷◌, Option, None, Some, if◌then◌else◌}
+use Rattle.std.specs.Prelude.{is_none, map, filter, length}
 use Rattle.std.specs.List.{list_any}
 use Rattle.rt_task.specs.Validity.{IsValid}
 use Rattle.rt_rules.specs.Numbers.{has}
@@ -93,7 +94,8 @@ module _ (g : Group) where
 
   unfoldable pub sections_seen : ℕ → Past → ℕ
   sections_seen t [] = if stays_ready t [] && is_blocked_anew t [] then 1 else 0
-  sections_seen t (e ∷ past) = if stays_ready t (e ∷ past) then (if is_blocked_anew t (e ∷ past) then 1 else 0) + sections_seen t past else 0
+  sections_seen t (e ∷ past) =
+      if stays_ready t (e ∷ past) then (if is_blocked_anew t (e ∷ past) then 1 else 0) + sections_seen t past else 0
 
 -- At every moment at most one lower task is in a critical section with a semaphore whose ceiling a task is not above.
 abbrev pub OneReaches : Type 0
@@ -104,7 +106,8 @@ OneReaches =
 -- What blocks a job is such a critical section.
 abbrev pub BlockerReaches : Type 0
 BlockerReaches =
-    EveryPast (λ g past. (t u : ℕ) → has t (tasks g) ≡ true → stays_ready g t past ≡ true → blocks g t u past ≡ true → reaches g t u past ≡ true)
+    EveryPast (λ g past. (t u : ℕ) → has t (tasks g) ≡ true → stays_ready g t past ≡ true → blocks g t u past ≡ true
+        → reaches g t u past ≡ true)
 
 -- Where interrupts are taken before a Lock, each lower task that asks is linked.
 abbrev pub TakingIsPrompt : Type 0
@@ -114,7 +117,8 @@ TakingIsPrompt = EveryPast (λ g past. (t : ℕ) → takes_interrupts g past ≡
 -- semaphore when the stretch began, where each lower task that asks is linked.
 abbrev pub BlockedAtMost : Type 0
 BlockedAtMost =
-    EveryPast (λ g past. (t : ℕ) → has t (tasks g) ≡ true → is_prompt g t past ≡ true → sections_seen g t past ≤ 1 + waiting_at_first g t past)
+    EveryPast (λ g past. (t : ℕ) → has t (tasks g) ≡ true → is_prompt g t past ≡ true
+        → sections_seen g t past ≤ 1 + waiting_at_first g t past)
 
 -- So where none waited it is one section, with all that it blocks.
 abbrev pub BlockedOnce : Type 0

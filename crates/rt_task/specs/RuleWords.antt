@@ -1,6 +1,7 @@
 -- The words that the rules of a set are said in.
 use Rattle.std.specs.List.{list_any, list_all}
-use Rattle.std.specs.Prelude.{ℕ, ◌-◌, Bool, true, false, not, ◌&&◌, ◌||◌, ◌==◌, nat_lt, nat_le, max, List, [], ◌∷◌, length, map, sum_by, Option, None, Some}
+use Rattle.std.specs.Prelude.{ℕ, ◌-◌, Bool, true, false, not, ◌&&◌, ◌||◌, ◌==◌, nat_lt, nat_le, max, List, [], ◌∷◌, length, map, sum_by}
+use Rattle.std.specs.Prelude.{Option, None, Some}
 use Rattle.rt_base.specs.declared.SemNo.{SemNo}
 use Rattle.rt_base.specs.declared.TheConstants.{MOST_NAME_BYTES, MOST_OPERATIONS, MOST_PRIO, TICK_END}
 use Rattle.rt_task.specs.declared.Act.{Act}

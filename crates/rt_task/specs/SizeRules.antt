@@ -1,6 +1,7 @@
 -- The limits of a set.
 use Rattle.std.specs.Prelude.{◌*◌, Bool, ◌&&◌, nat_le, List, length}
-use Rattle.rt_base.specs.declared.TheConstants.{MOST_CLUSTERS, MOST_CPUS, MOST_OPERATIONS, MOST_RESVS, MOST_SEMS, MOST_STEPS, MOST_TASKS, MOST_TURN_STEPS}
+use Rattle.rt_base.specs.declared.TheConstants.{MOST_CLUSTERS, MOST_CPUS, MOST_OPERATIONS, MOST_RESVS, MOST_SEMS, MOST_STEPS, MOST_TASKS}
+use Rattle.rt_base.specs.declared.TheConstants.{MOST_TURN_STEPS}
 use Rattle.rt_task.specs.declared.draft.Draft.{Draft}
 use Rattle.rt_task.specs.declared.draft.DraftDrive.{DraftDrive}
 use Rattle.rt_task.specs.declared.draft.DraftDrive.TheVariants.{Steps, Horizon}

@@ -6,7 +6,8 @@ use Rattle.rt_task.specs.declared.Parts.{Parts}
 use Rattle.serde_json.specs.Data.{Data, string, object, Members, no_members, member}
 use Rattle.serde_json.specs.Written.{compact_text}
 use Rattle.set_canonical.specs.Words.{plugin_word}
-use Rattle.set_canonical.specs.Values.{natural_data, array_data, sem_names, resv_names, task_names, cluster_data, sem_data, resv_data, step_data, task_data}
+use Rattle.set_canonical.specs.Values.{natural_data, array_data, sem_names, resv_names, task_names, cluster_data, sem_data, resv_data}
+use Rattle.set_canonical.specs.Values.{step_data, task_data}
 
 -- of `horizon` and `steps` the one that is given
 abbrev pub shown_horizon : Drive → Members → Members

@@ -14,7 +14,8 @@ use Rattle.rt_task.specs.declared.draft.Draft.{Draft}
 use Rattle.rt_task.specs.Refusals.{bad, each}
 use Rattle.rt_task.specs.Answers.{accepted}
 use Rattle.rt_task.specs.Validity.{refusal}
-use Rattle.set_read.specs.Document.{Names, Play, steps, horizon, whole_of, names_of, has_horizon, tasks_from, cluster_form, semaphore_form, reservation_form, step_form}
+use Rattle.set_read.specs.Document.{Names, Play, steps, horizon, whole_of, names_of, has_horizon, tasks_from, cluster_form}
+use Rattle.set_read.specs.Document.{semaphore_form, reservation_form, step_form}
 
 infixl 10 ◌>>=◌
 abbrev pub ◌>>=◌ : {A B : Type 0} → Result A BadSet → (A → Result B BadSet) → Result B BadSet

@@ -17,7 +17,7 @@ pub(crate) struct CpuThread {
     pub(crate) is_over: bool,
 }
 
-/// The cpu_threads of these seats, which have given no turn as over, each with a seat of the clock.
+/// The threads of the processors of these seats, which have given no turn as over, each with a seat of the clock.
 pub(crate) fn cpu_threads_of(
     alloc: Global,
     site: &Site,
@@ -45,7 +45,7 @@ pub(crate) fn cpu_threads_of(
     Ok(cpu_threads)
 }
 
-/// The seats of the cpu_threads.
+/// The seats that the threads have.
 pub(crate) fn seats_of(alloc: Global, cpu_threads: Vec<CpuThread>) -> Result<Vec<CpuSeat>, NoMemory>
     ensures { IfOk result (λ v. v.items ≡ map (λ d. d.seat) cpu_threads.items) }
 {

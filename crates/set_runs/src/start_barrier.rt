@@ -8,7 +8,7 @@ const MOST_LOOKS: u32 = 20_000;
 /// More than the number of threads that can meet.
 const CALLED_OFF: u64 = 1 << 32;
 
-/// A point at which `all` threads meet. `there` counts those that have come; once the start_barrier is called off it is
+/// A point at which `all` threads meet. `there` counts those that have come; once the barrier is called off it is
 /// `CALLED_OFF`, which is far more.
 #[derive(Drop)]
 pub(crate) struct StartBarrier {
@@ -42,7 +42,7 @@ impl StartBarrier {
         false
     }
 
-    /// Calls the start_barrier off, where exactly `there` threads have come.
+    /// Calls the barrier off, where exactly `there` threads have come.
     fn calls_off(&self, there: u64) -> bool {
         self.there
             .compare_exchange(there, CALLED_OFF, Ordering::SeqCst, Ordering::SeqCst)

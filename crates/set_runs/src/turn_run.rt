@@ -31,7 +31,7 @@ fn driven<R: Wait, G: Gate>(
     cpu_thread
 }
 
-/// Plays the processors of all cpu_threads, each in a thread of its own. Where a thread cannot be started none plays.
+/// Plays all processors, each in a thread of its own. Where a thread cannot be started none plays.
 fn play_in_threads<R: Threads + Wait + Sync, G: Gate + Sync>(
     rt: &R,
     site: &Site,

@@ -61,11 +61,13 @@ pub record HasTakenAll (a a' : PartOf) (rest : List inbox.Claim) : Type 0 where
 
 -- each of the partitions can take what is left of its inbox
 abbrev pub CanTakeEach : List PartOf → List (List GrantOf) → Type 0
-CanTakeEach parts rests = (q : ℕ) (a : PartOf) (rest : List GrantOf) → slice_get parts q ≡ Some a → slice_get rests q ≡ Some rest → CanTake a (claims_in rest)
+CanTakeEach parts rests = (q : ℕ) (a : PartOf) (rest : List GrantOf) → slice_get parts q ≡ Some a
+    → slice_get rests q ≡ Some rest → CanTake a (claims_in rest)
 
 -- and the partition of processor q took it
 abbrev pub HasTakenAt : List PartOf → List (List GrantOf) → ℕ → PartOf → Type 0
-HasTakenAt parts rests q a' = (a : PartOf) (rest : List GrantOf) → slice_get parts q ≡ Some a → slice_get rests q ≡ Some rest → HasTakenAll a a' (claims_in rest)
+HasTakenAt parts rests q a' = (a : PartOf) (rest : List GrantOf) → slice_get parts q ≡ Some a → slice_get rests q ≡ Some rest
+    → HasTakenAll a a' (claims_in rest)
 
 pub record HaveTaken (parts : List PartOf) (rests : List (List GrantOf)) (parts' : List PartOf) : Type 0 where
   pub count : length parts' ≡ length parts

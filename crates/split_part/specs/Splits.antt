@@ -23,7 +23,8 @@ pub record IsSeatOf (x : SplitOf) (a : PartSeatView) : Type 0 where
 -- all seats of the run, by the number of the processor
 pub record AreSeatsOf (x : SplitOf) (views : List PartSeatView) : Type 0 where
   pub count : length views ≡ processor_count x.setup
-  pub each : (q : ℕ) (d : PartSeatView) → q < length views → IsSeatOf x (slice_index_or views q d) × ((slice_index_or views q d).part.cpu ≡ q)
+  pub each : (q : ℕ) (d : PartSeatView) → q < length views → IsSeatOf x (slice_index_or views q d)
+      × ((slice_index_or views q d).part.cpu ≡ q)
 
 -- the turns' names
 abbrev pub cells_in : List SemTurn → List (Cell SemOf)

@@ -14,9 +14,11 @@ use Rattle.trace_check.specs.declared.verdict.Verdict.TheVariants.{Valid, Invali
 -- a valid text is the one of its histories with all count lines, or the one without
 abbrev pub HasCounts : List Tool → Version → Parts → List ℕ → Verdict → Bool → Type 0
 HasCounts tools v p text (Valid entries) counted =
-    (is : IsValidText tools v p text entries) → text ≡ (if counted then counted_text v tools p is.histories else trace_text v p is.histories)
+    (is : IsValidText tools v p text entries) → text
+        ≡ (if counted then counted_text v tools p is.histories else trace_text v p is.histories)
 HasCounts tools v p text (Invalid line) counted = Unit {0}
 
 -- the same of the bytes that have this text behind a head with the canonical set
 abbrev pub IsCountedText : List Tool → Version → Parts → List ℕ → Verdict → Bool → Type 0
-IsCountedText tools v p text verdict counted = (bytes : List ℕ) → HasHead v bytes (canonical p) text → HasCounts tools v p bytes verdict counted
+IsCountedText tools v p text verdict counted = (bytes : List ℕ) → HasHead v bytes (canonical p) text
+    → HasCounts tools v p bytes verdict counted

@@ -13,7 +13,8 @@ pub record IsNextAt (steps : List Step) (from q j : ℕ) : Type 0 where
 pub record IsFollowing (steps : List Step) (j distance : ℕ) : Type 0 where
   pub behind : 0 < distance
   pub within : j + distance ≤ length steps
-  pub none_between : (d : Step) → let q = (slice_index_or steps j d).cpu.0 in script (take (j + distance) steps) q ≡ script (take (j + 1) steps) q
+  pub none_between : (d : Step) → let q = (slice_index_or steps j d).cpu.0 in script (take (j + distance) steps) q
+      ≡ script (take (j + 1) steps) q
 
 -- and so for each step
 pub record AreFollowing (steps : List Step) (following : List ℕ) : Type 0 where

@@ -1,5 +1,6 @@
 -- Which lines a trace of a set may have: their numbers fit the types of their fields, and their tasks and semaphores are the set's.
-use Rattle.std.specs.Prelude.{ℕ, ◌-◌, ◌^◌, ◌<◌, ◌≤◌, ◌==◌, ◌⊎◌, List, [], length, map, All, Option, None, Some, unwrap_or, slice_get, if◌then◌else◌}
+use Rattle.std.specs.Prelude.{ℕ, ◌-◌, ◌^◌, ◌<◌, ◌≤◌, ◌==◌, ◌⊎◌, List, [], length, map, All, Option, None, Some, unwrap_or, slice_get}
+use Rattle.std.specs.Prelude.{if◌then◌else◌}
 use Rattle.rt_base.specs.declared.TheConstants.{MOST_TOTALS}
 use Rattle.rt_task.specs.declared.Op.{Op}
 use Rattle.rt_task.specs.declared.Op.TheVariants as ops

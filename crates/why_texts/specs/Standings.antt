@@ -1,6 +1,7 @@
 -- How a job stands that is there: it sleeps, it waits for a semaphore, it is eligible, or its reservation or SRP keeps it back.
 use Rattle.std.specs.List.{concat}
-use Rattle.std.specs.Prelude.{ℕ, not, ◌&&◌, ◌==◌, Bool, true, false, List, [], ◌∷◌, ◌++◌, filter, Option, None, Some, codes, decimal, if◌then◌else◌}
+use Rattle.std.specs.Prelude.{ℕ, not, ◌&&◌, ◌==◌, Bool, true, false, List, [], ◌∷◌, ◌++◌, filter, Option, None, Some, codes, decimal}
+use Rattle.std.specs.Prelude.{if◌then◌else◌}
 use Rattle.rt_task.specs.declared.PluginKind.{PluginKind}
 use Rattle.rt_task.specs.declared.PluginKind.TheVariants.{PRes}
 use Rattle.rt_task.specs.declared.Protocol.{Protocol}

@@ -6,7 +6,8 @@ use Rattle.rt_task.specs.declared.ResvKind.TheVariants.{Polling, Sporadic}
 use Rattle.rt_rules.specs.declared.history.Reply.TheVariants.{Done, NoBudget, Quiet, Spent}
 use Rattle.rt_model.specs.worked.Computed.{computed}
 use Rattle.rt_model.specs.Group.{Group}
-use Rattle.rt_model.specs.worked.Samples.{Line, line, entries_of, IsTrace, group_of, in_group, cluster_with, client_of, periodic, reservation}
+use Rattle.rt_model.specs.worked.Samples.{Line, line, entries_of, IsTrace, group_of, in_group, cluster_with, client_of, periodic}
+use Rattle.rt_model.specs.worked.Samples.{reservation}
 use Rattle.rt_model.specs.worked.Samples.{arrive, end, in_cluster, irq, runs_task, sporadic, tick, to, with_phase, work}
 use Rattle.trace_views.specs.worked.Computed.{shown}
 use Rattle.chart_texts.specs.declared.window.Axis.TheVariants.{Entries, Ticks}

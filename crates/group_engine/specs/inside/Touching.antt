@@ -1,5 +1,6 @@
 -- Looking at tasks anew: their timers, whether their jobs are eligible and with which keys, and what their reservations are told.
-use Rattle.std.specs.Prelude.{◌≡◌, ℕ, ◌<◌, false, true, List, [], ◌∷◌, length, map, Option, None, Some, if◌then◌else◌, option_map, slice_index, slice_set}
+use Rattle.std.specs.Prelude.{◌≡◌, ℕ, ◌<◌, false, true, List, [], ◌∷◌, length, map, Option, None, Some, if◌then◌else◌, option_map}
+use Rattle.std.specs.Prelude.{slice_index, slice_set}
 use Rattle.rt_rules.specs.declared.Key.{Key}
 use Rattle.rt_task.specs.declared.Act.{Act}
 use Rattle.rt_task.specs.declared.Act.TheVariants as acts

@@ -1,5 +1,6 @@
 -- How a task's priority number is noted with the semaphores that it declares, for the private functions.
-use Rattle.std.specs.Prelude.{ℕ, ◌+◌, ◌<◌, ◌==◌, min, nat_lt, List, [], ◌∷◌, All, length, Option, None, Some, if◌then◌else◌, slice_index_or, slice_set}
+use Rattle.std.specs.Prelude.{ℕ, ◌+◌, ◌<◌, ◌==◌, min, nat_lt, List, [], ◌∷◌, All, length, Option, None, Some, if◌then◌else◌}
+use Rattle.std.specs.Prelude.{slice_index_or, slice_set}
 use Rattle.rt_base.specs.declared.ClusterNo.{ClusterNo}
 use Rattle.rt_base.specs.declared.SemNo.{SemNo}
 use Rattle.rt_task.specs.declared.Parts.{Parts}

@@ -10,7 +10,8 @@ use Rattle.rt_task.specs.declared.Step.{Step}
 use Rattle.rt_task.specs.declared.Task.{Task}
 use Rattle.rt_task.specs.Bodies.{nests, after_op, goes_on}
 use Rattle.rt_task.specs.Draft.{runs}
-use Rattle.rt_task.specs.Lookups.{cpus as total_cpus, group_of as group_in, cluster_with as cluster_in, is_stacked_sem, is_fmlp_sem, cluster_of_task}
+use Rattle.rt_task.specs.Lookups.{cpus as total_cpus, group_of as group_in, cluster_with as cluster_in, is_stacked_sem, is_fmlp_sem}
+use Rattle.rt_task.specs.Lookups.{cluster_of_task}
 use Rattle.rt_task.specs.Lookups.{cluster_of_resv}
 use Rattle.rt_task.specs.NameRules.{sem_name, resv_name, task_name, step_name}
 use Rattle.rt_task.specs.RangeRules.{whole_range, cluster_range, resv_range, task_range, step_range}
@@ -28,10 +29,12 @@ use Rattle.rt_model.specs.BaseKeys.{base_key}
 use Rattle.rt_model.specs.Holders.{holder, awaits}
 use Rattle.rt_model.specs.Jobs.{done}
 use Rattle.rt_model.specs.Reservations.{left}
-use Rattle.rt_model.specs.worked.Samples.{step_of, steps_of, group_of, cluster_with, sem_under, periodic, sporadic, in_cluster, using, with_prio}
+use Rattle.rt_model.specs.worked.Samples.{step_of, steps_of, group_of, cluster_with, sem_under, periodic, sporadic, in_cluster, using}
+use Rattle.rt_model.specs.worked.Samples.{with_prio}
 use Rattle.rt_model.specs.worked.Samples.{enforced, early, irq, arrive, lock, unlock, end, sleep, tick, reservation, table, slot, client_of}
 use Rattle.rt_model.specs.worked.Omlp.{omlp_bound_reached_lines}
-use Rattle.rt_laws.specs.BlockedOnce.{is_of_pcp, stays_ready, is_lower, is_inside, entered, reaches, is_linked, blocks, was_blocked, asks_linked, is_prompt}
+use Rattle.rt_laws.specs.BlockedOnce.{is_of_pcp, stays_ready, is_lower, is_inside, entered, reaches, is_linked, blocks, was_blocked}
+use Rattle.rt_laws.specs.BlockedOnce.{asks_linked, is_prompt}
 use Rattle.rt_laws.specs.BlockedOnce.{lower_waiting, waiting_at_first, is_blocked_anew, sections_seen}
 
 -- a proof that computes with the rules of a set says `unfolding rules_computed`

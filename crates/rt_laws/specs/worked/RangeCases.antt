@@ -14,7 +14,8 @@ use Rattle.rt_task.specs.declared.bad_set.SetKind.TheVariants as kinds
 use Rattle.rt_model.specs.worked.Samples.{cluster_with, reservation, slot, table, periodic, with_body, with_prio, with_phase, in_cluster}
 use Rattle.rt_model.specs.worked.Samples.{step_of, tick, sleep}
 use Rattle.rt_laws.specs.worked.EdgeCases.{rules_computed}
-use Rattle.rt_laws.specs.worked.RuleCases.{refusals, valid, refused, called, set_of, with_horizon, with_steps, with_second, with_second_resv}
+use Rattle.rt_laws.specs.worked.RuleCases.{refusals, valid, refused, called, set_of, with_horizon, with_steps, with_second}
+use Rattle.rt_laws.specs.worked.RuleCases.{with_second_resv}
 use Rattle.rt_laws.specs.worked.RuleCases.{in_clusters}
 
 -- the last number of a duration or a tick, and the first beyond

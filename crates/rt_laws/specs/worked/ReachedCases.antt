@@ -10,7 +10,8 @@ use Rattle.rt_model.specs.worked.Computed.{computed}
 use Rattle.rt_model.specs.Group.{Group, home}
 use Rattle.rt_model.specs.Histories.{past_by}
 use Rattle.rt_model.specs.Holders.{holder}
-use Rattle.rt_model.specs.worked.Samples.{step_of, steps_of, group_of, cluster_with, periodic, sporadic, in_cluster, with_prio, using, irq, lock, unlock}
+use Rattle.rt_model.specs.worked.Samples.{step_of, steps_of, group_of, cluster_with, periodic, sporadic, in_cluster, with_prio, using}
+use Rattle.rt_model.specs.worked.Samples.{irq, lock, unlock}
 use Rattle.rt_model.specs.worked.Mpcp.{mpcp_by_key_lines}
 use Rattle.rt_laws.specs.BoostedHolders.{is_linked}
 use Rattle.rt_laws.specs.worked.EdgeCases.{named, omlp_reached, omlp_reached_steps, rules_computed, shared}

@@ -10,7 +10,8 @@ use Rattle.rt_task.specs.declared.bad_set.SetKind.TheVariants as kinds
 use Rattle.rt_model.specs.worked.Samples.{cluster_with, sem_under, reservation, slot, periodic, sporadic, with_body}
 use Rattle.rt_model.specs.worked.Samples.{step_of, arrive, tick}
 use Rattle.rt_laws.specs.worked.EdgeCases.{rules_computed}
-use Rattle.rt_laws.specs.worked.RuleCases.{refusals, valid, refused, called, sem_called, resv_called, set_of, with_horizon, with_steps, with_second}
+use Rattle.rt_laws.specs.worked.RuleCases.{refusals, valid, refused, called, sem_called, resv_called, set_of, with_horizon, with_steps}
+use Rattle.rt_laws.specs.worked.RuleCases.{with_second}
 use Rattle.rt_laws.specs.worked.RuleCases.{with_second_resv}
 
 -- ---- slots stand with tables alone

@@ -11,7 +11,8 @@ use Rattle.rt_task.specs.declared.bad_set.SetKind.TheVariants as kinds
 use Rattle.rt_task.specs.Draft.{draft_of}
 use Rattle.rt_task.specs.RuleWords.{stands_under}
 use Rattle.rt_task.specs.SharingRules.{resv_fits, stands_apart}
-use Rattle.rt_model.specs.worked.Samples.{cluster_with, sem_under, resv_no, reservation, slot, table, periodic, sporadic, early, using, client_of}
+use Rattle.rt_model.specs.worked.Samples.{cluster_with, sem_under, resv_no, reservation, slot, table, periodic, sporadic, early, using}
+use Rattle.rt_model.specs.worked.Samples.{client_of}
 use Rattle.rt_model.specs.worked.Samples.{in_cluster, step_of, arrive}
 use Rattle.rt_laws.specs.worked.EdgeCases.{rules_computed}
 use Rattle.rt_laws.specs.worked.RuleCases.{refusals, valid, refused, called, sem_called, resv_called, set_of, with_steps, with_second}

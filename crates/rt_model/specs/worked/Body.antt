@@ -14,7 +14,8 @@ use Rattle.rt_model.specs.Group.{Group}
 use Rattle.rt_model.specs.Histories.{after, past_by}
 use Rattle.rt_model.specs.Past.{Past}
 use Rattle.rt_model.specs.worked.Samples.{Line, line, steps_of, IsTrace, step_of, group_of, cluster_with, sem_under, reservation, sem_no}
-use Rattle.rt_model.specs.worked.Samples.{periodic, using, client_of, with_body, tick, irq, work, lock, unlock, np_on, np_off, end, runs_task, to}
+use Rattle.rt_model.specs.worked.Samples.{periodic, using, client_of, with_body, tick, irq, work, lock, unlock, np_on, np_off, end}
+use Rattle.rt_model.specs.worked.Samples.{runs_task, to}
 use Rattle.rt_model.specs.Situations.{situation, next_act}
 
 -- the next act before the first step, and after each

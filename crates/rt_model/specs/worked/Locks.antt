@@ -3,11 +3,13 @@ use Rattle.std.specs.Prelude.{◌≡◌, List, [], ◌∷◌, None, Some, refl}
 use Rattle.rt_task.specs.declared.PluginKind.TheVariants as plugins
 use Rattle.rt_task.specs.declared.Protocol.{Protocol}
 use Rattle.rt_task.specs.declared.Protocol.TheVariants.{Fmlp, Omlp}
-use Rattle.rt_rules.specs.declared.history.Reply.TheVariants.{Done, Granted, Queued, Quiet, Idle, NotDeclared, Nested, NotHeld, Holding, InNp}
+use Rattle.rt_rules.specs.declared.history.Reply.TheVariants.{Done, Granted, Queued, Quiet, Idle, NotDeclared, Nested, NotHeld, Holding}
+use Rattle.rt_rules.specs.declared.history.Reply.TheVariants.{InNp}
 use Rattle.rt_model.specs.worked.Computed.{computed}
 use Rattle.rt_model.specs.Group.{Group}
 use Rattle.rt_model.specs.Histories.{past_by}
-use Rattle.rt_model.specs.worked.Samples.{Line, line, steps_of, IsTrace, group_of, cluster_with, sem_under, periodic, sporadic, using, enforced}
+use Rattle.rt_model.specs.worked.Samples.{Line, line, steps_of, IsTrace, group_of, cluster_with, sem_under, periodic, sporadic, using}
+use Rattle.rt_model.specs.worked.Samples.{enforced}
 use Rattle.rt_model.specs.worked.Samples.{irq, arrive, work, lock, unlock, sleep, np_on, np_off, end, runs_task, to, block, blocks}
 
 -- a semaphore that the task does not declare, whether the job holds another or not

@@ -7,7 +7,8 @@ use Rattle.rt_model.specs.worked.Computed.{computed}
 use Rattle.rt_model.specs.Group.{Group}
 use Rattle.rt_model.specs.Histories.{past_by}
 use Rattle.rt_model.specs.Blockers.{blocker_among}
-use Rattle.rt_model.specs.worked.Samples.{Line, line, steps_of, IsTrace, group_of, cluster_with, sem_under, periodic, sporadic, with_prio, using}
+use Rattle.rt_model.specs.worked.Samples.{Line, line, steps_of, IsTrace, group_of, cluster_with, sem_under, periodic, sporadic, with_prio}
+use Rattle.rt_model.specs.worked.Samples.{using}
 use Rattle.rt_model.specs.worked.Samples.{irq, arrive, lock, unlock, end, runs_task, to, block, blocks, held_by}
 
 -- PCP: task 1 is refused a free semaphore by the ceiling of another; unlocks are last in, first out

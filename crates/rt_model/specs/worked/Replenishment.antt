@@ -6,7 +6,8 @@ use Rattle.rt_rules.specs.declared.history.Reply.TheVariants.{Done, Idles}
 use Rattle.rt_model.specs.worked.Computed.{computed}
 use Rattle.rt_model.specs.Group.{Group}
 use Rattle.rt_model.specs.Histories.{past_by}
-use Rattle.rt_model.specs.worked.Samples.{Line, line, step_of, IsTrace, group_of, cluster_with, reservation, sporadic, client_of, tick, irq, arrive, work}
+use Rattle.rt_model.specs.worked.Samples.{Line, line, step_of, IsTrace, group_of, cluster_with, reservation, sporadic, client_of, tick}
+use Rattle.rt_model.specs.worked.Samples.{irq, arrive, work}
 use Rattle.rt_model.specs.worked.Samples.{end, runs_task, to, budget_of}
 
 -- the budget that a new period brings is lost at once, before the job arrives

@@ -6,7 +6,8 @@ use Rattle.rt_rules.specs.declared.history.Reply.TheVariants.{Done, Idles, Spent
 use Rattle.rt_model.specs.worked.Computed.{computed}
 use Rattle.rt_model.specs.Group.{Group}
 use Rattle.rt_model.specs.Histories.{past_by}
-use Rattle.rt_model.specs.worked.Samples.{Line, line, steps_of, IsTrace, group_of, cluster_with, reservation, periodic, sporadic, with_phase}
+use Rattle.rt_model.specs.worked.Samples.{Line, line, steps_of, IsTrace, group_of, cluster_with, reservation, periodic, sporadic}
+use Rattle.rt_model.specs.worked.Samples.{with_phase}
 use Rattle.rt_model.specs.worked.Samples.{client_of, early, tick, irq, arrive, work, end, runs_task, to, budget_of}
 
 -- a sporadic reservation is replenished a period after the last time

@@ -5,7 +5,8 @@ use Rattle.rt_rules.specs.declared.history.Reply.TheVariants.{Done, Idles, NoBud
 use Rattle.rt_model.specs.worked.Computed.{computed}
 use Rattle.rt_model.specs.Group.{Group}
 use Rattle.rt_model.specs.Histories.{past_by}
-use Rattle.rt_model.specs.worked.Samples.{Line, line, steps_of, IsTrace, group_of, cluster_with, table, slot, periodic, client_of, tick, irq, work}
+use Rattle.rt_model.specs.worked.Samples.{Line, line, steps_of, IsTrace, group_of, cluster_with, table, slot, periodic, client_of, tick}
+use Rattle.rt_model.specs.worked.Samples.{irq, work}
 use Rattle.rt_model.specs.worked.Samples.{runs_task, to, budget_of, budget_at}
 
 -- each reservation is served in its slots, whatever its clients work, and not outside of them

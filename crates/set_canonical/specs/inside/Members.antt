@@ -11,7 +11,8 @@ use Rattle.rt_task.specs.declared.Sem.{Sem}
 use Rattle.rt_task.specs.declared.Task.{Task}
 use Rattle.json.specs.Print.{quoted}
 use Rattle.serde_json.specs.Written.{compact_text}
-use Rattle.set_canonical.specs.Values.{array_data, sem_names, resv_names, task_names, cluster_data, sem_data, slot_data, resv_data, step_data, task_data}
+use Rattle.set_canonical.specs.Values.{array_data, sem_names, resv_names, task_names, cluster_data, sem_data, slot_data, resv_data}
+use Rattle.set_canonical.specs.Values.{step_data, task_data}
 use Rattle.set_canonical.specs.Words.{plugin_word}
 
 abbrev pub early_text : Bool → List ℕ

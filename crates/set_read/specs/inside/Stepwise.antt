@@ -8,7 +8,8 @@ use Rattle.rt_task.specs.declared.bad_set.Part.TheVariants as parts
 use Rattle.serde_json.specs.Data.{Data}
 use Rattle.rt_task.specs.declared.draft.Draft.{Draft}
 use Rattle.rt_task.specs.Refusals.{bad}
-use Rattle.set_read.specs.Document.{Names, Whole, Play, steps, horizon, whole_of, names_of, has_horizon, tasks_from, cluster_form, semaphore_form, reservation_form, step_form}
+use Rattle.set_read.specs.Document.{Names, Whole, Play, steps, horizon, whole_of, names_of, has_horizon, tasks_from, cluster_form}
+use Rattle.set_read.specs.Document.{semaphore_form, reservation_form, step_form}
 use Rattle.set_read.specs.inside.Elements.{elements_from}
 use Rattle.set_read.specs.Sets.{◌>>=◌, or_refused}
 

@@ -51,7 +51,8 @@ with_steps ms js = json.object (before ms (json.member (codes "steps") (json.arr
 abbrev pub with_no_steps : json.Members → json.Json
 with_no_steps ms = with_steps ms json.no_items
 
--- From the first token these members were read, and the steps are next: with whatever steps these are, and nothing after them, the value is known.
+-- From the first token these members were read, and the steps are next: with whatever steps these are, and nothing after them, the value
+-- is known.
 abbrev pub LeavesSteps : List Token → json.Members → List Token → Type 0
 LeavesSteps first ms now =
     (js : json.Items) (rest after : List Token) → json.items (json.value item_depth) (length now) now ≡ Some (js, rest)

@@ -3,7 +3,8 @@ use Rattle.std.specs.BTreeMap.{insert_entry}
 use Rattle.std.specs.BTreeMap.Range.{entries_between}
 use Rattle.std.specs.List.{list_all}
 use Rattle.std.specs.Ordering.{nat_cmp}
-use Rattle.std.specs.Prelude.{ℕ, ◌+◌, ◌*◌, ◌<◌, ◌≤◌, Bool, true, false, not, ◌&&◌, ◌||◌, ◌≡◌, ◌==◌, nat_eq, nat_lt, nat_le, List, [], ◌∷◌, fold, Option, None, Some}
+use Rattle.std.specs.Prelude.{ℕ, ◌+◌, ◌*◌, ◌<◌, ◌≤◌, Bool, true, false, not, ◌&&◌, ◌||◌, ◌≡◌, ◌==◌, nat_eq, nat_lt, nat_le, List, [], ◌∷◌}
+use Rattle.std.specs.Prelude.{fold, Option, None, Some}
 use Rattle.std.specs.declared.ops.Bound.TheVariants.{Excluded, Unbounded}
 use Rattle.rt_task.specs.declared.ResvKind.{ResvKind}
 use Rattle.rt_task.specs.declared.ResvKind.TheVariants.{Table}
@@ -86,4 +87,5 @@ turns_with cluster cycle q = not (q.cluster == cluster) || same_cycle (cycle_of 
 pub record Knows (t : Tables) (earlier : List DraftResv) : Type 0 where
   pub cycles : (c : ℕ) (cycle : Option ℕ) → allows (get nat_eq t.cycles c) cycle ≡ list_all (turns_with c cycle) earlier
   pub in_order : IsApart 0 t.taken.entries
-  pub slots : (c : ℕ) (a : Slot) → a.to < 18446744073709551616 → stands_apart t.taken.entries (placed c a) ≡ list_all (stands_off c a) earlier
+  pub slots : (c : ℕ) (a : Slot) → a.to < 18446744073709551616
+      → stands_apart t.taken.entries (placed c a) ≡ list_all (stands_off c a) earlier

@@ -8,8 +8,8 @@ use Rattle.cpu_site.specs.Seats.{group_at, About, CpuSeatView}
 use Rattle.set_runs.specs.declared.cpu_thread.CpuThread.{CpuThread}
 use Rattle.set_runs.specs.Lists.{AreEach}
 
--- the cpu_thread of processor q: its seats are those of the site and of the clock, it has passed each turn that it gave as over, and where it
--- is known to be over no step of it is left
+-- the thread of processor q: its seats are those of the site and of the clock, it has passed each turn that it gave as over, and
+-- where it is known to be over no step of it is left
 pub record IsAtWork (cell : Cell GroupOf) (clock : Clock) (q : ℕ) (d : CpuThread) : Type 0 where
   pub cell_is : d.seat.cell ≡ cell
   pub clock_is : d.turns.clock ≡ clock
@@ -17,7 +17,7 @@ pub record IsAtWork (cell : Cell GroupOf) (clock : Clock) (q : ℕ) (d : CpuThre
   pub passes : d.turns.passes ≡ d.seat.turns
   pub over : d.is_over ≡ true → About cell (λ s. IsOver (group_at s) q d.seat.seen)
 
--- the cpu_threads of the processors of these seats, in order
+-- the threads of the processors of these seats, in order
 abbrev pub AreAtWork : Cell GroupOf → Clock → List CpuSeatView → List CpuThread → Type 0
 AreAtWork cell clock seats ds = AreEach (λ (p : CpuSeatView) (d : CpuThread). IsAtWork cell clock p.cpu d) seats ds
 

@@ -6,7 +6,8 @@ use Rattle.rt_task.specs.declared.PluginKind.TheVariants as plugins
 use Rattle.rt_task.specs.declared.Protocol.TheVariants.{Fmlp, Mpcp}
 use Rattle.rt_rules.specs.declared.history.Reply.TheVariants as replies
 use Rattle.rt_model.specs.Group.{Group}
-use Rattle.rt_model.specs.worked.Samples.{group_of, cluster_with, sem_under, task_with, in_group, tick, irq, work, lock, unlock, end, runs_task}
+use Rattle.rt_model.specs.worked.Samples.{group_of, cluster_with, sem_under, task_with, in_group, tick, irq, work, lock, unlock, end}
+use Rattle.rt_model.specs.worked.Samples.{runs_task}
 use Rattle.split_rules.specs.worked.Computed.{computed_splits}
 use Rattle.split_rules.specs.SemHistories.{IsLegalSem}
 use Rattle.split_rules.specs.worked.Samples.{asks, frees, plain, take, books_of, IsPartPlay}

@@ -20,7 +20,8 @@ lines_so_far g es = opening_line g ∷ entry_lines g 0 [] es
 
 -- the line of an entry that comes after others
 abbrev pub next_line : Group → List Entry → Entry → Line
-next_line g es e = entry_line (length es) e (links_at g (after g e.step (past_of g es)) (changed g (past_of g es) (after g e.step (past_of g es))))
+next_line g es e =
+    entry_line (length es) e (links_at g (after g e.step (past_of g es)) (changed g (past_of g es) (after g e.step (past_of g es))))
 
 -- those of the groups from a number on, each with its history, and with a line for each request of it
 abbrev pub lines_of_groups : Parts → ℕ → List (List Entry) → List Line

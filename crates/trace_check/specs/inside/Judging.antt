@@ -17,7 +17,8 @@ IsJudgedText tools v p text verdict = (bytes : List ℕ) → HasHead v bytes (ca
 
 -- and then a bus stands so
 abbrev pub IsShownText : List Tool → Version → Parts → List ℕ → List Counter → Verdict → Type 0
-IsShownText tools v p text counters verdict = (bytes : List ℕ) → HasHead v bytes (canonical p) text → HasShown tools v p bytes counters verdict
+IsShownText tools v p text counters verdict = (bytes : List ℕ) → HasHead v bytes (canonical p) text
+    → HasShown tools v p bytes counters verdict
 
 -- the verdict is right of the text, whatever tools count
 abbrev pub IsJudged : Version → Parts → List ℕ → Verdict → Type 0

@@ -61,13 +61,15 @@ IsFollowedTo v p text n opened counters (Whole r) = AreRight v p text (n + 1) r 
 IsFollowedTo v p text n opened counters (Wrong position) = IsJudged v p text (Invalid (position + 3))
 
 -- so much of the text is the lines of whole groups and of the entries of group n that were followed, which were shown too
-pub record IsRight (v : Version) (p : Parts) (text : List ℕ) (n : ℕ) (from : Progress) (size : ℕ) (f : Follow) (opened was counters : List Counter) : Type 0 where
+pub record IsRight (v : Version) (p : Parts) (text : List ℕ) (n : ℕ) (from : Progress) (size : ℕ) (f : Follow)
+    (opened was counters : List Counter) : Type 0 where
   pub before : AreRight v p text n from opened was
   pub entries : List Entry
   pub shown : counters ≡ counters_after (shown_entries (group_with p n) 0 [] entries) was
   pub following : IsFollowing (group_with p n) entries f
   pub within : size ≤ length text
-  pub text_is : text ≡ flat_map (line_text (known_of v p)) (lines_of_groups p 0 before.histories ++ lines_so_far (group_with p n) entries) ++ drop size text
+  pub text_is : text ≡ flat_map (line_text (known_of v p)) (lines_of_groups p 0 before.histories
+      ++ lines_so_far (group_with p n) entries) ++ drop size text
   pub position_is : from.lines + 1 + f.count ≡ length (lines_of_groups p 0 before.histories ++ lines_so_far (group_with p n) entries)
 
 -- what comes of following the entry lines of group n

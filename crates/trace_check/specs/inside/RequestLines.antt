@@ -16,4 +16,5 @@ pub record HaveStood (k : Known) (wanted : List Line) (text : List ℕ) (s : Sto
   pub low : s.count ≤ length wanted
   pub within : s.length ≤ length text
   pub text_is : text ≡ flat_map (line_text k) (take s.count wanted) ++ drop s.length text
-  pub other : (d : Line) (more : List ℕ) → s.count < length wanted → drop s.length text ≡ line_text k (slice_index_or wanted s.count d) ++ more → ⊥
+  pub other : (d : Line) (more : List ℕ) → s.count < length wanted
+      → drop s.length text ≡ line_text k (slice_index_or wanted s.count d) ++ more → ⊥

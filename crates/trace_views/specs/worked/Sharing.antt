@@ -8,7 +8,8 @@ use Rattle.rt_model.specs.Group.{Group}
 use Rattle.rt_model.specs.Histories.{past_of}
 use Rattle.rt_model.specs.Past.{Past}
 use Rattle.rt_model.specs.worked.Samples.{Line, line, entries_of, IsTrace, group_of, cluster_with, periodic, sporadic, sem_under}
-use Rattle.rt_model.specs.worked.Samples.{arrive, end, in_cluster, irq, lock, runs_task, tick, to, unlock, using, with_phase, with_prio, work}
+use Rattle.rt_model.specs.worked.Samples.{arrive, end, in_cluster, irq, lock, runs_task, tick, to, unlock, using, with_phase, with_prio}
+use Rattle.rt_model.specs.worked.Samples.{work}
 use Rattle.trace_views.specs.worked.Computed.{shown}
 use Rattle.trace_views.specs.JobTimes as times
 use Rattle.trace_views.specs.JobRows.{job_rows}

@@ -5,7 +5,8 @@ use Rattle.rt_task.specs.declared.PluginKind.TheVariants as plugins
 use Rattle.rt_rules.specs.declared.history.Reply.TheVariants.{Deferred, Done, NotInNp, Quiet}
 use Rattle.rt_model.specs.worked.Computed.{computed}
 use Rattle.rt_model.specs.Group.{Group}
-use Rattle.rt_model.specs.worked.Samples.{IsTrace, Line, cluster_with, end, entries_of, group_of, irq, line, np_off, np_on, periodic, runs_task, to}
+use Rattle.rt_model.specs.worked.Samples.{IsTrace, Line, cluster_with, end, entries_of, group_of, irq, line, np_off, np_on, periodic}
+use Rattle.rt_model.specs.worked.Samples.{runs_task, to}
 use Rattle.rt_model.specs.worked.Samples.{with_phase, work}
 use Rattle.chart_texts.specs.Named.{named, then}
 use Rattle.chart_texts.specs.worked.Jobs.{eager, eager_lines}

@@ -8,7 +8,8 @@ use Rattle.rt_rules.specs.declared.history.Reply.TheVariants.{Done, Granted, Que
 use Rattle.rt_model.specs.worked.Computed.{computed}
 use Rattle.rt_model.specs.Group.{Group}
 use Rattle.rt_model.specs.Histories.{past_by}
-use Rattle.rt_model.specs.worked.Samples.{IsTrace, Line, cluster_with, entries_of, group_of, irq, line, lock, periodic, runs_task, sem_under}
+use Rattle.rt_model.specs.worked.Samples.{IsTrace, Line, cluster_with, entries_of, group_of, irq, line, lock, periodic, runs_task}
+use Rattle.rt_model.specs.worked.Samples.{sem_under}
 use Rattle.rt_model.specs.worked.Samples.{sleep, steps_of, tick, to, using, with_phase}
 use Rattle.chart_texts.specs.Named.{named, named_sem, then}
 use Rattle.chart_texts.specs.worked.Groups.{served, served_lines}
