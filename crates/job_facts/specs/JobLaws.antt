@@ -42,5 +42,5 @@ pub record RowsAreKept : Type 0 where
 pub record SumsAreKept : Type 0 where
   pub read : (g : Group) (t : ℕ) (past : Past)
       → task_row g past t ≡ task_row_from (task g t) (arrivals t past) (tallies g past) (now past) t (done t past)
-          (sums_of (rows_of g t past))
+      (sums_of (rows_of g t past))
   pub added_up : (rows : List JobRow) (r : JobRow) → sums_of (rows ++ r ∷ []) ≡ added r (sums_of rows)

@@ -107,7 +107,7 @@ OneReaches =
 abbrev pub BlockerReaches : Type 0
 BlockerReaches =
     EveryPast (λ g past. (t u : ℕ) → has t (tasks g) ≡ true → stays_ready g t past ≡ true → blocks g t u past ≡ true
-        → reaches g t u past ≡ true)
+    → reaches g t u past ≡ true)
 
 -- Where interrupts are taken before a Lock, each lower task that asks is linked.
 abbrev pub TakingIsPrompt : Type 0
@@ -118,7 +118,7 @@ TakingIsPrompt = EveryPast (λ g past. (t : ℕ) → takes_interrupts g past ≡
 abbrev pub BlockedAtMost : Type 0
 BlockedAtMost =
     EveryPast (λ g past. (t : ℕ) → has t (tasks g) ≡ true → is_prompt g t past ≡ true
-        → sections_seen g t past ≤ 1 + waiting_at_first g t past)
+    → sections_seen g t past ≤ 1 + waiting_at_first g t past)
 
 -- So where none waited it is one section, with all that it blocks.
 abbrev pub BlockedOnce : Type 0

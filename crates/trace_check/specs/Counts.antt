@@ -15,7 +15,7 @@ use Rattle.trace_check.specs.declared.verdict.Verdict.TheVariants.{Valid, Invali
 abbrev pub HasCounts : List Tool → Version → Parts → List ℕ → Verdict → Bool → Type 0
 HasCounts tools v p text (Valid entries) counted =
     (is : IsValidText tools v p text entries) → text
-        ≡ (if counted then counted_text v tools p is.histories else trace_text v p is.histories)
+    ≡ (if counted then counted_text v tools p is.histories else trace_text v p is.histories)
 HasCounts tools v p text (Invalid line) counted = Unit {0}
 
 -- the same of the bytes that have this text behind a head with the canonical set
