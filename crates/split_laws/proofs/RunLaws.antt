@@ -132,7 +132,7 @@ taken-right p st sound q x a =
     let posted : Among x.claim (st.posted x.from q) = subst (Among x.claim) (sym b.1) (among-left x.claim (by_poster x.from (st.taken q)) b.0 (taken-poster x (st.taken q) a)) in
     let w = given-at (part_group p x.from) x.from q x.claim.sem 0 x.claim (st.books x.claim.sem)
     (subst (Among x.claim) (sound.posted x.from q x.claim.sem) (among-sem x.claim (st.posted x.from q) posted)) in
-    let same : w.phase ≡ x.claim.no = (let z = w.number in omega arith) in
+    let same : w.position ≡ x.claim.no = (let z = w.number in omega arith) in
     subst (λ (n : ℕ). cpu_at (st.books x.claim.sem) n ≡ Some x.from) same w.cpu
 
 -- the next grant of a processor's, which is taken
@@ -142,8 +142,8 @@ module _ (p : Parts) (st st' : SplitState) (sound : IsSound p st) (q from : ℕ)
       (subst (Among k) (sound.posted from q k.sem) (among-sem k (st.posted from q)
       (subst (Among k) (sym step.next) (among-right k (by_poster from (st.taken q)) (k ∷ rest) (inl refl)))))
 
-  taking_phase : taking_given.phase ≡ k.no
-  taking_phase = let z = taking_given.number in omega arith
+  taking_position : taking_given.position ≡ k.no
+  taking_position = let z = taking_given.number in omega arith
 
   taking_above : (x : TakenGrant) → Among x (st.taken q) → x.from ≡ from → x.claim.sem ≡ k.sem → x.claim.no < k.no
   taking_above x a f s =
@@ -161,11 +161,11 @@ module _ (p : Parts) (st st' : SplitState) (sound : IsSound p st) (q from : ℕ)
   taking_home = same-seat p (group_no p q) (group_no p from) k.task ∙ taking_given.home
 
   taking_there : granted_at (st.books k.sem) k.no ≡ Some k.task
-  taking_there = subst (λ (n : ℕ). granted_at (st.books k.sem) n ≡ Some k.task) taking_phase taking_given.there
+  taking_there = subst (λ (n : ℕ). granted_at (st.books k.sem) n ≡ Some k.task) taking_position taking_given.there
 
   taking_fresh : has k.no (taken_at k.task k.sem (claims (deeds (past_at p st q)))) ≡ false
   taking_fresh = fresh st.books (st.taken q) (claims (deeds (past_at p st q))) from k (sound.claims_are q) (taken-right p st sound q)
-      (subst (λ (n : ℕ). cpu_at (st.books k.sem) n ≡ Some from) taking_phase taking_given.cpu) taking_above
+      (subst (λ (n : ℕ). cpu_at (st.books k.sem) n ≡ Some from) taking_position taking_given.cpu) taking_above
 
   taking_waits : awaiting k.task (past_at p st q) ≡ Some k.sem
   taking_waits = taker_waits (part_group p q) q st.books (past_at p st q) (sound.part q).known (sound.seen q) k taking_home taking_there taking_fresh
