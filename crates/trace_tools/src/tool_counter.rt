@@ -54,19 +54,16 @@ impl<T: TraceTool> ToolCounter<T> {
         self.tool = None;
     }
 
-    fn pass_on(&mut self, e: &Shown)
-        ensures { counter T.tool self.new ≡ fed_counter e.now (counter T.tool self.old) }
-    {
-        if let Some(tool) = &mut self.tool {
-            tool.feed(e);
-        }
-    }
-
     pub fn feed(&mut self, e: &Shown)
         ensures { counter T.tool self.new ≡ counter_after e.now (counter T.tool self.old) }
     {
-        self.pass_on(e);
-        self.close_ended();
+        let Some(tool) = &mut self.tool else {
+            return;
+        };
+        tool.feed(e);
+        if tool.ended() {
+            self.close();
+        }
     }
 
     pub fn line(&self, alloc: Global) -> Result<Vec<u8>, NoMemory>

@@ -4,4 +4,4 @@ use Rattle.job_facts.specs.Rows.{ends_all_in}
 use Rattle.job_views.proofs.ends.ends_all_in.Given as goal
 
 abbrev pub invariant-loop-position : goal.invariant-loop-position
-invariant-loop-position l = (l.ends ≡ ends_all_in (tallies_of l.requests) (take l.last_cpu-index l.positions)) × (l.ends ≤ 2 ^ 32 * l.last_cpu-index)
+invariant-loop-position l = (l.ends ≡ ends_all_in (tallies_of l.requests) (take l.position-index l.positions)) × (l.ends ≤ 2 ^ 32 * l.position-index)

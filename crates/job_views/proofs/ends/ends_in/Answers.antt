@@ -5,5 +5,5 @@ use Rattle.job_views.proofs.ends.ends_in.Goals as goal
 
 pub loop-position-preserved : goal.loop-position-preserved
 loop-position-preserved c =
-    let next = sum-next (λ (x : Tally). x.ends) c.args.requests.now none_seen c.args.positions.now c.loop-position.last_cpu-index c.loop-position-test.true c.requires.placed in
+    let next = sum-next (λ (x : Tally). x.ends) c.args.requests.now none_seen c.args.positions.now c.loop-position.position-index c.loop-position-test.true c.requires.placed in
     (omega (arith, next, c.loop-position.invariant.0, c.from-ends.ensures), search rules)
