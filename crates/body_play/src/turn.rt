@@ -88,6 +88,7 @@ impl Turn {
             → result ≡ Some s }
         ensures begins { (s : steps.Step) (horizon : ℕ) → s.cpu ≡ cpu → is_tick ≡ true
             → Begins self horizon s → result ≡ Some s }
+        ensures own { (s : steps.Step) → result ≡ Some s → s.cpu ≡ cpu }
     {
         let (tick, act) = if is_tick {
             (self.begun, Act::Tick)

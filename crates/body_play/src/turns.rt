@@ -115,10 +115,11 @@ impl Turns {
     /// The step of a processor that may come next: the Tick of its next turn, or the step that goes on with its turn. `next` is
     /// the processor's next act.
     pub fn next_step(&self, cpu: CpuNo, is_tick: bool, next: Option<Act>) -> Option<Step>
-        ensures { (g : Group) (past : Past) (step : steps.Step) → AreAt g past self.now
+        ensures next { (g : Group) (past : Past) (step : steps.Step) → AreAt g past self.now
             → next ≡ next_act g (situation g cpu.0 past) → IsProcessorOf g cpu.0
             → MayComeNext g past step → step.cpu ≡ cpu → turn_words.is_tick step.act ≡ is_tick
             → result ≡ Some step }
+        ensures own { (step : steps.Step) → result ≡ Some step → step.cpu ≡ cpu }
     {
         let turn = self.row(cpu)?;
         turn.next_step(cpu, is_tick, next)
