@@ -112,7 +112,7 @@ pub record IsBack (c : CpuSeatView) (back : List (SeatView Entry GroupOf)) : Typ
   pub view : SeatView Entry GroupOf
   pub there : Contains back view
   pub same : cpu_seat_view c.cpu c.turns view ≡ c
-  pub own : About view.cell (λ s. (view.cpu < cpu_count (group_at s)) × (cpu_at (group_at s) view.cpu ≡ c.cpu) × IsBegunPlay (group_at s) position.seen)
+  pub own : About view.cell (λ s. (view.cpu < cpu_count (group_at s)) × (cpu_at (group_at s) view.cpu ≡ c.cpu) × IsBegunPlay (group_at s) view.seen)
 
 pub record AreBack (cell : Cell GroupOf) (gone : List CpuSeatView) (back : List (SeatView Entry GroupOf)) : Type 0 where
   pub rest : All (λ p. (p.cell ≡ cell) × (p.holds ≡ false)) back
@@ -163,7 +163,7 @@ map-contains xs q d there =
     (get_or xs there.0 d, (there.0, low, get_or_default xs there.0 (get_or xs there.0 d) d low), sym (get_or-map (λ (x : CpuSeatView). x.cpu) xs there.0 d q low) ∙ there.2)
 
 module _ (t : TurnOf GroupOf) (known : (s : GroupOf) × (t.cell.subject ≡ Some s) × IsSite s t.cpus) (seats : List CpuSeatView) (back : List (SeatView Entry GroupOf)) (are : AreBack t.cell seats back) where
-  -- all positions are back
+  -- all seats are back
   pub back-all : About t.cell (λ s. (q : ℕ) → IsProcessorOf (group_at s) q → Contains (map (λ (x : CpuSeatView). x.cpu) seats) q) → (i : ℕ) → i < t.cpus → Contains (map (λ (p : SeatView Entry GroupOf). p.cpu) back) i
   back-all all i lt =
       let s : GroupOf = known.0 in

@@ -12,7 +12,7 @@ ghost use Rattle.trace_course.specs.Courses.{IsCourse, room_in};
 ghost use Rattle.trace_course.specs.Followed.{IsNextStep, GroupEntries, longer};
 
 use crate::scripts::Scripts;
-use crate::turns::{look_at, next_step, take_turn};
+use crate::turns::{look_at, take_next};
 use body_play::Turns;
 use rank_afresh::Afresh;
 use rt_base::{CpuNo, MOST_TURN_STEPS, NoMemory};
@@ -75,37 +75,27 @@ impl Course {
         }
     }
 
-    /// The step of a processor that may come next: that of its script, or in a body run the Tick of its next turn, or the step
-    /// that goes on with its turn.
-    pub fn next_step(
-        &self,
+    /// Takes the step of a processor that may come next: that of its script, or in a body run the Tick of its next turn, or the
+    /// step that goes on with its turn. `None` where there is none.
+    pub fn take_next(
+        &mut self,
         setup: &Setup,
         afresh: &Afresh,
         cpu: CpuNo,
         is_tick: bool,
     ) -> Option<Step>
-        requires { (at : GroupEntries) × CanTake at setup.now afresh.now self.now }
-        ensures { (at : GroupEntries) (step : given.Step) → CanTake at setup.now afresh.now self.now
+        requires { (at : GroupEntries) × CanTake at setup.now afresh.now self.old }
+        ensures taken { (at : GroupEntries) (step : given.Step)
+            → CanTake at setup.now afresh.now self.old
+            → result ≡ Some step → HasGone at step self.new }
+        ensures next { (at : GroupEntries) (step : given.Step)
+            → CanTake at setup.now afresh.now self.old
             → IsNextStep at.group at.entries step → step.cpu ≡ cpu
             → turn_words.is_tick step.act ≡ is_tick → result ≡ Some step }
     {
         match self {
-            Course::Scripts(scripts) => scripts.next_step(steps_given(&setup.parts().drive), cpu),
-            Course::Turns(turns) => next_step(turns, setup, afresh, cpu, is_tick),
-        }
-    }
-
-    /// Takes a step, where it is one that may come next of its processor.
-    pub fn take(&mut self, setup: &Setup, afresh: &Afresh, step: Step) -> bool
-        requires { (at : GroupEntries) × CanTake at setup.now afresh.now self.old }
-        ensures taken { (at : GroupEntries) → CanTake at setup.now afresh.now self.old
-            → result ≡ true → HasGone at step self.new }
-        ensures refused { (at : GroupEntries) → CanTake at setup.now afresh.now self.old
-            → result ≡ false → IsNextStep at.group at.entries step → ⊥ }
-    {
-        match self {
-            Course::Scripts(scripts) => scripts.take(steps_given(&setup.parts().drive), step),
-            Course::Turns(turns) => take_turn(turns, setup, afresh, step),
+            Course::Scripts(scripts) => scripts.take_next(steps_given(&setup.parts().drive), cpu),
+            Course::Turns(turns) => take_next(turns, setup, afresh, cpu, is_tick),
         }
     }
 

@@ -9,7 +9,7 @@ ghost use Rattle.rt_plays.specs.Homes.{IsProcessorOf};
 ghost use Rattle.rt_plays.specs.Scripts.{script};
 ghost use Rattle.body_play.specs.Turns.{numbers_of};
 ghost use Rattle.trace_course.specs.Followed.{AreDone, ArePassed, HasPassed, IsDone, IsNextOfScript};
-ghost use Rattle.trace_course.specs.Followed.{IsNextPosition, GroupEntries, has_position, position_in};
+ghost use Rattle.trace_course.specs.Followed.{GroupEntries, has_position, position_in};
 ghost use Rattle.trace_course.specs.Next.{AreFollowing, IsNextAt};
 
 use crate::following::following_of;
@@ -17,14 +17,6 @@ use crate::table::{position_of, positions_at};
 use rt_base::{CpuNo, MOST_CPUS, NoMemory};
 use rt_task::Step;
 use std::alloc::Global;
-
-/// Whether two steps are the same.
-fn is_same_step(a: Step, b: Step) -> bool
-    ensures same { result ≡ true → a ≡ b }
-    ensures other { result ≡ false → a ≡ b → ⊥ }
-{
-    a == b
-}
 
 /// The position of the processor's next step from a position on.
 fn next_of(steps: &[Step], from: usize, cpu: CpuNo) -> Option<usize>
@@ -88,39 +80,6 @@ impl Scripts {
         count
     }
 
-    /// The position of a step among the set's steps, where it is the next one of its processor.
-    fn next(&self, steps: &[Step], step: Step) -> Option<usize>
-        requires { (at : GroupEntries) × ArePassed at steps.now self.now }
-        ensures { (at : GroupEntries) → ArePassed at steps.now self.now → MatchOption result
-            (IsNextOfScript at.group at.entries step → ⊥)
-            (λ j. IsNextPosition at.group at.entries step j) }
-    {
-        let Some(from) = self.position(step.cpu) else {
-            return None;
-        };
-        match next_of(steps, from, step.cpu) {
-            Some(j) => {
-                if is_same_step(steps[j], step) {
-                    Some(j)
-                } else {
-                    None
-                }
-            }
-            None => None,
-        }
-    }
-
-    /// The step that comes next of a processor.
-    pub(crate) fn next_step(&self, steps: &[Step], cpu: CpuNo) -> Option<Step>
-        requires { (at : GroupEntries) × ArePassed at steps.now self.now }
-        ensures { (at : GroupEntries) (step : given.Step) → ArePassed at steps.now self.now
-            → IsNextOfScript at.group at.entries step → step.cpu ≡ cpu → result ≡ Some step }
-    {
-        let from = self.position(cpu)?;
-        let j = next_of(steps, from, cpu)?;
-        Some(steps[j])
-    }
-
     /// Whether the processor has a step left.
     fn has_next(&self, steps: &[Step], cpu: CpuNo) -> bool
         requires { (at : GroupEntries) × ArePassed at steps.now self.now }
@@ -169,20 +128,17 @@ impl Scripts {
         self.positions[cpu.0 as usize] = Some(position);
     }
 
-    /// Takes a step, where it is the next one of its processor.
-    pub(crate) fn take(&mut self, steps: &[Step], step: Step) -> bool
+    /// Takes the step that comes next of a processor. `None` where there is none.
+    pub(crate) fn take_next(&mut self, steps: &[Step], cpu: CpuNo) -> Option<Step>
         requires { (at : GroupEntries) × ArePassed at steps.now self.old }
-        ensures taken { (at : GroupEntries) → ArePassed at steps.now self.old → result ≡ true
-            → HasPassed at step self.new }
-        ensures refused { (at : GroupEntries) → ArePassed at steps.now self.old → result ≡ false
-            → IsNextOfScript at.group at.entries step → ⊥ }
+        ensures taken { (at : GroupEntries) (step : given.Step) → ArePassed at steps.now self.old
+            → result ≡ Some step → HasPassed at step self.new }
+        ensures next { (at : GroupEntries) (step : given.Step) → ArePassed at steps.now self.old
+            → IsNextOfScript at.group at.entries step → step.cpu ≡ cpu → result ≡ Some step }
     {
-        match self.next(steps, step) {
-            Some(j) => {
-                self.pass(step.cpu, j + self.distance(j));
-                true
-            }
-            None => false,
-        }
+        let from = self.position(cpu)?;
+        let j = next_of(steps, from, cpu)?;
+        self.pass(cpu, j + self.distance(j));
+        Some(steps[j])
     }
 }

@@ -26,19 +26,23 @@ fn next_of(setup: &Setup, afresh: &Afresh, cpu: CpuNo) -> Option<Act>
     next_act(setup, &afresh.situation(cpu))
 }
 
-/// The step of a processor that may come next: the Tick of its next turn, or the step that goes on with its turn.
-pub(crate) fn next_step(
-    turns: &Turns,
+/// Takes the step of a processor that may come next: the Tick of its next turn, or the step that goes on with its turn. `None`
+/// where there is none.
+pub(crate) fn take_next(
+    turns: &mut Turns,
     setup: &Setup,
     afresh: &Afresh,
     cpu: CpuNo,
     is_tick: bool,
 ) -> Option<Step>
     requires at { (past : Past) × IsAt afresh.now past
-        × AreAt (group_of afresh.now) past turns.now }
+        × AreAt (group_of afresh.now) past turns.old }
     requires setup { setup.now ≡ afresh.now.setup }
-    ensures { (past : Past) (step : steps.Step) → IsAt afresh.now past
-        → AreAt (group_of afresh.now) past turns.now
+    ensures taken { (past : Past) (step : steps.Step) → IsAt afresh.now past
+        → AreAt (group_of afresh.now) past turns.old → result ≡ Some step
+        → HasTaken (group_of afresh.now) past step turns.new }
+    ensures next { (past : Past) (step : steps.Step) → IsAt afresh.now past
+        → AreAt (group_of afresh.now) past turns.old
         → IsProcessorOf (group_of afresh.now) step.cpu.0
         → MayComeNext (group_of afresh.now) past step → step.cpu ≡ cpu
         → turn_words.is_tick step.act ≡ is_tick → result ≡ Some step }
@@ -47,27 +51,12 @@ pub(crate) fn next_step(
         return None;
     }
     let next = next_of(setup, afresh, cpu);
-    turns.next_step(cpu, is_tick, next)
-}
-
-/// Takes a step, where it goes on with the turn of its processor or begins the next one.
-pub(crate) fn take_turn(turns: &mut Turns, setup: &Setup, afresh: &Afresh, step: Step) -> bool
-    requires at { (past : Past) × IsAt afresh.now past
-        × AreAt (group_of afresh.now) past turns.old }
-    requires setup { setup.now ≡ afresh.now.setup }
-    ensures taken { (past : Past) → IsAt afresh.now past
-        → AreAt (group_of afresh.now) past turns.old → result ≡ true
-        → HasTaken (group_of afresh.now) past step turns.new }
-    ensures refused { (past : Past) → IsAt afresh.now past
-        → AreAt (group_of afresh.now) past turns.old → result ≡ false
-        → IsProcessorOf (group_of afresh.now) step.cpu.0
-        → MayComeNext (group_of afresh.now) past step → ⊥ }
-{
-    if !turns.has(step.cpu) {
-        return false;
+    let step = turns.next_step(cpu, is_tick, next)?;
+    if turns.take(step, next) {
+        Some(step)
+    } else {
+        None
     }
-    let next = next_of(setup, afresh, step.cpu);
-    turns.take(step, next)
 }
 
 /// Looks at each of these processors that awaits it, after a step that was taken.
