@@ -1,5 +1,5 @@
 -- Rows that are changed one after the other.
-use Rattle.std.proofs.Common.{Bool, true, false, append-nil, ◌≡◌, ◌∙◌, ℕ, zero, suc, ◌+◌, ◌<◌, ◌≤◌, List, [], ◌∷◌, ◌++◌, length, map, take, drop, get_or, set, refl, sym, ap, subst, arith, All}
+use Rattle.std.proofs.Common.{Bool, true, false, ◌||◌, ◌×◌, append-nil, ◌≡◌, ◌∙◌, ℕ, zero, suc, ◌+◌, ◌<◌, ◌≤◌, List, [], ◌∷◌, ◌++◌, length, map, take, drop, get_or, set, refl, sym, ap, subst, arith, All}
 use Rattle.std.specs.Prelude.{filter, if◌then◌else◌}
 use Rattle.std.proofs.lemmas.List.{map-append, take_more}
 use Rattle.std.proofs.lemmas.List.Edits.{map_over_more}
@@ -9,7 +9,7 @@ use Rattle.rt_model.specs.Group.{Group}
 use Rattle.trace_views.specs.Cells.{runs_no_unit}
 use Rattle.chart_cells.specs.Cells.{cpu_numbers, playing_shown}
 use Rattle.chart_rows.specs.declared.loops.Played.{Played}
-use Rattle.chart_rows.specs.inside.Plays.{played_shown}
+use Rattle.chart_rows.specs.inside.Plays.{AreRunning, played_shown}
 use Rattle.chart_rows.specs.Rows as rows
 
 -- the first n are changed
@@ -64,6 +64,19 @@ running-yes g t plays i d old new low before runs made =
 pub running-no : (g : Group) (t : ℕ) (plays : List Played) (i : ℕ) (d : Played) (old new : List CpuNo) → i < length plays → cpu_numbers old ≡ rows.running g t (map played_shown (take i plays))
     → runs_no_unit g t (playing_shown (get_or plays i d).playing) ≡ false → new ≡ old → cpu_numbers new ≡ rows.running g t (map played_shown (take (i + 1) plays))
 running-no g t plays i d old new low before idle made = ap cpu_numbers made ∙ before ∙ sym (running-next g t plays i d low ∙ rw idle (append-nil _))
+
+both-false : (a b : Bool) → (a || b) ≡ false → (a ≡ false) × (b ≡ false)
+both-false false false h = (refl, refl)
+both-false true b h = cc
+both-false false true h = cc
+
+pub running-more : (plays : List Played) (i : ℕ) (d : Played) (old new : List Bool) → i < length plays → AreRunning (map played_shown (take i plays)) old → length new ≡ length old
+    → ((g : Group) (t : ℕ) → t < length old → get_or new t false ≡ (runs_no_unit g t (playing_shown (get_or plays i d).playing) || get_or old t false))
+    → AreRunning (map played_shown (take (i + 1) plays)) new
+running-more plays i d old new low before same marked = λ g t inside unmarked.
+    let was : t < length old = subst (λ n. t < n) same inside in
+    let off = both-false (runs_no_unit g t (playing_shown (get_or plays i d).playing)) (get_or old t false) (sym (marked g t was) ∙ unmarked) in
+    running-next g t plays i d low ∙ rw off.0 (append-nil _) ∙ before g t was off.1
 
 -- ---- rows that are made one after the other
 

@@ -1,5 +1,6 @@
 //! What an act, and the end of a column, makes of all rows.
-ghost use Rattle.std.specs.Prelude.{◌≡◌, All, IfOk, OnOk, map, true};
+ghost use Rattle.std.specs.Prelude.{◌≡◌, ◌<◌, ◌||◌, [], ℕ, All, IfOk, List, OnOk};
+ghost use Rattle.std.specs.Prelude.{false, length, map, slice_index_or, true};
 ghost use Rattle.rt_base.specs.TaskNos.{number_of_task};
 ghost use Rattle.rt_rules.specs.Distinct.{IsDistinct};
 ghost use Rattle.rt_rules.specs.Numbers.{has};
@@ -10,7 +11,7 @@ ghost use Rattle.chart_texts.specs.Charts.{group_resvs};
 ghost use Rattle.view_acts.specs.ShownActs.{act_shown};
 ghost use Rattle.chart_cells.specs.Cells.{cpu_numbers, playing_shown};
 ghost use Rattle.chart_rows.specs.inside.Finding.{only};
-ghost use Rattle.chart_rows.specs.inside.Plays.{played_shown};
+ghost use Rattle.chart_rows.specs.inside.Plays.{AreRunning, played_shown};
 ghost use Rattle.chart_rows.specs.Listed.{tasks_listed};
 ghost use Rattle.chart_rows.specs.Rows as rows;
 ghost use Rattle.chart_rows.specs.Units.{IsTold};
@@ -22,7 +23,7 @@ use crate::resvs::ResvFeed;
 use crate::tasks::TaskFeed;
 use crate::units::Unit;
 use chart_cells::Playing;
-use rt_base::{CpuNo, NoMemory, TaskNo};
+use rt_base::{CpuNo, MOST_TASKS, NoMemory, TaskNo};
 use std::alloc::Global;
 use view_acts::ShownAct;
 
@@ -118,16 +119,68 @@ pub(crate) fn running(alloc: Global, plays: &[Played], task: TaskNo) -> Result<V
     Ok(cpus)
 }
 
-fn close_task(row: &mut TaskFeed, alloc: Global, plays: &[Played]) -> Result<(), NoMemory>
+/// Marks the task that is run without a unit, if there is one.
+fn mark(marks: &mut [bool], playing: Playing)
+    ensures { (g : Group) (t : ℕ) → t < length marks.old → slice_index_or marks.new t false
+        ≡ (runs_no_unit g t (playing_shown playing) || slice_index_or marks.old t false) }
+{
+    let Playing::RunsTask(task) = playing else {
+        return;
+    };
+    if let Some(mark) = marks.get_mut(task.0 as usize) {
+        *mark = true;
+    }
+}
+
+/// Marks the tasks that a processor runs and does no unit of.
+fn mark_running(marks: &mut [bool], plays: &[Played])
+    ensures { AreRunning (map played_shown plays.now) marks.new }
+{
+    for played in plays {
+        mark(marks, played.playing);
+    }
+}
+
+/// A mark for each task number up to `MOST_TASKS`: whether a processor runs the task and does no unit.
+fn running_marks(alloc: Global, plays: &[Played]) -> Result<Vec<bool>, NoMemory>
+    ensures { IfOk result (λ v. AreRunning (map played_shown plays.now) v.items) }
+{
+    let mut marks = vec![in alloc; false; MOST_TASKS as usize + 1]?;
+    mark_running(marks.as_mut_slice(), plays);
+    Ok(marks)
+}
+
+/// Whether the marks say that no processor runs the task without a unit.
+fn is_unmarked(marks: &[bool], task: TaskNo) -> bool
+    ensures { (plays : List rows.Played) → AreRunning plays marks.now → result ≡ true
+        → (g : Group) → rows.running g task.0 plays ≡ [] }
+{
+    match marks.get(task.0 as usize) {
+        Some(mark) => !*mark,
+        None => false,
+    }
+}
+
+fn close_task(
+    row: &mut TaskFeed,
+    alloc: Global,
+    plays: &[Played],
+    marks: &[bool],
+) -> Result<(), NoMemory>
+    requires { AreRunning (map played_shown plays.now) marks.now }
     ensures { OnOk result ((g : Group)
         → row.new ≡ rows.task_closed g (map played_shown plays.now) row.old) }
 {
-    let running = running(alloc, plays, row.task())?;
-    row.close(alloc, running)?;
+    let cpus = if is_unmarked(marks, row.task()) {
+        Vec::new(alloc)
+    } else {
+        running(alloc, plays, row.task())?
+    };
+    row.close(alloc, cpus)?;
     Ok(())
 }
 
-/// Ends a column for the rows of tasks, in which the processors do this.
+/// Ends a column for the rows of tasks, in which the processors do this. Most tasks run nowhere, which the marks say at once.
 pub(crate) fn close_tasks(
     tasks: &mut [TaskFeed],
     alloc: Global,
@@ -136,8 +189,9 @@ pub(crate) fn close_tasks(
     ensures { OnOk result ((g : Group)
         → tasks.new ≡ map (rows.task_closed g (map played_shown plays.now)) tasks.old) }
 {
+    let marks = running_marks(alloc, plays)?;
     for row in tasks.iter_mut() {
-        close_task(row, alloc, plays)?;
+        close_task(row, alloc, plays, marks.as_slice())?;
     }
     Ok(())
 }

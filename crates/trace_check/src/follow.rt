@@ -1,7 +1,6 @@
 //! The entry lines of a group, followed step by step.
 ghost use Rattle.std.specs.Prelude.{◌≡◌, ◌+◌, ◌<◌, ◌≤◌, ◌∷◌, ◌++◌, [], ℕ, true, false};
 ghost use Rattle.std.specs.Prelude.{IfOk, List, Some, length};
-ghost use Rattle.rt_rules.specs.declared.history.Entry as entries;
 ghost use Rattle.rt_model.specs.Histories.{after, past_of, reply_to};
 ghost use Rattle.rt_plays.specs.Groups.{IsGroupOf};
 ghost use Rattle.block_counts.specs.GroupRequests as counts;
@@ -14,7 +13,7 @@ ghost use Rattle.trace_lines.specs.Known.{IsLine, known_of};
 ghost use Rattle.trace_lines.specs.Lines.{Link, entry_line};
 ghost use Rattle.trace_text.specs.CountLines.{shown_as};
 ghost use Rattle.trace_text.specs.TraceText.{block_lines};
-ghost use Rattle.trace_course.specs.Followed.{IsNextStep, GroupEntries};
+ghost use Rattle.trace_course.specs.Followed.{GroupEntries};
 ghost use Rattle.trace_check.specs.inside.Following.{CanStep, HasTaken, IsFollowing, IsFollowingWith};
 ghost use Rattle.trace_check.specs.inside.RequestLines.{request_lines};
 
@@ -115,20 +114,6 @@ impl Follow {
         reply
     }
 
-    /// The step that the entry line says with which the text begins, where that may come next.
-    fn step_said(&self, setup: &Setup, text: &[u8]) -> Option<Step>
-        requires { (at : GroupEntries) × IsFollowingWith at setup.now self.now }
-        ensures { (at : GroupEntries) (v : Version) → IsFollowingWith at setup.now self.now
-            → (i : ℕ) (e : entries.Entry) (links : List Link) (more : List ℕ)
-            → IsLine (known_of v setup.now) (entry_line i e links)
-            → text.now ≡ line_text (known_of v setup.now) (entry_line i e links) ++ more
-            → IsNextStep at.group at.entries e.step → result ≡ Some e.step }
-    {
-        let mover = mover_at(text)?;
-        self.course
-            .next_step(setup, &self.afresh, mover.cpu, mover.is_tick)
-    }
-
     /// Takes the step of the entry line with which the text begins, where that line is right: the line that a valid trace has
     /// there is made in `line`, and compared. Gives the entry.
     pub(crate) fn take_line(
@@ -142,12 +127,15 @@ impl Follow {
         ensures { IfOk result (λ o. (at : GroupEntries) → IsFollowingWith at setup.now self.old
             → HasTaken at version text.now line.new.items o self.new) }
     {
-        let Some(step) = self.step_said(setup, text) else {
+        let Some(mover) = mover_at(text) else {
             return Ok(None);
         };
-        if !self.course.take(setup, &self.afresh, step) {
+        let Some(step) = self
+            .course
+            .take_next(setup, &self.afresh, mover.cpu, mover.is_tick)
+        else {
             return Ok(None);
-        }
+        };
         let reply = self.step(step);
         let entry = Entry { step, reply };
         self.links.follow(&self.afresh)?;

@@ -92,6 +92,7 @@ impl Course {
             → CanTake at setup.now afresh.now self.old
             → IsNextStep at.group at.entries step → step.cpu ≡ cpu
             → turn_words.is_tick step.act ≡ is_tick → result ≡ Some step }
+        ensures own { (step : given.Step) → result ≡ Some step → step.cpu ≡ cpu }
     {
         match self {
             Course::Scripts(scripts) => scripts.take_next(steps_given(&setup.parts().drive), cpu),

@@ -135,6 +135,7 @@ impl Scripts {
             → result ≡ Some step → HasPassed at step self.new }
         ensures next { (at : GroupEntries) (step : given.Step) → ArePassed at steps.now self.old
             → IsNextOfScript at.group at.entries step → step.cpu ≡ cpu → result ≡ Some step }
+        ensures own { (step : given.Step) → result ≡ Some step → step.cpu ≡ cpu }
     {
         let from = self.position(cpu)?;
         let j = next_of(steps, from, cpu)?;

@@ -46,6 +46,7 @@ pub(crate) fn take_next(
         → IsProcessorOf (group_of afresh.now) step.cpu.0
         → MayComeNext (group_of afresh.now) past step → step.cpu ≡ cpu
         → turn_words.is_tick step.act ≡ is_tick → result ≡ Some step }
+    ensures own { (step : steps.Step) → result ≡ Some step → step.cpu ≡ cpu }
 {
     if !turns.has(cpu) {
         return None;

@@ -1,4 +1,4 @@
-use Rattle.std.proofs.Common.{◌≡◌, ◌+◌, ◌≤◌, ℕ, List, ◌++◌, Some, drop, length, rules, refl, sym, ap, ◌∙◌, subst}
+use Rattle.std.proofs.Common.{◌≡◌, ◌+◌, ◌≤◌, ℕ, List, ◌++◌, None, Some, Option, drop, length, rules, refl, sym, ap, ◌∙◌, subst}
 use Rattle.rt_base.specs.declared.TheConstants.{MOST_STEPS}
 use Rattle.rt_task.specs.declared.Parts.{Parts}
 use Rattle.rt_task.specs.declared.Step.{Step}
@@ -14,23 +14,51 @@ use Rattle.trace_text.specs.TraceText.{links_at}
 use Rattle.trace_course.specs.Courses.{HasGone}
 use Rattle.trace_check.specs.declared.follow.Follow.{Follow}
 use Rattle.trace_check.specs.inside.GroupLinks.{HaveChanged}
-use Rattle.trace_check.proofs.Accepting.{can-take, can_step, count-low, can-read, entry-same, following-next, line-same, same-step}
+use Rattle.rt_plays.specs.Turns.{is_tick}
+use Rattle.trace_read.specs.Movers.{mover_of}
+use Rattle.trace_read.specs.declared.mover.Mover.{Mover}
+use Rattle.trace_read.proofs.TellLaws.{valid-tells}
+use Rattle.trace_course.specs.Followed.{GroupEntries, IsNextStep}
+use Rattle.trace_check.proofs.Accepting.{can-take, can_step, count-low, can-read, entry-same, following-next, line-same, same-mover, same-step, says-tick}
 use Rattle.trace_check.proofs.follow.Follow.take_line.Goals as goal
+
+-- the line's processor, and whether it is a Tick, tell its step
+said-step : (at : GroupEntries) (m : Mover) (o : Option Step) (e : Entry) → Some m ≡ Some (mover_of e.step)
+    → ((s : Step) → IsNextStep at.group at.entries s → s.cpu ≡ m.cpu → is_tick s.act ≡ m.is_tick → o ≡ Some s)
+    → IsNextStep at.group at.entries e.step → o ≡ Some e.step
+said-step at m o e told next here =
+    let same = same-mover m (mover_of e.step) told in
+    next e.step here (ap (λ (x : Mover). x.cpu) (sym same)) (says-tick e.step.act ∙ ap (λ (x : Mover). x.is_tick) (sym same))
+
+pub returns-in-None : goal.returns-in-None
+returns-in-None c = λ at fw i e links more known here next.
+    let v = c.args.version in
+    let some : c.mover_at.result ≡ Some (mover_of e.step) = c.mover_at.ensures (known_of v at.group.setup) i e links more (valid-tells v at.group.setup fw.following.valid) known here in
+    let none : c.mover_at.result ≡ None = c.in-None.is in
+    cc
+
+pub returns-in-None-take_next : goal.returns-in-None-take_next
+returns-in-None-take_next c = λ at fw i e links more known here next.
+    let v = c.args.version in
+    let some : c.mover_at.result ≡ Some (mover_of e.step) = c.mover_at.ensures (known_of v at.group.setup) i e links more (valid-tells v at.group.setup fw.following.valid) known here in
+    let said = said-step at c.in-Some.mover c.take_next.result e (sym c.in-Some.is ∙ some) (λ s. c.take_next.ensures.next at s (can-take at c.args.setup.now c.args.self.now fw)) next.next in
+    let none : c.take_next.result ≡ None = c.in-None-take_next.is in
+    cc
 
 pub step-reply-requires : goal.step-reply-requires
 step-reply-requires c =
     let at = c.requires.0 in
     let fw = c.requires.1 in
-    let gone = c.take.ensures.taken at (can-take at c.args.setup.now c.args.self.now fw) c.if-not-take.false in
-    (at, can_step at c.args.setup.now c.args.self.now fw c.in-Some.step gone.next c.take.new.self)
+    let gone = c.take_next.ensures.taken at c.in-Some-take_next.step (can-take at c.args.setup.now c.args.self.now fw) c.in-Some-take_next.is in
+    (at, can_step at c.args.setup.now c.args.self.now fw c.in-Some-take_next.step gone.next c.take_next.new.self)
 
 pub follow-requires : goal.follow-requires
 follow-requires c =
     let at = c.requires.0 in
     let fw = c.requires.1 in
-    let step = c.in-Some.step in
-    let gone = c.take.ensures.taken at (can-take at c.args.setup.now c.args.self.now fw) c.if-not-take.false in
-    let can = can_step at c.args.setup.now c.args.self.now fw step gone.next c.take.new.self in (
+    let step = c.in-Some-take_next.step in
+    let gone = c.take_next.ensures.taken at c.in-Some-take_next.step (can-take at c.args.setup.now c.args.self.now fw) c.in-Some-take_next.is in
+    let can = can_step at c.args.setup.now c.args.self.now fw step gone.next c.take_next.new.self in (
       past_of at.group at.entries,
       step,
       can-read at c.args.setup.now c.args.self.now fw step gone.next _ _ (c.step-reply.ensures.group ∙ fw.following.group_is)
@@ -41,17 +69,16 @@ pub returns-then-not-begins_with : goal.returns-then-not-begins_with
 returns-then-not-begins_with c = λ at fw i e links more known here next.
     let p = c.args.setup.now in
     let v = c.args.version in
-    let step = c.in-Some.step in
+    let step = c.in-Some-take_next.step in
     let past = past_of at.group at.entries in
-    let gone = c.take.ensures.taken at (can-take at p c.args.self.now fw) c.if-not-take.false in
-    let can = can_step at p c.args.self.now fw step gone.next c.take.new.self in
+    let gone = c.take_next.ensures.taken at step (can-take at p c.args.self.now fw) c.in-Some-take_next.is in
+    let can = can_step at p c.args.self.now fw step gone.next c.take_next.new.self in
     let is : group_of c.step-reply.new.self.afresh ≡ at.group = c.step-reply.ensures.group ∙ fw.following.group_is in
     let read = can-read at p c.args.self.now fw step gone.next _ _ is (ap (λ (f : Follow). f.links) c.step-reply.ensures.others) (c.step-reply.ensures.at at can) in
     let now : HaveChanged at.group past step c.follow.new.self = subst (λ (g : Group). HaveChanged g past step c.follow.new.self) is (c.in_ok-follow.ensures _ step read) in
-    let said : c.step_said.result ≡ Some e.step =
-    c.step_said.ensures at v fw i e links more (subst (λ (q : Parts). IsLine (known_of v q) (entry_line i e links)) (sym fw.setup_is) known)
-    (here ∙ ap (λ (q : Parts). line_text (known_of v q) (entry_line i e links) ++ more) (sym fw.setup_is)) next.next in
-    let same : e.step ≡ step = same-step e.step step (sym said ∙ c.in-Some.is) in
+    let some : c.mover_at.result ≡ Some (mover_of e.step) = c.mover_at.ensures (known_of v at.group.setup) i e links more (valid-tells v at.group.setup fw.following.valid) known here in
+    let said = said-step at c.in-Some.mover c.take_next.result e (sym c.in-Some.is ∙ some) (λ s. c.take_next.ensures.next at s (can-take at p c.args.self.now fw)) next.next in
+    let same : e.step ≡ step = same-step e.step step (sym said ∙ c.in-Some-take_next.is) in
     let reply = next.reply_is ∙ ap (λ (s : Step). reply_to at.group s past) same ∙ sym (c.step-reply.ensures.reply at can) in
     let shown : links ≡ links_of c.changed.result.now =
     next.links_are ∙ ap (λ (s : Step). links_at at.group (after at.group s past) (changed at.group past (after at.group s past))) same ∙ sym (ap links_of c.changed.ensures ∙ now.changed_are) in
@@ -65,9 +92,9 @@ pub look-requires : goal.look-requires
 look-requires c =
     let at = c.requires.0 in
     let fw = c.requires.1 in
-    let step = c.in-Some.step in
-    let gone = c.take.ensures.taken at (can-take at c.args.setup.now c.args.self.now fw) c.if-not-take.false in
-    let can = can_step at c.args.setup.now c.args.self.now fw step gone.next c.take.new.self in
+    let step = c.in-Some-take_next.step in
+    let gone = c.take_next.ensures.taken at c.in-Some-take_next.step (can-take at c.args.setup.now c.args.self.now fw) c.in-Some-take_next.is in
+    let can = can_step at c.args.setup.now c.args.self.now fw step gone.next c.take_next.new.self in
     let is : group_of c.step-reply.new.self.afresh ≡ at.group = c.step-reply.ensures.group ∙ fw.following.group_is in
     let read = can-read at c.args.setup.now c.args.self.now fw step gone.next _ _ is (ap (λ (f : Follow). f.links) c.step-reply.ensures.others) (c.step-reply.ensures.at at can) in
     let now : HaveChanged at.group (past_of at.group at.entries) step c.follow.new.self = subst (λ (g : Group). HaveChanged g (past_of at.group at.entries) step c.follow.new.self) is (c.in_ok-follow.ensures _ step read) in (
@@ -85,8 +112,8 @@ pub overflow_add-self : goal.overflow_add-self
 overflow_add-self c =
     let at = c.requires.0 in
     let fw = c.requires.1 in
-    let gone = c.take.ensures.taken at (can-take at c.args.setup.now c.args.self.now fw) c.if-not-take.false in
-    let low : c.args.self.now.count + 1 ≤ MOST_STEPS = count-low at c.args.setup.now c.args.self.now fw c.in-Some.step gone.next in
+    let gone = c.take_next.ensures.taken at c.in-Some-take_next.step (can-take at c.args.setup.now c.args.self.now fw) c.in-Some-take_next.is in
+    let low : c.args.self.now.count + 1 ≤ MOST_STEPS = count-low at c.args.setup.now c.args.self.now fw c.in-Some-take_next.step gone.next in
     let same : c.step-reply.new.self.count ≡ c.args.self.now.count = ap (λ (f : Follow). f.count) c.step-reply.ensures.others in
     search rules
 
@@ -94,14 +121,14 @@ pub returns : goal.returns
 returns c = λ at fw.
     let p = c.args.setup.now in
     let v = c.args.version in
-    let step = c.in-Some.step in
+    let step = c.in-Some-take_next.step in
     let past = past_of at.group at.entries in
-    let gone = c.take.ensures.taken at (can-take at p c.args.self.now fw) c.if-not-take.false in
-    let can = can_step at p c.args.self.now fw step gone.next c.take.new.self in
+    let gone = c.take_next.ensures.taken at step (can-take at p c.args.self.now fw) c.in-Some-take_next.is in
+    let can = can_step at p c.args.self.now fw step gone.next c.take_next.new.self in
     let is : group_of c.step-reply.new.self.afresh ≡ at.group = c.step-reply.ensures.group ∙ fw.following.group_is in
     let read = can-read at p c.args.self.now fw step gone.next _ _ is (ap (λ (f : Follow). f.links) c.step-reply.ensures.others) (c.step-reply.ensures.at at can) in
     let now : HaveChanged at.group past step c.follow.new.self = subst (λ (g : Group). HaveChanged g past step c.follow.new.self) is (c.in_ok-follow.ensures _ step read) in
-    let kept : c.step-reply.new.self.course ≡ c.take.new.self = ap (λ (f : Follow). f.course) c.step-reply.ensures.others in
+    let kept : c.step-reply.new.self.course ≡ c.take_next.new.self = ap (λ (f : Follow). f.course) c.step-reply.ensures.others in
     let made : Entry = record { step = step; reply = c.step-reply.result } in
     let number : length at.entries ≡ c.step-reply.new.self.count = sym fw.following.count_is ∙ sym (ap (λ (f : Follow). f.count) c.step-reply.ensures.others) in
     record {

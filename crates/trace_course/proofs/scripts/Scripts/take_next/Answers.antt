@@ -69,3 +69,13 @@ returns-clause-next c = λ at step ps next own.
     (ap (λ (q : CpuNo). position_in c.args.self.now.positions.items q.0) own ∙ sym c.position.ensures ∙ c.in_ok-from.was)
     (subst (λ (q : CpuNo). IsNextAt c.args.steps.now c.in_ok-from.from q.0 c.in_ok-j.j) (sym own) at_it) next in
     ap Some (get_or_default c.args.steps.now c.in_ok-j.j _ step at_it.there ∙ same)
+
+cpu-same : (a b : CpuNo) → a.0 ≡ b.0 → a ≡ b
+cpu-same a b h = λ i. record { 0 = h i }
+
+pub returns-clause-own : goal.returns-clause-own
+returns-clause-own c = λ step is.
+    let steps = c.args.steps.now in
+    let next = next-at steps c.in_ok-from.from c.args.cpu.0 c.in_ok-j.j _ c.in_ok-j.was c.next_of.ensures in
+    let same : get_or steps c.in_ok-j.j step ≡ step = get_or_default steps c.in_ok-j.j step _ next.there ∙ same-step _ step is in
+    cpu-same step.cpu c.args.cpu (ap (λ (x : Step). x.cpu.0) (sym same) ∙ eqb-true _ _ (next.of_cpu step))
