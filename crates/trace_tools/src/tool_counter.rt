@@ -62,7 +62,7 @@ impl<T: TraceTool> ToolCounter<T> {
         };
         tool.feed(e);
         if tool.ended() {
-            self.close();
+            self.close_ended();
         }
     }
 
