@@ -125,7 +125,7 @@ pub back-more : (cell : Cell GroupOf) (gone : List CpuSeatView) (back back' : Li
     → Keeps p q at position taken counts room → AreBack cell (c ∷ gone) back'
 back-more cell gone back back' p c q at position taken counts room are added view in_cell keeps = subst (λ (b : List (SeatView Entry GroupOf)). AreBack cell (c ∷ gone) b) (sym added) (record {
   rest = All-push (λ (x : SeatView Entry GroupOf). (x.cell ≡ cell) × (x.holds ≡ false)) back p are.rest (ap (λ (x : CpuSeatView). x.cell) view ∙ in_cell, keeps.0);
-  each = All-cons (λ (x : CpuSeatView). IsBack x (back ++ p ∷ [])) c gone this (All-weaker (λ (x : CpuSeatView). IsBack x back) (λ (x : CpuSeatView). IsBack x (back ++ p ∷ [])) (λ x b. record { position = b.view; there = Contains-append_left back (p ∷ []) b.view b.there; same = b.same; own = b.own }) gone are.each);
+  each = All-cons (λ (x : CpuSeatView). IsBack x (back ++ p ∷ [])) c gone this (All-weaker (λ (x : CpuSeatView). IsBack x back) (λ (x : CpuSeatView). IsBack x (back ++ p ∷ [])) (λ x b. record { view = b.view; there = Contains-append_left back (p ∷ []) b.view b.there; same = b.same; own = b.own }) gone are.each);
 })
   where
     cpu_is : q ≡ c.cpu

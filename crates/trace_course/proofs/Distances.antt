@@ -15,7 +15,7 @@ use Rattle.trace_course.specs.Followed.{position_in}
 pub record IsNextFrom (steps : List Step) (from q position : ℕ) : Type 0 where
   pub behind : from ≤ position
   pub within : position ≤ length steps
-  pub none_between : script (take place steps) q ≡ script (take from steps) q
+  pub none_between : script (take position steps) q ≡ script (take from steps) q
 
 -- and so for each processor that has a position
 abbrev pub AreNext : List Step → ℕ → List (Option ℕ) → Type 0

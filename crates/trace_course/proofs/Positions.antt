@@ -98,10 +98,6 @@ module _ (at : GroupEntries) (steps : List Step) (s : Scripts) (ps : ArePassed a
       let is : x ≡ get_or steps j x = get_or_default steps j step x n.there in
       first-same (script (steps_of es) step.cpu.0) (script (drop (j + 1) steps) step.cpu.0) k.more x step (sym (whole step.cpu.0 from j x at_it n is) ∙ k.next)
 
-  -- so no other one is
-  pub not-found : (step : Step) (from j : ℕ) → position_in positions step.cpu.0 ≡ Some from → IsNextAt steps from step.cpu.0 j → (get_or steps j step ≡ step → ⊥) → IsNextOfScript g es step → ⊥
-  not-found step from j at_it n other k = other (found-is step from j at_it n k)
-
   -- a step is left where one is found
   pub some-left : (q from j : ℕ) → position_in positions q ≡ Some from → IsNextAt steps from q j → script (steps_given g.setup.drive) q ≡ script (steps_of es) q → ⊥
   some-left q from j at_it n none =

@@ -1,4 +1,4 @@
-use Rattle.std.proofs.Common.{◌≡◌, ◌<◌, Global, List, Vec, length, ℕ, ap, sym, subst, ◌∙◌, get_or, Some, absurd, ◌+◌, None, set, eqb-true}
+use Rattle.std.proofs.Common.{◌≡◌, ◌<◌, Global, List, Vec, length, ℕ, ap, sym, subst, ◌∙◌, get_or, Some, ◌+◌, None, set, eqb-true}
 use Rattle.std.proofs.lemmas.List.{get_or_default}
 use Rattle.std.specs.Prelude.{MatchOption, Option, take}
 use Rattle.rt_base.specs.declared.CpuNo.{CpuNo}
