@@ -1,5 +1,6 @@
 pub mod Words
 pub mod Lines
 pub mod Grammar
+pub mod EntryRest
 pub mod Known
 pub mod FirstLine

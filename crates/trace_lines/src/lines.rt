@@ -3,6 +3,7 @@ ghost use Rattle.std.specs.Prelude.{◌≡◌, ◌++◌, OnOk};
 ghost use Rattle.trace_lines.specs.Lines.{links_of, group_line, entry_line, block_line, end_line, count_line};
 ghost use Rattle.trace_lines.specs.Known.{Known, known_in};
 ghost use Rattle.trace_lines.specs.Grammar.{line_text};
+ghost use Rattle.trace_lines.specs.EntryRest.{text_after_tick};
 
 use crate::acts::put_act;
 use crate::links::put_links;
@@ -33,6 +34,24 @@ fn append_group_line(
     Ok(())
 }
 
+#[tactic(auto, using(crate::proofs::LineTexts::rest_text, std::proofs::Common::append_assoc))]
+pub(crate) fn append_after_tick(
+    out: &mut Vec<u8>,
+    format: &Format,
+    entry: &Entry,
+    links: &[CpuLink],
+) -> Result<(), AllocError>
+    ensures { let text = text_after_tick (known_in format.now) in
+        OnOk result (out.new.items ≡ out.old.items ++ text entry.now (links_of links.now)) }
+{
+    put_next_number(out, u64::from(entry.step.cpu.0))?;
+    put_act(out, format, entry.step.act)?;
+    put_reply(out, format, entry.reply)?;
+    put_links(out, format, links)?;
+    out.push(b'\n')?;
+    Ok(())
+}
+
 #[tactic(auto, using(crate::proofs::LineTexts::entry_text, std::proofs::Common::append_assoc))]
 fn append_entry_line(
     out: &mut Vec<u8>,
@@ -46,12 +65,7 @@ fn append_entry_line(
 {
     put_number(out, u64::from(number))?;
     put_next_number(out, entry.step.tick.0)?;
-    put_next_number(out, u64::from(entry.step.cpu.0))?;
-    put_act(out, format, entry.step.act)?;
-    put_reply(out, format, entry.reply)?;
-    put_links(out, format, links)?;
-    out.push(b'\n')?;
-    Ok(())
+    append_after_tick(out, format, entry, links)
 }
 
 #[tactic(auto, using(crate::proofs::LineTexts::block_text, std::proofs::Common::append_assoc))]

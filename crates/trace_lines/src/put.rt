@@ -35,10 +35,13 @@ pub fn put_next_word(out: &mut Vec<u8>, word: &[u8]) -> Result<(), AllocError>
 }
 
 /// A space, and then a number.
-#[tactic(auto, using(std::proofs::Common::append_assoc))]
+#[tactic(auto, using(std::proofs::Common::append_assoc, std::proofs::lemmas::Fmt::decimal_digit))]
 pub fn put_next_number(out: &mut Vec<u8>, n: u64) -> Result<(), AllocError>
     ensures { OnOk result (out.new.items ≡ out.old.items ++ 32 ∷ decimal n) }
 {
+    if n < 10 {
+        return put(out, &[b' ', b'0' + n as u8]);
+    }
     out.push(b' ')?;
     put_number(out, n)
 }
