@@ -27,15 +27,15 @@ use rt_rules::{Entry, Reply};
 use rt_task::{Setup, Step};
 use std::alloc::Global;
 use trace_course::Course;
-use trace_lines::{CpuLink, Version};
+use trace_lines::{CpuLink, LineNumbers, Version};
 use trace_read::mover_at;
 use trace_text::{cpus_of, shown_by};
 use trace_tools::Shown;
 
 /// A group whose entries are followed: the ranker that replays them, the requests so far with their
 /// counts, the tasks that waited as the last entry freed a semaphore, the group's processors with
-/// their links, how far the scripts or the turns of the processors were followed, and the number of
-/// entries.
+/// their links, how far the scripts or the turns of the processors were followed, the numbers of the
+/// line before, and the number of entries.
 #[derive(Drop)]
 pub(crate) struct Follow {
     afresh: Afresh,
@@ -43,6 +43,7 @@ pub(crate) struct Follow {
     waiting: WaitingList,
     links: GroupLinks,
     course: Course,
+    numbers: LineNumbers,
     count: u32,
 }
 
@@ -62,12 +63,14 @@ impl Follow {
         let tasks = setup.parts().tasks.as_slice().len();
         let waiting = WaitingList::open(alloc, tasks as u32)?;
         let links = GroupLinks::open(alloc, &afresh, cpus)?;
+        let numbers = LineNumbers::new(alloc)?;
         Ok(Follow {
             afresh,
             blocks,
             waiting,
             links,
             course,
+            numbers,
             count: 0,
         })
     }
@@ -141,6 +144,7 @@ impl Follow {
         self.links.follow(&self.afresh)?;
         make_entry_line(
             line,
+            &mut self.numbers,
             version,
             setup,
             self.count,

@@ -10,7 +10,7 @@ use block_counts::Seen;
 use rt_base::{GroupNo, NoMemory};
 use rt_rules::Entry;
 use rt_task::Setup;
-use trace_lines::{CpuLink, Format, Version, put_block_line, put_entry_line, put_group_line};
+use trace_lines::{CpuLink, Format, LineNumbers, Version, put_block_line, put_group_line};
 
 /// Whether the text begins with the line.
 pub(crate) fn begins_with(text: &[u8], line: &[u8]) -> bool
@@ -39,6 +39,7 @@ pub(crate) fn make_group_line(
 /// The same of an entry.
 pub(crate) fn make_entry_line(
     line: &mut Vec<u8>,
+    numbers: &mut LineNumbers,
     version: Version,
     setup: &Setup,
     number: u32,
@@ -50,7 +51,7 @@ pub(crate) fn make_entry_line(
 {
     let parts = setup.parts();
     line.clear();
-    put_entry_line(line, &Format { version, parts }, number, entry, links)
+    numbers.put_entry_line(line, &Format { version, parts }, number, entry, links)
 }
 
 /// The same of a request.
