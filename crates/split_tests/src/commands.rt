@@ -33,7 +33,7 @@ fn command<R: Threads + Wait + Sync, S: Source, K: Sink, G: Gate + Sync>(
 }
 
 /// What `split` answers to a document, between ends that never fail, and what it writes.
-pub fn split<R: Threads + Wait + Sync, G: Gate + Sync>(
+pub(crate) fn split<R: Threads + Wait + Sync, G: Gate + Sync>(
     rt: &R,
     alloc: Global,
     set: &str,

@@ -130,7 +130,7 @@ fn end_at<N: Names, R: Wait>(
 }
 
 /// What the last step of an order comes to, after which nothing is left to play, and the text of the run.
-pub fn text_in_order<R: Threads + Wait + Sync>(
+pub(crate) fn text_in_order<R: Threads + Wait + Sync>(
     rt: &R,
     alloc: Global,
     set: &str,
@@ -142,7 +142,7 @@ pub fn text_in_order<R: Threads + Wait + Sync>(
 }
 
 /// What a run comes to that is closed after the steps of an order.
-pub fn end_in_order<R: Wait>(
+pub(crate) fn end_in_order<R: Wait>(
     rt: &R,
     alloc: Global,
     set: &str,
