@@ -1,4 +1,4 @@
--- The lines of a picture: rectangles, words and paths. Places and sizes are whole numbers of pixels.
+-- The lines of a picture: rectangles, words and paths. Positions and sizes are whole numbers of pixels.
 use Rattle.std.specs.Prelude.{ℕ, ◌-◌, List, ◌∷◌, ◌++◌, codes, decimal}
 
 -- a blank, a name, and a value in quotes

@@ -1,4 +1,4 @@
--- Places among the entries of a group, the steps that may come next there, and how far scripts were followed.
+-- A group with entries of it, the steps that may come next there, and how far scripts were followed.
 use Rattle.std.specs.Prelude.{◌≡◌, Bool, ℕ, ◌+◌, ◌<◌, ◌≤◌, List, [], ◌∷◌, ◌++◌, length, take, slice_index_or, Option, None, Some}
 use Rattle.std.specs.Option.{is_some}
 use Rattle.rt_task.specs.declared.Step.{Step}
