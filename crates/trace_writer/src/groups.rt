@@ -32,7 +32,7 @@ use rt_task::{Parts, Setup};
 use set_canonical::canonical_of_parts;
 use set_plays::{GroupSteps, StepsLeft};
 use std::alloc::Global;
-use trace_lines::{Format, Version, first_line};
+use trace_lines::{Format, LineNumbers, Version, first_line};
 use trace_tools::{Bus, TraceTool};
 
 /// The lines of the entries of a group, each written as its step is taken. The bus is shown each entry.
@@ -44,6 +44,7 @@ fn write_entries<T: TraceTool, K: Sink>(
     format: &Format,
     bus: &mut Bus<T>,
     line: &mut Vec<u8>,
+    numbers: &mut LineNumbers,
     out: &mut K,
 ) -> Result<(), WriteStop>
     requires setup { replay.old.engine.setup ≡ setup.now }
@@ -69,7 +70,7 @@ fn write_entries<T: TraceTool, K: Sink>(
     while let Some(step) = left.next(setup, replay.engine().engine()) {
         let reply = replay.step(step)?;
         let entry = Entry { step, reply };
-        write_entry_line(out, line, format, no, &entry, replay.changed())?;
+        write_entry_line(out, line, numbers, format, no, &entry, replay.changed())?;
         show(bus, replay.engine(), number, no, &entry);
         no += 1;
     }
@@ -115,6 +116,7 @@ fn write_group<T: TraceTool, K: Sink>(
 {
     let mut left = steps.all(alloc, setup, number)?;
     let mut replay = Replay::open(alloc, setup, number, left.room())?;
+    let mut numbers = LineNumbers::new(alloc)?;
     write_group_line(out, line, format, number, replay.links())?;
     write_entries(
         setup,
@@ -124,6 +126,7 @@ fn write_group<T: TraceTool, K: Sink>(
         format,
         bus,
         line,
+        &mut numbers,
         out,
     )?;
     write_blocks(replay.requests(), format, line, out)

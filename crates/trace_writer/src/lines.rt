@@ -13,7 +13,7 @@ use block_counts::Seen;
 use rt_base::GroupNo;
 use rt_fault::{Sink, put_all};
 use rt_rules::Entry;
-use trace_lines::{CpuLink, Format, put_block_line, put_end_line, put_entry_line, put_group_line};
+use trace_lines::{CpuLink, Format, LineNumbers, put_block_line, put_end_line, put_group_line};
 
 /// Writes bytes.
 pub fn write_bytes<K: Sink>(out: &mut K, bytes: &[u8]) -> Result<(), WriteStop>
@@ -53,6 +53,7 @@ pub fn write_group_line<K: Sink>(
 pub fn write_entry_line<K: Sink>(
     out: &mut K,
     line: &mut Vec<u8>,
+    numbers: &mut LineNumbers,
     format: &Format,
     number: u32,
     entry: &Entry,
@@ -62,7 +63,7 @@ pub fn write_entry_line<K: Sink>(
         (line_text (known_in format.now) (entry_line number entry.now (links_of links.now))) }
 {
     line.clear();
-    put_entry_line(line, format, number, entry, links)?;
+    numbers.put_entry_line(line, format, number, entry, links)?;
     write_bytes(out, line.as_slice())
 }
 
