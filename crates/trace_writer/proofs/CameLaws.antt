@@ -3,7 +3,7 @@ use Rattle.std.proofs.Common.{◌≡◌, ℕ, ◌≤◌, List, [], ◌++◌, ref
 use Rattle.std.specs.Prelude.{◌≢◌}
 use Rattle.std.specs.Prelude.{Result, Ok, Err, IsErrAnd, OnOk, OnErr}
 use Rattle.rt_fault.specs.Faults.{HasRisen}
-use Rattle.rt_fault.specs.Ends.{SinkSeen, Writing, writing}
+use Rattle.rt_fault.specs.Ends.{writing}
 use Rattle.rt_fault.specs.Held.{Held, Extends, ExtendsByPrefix}
 use Rattle.rt_fault.proofs.HeldLaws.{Extends-none, Extends-append, ExtendsByPrefix-append, ExtendsByPrefix-more, ExtendsByPrefix-front}
 use Rattle.trace_writer.specs.declared.stop.WriteStop.{WriteStop}

@@ -1,4 +1,5 @@
 use Rattle.std.proofs.Common.{List, ap, ◌∙◌, refl, arith}
+use Rattle.std.proofs.lemmas.Result.{IfOk-from_err}
 use Rattle.rt_rules.specs.declared.history.Entry.{Entry}
 use Rattle.rt_plays.specs.Plays.{group_with}
 use Rattle.rt_plays.specs.Groups.{GroupHistory}
@@ -37,7 +38,7 @@ pub returns-in_err-numbers-clause-lines : goal.returns-in_err-numbers-clause-lin
 returns-in_err-numbers-clause-lines g c = stopped-before g.K.Sink.held g.K.Sink.faults c.from_residual-in_err-numbers.result c.args.out.now _ c.from_residual-in_err-numbers.ensures.1
 
 pub returns-in_err-write_group_line-clause-shown : goal.returns-in_err-write_group_line-clause-shown
-returns-in_err-write_group_line-clause-shown g c = let h = c.from_residual-in_err-write_group_line.ensures in ?
+returns-in_err-write_group_line-clause-shown g c = IfOk-from_err c.from_residual-in_err-write_group_line.result _ c.from_residual-in_err-write_group_line.ensures.0
 
 pub returns-in_err-write_group_line-clause-lines : goal.returns-in_err-write_group_line-clause-lines
 returns-in_err-write_group_line-clause-lines g c =
