@@ -119,17 +119,20 @@ pub(crate) fn running(alloc: Global, plays: &[Played], task: TaskNo) -> Result<V
     Ok(cpus)
 }
 
-/// Marks the task that is run without a unit, if there is one.
+/// Marks the task that is run without a unit, if there is one that has a mark.
 fn mark(marks: &mut [bool], playing: Playing)
-    ensures { (g : Group) (t : ℕ) → t < length marks.old → slice_index_or marks.new t false
+    ensures length { length marks.new ≡ length marks.old }
+    ensures marks { (g : Group) (t : ℕ) → t < length marks.old → slice_index_or marks.new t false
         ≡ (runs_no_unit g t (playing_shown playing) || slice_index_or marks.old t false) }
 {
     let Playing::RunsTask(task) = playing else {
         return;
     };
-    if let Some(mark) = marks.get_mut(task.0 as usize) {
-        *mark = true;
+    let position = task.0 as usize;
+    if position >= marks.len() {
+        return;
     }
+    marks[position] = true;
 }
 
 /// Marks the tasks that a processor runs and does no unit of.
@@ -161,6 +164,23 @@ fn is_unmarked(marks: &[bool], task: TaskNo) -> bool
     }
 }
 
+/// The same processors as `running` gives: none, without a search, for a task that the marks say no processor runs.
+fn running_of(
+    alloc: Global,
+    plays: &[Played],
+    marks: &[bool],
+    task: TaskNo,
+) -> Result<Vec<CpuNo>, NoMemory>
+    requires { AreRunning (map played_shown plays.now) marks.now }
+    ensures { IfOk result (λ v. (g : Group) → cpu_numbers v.items
+        ≡ rows.running g task.0 (map played_shown plays.now)) }
+{
+    if is_unmarked(marks, task) {
+        return Ok(Vec::new(alloc));
+    }
+    running(alloc, plays, task)
+}
+
 fn close_task(
     row: &mut TaskFeed,
     alloc: Global,
@@ -171,11 +191,7 @@ fn close_task(
     ensures { OnOk result ((g : Group)
         → row.new ≡ rows.task_closed g (map played_shown plays.now) row.old) }
 {
-    let cpus = if is_unmarked(marks, row.task()) {
-        Vec::new(alloc)
-    } else {
-        running(alloc, plays, row.task())?
-    };
+    let cpus = running_of(alloc, plays, marks, row.task())?;
     row.close(alloc, cpus)?;
     Ok(())
 }

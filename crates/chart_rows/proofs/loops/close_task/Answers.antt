@@ -8,7 +8,7 @@ use Rattle.chart_rows.proofs.loops.close_task.Goals as goal
 pub returns : goal.returns
 returns c = λ g.
     let k = c.args.row.now in
-    let qs = c.in_ok-running.ensures g ∙ ap (λ t. running g t (map played_shown c.args.plays.now)) c.task.ensures in
+    let qs = c.in_ok-cpus.ensures g ∙ ap (λ t. running g t (map played_shown c.args.plays.now)) c.task.ensures in
     c.in_ok-close.ensures g
     ∙ ap (λ (us : List ℕ). let closed : TaskKept = record {
       task = k.task;

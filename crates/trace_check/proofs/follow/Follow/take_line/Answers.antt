@@ -30,19 +30,19 @@ said-step at m o e told next here =
     let same = same-mover m (mover_of e.step) told in
     next e.step here (ap (λ (x : Mover). x.cpu) (sym same)) (says-tick e.step.act ∙ ap (λ (x : Mover). x.is_tick) (sym same))
 
-pub returns-in-None : goal.returns-in-None
-returns-in-None c = λ at fw i e links more known here next.
+pub returns-in_default : goal.returns-in_default
+returns-in_default c = λ at fw i e links more known here next.
     let v = c.args.version in
     let some : c.mover_at.result ≡ Some (mover_of e.step) = c.mover_at.ensures (known_of v at.group.setup) i e links more (valid-tells v at.group.setup fw.following.valid) known here in
-    let none : c.mover_at.result ≡ None = c.in-None.is in
+    let none : c.mover_at.result ≡ None = c.in_default.is in
     cc
 
-pub returns-in-None-take_next : goal.returns-in-None-take_next
-returns-in-None-take_next c = λ at fw i e links more known here next.
+pub returns-in_default-take_next : goal.returns-in_default-take_next
+returns-in_default-take_next c = λ at fw i e links more known here next.
     let v = c.args.version in
     let some : c.mover_at.result ≡ Some (mover_of e.step) = c.mover_at.ensures (known_of v at.group.setup) i e links more (valid-tells v at.group.setup fw.following.valid) known here in
     let said = said-step at c.in-Some.mover c.take_next.result e (sym c.in-Some.is ∙ some) (λ s. c.take_next.ensures.next at s (can-take at c.args.setup.now c.args.self.now fw)) next.next in
-    let none : c.take_next.result ≡ None = c.in-None-take_next.is in
+    let none : c.take_next.result ≡ None = c.in_default-take_next.is in
     cc
 
 pub step-reply-requires : goal.step-reply-requires
