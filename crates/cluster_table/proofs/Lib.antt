@@ -1,7 +1,7 @@
 pub mod FirstTasks
 pub mod RowLaws
 pub mod Stays
-pub mod Settled
+pub mod Stable
 pub mod Listed
 pub mod Seen
 mod Marking

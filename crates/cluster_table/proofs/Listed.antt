@@ -8,7 +8,7 @@ use Rattle.rt_rules.specs.Numbers.{has}
 use Rattle.rt_rules.proofs.BoolLaws.{clash, either, neither, not_true, or_true, unless}
 use Rattle.rt_rules.proofs.DistinctLaws.{distinct-append, length-few}
 use Rattle.rt_rules.proofs.MemberLaws.{equal_self, has-push, turned}
-use Rattle.cluster_table.specs.Clusters.{IsSettled}
+use Rattle.cluster_table.specs.Clusters.{IsStable}
 use Rattle.cluster_table.specs.Placed.{PlacedCluster}
 use Rattle.cluster_table.specs.Table.{AreListed}
 
@@ -54,13 +54,13 @@ module _ (ks : List (Option PlacedCluster)) (changed : List ℕ) (room : ℕ) (s
 
     -- one cluster is another from now on, and is listed where it is not placed
     listed-changed : (new : PlacedCluster) (now : List ℕ) → IsDistinct now → ((d : ℕ) → d ≢ c → has d now ≡ has d changed)
-        → has c now ≡ not new.is_placed → (new.is_placed ≡ true → IsSettled new.cluster) → AreListed (set ks c (Some new)) now room
-    listed-changed new now once others here settled = record {
+        → has c now ≡ not new.is_placed → (new.is_placed ≡ true → IsStable new.cluster) → AreListed (set ks c (Some new)) now room
+    listed-changed new now once others here stable = record {
       once = once;
       inside = λ d h. by_place d h (cases_eq d c);
       unplaced = λ d m h e. is_unplaced d m h e (cases_eq d c);
       listed = λ d m e h. is_listed d m e h (cases_eq d c);
-      settled = λ d m e h. is_settled d m e h (cases_eq d c);
+      stable = λ d m e h. is_stable d m e h (cases_eq d c);
       room_for_all = omega (arith, length-set ks c (Some new), s.room_for_all);
     }
       where
@@ -82,13 +82,13 @@ module _ (ks : List (Option PlacedCluster)) (changed : List ℕ) (room : ℕ) (s
         is_listed d m e h (inl same) = let out : new.is_placed ≡ false = rw (is_new d m e same) at h in rw (same, here, out)
         is_listed d m e h (inr apart) = others d apart ∙ s.listed d m (is_old d m e apart) h
 
-        is_settled : (d : ℕ) (m : PlacedCluster) → get_or (set ks c (Some new)) d None ≡ Some m → m.is_placed ≡ true → (d ≡ c) ⊎ (d ≢ c) → IsSettled m.cluster
-        is_settled d m e h (inl same) = let is : m ≡ new = is_new d m e same in rw is (settled (rw is at h))
-        is_settled d m e h (inr apart) = s.settled d m (is_old d m e apart) h
+        is_stable : (d : ℕ) (m : PlacedCluster) → get_or (set ks c (Some new)) d None ≡ Some m → m.is_placed ≡ true → (d ≡ c) ⊎ (d ≢ c) → IsStable m.cluster
+        is_stable d m e h (inl same) = let is : m ≡ new = is_new d m e same in rw is (stable (rw is at h))
+        is_stable d m e h (inr apart) = s.stable d m (is_old d m e apart) h
 
     -- it is placed as before
-    pub listed-stays : (new : PlacedCluster) → new.is_placed ≡ k.is_placed → (new.is_placed ≡ true → IsSettled new.cluster) → AreListed (set ks c (Some new)) changed room
-    listed-stays new same settled = listed-changed new changed s.once (λ d apart. refl) (rw same listed-is) settled
+    pub listed-stays : (new : PlacedCluster) → new.is_placed ≡ k.is_placed → (new.is_placed ≡ true → IsStable new.cluster) → AreListed (set ks c (Some new)) changed room
+    listed-stays new same stable = listed-changed new changed s.once (λ d apart. refl) (rw same listed-is) stable
 
     -- it was placed, and is not from now on
     pub listed-pushed : (new : PlacedCluster) → k.is_placed ≡ true → new.is_placed ≡ false → AreListed (set ks c (Some new)) (changed ++ c ∷ []) room
@@ -100,24 +100,24 @@ module _ (ks : List (Option PlacedCluster)) (changed : List ℕ) (room : ℕ) (s
         (λ h. absurd (clash new.is_placed h now))
 
     -- it is placed, and was the last of the list
-    pub listed-placed : (rest : List ℕ) (new : PlacedCluster) → changed ≡ rest ++ c ∷ [] → new.is_placed ≡ true → IsSettled new.cluster → AreListed (set ks c (Some new)) rest room
-    listed-placed rest new last placed settled =
+    pub listed-placed : (rest : List ℕ) (new : PlacedCluster) → changed ≡ rest ++ c ∷ [] → new.is_placed ≡ true → IsStable new.cluster → AreListed (set ks c (Some new)) rest room
+    listed-placed rest new last placed stable =
         let q = distinct-popped c rest (rw last at s.once) in
         listed-changed new rest q.0
         (λ d apart. sym (rw last (has-push d c rest ∙ rw (other d c apart))))
         (rw placed q.1)
-        (λ h. settled)
+        (λ h. stable)
 
     -- it is placed only if it was before, and is listed where it no longer is
-    pub listed-set : (new : PlacedCluster) (now : List ℕ) → (new.is_placed ≡ true → k.is_placed ≡ true) → (new.is_placed ≡ true → IsSettled new.cluster)
+    pub listed-set : (new : PlacedCluster) (now : List ℕ) → (new.is_placed ≡ true → k.is_placed ≡ true) → (new.is_placed ≡ true → IsStable new.cluster)
         → now ≡ (if k.is_placed && not new.is_placed then changed ++ c ∷ [] else changed) → AreListed (set ks c (Some new)) now room
-    listed-set new now kept settled is = rw is (by_case k.is_placed new.is_placed refl refl)
+    listed-set new now kept stable is = rw is (by_case k.is_placed new.is_placed refl refl)
       where
         by_case : (b d : Bool) → k.is_placed ≡ b → new.is_placed ≡ d → AreListed (set ks c (Some new)) (if b && not d then changed ++ c ∷ [] else changed) room
-        by_case true true e h = listed-stays new (h ∙ sym e) settled
+        by_case true true e h = listed-stays new (h ∙ sym e) stable
         by_case true false e h = listed-pushed new e h
         by_case false true e h = absurd (clash k.is_placed (kept h) e)
-        by_case false false e h = listed-stays new (h ∙ sym e) settled
+        by_case false false e h = listed-stays new (h ∙ sym e) stable
 
   -- the last of the list is a cluster of another group
   pub listed-absent : (rest : List ℕ) → changed ≡ rest ++ c ∷ [] → get_or ks c None ≡ None → AreListed ks rest room
@@ -126,7 +126,7 @@ module _ (ks : List (Option PlacedCluster)) (changed : List ℕ) (room : ℕ) (s
     inside = λ d h. s.inside d (there d h);
     unplaced = λ d m h e. s.unplaced d m (there d h) e;
     listed = λ d m e h. still d m e (s.listed d m e h) (cases_eq d c);
-    settled = s.settled;
+    stable = s.stable;
     room_for_all = s.room_for_all;
   }
     where
@@ -137,10 +137,10 @@ module _ (ks : List (Option PlacedCluster)) (changed : List ℕ) (room : ℕ) (s
       still d m e h (inl same) = let read : get_or ks c None ≡ Some m = rw same at e in let clashing : None ≡ Some m = sym none ∙ read in cc
       still d m e h (inr apart) = let listed : has d (rest ++ c ∷ []) ≡ true = rw last at h in sym (has-push d c rest ∙ rw (other d c apart)) ∙ listed
 
--- where none is listed, all are settled
-pub settled-all : (ks : List (Option PlacedCluster)) (changed : List ℕ) (room : ℕ) → AreListed ks changed room → changed ≡ [] → (c : ℕ) (k : PlacedCluster) → get_or ks c None ≡ Some k → IsSettled k.cluster
-settled-all ks changed room s none c k at = by_case k.is_placed refl
+-- where none is listed, all are stable
+pub stable-all : (ks : List (Option PlacedCluster)) (changed : List ℕ) (room : ℕ) → AreListed ks changed room → changed ≡ [] → (c : ℕ) (k : PlacedCluster) → get_or ks c None ≡ Some k → IsStable k.cluster
+stable-all ks changed room s none c k at = by_case k.is_placed refl
   where
-    by_case : (b : Bool) → k.is_placed ≡ b → IsSettled k.cluster
-    by_case true e = s.settled c k at e
+    by_case : (b : Bool) → k.is_placed ≡ b → IsStable k.cluster
+    by_case true e = s.stable c k at e
     by_case false e = let there : has c changed ≡ true = s.listed c k at e in let gone : has c changed ≡ false = rw none in cc

@@ -14,16 +14,16 @@ use Rattle.link_table.specs.Linked.{Linked, CanExchange, IsOfCluster, IsPlacedFo
 use Rattle.link_table.proofs.StayLaws.{linked_top-stays, placed_links-stay}
 use Rattle.cluster_table.specs.declared.pending.Pending.{Pending}
 use Rattle.cluster_table.specs.declared.pending.Pending.TheVariants.{Nothing, One, Several}
-use Rattle.cluster_table.specs.Clusters.{KeptCluster, IsSettled, after_take, left_by, relinked, with_key}
+use Rattle.cluster_table.specs.Clusters.{KeptCluster, IsStable, after_take, left_by, relinked, with_key}
 use Rattle.cluster_table.specs.Pending.{IsPending, after_change, is_nothing}
 use Rattle.cluster_table.proofs.FirstTasks.{distinct-first_tasks, few-first_tasks}
-use Rattle.cluster_table.proofs.Settled.{settled-run}
+use Rattle.cluster_table.proofs.Stable.{stable-run}
 use Rattle.cluster_table.proofs.Stays.{stays-after_take, stays-left_by}
 
 -- it is the same as a processor takes an interrupt, and as it comes to run nothing
 pub pending-run : (p : Pending) (k : KeptCluster) (q : ℕ) (np : Bool) → IsSound k.linked → k.cpus ≡ length k.linked.runs → IsOfCluster k.linked q → IsPending p k
     → IsPending p (after_take q np k) × IsPending p (left_by q k)
-pending-run Nothing k q np sound all of_cluster h = settled-run k q np sound all of_cluster h
+pending-run Nothing k q np sound all of_cluster h = stable-run k q np sound all of_cluster h
 pending-run (One e) k q np sound all of_cluster h =
     let s = placed_links-stay k.linked h.0 q np sound of_cluster h.1.once h.1.fits h.1.placed in (
       (h.0, record { once = h.1.once; fits = omega (arith, h.1.fits, (stays-after_take q np).cpus k); placed = s.0 }, h.2),
@@ -32,10 +32,10 @@ pending-run (One e) k q np sound all of_cluster h =
 pending-run Several k q np sound all of_cluster h = (tt, tt)
 
 -- nothing is pending where the links are placed
-pub settled-pending : (p : Pending) (k : KeptCluster) → IsPending p k → is_nothing p ≡ true → IsSettled k
-settled-pending Nothing k h is = h
-settled-pending (One e) k h is = cc
-settled-pending Several k h is = cc
+pub stable-pending : (p : Pending) (k : KeptCluster) → IsPending p k → is_nothing p ≡ true → IsStable k
+stable-pending Nothing k h is = h
+stable-pending (One e) k h is = cc
+stable-pending Several k h is = cc
 
 unchanged : (b : Bool) → (b && true) || false ≡ b
 unchanged true = refl

@@ -36,8 +36,8 @@ abbrev pub relinked : KeptCluster → KeptCluster
 relinked c = record c { linked = record c.linked { links = links_now c } }
 
 -- placing again changes no link
-abbrev pub IsSettled : KeptCluster → Type 0
-IsSettled c = links_now c ≡ c.linked.links
+abbrev pub IsStable : KeptCluster → Type 0
+IsStable c = links_now c ≡ c.linked.links
 
 -- the clusters of group n among those of a set, whose first processor is `first`
 abbrev pub rows_from : ℕ → ℕ → ℕ → List sets.Cluster → List (Option KeptCluster)

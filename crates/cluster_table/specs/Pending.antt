@@ -7,7 +7,7 @@ use Rattle.ready_queue.specs.Queue.{Queue, first_tasks}
 use Rattle.link_table.specs.Linked.{Linked, IsPlacedFor}
 use Rattle.cluster_table.specs.declared.pending.Pending.{Pending}
 use Rattle.cluster_table.specs.declared.pending.Pending.TheVariants.{Nothing, One, Several}
-use Rattle.cluster_table.specs.Clusters.{KeptCluster, IsSettled}
+use Rattle.cluster_table.specs.Clusters.{KeptCluster, IsStable}
 
 -- a cluster by its tasks, with these links and runs
 abbrev pub cluster_of : Queue → Linked → KeptCluster
@@ -24,7 +24,7 @@ after_change e p = if is_none e.removed && is_none e.added then p else (if is_no
 
 -- the links are placed for the tasks that were the first ones before
 abbrev pub IsPending : Pending → KeptCluster → Type 0
-IsPending Nothing k = IsSettled k
+IsPending Nothing k = IsStable k
 IsPending (One e) k = (old : List ℕ) × IsPlacedFor old k.linked
     × IsExchanged old (first_tasks k.cpus k.keys) (number_of_task e.removed) (number_of_task e.added)
 IsPending Several k = ⊤

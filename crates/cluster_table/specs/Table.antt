@@ -4,7 +4,7 @@ use Rattle.rt_base.specs.declared.ClusterNo.{ClusterNo}
 use Rattle.rt_rules.specs.Distinct.{IsDistinct}
 use Rattle.rt_rules.specs.Numbers.{has}
 use Rattle.link_table.specs.Linked.{IsOfCluster}
-use Rattle.cluster_table.specs.Clusters.{KeptCluster, IsSettled}
+use Rattle.cluster_table.specs.Clusters.{KeptCluster, IsStable}
 use Rattle.cluster_table.specs.Placed.{PlacedCluster}
 
 -- the cluster of each processor of the set; and by its number each cluster of the group
@@ -43,5 +43,5 @@ pub record AreListed (ks : List (Option PlacedCluster)) (changed : List ℕ) (ro
   pub inside : (c : ℕ) → has c changed ≡ true → c < length ks
   pub unplaced : (c : ℕ) (k : PlacedCluster) → has c changed ≡ true → slice_index_or ks c None ≡ Some k → k.is_placed ≡ false
   pub listed : (c : ℕ) (k : PlacedCluster) → slice_index_or ks c None ≡ Some k → k.is_placed ≡ false → has c changed ≡ true
-  pub settled : (c : ℕ) (k : PlacedCluster) → slice_index_or ks c None ≡ Some k → k.is_placed ≡ true → IsSettled k.cluster
+  pub stable : (c : ℕ) (k : PlacedCluster) → slice_index_or ks c None ≡ Some k → k.is_placed ≡ true → IsStable k.cluster
   pub room_for_all : length ks ≤ room

@@ -2,7 +2,7 @@
 ghost use Rattle.std.specs.Prelude.{◌≡◌, ◌<◌, true, IfOk, length};
 ghost use Rattle.rt_base.specs.TaskNos.{number_of_task};
 ghost use Rattle.link_table.specs.Linked.{IsOfCluster, irq_reply, link_of, runs_on};
-ghost use Rattle.cluster_table.specs.Clusters.{IsSettled, after_take, fresh, left_by, relinked, with_key};
+ghost use Rattle.cluster_table.specs.Clusters.{IsStable, after_take, fresh, left_by, relinked, with_key};
 ghost use Rattle.cluster_table.specs.Placed.{as_placed};
 
 use crate::pending::Pending;
@@ -60,7 +60,7 @@ impl ClusterState {
         room: u32,
     ) -> Result<ClusterState, NoMemory>
         ensures kept { IfOk result (λ k. k ≡ as_placed (fresh first.0 cpus room)) }
-        ensures settled { IsSettled (fresh first.0 cpus room) }
+        ensures stable { IsStable (fresh first.0 cpus room) }
     {
         let queue = ReadyQueue::new(alloc, cpus, room)?;
         let links = Links::new(alloc, first, cpus)?;
@@ -117,7 +117,7 @@ impl ClusterState {
         ensures reply { result ≡ irq_reply self.old.cluster.linked q.0 np }
         ensures cluster { self.new.cluster ≡ after_take q.0 np self.old.cluster }
         ensures placed { self.new.is_placed ≡ self.old.is_placed }
-        ensures settled { self.new.is_placed ≡ true → IsSettled self.new.cluster }
+        ensures stable { self.new.is_placed ≡ true → IsStable self.new.cluster }
     {
         self.links.take_irq(q, np)
     }
@@ -127,7 +127,7 @@ impl ClusterState {
         requires { IsOfCluster self.old.cluster.linked q.0 }
         ensures cluster { self.new.cluster ≡ left_by q.0 self.old.cluster }
         ensures placed { self.new.is_placed ≡ self.old.is_placed }
-        ensures settled { self.new.is_placed ≡ true → IsSettled self.new.cluster }
+        ensures stable { self.new.is_placed ≡ true → IsStable self.new.cluster }
     {
         self.links.leave(q);
     }
@@ -135,7 +135,7 @@ impl ClusterState {
     /// Whether the links follow from the eligible tasks and from what runs.
     pub(crate) fn is_placed(&self) -> bool
         ensures flag { result ≡ self.now.is_placed }
-        ensures settled { self.now.is_placed ≡ true → IsSettled self.now.cluster }
+        ensures stable { self.now.is_placed ≡ true → IsStable self.now.cluster }
     {
         self.pending.is_nothing()
     }
@@ -146,7 +146,7 @@ impl ClusterState {
           cluster = relinked self.old.cluster;
           is_placed = true;
         } }
-        ensures settled { IsSettled self.new.cluster }
+        ensures stable { IsStable self.new.cluster }
     {
         placing::place(&self.queue, &mut self.links, &mut self.top, self.pending);
         self.pending = Pending::Nothing;

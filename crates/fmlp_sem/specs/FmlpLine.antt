@@ -8,7 +8,7 @@ pub record FmlpLine : Type 0 where
   pub room : ℕ
   pub line : List ℕ
 
--- each task stands once in the line, and the line has a place for each task below the room
+-- each task stands once in the line, and the line has room for each task below the room
 pub record IsRoomy (room capacity : ℕ) (line : List ℕ) : Type 0 where
   pub once : IsDistinct line
   pub below : (t : ℕ) → has t line ≡ true → t < room

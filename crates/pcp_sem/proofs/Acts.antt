@@ -15,7 +15,7 @@ use Rattle.pcp_sem.specs.Pairs.{has_pair, tasks_of}
 use Rattle.pcp_sem.specs.Stack.{IsStack}
 use Rattle.pcp_sem.specs.PcpKept.{PcpKept, above_ceiling}
 use Rattle.pcp_sem.specs.IsPcp.{IsUser, IsSound, IsPcp}
-use Rattle.pcp_sem.specs.Settled.{IsSettled}
+use Rattle.pcp_sem.specs.AfterActs.{HoldsAfterActs}
 use Rattle.rt_rules.proofs.PcpLaws.{stack-step}
 use Rattle.rt_rules.proofs.PairLaws.{distinct-in_order, has_pair-in_order, pair-of}
 use Rattle.pcp_sem.proofs.KeptOrder.{higher-differs, ranking-keys, length-in_order, in_order-rekeyed, in_order-push, tested-nobody, tested-first}
@@ -36,8 +36,8 @@ pub may_ask : {v a : PcpKept} (t s : ℕ) (key : Key) → v ≡ a → MayAsk a.c
 may_ask t s key e may = subst (λ (v : PcpKept). MayAsk v.ceilings v.keys v.state t s key) (sym e) may
 
 module _ (ceilings keys : List Key) (l : PcpState) (hc wc oc gc : ℕ) (ok : IsPcp ceilings keys l hc wc oc gc) where
-  pub settled : (grants : List ℕ) → IsSettled (record { ceilings = ceilings; state = l; keys = keys; grants = grants })
-  settled grants = record {
+  pub after_acts : (grants : List ℕ) → HoldsAfterActs (record { ceilings = ceilings; state = l; keys = keys; grants = grants })
+  after_acts grants = record {
     one_holder = ok.sound.one_holder;
     stack = ok.stack;
     walks_end = λ t h. waiting-blocked ceilings keys t l ok.stack ok.sound h;
@@ -54,8 +54,8 @@ module _ (ceilings keys : List Key) (l : PcpState) (hc wc oc gc : ℕ) (ok : IsP
     grants_room = omega (arith, ok.grants_room);
   }
 
-  pub settled-freed : (t s : ℕ) (grants : List ℕ) → IsSettled (record { ceilings = ceilings; state = pcp_after (above keys) (above_ceiling keys ceilings) (Frees t s) l; keys = keys; grants = grants })
-  settled-freed t s grants = record {
+  pub after_acts-freed : (t s : ℕ) (grants : List ℕ) → HoldsAfterActs (record { ceilings = ceilings; state = pcp_after (above keys) (above_ceiling keys ceilings) (Frees t s) l; keys = keys; grants = grants })
+  after_acts-freed t s grants = record {
     one_holder = (sound-frees ceilings keys t s l ok.sound).one_holder;
     stack = stack-step (above keys) (above_ceiling keys ceilings) (Frees t s) l ok.stack;
     walks_end = λ u h. waiting-blocked ceilings keys u (pcp_after (above keys) (above_ceiling keys ceilings) (Frees t s) l) (stack-step (above keys) (above_ceiling keys ceilings) (Frees t s) l ok.stack) (sound-frees ceilings keys t s l ok.sound) h;

@@ -3,4 +3,4 @@ pub mod Stack
 pub mod PcpKept
 pub mod Listed
 pub mod IsPcp
-pub mod Settled
+pub mod AfterActs

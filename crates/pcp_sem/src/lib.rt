@@ -11,7 +11,7 @@ ghost use Rattle.rt_rules.specs.Pcp.{of_others, pcp_after, pcp_sem_state, passes
 ghost use Rattle.sem_laws.specs.KeptKeys.{key_at, above};
 ghost use Rattle.pcp_sem.specs.Pairs.{has_pair, tasks_of};
 ghost use Rattle.pcp_sem.specs.PcpKept.{PcpKept, above_ceiling, blocker_of, last_granted};
-ghost use Rattle.pcp_sem.specs.Settled.{IsSettled};
+ghost use Rattle.pcp_sem.specs.AfterActs.{HoldsAfterActs};
 
 use pairs::Pair;
 use rt_base::{Ask, NoMemory, TaskNo};
@@ -117,7 +117,7 @@ impl PcpSet {
         ensures queued { (result ≡ Ask.Queued) ↔
             (passes (above_ceiling self.new.keys self.new.ceilings)
             self.old.state.held task.0 ≡ false) }
-        ensures settled { IsSettled self.new }
+        ensures holds { HoldsAfterActs self.new }
     {
         self.keys[task.0 as usize] = key;
         let pair = Pair { task, sem };
@@ -154,7 +154,7 @@ impl PcpSet {
             tasks_of (without_pair (record { task = task.0; sem = sem }) self.old.state.held) }
         ensures count { result ≡ length self.new.grants }
         ensures one { result ≤ 1 }
-        ensures settled { IsSettled self.new }
+        ensures holds { HoldsAfterActs self.new }
     {
         pairs::take_out(&mut self.held, Pair { task, sem });
         self.grants.clear();
@@ -193,7 +193,7 @@ impl PcpSet {
         ensures holder { number_of_task result ≡
             blocker_of self.now.ceilings self.now.state.held task.0 }
         ensures nobody { IsNone result ↔ (of_others task.0 self.now.state.held ≡ []) }
-        ensures settled { IsSettled self.now }
+        ensures holds { HoldsAfterActs self.now }
     {
         pairs::newest_of_others(self.held.as_slice(), task)
     }

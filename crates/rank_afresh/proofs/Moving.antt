@@ -29,7 +29,7 @@ use Rattle.group_core.specs.Reads.{CanRead, timer_in}
 use Rattle.group_core.proofs.Counting.{read-clock}
 use Rattle.group_core.proofs.Reading.{is-task}
 use Rattle.rank_afresh.specs.Clusters.{ClusterFacts, HasRenewed, IsPlaced, RunBut, has_cpu, runs_in}
-use Rattle.rank_afresh.specs.Facts.{ArePlaced, ArePlacedBut, CanEnd, CanFollow, Facts, HasEnded, HaveRenewed, WithRoom, cluster_at, core_of, with_core}
+use Rattle.rank_afresh.specs.Facts.{ArePlaced, ArePlacedBut, CanEnd, CanRenew, Facts, HasEnded, HaveRenewed, WithRoom, cluster_at, core_of, with_core}
 use Rattle.rank_afresh.specs.declared.ran.Ran.TheVariants as rans
 use Rattle.rank_afresh.specs.Moments.{due_in}
 use Rattle.rank_afresh.specs.Ranks.{AreTasks}
@@ -73,17 +73,17 @@ ended-of p f x room mid new kept sems settled clusters count rest moments =
     }
 
 -- once the clock has moved, and the tasks that are due are listed
-pub end-clocked : (p : Parts) (tick clock : ℕ) (f : Facts) (x : core.Facts) (left : List (Option ℕ)) (due : List ℕ) → CanFollow p f → tick < TICK_END → x ≡ core.clocked tick (core_of f)
+pub end-clocked : (p : Parts) (tick clock : ℕ) (f : Facts) (x : core.Facts) (left : List (Option ℕ)) (due : List ℕ) → CanRenew p f → tick < TICK_END → x ≡ core.clocked tick (core_of f)
     → length left ≡ length f.moments → due ≡ due_in clock f.moments → CanEnd p (record (with_core x f) { moments = left; looked = due })
 end-clocked p tick clock f x left due can low clocked count listed =
-    let moved : CanFollow p (record (with_core (core.clocked tick (core_of f)) f) { moments = left; looked = due }) = record {
+    let moved : CanRenew p (record (with_core (core.clocked tick (core_of f)) f) { moments = left; looked = due }) = record {
       read = read-clock MOST_STEPS MOST_STEPS p f.kept (omega arith) can.read tick low;
       keys = can.keys;
       positions = positions-stay p f.kept (core.clocked tick (core_of f)).kept f.clusters refl can.positions;
       moments = count ∙ can.moments;
     } in
     record {
-      follow = subst (λ (y : core.Facts). CanFollow p (record (with_core y f) { moments = left; looked = due })) (sym clocked) moved;
+      renew = subst (λ (y : core.Facts). CanRenew p (record (with_core y f) { moments = left; looked = due })) (sym clocked) moved;
       looked_are = rw listed (due-are p clock f.moments can.moments);
     }
 

@@ -14,7 +14,7 @@ use Rattle.rt_rules.proofs.MemberLaws.{equal_self, has-appended, has-one, has-pu
 use Rattle.group_core.specs.Facts as core
 use Rattle.rank_afresh.specs.declared.ran.Ran.{Ran}
 use Rattle.rank_afresh.specs.declared.ran.Ran.TheVariants as rans
-use Rattle.rank_afresh.specs.Clusters.{ClusterFacts, HasFollowed, HasRenewed, IsPlaced, IsPlacedBut, has_cpu, looked_at, looked_over, no_facts, own, runs_anew}
+use Rattle.rank_afresh.specs.Clusters.{ClusterFacts, HasRelinked, HasRenewed, IsPlaced, IsPlacedBut, has_cpu, looked_at, looked_over, no_facts, own, runs_anew}
 use Rattle.rank_afresh.specs.Facts.{ArePlacedBut, HaveRenewed, cluster_at}
 use Rattle.rank_afresh.specs.Visits.{AreAllVisited, AreHomes, AreVisited, HasMore, IsRanVisited, IsVisited, VisitFacts}
 use Rattle.rank_afresh.proofs.Renewing.{length-links}
@@ -99,7 +99,7 @@ looked-none p f us c none = ap (λ ts. record c { ranked = looked_over p f ts c.
 -- a cluster that is placed stays
 renewed-quiet : (p : Parts) (f : core.Facts) (us : List ℕ) (c : ClusterFacts) → own c us ≡ [] → own c f.resvs.changed ≡ [] → IsPlaced f.kept c → HasRenewed p f us c c
 renewed-quiet p f us c none unchanged placed =
-    subst (λ d. HasFollowed f.kept d c) (sym (ap (looked_at p f f.resvs.changed) (looked-none p f us c none) ∙ looked-none p f f.resvs.changed c unchanged)) (record {
+    subst (λ d. HasRelinked f.kept d c) (sym (ap (looked_at p f f.resvs.changed) (looked-none p f us c none) ∙ looked-none p f f.resvs.changed c unchanged)) (record {
       first_same = refl;
       tasks_same = refl;
       ranked_same = refl;

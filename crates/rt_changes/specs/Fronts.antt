@@ -9,7 +9,7 @@ use Rattle.rt_model.specs.Reservations.{front}
 use Rattle.ready_heap.specs.Ready.{size, IsFirst}
 use Rattle.ready_queue.specs.ReadySet.{HoldsJust}
 
--- a client's place among those of its reservation: its release, where that is known
+-- a client's position among those of its reservation: its release, where that is known
 abbrev pub client_key : Group → Past → ℕ → Key
 client_key g past t = record { band = 0; major = unwrap_or (release g t past) 0; minor = t }
 

@@ -33,7 +33,7 @@ filled_with top ls = filled ls (filter (λ t. not (has t (tasks_in ls))) top)
 abbrev pub placed : List ℕ → List (Option ℕ) → List (Option ℕ) → List (Option ℕ)
 placed top runs links = filled_with top (kept top (tasks_in runs) runs links)
 
--- the link at a place
+-- the link at a position
 abbrev pub link_at : List (Option ℕ) → ℕ → Option ℕ
 link_at [] k = None
 link_at (l ∷ ls) zero = l

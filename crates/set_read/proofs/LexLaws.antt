@@ -5,7 +5,7 @@ use Rattle.json.specs.Lex.{Class, quote, backslash, operator, space, other, clas
 use Rattle.json.specs.Text.{content, plain}
 use Rattle.json.specs.Token.{begin_array, bad, string}
 use Rattle.set_read.specs.inside.Texts.{closing}
-use Rattle.set_read.proofs.StringLaws.{closes, closes_byte, settled}
+use Rattle.set_read.proofs.StringLaws.{closes, closes_byte, decided}
 use Rattle.set_read.proofs.WordLaws.{word_alone, word-more}
 
 -- behind the text the bracket is read, after these lexemes
@@ -49,7 +49,7 @@ module _ (x : ℕ) (u : List ℕ) where
       let rest = lex in_string (u ++ closing) in
       inr ([], rest, first between quote is (93 ∷ 125 ∷ []) ∙ ap (λ o. token (string_token o) ∷ rest) e)
   quoted is again (Some s) e =
-      let string_is = settled plain u s e in
+      let string_is = decided plain u s e in
       let rest = λ (w : List ℕ). lex in_string (u ++ 91 ∷ w) in
       gives between in_string (token (string s))
       (λ w. first between quote is w ∙ ap (λ o. token (string_token o) ∷ rest w) (string_is.1 (91 ∷ w))) (again in_string string_is.0)

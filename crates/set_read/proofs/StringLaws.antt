@@ -35,8 +35,8 @@ mode_of after_u = in_string
 mode_of (after_high h) = in_string
 
 -- the string has closed, and whatever stands behind the text, it is s
-abbrev Settled : Within → List ℕ → List ℕ → Type 0
-Settled within t s = (closes (mode_of within) t ≡ true) × ((r : List ℕ) → content within (t ++ r) ≡ Some s)
+abbrev Decided : Within → List ℕ → List ℕ → Type 0
+Decided within t s = (closes (mode_of within) t ≡ true) × ((r : List ℕ) → content within (t ++ r) ≡ Some s)
 
 -- ---- bytes that do not close a string
 
@@ -166,7 +166,7 @@ no_hex e = absurd (false≢true e)
 -- ---- a string that could be read with the brackets behind it
 
 abbrev Reads : Within → List ℕ → Type 0
-Reads within t = (s : List ℕ) → content within (t ++ closing) ≡ Some s → Settled within t s
+Reads within t = (s : List ℕ) → content within (t ++ closing) ≡ Some s → Decided within t s
 
 abbrev Continues : List ℕ → (List ℕ → Option (List ℕ)) → List ℕ → Type 0
 Continues t f s = (closes in_string t ≡ true) × ((r : List ℕ) → f r ≡ Some s)
@@ -175,13 +175,13 @@ after : (a s t : List ℕ) → Reads plain t → prepend a (content plain (t ++ 
     → Continues t (λ r. prepend a (content plain (t ++ r))) s
 after a s t again e =
     let rest = prepended a s (content plain (t ++ closing)) e in
-    let settled = again rest.0 rest.1 in
-    (settled.0, λ r. ap (prepend a) (settled.1 r ∙ sym rest.1) ∙ e)
+    let decided = again rest.0 rest.1 in
+    (decided.0, λ r. ap (prepend a) (decided.1 r ∙ sym rest.1) ∙ e)
 
 by_byte : (x : ℕ) (t s : List ℕ) (q b l : Bool) → (x == 34) ≡ q → (x == 92) ≡ b → nat_lt x 32 ≡ l → Reads plain t → Reads after_backslash t
     → cond q (Some [])
     (cond b (content after_backslash (t ++ closing)) (cond l None (prepend (x ∷ []) (content plain (t ++ closing))))) ≡ Some s
-    → Settled plain (x ∷ t) s
+    → Decided plain (x ∷ t) s
 by_byte x t s true b l is_quote is_slash is_low plains escapes e = (rw is_quote refl, λ r. rw (content_byte, is_quote) e)
 by_byte x t s false true l is_quote is_slash is_low plains escapes e =
     let rest = escapes s e in
@@ -194,7 +194,7 @@ by_byte x t s false false false is_quote is_slash is_low plains escapes e =
 by_letter : (x : ℕ) (t s : List ℕ) (u : Bool) → (x == 117) ≡ u → Reads plain t → Reads after_u t
     → cond u (content after_u (t ++ closing))
     (option_and_then (λ c. prepend (c ∷ []) (content plain (t ++ closing))) (short_escape x)) ≡ Some s
-    → Settled after_backslash (x ∷ t) s
+    → Decided after_backslash (x ∷ t) s
 by_letter x t s true is_u plains units e = let rest = units s e in (rest.0, λ r. rw (content_escape, is_u) (rest.1 r))
 by_letter x t s false is_u plains units e =
     let letter = found (λ c. prepend (c ∷ []) (content plain (t ++ closing))) (short_escape x) s e in
@@ -213,7 +213,7 @@ by_unit t s u false false is_high is_low plains pairs e =
 
 four : (a b c d : ℕ) (t s : List ℕ) → Reads plain t → ((h : ℕ) → Reads (after_high h) t)
     → content after_u (a ∷ b ∷ c ∷ d ∷ t ++ closing) ≡ Some s
-    → Settled after_u (a ∷ b ∷ c ∷ d ∷ t) s
+    → Decided after_u (a ∷ b ∷ c ∷ d ∷ t) s
 four a b c d t s plains pairs e =
     let unit = found (of_unit (t ++ closing)) (code_unit a b c d) s (sym (content_unit a b c d (t ++ closing)) ∙ e) in
     let rest = by_unit t s unit.0 (is_high_surrogate unit.0) (is_low_surrogate unit.0) refl refl plains pairs unit.2 in
@@ -221,7 +221,7 @@ four a b c d t s plains pairs e =
     (closed ∙ rest.0, λ r. content_unit a b c d (t ++ r) ∙ ap (option_and_then (of_unit (t ++ r))) unit.1 ∙ rest.1 r)
 
 six : (h x y a b c d : ℕ) (t s : List ℕ) → Reads plain t → content (after_high h) (x ∷ y ∷ a ∷ b ∷ c ∷ d ∷ t ++ closing) ≡ Some s
-    → Settled (after_high h) (x ∷ y ∷ a ∷ b ∷ c ∷ d ∷ t) s
+    → Decided (after_high h) (x ∷ y ∷ a ∷ b ∷ c ∷ d ∷ t) s
 six h x y a b c d t s plains e =
     let pair = passed ((x == 92) && (y == 117)) _ s (sym (content_pair h x y a b c d (t ++ closing)) ∙ e) in
     let slash = eqb-true x 92 (and_parts (x == 92) (y == 117) pair.0).0 in
@@ -232,23 +232,23 @@ six h x y a b c d t s plains e =
       λ r. content_pair h x y a b c d (t ++ r) ∙ rw (pair.0, unit.1, low.0) (rest.1 r),
     )
 
-pub settled : (within : Within) (t : List ℕ) → Reads within t
-settled plain [] s e = never _ s none_plain e
-settled plain (x ∷ t) s e =
-    by_byte x t s (x == 34) (x == 92) (nat_lt x 32) refl refl refl (settled plain t) (settled after_backslash t)
+pub decided : (within : Within) (t : List ℕ) → Reads within t
+decided plain [] s e = never _ s none_plain e
+decided plain (x ∷ t) s e =
+    by_byte x t s (x == 34) (x == 92) (nat_lt x 32) refl refl refl (decided plain t) (decided after_backslash t)
     (sym (content_byte x (t ++ closing)) ∙ e)
-settled after_backslash [] s e = never _ s none_escape e
-settled after_backslash (x ∷ t) s e =
-    by_letter x t s (x == 117) refl (settled plain t) (settled after_u t) (sym (content_escape x (t ++ closing)) ∙ e)
-settled after_u [] s e = never _ s none_unit e
-settled after_u (a ∷ []) s e = no_hex (unit_found a 91 93 125 [] s e).second
-settled after_u (a ∷ b ∷ []) s e = no_hex (unit_found a b 91 93 (125 ∷ []) s e).third
-settled after_u (a ∷ b ∷ c ∷ []) s e = no_hex (unit_found a b c 91 (93 ∷ 125 ∷ []) s e).last
-settled after_u (a ∷ b ∷ c ∷ d ∷ t) s e = four a b c d t s (settled plain t) (λ h. settled (after_high h) t) e
-settled (after_high h) [] s e = never _ s (none_pair h) e
-settled (after_high h) (x ∷ []) s e = never _ s (none_pair_one h x) e
-settled (after_high h) (x ∷ y ∷ []) s e = never _ s (none_pair_two h x y) e
-settled (after_high h) (x ∷ y ∷ a ∷ []) s e = no_hex (pair_found h x y a 91 93 125 [] s e).second
-settled (after_high h) (x ∷ y ∷ a ∷ b ∷ []) s e = no_hex (pair_found h x y a b 91 93 (125 ∷ []) s e).third
-settled (after_high h) (x ∷ y ∷ a ∷ b ∷ c ∷ []) s e = no_hex (pair_found h x y a b c 91 (93 ∷ 125 ∷ []) s e).last
-settled (after_high h) (x ∷ y ∷ a ∷ b ∷ c ∷ d ∷ t) s e = six h x y a b c d t s (settled plain t) e
+decided after_backslash [] s e = never _ s none_escape e
+decided after_backslash (x ∷ t) s e =
+    by_letter x t s (x == 117) refl (decided plain t) (decided after_u t) (sym (content_escape x (t ++ closing)) ∙ e)
+decided after_u [] s e = never _ s none_unit e
+decided after_u (a ∷ []) s e = no_hex (unit_found a 91 93 125 [] s e).second
+decided after_u (a ∷ b ∷ []) s e = no_hex (unit_found a b 91 93 (125 ∷ []) s e).third
+decided after_u (a ∷ b ∷ c ∷ []) s e = no_hex (unit_found a b c 91 (93 ∷ 125 ∷ []) s e).last
+decided after_u (a ∷ b ∷ c ∷ d ∷ t) s e = four a b c d t s (decided plain t) (λ h. decided (after_high h) t) e
+decided (after_high h) [] s e = never _ s (none_pair h) e
+decided (after_high h) (x ∷ []) s e = never _ s (none_pair_one h x) e
+decided (after_high h) (x ∷ y ∷ []) s e = never _ s (none_pair_two h x y) e
+decided (after_high h) (x ∷ y ∷ a ∷ []) s e = no_hex (pair_found h x y a 91 93 125 [] s e).second
+decided (after_high h) (x ∷ y ∷ a ∷ b ∷ []) s e = no_hex (pair_found h x y a b 91 93 (125 ∷ []) s e).third
+decided (after_high h) (x ∷ y ∷ a ∷ b ∷ c ∷ []) s e = no_hex (pair_found h x y a b c 91 (93 ∷ 125 ∷ []) s e).last
+decided (after_high h) (x ∷ y ∷ a ∷ b ∷ c ∷ d ∷ t) s e = six h x y a b c d t s (decided plain t) e

@@ -141,7 +141,7 @@ impl Follow {
         };
         let reply = self.step(step);
         let entry = Entry { step, reply };
-        self.links.follow(&self.afresh)?;
+        self.links.update(&self.afresh)?;
         make_entry_line(
             line,
             &mut self.numbers,

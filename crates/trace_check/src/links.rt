@@ -111,7 +111,7 @@ impl GroupLinks {
     }
 
     /// Reads the links after a step. Where that placed none, they are as before.
-    pub(crate) fn follow(&mut self, afresh: &Afresh) -> Result<(), NoMemory>
+    pub(crate) fn update(&mut self, afresh: &Afresh) -> Result<(), NoMemory>
         requires { (past : Past) × (step : Step) × CanRead past step afresh.now self.old }
         ensures { OnOk result ((past : Past) (step : Step)
             → CanRead past step afresh.now self.old

@@ -27,7 +27,7 @@ use Rattle.trace_text.specs.CountLines.{shown_entries}
 use Rattle.trace_text.specs.Groups.{request_line}
 use Rattle.trace_text.specs.TraceText.{block_lines, entry_lines, group_lines, links_at}
 use Rattle.trace_text.proofs.LineLaws.{past_none, request_lines, texts}
-use Rattle.trace_writer.specs.Replays.{Follows, HasPlayed, ahead}
+use Rattle.trace_writer.specs.Replays.{ShowsLinks, HasPlayed, ahead}
 use Rattle.trace_writer.proofs.CameLaws.{HasParts}
 use Rattle.trace_writer.proofs.Stepping.{lines_ahead}
 
@@ -89,10 +89,10 @@ module _ {p : Parts} {n : ℕ} {x : GroupSteps} {r : GroupHistory} {left : Steps
   room-opened = omega (arith, ap length ahead-opened, told-few, ap (λ (h : GroupHistory). h.spare) o.opened, o.room_is)
 
   -- its line
-  pub line-opened : (k : Known) (qs : List CpuNo) (links shown : List CpuLink) → shown ≡ links → Follows r qs links → line_text k (group_line n (links_of shown)) ≡ line_of k (group_with p n)
-  line-opened k qs links shown same follows =
+  pub line-opened : (k : Known) (qs : List CpuNo) (links shown : List CpuLink) → shown ≡ links → ShowsLinks r qs links → line_text k (group_line n (links_of shown)) ≡ line_of k (group_with p n)
+  line-opened k qs links shown same shows =
       let there : links_of shown ≡ links_at (group_with p n) [] (group_processors (group_with p n)) =
-      ap links_of same ∙ follows.links_are ∙ ap (λ (z : Past). links_at (group_of r) z (group_processors (group_of r))) past-opened
+      ap links_of same ∙ shows.links_are ∙ ap (λ (z : Past). links_at (group_of r) z (group_processors (group_of r))) past-opened
       ∙ ap (λ (g : Group). links_at g [] (group_processors g)) (ap group_of o.opened) in
       rw there refl
 

@@ -23,13 +23,13 @@ use Rattle.group_engine.specs.Moments.{between}
 use Rattle.trace_lines.specs.declared.links.CpuLink.{CpuLink}
 use Rattle.trace_lines.specs.Lines.{links_of}
 use Rattle.trace_text.specs.TraceText.{links_at}
-use Rattle.trace_writer.specs.Replays.{Counts, Follows, HasTaken}
+use Rattle.trace_writer.specs.Replays.{Counts, ShowsLinks, HasTaken}
 use Rattle.trace_text.specs.Groups.{cpu_numbers, cpus_in}
 
 -- the processors are the same after an entry more, and these are their links then
-pub follows-next : (h h' : GroupHistory) (e : Entry) (qs : List CpuNo) (links : List CpuLink) → h' ≡ with_entry e h → cpu_numbers qs ≡ group_processors (group_of h)
-    → links_of links ≡ links_at (group_of h) (past h') (group_processors (group_of h)) → Follows h' qs links
-follows-next h h' e qs links entry cpus are =
+pub shows-next : (h h' : GroupHistory) (e : Entry) (qs : List CpuNo) (links : List CpuLink) → h' ≡ with_entry e h → cpu_numbers qs ≡ group_processors (group_of h)
+    → links_of links ≡ links_at (group_of h) (past h') (group_processors (group_of h)) → ShowsLinks h' qs links
+shows-next h h' e qs links entry cpus are =
     let same : group_of h ≡ group_of h' = sym (ap group_of entry) in
     record { cpus_are = cpus ∙ ap group_processors same; links_are = are ∙ ap (λ (g : Group). links_at g (past h') (group_processors g)) same }
 

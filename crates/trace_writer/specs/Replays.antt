@@ -19,7 +19,7 @@ use Rattle.trace_text.specs.Groups.{cpu_numbers}
 use Rattle.trace_text.specs.TraceText.{links_at}
 
 -- these are the processors of a group and their links after its history
-pub record Follows (h : GroupHistory) (qs : List CpuNo) (links : List CpuLink) : Type 0 where
+pub record ShowsLinks (h : GroupHistory) (qs : List CpuNo) (links : List CpuLink) : Type 0 where
   pub cpus_are : cpu_numbers qs ≡ group_processors (group_of h)
   pub links_are : links_of links ≡ links_at (group_of h) (past h) (group_processors (group_of h))
 

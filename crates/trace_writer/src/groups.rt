@@ -13,7 +13,7 @@ ghost use Rattle.trace_tools.specs.Counters.{counters_after};
 ghost use Rattle.trace_text.specs.CountLines.{bus_text, shown_entries, shown_from};
 ghost use Rattle.trace_text.specs.Groups.{request_line};
 ghost use Rattle.trace_text.specs.TraceText.{entry_lines, group_lines, head_text, lines_from};
-ghost use Rattle.trace_writer.specs.Replays.{Follows, HasPlayed, ahead};
+ghost use Rattle.trace_writer.specs.Replays.{ShowsLinks, HasPlayed, ahead};
 ghost use Rattle.rt_fault.specs.Ends.{writing};
 ghost use Rattle.trace_writer.specs.Writing.{Came};
 
@@ -49,7 +49,7 @@ fn write_entries<T: TraceTool, K: Sink>(
 ) -> Result<(), WriteStop>
     requires setup { replay.old.engine.setup ≡ setup.now }
     requires number { replay.old.engine.group ≡ number.0 }
-    requires follows { Follows replay.old.engine replay.old.cpus.items replay.old.links.items }
+    requires shows { ShowsLinks replay.old.engine replay.old.cpus.items replay.old.links.items }
     requires of { AreOf (group_of replay.old.engine) left.old }
     requires room { let es = ahead (group_of replay.old.engine) left.old (past replay.old.engine) in
         length es ≤ replay.old.engine.spare }

@@ -8,7 +8,7 @@ ghost use Rattle.rt_changes.specs.Tallies.{tallies};
 ghost use Rattle.block_counts.specs.SeenWords.{tallies_of};
 ghost use Rattle.trace_lines.specs.Lines.{links_of};
 ghost use Rattle.trace_text.specs.TraceText.{links_at};
-ghost use Rattle.trace_writer.specs.Replays.{Follows, HasTaken};
+ghost use Rattle.trace_writer.specs.Replays.{ShowsLinks, HasTaken};
 
 use crate::counted::CountingEngine;
 use crate::links::{read_again, read_links};
@@ -38,7 +38,7 @@ impl Replay {
         ensures opened { IfOk result (λ r.
             r.engine ≡
             record { setup = setup.now; group = group.0; entries = []; spare = room }) }
-        ensures follows { IfOk result (λ r. Follows r.engine r.cpus.items r.links.items) }
+        ensures shows { IfOk result (λ r. ShowsLinks r.engine r.cpus.items r.links.items) }
     {
         let counted = CountingEngine::open(alloc, setup, group, room)?;
         let cpus = cpus_of(alloc, setup, group)?;
@@ -85,14 +85,14 @@ impl Replay {
     pub fn step(&mut self, step: Step) -> Result<Reply, NoMemory>
         requires room { 0 < self.old.engine.spare }
         requires step { IsStepOf (group_of self.old.engine) step }
-        requires follows { Follows self.old.engine self.old.cpus.items self.old.links.items }
+        requires shows { ShowsLinks self.old.engine self.old.cpus.items self.old.links.items }
         ensures taken { IfOk result (HasTaken self.old.engine self.new.engine step) }
         ensures changed { let g = group_of self.old.engine in
             let others = changed g (past self.old.engine) (past self.new.engine) in
             let shown = links_at g (past self.new.engine) others in
             IfOk result (λ r. links_of self.new.changed.items ≡ shown) }
-        ensures follows { IfOk result
-            (λ r. Follows self.new.engine self.new.cpus.items self.new.links.items) }
+        ensures shows { IfOk result
+            (λ r. ShowsLinks self.new.engine self.new.cpus.items self.new.links.items) }
     {
         let reply = self.engine.step(step);
         self.changed.clear();

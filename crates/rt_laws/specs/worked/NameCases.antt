@@ -89,7 +89,7 @@ names-of-reservations = refl
 
 -- ---- numbers that stand for something
 
--- a task has the number of its place
+-- a task has the number of its position
 pub number-of-a-task :
     refusals (λ n. with_second (periodic n 1 10 10)) (1 ∷ 2 ∷ 3 ∷ [])
     ≡ refused kinds.Name parts.Task 1 ∷ valid ∷ refused kinds.Name parts.Task 1 ∷ []

@@ -17,7 +17,7 @@ pub invariant_of-self-2 : goal.invariant_of-self-2
 invariant_of-self-2 c =
     let inside = c.self.inside in
     let here = at (goal.at.invariant_of-self-2 c).In-Some in
-    listed-stays inside.clusters.items (cluster_numbers inside.changed.items) _ c.self.invariant c.args.c.0 c.in-Some.cluster here c.leave.new.self c.leave.ensures.placed c.leave.ensures.settled
+    listed-stays inside.clusters.items (cluster_numbers inside.changed.items) _ c.self.invariant c.args.c.0 c.in-Some.cluster here c.leave.new.self c.leave.ensures.placed c.leave.ensures.stable
 
 pub returns : goal.returns
 returns c =

@@ -7,7 +7,7 @@ use Rattle.rt_rules.proofs.MemberLaws.{equal_self, has-push}
 use Rattle.cluster_table.specs.Clusters.{KeptCluster}
 use Rattle.cluster_table.specs.Placed.{PlacedCluster}
 use Rattle.cluster_table.specs.Table.{Table, cluster_at, cluster_numbers}
-use Rattle.cluster_table.proofs.Listed.{listed-absent, listed-placed, settled-all}
+use Rattle.cluster_table.proofs.Listed.{listed-absent, listed-placed, stable-all}
 use Rattle.cluster_table.proofs.Marking.{seen-other, unmarked-other}
 use Rattle.cluster_table.proofs.Seen.{relinked-all, relinked-once}
 use Rattle.cluster_table.proofs.ClusterTable.place_changed.Goals as goal
@@ -40,10 +40,10 @@ loop-c-preserved-in-Some-index_mut c =
           let other = unmarked-other c.loop-c.placed c.in-Some.c.0 d (rw c.mark.ensures at h) in
           let was = c.loop-c.invariant.unmarked d other.1 in
           (was.0, seen-other ks c.in-Some.c.0 d (Some new) other.0 ∙ was.1);
-      relinked = relinked-once ks c.in-Some.c.0 k new at (ap (λ (k : PlacedCluster). k.cluster) c.place.ensures.cluster) c.place.ensures.settled ∙ c.loop-c.invariant.relinked;
+      relinked = relinked-once ks c.in-Some.c.0 k new at (ap (λ (k : PlacedCluster). k.cluster) c.place.ensures.cluster) c.place.ensures.stable ∙ c.loop-c.invariant.relinked;
       listed =
           rw c.pop.ensures.capacity
-          (listed-placed ks changed _ c.loop-c.invariant.listed c.in-Some.c.0 k at (cluster_numbers c.pop.new.self.items) new (last popped) placed c.place.ensures.settled);
+          (listed-placed ks changed _ c.loop-c.invariant.listed c.in-Some.c.0 k at (cluster_numbers c.pop.new.self.items) new (last popped) placed c.place.ensures.stable);
     }
 
 pub loop-c-preserved : goal.loop-c-preserved
@@ -68,8 +68,8 @@ pub returns-clause-clusters : goal.returns-clause-clusters
 returns-clause-clusters c =
     let inside = c.loop-c.self-inside in
     let none : inside.changed.items ≡ [] = nil_from_length _ (omega (arith, c.in_default.ensures.cases.0, inside.changed.ok.0)) in
-    let settled = settled-all inside.clusters.items (cluster_numbers inside.changed.items) _ c.loop-c.invariant.listed (ap cluster_numbers none) in
-    let placed = sym (relinked-all inside.clusters.items settled) ∙ c.loop-c.invariant.relinked in
+    let stable = stable-all inside.clusters.items (cluster_numbers inside.changed.items) _ c.loop-c.invariant.listed (ap cluster_numbers none) in
+    let placed = sym (relinked-all inside.clusters.items stable) ∙ c.loop-c.invariant.relinked in
     rw (← c.self.view_is, c.loop-c.invariant.homes) (ap (λ (ks : List (Option KeptCluster)). record { homes = cluster_numbers c.self.inside.homes.items; clusters = ks }) placed)
 
 pub returns-clause-others : goal.returns-clause-others

@@ -31,7 +31,7 @@ invariant_of-self-2 c =
     let now = rw (c.is_placed-was_placed.ensures.flag, c.is_placed-is_placed.ensures.flag) at c.list_unplaced.ensures.numbers in
     rw c.list_unplaced.ensures.room
     (listed-set inside.clusters.items (cluster_numbers inside.changed.items) _ c.self.invariant c.args.c.0 c.in-Some.cluster here c.set.new.self _
-    c.set.ensures.placed c.is_placed-is_placed.ensures.settled now)
+    c.set.ensures.placed c.is_placed-is_placed.ensures.stable now)
 
 pub returns : goal.returns
 returns c =

@@ -17,7 +17,7 @@ pub invariant_of-self-2 : goal.invariant_of-self-2
 invariant_of-self-2 c =
     let inside = c.self.inside in
     let here = at (goal.at.invariant_of-self-2 c).In-Some in
-    listed-stays inside.clusters.items (cluster_numbers inside.changed.items) _ c.self.invariant c.args.c.0 c.in-Some.cluster here c.take_irq.new.self c.take_irq.ensures.placed c.take_irq.ensures.settled
+    listed-stays inside.clusters.items (cluster_numbers inside.changed.items) _ c.self.invariant c.args.c.0 c.in-Some.cluster here c.take_irq.new.self c.take_irq.ensures.placed c.take_irq.ensures.stable
 
 pub returns-clause-changed : goal.returns-clause-changed
 returns-clause-changed c =

@@ -8,7 +8,7 @@ use Rattle.pcp_sem.specs.Pairs.{tasks_of}
 use Rattle.pcp_sem.specs.PcpKept.{above_ceiling}
 use Rattle.pcp_sem.specs.Listed.{pairs}
 use Rattle.pcp_sem.proofs.OrderLaws.{length-pairs}
-use Rattle.pcp_sem.proofs.Acts.{may_ask, settled, pcp-granted, pcp-queued, held-position, waiting-position, order-position, order-same, order-pushed}
+use Rattle.pcp_sem.proofs.Acts.{may_ask, after_acts, pcp-granted, pcp-queued, held-position, waiting-position, order-position, order-same, order-pushed}
 use Rattle.pcp_sem.proofs.PcpSet.ask.Goals as goal
 
 pub put_first-requires : goal.put_first-requires
@@ -45,14 +45,14 @@ invariant_of-self-else-does_pass c =
       in_falling_order = order-pushed _ _ _ _ _ _ _ c.self.invariant.facts c.args.task.0 c.args.sem c.args.key may apart;
     }
 
-pub returns-then-does_pass-clause-settled : goal.returns-then-does_pass-clause-settled
-returns-then-does_pass-clause-settled c =
+pub returns-then-does_pass-clause-holds : goal.returns-then-does_pass-clause-holds
+returns-then-does_pass-clause-holds c =
     let may = may_ask c.args.task.0 c.args.sem c.args.key c.self.view_is (record { below = c.requires.below; known = c.requires.known; idle = c.requires.idle; fresh = c.requires.fresh; low = c.requires.low; same = c.requires.same }) in
     let pass : passes (above_ceiling (slice_set c.self.inside.keys.items c.args.task.0 c.args.key) c.self.inside.ceilings.items) (pairs c.self.inside.held.items) c.args.task.0 ≡ true = sym (rw (c.as_slice.ensures.value, c.as_slice-2.ensures.value, c.as_slice-3.ensures.value) at c.does_pass.ensures) ∙ c.if-does_pass.true in
-    rw c.put_first.ensures.items (settled _ _ _ _ _ _ _ (pcp-granted _ _ _ _ _ _ _ c.self.invariant.facts c.args.task.0 c.args.sem c.args.key may _ pass c.put_first.ensures.capacity) _)
+    rw c.put_first.ensures.items (after_acts _ _ _ _ _ _ _ (pcp-granted _ _ _ _ _ _ _ c.self.invariant.facts c.args.task.0 c.args.sem c.args.key may _ pass c.put_first.ensures.capacity) _)
 
-pub returns-else-does_pass-clause-settled : goal.returns-else-does_pass-clause-settled
-returns-else-does_pass-clause-settled c =
+pub returns-else-does_pass-clause-holds : goal.returns-else-does_pass-clause-holds
+returns-else-does_pass-clause-holds c =
     let may = may_ask c.args.task.0 c.args.sem c.args.key c.self.view_is (record { below = c.requires.below; known = c.requires.known; idle = c.requires.idle; fresh = c.requires.fresh; low = c.requires.low; same = c.requires.same }) in
     let pass : passes (above_ceiling (slice_set c.self.inside.keys.items c.args.task.0 c.args.key) c.self.inside.ceilings.items) (pairs c.self.inside.held.items) c.args.task.0 ≡ false = sym (rw (c.as_slice.ensures.value, c.as_slice-2.ensures.value, c.as_slice-3.ensures.value) at c.does_pass.ensures) ∙ c.if-does_pass.false in
-    rw c.put_behind.ensures.items (settled _ _ _ _ _ _ _ (pcp-queued _ _ _ _ _ _ _ c.self.invariant.facts c.args.task.0 c.args.sem c.args.key may _ _ pass c.put_behind.ensures.capacity c.insert_by_key.ensures.capacity) _)
+    rw c.put_behind.ensures.items (after_acts _ _ _ _ _ _ _ (pcp-queued _ _ _ _ _ _ _ c.self.invariant.facts c.args.task.0 c.args.sem c.args.key may _ _ pass c.put_behind.ensures.capacity c.insert_by_key.ensures.capacity) _)

@@ -8,7 +8,7 @@ use Rattle.pcp_sem.specs.PcpKept.{above_ceiling}
 use Rattle.pcp_sem.specs.Listed.{pair, pairs}
 use Rattle.pcp_sem.proofs.OrderLaws.{length-pairs}
 use Rattle.pcp_sem.proofs.KeptOrder.{ranking-keys, in_order-without_pair}
-use Rattle.pcp_sem.proofs.Acts.{settled-freed, pcp-freed, freed-first, freed-nobody, one-waits, held-fits}
+use Rattle.pcp_sem.proofs.Acts.{after_acts-freed, pcp-freed, freed-first, freed-nobody, one-waits, held-fits}
 use Rattle.pcp_sem.proofs.PcpSet.release.Goals as goal
 
 pub put_first-requires : goal.put_first-requires
@@ -46,11 +46,11 @@ returns-clause-after c =
     let state : record { held = pairs c.put_first.new.held.items; waiting = pairs c.take_out-2.new.from.items } ≡ pcp_after (above c.self.inside.keys.items) (above_ceiling c.self.inside.keys.items c.self.inside.ceilings.items) (Frees c.args.task.0 c.args.sem) (record { held = pairs c.self.inside.held.items; waiting = pairs c.self.inside.waiting.items }) = rw (c.put_first.ensures.items, c.take_out.ensures.items, c.take_out-2.ensures.items) (freed-first _ _ _ _ _ _ _ c.self.invariant.facts (record { task = c.args.task.0; sem = c.args.sem }) _ found) in
     rw (← c.self.view_is) (ap (λ (l : PcpState). record { ceilings = c.self.inside.ceilings.items; state = l; keys = c.self.inside.keys.items; grants = numbers c.put_last.new.grants.items }) state)
 
-pub returns-clause-settled : goal.returns-clause-settled
-returns-clause-settled c =
+pub returns-clause-holds : goal.returns-clause-holds
+returns-clause-holds c =
     let found : find (λ (q : TaskSem). passes (above_ceiling c.self.inside.keys.items c.self.inside.ceilings.items) (without_pair (record { task = c.args.task.0; sem = c.args.sem }) (pairs c.self.inside.held.items)) q.task) (in_order (above c.self.inside.keys.items) (pairs c.self.inside.waiting.items)) ≡ Some (pair c.in-Some.next) = sym (rw (c.as_slice.ensures.value, c.as_slice-2.ensures.value, c.as_slice-3.ensures.value, c.as_slice-4.ensures.value, c.take_out.ensures.items, c.in-Some.is, c.self.invariant.in_falling_order) at c.first_to_pass.ensures) in
     let state : record { held = pairs c.put_first.new.held.items; waiting = pairs c.take_out-2.new.from.items } ≡ pcp_after (above c.self.inside.keys.items) (above_ceiling c.self.inside.keys.items c.self.inside.ceilings.items) (Frees c.args.task.0 c.args.sem) (record { held = pairs c.self.inside.held.items; waiting = pairs c.self.inside.waiting.items }) = rw (c.put_first.ensures.items, c.take_out.ensures.items, c.take_out-2.ensures.items) (freed-first _ _ _ _ _ _ _ c.self.invariant.facts (record { task = c.args.task.0; sem = c.args.sem }) _ found) in
-    rw state (settled-freed _ _ _ _ _ _ _ c.self.invariant.facts c.args.task.0 c.args.sem _)
+    rw state (after_acts-freed _ _ _ _ _ _ _ c.self.invariant.facts c.args.task.0 c.args.sem _)
 
 pub returns-in_default-clause-after : goal.returns-in_default-clause-after
 returns-in_default-clause-after c =
@@ -58,8 +58,8 @@ returns-in_default-clause-after c =
     let state : record { held = pairs c.take_out.new.from.items; waiting = pairs c.self.inside.waiting.items } ≡ pcp_after (above c.self.inside.keys.items) (above_ceiling c.self.inside.keys.items c.self.inside.ceilings.items) (Frees c.args.task.0 c.args.sem) (record { held = pairs c.self.inside.held.items; waiting = pairs c.self.inside.waiting.items }) = rw c.take_out.ensures.items (freed-nobody _ _ _ _ _ _ _ c.self.invariant.facts (record { task = c.args.task.0; sem = c.args.sem }) found) in
     rw (← c.self.view_is) (ap (λ (l : PcpState). record { ceilings = c.self.inside.ceilings.items; state = l; keys = c.self.inside.keys.items; grants = numbers c.clear.new.self.items }) state)
 
-pub returns-in_default-clause-settled : goal.returns-in_default-clause-settled
-returns-in_default-clause-settled c =
+pub returns-in_default-clause-holds : goal.returns-in_default-clause-holds
+returns-in_default-clause-holds c =
     let found : find (λ (q : TaskSem). passes (above_ceiling c.self.inside.keys.items c.self.inside.ceilings.items) (without_pair (record { task = c.args.task.0; sem = c.args.sem }) (pairs c.self.inside.held.items)) q.task) (in_order (above c.self.inside.keys.items) (pairs c.self.inside.waiting.items)) ≡ None = sym (rw (c.as_slice.ensures.value, c.as_slice-2.ensures.value, c.as_slice-3.ensures.value, c.as_slice-4.ensures.value, c.take_out.ensures.items, c.in_default.is, c.self.invariant.in_falling_order) at c.first_to_pass.ensures) in
     let state : record { held = pairs c.take_out.new.from.items; waiting = pairs c.self.inside.waiting.items } ≡ pcp_after (above c.self.inside.keys.items) (above_ceiling c.self.inside.keys.items c.self.inside.ceilings.items) (Frees c.args.task.0 c.args.sem) (record { held = pairs c.self.inside.held.items; waiting = pairs c.self.inside.waiting.items }) = rw c.take_out.ensures.items (freed-nobody _ _ _ _ _ _ _ c.self.invariant.facts (record { task = c.args.task.0; sem = c.args.sem }) found) in
-    rw state (settled-freed _ _ _ _ _ _ _ c.self.invariant.facts c.args.task.0 c.args.sem _)
+    rw state (after_acts-freed _ _ _ _ _ _ _ c.self.invariant.facts c.args.task.0 c.args.sem _)

@@ -11,7 +11,7 @@ use Rattle.trace_writer.proofs.groups.write_entries.Goals as goal
 pub loop-step-init : goal.loop-step-init
 loop-step-init g c = record {
   playing = playing-first c.args.replay.now.engine c.args.left.now c.requires.of c.requires.room;
-  follows = c.requires.follows;
+  shows = c.requires.shows;
   coming = coming-start (g.K.Sink.held c.args.out.now) (g.K.Sink.faults c.args.out.now) _;
   shown = refl;
 }
@@ -53,7 +53,7 @@ loop-step-preserved g c =
     let line = line-next t c.in_ok-reply.ensures.taken (known_in c.args.format.now) (links_of c.changed.result.now) (ap links_of c.changed.ensures ∙ c.in_ok-reply.ensures.changed) in
     record {
       playing = playing-next t c.in_ok-reply.ensures.taken;
-      follows = c.in_ok-reply.ensures.follows;
+      shows = c.in_ok-reply.ensures.shows;
       coming = comes-next g.K.Sink.held g.K.Sink.faults c.args.out.now c.loop-step.out _ c.write_entry_line.new.out _ _ (coming-by line c.loop-step.invariant.coming) c.in_ok-write_entry_line.ensures;
       shown = shown-next t c.in_ok-reply.ensures.taken (counters g.T.TraceTool.tool c.loop-step.bus) (counters g.T.TraceTool.tool c.show.new.bus) c.engine-in-Some.ensures c.show.ensures ∙ c.loop-step.invariant.shown;
     }

@@ -2,7 +2,7 @@ use Rattle.std.proofs.Common.{◌≡◌}
 use Rattle.rt_plays.specs.Groups.{group_of, past}
 use Rattle.trace_lines.specs.Known.{known_in}
 use Rattle.trace_tools.specs.BusCounters.{counters}
-use Rattle.trace_writer.specs.Replays.{Follows, ahead}
+use Rattle.trace_writer.specs.Replays.{ShowsLinks, ahead}
 use Rattle.trace_writer.proofs.CameLaws.{IsComing}
 use Rattle.trace_writer.proofs.Stepping.{IsPlaying, lines_ahead, counters_ahead}
 use Rattle.trace_writer.proofs.groups.write_entries.Given as goal
@@ -11,7 +11,7 @@ use Rattle.trace_writer.proofs.groups.write_entries.Given as goal
 abbrev pub invariant-loop-step : goal.invariant-loop-step
 invariant-loop-step g l = record {
   playing : IsPlaying l.initial.replay.engine l.replay.engine l.left l.no (ahead (group_of l.initial.replay.engine) l.initial.left (past l.initial.replay.engine));
-  follows : Follows l.replay.engine l.replay.cpus.items l.replay.links.items;
+  shows : ShowsLinks l.replay.engine l.replay.cpus.items l.replay.links.items;
   coming : IsComing g.K.Sink.held g.K.Sink.faults l.initial.out l.out
       (lines_ahead (known_in l.format) (group_of l.initial.replay.engine) 0 l.initial.left (past l.initial.replay.engine))
       (lines_ahead (known_in l.format) (group_of l.initial.replay.engine) l.no l.left (past l.replay.engine));

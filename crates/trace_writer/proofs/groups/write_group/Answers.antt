@@ -44,7 +44,7 @@ pub returns-in_err-write_group_line-clause-lines : goal.returns-in_err-write_gro
 returns-in_err-write_group_line-clause-lines g c =
     let es : List Entry = group_told c.args.setup.now c.args.number.0 c.args.steps in
     let o = opening c.args.steps c.in_ok-replay.ensures.opened c.room.ensures c.in_ok-left.ensures in
-    let line = line-opened o (known_in c.args.format.now) c.in_ok-replay.replay.cpus.items c.in_ok-replay.replay.links.items c.links.result.now c.links.ensures c.in_ok-replay.ensures.follows in
+    let line = line-opened o (known_in c.args.format.now) c.in_ok-replay.replay.cpus.items c.in_ok-replay.replay.links.items c.links.result.now c.links.ensures c.in_ok-replay.ensures.shows in
     stopped-first g.K.Sink.held g.K.Sink.faults (group-parts (known_in c.args.format.now) (group_with c.args.setup.now c.args.number.0) es _ _ _ line refl refl) c.args.out.now c.write_group_line.new.out
     c.from_residual-in_err-write_group_line.result c.in_err-write_group_line.field-0.0 c.from_residual-in_err-write_group_line.ensures.1 c.in_err-write_group_line.ensures
 
@@ -52,7 +52,7 @@ pub returns-in_err-write_entries-clause-lines : goal.returns-in_err-write_entrie
 returns-in_err-write_entries-clause-lines g c =
     let es : List Entry = group_told c.args.setup.now c.args.number.0 c.args.steps in
     let o = opening c.args.steps c.in_ok-replay.ensures.opened c.room.ensures c.in_ok-left.ensures in
-    let line = line-opened o (known_in c.args.format.now) c.in_ok-replay.replay.cpus.items c.in_ok-replay.replay.links.items c.links.result.now c.links.ensures c.in_ok-replay.ensures.follows in
+    let line = line-opened o (known_in c.args.format.now) c.in_ok-replay.replay.cpus.items c.in_ok-replay.replay.links.items c.links.result.now c.links.ensures c.in_ok-replay.ensures.shows in
     let parts = group-parts (known_in c.args.format.now) (group_with c.args.setup.now c.args.number.0) es _ _ _ line (lines-opened o (known_in c.args.format.now)) refl in
     stopped-second g.K.Sink.held g.K.Sink.faults parts c.args.out.now c.write_group_line.new.out c.from_residual-in_err-write_entries.result c.in_err-write_entries.field-0.0 c.write_entries.new.out
     c.from_residual-in_err-write_entries.ensures.1 c.in_ok-write_group_line.ensures c.in_err-write_entries.ensures.lines
@@ -61,7 +61,7 @@ pub returns-clause-lines : goal.returns-clause-lines
 returns-clause-lines g c =
     let es : List Entry = group_told c.args.setup.now c.args.number.0 c.args.steps in
     let o = opening c.args.steps c.in_ok-replay.ensures.opened c.room.ensures c.in_ok-left.ensures in
-    let line = line-opened o (known_in c.args.format.now) c.in_ok-replay.replay.cpus.items c.in_ok-replay.replay.links.items c.links.result.now c.links.ensures c.in_ok-replay.ensures.follows in
+    let line = line-opened o (known_in c.args.format.now) c.in_ok-replay.replay.cpus.items c.in_ok-replay.replay.links.items c.links.result.now c.links.ensures c.in_ok-replay.ensures.shows in
     let blocks = blocks-played o (known_in c.args.format.now) c.write_entries.new.replay.engine c.requests.result.now c.in_ok-write_entries.ensures.played c.requests.ensures in
     let parts = group-parts (known_in c.args.format.now) (group_with c.args.setup.now c.args.number.0) es _ _ _ line (lines-opened o (known_in c.args.format.now)) blocks in
     came-third g.K.Sink.held g.K.Sink.faults parts c.args.out.now c.write_group_line.new.out c.write_blocks.result c.write_entries.new.out c.write_blocks.new.out

@@ -1,6 +1,6 @@
 use Rattle.std.proofs.Common.{◌∙◌, sym}
 use Rattle.cluster_table.specs.Clusters.{KeptCluster}
-use Rattle.cluster_table.proofs.PendingLaws.{pending-run, settled-pending}
+use Rattle.cluster_table.proofs.PendingLaws.{pending-run, stable-pending}
 use Rattle.cluster_table.proofs.Stays.{stays-after_take}
 use Rattle.cluster_table.proofs.cluster.ClusterState.take_irq.Goals as goal
 
@@ -15,5 +15,5 @@ invariant_of-self c =
       rw c.take_irq.ensures.runs (pending-run c.self.inside.pending k c.args.q.0 c.args.np c.self.invariant.2 c.self.invariant.0 of_cluster c.self.invariant.3).0,
     )
 
-pub returns-clause-settled : goal.returns-clause-settled
-returns-clause-settled c = λ h. settled-pending c.self.inside.pending _ (invariant_of-self c).3 h
+pub returns-clause-stable : goal.returns-clause-stable
+returns-clause-stable c = λ h. stable-pending c.self.inside.pending _ (invariant_of-self c).3 h

@@ -14,7 +14,7 @@ use Rattle.rank_afresh.proofs.facts.Facts.end.Goals as goal
 pub tell_all-requires : goal.tell_all-requires
 tell_all-requires c =
     let can : CanEnd c.args.parts.now _ = subst (λ (w : WithRoom). CanEnd c.args.parts.now w.facts) (sym c.self.view_is) c.requires.can in
-    λ t h. task-of c.args.parts.now c.self.inside.core.facts.kept t can.follow.read (can.looked_are t (rw c.as_slice.ensures.value at h))
+    λ t h. task-of c.args.parts.now c.self.inside.core.facts.kept t can.renew.read (can.looked_are t (rw c.as_slice.ensures.value at h))
 
 pub keep_moments-requires-clause-looked : goal.keep_moments-requires-clause-looked
 keep_moments-requires-clause-looked c =

@@ -69,7 +69,7 @@ renew-requires-clause-place c =
     let listed = (goal.at.renew-requires-clause-place c).After-positions in
     let is = was (goal.at.renew-requires-clause-place c).After-index_mut (low listed) (unseen listed) in
     let p = c.args.parts.now in
-    let all : All (CanPlace p c.self.inside.core.facts.kept) c.self.inside.clusters.items = subst (λ (w : WithRoom). All (CanPlace p w.facts.kept) w.facts.clusters) (sym c.self.view_is) c.requires.follow.positions in
+    let all : All (CanPlace p c.self.inside.core.facts.kept) c.self.inside.clusters.items = subst (λ (w : WithRoom). All (CanPlace p w.facts.kept) w.facts.clusters) (sym c.self.view_is) c.requires.renew.positions in
     subst (λ (w : core.WithRoom). CanPlace p w.facts.kept c.index_mut.result.now) (sym c.loop-i.invariant.core)
     (subst (λ (x : ClusterFacts). CanPlace p c.self.inside.core.facts.kept x) (sym is) (all _ no_facts (low listed)))
 

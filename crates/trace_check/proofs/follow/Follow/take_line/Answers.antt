@@ -52,8 +52,8 @@ step-reply-requires c =
     let gone = c.take_next.ensures.taken at c.in-Some-take_next.step (can-take at c.args.setup.now c.args.self.now fw) c.in-Some-take_next.is in
     (at, can_step at c.args.setup.now c.args.self.now fw c.in-Some-take_next.step gone.next c.take_next.new.self)
 
-pub follow-requires : goal.follow-requires
-follow-requires c =
+pub update-requires : goal.update-requires
+update-requires c =
     let at = c.requires.0 in
     let fw = c.requires.1 in
     let step = c.in-Some-take_next.step in
@@ -75,7 +75,7 @@ returns-then-not-begins_with c = λ at fw i e links more known here next.
     let can = can_step at p c.args.self.now fw step gone.next c.take_next.new.self in
     let is : group_of c.step-reply.new.self.afresh ≡ at.group = c.step-reply.ensures.group ∙ fw.following.group_is in
     let read = can-read at p c.args.self.now fw step gone.next _ _ is (ap (λ (f : Follow). f.links) c.step-reply.ensures.others) (c.step-reply.ensures.at at can) in
-    let now : HaveChanged at.group past step c.follow.new.self = subst (λ (g : Group). HaveChanged g past step c.follow.new.self) is (c.in_ok-follow.ensures _ step read) in
+    let now : HaveChanged at.group past step c.update.new.self = subst (λ (g : Group). HaveChanged g past step c.update.new.self) is (c.in_ok-update.ensures _ step read) in
     let some : c.mover_at.result ≡ Some (mover_of e.step) = c.mover_at.ensures (known_of v at.group.setup) i e links more (valid-tells v at.group.setup fw.following.valid) known here in
     let said = said-step at c.in-Some.mover c.take_next.result e (sym c.in-Some.is ∙ some) (λ s. c.take_next.ensures.next at s (can-take at p c.args.self.now fw)) next.next in
     let same : e.step ≡ step = same-step e.step step (sym said ∙ c.in-Some-take_next.is) in
@@ -97,7 +97,7 @@ look-requires c =
     let can = can_step at c.args.setup.now c.args.self.now fw step gone.next c.take_next.new.self in
     let is : group_of c.step-reply.new.self.afresh ≡ at.group = c.step-reply.ensures.group ∙ fw.following.group_is in
     let read = can-read at c.args.setup.now c.args.self.now fw step gone.next _ _ is (ap (λ (f : Follow). f.links) c.step-reply.ensures.others) (c.step-reply.ensures.at at can) in
-    let now : HaveChanged at.group (past_of at.group at.entries) step c.follow.new.self = subst (λ (g : Group). HaveChanged g (past_of at.group at.entries) step c.follow.new.self) is (c.in_ok-follow.ensures _ step read) in (
+    let now : HaveChanged at.group (past_of at.group at.entries) step c.update.new.self = subst (λ (g : Group). HaveChanged g (past_of at.group at.entries) step c.update.new.self) is (c.in_ok-update.ensures _ step read) in (
       at,
       step,
       record {
@@ -127,7 +127,7 @@ returns c = λ at fw.
     let can = can_step at p c.args.self.now fw step gone.next c.take_next.new.self in
     let is : group_of c.step-reply.new.self.afresh ≡ at.group = c.step-reply.ensures.group ∙ fw.following.group_is in
     let read = can-read at p c.args.self.now fw step gone.next _ _ is (ap (λ (f : Follow). f.links) c.step-reply.ensures.others) (c.step-reply.ensures.at at can) in
-    let now : HaveChanged at.group past step c.follow.new.self = subst (λ (g : Group). HaveChanged g past step c.follow.new.self) is (c.in_ok-follow.ensures _ step read) in
+    let now : HaveChanged at.group past step c.update.new.self = subst (λ (g : Group). HaveChanged g past step c.update.new.self) is (c.in_ok-update.ensures _ step read) in
     let kept : c.step-reply.new.self.course ≡ c.take_next.new.self = ap (λ (f : Follow). f.course) c.step-reply.ensures.others in
     let made : Entry = record { step = step; reply = c.step-reply.result } in
     let number : length at.entries ≡ c.step-reply.new.self.count = sym fw.following.count_is ∙ sym (ap (λ (f : Follow). f.count) c.step-reply.ensures.others) in

@@ -1,4 +1,4 @@
--- Placing the first tasks of a cluster once settles its links, until others are the first tasks.
+-- Once the first tasks of a cluster are placed, placing changes no link, until others are the first tasks.
 use Rattle.std.proofs.Common.{◌≡◌, ℕ, zero, suc, ◌≤◌, Bool, List, [], ◌∷◌, length, replicate, refl, sym, ap, ◌∙◌, arith}
 use Rattle.std.specs.Prelude.{None}
 use Rattle.std.proofs.lemmas.List.{take-map}
@@ -12,20 +12,20 @@ use Rattle.link_table.specs.Linked.{IsOfCluster, IsSound}
 use Rattle.link_table.proofs.Filling.{filled-none}
 use Rattle.link_table.proofs.StayLaws.{placed_links-stay}
 use Rattle.cluster_table.proofs.FirstTasks.{distinct-first_tasks, few-first_tasks}
-use Rattle.cluster_table.specs.Clusters.{KeptCluster, IsSettled, after_take, fresh, left_by, relinked}
+use Rattle.cluster_table.specs.Clusters.{KeptCluster, IsStable, after_take, fresh, left_by, relinked}
 
-pub settled-relinked : (k : KeptCluster) → IsSound k.linked → k.cpus ≡ length k.linked.runs → IsSettled (relinked k)
-settled-relinked k sound all =
+pub stable-relinked : (k : KeptCluster) → IsSound k.linked → k.cpus ≡ length k.linked.runs → IsStable (relinked k)
+stable-relinked k sound all =
     let few : length (first_tasks k.cpus k.keys) ≤ k.cpus = few-first_tasks k.cpus k.keys in
     placed-again (first_tasks k.cpus k.keys) k.linked.runs k.linked.links (distinct-first_tasks k.cpus k.keys) sound.runs_once sound.linked_once sound.same_length (omega (arith, few, all))
 
 -- where placing again changes no link, it changes nothing
-pub relinked-settled : (k : KeptCluster) → IsSettled k → relinked k ≡ k
-relinked-settled k settled = ap {B = KeptCluster} (λ ls. record k { linked = record k.linked { links = ls } }) settled
+pub relinked-stable : (k : KeptCluster) → IsStable k → relinked k ≡ k
+relinked-stable k stable = ap {B = KeptCluster} (λ ls. record k { linked = record k.linked { links = ls } }) stable
 
 -- nothing is eligible, and nothing is linked
-pub settled-fresh : (first cpus room : ℕ) → IsSettled (fresh first cpus room)
-settled-fresh first cpus room = rw none (rw (idle (tasks_in (replicate cpus None)) cpus) (filled-none (replicate cpus None)))
+pub stable-fresh : (first cpus room : ℕ) → IsStable (fresh first cpus room)
+stable-fresh first cpus room = rw none (rw (idle (tasks_in (replicate cpus None)) cpus) (filled-none (replicate cpus None)))
   where
     none : first_tasks cpus (replicate room None) ≡ []
     none =
@@ -37,8 +37,8 @@ settled-fresh first cpus room = rw none (rw (idle (tasks_in (replicate cpus None
     idle running (suc n) = ap (λ ls. None ∷ ls) (idle running n)
 
 -- links that are placed stay so as a processor takes an interrupt, and as it comes to run nothing
-pub settled-run : (k : KeptCluster) (q : ℕ) (np : Bool) → IsSound k.linked → k.cpus ≡ length k.linked.runs → IsOfCluster k.linked q → IsSettled k
-    → IsSettled (after_take q np k) × IsSettled (left_by q k)
-settled-run k q np sound all of_cluster settled =
+pub stable-run : (k : KeptCluster) (q : ℕ) (np : Bool) → IsSound k.linked → k.cpus ≡ length k.linked.runs → IsOfCluster k.linked q → IsStable k
+    → IsStable (after_take q np k) × IsStable (left_by q k)
+stable-run k q np sound all of_cluster stable =
     let few = few-first_tasks k.cpus k.keys in
-    placed_links-stay k.linked (first_tasks k.cpus k.keys) q np sound of_cluster (distinct-first_tasks k.cpus k.keys) (omega (arith, few, all)) settled
+    placed_links-stay k.linked (first_tasks k.cpus k.keys) q np sound of_cluster (distinct-first_tasks k.cpus k.keys) (omega (arith, few, all)) stable

@@ -15,7 +15,7 @@ use Rattle.trace_text.proofs.ReplayLaws.{links_there}
 use Rattle.trace_text.proofs.StillLinks.{links-stay, none-changed, on-both}
 use Rattle.trace_check.specs.declared.links.GroupLinks.{GroupLinks}
 use Rattle.trace_check.proofs.LinkLaws.{have-changed}
-use Rattle.trace_check.proofs.links.GroupLinks.follow.Goals as goal
+use Rattle.trace_check.proofs.links.GroupLinks.update.Goals as goal
 
 pub returns-then-not-has_placed : goal.returns-then-not-has_placed
 returns-then-not-has_placed c = λ past step can.

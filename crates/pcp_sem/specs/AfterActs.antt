@@ -9,7 +9,7 @@ use Rattle.pcp_sem.specs.PcpKept.{PcpKept, above_ceiling, blocker_of}
 -- no semaphore has two holders; no waiting task passes, and each holder's key is above the ceiling of each semaphore that another task was
 -- granted before; each waiting task is blocked by a task that does not wait, so that each walk from a waiting task to its blocker is one
 -- step long, and none comes round
-pub record IsSettled (s : PcpKept) : Type 0 where
+pub record HoldsAfterActs (s : PcpKept) : Type 0 where
   pub one_holder : IsDistinct (sems_of s.state.held)
   pub stack : IsStack (above_ceiling s.keys s.ceilings) s.state
   pub walks_end : (t : ℕ) → has t (tasks_of s.state.waiting) ≡ true → (b : ℕ) × (blocker_of s.ceilings s.state.held t ≡ Some b) ×

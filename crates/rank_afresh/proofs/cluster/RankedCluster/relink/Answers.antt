@@ -13,8 +13,8 @@ use Rattle.rank_afresh.specs.declared.ran.Ran.TheVariants as rans
 use Rattle.rank_afresh.specs.Candidates.{ranked_all}
 use Rattle.rank_afresh.specs.Clusters.{ClusterFacts, runs_anew, top_of}
 use Rattle.rank_afresh.proofs.SetLists.{length-runs_in, marked-inside}
-use Rattle.rank_afresh.proofs.cluster.RankedCluster.follow.Goals as goal
-use Rattle.rank_afresh.proofs.cluster.RankedCluster.follow.Goals.{After-as_mut_slice-3}
+use Rattle.rank_afresh.proofs.cluster.RankedCluster.relink.Goals as goal
+use Rattle.rank_afresh.proofs.cluster.RankedCluster.relink.Goals.{After-as_mut_slice-3}
 
 -- what runs is read whatever the top is
 over-top : (ran : Ran) (k : Kept) (c : ClusterFacts) (ts : List ℕ) → runs_anew ran k (record c { top = ts }) ≡ runs_anew ran k c
