@@ -92,6 +92,7 @@ impl Blocks {
     ///
     /// There must be room for the entry, the running task and the semaphore of a Lock must be of the setup, and no task may
     /// stand twice in `waiting`.
+    #[inline(always)]
     pub fn feed(&mut self, entry: Entry, runs: Option<TaskNo>, waiting: &[Waiting])
         requires room { 0 < self.old.spare }
         requires names { NamesKnown self.old.setup entry.step.act (number_of_task runs) }

@@ -159,6 +159,7 @@ impl ClusterTable {
 
     /// Links the first of the eligible tasks in each cluster, and marks those that it places anew. It looks only at those in
     /// which others have become the first ones: where they are the same, the links stay as they are, whatever runs.
+    #[inline(always)]
     pub fn place_changed(&mut self, placed: &mut PlacedMarks)
         ensures clusters { self.new ≡ record self.old {
           clusters = map (option_map relinked) self.old.clusters;

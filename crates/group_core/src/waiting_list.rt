@@ -72,6 +72,7 @@ impl WaitingList {
 
     /// Lists the tasks that wait for the semaphore that the act of the processor frees, by what is kept of jobs and of
     /// semaphores between the two moves of a step; none where it frees none. Each task stands once.
+    #[inline(always)]
     pub fn list(&mut self, parts: &Parts, jobs: &GroupJobs, sems: &GroupSems, cpu: CpuNo, act: Act)
         requires { (at : GroupAt)
             × CanList at parts.now jobs.now.kept sems.now cpu.0 act self.old.room }
@@ -130,6 +131,7 @@ fn tell(parts: &Parts, jobs: &GroupJobs, tasks: &[TaskNo], into: &mut Vec<Waitin
 }
 
 /// The semaphore that the act of the processor frees: it is an Unlock by the task that runs there, and not refused.
+#[inline(always)]
 fn freed_by(
     parts: &Parts,
     jobs: &GroupJobs,

@@ -212,6 +212,7 @@ impl Engine {
 
     /// Takes a step, as `step` does, and lists the tasks that wait for the semaphore that it frees, each with whether it is
     /// priority-blocked, as they wait between its two moves; none where it frees none. Each task stands once.
+    #[inline(always)]
     pub fn step_listing(&mut self, step: Step, list: &mut WaitingList) -> Reply
         requires room { 0 < self.old.spare }
         requires step { IsStepOf (group_of self.old) step }
@@ -244,6 +245,7 @@ impl Engine {
 
 /// Answers the act of a step, to whose tick the clock has moved, and adds the entry. The clusters in which links are placed
 /// anew are marked.
+#[inline(always)]
 fn take_act(
     parts: &Parts,
     state: &mut GroupState,

@@ -210,6 +210,7 @@ impl GroupState {
 
     /// Ends a move, or the opening: the reservations are settled, and the links follow. The clusters in which links are placed
     /// anew are marked.
+    #[inline(always)]
     fn end_move(&mut self, parts: &Parts, placed: &mut PlacedMarks)
         requires { (at : GroupAt) × CanEnd at parts.now self.old }
         ensures at { (at : GroupAt) → CanEnd at parts.now self.old → IsAt at.group at.past self.new }
@@ -249,6 +250,7 @@ impl GroupState {
 
     /// Moves the clock to the tick, if that is later: the tasks whose moment has come are looked at, and the links
     /// follow. The clusters in which links are placed anew are marked.
+    #[inline(always)]
     pub(crate) fn move_clock(&mut self, parts: &Parts, tick: Tick, placed: &mut PlacedMarks)
         requires { (at : GroupAt) × CanMove at tick.0 parts.now self.old }
         ensures moved { (at : GroupAt) → CanMove at tick.0 parts.now self.old
@@ -262,6 +264,7 @@ impl GroupState {
     }
 
     /// Looks at the task, if there is one.
+    #[inline(always)]
     fn update_any(&mut self, parts: &Parts, task: Option<TaskNo>)
         requires { CanUpdateAll parts.now (tasks_in (number_of_task task ∷ [])) self.old }
         ensures { self.new
@@ -273,6 +276,7 @@ impl GroupState {
     }
 
     /// Looks at the tasks that an act has touched and named one by one.
+    #[inline(always)]
     fn update_named(&mut self, parts: &Parts, looks: Looks)
         requires { CanUpdateAll parts.now (named looks) self.old }
         ensures { self.new ≡ all_updated parts.now (named looks) self.old }
@@ -301,6 +305,7 @@ impl GroupState {
     }
 
     /// Looks at the tasks that an act has touched.
+    #[inline(always)]
     fn update_looked(&mut self, parts: &Parts, looks: Looks)
         requires { AreNumbered parts.now (looked parts.now looks) self.old }
         ensures { self.new ≡ all_updated parts.now (looked parts.now looks) self.old }
@@ -311,6 +316,7 @@ impl GroupState {
 
     /// Writes down in its cluster what the processor runs after an act that was answered so: its link after an interrupt that
     /// is accepted, and nothing after an operation that leaves it with nothing to run.
+    #[inline(always)]
     fn update_run(&mut self, cpu: CpuNo, act: Act, reply: Reply)
         requires { CanUpdateRun cpu.0 self.old }
         ensures { self.new ≡ with_run cpu.0 act reply self.old }
@@ -332,6 +338,7 @@ impl GroupState {
     }
 
     /// An act of the processor, once the clock has moved. The clusters in which links are placed anew are marked.
+    #[inline(always)]
     pub(crate) fn act(
         &mut self,
         parts: &Parts,

@@ -383,6 +383,7 @@ impl GroupJobs {
 
     /// An accepted operation of the task that the processor runs, with this reply; whether the task holds no semaphore
     /// after it. It says whether the job has ended: by an End, or by force where an enforced job has used its cost.
+    #[inline(always)]
     pub fn operate(
         &mut self,
         tasks: &[Task],
@@ -411,6 +412,7 @@ impl GroupJobs {
     }
 
     /// Counts an accepted operation for its task; whether the job ends by it.
+    #[inline(always)]
     fn count(&mut self, row: &Task, task: TaskNo, op: Op, holds_none: bool) -> bool
         requires low { 1 ≤ task.0 }
         requires high { task.0 ≤ length self.old.kept.jobs }

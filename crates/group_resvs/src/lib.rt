@@ -125,6 +125,7 @@ impl GroupResvs {
     }
 
     /// Moves the clock, which never falls.
+    #[inline(always)]
     pub fn move_clock(&mut self, tick: Tick)
         requires { self.old.resvs.clock ≤ tick.0 }
         ensures { self.new ≡ record self.old { resvs = clock_to tick.0 self.old.resvs } }
@@ -162,6 +163,7 @@ impl GroupResvs {
     }
 
     /// Ends a move, or the opening, once it knows the clients that the move made ready or not.
+    #[inline(always)]
     pub fn settle(&mut self)
         ensures { IsSettled self.old self.new }
     {

@@ -99,6 +99,7 @@ impl GroupSems {
     }
 
     /// Sets the base key of the task.
+    #[inline(always)]
     pub fn base(&mut self, task: TaskNo, key: Key)
         requires { task.0 < length self.old.waits.bases }
         ensures { self.new ≡ record self.old {

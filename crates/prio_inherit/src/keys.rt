@@ -1,5 +1,5 @@
 //! The keys that are kept, and their update along a walk.
-ghost use Rattle.std.specs.Prelude.{◌≡◌, ◌<◌, ◌&&◌, true, ℕ, List, Option, None, Some, IfOk, length, replicate};
+ghost use Rattle.std.specs.Prelude.{◌≡◌, ◌<◌, ◌&&◌, true, ℕ, List, Option, None, Some, IfOk, length, replicate, slice_index_or};
 ghost use Rattle.rt_base.specs.TaskNos.{number_of_task, numbers_of_tasks};
 ghost use Rattle.rt_rules.specs.declared.Key.{Key};
 ghost use Rattle.rt_rules.specs.KeyOrder.{higher, lowest_key};
@@ -39,6 +39,14 @@ pub fn lowest_keys(alloc: Global, room: usize) -> Result<Vec<Key>, NoMemory>
     ensures { IfOk result (λ v. v.items ≡ replicate room lowest_key) }
 {
     Ok(vec![in alloc; Key::LOWEST; room]?)
+}
+
+/// Whether this is the base key of the task.
+pub fn is_known(bases: &[Option<Key>], task: TaskNo, key: Key) -> bool
+    requires { task.0 < length bases.now }
+    ensures { result ≡ true → slice_index_or bases.now task.0 None ≡ Some key }
+{
+    bases[task.0 as usize] == Some(key)
 }
 
 // The base key of a task, or the lowest key where none was told.

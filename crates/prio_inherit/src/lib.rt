@@ -66,11 +66,16 @@ impl Inherit {
     /// Sets the base key of the task.
     ///
     /// Example: `table.base(TaskNo(1), key)` before the first call for task 1, and at each new job under EDF.
+    #[inline(always)]
     pub fn base(&mut self, task: TaskNo, key: Key)
         requires { task.0 < length self.old.bases }
         ensures { self.new ≡
             record self.old { bases = slice_set self.old.bases task.0 (Some key) } }
     {
+        // Most acts leave the base key as it is.
+        if keys::is_known(self.bases.as_slice(), task, key) {
+            return;
+        }
         self.bases[task.0 as usize] = Some(key);
         keys::update_walk(
             self.bases.as_slice(),

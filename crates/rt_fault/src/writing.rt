@@ -8,6 +8,7 @@ use crate::{Failed, Sink};
 /// Writes all of `bytes`. It takes no memory.
 ///
 /// Where a write fails, a first part of `bytes` was written. With no bytes nothing is asked of the sink.
+#[inline(always)]
 pub fn put_all<K: Sink>(out: &mut K, bytes: &[u8]) -> Result<(), Failed>
     ensures ok { OnOk result (Extends (K.held out.old) (K.held out.new) bytes.now) }
     ensures failed { OnErr result (ExtendsByPrefix (K.held out.old) (K.held out.new) bytes.now) }

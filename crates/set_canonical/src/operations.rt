@@ -13,6 +13,7 @@ use std::alloc::AllocError;
 
 /// The rest of an array that has a word alone, which comes in its quotes and with the bracket behind.
 #[tactic(auto, using(std::proofs::Common::append_assoc))]
+#[inline(always)]
 fn put_word(out: &mut Vec<u8>, later: bool, rest: &[u8]) -> Result<(), AllocError>
     ensures { OnOk result (out.new.items ≡ out.old.items ++ (comma_if later ++ rest.now)) }
 {
@@ -57,6 +58,7 @@ pub fn put_word_and_number(
 
 /// The rest of an array that has an operation.
 #[tactic(auto, using(std::proofs::Common::append_assoc), unfolding(json::specs::Print::escape_byte))]
+#[inline(always)]
 pub fn put_op(out: &mut Vec<u8>, later: bool, sems: &[Sem], op: Op) -> Result<(), AllocError>
     ensures { OnOk result (out.new.items
         ≡ out.old.items ++ items_text later (items_of (op_items (sem_names sems.now) op))) }
@@ -74,6 +76,7 @@ pub fn put_op(out: &mut Vec<u8>, later: bool, sems: &[Sem], op: Op) -> Result<()
 
 /// The rest of an array that has an act.
 #[tactic(auto, using(std::proofs::Common::append_assoc), unfolding(json::specs::Print::escape_byte))]
+#[inline(always)]
 fn put_act(out: &mut Vec<u8>, sems: &[Sem], tasks: &[Task], act: Act) -> Result<(), AllocError>
     ensures { OnOk result (out.new.items
         ≡ out.old.items ++ items_text true (items_of (act_items
@@ -88,6 +91,7 @@ fn put_act(out: &mut Vec<u8>, sems: &[Sem], tasks: &[Task], act: Act) -> Result<
 }
 
 #[tactic(auto, using(crate::proofs::Texts::step_text, std::proofs::Common::append_assoc))]
+#[inline(always)]
 fn put_step(out: &mut Vec<u8>, sems: &[Sem], tasks: &[Task], s: &Step) -> Result<(), AllocError>
     ensures { OnOk result (out.new.items
         ≡ out.old.items ++ compact_text (step_data

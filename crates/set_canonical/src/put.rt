@@ -9,6 +9,7 @@ use itoa::Buffer;
 use std::alloc::AllocError;
 
 /// The text as it is.
+#[inline(always)]
 pub fn put(out: &mut Vec<u8>, text: &[u8]) -> Result<(), AllocError>
     ensures { OnOk result (out.new.items ≡ out.old.items ++ text.now) }
 {
@@ -17,6 +18,7 @@ pub fn put(out: &mut Vec<u8>, text: &[u8]) -> Result<(), AllocError>
 
 /// A comma, where something stands before.
 #[tactic(auto, using(crate::proofs::Texts::append_nothing))]
+#[inline(always)]
 pub fn put_comma(out: &mut Vec<u8>, later: bool) -> Result<(), AllocError>
     ensures { OnOk result (out.new.items ≡ out.old.items ++ comma_if later) }
 {
@@ -28,6 +30,7 @@ pub fn put_comma(out: &mut Vec<u8>, later: bool) -> Result<(), AllocError>
 
 /// The number in decimal; most numbers of a set have one digit.
 #[tactic(auto, using(std::proofs::lemmas::Fmt::decimal_digit))]
+#[inline(always)]
 pub fn put_natural(out: &mut Vec<u8>, n: u64) -> Result<(), AllocError>
     ensures { OnOk result (out.new.items ≡ out.old.items ++ decimal n) }
 {

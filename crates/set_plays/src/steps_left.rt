@@ -33,6 +33,7 @@ impl StepsLeft<'_> {
     }
 
     /// The next step, where the engine is at the history of those before it; none where none is left.
+    #[inline(always)]
     pub fn next(&mut self, setup: &Setup, engine: &Engine) -> Option<Step>
         requires setup { engine.now.setup ≡ setup.now }
         requires of { AreOf (group_of engine.now) self.old }

@@ -21,6 +21,7 @@ pub fn put_word_and_number(out: &mut Vec<u8>, word: &[u8], n: u64) -> Result<(),
 }
 
 /// The words of an act, each after a space.
+#[inline(always)]
 pub fn put_act(out: &mut Vec<u8>, format: &Format, act: Act) -> Result<(), AllocError>
     ensures { OnOk result (out.new.items
         ≡ out.old.items ++ further 32 (act_words (known_in format.now) act)) }

@@ -35,6 +35,7 @@ fn append_group_line(
 }
 
 #[tactic(auto, using(crate::proofs::LineTexts::rest_text, std::proofs::Common::append_assoc))]
+#[inline(always)]
 pub(crate) fn append_after_tick(
     out: &mut Vec<u8>,
     format: &Format,

@@ -19,6 +19,7 @@ pub struct CpuLink {
 }
 
 #[tactic(auto, using(std::proofs::Common::append_assoc))]
+#[inline(always)]
 fn put_link(out: &mut Vec<u8>, format: &Format, link: CpuLink) -> Result<(), AllocError>
     ensures { OnOk result (out.new.items
         ≡ out.old.items ++ 32 ∷ link_word (known_in format.now) (link_of link)) }
@@ -30,6 +31,7 @@ fn put_link(out: &mut Vec<u8>, format: &Format, link: CpuLink) -> Result<(), All
 
 /// The links, each after a space.
 #[tactic(auto, using(std::proofs::Common::append_assoc))]
+#[inline(always)]
 pub fn put_links(out: &mut Vec<u8>, format: &Format, links: &[CpuLink]) -> Result<(), AllocError>
     ensures { OnOk result (out.new.items
         ≡ out.old.items

@@ -68,6 +68,7 @@ impl Digits {
         Ok(Digits { n: 0, digits })
     }
 
+    #[inline(always)]
     fn set(&mut self, n: u64)
         ensures { self.new ≡ n }
     {
@@ -82,6 +83,7 @@ impl Digits {
         self.n = n;
     }
 
+    #[inline(always)]
     fn put(&self, out: &mut Vec<u8>) -> Result<(), AllocError>
         ensures { OnOk result (out.new.items ≡ out.old.items ++ decimal self.now) }
     {
@@ -107,6 +109,7 @@ impl LineNumbers {
     }
 
     #[tactic(auto, using(crate::proofs::LineTexts::entry_text, std::proofs::Common::append_assoc))]
+    #[inline(always)]
     fn append_entry_line(
         &mut self,
         out: &mut Vec<u8>,

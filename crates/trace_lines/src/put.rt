@@ -7,6 +7,7 @@ use itoa::Buffer;
 use std::alloc::AllocError;
 
 /// Bytes at the end of a text.
+#[inline(always)]
 pub fn put(out: &mut Vec<u8>, bytes: &[u8]) -> Result<(), AllocError>
     ensures { OnOk result (out.new.items ≡ out.old.items ++ bytes.now) }
 {
@@ -27,6 +28,7 @@ pub fn put_number(out: &mut Vec<u8>, n: u64) -> Result<(), AllocError>
 
 /// A space, and then a word.
 #[tactic(auto, using(std::proofs::Common::append_assoc))]
+#[inline(always)]
 pub fn put_next_word(out: &mut Vec<u8>, word: &[u8]) -> Result<(), AllocError>
     ensures { OnOk result (out.new.items ≡ out.old.items ++ 32 ∷ word.now) }
 {
@@ -36,6 +38,7 @@ pub fn put_next_word(out: &mut Vec<u8>, word: &[u8]) -> Result<(), AllocError>
 
 /// A space, and then a number.
 #[tactic(auto, using(std::proofs::Common::append_assoc, std::proofs::lemmas::Fmt::decimal_digit))]
+#[inline(always)]
 pub fn put_next_number(out: &mut Vec<u8>, n: u64) -> Result<(), AllocError>
     ensures { OnOk result (out.new.items ≡ out.old.items ++ 32 ∷ decimal n) }
 {

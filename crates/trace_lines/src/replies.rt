@@ -11,6 +11,7 @@ use rt_rules::Reply;
 use std::alloc::AllocError;
 
 /// The words of a reply, each after a space.
+#[inline(always)]
 pub fn put_reply(out: &mut Vec<u8>, format: &Format, reply: Reply) -> Result<(), AllocError>
     ensures { OnOk result (out.new.items
         ≡ out.old.items ++ further 32 (reply_words (known_in format.now) reply)) }

@@ -13,6 +13,7 @@ use std::alloc::AllocError;
 
 /// A task: its number, or an `@` and its name.
 #[tactic(auto, using(std::proofs::Common::append_assoc))]
+#[inline(always)]
 pub fn put_task(out: &mut Vec<u8>, format: &Format, task: TaskNo) -> Result<(), AllocError>
     ensures { OnOk result (out.new.items
         ≡ out.old.items ++ task_word (known_in format.now) task.0) }
@@ -27,6 +28,7 @@ pub fn put_task(out: &mut Vec<u8>, format: &Format, task: TaskNo) -> Result<(), 
 }
 
 /// A task, or a dash for none.
+#[inline(always)]
 pub fn put_target(
     out: &mut Vec<u8>,
     format: &Format,
@@ -43,6 +45,7 @@ pub fn put_target(
 
 /// A space, and then a task.
 #[tactic(auto, using(std::proofs::Common::append_assoc))]
+#[inline(always)]
 pub fn put_next_task(out: &mut Vec<u8>, format: &Format, task: TaskNo) -> Result<(), AllocError>
     ensures { OnOk result (out.new.items
         ≡ out.old.items ++ 32 ∷ task_word (known_in format.now) task.0) }
@@ -53,6 +56,7 @@ pub fn put_next_task(out: &mut Vec<u8>, format: &Format, task: TaskNo) -> Result
 
 /// A word and a task, each after a space.
 #[tactic(auto, using(std::proofs::Common::append_assoc))]
+#[inline(always)]
 pub fn put_word_and_task(
     out: &mut Vec<u8>,
     format: &Format,

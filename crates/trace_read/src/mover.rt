@@ -43,6 +43,7 @@ fn mover_said(text: &[u8]) -> Option<Mover>
 
 /// Who takes the step of the entry line that a text begins with. Of a text that begins with no line of an entry it may say
 /// anything.
+#[inline(always)]
 pub fn mover_at(text: &[u8]) -> Option<Mover>
     ensures { (k : known.Known) (i : ℕ) (e : Entry) (links : List Link) (more : List ℕ) → Tells k
         → known.IsLine k (entry_line i e links)

@@ -133,6 +133,7 @@ fn act_with<'a>(names: &ActNames, word: &[u8], bytes: &'a [u8]) -> Option<(Act, 
 }
 
 /// An act, and what stands after it.
+#[inline(always)]
 fn act_at<'a>(names: &ActNames, bytes: &'a [u8]) -> Option<(Act, &'a [u8])>
     ensures { IfSome result (λ x. length x.1.now < length bytes.now) }
 {

@@ -40,6 +40,7 @@ impl<T: TraceTool> Bus<T> {
     }
 
     /// Feeds the entry to each tool that has not ended. One that now has ended is dropped, and its totals are kept.
+    #[inline(always)]
     pub fn feed(&mut self, e: &Shown)
         ensures { counters T.tool self.new ≡ map (counter_after e.now) (counters T.tool self.old) }
     {

@@ -29,6 +29,7 @@ impl TraceTool for ShippedTool {
         ⟦<Migrations as TraceTool>⟧.tool ⟦<Occupancy as TraceTool>⟧.tool
         ⟦<FirstMiss as TraceTool>⟧.tool };
 
+    #[inline(always)]
     fn feed(&mut self, e: &Shown) {
         match self {
             ShippedTool::Misses(tool) => tool.feed(e),

@@ -54,6 +54,7 @@ impl<T: TraceTool> ToolCounter<T> {
         self.tool = None;
     }
 
+    #[inline(always)]
     pub fn feed(&mut self, e: &Shown)
         ensures { counter T.tool self.new ≡ counter_after e.now (counter T.tool self.old) }
     {

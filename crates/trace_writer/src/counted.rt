@@ -82,6 +82,7 @@ impl CountingEngine {
     }
 
     /// Takes a step of the group, and counts its entry.
+    #[inline(always)]
     pub fn step(&mut self, step: Step) -> Reply
         requires room { 0 < self.old.spare }
         requires step { IsStepOf (group_of self.old) step }

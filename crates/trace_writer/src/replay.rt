@@ -82,6 +82,7 @@ impl Replay {
     }
 
     /// Takes a step, and tells its reply. The links are read again where it placed some.
+    #[inline(always)]
     pub fn step(&mut self, step: Step) -> Result<Reply, NoMemory>
         requires room { 0 < self.old.engine.spare }
         requires step { IsStepOf (group_of self.old.engine) step }
