@@ -2,7 +2,7 @@
 ghost use Rattle.std.specs.Prelude.{◌≡◌, ◌∷◌, ◌++◌, [], IfOk, OnOk, decimal};
 ghost use Rattle.chart_texts.specs.Rows as rows;
 
-use itoa::Buffer;
+use decimals::put_decimal;
 use rt_base::NoMemory;
 use std::alloc::{AllocError, Global};
 
@@ -15,8 +15,7 @@ pub fn put(out: &mut Vec<u8>, bytes: &[u8]) -> Result<(), AllocError>
 pub fn put_number(out: &mut Vec<u8>, n: u64) -> Result<(), AllocError>
     ensures { OnOk result (out.new.items ≡ out.old.items ++ decimal n) }
 {
-    let mut buffer = Buffer::new();
-    put(out, buffer.format(n).as_bytes())
+    put_decimal(out, n)
 }
 
 /// Two characters.

@@ -2,6 +2,7 @@
 ghost use Rattle.std.specs.Prelude.{◌≡◌, ◌≤◌, ◌^◌, ◌++◌, OnOk, decimal};
 ghost use Rattle.event_texts.specs.Records.{microseconds, quoted, truth};
 
+use decimals::put_decimal;
 use itoa::Buffer;
 use std::alloc::AllocError;
 
@@ -14,8 +15,7 @@ pub(crate) fn put(text: &mut Vec<u8>, bytes: &[u8]) -> Result<(), AllocError>
 pub(crate) fn put_number(text: &mut Vec<u8>, n: u64) -> Result<(), AllocError>
     ensures { OnOk result (text.new.items ≡ text.old.items ++ decimal n) }
 {
-    let mut buffer = Buffer::new();
-    put(text, buffer.format(n).as_bytes())
+    put_decimal(text, n)
 }
 
 /// Ticks in microseconds. No such number wraps.

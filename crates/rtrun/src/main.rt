@@ -18,7 +18,7 @@ fn run_words<R: AllocGlobal + Input + Print + Threads + Wait + Sync>(
     words: &[String],
 ) -> Status {
     let alloc = rt.alloc();
-    let Ok(mut buffer) = BufWriter::new(alloc, io::writer(rt)) else {
+    let Ok(mut buffer) = BufWriter::with_capacity(alloc, WRITTEN_AT_ONCE, io::writer(rt)) else {
         return Status::NoMemory;
     };
     let Ok(tools) = shipped_tools(alloc) else {

@@ -12,7 +12,7 @@ use trace_tools::shipped_tools;
 /// Runs the command between standard input and standard output. What a failed flush keeps back is a failed write.
 fn run(rt: &HostRuntime, words: &[String]) -> Status {
     let alloc = rt.alloc();
-    let Ok(mut buffer) = BufWriter::new(alloc, io::writer(rt)) else {
+    let Ok(mut buffer) = BufWriter::with_capacity(alloc, WRITTEN_AT_ONCE, io::writer(rt)) else {
         return Status::NoMemory;
     };
     let Ok(tools) = shipped_tools(alloc) else {

@@ -29,7 +29,7 @@ fn cut(end: ViewEnd) -> ViewEnd {
 /// Runs the command between standard input and standard output. What a failed flush keeps back is a failed write.
 fn run(rt: &HostRuntime, words: &[String]) -> ViewEnd {
     let alloc = rt.alloc();
-    let Ok(mut buffer) = BufWriter::new(alloc, io::writer(rt)) else {
+    let Ok(mut buffer) = BufWriter::with_capacity(alloc, WRITTEN_AT_ONCE, io::writer(rt)) else {
         return ViewEnd::Ended(Status::NoMemory);
     };
     let Ok(tools) = shipped_tools(alloc) else {

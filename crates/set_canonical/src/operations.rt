@@ -7,9 +7,10 @@ ghost use Rattle.serde_json.specs.Written.{comma_if, compact_text, items_text};
 ghost use Rattle.set_canonical.specs.Values.{natural_data, array_data, sem_names, task_names, op_items, act_items, step_data};
 
 use crate::names::{sem_name, task_name};
-use crate::put::{put, put_comma, put_escaped, put_natural, put_number, put_string};
+use crate::put::{put, put_comma, put_escaped, put_number, put_string};
+use decimals::{Digits, put_decimal};
 use rt_task::{Act, Op, Sem, Step, Task};
-use std::alloc::AllocError;
+use std::alloc::{AllocError, Global};
 
 /// The rest of an array that has a word alone, which comes in its quotes and with the bracket behind.
 #[tactic(auto, using(std::proofs::Common::append_assoc))]
@@ -92,21 +93,29 @@ fn put_act(out: &mut Vec<u8>, sems: &[Sem], tasks: &[Task], act: Act) -> Result<
 
 #[tactic(auto, using(crate::proofs::Texts::step_text, std::proofs::Common::append_assoc))]
 #[inline(always)]
-fn put_step(out: &mut Vec<u8>, sems: &[Sem], tasks: &[Task], s: &Step) -> Result<(), AllocError>
+fn put_step(
+    out: &mut Vec<u8>,
+    tick: &mut Digits,
+    sems: &[Sem],
+    tasks: &[Task],
+    s: &Step,
+) -> Result<(), AllocError>
     ensures { OnOk result (out.new.items
         ≡ out.old.items ++ compact_text (step_data
         (sem_names sems.now) (task_names tasks.now) s.now)) }
 {
     out.push(b'[')?;
-    put_natural(out, u64::from(s.cpu.0))?;
+    put_decimal(out, u64::from(s.cpu.0))?;
     out.push(b',')?;
-    put_natural(out, s.tick.0)?;
+    tick.set(s.tick.0);
+    tick.put(out)?;
     put_act(out, sems, tasks, s.act)?;
     Ok(())
 }
 
 #[tactic(auto, using(std::proofs::Common::append_assoc))]
 pub fn put_steps(
+    alloc: Global,
     out: &mut Vec<u8>,
     before: &[u8],
     sems: &[Sem],
@@ -119,9 +128,11 @@ pub fn put_steps(
 {
     put(out, before)?;
     out.push(b'[')?;
+    // The tick of a step is mostly that of the step before it, or one more or less.
+    let mut tick = Digits::zero(alloc)?;
     for (i, s) in steps.iter().enumerate() {
         put_comma(out, i > 0)?;
-        put_step(out, sems, tasks, s)?;
+        put_step(out, &mut tick, sems, tasks, s)?;
     }
     out.push(b']')?;
     Ok(())

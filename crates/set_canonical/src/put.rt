@@ -5,7 +5,7 @@ ghost use Rattle.json.specs.Print as print;
 ghost use Rattle.serde_json.specs.Data.{boolean};
 ghost use Rattle.serde_json.specs.Written.{compact_text, comma_if};
 
-use itoa::Buffer;
+use decimals::put_decimal;
 use std::alloc::AllocError;
 
 /// The text as it is.
@@ -28,26 +28,13 @@ pub fn put_comma(out: &mut Vec<u8>, later: bool) -> Result<(), AllocError>
     Ok(())
 }
 
-/// The number in decimal; most numbers of a set have one digit.
-#[tactic(auto, using(std::proofs::lemmas::Fmt::decimal_digit))]
-#[inline(always)]
-pub fn put_natural(out: &mut Vec<u8>, n: u64) -> Result<(), AllocError>
-    ensures { OnOk result (out.new.items ≡ out.old.items ++ decimal n) }
-{
-    if n < 10 {
-        return Ok(out.push(b'0' + n as u8)?);
-    }
-    let mut buffer = Buffer::new();
-    put(out, buffer.format(n).as_bytes())
-}
-
 /// The number in decimal, after the text before it.
 #[tactic(auto, using(std::proofs::Common::append_assoc))]
 pub fn put_number(out: &mut Vec<u8>, before: &[u8], n: u64) -> Result<(), AllocError>
     ensures { OnOk result (out.new.items ≡ out.old.items ++ (before.now ++ decimal n)) }
 {
     put(out, before)?;
-    put_natural(out, n)
+    put_decimal(out, n)
 }
 
 /// `true` or `false`, after the text before it.

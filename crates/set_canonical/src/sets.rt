@@ -27,6 +27,7 @@ fn put_horizon(out: &mut Vec<u8>, drive: &Drive) -> Result<(), AllocError>
 /// The steps, where they are given.
 #[tactic(auto, using(crate::proofs::Texts::append_nothing))]
 fn put_given_steps(
+    alloc: Global,
     out: &mut Vec<u8>,
     sems: &[Sem],
     tasks: &[Task],
@@ -36,7 +37,7 @@ fn put_given_steps(
         ≡ out.old.items ++ steps_text (sem_names sems.now) (task_names tasks.now) drive.now) }
 {
     match drive {
-        Drive::Steps(steps) => put_steps(out, b",\"steps\":", sems, tasks, steps.as_slice()),
+        Drive::Steps(steps) => put_steps(alloc, out, b",\"steps\":", sems, tasks, steps.as_slice()),
         Drive::Horizon(_) => Ok(()),
     }
 }
@@ -67,7 +68,7 @@ fn put_elements(
 {
     put_resvs(out, b",\"resvs\":", resvs)?;
     put_sems(out, b",\"sems\":", sems)?;
-    put_given_steps(out, sems, tasks, drive)?;
+    put_given_steps(alloc, out, sems, tasks, drive)?;
     put_tasks(alloc, out, b",\"tasks\":", sems, resvs, tasks)?;
     Ok(())
 }

@@ -3,7 +3,7 @@ ghost use Rattle.std.specs.Prelude.{◌≡◌, ◌++◌, ◌∷◌, map, OnOk, d
 ghost use Rattle.trace_lines.specs.Words.{further};
 ghost use Rattle.trace_lines.specs.Grammar.{number_word};
 
-use itoa::Buffer;
+use decimals::put_decimal;
 use std::alloc::AllocError;
 
 /// Bytes at the end of a text.
@@ -14,16 +14,11 @@ pub fn put(out: &mut Vec<u8>, bytes: &[u8]) -> Result<(), AllocError>
     out.extend_from_slice(bytes)
 }
 
-/// A number in decimal digits; most numbers of a line have one.
-#[tactic(auto, using(std::proofs::lemmas::Fmt::decimal_digit))]
+/// A number in decimal digits.
 pub fn put_number(out: &mut Vec<u8>, n: u64) -> Result<(), AllocError>
     ensures { OnOk result (out.new.items ≡ out.old.items ++ decimal n) }
 {
-    if n < 10 {
-        return Ok(out.push(b'0' + n as u8)?);
-    }
-    let mut buffer = Buffer::new();
-    put(out, buffer.format(n).as_bytes())
+    put_decimal(out, n)
 }
 
 /// A space, and then a word.

@@ -1,7 +1,7 @@
 use Rattle.std.proofs.Common.{◌≡◌, length, ap, decimal, arith}
 use Rattle.std.proofs.lemmas.Fmt.{decimal_nonempty}
-use Rattle.trace_lines.proofs.DigitLaws.{last_digit, decimal_raised}
-use Rattle.trace_lines.proofs.numbers.raise_last.Goals as goal
+use Rattle.decimals.proofs.DigitLaws.{last_digit, decimal_raised}
+use Rattle.decimals.proofs.digits.raise_last.Goals as goal
 
 pub overflow_sub-last : goal.overflow_sub-last
 overflow_sub-last c = omega (arith, c.len-last.ensures, decimal_nonempty c.args.n c.ranges.n.fits, ap length c.requires.digits)

@@ -41,3 +41,19 @@ module _ (n : ℕ) (small : n < 2 ^ 64) where
   decimal_raised low =
       let e = ends_in_digit n small in
       rw (at_last e, e.digits) (set-append_seam e.front (48 + n % 10) [] (48 + n % 10 + 1)) ∙ sym (e.next low)
+
+  pub decimal_lowered : 0 < n % 10 → set (decimal n) (length (decimal n) - 1) (48 + n % 10 - 1) ≡ decimal (n - 1)
+  decimal_lowered some =
+      let e = ends_in_digit (n - 1) (omega arith) in
+      let whole : n - 1 + 1 ≡ n = omega arith in
+      let last : 48 + (n - 1) % 10 + 1 ≡ 48 + n % 10 = omega arith in
+      let lower : 48 + n % 10 - 1 ≡ 48 + (n - 1) % 10 = omega arith in
+      let digits : decimal n ≡ e.front ++ ((48 + n % 10) ∷ []) =
+      ap decimal (sym whole) ∙ e.next (omega arith) ∙ ap (λ (d : ℕ). e.front ++ (d ∷ [])) last in
+      let at : length (decimal n) - 1 ≡ length e.front = omega (arith, ap length digits, length-append e.front ((48 + n % 10) ∷ [])) in
+      rw (at, digits) (set-append_seam e.front (48 + n % 10) [] (48 + n % 10 - 1)) ∙ ap (λ (d : ℕ). e.front ++ (d ∷ [])) lower ∙ sym e.digits
+
+-- a number of two digits
+pub two_digits : (n : ℕ) → 10 ≤ n → n < 100 → decimal n ≡ (48 + n / 10) ∷ (48 + n % 10) ∷ []
+two_digits n more small =
+    decimal_step_wide n more (omega arith) ∙ ap (λ (ds : List ℕ). ds ++ ((48 + n % 10) ∷ [])) (decimal_digit (n / 10) (omega arith))
