@@ -6,7 +6,6 @@ ghost use Rattle.std.specs.Prelude.{◌≡◌, ◌++◌, OnOk, decimal};
 mod digits;
 
 pub use digits::Digits;
-
 use itoa::Buffer;
 use std::alloc::AllocError;
 

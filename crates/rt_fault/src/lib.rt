@@ -19,6 +19,6 @@ pub use memory::{MemSink, MemSource};
 pub use output::Sink;
 pub use reading::{ReadStop, read_all};
 pub use status::Status;
-pub use std_edge::{StdSink, StdSource};
+pub use std_edge::{StdSink, StdSource, WRITTEN_AT_ONCE};
 pub use sure::{SureSink, SureSource};
 pub use writing::put_all;

@@ -57,6 +57,9 @@ impl<T: Read> Source for StdSource<T> {
     }
 }
 
+/// How many bytes a program gathers before it writes them: few writes, and little memory.
+pub const WRITTEN_AT_ONCE: usize = 65_536;
+
 /// A writer of std as a sink. Each error of the writer is a fault, and so is a write of no bytes.
 ///
 /// It tells the bytes that it holds where the writer does. The count of faults stays at 2^64 - 1 once it is there.

@@ -3,7 +3,7 @@
 #![tactic(auto)]
 
 use cpu_site::OpenGate;
-use rt_fault::{Status, StdSink, StdSource};
+use rt_fault::{Status, StdSink, StdSource, WRITTEN_AT_ONCE};
 use run_command::{USAGE, run};
 use set_input::Program;
 use std::io::{self, BufWriter, Write};

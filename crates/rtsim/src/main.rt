@@ -2,7 +2,7 @@
 //! to format 2, and sums up what a generated set comes to.
 #![tactic(auto)]
 
-use rt_fault::{Status, StdSink, StdSource};
+use rt_fault::{Status, StdSink, StdSource, WRITTEN_AT_ONCE};
 use set_input::Program;
 use sim_commands::{USAGE, sim};
 use std::io::{self, BufWriter, Write};

@@ -2,7 +2,7 @@
 #![tactic(auto)]
 
 use explain_command::explain;
-use rt_fault::{Status, StdSink, StdSource};
+use rt_fault::{Status, StdSink, StdSource, WRITTEN_AT_ONCE};
 use set_input::Program;
 use std::io::{self, BufWriter, Write};
 use std::process::ExitCode;
