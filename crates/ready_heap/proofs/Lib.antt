@@ -1,7 +1,7 @@
 pub mod ArenaLaws
 pub mod RowLaws
 pub mod KeyedLaws
-pub mod LateLaws
+pub mod HeldLaws
 pub mod HeapLaws
 pub mod AheadLaws
 pub mod SiftLaws

@@ -1,8 +1,9 @@
-//! Tasks in their places, by position and by node, while a node may tell its task's position late.
-ghost use Rattle.std.specs.Prelude.{◌≡◌, ◌≢◌, ◌-◌, ◌^◌, ◌<◌, length};
-ghost use Rattle.ready_heap.specs.Row.{IsPopped, IsSwapped};
+//! Tasks in their places, by position and by node, while one may be held out of them.
+ghost use Rattle.std.specs.Prelude.{◌≡◌, ◌≢◌, ◌+◌, ◌^◌, ◌<◌, length};
+ghost use Rattle.ready_heap.specs.Row.{IsPopped, IsSwapped, IsTaken};
 ghost use Rattle.ready_heap.specs.Heap.{entry};
-ghost use Rattle.ready_heap.specs.Places.{ranked, row_of, HasKeys, IsLate, IsSound};
+ghost use Rattle.ready_heap.specs.declared.places.Entry.{Entry};
+ghost use Rattle.ready_heap.specs.Places.{ranked, row_of, row_with, HasKeys, IsHeld, IsSound};
 
 use crate::arena::Arena;
 use rt_base::TaskNo;
@@ -44,41 +45,58 @@ impl Places {
         }
     }
 
-    /// Swaps the late task of a position with the task at another one, which its node tells.
-    pub(crate) fn pass(&mut self, late: usize, from: usize)
-        requires late { IsLate self.old late }
-        requires inside { late < length (row_of self.old).tasks }
+    /// Moves the task of a position to the free one. What stood there is free then.
+    pub(crate) fn pass(&mut self, free: usize, from: usize)
+        requires keys { HasKeys self.old }
+        requires inside { free < length (row_of self.old).tasks }
         requires from { from < length (row_of self.old).tasks }
-        requires apart { late ≢ from }
-        ensures swapped { IsSwapped (row_of self.old) (row_of self.new) late from }
-        ensures late { IsLate self.new from }
+        requires apart { free ≢ from }
+        ensures passed { (held : Entry) → IsHeld self.old held free →
+            IsSwapped (row_with self.old held free) (row_with self.new held from) free from }
+        ensures held { (held : Entry) → IsHeld self.old held free → IsHeld self.new held from }
+        ensures same_length { length (row_of self.new).tasks ≡ length (row_of self.old).tasks }
     {
-        let a = self.tasks[late];
-        let b = self.tasks[from];
-        self.tasks[late] = b;
-        self.tasks[from] = a;
-        let x = self.keys[late];
-        let y = self.keys[from];
-        self.keys[late] = y;
-        self.keys[from] = x;
-        self.arena.move_to(b, late);
+        let task = self.tasks[from];
+        self.tasks[free] = task;
+        let key = self.keys[from];
+        self.keys[free] = key;
+        self.arena.move_to(task, free);
     }
 
-    /// Has the late task's node tell its position.
-    pub(crate) fn settle(&mut self, late: usize)
-        requires late { IsLate self.old late }
-        requires inside { late < length (row_of self.old).tasks }
-        ensures same { row_of self.new ≡ row_of self.old }
+    /// Puts the held task at the free position.
+    pub(crate) fn settle(&mut self, held: Entry, free: usize)
+        requires held { IsHeld self.old held free }
+        requires inside { free < length (row_of self.old).tasks }
+        ensures settled { row_of self.new ≡ row_with self.old held free }
         ensures sound { IsSound self.new }
     {
-        let task = self.tasks[late];
-        self.arena.move_to(task, late);
+        self.tasks[free] = held.task;
+        self.keys[free] = held.key;
+        self.arena.move_to(held.task, free);
     }
 
-    /// Takes the last task out, which may be late.
+    /// Takes the task of a position out. The last one is held then, and that position free for it.
+    pub(crate) fn take_out(&mut self, position: usize) -> Entry
+        requires sound { IsSound self.old }
+        requires inside { position + 1 < length (row_of self.old).tasks }
+        ensures taken { IsTaken (row_of self.old) (row_of self.new) position }
+        ensures held { IsHeld self.new result position }
+        ensures last { ranked result ≡ entry (row_of self.new) position }
+    {
+        let (Some(task), Some(key)) = (self.tasks.pop(), self.keys.pop()) else {
+            unreachable!();
+        };
+        let gone = self.tasks[position];
+        self.tasks[position] = task;
+        self.keys[position] = key;
+        self.arena.remove(gone);
+        Entry { task, key }
+    }
+
+    /// Takes the last task out.
     pub(crate) fn pop(&mut self)
         requires some { 0 < length (row_of self.old).tasks }
-        requires late { IsLate self.old (length (row_of self.old).tasks - 1) }
+        requires sound { IsSound self.old }
         ensures popped { IsPopped (row_of self.old) (row_of self.new) }
         ensures sound { IsSound self.new }
     {
