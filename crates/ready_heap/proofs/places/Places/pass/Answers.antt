@@ -1,4 +1,4 @@
-use Rattle.std.proofs.Common.{◌≡◌, ◌<◌, get_or, length, length-set, ap, ◌∙◌, arith}
+use Rattle.std.proofs.Common.{◌≡◌, get_or, length-set, arith}
 use Rattle.rt_base.specs.TaskNos.{numbers}
 use Rattle.ready_heap.specs.Row.{key_beside}
 use Rattle.ready_heap.proofs.RowLaws.{numbers-set, read_number, length-numbers, keys_in-told_at}

@@ -1,4 +1,3 @@
-use Rattle.std.proofs.Common.{ap}
 use Rattle.rt_base.specs.TaskNos.{numbers}
 use Rattle.ready_heap.proofs.RowLaws.{keys_in-told_at, numbers-set}
 use Rattle.ready_heap.proofs.HeldLaws.{keyed-settled, held-inside}

@@ -1,8 +1,8 @@
-use Rattle.std.proofs.Common.{◌≡◌, ◌<◌, ◌∙◌, ap, sym, subst, [], ◌∷◌, ◌++◌, get_or, length, arith}
+use Rattle.std.proofs.Common.{◌≡◌, ◌<◌, ◌∙◌, ap, subst, [], ◌∷◌, ◌++◌, get_or, length, arith}
 use Rattle.std.specs.Prelude.{vec_capacity}
 use Rattle.rt_base.specs.TaskNos.{numbers}
 use Rattle.ready_heap.specs.Row.{IsKeyed, IsPlaced}
-use Rattle.ready_heap.proofs.RowLaws.{row-placed, numbers-append, numbers-set, read_number, length-numbers, length-snoc, length-keys_in}
+use Rattle.ready_heap.proofs.RowLaws.{numbers-append, numbers-set, read_number, length-numbers, length-snoc}
 use Rattle.ready_heap.proofs.HeldLaws.{placed-taken, keyed-taken, key-taken, taken-lists, taken-inside, entry-taken}
 use Rattle.ready_heap.proofs.places.Places.take_out.Goals as goal
 use Rattle.ready_heap.proofs.places.Places.take_out.Goals.{After-index-gone}
