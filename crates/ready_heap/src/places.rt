@@ -45,7 +45,7 @@ impl Places {
         }
     }
 
-    /// Moves the task of a position to the free one. What stood there is free then.
+    /// Moves the task of a position to the free one, and frees the position that it had.
     pub(crate) fn pass(&mut self, free: usize, from: usize)
         requires keys { HasKeys self.old }
         requires inside { free < length (row_of self.old).tasks }
@@ -75,7 +75,7 @@ impl Places {
         self.arena.move_to(held.task, free);
     }
 
-    /// Takes the task of a position out. The last one is held then, and that position free for it.
+    /// Takes the task of a position out, and holds the last one, for which that position is free.
     pub(crate) fn take_out(&mut self, position: usize) -> Entry
         requires sound { IsSound self.old }
         requires inside { position + 1 < length (row_of self.old).tasks }
