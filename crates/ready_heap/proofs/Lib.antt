@@ -1,6 +1,7 @@
 pub mod ArenaLaws
 pub mod RowLaws
 pub mod KeyedLaws
+pub mod HeldLaws
 pub mod HeapLaws
 pub mod AheadLaws
 pub mod SiftLaws

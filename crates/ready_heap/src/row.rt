@@ -1,8 +1,9 @@
 //! Tasks in a row, each found by its position and by its number.
 ghost use Rattle.std.specs.Prelude.{◌≡◌, ◌^◌, ◌<◌, IfOk, IfSome, IsSome, None, Some, [], is_some, length, replicate, slice_set};
-ghost use Rattle.ready_heap.specs.Row.{key_at, task_at, IsPopped, IsPushed, IsRow, IsSwapped};
+ghost use Rattle.ready_heap.specs.Row.{key_at, task_at, IsPushed, IsRow};
 
 use crate::arena::{Arena, Node};
+use crate::places::Places;
 use rt_base::{NoMemory, TaskNo};
 use rt_rules::Key;
 use std::alloc::Global;
@@ -11,23 +12,18 @@ use std::marker::Model;
 /// A row of tasks with their keys.
 #[derive(Drop)]
 pub(crate) struct TaskRow {
-    arena: Arena,
-    tasks: Vec<TaskNo>,
-    // Beside each task its key, so that a comparison looks at no node.
-    keys: Vec<Key>,
+    pub(crate) places: Places,
 }
 
 impl Model for TaskRow {
-    ghost use Rattle.std.specs.Prelude.{vec_capacity};
-    ghost use Rattle.rt_base.specs.TaskNos.{numbers};
-    ghost use Rattle.ready_heap.specs.Row.{keys_in, IsKeyed, IsPlaced, Row};
+    ghost use Rattle.ready_heap.specs.Row.{Row};
+    ghost use Rattle.ready_heap.specs.Places.{row_of, IsSound};
 
     ghost Value = { Row };
 
-    ghost view = { λ a. record { keys = keys_in a.arena; tasks = numbers a.tasks.items } };
+    ghost view = { λ a. row_of a.places };
 
-    ghost invariant = { λ a. IsPlaced a.arena (numbers a.tasks.items) (vec_capacity a.tasks)
-        × IsKeyed a.arena (numbers a.tasks.items) a.keys.items (vec_capacity a.keys) };
+    ghost invariant = { λ a. IsSound a.places };
 }
 
 impl TaskRow {
@@ -37,7 +33,9 @@ impl TaskRow {
         let arena = Arena::new(alloc, room)?;
         let tasks = Vec::with_capacity(alloc, room as usize)?;
         let keys = Vec::with_capacity(alloc, room as usize)?;
-        Ok(TaskRow { arena, tasks, keys })
+        Ok(TaskRow {
+            places: Places { arena, tasks, keys },
+        })
     }
 
     pub(crate) fn len(&self) -> usize
@@ -45,7 +43,7 @@ impl TaskRow {
         ensures small { result < 2 ^ 63 }
         ensures sound { IsRow self.now }
     {
-        self.tasks.len()
+        self.places.tasks.len()
     }
 
     /// The task at a position.
@@ -53,7 +51,7 @@ impl TaskRow {
         requires { position < length self.now.tasks }
         ensures { result.0 ≡ task_at self.now position }
     {
-        self.tasks[position]
+        self.places.tasks[position]
     }
 
     /// The key of the task at a position.
@@ -61,7 +59,7 @@ impl TaskRow {
         requires { position < length self.now.tasks }
         ensures { key_at self.now.keys (task_at self.now position) ≡ Some result }
     {
-        self.keys[position]
+        self.places.keys[position]
     }
 
     /// The position of a task, if it is in the row.
@@ -72,7 +70,7 @@ impl TaskRow {
         ensures there { is_some result ≡ is_some (key_at self.now.keys task.0) }
         ensures sound { IsRow self.now }
     {
-        match self.arena.get(task) {
+        match self.places.arena.get(task) {
             Some(node) => Some(node.position),
             None => None,
         }
@@ -85,41 +83,10 @@ impl TaskRow {
         ensures pushed { IsPushed self.old self.new task.0 key }
         ensures sound { IsRow self.new }
     {
-        let position = self.tasks.len();
-        self.arena.insert(task, Node { key, position });
-        self.tasks.push_reserved(task);
-        self.keys.push_reserved(key);
-    }
-
-    /// Swaps the tasks of two positions.
-    pub(crate) fn swap(&mut self, i: usize, j: usize)
-        requires first { i < length self.old.tasks }
-        requires second { j < length self.old.tasks }
-        ensures swapped { IsSwapped self.old self.new i j }
-        ensures sound { IsRow self.new }
-    {
-        let a = self.tasks[i];
-        let b = self.tasks[j];
-        self.tasks[i] = b;
-        self.tasks[j] = a;
-        let x = self.keys[i];
-        let y = self.keys[j];
-        self.keys[i] = y;
-        self.keys[j] = x;
-        self.arena.move_to(a, j);
-        self.arena.move_to(b, i);
-    }
-
-    /// Takes the last task out.
-    pub(crate) fn pop(&mut self)
-        requires { 0 < length self.old.tasks }
-        ensures popped { IsPopped self.old self.new }
-        ensures sound { IsRow self.new }
-    {
-        let (Some(task), Some(_)) = (self.tasks.pop(), self.keys.pop()) else {
-            unreachable!();
-        };
-        self.arena.remove(task);
+        let position = self.places.tasks.len();
+        self.places.arena.insert(task, Node { key, position });
+        self.places.tasks.push_reserved(task);
+        self.places.keys.push_reserved(key);
     }
 
     /// Gives the task at a position another key.
@@ -130,8 +97,8 @@ impl TaskRow {
         } }
         ensures sound { IsRow self.new }
     {
-        let task = self.tasks[position];
-        self.keys[position] = key;
-        self.arena.rekey(task, key);
+        let task = self.places.tasks[position];
+        self.places.keys[position] = key;
+        self.places.arena.rekey(task, key);
     }
 }

@@ -5,11 +5,11 @@ use Rattle.ready_heap.proofs.row.TaskRow.key.Goals as goal
 
 pub index-requires : goal.index-requires
 index-requires c =
-    let at : c.args.position < length (numbers c.self.inside.tasks.items) = rw (← c.self.view_is) at c.requires in
-    omega (arith, at, c.self.invariant.1.same_length, c.self.inside.keys.ok.0)
+    let at : c.args.position < length (numbers c.self.inside.places.tasks.items) = rw (← c.self.view_is) at c.requires in
+    omega (arith, at, c.self.invariant.keyed.same_length, c.self.inside.places.keys.ok.0)
 
 pub returns : goal.returns
 returns c =
-    let at : c.args.position < length (numbers c.self.inside.tasks.items) = rw (← c.self.view_is) at c.requires in
-    let beside = read_key c.self.inside.keys.items c.args.position c.index.result.now (omega (arith, at, c.self.invariant.1.same_length)) c.index.ensures in
-    rw (← c.self.view_is) (c.self.invariant.1.each c.args.position at ∙ ap (λ k. Some k) beside)
+    let at : c.args.position < length (numbers c.self.inside.places.tasks.items) = rw (← c.self.view_is) at c.requires in
+    let beside = read_key c.self.inside.places.keys.items c.args.position c.index.result.now (omega (arith, at, c.self.invariant.keyed.same_length)) c.index.ensures in
+    rw (← c.self.view_is) (c.self.invariant.keyed.each c.args.position at ∙ ap (λ k. Some k) beside)

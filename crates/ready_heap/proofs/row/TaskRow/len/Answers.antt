@@ -3,7 +3,7 @@ use Rattle.ready_heap.proofs.RowLaws.{row-placed}
 use Rattle.ready_heap.proofs.row.TaskRow.len.Goals as goal
 
 pub returns-clause-sound : goal.returns-clause-sound
-returns-clause-sound c = rw (← c.self.view_is) (row-placed _ _ _ c.self.invariant.0)
+returns-clause-sound c = rw (← c.self.view_is) (row-placed _ _ _ c.self.invariant.placed)
 
 pub returns-clause-small : goal.returns-clause-small
-returns-clause-small c = omega (arith, c.self.inside.tasks.small, c.self.inside.tasks.ok.1, c.len.ensures)
+returns-clause-small c = omega (arith, c.self.inside.places.tasks.small, c.self.inside.places.tasks.ok.1, c.len.ensures)
