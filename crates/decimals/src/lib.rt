@@ -13,6 +13,7 @@ use std::alloc::AllocError;
 ///
 /// Example: `put_decimal(&mut out, 42)` adds `42`.
 #[tactic(auto, using(std::proofs::lemmas::Fmt::decimal_digit, crate::proofs::DigitLaws::two_digits))]
+#[inline(always)]
 pub fn put_decimal(out: &mut Vec<u8>, n: u64) -> Result<(), AllocError>
     ensures { OnOk result (out.new.items ≡ out.old.items ++ decimal n) }
 {
