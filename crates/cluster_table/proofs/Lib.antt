@@ -4,5 +4,5 @@ pub mod Stays
 pub mod Stable
 pub mod Listed
 pub mod Seen
-mod Marking
+pub mod Marking
 pub mod PendingLaws

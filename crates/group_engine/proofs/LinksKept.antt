@@ -3,6 +3,7 @@ use Rattle.std.proofs.Common.{◌≡◌, ◌≢◌, ℕ, ◌-◌, ◌⊎◌, inl
 use Rattle.std.specs.Prelude.{None, Option, Some, if◌then◌else◌, option_map, slice_index}
 use Rattle.std.proofs.lemmas.Bool.{cases_eq}
 use Rattle.std.proofs.lemmas.List.{same_from_push}
+use Rattle.rt_base.specs.declared.ClusterNo.{ClusterNo}
 use Rattle.rt_rules.specs.declared.history.Entry.{Entry}
 use Rattle.rt_rules.specs.declared.history.Reply.{Reply}
 use Rattle.rt_task.specs.declared.Act.{Act}
@@ -17,8 +18,9 @@ use Rattle.rt_plays.specs.Homes.{IsProcessorOf}
 use Rattle.rt_plays.proofs.AtHomeLaws.{processors_are_at_home}
 use Rattle.link_table.specs.Linked.{Linked, after_irq, is_deferred, is_pending, link_of, with_run}
 use Rattle.cluster_table.specs.Clusters.{KeptCluster, after_take, left_by, with_key}
-use Rattle.cluster_table.specs.Marks.{IsUnmarked, Marks}
+use Rattle.cluster_table.specs.Marks.{IsUnmarked, Marks, has_any, only_one}
 use Rattle.cluster_table.specs.Table.{Table, changed_at, cluster_at}
+use Rattle.cluster_table.proofs.Marking.{unmarked-apart, unmarked-none}
 use Rattle.cluster_table.proofs.RowLaws.{at-changed, at-changed_other}
 use Rattle.group_engine.specs.declared.state.GroupState.{GroupState}
 use Rattle.group_engine.specs.Links.{AreMarked, StayLinked, links_in}
@@ -108,6 +110,11 @@ linked-unmarked g es e marks marked q of out =
     ap (λ ls. link_at ls (q - first_cpu g (cluster_with g q))) (marked es e refl (cluster_with g q) (processors_are_at_home g q of).cluster_there out)
 
 -- and so is each processor where no cluster has a mark
-pub linked-none : (g : Group) (es : List Entry) (e : Entry) (marks : Marks) → AreMarked g (es ++ e ∷ []) marks → marks.any ≡ false → (q : ℕ) → IsProcessorOf g q
+pub linked-none : (g : Group) (es : List Entry) (e : Entry) (marks : Marks) → AreMarked g (es ++ e ∷ []) marks → has_any marks ≡ false → (q : ℕ) → IsProcessorOf g q
     → linked g q (past_of g (es ++ e ∷ [])) ≡ linked g q (past_of g es)
-linked-none g es e marks marked none q of = linked-unmarked g es e marks marked q of (rw none refl)
+linked-none g es e marks marked none q of = linked-unmarked g es e marks marked q of (unmarked-none marks none (cluster_with g q))
+
+-- and each that is not of the only cluster with a mark
+pub linked-apart : (g : Group) (es : List Entry) (e : Entry) (marks : Marks) (c : ClusterNo) → AreMarked g (es ++ e ∷ []) marks → only_one marks ≡ Some c → (q : ℕ) → IsProcessorOf g q
+    → cluster_with g q ≢ c.0 → linked g q (past_of g (es ++ e ∷ [])) ≡ linked g q (past_of g es)
+linked-apart g es e marks c marked only q of apart = linked-unmarked g es e marks marked q of (unmarked-apart marks c only (cluster_with g q) apart)

@@ -1,10 +1,10 @@
 //! The engine of one group: its history, kept step by step.
-ghost use Rattle.std.specs.Prelude.{◌≡◌, ℕ, ◌<◌, ◌≤◌, ◌+◌, ◌∷◌, ◌++◌, [], IfOk, true, false, length, vec_capacity};
+ghost use Rattle.std.specs.Prelude.{◌≡◌, ◌≢◌, ℕ, ◌<◌, ◌≤◌, ◌+◌, ◌∷◌, ◌++◌, [], IfOk, IfSome, true, false, length, vec_capacity};
 ghost use Rattle.rt_base.specs.TaskNos.{number_of_task};
 ghost use Rattle.rt_base.specs.declared.TheConstants.{MOST_STEPS};
 ghost use Rattle.rt_rules.specs.Distinct.{IsDistinct};
 ghost use Rattle.rt_rules.specs.Numbers.{has};
-ghost use Rattle.rt_model.specs.Group.{clusters};
+ghost use Rattle.rt_model.specs.Group.{cluster_with, clusters};
 ghost use Rattle.rt_model.specs.Runs.{runs};
 ghost use Rattle.rt_model.specs.Links.{linked};
 ghost use Rattle.rt_model.specs.Situations.{situation};
@@ -118,6 +118,14 @@ impl Engine {
         self.state.linked(cpu)
     }
 
+    /// The cluster of the processor.
+    pub fn home(&self, cpu: CpuNo) -> ClusterNo
+        requires { IsProcessorOf (group_of self.now) cpu.0 }
+        ensures { result.0 ≡ cluster_with (group_of self.now) cpu.0 }
+    {
+        self.state.home(cpu)
+    }
+
     /// What the processor runs.
     pub fn runs(&self, cpu: CpuNo) -> Option<TaskNo>
         requires { IsProcessorOf (group_of self.now) cpu.0 }
@@ -160,6 +168,17 @@ impl Engine {
             → linked (group_of h) cpu.0 (past self.now) ≡ linked (group_of h) cpu.0 (past h) }
     {
         self.placed.has(self.state.home(cpu))
+    }
+
+    /// The only cluster in which the last step, its move of the clock or its act, may have changed a link: each processor of the
+    /// other clusters is linked as before the step. `None` where it may have changed links in several clusters, or in none.
+    pub fn placed_only(&self) -> Option<ClusterNo>
+        ensures { (h : GroupHistory) (e : Entry) → self.now ≡ with_entry e h
+            → IfSome result (λ c. (q : ℕ) → IsProcessorOf (group_of h) q
+            → cluster_with (group_of h) q ≢ c.0
+            → linked (group_of h) q (past self.now) ≡ linked (group_of h) q (past h)) }
+    {
+        self.placed.only()
     }
 
     /// The eligible tasks of a cluster of the group, each with its effective key.

@@ -5,3 +5,4 @@ pub mod LineLaws
 pub mod ShownLaws
 pub mod GroupLaws
 pub mod BlockLines
+pub mod PartLinks

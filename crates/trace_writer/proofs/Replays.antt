@@ -1,6 +1,7 @@
 -- An engine that takes steps, with the links of its processors and the requests.
-use Rattle.std.proofs.Common.{◌≡◌, ℕ, ◌+◌, ◌≤◌, List, [], length, refl, sym, ap, ◌∙◌, subst, arith}
-use Rattle.std.specs.Prelude.{Option, Result, Ok, Err, OnOk}
+use Rattle.std.proofs.Common.{◌≡◌, ℕ, ◌+◌, ◌≤◌, List, [], length, get_or, refl, sym, ap, ◌∙◌, subst, arith}
+use Rattle.std.specs.Prelude.{All, Option, Result, Ok, Err, OnOk}
+use Rattle.std.proofs.lemmas.List.{length-map}
 use Rattle.rt_base.specs.declared.CpuNo.{CpuNo}
 use Rattle.rt_task.specs.declared.Parts.{Parts}
 use Rattle.rt_task.specs.declared.Step.{Step}
@@ -11,20 +12,23 @@ use Rattle.rt_rules.specs.Numbers.{same}
 use Rattle.rt_rules.specs.SemState.{Frees}
 use Rattle.rt_model.specs.Group.{Group, group_processors}
 use Rattle.rt_model.specs.Histories.{after, clock_moved, past_from, past_of, reply_to}
+use Rattle.rt_model.specs.Links.{linked}
 use Rattle.rt_model.specs.Past.{Past}
 use Rattle.rt_model.specs.Runs.{runs}
 use Rattle.rt_model.proofs.Steps.{past_of-append, runs-clock}
 use Rattle.rt_plays.specs.Groups.{GroupHistory, group_of, past, with_entry}
+use Rattle.rt_plays.specs.Homes.{IsProcessorOf}
 use Rattle.rt_changes.specs.CountLaws.{act_of}
 use Rattle.rt_changes.specs.Tallies.{AreWaiters, Waiter}
 use Rattle.block_counts.specs.GroupRequests.{GroupRequests, IsAt, IsBetween, group_of as requests_group}
 use Rattle.group_engine.specs.Words.{AreListed, AreWaitersAt}
 use Rattle.group_engine.specs.Moments.{between}
 use Rattle.trace_lines.specs.declared.links.CpuLink.{CpuLink}
-use Rattle.trace_lines.specs.Lines.{links_of}
+use Rattle.trace_lines.specs.Lines.{Link, link_of, links_of}
 use Rattle.trace_text.specs.TraceText.{links_at}
 use Rattle.trace_writer.specs.Replays.{Counts, ShowsLinks, HasTaken}
 use Rattle.trace_text.specs.Groups.{cpu_numbers, cpus_in}
+use Rattle.trace_text.proofs.ReplayLaws.{cpus_there}
 
 -- the processors are the same after an entry more, and these are their links then
 pub shows-next : (h h' : GroupHistory) (e : Entry) (qs : List CpuNo) (links : List CpuLink) → h' ≡ with_entry e h → cpu_numbers qs ≡ group_processors (group_of h)
@@ -90,3 +94,29 @@ pub lent-links : (x h : GroupHistory) (g : Group) (ls xs : List CpuLink) → x �
 lent-links x h g ls xs same of own =
     ap (λ (v : GroupHistory). links_at (group_of v) (past v) (cpus_in ls)) same ∙ ap (λ (k : Group). links_at k (past h) (cpus_in ls)) of
     ∙ ap (λ (ys : List CpuLink). links_at g (past h) (cpus_in ys)) own
+
+-- the processors of an engine that is lent, in a list that is lent
+pub lent-cpus : (x h : GroupHistory) (ys qs : List CpuNo) → x ≡ h → ys ≡ qs → cpu_numbers qs ≡ group_processors (group_of h) → All (λ q. IsProcessorOf (group_of x) q.0) ys
+lent-cpus x h ys qs same own are =
+    subst (λ (v : GroupHistory). All (λ (q : CpuNo). IsProcessorOf (group_of v) q.0) ys) (sym same)
+    (subst (λ (zs : List CpuNo). All (λ (q : CpuNo). IsProcessorOf (group_of h) q.0) zs) (sym own) (cpus_there (group_of h) qs are))
+
+-- there is a link for each processor
+pub as_many_links : (h : GroupHistory) (qs : List CpuNo) (links : List CpuLink) → ShowsLinks h qs links → length qs ≡ length links
+as_many_links h qs links shows =
+    omega (
+      arith,
+      length-map qs (λ (q : CpuNo). q.0),
+      length-map links link_of,
+      ap length shows.cpus_are,
+      ap length shows.links_are,
+      length-map {B = Link} (group_processors (group_of h)) (λ q. (q, linked (group_of h) q (past h))),
+    )
+
+-- a processor of a list that is lent, linked as before in an engine that is lent
+pub still-at : (h h' x : GroupHistory) (ys qs : List CpuNo) (k : ℕ) → x ≡ h' → ys ≡ qs → cpu_numbers qs ≡ group_processors (group_of h)
+    → linked (group_of h) (get_or (cpu_numbers ys) k 0) (past x) ≡ linked (group_of h) (get_or (cpu_numbers ys) k 0) (past h)
+    → linked (group_of h) (get_or (group_processors (group_of h)) k 0) (past h') ≡ linked (group_of h) (get_or (group_processors (group_of h)) k 0) (past h)
+still-at h h' x ys qs k same own are still =
+    subst (λ (ns : List ℕ). linked (group_of h) (get_or ns k 0) (past h') ≡ linked (group_of h) (get_or ns k 0) (past h)) (ap cpu_numbers own ∙ are)
+    (subst (λ (v : GroupHistory). linked (group_of h) (get_or (cpu_numbers ys) k 0) (past v) ≡ linked (group_of h) (get_or (cpu_numbers ys) k 0) (past h)) same still)

@@ -9,6 +9,7 @@ mod lines;
 mod links;
 mod played;
 mod replay;
+mod spans;
 mod stop;
 mod summary;
 

@@ -1,5 +1,5 @@
 //! A group's steps as they are taken, with the links that each of them changes and the requests.
-ghost use Rattle.std.specs.Prelude.{◌≡◌, ◌<◌, ◌≤◌, [], IfOk};
+ghost use Rattle.std.specs.Prelude.{◌≡◌, ◌<◌, ◌≤◌, [], IfOk, length};
 ghost use Rattle.rt_base.specs.declared.TheConstants.{MOST_STEPS};
 ghost use Rattle.rt_model.specs.Histories.{changed};
 ghost use Rattle.rt_model.specs.Steps.{IsStepOf};
@@ -7,11 +7,14 @@ ghost use Rattle.rt_plays.specs.Groups.{group_of, past, IsGroupOf};
 ghost use Rattle.rt_changes.specs.Tallies.{tallies};
 ghost use Rattle.block_counts.specs.SeenWords.{tallies_of};
 ghost use Rattle.trace_lines.specs.Lines.{links_of};
+ghost use Rattle.trace_text.specs.Groups.{cpu_numbers};
 ghost use Rattle.trace_text.specs.TraceText.{links_at};
 ghost use Rattle.trace_writer.specs.Replays.{ShowsLinks, HasTaken};
+ghost use Rattle.trace_writer.specs.Spans.{AreSpans};
 
 use crate::counted::CountingEngine;
 use crate::links::{read_again, read_links};
+use crate::spans::{Span, placed_span, spans_of};
 use block_counts::Seen;
 use rt_base::{CpuNo, GroupNo, NoMemory};
 use rt_rules::Reply;
@@ -26,8 +29,12 @@ use trace_text::cpus_of;
 pub struct Replay {
     engine: CountingEngine,
     cpus: Vec<CpuNo>,
+    // By the number of each cluster of the set, where its processors stand among these.
+    spans: Vec<Span>,
     links: Vec<CpuLink>,
     changed: Vec<CpuLink>,
+    ghost spans_are: { AreSpans (group_of engine) (cpu_numbers cpus.items) (length cpus.items)
+        spans.items },
 }
 
 impl Replay {
@@ -42,11 +49,16 @@ impl Replay {
     {
         let counted = CountingEngine::open(alloc, setup, group, room)?;
         let cpus = cpus_of(alloc, setup, group)?;
+        let clusters = setup.parts().clusters.as_slice().len();
+        let engine = counted.engine();
+        let list = cpus.as_slice();
+        let spans = spans_of(alloc, engine, list, clusters)?;
         let mut links = Vec::new(alloc);
-        read_links(counted.engine(), cpus.as_slice(), &mut links)?;
+        read_links(engine, list, &mut links)?;
         Ok(Replay {
             engine: counted,
             cpus,
+            spans,
             links,
             changed: Vec::new(alloc),
         })
@@ -81,7 +93,8 @@ impl Replay {
         self.engine.requests()
     }
 
-    /// Takes a step, and tells its reply. The links are read again where it placed some.
+    /// Takes a step, and tells its reply. The links are read again where it placed some: of one cluster alone where it placed
+    /// links in no other.
     #[inline(always)]
     pub fn step(&mut self, step: Step) -> Result<Reply, NoMemory>
         requires room { 0 < self.old.engine.spare }
@@ -101,7 +114,9 @@ impl Replay {
         if !engine.has_placed() {
             return Ok(reply);
         }
-        read_again(engine, self.links.as_mut_slice(), &mut self.changed)?;
+        let span = placed_span(engine, self.cpus.as_slice(), self.spans.as_slice());
+        let links = &mut self.links.as_mut_slice()[span.start..span.end];
+        read_again(engine, links, &mut self.changed)?;
         Ok(reply)
     }
 }

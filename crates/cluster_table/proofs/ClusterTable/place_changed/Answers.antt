@@ -37,7 +37,7 @@ loop-c-preserved-in-Some-index_mut c =
     record {
       homes = c.loop-c.invariant.homes;
       unmarked = λ d h.
-          let other = unmarked-other c.loop-c.placed c.in-Some.c.0 d (rw c.mark.ensures at h) in
+          let other = unmarked-other c.loop-c.placed c.in-Some.c d (rw c.mark.ensures at h) in
           let was = c.loop-c.invariant.unmarked d other.1 in
           (was.0, seen-other ks c.in-Some.c.0 d (Some new) other.0 ∙ was.1);
       relinked = relinked-once ks c.in-Some.c.0 k new at (ap (λ (k : PlacedCluster). k.cluster) c.place.ensures.cluster) c.place.ensures.stable ∙ c.loop-c.invariant.relinked;
@@ -55,7 +55,7 @@ loop-c-preserved c =
     record {
       homes = c.loop-c.invariant.homes;
       unmarked = λ d h.
-          let other = unmarked-other c.loop-c.placed c.in-Some.c.0 d (rw c.mark.ensures at h) in
+          let other = unmarked-other c.loop-c.placed c.in-Some.c d (rw c.mark.ensures at h) in
           let was = c.loop-c.invariant.unmarked d other.1 in
           (was.0, rw same was.1);
       relinked = rw same c.loop-c.invariant.relinked;

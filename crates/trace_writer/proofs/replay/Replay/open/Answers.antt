@@ -1,7 +1,9 @@
-use Rattle.std.proofs.Common.{ap, ◌∙◌}
-use Rattle.rt_plays.specs.Groups.{group_of}
-use Rattle.trace_text.proofs.ReplayLaws.{cpus_there}
+use Rattle.std.proofs.Common.{◌∙◌}
+use Rattle.trace_writer.proofs.Replays.{lent-cpus}
 use Rattle.trace_writer.proofs.replay.Replay.open.Goals as goal
 
+pub spans_of-requires-clause-there : goal.spans_of-requires-clause-there
+spans_of-requires-clause-there c = lent-cpus c.engine-engine.result.now _ c.as_slice-list.result.now c.in_ok-cpus.cpus.items (c.engine-engine.ensures ∙ c.in_ok-counted.ensures) c.as_slice-list.ensures.value c.in_ok-cpus.ensures
+
 pub read_links-requires : goal.read_links-requires
-read_links-requires c = rw (ap group_of (c.engine.ensures ∙ c.in_ok-counted.ensures), c.as_slice.ensures.value) (cpus_there _ c.in_ok-cpus.cpus.items c.in_ok-cpus.ensures)
+read_links-requires c = lent-cpus c.engine-engine.result.now _ c.as_slice-list.result.now c.in_ok-cpus.cpus.items (c.engine-engine.ensures ∙ c.in_ok-counted.ensures) c.as_slice-list.ensures.value c.in_ok-cpus.ensures
