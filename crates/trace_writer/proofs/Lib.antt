@@ -5,4 +5,4 @@ pub mod GroupParts
 pub mod GroupSequence
 pub mod SummaryLaws
 pub mod BusText
-pub mod SpanLaws
+pub mod StretchLaws

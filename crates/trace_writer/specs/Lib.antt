@@ -1,4 +1,4 @@
 pub mod Writing
 pub mod Replays
 pub mod Summaries
-pub mod Spans
+pub mod Stretches

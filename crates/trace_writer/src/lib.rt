@@ -9,8 +9,8 @@ mod lines;
 mod links;
 mod played;
 mod replay;
-mod spans;
 mod stop;
+mod stretches;
 mod summary;
 
 pub use counts::write_counts;

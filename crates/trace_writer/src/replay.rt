@@ -10,11 +10,11 @@ ghost use Rattle.trace_lines.specs.Lines.{links_of};
 ghost use Rattle.trace_text.specs.Groups.{cpu_numbers};
 ghost use Rattle.trace_text.specs.TraceText.{links_at};
 ghost use Rattle.trace_writer.specs.Replays.{ShowsLinks, HasTaken};
-ghost use Rattle.trace_writer.specs.Spans.{AreSpans};
+ghost use Rattle.trace_writer.specs.Stretches.{AreStretches};
 
 use crate::counted::CountingEngine;
 use crate::links::{read_again, read_links};
-use crate::spans::{Span, placed_span, spans_of};
+use crate::stretches::{Stretch, placed_stretch, stretches_of};
 use block_counts::Seen;
 use rt_base::{CpuNo, GroupNo, NoMemory};
 use rt_rules::Reply;
@@ -30,11 +30,11 @@ pub struct Replay {
     engine: CountingEngine,
     cpus: Vec<CpuNo>,
     // By the number of each cluster of the set, where its processors stand among these.
-    spans: Vec<Span>,
+    stretches: Vec<Stretch>,
     links: Vec<CpuLink>,
     changed: Vec<CpuLink>,
-    ghost spans_are: { AreSpans (group_of engine) (cpu_numbers cpus.items) (length cpus.items)
-        spans.items },
+    ghost stretches_are: { AreStretches (group_of engine) (cpu_numbers cpus.items) (length cpus.items)
+        stretches.items },
 }
 
 impl Replay {
@@ -52,13 +52,13 @@ impl Replay {
         let clusters = setup.parts().clusters.as_slice().len();
         let engine = counted.engine();
         let list = cpus.as_slice();
-        let spans = spans_of(alloc, engine, list, clusters)?;
+        let stretches = stretches_of(alloc, engine, list, clusters)?;
         let mut links = Vec::new(alloc);
         read_links(engine, list, &mut links)?;
         Ok(Replay {
             engine: counted,
             cpus,
-            spans,
+            stretches,
             links,
             changed: Vec::new(alloc),
         })
@@ -114,8 +114,8 @@ impl Replay {
         if !engine.has_placed() {
             return Ok(reply);
         }
-        let span = placed_span(engine, self.cpus.as_slice(), self.spans.as_slice());
-        let links = &mut self.links.as_mut_slice()[span.start..span.end];
+        let stretch = placed_stretch(engine, self.cpus.as_slice(), self.stretches.as_slice());
+        let links = &mut self.links.as_mut_slice()[stretch.start..stretch.end];
         read_again(engine, links, &mut self.changed)?;
         Ok(reply)
     }

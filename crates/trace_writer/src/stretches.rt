@@ -5,7 +5,7 @@ ghost use Rattle.rt_rules.specs.declared.history.Entry.{Entry};
 ghost use Rattle.rt_plays.specs.Groups.{GroupHistory, group_of, past, with_entry};
 ghost use Rattle.rt_plays.specs.Homes.{IsProcessorOf};
 ghost use Rattle.trace_text.specs.Groups.{cpu_numbers};
-ghost use Rattle.trace_writer.specs.Spans.{AreSpans, IsOutside, IsPart, nowhere};
+ghost use Rattle.trace_writer.specs.Stretches.{AreStretches, IsOutside, IsPart, nowhere};
 
 use group_engine::Engine;
 use rt_base::{ClusterNo, CpuNo, NoMemory};
@@ -13,15 +13,15 @@ use std::alloc::Global;
 
 /// The positions from `start` to before `end`.
 #[derive(Clone, Copy)]
-pub struct Span {
+pub struct Stretch {
     pub start: usize,
     pub end: usize,
 }
 
 /// No position.
-const NOWHERE: Span = Span { start: 0, end: 0 };
+const NOWHERE: Stretch = Stretch { start: 0, end: 0 };
 
-impl Span {
+impl Stretch {
     /// Where it starts; where it has no position yet, at this one.
     fn start_or(self, position: usize) -> usize
         ensures { result ≡ (if self.end == 0 then position else self.start) }
@@ -30,43 +30,43 @@ impl Span {
     }
 }
 
-/// By the number of each of the set's clusters, so many, a span outside which none of its processors stands among these.
-pub(crate) fn spans_of(
+/// By the number of each of the set's clusters, so many, a stretch outside which none of its processors stands among these.
+pub(crate) fn stretches_of(
     alloc: Global,
     engine: &Engine,
     cpus: &[CpuNo],
     clusters: usize,
-) -> Result<Vec<Span>, NoMemory>
+) -> Result<Vec<Stretch>, NoMemory>
     requires there { All (λ q. IsProcessorOf (group_of engine.now) q.0) cpus.now }
     requires clusters { length engine.now.setup.clusters ≤ clusters }
-    ensures { IfOk result (λ spans.
-        AreSpans (group_of engine.now) (cpu_numbers cpus.now) (length cpus.now) spans.items) }
+    ensures { IfOk result (λ stretches.
+        AreStretches (group_of engine.now) (cpu_numbers cpus.now) (length cpus.now) stretches.items) }
 {
-    let mut spans = vec![in alloc; NOWHERE; clusters]?;
+    let mut stretches = vec![in alloc; NOWHERE; clusters]?;
     for i in 0..cpus.len() {
         let home = engine.home(cpus[i]).0 as usize;
-        spans[home] = Span {
-            start: spans[home].start_or(i),
+        stretches[home] = Stretch {
+            start: stretches[home].start_or(i),
             end: i + 1,
         };
     }
-    Ok(spans)
+    Ok(stretches)
 }
 
-/// The span of a cluster.
-fn span_of(spans: &[Span], cluster: ClusterNo) -> Span
-    ensures { result ≡ slice_index_or spans.now cluster.0 nowhere }
+/// The stretch of a cluster.
+fn stretch_of(stretches: &[Stretch], cluster: ClusterNo) -> Stretch
+    ensures { result ≡ slice_index_or stretches.now cluster.0 nowhere }
 {
-    match spans.get(cluster.0 as usize) {
-        Some(span) => *span,
+    match stretches.get(cluster.0 as usize) {
+        Some(stretch) => *stretch,
         None => NOWHERE,
     }
 }
 
-/// The span outside which the last step changed no link of these processors.
-pub(crate) fn placed_span(engine: &Engine, cpus: &[CpuNo], spans: &[Span]) -> Span
+/// The stretch outside which the last step changed no link of these processors.
+pub(crate) fn placed_stretch(engine: &Engine, cpus: &[CpuNo], stretches: &[Stretch]) -> Stretch
     requires there { All (λ q. IsProcessorOf (group_of engine.now) q.0) cpus.now }
-    requires spans { AreSpans (group_of engine.now) (cpu_numbers cpus.now) (length cpus.now) spans.now }
+    requires stretches { AreStretches (group_of engine.now) (cpu_numbers cpus.now) (length cpus.now) stretches.now }
     ensures part { IsPart (length cpus.now) result }
     ensures still { (h : GroupHistory) (e : Entry) → engine.now ≡ with_entry e h
         → (k : ℕ) → k < length cpus.now → IsOutside result k
@@ -74,8 +74,8 @@ pub(crate) fn placed_span(engine: &Engine, cpus: &[CpuNo], spans: &[Span]) -> Sp
         linked (group_of h) q (past engine.now) ≡ linked (group_of h) q (past h) }
 {
     match engine.placed_only() {
-        Some(cluster) => span_of(spans, cluster),
-        None => Span {
+        Some(cluster) => stretch_of(stretches, cluster),
+        None => Stretch {
             start: 0,
             end: cpus.len(),
         },
