@@ -5,3 +5,4 @@ mod Spans
 mod CpuSpans
 mod Commas
 pub mod Told
+pub mod Thousands

@@ -18,13 +18,22 @@ pub(crate) fn put_number(text: &mut Vec<u8>, n: u64) -> Result<(), AllocError>
     put_decimal(text, n)
 }
 
-/// Ticks in microseconds. No such number wraps.
+/// Ticks in microseconds: most numbers of an event. No such number wraps.
+#[tactic(auto, using(crate::proofs::Thousands::in_thousands, std::proofs::Common::append_assoc))]
 pub(crate) fn put_microseconds(text: &mut Vec<u8>, ticks: u128) -> Result<(), AllocError>
     requires { ticks ≤ 2 ^ 64 }
     ensures { OnOk result (text.new.items ≡ text.old.items ++ microseconds ticks) }
 {
-    let mut buffer = Buffer::new();
-    put(text, buffer.format(1000 * ticks).as_bytes())
+    match u64::try_from(ticks) {
+        Ok(ticks) if ticks > 0 => {
+            put_decimal(text, ticks)?;
+            put(text, b"000")
+        }
+        _ => {
+            let mut buffer = Buffer::new();
+            put(text, buffer.format(1000 * ticks).as_bytes())
+        }
+    }
 }
 
 #[tactic(auto, using(crate::proofs::Joins::joins))]
