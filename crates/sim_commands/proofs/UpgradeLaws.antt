@@ -1,5 +1,5 @@
 -- A valid trace is the text of plays, and its upgrade is the text in format 2 of these.
-use Rattle.std.proofs.Common.{◌≡◌, ℕ, Bool, true, List, ◌++◌, map, refl, sym, ap, ◌∙◌, subst, inr}
+use Rattle.std.proofs.Common.{◌≡◌, ℕ, Bool, true, List, ◌++◌, map, refl, ap, ◌∙◌, subst, inr}
 use Rattle.std.specs.Prelude.{flat_map, if◌then◌else◌}
 use Rattle.rt_task.specs.Validity.{IsValid}
 use Rattle.rt_task.specs.declared.Parts.{Parts}
@@ -16,7 +16,6 @@ use Rattle.trace_tools.specs.Counters.{Counter, counter_line, counter_of, counte
 use Rattle.trace_tools.specs.Tools.{Tool}
 use Rattle.trace_text.specs.CountLines.{counted_text, shown_from}
 use Rattle.trace_text.specs.TraceText.{trace_text}
-use Rattle.trace_laws.specs.TraceLaws.{ArePlayed}
 use Rattle.trace_laws.specs.Upgrades.{IsUpgradeOf}
 use Rattle.trace_laws.specs.ValidTexts.{IsValidText}
 use Rattle.trace_laws.proofs.ReadBack.{text-begins}

@@ -1,11 +1,8 @@
 -- A line begins with a digit where it is that of an entry, and no other line does.
-use Rattle.std.proofs.Common.{◌≡◌, ℕ, ◌+◌, ◌<◌, ◌≤◌, ◌^◌, ◌%◌, true, false, List, [], ◌∷◌, ◌++◌, decimal, refl, ap, ◌∙◌, arith, append_assoc}
-use Rattle.std.proofs.lemmas.Bool.Decides.{nat_tests}
-use Rattle.std.proofs.lemmas.Fmt.{decimal_by_steps}
-use Rattle.rt_rules.specs.declared.history.Entry.{Entry}
+use Rattle.std.proofs.Common.{◌≡◌, ℕ, true, false, List, ◌++◌, refl, ap, ◌∙◌}
 use Rattle.trace_lines.specs.Grammar.{line_text, line_words}
-use Rattle.trace_lines.specs.Known.{Known, IsLine}
-use Rattle.trace_lines.specs.Lines.{Line, Link, group_line, entry_line, block_line, end_line, count_line}
+use Rattle.trace_lines.specs.Known.{Known}
+use Rattle.trace_lines.specs.Lines.{Line, group_line, entry_line, block_line, end_line, count_line}
 use Rattle.trace_read.specs.Reading.{begins_with_digit}
 use Rattle.trace_read.proofs.EntryLines.{entry-digit}
 use Rattle.trace_check.specs.inside.GroupLines.{IsOtherLine, NoEntryBegins}
