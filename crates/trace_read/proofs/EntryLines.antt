@@ -1,5 +1,5 @@
 -- The line of an entry begins with a digit, and says the entry behind its first word.
-use Rattle.std.proofs.Common.{◌≡◌, ℕ, ◌+◌, ◌<◌, ◌≤◌, ◌^◌, ◌%◌, ◌==◌, true, List, [], ◌∷◌, ◌++◌, map, Option, Some, decimal, refl, ap, ◌∙◌, arith, append_assoc}
+use Rattle.std.proofs.Common.{◌≡◌, ℕ, ◌+◌, ◌<◌, ◌≤◌, ◌^◌, ◌%◌, true, List, [], ◌∷◌, ◌++◌, length, map, Some, decimal, refl, sym, ap, ◌∙◌, subst, arith, append_assoc}
 use Rattle.std.proofs.lemmas.Bool.Decides.{nat_tests}
 use Rattle.std.proofs.lemmas.Fmt.{decimal_by_steps}
 use Rattle.rt_rules.specs.declared.history.Entry.{Entry}
@@ -7,8 +7,9 @@ use Rattle.trace_lines.specs.Words.{Word, join}
 use Rattle.trace_lines.specs.Grammar.{act_words, link_word, line_text, line_words, reply_words}
 use Rattle.trace_lines.specs.Known.{Known, IsEntryLine, IsLine}
 use Rattle.trace_lines.specs.Lines.{Link, entry_line}
-use Rattle.trace_read.specs.Reading.{begins_with_digit, entry_said, front}
+use Rattle.trace_read.specs.Reading.{begins_with_digit, behind, entry_said, front}
 use Rattle.trace_read.specs.Seen.{Tells}
+use Rattle.trace_read.proofs.EachLaws.{length-cut}
 use Rattle.trace_read.proofs.LineLaws.{entry_at-join, fits_64}
 use Rattle.trace_read.proofs.ReadLaws.{front_is}
 use Rattle.trace_read.proofs.WordLaws.{cut-join, decimal-plain}
@@ -29,6 +30,11 @@ entry-digit k i e links more known = ap begins_with_digit (shape (decimal i) _ m
   where
     shape : (w rest more : List ℕ) → ((w ++ 32 ∷ rest) ++ 10 ∷ []) ++ more ≡ w ++ (32 ∷ rest ++ 10 ∷ more)
     shape w rest more = append_assoc (w ++ 32 ∷ rest) (10 ∷ []) more ∙ append_assoc w (32 ∷ rest) (10 ∷ more)
+
+-- such a text has a line, behind which it is shorter
+pub digit-shorter : (text rest : List ℕ) → begins_with_digit text ≡ true → rest ≡ behind text → length rest < length text
+digit-shorter [] rest h e = cc
+digit-shorter (x ∷ xs) rest h e = subst (λ (ys : List ℕ). length ys < length (x ∷ xs)) (sym e) (length-cut 10 (x ∷ xs) (omega arith))
 
 said-body : (k : Known) (i : ℕ) (e : Entry) (links : List Link) → Tells k → IsEntryLine k i e.step.tick.0 e.step.cpu.0 e.step.act e.reply links
     → entry_said k (join 32 (decimal i ∷ decimal e.step.tick.0 ∷ decimal e.step.cpu.0 ∷ (act_words k e.step.act ++ (reply_words k e.reply ++ map (link_word k) links)))) ≡ Some e

@@ -1,5 +1,5 @@
 //! The entries of a text that is known to be one of plays, read without the rest of their lines.
-ghost use Rattle.std.specs.Prelude.{◌≡◌, ◌++◌, ◌<◌, ℕ, List, IfSome, Option, None, Some, false, length, option_map};
+ghost use Rattle.std.specs.Prelude.{◌≡◌, ◌++◌, ◌<◌, ℕ, List, IfSome, Some, false, length, option_map};
 ghost use Rattle.rt_rules.specs.declared.history.Entry.{Entry};
 ghost use Rattle.trace_lines.specs.Grammar.{line_text};
 ghost use Rattle.trace_lines.specs.Known as known;

@@ -5,7 +5,7 @@ ghost use Rattle.set_read.specs.Document as document;
 ghost use Rattle.trace_lines.specs.Known as known;
 ghost use Rattle.trace_read.specs.Seen.{AreTexts, Tells};
 
-use rt_task::{Parts, Setup, Task};
+use rt_task::{Setup, Task};
 use set_read::Names;
 use std::alloc::{AllocError, Global};
 use std::marker::Model;

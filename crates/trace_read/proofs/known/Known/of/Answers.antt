@@ -1,6 +1,5 @@
-use Rattle.std.proofs.Common.{◌+◌, ◌<◌, ◌^◌, length, vec_len, sym, ◌∙◌, ap, subst, arith}
+use Rattle.std.proofs.Common.{length, sym, ◌∙◌, ap, subst, arith}
 use Rattle.rt_task.specs.declared.Parts.{Parts}
-use Rattle.rt_task.specs.declared.Task.{Task}
 use Rattle.trace_lines.specs.Known.{known_of, task_names}
 use Rattle.trace_read.specs.Seen.{AreTexts, Tells}
 use Rattle.trace_read.proofs.TellLaws.{are_texts, few_tasks, valid-tells}
