@@ -18,7 +18,7 @@ use Rattle.trace_laws.proofs.Plays.{begun-legal, begun-steps, begun-whole, few-e
 use Rattle.trace_laws.proofs.ReadBack.{all_known}
 use Rattle.trace_read.specs.Reads.{IsHeadOf}
 use Rattle.trace_read.specs.declared.head.TraceHead.{TraceHead}
-use Rattle.trace_upgrade.specs.Said.{TellsGroups, TellsPlays, full_group, groups_from}
+use Rattle.trace_upgrade.specs.Said.{TellsGroups, TellsPlays, groups_from}
 
 -- ---- they are the groups of the setup, with the histories
 

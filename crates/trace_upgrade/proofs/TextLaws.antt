@@ -65,7 +65,7 @@ module _ (k : Known) (g : Group) (es : List Entry) (more : List ℕ) (entries : 
   entries-next e rest ended got h = by_later h.later h.same h.begins
     where
       by_later : (later : List Entry) → entries ++ later ≡ es → BeginsLines k left (entry_lines g h.number h.past later) more → EntriesLeft k g es more (entries ++ e ∷ []) rest
-      by_later [] same begins = let none = none-left h.number h.past ended begins in cc
+      by_later [] same begins = let none : first ≡ None = none-left h.number h.past ended begins in cc
       by_later (f ∷ later) same begins =
           let next = next-is h.number h.past f later begins in
           let entry : f ≡ e = cc in
@@ -77,14 +77,14 @@ module _ (k : Known) (g : Group) (es : List Entry) (more : List ℕ) (entries : 
             begins = record { lines_known = others-known h.number h.past f later begins; text_is = cc };
           }
 
+  at_end : (number : ℕ) (past : Past) → BeginsLines k left (entry_lines g number past []) more → left ≡ more
+  unfolding entry_lines
+  at_end number past begins = begins.text_is
+
   -- or there is none
   pub entries-end : first ≡ None → EntriesLeft k g es more entries left → (entries ≡ es) × (left ≡ more)
   entries-end got h = by_later h.later h.same h.begins
     where
-      at_end : (number : ℕ) (past : Past) → BeginsLines k left (entry_lines g number past []) more → left ≡ more
-      unfolding entry_lines
-      at_end number past begins = begins.text_is
-
       by_later : (later : List Entry) → entries ++ later ≡ es → BeginsLines k left (entry_lines g h.number h.past later) more → (entries ≡ es) × (left ≡ more)
       by_later [] same begins = (sym (append-nil entries) ∙ same, at_end h.number h.past begins)
       by_later (f ∷ later) same begins = let next = next-is h.number h.past f later begins in cc
@@ -103,7 +103,7 @@ module _ (k : Known) (g : Group) (past : Past) (more left : List ℕ) where
   -- the line of a request was stepped over
   pub blocks-next : (asked : List Asked) (rest : List ℕ) → Tells k → begins_with 98 more ≡ false → begins_with 98 left ≡ true → rest ≡ behind left → BeginsLines k left (map (block_of g past) asked) more
       → (later : List Asked) × BeginsLines k rest (map (block_of g past) later) more
-  blocks-next [] rest tell ended here e begins = let same = ap (begins_with 98) begins.text_is in cc
+  blocks-next [] rest tell ended here e begins = let same : begins_with 98 left ≡ begins_with 98 more = ap (begins_with 98) begins.text_is in cc
   blocks-next (r ∷ rs) rest tell ended here e begins =
       (rs, subst (λ (text : List ℕ). BeginsLines k text (map (block_of g past) rs) more) (sym e) (BeginsLines-behind k left more (block_of g past r) (map (block_of g past) rs) tell begins))
 

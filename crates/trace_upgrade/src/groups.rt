@@ -1,5 +1,5 @@
 //! The groups that the text of plays says, behind its first two lines.
-ghost use Rattle.std.specs.Prelude.{◌≡◌, ◌+◌, ℕ, List, ◌∷◌, IfOk, false, length, map};
+ghost use Rattle.std.specs.Prelude.{◌≡◌, ◌+◌, ℕ, List, [], ◌∷◌, IfOk, false, length, map};
 ghost use Rattle.rt_rules.specs.declared.history.Entry.{Entry};
 ghost use Rattle.rt_model.specs.Blocking.{Asked};
 ghost use Rattle.rt_model.specs.Group.{Group};

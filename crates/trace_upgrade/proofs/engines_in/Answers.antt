@@ -1,6 +1,5 @@
-use Rattle.std.proofs.Common.{◌≡◌, List, ap, ◌∙◌}
+use Rattle.std.proofs.Common.{ap, ◌∙◌}
 use Rattle.std.proofs.lemmas.Result.{IfOk-weaker}
-use Rattle.rt_plays.specs.Groups.{GroupHistory}
 use Rattle.trace_text.specs.Groups.{histories}
 use Rattle.trace_upgrade.proofs.engines_in.Goals as goal
 
