@@ -38,11 +38,7 @@ pub fn groups_in(
 }
 
 /// Their engines: each has taken the steps of its group again, and has no room for more.
-pub fn engines_in(
-    alloc: Global,
-    head: &TraceHead,
-    bytes: &[u8],
-) -> Result<Vec<Engine>, NoMemory>
+pub fn engines_in(alloc: Global, head: &TraceHead, bytes: &[u8]) -> Result<Vec<Engine>, NoMemory>
     requires read { IsHeadOf bytes.now head.now }
     requires says { (hs : List (List Entry)) × TellsPlays bytes.now head.now hs }
     ensures groups { IfOk result (λ v. AreGroupsOf head.now.setup v.items) }
