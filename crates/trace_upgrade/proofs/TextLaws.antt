@@ -32,8 +32,11 @@ pub record EntriesLeft (k : Known) (g : Group) (es : List Entry) (more : List �
   pub same : entries ++ later ≡ es
   pub begins : BeginsLines k left (entry_lines g number past later) more
 
-pub entries-all : (k : Known) (g : Group) (es : List Entry) (more text : List ℕ) → BeginsLines k text (entry_lines g 0 [] es) more → EntriesLeft k g es more [] text
-entries-all k g es more text begins = record { number = 0; past = []; later = es; same = refl; begins = begins }
+pub entries-all : (k : Known) (g : Group) (es : List Entry) (more : List ℕ) (entries : List Entry) (text : List ℕ) → entries ≡ [] → BeginsLines k text (entry_lines g 0 [] es) more → EntriesLeft k g es more entries text
+entries-all k g es more entries text none begins = record { number = 0; past = []; later = es; same = ap (λ (xs : List Entry). xs ++ es) none; begins = begins }
+
+some-same : {A : Type 0} (x y : A) → Some x ≡ Some y → x ≡ y
+some-same x y e = cc
 
 -- the first entry of a text, and what stands behind its line
 pub record IsFirst (k : Known) (text : List ℕ) (first : Option (Entry × List ℕ)) : Type 0 where
@@ -67,14 +70,16 @@ module _ (k : Known) (g : Group) (es : List Entry) (more : List ℕ) (entries : 
       by_later : (later : List Entry) → entries ++ later ≡ es → BeginsLines k left (entry_lines g h.number h.past later) more → EntriesLeft k g es more (entries ++ e ∷ []) rest
       by_later [] same begins = let none : first ≡ None = none-left h.number h.past ended begins in cc
       by_later (f ∷ later) same begins =
-          let next = next-is h.number h.past f later begins in
-          let entry : f ≡ e = cc in
+          let now : Past = after g f.step h.past in
+          let line : Entry × List ℕ = (f, flat_map (line_text k) (entry_lines g (h.number + 1) now later) ++ more) in
+          let read : Entry × List ℕ = (e, rest) in
+          let both : read ≡ line = some-same read line (sym got ∙ next-is h.number h.past f later begins) in
           record {
             number = h.number + 1;
-            past = after g f.step h.past;
+            past = now;
             later = later;
-            same = ap (λ (x : Entry). (entries ++ x ∷ []) ++ later) (sym entry) ∙ append_assoc entries (f ∷ []) later ∙ same;
-            begins = record { lines_known = others-known h.number h.past f later begins; text_is = cc };
+            same = ap (λ (p : Entry × List ℕ). (entries ++ p.0 ∷ []) ++ later) both ∙ append_assoc entries (f ∷ []) later ∙ same;
+            begins = record { lines_known = others-known h.number h.past f later begins; text_is = ap (λ (p : Entry × List ℕ). p.1) both };
           }
 
   at_end : (number : ℕ) (past : Past) → BeginsLines k left (entry_lines g number past []) more → left ≡ more

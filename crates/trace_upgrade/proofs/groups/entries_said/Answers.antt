@@ -4,7 +4,7 @@ use Rattle.trace_upgrade.proofs.TextLaws.{EntriesLeft, IsFirst, entries-all, ent
 use Rattle.trace_upgrade.proofs.groups.entries_said.Goals as goal
 
 pub loop-entry-init : goal.loop-entry-init
-loop-entry-init c = λ g es more begins ended. entries-all c.args.k.now g es more c.args.text.now begins
+loop-entry-init c = λ g es more begins ended. entries-all c.args.k.now g es more c.new-entries.result.items c.args.text.now c.new-entries.ensures.items begins
 
 some-none : {A : Type 0} (x : A) → Some x ≡ None → ⊥
 some-none x e = cc

@@ -2,7 +2,7 @@ use Rattle.std.proofs.Common.{◌≡◌, ◌<◌, List, [], ◌∷◌, ◌++◌,
 use Rattle.std.specs.Prelude.{Result, Ok, Err, false, is_err, is_ok, if◌then◌else◌}
 use Rattle.rt_plays.specs.Groups.{GroupHistory}
 use Rattle.rt_plays.specs.Plays.{group_count}
-use Rattle.trace_upgrade.specs.Said.{full_group}
+use Rattle.trace_upgrade.specs.Said.{full_group, groups_from}
 use Rattle.trace_upgrade.proofs.TextLaws.{group-next, groups-end, groups-next}
 use Rattle.trace_upgrade.proofs.groups.groups_said.Goals as goal
 
@@ -12,7 +12,7 @@ pushed (Ok a) xs ys h = refl
 pushed (Err e) xs ys h = cc
 
 pub loop-number-init : goal.loop-number-init
-loop-number-init c = λ hs told count. record { later = hs; count = omega (arith, count); same = refl; told = told }
+loop-number-init c = λ hs told count. record { later = hs; count = omega (arith, count); same = ap (λ (xs : List GroupHistory). xs ++ groups_from c.args.setup.now 0 hs) c.new-groups.ensures.items; told = told }
 
 pub group_said-requires-clause-says : goal.group_said-requires-clause-says
 group_said-requires-clause-says c =
