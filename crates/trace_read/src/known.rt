@@ -34,11 +34,7 @@ impl<'a> Model for Known<'a> {
 
 impl<'a> Known<'a> {
     /// What the lines of a trace in this format of this set may name.
-    pub fn of(
-        alloc: Global,
-        version: Version,
-        setup: &'a Setup,
-    ) -> Result<Known<'a>, AllocError>
+    pub fn of(alloc: Global, version: Version, setup: &'a Setup) -> Result<Known<'a>, AllocError>
         ensures known { IfOk result (λ k. k ≡ known.known_of version setup.now) }
         ensures tells { IfOk result (λ k. Tells k) }
     {
