@@ -1,5 +1,5 @@
--- A valid trace was read of the text of plays, and its upgrade is the text in format 2 of these.
-use Rattle.std.proofs.Common.{◌≡◌, ℕ, Bool, true, List, ◌++◌, map, refl, sym, ap, ◌∙◌, subst, inr}
+-- A valid trace is the text of plays, and its upgrade is the text in format 2 of these.
+use Rattle.std.proofs.Common.{◌≡◌, ℕ, Bool, true, List, ◌++◌, map, refl, ap, ◌∙◌, subst, inr}
 use Rattle.std.specs.Prelude.{flat_map, if◌then◌else◌}
 use Rattle.rt_task.specs.Validity.{IsValid}
 use Rattle.rt_task.specs.declared.Parts.{Parts}
@@ -11,34 +11,21 @@ use Rattle.trace_lines.specs.declared.format.Version.TheVariants.{Two}
 use Rattle.trace_lines.specs.Grammar.{line_text}
 use Rattle.trace_lines.specs.Known.{known_of}
 use Rattle.trace_lines.specs.Lines.{Line}
-use Rattle.trace_read.specs.declared.Trace.{Trace}
 use Rattle.trace_read.specs.declared.head.TraceHead.{TraceHead}
-use Rattle.trace_read.specs.Lines.{lines_of}
-use Rattle.trace_read.specs.Reads.{IsTraceOf}
 use Rattle.trace_tools.specs.Counters.{Counter, counter_line, counter_of, counters_after}
 use Rattle.trace_tools.specs.Tools.{Tool}
 use Rattle.trace_text.specs.CountLines.{counted_text, shown_from}
 use Rattle.trace_text.specs.TraceText.{trace_text}
-use Rattle.trace_laws.specs.TraceLaws.{ArePlayed}
 use Rattle.trace_laws.specs.Upgrades.{IsUpgradeOf}
 use Rattle.trace_laws.specs.ValidTexts.{IsValidText}
 use Rattle.trace_laws.proofs.ReadBack.{text-begins}
 use Rattle.trace_check.specs.Counts.{HasCounts}
 use Rattle.trace_check.specs.declared.verdict.Verdict.TheVariants.{Valid}
 use Rattle.trace_check.proofs.Shown.{lines-shown}
-use Rattle.trace_upgrade.specs.Said.{SaysPlays}
+use Rattle.trace_upgrade.specs.Said.{TellsPlays}
 use Rattle.set_input.specs.Answers.{IsUnwritten}
 use Rattle.set_input.specs.Ends.{Writing}
 use Rattle.sim_commands.specs.Upgrade.{HasUpgraded, HasWritten}
-
-module _ (tools : List Tool) (bytes : List ℕ) (t : Trace) (entries : ℕ) (valid : IsValid t.setup) (is : IsValidText tools t.version t.setup bytes entries) where
-  played : ArePlayed t.setup is.histories
-  played = record { valid = valid; plays = is.plays }
-
-  pub valid-says : IsTraceOf bytes t.version t.setup (lines_of t.lines) t.stop → SaysPlays t is.histories
-  valid-says read =
-      let begins = text-begins tools t.version t.setup is.histories bytes is.text_is in
-      record { played = played; more = begins.0; read = subst (λ (text : List ℕ). IsTraceOf text t.version t.setup (lines_of t.lines) t.stop) begins.1 read }
 
 -- the upgrade of a valid text, and it is the text itself where that is of format 2 and has its count lines
 module _ (tools : List Tool) (bytes : List ℕ) (v : Version) (p : Parts) (entries : ℕ) (valid : IsValid p) (is : IsValidText tools v p bytes entries) where
@@ -50,28 +37,11 @@ module _ (tools : List Tool) (bytes : List ℕ) (v : Version) (p : Parts) (entri
       subst (λ (w : Version). bytes ≡ counted_text w tools p is.histories) today.0
       (subst (λ (b : Bool). bytes ≡ (if b then counted_text v tools p is.histories else trace_text v p is.histories)) today.1 (counts is))
 
--- a trace whose lines were read behind the head of a valid text
-module _ (tools : List Tool) (bytes : List ℕ) (h : TraceHead) (t : Trace) (entries : ℕ) (valid : IsValid h.setup) (is : IsValidText tools h.version h.setup bytes entries)
-    (read : IsTraceOf bytes h.version h.setup (lines_of t.lines) t.stop) (version : t.version ≡ h.version) (setup : t.setup ≡ h.setup) where
-  pub head-says : SaysPlays t is.histories
-  head-says = subst (λ (x : Trace). SaysPlays x is.histories) same (valid-says tools bytes whole entries valid is read)
-    where
-      whole : Trace
-      whole = record { version = h.version; setup = h.setup; lines = t.lines; stop = t.stop }
-
-      same : whole ≡ t
-      same = λ i. record { version = sym version i; setup = sym setup i; lines = t.lines; stop = t.stop }
-
-  pub head-upgrade : IsUpgradeOf tools bytes (counted_text Two tools h.setup is.histories)
-  head-upgrade = text-upgrade tools bytes h.version h.setup entries valid is
-
-  -- what was written of it is the text of its plays
-  pub head-written : (counters : List Counter) (sink : Writing) (answer : Status) → counters ≡ counters_after (shown_from h.setup 0 is.histories) (map counter_of tools)
-      → ((hs : List (List Entry)) (others : List Tool) → SaysPlays t hs → counters ≡ counters_after (shown_from t.setup 0 hs) (map counter_of others) → HasWritten (counted_text Two others t.setup hs) sink answer)
-      → HasWritten (counted_text Two tools h.setup is.histories) sink answer
-  head-written counters sink answer shown written =
-      subst (λ (p : Parts). HasWritten (counted_text Two tools p is.histories) sink answer) setup
-      (written is.histories tools head-says (shown ∙ ap (λ (p : Parts). counters_after (shown_from p 0 is.histories) (map counter_of tools)) (sym setup)))
+-- a valid text whose head was read is that of its plays
+pub head-tells : (tools : List Tool) (bytes : List ℕ) (head : TraceHead) (entries : ℕ) → IsValid head.setup → (is : IsValidText tools head.version head.setup bytes entries) → TellsPlays bytes head is.histories
+head-tells tools bytes head entries valid is =
+    let begins = text-begins tools head.version head.setup is.histories bytes is.text_is in
+    record { played = record { valid = valid; plays = is.plays }; more = begins.0; bytes_are = begins.1 }
 
 -- the trace of the same plays, and behind it the lines of a bus that was shown these, is the text with count lines
 pub shown-text : (tools : List Tool) (p : Parts) (hs got : List (List Entry)) (counters : List Counter) → got ≡ hs → counters ≡ counters_after (shown_from p 0 hs) (map counter_of tools)

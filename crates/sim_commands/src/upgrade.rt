@@ -9,7 +9,7 @@ ghost use Rattle.trace_tools.specs.Counters.{counter_of, counters_after};
 ghost use Rattle.trace_tools.specs.Tools.{Tool};
 ghost use Rattle.trace_text.specs.CountLines.{counted_text, shown_from};
 ghost use Rattle.trace_read.specs.Reads.{IsHeadOf};
-ghost use Rattle.trace_upgrade.specs.Said.{SaysPlays};
+ghost use Rattle.trace_upgrade.specs.Said.{TellsPlays};
 ghost use Rattle.set_input.specs.Ends.{TellsFaults, reading, writing};
 ghost use Rattle.set_input.specs.Answers.{IsUnwritten};
 ghost use Rattle.sim_commands.specs.Upgrade.{HasUpgraded, HasWritten};
@@ -20,35 +20,37 @@ use rt_fault::{Sink, Source, Status, put_all};
 use std::alloc::Global;
 use trace_check::{Checked, Verdict, check_counted};
 use trace_lines::Version;
-use trace_read::{Trace, TraceHead};
+use trace_read::TraceHead;
 use trace_tools::{Bus, TraceTool};
-use trace_upgrade::engines_of;
+use trace_upgrade::engines_in;
 use trace_writer::{WriteStop, write_shown_trace};
 
-/// Writes, in format 2, a trace that was read of the text of plays, and the count lines of a bus that was shown these.
+/// Writes, in format 2, the text of plays whose head was read, and the count lines of a bus that was shown these.
 fn write_upgrade<T: TraceTool, K: Sink>(
     alloc: Global,
-    trace: &Trace,
+    head: &TraceHead,
+    bytes: &[u8],
     bus: &Bus<T>,
     out: &mut K,
 ) -> Status
-    requires { (hs : List (List Entry)) × SaysPlays trace.now hs }
-    ensures written { (hs : List (List Entry)) (tools : List Tool) → SaysPlays trace.now hs
-        → counters T.tool bus.now
-        ≡ counters_after (shown_from trace.now.setup 0 hs) (map counter_of tools) → HasWritten
-        (counted_text Two tools trace.now.setup hs)
+    requires read { IsHeadOf bytes.now head.now }
+    requires says { (hs : List (List Entry)) × TellsPlays bytes.now head.now hs }
+    ensures written { (hs : List (List Entry)) (tools : List Tool)
+        → TellsPlays bytes.now head.now hs → counters T.tool bus.now
+        ≡ counters_after (shown_from head.now.setup 0 hs) (map counter_of tools) → HasWritten
+        (counted_text Two tools head.now.setup hs)
         (writing K.held K.faults out.old out.new) result }
     ensures write_fault { result ≡ Status.WriteFault →
         HasRisen (K.faults out.old) (K.faults out.new) }
     ensures no_write_fault { result ≢ Status.WriteFault → K.faults out.new ≡ K.faults out.old }
 {
-    let Ok(engines) = engines_of(alloc, trace) else {
+    let Ok(engines) = engines_in(alloc, head, bytes) else {
         return Status::NoMemory;
     };
     match write_shown_trace(
         alloc,
         Version::Two,
-        &trace.setup,
+        &head.setup,
         engines.as_slice(),
         bus,
         out,
@@ -113,10 +115,7 @@ fn upgrade_valid<T: TraceTool, K: Sink>(
     if is_upgraded(head, checked) {
         return write_same(bytes, out);
     }
-    let Ok(trace) = head.read_lines(alloc, bytes) else {
-        return Status::NoMemory;
-    };
-    write_upgrade(alloc, &trace, &bus, out)
+    write_upgrade(alloc, head, bytes, &bus, out)
 }
 
 /// Reads a trace, and where it is valid for its set, writes it in format 2 with the count line of each of these tools.

@@ -1,7 +1,6 @@
 -- The head of a trace: one text has one, and the text of histories has the canonical text of its set.
-use Rattle.std.proofs.Common.{◌≡◌, ◌≢◌, ℕ, suc, ◌<◌, List, [], ◌∷◌, ◌++◌, length, All, true, false, codes, get_or, refl, sym, ap, subst, ◌∙◌, arith, append_assoc}
-use Rattle.std.specs.Prelude.{◌==◌, flat_map}
-use Rattle.std.proofs.lemmas.Bool.Decides.{nat_tests}
+use Rattle.std.proofs.Common.{◌≡◌, ◌≢◌, ℕ, List, [], ◌∷◌, ◌++◌, All, codes, get_or, refl, sym, ap, subst, ◌∙◌, arith, append_assoc}
+use Rattle.std.specs.Prelude.{flat_map}
 use Rattle.std.proofs.lemmas.List.{append_cancel_left}
 use Rattle.rt_task.specs.declared.Parts.{Parts}
 use Rattle.rt_rules.specs.declared.history.Entry.{Entry}
@@ -14,20 +13,7 @@ use Rattle.trace_lines.specs.Known.{known_of}
 use Rattle.trace_text.specs.TraceText.{lines_from, trace_text}
 use Rattle.trace_read.specs.Reads.{HasHead}
 use Rattle.trace_read.specs.Reading.{cut}
-use Rattle.trace_read.proofs.WordLaws.{is_free, cut-first}
-
-free_from-reads : (c : ℕ) (w : List ℕ) → ((i : ℕ) → i < length w → get_or w i 0 ≢ c) → is_free c w ≡ true
-free_from-reads c [] h = refl
-free_from-reads c (x ∷ xs) h =
-    let first : (x == c) ≡ false = (let here : x ≢ c = h 0 (omega arith) in grind (arith, nat_tests)) in
-    rw (first, free_from-reads c xs (λ i l. h (suc i) (omega arith))) refl
-
-pub free_from-one_line : (w : List ℕ) → All (λ (c : ℕ). c ≢ 10) w → is_free 10 w ≡ true
-free_from-one_line w h = free_from-reads 10 w (λ i below. h i 0 below)
-
--- a line is what stands before the first line feed
-pub cut-feed : (w rest : List ℕ) → All (λ (c : ℕ). c ≢ 10) w → cut 10 (w ++ 10 ∷ rest) ≡ (w, rest)
-cut-feed w rest h = cut-first 10 w rest (free_from-one_line w h)
+use Rattle.trace_read.proofs.WordLaws.{cut-feed}
 
 pub first-unique : (v w x y : List ℕ) → All (λ (c : ℕ). c ≢ 10) v → All (λ (c : ℕ). c ≢ 10) w → v ++ 10 ∷ x ≡ w ++ 10 ∷ y → (v ≡ w) × (x ≡ y)
 first-unique v w x y g h same =

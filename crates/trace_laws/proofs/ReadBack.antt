@@ -27,6 +27,7 @@ use Rattle.trace_read.specs.Reads.{HasHead, AreLines, IsRefused, IsTraceOf, stop
 use Rattle.trace_read.specs.declared.fault.TraceFault.{TraceFault}
 use Rattle.trace_read.specs.declared.fault.TraceFault.TheVariants as faults
 use Rattle.trace_read.specs.Seen.{Tells}
+use Rattle.trace_read.proofs.FitLaws.{All-parts}
 use Rattle.trace_read.proofs.LineLaws.{line_body, line_text-ends, line-unique, lines-unique}
 use Rattle.trace_read.proofs.TellLaws.{valid-tells}
 use Rattle.trace_laws.specs.ValidTexts.{IsTextOf}
@@ -276,10 +277,6 @@ pub record IsReadFirst (v w : Version) (p q : Parts) (hs : List (List Entry)) (l
   pub later : List Line
   pub lines_are : lines ≡ lines_from p 0 hs ++ later
 
-All-behind : (P : Line → Type 0) (xs ys : List Line) → All P (xs ++ ys) → All P ys
-All-behind P [] ys all = all
-All-behind P (x ∷ xs) ys all = All-behind P xs ys (All-tail P x (xs ++ ys) all)
-
 pub first-read : (k : Known) (rest left more : List ℕ) (lines ls : List Line) → Tells k → All (IsLine k) ls → rest ≡ flat_map (line_text k) ls ++ more → AreLines k rest lines left → (later : List Line) × (lines ≡ ls ++ later)
 first-read k rest left more lines ls tell known same are =
     elim (lines-begin k lines ls left more tell are.lines_known known (sym are.text_is ∙ same)) [
@@ -290,7 +287,7 @@ first-read k rest left more lines ls tell known same are =
     by_more : (further : List Line) → All (IsLine k) (lines ++ further) → ls ≡ lines ++ further → left ≡ flat_map (line_text k) further ++ more → (later : List Line) × (lines ≡ ls ++ later)
     by_more [] all is rest_is = ([], sym (append-nil lines) ∙ sym is ∙ sym (append-nil ls))
     by_more (l ∷ further) all is rest_is =
-        let l_is : IsLine k l = All-head (IsLine k) l further (All-behind (IsLine k) lines (l ∷ further) all) in
+        let l_is : IsLine k l = All-head (IsLine k) l further (All-parts (IsLine k) lines (l ∷ further) all).1 in
         absurd (are.none_further l (flat_map (line_text k) further ++ more) l_is (rest_is ∙ append_assoc (line_text k l) (flat_map (line_text k) further) more))
 
 pub read-first : (v w : Version) (p q : Parts) (hs : List (List Entry)) (more text : List ℕ) (lines : List Line) (stop : Option ℕ) → ArePlayed p hs → text ≡ trace_text v p hs ++ more → IsTraceOf text w q lines stop → IsReadFirst v w p q hs lines

@@ -13,7 +13,7 @@ shorter : (c : ℕ) (xs : List ℕ) → length (cut c xs).1 < length xs + 1
 shorter c [] = omega arith
 shorter c (x ∷ xs) = let h : length (cut c (x ∷ xs)).1 < length (x ∷ xs) = shorter_step c x xs (x == c) (shorter c xs) in omega arith
 
-length-cut : (c : ℕ) (text : List ℕ) → 0 < length text → length (cut c text).1 < length text
+pub length-cut : (c : ℕ) (text : List ℕ) → 0 < length text → length (cut c text).1 < length text
 length-cut c [] h = absurd (omega arith)
 length-cut c (x ∷ xs) h = shorter_step c x xs (x == c) (shorter c xs)
 

@@ -6,5 +6,6 @@ pub mod LineLaws
 pub mod EntryLaws
 pub mod FitLaws
 pub mod ReadLaws
+pub mod EntryLines
 pub mod MoverLaws
 pub mod HeadLaws

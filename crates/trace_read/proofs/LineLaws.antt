@@ -92,7 +92,7 @@ cut-line k l more tell h = ap (cut 10) (append_assoc (line_body k l) (10 ∷ [])
 
 -- ---- each line is read back
 
-entry_at-join : (k : Known) (i : ℕ) (e : Entry) (links : List Link) (ws : List Word) → Tells k → IsEntryLine k i e.step.tick.0 e.step.cpu.0 e.step.act e.reply links
+pub entry_at-join : (k : Known) (i : ℕ) (e : Entry) (links : List Link) (ws : List Word) → Tells k → IsEntryLine k i e.step.tick.0 e.step.cpu.0 e.step.act e.reply links
     → entry_at k (join 32 (decimal e.step.tick.0 ∷ decimal e.step.cpu.0 ∷ (act_words k e.step.act ++ (reply_words k e.reply ++ ws)))) ≡ Some (e, join 32 ws)
 unfolding entry_at
 entry_at-join k i e links ws tell h =

@@ -13,7 +13,9 @@ use Rattle.trace_read.specs.declared.lines.Line.{Line}
 use Rattle.trace_read.specs.Lines.{line_of}
 use Rattle.trace_read.specs.Reads.{HasHead, AreLines, LacksFirstLine, LacksSetLine}
 use Rattle.trace_read.specs.Seen.{BeginsNoLine, BeginsLine, BeginsLines, ReadsBack, IsSplitAtFeed, Tells}
-use Rattle.trace_read.specs.Reading.{cut, front, line_in}
+use Rattle.trace_read.specs.Reading.{behind, cut, front, line_in}
+use Rattle.trace_read.proofs.FitLaws.{All-parts}
+use Rattle.trace_read.proofs.WordLaws.{cut-feed, cut-free, free-one_line}
 use Rattle.trace_read.proofs.LineLaws.{line_body, line_text-ends, cut-line, line_in-body}
 
 -- ---- what is read
@@ -30,6 +32,9 @@ reads_back k text o tell h l is body = h ∙ ap (line_in k) body ∙ line_in-bod
 pub front_is : (k : Known) (text more : List ℕ) (l : grammar.Line) → Tells k → IsLine k l → text ≡ line_text k l ++ more → front text ≡ line_body k l
 front_is k text more l tell is e = ap (λ (p : List ℕ × List ℕ). p.0) (ap (cut 10) e ∙ cut-line k l more tell is)
 
+pub behind_is : (k : Known) (text more : List ℕ) (l : grammar.Line) → Tells k → IsLine k l → text ≡ line_text k l ++ more → behind text ≡ more
+behind_is k text more l tell is e = ap (λ (p : List ℕ × List ℕ). p.1) (ap (cut 10) e ∙ cut-line k l more tell is)
+
 pub none-not_read : (k : Known) (text : List ℕ) → Tells k → IsParsed k text None → BeginsNoLine k text
 none-not_read k text tell h l more is e = let again = reads_back k text None tell h l is (front_is k text more l tell is e) in cc
 
@@ -45,10 +50,22 @@ none-not_fit k text x tell h not l more is e = not (subst (IsLine k) (sym (read_
 pub none-other_text : (k : Known) (text : List ℕ) (x : Line) → Tells k → IsParsed k text (Some x) → ((more : List ℕ) → text ≢ line_text k (line_of x) ++ more) → BeginsNoLine k text
 none-other_text k text x tell h other l more is e = other more (e ∙ ap (λ m. line_text k m ++ more) (sym (read_is k text more x l tell h is e)))
 
+-- ---- what stands behind a line
+
+pub behind-feed : (text line rest : List ℕ) → IsSplitAtFeed text line rest → rest ≡ behind text
+behind-feed text line rest h = sym (ap (λ (p : List ℕ × List ℕ). p.1) (ap (cut 10) h.text_is ∙ cut-feed line rest h.on_one_line))
+
+pub behind-one_line : (text : List ℕ) → All (λ (c : ℕ). c ≢ 10) text → [] ≡ behind text
+behind-one_line text h = sym (ap (λ (p : List ℕ × List ℕ). p.1) (cut-free 10 text (free-one_line text h)))
+
 -- ---- lines
 
 pub BeginsLines-none : (k : Known) (text : List ℕ) → BeginsLines k text [] text
 BeginsLines-none k text = record { lines_known = All-nil (IsLine k); text_is = refl }
+
+-- the text of the first of these lines, and of the others
+pub BeginsLines-first : (k : Known) (text left : List ℕ) (l : grammar.Line) (ls : List grammar.Line) → BeginsLines k text (l ∷ ls) left → text ≡ line_text k l ++ (flat_map (line_text k) ls ++ left)
+BeginsLines-first k text left l ls h = h.text_is ∙ append_assoc (line_text k l) (flat_map (line_text k) ls) left
 
 pub BeginsLines-more : (k : Known) (text left rest : List ℕ) (ls : List grammar.Line) (l : grammar.Line) → BeginsLines k text ls left → BeginsLine k left l rest → BeginsLines k text (ls ++ l ∷ []) rest
 BeginsLines-more k text left rest ls l before one = record {
@@ -58,6 +75,25 @@ BeginsLines-more k text left rest ls l before one = record {
   where
     texts : (ls : List grammar.Line) (l : grammar.Line) → flat_map (line_text k) ls ++ line_text k l ≡ flat_map (line_text k) (ls ++ l ∷ [])
     texts ls l = ap (λ xs. flat_map (line_text k) ls ++ xs) (sym (append-nil (line_text k l))) ∙ sym (flat_map-append (line_text k) ls (l ∷ []))
+
+-- behind the first of these lines stand the others
+pub BeginsLines-behind : (k : Known) (text left : List ℕ) (l : grammar.Line) (ls : List grammar.Line) → Tells k → BeginsLines k text (l ∷ ls) left → BeginsLines k (behind text) ls left
+BeginsLines-behind k text left l ls tell h = record {
+  lines_known = All-tail (IsLine k) l ls h.lines_known;
+  text_is = behind_is k text (flat_map (line_text k) ls ++ left) l tell (All-head (IsLine k) l ls h.lines_known) (BeginsLines-first k text left l ls h);
+}
+
+-- behind some of them stand the others
+pub BeginsLines-parts : (k : Known) (text left : List ℕ) (ls ms : List grammar.Line) → BeginsLines k text (ls ++ ms) left
+    → BeginsLines k text ls (flat_map (line_text k) ms ++ left) × BeginsLines k (flat_map (line_text k) ms ++ left) ms left
+BeginsLines-parts k text left ls ms h =
+    let known = All-parts (IsLine k) ls ms h.lines_known in (
+      record {
+        lines_known = known.0;
+        text_is = h.text_is ∙ ap (λ xs. xs ++ left) (flat_map-append (line_text k) ls ms) ∙ append_assoc (flat_map (line_text k) ls) (flat_map (line_text k) ms) left;
+      },
+      record { lines_known = known.1; text_is = refl },
+    )
 
 pub BeginsLine-shorter : (k : Known) (left rest : List ℕ) (l : grammar.Line) → BeginsLine k left l rest → length rest < length left
 BeginsLine-shorter k left rest l h =

@@ -1,5 +1,5 @@
 -- Words come back out of a line, and numbers out of words.
-use Rattle.std.proofs.Common.{◌≡◌, ℕ, ◌+◌, ◌-◌, ◌*◌, ◌/◌, ◌%◌, ◌<◌, ◌≤◌, ◌^◌, ◌==◌, suc, Bool, true, false, not, ◌&&◌, List, [], ◌∷◌, ◌++◌, take, drop, All, Option, Some, None, decimal, refl, ap, ◌∙◌, arith, eq-eqb, length, sym}
+use Rattle.std.proofs.Common.{◌≡◌, ◌≢◌, ℕ, ◌+◌, ◌-◌, ◌*◌, ◌/◌, ◌%◌, ◌<◌, ◌≤◌, ◌^◌, ◌==◌, suc, Bool, true, false, not, ◌&&◌, List, [], ◌∷◌, ◌++◌, take, drop, get_or, All, Option, Some, None, decimal, refl, ap, ◌∙◌, arith, eq-eqb, length, sym}
 use Rattle.std.specs.Prelude.{bytes_eq, nat_lt, option_map, if◌then◌else◌}
 use Rattle.std.specs.Char.{is_ascii_digit}
 use Rattle.std.specs.List.{list_all}
@@ -81,6 +81,20 @@ cut-first c [] rest h = rw (eq-eqb c c refl) refl
 cut-first c (x ∷ xs) rest h =
     let parts = and_parts (not (x == c)) (is_free c xs) h in
     rw (not-true (x == c) parts.0, cut-first c xs rest parts.1) refl
+
+free-reads : (c : ℕ) (w : List ℕ) → ((i : ℕ) → i < length w → get_or w i 0 ≢ c) → is_free c w ≡ true
+free-reads c [] h = refl
+free-reads c (x ∷ xs) h =
+    let first : (x == c) ≡ false = (let here : x ≢ c = h 0 (omega arith) in grind (arith, nat_tests)) in
+    rw (first, free-reads c xs (λ i l. h (suc i) (omega arith))) refl
+
+-- of what stands on one line nothing is cut at a line feed
+pub free-one_line : (w : List ℕ) → All (λ (c : ℕ). c ≢ 10) w → is_free 10 w ≡ true
+free-one_line w h = free-reads 10 w (λ i below. h i 0 below)
+
+-- a line is what stands before the first line feed
+pub cut-feed : (w rest : List ℕ) → All (λ (c : ℕ). c ≢ 10) w → cut 10 (w ++ 10 ∷ rest) ≡ (w, rest)
+cut-feed w rest h = cut-first 10 w rest (free-one_line w h)
 
 pub cut-join : (w : Word) (ws : List Word) → is_plain w ≡ true → cut 32 (join 32 (w ∷ ws)) ≡ (w, join 32 ws)
 cut-join w [] h = cut-free 32 w (plain-free 32 w (omega arith) h)

@@ -28,6 +28,10 @@ cut c (x ∷ xs) = if x == c then ([], xs) else (x ∷ (cut c xs).0, (cut c xs).
 abbrev pub front : List ℕ → List ℕ
 front text = (cut 10 text).0
 
+-- and what stands behind it: behind its first line feed, and nothing where it has none
+abbrev pub behind : List ℕ → List ℕ
+behind text = (cut 10 text).1
+
 abbrev pub longer_first : ℕ → List Word → List Word
 longer_first x [] = (x ∷ []) ∷ []
 longer_first x (w ∷ ws) = (x ∷ w) ∷ ws
@@ -191,6 +195,10 @@ entry_at k text = do
   act ← act_at k cpu.1
   reply ← reply_at k act.1
   Some (record { step = record { cpu = record { 0 = cpu.0 }; tick = record { 0 = tick.0 }; act = act.0 }; reply = reply.0 }, reply.1)
+
+-- the entry behind the first word
+abbrev pub entry_said : Known → List ℕ → Option Entry
+entry_said k text = option_map (λ p. p.0) (entry_at k (cut 32 text).1)
 
 unfoldable pub entry_line_in : Known → List ℕ → Option Line
 entry_line_in k text = do

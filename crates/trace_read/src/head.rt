@@ -24,7 +24,7 @@ pub struct TraceHead {
 }
 
 /// What stands before the first line feed, and what stands after it.
-fn split_line(bytes: &[u8]) -> Option<(&[u8], &[u8])>
+pub(crate) fn split_line(bytes: &[u8]) -> Option<(&[u8], &[u8])>
     ensures { MatchOption result (All (λ
         (c : ℕ). c ≢ 10) bytes.now) (λ x. IsSplitAtFeed bytes.now x.0.now x.1.now) }
 {

@@ -1,11 +1,11 @@
 //! What the lines of a trace may name.
-ghost use Rattle.std.specs.Prelude.{◌≡◌, ◌+◌, ◌<◌, ◌^◌, IfOk, length, map, vec_len};
+ghost use Rattle.std.specs.Prelude.{◌≡◌, IfOk, length, map, vec_len};
 ghost use Rattle.std.specs.Str.{IsUtf8};
 ghost use Rattle.set_read.specs.Document as document;
 ghost use Rattle.trace_lines.specs.Known as known;
-ghost use Rattle.trace_read.specs.Seen.{AreTexts};
+ghost use Rattle.trace_read.specs.Seen.{AreTexts, Tells};
 
-use rt_task::{Parts, Task};
+use rt_task::{Setup, Task};
 use set_read::Names;
 use std::alloc::{AllocError, Global};
 use std::marker::Model;
@@ -14,7 +14,7 @@ use trace_lines::{Format, Version};
 
 /// The format of a trace and its set, and the numbers of the set's tasks by their names.
 #[derive(Drop)]
-pub(crate) struct Known<'a> {
+pub struct Known<'a> {
     format: Format<'a>,
     names: Names<'a>,
 }
@@ -33,15 +33,12 @@ impl<'a> Model for Known<'a> {
 }
 
 impl<'a> Known<'a> {
-    pub(crate) fn of(
-        alloc: Global,
-        version: Version,
-        parts: &'a Parts,
-    ) -> Result<Known<'a>, AllocError>
-        requires texts { AreTexts parts.now.tasks }
-        requires few { length parts.now.tasks + 1 < 2 ^ 32 }
-        ensures { IfOk result (λ k. k ≡ known.known_of version parts.now) }
+    /// What the lines of a trace in this format of this set may name.
+    pub fn of(alloc: Global, version: Version, setup: &'a Setup) -> Result<Known<'a>, AllocError>
+        ensures known { IfOk result (λ k. k ≡ known.known_of version setup.now) }
+        ensures tells { IfOk result (λ k. Tells k) }
     {
+        let parts = setup.parts();
         let names = Names::of(alloc, names_of(alloc, parts.tasks.as_slice())?)?;
         Ok(Known {
             format: Format { version, parts },

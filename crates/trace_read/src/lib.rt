@@ -3,6 +3,7 @@
 
 mod acts;
 mod canonical_set;
+mod entries;
 mod fault;
 mod fits;
 mod head;
@@ -18,8 +19,10 @@ mod replies;
 mod tasks;
 mod words;
 
+pub use entries::{behind_line, entry_first};
 pub use fault::TraceFault;
 pub use head::{TraceHead, read_head};
+pub use known::Known;
 pub use lines::{Line, LineList, LinkList, Totals};
 pub use mover::{Mover, mover_at};
 pub use put::put_line;

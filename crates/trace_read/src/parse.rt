@@ -18,7 +18,7 @@ use std::alloc::{AllocError, Global};
 
 /// An entry, and what stands after it.
 #[tactic(auto, unfolding(crate::specs::Reading::entry_at))]
-fn entry_at<'a>(k: &Known, text: &'a [u8]) -> Option<(Entry, &'a [u8])>
+pub(crate) fn entry_at<'a>(k: &Known, text: &'a [u8]) -> Option<(Entry, &'a [u8])>
     ensures { option_map (λ p. (p.0, reading.front p.1.now)) result
         ≡ reading.entry_at k.now (reading.front text.now) }
 {

@@ -76,7 +76,7 @@ fn read_lines_of<'a>(
         IfOk result (λ x. AreLines k bytes.now (lines_of x.0) x.1.now) }
     ensures memory { IfErr result (λ e. e ≡ faults.NoMemory) }
 {
-    let k = Known::of(alloc, version, setup.parts())?;
+    let k = Known::of(alloc, version, setup)?;
     read_lines(alloc, &k, bytes)
 }
 

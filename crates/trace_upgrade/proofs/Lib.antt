@@ -1,3 +1,3 @@
-pub mod LineSteps
 pub mod Taking
 pub mod SaidLaws
+pub mod TextLaws

@@ -1,37 +1,36 @@
--- The groups that the lines of a trace say, each with its entries.
-use Rattle.std.specs.Prelude.{◌≡◌, ℕ, ◌-◌, ◌≤◌, false, List, [], ◌∷◌, ◌++◌, length}
+-- What the text of plays says of the groups of its set, each with its entries.
+use Rattle.std.specs.Prelude.{◌≡◌, ℕ, ◌+◌, ◌-◌, ◌≤◌, All, List, [], ◌∷◌, ◌++◌, length}
 use Rattle.rt_task.specs.declared.Parts.{Parts}
 use Rattle.rt_rules.specs.declared.history.Entry.{Entry}
 use Rattle.rt_model.specs.Histories.{IsLegalFrom}
 use Rattle.rt_plays.specs.Groups.{AreStepsOf, GroupHistory, group_of, past}
-use Rattle.trace_text.specs.TraceText.{trace_text}
-use Rattle.trace_lines.specs.Lines.{Line, end_line, entry_line, group_line}
-use Rattle.trace_read.specs.declared.Trace.{Trace}
-use Rattle.trace_read.specs.Lines.{lines_of}
-use Rattle.trace_read.specs.Reads.{IsTraceOf}
+use Rattle.trace_lines.specs.Known.{Known}
+use Rattle.trace_text.specs.Groups.{CanReplay}
+use Rattle.trace_text.specs.TraceText.{lines_from, trace_text}
+use Rattle.trace_read.specs.declared.head.TraceHead.{TraceHead}
+use Rattle.trace_read.specs.Seen.{BeginsLines}
 use Rattle.trace_laws.specs.TraceLaws.{ArePlayed}
 
--- the trace was read of the text of these plays, whatever stands behind it
-pub record SaysPlays (t : Trace) (hs : List (List Entry)) : Type 0 where
-  pub played : ArePlayed t.setup hs
+-- the bytes are the text of these plays, of the format and the set of this head, whatever stands behind it
+pub record TellsPlays (bytes : List ℕ) (head : TraceHead) (hs : List (List Entry)) : Type 0 where
+  pub played : ArePlayed head.setup hs
   pub more : List ℕ
-  pub read : IsTraceOf (trace_text t.version t.setup hs ++ more) t.version t.setup (lines_of t.lines) t.stop
+  pub bytes_are : bytes ≡ trace_text head.version head.setup hs ++ more
 
--- the entries of the entry lines that stand first
-abbrev pub entries_first : List Line → List Entry
-entries_first (entry_line i e links ∷ lines) = e ∷ entries_first lines
-entries_first _ = []
+-- a group with its history, and no room for more
+abbrev pub full_group : Parts → ℕ → List Entry → GroupHistory
+full_group p n es = record { setup = p; group = n; entries = es; spare = 0 }
 
--- a group with those entries, and no room for more
-abbrev pub group_said : Parts → ℕ → List Line → GroupHistory
-group_said p n lines = record { setup = p; group = n; entries = entries_first lines; spare = 0 }
+-- the groups from a number on, each with its history
+abbrev pub groups_from : Parts → ℕ → List (List Entry) → List GroupHistory
+groups_from p n [] = []
+groups_from p n (es ∷ more) = full_group p n es ∷ groups_from p (n + 1) more
 
--- the groups whose lines are among these before the line `end`, in their order, each with the entries of the lines behind its own
-abbrev pub groups_said : Parts → List Line → List GroupHistory
-groups_said p [] = []
-groups_said p (group_line n links ∷ lines) = group_said p n lines ∷ groups_said p lines
-groups_said p (end_line ∷ lines) = []
-groups_said p (_ ∷ lines) = groups_said p lines
+-- the text begins with the lines of the groups from a number on, which have these histories and can be replayed
+pub record TellsGroups (k : Known) (p : Parts) (n : ℕ) (hs : List (List Entry)) (text : List ℕ) : Type 0 where
+  pub can : All CanReplay (groups_from p n hs)
+  pub more : List ℕ
+  pub begins : BeginsLines k text (lines_from p n hs) more
 
 -- a group once it has taken the steps of these entries
 abbrev pub with_entries : List Entry → GroupHistory → GroupHistory

@@ -4,7 +4,7 @@ ghost use Rattle.rt_rules.specs.declared.history.Entry.{Entry};
 ghost use Rattle.rt_task.specs.Validity.{IsValid};
 ghost use Rattle.trace_read.specs.Reads.{IsHeadOf};
 ghost use Rattle.trace_text.specs.Groups.{AreGroupsOf, histories};
-ghost use Rattle.trace_upgrade.specs.Said.{SaysPlays};
+ghost use Rattle.trace_upgrade.specs.Said.{TellsPlays};
 ghost use Rattle.set_input.specs.Ends.{reading, writing};
 ghost use Rattle.view_command.specs.Ends.{TellsFaults};
 ghost use Rattle.view_command.specs.inside.Windows.{Fits};
@@ -21,10 +21,10 @@ use rt_task::Setup;
 use sim_commands::read_trace_input;
 use std::alloc::Global;
 use trace_check::{Verdict, check_trace};
-use trace_read::{Trace, TraceHead};
+use trace_read::TraceHead;
 use trace_text::PlayedGroup;
 use trace_tools::{Bus, TraceTool};
-use trace_upgrade::groups_of;
+use trace_upgrade::groups_in;
 use view_charts::chart_text;
 use view_events::events_text;
 use view_tables::table_text;
@@ -50,17 +50,23 @@ fn text_of(
     Ok(Some(text))
 }
 
-/// The text of a view of a trace that was read of the text of plays.
-fn text_said(alloc: Global, view: View, trace: &Trace) -> Result<Option<Vec<u8>>, NoMemory>
-    requires says { (hs : List (List Entry)) × SaysPlays trace.now hs }
+/// The text of a view of the text of plays whose head was read.
+fn text_said(
+    alloc: Global,
+    view: View,
+    head: &TraceHead,
+    bytes: &[u8],
+) -> Result<Option<Vec<u8>>, NoMemory>
+    requires read { IsHeadOf bytes.now head.now }
+    requires says { (hs : List (List Entry)) × TellsPlays bytes.now head.now hs }
     requires fits { Fits view }
-    ensures { IfOk result (λ o. (hs : List (List Entry)) → SaysPlays trace.now hs
-        → IsTextOf view trace.now.setup hs o) }
+    ensures { IfOk result (λ o. (hs : List (List Entry)) → TellsPlays bytes.now head.now hs
+        → IsTextOf view head.now.setup hs o) }
 {
-    let Ok(groups) = groups_of(alloc, trace) else {
+    let Ok(groups) = groups_in(alloc, head, bytes) else {
         return Err(NoMemory);
     };
-    let text = text_of(alloc, view, &trace.setup, groups.as_slice())?;
+    let text = text_of(alloc, view, &head.setup, groups.as_slice())?;
     Ok(text)
 }
 
@@ -97,10 +103,7 @@ fn text_in<T: TraceTool>(
         Ok(Verdict::Invalid(line)) => return Err(ViewEnd::Ended(Status::Invalid(line))),
         Err(_) => return Err(ViewEnd::Ended(Status::NoMemory)),
     }
-    let Ok(trace) = head.read_lines(alloc, bytes) else {
-        return Err(ViewEnd::Ended(Status::NoMemory));
-    };
-    there(text_said(alloc, view, &trace))
+    there(text_said(alloc, view, head, bytes))
 }
 
 /// Reads a trace, and where it is valid for its set, writes this view of it.

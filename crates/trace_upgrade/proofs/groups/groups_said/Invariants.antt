@@ -1,13 +1,10 @@
-use Rattle.std.proofs.Common.{◌≡◌, ◌++◌, drop}
-use Rattle.std.specs.Prelude.{All}
-use Rattle.trace_read.specs.Lines.{lines_of}
-use Rattle.trace_text.specs.Groups.{CanReplay}
-use Rattle.trace_upgrade.specs.Said.{groups_said}
+use Rattle.std.proofs.Common.{◌≡◌, List, length}
+use Rattle.rt_rules.specs.declared.history.Entry.{Entry}
+use Rattle.rt_plays.specs.Plays.{group_count}
+use Rattle.trace_upgrade.specs.Said.{TellsGroups}
+use Rattle.trace_upgrade.proofs.TextLaws.{GroupsLeft}
 use Rattle.trace_upgrade.proofs.groups.groups_said.Given as goal
 
--- with the groups still to come, there are all
-abbrev pub invariant-loop-i : goal.invariant-loop-i
-invariant-loop-i l = record {
-  can : All CanReplay (groups_said l.setup (lines_of (drop l.i l.lines)));
-  same : l.groups.items ++ groups_said l.setup (lines_of (drop l.i l.lines)) ≡ groups_said l.setup (lines_of l.lines);
-}
+-- with the groups that are left, there are all
+abbrev pub invariant-loop-number : goal.invariant-loop-number
+invariant-loop-number l = (hs : List (List Entry)) → TellsGroups l.k l.setup 0 hs l.fn.text → length hs ≡ group_count l.setup → GroupsLeft l.k l.setup hs l.number l.groups.items l.left

@@ -1,9 +1,0 @@
-use Rattle.std.proofs.Common.{◌≡◌, List, ap, ◌∙◌}
-use Rattle.std.proofs.lemmas.Result.{IfOk-weaker}
-use Rattle.rt_plays.specs.Groups.{GroupHistory}
-use Rattle.trace_text.specs.Groups.{histories}
-use Rattle.trace_upgrade.proofs.engines_of.Goals as goal
-
-pub returns-clause-histories : goal.returns-clause-histories
-returns-clause-histories c =
-    IfOk-weaker c.engines_again.result _ _ (λ v same hs says. ap histories (same ∙ c.as_slice.ensures.value) ∙ c.in_ok-groups.ensures.histories hs says) c.engines_again.ensures
