@@ -11,7 +11,6 @@ use crate::gate::Gate;
 use crate::played::Played;
 use crate::site::{CpuSeat, Site};
 use std::sync::Wait;
-use std::thread;
 use tick_clock::{ClockSeat, TickClock};
 
 /// Plays a processor's steps until none is left, and asks the gate before each play.
@@ -44,7 +43,7 @@ fn await_turn<R: Wait>(rt: &R, clock: &TickClock, turns: &mut ClockSeat, turn: u
         if clock.look(turns) == turn {
             return;
         }
-        thread::yield_now();
+        clock.sleep_before(rt, turn);
     }
     unreachable!()
 }
