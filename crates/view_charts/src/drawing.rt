@@ -20,7 +20,7 @@ use crate::lengths::clock_after;
 use chart_cells::Panel;
 use chart_feed::{Feed, Members};
 use chart_texts::{Axis, Window};
-use rt_base::{GroupNo, NoMemory};
+use rt_base::{GroupNo, NoMemory, Tick};
 use rt_rules::Entry;
 use rt_task::{Parts, Setup, Step};
 use std::alloc::Global;
@@ -128,6 +128,16 @@ impl Drawing {
     }
 }
 
+/// What a chart shows of a group, if it could be made, with the clock at the end of its history.
+fn ending_at(last: Tick, panel: Result<Panel, NoMemory>) -> Result<Panel, NoMemory>
+    ensures { (shown : charts.Panel) → IfOk panel (λ p. panel_shown p ≡ shown)
+        → IfOk result (λ p. panel_shown p ≡ record shown { last = last.0 }) }
+{
+    let mut panel = panel?;
+    panel.last = last;
+    Ok(panel)
+}
+
 /// What a chart shows of a group of a setup with these entries. Those behind the window are read for the clock at the end alone.
 pub(crate) fn panel_of(
     alloc: Global,
@@ -149,8 +159,10 @@ pub(crate) fn panel_of(
     let mut drawing = Drawing::open(alloc, axis, window, setup, group, room)?;
     let taken = drawing.take(alloc, parts, entries)?;
     let Drawing { replay, feed } = drawing;
-    let last = clock_after(replay.now(), &entries[taken..]);
-    let mut panel = feed.close(alloc, parts, group, replay.afresh(), replay.now())?;
-    panel.last = last;
-    Ok(panel)
+    let clock = replay.now();
+    let last = clock_after(clock, &entries[taken..]);
+    ending_at(
+        last,
+        feed.close(alloc, parts, group, replay.afresh(), clock),
+    )
 }
