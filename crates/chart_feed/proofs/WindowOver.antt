@@ -1,7 +1,7 @@
 -- Once the columns of a window are over, the steps that follow change no more than the clock at the end.
-use Rattle.std.proofs.Common.{◌≡◌, ◌∙◌, ℕ, zero, suc, ◌+◌, ◌-◌, ◌<◌, ◌≤◌, ◌⊎◌, inl, inr, min, Bool, true, false, List, [], ◌∷◌, ◌++◌, length, get_or, map, take, drop, refl, sym, ap, subst, arith, All}
+use Rattle.std.proofs.Common.{◌≡◌, ◌∙◌, ℕ, zero, suc, ◌+◌, ◌-◌, ◌<◌, ◌≤◌, ◌⊎◌, inl, inr, min, true, List, [], ◌∷◌, ◌++◌, length, get_or, map, take, drop, refl, sym, ap, subst, arith}
 use Rattle.std.specs.List.{list_any}
-use Rattle.std.specs.Prelude.{◌==◌, nat_le, slice_get, Option, None, Some}
+use Rattle.std.specs.Prelude.{◌==◌, slice_get, Option, None, Some}
 use Rattle.std.proofs.lemmas.Bool.Decides.{nat_tests}
 use Rattle.std.proofs.lemmas.List.{length-map}
 use Rattle.std.proofs.lemmas.Option.{get_or_from_slice_get, slice_get_within}
@@ -29,8 +29,8 @@ use Rattle.chart_texts.specs.declared.window.Window.{Window}
 use Rattle.chart_feed.specs.EntryClocks.{entry_clocks, first_at}
 use Rattle.chart_feed.specs.Finished.{AreTimed, EndsInAct}
 use Rattle.chart_feed.specs.Over.{is_before, is_over}
-use Rattle.chart_feed.specs.Times.{Edges, edges_in, edges_of, next_in}
-use Rattle.chart_feed.specs.WindowStrips.{entries_of, ticks_in}
+use Rattle.chart_feed.specs.Times.{edges_in, edges_of, next_in}
+use Rattle.chart_feed.specs.WindowStrips.{entries_of}
 use Rattle.chart_feed.proofs.Clocked.{after-window}
 use Rattle.chart_feed.proofs.Edges.{Each, are-timed, clocks-rise, edges-entries}
 use Rattle.chart_feed.proofs.GoesOn.{AreOver, ends-on, entries-later, later-of, marks-later, now-later, tick-later}

@@ -13,7 +13,6 @@ use Rattle.chart_feed.proofs.WindowOver.{panel-shown}
 use Rattle.chart_texts.specs.Charts as charts
 use Rattle.chart_texts.specs.Windows.{columns_in}
 use Rattle.chart_texts.specs.declared.window.Window.{Window}
-use Rattle.view_charts.specs.inside.Drawings.{group_of}
 use Rattle.view_charts.proofs.drawing.panel_of.Goals as goal
 
 pub close-requires-clause-clock : goal.close-requires-clause-clock
