@@ -79,8 +79,9 @@ impl Engine {
             ≡ record { setup = setup.now; group = group.0; entries = []; spare = room }) }
     {
         let setup = setup.share()?;
-        let state = GroupState::open(alloc, &setup, group, room)?;
+        // The longest block first: it takes the place of what was freed before, in pages that were touched.
         let entries = Vec::with_capacity(alloc, room as usize)?;
+        let state = GroupState::open(alloc, &setup, group, room)?;
         let placed = PlacedMarks::new(alloc, setup.parts().clusters.as_slice().len())?;
         Ok(Engine {
             setup,

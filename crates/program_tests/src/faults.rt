@@ -12,18 +12,16 @@ const FIRST_PATH_SET: &str =
     "{\"clusters\":[{\"cpus\":2,\"group\":0}],\"plugin\":\"GSN-EDF\",\"resvs\":[],\"sems\":[],\"steps\":[[0,0,\"tick\"],[0,0,\"irq\"],[0,0,\"irq\"]],\"tasks\":[{\"body\":[],\"cluster\":0,\"cost\":1,\"deadline\":5,\"enforce\":false,\"kind\":\"periodic\",\"name\":\"A\",\"period\":10,\"phase\":0,\"prio\":511,\"resv\":null,\"uses\":[]},{\"body\":[],\"cluster\":0,\"cost\":1,\"deadline\":7,\"enforce\":false,\"kind\":\"periodic\",\"name\":\"B\",\"period\":10,\"phase\":0,\"prio\":511,\"resv\":null,\"uses\":[]},{\"body\":[],\"cluster\":0,\"cost\":1,\"deadline\":9,\"enforce\":false,\"kind\":\"periodic\",\"name\":\"C\",\"period\":10,\"phase\":0,\"prio\":511,\"resv\":null,\"uses\":[]}]}";
 
 /// The write calls of a run over the set.
-const CALLS: u32 = 14;
+const CALLS: u32 = 12;
 
 /// The trace of the set, cut where one write call ends and the next begins.
-const WRITES: [&str; 14] = [
+const WRITES: [&str; 12] = [
     "rtsched trace 2\n",
     "set ",
     FIRST_PATH_SET,
     "\n",
     "group 0 0:@A 1:@B\n",
-    "0 0 0 tick done\n",
-    "1 0 0 irq runs @A\n",
-    "2 0 0 irq quiet\n",
+    "0 0 0 tick done\n1 0 0 irq runs @A\n2 0 0 irq quiet\n",
     "end\n",
     "count M 0\n",
     "count S 1\n",

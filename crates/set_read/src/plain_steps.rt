@@ -94,6 +94,9 @@ fn step<'a>(names: &NameLists, bytes: &'a [u8]) -> Option<(DraftStep, &'a [u8])>
     Some((DraftStep { cpu, tick, act }, rest))
 }
 
+/// The bytes of the shortest step, with the comma behind it.
+const SHORTEST_STEP: usize = br#"[0,0,"irq"],"#.len();
+
 /// The steps up to the end of their array, and what stands behind it; None where one is not plain,
 /// or for want of memory.
 pub(crate) fn steps<'a>(
@@ -104,7 +107,7 @@ pub(crate) fn steps<'a>(
     ensures { IfSome result (λ x. SaySteps (names_seen names.now) (tokens bytes.now)
         x.0.items (tokens_at after_value x.1.now)) }
 {
-    let mut found = Vec::new(alloc);
+    let mut found = Vec::with_capacity(alloc, bytes.len() / SHORTEST_STEP).ok()?;
     let mut left = bytes;
     loop {
         let (step, rest) = step(names, left)?;

@@ -148,7 +148,7 @@ fn step_of(s: DraftStep) -> Result<Step, AllocError>
 fn steps_of(alloc: Global, steps: &[DraftStep]) -> Result<Vec<Step>, AllocError>
     ensures { IfOk result (λ v. v.items ≡ map spec.step_of steps.now) }
 {
-    let mut found = Vec::new(alloc);
+    let mut found = Vec::with_capacity(alloc, steps.len())?;
     for s in steps {
         found.push(step_of(*s)?)?;
     }

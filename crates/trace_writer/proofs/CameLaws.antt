@@ -8,7 +8,7 @@ use Rattle.rt_fault.specs.Held.{Held, Extends, ExtendsByPrefix}
 use Rattle.rt_fault.proofs.HeldLaws.{Extends-none, Extends-append, ExtendsByPrefix-append, ExtendsByPrefix-more, ExtendsByPrefix-front}
 use Rattle.trace_writer.specs.declared.stop.WriteStop.{WriteStop}
 use Rattle.trace_writer.specs.declared.stop.WriteStop.TheVariants as stops
-use Rattle.trace_writer.specs.Writing.{Came}
+use Rattle.trace_writer.specs.Writing.{Came, Sends}
 
 -- by what was held, and how many faults were counted, before and after
 abbrev pub CameFrom : Result (Unit {0}) WriteStop → Held → Held → ℕ → ℕ → List ℕ → Type 0
@@ -24,6 +24,10 @@ pub record Coming (old new : Held) (before after : ℕ) (text left : List ℕ) :
 -- no byte came yet
 pub coming-start : (h : Held) (f : ℕ) (text : List ℕ) → Coming h h f f text text
 coming-start h f text = record { front = []; came = Extends-none h; unfailed = refl; split = refl }
+
+-- and none is gathered
+pub coming-gathered : (h : Held) (f : ℕ) (text kept : List ℕ) → kept ≡ [] → Coming h h f f text (kept ++ text)
+coming-gathered h f text kept none = rw none (coming-start h f text)
 
 -- the next part came
 pub coming-next : (a b c : Held) (f g h : ℕ) (text part left : List ℕ) → Coming a b f g text (part ++ left) → CameFrom (Ok tt) b c g h part → Coming a c f h text left
@@ -72,6 +76,13 @@ coming-last (Err e) a b c f g h text part s p = coming-stop e a b c f g h text p
 pub coming-by : {a b : Held} {f g : ℕ} {text left left' : List ℕ} → left ≡ left' → Coming a b f g text left → Coming a b f g text left'
 coming-by {a} {b} {f} {g} {text} same s = subst (Coming a b f g text) same s
 
+-- a part that is gathered behind what is kept, or nothing more, as a slice of the text shows
+pub gathers : (kept now part left more : List ℕ) → now ≡ kept ++ part → left ≡ part ++ more → kept ++ left ≡ now ++ more
+gathers kept now part left more gathered next = rw (gathered, next) (sym (append_assoc kept part more))
+
+pub gathers-none : (kept shown left : List ℕ) → shown ≡ kept → left ≡ [] → kept ++ left ≡ shown
+gathers-none kept shown left same none = rw (same, none) (append-nil kept)
+
 -- a text of three parts
 pub record HasParts (text one two three : List ℕ) : Type 0 where
   pub parts_are : text ≡ one ++ (two ++ three)
@@ -101,6 +112,14 @@ module _ {K : Type 0} (held : K → Held) (faults : K → ℕ) where
     pub comes-stop : (r : Result (Unit {0}) WriteStop) (e : WriteStop) (c : K) (part left : List ℕ) → IsErrAnd r (λ x. x ≡ e) → IsComing a b text (part ++ left) → CameTo (Err e) b c part → CameTo r a c text
     comes-stop r e c part left is s p =
         came-err r e (held a) (held c) (faults a) (faults c) text is (coming-stop e (held a) (held b) (held c) (faults a) (faults b) (faults c) text part left s p)
+
+    -- the next part is gathered with what is kept, and a first part of both came
+    pub sends-next : (c : K) (gathered kept left : List ℕ) → IsComing a b text (gathered ++ left) → Sends (Ok tt) (writing held faults b c) gathered kept → IsComing a c text (kept ++ left)
+    sends-next c gathered kept left s p = comes-next c p.0 (kept ++ left) (coming-by (ap (λ xs. xs ++ left) p.1 ∙ append_assoc p.0 kept left) s) p.2
+
+    pub sends-stop : (r : Result (Unit {0}) WriteStop) (e : WriteStop) (c : K) (gathered kept left : List ℕ) → IsErrAnd r (λ x. x ≡ e) → IsComing a b text (gathered ++ left)
+        → Sends (Err e) (writing held faults b c) gathered kept → CameTo r a c text
+    sends-stop r e c gathered kept left is s p = comes-stop r e c gathered left is s p
 
     pub comes-cut : (r : Result (Unit {0}) WriteStop) (left : List ℕ) → IsErrAnd r (λ x. x ≡ stops.NoMemory) → IsComing a b text left → CameTo r a b text
     comes-cut r left is s = came-err r stops.NoMemory (held a) (held b) (faults a) (faults b) text is (coming-cut (held a) (held b) (faults a) (faults b) text left s)

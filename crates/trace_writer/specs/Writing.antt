@@ -1,5 +1,5 @@
 -- How a writer of a text ends.
-use Rattle.std.specs.Prelude.{◌≡◌, ℕ, ◌≤◌, List, Result, Ok, Err}
+use Rattle.std.specs.Prelude.{◌≡◌, ℕ, ◌≤◌, List, ◌++◌, Result, Ok, Err}
 use Rattle.rt_fault.specs.Ends.{Writing}
 use Rattle.rt_fault.specs.Faults.{HasRisen}
 use Rattle.rt_fault.specs.Held.{Extends, ExtendsByPrefix}
@@ -13,3 +13,8 @@ Came (Ok x) s text = Extends s.old.held s.new.held text × (s.new.faults ≡ s.o
 Came (Err stops.Fault) s text =
     ExtendsByPrefix s.old.held s.new.held text × (s.old.faults ≤ s.new.faults) × HasRisen s.old.faults s.new.faults
 Came (Err stops.NoMemory) s text = ExtendsByPrefix s.old.held s.new.held text × (s.new.faults ≡ s.old.faults)
+
+-- a first part of a text came to a sink, and the rest of it is kept; or the call stopped, and of the text a first part came
+abbrev pub Sends : Result (Unit {0}) WriteStop → Writing → List ℕ → List ℕ → Type 0
+Sends (Ok x) s text kept = (part : List ℕ) × (text ≡ part ++ kept) × Came (Ok x) s part
+Sends (Err e) s text kept = Came (Err e) s text

@@ -1,9 +1,9 @@
 //! The groups of a trace, whose steps are played as their lines are written.
-ghost use Rattle.std.specs.Prelude.{◌≡◌, ◌≤◌, [], flat_map, length, map, OnOk};
+ghost use Rattle.std.specs.Prelude.{◌≡◌, ◌≤◌, ◌++◌, [], flat_map, length, map, OnOk};
 ghost use Rattle.rt_base.specs.declared.TheConstants.{MOST_CLUSTERS, MOST_STEPS};
 ghost use Rattle.rt_plays.specs.Plays.{group_with};
 ghost use Rattle.rt_plays.specs.Groups.{group_of, past, IsGroupOf};
-ghost use Rattle.block_counts.specs.SeenWords.{tallies_of};
+ghost use Rattle.block_counts.specs.SeenWords.{tallies_of, tally_of};
 ghost use Rattle.set_plays.specs.GroupSteps.{AreGroupSteps, AreStepsIn, group_told, told};
 ghost use Rattle.set_plays.specs.StepsLeft.{AreOf};
 ghost use Rattle.trace_lines.specs.Grammar.{line_text};
@@ -20,19 +20,18 @@ ghost use Rattle.trace_writer.specs.Writing.{Came};
 use crate::WriteStop;
 use crate::counts::{show, write_counts};
 use crate::lines::{
-    write_block_line, write_bytes, write_end_line, write_entry_line, write_group_line,
-    write_set_line,
+    write_bytes, write_end_line, write_group_line, write_set_line, write_when_long,
 };
 use crate::replay::Replay;
 use block_counts::Seen;
-use rt_base::GroupNo;
+use rt_base::{GroupNo, NoMemory};
 use rt_fault::Sink;
 use rt_rules::Entry;
 use rt_task::{Parts, Setup};
 use set_canonical::canonical_of_parts;
 use set_plays::{GroupSteps, StepsLeft};
 use std::alloc::Global;
-use trace_lines::{Format, LineNumbers, Version, first_line};
+use trace_lines::{Format, LineNumbers, Version, first_line, put_block_line};
 use trace_tools::{Bus, TraceTool};
 
 /// The lines of the entries of a group, each written as its step is taken. The bus is shown each entry.
@@ -43,7 +42,7 @@ fn write_entries<T: TraceTool, K: Sink>(
     number: GroupNo,
     format: &Format,
     bus: &mut Bus<T>,
-    line: &mut Vec<u8>,
+    lines: &mut Vec<u8>,
     numbers: &mut LineNumbers,
     out: &mut K,
 ) -> Result<(), WriteStop>
@@ -67,31 +66,52 @@ fn write_entries<T: TraceTool, K: Sink>(
         OnOk result (counters T.tool bus.new ≡ counters_after shown (counters T.tool bus.old)) }
 {
     let mut no = 0;
+    lines.clear();
     while let Some(step) = left.next(setup, replay.engine().engine()) {
         let reply = replay.step(step)?;
         let entry = Entry { step, reply };
-        write_entry_line(out, line, numbers, format, no, &entry, replay.changed())?;
+        numbers.put_entry_line(lines, format, no, &entry, replay.changed())?;
+        write_when_long(out, lines)?;
         show(bus, replay.engine(), number, no, &entry);
         no += 1;
     }
-    Ok(())
+    write_bytes(out, lines.as_slice())
+}
+
+/// Appends the line of a request.
+fn put_request_line(out: &mut Vec<u8>, format: &Format, seen: &Seen) -> Result<(), NoMemory>
+    ensures { let text = line_text (known_in format.now) in
+        OnOk result (out.new.items ≡ out.old.items ++ text (request_line (tally_of seen.now))) }
+{
+    put_block_line(
+        out,
+        format,
+        seen.no,
+        seen.task,
+        seen.sem,
+        seen.ends,
+        seen.ends_all,
+        seen.bound,
+    )
 }
 
 /// The lines of requests.
 fn write_blocks<K: Sink>(
     requests: &[Seen],
     format: &Format,
-    line: &mut Vec<u8>,
+    lines: &mut Vec<u8>,
     out: &mut K,
 ) -> Result<(), WriteStop>
     ensures { Came result (writing K.held K.faults out.old out.new)
         (flat_map (line_text (known_in format.now))
         (map request_line (tallies_of requests.now))) }
 {
+    lines.clear();
     for seen in requests {
-        write_block_line(out, line, format, seen)?;
+        put_request_line(lines, format, seen)?;
+        write_when_long(out, lines)?;
     }
-    Ok(())
+    write_bytes(out, lines.as_slice())
 }
 
 /// The lines of a group that plays these steps. The bus is shown its entries.

@@ -1,19 +1,15 @@
-//! One line at a time: built in a text that is used again, and then written.
+//! Lines, built in a text that is used again, and then written: one by one, or some thousand bytes of them at once.
 ghost use Rattle.std.specs.Prelude.{◌++◌, ◌∷◌, [], codes};
 ghost use Rattle.trace_lines.specs.Known.{Known, known_in};
 ghost use Rattle.trace_lines.specs.Grammar.{line_text};
-ghost use Rattle.trace_lines.specs.Lines.{links_of, group_line, entry_line, end_line};
-ghost use Rattle.block_counts.specs.SeenWords.{tally_of};
-ghost use Rattle.trace_text.specs.Groups.{request_line};
+ghost use Rattle.trace_lines.specs.Lines.{links_of, group_line, end_line};
 ghost use Rattle.rt_fault.specs.Ends.{writing};
-ghost use Rattle.trace_writer.specs.Writing.{Came};
+ghost use Rattle.trace_writer.specs.Writing.{Came, Sends};
 
 use crate::WriteStop;
-use block_counts::Seen;
 use rt_base::GroupNo;
 use rt_fault::{Sink, put_all};
-use rt_rules::Entry;
-use trace_lines::{CpuLink, Format, LineNumbers, put_block_line, put_end_line, put_group_line};
+use trace_lines::{CpuLink, Format, put_end_line, put_group_line};
 
 /// Writes bytes.
 pub fn write_bytes<K: Sink>(out: &mut K, bytes: &[u8]) -> Result<(), WriteStop>
@@ -49,46 +45,21 @@ pub fn write_group_line<K: Sink>(
     write_bytes(out, line.as_slice())
 }
 
-/// Writes the line of an entry.
-pub fn write_entry_line<K: Sink>(
-    out: &mut K,
-    line: &mut Vec<u8>,
-    numbers: &mut LineNumbers,
-    format: &Format,
-    number: u32,
-    entry: &Entry,
-    links: &[CpuLink],
-) -> Result<(), WriteStop>
-    ensures { Came result (writing K.held K.faults out.old out.new)
-        (line_text (known_in format.now) (entry_line number entry.now (links_of links.now))) }
-{
-    line.clear();
-    numbers.put_entry_line(line, format, number, entry, links)?;
-    write_bytes(out, line.as_slice())
-}
+/// Gathered lines are written once they have so many bytes.
+const WRITTEN_FROM: usize = 4_096;
 
-/// Writes the line of a request.
-pub fn write_block_line<K: Sink>(
-    out: &mut K,
-    line: &mut Vec<u8>,
-    format: &Format,
-    seen: &Seen,
-) -> Result<(), WriteStop>
-    ensures { Came result (writing K.held K.faults out.old out.new)
-        (line_text (known_in format.now) (request_line (tally_of seen.now))) }
+/// Writes lines that were gathered, and empties their text, once they are long enough.
+#[inline(always)]
+pub fn write_when_long<K: Sink>(out: &mut K, lines: &mut Vec<u8>) -> Result<(), WriteStop>
+    ensures { Sends result (writing K.held K.faults out.old out.new)
+        lines.old.items lines.new.items }
 {
-    line.clear();
-    put_block_line(
-        line,
-        format,
-        seen.no,
-        seen.task,
-        seen.sem,
-        seen.ends,
-        seen.ends_all,
-        seen.bound,
-    )?;
-    write_bytes(out, line.as_slice())
+    if lines.len() < WRITTEN_FROM {
+        return Ok(());
+    }
+    write_bytes(out, lines.as_slice())?;
+    lines.clear();
+    Ok(())
 }
 
 /// Writes the line `end`.
