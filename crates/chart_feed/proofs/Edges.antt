@@ -243,7 +243,7 @@ clocks-low (Clock tick ∷ past) = λ k d low.
     omega (arith, before, ap (λ xs. get_or xs k d) (clocks-clocked tick past))
 clocks-low (Acted x ∷ past) = subst (All (λ r. r ≤ now past)) (sym (clocks-acted x past)) (All-push (λ r. r ≤ now past) (entry_clocks past) (now past) (clocks-low past) (omega arith))
 
-clocks-rise : (past : Past) → IsRising (entry_clocks past)
+pub clocks-rise : (past : Past) → IsRising (entry_clocks past)
 unfolding moments
 clocks-rise [] = λ i j d le low. absurd (no-entry j low)
   where

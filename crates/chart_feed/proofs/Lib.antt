@@ -10,3 +10,5 @@ pub mod Clocked
 pub mod Paneled
 pub mod Shown
 pub mod Feeding
+pub mod GoesOn
+pub mod WindowOver

@@ -34,7 +34,7 @@ one_if b = if b then 1 else 0
 pub up_to-cons : (clock x : ℕ) (xs : List ℕ) → up_to clock (x ∷ xs) ≡ one_if (nat_le x clock) + up_to clock xs
 up_to-cons clock x xs = sum_by-cons (λ n. one_if (nat_le n clock)) x xs
 
-up_to-snoc : (clock : ℕ) (xs : List ℕ) (y : ℕ) → up_to clock (xs ++ y ∷ []) ≡ up_to clock xs + one_if (nat_le y clock)
+pub up_to-snoc : (clock : ℕ) (xs : List ℕ) (y : ℕ) → up_to clock (xs ++ y ∷ []) ≡ up_to clock xs + one_if (nat_le y clock)
 up_to-snoc clock xs y =
     omega (arith, sum_by-append (λ n. one_if (nat_le n clock)) xs (y ∷ []), sum_by-cons (λ n. one_if (nat_le n clock)) y (let none : List ℕ = [] in none))
 

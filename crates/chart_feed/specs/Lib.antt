@@ -4,4 +4,5 @@ pub mod Clocks
 pub mod Finished
 pub mod EntryClocks
 pub mod Feeds
+pub mod Over
 pub mod inside

@@ -3,6 +3,7 @@ ghost use Rattle.std.specs.Prelude.{◌≡◌, ◌+◌, ◌-◌, ◌^◌, ◌<�
 ghost use Rattle.rt_base.specs.declared.TheConstants.{TICK_END};
 ghost use Rattle.rt_rules.specs.Numbers.{numbers_from};
 ghost use Rattle.chart_feed.specs.EntryClocks.{clocks_in};
+ghost use Rattle.chart_feed.specs.Over as over;
 ghost use Rattle.chart_feed.specs.WindowStrips.{is_in};
 
 use chart_texts::Window;
@@ -15,6 +16,16 @@ pub(crate) fn is_in(window: Window, column: u64) -> bool
     ensures { result ≡ is_in window column }
 {
     window.from <= column && column < window.to
+}
+
+/// Whether there is an other clock, and it is before this one.
+pub(crate) fn is_before(clock: u64, other: Option<u64>) -> bool
+    ensures { result ≡ over.is_before clock other }
+{
+    match other {
+        Some(other) => other < clock,
+        None => false,
+    }
 }
 
 /// The columns of a window that has so many, from 0 on.

@@ -17,11 +17,12 @@ ghost use Rattle.view_acts.specs.ShownActs.{act_shown};
 ghost use Rattle.chart_rows.specs.Foretold.{moment_of};
 ghost use Rattle.chart_rows.specs.Units.{resv_numbers};
 ghost use Rattle.chart_feed.specs.Feeds.{IsActed, IsClocked, IsExpected, IsFed, IsMoved, IsTurned};
+ghost use Rattle.chart_feed.specs.Over.{is_over};
 ghost use Rattle.chart_feed.specs.WindowStrips.{is_in, position};
 
 use crate::clocks::{TaskClocks, no_clocks, note_act};
 use crate::columns::{begin, end, has_begun, take_act, take_state, turn};
-use crate::entry_clocks::{EntryClocks, is_in};
+use crate::entry_clocks::{EntryClocks, is_before, is_in};
 use crate::panel::panel_with;
 use crate::window_columns::columns_of;
 use chart_cells::Panel;
@@ -132,6 +133,18 @@ impl Feed {
         match self.axis {
             Axis::Ticks => is_in(self.window, clock.0),
             Axis::Entries => is_in(self.window, self.entries.count),
+        }
+    }
+
+    /// Whether the columns of the window are over, at the clock after whole steps: no later step changes them, or what they show.
+    pub fn is_over(&self, clock: Tick) -> bool
+        ensures { (axis : axes.Axis) (window : windows.Window) (g : groups.Group) (past : Past)
+            → clock.0 ≡ now past → IsFed axis window g past self.now
+            → result ≡ is_over axis window past }
+    {
+        match self.axis {
+            Axis::Ticks => self.window.to <= clock.0,
+            Axis::Entries => is_before(clock.0, self.entries.after),
         }
     }
 

@@ -2,7 +2,7 @@
 ghost use Rattle.std.specs.Prelude.{◌≡◌, ◌+◌, ◌<◌, ◌≤◌, [], IfOk, OnOk, length};
 ghost use Rattle.rt_base.specs.declared.TheConstants.{MOST_STEPS};
 ghost use Rattle.rt_task.specs.Validity.{IsValid};
-ghost use Rattle.rt_model.specs.Histories.{after, past_from, past_of};
+ghost use Rattle.rt_model.specs.Histories.{after, past_of};
 ghost use Rattle.rt_model.specs.Past.{Past};
 ghost use Rattle.rt_model.specs.Steps.{IsStepOf};
 ghost use Rattle.rt_plays.specs.Groups.{AreStepsOf, IsGroupOf};
@@ -12,13 +12,15 @@ ghost use Rattle.chart_texts.specs.Charts as charts;
 ghost use Rattle.chart_texts.specs.Windows.{columns_in};
 ghost use Rattle.chart_texts.specs.declared.window.Axis as axes;
 ghost use Rattle.chart_texts.specs.declared.window.Window as windows;
-ghost use Rattle.view_charts.specs.inside.Drawings.{IsDrawn, group_of, spare};
+ghost use Rattle.chart_feed.specs.Over.{is_over};
+ghost use Rattle.view_charts.specs.inside.Drawings.{IsDrawn, IsTaken, group_of, spare};
 ghost use Rattle.view_charts.specs.Windows.{IsShown};
 
+use crate::lengths::clock_after;
 use chart_cells::Panel;
 use chart_feed::{Feed, Members};
 use chart_texts::{Axis, Window};
-use rt_base::{GroupNo, NoMemory};
+use rt_base::{GroupNo, NoMemory, Tick};
 use rt_rules::Entry;
 use rt_task::{Parts, Setup, Step};
 use std::alloc::Global;
@@ -94,27 +96,49 @@ impl Drawing {
         feed.act(alloc, replay.afresh(), replay.now(), &act, unit)
     }
 
-    /// Takes the steps of these entries.
-    fn take(&mut self, alloc: Global, parts: &Parts, entries: &[Entry]) -> Result<(), NoMemory>
+    /// Whether the columns of the window are over: no later step changes them, or what they show.
+    fn is_over(&self) -> bool
+        ensures { (axis : axes.Axis) (window : windows.Window) (past : Past)
+            → IsDrawn axis window past self.now → result ≡ is_over axis window past }
+    {
+        self.feed.is_over(self.replay.now())
+    }
+
+    /// Takes the steps of these entries, from the first one on, until the columns of the window are over; and tells how many it took.
+    fn take(&mut self, alloc: Global, parts: &Parts, entries: &[Entry]) -> Result<usize, NoMemory>
         requires parts { parts.now ≡ (group_of self.old).setup }
         requires valid { IsValid parts.now }
         requires room { length entries.now ≤ spare self.old }
         requires steps { AreStepsOf (group_of self.old) entries.now }
         requires drawn { (axis : axes.Axis) × (window : windows.Window) × (past : Past)
             × IsDrawn axis window past self.old }
-        ensures drawn { OnOk result ((axis : axes.Axis) (window : windows.Window) (past : Past)
-            → IsDrawn axis window past self.old
-            → IsDrawn axis window (past_from (group_of self.old) past entries.now) self.new) }
+        ensures drawn { IfOk result (λ n. (axis : axes.Axis) (window : windows.Window)
+            (past : Past) → IsDrawn axis window past self.old
+            → IsTaken axis window (group_of self.old) past entries.now n self.new) }
+        ensures some { IfOk result (λ n. n ≤ length entries.now) }
         ensures group { OnOk result (group_of self.new ≡ group_of self.old) }
     {
-        for entry in entries {
+        for (i, entry) in entries.iter().enumerate() {
+            if self.is_over() {
+                return Ok(i);
+            }
             self.step(alloc, parts, entry.step)?;
         }
-        Ok(())
+        Ok(entries.len())
     }
 }
 
-/// What a chart shows of a group of a setup with these entries.
+/// What a chart shows of a group, if it could be made, with the clock at the end of its history.
+fn ending_at(last: Tick, panel: Result<Panel, NoMemory>) -> Result<Panel, NoMemory>
+    ensures { (shown : charts.Panel) → IfOk panel (λ p. panel_shown p ≡ shown)
+        → IfOk result (λ p. panel_shown p ≡ record shown { last = last.0 }) }
+{
+    let mut panel = panel?;
+    panel.last = last;
+    Ok(panel)
+}
+
+/// What a chart shows of a group of a setup with these entries. Those behind the window are read for the clock at the end alone.
 pub(crate) fn panel_of(
     alloc: Global,
     axis: Axis,
@@ -133,7 +157,12 @@ pub(crate) fn panel_of(
     let parts = setup.parts();
     let room = entries.len() as u32;
     let mut drawing = Drawing::open(alloc, axis, window, setup, group, room)?;
-    drawing.take(alloc, parts, entries)?;
+    let taken = drawing.take(alloc, parts, entries)?;
     let Drawing { replay, feed } = drawing;
-    feed.close(alloc, parts, group, replay.afresh(), replay.now())
+    let clock = replay.now();
+    let last = clock_after(clock, &entries[taken..]);
+    ending_at(
+        last,
+        feed.close(alloc, parts, group, replay.afresh(), clock),
+    )
 }

@@ -1,8 +1,8 @@
 //! How many columns there are.
 ghost use Rattle.std.specs.Prelude.{◌≡◌};
 ghost use Rattle.rt_model.specs.Group.{Group};
-ghost use Rattle.rt_model.specs.Histories.{past_of};
-ghost use Rattle.rt_model.specs.Past.{now};
+ghost use Rattle.rt_model.specs.Histories.{past_from};
+ghost use Rattle.rt_model.specs.Past.{Past, now};
 ghost use Rattle.rt_plays.specs.Groups.{past};
 ghost use Rattle.rt_task.specs.declared.Parts.{Parts};
 ghost use Rattle.chart_texts.specs.Charts.{longest_on, pasts_from};
@@ -14,15 +14,16 @@ use rt_base::Tick;
 use rt_rules::Entry;
 use trace_text::PlayedGroup;
 
-/// The clock after these entries.
-fn clock_after(entries: &[Entry]) -> Tick
-    ensures { (g : Group) → result.0 ≡ now (past_of g entries.now) }
+/// The clock after these entries, which follow when it is this one.
+pub(crate) fn clock_after(clock: Tick, entries: &[Entry]) -> Tick
+    ensures { (g : Group) (past : Past) → clock.0 ≡ now past
+        → result.0 ≡ now (past_from g past entries.now) }
 {
-    let mut clock = Tick(0);
+    let mut last = clock;
     for entry in entries {
-        clock = clock.max(entry.step.tick);
+        last = last.max(entry.step.tick);
     }
-    clock
+    last
 }
 
 /// How many columns a group has.
@@ -30,7 +31,7 @@ fn length_of(axis: Axis, group: &PlayedGroup) -> u64
     ensures { result ≡ length_on axis (past group.now) }
 {
     match axis {
-        Axis::Ticks => clock_after(group.entries()).0 + 1,
+        Axis::Ticks => clock_after(Tick(0), group.entries()).0 + 1,
         Axis::Entries => group.entries().len() as u64,
     }
 }
