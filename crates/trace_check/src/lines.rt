@@ -10,7 +10,8 @@ use block_counts::Seen;
 use rt_base::{GroupNo, NoMemory};
 use rt_rules::Entry;
 use rt_task::Setup;
-use trace_lines::{CpuLink, Format, LineNumbers, Version, put_block_line, put_group_line};
+use trace_lines::{CpuLink, Format, LineNumbers, Version, put_group_line};
+use trace_text::put_request_line;
 
 /// Whether the text begins with the line.
 pub(crate) fn begins_with(text: &[u8], line: &[u8]) -> bool
@@ -66,14 +67,5 @@ pub(crate) fn make_block_line(
 {
     let parts = setup.parts();
     line.clear();
-    put_block_line(
-        line,
-        &Format { version, parts },
-        seen.no,
-        seen.task,
-        seen.sem,
-        seen.ends,
-        seen.ends_all,
-        seen.bound,
-    )
+    put_request_line(line, &Format { version, parts }, seen)
 }

@@ -6,10 +6,12 @@ mod cpus;
 mod head;
 mod links;
 mod played_group;
+mod requests;
 mod shown;
 
 pub use cpus::{count_groups, cpus_of};
 pub use head::head_of;
 pub use links::{is_same_task, put_changed};
 pub use played_group::PlayedGroup;
+pub use requests::put_request_line;
 pub use shown::shown_by;

@@ -3,7 +3,7 @@ ghost use Rattle.std.specs.Prelude.{◌≡◌, ◌≤◌, ◌++◌, [], flat_map
 ghost use Rattle.rt_base.specs.declared.TheConstants.{MOST_CLUSTERS, MOST_STEPS};
 ghost use Rattle.rt_plays.specs.Plays.{group_with};
 ghost use Rattle.rt_plays.specs.Groups.{group_of, past, IsGroupOf};
-ghost use Rattle.block_counts.specs.SeenWords.{tallies_of, tally_of};
+ghost use Rattle.block_counts.specs.SeenWords.{tallies_of};
 ghost use Rattle.set_plays.specs.GroupSteps.{AreGroupSteps, AreStepsIn, group_told, told};
 ghost use Rattle.set_plays.specs.StepsLeft.{AreOf};
 ghost use Rattle.trace_lines.specs.Grammar.{line_text};
@@ -31,7 +31,8 @@ use rt_task::{Parts, Setup};
 use set_canonical::canonical_of_parts;
 use set_plays::{GroupSteps, StepsLeft};
 use std::alloc::Global;
-use trace_lines::{Format, LineNumbers, Version, first_line, put_block_line};
+use trace_lines::{Format, LineNumbers, Version, first_line};
+use trace_text::put_request_line;
 use trace_tools::{Bus, TraceTool};
 
 /// The lines of the entries of a group, each written as its step is taken. The bus is shown each entry.
@@ -76,23 +77,6 @@ fn write_entries<T: TraceTool, K: Sink>(
         no += 1;
     }
     write_bytes(out, lines.as_slice())
-}
-
-/// Appends the line of a request.
-fn put_request_line(out: &mut Vec<u8>, format: &Format, seen: &Seen) -> Result<(), NoMemory>
-    ensures { let text = line_text (known_in format.now) in
-        OnOk result (out.new.items ≡ out.old.items ++ text (request_line (tally_of seen.now))) }
-{
-    put_block_line(
-        out,
-        format,
-        seen.no,
-        seen.task,
-        seen.sem,
-        seen.ends,
-        seen.ends_all,
-        seen.bound,
-    )
 }
 
 /// The lines of requests.
