@@ -80,6 +80,13 @@ impl ClusterState {
         self.queue.heap()
     }
 
+    /// The links of the processors.
+    pub(crate) fn links(&self) -> &Links
+        ensures { result.now ≡ self.now.cluster.linked }
+    {
+        &self.links
+    }
+
     /// The task that the processor is linked to, `None` where there is none.
     pub(crate) fn linked(&self, q: CpuNo) -> Option<TaskNo>
         requires { IsOfCluster self.now.cluster.linked q.0 }

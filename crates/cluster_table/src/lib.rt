@@ -18,6 +18,7 @@ mod placing;
 mod rows;
 
 use cluster::ClusterState;
+use link_table::Links;
 pub use marks::PlacedMarks;
 use ready_heap::ReadyHeap;
 use rows::{homes_of, states_of};
@@ -97,6 +98,16 @@ impl ClusterTable {
     {
         let cluster = self.clusters[c.0 as usize].as_ref()?;
         Some(cluster.heap())
+    }
+
+    /// The links of the cluster's processors.
+    pub fn links(&self, c: ClusterNo) -> Option<&Links>
+        requires { IsThere self.now c.0 }
+        ensures { (k : KeptCluster) → cluster_at self.now c.0 ≡ Some k
+            → IfSome result (λ l. l.now ≡ k.linked) × IsSome result }
+    {
+        let cluster = self.clusters[c.0 as usize].as_ref()?;
+        Some(cluster.links())
     }
 
     /// The task that the processor is linked to, `None` where there is none.

@@ -10,7 +10,7 @@ use Rattle.rt_model.specs.Links.{linked, runs_of}
 use Rattle.rt_model.specs.Outcomes.{past_act}
 use Rattle.rt_model.specs.Past.{Acted, Past}
 use Rattle.rt_model.specs.Runs.{runs}
-use Rattle.rt_model.proofs.PastLaws.{link_at-numbers, length-runs_of}
+use Rattle.rt_model.proofs.PastLaws.{link_at-numbers, length-runs_of, processor-home}
 use Rattle.rt_plays.specs.Homes.{IsProcessorOf}
 use Rattle.rt_plays.specs.AtHome.{IsAtHome}
 use Rattle.rt_plays.proofs.AtHomeLaws.{processors_are_at_home}
@@ -22,6 +22,7 @@ use Rattle.cluster_table.specs.Clusters.{KeptCluster}
 use Rattle.cluster_table.specs.Table.{HasProcessor, Table, changed_at, cluster_at}
 use Rattle.cluster_table.proofs.RowLaws.{at-changed, at-changed_other}
 use Rattle.group_engine.specs.declared.state.GroupState.{GroupState}
+use Rattle.group_engine.specs.Links.{AreLinksAt}
 use Rattle.group_engine.specs.State.{HasClusterAt, IsAt, IsClusterAt}
 use Rattle.group_engine.proofs.Settling.{HasClusterBetween}
 
@@ -56,6 +57,16 @@ module _ (g : Group) (q : ℕ) (inside : IsProcessorOf g q) (past : Past) (s : G
   pub link-read : (k : KeptCluster) → IsClusterAt g (cluster_with g q) past k → link_of k.linked q ≡ linked g q past
   unfolding linked
   link-read k is = rw (is.first_is, is.links_are) refl
+
+  -- and so of each processor of its cluster
+  pub links-read : (k : KeptCluster) → IsClusterAt g (cluster_with g q) past k → AreLinksAt g past k.linked
+  unfolding linked processors
+  links-read k is r here =
+      let c : ℕ = cluster_with g q in
+      let size : length k.linked.runs ≡ cpus g c = ap length is.runs_are ∙ length-runs_of g c past in
+      let there : has r (processors g c) ≡ true =
+      numbers_from-has (first_cpu g c) (cpus g c) r (omega (arith, is.first_is, here.0)) (omega (arith, is.first_is, here.1, size)) in
+      rw (processor-home g c r there, is.first_is, is.links_are) refl
 
 -- ---- a cluster after an act of the processor
 

@@ -4,11 +4,17 @@ use Rattle.rt_rules.specs.declared.history.Entry.{Entry}
 use Rattle.rt_rules.specs.Numbers.{has}
 use Rattle.rt_model.specs.Group.{Group, clusters}
 use Rattle.rt_model.specs.Histories.{past_of}
-use Rattle.rt_model.specs.Links.{links}
+use Rattle.rt_model.specs.Links.{linked, links}
+use Rattle.rt_model.specs.Past.{Past}
+use Rattle.link_table.specs.Linked.{IsOfCluster, Linked, link_of}
 use Rattle.cluster_table.specs.Clusters.{KeptCluster}
 use Rattle.cluster_table.specs.Marks.{IsUnmarked, Marks}
 use Rattle.cluster_table.specs.Table.{Table, cluster_at}
 use Rattle.group_engine.specs.declared.state.GroupState.{GroupState}
+
+-- each processor of the table is linked as it says
+abbrev pub AreLinksAt : Group → Past → Linked → Type 0
+AreLinksAt g past l = (q : ℕ) → IsOfCluster l q → link_of l q ≡ linked g q past
 
 -- the links of a cluster, where the table has it
 abbrev pub links_in : Table → ℕ → Option (List (Option ℕ))

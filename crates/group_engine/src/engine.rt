@@ -13,7 +13,7 @@ ghost use Rattle.rt_model.specs.Holders.{holder};
 ghost use Rattle.rt_changes.specs.Tallies.{waiter_tasks};
 ghost use Rattle.group_core.specs.Words.{AreWaitersAt};
 ghost use Rattle.group_engine.specs.Keys.{HoldsKeys};
-ghost use Rattle.group_engine.specs.Links.{StayLinked};
+ghost use Rattle.group_engine.specs.Links.{AreLinksAt, StayLinked};
 ghost use Rattle.group_engine.specs.Moments.{IsDeclared, between};
 ghost use Rattle.group_engine.specs.Sound.{Extent, IsMoved, IsSound};
 ghost use Rattle.rt_rules.specs.declared.history.Entry.{Entry};
@@ -28,6 +28,7 @@ ghost use Rattle.rt_plays.specs.Endings.{ended_last};
 use crate::state::GroupState;
 use cluster_table::PlacedMarks;
 use group_core::{Answer, WaitingList};
+use link_table::Links;
 use prio_inherit::Inherit;
 use ready_heap::ReadyHeap;
 use rt_base::{ClusterNo, CpuNo, GroupNo, NoMemory, SemNo, TaskNo};
@@ -119,6 +120,14 @@ impl Engine {
         self.state.linked(cpu)
     }
 
+    /// The links of all processors of the processor's cluster.
+    pub fn links_beside(&self, cpu: CpuNo) -> &Links
+        requires { IsProcessorOf (group_of self.now) cpu.0 }
+        ensures { AreLinksAt (group_of self.now) (past self.now) result.now }
+    {
+        self.state.links_beside(cpu)
+    }
+
     /// The cluster of the processor.
     pub fn home(&self, cpu: CpuNo) -> ClusterNo
         requires { IsProcessorOf (group_of self.now) cpu.0 }
@@ -159,16 +168,6 @@ impl Engine {
             → linked (group_of h) q (past self.now) ≡ linked (group_of h) q (past h) }
     {
         self.placed.has_any()
-    }
-
-    /// Whether the last step, its move of the clock or its act, may have changed a link in the processor's cluster: where not, the
-    /// processor is linked as before the step.
-    pub fn has_placed_at(&self, cpu: CpuNo) -> bool
-        requires { IsProcessorOf (group_of self.now) cpu.0 }
-        ensures { (h : GroupHistory) (e : Entry) → self.now ≡ with_entry e h → result ≡ false
-            → linked (group_of h) cpu.0 (past self.now) ≡ linked (group_of h) cpu.0 (past h) }
-    {
-        self.placed.has(self.state.home(cpu))
     }
 
     /// The only cluster in which the last step, its move of the clock or its act, may have changed a link: each processor of the

@@ -21,7 +21,7 @@ ghost use Rattle.group_core.specs.Words.{AreWaitersAt, GroupAt};
 ghost use Rattle.group_jobs.specs.Timers.{AreDue};
 ghost use Rattle.group_core.specs.Facts.{tasks_of_some};
 ghost use Rattle.group_core.specs.Looked.{looked, named};
-ghost use Rattle.group_engine.specs.Links.{StayLinked};
+ghost use Rattle.group_engine.specs.Links.{AreLinksAt, StayLinked};
 ghost use Rattle.group_engine.specs.Moments.{CanActOn, CanEnd, CanLend, CanLook, CanMove, CanTell, HasActed, IsDeclared, IsPlayed};
 ghost use Rattle.group_engine.specs.State.{IsAt};
 ghost use Rattle.group_engine.specs.inside.Touching.{AreArmedOnly, AreNumbered, CanUpdate, CanUpdateAll, CanUpdateRun, CanRequeue, CanRequeueAll};
@@ -29,6 +29,7 @@ ghost use Rattle.group_engine.specs.inside.Touching.{all_updated, all_requeued, 
 
 use cluster_table::{ClusterTable, PlacedMarks};
 use group_core::{Answer, GroupCore, Looks, WaitingList};
+use link_table::Links;
 use prio_inherit::Inherit;
 use ready_heap::ReadyHeap;
 use release_queue::ReleaseQueue;
@@ -104,6 +105,18 @@ impl GroupState {
     {
         let home = self.clusters.home(cpu);
         self.clusters.linked(home, cpu)
+    }
+
+    /// The links of all processors of the processor's cluster.
+    pub(crate) fn links_beside(&self, cpu: CpuNo) -> &Links
+        requires { CanLook cpu.0 self.now }
+        ensures { (at : GroupAt) → IsAt at.group at.past self.now → IsProcessorOf at.group cpu.0
+            → AreLinksAt at.group at.past result.now }
+    {
+        match self.clusters.links(self.clusters.home(cpu)) {
+            Some(links) => links,
+            None => unreachable!(),
+        }
     }
 
     /// What the processor runs.

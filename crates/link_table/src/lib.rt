@@ -2,7 +2,7 @@
 //! than its link until it takes an interrupt (Brandenburg, dissertation, University of North Carolina, 2011).
 #![tactic(auto)]
 
-ghost use Rattle.std.specs.Prelude.{◌≡◌, ℕ, ◌-◌, ◌<◌, ◌≤◌, IfOk, List, length, true};
+ghost use Rattle.std.specs.Prelude.{◌≡◌, ℕ, ◌-◌, ◌<◌, ◌≤◌, IfOk, List, false, length, true};
 ghost use Rattle.rt_base.specs.TaskNos.{number_of_task, numbers};
 ghost use Rattle.rt_rules.specs.Distinct.{IsDistinct};
 ghost use Rattle.rt_rules.specs.Numbers.{has, is};
@@ -75,6 +75,17 @@ impl Links {
             run_marks,
             top_marks,
         })
+    }
+
+    /// Whether the processor is one of the cluster's.
+    ///
+    /// Example: `Links::new(alloc, CpuNo(2), 4)` has processors 2 to 5.
+    #[inline(always)]
+    pub fn has(&self, q: CpuNo) -> bool
+        ensures here { result ≡ true → IsOfCluster self.now q.0 }
+        ensures elsewhere { result ≡ false → IsOfCluster self.now q.0 → ⊥ }
+    {
+        q.0 >= self.first && ((q.0 - self.first) as usize) < self.runs.len()
     }
 
     /// The task that the processor is linked to.

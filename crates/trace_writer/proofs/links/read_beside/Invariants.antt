@@ -3,7 +3,7 @@ use Rattle.rt_plays.specs.Groups.{group_of, past}
 use Rattle.trace_lines.specs.Lines.{links_of}
 use Rattle.trace_text.specs.Groups.{changed_links, cpus_in}
 use Rattle.trace_text.specs.TraceText.{links_at}
-use Rattle.trace_writer.proofs.links.read_again.Given as goal
+use Rattle.trace_writer.proofs.links.read_beside.Given as goal
 
 -- the rest is as it was; what was read, and then what the rest is now, are all of them; and so for those that changed
 abbrev pub invariant-loop-i : goal.invariant-loop-i
