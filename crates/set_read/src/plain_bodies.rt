@@ -40,13 +40,11 @@ fn bare(bytes: &[u8]) -> Option<(Op, &[u8])>
 fn piece_named(names: &NameLists, word: &[u8], name: &str) -> Option<Piece>
     ensures { result ≡ document.piece_with (names_seen names.now) word.now (string name.now) }
 {
-    match word {
-        b"work" => None,
-        _ => {
-            let op = op_named(names, word, name)?;
-            Some(Piece::Once(op))
-        }
+    if word == b"work".as_slice() {
+        return None;
     }
+    let op = op_named(names, word, name)?;
+    Some(Piece::Once(op))
 }
 
 /// A piece with a number.
@@ -54,13 +52,11 @@ fn piece_counted(word: &[u8], n: u64) -> Option<Piece>
     ensures { (names : document.Names)
         → result ≡ document.piece_with names word.now (number (unsigned n)) }
 {
-    match word {
-        b"work" => Some(Piece::Works(n)),
-        _ => {
-            let op = op_counted(word, n)?;
-            Some(Piece::Once(op))
-        }
+    if word == b"work".as_slice() {
+        return Some(Piece::Works(n));
     }
+    let op = op_counted(word, n)?;
+    Some(Piece::Once(op))
 }
 
 /// A piece of this word and an argument, and what stands behind it.
