@@ -104,7 +104,7 @@ whole_read-tasks w h ds found d runs none e said =
     let resvs = elements_from parts.Resv 0 (map (λ x. reservation_form x) w.resvs) in
     let drive = Ok (Horizon h) in
     let read : draft_by w.plugin clusters sems resvs (Ok []) drive ≡ Ok d = sym (λ i. whole_read (record w { tasks = none i; play = runs i })) ∙ e in
-    let tasks = tasks_alone (names_of w) (map name_in ds) 1 ds ∙ tasks_found (names_of w) 0 1 ds found said in
+    let tasks = ap (elements_from parts.Task 0) (tasks_alone (names_of w) (map name_in ds) 1 ds) ∙ tasks_found (names_of w) 0 1 ds found said in
     (λ i. whole_read (record w { tasks = ds; play = runs i }))
     ∙ ap (λ ts. draft_by w.plugin clusters sems resvs ts drive) tasks
     ∙ (redrafted w.plugin clusters sems resvs (Ok []) (Horizon h) (Horizon h) d read).1 found

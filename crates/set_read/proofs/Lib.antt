@@ -17,3 +17,4 @@ pub mod PlaceLaws
 pub mod OpenLaws
 pub mod FirstLaws
 pub mod PlainLaws
+pub mod TaskLaws

@@ -29,7 +29,7 @@ fn with_body(
 ) -> Option<DraftTask>
     ensures { IfSome result (λ task. (was : DraftTask)
         × (task_form (names_seen names.now) number (view value.now) ≡ Some was)
-        × (task ≡ record was { pieces = body.entry.items })
+        × (task ≡ record was { pieces = body.items })
         × ((is_periodic task.kind && not (is_empty task.pieces)) ≡ true)) }
 {
     let Ok(Some(mut task)) = task_of(alloc, names, number, value) else {

@@ -1,8 +1,8 @@
-use Rattle.std.proofs.Common.{◌≡◌, Some, refl, arith}
+use Rattle.std.proofs.Common.{◌≡◌, Some, ap, arith}
 use Rattle.json.specs.Lex.{after_value}
 use Rattle.set_read.specs.Document.{names_of}
 use Rattle.set_read.specs.Forms.{listed}
-use Rattle.set_read.specs.Seen.{whole_seen}
+use Rattle.set_read.specs.Seen.{play_seen, whole_seen}
 use Rattle.set_read.specs.inside.Texts.{tokens_at}
 use Rattle.set_read.specs.inside.Tokens.{tasks_read}
 use Rattle.set_read.proofs.DraftLaws.{whole_read-tasks}
@@ -17,5 +17,5 @@ returns-in-Ok c =
       tokens_at after_value c.in_ok-found.rest.now,
       said.1,
       grind arith,
-      λ none. rw c.from_vec.ensures (whole_read-tasks w ? (listed said.0) c.in_ok-found.found.items c.in-Ok.draft ? none c.in-Ok.ensures tasks),
+      λ none. rw c.from_vec.ensures (whole_read-tasks w c.in-Horizon.field-0 (listed said.0) c.in_ok-found.found.items c.in-Ok.draft (ap play_seen c.in-Horizon.is) none c.in-Ok.ensures tasks),
     )
