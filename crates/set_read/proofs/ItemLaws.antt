@@ -1,9 +1,8 @@
 -- The items that tokens say, token by token.
-use Rattle.std.proofs.Common.{◌≡◌, ℕ, ◌-◌, ◌<◌, List, [], ◌∷◌, Option, Some, None, refl, sym, ap, ◌∙◌, arith}
+use Rattle.std.proofs.Common.{◌≡◌, ℕ, List, [], ◌∷◌, Option, Some, None, refl, ◌∙◌, arith}
 use Rattle.json.specs.Token.{Token}
 use Rattle.json.specs.Json.{after_end_array}
 use Rattle.rt_task.specs.declared.Act.{Act}
-use Rattle.rt_task.specs.declared.draft.DraftStep.{DraftStep}
 use Rattle.rt_task.specs.declared.draft.Piece.{Piece}
 use Rattle.serde_json.specs.Data.{Data, number, string, array, unsigned, no_items, item}
 use Rattle.set_read.specs.Document.{Names, act_form, step_form, piece_form}

@@ -5,7 +5,7 @@ use Rattle.json.specs.Lex.{tokens}
 use Rattle.json.specs.Token.{Token}
 use Rattle.rt_task.specs.declared.draft.Draft.{Draft}
 use Rattle.serde_json.specs.Data.{Data, array, object, Items, no_items, Members, no_members, put}
-use Rattle.serde_json.specs.Read.{of_json, of_items, of_members, converted, read}
+use Rattle.serde_json.specs.Read.{of_json, of_items, of_members, converted}
 use Rattle.set_read.specs.Sets.{draft_in_bytes}
 use Rattle.set_read.specs.inside.Tokens.{before, with_last, with_no_items, AreItems, Completes, LeavesItems}
 use Rattle.set_read.proofs.ReadLaws.{read_draft-read}

@@ -1,9 +1,8 @@
 -- A task whose body is another is the same task otherwise.
-use Rattle.std.proofs.Common.{◌≡◌, ℕ, List, [], ◌∷◌, ◌++◌, Bool, true, not, ◌&&◌, cond, Option, Some, None, refl, ap, sym, ◌∙◌, arith}
+use Rattle.std.proofs.Common.{◌≡◌, ℕ, List, [], ◌∷◌, ◌++◌, Bool, true, not, ◌&&◌, cond, Option, Some, None, refl, ap, sym, ◌∙◌}
 use Rattle.std.specs.Prelude.{codes, ⊤, bytes_eq, false}
-use Rattle.json.specs.Json as json
 use Rattle.json.specs.Json.{after_end_array}
-use Rattle.json.specs.Lex.{token, Place, fresh, after_value, may_begin, tokens}
+use Rattle.json.specs.Lex.{token, fresh, after_value, tokens}
 use Rattle.json.specs.Token.{Token}
 use Rattle.rt_base.specs.declared.ResvNo.{ResvNo}
 use Rattle.rt_base.specs.declared.SemNo.{SemNo}
@@ -14,7 +13,6 @@ use Rattle.rt_task.specs.declared.Kind.TheVariants.{Periodic}
 use Rattle.rt_task.specs.declared.draft.DraftTask.{DraftTask}
 use Rattle.rt_task.specs.declared.draft.Piece.{Piece}
 use Rattle.serde_json.specs.Data.{Data, array, object, Items, no_items, Members, put}
-use Rattle.serde_json.specs.Find.{get}
 use Rattle.serde_json.proofs.Views.{get_member-put}
 use Rattle.set_read.specs.Document.{Names, task_form, task_members, piece_form, sem_form, resv_form, release_kinds, shaped}
 use Rattle.set_read.specs.Forms.{◌>>=◌, every, form_or, list_of, listed, natural, object_of, one_of, optional, or_null, required, text, truth, when}

@@ -1,4 +1,3 @@
-use Rattle.std.proofs.Common.{sym}
 use Rattle.serde_json.specs.View.{view}
 use Rattle.set_read.specs.Names.{names_seen}
 use Rattle.set_read.proofs.TaskLaws.{plain_task}
