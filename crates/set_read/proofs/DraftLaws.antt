@@ -72,8 +72,10 @@ whole_read-steps w ds found d none e said =
     let sems = elements_from parts.Sem 0 (map (λ x. semaphore_form x) w.sems) in
     let resvs = elements_from parts.Resv 0 (map (λ x. reservation_form x) w.resvs) in
     let tasks = elements_from parts.Task 0 (tasks_from (names_of w) false 1 w.tasks) in
-    let read : draft_by w.plugin clusters sems resvs tasks (Ok (Steps [])) ≡ Ok d = sym (λ i. whole_read (record w { play = none i })) ∙ e in
-    ap (λ found. draft_by w.plugin clusters sems resvs tasks (found >>= λ found. Ok (Steps found))) (every_found (step_form (names_of w)) parts.Step 0 ds found said)
+    let read : draft_by w.plugin clusters sems resvs tasks (Ok (Steps [])) ≡ Ok d =
+    sym (λ i. whole_read (record w { play = none i })) ∙ e in
+    ap (λ found. draft_by w.plugin clusters sems resvs tasks (found >>= λ found. Ok (Steps found)))
+    (every_found (step_form (names_of w)) parts.Step 0 ds found said)
     ∙ (redrafted w.plugin clusters sems resvs tasks (Steps []) (Steps found) d read).0
 
 -- ---- tasks
@@ -86,7 +88,8 @@ tasks_found names k n (d ∷ ds) found e =
     (tasks_found names (k + 1) (n + 1) ds)
 
 -- a task names no other
-task_alone : (names : Names) (others : List (List ℕ)) (n : ℕ) (d : Data) → task_form (record names { tasks = others }) n d ≡ task_form names n d
+task_alone : (names : Names) (others : List (List ℕ)) (n : ℕ) (d : Data)
+    → task_form (record names { tasks = others }) n d ≡ task_form names n d
 unfolding task_form piece_form
 task_alone names others n d = refl
 
@@ -95,7 +98,8 @@ tasks_alone : (names : Names) (others : List (List ℕ)) (n : ℕ) (ds : List Da
 tasks_alone names others n [] = refl
 tasks_alone names others n (d ∷ ds) = ap₂ (λ o os. shaped true o ∷ os) (task_alone names others n d) (tasks_alone names others (n + 1) ds)
 
-pub whole_read-tasks : (w : Whole) (h : ℕ) (ds : List Data) (found : List DraftTask) (d : Draft) → w.play ≡ horizon h → w.tasks ≡ [] → whole_read w ≡ Ok d
+pub whole_read-tasks : (w : Whole) (h : ℕ) (ds : List Data) (found : List DraftTask) (d : Draft) → w.play ≡ horizon h → w.tasks ≡ []
+    → whole_read w ≡ Ok d
     → tasks_read (names_of w) 1 ds ≡ Some found → whole_read (with_tasks w ds) ≡ Ok (record d { tasks = found })
 unfolding whole_read drive_read
 whole_read-tasks w h ds found d runs none e said =
@@ -103,8 +107,10 @@ whole_read-tasks w h ds found d runs none e said =
     let sems = elements_from parts.Sem 0 (map (λ x. semaphore_form x) w.sems) in
     let resvs = elements_from parts.Resv 0 (map (λ x. reservation_form x) w.resvs) in
     let drive = Ok (Horizon h) in
-    let read : draft_by w.plugin clusters sems resvs (Ok []) drive ≡ Ok d = sym (λ i. whole_read (record w { tasks = none i; play = runs i })) ∙ e in
-    let tasks = ap (elements_from parts.Task 0) (tasks_alone (names_of w) (map name_in ds) 1 ds) ∙ tasks_found (names_of w) 0 1 ds found said in
+    let read : draft_by w.plugin clusters sems resvs (Ok []) drive ≡ Ok d =
+    sym (λ i. whole_read (record w { tasks = none i; play = runs i })) ∙ e in
+    let tasks =
+    ap (elements_from parts.Task 0) (tasks_alone (names_of w) (map name_in ds) 1 ds) ∙ tasks_found (names_of w) 0 1 ds found said in
     (λ i. whole_read (record w { tasks = ds; play = runs i }))
     ∙ ap (λ ts. draft_by w.plugin clusters sems resvs ts drive) tasks
     ∙ (redrafted w.plugin clusters sems resvs (Ok []) (Horizon h) (Horizon h) d read).1 found

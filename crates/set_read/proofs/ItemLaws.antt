@@ -10,7 +10,8 @@ use Rattle.set_read.specs.Forms.{◌>>=◌}
 use Rattle.set_read.specs.inside.Tokens.{item_depth, argument_depth, piece_depth, piece_argument_depth, piece_after, SaysNumber, SaysItems, SaysValue}
 use Rattle.set_read.proofs.TokenLaws.{no_more_items, one_item, array_said, number_item, string_item}
 
-pub none_said : {A : Type 0} (depth : ℕ) (form : List Data → Option A) (ts r : List Token) (x : A) → after_end_array ts ≡ Some r → form [] ≡ Some x
+pub none_said : {A : Type 0} (depth : ℕ) (form : List Data → Option A) (ts r : List Token) (x : A) → after_end_array ts ≡ Some r
+    → form [] ≡ Some x
     → SaysItems depth form ts x r
 none_said depth form ts r x last e = (no_items, no_more_items depth ts r last, e)
 
@@ -25,7 +26,8 @@ counted_said depth form n ts t r x first last e =
     (item (number (unsigned n)) no_items, number_item depth n ts t r no_items first (no_more_items depth t r last), e)
 
 -- an item, and then others
-pub one_said : {A : Type 0} (depth : ℕ) (form : Data → Option A) (later all : List Data → Option (List A)) (ts r rest : List Token) (x : A) (xs : List A)
+pub one_said : {A : Type 0} (depth : ℕ) (form : Data → Option A) (later all : List Data → Option (List A))
+    (ts r rest : List Token) (x : A) (xs : List A)
     → ((d : Data) (ds : List Data) → all (d ∷ ds) ≡ (form d >>= λ y. later ds >>= λ ys. Some (y ∷ ys)))
     → after_end_array ts ≡ None → SaysValue depth form ts x r → SaysItems depth later r xs rest → SaysItems depth all ts (x ∷ xs) rest
 one_said depth form later all ts r rest x xs split going (d, first, is) (ds, more, are) =

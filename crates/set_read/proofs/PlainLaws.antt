@@ -76,7 +76,8 @@ name_argument depth form s text quoted rest x same first e last closed ended =
     (ap after_end_array (end_token rest last closed)) (sym e)
 
 pub number_argument : {A : Type 0} (depth : ℕ) (form : List Data → Option A) (text plain rest : List ℕ) (n : ℕ) (x : A)
-    → lex between plain ≡ lex between text → (ends_word rest ≡ true → BeginsWithNumber n plain rest) → Some x ≡ form (number (unsigned n) ∷ [])
+    → lex between plain ≡ lex between text → (ends_word rest ≡ true → BeginsWithNumber n plain rest)
+    → Some x ≡ form (number (unsigned n) ∷ [])
     → BeginsWithArgument depth form x text rest
 number_argument depth form text plain rest n x same first e last closed ended =
     let f = first ended in
@@ -92,7 +93,8 @@ module _ {A : Type 0} (depth : ℕ) (form : List ℕ → List Data → Option A)
     w,
     tokens_at after_value rest,
     word_token place text rest w begin (sym same ∙ first) (ap begins_colon closed),
-    none_said depth (form w) (tokens_at after_value rest) (tokens_at after_value last) x (ap after_end_array (end_token rest last closed)) e,
+    none_said depth (form w) (tokens_at after_value rest) (tokens_at after_value last) x
+        (ap after_end_array (end_token rest last closed)) e,
   )
 
   pub argument_ends : (w text quoted rest more behind last : List ℕ) (x : A) → lex between quoted ≡ lex between text
@@ -123,7 +125,8 @@ module _ (names : Names) where
       )
 
   pub plain_piece : (text a rest : List ℕ) (piece : Piece) → BeginsWith (token Token.begin_array) text a
-      → EndsArray piece_argument_depth (piece_after names) fresh piece a rest → BeginsWithValue piece_depth (piece_form names) piece text rest
+      → EndsArray piece_argument_depth (piece_after names) fresh piece a rest
+      → BeginsWithValue piece_depth (piece_form names) piece text rest
   plain_piece text a rest piece opened (w, ts, word, says) place begin =
       let array = bracket_token place text a begin opened in (
         piece_said names (tokens_at place text) (tokens a) ts (tokens_at after_value rest) w piece array word says,
@@ -150,5 +153,6 @@ module _ {A : Type 0} (depth : ℕ) (form : Data → Option A) (later all : List
   one_last place text rest last x over begin first closed =
       let s = first place begin in
       let none =
-      none_said depth later (tokens_at after_value rest) (tokens_at after_value last) [] (ap after_end_array (end_token rest last closed)) over in
+      none_said depth later (tokens_at after_value rest) (tokens_at after_value last) []
+      (ap after_end_array (end_token rest last closed)) over in
       one_said depth form later all (tokens_at place text) (tokens_at after_value rest) (tokens_at after_value last) x [] split s.1 s.0 none

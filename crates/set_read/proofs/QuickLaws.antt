@@ -38,7 +38,8 @@ module _ (key : List ℕ) where
       → (ms : Members) × (value ≡ object (put key (array no_items) ms))
       × (converted of_json (json.value depth first) ≡ Some (object (put key (array ds) ms), after))
   with_items depth first front now rest after value ds leaves written said closed =
-      let js = converted_some of_items (json.items (json.value (depth - 1 - 1)) (length now) now) ds rest (said (length now) (omega arith)) in
+      let js =
+      converted_some of_items (json.items (json.value (depth - 1 - 1)) (length now) now) ds rest (said (length now) (omega arith)) in
       by_front js.0 js.2 (leaves js.0 rest after js.1 closed) (of_members front no_members) refl
     where
       by_front : (js : json.Items) → of_items js ≡ Some ds → json.value depth first ≡ Some (with_last key front js, after)
@@ -59,7 +60,9 @@ module _ (key : List ℕ) where
 
 read_whole : (v : Data) (o : Option (json.Json × List Token)) → converted of_json o ≡ Some (v, [])
     → option_and_then of_json (option_and_then (λ p. json.if_last p.0 p.1) o) ≡ Some v
-read_whole v o e = let j = converted_some of_json o v [] e in ap (λ o. option_and_then of_json (option_and_then (λ p. json.if_last p.0 p.1) o)) j.1 ∙ j.2
+read_whole v o e =
+    let j = converted_some of_json o v [] e in
+    ap (λ o. option_and_then of_json (option_and_then (λ p. json.if_last p.0 p.1) o)) j.1 ∙ j.2
 
 pub quick-read : (key bytes : List ℕ) (front : json.Members) (now : List Token) (value : Data) (d : Draft) → IsUtf8 bytes
     → LeavesItems key 127 (tokens bytes) front now → of_json (with_no_items key front) ≡ Some value → Completes key value now d

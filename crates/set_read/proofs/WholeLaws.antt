@@ -30,7 +30,8 @@ all_among-put words k d e no_members = refl
 all_among-put words k d e (member l x ms) = among_at (slice_cmp nat_cmp k l) words k l d e x ms (all_among-put words k d e ms)
 
 -- nor does a member say anything of another
-pub unchanged : (key k : List ℕ) (d e : Data) (ms : Members) → bytes_eq k key ≡ false → get_member k (put key d ms) ≡ get_member k (put key e ms)
+pub unchanged : (key k : List ℕ) (d e : Data) (ms : Members) → bytes_eq k key ≡ false
+    → get_member k (put key d ms) ≡ get_member k (put key e ms)
 unchanged key k d e ms differ =
     let other : k ≡ key → ⊥ = λ same. false≢true (sym differ ∙ (bytes_eq-Decides k key).1 same) in
     get_member-put_other k key d ms other ∙ sym (get_member-put_other k key e ms other)
@@ -75,7 +76,8 @@ module _ (was now : Items) where
   abbrev by_steps : Data → Option Data → Option Whole
   by_steps d s =
       whole_by (object_of whole_members d) (required (one_of plugins) (codes "plugin") d) (required items (codes "clusters") d)
-      (optional items [] (codes "sems") d) (optional items [] (codes "resvs") d) (optional items [] (codes "tasks") d) (play_of s (get (codes "horizon") d))
+      (optional items [] (codes "sems") d) (optional items [] (codes "resvs") d) (optional items [] (codes "tasks") d)
+      (play_of s (get (codes "horizon") d))
 
   -- with other steps put at their name, the rest is as before
   pub whole_of-steps : (ms : Members) (w : Whole) → whole_of (object (put (codes "steps") (array was) ms)) ≡ Some w
@@ -95,8 +97,10 @@ module _ (was now : Items) where
       let given : by_steps d (Some (array was)) ≡ Some w = sym (ap (by_steps d) (get_member-put key (array was) ms)) ∙ e in
       let moved =
       other_steps (object_of whole_members d) (required (one_of plugins) (codes "plugin") d) (required items (codes "clusters") d)
-      (optional items [] (codes "sems") d) (optional items [] (codes "resvs") d) (optional items [] (codes "tasks") d) (get (codes "horizon") d) w given in (
-        (λ i. whole_by (when (words i)) (plugin i >>= one_of plugins) (clusters i >>= items) (form_or items [] (sems i)) (form_or items [] (resvs i))
+      (optional items [] (codes "sems") d) (optional items [] (codes "resvs") d) (optional items [] (codes "tasks") d)
+      (get (codes "horizon") d) w given in (
+        (λ i. whole_by (when (words i)) (plugin i >>= one_of plugins) (clusters i >>= items) (form_or items [] (sems i))
+            (form_or items [] (resvs i))
             (form_or items [] (tasks i)) (play_of (get_member-put key (array now) ms i) (horizon i)))
             ∙ moved.0,
         moved.1,
@@ -126,8 +130,10 @@ module _ (was now : Items) where
       let given : by_tasks d (Some (array was)) ≡ Some w = sym (ap (by_tasks d) (get_member-put key (array was) ms)) ∙ e in
       let moved =
       other_tasks (object_of whole_members d) (required (one_of plugins) (codes "plugin") d) (required items (codes "clusters") d)
-      (optional items [] (codes "sems") d) (optional items [] (codes "resvs") d) (play_of (get (codes "steps") d) (get (codes "horizon") d)) w given in (
-        (λ i. whole_by (when (words i)) (plugin i >>= one_of plugins) (clusters i >>= items) (form_or items [] (sems i)) (form_or items [] (resvs i))
+      (optional items [] (codes "sems") d) (optional items [] (codes "resvs") d)
+      (play_of (get (codes "steps") d) (get (codes "horizon") d)) w given in (
+        (λ i. whole_by (when (words i)) (plugin i >>= one_of plugins) (clusters i >>= items) (form_or items [] (sems i))
+            (form_or items [] (resvs i))
             (form_or items [] (get_member-put key (array now) ms i)) (play_of (steps i) (horizon i)))
             ∙ moved.0,
         moved.1,

@@ -12,9 +12,10 @@ use json::{Reader, Scratch};
 use serde_json::Value;
 use std::alloc::Global;
 
-/// How deep a document may nest, and how deep a task of its array.
+/// How deep a document may nest.
 pub(crate) const DOCUMENT_DEPTH: usize = 127;
 
+/// How deep a task may nest, which stands in an array of the document.
 pub(crate) const TASK_DEPTH: usize = DOCUMENT_DEPTH - 2;
 
 /// Whether this text ends with the name of a member and its colon.

@@ -6,4 +6,5 @@ use Rattle.set_read.proofs.plain_bodies.piece.Goals as goal
 pub returns-clause-says : goal.returns-clause-says
 returns-clause-says c =
     IfSome_then c.piece_end.result c.piece_end.ensures.says
-    (λ x says. plain_piece (names_seen c.args.names.now) c.args.bytes.now c.in_ok-after.field-0.now x.1.now x.0 c.in_ok-after.ensures.lexed says)
+    (λ x says. plain_piece (names_seen c.args.names.now) c.args.bytes.now c.in_ok-after.field-0.now x.1.now x.0
+    c.in_ok-after.ensures.lexed says)

@@ -27,4 +27,5 @@ returns-clause-says c =
     (34 ∷ take (length xs - 1) (drop 1 xs)) c.in_ok-word.rest.now
     c.in_ok-after-2.field-0.now c.in_ok-piece.rest.now c.in_ok-after-3.field-0.now c.in_ok-piece.piece
     (ap (lex between) (sym split) ∙ c.after_blanks.ensures.lexed)
-    c.in_ok-word.ensures.lexed c.in_ok-after-2.ensures.lexed c.in_ok-piece.ensures.says c.in_ok-after-3.ensures.lexed c.in_ok-after-3.ensures.ends
+    c.in_ok-word.ensures.lexed c.in_ok-after-2.ensures.lexed c.in_ok-piece.ensures.says c.in_ok-after-3.ensures.lexed
+    c.in_ok-after-3.ensures.ends

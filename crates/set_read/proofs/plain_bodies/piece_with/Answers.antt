@@ -21,5 +21,6 @@ returns-in_ok-piece-in-34-clause-says c =
 pub returns-in_ok-piece-in_default-clause-says : goal.returns-in_ok-piece-in_default-clause-says
 returns-in_ok-piece-in_default-clause-says c =
     let names = names_seen c.args.names.now in
-    number_argument piece_argument_depth (piece_after names c.args.word.now) c.args.bytes.now c.after_blanks.result.now c.in_ok-n-in_default.rest.now c.in_ok-n-in_default.n
+    number_argument piece_argument_depth (piece_after names c.args.word.now) c.args.bytes.now c.after_blanks.result.now
+    c.in_ok-n-in_default.rest.now c.in_ok-n-in_default.n
     c.in_ok-piece-in_default.piece c.after_blanks.ensures.lexed c.in_ok-n-in_default.ensures.lexed (c.in_ok-piece-in_default.ensures names)

@@ -19,7 +19,9 @@ loop-found-preserved c =
       λ pieces rest says.
           rw (pushed, append_assoc)
           (so_far (s.piece ∷ pieces) rest
-          (one_more piece_depth (piece_form names) (every (piece_form names)) (every (piece_form names)) (λ d ds. refl) place c.loop-found.left.now s.rest.now c.in-Some.more.now s.piece pieces rest begin s.ensures.says c.in-Some.ensures.lexed says)),
+          (one_more piece_depth (piece_form names) (every (piece_form names)) (every (piece_form names))
+          (λ d ds. refl) place c.loop-found.left.now s.rest.now c.in-Some.more.now s.piece pieces rest begin s.ensures.says
+          c.in-Some.ensures.lexed says)),
     )
 
 pub returns-in-None : goal.returns-in-None
@@ -31,5 +33,6 @@ returns-in-None c =
     let pushed : c.push.new.self.items ≡ c.loop-found.found.items ++ s.piece ∷ [] = grind arith in
     rw pushed
     (so_far (s.piece ∷ []) (tokens_at after_value last.field-0.now)
-    (one_last piece_depth (piece_form names) (every (piece_form names)) (every (piece_form names)) (λ d ds. refl) place c.loop-found.left.now s.rest.now
+    (one_last piece_depth (piece_form names) (every (piece_form names)) (every (piece_form names))
+    (λ d ds. refl) place c.loop-found.left.now s.rest.now
     last.field-0.now s.piece refl begin s.ensures.says last.ensures.lexed))

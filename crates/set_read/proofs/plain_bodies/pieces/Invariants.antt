@@ -13,7 +13,8 @@ use Rattle.set_read.proofs.plain_bodies.pieces.Given as goal
 abbrev pub invariant-loop-found : goal.invariant-loop-found
 invariant-loop-found l =
     (place : Place) × (may_begin place ≡ true)
-    × ((pieces : List Piece) (rest : List Token) → SaysItems piece_depth (every (piece_form (names_seen l.names))) (tokens_at place l.left) pieces rest
+    × ((pieces : List Piece) (rest : List Token) → SaysItems piece_depth (every (piece_form (names_seen l.names)))
+    (tokens_at place l.left) pieces rest
     → SaysItems piece_depth (every (piece_form (names_seen l.names))) (tokens l.fn.bytes) (l.found.items ++ pieces) rest)
 
 abbrev pub decreases-loop-found : goal.decreases-loop-found

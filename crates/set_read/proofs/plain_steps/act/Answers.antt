@@ -26,4 +26,5 @@ returns-clause-says c =
     (34 ∷ take (length xs - 1) (drop 1 xs)) c.in_ok-word.rest.now
     c.in_ok-after-2.field-0.now c.in_ok-act.rest.now c.in_ok-after-3.field-0.now c.in_ok-act.act
     (ap (lex between) (sym split) ∙ c.after_blanks.ensures.lexed)
-    c.in_ok-word.ensures.lexed c.in_ok-after-2.ensures.lexed c.in_ok-act.ensures.says c.in_ok-after-3.ensures.lexed c.in_ok-after-3.ensures.ends
+    c.in_ok-word.ensures.lexed c.in_ok-after-2.ensures.lexed c.in_ok-act.ensures.says c.in_ok-after-3.ensures.lexed
+    c.in_ok-after-3.ensures.ends

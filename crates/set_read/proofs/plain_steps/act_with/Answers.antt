@@ -22,5 +22,6 @@ returns-in_ok-act-in-34-clause-says c =
 pub returns-in_ok-act-in_default-clause-says : goal.returns-in_ok-act-in_default-clause-says
 returns-in_ok-act-in_default-clause-says c =
     let names = names_seen c.args.names.now in
-    number_argument argument_depth (act_form names c.args.word.now) c.args.bytes.now c.after_blanks.result.now c.in_ok-n-in_default.rest.now c.in_ok-n-in_default.n
+    number_argument argument_depth (act_form names c.args.word.now) c.args.bytes.now c.after_blanks.result.now
+    c.in_ok-n-in_default.rest.now c.in_ok-n-in_default.n
     c.in_ok-act-in_default.act c.after_blanks.ensures.lexed c.in_ok-n-in_default.ensures.lexed (c.in_ok-act-in_default.ensures names)

@@ -19,7 +19,9 @@ loop-found-preserved c =
       λ steps rest says.
           rw (pushed, append_assoc)
           (so_far (s.step ∷ steps) rest
-          (one_more item_depth (step_form names) (every (step_form names)) (every (step_form names)) (λ d ds. refl) place c.loop-found.left.now s.rest.now c.in-Some.more.now s.step steps rest begin s.ensures.says c.in-Some.ensures.lexed says)),
+          (one_more item_depth (step_form names) (every (step_form names)) (every (step_form names))
+          (λ d ds. refl) place c.loop-found.left.now s.rest.now c.in-Some.more.now s.step steps rest begin s.ensures.says
+          c.in-Some.ensures.lexed says)),
     )
 
 pub returns-in-None : goal.returns-in-None
@@ -31,5 +33,6 @@ returns-in-None c =
     let pushed : c.push.new.self.items ≡ c.loop-found.found.items ++ s.step ∷ [] = grind arith in
     rw pushed
     (so_far (s.step ∷ []) (tokens_at after_value last.field-0.now)
-    (one_last item_depth (step_form names) (every (step_form names)) (every (step_form names)) (λ d ds. refl) place c.loop-found.left.now s.rest.now
+    (one_last item_depth (step_form names) (every (step_form names)) (every (step_form names))
+    (λ d ds. refl) place c.loop-found.left.now s.rest.now
     last.field-0.now s.step refl begin s.ensures.says last.ensures.lexed))

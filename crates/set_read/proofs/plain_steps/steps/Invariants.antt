@@ -13,7 +13,8 @@ use Rattle.set_read.proofs.plain_steps.steps.Given as goal
 abbrev pub invariant-loop-found : goal.invariant-loop-found
 invariant-loop-found l =
     (place : Place) × (may_begin place ≡ true)
-    × ((steps : List DraftStep) (rest : List Token) → SaysItems item_depth (every (step_form (names_seen l.names))) (tokens_at place l.left) steps rest
+    × ((steps : List DraftStep) (rest : List Token) → SaysItems item_depth (every (step_form (names_seen l.names)))
+    (tokens_at place l.left) steps rest
     → SaysItems item_depth (every (step_form (names_seen l.names))) (tokens l.fn.bytes) (l.found.items ++ steps) rest)
 
 abbrev pub decreases-loop-found : goal.decreases-loop-found

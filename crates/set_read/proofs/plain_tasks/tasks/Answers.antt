@@ -18,7 +18,9 @@ loop-number-preserved c =
       λ tasks rest says.
           rw (pushed, append_assoc)
           (so_far (s.task ∷ tasks) rest
-          (one_more item_depth (task_read names n) (tasks_read names (n + 1)) (tasks_read names n) (λ d ds. refl) place c.loop-number.left.now s.rest.now c.in-Some.more.now s.task tasks rest begin s.ensures c.in-Some.ensures.lexed says)),
+          (one_more item_depth (task_read names n) (tasks_read names (n + 1)) (tasks_read names n)
+          (λ d ds. refl) place c.loop-number.left.now s.rest.now c.in-Some.more.now s.task tasks rest begin s.ensures
+          c.in-Some.ensures.lexed says)),
     )
 
 pub returns-in-None : goal.returns-in-None
@@ -31,5 +33,6 @@ returns-in-None c =
     let pushed : c.push.new.self.items ≡ c.loop-number.found.items ++ s.task ∷ [] = grind arith in
     rw pushed
     (so_far (s.task ∷ []) (tokens_at after_value last.field-0.now)
-    (one_last item_depth (task_read names n) (tasks_read names (n + 1)) (tasks_read names n) (λ d ds. refl) place c.loop-number.left.now s.rest.now
+    (one_last item_depth (task_read names n) (tasks_read names (n + 1)) (tasks_read names n)
+    (λ d ds. refl) place c.loop-number.left.now s.rest.now
     last.field-0.now s.task refl begin s.ensures last.ensures.lexed))

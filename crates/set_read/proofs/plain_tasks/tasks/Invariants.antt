@@ -11,5 +11,6 @@ use Rattle.set_read.proofs.plain_tasks.tasks.Given as goal
 abbrev pub invariant-loop-number : goal.invariant-loop-number
 invariant-loop-number l =
     (place : Place) × (may_begin place ≡ true)
-    × ((tasks : List DraftTask) (rest : List Token) → SaysItems item_depth (tasks_read (names_seen l.names) l.number) (tokens_at place l.left) tasks rest
+    × ((tasks : List DraftTask) (rest : List Token) → SaysItems item_depth (tasks_read (names_seen l.names) l.number)
+    (tokens_at place l.left) tasks rest
     → SaysItems item_depth (tasks_read (names_seen l.names) 1) (tokens l.fn.bytes) (l.found.items ++ tasks) rest)

@@ -17,5 +17,6 @@ returns-in-Ok c =
       tokens_at after_value c.in_ok-found.rest.now,
       said.1,
       grind arith,
-      λ none. rw c.from_vec.ensures (whole_read-tasks w c.in-Horizon.field-0 (listed said.0) c.in_ok-found.found.items c.in-Ok.draft (ap play_seen c.in-Horizon.is) none c.in-Ok.ensures tasks),
+      λ none. rw c.from_vec.ensures (whole_read-tasks w c.in-Horizon.field-0 (listed said.0) c.in_ok-found.found.items c.in-Ok.draft
+          (ap play_seen c.in-Horizon.is) none c.in-Ok.ensures tasks),
     )
