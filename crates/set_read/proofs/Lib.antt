@@ -5,7 +5,7 @@ pub mod ShapeLaws
 pub mod ActLaws
 pub mod NumberLaws
 pub mod TokenLaws
-pub mod StepLaws
+pub mod ItemLaws
 pub mod FrontLaws
 pub mod WholeLaws
 pub mod DraftLaws
@@ -17,3 +17,4 @@ pub mod PlaceLaws
 pub mod OpenLaws
 pub mod FirstLaws
 pub mod PlainLaws
+pub mod TaskLaws

@@ -20,7 +20,7 @@ pub struct NameLists<'a> {
 }
 
 /// An operation with a name.
-fn op_named(names: &NameLists, word: &[u8], name: &str) -> Option<Op>
+pub(crate) fn op_named(names: &NameLists, word: &[u8], name: &str) -> Option<Op>
     ensures { result ≡ document.op_with (names_seen names.now) word.now (string name.now) }
 {
     match word {
@@ -31,7 +31,7 @@ fn op_named(names: &NameLists, word: &[u8], name: &str) -> Option<Op>
 }
 
 /// An operation with a number.
-fn op_counted(word: &[u8], n: u64) -> Option<Op>
+pub(crate) fn op_counted(word: &[u8], n: u64) -> Option<Op>
     ensures { (names : document.Names)
         → result ≡ document.op_with names word.now (number (unsigned n)) }
 {

@@ -96,7 +96,7 @@ pub(crate) fn steps_of(
     Ok(found)
 }
 
-fn has_shape(p: &DraftTask) -> bool
+pub(crate) fn has_shape(p: &DraftTask) -> bool
     ensures { result ≡ (is_periodic p.now.kind && not (is_empty p.now.pieces)) }
 {
     p.kind == Kind::Periodic && !p.pieces.as_slice().is_empty()

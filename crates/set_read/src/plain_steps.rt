@@ -1,12 +1,12 @@
 //! Reading an array of steps from the bytes of a document, with no token and no value made for each.
 ghost use Rattle.std.specs.Prelude.{◌≡◌, ◌∷◌, ◌<◌, ◌≤◌, Some, List, ℕ, length, IfSome};
-ghost use Rattle.json.specs.Lex.{after_value, token, tokens};
+ghost use Rattle.json.specs.Lex.{after_comma, after_value, token, tokens};
 ghost use Rattle.json.specs.Token.{string};
-ghost use Rattle.set_read.specs.Document.{bare_acts};
-ghost use Rattle.set_read.specs.Forms.{word_in};
+ghost use Rattle.set_read.specs.Document.{act_form, bare_acts, step_form};
+ghost use Rattle.set_read.specs.Forms.{every, word_in};
 ghost use Rattle.set_read.specs.Names.{names_seen};
-ghost use Rattle.set_read.specs.inside.Texts.{BeginsWith, BeginsWithArgument, BeginsWithStep, EndsStep, tokens_at};
-ghost use Rattle.set_read.specs.inside.Tokens.{SaySteps};
+ghost use Rattle.set_read.specs.inside.Texts.{BeginsWith, BeginsWithArgument, BeginsWithValue, EndsArray, tokens_at};
+ghost use Rattle.set_read.specs.inside.Tokens.{SaysItems, argument_depth, item_depth};
 
 use crate::acts::{NameLists, act_counted, act_named};
 use crate::lexemes::{after, after_blanks, number, unquoted};
@@ -45,8 +45,8 @@ fn bare(bytes: &[u8]) -> Option<(Act, &[u8])>
 
 /// An act of this word and an argument, and what stands behind it.
 fn act_with<'a>(names: &NameLists, word: &[u8], bytes: &'a [u8]) -> Option<(Act, &'a [u8])>
-    ensures says { IfSome result
-        (λ x. BeginsWithArgument (names_seen names.now) word.now x.0 bytes.now x.1.now) }
+    ensures says { IfSome result (λ x. BeginsWithArgument argument_depth
+        (act_form (names_seen names.now) word.now) x.0 bytes.now x.1.now) }
     ensures shorter { IfSome result (λ x. length x.1.now ≤ length bytes.now) }
 {
     match after_blanks(bytes) {
@@ -66,8 +66,8 @@ fn act_with<'a>(names: &NameLists, word: &[u8], bytes: &'a [u8]) -> Option<(Act,
 /// What stands of a step from its word on, and what stands behind the step.
 #[inline(always)]
 fn act<'a>(names: &NameLists, bytes: &'a [u8]) -> Option<(Act, &'a [u8])>
-    ensures says { IfSome result
-        (λ x. EndsStep (names_seen names.now) x.0 bytes.now x.1.now) }
+    ensures says { IfSome result (λ x. EndsArray argument_depth
+        (act_form (names_seen names.now)) after_comma x.0 bytes.now x.1.now) }
     ensures shorter { IfSome result (λ x. length x.1.now < length bytes.now) }
 {
     let [b'"', quoted @ ..] = after_blanks(bytes) else {
@@ -84,8 +84,8 @@ fn act<'a>(names: &NameLists, bytes: &'a [u8]) -> Option<(Act, &'a [u8])>
 /// A step, and what stands behind it.
 #[inline(always)]
 fn step<'a>(names: &NameLists, bytes: &'a [u8]) -> Option<(DraftStep, &'a [u8])>
-    ensures says { IfSome result
-        (λ x. BeginsWithStep (names_seen names.now) x.0 bytes.now x.1.now) }
+    ensures says { IfSome result (λ x. BeginsWithValue item_depth
+        (step_form (names_seen names.now)) x.0 bytes.now x.1.now) }
     ensures shorter { IfSome result (λ x. length x.1.now < length bytes.now) }
 {
     let (cpu, rest) = number(after(b'[', bytes)?)?;
@@ -104,8 +104,8 @@ pub(crate) fn steps<'a>(
     names: &NameLists,
     bytes: &'a [u8],
 ) -> Option<(Vec<DraftStep>, &'a [u8])>
-    ensures { IfSome result (λ x. SaySteps (names_seen names.now) (tokens bytes.now)
-        x.0.items (tokens_at after_value x.1.now)) }
+    ensures { IfSome result (λ x. SaysItems item_depth (every (step_form (names_seen names.now)))
+        (tokens bytes.now) x.0.items (tokens_at after_value x.1.now)) }
 {
     let mut found = Vec::with_capacity(alloc, bytes.len() / SHORTEST_STEP).ok()?;
     let mut left = bytes;

@@ -2,6 +2,8 @@
 #![tactic(auto)]
 
 #[cfg(test)]
+mod bodies;
+#[cfg(test)]
 mod canonical_texts;
 #[cfg(test)]
 mod document_laws;

@@ -2,7 +2,7 @@ use Rattle.std.proofs.Common.{◌≤◌, length, sym, ap, ◌∙◌, arith}
 use Rattle.std.proofs.lemmas.List.{drop_all}
 use Rattle.json.specs.Lex.{between, lex}
 use Rattle.set_read.proofs.PlainLaws.{end_of_text}
-use Rattle.set_read.proofs.quick.is_at_end.Goals as goal
+use Rattle.set_read.proofs.last_member.is_at_end.Goals as goal
 
 pub returns-in-Some : goal.returns-in-Some
 returns-in-Some c over =
