@@ -21,7 +21,7 @@ unfolding line_words line_text
 group_text k g links = ap (λ xs. xs ++ 10 ∷ []) (join-further 32 (codes "group") (decimal g ∷ map (link_word k) links)) ∙ simp append_assoc
 
 pub rest_text : (k : Known) (e : Entry) (links : List Link) → text_after_tick k e links
-    ≡ (32 ∷ decimal e.step.cpu.0) ++ (further 32 (act_words k e.step.act) ++ (further 32 (reply_words k e.reply) ++ (further 32 (map (link_word k) links) ++ 10 ∷ [])))
+    ≡ (32 ∷ decimal e.step.cpu.0) ++ ((further 32 (act_words k e.step.act) ++ further 32 (reply_words k e.reply)) ++ (further 32 (map (link_word k) links) ++ 10 ∷ []))
 unfolding text_after_tick
 rest_text k e links = simp (further-append, append_assoc)
 

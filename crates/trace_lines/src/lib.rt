@@ -7,6 +7,7 @@ mod format;
 mod lines;
 mod links;
 mod numbers;
+mod pairs;
 mod put;
 mod replies;
 mod tasks;

@@ -5,12 +5,11 @@ ghost use Rattle.trace_lines.specs.Known.{Known, known_in};
 ghost use Rattle.trace_lines.specs.Grammar.{line_text};
 ghost use Rattle.trace_lines.specs.EntryRest.{text_after_tick};
 
-use crate::acts::put_act;
 use crate::links::put_links;
+use crate::pairs::put_act_and_reply;
 use crate::put::{
     put, put_next_number, put_next_number_or_dash, put_next_numbers, put_next_word, put_number,
 };
-use crate::replies::put_reply;
 use crate::tasks::put_next_task;
 use crate::{CpuLink, Format};
 use rt_base::{GroupNo, NoMemory, SemNo, TaskNo};
@@ -46,8 +45,7 @@ pub(crate) fn append_after_tick(
         OnOk result (out.new.items ≡ out.old.items ++ text entry.now (links_of links.now)) }
 {
     put_next_number(out, u64::from(entry.step.cpu.0))?;
-    put_act(out, format, entry.step.act)?;
-    put_reply(out, format, entry.reply)?;
+    put_act_and_reply(out, format, entry.step.act, entry.reply)?;
     put_links(out, format, links)?;
     out.push(b'\n')?;
     Ok(())

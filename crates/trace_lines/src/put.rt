@@ -37,10 +37,11 @@ pub fn put_next_word(out: &mut Vec<u8>, word: &[u8]) -> Result<(), AllocError>
 pub fn put_next_number(out: &mut Vec<u8>, n: u64) -> Result<(), AllocError>
     ensures { OnOk result (out.new.items ≡ out.old.items ++ 32 ∷ decimal n) }
 {
-    if n < 10 {
-        return put(out, &[b' ', b'0' + n as u8]);
-    }
     out.push(b' ')?;
+    if n < 10 {
+        out.push(b'0' + n as u8)?;
+        return Ok(());
+    }
     put_number(out, n)
 }
 
