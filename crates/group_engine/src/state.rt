@@ -250,6 +250,7 @@ impl GroupState {
     }
 
     /// Lists the tasks that wait for the semaphore that the act of the processor frees, once the clock has moved.
+    #[inline(always)]
     pub(crate) fn list_waiting(&self, parts: &Parts, cpu: CpuNo, act: Act, list: &mut WaitingList)
         requires at { (at : GroupAt) × CanActOn at cpu.0 act parts.now self.now }
         requires room { length parts.now.tasks ≤ list.old.room }

@@ -86,6 +86,7 @@ impl TurnsLeft {
     }
 
     /// The act by which the turn under way goes on; none where it is over.
+    #[inline(always)]
     fn act_left(&self, setup: &Setup, engine: &Engine) -> Option<Act>
         requires setup { engine.now.setup ≡ setup.now }
         requires turns { AreTurnsOf (group_of engine.now) self.now }

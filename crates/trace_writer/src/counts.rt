@@ -20,6 +20,7 @@ use trace_text::shown_by;
 use trace_tools::{Bus, TraceTool};
 
 /// Shows the bus an entry of a group, whose step the engine has taken last.
+#[inline(always)]
 pub fn show<T: TraceTool>(
     bus: &mut Bus<T>,
     engine: &CountingEngine,
