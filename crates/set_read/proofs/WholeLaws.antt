@@ -1,5 +1,5 @@
 -- A document whose last member has other items is the same document otherwise.
-use Rattle.std.proofs.Common.{◌≡◌, ℕ, List, [], Option, Some, None, Ordering, Less, Equal, Greater, refl, ap, sym, ◌∙◌}
+use Rattle.std.proofs.Common.{◌≡◌, ℕ, List, [], Option, Some, None, Ordering, Less, Equal, Greater, refl, ap, ap₂, sym, ◌∙◌}
 use Rattle.std.specs.Prelude.{codes, ⊤, ◌&&◌, bytes_eq, false}
 use Rattle.std.proofs.lemmas.Bool.{false≢true}
 use Rattle.std.proofs.lemmas.Slice.Eq.{bytes_eq-Decides}
@@ -50,91 +50,94 @@ whole_by known plugin clusters sems resvs tasks play = do
   play ← play
   Some (record { plugin = plugin; clusters = clusters; sems = sems; resvs = resvs; tasks = tasks; play = play })
 
-module _ (was now : Items) where
-  abbrev HasSteps : Whole → Type 0
-  HasSteps w = w.play ≡ steps (listed was)
+-- a whole has the tasks and the play that it is made of, and can be made of others
+parts_of : (known : Option ⊤) (plugin : Option PluginKind) (clusters sems resvs tasks : Option (List Data)) (play : Option Play) (w : Whole)
+    → whole_by known plugin clusters sems resvs tasks play ≡ Some w
+    → (tasks ≡ Some w.tasks) × (play ≡ Some w.play)
+    × ((ts : List Data) (p : Play) → whole_by known plugin clusters sems resvs (Some ts) (Some p) ≡ Some (record w { tasks = ts; play = p }))
+parts_of (Some k) (Some n) (Some c) (Some s) (Some r) (Some t) (Some y) w e =
+    let same : record { plugin = n; clusters = c; sems = s; resvs = r; tasks = t; play = y } ≡ w = cc in (
+      ap (λ (v : Whole). Some v.tasks) same,
+      ap (λ (v : Whole). Some v.play) same,
+      λ ts p. ap (λ (v : Whole). Some (record v { tasks = ts; play = p })) same,
+    )
+parts_of k n c s r t y w e = absurd cc
 
-  abbrev HasTasks : Whole → Type 0
-  HasTasks w = w.tasks ≡ listed was
+-- the whole that a value says with these tasks and this play
+abbrev whole_with : Data → Option (List Data) → Option Play → Option Whole
+whole_with d tasks play =
+    whole_by (object_of whole_members d) (required (one_of plugins) (codes "plugin") d) (required items (codes "clusters") d)
+    (optional items [] (codes "sems") d) (optional items [] (codes "resvs") d) tasks play
 
-  other_steps : (known : Option ⊤) (plugin : Option PluginKind) (clusters sems resvs tasks : Option (List Data)) (h : Option Data) (w : Whole)
-      → whole_by known plugin clusters sems resvs tasks (play_of (Some (array was)) h) ≡ Some w
-      → (whole_by known plugin clusters sems resvs tasks (play_of (Some (array now)) h) ≡ Some (with_steps w (listed now))) × HasSteps w
-  other_steps (Some k) (Some p) (Some c) (Some s) (Some r) (Some t) None w e =
-      let same : record { plugin = p; clusters = c; sems = s; resvs = r; tasks = t; play = steps (listed was) } ≡ w = cc in
-      (ap (λ v. Some (with_steps v (listed now))) same, sym (ap (λ v. v.play) same))
-  other_steps k p c s r t h w e = absurd cc
+parts_with : (d : Data) (tasks : Option (List Data)) (play : Option Play) (w : Whole) → whole_with d tasks play ≡ Some w
+    → (tasks ≡ Some w.tasks) × (play ≡ Some w.play)
+    × ((ts : List Data) (p : Play) → whole_with d (Some ts) (Some p) ≡ Some (record w { tasks = ts; play = p }))
+parts_with d =
+    parts_of (object_of whole_members d) (required (one_of plugins) (codes "plugin") d) (required items (codes "clusters") d)
+    (optional items [] (codes "sems") d) (optional items [] (codes "resvs") d)
 
-  other_tasks : (known : Option ⊤) (plugin : Option PluginKind) (clusters sems resvs : Option (List Data)) (play : Option Play) (w : Whole)
-      → whole_by known plugin clusters sems resvs (Some (listed was)) play ≡ Some w
-      → (whole_by known plugin clusters sems resvs (Some (listed now)) play ≡ Some (with_tasks w (listed now))) × HasTasks w
-  other_tasks (Some k) (Some p) (Some c) (Some s) (Some r) (Some y) w e =
-      let same : record { plugin = p; clusters = c; sems = s; resvs = r; tasks = listed was; play = y } ≡ w = cc in
-      (ap (λ v. Some (with_tasks v (listed now))) same, sym (ap (λ v. v.tasks) same))
-  other_tasks k p c s r y w e = absurd cc
+module _ (was now : Items) (ms : Members) where
+  abbrev put_was : List ℕ → Data
+  put_was key = object (put key (array was) ms)
 
-  abbrev by_steps : Data → Option Data → Option Whole
-  by_steps d s =
-      whole_by (object_of whole_members d) (required (one_of plugins) (codes "plugin") d) (required items (codes "clusters") d)
-      (optional items [] (codes "sems") d) (optional items [] (codes "resvs") d) (optional items [] (codes "tasks") d)
-      (play_of s (get (codes "horizon") d))
+  abbrev put_now : List ℕ → Data
+  put_now key = object (put key (array now) ms)
+
+  abbrev Differs : List ℕ → List ℕ → Type 0
+  Differs key k = bytes_eq k key ≡ false
+
+  -- with other items put at the key, a member of another key is as before
+  kept : (key k : List ℕ) → Differs key k → get k (put_now key) ≡ get k (put_was key)
+  kept key k differ = unchanged key k (array now) (array was) ms differ
+
+  whole_with-put : (key : List ℕ) (tasks : Option (List Data)) (play : Option Play) → Differs key (codes "plugin")
+      → Differs key (codes "clusters") → Differs key (codes "sems") → Differs key (codes "resvs")
+      → whole_with (put_now key) tasks play ≡ whole_with (put_was key) tasks play
+  whole_with-put key tasks play plugin clusters sems resvs =
+      let words = all_among-put whole_members key (array now) (array was) ms in
+      let plugins_kept = kept key (codes "plugin") plugin in
+      let clusters_kept = kept key (codes "clusters") clusters in
+      let sems_kept = kept key (codes "sems") sems in
+      let resvs_kept = kept key (codes "resvs") resvs in
+      λ i. whole_by (when (words i)) (plugins_kept i >>= one_of plugins) (clusters_kept i >>= items) (form_or items [] (sems_kept i))
+      (form_or items [] (resvs_kept i)) tasks play
+
+  other_steps : (h : Option Data) (play : Play) → play_of (Some (array was)) h ≡ Some play
+      → (play_of (Some (array now)) h ≡ Some (steps (listed now))) × (play ≡ steps (listed was))
+  other_steps None play e = (refl, cc)
+  other_steps (Some h) play e = absurd cc
 
   -- with other steps put at their name, the rest is as before
-  pub whole_of-steps : (ms : Members) (w : Whole) → whole_of (object (put (codes "steps") (array was) ms)) ≡ Some w
-      → (whole_of (object (put (codes "steps") (array now) ms)) ≡ Some (with_steps w (listed now))) × HasSteps w
+  pub whole_of-steps : (w : Whole) → whole_of (put_was (codes "steps")) ≡ Some w
+      → (whole_of (put_now (codes "steps")) ≡ Some (with_steps w (listed now))) × (w.play ≡ steps (listed was))
   unfolding whole_of
-  whole_of-steps ms w e =
+  whole_of-steps w e =
       let key = codes "steps" in
-      let words = all_among-put whole_members key (array now) (array was) ms in
-      let same = λ (k : List ℕ) (differ : bytes_eq k key ≡ false). unchanged key k (array now) (array was) ms differ in
-      let plugin = same (codes "plugin") refl in
-      let clusters = same (codes "clusters") refl in
-      let sems = same (codes "sems") refl in
-      let resvs = same (codes "resvs") refl in
-      let tasks = same (codes "tasks") refl in
-      let horizon = same (codes "horizon") refl in
-      let d = object (put key (array was) ms) in
-      let given : by_steps d (Some (array was)) ≡ Some w = sym (ap (by_steps d) (get_member-put key (array was) ms)) ∙ e in
-      let moved =
-      other_steps (object_of whole_members d) (required (one_of plugins) (codes "plugin") d) (required items (codes "clusters") d)
-      (optional items [] (codes "sems") d) (optional items [] (codes "resvs") d) (optional items [] (codes "tasks") d)
-      (get (codes "horizon") d) w given in (
-        (λ i. whole_by (when (words i)) (plugin i >>= one_of plugins) (clusters i >>= items) (form_or items [] (sems i))
-            (form_or items [] (resvs i))
-            (form_or items [] (tasks i)) (play_of (get_member-put key (array now) ms i) (horizon i)))
-            ∙ moved.0,
-        moved.1,
+      let d = put_was key in
+      let (tasks, play, more) = parts_with d _ _ w e in
+      let others = other_steps (get (codes "horizon") d) w.play
+      (ap (λ s. play_of s (get (codes "horizon") d)) (sym (get_member-put key (array was) ms)) ∙ play) in
+      let tasks_kept = kept key (codes "tasks") refl in
+      let horizon_kept = kept key (codes "horizon") refl in (
+        whole_with-put key _ _ refl refl refl refl
+            ∙ (λ i. whole_with d (form_or items [] (tasks_kept i)) (play_of (get_member-put key (array now) ms i) (horizon_kept i)))
+            ∙ ap₂ (whole_with d) tasks others.0 ∙ more w.tasks (steps (listed now)),
+        others.1,
       )
 
-  abbrev by_tasks : Data → Option Data → Option Whole
-  by_tasks d t =
-      whole_by (object_of whole_members d) (required (one_of plugins) (codes "plugin") d) (required items (codes "clusters") d)
-      (optional items [] (codes "sems") d) (optional items [] (codes "resvs") d) (form_or items [] t)
-      (play_of (get (codes "steps") d) (get (codes "horizon") d))
-
   -- the same of other tasks
-  pub whole_of-tasks : (ms : Members) (w : Whole) → whole_of (object (put (codes "tasks") (array was) ms)) ≡ Some w
-      → (whole_of (object (put (codes "tasks") (array now) ms)) ≡ Some (with_tasks w (listed now))) × HasTasks w
+  pub whole_of-tasks : (w : Whole) → whole_of (put_was (codes "tasks")) ≡ Some w
+      → (whole_of (put_now (codes "tasks")) ≡ Some (with_tasks w (listed now))) × (w.tasks ≡ listed was)
   unfolding whole_of
-  whole_of-tasks ms w e =
+  whole_of-tasks w e =
       let key = codes "tasks" in
-      let words = all_among-put whole_members key (array now) (array was) ms in
-      let same = λ (k : List ℕ) (differ : bytes_eq k key ≡ false). unchanged key k (array now) (array was) ms differ in
-      let plugin = same (codes "plugin") refl in
-      let clusters = same (codes "clusters") refl in
-      let sems = same (codes "sems") refl in
-      let resvs = same (codes "resvs") refl in
-      let steps = same (codes "steps") refl in
-      let horizon = same (codes "horizon") refl in
-      let d = object (put key (array was) ms) in
-      let given : by_tasks d (Some (array was)) ≡ Some w = sym (ap (by_tasks d) (get_member-put key (array was) ms)) ∙ e in
-      let moved =
-      other_tasks (object_of whole_members d) (required (one_of plugins) (codes "plugin") d) (required items (codes "clusters") d)
-      (optional items [] (codes "sems") d) (optional items [] (codes "resvs") d)
-      (play_of (get (codes "steps") d) (get (codes "horizon") d)) w given in (
-        (λ i. whole_by (when (words i)) (plugin i >>= one_of plugins) (clusters i >>= items) (form_or items [] (sems i))
-            (form_or items [] (resvs i))
-            (form_or items [] (get_member-put key (array now) ms i)) (play_of (steps i) (horizon i)))
-            ∙ moved.0,
-        moved.1,
+      let d = put_was key in
+      let (tasks, play, more) = parts_with d _ _ w e in
+      let same : Some (listed was) ≡ Some w.tasks = ap (form_or items []) (sym (get_member-put key (array was) ms)) ∙ tasks in
+      let steps_kept = kept key (codes "steps") refl in
+      let horizon_kept = kept key (codes "horizon") refl in (
+        whole_with-put key _ _ refl refl refl refl
+            ∙ (λ i. whole_with d (form_or items [] (get_member-put key (array now) ms i)) (play_of (steps_kept i) (horizon_kept i)))
+            ∙ ap (whole_with d (Some (listed now))) play ∙ more (listed now) w.play,
+        cc,
       )

@@ -2,8 +2,6 @@
 #![tactic(auto)]
 
 #[cfg(test)]
-mod bodies;
-#[cfg(test)]
 mod canonical_texts;
 #[cfg(test)]
 mod document_laws;
