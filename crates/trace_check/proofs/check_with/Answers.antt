@@ -12,7 +12,7 @@ use Rattle.trace_check.specs.Counts.{HasCounts, IsCountedText}
 use Rattle.trace_check.specs.inside.Judging.{IsJudgedText, IsShownText}
 use Rattle.trace_check.proofs.HeadText.{canonical-begins, canonical-head}
 use Rattle.trace_check.proofs.Judged.{not-canonical}
-use Rattle.trace_check.proofs.check_counted.Goals as goal
+use Rattle.trace_check.proofs.check_with.Goals as goal
 
 pub has_head-requires : goal.has_head-requires
 has_head-requires g c = λ yes.
