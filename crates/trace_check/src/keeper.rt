@@ -1,5 +1,5 @@
 //! What is kept of the groups of a text as they are followed.
-ghost use Rattle.std.specs.Prelude.{◌≡◌, ◌×◌, ◌++◌, ◌∷◌, [], List, OnOk, length, ⊤};
+ghost use Rattle.std.specs.Prelude.{◌≡◌, ◌++◌, ◌∷◌, [], List, OnOk, length, ⊤};
 ghost use Rattle.rt_task.specs.declared.Parts.{Parts};
 ghost use Rattle.rt_rules.specs.declared.history.Entry as entries;
 ghost use Rattle.trace_laws.specs.PlayedGroups.{groups_from};
