@@ -148,17 +148,21 @@ module _ (v : Version) (p : Parts) (text : List ℕ) where
       by_lines (b ∷ bs) other = other
 
   -- before all groups
-  pub right-first : (opened : List Counter) → AreRight v p text 0 (record { lines = 0; entries = 0; length = 0 }) opened opened
-  right-first opened = record {
-    histories = [];
-    plays = tt;
-    count = refl;
-    position_is = refl;
-    within = omega arith;
-    text_is = refl;
-    entries_are = refl;
-    shown = refl;
-    closed = λ front es none. absurd (omega (arith, ap length none, length-append front (es ∷ [])));
+  pub right-first : (opened : List Counter) (holds : List (List Entry) → List Entry → Type 0) → holds [] []
+      → AreKept v p text 0 (record { lines = 0; entries = 0; length = 0 }) opened opened (Between holds)
+  right-first opened holds none = record {
+    right = record {
+      histories = [];
+      plays = tt;
+      count = refl;
+      position_is = refl;
+      within = omega arith;
+      text_is = refl;
+      entries_are = refl;
+      shown = refl;
+      closed = λ front es same. absurd (omega (arith, ap length same, length-append front (es ∷ [])));
+    };
+    kept = none;
   }
 
   -- ---- the line of a group

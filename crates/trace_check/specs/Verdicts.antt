@@ -1,12 +1,10 @@
 -- What is said of a text whose first line names a format and whose second line says a set, where these tools count.
 use Rattle.std.specs.Prelude.{◌≡◌, ℕ, ◌+◌, ◌≤◌, List, map}
 use Rattle.rt_task.specs.declared.Parts.{Parts}
-use Rattle.rt_plays.specs.Groups.{GroupHistory}
 use Rattle.trace_lines.specs.declared.format.Version.{Version}
 use Rattle.trace_tools.specs.Counters.{Counter, counter_of, counters_after}
 use Rattle.trace_tools.specs.Tools.{Tool}
 use Rattle.trace_text.specs.CountLines.{shown_from}
-use Rattle.trace_text.specs.Groups.{AreGroupsOf, histories}
 use Rattle.trace_laws.specs.ValidTexts.{IsValidText, IsBegun}
 use Rattle.trace_check.specs.declared.verdict.Verdict.{Verdict}
 use Rattle.trace_check.specs.declared.verdict.Verdict.TheVariants.{Valid, Invalid}
@@ -29,9 +27,3 @@ abbrev pub HasShown : List Tool → Version → Parts → List ℕ → List Coun
 HasShown tools version p text counters (Valid entries) =
     (is : IsValidText tools version p text entries) → counters ≡ counters_after (shown_from p 0 is.histories) (map counter_of tools)
 HasShown tools version p text counters (Invalid line) = Unit {0}
-
--- these are the groups of its set with the histories of the text, where that is valid
-abbrev pub HasGroups : List Tool → Version → Parts → List ℕ → List GroupHistory → Verdict → Type 0
-HasGroups tools version p text groups (Valid entries) =
-    (is : IsValidText tools version p text entries) → AreGroupsOf p groups × (histories groups ≡ is.histories)
-HasGroups tools version p text groups (Invalid line) = Unit {0}

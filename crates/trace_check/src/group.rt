@@ -182,6 +182,14 @@ pub(crate) fn follow_group<T: TraceTool, K: Keeper>(
 {
     let mut follow = Follow::open(alloc, setup, group)?;
     follow_lines(
-        version, setup, group, &mut follow, text, from, line, bus, keeper,
+        version,
+        setup,
+        group,
+        &mut follow,
+        text,
+        from,
+        line,
+        bus,
+        keeper,
     )
 }

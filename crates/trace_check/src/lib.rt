@@ -9,7 +9,8 @@ ghost use Rattle.trace_tools.specs.Counters.{counter_of};
 ghost use Rattle.trace_tools.specs.Tools.{Tool};
 ghost use Rattle.trace_read.specs.Reads.{IsHeadOf};
 ghost use Rattle.trace_check.specs.Counts.{HasCounts};
-ghost use Rattle.trace_check.specs.Verdicts.{HasGroups, HasShown, IsVerdict};
+ghost use Rattle.trace_check.specs.Groups.{HasGroups};
+ghost use Rattle.trace_check.specs.Verdicts.{HasShown, IsVerdict};
 ghost use Rattle.trace_check.specs.inside.Keeping.{Between, HasKept};
 
 mod behind;
