@@ -47,7 +47,7 @@ use Rattle.trace_course.specs.Followed.{GroupEntries}
 use Rattle.trace_check.specs.inside.GroupLines.{ArePlaysFrom, IsOtherLine, NoEntryBegins, NoEntryBehind, NoEntryFirst, lines_of_groups, lines_so_far, next_line, opening_line}
 use Rattle.trace_check.specs.Counts.{IsCountedText}
 use Rattle.trace_check.specs.inside.Judging.{IsJudged, IsJudgedText, IsShownText, IsTextOfPlays, verdict_behind}
-use Rattle.trace_check.specs.inside.Keeping.{BeforeLast, Between}
+use Rattle.trace_check.specs.inside.Keeping.{BeforeLast, Between, Keeping}
 use Rattle.trace_check.specs.inside.Progress.{AreAllRight, AreKept, AreRight, IsEndedAt, IsFollowedTo, IsRight, finished, missing, unfinished}
 use Rattle.trace_check.specs.LinesAlike.{lines_alike}
 use Rattle.trace_check.specs.inside.RequestLines.{HaveStood}
@@ -126,7 +126,7 @@ module _ (v : Version) (p : Parts) (text : List ℕ) where
   k = known_of v p
 
   -- where they were followed to
-  abbrev pub position_at : {n : ℕ} → {from : Progress} → {size : ℕ} → {f : Follow} → {opened was counters : List Counter} → {holds : List (List Entry) → List Entry → Type 0} → IsRight v p text n from size f opened was counters holds → GroupEntries
+  abbrev pub position_at : {n : ℕ} → {from : Progress} → {size : ℕ} → {f : Follow} → {opened was counters : List Counter} → {holds : Keeping} → IsRight v p text n from size f opened was counters holds → GroupEntries
   position_at {n = n} right = record { group = group_with p n; entries = right.entries }
 
   right-stands : {n : ℕ} → {r : Progress} → {opened counters : List Counter} → (right : AreRight v p text n r opened counters) → StandFirst k text (lines_of_groups p 0 right.histories) r.length
@@ -148,7 +148,7 @@ module _ (v : Version) (p : Parts) (text : List ℕ) where
       by_lines (b ∷ bs) other = other
 
   -- before all groups
-  pub right-first : (opened : List Counter) (holds : List (List Entry) → List Entry → Type 0) → holds [] []
+  pub right-first : (opened : List Counter) (holds : Keeping) → holds [] []
       → AreKept v p text 0 (record { lines = 0; entries = 0; length = 0 }) opened opened (Between holds)
   right-first opened holds none = record {
     right = record {
@@ -193,7 +193,7 @@ module _ (v : Version) (p : Parts) (text : List ℕ) where
         none_next l more here (inr next) = omega (arith, next.all, low, right.count)
 
     -- it is
-    pub opened-right : {holds : List (List Entry) → List Entry → Type 0} → (f : Follow) (line : List ℕ) → Between holds right.histories → IsFollowing (group_with p n) [] f → line ≡ line_text k (group_line n (links_of f.links.links.items)) → drop r.length text ≡ line ++ drop (length line) (drop r.length text)
+    pub opened-right : {holds : Keeping} → (f : Follow) (line : List ℕ) → Between holds right.histories → IsFollowing (group_with p n) [] f → line ≡ line_text k (group_line n (links_of f.links.links.items)) → drop r.length text ≡ line ++ drop (length line) (drop r.length text)
         → IsRight v p text n r (r.length + length line) f opened was was holds
     opened-right f line kept following is begins =
         let g : Group = group_with p n in
@@ -217,10 +217,10 @@ module _ (v : Version) (p : Parts) (text : List ℕ) where
   -- ---- lines of entries
 
   -- they were followed by the set
-  pub followed-with : {n : ℕ} → {from : Progress} → {size : ℕ} → {f : Follow} → {opened was counters : List Counter} → {holds : List (List Entry) → List Entry → Type 0} → (right : IsRight v p text n from size f opened was counters holds) → IsFollowingWith (position_at right) p f
+  pub followed-with : {n : ℕ} → {from : Progress} → {size : ℕ} → {f : Follow} → {opened was counters : List Counter} → {holds : Keeping} → (right : IsRight v p text n from size f opened was counters holds) → IsFollowingWith (position_at right) p f
   followed-with right = record { following = right.following; setup_is = refl }
 
-  module _ (n : ℕ) (from : Progress) (size : ℕ) (f : Follow) (opened was counters : List Counter) {holds : List (List Entry) → List Entry → Type 0} (right : IsRight v p text n from size f opened was counters holds) where
+  module _ (n : ℕ) (from : Progress) (size : ℕ) (f : Follow) (opened was counters : List Counter) {holds : Keeping} (right : IsRight v p text n from size f opened was counters holds) where
     abbrev g : Group
     g = group_with p n
 
@@ -250,7 +250,7 @@ module _ (v : Version) (p : Parts) (text : List ℕ) where
     position-short = omega (arith, right.position_is, lines-short k front, size-is k text front size stands)
 
     -- the next entry is followed
-    pub taken-right : {later : List (List Entry) → List Entry → Type 0} → (line : List ℕ) (e : Entry) (f' : Follow) (counters' : List Counter) → IsTaken (position_at right) v rest line e f'
+    pub taken-right : {later : Keeping} → (line : List ℕ) (e : Entry) (f' : Follow) (counters' : List Counter) → IsTaken (position_at right) v rest line e f'
         → counters' ≡ map (counter_after (shown_as g f.count e (past_of g (es ++ e ∷ [])))) counters → later done (es ++ e ∷ []) → IsRight v p text n from (size + length line) f' opened was counters' later
     taken-right line e f' counters' taken fed kept = record {
       before = right.before;
@@ -524,7 +524,8 @@ module _ (v : Version) (p : Parts) (text : List ℕ) where
       -- and is of these plays then
       pub end-said : (tools : List Tool) (verdict : Verdict) → IsTextOfPlays tools v p text hs verdict
       end-said tools (Invalid line) bytes head = tt
-      end-said tools (Valid m) bytes head = λ is. same-histories tools v p all.valid bytes hs plays_all behind_end (head-all tools bytes head) m is
+      end-said tools (Valid m) bytes head = λ is.
+          same-histories tools v p all.valid bytes hs plays_all behind_end (head-all tools bytes head) m is
 
       -- whether count lines stand behind it
       pub end-counted : (tools : List Tool) (wanted : List ℕ) (verdict : Verdict) (counted : Bool) → opened ≡ map counter_of tools → ((known : Known) → wanted ≡ texts known (map counter_line counters))

@@ -16,18 +16,19 @@ use Rattle.trace_check.specs.declared.verdict.Verdict.TheVariants.{Valid, Invali
 use Rattle.trace_check.specs.Groups.{HasGroups}
 use Rattle.trace_check.specs.inside.GroupLines.{ArePlaysFrom}
 use Rattle.trace_check.specs.inside.Judging.{IsTextOfPlays}
-use Rattle.trace_check.specs.inside.Keeping.{BeforeLast, Between, CanClose, HasKept, IsKeptText}
+use Rattle.trace_check.specs.inside.Keeping.{BeforeLast, Between, CanClose, HasKept, IsKeptText, Keeping}
 use Rattle.trace_check.specs.inside.Progress.{AreKept}
 
 -- the last of plays is a play of the group with its number
-last-play : (p : Parts) (n : ℕ) (front : List (List Entry)) (es : List Entry) → ArePlaysFrom p n (front ++ es ∷ []) → IsPlay (group_with p (n + length front)) es
+last-play : (p : Parts) (n : ℕ) (front : List (List Entry)) (es : List Entry)
+    → ArePlaysFrom p n (front ++ es ∷ []) → IsPlay (group_with p (n + length front)) es
 last-play p n [] es plays = let here : n ≡ n + 0 = omega arith in subst (λ (m : ℕ). IsPlay (group_with p m) es) here plays.0
 last-play p n (xs ∷ front) es plays =
     let next : n + 1 + length front ≡ n + length (xs ∷ front) = omega arith in
     subst (λ (m : ℕ). IsPlay (group_with p m) es) next (last-play p (n + 1) front es plays.1)
 
 module _ (v : Version) (p : Parts) (text : List ℕ) where
-  module _ (n : ℕ) (r : Progress) {opened counters : List Counter} {holds : List (List Entry) → List Entry → Type 0} where
+  module _ (n : ℕ) (r : Progress) {opened counters : List Counter} {holds : Keeping} where
     last-number : (kept : AreKept v p text (n + 1) r opened counters (BeforeLast holds)) → length kept.kept.front ≡ n
     last-number kept = omega (arith, kept.right.count, ap length kept.kept.histories_are, length-append kept.kept.front (kept.kept.last ∷ []))
 
@@ -45,7 +46,7 @@ module _ (v : Version) (p : Parts) (text : List ℕ) where
         }
 
     -- and once it is closed, none is open
-    pub kept-closed : (later : List (List Entry) → List Entry → Type 0) → AreKept v p text (n + 1) r opened counters (BeforeLast holds)
+    pub kept-closed : (later : Keeping) → AreKept v p text (n + 1) r opened counters (BeforeLast holds)
         → ((hs : List (List Entry)) (es : List Entry) → holds hs es → length hs ≡ n → later (hs ++ es ∷ []) []) → AreKept v p text (n + 1) r opened counters (Between later)
     kept-closed later kept closed = record {
       right = kept.right;
@@ -53,18 +54,18 @@ module _ (v : Version) (p : Parts) (text : List ℕ) where
     }
 
 -- what is kept of its plays is kept of the text
-kept-of : (tools : List Tool) (v : Version) (p : Parts) (bytes : List ℕ) (holds : List (List Entry) → Type 0) (hs : List (List Entry)) (verdict : Verdict) → holds hs → HasKept tools v p bytes (λ told. hs ≡ told) verdict
-    → HasKept tools v p bytes holds verdict
+kept-of : (tools : List Tool) (v : Version) (p : Parts) (bytes : List ℕ) (holds : List (List Entry) → Type 0) (hs : List (List Entry)) (verdict : Verdict)
+    → holds hs → HasKept tools v p bytes (λ told. hs ≡ told) verdict → HasKept tools v p bytes holds verdict
 kept-of tools v p bytes holds hs (Valid entries) kept same = λ is. subst holds (same is) kept
 kept-of tools v p bytes holds hs (Invalid line) kept same = tt
 
-pub kept-text : (tools : List Tool) (v : Version) (p : Parts) (text : List ℕ) (holds : List (List Entry) → Type 0) (hs : List (List Entry)) (verdict : Verdict) → holds hs → IsTextOfPlays tools v p text hs verdict
-    → IsKeptText tools v p text holds verdict
+pub kept-text : (tools : List Tool) (v : Version) (p : Parts) (text : List ℕ) (holds : List (List Entry) → Type 0) (hs : List (List Entry)) (verdict : Verdict)
+    → holds hs → IsTextOfPlays tools v p text hs verdict → IsKeptText tools v p text holds verdict
 kept-text tools v p text holds hs verdict kept same = λ bytes head. kept-of tools v p bytes holds hs verdict kept (same bytes head)
 
 -- and the groups that are kept are those of the text
-pub kept-groups : (tools : List Tool) (v : Version) (p : Parts) (bytes : List ℕ) (groups : List GroupHistory) (entries : List Entry) (verdict : Verdict) → IsValid p
-    → HasKept tools v p bytes (λ hs. (groups ≡ groups_from p 0 hs) × (entries ≡ [])) verdict → HasGroups tools v p bytes groups verdict
+pub kept-groups : (tools : List Tool) (v : Version) (p : Parts) (bytes : List ℕ) (groups : List GroupHistory) (entries : List Entry) (verdict : Verdict)
+    → IsValid p → HasKept tools v p bytes (λ hs. (groups ≡ groups_from p 0 hs) × (entries ≡ [])) verdict → HasGroups tools v p bytes groups verdict
 kept-groups tools v p bytes groups entries (Valid n) valid kept = λ is.
     let said : groups ≡ groups_from p 0 is.histories = (kept is).0 in
     (said-all p valid is.histories is.plays groups said, said-histories p valid is.histories is.plays groups said)

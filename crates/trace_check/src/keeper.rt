@@ -3,7 +3,7 @@ ghost use Rattle.std.specs.Prelude.{◌≡◌, ◌++◌, ◌∷◌, [], List, On
 ghost use Rattle.rt_task.specs.declared.Parts.{Parts};
 ghost use Rattle.rt_rules.specs.declared.history.Entry as entries;
 ghost use Rattle.trace_laws.specs.PlayedGroups.{groups_from};
-ghost use Rattle.trace_check.specs.inside.Keeping.{CanClose};
+ghost use Rattle.trace_check.specs.inside.Keeping.{CanClose, Keeping};
 
 use rt_base::{GroupNo, NoMemory};
 use rt_rules::Entry;
@@ -15,7 +15,7 @@ use trace_text::PlayedGroup;
 /// Is given each entry of a text that is right, and told where a group ends.
 pub(crate) trait Keeper {
     /// What is kept once whole groups were followed with these histories, and these entries of the next.
-    ghost holds: { Self → Parts → List (List entries.Entry) → List entries.Entry → Type 0 };
+    ghost holds: { Self → Parts → Keeping };
 
     /// Keeps the next entry of the group that is followed.
     fn keep(&mut self, entry: Entry) -> Result<(), NoMemory>

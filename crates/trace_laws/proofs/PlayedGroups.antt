@@ -15,7 +15,8 @@ use Rattle.trace_laws.specs.PlayedGroups.{full_group, groups_from}
 use Rattle.trace_laws.proofs.Plays.{begun-legal, begun-steps, begun-whole, few-entries}
 
 -- one group more
-pub groups-more : (p : Parts) (n : ℕ) (hs : List (List Entry)) (es : List Entry) → groups_from p n (hs ++ es ∷ []) ≡ groups_from p n hs ++ full_group p (n + length hs) es ∷ []
+pub groups-more : (p : Parts) (n : ℕ) (hs : List (List Entry)) (es : List Entry)
+    → groups_from p n (hs ++ es ∷ []) ≡ groups_from p n hs ++ full_group p (n + length hs) es ∷ []
 groups-more p n [] es = let same : n ≡ n + 0 = omega arith in ap (λ (m : ℕ). full_group p m es ∷ []) same
 groups-more p n (xs ∷ hs) es =
     let next : n + 1 + length hs ≡ n + suc (length hs) = omega arith in

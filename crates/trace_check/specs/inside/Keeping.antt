@@ -12,19 +12,23 @@ use Rattle.trace_laws.specs.ValidTexts.{IsValidText}
 use Rattle.trace_check.specs.declared.verdict.Verdict.{Verdict}
 use Rattle.trace_check.specs.declared.verdict.Verdict.TheVariants.{Valid, Invalid}
 
+-- what is kept once whole groups were followed with these histories, and these entries of the next
+abbrev pub Keeping : Type 1
+Keeping = List (List Entry) → List Entry → Type 0
+
 -- with no group open
-abbrev pub Between : (List (List Entry) → List Entry → Type 0) → List (List Entry) → Type 0
+abbrev pub Between : Keeping → List (List Entry) → Type 0
 Between holds hs = holds hs []
 
 -- with the last group still open
-pub record BeforeLast (holds : List (List Entry) → List Entry → Type 0) (hs : List (List Entry)) : Type 0 where
+pub record BeforeLast (holds : Keeping) (hs : List (List Entry)) : Type 0 where
   pub front : List (List Entry)
   pub last : List Entry
   pub histories_are : hs ≡ front ++ last ∷ []
   pub kept : holds front last
 
 -- the group with this number is open, and has the entries of a history that can be replayed
-pub record CanClose (holds : List (List Entry) → List Entry → Type 0) (p : Parts) (n : ℕ) : Type 0 where
+pub record CanClose (holds : Keeping) (p : Parts) (n : ℕ) : Type 0 where
   pub front : List (List Entry)
   pub last : List Entry
   pub kept : holds front last

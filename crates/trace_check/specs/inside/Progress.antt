@@ -25,7 +25,7 @@ use Rattle.trace_course.specs.Followed.{GroupEntries}
 use Rattle.trace_check.specs.inside.Following.{IsFollowing}
 use Rattle.trace_check.specs.inside.GroupLines.{ArePlaysFrom, NoEntryBegins, NoEntryBehind, lines_of_groups, lines_so_far}
 use Rattle.trace_check.specs.inside.Judging.{IsJudged}
-use Rattle.trace_check.specs.inside.Keeping.{BeforeLast}
+use Rattle.trace_check.specs.inside.Keeping.{BeforeLast, Keeping}
 use Rattle.trace_check.specs.inside.RequestLines.{HaveStood}
 
 -- the lines of the requests of the entries that were followed
@@ -63,13 +63,13 @@ pub record AreKept (v : Version) (p : Parts) (text : List ℕ) (n : ℕ) (r : Pr
   pub kept : holds right.histories
 
 -- what comes of following the lines of group n, behind those of the groups before it
-abbrev pub IsFollowedTo : Version → Parts → List ℕ → ℕ → List Counter → List Counter → (List (List Entry) → List Entry → Type 0) → Followed → Type 0
+abbrev pub IsFollowedTo : Version → Parts → List ℕ → ℕ → List Counter → List Counter → Keeping → Followed → Type 0
 IsFollowedTo v p text n opened counters holds (Whole r) = AreKept v p text (n + 1) r opened counters (BeforeLast holds)
 IsFollowedTo v p text n opened counters holds (Wrong position) = IsJudged v p text (Invalid (position + 3))
 
 -- so much of the text is the lines of whole groups and of the entries of group n that were followed, which were shown and kept too
 pub record IsRight (v : Version) (p : Parts) (text : List ℕ) (n : ℕ) (from : Progress) (size : ℕ) (f : Follow)
-    (opened was counters : List Counter) (holds : List (List Entry) → List Entry → Type 0) : Type 0 where
+    (opened was counters : List Counter) (holds : Keeping) : Type 0 where
   pub before : AreRight v p text n from opened was
   pub entries : List Entry
   pub shown : counters ≡ counters_after (shown_entries (group_with p n) 0 [] entries) was
@@ -82,7 +82,7 @@ pub record IsRight (v : Version) (p : Parts) (text : List ℕ) (n : ℕ) (from :
 
 -- what comes of following the entry lines of group n
 abbrev pub AreFollowed : Version → Parts → List ℕ → ℕ → Progress → Follow → List Counter → List Counter → List Counter
-    → (List (List Entry) → List Entry → Type 0) → Entries → Type 0
+    → Keeping → Entries → Type 0
 AreFollowed v p text n from f opened was counters holds (Right size) =
     IsRight v p text n from size f opened was counters holds × NoEntryBegins (known_of v p) (drop size text)
 AreFollowed v p text n from f opened was counters holds (WrongAfter count) = IsJudged v p text (Invalid (from.lines + 1 + count + 3))

@@ -1,4 +1,4 @@
-use Rattle.std.proofs.Common.{false, ◌≡◌, ◌+◌, ℕ, List, map, sym, subst, arith}
+use Rattle.std.proofs.Common.{false, ◌≡◌, ◌+◌, ◌<◌, ℕ, List, map, sym, subst, arith}
 use Rattle.std.proofs.lemmas.Result.{IfOk-weaker}
 use Rattle.rt_task.specs.declared.Parts.{Parts}
 use Rattle.rt_plays.specs.Plays.{group_count}
@@ -7,7 +7,6 @@ use Rattle.trace_lines.specs.declared.format.Version.{Version}
 use Rattle.trace_tools.specs.BusCounters.{counters}
 use Rattle.trace_tools.specs.Counters.{Counter, counter_of}
 use Rattle.trace_tools.specs.Tools.{Tool}
-use Rattle.trace_check.specs.declared.progress.Followed.{Followed}
 use Rattle.trace_check.specs.declared.verdict.Checked.{Checked}
 use Rattle.trace_check.specs.declared.verdict.Verdict.TheVariants.{Invalid}
 use Rattle.trace_check.specs.Counts.{IsCountedText}
@@ -19,7 +18,9 @@ use Rattle.trace_check.proofs.Keeping.{can-close, kept-closed, kept-text}
 use Rattle.trace_check.proofs.judge.judge_text.Goals as goal
 
 pub loop-n-init : goal.loop-n-init
-loop-n-init g c = right-first c.args.version c.args.setup.now c.args.text.now (counters g.T.TraceTool.tool c.args.bus.now) (g.K.Keeper.holds c.args.keeper.now c.args.setup.now) c.requires
+loop-n-init g c =
+    right-first c.args.version c.args.setup.now c.args.text.now (counters g.T.TraceTool.tool c.args.bus.now)
+    (g.K.Keeper.holds c.args.keeper.now c.args.setup.now) c.requires
 
 pub follow_group-requires : goal.follow_group-requires
 follow_group-requires g c = record {
@@ -33,11 +34,12 @@ returns-in-Wrong-clause-judged g c =
     let p = c.args.setup.now in
     let text = c.args.text.now in
     let first = counters g.T.TraceTool.tool c.args.bus.now in
-    let followed = subst (λ (f : Followed). (opened : List Counter) → AreKept v p text c.loop-n.n c.loop-n.right opened (counters g.T.TraceTool.tool c.loop-n.bus) (Between (g.K.Keeper.holds c.loop-n.keeper p)) → IsFollowedTo v p text c.loop-n.n opened (counters g.T.TraceTool.tool c.follow_group.new.bus) (g.K.Keeper.holds c.follow_group.new.keeper p) f) c.in-Wrong.is c.in_ok-further.ensures in
-    let judged = followed first c.loop-n.invariant in
+    let last = counters g.T.TraceTool.tool c.follow_group.new.bus in
+    let holds = g.K.Keeper.holds c.follow_group.new.keeper p in
+    let followed = subst (IsFollowedTo v p text c.loop-n.n first last holds) c.in-Wrong.is (c.in_ok-further.ensures first c.loop-n.invariant) in
     IfOk-weaker c.wrong.result (λ (x : Checked). x ≡ record { verdict = Invalid (c.in-Wrong.position + 3); counted = false })
     (λ (x : Checked). (tools : List Tool) → first ≡ map counter_of tools → IsJudgedText tools v p text x.verdict)
-    (λ x is tools opened. subst (λ (y : Checked). IsJudgedText tools v p text y.verdict) (sym is) (judged tools))
+    (λ x is tools opened. subst (λ (y : Checked). IsJudgedText tools v p text y.verdict) (sym is) (followed tools))
     c.wrong.ensures
 
 pub returns-in-Wrong-clause-counted : goal.returns-in-Wrong-clause-counted
@@ -80,16 +82,23 @@ close-requires g c =
     let v = c.args.version in
     let p = c.args.setup.now in
     let text = c.args.text.now in
-    let followed = subst (λ (f : Followed). (opened : List Counter) → AreKept v p text c.loop-n.n c.loop-n.right opened (counters g.T.TraceTool.tool c.loop-n.bus) (Between (g.K.Keeper.holds c.loop-n.keeper p)) → IsFollowedTo v p text c.loop-n.n opened (counters g.T.TraceTool.tool c.follow_group.new.bus) (g.K.Keeper.holds c.follow_group.new.keeper p) f) c.in-Whole.is c.in_ok-further.ensures in
-    can-close v p text c.loop-n.n c.in-Whole.further c.parts-parts.ensures.valid (omega (arith, c.loop-n-test.true, c.count_groups-n-end.ensures)) (followed (counters g.T.TraceTool.tool c.args.bus.now) c.loop-n.invariant)
+    let first = counters g.T.TraceTool.tool c.args.bus.now in
+    let last = counters g.T.TraceTool.tool c.follow_group.new.bus in
+    let holds = g.K.Keeper.holds c.follow_group.new.keeper p in
+    let followed = subst (IsFollowedTo v p text c.loop-n.n first last holds) c.in-Whole.is (c.in_ok-further.ensures first c.loop-n.invariant) in
+    let low : c.loop-n.n < group_count p = omega (arith, c.loop-n-test.true, c.count_groups-n-end.ensures) in
+    can-close v p text c.loop-n.n c.in-Whole.further c.parts-parts.ensures.valid low followed
 
 pub loop-n-preserved : goal.loop-n-preserved
 loop-n-preserved g c =
     let v = c.args.version in
     let p = c.args.setup.now in
     let text = c.args.text.now in
-    let followed = subst (λ (f : Followed). (opened : List Counter) → AreKept v p text c.loop-n.n c.loop-n.right opened (counters g.T.TraceTool.tool c.loop-n.bus) (Between (g.K.Keeper.holds c.loop-n.keeper p)) → IsFollowedTo v p text c.loop-n.n opened (counters g.T.TraceTool.tool c.follow_group.new.bus) (g.K.Keeper.holds c.follow_group.new.keeper p) f) c.in-Whole.is c.in_ok-further.ensures in
-    kept-closed v p text c.loop-n.n c.in-Whole.further (g.K.Keeper.holds c.close.new.self p) (followed (counters g.T.TraceTool.tool c.args.bus.now) c.loop-n.invariant) c.in_ok-close-in-Whole.ensures
+    let first = counters g.T.TraceTool.tool c.args.bus.now in
+    let last = counters g.T.TraceTool.tool c.follow_group.new.bus in
+    let holds = g.K.Keeper.holds c.follow_group.new.keeper p in
+    let followed = subst (IsFollowedTo v p text c.loop-n.n first last holds) c.in-Whole.is (c.in_ok-further.ensures first c.loop-n.invariant) in
+    kept-closed v p text c.loop-n.n c.in-Whole.further (g.K.Keeper.holds c.close.new.self p) followed c.in_ok-close-in-Whole.ensures
 
 pub end_at-requires : goal.end_at-requires
 end_at-requires g c = record {
