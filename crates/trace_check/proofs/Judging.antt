@@ -46,8 +46,9 @@ use Rattle.trace_check.specs.inside.Following.{HasTaken, IsFollowing, IsFollowin
 use Rattle.trace_course.specs.Followed.{GroupEntries}
 use Rattle.trace_check.specs.inside.GroupLines.{ArePlaysFrom, IsOtherLine, NoEntryBegins, NoEntryBehind, NoEntryFirst, lines_of_groups, lines_so_far, next_line, opening_line}
 use Rattle.trace_check.specs.Counts.{IsCountedText}
-use Rattle.trace_check.specs.inside.Judging.{IsJudged, IsJudgedText, IsShownText, verdict_behind}
-use Rattle.trace_check.specs.inside.Progress.{AreAllRight, AreRight, IsEndedAt, IsFollowedTo, IsRight, finished, missing, unfinished}
+use Rattle.trace_check.specs.inside.Judging.{IsJudged, IsJudgedText, IsShownText, IsTextOfPlays, verdict_behind}
+use Rattle.trace_check.specs.inside.Keeping.{BeforeLast, Between, Keeping}
+use Rattle.trace_check.specs.inside.Progress.{AreAllRight, AreKept, AreRight, IsEndedAt, IsFollowedTo, IsRight, finished, missing, unfinished}
 use Rattle.trace_check.specs.LinesAlike.{lines_alike}
 use Rattle.trace_check.specs.inside.RequestLines.{HaveStood}
 use Rattle.trace_check.proofs.FirstLetters.{other-letter}
@@ -125,7 +126,7 @@ module _ (v : Version) (p : Parts) (text : List ℕ) where
   k = known_of v p
 
   -- where they were followed to
-  abbrev pub position_at : {n : ℕ} → {from : Progress} → {size : ℕ} → {f : Follow} → {opened was counters : List Counter} → IsRight v p text n from size f opened was counters → GroupEntries
+  abbrev pub position_at : {n : ℕ} → {from : Progress} → {size : ℕ} → {f : Follow} → {opened was counters : List Counter} → {holds : Keeping} → IsRight v p text n from size f opened was counters holds → GroupEntries
   position_at {n = n} right = record { group = group_with p n; entries = right.entries }
 
   right-stands : {n : ℕ} → {r : Progress} → {opened counters : List Counter} → (right : AreRight v p text n r opened counters) → StandFirst k text (lines_of_groups p 0 right.histories) r.length
@@ -147,17 +148,21 @@ module _ (v : Version) (p : Parts) (text : List ℕ) where
       by_lines (b ∷ bs) other = other
 
   -- before all groups
-  pub right-first : (opened : List Counter) → AreRight v p text 0 (record { lines = 0; entries = 0; length = 0 }) opened opened
-  right-first opened = record {
-    histories = [];
-    plays = tt;
-    count = refl;
-    position_is = refl;
-    within = omega arith;
-    text_is = refl;
-    entries_are = refl;
-    shown = refl;
-    closed = λ front es none. absurd (omega (arith, ap length none, length-append front (es ∷ [])));
+  pub right-first : (opened : List Counter) (holds : Keeping) → holds [] []
+      → AreKept v p text 0 (record { lines = 0; entries = 0; length = 0 }) opened opened (Between holds)
+  right-first opened holds none = record {
+    right = record {
+      histories = [];
+      plays = tt;
+      count = refl;
+      position_is = refl;
+      within = omega arith;
+      text_is = refl;
+      entries_are = refl;
+      shown = refl;
+      closed = λ front es same. absurd (omega (arith, ap length same, length-append front (es ∷ [])));
+    };
+    kept = none;
   }
 
   -- ---- the line of a group
@@ -188,9 +193,9 @@ module _ (v : Version) (p : Parts) (text : List ℕ) where
         none_next l more here (inr next) = omega (arith, next.all, low, right.count)
 
     -- it is
-    pub opened-right : (f : Follow) (line : List ℕ) → IsFollowing (group_with p n) [] f → line ≡ line_text k (group_line n (links_of f.links.links.items)) → drop r.length text ≡ line ++ drop (length line) (drop r.length text)
-        → IsRight v p text n r (r.length + length line) f opened was was
-    opened-right f line following is begins =
+    pub opened-right : {holds : Keeping} → (f : Follow) (line : List ℕ) → Between holds right.histories → IsFollowing (group_with p n) [] f → line ≡ line_text k (group_line n (links_of f.links.links.items)) → drop r.length text ≡ line ++ drop (length line) (drop r.length text)
+        → IsRight v p text n r (r.length + length line) f opened was was holds
+    opened-right f line kept following is begins =
         let g : Group = group_with p n in
         let front : List Line = lines_of_groups p 0 right.histories in
         let l : Line = group_line n (links_of f.links.links.items) in
@@ -202,6 +207,7 @@ module _ (v : Version) (p : Parts) (text : List ℕ) where
           before = right;
           entries = [];
           shown = shown-none g was;
+          kept = kept;
           following = following;
           within = stands.within;
           text_is = stands.text_is;
@@ -211,10 +217,10 @@ module _ (v : Version) (p : Parts) (text : List ℕ) where
   -- ---- lines of entries
 
   -- they were followed by the set
-  pub followed-with : {n : ℕ} → {from : Progress} → {size : ℕ} → {f : Follow} → {opened was counters : List Counter} → (right : IsRight v p text n from size f opened was counters) → IsFollowingWith (position_at right) p f
+  pub followed-with : {n : ℕ} → {from : Progress} → {size : ℕ} → {f : Follow} → {opened was counters : List Counter} → {holds : Keeping} → (right : IsRight v p text n from size f opened was counters holds) → IsFollowingWith (position_at right) p f
   followed-with right = record { following = right.following; setup_is = refl }
 
-  module _ (n : ℕ) (from : Progress) (size : ℕ) (f : Follow) (opened was counters : List Counter) (right : IsRight v p text n from size f opened was counters) where
+  module _ (n : ℕ) (from : Progress) (size : ℕ) (f : Follow) (opened was counters : List Counter) {holds : Keeping} (right : IsRight v p text n from size f opened was counters holds) where
     abbrev g : Group
     g = group_with p n
 
@@ -244,12 +250,13 @@ module _ (v : Version) (p : Parts) (text : List ℕ) where
     position-short = omega (arith, right.position_is, lines-short k front, size-is k text front size stands)
 
     -- the next entry is followed
-    pub taken-right : (line : List ℕ) (e : Entry) (f' : Follow) (counters' : List Counter) → IsTaken (position_at right) v rest line e f'
-        → counters' ≡ map (counter_after (shown_as g f.count e (past_of g (es ++ e ∷ [])))) counters → IsRight v p text n from (size + length line) f' opened was counters'
-    taken-right line e f' counters' taken fed = record {
+    pub taken-right : {later : Keeping} → (line : List ℕ) (e : Entry) (f' : Follow) (counters' : List Counter) → IsTaken (position_at right) v rest line e f'
+        → counters' ≡ map (counter_after (shown_as g f.count e (past_of g (es ++ e ∷ [])))) counters → later done (es ++ e ∷ []) → IsRight v p text n from (size + length line) f' opened was counters' later
+    taken-right line e f' counters' taken fed kept = record {
       before = right.before;
       entries = es ++ e ∷ [];
       shown = shown-more g es e was counters counters' right.shown (fed ∙ ap (λ (m : ℕ). map (counter_after (shown_as g m e (past_of g (es ++ e ∷ [])))) counters) right.following.count_is);
+      kept = kept;
       following = taken.following;
       within = stands-more.within;
       text_is = stands-more.text_is;
@@ -386,7 +393,7 @@ module _ (v : Version) (p : Parts) (text : List ℕ) where
 
     -- the play of the group is whole, and the lines of its requests are there
     group-right : (s : Stood) → NoEntryBegins k rest → IsPlay g es → HaveStood k blocks rest s → s.count ≡ length blocks
-        → AreRight v p text (n + 1) (record { lines = from.lines + 1 + f.count + s.count; entries = from.entries + f.count; length = size + s.length }) opened counters
+        → AreKept v p text (n + 1) (record { lines = from.lines + 1 + f.count + s.count; entries = from.entries + f.count; length = size + s.length }) opened counters (BeforeLast holds)
     group-right s other over stood whole =
         let all : lines_of_groups p 0 (done ++ es ∷ []) ≡ front ++ blocks = lines-last p done n es right.before.count in
         let here : n ≡ 0 + length done = omega (arith, right.before.count) in
@@ -395,15 +402,18 @@ module _ (v : Version) (p : Parts) (text : List ℕ) where
         subst (λ (ls : List Line). StandFirst k text ls (size + s.length)) (ap (λ (bs : List Line). front ++ bs) taken ∙ sym all)
         (stand-further k text front (take s.count blocks) size s.length stands (record { within = stood.within; text_is = stood.text_is })) in
         record {
-          histories = done ++ es ∷ [];
-          plays = plays-append p 0 done (es ∷ []) right.before.plays (subst (λ (m : ℕ). IsPlay (group_with p m) es) here over, tt);
-          count = omega (arith, right.before.count, length-append done (es ∷ []));
-          position_is = omega (arith, right.position_is, whole, ap length all, length-append front blocks);
-          within = stands-on.within;
-          text_is = stands-on.text_is;
-          entries_are = omega (arith, right.before.entries_are, right.following.count_is, count-more done es);
-          shown = shown-group p n done es opened was counters right.before.count right.before.shown right.shown;
-          closed = λ before last same. closed-last before last (last-same done before es last same);
+          right = record {
+            histories = done ++ es ∷ [];
+            plays = plays-append p 0 done (es ∷ []) right.before.plays (subst (λ (m : ℕ). IsPlay (group_with p m) es) here over, tt);
+            count = omega (arith, right.before.count, length-append done (es ∷ []));
+            position_is = omega (arith, right.position_is, whole, ap length all, length-append front blocks);
+            within = stands-on.within;
+            text_is = stands-on.text_is;
+            entries_are = omega (arith, right.before.entries_are, right.following.count_is, count-more done es);
+            shown = shown-group p n done es opened was counters right.before.count right.before.shown right.shown;
+            closed = λ before last same. closed-last before last (last-same done before es last same);
+          };
+          kept = record { front = done; last = es; histories_are = refl; kept = right.kept };
         }
       where
         behind_all : (bs : List Line) → rest ≡ texts k (take s.count bs) ++ drop s.length rest → All IsOtherLine bs → NoEntryBehind k bs (drop (size + s.length) text)
@@ -424,7 +434,7 @@ module _ (v : Version) (p : Parts) (text : List ℕ) where
         omega (arith, before, here, groups, low, right.before.count, right.before.entries_are, right.following.count_is)
 
     -- what comes of it
-    pub ended-there : (fd : Followed) → NoEntryBegins k rest → IsEndedAt (position_at right) k rest from f.count size fd → IsFollowedTo v p text n opened counters fd
+    pub ended-there : (fd : Followed) → NoEntryBegins k rest → IsEndedAt (position_at right) k rest from f.count size fd → IsFollowedTo v p text n opened counters holds fd
     ended-there fd other (unfinished left) = unfinished-there other left
     ended-there fd other (missing s over stood few) = missing-there s other over stood few
     ended-there fd other (finished s over stood whole) = group-right s other over stood whole
@@ -510,6 +520,12 @@ module _ (v : Version) (p : Parts) (text : List ℕ) where
       end-shown tools (Valid m) opened_is bytes head = λ is.
           all.right.shown ∙ ap (counters_after (shown_from p 0 hs)) opened_is
           ∙ ap (λ (xs : List (List Entry)). counters_after (shown_from p 0 xs) (map counter_of tools)) (same-histories tools v p all.valid bytes hs plays_all behind_end (head-all tools bytes head) m is)
+
+      -- and is of these plays then
+      pub end-said : (tools : List Tool) (verdict : Verdict) → IsTextOfPlays tools v p text hs verdict
+      end-said tools (Invalid line) bytes head = tt
+      end-said tools (Valid m) bytes head = λ is.
+          same-histories tools v p all.valid bytes hs plays_all behind_end (head-all tools bytes head) m is
 
       -- whether count lines stand behind it
       pub end-counted : (tools : List Tool) (wanted : List ℕ) (verdict : Verdict) (counted : Bool) → opened ≡ map counter_of tools → ((known : Known) → wanted ≡ texts known (map counter_line counters))

@@ -9,6 +9,7 @@ pub mod LinesAlike
 pub mod Shown
 pub mod Judged
 pub mod Judging
+pub mod Keeping
 pub mod FirstLetters
 pub mod TextPositions
 pub mod RequestLaws

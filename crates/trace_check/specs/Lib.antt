@@ -1,4 +1,5 @@
 pub mod Verdicts
 pub mod LinesAlike
 pub mod Counts
+pub mod Groups
 pub mod inside

@@ -10,10 +10,12 @@ ghost use Rattle.trace_read.specs.Reading.{begins_with_digit};
 ghost use Rattle.trace_course.specs.Followed.{GroupEntries};
 ghost use Rattle.trace_check.specs.declared.progress.Progress as progress;
 ghost use Rattle.trace_check.specs.inside.Following.{IsFollowing, IsFollowingWith};
-ghost use Rattle.trace_check.specs.inside.Progress.{AreFollowed, AreRight, HasStood, IsEndedAt};
+ghost use Rattle.trace_check.specs.inside.Keeping.{Between};
+ghost use Rattle.trace_check.specs.inside.Progress.{AreFollowed, AreKept, HasStood, IsEndedAt};
 ghost use Rattle.trace_check.specs.inside.Progress.{IsFollowedTo, IsRight};
 
 use crate::follow::Follow;
+use crate::keeper::Keeper;
 use crate::lines::{begins_with, make_group_line};
 use crate::progress::{Entries, Followed, Progress};
 use crate::requests::stood_first;
@@ -84,8 +86,9 @@ fn ended_at(
     }))
 }
 
-/// Follows the entry lines of a group from where the text has so many bytes. The bus is shown each entry that is right.
-fn follow_entries<T: TraceTool>(
+/// Follows the entry lines of a group from where the text has so many bytes. The bus is shown each entry that is right, and
+/// the keeper is given it.
+fn follow_entries<T: TraceTool, K: Keeper>(
     version: Version,
     setup: &Setup,
     group: GroupNo,
@@ -94,15 +97,16 @@ fn follow_entries<T: TraceTool>(
     begin: usize,
     line: &mut Vec<u8>,
     bus: &mut Bus<T>,
+    keeper: &mut K,
 ) -> Result<Entries, NoMemory>
     requires { (from : progress.Progress) × (opened : List Counter) × (was : List Counter)
         × IsRight version setup.now text.now group.0 from begin follow.old
-        opened was (counters T.tool bus.old) }
+        opened was (counters T.tool bus.old) (K.holds keeper.old setup.now) }
     ensures { IfOk result (λ entries. (from : progress.Progress) (opened was : List Counter)
         → IsRight version setup.now text.now group.0 from begin follow.old
-        opened was (counters T.tool bus.old)
+        opened was (counters T.tool bus.old) (K.holds keeper.old setup.now)
         → AreFollowed version setup.now text.now group.0 from follow.new
-        opened was (counters T.tool bus.new) entries) }
+        opened was (counters T.tool bus.new) (K.holds keeper.new setup.now) entries) }
 {
     let mut size = begin;
     'entries: while begins_as_entry(&text[size..]) {
@@ -111,13 +115,14 @@ fn follow_entries<T: TraceTool>(
             return Ok(Entries::WrongAfter(no));
         };
         bus.feed(&follow.shown(group, no, entry));
+        keeper.keep(entry)?;
         size += line.as_slice().len();
     }
     Ok(Entries::Right(size))
 }
 
 /// Follows the lines of a group that was opened.
-fn follow_lines<T: TraceTool>(
+fn follow_lines<T: TraceTool, K: Keeper>(
     version: Version,
     setup: &Setup,
     group: GroupNo,
@@ -126,29 +131,35 @@ fn follow_lines<T: TraceTool>(
     from: Progress,
     line: &mut Vec<u8>,
     bus: &mut Bus<T>,
+    keeper: &mut K,
 ) -> Result<Followed, NoMemory>
     requires group { IsGroupOf setup.now group.0 }
     requires opened { IsFollowing (group_with setup.now group.0) [] follow.old }
     requires before { (opened : List Counter)
-        × AreRight version setup.now text.now group.0 from opened (counters T.tool bus.old) }
+        × AreKept version setup.now text.now group.0 from opened (counters T.tool bus.old)
+        (Between (K.holds keeper.old setup.now)) }
     ensures { IfOk result (λ followed. (opened : List Counter)
-        → AreRight version setup.now text.now group.0 from opened (counters T.tool bus.old)
+        → AreKept version setup.now text.now group.0 from opened (counters T.tool bus.old)
+        (Between (K.holds keeper.old setup.now))
         → IsFollowedTo version setup.now text.now group.0 opened (counters T.tool bus.new)
-        followed) }
+        (K.holds keeper.new setup.now) followed) }
 {
     if !begins(version, setup, follow, group, &text[from.length..], line)? {
         return Ok(Followed::Wrong(from.lines));
     }
     let begin = from.length + line.as_slice().len();
-    let entries = follow_entries(version, setup, group, follow, text, begin, line, bus)?;
+    let entries = follow_entries(
+        version, setup, group, follow, text, begin, line, bus, keeper,
+    )?;
     match entries {
         Entries::Right(size) => ended_at(version, setup, follow, text, from, size, line),
         Entries::WrongAfter(count) => Ok(Followed::Wrong(from.lines + 1 + count as usize)),
     }
 }
 
-/// Follows the lines of a group, behind those of the groups before it. The bus is shown each entry that is right.
-pub(crate) fn follow_group<T: TraceTool>(
+/// Follows the lines of a group, behind those of the groups before it. The bus is shown each entry that is right, and the
+/// keeper is given it.
+pub(crate) fn follow_group<T: TraceTool, K: Keeper>(
     alloc: Global,
     version: Version,
     setup: &Setup,
@@ -157,15 +168,28 @@ pub(crate) fn follow_group<T: TraceTool>(
     from: Progress,
     line: &mut Vec<u8>,
     bus: &mut Bus<T>,
+    keeper: &mut K,
 ) -> Result<Followed, NoMemory>
     requires group { IsGroupOf setup.now group.0 }
     requires before { (opened : List Counter)
-        × AreRight version setup.now text.now group.0 from opened (counters T.tool bus.old) }
+        × AreKept version setup.now text.now group.0 from opened (counters T.tool bus.old)
+        (Between (K.holds keeper.old setup.now)) }
     ensures { IfOk result (λ followed. (opened : List Counter)
-        → AreRight version setup.now text.now group.0 from opened (counters T.tool bus.old)
+        → AreKept version setup.now text.now group.0 from opened (counters T.tool bus.old)
+        (Between (K.holds keeper.old setup.now))
         → IsFollowedTo version setup.now text.now group.0 opened (counters T.tool bus.new)
-        followed) }
+        (K.holds keeper.new setup.now) followed) }
 {
     let mut follow = Follow::open(alloc, setup, group)?;
-    follow_lines(version, setup, group, &mut follow, text, from, line, bus)
+    follow_lines(
+        version,
+        setup,
+        group,
+        &mut follow,
+        text,
+        from,
+        line,
+        bus,
+        keeper,
+    )
 }

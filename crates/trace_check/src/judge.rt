@@ -1,17 +1,20 @@
 //! The text of a trace behind its first two lines, judged line by line.
-ghost use Rattle.std.specs.Prelude.{◌≡◌, ◌+◌, ◌≤◌, List, map, false, IfOk, length};
+ghost use Rattle.std.specs.Prelude.{◌≡◌, ◌+◌, ◌≤◌, List, [], map, false, IfOk, length};
 ghost use Rattle.rt_task.specs.declared.Parts.{Parts};
 ghost use Rattle.trace_lines.specs.declared.format.Version.{Version};
 ghost use Rattle.trace_tools.specs.BusCounters.{counters};
 ghost use Rattle.trace_tools.specs.Counters.{counter_of};
 ghost use Rattle.trace_tools.specs.Tools.{Tool};
 ghost use Rattle.trace_check.specs.Counts.{IsCountedText};
-ghost use Rattle.trace_check.specs.inside.Judging.{IsJudgedText, IsShownText, verdict_behind};
+ghost use Rattle.trace_check.specs.inside.Judging.{IsJudgedText, IsShownText, IsTextOfPlays};
+ghost use Rattle.trace_check.specs.inside.Judging.{verdict_behind};
+ghost use Rattle.trace_check.specs.inside.Keeping.{Between, IsKeptText};
 ghost use Rattle.trace_check.specs.inside.Progress.{AreAllRight};
 
 use crate::behind::lines_alike;
 use crate::counts::count_text;
 use crate::group::follow_group;
+use crate::keeper::Keeper;
 use crate::lines::begins_with;
 use crate::progress::{Followed, Progress};
 use crate::{Checked, Verdict};
@@ -96,6 +99,9 @@ fn end_at<T: TraceTool>(
     ensures shown { IfOk result (λ c. (version : Version) (p : Parts) (tools : List Tool)
         → AreAllRight version p text.now right (map counter_of tools) (counters T.tool bus.now)
         → IsShownText tools version p text.now (counters T.tool bus.now) c.verdict) }
+    ensures said { IfOk result (λ c. (version : Version) (p : Parts) (tools : List Tool)
+        (all : AreAllRight version p text.now right (map counter_of tools) (counters T.tool bus.now))
+        → IsTextOfPlays tools version p text.now all.right.histories c.verdict) }
 {
     let rest = &text[right.length..];
     if !begins_with(rest, END) {
@@ -110,14 +116,16 @@ fn end_at<T: TraceTool>(
     })
 }
 
-/// What the text comes to that stands behind the two lines of a head with a canonical set.
-pub(crate) fn judge_text<T: TraceTool>(
+/// What the text comes to that stands behind the two lines of a head with a canonical set. The keeper is given each group.
+pub(crate) fn judge_text<T: TraceTool, K: Keeper>(
     alloc: Global,
     version: Version,
     setup: &Setup,
     text: &[u8],
     bus: &mut Bus<T>,
+    keeper: &mut K,
 ) -> Result<Checked, NoMemory>
+    requires { K.holds keeper.old setup.now [] [] }
     ensures judged { IfOk result (λ c. (tools : List Tool)
         → counters T.tool bus.old ≡ map counter_of tools
         → IsJudgedText tools version setup.now text.now c.verdict) }
@@ -127,6 +135,10 @@ pub(crate) fn judge_text<T: TraceTool>(
     ensures shown { IfOk result (λ c. (tools : List Tool)
         → counters T.tool bus.old ≡ map counter_of tools
         → IsShownText tools version setup.now text.now (counters T.tool bus.new) c.verdict) }
+    ensures kept { IfOk result (λ c. (tools : List Tool)
+        → counters T.tool bus.old ≡ map counter_of tools
+        → IsKeptText tools version setup.now text.now
+        (Between (K.holds keeper.new setup.now)) c.verdict) }
 {
     // A proof knows that a setup is valid once its parts are read.
     let _parts = setup.parts();
@@ -146,8 +158,12 @@ pub(crate) fn judge_text<T: TraceTool>(
             right,
             &mut line,
             bus,
+            keeper,
         )? {
-            Followed::Whole(further) => right = further,
+            Followed::Whole(further) => {
+                keeper.close(alloc, setup, GroupNo(n))?;
+                right = further;
+            }
             Followed::Wrong(position) => return wrong(position),
         }
     }

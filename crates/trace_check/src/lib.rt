@@ -2,13 +2,16 @@
 //! processors' steps or turns, and the count lines those of its entries.
 #![tactic(auto)]
 
-ghost use Rattle.std.specs.Prelude.{◌≡◌, List, map, IfOk, true};
+ghost use Rattle.std.specs.Prelude.{◌≡◌, List, [], map, IfOk, true};
+ghost use Rattle.rt_task.specs.Validity.{IsValid};
 ghost use Rattle.trace_tools.specs.BusCounters.{counters};
 ghost use Rattle.trace_tools.specs.Counters.{counter_of};
 ghost use Rattle.trace_tools.specs.Tools.{Tool};
 ghost use Rattle.trace_read.specs.Reads.{IsHeadOf};
 ghost use Rattle.trace_check.specs.Counts.{HasCounts};
+ghost use Rattle.trace_check.specs.Groups.{HasGroups};
 ghost use Rattle.trace_check.specs.Verdicts.{HasShown, IsVerdict};
+ghost use Rattle.trace_check.specs.inside.Keeping.{Between, HasKept};
 
 mod behind;
 mod counts;
@@ -16,6 +19,7 @@ mod follow;
 mod group;
 mod head;
 mod judge;
+mod keeper;
 mod lines;
 mod links;
 mod progress;
@@ -24,9 +28,11 @@ mod verdict;
 
 use head::has_head;
 use judge::judge_text;
+use keeper::{GroupKeeper, Keeper};
 use rt_base::NoMemory;
 use std::alloc::Global;
 use trace_read::TraceHead;
+use trace_text::PlayedGroup;
 use trace_tools::{Bus, TraceTool};
 pub use verdict::{Checked, Verdict};
 
@@ -72,6 +78,58 @@ pub fn check_counted<T: TraceTool>(
         → counters T.tool bus.old ≡ map counter_of tools
         → HasShown tools head.now.version head.now.setup bytes.now (counters T.tool bus.new) c.verdict) }
 {
+    check_with(alloc, bytes, head, bus, &mut ())
+}
+
+/// The same as `check_trace`, and of a valid text the groups of its set, by rising number, each with its entries. Of another
+/// text the groups say nothing.
+pub fn check_groups<T: TraceTool>(
+    alloc: Global,
+    bytes: &[u8],
+    head: &TraceHead,
+    bus: &mut Bus<T>,
+) -> Result<(Verdict, Vec<PlayedGroup>), NoMemory>
+    requires read { IsHeadOf bytes.now head.now }
+    ensures verdict { IfOk result (λ x. (tools : List Tool)
+        → counters T.tool bus.old ≡ map counter_of tools
+        → IsVerdict tools head.now.version head.now.setup bytes.now x.0) }
+    ensures shown { IfOk result (λ x. (tools : List Tool)
+        → counters T.tool bus.old ≡ map counter_of tools
+        → HasShown tools head.now.version head.now.setup bytes.now (counters T.tool bus.new) x.0) }
+    ensures groups { IfOk result (λ x. (tools : List Tool)
+        → counters T.tool bus.old ≡ map counter_of tools
+        → HasGroups tools head.now.version head.now.setup bytes.now x.1.items x.0) }
+{
+    let mut keeper = GroupKeeper::new(alloc);
+    let checked = check_with(alloc, bytes, head, bus, &mut keeper)?;
+    Ok((checked.verdict, keeper.groups()))
+}
+
+/// The same as `check_counted`, and the keeper is given each group.
+fn check_with<T: TraceTool, K: Keeper>(
+    alloc: Global,
+    bytes: &[u8],
+    head: &TraceHead,
+    bus: &mut Bus<T>,
+    keeper: &mut K,
+) -> Result<Checked, NoMemory>
+    requires read { IsHeadOf bytes.now head.now }
+    requires opened { K.holds keeper.old head.now.setup [] [] }
+    ensures valid { IsValid head.now.setup }
+    ensures verdict { IfOk result (λ c. (tools : List Tool)
+        → counters T.tool bus.old ≡ map counter_of tools
+        → IsVerdict tools head.now.version head.now.setup bytes.now c.verdict) }
+    ensures counted { IfOk result (λ c. (tools : List Tool)
+        → counters T.tool bus.old ≡ map counter_of tools
+        → HasCounts tools head.now.version head.now.setup bytes.now c.verdict c.counted) }
+    ensures shown { IfOk result (λ c. (tools : List Tool)
+        → counters T.tool bus.old ≡ map counter_of tools
+        → HasShown tools head.now.version head.now.setup bytes.now (counters T.tool bus.new) c.verdict) }
+    ensures kept { IfOk result (λ c. (tools : List Tool)
+        → counters T.tool bus.old ≡ map counter_of tools
+        → HasKept tools head.now.version head.now.setup bytes.now
+        (Between (K.holds keeper.new head.now.setup)) c.verdict) }
+{
     let parts = head.setup.parts();
     if !has_head(alloc, bytes, head.version, parts, head.is_canonical)? {
         return Ok(Checked {
@@ -79,5 +137,6 @@ pub fn check_counted<T: TraceTool>(
             counted: false,
         });
     }
-    judge_text(alloc, head.version, &head.setup, &bytes[head.length..], bus)
+    let text = &bytes[head.length..];
+    judge_text(alloc, head.version, &head.setup, text, bus, keeper)
 }

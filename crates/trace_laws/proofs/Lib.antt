@@ -7,3 +7,4 @@ pub mod Heads
 pub mod ReadBack
 pub mod UpgradeLaws
 pub mod Alike
+pub mod PlayedGroups

@@ -1,3 +1,4 @@
 pub mod ValidTexts
 pub mod TraceLaws
 pub mod Upgrades
+pub mod PlayedGroups

@@ -20,7 +20,8 @@ use Rattle.trace_read.specs.Reading.{begins_with_digit, behind}
 use Rattle.trace_read.specs.Seen.{BeginsLines, Tells}
 use Rattle.trace_read.proofs.EachLaws.{length-cut}
 use Rattle.trace_read.proofs.ReadLaws.{BeginsLines-behind, BeginsLines-first, BeginsLines-parts}
-use Rattle.trace_upgrade.specs.Said.{TellsGroups, full_group, groups_from}
+use Rattle.trace_laws.specs.PlayedGroups.{full_group, groups_from}
+use Rattle.trace_upgrade.specs.Said.{TellsGroups}
 
 -- ---- entries
 

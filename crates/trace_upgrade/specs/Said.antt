@@ -1,5 +1,5 @@
 -- What the text of plays says of the groups of its set, each with its entries.
-use Rattle.std.specs.Prelude.{◌≡◌, ℕ, ◌+◌, ◌-◌, ◌≤◌, All, List, [], ◌∷◌, ◌++◌, length}
+use Rattle.std.specs.Prelude.{◌≡◌, ℕ, ◌-◌, ◌≤◌, All, List, ◌++◌, length}
 use Rattle.rt_task.specs.declared.Parts.{Parts}
 use Rattle.rt_rules.specs.declared.history.Entry.{Entry}
 use Rattle.rt_model.specs.Histories.{IsLegalFrom}
@@ -9,6 +9,7 @@ use Rattle.trace_text.specs.Groups.{CanReplay}
 use Rattle.trace_text.specs.TraceText.{lines_from, trace_text}
 use Rattle.trace_read.specs.declared.head.TraceHead.{TraceHead}
 use Rattle.trace_read.specs.Seen.{BeginsLines}
+use Rattle.trace_laws.specs.PlayedGroups.{groups_from}
 use Rattle.trace_laws.specs.TraceLaws.{ArePlayed}
 
 -- the bytes are the text of these plays, of the format and the set of this head, whatever stands behind it
@@ -16,15 +17,6 @@ pub record TellsPlays (bytes : List ℕ) (head : TraceHead) (hs : List (List Ent
   pub played : ArePlayed head.setup hs
   pub more : List ℕ
   pub bytes_are : bytes ≡ trace_text head.version head.setup hs ++ more
-
--- a group with its history, and no room for more
-abbrev pub full_group : Parts → ℕ → List Entry → GroupHistory
-full_group p n es = record { setup = p; group = n; entries = es; spare = 0 }
-
--- the groups from a number on, each with its history
-abbrev pub groups_from : Parts → ℕ → List (List Entry) → List GroupHistory
-groups_from p n [] = []
-groups_from p n (es ∷ more) = full_group p n es ∷ groups_from p (n + 1) more
 
 -- the text begins with the lines of the groups from a number on, which have these histories and can be replayed
 pub record TellsGroups (k : Known) (p : Parts) (n : ℕ) (hs : List (List Entry)) (text : List ℕ) : Type 0 where

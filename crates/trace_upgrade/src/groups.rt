@@ -10,7 +10,8 @@ ghost use Rattle.trace_text.specs.TraceText.{block_of, entry_lines};
 ghost use Rattle.trace_read.specs.Movers as letters;
 ghost use Rattle.trace_read.specs.Reading.{begins_with_digit};
 ghost use Rattle.trace_read.specs.Seen.{BeginsLines, Tells};
-ghost use Rattle.trace_upgrade.specs.Said.{TellsGroups, full_group, groups_from};
+ghost use Rattle.trace_laws.specs.PlayedGroups.{full_group, groups_from};
+ghost use Rattle.trace_upgrade.specs.Said.{TellsGroups};
 
 use rt_base::{GroupNo, NoMemory};
 use rt_rules::Entry;

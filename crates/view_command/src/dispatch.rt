@@ -1,10 +1,8 @@
 //! The top call: a view of a trace.
-ghost use Rattle.std.specs.Prelude.{◌≡◌, ◌≢◌, List, map, IfOk, Some};
-ghost use Rattle.rt_rules.specs.declared.history.Entry.{Entry};
+ghost use Rattle.std.specs.Prelude.{◌≡◌, ◌≢◌, map, IfOk, Some};
 ghost use Rattle.rt_task.specs.Validity.{IsValid};
 ghost use Rattle.trace_read.specs.Reads.{IsHeadOf};
 ghost use Rattle.trace_text.specs.Groups.{AreGroupsOf, histories};
-ghost use Rattle.trace_upgrade.specs.Said.{TellsPlays};
 ghost use Rattle.set_input.specs.Ends.{reading, writing};
 ghost use Rattle.view_command.specs.Ends.{TellsFaults};
 ghost use Rattle.view_command.specs.inside.Windows.{Fits};
@@ -20,11 +18,10 @@ use rt_fault::{Sink, Source, Status, put_all};
 use rt_task::Setup;
 use sim_commands::read_trace_input;
 use std::alloc::Global;
-use trace_check::{Verdict, check_trace};
+use trace_check::{Verdict, check_groups};
 use trace_read::TraceHead;
 use trace_text::PlayedGroup;
 use trace_tools::{Bus, TraceTool};
-use trace_upgrade::groups_in;
 use view_charts::chart_text;
 use view_events::events_text;
 use view_tables::table_text;
@@ -48,26 +45,6 @@ fn text_of(
         View::Events => events_text(alloc, setup, groups)?,
     };
     Ok(Some(text))
-}
-
-/// The text of a view of the text of plays whose head was read.
-fn text_said(
-    alloc: Global,
-    view: View,
-    head: &TraceHead,
-    bytes: &[u8],
-) -> Result<Option<Vec<u8>>, NoMemory>
-    requires read { IsHeadOf bytes.now head.now }
-    requires says { (hs : List (List Entry)) × TellsPlays bytes.now head.now hs }
-    requires fits { Fits view }
-    ensures { IfOk result (λ o. (hs : List (List Entry)) → TellsPlays bytes.now head.now hs
-        → IsTextOf view head.now.setup hs o) }
-{
-    let Ok(groups) = groups_in(alloc, head, bytes) else {
-        return Err(NoMemory);
-    };
-    let text = text_of(alloc, view, &head.setup, groups.as_slice())?;
-    Ok(text)
 }
 
 /// What comes of a trace whose plays have this text of the view, if any.
@@ -98,12 +75,13 @@ fn text_in<T: TraceTool>(
     let Ok(mut bus) = Bus::open(alloc, tools) else {
         return Err(ViewEnd::Ended(Status::NoMemory));
     };
-    match check_trace(alloc, bytes, head, &mut bus) {
-        Ok(Verdict::Valid(_)) => {}
-        Ok(Verdict::Invalid(line)) => return Err(ViewEnd::Ended(Status::Invalid(line))),
-        Err(_) => return Err(ViewEnd::Ended(Status::NoMemory)),
+    match check_groups(alloc, bytes, head, &mut bus) {
+        Ok((Verdict::Valid(_), groups)) => {
+            there(text_of(alloc, view, &head.setup, groups.as_slice()))
+        }
+        Ok((Verdict::Invalid(line), _)) => Err(ViewEnd::Ended(Status::Invalid(line))),
+        Err(_) => Err(ViewEnd::Ended(Status::NoMemory)),
     }
-    there(text_said(alloc, view, head, bytes))
 }
 
 /// Reads a trace, and where it is valid for its set, writes this view of it.

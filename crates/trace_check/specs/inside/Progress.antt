@@ -25,6 +25,7 @@ use Rattle.trace_course.specs.Followed.{GroupEntries}
 use Rattle.trace_check.specs.inside.Following.{IsFollowing}
 use Rattle.trace_check.specs.inside.GroupLines.{ArePlaysFrom, NoEntryBegins, NoEntryBehind, lines_of_groups, lines_so_far}
 use Rattle.trace_check.specs.inside.Judging.{IsJudged}
+use Rattle.trace_check.specs.inside.Keeping.{BeforeLast, Keeping}
 use Rattle.trace_check.specs.inside.RequestLines.{HaveStood}
 
 -- the lines of the requests of the entries that were followed
@@ -55,17 +56,24 @@ pub record AreAllRight (v : Version) (p : Parts) (text : List ℕ) (r : Progress
   pub valid : IsValid p
   pub right : AreRight v p text (group_count p) r opened counters
 
--- what comes of following the lines of group n, behind those of the groups before it
-abbrev pub IsFollowedTo : Version → Parts → List ℕ → ℕ → List Counter → List Counter → Followed → Type 0
-IsFollowedTo v p text n opened counters (Whole r) = AreRight v p text (n + 1) r opened counters
-IsFollowedTo v p text n opened counters (Wrong position) = IsJudged v p text (Invalid (position + 3))
+-- and this is kept of their histories
+pub record AreKept (v : Version) (p : Parts) (text : List ℕ) (n : ℕ) (r : Progress) (opened counters : List Counter)
+    (holds : List (List Entry) → Type 0) : Type 0 where
+  pub right : AreRight v p text n r opened counters
+  pub kept : holds right.histories
 
--- so much of the text is the lines of whole groups and of the entries of group n that were followed, which were shown too
+-- what comes of following the lines of group n, behind those of the groups before it
+abbrev pub IsFollowedTo : Version → Parts → List ℕ → ℕ → List Counter → List Counter → Keeping → Followed → Type 0
+IsFollowedTo v p text n opened counters holds (Whole r) = AreKept v p text (n + 1) r opened counters (BeforeLast holds)
+IsFollowedTo v p text n opened counters holds (Wrong position) = IsJudged v p text (Invalid (position + 3))
+
+-- so much of the text is the lines of whole groups and of the entries of group n that were followed, which were shown and kept too
 pub record IsRight (v : Version) (p : Parts) (text : List ℕ) (n : ℕ) (from : Progress) (size : ℕ) (f : Follow)
-    (opened was counters : List Counter) : Type 0 where
+    (opened was counters : List Counter) (holds : Keeping) : Type 0 where
   pub before : AreRight v p text n from opened was
   pub entries : List Entry
   pub shown : counters ≡ counters_after (shown_entries (group_with p n) 0 [] entries) was
+  pub kept : holds before.histories entries
   pub following : IsFollowing (group_with p n) entries f
   pub within : size ≤ length text
   pub text_is : text ≡ flat_map (line_text (known_of v p)) (lines_of_groups p 0 before.histories
@@ -73,10 +81,11 @@ pub record IsRight (v : Version) (p : Parts) (text : List ℕ) (n : ℕ) (from :
   pub position_is : from.lines + 1 + f.count ≡ length (lines_of_groups p 0 before.histories ++ lines_so_far (group_with p n) entries)
 
 -- what comes of following the entry lines of group n
-abbrev pub AreFollowed : Version → Parts → List ℕ → ℕ → Progress → Follow → List Counter → List Counter → List Counter → Entries → Type 0
-AreFollowed v p text n from f opened was counters (Right size) =
-    IsRight v p text n from size f opened was counters × NoEntryBegins (known_of v p) (drop size text)
-AreFollowed v p text n from f opened was counters (WrongAfter count) = IsJudged v p text (Invalid (from.lines + 1 + count + 3))
+abbrev pub AreFollowed : Version → Parts → List ℕ → ℕ → Progress → Follow → List Counter → List Counter → List Counter
+    → Keeping → Entries → Type 0
+AreFollowed v p text n from f opened was counters holds (Right size) =
+    IsRight v p text n from size f opened was counters holds × NoEntryBegins (known_of v p) (drop size text)
+AreFollowed v p text n from f opened was counters holds (WrongAfter count) = IsJudged v p text (Invalid (from.lines + 1 + count + 3))
 
 -- what comes of it where no entry line stands behind so many bytes, which this rest follows
 pub data IsEndedAt (at : GroupEntries) (k : Known) (rest : List ℕ) (from : Progress) (count length_so_far : ℕ) : Followed → Type 0 where

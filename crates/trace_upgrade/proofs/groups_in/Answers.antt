@@ -6,7 +6,8 @@ use Rattle.trace_lines.specs.Known.{Known, known_of}
 use Rattle.trace_read.specs.Reads.{IsHeadOf}
 use Rattle.trace_read.specs.declared.head.TraceHead.{TraceHead}
 use Rattle.trace_upgrade.specs.Said.{TellsGroups, TellsPlays}
-use Rattle.trace_upgrade.proofs.SaidLaws.{plays-told, said-all, said-full, said-histories}
+use Rattle.trace_laws.proofs.PlayedGroups.{said-all, said-full, said-histories}
+use Rattle.trace_upgrade.proofs.SaidLaws.{plays-told}
 use Rattle.trace_upgrade.proofs.groups_in.Goals as goal
 
 -- what stands behind the head tells the groups

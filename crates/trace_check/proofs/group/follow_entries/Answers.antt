@@ -86,8 +86,9 @@ entries-preserved g c =
           let longer : GroupEntries = record { group = at.group; entries = at.entries ++ c.in-Some.entry ∷ [] } in
           let fed = c.feed.ensures ∙ ap (λ (s : Shown). map (counter_after s) now) (c.shown.ensures longer is.following refl)
           ∙ ap (λ (n : ℕ). map (counter_after (shown_as at.group n c.in-Some.entry (past_of at.group (at.entries ++ c.in-Some.entry ∷ [])))) now) c.count-no.ensures in
-          subst (λ (xs : List ℕ). IsRight v p text c.args.group.0 from (c.entries.size + length xs) c.take_line.new.self opened was (counters g.T.TraceTool.tool c.feed.new.self)) (sym c.as_slice.ensures.value)
-          (taken-right v p text c.args.group.0 from c.entries.size c.entries.follow opened was now right c.take_line.new.line.items c.in-Some.entry c.take_line.new.self (counters g.T.TraceTool.tool c.feed.new.self) is fed),
+          subst (λ (xs : List ℕ). IsRight v p text c.args.group.0 from (c.entries.size + length xs) c.take_line.new.self opened was (counters g.T.TraceTool.tool c.feed.new.self) (g.K.Keeper.holds c.keep.new.self p)) (sym c.as_slice.ensures.value)
+          (taken-right v p text c.args.group.0 from c.entries.size c.entries.follow opened was now right c.take_line.new.line.items c.in-Some.entry c.take_line.new.self (counters g.T.TraceTool.tool c.feed.new.self) is fed
+          (c.in_ok-keep.ensures p right.before.histories right.entries right.kept)),
     )
 
 pub returns : goal.returns

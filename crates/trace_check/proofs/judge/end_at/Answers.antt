@@ -10,9 +10,9 @@ use Rattle.trace_tools.specs.Tools.{Tool}
 use Rattle.trace_check.specs.declared.verdict.Checked.{Checked}
 use Rattle.trace_check.specs.declared.verdict.Verdict.TheVariants.{Invalid}
 use Rattle.trace_check.specs.Counts.{IsCountedText}
-use Rattle.trace_check.specs.inside.Judging.{IsJudgedText, IsShownText}
+use Rattle.trace_check.specs.inside.Judging.{IsJudgedText, IsShownText, IsTextOfPlays}
 use Rattle.trace_check.specs.inside.Progress.{AreAllRight}
-use Rattle.trace_check.proofs.Judging.{end-behind, end-counted, end-judged, end-shown, end-text, end-wrong}
+use Rattle.trace_check.proofs.Judging.{end-behind, end-counted, end-judged, end-said, end-shown, end-text, end-wrong}
 use Rattle.trace_check.proofs.TextPositions.{rest-of}
 use Rattle.trace_check.proofs.judge.end_at.Goals as goal
 
@@ -67,3 +67,19 @@ returns-clause-shown g c =
     let kept = counters g.T.TraceTool.tool c.args.bus.now in
     λ version p tools all. end-shown version p text c.args.right (map counter_of tools) kept all _
     (end-behind (known_of version p) c.args.right.length text _ refl (c.begins_with.ensures.yes c.if-not-begins_with.false)) tools c.in_ok-verdict.verdict refl
+
+pub returns-then-not-begins_with-clause-said : goal.returns-then-not-begins_with-clause-said
+returns-then-not-begins_with-clause-said g c =
+    let text = c.args.text.now in
+    let kept = counters g.T.TraceTool.tool c.args.bus.now in
+    IfOk-weaker c.wrong.result (λ (x : Checked). x ≡ record { verdict = Invalid (c.args.right.lines + 3); counted = false })
+    (λ (x : Checked). (version : Version) (p : Parts) (tools : List Tool) (all : AreAllRight version p text c.args.right (map counter_of tools) kept) → IsTextOfPlays tools version p text all.right.histories x.verdict)
+    (λ x is version p tools all. subst (λ (y : Checked). IsTextOfPlays tools version p text all.right.histories y.verdict) (sym is) (λ bytes head. tt))
+    c.wrong.ensures
+
+pub returns-clause-said : goal.returns-clause-said
+returns-clause-said g c =
+    let text = c.args.text.now in
+    let kept = counters g.T.TraceTool.tool c.args.bus.now in
+    λ version p tools all. end-said version p text c.args.right (map counter_of tools) kept all _
+    (end-behind (known_of version p) c.args.right.length text _ refl (c.begins_with.ensures.yes c.if-not-begins_with.false)) tools c.in_ok-verdict.verdict

@@ -4,7 +4,7 @@ use Rattle.rt_model.specs.Blocking.{requests}
 use Rattle.rt_model.specs.Group.{Group}
 use Rattle.rt_model.specs.Histories.{past_of}
 use Rattle.rt_plays.specs.Plays.{group_with}
-use Rattle.trace_upgrade.specs.Said.{full_group}
+use Rattle.trace_laws.specs.PlayedGroups.{full_group}
 use Rattle.trace_upgrade.proofs.TextLaws.{behind_entries, behind_group, blocks-ended, blocks-told, can-replay, entries-ended, entries-told, groups-told}
 use Rattle.trace_upgrade.proofs.groups.group_said.Goals as goal
 

@@ -2,7 +2,7 @@ use Rattle.std.proofs.Common.{◌≡◌, ◌<◌, List, [], ◌∷◌, ◌++◌,
 use Rattle.std.specs.Prelude.{Result, Ok, Err, false, is_err, is_ok, if◌then◌else◌}
 use Rattle.rt_plays.specs.Groups.{GroupHistory}
 use Rattle.rt_plays.specs.Plays.{group_count}
-use Rattle.trace_upgrade.specs.Said.{full_group, groups_from}
+use Rattle.trace_laws.specs.PlayedGroups.{full_group, groups_from}
 use Rattle.trace_upgrade.proofs.TextLaws.{group-next, groups-end, groups-next}
 use Rattle.trace_upgrade.proofs.groups.groups_said.Goals as goal
 

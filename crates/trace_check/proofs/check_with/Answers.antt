@@ -10,9 +10,10 @@ use Rattle.trace_check.specs.declared.verdict.Checked.{Checked}
 use Rattle.trace_check.specs.Verdicts.{HasShown, IsVerdict}
 use Rattle.trace_check.specs.Counts.{HasCounts, IsCountedText}
 use Rattle.trace_check.specs.inside.Judging.{IsJudgedText, IsShownText}
+use Rattle.trace_check.specs.inside.Keeping.{Between, HasKept, IsKeptText}
 use Rattle.trace_check.proofs.HeadText.{canonical-begins, canonical-head}
 use Rattle.trace_check.proofs.Judged.{not-canonical}
-use Rattle.trace_check.proofs.check_counted.Goals as goal
+use Rattle.trace_check.proofs.check_with.Goals as goal
 
 pub has_head-requires : goal.has_head-requires
 has_head-requires g c = λ yes.
@@ -64,3 +65,14 @@ returns-clause-shown g c =
     (λ (x : Checked). (tools : List Tool) → first ≡ map counter_of tools → IsShownText tools h.version h.setup _ last x.verdict)
     (λ (x : Checked). (tools : List Tool) → first ≡ map counter_of tools → HasShown tools h.version h.setup c.args.bytes.now last x.verdict)
     (λ v shown tools opened. shown tools opened c.args.bytes.now head) c.judge_text.ensures.shown
+
+pub returns-clause-kept : goal.returns-clause-kept
+returns-clause-kept g c =
+    let h = c.args.head.now in
+    let first = counters g.T.TraceTool.tool c.args.bus.now in
+    let holds = Between (g.K.Keeper.holds c.judge_text.new.keeper h.setup) in
+    let head = canonical-head c.args.bytes.now h _ c.requires.read c.parts-parts.ensures.valid c.parts-parts.ensures.parts ((c.in_ok-has_head.ensures).0 c.if-not-branch.false) in
+    IfOk-weaker c.judge_text.result
+    (λ (x : Checked). (tools : List Tool) → first ≡ map counter_of tools → IsKeptText tools h.version h.setup _ holds x.verdict)
+    (λ (x : Checked). (tools : List Tool) → first ≡ map counter_of tools → HasKept tools h.version h.setup c.args.bytes.now holds x.verdict)
+    (λ v kept tools opened. kept tools opened c.args.bytes.now head) c.judge_text.ensures.kept

@@ -1,0 +1,72 @@
+-- What is kept of the groups of a text.
+use Rattle.std.proofs.Common.{◌≡◌, ℕ, ◌+◌, ◌<◌, List, [], ◌∷◌, ◌++◌, length, sym, ap, subst, arith, length-append}
+use Rattle.rt_task.specs.declared.Parts.{Parts}
+use Rattle.rt_task.specs.Validity.{IsValid}
+use Rattle.rt_rules.specs.declared.history.Entry.{Entry}
+use Rattle.rt_plays.specs.Groups.{GroupHistory}
+use Rattle.rt_plays.specs.Plays.{IsPlay, group_count, group_with}
+use Rattle.trace_lines.specs.declared.format.Version.{Version}
+use Rattle.trace_tools.specs.Counters.{Counter}
+use Rattle.trace_tools.specs.Tools.{Tool}
+use Rattle.trace_laws.specs.PlayedGroups.{groups_from}
+use Rattle.trace_laws.proofs.PlayedGroups.{play-replays, said-all, said-histories}
+use Rattle.trace_check.specs.declared.progress.Progress.{Progress}
+use Rattle.trace_check.specs.declared.verdict.Verdict.{Verdict}
+use Rattle.trace_check.specs.declared.verdict.Verdict.TheVariants.{Valid, Invalid}
+use Rattle.trace_check.specs.Groups.{HasGroups}
+use Rattle.trace_check.specs.inside.GroupLines.{ArePlaysFrom}
+use Rattle.trace_check.specs.inside.Judging.{IsTextOfPlays}
+use Rattle.trace_check.specs.inside.Keeping.{BeforeLast, Between, CanClose, HasKept, IsKeptText, Keeping}
+use Rattle.trace_check.specs.inside.Progress.{AreKept}
+
+-- the last of plays is a play of the group with its number
+last-play : (p : Parts) (n : ℕ) (front : List (List Entry)) (es : List Entry)
+    → ArePlaysFrom p n (front ++ es ∷ []) → IsPlay (group_with p (n + length front)) es
+last-play p n [] es plays = let here : n ≡ n + 0 = omega arith in subst (λ (m : ℕ). IsPlay (group_with p m) es) here plays.0
+last-play p n (xs ∷ front) es plays =
+    let next : n + 1 + length front ≡ n + length (xs ∷ front) = omega arith in
+    subst (λ (m : ℕ). IsPlay (group_with p m) es) next (last-play p (n + 1) front es plays.1)
+
+module _ (v : Version) (p : Parts) (text : List ℕ) where
+  module _ (n : ℕ) (r : Progress) {opened counters : List Counter} {holds : Keeping} where
+    last-number : (kept : AreKept v p text (n + 1) r opened counters (BeforeLast holds)) → length kept.kept.front ≡ n
+    last-number kept = omega (arith, kept.right.count, ap length kept.kept.histories_are, length-append kept.kept.front (kept.kept.last ∷ []))
+
+    -- the last group can be closed
+    pub can-close : IsValid p → n < group_count p → AreKept v p text (n + 1) r opened counters (BeforeLast holds) → CanClose holds p n
+    can-close valid low kept =
+        let play = last-play p 0 kept.kept.front kept.kept.last (subst (ArePlaysFrom p 0) kept.kept.histories_are kept.right.plays) in
+        let number : 0 + length kept.kept.front ≡ n = omega (arith, last-number kept) in
+        record {
+          front = kept.kept.front;
+          last = kept.kept.last;
+          kept = kept.kept.kept;
+          number = last-number kept;
+          can = play-replays p valid n kept.kept.last low (subst (λ (m : ℕ). IsPlay (group_with p m) kept.kept.last) number play);
+        }
+
+    -- and once it is closed, none is open
+    pub kept-closed : (later : Keeping) → AreKept v p text (n + 1) r opened counters (BeforeLast holds)
+        → ((hs : List (List Entry)) (es : List Entry) → holds hs es → length hs ≡ n → later (hs ++ es ∷ []) []) → AreKept v p text (n + 1) r opened counters (Between later)
+    kept-closed later kept closed = record {
+      right = kept.right;
+      kept = subst (Between later) (sym kept.kept.histories_are) (closed kept.kept.front kept.kept.last kept.kept.kept (last-number kept));
+    }
+
+-- what is kept of its plays is kept of the text
+kept-of : (tools : List Tool) (v : Version) (p : Parts) (bytes : List ℕ) (holds : List (List Entry) → Type 0) (hs : List (List Entry)) (verdict : Verdict)
+    → holds hs → HasKept tools v p bytes (λ told. hs ≡ told) verdict → HasKept tools v p bytes holds verdict
+kept-of tools v p bytes holds hs (Valid entries) kept same = λ is. subst holds (same is) kept
+kept-of tools v p bytes holds hs (Invalid line) kept same = tt
+
+pub kept-text : (tools : List Tool) (v : Version) (p : Parts) (text : List ℕ) (holds : List (List Entry) → Type 0) (hs : List (List Entry)) (verdict : Verdict)
+    → holds hs → IsTextOfPlays tools v p text hs verdict → IsKeptText tools v p text holds verdict
+kept-text tools v p text holds hs verdict kept same = λ bytes head. kept-of tools v p bytes holds hs verdict kept (same bytes head)
+
+-- and the groups that are kept are those of the text
+pub kept-groups : (tools : List Tool) (v : Version) (p : Parts) (bytes : List ℕ) (groups : List GroupHistory) (entries : List Entry) (verdict : Verdict)
+    → IsValid p → HasKept tools v p bytes (λ hs. (groups ≡ groups_from p 0 hs) × (entries ≡ [])) verdict → HasGroups tools v p bytes groups verdict
+kept-groups tools v p bytes groups entries (Valid n) valid kept = λ is.
+    let said : groups ≡ groups_from p 0 is.histories = (kept is).0 in
+    (said-all p valid is.histories is.plays groups said, said-histories p valid is.histories is.plays groups said)
+kept-groups tools v p bytes groups entries (Invalid line) valid kept = tt

@@ -1,0 +1,92 @@
+//! What is kept of the groups of a text as they are followed.
+ghost use Rattle.std.specs.Prelude.{◌≡◌, ◌++◌, ◌∷◌, [], List, OnOk, length, ⊤};
+ghost use Rattle.rt_task.specs.declared.Parts.{Parts};
+ghost use Rattle.rt_rules.specs.declared.history.Entry as entries;
+ghost use Rattle.trace_laws.specs.PlayedGroups.{groups_from};
+ghost use Rattle.trace_check.specs.inside.Keeping.{CanClose, Keeping};
+
+use rt_base::{GroupNo, NoMemory};
+use rt_rules::Entry;
+use rt_task::Setup;
+use std::alloc::Global;
+use std::mem;
+use trace_text::PlayedGroup;
+
+/// Is given each entry of a text that is right, and told where a group ends.
+pub(crate) trait Keeper {
+    /// What is kept once whole groups were followed with these histories, and these entries of the next.
+    ghost holds: { Self → Parts → Keeping };
+
+    /// Keeps the next entry of the group that is followed.
+    fn keep(&mut self, entry: Entry) -> Result<(), NoMemory>
+        ensures { OnOk result ((p : Parts) (hs : List (List entries.Entry))
+            (es : List entries.Entry)
+            → holds self.old p hs es → holds self.new p hs (es ++ entry ∷ [])) };
+
+    /// Keeps the group that was followed, which is whole.
+    fn close(&mut self, alloc: Global, setup: &Setup, group: GroupNo) -> Result<(), NoMemory>
+        requires { CanClose (holds self.old setup.now) setup.now group.0 }
+        ensures { OnOk result ((hs : List (List entries.Entry)) (es : List entries.Entry)
+            → holds self.old setup.now hs es → length hs ≡ group.0
+            → holds self.new setup.now (hs ++ es ∷ []) []) };
+}
+
+/// Keeps nothing.
+impl Keeper for () {
+    ghost holds = { λ k p hs es. ⊤ };
+
+    fn keep(&mut self, _entry: Entry) -> Result<(), NoMemory> {
+        Ok(())
+    }
+
+    fn close(&mut self, _alloc: Global, _setup: &Setup, _group: GroupNo) -> Result<(), NoMemory> {
+        Ok(())
+    }
+}
+
+/// Keeps all groups, each with its entries.
+#[derive(Drop)]
+pub(crate) struct GroupKeeper {
+    groups: Vec<PlayedGroup>,
+    /// Those of the group that is followed.
+    entries: Vec<Entry>,
+}
+
+impl GroupKeeper {
+    /// Nothing was followed yet.
+    pub(crate) fn new(alloc: Global) -> GroupKeeper
+        ensures groups { result.groups.items ≡ [] }
+        ensures entries { result.entries.items ≡ [] }
+    {
+        GroupKeeper {
+            groups: Vec::new(alloc),
+            entries: Vec::new(alloc),
+        }
+    }
+
+    /// The groups that are whole.
+    pub(crate) fn groups(self) -> Vec<PlayedGroup>
+        ensures { result.items ≡ self.groups.items }
+    {
+        self.groups
+    }
+}
+
+impl Keeper for GroupKeeper {
+    ghost holds = { λ k p hs es.
+        (k.groups.items ≡ groups_from p 0 hs) × (k.entries.items ≡ es) };
+
+    fn keep(&mut self, entry: Entry) -> Result<(), NoMemory> {
+        self.entries.push(entry)?;
+        Ok(())
+    }
+
+    fn close(&mut self, alloc: Global, setup: &Setup, group: GroupNo) -> Result<(), NoMemory> {
+        let entries = mem::replace(&mut self.entries, Vec::new(alloc));
+        let played = PlayedGroup::new(setup, group, entries)?;
+        if self.groups.push(played).is_err() {
+            return Err(NoMemory);
+        }
+        Ok(())
+    }
+}
