@@ -1,5 +1,5 @@
 -- The text of plays tells the groups of its set, each with its history.
-use Rattle.std.proofs.Common.{List, drop, ◌++◌}
+use Rattle.std.proofs.Common.{ℕ, List, ◌++◌, drop}
 use Rattle.rt_rules.specs.declared.history.Entry.{Entry}
 use Rattle.trace_lines.specs.Known.{known_of}
 use Rattle.trace_laws.proofs.Heads.{head-unique, lines_of, longer-head}
