@@ -170,7 +170,7 @@ pub fn task_parts(alloc: Global, lane: TaskLane, cells: &[Marked]) -> Result<Vec
     ensures { IfOk result (λ v. map part_shown v.items
         ≡ map (λ (c : charts.Marked). task_part_of lane c.cell) (map marked_shown cells.now)) }
 {
-    let mut parts = Vec::new(alloc);
+    let mut parts = Vec::with_capacity(alloc, cells.len())?;
     for cell in cells {
         parts.push(task_part(alloc, lane, cell)?)?;
     }
@@ -182,7 +182,7 @@ pub fn cpu_parts(alloc: Global, lane: CpuLane, cells: &[CpuCell]) -> Result<Vec<
     ensures { IfOk result (λ v. map part_shown v.items
         ≡ map (cpu_part_of lane) (map cpu_cell_shown cells.now)) }
 {
-    let mut parts = Vec::new(alloc);
+    let mut parts = Vec::with_capacity(alloc, cells.len())?;
     for cell in cells {
         parts.push(match lane {
             CpuLane::Playing => Part::Playing(cell.playing),
@@ -196,7 +196,7 @@ pub fn cpu_parts(alloc: Global, lane: CpuLane, cells: &[CpuCell]) -> Result<Vec<
 pub fn left_parts(alloc: Global, left: &[u64]) -> Result<Vec<Part>, AllocError>
     ensures { IfOk result (λ v. map part_shown v.items ≡ map spec.left left.now) }
 {
-    let mut parts = Vec::new(alloc);
+    let mut parts = Vec::with_capacity(alloc, left.len())?;
     for units in left {
         parts.push(Part::Left(*units))?;
     }
