@@ -27,6 +27,7 @@ use rt_base::{NoMemory, TaskNo};
 use std::alloc::Global;
 use view_acts::ShownAct;
 
+#[inline(always)]
 fn see_task(row: &mut TaskFeed, alloc: Global, afresh: &Afresh) -> Result<(), NoMemory>
     requires task { has row.old.task (groups.tasks (group_of afresh.now)) ≡ true }
     requires at { (past : Past) × IsAt afresh.now past }
