@@ -1,16 +1,19 @@
 -- Rows that are changed one after the other.
-use Rattle.std.proofs.Common.{Bool, true, false, ◌||◌, append-nil, ◌≡◌, ◌∙◌, ℕ, zero, suc, ◌+◌, ◌<◌, ◌≤◌, List, [], ◌∷◌, ◌++◌, length, map, take, drop, get_or, set, refl, sym, ap, subst, arith, All}
-use Rattle.std.specs.Prelude.{filter, if◌then◌else◌}
+use Rattle.std.proofs.Common.{Bool, true, false, append-nil, ◌≡◌, ◌∙◌, ℕ, zero, suc, ◌+◌, ◌<◌, ◌≤◌, List, [], ◌∷◌, ◌++◌, length, map, take, drop, get_or, set, refl, sym, ap, subst, arith, All}
+use Rattle.std.specs.Prelude.{filter, Option, None, Some, is_some, if◌then◌else◌}
 use Rattle.std.proofs.lemmas.List.{map-append, take_more}
 use Rattle.std.proofs.lemmas.List.Edits.{map_over_more}
 use Rattle.std.proofs.lemmas.List.Elements.{filter-append}
 use Rattle.rt_base.specs.declared.CpuNo.{CpuNo}
 use Rattle.rt_model.specs.Group.{Group}
 use Rattle.trace_views.specs.Cells.{runs_no_unit}
+use Rattle.trace_views.specs.Moments.{Moment}
 use Rattle.chart_cells.specs.Cells.{cpu_numbers, playing_shown}
 use Rattle.chart_rows.specs.declared.loops.Played.{Played}
-use Rattle.chart_rows.specs.inside.Plays.{AreRunning, played_shown}
+use Rattle.chart_rows.specs.inside.Plays.{played_shown}
 use Rattle.chart_rows.specs.Rows as rows
+use Rattle.chart_rows.specs.Units.{IsTold}
+use Rattle.chart_rows.specs.declared.units.Unit.{Unit}
 
 -- the first n are changed
 abbrev pub changed : {A : Type 0} → (A → A) → ℕ → List A → List A
@@ -38,9 +41,18 @@ changed-at f xs ys i x low is read = read ∙ ap (λ zs. get_or zs i x) is ∙ b
 pub changed-all-at : {A : Type 0} (P : A → Type 0) (f : A → A) (xs ys : List A) (i : ℕ) (x : A) → All P xs → i < length xs → ys ≡ changed f i xs → x ≡ get_or ys i x → P (get_or ys i x)
 changed-all-at P f xs ys i x all low is read = subst P (sym (changed-at f xs ys i x low is read) ∙ read) (all i x low)
 
+-- without a unit no processor's is
+pub none-acted : (g : Group) (m : Moment) (o : Option Unit) → is_some o ≡ false → IsTold g m o → (ks : List rows.CpuKept) → ks ≡ map (rows.cpu_acted g m) ks
+none-acted g m (Some u) h told ks = cc
+none-acted g m None h told [] = refl
+none-acted g m None h told (k ∷ ks) = λ i. here i ∷ none-acted g m None h told ks i
+  where
+    here : k ≡ rows.cpu_acted g m k
+    here = rw told refl
+
 -- ---- those that run a task, among the first
 
-running-snoc : (g : Group) (t : ℕ) (ps : List rows.Played) (p : rows.Played) → rows.running g t (ps ++ p ∷ []) ≡ rows.running g t ps ++ (if runs_no_unit g t p.playing then p.cpu ∷ [] else [])
+pub running-snoc : (g : Group) (t : ℕ) (ps : List rows.Played) (p : rows.Played) → rows.running g t (ps ++ p ∷ []) ≡ rows.running g t ps ++ (if runs_no_unit g t p.playing then p.cpu ∷ [] else [])
 running-snoc g t ps p =
     ap (map (λ (x : rows.Played). x.cpu)) (filter-append (λ (x : rows.Played). runs_no_unit g t x.playing) ps (p ∷ []))
     ∙ map-append (λ (x : rows.Played). x.cpu) (filter (λ (x : rows.Played). runs_no_unit g t x.playing) ps) (filter (λ (x : rows.Played). runs_no_unit g t x.playing) (p ∷ []))
@@ -64,19 +76,6 @@ running-yes g t plays i d old new low before runs made =
 pub running-no : (g : Group) (t : ℕ) (plays : List Played) (i : ℕ) (d : Played) (old new : List CpuNo) → i < length plays → cpu_numbers old ≡ rows.running g t (map played_shown (take i plays))
     → runs_no_unit g t (playing_shown (get_or plays i d).playing) ≡ false → new ≡ old → cpu_numbers new ≡ rows.running g t (map played_shown (take (i + 1) plays))
 running-no g t plays i d old new low before idle made = ap cpu_numbers made ∙ before ∙ sym (running-next g t plays i d low ∙ rw idle (append-nil _))
-
-both-false : (a b : Bool) → (a || b) ≡ false → (a ≡ false) × (b ≡ false)
-both-false false false h = (refl, refl)
-both-false true b h = cc
-both-false false true h = cc
-
-pub running-more : (plays : List Played) (i : ℕ) (d : Played) (old new : List Bool) → i < length plays → AreRunning (map played_shown (take i plays)) old → length new ≡ length old
-    → ((g : Group) (t : ℕ) → t < length old → get_or new t false ≡ (runs_no_unit g t (playing_shown (get_or plays i d).playing) || get_or old t false))
-    → AreRunning (map played_shown (take (i + 1) plays)) new
-running-more plays i d old new low before same marked = λ g t inside unmarked.
-    let was : t < length old = subst (λ n. t < n) same inside in
-    let off = both-false (runs_no_unit g t (playing_shown (get_or plays i d).playing)) (get_or old t false) (sym (marked g t was) ∙ unmarked) in
-    running-next g t plays i d low ∙ rw off.0 (append-nil _) ∙ before g t was off.1
 
 -- ---- rows that are made one after the other
 

@@ -7,4 +7,5 @@ pub mod Waits
 pub mod Ranks
 pub mod UpTo
 mod OneRow
+mod Finishing
 pub mod TickLaws

@@ -1,6 +1,6 @@
 -- What is kept of rows follows the states and acts of the column that goes on, and its end.
 use Rattle.std.proofs.Common.{◌≡◌, ◌∙◌, ℕ, Bool, true, false, List, [], ◌∷◌, ◌++◌, map, refl, sym, ap}
-use Rattle.std.specs.Prelude.{◌&&◌, ◌==◌, filter, None, unwrap_or, if◌then◌else◌}
+use Rattle.std.specs.Prelude.{◌&&◌, ◌==◌, filter, None, Some, unwrap_or, if◌then◌else◌}
 use Rattle.std.proofs.lemmas.List.{map-append}
 use Rattle.std.proofs.lemmas.Simd.{map-map}
 use Rattle.rt_rules.specs.Numbers.{is}
@@ -16,7 +16,7 @@ use Rattle.chart_cells.specs.KeptFirst.{cpu_at_end, cpu_at_unit, kept_cpu, kept_
 use Rattle.chart_cells.specs.KeptFirstLaws.{unless_kept}
 use Rattle.chart_cells.proofs.KeptCells.{kept_cells_follow_lem}
 use Rattle.chart_cells.proofs.FirstUnits.{first_units_are_kept_lem}
-use Rattle.chart_rows.specs.Rows.{Played, cpu_acted, cpu_closed, cpu_kept, ends_in, played, resv_acted, resv_closed, resv_kept, rows_acted, rows_closed, rows_of, rows_seen, running, task_acted, task_closed, task_kept, task_seen}
+use Rattle.chart_rows.specs.Rows.{Played, cpu_acted, cpu_closed, cpu_finished, cpu_kept, ends_in, played, resv_acted, resv_closed, resv_finished, resv_kept, rows_acted, rows_closed, rows_ended, rows_finished, rows_of, rows_seen, running, task_acted, task_closed, task_finished, task_kept, task_seen}
 use Rattle.chart_rows.specs.Strips.{Strip, blank, column_of, done, seen}
 
 module _ (g : Group) where
@@ -143,4 +143,14 @@ module _ (g : Group) where
       tasks = (map-map (task_closed g plays) (task_kept g ss s) (tasks g) ∙ each _ _ (tasks g) closed-task) i;
       cpus = (map-map (cpu_closed g x) (cpu_kept g ss s) (group_processors g) ∙ each _ _ (group_processors g) closed-cpu) i;
       resvs = (map-map (resv_closed g x) (resv_kept g ss s) (group_resvs g) ∙ each _ _ (group_resvs g) closed-resv) i;
+    }
+
+    -- ---- and its cells are kept
+
+    pub finished-rows : rows_finished g x (rows_of g ss s) ≡ rows_ended g ss s
+    unfolding rows_of rows_ended
+    finished-rows = λ i. record {
+      tasks = (map-map (task_finished g plays) (task_kept g ss s) (tasks g) ∙ each _ _ (tasks g) (λ t j. record (task_kept g ss s t) { kept = cell-finished t j })) i;
+      cpus = (map-map (cpu_finished g x) (cpu_kept g ss s) (group_processors g) ∙ each _ _ (group_processors g) (λ q j. record (cpu_kept g ss s q) { kept = Some (cell-ends q j) })) i;
+      resvs = (map-map (resv_finished g x) (resv_kept g ss s) (group_resvs g) ∙ each _ _ (group_resvs g) (λ r j. record (resv_kept g ss s r) { kept = Some (left-ends r j) })) i;
     }

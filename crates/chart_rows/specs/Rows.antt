@@ -1,6 +1,6 @@
 -- What is kept of the rows of a chart: their cells in the columns that are over, and what there is of the column that goes on.
 use Rattle.std.specs.List.{list_any}
-use Rattle.std.specs.Prelude.{ℕ, Bool, false, ◌&&◌, ◌||◌, ◌==◌, List, [], ◌∷◌, ◌++◌, map, filter, Option, None, unwrap_or, if◌then◌else◌}
+use Rattle.std.specs.Prelude.{ℕ, Bool, false, ◌&&◌, ◌||◌, ◌==◌, List, [], ◌∷◌, ◌++◌, map, filter, Option, None, Some, unwrap_or, if◌then◌else◌}
 use Rattle.rt_rules.specs.Numbers.{is}
 use Rattle.rt_model.specs.Group.{Group, clients, group_processors, tasks}
 use Rattle.rt_model.specs.Past.{Past}
@@ -77,6 +77,24 @@ module _ (g : Group) where
     resvs = map (resv_kept ss s) (group_resvs g);
   }
 
+  -- ---- the last one has ended, and its cells are kept
+
+  abbrev pub task_ended : List Strip → Strip → ℕ → TaskKept
+  task_ended ss s t = record (task_kept ss s t) { kept = task_cell g t (column_of s) }
+
+  abbrev pub cpu_ended : List Strip → Strip → ℕ → CpuKept
+  cpu_ended ss s q = record (cpu_kept ss s q) { kept = Some (cpu_cell g q (column_of s)) }
+
+  abbrev pub resv_ended : List Strip → Strip → ℕ → ResvKept
+  resv_ended ss s r = record (resv_kept ss s r) { kept = Some (resv_cell g r (column_of s)) }
+
+  unfoldable pub rows_ended : List Strip → Strip → RowsKept
+  rows_ended ss s = record {
+    tasks = map (task_ended ss s) (tasks g);
+    cpus = map (cpu_ended ss s) (group_processors g);
+    resvs = map (resv_ended ss s) (group_resvs g);
+  }
+
   -- ---- a state more
 
   abbrev pub task_seen : Past → TaskKept → TaskKept
@@ -111,6 +129,32 @@ module _ (g : Group) where
 
   abbrev pub played : Past → CpuKept → Played
   played x k = record { cpu = k.cpu; playing = (cpu_ends x k).playing }
+
+  -- what is kept of it is its cells
+
+  abbrev pub task_finished : List Played → TaskKept → TaskKept
+  task_finished ps k = record k { kept = finished (running g k.task ps) k.kept }
+
+  abbrev pub cpu_finished : Past → CpuKept → CpuKept
+  cpu_finished x k = record k { kept = Some (cpu_ends x k) }
+
+  abbrev pub resv_finished : Past → ResvKept → ResvKept
+  resv_finished x k = record k { kept = Some (unwrap_or k.kept (left g k.resv x)) }
+
+  abbrev pub rows_finished : Past → RowsKept → RowsKept
+  rows_finished x v = record {
+    tasks = map (task_finished (map (played x) v.cpus)) v.tasks;
+    cpus = map (cpu_finished x) v.cpus;
+    resvs = map (resv_finished x) v.resvs;
+  }
+
+  -- and the next one is begun, without them, or with them behind the others
+
+  abbrev pub task_cleared : TaskKept → TaskKept
+  task_cleared k = record k { kept = cell_away g; end = false }
+
+  abbrev pub task_put : TaskKept → TaskKept
+  task_put k = record { task = k.task; cells = k.cells ++ k.kept ∷ []; ends = k.ends ++ k.end ∷ []; kept = cell_away g; end = false }
 
   abbrev pub task_closed : List Played → TaskKept → TaskKept
   task_closed ps k = record {

@@ -83,7 +83,25 @@ pub(crate) fn cell_with(
     })
 }
 
+/// Keeps the cell of a task that does this in a state. It stands apart, so that a task that shows nothing new is passed by quickly.
+#[inline(never)]
+fn keep_state(
+    kept: &mut Cell,
+    alloc: Global,
+    afresh: &Afresh,
+    task: TaskNo,
+    doing: Doing,
+) -> Result<(), NoMemory>
+    requires { has task.0 (tasks (group_of afresh.now)) ≡ true }
+    ensures { OnOk result ((past : Past) → IsAt afresh.now past → cell_shown kept.new
+        ≡ cell_at (group_of afresh.now) (doing_shown doing) task.0 past) }
+{
+    *kept = cell_with(alloc, afresh, task, doing)?;
+    Ok(())
+}
+
 /// Takes what a state of the column shows of a task, if that is more than what was so before. The rest of its cell is read only then.
+#[inline(always)]
 pub(crate) fn see_state(
     kept: &mut Cell,
     alloc: Global,
@@ -97,7 +115,7 @@ pub(crate) fn see_state(
 {
     let doing = doing_in(afresh, task);
     if kept.gives_way_to(&doing) {
-        *kept = cell_with(alloc, afresh, task, doing)?;
+        keep_state(kept, alloc, afresh, task, doing)?;
     }
     Ok(())
 }

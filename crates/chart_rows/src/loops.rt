@@ -1,6 +1,5 @@
 //! What an act, and the end of a column, makes of all rows.
-ghost use Rattle.std.specs.Prelude.{◌≡◌, ◌<◌, ◌||◌, [], ℕ, All, IfOk, List, OnOk};
-ghost use Rattle.std.specs.Prelude.{false, length, map, slice_index_or, true};
+ghost use Rattle.std.specs.Prelude.{◌≡◌, All, IfOk, OnOk, map, true};
 ghost use Rattle.rt_base.specs.TaskNos.{number_of_task};
 ghost use Rattle.rt_rules.specs.Distinct.{IsDistinct};
 ghost use Rattle.rt_rules.specs.Numbers.{has};
@@ -11,7 +10,7 @@ ghost use Rattle.chart_texts.specs.Charts.{group_resvs};
 ghost use Rattle.view_acts.specs.ShownActs.{act_shown};
 ghost use Rattle.chart_cells.specs.Cells.{cpu_numbers, playing_shown};
 ghost use Rattle.chart_rows.specs.inside.Finding.{only};
-ghost use Rattle.chart_rows.specs.inside.Plays.{AreRunning, played_shown};
+ghost use Rattle.chart_rows.specs.inside.Plays.{idly_run, played_shown};
 ghost use Rattle.chart_rows.specs.Listed.{tasks_listed};
 ghost use Rattle.chart_rows.specs.Rows as rows;
 ghost use Rattle.chart_rows.specs.Units.{IsTold};
@@ -23,7 +22,7 @@ use crate::resvs::ResvFeed;
 use crate::tasks::TaskFeed;
 use crate::units::Unit;
 use chart_cells::Playing;
-use rt_base::{CpuNo, MOST_TASKS, NoMemory, TaskNo};
+use rt_base::{CpuNo, NoMemory, TaskNo};
 use std::alloc::Global;
 use view_acts::ShownAct;
 
@@ -80,6 +79,9 @@ pub(crate) fn act_cpus(cpus: &mut [CpuFeed], cpu: CpuNo, unit: &Option<Unit>)
     ensures { (g : Group) (m : Moment) → cpu.0 ≡ m.act.cpu → IsTold g m unit.now
         → cpus.new ≡ map (rows.cpu_acted g m) cpus.old }
 {
+    if unit.is_none() {
+        return;
+    }
     for row in cpus.iter_mut() {
         act_cpu(row, cpu, unit);
     }
@@ -119,95 +121,80 @@ pub(crate) fn running(alloc: Global, plays: &[Played], task: TaskNo) -> Result<V
     Ok(cpus)
 }
 
-/// Marks the task that is run without a unit, if there is one that has a mark.
-fn mark(marks: &mut [bool], playing: Playing)
-    ensures length { length marks.new ≡ length marks.old }
-    ensures marks { (g : Group) (t : ℕ) → t < length marks.old → slice_index_or marks.new t false
-        ≡ (runs_no_unit g t (playing_shown playing) || slice_index_or marks.old t false) }
+/// The task that is run without a unit.
+fn idly_run(playing: Playing) -> Option<TaskNo>
+    ensures { number_of_task result ≡ idly_run (playing_shown playing) }
 {
-    let Playing::RunsTask(task) = playing else {
-        return;
-    };
-    let position = task.0 as usize;
-    if position >= marks.len() {
-        return;
-    }
-    marks[position] = true;
-}
-
-/// Marks the tasks that a processor runs and does no unit of.
-fn mark_running(marks: &mut [bool], plays: &[Played])
-    ensures { AreRunning (map played_shown plays.now) marks.new }
-{
-    for played in plays {
-        mark(marks, played.playing);
+    match playing {
+        Playing::RunsTask(task) => Some(task),
+        _ => None,
     }
 }
 
-/// A mark for each task number up to `MOST_TASKS`: whether a processor runs the task and does no unit.
-fn running_marks(alloc: Global, plays: &[Played]) -> Result<Vec<bool>, NoMemory>
-    ensures { IfOk result (λ v. AreRunning (map played_shown plays.now) v.items) }
-{
-    let mut marks = vec![in alloc; false; MOST_TASKS as usize + 1]?;
-    mark_running(marks.as_mut_slice(), plays);
-    Ok(marks)
-}
-
-/// Whether the marks say that no processor runs the task without a unit.
-fn is_unmarked(marks: &[bool], task: TaskNo) -> bool
-    ensures { (plays : List rows.Played) → AreRunning plays marks.now → result ≡ true
-        → (g : Group) → rows.running g task.0 plays ≡ [] }
-{
-    match marks.get(task.0 as usize) {
-        Some(mark) => !*mark,
-        None => false,
-    }
-}
-
-/// The same processors as `running` gives: none, without a search, for a task that the marks say no processor runs.
-fn running_of(
-    alloc: Global,
-    plays: &[Played],
-    marks: &[bool],
-    task: TaskNo,
-) -> Result<Vec<CpuNo>, NoMemory>
-    requires { AreRunning (map played_shown plays.now) marks.now }
-    ensures { IfOk result (λ v. (g : Group) → cpu_numbers v.items
-        ≡ rows.running g task.0 (map played_shown plays.now)) }
-{
-    if is_unmarked(marks, task) {
-        return Ok(Vec::new(alloc));
-    }
-    running(alloc, plays, task)
-}
-
-fn close_task(
-    row: &mut TaskFeed,
-    alloc: Global,
-    plays: &[Played],
-    marks: &[bool],
-) -> Result<(), NoMemory>
-    requires { AreRunning (map played_shown plays.now) marks.now }
+fn finish_task(row: &mut TaskFeed, alloc: Global, plays: &[Played]) -> Result<(), NoMemory>
     ensures { OnOk result ((g : Group)
-        → row.new ≡ rows.task_closed g (map played_shown plays.now) row.old) }
+        → row.new ≡ rows.task_finished g (map played_shown plays.now) row.old) }
 {
-    let cpus = running_of(alloc, plays, marks, row.task())?;
-    row.close(alloc, cpus)?;
+    let cpus = running(alloc, plays, row.task())?;
+    row.finish(cpus);
     Ok(())
 }
 
-/// Ends a column for the rows of tasks, in which the processors do this. Most tasks run nowhere, which the marks say at once.
+/// Ends a column for the row of this task, if there is one.
+fn finish_row(
+    tasks: &mut [TaskFeed],
+    alloc: Global,
+    plays: &[Played],
+    task: Option<TaskNo>,
+) -> Result<(), NoMemory>
+    ensures { OnOk result ((g : Group) → IsDistinct (tasks_listed tasks.old) → tasks.new ≡ map
+        (only (number_of_task task) (rows.task_finished g (map played_shown plays.now)))
+        tasks.old) }
+{
+    let Some(task) = task else {
+        return Ok(());
+    };
+    if let Some(position) = position_of(tasks, task) {
+        finish_task(&mut tasks[position], alloc, plays)?;
+    }
+    Ok(())
+}
+
+/// Ends a column, in which the processors do this, for the cells that are kept of tasks: only those change that a processor runs and
+/// does no unit of.
+pub(crate) fn finish_tasks(
+    tasks: &mut [TaskFeed],
+    alloc: Global,
+    plays: &[Played],
+) -> Result<(), NoMemory>
+    ensures { OnOk result ((g : Group) → IsDistinct (tasks_listed tasks.old)
+        → tasks.new ≡ map (rows.task_finished g (map played_shown plays.now)) tasks.old) }
+{
+    for played in plays {
+        finish_row(tasks, alloc, plays, idly_run(played.playing))?;
+    }
+    Ok(())
+}
+
+/// Begins the next column, and puts what was kept of tasks behind the columns that are over.
+fn put_tasks(tasks: &mut [TaskFeed], alloc: Global) -> Result<(), NoMemory>
+    ensures { OnOk result ((g : Group) → tasks.new ≡ map (rows.task_put g) tasks.old) }
+{
+    for row in tasks.iter_mut() {
+        row.close(alloc)?;
+    }
+    Ok(())
+}
+
+/// Ends a column for the rows of tasks, in which the processors do this.
 pub(crate) fn close_tasks(
     tasks: &mut [TaskFeed],
     alloc: Global,
     plays: &[Played],
 ) -> Result<(), NoMemory>
-    ensures { OnOk result ((g : Group)
+    ensures { OnOk result ((g : Group) → IsDistinct (tasks_listed tasks.old)
         → tasks.new ≡ map (rows.task_closed g (map played_shown plays.now)) tasks.old) }
 {
-    let marks = running_marks(alloc, plays)?;
-    for row in tasks.iter_mut() {
-        close_task(row, alloc, plays, marks.as_slice())?;
-    }
-    Ok(())
+    finish_tasks(tasks, alloc, plays)?;
+    put_tasks(tasks, alloc)
 }

@@ -10,16 +10,18 @@ ghost use Rattle.chart_cells.specs.Cells.{cpu_numbers};
 ghost use Rattle.chart_texts.specs.Charts.{group_resvs};
 ghost use Rattle.view_acts.specs.ShownActs.{act_shown};
 ghost use Rattle.chart_rows.specs.Listed.{AreListed};
-ghost use Rattle.chart_rows.specs.Rows.{rows_acted, rows_closed, rows_of, rows_seen};
+ghost use Rattle.chart_rows.specs.Rows.{rows_acted, rows_closed, rows_finished, rows_of, rows_seen};
 ghost use Rattle.chart_rows.specs.Strips.{blank};
 ghost use Rattle.chart_rows.specs.Units.{IsTold, resv_numbers};
 ghost use Rattle.chart_rows.specs.UpTo.{AreUpTo};
 
 use crate::cpus::CpuFeed;
-use crate::loops::{act_cpus, act_resvs, act_tasks, close_tasks};
+use crate::loops::{act_cpus, act_resvs, act_tasks, close_tasks, finish_tasks};
 use crate::opening::{cpu_rows, resv_rows, task_rows};
 use crate::resvs::ResvFeed;
-use crate::seeing::{close_cpus, close_resvs, plays, see_tasks, see_tasks_after};
+use crate::seeing::{
+    close_cpus, close_resvs, finish_cpus, finish_resvs, plays, see_tasks, see_tasks_after,
+};
 use crate::tasks::TaskFeed;
 use crate::units::Unit;
 use rank_afresh::Afresh;
@@ -113,7 +115,21 @@ impl Rows {
         Ok(())
     }
 
-    /// Ends the column, in this state.
+    /// Ends the column, in this state, for what is kept of it: no other column is begun yet.
+    pub fn finish(&mut self, alloc: Global, afresh: &Afresh) -> Result<(), NoMemory>
+        requires listed { AreListed (group_of afresh.now) self.old }
+        requires at { (past : Past) × IsAt afresh.now past }
+        ensures { OnOk result ((past : Past) → IsAt afresh.now past
+            → self.new ≡ rows_finished (group_of afresh.now) past self.old) }
+    {
+        let plays = plays(alloc, self.cpus.as_slice(), afresh)?;
+        finish_tasks(self.tasks.as_mut_slice(), alloc, plays.as_slice())?;
+        finish_cpus(self.cpus.as_mut_slice(), afresh);
+        finish_resvs(self.resvs.as_mut_slice(), afresh);
+        Ok(())
+    }
+
+    /// Ends the column, in this state, and begins the next one.
     pub fn close(&mut self, alloc: Global, afresh: &Afresh) -> Result<(), NoMemory>
         requires listed { AreListed (group_of afresh.now) self.old }
         requires at { (past : Past) × IsAt afresh.now past }

@@ -27,6 +27,7 @@ use rt_base::{NoMemory, TaskNo};
 use std::alloc::Global;
 use view_acts::ShownAct;
 
+#[inline(always)]
 fn see_task(row: &mut TaskFeed, alloc: Global, afresh: &Afresh) -> Result<(), NoMemory>
     requires task { has row.old.task (groups.tasks (group_of afresh.now)) ≡ true }
     requires at { (past : Past) × IsAt afresh.now past }
@@ -133,6 +134,27 @@ pub(crate) fn plays(
     Ok(plays)
 }
 
+fn finish_cpu(row: &mut CpuFeed, afresh: &Afresh)
+    requires { IsProcessorOf (group_of afresh.now) row.old.cpu }
+    ensures { (past : Past) → IsAt afresh.now past
+        → row.new ≡ rows.cpu_finished (group_of afresh.now) past row.old }
+{
+    let cell = cpu_at_end(afresh, row.cpu());
+    row.work(cell);
+}
+
+/// Ends a column, in this state, for the cells that are kept of processors.
+pub(crate) fn finish_cpus(cpus: &mut [CpuFeed], afresh: &Afresh)
+    requires cpus { All (λ (k : rows.CpuKept). IsProcessorOf (group_of afresh.now) k.cpu) cpus.old }
+    requires at { (past : Past) × IsAt afresh.now past }
+    ensures { (past : Past) → IsAt afresh.now past
+        → cpus.new ≡ map (rows.cpu_finished (group_of afresh.now) past) cpus.old }
+{
+    for row in cpus.iter_mut() {
+        finish_cpu(row, afresh);
+    }
+}
+
 fn close_cpu(row: &mut CpuFeed, afresh: &Afresh) -> Result<(), NoMemory>
     requires { IsProcessorOf (group_of afresh.now) row.old.cpu }
     ensures { OnOk result ((past : Past) → IsAt afresh.now past
@@ -154,6 +176,29 @@ pub(crate) fn close_cpus(cpus: &mut [CpuFeed], afresh: &Afresh) -> Result<(), No
         close_cpu(row, afresh)?;
     }
     Ok(())
+}
+
+fn finish_resv(row: &mut ResvFeed, afresh: &Afresh)
+    requires resv { has row.old.resv (group_resvs (group_of afresh.now)) ≡ true }
+    requires at { (past : Past) × IsAt afresh.now past }
+    ensures { (past : Past) → IsAt afresh.now past
+        → row.new ≡ rows.resv_finished (group_of afresh.now) past row.old }
+{
+    let left = afresh.left(row.resv());
+    row.work(left);
+}
+
+/// Ends a column, in this state, for what is kept of reservations.
+pub(crate) fn finish_resvs(resvs: &mut [ResvFeed], afresh: &Afresh)
+    requires resvs { All (λ (k : rows.ResvKept).
+        has k.resv (group_resvs (group_of afresh.now)) ≡ true) resvs.old }
+    requires at { (past : Past) × IsAt afresh.now past }
+    ensures { (past : Past) → IsAt afresh.now past
+        → resvs.new ≡ map (rows.resv_finished (group_of afresh.now) past) resvs.old }
+{
+    for row in resvs.iter_mut() {
+        finish_resv(row, afresh);
+    }
 }
 
 fn close_resv(row: &mut ResvFeed, afresh: &Afresh) -> Result<(), NoMemory>

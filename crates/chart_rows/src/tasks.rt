@@ -1,11 +1,12 @@
 //! The row of a task while columns go on.
-ghost use Rattle.std.specs.Prelude.{◌≡◌, ◌||◌, [], ◌∷◌, ◌++◌, OnOk, false};
+ghost use Rattle.std.specs.Prelude.{◌≡◌, ◌||◌, [], OnOk, false};
 ghost use Rattle.rt_model.specs.Group.{Group};
 ghost use Rattle.trace_views.specs.Cells.{cell_away};
 ghost use Rattle.chart_cells.specs.Cells.{cell_shown, cpu_numbers};
 ghost use Rattle.chart_cells.specs.Kept.{finished, with_unit};
+ghost use Rattle.chart_rows.specs.Rows.{task_cleared, task_put};
 
-use chart_cells::{Cell, Marked, Marks};
+use chart_cells::{Cell, Doing, Marked, Marks};
 use rt_base::{CpuNo, NoMemory, TaskNo};
 use std::alloc::Global;
 use std::marker::Model;
@@ -80,24 +81,45 @@ impl TaskFeed {
     }
 
     /// Ends the column, in which these processors, by number, run the task and do no unit.
-    pub(crate) fn close(&mut self, alloc: Global, running: Vec<CpuNo>) -> Result<(), NoMemory>
-        ensures { OnOk result ((g : Group) → self.new ≡ record {
-          task = self.old.task;
-          cells = self.old.cells ++ finished (cpu_numbers running.items) self.old.kept ∷ [];
-          ends = self.old.ends ++ self.old.end ∷ [];
-          kept = cell_away g;
-          end = false;
-        }) }
+    pub(crate) fn finish(&mut self, running: Vec<CpuNo>)
+        ensures { self.new
+            ≡ record self.old { kept = finished (cpu_numbers running.items) self.old.kept } }
     {
-        let mut cell = mem::replace(&mut self.kept, Cell::away(alloc));
-        cell.finish(running);
+        self.kept.finish(running);
+    }
+
+    /// Begins the next column in place: what was kept of this one is dropped.
+    pub fn clear(&mut self)
+        ensures { (g : Group) → self.new ≡ task_cleared g self.old }
+    {
+        self.kept.doing = Doing::Away;
+        self.kept.job = 0;
+        self.kept.held.clear();
+        self.kept.non_preemptive = false;
+        self.kept.raised = false;
+        self.end = false;
+    }
+
+    /// Begins the next column, and gives the cell that was kept of this one.
+    pub fn take(&mut self, alloc: Global) -> Cell
+        ensures cell { cell_shown result ≡ self.old.kept }
+        ensures row { (g : Group) → self.new ≡ task_cleared g self.old }
+    {
+        self.end = false;
+        mem::replace(&mut self.kept, Cell::away(alloc))
+    }
+
+    /// Begins the next column, and puts what was kept of this one behind those that are over.
+    pub(crate) fn close(&mut self, alloc: Global) -> Result<(), NoMemory>
+        ensures { OnOk result ((g : Group) → self.new ≡ task_put g self.old) }
+    {
         let marks = Marks {
             release: false,
             deadline: false,
             missed: false,
             end: self.end,
         };
-        self.end = false;
+        let cell = self.take(alloc);
         self.closed.push(Marked { cell, marks })?;
         Ok(())
     }

@@ -12,3 +12,7 @@ four_put o a b c d m n r s h k l j = two_put o a (b ++ (c ++ d)) m s h (three_pu
 
 pub five_put : (o a b c d e m n r s t : List ℕ) → m ≡ o ++ a → n ≡ m ++ b → r ≡ n ++ c → s ≡ r ++ d → t ≡ s ++ e → t ≡ o ++ (a ++ (b ++ (c ++ (d ++ e))))
 five_put o a b c d e m n r s t h k l j i = two_put o a (b ++ (c ++ (d ++ e))) m t h (four_put m b c d e n r s t k l j i)
+
+pub seven_put : (o a b c d e f g m n r s t u v : List ℕ) → m ≡ o ++ a → n ≡ m ++ b → r ≡ n ++ c → s ≡ r ++ d → t ≡ s ++ e → u ≡ t ++ f → v ≡ u ++ g
+    → v ≡ o ++ (a ++ (b ++ (c ++ (d ++ (e ++ (f ++ g))))))
+seven_put o a b c d e f g m n r s t u v h k l j i p q = three_put o a b (c ++ (d ++ (e ++ (f ++ g)))) m n v h k (five_put n c d e f g r s t u v l j i p q)

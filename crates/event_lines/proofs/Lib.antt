@@ -5,4 +5,3 @@ mod Spans
 mod CpuSpans
 mod Commas
 pub mod Told
-pub mod Thousands

@@ -1,5 +1,5 @@
 -- A span of a task is an event, unless its job is not there.
-use Rattle.std.proofs.Common.{◌≡◌, ◌∙◌, ℕ, List, [], ◌∷◌, ◌++◌, refl, sym, ap, ap₂, append-nil}
+use Rattle.std.proofs.Common.{◌≡◌, ◌∙◌, ℕ, List, [], ◌∷◌, ◌++◌, refl, sym, ap, append-nil}
 use Rattle.rt_model.specs.Group.{Group}
 use Rattle.trace_views.specs.Cells.{TaskCell}
 use Rattle.chart_cells.specs.Cells.{cell_shown, doing_shown}
@@ -24,18 +24,18 @@ cell-told g process t from to c Ready there = refl
 cell-told g process t from to c Away there = absurd (there refl)
 
 module _ (g : Group) (process t : ℕ) (s : TaskSpan) where
-  abbrev pub there_event : ℕ → Piece → Piece
-  there_event thread k = span_event process thread s.from s.to k (name g (doing_shown s.cell.doing)) (cell_arguments g (cell_shown s.cell))
+  abbrev pub there_event : ℕ → Piece
+  there_event thread =
+      let d = doing_shown s.cell.doing in
+      span_event process thread s.from s.to (kind d) (name g d) (cell_arguments g (cell_shown s.cell))
 
-  span-told : (s.cell.doing ≡ Away → ⊥) → task_span_events g process t (task_span_shown s) ≡ there_event t (kind (doing_shown s.cell.doing)) ∷ []
+  span-told : (s.cell.doing ≡ Away → ⊥) → task_span_events g process t (task_span_shown s) ≡ there_event t ∷ []
   unfolding task_span_events
   span-told there = cell-told g process t s.from s.to (cell_shown s.cell) s.cell.doing there
 
-  pub there-put : (old new : List ℕ) (thread : ℕ) (k : Piece) → thread ≡ t → k ≡ kind (doing_shown s.cell.doing) → (s.cell.doing ≡ Away → ⊥)
-      → new ≡ old ++ with_comma (there_event thread k) → new ≡ old ++ with_commas (task_span_events g process t (task_span_shown s))
-  there-put old new thread k thread_is kind_is there h =
-      alone old new (there_event t (kind (doing_shown s.cell.doing))) (h ∙ ap₂ (λ n x. old ++ with_comma (there_event n x)) thread_is kind_is)
-      ∙ ap (λ es. old ++ with_commas es) (sym (span-told there))
+  pub there-told : (old new : List ℕ) (thread : ℕ) → thread ≡ t → (s.cell.doing ≡ Away → ⊥) → new ≡ old ++ with_comma (there_event thread) → new ≡ old ++ with_commas (task_span_events g process t (task_span_shown s))
+  there-told old new thread thread_is there h =
+      alone old new (there_event t) (h ∙ ap (λ n. old ++ with_comma (there_event n)) thread_is) ∙ ap (λ es. old ++ with_commas es) (sym (span-told there))
 
   away-told : s.cell.doing ≡ Away → task_span_events g process t (task_span_shown s) ≡ []
   unfolding task_span_events

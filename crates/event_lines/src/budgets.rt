@@ -8,7 +8,7 @@ ghost use Rattle.event_lines.specs.TrackEvents.{budget_event, some_group};
 
 use crate::elements::resv_name;
 use crate::put::{put, put_microseconds, put_number};
-use crate::records::{END, put_begun};
+use crate::records::{END, Phase, put_begun};
 use crate::tracks::BudgetSpan;
 use rt_base::ResvNo;
 use rt_task::Parts;
@@ -19,7 +19,7 @@ use std::alloc::AllocError;
 fn open_count(text: &mut Vec<u8>, process: u64, tick: u64) -> Result<(), AllocError>
     ensures { OnOk result (text.new.items ≡ text.old.items ++ count_to process tick) }
 {
-    put_begun(text, b"C", process)?;
+    put_begun(text, Phase::Count, process)?;
     put(text, b",\"ts\":")?;
     put_microseconds(text, u128::from(tick))?;
     put(text, b",\"name\":\"")

@@ -1,55 +1,57 @@
 //! What processors do, span by span.
-ghost use Rattle.std.specs.Prelude.{◌≡◌, ◌++◌, flat_map, map, OnOk};
+ghost use Rattle.std.specs.Prelude.{◌≡◌, ◌++◌, codes, flat_map, map, OnOk};
 ghost use Rattle.rt_base.specs.TaskNos.{number_of_task};
 ghost use Rattle.event_texts.specs.CpuSpans as spec;
-ghost use Rattle.event_texts.specs.Records.{span_event};
+ghost use Rattle.event_texts.specs.Records.{Piece, span_event};
 ghost use Rattle.event_lines.specs.inside.Commas.{with_comma, with_commas};
+ghost use Rattle.event_lines.specs.inside.Openings.{category};
 ghost use Rattle.event_lines.specs.Shown.{cpu_span_shown};
 ghost use Rattle.event_lines.specs.TrackEvents.{cpu_span_events, some_group};
 
 use crate::elements::task_name;
-use crate::put::{put, put_quoted};
-use crate::records::{ARGUMENTS, END, open_span};
+use crate::put::put;
+use crate::records::open_span;
 use crate::tracks::CpuSpan;
 use chart_cells::Playing;
 use rt_base::{CpuNo, TaskNo};
 use rt_task::Parts;
 use std::alloc::AllocError;
 
-/// The task that the processor is linked to.
+/// The task that the processor is linked to, as the argument of a span, and the end of the event.
 #[tactic(auto, using(crate::proofs::Joins::joins), unfolding(rt_model::specs::Group::task))]
 fn put_link(text: &mut Vec<u8>, set: &Parts, link: Option<TaskNo>) -> Result<(), AllocError>
-    ensures { OnOk result (text.new.items ≡ text.old.items
-        ++ spec.link_argument (some_group set.now) (number_of_task link)) }
+    ensures { OnOk result (text.new.items ≡ text.old.items ++ (codes "\",\"args\":{"
+        ++ (spec.link_argument (some_group set.now) (number_of_task link) ++ codes "}},\n"))) }
 {
     match link {
         Some(task) => {
-            put(text, b"\"link\":")?;
-            put_quoted(text, task_name(set.tasks.as_slice(), task))
+            put(text, b"\",\"args\":{\"link\":\"")?;
+            put(text, task_name(set.tasks.as_slice(), task))?;
+            put(text, b"\"}},\n")
         }
-        None => put(text, b"\"link\":null"),
+        None => put(text, b"\",\"args\":{\"link\":null}},\n"),
     }
 }
 
-/// A span of this kind, with the name of the task that the processor has.
+/// A span of this category, with the name of the task that the processor has.
 fn put_busy(
     text: &mut Vec<u8>,
     set: &Parts,
     process: u64,
     thread: u64,
     span: CpuSpan,
-    kind: &[u8],
+    words: &[u8],
     name: &[u8],
 ) -> Result<(), AllocError>
-    ensures { let link = number_of_task span.cell.link in OnOk result (text.new.items
-        ≡ text.old.items ++ with_comma (span_event process thread span.from span.to kind.now
+    ensures { let link = number_of_task span.cell.link in OnOk result ((kind : Piece)
+        → words.now ≡ category kind → text.new.items
+        ≡ text.old.items ++ with_comma (span_event process thread span.from span.to kind
         name.now (spec.link_argument (some_group set.now) link))) }
 {
-    open_span(text, process, thread, span.from, span.to, kind)?;
+    open_span(text, process, thread, span.from, span.to)?;
+    put(text, words)?;
     put(text, name)?;
-    put(text, ARGUMENTS)?;
-    put_link(text, set, span.cell.link)?;
-    put(text, END)
+    put_link(text, set, span.cell.link)
 }
 
 /// A span of a processor, where it has a task. Its thread has the number after its own.
@@ -73,7 +75,7 @@ fn put_span(
                 process,
                 thread,
                 span,
-                b"work",
+                b",\"cat\":\"work\",\"name\":\"",
                 task_name(tasks, task),
             )
         }
@@ -84,7 +86,7 @@ fn put_span(
                 process,
                 thread,
                 span,
-                b"runs",
+                b",\"cat\":\"runs\",\"name\":\"",
                 task_name(tasks, task),
             )
         }

@@ -1,17 +1,25 @@
 //! The releases, deadlines and ends of jobs.
 ghost use Rattle.std.specs.Prelude.{◌≡◌, ◌≤◌, ◌^◌, ◌++◌, flat_map, map, option_map, OnOk};
 ghost use Rattle.event_texts.specs.JobInstants.{deadline_name};
-ghost use Rattle.event_texts.specs.Records.{instant_event};
+ghost use Rattle.event_texts.specs.Records.{Piece, instant_event};
 ghost use Rattle.event_lines.specs.inside.Commas.{with_comma, with_commas};
-ghost use Rattle.event_lines.specs.inside.Openings.{instant_to};
+ghost use Rattle.event_lines.specs.inside.Openings.{instant_to, instant_words};
 ghost use Rattle.event_lines.specs.Shown.{due_shown, job_marks_shown};
 ghost use Rattle.event_lines.specs.TrackEvents.{deadline_events, end_events, job_events, release_events};
 
 use crate::put::{put, put_microseconds, put_number};
-use crate::records::{END, put_on_thread};
+use crate::records::{END, Phase, put_on_thread};
 use crate::tracks::{Due, JobMarks};
 use rt_base::TaskNo;
 use std::alloc::AllocError;
+
+const RELEASE: &[u8] = b",\"s\":\"t\",\"name\":\"release\",\"args\":{\"job\":";
+
+const DEADLINE: &[u8] = b",\"s\":\"t\",\"name\":\"deadline\",\"args\":{\"job\":";
+
+const MISSED: &[u8] = b",\"s\":\"t\",\"name\":\"deadline missed\",\"args\":{\"job\":";
+
+const JOB_END: &[u8] = b",\"s\":\"t\",\"name\":\"end\",\"args\":{\"job\":";
 
 /// Something of a job at a tick, up to its name.
 #[tactic(auto, using(crate::proofs::Joins::joins))]
@@ -19,28 +27,26 @@ fn open_instant(text: &mut Vec<u8>, process: u64, thread: u64, tick: u128) -> Re
     requires { tick ≤ 2 ^ 64 }
     ensures { OnOk result (text.new.items ≡ text.old.items ++ instant_to process thread tick) }
 {
-    put_on_thread(text, b"i", process, thread)?;
+    put_on_thread(text, Phase::Instant, process, thread)?;
     put(text, b",\"ts\":")?;
-    put_microseconds(text, tick)?;
-    put(text, b",\"s\":\"t\",\"name\":\"")
+    put_microseconds(text, tick)
 }
 
-/// Something of a job at a tick, in words.
+/// Something of a job at a tick. The words are its name with what stands before it, and behind it up to the number of the job.
 fn put_instant(
     text: &mut Vec<u8>,
     process: u64,
     thread: u64,
     tick: u128,
-    name: &[u8],
+    words: &[u8],
     job: u64,
 ) -> Result<(), AllocError>
     requires { tick ≤ 2 ^ 64 }
-    ensures { OnOk result (text.new.items ≡ text.old.items
-        ++ with_comma (instant_event process thread tick name.now job)) }
+    ensures { OnOk result ((name : Piece) → words.now ≡ instant_words name → text.new.items
+        ≡ text.old.items ++ with_comma (instant_event process thread tick name job)) }
 {
     open_instant(text, process, thread, tick)?;
-    put(text, name)?;
-    put(text, b"\",\"args\":{\"job\":")?;
+    put(text, words)?;
     put_number(text, job)?;
     put(text, END)
 }
@@ -65,19 +71,15 @@ fn put_release(
         process,
         u64::from(task.0),
         u128::from(tick),
-        b"release",
+        RELEASE,
         job,
     )
 }
 
 fn deadline_words(missed: bool) -> &'static [u8]
-    ensures { result.now ≡ deadline_name missed }
+    ensures { result.now ≡ instant_words (deadline_name missed) }
 {
-    if missed {
-        b"deadline missed"
-    } else {
-        b"deadline"
-    }
+    if missed { MISSED } else { DEADLINE }
 }
 
 /// A deadline stands where its tick is over.
@@ -126,7 +128,7 @@ fn put_end(
         process,
         u64::from(task.0),
         u128::from(tick) + 1,
-        b"end",
+        JOB_END,
         job,
     )
 }

@@ -7,7 +7,7 @@ ghost use Rattle.event_lines.specs.TrackEvents.{cpu_names, cpu_thread, group_wor
 
 use crate::elements::{cpu_process, resv_process, task_name, task_process};
 use crate::put::{put, put_number};
-use crate::records::{open_named, put_begun, put_on_thread};
+use crate::records::{Phase, open_named, put_begun, put_on_thread};
 use crate::tracks::{CpuTrack, ResvTrack, TaskTrack};
 use rt_base::GroupNo;
 use rt_task::Parts;
@@ -37,7 +37,7 @@ fn put_process(
     ensures { OnOk result (text.new.items ≡ text.old.items
         ++ with_comma (process_name process group.0 what.now)) }
 {
-    put_begun(text, b"M", process)?;
+    put_begun(text, Phase::Name, process)?;
     open_named(text, b"process_name")?;
     put_group_name(text, group, what)?;
     put(text, NAMED_END)
@@ -48,7 +48,7 @@ fn put_thread(text: &mut Vec<u8>, process: u64, thread: u64, name: &[u8]) -> Res
     ensures { OnOk result (text.new.items ≡ text.old.items
         ++ with_comma (thread_event process thread name.now)) }
 {
-    put_on_thread(text, b"M", process, thread)?;
+    put_on_thread(text, Phase::Name, process, thread)?;
     open_named(text, b"thread_name")?;
     put(text, name)?;
     put(text, NAMED_END)
@@ -74,7 +74,7 @@ fn put_processor(text: &mut Vec<u8>, process: u64, cpu: u64) -> Result<(), Alloc
     ensures { OnOk result (text.new.items ≡ text.old.items
         ++ with_comma (thread_event process (cpu + 1) (codes "processor " ++ decimal cpu))) }
 {
-    put_on_thread(text, b"M", process, cpu + 1)?;
+    put_on_thread(text, Phase::Name, process, cpu + 1)?;
     open_named(text, b"thread_name")?;
     put(text, b"processor ")?;
     put_number(text, cpu)?;

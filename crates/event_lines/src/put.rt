@@ -6,6 +6,7 @@ use decimals::put_decimal;
 use itoa::Buffer;
 use std::alloc::AllocError;
 
+#[inline(always)]
 pub(crate) fn put(text: &mut Vec<u8>, bytes: &[u8]) -> Result<(), AllocError>
     ensures { OnOk result (text.new.items ≡ text.old.items ++ bytes.now) }
 {
@@ -19,17 +20,13 @@ pub(crate) fn put_number(text: &mut Vec<u8>, n: u64) -> Result<(), AllocError>
 }
 
 /// Ticks in microseconds: most numbers of an event. No such number wraps.
-#[tactic(auto, using(crate::proofs::Thousands::in_thousands, std::proofs::Common::append_assoc))]
 pub(crate) fn put_microseconds(text: &mut Vec<u8>, ticks: u128) -> Result<(), AllocError>
     requires { ticks ≤ 2 ^ 64 }
     ensures { OnOk result (text.new.items ≡ text.old.items ++ microseconds ticks) }
 {
-    match u64::try_from(ticks) {
-        Ok(ticks) if ticks > 0 => {
-            put_decimal(text, ticks)?;
-            put(text, b"000")
-        }
-        _ => {
+    match u64::try_from(1000 * ticks) {
+        Ok(microseconds) => put_decimal(text, microseconds),
+        Err(_) => {
             let mut buffer = Buffer::new();
             put(text, buffer.format(1000 * ticks).as_bytes())
         }

@@ -1,25 +1,45 @@
 //! The members that events begin with.
-ghost use Rattle.std.specs.Prelude.{◌≡◌, ◌++◌, OnOk};
+ghost use Rattle.std.specs.Prelude.{◌≡◌, ◌++◌, OnOk, codes};
 ghost use Rattle.event_texts.specs.Records.{begun, on_thread};
-ghost use Rattle.event_lines.specs.inside.Openings.{named_to, span_times, span_to};
+ghost use Rattle.event_lines.specs.inside.Openings.{letter, named_to, span_times, span_to};
 
 use crate::put::{put, put_microseconds, put_number};
 use std::alloc::AllocError;
 
-/// What stands between the name of a span and its arguments.
-pub(crate) const ARGUMENTS: &[u8] = b"\",\"args\":{";
+/// What an event is.
+#[derive(Clone, Copy)]
+pub(crate) enum Phase {
+    /// Something that lasts from one tick up to another.
+    Span,
+    /// Something at a tick.
+    Instant,
+    /// What a count comes to from a tick on.
+    Count,
+    /// The name of a process or of a thread.
+    Name,
+}
 
 /// What ends an event with arguments, with the comma and the line feed behind it.
 pub(crate) const END: &[u8] = b"}},\n";
 
-/// The kind of an event and its process.
-#[tactic(auto, using(crate::proofs::Joins::joins))]
-pub(crate) fn put_begun(text: &mut Vec<u8>, phase: &[u8], process: u64) -> Result<(), AllocError>
-    ensures { OnOk result (text.new.items ≡ text.old.items ++ begun phase.now process) }
+/// How an event begins, up to its process.
+fn opening(phase: Phase) -> &'static [u8]
+    ensures { result.now ≡ codes "{\"ph\":\"" ++ (letter phase ++ codes "\",\"pid\":") }
 {
-    put(text, b"{\"ph\":\"")?;
-    put(text, phase)?;
-    put(text, b"\",\"pid\":")?;
+    match phase {
+        Phase::Span => b"{\"ph\":\"X\",\"pid\":",
+        Phase::Instant => b"{\"ph\":\"i\",\"pid\":",
+        Phase::Count => b"{\"ph\":\"C\",\"pid\":",
+        Phase::Name => b"{\"ph\":\"M\",\"pid\":",
+    }
+}
+
+/// What an event is, and its process.
+#[tactic(auto, using(crate::proofs::Joins::joins))]
+pub(crate) fn put_begun(text: &mut Vec<u8>, phase: Phase, process: u64) -> Result<(), AllocError>
+    ensures { OnOk result (text.new.items ≡ text.old.items ++ begun (letter phase) process) }
+{
+    put(text, opening(phase))?;
     put_number(text, process)
 }
 
@@ -27,12 +47,12 @@ pub(crate) fn put_begun(text: &mut Vec<u8>, phase: &[u8], process: u64) -> Resul
 #[tactic(auto, using(crate::proofs::Joins::joins))]
 pub(crate) fn put_on_thread(
     text: &mut Vec<u8>,
-    phase: &[u8],
+    phase: Phase,
     process: u64,
     thread: u64,
 ) -> Result<(), AllocError>
     ensures { OnOk result
-        (text.new.items ≡ text.old.items ++ on_thread phase.now process thread) }
+        (text.new.items ≡ text.old.items ++ on_thread (letter phase) process thread) }
 {
     put_begun(text, phase, process)?;
     put(text, b",\"tid\":")?;
@@ -59,7 +79,7 @@ fn put_times(text: &mut Vec<u8>, from: u64, to: u64) -> Result<(), AllocError>
     put_microseconds(text, u128::from(to.saturating_sub(from)))
 }
 
-/// A span, up to its name.
+/// A span, up to its category.
 #[tactic(auto, using(crate::proofs::Joins::joins))]
 pub(crate) fn open_span(
     text: &mut Vec<u8>,
@@ -67,14 +87,10 @@ pub(crate) fn open_span(
     thread: u64,
     from: u64,
     to: u64,
-    kind: &[u8],
 ) -> Result<(), AllocError>
     ensures { OnOk result
-        (text.new.items ≡ text.old.items ++ span_to process thread from to kind.now) }
+        (text.new.items ≡ text.old.items ++ span_to process thread from to) }
 {
-    put_on_thread(text, b"X", process, thread)?;
-    put_times(text, from, to)?;
-    put(text, b",\"cat\":\"")?;
-    put(text, kind)?;
-    put(text, b"\",\"name\":\"")
+    put_on_thread(text, Phase::Span, process, thread)?;
+    put_times(text, from, to)
 }

@@ -1,34 +1,35 @@
 //! What tasks do, span by span.
 ghost use Rattle.std.specs.List.{join_with_byte};
-ghost use Rattle.std.specs.Prelude.{◌≡◌, ◌∷◌, ◌++◌, decimal, flat_map, map, OnOk};
+ghost use Rattle.std.specs.Prelude.{◌≡◌, ◌∷◌, ◌++◌, codes, decimal, flat_map, map, OnOk};
 ghost use Rattle.chart_cells.specs.Cells.{cell_shown, cpu_numbers, doing_shown, sem_numbers};
 ghost use Rattle.event_texts.specs.Records.{quoted, span_event};
 ghost use Rattle.event_texts.specs.TaskSpans as spec;
 ghost use Rattle.event_lines.specs.inside.Commas.{with_comma, with_commas};
-ghost use Rattle.event_lines.specs.inside.Openings.{job_arguments, name_in};
+ghost use Rattle.event_lines.specs.inside.Openings.{category, cell_rest, name_in, object, verb};
 ghost use Rattle.event_lines.specs.Shown.{task_span_shown};
 ghost use Rattle.event_lines.specs.TrackEvents.{some_group, task_span_events};
 
 use crate::elements::sem_name;
 use crate::put::{put, put_number, put_quoted, put_truth};
-use crate::records::{ARGUMENTS, END, open_span};
+use crate::records::{END, open_span};
 use crate::tracks::TaskSpan;
 use chart_cells::{Cell, Doing};
 use rt_base::{CpuNo, SemNo, TaskNo};
 use rt_task::{Parts, Sem};
 use std::alloc::AllocError;
 
-fn kind_of(doing: &Doing) -> &'static [u8]
-    ensures { result.now ≡ spec.kind (doing_shown doing.now) }
+/// The category of a span, and the words with which its name begins.
+fn head_of(doing: &Doing) -> &'static [u8]
+    ensures { let d = doing_shown doing.now in result.now ≡ category (spec.kind d) ++ verb d }
 {
     match doing {
-        Doing::Works(_) => b"work",
-        Doing::Blocked(_) => b"blocked",
-        Doing::Waits(_) => b"waits",
-        Doing::Sleeping => b"sleeps",
-        Doing::Running(_) => b"runs",
-        Doing::Ready => b"ready",
-        Doing::Away => b"",
+        Doing::Works(_) => b",\"cat\":\"work\",\"name\":\"works on ",
+        Doing::Blocked(_) => b",\"cat\":\"blocked\",\"name\":\"blocked at ",
+        Doing::Waits(_) => b",\"cat\":\"waits\",\"name\":\"waits for ",
+        Doing::Sleeping => b",\"cat\":\"sleeps\",\"name\":\"sleeps",
+        Doing::Running(_) => b",\"cat\":\"runs\",\"name\":\"runs on ",
+        Doing::Ready => b",\"cat\":\"ready\",\"name\":\"ready",
+        Doing::Away => b",\"cat\":\"\",\"name\":\"",
     }
 }
 
@@ -88,77 +89,78 @@ fn put_held(text: &mut Vec<u8>, sems: &[Sem], held: &[SemNo]) -> Result<(), Allo
     }
 }
 
-/// What the task does, in words.
+/// The processors on which a task is, or the semaphore that it waits for.
 #[tactic(auto, using(crate::proofs::Joins::joins), unfolding(rt_model::specs::Group::sem))]
-fn put_doing(text: &mut Vec<u8>, set: &Parts, doing: &Doing) -> Result<(), AllocError>
+fn put_object(text: &mut Vec<u8>, set: &Parts, doing: &Doing) -> Result<(), AllocError>
     ensures { OnOk result (text.new.items ≡ text.old.items
-        ++ spec.name (some_group set.now) (doing_shown doing.now)) }
+        ++ object (some_group set.now) (doing_shown doing.now)) }
 {
     match doing {
-        Doing::Works(cpus) => {
-            put(text, b"works on ")?;
-            put_cpus(text, cpus)
-        }
-        Doing::Blocked(sem) => {
-            put(text, b"blocked at ")?;
+        Doing::Works(cpus) | Doing::Running(cpus) => put_cpus(text, cpus),
+        Doing::Blocked(sem) | Doing::Waits(sem) => {
             put(text, sem_name(set.sems.as_slice(), *sem))
         }
-        Doing::Waits(sem) => {
-            put(text, b"waits for ")?;
-            put(text, sem_name(set.sems.as_slice(), *sem))
-        }
-        Doing::Sleeping => put(text, b"sleeps"),
-        Doing::Running(cpus) => {
-            put(text, b"runs on ")?;
-            put_cpus(text, cpus)
-        }
-        Doing::Ready => put(text, b"ready"),
-        Doing::Away => Ok(()),
+        Doing::Sleeping | Doing::Ready | Doing::Away => Ok(()),
     }
 }
 
-/// A job, and the semaphores that its task holds.
-fn put_job(text: &mut Vec<u8>, sems: &[Sem], job: u64, held: &[SemNo]) -> Result<(), AllocError>
-    ensures { OnOk result (text.new.items
-        ≡ text.old.items ++ job_arguments sems.now job (sem_numbers held.now)) }
-{
-    put(text, b"\"job\":")?;
-    put_number(text, job)?;
-    put(text, b",\"holds\":[")?;
-    put_held(text, sems, held)?;
-    put(text, b"]")
-}
+/// What ends a span of a task that holds nothing, is preemptive and has its own key.
+const PLAIN: &[u8] = b",\"holds\":[],\"nonpreemptive\":false,\"raised\":false}},\n";
 
-fn put_arguments(text: &mut Vec<u8>, set: &Parts, cell: &Cell) -> Result<(), AllocError>
+/// What stands behind the number of the job of a span.
+fn put_rest(text: &mut Vec<u8>, set: &Parts, cell: &Cell) -> Result<(), AllocError>
     ensures { OnOk result (text.new.items ≡ text.old.items
-        ++ spec.cell_arguments (some_group set.now) (cell_shown cell.now)) }
+        ++ cell_rest (some_group set.now) (cell_shown cell.now)) }
 {
-    put_job(text, set.sems.as_slice(), cell.job, &cell.held)?;
-    put(text, b",\"nonpreemptive\":")?;
+    put(text, b",\"holds\":[")?;
+    put_held(text, set.sems.as_slice(), &cell.held)?;
+    put(text, b"],\"nonpreemptive\":")?;
     put_truth(text, cell.non_preemptive)?;
     put(text, b",\"raised\":")?;
-    put_truth(text, cell.raised)
+    put_truth(text, cell.raised)?;
+    put(text, END)
 }
 
-/// A span of a task whose job is there: what it does, and what kind of event that is.
+/// The same, which of most spans is `PLAIN`.
+fn put_cell_rest(text: &mut Vec<u8>, set: &Parts, cell: &Cell) -> Result<(), AllocError>
+    ensures { OnOk result (text.new.items ≡ text.old.items
+        ++ cell_rest (some_group set.now) (cell_shown cell.now)) }
+{
+    if cell.held.is_empty() && !cell.non_preemptive && !cell.raised {
+        put(text, PLAIN)
+    } else {
+        put_rest(text, set, cell)
+    }
+}
+
+/// The arguments of a span of a task, and the end of the event.
+#[tactic(auto, using(crate::proofs::Joins::joins))]
+fn put_arguments(text: &mut Vec<u8>, set: &Parts, cell: &Cell) -> Result<(), AllocError>
+    ensures { OnOk result (text.new.items ≡ text.old.items ++ (codes "\",\"args\":{\"job\":"
+        ++ (decimal cell.now.job ++ cell_rest (some_group set.now) (cell_shown cell.now)))) }
+{
+    put(text, b"\",\"args\":{\"job\":")?;
+    put_number(text, cell.job)?;
+    put_cell_rest(text, set, cell)
+}
+
+/// A span of a task whose job is there.
 fn put_there(
     text: &mut Vec<u8>,
     set: &Parts,
     process: u64,
     thread: u64,
     span: &TaskSpan,
-    kind: &[u8],
 ) -> Result<(), AllocError>
     ensures { let g = some_group set.now in let cell = cell_shown span.now.cell in
         OnOk result (text.new.items ≡ text.old.items ++ with_comma
-        (span_event process thread span.now.from span.now.to kind.now
+        (span_event process thread span.now.from span.now.to (spec.kind cell.doing)
         (spec.name g cell.doing) (spec.cell_arguments g cell))) }
 {
-    open_span(text, process, thread, span.from, span.to, kind)?;
-    put_doing(text, set, &span.cell.doing)?;
-    put(text, ARGUMENTS)?;
-    put_arguments(text, set, &span.cell)?;
-    put(text, END)
+    open_span(text, process, thread, span.from, span.to)?;
+    put(text, head_of(&span.cell.doing))?;
+    put_object(text, set, &span.cell.doing)?;
+    put_arguments(text, set, &span.cell)
 }
 
 /// A span of a task, where its job is there.
@@ -174,7 +176,7 @@ fn put_span(
 {
     match &span.cell.doing {
         Doing::Away => Ok(()),
-        doing => put_there(text, set, process, u64::from(task.0), span, kind_of(doing)),
+        _ => put_there(text, set, process, u64::from(task.0), span),
     }
 }
 

@@ -11,17 +11,17 @@ use Rattle.trace_views.specs.Columns.{tick_column, tick_columns}
 use Rattle.trace_views.specs.Moments.{Moment}
 use Rattle.trace_views.specs.Spans as runs
 use Rattle.chart_texts.specs.Charts.{group_resvs}
-use Rattle.chart_rows.specs.Rows.{RowsKept, rows_acted, rows_closed, rows_of, rows_seen}
+use Rattle.chart_rows.specs.Rows.{RowsKept, rows_acted, rows_finished, rows_of, rows_seen}
 use Rattle.chart_rows.specs.Strips.{Strip, blank, column_of, done, seen}
 use Rattle.chart_rows.specs.UpTo.{AreUpTo}
-use Rattle.chart_rows.proofs.RowLaws.{acted-rows, closed-rows, seen-rows}
+use Rattle.chart_rows.proofs.RowLaws.{acted-rows, finished-rows, seen-rows}
 use Rattle.chart_rows.proofs.UpTo.{rows-still, rows-up-to}
 use Rattle.event_texts.specs.Budgets.{same_count}
 use Rattle.event_texts.specs.CpuSpans as cpu_texts
 use Rattle.event_texts.specs.TaskSpans as task_texts
 use Rattle.event_lines.specs.Tracks.{GroupTracks, TaskTrack}
 use Rattle.event_lines.specs.TracksOf.{cpu_track, resv_track, task_track, tracks_of}
-use Rattle.span_feed.specs.Spanned.{HasSpans, cpu_spanned, resv_spanned, spanned, task_spanned, unmarked}
+use Rattle.span_feed.specs.Spanned.{HasEnded, HasSpans, cpu_spanned, resv_spanned, spanned, task_spanned, unmarked}
 use Rattle.span_feed.specs.TickStrips.{tick_strip, ticks_below, turned_strip}
 use Rattle.chart_rows.proofs.TickLaws.{strip-seen}
 use Rattle.span_feed.proofs.TickLaws.{below-gap, below-one, first-strip, length-below, turned-not}
@@ -29,34 +29,34 @@ use Rattle.span_feed.proofs.TickLaws.{below-gap, below-one, first-strip, length-
 module _ (g : Group) (tracks : GroupTracks) where
   -- ---- the column that goes on is over, and a column of the newest state alone
 
-  pub column-ended : (over : List Strip) (going : Strip) (past : Past) (rows new : RowsKept) → newest going.states ≡ past → HasSpans g [] over going rows tracks
-      → new ≡ rows_closed g past rows → HasSpans g (going ∷ []) over blank new tracks
+  pub column-ended : (over : List Strip) (going : Strip) (past : Past) (rows new : RowsKept) → newest going.states ≡ past → HasSpans g over going rows tracks
+      → new ≡ rows_finished g past rows → HasEnded g over going new tracks
   column-ended over going past rows new is_newest has made =
-      record { rows_are = made ∙ ap (rows_closed g past) has.rows_are ∙ closed-rows g [] going past is_newest; tracks_are = has.tracks_are }
+      record { rows_are = made ∙ ap (rows_finished g past) has.rows_are ∙ finished-rows g [] going past is_newest; tracks_are = has.tracks_are }
 
-  pub state-seen : (over : List Strip) (going : Strip) (past : Past) (rows new : RowsKept) → HasSpans g [] over going rows tracks → new ≡ rows_seen g past rows → HasSpans g [] over (seen past going) new tracks
+  pub state-seen : (over : List Strip) (going : Strip) (past : Past) (rows new : RowsKept) → HasSpans g over going rows tracks → new ≡ rows_seen g past rows → HasSpans g over (seen past going) new tracks
   state-seen over going past rows new has made = record { rows_are = made ∙ ap (rows_seen g past) has.rows_are ∙ seen-rows g [] going past; tracks_are = has.tracks_are }
 
-  pub act-taken : (over : List Strip) (going : Strip) (m : Moment) (rows new : RowsKept) → HasSpans g [] over going rows tracks → new ≡ rows_acted g m rows → HasSpans g [] over (done m going) new tracks
+  pub act-taken : (over : List Strip) (going : Strip) (m : Moment) (rows new : RowsKept) → HasSpans g over going rows tracks → new ≡ rows_acted g m rows → HasSpans g over (done m going) new tracks
   act-taken over going m rows new has made = record { rows_are = made ∙ ap (rows_acted g m) has.rows_are ∙ acted-rows g [] going m; tracks_are = has.tracks_are }
 
   -- other ticks that are the same
-  pub spans-same : (over over' : List Strip) (going going' : Strip) (rows : RowsKept) → over ≡ over' → going ≡ going' → HasSpans g [] over going rows tracks → HasSpans g [] over' going' rows tracks
+  pub spans-same : (over over' : List Strip) (going going' : Strip) (rows : RowsKept) → over ≡ over' → going ≡ going' → HasSpans g over going rows tracks → HasSpans g over' going' rows tracks
   spans-same over over' going going' rows is_over is_going has =
       record { rows_are = has.rows_are ∙ ap (rows_of g []) is_going; tracks_are = has.tracks_are ∙ ap (spanned g) is_over }
 
 -- the rows are up to the newest state, and so they are once an act is taken; a move of the clock that is not later leaves them
 module _ (g : Group) (past : Past) (over : List Strip) (rows : RowsKept) (tracks : GroupTracks) where
-  pub acted-up-to : (m : Moment) → HasSpans g [] over (done m (tick_strip past (now past))) rows tracks → AreUpTo g past rows
+  pub acted-up-to : (m : Moment) → HasSpans g over (done m (tick_strip past (now past))) rows tracks → AreUpTo g past rows
   acted-up-to m has = let s = strip-seen past in rows-up-to g [] (done m s.0) past rows (has.rows_are ∙ ap (λ x. rows_of g [] (done m x)) s.1)
 
-  pub moved-still : (tick : ℕ) → tick ≤ now past → HasSpans g [] over (turned_strip tick past) rows tracks → rows ≡ rows_seen g (Clock tick ∷ past) rows
+  pub moved-still : (tick : ℕ) → tick ≤ now past → HasSpans g over (turned_strip tick past) rows tracks → rows ≡ rows_seen g (Clock tick ∷ past) rows
   moved-still tick low has =
       let s = strip-seen past in rows-still g tick past rows low (rows-up-to g [] s.0 past rows (has.rows_are ∙ ap (rows_of g []) (turned-not tick past low ∙ s.1)))
 
 -- at opening
 pub opened : (g : Group) (rows new : RowsKept) (tracks : GroupTracks) → rows ≡ rows_of g [] blank → new ≡ rows_seen g [] rows → tracks.group ≡ g.number
-    → tracks.tasks ≡ map (task_spanned g []) (groups.tasks g) → tracks.cpus ≡ map (cpu_spanned g []) (group_processors g) → tracks.resvs ≡ map (resv_spanned g []) (group_resvs g) → HasSpans g [] [] (tick_strip [] 0) new tracks
+    → tracks.tasks ≡ map (task_spanned g []) (groups.tasks g) → tracks.cpus ≡ map (cpu_spanned g []) (group_processors g) → tracks.resvs ≡ map (resv_spanned g []) (group_resvs g) → HasSpans g [] (tick_strip [] 0) new tracks
 unfolding spanned
 opened g rows new tracks rows_are made group tasks cpus resvs = record {
   rows_are = made ∙ ap (rows_seen g []) rows_are ∙ seen-rows g [] blank [] ∙ ap (rows_of g []) first-strip;

@@ -1,5 +1,5 @@
 -- What is kept of a group for its spans, as its moves go on.
-use Rattle.std.specs.Prelude.{◌≡◌, ℕ, nat_le, max, List, []}
+use Rattle.std.specs.Prelude.{◌≡◌, ℕ, nat_le, max, List}
 use Rattle.rt_model.specs.Group.{Group}
 use Rattle.rt_model.specs.Past.{Past, now}
 use Rattle.chart_rows.specs.Strips.{Strip}
@@ -10,7 +10,7 @@ use Rattle.span_feed.specs.declared.feed.SpanFeed.{SpanFeed}
 
 module _ (g : Group) where
   abbrev pub Holds : List Strip → Strip → SpanFeed → Type 0
-  Holds over going f = HasSpans g [] over going f.rows (group_tracks_shown f.tracks)
+  Holds over going f = HasSpans g over going f.rows (group_tracks_shown f.tracks)
 
   -- the ticks before the newest are over, and that goes on; and the clock is about to be moved to a tick, before which all are over
   abbrev pub IsFed : Past → SpanFeed → Type 0

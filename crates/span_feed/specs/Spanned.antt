@@ -1,11 +1,11 @@
 -- The tracks of a group over columns that are over, without the marks of jobs, and what one column more makes of them.
-use Rattle.std.specs.Prelude.{◌≡◌, ℕ, List, [], ◌∷◌, map}
+use Rattle.std.specs.Prelude.{◌≡◌, ℕ, List, [], ◌∷◌, map, Option, None, Some}
 use Rattle.rt_model.specs.Group as groups
 use Rattle.rt_model.specs.Group.{Group, group_processors}
-use Rattle.trace_views.specs.Cells.{CpuCell, TaskCell, cpu_cell, resv_cell, task_cell}
+use Rattle.trace_views.specs.Cells.{CpuCell, cpu_cell, resv_cell, task_cell}
 use Rattle.trace_views.specs.Spans as runs
 use Rattle.chart_texts.specs.Charts.{group_resvs}
-use Rattle.chart_rows.specs.Rows.{CpuKept, ResvKept, RowsKept, TaskKept, rows_of}
+use Rattle.chart_rows.specs.Rows.{CpuKept, ResvKept, RowsKept, TaskKept, rows_ended, rows_of}
 use Rattle.chart_rows.specs.Strips.{Strip, column_of}
 use Rattle.event_texts.specs.Budgets.{same_count}
 use Rattle.event_texts.specs.CpuSpans as cpu_texts
@@ -32,49 +32,46 @@ module _ (g : Group) where
     resvs = map (resv_spanned ss) (group_resvs g);
   }
 
-  -- rows of columns that are over and of one that goes on, beside tracks over the columns before those
-  pub record HasSpans (closed over : List Strip) (going : Strip) (rows : RowsKept) (tracks : GroupTracks) : Type 0 where
-    pub rows_are : rows ≡ rows_of g closed going
+  -- rows of the column that goes on, and of one that has ended, beside tracks over the columns before it
+  pub record HasSpans (over : List Strip) (going : Strip) (rows : RowsKept) (tracks : GroupTracks) : Type 0 where
+    pub rows_are : rows ≡ rows_of g [] going
+    pub tracks_are : tracks ≡ spanned over
+
+  pub record HasEnded (over : List Strip) (ended : Strip) (rows : RowsKept) (tracks : GroupTracks) : Type 0 where
+    pub rows_are : rows ≡ rows_ended g [] ended
     pub tracks_are : tracks ≡ spanned over
 
 -- tracks without the marks of jobs
 abbrev pub unmarked : GroupTracks → GroupTracks
 unmarked x = record x { tasks = map (λ (t : TaskTrack). record t { jobs = [] }) x.tasks }
 
--- ---- the one column that is over is taken out of a row
+-- ---- what is kept of the column that has ended is taken out of a row
 
-abbrev pub task_emptied : TaskKept → TaskKept
-task_emptied k = record k { cells = []; ends = [] }
+abbrev pub cpu_cleared : CpuKept → CpuKept
+cpu_cleared k = record k { kept = None }
 
-abbrev pub cpu_emptied : CpuKept → CpuKept
-cpu_emptied k = record k { cells = [] }
-
-abbrev pub resv_emptied : ResvKept → ResvKept
-resv_emptied k = record k { left = [] }
+abbrev pub resv_cleared : ResvKept → ResvKept
+resv_cleared k = record k { kept = None }
 
 -- ---- and put behind the spans, for the ticks from one on up to another
 
 module _ (from to : ℕ) where
-  abbrev pub with_task_cells : List TaskCell → TaskTrack → TaskTrack
-  with_task_cells [] x = x
-  with_task_cells (c ∷ cs) x = record x { spans = extended task_texts.same_cell from to c x.spans }
+  abbrev pub with_cpu_cell : Option CpuCell → CpuTrack → CpuTrack
+  with_cpu_cell None x = x
+  with_cpu_cell (Some c) x = record x { spans = extended cpu_texts.same_cell from to c x.spans }
 
-  abbrev pub with_cpu_cells : List CpuCell → CpuTrack → CpuTrack
-  with_cpu_cells [] x = x
-  with_cpu_cells (c ∷ cs) x = record x { spans = extended cpu_texts.same_cell from to c x.spans }
-
-  abbrev pub with_left : List ℕ → ResvTrack → ResvTrack
-  with_left [] x = x
-  with_left (n ∷ ns) x = record x { spans = extended same_count from to n x.spans }
+  abbrev pub with_left : Option ℕ → ResvTrack → ResvTrack
+  with_left None x = x
+  with_left (Some n) x = record x { spans = extended same_count from to n x.spans }
 
   abbrev pub task_more : TaskKept → TaskTrack → TaskTrack
-  task_more k x = with_task_cells k.cells x
+  task_more k x = record x { spans = extended task_texts.same_cell from to k.kept x.spans }
 
   abbrev pub cpu_more : CpuKept → CpuTrack → CpuTrack
-  cpu_more k x = with_cpu_cells k.cells x
+  cpu_more k x = with_cpu_cell k.kept x
 
   abbrev pub resv_more : ResvKept → ResvTrack → ResvTrack
-  resv_more k x = with_left k.left x
+  resv_more k x = with_left k.kept x
 
 -- each value changed by the one beside it
 abbrev pub paired : {A B : Type 0} → (A → B → B) → List A → List B → List B

@@ -89,8 +89,8 @@ impl SpanFeed {
             → Holds (group_of afresh.now) over going self.old
             → Holds (group_of afresh.now) (over ++ going ∷ []) blank self.new) }
     {
-        self.rows.close(alloc, afresh)?;
-        take_column(&mut self.rows, &mut self.tracks, now, now + 1)
+        self.rows.finish(alloc, afresh)?;
+        take_column(&mut self.rows, &mut self.tracks, alloc, now, now + 1)
     }
 
     /// The ticks from one on up to another, which show the newest state.
@@ -113,8 +113,8 @@ impl SpanFeed {
             return Ok(());
         }
         self.rows.see(alloc, afresh)?;
-        self.rows.close(alloc, afresh)?;
-        take_column(&mut self.rows, &mut self.tracks, from, to)
+        self.rows.finish(alloc, afresh)?;
+        take_column(&mut self.rows, &mut self.tracks, alloc, from, to)
     }
 
     /// Ends the ticks before one to which the clock is to be moved from this one.

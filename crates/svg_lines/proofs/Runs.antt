@@ -9,8 +9,7 @@ use Rattle.trace_views.specs.Spans.{Span, joined, spans_from}
 use Rattle.svg_texts.specs.Lanes.{drawn}
 use Rattle.svg_texts.specs.Parts.{Part, held, job, left, link, playing, raised, same_bool, same_doing, same_list, same_part, same_playing, section}
 use Rattle.svg_texts.proofs.Lanes.{lanes_tell_apart_lem}
-use Rattle.svg_lines.specs.Shown.{RunsTo, part_shown}
-use Rattle.svg_lines.specs.declared.parts.Part as kept
+use Rattle.svg_lines.specs.Shown.{RunsTo}
 
 -- ---- each part is equal to itself
 
@@ -113,45 +112,45 @@ run-ends xs from to x some ends equal =
     let reached : to ≡ from + suc (to - from - 1) = omega (arith, some) in
     ap (λ ys. spans_from same_part from ys) (equal ∙ ap (λ (n : ℕ). replicate n x ++ drop to xs) number) ∙ run-span (to - from - 1) from to x (drop to xs) reached ends
 
--- ---- the same of a slice of parts
+-- ---- the same of elements that show parts
 
-abbrev IsRun : List kept.Part → ℕ → ℕ → Type 0
-IsRun ps from to = (x : Part) (rest : List Part) → drop from (map part_shown ps) ≡ x ∷ rest → drop from (map part_shown ps) ≡ replicate (to - from) x ++ drop to (map part_shown ps)
+abbrev IsRun : {A : Type 0} → (A → Part) → List A → ℕ → ℕ → Type 0
+IsRun shown ps from to = (x : Part) (rest : List Part) → drop from (map shown ps) ≡ x ∷ rest → drop from (map shown ps) ≡ replicate (to - from) x ++ drop to (map shown ps)
 
 head-is : (xs : List Part) (i : ℕ) (x y : Part) (rest : List Part) → drop i xs ≡ x ∷ rest → drop i xs ≡ y ∷ drop (i + 1) xs → x ≡ y
 head-is xs i x y rest h k = ap (λ zs. get_or zs 0 x) (sym h ∙ k)
 
-pub grows-here : (ps : List kept.Part) (from to : ℕ) (a b : kept.Part) → a ≡ get_or ps from a → b ≡ get_or ps to b → from < length ps → to < length ps → from < to
-    → same_part (part_shown a) (part_shown b) ≡ true → IsRun ps from to → IsRun ps from (to + 1)
-grows-here ps from to a b is_a is_b in_from in_to some equal so_far x rest h =
-    let here : drop from (map part_shown ps) ≡ part_shown a ∷ drop (from + 1) (map part_shown ps) = drop-shown part_shown ps from a in_from ∙ ap (λ v. part_shown v ∷ drop (from + 1) (map part_shown ps)) (sym is_a) in
-    let there : drop to (map part_shown ps) ≡ part_shown b ∷ drop (to + 1) (map part_shown ps) = drop-shown part_shown ps to b in_to ∙ ap (λ v. part_shown v ∷ drop (to + 1) (map part_shown ps)) (sym is_b) in
-    let first : x ≡ part_shown a = head-is (map part_shown ps) from x (part_shown a) rest h here in
-    one-longer (map part_shown ps) from to x (part_shown b) some (ap (λ z. same_part z (part_shown b)) first ∙ equal) there (so_far x rest h)
+pub grows-here : {A : Type 0} (shown : A → Part) (ps : List A) (from to : ℕ) (a b : A) → a ≡ get_or ps from a → b ≡ get_or ps to b → from < length ps → to < length ps → from < to
+    → same_part (shown a) (shown b) ≡ true → IsRun shown ps from to → IsRun shown ps from (to + 1)
+grows-here shown ps from to a b is_a is_b in_from in_to some equal so_far x rest h =
+    let here : drop from (map shown ps) ≡ shown a ∷ drop (from + 1) (map shown ps) = drop-shown shown ps from a in_from ∙ ap (λ v. shown v ∷ drop (from + 1) (map shown ps)) (sym is_a) in
+    let there : drop to (map shown ps) ≡ shown b ∷ drop (to + 1) (map shown ps) = drop-shown shown ps to b in_to ∙ ap (λ v. shown v ∷ drop (to + 1) (map shown ps)) (sym is_b) in
+    let first : x ≡ shown a = head-is (map shown ps) from x (shown a) rest h here in
+    one-longer (map shown ps) from to x (shown b) some (ap (λ z. same_part z (shown b)) first ∙ equal) there (so_far x rest h)
 
-pub differs-here : (ps : List kept.Part) (from to : ℕ) (a b : kept.Part) → a ≡ get_or ps from a → b ≡ get_or ps to b → from < length ps → to < length ps → from < to
-    → same_part (part_shown a) (part_shown b) ≡ false → IsRun ps from to → RunsTo (map part_shown ps) from to
-differs-here ps from to a b is_a is_b in_from in_to some differ so_far x rest h =
-    let here : drop from (map part_shown ps) ≡ part_shown a ∷ drop (from + 1) (map part_shown ps) = drop-shown part_shown ps from a in_from ∙ ap (λ v. part_shown v ∷ drop (from + 1) (map part_shown ps)) (sym is_a) in
-    let there : drop to (map part_shown ps) ≡ part_shown b ∷ drop (to + 1) (map part_shown ps) = drop-shown part_shown ps to b in_to ∙ ap (λ v. part_shown v ∷ drop (to + 1) (map part_shown ps)) (sym is_b) in
-    let first : x ≡ part_shown a = head-is (map part_shown ps) from x (part_shown a) rest h here in
-    let no : same_part x (part_shown b) ≡ false = ap (λ z. same_part z (part_shown b)) first ∙ differ in
-    run-ends (map part_shown ps) from to x some (subst (λ ys. Ends x ys) (sym there) no) (so_far x rest h)
+pub differs-here : {A : Type 0} (shown : A → Part) (ps : List A) (from to : ℕ) (a b : A) → a ≡ get_or ps from a → b ≡ get_or ps to b → from < length ps → to < length ps → from < to
+    → same_part (shown a) (shown b) ≡ false → IsRun shown ps from to → RunsTo (map shown ps) from to
+differs-here shown ps from to a b is_a is_b in_from in_to some differ so_far x rest h =
+    let here : drop from (map shown ps) ≡ shown a ∷ drop (from + 1) (map shown ps) = drop-shown shown ps from a in_from ∙ ap (λ v. shown v ∷ drop (from + 1) (map shown ps)) (sym is_a) in
+    let there : drop to (map shown ps) ≡ shown b ∷ drop (to + 1) (map shown ps) = drop-shown shown ps to b in_to ∙ ap (λ v. shown v ∷ drop (to + 1) (map shown ps)) (sym is_b) in
+    let first : x ≡ shown a = head-is (map shown ps) from x (shown a) rest h here in
+    let no : same_part x (shown b) ≡ false = ap (λ z. same_part z (shown b)) first ∙ differ in
+    run-ends (map shown ps) from to x some (subst (λ ys. Ends x ys) (sym there) no) (so_far x rest h)
 
-pub nothing-left : (ps : List kept.Part) (from to : ℕ) → from < to → length ps ≤ to → IsRun ps from to → RunsTo (map part_shown ps) from to
-nothing-left ps from to some over so_far x rest h =
-    let none : drop to (map part_shown ps) ≡ [] = drop-map part_shown to ps ∙ ap (λ ys. map part_shown ys) (drop_all to ps over) in
-    run-ends (map part_shown ps) from to x some (subst (λ ys. Ends x ys) (sym none) tt) (so_far x rest h)
+pub nothing-left : {A : Type 0} (shown : A → Part) (ps : List A) (from to : ℕ) → from < to → length ps ≤ to → IsRun shown ps from to → RunsTo (map shown ps) from to
+nothing-left shown ps from to some over so_far x rest h =
+    let none : drop to (map shown ps) ≡ [] = drop-map shown to ps ∙ ap (λ ys. map shown ys) (drop_all to ps over) in
+    run-ends (map shown ps) from to x some (subst (λ ys. Ends x ys) (sym none) tt) (so_far x rest h)
 
 -- a span is drawn, and then the rest
-pub span-drawn : (draw : ℕ → ℕ → ℕ → Part → List ℕ) (edge y : ℕ) (ps : List kept.Part) (from to : ℕ) (a : kept.Part) (top x w : ℕ) (out new all : List ℕ)
-    → RunsTo (map part_shown ps) from to → a ≡ get_or ps from a → from < length ps
-    → top ≡ y → x ≡ edge + 20 * from → w ≡ 20 * (to - from) → new ≡ out ++ draw top x w (part_shown a)
-    → out ++ drawn (draw y) edge (spans_from same_part from (drop from (map part_shown ps))) ≡ all
-    → new ++ drawn (draw y) edge (spans_from same_part to (drop to (map part_shown ps))) ≡ all
-span-drawn draw edge y ps from to a top x w out new all run is inside at_y at_x at_w written so_far =
-    let rest = drawn (draw y) edge (spans_from same_part to (drop to (map part_shown ps))) in
-    let here : drop from (map part_shown ps) ≡ part_shown a ∷ drop (from + 1) (map part_shown ps) = drop-shown part_shown ps from a inside ∙ ap (λ v. part_shown v ∷ drop (from + 1) (map part_shown ps)) (sym is) in
-    let moved : draw top x w (part_shown a) ≡ draw y (edge + 20 * from) (20 * (to - from)) (part_shown a) = ap (λ n. draw n x w (part_shown a)) at_y ∙ ap (λ n. draw y n w (part_shown a)) at_x ∙ ap (λ n. draw y (edge + 20 * from) n (part_shown a)) at_w in
-    let spans_are : drawn (draw y) edge (spans_from same_part from (drop from (map part_shown ps))) ≡ draw y (edge + 20 * from) (20 * (to - from)) (part_shown a) ++ rest = ap (λ ss. drawn (draw y) edge ss) (run (part_shown a) _ here) in
+pub span-drawn : {A : Type 0} (shown : A → Part) (draw : ℕ → ℕ → ℕ → Part → List ℕ) (edge y : ℕ) (ps : List A) (from to : ℕ) (a : A) (top x w : ℕ) (out new all : List ℕ)
+    → RunsTo (map shown ps) from to → a ≡ get_or ps from a → from < length ps
+    → top ≡ y → x ≡ edge + 20 * from → w ≡ 20 * (to - from) → new ≡ out ++ draw top x w (shown a)
+    → out ++ drawn (draw y) edge (spans_from same_part from (drop from (map shown ps))) ≡ all
+    → new ++ drawn (draw y) edge (spans_from same_part to (drop to (map shown ps))) ≡ all
+span-drawn shown draw edge y ps from to a top x w out new all run is inside at_y at_x at_w written so_far =
+    let rest = drawn (draw y) edge (spans_from same_part to (drop to (map shown ps))) in
+    let here : drop from (map shown ps) ≡ shown a ∷ drop (from + 1) (map shown ps) = drop-shown shown ps from a inside ∙ ap (λ v. shown v ∷ drop (from + 1) (map shown ps)) (sym is) in
+    let moved : draw top x w (shown a) ≡ draw y (edge + 20 * from) (20 * (to - from)) (shown a) = ap (λ n. draw n x w (shown a)) at_y ∙ ap (λ n. draw y n w (shown a)) at_x ∙ ap (λ n. draw y (edge + 20 * from) n (shown a)) at_w in
+    let spans_are : drawn (draw y) edge (spans_from same_part from (drop from (map shown ps))) ≡ draw y (edge + 20 * from) (20 * (to - from)) (shown a) ++ rest = ap (λ ss. drawn (draw y) edge ss) (run (shown a) _ here) in
     ap (λ z. z ++ rest) (written ∙ ap (λ z. out ++ z) moved) ∙ append_assoc out _ rest ∙ ap (λ z. out ++ z) (sym spans_are) ∙ so_far

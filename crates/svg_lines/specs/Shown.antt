@@ -3,7 +3,8 @@ use Rattle.std.specs.Prelude.{◌≡◌, ℕ, List, ◌∷◌, drop}
 use Rattle.rt_base.specs.TaskNos.{number_of_task}
 use Rattle.trace_views.specs.Cells as views
 use Rattle.trace_views.specs.Spans.{spans_from}
-use Rattle.chart_cells.specs.Cells.{doing_shown, playing_shown, sem_numbers}
+use Rattle.chart_cells.specs.Cells.{cell_shown, doing_shown, playing_shown, sem_numbers}
+use Rattle.chart_cells.specs.declared.cells.Marked.{Marked}
 use Rattle.svg_texts.specs.Parts as spec
 use Rattle.svg_texts.specs.Parts.{same_part}
 use Rattle.svg_lines.specs.declared.parts.CpuLane.{CpuLane}
@@ -27,6 +28,10 @@ task_part_of task_lanes.Job c = spec.job c.doing c.job
 task_part_of task_lanes.Held c = spec.held c.held
 task_part_of task_lanes.Section c = spec.section c.non_preemptive
 task_part_of task_lanes.Raised c = spec.raised c.raised
+
+-- of a task's cell as code has it
+abbrev pub lane_part : TaskLane → Marked → spec.Part
+lane_part l c = task_part_of l (cell_shown c.cell)
 
 abbrev pub cpu_part_of : CpuLane → views.CpuCell → spec.Part
 cpu_part_of cpu_lanes.Playing c = spec.playing c.playing

@@ -5,11 +5,13 @@ ghost use Rattle.svg_texts.specs.CpuRows as cpu_rows;
 ghost use Rattle.svg_texts.specs.Lanes.{lane};
 ghost use Rattle.svg_texts.specs.Parts as spec;
 ghost use Rattle.svg_texts.specs.TaskLanes as task_lanes;
-ghost use Rattle.svg_lines.specs.Shown.{cpu_part_of, part_shown, task_part_of};
+ghost use Rattle.svg_lines.specs.Shown.{cpu_part_of, lane_part, part_shown, task_part_of};
 
 use crate::bars::Area;
 use crate::cpu_draws::{put_cpu_part, put_resv_part};
-use crate::parts::{CpuLane, Part, TaskLane, cpu_parts, left_parts, run_end, task_parts};
+use crate::parts::{
+    CpuLane, Part, TaskLane, cpu_parts, left_parts, run_end, task_part, task_run_end,
+};
 use crate::put::Pixels;
 use crate::task_draws::put_task_part;
 use chart_cells::{CpuCell, Marked};
@@ -50,6 +52,26 @@ fn area(edge: Pixels, y: Pixels, from: usize, to: usize) -> Area
     }
 }
 
+/// A span of a task, which begins with this cell.
+fn put_task_span(
+    alloc: Global,
+    out: &mut Vec<u8>,
+    set: &Parts,
+    task: u64,
+    area: Area,
+    shown: TaskLane,
+    cell: &Marked,
+) -> Result<(), NoMemory>
+    requires x { area.x < 2 ^ 91 }
+    requires y { area.y < 2 ^ 90 }
+    requires w { area.w < 2 ^ 91 }
+    ensures { OnOk result (out.new.items ≡ out.old.items ++ task_lanes.draw_task_part
+        set.now task area.y area.x area.w (lane_part shown cell.now)) }
+{
+    let part = task_part(alloc, shown, cell)?;
+    put_task_part(alloc, out, set, task, area, &part)
+}
+
 #[tactic(auto, unfolding(svg_texts::specs::Lanes::lane))]
 fn put_task_spans(
     alloc: Global,
@@ -58,17 +80,20 @@ fn put_task_spans(
     edge: Pixels,
     task: u64,
     y: Pixels,
-    parts: &[Part],
+    shown: TaskLane,
+    cells: &[Marked],
 ) -> Result<(), NoMemory>
     requires edge { edge < 2 ^ 90 }
     requires y { y < 2 ^ 90 }
     ensures { OnOk result (out.new.items ≡ out.old.items
-        ++ lane (task_lanes.draw_task_part set.now task y) edge (map part_shown parts.now)) }
+        ++ lane (task_lanes.draw_task_part set.now task y) edge
+        (map (lane_part shown) cells.now)) }
 {
     let mut from = 0;
-    while from < parts.len() {
-        let to = run_end(parts, from);
-        put_task_part(alloc, out, set, task, area(edge, y, from, to), &parts[from])?;
+    while from < cells.len() {
+        let to = task_run_end(shown, cells, from);
+        let here = area(edge, y, from, to);
+        put_task_span(alloc, out, set, task, here, shown, &cells[from])?;
         from = to;
     }
     Ok(())
@@ -136,8 +161,7 @@ pub fn put_task_lane(
     ensures { OnOk result (out.new.items ≡ out.old.items ++ task_lanes.task_lane set.now edge task y
         (task_part_of shown) (map marked_shown cells.now)) }
 {
-    let parts = task_parts(alloc, shown, cells)?;
-    put_task_spans(alloc, out, set, edge, task, y, &parts)
+    put_task_spans(alloc, out, set, edge, task, y, shown, cells)
 }
 
 /// A lane of a processor.

@@ -2,10 +2,9 @@
 ghost use Rattle.std.specs.Prelude.{◌≡◌, ◌<◌, ◌≤◌, length, map, IfOk};
 ghost use Rattle.rt_base.specs.TaskNos.{number_of_task};
 ghost use Rattle.rt_rules.specs.Numbers.{same};
-ghost use Rattle.chart_texts.specs.Charts as charts;
-ghost use Rattle.chart_cells.specs.Cells.{cell_shown, cpu_cell_shown, cpu_numbers, doing_shown, marked_shown, playing_shown, sem_numbers};
+ghost use Rattle.chart_cells.specs.Cells.{cpu_cell_shown, cpu_numbers, doing_shown, playing_shown, sem_numbers};
 ghost use Rattle.svg_texts.specs.Parts as spec;
-ghost use Rattle.svg_lines.specs.Shown.{RunsTo, cpu_part_of, part_shown, task_part_of};
+ghost use Rattle.svg_lines.specs.Shown.{RunsTo, cpu_part_of, lane_part, part_shown};
 
 use chart_cells::{CpuCell, Doing, Marked, Playing};
 use rt_base::{CpuNo, SemNo, TaskNo};
@@ -140,6 +139,33 @@ pub fn run_end(parts: &[Part], from: usize) -> usize
     to
 }
 
+#[tactic(auto, unfolding(svg_texts::specs::Parts::same_part))]
+#[inline(always)]
+fn same_in_lane(lane: TaskLane, a: &Marked, b: &Marked) -> bool
+    ensures { result ≡ spec.same_part (lane_part lane a.now) (lane_part lane b.now) }
+{
+    match lane {
+        TaskLane::Job => same_doing(&a.cell.doing, &b.cell.doing) && a.cell.job == b.cell.job,
+        TaskLane::Held => same_sems(&a.cell.held, &b.cell.held),
+        TaskLane::Section => a.cell.non_preemptive == b.cell.non_preemptive,
+        TaskLane::Raised => a.cell.raised == b.cell.raised,
+    }
+}
+
+/// Where the run of a task's cells that begins at a position ends, of which a lane shows equal parts.
+pub fn task_run_end(lane: TaskLane, cells: &[Marked], from: usize) -> usize
+    requires { from < length cells.now }
+    ensures after { from < result }
+    ensures within { result ≤ length cells.now }
+    ensures run { RunsTo (map (lane_part lane) cells.now) from result }
+{
+    let mut to = from + 1;
+    while to < cells.len() && same_in_lane(lane, &cells[from], &cells[to]) {
+        to += 1;
+    }
+    to
+}
+
 fn clone_doing(alloc: Global, doing: &Doing) -> Result<Doing, AllocError>
     ensures { IfOk result (λ d. doing_shown d ≡ doing_shown doing.now) }
 {
@@ -154,8 +180,9 @@ fn clone_doing(alloc: Global, doing: &Doing) -> Result<Doing, AllocError>
     })
 }
 
-fn task_part(alloc: Global, lane: TaskLane, cell: &Marked) -> Result<Part, AllocError>
-    ensures { IfOk result (λ v. part_shown v ≡ task_part_of lane (cell_shown cell.now.cell)) }
+/// The part of a task's cell that a lane shows.
+pub fn task_part(alloc: Global, lane: TaskLane, cell: &Marked) -> Result<Part, AllocError>
+    ensures { IfOk result (λ v. part_shown v ≡ lane_part lane cell.now) }
 {
     Ok(match lane {
         TaskLane::Job => Part::Job(clone_doing(alloc, &cell.cell.doing)?, cell.cell.job),
@@ -165,24 +192,12 @@ fn task_part(alloc: Global, lane: TaskLane, cell: &Marked) -> Result<Part, Alloc
     })
 }
 
-/// The parts of a task's cells that a lane shows.
-pub fn task_parts(alloc: Global, lane: TaskLane, cells: &[Marked]) -> Result<Vec<Part>, AllocError>
-    ensures { IfOk result (λ v. map part_shown v.items
-        ≡ map (λ (c : charts.Marked). task_part_of lane c.cell) (map marked_shown cells.now)) }
-{
-    let mut parts = Vec::new(alloc);
-    for cell in cells {
-        parts.push(task_part(alloc, lane, cell)?)?;
-    }
-    Ok(parts)
-}
-
 /// The parts of a processor's cells that a lane shows.
 pub fn cpu_parts(alloc: Global, lane: CpuLane, cells: &[CpuCell]) -> Result<Vec<Part>, AllocError>
     ensures { IfOk result (λ v. map part_shown v.items
         ≡ map (cpu_part_of lane) (map cpu_cell_shown cells.now)) }
 {
-    let mut parts = Vec::new(alloc);
+    let mut parts = Vec::with_capacity(alloc, cells.len())?;
     for cell in cells {
         parts.push(match lane {
             CpuLane::Playing => Part::Playing(cell.playing),
@@ -196,7 +211,7 @@ pub fn cpu_parts(alloc: Global, lane: CpuLane, cells: &[CpuCell]) -> Result<Vec<
 pub fn left_parts(alloc: Global, left: &[u64]) -> Result<Vec<Part>, AllocError>
     ensures { IfOk result (λ v. map part_shown v.items ≡ map spec.left left.now) }
 {
-    let mut parts = Vec::new(alloc);
+    let mut parts = Vec::with_capacity(alloc, left.len())?;
     for units in left {
         parts.push(Part::Left(*units))?;
     }

@@ -1,8 +1,20 @@
 -- Events up to the name in them, and the names of semaphores.
-use Rattle.std.specs.Prelude.{ℕ, List, ◌-◌, ◌++◌, codes, decimal, map, slice_index_or}
+use Rattle.std.specs.Prelude.{ℕ, List, [], ◌-◌, ◌++◌, codes, map, slice_index_or}
 use Rattle.rt_task.specs.declared.Sem.{Sem}
-use Rattle.rt_model.specs.Group.{no_sem}
-use Rattle.event_texts.specs.Records.{Piece, begun, microseconds, on_thread, strings}
+use Rattle.rt_model.specs.Group.{Group, no_sem}
+use Rattle.trace_views.specs.Cells.{Doing, TaskCell}
+use Rattle.trace_views.specs.Cells as cells
+use Rattle.event_texts.specs.Records.{Piece, begun, microseconds, on_thread, strings, truth}
+use Rattle.event_texts.specs.TaskSpans.{cpus_text, sem_name}
+use Rattle.event_lines.specs.declared.records.Phase.{Phase}
+use Rattle.event_lines.specs.declared.records.Phase.TheVariants.{Count, Instant, Name, Span}
+
+-- what an event is
+abbrev pub letter : Phase → Piece
+letter Span = codes "X"
+letter Instant = codes "i"
+letter Count = codes "C"
+letter Name = codes "M"
 
 abbrev pub named_to : Piece → Piece
 named_to what = codes ",\"name\":\"" ++ (what ++ codes "\",\"args\":{\"name\":\"")
@@ -10,15 +22,19 @@ named_to what = codes ",\"name\":\"" ++ (what ++ codes "\",\"args\":{\"name\":\"
 abbrev pub span_times : ℕ → ℕ → Piece
 span_times from to = codes ",\"ts\":" ++ (microseconds from ++ (codes ",\"dur\":" ++ microseconds (to - from)))
 
-abbrev pub span_to : ℕ → ℕ → ℕ → ℕ → Piece → Piece
-span_to process thread from to kind =
-    on_thread (codes "X") process thread
-    ++ (codes ",\"ts\":" ++ (microseconds from ++ (codes ",\"dur\":" ++ (microseconds (to - from)
-    ++ (codes ",\"cat\":\"" ++ (kind ++ codes "\",\"name\":\""))))))
+abbrev pub span_to : ℕ → ℕ → ℕ → ℕ → Piece
+span_to process thread from to = on_thread (codes "X") process thread ++ span_times from to
+
+-- its category, up to its name
+abbrev pub category : Piece → Piece
+category kind = codes ",\"cat\":\"" ++ (kind ++ codes "\",\"name\":\"")
 
 abbrev pub instant_to : ℕ → ℕ → ℕ → Piece
-instant_to process thread tick =
-    on_thread (codes "i") process thread ++ (codes ",\"ts\":" ++ (microseconds tick ++ codes ",\"s\":\"t\",\"name\":\""))
+instant_to process thread tick = on_thread (codes "i") process thread ++ (codes ",\"ts\":" ++ microseconds tick)
+
+-- its name, up to the number of the job
+abbrev pub instant_words : Piece → Piece
+instant_words name = codes ",\"s\":\"t\",\"name\":\"" ++ (name ++ codes "\",\"args\":{\"job\":")
 
 abbrev pub count_to : ℕ → ℕ → Piece
 count_to process tick = begun (codes "C") process ++ (codes ",\"ts\":" ++ (microseconds tick ++ codes ",\"name\":\""))
@@ -27,6 +43,26 @@ count_to process tick = begun (codes "C") process ++ (codes ",\"ts\":" ++ (micro
 abbrev pub name_in : List Sem → ℕ → Piece
 name_in sems s = (slice_index_or sems (s - 1) no_sem).name
 
--- a job, and what its task holds
-abbrev pub job_arguments : List Sem → ℕ → List ℕ → Piece
-job_arguments sems job held = codes "\"job\":" ++ (decimal job ++ (codes ",\"holds\":" ++ strings (map (name_in sems) held)))
+-- ---- what a task does: first the words, and then which processors or semaphore
+
+abbrev pub verb : Doing → Piece
+verb (cells.works qs) = codes "works on "
+verb (cells.blocked s) = codes "blocked at "
+verb (cells.waits s) = codes "waits for "
+verb cells.sleeping = codes "sleeps"
+verb (cells.running qs) = codes "runs on "
+verb cells.ready = codes "ready"
+verb cells.away = []
+
+abbrev pub object : Group → Doing → Piece
+object g (cells.works qs) = cpus_text qs
+object g (cells.blocked s) = sem_name g s
+object g (cells.waits s) = sem_name g s
+object g (cells.running qs) = cpus_text qs
+object g _ = []
+
+-- what a span of a task says behind the number of its job
+abbrev pub cell_rest : Group → TaskCell → Piece
+cell_rest g c =
+    codes ",\"holds\":" ++ (strings (map (sem_name g) c.held)
+    ++ (codes ",\"nonpreemptive\":" ++ (truth c.non_preemptive ++ (codes ",\"raised\":" ++ (truth c.raised ++ codes "}},\n")))))

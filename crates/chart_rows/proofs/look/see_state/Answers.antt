@@ -4,9 +4,9 @@ use Rattle.chart_cells.specs.Cells.{cell_shown, doing_shown}
 use Rattle.chart_rows.proofs.Looks.{later-kept, later-shown}
 use Rattle.chart_rows.proofs.look.see_state.Goals as goal
 
-pub returns-in_ok-kept : goal.returns-in_ok-kept
-returns-in_ok-kept c = λ past at.
-    c.in_ok-kept.ensures past at
+pub returns-in_ok-keep_state : goal.returns-in_ok-keep_state
+returns-in_ok-keep_state c = λ past at.
+    c.in_ok-keep_state.ensures past at
     ∙ later-shown (group_of c.args.afresh.now) c.args.task.0 past (cell_shown c.args.kept.now) (doing_shown c.doing_in-doing.result) (c.doing_in-doing.ensures past at) (sym c.gives_way_to.ensures ∙ c.if-gives_way_to.true)
 
 pub returns-else-gives_way_to : goal.returns-else-gives_way_to

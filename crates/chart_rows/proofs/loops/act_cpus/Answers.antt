@@ -1,7 +1,10 @@
-use Rattle.std.proofs.Common.{◌∙◌}
+use Rattle.std.proofs.Common.{◌∙◌, ap, not}
 use Rattle.chart_rows.specs.Rows.{cpu_acted}
-use Rattle.chart_rows.proofs.Changed.{changed-all, changed-more}
+use Rattle.chart_rows.proofs.Changed.{changed-all, changed-more, none-acted}
 use Rattle.chart_rows.proofs.loops.act_cpus.Goals as goal
+
+pub returns-then-is_none : goal.returns-then-is_none
+returns-then-is_none c = λ g m acted told. none-acted g m c.args.unit.now (c.is_none.ensures ∙ ap not c.if-is_none.true) told c.args.cpus.now
 
 pub loop-row-preserved : goal.loop-row-preserved
 loop-row-preserved c = λ g m acted told.

@@ -1,4 +1,4 @@
-use Rattle.std.proofs.Common.{◌≡◌, ◌∙◌, ap, map, set, sym}
+use Rattle.std.proofs.Common.{◌∙◌, ap, map, set, sym}
 use Rattle.rt_base.specs.TaskNos.{number_of_task}
 use Rattle.chart_rows.specs.Rows.{task_acted}
 use Rattle.chart_rows.specs.inside.Finding.{only}

@@ -1,4 +1,4 @@
-use Rattle.std.proofs.Common.{◌≡◌, ◌≢◌, ◌∙◌, false, List, ap, get_or, map, refl, subst, sym, All}
+use Rattle.std.proofs.Common.{◌≡◌, ◌∙◌, List, ap, get_or, map, refl, subst, sym, All}
 use Rattle.rt_base.specs.TaskNos.{number_of_task}
 use Rattle.rt_rules.specs.Distinct.{IsDistinct}
 use Rattle.rt_rules.specs.Numbers.{is}

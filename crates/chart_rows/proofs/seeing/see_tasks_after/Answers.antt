@@ -1,5 +1,5 @@
-use Rattle.std.proofs.Common.{◌≡◌, ◌≢◌, ◌∙◌, ◌∷◌, ℕ, Bool, false, true, List, ap, get_or, map, refl, subst, sym, All}
-use Rattle.std.specs.Prelude.{◌||◌, Option}
+use Rattle.std.proofs.Common.{◌≡◌, ◌∙◌, ◌∷◌, ℕ, false, true, List, ap, get_or, map, refl, subst, sym, All}
+use Rattle.std.specs.Prelude.{Option}
 use Rattle.rt_base.specs.TaskNos.{number_of_task}
 use Rattle.rt_rules.specs.Distinct.{IsDistinct}
 use Rattle.rt_rules.specs.Numbers.{has, is}

@@ -1,6 +1,6 @@
 use Rattle.std.proofs.lemmas.Result.{on_ok_weaker}
 use Rattle.event_lines.specs.TrackEvents.{some_group}
-use Rattle.event_lines.proofs.Spans.{away-put, there-put}
+use Rattle.event_lines.proofs.Spans.{away-put, there-told}
 use Rattle.event_lines.proofs.task_spans.put_span.Goals as goal
 
 pub returns-in-Away : goal.returns-in-Away
@@ -9,4 +9,4 @@ returns-in-Away c = away-put (some_group c.args.set.now) c.args.process c.args.t
 pub returns-in_default : goal.returns-in_default
 returns-in_default c =
     on_ok_weaker c.put_there.result
-    (there-put (some_group c.args.set.now) c.args.process c.args.task.0 c.args.span.now _ _ _ _ c.from.ensures c.kind_of.ensures c.in_default.not-Away) c.put_there.ensures
+    (there-told (some_group c.args.set.now) c.args.process c.args.task.0 c.args.span.now _ _ _ c.from.ensures c.in_default.not-Away) c.put_there.ensures

@@ -1,29 +1,24 @@
 use Rattle.std.proofs.Common.{◌≡◌, ◌∙◌, ◌<◌, length, map, sym, arith}
 use Rattle.std.proofs.lemmas.List.{length-map}
-use Rattle.chart_rows.proofs.Changed.{changed-all, changed-all-at, changed-at, changed-more}
-use Rattle.chart_rows.specs.Rows.{ResvKept}
+use Rattle.chart_rows.proofs.Changed.{changed-all, changed-at, changed-more}
 use Rattle.event_lines.specs.Shown.{resv_track_shown}
-use Rattle.span_feed.specs.Spanned.{resv_emptied, resv_more}
+use Rattle.span_feed.specs.Spanned.{resv_cleared, resv_more}
 use Rattle.span_feed.proofs.Pairs.{paired-all, paired-more}
 use Rattle.span_feed.proofs.taking.take_resvs.Goals as goal
 
-pub take_resv-requires : goal.take_resv-requires
-take_resv-requires c =
-    changed-all-at (λ (k : ResvKept). length k.left ≡ 1) resv_emptied c.args.rows.now c.loop-i.rows c.loop-i.i c.index-rows-i.result c.requires.one c.loop-i-test.true c.loop-i.invariant.0 c.index-rows-i.is
-
 pub loop-i-preserved : goal.loop-i-preserved
 loop-i-preserved c =
-    let read = changed-at resv_emptied c.args.rows.now c.loop-i.rows c.loop-i.i c.index-rows-i.result c.loop-i-test.true c.loop-i.invariant.0 c.index-rows-i.is in
-    let below : c.loop-i.i < length c.loop-i.tracks = omega (arith, c.loop-i-test.true, c.requires.beside, c.loop-i.auto.tracks) in
+    let read = changed-at resv_cleared c.args.rows.now c.loop-i.rows c.loop-i.i c.index-rows-i.result c.loop-i-test.true c.loop-i.invariant.0 c.index-rows-i.is in
+    let below : c.loop-i.i < length c.loop-i.tracks = omega (arith, c.loop-i-test.true, c.requires, c.loop-i.auto.tracks) in
     let long : length (map resv_track_shown c.args.tracks.now) ≡ length c.loop-i.tracks = length-map c.args.tracks.now resv_track_shown ∙ sym c.loop-i.auto.tracks in
     let made = c.in_ok-take_resv.ensures.track ∙ (λ j. resv_more c.args.from c.args.to (sym c.index-rows-i.is j) (resv_track_shown (sym c.index-tracks-i.is j))) in (
-      changed-more resv_emptied c.args.rows.now c.loop-i.rows c.loop-i.i c.index-rows-i.result c.take_resv.new.row c.loop-i-test.true c.loop-i.invariant.0 c.index-rows-i.is c.in_ok-take_resv.ensures.row,
+      changed-more resv_cleared c.args.rows.now c.loop-i.rows c.loop-i.i c.index-rows-i.result c.take_resv.new.row c.loop-i-test.true c.loop-i.invariant.0 c.index-rows-i.is c.in_ok-take_resv.ensures.row,
       paired-more (resv_more c.args.from c.args.to) resv_track_shown c.loop-i.i c.args.rows.now (map resv_track_shown c.args.tracks.now) c.loop-i.tracks c.index-rows-i.result c.index-tracks-i.result c.take_resv.new.track
           c.loop-i-test.true below long c.loop-i.invariant.1 read c.index-tracks-i.is made,
     )
 
 pub returns-clause-rows : goal.returns-clause-rows
-returns-clause-rows c = c.loop-i.invariant.0 ∙ changed-all resv_emptied c.args.rows.now c.loop-i.i c.loop-i-test.false
+returns-clause-rows c = c.loop-i.invariant.0 ∙ changed-all resv_cleared c.args.rows.now c.loop-i.i c.loop-i-test.false
 
 pub returns-clause-tracks : goal.returns-clause-tracks
 returns-clause-tracks c = c.loop-i.invariant.1 ∙ paired-all (resv_more c.args.from c.args.to) c.loop-i.i c.args.rows.now (map resv_track_shown c.args.tracks.now) c.loop-i-test.false

@@ -1,8 +1,10 @@
-use Rattle.std.proofs.Common.{◌≡◌, ◌∙◌, length, map, ap, arith}
+use Rattle.std.proofs.Common.{◌≡◌, ◌∙◌, length, map, ap, subst, sym, arith}
 use Rattle.std.proofs.lemmas.List.{with_items_is}
+use Rattle.rt_rules.specs.Distinct.{IsDistinct}
 use Rattle.rank_afresh.specs.Standing.{group_of}
+use Rattle.chart_rows.specs.Listed.{tasks_listed}
 use Rattle.chart_rows.specs.inside.Plays.{played_shown}
-use Rattle.chart_rows.specs.Rows.{cpu_closed, played, resv_closed, rows_closed, task_closed}
+use Rattle.chart_rows.specs.Rows.{RowsKept, cpu_closed, played, resv_closed, rows_closed, task_closed}
 use Rattle.chart_rows.proofs.rows.Rows.close.Goals as goal
 
 pub returns : goal.returns
@@ -12,8 +14,10 @@ returns c = λ past at.
     let cpus : length c.close_cpus.new.cpus ≡ c.self.inside.cpus.len = omega (arith, c.close_cpus.auto.cpus, ap length c.as_mut_slice-2.ensures.value, c.self.inside.cpus.ok.0) in
     let resvs : length c.close_resvs.new.resvs ≡ c.self.inside.resvs.len = omega (arith, c.close_resvs.auto.resvs, ap length c.as_mut_slice-3.ensures.value, c.self.inside.resvs.ok.0) in
     let plays : map played_shown c.as_slice-2.result.now ≡ map (played g past) c.self.inside.cpus.items = ap (map played_shown) c.as_slice-2.ensures.value ∙ c.in_ok-plays.ensures past at ∙ ap (map (played g past)) c.as_slice.ensures.value in
+    let once : IsDistinct (tasks_listed c.as_mut_slice.result.now) =
+    subst IsDistinct (sym (ap tasks_listed c.as_mut_slice.ensures.value ∙ ap (λ (v : RowsKept). tasks_listed v.tasks) c.self.view_is)) c.requires.listed.once in
     (λ i. record {
-      tasks = (with_items_is c.self.inside.tasks c.close_tasks.new.tasks tasks ∙ c.in_ok-close_tasks.ensures g ∙ (λ j. map (task_closed g (plays j)) (c.as_mut_slice.ensures.value j))) i;
+      tasks = (with_items_is c.self.inside.tasks c.close_tasks.new.tasks tasks ∙ c.in_ok-close_tasks.ensures g once ∙ (λ j. map (task_closed g (plays j)) (c.as_mut_slice.ensures.value j))) i;
       cpus = (with_items_is c.self.inside.cpus c.close_cpus.new.cpus cpus ∙ c.in_ok-close_cpus.ensures past at ∙ ap (map (cpu_closed g past)) c.as_mut_slice-2.ensures.value) i;
       resvs = (with_items_is c.self.inside.resvs c.close_resvs.new.resvs resvs ∙ c.in_ok-close_resvs.ensures past at ∙ ap (map (resv_closed g past)) c.as_mut_slice-3.ensures.value) i;
     })
