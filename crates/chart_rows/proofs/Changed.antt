@@ -1,6 +1,6 @@
 -- Rows that are changed one after the other.
-use Rattle.std.proofs.Common.{Bool, true, false, append-nil, ◌≡◌, ◌∙◌, ℕ, zero, suc, ◌+◌, ◌<◌, ◌≤◌, List, [], ◌∷◌, ◌++◌, length, map, take, drop, get_or, set, refl, sym, ap, subst, arith, All}
-use Rattle.std.specs.Prelude.{filter, Option, None, Some, is_some, if◌then◌else◌}
+use Rattle.std.proofs.Common.{Bool, true, false, append-nil, ◌≡◌, ◌≢◌, ◌∙◌, ℕ, zero, suc, ◌+◌, ◌<◌, ◌≤◌, List, [], ◌∷◌, ◌++◌, length, map, take, drop, get_or, set, refl, sym, ap, subst, arith, All}
+use Rattle.std.specs.Prelude.{filter, Option, None, Some, if◌then◌else◌}
 use Rattle.std.proofs.lemmas.List.{map-append, take_more}
 use Rattle.std.proofs.lemmas.List.Edits.{map_over_more}
 use Rattle.std.proofs.lemmas.List.Elements.{filter-append}
@@ -42,8 +42,8 @@ pub changed-all-at : {A : Type 0} (P : A → Type 0) (f : A → A) (xs ys : List
 changed-all-at P f xs ys i x all low is read = subst P (sym (changed-at f xs ys i x low is read) ∙ read) (all i x low)
 
 -- without a unit no processor's is
-pub none-acted : (g : Group) (m : Moment) (o : Option Unit) → is_some o ≡ false → IsTold g m o → (ks : List rows.CpuKept) → ks ≡ map (rows.cpu_acted g m) ks
-none-acted g m (Some u) h told ks = cc
+pub none-acted : (g : Group) (m : Moment) (o : Option Unit) → ((u : Unit) → o ≢ Some u) → IsTold g m o → (ks : List rows.CpuKept) → ks ≡ map (rows.cpu_acted g m) ks
+none-acted g m (Some u) h told ks = absurd (h u refl)
 none-acted g m None h told [] = refl
 none-acted g m None h told (k ∷ ks) = λ i. here i ∷ none-acted g m None h told ks i
   where

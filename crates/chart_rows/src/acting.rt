@@ -11,7 +11,7 @@ ghost use Rattle.chart_texts.specs.Charts.{group_resvs};
 ghost use Rattle.chart_cells.specs.Kept.{with_unit};
 ghost use Rattle.view_acts.specs.ShownActs.{act_shown};
 ghost use Rattle.chart_rows.specs.Rows.{cpu_acted, resv_acted, task_acted};
-ghost use Rattle.chart_rows.specs.Units.{IsTold};
+ghost use Rattle.chart_rows.specs.Units.{IsTold, IsUnitOf};
 
 use crate::cpus::CpuFeed;
 use crate::resvs::ResvFeed;
@@ -61,18 +61,17 @@ pub(crate) fn act_task(
     Ok(())
 }
 
-/// An act for the row of a processor.
-pub(crate) fn act_cpu(row: &mut CpuFeed, cpu: CpuNo, unit: &Option<Unit>)
-    ensures { (g : Group) (m : Moment) → cpu.0 ≡ m.act.cpu → IsTold g m unit.now
+/// A unit of a processor, for the row of one.
+#[inline(always)]
+pub(crate) fn act_cpu(row: &mut CpuFeed, cpu: CpuNo, unit: &Unit)
+    ensures { (g : Group) (m : Moment) → cpu.0 ≡ m.act.cpu → IsUnitOf g m unit.now
         → row.new ≡ cpu_acted g m row.old }
 {
-    if let Some(unit) = unit {
-        if cpu == row.cpu() {
-            row.work(CpuCell {
-                playing: Playing::WorksFor(unit.task),
-                link: unit.link,
-            });
-        }
+    if cpu == row.cpu() {
+        row.work(CpuCell {
+            playing: Playing::WorksFor(unit.task),
+            link: unit.link,
+        });
     }
 }
 

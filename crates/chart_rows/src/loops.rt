@@ -79,11 +79,11 @@ pub(crate) fn act_cpus(cpus: &mut [CpuFeed], cpu: CpuNo, unit: &Option<Unit>)
     ensures { (g : Group) (m : Moment) → cpu.0 ≡ m.act.cpu → IsTold g m unit.now
         → cpus.new ≡ map (rows.cpu_acted g m) cpus.old }
 {
-    if unit.is_none() {
+    let Some(done) = unit else {
         return;
-    }
+    };
     for row in cpus.iter_mut() {
-        act_cpu(row, cpu, unit);
+        act_cpu(row, cpu, done);
     }
 }
 

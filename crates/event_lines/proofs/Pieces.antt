@@ -9,7 +9,7 @@ use Rattle.trace_views.specs.Cells as cells
 use Rattle.event_texts.specs.Records.{Piece, begun, count_event, instant_event, microseconds, named, on_thread, quoted, span_event, strings, thread_event, truth}
 use Rattle.event_texts.specs.TaskSpans.{cell_arguments, kind, name, sem_name}
 use Rattle.event_lines.specs.inside.Commas.{with_comma, with_commas}
-use Rattle.event_lines.specs.inside.Openings.{category, cell_rest, count_to, instant_to, instant_words, name_in, named_to, object, span_to, verb}
+use Rattle.event_lines.specs.inside.Openings.{Thread, category, cell_rest, count_to, instant_words, instants_on, name_in, named_to, object, span_to, verb}
 use Rattle.event_lines.specs.TrackEvents.{group_words, process_name, some_group}
 
 abbrev pub joined : List Piece → Piece → Piece
@@ -40,14 +40,14 @@ pub thread-put : (process thread : ℕ) (name : Piece)
 unfolding with_comma
 thread-put process thread name = named-put (on_thread (codes "M") process thread) (codes "thread_name") name
 
-instant-joined : (o ts t w n j k e comma : List ℕ) → (o ++ (ts ++ t)) ++ ((w ++ (n ++ j)) ++ (k ++ (e ++ comma))) ≡ (o ++ (ts ++ (t ++ (w ++ (n ++ (j ++ (k ++ (e ++ [])))))))) ++ comma
+instant-joined : (o ts t w n j k e comma : List ℕ) → (o ++ ts) ++ (t ++ ((w ++ (n ++ j)) ++ (k ++ (e ++ comma)))) ≡ (o ++ (ts ++ (t ++ (w ++ (n ++ (j ++ (k ++ (e ++ [])))))))) ++ comma
 instant-joined o ts t w n j k e comma = simp (append_assoc, append-nil)
 
-pub instant-put : (process thread tick : ℕ) (name : Piece) (job : ℕ)
-    → instant_to process thread tick ++ (instant_words name ++ (decimal job ++ codes "}},\n")) ≡ with_comma (instant_event process thread tick name job)
+pub instant-put : (thread : Thread) (tick : ℕ) (name : Piece) (job : ℕ)
+    → instants_on thread ++ (microseconds tick ++ (instant_words name ++ (decimal job ++ codes "}},\n"))) ≡ with_comma (instant_event thread.process thread.number tick name job)
 unfolding with_comma
-instant-put process thread tick name job =
-    instant-joined (on_thread (codes "i") process thread) (codes ",\"ts\":") (microseconds tick) (codes ",\"s\":\"t\",\"name\":\"") name (codes "\",\"args\":{\"job\":") (decimal job) (codes "}}") (44 ∷ 10 ∷ [])
+instant-put thread tick name job =
+    instant-joined (on_thread (codes "i") thread.process thread.number) (codes ",\"ts\":") (microseconds tick) (codes ",\"s\":\"t\",\"name\":\"") name (codes "\",\"args\":{\"job\":") (decimal job) (codes "}}") (44 ∷ 10 ∷ [])
 
 pub count-put : (process tick : ℕ) (name : Piece) (left : ℕ)
     → count_to process tick ++ (name ++ (codes "\",\"args\":{\"left\":" ++ (decimal left ++ codes "}},\n"))) ≡ with_comma (count_event process tick name left)

@@ -12,10 +12,11 @@ use crate::names::{put_cpu_names, put_resv_names, put_task_names};
 use crate::task_spans::put_task_spans;
 use crate::tracks::{CpuTrack, GroupTracks, ResvTrack, TaskTrack};
 use rt_task::Parts;
-use std::alloc::AllocError;
+use std::alloc::{AllocError, Global};
 
 #[tactic(auto, using(crate::proofs::Joins::loops))]
 fn put_task(
+    alloc: Global,
     text: &mut Vec<u8>,
     set: &Parts,
     process: u64,
@@ -25,11 +26,12 @@ fn put_task(
         ++ with_commas (task_events (some_group set.now) process (task_track_shown track.now))) }
 {
     put_task_spans(text, set, process, track.task, &track.spans)?;
-    put_job_marks(text, process, track.task, &track.jobs)
+    put_job_marks(alloc, text, process, track.task, &track.jobs)
 }
 
 #[tactic(auto, using(crate::proofs::Joins::loops))]
 fn put_tasks(
+    alloc: Global,
     text: &mut Vec<u8>,
     set: &Parts,
     process: u64,
@@ -40,7 +42,7 @@ fn put_tasks(
         (map task_track_shown tracks.now))) }
 {
     for track in tracks {
-        put_task(text, set, process, track)?;
+        put_task(alloc, text, set, process, track)?;
     }
     Ok(())
 }
@@ -80,7 +82,12 @@ fn put_resvs(
 }
 
 #[tactic(auto, using(crate::proofs::Joins::loops), unfolding(crate::specs::TrackEvents::tracks_events))]
-fn put_group(text: &mut Vec<u8>, set: &Parts, tracks: &GroupTracks) -> Result<(), AllocError>
+fn put_group(
+    alloc: Global,
+    text: &mut Vec<u8>,
+    set: &Parts,
+    tracks: &GroupTracks,
+) -> Result<(), AllocError>
     ensures { OnOk result (text.new.items ≡ text.old.items
         ++ with_commas (tracks_events (some_group set.now) (group_tracks_shown tracks.now))) }
 {
@@ -88,7 +95,7 @@ fn put_group(text: &mut Vec<u8>, set: &Parts, tracks: &GroupTracks) -> Result<()
     put_task_names(text, set, group, &tracks.tasks)?;
     put_cpu_names(text, group, &tracks.cpus)?;
     put_resv_names(text, group, &tracks.resvs)?;
-    put_tasks(text, set, task_process(group), &tracks.tasks)?;
+    put_tasks(alloc, text, set, task_process(group), &tracks.tasks)?;
     put_cpus(text, set, cpu_process(group), &tracks.cpus)?;
     put_resvs(text, set, resv_process(group), &tracks.resvs)
 }
@@ -96,6 +103,7 @@ fn put_group(text: &mut Vec<u8>, set: &Parts, tracks: &GroupTracks) -> Result<()
 /// The events of groups, a comma behind each.
 #[tactic(auto, using(crate::proofs::Joins::loops))]
 pub(crate) fn put_groups(
+    alloc: Global,
     text: &mut Vec<u8>,
     set: &Parts,
     groups: &[GroupTracks],
@@ -105,7 +113,7 @@ pub(crate) fn put_groups(
         (map group_tracks_shown groups.now))) }
 {
     for tracks in groups {
-        put_group(text, set, tracks)?;
+        put_group(alloc, text, set, tracks)?;
     }
     Ok(())
 }

@@ -29,8 +29,13 @@ span_to process thread from to = on_thread (codes "X") process thread ++ span_ti
 abbrev pub category : Piece → Piece
 category kind = codes ",\"cat\":\"" ++ (kind ++ codes "\",\"name\":\"")
 
-abbrev pub instant_to : ℕ → ℕ → ℕ → Piece
-instant_to process thread tick = on_thread (codes "i") process thread ++ (codes ",\"ts\":" ++ microseconds tick)
+-- how the instants of a thread begin, up to their tick
+pub record Thread : Type 0 where
+  pub process : ℕ
+  pub number : ℕ
+
+abbrev pub instants_on : Thread → Piece
+instants_on t = on_thread (codes "i") t.process t.number ++ codes ",\"ts\":"
 
 -- its name, up to the number of the job
 abbrev pub instant_words : Piece → Piece

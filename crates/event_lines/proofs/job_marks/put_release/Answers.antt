@@ -1,4 +1,4 @@
-use Rattle.std.proofs.Common.{◌∙◌, ℕ, ◌++◌, codes, refl, sym, ap, ap₂}
+use Rattle.std.proofs.Common.{◌∙◌, ℕ, ◌++◌, codes, refl, sym, ap}
 use Rattle.std.proofs.lemmas.Result.{on_ok_weaker}
 use Rattle.std.specs.Prelude.{Option}
 use Rattle.event_texts.specs.Records.{instant_event}
@@ -12,5 +12,5 @@ unfolding release_events
 returns c =
     on_ok_weaker c.put_instant.result (λ last.
     let text = c.args.text.now.items in
-    alone text _ _ (last (codes "release") refl ∙ ap₂ (λ n tick. text ++ with_comma (instant_event c.args.process n tick (codes "release") c.args.job)) c.from.ensures c.from-2.ensures)
-    ∙ ap (λ (release : Option ℕ). text ++ with_commas (release_events c.args.process c.args.task.0 c.args.job release)) (sym c.in-Some.is)) c.put_instant.ensures
+    alone text _ _ (last (codes "release") refl ∙ ap (λ tick. text ++ with_comma (instant_event c.args.thread.now.process c.args.thread.now.number tick (codes "release") c.args.job)) c.from.ensures)
+    ∙ ap (λ (release : Option ℕ). text ++ with_commas (release_events c.args.thread.now.process c.args.thread.now.number c.args.job release)) (sym c.in-Some.is)) c.put_instant.ensures
