@@ -45,8 +45,9 @@ fn put_busy(
 ) -> Result<(), AllocError>
     ensures { let link = number_of_task span.cell.link in OnOk result ((kind : Piece)
         → words.now ≡ category kind → text.new.items
-        ≡ text.old.items ++ with_comma (span_event thread.now.process thread.now.number span.from span.to kind
-        name.now (spec.link_argument (some_group set.now) link))) }
+        ≡ text.old.items ++ with_comma
+        (span_event thread.now.process thread.now.number span.from span.to kind name.now
+        (spec.link_argument (some_group set.now) link))) }
 {
     open_span(text, thread, span.from, span.to)?;
     put(text, words)?;

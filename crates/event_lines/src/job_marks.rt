@@ -31,7 +31,8 @@ fn put_instant(
 ) -> Result<(), AllocError>
     requires { tick ≤ 2 ^ 64 }
     ensures { OnOk result ((name : Piece) → words.now ≡ instant_words name → text.new.items
-        ≡ text.old.items ++ with_comma (instant_event thread.now.process thread.now.number tick name job)) }
+        ≡ text.old.items ++ with_comma
+        (instant_event thread.now.process thread.now.number tick name job)) }
 {
     thread.open_instant(text)?;
     put_microseconds(text, tick)?;
@@ -107,7 +108,8 @@ fn put_end(
 #[tactic(auto, using(crate::proofs::Joins::loops), unfolding(crate::specs::TrackEvents::job_events))]
 fn put_marks(text: &mut Vec<u8>, thread: &Thread, marks: &JobMarks) -> Result<(), AllocError>
     ensures { OnOk result (text.new.items ≡ text.old.items
-        ++ with_commas (job_events thread.now.process thread.now.number (job_marks_shown marks.now))) }
+        ++ with_commas
+        (job_events thread.now.process thread.now.number (job_marks_shown marks.now))) }
 {
     let job = u64::from(marks.job);
     put_release(text, thread, job, marks.release)?;

@@ -190,7 +190,8 @@ pub(crate) fn put_task_spans(
     spans: &[TaskSpan],
 ) -> Result<(), AllocError>
     ensures { OnOk result (text.new.items ≡ text.old.items
-        ++ with_commas (flat_map (task_span_events (some_group set.now) thread.now.process thread.now.number)
+        ++ with_commas (flat_map
+        (task_span_events (some_group set.now) thread.now.process thread.now.number)
         (map task_span_shown spans.now))) }
 {
     for span in spans {
