@@ -28,13 +28,13 @@ module _ (g : Group) (process q : ℕ) (s : CpuSpan) where
   pub runs-told : (t : TaskNo) → s.cell.playing ≡ RunsTask t → cpu_span_events g process q (cpu_span_shown s) ≡ busy_event (codes "runs") t ∷ []
   runs-told t is = played (RunsTask t) is
 
-  pub busy-put : (old new : List ℕ) (kind : Piece) (t : TaskNo) (thread : ℕ) (name : Piece) → thread ≡ q → name ≡ (task g t.0).name
+  pub busy-put : (old new : List ℕ) (kind : Piece) (t : TaskNo) (number : ℕ) (name : Piece) → number ≡ q + 1 → name ≡ (task g t.0).name
       → cpu_span_events g process q (cpu_span_shown s) ≡ busy_event kind t ∷ []
-      → new ≡ old ++ with_comma (span_event process (thread + 1) s.from s.to kind name (link_argument g (number_of_task s.cell.link)))
+      → new ≡ old ++ with_comma (span_event process number s.from s.to kind name (link_argument g (number_of_task s.cell.link)))
       → new ≡ old ++ with_commas (cpu_span_events g process q (cpu_span_shown s))
-  busy-put old new kind t thread name thread_is name_is told h =
+  busy-put old new kind t number name number_is name_is told h =
       let link : Piece = link_argument g (number_of_task s.cell.link) in
-      alone old new (busy_event kind t) (h ∙ ap₂ (λ n x. old ++ with_comma (span_event process (n + 1) s.from s.to kind x link)) thread_is name_is)
+      alone old new (busy_event kind t) (h ∙ ap₂ (λ n x. old ++ with_comma (span_event process n s.from s.to kind x link)) number_is name_is)
       ∙ ap (λ es. old ++ with_commas es) (sym told)
 
   pub idle-put : (old : List ℕ) → s.cell.playing ≡ Idle → old ≡ old ++ with_commas (cpu_span_events g process q (cpu_span_shown s))

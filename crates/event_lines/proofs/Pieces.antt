@@ -60,14 +60,14 @@ count-put process tick name left =
 -- ---- spans
 
 span-joined : (o ts f dur d cat k nm n ar u e comma : List ℕ)
-    → (o ++ (ts ++ (f ++ (dur ++ d)))) ++ ((cat ++ (k ++ nm)) ++ (n ++ (ar ++ (u ++ (e ++ comma))))) ≡ (o ++ (ts ++ (f ++ (dur ++ (d ++ (cat ++ (k ++ (nm ++ (n ++ (ar ++ (u ++ (e ++ [])))))))))))) ++ comma
+    → ((o ++ ts) ++ (f ++ (dur ++ d))) ++ ((cat ++ (k ++ nm)) ++ (n ++ (ar ++ (u ++ (e ++ comma))))) ≡ (o ++ (ts ++ (f ++ (dur ++ (d ++ (cat ++ (k ++ (nm ++ (n ++ (ar ++ (u ++ (e ++ [])))))))))))) ++ comma
 span-joined o ts f dur d cat k nm n ar u e comma = simp (append_assoc, append-nil)
 
-pub span-put : (process thread from to : ℕ) (kind name arguments : Piece)
-    → span_to process thread from to ++ (category kind ++ (name ++ (codes "\",\"args\":{" ++ (arguments ++ codes "}},\n")))) ≡ with_comma (span_event process thread from to kind name arguments)
+pub span-put : (thread : Thread) (from to : ℕ) (kind name arguments : Piece)
+    → span_to thread from to ++ (category kind ++ (name ++ (codes "\",\"args\":{" ++ (arguments ++ codes "}},\n")))) ≡ with_comma (span_event thread.process thread.number from to kind name arguments)
 unfolding with_comma
-span-put process thread from to kind name arguments =
-    span-joined (on_thread (codes "X") process thread) (codes ",\"ts\":") (microseconds from) (codes ",\"dur\":") (microseconds (to - from)) (codes ",\"cat\":\"") kind (codes "\",\"name\":\"")
+span-put thread from to kind name arguments =
+    span-joined (on_thread (codes "X") thread.process thread.number) (codes ",\"ts\":") (microseconds from) (codes ",\"dur\":") (microseconds (to - from)) (codes ",\"cat\":\"") kind (codes "\",\"name\":\"")
     name (codes "\",\"args\":{") arguments (codes "}}") (44 ∷ 10 ∷ [])
 
 name-told : (g : Group) (d : Doing) → verb d ++ object g d ≡ name g d
@@ -91,14 +91,14 @@ head-joined : (o c v n r : List ℕ) → o ++ ((c ++ v) ++ (n ++ r)) ≡ o ++ (c
 head-joined o c v n r = simp append_assoc
 
 -- a span of a task, as it is put
-pub there-put : (g : Group) (process thread from to : ℕ) (c : TaskCell)
-    → span_to process thread from to ++ ((category (kind c.doing) ++ verb c.doing) ++ (object g c.doing ++ (codes "\",\"args\":{\"job\":" ++ (decimal c.job ++ cell_rest g c))))
-    ≡ with_comma (span_event process thread from to (kind c.doing) (name g c.doing) (cell_arguments g c))
-there-put g process thread from to c =
-    let head = span_to process thread from to in
+pub there-put : (g : Group) (thread : Thread) (from to : ℕ) (c : TaskCell)
+    → span_to thread from to ++ ((category (kind c.doing) ++ verb c.doing) ++ (object g c.doing ++ (codes "\",\"args\":{\"job\":" ++ (decimal c.job ++ cell_rest g c))))
+    ≡ with_comma (span_event thread.process thread.number from to (kind c.doing) (name g c.doing) (cell_arguments g c))
+there-put g thread from to c =
+    let head = span_to thread from to in
     head-joined head (category (kind c.doing)) (verb c.doing) (object g c.doing) (codes "\",\"args\":{\"job\":" ++ (decimal c.job ++ cell_rest g c))
     ∙ (λ i. head ++ (category (kind c.doing) ++ (name-told g c.doing i ++ arguments-told g c i)))
-    ∙ span-put process thread from to (kind c.doing) (name g c.doing) (cell_arguments g c)
+    ∙ span-put thread from to (kind c.doing) (name g c.doing) (cell_arguments g c)
 
 -- what it says behind the number of its job, as it is put
 pub rest-put : (p : Parts) (c : TaskCell)

@@ -24,18 +24,17 @@ cell-told g process t from to c Ready there = refl
 cell-told g process t from to c Away there = absurd (there refl)
 
 module _ (g : Group) (process t : ℕ) (s : TaskSpan) where
-  abbrev pub there_event : ℕ → Piece
-  there_event thread =
+  abbrev pub there_event : Piece
+  there_event =
       let d = doing_shown s.cell.doing in
-      span_event process thread s.from s.to (kind d) (name g d) (cell_arguments g (cell_shown s.cell))
+      span_event process t s.from s.to (kind d) (name g d) (cell_arguments g (cell_shown s.cell))
 
-  span-told : (s.cell.doing ≡ Away → ⊥) → task_span_events g process t (task_span_shown s) ≡ there_event t ∷ []
+  span-told : (s.cell.doing ≡ Away → ⊥) → task_span_events g process t (task_span_shown s) ≡ there_event ∷ []
   unfolding task_span_events
   span-told there = cell-told g process t s.from s.to (cell_shown s.cell) s.cell.doing there
 
-  pub there-told : (old new : List ℕ) (thread : ℕ) → thread ≡ t → (s.cell.doing ≡ Away → ⊥) → new ≡ old ++ with_comma (there_event thread) → new ≡ old ++ with_commas (task_span_events g process t (task_span_shown s))
-  there-told old new thread thread_is there h =
-      alone old new (there_event t) (h ∙ ap (λ n. old ++ with_comma (there_event n)) thread_is) ∙ ap (λ es. old ++ with_commas es) (sym (span-told there))
+  pub there-told : (old new : List ℕ) → (s.cell.doing ≡ Away → ⊥) → new ≡ old ++ with_comma there_event → new ≡ old ++ with_commas (task_span_events g process t (task_span_shown s))
+  there-told old new there h = alone old new there_event h ∙ ap (λ es. old ++ with_commas es) (sym (span-told there))
 
   away-told : s.cell.doing ≡ Away → task_span_events g process t (task_span_shown s) ≡ []
   unfolding task_span_events

@@ -1,5 +1,5 @@
 //! What processors do, span by span.
-ghost use Rattle.std.specs.Prelude.{◌≡◌, ◌++◌, codes, flat_map, map, OnOk};
+ghost use Rattle.std.specs.Prelude.{◌≡◌, ◌+◌, ◌++◌, codes, flat_map, map, OnOk};
 ghost use Rattle.rt_base.specs.TaskNos.{number_of_task};
 ghost use Rattle.event_texts.specs.CpuSpans as spec;
 ghost use Rattle.event_texts.specs.Records.{Piece, span_event};
@@ -11,11 +11,12 @@ ghost use Rattle.event_lines.specs.TrackEvents.{cpu_span_events, some_group};
 use crate::elements::task_name;
 use crate::put::put;
 use crate::records::open_span;
+use crate::threads::Thread;
 use crate::tracks::CpuSpan;
 use chart_cells::Playing;
 use rt_base::{CpuNo, TaskNo};
 use rt_task::Parts;
-use std::alloc::AllocError;
+use std::alloc::{AllocError, Global};
 
 /// The task that the processor is linked to, as the argument of a span, and the end of the event.
 #[tactic(auto, using(crate::proofs::Joins::joins), unfolding(rt_model::specs::Group::task))]
@@ -37,42 +38,41 @@ fn put_link(text: &mut Vec<u8>, set: &Parts, link: Option<TaskNo>) -> Result<(),
 fn put_busy(
     text: &mut Vec<u8>,
     set: &Parts,
-    process: u64,
-    thread: u64,
+    thread: &Thread,
     span: CpuSpan,
     words: &[u8],
     name: &[u8],
 ) -> Result<(), AllocError>
     ensures { let link = number_of_task span.cell.link in OnOk result ((kind : Piece)
         → words.now ≡ category kind → text.new.items
-        ≡ text.old.items ++ with_comma (span_event process thread span.from span.to kind
-        name.now (spec.link_argument (some_group set.now) link))) }
+        ≡ text.old.items ++ with_comma
+        (span_event thread.now.process thread.now.number span.from span.to kind name.now
+        (spec.link_argument (some_group set.now) link))) }
 {
-    open_span(text, process, thread, span.from, span.to)?;
+    open_span(text, thread, span.from, span.to)?;
     put(text, words)?;
     put(text, name)?;
     put_link(text, set, span.cell.link)
 }
 
-/// A span of a processor, where it has a task. Its thread has the number after its own.
+/// A span of a processor, where it has a task.
 fn put_span(
     text: &mut Vec<u8>,
     set: &Parts,
-    process: u64,
+    thread: &Thread,
     cpu: CpuNo,
     span: CpuSpan,
 ) -> Result<(), AllocError>
+    requires { thread.now.number ≡ cpu.0 + 1 }
     ensures { OnOk result (text.new.items ≡ text.old.items ++ with_commas
-        (cpu_span_events (some_group set.now) process cpu.0 (cpu_span_shown span))) }
+        (cpu_span_events (some_group set.now) thread.now.process cpu.0 (cpu_span_shown span))) }
 {
     let tasks = set.tasks.as_slice();
-    let thread = u64::from(cpu.0) + 1;
     match span.cell.playing {
         Playing::WorksFor(task) => {
             put_busy(
                 text,
                 set,
-                process,
                 thread,
                 span,
                 b",\"cat\":\"work\",\"name\":\"",
@@ -83,7 +83,6 @@ fn put_span(
             put_busy(
                 text,
                 set,
-                process,
                 thread,
                 span,
                 b",\"cat\":\"runs\",\"name\":\"",
@@ -94,9 +93,29 @@ fn put_span(
     }
 }
 
-/// The spans of a processor.
+/// The spans of a processor, on its thread.
 #[tactic(auto, using(crate::proofs::Joins::loops))]
+fn put_all_spans(
+    text: &mut Vec<u8>,
+    set: &Parts,
+    thread: &Thread,
+    cpu: CpuNo,
+    spans: &[CpuSpan],
+) -> Result<(), AllocError>
+    requires { thread.now.number ≡ cpu.0 + 1 }
+    ensures { OnOk result (text.new.items ≡ text.old.items
+        ++ with_commas (flat_map (cpu_span_events (some_group set.now) thread.now.process cpu.0)
+        (map cpu_span_shown spans.now))) }
+{
+    for span in spans {
+        put_span(text, set, thread, cpu, *span)?;
+    }
+    Ok(())
+}
+
+/// The spans of a processor. Its thread has the number after its own.
 pub(crate) fn put_cpu_spans(
+    alloc: Global,
     text: &mut Vec<u8>,
     set: &Parts,
     process: u64,
@@ -107,8 +126,6 @@ pub(crate) fn put_cpu_spans(
         ++ with_commas (flat_map (cpu_span_events (some_group set.now) process cpu.0)
         (map cpu_span_shown spans.now))) }
 {
-    for span in spans {
-        put_span(text, set, process, cpu, *span)?;
-    }
-    Ok(())
+    let thread = Thread::new(alloc, process, u64::from(cpu.0) + 1)?;
+    put_all_spans(text, set, &thread, cpu, spans)
 }

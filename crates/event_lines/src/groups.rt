@@ -10,6 +10,7 @@ use crate::elements::{cpu_process, resv_process, task_process};
 use crate::job_marks::put_job_marks;
 use crate::names::{put_cpu_names, put_resv_names, put_task_names};
 use crate::task_spans::put_task_spans;
+use crate::threads::Thread;
 use crate::tracks::{CpuTrack, GroupTracks, ResvTrack, TaskTrack};
 use rt_task::Parts;
 use std::alloc::{AllocError, Global};
@@ -25,8 +26,9 @@ fn put_task(
     ensures { OnOk result (text.new.items ≡ text.old.items
         ++ with_commas (task_events (some_group set.now) process (task_track_shown track.now))) }
 {
-    put_task_spans(text, set, process, track.task, &track.spans)?;
-    put_job_marks(alloc, text, process, track.task, &track.jobs)
+    let thread = Thread::new(alloc, process, u64::from(track.task.0))?;
+    put_task_spans(text, set, &thread, &track.spans)?;
+    put_job_marks(text, &thread, &track.jobs)
 }
 
 #[tactic(auto, using(crate::proofs::Joins::loops))]
@@ -49,6 +51,7 @@ fn put_tasks(
 
 #[tactic(auto, using(crate::proofs::Joins::loops))]
 fn put_cpus(
+    alloc: Global,
     text: &mut Vec<u8>,
     set: &Parts,
     process: u64,
@@ -59,7 +62,7 @@ fn put_cpus(
         (map cpu_track_shown tracks.now))) }
 {
     for track in tracks {
-        put_cpu_spans(text, set, process, track.cpu, &track.spans)?;
+        put_cpu_spans(alloc, text, set, process, track.cpu, &track.spans)?;
     }
     Ok(())
 }
@@ -96,7 +99,7 @@ fn put_group(
     put_cpu_names(text, group, &tracks.cpus)?;
     put_resv_names(text, group, &tracks.resvs)?;
     put_tasks(alloc, text, set, task_process(group), &tracks.tasks)?;
-    put_cpus(text, set, cpu_process(group), &tracks.cpus)?;
+    put_cpus(alloc, text, set, cpu_process(group), &tracks.cpus)?;
     put_resvs(text, set, resv_process(group), &tracks.resvs)
 }
 

@@ -1,18 +1,17 @@
 //! The releases, deadlines and ends of jobs.
-ghost use Rattle.std.specs.Prelude.{◌≡◌, ◌≤◌, ◌^◌, ◌++◌, flat_map, map, option_map, IfOk, OnOk};
+ghost use Rattle.std.specs.Prelude.{◌≡◌, ◌≤◌, ◌^◌, ◌++◌, flat_map, map, option_map, OnOk};
 ghost use Rattle.event_texts.specs.JobInstants.{deadline_name};
 ghost use Rattle.event_texts.specs.Records.{Piece, instant_event};
 ghost use Rattle.event_lines.specs.inside.Commas.{with_comma, with_commas};
-ghost use Rattle.event_lines.specs.inside.Openings.{instant_words, instants_on};
+ghost use Rattle.event_lines.specs.inside.Openings.{instant_words};
 ghost use Rattle.event_lines.specs.Shown.{due_shown, job_marks_shown};
 ghost use Rattle.event_lines.specs.TrackEvents.{deadline_events, end_events, job_events, release_events};
 
 use crate::put::{put, put_microseconds, put_number};
-use crate::records::{END, Phase, put_on_thread};
+use crate::records::END;
+use crate::threads::Thread;
 use crate::tracks::{Due, JobMarks};
-use rt_base::TaskNo;
-use std::alloc::{AllocError, Global};
-use std::marker::Model;
+use std::alloc::AllocError;
 
 const RELEASE: &[u8] = b",\"s\":\"t\",\"name\":\"release\",\"args\":{\"job\":";
 
@@ -22,63 +21,20 @@ const MISSED: &[u8] = b",\"s\":\"t\",\"name\":\"deadline missed\",\"args\":{\"jo
 
 const JOB_END: &[u8] = b",\"s\":\"t\",\"name\":\"end\",\"args\":{\"job\":";
 
-/// The thread of a task, with what its instants begin with.
-#[derive(Drop)]
-struct JobThread {
-    process: u64,
-    number: u64,
-    opening: Vec<u8>,
-}
-
-impl Model for JobThread {
-    ghost use Rattle.std.specs.Prelude.{◌≡◌};
-    ghost use Rattle.event_lines.specs.inside.Openings.{Thread, instants_on};
-
-    ghost Value = { Thread };
-
-    ghost view = { λ a. record { process = a.process; number = a.number } };
-
-    ghost invariant = { λ a. a.opening.items
-        ≡ instants_on (record { process = a.process; number = a.number }) };
-}
-
-impl JobThread {
-    /// The thread of this number.
-    #[tactic(auto, using(crate::proofs::Joins::joins))]
-    fn new(alloc: Global, process: u64, number: u64) -> Result<JobThread, AllocError>
-        ensures { IfOk result (λ t. t ≡ record { process = process; number = number }) }
-    {
-        let mut opening = Vec::new(alloc);
-        put_on_thread(&mut opening, Phase::Instant, process, number)?;
-        put(&mut opening, b",\"ts\":")?;
-        Ok(JobThread {
-            process,
-            number,
-            opening,
-        })
-    }
-
-    /// What an instant begins with, up to its tick.
-    fn put_opening(&self, text: &mut Vec<u8>) -> Result<(), AllocError>
-        ensures { OnOk result (text.new.items ≡ text.old.items ++ instants_on self.now) }
-    {
-        put(text, self.opening.as_slice())
-    }
-}
-
 /// Something of a job at a tick. The words are its name with what stands before it, and behind it up to the number of the job.
 fn put_instant(
     text: &mut Vec<u8>,
-    thread: &JobThread,
+    thread: &Thread,
     tick: u128,
     words: &[u8],
     job: u64,
 ) -> Result<(), AllocError>
     requires { tick ≤ 2 ^ 64 }
     ensures { OnOk result ((name : Piece) → words.now ≡ instant_words name → text.new.items
-        ≡ text.old.items ++ with_comma (instant_event thread.now.process thread.now.number tick name job)) }
+        ≡ text.old.items ++ with_comma
+        (instant_event thread.now.process thread.now.number tick name job)) }
 {
-    thread.put_opening(text)?;
+    thread.open_instant(text)?;
     put_microseconds(text, tick)?;
     put(text, words)?;
     put_number(text, job)?;
@@ -89,7 +45,7 @@ fn put_instant(
 #[tactic(auto, using(crate::proofs::Joins::joins), unfolding(crate::specs::TrackEvents::release_events))]
 fn put_release(
     text: &mut Vec<u8>,
-    thread: &JobThread,
+    thread: &Thread,
     job: u64,
     release: Option<u64>,
 ) -> Result<(), AllocError>
@@ -112,7 +68,7 @@ fn deadline_words(missed: bool) -> &'static [u8]
 #[tactic(auto, using(crate::proofs::Joins::joins), unfolding(crate::specs::TrackEvents::deadline_events))]
 fn put_deadline(
     text: &mut Vec<u8>,
-    thread: &JobThread,
+    thread: &Thread,
     job: u64,
     deadline: Option<Due>,
 ) -> Result<(), AllocError>
@@ -136,7 +92,7 @@ fn put_deadline(
 #[tactic(auto, using(crate::proofs::Joins::joins), unfolding(crate::specs::TrackEvents::end_events))]
 fn put_end(
     text: &mut Vec<u8>,
-    thread: &JobThread,
+    thread: &Thread,
     job: u64,
     end: Option<u64>,
 ) -> Result<(), AllocError>
@@ -150,9 +106,10 @@ fn put_end(
 }
 
 #[tactic(auto, using(crate::proofs::Joins::loops), unfolding(crate::specs::TrackEvents::job_events))]
-fn put_marks(text: &mut Vec<u8>, thread: &JobThread, marks: &JobMarks) -> Result<(), AllocError>
+fn put_marks(text: &mut Vec<u8>, thread: &Thread, marks: &JobMarks) -> Result<(), AllocError>
     ensures { OnOk result (text.new.items ≡ text.old.items
-        ++ with_commas (job_events thread.now.process thread.now.number (job_marks_shown marks.now))) }
+        ++ with_commas
+        (job_events thread.now.process thread.now.number (job_marks_shown marks.now))) }
 {
     let job = u64::from(marks.job);
     put_release(text, thread, job, marks.release)?;
@@ -160,11 +117,11 @@ fn put_marks(text: &mut Vec<u8>, thread: &JobThread, marks: &JobMarks) -> Result
     put_end(text, thread, job, marks.end)
 }
 
-/// The jobs on a thread.
+/// The jobs of a task.
 #[tactic(auto, using(crate::proofs::Joins::loops))]
-fn put_all_marks(
+pub(crate) fn put_job_marks(
     text: &mut Vec<u8>,
-    thread: &JobThread,
+    thread: &Thread,
     jobs: &[JobMarks],
 ) -> Result<(), AllocError>
     ensures { OnOk result (text.new.items ≡ text.old.items
@@ -175,19 +132,4 @@ fn put_all_marks(
         put_marks(text, thread, marks)?;
     }
     Ok(())
-}
-
-/// The jobs of a task.
-pub(crate) fn put_job_marks(
-    alloc: Global,
-    text: &mut Vec<u8>,
-    process: u64,
-    task: TaskNo,
-    jobs: &[JobMarks],
-) -> Result<(), AllocError>
-    ensures { OnOk result (text.new.items ≡ text.old.items
-        ++ with_commas (flat_map (job_events process task.0) (map job_marks_shown jobs.now))) }
-{
-    let thread = JobThread::new(alloc, process, u64::from(task.0))?;
-    put_all_marks(text, &thread, jobs)
 }

@@ -13,6 +13,7 @@ mod put;
 mod records;
 mod task_spans;
 mod texts;
+mod threads;
 mod tracks;
 
 pub use texts::event_text;

@@ -4,6 +4,7 @@ ghost use Rattle.event_texts.specs.Records.{begun, on_thread};
 ghost use Rattle.event_lines.specs.inside.Openings.{letter, named_to, span_times, span_to};
 
 use crate::put::{put, put_microseconds, put_number};
+use crate::threads::Thread;
 use std::alloc::AllocError;
 
 /// What an event is.
@@ -73,7 +74,6 @@ pub(crate) fn open_named(text: &mut Vec<u8>, what: &[u8]) -> Result<(), AllocErr
 fn put_times(text: &mut Vec<u8>, from: u64, to: u64) -> Result<(), AllocError>
     ensures { OnOk result (text.new.items ≡ text.old.items ++ span_times from to) }
 {
-    put(text, b",\"ts\":")?;
     put_microseconds(text, u128::from(from))?;
     put(text, b",\"dur\":")?;
     put_microseconds(text, u128::from(to.saturating_sub(from)))
@@ -83,14 +83,12 @@ fn put_times(text: &mut Vec<u8>, from: u64, to: u64) -> Result<(), AllocError>
 #[tactic(auto, using(crate::proofs::Joins::joins))]
 pub(crate) fn open_span(
     text: &mut Vec<u8>,
-    process: u64,
-    thread: u64,
+    thread: &Thread,
     from: u64,
     to: u64,
 ) -> Result<(), AllocError>
-    ensures { OnOk result
-        (text.new.items ≡ text.old.items ++ span_to process thread from to) }
+    ensures { OnOk result (text.new.items ≡ text.old.items ++ span_to thread.now from to) }
 {
-    put_on_thread(text, Phase::Span, process, thread)?;
+    thread.open_span(text)?;
     put_times(text, from, to)
 }

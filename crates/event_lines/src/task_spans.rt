@@ -12,9 +12,10 @@ ghost use Rattle.event_lines.specs.TrackEvents.{some_group, task_span_events};
 use crate::elements::sem_name;
 use crate::put::{put, put_number, put_quoted, put_truth};
 use crate::records::{END, open_span};
+use crate::threads::Thread;
 use crate::tracks::TaskSpan;
 use chart_cells::{Cell, Doing};
-use rt_base::{CpuNo, SemNo, TaskNo};
+use rt_base::{CpuNo, SemNo};
 use rt_task::{Parts, Sem};
 use std::alloc::AllocError;
 
@@ -148,16 +149,16 @@ fn put_arguments(text: &mut Vec<u8>, set: &Parts, cell: &Cell) -> Result<(), All
 fn put_there(
     text: &mut Vec<u8>,
     set: &Parts,
-    process: u64,
-    thread: u64,
+    thread: &Thread,
     span: &TaskSpan,
 ) -> Result<(), AllocError>
     ensures { let g = some_group set.now in let cell = cell_shown span.now.cell in
         OnOk result (text.new.items ≡ text.old.items ++ with_comma
-        (span_event process thread span.now.from span.now.to (spec.kind cell.doing)
+        (span_event thread.now.process thread.now.number span.now.from span.now.to
+        (spec.kind cell.doing)
         (spec.name g cell.doing) (spec.cell_arguments g cell))) }
 {
-    open_span(text, process, thread, span.from, span.to)?;
+    open_span(text, thread, span.from, span.to)?;
     put(text, head_of(&span.cell.doing))?;
     put_object(text, set, &span.cell.doing)?;
     put_arguments(text, set, &span.cell)
@@ -167,16 +168,16 @@ fn put_there(
 fn put_span(
     text: &mut Vec<u8>,
     set: &Parts,
-    process: u64,
-    task: TaskNo,
+    thread: &Thread,
     span: &TaskSpan,
 ) -> Result<(), AllocError>
     ensures { OnOk result (text.new.items ≡ text.old.items ++ with_commas
-        (task_span_events (some_group set.now) process task.0 (task_span_shown span.now))) }
+        (task_span_events (some_group set.now) thread.now.process thread.now.number
+        (task_span_shown span.now))) }
 {
     match &span.cell.doing {
         Doing::Away => Ok(()),
-        _ => put_there(text, set, process, u64::from(task.0), span),
+        _ => put_there(text, set, thread, span),
     }
 }
 
@@ -185,16 +186,16 @@ fn put_span(
 pub(crate) fn put_task_spans(
     text: &mut Vec<u8>,
     set: &Parts,
-    process: u64,
-    task: TaskNo,
+    thread: &Thread,
     spans: &[TaskSpan],
 ) -> Result<(), AllocError>
     ensures { OnOk result (text.new.items ≡ text.old.items
-        ++ with_commas (flat_map (task_span_events (some_group set.now) process task.0)
+        ++ with_commas (flat_map
+        (task_span_events (some_group set.now) thread.now.process thread.now.number)
         (map task_span_shown spans.now))) }
 {
     for span in spans {
-        put_span(text, set, process, task, span)?;
+        put_span(text, set, thread, span)?;
     }
     Ok(())
 }

@@ -31,7 +31,7 @@ fn drop_last_comma(text: &mut Vec<u8>) -> Result<(), AllocError>
 
 /// The text of the trace events that the groups of a set tell, as JSON: of each group the names of its processes and threads, and
 /// what its tasks, processors and reservations do. A number that stands for nothing in the set has the empty name. Memory is taken
-/// for the text, and for what the instants of one task begin with.
+/// for the text, and for what the events of one thread begin with.
 pub fn event_text(alloc: Global, parts: &Parts, groups: &[GroupTracks]) -> Result<Vec<u8>, NoMemory>
     ensures { IfOk result (λ v. v.items
         ≡ tracks_text parts.now (map group_tracks_shown groups.now)) }

@@ -20,24 +20,27 @@ abbrev pub named_to : Piece → Piece
 named_to what = codes ",\"name\":\"" ++ (what ++ codes "\",\"args\":{\"name\":\"")
 
 abbrev pub span_times : ℕ → ℕ → Piece
-span_times from to = codes ",\"ts\":" ++ (microseconds from ++ (codes ",\"dur\":" ++ microseconds (to - from)))
+span_times from to = microseconds from ++ (codes ",\"dur\":" ++ microseconds (to - from))
 
-abbrev pub span_to : ℕ → ℕ → ℕ → ℕ → Piece
-span_to process thread from to = on_thread (codes "X") process thread ++ span_times from to
-
--- its category, up to its name
-abbrev pub category : Piece → Piece
-category kind = codes ",\"cat\":\"" ++ (kind ++ codes "\",\"name\":\"")
-
--- how the instants of a thread begin, up to their tick
+-- a thread, and how its spans and its instants begin, up to their tick
 pub record Thread : Type 0 where
   pub process : ℕ
   pub number : ℕ
 
+abbrev pub spans_on : Thread → Piece
+spans_on t = on_thread (codes "X") t.process t.number ++ codes ",\"ts\":"
+
 abbrev pub instants_on : Thread → Piece
 instants_on t = on_thread (codes "i") t.process t.number ++ codes ",\"ts\":"
 
--- its name, up to the number of the job
+abbrev pub span_to : Thread → ℕ → ℕ → Piece
+span_to t from to = spans_on t ++ span_times from to
+
+-- the category of a span, up to its name
+abbrev pub category : Piece → Piece
+category kind = codes ",\"cat\":\"" ++ (kind ++ codes "\",\"name\":\"")
+
+-- the name of an instant, up to the number of its job
 abbrev pub instant_words : Piece → Piece
 instant_words name = codes ",\"s\":\"t\",\"name\":\"" ++ (name ++ codes "\",\"args\":{\"job\":")
 

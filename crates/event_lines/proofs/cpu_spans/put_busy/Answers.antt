@@ -14,4 +14,4 @@ returns c =
     let text = c.args.text.now.items in
     four_put text _ _ _ _ _ _ _ _ c.in_ok-open_span.ensures (c.in_ok-put.ensures ∙ ap (λ xs. c.open_span.new.text.items ++ xs) words) c.in_ok-put-2.ensures last
     ∙ ap (λ xs. text ++ xs)
-    (span-put c.args.process c.args.thread span.from span.to kind c.args.name.now (link_argument (some_group c.args.set.now) (number_of_task span.cell.link)))) c.put_link.ensures
+    (span-put c.args.thread.now span.from span.to kind c.args.name.now (link_argument (some_group c.args.set.now) (number_of_task span.cell.link)))) c.put_link.ensures

@@ -8,5 +8,5 @@ pub returns : goal.returns
 returns c =
     on_ok_weaker c.put-2.result (λ last name words.
     let text = c.args.text.now.items in
-    five_put text _ _ _ _ _ _ _ _ _ _ c.in_ok-put_opening.ensures c.in_ok-put_microseconds.ensures (c.in_ok-put.ensures ∙ ap (λ xs. c.put_microseconds.new.text.items ++ xs) words) c.in_ok-put_number.ensures last
+    five_put text _ _ _ _ _ _ _ _ _ _ c.in_ok-open_instant.ensures c.in_ok-put_microseconds.ensures (c.in_ok-put.ensures ∙ ap (λ xs. c.put_microseconds.new.text.items ++ xs) words) c.in_ok-put_number.ensures last
     ∙ ap (λ xs. text ++ xs) (instant-put c.args.thread.now c.args.tick name c.args.job)) c.put-2.ensures

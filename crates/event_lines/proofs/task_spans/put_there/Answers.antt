@@ -12,4 +12,4 @@ returns c =
     let span = c.args.span.now in
     let text = c.args.text.now.items in
     four_put text _ _ _ _ _ _ _ _ c.in_ok-open_span.ensures (c.in_ok-put.ensures ∙ ap (λ words. c.open_span.new.text.items ++ words) c.head_of.ensures) c.in_ok-put_object.ensures last
-    ∙ ap (λ xs. text ++ xs) (there-put (some_group c.args.set.now) c.args.process c.args.thread span.from span.to (cell_shown span.cell))) c.put_arguments.ensures
+    ∙ ap (λ xs. text ++ xs) (there-put (some_group c.args.set.now) c.args.thread.now span.from span.to (cell_shown span.cell))) c.put_arguments.ensures

@@ -2,7 +2,7 @@ use Rattle.std.proofs.Common.{◌≡◌, ◌++◌, map, drop, flat_map}
 use Rattle.event_lines.specs.inside.Commas.{with_commas}
 use Rattle.event_lines.specs.Shown.{job_marks_shown}
 use Rattle.event_lines.specs.TrackEvents.{job_events}
-use Rattle.event_lines.proofs.job_marks.put_all_marks.Given as goal
+use Rattle.event_lines.proofs.job_marks.put_job_marks.Given as goal
 
 -- what was written, and then what is left, is the whole
 abbrev pub invariant-loop-marks : goal.invariant-loop-marks
