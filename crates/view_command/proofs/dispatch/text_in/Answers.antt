@@ -7,7 +7,6 @@ use Rattle.trace_tools.specs.BusCounters.{counters}
 use Rattle.trace_tools.specs.Counters.{counter_of}
 use Rattle.trace_tools.specs.Tools.{Tool}
 use Rattle.trace_check.specs.Groups.{HasGroups}
-use Rattle.trace_check.specs.declared.verdict.Verdict.{Verdict}
 use Rattle.view_command.specs.Texts.{view_text}
 use Rattle.view_command.specs.inside.Viewing.{IsViewed}
 use Rattle.view_command.specs.declared.ending.ViewEnd.{ViewEnd}
