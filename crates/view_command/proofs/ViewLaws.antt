@@ -1,6 +1,6 @@
 -- The answers of `rtview`, by how its reading and its writing ended.
-use Rattle.std.proofs.Common.{◌≡◌, ◌≢◌, ◌∙◌, ℕ, List, [], ◌∷◌, ap, sym, subst, refl}
-use Rattle.std.specs.Prelude.{Option, None, Some, Result, Ok, Err, IfOk, Vec, option_map}
+use Rattle.std.proofs.Common.{◌≡◌, ℕ, List, ap, sym, subst}
+use Rattle.std.specs.Prelude.{Option, None, Some, Result, Ok, Err, IfOk, Vec}
 use Rattle.std.specs.declared.alloc.Global.{Global}
 use Rattle.rt_base.specs.declared.NoMemory.{NoMemory}
 use Rattle.rt_base.specs.declared.TheConstants.{MOST_TRACE_BYTES}
@@ -20,7 +20,7 @@ use Rattle.set_input.specs.Stopped.{EndsReading}
 use Rattle.set_input.proofs.EndLaws.{ended-well}
 use Rattle.sim_commands.specs.Check.{WasNoTrace, WasTrace}
 use Rattle.sim_commands.proofs.CheckLaws.{can_check-told, can_check-unrefused, can_check-valid}
-use Rattle.view_command.specs.View.{IsViewOf, WasWithout, WasWrong}
+use Rattle.view_command.specs.View.{IsViewOf, WasWrong}
 use Rattle.view_command.specs.ViewAnswers.{ViewAnswers}
 use Rattle.view_command.specs.inside.Viewing.{IsTextOf, IsViewed, comes}
 use Rattle.view_command.specs.declared.ending.ViewEnd.{ViewEnd}
