@@ -1,5 +1,5 @@
 //! What is kept of the groups of a text as they are followed.
-ghost use Rattle.std.specs.Prelude.{◌≡◌, ◌++◌, ◌∷◌, [], List, OnOk, length, ⊤};
+ghost use Rattle.std.specs.Prelude.{◌≡◌, ◌++◌, ◌∷◌, [], IfOk, List, OnOk, length, ⊤};
 ghost use Rattle.rt_task.specs.declared.Parts.{Parts};
 ghost use Rattle.rt_rules.specs.declared.history.Entry as entries;
 ghost use Rattle.trace_laws.specs.PlayedGroups.{groups_from};
@@ -44,6 +44,9 @@ impl Keeper for () {
     }
 }
 
+/// The bytes of the shortest line of an entry.
+const SHORTEST_LINE: usize = b"0 0 0 irq idle\n".len();
+
 /// Keeps all groups, each with its entries.
 #[derive(Drop)]
 pub(crate) struct GroupKeeper {
@@ -53,15 +56,16 @@ pub(crate) struct GroupKeeper {
 }
 
 impl GroupKeeper {
-    /// Nothing was followed yet.
-    pub(crate) fn new(alloc: Global) -> GroupKeeper
-        ensures groups { result.groups.items ≡ [] }
-        ensures entries { result.entries.items ≡ [] }
+    /// Nothing was followed yet. There is room for the entries of a first group whose text has so many bytes.
+    pub(crate) fn new(alloc: Global, bytes: usize) -> Result<GroupKeeper, NoMemory>
+        ensures groups { IfOk result (λ k. k.groups.items ≡ []) }
+        ensures entries { IfOk result (λ k. k.entries.items ≡ []) }
     {
-        GroupKeeper {
+        let entries = Vec::with_capacity(alloc, bytes / SHORTEST_LINE)?;
+        Ok(GroupKeeper {
             groups: Vec::new(alloc),
-            entries: Vec::new(alloc),
-        }
+            entries,
+        })
     }
 
     /// The groups that are whole.

@@ -100,7 +100,7 @@ pub fn check_groups<T: TraceTool>(
         → counters T.tool bus.old ≡ map counter_of tools
         → HasGroups tools head.now.version head.now.setup bytes.now x.1.items x.0) }
 {
-    let mut keeper = GroupKeeper::new(alloc);
+    let mut keeper = GroupKeeper::new(alloc, bytes.len())?;
     let checked = check_with(alloc, bytes, head, bus, &mut keeper)?;
     Ok((checked.verdict, keeper.groups()))
 }
