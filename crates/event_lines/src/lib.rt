@@ -11,6 +11,7 @@ mod job_marks;
 mod names;
 mod put;
 mod records;
+mod room;
 mod task_spans;
 mod texts;
 mod threads;

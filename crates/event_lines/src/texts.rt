@@ -8,6 +8,7 @@ ghost use Rattle.event_lines.specs.TrackEvents.{tracks_text};
 
 use crate::groups::put_groups;
 use crate::put::put;
+use crate::room::room;
 use crate::tracks::GroupTracks;
 use rt_base::NoMemory;
 use rt_task::Parts;
@@ -36,7 +37,8 @@ pub fn event_text(alloc: Global, parts: &Parts, groups: &[GroupTracks]) -> Resul
     ensures { IfOk result (λ v. v.items
         ≡ tracks_text parts.now (map group_tracks_shown groups.now)) }
 {
-    let mut text = Vec::from_slice(alloc, HEAD)?;
+    let mut text = Vec::with_capacity(alloc, room(groups))?;
+    put(&mut text, HEAD)?;
     put_groups(alloc, &mut text, parts, groups)?;
     drop_last_comma(&mut text)?;
     put(&mut text, b"]}\n")?;

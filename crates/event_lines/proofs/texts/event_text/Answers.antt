@@ -11,6 +11,8 @@ pub returns : goal.returns
 unfolding tracks_text
 returns c =
     let events : List Piece = flat_map (tracks_events (some_group c.args.parts.now)) (map group_tracks_shown c.args.groups.now) in
-    c.in_ok-put.ensures
-    ∙ ap (λ xs. xs ++ codes "]}\n") (c.in_ok-drop_last_comma.ensures events (c.in_ok-put_groups.ensures ∙ ap (λ xs. xs ++ with_commas events) c.in_ok-text.ensures.items))
-    ∙ append_assoc (codes "{\"displayTimeUnit\":\"ms\",\"traceEvents\":[\n") (event_lines events) (codes "]}\n")
+    let head = codes "{\"displayTimeUnit\":\"ms\",\"traceEvents\":[\n" in
+    let begun = c.in_ok-put.ensures ∙ ap (λ xs. xs ++ head) c.in_ok-text.ensures.items in
+    c.in_ok-put-2.ensures
+    ∙ ap (λ xs. xs ++ codes "]}\n") (c.in_ok-drop_last_comma.ensures events (c.in_ok-put_groups.ensures ∙ ap (λ xs. xs ++ with_commas events) begun))
+    ∙ append_assoc head (event_lines events) (codes "]}\n")
