@@ -50,6 +50,7 @@ impl LineNumbers {
     }
 
     /// The line of an entry, as `put_entry_line` writes it.
+    #[inline(always)]
     pub fn put_entry_line(
         &mut self,
         out: &mut Vec<u8>,
