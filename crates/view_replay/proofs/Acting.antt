@@ -67,3 +67,8 @@ pub act-by : (g : Group) (q : ℕ) (act : Act) (past : Past) (task : Option ℕ)
     → let d : PastAct = record { cpu = q; act = act; task = task; reply = reply; ended = o } in d ≡ past_act g q act past
 unfolding past_act
 act-by g q act past task reply o runs_is reply_is ended_is = λ i. record { cpu = q; act = act; task = runs_is i; reply = reply_is i; ended = ended_is i }
+
+-- the reply of an act of a step
+pub reply-of : (g : Group) (d : PastAct) (step : Step) (past : Past) → d ≡ past_act g step.cpu.0 step.act (clock_moved step past) → d.reply ≡ reply_to g step past
+unfolding past_act
+reply-of g d step past is = ap (λ (x : PastAct). x.reply) is ∙ sym (reply_to-lem g step past)
