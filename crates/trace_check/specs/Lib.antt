@@ -2,4 +2,5 @@ pub mod Verdicts
 pub mod LinesAlike
 pub mod Counts
 pub mod Groups
+pub mod Keeping
 pub mod inside

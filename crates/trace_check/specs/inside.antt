@@ -4,4 +4,3 @@ pub mod Following
 pub mod GroupLinks
 pub mod Progress
 pub mod RequestLines
-pub mod Keeping

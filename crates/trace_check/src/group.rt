@@ -10,9 +10,9 @@ ghost use Rattle.trace_read.specs.Reading.{begins_with_digit};
 ghost use Rattle.trace_course.specs.Followed.{GroupEntries};
 ghost use Rattle.trace_check.specs.declared.progress.Progress as progress;
 ghost use Rattle.trace_check.specs.inside.Following.{IsFollowing, IsFollowingWith};
-ghost use Rattle.trace_check.specs.inside.Keeping.{Between};
+ghost use Rattle.trace_check.specs.Keeping.{Between};
 ghost use Rattle.trace_check.specs.inside.Progress.{AreFollowed, AreKept, HasStood, IsEndedAt};
-ghost use Rattle.trace_check.specs.inside.Progress.{IsFollowedTo, IsRight};
+ghost use Rattle.trace_check.specs.inside.Progress.{IsFollowedBy, IsFollowedTo, IsRight};
 
 use crate::follow::Follow;
 use crate::keeper::Keeper;
@@ -24,12 +24,13 @@ use rt_task::Setup;
 use std::alloc::Global;
 use trace_lines::Version;
 use trace_tools::{Bus, TraceTool};
+use view_replay::Player;
 
 /// Whether the text begins with the line of the group, with its links at opening, which is made in `line`.
-fn begins(
+fn begins<P: Player>(
     version: Version,
     setup: &Setup,
-    follow: &Follow,
+    follow: &Follow<P>,
     number: GroupNo,
     text: &[u8],
     line: &mut Vec<u8>,
@@ -53,20 +54,20 @@ fn begins_as_entry(text: &[u8]) -> bool
 
 /// What the lines of a group come to where no entry line stands behind so many bytes: all its steps must have been followed,
 /// and the lines of its requests stand there.
-fn ended_at(
+fn ended_at<P: Player>(
     version: Version,
     setup: &Setup,
-    follow: &Follow,
+    follow: &Follow<P>,
     text: &[u8],
     from: Progress,
     size: usize,
     line: &mut Vec<u8>,
 ) -> Result<Followed, NoMemory>
-    requires follows { (at : GroupEntries) × IsFollowingWith at setup.now follow.now }
+    requires follows { (at : GroupEntries) × IsFollowingWith P.at P.spare at setup.now follow.now }
     requires few { from.entries + follow.now.count < 2 ^ 32 }
     requires within { size ≤ length text.now }
     requires positions { from.lines + 1 + follow.now.count ≤ size }
-    ensures { IfOk result (λ followed. (at : GroupEntries) → IsFollowingWith at setup.now follow.now
+    ensures { IfOk result (λ followed. (at : GroupEntries) → IsFollowingWith P.at P.spare at setup.now follow.now
         → IsEndedAt at (known_of version setup.now) (drop size text.now) from
         follow.now.count size followed) }
 {
@@ -88,11 +89,12 @@ fn ended_at(
 
 /// Follows the entry lines of a group from where the text has so many bytes. The bus is shown each entry that is right, and
 /// the keeper is given it.
-fn follow_entries<T: TraceTool, K: Keeper>(
+fn follow_entries<T: TraceTool, P: Player, K: Keeper<P>>(
+    alloc: Global,
     version: Version,
     setup: &Setup,
     group: GroupNo,
-    follow: &mut Follow,
+    follow: &mut Follow<P>,
     text: &[u8],
     begin: usize,
     line: &mut Vec<u8>,
@@ -100,18 +102,18 @@ fn follow_entries<T: TraceTool, K: Keeper>(
     keeper: &mut K,
 ) -> Result<Entries, NoMemory>
     requires { (from : progress.Progress) × (opened : List Counter) × (was : List Counter)
-        × IsRight version setup.now text.now group.0 from begin follow.old
+        × IsRight P.at P.spare version setup.now text.now group.0 from begin follow.old
         opened was (counters T.tool bus.old) (K.holds keeper.old setup.now) }
     ensures { IfOk result (λ entries. (from : progress.Progress) (opened was : List Counter)
-        → IsRight version setup.now text.now group.0 from begin follow.old
+        → IsRight P.at P.spare version setup.now text.now group.0 from begin follow.old
         opened was (counters T.tool bus.old) (K.holds keeper.old setup.now)
-        → AreFollowed version setup.now text.now group.0 from follow.new
+        → AreFollowed P.at P.spare version setup.now text.now group.0 from follow.new
         opened was (counters T.tool bus.new) (K.holds keeper.new setup.now) entries) }
 {
     let mut size = begin;
     'entries: while begins_as_entry(&text[size..]) {
         let no = follow.count();
-        let Some(entry) = follow.take_line(version, setup, &text[size..], line)? else {
+        let Some(entry) = follow.take_line(alloc, version, setup, &text[size..], line)? else {
             return Ok(Entries::WrongAfter(no));
         };
         bus.feed(&follow.shown(group, no, entry));
@@ -122,11 +124,12 @@ fn follow_entries<T: TraceTool, K: Keeper>(
 }
 
 /// Follows the lines of a group that was opened.
-fn follow_lines<T: TraceTool, K: Keeper>(
+fn follow_lines<T: TraceTool, P: Player, K: Keeper<P>>(
+    alloc: Global,
     version: Version,
     setup: &Setup,
     group: GroupNo,
-    follow: &mut Follow,
+    follow: &mut Follow<P>,
     text: &[u8],
     from: Progress,
     line: &mut Vec<u8>,
@@ -134,22 +137,22 @@ fn follow_lines<T: TraceTool, K: Keeper>(
     keeper: &mut K,
 ) -> Result<Followed, NoMemory>
     requires group { IsGroupOf setup.now group.0 }
-    requires opened { IsFollowing (group_with setup.now group.0) [] follow.old }
+    requires opened { IsFollowing P.at P.spare (group_with setup.now group.0) [] follow.old }
     requires before { (opened : List Counter)
         × AreKept version setup.now text.now group.0 from opened (counters T.tool bus.old)
         (Between (K.holds keeper.old setup.now)) }
     ensures { IfOk result (λ followed. (opened : List Counter)
         → AreKept version setup.now text.now group.0 from opened (counters T.tool bus.old)
         (Between (K.holds keeper.old setup.now))
-        → IsFollowedTo version setup.now text.now group.0 opened (counters T.tool bus.new)
-        (K.holds keeper.new setup.now) followed) }
+        → IsFollowedBy P.at version setup.now text.now group.0 opened (counters T.tool bus.new)
+        (K.holds keeper.new setup.now) follow.new.player followed) }
 {
     if !begins(version, setup, follow, group, &text[from.length..], line)? {
         return Ok(Followed::Wrong(from.lines));
     }
     let begin = from.length + line.as_slice().len();
     let entries = follow_entries(
-        version, setup, group, follow, text, begin, line, bus, keeper,
+        alloc, version, setup, group, follow, text, begin, line, bus, keeper,
     )?;
     match entries {
         Entries::Right(size) => ended_at(version, setup, follow, text, from, size, line),
@@ -158,8 +161,8 @@ fn follow_lines<T: TraceTool, K: Keeper>(
 }
 
 /// Follows the lines of a group, behind those of the groups before it. The bus is shown each entry that is right, and the
-/// keeper is given it.
-pub(crate) fn follow_group<T: TraceTool, K: Keeper>(
+/// keeper is given it, and the group once that is whole.
+pub(crate) fn follow_group<T: TraceTool, P: Player, K: Keeper<P>>(
     alloc: Global,
     version: Version,
     setup: &Setup,
@@ -180,8 +183,9 @@ pub(crate) fn follow_group<T: TraceTool, K: Keeper>(
         → IsFollowedTo version setup.now text.now group.0 opened (counters T.tool bus.new)
         (K.holds keeper.new setup.now) followed) }
 {
-    let mut follow = Follow::open(alloc, setup, group)?;
-    follow_lines(
+    let mut follow = Follow::<P>::open(alloc, setup, group)?;
+    let followed = follow_lines(
+        alloc,
         version,
         setup,
         group,
@@ -191,5 +195,9 @@ pub(crate) fn follow_group<T: TraceTool, K: Keeper>(
         line,
         bus,
         keeper,
-    )
+    )?;
+    if matches!(followed, Followed::Whole(_)) {
+        keeper.close(alloc, setup, group, follow.player())?;
+    }
+    Ok(followed)
 }

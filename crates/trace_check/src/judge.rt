@@ -8,7 +8,7 @@ ghost use Rattle.trace_tools.specs.Tools.{Tool};
 ghost use Rattle.trace_check.specs.Counts.{IsCountedText};
 ghost use Rattle.trace_check.specs.inside.Judging.{IsJudgedText, IsShownText, IsTextOfPlays};
 ghost use Rattle.trace_check.specs.inside.Judging.{verdict_behind};
-ghost use Rattle.trace_check.specs.inside.Keeping.{Between, IsKeptText};
+ghost use Rattle.trace_check.specs.Keeping.{Between, IsKeptText};
 ghost use Rattle.trace_check.specs.inside.Progress.{AreAllRight};
 
 use crate::behind::lines_alike;
@@ -24,6 +24,7 @@ use std::alloc::Global;
 use trace_lines::Version;
 use trace_text::count_groups;
 use trace_tools::{Bus, TraceTool};
+use view_replay::Player;
 
 /// The number of a line from 1, by its position after the two lines of the head.
 fn line_at(position: usize) -> Result<u32, NoMemory>
@@ -117,7 +118,7 @@ fn end_at<T: TraceTool>(
 }
 
 /// What the text comes to that stands behind the two lines of a head with a canonical set. The keeper is given each group.
-pub(crate) fn judge_text<T: TraceTool, K: Keeper>(
+pub(crate) fn judge_text<T: TraceTool, P: Player, K: Keeper<P>>(
     alloc: Global,
     version: Version,
     setup: &Setup,
@@ -149,7 +150,7 @@ pub(crate) fn judge_text<T: TraceTool, K: Keeper>(
         length: 0,
     };
     for n in 0..count_groups(setup) {
-        match follow_group(
+        match follow_group::<T, P, K>(
             alloc,
             version,
             setup,
@@ -160,10 +161,7 @@ pub(crate) fn judge_text<T: TraceTool, K: Keeper>(
             bus,
             keeper,
         )? {
-            Followed::Whole(further) => {
-                keeper.close(alloc, setup, GroupNo(n))?;
-                right = further;
-            }
+            Followed::Whole(further) => right = further,
             Followed::Wrong(position) => return wrong(position),
         }
     }

@@ -3,7 +3,7 @@ ghost use Rattle.std.specs.Prelude.{◌≡◌, ◌++◌, ◌∷◌, [], IfOk, Li
 ghost use Rattle.rt_task.specs.declared.Parts.{Parts};
 ghost use Rattle.rt_rules.specs.declared.history.Entry as entries;
 ghost use Rattle.trace_laws.specs.PlayedGroups.{groups_from};
-ghost use Rattle.trace_check.specs.inside.Keeping.{CanClose, Keeping};
+ghost use Rattle.trace_check.specs.Keeping.{CanClose, HasPlayed, Keeping};
 
 use rt_base::{GroupNo, NoMemory};
 use rt_rules::Entry;
@@ -11,9 +11,10 @@ use rt_task::Setup;
 use std::alloc::Global;
 use std::mem;
 use trace_text::PlayedGroup;
+use view_replay::{Player, Replay};
 
 /// Is given each entry of a text that is right, and told where a group ends.
-pub(crate) trait Keeper {
+pub trait Keeper<P: Player> {
     /// What is kept once whole groups were followed with these histories, and these entries of the next.
     ghost holds: { Self → Parts → Keeping };
 
@@ -23,23 +24,36 @@ pub(crate) trait Keeper {
             (es : List entries.Entry)
             → holds self.old p hs es → holds self.new p hs (es ++ entry ∷ [])) };
 
-    /// Keeps the group that was followed, which is whole.
-    fn close(&mut self, alloc: Global, setup: &Setup, group: GroupNo) -> Result<(), NoMemory>
-        requires { CanClose (holds self.old setup.now) setup.now group.0 }
+    /// Keeps the group that was followed, which is whole, with what played its steps.
+    fn close(
+        &mut self,
+        alloc: Global,
+        setup: &Setup,
+        group: GroupNo,
+        player: P,
+    ) -> Result<(), NoMemory>
+        requires { CanClose P.at player (holds self.old setup.now) setup.now group.0 }
         ensures { OnOk result ((hs : List (List entries.Entry)) (es : List entries.Entry)
             → holds self.old setup.now hs es → length hs ≡ group.0
+            → HasPlayed P.at player setup.now group.0 es
             → holds self.new setup.now (hs ++ es ∷ []) []) };
 }
 
 /// Keeps nothing.
-impl Keeper for () {
+impl Keeper<Replay> for () {
     ghost holds = { λ k p hs es. ⊤ };
 
     fn keep(&mut self, _entry: Entry) -> Result<(), NoMemory> {
         Ok(())
     }
 
-    fn close(&mut self, _alloc: Global, _setup: &Setup, _group: GroupNo) -> Result<(), NoMemory> {
+    fn close(
+        &mut self,
+        _alloc: Global,
+        _setup: &Setup,
+        _group: GroupNo,
+        _player: Replay,
+    ) -> Result<(), NoMemory> {
         Ok(())
     }
 }
@@ -76,7 +90,7 @@ impl GroupKeeper {
     }
 }
 
-impl Keeper for GroupKeeper {
+impl Keeper<Replay> for GroupKeeper {
     ghost holds = { λ k p hs es.
         (k.groups.items ≡ groups_from p 0 hs) × (k.entries.items ≡ es) };
 
@@ -85,7 +99,13 @@ impl Keeper for GroupKeeper {
         Ok(())
     }
 
-    fn close(&mut self, alloc: Global, setup: &Setup, group: GroupNo) -> Result<(), NoMemory> {
+    fn close(
+        &mut self,
+        alloc: Global,
+        setup: &Setup,
+        group: GroupNo,
+        _player: Replay,
+    ) -> Result<(), NoMemory> {
         let entries = mem::replace(&mut self.entries, Vec::new(alloc));
         let played = PlayedGroup::new(setup, group, entries)?;
         if self.groups.push(played).is_err() {

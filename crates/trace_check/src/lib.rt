@@ -11,7 +11,7 @@ ghost use Rattle.trace_read.specs.Reads.{IsHeadOf};
 ghost use Rattle.trace_check.specs.Counts.{HasCounts};
 ghost use Rattle.trace_check.specs.Groups.{HasGroups};
 ghost use Rattle.trace_check.specs.Verdicts.{HasShown, IsVerdict};
-ghost use Rattle.trace_check.specs.inside.Keeping.{Between, HasKept};
+ghost use Rattle.trace_check.specs.Keeping.{Between, HasKept};
 
 mod behind;
 mod counts;
@@ -28,13 +28,15 @@ mod verdict;
 
 use head::has_head;
 use judge::judge_text;
-use keeper::{GroupKeeper, Keeper};
+use keeper::GroupKeeper;
+pub use keeper::Keeper;
 use rt_base::NoMemory;
 use std::alloc::Global;
 use trace_read::TraceHead;
 use trace_text::PlayedGroup;
 use trace_tools::{Bus, TraceTool};
 pub use verdict::{Checked, Verdict};
+use view_replay::{Player, Replay};
 
 /// Whether a text of which this head was read is a valid trace, in its format, for its set: the canonical set, for each
 /// group the lines of a play of it, and the line `end`, and behind that nothing, or the count line of each tool of the bus.
@@ -78,7 +80,7 @@ pub fn check_counted<T: TraceTool>(
         → counters T.tool bus.old ≡ map counter_of tools
         → HasShown tools head.now.version head.now.setup bytes.now (counters T.tool bus.new) c.verdict) }
 {
-    check_with(alloc, bytes, head, bus, &mut ())
+    check_with::<T, Replay, ()>(alloc, bytes, head, bus, &mut ())
 }
 
 /// The same as `check_trace`, and of a valid text the groups of its set, by rising number, each with its entries. Of another
@@ -101,12 +103,12 @@ pub fn check_groups<T: TraceTool>(
         → HasGroups tools head.now.version head.now.setup bytes.now x.1.items x.0) }
 {
     let mut keeper = GroupKeeper::new(alloc, bytes.len())?;
-    let checked = check_with(alloc, bytes, head, bus, &mut keeper)?;
+    let checked = check_with::<T, Replay, GroupKeeper>(alloc, bytes, head, bus, &mut keeper)?;
     Ok((checked.verdict, keeper.groups()))
 }
 
 /// The same as `check_counted`, and the keeper is given each group.
-fn check_with<T: TraceTool, K: Keeper>(
+pub fn check_with<T: TraceTool, P: Player, K: Keeper<P>>(
     alloc: Global,
     bytes: &[u8],
     head: &TraceHead,
@@ -138,5 +140,5 @@ fn check_with<T: TraceTool, K: Keeper>(
         });
     }
     let text = &bytes[head.length..];
-    judge_text(alloc, head.version, &head.setup, text, bus, keeper)
+    judge_text::<T, P, K>(alloc, head.version, &head.setup, text, bus, keeper)
 }

@@ -5,6 +5,7 @@ use Rattle.rt_task.specs.Validity.{IsValid}
 use Rattle.rt_rules.specs.declared.history.Entry.{Entry}
 use Rattle.rt_model.specs.Histories.{past_of}
 use Rattle.rt_plays.specs.Plays.{IsPlay, group_count, group_with}
+use Rattle.view_replay.specs.Players.{Played}
 use Rattle.trace_lines.specs.declared.format.Version.{Version}
 use Rattle.trace_lines.specs.Grammar.{line_text}
 use Rattle.trace_lines.specs.Known.{Known, known_of}
@@ -25,7 +26,7 @@ use Rattle.trace_course.specs.Followed.{GroupEntries}
 use Rattle.trace_check.specs.inside.Following.{IsFollowing}
 use Rattle.trace_check.specs.inside.GroupLines.{ArePlaysFrom, NoEntryBegins, NoEntryBehind, lines_of_groups, lines_so_far}
 use Rattle.trace_check.specs.inside.Judging.{IsJudged}
-use Rattle.trace_check.specs.inside.Keeping.{BeforeLast, Keeping}
+use Rattle.trace_check.specs.Keeping.{BeforeLast, Between, HasPlayed, Keeping}
 use Rattle.trace_check.specs.inside.RequestLines.{HaveStood}
 
 -- the lines of the requests of the entries that were followed
@@ -62,30 +63,41 @@ pub record AreKept (v : Version) (p : Parts) (text : List ℕ) (n : ℕ) (r : Pr
   pub right : AreRight v p text n r opened counters
   pub kept : holds right.histories
 
+-- with the last group still open, whose steps were played
+pub record AreFollowedBy {P : Type 0} (played : P → Played) (v : Version) (p : Parts) (text : List ℕ) (n : ℕ) (r : Progress)
+    (opened counters : List Counter) (holds : Keeping) (player : P) : Type 0 where
+  pub kept : AreKept v p text (n + 1) r opened counters (BeforeLast holds)
+  pub has_played : HasPlayed played player p n kept.kept.last
+
 -- what comes of following the lines of group n, behind those of the groups before it
+abbrev pub IsFollowedBy : {P : Type 0} → (P → Played) → Version → Parts → List ℕ → ℕ → List Counter → List Counter → Keeping → P → Followed → Type 0
+IsFollowedBy played v p text n opened counters holds player (Whole r) = AreFollowedBy played v p text n r opened counters holds player
+IsFollowedBy played v p text n opened counters holds player (Wrong position) = IsJudged v p text (Invalid (position + 3))
+
+-- and once that is closed
 abbrev pub IsFollowedTo : Version → Parts → List ℕ → ℕ → List Counter → List Counter → Keeping → Followed → Type 0
-IsFollowedTo v p text n opened counters holds (Whole r) = AreKept v p text (n + 1) r opened counters (BeforeLast holds)
+IsFollowedTo v p text n opened counters holds (Whole r) = AreKept v p text (n + 1) r opened counters (Between holds)
 IsFollowedTo v p text n opened counters holds (Wrong position) = IsJudged v p text (Invalid (position + 3))
 
 -- so much of the text is the lines of whole groups and of the entries of group n that were followed, which were shown and kept too
-pub record IsRight (v : Version) (p : Parts) (text : List ℕ) (n : ℕ) (from : Progress) (size : ℕ) (f : Follow)
-    (opened was counters : List Counter) (holds : Keeping) : Type 0 where
+pub record IsRight {P : Type 0} (played : P → Played) (spare : P → ℕ) (v : Version) (p : Parts) (text : List ℕ) (n : ℕ) (from : Progress)
+    (size : ℕ) (f : Follow P) (opened was counters : List Counter) (holds : Keeping) : Type 0 where
   pub before : AreRight v p text n from opened was
   pub entries : List Entry
   pub shown : counters ≡ counters_after (shown_entries (group_with p n) 0 [] entries) was
   pub kept : holds before.histories entries
-  pub following : IsFollowing (group_with p n) entries f
+  pub following : IsFollowing played spare (group_with p n) entries f
   pub within : size ≤ length text
   pub text_is : text ≡ flat_map (line_text (known_of v p)) (lines_of_groups p 0 before.histories
       ++ lines_so_far (group_with p n) entries) ++ drop size text
   pub position_is : from.lines + 1 + f.count ≡ length (lines_of_groups p 0 before.histories ++ lines_so_far (group_with p n) entries)
 
 -- what comes of following the entry lines of group n
-abbrev pub AreFollowed : Version → Parts → List ℕ → ℕ → Progress → Follow → List Counter → List Counter → List Counter
-    → Keeping → Entries → Type 0
-AreFollowed v p text n from f opened was counters holds (Right size) =
-    IsRight v p text n from size f opened was counters holds × NoEntryBegins (known_of v p) (drop size text)
-AreFollowed v p text n from f opened was counters holds (WrongAfter count) = IsJudged v p text (Invalid (from.lines + 1 + count + 3))
+abbrev pub AreFollowed : {P : Type 0} → (P → Played) → (P → ℕ) → Version → Parts → List ℕ → ℕ → Progress → Follow P
+    → List Counter → List Counter → List Counter → Keeping → Entries → Type 0
+AreFollowed played spare v p text n from f opened was counters holds (Right size) =
+    IsRight played spare v p text n from size f opened was counters holds × NoEntryBegins (known_of v p) (drop size text)
+AreFollowed played spare v p text n from f opened was counters holds (WrongAfter count) = IsJudged v p text (Invalid (from.lines + 1 + count + 3))
 
 -- what comes of it where no entry line stands behind so many bytes, which this rest follows
 pub data IsEndedAt (at : GroupEntries) (k : Known) (rest : List ℕ) (from : Progress) (count length_so_far : ℕ) : Followed → Type 0 where
