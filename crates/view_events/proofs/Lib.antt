@@ -1,3 +1,4 @@
 pub mod Missed
 pub mod Marked
 pub mod Tabled
+pub mod TextTracks

@@ -1,1 +1,2 @@
+pub mod TextTracks
 pub mod inside

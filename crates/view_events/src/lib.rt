@@ -1,9 +1,10 @@
-//! The text of trace events of a set and its histories.
+//! The trace events of a trace: what they tell of each group is recorded as the text is checked.
 #![tactic(auto)]
 
+mod checked;
 mod job_marks;
+mod keeper;
 mod recording;
-mod texts;
 mod tracks;
 
-pub use texts::events_text;
+pub use checked::check_tracks;

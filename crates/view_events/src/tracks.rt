@@ -1,22 +1,18 @@
 //! The tracks of a group: its spans, with the marks of its jobs.
-ghost use Rattle.std.specs.Prelude.{◌≡◌, ◌≤◌, All, IfOk, OnOk, length, map};
+ghost use Rattle.std.specs.Prelude.{◌≡◌, All, IfOk, OnOk, map};
 ghost use Rattle.rt_model.specs.Group.{Group};
-ghost use Rattle.rt_model.specs.Histories.{past_of};
 ghost use Rattle.rt_model.specs.Past.{Past};
-ghost use Rattle.rt_base.specs.declared.TheConstants.{MOST_STEPS};
-ghost use Rattle.rt_plays.specs.Groups.{AreStepsOf, IsGroupOf};
-ghost use Rattle.rt_plays.specs.Plays.{group_with};
 ghost use Rattle.event_lines.specs.Shown.{group_tracks_shown, task_track_shown};
 ghost use Rattle.event_lines.specs.TracksOf.{tracks_of};
 ghost use Rattle.view_events.specs.inside.JobMarks.{AreJobsOf, HasTaskOf, with_marks};
+ghost use Rattle.view_events.specs.inside.Recordings.{IsRecorded, group_of};
 
 use crate::job_marks::marks_of_jobs;
 use crate::recording::Recording;
 use block_counts::Seen;
 use event_lines::{GroupTracks, TaskTrack};
 use job_views::JobTable;
-use rt_base::{GroupNo, NoMemory, Tick};
-use rt_rules::Entry;
+use rt_base::{NoMemory, Tick};
 use rt_task::{Setup, Task};
 use std::alloc::Global;
 
@@ -85,21 +81,18 @@ fn marked(
     Ok(tracks)
 }
 
-/// The tracks of a group of a setup with these entries.
-pub(crate) fn tracks_after(
+/// The tracks of the group of a recording, with the marks of its jobs.
+pub(crate) fn tracks_of(
     alloc: Global,
     setup: &Setup,
-    group: GroupNo,
-    entries: &[Entry],
+    recording: Recording,
 ) -> Result<GroupTracks, NoMemory>
-    requires group { IsGroupOf setup.now group.0 }
-    requires few { length entries.now ≤ MOST_STEPS }
-    requires steps { AreStepsOf (group_with setup.now group.0) entries.now }
-    ensures { let g = group_with setup.now group.0 in IfOk result
-        (λ x. group_tracks_shown x ≡ tracks_of g (past_of g entries.now)) }
+    requires setup { setup.now ≡ (group_of recording).setup }
+    requires recorded { (past : Past) × IsRecorded past recording }
+    ensures { IfOk result (λ x. (past : Past) → IsRecorded past recording
+        → group_tracks_shown x ≡ tracks_of (group_of recording) past) }
 {
     let parts = setup.parts();
-    let recording = Recording::of(alloc, setup, group, entries)?;
     let Recording {
         replay,
         feed,

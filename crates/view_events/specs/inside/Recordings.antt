@@ -1,4 +1,4 @@
--- A group whose spans and jobs are recorded while its steps are taken again.
+-- A group whose spans and jobs are recorded as its steps are taken.
 use Rattle.std.specs.Prelude.{◌≡◌, ℕ, ◌∷◌, length}
 use Rattle.rt_model.specs.Group.{Group}
 use Rattle.rt_model.specs.Past.{Clock, Past}

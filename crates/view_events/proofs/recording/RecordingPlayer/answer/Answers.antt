@@ -1,23 +1,25 @@
 use Rattle.std.proofs.Common.{◌≡◌, ◌∙◌, ◌∷◌, ap, length, subst, sym}
-use Rattle.std.proofs.lemmas.Result.{on_ok_weaker}
 use Rattle.rt_model.specs.Group.{Group}
-use Rattle.rt_model.specs.Histories.{after}
+use Rattle.rt_model.specs.Histories.{after, reply_to}
 use Rattle.rt_model.specs.Outcomes.{past_act}
 use Rattle.rt_model.specs.Past.{Acted, Clock, Past, PastAct}
+use Rattle.rt_model.specs.Steps.{IsStepOf}
 use Rattle.rt_model.proofs.Steps.{after-acted}
 use Rattle.chart_rows.specs.Foretold.{IsForetold}
 use Rattle.rank_afresh.specs.Standing as ranker
 use Rattle.span_feed.specs.Feeds.{IsFed}
 use Rattle.view_acts.specs.ShownActs.{act_shown}
 use Rattle.view_replay.specs.Replays as replays
+use Rattle.view_replay.proofs.Acting.{reply-of}
 use Rattle.view_tables.proofs.Playing.{can-feed, kept-after}
-use Rattle.view_events.specs.inside.Recordings.{group_of}
-use Rattle.view_events.proofs.recording.Recording.act.Goals as goal
+use Rattle.view_events.specs.declared.recording.Recording.{Recording}
+use Rattle.view_events.specs.inside.Recordings.{IsRecorded, group_of}
+use Rattle.view_events.proofs.recording.RecordingPlayer.answer.Goals as goal
 
 pub foretell-requires-clause-fed : goal.foretell-requires-clause-fed
 foretell-requires-clause-fed c =
-    let past = c.requires.moved.0 in
-    let is = c.requires.moved.1 in
+    let past = c.requires.can.1 in
+    let is = c.requires.can.2.moved_to.1 in
     let tick = c.args.step.tick.0 in (
       Clock tick ∷ past,
       c.afresh.ensures.moved past tick is.at,
@@ -26,8 +28,8 @@ foretell-requires-clause-fed c =
 
 pub act-requires : goal.act-requires
 act-requires c =
-    let past = c.requires.moved.0 in
-    let is = c.requires.moved.1 in
+    let past = c.requires.can.1 in
+    let is = c.requires.can.2.moved_to.1 in
     let tick = c.args.step.tick.0 in
     let fed = subst (λ (g : Group). IsFed g (Clock tick ∷ past) c.args.self.now.feed) (sym c.afresh.ensures.group) is.fed in
     let told = c.in_ok-unit.ensures (Clock tick ∷ past) (c.afresh.ensures.moved past tick is.at) in
@@ -50,15 +52,15 @@ act-requires c =
 
 pub feed-requires-clause-next : goal.feed-requires-clause-next
 feed-requires-clause-next c =
-    let past = c.requires.moved.0 in
-    let is = c.requires.moved.1 in (
+    let past = c.requires.can.1 in
+    let is = c.requires.can.2.moved_to.1 in (
       _,
-      can-feed c.args.self.now.table c.args.self.now.replay c.args.step past is.at (act_shown c.act-act.result) (c.act-act.ensures.act past is.at) c.now.result.0 (c.now.ensures.at _ (c.act-act.ensures.at past is.at)) c.requires.step is.kept,
+      can-feed c.args.self.now.table c.args.self.now.replay c.args.step past is.at (act_shown c.act-act.result) (c.act-act.ensures.act past is.at) c.now.result.0 (c.now.ensures.at _ (c.act-act.ensures.at past is.at)) (subst (λ (g : Group). IsStepOf g c.args.step) (sym c.requires.can.2.moved_to.0) c.requires.can.2.of_group) is.kept,
     )
 
-pub returns-clause-recorded : goal.returns-clause-recorded
-returns-clause-recorded c =
-    on_ok_weaker c.feed.result (λ kept past is.
+pub returns-clause-at : goal.returns-clause-at
+returns-clause-at c = λ whole past answered.
+    let is = answered.moved_to.1 in
     let step = c.args.step in
     let tick = step.tick.0 in
     let fed = subst (λ (g : Group). IsFed g (Clock tick ∷ past) c.args.self.now.feed) (sym c.afresh.ensures.group) is.fed in
@@ -74,10 +76,18 @@ returns-clause-recorded c =
     (subst (λ (x : Group). IsForetold x (record { act = d; before = Clock tick ∷ past }) c.in_ok-unit.unit) same
     (subst (λ (x : PastAct). IsForetold (ranker.group_of c.afresh.result.now) (record { act = x; before = Clock tick ∷ past }) c.in_ok-unit.unit) (sym shown) told))
     (subst (λ (x : Group). IsFed x (Clock tick ∷ past) c.args.self.now.feed) same fed) in
-    let can = can-feed c.args.self.now.table c.args.self.now.replay step past is.at d act_is c.now.result.0 (c.now.ensures.at _ (c.act-act.ensures.at past is.at)) c.requires.step is.kept in
-    record {
-      at = c.act-act.ensures.at past is.at;
-      fed = subst (λ (p : Past). IsFed (replays.group_of c.act-act.new.self) p c.act.new.self) (sym then) (subst (λ (x : Group). IsFed x (Acted d ∷ Clock tick ∷ past) c.act.new.self) c.afresh-2.ensures.group acted);
-      kept = kept-after c.args.self.now.table c.args.self.now.replay step past is.at d act_is c.feed.new.self (kept _ can);
-      tasks = c.feed.ensures.count ∙ is.tasks ∙ sym (ap (λ (x : Group). length x.setup.tasks) c.act-act.ensures.group);
-    }) c.feed.ensures.kept
+    let can = can-feed c.args.self.now.table c.args.self.now.replay step past is.at d act_is c.now.result.0 (c.now.ensures.at _ (c.act-act.ensures.at past is.at)) (subst (λ (x : Group). IsStepOf x step) (sym answered.moved_to.0) answered.of_group) is.kept in
+    let now : Recording = record { replay = c.act-act.new.self; feed = c.act.new.self; table = c.feed.new.self } in (
+      c.act-act.ensures.group ∙ answered.moved_to.0,
+      subst (λ (x : Group). IsRecorded (after x step past) now) answered.moved_to.0 (record {
+        at = c.act-act.ensures.at past is.at;
+        fed = subst (λ (p : Past). IsFed (replays.group_of c.act-act.new.self) p c.act.new.self) (sym then) (subst (λ (x : Group). IsFed x (Acted d ∷ Clock tick ∷ past) c.act.new.self) c.afresh-2.ensures.group acted);
+        kept = kept-after c.args.self.now.table c.args.self.now.replay step past is.at d act_is c.feed.new.self (c.in_ok-feed.ensures.kept _ can);
+        tasks = c.in_ok-feed.ensures.count ∙ is.tasks ∙ sym (ap (λ (x : Group). length x.setup.tasks) c.act-act.ensures.group);
+      }),
+    )
+
+pub returns-clause-reply : goal.returns-clause-reply
+returns-clause-reply c = λ g past can.
+    reply-of (group_of c.args.self.now) (act_shown c.act-act.result) c.args.step past (c.act-act.ensures.act past can.moved_to.1.at)
+    ∙ ap (λ (x : Group). reply_to x c.args.step past) can.moved_to.0

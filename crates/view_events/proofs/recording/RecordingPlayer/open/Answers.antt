@@ -4,7 +4,7 @@ use Rattle.rt_task.specs.declared.Parts.{Parts}
 use Rattle.rt_plays.proofs.SetLimits.{sets_are_in_limits}
 use Rattle.rt_model.specs.Group.{Group}
 use Rattle.chart_texts.specs.Charts.{group_resvs}
-use Rattle.view_events.proofs.recording.Recording.open.Goals as goal
+use Rattle.view_events.proofs.recording.RecordingPlayer.open.Goals as goal
 
 pub tasks_of-requires : goal.tasks_of-requires
 tasks_of-requires c = omega (arith, (sets_are_in_limits c.args.setup.now c.parts-parts.ensures.valid).few_tasks, ap (λ (p : Parts). length p.tasks) c.parts-parts.ensures.parts)
