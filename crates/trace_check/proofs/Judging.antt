@@ -47,7 +47,7 @@ use Rattle.trace_course.specs.Followed.{GroupEntries}
 use Rattle.trace_check.specs.inside.GroupLines.{ArePlaysFrom, IsOtherLine, NoEntryBegins, NoEntryBehind, NoEntryFirst, lines_of_groups, lines_so_far, next_line, opening_line}
 use Rattle.trace_check.specs.Counts.{IsCountedText}
 use Rattle.trace_check.specs.inside.Judging.{IsJudged, IsJudgedText, IsShownText, IsTextOfPlays, verdict_behind}
-use Rattle.trace_check.specs.inside.Keeping.{BeforeLast, Between, Keeping}
+use Rattle.trace_check.specs.Keeping.{BeforeLast, Between, Keeping}
 use Rattle.trace_check.specs.inside.Progress.{AreAllRight, AreKept, AreRight, IsEndedAt, IsFollowedTo, IsRight, finished, missing, unfinished}
 use Rattle.trace_check.specs.LinesAlike.{lines_alike}
 use Rattle.trace_check.specs.inside.RequestLines.{HaveStood}

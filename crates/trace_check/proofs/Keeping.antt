@@ -16,7 +16,7 @@ use Rattle.trace_check.specs.declared.verdict.Verdict.TheVariants.{Valid, Invali
 use Rattle.trace_check.specs.Groups.{HasGroups}
 use Rattle.trace_check.specs.inside.GroupLines.{ArePlaysFrom}
 use Rattle.trace_check.specs.inside.Judging.{IsTextOfPlays}
-use Rattle.trace_check.specs.inside.Keeping.{BeforeLast, Between, CanClose, HasKept, IsKeptText, Keeping}
+use Rattle.trace_check.specs.Keeping.{BeforeLast, Between, CanClose, HasKept, IsKeptText, Keeping}
 use Rattle.trace_check.specs.inside.Progress.{AreKept}
 
 -- the last of plays is a play of the group with its number

@@ -8,7 +8,7 @@ use Rattle.trace_course.specs.Followed.{GroupEntries}
 use Rattle.trace_check.specs.declared.progress.Entries.{Entries}
 use Rattle.trace_check.specs.declared.progress.Followed.{Followed}
 use Rattle.trace_check.specs.inside.Following.{IsFollowingWith}
-use Rattle.trace_check.specs.inside.Keeping.{Between}
+use Rattle.trace_check.specs.Keeping.{Between}
 use Rattle.trace_check.specs.inside.Progress.{AreFollowed, AreKept, HasStood, IsEndedAt, IsFollowedTo, IsRight}
 use Rattle.trace_check.proofs.Judging.{ended-there, entries-few, followed-with, group-low, opened-line, opened-right, opened-wrong, position-short, position_at, right-short}
 use Rattle.trace_check.proofs.TextPositions.{begins-rest, rest-of, taken-inside}

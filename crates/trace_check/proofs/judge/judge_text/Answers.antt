@@ -11,7 +11,7 @@ use Rattle.trace_check.specs.declared.verdict.Checked.{Checked}
 use Rattle.trace_check.specs.declared.verdict.Verdict.TheVariants.{Invalid}
 use Rattle.trace_check.specs.Counts.{IsCountedText}
 use Rattle.trace_check.specs.inside.Judging.{IsJudgedText, IsShownText, IsTextOfPlays}
-use Rattle.trace_check.specs.inside.Keeping.{Between, IsKeptText}
+use Rattle.trace_check.specs.Keeping.{Between, IsKeptText}
 use Rattle.trace_check.specs.inside.Progress.{AreAllRight, AreKept, AreRight, IsFollowedTo}
 use Rattle.trace_check.proofs.Judging.{right-first, right-short}
 use Rattle.trace_check.proofs.Keeping.{can-close, kept-closed, kept-text}
