@@ -5,7 +5,7 @@ use Rattle.trace_laws.proofs.PlayedGroups.{groups-more}
 use Rattle.trace_check.proofs.keeper.GroupKeeperKeeperReplay.close.Goals as goal
 
 pub returns : goal.returns
-returns c = λ hs es kept count.
+returns c = λ hs es kept count played.
     let p = c.args.setup.now in
     let n : ℕ = c.args.group.0 in
     let before = c.args.self.now.groups.items in
