@@ -65,10 +65,10 @@ module _ (v : Version) (p : Parts) (text : List ℕ) where
     }
 
   -- where it is not whole, none is to be closed
-  pub followed-wrong : {P : Type 0} {played : P → Played} (n : ℕ) {opened counters : List Counter} {holds : Keeping} (player : P) (followed : Followed)
+  pub followed-wrong : {P : Type 0} (played : P → Played) (n : ℕ) (opened counters : List Counter) (holds : Keeping) (player : P) (followed : Followed)
       → ((r : Progress) → followed ≡ Whole r → ⊥) → IsFollowedBy played v p text n opened counters holds player followed → IsFollowedTo v p text n opened counters holds followed
-  followed-wrong n player (Whole r) none by = absurd (none r refl)
-  followed-wrong n player (Wrong position) none by = by
+  followed-wrong played n opened counters holds player (Whole r) none by = absurd (none r refl)
+  followed-wrong played n opened counters holds player (Wrong position) none by = by
 
 -- what is kept of its plays is kept of the text
 kept-of : (tools : List Tool) (v : Version) (p : Parts) (bytes : List ℕ) (holds : List (List Entry) → Type 0) (hs : List (List Entry)) (verdict : Verdict)

@@ -1,11 +1,10 @@
 -- A group at opening.
-use Rattle.std.proofs.Common.{◌≡◌, ℕ, ◌<◌, ◌≤◌, List, [], length, sym, ap, ◌∙◌, subst, arith}
+use Rattle.std.proofs.Common.{◌≡◌, ℕ, ◌<◌, List, [], length, sym, ap, ◌∙◌, subst, arith}
 use Rattle.std.specs.Prelude.{All}
 use Rattle.rt_base.specs.declared.CpuNo.{CpuNo}
 use Rattle.rt_task.specs.declared.Parts.{Parts}
 use Rattle.rt_task.specs.Validity.{IsValid}
 use Rattle.rt_model.specs.Group.{Group, group_processors}
-use Rattle.rt_model.specs.Past.{Past}
 use Rattle.rt_plays.specs.Groups.{IsGroupOf}
 use Rattle.rt_plays.specs.Plays.{group_with}
 use Rattle.view_replay.specs.Players.{Played}

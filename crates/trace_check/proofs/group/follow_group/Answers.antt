@@ -1,6 +1,5 @@
-use Rattle.std.proofs.Common.{◌≡◌, List, refl, sym, subst}
+use Rattle.std.proofs.Common.{sym, subst}
 use Rattle.trace_tools.specs.BusCounters.{counters}
-use Rattle.trace_tools.specs.Counters.{Counter}
 use Rattle.trace_check.specs.Keeping.{CanClose, HasPlayed}
 use Rattle.trace_check.specs.inside.Progress.{IsFollowedBy, IsFollowedTo}
 use Rattle.trace_check.proofs.Judging.{group-low}
@@ -37,5 +36,7 @@ returns-in_ok-close g c = λ opened before.
 
 pub returns-in_default : goal.returns-in_default
 returns-in_default g c = λ opened before.
-    followed-wrong c.args.version c.args.setup.now c.args.text.now c.args.group.0 c.follow_lines.new.follow.player c.in_ok-followed.followed c.in_default.not-Whole
+    let p = c.args.setup.now in
+    followed-wrong c.args.version p c.args.text.now g.P.Player.at c.args.group.0 opened (counters g.T.TraceTool.tool c.follow_lines.new.bus)
+    (g.K.Keeper.holds c.follow_lines.new.keeper p) c.follow_lines.new.follow.player c.in_ok-followed.followed c.in_default.not-Whole
     (c.in_ok-followed.ensures opened before)

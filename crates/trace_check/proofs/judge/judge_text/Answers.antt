@@ -1,4 +1,4 @@
-use Rattle.std.proofs.Common.{false, ◌≡◌, ◌+◌, ◌<◌, ℕ, List, map, sym, subst, arith}
+use Rattle.std.proofs.Common.{false, ◌≡◌, ◌+◌, ℕ, List, map, sym, subst, arith}
 use Rattle.std.proofs.lemmas.Result.{IfOk-weaker}
 use Rattle.rt_task.specs.declared.Parts.{Parts}
 use Rattle.rt_plays.specs.Plays.{group_count}
