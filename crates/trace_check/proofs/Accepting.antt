@@ -20,8 +20,9 @@ use Rattle.rt_plays.specs.Turns.{is_tick}
 use Rattle.rt_plays.proofs.PlayLaws.{play-fits}
 use Rattle.trace_read.specs.Movers.{says_tick}
 use Rattle.trace_read.specs.declared.mover.Mover.{Mover}
-use Rattle.block_counts.specs.GroupRequests as counts
+use Rattle.rt_model.specs.Past.{Past}
 use Rattle.rank_afresh.specs.Standing.{IsAt, Standing, group_of}
+use Rattle.view_replay.specs.Players.{Played}
 use Rattle.trace_laws.proofs.Plays.{begun-steps, few-entries}
 use Rattle.trace_course.specs.declared.course.Course.{Course}
 use Rattle.trace_check.specs.declared.follow.Follow.{Follow}
@@ -54,85 +55,87 @@ line-same v p q i count e made links shown set number entry same =
     ap (λ (x : Parts). line_text (known_of v x) (entry_line i e links)) (sym set) ∙ ap (λ (n : ℕ). line_text (known_of v p) (entry_line n e links)) number
     ∙ ap (λ (x : Entry). line_text (known_of v p) (entry_line count x links)) entry ∙ ap (λ (xs : List Link). line_text (known_of v p) (entry_line count made xs)) same
 
--- its course is followed as far
-pub on-course : (at : GroupEntries) (p : Parts) (f : Follow) → IsFollowingWith at p f → IsOnCourse at p f.course
-on-course at p f fw = record { valid = fw.following.valid; setup_is = fw.setup_is; begun = fw.following.begun; course_is = fw.following.course_is }
+-- by whoever plays the steps
+module _ {P : Type 0} (played : P → Played) (spare : P → ℕ) where
+  -- its course is followed as far
+  pub on-course : (at : GroupEntries) (p : Parts) (f : Follow P) → IsFollowingWith played spare at p f → IsOnCourse at p f.course
+  on-course at p f fw = record { valid = fw.following.valid; setup_is = fw.setup_is; begun = fw.following.begun; course_is = fw.following.course_is }
 
-pub can-take : (at : GroupEntries) (p : Parts) (f : Follow) → IsFollowingWith at p f → CanTake at p f.afresh f.course
-can-take at p f fw = record { on_course = on-course at p f fw; group_is = fw.following.group_is; stands = fw.following.at }
-
-module _ (at : GroupEntries) (p : Parts) (f : Follow) (fw : IsFollowingWith at p f) (step : Step) (next : IsNextStep at.group at.entries step) where
-  abbrev g : Group
-  g = at.group
-
-  abbrev es : List Entry
-  es = at.entries
-
-  -- the entry that the step makes
-  abbrev made : Entry
-  made = entry_by g es step
-
-  more-entries : length (es ++ made ∷ []) ≡ length es + 1
-  more-entries = length-append es (made ∷ [])
-
-  of_group : IsStepOf g step
-  of_group =
-      subst (λ (e : Entry). IsStepOf g e.step) (get_or-append_seam es made [] made)
-      (begun-steps g (es ++ made ∷ []) fw.following.valid next (length es) made (omega (arith, more-entries)))
-
-  pub can_step : (c : Course) → CanStep at (record f { course = c }) step
-  can_step c = record {
-    course = f.course;
-    following = fw.following;
-    of_group = of_group;
-    room = (let few = play-fits g (es ++ made ∷ []) next in omega (arith, few, more-entries, fw.following.spare_is));
+  -- by the facts that are read of who plays
+  pub can-take : (at : GroupEntries) (p : Parts) (f : Follow P) (v : Standing) → IsFollowingWith played spare at p f
+      → ((g : Group) (past : Past) → played f.player g past → IsAt v past) → ((g : Group) (past : Past) → played f.player g past → group_of v ≡ g)
+      → CanTake at p v f.course
+  can-take at p f v fw stands is = record {
+    on_course = on-course at p f fw;
+    group_is = is at.group (past_of at.group at.entries) fw.following.at;
+    stands = stands at.group (past_of at.group at.entries) fw.following.at;
   }
 
-  pub count-low : f.count + 1 ≤ MOST_STEPS
-  count-low = let few = few-entries g (es ++ made ∷ []) fw.following.valid next in omega (arith, few, more-entries, fw.following.count_is)
+  module _ (at : GroupEntries) (p : Parts) (f : Follow P) (fw : IsFollowingWith played spare at p f) (step : Step)
+      (next : IsNextStep at.group at.entries step) where
+    abbrev g : Group
+    g = at.group
 
-  -- the links before the step are those of the group
-  pub can-read : (v : Standing) (l : GroupLinks) → group_of v ≡ g → l ≡ f.links → IsAt v (after g step (past_of g es)) → CanRead (past_of g es) step v l
-  can-read v l same kept at_after = record {
-    before = subst (λ (x : Group). AreLinks x (past_of g es) l) (sym same) (subst (AreLinks g (past_of g es)) (sym kept) fw.following.links_are);
-    stands = subst (λ (x : Group). IsAt v (after x step (past_of g es))) (sym same) at_after;
-  }
+    abbrev es : List Entry
+    es = at.entries
 
-  -- what is followed afterwards
-  pub record IsTaken (f' : Follow) : Type 0 where
-    pub group_same : group_of f'.afresh ≡ group_of f.afresh
-    pub spare_less : f'.afresh.spare + 1 ≡ f.afresh.spare
-    pub at_after : IsAt f'.afresh (after g step (past_of g es))
-    pub count_more : f'.count ≡ f.count + 1
-    pub links_after : AreLinks g (after g step (past_of g es)) f'.links
-    pub counted_after : counts.IsAt f'.blocks (after g step (past_of g es))
-    pub blocks_same : counts.group_of f'.blocks ≡ counts.group_of f.blocks
-    pub blocks_less : f'.blocks.spare + 1 ≡ f.blocks.spare
-    pub room_same : f'.waiting.room ≡ f.waiting.room
-    pub course_after : IsCourse g (longer at step) f'.course
+    -- the entry that the step makes
+    abbrev made : Entry
+    made = entry_by g es step
 
-  pub following-next : (e : Entry) (f' : Follow) → e.step ≡ step → e.reply ≡ reply_to g step (past_of g es) → IsTaken f' → IsFollowing g (es ++ e ∷ []) f'
-  following-next e f' step_same reply_same t = subst (λ (x : Entry). IsFollowing g (es ++ x ∷ []) f') (sym (same_entry e step_same reply_same)) further
-    where
-      same_entry : (e : Entry) → e.step ≡ step → e.reply ≡ reply_to g step (past_of g es) → e ≡ made
-      same_entry e s r = λ i. record { step = s i; reply = r i }
+    more-entries : length (es ++ made ∷ []) ≡ length es + 1
+    more-entries = length-append es (made ∷ [])
 
-      past_is : past_of g (es ++ made ∷ []) ≡ after g step (past_of g es)
-      past_is = past_of-append g es made
+    of_group : IsStepOf g step
+    of_group =
+        subst (λ (e : Entry). IsStepOf g e.step) (get_or-append_seam es made [] made)
+        (begun-steps g (es ++ made ∷ []) fw.following.valid next (length es) made (omega (arith, more-entries)))
 
-      further : IsFollowing g (es ++ made ∷ []) f'
-      further = record {
-        valid = fw.following.valid;
-        is_there = fw.following.is_there;
-        begun = next;
-        at = subst (λ past. IsAt f'.afresh past) (sym past_is) t.at_after;
-        group_is = t.group_same ∙ fw.following.group_is;
-        count_is = omega (arith, t.count_more, fw.following.count_is, more-entries);
-        spare_is = omega (arith, t.spare_less, fw.following.spare_is, more-entries);
-        blocks_are = subst (counts.IsAt f'.blocks) (sym past_is) t.counted_after;
-        blocks_group = t.blocks_same ∙ fw.following.blocks_group;
-        blocks_spare = omega (arith, t.blocks_less, t.spare_less, fw.following.blocks_spare);
-        waiting_room = omega (arith, t.room_same, fw.following.waiting_room);
-        links_are = subst (λ past. AreLinks g past f'.links) (sym past_is) t.links_after;
-        course_is = t.course_after;
-      }
+    pub can_step : (c : Course) → CanStep played spare at p (record f { course = c }) step
+    can_step c = record {
+      course = f.course;
+      following = fw.following;
+      of_group = of_group;
+      room = (let few = play-fits g (es ++ made ∷ []) next in omega (arith, few, more-entries, fw.following.spare_is));
+      setup_is = fw.setup_is;
+    }
+
+    pub count-low : f.count + 1 ≤ MOST_STEPS
+    count-low = let few = few-entries g (es ++ made ∷ []) fw.following.valid next in omega (arith, few, more-entries, fw.following.count_is)
+
+    -- the links before the step are those of the group
+    pub can-read : (v : Standing) (l : GroupLinks) → group_of v ≡ g → l ≡ f.links → IsAt v (after g step (past_of g es)) → CanRead (past_of g es) step v l
+    can-read v l same kept at_after = record {
+      before = subst (λ (x : Group). AreLinks x (past_of g es) l) (sym same) (subst (AreLinks g (past_of g es)) (sym kept) fw.following.links_are);
+      stands = subst (λ (x : Group). IsAt v (after x step (past_of g es))) (sym same) at_after;
+    }
+
+    -- what is followed afterwards
+    pub record IsGone (f' : Follow P) : Type 0 where
+      pub spare_less : spare f'.player + 1 ≡ spare f.player
+      pub at_after : played f'.player g (after g step (past_of g es))
+      pub count_more : f'.count ≡ f.count + 1
+      pub links_after : AreLinks g (after g step (past_of g es)) f'.links
+      pub course_after : IsCourse g (longer at step) f'.course
+
+    pub following-next : (e : Entry) (f' : Follow P) → e.step ≡ step → e.reply ≡ reply_to g step (past_of g es) → IsGone f'
+        → IsFollowing played spare g (es ++ e ∷ []) f'
+    following-next e f' step_same reply_same t = subst (λ (x : Entry). IsFollowing played spare g (es ++ x ∷ []) f') (sym (same_entry e step_same reply_same)) further
+      where
+        same_entry : (e : Entry) → e.step ≡ step → e.reply ≡ reply_to g step (past_of g es) → e ≡ made
+        same_entry e s r = λ i. record { step = s i; reply = r i }
+
+        past_is : past_of g (es ++ made ∷ []) ≡ after g step (past_of g es)
+        past_is = past_of-append g es made
+
+        further : IsFollowing played spare g (es ++ made ∷ []) f'
+        further = record {
+          valid = fw.following.valid;
+          is_there = fw.following.is_there;
+          begun = next;
+          at = subst (λ past. played f'.player g past) (sym past_is) t.at_after;
+          count_is = omega (arith, t.count_more, fw.following.count_is, more-entries);
+          spare_is = omega (arith, t.spare_less, fw.following.spare_is, more-entries);
+          links_are = subst (λ past. AreLinks g past f'.links) (sym past_is) t.links_after;
+          course_is = t.course_after;
+        }

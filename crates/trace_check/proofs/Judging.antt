@@ -35,6 +35,7 @@ use Rattle.trace_laws.proofs.Heads.{lines_of}
 use Rattle.trace_laws.proofs.KnownLines.{known-lines}
 use Rattle.trace_laws.proofs.Plays.{begun-whole, few-entries}
 use Rattle.trace_laws.proofs.ReadBack.{first-read}
+use Rattle.view_replay.specs.Players.{Played}
 use Rattle.trace_check.specs.declared.follow.Follow.{Follow}
 use Rattle.trace_check.specs.declared.progress.Progress.{Progress}
 use Rattle.trace_check.specs.declared.progress.Followed.{Followed}
@@ -47,8 +48,8 @@ use Rattle.trace_course.specs.Followed.{GroupEntries}
 use Rattle.trace_check.specs.inside.GroupLines.{ArePlaysFrom, IsOtherLine, NoEntryBegins, NoEntryBehind, NoEntryFirst, lines_of_groups, lines_so_far, next_line, opening_line}
 use Rattle.trace_check.specs.Counts.{IsCountedText}
 use Rattle.trace_check.specs.inside.Judging.{IsJudged, IsJudgedText, IsShownText, IsTextOfPlays, verdict_behind}
-use Rattle.trace_check.specs.inside.Keeping.{BeforeLast, Between, Keeping}
-use Rattle.trace_check.specs.inside.Progress.{AreAllRight, AreKept, AreRight, IsEndedAt, IsFollowedTo, IsRight, finished, missing, unfinished}
+use Rattle.trace_check.specs.Keeping.{BeforeLast, Between, Keeping}
+use Rattle.trace_check.specs.inside.Progress.{AreAllRight, AreKept, AreRight, IsEndedAt, IsFollowedBy, IsRight, finished, missing, unfinished}
 use Rattle.trace_check.specs.LinesAlike.{lines_alike}
 use Rattle.trace_check.specs.inside.RequestLines.{HaveStood}
 use Rattle.trace_check.proofs.FirstLetters.{other-letter}
@@ -75,12 +76,12 @@ last-same {A = A} (a ∷ xs) (b ∷ ys) x y e =
     rest-same us vs k = cc
 
 -- what comes of taking a line, in the part of a text behind a position
-pub taken-rest : (at : GroupEntries) (v : Version) (size : ℕ) (text line : List ℕ) (o : Option Entry) (f : Follow) → HasTaken at v (take (length text - size) (drop size text)) line o f → HasTaken at v (drop size text) line o f
-taken-rest at v size text line o f h = subst (λ (xs : List ℕ). HasTaken at v xs line o f) (rest-of size text) h
+pub taken-rest : {P : Type 0} (played : P → Played) (spare : P → ℕ) (at : GroupEntries) (v : Version) (size : ℕ) (text line : List ℕ) (o : Option Entry) (f : Follow P) → HasTaken played spare at v (take (length text - size) (drop size text)) line o f → HasTaken played spare at v (drop size text) line o f
+taken-rest played spare at v size text line o f h = subst (λ (xs : List ℕ). HasTaken played spare at v xs line o f) (rest-of size text) h
 
-pub none-taken-there : (at : GroupEntries) (v : Version) (text line : List ℕ) (o : Option Entry) (f : Follow) → ((e : Entry) → o ≡ Some e → ⊥) → HasTaken at v text line o f → NoneIsNext at v text
-none-taken-there at v text line None f none h = h
-none-taken-there at v text line (Some e) f none h = absurd (none e refl)
+pub none-taken-there : {P : Type 0} (played : P → Played) (spare : P → ℕ) (at : GroupEntries) (v : Version) (text line : List ℕ) (o : Option Entry) (f : Follow P) → ((e : Entry) → o ≡ Some e → ⊥) → HasTaken played spare at v text line o f → NoneIsNext at v text
+none-taken-there played spare at v text line None f none h = h
+none-taken-there played spare at v text line (Some e) f none h = absurd (none e refl)
 
 -- the line behind all groups
 pub end-text : (known : Known) → line_text known end_line ≡ codes "end" ++ 10 ∷ []
@@ -116,7 +117,7 @@ pub group-low : (p : Parts) (n : ℕ) → IsValid p → IsGroupOf p n → n < gr
 group-low p n valid there = (groups_are_counted p n valid).0 there
 
 -- the line that shows the links of a group at opening
-pub opened-line : {p : Parts} → (n : ℕ) (f : Follow) → IsFollowing (group_with p n) [] f → group_line n (links_of f.links.links.items) ≡ opening_line (group_with p n)
+pub opened-line : {P : Type 0} {played : P → Played} {spare : P → ℕ} {p : Parts} (n : ℕ) (f : Follow P) → IsFollowing played spare (group_with p n) [] f → group_line n (links_of f.links.links.items) ≡ opening_line (group_with p n)
 opened-line {p = p} n f following =
     let g : Group = group_with p n in
     ap (group_line n) (following.links_are.links_are ∙ ap (λ past. links_at g past (group_processors g)) (past_none g))
@@ -126,7 +127,7 @@ module _ (v : Version) (p : Parts) (text : List ℕ) where
   k = known_of v p
 
   -- where they were followed to
-  abbrev pub position_at : {n : ℕ} → {from : Progress} → {size : ℕ} → {f : Follow} → {opened was counters : List Counter} → {holds : Keeping} → IsRight v p text n from size f opened was counters holds → GroupEntries
+  abbrev pub position_at : {P : Type 0} → {played : P → Played} → {spare : P → ℕ} → {n : ℕ} → {from : Progress} → {size : ℕ} → {f : Follow P} → {opened was counters : List Counter} → {holds : Keeping} → IsRight played spare v p text n from size f opened was counters holds → GroupEntries
   position_at {n = n} right = record { group = group_with p n; entries = right.entries }
 
   right-stands : {n : ℕ} → {r : Progress} → {opened counters : List Counter} → (right : AreRight v p text n r opened counters) → StandFirst k text (lines_of_groups p 0 right.histories) r.length
@@ -193,8 +194,8 @@ module _ (v : Version) (p : Parts) (text : List ℕ) where
         none_next l more here (inr next) = omega (arith, next.all, low, right.count)
 
     -- it is
-    pub opened-right : {holds : Keeping} → (f : Follow) (line : List ℕ) → Between holds right.histories → IsFollowing (group_with p n) [] f → line ≡ line_text k (group_line n (links_of f.links.links.items)) → drop r.length text ≡ line ++ drop (length line) (drop r.length text)
-        → IsRight v p text n r (r.length + length line) f opened was was holds
+    pub opened-right : {P : Type 0} {played : P → Played} {spare : P → ℕ} {holds : Keeping} (f : Follow P) (line : List ℕ) → Between holds right.histories → IsFollowing played spare (group_with p n) [] f → line ≡ line_text k (group_line n (links_of f.links.links.items)) → drop r.length text ≡ line ++ drop (length line) (drop r.length text)
+        → IsRight played spare v p text n r (r.length + length line) f opened was was holds
     opened-right f line kept following is begins =
         let g : Group = group_with p n in
         let front : List Line = lines_of_groups p 0 right.histories in
@@ -217,10 +218,10 @@ module _ (v : Version) (p : Parts) (text : List ℕ) where
   -- ---- lines of entries
 
   -- they were followed by the set
-  pub followed-with : {n : ℕ} → {from : Progress} → {size : ℕ} → {f : Follow} → {opened was counters : List Counter} → {holds : Keeping} → (right : IsRight v p text n from size f opened was counters holds) → IsFollowingWith (position_at right) p f
+  pub followed-with : {P : Type 0} → {played : P → Played} → {spare : P → ℕ} → {n : ℕ} → {from : Progress} → {size : ℕ} → {f : Follow P} → {opened was counters : List Counter} → {holds : Keeping} → (right : IsRight played spare v p text n from size f opened was counters holds) → IsFollowingWith played spare (position_at right) p f
   followed-with right = record { following = right.following; setup_is = refl }
 
-  module _ (n : ℕ) (from : Progress) (size : ℕ) (f : Follow) (opened was counters : List Counter) {holds : Keeping} (right : IsRight v p text n from size f opened was counters holds) where
+  module _ {P : Type 0} {played : P → Played} {spare : P → ℕ} (n : ℕ) (from : Progress) (size : ℕ) (f : Follow P) (opened was counters : List Counter) {holds : Keeping} (right : IsRight played spare v p text n from size f opened was counters holds) where
     abbrev g : Group
     g = group_with p n
 
@@ -250,8 +251,8 @@ module _ (v : Version) (p : Parts) (text : List ℕ) where
     position-short = omega (arith, right.position_is, lines-short k front, size-is k text front size stands)
 
     -- the next entry is followed
-    pub taken-right : {later : Keeping} → (line : List ℕ) (e : Entry) (f' : Follow) (counters' : List Counter) → IsTaken (position_at right) v rest line e f'
-        → counters' ≡ map (counter_after (shown_as g f.count e (past_of g (es ++ e ∷ [])))) counters → later done (es ++ e ∷ []) → IsRight v p text n from (size + length line) f' opened was counters' later
+    pub taken-right : {later : Keeping} → (line : List ℕ) (e : Entry) (f' : Follow P) (counters' : List Counter) → IsTaken played spare (position_at right) v rest line e f'
+        → counters' ≡ map (counter_after (shown_as g f.count e (past_of g (es ++ e ∷ [])))) counters → later done (es ++ e ∷ []) → IsRight played spare v p text n from (size + length line) f' opened was counters' later
     taken-right line e f' counters' taken fed kept = record {
       before = right.before;
       entries = es ++ e ∷ [];
@@ -434,10 +435,11 @@ module _ (v : Version) (p : Parts) (text : List ℕ) where
         omega (arith, before, here, groups, low, right.before.count, right.before.entries_are, right.following.count_is)
 
     -- what comes of it
-    pub ended-there : (fd : Followed) → NoEntryBegins k rest → IsEndedAt (position_at right) k rest from f.count size fd → IsFollowedTo v p text n opened counters holds fd
+    pub ended-there : (fd : Followed) → NoEntryBegins k rest → IsEndedAt (position_at right) k rest from f.count size fd → IsFollowedBy played v p text n opened counters holds f.player fd
+    unfolding group-right
     ended-there fd other (unfinished left) = unfinished-there other left
     ended-there fd other (missing s over stood few) = missing-there s other over stood few
-    ended-there fd other (finished s over stood whole) = group-right s other over stood whole
+    ended-there fd other (finished s over stood whole) = record { kept = group-right s other over stood whole; has_played = right.following.at }
 
   -- ---- the line `end`
 

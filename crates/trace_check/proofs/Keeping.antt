@@ -1,5 +1,5 @@
 -- What is kept of the groups of a text.
-use Rattle.std.proofs.Common.{◌≡◌, ℕ, ◌+◌, ◌<◌, List, [], ◌∷◌, ◌++◌, length, sym, ap, subst, arith, length-append}
+use Rattle.std.proofs.Common.{◌≡◌, ℕ, ◌+◌, ◌<◌, List, [], ◌∷◌, ◌++◌, length, refl, sym, ap, subst, arith, length-append}
 use Rattle.rt_task.specs.declared.Parts.{Parts}
 use Rattle.rt_task.specs.Validity.{IsValid}
 use Rattle.rt_rules.specs.declared.history.Entry.{Entry}
@@ -16,8 +16,11 @@ use Rattle.trace_check.specs.declared.verdict.Verdict.TheVariants.{Valid, Invali
 use Rattle.trace_check.specs.Groups.{HasGroups}
 use Rattle.trace_check.specs.inside.GroupLines.{ArePlaysFrom}
 use Rattle.trace_check.specs.inside.Judging.{IsTextOfPlays}
-use Rattle.trace_check.specs.inside.Keeping.{BeforeLast, Between, CanClose, HasKept, IsKeptText, Keeping}
-use Rattle.trace_check.specs.inside.Progress.{AreKept}
+use Rattle.view_replay.specs.Players.{Played}
+use Rattle.trace_check.specs.Keeping.{Between, CanClose, HasKept, HasPlayed, IsKeptText, Keeping}
+use Rattle.trace_check.specs.declared.progress.Followed.{Followed}
+use Rattle.trace_check.specs.declared.progress.Followed.TheVariants.{Whole, Wrong}
+use Rattle.trace_check.specs.inside.Progress.{AreFollowedBy, AreKept, IsFollowedBy, IsFollowedTo}
 
 -- the last of plays is a play of the group with its number
 last-play : (p : Parts) (n : ℕ) (front : List (List Entry)) (es : List Entry)
@@ -28,30 +31,44 @@ last-play p n (xs ∷ front) es plays =
     subst (λ (m : ℕ). IsPlay (group_with p m) es) next (last-play p (n + 1) front es plays.1)
 
 module _ (v : Version) (p : Parts) (text : List ℕ) where
-  module _ (n : ℕ) (r : Progress) {opened counters : List Counter} {holds : Keeping} where
-    last-number : (kept : AreKept v p text (n + 1) r opened counters (BeforeLast holds)) → length kept.kept.front ≡ n
-    last-number kept = omega (arith, kept.right.count, ap length kept.kept.histories_are, length-append kept.kept.front (kept.kept.last ∷ []))
+  module _ {P : Type 0} {played : P → Played} (n : ℕ) (r : Progress) {opened counters : List Counter} {holds : Keeping} (player : P)
+      (by : AreFollowedBy played v p text n r opened counters holds player) where
+    abbrev front : List (List Entry)
+    front = by.kept.kept.front
+
+    abbrev last : List Entry
+    last = by.kept.kept.last
+
+    number : length front ≡ n
+    number = omega (arith, by.kept.right.count, ap length by.kept.kept.histories_are, length-append front (last ∷ []))
 
     -- the last group can be closed
-    pub can-close : IsValid p → n < group_count p → AreKept v p text (n + 1) r opened counters (BeforeLast holds) → CanClose holds p n
-    can-close valid low kept =
-        let play = last-play p 0 kept.kept.front kept.kept.last (subst (ArePlaysFrom p 0) kept.kept.histories_are kept.right.plays) in
-        let number : 0 + length kept.kept.front ≡ n = omega (arith, last-number kept) in
+    pub can-close : IsValid p → n < group_count p → CanClose played player holds p n
+    can-close valid low =
+        let play = last-play p 0 front last (subst (ArePlaysFrom p 0) by.kept.kept.histories_are by.kept.right.plays) in
+        let same : 0 + length front ≡ n = omega (arith, number) in
         record {
-          front = kept.kept.front;
-          last = kept.kept.last;
-          kept = kept.kept.kept;
-          number = last-number kept;
-          can = play-replays p valid n kept.kept.last low (subst (λ (m : ℕ). IsPlay (group_with p m) kept.kept.last) number play);
+          front = front;
+          last = last;
+          kept = by.kept.kept.kept;
+          number = number;
+          can = play-replays p valid n last low (subst (λ (m : ℕ). IsPlay (group_with p m) last) same play);
+          has_played = by.has_played;
         }
 
     -- and once it is closed, none is open
-    pub kept-closed : (later : Keeping) → AreKept v p text (n + 1) r opened counters (BeforeLast holds)
-        → ((hs : List (List Entry)) (es : List Entry) → holds hs es → length hs ≡ n → later (hs ++ es ∷ []) []) → AreKept v p text (n + 1) r opened counters (Between later)
-    kept-closed later kept closed = record {
-      right = kept.right;
-      kept = subst (Between later) (sym kept.kept.histories_are) (closed kept.kept.front kept.kept.last kept.kept.kept (last-number kept));
+    pub kept-closed : (later : Keeping) → ((hs : List (List Entry)) (es : List Entry) → holds hs es → length hs ≡ n → HasPlayed played player p n es → later (hs ++ es ∷ []) [])
+        → AreKept v p text (n + 1) r opened counters (Between later)
+    kept-closed later closed = record {
+      right = by.kept.right;
+      kept = subst (Between later) (sym by.kept.kept.histories_are) (closed front last by.kept.kept.kept number by.has_played);
     }
+
+  -- where it is not whole, none is to be closed
+  pub followed-wrong : {P : Type 0} (played : P → Played) (n : ℕ) (opened counters : List Counter) (holds : Keeping) (player : P) (followed : Followed)
+      → ((r : Progress) → followed ≡ Whole r → ⊥) → IsFollowedBy played v p text n opened counters holds player followed → IsFollowedTo v p text n opened counters holds followed
+  followed-wrong played n opened counters holds player (Whole r) none by = absurd (none r refl)
+  followed-wrong played n opened counters holds player (Wrong position) none by = by
 
 -- what is kept of its plays is kept of the text
 kept-of : (tools : List Tool) (v : Version) (p : Parts) (bytes : List ℕ) (holds : List (List Entry) → Type 0) (hs : List (List Entry)) (verdict : Verdict)

@@ -13,4 +13,3 @@ pub mod Keeping
 pub mod FirstLetters
 pub mod TextPositions
 pub mod RequestLaws
-pub mod Counting

@@ -196,7 +196,7 @@ pub(crate) fn follow_group<T: TraceTool, P: Player, K: Keeper<P>>(
         bus,
         keeper,
     )?;
-    if matches!(followed, Followed::Whole(_)) {
+    if let Followed::Whole(_) = followed {
         keeper.close(alloc, setup, group, follow.player())?;
     }
     Ok(followed)

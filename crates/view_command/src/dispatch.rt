@@ -1,5 +1,12 @@
 //! The top call: a view of a trace.
-ghost use Rattle.std.specs.Prelude.{◌≡◌, ◌≢◌, map, IfOk, Some};
+ghost use Rattle.std.specs.Prelude.{◌≡◌, ◌≢◌, map, Err, IfOk, List, Some};
+ghost use Rattle.rt_rules.specs.declared.history.Entry.{Entry};
+ghost use Rattle.chart_texts.specs.Charts.{pasts_from};
+ghost use Rattle.event_lines.specs.Shown.{group_tracks_shown};
+ghost use Rattle.event_lines.specs.TrackLaws.{tracks_of_groups};
+ghost use Rattle.trace_tools.specs.BusCounters.{counters};
+ghost use Rattle.trace_tools.specs.Counters.{counter_of};
+ghost use Rattle.trace_tools.specs.Tools.{Tool};
 ghost use Rattle.rt_task.specs.Validity.{IsValid};
 ghost use Rattle.trace_read.specs.Reads.{IsHeadOf};
 ghost use Rattle.trace_text.specs.Groups.{AreGroupsOf, histories};
@@ -13,6 +20,7 @@ ghost use Rattle.view_command.specs.Words as commands;
 use crate::ending::ViewEnd;
 use crate::views::View;
 use crate::words::view_of;
+use event_lines::{GroupTracks, event_text};
 use rt_base::NoMemory;
 use rt_fault::{Sink, Source, Status, put_all};
 use rt_task::Setup;
@@ -23,11 +31,12 @@ use trace_read::TraceHead;
 use trace_text::PlayedGroup;
 use trace_tools::{Bus, TraceTool};
 use view_charts::chart_text;
-use view_events::events_text;
+use view_events::check_tracks;
 use view_tables::table_text;
 use view_why::why_text;
 
-/// The text of a view of a setup and the histories of its groups; none where there is no such group or entry.
+/// The text of a view of a setup and the histories of its groups, but that of its trace events; none where there is no such group
+/// or entry.
 fn text_of(
     alloc: Global,
     view: View,
@@ -36,13 +45,14 @@ fn text_of(
 ) -> Result<Option<Vec<u8>>, NoMemory>
     requires groups { AreGroupsOf setup.now groups.now }
     requires fits { Fits view }
+    requires other { view ≢ View.Events }
     ensures { IfOk result (IsTextOf view setup.now (histories groups.now)) }
 {
     let text = match view {
         View::Table(table) => table_text(alloc, table, setup, groups)?,
         View::Entry(group, entry) => return why_text(alloc, group, entry, setup, groups),
         View::Chart(form, axis, window) => { chart_text(alloc, form, axis, window, setup, groups)? }
-        View::Events => events_text(alloc, setup, groups)?,
+        View::Events => unreachable!(),
     };
     Ok(Some(text))
 }
@@ -54,6 +64,75 @@ fn there(text: Result<Option<Vec<u8>>, NoMemory>) -> Result<Vec<u8>, ViewEnd>
     match text {
         Ok(Some(text)) => Ok(text),
         Ok(None) => Err(ViewEnd::NoSuchEntry),
+        Err(_) => Err(ViewEnd::Ended(Status::NoMemory)),
+    }
+}
+
+/// That this line of a trace is the first that is wrong.
+fn wrong(line: u32) -> Result<Vec<u8>, ViewEnd>
+    ensures { result ≡ Err (ViewEnd.Ended (Status.Invalid line)) }
+{
+    Err(ViewEnd::Ended(Status::Invalid(line)))
+}
+
+/// The text of a view, but that of its trace events, of the trace whose head was read of these bytes, where it is valid: its
+/// histories are played again.
+fn replayed<T: TraceTool>(
+    alloc: Global,
+    view: View,
+    bytes: &[u8],
+    head: &TraceHead,
+    bus: &mut Bus<T>,
+) -> Result<Vec<u8>, ViewEnd>
+    requires head { IsHeadOf bytes.now head.now }
+    requires valid { IsValid head.now.setup }
+    requires fits { Fits view }
+    requires other { view ≢ View.Events }
+    requires opened { (tools : List Tool) × (counters T.tool bus.old ≡ map counter_of tools) }
+    ensures { (tools : List Tool) → counters T.tool bus.old ≡ map counter_of tools
+        → IsViewed tools head.now.version head.now.setup bytes.now view result }
+{
+    match check_groups(alloc, bytes, head, bus) {
+        Ok((Verdict::Valid(_), groups)) => {
+            there(text_of(alloc, view, &head.setup, groups.as_slice()))
+        }
+        Ok((Verdict::Invalid(line), _)) => wrong(line),
+        Err(_) => Err(ViewEnd::Ended(Status::NoMemory)),
+    }
+}
+
+/// The text of the trace events that these tracks tell.
+fn text_of_tracks(
+    alloc: Global,
+    setup: &Setup,
+    tracks: &[GroupTracks],
+) -> Result<Option<Vec<u8>>, NoMemory>
+    ensures { IfOk result (λ o. (hs : List (List Entry))
+        → map group_tracks_shown tracks.now ≡ tracks_of_groups (pasts_from setup.now 0 hs)
+        → IsTextOf View.Events setup.now hs o) }
+{
+    let text = event_text(alloc, setup.parts(), tracks)?;
+    Ok(Some(text))
+}
+
+/// The text of the trace events of the trace whose head was read of these bytes, where it is valid: they are recorded while it is
+/// checked.
+fn recorded<T: TraceTool>(
+    alloc: Global,
+    bytes: &[u8],
+    head: &TraceHead,
+    bus: &mut Bus<T>,
+) -> Result<Vec<u8>, ViewEnd>
+    requires head { IsHeadOf bytes.now head.now }
+    requires valid { IsValid head.now.setup }
+    ensures { (tools : List Tool) → counters T.tool bus.old ≡ map counter_of tools
+        → IsViewed tools head.now.version head.now.setup bytes.now View.Events result }
+{
+    match check_tracks(alloc, bytes, head, bus) {
+        Ok((Verdict::Valid(_), tracks)) => {
+            there(text_of_tracks(alloc, &head.setup, tracks.as_slice()))
+        }
+        Ok((Verdict::Invalid(line), _)) => wrong(line),
         Err(_) => Err(ViewEnd::Ended(Status::NoMemory)),
     }
 }
@@ -75,12 +154,9 @@ fn text_in<T: TraceTool>(
     let Ok(mut bus) = Bus::open(alloc, tools) else {
         return Err(ViewEnd::Ended(Status::NoMemory));
     };
-    match check_groups(alloc, bytes, head, &mut bus) {
-        Ok((Verdict::Valid(_), groups)) => {
-            there(text_of(alloc, view, &head.setup, groups.as_slice()))
-        }
-        Ok((Verdict::Invalid(line), _)) => Err(ViewEnd::Ended(Status::Invalid(line))),
-        Err(_) => Err(ViewEnd::Ended(Status::NoMemory)),
+    match view {
+        View::Events => recorded(alloc, bytes, head, &mut bus),
+        _ => replayed(alloc, view, bytes, head, &mut bus),
     }
 }
 

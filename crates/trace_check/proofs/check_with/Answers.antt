@@ -10,7 +10,7 @@ use Rattle.trace_check.specs.declared.verdict.Checked.{Checked}
 use Rattle.trace_check.specs.Verdicts.{HasShown, IsVerdict}
 use Rattle.trace_check.specs.Counts.{HasCounts, IsCountedText}
 use Rattle.trace_check.specs.inside.Judging.{IsJudgedText, IsShownText}
-use Rattle.trace_check.specs.inside.Keeping.{Between, HasKept, IsKeptText}
+use Rattle.trace_check.specs.Keeping.{Between, HasKept, IsKeptText}
 use Rattle.trace_check.proofs.HeadText.{canonical-begins, canonical-head}
 use Rattle.trace_check.proofs.Judged.{not-canonical}
 use Rattle.trace_check.proofs.check_with.Goals as goal

@@ -11,7 +11,7 @@ use Rattle.trace_check.specs.declared.verdict.Verdict.{Verdict}
 use Rattle.trace_check.specs.declared.verdict.Verdict.TheVariants.{Valid, Invalid}
 use Rattle.trace_check.specs.LinesAlike.{lines_alike}
 use Rattle.trace_check.specs.Verdicts.{HasShown, IsVerdict}
-use Rattle.trace_check.specs.inside.Keeping.{HasKept}
+use Rattle.trace_check.specs.Keeping.{HasKept}
 
 -- the verdict is right of the bytes that have this text behind a head with the canonical set
 abbrev pub IsJudgedText : List Tool → Version → Parts → List ℕ → Verdict → Type 0

@@ -9,12 +9,12 @@ use Rattle.trace_check.proofs.RequestLaws.{stood-rest, stood-within, wanted-leng
 use Rattle.trace_check.proofs.group.ended_at.Goals as goal
 
 pub returns-then-not-is_over : goal.returns-then-not-is_over
-returns-then-not-is_over c = λ at fw.
+returns-then-not-is_over g c = λ at fw.
     subst (λ (n : ℕ). IsEndedAt at (known_of c.args.version c.args.setup.now) (drop c.args.size c.args.text.now) c.args.from c.args.follow.now.count c.args.size (Wrong (c.args.from.lines + 1 + n))) (sym c.count.ensures)
     (unfinished (c.is_over.ensures.not_over at fw c.if-not-is_over.true))
 
 pub overflow_add-result : goal.overflow_add-result
-overflow_add-result c =
+overflow_add-result g c =
     let k = known_of c.args.version c.args.setup.now in
     let lines = request_lines (tallies_of c.requests-requests.result.now) in
     let stood = stood-rest k lines c.args.size c.args.text.now c.in_ok-stood.stood c.in_ok-stood.ensures in
@@ -26,7 +26,7 @@ overflow_add-result c =
     search rules
 
 pub overflow_add-result-2 : goal.overflow_add-result-2
-overflow_add-result-2 c =
+overflow_add-result-2 g c =
     let k = known_of c.args.version c.args.setup.now in
     let lines = request_lines (tallies_of c.requests-requests.result.now) in
     let stood = stood-rest k lines c.args.size c.args.text.now c.in_ok-stood.stood c.in_ok-stood.ensures in
@@ -38,7 +38,7 @@ overflow_add-result-2 c =
     search rules
 
 pub overflow_add-result-4 : goal.overflow_add-result-4
-overflow_add-result-4 c =
+overflow_add-result-4 g c =
     let k = known_of c.args.version c.args.setup.now in
     let lines = request_lines (tallies_of c.requests-requests.result.now) in
     let stood = stood-rest k lines c.args.size c.args.text.now c.in_ok-stood.stood c.in_ok-stood.ensures in
@@ -46,7 +46,7 @@ overflow_add-result-4 c =
     search rules
 
 pub returns-then-stood-requests : goal.returns-then-stood-requests
-returns-then-stood-requests c = λ at fw.
+returns-then-stood-requests g c = λ at fw.
     let k = known_of c.args.version c.args.setup.now in
     let requests = c.requests-requests.result.now in
     let rest = drop c.args.size c.args.text.now in
@@ -57,7 +57,7 @@ returns-then-stood-requests c = λ at fw.
     (missing s (c.is_over.ensures.over at fw c.if-not-is_over.false) stood (omega (arith, c.if-stood-requests.true, ap length are, wanted-length requests)))
 
 pub returns : goal.returns
-returns c = λ at fw.
+returns g c = λ at fw.
     let k = known_of c.args.version c.args.setup.now in
     let requests = c.requests-requests.result.now in
     let rest = drop c.args.size c.args.text.now in

@@ -9,9 +9,9 @@ use Rattle.trace_check.proofs.group.follow_entries.Given as goal
 abbrev pub invariant-entries : goal.invariant-entries
 invariant-entries g l =
     (l.size ≤ length l.text)
-    × ((from : Progress) (opened was : List Counter) → IsRight l.version l.setup l.text l.fn.group.0 from l.initial.size l.initial.follow
+    × ((from : Progress) (opened was : List Counter) → IsRight g.P.Player.at g.P.Player.spare l.version l.setup l.text l.fn.group.0 from l.initial.size l.initial.follow
     opened was (counters g.T.TraceTool.tool l.initial.bus) (g.K.Keeper.holds l.initial.keeper l.setup)
-    → IsRight l.version l.setup l.text l.fn.group.0 from l.size l.follow opened was (counters g.T.TraceTool.tool l.bus) (g.K.Keeper.holds l.keeper l.setup))
+    → IsRight g.P.Player.at g.P.Player.spare l.version l.setup l.text l.fn.group.0 from l.size l.follow opened was (counters g.T.TraceTool.tool l.bus) (g.K.Keeper.holds l.keeper l.setup))
 
 abbrev pub decreases-entries : goal.decreases-entries
 decreases-entries g l = length l.text - l.size

@@ -8,8 +8,8 @@ use Rattle.trace_course.specs.Followed.{GroupEntries}
 use Rattle.trace_check.specs.declared.progress.Entries.{Entries}
 use Rattle.trace_check.specs.declared.progress.Followed.{Followed}
 use Rattle.trace_check.specs.inside.Following.{IsFollowingWith}
-use Rattle.trace_check.specs.inside.Keeping.{Between}
-use Rattle.trace_check.specs.inside.Progress.{AreFollowed, AreKept, HasStood, IsEndedAt, IsFollowedTo, IsRight}
+use Rattle.trace_check.specs.Keeping.{Between}
+use Rattle.trace_check.specs.inside.Progress.{AreFollowed, AreKept, HasStood, IsEndedAt, IsFollowedBy, IsRight}
 use Rattle.trace_check.proofs.Judging.{ended-there, entries-few, followed-with, group-low, opened-line, opened-right, opened-wrong, position-short, position_at, right-short}
 use Rattle.trace_check.proofs.TextPositions.{begins-rest, rest-of, taken-inside}
 use Rattle.trace_check.proofs.group.follow_lines.Goals as goal
@@ -47,7 +47,7 @@ follow_entries-requires g c =
       c.args.from,
       c.requires.before.0,
       first,
-      subst (λ (xs : List ℕ). IsRight v p text c.args.group.0 c.args.from (c.args.from.length + length xs) c.args.follow.now c.requires.before.0 first first (g.K.Keeper.holds c.args.keeper.now p)) (sym c.as_slice.ensures.value)
+      subst (λ (xs : List ℕ). IsRight g.P.Player.at g.P.Player.spare v p text c.args.group.0 c.args.from (c.args.from.length + length xs) c.args.follow.now c.requires.before.0 first first (g.K.Keeper.holds c.args.keeper.now p)) (sym c.as_slice.ensures.value)
           (opened-right v p text c.args.group.0 c.args.from c.requires.before.0 first c.requires.before.1.right c.args.follow.now c.begins.new.line.items c.requires.before.1.kept c.requires.opened stood.0
           (begins-rest c.args.from.length text _ _ refl stood.1)),
     )
@@ -63,9 +63,9 @@ ended_at-requires g c =
     let from = c.args.from in
     let l : Line = group_line n (links_of c.args.follow.now.links.links.items) in
     let stood = subst (λ (b : Bool). HasStood (known_of v p) l (take (length text - c.args.from.length) (drop c.args.from.length text)) c.begins.new.line.items b) c.if-not-branch.false c.in_ok-begins.ensures in
-    let begun = subst (λ (xs : List ℕ). IsRight v p text n from (from.length + length xs) c.args.follow.now c.requires.before.0 first first (g.K.Keeper.holds c.args.keeper.now p)) (sym c.as_slice.ensures.value)
+    let begun = subst (λ (xs : List ℕ). IsRight g.P.Player.at g.P.Player.spare v p text n from (from.length + length xs) c.args.follow.now c.requires.before.0 first first (g.K.Keeper.holds c.args.keeper.now p)) (sym c.as_slice.ensures.value)
     (opened-right v p text n from c.requires.before.0 first c.requires.before.1.right c.args.follow.now c.begins.new.line.items c.requires.before.1.kept c.requires.opened stood.0 (begins-rest from.length text _ _ refl stood.1)) in
-    let followed = subst (λ (e : Entries). AreFollowed v p text n from c.follow_entries.new.follow c.requires.before.0 first last (g.K.Keeper.holds c.follow_entries.new.keeper p) e) c.in-Right.is (c.in_ok-entries.ensures from c.requires.before.0 first begun) in
+    let followed = subst (λ (e : Entries). AreFollowed g.P.Player.at g.P.Player.spare v p text n from c.follow_entries.new.follow c.requires.before.0 first last (g.K.Keeper.holds c.follow_entries.new.keeper p) e) c.in-Right.is (c.in_ok-entries.ensures from c.requires.before.0 first begun) in
     record {
       follows = (position_at v p text followed.0, followed-with v p text followed.0);
       few = entries-few v p text n from c.in-Right.size c.follow_entries.new.follow c.requires.before.0 first last followed.0;
@@ -85,12 +85,12 @@ returns-in-Right g c =
     let l : Line = group_line n (links_of c.args.follow.now.links.links.items) in
     let stood = subst (λ (b : Bool). HasStood (known_of v p) l (take (length text - c.args.from.length) (drop c.args.from.length text)) c.begins.new.line.items b) c.if-not-branch.false c.in_ok-begins.ensures in
     IfOk-weaker c.ended_at.result
-    (λ (f : Followed). (at : GroupEntries) → IsFollowingWith at p c.follow_entries.new.follow → IsEndedAt at (known_of v p) (drop c.in-Right.size text) from c.follow_entries.new.follow.count c.in-Right.size f)
-    (λ (f : Followed). (opened : List Counter) → AreKept v p text n from opened first (Between (g.K.Keeper.holds c.args.keeper.now p)) → IsFollowedTo v p text n opened last (g.K.Keeper.holds c.follow_entries.new.keeper p) f)
+    (λ (f : Followed). (at : GroupEntries) → IsFollowingWith g.P.Player.at g.P.Player.spare at p c.follow_entries.new.follow → IsEndedAt at (known_of v p) (drop c.in-Right.size text) from c.follow_entries.new.follow.count c.in-Right.size f)
+    (λ (f : Followed). (opened : List Counter) → AreKept v p text n from opened first (Between (g.K.Keeper.holds c.args.keeper.now p)) → IsFollowedBy g.P.Player.at v p text n opened last (g.K.Keeper.holds c.follow_entries.new.keeper p) c.follow_entries.new.follow.player f)
     (λ f ended opened before.
-    let begun = subst (λ (xs : List ℕ). IsRight v p text n from (from.length + length xs) c.args.follow.now opened first first (g.K.Keeper.holds c.args.keeper.now p)) (sym c.as_slice.ensures.value)
+    let begun = subst (λ (xs : List ℕ). IsRight g.P.Player.at g.P.Player.spare v p text n from (from.length + length xs) c.args.follow.now opened first first (g.K.Keeper.holds c.args.keeper.now p)) (sym c.as_slice.ensures.value)
     (opened-right v p text n from opened first before.right c.args.follow.now c.begins.new.line.items before.kept c.requires.opened stood.0 (begins-rest from.length text _ _ refl stood.1)) in
-    let followed = subst (λ (e : Entries). AreFollowed v p text n from c.follow_entries.new.follow opened first last (g.K.Keeper.holds c.follow_entries.new.keeper p) e) c.in-Right.is (c.in_ok-entries.ensures from opened first begun) in
+    let followed = subst (λ (e : Entries). AreFollowed g.P.Player.at g.P.Player.spare v p text n from c.follow_entries.new.follow opened first last (g.K.Keeper.holds c.follow_entries.new.keeper p) e) c.in-Right.is (c.in_ok-entries.ensures from opened first begun) in
     ended-there v p text n from c.in-Right.size c.follow_entries.new.follow opened first last followed.0 f followed.1 (ended (position_at v p text followed.0) (followed-with v p text followed.0)))
     c.ended_at.ensures
 
@@ -105,9 +105,9 @@ returns-in-WrongAfter g c = λ opened before.
     let from = c.args.from in
     let l : Line = group_line n (links_of c.args.follow.now.links.links.items) in
     let stood = subst (λ (b : Bool). HasStood (known_of v p) l (take (length text - c.args.from.length) (drop c.args.from.length text)) c.begins.new.line.items b) c.if-not-branch.false c.in_ok-begins.ensures in
-    let begun = subst (λ (xs : List ℕ). IsRight v p text n from (from.length + length xs) c.args.follow.now opened first first (g.K.Keeper.holds c.args.keeper.now p)) (sym c.as_slice.ensures.value)
+    let begun = subst (λ (xs : List ℕ). IsRight g.P.Player.at g.P.Player.spare v p text n from (from.length + length xs) c.args.follow.now opened first first (g.K.Keeper.holds c.args.keeper.now p)) (sym c.as_slice.ensures.value)
     (opened-right v p text n from opened first before.right c.args.follow.now c.begins.new.line.items before.kept c.requires.opened stood.0 (begins-rest from.length text _ _ refl stood.1)) in
-    let followed = subst (λ (e : Entries). AreFollowed v p text n from c.follow_entries.new.follow opened first last (g.K.Keeper.holds c.follow_entries.new.keeper p) e) c.in-WrongAfter.is (c.in_ok-entries.ensures from opened first begun) in
+    let followed = subst (λ (e : Entries). AreFollowed g.P.Player.at g.P.Player.spare v p text n from c.follow_entries.new.follow opened first last (g.K.Keeper.holds c.follow_entries.new.keeper p) e) c.in-WrongAfter.is (c.in_ok-entries.ensures from opened first begun) in
     followed
 
 pub overflow_add-result : goal.overflow_add-result

@@ -1,4 +1,4 @@
-use Rattle.std.proofs.Common.{false, ◌≡◌, ◌+◌, ◌<◌, ℕ, List, map, sym, subst, arith}
+use Rattle.std.proofs.Common.{false, ◌≡◌, ◌+◌, ℕ, List, map, sym, subst, arith}
 use Rattle.std.proofs.lemmas.Result.{IfOk-weaker}
 use Rattle.rt_task.specs.declared.Parts.{Parts}
 use Rattle.rt_plays.specs.Plays.{group_count}
@@ -11,10 +11,10 @@ use Rattle.trace_check.specs.declared.verdict.Checked.{Checked}
 use Rattle.trace_check.specs.declared.verdict.Verdict.TheVariants.{Invalid}
 use Rattle.trace_check.specs.Counts.{IsCountedText}
 use Rattle.trace_check.specs.inside.Judging.{IsJudgedText, IsShownText, IsTextOfPlays}
-use Rattle.trace_check.specs.inside.Keeping.{Between, IsKeptText}
+use Rattle.trace_check.specs.Keeping.{Between, IsKeptText}
 use Rattle.trace_check.specs.inside.Progress.{AreAllRight, AreKept, AreRight, IsFollowedTo}
 use Rattle.trace_check.proofs.Judging.{right-first, right-short}
-use Rattle.trace_check.proofs.Keeping.{can-close, kept-closed, kept-text}
+use Rattle.trace_check.proofs.Keeping.{kept-text}
 use Rattle.trace_check.proofs.judge.judge_text.Goals as goal
 
 pub loop-n-init : goal.loop-n-init
@@ -77,28 +77,13 @@ returns-in-Wrong-clause-kept g c =
     (λ x is tools opened. subst (λ (y : Checked). IsKeptText tools v p text (Between holds) y.verdict) (sym is) (λ bytes head. tt))
     c.wrong.ensures
 
-pub close-requires : goal.close-requires
-close-requires g c =
-    let v = c.args.version in
-    let p = c.args.setup.now in
-    let text = c.args.text.now in
-    let first = counters g.T.TraceTool.tool c.args.bus.now in
-    let last = counters g.T.TraceTool.tool c.follow_group.new.bus in
-    let holds = g.K.Keeper.holds c.follow_group.new.keeper p in
-    let followed = subst (IsFollowedTo v p text c.loop-n.n first last holds) c.in-Whole.is (c.in_ok-further.ensures first c.loop-n.invariant) in
-    let low : c.loop-n.n < group_count p = omega (arith, c.loop-n-test.true, c.count_groups-n-end.ensures) in
-    can-close v p text c.loop-n.n c.in-Whole.further c.parts-parts.ensures.valid low followed
-
 pub loop-n-preserved : goal.loop-n-preserved
 loop-n-preserved g c =
-    let v = c.args.version in
     let p = c.args.setup.now in
-    let text = c.args.text.now in
     let first = counters g.T.TraceTool.tool c.args.bus.now in
     let last = counters g.T.TraceTool.tool c.follow_group.new.bus in
     let holds = g.K.Keeper.holds c.follow_group.new.keeper p in
-    let followed = subst (IsFollowedTo v p text c.loop-n.n first last holds) c.in-Whole.is (c.in_ok-further.ensures first c.loop-n.invariant) in
-    kept-closed v p text c.loop-n.n c.in-Whole.further (g.K.Keeper.holds c.close.new.self p) followed c.in_ok-close-in-Whole.ensures
+    subst (IsFollowedTo c.args.version p c.args.text.now c.loop-n.n first last holds) c.in-Whole.is (c.in_ok-further.ensures first c.loop-n.invariant)
 
 pub end_at-requires : goal.end_at-requires
 end_at-requires g c = record {

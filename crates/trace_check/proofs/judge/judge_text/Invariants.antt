@@ -1,5 +1,5 @@
 use Rattle.trace_tools.specs.BusCounters.{counters}
-use Rattle.trace_check.specs.inside.Keeping.{Between}
+use Rattle.trace_check.specs.Keeping.{Between}
 use Rattle.trace_check.specs.inside.Progress.{AreKept}
 use Rattle.trace_check.proofs.judge.judge_text.Given as goal
 

@@ -2,10 +2,10 @@ use Rattle.std.proofs.Common.{◌≡◌, ℕ, ◌+◌, List, [], ◌∷◌, ◌+
 use Rattle.rt_plays.specs.Groups.{GroupHistory}
 use Rattle.trace_laws.specs.PlayedGroups.{full_group}
 use Rattle.trace_laws.proofs.PlayedGroups.{groups-more}
-use Rattle.trace_check.proofs.keeper.GroupKeeperKeeper.close.Goals as goal
+use Rattle.trace_check.proofs.keeper.GroupKeeperKeeperReplay.close.Goals as goal
 
 pub returns : goal.returns
-returns c = λ hs es kept count.
+returns c = λ hs es kept count played.
     let p = c.args.setup.now in
     let n : ℕ = c.args.group.0 in
     let before = c.args.self.now.groups.items in
