@@ -29,7 +29,12 @@ impl Player for Recording {
 
     ghost spare = { λ r. spare r };
 
-    fn open(alloc: Global, setup: &Setup, group: GroupNo, room: u32) -> Result<Recording, NoMemory> {
+    fn open(
+        alloc: Global,
+        setup: &Setup,
+        group: GroupNo,
+        room: u32,
+    ) -> Result<Recording, NoMemory> {
         let parts = setup.parts();
         let set = GroupSet { parts, group };
         let tasks = tasks_of(alloc, &set)?;

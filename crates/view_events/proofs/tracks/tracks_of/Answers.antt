@@ -1,4 +1,4 @@
-use Rattle.std.proofs.Common.{◌∙◌, length, sym, ap, subst, arith, All}
+use Rattle.std.proofs.Common.{◌∙◌, sym, ap, subst, arith, All}
 use Rattle.std.proofs.lemmas.Result.{IfOk-weaker}
 use Rattle.rt_task.specs.declared.Parts.{Parts}
 use Rattle.rt_model.specs.Group.{Group}
