@@ -11,9 +11,9 @@ ghost use Rattle.view_acts.specs.ShownActs.{act_shown};
 ghost use Rattle.chart_cells.specs.Cells.{cpu_numbers, playing_shown};
 ghost use Rattle.chart_rows.specs.inside.Finding.{only};
 ghost use Rattle.chart_rows.specs.inside.Plays.{idly_run, played_shown};
-ghost use Rattle.chart_rows.specs.Listed.{tasks_listed};
+ghost use Rattle.chart_rows.specs.Listed.{cpus_listed, tasks_listed};
 ghost use Rattle.chart_rows.specs.Rows as rows;
-ghost use Rattle.chart_rows.specs.Units.{IsTold};
+ghost use Rattle.chart_rows.specs.Units.{IsTold, IsUnitOf};
 
 use crate::acting::{act_cpu, act_resv, act_task};
 use crate::cpus::CpuFeed;
@@ -74,16 +74,38 @@ pub(crate) fn act_tasks(
     Ok(())
 }
 
-/// An act for the rows of processors.
+/// Where the row of a processor stands, if it stands by its number: those of a group often follow each other.
+fn place_of(cpus: &[CpuFeed], cpu: CpuNo) -> usize {
+    match cpus.first() {
+        Some(first) => cpu.0.saturating_sub(first.cpu().0) as usize,
+        None => 0,
+    }
+}
+
+/// A unit of a processor, for the rows of processors that need not stand by number.
+fn act_each_cpu(cpus: &mut [CpuFeed], cpu: CpuNo, unit: &Unit)
+    ensures { (g : Group) (m : Moment) → cpu.0 ≡ m.act.cpu → IsUnitOf g m unit.now
+        → cpus.new ≡ map (rows.cpu_acted g m) cpus.old }
+{
+    for row in cpus.iter_mut() {
+        act_cpu(row, cpu, unit);
+    }
+}
+
+/// An act for the rows of processors: of a unit that of its processor alone changes.
 pub(crate) fn act_cpus(cpus: &mut [CpuFeed], cpu: CpuNo, unit: &Option<Unit>)
-    ensures { (g : Group) (m : Moment) → cpu.0 ≡ m.act.cpu → IsTold g m unit.now
+    ensures { (g : Group) (m : Moment) → IsDistinct (cpus_listed cpus.old)
+        → cpu.0 ≡ m.act.cpu → IsTold g m unit.now
         → cpus.new ≡ map (rows.cpu_acted g m) cpus.old }
 {
     let Some(done) = unit else {
         return;
     };
-    for row in cpus.iter_mut() {
-        act_cpu(row, cpu, done);
+    let place = place_of(cpus, cpu);
+    if place < cpus.len() && cpus[place].cpu() == cpu {
+        act_cpu(&mut cpus[place], cpu, done);
+    } else {
+        act_each_cpu(cpus, cpu, done);
     }
 }
 
