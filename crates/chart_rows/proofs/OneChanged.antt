@@ -5,6 +5,11 @@ use Rattle.rt_rules.specs.Distinct.{IsDistinct}
 use Rattle.rt_rules.specs.Numbers.{has}
 use Rattle.rt_rules.proofs.BoolLaws.{clash, neither}
 
+-- where each stays all do
+pub all-stay : {A : Type 0} (f : A → A) → ((x : A) → f x ≡ x) → (xs : List A) → map f xs ≡ xs
+all-stay f stays [] = refl
+all-stay f stays (x ∷ xs) = λ i. stays x i ∷ all-stay f stays xs i
+
 module _ {A : Type 0} (number : A → ℕ) where
   pub absent : (n : ℕ) (xs : List A) → has n (map number xs) ≡ false → All (λ x. (number x == n) ≡ false) xs
   absent n [] h j d low = absurd (omega arith)

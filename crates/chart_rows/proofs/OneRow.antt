@@ -10,9 +10,12 @@ use Rattle.rt_rules.proofs.BoolLaws.{and_false}
 use Rattle.rt_model.specs.Group.{Group}
 use Rattle.trace_views.specs.Moments.{Moment, is_unit}
 use Rattle.chart_rows.specs.Listed.{tasks_listed}
-use Rattle.chart_rows.specs.Rows.{CpuKept, TaskKept, cpu_acted, task_acted}
+use Rattle.chart_rows.specs.Units.{IsTold}
+use Rattle.chart_rows.specs.declared.units.Unit.{Unit}
+use Rattle.chart_rows.specs.Rows.{CpuKept, TaskKept, cpu_acted}
+use Rattle.chart_rows.specs.inside.Acted.{task_done, task_worked}
 use Rattle.chart_rows.specs.inside.Finding.{IsPositionOf, only}
-use Rattle.chart_rows.proofs.OneChanged.{none-changed, one-changed}
+use Rattle.chart_rows.proofs.OneChanged.{all-stay, none-changed, one-changed}
 
 -- ---- of one task
 
@@ -105,12 +108,31 @@ pub no-position : (t : ℕ) (ks : List TaskKept) (o : Option ℕ) → IsPosition
 no-position t ks None at h = at
 no-position t ks (Some i) at h = absurd (h i refl)
 
--- ---- an act leaves the rows of other tasks
+-- ---- a unit leaves the rows of other tasks and processors, and the end of a job those of other tasks
 
-pub acted-stays : (g : Group) (m : Moment) (k : TaskKept) → is k.task m.act.task ≡ false → is k.task m.act.ended ≡ false → task_acted g m k ≡ k
-acted-stays g m k other ended = let none : is_unit m && is k.task m.act.task ≡ false = rw (other, and_false (is_unit m)) refl in rw (none, ended) refl
+-- where none was told there is none
+no-unit : (g : Group) (m : Moment) (o : Option Unit) → ((u : Unit) → o ≢ Some u) → IsTold g m o → is_unit m ≡ false
+no-unit g m None h told = told
+no-unit g m (Some u) h told = absurd (h u refl)
 
--- and its unit those of other processors
+pub none-worked : (g : Group) (m : Moment) (o : Option Unit) → ((u : Unit) → o ≢ Some u) → IsTold g m o → (ks : List TaskKept) → map (task_worked g m) ks ≡ ks
+none-worked g m o h told = let none = no-unit g m o h told in all-stay (task_worked g m) (λ k. rw none refl)
+
+pub none-acted : (g : Group) (m : Moment) (o : Option Unit) → ((u : Unit) → o ≢ Some u) → IsTold g m o → (ks : List CpuKept) → map (cpu_acted g m) ks ≡ ks
+none-acted g m o h told = let none = no-unit g m o h told in all-stay (cpu_acted g m) (λ k. rw none refl)
+
+pub none-done : (m : Moment) → m.act.ended ≡ None → (ks : List TaskKept) → map (task_done m) ks ≡ ks
+none-done m none = all-stay (task_done m) (λ k. rw none refl)
+
+pub worked-stays : (g : Group) (m : Moment) (t : ℕ) → m.act.task ≡ Some t → (k : TaskKept) → (k.task == t) ≡ false → task_worked g m k ≡ k
+worked-stays g m t own k other = let none : is_unit m && is k.task m.act.task ≡ false = rw (own, other, and_false (is_unit m)) refl in rw none refl
+
+pub done-stays : (m : Moment) (t : ℕ) → m.act.ended ≡ Some t → (k : TaskKept) → (k.task == t) ≡ false → task_done m k ≡ k
+done-stays m t own k other = rw (own, other) refl
+
+pub done-own : (m : Moment) (t : ℕ) → m.act.ended ≡ Some t → (k : TaskKept) → k.task ≡ t → task_done m k ≡ record k { end = true }
+done-own m t own k is = let here : (k.task == t) ≡ true = grind (arith, nat_tests) in rw (own, here) refl
+
 pub unit-stays : (g : Group) (m : Moment) (k : CpuKept) → (k.cpu == m.act.cpu) ≡ false → cpu_acted g m k ≡ k
 unit-stays g m k other = let none : is_unit m && m.act.cpu == k.cpu ≡ false = rw (apart-back, and_false (is_unit m)) refl in rw none refl
   where

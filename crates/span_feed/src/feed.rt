@@ -23,7 +23,7 @@ ghost use Rattle.span_feed.specs.Spanned.{unmarked};
 
 use crate::opening::{cpu_tracks, resv_tracks, task_tracks};
 use crate::taking::take_column;
-use chart_rows::{Rows, Unit, foretell, told};
+use chart_rows::{Rows, Unit, foretell, keep_if_done};
 use event_lines::GroupTracks;
 use rank_afresh::Afresh;
 use rt_base::{CpuNo, GroupNo, NoMemory, ResvNo, TaskNo, Tick};
@@ -176,26 +176,26 @@ impl SpanFeed {
         foretell(alloc, parts, afresh, self.rows.resvs.as_slice(), cpu, act)
     }
 
-    /// Takes an act, the unit that it was foretold to be, and the state after it.
+    /// Takes an act, the unit that it was foretold to be, which is used up, and the state after it.
     pub fn act(
         &mut self,
         alloc: Global,
         afresh: &Afresh,
         act: &ShownAct,
-        unit: Option<Unit>,
+        unit: &mut Option<Unit>,
     ) -> Result<(), NoMemory>
         requires acted { (past : Past) × IsAt afresh.now (Acted (act_shown act.now) ∷ past)
             × IsForetold (group_of afresh.now)
-            (record { act = act_shown act.now; before = past }) unit
+            (record { act = act_shown act.now; before = past }) unit.old
             × IsFed (group_of afresh.now) past self.old }
         ensures { OnOk result ((past : Past) → IsAt afresh.now (Acted (act_shown act.now) ∷ past)
             → IsForetold (group_of afresh.now)
-            (record { act = act_shown act.now; before = past }) unit
+            (record { act = act_shown act.now; before = past }) unit.old
             → IsFed (group_of afresh.now) past self.old
             → IsFed (group_of afresh.now) (Acted (act_shown act.now) ∷ past) self.new) }
     {
-        let unit = told(unit, act);
-        self.rows.act(alloc, act, &unit)?;
+        keep_if_done(unit, act);
+        self.rows.act(alloc, act, unit)?;
         self.rows.see_after(alloc, afresh, act)
     }
 
