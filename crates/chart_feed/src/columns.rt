@@ -200,12 +200,12 @@ fn put_act(
     axis: Axis,
     afresh: &Afresh,
     act: &ShownAct,
-    unit: &Option<Unit>,
+    unit: &mut Option<Unit>,
 ) -> Result<(), NoMemory>
     requires { (window : windows.Window) × (past : Past)
-        × CanAct afresh.now axis window past (act_shown act.now) true unit.now rows.old }
+        × CanAct afresh.now axis window past (act_shown act.now) true unit.old rows.old }
     ensures { OnOk result ((window : windows.Window) (past : Past)
-        → CanAct afresh.now axis window past (act_shown act.now) true unit.now rows.old
+        → CanAct afresh.now axis window past (act_shown act.now) true unit.old rows.old
         → rows.new ≡ rows_of (group_of afresh.now)
         (closed axis window (Acted (act_shown act.now) ∷ past))
         (open_at axis window (Acted (act_shown act.now) ∷ past))) }
@@ -226,12 +226,12 @@ pub(crate) fn take_act(
     afresh: &Afresh,
     inside: bool,
     act: &ShownAct,
-    unit: &Option<Unit>,
+    unit: &mut Option<Unit>,
 ) -> Result<(), NoMemory>
     requires { (window : windows.Window) × (past : Past)
-        × CanAct afresh.now axis window past (act_shown act.now) inside unit.now rows.old }
+        × CanAct afresh.now axis window past (act_shown act.now) inside unit.old rows.old }
     ensures { OnOk result ((window : windows.Window) (past : Past)
-        → CanAct afresh.now axis window past (act_shown act.now) inside unit.now rows.old
+        → CanAct afresh.now axis window past (act_shown act.now) inside unit.old rows.old
         → rows.new ≡ rows_of (group_of afresh.now)
         (closed axis window (Acted (act_shown act.now) ∷ past))
         (open_at axis window (Acted (act_shown act.now) ∷ past))) }

@@ -26,7 +26,7 @@ use crate::entry_clocks::{EntryClocks, is_before, is_in};
 use crate::panel::panel_with;
 use crate::window_columns::columns_of;
 use chart_cells::Panel;
-use chart_rows::{ResvFeed, Rows, Unit, foretell, told};
+use chart_rows::{ResvFeed, Rows, Unit, foretell, keep_if_done};
 use chart_texts::{Axis, Window};
 use rank_afresh::Afresh;
 use rt_base::{CpuNo, GroupNo, NoMemory, ResvNo, TaskNo, Tick};
@@ -191,26 +191,26 @@ impl Feed {
         foretell(alloc, parts, afresh, resvs_of(&self.rows), cpu, act)
     }
 
-    /// Takes an act, the unit that it was foretold to be, and the state after it, whose clock is this one.
+    /// Takes an act, the unit that it was foretold to be, which is used up, and the state after it, whose clock is this one.
     pub fn act(
         &mut self,
         alloc: Global,
         afresh: &Afresh,
         clock: Tick,
         act: &ShownAct,
-        unit: Option<Unit>,
+        unit: &mut Option<Unit>,
     ) -> Result<(), NoMemory>
         requires clock { clock.0 < TICK_END }
         requires acted { (axis : axes.Axis) × (window : windows.Window) × (past : Past) × (tick : ℕ)
-            × IsActed axis window afresh.now clock.0 (act_shown act.now) tick past unit self.old }
+            × IsActed axis window afresh.now clock.0 (act_shown act.now) tick past unit.old self.old }
         ensures { OnOk result ((axis : axes.Axis) (window : windows.Window) (past : Past) (tick : ℕ)
-            → IsActed axis window afresh.now clock.0 (act_shown act.now) tick past unit self.old
+            → IsActed axis window afresh.now clock.0 (act_shown act.now) tick past unit.old self.old
             → IsFed axis window (group_of afresh.now)
             (Acted (act_shown act.now) ∷ Clock tick ∷ past) self.new) }
     {
         let inside = self.is_inside(clock);
-        let unit = told(unit, act);
-        take_act(&mut self.rows, alloc, self.axis, afresh, inside, act, &unit)?;
+        keep_if_done(unit, act);
+        take_act(&mut self.rows, alloc, self.axis, afresh, inside, act, unit)?;
         note_act(self.tasks.as_mut_slice(), clock.0, act)?;
         self.entries.note(self.window, clock.0)
     }

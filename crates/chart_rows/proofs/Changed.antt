@@ -1,19 +1,16 @@
 -- Rows that are changed one after the other.
-use Rattle.std.proofs.Common.{Bool, true, false, append-nil, ◌≡◌, ◌≢◌, ◌∙◌, ℕ, zero, suc, ◌+◌, ◌<◌, ◌≤◌, List, [], ◌∷◌, ◌++◌, length, map, take, drop, get_or, set, refl, sym, ap, subst, arith, All}
-use Rattle.std.specs.Prelude.{filter, Option, None, Some, if◌then◌else◌}
+use Rattle.std.proofs.Common.{Bool, true, false, append-nil, ◌≡◌, ◌∙◌, ℕ, zero, suc, ◌+◌, ◌<◌, ◌≤◌, List, [], ◌∷◌, ◌++◌, length, map, take, drop, get_or, set, refl, sym, ap, subst, arith, All}
+use Rattle.std.specs.Prelude.{filter, if◌then◌else◌}
 use Rattle.std.proofs.lemmas.List.{map-append, take_more}
 use Rattle.std.proofs.lemmas.List.Edits.{map_over_more}
 use Rattle.std.proofs.lemmas.List.Elements.{filter-append}
 use Rattle.rt_base.specs.declared.CpuNo.{CpuNo}
 use Rattle.rt_model.specs.Group.{Group}
 use Rattle.trace_views.specs.Cells.{runs_no_unit}
-use Rattle.trace_views.specs.Moments.{Moment}
 use Rattle.chart_cells.specs.Cells.{cpu_numbers, playing_shown}
 use Rattle.chart_rows.specs.declared.loops.Played.{Played}
 use Rattle.chart_rows.specs.inside.Plays.{played_shown}
 use Rattle.chart_rows.specs.Rows as rows
-use Rattle.chart_rows.specs.Units.{IsTold}
-use Rattle.chart_rows.specs.declared.units.Unit.{Unit}
 
 -- the first n are changed
 abbrev pub changed : {A : Type 0} → (A → A) → ℕ → List A → List A
@@ -40,15 +37,6 @@ changed-at f xs ys i x low is read = read ∙ ap (λ zs. get_or zs i x) is ∙ b
 -- what holds of each of them holds of those behind
 pub changed-all-at : {A : Type 0} (P : A → Type 0) (f : A → A) (xs ys : List A) (i : ℕ) (x : A) → All P xs → i < length xs → ys ≡ changed f i xs → x ≡ get_or ys i x → P (get_or ys i x)
 changed-all-at P f xs ys i x all low is read = subst P (sym (changed-at f xs ys i x low is read) ∙ read) (all i x low)
-
--- without a unit no processor's is
-pub none-acted : (g : Group) (m : Moment) (o : Option Unit) → ((u : Unit) → o ≢ Some u) → IsTold g m o → (ks : List rows.CpuKept) → ks ≡ map (rows.cpu_acted g m) ks
-none-acted g m (Some u) h told ks = absurd (h u refl)
-none-acted g m None h told [] = refl
-none-acted g m None h told (k ∷ ks) = λ i. here i ∷ none-acted g m None h told ks i
-  where
-    here : k ≡ rows.cpu_acted g m k
-    here = rw told refl
 
 -- ---- those that run a task, among the first
 

@@ -6,6 +6,7 @@ pub mod Foretelling
 pub mod Waits
 pub mod Ranks
 pub mod UpTo
+mod OneChanged
 mod OneRow
 mod Finishing
 pub mod TickLaws

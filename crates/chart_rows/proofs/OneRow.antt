@@ -1,17 +1,21 @@
--- One row is changed among those of all.
-use Rattle.std.proofs.Common.{◌≡◌, ◌≢◌, ◌∙◌, ℕ, zero, suc, ◌<◌, ◌==◌, ◌&&◌, ◌||◌, Bool, true, false, List, [], ◌∷◌, length, map, get_or, set, refl, sym, ap, subst, arith, All}
+-- The row of a task is changed among those of all.
+use Rattle.std.proofs.Common.{◌≡◌, ◌≢◌, ◌∙◌, ℕ, zero, suc, ◌<◌, ◌==◌, ◌&&◌, Bool, true, false, List, [], ◌∷◌, length, map, get_or, set, refl, sym, ap, subst, arith, All}
 use Rattle.std.specs.Prelude.{Option, None, Some, if◌then◌else◌}
 use Rattle.std.proofs.lemmas.Bool.Decides.{nat_tests}
 use Rattle.rt_base.specs.TaskNos.{number_of_task}
 use Rattle.rt_base.specs.declared.TaskNo.{TaskNo}
 use Rattle.rt_rules.specs.Distinct.{IsDistinct}
-use Rattle.rt_rules.specs.Numbers.{has, is}
-use Rattle.rt_rules.proofs.BoolLaws.{and_false, clash, neither}
+use Rattle.rt_rules.specs.Numbers.{is}
+use Rattle.rt_rules.proofs.BoolLaws.{and_false}
 use Rattle.rt_model.specs.Group.{Group}
 use Rattle.trace_views.specs.Moments.{Moment, is_unit}
 use Rattle.chart_rows.specs.Listed.{tasks_listed}
-use Rattle.chart_rows.specs.Rows.{TaskKept, task_acted}
+use Rattle.chart_rows.specs.Units.{IsTold}
+use Rattle.chart_rows.specs.declared.units.Unit.{Unit}
+use Rattle.chart_rows.specs.Rows.{CpuKept, TaskKept, cpu_acted}
+use Rattle.chart_rows.specs.inside.Acted.{task_done, task_worked}
 use Rattle.chart_rows.specs.inside.Finding.{IsPositionOf, only}
+use Rattle.chart_rows.proofs.OneChanged.{all-stay, none-changed, one-changed}
 
 -- ---- of one task
 
@@ -20,50 +24,21 @@ pub only-none : (f : TaskKept → TaskKept) (ks : List TaskKept) → map (only N
 only-none f [] = refl
 only-none f (k ∷ ks) = ap (λ xs. k ∷ xs) (only-none f ks)
 
--- nor is one where none is the task's
+-- a row of another task stays
+others : (t : ℕ) (f : TaskKept → TaskKept) (k : TaskKept) → (k.task == t) ≡ false → only (Some t) f k ≡ k
+others t f k other = rw other refl
+
+-- where none is the task's none is changed
 pub only-absent : (t : ℕ) (f : TaskKept → TaskKept) (ks : List TaskKept) → IsPositionOf t ks None → map (only (Some t) f) ks ≡ ks
-only-absent t f [] h = refl
-only-absent t f (k ∷ ks) h = λ i. first i ∷ only-absent t f ks (λ j d low. h (suc j) d (omega arith)) i
-  where
-    first : only (Some t) f k ≡ k
-    first = let other = h 0 k (omega arith) in rw other refl
-
-absent : (t : ℕ) (ks : List TaskKept) → has t (tasks_listed ks) ≡ false → IsPositionOf t ks None
-absent t [] h j d low = absurd (omega arith)
-absent t (k ∷ ks) h zero d low = let other = (neither (t == k.task) (has t (tasks_listed ks)) h).0 in grind (arith, nat_tests)
-absent t (k ∷ ks) h (suc j) d low = absent t ks (neither (t == k.task) (has t (tasks_listed ks)) h).1 j d (omega arith)
-
-listed-at : (t : ℕ) (ks : List TaskKept) (i : ℕ) (d : TaskKept) → i < length ks → (get_or ks i d).task ≡ t → has t (tasks_listed ks) ≡ true
-listed-at t [] i d low is = absurd (omega arith)
-listed-at t (k ∷ ks) zero d low is = let here : (t == k.task) ≡ true = grind (arith, nat_tests) in rw here refl
-listed-at t (k ∷ ks) (suc i) d low is = by_case (t == k.task) (listed-at t ks i d (omega arith) is)
-  where
-    by_case : (b : Bool) → has t (tasks_listed ks) ≡ true → (b || has t (tasks_listed ks)) ≡ true
-    by_case true h = refl
-    by_case false h = h
+only-absent t f ks h = none-changed (λ (k : TaskKept). k.task) (only (Some t) f) t (others t f) ks h
 
 -- the row in the task's position is, and no other
 pub only-position : (t : ℕ) (f : TaskKept → TaskKept) (ks : List TaskKept) (i : ℕ) (d : TaskKept) → IsDistinct (tasks_listed ks) → i < length ks → (get_or ks i d).task ≡ t
     → set ks i (f (get_or ks i d)) ≡ map (only (Some t) f) ks
-only-position t f [] i d once low is = absurd (omega arith)
-only-position t f (k ∷ ks) zero d once low is = λ j. here j ∷ sym (only-absent t f ks (absent t ks (subst (λ n. has n (tasks_listed ks) ≡ false) is once.0))) j
+only-position t f ks i d once low is = ap (set ks i) here ∙ one-changed (λ (k : TaskKept). k.task) (only (Some t) f) t (others t f) ks i d once low is
   where
-    here : f k ≡ only (Some t) f k
-    here = let same : (k.task == t) ≡ true = grind (arith, nat_tests) in rw same refl
-only-position t f (k ∷ ks) (suc i) d once low is = λ j. here j ∷ only-position t f ks i d once.1 (omega arith) is j
-  where
-    apart : (n : ℕ) → n ≡ t → has n (tasks_listed ks) ≡ true
-    apart n same = subst (λ u. has u (tasks_listed ks) ≡ true) (sym same) (listed-at t ks i d (omega arith) is)
-
-    other : (k.task == t) ≡ false
-    other = by_case (k.task == t) refl
-      where
-        by_case : (b : Bool) → (k.task == t) ≡ b → b ≡ false
-        by_case false h = refl
-        by_case true h = let same : k.task ≡ t = grind (arith, nat_tests) in absurd (clash _ (apart k.task same) once.0)
-
-    here : k ≡ only (Some t) f k
-    here = rw other refl
+    here : f (get_or ks i d) ≡ only (Some t) f (get_or ks i d)
+    here = let same : ((get_or ks i d).task == t) ≡ true = grind (arith, nat_tests) in rw same refl
 
 -- ---- of two
 
@@ -133,7 +108,33 @@ pub no-position : (t : ℕ) (ks : List TaskKept) (o : Option ℕ) → IsPosition
 no-position t ks None at h = at
 no-position t ks (Some i) at h = absurd (h i refl)
 
--- ---- an act leaves the rows of other tasks
+-- ---- a unit leaves the rows of other tasks and processors, and the end of a job those of other tasks
 
-pub acted-stays : (g : Group) (m : Moment) (k : TaskKept) → is k.task m.act.task ≡ false → is k.task m.act.ended ≡ false → task_acted g m k ≡ k
-acted-stays g m k other ended = let none : is_unit m && is k.task m.act.task ≡ false = rw (other, and_false (is_unit m)) refl in rw (none, ended) refl
+-- where none was told there is none
+no-unit : (g : Group) (m : Moment) (o : Option Unit) → ((u : Unit) → o ≢ Some u) → IsTold g m o → is_unit m ≡ false
+no-unit g m None h told = told
+no-unit g m (Some u) h told = absurd (h u refl)
+
+pub none-worked : (g : Group) (m : Moment) (o : Option Unit) → ((u : Unit) → o ≢ Some u) → IsTold g m o → (ks : List TaskKept) → map (task_worked g m) ks ≡ ks
+none-worked g m o h told = let none = no-unit g m o h told in all-stay (task_worked g m) (λ k. rw none refl)
+
+pub none-acted : (g : Group) (m : Moment) (o : Option Unit) → ((u : Unit) → o ≢ Some u) → IsTold g m o → (ks : List CpuKept) → map (cpu_acted g m) ks ≡ ks
+none-acted g m o h told = let none = no-unit g m o h told in all-stay (cpu_acted g m) (λ k. rw none refl)
+
+pub none-done : (m : Moment) → m.act.ended ≡ None → (ks : List TaskKept) → map (task_done m) ks ≡ ks
+none-done m none = all-stay (task_done m) (λ k. rw none refl)
+
+pub worked-stays : (g : Group) (m : Moment) (t : ℕ) → m.act.task ≡ Some t → (k : TaskKept) → (k.task == t) ≡ false → task_worked g m k ≡ k
+worked-stays g m t own k other = let none : is_unit m && is k.task m.act.task ≡ false = rw (own, other, and_false (is_unit m)) refl in rw none refl
+
+pub done-stays : (m : Moment) (t : ℕ) → m.act.ended ≡ Some t → (k : TaskKept) → (k.task == t) ≡ false → task_done m k ≡ k
+done-stays m t own k other = rw (own, other) refl
+
+pub done-own : (m : Moment) (t : ℕ) → m.act.ended ≡ Some t → (k : TaskKept) → k.task ≡ t → task_done m k ≡ record k { end = true }
+done-own m t own k is = let here : (k.task == t) ≡ true = grind (arith, nat_tests) in rw (own, here) refl
+
+pub unit-stays : (g : Group) (m : Moment) (k : CpuKept) → (k.cpu == m.act.cpu) ≡ false → cpu_acted g m k ≡ k
+unit-stays g m k other = let none : is_unit m && m.act.cpu == k.cpu ≡ false = rw (apart-back, and_false (is_unit m)) refl in rw none refl
+  where
+    apart-back : (m.act.cpu == k.cpu) ≡ false
+    apart-back = grind (arith, nat_tests)

@@ -9,8 +9,9 @@ use Rattle.rt_rules.proofs.MemberLaws.{equal_self, has-filter}
 use Rattle.rt_rules.proofs.NumberLaws.{distinct-numbers_from, has-numbers_from, numbers_from-below}
 use Rattle.rt_rules.proofs.PlacingLaws.{distinct-filter}
 use Rattle.rt_model.specs.Group.{Group, group_processors, in_group, resv, tasks}
+use Rattle.rt_plays.proofs.ProcessorLaws.{processors-distinct}
 use Rattle.chart_texts.specs.Charts.{group_resvs}
-use Rattle.chart_rows.specs.Listed.{AreListed, tasks_listed}
+use Rattle.chart_rows.specs.Listed.{AreListed, cpus_listed, tasks_listed}
 use Rattle.chart_rows.specs.Rows.{CpuKept, ResvKept, RowsKept, TaskKept, cpu_kept, resv_kept, resvs_listed, rows_of, task_kept}
 use Rattle.chart_rows.specs.Strips.{Strip}
 
@@ -40,6 +41,10 @@ module _ (g : Group) (ss : List Strip) (s : Strip) (v : RowsKept) (is : v ≡ ro
   unfolding rows_of
   cpus-listed = subst (λ (w : RowsKept). All (λ (k : CpuKept). has k.cpu (group_processors g) ≡ true) w.cpus) (sym is) (all-of (cpu_kept g ss s) (λ (k : CpuKept). k.cpu) (λ t. refl) (group_processors g) (group_processors g) (λ t h. h))
 
+  pub cpus-listed-once : IsDistinct (cpus_listed v.cpus)
+  unfolding rows_of
+  cpus-listed-once = subst IsDistinct (sym (ap (λ (w : RowsKept). cpus_listed w.cpus) is ∙ numbers-of (cpu_kept g ss s) (λ (k : CpuKept). k.cpu) (λ q. refl) (group_processors g))) (processors-distinct g)
+
   pub resvs-listed : All (λ (k : ResvKept). has k.resv (group_resvs g) ≡ true) v.resvs
   unfolding rows_of
   resvs-listed = subst (λ (w : RowsKept). All (λ (k : ResvKept). has k.resv (group_resvs g) ≡ true) w.resvs) (sym is) (all-of (resv_kept g ss s) (λ (k : ResvKept). k.resv) (λ t. refl) (group_resvs g) (group_resvs g) (λ t h. h))
@@ -65,7 +70,13 @@ mapped-more shown f xs i d old new p low before is made =
 
 -- they are listed
 pub rows-listed : (g : Group) (ss : List Strip) (s : Strip) (v : RowsKept) → v ≡ rows_of g ss s → AreListed g v
-rows-listed g ss s v is = record { tasks_are = tasks-listed g ss s v is; once = listed-once g ss s v is; cpus_are = cpus-listed g ss s v is; resvs_are = resvs-listed g ss s v is }
+rows-listed g ss s v is = record {
+  tasks_are = tasks-listed g ss s v is;
+  once = listed-once g ss s v is;
+  cpus_are = cpus-listed g ss s v is;
+  cpus_once = cpus-listed-once g ss s v is;
+  resvs_are = resvs-listed g ss s v is;
+}
 
 pub resvs-of : (g : Group) (ss : List Strip) (s : Strip) (v : RowsKept) → v ≡ rows_of g ss s → resvs_listed v.resvs ≡ group_resvs g
 unfolding rows_of

@@ -1,64 +1,37 @@
 //! What an act makes of the rows.
-ghost use Rattle.std.specs.Prelude.{◌≡◌, ◌&&◌, All, OnOk, map, true, if◌then◌else◌};
+ghost use Rattle.std.specs.Prelude.{◌≡◌, OnOk, true};
 ghost use Rattle.rt_base.specs.TaskNos.{number_of_task};
-ghost use Rattle.rt_rules.specs.Numbers.{has, is};
+ghost use Rattle.rt_rules.specs.Numbers.{has};
 ghost use Rattle.rt_model.specs.Group.{Group};
 ghost use Rattle.rt_changes.specs.Touched.{arriving};
-ghost use Rattle.trace_views.specs.Cells.{cell_at};
-ghost use Rattle.trace_views.specs.Cells as views;
-ghost use Rattle.trace_views.specs.Moments.{Moment, is_unit};
+ghost use Rattle.trace_views.specs.Moments.{Moment};
 ghost use Rattle.chart_texts.specs.Charts.{group_resvs};
-ghost use Rattle.chart_cells.specs.Kept.{with_unit};
-ghost use Rattle.view_acts.specs.ShownActs.{act_shown};
-ghost use Rattle.chart_rows.specs.Rows.{cpu_acted, resv_acted, task_acted};
+ghost use Rattle.chart_rows.specs.inside.Acted.{task_worked};
+ghost use Rattle.chart_rows.specs.Rows.{cpu_acted, resv_acted};
 ghost use Rattle.chart_rows.specs.Units.{IsTold, IsUnitOf};
 
 use crate::cpus::CpuFeed;
 use crate::resvs::ResvFeed;
 use crate::tasks::TaskFeed;
-use crate::units::{Unit, ready_again};
-use chart_cells::{CpuCell, Playing};
+use crate::units::Unit;
+use chart_cells::{Cell, CpuCell, Playing};
 use rt_base::{CpuNo, NoMemory, TaskNo};
 use rt_task::Act;
 use std::alloc::Global;
-use view_acts::ShownAct;
+use std::mem;
 
-/// The unit, if there is one, for the row of a task.
-fn work_task(
+/// A unit for the row of its task, which takes the cell.
+pub(crate) fn work_task(
     row: &mut TaskFeed,
     alloc: Global,
     cpu: CpuNo,
-    unit: &Option<Unit>,
+    unit: &mut Unit,
 ) -> Result<(), NoMemory>
-    ensures { OnOk result ((g : Group) (m : Moment) → cpu.0 ≡ m.act.cpu → IsTold g m unit.now
-        → row.new ≡ record row.old {
-          kept = if is_unit m && is row.old.task m.act.task
-              then with_unit m.act.cpu (cell_at g views.ready row.old.task m.before) row.old.kept
-              else row.old.kept;
-        }) }
+    ensures { OnOk result ((g : Group) (m : Moment) → cpu.0 ≡ m.act.cpu → IsUnitOf g m unit.old
+        → row.old.task ≡ unit.old.task.0 → row.new ≡ task_worked g m row.old) }
 {
-    match unit {
-        Some(unit) if unit.task == row.task() => {
-            let before = ready_again(alloc, &unit.cell)?;
-            row.work(alloc, cpu, before)
-        }
-        _ => Ok(()),
-    }
-}
-
-/// An act for the row of a task, with its unit, if it is one.
-pub(crate) fn act_task(
-    row: &mut TaskFeed,
-    alloc: Global,
-    act: &ShownAct,
-    unit: &Option<Unit>,
-) -> Result<(), NoMemory>
-    ensures { OnOk result ((g : Group) (m : Moment) → act_shown act.now ≡ m.act
-        → IsTold g m unit.now → row.new ≡ task_acted g m row.old) }
-{
-    work_task(row, alloc, act.cpu, unit)?;
-    row.end(act.ended == Some(row.task()));
-    Ok(())
+    let before = mem::replace(&mut unit.cell, Cell::away(alloc));
+    row.work(alloc, cpu, before)
 }
 
 /// A unit of a processor, for the row of one.

@@ -1,10 +1,12 @@
-//! The row of a task among those of all.
-ghost use Rattle.std.specs.Prelude.{◌≡◌, ◌≢◌, false, true};
+//! The row of a task, and that of a processor, among those of all.
+ghost use Rattle.std.specs.Prelude.{◌≡◌, ◌≢◌, ◌<◌, ⊤, MatchOption, false, length, slice_index_or, true};
 ghost use Rattle.rt_base.specs.TaskNos.{number_of_task};
+ghost use Rattle.chart_rows.specs.Rows.{CpuKept};
 ghost use Rattle.chart_rows.specs.inside.Finding.{IsPositionOf};
 
+use crate::cpus::CpuFeed;
 use crate::tasks::TaskFeed;
-use rt_base::TaskNo;
+use rt_base::{CpuNo, TaskNo};
 
 fn search(rows: &[TaskFeed], task: TaskNo) -> Option<usize>
     ensures { IsPositionOf task.0 rows.now result }
@@ -26,6 +28,20 @@ pub(crate) fn position_of(rows: &[TaskFeed], task: TaskNo) -> Option<usize>
         Some(by_number)
     } else {
         search(rows, task)
+    }
+}
+
+/// The place of the processor's row, where it stands as its number says: the processors of a group mostly follow each other.
+pub fn place_of(cpus: &[CpuFeed], cpu: CpuNo) -> Option<usize>
+    ensures { MatchOption result ⊤ (λ i. (i < length cpus.now)
+        × ((d : CpuKept) → (slice_index_or cpus.now i d).cpu ≡ cpu.0)) }
+{
+    let first = cpus.first()?.cpu();
+    let place = cpu.0.saturating_sub(first.0) as usize;
+    if place < cpus.len() && cpus[place].cpu() == cpu {
+        Some(place)
+    } else {
+        None
     }
 }
 

@@ -138,10 +138,12 @@ pub fn foretell(
     }
 }
 
-/// The unit of an act that was foretold, where it is one.
-pub fn told(unit: Option<Unit>, act: &ShownAct) -> Option<Unit>
-    ensures { (g : Group) (m : Moment) → act_shown act.now ≡ m.act → IsForetold g m unit
-        → IsTold g m result }
+/// What was foretold of an act, once it is known whether it is a unit: dropped where it is none.
+pub fn keep_if_done(unit: &mut Option<Unit>, act: &ShownAct)
+    ensures { (g : Group) (m : Moment) → act_shown act.now ≡ m.act → IsForetold g m unit.old
+        → IsTold g m unit.new }
 {
-    if is_unit(act) { unit } else { None }
+    if !is_unit(act) {
+        *unit = None;
+    }
 }

@@ -16,7 +16,8 @@ mod tasks;
 mod units;
 
 pub use cpus::CpuFeed;
-pub use foreseen::{foretell, told};
+pub use finding::place_of;
+pub use foreseen::{foretell, keep_if_done};
 pub use resvs::ResvFeed;
 pub use rows::Rows;
 pub use tasks::TaskFeed;

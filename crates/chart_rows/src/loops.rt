@@ -9,15 +9,16 @@ ghost use Rattle.trace_views.specs.Moments.{Moment};
 ghost use Rattle.chart_texts.specs.Charts.{group_resvs};
 ghost use Rattle.view_acts.specs.ShownActs.{act_shown};
 ghost use Rattle.chart_cells.specs.Cells.{cpu_numbers, playing_shown};
+ghost use Rattle.chart_rows.specs.inside.Acted.{task_done, task_worked};
 ghost use Rattle.chart_rows.specs.inside.Finding.{only};
 ghost use Rattle.chart_rows.specs.inside.Plays.{idly_run, played_shown};
-ghost use Rattle.chart_rows.specs.Listed.{tasks_listed};
+ghost use Rattle.chart_rows.specs.Listed.{cpus_listed, tasks_listed};
 ghost use Rattle.chart_rows.specs.Rows as rows;
-ghost use Rattle.chart_rows.specs.Units.{IsTold};
+ghost use Rattle.chart_rows.specs.Units.{IsTold, IsUnitOf};
 
-use crate::acting::{act_cpu, act_resv, act_task};
+use crate::acting::{act_cpu, act_resv, work_task};
 use crate::cpus::CpuFeed;
-use crate::finding::{are_same, position_of};
+use crate::finding::{place_of, position_of};
 use crate::resvs::ResvFeed;
 use crate::tasks::TaskFeed;
 use crate::units::Unit;
@@ -33,57 +34,77 @@ pub(crate) struct Played {
     pub(crate) playing: Playing,
 }
 
-/// An act for the row of this task, if there is one.
-fn act_row(
+/// The unit, if there is one, for the rows of tasks: that of its task alone changes, and takes the cell.
+fn work_tasks(
     tasks: &mut [TaskFeed],
     alloc: Global,
-    task: Option<TaskNo>,
-    act: &ShownAct,
-    unit: &Option<Unit>,
+    cpu: CpuNo,
+    unit: &mut Option<Unit>,
 ) -> Result<(), NoMemory>
     ensures { OnOk result ((g : Group) (m : Moment) → IsDistinct (tasks_listed tasks.old)
-        → act_shown act.now ≡ m.act → IsTold g m unit.now
-        → tasks.new ≡ map (only (number_of_task task) (rows.task_acted g m)) tasks.old) }
+        → cpu.0 ≡ m.act.cpu → IsTold g m unit.old
+        → tasks.new ≡ map (task_worked g m) tasks.old) }
 {
-    let Some(task) = task else {
+    let Some(unit) = unit else {
         return Ok(());
     };
-    if let Some(position) = position_of(tasks, task) {
-        act_task(&mut tasks[position], alloc, act, unit)?;
+    if let Some(position) = position_of(tasks, unit.task) {
+        work_task(&mut tasks[position], alloc, cpu, unit)?;
     }
     Ok(())
 }
 
-/// An act for the rows of tasks, with its unit, if it is one: only those change of the task that its processor ran and of
-/// the one whose job it ended.
+/// The end of a job, if an act ended one, for the rows of tasks: that of its task alone changes.
+fn end_tasks(tasks: &mut [TaskFeed], ended: Option<TaskNo>)
+    ensures { (m : Moment) → IsDistinct (tasks_listed tasks.old)
+        → number_of_task ended ≡ m.act.ended → tasks.new ≡ map (task_done m) tasks.old }
+{
+    let Some(task) = ended else {
+        return;
+    };
+    if let Some(position) = position_of(tasks, task) {
+        tasks[position].end(true);
+    }
+}
+
+/// An act for the rows of tasks, with its unit, if it is one, whose cell is taken.
 pub(crate) fn act_tasks(
     tasks: &mut [TaskFeed],
     alloc: Global,
     act: &ShownAct,
-    unit: &Option<Unit>,
+    unit: &mut Option<Unit>,
 ) -> Result<(), NoMemory>
     ensures { OnOk result ((g : Group) (m : Moment) → IsDistinct (tasks_listed tasks.old)
-        → act_shown act.now ≡ m.act → IsTold g m unit.now
+        → act_shown act.now ≡ m.act → IsTold g m unit.old
         → tasks.new ≡ map (rows.task_acted g m) tasks.old) }
 {
-    act_row(tasks, alloc, act.task, act, unit)?;
-    if are_same(act.ended, act.task) {
-        return Ok(());
-    }
-    act_row(tasks, alloc, act.ended, act, unit)?;
+    work_tasks(tasks, alloc, act.cpu, unit)?;
+    end_tasks(tasks, act.ended);
     Ok(())
 }
 
-/// An act for the rows of processors.
+/// A unit of a processor, for the rows of processors that need not stand by number.
+fn act_each_cpu(cpus: &mut [CpuFeed], cpu: CpuNo, unit: &Unit)
+    ensures { (g : Group) (m : Moment) → cpu.0 ≡ m.act.cpu → IsUnitOf g m unit.now
+        → cpus.new ≡ map (rows.cpu_acted g m) cpus.old }
+{
+    for row in cpus.iter_mut() {
+        act_cpu(row, cpu, unit);
+    }
+}
+
+/// An act for the rows of processors: of a unit that of its processor alone changes.
 pub(crate) fn act_cpus(cpus: &mut [CpuFeed], cpu: CpuNo, unit: &Option<Unit>)
-    ensures { (g : Group) (m : Moment) → cpu.0 ≡ m.act.cpu → IsTold g m unit.now
+    ensures { (g : Group) (m : Moment) → IsDistinct (cpus_listed cpus.old)
+        → cpu.0 ≡ m.act.cpu → IsTold g m unit.now
         → cpus.new ≡ map (rows.cpu_acted g m) cpus.old }
 {
     let Some(done) = unit else {
         return;
     };
-    for row in cpus.iter_mut() {
-        act_cpu(row, cpu, done);
+    match place_of(cpus, cpu) {
+        Some(place) => act_cpu(&mut cpus[place], cpu, done),
+        None => act_each_cpu(cpus, cpu, done),
     }
 }
 

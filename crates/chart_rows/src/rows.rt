@@ -79,21 +79,20 @@ impl Rows {
         Ok(())
     }
 
-    /// Takes an act of the column, with its unit, if it is one.
+    /// Takes an act of the column, with its unit, if it is one, whose cell it takes too.
     pub fn act(
         &mut self,
         alloc: Global,
         act: &ShownAct,
-        unit: &Option<Unit>,
+        unit: &mut Option<Unit>,
     ) -> Result<(), NoMemory>
         ensures { OnOk result ((g : Group) (m : Moment) → AreListed g self.old
-            → act_shown act.now ≡ m.act → IsTold g m unit.now
+            → act_shown act.now ≡ m.act → IsTold g m unit.old
             → self.new ≡ rows_acted g m self.old) }
     {
-        act_tasks(self.tasks.as_mut_slice(), alloc, act, unit)?;
         act_cpus(self.cpus.as_mut_slice(), act.cpu, unit);
         act_resvs(self.resvs.as_mut_slice(), unit);
-        Ok(())
+        act_tasks(self.tasks.as_mut_slice(), alloc, act, unit)
     }
 
     /// Takes the state after an act of the column, once the state before the act was taken: only the tasks are looked at that the act

@@ -1,14 +1,11 @@
 //! A unit of work, with what was so before it.
-ghost use Rattle.std.specs.Prelude.{◌≡◌, ◌&&◌, IfOk};
+ghost use Rattle.std.specs.Prelude.{◌≡◌, ◌&&◌};
 ghost use Rattle.rt_model.specs.Past.{accepted, is_work, operation};
-ghost use Rattle.trace_views.specs.Cells as views;
-ghost use Rattle.chart_cells.specs.Cells.{cell_shown};
 
-use chart_cells::{Cell, Doing};
-use rt_base::{NoMemory, ResvNo, TaskNo};
+use chart_cells::Cell;
+use rt_base::{ResvNo, TaskNo};
 use rt_rules::Reply;
 use rt_task::{Act, Op};
-use std::alloc::Global;
 use view_acts::ShownAct;
 
 /// A unit of work: the task that does it, what the state before it shows of the task, the link of its processor, and the
@@ -44,19 +41,4 @@ pub(crate) fn is_unit(act: &ShownAct) -> bool
     ensures { result ≡ accepted act.now.reply && is_work (operation act.now.act) }
 {
     is_accepted(act.reply) && asks_work(act.act)
-}
-
-/// The same cell, of a task that is there.
-pub(crate) fn ready_again(alloc: Global, cell: &Cell) -> Result<Cell, NoMemory>
-    ensures { IfOk result
-        (λ c. cell_shown c ≡ record (cell_shown cell.now) { doing = views.ready }) }
-{
-    let held = Vec::from_slice(alloc, cell.held.as_slice())?;
-    Ok(Cell {
-        doing: Doing::Ready,
-        job: cell.job,
-        held,
-        non_preemptive: cell.non_preemptive,
-        raised: cell.raised,
-    })
 }

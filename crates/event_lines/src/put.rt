@@ -19,18 +19,19 @@ pub(crate) fn put_number(text: &mut Vec<u8>, n: u64) -> Result<(), AllocError>
     put_decimal(text, n)
 }
 
+/// The most ticks whose microseconds are below 2^64.
+const SMALL: u64 = u64::MAX / 1000;
+
 /// Ticks in microseconds: most numbers of an event. No such number wraps.
 pub(crate) fn put_microseconds(text: &mut Vec<u8>, ticks: u128) -> Result<(), AllocError>
     requires { ticks ≤ 2 ^ 64 }
     ensures { OnOk result (text.new.items ≡ text.old.items ++ microseconds ticks) }
 {
-    match u64::try_from(1000 * ticks) {
-        Ok(microseconds) => put_decimal(text, microseconds),
-        Err(_) => {
-            let mut buffer = Buffer::new();
-            put(text, buffer.format(1000 * ticks).as_bytes())
-        }
+    if ticks <= u128::from(SMALL) {
+        return put_decimal(text, 1000 * ticks as u64);
     }
+    let mut buffer = Buffer::new();
+    put(text, buffer.format(1000 * ticks).as_bytes())
 }
 
 #[tactic(auto, using(crate::proofs::Joins::joins))]

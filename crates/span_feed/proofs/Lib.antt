@@ -4,3 +4,4 @@ pub mod Pairs
 pub mod TickLaws
 pub mod Tracking
 pub mod Feeding
+pub mod Spent

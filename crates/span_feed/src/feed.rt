@@ -1,8 +1,9 @@
 //! A group's spans over the ticks, while its steps are taken again.
-ghost use Rattle.std.specs.Prelude.{◌≡◌, ◌+◌, ◌-◌, ◌<◌, ◌∷◌, ◌++◌, [], ℕ, IfOk, List, OnOk, length, replicate};
+ghost use Rattle.std.specs.Prelude.{◌≡◌, ◌≢◌, ◌+◌, ◌-◌, ◌<◌, ◌∷◌, ◌++◌, [], ℕ, IfOk, List, OnOk, length, replicate, true};
 ghost use Rattle.rt_base.specs.TaskNos.{numbers};
 ghost use Rattle.rt_base.specs.declared.TheConstants.{TICK_END};
 ghost use Rattle.rt_task.specs.Validity.{IsValid};
+ghost use Rattle.rt_model.specs.Answers.{last_work};
 ghost use Rattle.rt_model.specs.Group as groups;
 ghost use Rattle.rt_model.specs.Group.{Group};
 ghost use Rattle.rt_model.specs.Past.{Acted, Clock, Past};
@@ -23,7 +24,7 @@ ghost use Rattle.span_feed.specs.Spanned.{unmarked};
 
 use crate::opening::{cpu_tracks, resv_tracks, task_tracks};
 use crate::taking::take_column;
-use chart_rows::{Rows, Unit, foretell, told};
+use chart_rows::{CpuFeed, Rows, Unit, foretell, keep_if_done, place_of};
 use event_lines::GroupTracks;
 use rank_afresh::Afresh;
 use rt_base::{CpuNo, GroupNo, NoMemory, ResvNo, TaskNo, Tick};
@@ -50,6 +51,13 @@ pub struct SpanFeed {
     tracks: GroupTracks,
     /// After `turn`: whether the tick that goes on has states before the move of the clock.
     begun: bool,
+}
+
+/// Whether the row of a processor has a unit of the column that goes on.
+fn has_unit(row: &CpuFeed) -> bool
+    ensures { result ≡ true → row.now.kept ≢ None }
+{
+    row.kept.is_some()
 }
 
 impl SpanFeed {
@@ -156,7 +164,19 @@ impl SpanFeed {
         self.rows.see(alloc, afresh)
     }
 
-    /// The unit that an act of a processor would be; none where it can be none.
+    /// Whether the row of the processor, where it is found at once, has a unit of the tick that goes on: then it has worked in it.
+    fn has_worked(&self, cpu: CpuNo) -> bool
+        ensures { (g : Group) (past : Past) → IsFed g past self.now → result ≡ true
+            → last_work cpu.0 past ≡ Some (pasts.now past) }
+    {
+        let cpus = self.rows.cpus.as_slice();
+        match place_of(cpus, cpu) {
+            Some(place) => has_unit(&cpus[place]),
+            None => false,
+        }
+    }
+
+    /// The unit that an act of a processor would be; none where it can be none, as where the processor has worked in the tick.
     pub fn foretell(
         &self,
         alloc: Global,
@@ -173,29 +193,32 @@ impl SpanFeed {
         ensures { IfOk result (λ o. (past : Past) → IsAt afresh.now past
             → IsForetold (group_of afresh.now) (moment_of (group_of afresh.now) cpu.0 act past) o) }
     {
+        if self.has_worked(cpu) {
+            return Ok(None);
+        }
         foretell(alloc, parts, afresh, self.rows.resvs.as_slice(), cpu, act)
     }
 
-    /// Takes an act, the unit that it was foretold to be, and the state after it.
+    /// Takes an act, the unit that it was foretold to be, which is used up, and the state after it.
     pub fn act(
         &mut self,
         alloc: Global,
         afresh: &Afresh,
         act: &ShownAct,
-        unit: Option<Unit>,
+        unit: &mut Option<Unit>,
     ) -> Result<(), NoMemory>
         requires acted { (past : Past) × IsAt afresh.now (Acted (act_shown act.now) ∷ past)
             × IsForetold (group_of afresh.now)
-            (record { act = act_shown act.now; before = past }) unit
+            (record { act = act_shown act.now; before = past }) unit.old
             × IsFed (group_of afresh.now) past self.old }
         ensures { OnOk result ((past : Past) → IsAt afresh.now (Acted (act_shown act.now) ∷ past)
             → IsForetold (group_of afresh.now)
-            (record { act = act_shown act.now; before = past }) unit
+            (record { act = act_shown act.now; before = past }) unit.old
             → IsFed (group_of afresh.now) past self.old
             → IsFed (group_of afresh.now) (Acted (act_shown act.now) ∷ past) self.new) }
     {
-        let unit = told(unit, act);
-        self.rows.act(alloc, act, &unit)?;
+        keep_if_done(unit, act);
+        self.rows.act(alloc, act, unit)?;
         self.rows.see_after(alloc, afresh, act)
     }
 

@@ -84,7 +84,7 @@ impl Drawing {
         feed.turn(alloc, replay.afresh(), replay.now(), step.tick)?;
         replay.clock(step.tick);
         feed.see(alloc, replay.afresh(), replay.now())?;
-        let unit = feed.foretell(
+        let mut unit = feed.foretell(
             alloc,
             parts,
             replay.afresh(),
@@ -93,7 +93,7 @@ impl Drawing {
             step.act,
         )?;
         let act = replay.act(step);
-        feed.act(alloc, replay.afresh(), replay.now(), &act, unit)
+        feed.act(alloc, replay.afresh(), replay.now(), &act, &mut unit)
     }
 
     /// Whether the columns of the window are over: no later step changes them, or what they show.

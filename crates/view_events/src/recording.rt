@@ -69,9 +69,9 @@ impl Player for Recording {
             feed,
             table,
         } = self;
-        let unit = feed.foretell(alloc, parts, replay.afresh(), step.cpu, step.act)?;
+        let mut unit = feed.foretell(alloc, parts, replay.afresh(), step.cpu, step.act)?;
         let act = replay.act(step);
-        feed.act(alloc, replay.afresh(), &act, unit)?;
+        feed.act(alloc, replay.afresh(), &act, &mut unit)?;
         table.feed(alloc, replay.now(), &act)?;
         Ok(act.reply)
     }

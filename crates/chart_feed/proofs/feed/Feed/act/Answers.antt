@@ -20,8 +20,8 @@ take_act-requires c =
     let tick = c.requires.acted.3 in (
       f.window,
       Clock tick ∷ past,
-      can-act f axis w c.args.afresh.now tick past c.args.clock.0 (act_shown c.args.act.now) c.is_inside-inside.result c.args.unit c.told-unit.result
-          c.is_inside-inside.ensures (c.told-unit.ensures (group_of c.args.afresh.now)) c.requires.acted.4,
+      can-act f axis w c.args.afresh.now tick past c.args.clock.0 (act_shown c.args.act.now) c.is_inside-inside.result c.args.unit.now c.keep_if_done.new.unit
+          c.is_inside-inside.ensures (c.keep_if_done.ensures (group_of c.args.afresh.now)) c.requires.acted.4,
     )
 
 pub note-requires-clause-count : goal.note-requires-clause-count
@@ -44,8 +44,8 @@ returns c =
       window_is = acted.moved.window_is;
       rows_are =
           c.in_ok-take_act.ensures f.window (Clock tick ∷ past)
-          (can-act f axis window c.args.afresh.now tick past c.args.clock.0 d c.is_inside-inside.result c.args.unit c.told-unit.result c.is_inside-inside.ensures
-          (c.told-unit.ensures (group_of c.args.afresh.now)) acted);
+          (can-act f axis window c.args.afresh.now tick past c.args.clock.0 d c.is_inside-inside.result c.args.unit.now c.keep_if_done.new.unit c.is_inside-inside.ensures
+          (c.keep_if_done.ensures (group_of c.args.afresh.now)) acted);
       tasks_there = ap length made ∙ c.note_act.auto.tasks ∙ ap length c.as_mut_slice.ensures.value ∙ acted.moved.tasks_there;
       clocks_are =
           subst (λ (ks : List ClocksKept). Keeps ks (Acted d ∷ Clock tick ∷ past)) (sym made) (c.in_ok-note_act.ensures (Clock tick ∷ past) keeps acted.clocked.clock_is);

@@ -17,7 +17,7 @@ see_after-requires-clause-listed c =
     let tracks = group_tracks_shown c.args.self.now.tracks in
     let m : Moment = record { act = act_shown c.args.act.now; before = c.requires.acted.0 } in
     let fed = c.requires.acted.3 in
-    let taken = act-taken g tracks _ _ m _ c.act.new.self fed (c.in_ok-act.ensures g m (rows-listed g [] _ c.args.self.now.rows fed.rows_are) refl (c.told-unit.ensures g m refl c.requires.acted.2)) in
+    let taken = act-taken g tracks _ _ m _ c.act.new.self fed (c.in_ok-act.ensures g m (rows-listed g [] _ c.args.self.now.rows fed.rows_are) refl (c.keep_if_done.ensures g m refl c.requires.acted.2)) in
     rows-listed g [] _ c.act.new.self taken.rows_are
 
 pub see_after-requires-clause-at : goal.see_after-requires-clause-at
@@ -27,7 +27,7 @@ see_after-requires-clause-at c =
     let past = c.requires.acted.0 in
     let m : Moment = record { act = act_shown c.args.act.now; before = past } in
     let fed = c.requires.acted.3 in
-    let taken = act-taken g tracks _ _ m _ c.act.new.self fed (c.in_ok-act.ensures g m (rows-listed g [] _ c.args.self.now.rows fed.rows_are) refl (c.told-unit.ensures g m refl c.requires.acted.2)) in
+    let taken = act-taken g tracks _ _ m _ c.act.new.self fed (c.in_ok-act.ensures g m (rows-listed g [] _ c.args.self.now.rows fed.rows_are) refl (c.keep_if_done.ensures g m refl c.requires.acted.2)) in
     (past, c.requires.acted.1, acted-up-to g past _ c.act.new.self tracks m taken)
 
 pub returns : goal.returns
@@ -37,6 +37,6 @@ returns c =
     let d = act_shown c.args.act.now in
     on_ok_weaker c.see_after.result (λ made past at foretold fed.
     let m : Moment = record { act = d; before = past } in
-    let taken = act-taken g tracks _ _ m _ c.act.new.self fed (c.in_ok-act.ensures g m (rows-listed g [] _ c.args.self.now.rows fed.rows_are) refl (c.told-unit.ensures g m refl foretold)) in
+    let taken = act-taken g tracks _ _ m _ c.act.new.self fed (c.in_ok-act.ensures g m (rows-listed g [] _ c.args.self.now.rows fed.rows_are) refl (c.keep_if_done.ensures g m refl foretold)) in
     spans-same g tracks _ _ _ _ _ (below-acted d past) (sym (strip-acted d past))
     (state-seen g tracks _ _ (Acted d ∷ past) _ _ taken (made past at (acted-up-to g past _ c.act.new.self tracks m taken)))) c.see_after.ensures
