@@ -6,7 +6,7 @@ ghost use Rattle.chart_cells.specs.Cells.{marked_shown};
 ghost use Rattle.chart_feed.specs.inside.Marked.{edges_shown, marked_in};
 ghost use Rattle.chart_feed.specs.Times as seen;
 
-use crate::times::{Edges, marks};
+use crate::times::{Edges, first_counted, marks};
 use chart_cells::Marked;
 use rt_base::NoMemory;
 use rt_task::Task;
@@ -74,8 +74,9 @@ pub(crate) fn set_marks(
     ensures { map marked_shown cells.new
         ≡ marked_in task.now arrivals.now ends.now now cells.old (map edges_shown edges.now) }
 {
+    let mut counted = first_counted(task, arrivals);
     for i in 0..cells.len() {
         let end = cells[i].marks.end;
-        cells[i].marks = marks(task, arrivals, ends, now, edges[i], end);
+        cells[i].marks = marks(task, arrivals, ends, now, edges[i], end, &mut counted);
     }
 }
