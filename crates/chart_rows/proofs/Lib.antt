@@ -9,3 +9,4 @@ pub mod UpTo
 mod OneRow
 mod Finishing
 pub mod TickLaws
+mod RunLaws
