@@ -1,11 +1,11 @@
 -- The rows of a chart, once the columns are over, are those of the definitions.
-use Rattle.std.proofs.Common.{◌≡◌, ◌∙◌, ℕ, ◌<◌, Bool, List, [], ◌∷◌, map, refl, sym, ap}
+use Rattle.std.proofs.Common.{◌≡◌, ℕ, ◌<◌, Bool, List, [], ◌∷◌, map, refl, sym}
 use Rattle.std.specs.List.{list_any}
 use Rattle.rt_rules.specs.Numbers.{is}
 use Rattle.rt_model.specs.Group.{Group, task}
 use Rattle.rt_model.specs.Past.{Past, now}
 use Rattle.rt_model.specs.Releases.{arrivals}
-use Rattle.trace_views.specs.Cells.{TaskCell, task_cell}
+use Rattle.trace_views.specs.Cells.{task_cell}
 use Rattle.trace_views.specs.Columns.{Column}
 use Rattle.trace_views.specs.Marks.{marks}
 use Rattle.trace_views.specs.Moments.{Moment}

@@ -1,6 +1,6 @@
 -- The marks of columns that are set run by run.
-use Rattle.std.proofs.Common.{◌≡◌, ◌∙◌, ℕ, zero, suc, ◌+◌, ◌<◌, Bool, List, [], ◌∷◌, ◌++◌, length, map, take, drop, get_or, set, refl, sym, ap, arith, append_assoc}
-use Rattle.std.proofs.lemmas.List.{drop-drop, drop-map, drop-set-lt, drop_more, flat_map_more, length-map, take_more_set}
+use Rattle.std.proofs.Common.{◌≡◌, ◌∙◌, ℕ, ◌+◌, ◌<◌, Bool, List, [], ◌∷◌, ◌++◌, length, map, take, drop, get_or, set, refl, sym, ap, arith, append_assoc}
+use Rattle.std.proofs.lemmas.List.{drop-map, drop-set-lt, drop_more, flat_map_more, length-append, length-map, take_more_set}
 use Rattle.rt_task.specs.declared.Task.{Task}
 use Rattle.trace_views.specs.Cells.{TaskCell}
 use Rattle.chart_texts.specs.Charts.{Marked}
@@ -9,6 +9,7 @@ use Rattle.chart_cells.specs.declared.cells.Marks.{Marks}
 use Rattle.chart_cells.specs.declared.cells.Run.{Run}
 use Rattle.chart_rows.specs.RunCells.{cells_of_run, cells_of_runs, ends_of_run, ends_of_runs}
 use Rattle.chart_feed.specs.Times as times
+use Rattle.chart_feed.specs.Times.{marks_in}
 use Rattle.chart_feed.specs.declared.times.Edges.{Edges}
 use Rattle.chart_feed.specs.inside.Marked.{edges_shown, marked_in}
 
@@ -28,7 +29,9 @@ module _ (task : Task) (arrivals ends : List ℕ) (clock : ℕ) where
   marked-append [] (b ∷ bs) more_cells more_ends es h = absurd (omega arith)
   marked-append (c ∷ cs) [] more_cells more_ends es h = absurd (omega arith)
   marked-append (c ∷ cs) (b ∷ bs) more_cells more_ends [] h = sym (without-edges more_cells more_ends)
-  marked-append (c ∷ cs) (b ∷ bs) more_cells more_ends (e ∷ es) h = ap (λ ms. _ ∷ ms) (marked-append cs bs more_cells more_ends es (omega arith))
+  marked-append (c ∷ cs) (b ∷ bs) more_cells more_ends (e ∷ es) h =
+      let first : Marked = record { cell = c; marks = marks_in task arrivals ends clock e b } in
+      ap (λ ms. first ∷ ms) (marked-append cs bs more_cells more_ends es (omega arith))
 
   -- one run more has its marks
   pub run-marked : (runs : List Run) (i : ℕ) (d now : Run) (es : List Edges) (all : List Marked) → i < length runs
@@ -52,3 +55,13 @@ module _ (task : Task) (arrivals ends : List ℕ) (clock : ℕ) where
       let same_rest : drop (i + 1) (set runs i now) ≡ rest = drop-set-lt (i + 1) runs i now (omega arith) in
       (λ j. taken j ++ marked (cells_of_runs (same_rest j)) (ends_of_runs (same_rest j)) after)
       ∙ append_assoc (runs_shown (take i runs)) (run_shown now) _ ∙ ap (λ ms. runs_shown (take i runs) ++ ms) (sym whole) ∙ so_far
+
+-- and the columns that are left are fewer by its own
+pub run-counted : (runs : List Run) (i : ℕ) (d now : Run) → i < length runs
+    → length (cells_of_runs (drop i runs)) ≡ length (get_or runs i d).marks.items + length (cells_of_runs (drop (i + 1) (set runs i now)))
+run-counted runs i d now low =
+    let r : Run = get_or runs i d in
+    let rest : List Run = drop (i + 1) runs in
+    let same_rest : drop (i + 1) (set runs i now) ≡ rest = drop-set-lt (i + 1) runs i now (omega arith) in
+    ap (λ rs. length (cells_of_runs rs)) (drop_more runs i d low) ∙ length-append (cells_of_run r) (cells_of_runs rest)
+    ∙ (λ j. length-map r.marks.items (λ (m : Marks). cell_shown r.cell) j + length (cells_of_runs (sym same_rest j)))

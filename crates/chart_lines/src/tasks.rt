@@ -112,7 +112,7 @@ fn put_held_signs(signs: &mut Vec<u8>, run: &Run) -> Result<(), AllocError>
         ≡ signs.old.items ++ flat_map spec.held_signs (run_shown run.now)) }
 {
     let held = held_sign(&run.cell.held);
-    for _ in &run.marks {
+    for _ in 0..run.marks.len() {
         put_two(signs, held, b' ')?;
     }
     Ok(())

@@ -1,4 +1,4 @@
-use Rattle.std.proofs.Common.{◌≡◌, ◌+◌, ◌≤◌, ◌++◌, drop, map, take, length}
+use Rattle.std.proofs.Common.{◌≡◌, ◌+◌, ◌++◌, drop, map, take, length}
 use Rattle.chart_cells.specs.Cells.{runs_shown}
 use Rattle.chart_rows.specs.RunCells.{cells_of_runs, ends_of_runs}
 use Rattle.chart_feed.specs.inside.Counts.{IsCounted}
