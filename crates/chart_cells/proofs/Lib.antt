@@ -1,2 +1,3 @@
 pub mod KeptCells
 pub mod FirstUnits
+pub mod Sameness

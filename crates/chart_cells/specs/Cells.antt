@@ -1,5 +1,5 @@
 -- Cells as the definitions have them.
-use Rattle.std.specs.Prelude.{ℕ, List, map}
+use Rattle.std.specs.Prelude.{ℕ, List, flat_map, map}
 use Rattle.rt_base.specs.TaskNos.{number_of_task}
 use Rattle.rt_base.specs.declared.CpuNo.{CpuNo}
 use Rattle.rt_base.specs.declared.SemNo.{SemNo}
@@ -10,10 +10,10 @@ use Rattle.chart_cells.specs.declared.cells.Cell.{Cell}
 use Rattle.chart_cells.specs.declared.cells.CpuCell.{CpuCell}
 use Rattle.chart_cells.specs.declared.cells.Doing.{Doing}
 use Rattle.chart_cells.specs.declared.cells.Doing.TheVariants.{Away, Blocked, Ready, Running, Sleeping, Waits, Works}
-use Rattle.chart_cells.specs.declared.cells.Marked.{Marked}
 use Rattle.chart_cells.specs.declared.cells.Marks.{Marks}
 use Rattle.chart_cells.specs.declared.cells.Playing.{Playing}
 use Rattle.chart_cells.specs.declared.cells.Playing.TheVariants.{Idle, RunsTask, WorksFor}
+use Rattle.chart_cells.specs.declared.cells.Run.{Run}
 
 abbrev pub cpu_numbers : List CpuNo → List ℕ
 cpu_numbers qs = map (λ (q : CpuNo). q.0) qs
@@ -42,8 +42,15 @@ cell_shown c = record {
 abbrev pub marks_shown : Marks → views_marks.Marks
 marks_shown m = record { release = m.release; deadline = m.deadline; missed = m.missed; end = m.end }
 
-abbrev pub marked_shown : Marked → charts.Marked
-marked_shown c = record { cell = cell_shown c.cell; marks = marks_shown c.marks }
+-- the columns of runs: each has the cell of its run, and marks of its own
+abbrev pub column_shown : Cell → Marks → charts.Marked
+column_shown c m = record { cell = cell_shown c; marks = marks_shown m }
+
+abbrev pub run_shown : Run → List charts.Marked
+run_shown r = map (column_shown r.cell) r.marks.items
+
+abbrev pub runs_shown : List Run → List charts.Marked
+runs_shown rs = flat_map run_shown rs
 
 abbrev pub playing_shown : Playing → views.Playing
 playing_shown (WorksFor t) = views.works_for t.0

@@ -1,7 +1,7 @@
 -- Charts as the definitions have them.
 use Rattle.std.specs.Prelude.{map}
 use Rattle.chart_texts.specs.Charts as charts
-use Rattle.chart_cells.specs.Cells.{cpu_cell_shown, marked_shown}
+use Rattle.chart_cells.specs.Cells.{cpu_cell_shown, runs_shown}
 use Rattle.chart_cells.specs.declared.chart.Chart.{Chart}
 use Rattle.chart_cells.specs.declared.chart.CpuRow.{CpuRow}
 use Rattle.chart_cells.specs.declared.chart.Panel.{Panel}
@@ -9,7 +9,7 @@ use Rattle.chart_cells.specs.declared.chart.ResvRow.{ResvRow}
 use Rattle.chart_cells.specs.declared.chart.TaskRow.{TaskRow}
 
 abbrev pub task_row_shown : TaskRow → charts.TaskRow
-task_row_shown r = record { task = r.task.0; cells = map marked_shown r.cells.items }
+task_row_shown r = record { task = r.task.0; cells = runs_shown r.runs.items }
 
 abbrev pub cpu_row_shown : CpuRow → charts.CpuRow
 cpu_row_shown r = record { cpu = r.cpu.0; cells = map cpu_cell_shown r.cells.items }

@@ -43,11 +43,11 @@ pub struct Marks {
     pub end: bool,
 }
 
-/// A task in a column, with its marks.
+/// Columns side by side in which a task does the same: its cell, and the marks of each column.
 #[derive(Drop)]
-pub struct Marked {
+pub struct Run {
     pub cell: Cell,
-    pub marks: Marks,
+    pub marks: Vec<Marks>,
 }
 
 /// What a processor does in a column.

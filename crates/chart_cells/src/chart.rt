@@ -1,12 +1,12 @@
 //! A chart: the rows of each group.
-use crate::cells::{CpuCell, Marked};
+use crate::cells::{CpuCell, Run};
 use rt_base::{CpuNo, GroupNo, ResvNo, TaskNo, Tick};
 
-/// What a task does in each column.
+/// What a task does in each column, run by run.
 #[derive(Drop)]
 pub struct TaskRow {
     pub task: TaskNo,
-    pub cells: Vec<Marked>,
+    pub runs: Vec<Run>,
 }
 
 /// What a processor does in each column.

@@ -7,9 +7,11 @@ ghost use Rattle.chart_cells.specs.KeptLaws.{KeptCellsFollow};
 mod cells;
 mod chart;
 mod kept;
+mod same;
 
-pub use cells::{Cell, CpuCell, Doing, Marked, Marks, Playing};
+pub use cells::{Cell, CpuCell, Doing, Marks, Playing, Run};
 pub use chart::{Chart, CpuRow, Panel, ResvRow, TaskRow};
+pub use same::same_cell;
 
 /// A cell that is kept of a column changes by each state and each unit of the column alone, and finished it is the task's cell.
 pub fn kept_cells_follow()

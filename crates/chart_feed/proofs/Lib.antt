@@ -12,3 +12,4 @@ pub mod Shown
 pub mod Feeding
 pub mod GoesOn
 pub mod WindowOver
+mod RunMarks

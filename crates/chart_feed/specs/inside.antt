@@ -1,3 +1,4 @@
+pub mod Counts
 pub mod Marked
 pub mod Panels
 pub mod Stands

@@ -52,7 +52,7 @@ pub(crate) fn task_row(
     );
     TaskRow {
         task: number,
-        cells: closed,
+        runs: closed,
     }
 }
 

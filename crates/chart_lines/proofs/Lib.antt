@@ -1,1 +1,2 @@
 mod Trims
+mod RunSigns

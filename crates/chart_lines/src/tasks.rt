@@ -1,12 +1,12 @@
 //! The lines of a task.
 ghost use Rattle.std.specs.Prelude.{◌≡◌, ◌∷◌, ◌++◌, [], map, flat_map, IfOk, OnOk, if◌then◌else◌};
 ghost use Rattle.chart_texts.specs.TaskLines as spec;
-ghost use Rattle.chart_cells.specs.Cells.{cpu_numbers, doing_shown, marked_shown, marks_shown, sem_numbers};
+ghost use Rattle.chart_cells.specs.Cells.{cpu_numbers, doing_shown, marks_shown, run_shown, runs_shown, sem_numbers};
 ghost use Rattle.chart_cells.specs.Charts.{task_row_shown};
 
 use crate::letters::{number_letter, sem_letter, task_letter};
 use crate::rows::{put, put_row, put_two};
-use chart_cells::{Doing, Marked, Marks, TaskRow};
+use chart_cells::{Doing, Marks, Run, TaskRow};
 use rt_base::{CpuNo, NoMemory, SemNo};
 use std::alloc::{AllocError, Global};
 
@@ -60,43 +60,70 @@ fn held_sign(held: &[SemNo]) -> u8
     }
 }
 
+/// The signs over the columns of a run.
 #[tactic(auto, using(std::proofs::Common::append_assoc))]
-fn mark_signs(alloc: Global, cells: &[Marked]) -> Result<Vec<u8>, AllocError>
-    ensures { IfOk result (λ v. v.items ≡ flat_map spec.mark_signs (map marked_shown cells.now)) }
+fn put_mark_signs(signs: &mut Vec<u8>, run: &Run) -> Result<(), AllocError>
+    ensures { OnOk result (signs.new.items
+        ≡ signs.old.items ++ flat_map spec.mark_signs (run_shown run.now)) }
+{
+    for marks in &run.marks {
+        put_two(signs, mark_sign(marks.release, b'^'), deadline_sign(*marks))?;
+    }
+    Ok(())
+}
+
+fn mark_signs(alloc: Global, runs: &[Run]) -> Result<Vec<u8>, AllocError>
+    ensures { IfOk result (λ v. v.items ≡ flat_map spec.mark_signs (runs_shown runs.now)) }
 {
     let mut signs = Vec::new(alloc);
-    for cell in cells {
-        put_two(
-            &mut signs,
-            mark_sign(cell.marks.release, b'^'),
-            deadline_sign(cell.marks),
-        )?;
+    for run in runs {
+        put_mark_signs(&mut signs, run)?;
     }
     Ok(signs)
 }
 
+/// The signs of a run's cell, and at the end of a column the end of a job.
 #[tactic(auto, using(std::proofs::Common::append_assoc))]
-fn cell_signs(alloc: Global, cells: &[Marked]) -> Result<Vec<u8>, AllocError>
-    ensures { IfOk result (λ v. v.items ≡ flat_map spec.cell_signs (map marked_shown cells.now)) }
+fn put_cell_signs(signs: &mut Vec<u8>, run: &Run) -> Result<(), AllocError>
+    ensures { OnOk result (signs.new.items
+        ≡ signs.old.items ++ flat_map spec.cell_signs (run_shown run.now)) }
+{
+    let doing = doing_sign(&run.cell.doing);
+    for marks in &run.marks {
+        put_two(signs, doing, mark_sign(marks.end, b'|'))?;
+    }
+    Ok(())
+}
+
+fn cell_signs(alloc: Global, runs: &[Run]) -> Result<Vec<u8>, AllocError>
+    ensures { IfOk result (λ v. v.items ≡ flat_map spec.cell_signs (runs_shown runs.now)) }
 {
     let mut signs = Vec::new(alloc);
-    for cell in cells {
-        put_two(
-            &mut signs,
-            doing_sign(&cell.cell.doing),
-            mark_sign(cell.marks.end, b'|'),
-        )?;
+    for run in runs {
+        put_cell_signs(&mut signs, run)?;
     }
     Ok(signs)
 }
 
+/// What is held in each column of a run.
 #[tactic(auto, using(std::proofs::Common::append_assoc))]
-fn held_signs(alloc: Global, cells: &[Marked]) -> Result<Vec<u8>, AllocError>
-    ensures { IfOk result (λ v. v.items ≡ flat_map spec.held_signs (map marked_shown cells.now)) }
+fn put_held_signs(signs: &mut Vec<u8>, run: &Run) -> Result<(), AllocError>
+    ensures { OnOk result (signs.new.items
+        ≡ signs.old.items ++ flat_map spec.held_signs (run_shown run.now)) }
+{
+    let held = held_sign(&run.cell.held);
+    for _ in 0..run.marks.len() {
+        put_two(signs, held, b' ')?;
+    }
+    Ok(())
+}
+
+fn held_signs(alloc: Global, runs: &[Run]) -> Result<Vec<u8>, AllocError>
+    ensures { IfOk result (λ v. v.items ≡ flat_map spec.held_signs (runs_shown runs.now)) }
 {
     let mut signs = Vec::new(alloc);
-    for cell in cells {
-        put_two(&mut signs, held_sign(&cell.cell.held), b' ')?;
+    for run in runs {
+        put_held_signs(&mut signs, run)?;
     }
     Ok(signs)
 }
@@ -123,16 +150,16 @@ pub fn put_task(
     ensures { OnOk result (out.new.items
         ≡ out.old.items ++ spec.task_lines name.now declares width (task_row_shown row.now)) }
 {
-    put_row(alloc, out, width, b"", &mark_signs(alloc, &row.cells)?)?;
+    put_row(alloc, out, width, b"", &mark_signs(alloc, &row.runs)?)?;
     let label = task_label(alloc, name, u64::from(row.task.0))?;
-    put_row(alloc, out, width, &label, &cell_signs(alloc, &row.cells)?)?;
+    put_row(alloc, out, width, &label, &cell_signs(alloc, &row.runs)?)?;
     if declares {
         put_row(
             alloc,
             out,
             width,
             b"  holds",
-            &held_signs(alloc, &row.cells)?,
+            &held_signs(alloc, &row.runs)?,
         )?;
     }
     Ok(())

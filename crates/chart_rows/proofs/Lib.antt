@@ -10,3 +10,4 @@ mod OneChanged
 mod OneRow
 mod Finishing
 pub mod TickLaws
+mod RunLaws

@@ -6,3 +6,4 @@ pub mod Listed
 pub mod Foretold
 pub mod UpTo
 pub mod inside
+pub mod RunCells

@@ -11,6 +11,7 @@ mod loops;
 mod opening;
 mod resvs;
 mod rows;
+mod runs;
 mod seeing;
 mod tasks;
 mod units;

@@ -44,7 +44,6 @@ fn there_by(sleeping: bool, there: bool) -> Doing
 
 /// What the task does in a state, apart from units of work and from running.
 #[inline(always)]
-#[inline(always)]
 fn doing_in(afresh: &Afresh, task: TaskNo) -> Doing
     requires task { has task.0 (tasks (group_of afresh.now)) ≡ true }
     requires at { (past : Past) × IsAt afresh.now past }

@@ -6,34 +6,34 @@ ghost use Rattle.chart_cells.specs.Cells.{cell_shown, cpu_numbers};
 ghost use Rattle.chart_cells.specs.Kept.{finished, with_unit};
 ghost use Rattle.chart_rows.specs.Rows.{task_cleared, task_put};
 
-use chart_cells::{Cell, Doing, Marked, Marks};
+use crate::runs::{is_of_last, put_in_last, put_new};
+use chart_cells::{Cell, Doing, Marks, Run};
 use rt_base::{CpuNo, NoMemory, TaskNo};
 use std::alloc::Global;
 use std::marker::Model;
 use std::mem;
 
-/// A task: its cells in the columns that are over, with whether a job of it ended there, and the same so far of the column that
-/// goes on.
+/// A task: its cells in the columns that are over, with whether a job of it ended there, run by run, and the same so far of the
+/// column that goes on.
 #[derive(Drop)]
 pub struct TaskFeed {
     pub task: TaskNo,
-    pub closed: Vec<Marked>,
+    pub closed: Vec<Run>,
     pub kept: Cell,
     pub end: bool,
 }
 
 impl Model for TaskFeed {
-    ghost use Rattle.std.specs.Prelude.{map};
-    ghost use Rattle.chart_cells.specs.declared.cells.Marked as charts;
     ghost use Rattle.chart_cells.specs.Cells.{cell_shown};
     ghost use Rattle.chart_rows.specs.Rows.{TaskKept};
+    ghost use Rattle.chart_rows.specs.RunCells.{cells_of_runs, ends_of_runs};
 
     ghost Value = { TaskKept };
 
     ghost view = { λ a. record {
       task = a.task.0;
-      cells = map (λ (m : charts.Marked). cell_shown m.cell) a.closed.items;
-      ends = map (λ (m : charts.Marked). m.marks.end) a.closed.items;
+      cells = cells_of_runs a.closed.items;
+      ends = ends_of_runs a.closed.items;
       kept = cell_shown a.kept;
       end = a.end;
     } };
@@ -109,7 +109,8 @@ impl TaskFeed {
         mem::replace(&mut self.kept, Cell::away(alloc))
     }
 
-    /// Begins the next column, and puts what was kept of this one behind those that are over.
+    /// Begins the next column, and puts what was kept of this one behind those that are over. Where it is the same as in the last
+    /// of these, as mostly, it is kept once.
     pub(crate) fn close(&mut self, alloc: Global) -> Result<(), NoMemory>
         ensures { OnOk result ((g : Group) → self.new ≡ task_put g self.old) }
     {
@@ -119,8 +120,13 @@ impl TaskFeed {
             missed: false,
             end: self.end,
         };
+        if is_of_last(self.closed.as_slice(), &self.kept) {
+            put_in_last(self.closed.as_mut_slice(), marks)?;
+            self.clear();
+            return Ok(());
+        }
         let cell = self.take(alloc);
-        self.closed.push(Marked { cell, marks })?;
+        put_new(&mut self.closed, alloc, cell, marks)?;
         Ok(())
     }
 }

@@ -9,8 +9,8 @@ ghost use Rattle.event_texts.specs.TaskSpans as task_texts;
 ghost use Rattle.event_lines.specs.Shown.{budget_span_shown, cpu_span_shown, task_span_shown};
 ghost use Rattle.span_feed.specs.Extended.{extended};
 
-use crate::same::{same_cell, same_cpu_cell};
-use chart_cells::CpuCell;
+use crate::same::same_cpu_cell;
+use chart_cells::{CpuCell, same_cell};
 use chart_rows::TaskFeed;
 use event_lines::{BudgetSpan, CpuSpan, TaskSpan};
 use rt_base::NoMemory;

@@ -4,3 +4,4 @@ mod Joins
 mod Numbers
 mod Runs
 mod Chains
+mod RunSpans

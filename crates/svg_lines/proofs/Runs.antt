@@ -106,11 +106,15 @@ one-longer xs from to x y some same_xy next equal =
     let number : to + 1 - from ≡ suc (to - from) = omega (arith, some) in
     equal ∙ ap (λ zs. replicate (to - from) x ++ zs) (next ∙ ap (λ z. z ∷ drop (to + 1) xs) (sym is)) ∙ replicate-pushed (to - from) x (drop (to + 1) xs) ∙ sym (ap (λ (n : ℕ). replicate n x ++ drop (to + 1) xs) number)
 
-pub run-ends : (xs : List Part) (from to : ℕ) (x : Part) → from < to → Ends x (drop to xs) → drop from xs ≡ replicate (to - from) x ++ drop to xs → spans_from same_part from (drop from xs) ≡ record { from = from; to = to; value = x } ∷ spans_from same_part to (drop to xs)
-run-ends xs from to x some ends equal =
+-- equal parts before others are one span
+pub span-of : (xs ys : List Part) (from to : ℕ) (x : Part) → from < to → Ends x ys → xs ≡ replicate (to - from) x ++ ys → spans_from same_part from xs ≡ record { from = from; to = to; value = x } ∷ spans_from same_part to ys
+span-of xs ys from to x some ends equal =
     let number : to - from ≡ suc (to - from - 1) = omega (arith, some) in
     let reached : to ≡ from + suc (to - from - 1) = omega (arith, some) in
-    ap (λ ys. spans_from same_part from ys) (equal ∙ ap (λ (n : ℕ). replicate n x ++ drop to xs) number) ∙ run-span (to - from - 1) from to x (drop to xs) reached ends
+    ap (λ zs. spans_from same_part from zs) (equal ∙ ap (λ (n : ℕ). replicate n x ++ ys) number) ∙ run-span (to - from - 1) from to x ys reached ends
+
+pub run-ends : (xs : List Part) (from to : ℕ) (x : Part) → from < to → Ends x (drop to xs) → drop from xs ≡ replicate (to - from) x ++ drop to xs → spans_from same_part from (drop from xs) ≡ record { from = from; to = to; value = x } ∷ spans_from same_part to (drop to xs)
+run-ends xs from to x some ends equal = span-of (drop from xs) (drop to xs) from to x some ends equal
 
 -- ---- the same of elements that show parts
 
@@ -154,3 +158,11 @@ span-drawn shown draw edge y ps from to a top x w out new all run is inside at_y
     let moved : draw top x w (shown a) ≡ draw y (edge + 20 * from) (20 * (to - from)) (shown a) = ap (λ n. draw n x w (shown a)) at_y ∙ ap (λ n. draw y n w (shown a)) at_x ∙ ap (λ n. draw y (edge + 20 * from) n (shown a)) at_w in
     let spans_are : drawn (draw y) edge (spans_from same_part from (drop from (map shown ps))) ≡ draw y (edge + 20 * from) (20 * (to - from)) (shown a) ++ rest = ap (λ ss. drawn (draw y) edge ss) (run (shown a) _ here) in
     ap (λ z. z ++ rest) (written ∙ ap (λ z. out ++ z) moved) ∙ append_assoc out _ rest ∙ ap (λ z. out ++ z) (sym spans_are) ∙ so_far
+
+-- the first of the spans is drawn
+pub first-drawn : (draw : ℕ → ℕ → ℕ → Part → List ℕ) (edge y from to : ℕ) (part : Part) (rest all : List (Span Part)) (top x w : ℕ) (out new : List ℕ)
+    → all ≡ record { from = from; to = to; value = part } ∷ rest → top ≡ y → x ≡ edge + 20 * from → w ≡ 20 * (to - from) → new ≡ out ++ draw top x w part
+    → new ++ drawn (draw y) edge rest ≡ out ++ drawn (draw y) edge all
+first-drawn draw edge y from to part rest all top x w out new spans_are at_y at_x at_w written =
+    let moved : draw top x w part ≡ draw y (edge + 20 * from) (20 * (to - from)) part = ap (λ n. draw n x w part) at_y ∙ ap (λ n. draw y n w part) at_x ∙ ap (λ n. draw y (edge + 20 * from) n part) at_w in
+    ap (λ z. z ++ drawn (draw y) edge rest) (written ∙ ap (λ z. out ++ z) moved) ∙ append_assoc out _ (drawn (draw y) edge rest) ∙ ap (λ ss. out ++ drawn (draw y) edge ss) (sym spans_are)

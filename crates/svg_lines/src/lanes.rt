@@ -1,20 +1,20 @@
 //! The lanes of rows: the spans of their parts, each drawn.
-ghost use Rattle.std.specs.Prelude.{◌≡◌, ◌+◌, ◌-◌, ◌*◌, ◌<◌, ◌^◌, ◌++◌, map, OnOk};
-ghost use Rattle.chart_cells.specs.Cells.{cpu_cell_shown, marked_shown};
+ghost use Rattle.std.specs.Prelude.{◌≡◌, ◌+◌, ◌-◌, ◌*◌, ◌<◌, ◌≤◌, ◌^◌, ◌++◌, length, map, IfOk, OnOk};
+ghost use Rattle.chart_cells.specs.Cells.{cpu_cell_shown, runs_shown};
 ghost use Rattle.svg_texts.specs.CpuRows as cpu_rows;
-ghost use Rattle.svg_texts.specs.Lanes.{lane};
+ghost use Rattle.svg_texts.specs.Lanes.{drawn, lane};
 ghost use Rattle.svg_texts.specs.Parts as spec;
 ghost use Rattle.svg_texts.specs.TaskLanes as task_lanes;
-ghost use Rattle.svg_lines.specs.Shown.{cpu_part_of, lane_part, part_shown, task_part_of};
+ghost use Rattle.svg_lines.specs.Shown.{cpu_part_of, lane_part, part_shown, runs_parts, spans_left, task_part_of};
 
 use crate::bars::Area;
 use crate::cpu_draws::{put_cpu_part, put_resv_part};
 use crate::parts::{
-    CpuLane, Part, TaskLane, cpu_parts, left_parts, run_end, task_part, task_run_end,
+    CpuLane, Part, Place, TaskLane, cpu_parts, left_parts, run_end, task_part, task_span_end,
 };
 use crate::put::Pixels;
 use crate::task_draws::put_task_part;
-use chart_cells::{CpuCell, Marked};
+use chart_cells::{Cell, CpuCell, Run};
 use rt_base::NoMemory;
 use rt_task::Parts;
 use std::alloc::Global;
@@ -60,7 +60,7 @@ fn put_task_span(
     task: u64,
     area: Area,
     shown: TaskLane,
-    cell: &Marked,
+    cell: &Cell,
 ) -> Result<(), NoMemory>
     requires x { area.x < 2 ^ 91 }
     requires y { area.y < 2 ^ 90 }
@@ -72,6 +72,40 @@ fn put_task_span(
     put_task_part(alloc, out, set, task, area, &part)
 }
 
+/// The span that begins with a run; one without columns begins none. Gives where it ends.
+fn put_next_span(
+    alloc: Global,
+    out: &mut Vec<u8>,
+    set: &Parts,
+    edge: Pixels,
+    task: u64,
+    y: Pixels,
+    shown: TaskLane,
+    runs: &[Run],
+    at: Place,
+) -> Result<Place, NoMemory>
+    requires edge { edge < 2 ^ 90 }
+    requires y { y < 2 ^ 90 }
+    requires inside { at.run < length runs.now }
+    ensures after { IfOk result (λ to. at.run < to.run) }
+    ensures within { IfOk result (λ to. to.run ≤ length runs.now) }
+    ensures text { IfOk result (λ to. out.new.items
+        ++ drawn (task_lanes.draw_task_part set.now task y) edge (spans_left shown runs.now to)
+        ≡ out.old.items
+        ++ drawn (task_lanes.draw_task_part set.now task y) edge (spans_left shown runs.now at)) }
+{
+    if runs[at.run].marks.is_empty() {
+        return Ok(Place {
+            run: at.run + 1,
+            column: at.column,
+        });
+    }
+    let to = task_span_end(shown, runs, at)?;
+    let here = area(edge, y, at.column, to.column);
+    put_task_span(alloc, out, set, task, here, shown, &runs[at.run].cell)?;
+    Ok(to)
+}
+
 #[tactic(auto, unfolding(svg_texts::specs::Lanes::lane))]
 fn put_task_spans(
     alloc: Global,
@@ -81,20 +115,16 @@ fn put_task_spans(
     task: u64,
     y: Pixels,
     shown: TaskLane,
-    cells: &[Marked],
+    runs: &[Run],
 ) -> Result<(), NoMemory>
     requires edge { edge < 2 ^ 90 }
     requires y { y < 2 ^ 90 }
     ensures { OnOk result (out.new.items ≡ out.old.items
-        ++ lane (task_lanes.draw_task_part set.now task y) edge
-        (map (lane_part shown) cells.now)) }
+        ++ lane (task_lanes.draw_task_part set.now task y) edge (runs_parts shown runs.now)) }
 {
-    let mut from = 0;
-    while from < cells.len() {
-        let to = task_run_end(shown, cells, from);
-        let here = area(edge, y, from, to);
-        put_task_span(alloc, out, set, task, here, shown, &cells[from])?;
-        from = to;
+    let mut at = Place { run: 0, column: 0 };
+    while at.run < runs.len() {
+        at = put_next_span(alloc, out, set, edge, task, y, shown, runs, at)?;
     }
     Ok(())
 }
@@ -154,14 +184,14 @@ pub fn put_task_lane(
     task: u64,
     y: Pixels,
     shown: TaskLane,
-    cells: &[Marked],
+    runs: &[Run],
 ) -> Result<(), NoMemory>
     requires edge { edge < 2 ^ 90 }
     requires y { y < 2 ^ 90 }
     ensures { OnOk result (out.new.items ≡ out.old.items ++ task_lanes.task_lane set.now edge task y
-        (task_part_of shown) (map marked_shown cells.now)) }
+        (task_part_of shown) (runs_shown runs.now)) }
 {
-    put_task_spans(alloc, out, set, edge, task, y, shown, cells)
+    put_task_spans(alloc, out, set, edge, task, y, shown, runs)
 }
 
 /// A lane of a processor.

@@ -1,13 +1,14 @@
 //! The parts of cells that lanes show, and the runs of equal ones.
-ghost use Rattle.std.specs.Prelude.{◌≡◌, ◌<◌, ◌≤◌, length, map, IfOk};
+ghost use Rattle.std.specs.Prelude.{◌≡◌, ◌+◌, ◌<◌, ◌≤◌, ◌∷◌, false, length, map, replicate, slice_index_or, true, IfOk};
 ghost use Rattle.rt_base.specs.TaskNos.{number_of_task};
 ghost use Rattle.rt_rules.specs.Numbers.{same};
 ghost use Rattle.chart_cells.specs.Cells.{cpu_cell_shown, cpu_numbers, doing_shown, playing_shown, sem_numbers};
+ghost use Rattle.chart_cells.specs.declared.cells.Run as seen_run;
 ghost use Rattle.svg_texts.specs.Parts as spec;
-ghost use Rattle.svg_lines.specs.Shown.{RunsTo, cpu_part_of, lane_part, part_shown};
+ghost use Rattle.svg_lines.specs.Shown.{RunsTo, cpu_part_of, lane_part, part_shown, run_parts, spans_left};
 
-use chart_cells::{CpuCell, Doing, Marked, Playing};
-use rt_base::{CpuNo, SemNo, TaskNo};
+use chart_cells::{Cell, CpuCell, Doing, Playing, Run};
+use rt_base::{CpuNo, NoMemory, SemNo, TaskNo};
 use std::alloc::{AllocError, Global};
 
 /// A part of a cell.
@@ -36,6 +37,13 @@ pub enum TaskLane {
     Held,
     Section,
     Raised,
+}
+
+/// A place in the row of a task: a run, and the column that is its first.
+#[derive(Clone, Copy)]
+pub struct Place {
+    pub run: usize,
+    pub column: usize,
 }
 
 /// The lanes of a processor.
@@ -141,29 +149,62 @@ pub fn run_end(parts: &[Part], from: usize) -> usize
 
 #[tactic(auto, unfolding(svg_texts::specs::Parts::same_part))]
 #[inline(always)]
-fn same_in_lane(lane: TaskLane, a: &Marked, b: &Marked) -> bool
+fn same_in_lane(lane: TaskLane, a: &Cell, b: &Cell) -> bool
     ensures { result ≡ spec.same_part (lane_part lane a.now) (lane_part lane b.now) }
 {
     match lane {
-        TaskLane::Job => same_doing(&a.cell.doing, &b.cell.doing) && a.cell.job == b.cell.job,
-        TaskLane::Held => same_sems(&a.cell.held, &b.cell.held),
-        TaskLane::Section => a.cell.non_preemptive == b.cell.non_preemptive,
-        TaskLane::Raised => a.cell.raised == b.cell.raised,
+        TaskLane::Job => same_doing(&a.doing, &b.doing) && a.job == b.job,
+        TaskLane::Held => same_sems(&a.held, &b.held),
+        TaskLane::Section => a.non_preemptive == b.non_preemptive,
+        TaskLane::Raised => a.raised == b.raised,
     }
 }
 
-/// Where the run of a task's cells that begins at a position ends, of which a lane shows equal parts.
-pub fn task_run_end(lane: TaskLane, cells: &[Marked], from: usize) -> usize
-    requires { from < length cells.now }
-    ensures after { from < result }
-    ensures within { result ≤ length cells.now }
-    ensures run { RunsTo (map (lane_part lane) cells.now) from result }
+/// Whether a lane shows nothing else in the columns of a run than this cell does.
+fn goes_on(lane: TaskLane, cell: &Cell, run: &Run) -> bool
+    ensures same { result ≡ true → run_parts lane run.now
+        ≡ replicate (length run.now.marks.items) (lane_part lane cell.now) }
+    ensures some { result ≡ false → 0 < length run.now.marks.items }
+    ensures differ { result ≡ false
+        → spec.same_part (lane_part lane cell.now) (lane_part lane run.now.cell) ≡ false }
 {
-    let mut to = from + 1;
-    while to < cells.len() && same_in_lane(lane, &cells[from], &cells[to]) {
+    if run.marks.is_empty() {
+        return true;
+    }
+    same_in_lane(lane, cell, &run.cell)
+}
+
+/// The column that stands so many behind one. No memory holds more columns than there are numbers.
+pub fn columns_behind(column: usize, more: usize) -> Result<usize, NoMemory>
+    ensures { IfOk result (λ n. n ≡ column + more) }
+{
+    match column.checked_add(more) {
+        Some(behind) => Ok(behind),
+        None => Err(NoMemory),
+    }
+}
+
+/// Where the span of a lane ends that begins with a run.
+pub fn task_span_end(lane: TaskLane, runs: &[Run], from: Place) -> Result<Place, NoMemory>
+    requires inside { from.run < length runs.now }
+    requires some { (d : seen_run.Run)
+        → 0 < length (slice_index_or runs.now from.run d).marks.items }
+    ensures after { IfOk result (λ to. from.run < to.run) }
+    ensures within { IfOk result (λ to. to.run ≤ length runs.now) }
+    ensures span { IfOk result (λ to. (d : seen_run.Run) → spans_left lane runs.now from
+        ≡ record {
+          from = from.column;
+          to = to.column;
+          value = lane_part lane (slice_index_or runs.now from.run d).cell;
+        } ∷ spans_left lane runs.now to) }
+{
+    let mut to = from.run + 1;
+    let mut column = columns_behind(from.column, runs[from.run].marks.len())?;
+    while to < runs.len() && goes_on(lane, &runs[from.run].cell, &runs[to]) {
+        column = columns_behind(column, runs[to].marks.len())?;
         to += 1;
     }
-    to
+    Ok(Place { run: to, column })
 }
 
 fn clone_doing(alloc: Global, doing: &Doing) -> Result<Doing, AllocError>
@@ -181,14 +222,14 @@ fn clone_doing(alloc: Global, doing: &Doing) -> Result<Doing, AllocError>
 }
 
 /// The part of a task's cell that a lane shows.
-pub fn task_part(alloc: Global, lane: TaskLane, cell: &Marked) -> Result<Part, AllocError>
+pub fn task_part(alloc: Global, lane: TaskLane, cell: &Cell) -> Result<Part, AllocError>
     ensures { IfOk result (λ v. part_shown v ≡ lane_part lane cell.now) }
 {
     Ok(match lane {
-        TaskLane::Job => Part::Job(clone_doing(alloc, &cell.cell.doing)?, cell.cell.job),
-        TaskLane::Held => Part::Held(Vec::from_slice(alloc, &cell.cell.held)?),
-        TaskLane::Section => Part::Section(cell.cell.non_preemptive),
-        TaskLane::Raised => Part::Raised(cell.cell.raised),
+        TaskLane::Job => Part::Job(clone_doing(alloc, &cell.doing)?, cell.job),
+        TaskLane::Held => Part::Held(Vec::from_slice(alloc, &cell.held)?),
+        TaskLane::Section => Part::Section(cell.non_preemptive),
+        TaskLane::Raised => Part::Raised(cell.raised),
     })
 }
 

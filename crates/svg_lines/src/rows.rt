@@ -1,6 +1,7 @@
 //! The rows of tasks, processors and reservations.
-ghost use Rattle.std.specs.Prelude.{◌≡◌, ◌+◌, ◌*◌, ◌<◌, ◌^◌, ◌++◌, codes, map, IfOk, OnOk};
-ghost use Rattle.chart_cells.specs.Cells.{marked_shown, marks_shown};
+ghost use Rattle.std.specs.Prelude.{◌≡◌, ◌+◌, ◌*◌, ◌<◌, ◌^◌, ◌++◌, codes, length, map, IfOk, OnOk};
+ghost use Rattle.chart_cells.specs.Cells.{column_shown, marks_shown, runs_shown};
+ghost use Rattle.chart_cells.specs.declared.cells.Cell.{Cell};
 ghost use Rattle.chart_cells.specs.Charts.{cpu_row_shown, resv_row_shown, task_row_shown};
 ghost use Rattle.svg_texts.specs.CpuRows as cpu_spec;
 ghost use Rattle.svg_texts.specs.Shapes.{line};
@@ -9,10 +10,10 @@ ghost use Rattle.svg_texts.specs.TaskRows as task_spec;
 
 use crate::elements::{resv_budget, resv_name, task_name};
 use crate::lanes::{column_x, put_cpu_lane, put_resv_lane, put_task_lane};
-use crate::parts::{CpuLane, TaskLane};
+use crate::parts::{CpuLane, TaskLane, columns_behind};
 use crate::put::{Pixels, put, put_number};
 use crate::shapes::{put_deadline, put_end, put_line, put_release, put_words};
-use chart_cells::{CpuRow, Marked, Marks, ResvRow, TaskRow};
+use chart_cells::{CpuRow, Marks, ResvRow, Run, TaskRow};
 use rt_base::NoMemory;
 use rt_task::Parts;
 use std::alloc::{AllocError, Global};
@@ -43,19 +44,36 @@ fn put_marks(out: &mut Vec<u8>, x: Pixels, y: Pixels, marks: Marks) -> Result<()
     Ok(())
 }
 
+/// The marks of columns side by side, from one on.
 #[tactic(auto, using(std::proofs::Common::append_assoc), unfolding(svg_texts::specs::TaskRows::marks_from))]
-fn put_all_marks(
+fn put_columns_marks(
     out: &mut Vec<u8>,
     edge: Pixels,
     y: Pixels,
-    cells: &[Marked],
+    column: usize,
+    columns: &[Marks],
 ) -> Result<(), AllocError>
+    requires edge { edge < 2 ^ 90 }
+    requires inside { column + length columns.now < 2 ^ 64 }
+    ensures { OnOk result ((c : Cell) → out.new.items ≡ out.old.items
+        ++ task_spec.marks_from edge y column (map (column_shown c) columns.now)) }
+{
+    for i in 0..columns.len() {
+        put_marks(out, column_x(edge, column + i), y, columns[i])?;
+    }
+    Ok(())
+}
+
+fn put_all_marks(out: &mut Vec<u8>, edge: Pixels, y: Pixels, runs: &[Run]) -> Result<(), NoMemory>
     requires { edge < 2 ^ 90 }
     ensures { OnOk result (out.new.items
-        ≡ out.old.items ++ task_spec.marks_from edge y 0 (map marked_shown cells.now)) }
+        ≡ out.old.items ++ task_spec.marks_from edge y 0 (runs_shown runs.now)) }
 {
-    for i in 0..cells.len() {
-        put_marks(out, column_x(edge, i), y, cells[i].marks)?;
+    let mut column = 0;
+    for run in runs {
+        let behind = columns_behind(column, run.marks.len())?;
+        put_columns_marks(out, edge, y, column, &run.marks)?;
+        column = behind;
     }
     Ok(())
 }
@@ -68,17 +86,17 @@ fn put_task_lanes(
     edge: Pixels,
     task: u64,
     y: Pixels,
-    cells: &[Marked],
+    runs: &[Run],
 ) -> Result<(), NoMemory>
     requires edge { edge < 2 ^ 90 }
     requires y { y < 2 ^ 90 }
     ensures { OnOk result (out.new.items
-        ≡ out.old.items ++ task_lanes set.now edge task y (map marked_shown cells.now)) }
+        ≡ out.old.items ++ task_lanes set.now edge task y (runs_shown runs.now)) }
 {
-    put_task_lane(alloc, out, set, edge, task, y, TaskLane::Job, cells)?;
-    put_task_lane(alloc, out, set, edge, task, y, TaskLane::Held, cells)?;
-    put_task_lane(alloc, out, set, edge, task, y, TaskLane::Section, cells)?;
-    put_task_lane(alloc, out, set, edge, task, y, TaskLane::Raised, cells)
+    put_task_lane(alloc, out, set, edge, task, y, TaskLane::Job, runs)?;
+    put_task_lane(alloc, out, set, edge, task, y, TaskLane::Held, runs)?;
+    put_task_lane(alloc, out, set, edge, task, y, TaskLane::Section, runs)?;
+    put_task_lane(alloc, out, set, edge, task, y, TaskLane::Raised, runs)
 }
 
 /// A task's number and name.
@@ -125,9 +143,9 @@ fn put_task_row(
     let task = u64::from(row.task.0);
     let words = task_words(alloc, set, task)?;
     put_words(out, b"e", field.edge.saturating_sub(8), y + 32, &words)?;
-    put_task_lanes(alloc, out, set, field.edge, task, y, &row.cells)?;
+    put_task_lanes(alloc, out, set, field.edge, task, y, &row.runs)?;
     put_base(alloc, out, field, y + 38)?;
-    put_all_marks(out, field.edge, y + 38, &row.cells)?;
+    put_all_marks(out, field.edge, y + 38, &row.runs)?;
     Ok(())
 }
 

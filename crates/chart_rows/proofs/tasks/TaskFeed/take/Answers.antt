@@ -1,15 +1,15 @@
-use Rattle.std.proofs.Common.{◌∙◌, false, map, ap}
+use Rattle.std.proofs.Common.{◌∙◌, false, ap}
 use Rattle.chart_cells.specs.Cells.{cell_shown}
-use Rattle.chart_cells.specs.declared.cells.Marked.{Marked}
 use Rattle.chart_rows.specs.Rows.{task_cleared}
+use Rattle.chart_rows.specs.RunCells.{cells_of_runs, ends_of_runs}
 use Rattle.chart_rows.proofs.tasks.TaskFeed.take.Goals as goal
 
 pub returns-clause-row : goal.returns-clause-row
 returns-clause-row c = λ g.
     (λ i. record {
       task = c.self.inside.task.0;
-      cells = map (λ (m : Marked). cell_shown m.cell) c.self.inside.closed.items;
-      ends = map (λ (m : Marked). m.marks.end) c.self.inside.closed.items;
+      cells = cells_of_runs c.self.inside.closed.items;
+      ends = ends_of_runs c.self.inside.closed.items;
       kept = (ap cell_shown c.replace.ensures.after ∙ c.away.ensures g) i;
       end = false;
     })

@@ -1,7 +1,7 @@
 use Rattle.std.proofs.Common.{◌∙◌, sym}
 use Rattle.rt_base.specs.declared.CpuNo.{CpuNo}
-use Rattle.span_feed.proofs.Sameness.{items-differ, items-more, items-same, lengths-differ}
-use Rattle.span_feed.proofs.same.same_cpus.Goals as goal
+use Rattle.chart_cells.proofs.Sameness.{items-differ, items-more, items-same, lengths-differ}
+use Rattle.chart_cells.proofs.same.same_cpus.Goals as goal
 
 pub returns-then-a-b : goal.returns-then-a-b
 returns-then-a-b c = lengths-differ (λ (x : CpuNo). x.0) c.args.a.now c.args.b.now c.if-a-b.true

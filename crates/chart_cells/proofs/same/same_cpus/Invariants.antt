@@ -1,6 +1,6 @@
 use Rattle.std.proofs.Common.{◌≡◌, take}
 use Rattle.chart_cells.specs.Cells.{cpu_numbers}
-use Rattle.span_feed.proofs.same.same_cpus.Given as goal
+use Rattle.chart_cells.proofs.same.same_cpus.Given as goal
 
 -- those so far are the same
 abbrev pub invariant-loop-i : goal.invariant-loop-i
