@@ -37,7 +37,7 @@ module _ (lane : TaskLane) where
       → runs_parts lane (drop i rs) ≡ replicate k (lane_part lane (get_or rs i d).cell) ++ runs_parts lane (drop (i + 1) rs)
   run-first rs i d k low number =
       let r : Run = get_or rs i d in
-      run-more rs i d (lane_part lane r.cell) 0 (length r.marks.items) k (runs_parts lane (drop i rs)) low number (all-same r (lane_part lane r.cell) refl) refl
+      run-more rs i d (lane_part lane r.cell) 0 (length r.marks.items) k (runs_parts lane (drop i rs)) low (omega (arith, number)) (all-same r (lane_part lane r.cell) refl) refl
 
   -- a run without columns shows nothing
   pub run-passed : (rs : List Run) (i : ℕ) (d : Run) → i < length rs → length (get_or rs i d).marks.items ≡ 0 → runs_parts lane (drop (i + 1) rs) ≡ runs_parts lane (drop i rs)
