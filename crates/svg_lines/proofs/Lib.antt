@@ -5,3 +5,4 @@ mod Numbers
 mod Runs
 mod Chains
 mod RunSpans
+mod RunMarks

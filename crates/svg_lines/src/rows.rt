@@ -64,6 +64,7 @@ fn put_columns_marks(
     Ok(())
 }
 
+#[tactic(auto, using(std::proofs::Common::append_assoc), unfolding(svg_texts::specs::TaskRows::marks_from))]
 fn put_all_marks(out: &mut Vec<u8>, edge: Pixels, y: Pixels, runs: &[Run]) -> Result<(), NoMemory>
     requires { edge < 2 ^ 90 }
     ensures { OnOk result (out.new.items

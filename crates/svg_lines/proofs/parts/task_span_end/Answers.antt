@@ -18,8 +18,8 @@ loop-to-init c =
       after = omega arith;
       within = omega (arith, c.requires.inside);
       equal = λ d.
-        let same : length first.marks.items ≡ length (get_or runs i d).marks.items = ap (λ (r : Run). length r.marks.items) (get_or_default runs i seen d c.requires.inside) in
-        run-first c.args.lane runs i d (c.in_ok-column.column - c.args.from.column) c.requires.inside (omega (arith, c.in_ok-column.ensures, c.len.ensures, first.marks.ok.0, same));
+          let same : length first.marks.items ≡ length (get_or runs i d).marks.items = ap (λ (r : Run). length r.marks.items) (get_or_default runs i seen d c.requires.inside) in
+          run-first c.args.lane runs i d (c.in_ok-column.column - c.args.from.column) c.requires.inside (omega (arith, c.in_ok-column.ensures, c.len.ensures, first.marks.ok.0, same));
     }
 
 pub loop-to-preserved : goal.loop-to-preserved
@@ -38,9 +38,9 @@ loop-to-preserved c =
       after = omega (arith, c.loop-to.invariant.after);
       within = omega (arith, c.loop-to-test.true);
       equal = λ d.
-        let shown : run_parts lane (get_or runs to here) ≡ replicate (length here.marks.items) (lane_part lane (get_or runs i d).cell) = ap (run_parts lane) (sym is) ∙ c.goes_on.ensures.same c.if-goes_on.true ∙ ap (λ (r : Run). replicate (length here.marks.items) (lane_part lane r.cell)) (get_or_default runs i seen d c.requires.inside) in
-        run-more lane runs to here (lane_part lane (get_or runs i d).cell) (c.loop-to.column - c.args.from.column) (length here.marks.items) (c.in_ok-column-2.column - c.args.from.column) (runs_parts lane (drop i runs))
-        c.loop-to-test.true (omega (arith, c.in_ok-column-2.ensures, c.len-in-loop-to.ensures, counted.marks.ok.0, same, c.loop-to.invariant.some)) shown (c.loop-to.invariant.equal d);
+          let shown : run_parts lane (get_or runs to here) ≡ replicate (length here.marks.items) (lane_part lane (get_or runs i d).cell) = ap (run_parts lane) (sym is) ∙ c.goes_on.ensures.same c.if-goes_on.true ∙ ap (λ (r : Run). replicate (length here.marks.items) (lane_part lane r.cell)) (get_or_default runs i seen d c.requires.inside) in
+          run-more lane runs to here (lane_part lane (get_or runs i d).cell) (c.loop-to.column - c.args.from.column) (length here.marks.items) (c.in_ok-column-2.column - c.args.from.column) (runs_parts lane (drop i runs))
+          c.loop-to-test.true (omega (arith, c.in_ok-column-2.ensures, c.len-in-loop-to.ensures, counted.marks.ok.0, same, c.loop-to.invariant.some)) shown (c.loop-to.invariant.equal d);
     }
 
 pub returns-else-goes_on-clause-span : goal.returns-else-goes_on-clause-span
