@@ -18,8 +18,8 @@ pub replayed-requires-clause-opened : goal.replayed-requires-clause-opened
 replayed-requires-clause-opened g c =
     (map g.T.TraceTool.tool c.args.tools.items, c.in-Ok.ensures ∙ sym (map-map counter_of g.T.TraceTool.tool c.args.tools.items))
 
-pub returns-in_default : goal.returns-in_default
-returns-in_default g c =
+pub returns : goal.returns
+returns g c =
     let tools : List Tool = map g.T.TraceTool.tool c.args.tools.items in
     let opened : counters g.T.TraceTool.tool c.in-Ok.bus ≡ map counter_of tools = c.in-Ok.ensures ∙ sym (map-map counter_of g.T.TraceTool.tool c.args.tools.items) in
     c.replayed.ensures tools opened
