@@ -10,7 +10,7 @@ ghost use Rattle.cpu_site.specs.Raises.{AreRaises};
 use crate::played::Played;
 use crate::playing_group::PlayingGroup;
 use crate::progress::Progress;
-use group_engine::Engine;
+use group_engine::KeepingEngine;
 use rt_base::{CpuNo, GroupNo, NoMemory};
 use rt_task::Setup;
 use std::alloc::Global;
@@ -76,7 +76,7 @@ impl Group {
     }
 
     /// The engine, with the same history.
-    pub fn into_engine(self) -> Engine
+    pub fn into_engine(self) -> KeepingEngine
         ensures same { result ≡ self }
         ensures begun { IsBegunPlay (group_of result) result.entries }
     {

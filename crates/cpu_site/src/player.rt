@@ -20,7 +20,7 @@ use crate::own_steps::steps_of_cpus;
 use crate::played::Played;
 use crate::progress::Progress;
 use body_play::next_act;
-use group_engine::Engine;
+use group_engine::KeepingEngine;
 use rt_base::{CpuNo, GroupNo, MOST_CPUS, MOST_TURN_STEPS, NoMemory, TaskNo, Tick};
 use rt_plays::{gives_steps, steps_given};
 use rt_rules::Entry;
@@ -31,7 +31,7 @@ use std::marker::Model;
 /// The engine of a group, with its setup, the group's own steps, and the position of each processor's next one.
 #[derive(Drop)]
 pub(crate) struct Player {
-    engine: Engine,
+    engine: KeepingEngine,
     setup: Setup,
     steps: Vec<Step>,
     positions: Vec<usize>,
@@ -89,7 +89,7 @@ impl Player {
         let steps = steps_of_cpus(alloc, steps_given(drive), cpus)?;
         let (positions, nexts) = chained(alloc, steps.as_slice(), MOST_CPUS)?;
         let room = room_in(drive, steps.len(), cpus.len());
-        let engine = Engine::open(alloc, setup, group, room)?;
+        let engine = KeepingEngine::open(alloc, setup, group, room)?;
         let setup = setup.share()?;
         Ok(Player {
             engine,
@@ -105,7 +105,7 @@ impl Player {
         requires { IsProcessorOf (group_of self.now) cpu.0 }
         ensures { number_of_task result ≡ linked (group_of self.now) cpu.0 (past self.now) }
     {
-        self.engine.linked(cpu)
+        self.engine.engine().linked(cpu)
     }
 
     /// What the processor runs.
@@ -113,7 +113,7 @@ impl Player {
         requires { IsProcessorOf (group_of self.now) cpu.0 }
         ensures { number_of_task result ≡ runs cpu.0 (past self.now) }
     {
-        self.engine.runs(cpu)
+        self.engine.engine().runs(cpu)
     }
 
     /// How many steps were taken.
@@ -159,7 +159,7 @@ impl Player {
         } else if steps >= MOST_TURN_STEPS {
             None
         } else {
-            next_act(&self.setup, &self.engine.situation(cpu))
+            next_act(&self.setup, &self.engine.engine().situation(cpu))
         }
     }
 
@@ -205,7 +205,7 @@ impl Player {
     }
 
     /// The engine, with the same history.
-    pub(crate) fn into_engine(self) -> Engine
+    pub(crate) fn into_engine(self) -> KeepingEngine
         ensures same { result ≡ self }
         ensures begun { IsBegunPlay (group_of result) result.entries }
     {

@@ -13,7 +13,7 @@ use crate::interrupts::no_counts;
 use crate::played::Played;
 use crate::player::Player;
 use crate::progress::Progress;
-use group_engine::Engine;
+use group_engine::KeepingEngine;
 use rt_base::{CpuNo, GroupNo, NoMemory};
 use rt_task::Setup;
 use std::alloc::Global;
@@ -118,7 +118,7 @@ impl PlayingGroup {
     }
 
     /// The engine, with the same history.
-    pub(crate) fn into_engine(self) -> Engine
+    pub(crate) fn into_engine(self) -> KeepingEngine
         ensures same { result ≡ self }
         ensures begun { IsBegunPlay (group_of result) result.entries }
     {

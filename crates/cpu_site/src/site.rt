@@ -18,7 +18,7 @@ use crate::group::Group;
 use crate::interrupts::{changed, copy, no_counts, no_positions};
 use crate::played::Played;
 use crate::progress::Progress;
-use group_engine::Engine;
+use group_engine::KeepingEngine;
 use rt_base::{CpuNo, GroupNo, MOST_CPUS, NoMemory};
 use rt_task::{Act, Setup};
 use std::alloc::Global;
@@ -191,7 +191,7 @@ impl Site {
     }
 
     /// The engine, once all seats are back. It neither waits nor takes memory.
-    pub fn close(self, mut seats: Vec<CpuSeat>) -> Engine
+    pub fn close(self, mut seats: Vec<CpuSeat>) -> KeepingEngine
         requires few { length seats.items ≤ MOST_CPUS }
         requires seats { All (λ p. p.cell ≡ self.cell) seats.items }
         requires all { About self.cell (λ s. (q : ℕ) → IsProcessorOf (group_at s) q

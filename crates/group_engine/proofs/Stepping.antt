@@ -42,13 +42,12 @@ played p q n same valid there = record {
   is_there = subst (λ (r : Parts). IsGroupOf r n) (sym same) there;
 }
 
-pub sound-open : (g : Group) (room capacity : ℕ) (s : GroupState) → IsPlayed g → room ≤ MOST_STEPS → room ≤ capacity → s.core.room ≡ room → IsAt g [] s → IsSound g [] room capacity s
+pub sound-open : (g : Group) (room : ℕ) (s : GroupState) → IsPlayed g → room ≤ MOST_STEPS → s.core.room ≡ room → IsAt g [] s → IsSound g [] room s
 unfolding past_of past_from
-sound-open g room capacity s plays limit reserved arrivals kept = record {
+sound-open g room s plays limit arrivals kept = record {
   played = plays;
   limit = limit;
   within = omega arith;
-  reserved = reserved;
   arrivals = omega (arith, arrivals);
   kept = kept;
   legal = tt;
@@ -64,18 +63,18 @@ ended-first g = refl
 pub at_home : (h h' : GroupHistory) (q : ℕ) → h ≡ h' → IsProcessorOf (group_of h') q → IsProcessorOf (group_of h) q
 at_home h h' q same there = subst (λ (x : GroupHistory). IsProcessorOf (group_of x) q) (sym same) there
 
-module _ (g : Group) (es : List Entry) (room capacity : ℕ) (state : GroupState) (sound : IsSound g es room capacity state) where
+module _ (g : Group) (es : List Entry) (room : ℕ) (state : GroupState) (sound : IsSound g es room state) where
   abbrev pub moment : GroupAt
   moment = record { group = g; past = past_of g es }
 
 -- a step of the group that contracts see
-module _ (h h' : GroupHistory) (same : h ≡ h') (room capacity : ℕ) (state : GroupState) (sound : IsSound (group_of h) h.entries room capacity state)
+module _ (h h' : GroupHistory) (same : h ≡ h') (room : ℕ) (state : GroupState) (sound : IsSound (group_of h) h.entries room state)
     (step : Step) (of' : IsStepOf (group_of h') step) (parts : Parts) (parts_are : parts ≡ h.setup) where
   of : IsStepOf (group_of h) step
   of = subst (λ (x : GroupHistory). IsStepOf (group_of x) step) (sym same) of'
 
   abbrev here : GroupAt
-  here = moment (group_of h) h.entries room capacity state sound
+  here = moment (group_of h) h.entries room state sound
 
   may_move : CanMove here step.tick.0 parts state
   may_move = record { played = sound.played; kept = sound.kept; parts_are = parts_are; tick_low = of.tick }
@@ -86,7 +85,7 @@ module _ (h h' : GroupHistory) (same : h ≡ h') (room capacity : ℕ) (state : 
   -- the clock has moved
   pub has_moved : (moved : GroupState) → h.spare ≡ room - length h.entries → 0 < h'.spare
       → ((at : GroupAt) → CanMove at step.tick.0 parts state → IsAt at.group (Clock step.tick.0 ∷ at.past) moved) → moved.core.room ≡ state.core.room
-      → IsMoved (record { group = group_of h; room = room }) step parts h.entries capacity moved
+      → IsMoved (record { group = group_of h; room = room }) step parts h.entries moved
   has_moved moved spare more moves arrivals = record {
     before = state;
     sound = sound;
@@ -98,7 +97,7 @@ module _ (h h' : GroupHistory) (same : h ≡ h') (room capacity : ℕ) (state : 
   }
 
 -- the act after that
-module _ (at : Extent) (step : Step) (parts : Parts) (es : List Entry) (capacity : ℕ) (moved : GroupState) (m : IsMoved at step parts es capacity moved) where
+module _ (at : Extent) (step : Step) (parts : Parts) (es : List Entry) (moved : GroupState) (m : IsMoved at step parts es moved) where
   abbrev pub at_tick : GroupAt
   at_tick = record { group = at.group; past = Clock step.tick.0 ∷ past_of at.group es }
 
@@ -117,19 +116,15 @@ module _ (at : Extent) (step : Step) (parts : Parts) (es : List Entry) (capacity
   pub has_room : 0 < moved.core.room
   has_room = omega (arith, m.arrivals, m.sound.arrivals, m.spare)
 
-  pub entry_fits : length es < capacity
-  entry_fits = omega (arith, m.spare, m.sound.reserved)
-
   pub reply-is : (told : Answer) (s : GroupState) → HasActed at_tick step.cpu.0 step.act told s → told.reply ≡ reply_to at.group step (past_of at.group es)
   reply-is told s acted = acted.reply_is ∙ sym (reply_to-lem at.group step (past_of at.group es))
 
-  pub sound-step : (told : Answer) (s : GroupState) (capacity' : ℕ) → capacity ≤ capacity' → moved.core.room ≤ s.core.room + 1
-      → HasActed at_tick step.cpu.0 step.act told s → IsSound at.group (es ++ record { step = step; reply = told.reply } ∷ []) at.room capacity' s
-  sound-step told s capacity' grows arrivals acted = record {
+  pub sound-step : (told : Answer) (s : GroupState) → moved.core.room ≤ s.core.room + 1
+      → HasActed at_tick step.cpu.0 step.act told s → IsSound at.group (es ++ record { step = step; reply = told.reply } ∷ []) at.room s
+  sound-step told s arrivals acted = record {
     played = m.sound.played;
     limit = m.sound.limit;
     within = omega (arith, m.spare, length-append {A = Entry});
-    reserved = omega (arith, m.sound.reserved);
     arrivals = omega (arith, m.sound.arrivals, m.arrivals, arrivals, length-append {A = Entry});
     kept = rw (past_of-append, after-acted) acted.kept;
     legal = IsLegal-append at.group es _ m.sound.legal (reply-is told s acted);
@@ -142,13 +137,14 @@ module _ (at : Extent) (step : Step) (parts : Parts) (es : List Entry) (capacity
   ended-is told s acted = rw (past_of-append, after-acted) acted.ended_is
 
 -- the engine once the act is answered and its entry added
-pub stepped : {at : Extent} {step : Step} {parts : Parts} {es es' : List Entry} {capacity capacity' : ℕ} {s moved s' : GroupState} {ended : Option (TaskNo × Bool)} (e : Entry) (a b c : Marks)
-    → IsMoved at step parts es capacity moved → IsSound at.group es at.room capacity s
-    → ((to : Extent) → IsMoved to step parts es capacity moved → IsSound to.group es' to.room capacity' s')
-    → ((to : Extent) → IsMoved to step parts es capacity moved → ended ≡ ended_last to.group (past_of to.group es'))
-    → es' ≡ es ++ e ∷ [] → StayLinked a b s moved → StayLinked b c moved s' → IsEngine at.group es' at.room capacity' s' ended c
-stepped {at} {es = es} {s = s} {moved} {s'} e a b c m was sound ended entry first second = record {
+pub stepped : {at : Extent} {step : Step} {parts : Parts} {es es' : List Entry} {taken : ℕ} {s moved s' : GroupState} {ended : Option (TaskNo × Bool)} (e : Entry) (a b c : Marks)
+    → IsMoved at step parts es moved → IsSound at.group es at.room s
+    → ((to : Extent) → IsMoved to step parts es moved → IsSound to.group es' to.room s')
+    → ((to : Extent) → IsMoved to step parts es moved → ended ≡ ended_last to.group (past_of to.group es'))
+    → es' ≡ es ++ e ∷ [] → StayLinked a b s moved → StayLinked b c moved s' → taken ≡ length es → IsEngine at.group es' at.room (taken + 1) s' ended c
+stepped {at} {es = es} {s = s} {moved} {s'} e a b c m was sound ended entry first second taken_is = record {
   sound = sound at m;
+  taken_is = omega (arith, taken_is, ap length entry, length-append es (e ∷ []));
   ended_is = ended at m;
   placed_are = rw entry (marked-entry at.group es e s s' a c was.kept (rw entry at (sound at m).kept) (stay-both a b c s moved s' first second));
 }

@@ -18,20 +18,21 @@ use Rattle.group_engine.specs.Moments.{IsPlayed}
 use Rattle.group_engine.specs.State.{IsAt}
 
 -- there is room for the entries to come and for their arrivals, the entries are legal so far, and the state is of their past
-pub record IsSound (g : Group) (entries : List Entry) (room capacity : ℕ) (s : GroupState) : Type 0 where
+pub record IsSound (g : Group) (entries : List Entry) (room : ℕ) (s : GroupState) : Type 0 where
   pub played : IsPlayed g
   pub limit : room ≤ MOST_STEPS
   pub within : length entries ≤ room
-  pub reserved : room ≤ capacity
   pub arrivals : room ≤ length entries + s.core.room
   pub kept : IsAt g (past_of g entries) s
   pub legal : IsLegal g entries
   pub steps : AreStepsOf g entries
 
--- and this is the task whose job the last of the entries ended, with whether that was late, and these clusters alone were placed anew
-pub record IsEngine (g : Group) (entries : List Entry) (room capacity : ℕ) (s : GroupState)
+-- so many steps were taken, this is the task whose job the last of them ended, with whether that was late, and these clusters alone were
+-- placed anew
+pub record IsEngine (g : Group) (entries : List Entry) (room taken : ℕ) (s : GroupState)
     (ended : Option (TaskNo × Bool)) (placed : Marks) : Type 0 where
-  pub sound : IsSound g entries room capacity s
+  pub sound : IsSound g entries room s
+  pub taken_is : taken ≡ length entries
   pub ended_is : ended ≡ ended_last g (past_of g entries)
   pub placed_are : AreMarked g entries placed
 
@@ -41,9 +42,9 @@ pub record Extent : Type 0 where
   pub room : ℕ
 
 -- the state was sound, and then the clock moved to the tick of a step of the group, for which there is room
-pub record IsMoved (at : Extent) (step : Step) (parts : Parts) (entries : List Entry) (capacity : ℕ) (s : GroupState) : Type 0 where
+pub record IsMoved (at : Extent) (step : Step) (parts : Parts) (entries : List Entry) (s : GroupState) : Type 0 where
   pub before : GroupState
-  pub sound : IsSound at.group entries at.room capacity before
+  pub sound : IsSound at.group entries at.room before
   pub parts_are : parts ≡ at.group.setup
   pub step_is_of : IsStepOf at.group step
   pub spare : length entries < at.room

@@ -1,5 +1,5 @@
 //! The engine of one group: its history, kept step by step.
-ghost use Rattle.std.specs.Prelude.{◌≡◌, ◌≢◌, ℕ, ◌<◌, ◌≤◌, ◌+◌, ◌∷◌, ◌++◌, [], IfOk, IfSome, true, false, length, vec_capacity};
+ghost use Rattle.std.specs.Prelude.{◌≡◌, ◌≢◌, ℕ, ◌<◌, ◌≤◌, ◌+◌, ◌∷◌, ◌++◌, [], IfOk, IfSome, true, false, length};
 ghost use Rattle.rt_base.specs.TaskNos.{number_of_task};
 ghost use Rattle.rt_base.specs.declared.TheConstants.{MOST_STEPS};
 ghost use Rattle.rt_rules.specs.Distinct.{IsDistinct};
@@ -27,6 +27,7 @@ ghost use Rattle.rt_plays.specs.Endings.{ended_last};
 
 use crate::state::GroupState;
 use cluster_table::PlacedMarks;
+use ghost_list::GhostList;
 use group_core::{Answer, WaitingList};
 use link_table::Links;
 use prio_inherit::Inherit;
@@ -38,14 +39,16 @@ use std::alloc::Global;
 use std::marker::Model;
 
 /// One group of a setup and its history. Contracts see the setup, the group's number, the entries, and room for how many more.
+/// The entries are kept for contracts alone: who wants them again keeps what `step` answers.
 ///
 /// After `open` no call takes memory.
 #[derive(Drop)]
 pub struct Engine {
     setup: Setup,
     group: GroupNo,
-    room: usize,
-    entries: Vec<Entry>,
+    room: u32,
+    taken: u32,
+    entries: GhostList<Entry>,
     state: GroupState,
     ended: Option<(TaskNo, bool)>,
     // The clusters in which the last step placed links anew.
@@ -53,7 +56,7 @@ pub struct Engine {
 }
 
 impl Model for Engine {
-    ghost use Rattle.std.specs.Prelude.{◌-◌, vec_len, vec_capacity};
+    ghost use Rattle.std.specs.Prelude.{◌-◌};
     ghost use Rattle.rt_plays.specs.Groups.{GroupHistory};
     ghost use Rattle.group_engine.specs.Sound.{IsEngine};
 
@@ -63,12 +66,12 @@ impl Model for Engine {
       setup = a.setup;
       group = a.group.0;
       entries = a.entries.items;
-      spare = a.room - vec_len a.entries;
+      spare = a.room - a.taken;
     } };
 
     ghost invariant = { λ a.
         IsEngine (record { setup = a.setup; number = a.group.0 })
-        a.entries.items a.room (vec_capacity a.entries) a.state a.ended a.placed };
+        a.entries.items a.room a.taken a.state a.ended a.placed };
 }
 
 impl Engine {
@@ -80,15 +83,14 @@ impl Engine {
             ≡ record { setup = setup.now; group = group.0; entries = []; spare = room }) }
     {
         let setup = setup.share()?;
-        // The longest block first: it takes the place of what was freed before, in pages that were touched.
-        let entries = Vec::with_capacity(alloc, room as usize)?;
         let state = GroupState::open(alloc, &setup, group, room)?;
         let placed = PlacedMarks::new(alloc, setup.parts().clusters.as_slice().len())?;
         Ok(Engine {
             setup,
             group,
-            room: room as usize,
-            entries,
+            room,
+            taken: 0,
+            entries: GhostList::new(),
             state,
             ended: None,
             placed,
@@ -99,17 +101,17 @@ impl Engine {
     pub fn spare(&self) -> u32
         ensures { result ≡ self.now.spare }
     {
-        (self.room - self.entries.len()) as u32
+        self.room - self.taken
     }
 
-    /// The entries so far, in order.
-    pub fn entries(&self) -> &[Entry]
-        ensures entries { result.now ≡ self.now.entries }
+    /// How many steps it has taken.
+    pub fn taken(&self) -> u32
+        ensures taken { result ≡ length self.now.entries }
         ensures legal { IsLegalNow self.now }
         ensures steps { AreStepsOf (group_of self.now) self.now.entries }
         ensures room { length self.now.entries + self.now.spare ≤ MOST_STEPS }
     {
-        self.entries.as_slice()
+        self.taken
     }
 
     /// The task that the processor is linked to, `None` where there is none.
@@ -145,6 +147,7 @@ impl Engine {
     }
 
     /// What the processor's next act depends on. It takes a constant time.
+    #[inline(always)]
     pub fn situation(&self, cpu: CpuNo) -> Situation
         requires { IsProcessorOf (group_of self.now) cpu.0 }
         ensures { result ≡ situation (group_of self.now) cpu.0 (past self.now) }
@@ -225,6 +228,7 @@ impl Engine {
             &mut self.placed,
             step,
         );
+        self.taken += 1;
         self.ended = answer.ended;
         answer.reply
     }
@@ -257,6 +261,7 @@ impl Engine {
             &mut self.placed,
             step,
         );
+        self.taken += 1;
         self.ended = answer.ended;
         answer.reply
     }
@@ -268,27 +273,27 @@ impl Engine {
 fn take_act(
     parts: &Parts,
     state: &mut GroupState,
-    entries: &mut Vec<Entry>,
+    entries: &mut GhostList<Entry>,
     placed: &mut PlacedMarks,
     step: Step,
 ) -> Answer
     requires { (at : Extent)
-        × IsMoved at step parts.now entries.old.items (vec_capacity entries.old) state.old }
+        × IsMoved at step parts.now entries.old.items state.old }
     ensures reply { (at : Extent)
-        → IsMoved at step parts.now entries.old.items (vec_capacity entries.old) state.old
+        → IsMoved at step parts.now entries.old.items state.old
         → result.reply ≡ reply_to at.group step (past_of at.group entries.old.items) }
     ensures entry { entries.new.items
         ≡ entries.old.items ++ record { step = step; reply = result.reply } ∷ [] }
     ensures ended { (at : Extent)
-        → IsMoved at step parts.now entries.old.items (vec_capacity entries.old) state.old
+        → IsMoved at step parts.now entries.old.items state.old
         → result.ended ≡ ended_last at.group (past_of at.group entries.new.items) }
     ensures sound { (at : Extent)
-        → IsMoved at step parts.now entries.old.items (vec_capacity entries.old) state.old
-        → IsSound at.group entries.new.items at.room (vec_capacity entries.new) state.new }
+        → IsMoved at step parts.now entries.old.items state.old
+        → IsSound at.group entries.new.items at.room state.new }
     ensures links { StayLinked placed.old placed.new state.old state.new }
 {
     let answer = state.act(parts, step.cpu, step.act, placed);
-    entries.push_reserved(Entry {
+    *entries = entries.with(&Entry {
         step,
         reply: answer.reply,
     });

@@ -2,7 +2,9 @@
 #![tactic(auto)]
 
 mod engine;
+mod keeping;
 mod state;
 
 pub use engine::Engine;
 pub use group_core::WaitingList;
+pub use keeping::KeepingEngine;

@@ -129,6 +129,7 @@ impl GroupState {
     }
 
     /// What the processor's next act depends on.
+    #[inline(always)]
     pub(crate) fn situation(&self, cpu: CpuNo) -> Situation
         requires { CanTell cpu.0 self.now }
         ensures { (at : GroupAt) → IsPlayed at.group → IsAt at.group at.past self.now

@@ -6,7 +6,7 @@ ghost use Rattle.set_runs.specs.Runs.{AreDriven, IsDriven, IsRunOf};
 
 use crate::turn_run::drive_all_turns;
 use cpu_site::{CpuSeat, Gate, Site, drive};
-use group_engine::Engine;
+use group_engine::KeepingEngine;
 use rt_base::{GroupNo, NoMemory};
 use rt_task::{Drive, Setup};
 use std::alloc::Global;
@@ -67,7 +67,7 @@ pub(crate) fn run_group<R: Threads + Wait + Sync, G: Gate + Sync>(
     setup: &Setup,
     group: GroupNo,
     gate: &G,
-) -> Result<Engine, NoMemory>
+) -> Result<KeepingEngine, NoMemory>
     requires { IsGroupOf setup.now group.0 }
     ensures { IfOk result (λ engine. IsRunOf setup.now group.0 engine) }
 {

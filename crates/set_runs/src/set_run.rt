@@ -5,7 +5,7 @@ ghost use Rattle.set_runs.specs.Runs.{AreRunsOf, IsRunOf};
 
 use crate::group_run::run_group;
 use cpu_site::Gate;
-use group_engine::Engine;
+use group_engine::KeepingEngine;
 use rt_base::{GroupNo, NoMemory};
 use rt_task::Setup;
 use std::alloc::Global;
@@ -14,7 +14,10 @@ use std::thread::{self, Threads};
 use trace_text::count_groups;
 
 /// The engines, where memory ran out for none of them.
-fn all_run(alloc: Global, runs: Vec<Result<Engine, NoMemory>>) -> Result<Vec<Engine>, NoMemory>
+fn all_run(
+    alloc: Global,
+    runs: Vec<Result<KeepingEngine, NoMemory>>,
+) -> Result<Vec<KeepingEngine>, NoMemory>
     ensures { IfOk result (λ engines. runs.items ≡ map Ok engines.items) }
 {
     let mut engines = Vec::new(alloc);
@@ -35,10 +38,10 @@ pub fn run_set<R: Threads + Wait + Sync, G: Gate + Sync>(
     alloc: Global,
     setup: &Setup,
     gate: &G,
-) -> Result<Vec<Engine>, NoMemory>
+) -> Result<Vec<KeepingEngine>, NoMemory>
     ensures { IfOk result (λ engines. AreRunsOf setup.now engines.items) }
 {
-    let run = |n: usize| -> Result<Engine, NoMemory>
+    let run = |n: usize| -> Result<KeepingEngine, NoMemory>
         requires { (n < 2 ^ 32) × IsGroupOf setup.now n }
         ensures { IfOk result (λ engine. IsRunOf setup.entry.now n engine) }
     { run_group(rt, alloc, setup, GroupNo(n as u32), gate) };

@@ -11,7 +11,7 @@ ghost use Rattle.trace_upgrade.specs.Said.{TellsPlays};
 mod groups;
 mod replay;
 
-use group_engine::Engine;
+use group_engine::KeepingEngine;
 use groups::groups_said;
 use replay::engines_again;
 use rt_base::NoMemory;
@@ -38,7 +38,11 @@ pub fn groups_in(
 }
 
 /// Their engines: each has taken the steps of its group again, and has no room for more.
-pub fn engines_in(alloc: Global, head: &TraceHead, bytes: &[u8]) -> Result<Vec<Engine>, NoMemory>
+pub fn engines_in(
+    alloc: Global,
+    head: &TraceHead,
+    bytes: &[u8],
+) -> Result<Vec<KeepingEngine>, NoMemory>
     requires read { IsHeadOf bytes.now head.now }
     requires says { (hs : List (List Entry)) × TellsPlays bytes.now head.now hs }
     ensures groups { IfOk result (λ v. AreGroupsOf head.now.setup v.items) }

@@ -17,7 +17,7 @@ ghost use Rattle.trace_writer.specs.declared.stop.WriteStop.TheVariants as stops
 use crate::WriteStop;
 use crate::counts::write_counts;
 use crate::groups::write_all;
-use group_engine::Engine;
+use group_engine::KeepingEngine;
 use rt_base::NoMemory;
 use rt_fault::Sink;
 use rt_task::Setup;
@@ -30,7 +30,7 @@ use trace_tools::{Bus, TraceTool};
 fn steps_again<'a>(
     alloc: Global,
     setup: &Setup,
-    groups: &'a [Engine],
+    groups: &'a [KeepingEngine],
 ) -> Result<Vec<GroupSteps<'a>>, NoMemory>
     requires groups { AreGroupsOf setup.now groups.now }
     ensures steps { IfOk result (λ v. AreGroupSteps setup.now v.items) }
@@ -55,7 +55,7 @@ pub fn write_trace<T: TraceTool, K: Sink>(
     alloc: Global,
     version: Version,
     setup: &Setup,
-    groups: &[Engine],
+    groups: &[KeepingEngine],
     bus: &mut Bus<T>,
     out: &mut K,
 ) -> Result<(), WriteStop>
@@ -80,7 +80,7 @@ fn write_engines<T: TraceTool, K: Sink>(
     alloc: Global,
     version: Version,
     setup: &Setup,
-    groups: &[Engine],
+    groups: &[KeepingEngine],
     bus: &mut Bus<T>,
     out: &mut K,
 ) -> Result<(), WriteStop>
@@ -100,7 +100,7 @@ pub fn write_shown_trace<T: TraceTool, K: Sink>(
     alloc: Global,
     version: Version,
     setup: &Setup,
-    groups: &[Engine],
+    groups: &[KeepingEngine],
     bus: &Bus<T>,
     out: &mut K,
 ) -> Result<(), WriteStop>

@@ -1,4 +1,4 @@
-use Rattle.std.proofs.Common.{ap, ◌∙◌, arith, vec_capacity}
+use Rattle.std.proofs.Common.{ap, ◌∙◌, arith}
 use Rattle.rt_model.specs.Histories.{reply_to}
 use Rattle.rt_plays.specs.Groups.{GroupHistory, group_of, past}
 use Rattle.rt_plays.specs.Plays.{group_with}
@@ -11,11 +11,11 @@ use Rattle.group_engine.proofs.engine.Engine.step.Goals as goal
 use Rattle.group_engine.proofs.engine.Engine.step.Goals.{After-move_clock}
 
 pub move_clock-requires : goal.move_clock-requires
-move_clock-requires c = can_move _ _ c.self.view_is _ _ _ c.self.invariant.sound _ c.requires.step _ c.parts-parts.ensures.parts
+move_clock-requires c = can_move _ _ c.self.view_is _ _ c.self.invariant.sound _ c.requires.step _ c.parts-parts.ensures.parts
 
 -- the clock has moved to the step's tick
-moved : (c : After-move_clock) → IsMoved (record { group = group_with c.self.inside.setup c.self.inside.group.0; room = c.self.inside.room }) c.args.step c.parts-parts.result.now c.self.inside.entries.items (vec_capacity c.self.inside.entries) c.move_clock.new.self
-moved c = has_moved _ _ c.self.view_is _ _ _ c.self.invariant.sound _ c.requires.step _ c.parts-parts.ensures.parts _ (omega (arith, c.self.inside.entries.ok.0)) c.requires.room c.move_clock.ensures.moved c.move_clock.ensures.room
+moved : (c : After-move_clock) → IsMoved (record { group = group_with c.self.inside.setup c.self.inside.group.0; room = c.self.inside.room }) c.args.step c.parts-parts.result.now c.self.inside.entries.items c.move_clock.new.self
+moved c = has_moved _ _ c.self.view_is _ _ c.self.invariant.sound _ c.requires.step _ c.parts-parts.ensures.parts _ (omega (arith, c.self.invariant.taken_is)) c.requires.room c.move_clock.ensures.moved c.move_clock.ensures.room
 
 pub take_act-answer-requires : goal.take_act-answer-requires
 take_act-answer-requires c = (_, moved (goal.at.take_act-answer-requires c).After-move_clock)
@@ -23,7 +23,7 @@ take_act-answer-requires c = (_, moved (goal.at.take_act-answer-requires c).Afte
 pub invariant_of-self : goal.invariant_of-self
 invariant_of-self c =
     let act = c.take_act-answer.ensures in
-    stepped _ _ _ _ (moved (goal.at.invariant_of-self c).After-move_clock) c.self.invariant.sound act.sound act.ended act.entry c.move_clock.ensures.links act.links
+    stepped _ _ _ _ (moved (goal.at.invariant_of-self c).After-move_clock) c.self.invariant.sound act.sound act.ended act.entry c.move_clock.ensures.links act.links c.self.invariant.taken_is
 
 pub returns-clause-reply : goal.returns-clause-reply
 returns-clause-reply c = c.take_act-answer.ensures.reply _ (moved (goal.at.returns-clause-reply c).After-move_clock) ∙ ap (λ (h : GroupHistory). reply_to (group_of h) c.args.step (past h)) c.self.view_is
