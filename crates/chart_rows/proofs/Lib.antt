@@ -6,6 +6,8 @@ pub mod Foretelling
 pub mod Waits
 pub mod Ranks
 pub mod UpTo
+pub mod ReadyTasks
+pub mod ReadyStates
 mod OneChanged
 mod OneRow
 mod Finishing

@@ -5,5 +5,6 @@ pub mod Looks
 pub mod Listed
 pub mod Foretold
 pub mod UpTo
+pub mod ReadyJobs
 pub mod inside
 pub mod RunCells

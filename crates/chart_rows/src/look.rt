@@ -1,5 +1,5 @@
 //! What a state of a group shows.
-ghost use Rattle.std.specs.Prelude.{◌≡◌, [], IfOk, OnOk, not, true};
+ghost use Rattle.std.specs.Prelude.{◌≡◌, [], IfOk, IfSome, OnOk, not, true};
 ghost use Rattle.rt_base.specs.TaskNos.{number_of_task};
 ghost use Rattle.rt_rules.specs.Numbers.{has};
 ghost use Rattle.rt_model.specs.Group.{Group, tasks};
@@ -13,7 +13,9 @@ ghost use Rattle.chart_cells.specs.Kept.{later, state_cell};
 ghost use Rattle.chart_cells.specs.KeptFirst.{cpu_at_end};
 ghost use Rattle.chart_rows.specs.Looks as looks;
 ghost use Rattle.chart_rows.specs.Looks.{state_doing};
+ghost use Rattle.chart_rows.specs.ReadyJobs.{IsReadyWith, ready_cell};
 
+use crate::ready_jobs::ReadyJob;
 use chart_cells::{Cell, CpuCell, Doing, Playing};
 use rank_afresh::Afresh;
 use rt_base::{CpuNo, NoMemory, SemNo, TaskNo};
@@ -62,6 +64,29 @@ fn is_raised(key: Key, base: Key) -> bool
     key != base
 }
 
+/// Makes a cell that of a task that does this in a state, where it stands.
+#[inline(never)]
+fn set_cell(
+    cell: &mut Cell,
+    alloc: Global,
+    afresh: &Afresh,
+    task: TaskNo,
+    doing: Doing,
+) -> Result<(), NoMemory>
+    requires { has task.0 (tasks (group_of afresh.now)) ≡ true }
+    ensures { OnOk result ((past : Past) → IsAt afresh.now past → cell_shown cell.new
+        ≡ cell_at (group_of afresh.now) (doing_shown doing) task.0 past) }
+{
+    let held = afresh.held(alloc, task)?;
+    let job = afresh.done(task) + 1;
+    cell.doing = doing;
+    cell.job = job;
+    cell.held = held;
+    cell.non_preemptive = afresh.non_preemptive(task);
+    cell.raised = is_raised(afresh.effective_key(task), afresh.base_key(task));
+    Ok(())
+}
+
 /// The cell of a task that does this in a state.
 pub(crate) fn cell_with(
     alloc: Global,
@@ -73,52 +98,60 @@ pub(crate) fn cell_with(
     ensures { IfOk result (λ c. (past : Past) → IsAt afresh.now past → cell_shown c
         ≡ cell_at (group_of afresh.now) (doing_shown doing) task.0 past) }
 {
-    let held = afresh.held(alloc, task)?;
-    let job = afresh.done(task) + 1;
-    Ok(Cell {
-        doing,
-        job,
-        held,
-        non_preemptive: afresh.non_preemptive(task),
-        raised: is_raised(afresh.effective_key(task), afresh.base_key(task)),
-    })
+    let mut cell = Cell::away(alloc);
+    set_cell(&mut cell, alloc, afresh, task, doing)?;
+    Ok(cell)
 }
 
-/// Keeps the cell of a task that does this in a state. It stands apart, so that a task that shows nothing new is passed by quickly.
-#[inline(never)]
-fn keep_state(
-    kept: &mut Cell,
-    alloc: Global,
-    afresh: &Afresh,
-    task: TaskNo,
-    doing: Doing,
-) -> Result<(), NoMemory>
-    requires { has task.0 (tasks (group_of afresh.now)) ≡ true }
-    ensures { OnOk result ((past : Past) → IsAt afresh.now past → cell_shown kept.new
-        ≡ cell_at (group_of afresh.now) (doing_shown doing) task.0 past) }
+/// The job of a cell that shows a task as ready and without a semaphore.
+fn ready_job(cell: &Cell) -> Option<ReadyJob>
+    ensures { IfSome result (λ j. cell_shown cell.now ≡ ready_cell j) }
 {
-    *kept = cell_with(alloc, afresh, task, doing)?;
-    Ok(())
+    if matches!(cell.doing, Doing::Ready) && cell.held.is_empty() && !cell.raised {
+        return Some(ReadyJob {
+            number: cell.job,
+            non_preemptive: cell.non_preemptive,
+        });
+    }
+    None
 }
 
-/// Takes what a state of the column shows of a task, if that is more than what was so before. The rest of its cell is read only then.
+/// Takes what a state of the column shows of a task, if that is more than what was so before. The rest of its cell is read only then;
+/// and where it is ready and without a semaphore, that is its job.
 #[inline(always)]
 pub(crate) fn see_state(
     kept: &mut Cell,
     alloc: Global,
     afresh: &Afresh,
     task: TaskNo,
-) -> Result<(), NoMemory>
+) -> Result<Option<ReadyJob>, NoMemory>
     requires task { has task.0 (tasks (group_of afresh.now)) ≡ true }
     requires at { (past : Past) × IsAt afresh.now past }
-    ensures { OnOk result ((past : Past) → IsAt afresh.now past → cell_shown kept.new
+    ensures seen { OnOk result ((past : Past) → IsAt afresh.now past → cell_shown kept.new
         ≡ later (cell_shown kept.old) (state_cell (group_of afresh.now) task.0 past)) }
+    ensures ready { IfOk result (λ o. IfSome o (λ j. (past : Past) → IsAt afresh.now past
+        → IsReadyWith (group_of afresh.now) past task.0 j)) }
 {
     let doing = doing_in(afresh, task);
     if kept.gives_way_to(&doing) {
-        keep_state(kept, alloc, afresh, task, doing)?;
+        set_cell(kept, alloc, afresh, task, doing)?;
+        return Ok(ready_job(kept));
     }
-    Ok(())
+    Ok(None)
+}
+
+/// The same of a task that is known to be ready, with this job.
+#[inline(always)]
+pub(crate) fn see_ready(kept: &mut Cell, job: ReadyJob)
+    ensures { cell_shown kept.new ≡ later (cell_shown kept.old) (ready_cell job) }
+{
+    if kept.gives_way_to(&Doing::Ready) {
+        kept.doing = Doing::Ready;
+        kept.job = job.number;
+        kept.held.clear();
+        kept.non_preemptive = job.non_preemptive;
+        kept.raised = false;
+    }
 }
 
 fn playing_by(task: Option<TaskNo>) -> Playing

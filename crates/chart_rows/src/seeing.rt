@@ -12,14 +12,16 @@ ghost use Rattle.view_acts.specs.ShownActs.{act_shown};
 ghost use Rattle.chart_rows.specs.inside.Finding.{only};
 ghost use Rattle.chart_rows.specs.inside.Plays.{played_shown};
 ghost use Rattle.chart_rows.specs.Listed.{tasks_listed};
+ghost use Rattle.chart_rows.specs.ReadyJobs.{AreReady};
 ghost use Rattle.chart_rows.specs.Rows as rows;
 ghost use Rattle.chart_rows.specs.UpTo.{IsUpTo};
 
 use crate::acting::arriving;
 use crate::cpus::CpuFeed;
 use crate::finding::{are_same, position_of};
-use crate::look::{cpu_at_end, see_state};
+use crate::look::{cpu_at_end, see_ready, see_state};
 use crate::loops::Played;
+use crate::ready_jobs::ReadyJobs;
 use crate::resvs::ResvFeed;
 use crate::tasks::TaskFeed;
 use rank_afresh::Afresh;
@@ -35,7 +37,61 @@ fn see_task(row: &mut TaskFeed, alloc: Global, afresh: &Afresh) -> Result<(), No
         → row.new ≡ rows.task_seen (group_of afresh.now) past row.old) }
 {
     let task = row.task();
-    see_state(&mut row.kept, alloc, afresh, task)
+    see_state(&mut row.kept, alloc, afresh, task)?;
+    Ok(())
+}
+
+/// The same, with what is known of tasks that are ready: of such a one nothing is read.
+#[inline(always)]
+fn see_task_with(
+    row: &mut TaskFeed,
+    alloc: Global,
+    afresh: &Afresh,
+    ready: &mut ReadyJobs,
+) -> Result<(), NoMemory>
+    requires task { has row.old.task (groups.tasks (group_of afresh.now)) ≡ true }
+    requires at { (past : Past) × IsAt afresh.now past }
+    ensures row { OnOk result ((past : Past) → IsAt afresh.now past
+        → AreReady (group_of afresh.now) past ready.old
+        → row.new ≡ rows.task_seen (group_of afresh.now) past row.old) }
+    ensures ready { OnOk result ((past : Past) → IsAt afresh.now past
+        → AreReady (group_of afresh.now) past ready.old
+        → AreReady (group_of afresh.now) past ready.new) }
+{
+    let task = row.task();
+    if let Some(job) = ready.get(task) {
+        see_ready(&mut row.kept, job);
+        return Ok(());
+    }
+    let Some(job) = see_state(&mut row.kept, alloc, afresh, task)? else {
+        return Ok(());
+    };
+    ready.set(task, Some(job));
+    Ok(())
+}
+
+/// A state more for the rows of tasks, with what is known of tasks that are ready.
+pub(crate) fn see_tasks_with(
+    tasks: &mut [TaskFeed],
+    alloc: Global,
+    afresh: &Afresh,
+    ready: &mut ReadyJobs,
+) -> Result<(), NoMemory>
+    requires tasks { All (λ (k : rows.TaskKept).
+        has k.task (groups.tasks (group_of afresh.now)) ≡ true) tasks.old }
+    requires at { (past : Past) × IsAt afresh.now past
+        × AreReady (group_of afresh.now) past ready.old }
+    ensures tasks { OnOk result ((past : Past) → IsAt afresh.now past
+        → AreReady (group_of afresh.now) past ready.old
+        → tasks.new ≡ map (rows.task_seen (group_of afresh.now) past) tasks.old) }
+    ensures ready { OnOk result ((past : Past) → IsAt afresh.now past
+        → AreReady (group_of afresh.now) past ready.old
+        → AreReady (group_of afresh.now) past ready.new) }
+{
+    for row in tasks.iter_mut() {
+        see_task_with(row, alloc, afresh, ready)?;
+    }
+    Ok(())
 }
 
 /// A state more for the rows of tasks.

@@ -24,7 +24,7 @@ ghost use Rattle.span_feed.specs.Spanned.{unmarked};
 
 use crate::opening::{cpu_tracks, resv_tracks, task_tracks};
 use crate::taking::take_column;
-use chart_rows::{CpuFeed, Rows, Unit, foretell, keep_if_done, place_of};
+use chart_rows::{CpuFeed, ReadyJobs, Rows, Unit, foretell, keep_if_done, place_of};
 use event_lines::GroupTracks;
 use rank_afresh::Afresh;
 use rt_base::{CpuNo, GroupNo, NoMemory, ResvNo, TaskNo, Tick};
@@ -43,12 +43,13 @@ pub struct Members<'a> {
 
 /// The spans of a group over the ticks that are over, and what there is of the newest tick, while its steps are taken again. Each
 /// step is shown by four calls, in this order: `turn` before the clock is moved, `see` after that, `foretell` before the act, and
-/// `act` after it. Memory is taken for the spans, and not for ticks. All tasks are looked at once a tick, and after an act those alone
-/// that it touches.
+/// `act` after it. Memory is taken for the spans, and not for ticks. All tasks are looked at once a tick, but for those that are known to
+/// be ready still, and after an act those alone that it touches.
 #[derive(Drop)]
 pub struct SpanFeed {
     rows: Rows,
     tracks: GroupTracks,
+    ready: ReadyJobs,
     /// After `turn`: whether the tick that goes on has states before the move of the clock.
     begun: bool,
 }
@@ -62,7 +63,14 @@ fn has_unit(row: &CpuFeed) -> bool
 
 impl SpanFeed {
     /// A group at opening.
-    pub fn open(alloc: Global, members: &Members, afresh: &Afresh) -> Result<SpanFeed, NoMemory>
+    pub fn open(
+        alloc: Global,
+        parts: &Parts,
+        members: &Members,
+        afresh: &Afresh,
+    ) -> Result<SpanFeed, NoMemory>
+        requires valid { IsValid parts.now }
+        requires parts { parts.now ≡ afresh.now.setup }
         requires group { members.now.group.0 ≡ afresh.now.group }
         requires tasks { numbers members.now.tasks.now ≡ groups.tasks (group_of afresh.now) }
         requires cpus { cpu_numbers members.now.cpus.now
@@ -79,9 +87,11 @@ impl SpanFeed {
             cpus: cpu_tracks(alloc, members.cpus)?,
             resvs: resv_tracks(alloc, members.resvs)?,
         };
+        let ready = ReadyJobs::new(alloc, parts.tasks.as_slice().len() + 1)?;
         Ok(SpanFeed {
             rows,
             tracks,
+            ready,
             begun: true,
         })
     }
@@ -92,10 +102,11 @@ impl SpanFeed {
         requires held { (past : Past) × (over : List Strip) × (going : Strip) × IsAt afresh.now past
             × (newest going.states ≡ past)
             × Holds (group_of afresh.now) over going self.old }
-        ensures { OnOk result ((past : Past) (over : List Strip) (going : Strip)
+        ensures ended { OnOk result ((past : Past) (over : List Strip) (going : Strip)
             → IsAt afresh.now past → newest going.states ≡ past → now ≡ length over
             → Holds (group_of afresh.now) over going self.old
             → Holds (group_of afresh.now) (over ++ going ∷ []) blank self.new) }
+        ensures known { OnOk result (self.new.ready ≡ self.old.ready) }
     {
         self.rows.finish(alloc, afresh)?;
         take_column(&mut self.rows, &mut self.tracks, alloc, now, now + 1)
@@ -111,11 +122,12 @@ impl SpanFeed {
     ) -> Result<(), NoMemory>
         requires { (past : Past) × (over : List Strip) × IsAt afresh.now past
             × Holds (group_of afresh.now) over blank self.old }
-        ensures { OnOk result ((past : Past) (over : List Strip)
+        ensures passed { OnOk result ((past : Past) (over : List Strip)
             → IsAt afresh.now past → from ≡ length over
             → Holds (group_of afresh.now) over blank self.old
             → Holds (group_of afresh.now) (over ++ replicate (to - from) (seen past blank)) blank
             self.new) }
+        ensures known { OnOk result (self.new.ready ≡ self.old.ready) }
     {
         if to <= from {
             return Ok(());
@@ -161,7 +173,8 @@ impl SpanFeed {
         if self.begun {
             return Ok(());
         }
-        self.rows.see(alloc, afresh)
+        self.rows.see_with(alloc, afresh, &mut self.ready)?;
+        Ok(())
     }
 
     /// Whether the row of the processor, where it is found at once, has a unit of the tick that goes on: then it has worked in it.
@@ -219,6 +232,7 @@ impl SpanFeed {
     {
         keep_if_done(unit, act);
         self.rows.act(alloc, act, unit)?;
+        self.ready.take_act(act);
         self.rows.see_after(alloc, afresh, act)
     }
 

@@ -47,7 +47,7 @@ impl Player for Recording {
             resvs: resvs.as_slice(),
         };
         let replay = Replay::open(alloc, setup, group, room)?;
-        let feed = SpanFeed::open(alloc, &members, replay.afresh())?;
+        let feed = SpanFeed::open(alloc, parts, &members, replay.afresh())?;
         let table = JobTable::open(alloc, parts.tasks.as_slice().len() as u32)?;
         Ok(Recording {
             replay,

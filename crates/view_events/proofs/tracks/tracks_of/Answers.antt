@@ -12,6 +12,12 @@ use Rattle.view_events.specs.inside.Recordings.{group_of}
 use Rattle.view_events.proofs.Marked.{marked-are, unmarked-tasks}
 use Rattle.view_events.proofs.tracks.tracks_of.Goals as goal
 
+pub close-requires-clause-fed : goal.close-requires-clause-fed
+close-requires-clause-fed c =
+    let past = c.requires.recorded.0 in
+    let is = c.requires.recorded.1 in
+    (past, c.now-clock.ensures.at past is.at, c.afresh.ensures.at past is.at, subst (λ (x : Group). IsFed x past c.args.recording.feed) (sym c.afresh.ensures.group) is.fed)
+
 pub marked-requires : goal.marked-requires
 marked-requires c =
     let g = group_of c.args.recording in

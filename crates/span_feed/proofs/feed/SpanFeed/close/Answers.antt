@@ -10,9 +10,9 @@ use Rattle.span_feed.proofs.feed.SpanFeed.close.Goals as goal
 pub end_tick-requires-clause-held : goal.end_tick-requires-clause-held
 end_tick-requires-clause-held c =
     let past = c.requires.fed.0 in
-    (past, ticks_below past (now past), tick_strip past (now past), c.requires.fed.2, newest-strip past, c.requires.fed.3)
+    (past, ticks_below past (now past), tick_strip past (now past), c.requires.fed.2, newest-strip past, c.requires.fed.3.0)
 
 pub returns : goal.returns
 returns c = λ past now_is at fed.
-    let ended = c.in_ok-end_tick.ensures past (ticks_below past (now past)) (tick_strip past (now past)) at (newest-strip past) (now_is ∙ sym (length-below past (now past))) fed in
+    let ended = c.in_ok-end_tick.ensures.ended past (ticks_below past (now past)) (tick_strip past (now past)) at (newest-strip past) (now_is ∙ sym (length-below past (now past))) fed.0 in
     ended.tracks_are ∙ all-over (group_of c.args.afresh.now) past

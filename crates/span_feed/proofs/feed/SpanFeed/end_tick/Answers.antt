@@ -15,8 +15,8 @@ take_column-requires c =
     let g = group_of c.args.afresh.now in
     (g, h.1, h.2, column-ended g (group_tracks_shown c.args.self.now.tracks) h.1 h.2 h.0 c.args.self.now.rows c.finish.new.self h.4 h.5 (c.in_ok-finish.ensures h.0 h.3))
 
-pub returns : goal.returns
-returns c =
+pub returns-clause-ended : goal.returns-clause-ended
+returns-clause-ended c =
     let g = group_of c.args.afresh.now in
     let later : c.args.now < c.args.now + 1 = omega arith in
     on_ok_weaker c.take_column.result (λ taken past over going at newest long has.

@@ -1,4 +1,7 @@
-use Rattle.std.proofs.Common.{◌∙◌, [], map, ap}
+use Rattle.std.proofs.Common.{◌∙◌, [], map, ap, subst, sym}
+use Rattle.rt_task.specs.Validity.{IsValid}
+use Rattle.chart_rows.specs.ReadyJobs.{AreReady}
+use Rattle.chart_rows.proofs.ReadyStates.{none-ready}
 use Rattle.rank_afresh.specs.Standing.{group_of}
 use Rattle.chart_rows.specs.Strips.{blank}
 use Rattle.chart_rows.proofs.RowParts.{rows-listed}
@@ -14,8 +17,9 @@ see-requires-clause-listed c =
 pub returns : goal.returns
 returns c =
     let g = group_of c.args.afresh.now in
-    opened g c.in_ok-rows.rows c.see.new.self _ (c.in_ok-rows.ensures g c.requires.tasks c.requires.cpus c.requires.resvs) (c.in_ok-see.ensures [] c.requires.at)
+    let rows = opened g c.in_ok-rows.rows c.see.new.self _ (c.in_ok-rows.ensures g c.requires.tasks c.requires.cpus c.requires.resvs) (c.in_ok-see.ensures [] c.requires.at)
     c.requires.group
     (c.in_ok-task_tracks.ensures g ∙ ap (map (task_spanned g [])) c.requires.tasks)
     (c.in_ok-cpu_tracks.ensures g ∙ ap (map (cpu_spanned g [])) c.requires.cpus)
-    (c.in_ok-resv_tracks.ensures g ∙ ap (map (resv_spanned g [])) c.requires.resvs)
+    (c.in_ok-resv_tracks.ensures g ∙ ap (map (resv_spanned g [])) c.requires.resvs) in
+    (rows, (subst IsValid c.requires.parts c.requires.valid, subst (AreReady g []) (sym c.in_ok-ready.ensures) (none-ready g [] _)))

@@ -26,8 +26,8 @@ take_column-requires c =
     let shown = state-seen g tracks over blank past c.args.self.now.rows c.see.new.self c.requires.3 (c.in_ok-see.ensures past c.requires.2) in
     (g, over, seen past blank, column-ended g tracks over (seen past blank) past c.see.new.self c.finish.new.self refl shown (c.in_ok-finish.ensures past c.requires.2))
 
-pub returns : goal.returns
-returns c =
+pub returns-clause-passed : goal.returns-clause-passed
+returns-clause-passed c =
     let g = group_of c.args.afresh.now in
     let tracks = group_tracks_shown c.args.self.now.tracks in
     let later : c.args.from < c.args.to = omega (arith, c.if-to-from.false) in

@@ -5,6 +5,12 @@ use Rattle.rt_model.specs.Past.{Clock}
 use Rattle.span_feed.specs.Feeds.{IsFed, IsTurned}
 use Rattle.view_events.proofs.recording.RecordingPlayer.move_clock.Goals as goal
 
+pub turn-requires-clause-fed : goal.turn-requires-clause-fed
+turn-requires-clause-fed c =
+    let past = c.requires.at.1 in
+    let is = c.requires.at.2.1 in
+    (past, c.now.ensures.at past is.at, c.afresh.ensures.at past is.at, subst (λ (g : Group). IsFed g past c.args.self.now.feed) (sym c.afresh.ensures.group) is.fed)
+
 pub see-requires : goal.see-requires
 see-requires c =
     let past = c.requires.at.1 in

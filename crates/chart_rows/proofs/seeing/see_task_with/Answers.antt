@@ -1,0 +1,27 @@
+use Rattle.std.proofs.lemmas.Option.{MatchOption-at_some}
+use Rattle.std.proofs.Common.{◌∙◌, ap, subst, sym}
+use Rattle.std.specs.Prelude.{None, slice_index_or}
+use Rattle.rank_afresh.specs.Standing.{IsAt, group_of}
+use Rattle.chart_cells.specs.Cells.{cell_shown}
+use Rattle.chart_rows.specs.RunCells.{cells_of_runs, ends_of_runs}
+use Rattle.chart_rows.specs.ReadyJobs.{AreReady, IsReadyWith}
+use Rattle.chart_rows.specs.declared.ready_jobs.ReadyJob.{ReadyJob}
+use Rattle.rt_model.specs.Past.{Past}
+use Rattle.chart_rows.specs.Rows.{TaskKept, task_seen}
+use Rattle.chart_rows.proofs.ReadyStates.{ready-more, seen-ready}
+use Rattle.chart_rows.proofs.seeing.see_task_with.Goals as goal
+
+pub returns-in-Some-clause-row : goal.returns-in-Some-clause-row
+returns-in-Some-clause-row c = λ past at all.
+    let g = group_of c.args.afresh.now in
+    let was = c.row.inside in
+    let k : TaskKept = record { task = was.task.0; cells = cells_of_runs was.closed.items; ends = ends_of_runs was.closed.items; kept = cell_shown was.kept; end = was.end } in
+    let there = ap (λ n. slice_index_or c.args.ready.now n None) (ap (λ (x : TaskKept). x.task) c.row.view_is ∙ sym c.task-task.ensures) ∙ sym c.get.ensures ∙ c.in-Some.is in
+    seen-ready g past c.args.ready.now k c.in-Some.job _ all there c.see_ready.ensures ∙ ap (task_seen g past) c.row.view_is
+
+pub returns-clause-ready : goal.returns-clause-ready
+returns-clause-ready c = λ past at all.
+    let g = group_of c.args.afresh.now in
+    let known : ReadyJob → Type 0 = λ j. (x : Past) → IsAt c.args.afresh.now x → IsReadyWith g x c.task-task.result.0 j in
+    let job = MatchOption-at_some _ known _ c.in-Some-2.is c.in_ok-job.ensures.ready in
+    subst (AreReady g past) (sym c.set.ensures) (ready-more g past c.args.ready.now c.task-task.result.0 _ all (job past at))
