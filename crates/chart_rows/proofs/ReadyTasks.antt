@@ -35,7 +35,7 @@ use Rattle.chart_rows.specs.ReadyJobs.{AreReady, IsReadyWith, untouched, without
 use Rattle.chart_rows.specs.UpTo.{touches}
 use Rattle.chart_rows.proofs.Waits.{stays-free}
 
--- ---- the list
+-- ---- the list: who is in it without the tasks that an act touches
 
 left : (js : List (Option ReadyJob)) (u t : ℕ) (j : ReadyJob) → slice_index_or (slice_set js u None) t None ≡ Some j → (t == u ≡ false) × (slice_index_or js t None ≡ Some j)
 left [] u t j h = cc
@@ -44,7 +44,7 @@ left (x ∷ js) zero (suc t) j h = (grind (arith, nat_tests), h)
 left (x ∷ js) (suc u) zero j h = (grind (arith, nat_tests), h)
 left (x ∷ js) (suc u) (suc t) j h = let p = left js u t j h in (grind (arith, nat_tests, p.0), p.1)
 
-without-left : (o : Option ℕ) (js : List (Option ReadyJob)) (t : ℕ) (j : ReadyJob) → slice_index_or (without o js) t None ≡ Some j → (is t o ≡ false) × (slice_index_or js t None ≡ Some j)
+pub without-left : (o : Option ℕ) (js : List (Option ReadyJob)) (t : ℕ) (j : ReadyJob) → slice_index_or (without o js) t None ≡ Some j → (is t o ≡ false) × (slice_index_or js t None ≡ Some j)
 without-left None js t j h = (refl, h)
 without-left (Some u) js t j h = left js u t j h
 

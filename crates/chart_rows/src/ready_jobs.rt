@@ -1,5 +1,5 @@
 //! The tasks that are ready and have nothing to do with semaphores, from one state to the next.
-ghost use Rattle.std.specs.Prelude.{◌≡◌, ◌+◌, IfOk, None, replicate, slice_index_or, slice_set};
+ghost use Rattle.std.specs.Prelude.{◌≡◌, IfOk, None, replicate, slice_index_or, slice_set};
 ghost use Rattle.rt_base.specs.TaskNos.{number_of_task};
 ghost use Rattle.view_acts.specs.ShownActs.{act_shown};
 ghost use Rattle.chart_rows.specs.ReadyJobs.{untouched, without};
@@ -43,7 +43,7 @@ impl ReadyJobs {
     }
 
     /// The job of a task, where it is known.
-    pub(crate) fn get(&self, task: TaskNo) -> Option<ReadyJob>
+    pub fn get(&self, task: TaskNo) -> Option<ReadyJob>
         ensures { result ≡ slice_index_or self.now task.0 None }
     {
         match self.jobs.get(task.0 as usize) {

@@ -1,7 +1,12 @@
 pub mod Extending
 pub mod Sameness
 pub mod Pairs
+pub mod Beside
 pub mod TickLaws
 pub mod Tracking
 pub mod Feeding
 pub mod Spent
+pub mod LaneLaws
+pub mod Holding
+pub mod Taken
+pub mod Fed

@@ -1,4 +1,6 @@
 pub mod Extended
 pub mod TickStrips
 pub mod Spanned
+pub mod Lane
+pub mod Begun
 pub mod Feeds

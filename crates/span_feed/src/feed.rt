@@ -15,15 +15,17 @@ ghost use Rattle.chart_cells.specs.Cells.{cpu_numbers};
 ghost use Rattle.chart_texts.specs.Charts.{group_resvs};
 ghost use Rattle.view_acts.specs.ShownActs.{act_shown};
 ghost use Rattle.chart_rows.specs.Foretold.{IsForetold, moment_of};
+ghost use Rattle.chart_rows.specs.ReadyJobs.{AreReady};
 ghost use Rattle.chart_rows.specs.Strips.{Strip, blank, seen};
 ghost use Rattle.chart_rows.specs.Units.{resv_numbers};
 ghost use Rattle.event_lines.specs.Shown.{group_tracks_shown};
 ghost use Rattle.event_lines.specs.TracksOf.{tracks_of};
-ghost use Rattle.span_feed.specs.Feeds.{Holds, IsFed, IsTurned};
+ghost use Rattle.span_feed.specs.Feeds.{Begins, Holds, IsFed, IsTurned};
 ghost use Rattle.span_feed.specs.Spanned.{unmarked};
 
-use crate::opening::{cpu_tracks, resv_tracks, task_tracks};
-use crate::taking::take_column;
+use crate::lanes::GroupLanes;
+use crate::opening::{cpu_tracks, resv_tracks, task_lanes};
+use crate::taking::{close_lanes, take_column};
 use chart_rows::{CpuFeed, ReadyJobs, Rows, Unit, foretell, keep_if_done, place_of};
 use event_lines::GroupTracks;
 use rank_afresh::Afresh;
@@ -48,7 +50,7 @@ pub struct Members<'a> {
 #[derive(Drop)]
 pub struct SpanFeed {
     rows: Rows,
-    tracks: GroupTracks,
+    lanes: GroupLanes,
     ready: ReadyJobs,
     /// After `turn`: whether the tick that goes on has states before the move of the clock.
     begun: bool,
@@ -81,16 +83,16 @@ impl SpanFeed {
     {
         let mut rows = Rows::open(alloc, members.tasks, members.cpus, members.resvs)?;
         rows.see(alloc, afresh)?;
-        let tracks = GroupTracks {
+        let lanes = GroupLanes {
             group: members.group,
-            tasks: task_tracks(alloc, members.tasks)?,
+            tasks: task_lanes(alloc, members.tasks)?,
             cpus: cpu_tracks(alloc, members.cpus)?,
             resvs: resv_tracks(alloc, members.resvs)?,
         };
         let ready = ReadyJobs::new(alloc, parts.tasks.as_slice().len() + 1)?;
         Ok(SpanFeed {
             rows,
-            tracks,
+            lanes,
             ready,
             begun: true,
         })
@@ -100,16 +102,23 @@ impl SpanFeed {
     fn end_tick(&mut self, alloc: Global, afresh: &Afresh, now: u64) -> Result<(), NoMemory>
         requires now { now < TICK_END }
         requires held { (past : Past) × (over : List Strip) × (going : Strip) × IsAt afresh.now past
-            × (newest going.states ≡ past)
+            × (newest going.states ≡ past) × (now ≡ length over)
             × Holds (group_of afresh.now) over going self.old }
         ensures ended { OnOk result ((past : Past) (over : List Strip) (going : Strip)
             → IsAt afresh.now past → newest going.states ≡ past → now ≡ length over
             → Holds (group_of afresh.now) over going self.old
-            → Holds (group_of afresh.now) (over ++ going ∷ []) blank self.new) }
+            → Begins (group_of afresh.now) (over ++ going ∷ []) self.new) }
         ensures known { OnOk result (self.new.ready ≡ self.old.ready) }
     {
         self.rows.finish(alloc, afresh)?;
-        take_column(&mut self.rows, &mut self.tracks, alloc, now, now + 1)
+        take_column(
+            alloc,
+            &mut self.rows,
+            &mut self.lanes,
+            &self.ready,
+            now,
+            now + 1,
+        )
     }
 
     /// The ticks from one on up to another, which show the newest state.
@@ -121,11 +130,12 @@ impl SpanFeed {
         to: u64,
     ) -> Result<(), NoMemory>
         requires { (past : Past) × (over : List Strip) × IsAt afresh.now past
-            × Holds (group_of afresh.now) over blank self.old }
+            × AreReady (group_of afresh.now) past self.old.ready × (from ≡ length over)
+            × Begins (group_of afresh.now) over self.old }
         ensures passed { OnOk result ((past : Past) (over : List Strip)
-            → IsAt afresh.now past → from ≡ length over
-            → Holds (group_of afresh.now) over blank self.old
-            → Holds (group_of afresh.now) (over ++ replicate (to - from) (seen past blank)) blank
+            → IsAt afresh.now past → AreReady (group_of afresh.now) past self.old.ready
+            → from ≡ length over → Begins (group_of afresh.now) over self.old
+            → Begins (group_of afresh.now) (over ++ replicate (to - from) (seen past blank))
             self.new) }
         ensures known { OnOk result (self.new.ready ≡ self.old.ready) }
     {
@@ -134,7 +144,14 @@ impl SpanFeed {
         }
         self.rows.see(alloc, afresh)?;
         self.rows.finish(alloc, afresh)?;
-        take_column(&mut self.rows, &mut self.tracks, alloc, from, to)
+        take_column(
+            alloc,
+            &mut self.rows,
+            &mut self.lanes,
+            &self.ready,
+            from,
+            to,
+        )
     }
 
     /// Ends the ticks before one to which the clock is to be moved from this one.
@@ -251,6 +268,7 @@ impl SpanFeed {
             → group_tracks_shown x ≡ unmarked (tracks_of (group_of afresh.now) past)) }
     {
         self.end_tick(alloc, afresh, now.0)?;
-        Ok(self.tracks)
+        let tracks = close_lanes(alloc, self.lanes, now.0 + 1)?;
+        Ok(tracks)
     }
 }

@@ -2,6 +2,8 @@
 #![tactic(auto)]
 
 mod feed;
+mod lane;
+mod lanes;
 mod opening;
 mod same;
 mod spans;

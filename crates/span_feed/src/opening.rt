@@ -1,30 +1,28 @@
-//! The tracks of a group before its first tick.
+//! What a group's tasks, processors and reservations have done before its first tick: nothing.
 ghost use Rattle.std.specs.Prelude.{◌≡◌, [], IfOk, map};
 ghost use Rattle.rt_base.specs.TaskNos.{numbers};
 ghost use Rattle.rt_model.specs.Group.{Group};
 ghost use Rattle.chart_cells.specs.Cells.{cpu_numbers};
 ghost use Rattle.chart_rows.specs.Units.{resv_numbers};
-ghost use Rattle.event_lines.specs.Shown.{cpu_track_shown, resv_track_shown, task_track_shown};
+ghost use Rattle.event_lines.specs.Shown.{cpu_track_shown, resv_track_shown};
+ghost use Rattle.span_feed.specs.Lane.{track_to};
 ghost use Rattle.span_feed.specs.Spanned.{cpu_spanned, resv_spanned, task_spanned};
 
-use event_lines::{CpuTrack, ResvTrack, TaskTrack};
+use crate::lane::TaskLane;
+use event_lines::{CpuTrack, ResvTrack};
 use rt_base::{CpuNo, NoMemory, ResvNo, TaskNo};
 use std::alloc::Global;
 
-/// The tracks of these tasks.
-pub(crate) fn task_tracks(alloc: Global, tasks: &[TaskNo]) -> Result<Vec<TaskTrack>, NoMemory>
+/// The spans of these tasks.
+pub(crate) fn task_lanes(alloc: Global, tasks: &[TaskNo]) -> Result<Vec<TaskLane>, NoMemory>
     ensures { IfOk result (λ v. (g : Group)
-        → map task_track_shown v.items ≡ map (task_spanned g []) (numbers tasks.now)) }
+        → map (track_to 0) v.items ≡ map (task_spanned g []) (numbers tasks.now)) }
 {
-    let mut tracks = Vec::new(alloc);
+    let mut lanes = Vec::new(alloc);
     for task in tasks {
-        tracks.push(TaskTrack {
-            task: *task,
-            spans: Vec::new(alloc),
-            jobs: Vec::new(alloc),
-        })?;
+        lanes.push(TaskLane::new(alloc, *task))?;
     }
-    Ok(tracks)
+    Ok(lanes)
 }
 
 /// The tracks of these processors.

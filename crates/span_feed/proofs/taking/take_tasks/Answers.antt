@@ -1,27 +1,47 @@
-use Rattle.std.proofs.Common.{◌≡◌, ◌∙◌, ◌<◌, length, map, sym, arith}
-use Rattle.std.proofs.lemmas.List.{length-map}
-use Rattle.chart_rows.proofs.Changed.{changed-all, changed-at, changed-more}
-use Rattle.chart_rows.specs.Rows.{task_cleared}
-use Rattle.event_lines.specs.Shown.{task_track_shown}
+use Rattle.std.proofs.Common.{◌≡◌, ◌∙◌, ℕ, ◌<◌, List, length, sym, ap, subst, arith}
+use Rattle.std.specs.Prelude.{Option, None, slice_index_or}
+use Rattle.rt_model.specs.Group.{Group}
+use Rattle.chart_cells.specs.Kept.{finished}
+use Rattle.chart_rows.specs.ReadyJobs.{ready_cell}
+use Rattle.chart_rows.specs.Rows.{TaskKept}
+use Rattle.chart_rows.specs.declared.ready_jobs.ReadyJob.{ReadyJob}
+use Rattle.span_feed.specs.Begun.{IsLeft}
+use Rattle.span_feed.specs.Lane.{track_to}
 use Rattle.span_feed.specs.Spanned.{task_more}
-use Rattle.span_feed.proofs.Pairs.{paired-all, paired-more}
+use Rattle.span_feed.proofs.Beside.{next-x, taken-more, taken-none}
+use Rattle.span_feed.proofs.Taken.{IsTaken, taken-begun, taken-cleared, taken-tracks}
 use Rattle.span_feed.proofs.taking.take_tasks.Goals as goal
 
-pub loop-i-preserved : goal.loop-i-preserved
-loop-i-preserved c = λ g.
-    let before = c.loop-i.invariant g in
-    let read = changed-at (task_cleared g) c.args.rows.now c.loop-i.rows c.loop-i.i c.index-rows-i.result c.loop-i-test.true before.0 c.index-rows-i.is in
-    let below : c.loop-i.i < length c.loop-i.tracks = omega (arith, c.loop-i-test.true, c.requires, c.loop-i.auto.tracks) in
-    let long : length (map task_track_shown c.args.tracks.now) ≡ length c.loop-i.tracks = length-map c.args.tracks.now task_track_shown ∙ sym c.loop-i.auto.tracks in
-    let made = c.in_ok-take_task.ensures.track ∙ (λ j. task_more c.args.from c.args.to (sym c.index-rows-i.is j) (task_track_shown (sym c.index-tracks-i.is j))) in (
-      changed-more (task_cleared g) c.args.rows.now c.loop-i.rows c.loop-i.i c.index-rows-i.result c.take_task.new.row c.loop-i-test.true before.0 c.index-rows-i.is (c.in_ok-take_task.ensures.row g),
-      paired-more (task_more c.args.from c.args.to) task_track_shown c.loop-i.i c.args.rows.now (map task_track_shown c.args.tracks.now) c.loop-i.tracks c.index-rows-i.result c.index-tracks-i.result c.take_task.new.track
-          c.loop-i-test.true below long before.1 read c.index-tracks-i.is made,
-    )
+pub take-requires : goal.take-requires
+take-requires c = λ j h.
+    let js = c.args.ready.now in
+    let r : TaskKept = c.index-rows-i.result in
+    let below : c.loop-i.i < length c.args.lanes.now = omega (arith, c.loop-i-test.true, c.requires.long) in
+    let same : r ≡ slice_index_or c.args.rows.now c.loop-i.i r =
+    next-x (IsTaken js c.args.from c.args.to) c.loop-i.i c.args.rows.now c.loop-i.rows c.args.lanes.now c.loop-i.lanes r r c.index-lanes-i.result c.index-lanes-i.result
+    c.loop-i-test.true below c.loop-i.auto.rows c.loop-i.auto.lanes c.loop-i.invariant c.index-rows-i.is c.index-lanes-i.is r c.index-lanes-i.result in
+    let known = ap (λ (k : TaskKept). slice_index_or js k.task None) (sym same ∙ c.index-rows-i.is ∙ sym c.row.view_is) ∙ sym c.get-known.ensures ∙ h in
+    subst (λ (k : TaskKept). (x : List ℕ) × (k.kept ≡ finished x (ready_cell j))) (sym same ∙ c.index-rows-i.is) (c.requires.shown c.loop-i.i r c.loop-i-test.true j known)
 
-pub returns : goal.returns
-returns c = λ g.
-    let after = c.loop-i.invariant g in (
-      after.0 ∙ changed-all (task_cleared g) c.args.rows.now c.loop-i.i c.loop-i-test.false,
-      after.1 ∙ paired-all (task_more c.args.from c.args.to) c.loop-i.i c.args.rows.now (map task_track_shown c.args.tracks.now) c.loop-i-test.false,
-    )
+pub loop-i-preserved : goal.loop-i-preserved
+loop-i-preserved c =
+    let js = c.args.ready.now in
+    let r : TaskKept = c.index-rows-i.result in
+    let below : c.loop-i.i < length c.args.lanes.now = omega (arith, c.loop-i-test.true, c.requires.long) in
+    let known : c.get-known.result ≡ slice_index_or js r.task None = c.get-known.ensures ∙ ap (λ (k : TaskKept). slice_index_or js k.task None) (c.row.view_is ∙ sym c.index-rows-i.is) in
+    let left = subst (λ (o : Option ReadyJob). (g : Group) → IsLeft g o r c.take.new.row) known (subst (λ (k : TaskKept). (g : Group) → IsLeft g c.get-known.result k c.take.new.row) (sym c.index-rows-i.is) c.in_ok-take.ensures.row) in
+    let track = c.in_ok-take.ensures.track ∙ (λ t. task_more c.args.from c.args.to (sym c.index-rows-i.is t) (track_to c.args.from (sym c.index-lanes-i.is t))) in
+    taken-more (IsTaken js c.args.from c.args.to) c.loop-i.i c.args.rows.now c.loop-i.rows c.args.lanes.now c.loop-i.lanes r c.take.new.row c.index-lanes-i.result c.take.new.self
+    c.loop-i-test.true below c.loop-i.auto.rows c.loop-i.auto.lanes c.loop-i.invariant c.index-rows-i.is c.index-lanes-i.is (left, track)
+
+pub returns-clause-cleared : goal.returns-clause-cleared
+returns-clause-cleared c =
+    taken-cleared c.args.ready.now c.args.from c.args.to c.loop-i.i c.args.rows.now c.loop-i.rows c.args.lanes.now c.loop-i.lanes c.loop-i-test.false c.requires.long c.loop-i.auto.rows c.loop-i.auto.lanes c.loop-i.invariant
+
+pub returns-clause-begun : goal.returns-clause-begun
+returns-clause-begun c =
+    taken-begun c.args.ready.now c.args.from c.args.to c.loop-i.i c.args.rows.now c.loop-i.rows c.args.lanes.now c.loop-i.lanes c.loop-i-test.false c.requires.long c.loop-i.auto.rows c.loop-i.auto.lanes c.loop-i.invariant
+
+pub returns-clause-lanes : goal.returns-clause-lanes
+returns-clause-lanes c =
+    taken-tracks c.args.ready.now c.args.from c.args.to c.loop-i.i c.args.rows.now c.loop-i.rows c.args.lanes.now c.loop-i.lanes c.loop-i-test.false c.requires.long c.loop-i.auto.rows c.loop-i.auto.lanes c.loop-i.invariant

@@ -1,14 +1,22 @@
-use Rattle.std.proofs.Common.{[], ◌∷◌, refl, subst, sym}
+use Rattle.std.proofs.Common.{◌∙◌, List, [], ◌∷◌, ap, length, refl, subst, sym, All}
+use Rattle.std.specs.Prelude.{Option}
 use Rattle.std.proofs.lemmas.Result.{on_ok_weaker}
-use Rattle.rt_model.specs.Past.{Acted}
+use Rattle.rt_model.specs.Past.{Acted, now}
 use Rattle.rank_afresh.specs.Standing.{group_of}
 use Rattle.trace_views.specs.Moments.{Moment}
 use Rattle.view_acts.specs.ShownActs.{act_shown}
-use Rattle.chart_rows.specs.ReadyJobs.{AreReady}
+use Rattle.chart_rows.specs.ReadyJobs.{AreReady, untouched}
+use Rattle.chart_rows.specs.Rows.{RowsKept, rows_seen}
+use Rattle.chart_rows.specs.Strips.{Strip}
+use Rattle.chart_rows.specs.declared.ready_jobs.ReadyJob.{ReadyJob}
 use Rattle.chart_rows.proofs.ReadyTasks.{ready-after-act}
 use Rattle.chart_rows.proofs.RowParts.{rows-listed}
-use Rattle.event_lines.specs.Shown.{group_tracks_shown}
-use Rattle.span_feed.proofs.Feeding.{act-taken, acted-up-to, spans-same, state-seen}
+use Rattle.span_feed.specs.Begun.{IsShown}
+use Rattle.span_feed.specs.Feeds.{tracks_to}
+use Rattle.span_feed.specs.TickStrips.{ticks_below}
+use Rattle.span_feed.proofs.Fed.{holds-same}
+use Rattle.span_feed.proofs.Feeding.{act-taken, acted-up-to, state-seen}
+use Rattle.span_feed.proofs.Holding.{all-act-shown}
 use Rattle.chart_rows.proofs.TickLaws.{strip-acted}
 use Rattle.span_feed.proofs.TickLaws.{below-acted}
 use Rattle.span_feed.proofs.feed.SpanFeed.act.Goals as goal
@@ -16,31 +24,41 @@ use Rattle.span_feed.proofs.feed.SpanFeed.act.Goals as goal
 pub see_after-requires-clause-listed : goal.see_after-requires-clause-listed
 see_after-requires-clause-listed c =
     let g = group_of c.args.afresh.now in
-    let tracks = group_tracks_shown c.args.self.now.tracks in
-    let m : Moment = record { act = act_shown c.args.act.now; before = c.requires.acted.0 } in
+    let f = c.args.self.now in
+    let past = c.requires.acted.0 in
+    let tracks = tracks_to (length (ticks_below past (now past))) f.lanes in
+    let m : Moment = record { act = act_shown c.args.act.now; before = past } in
     let fed = c.requires.acted.3.0 in
-    let taken = act-taken g tracks _ _ m _ c.act.new.self fed (c.in_ok-act.ensures g m (rows-listed g [] _ c.args.self.now.rows fed.rows_are) refl (c.keep_if_done.ensures g m refl c.requires.acted.2)) in
+    let taken = act-taken g tracks _ _ m _ c.act.new.self fed.spans (c.in_ok-act.ensures g m (rows-listed g [] _ f.rows fed.spans.rows_are) refl (c.keep_if_done.ensures g m refl c.requires.acted.2)) in
     rows-listed g [] _ c.act.new.self taken.rows_are
 
 pub see_after-requires-clause-at : goal.see_after-requires-clause-at
 see_after-requires-clause-at c =
     let g = group_of c.args.afresh.now in
-    let tracks = group_tracks_shown c.args.self.now.tracks in
+    let f = c.args.self.now in
     let past = c.requires.acted.0 in
+    let tracks = tracks_to (length (ticks_below past (now past))) f.lanes in
     let m : Moment = record { act = act_shown c.args.act.now; before = past } in
     let fed = c.requires.acted.3.0 in
-    let taken = act-taken g tracks _ _ m _ c.act.new.self fed (c.in_ok-act.ensures g m (rows-listed g [] _ c.args.self.now.rows fed.rows_are) refl (c.keep_if_done.ensures g m refl c.requires.acted.2)) in
+    let taken = act-taken g tracks _ _ m _ c.act.new.self fed.spans (c.in_ok-act.ensures g m (rows-listed g [] _ f.rows fed.spans.rows_are) refl (c.keep_if_done.ensures g m refl c.requires.acted.2)) in
     (past, c.requires.acted.1, acted-up-to g past _ c.act.new.self tracks m taken)
 
 pub returns : goal.returns
 returns c =
     let g = group_of c.args.afresh.now in
-    let tracks = group_tracks_shown c.args.self.now.tracks in
+    let f = c.args.self.now in
     let d = act_shown c.args.act.now in
     on_ok_weaker c.see_after.result (λ made past at foretold fed.
+    let over : List Strip = ticks_below past (now past) in
+    let tracks = tracks_to (length over) f.lanes in
     let m : Moment = record { act = d; before = past } in
-    let taken = act-taken g tracks _ _ m _ c.act.new.self fed.0 (c.in_ok-act.ensures g m (rows-listed g [] _ c.args.self.now.rows fed.0.rows_are) refl (c.keep_if_done.ensures g m refl foretold)) in
-    let spans = spans-same g tracks _ _ _ _ _ (below-acted d past) (sym (strip-acted d past))
-    (state-seen g tracks _ _ (Acted d ∷ past) _ _ taken (made past at (acted-up-to g past _ c.act.new.self tracks m taken))) in
-    let ready = ready-after-act g d past c.args.self.now.ready fed.1.0 at.core_at.reachable fed.1.1 in
-    (spans, (fed.1.0, subst (AreReady g (Acted d ∷ past)) (sym c.take_act.ensures) ready))) c.see_after.ensures
+    let acted = c.in_ok-act.ensures g m (rows-listed g [] _ f.rows fed.0.spans.rows_are) refl (c.keep_if_done.ensures g m refl foretold) in
+    let taken = act-taken g tracks _ _ m _ c.act.new.self fed.0.spans acted in
+    let seen_all = made past at (acted-up-to g past _ c.act.new.self tracks m taken) in
+    let spans = state-seen g tracks _ _ (Acted d ∷ past) _ _ taken seen_all in
+    let ready = ready-after-act g d past f.ready fed.1.0 at.core_at.reachable fed.1.1 in
+    let all = all-act-shown g past d f.ready ready f.rows.tasks fed.0.shown in
+    let rows = subst (λ (v : RowsKept). All (IsShown (untouched d f.ready)) v.tasks) (sym (seen_all ∙ ap (rows_seen g (Acted d ∷ past)) acted)) all in
+    let shown = subst (λ (js : List (Option ReadyJob)). All (IsShown js) c.see_after.new.self.tasks) (sym c.take_act.ensures) rows in
+    (holds-same g over _ _ _ (below-acted d past) (sym (strip-acted d past)) (record { spans = spans; shown = shown }),
+    (fed.1.0, subst (AreReady g (Acted d ∷ past)) (sym c.take_act.ensures) ready))) c.see_after.ensures

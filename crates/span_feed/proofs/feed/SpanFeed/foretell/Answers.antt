@@ -15,4 +15,4 @@ returns-then-has_worked c = λ past at.
 
 pub foretell-requires-clause-rows : goal.foretell-requires-clause-rows
 foretell-requires-clause-rows c =
-    ap resvs_listed c.as_slice.ensures.value ∙ ap (λ (f : SpanFeed). resvs_listed f.rows.resvs) c.self.view_is ∙ resvs-of (group_of c.args.afresh.now) [] _ c.args.self.now.rows c.requires.fed.2.0.rows_are
+    ap resvs_listed c.as_slice.ensures.value ∙ ap (λ (f : SpanFeed). resvs_listed f.rows.resvs) c.self.view_is ∙ resvs-of (group_of c.args.afresh.now) [] _ c.args.self.now.rows c.requires.fed.2.0.spans.rows_are

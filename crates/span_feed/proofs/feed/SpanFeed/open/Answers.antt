@@ -1,12 +1,16 @@
-use Rattle.std.proofs.Common.{◌∙◌, [], map, ap, subst, sym}
+use Rattle.std.proofs.Common.{◌∙◌, [], List, map, ap, subst, sym, All}
+use Rattle.std.specs.Prelude.{Option}
 use Rattle.rt_task.specs.Validity.{IsValid}
 use Rattle.chart_rows.specs.ReadyJobs.{AreReady}
+use Rattle.chart_rows.specs.declared.ready_jobs.ReadyJob.{ReadyJob}
 use Rattle.chart_rows.proofs.ReadyStates.{none-ready}
 use Rattle.rank_afresh.specs.Standing.{group_of}
 use Rattle.chart_rows.specs.Strips.{blank}
 use Rattle.chart_rows.proofs.RowParts.{rows-listed}
+use Rattle.span_feed.specs.Begun.{IsShown}
 use Rattle.span_feed.specs.Spanned.{cpu_spanned, resv_spanned, task_spanned}
 use Rattle.span_feed.proofs.Feeding.{opened}
+use Rattle.span_feed.proofs.Holding.{none-shown}
 use Rattle.span_feed.proofs.feed.SpanFeed.open.Goals as goal
 
 pub see-requires-clause-listed : goal.see-requires-clause-listed
@@ -17,9 +21,10 @@ see-requires-clause-listed c =
 pub returns : goal.returns
 returns c =
     let g = group_of c.args.afresh.now in
-    let rows = opened g c.in_ok-rows.rows c.see.new.self _ (c.in_ok-rows.ensures g c.requires.tasks c.requires.cpus c.requires.resvs) (c.in_ok-see.ensures [] c.requires.at)
+    let spans = opened g c.in_ok-rows.rows c.see.new.self _ (c.in_ok-rows.ensures g c.requires.tasks c.requires.cpus c.requires.resvs) (c.in_ok-see.ensures [] c.requires.at)
     c.requires.group
-    (c.in_ok-task_tracks.ensures g ∙ ap (map (task_spanned g [])) c.requires.tasks)
+    (c.in_ok-task_lanes.ensures g ∙ ap (map (task_spanned g [])) c.requires.tasks)
     (c.in_ok-cpu_tracks.ensures g ∙ ap (map (cpu_spanned g [])) c.requires.cpus)
     (c.in_ok-resv_tracks.ensures g ∙ ap (map (resv_spanned g [])) c.requires.resvs) in
-    (rows, (subst IsValid c.requires.parts c.requires.valid, subst (AreReady g []) (sym c.in_ok-ready.ensures) (none-ready g [] _)))
+    let shown = subst (λ (js : List (Option ReadyJob)). All (IsShown js) c.see.new.self.tasks) (sym c.in_ok-ready.ensures) (none-shown _ c.see.new.self.tasks) in
+    (record { spans = spans; shown = shown }, (subst IsValid c.requires.parts c.requires.valid, subst (AreReady g []) (sym c.in_ok-ready.ensures) (none-ready g [] _)))

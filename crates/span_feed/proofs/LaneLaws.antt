@@ -1,0 +1,76 @@
+-- The last of some spans: it lasts longer, and where its value is added it does nothing else.
+use Rattle.std.proofs.Common.{◌≡◌, ◌∙◌, ℕ, zero, suc, ◌-◌, ◌<◌, ◌≤◌, ◌⊎◌, inl, inr, Bool, true, false, List, [], ◌∷◌, length, map, get_or, set, refl, sym, ap, subst, arith}
+use Rattle.std.specs.Prelude.{Option, None, Some}
+use Rattle.trace_views.specs.Cells.{TaskCell}
+use Rattle.trace_views.specs.Cells as cells
+use Rattle.trace_views.specs.Spans.{Span}
+use Rattle.chart_cells.specs.Kept.{finished}
+use Rattle.chart_rows.specs.ReadyJobs.{ready_cell}
+use Rattle.chart_rows.specs.declared.ready_jobs.ReadyJob.{ReadyJob}
+use Rattle.chart_rows.specs.Rows.{TaskKept, task_cleared}
+use Rattle.rt_model.specs.Group.{Group}
+use Rattle.event_texts.specs.TaskSpans as task_texts
+use Rattle.event_lines.specs.Tracks.{TaskTrack}
+use Rattle.span_feed.specs.Begun.{IsHeld, IsLeft}
+use Rattle.span_feed.specs.Extended.{Decides, extended}
+use Rattle.span_feed.specs.Lane.{LastIs, TaskLane, last_to, spans_to, track_to}
+use Rattle.span_feed.specs.Spanned.{task_more}
+
+module _ {A : Type 0} (same : A → A → Bool) (from to : ℕ) (x : A) where
+  -- the value of the last span, which lasts up to where it is added
+  pub last-goes-on : Decides A same → (ss : List (Span A)) → LastIs x ss → extended same from to x (last_to from ss) ≡ last_to to ss
+  last-goes-on d [] h = absurd h
+  last-goes-on d (s ∷ []) h = let yes : same s.value x ≡ true = ap (λ y. same y x) h ∙ d.knows x in rw yes refl
+  last-goes-on d (s ∷ r ∷ []) h = ap (λ ys. s ∷ ys) (last-goes-on d (r ∷ []) h)
+  last-goes-on d (s ∷ r ∷ q ∷ ss) h = ap (λ ys. s ∷ ys) (last-goes-on d (r ∷ q ∷ ss) h)
+
+  -- any value: the last span lasts up to there
+  pub last-is-there : (ss : List (Span A)) → last_to to (extended same from to x ss) ≡ extended same from to x ss
+  last-is-there [] = refl
+  last-is-there (s ∷ []) = by_case (same s.value x) refl
+    where
+      by_case : (b : Bool) → same s.value x ≡ b → last_to to (extended same from to x (s ∷ [])) ≡ extended same from to x (s ∷ [])
+      by_case true h = rw h refl
+      by_case false h = rw h refl
+  last-is-there (s ∷ r ∷ []) = by_case (same r.value x) refl
+    where
+      by_case : (b : Bool) → same r.value x ≡ b → last_to to (extended same from to x (s ∷ r ∷ [])) ≡ extended same from to x (s ∷ r ∷ [])
+      by_case true h = rw h refl
+      by_case false h = rw h refl
+  last-is-there (s ∷ r ∷ q ∷ ss) = ap (λ ys. s ∷ ys) (last-is-there (r ∷ q ∷ ss))
+
+-- ---- as the last span is found
+
+module _ {A : Type 0} where
+  pub last-set : (n i : ℕ) (ss : List (Span A)) (s : Span A) → suc i ≡ length ss → s ≡ get_or ss i s → last_to n ss ≡ set ss i (record s { to = n })
+  last-set n i [] s last is = absurd (omega arith)
+  last-set n zero (r ∷ []) s last is = λ j. record (sym is j) { to = n } ∷ []
+  last-set n zero (r ∷ q ∷ ss) s last is = absurd (omega arith)
+  last-set n (suc i) (r ∷ []) s last is = absurd (omega arith)
+  last-set n (suc i) (r ∷ q ∷ ss) s last is = ap (λ ys. r ∷ ys) (last-set n i (q ∷ ss) s (omega arith) is)
+
+  pub last-found : (i : ℕ) (ss : List (Span A)) (s : Span A) (x : A) → suc i ≡ length ss → s ≡ get_or ss i s → s.value ≡ x → LastIs x ss
+  last-found i [] s x last is h = absurd (omega arith)
+  last-found zero (r ∷ []) s x last is h = ap (λ (q : Span A). q.value) (sym is) ∙ h
+  last-found zero (r ∷ q ∷ ss) s x last is h = absurd (omega arith)
+  last-found (suc i) (r ∷ []) s x last is h = absurd (omega arith)
+  last-found (suc i) (r ∷ q ∷ ss) s x last is h = last-found i (q ∷ ss) s x (omega arith) is h
+
+-- ---- a cell that is ready as its column ends is that of the state
+
+pub ready-unrun : (qs : List ℕ) (j : ReadyJob) (c : TaskCell) → c ≡ finished qs (ready_cell j) → c.doing ≡ cells.ready → c ≡ ready_cell j
+ready-unrun [] j c is ready = is
+ready-unrun (q ∷ qs) j c is ready = let no : cells.running (q ∷ qs) ≡ cells.ready = sym (ap (λ (k : TaskCell). k.doing) is) ∙ ready in cc
+
+-- ---- what is held of a column that is taken
+
+pub held-left : (g : Group) (known still still' : Option ReadyJob) (k was new : TaskKept) → IsHeld known still still' was new → was ≡ task_cleared g k → IsLeft g known k new
+held-left g known still still' k was new (inl h) cleared = inl (h.1 ∙ cleared)
+held-left g known still still' k was new (inr h) cleared = inr (h.0, h.1, h.3 ∙ ap (λ (x : TaskKept). let y : TaskKept = record x { kept = ready_cell h.0 } in y) cleared)
+
+pub held-track : (from to : ℕ) (known still : Option ReadyJob) (k : TaskKept) (x : TaskTrack) (was : TaskKept) (l : TaskLane) (new : TaskKept) → l.track ≡ task_more from to k x → still ≡ None → IsHeld known still l.still was new
+    → track_to to l ≡ task_more from to k x
+held-track from to known still k x was l new made none (inl h) = (λ i. record l.track { spans = spans_to to ((h.0 ∙ none) i) l.track.spans }) ∙ made
+held-track from to known still k x was l new made none (inr h) =
+    (λ i. record l.track { spans = spans_to to (h.2 i) l.track.spans }) ∙ (λ i. record (made i) { spans = last_to to (made i).spans })
+    ∙ (λ i. record (task_more from to k x) { spans = last-is-there task_texts.same_cell from to k.kept x.spans i })
