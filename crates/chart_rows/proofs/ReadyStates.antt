@@ -1,6 +1,6 @@
 -- What is known of a task whose cell in a state shows it ready and without a semaphore; and that what is known is written down.
-use Rattle.std.proofs.Common.{◌≡◌, ◌∙◌, ℕ, zero, suc, ◌+◌, ◌⊎◌, inl, inr, Bool, true, false, not, List, [], ◌∷◌, eqb-true, refl, sym, ap, subst}
-use Rattle.std.specs.Prelude.{Option, None, Some, if◌then◌else◌, ◌&&◌, ◌==◌, replicate, slice_index_or, slice_set}
+use Rattle.std.proofs.Common.{◌≡◌, ◌∙◌, ℕ, zero, suc, ◌⊎◌, inl, inr, Bool, true, false, List, [], ◌∷◌, eqb-true, refl, sym, ap, subst}
+use Rattle.std.specs.Prelude.{Option, None, Some, if◌then◌else◌, ◌==◌, replicate, slice_index_or, slice_set}
 use Rattle.rt_rules.specs.declared.Key.{Key}
 use Rattle.rt_rules.specs.OrderLaws.{same_key}
 use Rattle.rt_rules.proofs.BoolLaws.{both, not_false}
@@ -8,9 +8,7 @@ use Rattle.rt_model.specs.BaseKeys.{base_key}
 use Rattle.rt_model.specs.Blocking.{is_blocked}
 use Rattle.rt_model.specs.EffectiveKeys.{effective_key}
 use Rattle.rt_model.specs.Group.{Group}
-use Rattle.rt_model.specs.Holders.{awaits, holds}
-use Rattle.rt_model.specs.Jobs.{done}
-use Rattle.rt_model.specs.NonPreemptive.{non_preemptive}
+use Rattle.rt_model.specs.Holders.{awaits}
 use Rattle.rt_model.specs.Past.{Past}
 use Rattle.rt_model.specs.Releases.{exists}
 use Rattle.rt_model.specs.Sleep.{sleeps}

@@ -18,7 +18,6 @@ use Rattle.rt_model.specs.Releases.{exists, has_come, is_released, opens_early, 
 use Rattle.rt_model.specs.Runs.{runs}
 use Rattle.rt_model.specs.Sleep.{sleeps}
 use Rattle.rt_model.specs.Jobs.{done}
-use Rattle.rt_model.specs.NonPreemptive.{non_preemptive}
 use Rattle.rt_laws.proofs.Moves.{IsMove, clock_moves, cpu_acts, last_move}
 use Rattle.rt_laws.proofs.semaphores.Requests.{asks, frees}
 use Rattle.rt_changes.specs.HoldChanges.{IsServed, KeepsHolds}

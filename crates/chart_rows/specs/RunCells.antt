@@ -1,5 +1,5 @@
 -- Columns that are over, run by run: the cell of each, and whether a job ended there.
-use Rattle.std.specs.Prelude.{◌≡◌, ℕ, ◌-◌, ◌<◌, Bool, List, flat_map, length, map, slice_index_or}
+use Rattle.std.specs.Prelude.{◌≡◌, ◌-◌, ◌<◌, Bool, List, flat_map, length, map, slice_index_or}
 use Rattle.trace_views.specs.Cells.{TaskCell}
 use Rattle.chart_cells.specs.Cells.{cell_shown}
 use Rattle.chart_cells.specs.declared.cells.Marks.{Marks}

@@ -3,7 +3,7 @@ use Rattle.std.proofs.Common.{◌≡◌, ◌≢◌, ◌∙◌, ℕ, zero, suc, �
 use Rattle.std.specs.Prelude.{◌==◌}
 use Rattle.std.proofs.lemmas.Bool.Decides.{nat_tests}
 use Rattle.std.proofs.lemmas.Grind.{get_or-set_at}
-use Rattle.std.proofs.lemmas.List.{get_or-set_other, get_or_default, get_or_read}
+use Rattle.std.proofs.lemmas.List.{get_or-set_other, get_or_read}
 use Rattle.span_feed.specs.Spanned.{paired}
 
 module _ {A B : Type 0} (P : A → B → A → B → Type 0) where
@@ -38,8 +38,8 @@ module _ {A B : Type 0} (P : A → B → A → B → Type 0) where
             × (n + 1 ≤ i → (get_or (set xs' n x') i d ≡ get_or xs i d) × (get_or (set ys' n y') i e ≡ get_or ys i e))
         at is = (
           λ _. subst (λ b. P (get_or xs i d) (get_or ys i e) (get_or (set xs' n x') i d) b) (sym (get_or-set_at ys' n i y' e is there_y))
-          (subst (λ a. P (get_or xs i d) (get_or ys i e) a y') (sym (get_or-set_at xs' n i x' d is there_x))
-          (subst (λ b. P (get_or xs i d) b x' y') (next-y d e ∙ ap (λ k. get_or ys k e) (sym is)) (subst (λ a. P a y x' y') (next-x d e ∙ ap (λ k. get_or xs k d) (sym is)) made))),
+              (subst (λ a. P (get_or xs i d) (get_or ys i e) a y') (sym (get_or-set_at xs' n i x' d is there_x))
+              (subst (λ b. P (get_or xs i d) b x' y') (next-y d e ∙ ap (λ k. get_or ys k e) (sym is)) (subst (λ a. P a y x' y') (next-x d e ∙ ap (λ k. get_or xs k d) (sym is)) made))),
           λ late. absurd (omega arith),
         )
 
@@ -50,7 +50,7 @@ module _ {A B : Type 0} (P : A → B → A → B → Type 0) where
             let same_y = get_or-set_other ys' n i y' e other in
             let was = before i d e low_i below_i in (
               λ early. let less : i < n = omega arith in
-              subst (λ b. P (get_or xs i d) (get_or ys i e) (get_or (set xs' n x') i d) b) (sym same_y) (subst (λ a. P (get_or xs i d) (get_or ys i e) a (get_or ys' i e)) (sym same_x) (was.0 less)),
+                  subst (λ b. P (get_or xs i d) (get_or ys i e) (get_or (set xs' n x') i d) b) (sym same_y) (subst (λ a. P (get_or xs i d) (get_or ys i e) a (get_or ys' i e)) (sym same_x) (was.0 less)),
               λ late. let more : n ≤ i = omega arith in (same_x ∙ (was.1 more).0, same_y ∙ (was.1 more).1),
             )
 

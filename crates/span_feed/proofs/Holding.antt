@@ -1,18 +1,16 @@
 -- What is left in rows that are begun: the next state makes of them what it makes of blank ones; and what rows show of tasks that are
 -- known to be ready.
-use Rattle.std.proofs.Common.{◌≡◌, ◌∙◌, ℕ, zero, suc, ◌<◌, ◌≤◌, Bool, true, false, inl, inr, ◌⊎◌, List, [], ◌∷◌, length, map, get_or, refl, sym, ap, subst, arith, All}
-use Rattle.std.specs.Prelude.{Option, None, Some, ◌&&◌, if◌then◌else◌, replicate, slice_index_or, ⊤}
-use Rattle.std.proofs.lemmas.List.{get_or-map, length-map}
+use Rattle.std.proofs.Common.{◌≡◌, ◌∙◌, ℕ, zero, suc, true, false, inl, inr, List, [], ◌∷◌, map, get_or, refl, sym, ap, subst, arith, All}
+use Rattle.std.specs.Prelude.{Option, None, Some, ◌&&◌, replicate, slice_index_or, ⊤}
 use Rattle.rt_rules.specs.Distinct.{IsDistinct}
 use Rattle.rt_rules.specs.Numbers.{has, is}
 use Rattle.rt_rules.proofs.BoolLaws.{and_false}
 use Rattle.rt_model.specs.Group.{Group, tasks}
 use Rattle.rt_model.specs.Past.{Acted, Past, PastAct}
 use Rattle.rt_changes.specs.Touched.{arriving}
-use Rattle.trace_views.specs.Cells.{TaskCell, cell_at, cell_away}
-use Rattle.trace_views.specs.Cells as cells
+use Rattle.trace_views.specs.Cells.{TaskCell, cell_away}
 use Rattle.trace_views.specs.Moments.{Moment, is_unit}
-use Rattle.chart_cells.specs.Kept.{later, state_cell, with_unit}
+use Rattle.chart_cells.specs.Kept.{later, state_cell}
 use Rattle.chart_rows.specs.Listed.{AreListed, tasks_listed}
 use Rattle.chart_rows.specs.ReadyJobs.{AreReady, ready_cell, untouched, without}
 use Rattle.chart_rows.specs.Rows.{Played, RowsKept, TaskKept, rows_seen, running, task_acted, task_cleared, task_finished, task_seen}

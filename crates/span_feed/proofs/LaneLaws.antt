@@ -1,6 +1,6 @@
 -- The last of some spans: it lasts longer, and where its value is added it does nothing else.
-use Rattle.std.proofs.Common.{◌≡◌, ◌∙◌, ℕ, zero, suc, ◌-◌, ◌<◌, ◌≤◌, ◌⊎◌, inl, inr, Bool, true, false, List, [], ◌∷◌, length, map, get_or, set, refl, sym, ap, subst, arith}
-use Rattle.std.specs.Prelude.{Option, None, Some}
+use Rattle.std.proofs.Common.{◌≡◌, ◌∙◌, ℕ, zero, suc, inl, inr, Bool, true, false, List, [], ◌∷◌, length, get_or, set, refl, sym, ap, arith}
+use Rattle.std.specs.Prelude.{Option, None}
 use Rattle.trace_views.specs.Cells.{TaskCell}
 use Rattle.trace_views.specs.Cells as cells
 use Rattle.trace_views.specs.Spans.{Span}

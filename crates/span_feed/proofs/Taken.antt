@@ -1,5 +1,5 @@
 -- What is taken of the column of each task: its row is begun, and its spans go on.
-use Rattle.std.proofs.Common.{◌≡◌, ◌∙◌, ℕ, ◌<◌, ◌≤◌, inl, inr, List, [], length, map, get_or, refl, sym, ap, subst, arith, All}
+use Rattle.std.proofs.Common.{◌≡◌, ◌∙◌, ℕ, ◌<◌, ◌≤◌, inl, inr, List, [], length, map, get_or, sym, ap, arith, All}
 use Rattle.std.specs.Prelude.{Option, None, slice_index_or}
 use Rattle.rt_model.specs.Group.{Group}
 use Rattle.chart_rows.specs.ReadyJobs.{ready_cell}

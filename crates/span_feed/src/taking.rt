@@ -150,7 +150,11 @@ fn close_tasks(alloc: Global, lanes: Vec<TaskLane>, over: u64) -> Result<Vec<Tas
 }
 
 /// The tracks of a group, where so many ticks are over.
-pub(crate) fn close_lanes(alloc: Global, lanes: GroupLanes, over: u64) -> Result<GroupTracks, NoMemory>
+pub(crate) fn close_lanes(
+    alloc: Global,
+    lanes: GroupLanes,
+    over: u64,
+) -> Result<GroupTracks, NoMemory>
     ensures { IfOk result (λ x. group_tracks_shown x ≡ tracks_to over lanes) }
 {
     let tasks = close_tasks(alloc, lanes.tasks, over)?;

@@ -1,4 +1,4 @@
-use Rattle.std.proofs.Common.{◌≡◌, ◌∙◌, ◌-◌, ◌<◌, ap, arith, get_or, length, sym}
+use Rattle.std.proofs.Common.{◌∙◌, ◌-◌, ◌<◌, ap, arith, get_or, length, sym}
 use Rattle.std.proofs.lemmas.List.{get_or_read}
 use Rattle.chart_cells.specs.Cells.{cell_shown}
 use Rattle.chart_cells.specs.declared.cells.Run.{Run}

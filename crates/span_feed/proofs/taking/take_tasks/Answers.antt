@@ -8,7 +8,7 @@ use Rattle.chart_rows.specs.declared.ready_jobs.ReadyJob.{ReadyJob}
 use Rattle.span_feed.specs.Begun.{IsLeft}
 use Rattle.span_feed.specs.Lane.{track_to}
 use Rattle.span_feed.specs.Spanned.{task_more}
-use Rattle.span_feed.proofs.Beside.{next-x, taken-more, taken-none}
+use Rattle.span_feed.proofs.Beside.{next-x, taken-more}
 use Rattle.span_feed.proofs.Taken.{IsTaken, taken-begun, taken-cleared, taken-tracks}
 use Rattle.span_feed.proofs.taking.take_tasks.Goals as goal
 

@@ -59,6 +59,7 @@ returns c =
     let ready = ready-after-act g d past f.ready fed.1.0 at.core_at.reachable fed.1.1 in
     let all = all-act-shown g past d f.ready ready f.rows.tasks fed.0.shown in
     let rows = subst (λ (v : RowsKept). All (IsShown (untouched d f.ready)) v.tasks) (sym (seen_all ∙ ap (rows_seen g (Acted d ∷ past)) acted)) all in
-    let shown = subst (λ (js : List (Option ReadyJob)). All (IsShown js) c.see_after.new.self.tasks) (sym c.take_act.ensures) rows in
-    (holds-same g over _ _ _ (below-acted d past) (sym (strip-acted d past)) (record { spans = spans; shown = shown }),
-    (fed.1.0, subst (AreReady g (Acted d ∷ past)) (sym c.take_act.ensures) ready))) c.see_after.ensures
+    let shown = subst (λ (js : List (Option ReadyJob)). All (IsShown js) c.see_after.new.self.tasks) (sym c.take_act.ensures) rows in (
+      holds-same g over _ _ _ (below-acted d past) (sym (strip-acted d past)) (record { spans = spans; shown = shown }),
+      (fed.1.0, subst (AreReady g (Acted d ∷ past)) (sym c.take_act.ensures) ready),
+    )) c.see_after.ensures

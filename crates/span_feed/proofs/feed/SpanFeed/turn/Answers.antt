@@ -21,9 +21,14 @@ pass_ticks-requires c =
     let past = c.requires.fed.0 in
     let over = ticks_below past (now past) in
     let going = tick_strip past (now past) in
-    let ready = subst (AreReady (group_of c.args.afresh.now) past) (sym c.in_ok-end_tick.ensures.known) c.requires.fed.3.1.1 in
-    (past, over ++ going ∷ [], c.requires.fed.2, ready, next-long past c.args.now.0 c.requires.fed.1,
-    c.in_ok-end_tick.ensures.ended past over going c.requires.fed.2 (newest-strip past) (c.requires.fed.1 ∙ sym (length-below past (now past))) c.requires.fed.3.0)
+    let ready = subst (AreReady (group_of c.args.afresh.now) past) (sym c.in_ok-end_tick.ensures.known) c.requires.fed.3.1.1 in (
+      past,
+      over ++ going ∷ [],
+      c.requires.fed.2,
+      ready,
+      next-long past c.args.now.0 c.requires.fed.1,
+      c.in_ok-end_tick.ensures.ended past over going c.requires.fed.2 (newest-strip past) (c.requires.fed.1 ∙ sym (length-below past (now past))) c.requires.fed.3.0,
+    )
 
 pub returns : goal.returns
 returns c = λ past now_is at fed.
