@@ -1,6 +1,6 @@
 -- What is known of a task whose cell in a state shows it ready and without a semaphore; and that what is known is written down.
 use Rattle.std.proofs.Common.{◌≡◌, ◌∙◌, ℕ, zero, suc, ◌⊎◌, inl, inr, Bool, true, false, List, [], ◌∷◌, eqb-true, refl, sym, ap, subst}
-use Rattle.std.specs.Prelude.{Option, None, Some, if◌then◌else◌, ◌==◌, replicate, slice_index_or, slice_set}
+use Rattle.std.specs.Prelude.{Option, None, Some, if◌then◌else◌, ◌==◌, is_some, replicate, slice_index_or, slice_set}
 use Rattle.rt_rules.specs.declared.Key.{Key}
 use Rattle.rt_rules.specs.OrderLaws.{same_key}
 use Rattle.rt_rules.proofs.BoolLaws.{both, not_false}
@@ -82,6 +82,16 @@ ready-more g x js t j all known u k h = split (found-where js t u (Some j) k h)
 pub seen-ready : (g : Group) (x : Past) (js : List (Option ReadyJob)) (k : TaskKept) (j : ReadyJob) (kept' : TaskCell) → AreReady g x js → slice_index_or js k.task None ≡ Some j
     → kept' ≡ later k.kept (ready_cell j) → record k { kept = kept' } ≡ task_seen g x k
 seen-ready g x js k j kept' all there is = ap (λ (c : TaskCell). record k { kept = c }) (is ∙ ap (later k.kept) (sym (ready-cell g x k.task j (all k.task j there))))
+
+-- a row that shows it ready already stays
+pub ready-still : (g : Group) (x : Past) (js : List (Option ReadyJob)) (k : TaskKept) → AreReady g x js → is_some (slice_index_or js k.task None) ≡ true → k.kept.doing ≡ cells.ready → k ≡ task_seen g x k
+ready-still g x js k all there shown = by_job (slice_index_or js k.task None) refl there
+  where
+    by_job : (o : Option ReadyJob) → slice_index_or js k.task None ≡ o → is_some o ≡ true → k ≡ task_seen g x k
+    by_job None is some = cc
+    by_job (Some j) is some =
+        let stays : later k.kept (ready_cell j) ≡ k.kept = rw shown refl in
+        ap (λ (c : TaskCell). record k { kept = c }) (sym (ap (later k.kept) (ready-cell g x k.task j (all k.task j is)) ∙ stays))
 
 -- ---- at opening
 

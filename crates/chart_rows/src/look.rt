@@ -140,6 +140,14 @@ pub(crate) fn see_state(
     Ok(None)
 }
 
+/// Whether the task is ready.
+#[inline(always)]
+pub(crate) fn shows_ready(cell: &Cell) -> bool
+    ensures { result ≡ true → (cell_shown cell.now).doing ≡ views.ready }
+{
+    matches!(cell.doing, Doing::Ready)
+}
+
 /// The same of a task that is known to be ready, with this job.
 #[inline(always)]
 pub(crate) fn see_ready(kept: &mut Cell, job: ReadyJob)

@@ -19,7 +19,7 @@ ghost use Rattle.chart_rows.specs.UpTo.{IsUpTo};
 use crate::acting::arriving;
 use crate::cpus::CpuFeed;
 use crate::finding::{are_same, position_of};
-use crate::look::{cpu_at_end, see_ready, see_state};
+use crate::look::{cpu_at_end, see_ready, see_state, shows_ready};
 use crate::loops::Played;
 use crate::ready_jobs::ReadyJobs;
 use crate::resvs::ResvFeed;
@@ -59,6 +59,9 @@ fn see_task_with(
         → AreReady (group_of afresh.now) past ready.new) }
 {
     let task = row.task();
+    if shows_ready(&row.kept) && ready.get(task).is_some() {
+        return Ok(());
+    }
     if let Some(job) = ready.get(task) {
         see_ready(&mut row.kept, job);
         return Ok(());

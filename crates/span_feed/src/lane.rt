@@ -1,5 +1,5 @@
 //! The spans of a task over the ticks that are over, of which the last is left as it is while the task stays ready.
-ghost use Rattle.std.specs.Prelude.{◌≡◌, [], List, None, OnOk, Some, map, true};
+ghost use Rattle.std.specs.Prelude.{◌≡◌, [], List, None, OnOk, Some, map, slice_index_or, true};
 ghost use Rattle.rt_model.specs.Group.{Group};
 ghost use Rattle.trace_views.specs.Cells as cells;
 ghost use Rattle.chart_cells.specs.Cells.{cell_shown};
@@ -12,7 +12,7 @@ ghost use Rattle.span_feed.specs.Spanned.{task_more};
 
 use crate::spans::take_task_span;
 use chart_cells::{Cell, Doing};
-use chart_rows::{ReadyJob, TaskFeed};
+use chart_rows::{ReadyJob, ReadyJobs, TaskFeed};
 use event_lines::{TaskSpan, TaskTrack};
 use rt_base::{NoMemory, TaskNo};
 use std::alloc::Global;
@@ -42,6 +42,16 @@ fn same_job(one: ReadyJob, other: ReadyJob) -> bool
     ensures { result ≡ true → one ≡ other }
 {
     one.number == other.number && one.non_preemptive == other.non_preemptive
+}
+
+/// Whether this is the job that is known of a task.
+fn is_known(ready: &ReadyJobs, task: TaskNo, job: ReadyJob) -> bool
+    ensures { result ≡ true → slice_index_or ready.now task.0 None ≡ Some job }
+{
+    match ready.get(task) {
+        Some(known) => same_job(known, job),
+        None => false,
+    }
 }
 
 /// Whether a cell shows a task ready, without a semaphore and with this job.
@@ -105,15 +115,16 @@ impl TaskLane {
 
     /// Whether the task stays ready, with the job that is known of it, in the column of its row, which has ended.
     #[inline(always)]
-    fn goes_on(&self, row: &TaskFeed, known: Option<ReadyJob>) -> bool
-        ensures { result ≡ true → (j : ReadyJob) × (self.now.still ≡ Some j) × (known ≡ Some j)
+    fn goes_on(&self, row: &TaskFeed, ready: &ReadyJobs) -> bool
+        ensures { result ≡ true → (j : ReadyJob) × (self.now.still ≡ Some j)
+            × (slice_index_or ready.now row.now.task None ≡ Some j)
             × (row.now.kept.doing ≡ cells.ready) × LastIs (ready_cell j) self.now.track.spans }
     {
-        match (self.still, known) {
-            (Some(before), Some(job)) => {
-                same_job(before, job) && matches!(row.kept.doing, Doing::Ready)
+        match self.still {
+            Some(job) => {
+                is_known(ready, row.task, job) && matches!(row.kept.doing, Doing::Ready)
             }
-            _ => false,
+            None => false,
         }
     }
 
@@ -140,10 +151,9 @@ impl TaskLane {
         }
     }
 
-    /// Takes what is kept of the column of a row, which has ended and stands for the ticks from one on up to another; the next one is
-    /// begun. While the task stays ready nothing is to be done.
-    #[inline(always)]
-    pub(crate) fn take(
+    /// Takes what is kept of the column of a row, where the task may not stay as it was.
+    #[inline(never)]
+    fn take_anew(
         &mut self,
         alloc: Global,
         row: &mut TaskFeed,
@@ -151,19 +161,39 @@ impl TaskLane {
         from: u64,
         to: u64,
     ) -> Result<(), NoMemory>
-        requires { IsRunOrReady known row.old }
         ensures row { OnOk result ((g : Group) → IsLeft g known row.old row.new) }
         ensures track { OnOk result (track_to to self.new
             ≡ task_more from to row.old (track_to from self.old)) }
     {
-        if self.goes_on(row, known) {
-            row.end = false;
-            return Ok(());
-        }
         self.settle(from);
         take_task_span(&mut self.track.spans, alloc, from, to, row)?;
         self.hold(row, known);
         Ok(())
+    }
+
+    /// Takes what is kept of the column of a row, which has ended and stands for the ticks from one on up to another; the next one is
+    /// begun. While the task stays ready nothing is to be done.
+    #[inline(always)]
+    pub(crate) fn take(
+        &mut self,
+        alloc: Global,
+        row: &mut TaskFeed,
+        ready: &ReadyJobs,
+        from: u64,
+        to: u64,
+    ) -> Result<(), NoMemory>
+        requires { IsRunOrReady (slice_index_or ready.now row.old.task None) row.old }
+        ensures row { OnOk result ((g : Group)
+            → IsLeft g (slice_index_or ready.now row.old.task None) row.old row.new) }
+        ensures track { OnOk result (track_to to self.new
+            ≡ task_more from to row.old (track_to from self.old)) }
+    {
+        if self.goes_on(row, ready) {
+            row.end = false;
+            return Ok(());
+        }
+        let known = ready.get(row.task);
+        self.take_anew(alloc, row, known, from, to)
     }
 
     /// The track, where so many ticks are over.

@@ -57,8 +57,7 @@ fn take_tasks(
         ≡ paired (task_more from to) rows.old (map (track_to from) lanes.old)) }
 {
     for (i, row) in rows.iter_mut().enumerate() {
-        let known = ready.get(row.task);
-        lanes[i].take(alloc, row, known, from, to)?;
+        lanes[i].take(alloc, row, ready, from, to)?;
     }
     Ok(())
 }

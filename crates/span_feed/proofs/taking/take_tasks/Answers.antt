@@ -1,10 +1,9 @@
 use Rattle.std.proofs.Common.{◌≡◌, ◌∙◌, ℕ, ◌<◌, List, length, sym, ap, subst, arith}
-use Rattle.std.specs.Prelude.{Option, None, slice_index_or}
+use Rattle.std.specs.Prelude.{None, slice_index_or}
 use Rattle.rt_model.specs.Group.{Group}
 use Rattle.chart_cells.specs.Kept.{finished}
 use Rattle.chart_rows.specs.ReadyJobs.{ready_cell}
 use Rattle.chart_rows.specs.Rows.{TaskKept}
-use Rattle.chart_rows.specs.declared.ready_jobs.ReadyJob.{ReadyJob}
 use Rattle.span_feed.specs.Begun.{IsLeft}
 use Rattle.span_feed.specs.Lane.{track_to}
 use Rattle.span_feed.specs.Spanned.{task_more}
@@ -20,7 +19,7 @@ take-requires c = λ j h.
     let same : r ≡ slice_index_or c.args.rows.now c.loop-i.i r =
     next-x (IsTaken js c.args.from c.args.to) c.loop-i.i c.args.rows.now c.loop-i.rows c.args.lanes.now c.loop-i.lanes r r c.index-lanes-i.result c.index-lanes-i.result
     c.loop-i-test.true below c.loop-i.auto.rows c.loop-i.auto.lanes c.loop-i.invariant c.index-rows-i.is c.index-lanes-i.is r c.index-lanes-i.result in
-    let known = ap (λ (k : TaskKept). slice_index_or js k.task None) (sym same ∙ c.index-rows-i.is ∙ sym c.row.view_is) ∙ sym c.get-known.ensures ∙ h in
+    let known = ap (λ (k : TaskKept). slice_index_or js k.task None) (sym same ∙ c.index-rows-i.is) ∙ h in
     subst (λ (k : TaskKept). (x : List ℕ) × (k.kept ≡ finished x (ready_cell j))) (sym same ∙ c.index-rows-i.is) (c.requires.shown c.loop-i.i r c.loop-i-test.true j known)
 
 pub loop-i-preserved : goal.loop-i-preserved
@@ -28,8 +27,7 @@ loop-i-preserved c =
     let js = c.args.ready.now in
     let r : TaskKept = c.index-rows-i.result in
     let below : c.loop-i.i < length c.args.lanes.now = omega (arith, c.loop-i-test.true, c.requires.long) in
-    let known : c.get-known.result ≡ slice_index_or js r.task None = c.get-known.ensures ∙ ap (λ (k : TaskKept). slice_index_or js k.task None) (c.row.view_is ∙ sym c.index-rows-i.is) in
-    let left = subst (λ (o : Option ReadyJob). (g : Group) → IsLeft g o r c.take.new.row) known (subst (λ (k : TaskKept). (g : Group) → IsLeft g c.get-known.result k c.take.new.row) (sym c.index-rows-i.is) c.in_ok-take.ensures.row) in
+    let left = subst (λ (k : TaskKept). (g : Group) → IsLeft g (slice_index_or js k.task None) k c.take.new.row) (sym c.index-rows-i.is) c.in_ok-take.ensures.row in
     let track = c.in_ok-take.ensures.track ∙ (λ t. task_more c.args.from c.args.to (sym c.index-rows-i.is t) (track_to c.args.from (sym c.index-lanes-i.is t))) in
     taken-more (IsTaken js c.args.from c.args.to) c.loop-i.i c.args.rows.now c.loop-i.rows c.args.lanes.now c.loop-i.lanes r c.take.new.row c.index-lanes-i.result c.take.new.self
     c.loop-i-test.true below c.loop-i.auto.rows c.loop-i.auto.lanes c.loop-i.invariant c.index-rows-i.is c.index-lanes-i.is (left, track)

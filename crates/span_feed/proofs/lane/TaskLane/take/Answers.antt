@@ -1,11 +1,14 @@
-use Rattle.std.proofs.Common.{◌≡◌, ◌∙◌, sym, ap}
+use Rattle.std.proofs.Common.{◌≡◌, ◌∙◌, sym, ap, subst}
+use Rattle.std.specs.Prelude.{None, OnOk, Option, slice_index_or}
+use Rattle.rt_model.specs.Group.{Group}
 use Rattle.chart_rows.specs.ReadyJobs.{ready_cell}
-use Rattle.event_lines.specs.Shown.{task_track_shown}
+use Rattle.chart_rows.specs.Rows.{TaskKept}
+use Rattle.chart_rows.specs.declared.ready_jobs.ReadyJob.{ReadyJob}
 use Rattle.event_texts.specs.TaskSpans as task_texts
+use Rattle.span_feed.specs.Begun.{IsLeft}
 use Rattle.span_feed.specs.Extended.{extended}
-use Rattle.span_feed.specs.Lane.{TaskLane, spans_to, track_to}
-use Rattle.span_feed.specs.Spanned.{task_more}
-use Rattle.span_feed.proofs.LaneLaws.{held-left, held-track, last-goes-on, ready-unrun}
+use Rattle.span_feed.specs.Lane.{TaskLane, spans_to}
+use Rattle.span_feed.proofs.LaneLaws.{last-goes-on, ready-unrun}
 use Rattle.span_feed.proofs.Sameness.{task_cells}
 use Rattle.span_feed.proofs.lane.TaskLane.take.Goals as goal
 
@@ -21,12 +24,7 @@ returns-then-goes_on-clause-track c =
     λ i. record l.track { spans = spans i }
 
 pub returns-clause-row : goal.returns-clause-row
-returns-clause-row c = λ g. held-left g c.args.known _ _ c.args.row.now _ c.hold.new.row c.hold.ensures.held (c.in_ok-take_task_span.ensures.row g)
-
-pub returns-clause-track : goal.returns-clause-track
-returns-clause-track c =
-    let settled = c.self.view_is ∙ c.settle.ensures in
-    let made =
-    c.hold.ensures.track ∙ (λ i. record (task_track_shown c.self.inside.track) { spans = c.in_ok-take_task_span.ensures.spans i })
-    ∙ ap (λ (l : TaskLane). task_more c.args.from c.args.to c.args.row.now l.track) settled in
-    held-track c.args.from c.args.to c.args.known _ c.args.row.now (track_to c.args.from c.args.self.now) _ c.hold.new.self c.hold.new.row made (ap (λ (l : TaskLane). l.still) settled) c.hold.ensures.held
+returns-clause-row c =
+    let known : c.get-known.result ≡ slice_index_or c.args.ready.now c.args.row.now.task None =
+    c.get-known.ensures ∙ ap (λ (k : TaskKept). slice_index_or c.args.ready.now k.task None) c.row.view_is in
+    subst (λ (o : Option ReadyJob). OnOk c.take_anew.result ((g : Group) → IsLeft g o c.args.row.now c.take_anew.new.row)) known c.take_anew.ensures.row
